@@ -1,0 +1,7 @@
+pub mod Words
+pub mod State
+pub mod Services
+pub mod Causes
+pub mod Files
+pub mod Lines
+pub mod Writes

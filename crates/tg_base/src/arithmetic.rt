@@ -1,0 +1,53 @@
+ghost use Rattle.std.specs.Prelude.{◌≡◌, ◌≢◌, nat_lt};
+ghost use Rattle.tg_base.specs.Words as words;
+
+/// The wrapping sum of two words.
+#[inline(always)]
+pub fn add(a: u32, b: u32) -> u32
+    ensures { result ≡ words.add a b }
+{
+    a.wrapping_add(b)
+}
+
+/// The wrapping difference of two words.
+#[inline(always)]
+pub fn sub(a: u32, b: u32) -> u32
+    ensures { result ≡ words.sub a b }
+{
+    a.wrapping_sub(b)
+}
+
+/// The wrapping product of two words.
+#[inline(always)]
+pub fn mul(a: u32, b: u32) -> u32
+    ensures { result ≡ words.mul a b }
+{
+    a.wrapping_mul(b)
+}
+
+/// The quotient toward zero of the ints that two words stand for; 80000000 by -1 gives 80000000.
+#[inline(always)]
+pub fn quot(a: u32, b: u32) -> u32
+    requires { b ≢ 0 }
+    ensures { result ≡ words.quot a b }
+{
+    a.cast_signed()
+        .wrapping_div(b.cast_signed())
+        .cast_unsigned()
+}
+
+/// Whether the int that a word stands for is less than another's.
+#[inline(always)]
+pub fn less_signed(a: u32, b: u32) -> bool
+    ensures { result ≡ words.less a b }
+{
+    a.cast_signed() < b.cast_signed()
+}
+
+/// Whether a word is less than another, both without sign.
+#[inline(always)]
+pub fn less_unsigned(a: u32, b: u32) -> bool
+    ensures { result ≡ nat_lt a b }
+{
+    a < b
+}

@@ -1,0 +1,32 @@
+//! What every layer shares: places, names, words of 32 bits, the state of the machine, and the outside.
+//! Promises exact numbers and texts, and objects in memory that fail only where they were told to.
+//! The definitions of words, of the machine's state and of its services stand in `specs/`.
+#![tactic(auto)]
+
+mod arithmetic;
+mod decimals;
+mod ends;
+mod faults;
+mod ids;
+mod lines;
+mod lists;
+mod numbering;
+mod outside;
+mod places;
+mod shelves;
+mod sinks;
+mod sources;
+
+pub use arithmetic::{add, less_signed, less_unsigned, mul, quot, sub};
+pub use decimals::decimal;
+pub use ends::RunEnd;
+pub use faults::{Failed, Memory};
+pub use ids::{Label, Name, Span, Temp};
+pub use lines::place;
+pub use lists::{Bytes, ListOf, Words};
+pub use numbering::Names;
+pub use outside::{Shelf, ShelfFault, Sink, Source, write_all};
+pub use places::Place;
+pub use shelves::{MapShelf, PlainShelf};
+pub use sinks::RoomSink;
+pub use sources::{ListSource, PlainSource};
