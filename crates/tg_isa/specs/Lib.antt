@@ -1,0 +1,4 @@
+pub mod Names
+pub mod Table
+pub mod Effects
+pub mod Runs

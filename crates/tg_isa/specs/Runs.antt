@@ -1,0 +1,45 @@
+-- Runs of the machine on an input, with what they write.
+use Rattle.std.specs.Prelude.{ℕ, zero, suc, ◌≡◌, ◌<◌, List, [], ◌∷◌, ◌++◌, map, Option, Some, None}
+use Rattle.tg_base.specs.declared.ends.RunEnd.{RunEnd}
+use Rattle.tg_base.specs.State.{State}
+use Rattle.tg_base.specs.Services.{Step, Goes, Ends, Reads, Writes, answered}
+use Rattle.tg_isa.specs.Effects.{step}
+
+-- A machine, what its reads will answer (a byte, or None for the end of input; past the list, the end), and the output so far.
+pub record World : Type 0 where
+  pub machine : State
+  pub input : List (Option ℕ)
+  pub output : List ℕ
+
+pub data Outcome : Type 0 where
+  Running : World → Outcome
+  Ended : RunEnd → World → Outcome
+
+-- the answers of an input that is these bytes
+abbrev pub answers : List ℕ → List (Option ℕ)
+answers bytes = map Some bytes
+
+abbrev pub first_answer : List (Option ℕ) → Option ℕ
+first_answer [] = None
+first_answer (a ∷ rest) = a
+
+abbrev pub later_answers : List (Option ℕ) → List (Option ℕ)
+later_answers [] = []
+later_answers (a ∷ rest) = rest
+
+-- a world after what its machine does
+abbrev pub proceed : World → Step → Outcome
+proceed w (Goes s) = Running (record { machine = s; input = w.input; output = w.output })
+proceed w (Ends e) = Ended e w
+proceed w (Reads s) =
+    Running (record { machine = answered s (first_answer w.input); input = later_answers w.input; output = w.output })
+proceed w (Writes bytes s) = Running (record { machine = s; input = w.input; output = w.output ++ bytes })
+
+-- what at most so many steps come to
+abbrev pub run : ℕ → World → Outcome
+run zero w = Running w
+run (suc n) w = elim (proceed w (step w.machine)) as (λ _. Outcome) [ Running v ↦ run n v | Ended e v ↦ Ended e v ]
+
+-- a world of a machine on which nothing was written yet
+abbrev pub begun : State → List (Option ℕ) → World
+begun s input = record { machine = s; input = input; output = [] }

@@ -1,0 +1,51 @@
+ghost use Rattle.std.specs.Prelude.{◌≡◌, ℕ, ◌<◌};
+
+use std::marker::Model;
+
+/// A register of the machine, which contracts see as its number, below 32 (MIPS I manual, register usage).
+#[derive(Clone, Copy, Debug, PartialEq, Eq)]
+pub struct Reg(u8);
+
+impl Model for Reg {
+    ghost Value = { ℕ };
+
+    ghost view = { λ r. r.0 };
+
+    ghost invariant = { λ r. r.0 < 32 };
+
+    ghost inverse = { λ n. record { 0 = n } };
+}
+
+impl Reg {
+    pub const ZERO: Reg = Reg(0);
+
+    pub const V0: Reg = Reg(2);
+
+    pub const A0: Reg = Reg(4);
+
+    pub const T0: Reg = Reg(8);
+
+    pub const T1: Reg = Reg(9);
+
+    pub const T2: Reg = Reg(10);
+
+    pub const SP: Reg = Reg(29);
+
+    /// The register with a number.
+    #[inline(always)]
+    pub fn new(number: u8) -> Reg
+        requires { number < 32 }
+        ensures { result ≡ number }
+    {
+        Reg(number)
+    }
+
+    /// The register's number.
+    #[inline(always)]
+    pub fn number(self) -> u8
+        ensures value { result ≡ self }
+        ensures fits { self < 32 }
+    {
+        self.0
+    }
+}
