@@ -1,0 +1,13 @@
+//! The simulator: a machine in memory, which runs images by the instruction table, step by step.
+//! Promises that each step and each run is that of the definition, that memory outside the regions is never touched,
+//! and that a machine that has ended answers its end again.
+#![tactic(auto)]
+
+mod loading;
+mod machines;
+mod status;
+
+pub use loading::load;
+pub use machines::Machine;
+pub use status::Status;
+pub use tg_base::RunEnd;

@@ -1,0 +1,8 @@
+use tg_base::RunEnd;
+
+/// What a step leaves.
+#[derive(Clone, Copy, Debug, PartialEq, Eq)]
+pub enum Status {
+    Running,
+    Ended(RunEnd),
+}
