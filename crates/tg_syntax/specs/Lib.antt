@@ -1,0 +1,4 @@
+pub mod Spellings
+pub mod Lexing
+pub mod Tree
+pub mod Plain
