@@ -2,3 +2,5 @@ pub mod Spellings
 pub mod Lexing
 pub mod Tree
 pub mod Plain
+pub mod Nesting
+pub mod Measures

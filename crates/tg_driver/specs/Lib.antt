@@ -1,0 +1,2 @@
+pub mod BuiltForm
+pub mod Values
