@@ -1,2 +1,3 @@
 pub mod BuiltForm
 pub mod Values
+pub mod StackCode
