@@ -1,2 +1,4 @@
 pub mod Fetches
 pub mod StackMemory
+pub mod StackSteps
+pub mod StackMacros
