@@ -14,7 +14,7 @@ use Rattle.tg_driver.specs.StackCode.{push_code, operands_code, operator_code, r
 use Rattle.tg_driver.proofs.StackMemory.{Holds}
 use Rattle.tg_driver.proofs.StackSteps.{Has, At, Path, here, onward, step_of, Sets, sets, loads, shifts, stores, Puts, Overflows, Comes, path_then, comes_after, down, up, at_as}
 
-no_29 : (r : ℕ) → r < 29 → r ≢ 29
+pub no_29 : (r : ℕ) → r < 29 → r ≢ 29
 no_29 r lt e = absurd (omega arith)
 
 halves : (n : ℕ) → bit_or (n / 65536 * 65536) (n % 65536) ≡ n
@@ -84,10 +84,10 @@ loses words size k depth x values s at = record {
   holds = at.holds.1;
 }
 
-comes_as : (words : List ℕ) (size k k' : ℕ) (values : List ℕ) (n : ℕ) (s : State) (o : Option ℕ) → k ≡ k' → Comes words size k values n s o → Comes words size k' values n s o
+pub comes_as : (words : List ℕ) (size k k' : ℕ) (values : List ℕ) (n : ℕ) (s : State) (o : Option ℕ) → k ≡ k' → Comes words size k values n s o → Comes words size k' values n s o
 comes_as words size k k' values n s o e c = let P : ℕ → Type 0 = λ j. Comes words size j values n s o in subst P e c
 
-other_than : (q r : ℕ) → q < r → q ≢ r
+pub other_than : (q r : ℕ) → q < r → q ≢ r
 other_than q r lt e = absurd (omega arith)
 
 -- unary minus of the value on top
@@ -124,3 +124,16 @@ operands words size k values s x y at has room =
       left = c.others 8 (no_29 8 (lit< tt)) ∙ b.others 8 (other_than 8 9 (lit< tt)) ∙ a.value ∙ at.holds.1.0;
       right = c.others 9 (no_29 9 (lit< tt)) ∙ b.value ∙ a.at.holds.0;
     }
+
+-- `+` and `-` of the operands in $t0 and $t1
+pub adds : (words : List ℕ) (size k : ℕ) (values : List ℕ) (s : State) (x y : ℕ) → At words size k (length values + 1) values s → register s 8 ≡ x → register s 9 ≡ y → Has words k (Add 8 8 9 ∷ result_code) → 4 * (length values + 1) ≤ size → Comes words size (k + 2) values 2 s (exact_sum x y)
+adds words size k values s x y at left right has room =
+    let e = step_of words size k (length values + 1) values s (Add 8 8 9) at has.0 (lit< tt, lit< tt, lit< tt) in
+    let b = exact_step words size k (length values + 1) values s (exact_sum x y) at (e ∙ ap (put_exact _ 8) (ap (λ z. exact_sum z (register s 9)) left ∙ ap (exact_sum x) right)) in
+    finish words size k values 0 s s (exact_sum x y) (here s) b has.1 room
+
+pub subtracts : (words : List ℕ) (size k : ℕ) (values : List ℕ) (s : State) (x y : ℕ) → At words size k (length values + 1) values s → register s 8 ≡ x → register s 9 ≡ y → Has words k (Sub 8 8 9 ∷ result_code) → 4 * (length values + 1) ≤ size → Comes words size (k + 2) values 2 s (exact_difference x y)
+subtracts words size k values s x y at left right has room =
+    let e = step_of words size k (length values + 1) values s (Sub 8 8 9) at has.0 (lit< tt, lit< tt, lit< tt) in
+    let b = exact_step words size k (length values + 1) values s (exact_difference x y) at (e ∙ ap (put_exact _ 8) (ap (λ z. exact_difference z (register s 9)) left ∙ ap (exact_difference x) right)) in
+    finish words size k values 0 s s (exact_difference x y) (here s) b has.1 room

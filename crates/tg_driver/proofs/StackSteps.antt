@@ -22,6 +22,19 @@ abbrev pub Has : List ℕ → ℕ → List Mips → Type 0
 Has words k [] = Unit {0}
 Has words k (one ∷ more) = Stands words k one × Has words (k + 1) more
 
+pub has_as : (words : List ℕ) (k k' : ℕ) (code : List Mips) → k ≡ k' → Has words k code → Has words k' code
+has_as words k k' code e has = let P : ℕ → Type 0 = λ j. Has words j code in subst P e has
+
+-- the first and the second part of code that stands at a place
+pub has_first : (words : List ℕ) (k : ℕ) (a b : List Mips) → Has words k (a ++ b) → Has words k a
+has_first words k [] b has = tt
+has_first words k (one ∷ a) b has = (has.0, has_first words (k + 1) a b has.1)
+
+pub has_second : (words : List ℕ) (k : ℕ) (a b : List Mips) → Has words k (a ++ b) → Has words (k + length a) b
+has_second words k [] b has = has_as words k (k + 0) b (omega arith) has
+has_second words k (one ∷ a) b has =
+    has_as words (k + 1 + length a) (k + length (one ∷ a)) b (omega arith) (has_second words (k + 1) a b has.1)
+
 -- A machine at a place of these words, with so many words of its stack in use, which hold these values at their top.
 pub record At (words : List ℕ) (size k depth : ℕ) (values : List ℕ) (s : State) : Type 0 where
   pub code_is : s.code ≡ words

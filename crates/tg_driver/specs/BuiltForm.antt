@@ -89,12 +89,16 @@ pub record IsBuilt (text : List ℕ) (program e : Exp) : Type 0 where
   pub nested : NestsWithin 256 (0 ∷ []) tokens
   pub small : size program ≤ 4096
 
--- the trees of such arguments
+-- the operators of such arguments, and their trees
+abbrev pub IsArithmetic : Op → Type 0
+IsArithmetic op.Plus = Unit {0}
+IsArithmetic op.Minus = Unit {0}
+IsArithmetic op.Times = Unit {0}
+IsArithmetic _ = ⊥
+
 abbrev pub HasBuiltForm : Exp → Type 0
 HasBuiltForm (Int _ n) = n ≤ 2147483647
 HasBuiltForm (Neg _ a) = HasBuiltForm a
-HasBuiltForm (Binary _ op.Plus _ a b) = HasBuiltForm a × HasBuiltForm b
-HasBuiltForm (Binary _ op.Minus _ a b) = HasBuiltForm a × HasBuiltForm b
-HasBuiltForm (Binary _ op.Times _ a b) = HasBuiltForm a × HasBuiltForm b
+HasBuiltForm (Binary _ o _ a b) = IsArithmetic o × HasBuiltForm a × HasBuiltForm b
 HasBuiltForm (Seq _ (exp a no_exps)) = HasBuiltForm a
 HasBuiltForm _ = ⊥
