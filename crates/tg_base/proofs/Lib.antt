@@ -1,2 +1,4 @@
 pub mod LineLemmas
 pub mod KnownLemmas
+pub mod ProductLaws
+pub mod TopBits

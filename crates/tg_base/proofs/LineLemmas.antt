@@ -1,9 +1,9 @@
 -- The line and the column after one byte more.
-use Rattle.std.proofs.Common.{◌≡◌, ◌≢◌, ◌≤◌, ◌<◌, ◌+◌, ◌-◌, ℕ, List, length, take, arith, get_or, Bool, true, false, sym, ap, ◌∙◌, refl, add-zero, length-take}
+use Rattle.std.proofs.Common.{◌≡◌, ◌≢◌, ◌≤◌, ◌<◌, ◌+◌, ◌-◌, ℕ, List, length, take, arith, get_or, Bool, true, false, ap, ◌∙◌}
 use Rattle.std.proofs.lemmas.Grind.{common_steps}
 use Rattle.std.proofs.lemmas.List.{length-take-le}
 use Rattle.std.proofs.lemmas.List.Sums.{count_by-le-length, suffix_len-le-length, count_by_more_no, count_by_more_yes, suffix_len-take_no, suffix_len-take_yes}
-use Rattle.std.specs.Prelude.{count_by, not, ◌==◌}
+use Rattle.std.specs.Prelude.{count_by, not}
 use Rattle.std.specs.List.{suffix_len}
 use Rattle.tg_base.specs.Lines.{is_line_end}
 

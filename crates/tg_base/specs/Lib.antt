@@ -5,3 +5,4 @@ pub mod Causes
 pub mod Files
 pub mod Lines
 pub mod Writes
+pub mod ProductLaw

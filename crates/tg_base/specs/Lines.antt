@@ -10,5 +10,5 @@ is_line_end b = b == 10
 abbrev pub place_of : List ℕ → ℕ → Place
 place_of text at = record {
   line = count_by is_line_end (take at text) + 1;
-  column = suffix_len (λ b. not (is_line_end b)) (take at text) + 1
+  column = suffix_len (λ b. not (is_line_end b)) (take at text) + 1;
 }

@@ -1,5 +1,5 @@
 -- The services of the system (SPIM manual, table of system services).
-use Rattle.std.specs.Prelude.{ℕ, zero, suc, ◌+◌, ◌*◌, ◌/◌, ◌%◌, ◌^◌, List, [], ◌∷◌, ◌++◌, length, replicate, Bool, true, false, if◌then◌else◌, ◌==◌, nat_lt, Option, Some, None, Result, Ok, Err, pos}
+use Rattle.std.specs.Prelude.{ℕ, zero, suc, ◌+◌, ◌*◌, ◌/◌, ◌%◌, List, [], ◌∷◌, ◌++◌, length, replicate, true, false, if◌then◌else◌, ◌==◌, nat_lt, Option, Some, None, Result, Ok, Err, pos}
 use Rattle.tg_base.specs.declared.ends.RunEnd.{RunEnd}
 use Rattle.tg_base.specs.declared.ends.RunEnd.TheVariants.{Exit, HeapFull, BadAddress, BadService}
 use Rattle.tg_base.specs.Words.{signed}
@@ -34,8 +34,8 @@ abbrev pub text_from : ℕ → State → ℕ → Result (List ℕ) RunEnd
 text_from zero s a = Err (BadAddress a)
 text_from (suc n) s a =
     elim (load_byte s a) as (λ _. Result (List ℕ) RunEnd) [
-      Ok b ↦ elim (b == 0) as (λ _. Result (List ℕ) RunEnd) [ true ↦ Ok [] | false ↦ before b (text_from n s (a + 1)) ]
-    | Err e ↦ Err e
+      | Ok b ↦ elim (b == 0) as (λ _. Result (List ℕ) RunEnd) [ true ↦ Ok [] | false ↦ before b (text_from n s (a + 1)) ]
+      | Err e ↦ Err e
     ]
 
 -- no text is longer than the memory

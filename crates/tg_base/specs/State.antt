@@ -1,5 +1,5 @@
 -- What the machine holds, and what its addresses answer (MIPS I manual, memory; SPIM manual, regions).
-use Rattle.std.specs.Prelude.{ℕ, ◌+◌, ◌-◌, ◌*◌, ◌/◌, ◌%◌, ◌^◌, List, [], ◌++◌, length, replicate, slice_index, slice_set, Bool, if◌then◌else◌, ◌&&◌, ◌==◌, nat_lt, nat_le, Option, Some, None, Result, Ok, Err}
+use Rattle.std.specs.Prelude.{ℕ, ◌+◌, ◌-◌, ◌*◌, ◌/◌, ◌%◌, List, [], ◌++◌, length, replicate, slice_index, slice_set, if◌then◌else◌, ◌&&◌, ◌==◌, nat_lt, nat_le, Option, Some, None, Result, Ok, Err}
 use Rattle.tg_base.specs.declared.ends.RunEnd.{RunEnd}
 use Rattle.tg_base.specs.declared.ends.RunEnd.TheVariants.{StackFull, BadAddress, Unaligned}
 
@@ -135,5 +135,5 @@ start code statics entry heap stack = record {
   statics = padded statics;
   heap = [];
   room = heap;
-  stack = replicate stack 0
+  stack = replicate stack 0;
 }

@@ -90,4 +90,3 @@ impl Source for ListSource {
         self.plain.read(into)
     }
 }
-

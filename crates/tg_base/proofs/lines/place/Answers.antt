@@ -1,4 +1,4 @@
-use Rattle.std.proofs.Common.{◌≡◌, ◌≤◌, ◌<◌, ◌+◌, length, take, arith}
+use Rattle.std.proofs.Common.{take, arith}
 use Rattle.std.proofs.lemmas.List.{length-take-le}
 use Rattle.tg_base.proofs.LineLemmas.{line_fits, column_fits, line_more_yes, line_more_no, column_more_yes, column_more_no}
 use Rattle.tg_base.proofs.lines.place.Goals as goal
@@ -19,12 +19,12 @@ overflow_add-column c =
 pub loop-byte-preserved : goal.loop-byte-preserved
 loop-byte-preserved c =
     elim c.if-byte-eq10.branch [
-      then-byte-eq10 w ↦
-        let line = line_more_yes _ _ c.loop-byte-test.true w.if-byte-eq10.true in
-        let column = column_more_yes _ _ c.loop-byte-test.true w.if-byte-eq10.true in
-        (omega (arith, line, w.line-is), omega (arith, column, w.column-is))
-    | else-byte-eq10 w ↦
-        let line = line_more_no _ _ c.loop-byte-test.true w.if-byte-eq10.false in
-        let column = column_more_no _ _ c.loop-byte-test.true w.if-byte-eq10.false in
-        (omega (arith, line, w.line-is), omega (arith, column, w.column-is))
+      | then-byte-eq10 w ↦
+          let line = line_more_yes _ _ c.loop-byte-test.true w.if-byte-eq10.true in
+          let column = column_more_yes _ _ c.loop-byte-test.true w.if-byte-eq10.true in
+          (omega (arith, line, w.line-is), omega (arith, column, w.column-is))
+      | else-byte-eq10 w ↦
+          let line = line_more_no _ _ c.loop-byte-test.true w.if-byte-eq10.false in
+          let column = column_more_no _ _ c.loop-byte-test.true w.if-byte-eq10.false in
+          (omega (arith, line, w.line-is), omega (arith, column, w.column-is))
     ]

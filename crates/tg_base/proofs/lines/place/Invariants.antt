@@ -1,4 +1,4 @@
-use Rattle.std.proofs.Common.{◌≡◌, ◌+◌, ◌≤◌, take}
+use Rattle.std.proofs.Common.{◌≡◌, ◌+◌, take}
 use Rattle.std.specs.Prelude.{count_by, not}
 use Rattle.std.specs.List.{suffix_len}
 use Rattle.tg_base.specs.Lines.{is_line_end}

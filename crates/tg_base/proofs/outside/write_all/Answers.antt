@@ -1,4 +1,4 @@
-use Rattle.std.proofs.Common.{arith, ◌≡◌, ◌≤◌, ◌+◌, sym, ◌∙◌, take, drop, length}
+use Rattle.std.proofs.Common.{arith, ◌≤◌, ◌+◌, sym, take, drop, length}
 use Rattle.std.proofs.lemmas.Grind.{common_steps}
 use Rattle.std.proofs.lemmas.List.{take-append-drop}
 use Rattle.std.proofs.lemmas.Result.{err_from_is_err_and}
@@ -17,8 +17,8 @@ loop-done-preserved g c =
     let piece = c.args.piece.now in
     let written = c.in_ok-done.ensures in
     let fits : c.loop-done.done + c.in_ok-done.field-0 ≤ length piece = grind (arith, common_steps, written.some) in (
-        omega (arith, c.loop-done.invariant.0, c.write.ensures.cause.later),
-        fits,
-        appends_more _ _ _ piece c.loop-done.done c.in_ok-done.field-0 fits c.loop-done.invariant.2 written.bytes,
-        λ e. absurd (omega (arith, e)),
+      omega (arith, c.loop-done.invariant.0, c.write.ensures.cause.later),
+      fits,
+      appends_more _ _ _ piece c.loop-done.done c.in_ok-done.field-0 fits c.loop-done.invariant.2 written.bytes,
+      λ e. absurd (omega (arith, e)),
     )

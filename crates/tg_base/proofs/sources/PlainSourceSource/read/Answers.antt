@@ -1,6 +1,6 @@
-use Rattle.std.proofs.Common.{rules, arith, ◌≡◌, ◌≤◌, ◌+◌, ◌-◌, ◌<◌, ℕ, List, [], ◌++◌, length, take, drop, min, sym, ap, ◌∙◌, length-append, length-drop}
+use Rattle.std.proofs.Common.{rules, arith, ◌≡◌, ◌+◌, ◌-◌, ℕ, List, ◌++◌, length, take, drop, sym, ap, ◌∙◌}
 use Rattle.std.proofs.lemmas.Grind.{common_steps}
-use Rattle.std.proofs.lemmas.List.{take-append-drop, length-take-le}
+use Rattle.std.proofs.lemmas.List.{take-append-drop}
 use Rattle.std.proofs.Math.Seq.{take-append_seam}
 use Rattle.tg_base.proofs.sources.PlainSourceSource.read.Goals as goal
 
@@ -10,7 +10,7 @@ front copied z n e = ap (λ k. take k (copied ++ z)) (sym e) ∙ take-append_sea
 whole : (xs copied z : List ℕ) (at n : ℕ) → copied ≡ take (at + n - at) (drop at xs) → length copied ≡ n → drop at xs ≡ take n (copied ++ z) ++ drop (at + n) xs
 whole xs copied z at n e l =
     rw (front copied z n l) (grind (arith, common_steps, e, take-append-drop n (drop at xs), same))
-    where
+  where
     same : at + n - at ≡ n
     same = omega arith
 
