@@ -1,6 +1,5 @@
 -- The token relation: which list of tokens a text is (Appel, chapter 2 and appendix A).
-use Rattle.std.specs.Prelude.{ℕ, zero, suc, ◌+◌, ◌≡◌, ◌≢◌, List, [], ◌∷◌, ◌++◌, length, IsTrue}
-use Rattle.tg_base.specs.declared.ids.Span.{Span}
+use Rattle.std.specs.Prelude.{ℕ, suc, ◌+◌, ◌≡◌, ◌≢◌, List, [], ◌∷◌, ◌++◌, length, IsTrue}
 use Rattle.tg_syntax.specs.declared.tokens.Token.{Token}
 use Rattle.tg_syntax.specs.declared.tokens.Token.TheVariants.{End}
 use Rattle.tg_syntax.specs.declared.tokens.Spanned.{Spanned}

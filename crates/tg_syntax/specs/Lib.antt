@@ -2,5 +2,6 @@ pub mod Spellings
 pub mod Lexing
 pub mod Tree
 pub mod Plain
+pub mod Lists
 pub mod Nesting
 pub mod Measures

@@ -1,6 +1,5 @@
 -- The nodes of a body.
-use Rattle.std.specs.Prelude.{ℕ, ◌+◌, ◌==◌, if◌then◌else◌, length, sum_by}
-use Rattle.tg_syntax.specs.declared.tokens.Ident.{Ident}
+use Rattle.std.specs.Prelude.{ℕ, ◌+◌, min, length, sum_by}
 use Rattle.tg_syntax.specs.Tree.{Form, Alias, Fields, Array, TypeDec, Exp, Nil, Break, Int, Text, Read, Call, Neg, Binary, Make, Fill, Assign, If, When, While, For, Let, Seq, Place, Simple, Field, Index, Exps, no_exps, exp, Inits, no_inits, init, Decs, no_decs, types, variable, functions, FunDecs, no_functions, function}
 
 abbrev pub form_size : Form → ℕ
@@ -54,3 +53,7 @@ abbrev mutual
   decs_size (types ts rest) = sum_by type_size ts + decs_size rest
   decs_size (variable _ _ e rest) = 1 + size e + decs_size rest
   decs_size (functions fs rest) = functions_size fs + decs_size rest
+
+-- a number, or the greatest of 32 bits where it is as large or larger
+abbrev pub capped : ℕ → ℕ
+capped n = min n 4294967295

@@ -4,9 +4,9 @@ use Rattle.tg_syntax.specs.declared.tokens.Token.{Token}
 use Rattle.tg_syntax.specs.declared.tokens.Token.TheVariants as token
 use Rattle.tg_syntax.specs.declared.tokens.Spanned.{Spanned}
 use Rattle.tg_syntax.specs.declared.tokens.Word.{Word}
-use Rattle.tg_syntax.specs.declared.tokens.Word.TheVariants.{WDo, WElse, WEnd, WFor, WFunction, WIf, WIn, WLet, WOf, WThen, WTo, WType, WVar, WWhile}
+use Rattle.tg_syntax.specs.declared.tokens.Word.TheVariants.{WEnd, WFor, WFunction, WIf, WIn, WLet, WOf, WType, WVar, WWhile}
 use Rattle.tg_syntax.specs.declared.tokens.Sign.{Sign}
-use Rattle.tg_syntax.specs.declared.tokens.Sign.TheVariants.{Comma, Semicolon, LeftParen, RightParen, LeftBracket, RightBracket, LeftBrace, RightBrace, Dot, Plus, Minus, Times, Divide, Equal, NotEqual, Less, LessEqual, Greater, GreaterEqual, And, Or, Assign, Colon}
+use Rattle.tg_syntax.specs.declared.tokens.Sign.TheVariants.{Comma, Semicolon, LeftParen, RightParen, LeftBracket, RightBracket, LeftBrace, RightBrace, Colon}
 
 -- a bracket begins a count of 0
 abbrev pub pushed : List ℕ → List ℕ

@@ -1,0 +1,68 @@
+-- The nodes of the code's lists, as sums over their items.
+use Rattle.std.proofs.Common.{◌≡◌, ℕ, ◌+◌, List, [], ◌∷◌, map, sum_by, refl, ap, ◌∙◌, length, arith}
+use Rattle.std.proofs.lemmas.List.Sums.{sum_by-cons}
+use Rattle.tg_base.specs.declared.ids.Span.{Span}
+use Rattle.tg_syntax.specs.declared.trees.Exp.{Exp}
+use Rattle.tg_syntax.specs.declared.trees.Init.{Init}
+use Rattle.tg_syntax.specs.declared.trees.FunDec.{FunDec}
+use Rattle.tg_syntax.specs.declared.trees.Dec.{Dec, Types, Variable', Functions}
+use Rattle.tg_syntax.specs.declared.trees.Decs.{Decs}
+use Rattle.tg_syntax.specs.declared.trees.Kind.{Let}
+use Rattle.tg_syntax.specs.declared.trees.Exps.{Exps, out-Exps}
+use Rattle.tg_syntax.specs.declared.trees.Inits.{Inits, out-Inits}
+use Rattle.tg_syntax.specs.declared.trees.FunDecs.{FunDecs, out-FunDecs}
+use Rattle.tg_syntax.specs.Tree.{Decs as PlainDecs, no_decs}
+use Rattle.tg_syntax.specs.Plain.{plain, plain_kind, plain_exps, plain_inits, plain_functions, plain_dec}
+use Rattle.tg_syntax.specs.Lists.{exps_of, inits_of, decs_of, functions_of}
+use Rattle.tg_syntax.specs.Measures.{size, exps_size, inits_size, functions_size, decs_size}
+use Rattle.tg_syntax.proofs.ListLaws.{plain_exps-items, plain_inits-items, plain_functions-items, plain_kind-Let}
+
+abbrev pub exp_size : Exp → ℕ
+exp_size e = size (plain e)
+
+abbrev pub init_size : Init → ℕ
+init_size i = 1 + size (plain i.value)
+
+abbrev pub function_size : FunDec → ℕ
+function_size f = 1 + length f.params
+
+abbrev pub dec_size : Dec → ℕ
+dec_size d = decs_size (plain_dec d no_decs)
+
+exps_size-exps_of : (es : List Exp) → exps_size (exps_of es) ≡ sum_by exp_size es
+exps_size-exps_of [] = refl
+exps_size-exps_of (e ∷ es) = rw sum_by-cons (ap (λ k. exp_size e + k) (exps_size-exps_of es))
+
+inits_size-inits_of : (is : List Init) → inits_size (inits_of is) ≡ sum_by init_size is
+inits_size-inits_of [] = refl
+inits_size-inits_of (i ∷ is) = rw sum_by-cons (ap (λ k. init_size i + k) (inits_size-inits_of is))
+
+functions_size-functions_of : (fs : List FunDec) → functions_size (functions_of fs) ≡ sum_by function_size fs
+functions_size-functions_of [] = refl
+functions_size-functions_of (f ∷ fs) = rw sum_by-cons (ap (λ k. function_size f + k) (functions_size-functions_of fs))
+
+decs_size-plain_dec : (d : Dec) (rest : PlainDecs) → decs_size (plain_dec d rest) ≡ dec_size d + decs_size rest
+decs_size-plain_dec (Types ds) rest = omega arith
+decs_size-plain_dec (Variable' x t s e) rest = omega arith
+decs_size-plain_dec (Functions fs) rest = omega arith
+
+decs_size-decs_of : (ds : List Dec) → decs_size (decs_of ds) ≡ sum_by dec_size ds
+decs_size-decs_of [] = refl
+decs_size-decs_of (d ∷ ds) = rw sum_by-cons (decs_size-plain_dec d (decs_of ds) ∙ ap (λ k. dec_size d + k) (decs_size-decs_of ds))
+
+pub exps_size-plain_exps : (es : Exps) → exps_size (plain_exps es) ≡ sum_by exp_size (out-Exps es).items.items
+exps_size-plain_exps es = ap exps_size (plain_exps-items es) ∙ exps_size-exps_of _
+
+pub inits_size-plain_inits : (is : Inits) → inits_size (plain_inits is) ≡ sum_by init_size (out-Inits is).items.items
+inits_size-plain_inits is = ap inits_size (plain_inits-items is) ∙ inits_size-inits_of _
+
+pub functions_size-plain_functions : (fs : FunDecs) → functions_size (plain_functions fs) ≡ sum_by function_size (out-FunDecs fs).items.items
+functions_size-plain_functions fs = ap functions_size (plain_functions-items fs) ∙ functions_size-functions_of _
+
+pub size-Let : (decs : Decs) (es : Exps) (s : Span) → size (plain_kind (Let decs es) s) ≡ 1 + sum_by dec_size decs.items.items + exps_size (plain_exps es)
+size-Let decs es s = ap size (plain_kind-Let decs es s) ∙ ap (λ k. 1 + k + exps_size (plain_exps es)) (decs_size-decs_of decs.items.items)
+
+-- a sum over the types, each made plain
+pub sum_by-map : {A B : Type 0} (f : B → ℕ) (g : A → B) (xs : List A) → sum_by f (map g xs) ≡ sum_by (λ x. f (g x)) xs
+sum_by-map f g [] = refl
+sum_by-map f g (x ∷ xs) = rw (sum_by-cons (λ x. f (g x)) x xs) (sum_by-cons f (g x) (map g xs) ∙ ap (λ k. f (g x) + k) (sum_by-map f g xs))
