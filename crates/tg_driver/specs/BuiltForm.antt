@@ -1,6 +1,5 @@
 -- The built form: the texts that the first path takes, `exit(e)` with e of ints, `+`, `-`, `*`, unary minus and parentheses.
 use Rattle.std.specs.Prelude.{ℕ, ◌+◌, ◌≡◌, ◌≤◌, List, [], ◌∷◌, ◌++◌, length, Bool, not, ◌==◌, codes, Option, Some, None}
-use Rattle.tg_base.specs.declared.ids.Span.{Span}
 use Rattle.tg_syntax.specs.declared.tokens.Token.{Token}
 use Rattle.tg_syntax.specs.declared.tokens.Token.TheVariants as token
 use Rattle.tg_syntax.specs.declared.tokens.Spanned.{Spanned}
@@ -8,34 +7,12 @@ use Rattle.tg_syntax.specs.declared.tokens.Sign.TheVariants.{LeftParen, RightPar
 use Rattle.tg_syntax.specs.declared.tokens.Sign.TheVariants as sign
 use Rattle.tg_syntax.specs.declared.trees.Op.{Op}
 use Rattle.tg_syntax.specs.declared.trees.Op.TheVariants as op
-use Rattle.tg_syntax.specs.Tree.{Exp, Int, Neg, Binary, Seq, Call, exp, no_exps, Nil, Break, Text, Read, Make, Fill, Assign, If, When, While, For, Let}
+use Rattle.tg_syntax.specs.Tree.{Exp, Int, Neg, Binary, Seq, Call, exp, no_exps}
+use Rattle.tg_syntax.specs.Spans.{span_of, joined}
 use Rattle.tg_syntax.specs.Spellings.{AllAre}
 use Rattle.tg_syntax.specs.Lexing.{Lexes}
 use Rattle.tg_syntax.specs.Nesting.{NestsWithin}
 use Rattle.tg_syntax.specs.Measures.{size}
-
--- the span of an expression, and the span from one's first byte to another's last
-abbrev pub span_of : Exp → Span
-span_of (Nil s) = s
-span_of (Break s) = s
-span_of (Int s _) = s
-span_of (Text s _) = s
-span_of (Read s _) = s
-span_of (Call s _ _) = s
-span_of (Neg s _) = s
-span_of (Binary s _ _ _ _) = s
-span_of (Make s _ _) = s
-span_of (Fill s _ _ _) = s
-span_of (Assign s _ _) = s
-span_of (If s _ _ _) = s
-span_of (When s _ _) = s
-span_of (While s _ _) = s
-span_of (For s _ _ _ _) = s
-span_of (Let s _ _) = s
-span_of (Seq s _) = s
-
-abbrev pub joined : Span → Span → Span
-joined a b = record { from = a.from; to = b.to }
 
 -- the operators of a sum, and of a term
 abbrev pub sum_op : Token → Option Op

@@ -3,7 +3,7 @@ use Rattle.std.specs.Prelude.{ℕ, suc, ◌+◌, ◌≡◌, ◌≢◌, List, [],
 use Rattle.tg_syntax.specs.declared.tokens.Token.{Token}
 use Rattle.tg_syntax.specs.declared.tokens.Token.TheVariants.{End}
 use Rattle.tg_syntax.specs.declared.tokens.Spanned.{Spanned}
-use Rattle.tg_syntax.specs.Spellings.{Spells, is_blank}
+use Rattle.tg_syntax.specs.Spellings.{Spells, HasTokenForm, is_blank}
 
 -- the text begins with these two bytes
 abbrev pub Begins : ℕ → ℕ → List ℕ → Type 0
@@ -26,14 +26,14 @@ pub data Closes : ℕ → List ℕ → Type 0 where
 abbrev pub spanned : Token → ℕ → ℕ → Spanned
 spanned token from to = record { token = token; span = record { from = from; to = to } }
 
--- a token is as long as possible: no longer front of the text is one
-abbrev pub IsLongest : List (List ℕ) → List ℕ → List ℕ → Type 0
-IsLongest names bytes rest =
-    (more after : List ℕ) (token : Token) → rest ≡ more ++ after → more ≢ [] → Spells names (bytes ++ more) token → ⊥
+-- a token is as long as possible: no longer front of the text has the form of one
+abbrev pub IsLongest : List ℕ → List ℕ → Type 0
+IsLongest bytes rest =
+    (more after : List ℕ) → rest ≡ more ++ after → more ≢ [] → HasTokenForm (bytes ++ more) → ⊥
 
 -- The text from a byte on is these tokens and the end, with blanks and comments between them.
 pub data Lexes (names : List (List ℕ)) : ℕ → List ℕ → List Spanned → Type 0 where
   ends : (at : ℕ) → Lexes names at [] (spanned End at at ∷ [])
   blank : {at : ℕ} (b : ℕ) {rest : List ℕ} {tokens : List Spanned} → IsTrue (is_blank b) → Lexes names (at + 1) rest tokens → Lexes names at (b ∷ rest) tokens
   comment : {at : ℕ} (inside : List ℕ) {rest : List ℕ} {tokens : List Spanned} → Closes 1 inside → Lexes names (at + 2 + length inside) rest tokens → Lexes names at (47 ∷ 42 ∷ inside ++ rest) tokens
-  token : {at : ℕ} (bytes : List ℕ) (one : Token) {rest : List ℕ} {tokens : List Spanned} → Spells names bytes one → IsLongest names bytes rest → (OpensComment (bytes ++ rest) → ⊥) → Lexes names (at + length bytes) rest tokens → Lexes names at (bytes ++ rest) (spanned one at (at + length bytes) ∷ tokens)
+  token : {at : ℕ} (bytes : List ℕ) (one : Token) {rest : List ℕ} {tokens : List Spanned} → Spells names bytes one → IsLongest bytes rest → (OpensComment (bytes ++ rest) → ⊥) → Lexes names (at + length bytes) rest tokens → Lexes names at (bytes ++ rest) (spanned one at (at + length bytes) ∷ tokens)

@@ -108,6 +108,14 @@ pub data IsQuoted : List ℕ → List ℕ → Type 0 where
   plain : (b : ℕ) {bytes meant : List ℕ} → IsTrue (is_plain b) → IsQuoted bytes meant → IsQuoted (b ∷ bytes) (b ∷ meant)
   escaped : {escape more bytes meant : List ℕ} → Escape escape more → IsQuoted bytes meant → IsQuoted (92 ∷ escape ++ bytes) (more ++ meant)
 
+-- The bytes have the form of a token, whatever the list of names holds and however large an int is.
+pub data HasTokenForm : List ℕ → Type 0 where
+  -- a reserved word or an identifier
+  name : (bytes : List ℕ) → IsName bytes → HasTokenForm bytes
+  sign : (s : Sign) → HasTokenForm (sign_text s)
+  digits : (bytes : List ℕ) → IsDigits bytes → HasTokenForm bytes
+  quoted : {inside meant : List ℕ} → IsQuoted inside meant → HasTokenForm (34 ∷ inside ++ 34 ∷ [])
+
 -- These bytes spell a token, where names are numbered by their places in a list.
 abbrev pub Spells : List (List ℕ) → List ℕ → Token → Type 0
 Spells names bytes (token.Word w) = bytes ≡ word_text w
