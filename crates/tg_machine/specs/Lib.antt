@@ -1,3 +1,5 @@
 pub mod Machines
 pub mod Inside
 pub mod Ran
+pub mod Layout
+pub mod Moves

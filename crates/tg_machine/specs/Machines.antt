@@ -13,6 +13,15 @@ pub record Simulated : Type 0 where
   pub end : Option RunEnd
   pub written : ℕ
 
+-- a machine of a state, an end and a count
+abbrev pub simulated : State → Option RunEnd → ℕ → Simulated
+simulated s end written = record { state = s; end = end; written = written }
+
+-- the end that a machine keeps after a step
+abbrev pub kept : Status → Option RunEnd
+kept Running = None
+kept (Ended e) = Some e
+
 -- a machine that was just loaded
 abbrev pub loaded : Image → ℕ → ℕ → Simulated
 loaded image heap stack = record {

@@ -3,9 +3,15 @@
 //! and that a machine that has ended answers its end again.
 #![tactic(auto)]
 
+mod cores;
+mod effects;
 mod loading;
 mod machines;
+mod services;
+mod stacks;
 mod status;
+mod steps;
+mod words;
 
 pub use loading::load;
 pub use machines::Machine;

@@ -1,12 +1,18 @@
-ghost use Rattle.std.specs.Prelude.{◌≡◌, ◌≤◌, ◌<◌, ◌+◌, ◌*◌, ◌%◌, length, IfOk};
+ghost use Rattle.std.specs.Prelude.{◌≡◌, ◌≤◌, ◌<◌, ◌+◌, ◌*◌, ◌%◌, length, map, IfOk, OnOk, ◌++◌, ◌∷◌, []};
+ghost use Rattle.tg_base.specs.State.{padded, start};
+ghost use Rattle.tg_isa.specs.Table.{decode_of};
 ghost use Rattle.tg_machine.specs.Machines.{loaded};
 
+use crate::cores::{Core, TOP};
 use crate::machines::Machine;
+use crate::stacks::Stack;
 use std::alloc::Global;
 use tg_base::Memory;
-use tg_isa::Image;
+use tg_isa::{Image, Mips, decode};
 
 /// A machine at the start of an image, with so many bytes of heap and of stack. It takes all memory of the run.
+///
+/// Memory of the heap and of the stack is reserved and not written to, so their sizes cost no time.
 pub fn load(alloc: Global, image: &Image, heap: u32, stack: u32) -> Result<Machine, Memory>
     requires code { length image.now.code ≤ 66060288 }
     requires statics { length image.now.statics ≤ 16711680 }
@@ -16,5 +22,67 @@ pub fn load(alloc: Global, image: &Image, heap: u32, stack: u32) -> Result<Machi
     requires whole_stack { stack % 4 ≡ 0 }
     ensures { IfOk result (λ m. m ≡ loaded image.now heap stack) }
 {
-    Err(Memory)
+    let core = core_of(alloc, image, heap, stack)?;
+    Ok(Machine {
+        core,
+        end: None,
+        written: 0,
+    })
+}
+
+/// The core of that machine.
+fn core_of(alloc: Global, image: &Image, heap: u32, stack: u32) -> Result<Core, Memory>
+    requires code { length image.now.code ≤ 66060288 }
+    requires statics { length image.now.statics ≤ 16711680 }
+    requires heap { heap ≤ 268435456 }
+    requires stack { stack ≤ 268435456 }
+    requires whole_stack { stack % 4 ≡ 0 }
+    ensures { IfOk result (λ s. s ≡ start image.now.code image.now.statics image.now.entry heap stack) }
+{
+    let words = image.code.as_slice();
+    let mut registers = [0; 32];
+    registers[29] = TOP;
+    Ok(Core {
+        registers,
+        hi: 0,
+        lo: 0,
+        place: image.entry,
+        code: words.to_vec(alloc)?,
+        rows: rows_of(alloc, words)?,
+        statics: padded(alloc, image.statics.as_slice())?,
+        heap: Vec::with_capacity(alloc, heap as usize)?,
+        room: heap,
+        stack: Stack::new(alloc, stack as usize)?,
+    })
+}
+
+/// Bytes with zeros behind them up to whole words.
+fn padded(alloc: Global, bytes: &[u8]) -> Result<Vec<u8>, Memory>
+    requires { length bytes.now ≤ 16711680 }
+    ensures { IfOk result (λ v. v.items ≡ padded bytes.now) }
+{
+    let size = bytes.len() + (4 - bytes.len() % 4) % 4;
+    let mut all = Vec::with_capacity(alloc, size)?;
+    all.extend_from_slice(bytes)?;
+    all.resize(size, 0)?;
+    Ok(all)
+}
+
+/// The instruction of each word.
+fn rows_of(alloc: Global, code: &[u32]) -> Result<Vec<Option<Mips>>, Memory>
+    ensures { IfOk result (λ v. v.items ≡ map decode_of code.now) }
+{
+    let mut rows = Vec::with_capacity(alloc, code.len())?;
+    for word in code {
+        push_row(&mut rows, *word)?;
+    }
+    Ok(rows)
+}
+
+/// The instruction of a word goes behind others.
+fn push_row(rows: &mut Vec<Option<Mips>>, word: u32) -> Result<(), Memory>
+    ensures { OnOk result (rows.new.items ≡ rows.old.items ++ decode_of word ∷ []) }
+{
+    rows.push(decode(word))?;
+    Ok(())
 }

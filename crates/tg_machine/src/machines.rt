@@ -2,6 +2,7 @@ ghost use Rattle.std.specs.Prelude.{◌≡◌, ◌<◌, None, IfSome};
 ghost use Rattle.tg_machine.specs.Machines.{HasEnded, end_of};
 ghost use Rattle.tg_machine.specs.Ran.{Ran};
 
+use crate::cores::Core;
 use crate::status::Status;
 use std::marker::Model;
 use tg_base::{RunEnd, Sink, Source};
@@ -10,10 +11,9 @@ use tg_base::{RunEnd, Sink, Source};
 /// have written.
 #[derive(Drop)]
 pub struct Machine {
-    place: u32,
-    code: Vec<u32>,
-    end: Option<RunEnd>,
-    written: u64,
+    pub(crate) core: Core,
+    pub(crate) end: Option<RunEnd>,
+    pub(crate) written: u64,
 }
 
 impl Model for Machine {
@@ -42,7 +42,7 @@ impl Machine {
         ensures again { IfSome self.old.end (λ e. (result ≡ Status.Ended e)
             × HasEnded self.old self.new input.old input.new out.old out.new) }
     {
-        Status::Running
+        self.advance(input, out, 1)
     }
 
     /// Makes at most `steps` steps. `StepLimit` says that all were made and the machine hasn't ended.
@@ -53,6 +53,27 @@ impl Machine {
         ensures again { IfSome self.old.end (λ e. (result ≡ e)
             × HasEnded self.old self.new input.old input.new out.old out.new) }
     {
-        RunEnd::StepLimit
+        match self.advance(input, out, steps) {
+            Status::Running => RunEnd::StepLimit,
+            Status::Ended(end) => end,
+        }
+    }
+
+    /// Makes at most so many steps, where the machine hasn't ended.
+    #[inline(always)]
+    fn advance<I: Source, O: Sink>(&mut self, input: &mut I, out: &mut O, steps: u64) -> Status
+        ensures run { self.old.end ≡ None →
+            Ran I.left I.faults O.taken O.faults steps self.old self.new input.old input.new out.old out.new (end_of result) }
+        ensures again { IfSome self.old.end (λ e. (result ≡ Status.Ended e)
+            × HasEnded self.old self.new input.old input.new out.old out.new) }
+    {
+        if let Some(end) = self.end {
+            return Status::Ended(end);
+        }
+        let status = self.core.run(input, out, &mut self.written, steps);
+        if let Status::Ended(end) = status {
+            self.end = Some(end);
+        }
+        status
     }
 }

@@ -1,0 +1,4 @@
+pub mod Product
+pub mod Texts
+pub mod Runs
+pub mod Reached

@@ -1,0 +1,32 @@
+-- What the fields of a core keep.
+use Rattle.std.specs.Prelude.{ℕ, ◌%◌, ◌≤◌, ◌≡◌, length, vec_capacity, map}
+use Rattle.tg_base.specs.State.{State}
+use Rattle.tg_isa.specs.Table.{decode_of}
+use Rattle.tg_machine.specs.declared.cores.Core.TheInside.{Inside}
+
+-- the state that the fields are
+abbrev pub state_of : Inside → State
+state_of m = record {
+  registers = m.registers;
+  hi = m.hi;
+  lo = m.lo;
+  place = m.place;
+  code = m.code.items;
+  statics = m.statics.items;
+  heap = m.heap.items;
+  room = m.room;
+  stack = m.stack
+}
+
+-- the sizes of the regions, in whole words, with the heap's memory taken, and each word decoded
+pub record IsLaidOut (m : Inside) : Type 0 where
+  pub code_fits : length m.code.items ≤ 66060288
+  pub statics_fit : length m.statics.items ≤ 16711680
+  pub statics_whole : length m.statics.items % 4 ≡ 0
+  pub heap_fits : length m.heap.items ≤ m.room
+  pub heap_whole : length m.heap.items % 4 ≡ 0
+  pub room_fits : m.room ≤ 268435456
+  pub room_held : m.room ≤ vec_capacity m.heap
+  pub stack_fits : length m.stack ≤ 268435456
+  pub stack_whole : length m.stack % 4 ≡ 0
+  pub decoded : m.rows.items ≡ map decode_of m.code.items

@@ -1,0 +1,232 @@
+ghost use Rattle.std.specs.Prelude.{◌≡◌, ◌<◌, ◌≤◌, ◌%◌, IfErr, IfOk};
+ghost use Rattle.tg_base.specs.Services.{take_heap};
+ghost use Rattle.tg_base.specs.State as state;
+ghost use Rattle.tg_base.specs.Words.{product_high, product_low};
+ghost use Rattle.tg_isa.specs.Effects as effects;
+ghost use Rattle.tg_machine.specs.Moves.{IsDone, IsOwn};
+
+use crate::stacks::Stack;
+use crate::words::{extend, offset, product, set_word, word_at};
+use std::marker::Model;
+use tg_base::RunEnd;
+use tg_isa::{Bits, Mips, Reg};
+
+/// Where the code begins.
+pub(crate) const CODE: u32 = 0x0040_0000;
+/// Where the statics begin.
+const STATICS: u32 = 0x1001_0000;
+/// Where the heap begins.
+const HEAP: u32 = 0x1100_0000;
+/// Where the stack ends.
+pub(crate) const TOP: u32 = 0x7fff_fffc;
+
+/// A program in memory with its registers. Each word of code stands beside its instruction, decoded once.
+#[derive(Drop)]
+pub(crate) struct Core {
+    pub(crate) registers: [u32; 32],
+    pub(crate) hi: u32,
+    pub(crate) lo: u32,
+    pub(crate) place: u32,
+    pub(crate) code: Vec<u32>,
+    pub(crate) rows: Vec<Option<Mips>>,
+    pub(crate) statics: Vec<u8>,
+    pub(crate) heap: Vec<u8>,
+    pub(crate) room: u32,
+    pub(crate) stack: Stack,
+}
+
+impl Model for Core {
+    ghost use Rattle.tg_base.specs.State.{State};
+
+    ghost Value = { State };
+
+    ghost use Rattle.tg_machine.specs.Layout.{IsLaidOut, state_of};
+
+    ghost view = { state_of };
+
+    ghost invariant = { IsLaidOut };
+}
+
+impl Core {
+    #[inline(always)]
+    pub(crate) fn register(&self, number: Reg) -> u32
+        ensures { result ≡ state.register self.now number }
+    {
+        self.registers[number.number() as usize]
+    }
+
+    #[inline(always)]
+    pub(crate) fn set(&mut self, number: Reg, value: u32)
+        ensures { self.new ≡ state.set_register self.old number value }
+    {
+        let at = number.number() as usize;
+        if at != 0 {
+            self.registers[at] = value;
+        }
+    }
+
+    /// Why an address is not served.
+    #[inline(always)]
+    fn fault(&self, address: u32) -> RunEnd
+        ensures value { result ≡ state.fault self.now address }
+        ensures own { IsOwn result }
+    {
+        let floor = TOP - self.stack.len() as u32;
+        if address >= 1073741824 && address < floor {
+            RunEnd::StackFull
+        } else {
+            RunEnd::BadAddress(address)
+        }
+    }
+
+    /// The word at an address.
+    #[inline(always)]
+    pub(crate) fn load_word(&self, address: u32) -> Result<u32, RunEnd>
+        ensures value { result ≡ state.load_word self.now address }
+        ensures own { IfErr result IsOwn }
+    {
+        if address % 4 != 0 {
+            return Err(RunEnd::Unaligned(address));
+        }
+        let floor = TOP - self.stack.len() as u32;
+        if let Some(at) = offset(address, floor, self.stack.len()) {
+            return Ok(self.stack.word(at));
+        }
+        if let Some(at) = offset(address, HEAP, self.heap.len()) {
+            return Ok(word_at(&self.heap, at));
+        }
+        if let Some(at) = offset(address, STATICS, self.statics.len()) {
+            return Ok(word_at(&self.statics, at));
+        }
+        Err(self.fault(address))
+    }
+
+    /// The byte at an address, which is below the top of the stack.
+    #[inline(always)]
+    pub(crate) fn load_byte(&self, address: u32) -> Result<u8, RunEnd>
+        ensures value { result ≡ state.load_byte self.now address }
+        ensures low { IfOk result (λ _. address < state.stack_top) }
+        ensures own { IfErr result IsOwn }
+    {
+        let floor = TOP - self.stack.len() as u32;
+        if let Some(at) = offset(address, floor, self.stack.len()) {
+            return Ok(self.stack.byte(at));
+        }
+        if let Some(at) = offset(address, HEAP, self.heap.len()) {
+            return Ok(self.heap[at]);
+        }
+        if let Some(at) = offset(address, STATICS, self.statics.len()) {
+            return Ok(self.statics[at]);
+        }
+        Err(self.fault(address))
+    }
+
+    /// Puts a word at an address.
+    #[inline(always)]
+    pub(crate) fn store_word(&mut self, address: u32, value: u32) -> Result<(), RunEnd>
+        ensures { IsDone (effects.stored (state.store_word self.old address value)) result self.new }
+    {
+        if address % 4 != 0 {
+            return Err(RunEnd::Unaligned(address));
+        }
+        let floor = TOP - self.stack.len() as u32;
+        if let Some(at) = offset(address, floor, self.stack.len()) {
+            self.stack.set_word(at, value);
+            return Ok(());
+        }
+        if let Some(at) = offset(address, HEAP, self.heap.len()) {
+            set_word(&mut self.heap, at, value);
+            return Ok(());
+        }
+        if let Some(at) = offset(address, STATICS, self.statics.len()) {
+            set_word(&mut self.statics, at, value);
+            return Ok(());
+        }
+        Err(self.fault(address))
+    }
+
+    /// The instruction at the place.
+    #[inline(always)]
+    pub(crate) fn fetch(&self) -> Result<Mips, RunEnd>
+        ensures value { result ≡ effects.fetch self.now }
+        ensures own { IfErr result IsOwn }
+    {
+        let place = self.place;
+        if place == 0 {
+            return Err(RunEnd::Exit(0));
+        }
+        if place % 4 != 0 {
+            return Err(RunEnd::Unaligned(place));
+        }
+        match offset(place, CODE, 4 * self.code.len()) {
+            Some(at) => match self.rows[at / 4] {
+                Some(one) => Ok(one),
+                None => Err(RunEnd::BadWord(self.code[at / 4])),
+            },
+            None => Err(RunEnd::BadAddress(place)),
+        }
+    }
+
+    #[inline(always)]
+    pub(crate) fn lo(&self) -> u32
+        ensures { result ≡ self.now.lo }
+    {
+        self.lo
+    }
+
+    #[inline(always)]
+    pub(crate) fn hi(&self) -> u32
+        ensures { result ≡ self.now.hi }
+    {
+        self.hi
+    }
+
+    #[inline(always)]
+    pub(crate) fn place(&self) -> u32
+        ensures { result ≡ self.now.place }
+    {
+        self.place
+    }
+
+    #[inline(always)]
+    pub(crate) fn go(&mut self, place: u32)
+        ensures { self.new ≡ state.go self.old place }
+    {
+        self.place = place;
+    }
+
+    /// Puts the signed product of two words into hi and lo.
+    #[inline(always)]
+    pub(crate) fn multiply(&mut self, left: u32, right: u32)
+        ensures { self.new
+            ≡ record self.old { hi = product_high left right; lo = product_low left right } }
+    {
+        let bits = product(left, right);
+        self.lo = (bits % 4294967296) as u32;
+        self.hi = (bits / 4294967296) as u32;
+    }
+
+    /// The address of a load or a store.
+    #[inline(always)]
+    pub(crate) fn address(&self, base: Reg, number: Bits<16>) -> u32
+        ensures { result ≡ effects.address self.now base number }
+    {
+        self.register(base).wrapping_add(extend(number))
+    }
+
+    /// Takes so many more bytes of heap, if there is room.
+    #[inline(never)]
+    pub(crate) fn take_heap(&mut self, size: usize) -> Result<(), RunEnd>
+        requires whole { size % 4 ≡ 0 }
+        requires bound { size ≤ 4294967296 }
+        ensures { IsDone (take_heap self.old size) result self.new }
+    {
+        let taken = self.heap.len();
+        if taken + size > self.room as usize {
+            return Err(RunEnd::HeapFull);
+        }
+        self.heap.resize(taken + size, 0).unwrap();
+        self.set(Reg::V0, HEAP + taken as u32);
+        Ok(())
+    }
+}

@@ -1,0 +1,154 @@
+ghost use Rattle.std.specs.Io.KnownBytes.{Keeps};
+ghost use Rattle.std.specs.Prelude.{◌≡◌, ◌<◌, ◌≤◌, ◌+◌, ℕ, length, slice_index, EachIndex, IfErr, IfOk, MatchResult, IsOk, Ok, Err};
+ghost use Rattle.tg_base.specs.Causes.{HasCause};
+ghost use Rattle.tg_base.specs.State as state;
+ghost use Rattle.tg_base.specs.Services.{service, text_at};
+ghost use Rattle.tg_base.specs.Writes.{TakesAll};
+ghost use Rattle.tg_machine.specs.Moves.{Answers, HasPut, HasRead, HasText, HasWritten, IsOwn, Moved};
+
+use crate::cores::Core;
+use tg_base::{Failed, RunEnd, Sink, Source, decimal, write_all};
+use tg_isa::Reg;
+
+/// How many bytes of a text are written at once.
+const CHUNK: usize = 4096;
+
+/// The next byte of a source, or none at its end.
+fn next_byte<I: Source>(input: &mut I) -> Result<Option<u8>, Failed>
+    ensures bytes { MatchResult result
+        (λ answer. Answers (I.left input.old) (I.left input.new) answer)
+        (λ _. Keeps (I.left input.old) (I.left input.new)) }
+    ensures cause { HasCause (I.faults input.old) (I.faults input.new) result }
+{
+    let mut byte = [0];
+    if input.read(&mut byte)? == 0 {
+        Ok(None)
+    } else {
+        Ok(Some(byte[0]))
+    }
+}
+
+/// Writes a piece for a service, and counts it.
+fn put_bytes<O: Sink>(out: &mut O, piece: &[u8], written: &mut u64) -> Result<(), RunEnd>
+    ensures bytes { HasWritten piece.now (O.taken out.old) (O.taken out.new)
+        (O.faults out.old) (O.faults out.new) written.old written.new result }
+    ensures later { O.faults out.old ≤ O.faults out.new }
+{
+    match write_all(out, piece) {
+        Ok(()) => {
+            *written = written.saturating_add(piece.len() as u64);
+            Ok(())
+        }
+        Err(_) => Err(RunEnd::WriteFault),
+    }
+}
+
+impl Core {
+    /// Service 12: the answer of the source goes to $v0.
+    fn read_byte<I: Source>(&mut self, input: &mut I) -> Result<(), RunEnd>
+        ensures bytes { HasRead self.old self.new (I.left input.old) (I.left input.new)
+            (I.faults input.old) (I.faults input.new) result }
+        ensures later { I.faults input.old ≤ I.faults input.new }
+    {
+        match next_byte(input) {
+            Ok(Some(byte)) => {
+                self.set(Reg::V0, u32::from(byte));
+                Ok(())
+            }
+            Ok(None) => {
+                self.set(Reg::V0, 4294967295);
+                Ok(())
+            }
+            Err(_) => Err(RunEnd::ReadFault),
+        }
+    }
+
+    /// The length of the text at an address, without the 0 that ends it.
+    fn text_length(&self, address: u32) -> Result<u32, RunEnd>
+        ensures text { MatchResult result
+            (λ n. HasText self.now address n) (λ e. text_at self.now address ≡ Err e) }
+        ensures own { IfErr result IsOwn }
+    {
+        let most = (self.statics.len() + self.heap.len() + self.stack.len() + 1) as u32;
+        for length in 0..most {
+            if self.load_byte(address + length)? == 0 {
+                return Ok(length);
+            }
+        }
+        Err(RunEnd::BadAddress(address + most))
+    }
+
+    /// Copies bytes from memory.
+    fn copy(&self, address: u32, into: &mut [u8])
+        requires low { address + length into.old ≤ state.stack_top }
+        requires loads { (k : ℕ) → k < length into.old → IsOk (state.load_byte self.now (address + k)) }
+        ensures size { length into.new ≡ length into.old }
+        ensures bytes { EachIndex into.new
+            (λ k. state.load_byte self.now (address + k) ≡ Ok (slice_index into.new k)) }
+    {
+        for (k, slot) in into.iter_mut().enumerate() {
+            *slot = self.load_byte(address + k as u32).unwrap_or(0);
+        }
+    }
+
+    /// Writes the text at an address, in pieces of the size of a chunk.
+    fn write_text<O: Sink>(&self, address: u32, size: u32, chunk: &mut [u8], out: &mut O) -> Result<(), Failed>
+        requires text { HasText self.now address size }
+        requires chunk { 0 < length chunk.old }
+        ensures bytes { IfOk (text_at self.now address)
+            (λ text. TakesAll (O.taken out.old) (O.taken out.new) result text) }
+        ensures cause { HasCause (O.faults out.old) (O.faults out.new) result }
+    {
+        let mut done = 0;
+        while done < size {
+            let more = chunk.len().min((size - done) as usize);
+            self.copy(address + done, &mut chunk[..more]);
+            write_all(out, &chunk[..more])?;
+            done += more as u32;
+        }
+        Ok(())
+    }
+
+    /// Service 4: the text at an address is written, once all of it is found.
+    fn put_text<O: Sink>(&self, address: u32, out: &mut O, written: &mut u64) -> Result<(), RunEnd>
+        ensures { HasPut O.taken O.faults (text_at self.now address)
+            out.old out.new written.old written.new result }
+    {
+        let size = self.text_length(address)?;
+        match self.write_text(address, size, &mut [0; CHUNK], out) {
+            Ok(()) => {
+                *written = written.saturating_add(u64::from(size));
+                Ok(())
+            }
+            Err(_) => Err(RunEnd::WriteFault),
+        }
+    }
+
+    /// The service that $v0 names, with its argument in $a0.
+    #[inline(never)]
+    pub(crate) fn service<I: Source, O: Sink>(
+        &mut self,
+        input: &mut I,
+        out: &mut O,
+        written: &mut u64,
+    ) -> Result<(), RunEnd>
+        ensures { Moved I.left I.faults O.taken O.faults (service self.old) result
+            self.new input.old input.new out.old out.new written.old written.new }
+    {
+        let argument = self.register(Reg::A0);
+        match self.register(Reg::V0) {
+            1 => {
+                let mut digits = [0; 11];
+                let size = decimal(argument.cast_signed(), &mut digits);
+                put_bytes(out, &digits[..size], written)
+            }
+            4 => self.put_text(argument, out, written),
+            9 => self.take_heap((argument as usize + 3) / 4 * 4),
+            10 => Err(RunEnd::Exit(0)),
+            11 => put_bytes(out, &[(argument % 256) as u8], written),
+            12 => self.read_byte(input),
+            17 => Err(RunEnd::Exit(argument.cast_signed())),
+            number => Err(RunEnd::BadService(number)),
+        }
+    }
+}

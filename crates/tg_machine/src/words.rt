@@ -1,0 +1,78 @@
+ghost use Rattle.std.specs.Prelude.{◌≡◌, ◌+◌, ◌≤◌, length, vec_capacity};
+ghost use Rattle.tg_base.specs.Words.{exact_difference, exact_sum, extended, product};
+ghost use Rattle.tg_base.specs.State as state;
+
+use tg_isa::Bits;
+
+/// 16 bits with their sign.
+#[inline(always)]
+pub(crate) fn extend(number: Bits<16>) -> u32
+    ensures { result ≡ extended number }
+{
+    let low = number.get();
+    if low < 32768 { low } else { low + 4294901760 }
+}
+
+/// How far an address is above a base, where it is below the end.
+#[inline(always)]
+pub(crate) fn offset(address: u32, base: u32, size: usize) -> Option<usize>
+    requires { base + size ≤ 4294967296 }
+    ensures { result ≡ state.offset address base size }
+{
+    let above = address.wrapping_sub(base) as usize;
+    if above < size { Some(above) } else { None }
+}
+
+/// The word at a byte, little endian.
+#[inline(always)]
+pub(crate) fn word_at(bytes: &Vec<u8>, at: usize) -> u32
+    requires { at + 4 ≤ length bytes.now.items }
+    ensures { result ≡ state.word_at bytes.now.items at }
+{
+    u32::from_le_bytes([bytes[at], bytes[at + 1], bytes[at + 2], bytes[at + 3]])
+}
+
+/// Puts a word at a byte, little endian.
+#[inline(always)]
+pub(crate) fn set_word(bytes: &mut Vec<u8>, at: usize, value: u32)
+    requires { at + 4 ≤ length bytes.old.items }
+    ensures items { bytes.new.items ≡ state.set_word bytes.old.items at value }
+    ensures length { length bytes.new.items ≡ length bytes.old.items }
+    ensures capacity { vec_capacity bytes.new ≡ vec_capacity bytes.old }
+{
+    bytes[at] = (value % 256) as u8;
+    bytes[at + 1] = (value / 256 % 256) as u8;
+    bytes[at + 2] = (value / 65536 % 256) as u8;
+    bytes[at + 3] = (value / 16777216) as u8;
+}
+
+/// The signed sum, where it is in range.
+#[inline(always)]
+pub(crate) fn sum_of(left: u32, right: u32) -> Option<u32>
+    ensures { result ≡ exact_sum left right }
+{
+    match left.cast_signed().checked_add(right.cast_signed()) {
+        Some(sum) => Some(sum.cast_unsigned()),
+        None => None,
+    }
+}
+
+/// The signed difference, where it is in range.
+#[inline(always)]
+pub(crate) fn difference_of(left: u32, right: u32) -> Option<u32>
+    ensures { result ≡ exact_difference left right }
+{
+    match left.cast_signed().checked_sub(right.cast_signed()) {
+        Some(rest) => Some(rest.cast_unsigned()),
+        None => None,
+    }
+}
+
+/// The signed product, in 64 bits.
+#[inline(always)]
+pub(crate) fn product(left: u32, right: u32) -> u64
+    ensures { result ≡ product left right }
+{
+    let value = i64::from(left.cast_signed()) * i64::from(right.cast_signed());
+    value.cast_unsigned()
+}
