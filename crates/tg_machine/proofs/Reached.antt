@@ -225,6 +225,15 @@ touched_write n m w le (inr c) =
     let within : c.steps < m = omega (arith, c.within) in
     inr (record { steps = c.steps; world = c.world; bytes = c.bytes; within = within; comes = c.comes; writing = c.writing })
 
+own_limit : (e : RunEnd) → IsOwn e → e ≡ StepLimit → ⊥
+own_limit e own h = subst IsOwn h own
+
+own_read : (e : RunEnd) → IsOwn e → e ≡ ReadFault → ⊥
+own_read e own h = subst IsOwn h own
+
+own_write : (e : RunEnd) → IsOwn e → e ≡ WriteFault → ⊥
+own_write e own h = subst IsOwn h own
+
 -- all steps were made
 pub ran_all : {I O : Type 0} (left : I → Option (List ℕ)) (read_faults : I → ℕ) (taken : O → Option (List ℕ)) (write_faults : O → ℕ)
     (n : ℕ) (old new : State) (input input' : I) (out out' : O) (written written' : ℕ) →
@@ -251,3 +260,112 @@ ran_all left read_faults taken write_faults n old new input input' out out' writ
       keeps = λ h. absurd (h refl);
       written = r.counts
     }
+
+ran_ended : {I O : Type 0} (left : I → Option (List ℕ)) (read_faults : I → ℕ) (taken : O → Option (List ℕ)) (write_faults : O → ℕ)
+    (steps n : ℕ) (old mid new : State) (input input' : I) (out out' : O) (written written' : ℕ) (e : RunEnd) → n < steps →
+    Reached left read_faults taken write_faults n old mid input input' out out' written written' →
+    step mid ≡ Ends e → IsOwn e →
+    Ran left read_faults taken write_faults steps (simulated old None written) (simulated new (Some e) written') input input' out out' e
+ran_ended left read_faults taken write_faults steps n old mid new input input' out out' written written' e lt r s own =
+    let rest = (some_rest (left input')).0 in
+    let t = (some_rest (left input')).1 in
+    let le : n ≤ steps = omega arith in
+    record {
+      input_before = r.read ++ rest;
+      last = record { machine = mid; input = rest; output = r.output };
+      front = [];
+      stops = ended (run_over steps n (begun old (r.read ++ rest)) _ e lt (r.comes rest t) s) refl;
+      told = r.told rest t;
+      rest = t;
+      writes = subst (Appends (taken out) (taken out')) (sym (append-nil r.output)) r.writes;
+      unread = touched_read n steps (begun old (r.read ++ rest)) le (given (left input') r.read rest (λ l. ComesToRead n (begun old l)) t r.unread);
+      unwritten = touched_write n steps (begun old (r.read ++ rest)) le (given (left input') r.read rest (λ l. ComesToWrite n (begun old l)) t r.unwritten);
+      reads_later = r.reads_later;
+      writes_later = r.writes_later;
+      read_cause = λ h. absurd (own_read e own h);
+      write_cause = λ h. absurd (own_write e own h);
+      goes_on = λ h. absurd (own_limit e own h);
+      keeps = λ _. refl;
+      written = r.counts
+    }
+
+rose_later : (a b c : ℕ) → a ≤ b → Rose b c → Rose a c
+rose_later a b c le h = omega arith
+
+ran_unread : {I O : Type 0} (left : I → Option (List ℕ)) (read_faults : I → ℕ) (taken : O → Option (List ℕ)) (write_faults : O → ℕ)
+    (steps n : ℕ) (old mid new after : State) (first input input' : I) (start out : O) (before written : ℕ) → n < steps →
+    Reached left read_faults taken write_faults n old mid first input start out before written →
+    step mid ≡ Reads after → Keeps (left input) (left input') → Rose (read_faults input) (read_faults input') → read_faults input ≤ read_faults input' →
+    Ran left read_faults taken write_faults steps (simulated old None before) (simulated new (Some ReadFault) written) first input' start out ReadFault
+ran_unread left read_faults taken write_faults steps n old mid new after first input input' start out before written lt r s keeps rose later =
+    let rest = (some_rest (left input')).0 in
+    let t' = (some_rest (left input')).1 in
+    let t = kept_tells (left input) (left input') rest keeps t' in
+    let le : n ≤ steps = omega arith in
+    let faults : read_faults first ≤ read_faults input' = omega (arith, r.reads_later, later) in
+    record {
+      input_before = r.read ++ rest;
+      last = record { machine = mid; input = rest; output = r.output };
+      front = [];
+      stops = read_failed n lt (r.comes rest t) (after, s) refl refl;
+      told = r.told rest t;
+      rest = t';
+      writes = subst (Appends (taken start) (taken out)) (sym (append-nil r.output)) r.writes;
+      unread = inr (record { steps = n; world = record { machine = mid; input = rest; output = r.output }; within = lt; comes = r.comes rest t; reading = (after, s) });
+      unwritten = touched_write n steps (begun old (r.read ++ rest)) le (given (left input) r.read rest (λ l. ComesToWrite n (begun old l)) t r.unwritten);
+      reads_later = faults;
+      writes_later = r.writes_later;
+      read_cause = λ h. rose_later _ _ _ r.reads_later rose;
+      write_cause = λ h. cc;
+      goes_on = λ h. cc;
+      keeps = λ _. refl;
+      written = r.counts
+    }
+
+ran_unwritten : {I O : Type 0} (left : I → Option (List ℕ)) (read_faults : I → ℕ) (taken : O → Option (List ℕ)) (write_faults : O → ℕ)
+    (steps n : ℕ) (old mid new after : State) (first input : I) (start out out' : O) (before written : ℕ) (bytes : List ℕ) → n < steps →
+    Reached left read_faults taken write_faults n old mid first input start out before written →
+    step mid ≡ Writes bytes after → TakesFront (taken out) (taken out') bytes → Rose (write_faults out) (write_faults out') → write_faults out ≤ write_faults out' →
+    Ran left read_faults taken write_faults steps (simulated old None before) (simulated new (Some WriteFault) written) first input start out' WriteFault
+ran_unwritten left read_faults taken write_faults steps n old mid new after first input start out out' before written bytes lt r s takes rose later =
+    let rest = (some_rest (left input)).0 in
+    let t = (some_rest (left input)).1 in
+    let le : n ≤ steps = omega arith in
+    let faults : write_faults start ≤ write_faults out' = omega (arith, r.writes_later, later) in
+    record {
+      input_before = r.read ++ rest;
+      last = record { machine = mid; input = rest; output = r.output };
+      front = takes.0;
+      stops = write_failed n takes.1 lt (r.comes rest t) (after, s ∙ ap (λ b. Writes b after) takes.2) refl;
+      told = r.told rest t;
+      rest = t;
+      writes = Appends-trans (taken start) (taken out) (taken out') r.output takes.0 r.writes takes.3;
+      unread = touched_read n steps (begun old (r.read ++ rest)) le (given (left input) r.read rest (λ l. ComesToRead n (begun old l)) t r.unread);
+      unwritten = inr (record { steps = n; world = record { machine = mid; input = rest; output = r.output }; bytes = bytes; within = lt; comes = r.comes rest t; writing = (after, s) });
+      reads_later = r.reads_later;
+      writes_later = faults;
+      read_cause = λ h. cc;
+      write_cause = λ h. rose_later _ _ _ r.writes_later rose;
+      goes_on = λ h. cc;
+      keeps = λ _. refl;
+      written = r.counts
+    }
+
+-- a step ended the run
+pub ran_out : {T I O : Type 0} (left : I → Option (List ℕ)) (read_faults : I → ℕ) (taken : O → Option (List ℕ)) (write_faults : O → ℕ)
+    (steps n : ℕ) (old mid new : State) (first input input' : I) (start out out' : O) (before written written' : ℕ) (d : Step) (result : Result T RunEnd) (e : RunEnd) → n < steps →
+    Reached left read_faults taken write_faults n old mid first input start out before written →
+    step mid ≡ d → result ≡ Err e → Moved left read_faults taken write_faults d result new input input' out out' written written' →
+    Ran left read_faults taken write_faults steps (simulated old None before) (simulated new (Some e) written') first input' start out' e
+ran_out left read_faults taken write_faults steps n old mid new first input input' start out out' before written written' d (Ok done) e lt r is was m = cc
+ran_out left read_faults taken write_faults steps n old mid new first input input' start out out' before written written' (Goes s) (Err f) e lt r is was m = absurd m.0
+ran_out left read_faults taken write_faults steps n old mid new first input input' start out out' before written written' (Ends g) (Err f) e lt r is was m =
+    let same : e ≡ g = cc (was, m.0.0) in
+    let own : IsOwn g = subst IsOwn m.0.0 m.0.1 in
+    rw (same, m.1, m.2, m.3) (ran_ended left read_faults taken write_faults steps n old mid new first input start out before written g lt r is own)
+ran_out left read_faults taken write_faults steps n old mid new first input input' start out out' before written written' (Reads s) (Err f) e lt r is was m =
+    let same : e ≡ ReadFault = cc (was, m.0.0) in
+    rw (same, m.2, m.3) (ran_unread left read_faults taken write_faults steps n old mid new s first input input' start out before written lt r is m.0.1 m.0.2 m.1)
+ran_out left read_faults taken write_faults steps n old mid new first input input' start out out' before written written' (Writes bytes s) (Err f) e lt r is was m =
+    let same : e ≡ WriteFault = cc (was, m.0.0) in
+    rw (same, m.2, m.0.3) (ran_unwritten left read_faults taken write_faults steps n old mid new s first input start out out' before written bytes lt r is m.0.1 m.0.2 m.1)
