@@ -1,6 +1,6 @@
 -- What the code has come to after so many steps, and what it leaves at each way out.
-use Rattle.std.proofs.Common.{◌≡◌, ◌≢◌, ◌<◌, ◌≤◌, ◌⊎◌, inl, inr, ◌+◌, ◌-◌, ◌^◌, ℕ, min, List, [], ◌∷◌, ◌++◌, map, length, Option, Some, None, Result, Ok, Err, arith, refl, sym, ap, ◌∙◌, subst, append_assoc, append-nil, length-append}
-use Rattle.std.specs.Io.KnownBytes.{Appends, Consumes, IsAtEnd, Keeps}
+use Rattle.std.proofs.Common.{◌≡◌, ◌<◌, ◌≤◌, ◌⊎◌, inl, inr, ◌+◌, ◌^◌, ℕ, List, [], ◌∷◌, ◌++◌, map, length, Option, Some, None, Result, Ok, Err, arith, refl, sym, ap, ◌∙◌, subst, append_assoc, append-nil, length-append}
+use Rattle.std.specs.Io.KnownBytes.{Appends, Keeps}
 use Rattle.std.proofs.KnownBytes.{Appends-nil, Appends-trans}
 use Rattle.tg_base.specs.declared.ends.RunEnd.{RunEnd}
 use Rattle.tg_base.specs.declared.ends.RunEnd.TheVariants.{StepLimit, ReadFault, WriteFault}
@@ -9,12 +9,10 @@ use Rattle.tg_base.specs.Writes.{TakesFront}
 use Rattle.tg_base.specs.State.{State}
 use Rattle.tg_base.specs.Services.{Step, Goes, Ends, Reads, Writes, answered}
 use Rattle.tg_isa.specs.Effects.{step}
-use Rattle.tg_isa.specs.Runs.{World, Running, Ended, run, begun, answers, first_answer, later_answers}
-use Rattle.tg_machine.specs.Machines.{Simulated, simulated, kept, end_of}
-use Rattle.tg_machine.specs.Moves.{IsOwn, IsDone, Answers, HasRead, HasWritten, Moved}
-use Rattle.tg_machine.specs.Ran.{Ran, Tells, ComesToRead, ComesToWrite, counted, Stops, still, ended, read_failed, write_failed}
-use Rattle.tg_machine.specs.declared.status.Status.{Status}
-use Rattle.tg_machine.specs.declared.status.Status.TheVariants.{Running as Goes_on, Ended as Has_ended}
+use Rattle.tg_isa.specs.Runs.{World, Running, run, begun, answers, first_answer, later_answers}
+use Rattle.tg_machine.specs.Machines.{simulated}
+use Rattle.tg_machine.specs.Moves.{IsOwn, Answers, Moved}
+use Rattle.tg_machine.specs.Ran.{Ran, Tells, ComesToRead, ComesToWrite, counted, still, ended, read_failed, write_failed}
 use Rattle.tg_machine.proofs.Runs.{run_more, run_over}
 
 -- some answers that a source tells or may give
@@ -36,7 +34,7 @@ adds (Some xs) (Some ys) (Some b) h = record {
   more = Some b ∷ [];
   tells = λ rest t. ap (λ l. Some b ∷ l) t ∙ sym (ap (map Some) h);
   first = λ rest t. refl;
-  later = λ rest t. refl
+  later = λ rest t. refl;
 }
 adds (Some xs) None None h = absurd h.0
 adds (Some xs) (Some ys) None h =
@@ -46,7 +44,7 @@ adds (Some xs) (Some ys) None h =
       more = [];
       tells = λ rest t. none rest t ∙ sym (ap (map Some) empty);
       first = λ rest t. ap first_answer (none rest t);
-      later = λ rest t. ap later_answers (none rest t) ∙ sym (none rest t)
+      later = λ rest t. ap later_answers (none rest t) ∙ sym (none rest t);
     }
 
 -- a source that kept its bytes tells the same
@@ -82,7 +80,7 @@ reached_none left read_faults taken write_faults s input out written fits = reco
   unwritten = inl refl;
   reads_later = omega arith;
   writes_later = omega arith;
-  counts = omega (arith, fits)
+  counts = omega (arith, fits);
 }
 
 counted-add : (w a b : ℕ) → counted (counted w a) b ≡ counted w (a + b)
@@ -133,7 +131,7 @@ reached_goes left read_faults taken write_faults n old mid new first input start
   unwritten = onto_same (left input) r.read (λ l. ComesToWrite n (begun old l)) (λ l. ComesToWrite (n + 1) (begun old l)) (λ l. later_write n (begun old l)) r.unwritten;
   reads_later = r.reads_later;
   writes_later = r.writes_later;
-  counts = r.counts
+  counts = r.counts;
 }
 
 reached_reads : {I O : Type 0} (left : I → Option (List ℕ)) (read_faults : I → ℕ) (taken : O → Option (List ℕ)) (write_faults : O → ℕ)
@@ -149,15 +147,15 @@ reached_reads left read_faults taken write_faults n old mid after new first inpu
       output = r.output;
       told = λ rest t. subst (Tells (left first)) (sym (append_assoc r.read ad.more rest)) (r.told (ad.more ++ rest) (ad.tells rest t));
       comes = λ rest t. ap (λ l. run (n + 1) (begun old l)) (append_assoc r.read ad.more rest)
-        ∙ run_more n (begun old (r.read ++ (ad.more ++ rest))) _ (Reads after) _ (r.comes (ad.more ++ rest) (ad.tells rest t)) s
+          ∙ run_more n (begun old (r.read ++ (ad.more ++ rest))) _ (Reads after) _ (r.comes (ad.more ++ rest) (ad.tells rest t)) s
           (same_world _ _ _ _ r.output (ap (answered after) (ad.first rest t) ∙ sym is) (ad.later rest t));
       writes = r.writes;
       unread = inr (λ rest t. at_read old mid after n (r.read ++ ad.more) rest r.output (ad.more ++ rest)
-        (ap (λ l. run n (begun old l)) (append_assoc r.read ad.more rest) ∙ r.comes (ad.more ++ rest) (ad.tells rest t)) s);
+          (ap (λ l. run n (begun old l)) (append_assoc r.read ad.more rest) ∙ r.comes (ad.more ++ rest) (ad.tells rest t)) s);
       unwritten = onto (left input) (left input') r.read ad.more (λ l. ComesToWrite n (begun old l)) (λ l. ComesToWrite (n + 1) (begun old l)) ad.tells (λ l. later_write n (begun old l)) r.unwritten;
       reads_later = later;
       writes_later = r.writes_later;
-      counts = r.counts
+      counts = r.counts;
     }
   where
     at_read : (old mid after : State) (n : ℕ) (read rest : List (Option ℕ)) (output : List ℕ) (left : List (Option ℕ)) →
@@ -184,7 +182,7 @@ reached_writes left read_faults taken write_faults n old mid new first input sta
       unwritten = inr (λ rest t. at_write old mid new n (r.read ++ rest) rest r.output bytes (r.comes rest t) s);
       reads_later = r.reads_later;
       writes_later = later;
-      counts = is ∙ ap (λ w. counted w (length bytes)) r.counts ∙ counted-add before (length r.output) (length bytes) ∙ ap (counted before) (sym size)
+      counts = is ∙ ap (λ w. counted w (length bytes)) r.counts ∙ counted-add before (length r.output) (length bytes) ∙ ap (counted before) (sym size);
     }
   where
     at_write : (old mid new : State) (n : ℕ) (given rest : List (Option ℕ)) (output bytes : List ℕ) →
@@ -258,7 +256,7 @@ ran_all left read_faults taken write_faults n old new input input' out out' writ
       write_cause = λ h. cc;
       goes_on = λ _. (refl, refl);
       keeps = λ h. absurd (h refl);
-      written = r.counts
+      written = r.counts;
     }
 
 ran_ended : {I O : Type 0} (left : I → Option (List ℕ)) (read_faults : I → ℕ) (taken : O → Option (List ℕ)) (write_faults : O → ℕ)
@@ -286,7 +284,7 @@ ran_ended left read_faults taken write_faults steps n old mid new input input' o
       write_cause = λ h. absurd (own_write e own h);
       goes_on = λ h. absurd (own_limit e own h);
       keeps = λ _. refl;
-      written = r.counts
+      written = r.counts;
     }
 
 rose_later : (a b c : ℕ) → a ≤ b → Rose b c → Rose a c
@@ -319,7 +317,7 @@ ran_unread left read_faults taken write_faults steps n old mid new after first i
       write_cause = λ h. cc;
       goes_on = λ h. cc;
       keeps = λ _. refl;
-      written = r.counts
+      written = r.counts;
     }
 
 ran_unwritten : {I O : Type 0} (left : I → Option (List ℕ)) (read_faults : I → ℕ) (taken : O → Option (List ℕ)) (write_faults : O → ℕ)
@@ -348,7 +346,7 @@ ran_unwritten left read_faults taken write_faults steps n old mid new after firs
       write_cause = λ h. rose_later _ _ _ r.writes_later rose;
       goes_on = λ h. cc;
       keeps = λ _. refl;
-      written = r.counts
+      written = r.counts;
     }
 
 -- a step ended the run

@@ -1,8 +1,7 @@
 -- A run goes on by a step.
-use Rattle.std.proofs.Common.{◌≡◌, ◌<◌, ◌+◌, ◌-◌, ℕ, zero, suc, List, [], ◌∷◌, ◌++◌, arith, refl, ap, ◌∙◌, sym, zero-add}
+use Rattle.std.proofs.Common.{◌≡◌, ◌<◌, ◌+◌, ◌-◌, ℕ, zero, suc, arith, refl, ap, ◌∙◌, sym, zero-add}
 use Rattle.tg_base.specs.declared.ends.RunEnd.{RunEnd}
-use Rattle.tg_base.specs.State.{State}
-use Rattle.tg_base.specs.Services.{Step, Goes, Ends, Reads, Writes, answered}
+use Rattle.tg_base.specs.Services.{Step, Ends}
 use Rattle.tg_isa.specs.Effects.{step}
 use Rattle.tg_isa.specs.Runs.{World, Outcome, Running, Ended, proceed, run}
 

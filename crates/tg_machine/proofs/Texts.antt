@@ -1,5 +1,5 @@
 -- The text at an address, byte by byte.
-use Rattle.std.proofs.Common.{◌≡◌, ◌≢◌, ◌<◌, ◌≤◌, ◌⊎◌, inl, inr, ◌+◌, ◌-◌, ℕ, zero, suc, Bool, true, false, List, [], ◌∷◌, ◌++◌, length, slice_index, Result, Ok, Err, refl, sym, ap, ◌∙◌, subst, arith, eq-eqb, ne_eqb, take, drop, take-append-drop, append_assoc, Option, IfOk, IsOk}
+use Rattle.std.proofs.Common.{◌≡◌, ◌≢◌, ◌<◌, ◌≤◌, ◌⊎◌, inl, inr, ◌+◌, ◌-◌, ℕ, suc, Bool, true, false, List, [], ◌∷◌, ◌++◌, length, slice_index, Result, Ok, Err, refl, sym, ap, ◌∙◌, subst, arith, eq-eqb, ne_eqb, take, drop, take-append-drop, append_assoc, Option, IfOk, IsOk}
 use Rattle.std.specs.Prelude.{◌==◌}
 use Rattle.std.proofs.lemmas.Grind.{common_steps}
 use Rattle.std.proofs.lemmas.List.{ext_get_or}
@@ -79,7 +79,7 @@ found_none most s a =
       size = refl;
       low = λ h. absurd (omega (arith, h));
       rest = ap (λ n. text_from n s a) m ∙ ap (text_from (most - 0) s) e;
-      loads = λ j h. absurd (omega (arith, h))
+      loads = λ j h. absurd (omega (arith, h));
     }
 
 pub found_more : (most : ℕ) (s : State) (a k b : ℕ) → k < most → Found most s a k → load_byte s (a + k) ≡ Ok b → a + k < stack_top → b ≢ 0 → Found most s a (k + 1)
@@ -92,10 +92,10 @@ found_more most s a k b lt f h low ne =
       size = size;
       low = λ _. omega (arith, low);
       rest = f.rest
-        ∙ ap (prefixed f.text) (from_byte (most - k) (most - (k + 1)) s (a + k) b m h ne)
-        ∙ ap (λ x. prefixed f.text (before b (text_from (most - (k + 1)) s x))) e
-        ∙ sym (prefixed-push f.text b (text_from (most - (k + 1)) s (a + (k + 1))));
-      loads = loads_more s a k b f.text f.size f.loads h
+          ∙ ap (prefixed f.text) (from_byte (most - k) (most - (k + 1)) s (a + k) b m h ne)
+          ∙ ap (λ x. prefixed f.text (before b (text_from (most - (k + 1)) s x))) e
+          ∙ sym (prefixed-push f.text b (text_from (most - (k + 1)) s (a + (k + 1))));
+      loads = loads_more s a k b f.text f.size f.loads h;
     }
   where
     le_or_eq : (j k : ℕ) → j < k + 1 → (j < k) ⊎ (j ≡ k)
@@ -154,11 +154,11 @@ chunk_is : (s : State) (a n done more : ℕ) (text piece : List ℕ) → IsText 
 chunk_is s a n done more text piece is fits size loads =
     let same : length piece ≡ length (take more (drop done text)) = grind (arith, common_steps, is.size, size) in
     ext_get_or 0 piece (take more (drop done text)) same (λ k lt.
-        let below : k < more = omega (arith, lt, size) in
-        let place : a + done + k ≡ a + (done + k) = omega arith in
-        let within : done + k < n = omega arith in
-        let there : slice_index text (done + k) ≡ slice_index (take more (drop done text)) k = grind (arith, common_steps, is.size) in
-        same_ok _ _ (sym (loads k below) ∙ ap (load_byte s) place ∙ is.loads (done + k) within) ∙ there)
+    let below : k < more = omega (arith, lt, size) in
+    let place : a + done + k ≡ a + (done + k) = omega arith in
+    let within : done + k < n = omega arith in
+    let there : slice_index text (done + k) ≡ slice_index (take more (drop done text)) k = grind (arith, common_steps, is.size) in
+    same_ok _ _ (sym (loads k below) ∙ ap (load_byte s) place ∙ is.loads (done + k) within) ∙ there)
   where
     same_ok : (x y : ℕ) → (let r : Result ℕ RunEnd = Ok x in r) ≡ Ok y → x ≡ y
     same_ok x y h = cc

@@ -1,5 +1,5 @@
 -- What the fields of a core keep.
-use Rattle.std.specs.Prelude.{ℕ, ◌%◌, ◌≤◌, ◌≡◌, length, vec_capacity, map}
+use Rattle.std.specs.Prelude.{◌%◌, ◌≤◌, ◌≡◌, length, vec_capacity, map}
 use Rattle.tg_base.specs.State.{State}
 use Rattle.tg_isa.specs.Table.{decode_of}
 use Rattle.tg_machine.specs.declared.cores.Core.TheInside.{Inside}
@@ -15,7 +15,7 @@ state_of m = record {
   statics = m.statics.items;
   heap = m.heap.items;
   room = m.room;
-  stack = m.stack
+  stack = m.stack;
 }
 
 -- the sizes of the regions, in whole words, with the heap's memory taken, and each word decoded

@@ -27,7 +27,7 @@ abbrev pub loaded : Image → ℕ → ℕ → Simulated
 loaded image heap stack = record {
   state = start image.code image.statics image.entry heap stack;
   end = None;
-  written = 0
+  written = 0;
 }
 
 -- how a step ends a run of one step

@@ -48,7 +48,10 @@ impl Core {
                 self.set(rd, self.register(rt).wrapping_shl(shamt.get()));
             }
             Mips::Sra(rd, rt, shamt) => {
-                self.set(rd, (self.register(rt).cast_signed() >> shamt.get()).cast_unsigned());
+                self.set(
+                    rd,
+                    (self.register(rt).cast_signed() >> shamt.get()).cast_unsigned(),
+                );
             }
             Mips::Syscall => unreachable!(),
             Mips::Mfhi(rd) => self.set(rd, self.hi()),

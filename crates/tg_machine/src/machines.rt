@@ -70,7 +70,9 @@ impl Machine {
         if let Some(end) = self.end {
             return Status::Ended(end);
         }
-        let status = self.core.run(input, out, &mut self.written, steps);
+        let mut written = self.written;
+        let status = self.core.run(input, out, &mut written, steps);
+        self.written = written;
         if let Status::Ended(end) = status {
             self.end = Some(end);
         }

@@ -92,7 +92,13 @@ impl Core {
     }
 
     /// Writes the text at an address, in pieces of the size of a chunk.
-    fn write_text<O: Sink>(&self, address: u32, size: u32, chunk: &mut [u8], out: &mut O) -> Result<(), Failed>
+    fn write_text<O: Sink>(
+        &self,
+        address: u32,
+        size: u32,
+        chunk: &mut [u8],
+        out: &mut O,
+    ) -> Result<(), Failed>
         requires text { HasText self.now address size }
         requires chunk { 0 < length chunk.old }
         ensures bytes { IfOk (text_at self.now address)

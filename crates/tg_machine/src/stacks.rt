@@ -57,7 +57,11 @@ impl Stack {
         ensures { result ≡ slice_index self.now at }
     {
         let skipped = self.size - self.near.len();
-        if at < skipped { 0 } else { self.near[at - skipped] }
+        if at < skipped {
+            0
+        } else {
+            self.near[at - skipped]
+        }
     }
 
     #[inline(always)]
@@ -69,7 +73,12 @@ impl Stack {
         if skipped <= at {
             return word_at(&self.near, at - skipped);
         }
-        u32::from_le_bytes([self.byte(at), self.byte(at + 1), self.byte(at + 2), self.byte(at + 3)])
+        u32::from_le_bytes([
+            self.byte(at),
+            self.byte(at + 1),
+            self.byte(at + 2),
+            self.byte(at + 3),
+        ])
     }
 
     #[inline(always)]

@@ -1,7 +1,6 @@
-use Rattle.std.proofs.Common.{◌≡◌, w32, w64, to_z, ◌∙◌, ap, Fits}
+use Rattle.std.proofs.Common.{w32, to_z}
 use Rattle.std.proofs.Math.Facts.{sfits_to_z}
 use Rattle.tg_machine.proofs.Product.{product_bits}
-use Rattle.tg_base.specs.Words.{product}
 use Rattle.tg_machine.proofs.words.product.Goals as goal
 use mir.Val.{SFits}
 

@@ -1,4 +1,4 @@
-use Rattle.std.proofs.Common.{arith, ◌≡◌, ◌+◌, ◌∙◌, sym, length}
+use Rattle.std.proofs.Common.{arith, ◌≡◌, ◌+◌, sym, length}
 use Rattle.std.proofs.lemmas.Result.{err_from_is_err_and}
 use Rattle.tg_machine.proofs.Texts.{found_none, found_more, found_all, found_fault, found_over}
 use Rattle.tg_machine.proofs.cores.Core.text_length.Goals as goal

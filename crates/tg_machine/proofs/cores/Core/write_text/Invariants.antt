@@ -1,4 +1,4 @@
-use Rattle.std.proofs.Common.{◌-◌, ◌≡◌, ◌≤◌, ◌<◌, length, take, IfOk}
+use Rattle.std.proofs.Common.{◌-◌, ◌≡◌, ◌≤◌, length, take, IfOk}
 use Rattle.std.specs.Io.KnownBytes.{Appends}
 use Rattle.tg_base.specs.Services.{text_at}
 use Rattle.tg_machine.proofs.cores.Core.write_text.Given as goal
