@@ -4,3 +4,8 @@ pub mod StackSteps
 pub mod StackMacros
 pub mod StackProducts
 pub mod StackValues
+pub mod Ints
+pub mod FirstBytes
+pub mod FrontLemmas
+pub mod SpellsOne
+pub mod Scans

@@ -1,3 +1,4 @@
 pub mod BuiltForm
 pub mod Values
 pub mod StackCode
+pub mod Fronts

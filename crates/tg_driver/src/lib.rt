@@ -3,5 +3,6 @@
 #![tactic(auto)]
 
 mod built;
+mod scanning;
 
 pub use built::NotBuilt;
