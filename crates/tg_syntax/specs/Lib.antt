@@ -1,8 +1,13 @@
 pub mod Spellings
 pub mod Lexing
+pub mod LexicalFaults
 pub mod Tree
 pub mod Spans
+pub mod Tails
+pub mod Groups
 pub mod Plain
 pub mod Lists
+pub mod Grammar
 pub mod Nesting
+pub mod SyntaxFaults
 pub mod Measures
