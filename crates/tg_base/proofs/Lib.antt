@@ -2,3 +2,4 @@ pub mod LineLemmas
 pub mod KnownLemmas
 pub mod ProductLaws
 pub mod TopBits
+pub mod FileLemmas

@@ -6,3 +6,5 @@ pub mod Files
 pub mod Lines
 pub mod Writes
 pub mod ProductLaw
+pub mod Counts
+pub mod InMemory

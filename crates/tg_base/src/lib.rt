@@ -17,6 +17,7 @@ mod products;
 mod shelves;
 mod sinks;
 mod sources;
+mod tallies;
 
 pub use arithmetic::{add, less_signed, less_unsigned, mul, quot, sub};
 pub use decimals::decimal;

@@ -1,55 +1,90 @@
-ghost use Rattle.std.specs.Prelude.{◌≡◌, ◌<◌, ◌≤◌, List, ℕ, vec_len};
-ghost use Rattle.std.specs.declared.option.Option.TheVariants.{None, Some};
-ghost use Rattle.std.specs.Option.{option_map};
-ghost use Rattle.std.specs.BTreeMap.{get_by_text};
+ghost use Rattle.std.specs.Prelude.{◌≡◌, ◌≤◌, ◌↔◌, ◌||◌, ℕ, List, length, take, not, is_err, is_some, false, IsTrue, IfOk, IsErrOf, OnErr, if◌then◌else◌};
+ghost use Rattle.std.specs.declared.option.Option.TheVariants.{Some};
+ghost use Rattle.tg_base.specs.Causes.{Rose};
+ghost use Rattle.tg_base.specs.Counts.{counted, none_so_far, next_fails, after_call};
+ghost use Rattle.tg_base.specs.Files.{IsFrontOf};
+ghost use Rattle.tg_base.specs.InMemory.{file_of, named};
 
 use crate::outside::{Shelf, ShelfFault};
+use crate::tallies::Tally;
 use std::alloc::Global;
 use std::collections::BTreeMap;
+use std::marker::Model;
+
+/// The first `most` bytes of a file, or all where it is shorter.
+fn front(alloc: Global, file: &[u8], most: usize) -> Result<Vec<u8>, ShelfFault>
+    ensures ok { IfOk result (λ v. v.items ≡ take most file.now) }
+    ensures err { OnErr result (result ≡ Err ShelfFault.Memory) }
+{
+    match file[..file.len().min(most)].to_vec(alloc) {
+        Ok(front) => Ok(front),
+        Err(_) => Err(ShelfFault::Memory),
+    }
+}
 
 /// Files in memory, which fail for a missing name alone.
+///
+/// Its count of faults for a name that it holds is always 0, and for another name that of all its faults.
 #[derive(Drop)]
 pub struct PlainShelf {
     files: BTreeMap<String, Vec<u8>>,
-    faults: u64,
     calls: u64,
+    faults: u64,
+}
+
+impl Model for PlainShelf {
+    ghost use Rattle.tg_base.specs.InMemory.{PlainFiles, named};
+
+    ghost Value = { PlainFiles };
+
+    ghost view = { λ s. record { held = named s.files; calls = s.calls; faults = s.faults } };
 }
 
 impl PlainShelf {
-    pub fn new(files: BTreeMap<String, Vec<u8>>) -> PlainShelf {
+    pub fn new(files: BTreeMap<String, Vec<u8>>) -> PlainShelf
+        ensures { result ≡ record { held = named files; calls = 0; faults = 0 } }
+    {
         PlainShelf {
             files,
-            faults: 0,
             calls: 0,
+            faults: 0,
         }
     }
 
-    pub fn faults(&self) -> u64 {
+    /// The count of faults, at most the greatest u64.
+    pub fn faults(&self) -> u64
+        ensures { result ≡ self.now.faults }
+    {
         self.faults
     }
 
-    pub fn calls(&self) -> u64 {
+    /// The number of calls of `read_file` so far, at most the greatest u64.
+    pub fn calls(&self) -> u64
+        ensures { result ≡ self.now.calls }
+    {
         self.calls
     }
 }
 
 impl Shelf for PlainShelf {
-    ghost use Rattle.std.specs.Prelude.{is_some, if◌then◌else◌};
+    ghost files = { λ s. Some (file_of s.held) };
 
-    ghost files = { λ s. Some (λ n. option_map (λ v. v.items) (get_by_text s.files n)) };
+    ghost faults = { λ s name. if is_some (file_of s.held name) then 0 else s.faults };
 
-    ghost faults = { λ s n. if is_some (get_by_text s.files n) then 0 else s.faults };
-
-    fn read_file(&mut self, alloc: Global, name: &str, most: usize) -> Result<Vec<u8>, ShelfFault> {
+    #[tactic(auto, using(crate::proofs::FileLemmas::file_of_named))]
+    fn read_file(&mut self, alloc: Global, name: &str, most: usize) -> Result<Vec<u8>, ShelfFault>
+        ensures same { self.new.held ≡ self.old.held }
+        ensures later { self.old.faults ≤ self.new.faults }
+        ensures cause { IsErrOf result ShelfFault.Failed → Rose self.old.faults self.new.faults }
+        ensures bound { IfOk result (λ v. length v.items ≤ most) }
+        ensures front { IfOk result (λ v. IsFrontOf (Some (file_of self.old.held)) name.now most v.items) }
+        ensures missing { (result ≡ Err ShelfFault.Failed) ↔ IsTrue (not (is_some (file_of self.old.held name.now))) }
+        ensures calls { self.new.calls ≡ counted self.old.calls }
+        ensures faults { self.new.faults ≡ (if is_some (file_of self.old.held name.now) then self.old.faults else counted self.old.faults) }
+    {
         self.calls = self.calls.saturating_add(1);
         match self.files.get(name) {
-            Some(file) => {
-                let count = file.len().min(most);
-                match file[..count].to_vec(alloc) {
-                    Ok(front) => Ok(front),
-                    Err(_) => Err(ShelfFault::Memory),
-                }
-            }
+            Some(file) => front(alloc, file, most),
             None => {
                 self.faults = self.faults.saturating_add(1);
                 Err(ShelfFault::Failed)
@@ -58,55 +93,70 @@ impl Shelf for PlainShelf {
     }
 }
 
-/// Files in memory, which fail at the listed calls and for a missing name.
+/// Files in memory, which fail at the listed calls, numbered from 1, and for a missing name. Its count of every name is
+/// that of all its faults.
 #[derive(Drop)]
 pub struct MapShelf {
     files: BTreeMap<String, Vec<u8>>,
-    fails: Vec<u64>,
-    faults: u64,
-    calls: u64,
+    tally: Tally,
+}
+
+impl Model for MapShelf {
+    ghost use Rattle.tg_base.specs.InMemory.{ListedFiles, named};
+
+    ghost Value = { ListedFiles };
+
+    ghost view = { λ s. record { held = named s.files; counts = s.tally } };
 }
 
 impl MapShelf {
-    pub fn new(files: BTreeMap<String, Vec<u8>>, fails: Vec<u64>) -> MapShelf {
+    pub fn new(files: BTreeMap<String, Vec<u8>>, fails: Vec<u64>) -> MapShelf
+        ensures { result ≡ record { held = named files; counts = none_so_far fails.items } }
+    {
         MapShelf {
             files,
-            fails,
-            faults: 0,
-            calls: 0,
+            tally: Tally::new(fails),
         }
     }
 
-    pub fn faults(&self) -> u64 {
-        self.faults
+    /// The count of faults, at most the greatest u64.
+    pub fn faults(&self) -> u64
+        ensures { result ≡ self.now.counts.faults }
+    {
+        self.tally.faults()
     }
 
-    pub fn calls(&self) -> u64 {
-        self.calls
+    /// The number of calls of `read_file` so far, at most the greatest u64.
+    pub fn calls(&self) -> u64
+        ensures { result ≡ self.now.counts.calls }
+    {
+        self.tally.calls()
     }
 }
 
 impl Shelf for MapShelf {
-    ghost files = { λ s. Some (λ n. option_map (λ v. v.items) (get_by_text s.files n)) };
+    ghost files = { λ s. Some (file_of s.held) };
 
-    ghost faults = { λ s _. s.faults };
+    ghost faults = { λ s _. s.counts.faults };
 
-    fn read_file(&mut self, alloc: Global, name: &str, most: usize) -> Result<Vec<u8>, ShelfFault> {
-        self.calls = self.calls.saturating_add(1);
-        if self.fails.contains(&self.calls) {
-            self.faults = self.faults.saturating_add(1);
-            return Err(ShelfFault::Failed);
-        }
+    #[tactic(auto, using(crate::proofs::FileLemmas::file_of_named))]
+    fn read_file(&mut self, alloc: Global, name: &str, most: usize) -> Result<Vec<u8>, ShelfFault>
+        ensures same { self.new.held ≡ self.old.held }
+        ensures later { self.old.counts.faults ≤ self.new.counts.faults }
+        ensures cause { IsErrOf result ShelfFault.Failed → Rose self.old.counts.faults self.new.counts.faults }
+        ensures bound { IfOk result (λ v. length v.items ≤ most) }
+        ensures front { IfOk result (λ v. IsFrontOf (Some (file_of self.old.held)) name.now most v.items) }
+        ensures failed { (result ≡ Err ShelfFault.Failed) ↔ IsTrue (next_fails self.old.counts || not (is_some (file_of self.old.held name.now))) }
+        ensures counted { self.new.counts ≡ after_call self.old.counts (next_fails self.old.counts || not (is_some (file_of self.old.held name.now))) }
+    {
+        let failing = self.tally.next_fails();
         match self.files.get(name) {
-            Some(file) => {
-                let count = file.len().min(most);
-                match file[..count].to_vec(alloc) {
-                    Ok(front) => Ok(front),
-                    Err(_) => Err(ShelfFault::Memory),
-                }
+            Some(file) if !failing => {
+                self.tally.count_call();
+                front(alloc, file, most)
             }
-            None => {
-                self.faults = self.faults.saturating_add(1);
+            _ => {
+                self.tally.count_fault();
                 Err(ShelfFault::Failed)
             }
         }

@@ -1,58 +1,89 @@
-ghost use Rattle.std.specs.Prelude.{◌≡◌, ◌<◌, ◌≤◌, List, ℕ, vec_len, vec_capacity};
-ghost use Rattle.std.specs.declared.option.Option.TheVariants.{None, Some};
+ghost use Rattle.std.specs.Prelude.{◌≡◌, ◌≤◌, ◌<◌, ◌-◌, ◌||◌, [], length, min, is_err, nat_le, IfOk};
+ghost use Rattle.std.specs.declared.option.Option.TheVariants.{Some};
+ghost use Rattle.std.specs.Io.KnownBytes.{WriteAppends};
+ghost use Rattle.tg_base.specs.Causes.{HasCause};
+ghost use Rattle.tg_base.specs.Counts.{none_so_far, next_fails, after_call};
 
 use crate::faults::{Failed, Memory};
 use crate::outside::Sink;
+use crate::tallies::Tally;
 use std::alloc::Global;
+use std::marker::Model;
 
-/// A sink with room for so many bytes.
+/// A sink in memory with room for so many bytes. Its writes fail at the listed calls, numbered from 1, and once the room
+/// is used up. Only `new` takes memory.
 #[derive(Drop)]
 pub struct RoomSink {
     bytes: Vec<u8>,
     room: usize,
-    fails: Vec<u64>,
-    faults: u64,
-    calls: u64,
-    ghost holds: { room ≤ vec_capacity bytes },
-    ghost within: { vec_len bytes ≤ room },
+    tally: Tally,
+}
+
+impl Model for RoomSink {
+    ghost use Rattle.std.specs.Prelude.{◌≤◌, vec_len, vec_capacity};
+    ghost use Rattle.tg_base.specs.InMemory.{RoomBytes};
+
+    ghost Value = { RoomBytes };
+
+    ghost view = { λ s. record { taken = s.bytes.items; room = s.room; counts = s.tally } };
+
+    ghost invariant = { λ s. (s.room ≤ vec_capacity s.bytes) × (vec_len s.bytes ≤ s.room) };
 }
 
 impl RoomSink {
-    pub fn new(alloc: Global, room: usize, fails: Vec<u64>) -> Result<RoomSink, Memory> {
+    pub fn new(alloc: Global, room: usize, fails: Vec<u64>) -> Result<RoomSink, Memory>
+        ensures { IfOk result (λ s. s ≡ record { taken = []; room = room; counts = none_so_far fails.items }) }
+    {
         Ok(RoomSink {
             bytes: Vec::with_capacity(alloc, room)?,
             room,
-            fails,
-            faults: 0,
-            calls: 0,
+            tally: Tally::new(fails),
         })
     }
 
-    pub fn taken(&self) -> &[u8] {
+    /// The bytes taken.
+    pub fn taken(&self) -> &[u8]
+        ensures { result.now ≡ self.now.taken }
+    {
         &self.bytes
     }
 
-    pub fn faults(&self) -> u64 {
-        self.faults
+    /// The count of faults, at most the greatest u64.
+    pub fn faults(&self) -> u64
+        ensures { result ≡ self.now.counts.faults }
+    {
+        self.tally.faults()
     }
 
-    pub fn calls(&self) -> u64 {
-        self.calls
+    /// The number of calls of `write` so far, at most the greatest u64.
+    pub fn calls(&self) -> u64
+        ensures { result ≡ self.now.counts.calls }
+    {
+        self.tally.calls()
     }
 }
 
 impl Sink for RoomSink {
-    ghost taken = { λ s. Some s.bytes.items };
+    ghost taken = { λ s. Some s.taken };
 
-    ghost faults = { λ s. s.faults };
+    ghost faults = { λ s. s.counts.faults };
 
-    fn write(&mut self, piece: &[u8]) -> Result<usize, Failed> {
-        self.calls = self.calls.saturating_add(1);
+    fn write(&mut self, piece: &[u8]) -> Result<usize, Failed>
+        requires { 0 < length piece.now }
+        ensures some { IfOk result (λ n. (0 < n) × (n ≤ length piece.now)) }
+        ensures bytes { WriteAppends (Some self.old.taken) (Some self.new.taken) result piece.now }
+        ensures cause { HasCause self.old.counts.faults self.new.counts.faults result }
+        ensures listed { is_err result ≡ (next_fails self.old.counts || nat_le self.old.room (length self.old.taken)) }
+        ensures filled { IfOk result (λ n. n ≡ min (length piece.now) (self.old.room - length self.old.taken)) }
+        ensures counted { self.new.counts ≡ after_call self.old.counts (is_err result) }
+        ensures same { self.new.room ≡ self.old.room }
+    {
         let count = piece.len().min(self.room - self.bytes.len());
-        if count == 0 || self.fails.contains(&self.calls) {
-            self.faults = self.faults.saturating_add(1);
+        if count == 0 || self.tally.next_fails() {
+            self.tally.count_fault();
             return Err(Failed);
         }
+        self.tally.count_call();
         self.bytes.extend_from_slice(&piece[..count]).unwrap();
         Ok(count)
     }
