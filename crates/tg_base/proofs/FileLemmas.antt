@@ -1,11 +1,11 @@
 -- The files of a map, by their names.
-use Rattle.std.proofs.Common.{◌≡◌, ℕ, Bool, true, false, cond, List, [], ◌∷◌, Option, Some, None, String, Vec, map, string_bytes, refl, sym, ap, ◌∙◌}
+use Rattle.std.proofs.Common.{◌≡◌, ℕ, Bool, true, false, cond, List, [], ◌∷◌, Option, Some, String, Vec, map, string_bytes, refl}
 use Rattle.std.specs.Prelude.{Result, Ok, Err, IfOk, take}
 use Rattle.std.specs.BTreeMap.{BTreeMap, get_by_text, is_at}
 use Rattle.std.specs.Cmp.Lexicographic.{slice_cmp}
 use Rattle.std.specs.Map.{lookup}
 use Rattle.std.specs.Option.{option_map}
-use Rattle.std.specs.Ordering.{is_eq, nat_cmp}
+use Rattle.std.specs.Ordering.{nat_cmp}
 use Rattle.std.specs.Str.{bytes_eq}
 use Rattle.std.specs.declared.alloc.Global.{Global}
 use Rattle.std.proofs.lemmas.Map.Text.{is_eq-slice_cmp}

@@ -3,3 +3,4 @@ pub mod KnownLemmas
 pub mod ProductLaws
 pub mod TopBits
 pub mod FileLemmas
+pub mod NameLemmas

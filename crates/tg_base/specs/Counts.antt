@@ -25,5 +25,5 @@ abbrev pub after_call : Counts → Bool → Counts
 after_call c failed = record {
   fails = c.fails;
   calls = counted c.calls;
-  faults = if failed then counted c.faults else c.faults
+  faults = if failed then counted c.faults else c.faults;
 }

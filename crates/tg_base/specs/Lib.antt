@@ -8,3 +8,4 @@ pub mod Writes
 pub mod ProductLaw
 pub mod Counts
 pub mod InMemory
+pub mod Interned

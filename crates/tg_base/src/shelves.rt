@@ -3,7 +3,7 @@ ghost use Rattle.std.specs.declared.option.Option.TheVariants.{Some};
 ghost use Rattle.tg_base.specs.Causes.{Rose};
 ghost use Rattle.tg_base.specs.Counts.{counted, none_so_far, next_fails, after_call};
 ghost use Rattle.tg_base.specs.Files.{IsFrontOf};
-ghost use Rattle.tg_base.specs.InMemory.{file_of, named};
+ghost use Rattle.tg_base.specs.InMemory.{told, is_missing, read_fails, named, faults_after};
 
 use crate::outside::{Shelf, ShelfFault};
 use crate::tallies::Tally;
@@ -24,7 +24,7 @@ fn front(alloc: Global, file: &[u8], most: usize) -> Result<Vec<u8>, ShelfFault>
 
 /// Files in memory, which fail for a missing name alone.
 ///
-/// Its count of faults for a name that it holds is always 0, and for another name that of all its faults.
+/// Its count of faults for a name that it holds is always 0, and for another name that of all.
 #[derive(Drop)]
 pub struct PlainShelf {
     files: BTreeMap<String, Vec<u8>>,
@@ -67,9 +67,9 @@ impl PlainShelf {
 }
 
 impl Shelf for PlainShelf {
-    ghost files = { λ s. Some (file_of s.held) };
+    ghost files = { λ s. told s.held };
 
-    ghost faults = { λ s name. if is_some (file_of s.held name) then 0 else s.faults };
+    ghost faults = { λ s name. if is_missing s.held name then s.faults else 0 };
 
     #[tactic(auto, using(crate::proofs::FileLemmas::file_of_named))]
     fn read_file(&mut self, alloc: Global, name: &str, most: usize) -> Result<Vec<u8>, ShelfFault>
@@ -77,10 +77,10 @@ impl Shelf for PlainShelf {
         ensures later { self.old.faults ≤ self.new.faults }
         ensures cause { IsErrOf result ShelfFault.Failed → Rose self.old.faults self.new.faults }
         ensures bound { IfOk result (λ v. length v.items ≤ most) }
-        ensures front { IfOk result (λ v. IsFrontOf (Some (file_of self.old.held)) name.now most v.items) }
-        ensures missing { (result ≡ Err ShelfFault.Failed) ↔ IsTrue (not (is_some (file_of self.old.held name.now))) }
+        ensures front { IfOk result (λ v. IsFrontOf (told self.old.held) name.now most v.items) }
+        ensures missing { (result ≡ Err ShelfFault.Failed) ↔ IsTrue (is_missing self.old.held name.now) }
         ensures calls { self.new.calls ≡ counted self.old.calls }
-        ensures faults { self.new.faults ≡ (if is_some (file_of self.old.held name.now) then self.old.faults else counted self.old.faults) }
+        ensures faults { self.new.faults ≡ faults_after self.old name.now }
     {
         self.calls = self.calls.saturating_add(1);
         match self.files.get(name) {
@@ -93,8 +93,9 @@ impl Shelf for PlainShelf {
     }
 }
 
-/// Files in memory, which fail at the listed calls, numbered from 1, and for a missing name. Its count of every name is
-/// that of all its faults.
+/// Files in memory, which fail at the listed calls and for a missing name. Calls are numbered from 1.
+///
+/// Its count of faults for every name is that of all.
 #[derive(Drop)]
 pub struct MapShelf {
     files: BTreeMap<String, Vec<u8>>,
@@ -135,7 +136,7 @@ impl MapShelf {
 }
 
 impl Shelf for MapShelf {
-    ghost files = { λ s. Some (file_of s.held) };
+    ghost files = { λ s. told s.held };
 
     ghost faults = { λ s _. s.counts.faults };
 
@@ -145,9 +146,9 @@ impl Shelf for MapShelf {
         ensures later { self.old.counts.faults ≤ self.new.counts.faults }
         ensures cause { IsErrOf result ShelfFault.Failed → Rose self.old.counts.faults self.new.counts.faults }
         ensures bound { IfOk result (λ v. length v.items ≤ most) }
-        ensures front { IfOk result (λ v. IsFrontOf (Some (file_of self.old.held)) name.now most v.items) }
-        ensures failed { (result ≡ Err ShelfFault.Failed) ↔ IsTrue (next_fails self.old.counts || not (is_some (file_of self.old.held name.now))) }
-        ensures counted { self.new.counts ≡ after_call self.old.counts (next_fails self.old.counts || not (is_some (file_of self.old.held name.now))) }
+        ensures front { IfOk result (λ v. IsFrontOf (told self.old.held) name.now most v.items) }
+        ensures failed { (result ≡ Err ShelfFault.Failed) ↔ IsTrue (read_fails self.old name.now) }
+        ensures counted { self.new.counts ≡ after_call self.old.counts (read_fails self.old name.now) }
     {
         let failing = self.tally.next_fails();
         match self.files.get(name) {

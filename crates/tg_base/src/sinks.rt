@@ -2,7 +2,8 @@ ghost use Rattle.std.specs.Prelude.{◌≡◌, ◌≤◌, ◌<◌, ◌-◌, ◌|
 ghost use Rattle.std.specs.declared.option.Option.TheVariants.{Some};
 ghost use Rattle.std.specs.Io.KnownBytes.{WriteAppends};
 ghost use Rattle.tg_base.specs.Causes.{HasCause};
-ghost use Rattle.tg_base.specs.Counts.{none_so_far, next_fails, after_call};
+ghost use Rattle.tg_base.specs.Counts.{after_call};
+ghost use Rattle.tg_base.specs.InMemory.{empty_room, space, write_fails};
 
 use crate::faults::{Failed, Memory};
 use crate::outside::Sink;
@@ -10,8 +11,9 @@ use crate::tallies::Tally;
 use std::alloc::Global;
 use std::marker::Model;
 
-/// A sink in memory with room for so many bytes. Its writes fail at the listed calls, numbered from 1, and once the room
-/// is used up. Only `new` takes memory.
+/// A sink in memory with room for so many bytes. Only `new` takes memory.
+///
+/// Its writes fail at the listed calls, numbered from 1, and once the room is used up.
 #[derive(Drop)]
 pub struct RoomSink {
     bytes: Vec<u8>,
@@ -32,7 +34,7 @@ impl Model for RoomSink {
 
 impl RoomSink {
     pub fn new(alloc: Global, room: usize, fails: Vec<u64>) -> Result<RoomSink, Memory>
-        ensures { IfOk result (λ s. s ≡ record { taken = []; room = room; counts = none_so_far fails.items }) }
+        ensures { IfOk result (λ s. s ≡ empty_room room fails.items) }
     {
         Ok(RoomSink {
             bytes: Vec::with_capacity(alloc, room)?,
@@ -73,8 +75,8 @@ impl Sink for RoomSink {
         ensures some { IfOk result (λ n. (0 < n) × (n ≤ length piece.now)) }
         ensures bytes { WriteAppends (Some self.old.taken) (Some self.new.taken) result piece.now }
         ensures cause { HasCause self.old.counts.faults self.new.counts.faults result }
-        ensures listed { is_err result ≡ (next_fails self.old.counts || nat_le self.old.room (length self.old.taken)) }
-        ensures filled { IfOk result (λ n. n ≡ min (length piece.now) (self.old.room - length self.old.taken)) }
+        ensures listed { is_err result ≡ write_fails self.old }
+        ensures filled { IfOk result (λ n. n ≡ min (length piece.now) (space self.old)) }
         ensures counted { self.new.counts ≡ after_call self.old.counts (is_err result) }
         ensures same { self.new.room ≡ self.old.room }
     {

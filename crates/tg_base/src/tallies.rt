@@ -3,7 +3,7 @@ ghost use Rattle.tg_base.specs.Counts.{none_so_far, next_fails, after_call};
 
 use std::marker::Model;
 
-/// The calls that fail, and the counts of calls and of faults. A call is counted by `passes` or by `faults`.
+/// The calls that fail, and the counts of calls and of faults. Each call is to be counted once.
 #[derive(Drop)]
 pub(crate) struct Tally {
     fails: Vec<u64>,

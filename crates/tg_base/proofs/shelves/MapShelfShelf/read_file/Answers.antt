@@ -1,6 +1,5 @@
-use Rattle.std.proofs.Common.{◌≡◌, arith}
+use Rattle.std.proofs.Common.{arith}
 use Rattle.std.proofs.lemmas.Grind.{common_steps}
-use Rattle.tg_base.specs.InMemory.{file_of}
 use Rattle.tg_base.proofs.FileLemmas.{file_of_named, front_of_file}
 use Rattle.tg_base.proofs.shelves.MapShelfShelf.read_file.Goals as goal
 

@@ -10,9 +10,9 @@ front copied z n e = ap (λ k. take k (copied ++ z)) (sym e) ∙ take-append_sea
 whole : (xs copied z : List ℕ) (at n : ℕ) → copied ≡ take (at + n - at) (drop at xs) → length copied ≡ n → drop at xs ≡ take n (copied ++ z) ++ drop (at + n) xs
 whole xs copied z at n e l =
     rw (front copied z n l) (grind (arith, common_steps, e, take-append-drop n (drop at xs), same))
-    where
-      same : at + n - at ≡ n
-      same = omega arith
+  where
+    same : at + n - at ≡ n
+    same = omega arith
 
 pub returns-clause-bytes : goal.returns-clause-bytes
 returns-clause-bytes c =
