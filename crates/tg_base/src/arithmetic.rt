@@ -51,3 +51,25 @@ pub fn less_unsigned(a: u32, b: u32) -> bool
 {
     a < b
 }
+
+#[cfg(test)]
+mod tests {
+    use super::*;
+
+    #[test]
+    fn words_at_their_edges(rt: HostRuntime) {
+        assert_eq!(rt; add(0xFFFF_FFFF, 2), 1);
+        assert_eq!(rt; sub(0, 1), 0xFFFF_FFFF);
+        assert_eq!(rt; mul(0x1_0000, 0x1_0001), 0x1_0000);
+
+        // -2147483648 / -1, -7 / 2, 7 / -2 and -7 / -2
+        assert_eq!(rt; quot(0x8000_0000, 0xFFFF_FFFF), 0x8000_0000);
+        assert_eq!(rt; quot(0xFFFF_FFF9, 2), 0xFFFF_FFFD);
+        assert_eq!(rt; quot(7, 0xFFFF_FFFE), 0xFFFF_FFFD);
+        assert_eq!(rt; quot(0xFFFF_FFF9, 0xFFFF_FFFE), 3);
+
+        assert!(rt; less_signed(0x8000_0000, 0x7FFF_FFFF));
+        assert!(rt; !less_signed(0, 0xFFFF_FFFF));
+        assert!(rt; less_unsigned(0, 0xFFFF_FFFF));
+    }
+}

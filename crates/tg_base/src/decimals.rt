@@ -11,3 +11,23 @@ pub fn decimal(value: i32, into: &mut [u8; 11]) -> usize
     into[..text.len()].copy_from_slice(text);
     text.len()
 }
+
+#[cfg(test)]
+mod tests {
+    use super::*;
+
+    #[test]
+    fn texts_of_ints(rt: HostRuntime) {
+        let cases = [
+            (0, "0"),
+            (-1, "-1"),
+            (2147483647, "2147483647"),
+            (-2147483648, "-2147483648"),
+        ];
+        for (value, text) in cases {
+            let mut into = [0; 11];
+            let count = decimal(value, &mut into);
+            assert_eq!(rt; &into[..count], text.as_bytes());
+        }
+    }
+}

@@ -21,3 +21,17 @@ pub fn place(text: &[u8], at: u32) -> Place
     }
     Place { line, column }
 }
+
+#[cfg(test)]
+mod tests {
+    use super::*;
+
+    #[test]
+    fn a_return_is_a_byte_of_its_line(rt: HostRuntime) {
+        let text = b"a\r\nbc\n";
+        let cases = [(0, 1, 1), (2, 1, 3), (3, 2, 1), (4, 2, 2), (6, 3, 1)];
+        for (at, line, column) in cases {
+            assert_eq!(rt; place(text, at), Place { line, column }, "at {at}");
+        }
+    }
+}

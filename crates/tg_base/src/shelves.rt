@@ -163,3 +163,48 @@ impl Shelf for MapShelf {
         }
     }
 }
+
+#[cfg(test)]
+mod tests {
+    use super::*;
+    use std::test::Fail;
+
+    fn one_file(alloc: Global) -> Result<BTreeMap<String, Vec<u8>>, Fail> {
+        let mut files = BTreeMap::new(alloc);
+        let name = String::from_str(alloc, "a")?;
+        files.insert(name, vec![in alloc; 7, 8]?)?;
+        Ok(files)
+    }
+
+    #[test]
+    fn plain_files(rt: HostRuntime) -> Result<(), Fail> {
+        let mut shelf = PlainShelf::new(one_file(rt.alloc())?);
+        let Ok(all) = shelf.read_file(rt.alloc(), "a", 3) else {
+            return Err(Fail::from("memory"));
+        };
+        assert_eq!(rt; all.as_slice(), [7, 8].as_slice());
+        assert_eq!(rt; shelf.faults(), 0);
+        let missing = shelf.read_file(rt.alloc(), "b", 3);
+        assert!(rt; matches!(missing, Err(ShelfFault::Failed)));
+        assert_eq!(rt; shelf.calls(), 2);
+        assert_eq!(rt; shelf.faults(), 1);
+        Ok(())
+    }
+
+    #[test]
+    fn a_listed_file_fails(rt: HostRuntime) -> Result<(), Fail> {
+        let mut shelf = MapShelf::new(one_file(rt.alloc())?, vec![in rt.alloc(); 1]?);
+        let listed = shelf.read_file(rt.alloc(), "a", 1);
+        assert!(rt; matches!(listed, Err(ShelfFault::Failed)));
+        assert_eq!(rt; shelf.faults(), 1);
+        let Ok(front) = shelf.read_file(rt.alloc(), "a", 1) else {
+            return Err(Fail::from("memory"));
+        };
+        assert_eq!(rt; front.as_slice(), [7].as_slice());
+        let missing = shelf.read_file(rt.alloc(), "b", 1);
+        assert!(rt; matches!(missing, Err(ShelfFault::Failed)));
+        assert_eq!(rt; shelf.calls(), 3);
+        assert_eq!(rt; shelf.faults(), 2);
+        Ok(())
+    }
+}

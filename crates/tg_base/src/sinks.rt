@@ -90,3 +90,24 @@ impl Sink for RoomSink {
         Ok(count)
     }
 }
+
+#[cfg(test)]
+mod tests {
+    use super::*;
+    use std::test::Fail;
+
+    #[test]
+    fn a_listed_write_and_a_full_sink_fail(rt: HostRuntime) -> Result<(), Fail> {
+        let mut sink = RoomSink::new(rt.alloc(), 3, vec![in rt.alloc(); 1]?)?;
+        assert_eq!(rt; sink.write(b"ab"), Err(Failed));
+        assert_eq!(rt; sink.faults(), 1);
+        assert_eq!(rt; sink.write(b"ab"), Ok(2));
+        assert_eq!(rt; sink.write(b"cd"), Ok(1));
+        assert_eq!(rt; sink.faults(), 1);
+        assert_eq!(rt; sink.write(b"d"), Err(Failed));
+        assert_eq!(rt; sink.taken(), b"abc".as_slice());
+        assert_eq!(rt; sink.calls(), 4);
+        assert_eq!(rt; sink.faults(), 2);
+        Ok(())
+    }
+}

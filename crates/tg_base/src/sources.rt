@@ -164,3 +164,37 @@ impl Source for ListSource {
         Ok(self.rest.fill(into))
     }
 }
+
+#[cfg(test)]
+mod tests {
+    use super::*;
+    use std::test::Fail;
+
+    #[test]
+    fn plain_bytes(rt: HostRuntime) -> Result<(), Fail> {
+        let mut source = PlainSource::new(vec![in rt.alloc(); 7, 8, 9]?);
+        let mut into = [0; 2];
+        assert_eq!(rt; source.read(&mut into), Ok(2));
+        assert_eq!(rt; into, [7, 8]);
+        assert_eq!(rt; source.read(&mut into), Ok(1));
+        assert_eq!(rt; into[0], 9);
+        assert_eq!(rt; source.read(&mut into), Ok(0));
+        assert_eq!(rt; source.calls(), 3);
+        assert_eq!(rt; source.faults(), 0);
+        Ok(())
+    }
+
+    #[test]
+    fn a_listed_read_fails(rt: HostRuntime) -> Result<(), Fail> {
+        let mut source = ListSource::new(vec![in rt.alloc(); 7]?, vec![in rt.alloc(); 2]?);
+        let mut into = [0; 1];
+        assert_eq!(rt; source.read(&mut into), Ok(1));
+        assert_eq!(rt; source.faults(), 0);
+        assert_eq!(rt; source.read(&mut into), Err(Failed));
+        assert_eq!(rt; source.faults(), 1);
+        assert_eq!(rt; source.read(&mut into), Ok(0));
+        assert_eq!(rt; source.calls(), 3);
+        assert_eq!(rt; source.faults(), 1);
+        Ok(())
+    }
+}
