@@ -1,3 +1,5 @@
+pub mod GrammarExamples
 pub mod ListLaws
 pub mod Longest
 pub mod SizeLemmas
+pub mod TokenExamples

@@ -1,0 +1,184 @@
+-- Examples of the grammar, the nesting and the nodes, by the definitions.
+use Rattle.std.proofs.Common.{ℕ, ◌+◌, ◌≡◌, List, [], ◌∷◌, ◌++◌, Bool, true, false, Option, Some, None, replicate, refl}
+use Rattle.std.specs.Prelude.{fold}
+use Rattle.tg_base.specs.declared.ids.Span.{Span}
+use Rattle.tg_syntax.specs.declared.tokens.Word.TheVariants.{WElse, WIf, WIn, WLet, WThen, WType}
+use Rattle.tg_syntax.specs.declared.tokens.Sign.TheVariants as sign
+use Rattle.tg_syntax.specs.declared.tokens.Token.{Token}
+use Rattle.tg_syntax.specs.declared.tokens.Token.TheVariants as token
+use Rattle.tg_syntax.specs.declared.tokens.Spanned.{Spanned}
+use Rattle.tg_syntax.specs.declared.tokens.Ident.{Ident}
+use Rattle.tg_syntax.specs.declared.tokens.Word.{Word}
+use Rattle.tg_syntax.specs.declared.trees.Param.{Param}
+use Rattle.tg_syntax.specs.declared.trees.Op.{Op}
+use Rattle.tg_syntax.specs.declared.trees.Op.TheVariants as op
+use Rattle.tg_syntax.specs.Tree.{Form, TypeDec, Exp, Place, Exps, no_exps, exp, Decs, no_decs, types}
+use Rattle.tg_syntax.specs.Lexing.{spanned}
+use Rattle.tg_syntax.specs.Nesting.{after_token, nesting_of}
+use Rattle.tg_syntax.specs.Measures.{size, decs_size}
+use Rattle.tg_syntax.specs.Grammar.{Level, Whole, Disjunction, Conjunction, Comparison, Sum, Term, Unary, Primary, Tail, term_op, Reads, whole_up, or_up, and_up, cmp_up, sum_up, sum_more, term_up, term_more, unary_primary, unary_tail, primary_place, primary_int, tail_then, tail_else, place_simple, IsProgram, program}
+
+-- tokens of one byte, and words, from a byte on
+abbrev tok : Token → ℕ → Spanned
+tok one from = spanned one from (from + 1)
+
+abbrev x : ℕ → ℕ → Spanned
+x n from = tok (token.Ident (record { 0 = n })) from
+
+abbrev num : ℕ → ℕ → Spanned
+num n from = tok (token.Int n) from
+
+abbrev minus : ℕ → Spanned
+minus from = tok (token.Sign sign.Minus) from
+
+abbrev plus : ℕ → Spanned
+plus from = tok (token.Sign sign.Plus) from
+
+abbrev the_end : ℕ → Spanned
+the_end at = spanned token.End at at
+
+abbrev span : ℕ → ℕ → Span
+span from to = record { from = from; to = to }
+
+abbrev read : ℕ → ℕ → Exp
+read n from = Exp.Read (span from (from + 1)) (Place.Simple (record { name = record { 0 = n }; span = span from (from + 1) }))
+
+abbrev int : ℕ → ℕ → Exp
+int n from = Exp.Int (span from (from + 1)) n
+
+a_name : (n from : ℕ) → Reads Term (x n from ∷ []) (read n from)
+a_name n from = term_up (unary_primary (primary_place (place_simple (x n from) (record { name = refl; span = refl }))))
+
+a_number : (n from : ℕ) → Reads Term (num n from ∷ []) (int n from)
+a_number n from = term_up (unary_primary (primary_int (num n from) n refl))
+
+sum_whole : {a : List Spanned} {e : Exp} → Reads Sum a e → Reads Whole a e
+sum_whole r = whole_up (or_up (and_up (cmp_up r)))
+
+-- `a-b-c` associates to the left
+pub left_associated : IsProgram (x 0 0 ∷ minus 1 ∷ x 1 2 ∷ minus 3 ∷ x 2 4 ∷ the_end 5 ∷ []) (Exp.Binary (span 0 5) op.Minus 3 (Exp.Binary (span 0 3) op.Minus 1 (read 0 0) (read 1 2)) (read 2 4))
+left_associated =
+    program {a = x 0 0 ∷ minus 1 ∷ x 1 2 ∷ minus 3 ∷ x 2 4 ∷ []} (the_end 5)
+    (sum_whole
+    (sum_more {a = x 0 0 ∷ minus 1 ∷ x 1 2 ∷ []} {b = x 2 4 ∷ []} (minus 3)
+    (sum_more {a = x 0 0 ∷ []} {b = x 1 2 ∷ []} (minus 1) (sum_up (a_name 0 0)) refl refl (a_name 1 2)) refl refl (a_name 2 4))) refl
+
+-- and never to the right: a term is no difference
+no_minus : (t : Token) → term_op t ≡ Some op.Minus → ⊥
+no_minus (token.Sign sign.Times) e = cc
+no_minus (token.Sign _) e = cc
+no_minus _ e = cc
+
+term_minus : {a : List Spanned} {s : Span} {at : ℕ} {l r : Exp} → Reads Term a (Exp.Binary s op.Minus at l r) → ⊥
+term_minus (term_up (unary_primary h)) = elim h [ ]
+term_minus (term_up (unary_tail h)) = elim h [ ]
+term_minus (term_more t h ends e k) = no_minus t.token e
+
+pub not_right : {a : List Spanned} {s z : Span} {at to : ℕ} {l m r : Exp} → Reads Sum a (Exp.Binary s op.Minus at l (Exp.Binary z op.Minus to m r)) → ⊥
+not_right (sum_up h) = term_minus h
+not_right (sum_more t h ends e k) = term_minus k
+
+-- `1+if 1 then 2 else 3+4`: the else arm takes all that follows
+abbrev word : Word → ℕ → ℕ → Spanned
+word w from to = spanned (token.Word w) from to
+
+abbrev sum_of : ℕ → ℕ → Exp → Exp → ℕ → Exp
+sum_of from to l r at = Exp.Binary (span from to) op.Plus at l r
+
+pub tail_takes_all :
+    IsProgram (num 1 0 ∷ plus 1 ∷ word WIf 2 4 ∷ num 1 5 ∷ word WThen 7 11 ∷ num 2 12 ∷ word WElse 14 18 ∷ num 3 19 ∷ plus 20 ∷ num 4 21 ∷ the_end 22 ∷ [])
+    (sum_of 0 22 (int 1 0) (Exp.If (span 2 22) (int 1 5) (int 2 12) (sum_of 19 22 (int 3 19) (int 4 21) 20)) 1)
+tail_takes_all =
+    program {a = num 1 0 ∷ plus 1 ∷ word WIf 2 4 ∷ num 1 5 ∷ word WThen 7 11 ∷ num 2 12 ∷ word WElse 14 18 ∷ num 3 19 ∷ plus 20 ∷ num 4 21 ∷ []} (the_end 22)
+    (sum_whole
+    (sum_more {a = num 1 0 ∷ []} {b = word WIf 2 4 ∷ num 1 5 ∷ word WThen 7 11 ∷ num 2 12 ∷ word WElse 14 18 ∷ num 3 19 ∷ plus 20 ∷ num 4 21 ∷ []} (plus 1) (sum_up (a_number 1 0)) refl refl
+    (term_up (unary_tail
+    (tail_else {a = num 1 5 ∷ []} {b = num 2 12 ∷ []} {d = num 3 19 ∷ plus 20 ∷ num 4 21 ∷ []} (word WIf 2 4) (word WThen 7 11) (word WElse 14 18) refl
+    (sum_whole (sum_up (a_number 1 5))) refl (sum_whole (sum_up (a_number 2 12))) refl refl
+    (sum_whole (sum_more {a = num 3 19 ∷ []} {b = num 4 21 ∷ []} (plus 20) (sum_up (a_number 3 19)) refl refl (a_number 4 21)))))))) refl
+
+-- and the sum never stands behind the `if`
+no_plus : (t : Token) → term_op t ≡ Some op.Plus → ⊥
+no_plus (token.Sign sign.Times) e = cc
+no_plus (token.Sign _) e = cc
+no_plus _ e = cc
+
+term_plus : {a : List Spanned} {s : Span} {at : ℕ} {l r : Exp} → Reads Term a (Exp.Binary s op.Plus at l r) → ⊥
+term_plus (term_up (unary_primary h)) = elim h [ ]
+term_plus (term_up (unary_tail h)) = elim h [ ]
+term_plus (term_more t h ends e k) = no_plus t.token e
+
+true_false : true ≡ false → ⊥
+true_false e = cc
+
+pub not_behind : {a : List Spanned} {s z w : Span} {at to : ℕ} {l c x y r : Exp} → Reads Sum a (Exp.Binary s op.Plus at (Exp.Binary z op.Plus to l (Exp.If w c x y)) r) → ⊥
+not_behind (sum_up h) = term_plus h
+not_behind (sum_more t h ends e k) = true_false ends
+
+-- `if 1 then if 0 then a else b`: the else belongs to the nearest then
+pub nearest_then :
+    IsProgram (word WIf 0 2 ∷ num 1 3 ∷ word WThen 5 9 ∷ word WIf 10 12 ∷ num 0 13 ∷ word WThen 15 19 ∷ x 0 20 ∷ word WElse 22 26 ∷ x 1 27 ∷ the_end 28 ∷ [])
+    (Exp.When (span 0 28) (int 1 3) (Exp.If (span 10 28) (int 0 13) (read 0 20) (read 1 27)))
+nearest_then =
+    program {a = word WIf 0 2 ∷ num 1 3 ∷ word WThen 5 9 ∷ word WIf 10 12 ∷ num 0 13 ∷ word WThen 15 19 ∷ x 0 20 ∷ word WElse 22 26 ∷ x 1 27 ∷ []} (the_end 28)
+    (whole_tail
+    (tail_then {a = num 1 3 ∷ []} {b = word WIf 10 12 ∷ num 0 13 ∷ word WThen 15 19 ∷ x 0 20 ∷ word WElse 22 26 ∷ x 1 27 ∷ []} (word WIf 0 2) (word WThen 5 9) refl (sum_whole (sum_up (a_number 1 3))) refl
+    (whole_tail
+    (tail_else {a = num 0 13 ∷ []} {b = x 0 20 ∷ []} {d = x 1 27 ∷ []} (word WIf 10 12) (word WThen 15 19) (word WElse 22 26) refl
+    (sum_whole (sum_up (a_number 0 13))) refl (sum_whole (sum_up (a_name 0 20))) refl refl (sum_whole (sum_up (a_name 1 27))))))) refl
+  where
+    whole_tail : {a : List Spanned} {e : Exp} → Reads Tail a e → Reads Whole a e
+    whole_tail r = sum_whole (sum_up (term_up (unary_tail r)))
+
+-- and never to the outer one
+pub not_outer : {a : List Spanned} {s z : Span} {c d y w : Exp} → Reads Tail a (Exp.If s c (Exp.When z d y) w) → ⊥
+not_outer (tail_else t u v i h j k short l m) = true_false short
+
+-- nestings
+abbrev nesting : List Token → ℕ
+nesting tokens = nesting_of (fold (λ counts one. after_token one counts) (0 ∷ []) tokens)
+
+abbrev id : Token
+id = token.Ident (record { 0 = 0 })
+
+pub nesting_none : nesting [] ≡ 0
+nesting_none = refl
+
+pub nesting_signs : nesting (token.Sign sign.Minus ∷ token.Sign sign.Minus ∷ id ∷ []) ≡ 2
+nesting_signs = refl
+
+pub nesting_argument : nesting (id ∷ token.Sign sign.LeftParen ∷ token.Sign sign.Minus ∷ token.Int 1 ∷ []) ≡ 2
+nesting_argument = refl
+
+pub nesting_call : nesting (id ∷ token.Sign sign.LeftParen ∷ token.Sign sign.Minus ∷ token.Int 1 ∷ token.Sign sign.RightParen ∷ []) ≡ 0
+nesting_call = refl
+
+pub nesting_index : nesting (id ∷ token.Sign sign.LeftBracket ∷ id ∷ token.Sign sign.RightBracket ∷ []) ≡ 1
+nesting_index = refl
+
+pub nesting_let : nesting (token.Word WLet ∷ token.Word WType ∷ id ∷ token.Sign sign.Equal ∷ id ∷ []) ≡ 2
+nesting_let = refl
+
+pub nesting_in : nesting (token.Word WLet ∷ token.Word WType ∷ id ∷ token.Sign sign.Equal ∷ id ∷ token.Word WIn ∷ []) ≡ 1
+nesting_in = refl
+
+pub nesting_unopened : nesting (token.Sign sign.RightParen ∷ token.Sign sign.RightParen ∷ token.Word WIf ∷ []) ≡ 1
+nesting_unopened = refl
+
+pub nesting_deep : nesting (replicate 257 (token.Sign sign.LeftParen)) ≡ 257
+nesting_deep = refl
+
+-- nodes
+pub size-read : size (read 0 0) ≡ 2
+size-read = refl
+
+abbrev two_fields : TypeDec
+two_fields =
+    let x : Ident = record { name = record { 0 = 0 }; span = span 0 1 } in
+    record { name = x; form = Form.Fields (record { name = x; kind = x } ∷ record { name = x; kind = x } ∷ []) }
+
+pub size-types : decs_size (types (two_fields ∷ []) no_decs) ≡ 4
+size-types = refl
+
+pub size-for : size (Exp.For (span 0 9) (record { name = record { 0 = 0 }; span = span 4 5 }) (int 1 1) (int 2 2) (Exp.Seq (span 3 5) no_exps)) ≡ 4
+size-for = refl
