@@ -1,5 +1,5 @@
 -- The first bytes of a token's spelling.
-use Rattle.std.proofs.Common.{ℕ, zero, suc, ◌≡◌, List, [], ◌∷◌, Bool, true, false, Some, refl, ap, ◌∙◌}
+use Rattle.std.proofs.Common.{ℕ, zero, suc, ◌≡◌, List, [], ◌∷◌, Bool, true, false, Some, refl, sym, ap, subst, ◌∙◌}
 use Rattle.std.specs.Prelude.{not, ◌||◌, ◌&&◌, ◌==◌, codes, slice_get}
 use Rattle.std.proofs.lemmas.Bool.{eq-eqb}
 use Rattle.tg_syntax.specs.declared.tokens.Token.{Token}
@@ -8,8 +8,8 @@ use Rattle.tg_syntax.specs.declared.tokens.Word.{Word}
 use Rattle.tg_syntax.specs.declared.tokens.Word.TheVariants.{WArray}
 use Rattle.tg_syntax.specs.declared.tokens.Sign.{Sign}
 use Rattle.tg_syntax.specs.declared.tokens.Sign.TheVariants.{Comma}
-use Rattle.tg_syntax.specs.Spellings.{Spells, word_text, sign_text, is_letter, is_digit, is_blank}
-use Rattle.tg_driver.specs.Fronts.{exit_alone}
+use Rattle.tg_syntax.specs.Spellings.{Spells, word_text, sign_text, is_letter, is_digit, is_blank, is_name_byte, IsName, IsDigits, AllAre, HasTokenForm, name, sign, digits, quoted}
+use Rattle.tg_driver.specs.Fronts.{exit_alone, IsBuiltToken}
 
 pub clash : {b : Bool} → b ≡ false → b ≡ true → ⊥
 clash x y = cc
@@ -80,13 +80,43 @@ pub record IsAlone (b : ℕ) : Type 0 where
   pub no_quote : (b == 34) ≡ false
   pub no_long : begins_long (b ∷ b ∷ []) ≡ false
 
-pub alone_longest : (b : ℕ) → IsAlone b → (c : ℕ) (bytes : List ℕ) (one : Token) → Spells exit_alone (b ∷ c ∷ bytes) one → ⊥
-alone_longest b a c bytes (token.Word w) h = clash a.no_letter (ap (begins is_letter) h ∙ word_letter w)
-alone_longest b a c bytes (token.Sign s) h = clash a.no_long (ap begins_long h ∙ sign_long s)
-alone_longest b a c bytes (token.Ident n) h = clash a.no_letter h.0.0
-alone_longest b a c bytes (token.Int n) h = clash a.no_digit h.0.0
-alone_longest b a c bytes (token.Text t) h = clash a.no_quote (let e : b ≡ 34 = cc (h.1) in eq-eqb b 34 e)
-alone_longest b a c bytes token.End h = h
+pub alone_longest : (b : ℕ) → IsAlone b → (c : ℕ) (more : List ℕ) → HasTokenForm (b ∷ c ∷ more) → ⊥
+alone_longest b a c more h = by h refl
+  where
+    by : {bytes : List ℕ} → HasTokenForm bytes → bytes ≡ b ∷ c ∷ more → ⊥
+    by (name bytes k) e = clash a.no_letter (subst (λ l. IsName l) e k).0
+    by (sign s) e = clash a.no_long (sym (ap begins_long e) ∙ sign_long s)
+    by (digits bytes k) e = clash a.no_digit (subst (λ l. IsDigits l) e k).0
+    by (quoted k) e = let same : b ≡ 34 = cc in clash a.no_quote (eq-eqb b 34 same)
+
+-- what begins with a digit has the form of digits alone
+pub digit_form : (b : ℕ) (more : List ℕ) → is_letter b ≡ false → is_mark b ≡ false → (b == 34) ≡ false → HasTokenForm (b ∷ more) → AllAre is_digit more
+digit_form b more no_letter no_mark no_quote h = by h refl
+  where
+    by : {bytes : List ℕ} → HasTokenForm bytes → bytes ≡ b ∷ more → AllAre is_digit more
+    by (name bytes k) e = absurd (clash no_letter (subst (λ l. IsName l) e k).0)
+    by (sign s) e = absurd (clash no_mark (sym (ap (begins is_mark) e) ∙ sign_mark s))
+    by (digits bytes k) e = (subst (λ l. IsDigits l) e k).1
+    by (quoted k) e = let same : b ≡ 34 = cc in absurd (clash no_quote (eq-eqb b 34 same))
+
+-- what begins with a letter has the form of a name alone
+pub letter_form : (b : ℕ) (more : List ℕ) → is_digit b ≡ false → is_mark b ≡ false → (b == 34) ≡ false → HasTokenForm (b ∷ more) → AllAre is_name_byte more
+letter_form b more no_digit no_mark no_quote h = by h refl
+  where
+    by : {bytes : List ℕ} → HasTokenForm bytes → bytes ≡ b ∷ more → AllAre is_name_byte more
+    by (name bytes k) e = (subst (λ l. IsName l) e k).1
+    by (sign s) e = absurd (clash no_mark (sym (ap (begins is_mark) e) ∙ sign_mark s))
+    by (digits bytes k) e = absurd (clash no_digit (subst (λ l. IsDigits l) e k).0)
+    by (quoted k) e = let same : b ≡ 34 = cc in absurd (clash no_quote (eq-eqb b 34 same))
+
+-- a token of the built form has the form of one
+pub built_form : (names : List (List ℕ)) (bytes : List ℕ) (one : Token) → IsBuiltToken one → Spells names bytes one → HasTokenForm bytes
+built_form names bytes (token.Sign s) built h = subst HasTokenForm (sym h) (sign s)
+built_form names bytes (token.Ident n) built h = name bytes h.0
+built_form names bytes (token.Int n) built h = digits bytes h.0
+built_form names bytes (token.Word w) built h = absurd built
+built_form names bytes (token.Text t) built h = absurd built
+built_form names bytes token.End built h = absurd h
 
 -- `exit` is the one name
 pub name_is : (n : ℕ) (bytes : List ℕ) → slice_get exit_alone n ≡ Some bytes → (n ≡ 0) × (bytes ≡ codes "exit")

@@ -1,18 +1,19 @@
 -- What a text begins with.
-use Rattle.std.proofs.Common.{ℕ, ◌+◌, ◌-◌, ◌*◌, ◌≡◌, ◌≢◌, ◌≤◌, ◌<◌, List, [], ◌∷◌, ◌++◌, length, true, false, Some, drop, refl, sym, ap, subst, ◌∙◌, arith}
-use Rattle.std.specs.Prelude.{IsTrue, ◌==◌, codes, slice_get, fold}
+use Rattle.std.proofs.Common.{ℕ, ◌+◌, ◌-◌, ◌*◌, ◌≡◌, ◌≢◌, ◌≤◌, ◌<◌, List, [], ◌∷◌, ◌++◌, length, Bool, true, false, Some, None, drop, get_or, refl, sym, ap, subst, ◌∙◌, arith}
+use Rattle.std.specs.Prelude.{IsTrue, not, ◌==◌, codes, slice_get, fold}
 use Rattle.std.proofs.lemmas.Bool.Decides.{nat_tests}
-use Rattle.std.proofs.lemmas.List.Sums.{fold-append}
+use Rattle.std.proofs.lemmas.List.{drop_more}
 use Rattle.tg_syntax.specs.declared.tokens.Token.{Token}
 use Rattle.tg_syntax.specs.declared.tokens.Token.TheVariants as token
 use Rattle.tg_syntax.specs.declared.tokens.Word.{Word}
 use Rattle.tg_syntax.specs.declared.tokens.Sign.{Sign}
 use Rattle.tg_syntax.specs.declared.tokens.Sign.TheVariants.{LeftParen, RightParen, Plus, Minus, Times}
-use Rattle.tg_syntax.specs.Spellings.{Spells, word_text, sign_text, is_letter, is_digit, AllAre, number_of}
+use Rattle.tg_syntax.specs.Spellings.{Spells, word_text, sign_text, is_letter, is_digit, is_name_byte, AllAre, HasTokenForm, name, digits, IsDigits, is_blank, number_of}
 use Rattle.tg_syntax.specs.Lexing.{IsLongest}
-use Rattle.tg_driver.specs.Fronts.{exit_alone, IsBuiltSign, IsInt, IsToken}
-use Rattle.tg_driver.proofs.FirstBytes.{clash, is_mark, spells_first, begins_ex, word_ex, IsAlone, alone_longest, name_is}
-use Rattle.tg_driver.proofs.Ints.{AllAre_right}
+use Rattle.tg_driver.specs.declared.scanning.Front.TheVariants.{Other}
+use Rattle.tg_driver.specs.Fronts.{exit_alone, IsBuiltSign, IsSign, IsInt, IsToken, IsFront, NamesExit}
+use Rattle.tg_driver.proofs.FirstBytes.{clash, is_mark, spells_first, spells_some, may_begin, begins_ex, word_ex, digit_form, letter_form, IsAlone, alone_longest, name_is}
+use Rattle.tg_driver.proofs.Ints.{AllAre-append, AllAre_right}
 
 -- a digit is no other first byte
 digit_letter : (b : ℕ) → is_digit b ≡ true → is_letter b ≡ false
@@ -24,32 +25,11 @@ digit_mark b h = grind (arith, nat_tests)
 digit_quote : (b : ℕ) → is_digit b ≡ true → (b == 34) ≡ false
 digit_quote b h = grind (arith, nat_tests)
 
-digit_small : (b : ℕ) → is_digit b ≡ true → b ≤ 57
-digit_small b h = grind (arith, nat_tests)
-
--- a token whose first byte is a digit is an int
-int_alone : (b : ℕ) (bytes : List ℕ) (one : Token) → is_digit b ≡ true → Spells exit_alone (b ∷ bytes) one → (AllAre is_digit bytes) × (number_of (b ∷ bytes) ≤ 2147483647)
-int_alone b bytes (token.Word w) d h = absurd (clash (digit_letter b d) (spells_first exit_alone b bytes (token.Word w) h))
-int_alone b bytes (token.Sign s) d h = absurd (clash (digit_mark b d) (spells_first exit_alone b bytes (token.Sign s) h))
-int_alone b bytes (token.Ident n) d h = absurd (clash (digit_letter b d) (spells_first exit_alone b bytes (token.Ident n) h))
-int_alone b bytes (token.Text t) d h = absurd (clash (digit_quote b d) (spells_first exit_alone b bytes (token.Text t) h))
-int_alone b bytes token.End d h = absurd h
-int_alone b bytes (token.Int n) d h = (h.0.1, let e : number_of (b ∷ bytes) ≡ n = sym h.1 in let le : n ≤ 2147483647 = h.2 in omega arith)
-
-fold_grows : (n : ℕ) (bytes : List ℕ) → n ≤ fold (λ n b. 10 * n + (b - 48)) n bytes
-fold_grows n [] = omega arith
-fold_grows n (b ∷ bytes) = omega (arith, fold_grows (10 * n + (b - 48)) bytes)
-
-int_longest : (value : ℕ) (x : ℕ) (bytes rest : List ℕ) → is_digit x ≡ true → value ≡ number_of (x ∷ bytes) → ((b : ℕ) (after : List ℕ) → rest ≡ b ∷ after → IsTrue (is_digit b) → 2147483647 < 10 * value + (b - 48)) → IsLongest exit_alone (x ∷ bytes) rest
-int_longest value x bytes rest d e longest [] after one w ne s = ne refl
-int_longest value x bytes rest d e longest (c ∷ more) after one w ne s =
-    let all = int_alone x (bytes ++ c ∷ more) one d s in
-    let great = longest c (more ++ after) w (AllAre_right is_digit bytes (c ∷ more) all.0).0 in
-    absurd (too_great value c more (number_of (x ∷ (bytes ++ c ∷ more))) great all.1
-    (fold-append (λ n b. 10 * n + (b - 48)) 0 (x ∷ bytes) (c ∷ more) ∙ ap (λ n. fold (λ n b. 10 * n + (b - 48)) n (c ∷ more)) (sym e)))
-  where
-    too_great : (value c : ℕ) (more : List ℕ) (n : ℕ) → 2147483647 < 10 * value + (c - 48) → n ≤ 2147483647 → n ≡ fold (λ n b. 10 * n + (b - 48)) value (c ∷ more) → ⊥
-    too_great value c more n great le e = omega (arith, fold_grows (10 * value + (c - 48)) more)
+int_longest : (x : ℕ) (bytes rest : List ℕ) → is_digit x ≡ true → ((b : ℕ) (after : List ℕ) → rest ≡ b ∷ after → IsTrue (is_digit b) → ⊥) → IsLongest (x ∷ bytes) rest
+int_longest x bytes rest d longest [] after w ne h = ne refl
+int_longest x bytes rest d longest (c ∷ more) after w ne h =
+    let all = digit_form x (bytes ++ c ∷ more) (digit_letter x d) (digit_mark x d) (digit_quote x d) h in
+    longest c (more ++ after) w (AllAre_right is_digit bytes (c ∷ more) all).0
 
 pub int_token : (b : ℕ) (after : List ℕ) (value size : ℕ) → is_digit b ≡ true → IsInt (b ∷ after) value size → IsToken (b ∷ after) (token.Int value) size
 int_token b after value size d h = by_bytes h.bytes refl
@@ -57,10 +37,7 @@ int_token b after value size d h = by_bytes h.bytes refl
     none : (bytes : List ℕ) → h.bytes ≡ bytes → bytes ≡ [] → ⊥
     none bytes e n =
         let w : h.rest ≡ b ∷ after = cc (h.whole) in
-        let great = h.longest b after w d in
-        let zero_is : value ≡ 0 = h.value_is ∙ ap number_of (e ∙ n) in
-        let small = digit_small b d in
-        omega arith
+        h.longest b after w d
 
     by_bytes : (bytes : List ℕ) → h.bytes ≡ bytes → IsToken (b ∷ after) (token.Int value) size
     by_bytes [] e = absurd (none [] e refl)
@@ -73,7 +50,7 @@ int_token b after value size d h = by_bytes h.bytes refl
           whole = h.whole ∙ ap (λ l. l ++ h.rest) e;
           size_is = h.size_is ∙ ap length e;
           spells = (digits, value_is, h.fits);
-          longest = int_longest value x bytes h.rest digits.0 value_is h.longest;
+          longest = int_longest x bytes h.rest digits.0 h.longest;
           built = tt;
         }
 
@@ -98,43 +75,128 @@ sign_token b after s h e =
       built = h;
     }
   where
-    longest : IsLongest exit_alone (b ∷ []) after
-    longest [] rest one w ne s' = ne refl
-    longest (c ∷ more) rest one w ne s' = alone_longest b (built_alone s h b e) c more one s'
+    longest : IsLongest (b ∷ []) after
+    longest [] rest w ne form = ne refl
+    longest (c ∷ more) rest w ne form = alone_longest b (built_alone s h b e) c more form
 
 -- the name
-pub exit_token : (after : List ℕ) → IsToken (codes "exit" ++ after) (token.Ident (record { 0 = 0 })) 4
-exit_token after =
+pub exit_token : (text : List ℕ) → NamesExit text → IsToken text (token.Ident (record { 0 = 0 })) 4
+exit_token text h =
     record {
       bytes = codes "exit";
-      rest = after;
-      whole = refl;
+      rest = h.rest;
+      whole = h.whole;
       size_is = refl;
       spells = ((refl, (refl, (refl, (refl, tt)))), word_other, refl);
       longest = longest;
-      built = tt;
+      built = tt
     }
   where
     word_other : (w : Word) → codes "exit" ≢ word_text w
     word_other w e = clash (word_ex w) (sym (ap begins_ex e))
+    longest : IsLongest (codes "exit") h.rest
+    longest [] after w ne form = ne refl
+    longest (c ∷ more) after w ne form = h.ends c (more ++ after) w (letter_form 101 (120 ∷ 105 ∷ 116 ∷ c ∷ more) refl refl refl form).1.1.1.0
 
-    longest : IsLongest exit_alone (codes "exit") after
-    longest [] rest one w ne s = ne refl
-    longest (c ∷ more) rest (token.Word v) w ne s = clash (word_ex v) (sym (ap begins_ex s))
-    longest (c ∷ more) rest (token.Sign v) w ne s = clash refl (spells_first exit_alone 101 (120 ∷ 105 ∷ 116 ∷ c ∷ more) (token.Sign v) s)
-    longest (c ∷ more) rest (token.Ident n) w ne s = let e = (name_is n.0 _ s.2).1 in cc
-    longest (c ∷ more) rest (token.Int n) w ne s = clash refl s.0.0
-    longest (c ∷ more) rest (token.Text t) w ne s = clash refl (spells_first exit_alone 101 (120 ∷ 105 ∷ 116 ∷ c ∷ more) (token.Text t) s)
-    longest (c ∷ more) rest token.End w ne s = s
+exit_form : (c : ℕ) → IsTrue (is_name_byte c) → HasTokenForm (codes "exit" ++ c ∷ [])
+exit_form c h = name (codes "exit" ++ c ∷ []) (refl, (refl, (refl, (refl, (h, tt)))))
+
+-- the name as a token is the name, as far as it goes
+token_exit : (text : List ℕ) (n size : ℕ) → IsToken text (token.Ident (record { 0 = n })) size → NamesExit text
+token_exit text n size h =
+    let e = (name_is n h.bytes h.spells.2).1 in
+    record {
+      rest = h.rest;
+      whole = h.whole ∙ ap (λ l. l ++ h.rest) e;
+      ends = λ b after w is_name. h.longest (b ∷ []) after w (λ f. cc) (subst (λ l. HasTokenForm (l ++ b ∷ [])) (sym e) (exit_form b is_name))
+    }
 
 -- a text by its first byte
-pub first_is : (text : List ℕ) (b : ℕ) → Some b ≡ slice_get text 0 → text ≡ b ∷ drop 1 text
-first_is [] b h = cc
-first_is (x ∷ text) b h = cc
-
 pub look_int : (text : List ℕ) (b value size : ℕ) → Some b ≡ slice_get text 0 → is_digit b ≡ true → IsInt text value size → IsToken text (token.Int value) size
 look_int [] b value size f d h = cc
 look_int (x ∷ text) b value size f d h = let e : b ≡ x = cc in int_token x text value size (rw e at d) h
 
-pub look_exit : (text : List ℕ) → text ≡ codes "exit" ++ drop 4 text → IsToken text (token.Ident (record { 0 = 0 })) 4
-look_exit text e = subst (λ l. IsToken l (token.Ident (record { 0 = 0 })) 4) (sym e) (exit_token (drop 4 text))
+-- an int as a token is the longest front of digits
+token_int : (text : List ℕ) (value size : ℕ) → IsToken text (token.Int value) size → IsInt text value size
+token_int text value size h =
+    record {
+      bytes = h.bytes;
+      rest = h.rest;
+      whole = h.whole;
+      size_is = h.size_is;
+      digits = digits_all h.bytes h.spells.0;
+      value_is = h.spells.1;
+      fits = h.spells.2;
+      longest = λ b after w d. h.longest (b ∷ []) after w (λ f. cc) (digits (h.bytes ++ b ∷ []) (digits_more h.bytes b h.spells.0 d))
+    }
+  where
+    digits_all : (bytes : List ℕ) → IsDigits bytes → AllAre is_digit bytes
+    digits_all [] d = absurd d
+    digits_all (x ∷ bytes) d = d
+    digits_more : (bytes : List ℕ) (b : ℕ) → IsDigits bytes → IsTrue (is_digit b) → IsDigits (bytes ++ b ∷ [])
+    digits_more [] b d e = absurd d
+    digits_more (x ∷ bytes) b d e = (d.0, AllAre-append is_digit bytes (b ∷ []) d.1 (e, tt))
+
+-- the first byte of a token
+token_first : (b : ℕ) (text : List ℕ) (one : Token) (size : ℕ) → IsToken (b ∷ text) one size → may_begin one b ≡ true
+token_first b text one size h = by h.bytes h.whole h.spells
+  where
+    by : (bytes : List ℕ) → b ∷ text ≡ bytes ++ h.rest → Spells exit_alone bytes one → may_begin one b ≡ true
+    by [] w s = absurd (spells_some exit_alone one s)
+    by (x ∷ bytes) w s = let e : x ≡ b = cc in rw e at (spells_first exit_alone x bytes one s)
+
+digit_blank : (b : ℕ) → is_digit b ≡ true → is_blank b ≡ false
+digit_blank b h = grind (arith, nat_tests)
+
+pub look_great : (text : List ℕ) (b : ℕ) → Some b ≡ slice_get text 0 → is_digit b ≡ true → ((value size : ℕ) → IsInt text value size → ⊥) → IsFront text Other
+look_great [] b f d h = cc
+look_great (x ∷ text) b f d h =
+    let e : b ≡ x = cc in
+    (λ blank. clash (digit_blank x (rw e at d)) blank, by (rw e at d))
+  where
+    by : is_digit x ≡ true → (one : Token) (size : ℕ) → IsToken (x ∷ text) one size → ⊥
+    by d (token.Int n) size k = h n size (token_int (x ∷ text) n size k)
+    by d (token.Sign s) size k = clash (digit_mark x d) (token_first x text (token.Sign s) size k)
+    by d (token.Ident n) size k = clash (digit_letter x d) (token_first x text (token.Ident n) size k)
+    by d (token.Word w) size k = k.built
+    by d (token.Text t) size k = k.built
+    by d token.End size k = k.spells
+
+-- the byte of a sign of the built form
+built_text : (s : Sign) → IsBuiltSign s → (b : ℕ) (after rest : List ℕ) → b ∷ after ≡ sign_text s ++ rest → sign_text s ≡ b ∷ []
+built_text LeftParen h b after rest e = cc
+built_text RightParen h b after rest e = cc
+built_text Plus h b after rest e = cc
+built_text Minus h b after rest e = cc
+built_text Times h b after rest e = cc
+built_text _ h b after rest e = absurd h
+
+pub look_other : (text : List ℕ) (b : ℕ) → Some b ≡ slice_get text 0 → is_blank b ≡ false → is_digit b ≡ false → IsSign b None → (NamesExit text → ⊥) → IsFront text Other
+look_other [] b f no_blank no_digit no_sign no_exit = cc
+look_other (x ∷ text) b f no_blank no_digit no_sign no_exit =
+    let e : b ≡ x = cc in
+    (λ h. clash no_blank (rw (sym e) at h), other e)
+  where
+    other : b ≡ x → (one : Token) (size : ℕ) → IsToken (x ∷ text) one size → ⊥
+    other e (token.Sign s) size h = no_sign s h.built (built_text s h.built b text h.rest (ap (λ y. y ∷ text) e ∙ h.whole ∙ ap (λ l. l ++ h.rest) h.spells))
+    other e (token.Int n) size h = clash (rw e at no_digit) (token_first x text (token.Int n) size h)
+    other e (token.Ident n) size h = no_exit (token_exit (x ∷ text) n.0 size h)
+    other e (token.Word v) size h = h.built
+    other e (token.Text t) size h = h.built
+    other e token.End size h = h.spells
+
+-- `exit`, by the byte behind it
+pub exit_then : (text : List ℕ) (b : ℕ) (r : Bool) → text ≡ codes "exit" ++ drop 4 text → 4 < length text → b ≡ get_or text 4 0 → r ≡ is_name_byte b → (IsTrue (not r) → NamesExit text) × (NamesExit text → IsTrue (not r))
+exit_then text b r w lt here e = (names r e, not_name r e)
+  where
+    next : drop 4 text ≡ b ∷ drop 5 text
+    next = drop_more text 4 0 lt ∙ ap (λ x. x ∷ drop 5 text) (sym here)
+    names : (r : Bool) → r ≡ is_name_byte b → IsTrue (not r) → NamesExit text
+    names r e h = record { rest = drop 4 text; whole = w; ends = λ c after f n. let same : b ≡ c = cc (next) in no r (e ∙ ap is_name_byte same ∙ n) h }
+      where
+        no : (r : Bool) → r ≡ true → not r ≡ true → ⊥
+        no true x y = cc
+        no false x y = cc
+    not_name : (r : Bool) → r ≡ is_name_byte b → NamesExit text → IsTrue (not r)
+    not_name false e h = refl
+    not_name true e h = absurd (h.ends b (drop 5 text) (sym (ap (drop 4) h.whole) ∙ next) (sym e))

@@ -7,7 +7,7 @@ use Rattle.tg_syntax.specs.declared.tokens.Spanned.{Spanned}
 use Rattle.tg_syntax.specs.Spellings.{Spells}
 use Rattle.tg_syntax.specs.Lexing.{Lexes, ends, blank, comment, token, spanned, OpensComment}
 use Rattle.tg_driver.specs.Fronts.{exit_alone, IsBuiltToken, AreBuilt, IsToken, BeginsBlank, HasNoSlash, AreTokens, HasNoTokens}
-use Rattle.tg_driver.proofs.FirstBytes.{clash, spells_some}
+use Rattle.tg_driver.proofs.FirstBytes.{clash, spells_some, built_form}
 use Rattle.tg_driver.proofs.SpellsOne.{one_front, one_token, blank_no_token, slash_no_token}
 
 -- A blank, forwards and backwards.
@@ -62,7 +62,7 @@ token_lexes at text tokens (blank b {rest = left} k l) one size h built no_slash
     no_blank (x ∷ bytes) e s = let same : b ≡ x = cc in blank_no_token x bytes one (rw same at k) h.built s
 token_lexes at text tokens (comment inside c l) one size h built no_slash = absurd (clash refl no_slash.0)
 token_lexes at text tokens (token bytes other {rest = rest} {tokens = more} s longest o l) one size h built no_slash =
-    let same : bytes ≡ h.bytes = one_front h.bytes h.rest bytes rest one other (sym h.whole) h.spells h.longest s longest in
+    let same : bytes ≡ h.bytes = one_front h.bytes h.rest bytes rest (sym h.whole) (built_form exit_alone h.bytes one h.built h.spells) h.longest (built_form exit_alone bytes other built.0 s) longest in
     let is : other ≡ one = one_token bytes one other h.built (rw same h.spells) built.0 s in
     let size_is : length bytes ≡ size = ap length same ∙ sym h.size_is in
     record {

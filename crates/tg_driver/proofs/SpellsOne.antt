@@ -6,9 +6,10 @@ use Rattle.tg_syntax.specs.declared.tokens.Token.{Token}
 use Rattle.tg_syntax.specs.declared.tokens.Token.TheVariants as token
 use Rattle.tg_syntax.specs.declared.tokens.Sign.{Sign}
 use Rattle.tg_syntax.specs.declared.tokens.Sign.TheVariants.{LeftParen, RightParen, Plus, Minus, Times}
-use Rattle.tg_syntax.specs.Spellings.{Spells, sign_text, is_letter, is_digit, is_blank, number_of}
+use Rattle.tg_syntax.specs.Spellings.{Spells, sign_text, is_letter, is_digit, is_blank, number_of, HasTokenForm}
 use Rattle.tg_syntax.specs.Lexing.{IsLongest}
 use Rattle.tg_driver.specs.Fronts.{exit_alone, IsBuiltSign, IsBuiltToken}
+use Rattle.tg_driver.proofs.Ints.{GoesOn, two_fronts}
 use Rattle.tg_driver.proofs.FirstBytes.{clash, is_mark, begins, spells_first, name_is}
 
 -- what bytes spell
@@ -36,35 +37,20 @@ spelled_is bytes (token.Word w) h k = absurd h
 spelled_is bytes (token.Text t) h k = absurd h
 spelled_is bytes token.End h k = absurd k
 
--- two fronts of one list: one of them goes on
-record GoesOn (short long rest after : List ℕ) : Type 0 where
-  more : List ℕ
-  long_is : long ≡ short ++ more
-  rest_is : rest ≡ more ++ after
-
-two_fronts : (a b c d : List ℕ) → a ++ b ≡ c ++ d → GoesOn a c b d ⊎ GoesOn c a d b
-two_fronts [] b c d e = inl (record { more = c; long_is = refl; rest_is = e })
-two_fronts (x ∷ a) b [] d e = inr (record { more = x ∷ a; long_is = refl; rest_is = sym e })
-two_fronts (x ∷ a) b (y ∷ c) d e = longer (two_fronts a b c d cc)
-  where
-    longer : GoesOn a c b d ⊎ GoesOn c a d b → GoesOn (x ∷ a) (y ∷ c) b d ⊎ GoesOn (y ∷ c) (x ∷ a) d b
-    longer (inl h) = inl (record { more = h.more; long_is = let f = h.long_is in cc; rest_is = h.rest_is })
-    longer (inr h) = inr (record { more = h.more; long_is = let f = h.long_is in cc; rest_is = h.rest_is })
-
--- the longer one isn't a token, if the shorter one is the longest that is
-no_more : (a c b d : List ℕ) (one : Token) → IsLongest exit_alone a b → Spells exit_alone c one → GoesOn a c b d → c ≡ a
-no_more a c b d one l s h = by_more h.more h.long_is h.rest_is
+-- the longer one hasn't the form of a token, if the shorter one is the longest that has
+no_more : (a c b d : List ℕ) → IsLongest a b → HasTokenForm c → GoesOn a c b d → c ≡ a
+no_more a c b d l s h = by_more h.more h.long_is h.rest_is
   where
     by_more : (more : List ℕ) → c ≡ a ++ more → b ≡ more ++ d → c ≡ a
     by_more [] e f = e ∙ append-nil a
-    by_more (x ∷ more) e f = absurd (l (x ∷ more) d one f (λ n. cc) (rw e at s))
+    by_more (x ∷ more) e f = absurd (l (x ∷ more) d f (λ n. cc) (rw e at s))
 
-pub one_front : (a b c d : List ℕ) (one other : Token) → a ++ b ≡ c ++ d → Spells exit_alone a one → IsLongest exit_alone a b → Spells exit_alone c other → IsLongest exit_alone c d → c ≡ a
-one_front a b c d one other e s l s' l' = by (two_fronts a b c d e)
+pub one_front : (a b c d : List ℕ) → a ++ b ≡ c ++ d → HasTokenForm a → IsLongest a b → HasTokenForm c → IsLongest c d → c ≡ a
+one_front a b c d e s l s' l' = by (two_fronts a b c d e)
   where
     by : GoesOn a c b d ⊎ GoesOn c a d b → c ≡ a
-    by (inl h) = no_more a c b d other l s' h
-    by (inr h) = sym (no_more c a d b one l' s h)
+    by (inl h) = no_more a c b d l s' h
+    by (inr h) = sym (no_more c a d b l' s h)
 
 pub one_token : (bytes : List ℕ) (one other : Token) → IsBuiltToken one → Spells exit_alone bytes one → IsBuiltToken other → Spells exit_alone bytes other → other ≡ one
 one_token bytes one other h k h' k' = sym (spelled_is bytes other h' k') ∙ spelled_is bytes one h k

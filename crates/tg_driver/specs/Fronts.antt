@@ -5,7 +5,7 @@ use Rattle.tg_syntax.specs.declared.tokens.Token.TheVariants as token
 use Rattle.tg_syntax.specs.declared.tokens.Spanned.{Spanned}
 use Rattle.tg_syntax.specs.declared.tokens.Sign.{Sign}
 use Rattle.tg_syntax.specs.declared.tokens.Sign.TheVariants.{LeftParen, RightParen, Plus, Minus, Times}
-use Rattle.tg_syntax.specs.Spellings.{Spells, sign_text, is_blank, is_digit, AllAre, number_of}
+use Rattle.tg_syntax.specs.Spellings.{Spells, sign_text, is_blank, is_digit, is_name_byte, AllAre, number_of}
 use Rattle.tg_syntax.specs.Lexing.{IsLongest, Lexes}
 use Rattle.tg_driver.specs.declared.scanning.Front.{Front}
 use Rattle.tg_driver.specs.declared.scanning.Front.TheVariants.{Blank, One, Other}
@@ -39,7 +39,7 @@ abbrev pub IsSign : ℕ → Option Sign → Type 0
 IsSign b (Some s) = IsBuiltSign s × (sign_text s ≡ b ∷ [])
 IsSign b None = (s : Sign) → IsBuiltSign s → sign_text s ≡ b ∷ [] → ⊥
 
--- The text's longest front of digits that stand for an int: the int, and how many bytes it has.
+-- The text's front of digits, as long as possible, stands for an int: the int, and how many bytes it has.
 pub record IsInt (text : List ℕ) (value size : ℕ) : Type 0 where
   pub bytes : List ℕ
   pub rest : List ℕ
@@ -48,7 +48,17 @@ pub record IsInt (text : List ℕ) (value size : ℕ) : Type 0 where
   pub digits : AllAre is_digit bytes
   pub value_is : value ≡ number_of bytes
   pub fits : value ≤ 2147483647
-  pub longest : (b : ℕ) (after : List ℕ) → rest ≡ b ∷ after → IsTrue (is_digit b) → 2147483647 < 10 * value + (b - 48)
+  pub longest : (b : ℕ) (after : List ℕ) → rest ≡ b ∷ after → IsTrue (is_digit b) → ⊥
+
+abbrev pub FoundInt : List ℕ → Option (ℕ × ℕ) → Type 0
+FoundInt text (Some (value, size)) = IsInt text value size
+FoundInt text None = (value size : ℕ) → IsInt text value size → ⊥
+
+-- the text begins with `exit`, and no byte of a name follows
+pub record NamesExit (text : List ℕ) : Type 0 where
+  pub rest : List ℕ
+  pub whole : text ≡ codes "exit" ++ rest
+  pub ends : (b : ℕ) (after : List ℕ) → rest ≡ b ∷ after → IsTrue (is_name_byte b) → ⊥
 
 -- the text's longest front that is a token is this one, of so many bytes
 pub record IsToken (text : List ℕ) (one : Token) (size : ℕ) : Type 0 where
@@ -57,7 +67,7 @@ pub record IsToken (text : List ℕ) (one : Token) (size : ℕ) : Type 0 where
   pub whole : text ≡ bytes ++ rest
   pub size_is : size ≡ length bytes
   pub spells : Spells exit_alone bytes one
-  pub longest : IsLongest exit_alone bytes rest
+  pub longest : IsLongest bytes rest
   pub built : IsBuiltToken one
 
 abbrev pub BeginsBlank : List ℕ → Type 0

@@ -1,6 +1,6 @@
-ghost use Rattle.std.specs.Prelude.{◌≡◌, ◌≤◌, length, IfOk, Err};
-ghost use Rattle.tg_syntax.specs.Spellings.{is_blank as blank, is_digit as digit};
-ghost use Rattle.tg_driver.specs.Fronts.{IsSign, IsInt, IsFront, AreTokens, HasNoTokens};
+ghost use Rattle.std.specs.Prelude.{◌≡◌, ◌≤◌, ◌↔◌, length, IfOk, IsTrue, Err};
+ghost use Rattle.tg_syntax.specs.Spellings.{is_blank as blank, is_digit as digit, is_name_byte as name_byte};
+ghost use Rattle.tg_driver.specs.Fronts.{IsSign, FoundInt, NamesExit, IsFront, AreTokens, HasNoTokens};
 ghost use Rattle.tg_driver.specs.declared.built.NotBuilt.TheVariants.{Form};
 
 use crate::built::NotBuilt;
@@ -34,6 +34,13 @@ fn is_digit(byte: u8) -> bool
     b'0' <= byte && byte <= b'9'
 }
 
+fn is_name_byte(byte: u8) -> bool
+    ensures { result ≡ name_byte byte }
+{
+    let is_letter = b'A' <= byte && byte <= b'Z' || b'a' <= byte && byte <= b'z';
+    is_letter || is_digit(byte) || byte == b'_'
+}
+
 fn sign(byte: u8) -> Option<Sign>
     ensures { IsSign byte result }
 {
@@ -47,22 +54,35 @@ fn sign(byte: u8) -> Option<Sign>
     }
 }
 
-/// The longest front of digits that stand for an int: the int, and the number of its bytes.
-fn int(text: &[u8]) -> (u32, usize)
-    ensures { IsInt text.now result.0 result.1 }
+/// The int that the longest front of digits stands for, and the number of its bytes.
+fn int(text: &[u8]) -> Option<(u32, usize)>
+    ensures { FoundInt text.now result }
 {
     let mut value: u32 = 0;
     for (size, byte) in text.iter().enumerate() {
         if !is_digit(*byte) {
-            return (value, size);
+            return Some((value, size));
         }
         let more = 10 * value as u64 + (*byte - b'0') as u64;
         if more > GREATEST {
-            return (value, size);
+            return None;
         }
         value = more as u32;
     }
-    (value, text.len())
+    Some((value, text.len()))
+}
+
+/// A text begins with the name `exit`.
+fn names_exit(text: &[u8]) -> bool
+    ensures { IsTrue result ↔ NamesExit text.now }
+{
+    if !text.starts_with(b"exit") {
+        return false;
+    }
+    match text.get(4) {
+        Some(byte) => !is_name_byte(*byte),
+        None => true,
+    }
 }
 
 /// What a text begins with, where `exit` is its only name.
@@ -76,13 +96,15 @@ fn look(text: &[u8]) -> Front
         return Front::Blank;
     }
     if is_digit(*byte) {
-        let (value, size) = int(text);
-        return Front::One(Token::Int(value), size);
+        return match int(text) {
+            Some((value, size)) => Front::One(Token::Int(value), size),
+            None => Front::Other,
+        };
     }
     if let Some(sign) = sign(*byte) {
         return Front::One(Token::Sign(sign), 1);
     }
-    if text.starts_with(b"exit") {
+    if names_exit(text) {
         return Front::One(Token::Ident(Name(0)), 4);
     }
     Front::Other
