@@ -9,3 +9,4 @@ pub mod FirstBytes
 pub mod FrontLemmas
 pub mod SpellsOne
 pub mod Scans
+pub mod StackPrograms

@@ -2,3 +2,4 @@ pub mod BuiltForm
 pub mod Values
 pub mod StackCode
 pub mod Fronts
+pub mod Finishing
