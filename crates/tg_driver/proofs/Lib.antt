@@ -10,3 +10,5 @@ pub mod FrontLemmas
 pub mod SpellsOne
 pub mod Scans
 pub mod StackPrograms
+pub mod SilentRuns
+pub mod OnlyLemmas

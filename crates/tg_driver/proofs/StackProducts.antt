@@ -7,6 +7,7 @@ use Rattle.std.specs.Int.Bits.{xor_assoc, xor_self, xor_zero_l, xor_zero_r}
 use Rattle.tg_base.specs.declared.ends.RunEnd.TheVariants.{Overflow}
 use Rattle.tg_base.specs.State.{State, register, go, word_at}
 use Rattle.tg_base.specs.Words.{exact_sum, exact_product, product_high, product_low, shift_signed, shift_left, flag}
+use Rattle.tg_base.proofs.ProductLaws.{product_of}
 use Rattle.tg_base.specs.Services.{Step, Goes, Ends}
 use Rattle.tg_isa.specs.declared.mips.Mips.{Mips}
 use Rattle.tg_isa.specs.declared.mips.Mips.TheVariants.{Sll, Sra, Syscall, Mfhi, Mflo, Mult, Add, Sub, Xor, Sltu, Addiu, Ori, Lui, Lw, Sw}
@@ -110,11 +111,6 @@ out_of_range low high ne =
     let other : bit_xor (shift_signed low 31) high ≢ 0 = λ e. ne (sym (xor_zero (shift_signed low 31) high e)) in
     raised (bit_xor (shift_signed low 31) high) (omega (arith, other))
 
--- what an exact product is, by its words
-pub record IsExactBySign : Type 0 where
-  pub in_range : (x y : ℕ) → x < 2 ^ 32 → y < 2 ^ 32 → product_high x y ≡ shift_signed (product_low x y) 31 → exact_product x y ≡ Some (product_low x y)
-  pub out_of_range : (x y : ℕ) → x < 2 ^ 32 → y < 2 ^ 32 → product_high x y ≢ shift_signed (product_low x y) 31 → exact_product x y ≡ None
-
 comes_of : (words : List ℕ) (size k : ℕ) (values : List ℕ) (n : ℕ) (s : State) (o o' : Option ℕ) → o ≡ o' → Comes words size k values n s o → Comes words size k values n s o'
 comes_of words size k values n s o o' e c = let P : Option ℕ → Type 0 = λ p. Comes words size k values n s p in subst P e c
 
@@ -136,19 +132,19 @@ traps words size k depth values m n s t within path at none has =
     let e = step_of words size k depth values t (Add 10 10 10) at has (lit< tt, lit< tt, lit< tt) in
     record { steps = m; last = t; within = within; path = path; ends = e ∙ ap (put_exact _ 10) none }
 
-settled : (words : List ℕ) (size k : ℕ) (values : List ℕ) (s t : State) (x y : ℕ) → IsExactBySign → x < 2 ^ 32 → y < 2 ^ 32 → Path 7 s t → At words size (k + 7) (length values + 1) values t → register t 8 ≡ product_low x y → register t 10 ≡ trap_word (product_high x y) (product_low x y) → Has words (k + 7) (Add 10 10 10 ∷ result_code) → 4 * (length values + 1) ≤ size → (product_high x y ≡ shift_signed (product_low x y) 31) ⊎ (product_high x y ≢ shift_signed (product_low x y) 31) → Comes words size (k + 9) values 9 s (exact_product x y)
-settled words size k values s t x y law small small' path at low_is trap_is has room (inl e) =
+settled : (words : List ℕ) (size k : ℕ) (values : List ℕ) (s t : State) (x y : ℕ) → x < 2 ^ 32 → y < 2 ^ 32 → Path 7 s t → At words size (k + 7) (length values + 1) values t → register t 8 ≡ product_low x y → register t 10 ≡ trap_word (product_high x y) (product_low x y) → Has words (k + 7) (Add 10 10 10 ∷ result_code) → 4 * (length values + 1) ≤ size → (product_high x y ≡ shift_signed (product_low x y) 31) ⊎ (product_high x y ≢ shift_signed (product_low x y) 31) → Comes words size (k + 9) values 9 s (exact_product x y)
+settled words size k values s t x y small small' path at low_is trap_is has room (inl e) =
     let zero = ap (λ w. exact_sum w w) trap_is ∙ in_range (product_low x y) (product_high x y) e in
     let done = keeps words size (k + 7) values 7 s t (product_low x y) path at low_is zero has room in
-    comes_of words size (k + 9) values 9 s (Some (product_low x y)) (exact_product x y) (sym (law.in_range x y small small' e))
+    comes_of words size (k + 9) values 9 s (Some (product_low x y)) (exact_product x y) (sym ((product_of x y small small').exact e))
     (comes_as words size (k + 7 + 2) (k + 9) values 9 s (Some (product_low x y)) (omega arith) done)
-settled words size k values s t x y law small small' path at low_is trap_is has room (inr ne) =
+settled words size k values s t x y small small' path at low_is trap_is has room (inr ne) =
     let none = ap (λ w. exact_sum w w) trap_is ∙ out_of_range (product_low x y) (product_high x y) ne in
-    comes_of words size (k + 9) values 9 s None (exact_product x y) (sym (law.out_of_range x y small small' ne))
+    comes_of words size (k + 9) values 9 s None (exact_product x y) (sym ((product_of x y small small').inexact ne))
     (traps words size (k + 7) (length values + 1) values 7 9 s t (lit< tt) path at none has.0)
 
-pub multiplies_operands : (words : List ℕ) (size k : ℕ) (values : List ℕ) (s : State) (x y : ℕ) → IsExactBySign → x < 2 ^ 32 → y < 2 ^ 32 → At words size k (length values + 1) values s → register s 8 ≡ x → register s 9 ≡ y → Has words k (operator_code Times ++ result_code) → 4 * (length values + 1) ≤ size → Comes words size (k + 9) values 9 s (exact_product x y)
-multiplies_operands words size k values s x y law small small' at left right has room =
+pub multiplies_operands : (words : List ℕ) (size k : ℕ) (values : List ℕ) (s : State) (x y : ℕ) → x < 2 ^ 32 → y < 2 ^ 32 → At words size k (length values + 1) values s → register s 8 ≡ x → register s 9 ≡ y → Has words k (operator_code Times ++ result_code) → 4 * (length values + 1) ≤ size → Comes words size (k + 9) values 9 s (exact_product x y)
+multiplies_operands words size k values s x y small small' at left right has room =
     let depth = length values + 1 in
     let p = product words size k depth values s x y at left right (has.0, (has.1.0, (has.1.1.0, tt))) in
     let rest = has.1.1.1 in
@@ -157,4 +153,4 @@ multiplies_operands words size k values s x y law small small' at left right has
     let two : Has words (k + 7) (Add 10 10 10 ∷ result_code) = has_as words (k + 1 + 1 + 1 + 1 + 1 + 1 + 1) (k + 7) (Add 10 10 10 ∷ result_code) (omega arith) rest.1.1.1.1 in
     let t = trap words size (k + 3) depth values p.after (product_low x y) (product_high x y) p.at p.low_is p.high_is four in
     let there = at_as words size (k + 3 + 4) (k + 7) depth depth values values t.after (omega arith) refl refl t.at in
-    settled words size k values s t.after x y law small small' (path_then 3 4 s p.after t.after p.path t.path) there t.low_is t.trap_is two room (cases_eq (product_high x y) (shift_signed (product_low x y) 31))
+    settled words size k values s t.after x y small small' (path_then 3 4 s p.after t.after p.path t.path) there t.low_is t.trap_is two room (cases_eq (product_high x y) (shift_signed (product_low x y) 31))

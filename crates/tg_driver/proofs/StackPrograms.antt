@@ -1,6 +1,7 @@
 -- The program of an argument of `exit`, from the start of the machine to its end.
-use Rattle.std.proofs.Common.{subst, ◌≡◌, ◌≢◌, ◌<◌, ◌≤◌, ◌+◌, ◌-◌, ◌*◌, ◌^◌, ℕ, zero, suc, List, [], ◌∷◌, ◌++◌, length, replicate, arith, refl, ap, ◌∙◌, sym, Option, Some, None, lit<, lit≤, length-append, append_assoc, length-replicate, length-map, map, slice_index}
+use Rattle.std.proofs.Common.{subst, ◌≡◌, ◌≢◌, ◌<◌, ◌≤◌, ◌+◌, ◌-◌, ◌*◌, ◌^◌, ℕ, zero, suc, List, [], ◌∷◌, ◌++◌, length, replicate, arith, refl, ap, ◌∙◌, sym, Option, Some, None, lit<, lit≤, length-append, append_assoc, map, slice_index}
 use Rattle.std.proofs.lemmas.Grind.{common_steps}
+use Rattle.std.proofs.lemmas.List.{length-replicate, length-map}
 use Rattle.tg_base.specs.declared.ends.RunEnd.{RunEnd}
 use Rattle.tg_base.specs.declared.ends.RunEnd.TheVariants.{Exit, Overflow}
 use Rattle.tg_base.specs.State.{State, register, go, code_base, start, word_at}
@@ -19,7 +20,6 @@ use Rattle.tg_driver.specs.Finishing.{end_of_value}
 use Rattle.tg_driver.specs.StackCode.{value_code, exit_code, program_code, words_of}
 use Rattle.tg_driver.proofs.StackSteps.{Stands, Has, has_as, has_first, has_second, At, at_as, Path, here, onward, path_then, step_of, Sets, sets, loads, Puts, Overflows, Comes}
 use Rattle.tg_driver.proofs.StackMacros.{no_29, other_than}
-use Rattle.tg_driver.proofs.StackProducts.{IsExactBySign}
 use Rattle.tg_driver.proofs.StackValues.{comes_value}
 
 -- From a state the machine goes on for fewer steps than so many, without a service, and then ends.
@@ -93,12 +93,12 @@ finishes_value words size n s None c has room = let within = c.within in
     record { steps = c.steps; last = c.last; within = omega (arith, within); path = c.path; ends = c.ends }
 
 -- The program ends with the value of the argument, or by overflow where that does.
-pub program_finishes : (e : Exp) (heap stack : ℕ) → HasBuiltForm e → IsExactBySign → length (words_of (program_code e)) ≤ 66060288 → stack ≤ 268435456 → 4 * (nodes e + 1) ≤ stack → Finishes (length (program_code e)) (start (words_of (program_code e)) [] code_base heap stack) (end_of_value (value e))
-program_finishes e heap stack h law fits small room =
+pub program_finishes : (e : Exp) (heap stack : ℕ) → HasBuiltForm e → length (words_of (program_code e)) ≤ 66060288 → stack ≤ 268435456 → 4 * (nodes e + 1) ≤ stack → Finishes (length (program_code e)) (start (words_of (program_code e)) [] code_base heap stack) (end_of_value (value e))
+program_finishes e heap stack h fits small room =
     let words = words_of (program_code e) in
     let s = start words [] code_base heap stack in
     let has = has_after [] (program_code e) in
     let n = length (value_code e) in
-    let c = comes_value e h law words stack 0 [] s (starts words heap stack fits small) (has_first words 0 (value_code e) exit_code has) (omega arith) in
+    let c = comes_value e h words stack 0 [] s (starts words heap stack fits small) (has_first words 0 (value_code e) exit_code has) (omega arith) in
     let f = finishes_value words stack n s (value e) c (has_second words 0 (value_code e) exit_code has) (omega arith) in
     finishes_after 0 (n + 3) (length (program_code e)) s s (end_of_value (value e)) (here s) f (omega (arith, length-append (value_code e) exit_code))

@@ -15,7 +15,7 @@ use Rattle.tg_driver.specs.Values.{value, applied}
 use Rattle.tg_driver.specs.StackCode.{value_code, operator_code, operands_code, result_code}
 use Rattle.tg_driver.proofs.StackSteps.{Has, has_as, has_first, has_second, At, at_as, Path, Puts, Overflows, Comes, comes_after}
 use Rattle.tg_driver.proofs.StackMacros.{comes_as, pushes_int, negates, operands, Operands, adds, subtracts}
-use Rattle.tg_driver.proofs.StackProducts.{IsExactBySign, multiplies_operands}
+use Rattle.tg_driver.proofs.StackProducts.{multiplies_operands}
 
 below_if : (b : Bool) (v : ℕ) → (b ≡ true → v < 2 ^ 32) → IfSome (if b then Some v else None) (λ v. v < 2 ^ 32)
 below_if true v h = h refl
@@ -50,11 +50,11 @@ value_below (Seq _ (exp a no_exps)) h = value_below a h
 value_below _ h = tt
 
 -- the operator's code, for operands in $t0 and $t1
-operates : (o : Op) (words : List ℕ) (size k : ℕ) (values : List ℕ) (s : State) (x y : ℕ) → IsExactBySign → IsArithmetic o → x < 2 ^ 32 → y < 2 ^ 32 → At words size k (length values + 1) values s → register s 8 ≡ x → register s 9 ≡ y → Has words k (operator_code o ++ result_code) → 4 * (length values + 1) ≤ size → Comes words size (k + length (operator_code o ++ result_code)) values (length (operator_code o ++ result_code)) s (applied o x y)
-operates op.Plus words size k values s x y law form small small' at left right has room = adds words size k values s x y at left right has room
-operates op.Minus words size k values s x y law form small small' at left right has room = subtracts words size k values s x y at left right has room
-operates op.Times words size k values s x y law form small small' at left right has room = multiplies_operands words size k values s x y law small small' at left right has room
-operates _ words size k values s x y law form small small' at left right has room = absurd form
+operates : (o : Op) (words : List ℕ) (size k : ℕ) (values : List ℕ) (s : State) (x y : ℕ) → IsArithmetic o → x < 2 ^ 32 → y < 2 ^ 32 → At words size k (length values + 1) values s → register s 8 ≡ x → register s 9 ≡ y → Has words k (operator_code o ++ result_code) → 4 * (length values + 1) ≤ size → Comes words size (k + length (operator_code o ++ result_code)) values (length (operator_code o ++ result_code)) s (applied o x y)
+operates op.Plus words size k values s x y form small small' at left right has room = adds words size k values s x y at left right has room
+operates op.Minus words size k values s x y form small small' at left right has room = subtracts words size k values s x y at left right has room
+operates op.Times words size k values s x y form small small' at left right has room = multiplies_operands words size k values s x y small small' at left right has room
+operates _ words size k values s x y form small small' at left right has room = absurd form
 
 overflows_within : (m n : ℕ) (s : State) → m ≤ n → Overflows m s → Overflows n s
 overflows_within m n s le c = let within = c.within in
@@ -72,26 +72,26 @@ negates_after words size k values n s (Some x) c has room =
 negates_after words size k values n s None c has room = overflows_within n (n + 3) s (omega arith) c
 
 -- an operator, after the code of both operands
-operates_after : (o : Op) (words : List ℕ) (size k : ℕ) (values : List ℕ) (n : ℕ) (s : State) (x : ℕ) (b : Option ℕ) → IsExactBySign → IsArithmetic o → x < 2 ^ 32 → IfSome b (λ y. y < 2 ^ 32) → Comes words size (k + n) (x ∷ values) n s b → Has words (k + n) (operands_code ++ (operator_code o ++ result_code)) → 4 * (length values + 2) ≤ size → Comes words size (k + (n + (3 + length (operator_code o ++ result_code)))) values (n + (3 + length (operator_code o ++ result_code))) s (option_and_then (λ y. applied o x y) b)
-operates_after o words size k values n s x (Some y) law form small small' c has room =
+operates_after : (o : Op) (words : List ℕ) (size k : ℕ) (values : List ℕ) (n : ℕ) (s : State) (x : ℕ) (b : Option ℕ) → IsArithmetic o → x < 2 ^ 32 → IfSome b (λ y. y < 2 ^ 32) → Comes words size (k + n) (x ∷ values) n s b → Has words (k + n) (operands_code ++ (operator_code o ++ result_code)) → 4 * (length values + 2) ≤ size → Comes words size (k + (n + (3 + length (operator_code o ++ result_code)))) values (n + (3 + length (operator_code o ++ result_code))) s (option_and_then (λ y. applied o x y) b)
+operates_after o words size k values n s x (Some y) form small small' c has room =
     let at = at_as words size (k + n) (k + n) (length (x ∷ values) + 1) (length values + 2) (y ∷ x ∷ values) (y ∷ x ∷ values) c.after refl (omega arith) refl c.at in
     let p = operands words size (k + n) values c.after x y at (has_first words (k + n) operands_code (operator_code o ++ result_code) has) room in
     let rest = has_second words (k + n) operands_code (operator_code o ++ result_code) has in
-    let q = operates o words size (k + n + 3) values p.after x y law form small small' p.at p.left p.right rest (omega arith) in
+    let q = operates o words size (k + n + 3) values p.after x y form small small' p.at p.left p.right rest (omega arith) in
     let m = length (operator_code o ++ result_code) in
     let r = comes_after words size (k + n + 3 + m) values 3 m c.after p.after (applied o x y) p.path q in
     comes_by words size (k + n + 3 + m) (k + (n + (3 + m))) values (n + (3 + m)) (n + (3 + m)) s (applied o x y) (omega arith) refl
     (comes_after words size (k + n + 3 + m) values n (3 + m) s c.after (applied o x y) c.path r)
-operates_after o words size k values n s x None law form small small' c has room = overflows_within n _ s (omega arith) c
+operates_after o words size k values n s x None form small small' c has room = overflows_within n _ s (omega arith) c
 
 -- the second operand and the operator, after the code of the first operand
-seconds : (o : Op) (words : List ℕ) (size k : ℕ) (values : List ℕ) (n m : ℕ) (s : State) (a b : Option ℕ) → IsExactBySign → IsArithmetic o → IfSome a (λ x. x < 2 ^ 32) → IfSome b (λ y. y < 2 ^ 32) → Comes words size (k + n) values n s a → ((x : ℕ) (t : State) → At words size (k + n) (length values + 1) (x ∷ values) t → Comes words size (k + n + m) (x ∷ values) m t b) → Has words (k + n + m) (operands_code ++ (operator_code o ++ result_code)) → 4 * (length values + 2) ≤ size → Comes words size (k + (n + (m + (3 + length (operator_code o ++ result_code))))) values (n + (m + (3 + length (operator_code o ++ result_code)))) s (option_and_then (λ x. option_and_then (λ y. applied o x y) b) a)
-seconds o words size k values n m s (Some x) b law form small small' c second has room =
+seconds : (o : Op) (words : List ℕ) (size k : ℕ) (values : List ℕ) (n m : ℕ) (s : State) (a b : Option ℕ) → IsArithmetic o → IfSome a (λ x. x < 2 ^ 32) → IfSome b (λ y. y < 2 ^ 32) → Comes words size (k + n) values n s a → ((x : ℕ) (t : State) → At words size (k + n) (length values + 1) (x ∷ values) t → Comes words size (k + n + m) (x ∷ values) m t b) → Has words (k + n + m) (operands_code ++ (operator_code o ++ result_code)) → 4 * (length values + 2) ≤ size → Comes words size (k + (n + (m + (3 + length (operator_code o ++ result_code))))) values (n + (m + (3 + length (operator_code o ++ result_code)))) s (option_and_then (λ x. option_and_then (λ y. applied o x y) b) a)
+seconds o words size k values n m s (Some x) b form small small' c second has room =
     let l = 3 + length (operator_code o ++ result_code) in
-    let q = operates_after o words size (k + n) values m c.after x b law form small small' (second x c.after c.at) has room in
+    let q = operates_after o words size (k + n) values m c.after x b form small small' (second x c.after c.at) has room in
     comes_by words size (k + n + (m + l)) (k + (n + (m + l))) values (n + (m + l)) (n + (m + l)) s (option_and_then (λ y. applied o x y) b) (omega arith) refl
     (comes_after words size (k + n + (m + l)) values n (m + l) s c.after (option_and_then (λ y. applied o x y) b) c.path q)
-seconds o words size k values n m s None b law form small small' c second has room = overflows_within n _ s (omega arith) c
+seconds o words size k values n m s None b form small small' c second has room = overflows_within n _ s (omega arith) c
 
 -- every tree of the built form has a node
 pub nodes_positive : (e : Exp) → HasBuiltForm e → 0 < nodes e
@@ -102,17 +102,17 @@ nodes_positive (Seq _ (exp a no_exps)) h = omega arith
 nodes_positive _ h = absurd h
 
 -- The code of an expression, from any place and with any values on the stack, puts its value on top or overflows.
-pub comes_value : (e : Exp) → HasBuiltForm e → IsExactBySign → (words : List ℕ) (size k : ℕ) (values : List ℕ) (s : State) → At words size k (length values) values s → Has words k (value_code e) → 4 * (length values + nodes e) ≤ size → Comes words size (k + length (value_code e)) values (length (value_code e)) s (value e)
-comes_value (Int _ n) h law words size k values s at has room = pushes_int words size k values s n at has (omega (arith, h)) room
-comes_value (Neg p a) h law words size k values s at has room =
+pub comes_value : (e : Exp) → HasBuiltForm e → (words : List ℕ) (size k : ℕ) (values : List ℕ) (s : State) → At words size k (length values) values s → Has words k (value_code e) → 4 * (length values + nodes e) ≤ size → Comes words size (k + length (value_code e)) values (length (value_code e)) s (value e)
+comes_value (Int _ n) h words size k values s at has room = pushes_int words size k values s n at has (omega (arith, h)) room
+comes_value (Neg p a) h words size k values s at has room =
     let n = length (value_code a) in
     let tail = Lw 8 0 29 ∷ Sub 8 0 8 ∷ result_code in
-    let c = comes_value a h law words size k values s at (has_first words k (value_code a) tail has) (omega arith) in
+    let c = comes_value a h words size k values s at (has_first words k (value_code a) tail has) (omega arith) in
     let e = length-append (value_code a) tail in
     let some = nodes_positive a h in
     comes_by words size (k + (n + 3)) (k + length (value_code a ++ tail)) values (n + 3) (length (value_code a ++ tail)) s (value (Neg p a)) (omega (arith, e)) (omega (arith, e))
     (negates_after words size k values n s (value a) c (has_second words k (value_code a) tail has) (omega (arith, some)))
-comes_value (Binary p o j a b) h law words size k values s at has room =
+comes_value (Binary p o j a b) h words size k values s at has room =
     let n = length (value_code a) in
     let m = length (value_code b) in
     let last = operator_code o ++ result_code in
@@ -124,11 +124,11 @@ comes_value (Binary p o j a b) h law words size k values s at has room =
     let has_b = has_second words k (value_code a) after_a has in
     let some_a = nodes_positive a h.1 in
     let some_b = nodes_positive b h.2 in
-    let c = comes_value a h.1 law words size k values s at (has_first words k (value_code a) after_a has) (omega arith) in
+    let c = comes_value a h.1 words size k values s at (has_first words k (value_code a) after_a has) (omega arith) in
     let second = λ (x : ℕ) (t : State) (at' : At words size (k + n) (length values + 1) (x ∷ values) t).
-        comes_value b h.2 law words size (k + n) (x ∷ values) t (at_as words size (k + n) (k + n) (length values + 1) (length (x ∷ values)) (x ∷ values) (x ∷ values) t refl (omega arith) refl at') (has_first words (k + n) (value_code b) after_b has_b) (omega (arith, some_a)) in
+        comes_value b h.2 words size (k + n) (x ∷ values) t (at_as words size (k + n) (k + n) (length values + 1) (length (x ∷ values)) (x ∷ values) (x ∷ values) t refl (omega arith) refl at') (has_first words (k + n) (value_code b) after_b has_b) (omega (arith, some_a)) in
     let whole : n + (m + (3 + length last)) ≡ length (value_code a ++ after_a) = omega (arith, e, f, g) in
     comes_by words size (k + (n + (m + (3 + length last)))) (k + length (value_code a ++ after_a)) values (n + (m + (3 + length last))) (length (value_code a ++ after_a)) s (value (Binary p o j a b)) (ap (λ j. k + j) whole) whole
-    (seconds o words size k values n m s (value a) (value b) law h.0 (value_below a h.1) (value_below b h.2) c second (has_second words (k + n) (value_code b) after_b has_b) (omega (arith, some_a, some_b)))
-comes_value (Seq _ (exp a no_exps)) h law words size k values s at has room = comes_value a h law words size k values s at has (omega arith)
-comes_value _ h law words size k values s at has room = absurd h
+    (seconds o words size k values n m s (value a) (value b) h.0 (value_below a h.1) (value_below b h.2) c second (has_second words (k + n) (value_code b) after_b has_b) (omega (arith, some_a, some_b)))
+comes_value (Seq _ (exp a no_exps)) h words size k values s at has room = comes_value a h words size k values s at has (omega arith)
+comes_value _ h words size k values s at has room = absurd h

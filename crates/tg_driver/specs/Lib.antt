@@ -3,3 +3,4 @@ pub mod Values
 pub mod StackCode
 pub mod Fronts
 pub mod Finishing
+pub mod Images

@@ -27,10 +27,17 @@ operator_code op.Times =
     Mult 8 9 ∷ Mflo 8 ∷ Mfhi 9 ∷ Sra 10 8 31 ∷ Xor 10 10 9 ∷ Sltu 10 0 10 ∷ Sll 10 10 31 ∷ Add 10 10 10 ∷ []
 operator_code _ = []
 
+-- the code of an int and of unary minus
+abbrev pub int_code : ℕ → List Mips
+int_code n = Lui 8 (n / 65536) ∷ Ori 8 8 (n % 65536) ∷ push_code
+
+abbrev pub negation_code : List Mips
+negation_code = Lw 8 0 29 ∷ Sub 8 0 8 ∷ result_code
+
 -- the value of an expression goes onto the stack
 abbrev pub value_code : Exp → List Mips
-value_code (Int _ n) = Lui 8 (n / 65536) ∷ Ori 8 8 (n % 65536) ∷ push_code
-value_code (Neg _ a) = value_code a ++ (Lw 8 0 29 ∷ Sub 8 0 8 ∷ result_code)
+value_code (Int _ n) = int_code n
+value_code (Neg _ a) = value_code a ++ negation_code
 value_code (Binary _ o _ a b) = value_code a ++ (value_code b ++ (operands_code ++ (operator_code o ++ result_code)))
 value_code (Seq _ (exp a no_exps)) = value_code a
 value_code _ = []

@@ -4,5 +4,6 @@
 
 mod built;
 mod scanning;
+mod making;
 
 pub use built::NotBuilt;
