@@ -12,3 +12,5 @@ pub mod Scans
 pub mod StackPrograms
 pub mod SilentRuns
 pub mod OnlyLemmas
+pub mod ProgramRuns
+pub mod WordLemmas

@@ -79,3 +79,8 @@ HasBuiltForm (Neg _ a) = HasBuiltForm a
 HasBuiltForm (Binary _ o _ a b) = IsArithmetic o × HasBuiltForm a × HasBuiltForm b
 HasBuiltForm (Seq _ (exp a no_exps)) = HasBuiltForm a
 HasBuiltForm _ = ⊥
+
+-- a call with such an argument alone
+abbrev pub HasExitForm : Exp → Type 0
+HasExitForm (Call _ _ (exp e no_exps)) = HasBuiltForm e
+HasExitForm _ = ⊥

@@ -4,3 +4,6 @@ pub mod StackCode
 pub mod Fronts
 pub mod Finishing
 pub mod Images
+pub mod Defaults
+pub mod Statuses
+pub mod Causes

@@ -3,7 +3,7 @@ use tg_base::Memory;
 
 /// Why a text isn't taken.
 #[derive(Clone, Copy, Debug, PartialEq, Eq)]
-pub enum NotBuilt {
+pub(crate) enum NotBuilt {
     /// It isn't of the built form.
     Form,
     /// Want of memory.

@@ -2,8 +2,11 @@
 //! Promises every answer with its cause, and that the status of a run is that of the machine.
 #![tactic(auto)]
 
+mod answers;
 mod built;
 mod scanning;
 mod making;
+mod running;
+mod words;
 
-pub use built::NotBuilt;
+pub use answers::usage;
