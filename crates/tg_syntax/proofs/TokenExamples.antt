@@ -9,7 +9,8 @@ use Rattle.tg_syntax.specs.declared.tokens.Sign.TheVariants.{Comma, LeftParen, R
 use Rattle.tg_syntax.specs.declared.tokens.Token.TheVariants as token
 use Rattle.tg_syntax.specs.Spellings.{word_text, sign_text, is_digit, is_blank, IsDigits, HasTokenForm, IsQuoted, nothing, plain, Escape}
 use Rattle.tg_syntax.specs.Lexing.{Lexes, spanned, IsLongest, OpensComment}
-use Rattle.tg_syntax.specs.LexicalFaults.{HasLexicalFault, met, L1, L3, L5, L6, LeadsTo, here, illegal_byte, in_string, large_int, control_byte, end_in_escape, line_in_escape, IsBegun, Misfits}
+use Rattle.tg_syntax.specs.declared.faults.LexRule.TheVariants.{L1, L3, L5, L6}
+use Rattle.tg_syntax.specs.LexicalFaults.{HasLexicalFault, met, LeadsTo, here, illegal_byte, in_string, large_int, control_byte, end_in_escape, line_in_escape, IsBegun, Misfits}
 use Rattle.tg_syntax.proofs.Longest.{name_longest, digits_longest, mark_longest, form_of_mark, begins}
 
 -- no text that begins with another byte opens a comment

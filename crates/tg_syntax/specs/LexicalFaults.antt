@@ -1,11 +1,10 @@
 -- The first lexical fault of a text, met in reading from its front, and its place.
 use Rattle.std.specs.Prelude.{ℕ, ◌+◌, ◌≡◌, ◌≢◌, ◌<◌, ◌≤◌, List, [], ◌∷◌, ◌++◌, length, Bool, ◌||◌, ◌==◌, nat_le, not, IsTrue}
+use Rattle.tg_syntax.specs.declared.faults.LexRule.{LexRule}
+use Rattle.tg_syntax.specs.declared.faults.LexRule.TheVariants.{L1, L2, L3, L4, L5, L6, L7}
 use Rattle.tg_syntax.specs.declared.tokens.Token.{Token}
 use Rattle.tg_syntax.specs.Spellings.{Spells, HasTokenForm, IsQuoted, Escape, AllAre, IsDigits, number_of, is_blank, is_digit}
 use Rattle.tg_syntax.specs.Lexing.{OpensComment, Closes, IsLongest}
-
-pub data LexicalRule : Type 0 where
-  L1 L2 L3 L4 L5 L6 L7 : LexicalRule
 
 -- from a byte on, the text is tokens, blanks and comments up to another byte, where this rest of it begins
 pub data LeadsTo : ℕ → List ℕ → ℕ → List ℕ → Type 0 where
@@ -33,7 +32,7 @@ abbrev pub is_control : ℕ → Bool
 is_control b = nat_le b 31 || b == 127
 
 -- in a string, behind what was read of it, stands a fault; its place is that of the opening quote, or that where this stands
-pub data FaultInString (quote at : ℕ) : List ℕ → LexicalRule → ℕ → Type 0 where
+pub data FaultInString (quote at : ℕ) : List ℕ → LexRule → ℕ → Type 0 where
   end_in_string : FaultInString quote at [] L3 quote
   line_in_string : (rest : List ℕ) → FaultInString quote at (10 ∷ rest) L3 quote
   control_byte : (b : ℕ) (rest : List ℕ) → IsTrue (is_control b) → b ≢ 10 → FaultInString quote at (b ∷ rest) L6 at
@@ -42,13 +41,13 @@ pub data FaultInString (quote at : ℕ) : List ℕ → LexicalRule → ℕ → T
   bad_escape : (begun : List ℕ) (b : ℕ) (rest : List ℕ) → Misfits begun b → b ≢ 10 → FaultInString quote at (92 ∷ begun ++ b ∷ rest) L4 at
 
 -- at a byte, with which this text begins, no token, blank or comment can be read
-pub data FaultAt (at : ℕ) : List ℕ → LexicalRule → ℕ → Type 0 where
+pub data FaultAt (at : ℕ) : List ℕ → LexRule → ℕ → Type 0 where
   illegal_byte : (b : ℕ) (rest : List ℕ) → IsTrue (not (is_blank b)) → ((more : List ℕ) → HasTokenForm (b ∷ more) → ⊥) → FaultAt at (b ∷ rest) L1 at
   comment_not_closed : (behind : List ℕ) → ((inside rest : List ℕ) → behind ≡ inside ++ rest → Closes 1 inside → ⊥) → FaultAt at (47 ∷ 42 ∷ behind) L2 at
-  in_string : (quoted meant rest : List ℕ) {rule : LexicalRule} {place : ℕ} → IsQuoted quoted meant → FaultInString at (at + 1 + length quoted) rest rule place → FaultAt at (34 ∷ quoted ++ rest) rule place
+  in_string : (quoted meant rest : List ℕ) {rule : LexRule} {place : ℕ} → IsQuoted quoted meant → FaultInString at (at + 1 + length quoted) rest rule place → FaultAt at (34 ∷ quoted ++ rest) rule place
   large_int : (bytes rest : List ℕ) → IsDigits bytes → IsLongest bytes rest → 2147483647 < number_of bytes → FaultAt at (bytes ++ rest) L5 at
 
 -- the text's first fault; its length is tested first
-pub data HasLexicalFault : List ℕ → LexicalRule → ℕ → Type 0 where
+pub data HasLexicalFault : List ℕ → LexRule → ℕ → Type 0 where
   too_long : {text : List ℕ} → 262144 < length text → HasLexicalFault text L7 0
-  met : {text rest : List ℕ} {at : ℕ} {rule : LexicalRule} {place : ℕ} → length text ≤ 262144 → LeadsTo 0 text at rest → FaultAt at rest rule place → HasLexicalFault text rule place
+  met : {text rest : List ℕ} {at : ℕ} {rule : LexRule} {place : ℕ} → length text ≤ 262144 → LeadsTo 0 text at rest → FaultAt at rest rule place → HasLexicalFault text rule place

@@ -3,11 +3,13 @@
 //! speak stand in `specs/`.
 #![tactic(auto)]
 
+mod faults;
 mod making;
 mod measures;
 mod tokens;
 mod trees;
 
+pub use faults::LexRule;
 pub use making::{binary, call, call_of_one, int, negate, sequence, sequence_of_one};
 pub use measures::nodes;
 pub use tokens::{Ident, Sign, Spanned, Token, Word};
