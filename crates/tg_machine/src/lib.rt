@@ -11,6 +11,8 @@ mod services;
 mod stacks;
 mod status;
 mod steps;
+#[cfg(test)]
+mod tests;
 mod words;
 
 pub use loading::load;
