@@ -124,7 +124,8 @@ impl Core {
     /// Puts a word at an address.
     #[inline(always)]
     pub(crate) fn store_word(&mut self, address: u32, value: u32) -> Result<(), RunEnd>
-        ensures { IsDone (effects.stored (state.store_word self.old address value)) result self.new }
+        ensures { IsDone (effects.stored (state.store_word self.old address value))
+            result self.new }
     {
         if address % 4 != 0 {
             return Err(RunEnd::Unaligned(address));

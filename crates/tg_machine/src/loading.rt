@@ -12,7 +12,8 @@ use tg_isa::{Image, Mips, decode};
 
 /// A machine at the start of an image, with so many bytes of heap and of stack. It takes all memory of the run.
 ///
-/// Memory of the heap and of the stack is reserved and not written to, so their sizes cost no time.
+/// Memory of the heap and of the stack is reserved and not written to, so their sizes cost no time. `Memory` comes
+/// where any of it is wanting; a step or a run takes none.
 pub fn load(alloc: Global, image: &Image, heap: u32, stack: u32) -> Result<Machine, Memory>
     requires code { length image.now.code ≤ 66060288 }
     requires statics { length image.now.statics ≤ 16711680 }
@@ -37,7 +38,8 @@ fn core_of(alloc: Global, image: &Image, heap: u32, stack: u32) -> Result<Core, 
     requires heap { heap ≤ 268435456 }
     requires stack { stack ≤ 268435456 }
     requires whole_stack { stack % 4 ≡ 0 }
-    ensures { IfOk result (λ s. s ≡ start image.now.code image.now.statics image.now.entry heap stack) }
+    ensures { IfOk result
+        (λ s. s ≡ start image.now.code image.now.statics image.now.entry heap stack) }
 {
     let words = image.code.as_slice();
     let mut registers = [0; 32];

@@ -38,7 +38,8 @@ impl Machine {
     /// Makes one step, whose fetch counts. A machine that has ended answers its end again and does nothing.
     pub fn step<I: Source, O: Sink>(&mut self, input: &mut I, out: &mut O) -> Status
         ensures step { self.old.end ≡ None →
-            Ran I.left I.faults O.taken O.faults 1 self.old self.new input.old input.new out.old out.new (end_of result) }
+            Ran I.left I.faults O.taken O.faults 1 self.old self.new
+            input.old input.new out.old out.new (end_of result) }
         ensures again { IfSome self.old.end (λ e. (result ≡ Status.Ended e)
             × HasEnded self.old self.new input.old input.new out.old out.new) }
     {
@@ -49,7 +50,8 @@ impl Machine {
     pub fn run<I: Source, O: Sink>(&mut self, input: &mut I, out: &mut O, steps: u64) -> RunEnd
         requires { 0 < steps }
         ensures run { self.old.end ≡ None →
-            Ran I.left I.faults O.taken O.faults steps self.old self.new input.old input.new out.old out.new result }
+            Ran I.left I.faults O.taken O.faults steps self.old self.new
+            input.old input.new out.old out.new result }
         ensures again { IfSome self.old.end (λ e. (result ≡ e)
             × HasEnded self.old self.new input.old input.new out.old out.new) }
     {
@@ -63,7 +65,8 @@ impl Machine {
     #[inline(always)]
     fn advance<I: Source, O: Sink>(&mut self, input: &mut I, out: &mut O, steps: u64) -> Status
         ensures run { self.old.end ≡ None →
-            Ran I.left I.faults O.taken O.faults steps self.old self.new input.old input.new out.old out.new (end_of result) }
+            Ran I.left I.faults O.taken O.faults steps self.old self.new
+            input.old input.new out.old out.new (end_of result) }
         ensures again { IfSome self.old.end (λ e. (result ≡ Status.Ended e)
             × HasEnded self.old self.new input.old input.new out.old out.new) }
     {

@@ -81,7 +81,8 @@ impl Core {
     /// Copies bytes from memory.
     fn copy(&self, address: u32, into: &mut [u8])
         requires low { address + length into.old ≤ state.stack_top }
-        requires loads { (k : ℕ) → k < length into.old → IsOk (state.load_byte self.now (address + k)) }
+        requires loads { (k : ℕ) → k < length into.old →
+            IsOk (state.load_byte self.now (address + k)) }
         ensures size { length into.new ≡ length into.old }
         ensures bytes { EachIndex into.new
             (λ k. state.load_byte self.now (address + k) ≡ Ok (slice_index into.new k)) }

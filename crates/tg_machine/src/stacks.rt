@@ -5,8 +5,10 @@ use crate::words::{set_word, word_at};
 use std::alloc::{AllocError, Global};
 use std::marker::Model;
 
+/// The bytes of the stack, which grows down. Only the bytes from the lowest one written on are held, in memory that was
+/// reserved for all of them; the bytes before these are 0.
 #[derive(Drop)]
-pub struct Stack {
+pub(crate) struct Stack {
     near: Vec<u8>,
     size: usize,
 }
@@ -18,7 +20,8 @@ impl Model for Stack {
 
     ghost view = { λ s. replicate (s.size - length s.near.items) 0 ++ s.near.items };
 
-    ghost invariant = { λ s. (length s.near.items ≤ s.size) × (s.size ≤ vec_capacity s.near) × (s.size ≤ 268435456) };
+    ghost invariant = { λ s. (length s.near.items ≤ s.size)
+        × (s.size ≤ vec_capacity s.near) × (s.size ≤ 268435456) };
 }
 
 /// Puts zeros before what a vector holds.
@@ -34,8 +37,9 @@ fn grow_front(bytes: &mut Vec<u8>, more: usize)
 }
 
 impl Stack {
+    /// A stack of zeros. It reserves all memory and touches none.
     #[inline(always)]
-    pub fn new(alloc: Global, size: usize) -> Result<Stack, AllocError>
+    pub(crate) fn new(alloc: Global, size: usize) -> Result<Stack, AllocError>
         requires { size ≤ 268435456 }
         ensures { IfOk result (λ s. s ≡ replicate size 0) }
     {
@@ -44,15 +48,16 @@ impl Stack {
     }
 
     #[inline(always)]
-    pub fn len(&self) -> usize
+    pub(crate) fn len(&self) -> usize
         ensures value { result ≡ length self.now }
         ensures fits { result ≤ 268435456 }
     {
         self.size
     }
 
+    /// The byte at an offset from the floor.
     #[inline(always)]
-    pub fn byte(&self, at: usize) -> u8
+    pub(crate) fn byte(&self, at: usize) -> u8
         requires { at < length self.now }
         ensures { result ≡ slice_index self.now at }
     {
@@ -64,8 +69,9 @@ impl Stack {
         }
     }
 
+    /// The word at an offset from the floor.
     #[inline(always)]
-    pub fn word(&self, at: usize) -> u32
+    pub(crate) fn word(&self, at: usize) -> u32
         requires { at + 4 ≤ length self.now }
         ensures { result ≡ state.word_at self.now at }
     {
@@ -81,8 +87,9 @@ impl Stack {
         ])
     }
 
+    /// Puts a word at an offset from the floor.
     #[inline(always)]
-    pub fn set_word(&mut self, at: usize, value: u32)
+    pub(crate) fn set_word(&mut self, at: usize, value: u32)
         requires { at + 4 ≤ length self.old }
         ensures { self.new ≡ state.set_word self.old at value }
     {
@@ -90,19 +97,9 @@ impl Stack {
         let skipped = self.size - self.near.len();
         set_word(&mut self.near, at - skipped, value);
     }
-
-    #[inline(always)]
-    pub fn set_byte(&mut self, at: usize, value: u8)
-        requires { at < length self.old }
-        ensures { self.new ≡ slice_set self.old at value }
-    {
-        reach(&mut self.near, self.size, at);
-        let skipped = self.size - self.near.len();
-        self.near[at - skipped] = value;
-    }
 }
 
-/// Makes a vector hold the byte at a place, where zeros stand before it up to a size.
+/// Makes a vector hold the byte at a place, where zeros stand before it up to a size. It at least doubles the vector.
 #[inline(always)]
 fn reach(near: &mut Vec<u8>, size: usize, at: usize)
     requires held { length near.old.items ≤ size }
@@ -112,7 +109,8 @@ fn reach(near: &mut Vec<u8>, size: usize, at: usize)
     ensures reached { size - length near.new.items ≤ at }
     ensures held { length near.new.items ≤ size }
     ensures room { size ≤ vec_capacity near.new }
-    ensures same { replicate (size - length near.new.items) 0 ++ near.new.items ≡ replicate (size - length near.old.items) 0 ++ near.old.items }
+    ensures same { replicate (size - length near.new.items) 0 ++ near.new.items
+        ≡ replicate (size - length near.old.items) 0 ++ near.old.items }
 {
     let skipped = size - near.len();
     if at < skipped {
