@@ -14,3 +14,6 @@ pub mod SilentRuns
 pub mod OnlyLemmas
 pub mod ProgramRuns
 pub mod WordLemmas
+pub mod Readings
+pub mod UnaryReadings
+pub mod DescentSteps

@@ -7,3 +7,4 @@ pub mod Images
 pub mod Defaults
 pub mod Statuses
 pub mod Causes
+pub mod Descents

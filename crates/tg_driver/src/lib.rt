@@ -4,6 +4,7 @@
 
 mod answers;
 mod built;
+mod descent;
 mod scanning;
 mod making;
 mod running;
