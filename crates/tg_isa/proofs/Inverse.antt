@@ -1,8 +1,8 @@
 -- The row of an instruction's word is that instruction.
-use Rattle.std.proofs.Common.{◌≡◌, ◌≢◌, sym, ap, ◌∙◌, Option, None, IfNone, ◌<◌, ◌+◌, ◌*◌, ◌/◌, ◌%◌, ◌^◌, ℕ, arith, refl, Some, lit<}
+use Rattle.std.proofs.Common.{◌≡◌, ◌≢◌, sym, ap, ◌∙◌, Option, None, IfNone, ◌<◌, ◌/◌, ◌%◌, ℕ, arith, refl, Some, lit<}
 use Rattle.tg_isa.specs.declared.mips.Mips.{Mips}
 use Rattle.tg_isa.specs.declared.mips.Mips.TheVariants.{Sll, Sra, Syscall, Mfhi, Mflo, Mult, Add, Sub, Xor, Sltu, Addiu, Ori, Lui, Lw, Sw}
-use Rattle.tg_isa.specs.Table.{register_form, immediate_form, word_of, IsRow, opcode_field, rs_field, rt_field, rd_field, shamt_field, funct_field, immediate_field, decode_register_form, decode_of}
+use Rattle.tg_isa.specs.Table.{register_form, immediate_form, word_of, IsRow, decode_of}
 
 -- the fields of a word, by name
 record Fields (w opcode rs rt rd shamt funct : ℕ) : Type 0 where

@@ -1,5 +1,5 @@
 -- What each instruction does, a row of the table a line, and one step of the machine (MIPS I manual, appendix A).
-use Rattle.std.specs.Prelude.{ℕ, ◌+◌, ◌*◌, ◌/◌, ◌%◌, length, slice_index, if◌then◌else◌, ◌==◌, nat_lt, Option, Some, None, Result, Ok, Err, bit_or, bit_xor, pos}
+use Rattle.std.specs.Prelude.{ℕ, ◌*◌, ◌/◌, ◌%◌, length, slice_index, if◌then◌else◌, ◌==◌, nat_lt, Option, Some, None, Result, Ok, Err, bit_or, bit_xor, pos}
 use Rattle.tg_isa.specs.declared.mips.Mips.{Mips}
 use Rattle.tg_isa.specs.declared.mips.Mips.TheVariants.{Sll, Sra, Syscall, Mfhi, Mflo, Mult, Add, Sub, Xor, Sltu, Addiu, Ori, Lui, Lw, Sw}
 use Rattle.tg_isa.specs.Table.{decode_of}

@@ -1,5 +1,5 @@
 -- Runs of the machine on an input, with what they write.
-use Rattle.std.specs.Prelude.{ℕ, zero, suc, ◌≡◌, ◌<◌, List, [], ◌∷◌, ◌++◌, map, Option, Some, None}
+use Rattle.std.specs.Prelude.{ℕ, zero, suc, List, [], ◌∷◌, ◌++◌, map, Option, Some, None}
 use Rattle.tg_base.specs.declared.ends.RunEnd.{RunEnd}
 use Rattle.tg_base.specs.State.{State}
 use Rattle.tg_base.specs.Services.{Step, Goes, Ends, Reads, Writes, answered}

@@ -18,3 +18,6 @@ pub use images::Image;
 pub use mips::Mips;
 pub use names::name;
 pub use registers::Reg;
+
+#[cfg(test)]
+mod tests;

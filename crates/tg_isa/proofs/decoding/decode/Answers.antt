@@ -1,4 +1,3 @@
-use Rattle.std.proofs.Common.{◌∙◌, sym, rules}
 use Rattle.tg_isa.proofs.Inverse.{none_outside}
 use Rattle.tg_isa.proofs.decoding.decode.Goals as goal
 

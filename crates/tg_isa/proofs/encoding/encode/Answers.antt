@@ -43,4 +43,3 @@ returns-in-Lw-clause-back c = decode_encoded _ (Lw c.in-Lw.rt c.in-Lw.number c.i
 
 pub returns-in-Sw-clause-back : goal.returns-in-Sw-clause-back
 returns-in-Sw-clause-back c = decode_encoded _ (Sw c.in-Sw.rt c.in-Sw.number c.in-Sw.rs) _ c.in-Sw.is c.immediate_word-in-Sw.ensures.word (c.immediate_word-in-Sw.ensures.registers.1, c.immediate_word-in-Sw.ensures.number, c.immediate_word-in-Sw.ensures.registers.0)
-
