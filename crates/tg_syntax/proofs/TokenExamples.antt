@@ -98,7 +98,7 @@ newline_for_digit =
     (record {
       is_begun = IsBegun.digits 51 57 refl refl;
       goes_on = λ h. clash refl (three_begun h 51 57 10 refl);
-      ends = λ meant h. clash refl (digit_escape h 51 57 10 refl refl)
+      ends = λ meant h. clash refl (digit_escape h 51 57 10 refl refl);
     })))
 
 pub end_behind_backslash : HasLexicalFault (codes "\"a\\") L3 0

@@ -10,7 +10,10 @@ mod tokens;
 mod trees;
 
 pub use faults::LexRule;
-pub use making::{binary, call, call_of_one, int, negate, sequence, sequence_of_one};
+pub use making::{
+    assign, binary, break_out, call, call_of_one, field, fill, for_to, if_else, if_then, index,
+    int, let_in, make, negate, nil, read, sequence, sequence_of_one, text, while_do,
+};
 pub use measures::nodes;
 pub use tokens::{Ident, Sign, Spanned, Token, Word};
 pub use trees::{

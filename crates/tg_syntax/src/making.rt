@@ -1,8 +1,22 @@
 ghost use Rattle.std.specs.Prelude.{◌≡◌, IfOk};
-ghost use Rattle.tg_syntax.specs.Plain.{plain};
-ghost use Rattle.tg_syntax.specs.Lists.{exps_of};
+ghost use Rattle.tg_syntax.specs.Plain.{plain, plain_place};
+ghost use Rattle.tg_syntax.specs.Lists.{exps_of, inits_of, decs_of};
 ghost use Rattle.tg_syntax.specs.Tree.{
+  Nil as PlainNil,
+  Break as PlainBreak,
   Int as PlainInt,
+  Text as PlainText,
+  Read as PlainRead,
+  Make as PlainMake,
+  Fill as PlainFill,
+  Assign as PlainAssign,
+  If as PlainIf,
+  When as PlainWhen,
+  While as PlainWhile,
+  For as PlainFor,
+  Let as PlainLet,
+  Field as PlainField,
+  Index as PlainIndex,
   Neg as PlainNeg,
   Binary as PlainBinary,
   Seq as PlainSeq,
@@ -12,9 +26,9 @@ ghost use Rattle.tg_syntax.specs.Tree.{
 };
 
 use crate::tokens::Ident;
-use crate::trees::{Exp, Exps, Kind, Op};
+use crate::trees::{Dec, Decs, Exp, Exps, Init, Inits, Kind, Op, Var};
 use std::alloc::Global;
-use tg_base::{Memory, Span};
+use tg_base::{Bytes, Memory, Span};
 
 /// An int, at most 2147483647 in a text.
 pub fn int(span: Span, value: u32) -> Exp
@@ -92,4 +106,161 @@ pub fn call_of_one(alloc: Global, span: Span, function: Ident, argument: Exp) ->
     let mut arguments = Vec::new(alloc);
     arguments.push(argument)?;
     Ok(call(span, function, arguments))
+}
+
+/// `nil`.
+pub fn nil(span: Span) -> Exp
+    ensures { plain result ≡ PlainNil span }
+{
+    Exp {
+        span,
+        kind: Kind::Nil,
+    }
+}
+
+/// `break`.
+pub fn break_out(span: Span) -> Exp
+    ensures { plain result ≡ PlainBreak span }
+{
+    Exp {
+        span,
+        kind: Kind::Break,
+    }
+}
+
+/// A string.
+pub fn text(span: Span, bytes: Bytes) -> Exp
+    ensures { plain result ≡ PlainText span bytes }
+{
+    Exp {
+        span,
+        kind: Kind::Text(bytes),
+    }
+}
+
+/// What an l-value holds.
+pub fn read(span: Span, place: Var) -> Exp
+    ensures { plain result ≡ PlainRead span (plain_place place) }
+{
+    Exp {
+        span,
+        kind: Kind::Read(place),
+    }
+}
+
+/// A record that is made.
+pub fn make(span: Span, name: Ident, inits: Vec<Init>) -> Exp
+    ensures { plain result ≡ PlainMake span name (inits_of inits.items) }
+{
+    Exp {
+        span,
+        kind: Kind::Make(name, Inits { items: inits }),
+    }
+}
+
+/// An array that is made.
+pub fn fill(alloc: Global, span: Span, name: Ident, size: Exp, value: Exp) -> Result<Exp, Memory>
+    ensures { IfOk result (λ e. plain e ≡ PlainFill span name (plain size) (plain value)) }
+{
+    let size = Box::new(alloc, size)?;
+    let value = Box::new(alloc, value)?;
+    Ok(Exp {
+        span,
+        kind: Kind::Fill(name, size, value),
+    })
+}
+
+/// An assignment.
+pub fn assign(alloc: Global, span: Span, place: Var, value: Exp) -> Result<Exp, Memory>
+    ensures { IfOk result (λ e. plain e ≡ PlainAssign span (plain_place place) (plain value)) }
+{
+    let value = Box::new(alloc, value)?;
+    Ok(Exp {
+        span,
+        kind: Kind::Assign(place, value),
+    })
+}
+
+/// An `if` without `else`.
+pub fn if_then(alloc: Global, span: Span, test: Exp, this: Exp) -> Result<Exp, Memory>
+    ensures { IfOk result (λ e. plain e ≡ PlainWhen span (plain test) (plain this)) }
+{
+    let test = Box::new(alloc, test)?;
+    let this = Box::new(alloc, this)?;
+    Ok(Exp {
+        span,
+        kind: Kind::If(test, this, None),
+    })
+}
+
+/// An `if` with `else`.
+pub fn if_else(alloc: Global, span: Span, test: Exp, this: Exp, other: Exp) -> Result<Exp, Memory>
+    ensures { IfOk result (λ e. plain e ≡ PlainIf span (plain test) (plain this) (plain other)) }
+{
+    let test = Box::new(alloc, test)?;
+    let this = Box::new(alloc, this)?;
+    let other = Box::new(alloc, other)?;
+    Ok(Exp {
+        span,
+        kind: Kind::If(test, this, Some(other)),
+    })
+}
+
+/// A `while` loop.
+pub fn while_do(alloc: Global, span: Span, test: Exp, body: Exp) -> Result<Exp, Memory>
+    ensures { IfOk result (λ e. plain e ≡ PlainWhile span (plain test) (plain body)) }
+{
+    let test = Box::new(alloc, test)?;
+    let body = Box::new(alloc, body)?;
+    Ok(Exp {
+        span,
+        kind: Kind::While(test, body),
+    })
+}
+
+/// A `for` loop.
+pub fn for_to(
+    alloc: Global,
+    span: Span,
+    variable: Ident,
+    low: Exp,
+    high: Exp,
+    body: Exp,
+) -> Result<Exp, Memory>
+    ensures { IfOk result (λ e. plain e ≡ PlainFor span variable (plain low) (plain high) (plain body)) }
+{
+    let low = Box::new(alloc, low)?;
+    let high = Box::new(alloc, high)?;
+    let body = Box::new(alloc, body)?;
+    Ok(Exp {
+        span,
+        kind: Kind::For(variable, low, high, body),
+    })
+}
+
+/// Declarations and the expressions that see them.
+pub fn let_in(span: Span, decs: Vec<Dec>, body: Vec<Exp>) -> Exp
+    ensures { plain result ≡ PlainLet span (decs_of decs.items) (exps_of body.items) }
+{
+    Exp {
+        span,
+        kind: Kind::Let(Decs { items: decs }, Exps { items: body }),
+    }
+}
+
+/// A field of a record.
+pub fn field(alloc: Global, of: Var, name: Ident) -> Result<Var, Memory>
+    ensures { IfOk result (λ v. plain_place v ≡ PlainField (plain_place of) name) }
+{
+    let of = Box::new(alloc, of)?;
+    Ok(Var::Field(of, name))
+}
+
+/// An element of an array.
+pub fn index(alloc: Global, of: Var, at: Exp) -> Result<Var, Memory>
+    ensures { IfOk result (λ v. plain_place v ≡ PlainIndex (plain_place of) (plain at)) }
+{
+    let of = Box::new(alloc, of)?;
+    let at = Box::new(alloc, at)?;
+    Ok(Var::Index(of, at))
 }
