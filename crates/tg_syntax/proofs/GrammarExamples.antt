@@ -1,5 +1,5 @@
 -- Examples of the grammar, the nesting and the nodes, by the definitions.
-use Rattle.std.proofs.Common.{ℕ, ◌+◌, ◌≡◌, List, [], ◌∷◌, ◌++◌, Bool, true, false, Option, Some, None, replicate, refl}
+use Rattle.std.proofs.Common.{ℕ, ◌+◌, ◌≡◌, List, [], ◌∷◌, true, false, Some, replicate, refl}
 use Rattle.std.specs.Prelude.{fold}
 use Rattle.tg_base.specs.declared.ids.Span.{Span}
 use Rattle.tg_syntax.specs.declared.tokens.Word.TheVariants.{WElse, WIf, WIn, WLet, WThen, WType}
@@ -9,14 +9,12 @@ use Rattle.tg_syntax.specs.declared.tokens.Token.TheVariants as token
 use Rattle.tg_syntax.specs.declared.tokens.Spanned.{Spanned}
 use Rattle.tg_syntax.specs.declared.tokens.Ident.{Ident}
 use Rattle.tg_syntax.specs.declared.tokens.Word.{Word}
-use Rattle.tg_syntax.specs.declared.trees.Param.{Param}
-use Rattle.tg_syntax.specs.declared.trees.Op.{Op}
 use Rattle.tg_syntax.specs.declared.trees.Op.TheVariants as op
-use Rattle.tg_syntax.specs.Tree.{Form, TypeDec, Exp, Place, Exps, no_exps, exp, Decs, no_decs, types}
+use Rattle.tg_syntax.specs.Tree.{Form, TypeDec, Exp, Place, no_exps, no_decs, types}
 use Rattle.tg_syntax.specs.Lexing.{spanned}
 use Rattle.tg_syntax.specs.Nesting.{after_token, nesting_of}
 use Rattle.tg_syntax.specs.Measures.{size, decs_size}
-use Rattle.tg_syntax.specs.Grammar.{Level, Whole, Disjunction, Conjunction, Comparison, Sum, Term, Unary, Primary, Tail, term_op, Reads, whole_up, or_up, and_up, cmp_up, sum_up, sum_more, term_up, term_more, unary_primary, unary_tail, primary_place, primary_int, tail_then, tail_else, place_simple, IsProgram, program}
+use Rattle.tg_syntax.specs.Grammar.{Whole, Sum, Term, Tail, term_op, Reads, whole_up, or_up, and_up, cmp_up, sum_up, sum_more, term_up, term_more, unary_primary, unary_tail, primary_place, primary_int, tail_then, tail_else, place_simple, IsProgram, program}
 
 -- tokens of one byte, and words, from a byte on
 abbrev tok : Token → ℕ → Spanned

@@ -1,5 +1,7 @@
 pub mod GrammarExamples
+pub mod GroupLaws
 pub mod ListLaws
 pub mod Longest
 pub mod SizeLemmas
+pub mod SpanLaws
 pub mod TokenExamples

@@ -1,16 +1,16 @@
 -- Examples of tokens and of lexical faults, by the definitions.
-use Rattle.std.proofs.Common.{ℕ, ◌≡◌, ◌≢◌, List, [], ◌∷◌, ◌++◌, Bool, true, false, refl, sym, ap, ◌∙◌, arith}
-use Rattle.std.specs.Prelude.{codes, ◌<◌, ◌==◌, ◌&&◌}
+use Rattle.std.proofs.Common.{ℕ, zero, suc, ◌≡◌, ◌≢◌, List, [], ◌∷◌, ◌++◌, Bool, true, false, refl, sym, ap, ◌∙◌, arith}
+use Rattle.std.specs.Prelude.{codes, cond, ◌||◌, ◌==◌, ◌&&◌}
 use Rattle.std.proofs.lemmas.Bool.Decides.{nat_tests}
 use Rattle.tg_syntax.specs.declared.tokens.Word.{Word}
 use Rattle.tg_syntax.specs.declared.tokens.Word.TheVariants.{WArray}
 use Rattle.tg_syntax.specs.declared.tokens.Sign.{Sign}
 use Rattle.tg_syntax.specs.declared.tokens.Sign.TheVariants.{Comma, LeftParen, RightParen, Minus}
 use Rattle.tg_syntax.specs.declared.tokens.Token.TheVariants as token
-use Rattle.tg_syntax.specs.Spellings.{word_text, sign_text, is_digit, is_blank, IsDigits, HasTokenForm, IsQuoted, nothing, plain, Escape}
-use Rattle.tg_syntax.specs.Lexing.{Lexes, spanned, IsLongest, OpensComment}
-use Rattle.tg_syntax.specs.declared.faults.LexRule.TheVariants.{L1, L3, L5, L6}
-use Rattle.tg_syntax.specs.LexicalFaults.{HasLexicalFault, met, LeadsTo, here, illegal_byte, in_string, large_int, control_byte, end_in_escape, line_in_escape, IsBegun, Misfits}
+use Rattle.tg_syntax.specs.declared.faults.LexRule.TheVariants.{L1, L2, L3, L4, L5, L6}
+use Rattle.tg_syntax.specs.Spellings.{word_text, sign_text, is_digit, is_blank, IsDigits, HasTokenForm, nothing, plain, Escape}
+use Rattle.tg_syntax.specs.Lexing.{Lexes, spanned, IsLongest, OpensComment, Closes}
+use Rattle.tg_syntax.specs.LexicalFaults.{HasLexicalFault, met, LeadsTo, here, illegal_byte, comment_not_closed, in_string, bad_escape, large_int, control_byte, end_in_escape, line_in_escape, IsBegun}
 use Rattle.tg_syntax.proofs.Longest.{name_longest, digits_longest, mark_longest, form_of_mark, begins}
 
 -- no text that begins with another byte opens a comment
@@ -55,6 +55,13 @@ ten_digits = (refl, (refl, (refl, (refl, (refl, (refl, (refl, (refl, (refl, (ref
 
 pub int_not_cut : IsLongest (codes "214748364") (codes "8") → ⊥
 int_not_cut h = h (codes "8") [] refl (λ e. cc) (HasTokenForm.digits (codes "2147483648") ten_digits)
+
+or_left : (a b : Bool) → a ≡ true → (a || b) ≡ true
+or_left a b h = ap (λ a. a || b) h
+
+or_right : (a : Bool) {b : Bool} → b ≡ true → (a || b) ≡ true
+or_right true h = refl
+or_right false h = h
 
 -- L1: a vertical tab
 clash : {b : Bool} → b ≡ false → b ≡ true → ⊥
@@ -110,3 +117,64 @@ large = met (omega arith) here (large_int (codes "2147483648") [] ten_digits (di
 
 pub control_in_string : HasLexicalFault (34 ∷ 97 ∷ 127 ∷ 34 ∷ []) L6 2
 control_in_string = met (omega arith) here (in_string (codes "a") (codes "a") (127 ∷ 34 ∷ []) (plain 97 refl nothing) (control_byte 127 (34 ∷ []) refl (λ e. cc)))
+
+-- L4: `\q`
+one_begun : {xs : List ℕ} → IsBegun xs → (a : ℕ) → xs ≡ a ∷ [] → (a == 94 || (is_digit a || is_blank a)) ≡ true
+one_begun IsBegun.backslash a e = absurd (cc)
+one_begun IsBegun.caret a e = let same : 94 ≡ a = cc in ap (λ a. a == 94 || (is_digit a || is_blank a)) (sym same)
+one_begun (IsBegun.digit x h) a e = let same : x ≡ a = cc in ap (λ a. a == 94 || (is_digit a || is_blank a)) (sym same) ∙ or_right (x == 94) (or_left (is_digit x) (is_blank x) h)
+one_begun (IsBegun.digits x y h k) a e = absurd (cc)
+one_begun (IsBegun.blanks x more h) a e = let same : x ≡ a = cc in ap (λ a. a == 94 || (is_digit a || is_blank a)) (sym same) ∙ or_right (x == 94) (or_right (is_digit x) h.0)
+
+one_escape : {xs meant : List ℕ} → Escape xs meant → (a : ℕ) → xs ≡ a ∷ [] → (a == 113) ≡ false
+one_escape Escape.newline a e = let same : 110 ≡ a = cc in ap (λ a. a == 113) (sym same)
+one_escape Escape.tab a e = let same : 116 ≡ a = cc in ap (λ a. a == 113) (sym same)
+one_escape Escape.quote a e = let same : 34 ≡ a = cc in ap (λ a. a == 113) (sym same)
+one_escape Escape.backslash a e = let same : 92 ≡ a = cc in ap (λ a. a == 113) (sym same)
+one_escape (Escape.control x h) a e = absurd (cc)
+one_escape (Escape.decimal x y z h le) a e = absurd (cc)
+one_escape (Escape.blanks x [] h) a e = absurd (cc)
+one_escape (Escape.blanks x (y ∷ more) h) a e = absurd (cc)
+
+pub bad_letter : HasLexicalFault (codes "\"\\q\"") L4 1
+bad_letter =
+    met (omega arith) here
+    (in_string [] [] (codes "\\q\"") nothing
+    (bad_escape [] 113 (34 ∷ [])
+    (record {
+      is_begun = IsBegun.backslash;
+      goes_on = λ h. clash refl (one_begun h 113 refl);
+      ends = λ meant h. clash (one_escape h 113 refl) refl;
+    }) (λ e. cc)))
+
+-- L2: of two comments the outermost is not closed
+abbrev front_closes : ℕ → List ℕ → Bool
+front_closes zero text = true
+front_closes (suc depth) [] = false
+front_closes (suc depth) (b ∷ []) = false
+front_closes (suc depth) (b ∷ c ∷ text) =
+    cond (b == 42 && c == 47) (front_closes depth text) (cond (b == 47 && c == 42) (front_closes (suc (suc depth)) text) (front_closes (suc depth) (c ∷ text)))
+
+pair_false : (b c x y : ℕ) → ((b ≡ x) × (c ≡ y) → ⊥) → (b == x && c == y) ≡ false
+pair_false b c x y apart = by (b == x) (c == y) refl refl
+  where
+    same : (m n : ℕ) → (m == n) ≡ true → m ≡ n
+    same m n e = grind (arith, nat_tests)
+
+    by : (p q : Bool) → (b == x) ≡ p → (c == y) ≡ q → (p && q) ≡ false
+    by false q e f = refl
+    by true false e f = refl
+    by true true e f = absurd (apart (same b x e, same c y f))
+
+closes-front : {depth : ℕ} {inside : List ℕ} → Closes depth inside → (rest : List ℕ) → front_closes depth (inside ++ rest) ≡ true
+closes-front Closes.done rest = refl
+closes-front (Closes.closes h) rest = closes-front h rest
+closes-front (Closes.opens h) rest = closes-front h rest
+closes-front (Closes.byte {depth} b {more = []} no_open no_close h) rest = elim h [ ]
+closes-front (Closes.byte {depth} b {more = c ∷ more} no_open no_close h) rest =
+    ap (λ p. cond p (front_closes depth (more ++ rest)) (cond (b == 47 && c == 42) (front_closes (suc (suc depth)) (more ++ rest)) (front_closes (suc depth) (c ∷ more ++ rest)))) (pair_false b c 42 47 no_close)
+    ∙ ap (λ p. cond p (front_closes (suc (suc depth)) (more ++ rest)) (front_closes (suc depth) (c ∷ more ++ rest))) (pair_false b c 47 42 no_open)
+    ∙ closes-front h rest
+
+pub outer_not_closed : HasLexicalFault (codes "/* /* */") L2 0
+outer_not_closed = met (omega arith) here (comment_not_closed (codes " /* */") (λ inside rest e h. clash refl (ap (front_closes 1) e ∙ closes-front h rest)))

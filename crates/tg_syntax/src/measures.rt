@@ -150,3 +150,6 @@ fn count(length: usize) -> u32
         4294967295
     }
 }
+
+#[cfg(test)]
+mod tests;
