@@ -1,0 +1,76 @@
+-- The required arguments of the simple command have values.
+use Rattle.std.proofs.Common.{◌≡◌, ◌∙◌, ◌<◌, ℕ, zero, suc, List, [], ◌∷◌, Some, None, true, false, refl, sym, ap, subst, arith, codes, length, is_some, inl, inr, slice_index}
+use Rattle.std.specs.List.{All, slice_index_or, position_or_len}
+use Rattle.std.specs.Str.{bytes_eq}
+use Rattle.std.proofs.lemmas.Slice.Eq.{bytes_eq-Decides}
+use Rattle.clap.specs.Words.{AddsArg, AddsInTurn, IsParsedFrom, Rule, Text, args_of, first_value, found_of, groups_of}
+use Rattle.clap.specs.Built.{FitsChain, HasDistinctIds, IsAuto, TakesValue}
+use Rattle.clap.specs.declared.builder.arg.Arg.{Arg}
+use Rattle.clap.specs.declared.builder.command.Command.{Command}
+use Rattle.clap.specs.declared.builder.command.Command.TheViews.{out-Command as fields_of}
+use Rattle.clap.specs.declared.parser.matches.ArgMatches.{ArgMatches}
+use Rattle.clap.proofs.CallerLemmas.{required_in_chain}
+use Rattle.tg_command.specs.Simple.{IsArgument, positional, option}
+
+-- the names of the arguments
+abbrev names : List Text
+names = codes "mode" ∷ codes "file" ∷ codes "heap" ∷ codes "stack" ∷ codes "steps" ∷ []
+
+place : Text → ℕ
+place name = position_or_len (λ x. bytes_eq x name) names
+
+id_is : (rule : Rule) (a : Arg) → IsArgument rule a → a.id.now ≡ rule.id
+id_is rule a h = ap (λ (r : Rule). r.id) h.rule_is
+
+-- an argument fits a chain where its name is neither that of the help flag nor that of the version flag
+fits : (rule : Rule) (a : Arg) → IsArgument rule a → (rule.id ≡ [] → ⊥) → (rule.id ≡ codes "help" → ⊥) → (rule.id ≡ codes "version" → ⊥) → FitsChain a
+fits rule a h named no_help no_version =
+    let same = id_is rule a h in (
+      h.plain,
+      h.local,
+      (λ empty. named (sym same ∙ empty)),
+      (λ auto. elim auto [ inl e ↦ no_help (sym same ∙ e) | inr e ↦ no_version (sym same ∙ e) ]),
+    )
+
+not_text : (k a b : ℕ) (s t : Text) → slice_index s k ≡ a → slice_index t k ≡ b → (a ≡ b → ⊥) → s ≡ t → ⊥
+not_text k a b s t at_s at_t differ same = differ (sym at_s ∙ (ap (λ (x : Text). slice_index x k) same ∙ at_t))
+
+module _ (a b d e f : Arg) (is_a : IsArgument (positional (codes "mode")) a) (is_b : IsArgument (positional (codes "file")) b)
+    (is_d : IsArgument (option (codes "heap")) d) (is_e : IsArgument (option (codes "stack")) e) (is_f : IsArgument (option (codes "steps")) f) where
+  abbrev pub chain : List Arg
+  chain = a ∷ b ∷ d ∷ e ∷ f ∷ []
+
+  all_fit : All FitsChain chain
+  all_fit zero x lt = fits _ a is_a (not_text 0 109 0 _ _ refl refl (λ q. absurd (omega (arith, q)))) (not_text 0 109 104 _ _ refl refl (λ q. absurd (omega (arith, q)))) (not_text 0 109 118 _ _ refl refl (λ q. absurd (omega (arith, q))))
+  all_fit (suc zero) x lt = fits _ b is_b (not_text 0 102 0 _ _ refl refl (λ q. absurd (omega (arith, q)))) (not_text 0 102 104 _ _ refl refl (λ q. absurd (omega (arith, q)))) (not_text 0 102 118 _ _ refl refl (λ q. absurd (omega (arith, q))))
+  all_fit (suc (suc zero)) x lt = fits _ d is_d (not_text 0 104 0 _ _ refl refl (λ q. absurd (omega (arith, q)))) (not_text 2 97 108 _ _ refl refl (λ q. absurd (omega (arith, q)))) (not_text 0 104 118 _ _ refl refl (λ q. absurd (omega (arith, q))))
+  all_fit (suc (suc (suc zero))) x lt = fits _ e is_e (not_text 0 115 0 _ _ refl refl (λ q. absurd (omega (arith, q)))) (not_text 0 115 104 _ _ refl refl (λ q. absurd (omega (arith, q)))) (not_text 0 115 118 _ _ refl refl (λ q. absurd (omega (arith, q))))
+  all_fit (suc (suc (suc (suc zero)))) x lt = fits _ f is_f (not_text 0 115 0 _ _ refl refl (λ q. absurd (omega (arith, q)))) (not_text 0 115 104 _ _ refl refl (λ q. absurd (omega (arith, q)))) (not_text 0 115 118 _ _ refl refl (λ q. absurd (omega (arith, q))))
+  all_fit (suc (suc (suc (suc (suc k))))) x lt = absurd (omega arith)
+
+  -- each argument stands in the place of its name
+  stands : (k : ℕ) (x : Arg) → k < length chain → place (slice_index_or chain k x).id.now ≡ k
+  unfolding place
+  stands zero x lt = rw (id_is _ a is_a) refl
+  stands (suc zero) x lt = rw (id_is _ b is_b) refl
+  stands (suc (suc zero)) x lt = rw (id_is _ d is_d) refl
+  stands (suc (suc (suc zero))) x lt = rw (id_is _ e is_e) refl
+  stands (suc (suc (suc (suc zero)))) x lt = rw (id_is _ f is_f) refl
+  stands (suc (suc (suc (suc (suc k))))) x lt = absurd (omega arith)
+
+  distinct : HasDistinctIds chain
+  distinct j k y x low_j low_k same =
+      sym (stands j x low_j) ∙ (ap place ((bytes_eq-Decides (slice_index_or chain j x).id.now (slice_index_or chain k y).id.now).0 same) ∙ stands k y low_k)
+
+  module _ (start cmd : Command) (m : ArgMatches) (adds : AddsInTurn AddsArg start chain cmd) (args : args_of start ≡ []) (groups : groups_of start ≡ [])
+      (globals : (fields_of start).has_globals ≡ false) (negates : (fields_of start).subcommand_negates_reqs ≡ false) (parsed : IsParsedFrom cmd m) where
+    takes : (name : Text) (x : Arg) → IsArgument (positional name) x → TakesValue x
+    takes name x h = (ap (λ (r : Rule). r.required) h.rule_is, ap (λ (r : Rule). r.action) h.rule_is, h.undivided, h.filled)
+
+    pub mode_given : is_some (first_value (found_of m) (codes "mode")) ≡ true
+    mode_given = subst (λ t. is_some (first_value (found_of m) t) ≡ true) (id_is _ a is_a)
+        (required_in_chain start cmd chain 0 a m adds args groups globals negates all_fit distinct (omega arith) (takes _ a is_a) parsed)
+
+    pub file_given : is_some (first_value (found_of m) (codes "file")) ≡ true
+    file_given = subst (λ t. is_some (first_value (found_of m) t) ≡ true) (id_is _ b is_b)
+        (required_in_chain start cmd chain 1 a m adds args groups globals negates all_fit distinct (omega arith) (takes _ b is_b) parsed)

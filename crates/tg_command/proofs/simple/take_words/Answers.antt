@@ -1,0 +1,24 @@
+use Rattle.std.proofs.Common.{◌≡◌, ◌∙◌, List, [], sym, ap, refl, codes, true, map, option_map, string_bytes, Option, Some, ℕ}
+use Rattle.std.specs.Borrow.{Bor}
+use Rattle.clap.specs.Words.{Text, app_of, first_of, first_value, found_of, is_simple, is_simple_and_free, fault_of, matches_of, rows_of}
+use Rattle.clap.proofs.WalkLemmas.{first_value-rows}
+use Rattle.tg_command.specs.Simple.{IsTaken, simple_command, value_of}
+use Rattle.tg_command.proofs.simple.take_words.Goals as goal
+
+pub returns-clause-ok : goal.returns-clause-ok
+returns-clause-ok c =
+    let words : List Text = map string_bytes c.args.words.now in
+    let matches = c.in-Ok.matches in
+    let app = c.in_ok-command.ensures.app in
+    let taken : IsTaken words = sym (ap (λ a. fault_of a words) app) ∙ c.in-Ok.ensures.kinds (ap is_simple_and_free app) in
+    let rows : rows_of (found_of matches) ≡ matches_of simple_command words = (c.in-Ok.ensures.matches (ap is_simple app)).0 ∙ ap (λ a. matches_of a words) app in
+    let given : (name : Text) → first_value (found_of matches) name ≡ value_of name words = λ name. first_value-rows (found_of matches) name ∙ ap (first_of name) rows in
+    let texts : Option (Bor Text) → Option Text = option_map (λ t. t.now) in
+    record {
+      taken = taken;
+      mode = sym (given (codes "mode")) ∙ (sym c.get_str.ensures ∙ ap texts c.unwrap.ensures);
+      file = sym (given (codes "file")) ∙ (sym c.get_str-2.ensures ∙ ap texts c.unwrap-2.ensures);
+      heap = sym (given (codes "heap")) ∙ sym c.get_str-3.ensures;
+      stack = sym (given (codes "stack")) ∙ sym c.get_str-4.ensures;
+      steps = sym (given (codes "steps")) ∙ sym c.get_str-5.ensures;
+    }

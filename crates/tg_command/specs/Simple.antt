@@ -1,0 +1,48 @@
+-- The simple command `MODE FILE [--heap BYTES] [--stack BYTES] [--steps COUNT]`, as the command line's parser knows it.
+use Rattle.std.specs.Prelude.{◌≡◌, ◌≤◌, ℕ, List, [], Option, Some, None, codes, true, false, is_some}
+use Rattle.clap.specs.Words.{App, Rule, Text, new_app, new_rule, rule_of, with_rule, fault_of, first_of, matches_of, first_value, found_of, IsParsedFrom, IsPlainArg}
+use Rattle.clap.specs.Facts.{least_values}
+use Rattle.clap.specs.declared.builder.arg.Arg.{Arg}
+use Rattle.clap.specs.declared.builder.ArgAction.TheVariants.{Set}
+use Rattle.clap.specs.Simple.{on_top}
+use Rattle.clap.specs.declared.builder.command.Command.{Command}
+use Rattle.clap.specs.declared.parser.matches.ArgMatches.{ArgMatches}
+
+-- a positional that must be there
+abbrev pub positional : Text → Rule
+positional name = record (new_rule name) { required = true; action = Some Set }
+
+-- an option with one value
+abbrev pub option : Text → Rule
+option name = record (new_rule name) { long = Some name; action = Some Set }
+
+-- no flag asks for help or the version
+abbrev pub without_flags : App → App
+without_flags = on_top (λ s. record s { disable_help_flag = true; disable_version_flag = true })
+
+abbrev pub simple_command : App
+simple_command = with_rule (with_rule (with_rule (with_rule (with_rule
+    (without_flags (new_app (codes "tiger")))
+    (positional (codes "mode"))) (positional (codes "file")))
+    (option (codes "heap"))) (option (codes "stack"))) (option (codes "steps"))
+
+-- the simple command takes the words, of which the first is the program's name: no step of the parse has a fault
+abbrev pub IsTaken : List Text → Type 0
+IsTaken words = fault_of simple_command words ≡ []
+
+-- the value that the words give to an argument
+abbrev pub value_of : Text → List Text → Option Text
+value_of name words = first_of name (matches_of simple_command words)
+
+-- the parser reads the argument by the rule, and each of its uses has a value and excludes nothing
+pub record IsArgument (rule : Rule) (a : Arg) : Type 0 where
+  pub rule_is : rule_of a ≡ rule
+  pub plain : IsPlainArg a
+  pub local : a.global ≡ false
+  pub undivided : a.val_delim ≡ None
+  pub filled : 1 ≤ least_values a
+
+-- where the command takes words, they give a value to the argument
+abbrev pub Requires : Command → Text → Type 0
+Requires command name =
+    (m : ArgMatches) → IsParsedFrom command m → is_some (first_value (found_of m) name) ≡ true

@@ -1,0 +1,26 @@
+ghost use Rattle.std.specs.Prelude.{◌≡◌, IfNone, IfSome};
+ghost use Rattle.tg_command.specs.Modes.{name_of};
+
+/// What the program does with the file.
+#[derive(Clone, Copy, Debug, PartialEq, Eq)]
+pub enum Mode {
+    /// Refuses or accepts a source.
+    Check,
+    /// Compiles a source and runs it.
+    Run,
+    /// Assembles a text and runs it.
+    Exec,
+}
+
+/// The mode of this name, in its one spelling.
+pub(crate) fn named(name: &str) -> Option<Mode>
+    ensures some { IfSome result (λ mode. name.now ≡ name_of mode) }
+    ensures none { IfNone result ((mode : Mode) → name.now ≡ name_of mode → ⊥) }
+{
+    match name {
+        "check" => Some(Mode::Check),
+        "run" => Some(Mode::Run),
+        "exec" => Some(Mode::Exec),
+        _ => None,
+    }
+}
