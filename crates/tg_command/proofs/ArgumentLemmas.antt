@@ -32,8 +32,9 @@ fits rule a h named no_help no_version =
       (λ auto. elim auto [ inl e ↦ no_help (sym same ∙ e) | inr e ↦ no_version (sym same ∙ e) ]),
     )
 
-not_text : (k a b : ℕ) (s t : Text) → slice_index s k ≡ a → slice_index t k ≡ b → (a ≡ b → ⊥) → s ≡ t → ⊥
-not_text k a b s t at_s at_t differ same = differ (sym at_s ∙ (ap (λ (x : Text). slice_index x k) same ∙ at_t))
+-- texts differ where their bytes at one place do
+pub other_text : (k a b : ℕ) (s t : Text) → slice_index s k ≡ a → slice_index t k ≡ b → (a ≡ b → ⊥) → s ≡ t → ⊥
+other_text k a b s t at_s at_t differ same = differ (sym at_s ∙ (ap (λ (x : Text). slice_index x k) same ∙ at_t))
 
 module _ (a b d e f : Arg) (is_a : IsArgument (positional (codes "mode")) a) (is_b : IsArgument (positional (codes "file")) b)
     (is_d : IsArgument (option (codes "heap")) d) (is_e : IsArgument (option (codes "stack")) e) (is_f : IsArgument (option (codes "steps")) f) where
@@ -41,11 +42,11 @@ module _ (a b d e f : Arg) (is_a : IsArgument (positional (codes "mode")) a) (is
   chain = a ∷ b ∷ d ∷ e ∷ f ∷ []
 
   all_fit : All FitsChain chain
-  all_fit zero x lt = fits _ a is_a (not_text 0 109 0 _ _ refl refl (λ q. absurd (omega (arith, q)))) (not_text 0 109 104 _ _ refl refl (λ q. absurd (omega (arith, q)))) (not_text 0 109 118 _ _ refl refl (λ q. absurd (omega (arith, q))))
-  all_fit (suc zero) x lt = fits _ b is_b (not_text 0 102 0 _ _ refl refl (λ q. absurd (omega (arith, q)))) (not_text 0 102 104 _ _ refl refl (λ q. absurd (omega (arith, q)))) (not_text 0 102 118 _ _ refl refl (λ q. absurd (omega (arith, q))))
-  all_fit (suc (suc zero)) x lt = fits _ d is_d (not_text 0 104 0 _ _ refl refl (λ q. absurd (omega (arith, q)))) (not_text 2 97 108 _ _ refl refl (λ q. absurd (omega (arith, q)))) (not_text 0 104 118 _ _ refl refl (λ q. absurd (omega (arith, q))))
-  all_fit (suc (suc (suc zero))) x lt = fits _ e is_e (not_text 0 115 0 _ _ refl refl (λ q. absurd (omega (arith, q)))) (not_text 0 115 104 _ _ refl refl (λ q. absurd (omega (arith, q)))) (not_text 0 115 118 _ _ refl refl (λ q. absurd (omega (arith, q))))
-  all_fit (suc (suc (suc (suc zero)))) x lt = fits _ f is_f (not_text 0 115 0 _ _ refl refl (λ q. absurd (omega (arith, q)))) (not_text 0 115 104 _ _ refl refl (λ q. absurd (omega (arith, q)))) (not_text 0 115 118 _ _ refl refl (λ q. absurd (omega (arith, q))))
+  all_fit zero x lt = fits _ a is_a (other_text 0 109 0 _ _ refl refl (λ q. absurd (omega (arith, q)))) (other_text 0 109 104 _ _ refl refl (λ q. absurd (omega (arith, q)))) (other_text 0 109 118 _ _ refl refl (λ q. absurd (omega (arith, q))))
+  all_fit (suc zero) x lt = fits _ b is_b (other_text 0 102 0 _ _ refl refl (λ q. absurd (omega (arith, q)))) (other_text 0 102 104 _ _ refl refl (λ q. absurd (omega (arith, q)))) (other_text 0 102 118 _ _ refl refl (λ q. absurd (omega (arith, q))))
+  all_fit (suc (suc zero)) x lt = fits _ d is_d (other_text 0 104 0 _ _ refl refl (λ q. absurd (omega (arith, q)))) (other_text 2 97 108 _ _ refl refl (λ q. absurd (omega (arith, q)))) (other_text 0 104 118 _ _ refl refl (λ q. absurd (omega (arith, q))))
+  all_fit (suc (suc (suc zero))) x lt = fits _ e is_e (other_text 0 115 0 _ _ refl refl (λ q. absurd (omega (arith, q)))) (other_text 0 115 104 _ _ refl refl (λ q. absurd (omega (arith, q)))) (other_text 0 115 118 _ _ refl refl (λ q. absurd (omega (arith, q))))
+  all_fit (suc (suc (suc (suc zero)))) x lt = fits _ f is_f (other_text 0 115 0 _ _ refl refl (λ q. absurd (omega (arith, q)))) (other_text 0 115 104 _ _ refl refl (λ q. absurd (omega (arith, q)))) (other_text 0 115 118 _ _ refl refl (λ q. absurd (omega (arith, q))))
   all_fit (suc (suc (suc (suc (suc k))))) x lt = absurd (omega arith)
 
   -- each argument stands in the place of its name

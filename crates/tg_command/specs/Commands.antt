@@ -1,21 +1,33 @@
 -- What the words of a command line ask for.
-use Rattle.std.specs.Prelude.{◌≡◌, ℕ, List, Option, Some, codes, string_bytes}
+use Rattle.std.specs.Prelude.{◌≡◌, ℕ, List, Some, codes, string_bytes}
 use Rattle.tg_command.specs.Counts.{GivesCount, heap_limits, stack_limits, step_limits}
 use Rattle.tg_command.specs.Modes.{name_of}
 use Rattle.tg_command.specs.Simple.{IsTaken, value_of}
 use Rattle.tg_command.specs.declared.Command.{Command}
 use Rattle.tg_command.specs.declared.modes.Mode.{Mode}
 
--- the words are a command, and this one
-pub record Asks (words : List (List ℕ)) (c : Command) : Type 0 where
-  pub taken : IsTaken words
-  pub mode : value_of (codes "mode") words ≡ Some (name_of c.mode)
-  pub file : value_of (codes "file") words ≡ Some (string_bytes c.file)
-  pub heap : GivesCount heap_limits (value_of (codes "heap") words) c.heap
-  pub stack : GivesCount stack_limits (value_of (codes "stack") words) c.stack
-  pub steps : GivesCount step_limits (value_of (codes "steps") words) c.steps
+-- what a command line can ask for: a mode, a file by its name, the bytes of heap and of stack, and the steps
+pub record Asked : Type 0 where
+  pub mode : Mode
+  pub file : List ℕ
+  pub heap : ℕ
+  pub stack : ℕ
+  pub steps : ℕ
 
--- the words are no command: the simple command refuses them, no mode has the name, or a value is no number within its limits
+-- what a command asks for
+abbrev pub asked_of : Command → Asked
+asked_of c = record { mode = c.mode; file = string_bytes c.file; heap = c.heap; stack = c.stack; steps = c.steps }
+
+-- the words ask for this
+pub record Ask (words : List (List ℕ)) (a : Asked) : Type 0 where
+  pub taken : IsTaken words
+  pub mode : value_of (codes "mode") words ≡ Some (name_of a.mode)
+  pub file : value_of (codes "file") words ≡ Some a.file
+  pub heap : GivesCount heap_limits (value_of (codes "heap") words) a.heap
+  pub stack : GivesCount stack_limits (value_of (codes "stack") words) a.stack
+  pub steps : GivesCount step_limits (value_of (codes "steps") words) a.steps
+
+-- the words ask for nothing: the simple command refuses them, no mode has the name, or a value is no number within its limits
 pub data IsUsageFault (words : List (List ℕ)) : Type 0 where
   refused : (IsTaken words → ⊥) → IsUsageFault words
   mode : ((m : Mode) → value_of (codes "mode") words ≡ Some (name_of m) → ⊥) → IsUsageFault words

@@ -26,7 +26,8 @@ simple_command = with_rule (with_rule (with_rule (with_rule (with_rule
     (positional (codes "mode"))) (positional (codes "file")))
     (option (codes "heap"))) (option (codes "stack"))) (option (codes "steps"))
 
--- the simple command takes the words, of which the first is the program's name: no step of the parse has a fault
+-- The simple command takes the words, of which the first is the program's name: by `clap`'s `fault_of`, which lists the kinds
+-- of error of the first step of the parse that fails, no step fails.
 abbrev pub IsTaken : List Text → Type 0
 IsTaken words = fault_of simple_command words ≡ []
 

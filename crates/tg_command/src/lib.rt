@@ -8,12 +8,12 @@ mod simple;
 
 ghost use Rattle.std.specs.Prelude.{◌≡◌, IfOk, IsErr, map, string_bytes};
 ghost use Rattle.tg_command.specs.declared.CommandFault.TheVariants.{Memory};
-ghost use Rattle.tg_command.specs.Commands.{Asks, IsUsageFault};
+ghost use Rattle.tg_command.specs.Commands.{Ask, IsUsageFault, asked_of};
 ghost use Rattle.tg_command.specs.Counts.{IsWithin, heap_limits, stack_limits, step_limits};
 
-use counts::{count_or_default, HEAP, STACK, STEPS};
-use modes::named;
+use counts::{HEAP, STACK, STEPS, count_or_default};
 pub use modes::Mode;
+use modes::named;
 use simple::take_words;
 use std::alloc::{AllocError, Global};
 
@@ -21,9 +21,13 @@ use std::alloc::{AllocError, Global};
 #[derive(Debug, Drop)]
 pub struct Command {
     pub mode: Mode,
+    /// The word FILE as it stands, which may be empty.
     pub file: String,
+    /// The size of the heap in bytes: a multiple of 4 from 4 to 268,435,456.
     pub heap: u32,
+    /// The size of the stack in bytes: a multiple of 4 from 65,536 to 268,435,456.
     pub stack: u32,
+    /// The most steps that a run takes: from 1 to 4,611,686,018,427,387,904.
     pub steps: u64,
 }
 
@@ -44,9 +48,13 @@ impl From<AllocError> for CommandFault {
     }
 }
 
-/// The command that the words ask for. The first word is the program's name. An option that the mode doesn't use is read too.
+/// The command that the words ask for. The first word is the program's name, and isn't read.
+///
+/// A repeated option, an abbreviated one, one without a value and a separate value that begins with `-` are usage faults. After
+/// `--` every word is MODE or FILE, and so is a lone `-`. An option that the mode doesn't use is read and tested as any other.
+/// `Usage` is answered only at a usage fault, and a usage fault is never `Ok`; `Memory` may come in place of any answer.
 pub fn read_words(alloc: Global, words: &[String]) -> Result<Command, CommandFault>
-    ensures ok { IfOk result (Asks (map string_bytes words.now)) }
+    ensures ok { IfOk result (λ c. Ask (map string_bytes words.now) (asked_of c)) }
     ensures usage { result ≡ Err CommandFault.Usage → IsUsageFault (map string_bytes words.now) }
     ensures fault { IsUsageFault (map string_bytes words.now) → IsErr result }
     ensures heap { IfOk result (λ c. IsWithin heap_limits c.heap) }
@@ -66,3 +74,6 @@ pub fn read_words(alloc: Global, words: &[String]) -> Result<Command, CommandFau
         steps,
     })
 }
+
+#[cfg(test)]
+mod tests;

@@ -12,7 +12,7 @@ pub enum Mode {
     Exec,
 }
 
-/// The mode of this name, in its one spelling.
+/// The mode of this name, in its one spelling. Here and in `name_of` stand the names of the modes.
 pub(crate) fn named(name: &str) -> Option<Mode>
     ensures some { IfSome result (λ mode. name.now ≡ name_of mode) }
     ensures none { IfNone result ((mode : Mode) → name.now ≡ name_of mode → ⊥) }

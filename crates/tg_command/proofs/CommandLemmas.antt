@@ -1,0 +1,44 @@
+-- Words ask for one thing at most, and then are no usage fault.
+use Rattle.std.proofs.Common.{◌≡◌, ◌∙◌, ℕ, List, Option, Some, None, refl, sym, ap, arith}
+use Rattle.std.specs.Option.{unwrap_or}
+use Rattle.tg_command.proofs.ArgumentLemmas.{other_text}
+use Rattle.tg_command.specs.Counts.{GivesCount}
+use Rattle.tg_command.specs.declared.counts.Limits.{Limits}
+use Rattle.tg_command.specs.Modes.{name_of}
+use Rattle.tg_command.specs.Commands.{Ask, Asked, IsUsageFault, heap, mode, refused, stack, steps}
+use Rattle.tg_command.specs.declared.modes.Mode.{Mode}
+use Rattle.tg_command.specs.declared.modes.Mode.TheVariants.{Check, Run, Exec}
+
+given_once : (limits : Limits) (o : Option (List ℕ)) (m n : ℕ) → GivesCount limits o m → GivesCount limits o n → m ≡ n
+given_once limits None m n p q = p ∙ sym q
+given_once limits (Some text) m n p q = p.value ∙ sym q.value
+
+pub name_once : (a b : Mode) → name_of a ≡ name_of b → a ≡ b
+name_once Check Check e = refl
+name_once Check Run e = absurd (other_text 0 99 114 (name_of Check) (name_of Run) refl refl (λ q. absurd (omega (arith, q))) e)
+name_once Check Exec e = absurd (other_text 0 99 101 (name_of Check) (name_of Exec) refl refl (λ q. absurd (omega (arith, q))) e)
+name_once Run Check e = absurd (other_text 0 114 99 (name_of Run) (name_of Check) refl refl (λ q. absurd (omega (arith, q))) e)
+name_once Run Run e = refl
+name_once Run Exec e = absurd (other_text 0 114 101 (name_of Run) (name_of Exec) refl refl (λ q. absurd (omega (arith, q))) e)
+name_once Exec Check e = absurd (other_text 0 101 99 (name_of Exec) (name_of Check) refl refl (λ q. absurd (omega (arith, q))) e)
+name_once Exec Run e = absurd (other_text 0 101 114 (name_of Exec) (name_of Run) refl refl (λ q. absurd (omega (arith, q))) e)
+name_once Exec Exec e = refl
+
+some_once : {X : Type 0} (x y : X) → Some x ≡ Some y → x ≡ y
+some_once {X} x y e = ap (λ (o : Option X). unwrap_or o x) e
+
+pub asked_once : (words : List (List ℕ)) (a b : Asked) → Ask words a → Ask words b → a ≡ b
+asked_once words a b p q =
+    let modes = name_once a.mode b.mode (some_once _ _ (sym p.mode ∙ q.mode)) in
+    let files = some_once a.file b.file (sym p.file ∙ q.file) in
+    let heaps = given_once _ _ a.heap b.heap p.heap q.heap in
+    let stacks = given_once _ _ a.stack b.stack p.stack q.stack in
+    let steps = given_once _ _ a.steps b.steps p.steps q.steps in
+    λ i. record { mode = modes i; file = files i; heap = heaps i; stack = stacks i; steps = steps i }
+
+pub asked_no_fault : (words : List (List ℕ)) (a : Asked) → Ask words a → IsUsageFault words → ⊥
+asked_no_fault words a p (refused h) = h p.taken
+asked_no_fault words a p (mode h) = h a.mode p.mode
+asked_no_fault words a p (heap h) = h a.heap p.heap
+asked_no_fault words a p (stack h) = h a.stack p.stack
+asked_no_fault words a p (steps h) = h a.steps p.steps
