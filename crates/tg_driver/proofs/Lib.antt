@@ -17,3 +17,7 @@ pub mod WordLemmas
 pub mod Readings
 pub mod UnaryReadings
 pub mod DescentSteps
+pub mod BuiltLemmas
+pub mod NestingSteps
+pub mod FirstLemmas
+pub mod BuiltTexts

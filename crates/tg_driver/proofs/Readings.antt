@@ -70,7 +70,7 @@ begins rank.Sum h = begins_sum h
 begins rank.Term h = begins_term h
 
 -- an operator of a rank stops its operands
-none_some : {A C : Type 0} {x : A} → None ≡ Some x → C
+pub none_some : {A C : Type 0} {x : A} → None ≡ Some x → C
 none_some h = cc
 
 sum_stops : (t : Token) (o : Op) → sum_op t ≡ Some o → term_op t ≡ None

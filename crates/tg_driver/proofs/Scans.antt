@@ -8,6 +8,7 @@ use Rattle.tg_syntax.specs.Spellings.{Spells}
 use Rattle.tg_syntax.specs.Lexing.{Lexes, ends, blank, comment, token, spanned, OpensComment}
 use Rattle.tg_driver.specs.Fronts.{exit_alone, IsBuiltToken, AreBuilt, IsToken, BeginsBlank, HasNoSlash, AreTokens, HasNoTokens}
 use Rattle.tg_driver.proofs.FirstBytes.{clash, spells_some, built_form}
+use Rattle.tg_driver.proofs.BuiltLemmas.{AreBuilt-append}
 use Rattle.tg_driver.proofs.SpellsOne.{one_front, one_token, blank_no_token, slash_no_token}
 
 -- A blank, forwards and backwards.
@@ -89,6 +90,7 @@ pub record Tail (text : List ℕ) (at : ℕ) (tokens others : List Spanned) : Ty
 -- these are the tokens before a byte
 pub record Scanned (text : List ℕ) (at : ℕ) (tokens : List Spanned) : Type 0 where
   pub within : at ≤ length text
+  pub built : AreBuilt tokens
   pub lexed : (rest : List Spanned) → Lexes exit_alone at (drop at text) rest → Lexes exit_alone 0 text (tokens ++ rest)
   pub only : (others : List Spanned) → Lexes exit_alone 0 text others → AreBuilt others → HasNoSlash text → Tail text at tokens others
 
@@ -96,6 +98,7 @@ pub scanned_none : (text : List ℕ) → Scanned text 0 []
 scanned_none text =
     record {
       within = omega arith;
+      built = tt;
       lexed = λ rest l. l;
       only = λ others l built no_slash. record { rest = others; whole = refl; lexed = l; built = built; no_slash = no_slash };
     }
@@ -109,6 +112,7 @@ pub scanned_blank : (text : List ℕ) (at : ℕ) (tokens : List Spanned) → Sca
 scanned_blank text at tokens h lt begins =
     record {
       within = omega arith;
+      built = h.built;
       lexed = λ rest l. h.lexed rest (lexes_blank at (drop at text) rest begins (rw (drop-drop 1 at text) l));
       only = λ others l built no_slash.
           let t = h.only others l built no_slash in
@@ -132,6 +136,7 @@ pub scanned_token : (text : List ℕ) (at : ℕ) (tokens : List Spanned) (one : 
 scanned_token text at tokens one size h k =
     record {
       within = let a = (token_size (drop at text) one size k).1 in let b = h.within in omega (arith, length-drop at text);
+      built = AreBuilt-append tokens (spanned one at (at + size) ∷ []) h.built (k.built, tt);
       lexed = λ rest l. rw (append_assoc tokens (spanned one at (at + size) ∷ []) rest) (h.lexed (spanned one at (at + size) ∷ rest) (lexes_token at (drop at text) one size rest k (rw (drop-drop size at text) l)));
       only = λ others l built no_slash.
           let t = h.only others l built no_slash in
@@ -163,6 +168,7 @@ scanned_end text at tokens h le =
     let none : drop at text ≡ [] = drop_all at text le in
     record {
       lexed = h.lexed (spanned End at at ∷ []) (rw none (ends at));
+      built = AreBuilt-append tokens (spanned End at at ∷ []) h.built (tt, tt);
       only = λ others l built no_slash.
           let t = h.only others l built no_slash in
           t.whole ∙ ap (λ l. tokens ++ l) (end_lexes at (drop at text) t.rest t.lexed none);

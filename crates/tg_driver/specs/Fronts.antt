@@ -87,6 +87,7 @@ HasNoSlash text = AllAre (λ b. not (b == 47)) text
 -- The tokens of a text: the only ones of the built form, where no byte is a `/`.
 pub record AreTokens (text : List ℕ) (tokens : List Spanned) : Type 0 where
   pub lexed : Lexes exit_alone 0 text tokens
+  pub built : AreBuilt tokens
   pub only : (others : List Spanned) → Lexes exit_alone 0 text others → AreBuilt others → HasNoSlash text → others ≡ tokens
 
 -- no tokens of the built form are those of the text

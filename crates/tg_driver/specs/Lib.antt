@@ -2,9 +2,11 @@ pub mod BuiltForm
 pub mod Values
 pub mod StackCode
 pub mod Fronts
+pub mod Changes
 pub mod Finishing
 pub mod Images
 pub mod Defaults
 pub mod Statuses
 pub mod Causes
 pub mod Descents
+pub mod Firsts

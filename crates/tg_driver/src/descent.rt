@@ -45,7 +45,7 @@ fn begins(token: &Token) -> Start
     }
 }
 
-fn closes(token: &Token) -> bool
+pub(crate) fn closes(token: &Token) -> bool
     ensures { IsTrue result ↔ (token.now ≡ SignOf RightParen) }
 {
     matches!(token, Token::Sign(Sign::RightParen))
@@ -62,7 +62,7 @@ fn operator(rank: Rank, token: &Token) -> Option<Op>
     }
 }
 
-fn joined(first: Span, last: Span) -> Span
+pub(crate) fn joined(first: Span, last: Span) -> Span
     ensures { result ≡ joined_span first last }
 {
     Span {
@@ -73,7 +73,7 @@ fn joined(first: Span, last: Span) -> Span
 
 /// The expression of a rank that the tokens begin with, and what is left of them.
 #[cycle(descent)]
-fn operands(
+pub(crate) fn operands(
     alloc: Global,
     rank: Rank,
     tokens: &[Spanned],

@@ -5,6 +5,8 @@
 mod answers;
 mod built;
 mod descent;
+mod nesting;
+mod reading;
 mod scanning;
 mod making;
 mod running;
