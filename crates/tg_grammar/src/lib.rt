@@ -1,0 +1,9 @@
+//! The theory of the grammar: descent by precedence as programs over the first token, and that each list of tokens
+//! has at most one tree.
+#![tactic(auto)]
+
+mod laws;
+mod marks;
+
+pub use laws::one_tree;
+pub use marks::Mark;

@@ -1,0 +1,9 @@
+use tg_syntax::{Sign, Word};
+
+/// A token that is known by itself.
+#[derive(Clone, Copy, Debug, PartialEq, Eq)]
+pub enum Mark {
+    OfSign(Sign),
+    OfWord(Word),
+    OfEnd,
+}
