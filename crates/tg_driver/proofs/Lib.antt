@@ -21,3 +21,4 @@ pub mod BuiltLemmas
 pub mod NestingSteps
 pub mod FirstLemmas
 pub mod BuiltTexts
+pub mod AnswerLemmas

@@ -10,6 +10,11 @@ mod reading;
 mod scanning;
 mod making;
 mod running;
+mod top;
 mod words;
 
 pub use answers::usage;
+pub use top::tiger;
+
+#[cfg(test)]
+mod tests;
