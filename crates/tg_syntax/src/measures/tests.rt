@@ -1,8 +1,11 @@
 use super::nodes;
-use crate::making::{binary, call, call_of_one, int, negate, sequence, sequence_of_one};
+use crate::making::{
+    assign, binary, break_out, call, call_of_one, field, fill, for_to, if_else, if_then, index,
+    int, let_in, make, negate, nil, read, sequence, sequence_of_one, text, while_do,
+};
 use crate::tokens::Ident;
 use crate::trees::{
-    Dec, Decs, Exp, Exps, Form, FunDec, FunDecs, Kind, Op, Param, Params, TypeDec, Var,
+    Dec, Exp, Exps, Form, FunDec, FunDecs, Init, Inits, Op, Param, Params, TypeDec, Var,
 };
 use std::alloc::Global;
 use std::test::Fail;
@@ -43,12 +46,8 @@ fn counts_an_argument(rt: HostRuntime) -> Result<(), Fail> {
 fn counts_lists(rt: HostRuntime) -> Result<(), Fail> {
     let empty = sequence(span(), Vec::new(rt.alloc()));
     assert_eq!(rt; nodes(&empty), 1, "()");
-    let read = Exp {
-        span: span(),
-        kind: Kind::Read(Var::Simple(ident(0))),
-    };
     let mut arguments = Vec::new(rt.alloc());
-    arguments.push(read)?;
+    arguments.push(read(span(), Var::Simple(ident(0))))?;
     arguments.push(empty)?;
     assert_eq!(rt; nodes(&call(span(), ident(0), arguments)), 4, "f(a, ())");
     Ok(())
@@ -94,19 +93,63 @@ fn counts_declarations(rt: HostRuntime) -> Result<(), Fail> {
     let alloc = rt.alloc();
     let mut items = Vec::new(alloc);
     items.push(record_type(alloc)?)?;
-    let nil = Exp {
-        span: span(),
-        kind: Kind::Nil,
-    };
-    items.push(Dec::Variable(ident(4), Some(ident(0)), nil))?;
+    items.push(Dec::Variable(ident(4), Some(ident(0)), nil(span())))?;
     items.push(function(alloc)?)?;
-    let body = Exps {
-        items: Vec::new(alloc),
-    };
-    let whole = Exp {
-        span: span(),
-        kind: Kind::Let(Decs { items }, body),
-    };
+    let whole = let_in(span(), items, Vec::new(alloc));
     assert_eq!(rt; nodes(&whole), 9, "1 and 4 and 2 and 2");
+    Ok(())
+}
+
+// A string, `break`, `a := 1`, `a.f` and `a[1]`.
+fn short_ones(alloc: Global) -> Result<Vec<Exp>, Memory> {
+    let mut items = Vec::new(alloc);
+    items.push(text(span(), ListOf::from_vec(Vec::new(alloc))))?;
+    items.push(break_out(span()))?;
+    let one = int(span(), 1);
+    items.push(assign(alloc, span(), Var::Simple(ident(0)), one)?)?;
+    let of_record = field(alloc, Var::Simple(ident(0)), ident(1))?;
+    items.push(read(span(), of_record))?;
+    let of_array = index(alloc, Var::Simple(ident(0)), int(span(), 1))?;
+    items.push(read(span(), of_array))?;
+    Ok(items)
+}
+
+// An `if` with `else` and without, both loops and an array, all of ints.
+fn long_ones(alloc: Global) -> Result<Vec<Exp>, Memory> {
+    let mut items = Vec::new(alloc);
+    items.push(if_then(alloc, span(), int(span(), 1), int(span(), 2))?)?;
+    items.push(if_else(
+        alloc,
+        span(),
+        int(span(), 1),
+        int(span(), 2),
+        int(span(), 3),
+    )?)?;
+    items.push(while_do(alloc, span(), int(span(), 1), int(span(), 2))?)?;
+    items.push(for_to(
+        alloc,
+        span(),
+        ident(0),
+        int(span(), 1),
+        int(span(), 2),
+        int(span(), 3),
+    )?)?;
+    items.push(fill(alloc, span(), ident(0), int(span(), 1), int(span(), 2))?)?;
+    Ok(items)
+}
+
+#[test]
+fn counts_each_kind(rt: HostRuntime) -> Result<(), Fail> {
+    let alloc = rt.alloc();
+    let short = sequence(span(), short_ones(alloc)?);
+    assert_eq!(rt; nodes(&short), 13, "1 and 1 and 1 and 3 and 3 and 4");
+    let long = sequence(span(), long_ones(alloc)?);
+    assert_eq!(rt; nodes(&long), 18, "1 and 3 and 4 and 3 and 4 and 3");
+    let mut inits = Vec::new(alloc);
+    inits.push(Init {
+        field: ident(1),
+        value: int(span(), 1),
+    })?;
+    assert_eq!(rt; nodes(&make(span(), ident(0), inits)), 3, "a record");
     Ok(())
 }
