@@ -4,6 +4,8 @@ use Rattle.tg_command.specs.Counts.{GivesCount, heap_limits, stack_limits, step_
 use Rattle.tg_command.specs.Modes.{name_of}
 use Rattle.tg_command.specs.Simple.{IsTaken, value_of}
 use Rattle.tg_command.specs.declared.Command.{Command}
+use Rattle.tg_command.specs.declared.CommandFault.{CommandFault}
+use Rattle.tg_command.specs.declared.CommandFault.TheVariants.{Usage, Memory}
 use Rattle.tg_command.specs.declared.modes.Mode.{Mode}
 
 -- what a command line can ask for: a mode, a file by its name, the bytes of heap and of stack, and the steps
@@ -34,3 +36,8 @@ pub data IsUsageFault (words : List (List ℕ)) : Type 0 where
   heap : ((n : ℕ) → GivesCount heap_limits (value_of (codes "heap") words) n → ⊥) → IsUsageFault words
   stack : ((n : ℕ) → GivesCount stack_limits (value_of (codes "stack") words) n → ⊥) → IsUsageFault words
   steps : ((n : ℕ) → GivesCount step_limits (value_of (codes "steps") words) n → ⊥) → IsUsageFault words
+
+-- what a fault says of the words; want of memory says nothing
+abbrev pub Blames : CommandFault → List (List ℕ) → Type 0
+Blames Usage words = IsUsageFault words
+Blames Memory words = Unit {0}

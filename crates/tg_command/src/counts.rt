@@ -1,6 +1,5 @@
 ghost use Rattle.std.specs.Prelude.{◌≡◌, ◌<◌, ℕ, IfNone, IfSome, option_map};
 ghost use Rattle.tg_command.specs.Counts.{GivesCount, IsCount};
-ghost use Rattle.tg_command.specs.Counts.{heap_limits, stack_limits, step_limits};
 
 /// The limits of a number: the least and the most, of what it is a multiple, and what stands for it where it is absent.
 #[derive(Clone, Copy, Debug)]
@@ -54,7 +53,8 @@ pub(crate) fn count(text: &str, limits: Limits) -> Option<u64>
 pub(crate) fn count_or_default(text: Option<&str>, limits: Limits) -> Option<u64>
     requires { 0 < limits.unit }
     ensures some { IfSome result (GivesCount limits (option_map (λ t. t.now) text.entry)) }
-    ensures none { IfNone result ((n : ℕ) → GivesCount limits (option_map (λ t. t.now) text.entry) n → ⊥) }
+    ensures none { IfNone result ((n : ℕ)
+        → GivesCount limits (option_map (λ t. t.now) text.entry) n → ⊥) }
 {
     match text {
         Some(text) => count(text, limits),

@@ -6,9 +6,9 @@ mod counts;
 mod modes;
 mod simple;
 
-ghost use Rattle.std.specs.Prelude.{◌≡◌, IfOk, IsErr, map, string_bytes};
+ghost use Rattle.std.specs.Prelude.{◌≡◌, IfErr, IfOk, IsErr, map, string_bytes};
 ghost use Rattle.tg_command.specs.declared.CommandFault.TheVariants.{Memory};
-ghost use Rattle.tg_command.specs.Commands.{Ask, IsUsageFault, asked_of};
+ghost use Rattle.tg_command.specs.Commands.{Ask, Blames, IsUsageFault, asked_of};
 ghost use Rattle.tg_command.specs.Counts.{IsWithin, heap_limits, stack_limits, step_limits};
 
 use counts::{HEAP, STACK, STEPS, count_or_default};
@@ -55,7 +55,7 @@ impl From<AllocError> for CommandFault {
 /// `Usage` is answered only at a usage fault, and a usage fault is never `Ok`; `Memory` may come in place of any answer.
 pub fn read_words(alloc: Global, words: &[String]) -> Result<Command, CommandFault>
     ensures ok { IfOk result (λ c. Ask (map string_bytes words.now) (asked_of c)) }
-    ensures usage { result ≡ Err CommandFault.Usage → IsUsageFault (map string_bytes words.now) }
+    ensures usage { IfErr result (λ fault. Blames fault (map string_bytes words.now)) }
     ensures fault { IsUsageFault (map string_bytes words.now) → IsErr result }
     ensures heap { IfOk result (λ c. IsWithin heap_limits c.heap) }
     ensures stack { IfOk result (λ c. IsWithin stack_limits c.stack) }
