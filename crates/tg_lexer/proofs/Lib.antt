@@ -1,0 +1,11 @@
+pub mod Basics
+pub mod Closings
+pub mod Escapings
+pub mod Quotings
+pub mod EscapeSteps
+pub mod StringSteps
+pub mod Numerals
+pub mod SignSteps
+pub mod Readings
+pub mod Interning
+pub mod Scans

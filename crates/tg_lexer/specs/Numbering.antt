@@ -1,0 +1,33 @@
+-- How the names of a text are numbered.
+use Rattle.std.specs.Prelude.{ℕ, ◌-◌, List, [], ◌∷◌, ◌++◌, take, drop, cond, fold, Result, Ok, Err}
+use Rattle.tg_base.specs.Interned.{is_among}
+use Rattle.tg_base.specs.declared.ids.Span.{Span}
+use Rattle.tg_syntax.specs.declared.tokens.Token.{Token}
+use Rattle.tg_syntax.specs.declared.tokens.Token.TheVariants.{Ident}
+use Rattle.tg_syntax.specs.declared.tokens.Spanned.{Spanned}
+use Rattle.tg_lexer.specs.declared.faults.LexFault.{LexFault}
+use Rattle.tg_lexer.specs.declared.fronts.Front.{Front}
+use Rattle.tg_lexer.specs.declared.fronts.Front.TheVariants.{One}
+
+-- a text that isn't among the names goes last
+abbrev pub named : List (List ℕ) → List ℕ → List (List ℕ)
+named names text = cond (is_among text names) names (names ++ text ∷ [])
+
+-- one text after the other
+abbrev pub all_named : List (List ℕ) → List (List ℕ) → List (List ℕ)
+all_named names texts = fold named names texts
+
+-- the text of a token, where it is an identifier
+abbrev pub ident_text : List ℕ → Token → Span → List (List ℕ)
+ident_text text (Ident n) span = take (span.to - span.from) (drop span.from text) ∷ []
+ident_text text _ span = []
+
+-- the texts of the identifiers among tokens, in order
+abbrev pub idents : List ℕ → List Spanned → List (List ℕ)
+idents text [] = []
+idents text (t ∷ tokens) = ident_text text t.token t.span ++ idents text tokens
+
+-- the names after a front of the text is read
+abbrev pub names_after : List (List ℕ) → List ℕ → Result Front LexFault → List (List ℕ)
+names_after names text (Ok (One (Ident n) size)) = named names (take size text)
+names_after names text _ = names

@@ -1,0 +1,19 @@
+//! The lexer of Tiger (Appel, chapter 2 and appendix A): a text's tokens, or its first lexical fault.
+//! Promises that the tokens are those of the token relation, that the fault is the first one in reading from the
+//! front, and that names keep their places. The relations stand in `specs/` of `tg_syntax`.
+#![tactic(auto)]
+
+mod bytes;
+mod comments;
+mod escapes;
+mod faults;
+mod fronts;
+mod ints;
+mod lexing;
+mod signs;
+mod strings;
+mod words;
+
+pub use faults::LexFault;
+pub use lexing::lex;
+pub use tg_syntax::LexRule;
