@@ -1,10 +1,10 @@
 -- The required arguments of the simple command have values.
-use Rattle.std.proofs.Common.{◌≡◌, ◌∙◌, ◌<◌, ℕ, zero, suc, List, [], ◌∷◌, Some, None, true, false, refl, sym, ap, subst, arith, codes, length, is_some, inl, inr, slice_index}
+use Rattle.std.proofs.Common.{◌≡◌, ◌∙◌, ◌<◌, ℕ, zero, suc, List, [], ◌∷◌, true, false, refl, sym, ap, subst, arith, codes, length, is_some, inl, inr, slice_index}
 use Rattle.std.specs.List.{All, slice_index_or, position_or_len}
 use Rattle.std.specs.Str.{bytes_eq}
 use Rattle.std.proofs.lemmas.Slice.Eq.{bytes_eq-Decides}
 use Rattle.clap.specs.Words.{AddsArg, AddsInTurn, IsParsedFrom, Rule, Text, args_of, first_value, found_of, groups_of}
-use Rattle.clap.specs.Built.{FitsChain, HasDistinctIds, IsAuto, TakesValue}
+use Rattle.clap.specs.Built.{FitsChain, HasDistinctIds, TakesValue}
 use Rattle.clap.specs.declared.builder.arg.Arg.{Arg}
 use Rattle.clap.specs.declared.builder.command.Command.{Command}
 use Rattle.clap.specs.declared.builder.command.Command.TheViews.{out-Command as fields_of}

@@ -1,12 +1,12 @@
-use Rattle.std.proofs.Common.{◌≡◌, ◌∙◌, List, [], false, refl, ap, ap₂, codes, true}
+use Rattle.std.proofs.Common.{◌≡◌, ◌∙◌, refl, ap, ap₂, codes, true}
 use Rattle.std.proofs.lemmas.Result.{IfOk-weaker}
-use Rattle.clap.specs.Words.{App, AddsArg, AddsInTurn, app_of, args_of, groups_of, new_app, rule_of, with_rule}
+use Rattle.clap.specs.Words.{app_of, new_app, with_rule}
 use Rattle.clap.specs.Simple.{app_of_fields}
 use Rattle.clap.specs.declared.builder.command.Command.{Command}
 use Rattle.clap.specs.declared.builder.command.Command.TheViews.{out-Command as fields_of}
 use Rattle.clap.specs.declared.builder.command.Command.TheOpen.{Command-F}
-use Rattle.tg_command.specs.Simple.{positional, option, without_flags}
-use Rattle.tg_command.proofs.ArgumentLemmas.{chain, file_given, mode_given}
+use Rattle.tg_command.specs.Simple.{without_flags}
+use Rattle.tg_command.proofs.ArgumentLemmas.{file_given, mode_given}
 use Rattle.tg_command.proofs.simple.command.Goals as goal
 
 pub returns-clause-app : goal.returns-clause-app

@@ -1,6 +1,6 @@
-use Rattle.std.proofs.Common.{◌≡◌, ◌∙◌, List, [], sym, ap, refl, codes, true, map, option_map, string_bytes, Option, Some, ℕ}
+use Rattle.std.proofs.Common.{◌≡◌, ◌∙◌, List, sym, ap, codes, map, option_map, string_bytes, Option}
 use Rattle.std.specs.Borrow.{Bor}
-use Rattle.clap.specs.Words.{Text, app_of, first_of, first_value, found_of, is_simple, is_simple_and_free, fault_of, matches_of, rows_of}
+use Rattle.clap.specs.Words.{Text, first_of, first_value, found_of, is_simple, is_simple_and_free, fault_of, matches_of, rows_of}
 use Rattle.clap.proofs.WalkLemmas.{first_value-rows}
 use Rattle.tg_command.specs.Simple.{IsTaken, simple_command, value_of}
 use Rattle.tg_command.proofs.simple.take_words.Goals as goal
