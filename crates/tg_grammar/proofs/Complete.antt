@@ -211,7 +211,7 @@ more : (k : Level) (l r : Exp) (t : Spanned) (o : Op) (s x : List Spanned) (e : 
 more k l r t o s x e z n d h g =
     test_no (After k l) n (oper_yes (After k l) o d (call_got (After k l) (At (below k)) h (call_got (After k l) (After k (binary o t.span.from l r)) g (give_got (After k l)))))
 
-abbrev IsChain : Level → Type 0
+abbrev pub IsChain : Level → Type 0
 IsChain Disjunction = Unit {0}
 IsChain Conjunction = Unit {0}
 IsChain Sum = Unit {0}

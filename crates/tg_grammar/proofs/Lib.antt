@@ -1,2 +1,5 @@
 pub mod Runs
 pub mod Complete
+pub mod Sound
+pub mod ValidJobs
+pub mod Exact

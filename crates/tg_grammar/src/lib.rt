@@ -5,5 +5,5 @@
 mod laws;
 mod marks;
 
-pub use laws::one_tree;
+pub use laws::{descent_is_exact, one_tree};
 pub use marks::Mark;
