@@ -9,3 +9,5 @@ pub mod SignSteps
 pub mod Readings
 pub mod Interning
 pub mod Scans
+pub mod Onces
+pub mod Excludes

@@ -97,7 +97,7 @@ quote_first : (text : List ℕ) → BeginsQuote text → text ≡ 34 ∷ drop 1 
 quote_first [] h = absurd h
 quote_first (b ∷ text) h = ap (λ x. x ∷ text) (eqb-true b 34 h)
 
-form_quoted : {xs : List ℕ} → HasTokenForm xs → (bytes : List ℕ) → xs ≡ 34 ∷ bytes → (inside : List ℕ) × (meant : List ℕ) × IsQuoted inside meant × (bytes ≡ inside ++ 34 ∷ [])
+pub form_quoted : {xs : List ℕ} → HasTokenForm xs → (bytes : List ℕ) → xs ≡ 34 ∷ bytes → (inside : List ℕ) × (meant : List ℕ) × IsQuoted inside meant × (bytes ≡ inside ++ 34 ∷ [])
 form_quoted (name [] h) bytes e = absurd h
 form_quoted (name (b ∷ more) h) bytes e = absurd (apart is_letter 34 b refl h.0 (sym (head_is e)))
 form_quoted (sign s) bytes e = absurd (clash refl (sym (ap (begins is_mark) e) ∙ sign_mark s))

@@ -9,11 +9,13 @@ mod escapes;
 mod faults;
 mod fronts;
 mod ints;
+mod laws;
 mod lexing;
 mod signs;
 mod strings;
 mod words;
 
 pub use faults::LexFault;
+pub use laws::{fault_excludes_tokens, lexes_once};
 pub use lexing::lex;
 pub use tg_syntax::LexRule;
