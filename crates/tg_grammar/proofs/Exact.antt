@@ -24,7 +24,7 @@ no_rest : {C : Type 0} (a : List Spanned) (t : Spanned) (s : List Spanned) → a
 no_rest [] t s h = cc
 no_rest (x ∷ a) t s h = cc
 
-end_alone : (a b : List Spanned) (t e : Spanned) (s : List Spanned) → t.token ≡ End → HasNoEnd b → a ++ t ∷ s ≡ b ++ e ∷ [] → s ≡ []
+pub end_alone : (a b : List Spanned) (t e : Spanned) (s : List Spanned) → t.token ≡ End → HasNoEnd b → a ++ t ∷ s ≡ b ++ e ∷ [] → s ≡ []
 end_alone [] [] t e s q k h = rest_is h
 end_alone [] (x ∷ b) t e s q k h = absurd (k.0 (ap (λ w. w.token) (sym (head_is h)) ∙ q))
 end_alone (x ∷ a) [] t e s q k h = no_rest a t s (rest_is h)

@@ -3,3 +3,4 @@ pub mod Complete
 pub mod Sound
 pub mod ValidJobs
 pub mod Exact
+pub mod NoEnd

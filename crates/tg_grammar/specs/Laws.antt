@@ -37,3 +37,7 @@ RefusesFirst =
 -- where more is wanted, some program begins so
 abbrev pub WantsMore : Type 0
 WantsMore = (tokens : List Spanned) → Does Whole_program whole_program tokens Out → Begins tokens
+
+-- and never behind the one end of a list
+abbrev pub EndsAlways : Type 0
+EndsAlways = (tokens : List Spanned) → EndsOnce tokens → Does Whole_program whole_program tokens Out → ⊥

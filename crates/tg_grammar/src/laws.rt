@@ -4,6 +4,7 @@ ghost use Rattle.tg_grammar.specs.Laws.{
   ReadsPrograms,
   RefusesFirst,
   WantsMore,
+  EndsAlways,
 };
 
 /// A law: each list of tokens is the program of at most one tree.
@@ -17,4 +18,5 @@ pub fn descent_is_exact()
     ensures programs { ReadsPrograms }
     ensures first { RefusesFirst }
     ensures more { WantsMore }
+    ensures ends { EndsAlways }
 {}

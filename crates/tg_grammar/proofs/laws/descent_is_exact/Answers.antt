@@ -1,5 +1,6 @@
 use Rattle.tg_grammar.proofs.Complete.{complete_program}
 use Rattle.tg_grammar.proofs.Exact.{got_is, bad_is, out_is}
+use Rattle.tg_grammar.proofs.NoEnd.{not_out}
 use Rattle.tg_grammar.proofs.laws.descent_is_exact.Goals as goal
 
 pub returns-clause-each : goal.returns-clause-each
@@ -13,3 +14,6 @@ returns-clause-first c = bad_is
 
 pub returns-clause-more : goal.returns-clause-more
 returns-clause-more c = out_is
+
+pub returns-clause-ends : goal.returns-clause-ends
+returns-clause-ends c = not_out
