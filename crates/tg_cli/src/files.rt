@@ -1,0 +1,116 @@
+ghost use Rattle.std.specs.Prelude.{◌≡◌, ◌≢◌, ◌≤◌, ℕ, List, length, IfOk, IsErrOf};
+ghost use Rattle.std.specs.declared.option.Option.TheVariants.{None};
+ghost use Rattle.tg_base.specs.Causes.{Rose};
+ghost use Rattle.tg_base.specs.Counts.{counted};
+ghost use Rattle.tg_base.specs.Files.{IsFrontOf};
+
+use std::alloc::Global;
+use std::fs;
+use std::io::Read;
+use std::marker::Model;
+use std::rt::Files;
+use tg_base::{Shelf, ShelfFault};
+
+/// The files of the system, which contracts see as the count of faults, for every name that of all.
+///
+/// Each error in opening or reading a file is a fault.
+#[derive(Drop)]
+pub struct FileShelf<'a, R: Files> {
+    rt: &'a R,
+    faults: u64,
+}
+
+impl<'a, R: Files> Model for FileShelf<'a, R> {
+    ghost use Rattle.std.specs.Prelude.{ℕ};
+
+    ghost Value = { ℕ };
+
+    ghost view = { λ s. s.faults };
+}
+
+impl<'a, R: Files> FileShelf<'a, R> {
+    pub fn new(rt: &'a R) -> FileShelf<'a, R>
+        ensures { result ≡ 0 }
+    {
+        FileShelf { rt, faults: 0 }
+    }
+}
+
+impl<'a, R: Files> Shelf for FileShelf<'a, R>
+where
+    R::File: Read + Drop,
+{
+    ghost files = { λ _. None };
+
+    ghost faults = { λ s _. s };
+
+    fn read_file(&mut self, alloc: Global, name: &str, most: usize) -> Result<Vec<u8>, ShelfFault>
+        ensures later { self.old ≤ self.new }
+        ensures cause { IsErrOf result ShelfFault.Failed → Rose self.old self.new }
+        ensures bound { IfOk result (λ v. length v.items ≤ most) }
+        ensures front { IfOk result (λ v. IsFrontOf None name.now most v.items) }
+        ensures failed { result ≡ Err ShelfFault.Failed → self.new ≡ counted self.old }
+        ensures unfailed { result ≢ Err ShelfFault.Failed → self.new ≡ self.old }
+    {
+        let front = match fs::open(self.rt, name) {
+            Ok(mut file) => read_front(alloc, &mut file, most),
+            Err(_) => Err(ShelfFault::Failed),
+        };
+        if let Err(ShelfFault::Failed) = front {
+            self.faults = self.faults.saturating_add(1);
+        }
+        front
+    }
+}
+
+/// The first `most` bytes that a reader gives, or all where it ends before.
+fn read_front<F: Read>(alloc: Global, file: &mut F, most: usize) -> Result<Vec<u8>, ShelfFault>
+    ensures { IfOk result (λ v. length v.items ≤ most) }
+{
+    let mut front = Vec::new(alloc);
+    let mut piece = [0; 4096];
+    while front.len() < most {
+        let room = (most - front.len()).min(piece.len());
+        match file.read(&mut piece[..room]) {
+            Ok(0) => break,
+            Ok(count) => {
+                if front.extend_from_slice(&piece[..count]).is_err() {
+                    return Err(ShelfFault::Memory);
+                }
+            }
+            Err(_) => return Err(ShelfFault::Failed),
+        }
+    }
+    Ok(front)
+}
+
+#[cfg(test)]
+mod tests {
+    use super::*;
+    use std::process;
+    use std::test::Fail;
+
+    #[test]
+    fn files_count_their_faults(rt: HostRuntime) -> Result<(), Fail> {
+        let alloc = rt.alloc();
+        let id = process::id(rt.process());
+        let name = format!(in alloc; "/tmp/tiger_shelf_{id}")?;
+        fs::write(&rt, name.as_str(), b"exit(3)".as_slice())?;
+        let mut shelf = FileShelf::new(&rt);
+        let Ok(front) = shelf.read_file(alloc, &name, 4) else {
+            return Err(Fail::from("the front of a file"));
+        };
+        let Ok(all) = shelf.read_file(alloc, &name, 8) else {
+            return Err(Fail::from("a whole file"));
+        };
+        fs::remove_file(&rt, name.as_str())?;
+        assert_eq!(rt; front.as_slice(), b"exit".as_slice());
+        assert_eq!(rt; all.as_slice(), b"exit(3)".as_slice());
+        assert_eq!(rt; shelf.faults, 0);
+
+        let missing = shelf.read_file(alloc, &name, 8);
+        assert!(rt; matches!(missing, Err(ShelfFault::Failed)));
+        assert_eq!(rt; shelf.faults, 1);
+        Ok(())
+    }
+}

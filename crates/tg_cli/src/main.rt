@@ -1,0 +1,70 @@
+//! The program: the top call over the real files, standard input, standard output and standard error.
+//! Promises to end with the top call's answer. Its adapters are proved to meet their traits, and tell
+//! nothing of what the system's files hold.
+#![tactic(auto)]
+
+ghost use Rattle.std.specs.Prelude.{◌≡◌, ◌≢◌};
+ghost use Rattle.std.specs.IoError.{error_kind};
+ghost use Rattle.std.specs.Io.KnownBytes.{Appends};
+ghost use Rattle.tg_cli.specs.Ends.{EndsWith};
+
+mod files;
+mod readers;
+mod writers;
+
+use files::FileShelf;
+use readers::ReaderSource;
+use std::env;
+use std::io::{self, ErrorKind};
+use std::process::ExitCode;
+use tg_base::{Sink, write_all};
+use tg_driver::{tiger, usage};
+use writers::WriterSink;
+
+fn main(rt: HostRuntime) -> ExitCode {
+    ExitCode::from(status(&rt))
+}
+
+/// Reads the words, and hands them with the real outside to the top call.
+fn status(rt: &HostRuntime) -> u8 {
+    let alloc = rt.alloc();
+    let mut err = WriterSink::new(rt.stderr());
+    let words = match env::args(rt) {
+        Ok(words) => words.collect::<Vec<String>>(alloc),
+        Err(error) => return without_words(&mut err, error),
+    };
+    let Ok(words) = words else {
+        return refusal(&mut err, OUT_OF_MEMORY, 70);
+    };
+    let mut shelf = FileShelf::new(rt);
+    let mut input = ReaderSource::new(rt.stdin());
+    let mut out = WriterSink::new(rt.stdout());
+    tiger(alloc, &words, &mut shelf, &mut input, &mut out, &mut err)
+}
+
+const OUT_OF_MEMORY: &str = "tiger: out of memory\n";
+
+/// Ends a program whose words can't be read: for want of memory, or since one isn't UTF-8.
+fn without_words<E: Sink>(err: &mut E, error: io::Error) -> u8
+    ensures memory { error_kind error ≡ ErrorKind.OutOfMemory
+        → EndsWith 70 (E.faults err.old) (E.faults err.new) result }
+    ensures words { error_kind error ≢ ErrorKind.OutOfMemory
+        → EndsWith 64 (E.faults err.old) (E.faults err.new) result }
+{
+    if error.kind() == ErrorKind::OutOfMemory {
+        refusal(err, OUT_OF_MEMORY, 70)
+    } else {
+        refusal(err, usage(), 64)
+    }
+}
+
+/// Writes the line of a status, and answers the status, or 74 where the line can't be written.
+fn refusal<E: Sink>(err: &mut E, line: &str, status: u8) -> u8
+    ensures status { EndsWith status (E.faults err.old) (E.faults err.new) result }
+    ensures line { result ≢ 74 → Appends (E.taken err.old) (E.taken err.new) line.now }
+{
+    match write_all(err, line.as_bytes()) {
+        Ok(()) => status,
+        Err(_) => 74,
+    }
+}
