@@ -22,3 +22,4 @@ pub mod NestingSteps
 pub mod FirstLemmas
 pub mod BuiltTexts
 pub mod AnswerLemmas
+pub mod ValueExamples
