@@ -43,10 +43,13 @@ reads_built (unary_parens {a = a} t u e h f) = (token_built t.token (kind.Sign L
 
 pub first_built : (tokens : List Spanned) (program e : Exp) → IsFirst tokens program e → AreBuilt tokens
 first_built tokens program e h =
-    rw h.whole
-    (token_built h.name.token (kind.Ident (record { 0 = 0 })) h.name_is tt,
-    (token_built h.left.token (kind.Sign LeftParen) h.left_is tt,
-    AreBuilt-append h.inside (h.right ∷ h.end ∷ []) (reads_built h.reads) (token_built h.right.token (kind.Sign RightParen) h.right_is tt, (token_built h.end.token kind.End h.end_is tt, tt))))
+    rw h.whole (
+      token_built h.name.token (kind.Ident (record { 0 = 0 })) h.name_is tt,
+      (
+        token_built h.left.token (kind.Sign LeftParen) h.left_is tt,
+        AreBuilt-append h.inside (h.right ∷ h.end ∷ []) (reads_built h.reads) (token_built h.right.token (kind.Sign RightParen) h.right_is tt, (token_built h.end.token kind.End h.end_is tt, tt)),
+      ),
+    )
 
 -- Each int is at most 2147483647.
 abbrev IsSmall : Token → Type 0
@@ -75,23 +78,17 @@ AreSmall_right : (a b : List Spanned) → AreSmall (a ++ b) → AreSmall b
 AreSmall_right [] b h = h
 AreSmall_right (t ∷ a) b h = AreSmall_right a b h.1
 
+some_one : {a b : Op} → Some a ≡ Some b → a ≡ b
+some_one x = cc
+
 -- the operators
 sum_op-arithmetic : (t : Token) (o : Op) → sum_op t ≡ Some o → IsArithmetic o
 sum_op-arithmetic (kind.Sign Plus) o h = subst (λ x. IsArithmetic x) (some_one h) tt
-  where
-    some_one : {a b : Op} → Some a ≡ Some b → a ≡ b
-    some_one x = cc
 sum_op-arithmetic (kind.Sign Minus) o h = subst (λ x. IsArithmetic x) (some_one h) tt
-  where
-    some_one : {a b : Op} → Some a ≡ Some b → a ≡ b
-    some_one x = cc
 sum_op-arithmetic _ o h = none_some h
 
 term_op-arithmetic : (t : Token) (o : Op) → term_op t ≡ Some o → IsArithmetic o
 term_op-arithmetic (kind.Sign Times) o h = subst (λ x. IsArithmetic x) (some_one h) tt
-  where
-    some_one : {a b : Op} → Some a ≡ Some b → a ≡ b
-    some_one x = cc
 term_op-arithmetic _ o h = none_some h
 
 reads_has_form : {k : Level} {tokens : List Spanned} {e : Exp} → Reads k tokens e → AreSmall tokens → HasBuiltForm e

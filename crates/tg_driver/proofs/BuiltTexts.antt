@@ -49,14 +49,15 @@ too_large text tokens body found first great program e h =
     omega arith
 
 pub is_built : (text : List ℕ) (tokens : List Spanned) (body : Exp) → length text ≤ 262144 → HasNoSlash text → AreTokens text tokens → NestsWithin 256 (0 ∷ []) tokens → IsOnlyFirst tokens body → capped (size body) ≤ 4096 → (e : Exp) × IsBuilt text body e
-is_built text tokens body short no_slash found nested first small =
-    (first.argument,
-     record {
-       short = short;
-       tokens = tokens;
-       lexed = found.lexed;
-       no_comment = no_slash;
-       first = first.first;
-       nested = nested;
-       small = omega arith
-     })
+is_built text tokens body short no_slash found nested first small = (
+  first.argument,
+  record {
+    short = short;
+    tokens = tokens;
+    lexed = found.lexed;
+    no_comment = no_slash;
+    first = first.first;
+    nested = nested;
+    small = omega arith;
+  },
+)

@@ -45,9 +45,9 @@ first_read k tokens left rest h only =
     record {
       read = record { front = h.front; whole = h.whole; reads = reads_up k h.reads };
       only = λ e end read stops.
-        let f = first_operand k tokens e end read stops in
-        let same = only f.first (f.next ++ end) f.read f.stops in
-        record { next = f.next; whole = same.1; follows = rw same.0 f.follows }
+          let f = first_operand k tokens e end read stops in
+          let same = only f.first (f.next ++ end) f.read f.stops in
+          record { next = f.next; whole = same.1; follows = rw same.0 f.follows };
     }
 
 -- the next one
@@ -60,15 +60,15 @@ pub next_read : (k : Rank) (tokens : List Spanned) (left : Exp) (rest : List Spa
 next_read k tokens left rest t o after right behind e on w op h only is =
     rw is (record {
       read =
-        record {
-          front = on.read.front ++ t ∷ h.front;
-          whole = on.read.whole ∙ ap (λ x. on.read.front ++ x) (w ∙ ap (λ x. t ∷ x) h.whole) ∙ sym (append_assoc on.read.front (t ∷ h.front) behind);
-          reads = reads_more k t o on.read.reads op h.reads
-        };
+          record {
+            front = on.read.front ++ t ∷ h.front;
+            whole = on.read.whole ∙ ap (λ x. on.read.front ++ x) (w ∙ ap (λ x. t ∷ x) h.whole) ∙ sym (append_assoc on.read.front (t ∷ h.front) behind);
+            reads = reads_more k t o on.read.reads op h.reads;
+          };
       only = λ x end read stops.
-        let n = next_operand k left t o after x end op (subst (λ y. GoesOn k left y x end) w (on.only x end read stops)) stops in
-        let same = only n.right (n.next ++ end) n.read n.stops in
-        record { next = n.next; whole = same.1; follows = rw same.0 n.follows }
+          let n = next_operand k left t o after x end op (subst (λ y. GoesOn k left y x end) w (on.only x end read stops)) stops in
+          let same = only n.right (n.next ++ end) n.read n.stops in
+          record { next = n.next; whole = same.1; follows = rw same.0 n.follows };
     })
 
 -- and none more

@@ -55,7 +55,7 @@ parts tokens name left inside program e w h =
       read = record { front = h.inside; whole = same_inside; reads = h.reads };
       right_is = h.right_is;
       end_is = h.end_is;
-      program_is = h.program_is ∙ ap (λ t. Call (joined t.span h.right.span) (record { name = record { 0 = 0 }; span = t.span }) (exp e no_exps)) same_name
+      program_is = h.program_is ∙ ap (λ t. Call (joined t.span h.right.span) (record { name = record { 0 = 0 }; span = t.span }) (exp e no_exps)) same_name;
     }
 
 -- there is no program without them
@@ -95,7 +95,7 @@ behind tokens name left inside found rest w only program e h =
       rest_is = same.1;
       right_is = p.right_is;
       end_is = p.end_is;
-      program_is = p.program_is ∙ ap (λ x. Call (joined name.span p.right.span) (record { name = record { 0 = 0 }; span = name.span }) (exp x no_exps)) (sym same.0)
+      program_is = p.program_is ∙ ap (λ x. Call (joined name.span p.right.span) (record { name = record { 0 = 0 }; span = name.span }) (exp x no_exps)) (sym same.0);
     }
 
 pub no_two : (tokens : List Spanned) (name left : Spanned) (inside : List Spanned) (found : Exp) (rest : List Spanned) → tokens ≡ name ∷ left ∷ inside → IsOnly Sum inside found rest → (length rest ≡ 2 → ⊥) → HasNoFirst tokens
@@ -119,22 +119,22 @@ is_first tokens name left inside found rest right end program w name_is left_is 
     record {
       argument = found;
       first =
-        record {
-          name = name;
-          left = left;
-          inside = read.front;
-          right = right;
-          end = end;
-          whole = w ∙ ap (λ x. name ∷ left ∷ x) (read.whole ∙ ap (λ x. read.front ++ x) v);
-          name_is = name_is;
-          left_is = left_is;
-          reads = read.reads;
-          right_is = right_is;
-          end_is = end_is;
-          program_is = made
-        };
+          record {
+            name = name;
+            left = left;
+            inside = read.front;
+            right = right;
+            end = end;
+            whole = w ∙ ap (λ x. name ∷ left ∷ x) (read.whole ∙ ap (λ x. read.front ++ x) v);
+            name_is = name_is;
+            left_is = left_is;
+            reads = read.reads;
+            right_is = right_is;
+            end_is = end_is;
+            program_is = made;
+          };
       only = λ other e h.
-        let b = behind tokens name left inside found rest w only other e h in
-        let same : b.right ≡ right = cc (sym v ∙ b.rest_is) in
-        b.program_is ∙ ap (λ t. Call (joined name.span t.span) (record { name = record { 0 = 0 }; span = name.span }) (exp found no_exps)) same ∙ sym made
+          let b = behind tokens name left inside found rest w only other e h in
+          let same : b.right ≡ right = cc (sym v ∙ b.rest_is) in
+          b.program_is ∙ ap (λ t. Call (joined name.span t.span) (record { name = record { 0 = 0 }; span = name.span }) (exp found no_exps)) same ∙ sym made;
     }

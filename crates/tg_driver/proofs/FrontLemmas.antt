@@ -89,11 +89,12 @@ exit_token text h =
       size_is = refl;
       spells = ((refl, (refl, (refl, (refl, tt)))), word_other, refl);
       longest = longest;
-      built = tt
+      built = tt;
     }
   where
     word_other : (w : Word) → codes "exit" ≢ word_text w
     word_other w e = clash (word_ex w) (sym (ap begins_ex e))
+
     longest : IsLongest (codes "exit") h.rest
     longest [] after w ne form = ne refl
     longest (c ∷ more) after w ne form = h.ends c (more ++ after) w (letter_form 101 (120 ∷ 105 ∷ 116 ∷ c ∷ more) refl refl refl form).1.1.1.0
@@ -108,7 +109,7 @@ token_exit text n size h =
     record {
       rest = h.rest;
       whole = h.whole ∙ ap (λ l. l ++ h.rest) e;
-      ends = λ b after w is_name. h.longest (b ∷ []) after w (λ f. cc) (subst (λ l. HasTokenForm (l ++ b ∷ [])) (sym e) (exit_form b is_name))
+      ends = λ b after w is_name. h.longest (b ∷ []) after w (λ f. cc) (subst (λ l. HasTokenForm (l ++ b ∷ [])) (sym e) (exit_form b is_name));
     }
 
 -- a text by its first byte
@@ -127,12 +128,13 @@ token_int text value size h =
       digits = digits_all h.bytes h.spells.0;
       value_is = h.spells.1;
       fits = h.spells.2;
-      longest = λ b after w d. h.longest (b ∷ []) after w (λ f. cc) (digits (h.bytes ++ b ∷ []) (digits_more h.bytes b h.spells.0 d))
+      longest = λ b after w d. h.longest (b ∷ []) after w (λ f. cc) (digits (h.bytes ++ b ∷ []) (digits_more h.bytes b h.spells.0 d));
     }
   where
     digits_all : (bytes : List ℕ) → IsDigits bytes → AllAre is_digit bytes
     digits_all [] d = absurd d
     digits_all (x ∷ bytes) d = d
+
     digits_more : (bytes : List ℕ) (b : ℕ) → IsDigits bytes → IsTrue (is_digit b) → IsDigits (bytes ++ b ∷ [])
     digits_more [] b d e = absurd d
     digits_more (x ∷ bytes) b d e = (d.0, AllAre-append is_digit bytes (b ∷ []) d.1 (e, tt))
@@ -191,12 +193,14 @@ exit_then text b r w lt here e = (names r e, not_name r e)
   where
     next : drop 4 text ≡ b ∷ drop 5 text
     next = drop_more text 4 0 lt ∙ ap (λ x. x ∷ drop 5 text) (sym here)
+
     names : (r : Bool) → r ≡ is_name_byte b → IsTrue (not r) → NamesExit text
     names r e h = record { rest = drop 4 text; whole = w; ends = λ c after f n. let same : b ≡ c = cc (next) in no r (e ∙ ap is_name_byte same ∙ n) h }
       where
         no : (r : Bool) → r ≡ true → not r ≡ true → ⊥
         no true x y = cc
         no false x y = cc
+
     not_name : (r : Bool) → r ≡ is_name_byte b → NamesExit text → IsTrue (not r)
     not_name false e h = refl
     not_name true e h = absurd (h.ends b (drop 5 text) (sym (ap (drop 4) h.whole) ∙ next) (sym e))

@@ -63,7 +63,7 @@ int_is text value size h longest =
       digits = h.digits;
       value_is = h.value_is;
       fits = h.fits;
-      longest = longest
+      longest = longest;
     }
 
 pub int_end : (text : List ℕ) (value size : ℕ) → ReadsInt text value size → length text ≤ size → IsInt text value size

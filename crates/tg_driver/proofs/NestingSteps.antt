@@ -30,16 +30,18 @@ nested_more tokens index counts after t h lt e f small =
       small = small;
       onward = λ n. let k = subst (λ x. NestsWithin 256 counts x) here (h.onward n) in subst (λ x. NestsWithin 256 x (drop (index + 1) tokens)) f k.1;
       back = λ n. h.back (rw here (rw f (small, n)));
-      built = (subst (λ x. AreBuilt x) here h.built).1
+      built = (subst (λ x. AreBuilt x) here h.built).1;
     }
 
 pub nested_over : (tokens : List Spanned) (index : ℕ) (counts after : List ℕ) (t : Spanned) → Nested tokens index counts → index < length tokens → t ≡ get_or tokens index t → after_token t.token counts ≡ after → 256 < nesting_of after → IsTrue false ↔ NestsWithin 256 (0 ∷ []) tokens
-nested_over tokens index counts after t h lt e f great =
-    (λ x. absurd (differ x),
-     λ n. let k = subst (λ x. NestsWithin 256 counts x) (at_index tokens index t lt e) (h.onward n) in absurd (too_great (subst (λ x. nesting_of x ≤ 256) f k.0)))
+nested_over tokens index counts after t h lt e f great = (
+  λ x. absurd (differ x),
+  λ n. let k = subst (λ x. NestsWithin 256 counts x) (at_index tokens index t lt e) (h.onward n) in absurd (too_great (subst (λ x. nesting_of x ≤ 256) f k.0)),
+)
   where
     differ : false ≡ true → ⊥
     differ x = cc
+
     too_great : nesting_of after ≤ 256 → ⊥
     too_great le = omega arith
 

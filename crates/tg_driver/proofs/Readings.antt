@@ -54,7 +54,7 @@ begins_more k {b = b} t o h e g =
       first = h.first;
       whole = ap (λ x. x ++ t ∷ b) h.whole ∙ append_assoc h.front h.rest (t ∷ b);
       reads = h.reads;
-      follows = follows_snoc k t o h.follows e g
+      follows = follows_snoc k t o h.follows e g;
     }
 
 begins_sum : {a : List Spanned} {e : Exp} → Reads Sum a e → Begins rank.Sum a e
@@ -125,7 +125,7 @@ first_operand k tokens e end h stops =
       next = b.rest;
       read = record { front = b.front; whole = h.whole ∙ ap (λ x. x ++ end) b.whole ∙ append_assoc b.front b.rest end; reads = b.reads };
       stops = follows_stops k end b.follows stops;
-      follows = b.follows
+      follows = b.follows;
     }
 
 -- at an operator the next operand is read
@@ -150,7 +150,7 @@ next_operand k left t o after e end op h stops = by h.follows h.whole
           next = v;
           read = record { front = b; whole = tail ∙ append_assoc b v end; reads = g };
           stops = follows_stops k end follows stops;
-          follows = subst (λ y. Follows k (Binary (joined (span_of l) (span_of r)) o y.span.from l r) v x) (sym same) (subst (λ y. Follows k (Binary (joined (span_of l) (span_of r)) y u.span.from l r) v x) same_op follows)
+          follows = subst (λ y. Follows k (Binary (joined (span_of l) (span_of r)) o y.span.from l r) v x) (sym same) (subst (λ y. Follows k (Binary (joined (span_of l) (span_of r)) y u.span.from l r) v x) same_op follows);
         }
       where
         some_one : {a b : Op} → Some a ≡ Some b → a ≡ b

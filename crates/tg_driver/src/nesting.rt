@@ -1,4 +1,4 @@
-ghost use Rattle.std.specs.Prelude.{◌≡◌, ◌≤◌, ◌+◌, ◌↔◌, ℕ, List, [], ◌∷◌, length, sum, reverse, IfOk, OnOk, IsTrue};
+ghost use Rattle.std.specs.Prelude.{◌≡◌, ◌≤◌, ◌↔◌, ℕ, List, [], ◌∷◌, IfOk, OnOk, IsTrue};
 ghost use Rattle.tg_syntax.specs.Nesting.{nesting_of, after_token, NestsWithin};
 ghost use Rattle.tg_driver.specs.Fronts.{IsBuiltToken, AreBuilt};
 ghost use Rattle.tg_driver.specs.Changes.{changed};
@@ -20,6 +20,7 @@ enum Change {
     Keeps,
 }
 
+/// What a token of the built form does.
 fn change_by(token: &Token) -> Change
     requires { IsBuiltToken token.now }
     ensures { (counts : List ℕ) → after_token token.now counts ≡ changed result counts }

@@ -91,3 +91,149 @@ fn ends(token: &Token) -> bool
 {
     matches!(token, Token::End)
 }
+
+#[cfg(test)]
+mod tests {
+    use super::*;
+    use std::alloc::AllocError;
+    use std::test::Fail;
+    use tg_base::Span;
+    use tg_syntax::{Op, binary, int};
+
+    fn is_built(alloc: Global, text: &[u8]) -> Result<bool, Fail> {
+        match read_built(alloc, text) {
+            Ok(_) => Ok(true),
+            Err(NotBuilt::Form) => Ok(false),
+            Err(NotBuilt::Memory) => Err(Fail::from("memory")),
+        }
+    }
+
+    #[test]
+    fn short_texts(rt: HostRuntime) -> Result<(), Fail> {
+        let built = [
+            "exit(300)",
+            "exit(-1)",
+            "exit(2*-(3+4)+300)",
+            " exit\t(\r\n1 \x0C) ",
+            "exit(2147483647)",
+            "exit(007)",
+        ];
+        for text in built {
+            assert!(rt; is_built(rt.alloc(), text.as_bytes())?, "{text}");
+        }
+        let other = [
+            "",
+            "exit()",
+            "exit(1",
+            "exit(1)x",
+            "exit(1))",
+            "exit 1",
+            "exit2(1)",
+            "1exit(1)",
+            "exit(1 2)",
+            "exit(+1)",
+            "exit(1;2)",
+            "exit(1,2)",
+            "exit(4/2)",
+            "exit(1)/**/",
+            "exit(2147483648)",
+            "exit(1)\x0B",
+        ];
+        for text in other {
+            assert!(rt; !is_built(rt.alloc(), text.as_bytes())?, "{text}");
+        }
+        Ok(())
+    }
+
+    #[test]
+    fn differences_group_to_the_left(rt: HostRuntime) -> Result<(), Fail> {
+        let alloc = rt.alloc();
+        let at = |from, to| Span { from, to };
+        let first = binary(
+            alloc,
+            at(5, 8),
+            Op::Minus,
+            6,
+            int(at(5, 6), 1),
+            int(at(7, 8), 2),
+        )?;
+        let whole = binary(alloc, at(5, 10), Op::Minus, 8, first, int(at(9, 10), 3))?;
+        let exit = Ident {
+            name: Name(0),
+            span: at(0, 4),
+        };
+        let body = call_of_one(alloc, at(0, 11), exit, whole)?;
+        let Ok(program) = read_built(alloc, b"exit(1-2-3)") else {
+            return Err(Fail::from("no program"));
+        };
+        assert!(rt; program.body == body);
+        Ok(())
+    }
+
+    // `exit(` and `)` around `middle`, behind so many `(` and before so many `)`
+    fn enclosed(alloc: Global, depth: usize, middle: &[u8]) -> Result<Vec<u8>, AllocError> {
+        let mut text = Vec::new(alloc);
+        text.extend_from_slice(b"exit(")?;
+        for _ in 0..depth {
+            text.extend_from_slice(b"(")?;
+        }
+        text.extend_from_slice(middle)?;
+        for _ in 0..depth {
+            text.extend_from_slice(b")")?;
+        }
+        text.extend_from_slice(b")")?;
+        Ok(text)
+    }
+
+    // `first`, and so many times `more`
+    fn repeated(
+        alloc: Global,
+        first: &[u8],
+        more: &[u8],
+        times: usize,
+    ) -> Result<Vec<u8>, AllocError> {
+        let mut text = Vec::new(alloc);
+        text.extend_from_slice(first)?;
+        for _ in 0..times {
+            text.extend_from_slice(more)?;
+        }
+        Ok(text)
+    }
+
+    #[test]
+    fn as_deep_as_may_be(rt: HostRuntime) -> Result<(), Fail> {
+        let alloc = rt.alloc();
+        assert!(rt; is_built(alloc, &enclosed(alloc, 255, b"1")?)?);
+        assert!(rt; !is_built(alloc, &enclosed(alloc, 256, b"1")?)?);
+        let sum = repeated(alloc, b"1", b"+1", 255)?;
+        assert!(rt; is_built(alloc, &enclosed(alloc, 0, &sum)?)?);
+        let sum = repeated(alloc, b"1", b"+1", 256)?;
+        assert!(rt; !is_built(alloc, &enclosed(alloc, 0, &sum)?)?);
+        Ok(())
+    }
+
+    // 20 groups of 100 ints are 4019 nodes, and 38 more terms are 76.
+    #[test]
+    fn as_large_as_may_be(rt: HostRuntime) -> Result<(), Fail> {
+        let alloc = rt.alloc();
+        let mut group = repeated(alloc, b"(1", b"*1", 99)?;
+        group.extend_from_slice(b")")?;
+        let more = repeated(alloc, b"+", &group, 1)?;
+        let groups = repeated(alloc, &group, &more, 19)?;
+        let terms = repeated(alloc, &groups, b"+1", 38)?;
+        assert!(rt; is_built(alloc, &enclosed(alloc, 0, &terms)?)?);
+        let negated = repeated(alloc, b"-", &terms, 1)?;
+        assert!(rt; !is_built(alloc, &enclosed(alloc, 0, &negated)?)?);
+        Ok(())
+    }
+
+    #[test]
+    fn as_long_as_may_be(rt: HostRuntime) -> Result<(), Fail> {
+        let alloc = rt.alloc();
+        let text = repeated(alloc, b"exit(1)", b" ", 262137)?;
+        assert!(rt; is_built(alloc, &text)?);
+        let text = repeated(alloc, &text, b" ", 1)?;
+        assert!(rt; !is_built(alloc, &text)?);
+        Ok(())
+    }
+}

@@ -10,8 +10,9 @@ use Rattle.tg_driver.proofs.reading.read_built.Goals.{then-text-gt-LONGEST-via-t
 pub returns-then-text-gt-LONGEST-clause-form : goal.returns-then-text-gt-LONGEST-clause-form
 returns-then-text-gt-LONGEST-clause-form c = λ _ program e h.
     elim c.then-text-gt-LONGEST.branch [
-      then-text-gt-LONGEST-via-then-text-gt-LONGEST w ↦ let short = h.short in absurd (omega (arith, w.if-text-gt-LONGEST.true))
-    | then-text-gt-LONGEST-via-else-text-gt-LONGEST+then-contains w ↦ clash (none_slash c.args.text.now h.no_comment) (sym w.if-contains.ensures.value) ]
+      | then-text-gt-LONGEST-via-then-text-gt-LONGEST w ↦ let short = h.short in absurd (omega (arith, w.if-text-gt-LONGEST.true))
+      | then-text-gt-LONGEST-via-else-text-gt-LONGEST+then-contains w ↦ clash (none_slash c.args.text.now h.no_comment) (sym w.if-contains.ensures.value)
+    ]
 
 pub returns-in_err-tokens-clause-form : goal.returns-in_err-tokens-clause-form
 returns-in_err-tokens-clause-form c = λ q.
