@@ -166,7 +166,7 @@ ends_with_value program end r = let P : RunEnd → Type 0 = λ x. IsValueEnd x i
 pub called : {I O : Type 0} (left : I → Option (List ℕ)) (read_faults : I → ℕ) (taken : O → Option (List ℕ)) (write_faults : O → ℕ) (program : Exp) (image : Image) (heap stack steps : ℕ) (machine new : Simulated) (input input' : I) (out out' : O) (e : RunEnd) → heap ≡ default_heap → stack ≡ default_stack → steps ≡ default_steps → machine ≡ loaded image heap stack → HasExitForm program → nodes program ≤ 4096 → IsImageOf program image → (machine.end ≡ None → Ran left read_faults taken write_faults steps machine new input input' out out' e) → IsSilentCall input input' out out' e (end_of_value (exit_value program))
 called left read_faults taken write_faults program image heap stack steps machine new input input' out out' e heap_is stack_is steps_is machine_is form small is ran =
     let state : first_state image ≡ machine.state =
-        sym (ap (λ m. m.state) machine_is ∙ ap (λ h. start image.code image.statics image.entry h stack) heap_is ∙ ap (λ k. start image.code image.statics image.entry default_heap k) stack_is) in
+    sym (ap (λ m. m.state) machine_is ∙ ap (λ h. start image.code image.statics image.entry h stack) heap_is ∙ ap (λ k. start image.code image.statics image.entry default_heap k) stack_is) in
     let P : State → Type 0 = λ s. Finishes default_steps s (end_of_value (exit_value program)) in
     let f = subst P state (finishes program image form small is) in
     silent_call left read_faults taken write_faults steps machine new input input' out out' e (end_of_value (exit_value program)) default_steps f (omega (arith, steps_is)) (ran (ap (λ m. m.end) machine_is))

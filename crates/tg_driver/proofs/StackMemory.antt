@@ -26,16 +26,16 @@ pub holds_below : (stack values : List ℕ) (i v : ℕ) → i + 4 ≤ length sta
 holds_below stack [] i v fits below h = tt
 holds_below stack (x ∷ values) i v fits below h =
     let apart : i + 4 ≤ length stack - 4 * (length values + 1) = omega arith in (
-        rw (length-set_word stack i v) (word_at-set_word_apart stack i v (length stack - 4 * (length values + 1)) fits apart ∙ h.0),
-        holds_below stack values i v fits (omega arith) h.1,
+      rw (length-set_word stack i v) (word_at-set_word_apart stack i v (length stack - 4 * (length values + 1)) fits apart ∙ h.0),
+      holds_below stack values i v fits (omega arith) h.1,
     )
 
 -- a store of the next word down
 pub holds_more : (stack values : List ℕ) (v : ℕ) → 4 * (length values + 1) ≤ length stack → Holds stack values → Holds (set_word stack (length stack - 4 * (length values + 1)) v) (v ∷ values)
 holds_more stack values v room h =
     let fits : length stack - 4 * (length values + 1) + 4 ≤ length stack = omega arith in (
-        rw (length-set_word stack (length stack - 4 * (length values + 1)) v) (word_at-set_word stack _ v fits),
-        holds_below stack values _ v fits (omega arith) h,
+      rw (length-set_word stack (length stack - 4 * (length values + 1)) v) (word_at-set_word stack _ v fits),
+      holds_below stack values _ v fits (omega arith) h,
     )
 
 -- the address of the word so many words below the top of memory

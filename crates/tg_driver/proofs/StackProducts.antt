@@ -149,7 +149,7 @@ multiplies_operands words size k values s x y small small' at left right has roo
     let p = product words size k depth values s x y at left right (has.0, (has.1.0, (has.1.1.0, tt))) in
     let rest = has.1.1.1 in
     let four : Has words (k + 3) (Sra 10 8 31 ∷ Xor 10 10 9 ∷ Sltu 10 0 10 ∷ Sll 10 10 31 ∷ []) =
-        has_as words (k + 1 + 1 + 1) (k + 3) (Sra 10 8 31 ∷ Xor 10 10 9 ∷ Sltu 10 0 10 ∷ Sll 10 10 31 ∷ []) (omega arith) (rest.0, (rest.1.0, (rest.1.1.0, (rest.1.1.1.0, tt)))) in
+    has_as words (k + 1 + 1 + 1) (k + 3) (Sra 10 8 31 ∷ Xor 10 10 9 ∷ Sltu 10 0 10 ∷ Sll 10 10 31 ∷ []) (omega arith) (rest.0, (rest.1.0, (rest.1.1.0, (rest.1.1.1.0, tt)))) in
     let two : Has words (k + 7) (Add 10 10 10 ∷ result_code) = has_as words (k + 1 + 1 + 1 + 1 + 1 + 1 + 1) (k + 7) (Add 10 10 10 ∷ result_code) (omega arith) rest.1.1.1.1 in
     let t = trap words size (k + 3) depth values p.after (product_low x y) (product_high x y) p.at p.low_is p.high_is four in
     let there = at_as words size (k + 3 + 4) (k + 7) depth depth values values t.after (omega arith) refl refl t.at in

@@ -44,8 +44,8 @@ has_after before (one ∷ code) =
     let longer : length more ≡ length before + 1 = length-append before (word_of one ∷ []) in
     let P : List ℕ → Type 0 = λ words. Has words (length before + 1) code in
     let later = has_as (more ++ words_of code) (length more) (length before + 1) code longer (has_after more code) in (
-        record { word = read_seam before (words_of code) (word_of one); within = seam_within before (words_of code) (word_of one) },
-        subst P (append_assoc before (word_of one ∷ []) (words_of code)) later,
+      record { word = read_seam before (words_of code) (word_of one); within = seam_within before (words_of code) (word_of one) },
+      subst P (append_assoc before (word_of one ∷ []) (words_of code)) later,
     )
 
 -- service 17 ends with the code in $a0

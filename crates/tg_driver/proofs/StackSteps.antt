@@ -124,10 +124,10 @@ loads words size k depth values s r n above below at has low high ne bytes small
     let wide : n < 65536 = omega arith in
     let to : address next 29 n ≡ register s 29 + n = near_address (register s 29) n (omega (arith, pointer)) small in
     let there : load_word next (address next 29 n) ≡ Ok (word_at s.stack (length s.stack - 4 * below)) =
-        rw to (load_at next (register s 29 + n) below (omega (arith, pointer)) deep (omega (arith, is)) (omega (arith, is, fits))) in
+    rw to (load_at next (register s 29 + n) below (omega (arith, pointer)) deep (omega (arith, is)) (omega (arith, is, fits))) in
     sets words size k depth values s r (word_at s.stack (length s.stack - 4 * below)) at low high ne
     (step_of words size k depth values s (Lw r n 29) at has (high, wide, lit< tt)
-        ∙ ap (put next r) there ∙ ap Goes (set_register_is next r _ low))
+    ∙ ap (put next r) there ∙ ap Goes (set_register_is next r _ low))
 
 -- $sp moves so many words down or up
 pub record Shifts (words : List ℕ) (size k depth : ℕ) (values : List ℕ) (s : State) : Type 0 where
@@ -179,7 +179,7 @@ stores words size k values s at has room =
     let fits = at.size_fits in
     let to : address next 29 0 ≡ register s 29 + 0 = near_address (register s 29) 0 (omega (arith, pointer)) (lit< tt) in
     let there : store_word next (address next 29 0) v ≡ Ok (record next { stack = set_word s.stack (length s.stack - 4 * depth) v }) =
-        rw to (store_at next (register s 29 + 0) depth v (omega (arith, pointer)) (omega arith) (omega (arith, is)) (omega (arith, is, fits))) in
+    rw to (store_at next (register s 29 + 0) depth v (omega (arith, pointer)) (omega arith) (omega (arith, is)) (omega (arith, is, fits))) in
     record {
       after = record next { stack = set_word s.stack (length s.stack - 4 * depth) v };
       goes = step_of words size k depth values s (Sw 8 0 29) at has (lit< tt, lit< tt, lit< tt) ∙ ap stored there;

@@ -126,7 +126,7 @@ comes_value (Binary p o j a b) h words size k values s at has room =
     let some_b = nodes_positive b h.2 in
     let c = comes_value a h.1 words size k values s at (has_first words k (value_code a) after_a has) (omega arith) in
     let second = λ (x : ℕ) (t : State) (at' : At words size (k + n) (length values + 1) (x ∷ values) t).
-        comes_value b h.2 words size (k + n) (x ∷ values) t (at_as words size (k + n) (k + n) (length values + 1) (length (x ∷ values)) (x ∷ values) (x ∷ values) t refl (omega arith) refl at') (has_first words (k + n) (value_code b) after_b has_b) (omega (arith, some_a)) in
+    comes_value b h.2 words size (k + n) (x ∷ values) t (at_as words size (k + n) (k + n) (length values + 1) (length (x ∷ values)) (x ∷ values) (x ∷ values) t refl (omega arith) refl at') (has_first words (k + n) (value_code b) after_b has_b) (omega (arith, some_a)) in
     let whole : n + (m + (3 + length last)) ≡ length (value_code a ++ after_a) = omega (arith, e, f, g) in
     comes_by words size (k + (n + (m + (3 + length last)))) (k + length (value_code a ++ after_a)) values (n + (m + (3 + length last))) (length (value_code a ++ after_a)) s (value (Binary p o j a b)) (ap (λ j. k + j) whole) whole
     (seconds o words size k values n m s (value a) (value b) h.0 (value_below a h.1) (value_below b h.2) c second (has_second words (k + n) (value_code b) after_b has_b) (omega (arith, some_a, some_b)))

@@ -5,11 +5,11 @@
 mod answers;
 mod built;
 mod descent;
+mod making;
 mod nesting;
 mod reading;
-mod scanning;
-mod making;
 mod running;
+mod scanning;
 mod top;
 mod words;
 

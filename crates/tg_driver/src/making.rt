@@ -84,10 +84,7 @@ fn push_int(code: &mut Vec<u32>, n: u32) -> Result<(), Memory>
 {
     push(code, Mips::Lui(Reg::T0, Bits::new(n / 65536)))?;
     push(code, Mips::Ori(Reg::T0, Reg::T0, Bits::new(n % 65536)))?;
-    push(
-        code,
-        Mips::Addiu(Reg::SP, Reg::SP, Bits::new(WORD_DOWN)),
-    )?;
+    push(code, Mips::Addiu(Reg::SP, Reg::SP, Bits::new(WORD_DOWN)))?;
     push_result(code)
 }
 

@@ -37,8 +37,12 @@ fn call(
     files.insert(String::from_str(alloc, "FILE")?, text.to_vec(alloc)?)?;
     let mut shelf = MapShelf::new(files, shelf_fails.to_vec(alloc)?);
     let mut input = PlainSource::new(vec![in alloc; 65]?);
-    let mut out = RoomSink::new(alloc, 64, Vec::new(alloc)).ok().ok_or("no memory")?;
-    let mut err = RoomSink::new(alloc, 128, err_fails.to_vec(alloc)?).ok().ok_or("no memory")?;
+    let mut out = RoomSink::new(alloc, 64, Vec::new(alloc))
+        .ok()
+        .ok_or("no memory")?;
+    let mut err = RoomSink::new(alloc, 128, err_fails.to_vec(alloc)?)
+        .ok()
+        .ok_or("no memory")?;
     let words = words_of(alloc, list)?;
     let status = tiger(alloc, &words, &mut shelf, &mut input, &mut out, &mut err);
     Ok(Seen {

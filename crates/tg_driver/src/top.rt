@@ -58,12 +58,7 @@ fn answer_words<H: Shelf, I: Source, O: Sink>(
 }
 
 /// The answer that is due for a text.
-fn answer_text<I: Source, O: Sink>(
-    alloc: Global,
-    text: &[u8],
-    input: &mut I,
-    out: &mut O,
-) -> Answer
+fn answer_text<I: Source, O: Sink>(alloc: Global, text: &[u8], input: &mut I, out: &mut O) -> Answer
     ensures due { IsDueOfText text.now result }
     ensures unread { input.new ≡ input.old }
     ensures unwritten { out.new ≡ out.old }
