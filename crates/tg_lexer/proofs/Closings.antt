@@ -1,5 +1,5 @@
 -- Comments: what closes them, and that nothing else does.
-use Rattle.std.proofs.Common.{ℕ, zero, suc, ◌+◌, ◌≡◌, ◌≢◌, ◌-◌, ◌≤◌, ◌<◌, get_or, List, [], ◌∷◌, ◌++◌, length, take, drop, refl, sym, ap, subst, ◌∙◌, arith, append_assoc, length-drop, append-nil}
+use Rattle.std.proofs.Common.{ℕ, zero, suc, ◌+◌, ◌≡◌, ◌≢◌, ◌-◌, ◌≤◌, ◌<◌, get_or, List, [], ◌∷◌, ◌++◌, length, take, drop, refl, sym, ap, subst, ◌∙◌, arith, append_assoc}
 use Rattle.std.proofs.lemmas.List.{drop_all, drop_more, append_cancel_right}
 use Rattle.tg_syntax.specs.Lexing.{Begins, OpensComment, ClosesComment, Closes, done, closes, opens, byte}
 use Rattle.tg_lexer.specs.Fronts.{NeverCloses}

@@ -1,5 +1,5 @@
 -- An escape, by its bytes.
-use Rattle.std.proofs.Common.{ℕ, zero, suc, ◌+◌, ◌*◌, ◌≡◌, ◌≢◌, ◌≤◌, ◌<◌, ◌%◌, List, [], ◌∷◌, ◌++◌, length, inl, inr, Bool, true, false, take, drop, get_or, refl, sym, ap, subst, ◌∙◌, arith, append_assoc, append-nil, length-append}
+use Rattle.std.proofs.Common.{ℕ, zero, suc, ◌+◌, ◌≡◌, ◌≢◌, ◌≤◌, ◌<◌, ◌%◌, List, [], ◌∷◌, ◌++◌, length, inl, inr, Bool, true, false, take, drop, refl, sym, ap, subst, ◌∙◌, arith, append_assoc, length-append}
 use Rattle.std.specs.Prelude.{◌==◌, ◌||◌, ◌⊎◌, MatchBool, IsTrue, Some, None, slice_get}
 use Rattle.std.proofs.lemmas.Bool.{eqb-true}
 use Rattle.std.proofs.lemmas.Bool.Decides.{nat_tests}
@@ -7,7 +7,7 @@ use Rattle.std.proofs.lemmas.List.{take_at, length-take-le}
 use Rattle.tg_syntax.specs.Spellings.{Escape, newline, tab, quote, backslash, control, decimal, blanks, AllAre, is_digit, is_blank, is_between, number_of}
 use Rattle.tg_syntax.specs.LexicalFaults.{IsBegun, Misfits}
 use Rattle.tg_lexer.specs.declared.escapes.Escaped.{Escaped}
-use Rattle.tg_lexer.specs.declared.escapes.Escaped.TheVariants.{Byte, Nothing, Cut, Bad}
+use Rattle.tg_lexer.specs.declared.escapes.Escaped.TheVariants.{Cut, Bad}
 use Rattle.tg_lexer.specs.Fronts.{IsCut, ended, line, IsBad, bad, IsEscape, IsMisfit, IsRun}
 use Rattle.tg_lexer.proofs.Basics.{head_is, tail_is, not_cons, differ, apart, clash, AllAre_right}
 

@@ -1,11 +1,11 @@
 -- Escapes: one front of a text alone is one, and means one thing.
-use Rattle.std.proofs.Common.{ℕ, zero, suc, ◌+◌, ◌*◌, ◌≡◌, ◌≢◌, ◌≤◌, ◌<◌, ◌⊎◌, inl, inr, ◌%◌, List, [], ◌∷◌, ◌++◌, length, Bool, true, false, cond, take, drop, get_or, refl, sym, ap, subst, ◌∙◌, arith, append_assoc, append-nil}
-use Rattle.std.specs.Prelude.{◌==◌, IsTrue, Some, None, slice_get}
+use Rattle.std.proofs.Common.{ℕ, ◌≡◌, ◌⊎◌, inl, inr, ◌%◌, List, [], ◌∷◌, ◌++◌, Bool, true, false, cond, refl, sym, ap, subst, ◌∙◌, arith, append_assoc, append-nil}
+use Rattle.std.specs.Prelude.{◌==◌, IsTrue}
 use Rattle.std.proofs.lemmas.Bool.Decides.{nat_tests}
 use Rattle.std.proofs.lemmas.List.{append_cancel_right}
-use Rattle.tg_syntax.specs.Spellings.{Escape, newline, tab, quote, backslash, control, decimal, blanks, AllAre, is_digit, is_blank, is_between, number_of}
+use Rattle.tg_syntax.specs.Spellings.{Escape, newline, tab, quote, backslash, control, decimal, blanks, AllAre, is_digit, is_blank, number_of}
 use Rattle.tg_syntax.specs.LexicalFaults.{IsBegun, Misfits}
-use Rattle.tg_lexer.proofs.Basics.{head_is, tail_is, not_cons, clash, AllAre_left, GoesOn, two_fronts}
+use Rattle.tg_lexer.proofs.Basics.{head_is, tail_is, not_cons, clash, GoesOn, two_fronts}
 
 -- what follows an escape, and what the escape means
 abbrev rest_of_control : List ℕ → List ℕ × List ℕ

@@ -1,18 +1,18 @@
 -- Where a text has a fault, it has no tokens.
-use Rattle.std.proofs.Common.{ℕ, ◌+◌, ◌≡◌, ◌≤◌, ◌<◌, List, [], ◌∷◌, ◌++◌, length, Bool, true, false, refl, sym, ap, subst, ◌∙◌, arith, append_assoc}
-use Rattle.std.specs.Prelude.{IsTrue, not, ◌==◌}
+use Rattle.std.proofs.Common.{ℕ, ◌≡◌, ◌≤◌, List, [], ◌∷◌, ◌++◌, length, Bool, true, false, refl, sym, ap, subst, ◌∙◌, arith, append_assoc}
+use Rattle.std.specs.Prelude.{IsTrue, not}
 use Rattle.tg_syntax.specs.declared.faults.LexRule.{LexRule}
 use Rattle.tg_syntax.specs.declared.tokens.Token.{Token}
 use Rattle.tg_syntax.specs.declared.tokens.Token.TheVariants as token
 use Rattle.tg_syntax.specs.declared.tokens.Spanned.{Spanned}
 use Rattle.tg_syntax.specs.declared.tokens.Sign.TheVariants.{Divide}
 use Rattle.tg_syntax.specs.Spellings.{Spells, HasTokenForm, sign, IsDigits, IsQuoted, digits, number_of, is_blank, is_digit}
-use Rattle.tg_syntax.specs.Lexing.{Lexes, ends, blank, comment, token, OpensComment, Closes, IsLongest}
+use Rattle.tg_syntax.specs.Lexing.{Lexes, ends, blank, comment, token, OpensComment, Closes}
 use Rattle.tg_syntax.specs.LexicalFaults.{LeadsTo, here, FaultAt, illegal_byte, comment_not_closed, in_string, large_int, HasLexicalFault, too_long, met, FaultInString}
-use Rattle.tg_lexer.proofs.Basics.{head_is, tail_is, not_cons, differ, apart, clash}
+use Rattle.tg_lexer.proofs.Basics.{head_is, tail_is, not_cons, differ, apart}
 use Rattle.tg_lexer.proofs.Quotings.{quoted_goes_on, fault_no_string}
 use Rattle.tg_lexer.proofs.Readings.{form_quoted}
-use Rattle.tg_lexer.proofs.Onces.{spells_form, form_some, form_begins, no_blank_front, kind, digits_kind, spells_kind, lexes_blank, lexes_comment, Head, lexes_token}
+use Rattle.tg_lexer.proofs.Onces.{spells_form, form_some, kind, digits_kind, spells_kind, lexes_blank, lexes_comment, lexes_token}
 
 not_both : (x : Bool) → not x ≡ true → x ≡ true → ⊥
 not_both true e f = cc

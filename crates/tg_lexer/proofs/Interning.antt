@@ -1,16 +1,14 @@
 -- Names that are added one by one.
-use Rattle.std.proofs.Common.{ℕ, zero, suc, ◌+◌, ◌-◌, ◌≡◌, ◌≢◌, ◌≤◌, ◌<◌, List, [], ◌∷◌, ◌++◌, length, Bool, true, false, cond, take, drop, Some, None, refl, sym, ap, subst, ◌∙◌, arith, append_assoc, append-nil, length-append}
-use Rattle.std.specs.Prelude.{MatchBool, slice_get, fold}
+use Rattle.std.proofs.Common.{ℕ, zero, suc, ◌≡◌, ◌≢◌, ◌≤◌, List, [], ◌∷◌, ◌++◌, length, Bool, true, false, cond, take, drop, Some, refl, sym, ap, ◌∙◌, arith, append_assoc, append-nil}
+use Rattle.std.specs.Prelude.{MatchBool, slice_get}
 use Rattle.std.proofs.lemmas.List.{take-append-drop, length-take-le}
 use Rattle.std.proofs.lemmas.List.Sums.{fold-append}
 use Rattle.tg_base.specs.Interned.{IsInterned, is_among}
 use Rattle.tg_base.specs.declared.ids.Name.{Name}
-use Rattle.tg_syntax.specs.declared.tokens.Token.{Token}
 use Rattle.tg_syntax.specs.declared.tokens.Token.TheVariants as token
 use Rattle.tg_syntax.specs.declared.tokens.Word.{Word}
 use Rattle.tg_syntax.specs.declared.tokens.Spanned.{Spanned}
-use Rattle.tg_syntax.specs.Spellings.{Spells, word_text, is_letter, is_name_byte}
-use Rattle.tg_syntax.specs.Lexing.{spanned}
+use Rattle.tg_syntax.specs.Spellings.{word_text, is_letter, is_name_byte}
 use Rattle.tg_syntax.proofs.Longest.{name_longest}
 use Rattle.tg_lexer.specs.Fronts.{IsRun, IsToken, BeginsWith}
 use Rattle.tg_lexer.specs.Numbering.{named, all_named, idents, ident_text}

@@ -1,12 +1,11 @@
 -- A text is spelled by one token alone, and a text's tokens are its only ones.
-use Rattle.std.proofs.Common.{ℕ, zero, suc, ◌+◌, ◌≡◌, ◌≢◌, ◌≤◌, ◌<◌, ◌⊎◌, inl, inr, List, [], ◌∷◌, ◌++◌, length, Bool, true, false, cond, Some, get_or, refl, sym, ap, subst, ◌∙◌, arith, append_assoc, append-nil}
+use Rattle.std.proofs.Common.{ℕ, zero, suc, ◌+◌, ◌≡◌, ◌<◌, ◌⊎◌, inl, inr, List, [], ◌∷◌, ◌++◌, length, Bool, true, false, cond, Some, get_or, refl, sym, ap, subst, ◌∙◌, arith, append-nil}
 use Rattle.std.specs.Prelude.{◌==◌, codes, slice_get}
 use Rattle.std.specs.Str.{bytes_eq}
 use Rattle.std.proofs.lemmas.Bool.Decides.{nat_tests}
 use Rattle.std.proofs.lemmas.List.{append_cancel_left}
 use Rattle.std.proofs.lemmas.Option.{slice_get_within, get_or_from_slice_get}
 use Rattle.tg_base.specs.Interned.{AreDistinct}
-use Rattle.tg_base.specs.declared.ids.Name.{Name}
 use Rattle.tg_syntax.specs.declared.tokens.Token.{Token}
 use Rattle.tg_syntax.specs.declared.tokens.Token.TheVariants as token
 use Rattle.tg_syntax.specs.declared.tokens.Spanned.{Spanned}
@@ -14,14 +13,13 @@ use Rattle.tg_syntax.specs.declared.tokens.Word.{Word}
 use Rattle.tg_syntax.specs.declared.tokens.Word.TheVariants.{WArray, WBreak, WDo, WElse, WEnd, WFor, WFunction, WIf, WIn, WLet, WNil, WOf, WThen, WTo, WType, WVar, WWhile}
 use Rattle.tg_syntax.specs.declared.tokens.Sign.{Sign}
 use Rattle.tg_syntax.specs.declared.tokens.Sign.TheVariants.{Comma, Colon, Semicolon, LeftParen, RightParen, LeftBracket, RightBracket, LeftBrace, RightBrace, Dot, Plus, Minus, Times, Divide, Equal, NotEqual, Less, LessEqual, Greater, GreaterEqual, And, Or, Assign}
-use Rattle.tg_syntax.specs.Spellings.{Spells, word_text, sign_text, is_letter, is_digit, is_name_byte, is_blank, AllAre, IsName, IsDigits, number_of, HasTokenForm, name, sign, digits, quoted, IsQuoted}
+use Rattle.tg_syntax.specs.Spellings.{Spells, word_text, sign_text, is_letter, is_digit, is_name_byte, is_blank, AllAre, IsName, IsDigits, HasTokenForm, name, sign, digits, quoted, IsQuoted}
 use Rattle.tg_syntax.specs.Lexing.{Lexes, ends, blank, comment, token, spanned, IsLongest, OpensComment, Closes}
 use Rattle.tg_syntax.proofs.Longest.{begins, is_mark}
 use Rattle.tg_lexer.proofs.Basics.{head_is, tail_is, not_cons, differ, apart, clash, GoesOn, two_fronts}
 use Rattle.tg_lexer.proofs.Closings.{closes_once}
-use Rattle.tg_lexer.proofs.Quotings.{SameString, quoted_once}
+use Rattle.tg_lexer.proofs.Quotings.{quoted_once}
 use Rattle.tg_lexer.proofs.SignSteps.{sign_mark}
-use Rattle.tg_lexer.proofs.Scans.{spells_some}
 
 -- the kind of a token, by its first byte
 abbrev pub byte_kind : ℕ → ℕ

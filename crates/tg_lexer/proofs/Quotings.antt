@@ -1,13 +1,11 @@
 -- Strings: one front of a text alone is one, and a fault in it leaves none.
-use Rattle.std.proofs.Common.{ℕ, zero, suc, ◌+◌, ◌*◌, ◌≡◌, ◌≢◌, ◌≤◌, ◌<◌, List, [], ◌∷◌, ◌++◌, length, Bool, true, false, take, drop, get_or, refl, sym, ap, subst, ◌∙◌, arith, append_assoc, append-nil}
-use Rattle.std.specs.Prelude.{◌==◌, IsTrue}
+use Rattle.std.proofs.Common.{ℕ, ◌≡◌, List, [], ◌∷◌, ◌++◌, true, false, refl, sym, ap, ◌∙◌, arith, append_assoc, append-nil}
 use Rattle.std.proofs.lemmas.Bool.Decides.{nat_tests}
-use Rattle.std.proofs.lemmas.List.{append_cancel_left, append_cancel_right}
 use Rattle.tg_syntax.specs.declared.faults.LexRule.{LexRule}
-use Rattle.tg_syntax.specs.Spellings.{IsQuoted, nothing, plain, escaped, Escape, is_plain}
-use Rattle.tg_syntax.specs.LexicalFaults.{FaultInString, end_in_string, line_in_string, control_byte, end_in_escape, line_in_escape, bad_escape, is_control, IsBegun, Misfits}
+use Rattle.tg_syntax.specs.Spellings.{IsQuoted, nothing, plain, escaped, is_plain}
+use Rattle.tg_syntax.specs.LexicalFaults.{FaultInString, end_in_string, line_in_string, control_byte, end_in_escape, line_in_escape, bad_escape, is_control, Misfits}
 use Rattle.tg_lexer.proofs.Basics.{head_is, tail_is, not_cons, differ, apart}
-use Rattle.tg_lexer.proofs.Escapings.{SameEscape, escape_once, begun_no_escape, misfit_no_escape}
+use Rattle.tg_lexer.proofs.Escapings.{escape_once, begun_no_escape, misfit_no_escape}
 
 pub IsQuoted-append : {xs meant ys more : List ℕ} → IsQuoted xs meant → IsQuoted ys more → IsQuoted (xs ++ ys) (meant ++ more)
 IsQuoted-append nothing k = k

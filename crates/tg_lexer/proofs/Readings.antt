@@ -1,6 +1,6 @@
 -- What a text begins with, read by its first byte.
 use Rattle.std.proofs.Common.{ℕ, zero, suc, ◌+◌, ◌≡◌, ◌≢◌, ◌≤◌, ◌<◌, List, [], ◌∷◌, ◌++◌, length, Bool, true, false, take, drop, get_or, refl, sym, ap, subst, ◌∙◌, arith, append_assoc}
-use Rattle.std.specs.Prelude.{◌==◌, ◌||◌, not, IsTrue, slice_get, Some, None}
+use Rattle.std.specs.Prelude.{◌==◌, ◌||◌, not}
 use Rattle.std.proofs.lemmas.Bool.Decides.{nat_tests}
 use Rattle.std.proofs.lemmas.Bool.{eqb-true}
 use Rattle.std.proofs.lemmas.List.{take-append-drop, length-take-le, length-append, append_cancel_left}
@@ -9,14 +9,14 @@ use Rattle.tg_syntax.specs.declared.tokens.Sign.{Sign}
 use Rattle.tg_syntax.specs.declared.tokens.Word.{Word}
 use Rattle.tg_syntax.specs.declared.faults.LexRule.{LexRule}
 use Rattle.tg_syntax.specs.declared.faults.LexRule.TheVariants.{L1, L2, L5}
-use Rattle.tg_syntax.specs.Spellings.{Spells, sign_text, word_text, is_blank, is_letter, is_digit, is_name_byte, AllAre, IsName, IsDigits, number_of, IsQuoted, HasTokenForm, name, sign, digits, quoted}
-use Rattle.tg_syntax.specs.Lexing.{Begins, OpensComment, Closes, IsLongest}
+use Rattle.tg_syntax.specs.Spellings.{sign_text, word_text, is_blank, is_letter, is_digit, is_name_byte, AllAre, IsName, IsDigits, number_of, IsQuoted, HasTokenForm, name, sign, digits, quoted}
+use Rattle.tg_syntax.specs.Lexing.{OpensComment, Closes, IsLongest}
 use Rattle.tg_syntax.specs.LexicalFaults.{FaultAt, illegal_byte, comment_not_closed, large_int}
 use Rattle.tg_syntax.proofs.Longest.{begins, is_mark, form_of_mark, name_longest, digits_longest}
 use Rattle.tg_lexer.specs.Fronts.{IsRun, NeverCloses, IsSignFront, IsString, IsGap, blank, comment, IsToken, BeginsWith, BeginsQuote, BeginsOther, is_other}
-use Rattle.tg_lexer.proofs.Basics.{head_is, tail_is, not_cons, differ, apart, clash}
+use Rattle.tg_lexer.proofs.Basics.{head_is, tail_is, apart, clash}
 use Rattle.tg_lexer.proofs.Closings.{two_bytes}
-use Rattle.tg_lexer.proofs.Quotings.{SameString, quoted_once}
+use Rattle.tg_lexer.proofs.Quotings.{quoted_once}
 use Rattle.tg_lexer.proofs.SignSteps.{sign_mark}
 
 -- comments

@@ -1,15 +1,13 @@
 -- A pass over a text, step by step.
-use Rattle.std.proofs.Common.{ℕ, zero, suc, ◌+◌, ◌-◌, ◌≡◌, ◌≤◌, ◌<◌, List, [], ◌∷◌, ◌++◌, length, take, drop, Ok, Err, Some, cond, true, false, Bool, refl, sym, ap, subst, ◌∙◌, arith, append_assoc, append-nil, length-append, length-drop}
-use Rattle.std.specs.Prelude.{slice_get, codes}
-use Rattle.std.proofs.lemmas.List.{drop-drop, drop_at, drop_all, take_at}
-use Rattle.tg_base.specs.Interned.{is_among}
+use Rattle.std.proofs.Common.{ℕ, ◌+◌, ◌-◌, ◌≡◌, ◌≤◌, ◌<◌, List, [], ◌∷◌, ◌++◌, length, take, drop, Ok, Err, true, refl, sym, ap, subst, ◌∙◌, arith, append_assoc, append-nil, length-append, length-drop}
+use Rattle.std.proofs.lemmas.List.{drop-drop, drop_at, drop_all}
 use Rattle.tg_syntax.specs.declared.faults.LexRule.{LexRule}
 use Rattle.tg_syntax.specs.declared.tokens.Token.{Token}
 use Rattle.tg_syntax.specs.declared.tokens.Token.TheVariants as token
 use Rattle.tg_syntax.specs.declared.tokens.Spanned.{Spanned}
 use Rattle.tg_syntax.specs.declared.tokens.Word.{Word}
 use Rattle.tg_syntax.specs.declared.tokens.Word.TheVariants.{WArray}
-use Rattle.tg_syntax.specs.Spellings.{Spells, word_text, sign_text}
+use Rattle.tg_syntax.specs.Spellings.{Spells, word_text}
 use Rattle.tg_syntax.specs.Lexing.{Lexes, spanned, OpensComment}
 use Rattle.tg_syntax.specs.LexicalFaults.{LeadsTo, FaultAt, HasLexicalFault, met}
 use Rattle.tg_syntax.proofs.Longest.{begins, is_mark}

@@ -1,13 +1,13 @@
 -- The longest sign with which a text begins.
-use Rattle.std.proofs.Common.{ℕ, ◌+◌, ◌≡◌, ◌≢◌, ◌⊎◌, inl, inr, List, [], ◌∷◌, ◌++◌, length, Bool, true, false, Some, None, drop, refl, sym, ap, subst, ◌∙◌}
+use Rattle.std.proofs.Common.{ℕ, ◌≡◌, ◌≢◌, List, [], ◌∷◌, ◌++◌, length, Bool, true, false, Some, None, drop, refl, sym, ap, subst, ◌∙◌}
 use Rattle.std.specs.Prelude.{slice_get}
 use Rattle.tg_syntax.specs.declared.tokens.Sign.{Sign}
 use Rattle.tg_syntax.specs.declared.tokens.Sign.TheVariants.{Comma, Colon, Less, Greater, NotEqual, LessEqual, GreaterEqual, Assign}
-use Rattle.tg_syntax.specs.Spellings.{sign_text, HasTokenForm}
+use Rattle.tg_syntax.specs.Spellings.{sign_text}
 use Rattle.tg_syntax.specs.Lexing.{IsLongest}
 use Rattle.tg_syntax.proofs.Longest.{begins, is_mark, form_of_mark}
 use Rattle.tg_lexer.specs.Fronts.{IsSign, IsSignFront}
-use Rattle.tg_lexer.proofs.Basics.{head_is, tail_is, not_cons, clash}
+use Rattle.tg_lexer.proofs.Basics.{head_is, not_cons, clash}
 use Rattle.tg_lexer.proofs.EscapeSteps.{first_byte, two_first, alone}
 
 pub sign_mark : (s : Sign) → begins is_mark (sign_text s) ≡ true

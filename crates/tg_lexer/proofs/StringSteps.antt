@@ -1,14 +1,13 @@
 -- A string, byte by byte and escape by escape.
-use Rattle.std.proofs.Common.{ℕ, zero, suc, ◌+◌, ◌≡◌, ◌≢◌, ◌≤◌, ◌<◌, List, [], ◌∷◌, ◌++◌, length, Bool, true, false, take, drop, get_or, refl, sym, ap, subst, ◌∙◌, arith, append_assoc, append-nil, length-append}
-use Rattle.std.specs.Prelude.{◌==◌, not, IsTrue}
+use Rattle.std.proofs.Common.{ℕ, ◌+◌, ◌≡◌, ◌≢◌, ◌≤◌, ◌<◌, List, [], ◌∷◌, ◌++◌, length, true, false, take, drop, get_or, sym, ap, subst, ◌∙◌, arith, append-nil}
 use Rattle.std.proofs.lemmas.Bool.Decides.{nat_tests}
-use Rattle.std.proofs.lemmas.List.{take-append-drop, length-take-le, drop_more, drop_all, length-drop}
+use Rattle.std.proofs.lemmas.List.{take-append-drop, length-take-le, drop_more, drop_all}
 use Rattle.tg_syntax.specs.declared.faults.LexRule.{LexRule}
 use Rattle.tg_syntax.specs.declared.faults.LexRule.TheVariants.{L3, L4, L6}
 use Rattle.tg_syntax.specs.Spellings.{IsQuoted, nothing, plain, escaped, Escape, is_plain}
-use Rattle.tg_syntax.specs.LexicalFaults.{FaultInString, end_in_string, line_in_string, control_byte, end_in_escape, line_in_escape, bad_escape, is_control, IsBegun, Misfits, FaultAt, in_string}
+use Rattle.tg_syntax.specs.LexicalFaults.{FaultInString, end_in_string, line_in_string, control_byte, end_in_escape, line_in_escape, bad_escape, is_control, FaultAt, in_string}
 use Rattle.tg_lexer.specs.Fronts.{IsString, IsCut, ended, line, IsBad, bad}
-use Rattle.tg_lexer.proofs.Basics.{clash, drop_piece, take_piece, within_piece}
+use Rattle.tg_lexer.proofs.Basics.{take_piece, within_piece}
 use Rattle.tg_lexer.proofs.Quotings.{IsQuoted-append}
 
 -- so far a text is what stands in a string

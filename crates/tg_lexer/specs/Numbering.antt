@@ -1,5 +1,5 @@
 -- How the names of a text are numbered.
-use Rattle.std.specs.Prelude.{ℕ, ◌-◌, List, [], ◌∷◌, ◌++◌, take, drop, cond, fold, Result, Ok, Err}
+use Rattle.std.specs.Prelude.{ℕ, ◌-◌, List, [], ◌∷◌, ◌++◌, take, drop, cond, fold, Result, Ok}
 use Rattle.tg_base.specs.Interned.{is_among}
 use Rattle.tg_base.specs.declared.ids.Span.{Span}
 use Rattle.tg_syntax.specs.declared.tokens.Token.{Token}
