@@ -1,6 +1,5 @@
 -- The answer for a whole program is exact.
-use Rattle.std.proofs.Common.{◌≡◌, List, [], ◌∷◌, ◌++◌, Option, Some, None, refl, sym, ap, subst, ◌∙◌, append_assoc, append-nil}
-use Rattle.tg_syntax.specs.declared.tokens.Token.{Token}
+use Rattle.std.proofs.Common.{◌≡◌, List, [], ◌∷◌, ◌++◌, sym, ap, subst, ◌∙◌, append_assoc, append-nil}
 use Rattle.tg_syntax.specs.declared.tokens.Token.TheVariants.{End}
 use Rattle.tg_syntax.specs.declared.tokens.Spanned.{Spanned}
 use Rattle.tg_syntax.specs.Tree.{Exp}
@@ -11,7 +10,7 @@ use Rattle.tg_grammar.specs.Reading.{whole_program, Does}
 use Rattle.tg_grammar.specs.Laws.{IsUnexpected}
 use Rattle.tg_grammar.proofs.Runs.{does_one, got_bad}
 use Rattle.tg_grammar.proofs.Complete.{complete_program}
-use Rattle.tg_grammar.proofs.Sound.{Lang_of, Fine, fine_got, fine_bad, fine_out, fine}
+use Rattle.tg_grammar.proofs.Sound.{Fine, fine_got, fine_bad, fine_out, fine}
 use Rattle.tg_grammar.proofs.ValidJobs.{all_valid, valid}
 
 head_is : {t r : Spanned} {a b : List Spanned} → t ∷ a ≡ r ∷ b → t ≡ r

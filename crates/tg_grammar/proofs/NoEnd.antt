@@ -12,8 +12,8 @@ use Rattle.tg_base.specs.declared.ids.Name.{Name}
 use Rattle.tg_syntax.specs.Tree.{Form, Exp, Place, Exps, Inits, Decs}
 use Rattle.tg_syntax.specs.Groups.{Dec}
 use Rattle.tg_syntax.specs.Grammar.{Level, or_op, and_op, rel_op, sum_op, term_op, IsIdent, AreFields, one_field, more_fields, AreAnyFields, no_fields, some_fields, IsForm, alias, fields, array, IsAnnotation, not_annotated, annotated, Reads, whole_assign, whole_up, or_up, or_more, and_up, and_more, cmp_up, cmp_two, sum_up, sum_more, term_up, term_more, unary_minus, unary_primary, unary_tail, primary_place, primary_nil, primary_int, primary_text, primary_break, primary_sequence, primary_call, primary_record, primary_let, tail_then, tail_else, tail_while, tail_for, tail_fill, IsPlace, place_simple, place_field, place_index, AreMany, many_one, many_more, AreAny, any_none, any_many, AreInits, one_init, more_inits, AreAnyInits, any_no_inits, any_inits, IsDec, dec_type, dec_variable, dec_function, AreDecs, decs_none, decs_more, IsProgram, program}
-use Rattle.tg_syntax.specs.SyntaxFaults.{Begins, HasNoEnd, EndsOnce}
-use Rattle.tg_grammar.specs.Steps.{Got, Out, Whole_program}
+use Rattle.tg_syntax.specs.SyntaxFaults.{HasNoEnd, EndsOnce}
+use Rattle.tg_grammar.specs.Steps.{Out, Whole_program}
 use Rattle.tg_grammar.specs.Reading.{whole_program, Does}
 use Rattle.tg_grammar.proofs.Runs.{does_one, got_out}
 use Rattle.tg_grammar.proofs.Complete.{complete_program}

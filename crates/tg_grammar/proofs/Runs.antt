@@ -1,5 +1,5 @@
 -- What a program does is determined.
-use Rattle.std.proofs.Common.{◌≡◌, ℕ, Bool, true, false, List, [], ◌∷◌, ◌++◌, Option, Some, None, refl, sym, ap, subst, ◌∙◌}
+use Rattle.std.proofs.Common.{◌≡◌, ℕ, Bool, true, false, List, [], ◌∷◌, Option, Some, None, refl, sym, ap, subst, ◌∙◌}
 use Rattle.tg_base.specs.declared.ids.Span.{Span}
 use Rattle.tg_base.specs.declared.ids.Name.{Name}
 use Rattle.tg_syntax.specs.declared.tokens.Token.TheVariants as token

@@ -1,21 +1,18 @@
 -- What an answer says: what was read is in the language of its job, or the list can go on, and no more than the next token was
 -- looked at.
-use Rattle.std.proofs.Common.{◌≡◌, ℕ, Bool, true, false, List, [], ◌∷◌, ◌++◌, Option, Some, None, refl, sym, ap, subst, ◌∙◌, append_assoc, append-nil}
+use Rattle.std.proofs.Common.{◌≡◌, true, false, List, [], ◌∷◌, ◌++◌, Option, Some, None, refl, sym, ap, subst, ◌∙◌, append_assoc}
 use Rattle.tg_base.specs.declared.ids.Span.{Span}
-use Rattle.tg_base.specs.declared.ids.Name.{Name}
-use Rattle.tg_syntax.specs.declared.tokens.Word.TheVariants.{WType, WVar, WFunction, WArray, WOf}
+use Rattle.tg_syntax.specs.declared.tokens.Word.TheVariants.{WType, WVar, WFunction}
 use Rattle.tg_syntax.specs.declared.tokens.Sign.{Sign}
-use Rattle.tg_syntax.specs.declared.tokens.Sign.TheVariants.{Comma, Colon, LeftBrace, RightBrace, Equal}
-use Rattle.tg_syntax.specs.declared.tokens.Sign.TheVariants as sign
+use Rattle.tg_syntax.specs.declared.tokens.Sign.TheVariants.{Colon, RightBrace, Equal}
 use Rattle.tg_syntax.specs.declared.tokens.Token.{Token}
 use Rattle.tg_syntax.specs.declared.tokens.Token.TheVariants as token
 use Rattle.tg_syntax.specs.declared.tokens.Spanned.{Spanned}
 use Rattle.tg_syntax.specs.declared.tokens.Ident.{Ident}
 use Rattle.tg_syntax.specs.declared.trees.Param.{Param}
 use Rattle.tg_syntax.specs.declared.trees.Op.{Op}
-use Rattle.tg_syntax.specs.Tree.{Form, Exp, Place, Exps, no_exps, exp, Inits, no_inits, init, Decs}
-use Rattle.tg_syntax.specs.Groups.{Dec}
-use Rattle.tg_syntax.specs.Grammar.{Level, Whole, Disjunction, Conjunction, Comparison, Sum, Term, Unary, Primary, Tail, IsIdent, IsSign, IsWord, AreFields, AreAnyFields, IsForm, IsAnnotation, Reads, IsPlace, AreMany, AreAny, AreInits, AreAnyInits, IsDec, AreDecs, IsProgram}
+use Rattle.tg_syntax.specs.Tree.{Exp, Exps, Inits}
+use Rattle.tg_syntax.specs.Grammar.{Whole, IsIdent, IsSign, IsWord, AreFields, AreAnyFields, IsForm, IsAnnotation, Reads, IsPlace, AreMany, AreAny, AreInits, AreAnyInits, IsDec, AreDecs, IsProgram}
 use Rattle.tg_grammar.specs.declared.marks.Mark.{Mark}
 use Rattle.tg_grammar.specs.Steps.{token_of, op_of, Answer, Got, Bad, Out, Job, OneSpan, OneName, At, After, Suffix, Listed, Items, OneInit, ListedInits, MoreInits, OneParam, ListedParams, MoreParams, OneForm, Annotation, TypeDec, VarDec, FunDec, MoreDecs, Whole_program, Of, Steps, give, refuse, want, name, split, oper, leaf, look, test, call}
 use Rattle.tg_grammar.specs.Reading.{job, Does, give_got, refuse_bad, refuse_out, want_got, want_bad, want_out, name_got, name_bad, name_out, split_yes, split_no, split_out, oper_yes, oper_no, oper_out, leaf_yes, leaf_no, leaf_out, look_at, look_out, test_yes, test_no, call_got, call_bad, call_out}

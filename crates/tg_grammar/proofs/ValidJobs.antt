@@ -1,10 +1,7 @@
 -- Each job stays in its language.
-use Rattle.std.proofs.Common.{◌≡◌, ℕ, Bool, true, false, List, [], ◌∷◌, ◌++◌, Option, Some, None, refl, sym, ap, subst, ◌∙◌, append_assoc, append-nil}
+use Rattle.std.proofs.Common.{◌≡◌, false, List, [], ◌∷◌, ◌++◌, Option, Some, None, refl, sym, ap, subst, append_assoc, append-nil}
 use Rattle.tg_base.specs.declared.ids.Span.{Span}
-use Rattle.tg_base.specs.declared.ids.Name.{Name}
-use Rattle.tg_syntax.specs.declared.tokens.Word.{Word}
-use Rattle.tg_syntax.specs.declared.tokens.Word.TheVariants.{WArray, WBreak, WDo, WElse, WEnd, WFor, WFunction, WIf, WIn, WLet, WNil, WOf, WThen, WTo, WType, WVar, WWhile}
-use Rattle.tg_syntax.specs.declared.tokens.Sign.{Sign}
+use Rattle.tg_syntax.specs.declared.tokens.Word.TheVariants.{WBreak, WEnd, WFor, WFunction, WIf, WIn, WLet, WNil, WThen, WWhile}
 use Rattle.tg_syntax.specs.declared.tokens.Sign.TheVariants.{Comma, Colon, Semicolon, LeftParen, RightParen, LeftBracket, RightBracket, LeftBrace, RightBrace, Dot, Equal}
 use Rattle.tg_syntax.specs.declared.tokens.Sign.TheVariants as sign
 use Rattle.tg_syntax.specs.declared.tokens.Token.{Token}
@@ -13,17 +10,16 @@ use Rattle.tg_syntax.specs.declared.tokens.Spanned.{Spanned}
 use Rattle.tg_syntax.specs.declared.tokens.Ident.{Ident}
 use Rattle.tg_syntax.specs.declared.trees.Param.{Param}
 use Rattle.tg_syntax.specs.declared.trees.Op.{Op}
-use Rattle.tg_syntax.specs.Tree.{Form, Alias, Fields, Array, Exp, Nil, Break, Int, Text, Read, Call, Neg, Binary, Make, Fill, Assign, If, When, While, For, Let, Seq, Place, Simple, Field, Index, Exps, no_exps, exp, Inits, no_inits, init, Decs, no_decs}
+use Rattle.tg_syntax.specs.Tree.{Alias, Fields, Exp, Int, Read, Call, Neg, Make, Fill, Assign, If, When, While, For, Let, Seq, Place, Simple, Field, Index, Exps, no_exps, Inits, no_inits, init, Decs}
 use Rattle.tg_syntax.specs.Spans.{span_of, joined}
-use Rattle.tg_syntax.specs.Tails.{ends_tail, is_short}
+use Rattle.tg_syntax.specs.Tails.{ends_tail}
 use Rattle.tg_syntax.specs.Groups.{snoc, snoc_init, Dec, one_type, one_variable, one_function, snoc_dec}
-use Rattle.tg_syntax.specs.Grammar.{Level, Whole, Disjunction, Conjunction, Comparison, Sum, Term, Unary, Primary, Tail, IsIdent, IsSign, IsWord, AreFields, one_field, more_fields, AreAnyFields, no_fields, some_fields, IsForm, alias, fields, array, IsAnnotation, not_annotated, annotated, Reads, whole_assign, whole_up, or_up, or_more, and_up, and_more, cmp_up, cmp_two, sum_up, sum_more, term_up, term_more, unary_minus, unary_primary, unary_tail, primary_place, primary_nil, primary_int, primary_text, primary_break, primary_sequence, primary_call, primary_record, primary_let, tail_then, tail_else, tail_while, tail_for, tail_fill, IsPlace, place_simple, place_field, place_index, AreMany, many_one, many_more, AreAny, any_none, any_many, AreInits, one_init, more_inits, AreAnyInits, any_no_inits, any_inits, IsDec, dec_type, dec_variable, dec_function, AreDecs, decs_none, decs_more, IsProgram, program}
-use Rattle.tg_grammar.specs.declared.marks.Mark.{Mark}
-use Rattle.tg_grammar.specs.declared.marks.Mark.TheVariants.{OfSign, OfWord, OfEnd}
-use Rattle.tg_grammar.specs.Steps.{token_of, op_of, Job, OneSpan, OneName, At, After, Suffix, Listed, Items, OneInit, ListedInits, MoreInits, OneParam, ListedParams, MoreParams, OneForm, Annotation, TypeDec, VarDec, FunDec, MoreDecs, Whole_program, Of, Steps}
-use Rattle.tg_grammar.specs.Reading.{below, binary, atom, atom_of, unary, level, operators, comparing, assigning, reading, indexing, naming, elsing, job}
+use Rattle.tg_syntax.specs.Grammar.{Level, Whole, Disjunction, Conjunction, Comparison, Sum, Term, Unary, Primary, Tail, IsIdent, IsSign, IsWord, AreFields, one_field, more_fields, no_fields, some_fields, IsForm, alias, fields, array, IsAnnotation, not_annotated, annotated, Reads, whole_assign, whole_up, or_up, or_more, and_up, and_more, cmp_up, cmp_two, sum_up, sum_more, term_up, term_more, unary_minus, unary_primary, unary_tail, primary_place, primary_nil, primary_int, primary_text, primary_break, primary_sequence, primary_call, primary_record, primary_let, tail_then, tail_else, tail_while, tail_for, tail_fill, IsPlace, place_simple, place_field, place_index, AreMany, many_one, many_more, any_none, any_many, AreInits, one_init, more_inits, any_no_inits, any_inits, IsDec, dec_type, dec_variable, dec_function, AreDecs, decs_none, decs_more, program}
+use Rattle.tg_grammar.specs.declared.marks.Mark.TheVariants.{OfSign, OfWord}
+use Rattle.tg_grammar.specs.Steps.{token_of, op_of, Job, OneSpan, OneName, At, After, Suffix, Listed, Items, OneInit, ListedInits, MoreInits, OneParam, ListedParams, MoreParams, OneForm, Annotation, TypeDec, VarDec, FunDec, MoreDecs, Whole_program}
+use Rattle.tg_grammar.specs.Reading.{below, binary, atom_of, unary, level, operators, comparing, assigning, reading, naming, elsing, job}
 use Rattle.tg_grammar.proofs.Complete.{read_at, IsChain}
-use Rattle.tg_grammar.proofs.Sound.{Lang, Viable, Lang_of, Valid, IsListed, listed_is, IsInit, init_is, AreListedInits, inits_are, IsParam, param_is, AreListedParams, params_are, sample, some_ident, nowhere, Inhabited, AllValid}
+use Rattle.tg_grammar.proofs.Sound.{Lang, Viable, Lang_of, Valid, IsListed, listed_is, IsInit, init_is, AreListedInits, inits_are, IsParam, param_is, AreListedParams, params_are, sample, some_ident, nowhere, AllValid}
 
 -- nothing more at the end
 whole_end : {A : Type 0} (L : Lang A) (u : List Spanned) (y : A) → L u y → L (u ++ []) y

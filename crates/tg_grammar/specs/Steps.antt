@@ -1,5 +1,5 @@
 -- Programs over the first token of what is left of a list.
-use Rattle.std.specs.Prelude.{ℕ, ◌≡◌, Bool, true, false, List, [], ◌∷◌, Option, Some, None}
+use Rattle.std.specs.Prelude.{ℕ, Bool, List, Option, None}
 use Rattle.tg_base.specs.declared.ids.Span.{Span}
 use Rattle.tg_syntax.specs.declared.tokens.Sign.{Sign}
 use Rattle.tg_syntax.specs.declared.tokens.Token.{Token}
@@ -10,7 +10,7 @@ use Rattle.tg_syntax.specs.declared.trees.Param.{Param}
 use Rattle.tg_syntax.specs.declared.trees.Op.{Op}
 use Rattle.tg_syntax.specs.Tree.{Form, Exp, Place, Exps, Inits, Decs}
 use Rattle.tg_syntax.specs.Groups.{Dec}
-use Rattle.tg_syntax.specs.Grammar.{Level, Disjunction, Conjunction, Comparison, Sum, Term, or_op, and_op, rel_op, sum_op, term_op, IsIdent}
+use Rattle.tg_syntax.specs.Grammar.{Level, Disjunction, Conjunction, Comparison, Sum, Term, or_op, and_op, rel_op, sum_op, term_op}
 use Rattle.tg_grammar.specs.declared.marks.Mark.{Mark}
 use Rattle.tg_grammar.specs.declared.marks.Mark.TheVariants as mark
 
