@@ -1,19 +1,12 @@
 -- What taking the first token gives.
-use Rattle.std.proofs.Common.{length, arith, suc, ◌+◌, ◌≡◌, ℕ, Bool, true, false, List, [], ◌∷◌, Option, Some, None, refl, sym, ap, subst, ◌∙◌}
-use Rattle.tg_base.specs.declared.ids.Span.{Span}
+use Rattle.std.proofs.Common.{length, arith, ◌≡◌, List, [], ◌∷◌, refl, sym, subst}
 use Rattle.tg_base.specs.declared.ids.Name.{Name}
-use Rattle.tg_syntax.specs.declared.tokens.Token.{Token}
 use Rattle.tg_syntax.specs.declared.tokens.Token.TheVariants as token
 use Rattle.tg_syntax.specs.declared.tokens.Spanned.{Spanned}
-use Rattle.tg_syntax.specs.declared.tokens.Ident.{Ident}
-use Rattle.tg_syntax.specs.declared.trees.Op.{Op}
-use Rattle.tg_syntax.specs.Grammar.{Level, IsIdent}
 use Rattle.tg_grammar.specs.declared.marks.Mark.{Mark}
-use Rattle.tg_grammar.specs.Steps.{token_of, op_of, Answer, Got, Bad, Out, Job, OneSpan, OneName, Of, Steps, give, want, name, split, oper, leaf, look, test, call}
-use Rattle.tg_grammar.specs.Reading.{job, Does, give_got, want_got, want_bad, want_out, name_got, name_bad, name_out, split_yes, split_no, split_out, oper_yes, oper_no, oper_out, look_at, look_out, test_yes, test_no, call_got, call_bad, call_out}
-use Rattle.tg_parser.specs.declared.faults.Stop.{Stop}
-use Rattle.tg_parser.specs.declared.faults.Stop.TheVariants.{Wrong, More, Memory}
-use Rattle.tg_parser.specs.Given.{Refuses, Fails}
+use Rattle.tg_grammar.specs.Steps.{token_of, Got, Bad, Out, OneSpan, OneName, give, want, name}
+use Rattle.tg_grammar.specs.Reading.{Does, give_got, want_got, want_bad, want_out, name_got, name_bad, name_out}
+use Rattle.tg_parser.specs.Given.{Fails}
 
 -- the first token
 pub take_yes : (m : Mark) (ts : List Spanned) (t : Spanned) (rest : List Spanned) → ts ≡ t ∷ rest → t.token ≡ token_of m → Does OneSpan (want m (λ s. give s)) ts (Got t.span rest)

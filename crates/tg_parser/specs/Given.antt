@@ -3,8 +3,8 @@ use Rattle.std.specs.Prelude.{◌≡◌, ℕ, List, Result, Ok, Err}
 use Rattle.tg_syntax.specs.declared.tokens.Spanned.{Spanned}
 use Rattle.tg_parser.specs.declared.faults.Stop.{Stop}
 use Rattle.tg_parser.specs.declared.faults.Stop.TheVariants.{Wrong, More, Memory}
-use Rattle.tg_grammar.specs.Steps.{Job, Of, Steps, Answer, Got, Bad, Out}
-use Rattle.tg_grammar.specs.Reading.{job, Does}
+use Rattle.tg_grammar.specs.Steps.{Job, Of, Steps, Got, Bad, Out}
+use Rattle.tg_grammar.specs.Reading.{Does}
 
 -- the token that begins at a byte is refused
 pub record Fails (j : Job) (s : Steps (Of j)) (ts : List Spanned) (at : ℕ) : Type 0 where

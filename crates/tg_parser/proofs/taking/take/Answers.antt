@@ -1,4 +1,4 @@
-use Rattle.std.specs.Prelude.{IsTrue, Bool, false}
+use Rattle.std.specs.Prelude.{IsTrue, false}
 use Rattle.tg_parser.proofs.Chains.{take_no, take_none}
 use Rattle.tg_parser.proofs.taking.take.Goals as goal
 
