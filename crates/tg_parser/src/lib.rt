@@ -1,6 +1,6 @@
 //! Descent by precedence (Appel, chapter 3), begun: the marks and the names of a program are taken exactly as the laws of
-//! descent in `tg_grammar` say. What reads forms of types and tests the
-//! nesting stays private until its contracts are exact.
+//! descent in `tg_grammar` say. What reads forms of types, and what tests the nesting, stays private until its contracts
+//! are exact.
 #![tactic(auto)]
 
 mod faults;
