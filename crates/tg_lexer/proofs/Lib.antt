@@ -11,3 +11,4 @@ pub mod Interning
 pub mod Scans
 pub mod Onces
 pub mod Excludes
+pub mod StringFaults

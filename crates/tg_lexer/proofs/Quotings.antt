@@ -67,13 +67,13 @@ quoted_once {short = short} {meant = meant} {long = long} {meaning = meaning} q 
     }
 
 -- no string goes on where a fault stands
-control_plain : (b : ℕ) → is_control b ≡ true → is_plain b ≡ false
+pub control_plain : (b : ℕ) → is_control b ≡ true → is_plain b ≡ false
 control_plain b h = grind (arith, nat_tests)
 
 control_quote : (b : ℕ) → is_control b ≡ true → b ≡ 34 → ⊥
 control_quote b h e = apart is_control 34 b refl h (sym e)
 
-control_backslash : (b : ℕ) → is_control b ≡ true → b ≡ 92 → ⊥
+pub control_backslash : (b : ℕ) → is_control b ≡ true → b ≡ 92 → ⊥
 control_backslash b h e = apart is_control 92 b refl h (sym e)
 
 -- a string that begins with a control byte

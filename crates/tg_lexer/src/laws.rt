@@ -17,3 +17,9 @@ pub fn fault_excludes_tokens()
         → length text ≤ 262144 → (names : List (List ℕ)) (tokens : List Spanned)
         → Lexes names 0 text tokens → ⊥ }
 {}
+
+/// The law that a text has at most one first lexical fault. It does nothing.
+pub fn faults_once()
+    ensures { (text : List ℕ) (rule other : LexRule) (at to : ℕ) → HasLexicalFault text rule at
+        → HasLexicalFault text other to → (rule ≡ other) × (at ≡ to) }
+{}
