@@ -31,6 +31,8 @@ impl Reg {
 
     pub const SP: Reg = Reg(29);
 
+    pub const RA: Reg = Reg(31);
+
     /// The register with a number.
     #[inline(always)]
     pub fn new(number: u8) -> Reg

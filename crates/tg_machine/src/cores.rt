@@ -6,9 +6,9 @@ ghost use Rattle.tg_isa.specs.Effects as effects;
 ghost use Rattle.tg_machine.specs.Moves.{IsDone, IsOwn};
 
 use crate::stacks::Stack;
-use crate::words::{extend, offset, product, set_word, word_at};
+use crate::words::{extend, offset, product, remainder, set_word, word_at};
 use std::marker::Model;
-use tg_base::RunEnd;
+use tg_base::{RunEnd, quot};
 use tg_isa::{Bits, Mips, Reg};
 
 /// Where the code begins.
@@ -146,6 +146,29 @@ impl Core {
         Err(self.fault(address))
     }
 
+    /// Puts the low byte of a word at an address.
+    #[inline(always)]
+    pub(crate) fn store_byte(&mut self, address: u32, value: u32) -> Result<(), RunEnd>
+        ensures { IsDone (effects.stored (state.store_byte self.old address value))
+            result self.new }
+    {
+        let low = (value % 256) as u8;
+        let floor = TOP - self.stack.len() as u32;
+        if let Some(at) = offset(address, floor, self.stack.len()) {
+            self.stack.set_byte(at, low);
+            return Ok(());
+        }
+        if let Some(at) = offset(address, HEAP, self.heap.len()) {
+            self.heap[at] = low;
+            return Ok(());
+        }
+        if let Some(at) = offset(address, STATICS, self.statics.len()) {
+            self.statics[at] = low;
+            return Ok(());
+        }
+        Err(self.fault(address))
+    }
+
     /// The instruction at the place.
     #[inline(always)]
     pub(crate) fn fetch(&self) -> Result<Mips, RunEnd>
@@ -205,6 +228,17 @@ impl Core {
         let bits = product(left, right);
         self.lo = (bits % 4294967296) as u32;
         self.hi = (bits / 4294967296) as u32;
+    }
+
+    /// Puts the quotient of two words into lo and the remainder into hi. By 0 both stay.
+    #[inline(always)]
+    pub(crate) fn divide(&mut self, left: u32, right: u32)
+        ensures { self.new ≡ effects.divide self.old left right }
+    {
+        if right != 0 {
+            self.lo = quot(left, right);
+            self.hi = remainder(left, right);
+        }
     }
 
     /// The address of a load or a store.

@@ -97,6 +97,17 @@ impl Stack {
         let skipped = self.size - self.near.len();
         set_word(&mut self.near, at - skipped, value);
     }
+
+    /// Puts a byte at an offset from the floor.
+    #[inline(always)]
+    pub(crate) fn set_byte(&mut self, at: usize, value: u8)
+        requires { at < length self.old }
+        ensures { self.new ≡ slice_set self.old at value }
+    {
+        reach(&mut self.near, self.size, at);
+        let skipped = self.size - self.near.len();
+        self.near[at - skipped] = value;
+    }
 }
 
 /// Makes a vector hold the byte at a place, where zeros stand before it up to a size. It at least doubles the vector.

@@ -205,3 +205,159 @@ fn stops_and_goes_on(rt: HostRuntime) -> Result<(), Fail> {
     assert_eq!(rt; run.run(&mut input, &mut out, 1), RunEnd::Exit(5));
     Ok(())
 }
+
+/// The start of the statics in $t0.
+fn statics() -> Mips {
+    Mips::Lui(Reg::T0, bits(0x1001))
+}
+
+/// Ends with $a0 as its code.
+fn leave() -> [Mips; 2] {
+    [set(Reg::V0, 17), CALL]
+}
+
+fn least_by_minus_one() -> [Mips; 6] {
+    let [ask, call] = leave();
+    [
+        Mips::Lui(Reg::T0, bits(0x8000)),
+        Mips::Addiu(Reg::T1, Reg::ZERO, bits(0xffff)),
+        Mips::Div(Reg::T0, Reg::T1),
+        Mips::Mflo(Reg::A0),
+        ask,
+        call,
+    ]
+}
+
+fn remainder_kept_by_zero() -> [Mips; 7] {
+    let [ask, call] = leave();
+    [
+        Mips::Addiu(Reg::T0, Reg::ZERO, bits(0xfff9)),
+        set(Reg::T1, 4),
+        Mips::Div(Reg::T0, Reg::T1),
+        Mips::Div(Reg::T0, Reg::ZERO),
+        Mips::Mfhi(Reg::A0),
+        ask,
+        call,
+    ]
+}
+
+fn low_byte_with_sign() -> [Mips; 6] {
+    let [ask, call] = leave();
+    [
+        statics(),
+        set(Reg::T1, 0x0180),
+        Mips::Sb(Reg::T1, bits(1), Reg::T0),
+        Mips::Lb(Reg::A0, bits(1), Reg::T0),
+        ask,
+        call,
+    ]
+}
+
+fn low_byte_without_sign() -> [Mips; 6] {
+    let [ask, call] = leave();
+    [
+        set(Reg::T1, 0x0180),
+        Mips::Sb(Reg::T1, bits(0xffff), Reg::SP),
+        Mips::Lbu(Reg::A0, bits(0xffff), Reg::SP),
+        ask,
+        call,
+        Mips::Break(Bits::new(1)),
+    ]
+}
+
+#[test]
+fn quotients_and_bytes(rt: HostRuntime) -> Result<(), Fail> {
+    let alloc = rt.alloc();
+    for (program, want) in [
+        (least_by_minus_one().as_slice(), RunEnd::Exit(-2147483648)),
+        (&remainder_kept_by_zero(), RunEnd::Exit(-3)),
+        (&low_byte_with_sign(), RunEnd::Exit(-128)),
+        (&low_byte_without_sign(), RunEnd::Exit(128)),
+        (&[Mips::Break(Bits::new(1048575))], RunEnd::Break(1048575)),
+    ] {
+        assert_eq!(rt; end_of(alloc, loaded(&rt, alloc, program)?)?, want);
+    }
+    Ok(())
+}
+
+/// A call of place 4 words on, which comes back and then ends.
+fn called() -> [Mips; 6] {
+    [
+        Mips::Jal(Bits::new(0x0010_0004)),
+        Mips::Or(Reg::A0, Reg::T0, Reg::ZERO),
+        set(Reg::V0, 17),
+        CALL,
+        set(Reg::T0, 9),
+        Mips::Jr(Reg::RA),
+    ]
+}
+
+/// Counts down from 3 with each branch once taken, and ends with 3 rounds in $a0.
+fn counted_down() -> [Mips; 7] {
+    let [ask, call] = leave();
+    [
+        set(Reg::T0, 3),
+        Mips::Addiu(Reg::A0, Reg::A0, bits(1)),
+        Mips::Addi(Reg::T0, Reg::T0, bits(0xffff)),
+        Mips::Bgtz(Reg::T0, bits(0xfffd)),
+        Mips::Bltz(Reg::T0, bits(1)),
+        ask,
+        call,
+    ]
+}
+
+#[test]
+fn jumps_and_branches(rt: HostRuntime) -> Result<(), Fail> {
+    let alloc = rt.alloc();
+    let outside = [Mips::J(Bits::new(0))];
+    let odd = [set(Reg::T0, 2), Mips::Jr(Reg::T0)];
+    for (program, want) in [
+        (called().as_slice(), RunEnd::Exit(9)),
+        (&counted_down(), RunEnd::Exit(3)),
+        (&outside, RunEnd::Exit(0)),
+        (&odd, RunEnd::Unaligned(2)),
+        (&[Mips::Jr(Reg::RA)], RunEnd::Exit(0)),
+        (
+            &[Mips::Beq(Reg::ZERO, Reg::ZERO, bits(0xfffe))],
+            RunEnd::BadAddress(0x003f_fffc),
+        ),
+    ] {
+        assert_eq!(rt; end_of(alloc, loaded(&rt, alloc, program)?)?, want);
+    }
+    Ok(())
+}
+
+/// How a load of a word ends that is the only instruction.
+fn load_at(rt: &impl Abort, alloc: Global, upper: u16, lower: u16) -> Result<RunEnd, Fail> {
+    let program = [
+        Mips::Lui(Reg::T0, bits(upper)),
+        Mips::Ori(Reg::T0, Reg::T0, bits(lower)),
+        Mips::Lw(Reg::T1, bits(0), Reg::T0),
+        Mips::Break(Bits::new(1)),
+    ];
+    end_of(alloc, loaded(rt, alloc, &program)?)
+}
+
+#[test]
+fn edges_of_the_regions(rt: HostRuntime) -> Result<(), Fail> {
+    let alloc = rt.alloc();
+    let served = RunEnd::Break(1);
+    for (upper, lower, want) in [
+        (0x0040, 0x0000, RunEnd::BadAddress(0x0040_0000)),
+        (0x1000, 0xfffc, RunEnd::BadAddress(0x1000_fffc)),
+        (0x1001, 0x0000, served),
+        (0x1001, 0x0001, RunEnd::Unaligned(0x1001_0001)),
+        (0x1001, 0x0004, RunEnd::BadAddress(0x1001_0004)),
+        (0x1100, 0x0000, RunEnd::BadAddress(0x1100_0000)),
+        (0x3fff, 0xfffc, RunEnd::BadAddress(0x3fff_fffc)),
+        (0x4000, 0x0000, RunEnd::StackFull),
+        (0x7fff, 0xffb8, RunEnd::StackFull),
+        (0x7fff, 0xffbc, served),
+        (0x7fff, 0xfff8, served),
+        (0x7fff, 0xfffc, RunEnd::BadAddress(0x7fff_fffc)),
+        (0xffff, 0xfffc, RunEnd::BadAddress(0xffff_fffc)),
+    ] {
+        assert_eq!(rt; load_at(&rt, alloc, upper, lower)?, want);
+    }
+    Ok(())
+}

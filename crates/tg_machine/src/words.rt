@@ -1,5 +1,5 @@
-ghost use Rattle.std.specs.Prelude.{◌≡◌, ◌+◌, ◌≤◌, length, vec_capacity};
-ghost use Rattle.tg_base.specs.Words.{exact_difference, exact_sum, extended, product};
+ghost use Rattle.std.specs.Prelude.{◌≡◌, ◌≢◌, ◌+◌, ◌≤◌, length, vec_capacity};
+ghost use Rattle.tg_base.specs.Words.{exact_difference, exact_sum, extended, extended_byte, product, rem};
 ghost use Rattle.tg_base.specs.State as state;
 
 use tg_isa::Bits;
@@ -11,6 +11,26 @@ pub(crate) fn extend(number: Bits<16>) -> u32
 {
     let low = number.get();
     if low < 32768 { low } else { low + 4294901760 }
+}
+
+/// A byte with its sign.
+#[inline(always)]
+pub(crate) fn extend_byte(byte: u8) -> u32
+    ensures { result ≡ extended_byte byte }
+{
+    let low = u32::from(byte);
+    if low < 128 { low } else { low + 4294967040 }
+}
+
+/// The remainder of the quotient toward zero of the ints that two words stand for.
+#[inline(always)]
+pub(crate) fn remainder(left: u32, right: u32) -> u32
+    requires { right ≢ 0 }
+    ensures { result ≡ rem left right }
+{
+    left.cast_signed()
+        .wrapping_rem(right.cast_signed())
+        .cast_unsigned()
 }
 
 /// How far an address is above a base, where it is below the end.
