@@ -1,5 +1,7 @@
 -- What taking the first token gives, and how programs go on behind what was taken.
-use Rattle.std.proofs.Common.{length, arith, ◌≡◌, List, [], ◌∷◌, refl, sym, subst}
+use Rattle.std.specs.Prelude.{IsTrue, ◌↔◌, Result, Ok, Err, IsErr}
+use Rattle.std.specs.Result.{IsErrAnd}
+use Rattle.std.proofs.Common.{Bool, true, false, length, arith, ◌≡◌, List, [], ◌∷◌, refl, sym, subst}
 use Rattle.tg_base.specs.declared.ids.Span.{Span}
 use Rattle.tg_base.specs.declared.ids.Name.{Name}
 use Rattle.tg_syntax.specs.declared.tokens.Token.TheVariants as token
@@ -10,7 +12,7 @@ use Rattle.tg_grammar.specs.Steps.{token_of, Answer, Got, Bad, Job, Of, Steps, O
 use Rattle.tg_grammar.specs.Reading.{Does, job, give_got, want_got, want_bad, want_out, name_got, name_bad, name_out, split_yes, split_no, split_out, call_got, call_bad, call_out}
 use Rattle.tg_parser.specs.declared.faults.Stop.{Stop}
 use Rattle.tg_parser.specs.declared.faults.Stop.TheVariants.{Wrong, More}
-use Rattle.tg_parser.specs.Given.{Refuses, refuses, wants, no_memory}
+use Rattle.tg_parser.specs.Given.{Gives, Refuses, refuses, wants, no_memory}
 
 -- the first token
 pub take_yes : (m : Mark) (ts : List Spanned) (t : Spanned) (rest : List Spanned) → ts ≡ t ∷ rest → t.token ≡ token_of m → Does OneSpan (want m (λ s. give s)) ts (Got t.span rest)
@@ -76,24 +78,33 @@ call_stops j i (refuses one h) = refuses one (call_bad j i h)
 call_stops j i (wants h) = wants (call_out j i h)
 call_stops j i (no_memory _) = no_memory j
 
--- at a mark, and at none
-pub split_on : (j : Job) {m : Mark} {f : Span → Steps (Of j)} {s : Steps (Of j)} {t : Spanned} {ts rest : List Spanned} {r : Answer (Of j)} → ts ≡ t ∷ rest → t.token ≡ token_of m → Does j (f t.span) rest r → Does j (split m f s) ts r
-split_on j {m} {f} {s} {t} {ts} {rest} {r} e h d = subst (λ w. Does j (split m f s) w r) (sym e) (split_yes j h d)
+-- at a mark, by a test of it, and at none
+pub split_on : (j : Job) {m : Mark} {f : Span → Steps (Of j)} {s : Steps (Of j)} {b : Bool} {t : Spanned} {ts rest : List Spanned} {r : Answer (Of j)} → ts ≡ t ∷ rest → IsTrue b ↔ (t.token ≡ token_of m) → b ≡ true → Does j (f t.span) rest r → Does j (split m f s) ts r
+split_on j {m} {f} {s} {b} {t} {ts} {rest} {r} e h i d = subst (λ w. Does j (split m f s) w r) (sym e) (split_yes j (h.0 i) d)
 
-pub split_then : (j : Job) {m : Mark} {f : Span → Steps (Of j)} {s : Steps (Of j)} {t : Spanned} {ts rest : List Spanned} {e : Stop} → ts ≡ t ∷ rest → t.token ≡ token_of m → Refuses e j (f t.span) rest → Refuses e j (split m f s) ts
-split_then j p i (refuses one h) = refuses one (split_on j p i h)
-split_then j p i (wants h) = wants (split_on j p i h)
-split_then j p i (no_memory _) = no_memory j
+pub split_then : (j : Job) {m : Mark} {f : Span → Steps (Of j)} {s : Steps (Of j)} {b : Bool} {t : Spanned} {ts rest : List Spanned} {e : Stop} → ts ≡ t ∷ rest → IsTrue b ↔ (t.token ≡ token_of m) → b ≡ true → Refuses e j (f t.span) rest → Refuses e j (split m f s) ts
+split_then j p h i (refuses one d) = refuses one (split_on j p h i d)
+split_then j p h i (wants d) = wants (split_on j p h i d)
+split_then j p h i (no_memory _) = no_memory j
 
-pub split_off : (j : Job) {m : Mark} {f : Span → Steps (Of j)} {s : Steps (Of j)} {t : Spanned} {ts rest : List Spanned} {r : Answer (Of j)} → ts ≡ t ∷ rest → (t.token ≡ token_of m → ⊥) → Does j s ts r → Does j (split m f s) ts r
-split_off j {m} {f} {s} {t} {ts} {rest} {r} e h d = subst (λ w. Does j (split m f s) w r) (sym e) (split_no j h (subst (λ w. Does j s w r) e d))
+pub split_off : (j : Job) {m : Mark} {f : Span → Steps (Of j)} {s : Steps (Of j)} {b : Bool} {t : Spanned} {ts rest : List Spanned} {r : Answer (Of j)} → ts ≡ t ∷ rest → IsTrue b ↔ (t.token ≡ token_of m) → b ≡ false → Does j s ts r → Does j (split m f s) ts r
+split_off j {m} {f} {s} {b} {t} {ts} {rest} {r} e h i d = subst (λ w. Does j (split m f s) w r) (sym e) (split_no j (λ x. differ (h.1 x)) (subst (λ w. Does j s w r) e d))
+  where
+    differ : b ≡ true → ⊥
+    differ x = cc
 
-pub split_else : (j : Job) {m : Mark} {f : Span → Steps (Of j)} {s : Steps (Of j)} {t : Spanned} {ts rest : List Spanned} {e : Stop} → ts ≡ t ∷ rest → (t.token ≡ token_of m → ⊥) → Refuses e j s ts → Refuses e j (split m f s) ts
-split_else j p i (refuses one h) = refuses one (split_off j p i h)
-split_else j p i (wants h) = wants (split_off j p i h)
-split_else j p i (no_memory _) = no_memory j
+pub split_else : (j : Job) {m : Mark} {f : Span → Steps (Of j)} {s : Steps (Of j)} {b : Bool} {t : Spanned} {ts rest : List Spanned} {e : Stop} → ts ≡ t ∷ rest → IsTrue b ↔ (t.token ≡ token_of m) → b ≡ false → Refuses e j s ts → Refuses e j (split m f s) ts
+split_else j p h i (refuses one d) = refuses one (split_off j p h i d)
+split_else j p h i (wants d) = wants (split_off j p h i d)
+split_else j p h i (no_memory _) = no_memory j
 
 pub split_none : (j : Job) {m : Mark} {f : Span → Steps (Of j)} {s : Steps (Of j)} {ts : List Spanned} {e : Stop} → (e ≡ More) × (ts ≡ []) → Refuses e j (split m f s) ts
 split_none j {m} {f} {s} {ts} {e} p = subst (λ x. Refuses x j (split m f s) ts) (sym p.0) (subst (λ w. Refuses More j (split m f s) w) (sym p.1) (wants (split_out j)))
 
-pub ruleset chains = (give_got, name_on, name_then, name_stops, want_on, want_then, want_stops, call_got, call_then, call_stops, split_on, split_then, split_off, split_else, split_none)
+-- at an exit by a question mark
+no_truth : IsTrue false → ⊥
+no_truth h = cc
+
+pub ended : {X : Type 0} (j : Job) (value : X → Of j) (rest : X → List Spanned) (result : Result X Stop) (s : Steps (Of j)) (ts : List Spanned) {e : Stop} → IsErr result × IsErrAnd result (λ x. x ≡ e) → Refuses e j s ts → Gives j value rest result s ts
+ended j value rest (Ok x) s ts h d = absurd (no_truth h.0)
+ended j value rest (Err x) s ts h d = subst (λ y. Refuses y j s ts) (sym h.1) d
