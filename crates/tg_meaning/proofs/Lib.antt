@@ -1,0 +1,3 @@
+pub mod Trees
+mod WorkedExamples
+mod Subtleties

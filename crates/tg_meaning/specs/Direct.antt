@@ -1,0 +1,119 @@
+-- Evaluation by results: an action takes a state, and gives a value in a new state, or breaks, or is over.
+use Rattle.std.specs.Prelude.{ℕ, zero, suc, ◌+◌, max, List, [], ◌++◌, length, take, Option, Some, None, Bool, nat_lt, if◌then◌else◌}
+use Rattle.tg_syntax.specs.Tree.{Exp}
+use Rattle.tg_meaning.specs.Values.{Value, normal, by_heap, End, ended, out_of_fuel, stuck, World, start, add_variable, put_variable, add_object, put_object, add_heap, drop_byte, add_weight, drop_weight, go_deeper, go_back}
+use Rattle.tg_meaning.specs.Actions.{Actions}
+use Rattle.tg_meaning.specs.Environments.{outermost}
+use Rattle.tg_meaning.specs.Evaluation.{program}
+use Rattle.tg_meaning.specs.Outcomes.{Outcome}
+
+-- what a run has done so far
+pub record Trace : Type 0 where
+  pub output : List ℕ
+  pub cost : ℕ
+  pub output_past_limit : Option (List ℕ)
+  pub deepest : ℕ
+
+pub record State : Type 0 where
+  pub fuel : ℕ
+  pub world : World
+  pub trace : Trace
+
+pub data Result (A : Type 0) : Type 0 where
+  gives : A → State → Result A
+  breaks : State → Result A
+  is_over : End → State → Result A
+
+abbrev pub Direct : Type 0 → Type 0
+Direct A = State → Result A
+
+abbrev pub after : {A B : Type 0} → Result A → (A → Direct B) → Result B
+after (gives a s) next = next a s
+after (breaks s) next = breaks s
+after (is_over e s) next = is_over e s
+
+abbrev pub after_body : Result Value → Direct Value → Result Value
+after_body (gives v s) onward = onward s
+after_body (breaks s) onward = gives Value.nothing s
+after_body (is_over e s) onward = is_over e s
+
+abbrev pub returned : Result Value → Result Value
+returned (gives v s) = gives v s
+returned (breaks s) = is_over stuck s
+returned (is_over e s) = is_over e s
+
+abbrev pub fuelled : ℕ → State → Direct Value → Result Value
+fuelled zero s m = is_over out_of_fuel s
+fuelled (suc n) s m = m (record s { fuel = n })
+
+abbrev pub found : {A : Type 0} → Option A → State → Result A
+found (Some a) s = gives a s
+found None s = is_over stuck s
+
+-- the world is changed
+abbrev pub changed : {A : Type 0} → A → (World → World) → State → Result A
+changed a change s = gives a (record s { world = change s.world })
+
+-- a thing is noted
+abbrev pub noted : (Trace → Trace) → State → Result (Unit {0})
+noted note s = gives tt (record s { trace = note s.trace })
+
+abbrev pub first_past : Option (List ℕ) → Bool → List ℕ → Option (List ℕ)
+first_past (Some output) above so_far = Some output
+first_past None above so_far = if above then Some so_far else None
+
+-- the limit is passed where the weight is above the stack
+abbrev pub past_limit : Bool → Trace → Trace
+past_limit above t = record t { output_past_limit = first_past t.output_past_limit above t.output }
+
+abbrev pub direct : (heap stack : ℕ) → Actions Direct
+direct heap stack = record {
+  give = λ a s. gives a s;
+  bind = λ m next s. after (m s) next;
+  break = λ s. breaks s;
+  over = λ e s. is_over e s;
+  in_loop = λ body onward s. after_body (body s) onward;
+  in_function = λ m s. returned (m s);
+  turn = λ m s. fuelled s.fuel s m;
+  look = λ f s. found (f s.world) s;
+  new_variable = λ v s. changed (length s.world.variables) (add_variable v) s;
+  set_variable = λ place v s. changed tt (put_variable place v) s;
+  new_object = λ o s. changed (length s.world.objects) (add_object o) s;
+  set_object = λ place o s. changed tt (put_object place o) s;
+  take_heap = λ bytes s. if nat_lt heap (s.world.heap + bytes) then is_over (ended by_heap) s else changed tt (add_heap bytes) s;
+  read_byte = λ s. changed (take 1 s.world.input) drop_byte s;
+  write = λ bytes s. noted (λ t. record t { output = t.output ++ bytes }) s;
+  spend = λ k s. noted (λ t. record t { cost = t.cost + k }) s;
+  weigh = λ k s. noted (past_limit (nat_lt stack (s.world.weight + k))) (record s { world = add_weight k s.world });
+  unweigh = λ k s. changed tt (drop_weight k) s;
+  descend = λ s. noted (λ t. record t { deepest = max t.deepest (s.world.depth + 1) }) (record s { world = go_deeper s.world });
+  ascend = λ s. changed tt go_back s;
+}
+
+abbrev pub begin : List ℕ → (fuel : ℕ) → State
+begin input fuel = record {
+  fuel = fuel;
+  world = start input;
+  trace = record { output = []; cost = 0; output_past_limit = None; deepest = 0 };
+}
+
+abbrev pub told : End → State → Outcome
+told e s = record {
+  end = e;
+  output = s.trace.output;
+  input = s.world.input;
+  heap = s.world.heap;
+  cost = s.trace.cost;
+  output_past_limit = s.trace.output_past_limit;
+  deepest = s.trace.deepest;
+}
+
+abbrev pub outcome : Result Value → Outcome
+outcome (gives v s) = told (ended normal) s
+outcome (breaks s) = told stuck s
+outcome (is_over e s) = told e s
+
+-- the outcome of a program with these names, on an input, with bytes of heap and of stack, and at most so much fuel
+abbrev pub evaluate : (names : List (List ℕ)) → Exp → (input : List ℕ) → (heap stack fuel : ℕ) → Outcome
+evaluate names body input heap stack fuel =
+    outcome (program Direct (direct heap stack) body (outermost names) fuel (begin input fuel))

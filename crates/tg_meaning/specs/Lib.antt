@@ -1,0 +1,9 @@
+pub mod Values
+pub mod Actions
+pub mod Environments
+pub mod Levels
+pub mod Operators
+pub mod Evaluation
+pub mod Outcomes
+pub mod Direct
+pub mod Passing

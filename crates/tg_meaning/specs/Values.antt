@@ -1,0 +1,82 @@
+-- Values, records and arrays, the entries of environments, endings, and what a run has at a moment.
+use Rattle.std.specs.Prelude.{ℕ, ◌+◌, ◌-◌, List, [], ◌∷◌, ◌++◌, drop, slice_set}
+use Rattle.tg_syntax.specs.Tree.{FunDecs}
+use Rattle.tg_meaning.specs.declared.standards.Standard.{Standard}
+
+-- a value: an int, by its word; a string, by its bytes; nil; a record or an array, by its place among the objects; no value
+pub data Value : Type 0 where
+  int : ℕ → Value
+  string : List ℕ → Value
+  nil : Value
+  reference : ℕ → Value
+  nothing : Value
+
+-- a record has values by the names of its fields, an array by their places
+pub data Object : Type 0 where
+  fields : List (ℕ × Value) → Object
+  elements : List Value → Object
+
+-- an entry of an environment: a variable with its place among the variables, or a group of functions, each with the level of
+-- the function that declares it; or a standard function
+pub data Entry : Type 0 where
+  variable : (name level place : ℕ) → Entry
+  group : (level : ℕ) → FunDecs → Entry
+  standard : (name : ℕ) → Standard → Entry
+
+-- what a place of the text sees, innermost first, and the level of the function that it is a text of
+pub record Env : Type 0 where
+  pub level : ℕ
+  pub entries : List Entry
+
+-- how a program ends
+pub data Ending : Type 0 where
+  normal by_nil by_index by_division by_chr by_substring by_size by_heap by_overflow : Ending
+  by_exit : ℕ → Ending
+
+-- how a run is over: the program has ended, wants more fuel, or has met a value of the wrong kind or a name without meaning
+pub data End : Type 0 where
+  ended : Ending → End
+  out_of_fuel stuck : End
+
+-- what a run has at a moment: variables and objects, the input that is left, the bytes of heap that are taken, the weight of
+-- what is open, and the number of open activations of declared functions
+pub record World : Type 0 where
+  pub variables : List Value
+  pub objects : List Object
+  pub input : List ℕ
+  pub heap : ℕ
+  pub weight : ℕ
+  pub depth : ℕ
+
+abbrev pub start : List ℕ → World
+start input = record { variables = []; objects = []; input = input; heap = 0; weight = 0; depth = 0 }
+
+abbrev pub add_variable : Value → World → World
+add_variable v w = record w { variables = w.variables ++ v ∷ [] }
+
+abbrev pub put_variable : ℕ → Value → World → World
+put_variable place v w = record w { variables = slice_set w.variables place v }
+
+abbrev pub add_object : Object → World → World
+add_object o w = record w { objects = w.objects ++ o ∷ [] }
+
+abbrev pub put_object : ℕ → Object → World → World
+put_object place o w = record w { objects = slice_set w.objects place o }
+
+abbrev pub add_heap : ℕ → World → World
+add_heap bytes w = record w { heap = w.heap + bytes }
+
+abbrev pub drop_byte : World → World
+drop_byte w = record w { input = drop 1 w.input }
+
+abbrev pub add_weight : ℕ → World → World
+add_weight k w = record w { weight = w.weight + k }
+
+abbrev pub drop_weight : ℕ → World → World
+drop_weight k w = record w { weight = w.weight - k }
+
+abbrev pub go_deeper : World → World
+go_deeper w = record w { depth = w.depth + 1 }
+
+abbrev pub go_back : World → World
+go_back w = record w { depth = w.depth - 1 }
