@@ -1,0 +1,14 @@
+//! Frames and the homes of variables in them (Appel, chapter 6). Promises the translation homes that are pairwise
+//! distinct, and in the frame exactly where that is asked.
+#![tactic(auto)]
+
+mod accesses;
+mod frames;
+mod links;
+
+pub use accesses::{Access, Accesses};
+pub use frames::{Frame, new_frame};
+pub use links::link_path;
+
+#[cfg(test)]
+mod tests;
