@@ -1,0 +1,3 @@
+pub mod Fixpoint
+pub mod Following
+pub mod Agreeing
