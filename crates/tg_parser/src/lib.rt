@@ -5,6 +5,7 @@
 
 mod faults;
 mod forms;
+mod groups;
 mod nesting;
 mod taking;
 
