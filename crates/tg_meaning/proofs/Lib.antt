@@ -1,3 +1,8 @@
 pub mod Trees
 mod WorkedExamples
 mod Subtleties
+pub mod Related
+pub mod Twin
+pub mod GoingOn
+pub mod MoreFuel
+pub mod Unfolding

@@ -1,9 +1,10 @@
 pub mod Values
-pub mod Actions
 pub mod Environments
 pub mod Levels
 pub mod Operators
+pub mod Actions
 pub mod Evaluation
 pub mod Outcomes
 pub mod Direct
 pub mod Passing
+pub mod Laws

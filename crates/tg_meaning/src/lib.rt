@@ -2,6 +2,8 @@
 //! weight of its stack. It holds definitions, in `specs/`, and laws of them; no program calls it.
 #![tactic(auto)]
 
+mod laws;
 mod standards;
 
+pub use laws::{forms_agree, fuel_is_a_bound, fuel_unfolds, nothing_is_taken_back};
 pub use standards::Standard;
