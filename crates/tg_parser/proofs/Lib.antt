@@ -1,3 +1,4 @@
 pub mod Chains
 pub mod Params
 pub mod GroupSteps
+pub mod NestingSteps

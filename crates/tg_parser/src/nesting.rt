@@ -1,95 +1,151 @@
-ghost use Rattle.std.specs.Prelude.{◌<◌, IfOk, IfSome, length};
+ghost use Rattle.std.specs.Prelude.{◌≡◌, ◌≤◌, ◌<◌, [], ◌∷◌, IfOk, OnOk, MatchOption};
+ghost use Rattle.tg_syntax.specs.Nesting.{
+  nesting_of,
+  pushed,
+  popped,
+  reset,
+  raised,
+  after_word,
+  after_sign,
+  after_token,
+};
+ghost use Rattle.tg_syntax.specs.SyntaxFaults.{IsShallow};
+ghost use Rattle.tg_parser.specs.Deep.{IsFirstDeep};
 
 use crate::faults::Stop;
 use std::alloc::Global;
+use std::marker::Model;
 use tg_syntax::{Sign, Spanned, Token, Word};
 
 /// The greatest nesting of a program.
 const LIMIT: u32 = 256;
 
-// The counts of constructs that are open: one for each open bracket, and one for what is outside of all.
+/// The counts of open constructs: one for each bracket that is open, and one before them.
 #[derive(Drop)]
 struct Counts {
-    // The counts but for the innermost one, the outermost first, and their sum.
+    /// All counts but the innermost one, the outermost first.
     outer: Vec<u32>,
-    below: u32,
     innermost: u32,
+    nesting: u32,
 }
 
-fn pushed(counts: &mut Counts) -> Result<(), Stop> {
-    counts.outer.push(counts.innermost)?;
-    counts.below = counts.below.saturating_add(counts.innermost);
-    counts.innermost = 0;
-    Ok(())
+impl Model for Counts {
+    ghost use Rattle.std.specs.Prelude.{◌≡◌, List, ℕ, ◌∷◌, reverse};
+    ghost use Rattle.tg_syntax.specs.Nesting.{nesting_of};
+
+    ghost Value = { List ℕ };
+
+    ghost view = { λ c. c.innermost ∷ reverse c.outer.items };
+
+    ghost invariant = { λ c. c.nesting ≡ nesting_of (c.innermost ∷ reverse c.outer.items) };
 }
 
-fn popped(counts: &mut Counts) {
-    if let Some(count) = counts.outer.pop() {
-        counts.below = counts.below.saturating_sub(count);
-        counts.innermost = count;
-    }
-}
-
-fn raised(counts: &mut Counts) {
-    counts.innermost = counts.innermost.saturating_add(1);
-}
-
-fn after_word(counts: &mut Counts, word: Word) -> Result<(), Stop> {
-    match word {
-        Word::WLet => pushed(counts)?,
-        Word::WEnd => popped(counts),
-        Word::WIn | Word::WType | Word::WVar | Word::WFunction => counts.innermost = 0,
-        Word::WIf | Word::WWhile | Word::WFor | Word::WOf => raised(counts),
-        _ => {}
-    }
-    Ok(())
-}
-
-fn after_sign(counts: &mut Counts, sign: Sign) -> Result<(), Stop> {
-    match sign {
-        Sign::LeftParen | Sign::LeftBracket | Sign::LeftBrace => pushed(counts)?,
-        Sign::RightParen | Sign::RightBrace => popped(counts),
-        Sign::RightBracket => {
-            popped(counts);
-            raised(counts);
+impl Counts {
+    fn new(alloc: Global) -> Counts
+        ensures { result ≡ 0 ∷ [] }
+    {
+        Counts {
+            outer: Vec::new(alloc),
+            innermost: 0,
+            nesting: 0,
         }
-        Sign::Semicolon | Sign::Comma => counts.innermost = 0,
-        Sign::Colon => {}
-        _ => raised(counts),
     }
-    Ok(())
+
+    fn nesting(&self) -> u32
+        ensures { result ≡ nesting_of self.now }
+    {
+        self.nesting
+    }
+
+    fn push(&mut self) -> Result<(), Stop>
+        requires { nesting_of self.old ≤ 256 }
+        ensures { OnOk result (self.new ≡ pushed self.old) }
+    {
+        self.outer.push(self.innermost)?;
+        self.innermost = 0;
+        self.nesting += 1;
+        Ok(())
+    }
+
+    fn pop(&mut self)
+        ensures popped { self.new ≡ popped self.old }
+        ensures fewer { nesting_of self.new ≤ nesting_of self.old }
+    {
+        if let Some(count) = self.outer.pop() {
+            self.nesting -= self.innermost + 1;
+            self.innermost = count;
+        }
+    }
+
+    fn reset(&mut self)
+        ensures { self.new ≡ reset self.old }
+    {
+        self.nesting -= self.innermost;
+        self.innermost = 0;
+    }
+
+    fn raise(&mut self)
+        requires { nesting_of self.old ≤ 256 }
+        ensures { self.new ≡ raised self.old }
+    {
+        self.innermost += 1;
+        self.nesting += 1;
+    }
+
+    fn take_word(&mut self, word: Word) -> Result<(), Stop>
+        requires { nesting_of self.old ≤ 256 }
+        ensures { OnOk result (self.new ≡ after_word word self.old) }
+    {
+        match word {
+            Word::WLet => self.push()?,
+            Word::WEnd => self.pop(),
+            Word::WIn | Word::WType | Word::WVar | Word::WFunction => self.reset(),
+            Word::WIf | Word::WWhile | Word::WFor | Word::WOf => self.raise(),
+            _ => {}
+        }
+        Ok(())
+    }
+
+    fn take_sign(&mut self, sign: Sign) -> Result<(), Stop>
+        requires { nesting_of self.old ≤ 256 }
+        ensures { OnOk result (self.new ≡ after_sign sign self.old) }
+    {
+        match sign {
+            Sign::LeftParen | Sign::LeftBracket | Sign::LeftBrace => self.push()?,
+            Sign::RightParen | Sign::RightBrace => self.pop(),
+            Sign::RightBracket => {
+                self.pop();
+                self.raise();
+            }
+            Sign::Semicolon | Sign::Comma => self.reset(),
+            Sign::Colon => {}
+            _ => self.raise(),
+        }
+        Ok(())
+    }
+
+    fn take(&mut self, token: &Token) -> Result<(), Stop>
+        requires { nesting_of self.old ≤ 256 }
+        ensures { OnOk result (self.new ≡ after_token token.now self.old) }
+    {
+        match token {
+            Token::Word(word) => self.take_word(*word),
+            Token::Sign(sign) => self.take_sign(*sign),
+            _ => Ok(()),
+        }
+    }
 }
 
-fn after_token(counts: &mut Counts, token: &Token) -> Result<(), Stop> {
-    match token {
-        Token::Word(word) => after_word(counts, *word),
-        Token::Sign(sign) => after_sign(counts, *sign),
-        _ => Ok(()),
-    }
-}
-
-fn is_deep(counts: &Counts) -> bool {
-    let open = counts.outer.len();
-    if open > 256 {
-        return true;
-    }
-    let sum = counts.below.saturating_add(counts.innermost);
-    sum.saturating_add(open as u32) > LIMIT
-}
-
-/// The place of the first token after which the nesting is above 256.
-pub fn first_deep(alloc: Global, tokens: &[Spanned]) -> Result<Option<usize>, Stop>
-    ensures { IfOk result (λ o. IfSome o (λ k. k < length tokens.now)) }
+/// The place of the first token after which the nesting is above 256, in time linear in the tokens, and with memory for
+/// at most 256 counts.
+pub(crate) fn first_deep(alloc: Global, tokens: &[Spanned]) -> Result<Option<usize>, Stop>
+    ensures { IfOk result (λ found. MatchOption found (IsShallow tokens.now) (λ place. IsFirstDeep tokens.now place)) }
 {
-    let mut counts = Counts {
-        outer: Vec::new(alloc),
-        below: 0,
-        innermost: 0,
-    };
-    for (i, one) in tokens.iter().enumerate() {
-        after_token(&mut counts, &one.token)?;
-        if is_deep(&counts) {
-            return Ok(Some(i));
+    let mut counts = Counts::new(alloc);
+    for (place, one) in tokens.iter().enumerate() {
+        counts.take(&one.token)?;
+        if counts.nesting() > LIMIT {
+            return Ok(Some(place));
         }
     }
     Ok(None)
