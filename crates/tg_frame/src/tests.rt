@@ -13,7 +13,7 @@ fn homes_of_mixed_escapes(rt: HostRuntime) -> Result<(), Fail> {
         Access::InTemp(Temp(1)),
         Access::InFrame(1),
     ];
-    assert!(rt; *frame.params.as_slice() == homes);
+    assert!(rt; frame.params.as_slice() == homes.as_slice());
     assert_eq!(rt; frame.label, Label(32));
     assert_eq!(rt; frame.out, 0);
     assert_eq!(rt; frame.alloc_local(true), Access::InFrame(2));
