@@ -1,0 +1,9 @@
+//! Types of Tiger (Appel, chapter 5 and appendix A): begun. The typing of programs is a definition in `specs/`, with
+//! computed examples: a program's notes, or its first fault with its place. What checks programs comes next.
+#![tactic(auto)]
+
+mod faults;
+mod notes;
+
+pub use faults::{TypeFault, TypeRule};
+pub use notes::{Means, Note};
