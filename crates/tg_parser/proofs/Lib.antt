@@ -2,3 +2,4 @@ pub mod Chains
 pub mod Params
 pub mod GroupSteps
 pub mod NestingSteps
+pub mod ParseSteps

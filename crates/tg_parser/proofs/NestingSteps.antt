@@ -21,7 +21,7 @@ unfolding counts_after
 within_behind counts [] t h = h.0
 within_behind counts (u ∷ ts) t h = within_behind (after_token u.token counts) ts t h.1
 
-within_more : (counts : List ℕ) (ts : List Spanned) (t : Spanned) → NestsWithin 256 counts ts → nesting_of (after_token t.token (counts_after counts ts)) ≤ 256 → NestsWithin 256 counts (ts ++ t ∷ [])
+pub within_more : (counts : List ℕ) (ts : List Spanned) (t : Spanned) → NestsWithin 256 counts ts → nesting_of (after_token t.token (counts_after counts ts)) ≤ 256 → NestsWithin 256 counts (ts ++ t ∷ [])
 unfolding counts_after
 within_more counts [] t h k = (k, tt)
 within_more counts (u ∷ ts) t h k = (h.0, within_more (after_token u.token counts) ts t h.1 k)

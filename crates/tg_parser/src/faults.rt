@@ -18,6 +18,17 @@ pub enum SyntaxFault {
     Memory,
 }
 
+impl From<Memory> for SyntaxFault {
+    ghost use Rattle.std.specs.Prelude.{◌≡◌};
+    ghost use Rattle.tg_parser.specs.declared.faults.SyntaxFault.TheVariants.{Memory as NoMemory};
+
+    ghost from_gives = { λ _ e. e ≡ NoMemory };
+
+    fn from(_value: Memory) -> Self {
+        SyntaxFault::Memory
+    }
+}
+
 /// Why reading stops.
 #[derive(Clone, Copy)]
 pub enum Stop {

@@ -7,7 +7,10 @@ mod faults;
 mod forms;
 mod groups;
 mod nesting;
+mod parsing;
+mod reading;
 mod taking;
 
 pub use faults::{Stop, SyntaxFault, SyntaxRule};
+pub use parsing::parse;
 pub use taking::{Reading, is, next, take, take_name};

@@ -12,9 +12,9 @@ ghost use Rattle.tg_syntax.specs.Nesting.{
 ghost use Rattle.tg_syntax.specs.SyntaxFaults.{IsShallow};
 ghost use Rattle.tg_parser.specs.Deep.{IsFirstDeep};
 
-use crate::faults::Stop;
-use std::alloc::Global;
+use std::alloc::{AllocFailed, Global};
 use std::marker::Model;
+use tg_base::Memory;
 use tg_syntax::{Sign, Spanned, Token, Word};
 
 /// The greatest nesting of a program.
@@ -57,7 +57,7 @@ impl Counts {
         self.nesting
     }
 
-    fn push(&mut self) -> Result<(), Stop>
+    fn push(&mut self) -> Result<(), AllocFailed<u32>>
         requires { nesting_of self.old ≤ 256 }
         ensures { OnOk result (self.new ≡ pushed self.old) }
     {
@@ -92,7 +92,7 @@ impl Counts {
         self.nesting += 1;
     }
 
-    fn take_word(&mut self, word: Word) -> Result<(), Stop>
+    fn take_word(&mut self, word: Word) -> Result<(), AllocFailed<u32>>
         requires { nesting_of self.old ≤ 256 }
         ensures { OnOk result (self.new ≡ after_word word self.old) }
     {
@@ -106,7 +106,7 @@ impl Counts {
         Ok(())
     }
 
-    fn take_sign(&mut self, sign: Sign) -> Result<(), Stop>
+    fn take_sign(&mut self, sign: Sign) -> Result<(), AllocFailed<u32>>
         requires { nesting_of self.old ≤ 256 }
         ensures { OnOk result (self.new ≡ after_sign sign self.old) }
     {
@@ -124,7 +124,7 @@ impl Counts {
         Ok(())
     }
 
-    fn take(&mut self, token: &Token) -> Result<(), Stop>
+    fn take(&mut self, token: &Token) -> Result<(), AllocFailed<u32>>
         requires { nesting_of self.old ≤ 256 }
         ensures { OnOk result (self.new ≡ after_token token.now self.old) }
     {
@@ -138,7 +138,7 @@ impl Counts {
 
 /// The place of the first token after which the nesting is above 256, in time linear in the tokens, and with memory for
 /// at most 256 counts.
-pub(crate) fn first_deep(alloc: Global, tokens: &[Spanned]) -> Result<Option<usize>, Stop>
+pub(crate) fn first_deep(alloc: Global, tokens: &[Spanned]) -> Result<Option<usize>, Memory>
     ensures { IfOk result (λ found. MatchOption found (IsShallow tokens.now) (λ place. IsFirstDeep tokens.now place)) }
 {
     let mut counts = Counts::new(alloc);
