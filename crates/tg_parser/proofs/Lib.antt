@@ -3,3 +3,4 @@ pub mod Params
 pub mod GroupSteps
 pub mod NestingSteps
 pub mod ParseSteps
+pub mod OneFault

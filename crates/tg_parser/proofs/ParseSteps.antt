@@ -18,18 +18,18 @@ use Rattle.tg_parser.specs.Given.{Refuses, refuses, wants}
 use Rattle.tg_parser.specs.Deep.{IsFirstDeep, IsReadable, all, cut}
 use Rattle.tg_parser.proofs.NestingSteps.{counts_after, within_more}
 
-head_is : {t r : Spanned} {a b : List Spanned} → t ∷ a ≡ r ∷ b → t ≡ r
+pub head_is : {t r : Spanned} {a b : List Spanned} → t ∷ a ≡ r ∷ b → t ≡ r
 head_is h = cc
 
-rest_is : {t r : Spanned} {a b : List Spanned} → t ∷ a ≡ r ∷ b → a ≡ b
+pub rest_is : {t r : Spanned} {a b : List Spanned} → t ∷ a ≡ r ∷ b → a ≡ b
 rest_is h = cc
 
-no_rest : {C : Type 0} (a : List Spanned) (t : Spanned) (s : List Spanned) → a ++ t ∷ s ≡ [] → C
+pub no_rest : {C : Type 0} (a : List Spanned) (t : Spanned) (s : List Spanned) → a ++ t ∷ s ≡ [] → C
 no_rest [] t s h = cc
 no_rest (x ∷ a) t s h = cc
 
 -- the front of a shallow list
-shallow_front : (counts : List ℕ) (a b : List Spanned) → NestsWithin 256 counts (a ++ b) → NestsWithin 256 counts a
+pub shallow_front : (counts : List ℕ) (a b : List Spanned) → NestsWithin 256 counts (a ++ b) → NestsWithin 256 counts a
 shallow_front counts [] b h = tt
 shallow_front counts (t ∷ a) b h = (h.0, shallow_front (after_token t.token counts) a b h.1)
 

@@ -6,11 +6,13 @@
 mod faults;
 mod forms;
 mod groups;
+mod laws;
 mod nesting;
 mod parsing;
 mod reading;
 mod taking;
 
 pub use faults::{Stop, SyntaxFault, SyntaxRule};
+pub use laws::{fault_excludes_program, faults_once};
 pub use parsing::parse;
 pub use taking::{Reading, is, next, take, take_name};
