@@ -1,0 +1,158 @@
+-- Runs of small trees, each computed by the definition itself.
+use Rattle.std.proofs.Common.{◌≡◌, ℕ, ◌+◌, ◌-◌, ◌*◌, List, [], ◌∷◌, refl}
+use Rattle.std.specs.Prelude.{codes, pos}
+use Rattle.tg_base.specs.declared.ends.RunEnd.TheVariants.{Exit, Break as Broken, Overflow, HeapFull, StackFull}
+use Rattle.tg_base.specs.State.{stack_top}
+use Rattle.tg_frame.specs.declared.accesses.Access.{Access}
+use Rattle.tg_frame.specs.declared.accesses.Access.TheVariants.{InTemp, InFrame}
+use Rattle.tg_runs.specs.Ran.{Ran, Stop, Ended, WantsFuel, Wrong}
+use Rattle.tg_tree.specs.declared.operators.Bin.TheVariants.{Add, Sub, Mul, Div, AddTrap, MulHigh}
+use Rattle.tg_tree.specs.declared.operators.Rel.TheVariants.{Less, Equal}
+use Rattle.tg_tree.specs.Tree.{Tx, Const, Address, Temp, FrameAddress, Binary, Load, LoadByte, Call, Service, After, Txs, no_txs, tx, Cond, Compare, Both, Not, Ts, Move, Store, StoreByte, Do, If, Loop, Break, Fault, Seq, Return, Stms, no_stms, stm, Function, Literal, Code, Linear, Mark, Do', Jump, Branch, Return'}
+use Rattle.tg_tree.specs.Running.{tree_run}
+use Rattle.tg_tree.specs.Flat.{flat_run}
+
+abbrev stms : List Ts → Stms
+stms [] = no_stms
+stms (s ∷ ss) = stm s (stms ss)
+
+abbrev seq : List Ts → Ts
+seq ss = Seq (stms ss)
+
+abbrev txs : List Tx → Txs
+txs [] = no_txs
+txs (x ∷ xs) = tx x (txs xs)
+
+abbrev fun : {Body : Type 0} → ℕ → List Access → ℕ → Body → Function Body
+fun label params slots body = record { label = label; params = params; slots = slots; out = 0; body = body }
+
+abbrev temp : ℕ → Access
+temp t = InTemp (record { 0 = t })
+
+-- the address of a slot; the low byte of a word is written
+abbrev home : ℕ → Tx
+home k = Binary Sub FrameAddress (Const (4 * (k + 1)))
+
+abbrev print : Tx → Ts
+print x = Do (Service 11 x)
+
+-- what a run writes, and how it stops: frames of 64 bytes, a stack of 256 bytes, a heap of 8
+abbrev seen : Ran → List ℕ × Stop
+seen p = (p.output, p.stop)
+
+abbrev does : List (Function Ts) → List Literal → ℕ → List ℕ × Stop
+does functions literals fuel =
+    seen (tree_run (record { functions = functions; literals = literals }) (λ label. 64) (stack_top - 256) 8 32 (codes "xy") fuel)
+
+abbrev alone : Ts → List ℕ × Stop
+alone s = does (fun 32 [] 1 s ∷ []) [] 1
+
+abbrev finished : List ℕ → List ℕ × Stop
+finished bytes = (bytes, Ended (Exit (pos 0)))
+
+-- a loop that counts; and with a unit of fuel too few
+abbrev counts : Ts
+counts =
+    seq (Move 0 (Const 0) ∷ Loop (If (Compare Less (Temp 0) (Const 3)) (seq (print (Temp 0) ∷ Move 0 (Binary Add (Temp 0) (Const 1)) ∷ [])) (Break 0)) ∷ Return (Const 0) ∷ [])
+
+loop_counts : does (fun 32 [] 0 counts ∷ []) [] 4 ≡ finished (0 ∷ 1 ∷ 2 ∷ [])
+loop_counts = refl
+
+wants_one_more : does (fun 32 [] 0 counts ∷ []) [] 3 ≡ (0 ∷ 1 ∷ 2 ∷ [], WantsFuel)
+wants_one_more = refl
+
+-- a function reads and writes a variable two levels out, by static links in the frames
+abbrev outer_variable : List (Function Ts)
+outer_variable =
+    fun 32 [] 1 (seq (Store (home 0) (Const 7) ∷ Do (Call 33 (txs (FrameAddress ∷ []))) ∷ print (Load (home 0)) ∷ Return (Const 0) ∷ [])) ∷
+    fun 33 (InFrame 0 ∷ []) 1 (seq (Do (Call 34 (txs (FrameAddress ∷ []))) ∷ Return (Const 0) ∷ [])) ∷
+    fun 34 (InFrame 0 ∷ []) 1 (seq (Move 0 (Load (Binary Sub (Load (home 0)) (Const 4))) ∷ Store (Binary Sub (Temp 0) (Const 4)) (Binary Add (Load (Binary Sub (Temp 0) (Const 4))) (Const 1)) ∷ Return (Const 0) ∷ [])) ∷ []
+
+two_levels_out : does outer_variable [] 3 ≡ finished (8 ∷ [])
+two_levels_out = refl
+
+-- a call with six arguments
+abbrev six : List (Function Ts)
+six =
+    fun 32 [] 0 (seq (print (Call 33 (txs (Const 1 ∷ Const 2 ∷ Const 3 ∷ Const 4 ∷ Const 5 ∷ Const 6 ∷ []))) ∷ Return (Const 0) ∷ [])) ∷
+    fun 33 (temp 0 ∷ temp 1 ∷ temp 2 ∷ temp 3 ∷ InFrame 0 ∷ temp 5 ∷ []) 1
+    (Return (Binary Add (Binary Mul (Temp 0) (Const 100)) (Binary Add (Binary Mul (Load (home 0)) (Const 10)) (Temp 5)))) ∷ []
+
+six_arguments : does six [] 2 ≡ finished (156 ∷ [])
+six_arguments = refl
+
+-- a record is made and read
+record_made : alone (seq (Move 0 (Service 9 (Const 7)) ∷ Store (Temp 0) (Const 5) ∷ Store (Binary Add (Temp 0) (Const 4)) (Const 6) ∷ print (Binary Mul (Load (Temp 0)) (Load (Binary Add (Temp 0) (Const 4)))) ∷ Return (Const 0) ∷ [])) ≡ finished (30 ∷ [])
+record_made = refl
+
+-- a literal is read byte by byte, behind another one
+literal_read : does (fun 32 [] 0 (seq (Do (Service 11 (LoadByte (Address 41))) ∷ Do (Service 11 (LoadByte (Binary Add (Address 41) (Const 1)))) ∷ Do (Service 4 (Address 40)) ∷ Return (Const 0) ∷ [])) ∷ []) (record { label = 40; text = codes "abc" } ∷ record { label = 41; text = codes "hi" } ∷ []) 1 ≡ finished (codes "hiabc")
+literal_read = refl
+
+-- the input is read, and a condition looks at its right side only where it matters
+input_read : alone (seq (Do (Service 11 (Service 12 (Const 0))) ∷ If (Both (Not (Compare Equal (Const 1) (Const 1))) (Compare Equal (Temp 0) (Const 0))) (Fault 1) (Do (Service 11 (Service 12 (Const 0)))) ∷ print (Service 12 (Const 0)) ∷ Return (Const 0) ∷ [])) ≡ finished (120 ∷ 121 ∷ 255 ∷ [])
+input_read = refl
+
+-- a statement before an expression, a fault, an overflow, the upper word of a product
+after_a_statement : alone (seq (print (After (Move 0 (Const 4)) (Temp 0)) ∷ Fault 6 ∷ [])) ≡ (4 ∷ [], Ended (Broken 6))
+after_a_statement = refl
+
+overflows : alone (Do (Binary AddTrap (Const 2147483647) (Const 1))) ≡ ([], Ended Overflow)
+overflows = refl
+
+product_above : alone (seq (print (Binary MulHigh (Const 65536) (Const 65536)) ∷ Return (Const 0) ∷ [])) ≡ finished (1 ∷ [])
+product_above = refl
+
+-- a full stack, at the call whose frame reaches below the floor; a full heap
+stack_full : does (fun 32 [] 0 (seq (print (Const 1) ∷ Return (Call 32 no_txs) ∷ [])) ∷ []) [] 9 ≡ (1 ∷ 1 ∷ 1 ∷ 1 ∷ [], Ended StackFull)
+stack_full = refl
+
+heap_full : alone (seq (Do (Service 9 (Const 5)) ∷ Do (Service 9 (Const 1)) ∷ [])) ≡ ([], Ended HeapFull)
+heap_full = refl
+
+-- each way to go wrong
+unset_temporary : alone (Return (Temp 0)) ≡ ([], Wrong)
+unset_temporary = refl
+
+divides_by_zero : alone (Return (Binary Div (Const 1) (Const 0))) ≡ ([], Wrong)
+divides_by_zero = refl
+
+loads_from_nowhere : alone (Return (Load (Const 4))) ≡ ([], Wrong)
+loads_from_nowhere = refl
+
+loads_from_no_multiple_of_4 : does (fun 32 [] 0 (Return (Load (Binary Add (Address 40) (Const 1)))) ∷ []) (record { label = 40; text = codes "abcdefgh" } ∷ []) 1 ≡ ([], Wrong)
+loads_from_no_multiple_of_4 = refl
+
+slot_not_stored_to : alone (Return (Load (home 0))) ≡ ([], Wrong)
+slot_not_stored_to = refl
+
+stores_to_no_slot : alone (Store (home 1) (Const 0)) ≡ ([], Wrong)
+stores_to_no_slot = refl
+
+calls_no_function : alone (Do (Call 33 no_txs)) ≡ ([], Wrong)
+calls_no_function = refl
+
+one_argument_too_many : does (fun 32 [] 0 (Do (Call 33 (txs (Const 1 ∷ [])))) ∷ fun 33 [] 0 (Return (Const 0)) ∷ []) [] 3 ≡ ([], Wrong)
+one_argument_too_many = refl
+
+no_literal : alone (Do (Address 40)) ≡ ([], Wrong)
+no_literal = refl
+
+-- a slot of a function that has returned is closed
+slot_of_a_closed_activation : does (fun 32 [] 0 (seq (Move 0 (Call 33 no_txs) ∷ Return (Load (Temp 0)) ∷ [])) ∷ fun 33 [] 1 (seq (Store (home 0) (Const 1) ∷ Return (home 0) ∷ [])) ∷ []) [] 3 ≡ ([], Wrong)
+slot_of_a_closed_activation = refl
+
+-- flat code: a loop that counts
+abbrev flat_counts : List Linear
+flat_counts =
+    Do' (Move 0 (Const 0)) ∷ Mark 1 ∷ Branch Equal (Temp 0) (Const 3) 2 ∷ Do' (print (Temp 0)) ∷ Do' (Move 0 (Binary Add (Temp 0) (Const 1))) ∷ Jump 1 ∷ Mark 2 ∷ Return' (Const 0) ∷ []
+
+abbrev flat_does : ℕ → List ℕ × Stop
+flat_does fuel =
+    seen (flat_run (record { functions = fun 32 [] 0 flat_counts ∷ []; literals = [] }) (λ label. 64) (stack_top - 256) 8 32 [] fuel)
+
+flat_loop_counts : flat_does 5 ≡ finished (0 ∷ 1 ∷ 2 ∷ [])
+flat_loop_counts = refl
+
+flat_wants_more : flat_does 4 ≡ (0 ∷ 1 ∷ 2 ∷ [], WantsFuel)
+flat_wants_more = refl

@@ -1,0 +1,9 @@
+pub mod Tree
+pub mod Plain
+pub mod Operators
+pub mod Memory
+pub mod Units
+pub mod Meaning
+pub mod Running
+pub mod Flat
+pub mod Shapes

@@ -1,0 +1,75 @@
+-- Runs of trees. A return to the head of a loop and a call take a unit of fuel each.
+use Rattle.std.specs.Prelude.{ℕ, ◌+◌, ◌==◌, List, [], ◌∷◌, length, Option, Some, None, nat_lt, if◌then◌else◌, pos}
+use Rattle.tg_base.specs.declared.ends.RunEnd.TheVariants.{Exit, StackFull}
+use Rattle.tg_base.specs.State.{stack_top}
+use Rattle.tg_frame.specs.declared.accesses.Access.{Access}
+use Rattle.tg_frame.specs.declared.accesses.Access.TheVariants.{InTemp, InFrame}
+use Rattle.tg_runs.specs.Runs.{Run, turn, again}
+use Rattle.tg_runs.specs.Ran.{Ran, Ended, WantsFuel, stops}
+use Rattle.tg_tree.specs.Tree.{Ts, Function, Code}
+use Rattle.tg_tree.specs.Memory.{Unset, Closed, Has, put, slot, lay, begin}
+use Rattle.tg_tree.specs.Meaning.{World, Temps, set_temp, Activation, Back, Next, Point, over, wrong, run}
+
+abbrev pub function_of : {Body : Type 0} → ℕ → List (Function Body) → Option (Function Body)
+function_of label [] = None
+function_of label (f ∷ fs) = if f.label == label then Some f else function_of label fs
+
+abbrev pub with_fuel : World → Run Ran → Run Ran
+with_fuel w c = turn (stops w.input WantsFuel) c
+
+-- the arguments in the homes of the parameters; another number of them goes wrong
+abbrev pub placed : (base : ℕ) → List Access → List ℕ → World → Temps → Next → Run Ran
+placed base [] [] w temps next = next w temps
+placed base (InTemp t ∷ homes) (v ∷ vs) w temps next = placed base homes vs w (set_temp t.0 v temps) next
+placed base (InFrame k ∷ homes) (v ∷ vs) w temps next =
+    placed base homes vs (record w { memory = put (slot base k) (Has v) w.memory }) temps next
+placed base _ _ w temps next = wrong w
+
+abbrev pub with_slots : {Body : Type 0} → (f : Function Body) → (base : ℕ) → World → World
+with_slots f base w = record w { memory = lay base f.slots Unset w.memory }
+
+abbrev pub without_slots : {Body : Type 0} → (f : Function Body) → (base : ℕ) → World → World
+without_slots f base w = record w { memory = lay base f.slots Closed w.memory }
+
+abbrev pub no_temps : Temps
+no_temps t = None
+
+-- A call of a function whose frame begins at this address: where its frame reaches below the stack's floor the stack is full.
+-- What runs the body is given; it gets the activation, and what comes after a return.
+abbrev pub entered : {Body : Type 0} → (size : ℕ → ℕ) → (floor : ℕ) → (body : Body → Activation → Back → World → Temps → Run Ran) → Option (Function Body) → List ℕ → (top : ℕ) → Back → World → Run Ran
+entered size floor body None vs top back w = wrong w
+entered size floor body (Some f) vs top back w =
+    if nat_lt top (floor + size f.label) then over (Ended StackFull) w else
+    placed top f.params vs (with_slots f top w) no_temps (λ w1 temps.
+    with_fuel w1 (body f.body (record { base = top; size = size f.label }) (λ v w2. back v (without_slots f top w2)) w1 temps))
+
+-- a function's body from its begin: nothing stands around its loops, and its end is a return
+abbrev pub body_point : Ts → Activation → Back → World → Temps → Point
+body_point s a back w temps = record {
+  statement = s;
+  activation = a;
+  out = λ k w1 t1. wrong w1;
+  back = back;
+  next = λ w1 t1. wrong w1;
+  world = w;
+  temps = temps;
+}
+
+-- for a size of each frame by its function's label, the stack's floor, and the heap's room
+module _ (code : Code Ts) (size : ℕ → ℕ) (floor room : ℕ) where
+  abbrev pub enter : (Point → Run Ran) → ℕ → List ℕ → ℕ → Back → World → Run Ran
+  enter later label vs top back w =
+      entered size floor (λ s a back' w1 temps. later (body_point s a back' w1 temps)) (function_of label code.functions) vs top back w
+
+  -- one step: a statement up to the next unit of fuel
+  abbrev pub step : (Point → Run Ran) → Point → Run Ran
+  step later p =
+      run room code.literals (enter later) (λ q. with_fuel q.world (later q)) p.statement p.activation p.out p.back p.next p.world p.temps
+
+  abbrev pub going : Point → Run Ran
+  going = again (stops [] WantsFuel) step
+
+  -- the function with the label of the program's body, as the first activation; its return is the program's end
+  abbrev pub tree_run : (body : ℕ) → (input : List ℕ) → Run Ran
+  tree_run body input =
+      enter going body [] stack_top (λ v w. over (Ended (Exit (pos 0))) w) (record { memory = begin code.literals; input = input })
