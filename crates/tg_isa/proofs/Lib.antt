@@ -1,1 +1,3 @@
 pub mod Inverse
+mod LineExamples
+mod AssemblyExamples
