@@ -1,5 +1,8 @@
 pub mod Chains
 pub mod Params
+pub mod Leading
+pub mod Descents
+pub mod Onwards
 pub mod GroupSteps
 pub mod NestingSteps
 pub mod ParseSteps

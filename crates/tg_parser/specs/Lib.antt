@@ -1,3 +1,6 @@
 pub mod Answers
 pub mod Deep
 pub mod Given
+pub mod Heads
+pub mod Opens
+pub mod Ranks

@@ -3,13 +3,12 @@ ghost use Rattle.tg_syntax.specs.Groups.{snoc_dec, one_type, one_variable, one_f
 ghost use Rattle.tg_syntax.specs.Lists.{decs_of};
 ghost use Rattle.tg_syntax.specs.Plain.{plain, plain_type};
 
-use crate::faults::Stop;
 use std::alloc::Global;
-use tg_base::ListOf;
+use tg_base::{ListOf, Memory};
 use tg_syntax::{Dec, Exp, FunDec, FunDecs, Ident, TypeDec};
 
 /// A type behind other declarations: in the last group, where that is one of types.
-pub(crate) fn push_type(alloc: Global, decs: &mut Vec<Dec>, dec: TypeDec) -> Result<(), Stop>
+pub(crate) fn push_type(alloc: Global, decs: &mut Vec<Dec>, dec: TypeDec) -> Result<(), Memory>
     ensures { OnOk result (decs_of decs.new.items ≡ snoc_dec (decs_of decs.old.items) (one_type (plain_type dec))) }
 {
     let Some(last) = decs.pop() else {
@@ -30,7 +29,7 @@ pub(crate) fn push_type(alloc: Global, decs: &mut Vec<Dec>, dec: TypeDec) -> Res
     Ok(())
 }
 
-fn type_alone(alloc: Global, dec: TypeDec) -> Result<Dec, Stop>
+fn type_alone(alloc: Global, dec: TypeDec) -> Result<Dec, Memory>
     ensures { IfOk result (λ d. decs_of (d ∷ []) ≡ snoc_dec (decs_of []) (one_type (plain_type dec))) }
 {
     let mut group = Vec::new(alloc);
@@ -44,7 +43,7 @@ pub(crate) fn push_variable(
     name: Ident,
     kind: Option<Ident>,
     value: Exp,
-) -> Result<(), Stop>
+) -> Result<(), Memory>
     ensures { OnOk result (decs_of decs.new.items ≡ snoc_dec (decs_of decs.old.items) (one_variable name kind (plain value))) }
 {
     decs.push(Dec::Variable(name, kind, value))?;
@@ -52,7 +51,7 @@ pub(crate) fn push_variable(
 }
 
 /// A function behind other declarations: in the last group, where that is one of functions.
-pub(crate) fn push_function(alloc: Global, decs: &mut Vec<Dec>, dec: FunDec) -> Result<(), Stop>
+pub(crate) fn push_function(alloc: Global, decs: &mut Vec<Dec>, dec: FunDec) -> Result<(), Memory>
     ensures { OnOk result (decs_of decs.new.items ≡ snoc_dec (decs_of decs.old.items) (one_function dec.name dec.params dec.result (plain dec.body))) }
 {
     let Some(last) = decs.pop() else {
@@ -73,7 +72,7 @@ pub(crate) fn push_function(alloc: Global, decs: &mut Vec<Dec>, dec: FunDec) -> 
     Ok(())
 }
 
-fn function_alone(alloc: Global, dec: FunDec) -> Result<Dec, Stop>
+fn function_alone(alloc: Global, dec: FunDec) -> Result<Dec, Memory>
     ensures { IfOk result (λ d. decs_of (d ∷ []) ≡ snoc_dec (decs_of []) (one_function dec.name dec.params dec.result (plain dec.body))) }
 {
     let mut group = Vec::new(alloc);

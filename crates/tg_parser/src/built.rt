@@ -1,0 +1,161 @@
+ghost use Rattle.std.specs.Prelude.{◌≡◌, IfOk};
+ghost use Rattle.tg_syntax.specs.Plain.{plain, plain_place};
+ghost use Rattle.tg_syntax.specs.Spans.{joined as joined_span, span_of as plain_span_of};
+ghost use Rattle.tg_syntax.specs.Lists.{exps_of, inits_of, decs_of};
+ghost use Rattle.tg_syntax.specs.Tree.{
+  Call as PlainCall,
+  Make as PlainMake,
+  Seq as PlainSeq,
+  Let as PlainLet,
+  Fill as PlainFill,
+  Assign as PlainAssign,
+  If as PlainIf,
+  When as PlainWhen,
+  While as PlainWhile,
+  For as PlainFor,
+  Neg as PlainNeg,
+};
+ghost use Rattle.tg_grammar.specs.Reading.{binary as plain_binary};
+
+use std::alloc::Global;
+use tg_base::{Memory, Span};
+use tg_syntax::{
+    Dec, Exp, Ident, Init, Op, Var, assign, binary, call, fill, for_to, if_else, if_then, let_in,
+    make, negate, sequence, while_do,
+};
+
+/// From one's first byte to another's last.
+pub(crate) fn joined(first: Span, last: Span) -> Span
+    ensures { result ≡ joined_span first last }
+{
+    Span {
+        from: first.from,
+        to: last.to,
+    }
+}
+
+fn span_of(e: &Exp) -> Span
+    ensures { result ≡ plain_span_of (plain e.now) }
+{
+    e.span
+}
+
+// From a first byte to an expression's last.
+fn up_to(first: Span, last: &Exp) -> Span
+    ensures { result ≡ joined_span first (plain_span_of (plain last.now)) }
+{
+    joined(first, span_of(last))
+}
+
+/// An expression behind a minus sign, which spans from the sign on, as the others here span from their first token to
+/// the end of their last expression.
+pub(crate) fn negated(alloc: Global, first: Span, a: Exp) -> Result<Exp, Memory>
+    ensures { IfOk result (λ e. plain e ≡ PlainNeg (joined_span first (plain_span_of (plain a))) (plain a)) }
+{
+    let span = up_to(first, &a);
+    negate(alloc, span, a)
+}
+
+/// Two operands and the operator between them, whose first byte is `at`.
+pub(crate) fn combined(alloc: Global, op: Op, at: u32, left: Exp, right: Exp) -> Result<Exp, Memory>
+    ensures { IfOk result (λ e. plain e ≡ plain_binary op at (plain left) (plain right)) }
+{
+    let span = up_to(span_of(&left), &right);
+    binary(alloc, span, op, at, left, right)
+}
+
+/// An assignment.
+pub(crate) fn assigned(alloc: Global, first: Span, place: Var, value: Exp) -> Result<Exp, Memory>
+    ensures { IfOk result (λ e. plain e
+        ≡ PlainAssign (joined_span first (plain_span_of (plain value))) (plain_place place) (plain value)) }
+{
+    let span = up_to(first, &value);
+    assign(alloc, span, place, value)
+}
+
+/// An array that is made.
+pub(crate) fn filled(alloc: Global, name: Ident, size: Exp, value: Exp) -> Result<Exp, Memory>
+    ensures { IfOk result (λ e. plain e
+        ≡ PlainFill (joined_span name.span (plain_span_of (plain value))) name (plain size) (plain value)) }
+{
+    let span = up_to(name.span, &value);
+    fill(alloc, span, name, size, value)
+}
+
+/// An `if` without `else`.
+pub(crate) fn chosen(alloc: Global, first: Span, test: Exp, this: Exp) -> Result<Exp, Memory>
+    ensures { IfOk result (λ e. plain e
+        ≡ PlainWhen (joined_span first (plain_span_of (plain this))) (plain test) (plain this)) }
+{
+    let span = up_to(first, &this);
+    if_then(alloc, span, test, this)
+}
+
+/// An `if` with `else`.
+pub(crate) fn chosen_of_two(
+    alloc: Global,
+    first: Span,
+    test: Exp,
+    this: Exp,
+    other: Exp,
+) -> Result<Exp, Memory>
+    ensures { IfOk result (λ e. plain e
+        ≡ PlainIf (joined_span first (plain_span_of (plain other))) (plain test) (plain this) (plain other)) }
+{
+    let span = up_to(first, &other);
+    if_else(alloc, span, test, this, other)
+}
+
+/// A `while` loop.
+pub(crate) fn looped(alloc: Global, first: Span, test: Exp, body: Exp) -> Result<Exp, Memory>
+    ensures { IfOk result (λ e. plain e
+        ≡ PlainWhile (joined_span first (plain_span_of (plain body))) (plain test) (plain body)) }
+{
+    let span = up_to(first, &body);
+    while_do(alloc, span, test, body)
+}
+
+/// A `for` loop.
+pub(crate) fn counted(
+    alloc: Global,
+    first: Span,
+    variable: Ident,
+    low: Exp,
+    high: Exp,
+    body: Exp,
+) -> Result<Exp, Memory>
+    ensures { IfOk result (λ e. plain e
+        ≡ PlainFor (joined_span first (plain_span_of (plain body))) variable (plain low) (plain high) (plain body)) }
+{
+    let span = up_to(first, &body);
+    for_to(alloc, span, variable, low, high, body)
+}
+
+/// A sequence, between the tokens that enclose it.
+pub(crate) fn enclosed(first: Span, items: Vec<Exp>, last: Span) -> Exp
+    ensures { plain result ≡ PlainSeq (joined_span first last) (exps_of items.items) }
+{
+    sequence(joined(first, last), items)
+}
+
+/// A call, up to the token that ends it.
+pub(crate) fn called(name: Ident, arguments: Vec<Exp>, last: Span) -> Exp
+    ensures { plain result ≡ PlainCall (joined_span name.span last) name (exps_of arguments.items) }
+{
+    call(joined(name.span, last), name, arguments)
+}
+
+/// A record that is made, up to the token that ends it.
+pub(crate) fn made(name: Ident, inits: Vec<Init>, last: Span) -> Exp
+    ensures { plain result ≡ PlainMake (joined_span name.span last) name (inits_of inits.items) }
+{
+    make(joined(name.span, last), name, inits)
+}
+
+/// Declarations and the expressions that see them, between the tokens that enclose them.
+pub(crate) fn declared(first: Span, decs: Vec<Dec>, body: Vec<Exp>, last: Span) -> Exp
+    ensures { plain result
+        ≡ PlainLet (joined_span first last) (decs_of decs.items) (exps_of body.items) }
+{
+    let_in(joined(first, last), decs, body)
+}
