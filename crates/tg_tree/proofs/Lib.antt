@@ -1,1 +1,4 @@
 mod Examples
+pub mod Relating
+pub mod TreeRuns
+pub mod FlatRuns

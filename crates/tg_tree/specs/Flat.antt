@@ -4,7 +4,7 @@ use Rattle.tg_base.specs.declared.ends.RunEnd.TheVariants.{Exit, Break}
 use Rattle.tg_base.specs.State.{stack_top}
 use Rattle.tg_runs.specs.Runs.{Run, again}
 use Rattle.tg_runs.specs.Ran.{Ran, Ended, WantsFuel, stops}
-use Rattle.tg_tree.specs.Tree.{Linear, Mark, Do', Jump, Branch, Fault', Return', Function, Code}
+use Rattle.tg_tree.specs.Tree.{Linear, Mark, Do', Jump, Branch, Fault', Return', Code}
 use Rattle.tg_tree.specs.Operators.{holds}
 use Rattle.tg_tree.specs.Memory.{begin}
 use Rattle.tg_tree.specs.Units.{statement_units}

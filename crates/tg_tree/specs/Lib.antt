@@ -7,3 +7,4 @@ pub mod Meaning
 pub mod Running
 pub mod Flat
 pub mod Shapes
+pub mod Laws

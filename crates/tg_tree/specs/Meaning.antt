@@ -1,6 +1,6 @@
 -- The meaning of expressions, conditions and statements, which are passed what comes next: an outcome is what happens from that
 -- moment on.
-use Rattle.std.specs.Prelude.{ℕ, zero, suc, ◌+◌, ◌-◌, ◌^◌, ◌%◌, ◌==◌, List, [], ◌∷◌, ◌++◌, length, replicate, Option, Some, None, Bool, true, false, nat_lt, if◌then◌else◌, pos}
+use Rattle.std.specs.Prelude.{ℕ, zero, suc, ◌+◌, ◌-◌, ◌^◌, ◌%◌, ◌==◌, List, [], ◌∷◌, ◌++◌, length, replicate, Option, Some, None, true, false, nat_lt, if◌then◌else◌, pos}
 use Rattle.std.specs.Fmt.{signed_decimal}
 use Rattle.tg_base.specs.declared.ends.RunEnd.TheVariants.{Exit, Break, HeapFull, BadService}
 use Rattle.tg_base.specs.Words.{signed}
