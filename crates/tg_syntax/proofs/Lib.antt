@@ -1,5 +1,6 @@
 pub mod GrammarExamples
 pub mod GroupLaws
+pub mod InnerLemmas
 pub mod ListLaws
 pub mod Longest
 pub mod SizeLemmas

@@ -6,6 +6,7 @@
 mod faults;
 mod making;
 mod measures;
+mod programs;
 mod tokens;
 mod trees;
 
@@ -15,6 +16,7 @@ pub use making::{
     int, let_in, make, negate, nil, read, sequence, sequence_of_one, text, while_do,
 };
 pub use measures::nodes;
+pub use programs::program_nodes;
 pub use tokens::{Ident, Sign, Spanned, Token, Word};
 pub use trees::{
     Dec, Decs, Exp, Exps, Form, FunDec, FunDecs, Init, Inits, Kind, Op, Param, Params, Program,

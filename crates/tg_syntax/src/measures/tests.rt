@@ -3,9 +3,10 @@ use crate::making::{
     assign, binary, break_out, call, call_of_one, field, fill, for_to, if_else, if_then, index,
     int, let_in, make, negate, nil, read, sequence, sequence_of_one, text, while_do,
 };
+use crate::programs::program_nodes;
 use crate::tokens::Ident;
 use crate::trees::{
-    Dec, Exp, Exps, Form, FunDec, FunDecs, Init, Inits, Op, Param, Params, TypeDec, Var,
+    Dec, Exp, Exps, Form, FunDec, FunDecs, Init, Inits, Op, Param, Params, Program, TypeDec, Var,
 };
 use std::alloc::Global;
 use std::test::Fail;
@@ -97,6 +98,8 @@ fn counts_declarations(rt: HostRuntime) -> Result<(), Fail> {
     items.push(function(alloc)?)?;
     let whole = let_in(span(), items, Vec::new(alloc));
     assert_eq!(rt; nodes(&whole), 9, "1 and 4 and 2 and 2");
+    let program = Program { body: whole };
+    assert_eq!(rt; program_nodes(&program), 14, "and 5 of the function's body");
     Ok(())
 }
 
