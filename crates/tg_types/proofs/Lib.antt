@@ -1,1 +1,8 @@
 pub mod TypingExamples
+pub mod Has
+pub mod Worlds
+pub mod Sound
+pub mod SoundDirect
+pub mod Inversion
+pub mod Derived
+pub mod NeverStuck

@@ -1,9 +1,12 @@
 //! Types of Tiger (Appel, chapter 5 and appendix A): begun. The typing of programs is a definition in `specs/`, with
-//! computed examples: a program's notes, or its first fault with its place. What checks programs comes next.
+//! computed examples: a program's notes, or its first fault with its place. Promises the law that an accepted program is
+//! never stuck. What checks programs comes next.
 #![tactic(auto)]
 
 mod faults;
+mod laws;
 mod notes;
 
 pub use faults::{TypeFault, TypeRule};
+pub use laws::never_stuck;
 pub use notes::{Means, Note};
