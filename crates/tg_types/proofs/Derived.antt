@@ -1,5 +1,5 @@
 -- A part whose checks come out fine has its type, with the shapes of the whole program known.
-use Rattle.std.proofs.Common.{◌≡◌, ℕ, zero, suc, List, [], ◌∷◌, ◌++◌, length, Option, Some, None, Bool, true, false, refl, sym, ap, ◌∙◌, subst, append_assoc}
+use Rattle.std.proofs.Common.{◌≡◌, ℕ, suc, List, [], ◌∷◌, ◌++◌, length, Option, Some, None, Bool, true, false, refl, sym, ap, ◌∙◌, subst, append_assoc}
 use Rattle.std.specs.Prelude.{not, ◌&&◌, ◌||◌, ◌==◌, if◌then◌else◌}
 use Rattle.std.proofs.lemmas.Bool.{eqb-true, eq-eqb}
 use Rattle.tg_syntax.specs.declared.tokens.Ident.{Ident}
@@ -9,15 +9,15 @@ use Rattle.tg_base.specs.declared.ids.Span.{Span}
 use Rattle.tg_syntax.specs.Tree.{Form, Alias, Fields, Array, TypeDec, Exp, Nil, Break, Int, Text, Read, Call, Neg, Binary, Make, Fill, Assign, If, When, While, For, Let, Seq, Place, Simple, Field, Index, Exps, no_exps, exp, Inits, no_inits, init, Decs, no_decs, types, variable, functions, FunDecs, no_functions, function}
 use Rattle.tg_meaning.specs.Environments.{function_named}
 use Rattle.tg_types.specs.declared.faults.TypeRule.{TypeRule}
-use Rattle.tg_types.specs.Types.{Ty, int_type, none_type, Shape, named, joined}
-use Rattle.tg_types.specs.Checks.{Noted, fine, Check, ◌>>=◌, give, keep}
-use Rattle.tg_types.specs.Scopes.{Signature, Binding, variable_at, function_at, Scope, name_of, at_of, binding, in_a_loop, in_no_loop}
-use Rattle.tg_types.specs.Groups.{stands_in, no_repeats, declare_types, known, known_fields, known_form, known_forms, names_of, chains_end, with_group, type_at_end, chain_of, add_form, add_forms, function_names, param_types, result_type, headers, with_functions, with_params}
+use Rattle.tg_types.specs.Types.{Ty, int_type, none_type, Shape, named}
+use Rattle.tg_types.specs.Checks.{Noted, fine}
+use Rattle.tg_types.specs.Scopes.{Signature, variable_at, Scope, name_of, at_of, binding, in_a_loop, in_no_loop}
+use Rattle.tg_types.specs.Groups.{stands_in, no_repeats, declare_types, known_fields, known_form, known_forms, names_of, chains_end, with_group, type_at_end, chain_of, add_form, add_forms, function_names, param_types, result_type, headers, with_functions, with_params}
 use Rattle.tg_types.specs.Typing.{typed, typed_place, typed_last, expect_all, expect_fields, declare, bodies, body_fits, own_type, assignable, are_fields, count}
 use Rattle.tg_types.specs.Laws.{AreApart}
 use Rattle.tg_types.proofs.Has as Has
 use Rattle.tg_types.proofs.Has.{Fits, the_same, Apart}
-use Rattle.tg_types.proofs.Inversion.{Steps, steps, kept, given, presented, refused, shape_added, expected, expected_int, expected_none, arms_fit, Sides, both_ints, both_strings, both_same, sides, variable_got, callee_got, fields_got, element_got, selected}
+use Rattle.tg_types.proofs.Inversion.{steps, kept, given, presented, shape_added, expected, expected_int, expected_none, arms_fit, Sides, both_ints, both_strings, both_same, sides, variable_got, callee_got, fields_got, element_got, selected}
 
 -- an operator's whole from its sides
 whole_of : (shapes : List (ℕ × Shape)) (s : Span) (op : Op) (at : ℕ) (a b : Exp) (scope : Scope) (t u : Ty) → Sides op t u → Has.Has shapes a scope t → Has.Has shapes b scope u → Has.Has shapes (Binary s op at a b) scope int_type
@@ -209,10 +209,12 @@ module _ (shapes : List (ℕ × Shape)) (apart : AreApart shapes) where
       let c = steps b.onward in
       let d = steps c.onward in
       let f = given _ _ _ _ d.onward in
-      let w = with_group ds ds scope scope in
-      (w.types, sym f.0 ∙ group_scope ds ds scope scope,
-      back g c.between (no_repeats_keep _ [] (names_of ds) a.value g a.between a.first ∙ known_forms_keep ds ds scope b.value a.between b.between b.first ∙ chains_keep ds ds c.value b.between c.between c.first)
-      (forms_back w ds d.value c.between d.between d.first (back d.between h f.1 z)))
+      let w = with_group ds ds scope scope in (
+        w.types,
+        sym f.0 ∙ group_scope ds ds scope scope,
+        back g c.between (no_repeats_keep _ [] (names_of ds) a.value g a.between a.first ∙ known_forms_keep ds ds scope b.value a.between b.between b.first ∙ chains_keep ds ds c.value b.between c.between c.first)
+            (forms_back w ds d.value c.between d.between d.first (back d.between h f.1 z)),
+      )
 
   mutual
     pub derived : (e : Exp) (scope : Scope) (t : Ty) (g h : Noted) → typed e scope g ≡ fine t h → Ends h → Has.Has shapes e scope t × Ends g

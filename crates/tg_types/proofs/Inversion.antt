@@ -1,6 +1,6 @@
 -- What checks that came out fine say of their parts.
 use Rattle.std.proofs.Common.{◌≡◌, ℕ, suc, List, [], ◌∷◌, ◌++◌, Option, Some, None, Bool, true, false, refl, sym, ap, ◌∙◌, subst}
-use Rattle.std.specs.Prelude.{not, ◌&&◌, ◌||◌, ◌==◌, if◌then◌else◌}
+use Rattle.std.specs.Prelude.{not, ◌||◌, ◌==◌, if◌then◌else◌}
 use Rattle.tg_syntax.specs.declared.tokens.Ident.{Ident}
 use Rattle.tg_syntax.specs.declared.trees.Op.{Op}
 use Rattle.tg_syntax.specs.declared.trees.Op.TheVariants.{Equal, NotEqual, Less, LessEqual, Greater, GreaterEqual}
@@ -9,7 +9,7 @@ use Rattle.tg_types.specs.declared.notes.Means.{Means}
 use Rattle.tg_types.specs.Types.{Ty, int_type, string_type, nil_type, none_type, record_type, array_type, Shape, record_shape, array_shape, named, are_nil, has_order, same, is_nil_for, fits, alike, joined}
 use Rattle.tg_types.specs.Checks.{Noted, Checked, fine, fault, Check, on_fine, ◌>>=◌, give, refuse, keep, present, note, shape_at, add_shape}
 use Rattle.tg_types.specs.Scopes.{Signature, Binding, variable_at, function_at, standard_one, name_of}
-use Rattle.tg_types.specs.Typing.{expect, expect_none, needs_value, variable_of, function_of, fields_in, fields_of, element_in, element_of, placed, select, compares, ordered, equated, left_side, equal_sides, right_side}
+use Rattle.tg_types.specs.Typing.{expect, expect_none, variable_of, function_of, fields_in, fields_of, element_in, element_of, placed, select, compares, ordered, equated, left_side, equal_sides, right_side}
 use Rattle.std.proofs.lemmas.Bool.{eqb-true}
 use Rattle.tg_types.proofs.Has.{Fits, the_same, nil_for, Alike, records, arrays, nil_and, and_nil, Compares, Identifies, Callee, declared, standard}
 

@@ -1,17 +1,16 @@
 -- An accepted program is never stuck.
-use Rattle.std.proofs.Common.{◌≡◌, ◌≢◌, ℕ, List, [], ◌∷◌, ◌++◌, Option, Some, None, refl, sym, ap, ◌∙◌, subst}
+use Rattle.std.proofs.Common.{◌≡◌, ◌≢◌, ℕ, List, [], refl}
 use Rattle.tg_syntax.specs.Tree.{Exp}
 use Rattle.tg_meaning.specs.Values.{stuck}
 use Rattle.tg_meaning.specs.Direct.{evaluate}
 use Rattle.tg_meaning.specs.Environments.{outermost as entries_of}
 use Rattle.tg_types.specs.declared.notes.Note.{Note}
-use Rattle.tg_types.specs.Types.{Ty, Shape}
+use Rattle.tg_types.specs.Types.{Ty}
 use Rattle.tg_types.specs.Checks.{Checked, fine, fault, Noted}
 use Rattle.tg_types.specs.Scopes.{outermost}
 use Rattle.tg_types.specs.Typing.{typed}
 use Rattle.tg_types.specs.Accepted.{finding_of, accepted}
 use Rattle.tg_types.specs.Laws.{AreApart, shapes_of, IsNeverStuck}
-use Rattle.tg_types.proofs.Has as Has
 use Rattle.tg_types.proofs.Derived.{derived}
 use Rattle.tg_types.proofs.SoundDirect.{typed_not_stuck, sees_outermost}
 

@@ -1,23 +1,23 @@
 -- What is well typed is never stuck, whatever the form of actions, if each action keeps what is known of the world.
-use Rattle.std.proofs.Common.{◌≡◌, ◌≢◌, ℕ, zero, suc, ◌+◌, ◌<◌, ◌^◌, List, [], ◌∷◌, ◌++◌, length, Option, Some, None, Bool, true, false, nat_lt, refl, sym, ap, ◌∙◌, subst, arith}
+use Rattle.std.proofs.Common.{◌≡◌, ◌≢◌, ℕ, zero, suc, ◌+◌, ◌<◌, List, [], ◌∷◌, length, Option, Some, None, Bool, true, false, nat_lt, refl, sym, ◌∙◌, subst, arith}
 use Rattle.std.specs.Prelude.{not, ◌&&◌, slice_get, ◌==◌, ◌||◌, if◌then◌else◌}
 use Rattle.std.specs.Str.{bytes_eq}
 use Rattle.tg_base.specs.Words.{less, is_negative, exact_sum, exact_difference, exact_product}
 use Rattle.tg_syntax.specs.declared.trees.Param.{Param}
 use Rattle.tg_syntax.specs.declared.trees.Op.{Op}
 use Rattle.tg_syntax.specs.declared.trees.Op.TheVariants.{Plus, Minus, Times, Divide, Equal, NotEqual, Less, LessEqual, Greater, GreaterEqual, And, Or}
-use Rattle.tg_syntax.specs.Tree.{Exp, Nil, Break, Int, Text, Read, Call, Neg, Binary, Make, Fill, Assign, If, When, While, For, Let, Seq, Place, Simple, Field, Index, Exps, no_exps, exp, Inits, no_inits, init, Decs, no_decs, types, variable as variable_dec, functions, FunDecs, no_functions, function}
+use Rattle.tg_syntax.specs.Tree.{Exp, Place, Exps, Inits, Decs, FunDecs, no_functions, function}
 use Rattle.tg_meaning.specs.declared.standards.Standard.{Standard}
 use Rattle.tg_meaning.specs.declared.standards.Standard.TheVariants.{Print, Flush, Getchar, Ord, Chr, Size, Substring, Concat, Not, Exit}
-use Rattle.tg_meaning.specs.Values.{Value, int, string, nil, reference, nothing, Object, fields, elements, Entry, variable, group, Env, Ending, by_chr, by_index, End, ended, stuck, World}
+use Rattle.tg_meaning.specs.Values.{Value, int, string, nothing, Object, fields, Entry, group, Env, Ending, by_chr, by_index, End, ended, stuck}
 use Rattle.tg_meaning.specs.Actions.{Actions}
-use Rattle.tg_meaning.specs.Environments.{Function, Bound, to_variable, to_function, to_standard, find}
+use Rattle.tg_meaning.specs.Environments.{Function, Bound}
 use Rattle.tg_meaning.specs.Operators.{exact_quotient, is_below, string_less, comparison, identity, field_in, element_in, with_field, with_element}
 use Rattle.tg_meaning.specs.Evaluation as E
 use Rattle.tg_meaning.specs.Evaluation.{Location, in_variable, in_field, in_element, Job, run_function, repeat_while, repeat_for, with_variable, count}
 use Rattle.std.proofs.lemmas.Bool.{ltb-true}
-use Rattle.tg_types.specs.Types.{Ty, int_type, string_type, nil_type, none_type, record_type, array_type, Shape, record_shape, array_shape, named}
-use Rattle.tg_types.specs.Scopes.{Signature, Binding, variable_at, function_at, standard_one, Scope, name_of, at_of, bound, binding, in_a_loop, in_no_loop, signature}
+use Rattle.tg_types.specs.Types.{Ty, int_type, string_type, none_type, record_type, array_type, Shape, record_shape, array_shape, named}
+use Rattle.tg_types.specs.Scopes.{Signature, Binding, variable_at, function_at, Scope, name_of, at_of, binding, in_a_loop, in_no_loop, signature}
 use Rattle.tg_types.specs.Groups.{with_functions, with_params}
 use Rattle.tg_types.proofs.Has as Has
 use Rattle.tg_types.proofs.Has.{Fits, the_same, Alike, records, arrays, nil_and, and_nil, Compares, Identifies, Callee, declared, standard}
@@ -271,7 +271,6 @@ module _ (shapes : List (ℕ × Shape)) where
             turned u b _ sig.result (a_function scope h (values_on s u args sig.params all vs) (Worlds.sees_on shapes s u seen scope.bindings all e))
         call_kept s b _ _ _ here args Worlds.means_standard (standard f) vs =
             runtime_kept s b (signature f).result _ λ w g. standard_kept f w b args (values_on s w args (signature f).params g vs)
-
         call_kept s b _ _ sig here args (Worlds.means_variable e) c vs = elim c [ ]
 
         variable_kept : (s : Worlds.Stores) (b : Bool) (d : Bound) (at here : ℕ) (t : Ty) (loop : Bool) → Worlds.Means shapes s.vars d (variable_at at t loop) → S s b Location (λ w l. IsLocation w l t) (E.locate_variable Action M after d here)

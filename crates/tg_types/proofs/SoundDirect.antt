@@ -1,13 +1,13 @@
 -- Evaluation by results keeps what is known of the world, so a program that has a type is never stuck.
-use Rattle.std.proofs.Common.{◌≡◌, ◌≢◌, ℕ, zero, suc, ◌+◌, List, [], ◌∷◌, ◌++◌, length, Option, Some, None, Bool, true, false, nat_lt, refl, sym, ap, ◌∙◌, subst}
+use Rattle.std.proofs.Common.{◌≡◌, ◌≢◌, ℕ, zero, suc, ◌+◌, List, [], ◌∷◌, ◌++◌, length, Option, Some, Bool, true, false, nat_lt, refl, sym, subst}
 use Rattle.std.specs.Prelude.{slice_get, if◌then◌else◌}
 use Rattle.std.specs.Str.{bytes_eq}
 use Rattle.tg_syntax.specs.Tree.{Exp}
 use Rattle.tg_meaning.specs.declared.standards.Standard.{Standard}
-use Rattle.tg_meaning.specs.Values.{Value, Object, Entry, standard, Ending, normal, by_heap, End, ended, out_of_fuel, stuck, World, add_heap}
+use Rattle.tg_meaning.specs.Values.{Value, Object, Entry, standard, by_heap, End, ended, stuck, World, add_heap}
 use Rattle.tg_meaning.specs.Environments.{standard_text, standards, standards_of, outermost_from}
 use Rattle.tg_meaning.specs.Evaluation.{Job, meaning, program}
-use Rattle.tg_meaning.specs.Direct.{State, Result, gives, breaks, is_over, Direct, after, after_body, returned, fuelled, found, changed, direct, begin, told, outcome}
+use Rattle.tg_meaning.specs.Direct.{State, Result, gives, breaks, is_over, Direct, after, after_body, returned, fuelled, found, changed, direct, begin, outcome}
 use Rattle.tg_types.specs.Types.{Ty, none_type, Shape}
 use Rattle.tg_types.specs.Scopes.{Binding, standard_one, Scope, standard_of, entry, standard_bindings}
 use Rattle.tg_types.proofs.Has as Has

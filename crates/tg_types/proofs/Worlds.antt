@@ -1,9 +1,8 @@
 -- What is known of a run's values, variables, objects and names, by types.
 use Rattle.std.proofs.Common.{◌≡◌, ℕ, zero, suc, ◌<◌, List, [], ◌∷◌, ◌++◌, length, Option, Some, None, Bool, true, false, refl, sym, ap, ◌∙◌, subst, arith, replicate}
-use Rattle.std.specs.Prelude.{slice_get, slice_set, ◌==◌, if◌then◌else◌, eqb}
+use Rattle.std.specs.Prelude.{slice_get, slice_set, ◌==◌, if◌then◌else◌}
 use Rattle.std.proofs.lemmas.Bool.{eqb-true}
-use Rattle.tg_syntax.specs.declared.trees.Param.{Param}
-use Rattle.tg_syntax.specs.Tree.{Exp, FunDecs, no_functions, function}
+use Rattle.tg_syntax.specs.Tree.{FunDecs, function}
 use Rattle.tg_meaning.specs.Values.{Value, int, string, nil, reference, nothing, Object, fields, elements, Entry, variable, group, standard, World}
 use Rattle.tg_meaning.specs.Operators.{get_field, set_field, field_in, element_in, with_field, with_element}
 use Rattle.tg_meaning.specs.Environments.{Function, Bound, to_variable, to_function, to_standard, function_named, or_beyond, find}
@@ -135,10 +134,10 @@ parts_get : (objs : List Made) (f : ℕ) (t : Ty) (parts : List (ℕ × Value)) 
 parts_get objs f t _ _ no_items e = cc
 parts_get objs f t _ _ (item {a = part} {b = field} {xs = parts} {bs = fs} p ps) e =
     let h : (b : Bool) → (if b then Some field.1 else named f fs) ≡ Some t → (v : Value) × ((if b then Some part.1 else get_field f parts) ≡ Some v) × IsValue objs v t =
-      λ b. elim b as (λ b. (if b then Some field.1 else named f fs) ≡ Some t → (v : Value) × ((if b then Some part.1 else get_field f parts) ≡ Some v) × IsValue objs v t) [
-        | true ↦ λ e. let same : field.1 ≡ t = cc in (part.1, refl, subst (λ x. IsValue objs part.1 x) same p.1)
-        | false ↦ λ e. parts_get objs f t parts fs ps e
-      ] in
+    λ b. elim b as (λ b. (if b then Some field.1 else named f fs) ≡ Some t → (v : Value) × ((if b then Some part.1 else get_field f parts) ≡ Some v) × IsValue objs v t) [
+      | true ↦ λ e. let same : field.1 ≡ t = cc in (part.1, refl, subst (λ x. IsValue objs part.1 x) same p.1)
+      | false ↦ λ e. parts_get objs f t parts fs ps e
+    ] in
     let at_field = h (field.0 == f) e in
     subst (λ x. (v : Value) × ((if x == f then Some part.1 else get_field f parts) ≡ Some v) × IsValue objs v t) (sym p.0) at_field
 
@@ -146,10 +145,10 @@ parts_set : (objs : List Made) (f : ℕ) (t : Ty) (v : Value) (parts : List (ℕ
 parts_set objs f t v _ _ no_items e q = no_items
 parts_set objs f t v _ _ (item {a = part} {b = field} {xs = parts} {bs = fs} p ps) e q =
     let h : (b : Bool) → (field.0 == f) ≡ b → (if b then Some field.1 else named f fs) ≡ Some t → Each (IsPart objs) (if b then (f, v) ∷ parts else part ∷ set_field f v parts) (field ∷ fs) =
-      λ b. elim b as (λ b. (field.0 == f) ≡ b → (if b then Some field.1 else named f fs) ≡ Some t → Each (IsPart objs) (if b then (f, v) ∷ parts else part ∷ set_field f v parts) (field ∷ fs)) [
-        | true ↦ λ is e. let same : t ≡ field.1 = cc in item (sym (eqb-true field.0 f is), subst (λ x. IsValue objs v x) same q) ps
-        | false ↦ λ is e. item p (parts_set objs f t v parts fs ps e q)
-      ] in
+    λ b. elim b as (λ b. (field.0 == f) ≡ b → (if b then Some field.1 else named f fs) ≡ Some t → Each (IsPart objs) (if b then (f, v) ∷ parts else part ∷ set_field f v parts) (field ∷ fs)) [
+      | true ↦ λ is e. let same : t ≡ field.1 = cc in item (sym (eqb-true field.0 f is), subst (λ x. IsValue objs v x) same q) ps
+      | false ↦ λ is e. item p (parts_set objs f t v parts fs ps e q)
+    ] in
     subst (λ x. Each (IsPart objs) (if x == f then (f, v) ∷ parts else part ∷ set_field f v parts) (field ∷ fs)) (sym p.0) (h (field.0 == f) refl e)
 
 module _ (shapes : List (ℕ × Shape)) where
