@@ -8,3 +8,4 @@ pub mod Running
 pub mod Flat
 pub mod Shapes
 pub mod Laws
+pub mod FlatValue

@@ -10,7 +10,7 @@ mod operators;
 mod trees;
 
 pub use fragments::{Fragment, Fragments, Literal};
-pub use laws::{flat_code_runs, trees_run};
+pub use laws::{flat_code_runs, flat_expressions_run, trees_run};
 pub use linear::Linear;
 pub use operators::{Bin, Rel};
 pub use trees::{Cond, Stms, Ts, Tx, Txs};
