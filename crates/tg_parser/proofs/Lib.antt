@@ -2,7 +2,6 @@ pub mod Chains
 pub mod Params
 pub mod Leading
 pub mod Descents
-pub mod EndedLists
 pub mod Onwards
 pub mod GroupSteps
 pub mod NestingSteps

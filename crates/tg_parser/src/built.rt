@@ -50,7 +50,8 @@ fn up_to(first: Span, last: &Exp) -> Span
 /// An expression behind a minus sign, which spans from the sign on, as the others here span from their first token to
 /// the end of their last expression.
 pub(crate) fn negated(alloc: Global, first: Span, a: Exp) -> Result<Exp, Memory>
-    ensures { IfOk result (λ e. plain e ≡ PlainNeg (joined_span first (plain_span_of (plain a))) (plain a)) }
+    ensures { IfOk result
+        (λ e. plain e ≡ PlainNeg (joined_span first (plain_span_of (plain a))) (plain a)) }
 {
     let span = up_to(first, &a);
     negate(alloc, span, a)
@@ -67,7 +68,8 @@ pub(crate) fn combined(alloc: Global, op: Op, at: u32, left: Exp, right: Exp) ->
 /// An assignment.
 pub(crate) fn assigned(alloc: Global, first: Span, place: Var, value: Exp) -> Result<Exp, Memory>
     ensures { IfOk result (λ e. plain e
-        ≡ PlainAssign (joined_span first (plain_span_of (plain value))) (plain_place place) (plain value)) }
+        ≡ PlainAssign (joined_span first (plain_span_of (plain value)))
+        (plain_place place) (plain value)) }
 {
     let span = up_to(first, &value);
     assign(alloc, span, place, value)
@@ -76,7 +78,8 @@ pub(crate) fn assigned(alloc: Global, first: Span, place: Var, value: Exp) -> Re
 /// An array that is made.
 pub(crate) fn filled(alloc: Global, name: Ident, size: Exp, value: Exp) -> Result<Exp, Memory>
     ensures { IfOk result (λ e. plain e
-        ≡ PlainFill (joined_span name.span (plain_span_of (plain value))) name (plain size) (plain value)) }
+        ≡ PlainFill (joined_span name.span (plain_span_of (plain value)))
+        name (plain size) (plain value)) }
 {
     let span = up_to(name.span, &value);
     fill(alloc, span, name, size, value)
@@ -100,7 +103,8 @@ pub(crate) fn chosen_of_two(
     other: Exp,
 ) -> Result<Exp, Memory>
     ensures { IfOk result (λ e. plain e
-        ≡ PlainIf (joined_span first (plain_span_of (plain other))) (plain test) (plain this) (plain other)) }
+        ≡ PlainIf (joined_span first (plain_span_of (plain other)))
+        (plain test) (plain this) (plain other)) }
 {
     let span = up_to(first, &other);
     if_else(alloc, span, test, this, other)
@@ -125,7 +129,8 @@ pub(crate) fn counted(
     body: Exp,
 ) -> Result<Exp, Memory>
     ensures { IfOk result (λ e. plain e
-        ≡ PlainFor (joined_span first (plain_span_of (plain body))) variable (plain low) (plain high) (plain body)) }
+        ≡ PlainFor (joined_span first (plain_span_of (plain body)))
+        variable (plain low) (plain high) (plain body)) }
 {
     let span = up_to(first, &body);
     for_to(alloc, span, variable, low, high, body)

@@ -114,7 +114,8 @@ pub(crate) fn operator_behind<'a>(
     rank: Rank,
     tokens: &'a [Spanned],
 ) -> Result<Option<(Operator, &'a [Spanned])>, Stop>
-    ensures given { Operates (λ x. x.0.op) (λ x. x.0.at) (λ x. x.1.now) result (level_of rank) (plain left.now) tokens.now }
+    ensures given { Operates (λ x. x.0.op) (λ x. x.0.at) (λ x. x.1.now) result
+        (level_of rank) (plain left.now) tokens.now }
     ensures shorter { IfOk result (λ o. IfSome o (λ x. length x.1.now < length tokens.now)) }
 {
     if ends_tail(left) {
@@ -170,8 +171,9 @@ pub(crate) struct FunctionHead {
 /// What follows `function`, up to the body.
 pub(crate) fn function_head(alloc: Global, tokens: &[Spanned]) -> Reading<FunctionHead>
     ensures given { Begins (λ x. x.0) (λ x. x.1.now) result
-        (λ j f. name (λ x. want (OfSign LeftParen) (λ _. call (ListedParams (OfSign RightParen)) (λ ps.
-        call Annotation (λ k. f (record { name = x; params = ps; result = k })))))) tokens.now }
+        (λ j f. name (λ x. want (OfSign LeftParen) (λ _.
+        call (ListedParams (OfSign RightParen)) (λ ps. call Annotation (λ k.
+        f (record { name = x; params = ps; result = k })))))) tokens.now }
     ensures shorter { IfOk result (λ x. length x.1.now < length tokens.now) }
 {
     let (name, rest) = take_name(tokens)?;

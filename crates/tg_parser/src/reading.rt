@@ -66,7 +66,8 @@ use tg_syntax::{Dec, Exp, FunDec, Ident, Init, Sign, Spanned, Var, Word, field, 
 
 /// A program: one expression, and the end.
 pub(crate) fn program(alloc: Global, tokens: &[Spanned]) -> Reading<Exp>
-    ensures given { Gives Whole_program (λ x. plain x.0) (λ x. x.1.now) result (job Whole_program) tokens.now }
+    ensures given { Gives Whole_program (λ x. plain x.0) (λ x. x.1.now) result
+        (job Whole_program) tokens.now }
     ensures shorter { IfOk result (λ x. length x.1.now < length tokens.now) }
 {
     let (e, rest) = whole(alloc, tokens)?;
@@ -77,7 +78,8 @@ pub(crate) fn program(alloc: Global, tokens: &[Spanned]) -> Reading<Exp>
 /// An expression of a rank.
 #[cycle(descent)]
 fn at(alloc: Global, rank: Rank, tokens: &[Spanned]) -> Reading<Exp>
-    ensures given { Gives (At (level_of rank)) (λ x. plain x.0) (λ x. x.1.now) result (job (At (level_of rank))) tokens.now }
+    ensures given { Gives (At (level_of rank)) (λ x. plain x.0) (λ x. x.1.now) result
+        (job (At (level_of rank))) tokens.now }
     ensures shorter { IfOk result (λ x. length x.1.now < length tokens.now) }
 {
     match rank {
@@ -90,7 +92,8 @@ fn at(alloc: Global, rank: Rank, tokens: &[Spanned]) -> Reading<Exp>
 /// An expression, which may be an assignment.
 #[cycle(descent)]
 fn whole(alloc: Global, tokens: &[Spanned]) -> Reading<Exp>
-    ensures given { Gives (At WholeLevel) (λ x. plain x.0) (λ x. x.1.now) result (job (At WholeLevel)) tokens.now }
+    ensures given { Gives (At WholeLevel) (λ x. plain x.0) (λ x. x.1.now) result
+        (job (At WholeLevel)) tokens.now }
     ensures shorter { IfOk result (λ x. length x.1.now < length tokens.now) }
 {
     let (left, rest) = at(alloc, Rank::Disjunction, tokens)?;
@@ -103,7 +106,8 @@ fn whole(alloc: Global, tokens: &[Spanned]) -> Reading<Exp>
 /// An l-value alone, or what is assigned to it.
 #[cycle(descent)]
 fn assignment(alloc: Global, span: Span, place: Var, tokens: &[Spanned]) -> Reading<Exp>
-    ensures given { Gives (At WholeLevel) (λ x. plain x.0) (λ x. x.1.now) result (assigning (Read span (plain_place place))) tokens.now }
+    ensures given { Gives (At WholeLevel) (λ x. plain x.0) (λ x. x.1.now) result
+        (assigning (Read span (plain_place place))) tokens.now }
     ensures shorter { IfOk result (λ x. length x.1.now ≤ length tokens.now) }
 {
     let Some((_, after)) = skip(Mark::OfSign(Sign::Assign), tokens)? else {
@@ -117,7 +121,8 @@ fn assignment(alloc: Global, span: Span, place: Var, tokens: &[Spanned]) -> Read
 /// Operands of a rank that groups to the left.
 #[cycle(descent)]
 fn operands(alloc: Global, rank: Rank, tokens: &[Spanned]) -> Reading<Exp>
-    ensures given { Gives (At (level_of rank)) (λ x. plain x.0) (λ x. x.1.now) result (call (At (below_level (level_of rank))) (λ l. last (After (level_of rank) l))) tokens.now }
+    ensures given { Gives (At (level_of rank)) (λ x. plain x.0) (λ x. x.1.now) result
+        (call (At (below_level (level_of rank))) (λ l. last (After (level_of rank) l))) tokens.now }
     ensures shorter { IfOk result (λ x. length x.1.now < length tokens.now) }
 {
     let (left, rest) = at(alloc, below(rank), tokens)?;
@@ -127,7 +132,8 @@ fn operands(alloc: Global, rank: Rank, tokens: &[Spanned]) -> Reading<Exp>
 /// What follows a left operand of a rank that groups to the left.
 #[cycle(descent)]
 fn operators(alloc: Global, rank: Rank, left: Exp, tokens: &[Spanned]) -> Reading<Exp>
-    ensures given { Gives (After (level_of rank) (plain left)) (λ x. plain x.0) (λ x. x.1.now) result (job (After (level_of rank) (plain left))) tokens.now }
+    ensures given { Gives (After (level_of rank) (plain left)) (λ x. plain x.0) (λ x. x.1.now)
+        result (job (After (level_of rank) (plain left))) tokens.now }
     ensures shorter { IfOk result (λ x. length x.1.now ≤ length tokens.now) }
 {
     let Some((operator, after)) = operator_behind(&left, rank, tokens)? else {
@@ -141,7 +147,8 @@ fn operators(alloc: Global, rank: Rank, left: Exp, tokens: &[Spanned]) -> Readin
 /// A comparison, which doesn't group.
 #[cycle(descent)]
 fn comparison(alloc: Global, tokens: &[Spanned]) -> Reading<Exp>
-    ensures given { Gives (At ComparisonLevel) (λ x. plain x.0) (λ x. x.1.now) result (job (At ComparisonLevel)) tokens.now }
+    ensures given { Gives (At ComparisonLevel) (λ x. plain x.0) (λ x. x.1.now) result
+        (job (At ComparisonLevel)) tokens.now }
     ensures shorter { IfOk result (λ x. length x.1.now < length tokens.now) }
 {
     let (left, rest) = at(alloc, Rank::Sum, tokens)?;
@@ -156,7 +163,8 @@ fn comparison(alloc: Global, tokens: &[Spanned]) -> Reading<Exp>
 /// What binds more tightly than the operators with two operands.
 #[cycle(descent)]
 fn unary(alloc: Global, tokens: &[Spanned]) -> Reading<Exp>
-    ensures given { Gives (At UnaryLevel) (λ x. plain x.0) (λ x. x.1.now) result (job (At UnaryLevel)) tokens.now }
+    ensures given { Gives (At UnaryLevel) (λ x. plain x.0) (λ x. x.1.now) result
+        (job (At UnaryLevel)) tokens.now }
     ensures shorter { IfOk result (λ x. length x.1.now < length tokens.now) }
 {
     let (first, after) = next(tokens)?;
@@ -177,7 +185,8 @@ fn unary(alloc: Global, tokens: &[Spanned]) -> Reading<Exp>
 
 #[cycle(descent)]
 fn negating(alloc: Global, tokens: &[Spanned]) -> Reading<Exp>
-    ensures given { Gives (At UnaryLevel) (λ x. plain x.0) (λ x. x.1.now) result negating_steps tokens.now }
+    ensures given { Gives (At UnaryLevel) (λ x. plain x.0) (λ x. x.1.now) result
+        negating_steps tokens.now }
     ensures shorter { IfOk result (λ x. length x.1.now < length tokens.now) }
 {
     let (first, rest) = take(Mark::OfSign(Sign::Minus), tokens)?;
@@ -188,7 +197,8 @@ fn negating(alloc: Global, tokens: &[Spanned]) -> Reading<Exp>
 
 #[cycle(descent)]
 fn grouping(alloc: Global, tokens: &[Spanned]) -> Reading<Exp>
-    ensures given { Gives (At UnaryLevel) (λ x. plain x.0) (λ x. x.1.now) result grouping_steps tokens.now }
+    ensures given { Gives (At UnaryLevel) (λ x. plain x.0) (λ x. x.1.now) result
+        grouping_steps tokens.now }
     ensures shorter { IfOk result (λ x. length x.1.now < length tokens.now) }
 {
     let (first, rest) = take(Mark::OfSign(Sign::LeftParen), tokens)?;
@@ -199,7 +209,8 @@ fn grouping(alloc: Global, tokens: &[Spanned]) -> Reading<Exp>
 
 #[cycle(descent)]
 fn choosing(alloc: Global, tokens: &[Spanned]) -> Reading<Exp>
-    ensures given { Gives (At UnaryLevel) (λ x. plain x.0) (λ x. x.1.now) result choosing_steps tokens.now }
+    ensures given { Gives (At UnaryLevel) (λ x. plain x.0) (λ x. x.1.now) result
+        choosing_steps tokens.now }
     ensures shorter { IfOk result (λ x. length x.1.now < length tokens.now) }
 {
     let (first, test, rest) = clause(alloc, Mark::OfWord(Word::WIf), tokens)?;
@@ -216,7 +227,8 @@ fn choosing(alloc: Global, tokens: &[Spanned]) -> Reading<Exp>
 
 #[cycle(descent)]
 fn looping(alloc: Global, tokens: &[Spanned]) -> Reading<Exp>
-    ensures given { Gives (At UnaryLevel) (λ x. plain x.0) (λ x. x.1.now) result looping_steps tokens.now }
+    ensures given { Gives (At UnaryLevel) (λ x. plain x.0) (λ x. x.1.now) result
+        looping_steps tokens.now }
     ensures shorter { IfOk result (λ x. length x.1.now < length tokens.now) }
 {
     let (first, test, rest) = clause(alloc, Mark::OfWord(Word::WWhile), tokens)?;
@@ -227,7 +239,8 @@ fn looping(alloc: Global, tokens: &[Spanned]) -> Reading<Exp>
 
 #[cycle(descent)]
 fn counting(alloc: Global, tokens: &[Spanned]) -> Reading<Exp>
-    ensures given { Gives (At UnaryLevel) (λ x. plain x.0) (λ x. x.1.now) result counting_steps tokens.now }
+    ensures given { Gives (At UnaryLevel) (λ x. plain x.0) (λ x. x.1.now) result
+        counting_steps tokens.now }
     ensures shorter { IfOk result (λ x. length x.1.now < length tokens.now) }
 {
     let (first, variable, rest) = counter(tokens)?;
@@ -240,7 +253,8 @@ fn counting(alloc: Global, tokens: &[Spanned]) -> Reading<Exp>
 
 #[cycle(descent)]
 fn declaring(alloc: Global, tokens: &[Spanned]) -> Reading<Exp>
-    ensures given { Gives (At UnaryLevel) (λ x. plain x.0) (λ x. x.1.now) result declaring_steps tokens.now }
+    ensures given { Gives (At UnaryLevel) (λ x. plain x.0) (λ x. x.1.now) result
+        declaring_steps tokens.now }
     ensures shorter { IfOk result (λ x. length x.1.now < length tokens.now) }
 {
     let (first, rest) = take(Mark::OfWord(Word::WLet), tokens)?;
@@ -253,7 +267,8 @@ fn declaring(alloc: Global, tokens: &[Spanned]) -> Reading<Exp>
 /// What a name begins: a call, a record, an array or an l-value.
 #[cycle(descent)]
 fn naming(alloc: Global, tokens: &[Spanned]) -> Reading<Exp>
-    ensures given { Gives (At UnaryLevel) (λ x. plain x.0) (λ x. x.1.now) result (name naming_steps) tokens.now }
+    ensures given { Gives (At UnaryLevel) (λ x. plain x.0) (λ x. x.1.now) result
+        (name naming_steps) tokens.now }
     ensures shorter { IfOk result (λ x. length x.1.now < length tokens.now) }
 {
     let (name, rest) = take_name(tokens)?;
@@ -276,7 +291,8 @@ fn naming(alloc: Global, tokens: &[Spanned]) -> Reading<Exp>
 /// What follows a name and an opening bracket.
 #[cycle(descent)]
 fn indexing(alloc: Global, name: Ident, tokens: &[Spanned]) -> Reading<Exp>
-    ensures given { Gives (At UnaryLevel) (λ x. plain x.0) (λ x. x.1.now) result (indexing_steps name) tokens.now }
+    ensures given { Gives (At UnaryLevel) (λ x. plain x.0) (λ x. x.1.now) result
+        (indexing_steps name) tokens.now }
     ensures shorter { IfOk result (λ x. length x.1.now < length tokens.now) }
 {
     let (inside, rest) = whole(alloc, tokens)?;
@@ -299,7 +315,8 @@ fn suffixes(
     place: Var,
     tokens: &[Spanned],
 ) -> Result<(Span, Var, &[Spanned]), Stop>
-    ensures given { Gives (Suffix span (plain_place place)) (λ x. (x.0, plain_place x.1)) (λ x. x.2.now) result
+    ensures given { Gives (Suffix span (plain_place place)) (λ x. (x.0, plain_place x.1))
+        (λ x. x.2.now) result
         (job (Suffix span (plain_place place))) tokens.now }
     ensures shorter { IfOk result (λ x. length x.2.now ≤ length tokens.now) }
 {
@@ -337,7 +354,8 @@ fn listed(
     close: Mark,
     tokens: &[Spanned],
 ) -> Result<(Vec<Exp>, Span, &[Spanned]), Stop>
-    ensures given { Gives (Listed separator close) (λ x. (exps_of x.0.items, x.1)) (λ x. x.2.now) result
+    ensures given { Gives (Listed separator close) (λ x. (exps_of x.0.items, x.1))
+        (λ x. x.2.now) result
         (job (Listed separator close)) tokens.now }
     ensures shorter { IfOk result (λ x. length x.2.now < length tokens.now) }
 {
@@ -353,7 +371,8 @@ fn listed(
 /// An expression and those that follow it.
 #[cycle(descent)]
 fn items(alloc: Global, separator: Sign, first: Exp, tokens: &[Spanned]) -> Reading<Vec<Exp>>
-    ensures given { Gives (Items separator (exp (plain first) no_exps)) (λ x. exps_of x.0.items) (λ x. x.1.now) result
+    ensures given { Gives (Items separator (exp (plain first) no_exps)) (λ x. exps_of x.0.items)
+        (λ x. x.1.now) result
         (job (Items separator (exp (plain first) no_exps))) tokens.now }
     ensures shorter { IfOk result (λ x. length x.1.now ≤ length tokens.now) }
 {
@@ -373,7 +392,8 @@ fn items(alloc: Global, separator: Sign, first: Exp, tokens: &[Spanned]) -> Read
 /// A field's value.
 #[cycle(descent)]
 fn one_init(alloc: Global, tokens: &[Spanned]) -> Reading<Init>
-    ensures given { Gives OneInit (λ x. (x.0.field, plain x.0.value)) (λ x. x.1.now) result (job OneInit) tokens.now }
+    ensures given { Gives OneInit (λ x. (x.0.field, plain x.0.value)) (λ x. x.1.now) result
+        (job OneInit) tokens.now }
     ensures shorter { IfOk result (λ x. length x.1.now < length tokens.now) }
 {
     let (field, rest) = take_name(tokens)?;
@@ -384,7 +404,8 @@ fn one_init(alloc: Global, tokens: &[Spanned]) -> Reading<Init>
 /// Fields' values, up to the brace that ends them.
 #[cycle(descent)]
 fn listed_inits(alloc: Global, tokens: &[Spanned]) -> Result<(Vec<Init>, Span, &[Spanned]), Stop>
-    ensures given { Gives ListedInits (λ x. (inits_of x.0.items, x.1)) (λ x. x.2.now) result (job ListedInits) tokens.now }
+    ensures given { Gives ListedInits (λ x. (inits_of x.0.items, x.1)) (λ x. x.2.now) result
+        (job ListedInits) tokens.now }
     ensures shorter { IfOk result (λ x. length x.2.now < length tokens.now) }
 {
     let close = Mark::OfSign(Sign::RightBrace);
@@ -400,7 +421,8 @@ fn listed_inits(alloc: Global, tokens: &[Spanned]) -> Result<(Vec<Init>, Span, &
 /// A field's value and those that follow it.
 #[cycle(descent)]
 fn inits(alloc: Global, first: Init, tokens: &[Spanned]) -> Reading<Vec<Init>>
-    ensures given { Gives (MoreInits (init first.field (plain first.value) no_inits)) (λ x. inits_of x.0.items) (λ x. x.1.now) result
+    ensures given { Gives (MoreInits (init first.field (plain first.value) no_inits))
+        (λ x. inits_of x.0.items) (λ x. x.1.now) result
         (job (MoreInits (init first.field (plain first.value) no_inits))) tokens.now }
     ensures shorter { IfOk result (λ x. length x.1.now ≤ length tokens.now) }
 {
@@ -420,7 +442,8 @@ fn inits(alloc: Global, first: Init, tokens: &[Spanned]) -> Reading<Vec<Init>>
 /// Declarations, as many as follow.
 #[cycle(descent)]
 fn declarations(alloc: Global, tokens: &[Spanned]) -> Reading<Vec<Dec>>
-    ensures given { Gives (MoreDecs no_decs) (λ x. decs_of x.0.items) (λ x. x.1.now) result (job (MoreDecs no_decs)) tokens.now }
+    ensures given { Gives (MoreDecs no_decs) (λ x. decs_of x.0.items) (λ x. x.1.now) result
+        (job (MoreDecs no_decs)) tokens.now }
     ensures shorter { IfOk result (λ x. length x.1.now ≤ length tokens.now) }
 {
     let mut decs = Vec::new(alloc);
