@@ -46,3 +46,6 @@ fn readable(alloc: Global, tokens: &[Spanned]) -> Result<&[Spanned], Memory>
         Some(place) => Ok(&tokens[..place + 1]),
     }
 }
+
+#[cfg(test)]
+mod tests;

@@ -1,5 +1,4 @@
 use crate::faults::Stop;
-use crate::parsing::parse;
 use crate::reading::program;
 use std::alloc::Global;
 use std::test::Fail;
@@ -259,25 +258,5 @@ fn the_first_token_is_refused_that_cannot_stand(rt: HostRuntime) -> Result<(), F
         Token::End,
     ]?;
     assert_eq!(rt; stops(alloc, tokens)?, Some(3));
-    Ok(())
-}
-
-// `7`
-#[test]
-fn a_program_is_parsed(rt: HostRuntime) -> Result<(), Fail> {
-    let tokens = [
-        Spanned {
-            token: Token::Int(7),
-            span: across(0, 1),
-        },
-        Spanned {
-            token: Token::End,
-            span: across(1, 1),
-        },
-    ];
-    match parse(rt.alloc(), &tokens) {
-        Ok(program) => assert!(rt; program.body == one(7, 0)),
-        Err(_) => assert!(rt; false),
-    }
     Ok(())
 }

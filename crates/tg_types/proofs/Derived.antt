@@ -14,9 +14,8 @@ use Rattle.tg_types.specs.Checks.{Noted, fine}
 use Rattle.tg_types.specs.Scopes.{Signature, variable_at, Scope, name_of, at_of, binding, in_a_loop, in_no_loop}
 use Rattle.tg_types.specs.Groups.{stands_in, no_repeats, declare_types, known_fields, known_form, known_forms, names_of, chains_end, with_group, type_at_end, chain_of, add_form, add_forms, function_names, param_types, result_type, headers, with_functions, with_params}
 use Rattle.tg_types.specs.Typing.{typed, typed_place, typed_last, expect_all, expect_fields, declare, bodies, body_fits, own_type, assignable, are_fields, count}
-use Rattle.tg_types.specs.Laws.{AreApart}
 use Rattle.tg_types.proofs.Has as Has
-use Rattle.tg_types.proofs.Has.{Fits, the_same, Apart}
+use Rattle.tg_types.proofs.Has.{AreApart, Fits, the_same, Apart}
 use Rattle.tg_types.proofs.Inversion.{steps, kept, given, presented, shape_added, expected, expected_int, expected_none, arms_fit, Sides, both_ints, both_strings, both_same, sides, variable_got, callee_got, fields_got, element_got, selected}
 
 -- an operator's whole from its sides
@@ -67,7 +66,7 @@ group_apart rule earlier (function f ps r body rest) x g h e =
     (not_named (name_of f) rest (apart_from rule (f ∷ earlier) (function_names rest) (name_of f) x p.between h p.onward (equal_itself (name_of f) earlier f refl)), group_apart rule (f ∷ earlier) rest x p.between h p.onward)
 
 -- checks that add no shape
-no_repeats_keep : (rule : TypeRule) (earlier names : List Ident) (x : Unit {0}) (g h : Noted) → no_repeats rule earlier names g ≡ fine x h → g ≡ h
+pub no_repeats_keep : (rule : TypeRule) (earlier names : List Ident) (x : Unit {0}) (g h : Noted) → no_repeats rule earlier names g ≡ fine x h → g ≡ h
 no_repeats_keep rule earlier [] x g h e = (given _ _ _ _ e).1
 no_repeats_keep rule earlier (z ∷ names) x g h e =
     let p = steps e in
@@ -85,13 +84,13 @@ known_form_keep ds scope (Alias y) x g h e = (kept _ _ _ _ _ _ e).1
 known_form_keep ds scope (Fields ps) x g h e = known_fields_keep ds scope [] ps x g h e
 known_form_keep ds scope (Array y) x g h e = (kept _ _ _ _ _ _ e).1
 
-known_forms_keep : (group ds : List TypeDec) (scope : Scope) (x : Unit {0}) (g h : Noted) → known_forms group ds scope g ≡ fine x h → g ≡ h
+pub known_forms_keep : (group ds : List TypeDec) (scope : Scope) (x : Unit {0}) (g h : Noted) → known_forms group ds scope g ≡ fine x h → g ≡ h
 known_forms_keep group [] scope x g h e = (given _ _ _ _ e).1
 known_forms_keep group (d ∷ ds) scope x g h e =
     let a = steps e in
     known_form_keep group scope d.form a.value g a.between a.first ∙ known_forms_keep group ds scope x a.between h a.onward
 
-chains_keep : (group ds : List TypeDec) (x : Unit {0}) (g h : Noted) → chains_end group ds g ≡ fine x h → g ≡ h
+pub chains_keep : (group ds : List TypeDec) (x : Unit {0}) (g h : Noted) → chains_end group ds g ≡ fine x h → g ≡ h
 chains_keep group [] x g h e = (given _ _ _ _ e).1
 chains_keep group (d ∷ ds) x g h e =
     let a = steps e in
@@ -124,7 +123,7 @@ pub data Headed : FunDecs → List Signature → Type 0 where
   no_heads : Headed no_functions []
   a_head : {f : Ident} {ps : List Param} {r : Option Ident} {body : Exp} {rest : FunDecs} {s : Signature} {ss : List Signature} → length ps ≡ length s.params → (r ≡ None → s.result ≡ none_type) → Headed rest ss → Headed (function f ps r body rest) (s ∷ ss)
 
-headed : (fs : FunDecs) (scope : Scope) (ss : List Signature) (g h : Noted) → headers fs scope g ≡ fine ss h → Headed fs ss × (g ≡ h)
+pub headed : (fs : FunDecs) (scope : Scope) (ss : List Signature) (g h : Noted) → headers fs scope g ≡ fine ss h → Headed fs ss × (g ≡ h)
 headed no_functions scope ss g h e =
     let p = given _ _ _ _ e in
     (subst (λ y. Headed no_functions y) p.0 no_heads, p.1)
@@ -138,23 +137,23 @@ headed (function f ps r body rest) scope ss g h e =
     let k = headed rest scope c.value b.between c.between c.first in
     (subst (λ y. Headed (function f ps r body rest) y) d.0 (a_head n.0 m.0 k.0), n.1 ∙ m.1 ∙ k.1 ∙ d.1)
 
-body_got : (r : Option Ident) (result got : Ty) (at : ℕ) (x : Unit {0}) (g h : Noted) → (r ≡ None → result ≡ none_type) → body_fits r result got at g ≡ fine x h → Fits got result × (g ≡ h)
+pub body_got : (r : Option Ident) (result got : Ty) (at : ℕ) (x : Unit {0}) (g h : Noted) → (r ≡ None → result ≡ none_type) → body_fits r result got at g ≡ fine x h → Fits got result × (g ≡ h)
 body_got None result got at x g h n e =
     let p = expected_none got at x g h e in
     (subst (λ y. Fits got y) (p.0 ∙ sym (n refl)) the_same, p.1)
 body_got (Some y) result got at x g h n e = expected result got at x g h e
 
-assignable_keep : (v : Place) (scope : Scope) (x : Unit {0}) (g h : Noted) → assignable v scope g ≡ fine x h → g ≡ h
+pub assignable_keep : (v : Place) (scope : Scope) (x : Unit {0}) (g h : Noted) → assignable v scope g ≡ fine x h → g ≡ h
 assignable_keep (Simple y) scope x g h e = (kept _ _ _ _ _ _ e).1
 assignable_keep (Field v f) scope x g h e = (given _ _ _ _ e).1
 assignable_keep (Index v i) scope x g h e = (given _ _ _ _ e).1
 
-both : (c d : Bool) → (c && d) ≡ true → (c ≡ true) × (d ≡ true)
+pub both : (c d : Bool) → (c && d) ≡ true → (c ≡ true) × (d ≡ true)
 both true true e = (refl, refl)
 both true false e = cc
 both false d e = cc
 
-own_got : (t : Ty) (at : ℕ) (u : Ty) (g h : Noted) → own_type t at g ≡ fine u h → (t ≡ u) × (g ≡ h)
+pub own_got : (t : Ty) (at : ℕ) (u : Ty) (g h : Noted) → own_type t at g ≡ fine u h → (t ≡ u) × (g ≡ h)
 own_got t at u g h e =
     let a = steps e in
     let b = steps a.onward in

@@ -38,6 +38,11 @@ abbrev pub Apart : FunDecs → Type 0
 Apart no_functions = Unit {0}
 Apart (function f _ _ _ rest) = (function_named (name_of f) rest ≡ None) × Apart rest
 
+-- no two shapes stand at one byte
+abbrev pub AreApart : List (ℕ × Shape) → Type 0
+AreApart [] = Unit {0}
+AreApart (one ∷ rest) = (named one.0 rest ≡ None) × AreApart rest
+
 module _ (shapes : List (ℕ × Shape)) where
   mutual
     pub data Has : Exp → Scope → Ty → Type 0 where

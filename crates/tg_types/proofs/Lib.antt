@@ -5,4 +5,5 @@ pub mod Sound
 pub mod SoundDirect
 pub mod Inversion
 pub mod Derived
+pub mod Bytes
 pub mod NeverStuck
