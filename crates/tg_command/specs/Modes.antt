@@ -1,10 +1,9 @@
 -- The words that name a mode.
 use Rattle.std.specs.Prelude.{ℕ, List, codes}
 use Rattle.tg_command.specs.declared.modes.Mode.{Mode}
-use Rattle.tg_command.specs.declared.modes.Mode.TheVariants.{Check, Run, Exec}
+use Rattle.tg_command.specs.declared.modes.Mode.TheVariants.{Check, Run}
 
 -- the name of a mode
 abbrev pub name_of : Mode → List ℕ
 name_of Check = codes "check"
 name_of Run = codes "run"
-name_of Exec = codes "exec"

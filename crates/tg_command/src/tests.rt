@@ -74,7 +74,7 @@ static REFUSED: [&str; 71] = [
     "tiger|check|a|--heap|6",
     "tiger|check|a|--stack|4",
     "tiger|check|a|--steps|0",
-    "tiger|exec|a|--heap|6",
+    "tiger|exec|a",
 ];
 
 // Command lines with what they ask for: the mode, the file, the heap, the stack and the steps.
@@ -96,8 +96,8 @@ static TAKEN: [(&str, Mode, &str, u32, u32, u64); 20] = [
         1_000_000_000,
     ),
     (
-        "tiger|exec|a.s",
-        Mode::Exec,
+        "tiger|run|a.s",
+        Mode::Run,
         "a.s",
         16_777_216,
         67_108_864,
@@ -208,8 +208,8 @@ static TAKEN: [(&str, Mode, &str, u32, u32, u64); 20] = [
         1_000_000_000,
     ),
     (
-        "tiger|--steps=1|exec|--stack|65536|a|--heap=4",
-        Mode::Exec,
+        "tiger|--steps=1|check|--stack|65536|a|--heap=4",
+        Mode::Check,
         "a",
         4,
         65_536,

@@ -1,11 +1,10 @@
 -- What a step fetches.
-use Rattle.std.proofs.Common.{◌≡◌, ◌≢◌, ◌<◌, ◌≤◌, ◌+◌, ◌-◌, ◌*◌, ◌/◌, ◌%◌, ◌^◌, ℕ, List, length, slice_index, arith, refl, ap, ◌∙◌, sym, Option, Some, None, Ok, nat_le, nat_lt, ◌==◌, true, false}
+use Rattle.std.proofs.Common.{◌≡◌, ◌≢◌, ◌<◌, ◌≤◌, ◌+◌, ◌-◌, ◌*◌, ◌/◌, ◌%◌, ℕ, length, slice_index, arith, ap, ◌∙◌, Some, Ok, ◌==◌, false}
 use Rattle.std.proofs.lemmas.Grind.{common_steps}
 use Rattle.tg_base.specs.State.{State, code_base, offset, go}
 use Rattle.tg_base.specs.Words.{add}
-use Rattle.tg_base.specs.Services.{Step, Goes, Ends}
 use Rattle.tg_isa.specs.declared.mips.Mips.{Mips}
-use Rattle.tg_isa.specs.Table.{word_of, IsRow, decode_of}
+use Rattle.tg_isa.specs.Table.{word_of, IsRow}
 use Rattle.tg_isa.specs.Effects.{fetch, fetched, decoded, effect, performed, step}
 use Rattle.tg_isa.proofs.Inverse.{decode_of-word_of}
 

@@ -1,8 +1,8 @@
 -- Runs without services: what the definition of a run makes of them, whatever the input.
-use Rattle.std.proofs.Common.{subst, ◌≡◌, ◌<◌, ◌≤◌, ◌+◌, ◌-◌, ℕ, zero, suc, List, arith, refl, ap, ◌∙◌, sym, Option}
+use Rattle.std.proofs.Common.{subst, ◌≡◌, ◌<◌, ◌≤◌, ℕ, zero, suc, List, arith, refl, ap, ◌∙◌, sym, Option}
 use Rattle.tg_base.specs.declared.ends.RunEnd.{RunEnd}
 use Rattle.tg_base.specs.State.{State}
-use Rattle.tg_base.specs.Services.{Step, Goes, Ends, Reads, Writes}
+use Rattle.tg_base.specs.Services.{Goes, Ends}
 use Rattle.tg_isa.specs.Effects.{step}
 use Rattle.tg_isa.specs.Runs.{World, Outcome, Running, Ended, run, proceed}
 use Rattle.tg_driver.proofs.StackSteps.{Path, here, onward}
@@ -24,6 +24,14 @@ run_ends zero (suc n) s t e input output (here s') ends lt = run_step n (world s
 run_ends (suc m) zero s t e input output (onward goes path) ends lt = absurd (omega arith)
 run_ends (suc m) (suc n) s t e input output (onward goes path) ends lt =
     run_step n (world s input output) ∙ ap (λ o. goes_on n (proceed (world s input output) o)) goes ∙ run_ends m n _ t e input output path ends (omega arith)
+
+-- a run goes on along the first steps of a path
+pub run_goes_on : (n m : ℕ) (s t : State) → Path m s t → n ≤ m → (u : State) × ((input : List (Option ℕ)) (output : List ℕ) → run n (world s input output) ≡ Running (world u input output))
+run_goes_on zero m s t path le = (s, λ input output. refl)
+run_goes_on (suc n) zero s t (here s') le = absurd (omega arith)
+run_goes_on (suc n) (suc m) s t (onward goes path) le =
+    let g = run_goes_on n m _ t path (omega arith) in
+    (g.0, λ input output. run_step n (world s input output) ∙ ap (λ o. goes_on n (proceed (world s input output) o)) goes ∙ g.1 input output)
 
 -- a step that only goes on, or ends
 pub data IsSilent (s : State) : Type 0 where

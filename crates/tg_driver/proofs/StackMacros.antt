@@ -1,18 +1,15 @@
 -- What the pieces of the stack code come to.
-use Rattle.std.proofs.Common.{subst, ◌≡◌, ◌≢◌, ◌<◌, ◌≤◌, ◌+◌, ◌-◌, ◌*◌, ◌/◌, ◌%◌, ◌^◌, ℕ, List, [], ◌∷◌, ◌++◌, length, arith, refl, ap, ◌∙◌, sym, Option, Some, None, lit<}
-use Rattle.std.proofs.lemmas.Grind.{common_steps}
-use Rattle.std.specs.Prelude.{bit_or, bit_xor}
+use Rattle.std.proofs.Common.{subst, ◌≡◌, ◌≢◌, ◌<◌, ◌≤◌, ◌+◌, ◌*◌, ◌/◌, ◌%◌, ◌^◌, ℕ, List, ◌∷◌, length, arith, refl, ap, ◌∙◌, Option, Some, None, lit<}
+use Rattle.std.specs.Prelude.{bit_or}
 use Rattle.std.proofs.lemmas.Nat.{or_shifted}
 use Rattle.tg_base.specs.declared.ends.RunEnd.TheVariants.{Overflow}
-use Rattle.tg_base.specs.State.{State, register, go, word_at}
+use Rattle.tg_base.specs.State.{State, register, go}
 use Rattle.tg_base.specs.Words.{exact_sum, exact_difference}
-use Rattle.tg_base.specs.Services.{Step, Goes, Ends}
-use Rattle.tg_isa.specs.declared.mips.Mips.{Mips}
-use Rattle.tg_isa.specs.declared.mips.Mips.TheVariants.{Sll, Sra, Syscall, Mfhi, Mflo, Mult, Add, Sub, Xor, Sltu, Addiu, Ori, Lui, Lw, Sw}
-use Rattle.tg_isa.specs.Effects.{effect, put_exact, step}
-use Rattle.tg_driver.specs.StackCode.{push_code, operands_code, operator_code, result_code}
-use Rattle.tg_driver.proofs.StackMemory.{Holds}
-use Rattle.tg_driver.proofs.StackSteps.{Has, At, Path, here, onward, step_of, Sets, sets, loads, shifts, stores, Puts, Overflows, Comes, path_then, comes_after, down, up, at_as}
+use Rattle.tg_base.specs.Services.{Ends}
+use Rattle.tg_isa.specs.declared.mips.Mips.TheVariants.{Add, Sub, Ori, Lui, Lw}
+use Rattle.tg_isa.specs.Effects.{put_exact, step}
+use Rattle.tg_driver.specs.StackCode.{push_code, operands_code, result_code}
+use Rattle.tg_driver.proofs.StackSteps.{Has, At, Path, here, onward, step_of, Sets, sets, loads, shifts, stores, Puts, Comes, path_then, down, up, at_as}
 
 pub no_29 : (r : ℕ) → r < 29 → r ≢ 29
 no_29 r lt e = absurd (omega arith)

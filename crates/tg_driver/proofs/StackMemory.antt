@@ -1,7 +1,7 @@
 -- Words on the machine's stack: the addresses of the stack, and what a store leaves.
-use Rattle.std.proofs.Common.{◌≡◌, ◌≢◌, ◌<◌, ◌≤◌, ◌+◌, ◌-◌, ◌*◌, ◌/◌, ◌%◌, ◌^◌, ◌⊎◌, ℕ, List, [], ◌∷◌, length, slice_index, slice_set, arith, refl, ap, ◌∙◌, sym, Option, Some, None, Ok, ◌==◌, true, inr}
+use Rattle.std.proofs.Common.{◌≡◌, ◌<◌, ◌≤◌, ◌+◌, ◌-◌, ◌*◌, ◌/◌, ◌%◌, ℕ, List, [], ◌∷◌, length, arith, ap, ◌∙◌, Some, Ok}
 use Rattle.std.proofs.lemmas.Grind.{common_steps}
-use Rattle.tg_base.specs.State.{State, floor, offset, spot, in_stack, InStack, word_at, set_word, load_word, store_word, word_there, set_word_there}
+use Rattle.tg_base.specs.State.{State, floor, spot, in_stack, InStack, word_at, set_word, load_word, store_word, word_there, set_word_there}
 use Rattle.tg_driver.proofs.Fetches.{offset_in}
 
 bytes_of : (v : ℕ) → v % 256 + 256 * (v / 256 % 256) + 65536 * (v / 65536 % 256) + 16777216 * (v / 16777216) ≡ v

@@ -1,20 +1,18 @@
 -- The product of the operands in $t0 and $t1, which overflows where its upper word isn't the sign of its lower one.
-use Rattle.std.proofs.Common.{subst, ◌≡◌, ◌≢◌, ◌<◌, ◌≤◌, ◌+◌, ◌*◌, ◌^◌, ℕ, List, [], ◌∷◌, ◌++◌, length, arith, refl, ap, ◌∙◌, sym, Option, Some, None, lit<, ◌⊎◌, inl, inr, ◌==◌, true, false}
+use Rattle.std.proofs.Common.{subst, ◌≡◌, ◌≢◌, ◌<◌, ◌≤◌, ◌+◌, ◌*◌, ◌^◌, ℕ, List, [], ◌∷◌, ◌++◌, length, arith, refl, ap, ◌∙◌, sym, Option, Some, None, lit<, ◌⊎◌, inl, inr, true}
 use Rattle.std.proofs.lemmas.Grind.{common_steps}
 use Rattle.std.proofs.lemmas.Bool.{cases_eq}
 use Rattle.std.specs.Prelude.{bit_xor, nat_lt}
 use Rattle.std.specs.Int.Bits.{xor_assoc, xor_self, xor_zero_l, xor_zero_r}
-use Rattle.tg_base.specs.declared.ends.RunEnd.TheVariants.{Overflow}
-use Rattle.tg_base.specs.State.{State, register, go, word_at}
+use Rattle.tg_base.specs.State.{State, register}
 use Rattle.tg_base.specs.Words.{exact_sum, exact_product, product_high, product_low, shift_signed, shift_left, flag}
 use Rattle.tg_base.proofs.ProductLaws.{product_of}
-use Rattle.tg_base.specs.Services.{Step, Goes, Ends}
-use Rattle.tg_isa.specs.declared.mips.Mips.{Mips}
-use Rattle.tg_isa.specs.declared.mips.Mips.TheVariants.{Sll, Sra, Syscall, Mfhi, Mflo, Mult, Add, Sub, Xor, Sltu, Addiu, Ori, Lui, Lw, Sw}
-use Rattle.tg_isa.specs.Effects.{effect, put_exact, step}
+use Rattle.tg_base.specs.Services.{Goes}
+use Rattle.tg_isa.specs.declared.mips.Mips.TheVariants.{Sll, Sra, Mfhi, Mflo, Mult, Add, Xor, Sltu}
+use Rattle.tg_isa.specs.Effects.{put_exact, step}
 use Rattle.tg_syntax.specs.declared.trees.Op.TheVariants.{Times}
 use Rattle.tg_driver.specs.StackCode.{operator_code, result_code}
-use Rattle.tg_driver.proofs.StackSteps.{Stands, Has, has_as, At, Path, here, onward, step_of, Sets, sets, stores, Puts, Overflows, Comes, path_then, at_as}
+use Rattle.tg_driver.proofs.StackSteps.{Stands, Has, has_as, At, Path, here, onward, step_of, sets, stores, Puts, Overflows, Comes, path_then, at_as}
 use Rattle.tg_driver.proofs.StackMacros.{no_29, other_than, comes_as}
 
 -- hi and lo get the product

@@ -1,25 +1,24 @@
 -- The program of an argument of `exit`, from the start of the machine to its end.
-use Rattle.std.proofs.Common.{subst, ◌≡◌, ◌≢◌, ◌<◌, ◌≤◌, ◌+◌, ◌-◌, ◌*◌, ◌^◌, ℕ, zero, suc, List, [], ◌∷◌, ◌++◌, length, replicate, arith, refl, ap, ◌∙◌, sym, Option, Some, None, lit<, lit≤, length-append, append_assoc, map, slice_index}
+use Rattle.std.proofs.Common.{subst, ◌≡◌, ◌<◌, ◌≤◌, ◌+◌, ◌*◌, ℕ, List, [], ◌∷◌, ◌++◌, length, arith, refl, ap, ◌∙◌, Option, Some, None, lit<, length-append, append_assoc, slice_index}
 use Rattle.std.proofs.lemmas.Grind.{common_steps}
-use Rattle.std.proofs.lemmas.List.{length-replicate, length-map}
+use Rattle.std.proofs.lemmas.List.{length-replicate}
 use Rattle.tg_base.specs.declared.ends.RunEnd.{RunEnd}
-use Rattle.tg_base.specs.declared.ends.RunEnd.TheVariants.{Exit, Overflow}
-use Rattle.tg_base.specs.State.{State, register, go, code_base, start, word_at}
+use Rattle.tg_base.specs.declared.ends.RunEnd.TheVariants.{Exit}
+use Rattle.tg_base.specs.State.{State, register, go, code_base, start}
 use Rattle.tg_base.specs.Words.{signed, add, extended}
-use Rattle.tg_base.specs.Services.{Step, Goes, Ends, Reads, Writes, service}
+use Rattle.tg_base.specs.Services.{Ends, service}
 use Rattle.tg_isa.specs.declared.mips.Mips.{Mips}
-use Rattle.tg_isa.specs.declared.mips.Mips.TheVariants.{Syscall, Addiu, Lw}
+use Rattle.tg_isa.specs.declared.mips.Mips.TheVariants.{Syscall, Addiu}
 use Rattle.tg_isa.specs.Table.{word_of}
 use Rattle.tg_isa.specs.Effects.{step}
-use Rattle.tg_isa.specs.Runs.{World, Outcome, Running, Ended, run, proceed}
 use Rattle.tg_syntax.specs.Tree.{Exp}
 use Rattle.tg_syntax.specs.Measures.{size as nodes}
-use Rattle.tg_driver.specs.BuiltForm.{HasBuiltForm}
+use Rattle.tg_driver.specs.Runnable.{IsRunnable}
 use Rattle.tg_driver.specs.Values.{value}
 use Rattle.tg_driver.specs.Finishing.{end_of_value}
 use Rattle.tg_driver.specs.StackCode.{value_code, exit_code, program_code, words_of}
-use Rattle.tg_driver.proofs.StackSteps.{Stands, Has, has_as, has_first, has_second, At, at_as, Path, here, onward, path_then, step_of, Sets, sets, loads, Puts, Overflows, Comes}
-use Rattle.tg_driver.proofs.StackMacros.{no_29, other_than}
+use Rattle.tg_driver.proofs.StackSteps.{Has, has_as, has_first, has_second, At, Path, here, onward, path_then, step_of, sets, loads, Comes}
+use Rattle.tg_driver.proofs.StackMacros.{no_29}
 use Rattle.tg_driver.proofs.StackValues.{comes_value}
 
 -- From a state the machine goes on for fewer steps than so many, without a service, and then ends.
@@ -93,7 +92,7 @@ finishes_value words size n s None c has room = let within = c.within in
     record { steps = c.steps; last = c.last; within = omega (arith, within); path = c.path; ends = c.ends }
 
 -- The program ends with the value of the argument, or by overflow where that does.
-pub program_finishes : (e : Exp) (heap stack : ℕ) → HasBuiltForm e → length (words_of (program_code e)) ≤ 66060288 → stack ≤ 268435456 → 4 * (nodes e + 1) ≤ stack → Finishes (length (program_code e)) (start (words_of (program_code e)) [] code_base heap stack) (end_of_value (value e))
+pub program_finishes : (e : Exp) (heap stack : ℕ) → IsRunnable e → length (words_of (program_code e)) ≤ 66060288 → stack ≤ 268435456 → 4 * (nodes e + 1) ≤ stack → Finishes (length (program_code e)) (start (words_of (program_code e)) [] code_base heap stack) (end_of_value (value e))
 program_finishes e heap stack h fits small room =
     let words = words_of (program_code e) in
     let s = start words [] code_base heap stack in

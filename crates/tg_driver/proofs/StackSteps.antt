@@ -1,14 +1,14 @@
 -- Steps of the code that keeps values on the stack.
-use Rattle.std.proofs.Common.{◌==◌, true, false, ◌≡◌, ◌≢◌, ◌<◌, ◌≤◌, ◌+◌, ◌-◌, ◌*◌, ◌/◌, ◌%◌, ◌^◌, ℕ, zero, suc, List, [], ◌∷◌, ◌++◌, length, slice_index, slice_set, arith, refl, ap, ◌∙◌, sym, subst, Option, Some, None, Result, Ok, lit<, length-append, append_assoc}
+use Rattle.std.proofs.Common.{◌==◌, false, ◌≡◌, ◌≢◌, ◌<◌, ◌≤◌, ◌+◌, ◌-◌, ◌*◌, ℕ, zero, suc, List, [], ◌∷◌, ◌++◌, length, slice_index, slice_set, arith, refl, ap, ◌∙◌, sym, subst, Option, Some, None, Ok, lit<}
 use Rattle.std.proofs.lemmas.Grind.{common_steps}
 use Rattle.tg_base.specs.declared.ends.RunEnd.TheVariants.{Overflow}
 use Rattle.tg_base.specs.State.{State, register, set_register, go, word_at, set_word, load_word, store_word}
 use Rattle.tg_base.specs.Words.{add, extended}
-use Rattle.tg_base.specs.Services.{Step, Goes, Ends}
+use Rattle.tg_base.specs.Services.{Goes, Ends}
 use Rattle.tg_isa.specs.declared.mips.Mips.{Mips}
-use Rattle.tg_isa.specs.declared.mips.Mips.TheVariants.{Sll, Sra, Syscall, Mfhi, Mflo, Mult, Add, Sub, Xor, Sltu, Addiu, Ori, Lui, Lw, Sw}
+use Rattle.tg_isa.specs.declared.mips.Mips.TheVariants.{Addiu, Lw, Sw}
 use Rattle.tg_isa.specs.Table.{word_of, IsRow}
-use Rattle.tg_isa.specs.Effects.{effect, put, put_exact, stored, address, step}
+use Rattle.tg_isa.specs.Effects.{effect, put, stored, address, step}
 use Rattle.tg_driver.proofs.Fetches.{step_at}
 use Rattle.tg_driver.proofs.StackMemory.{Holds, holds_more, load_at, store_at, length-set_word}
 

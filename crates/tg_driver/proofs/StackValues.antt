@@ -1,20 +1,20 @@
 -- The code of an expression puts its value on the stack, or overflows where the value does.
-use Rattle.std.proofs.Common.{subst, ◌≡◌, ◌≢◌, ◌<◌, ◌≤◌, ◌+◌, ◌-◌, ◌*◌, ◌^◌, ℕ, List, [], ◌∷◌, ◌++◌, length, arith, refl, ap, ◌∙◌, sym, Option, Some, None, lit<, length-append, IfSome}
+use Rattle.std.proofs.Common.{subst, ◌≡◌, ◌<◌, ◌≤◌, ◌+◌, ◌*◌, ◌^◌, ℕ, List, ◌∷◌, ◌++◌, length, arith, refl, ap, Option, Some, None, lit<, length-append, IfSome}
 use Rattle.std.proofs.lemmas.Grind.{common_steps}
-use Rattle.std.specs.Prelude.{option_and_then, ℤ, int_lt, pos, negsuc, ◌+ℤ◌, ◌-ℤ◌, ◌*ℤ◌, Bool, true, false, if◌then◌else◌}
+use Rattle.std.specs.Prelude.{IsTrue, option_and_then, ℤ, pos, negsuc, ◌+ℤ◌, ◌-ℤ◌, ◌*ℤ◌, Bool, true, false, if◌then◌else◌}
 use Rattle.tg_base.specs.State.{State, register}
-use Rattle.tg_base.specs.Words.{exact_sum, exact_difference, exact_product, within, is_word, signed, unsigned}
-use Rattle.tg_isa.specs.declared.mips.Mips.{Mips}
+use Rattle.tg_base.specs.Words.{exact_difference, within, is_word, signed, unsigned}
 use Rattle.tg_isa.specs.declared.mips.Mips.TheVariants.{Sub, Lw}
 use Rattle.tg_syntax.specs.declared.trees.Op.{Op}
 use Rattle.tg_syntax.specs.declared.trees.Op.TheVariants as op
 use Rattle.tg_syntax.specs.Tree.{Exp, Int, Neg, Binary, Seq, exp, no_exps}
 use Rattle.tg_syntax.specs.Measures.{size as nodes}
-use Rattle.tg_driver.specs.BuiltForm.{HasBuiltForm, IsArithmetic}
+use Rattle.tg_driver.specs.Runnable.{IsRunnable}
+use Rattle.tg_driver.specs.BuiltForm.{is_arithmetic}
 use Rattle.tg_driver.specs.Values.{value, applied}
 use Rattle.tg_driver.specs.StackCode.{value_code, operator_code, operands_code, result_code}
-use Rattle.tg_driver.proofs.StackSteps.{Has, has_as, has_first, has_second, At, at_as, Path, Puts, Overflows, Comes, comes_after}
-use Rattle.tg_driver.proofs.StackMacros.{comes_as, pushes_int, negates, operands, Operands, adds, subtracts}
+use Rattle.tg_driver.proofs.StackSteps.{Has, has_first, has_second, At, at_as, Overflows, Comes, comes_after}
+use Rattle.tg_driver.proofs.StackMacros.{comes_as, pushes_int, negates, operands, adds, subtracts}
 use Rattle.tg_driver.proofs.StackProducts.{multiplies_operands}
 
 below_if : (b : Bool) (v : ℕ) → (b ≡ true → v < 2 ^ 32) → IfSome (if b then Some v else None) (λ v. v < 2 ^ 32)
@@ -42,7 +42,7 @@ applied_below o None b = tt
 applied_below o (Some x) None = tt
 applied_below o (Some x) (Some y) = exact_below o x y
 
-pub value_below : (e : Exp) → HasBuiltForm e → IfSome (value e) (λ v. v < 2 ^ 32)
+pub value_below : (e : Exp) → IsRunnable e → IfSome (value e) (λ v. v < 2 ^ 32)
 value_below (Int _ n) h = omega (arith, h)
 value_below (Neg _ a) h = negated_below (value a)
 value_below (Binary _ o _ a b) h = applied_below o (value a) (value b)
@@ -50,11 +50,11 @@ value_below (Seq _ (exp a no_exps)) h = value_below a h
 value_below _ h = tt
 
 -- the operator's code, for operands in $t0 and $t1
-operates : (o : Op) (words : List ℕ) (size k : ℕ) (values : List ℕ) (s : State) (x y : ℕ) → IsArithmetic o → x < 2 ^ 32 → y < 2 ^ 32 → At words size k (length values + 1) values s → register s 8 ≡ x → register s 9 ≡ y → Has words k (operator_code o ++ result_code) → 4 * (length values + 1) ≤ size → Comes words size (k + length (operator_code o ++ result_code)) values (length (operator_code o ++ result_code)) s (applied o x y)
+operates : (o : Op) (words : List ℕ) (size k : ℕ) (values : List ℕ) (s : State) (x y : ℕ) → IsTrue (is_arithmetic o) → x < 2 ^ 32 → y < 2 ^ 32 → At words size k (length values + 1) values s → register s 8 ≡ x → register s 9 ≡ y → Has words k (operator_code o ++ result_code) → 4 * (length values + 1) ≤ size → Comes words size (k + length (operator_code o ++ result_code)) values (length (operator_code o ++ result_code)) s (applied o x y)
 operates op.Plus words size k values s x y form small small' at left right has room = adds words size k values s x y at left right has room
 operates op.Minus words size k values s x y form small small' at left right has room = subtracts words size k values s x y at left right has room
 operates op.Times words size k values s x y form small small' at left right has room = multiplies_operands words size k values s x y small small' at left right has room
-operates _ words size k values s x y form small small' at left right has room = absurd form
+operates _ words size k values s x y form small small' at left right has room = absurd (cc)
 
 overflows_within : (m n : ℕ) (s : State) → m ≤ n → Overflows m s → Overflows n s
 overflows_within m n s le c = let within = c.within in
@@ -72,7 +72,7 @@ negates_after words size k values n s (Some x) c has room =
 negates_after words size k values n s None c has room = overflows_within n (n + 3) s (omega arith) c
 
 -- an operator, after the code of both operands
-operates_after : (o : Op) (words : List ℕ) (size k : ℕ) (values : List ℕ) (n : ℕ) (s : State) (x : ℕ) (b : Option ℕ) → IsArithmetic o → x < 2 ^ 32 → IfSome b (λ y. y < 2 ^ 32) → Comes words size (k + n) (x ∷ values) n s b → Has words (k + n) (operands_code ++ (operator_code o ++ result_code)) → 4 * (length values + 2) ≤ size → Comes words size (k + (n + (3 + length (operator_code o ++ result_code)))) values (n + (3 + length (operator_code o ++ result_code))) s (option_and_then (λ y. applied o x y) b)
+operates_after : (o : Op) (words : List ℕ) (size k : ℕ) (values : List ℕ) (n : ℕ) (s : State) (x : ℕ) (b : Option ℕ) → IsTrue (is_arithmetic o) → x < 2 ^ 32 → IfSome b (λ y. y < 2 ^ 32) → Comes words size (k + n) (x ∷ values) n s b → Has words (k + n) (operands_code ++ (operator_code o ++ result_code)) → 4 * (length values + 2) ≤ size → Comes words size (k + (n + (3 + length (operator_code o ++ result_code)))) values (n + (3 + length (operator_code o ++ result_code))) s (option_and_then (λ y. applied o x y) b)
 operates_after o words size k values n s x (Some y) form small small' c has room =
     let at = at_as words size (k + n) (k + n) (length (x ∷ values) + 1) (length values + 2) (y ∷ x ∷ values) (y ∷ x ∷ values) c.after refl (omega arith) refl c.at in
     let p = operands words size (k + n) values c.after x y at (has_first words (k + n) operands_code (operator_code o ++ result_code) has) room in
@@ -85,7 +85,7 @@ operates_after o words size k values n s x (Some y) form small small' c has room
 operates_after o words size k values n s x None form small small' c has room = overflows_within n _ s (omega arith) c
 
 -- the second operand and the operator, after the code of the first operand
-seconds : (o : Op) (words : List ℕ) (size k : ℕ) (values : List ℕ) (n m : ℕ) (s : State) (a b : Option ℕ) → IsArithmetic o → IfSome a (λ x. x < 2 ^ 32) → IfSome b (λ y. y < 2 ^ 32) → Comes words size (k + n) values n s a → ((x : ℕ) (t : State) → At words size (k + n) (length values + 1) (x ∷ values) t → Comes words size (k + n + m) (x ∷ values) m t b) → Has words (k + n + m) (operands_code ++ (operator_code o ++ result_code)) → 4 * (length values + 2) ≤ size → Comes words size (k + (n + (m + (3 + length (operator_code o ++ result_code))))) values (n + (m + (3 + length (operator_code o ++ result_code)))) s (option_and_then (λ x. option_and_then (λ y. applied o x y) b) a)
+seconds : (o : Op) (words : List ℕ) (size k : ℕ) (values : List ℕ) (n m : ℕ) (s : State) (a b : Option ℕ) → IsTrue (is_arithmetic o) → IfSome a (λ x. x < 2 ^ 32) → IfSome b (λ y. y < 2 ^ 32) → Comes words size (k + n) values n s a → ((x : ℕ) (t : State) → At words size (k + n) (length values + 1) (x ∷ values) t → Comes words size (k + n + m) (x ∷ values) m t b) → Has words (k + n + m) (operands_code ++ (operator_code o ++ result_code)) → 4 * (length values + 2) ≤ size → Comes words size (k + (n + (m + (3 + length (operator_code o ++ result_code))))) values (n + (m + (3 + length (operator_code o ++ result_code)))) s (option_and_then (λ x. option_and_then (λ y. applied o x y) b) a)
 seconds o words size k values n m s (Some x) b form small small' c second has room =
     let l = 3 + length (operator_code o ++ result_code) in
     let q = operates_after o words size (k + n) values m c.after x b form small small' (second x c.after c.at) has room in
@@ -94,7 +94,7 @@ seconds o words size k values n m s (Some x) b form small small' c second has ro
 seconds o words size k values n m s None b form small small' c second has room = overflows_within n _ s (omega arith) c
 
 -- every tree of the built form has a node
-pub nodes_positive : (e : Exp) → HasBuiltForm e → 0 < nodes e
+pub nodes_positive : (e : Exp) → IsRunnable e → 0 < nodes e
 nodes_positive (Int _ n) h = lit< tt
 nodes_positive (Neg _ a) h = omega arith
 nodes_positive (Binary _ o _ a b) h = omega arith
@@ -102,7 +102,7 @@ nodes_positive (Seq _ (exp a no_exps)) h = omega arith
 nodes_positive _ h = absurd h
 
 -- The code of an expression, from any place and with any values on the stack, puts its value on top or overflows.
-pub comes_value : (e : Exp) → HasBuiltForm e → (words : List ℕ) (size k : ℕ) (values : List ℕ) (s : State) → At words size k (length values) values s → Has words k (value_code e) → 4 * (length values + nodes e) ≤ size → Comes words size (k + length (value_code e)) values (length (value_code e)) s (value e)
+pub comes_value : (e : Exp) → IsRunnable e → (words : List ℕ) (size k : ℕ) (values : List ℕ) (s : State) → At words size k (length values) values s → Has words k (value_code e) → 4 * (length values + nodes e) ≤ size → Comes words size (k + length (value_code e)) values (length (value_code e)) s (value e)
 comes_value (Int _ n) h words size k values s at has room = pushes_int words size k values s n at has (omega (arith, h)) room
 comes_value (Neg p a) h words size k values s at has room =
     let n = length (value_code a) in

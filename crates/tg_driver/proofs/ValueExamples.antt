@@ -1,5 +1,5 @@
 -- Values of arguments of `exit`, by the definition.
-use Rattle.std.proofs.Common.{◌≡◌, ◌+◌, ℕ, refl, Some, None, length}
+use Rattle.std.proofs.Common.{◌≡◌, ℕ, refl, Some, None, length}
 use Rattle.tg_base.specs.declared.ids.Span.{Span}
 use Rattle.tg_syntax.specs.declared.trees.Op.TheVariants.{Plus, Minus, Times}
 use Rattle.tg_syntax.specs.Tree.{Exp, Int, Neg, Binary, Seq, exp, no_exps}

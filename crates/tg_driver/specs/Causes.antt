@@ -1,75 +1,108 @@
 -- When each answer comes.
-use Rattle.std.specs.Prelude.{ℕ, ◌≡◌, ◌≤◌, List, [], ◌∷◌, codes, Option, Some, None}
+use Rattle.std.specs.Prelude.{ℕ, ◌+◌, ◌*◌, ◌≡◌, ◌≤◌, ◌<◌, List, [], Option}
 use Rattle.tg_base.specs.Causes.{Rose}
 use Rattle.tg_base.specs.Files.{Files, IsFrontOf}
 use Rattle.tg_base.specs.declared.ends.RunEnd.{RunEnd}
-use Rattle.tg_base.specs.declared.ends.RunEnd.TheVariants.{Exit, Overflow}
+use Rattle.tg_base.specs.declared.ends.RunEnd.TheVariants.{Exit, Overflow, StepLimit}
 use Rattle.tg_base.specs.State.{State, start}
 use Rattle.tg_isa.specs.declared.images.Image.{Image}
-use Rattle.tg_isa.specs.Runs.{World, Ended, run, begun}
+use Rattle.tg_isa.specs.Runs.{World, Outcome, Running, Ended, run, begun}
+use Rattle.tg_syntax.specs.declared.tokens.Spanned.{Spanned}
 use Rattle.tg_syntax.specs.Tree.{Exp}
+use Rattle.tg_syntax.specs.Measures.{size}
+use Rattle.tg_command.specs.declared.modes.Mode.TheVariants.{Check, Run}
+use Rattle.tg_command.specs.Commands.{Asked, Ask, IsUsageFault}
 use Rattle.tg_driver.specs.declared.answers.Answer.{Answer}
-use Rattle.tg_driver.specs.declared.answers.Answer.TheVariants.{Usage, Unreadable, NotBuilt, OutOfMemory, Exited, Overflowed}
+use Rattle.tg_driver.specs.declared.answers.Answer.TheVariants.{Usage, Unreadable, Faulty, Accepted, NotBuilt, OutOfMemory, Exited, Overflowed, StepsUsedUp}
 use Rattle.tg_driver.specs.BuiltForm.{IsBuilt}
+use Rattle.tg_driver.specs.Sources.{IsSourceOf, IsFaultOf}
 use Rattle.tg_driver.specs.Statuses.{Reports}
 use Rattle.tg_driver.specs.Values.{exit_value}
 use Rattle.tg_driver.specs.Images.{IsImageOf}
 use Rattle.tg_driver.specs.Finishing.{end_of_value}
-use Rattle.tg_driver.specs.Defaults.{default_heap, default_stack, default_steps}
 
--- the words are the program's name, `run` and the name of a file
-pub record AreRunOf (words : List (List ℕ)) (name : List ℕ) : Type 0 where
-  pub program : List ℕ
-  pub are : words ≡ program ∷ codes "run" ∷ name ∷ []
+-- what a run comes to that is answered by this end: the machine goes on where its steps are used up
+abbrev pub outcome_of : RunEnd → World → Outcome
+outcome_of StepLimit w = Running w
+outcome_of end w = Ended end w
 
--- Whatever the input, the machine's run on an image ends so, and reads and writes nothing.
-pub record EndsSilently (image : Image) (end : RunEnd) : Type 0 where
+-- Whatever the input, the machine's run on an image with these sizes and steps ends so, and reads and writes nothing.
+pub record EndsSilently (image : Image) (heap stack steps : ℕ) (end : RunEnd) : Type 0 where
   pub last : State
   pub ends : (input : List (Option ℕ)) →
-      run default_steps (begun (start image.code image.statics image.entry default_heap default_stack) input)
-      ≡ Ended end (record { machine = last; input = input; output = [] })
+      run steps (begun (start image.code image.statics image.entry heap stack) input)
+      ≡ outcome_of end (record { machine = last; input = input; output = [] })
 
--- The file that was asked for begins with this text, up to a byte more than a source may have.
-pub record IsText (words : List (List ℕ)) (files : Files) (text : List ℕ) : Type 0 where
-  pub name : List ℕ
-  pub words_are : AreRunOf words name
-  pub front : IsFrontOf files name 262145 text
-
--- The machine runs the image of the program, and ends with the value of its argument.
-pub record RunsTo (program : Exp) (end : RunEnd) : Type 0 where
+-- The machine runs the image of the program. It needs so many steps: with these or more it ends with the value of the
+-- argument, and with fewer they are used up.
+pub record RunsTo (program : Exp) (heap stack steps : ℕ) (end : RunEnd) : Type 0 where
   pub image : Image
   pub image_of : IsImageOf program image
-  pub run_ends : EndsSilently image end
-  pub value_is : end ≡ end_of_value (exit_value program)
+  pub run_ends : EndsSilently image heap stack steps end
+  pub needed : ℕ
+  pub few : needed ≤ 12 * size program + 3
+  pub enough : needed ≤ steps → end ≡ end_of_value (exit_value program)
+  pub too_few : steps < needed → end ≡ StepLimit
 
--- The text is of the built form, and its program runs so.
-pub record IsRun (words : List (List ℕ)) (files : Files) (end : RunEnd) : Type 0 where
-  pub text : List ℕ
-  pub is_text : IsText words files text
+-- the text is a program of the built form, or one of another form
+pub record IsBuiltSource (text : List ℕ) (program : Exp) : Type 0 where
+  pub names : List (List ℕ)
+  pub tokens : List Spanned
+  pub source : IsSourceOf text names tokens program
+  pub built : IsBuilt names program
+
+pub record IsOtherSource (text : List ℕ) : Type 0 where
+  pub names : List (List ℕ)
+  pub tokens : List Spanned
   pub program : Exp
-  pub argument : Exp
-  pub built : IsBuilt text program argument
-  pub runs : RunsTo program end
+  pub source : IsSourceOf text names tokens program
+  pub other : IsBuilt names program → ⊥
 
-pub record IsNotBuilt (words : List (List ℕ)) (files : Files) : Type 0 where
+-- the text is a program
+pub record IsSource (text : List ℕ) : Type 0 where
+  pub names : List (List ℕ)
+  pub tokens : List Spanned
+  pub program : Exp
+  pub source : IsSourceOf text names tokens program
+
+-- a program of the built form is to be run, and its run ends so
+pub record IsRun (asked : Asked) (text : List ℕ) (end : RunEnd) : Type 0 where
+  pub mode : asked.mode ≡ Run
+  pub program : Exp
+  pub built : IsBuiltSource text program
+  pub runs : RunsTo program asked.heap asked.stack asked.steps end
+
+-- the cause of each answer to a command, by the text of its file
+abbrev pub IsDueOfText : (asked : Asked) (text : List ℕ) → Answer → Type 0
+IsDueOfText asked text (Faulty fault) = IsFaultOf text fault
+IsDueOfText asked text Accepted = (asked.mode ≡ Check) × IsSource text
+IsDueOfText asked text NotBuilt = (asked.mode ≡ Run) × IsOtherSource text
+IsDueOfText asked text (Exited code) = IsRun asked text (Exit code)
+IsDueOfText asked text Overflowed = IsRun asked text Overflow
+IsDueOfText asked text StepsUsedUp = IsRun asked text StepLimit
+IsDueOfText asked text OutOfMemory = Unit {0}
+IsDueOfText asked text _ = ⊥
+
+-- The words ask for a file that begins with a text, up to a byte more than a source may have, of which the answer is due.
+pub record IsOfText (words : List (List ℕ)) (files : Files) (answer : Answer) : Type 0 where
+  pub asked : Asked
+  pub ask : Ask words asked
   pub text : List ℕ
-  pub is_text : IsText words files text
-  pub not_built : (program argument : Exp) → IsBuilt text program argument → ⊥
+  pub front : IsFrontOf files asked.file 262145 text
+  pub due : IsDueOfText asked text answer
 
 -- the count of faults of the file that was asked for rose
 pub record IsUnreadable (words : List (List ℕ)) (before after : List ℕ → ℕ) : Type 0 where
-  pub name : List ℕ
-  pub words_are : AreRunOf words name
-  pub rose : Rose (before name) (after name)
+  pub asked : Asked
+  pub ask : Ask words asked
+  pub rose : Rose (before asked.file) (after asked.file)
 
--- the cause of each answer; want of memory has none but words that ask for a run
+-- the cause of each answer; want of memory has none
 abbrev pub IsDue : (words : List (List ℕ)) (files : Files) (before after : List ℕ → ℕ) → Answer → Type 0
-IsDue words files before after Usage = (name : List ℕ) → AreRunOf words name → ⊥
+IsDue words files before after Usage = IsUsageFault words
 IsDue words files before after Unreadable = IsUnreadable words before after
-IsDue words files before after NotBuilt = IsNotBuilt words files
-IsDue words files before after OutOfMemory = (name : List ℕ) × AreRunOf words name
-IsDue words files before after (Exited code) = IsRun words files (Exit code)
-IsDue words files before after Overflowed = IsRun words files Overflow
+IsDue words files before after OutOfMemory = Unit {0}
+IsDue words files before after answer = IsOfText words files answer
 
 -- The answer is due, and the status and the error sink report it.
 pub record Answers {E : Type 0} (words : List (List ℕ)) (files : Files) (before after : List ℕ → ℕ) (taken : E → Option (List ℕ)) (faults : E → ℕ) (err err' : E) (status : ℕ) : Type 0 where
@@ -77,21 +110,15 @@ pub record Answers {E : Type 0} (words : List (List ℕ)) (files : Files) (befor
   pub due : IsDue words files before after answer
   pub reports : Reports taken faults answer err err' status
 
--- the answers of a text, once it is read
-abbrev pub IsDueOfText : (text : List ℕ) → Answer → Type 0
-IsDueOfText text NotBuilt = (program argument : Exp) → IsBuilt text program argument → ⊥
-IsDueOfText text OutOfMemory = Unit {0}
-IsDueOfText text (Exited code) = (program argument : Exp) × IsBuilt text program argument × RunsTo program (Exit code)
-IsDueOfText text Overflowed = (program argument : Exp) × IsBuilt text program argument × RunsTo program Overflow
-IsDueOfText text _ = ⊥
-
 -- the answer of an end
 abbrev pub IsAnswerOf : RunEnd → Answer → Type 0
 IsAnswerOf (Exit code) (Exited d) = d ≡ code
 IsAnswerOf Overflow Overflowed = Unit {0}
+IsAnswerOf StepLimit StepsUsedUp = Unit {0}
 IsAnswerOf _ _ = ⊥
 
-abbrev pub IsValueEnd : RunEnd → Type 0
-IsValueEnd (Exit code) = Unit {0}
-IsValueEnd Overflow = Unit {0}
-IsValueEnd _ = ⊥
+abbrev pub IsRunEnd : RunEnd → Type 0
+IsRunEnd (Exit code) = Unit {0}
+IsRunEnd Overflow = Unit {0}
+IsRunEnd StepLimit = Unit {0}
+IsRunEnd _ = ⊥

@@ -1,12 +1,12 @@
 pub mod BuiltForm
+pub mod Runnable
 pub mod Values
 pub mod StackCode
-pub mod Fronts
-pub mod Changes
 pub mod Finishing
 pub mod Images
-pub mod Defaults
+pub mod Sources
 pub mod Statuses
 pub mod Causes
-pub mod Descents
-pub mod Firsts
+pub mod Named
+pub mod Readings
+pub mod Telling

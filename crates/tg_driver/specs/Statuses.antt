@@ -1,31 +1,59 @@
 -- The status and the line of each answer.
-use Rattle.std.specs.Prelude.{ℕ, ◌%◌, ◌≡◌, ◌<◌, ◌⊎◌, List, [], ◌∷◌, ◌++◌, length, codes, Option}
+use Rattle.std.specs.Prelude.{ℕ, ◌%◌, ◌≡◌, ◌<◌, List, [], ◌∷◌, ◌++◌, length, codes, Option}
+use Rattle.std.specs.Fmt.{decimal}
 use Rattle.std.specs.Io.KnownBytes.{Appends}
 use Rattle.tg_base.specs.Causes.{Rose}
 use Rattle.tg_base.specs.Words.{unsigned}
 use Rattle.tg_base.specs.Writes.{TakesFront}
+use Rattle.tg_syntax.specs.declared.faults.LexRule.TheVariants.{L1, L2, L3, L4, L5, L6, L7}
+use Rattle.tg_parser.specs.declared.faults.SyntaxRule.TheVariants.{S1, S2}
+use Rattle.tg_driver.specs.declared.faults.Rule.{Rule}
+use Rattle.tg_driver.specs.declared.faults.Rule.TheVariants.{Lexical, Syntactic}
+use Rattle.tg_driver.specs.declared.faults.Fault.{Fault}
 use Rattle.tg_driver.specs.declared.answers.Answer.{Answer}
-use Rattle.tg_driver.specs.declared.answers.Answer.TheVariants.{Usage, Unreadable, NotBuilt, OutOfMemory, Exited, Overflowed}
+use Rattle.tg_driver.specs.declared.answers.Answer.TheVariants.{Usage, Unreadable, Faulty, Accepted, NotBuilt, OutOfMemory, Exited, Overflowed, StepsUsedUp}
 
 -- an exit's status is its code modulo 256
 abbrev pub status_of : Answer → ℕ
 status_of Usage = 64
+status_of (Faulty fault) = 65
 status_of Unreadable = 66
 status_of NotBuilt = 69
 status_of OutOfMemory = 70
+status_of Accepted = 0
 status_of (Exited code) = unsigned code % 256
+status_of StepsUsedUp = 109
 status_of Overflowed = 110
+
+-- a rule, and what it says of a text that breaks it
+abbrev pub rule_text : Rule → List ℕ
+rule_text (Lexical L1) = codes "L1 illegal character"
+rule_text (Lexical L2) = codes "L2 comment not closed"
+rule_text (Lexical L3) = codes "L3 string not closed"
+rule_text (Lexical L4) = codes "L4 bad escape"
+rule_text (Lexical L5) = codes "L5 integer too large"
+rule_text (Lexical L6) = codes "L6 control byte in string"
+rule_text (Lexical L7) = codes "L7 source too long"
+rule_text (Syntactic S1) = codes "S1 unexpected token"
+rule_text (Syntactic S2) = codes "S2 nesting too deep"
 
 abbrev pub ended : List ℕ → List ℕ
 ended text = codes "tiger: " ++ (text ++ 10 ∷ [])
 
--- each line is ended by byte 10; an exit has none
+-- `LINE:COLUMN: RULE WORDS`
+abbrev pub fault_text : Fault → List ℕ
+fault_text fault = decimal fault.place.line ++ (codes ":" ++ (decimal fault.place.column ++ (codes ": " ++ rule_text fault.rule)))
+
+-- each line is ended by byte 10; an exit and an accepted source have none
 abbrev pub line_of : Answer → List ℕ
 line_of Usage = ended (codes "usage: tiger MODE FILE [--heap BYTES] [--stack BYTES] [--steps COUNT]")
+line_of (Faulty fault) = ended (fault_text fault)
 line_of Unreadable = ended (codes "cannot read file")
 line_of NotBuilt = ended (codes "not built")
 line_of OutOfMemory = ended (codes "out of memory")
+line_of Accepted = []
 line_of (Exited code) = []
+line_of StepsUsedUp = ended (codes "step limit")
 line_of Overflowed = ended (codes "overflow")
 
 -- the error sink took the whole line, and this is its status; or the write failed, and the status is 74

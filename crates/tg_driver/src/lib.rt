@@ -3,15 +3,12 @@
 #![tactic(auto)]
 
 mod answers;
-mod built;
-mod descent;
+mod faults;
+mod forms;
 mod making;
-mod nesting;
 mod reading;
 mod running;
-mod scanning;
 mod top;
-mod words;
 
 pub use answers::usage;
 pub use top::tiger;

@@ -1,5 +1,3 @@
-use Rattle.std.proofs.Common.{ap, ◌++◌}
-use Rattle.tg_driver.specs.StackCode.{words_of}
 use Rattle.tg_driver.proofs.OnlyLemmas.{only_code_one, only_code_none, only_code_more, nothing_more}
 use Rattle.tg_driver.proofs.making.+making.Goals as goal
 

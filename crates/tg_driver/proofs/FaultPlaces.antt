@@ -1,0 +1,92 @@
+-- The byte of a fault lies within its text, or at its end.
+use Rattle.std.proofs.Common.{ℕ, ◌+◌, ◌≡◌, ◌≤◌, ◌<◌, ◌^◌, List, [], ◌∷◌, ◌++◌, length, refl, subst, arith, length-append}
+use Rattle.tg_syntax.specs.declared.faults.LexRule.{LexRule}
+use Rattle.tg_syntax.specs.declared.tokens.Spanned.{Spanned}
+use Rattle.tg_syntax.specs.Lexing.{Lexes, ends, blank, comment, token}
+use Rattle.tg_syntax.specs.LexicalFaults.{LeadsTo, FaultInString, FaultAt, HasLexicalFault}
+use Rattle.tg_syntax.specs.LexicalFaults as fault
+use Rattle.tg_syntax.specs.SyntaxFaults.{IsAt}
+use Rattle.tg_parser.specs.declared.faults.SyntaxRule.{SyntaxRule}
+use Rattle.tg_parser.specs.declared.faults.SyntaxRule.TheVariants.{S1, S2}
+use Rattle.tg_driver.specs.declared.faults.Rule.TheVariants.{Syntactic}
+use Rattle.tg_driver.specs.Sources.{HasTokens, HasFault, syntactic}
+use Rattle.tg_driver.specs.Readings.{HasBadTokens}
+
+-- what was read and what is left are the whole
+leads_length : {at to : ℕ} {text rest : List ℕ} → LeadsTo at text to rest → to + length rest ≡ at + length text
+leads_length fault.here = refl
+leads_length (fault.blank b is l) = let h = leads_length l in omega (arith, h)
+leads_length (fault.comment inside {text = text} c l) =
+    let h = leads_length l in
+    let e = length-append inside text in
+    omega (arith, h, e)
+leads_length (fault.token names bytes one {text = text} s longest o l) =
+    let h = leads_length l in
+    let e = length-append bytes text in
+    omega (arith, h, e)
+
+in_string_within : {quote at place : ℕ} {rest : List ℕ} {rule : LexRule} → FaultInString quote at rest rule place → quote ≤ at → place ≤ at + length rest
+in_string_within fault.end_in_string le = omega arith
+in_string_within (fault.line_in_string rest) le = omega arith
+in_string_within (fault.control_byte b rest is ne) le = omega arith
+in_string_within (fault.end_in_escape begun is) le = omega arith
+in_string_within (fault.line_in_escape begun rest m) le = omega arith
+in_string_within (fault.bad_escape begun b rest m ne) le = omega arith
+
+fault_within : {at place : ℕ} {rest : List ℕ} {rule : LexRule} → FaultAt at rest rule place → place ≤ at + length rest
+fault_within (fault.illegal_byte b rest is none) = omega arith
+fault_within (fault.comment_not_closed behind never) = omega arith
+fault_within {at = at} (fault.in_string quoted meant rest q f) =
+    let h = in_string_within f (omega arith) in
+    let e = length-append quoted rest in
+    omega (arith, h, e)
+fault_within (fault.large_int bytes rest d longest lt) = omega arith
+
+-- the byte of a fault of a text
+pub record IsWithin (text : List ℕ) (at : ℕ) : Type 0 where
+  pub within : at ≤ length text
+  pub small : at < 2 ^ 31
+
+pub lexical_within : (text : List ℕ) (rule : LexRule) (at : ℕ) → HasLexicalFault text rule at → IsWithin text at
+lexical_within text rule at (fault.too_long long) = record { within = omega arith; small = omega arith }
+lexical_within text rule at (fault.met short l f) =
+    let h = leads_length l in
+    let w = fault_within f in
+    record { within = omega (arith, h, w, short); small = omega (arith, h, w, short) }
+
+-- each token begins within the text
+abbrev AreWithin : ℕ → List Spanned → Type 0
+AreWithin end [] = Unit {0}
+AreWithin end (t ∷ tokens) = (t.span.from ≤ end) × AreWithin end tokens
+
+AreWithin-as : (m n : ℕ) (tokens : List Spanned) → m ≡ n → AreWithin m tokens → AreWithin n tokens
+AreWithin-as m n tokens e h = let P : ℕ → Type 0 = λ k. AreWithin k tokens in subst P e h
+
+tokens_within : {names : List (List ℕ)} {at : ℕ} {text : List ℕ} {tokens : List Spanned} → Lexes names at text tokens → AreWithin (at + length text) tokens
+tokens_within (ends at) = (omega arith, tt)
+tokens_within {tokens = tokens} (blank b is l) = AreWithin-as _ _ tokens (omega arith) (tokens_within l)
+tokens_within {tokens = tokens} (comment inside {rest = rest} c l) =
+    let e = length-append inside rest in
+    AreWithin-as _ _ tokens (omega (arith, e)) (tokens_within l)
+tokens_within (token bytes one {rest = rest} {tokens = tokens} s longest o l) =
+    let e = length-append bytes rest in
+    (omega arith, AreWithin-as _ _ tokens (omega (arith, e)) (tokens_within l))
+
+one_within : (end : ℕ) (front : List Spanned) (one : Spanned) (after : List Spanned) → AreWithin end (front ++ one ∷ after) → one.span.from ≤ end
+one_within end [] one after h = h.0
+one_within end (t ∷ front) one after h = one_within end front one after h.1
+
+at_within : (text : List ℕ) (names : List (List ℕ)) (tokens front : List Spanned) (one : Spanned) (at : ℕ) → HasTokens text names tokens → IsAt tokens front one at → IsWithin text at
+at_within text names tokens front one at has is =
+    let P : List Spanned → Type 0 = λ ts. AreWithin (0 + length text) ts in
+    let w = one_within (0 + length text) front one is.after (subst P is.whole (tokens_within has.lexed)) in
+    let e = is.place in
+    let short = has.short in
+    record { within = omega (arith, w, e); small = omega (arith, w, e, short) }
+
+pub syntactic_within : (text : List ℕ) (rule : SyntaxRule) (at : ℕ) → HasBadTokens text rule at → IsWithin text at
+syntactic_within text S1 at h = let f = h.fault in at_within text h.names h.tokens f.front f.one at h.has_tokens f.is_at
+syntactic_within text S2 at h = let f = h.fault in at_within text h.names h.tokens f.front f.one at h.has_tokens f.is_at
+
+pub bad_fault : (text : List ℕ) (rule : SyntaxRule) (at : ℕ) → HasBadTokens text rule at → HasFault text (Syntactic rule) at
+bad_fault text rule at h = syntactic h.has_tokens h.fault

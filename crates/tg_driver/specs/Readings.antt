@@ -1,0 +1,46 @@
+-- What reading a text answers.
+use Rattle.std.specs.Prelude.{ℕ, List, Result, Ok, Err}
+use Rattle.tg_syntax.specs.declared.tokens.Spanned.{Spanned}
+use Rattle.tg_syntax.specs.LexicalFaults.{HasLexicalFault}
+use Rattle.tg_syntax.specs.Plain.{plain}
+use Rattle.tg_syntax.specs.Tree.{Exp}
+use Rattle.tg_lexer.specs.declared.faults.LexFault.{LexFault}
+use Rattle.tg_lexer.specs.declared.faults.LexFault.TheVariants as lexed
+use Rattle.tg_parser.specs.Answers.{HasSyntaxFault}
+use Rattle.tg_parser.specs.declared.faults.SyntaxFault.{SyntaxFault}
+use Rattle.tg_parser.specs.declared.faults.SyntaxFault.TheVariants as parsed
+use Rattle.tg_parser.specs.declared.faults.SyntaxRule.{SyntaxRule}
+use Rattle.tg_driver.specs.declared.reading.Sourced.{Sourced}
+use Rattle.tg_driver.specs.declared.reading.Refusal.{Refusal}
+use Rattle.tg_driver.specs.declared.reading.Refusal.TheVariants as refusal
+use Rattle.tg_driver.specs.Sources.{HasTokens, IsSourceOf, IsFaultOf}
+
+-- the text's lexical fault; want of memory says nothing of the text
+abbrev pub IsLexFaultOf : List ℕ → LexFault → Type 0
+IsLexFaultOf text (lexed.Bad rule at) = HasLexicalFault text rule at
+IsLexFaultOf text lexed.Memory = Unit {0}
+
+-- the text is tokens, which have this fault of syntax
+pub record HasBadTokens (text : List ℕ) (rule : SyntaxRule) (at : ℕ) : Type 0 where
+  pub names : List (List ℕ)
+  pub tokens : List Spanned
+  pub has_tokens : HasTokens text names tokens
+  pub fault : HasSyntaxFault tokens rule at
+
+abbrev pub IsSyntaxFaultOf : List ℕ → SyntaxFault → Type 0
+IsSyntaxFaultOf text (parsed.Bad rule at) = HasBadTokens text rule at
+IsSyntaxFaultOf text parsed.Memory = Unit {0}
+
+-- the text's first fault, with its place
+abbrev pub IsRefusalOf : List ℕ → Refusal → Type 0
+IsRefusalOf text (refusal.Fault fault) = IsFaultOf text fault
+IsRefusalOf text refusal.Memory = Unit {0}
+
+-- the text is this program, by some tokens and these names
+pub record IsNamedSource (text : List ℕ) (names : List (List ℕ)) (program : Exp) : Type 0 where
+  pub tokens : List Spanned
+  pub source : IsSourceOf text names tokens program
+
+abbrev pub IsRead : List ℕ → Result Sourced Refusal → Type 0
+IsRead text (Ok s) = IsNamedSource text s.names (plain s.program.body)
+IsRead text (Err why) = IsRefusalOf text why

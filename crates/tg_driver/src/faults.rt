@@ -1,0 +1,56 @@
+ghost use Rattle.std.specs.Prelude.{◌≡◌, ◌++◌, IfOk, codes, string_bytes};
+ghost use Rattle.std.specs.Fmt.{decimal};
+ghost use Rattle.tg_driver.specs.declared.answers.Answer.TheVariants.{Faulty};
+ghost use Rattle.tg_driver.specs.Statuses.{line_of, rule_text};
+
+use std::alloc::{AllocError, Global};
+use tg_base::Place;
+use tg_lexer::LexRule;
+use tg_parser::SyntaxRule;
+
+/// A rule that a source breaks.
+#[derive(Clone, Copy, Debug, PartialEq, Eq)]
+pub(crate) enum Rule {
+    Lexical(LexRule),
+    Syntactic(SyntaxRule),
+}
+
+/// The first fault of a source.
+#[derive(Clone, Copy, Debug, PartialEq, Eq)]
+pub(crate) struct Fault {
+    pub(crate) rule: Rule,
+    pub(crate) place: Place,
+}
+
+/// The name of a rule, and what it says of a source that breaks it.
+pub(crate) fn rule_text(rule: Rule) -> &'static str
+    ensures { result.now ≡ rule_text rule }
+{
+    match rule {
+        Rule::Lexical(LexRule::L1) => "L1 illegal character",
+        Rule::Lexical(LexRule::L2) => "L2 comment not closed",
+        Rule::Lexical(LexRule::L3) => "L3 string not closed",
+        Rule::Lexical(LexRule::L4) => "L4 bad escape",
+        Rule::Lexical(LexRule::L5) => "L5 integer too large",
+        Rule::Lexical(LexRule::L6) => "L6 control byte in string",
+        Rule::Lexical(LexRule::L7) => "L7 source too long",
+        Rule::Syntactic(SyntaxRule::S1) => "S1 unexpected token",
+        Rule::Syntactic(SyntaxRule::S2) => "S2 nesting too deep",
+    }
+}
+
+/// The line of a fault, with its newline.
+pub(crate) fn fault_line(alloc: Global, fault: Fault) -> Result<String, AllocError>
+    ensures { IfOk result (λ line. string_bytes line ≡ line_of (Faulty fault)) }
+{
+    let place = fault.place;
+    located(alloc, place.line, place.column, rule_text(fault.rule))
+}
+
+/// The line of a text with its line and column.
+fn located(alloc: Global, line: u32, column: u32, text: &str) -> Result<String, AllocError>
+    ensures { IfOk result (λ s. string_bytes s ≡ codes "tiger: " ++ (decimal line ++ (codes ":"
+        ++ (decimal column ++ (codes ": " ++ (text.now ++ codes "\n")))))) }
+{
+    format!(in alloc; "tiger: {line}:{column}: {text}\n")
+}
