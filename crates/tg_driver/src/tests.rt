@@ -5,6 +5,258 @@ use std::process::Abort;
 use std::test::Fail;
 use tg_base::{MapShelf, PlainSource, RoomSink};
 
+// Texts with a fault, and the line that tells it, but for `tiger: ` and the newline.
+static FAULTY: [(&[u8], &str); 107] = [
+    (b"?", "1:1: L1 illegal character"),
+    (b"exit(1)\n @", "2:2: L1 illegal character"),
+    (b"_a", "1:1: L1 illegal character"),
+    (b"a!b", "1:2: L1 illegal character"),
+    (b"\x0b", "1:1: L1 illegal character"),
+    (b"a\r\n\xff", "2:1: L1 illegal character"),
+    (b"1 $", "1:3: L1 illegal character"),
+    (b"\0", "1:1: L1 illegal character"),
+    (b"/* \" */ @", "1:9: L1 illegal character"),
+    (b"\"\x80\xff\"\x80", "1:5: L1 illegal character"),
+    (b"'", "1:1: L1 illegal character"),
+    (b"exit(1)\x7f", "1:8: L1 illegal character"),
+    (b"/*", "1:1: L2 comment not closed"),
+    (b"/* /* */", "1:1: L2 comment not closed"),
+    (b"1 /*/", "1:3: L2 comment not closed"),
+    (b"/**/ /*\0\x0b\"", "1:6: L2 comment not closed"),
+    (b"a\n /* x\n y", "2:2: L2 comment not closed"),
+    (b"/* a */ /* b /* c */ d", "1:9: L2 comment not closed"),
+    (b"\"/*\" /*", "1:6: L2 comment not closed"),
+    (b"exit(1)/*", "1:8: L2 comment not closed"),
+    (b"print(\"a", "1:7: L3 string not closed"),
+    (b"\"", "1:1: L3 string not closed"),
+    (b"x \"b\n\"", "1:3: L3 string not closed"),
+    (b"\"\\39\n\"", "1:1: L3 string not closed"),
+    (b"\"\\3", "1:1: L3 string not closed"),
+    (b"\"\\^", "1:1: L3 string not closed"),
+    (b"\"\\^\n\"", "1:1: L3 string not closed"),
+    (b"\"\\ \n ", "1:1: L3 string not closed"),
+    (b" \"\\", "1:2: L3 string not closed"),
+    (b"\n\"a\\\"", "2:1: L3 string not closed"),
+    (b"\"a\\\n", "1:1: L3 string not closed"),
+    (b"\"/* */", "1:1: L3 string not closed"),
+    (b"print(\"\\q\")", "1:8: L4 bad escape"),
+    (b"\"\\256\"", "1:2: L4 bad escape"),
+    (b"\"\\39x\"", "1:2: L4 bad escape"),
+    (b"\"\\^`\"", "1:2: L4 bad escape"),
+    (b"\"\\^{\"", "1:2: L4 bad escape"),
+    (b"\"\\^\"", "1:2: L4 bad escape"),
+    (b"\"\\ x\\\"", "1:2: L4 bad escape"),
+    (b"\"ab\\\x0b\"", "1:4: L4 bad escape"),
+    (b"\"\\N\"", "1:2: L4 bad escape"),
+    (b"\"a\\n\\r\"", "1:5: L4 bad escape"),
+    (b"\"\\\x80\"", "1:2: L4 bad escape"),
+    (b"exit(2147483648)", "1:6: L5 integer too large"),
+    (b"00000000002147483648", "1:1: L5 integer too large"),
+    (b"99999999999999999999999", "1:1: L5 integer too large"),
+    (b"a :=\n  4294967296", "2:3: L5 integer too large"),
+    (b"2147483648a", "1:1: L5 integer too large"),
+    (b"\"\t\"", "1:2: L6 control byte in string"),
+    (b"\"a\x7f", "1:3: L6 control byte in string"),
+    (b"\"\r\n\"", "1:2: L6 control byte in string"),
+    (b"\"x\0\"", "1:3: L6 control byte in string"),
+    (b"\"\\n\x1f\"", "1:4: L6 control byte in string"),
+    // the first of several, and a lexical one before one of syntax
+    (b"@ \"", "1:1: L1 illegal character"),
+    (b"\"\\q\t\"", "1:2: L4 bad escape"),
+    (b"99999999999 @", "1:1: L5 integer too large"),
+    (b"let ? /*", "1:5: L1 illegal character"),
+    (b") ?", "1:3: L1 illegal character"),
+    (b"a=b=c /*", "1:7: L2 comment not closed"),
+    (b"", "1:1: S1 unexpected token"),
+    (b"   ", "1:4: S1 unexpected token"),
+    (b"/* only */\r\n", "2:1: S1 unexpected token"),
+    (b"a=b=c", "1:4: S1 unexpected token"),
+    (b"a<b<=c", "1:4: S1 unexpected token"),
+    (b"exit(", "1:6: S1 unexpected token"),
+    (b"exit(1", "1:7: S1 unexpected token"),
+    (b"exit(1)x", "1:8: S1 unexpected token"),
+    (b"exit(1))", "1:8: S1 unexpected token"),
+    (b"exit 1", "1:6: S1 unexpected token"),
+    (b"1exit(1)", "1:2: S1 unexpected token"),
+    (b"exit(1 2)", "1:8: S1 unexpected token"),
+    (b"exit(1;2)", "1:7: S1 unexpected token"),
+    (b"exit(1,)", "1:8: S1 unexpected token"),
+    (b"exit(+1)", "1:6: S1 unexpected token"),
+    (b"1 2", "1:3: S1 unexpected token"),
+    (b"1\r\n2", "2:1: S1 unexpected token"),
+    (b"(1;)", "1:4: S1 unexpected token"),
+    (b"()()", "1:3: S1 unexpected token"),
+    (b"let in end x", "1:12: S1 unexpected token"),
+    (b"let a", "1:5: S1 unexpected token"),
+    (b"let var x = 1 in end", "1:11: S1 unexpected token"),
+    (b"let var x : := 1 in end", "1:13: S1 unexpected token"),
+    (b"let type t = in end", "1:14: S1 unexpected token"),
+    (b"let type t = array t in end", "1:20: S1 unexpected token"),
+    (b"let function f(x) = 1 in end", "1:17: S1 unexpected token"),
+    (b"if 1 then", "1:10: S1 unexpected token"),
+    (b"if 1 else 2", "1:6: S1 unexpected token"),
+    (b"if a then b else", "1:17: S1 unexpected token"),
+    (b"while 1", "1:8: S1 unexpected token"),
+    (b"for 1 := 0 to 1 do 2", "1:5: S1 unexpected token"),
+    (b"for i = 0 to 1 do 2", "1:7: S1 unexpected token"),
+    (b"for i := 0 do 2", "1:12: S1 unexpected token"),
+    (b"a[1] of", "1:8: S1 unexpected token"),
+    (b"a[1][2] of 3", "1:9: S1 unexpected token"),
+    (b"f(a b)", "1:5: S1 unexpected token"),
+    (b"r{x=1,}", "1:7: S1 unexpected token"),
+    (b"r{x:1}", "1:4: S1 unexpected token"),
+    (b"- ", "1:3: S1 unexpected token"),
+    (b"+1", "1:1: S1 unexpected token"),
+    (b"1+\n", "2:1: S1 unexpected token"),
+    (b"a:=1:=2", "1:5: S1 unexpected token"),
+    (b"*/", "1:1: S1 unexpected token"),
+    (b"1/* \xff */2", "1:9: S1 unexpected token"),
+    (b"a.1", "1:3: S1 unexpected token"),
+    (b"end", "1:1: S1 unexpected token"),
+    (b"nil nil", "1:5: S1 unexpected token"),
+    (b"\"a\" \"b\"", "1:5: S1 unexpected token"),
+];
+
+// Sources, with the status and the line of their runs, but for `tiger: ` and the newline.
+static RUNS: [(&str, u8, &str); 40] = [
+    ("exit(300)", 44, ""),
+    ("exit(-1)", 255, ""),
+    ("exit(2*-(3+4)+300)", 30, ""),
+    ("exit(-65536*32768)", 0, ""),
+    (" exit\t(\r\n 10 - 3 - 2 \x0C) ", 5, ""),
+    ("exit(46340*46340)", 16, ""),
+    ("exit(---5)", 251, ""),
+    ("exit(2147483647)", 255, ""),
+    ("exit(007)", 7, ""),
+    ("exit(((8)))", 8, ""),
+    ("exit(2+3*4-5*(6-7))", 19, ""),
+    (
+        "/* a */exit/* /* b */ */(9/**/)//**/",
+        65,
+        "1:37: S1 unexpected token",
+    ),
+    ("/* a */exit/* /* b */ */(9/**/)/**/", 9, ""),
+    ("exit/**/(1/**/0)", 65, "1:15: S1 unexpected token"),
+    ("exit(2147483647+1)", 110, "overflow"),
+    ("exit(-(-2147483647-1))", 110, "overflow"),
+    ("exit(-2147483647-2)", 110, "overflow"),
+    ("exit(46341*46341)", 110, "overflow"),
+    ("exit(65536*65536)", 110, "overflow"),
+    ("exit((2147483647+1)*0)", 110, "overflow"),
+    ("exit(1/2)", 69, "not built"),
+    ("exit(1+2/2)", 69, "not built"),
+    ("print(\"x\")", 69, "not built"),
+    ("exit()", 69, "not built"),
+    ("exit(1,2)", 69, "not built"),
+    ("exits(1)", 69, "not built"),
+    ("Exit(1)", 69, "not built"),
+    ("exi(1)", 69, "not built"),
+    ("(exit(1))", 69, "not built"),
+    ("exit((1;2))", 69, "not built"),
+    ("exit(())", 69, "not built"),
+    ("exit(a)", 69, "not built"),
+    ("exit(1=1)", 69, "not built"),
+    ("exit(1&1)", 69, "not built"),
+    ("exit(nil)", 69, "not built"),
+    ("exit(exit(1))", 69, "not built"),
+    ("exit(\"1\")", 69, "not built"),
+    ("exit(if 1 then 2 else 3)", 69, "not built"),
+    ("1", 69, "not built"),
+    ("let in exit(1) end", 69, "not built"),
+];
+
+// Command lines, with a `|` between their words, and their statuses, where FILE holds `exit(7)`.
+static LINES: [(&str, u8); 88] = [
+    ("tiger", 64),
+    ("tiger|run", 64),
+    ("tiger|FILE", 64),
+    ("run|FILE", 64),
+    ("tiger|run FILE", 64),
+    ("tiger|run|FILE|FILE", 64),
+    ("tiger|check|FILE|FILE", 64),
+    ("tiger|RUN|FILE", 64),
+    ("tiger|runs|FILE", 64),
+    ("tiger|ru|FILE", 64),
+    ("tiger||FILE", 64),
+    ("tiger|build|FILE", 64),
+    ("tiger|exec|FILE", 64),
+    ("tiger|-|FILE", 64),
+    ("tiger|run|FILE|--heap", 64),
+    ("tiger|run|FILE|--heap|", 64),
+    ("tiger|run|FILE|--heap=", 64),
+    ("tiger|run|FILE|--heap==8", 64),
+    ("tiger|run|FILE|--heap|8|--heap|8", 64),
+    ("tiger|--steps|7|run|FILE|--steps=7", 64),
+    ("tiger|run|FILE|--heap|8|9", 64),
+    ("tiger|--heap|run|FILE", 64),
+    ("tiger|run|FILE|--hea|8", 64),
+    ("tiger|run|FILE|--HEAP|8", 64),
+    ("tiger|run|FILE|-heap|8", 64),
+    ("tiger|run|FILE|--fold", 64),
+    ("tiger|run|FILE|--help", 64),
+    ("tiger|-h", 64),
+    ("tiger|run|FILE|--version", 64),
+    ("tiger|run|--", 64),
+    ("tiger|run|FILE|--|--heap", 64),
+    ("tiger|run|FILE|--heap|0", 64),
+    ("tiger|run|FILE|--heap|3", 64),
+    ("tiger|run|FILE|--heap|6", 64),
+    ("tiger|run|FILE|--heap|268435457", 64),
+    ("tiger|run|FILE|--heap|268435460", 64),
+    ("tiger|run|FILE|--heap|4294967304", 64),
+    ("tiger|run|FILE|--heap|-4", 64),
+    ("tiger|run|FILE|--heap=-4", 64),
+    ("tiger|run|FILE|--heap|+4", 64),
+    ("tiger|run|FILE|--heap|0x10", 64),
+    ("tiger|run|FILE|--heap|1e3", 64),
+    ("tiger|run|FILE|--heap| 8", 64),
+    ("tiger|run|FILE|--heap|8 ", 64),
+    ("tiger|run|FILE|--heap|000000000000000000008", 64),
+    ("tiger|run|FILE|--heap|18446744073709551620", 64),
+    ("tiger|run|FILE|--stack|0", 64),
+    ("tiger|run|FILE|--stack|65532", 64),
+    ("tiger|run|FILE|--stack|65538", 64),
+    ("tiger|run|FILE|--stack|268435460", 64),
+    ("tiger|run|FILE|--steps|0", 64),
+    ("tiger|run|FILE|--steps|4611686018427387905", 64),
+    ("tiger|run|FILE|--steps|18446744073709551617", 64),
+    ("tiger|check|FILE|--heap|6", 64),
+    ("tiger|check|FILE|--stack|4", 64),
+    ("tiger|check|FILE|--steps|0", 64),
+    ("tiger|run|MISSING|--steps|0", 64),
+    ("tiger|run|FILE", 7),
+    ("|run|FILE", 7),
+    ("tiger|check|FILE", 0),
+    ("tiger|--|run|FILE", 7),
+    ("tiger|run|--|FILE", 7),
+    ("tiger|run|FILE|--", 7),
+    ("tiger|run|FILE|--heap|8", 7),
+    ("tiger|run|FILE|--heap=8", 7),
+    ("tiger|--heap|8|run|FILE", 7),
+    ("tiger|run|--heap=8|FILE", 7),
+    ("tiger|--steps=7|run|--stack|65536|FILE|--heap=4", 7),
+    ("tiger|run|FILE|--heap|4", 7),
+    ("tiger|run|FILE|--heap|268435456", 7),
+    ("tiger|run|FILE|--heap|00000000000000000008", 7),
+    ("tiger|run|FILE|--stack|65536", 7),
+    ("tiger|run|FILE|--stack|268435456", 7),
+    ("tiger|run|FILE|--steps|4611686018427387904", 7),
+    ("tiger|run|FILE|--steps|00000000000000000007", 7),
+    ("tiger|run|FILE|--steps|8", 7),
+    ("tiger|run|FILE|--steps|7", 7),
+    ("tiger|run|FILE|--steps|6", 109),
+    ("tiger|run|FILE|--steps|1", 109),
+    ("tiger|check|FILE|--steps|1", 0),
+    ("tiger|check|FILE|--heap|4|--stack|65536", 0),
+    ("tiger|--steps|1|check|FILE", 0),
+    ("tiger|run|MISSING", 66),
+    ("tiger|check|MISSING", 66),
+    ("tiger|run|", 66),
+    ("tiger|run|run", 66),
+    ("tiger|run|-", 66),
+    ("tiger|run|--|--heap", 66),
+];
+
 /// What a call of the program left: the status, the error sink's bytes, and the counts of the other objects.
 #[derive(Drop)]
 struct Seen {
@@ -17,18 +269,18 @@ struct Seen {
     err_faults: u64,
 }
 
-fn words_of(alloc: Global, list: &[&str]) -> Result<Vec<String>, AllocError> {
+fn words_of(alloc: Global, line: &str) -> Result<Vec<String>, AllocError> {
     let mut words = Vec::new(alloc);
-    for word in list {
+    for word in line.split('|') {
         words.push(String::from_str(alloc, word)?)?;
     }
     Ok(words)
 }
 
-/// The program on the named words, with one file FILE, a shelf and an error sink that fail at the listed calls.
+/// The program on the words of a line, with one file FILE, a shelf and an error sink that fail at the listed calls.
 fn call(
     alloc: Global,
-    list: &[&str],
+    line: &str,
     text: &[u8],
     shelf_fails: &[u64],
     err_fails: &[u64],
@@ -43,7 +295,7 @@ fn call(
     let mut err = RoomSink::new(alloc, 128, err_fails.to_vec(alloc)?)
         .ok()
         .ok_or("no memory")?;
-    let words = words_of(alloc, list)?;
+    let words = words_of(alloc, line)?;
     let status = tiger(alloc, &words, &mut shelf, &mut input, &mut out, &mut err);
     Ok(Seen {
         status,
@@ -56,118 +308,157 @@ fn call(
     })
 }
 
-/// `run` of a text has this status and this line, and leaves input and output alone.
-fn runs(rt: &impl Abort, alloc: Global, text: &str, status: u8, line: &str) -> Result<(), Fail> {
-    let seen = call(alloc, &["tiger", "run", "FILE"], text.as_bytes(), &[], &[])?;
-    assert_eq!(rt; seen.status, status, "{text}");
-    assert_eq!(rt; seen.error.as_slice(), line.as_bytes(), "{text}");
+/// A line of words has this status and this line for a text, and leaves input and output alone.
+fn answers(
+    rt: &impl Abort,
+    alloc: Global,
+    words: &str,
+    text: &[u8],
+    status: u8,
+    line: &str,
+) -> Result<(), Fail> {
+    let seen = call(alloc, words, text, &[], &[])?;
+    let want = if line.is_empty() {
+        String::new(alloc)
+    } else {
+        format!(in alloc; "tiger: {line}\n")?
+    };
+    assert_eq!(rt; seen.status, status, "{line}");
+    assert_eq!(rt; seen.error.as_slice(), want.as_bytes(), "{line}");
     assert_eq!(rt; seen.input_calls, 0);
     assert_eq!(rt; seen.out_calls, 0);
     Ok(())
 }
 
+/// Both modes refuse the text by this line.
+fn refused(rt: &impl Abort, alloc: Global, text: &[u8], line: &str) -> Result<(), Fail> {
+    answers(rt, alloc, "tiger|check|FILE", text, 65, line)?;
+    answers(rt, alloc, "tiger|run|FILE", text, 65, line)
+}
+
 #[test]
-fn exits_with_the_code(rt: HostRuntime) -> Result<(), Fail> {
-    let alloc = rt.alloc();
-    for (text, status) in [
-        ("exit(300)", 44),
-        ("exit(-1)", 255),
-        ("exit(2*-(3+4)+300)", 30),
-        ("exit(-65536*32768)", 0),
-        (" exit\t(\r\n 10 - 3 - 2 ) ", 5),
-        ("exit(46340*46340)", 16),
-        ("exit(---5)", 251),
-    ] {
-        runs(&rt, alloc, text, status, "")?;
+fn faults_are_told_with_their_places(rt: HostRuntime) -> Result<(), Fail> {
+    for (text, line) in FAULTY {
+        refused(&rt, rt.alloc(), text, line)?;
     }
     Ok(())
 }
 
 #[test]
-fn overflow_ends_the_program(rt: HostRuntime) -> Result<(), Fail> {
+fn runs_end_as_they_must(rt: HostRuntime) -> Result<(), Fail> {
     let alloc = rt.alloc();
-    for text in [
-        "exit(2147483647+1)",
-        "exit(-(-2147483647-1))",
-        "exit(-2147483647-2)",
-        "exit(46341*46341)",
-        "exit(65536*65536)",
-        "exit((2147483647+1)*0)",
-    ] {
-        runs(&rt, alloc, text, 110, "tiger: overflow\n")?;
+    for (text, status, line) in RUNS {
+        answers(&rt, alloc, "tiger|run|FILE", text.as_bytes(), status, line)?;
+        if status != 65 {
+            answers(&rt, alloc, "tiger|check|FILE", text.as_bytes(), 0, "")?;
+        }
     }
     Ok(())
 }
 
 #[test]
-fn other_texts_are_not_built(rt: HostRuntime) -> Result<(), Fail> {
-    let alloc = rt.alloc();
-    for text in [
-        "exit(1/2)",
-        "print(\"x\")",
-        "",
-        "exit(1)/* */",
-        "exit()",
-        "exit(1",
-        "exit(2147483648)",
-        "exit(1)x",
-        "exits(1)",
-        "exit(1,2)",
-    ] {
-        runs(&rt, alloc, text, 69, "tiger: not built\n")?;
+fn lines_of_words_have_their_statuses(rt: HostRuntime) -> Result<(), Fail> {
+    for (line, status) in LINES {
+        let seen = call(rt.alloc(), line, b"exit(7)", &[], &[])?;
+        assert_eq!(rt; seen.status, status, "{line}");
+        if status == 64 {
+            assert_eq!(rt; seen.error.as_slice(), usage().as_bytes());
+            assert_eq!(rt; seen.shelf_calls, 0);
+        }
     }
     Ok(())
 }
 
-#[test]
-fn faulty_words_ask_for_nothing(rt: HostRuntime) -> Result<(), Fail> {
-    let alloc = rt.alloc();
-    for list in [
-        ["tiger", "run"].as_slice(),
-        ["tiger"].as_slice(),
-        ["tiger", "run", "FILE", "FILE"].as_slice(),
-        ["tiger", "check", "FILE"].as_slice(),
-        ["tiger", "RUN", "FILE"].as_slice(),
-    ] {
-        let seen = call(alloc, list, b"exit(0)", &[], &[])?;
-        assert_eq!(rt; seen.status, 64);
-        assert_eq!(rt; seen.error.as_slice(), usage().as_bytes());
-        assert_eq!(rt; seen.shelf_calls, 0);
+// `first`, so many times `more`, and `last`
+fn repeated(
+    alloc: Global,
+    first: &[u8],
+    more: &[u8],
+    times: usize,
+    last: &[u8],
+) -> Result<Vec<u8>, AllocError> {
+    let mut text = Vec::new(alloc);
+    text.extend_from_slice(first)?;
+    for _ in 0..times {
+        text.extend_from_slice(more)?;
     }
-    Ok(())
+    text.extend_from_slice(last)?;
+    Ok(text)
 }
 
 #[test]
-fn unreadable_files_raise_the_count(rt: HostRuntime) -> Result<(), Fail> {
+fn long_and_deep_texts(rt: HostRuntime) -> Result<(), Fail> {
     let alloc = rt.alloc();
-    let line = b"tiger: cannot read file\n";
-    let missing = call(alloc, &["tiger", "run", "MISSING"], b"exit(0)", &[], &[])?;
-    assert_eq!(rt; missing.status, 66);
-    assert_eq!(rt; missing.error.as_slice(), line.as_slice());
-    assert_eq!(rt; missing.shelf_faults, 1);
-    let failing = call(alloc, &["tiger", "run", "FILE"], b"exit(0)", &[1], &[])?;
+    let check = "tiger|check|FILE";
+    let run = "tiger|run|FILE";
+    let long = repeated(alloc, b"exit(1)", b" ", 262137, b"")?;
+    answers(&rt, alloc, run, &long, 1, "")?;
+    let long = repeated(alloc, &long, b"\n", 1, b"")?;
+    refused(&rt, alloc, &long, "1:1: L7 source too long")?;
+    let long = repeated(alloc, b"", b"\n?", 200000, b"")?;
+    refused(&rt, alloc, &long, "1:1: L7 source too long")?;
+    let opens = repeated(alloc, b"", b"(", 257, b"")?;
+    refused(&rt, alloc, &opens, "1:257: S2 nesting too deep")?;
+    refused(&rt, alloc, &opens[1..], "1:257: S1 unexpected token")?;
+    let both = repeated(alloc, b"", b"(", 256, b":=")?;
+    refused(&rt, alloc, &both, "1:257: S1 unexpected token")?;
+    let later = repeated(alloc, b")", b"(", 300, b"")?;
+    refused(&rt, alloc, &later, "1:1: S1 unexpected token")?;
+    let lines = repeated(alloc, b"\n", b"(\n", 300, b"")?;
+    refused(&rt, alloc, &lines, "258:1: S2 nesting too deep")?;
+    let sum = repeated(alloc, b"1", b"+1", 257, b"")?;
+    refused(&rt, alloc, &sum, "1:514: S2 nesting too deep")?;
+    let sum = repeated(alloc, b"1", b"+1", 256, b"")?;
+    answers(&rt, alloc, check, &sum, 0, "")?;
+    let sum = repeated(alloc, b"exit(1", b"+1", 255, b")")?;
+    answers(&rt, alloc, run, &sum, 0, "")?;
+    let sum = repeated(alloc, b"exit(1", b"+1", 256, b")")?;
+    refused(&rt, alloc, &sum, "1:517: S2 nesting too deep")
+}
+
+// 20 groups of 100 ints are 4019 nodes, and 38 more terms are 76.
+#[test]
+fn as_large_as_may_be(rt: HostRuntime) -> Result<(), Fail> {
+    let alloc = rt.alloc();
+    let run = "tiger|run|FILE";
+    let group = repeated(alloc, b"(1", b"*1", 99, b")")?;
+    let more = repeated(alloc, b"+", &group, 1, b"")?;
+    let groups = repeated(alloc, &group, &more, 19, b"")?;
+    let terms = repeated(alloc, &groups, b"+1", 38, b"")?;
+    let whole = repeated(alloc, b"exit(", &terms, 1, b")")?;
+    answers(&rt, alloc, run, &whole, 58, "")?;
+    let whole = repeated(alloc, b"exit(-", &terms, 1, b")")?;
+    answers(&rt, alloc, run, &whole, 69, "not built")?;
+    answers(&rt, alloc, "tiger|check|FILE", &whole, 0, "")
+}
+
+#[test]
+fn files_and_lines_that_fail(rt: HostRuntime) -> Result<(), Fail> {
+    let alloc = rt.alloc();
+    let failing = call(alloc, "tiger|run|FILE", b"exit(0)", &[1], &[])?;
     assert_eq!(rt; failing.status, 66);
+    assert_eq!(rt;
+        failing.error.as_slice(),
+        b"tiger: cannot read file\n".as_slice()
+    );
     assert_eq!(rt; failing.shelf_calls, 1);
     assert_eq!(rt; failing.shelf_faults, 1);
-    Ok(())
-}
-
-#[test]
-fn a_failed_line_is_74(rt: HostRuntime) -> Result<(), Fail> {
-    let alloc = rt.alloc();
-    for list in [
-        ["tiger", "run"].as_slice(),
-        ["tiger", "run", "MISSING"].as_slice(),
-        ["tiger", "run", "FILE"].as_slice(),
+    for line in [
+        "tiger|run",
+        "tiger|run|MISSING",
+        "tiger|run|FILE",
+        "tiger|run|FILE|--steps|1",
     ] {
-        let seen = call(alloc, list, b"exit(1/2)", &[], &[1])?;
+        let seen = call(alloc, line, b"exit(1/2", &[], &[1])?;
         assert_eq!(rt; seen.status, 74);
         assert_eq!(rt; seen.error.len(), 0);
         assert_eq!(rt; seen.err_faults, 1);
     }
-    // after an exit nothing is due there
-    let exit = call(alloc, &["tiger", "run", "FILE"], b"exit(7)", &[], &[1])?;
+    // after an exit, and for an accepted source, nothing is due there
+    let exit = call(alloc, "tiger|run|FILE", b"exit(7)", &[], &[1])?;
     assert_eq!(rt; exit.status, 7);
-    assert_eq!(rt; exit.err_faults, 0);
+    let accepted = call(alloc, "tiger|check|FILE", b"exit(7)", &[], &[1])?;
+    assert_eq!(rt; accepted.status, 0);
+    assert_eq!(rt; exit.err_faults + accepted.err_faults, 0);
     Ok(())
 }
