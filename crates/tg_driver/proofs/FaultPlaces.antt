@@ -8,8 +8,10 @@ use Rattle.tg_syntax.specs.LexicalFaults as fault
 use Rattle.tg_syntax.specs.SyntaxFaults.{IsAt}
 use Rattle.tg_parser.specs.declared.faults.SyntaxRule.{SyntaxRule}
 use Rattle.tg_parser.specs.declared.faults.SyntaxRule.TheVariants.{S1, S2}
-use Rattle.tg_driver.specs.declared.faults.Rule.TheVariants.{Syntactic}
-use Rattle.tg_driver.specs.Sources.{HasTokens, HasFault, syntactic}
+use Rattle.tg_driver.specs.declared.faults.Rule.TheVariants.{Lexical, Syntactic}
+use Rattle.tg_parser.specs.Answers.{HasSyntaxFault}
+use Rattle.tg_driver.specs.declared.faults.Rule.{Rule}
+use Rattle.tg_driver.specs.Sources.{HasTokens, HasFault, lexical, syntactic}
 use Rattle.tg_driver.specs.Readings.{HasBadTokens}
 
 -- what was read and what is left are the whole
@@ -47,7 +49,7 @@ pub record IsWithin (text : List ℕ) (at : ℕ) : Type 0 where
   pub within : at ≤ length text
   pub small : at < 2 ^ 31
 
-pub lexical_within : (text : List ℕ) (rule : LexRule) (at : ℕ) → HasLexicalFault text rule at → IsWithin text at
+lexical_within : (text : List ℕ) (rule : LexRule) (at : ℕ) → HasLexicalFault text rule at → IsWithin text at
 lexical_within text rule at (fault.too_long long) = record { within = omega arith; small = omega arith }
 lexical_within text rule at (fault.met short l f) =
     let h = leads_length l in
@@ -84,9 +86,17 @@ at_within text names tokens front one at has is =
     let short = has.short in
     record { within = omega (arith, w, e); small = omega (arith, w, e, short) }
 
-pub syntactic_within : (text : List ℕ) (rule : SyntaxRule) (at : ℕ) → HasBadTokens text rule at → IsWithin text at
-syntactic_within text S1 at h = let f = h.fault in at_within text h.names h.tokens f.front f.one at h.has_tokens f.is_at
-syntactic_within text S2 at h = let f = h.fault in at_within text h.names h.tokens f.front f.one at h.has_tokens f.is_at
+syntactic_within : (text : List ℕ) (names : List (List ℕ)) (tokens : List Spanned) (rule : SyntaxRule) (at : ℕ) → HasTokens text names tokens → HasSyntaxFault tokens rule at → IsWithin text at
+syntactic_within text names tokens S1 at has f = at_within text names tokens f.front f.one at has f.is_at
+syntactic_within text names tokens S2 at has f = at_within text names tokens f.front f.one at has f.is_at
 
-pub bad_fault : (text : List ℕ) (rule : SyntaxRule) (at : ℕ) → HasBadTokens text rule at → HasFault text (Syntactic rule) at
-bad_fault text rule at h = syntactic h.has_tokens h.fault
+pub within_text : (text : List ℕ) (rule : Rule) (at : ℕ) → HasFault text rule at → IsWithin text at
+within_text text rule at (lexical {rule = r} f) = lexical_within text r at f
+within_text text rule at (syntactic {names = names} {tokens = tokens} {rule = r} has f) = syntactic_within text names tokens r at has f
+
+-- the fault of the lexer, and that of the parser
+pub lexer_fault : (text : List ℕ) (rule : LexRule) (at : ℕ) → HasLexicalFault text rule at → HasFault text (Lexical rule) at
+lexer_fault text rule at f = lexical f
+
+pub parser_fault : (text : List ℕ) (rule : SyntaxRule) (at : ℕ) → HasBadTokens text rule at → HasFault text (Syntactic rule) at
+parser_fault text rule at h = syntactic h.has_tokens h.fault

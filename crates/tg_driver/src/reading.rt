@@ -1,6 +1,4 @@
-ghost use Rattle.std.specs.Prelude.{◌≤◌, length, IfOk};
-ghost use Rattle.tg_syntax.specs.Plain.{plain};
-ghost use Rattle.tg_lexer.specs.declared.faults.LexFault.{LexFault as LexFaults};
+ghost use Rattle.tg_driver.specs.Sources.{HasFault};
 ghost use Rattle.tg_driver.specs.Readings.{IsRead, IsLexFaultOf, IsSyntaxFaultOf, IsRefusalOf};
 
 use crate::faults::{Fault, Rule};
@@ -47,10 +45,7 @@ fn lexical(text: &[u8], fault: LexFault) -> Refusal
     ensures { IsRefusalOf text.now result }
 {
     match fault {
-        LexFault::Bad { rule, at } => Refusal::Fault(Fault {
-            rule: Rule::Lexical(rule),
-            place: place(text, at),
-        }),
+        LexFault::Bad { rule, at } => faulty(text, Rule::Lexical(rule), at),
         LexFault::Memory => Refusal::Memory,
     }
 }
@@ -61,10 +56,18 @@ fn syntactic(text: &[u8], fault: SyntaxFault) -> Refusal
     ensures { IsRefusalOf text.now result }
 {
     match fault {
-        SyntaxFault::Bad { rule, at } => Refusal::Fault(Fault {
-            rule: Rule::Syntactic(rule),
-            place: place(text, at),
-        }),
+        SyntaxFault::Bad { rule, at } => faulty(text, Rule::Syntactic(rule), at),
         SyntaxFault::Memory => Refusal::Memory,
     }
+}
+
+/// The refusal of a text whose first fault stands at a byte.
+fn faulty(text: &[u8], rule: Rule, at: u32) -> Refusal
+    requires { HasFault text.now rule at }
+    ensures { IsRefusalOf text.now result }
+{
+    Refusal::Fault(Fault {
+        rule,
+        place: place(text, at),
+    })
 }

@@ -1,12 +1,5 @@
-use Rattle.tg_driver.specs.Sources.{lexical}
-use Rattle.tg_driver.proofs.FaultPlaces.{lexical_within}
+use Rattle.tg_driver.proofs.FaultPlaces.{lexer_fault}
 use Rattle.tg_driver.proofs.reading.lexical.Goals as goal
 
-pub place-requires-clause-within : goal.place-requires-clause-within
-place-requires-clause-within c = (lexical_within c.args.text.now c.in-Bad.rule c.in-Bad.at (rw c.in-Bad.is at c.requires)).within
-
-pub place-requires-clause-small : goal.place-requires-clause-small
-place-requires-clause-small c = (lexical_within c.args.text.now c.in-Bad.rule c.in-Bad.at (rw c.in-Bad.is at c.requires)).small
-
-pub returns-in-Bad : goal.returns-in-Bad
-returns-in-Bad c = record { at = c.in-Bad.at; has = lexical (rw c.in-Bad.is at c.requires); place = c.place.ensures }
+pub faulty-requires : goal.faulty-requires
+faulty-requires c = lexer_fault c.args.text.now c.in-Bad.rule c.in-Bad.at (rw c.in-Bad.is at c.requires)
