@@ -12,5 +12,8 @@ pub mod FaultPlaces
 pub mod TokenEnds
 pub mod TokenFacts
 pub mod LineLemmas
+pub mod TokensOnce
+pub mod FaultsOnce
+pub mod AnswersOnce
 pub mod AnswerLemmas
 pub mod ValueExamples

@@ -5,12 +5,14 @@
 mod answers;
 mod faults;
 mod forms;
+mod laws;
 mod making;
 mod reading;
 mod running;
 mod top;
 
 pub use answers::usage;
+pub use laws::one_answer;
 pub use top::tiger;
 
 #[cfg(test)]

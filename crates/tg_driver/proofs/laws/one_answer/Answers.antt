@@ -1,0 +1,5 @@
+use Rattle.tg_driver.proofs.AnswersOnce.{one_answer}
+use Rattle.tg_driver.proofs.laws.one_answer.Goals as goal
+
+pub returns : goal.returns
+returns c = one_answer
