@@ -3,6 +3,7 @@
 #![tactic(auto)]
 
 mod counts;
+mod laws;
 mod modes;
 mod simple;
 
@@ -12,6 +13,7 @@ ghost use Rattle.tg_command.specs.Commands.{Ask, Blames, IsUsageFault, asked_of}
 ghost use Rattle.tg_command.specs.Counts.{IsWithin, heap_limits, stack_limits, step_limits};
 
 use counts::{HEAP, STACK, STEPS, count_or_default};
+pub use laws::asks_once;
 pub use modes::Mode;
 use modes::named;
 use simple::take_words;
