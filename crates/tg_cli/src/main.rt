@@ -3,10 +3,10 @@
 //! nothing of what the system's files hold.
 #![tactic(auto)]
 
-ghost use Rattle.std.specs.Prelude.{◌≡◌, ◌≢◌};
+ghost use Rattle.std.specs.Prelude.{◌≡◌, ◌≢◌, ◌⊎◌};
 ghost use Rattle.std.specs.IoError.{error_kind};
 ghost use Rattle.std.specs.Io.KnownBytes.{Appends};
-ghost use Rattle.tg_cli.specs.Ends.{EndsWith};
+ghost use Rattle.tg_cli.specs.Ends.{EndsWith, IsStatus};
 
 mod files;
 mod readers;
@@ -26,7 +26,9 @@ fn main(rt: HostRuntime) -> ExitCode {
 }
 
 /// Reads the words, and hands them with the real outside to the top call.
-fn status(rt: &HostRuntime) -> u8 {
+fn status(rt: &HostRuntime) -> u8
+    ensures { IsStatus result }
+{
     let alloc = rt.alloc();
     let mut err = WriterSink::new(rt.stderr());
     let words = match env::args(rt) {
@@ -50,6 +52,8 @@ fn without_words<E: Sink>(err: &mut E, error: io::Error) -> u8
         → EndsWith 70 (E.faults err.old) (E.faults err.new) result }
     ensures words { error_kind error ≢ ErrorKind.OutOfMemory
         → EndsWith 64 (E.faults err.old) (E.faults err.new) result }
+    ensures either { EndsWith 70 (E.faults err.old) (E.faults err.new) result
+        ⊎ EndsWith 64 (E.faults err.old) (E.faults err.new) result }
 {
     if error.kind() == ErrorKind::OutOfMemory {
         refusal(err, OUT_OF_MEMORY, 70)
