@@ -10,7 +10,7 @@ use Rattle.tg_parser.specs.Answers.{HasSyntaxFault}
 use Rattle.tg_parser.specs.declared.faults.SyntaxFault.{SyntaxFault}
 use Rattle.tg_parser.specs.declared.faults.SyntaxFault.TheVariants as parsed
 use Rattle.tg_parser.specs.declared.faults.SyntaxRule.{SyntaxRule}
-use Rattle.tg_driver.specs.declared.reading.Sourced.{Sourced}
+use Rattle.tg_driver.specs.declared.reading.NamedProgram.{NamedProgram}
 use Rattle.tg_driver.specs.declared.reading.Refusal.{Refusal}
 use Rattle.tg_driver.specs.declared.reading.Refusal.TheVariants as refusal
 use Rattle.tg_driver.specs.Sources.{HasTokens, IsSourceOf, IsFaultOf}
@@ -41,6 +41,6 @@ pub record IsNamedSource (text : List ℕ) (names : List (List ℕ)) (program : 
   pub tokens : List Spanned
   pub source : IsSourceOf text names tokens program
 
-abbrev pub IsRead : List ℕ → Result Sourced Refusal → Type 0
+abbrev pub IsRead : List ℕ → Result NamedProgram Refusal → Type 0
 IsRead text (Ok s) = IsNamedSource text s.names (plain s.program.body)
 IsRead text (Err why) = IsRefusalOf text why

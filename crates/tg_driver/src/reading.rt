@@ -8,9 +8,9 @@ use tg_lexer::{LexFault, lex};
 use tg_parser::{SyntaxFault, parse};
 use tg_syntax::Program;
 
-/// A source that was read.
+/// A program with its names.
 #[derive(Drop)]
-pub(crate) struct Sourced {
+pub(crate) struct NamedProgram {
     pub(crate) program: Program,
     /// The texts of its identifiers, which the tree has by their numbers.
     pub(crate) names: Names,
@@ -25,7 +25,7 @@ pub(crate) enum Refusal {
 }
 
 /// The program of a text, or its first fault.
-pub(crate) fn read_source(alloc: Global, text: &[u8]) -> Result<Sourced, Refusal>
+pub(crate) fn read_source(alloc: Global, text: &[u8]) -> Result<NamedProgram, Refusal>
     ensures { IsRead text.now result }
 {
     let mut names = Names::new(alloc);
@@ -34,7 +34,7 @@ pub(crate) fn read_source(alloc: Global, text: &[u8]) -> Result<Sourced, Refusal
         Err(fault) => return Err(lexical(text, fault)),
     };
     match parse(alloc, &tokens) {
-        Ok(program) => Ok(Sourced { program, names }),
+        Ok(program) => Ok(NamedProgram { program, names }),
         Err(fault) => Err(syntactic(text, fault)),
     }
 }

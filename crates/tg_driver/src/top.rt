@@ -10,7 +10,7 @@ ghost use Rattle.tg_driver.specs.Telling.{IsReported};
 use crate::answers::{Answer, line, status};
 use crate::faults::{Fault, fault_line};
 use crate::forms::is_built;
-use crate::reading::{Refusal, Sourced, read_source};
+use crate::reading::{NamedProgram, Refusal, read_source};
 use crate::running::run_program;
 use std::alloc::Global;
 use tg_base::{RunEnd, Shelf, ShelfFault, Sink, Source, write_all};
@@ -95,7 +95,7 @@ fn answer_text<I: Source, O: Sink>(
 fn answer_run<I: Source, O: Sink>(
     alloc: Global,
     command: &Command,
-    source: &Sourced,
+    source: &NamedProgram,
     input: &mut I,
     out: &mut O,
 ) -> Answer
