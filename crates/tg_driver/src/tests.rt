@@ -5,112 +5,116 @@ use std::process::Abort;
 use std::test::Fail;
 use tg_base::{MapShelf, PlainSource, RoomSink};
 
-// Texts with a fault, and the line that tells it, but for `tiger: ` and the newline.
-static FAULTY: [(&str, &str); 103] = [
-    ("?", "1:1: L1 illegal character"),
-    ("exit(1)\n @", "2:2: L1 illegal character"),
-    ("_a", "1:1: L1 illegal character"),
-    ("a!b", "1:2: L1 illegal character"),
-    ("\x0b", "1:1: L1 illegal character"),
-    ("1 $", "1:3: L1 illegal character"),
-    ("\0", "1:1: L1 illegal character"),
-    ("/* \" */ @", "1:9: L1 illegal character"),
-    ("'", "1:1: L1 illegal character"),
-    ("exit(1)\x7f", "1:8: L1 illegal character"),
-    ("/*", "1:1: L2 comment not closed"),
-    ("/* /* */", "1:1: L2 comment not closed"),
-    ("1 /*/", "1:3: L2 comment not closed"),
-    ("/**/ /*\0\x0b\"", "1:6: L2 comment not closed"),
-    ("a\n /* x\n y", "2:2: L2 comment not closed"),
-    ("/* a */ /* b /* c */ d", "1:9: L2 comment not closed"),
-    ("\"/*\" /*", "1:6: L2 comment not closed"),
-    ("exit(1)/*", "1:8: L2 comment not closed"),
-    ("print(\"a", "1:7: L3 string not closed"),
-    ("\"", "1:1: L3 string not closed"),
-    ("x \"b\n\"", "1:3: L3 string not closed"),
-    ("\"\\39\n\"", "1:1: L3 string not closed"),
-    ("\"\\3", "1:1: L3 string not closed"),
-    ("\"\\^", "1:1: L3 string not closed"),
-    ("\"\\^\n\"", "1:1: L3 string not closed"),
-    ("\"\\ \n ", "1:1: L3 string not closed"),
-    (" \"\\", "1:2: L3 string not closed"),
-    ("\n\"a\\\"", "2:1: L3 string not closed"),
-    ("\"a\\\n", "1:1: L3 string not closed"),
-    ("\"/* */", "1:1: L3 string not closed"),
-    ("print(\"\\q\")", "1:8: L4 bad escape"),
-    ("\"\\256\"", "1:2: L4 bad escape"),
-    ("\"\\39x\"", "1:2: L4 bad escape"),
-    ("\"\\^`\"", "1:2: L4 bad escape"),
-    ("\"\\^{\"", "1:2: L4 bad escape"),
-    ("\"\\^\"", "1:2: L4 bad escape"),
-    ("\"\\ x\\\"", "1:2: L4 bad escape"),
-    ("\"ab\\\x0b\"", "1:4: L4 bad escape"),
-    ("\"\\N\"", "1:2: L4 bad escape"),
-    ("\"a\\n\\r\"", "1:5: L4 bad escape"),
-    ("exit(2147483648)", "1:6: L5 integer too large"),
-    ("00000000002147483648", "1:1: L5 integer too large"),
-    ("99999999999999999999999", "1:1: L5 integer too large"),
-    ("a :=\n  4294967296", "2:3: L5 integer too large"),
-    ("2147483648a", "1:1: L5 integer too large"),
-    ("\"\t\"", "1:2: L6 control byte in string"),
-    ("\"a\x7f", "1:3: L6 control byte in string"),
-    ("\"\r\n\"", "1:2: L6 control byte in string"),
-    ("\"x\0\"", "1:3: L6 control byte in string"),
-    ("\"\\n\x1f\"", "1:4: L6 control byte in string"),
-    // the first of several, and a lexical one before one of syntax
-    ("@ \"", "1:1: L1 illegal character"),
-    ("\"\\q\t\"", "1:2: L4 bad escape"),
-    ("99999999999 @", "1:1: L5 integer too large"),
-    ("let ? /*", "1:5: L1 illegal character"),
-    (") ?", "1:3: L1 illegal character"),
-    ("a=b=c /*", "1:7: L2 comment not closed"),
-    ("", "1:1: S1 unexpected token"),
-    ("   ", "1:4: S1 unexpected token"),
-    ("/* only */\r\n", "2:1: S1 unexpected token"),
-    ("a=b=c", "1:4: S1 unexpected token"),
-    ("a<b<=c", "1:4: S1 unexpected token"),
-    ("exit(", "1:6: S1 unexpected token"),
-    ("exit(1", "1:7: S1 unexpected token"),
-    ("exit(1)x", "1:8: S1 unexpected token"),
-    ("exit(1))", "1:8: S1 unexpected token"),
-    ("exit 1", "1:6: S1 unexpected token"),
-    ("1exit(1)", "1:2: S1 unexpected token"),
-    ("exit(1 2)", "1:8: S1 unexpected token"),
-    ("exit(1;2)", "1:7: S1 unexpected token"),
-    ("exit(1,)", "1:8: S1 unexpected token"),
-    ("exit(+1)", "1:6: S1 unexpected token"),
-    ("1 2", "1:3: S1 unexpected token"),
-    ("1\r\n2", "2:1: S1 unexpected token"),
-    ("(1;)", "1:4: S1 unexpected token"),
-    ("()()", "1:3: S1 unexpected token"),
-    ("let in end x", "1:12: S1 unexpected token"),
-    ("let a", "1:5: S1 unexpected token"),
-    ("let var x = 1 in end", "1:11: S1 unexpected token"),
-    ("let var x : := 1 in end", "1:13: S1 unexpected token"),
-    ("let type t = in end", "1:14: S1 unexpected token"),
-    ("let type t = array t in end", "1:20: S1 unexpected token"),
-    ("let function f(x) = 1 in end", "1:17: S1 unexpected token"),
-    ("if 1 then", "1:10: S1 unexpected token"),
-    ("if 1 else 2", "1:6: S1 unexpected token"),
-    ("if a then b else", "1:17: S1 unexpected token"),
-    ("while 1", "1:8: S1 unexpected token"),
-    ("for 1 := 0 to 1 do 2", "1:5: S1 unexpected token"),
-    ("for i = 0 to 1 do 2", "1:7: S1 unexpected token"),
-    ("for i := 0 do 2", "1:12: S1 unexpected token"),
-    ("a[1] of", "1:8: S1 unexpected token"),
-    ("a[1][2] of 3", "1:9: S1 unexpected token"),
-    ("f(a b)", "1:5: S1 unexpected token"),
-    ("r{x=1,}", "1:7: S1 unexpected token"),
-    ("r{x:1}", "1:4: S1 unexpected token"),
-    ("- ", "1:3: S1 unexpected token"),
-    ("+1", "1:1: S1 unexpected token"),
-    ("1+\n", "2:1: S1 unexpected token"),
-    ("a:=1:=2", "1:5: S1 unexpected token"),
-    ("*/", "1:1: S1 unexpected token"),
-    ("a.1", "1:3: S1 unexpected token"),
-    ("end", "1:1: S1 unexpected token"),
-    ("nil nil", "1:5: S1 unexpected token"),
-    ("\"a\" \"b\"", "1:5: S1 unexpected token"),
+// The line of a fault of tokens, but for `tiger: ` and the newline, a `|`, and a text that has it. The last of them have
+// several.
+static TOKEN_FAULTS: [&str; 56] = [
+    "1:1: L1 illegal character|?",
+    "2:2: L1 illegal character|exit(1)\n @",
+    "1:1: L1 illegal character|_a",
+    "1:2: L1 illegal character|a!b",
+    "1:1: L1 illegal character|\x0b",
+    "1:3: L1 illegal character|1 $",
+    "1:1: L1 illegal character|\0",
+    "1:9: L1 illegal character|/* \" */ @",
+    "1:1: L1 illegal character|'",
+    "1:8: L1 illegal character|exit(1)\x7f",
+    "1:1: L2 comment not closed|/*",
+    "1:1: L2 comment not closed|/* /* */",
+    "1:3: L2 comment not closed|1 /*/",
+    "1:6: L2 comment not closed|/**/ /*\0\x0b\"",
+    "2:2: L2 comment not closed|a\n /* x\n y",
+    "1:9: L2 comment not closed|/* a */ /* b /* c */ d",
+    "1:6: L2 comment not closed|\"/*\" /*",
+    "1:8: L2 comment not closed|exit(1)/*",
+    "1:7: L3 string not closed|print(\"a",
+    "1:1: L3 string not closed|\"",
+    "1:3: L3 string not closed|x \"b\n\"",
+    "1:1: L3 string not closed|\"\\39\n\"",
+    "1:1: L3 string not closed|\"\\3",
+    "1:1: L3 string not closed|\"\\^",
+    "1:1: L3 string not closed|\"\\^\n\"",
+    "1:1: L3 string not closed|\"\\ \n ",
+    "1:2: L3 string not closed| \"\\",
+    "2:1: L3 string not closed|\n\"a\\\"",
+    "1:1: L3 string not closed|\"a\\\n",
+    "1:1: L3 string not closed|\"/* */",
+    "1:8: L4 bad escape|print(\"\\q\")",
+    "1:2: L4 bad escape|\"\\256\"",
+    "1:2: L4 bad escape|\"\\39x\"",
+    "1:2: L4 bad escape|\"\\^`\"",
+    "1:2: L4 bad escape|\"\\^{\"",
+    "1:2: L4 bad escape|\"\\^\"",
+    "1:2: L4 bad escape|\"\\ x\\\"",
+    "1:4: L4 bad escape|\"ab\\\x0b\"",
+    "1:2: L4 bad escape|\"\\N\"",
+    "1:5: L4 bad escape|\"a\\n\\r\"",
+    "1:6: L5 integer too large|exit(2147483648)",
+    "1:1: L5 integer too large|00000000002147483648",
+    "1:1: L5 integer too large|99999999999999999999999",
+    "2:3: L5 integer too large|a :=\n  4294967296",
+    "1:1: L5 integer too large|2147483648a",
+    "1:2: L6 control byte in string|\"\t\"",
+    "1:3: L6 control byte in string|\"a\x7f",
+    "1:2: L6 control byte in string|\"\r\n\"",
+    "1:3: L6 control byte in string|\"x\0\"",
+    "1:4: L6 control byte in string|\"\\n\x1f\"",
+    "1:1: L1 illegal character|@ \"",
+    "1:2: L4 bad escape|\"\\q\t\"",
+    "1:1: L5 integer too large|99999999999 @",
+    "1:5: L1 illegal character|let ? /*",
+    "1:3: L1 illegal character|) ?",
+    "1:7: L2 comment not closed|a=b=c /*",
+];
+
+// The same of a fault of grammar.
+static GRAMMAR_FAULTS: [&str; 47] = [
+    "1:1: S1 unexpected token|",
+    "1:4: S1 unexpected token|   ",
+    "2:1: S1 unexpected token|/* only */\r\n",
+    "1:4: S1 unexpected token|a=b=c",
+    "1:4: S1 unexpected token|a<b<=c",
+    "1:6: S1 unexpected token|exit(",
+    "1:7: S1 unexpected token|exit(1",
+    "1:8: S1 unexpected token|exit(1)x",
+    "1:8: S1 unexpected token|exit(1))",
+    "1:6: S1 unexpected token|exit 1",
+    "1:2: S1 unexpected token|1exit(1)",
+    "1:8: S1 unexpected token|exit(1 2)",
+    "1:7: S1 unexpected token|exit(1;2)",
+    "1:8: S1 unexpected token|exit(1,)",
+    "1:6: S1 unexpected token|exit(+1)",
+    "1:3: S1 unexpected token|1 2",
+    "2:1: S1 unexpected token|1\r\n2",
+    "1:4: S1 unexpected token|(1;)",
+    "1:3: S1 unexpected token|()()",
+    "1:12: S1 unexpected token|let in end x",
+    "1:5: S1 unexpected token|let a",
+    "1:11: S1 unexpected token|let var x = 1 in end",
+    "1:13: S1 unexpected token|let var x : := 1 in end",
+    "1:14: S1 unexpected token|let type t = in end",
+    "1:20: S1 unexpected token|let type t = array t in end",
+    "1:17: S1 unexpected token|let function f(x) = 1 in end",
+    "1:10: S1 unexpected token|if 1 then",
+    "1:6: S1 unexpected token|if 1 else 2",
+    "1:17: S1 unexpected token|if a then b else",
+    "1:8: S1 unexpected token|while 1",
+    "1:5: S1 unexpected token|for 1 := 0 to 1 do 2",
+    "1:7: S1 unexpected token|for i = 0 to 1 do 2",
+    "1:12: S1 unexpected token|for i := 0 do 2",
+    "1:8: S1 unexpected token|a[1] of",
+    "1:9: S1 unexpected token|a[1][2] of 3",
+    "1:5: S1 unexpected token|f(a b)",
+    "1:7: S1 unexpected token|r{x=1,}",
+    "1:4: S1 unexpected token|r{x:1}",
+    "1:3: S1 unexpected token|- ",
+    "1:1: S1 unexpected token|+1",
+    "2:1: S1 unexpected token|1+\n",
+    "1:5: S1 unexpected token|a:=1:=2",
+    "1:1: S1 unexpected token|*/",
+    "1:3: S1 unexpected token|a.1",
+    "1:1: S1 unexpected token|end",
+    "1:5: S1 unexpected token|nil nil",
+    "1:5: S1 unexpected token|\"a\" \"b\"",
 ];
 
 // Sources, with the status and the line of their runs, but for `tiger: ` and the newline.
@@ -332,15 +336,31 @@ fn refused(rt: &impl Abort, alloc: Global, text: &[u8], line: &str) -> Result<()
     answers(rt, alloc, "tiger|run|FILE", text, 65, line)
 }
 
+/// Both modes refuse the text of a row by its line.
+fn refused_as(rt: &impl Abort, alloc: Global, row: &str) -> Result<(), Fail> {
+    let Some((line, text)) = row.split_once('|') else {
+        return Err(Fail::from("a row"));
+    };
+    refused(rt, alloc, text.as_bytes(), line)
+}
+
 #[test]
-fn faults_are_told_with_their_places(rt: HostRuntime) -> Result<(), Fail> {
+fn faults_of_tokens(rt: HostRuntime) -> Result<(), Fail> {
     let alloc = rt.alloc();
-    for (text, line) in FAULTY {
-        refused(&rt, alloc, text.as_bytes(), line)?;
+    for row in TOKEN_FAULTS {
+        refused_as(&rt, alloc, row)?;
     }
     refused(&rt, alloc, b"a\r\n\xff", "2:1: L1 illegal character")?;
     refused(&rt, alloc, b"\"\x80\xff\"\x80", "1:5: L1 illegal character")?;
-    refused(&rt, alloc, b"\"\\\x80\"", "1:2: L4 bad escape")?;
+    refused(&rt, alloc, b"\"\\\x80\"", "1:2: L4 bad escape")
+}
+
+#[test]
+fn faults_of_grammar(rt: HostRuntime) -> Result<(), Fail> {
+    let alloc = rt.alloc();
+    for row in GRAMMAR_FAULTS {
+        refused_as(&rt, alloc, row)?;
+    }
     refused(&rt, alloc, b"1/* \xff */2", "1:9: S1 unexpected token")
 }
 
