@@ -6,3 +6,4 @@ pub mod Twin
 pub mod GoingOn
 pub mod MoreFuel
 pub mod Unfolding
+mod PassingClauses
