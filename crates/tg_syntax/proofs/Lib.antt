@@ -1,3 +1,4 @@
+pub mod BeginningsExamples
 pub mod GrammarExamples
 pub mod GroupLaws
 pub mod InnerLemmas

@@ -11,3 +11,5 @@ pub mod Grammar
 pub mod Nesting
 pub mod SyntaxFaults
 pub mod Measures
+pub mod Beginnings
+pub mod NamesWithin
