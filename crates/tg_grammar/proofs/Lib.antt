@@ -4,3 +4,8 @@ pub mod Sound
 pub mod ValidJobs
 pub mod Exact
 pub mod NoEnd
+pub mod Covers
+pub mod Standing
+pub mod Orders
+pub mod Begun
+pub mod NamesKnown

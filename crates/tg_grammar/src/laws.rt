@@ -1,3 +1,11 @@
+ghost use Rattle.tg_grammar.specs.Places.{
+  SpansExpressions,
+  SpansPlaces,
+  TokensStand,
+  ProgramsInOrder,
+  ProgramsApart,
+  ProgramsNamed,
+};
 ghost use Rattle.tg_grammar.specs.Laws.{
   HasOneTree,
   ReadsEach,
@@ -19,4 +27,18 @@ pub fn descent_is_exact()
     ensures first { RefusesFirst }
     ensures more { WantsMore }
     ensures ends { EndsAlways }
+{}
+
+/// Laws of spans: an expression's runs from its first token to its last.
+pub fn spans_are_exact()
+    ensures expressions { SpansExpressions }
+    ensures places { SpansPlaces }
+{}
+
+/// Laws of places: tokens stand in order, so identifiers and operators begin at bytes of their own, and each name is known.
+pub fn places_are_apart()
+    ensures tokens { TokensStand }
+    ensures order { ProgramsInOrder }
+    ensures apart { ProgramsApart }
+    ensures names { ProgramsNamed }
 {}

@@ -5,5 +5,4 @@ pub mod InnerLemmas
 pub mod ListLaws
 pub mod Longest
 pub mod SizeLemmas
-pub mod SpanLaws
 pub mod TokenExamples

@@ -1,27 +1,17 @@
 -- An expression's span runs from its first token to its last.
-use Rattle.std.proofs.Common.{◌≡◌, List, [], ◌∷◌, ◌++◌, refl, ap, ◌∙◌, append_assoc}
+use Rattle.std.proofs.Common.{List, [], ◌∷◌, ◌++◌, refl, ap, ◌∙◌, append_assoc}
 use Rattle.tg_base.specs.declared.ids.Span.{Span}
 use Rattle.tg_syntax.specs.declared.tokens.Spanned.{Spanned}
 use Rattle.tg_syntax.specs.Tree.{Exp, Place}
 use Rattle.tg_syntax.specs.Spans.{span_of, joined}
 use Rattle.tg_syntax.specs.Grammar.{Level, Reads, whole_assign, whole_up, or_up, or_more, and_up, and_more, cmp_up, cmp_two, sum_up, sum_more, term_up, term_more, unary_minus, unary_primary, unary_tail, primary_place, primary_nil, primary_int, primary_text, primary_break, primary_sequence, primary_call, primary_record, primary_let, tail_then, tail_else, tail_while, tail_for, tail_fill, IsPlace, place_simple, place_field, place_index}
+use Rattle.tg_grammar.specs.Places.{IsSpanOf}
 
--- tokens, one or more, from the span's first byte to its last
-pub record Covers (tokens : List Spanned) (s : Span) : Type 0 where
-  pub first : Spanned
-  pub behind : List Spanned
-  pub begins : tokens ≡ first ∷ behind
-  pub from_is : s.from ≡ first.span.from
-  pub before : List Spanned
-  pub last : Spanned
-  pub ends : tokens ≡ before ++ last ∷ []
-  pub to_is : s.to ≡ last.span.to
-
-alone : (t : Spanned) → Covers (t ∷ []) t.span
+alone : (t : Spanned) → IsSpanOf t.span (t ∷ [])
 alone t = record { first = t; behind = []; begins = refl; from_is = refl; before = []; last = t; ends = refl; to_is = refl }
 
 -- tokens with others, and any between them
-both : {a b : List Spanned} {s z : Span} (m : List Spanned) → Covers a s → Covers b z → Covers (a ++ (m ++ b)) (joined s z)
+both : {a b : List Spanned} {s z : Span} (m : List Spanned) → IsSpanOf s a → IsSpanOf z b → IsSpanOf (joined s z) (a ++ (m ++ b))
 both {a} {b} m h k =
     record {
       first = h.first;
@@ -34,14 +24,14 @@ both {a} {b} m h k =
       to_is = k.to_is;
     }
 
-between : {b : List Spanned} {z : Span} (t : Spanned) (m : List Spanned) → Covers b z → Covers (t ∷ (m ++ b)) (joined t.span z)
+between : {b : List Spanned} {z : Span} (t : Spanned) (m : List Spanned) → IsSpanOf z b → IsSpanOf (joined t.span z) (t ∷ (m ++ b))
 between t m k = both m (alone t) k
 
-closed : (t : Spanned) (m : List Spanned) (r : Spanned) → Covers (t ∷ m ++ r ∷ []) (joined t.span r.span)
+closed : (t : Spanned) (m : List Spanned) (r : Spanned) → IsSpanOf (joined t.span r.span) (t ∷ m ++ r ∷ [])
 closed t m r = between t m (alone r)
 
 mutual
-  pub span_of-Reads : {k : Level} {a : List Spanned} {e : Exp} → Reads k a e → Covers a (span_of e)
+  pub span_of-Reads : {k : Level} {a : List Spanned} {e : Exp} → Reads k a e → IsSpanOf (span_of e) a
   span_of-Reads (whole_assign t p i r) = both (t ∷ []) (span_of-IsPlace p) (span_of-Reads r)
   span_of-Reads (whole_up r) = span_of-Reads r
   span_of-Reads (or_up r) = span_of-Reads r
@@ -72,7 +62,7 @@ mutual
   span_of-Reads (tail_for {a} {b} {d} t i g u w h j k l m n o x) = rw (← append_assoc b (w ∷ []) d, ← append_assoc a (u ∷ (b ++ w ∷ [])) d) (between t (i ∷ g ∷ (a ++ u ∷ (b ++ w ∷ []))) (span_of-Reads x))
   span_of-Reads (tail_fill {a} {b} t l r o i j n k m x) = rw (← append_assoc a (r ∷ o ∷ []) b) (between t (l ∷ (a ++ r ∷ o ∷ [])) (span_of-Reads x))
 
-  pub span_of-IsPlace : {a : List Spanned} {s : Span} {v : Place} → IsPlace a s v → Covers a s
+  pub span_of-IsPlace : {a : List Spanned} {s : Span} {v : Place} → IsPlace a s v → IsSpanOf s a
   span_of-IsPlace (place_simple t i) = alone t
   span_of-IsPlace (place_field d t p i j) = both (d ∷ []) (span_of-IsPlace p) (alone t)
   span_of-IsPlace (place_index {a} {b} l r p i e j) = both (l ∷ b) (span_of-IsPlace p) (alone r)
