@@ -9,7 +9,7 @@ use Rattle.tg_types.specs.Checks.{Noted, fine}
 use Rattle.tg_types.specs.Scopes.{Signature, variable_at, Scope, at_of, binding, in_a_loop, in_no_loop}
 use Rattle.tg_types.specs.Groups.{declare_types, names_of, with_group as group_scope, add_form, add_forms, function_names, with_functions, with_params}
 use Rattle.tg_types.specs.Typing.{typed, typed_place, typed_last, expect_all, expect_fields, declare, bodies, are_fields, count}
-use Rattle.tg_types.specs.TypeBytes.{with_form, with_group, bytes_in, bytes_in_place, bytes_in_exps, bytes_in_inits, bytes_in_decs, bytes_in_bodies}
+use Rattle.tg_types.proofs.TypeBytes.{with_form, with_group, bytes_in, bytes_in_place, bytes_in_exps, bytes_in_inits, bytes_in_decs, bytes_in_bodies}
 use Rattle.tg_types.proofs.Has.{AreApart}
 use Rattle.tg_types.proofs.Inversion.{steps, kept, given, presented, shape_added, expected, expected_int, expected_none, sides, variable_got, callee_got, fields_got, element_got, selected}
 use Rattle.tg_types.proofs.Derived.{both, no_repeats_keep, known_forms_keep, chains_keep, Headed, no_heads, a_head, headed, body_got, assignable_keep, own_got}

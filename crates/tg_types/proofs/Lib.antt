@@ -5,5 +5,7 @@ pub mod Sound
 pub mod SoundDirect
 pub mod Inversion
 pub mod Derived
+pub mod TypeBytes
+pub mod AmongBeginnings
 pub mod Bytes
 pub mod NeverStuck

@@ -11,8 +11,9 @@ use Rattle.tg_types.specs.Checks.{Checked, fine, fault, Noted}
 use Rattle.tg_types.specs.Scopes.{outermost}
 use Rattle.tg_types.specs.Typing.{typed}
 use Rattle.tg_types.specs.Accepted.{finding_of, accepted}
-use Rattle.tg_types.specs.TypeBytes.{type_bytes}
+use Rattle.tg_types.proofs.TypeBytes.{type_bytes}
 use Rattle.tg_types.specs.Laws.{IsNeverStuck}
+use Rattle.tg_types.proofs.AmongBeginnings.{types_apart}
 use Rattle.tg_types.proofs.Derived.{derived}
 use Rattle.tg_types.proofs.Bytes.{gathered, apart_by_keys}
 use Rattle.tg_types.proofs.SoundDirect.{typed_not_stuck, sees_outermost}
@@ -29,4 +30,4 @@ by_checks names body notes (fine t noted) is e a input heap stack fuel =
 
 pub never_stuck : IsNeverStuck
 never_stuck names body notes e a input heap stack fuel =
-    by_checks names body notes (typed body (outermost names) begin) refl e a input heap stack fuel
+    by_checks names body notes (typed body (outermost names) begin) refl e (types_apart body a) input heap stack fuel

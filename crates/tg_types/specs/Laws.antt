@@ -1,17 +1,16 @@
 -- Laws of typing and evaluation.
 use Rattle.std.specs.Prelude.{◌≡◌, ◌≢◌, ℕ, List}
-use Rattle.std.specs.List.{AllPairs}
 use Rattle.tg_syntax.specs.Tree.{Exp}
+use Rattle.tg_syntax.specs.Beginnings.{BeginsApart}
 use Rattle.tg_meaning.specs.Values.{stuck}
 use Rattle.tg_meaning.specs.Direct.{evaluate}
 use Rattle.tg_types.specs.declared.notes.Note.{Note}
 use Rattle.tg_types.specs.Accepted.{finding, accepted}
-use Rattle.tg_types.specs.TypeBytes.{type_bytes}
 
--- an accepted program, whose record and array types are each declared at a byte of its own, meets no value of the wrong kind
--- and no name without meaning, for every input, heap, stack and fuel
+-- an accepted program, no two of whose identifiers and operators begin at the same byte, meets no value of the wrong kind and
+-- no name without meaning, for every input, heap, stack and fuel
 abbrev pub IsNeverStuck : Type 0
 IsNeverStuck =
     (names : List (List ℕ)) (body : Exp) (notes : List Note) →
-    finding names body ≡ accepted notes → AllPairs (λ a b. a ≢ b) (type_bytes body) →
+    finding names body ≡ accepted notes → BeginsApart body →
     (input : List ℕ) (heap stack fuel : ℕ) → (evaluate names body input heap stack fuel).end ≢ stuck

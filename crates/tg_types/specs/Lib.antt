@@ -5,5 +5,4 @@ pub mod Groups
 pub mod Typing
 pub mod Limits
 pub mod Accepted
-pub mod TypeBytes
 pub mod Laws
