@@ -2,6 +2,7 @@
 use Rattle.std.specs.Prelude.{ℕ, zero, suc, ◌+◌, ◌-◌, ◌*◌, ◌/◌, ◌%◌, ◌^◌, List, [], ◌∷◌, ◌++◌, length, replicate, slice_index_or, Bool, true, false, ◌==◌, nat_le, nat_lt, if◌then◌else◌, codes, Option, Some, None, Result, Ok, Err}
 use Rattle.std.specs.Str.{bytes_eq}
 use Rattle.tg_base.specs.State.{code_base, statics_base}
+use Rattle.tg_base.specs.Words.{add, mul}
 use Rattle.tg_isa.specs.declared.mips.Mips.{Mips}
 use Rattle.tg_isa.specs.declared.mips.Mips.TheVariants as row
 use Rattle.tg_isa.specs.declared.keywords.Keyword.{Keyword}
@@ -63,7 +64,7 @@ next_spot l Statics = InStatics (length l.starts)
 -- labels to places: the spot of a label
 abbrev pub spot_among : List (List ℕ × Spot) → List ℕ → Option Spot
 spot_among [] name = None
-spot_among (e ∷ es) name = if bytes_eq e.0 name then Some e.1 else spot_among es name
+spot_among (e ∷ es) name = if bytes_eq name e.0 then Some e.1 else spot_among es name
 
 abbrev pub spot_of : Layout → List ℕ → Option Spot
 spot_of l name = spot_among l.labels name
@@ -71,10 +72,17 @@ spot_of l name = spot_among l.labels name
 abbrev pub add_label : Layout → List ℕ → Layout
 add_label l name = record l { labels = l.labels ++ (name, next_spot l l.segment) ∷ [] }
 
+abbrev pub add_new : Layout → List ℕ → Option Spot → Result Layout AsmRule
+add_new l name (Some s) = Err A4
+add_new l name None = Ok (add_label l name)
+
+abbrev pub add_one : Layout → List ℕ → Result Layout AsmRule
+add_one l name = add_new l name (spot_of l name)
+
 abbrev pub add_labels : Layout → List (List ℕ) → Result Layout AsmRule
 add_labels l [] = Ok l
 add_labels l (name ∷ more) =
-    elim (spot_of l name) as (λ _. Result Layout AsmRule) [ Some s ↦ Err A4 | None ↦ add_labels (add_label l name) more ]
+    elim (add_one l name) as (λ _. Result Layout AsmRule) [ Ok m ↦ add_labels m more | Err e ↦ Err e ]
 
 -- the first multiple of a number from a place on
 abbrev pub round_up : ℕ → ℕ → ℕ
@@ -127,8 +135,8 @@ layout n l (line ∷ more) =
 
 -- Places to words, by the layout of the whole text.
 abbrev pub address : Layout → Spot → ℕ
-address l (InCode i) = code_base + 4 * i
-address l (InStatics k) = statics_base + slice_index_or l.starts k l.size
+address l (InCode i) = add code_base (mul 4 i)
+address l (InStatics k) = add statics_base (slice_index_or l.starts k l.size)
 
 abbrev pub address_of : Layout → Option Spot → Result ℕ AsmRule
 address_of l (Some s) = Ok (address l s)
@@ -162,7 +170,7 @@ branch_to one at None = Err A5
 
 -- a jump, but not to the code's end
 abbrev pub jump_to : Layout → Mips → Option Spot → Result ℕ AsmRule
-jump_to l one (Some (InCode to)) = if to == l.words then Err A6 else Ok (word_of (with_target one (code_base / 4 + to)))
+jump_to l one (Some (InCode to)) = if nat_lt to l.words then Ok (word_of (with_target one (code_base / 4 + to))) else Err A6
 jump_to l one (Some (InStatics k)) = Err A6
 jump_to l one None = Err A5
 
@@ -263,7 +271,7 @@ last_line (c ∷ text) = count_line c text (last_line text)
 
 -- the entry is the place of `main`, which is in the code and not at its end
 abbrev pub entry_at : Layout → Option Spot → Option ℕ
-entry_at l (Some (InCode i)) = if nat_lt i l.words then Some (code_base + 4 * i) else None
+entry_at l (Some (InCode i)) = if nat_lt i l.words then Some (address l (InCode i)) else None
 entry_at l (Some (InStatics k)) = None
 entry_at l None = None
 

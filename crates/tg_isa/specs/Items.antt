@@ -338,13 +338,21 @@ abbrev pub text_of : (ending : List ℕ) → List Operand → Result Item AsmRul
 text_of ending (Quoted text ∷ []) = text_item ending (string false text)
 text_of ending _ = Err A3
 
-abbrev pub sized : Keyword → Option Signed → (ℕ → Item) → Result Item AsmRule
-sized k (Some n) item = if is_within (least k) (greatest k) n then Ok (item n.size) else Err A7
-sized k None item = Err A3
+abbrev pub sized : Keyword → Option Signed → Result ℕ AsmRule
+sized k (Some n) = if is_within (least k) (greatest k) n then Ok n.size else Err A7
+sized k None = Err A3
 
-abbrev pub size_of : Keyword → List Operand → (ℕ → Item) → Result Item AsmRule
-size_of k (Plain text ∷ []) item = sized k (number text) item
-size_of k _ item = Err A3
+abbrev pub size_of : Keyword → List Operand → Result ℕ AsmRule
+size_of k (Plain text ∷ []) = sized k (number text)
+size_of k _ = Err A3
+
+abbrev pub zeros : Result ℕ AsmRule → Result Item AsmRule
+zeros (Ok n) = Ok (Data' 1 (Zeros n ∷ []))
+zeros (Err e) = Err e
+
+abbrev pub aligned : Result ℕ AsmRule → Result Item AsmRule
+aligned (Ok n) = Ok (Data' (2 ^ n) [])
+aligned (Err e) = Err e
 
 abbrev pub alone : List Operand → Item → Result Item AsmRule
 alone [] item = Ok item
@@ -363,8 +371,8 @@ item Word os = values Word 4 os
 item Byte os = values Byte 1 os
 item Ascii os = text_of [] os
 item Asciiz os = text_of (0 ∷ []) os
-item Space os = size_of Space os (λ n. Data' 1 (Zeros n ∷ []))
-item Align os = size_of Align os (λ n. Data' (2 ^ n) [])
+item Space os = zeros (size_of Space os)
+item Align os = aligned (size_of Align os)
 item k os = instruction k os
 
 -- whether an item may stand in a segment

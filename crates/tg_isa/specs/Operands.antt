@@ -1,5 +1,5 @@
 -- What the operands of an item are: numbers, registers, labels and strings (SPIM manual, assembler syntax).
-use Rattle.std.specs.Prelude.{ℕ, ◌+◌, ◌-◌, ◌*◌, ◌%◌, ◌^◌, min, List, [], ◌∷◌, length, Bool, true, false, not, ◌==◌, ◌&&◌, ◌||◌, nat_le, nat_lt, if◌then◌else◌, Option, Some, None, position}
+use Rattle.std.specs.Prelude.{ℕ, ◌+◌, ◌-◌, ◌*◌, ◌%◌, ◌^◌, min, List, [], ◌∷◌, length, Bool, true, false, not, ◌==◌, ◌&&◌, ◌||◌, nat_le, nat_lt, if◌then◌else◌, Option, Some, None}
 use Rattle.std.specs.Str.{bytes_eq}
 use Rattle.tg_isa.specs.Names.{names}
 use Rattle.tg_isa.specs.Lines.{is_between, begins_label, is_past_label, front, back, Operand, Plain, Quoted}
@@ -71,8 +71,12 @@ abbrev pub numbered : List ℕ → Option ℕ
 numbered [] = None
 numbered (c ∷ text) = if c == 36 then in_file (number text) else None
 
+abbrev pub named_from : ℕ → List (List ℕ) → List ℕ → Option ℕ
+named_from r [] text = None
+named_from r (name ∷ more) text = if bytes_eq name text then Some r else named_from (r + 1) more text
+
 abbrev pub named : List ℕ → Option ℕ
-named text = position (λ name. bytes_eq name text) names
+named text = named_from 0 names text
 
 abbrev pub or_numbered : Option ℕ → List ℕ → Option ℕ
 or_numbered (Some r) text = Some r
@@ -103,9 +107,12 @@ address_of None r = None
 abbrev pub closed : List ℕ → Bool
 closed text = length (back (λ c. c == 41) text) == 1
 
+abbrev pub closed_address : Option Signed → List ℕ → Option Address
+closed_address n text = if closed text then address_of n (register (front (λ c. c == 41) text)) else None
+
 abbrev pub in_parens : Option Signed → List ℕ → Option Address
 in_parens n [] = None
-in_parens n (c ∷ text) = if closed text then address_of n (register (front (λ c. c == 41) text)) else None
+in_parens n (c ∷ text) = closed_address n text
 
 abbrev pub based : List ℕ → Option Address
 based text = in_parens (or_nothing (front (λ c. c == 40) text)) (back (λ c. c == 40) text)

@@ -1,0 +1,10 @@
+pub mod Splits
+pub mod CutLoops
+pub mod Numerals
+pub mod Filling
+pub mod Named
+pub mod Keywords
+pub mod DataLoops
+pub mod Tables
+pub mod LayoutLoops
+pub mod LinePass

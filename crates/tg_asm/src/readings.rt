@@ -1,0 +1,58 @@
+ghost use Rattle.std.specs.Prelude.{◌≡◌, Some};
+ghost use Rattle.tg_isa.specs.Assembly as assembly;
+ghost use Rattle.tg_asm.specs.Cuts.{cut_of};
+ghost use Rattle.tg_asm.specs.Means.{Gives};
+ghost use Rattle.tg_asm.specs.Readings.{reading_of};
+
+use crate::cuts::{Cut, cut_line};
+use crate::faults::Refused;
+use crate::items::{Item, read_item};
+use crate::words::{keyword, stands_in};
+use std::alloc::Global;
+use tg_isa::{AsmRule, Segment};
+
+/// A line's labels and its item.
+#[derive(Drop)]
+pub(crate) struct Reading<'a> {
+    pub(crate) labels: Vec<&'a [u8]>,
+    pub(crate) item: Item<'a>,
+}
+
+/// What the parts of a line are that stands in a segment.
+fn read_cut<'a>(alloc: Global, segment: Segment, cut: Cut<'a>) -> Result<Reading<'a>, Refused>
+    ensures { Gives reading_of (assembly.read_cut segment (Some (cut_of cut.entry))) result }
+{
+    if cut.word.is_empty() {
+        return Ok(Reading {
+            labels: cut.labels,
+            item: Item::Nothing,
+        });
+    }
+    match keyword(cut.word) {
+        Some(keyword) => {
+            if !stands_in(keyword, segment) {
+                return Err(Refused::Rule(AsmRule::A1));
+            }
+            let item = read_item(alloc, keyword, &cut.operands)?;
+            Ok(Reading {
+                labels: cut.labels,
+                item,
+            })
+        }
+        None => Err(Refused::Rule(AsmRule::A2)),
+    }
+}
+
+/// A line that stands in a segment, or its first fault of A1, A2, A3 and A7.
+pub(crate) fn read_line<'a>(
+    alloc: Global,
+    segment: Segment,
+    line: &'a [u8],
+) -> Result<Reading<'a>, Refused>
+    ensures { Gives reading_of (assembly.reading segment line.now) result }
+{
+    match cut_line(alloc, line)? {
+        Some(cut) => read_cut(alloc, segment, cut),
+        None => Err(Refused::Rule(AsmRule::A1)),
+    }
+}

@@ -1,0 +1,8 @@
+/// What a label stands for.
+#[derive(Clone, Copy)]
+pub(crate) enum Spot {
+    /// A word of the code, by its number.
+    InCode(u32),
+    /// An item of the statics, by its number.
+    InStatics(usize),
+}
