@@ -8,3 +8,8 @@ pub mod DataLoops
 pub mod Tables
 pub mod LayoutLoops
 pub mod LinePass
+pub mod MakingPass
+pub mod MakingLoops
+pub mod Sizes
+pub mod Ends
+pub mod LastLine

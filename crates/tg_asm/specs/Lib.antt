@@ -7,3 +7,4 @@ pub mod Spots
 pub mod Entries
 pub mod Readings
 pub mod Layouts
+pub mod Images

@@ -14,6 +14,17 @@ pub enum AsmFault {
     Memory,
 }
 
+impl From<Memory> for AsmFault {
+    ghost use Rattle.std.specs.Prelude.{◌≡◌};
+    ghost use Rattle.tg_asm.specs.declared.faults.AsmFault.TheVariants.{Memory};
+
+    ghost from_gives = { λ _ e. e ≡ Memory };
+
+    fn from(_want: Memory) -> AsmFault {
+        AsmFault::Memory
+    }
+}
+
 /// Why an item can't be read.
 #[derive(Clone, Copy)]
 pub(crate) enum Refused {

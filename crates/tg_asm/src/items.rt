@@ -201,7 +201,7 @@ fn datum_fits(keyword: Keyword, datum: &Datum<'_>) -> bool
 
 /// Whether all numbers of the statics are in their range.
 fn data_fit(keyword: Keyword, data: &[Datum<'_>]) -> bool
-    ensures { result ≡ items.data_fit keyword (map datum_of data.now) }
+    ensures { result ≡ items.data_fit keyword (map datum_of «data».now) }
 {
     for datum in data {
         if !datum_fits(keyword, datum) {

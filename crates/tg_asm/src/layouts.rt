@@ -53,7 +53,7 @@ fn width(datum: &Datum<'_>) -> u64
 
 /// How many bytes data take, or the cap where that is less.
 fn widths(data: &[Datum<'_>]) -> u64
-    ensures { result ≡ min (items.widths (map datum_of data.now)) 1099511627776 }
+    ensures { result ≡ min (items.widths (map datum_of «data».now)) 1099511627776 }
 {
     let mut total = 0;
     for datum in data {
@@ -143,7 +143,7 @@ impl Layout {
     fn add_data(&mut self, align: Align, data: &[Datum<'_>]) -> Result<(), Refused>
         requires { IsSmall (layout_of self.old) }
         ensures added { Leaves (assembly.add_item
-            (items.Data' (bytes_of align) (map datum_of data.now)) (layout_of self.old))
+            (items.Data' (bytes_of align) (map datum_of «data».now)) (layout_of self.old))
             result (layout_of self.new) }
         ensures small { OnOk result (IsSmall (layout_of self.new)) }
     {

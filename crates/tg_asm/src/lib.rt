@@ -1,8 +1,9 @@
-//! The assembler, begun: the lines of an assembly text become labels and items, and these are laid out.
-//! Promises that each line is read as the definition has it, and that the first line with a fault of its own is told.
-//! The definition stands in `specs/` of `tg_isa`. There is no call yet that makes the image.
+//! The assembler: an assembly text becomes the image of a program, in two passes over its lines.
+//! Promises to `tiger exec` the text's image exactly where the definition gives it, else its first fault with its line.
+//! The definition stands in `specs/` of `tg_isa`: lines to items, items to places, labels to places, places to words.
 #![tactic(auto)]
 
+mod assembling;
 mod bytes;
 mod cuts;
 mod faults;
@@ -11,6 +12,7 @@ mod items;
 mod labels;
 mod layouts;
 mod makers;
+mod making;
 mod numbers;
 mod readings;
 mod registers;
@@ -18,4 +20,8 @@ mod rows;
 mod spots;
 mod words;
 
+pub use assembling::assemble;
 pub use faults::{AsmFault, AsmRule};
+
+#[cfg(test)]
+mod tests;

@@ -71,7 +71,7 @@ fn with_target(one: Mips, target: Bits<26>) -> Mips
 
 /// The branch at a word to another.
 fn branch_word(one: Mips, at: usize, to: u32) -> Result<u32, AsmRule>
-    requires { at < 2 ^ 62 }
+    requires { at < 2 ^ 63 }
     ensures { result ≡ assembly.branch_word one at to }
 {
     let to = to as usize;
@@ -90,7 +90,7 @@ fn branch_word(one: Mips, at: usize, to: u32) -> Result<u32, AsmRule>
 }
 
 fn branch_to(layout: &Layout, one: Mips, at: usize, label: &[u8]) -> Result<u32, AsmRule>
-    requires { at < 2 ^ 62 }
+    requires { at < 2 ^ 63 }
     ensures { result ≡ assembly.branch_to one at
         (assembly.spot_of (layout_of layout.now) label.now) }
 {
@@ -144,7 +144,7 @@ fn lower(layout: &Layout, rt: Reg, label: &[u8]) -> Result<u32, AsmRule>
 /// A word of the code that stands at a place of it.
 pub(crate) fn word(layout: &Layout, at: usize, coded: &Coded<'_>) -> Result<u32, AsmRule>
     requires small { IsSmall (layout_of layout.now) }
-    requires at { at < 2 ^ 62 }
+    requires at { at < 2 ^ 63 }
     ensures { result ≡ assembly.word (layout_of layout.now) at (coded_of coded.now) }
 {
     match coded {

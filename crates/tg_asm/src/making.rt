@@ -1,0 +1,192 @@
+ghost use Rattle.std.specs.Prelude.{◌≡◌, ◌++◌, ◌∷◌, [], map, replicate, IfOk, OnOk, Ok};
+ghost use Rattle.tg_isa.specs.Assembly as assembly;
+ghost use Rattle.tg_isa.specs.Lines.{lines};
+ghost use Rattle.tg_asm.specs.Images.{GivesMade, made_of};
+ghost use Rattle.tg_asm.specs.Layouts.{IsSmall, layout_of};
+ghost use Rattle.tg_asm.specs.Means.{Leaves, bytes_of, coded_of, datum_of, item_of, words_of};
+
+use crate::bytes::split_line;
+use crate::faults::{AsmFault, Refused};
+use crate::items::{Align, Coded, Datum, Item, Words};
+use crate::layouts::Layout;
+use crate::makers::{place_of, word};
+use crate::readings::read_line;
+use std::alloc::Global;
+use tg_base::Memory;
+use tg_isa::Segment;
+
+/// The code and the statics, as far as the lines were made.
+#[derive(Drop)]
+pub(crate) struct Made {
+    segment: Segment,
+    pub(crate) code: Vec<u32>,
+    pub(crate) statics: Vec<u8>,
+}
+
+impl Made {
+    /// Nothing is made yet, but there is room for all that a layout has.
+    fn unmade(alloc: Global, layout: &Layout) -> Result<Made, Memory>
+        ensures { IfOk result (λ m. made_of m ≡ assembly.unmade) }
+    {
+        Ok(Made {
+            segment: Segment::Code,
+            code: Vec::with_capacity(alloc, layout.words as usize)?,
+            statics: Vec::with_capacity(alloc, layout.size as usize)?,
+        })
+    }
+
+    /// Adds a word of the code.
+    fn add_word(&mut self, layout: &Layout, coded: &Coded<'_>) -> Result<(), Refused>
+        requires { IsSmall (layout_of layout.now) }
+        ensures { Leaves (assembly.make_words (layout_of layout.now) (made_of self.old)
+            (coded_of coded.now ∷ [])) result (made_of self.new) }
+    {
+        match word(layout, self.code.len(), coded) {
+            Ok(word) => {
+                self.code.push(word)?;
+                Ok(())
+            }
+            Err(rule) => Err(Refused::Rule(rule)),
+        }
+    }
+
+    /// Adds the words of an item.
+    #[tactic(auto, using(crate::proofs::MakingLoops::word_made, crate::proofs::MakingLoops::word_bad))]
+    fn add_words(&mut self, layout: &Layout, words: &Words<'_>) -> Result<(), Refused>
+        requires { IsSmall (layout_of layout.now) }
+        ensures { Leaves (assembly.make_words (layout_of layout.now) (made_of self.old)
+            (words_of words.now)) result (made_of self.new) }
+    {
+        match words {
+            Words::One(only) => self.add_word(layout, only),
+            Words::Two(first, second) => {
+                self.add_word(layout, first)?;
+                self.add_word(layout, second)
+            }
+        }
+    }
+
+    /// Adds bytes to the statics.
+    fn add_bytes(&mut self, bytes: &[u8]) -> Result<(), Refused>
+        ensures { Leaves (Ok (record (made_of self.old) {
+          statics = self.old.statics.items ++ bytes.now;
+        })) result (made_of self.new) }
+    {
+        self.statics.extend_from_slice(bytes)?;
+        Ok(())
+    }
+
+    /// Adds zeros to the statics.
+    fn add_zeros(&mut self, count: u32) -> Result<(), Refused>
+        ensures { Leaves (Ok (record (made_of self.old) {
+          statics = self.old.statics.items ++ replicate count 0;
+        })) result (made_of self.new) }
+    {
+        let size = self.statics.len() + count as usize;
+        self.statics.resize(size, 0)?;
+        Ok(())
+    }
+
+    /// Adds a datum to the statics.
+    fn add_datum(&mut self, layout: &Layout, datum: &Datum<'_>) -> Result<(), Refused>
+        ensures { Leaves (assembly.make_data (layout_of layout.now) (made_of self.old)
+            (datum_of datum.now ∷ [])) result (made_of self.new) }
+    {
+        match datum {
+            Datum::Value(number) => self.add_bytes(&word_bytes(number.field32())),
+            Datum::Place(label) => match place_of(layout, *label) {
+                Ok(place) => self.add_bytes(&word_bytes(place)),
+                Err(rule) => Err(Refused::Rule(rule)),
+            },
+            Datum::Single(number) => self.add_bytes(&[number.field8()]),
+            Datum::Bytes(bytes) => self.add_bytes(bytes),
+            Datum::Zeros(count) => self.add_zeros(*count),
+        }
+    }
+
+    /// Adds data to the statics, in order.
+    #[tactic(auto, using(crate::proofs::MakingLoops::data_made, crate::proofs::MakingLoops::data_bad, crate::proofs::MakingLoops::data_end))]
+    fn add_data(&mut self, layout: &Layout, data: &[Datum<'_>]) -> Result<(), Refused>
+        ensures { Leaves (assembly.make_data (layout_of layout.now) (made_of self.old)
+            (map datum_of «data».now)) result (made_of self.new) }
+    {
+        for datum in data {
+            self.add_datum(layout, datum)?;
+        }
+        Ok(())
+    }
+
+    /// Pads the statics with zeros.
+    fn pad(&mut self, align: Align) -> Result<(), Refused>
+        ensures { Leaves (Ok (assembly.pad (made_of self.old) (bytes_of align))) result
+            (made_of self.new) }
+    {
+        let multiple = align.bytes();
+        let past = (self.statics.len() % multiple as usize) as u32;
+        self.add_zeros((multiple - past) % multiple)
+    }
+
+    /// Adds an item.
+    fn add_item(&mut self, layout: &Layout, item: &Item<'_>) -> Result<(), Refused>
+        requires { IsSmall (layout_of layout.now) }
+        ensures { Leaves (assembly.make_item (layout_of layout.now) (made_of self.old)
+            (item_of item.now)) result (made_of self.new) }
+    {
+        match item {
+            Item::Nothing => Ok(()),
+            Item::Section(segment) => {
+                self.segment = *segment;
+                Ok(())
+            }
+            Item::Code(words) => self.add_words(layout, words),
+            Item::Data(align, data) => {
+                self.pad(*align)?;
+                self.add_data(layout, data)
+            }
+        }
+    }
+
+    /// Adds what a line makes.
+    fn add_line(&mut self, alloc: Global, layout: &Layout, line: &[u8]) -> Result<(), Refused>
+        requires { IsSmall (layout_of layout.now) }
+        ensures { Leaves (assembly.make_line (layout_of layout.now) (made_of self.old) line.now)
+            result (made_of self.new) }
+    {
+        let reading = read_line(alloc, self.segment, line)?;
+        self.add_item(layout, &reading.item)
+    }
+}
+
+/// The bytes of a word, the lowest first.
+fn word_bytes(word: u32) -> [u8; 4]
+    ensures { result ≡ assembly.word_bytes word }
+{
+    word.to_le_bytes()
+}
+
+/// What the lines of a text make, or the first fault of A5 and A6.
+#[tactic(auto, using(crate::proofs::MakingPass::made_first, crate::proofs::MakingPass::made_more, crate::proofs::MakingPass::made_last, crate::proofs::MakingPass::made_bad))]
+pub(crate) fn make(alloc: Global, layout: &Layout, text: &[u8]) -> Result<Made, AsmFault>
+    requires { IsSmall (layout_of layout.now) }
+    ensures { GivesMade (assembly.make 1 (layout_of layout.now) assembly.unmade
+        (lines text.now)) result }
+{
+    let mut made = Made::unmade(alloc, layout)?;
+    let mut rest = text;
+    let mut number = 1;
+    loop {
+        let (line, more) = split_line(rest);
+        match made.add_line(alloc, layout, line) {
+            Ok(()) => {}
+            Err(Refused::Rule(rule)) => return Err(AsmFault::Bad { rule, line: number }),
+            Err(Refused::Memory) => return Err(AsmFault::Memory),
+        }
+        match more {
+            Some(more) => {
+                rest = more;
+                number += 1;
+            }
+            None => return Ok(made),
+        }
+    }
+}
