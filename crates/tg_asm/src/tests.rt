@@ -149,8 +149,8 @@ static COMPETITIONS: [&str; 24] = [
     "A2 1|.word: x",
 ];
 
-// Words of the table, as another assembler makes them (`llvm-mc` for MIPS I, big endian, and GNU `as`, whose
-// `break 0,7` is `break 7` here).
+// Words of the table, as GNU `as` and `llvm-mc` make them for MIPS I, big endian. Their `break 0,7` is `break 7` here,
+// and their `move` is an `or`.
 static WORDS: [&str; 58] = [
     "400000: 000957c0|main: sll $t2, $t1, 31",
     "400000: 001f1042|main: srl $v0, $ra, 1",
