@@ -35,3 +35,13 @@ IsOver Wrong = Unit {0}
 -- what is over stays so with more fuel
 abbrev pub StaysOver : Run Ran → Type 0
 StaysOver c = (i j : ℕ) → i ≤ j → IsOver (c i).stop → c j ≡ c i
+
+-- the second writes more, reads more of the input and does more work
+pub record GoesOn (p q : Ran) : Type 0 where
+  pub output : (more : List ℕ) × (q.output ≡ p.output ++ more)
+  pub input : (read : List ℕ) × (p.input ≡ read ++ q.input)
+  pub work : p.work ≤ q.work
+
+-- with more fuel a run goes on from what it was with less
+abbrev pub OnlyGoesOn : Run Ran → Type 0
+OnlyGoesOn c = (i j : ℕ) → i ≤ j → GoesOn (c i) (c j)

@@ -1,14 +1,14 @@
 -- Runs of small trees, each computed by the definition itself.
-use Rattle.std.proofs.Common.{◌≡◌, ℕ, ◌+◌, ◌-◌, ◌*◌, List, [], ◌∷◌, refl}
+use Rattle.std.proofs.Common.{◌≡◌, ℕ, ◌+◌, ◌-◌, ◌*◌, List, [], ◌∷◌, ◌++◌, refl}
 use Rattle.std.specs.Prelude.{codes, pos}
-use Rattle.tg_base.specs.declared.ends.RunEnd.TheVariants.{Exit, Break as Broken, Overflow, HeapFull, StackFull}
+use Rattle.tg_base.specs.declared.ends.RunEnd.TheVariants.{Exit, Break as Broken, Overflow, HeapFull, StackFull, BadService}
 use Rattle.tg_base.specs.State.{stack_top}
 use Rattle.tg_frame.specs.declared.accesses.Access.{Access}
 use Rattle.tg_frame.specs.declared.accesses.Access.TheVariants.{InTemp, InFrame}
 use Rattle.tg_runs.specs.Ran.{Ran, Stop, Ended, WantsFuel, Wrong}
-use Rattle.tg_tree.specs.declared.operators.Bin.TheVariants.{Add, Sub, Mul, Div, AddTrap, MulHigh}
-use Rattle.tg_tree.specs.declared.operators.Rel.TheVariants.{Less, Equal}
-use Rattle.tg_tree.specs.Tree.{Tx, Const, Address, Temp, FrameAddress, Binary, Load, LoadByte, Call, Service, After, Txs, no_txs, tx, Compare, Both, Not, Ts, Move, Store, Do, If, Loop, Break, Fault, Seq, Return, Stms, no_stms, stm, Function, Literal, Linear, Mark, Do', Jump, Branch, Return'}
+use Rattle.tg_tree.specs.declared.operators.Bin.TheVariants.{Add, Sub, Mul, Div, ShiftLeft, ShiftSigned, AddTrap, SubTrap, MulHigh}
+use Rattle.tg_tree.specs.declared.operators.Rel.TheVariants.{Less, Equal, Below}
+use Rattle.tg_tree.specs.Tree.{Tx, Const, Address, Temp, FrameAddress, Binary, Load, LoadByte, Call, Service, After, Txs, no_txs, tx, Compare, Both, Not, Ts, Move, Store, StoreByte, Do, If, Loop, Break, Fault, Seq, Return, Stms, no_stms, stm, Function, Literal, Linear, Mark, Do', Jump, Branch, Fault', Return'}
 use Rattle.tg_tree.specs.Running.{tree_run}
 use Rattle.tg_tree.specs.Flat.{flat_run}
 
@@ -24,7 +24,7 @@ txs [] = no_txs
 txs (x ∷ xs) = tx x (txs xs)
 
 abbrev fun : {Body : Type 0} → ℕ → List Access → ℕ → Body → Function Body
-fun label params slots body = record { label = label; params = params; slots = slots; out = 0; body = body }
+fun label params slots body = record { label = label; params = params; slots = slots; temps = 0; out = 0; body = body }
 
 abbrev temp : ℕ → Access
 temp t = InTemp (record { 0 = t })
@@ -36,13 +36,16 @@ home k = Binary Sub FrameAddress (Const (4 * (k + 1)))
 abbrev print : Tx → Ts
 print x = Do (Service 11 x)
 
--- what a run writes, and how it stops: frames of 64 bytes, a stack of 256 bytes, a heap of 8
+-- what a run writes, and how it stops: frames of so many bytes, or of 64, a stack of 256 bytes, a heap of 8
 abbrev seen : Ran → List ℕ × Stop
 seen p = (p.output, p.stop)
 
+abbrev does_in : (size : ℕ) → List (Function Ts) → List Literal → ℕ → List ℕ × Stop
+does_in size functions literals fuel =
+    seen (tree_run (record { functions = functions; literals = literals }) (λ label. size) (stack_top - 256) 8 32 (codes "xy") fuel)
+
 abbrev does : List (Function Ts) → List Literal → ℕ → List ℕ × Stop
-does functions literals fuel =
-    seen (tree_run (record { functions = functions; literals = literals }) (λ label. 64) (stack_top - 256) 8 32 (codes "xy") fuel)
+does functions literals fuel = does_in 64 functions literals fuel
 
 abbrev alone : Ts → List ℕ × Stop
 alone s = does (fun 32 [] 1 s ∷ []) [] 1
@@ -70,6 +73,20 @@ outer_variable =
 
 two_levels_out : does outer_variable [] 3 ≡ finished (8 ∷ [])
 two_levels_out = refl
+
+-- a recursive function adds its argument to a variable two levels out: the outer function hands its frame address on, and each
+-- activation of the inner one hands on what it was given
+abbrev outer_frame : Tx
+outer_frame = Load (Binary Sub (Load (home 0)) (Const 4))
+
+abbrev adds_up : List (Function Ts)
+adds_up =
+    fun 32 [] 1 (seq (Store (home 0) (Const 10) ∷ Do (Call 33 (txs (FrameAddress ∷ []))) ∷ print (Load (home 0)) ∷ Return (Const 0) ∷ [])) ∷
+    fun 33 (InFrame 0 ∷ []) 1 (seq (Do (Call 34 (txs (FrameAddress ∷ Const 3 ∷ []))) ∷ Return (Const 0) ∷ [])) ∷
+    fun 34 (InFrame 0 ∷ temp 0 ∷ []) 1 (seq (Store (Binary Sub outer_frame (Const 4)) (Binary Add (Load (Binary Sub outer_frame (Const 4))) (Temp 0)) ∷ If (Compare Less (Const 1) (Temp 0)) (Do (Call 34 (txs (Load (home 0) ∷ Binary Sub (Temp 0) (Const 1) ∷ [])))) (seq []) ∷ Return (Const 0) ∷ [])) ∷ []
+
+recursion_adds_up : does_in 48 adds_up [] 5 ≡ finished (16 ∷ [])
+recursion_adds_up = refl
 
 -- a call with six arguments
 abbrev six : List (Function Ts)
@@ -100,6 +117,34 @@ after_a_statement = refl
 overflows : alone (Do (Binary AddTrap (Const 2147483647) (Const 1))) ≡ ([], Ended Overflow)
 overflows = refl
 
+underflows : alone (Do (Binary SubTrap (Const 2147483648) (Const 1))) ≡ ([], Ended Overflow)
+underflows = refl
+
+wraps : alone (seq (print (Binary Add (Const 4294967295) (Const 3)) ∷ Return (Const 0) ∷ [])) ≡ finished (2 ∷ [])
+wraps = refl
+
+-- a shift uses the low five bits of its right operand
+shifts : alone (seq (print (Binary ShiftLeft (Const 3) (Const 33)) ∷ print (Binary ShiftSigned (Const 4294967288) (Const 1)) ∷ Return (Const 0) ∷ [])) ≡ finished (6 ∷ 252 ∷ [])
+shifts = refl
+
+-- the two orders
+orders : alone (seq (If (Both (Compare Less (Const 4294967295) (Const 0)) (Not (Compare Below (Const 4294967295) (Const 0)))) (print (Const 1)) (print (Const 2)) ∷ Return (Const 0) ∷ [])) ≡ finished (1 ∷ [])
+orders = refl
+
+-- a byte is stored into a literal, and into a slot that holds a word
+byte_stored : does (fun 32 [] 1 (seq (StoreByte (Address 40) (Const 360) ∷ Do (Service 4 (Address 40)) ∷ Store (home 0) (Const 258) ∷ StoreByte (Binary Add (home 0) (Const 1)) (Const 3) ∷ print (LoadByte (Binary Add (home 0) (Const 1))) ∷ print (Load (home 0)) ∷ Return (Const 0) ∷ [])) ∷ []) (record { label = 40; text = codes "abc" } ∷ []) 1 ≡ finished (codes "hbc" ++ 3 ∷ 2 ∷ [])
+byte_stored = refl
+
+-- the other services: two exits, and a number that no service has
+exits_with_a_code : alone (Do (Service 17 (Const 7))) ≡ ([], Ended (Exit (pos 7)))
+exits_with_a_code = refl
+
+exits : alone (seq (print (Const 1) ∷ Do (Service 10 (Const 9)) ∷ [])) ≡ finished (1 ∷ [])
+exits = refl
+
+no_service : alone (Do (Service 8 (Const 0))) ≡ ([], Ended (BadService 8))
+no_service = refl
+
 product_above : alone (seq (print (Binary MulHigh (Const 65536) (Const 65536)) ∷ Return (Const 0) ∷ [])) ≡ finished (1 ∷ [])
 product_above = refl
 
@@ -120,11 +165,35 @@ divides_by_zero = refl
 loads_from_nowhere : alone (Return (Load (Const 4))) ≡ ([], Wrong)
 loads_from_nowhere = refl
 
+loads_above_its_slots : alone (Return (Load FrameAddress)) ≡ ([], Wrong)
+loads_above_its_slots = refl
+
+loads_a_byte_from_nowhere : alone (Return (LoadByte (Const 4))) ≡ ([], Wrong)
+loads_a_byte_from_nowhere = refl
+
+loads_behind_the_heap : alone (seq (Move 0 (Service 9 (Const 4)) ∷ Return (Load (Binary Add (Temp 0) (Const 4))) ∷ [])) ≡ ([], Wrong)
+loads_behind_the_heap = refl
+
+text_without_an_end : does (fun 32 [] 0 (Do (Service 4 (Address 40))) ∷ []) (record { label = 40; text = codes "abcd" } ∷ []) 1 ≡ ([], Wrong)
+text_without_an_end = refl
+
 loads_from_no_multiple_of_4 : does (fun 32 [] 0 (Return (Load (Binary Add (Address 40) (Const 1)))) ∷ []) (record { label = 40; text = codes "abcdefgh" } ∷ []) 1 ≡ ([], Wrong)
 loads_from_no_multiple_of_4 = refl
 
 slot_not_stored_to : alone (Return (Load (home 0))) ≡ ([], Wrong)
 slot_not_stored_to = refl
+
+stores_to_nowhere : alone (Store (Const 4) (Const 0)) ≡ ([], Wrong)
+stores_to_nowhere = refl
+
+stores_a_byte_to_nowhere : alone (StoreByte (Const 4) (Const 0)) ≡ ([], Wrong)
+stores_a_byte_to_nowhere = refl
+
+stores_to_no_multiple_of_4 : does (fun 32 [] 0 (Store (Binary Add (Address 40) (Const 2)) (Const 0)) ∷ []) (record { label = 40; text = codes "abcdefgh" } ∷ []) 1 ≡ ([], Wrong)
+stores_to_no_multiple_of_4 = refl
+
+stores_a_byte_to_an_unset_slot : alone (StoreByte (home 0) (Const 0)) ≡ ([], Wrong)
+stores_a_byte_to_an_unset_slot = refl
 
 stores_to_no_slot : alone (Store (home 1) (Const 0)) ≡ ([], Wrong)
 stores_to_no_slot = refl
@@ -135,12 +204,25 @@ calls_no_function = refl
 one_argument_too_many : does (fun 32 [] 0 (Do (Call 33 (txs (Const 1 ∷ [])))) ∷ fun 33 [] 0 (Return (Const 0)) ∷ []) [] 3 ≡ ([], Wrong)
 one_argument_too_many = refl
 
+one_argument_too_few : does (fun 32 [] 0 (Do (Call 33 no_txs)) ∷ fun 33 (temp 0 ∷ []) 0 (Return (Const 0)) ∷ []) [] 3 ≡ ([], Wrong)
+one_argument_too_few = refl
+
+goes_on_behind_its_end : alone (print (Const 1)) ≡ (1 ∷ [], Wrong)
+goes_on_behind_its_end = refl
+
+leaves_no_loop : alone (Loop (Break 1)) ≡ ([], Wrong)
+leaves_no_loop = refl
+
 no_literal : alone (Do (Address 40)) ≡ ([], Wrong)
 no_literal = refl
 
 -- a slot of a function that has returned is closed
 slot_of_a_closed_activation : does (fun 32 [] 0 (seq (Move 0 (Call 33 no_txs) ∷ Return (Load (Temp 0)) ∷ [])) ∷ fun 33 [] 1 (seq (Store (home 0) (Const 1) ∷ Return (home 0) ∷ [])) ∷ []) [] 3 ≡ ([], Wrong)
 slot_of_a_closed_activation = refl
+
+-- a slot is unset again in the next activation, and a temporary too
+slot_of_an_earlier_activation : does (fun 32 [] 0 (seq (Do (Call 33 (txs (Const 1 ∷ []))) ∷ Return (Call 33 (txs (Const 0 ∷ []))) ∷ [])) ∷ fun 33 (temp 0 ∷ []) 1 (seq (If (Compare Equal (Temp 0) (Const 1)) (seq (Store (home 0) (Const 1) ∷ Move 1 (Const 1) ∷ [])) (print (Load (home 0))) ∷ Return (Const 0) ∷ [])) ∷ []) [] 3 ≡ ([], Wrong)
+slot_of_an_earlier_activation = refl
 
 -- flat code: a loop that counts
 abbrev flat_counts : List Linear
@@ -156,3 +238,19 @@ flat_loop_counts = refl
 
 flat_wants_more : flat_does 4 ≡ (0 ∷ 1 ∷ 2 ∷ [], WantsFuel)
 flat_wants_more = refl
+
+-- a fault, an end that is missing, and a mark that is missing
+abbrev flat_alone : List Linear → List ℕ × Stop
+flat_alone code = seen (flat_run (record { functions = fun 32 [] 0 code ∷ []; literals = [] }) (λ label. 64) (stack_top - 256) 8 32 [] 3)
+
+flat_faults : flat_alone (Do' (print (Const 1)) ∷ Fault' 3 ∷ []) ≡ (1 ∷ [], Ended (Broken 3))
+flat_faults = refl
+
+flat_goes_on_behind_its_end : flat_alone (Mark 1 ∷ []) ≡ ([], Wrong)
+flat_goes_on_behind_its_end = refl
+
+flat_jumps_to_no_mark : flat_alone (Jump 1 ∷ []) ≡ ([], Wrong)
+flat_jumps_to_no_mark = refl
+
+flat_recursion : seen (flat_run (record { functions = fun 32 [] 0 (Do' (Move 0 (Call 33 (txs (Const 3 ∷ [])))) ∷ Do' (print (Temp 0)) ∷ Return' (Const 0) ∷ []) ∷ fun 33 (temp 0 ∷ []) 0 (Branch Equal (Temp 0) (Const 0) 1 ∷ Do' (Move 1 (Call 33 (txs (Binary Sub (Temp 0) (Const 1) ∷ [])))) ∷ Return' (Binary Add (Temp 1) (Temp 0)) ∷ Mark 1 ∷ Return' (Const 0) ∷ []) ∷ []; literals = [] }) (λ label. 8) (stack_top - 256) 8 32 [] 6) ≡ finished (6 ∷ [])
+flat_recursion = refl

@@ -1,5 +1,5 @@
 -- A run of a flat expression is its value.
-use Rattle.std.proofs.Common.{◌≡◌, ℕ, zero, suc, ◌+◌, ◌≤◌, List, Option, Some, None, refl, sym, ap, ◌∙◌, arith, subst}
+use Rattle.std.proofs.Common.{◌≡◌, ℕ, ◌+◌, List, Option, Some, None, refl, sym, ap, ◌∙◌, arith, subst}
 use Rattle.tg_runs.specs.Runs.{Run}
 use Rattle.tg_runs.specs.Ran.{Ran, Wrong, stops, works}
 use Rattle.tg_tree.specs.Tree.{Tx, Const, Address, Temp, FrameAddress, Binary, Load, LoadByte, Call, Service, After, Literal}

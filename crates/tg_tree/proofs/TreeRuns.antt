@@ -1,82 +1,92 @@
--- Runs of trees: each is its own step, and one that is over stays so with more fuel.
-use Rattle.std.proofs.Common.{◌≡◌, ℕ, zero, suc, ◌<◌, ◌≤◌, List, [], refl, sym, ap, ◌∙◌, arith, subst}
-use Rattle.std.specs.Prelude.{pos}
-use Rattle.tg_base.specs.declared.ends.RunEnd.TheVariants.{Exit}
+-- Runs of trees: each is its own step, goes on with more fuel alone, and reads nothing but what is set.
+use Rattle.std.proofs.Common.{◌≡◌, ℕ, zero, suc, ◌+◌, ◌<◌, ◌≤◌, List, [], Option, Some, Bool, true, refl, sym, ap, ◌∙◌, arith, subst}
+use Rattle.std.proofs.lemmas.Bool.{lt-ltb}
+use Rattle.std.specs.Prelude.{pos, nat_lt, if◌then◌else◌}
+use Rattle.tg_base.specs.declared.ends.RunEnd.TheVariants.{Exit, StackFull}
 use Rattle.tg_base.specs.State.{stack_top}
 use Rattle.tg_runs.specs.Runs.{Run, IsSameTo}
-use Rattle.tg_runs.specs.Ran.{Ran, Ended, WantsFuel, Wrong, stops, writes, works, IsOver}
-use Rattle.tg_runs.proofs.Fixpoint.{again_is, turn_same}
-use Rattle.tg_tree.specs.Tree.{Ts, Code}
+use Rattle.tg_runs.specs.Ran.{Ran, Ended, WantsFuel, Wrong, stops, IsOver, GoesOn}
+use Rattle.tg_runs.proofs.Fixpoint.{again_is}
+use Rattle.tg_tree.specs.Tree.{Ts, Function, Code}
 use Rattle.tg_tree.specs.Memory.{begin}
-use Rattle.tg_tree.specs.Meaning.{World, Back, Point}
-use Rattle.tg_tree.specs.Running.{function_of, with_fuel, body_point, enter, step, going, tree_run}
-use Rattle.tg_tree.proofs.Relating.{Related, Keeps, AlikeBack, Alike, alike, alike_down, keep_entered, keep_run}
+use Rattle.tg_tree.specs.Meaning.{World, Temps, Activation, Back, Point}
+use Rattle.tg_tree.specs.Running.{function_of, with_fuel, entered, body_point, enter, step, going, tree_run}
+use Rattle.tg_tree.specs.Holding.{TempsHoldToo, WorldHoldsToo, UnlessWrong, NextReadsNoMore}
+use Rattle.tg_tree.proofs.Relating.{Related, RelatedWorlds, RelatedTemps, Keeps, AlikeBack, Alike, alike, alike_down, keep_entered, keep_run}
+use Rattle.tg_tree.proofs.Going.{one, OneWorld, OneTemps, Same, same_keeps, IsOnward, Onward, onward_keeps}
+use Rattle.tg_tree.proofs.Filled.{Filled, filled_keeps}
 
--- the same as far as so much fuel
-abbrev pub Same : Related
-Same n c d = IsSameTo n c d
+module _ (R : Related) (W : RelatedWorlds) (T : RelatedTemps) (keeps : Keeps R W T) (code : Code Ts) (size : ℕ → ℕ) (floor room n : ℕ) (c d : Point → Run Ran) (later : (m : ℕ) → m < n → (x y : Point) → Alike R W T m x y → R m x.world (c x) (d y)) where
+  pub keep_enter : (label : ℕ) (vs : List ℕ) (top : ℕ) (back back' : Back) (w x : World) → W w x → AlikeBack R W T n back back' → R n w (enter code size floor room c label vs top back w) (enter code size floor room d label vs top back' x)
+  keep_enter label vs top back back' w x r h =
+      keep_entered R W T keeps n size floor _ _
+      (λ m lt s a b b' w1 x1 t1 u1 r1 s1 k. later m lt (body_point s a b w1 t1) (body_point s a b' x1 u1) (alike s a _ _ b b' _ _ w1 x1 t1 u1 (λ v w2 x2 t2 u2 r2 s2. keeps.stop m Wrong w2 x2 r2) k (λ w2 x2 t2 u2 r2 s2. keeps.stop m Wrong w2 x2 r2) r1 s1))
+      (function_of label code.functions) vs top back back' w x r h
 
-pub same_keeps : Keeps Same
-same_keeps =
-    record {
-      stop = λ n s w i le. refl;
-      write = λ n bytes c d h i le. ap (writes bytes) (h i le);
-      work = λ n k c d h i le. ap (works k) (h i le);
-      fuel = λ n w c d h. turn_same (stops w.input WantsFuel) n c d h;
-      down = λ m n c d le h i li. h i (omega arith);
-    }
+  keep_head : (x y : Point) → Alike R W T n x y → R n x.world (with_fuel x.world (c x)) (with_fuel y.world (d y))
+  keep_head x y (alike s a o o' b b' g g' w v t u h k l r q) =
+      keeps.fuel n w v _ _ r (λ m lt. later m lt _ _ (alike_down R W T keeps m n _ _ (omega arith) (alike s a o o' b b' g g' w v t u h k l r q)))
 
--- what is over is the same with more fuel
-abbrev pub Longer : Related
-Longer n c d = (i j : ℕ) → i ≤ n → i ≤ j → IsOver (c i).stop → d j ≡ c i
+  pub keep_step : (x y : Point) → Alike R W T n x y → R n x.world (step code size floor room c x) (step code size floor room d y)
+  keep_step x y (alike s a o o' b b' g g' w v t u h k l r q) =
+      keep_run R W T keeps n room code.literals (enter code size floor room c) (enter code size floor room d) _ _ keep_enter keep_head s a o o' b b' g g' h k l w v t u r q
 
-longer_fuel : (n : ℕ) (w : World) (c d : Run Ran) → ((m : ℕ) → m < n → Longer m c d) → Longer n (with_fuel w c) (with_fuel w d)
-longer_fuel n w c d h zero j le lt o = absurd o
-longer_fuel n w c d h (suc i) zero le lt o = absurd (omega arith)
-longer_fuel n w c d h (suc i) (suc j) le lt o = h i (omega arith) i j (omega arith) (omega arith) o
+pub same_alike : (n : ℕ) (x : Point) → Alike Same OneWorld OneTemps n x x
+same_alike n x =
+    alike x.statement x.activation x.out x.out x.back x.back x.next x.next x.world x.world x.temps x.temps (λ v w y t u r s. same_out n x.out v w y t u r s) (λ v w y r. same_back n x.back v w y r) (λ w y t u r s. same_next n x.next w y t u r s) (one x.world) (one x.temps)
+  where
+    same_out : (n : ℕ) (out : ℕ → World → Temps → Run Ran) (v : ℕ) (w y : World) (t u : Temps) → OneWorld w y → OneTemps t u → IsSameTo n (out v w t) (out v y u)
+    same_out n out v w y t u (one p) (one q) = λ i le. refl
 
-pub longer_keeps : Keeps Longer
-longer_keeps =
-    record {
-      stop = λ n s w i j le lt o. refl;
-      write = λ n bytes c d h i j le lt o. ap (writes bytes) (h i j le lt o);
-      work = λ n k c d h i j le lt o. ap (works k) (h i j le lt o);
-      fuel = longer_fuel;
-      down = λ m n c d le h i j li lj o. h i j (omega arith) lj o;
-    }
+    same_back : (n : ℕ) (back : Back) (v : ℕ) (w y : World) → OneWorld w y → IsSameTo n (back v w) (back v y)
+    same_back n back v w y (one p) = λ i le. refl
 
-module _ (R : Related) (keeps : Keeps R) (code : Code Ts) (size : ℕ → ℕ) (floor room n : ℕ) (c d : Point → Run Ran) (later : (m : ℕ) → m < n → (x y : Point) → Alike R m x y → R m (c x) (d y)) where
-  pub keep_enter : (label : ℕ) (vs : List ℕ) (top : ℕ) (back back' : Back) (w : World) → AlikeBack R n back back' → R n (enter code size floor room c label vs top back w) (enter code size floor room d label vs top back' w)
-  keep_enter label vs top back back' w h =
-      keep_entered R keeps n size floor _ _
-      (λ m lt s a b b' w1 t1 k. later m lt (body_point s a b w1 t1) (body_point s a b' w1 t1) (alike s a _ _ b b' _ _ w1 t1 (λ v w2 t2. keeps.stop m Wrong w2) k (λ w2 t2. keeps.stop m Wrong w2)))
-      (function_of label code.functions) vs top back back' w h
-
-  keep_head : (x y : Point) → Alike R n x y → R n (with_fuel x.world (c x)) (with_fuel y.world (d y))
-  keep_head x y (alike s a o o' b b' g g' w t h k l) =
-      keeps.fuel n w _ _ (λ m lt. later m lt _ _ (alike_down R keeps m n _ _ (omega arith) (alike s a o o' b b' g g' w t h k l)))
-
-  pub keep_step : (x y : Point) → Alike R n x y → R n (step code size floor room c x) (step code size floor room d y)
-  keep_step x y (alike s a o o' b b' g g' w t h k l) =
-      keep_run R keeps n room code.literals (enter code size floor room c) (enter code size floor room d) _ _ keep_enter keep_head s a o o' b b' g g' h k l w t
-
-pub same_alike : (n : ℕ) (x : Point) → Alike Same n x x
-same_alike n x = alike x.statement x.activation x.out x.out x.back x.back x.next x.next x.world x.temps (λ v w t i le. refl) (λ v w i le. refl) (λ w t i le. refl)
+    same_next : (n : ℕ) (next : World → Temps → Run Ran) (w y : World) (t u : Temps) → OneWorld w y → OneTemps t u → IsSameTo n (next w t) (next y u)
+    same_next n next w y t u (one p) (one q) = λ i le. refl
 
 module _ (code : Code Ts) (size : ℕ → ℕ) (floor room : ℕ) where
-  pub trees_step : (p : Point) (n : ℕ) → going code size floor room p n ≡ step code size floor room (going code size floor room) p n
-  trees_step p n =
-      again_is (stops [] WantsFuel) (step code size floor room) (Alike Same)
-      (record { alike = same_alike; down = λ m k x y le h. alike_down Same same_keeps m k x y le h })
-      (λ k c d h x y r. keep_step Same same_keeps code size floor room k c d h x y r) p n
+  abbrev goes : Point → Run Ran
+  goes = going code size floor room
 
-  longer_from : (n m : ℕ) → m < n → (x y : Point) → Alike Longer m x y → Longer m (going code size floor room x) (going code size floor room y)
-  longer_from zero m lt x y r = λ i j li lj o. absurd (omega arith)
-  longer_from (suc n) m lt x y r = λ i j li lj o.
-      let h = keep_step Longer longer_keeps code size floor room m (going code size floor room) (going code size floor room) (λ p pm. longer_from n p (omega arith)) x y r in
-      let e = trees_step x i in
-      trees_step y j ∙ (h i j li lj (subst (λ q. IsOver q.stop) e o) ∙ sym e)
+  pub trees_step : (p : Point) (n : ℕ) → goes p n ≡ step code size floor room goes p n
+  trees_step p n =
+      again_is (stops [] WantsFuel) (step code size floor room) (Alike Same OneWorld OneTemps)
+      (record { alike = same_alike; down = λ m k x y le h. alike_down Same OneWorld OneTemps same_keeps m k x y le h })
+      (λ k c d h x y r. keep_step Same OneWorld OneTemps same_keeps code size floor room k c d h x y r) p n
+
+  onward_from : (n m : ℕ) → m < n → (x y : Point) → Alike Onward OneWorld OneTemps m x y → Onward m x.world (goes x) (goes y)
+  onward_from zero m lt x y r = λ j i lj li. absurd (omega arith)
+  onward_from (suc n) m lt x y r = λ j i lj li.
+      let h = keep_step Onward OneWorld OneTemps onward_keeps code size floor room m goes goes (λ k km. onward_from n k (omega arith)) x y r in
+      subst (λ p. IsOnward x.world p (goes y j)) (sym (trees_step x i)) (subst (λ q. IsOnward x.world (step code size floor room goes x i) q) (sym (trees_step y j)) (h j i lj li))
+
+  trees_onward : (body : ℕ) (input : List ℕ) (i j : ℕ) → i ≤ j → IsOnward (record { memory = begin code.literals; input = input }) (tree_run code size floor room body input i) (tree_run code size floor room body input j)
+  trees_onward body input i j le =
+      keep_enter Onward OneWorld OneTemps onward_keeps code size floor room j goes goes (λ m lt. onward_from j m lt) body [] stack_top _ _ (record { memory = begin code.literals; input = input }) _ (one _) (λ v w x r. onward_keeps.stop j (Ended (Exit (pos 0))) w x r) j i (omega arith) le
 
   pub trees_stay_over : (body : ℕ) (input : List ℕ) (i j : ℕ) → i ≤ j → IsOver (tree_run code size floor room body input i).stop → tree_run code size floor room body input j ≡ tree_run code size floor room body input i
-  trees_stay_over body input i j le o =
-      keep_enter Longer longer_keeps code size floor room i (going code size floor room) (going code size floor room) (λ m lt. longer_from i m lt) body [] stack_top _ _ (record { memory = begin code.literals; input = input }) (λ v w. longer_keeps.stop i (Ended (Exit (pos 0))) w) i j (omega arith) le o
+  trees_stay_over body input i j le o = (trees_onward body input i j le).over o
+
+  pub trees_only_go_on : (body : ℕ) (input : List ℕ) (i j : ℕ) → i ≤ j → GoesOn (tree_run code size floor room body input i) (tree_run code size floor room body input j)
+  trees_only_go_on body input i j le = (trees_onward body input i j le).on
+
+  filled_from : (n m : ℕ) → m < n → (x y : Point) → Alike Filled WorldHoldsToo TempsHoldToo m x y → Filled m x.world (goes x) (goes y)
+  filled_from zero m lt x y r = λ i le ne. absurd (omega arith)
+  filled_from (suc n) m lt x y r = λ i le ne.
+      let h = keep_step Filled WorldHoldsToo TempsHoldToo filled_keeps code size floor room m goes goes (λ k km. filled_from n k (omega arith)) x y r in
+      let e = trees_step x i in
+      trees_step y i ∙ (h i le (λ z. ne (ap (λ p. p.stop) e ∙ z)) ∙ sym e)
+
+  pub trees_read_no_more : (p : Point) (x : World) (u : Temps) → NextReadsNoMore p → WorldHoldsToo p.world x → TempsHoldToo p.temps u → UnlessWrong (goes p) (goes (record p { world = x; temps = u }))
+  trees_read_no_more p x u h hw ht n ne =
+      filled_from (suc n) n (omega arith) p (record p { world = x; temps = u })
+      (alike p.statement p.activation p.out p.out p.back p.back p.next p.next p.world x p.temps u (λ k w y t s r q i le. h.out k w y t s r q i) (λ v w y r i le. h.back v w y r i) (λ w y t s r q i le. h.next w y t s r q i) hw ht)
+      n (omega arith) ne
+
+-- a call whose frame reaches below the floor
+full_if : (b : Bool) (p q : Run Ran) (n : ℕ) → b ≡ true → (if b then p else q) n ≡ p n
+full_if b p q n e = ap (λ z. (if z then p else q) n) e
+
+pub fills_stack : {Body : Type 0} (size : ℕ → ℕ) (floor : ℕ) (body : Body → Activation → Back → World → Temps → Run Ran) (found : Option (Function Body)) (f : Function Body) (vs : List ℕ) (top : ℕ) (back : Back) (w : World) (n : ℕ) → found ≡ Some f → top < floor + size f.label → entered size floor body found vs top back w n ≡ stops w.input (Ended StackFull)
+fills_stack size floor body found f vs top back w n e lt =
+    ap (λ o. entered size floor body o vs top back w n) e ∙ full_if (nat_lt top (floor + size f.label)) _ _ n (lt-ltb top (floor + size f.label) lt)

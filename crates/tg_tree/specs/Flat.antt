@@ -40,7 +40,7 @@ module _ (code : Code (List Linear)) (size : ℕ → ℕ) (floor room : ℕ) whe
     -- no loop and no break stands in flat code
     abbrev pub run_flat : List Linear → World → Temps → Run Ran
     run_flat [] w temps = wrong w
-    run_flat (Mark m ∷ rest) w temps = run_flat rest w temps
+    run_flat (Mark m ∷ rest) w temps = charged statement_units (run_flat rest w temps)
     run_flat (Do' s ∷ rest) w temps =
         run room code.literals (enter_flat later) (λ q. wrong q.world) s a (λ k w1 t1. wrong w1) back (λ w1 t1. run_flat rest w1 t1) w temps
     run_flat (Jump m ∷ rest) w temps = charged statement_units (jump_to (behind m whole) w temps)
@@ -48,13 +48,16 @@ module _ (code : Code (List Linear)) (size : ℕ → ℕ) (floor room : ℕ) whe
         charged statement_units (value room code.literals (enter_flat later) (λ q. wrong q.world) x a (λ k w1 t1. wrong w1) back (λ u w1 t1.
         value room code.literals (enter_flat later) (λ q. wrong q.world) y a (λ k w2 t2. wrong w2) back (λ v w2 t2.
         if holds rel u v then jump_to (behind m whole) w2 t2 else run_flat rest w2 t2) w1 t1) w temps)
-    run_flat (Fault' n ∷ rest) w temps = over (Ended (Break n)) w
+    run_flat (Fault' n ∷ rest) w temps = charged statement_units (over (Ended (Break n)) w)
     run_flat (Return' x ∷ rest) w temps =
         charged statement_units (value room code.literals (enter_flat later) (λ q. wrong q.world) x a (λ k w1 t1. wrong w1) back (λ v w1 t1. back v w1) w temps)
 
   abbrev pub flat_step : (FlatPoint → Run Ran) → FlatPoint → Run Ran
   flat_step later p = run_flat later p.whole p.activation p.back p.rest p.world p.temps
 
+  abbrev pub flat_going : FlatPoint → Run Ran
+  flat_going = again (stops [] WantsFuel) flat_step
+
   abbrev pub flat_run : (body : ℕ) → (input : List ℕ) → Run Ran
   flat_run body input =
-      enter_flat (again (stops [] WantsFuel) flat_step) body [] stack_top (λ v w. over (Ended (Exit (pos 0))) w) (record { memory = begin code.literals; input = input })
+      enter_flat flat_going body [] stack_top (λ v w. over (Ended (Exit (pos 0))) w) (record { memory = begin code.literals; input = input })

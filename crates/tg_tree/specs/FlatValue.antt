@@ -2,7 +2,7 @@
 use Rattle.std.specs.Prelude.{ℕ, ◌+◌, ◌≡◌, ◌≤◌, List, Option, Some, None}
 use Rattle.tg_runs.specs.Runs.{Run}
 use Rattle.tg_runs.specs.Ran.{Ran, Wrong, stops, works}
-use Rattle.tg_tree.specs.Tree.{Tx, Const, Address, Temp, FrameAddress, Binary, Load, LoadByte, Call, Service, After, Literal}
+use Rattle.tg_tree.specs.Tree.{Tx, Const, Address, Temp, FrameAddress, Binary, Load, LoadByte, Literal}
 use Rattle.tg_tree.specs.Operators.{Given, word, stops_by, operate}
 use Rattle.tg_tree.specs.Memory.{Memory, load, load_byte, literal_address}
 use Rattle.tg_tree.specs.Units.{expression_units}

@@ -9,3 +9,7 @@ pub mod Flat
 pub mod Shapes
 pub mod Laws
 pub mod FlatValue
+pub mod Named
+pub mod FrameSizes
+pub mod Sizes
+pub mod Holding

@@ -12,7 +12,7 @@ use Rattle.tg_tree.specs.Tree as tree
 use Rattle.tg_tree.specs.Tree.{Tx, Txs, Cond, Ts, Stms, Literal}
 use Rattle.tg_tree.specs.Operators.{Given, word, stops_by, operate, holds}
 use Rattle.tg_tree.specs.Memory.{Memory, load, load_byte, store, store_byte, literal_address}
-use Rattle.tg_tree.specs.Units.{expression_units, statement_units, call_units}
+use Rattle.tg_tree.specs.Units.{expression_units, condition_units, statement_units, call_units}
 
 -- what all activations share: memory, and the input that is left
 pub record World : Type 0 where
@@ -60,9 +60,12 @@ charged k c n = works k (c n)
 abbrev pub written : List ℕ → Run Ran → Run Ran
 written bytes c n = writes bytes (c n)
 
--- one expression, and one statement
+-- one expression, one condition, and one statement
 abbrev pub paid : Run Ran → Run Ran
 paid c = charged expression_units c
+
+abbrev pub tested : Run Ran → Run Ran
+tested c = charged condition_units c
 
 abbrev pub stepped : Run Ran → Run Ran
 stepped c = charged statement_units c
@@ -166,10 +169,10 @@ module _ (room : ℕ) (literals : List Literal) (enter : ℕ → List ℕ → �
     -- a condition, and what comes where it holds and where it doesn't
     pub test : Cond → Activation → Out → Back → (yes' no' : Next) → World → Temps → Run Ran
     test (tree.Compare rel x y) a out back yes' no' w temps =
-        value x a out back (λ u w1 t1. value y a out back (λ v w2 t2. if holds rel u v then yes' w2 t2 else no' w2 t2) w1 t1) w temps
-    test (tree.Not c) a out back yes' no' w temps = test c a out back no' yes' w temps
-    test (tree.Both c d) a out back yes' no' w temps = test c a out back (λ w1 t1. test d a out back yes' no' w1 t1) no' w temps
-    test (tree.Either c d) a out back yes' no' w temps = test c a out back yes' (λ w1 t1. test d a out back yes' no' w1 t1) w temps
+        tested (value x a out back (λ u w1 t1. value y a out back (λ v w2 t2. if holds rel u v then yes' w2 t2 else no' w2 t2) w1 t1) w temps)
+    test (tree.Not c) a out back yes' no' w temps = tested (test c a out back no' yes' w temps)
+    test (tree.Both c d) a out back yes' no' w temps = tested (test c a out back (λ w1 t1. test d a out back yes' no' w1 t1) no' w temps)
+    test (tree.Either c d) a out back yes' no' w temps = tested (test c a out back yes' (λ w1 t1. test d a out back yes' no' w1 t1) w temps)
 
     pub run : Ts → Activation → Out → Back → Next → World → Temps → Run Ran
     run (tree.Move i x) a out back next w temps = stepped (value x a out back (λ v w1 t1. next w1 (set_temp i v t1)) w temps)

@@ -62,6 +62,7 @@ plain_fragment f = record {
   label = f.frame.label.0;
   params = f.frame.params;
   slots = f.frame.slots;
+  temps = f.frame.temps;
   out = f.frame.out;
   body = plain_ts f.body;
 }

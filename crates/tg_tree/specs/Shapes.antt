@@ -1,6 +1,7 @@
 -- The shapes of trees that passes ask for and give.
-use Rattle.std.specs.Prelude.{ℕ, ◌+◌, ◌<◌}
-use Rattle.tg_tree.specs.Tree.{Tx, Const, Address, Temp, FrameAddress, Binary, Load, LoadByte, Call, Service, After, Txs, no_txs, tx, Cond, Compare, Not, Both, Either, Ts, Move, Store, StoreByte, Do, If, Loop, Break, Fault, Seq, Return, Stms, no_stms, stm}
+use Rattle.std.specs.Prelude.{ℕ, ◌+◌, ◌<◌, ◌≢◌, List, [], ◌∷◌}
+use Rattle.std.specs.List.{Contains, AllPairs}
+use Rattle.tg_tree.specs.Tree.{Tx, Const, Address, Temp, FrameAddress, Binary, Load, LoadByte, Call, Service, After, Txs, no_txs, tx, Cond, Compare, Not, Both, Either, Ts, Move, Store, StoreByte, Do, If, Loop, Break, Fault, Seq, Return, Stms, no_stms, stm, Linear, Mark, Do', Jump, Branch, Fault', Return'}
 
 -- each break stands inside more loops than it leaves, counted from so many around the tree
 abbrev mutual
@@ -87,3 +88,64 @@ IsFlatStatement (Store x y) = IsFlat x × IsFlat y
 IsFlatStatement (StoreByte x y) = IsFlat x × IsFlat y
 IsFlatStatement (Do x) = IsFlatSide x
 IsFlatStatement _ = ⊥
+
+-- Canonical statements: each expression is flat but for a call or service that is a whole right side.
+abbrev pub IsFlatCond : Cond → Type 0
+IsFlatCond (Compare _ x y) = IsFlat x × IsFlat y
+IsFlatCond (Not c) = IsFlatCond c
+IsFlatCond (Both c d) = IsFlatCond c × IsFlatCond d
+IsFlatCond (Either c d) = IsFlatCond c × IsFlatCond d
+
+abbrev mutual
+  pub IsCanonical : Ts → Type 0
+  IsCanonical (If c s t) = IsFlatCond c × IsCanonical s × IsCanonical t
+  IsCanonical (Loop s) = IsCanonical s
+  IsCanonical (Break _) = Unit {0}
+  IsCanonical (Fault _) = Unit {0}
+  IsCanonical (Seq ss) = AreCanonical ss
+  IsCanonical (Return x) = IsFlat x
+  IsCanonical (Move t x) = IsFlatStatement (Move t x)
+  IsCanonical (Store x y) = IsFlatStatement (Store x y)
+  IsCanonical (StoreByte x y) = IsFlatStatement (StoreByte x y)
+  IsCanonical (Do x) = IsFlatStatement (Do x)
+
+  pub AreCanonical : Stms → Type 0
+  AreCanonical no_stms = Unit {0}
+  AreCanonical (stm s ss) = IsCanonical s × AreCanonical ss
+
+-- Flat code: its statements and expressions are flat.
+abbrev pub IsFlatCode : List Linear → Type 0
+IsFlatCode [] = Unit {0}
+IsFlatCode (Mark _ ∷ rest) = IsFlatCode rest
+IsFlatCode (Do' s ∷ rest) = IsFlatStatement s × IsFlatCode rest
+IsFlatCode (Jump _ ∷ rest) = IsFlatCode rest
+IsFlatCode (Branch _ x y _ ∷ rest) = IsFlat x × IsFlat y × IsFlatCode rest
+IsFlatCode (Fault' _ ∷ rest) = IsFlatCode rest
+IsFlatCode (Return' x ∷ rest) = IsFlat x × IsFlatCode rest
+
+-- the marks that stand in it, and those that it goes to
+abbrev pub marks : List Linear → List ℕ
+marks [] = []
+marks (Mark m ∷ rest) = m ∷ marks rest
+marks (_ ∷ rest) = marks rest
+
+abbrev pub targets : List Linear → List ℕ
+targets [] = []
+targets (Jump m ∷ rest) = m ∷ targets rest
+targets (Branch _ _ _ m ∷ rest) = m ∷ targets rest
+targets (_ ∷ rest) = targets rest
+
+-- the last element doesn't go on to a next one
+abbrev pub EndsCode : List Linear → Type 0
+EndsCode [] = ⊥
+EndsCode (Jump _ ∷ []) = Unit {0}
+EndsCode (Fault' _ ∷ []) = Unit {0}
+EndsCode (Return' _ ∷ []) = Unit {0}
+EndsCode (_ ∷ []) = ⊥
+EndsCode (_ ∷ e ∷ rest) = EndsCode (e ∷ rest)
+
+-- flat code whose marks differ, and that goes to none but its own
+pub record IsWellMarked (code : List Linear) : Type 0 where
+  pub apart : AllPairs (λ a b. a ≢ b) (marks code)
+  pub there : (m : ℕ) → Contains (targets code) m → Contains (marks code) m
+  pub last : EndsCode code

@@ -5,7 +5,11 @@ use Rattle.std.specs.Prelude.{ℕ}
 abbrev pub expression_units : ℕ
 expression_units = 8
 
--- for each statement, with its jumps
+-- for each condition
+abbrev pub condition_units : ℕ
+condition_units = 8
+
+-- for each statement, with its jumps, and for each element of flat code
 abbrev pub statement_units : ℕ
 statement_units = 8
 

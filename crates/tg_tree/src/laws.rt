@@ -1,19 +1,46 @@
 ghost use Rattle.tg_tree.specs.FlatValue.{FlatRunsByValue};
-ghost use Rattle.tg_tree.specs.Laws.{TreesStep, TreesStayOver, FlatCodeSteps, FlatCodeStaysOver};
+ghost use Rattle.tg_tree.specs.Laws.{
+  TreesStep,
+  TreesStayOver,
+  TreesOnlyGoOn,
+  FlatCodeSteps,
+  FlatCodeStaysOver,
+  FlatCodeOnlyGoesOn,
+  TreesReadNoMore,
+  FlatCodeReadsNoMore,
+  TreesFillStack,
+  FlatCodeFillsStack,
+};
 
-/// The laws of runs of trees: each is its own step, and one that is over stays so with more fuel.
+/// The laws of runs of trees: each is its own step, one that is over stays so with more fuel, and any other goes on.
 pub fn trees_run()
     ensures step { TreesStep }
     ensures over { TreesStayOver }
+    ensures on { TreesOnlyGoOn }
 {}
 
 /// The same laws of runs of flat code.
 pub fn flat_code_runs()
     ensures step { FlatCodeSteps }
     ensures over { FlatCodeStaysOver }
+    ensures on { FlatCodeOnlyGoesOn }
 {}
 
 /// The law that a run of a flat expression is its value, with the units of work of its expressions.
 pub fn flat_expressions_run()
     ensures { FlatRunsByValue }
+{}
+
+/// The law that what was never stored doesn't matter: a run that doesn't go wrong is the same whatever temporaries hold
+/// that aren't set, slots that weren't stored to since their activation began, and memory outside the statics, the
+/// taken heap and the slots of open activations.
+pub fn nothing_else_is_read()
+    ensures trees { TreesReadNoMore }
+    ensures flat { FlatCodeReadsNoMore }
+{}
+
+/// The law that the stack is full at the very call whose frame reaches below its floor.
+pub fn full_stack_ends_the_call()
+    ensures trees { TreesFillStack }
+    ensures flat { FlatCodeFillsStack }
 {}

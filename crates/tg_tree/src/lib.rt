@@ -10,7 +10,9 @@ mod operators;
 mod trees;
 
 pub use fragments::{Fragment, Fragments, Literal};
-pub use laws::{flat_code_runs, flat_expressions_run, trees_run};
+pub use laws::{
+    flat_code_runs, flat_expressions_run, full_stack_ends_the_call, nothing_else_is_read, trees_run,
+};
 pub use linear::Linear;
 pub use operators::{Bin, Rel};
 pub use trees::{Cond, Stms, Ts, Tx, Txs};

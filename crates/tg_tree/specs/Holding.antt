@@ -1,0 +1,39 @@
+-- What a run may read: temporaries that are set, and slots of open activations that were stored to. The second of two worlds holds at
+-- least what the first holds there.
+use Rattle.std.specs.Prelude.{◌≡◌, ◌≢◌, ℕ, List, Option, Some, None}
+use Rattle.tg_runs.specs.Runs.{Run}
+use Rattle.tg_runs.specs.Ran.{Ran, Wrong}
+use Rattle.tg_tree.specs.Memory.{Cell, Closed, Unset, Has}
+use Rattle.tg_tree.specs.Meaning.{World, Temps, Back, Point}
+
+-- where the first holds a word, the second holds the same
+pub data HoldsToo : Option ℕ → Option ℕ → Type 0 where
+  unset : (o : Option ℕ) → HoldsToo None o
+  set : (v : ℕ) → HoldsToo (Some v) (Some v)
+
+-- a slot of an open activation is one in the second too, with the word that was stored to it; anything may stand elsewhere
+pub data CellHoldsToo : Cell → Cell → Type 0 where
+  elsewhere : (c : Cell) → CellHoldsToo Closed c
+  not_stored : CellHoldsToo Unset Unset
+  stored_to : (v : ℕ) → CellHoldsToo Unset (Has v)
+  stored : (v : ℕ) → CellHoldsToo (Has v) (Has v)
+
+abbrev pub TempsHoldToo : Temps → Temps → Type 0
+TempsHoldToo t u = (i : ℕ) → HoldsToo (t i) (u i)
+
+-- two worlds with the same statics, heap and input
+pub data WorldHoldsToo : World → World → Type 0 where
+  in_stack : (statics heap input : List ℕ) (cells cells' : ℕ → Cell) → ((a : ℕ) → CellHoldsToo (cells a) (cells' a)) → WorldHoldsToo (record { memory = record { statics = statics; heap = heap; stack = cells }; input = input }) (record { memory = record { statics = statics; heap = heap; stack = cells' }; input = input })
+
+-- unless the first run goes wrong, the second is the same
+abbrev pub UnlessWrong : Run Ran → Run Ran → Type 0
+UnlessWrong c d = (n : ℕ) → (c n).stop ≢ Wrong → d n ≡ c n
+
+-- what comes next reads nothing else either
+abbrev pub BackReadsNoMore : Back → Type 0
+BackReadsNoMore back = (v : ℕ) (w x : World) → WorldHoldsToo w x → UnlessWrong (back v w) (back v x)
+
+pub record NextReadsNoMore (p : Point) : Type 0 where
+  pub out : (k : ℕ) (w x : World) (t u : Temps) → WorldHoldsToo w x → TempsHoldToo t u → UnlessWrong (p.out k w t) (p.out k x u)
+  pub back : BackReadsNoMore (p.back)
+  pub next : (w x : World) (t u : Temps) → WorldHoldsToo w x → TempsHoldToo t u → UnlessWrong (p.next w t) (p.next x u)
