@@ -1,4 +1,4 @@
-use crate::{AsmFault, assemble};
+use crate::{AsmFault, AsmRule, assemble};
 use std::alloc::Global;
 use std::process::Abort;
 use std::test::Fail;
@@ -307,26 +307,54 @@ fn images(rt: HostRuntime) -> Result<(), Fail> {
     hold(&rt, rt.alloc(), &IMAGES)
 }
 
-/// A text of a branch, so many `nop`s and a label.
-fn branching(alloc: Global, count: u32) -> Result<Vec<u8>, Fail> {
-    let mut text = b"main: beq $t0, $t1, x\n".as_slice().to_vec(alloc)?;
+/// A text of so many `nop`s between two lines.
+fn between(alloc: Global, first: &str, count: u32, last: &str) -> Result<Vec<u8>, Fail> {
+    let mut text = first.as_bytes().to_vec(alloc)?;
     for _ in 0..count {
-        text.extend_from_slice(b"nop\n")?;
+        text.extend_from_slice(b"\nnop")?;
     }
-    text.extend_from_slice(b"x: nop\nbeq $t0, $t1, x")?;
+    text.push(b'\n')?;
+    text.extend_from_slice(last.as_bytes())?;
     Ok(text)
 }
 
 #[test]
-fn reach_of_branches(rt: HostRuntime) -> Result<(), Fail> {
+fn reach_of_branches_forwards(rt: HostRuntime) -> Result<(), Fail> {
     let alloc = rt.alloc();
-    let near = assemble(alloc, &branching(alloc, 32767)?)?;
+    let near = assemble(
+        alloc,
+        &between(alloc, "main: beq $t0, $t1, x", 32767, "x: nop")?,
+    )?;
     assert_eq!(rt; near.code.as_slice().first().copied(), Some(0x11097fff));
-    let far = assemble(alloc, &branching(alloc, 32768)?);
+    let far = assemble(
+        alloc,
+        &between(alloc, "main: beq $t0, $t1, x", 32768, "x: nop")?,
+    );
     assert!(rt;
         far == Err(AsmFault::Bad {
-            rule: crate::AsmRule::A6,
+            rule: AsmRule::A6,
             line: 1
+        })
+    );
+    Ok(())
+}
+
+#[test]
+fn reach_of_branches_backwards(rt: HostRuntime) -> Result<(), Fail> {
+    let alloc = rt.alloc();
+    let near = assemble(
+        alloc,
+        &between(alloc, "main: nop", 32766, "bne $t0, $t1, main")?,
+    )?;
+    assert_eq!(rt; near.code.as_slice().last().copied(), Some(0x15098000));
+    let far = assemble(
+        alloc,
+        &between(alloc, "main: nop", 32767, "bne $t0, $t1, main")?,
+    );
+    assert!(rt;
+        far == Err(AsmFault::Bad {
+            rule: AsmRule::A6,
+            line: 32769
         })
     );
     Ok(())
