@@ -1,15 +1,14 @@
 -- A text has at most one answer besides want of memory.
-use Rattle.std.proofs.Common.{ℕ, ◌≡◌, ◌≢◌, ◌≤◌, ◌<◌, List, [], ◌∷◌, Option, refl, sym, ap, subst, ◌∙◌}
+use Rattle.std.proofs.Common.{ℕ, ◌≡◌, ◌≢◌, List, [], refl, sym, ap, subst, ◌∙◌}
 use Rattle.tg_base.specs.declared.ends.RunEnd.{RunEnd}
 use Rattle.tg_base.specs.declared.ends.RunEnd.TheVariants.{Exit, Overflow, StepLimit}
-use Rattle.tg_base.specs.State.{State, start}
 use Rattle.tg_isa.specs.declared.images.Image.{Image}
-use Rattle.tg_isa.specs.Runs.{World, Outcome, Running, Ended, run, begun}
+use Rattle.tg_isa.specs.Runs.{World, Outcome, Running, Ended}
 use Rattle.tg_syntax.specs.Tree.{Exp}
 use Rattle.tg_command.specs.declared.modes.Mode.TheVariants.{Check, Run}
 use Rattle.tg_command.specs.Commands.{Asked}
 use Rattle.tg_driver.specs.declared.answers.Answer.{Answer}
-use Rattle.tg_driver.specs.declared.answers.Answer.TheVariants.{Usage, Unreadable, Faulty, Accepted, NotBuilt, OutOfMemory, Exited, Overflowed, StepsUsedUp}
+use Rattle.tg_driver.specs.declared.answers.Answer.TheVariants.{Faulty, Accepted, NotBuilt, OutOfMemory, Exited, Overflowed, StepsUsedUp}
 use Rattle.tg_driver.specs.declared.faults.Fault.{Fault}
 use Rattle.tg_driver.specs.BuiltForm.{IsBuilt}
 use Rattle.tg_driver.specs.Images.{IsImageOf}
@@ -42,8 +41,8 @@ silent_once image heap stack steps a b p q =
     let same : outcome_of a v ≡ outcome_of b w = sym (p.ends []) ∙ q.ends [] in
     sym (end_in-outcome_of a v) ∙ ap end_in same ∙ end_in-outcome_of b w
 
-runs_once : (program : Exp) (heap stack steps : ℕ) (a b : RunEnd) → RunsTo program heap stack steps a → RunsTo program heap stack steps b → a ≡ b
-runs_once program heap stack steps a b p q =
+runs_once : (names others : List (List ℕ)) (program : Exp) (heap stack steps : ℕ) (a b : RunEnd) → RunsTo names program heap stack steps a → RunsTo others program heap stack steps b → a ≡ b
+runs_once names others program heap stack steps a b p q =
     let P : Image → Type 0 = λ i. EndsSilently i heap stack steps a in
     silent_once q.image heap stack steps a b (subst P (one_image program p.image q.image p.image_of q.image_of) p.run_ends) q.run_ends
 
@@ -93,8 +92,8 @@ one_end asked text a b p q =
     let s = p.built in
     let r = q.built in
     let one = source_once text s.names r.names s.tokens r.tokens p.program q.program s.source r.source in
-    let P : Exp → Type 0 = λ e. RunsTo e asked.heap asked.stack asked.steps a in
-    runs_once q.program asked.heap asked.stack asked.steps a b (subst P one.same p.runs) q.runs
+    let P : Exp → Type 0 = λ e. RunsTo s.names e asked.heap asked.stack asked.steps a in
+    runs_once s.names r.names q.program asked.heap asked.stack asked.steps a b (subst P one.same p.runs) q.runs
 
 by_causes : (asked : Asked) (text : List ℕ) {a b : Answer} → Cause asked text a → Cause asked text b → a ≡ b
 by_causes asked text (fault f p) (fault g q) = ap Faulty (fault_once_told text f g p q)

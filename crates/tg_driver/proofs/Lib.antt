@@ -7,6 +7,8 @@ pub mod StackValues
 pub mod StackPrograms
 pub mod SilentRuns
 pub mod OnlyLemmas
+pub mod ExitFound
+pub mod Evaluated
 pub mod ProgramRuns
 pub mod FaultPlaces
 pub mod TokenEnds

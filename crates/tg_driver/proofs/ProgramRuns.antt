@@ -16,14 +16,18 @@ use Rattle.tg_syntax.specs.declared.trees.Op.{Op}
 use Rattle.tg_syntax.specs.declared.trees.Op.TheVariants as op
 use Rattle.tg_syntax.specs.Tree.{Exp, Int, Neg, Binary, Seq, Call, exp, no_exps}
 use Rattle.tg_syntax.specs.Measures.{size as nodes}
+use Rattle.tg_meaning.specs.Values.{End}
+use Rattle.tg_meaning.specs.Direct.{evaluate}
 use Rattle.tg_driver.specs.Runnable.{IsRunnable, HasExitForm}
 use Rattle.tg_driver.specs.Values.{value, exit_value}
 use Rattle.tg_driver.specs.StackCode.{value_code, exit_code, program_code, operator_code, operands_code, result_code, negation_code, words_of}
 use Rattle.tg_driver.specs.Images.{IsImageOf}
 use Rattle.tg_driver.specs.Finishing.{end_of_value}
-use Rattle.tg_driver.specs.Causes.{RunsTo, EndsSilently, IsRunEnd, outcome_of}
+use Rattle.tg_driver.specs.Meanings.{IsEndOf, Means}
+use Rattle.tg_driver.specs.Causes.{RunsTo, Runs, EndsSilently, IsRunEnd, outcome_of}
 use Rattle.tg_driver.proofs.StackSteps.{Path}
 use Rattle.tg_driver.proofs.StackPrograms.{Finishes, program_finishes}
+use Rattle.tg_driver.proofs.Evaluated.{means_end}
 use Rattle.tg_driver.proofs.SilentRuns.{run_ends, run_goes_on, run_silent, IsSilent, goes, ends}
 
 -- an exit or an overflow
@@ -36,10 +40,6 @@ IsValueEnd _ = ⊥
 value_end : (o : Option ℕ) → IsValueEnd (end_of_value o)
 value_end (Some v) = tt
 value_end None = tt
-
-value_is_end : (o : Option ℕ) → IsRunEnd (end_of_value o)
-value_is_end (Some v) = tt
-value_is_end None = tt
 
 ended_so : (end : RunEnd) → IsValueEnd end → (w : World) → Ended end w ≡ outcome_of end w
 ended_so (Exit code) is w = refl
@@ -178,30 +178,36 @@ run_ends_so n m image heap stack t e end path at_end is enough too_few = by (cas
         subst P (sym (too_few lt)) (record { last = g.0; ends = λ input. g.1 input [] })
 
 -- the program runs to its value
-pub runs_to : (program : Exp) (image : Image) (heap stack steps : ℕ) (end : RunEnd) → HasExitForm program → nodes program ≤ 4096 → IsRoom stack → (is : IsImageOf program image) → (f : Finishes (12 * nodes program + 3) (first_state image heap stack) (end_of_value (exit_value program))) → (f.steps + 1 ≤ steps → end ≡ end_of_value (exit_value program)) → (steps < f.steps + 1 → end ≡ StepLimit) → RunsTo program heap stack steps end
-runs_to program image heap stack steps end form small room is f enough too_few =
+pub runs_to : (program : Exp) (image : Image) (heap stack steps : ℕ) (end : RunEnd) → HasExitForm program → nodes program ≤ 4096 → IsRoom stack → (is : IsImageOf program image) → (f : Finishes (12 * nodes program + 3) (first_state image heap stack) (end_of_value (exit_value program))) → (f.steps + 1 ≤ steps → end ≡ end_of_value (exit_value program)) → (steps < f.steps + 1 → end ≡ StepLimit) → Runs program heap stack steps end
+runs_to program image heap stack steps end form small room is f enough too_few names calls =
     let within = f.within in
+    let P : RunEnd → Type 0 = λ e. Means names program heap stack e in
     record {
       image = image;
       image_of = is;
       run_ends = run_ends_so steps f.steps image heap stack f.last end (end_of_value (exit_value program)) f.path f.ends (value_end (exit_value program)) enough too_few;
       needed = f.steps + 1;
       few = omega (arith, within);
-      enough = enough;
+      enough = λ le. subst P (sym (enough le)) (means_end names program heap stack calls);
       too_few = too_few;
     }
 
 -- an end of a run is an exit, an overflow, or that the steps are used up
-pub ends_of_run : (program : Exp) (heap stack steps : ℕ) (end : RunEnd) → RunsTo program heap stack steps end → IsRunEnd end
-ends_of_run program heap stack steps end r = by (cases_lt steps r.needed)
+end_is_run : (e : RunEnd) (p : End) → IsEndOf e p → IsRunEnd e
+end_is_run (Exit code) p h = tt
+end_is_run Overflow p h = tt
+end_is_run _ p h = absurd h
+
+pub ends_of_run : (names : List (List ℕ)) (program : Exp) (heap stack steps : ℕ) (end : RunEnd) → RunsTo names program heap stack steps end → IsRunEnd end
+ends_of_run names program heap stack steps end r = by (cases_lt steps r.needed)
   where
     by : (steps < r.needed) ⊎ (r.needed ≤ steps) → IsRunEnd end
-    by (inr le) = let Q : RunEnd → Type 0 = λ x. IsRunEnd x in subst Q (sym (r.enough le)) (value_is_end (exit_value program))
+    by (inr le) = end_is_run end (evaluate names program [] heap stack 0).end ((r.enough le).ends [] 0)
     by (inl lt) = let Q : RunEnd → Type 0 = λ x. IsRunEnd x in subst Q (sym (r.too_few lt)) tt
 
 -- the call of the machine that was loaded with the image
 pub record IsCallOf {I O : Type 0} (program : Exp) (heap stack steps : ℕ) (input input' : I) (out out' : O) (e : RunEnd) : Type 0 where
-  pub runs : RunsTo program heap stack steps e
+  pub runs : Runs program heap stack steps e
   pub unread : input' ≡ input
   pub unwritten : out' ≡ out
 

@@ -14,12 +14,11 @@ use Rattle.tg_command.specs.declared.modes.Mode.TheVariants.{Check, Run}
 use Rattle.tg_command.specs.Commands.{Asked, Ask, IsUsageFault}
 use Rattle.tg_driver.specs.declared.answers.Answer.{Answer}
 use Rattle.tg_driver.specs.declared.answers.Answer.TheVariants.{Usage, Unreadable, Faulty, Accepted, NotBuilt, OutOfMemory, Exited, Overflowed, StepsUsedUp}
-use Rattle.tg_driver.specs.BuiltForm.{IsBuilt}
+use Rattle.tg_driver.specs.BuiltForm.{CallsExit, IsBuilt}
 use Rattle.tg_driver.specs.Sources.{IsSourceOf, IsFaultOf}
 use Rattle.tg_driver.specs.Statuses.{Reports}
-use Rattle.tg_driver.specs.Values.{exit_value}
+use Rattle.tg_driver.specs.Meanings.{Means}
 use Rattle.tg_driver.specs.Images.{IsImageOf}
-use Rattle.tg_driver.specs.Finishing.{end_of_value}
 
 -- what a run comes to that is answered by this end: the machine goes on where its steps are used up
 abbrev pub outcome_of : RunEnd → World → Outcome
@@ -33,16 +32,20 @@ pub record EndsSilently (image : Image) (heap stack steps : ℕ) (end : RunEnd) 
       run steps (begun (start image.code image.statics image.entry heap stack) input)
       ≡ outcome_of end (record { machine = last; input = input; output = [] })
 
--- The machine runs the image of the program. It needs so many steps: with these or more it ends with the value of the
--- argument, and with fewer they are used up.
-pub record RunsTo (program : Exp) (heap stack steps : ℕ) (end : RunEnd) : Type 0 where
+-- The machine runs the image of the program. It needs so many steps: with these or more it ends as evaluation does, and with
+-- fewer they are used up.
+pub record RunsTo (names : List (List ℕ)) (program : Exp) (heap stack steps : ℕ) (end : RunEnd) : Type 0 where
   pub image : Image
   pub image_of : IsImageOf program image
   pub run_ends : EndsSilently image heap stack steps end
   pub needed : ℕ
   pub few : needed ≤ 12 * size program + 3
-  pub enough : needed ≤ steps → end ≡ end_of_value (exit_value program)
+  pub enough : needed ≤ steps → Means names program heap stack end
   pub too_few : steps < needed → end ≡ StepLimit
+
+-- so it runs, by whatever names it is of the built form
+abbrev pub Runs : (program : Exp) (heap stack steps : ℕ) (end : RunEnd) → Type 0
+Runs program heap stack steps end = (names : List (List ℕ)) → CallsExit names program → RunsTo names program heap stack steps end
 
 -- the text is a program of the built form, or one of another form
 pub record IsBuiltSource (text : List ℕ) (program : Exp) : Type 0 where
@@ -70,7 +73,7 @@ pub record IsRun (asked : Asked) (text : List ℕ) (end : RunEnd) : Type 0 where
   pub mode : asked.mode ≡ Run
   pub program : Exp
   pub built : IsBuiltSource text program
-  pub runs : RunsTo program asked.heap asked.stack asked.steps end
+  pub runs : RunsTo built.names program asked.heap asked.stack asked.steps end
 
 -- the cause of each answer to a command, by the text of its file
 abbrev pub IsDueOfText : (asked : Asked) (text : List ℕ) → Answer → Type 0

@@ -10,3 +10,4 @@ pub mod Causes
 pub mod Named
 pub mod Readings
 pub mod Telling
+pub mod Meanings

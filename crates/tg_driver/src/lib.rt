@@ -12,7 +12,7 @@ mod running;
 mod top;
 
 pub use answers::usage;
-pub use laws::one_answer;
+pub use laws::{meaning_of_built, one_answer};
 pub use top::tiger;
 
 #[cfg(test)]

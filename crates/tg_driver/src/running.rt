@@ -3,7 +3,7 @@ ghost use Rattle.tg_syntax.specs.Measures.{size};
 ghost use Rattle.tg_syntax.specs.Plain.{plain};
 ghost use Rattle.tg_command.specs.Commands.{asked_of};
 ghost use Rattle.tg_command.specs.Counts.{IsWithin, heap_limits, stack_limits, step_limits};
-ghost use Rattle.tg_driver.specs.Causes.{RunsTo};
+ghost use Rattle.tg_driver.specs.Causes.{Runs};
 ghost use Rattle.tg_driver.specs.Runnable.{HasExitForm};
 
 use crate::making::make;
@@ -26,7 +26,7 @@ pub(crate) fn run_program<I: Source, O: Sink>(
     requires steps { IsWithin step_limits command.now.steps }
     requires form { HasExitForm (plain program.now.body) }
     requires small { size (plain program.now.body) ≤ 4096 }
-    ensures runs { IfOk result (RunsTo (plain program.now.body)
+    ensures runs { IfOk result (Runs (plain program.now.body)
         command.now.heap command.now.stack command.now.steps) }
     ensures unread { input.new ≡ input.old }
     ensures unwritten { out.new ≡ out.old }

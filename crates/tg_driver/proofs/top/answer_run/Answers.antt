@@ -1,3 +1,7 @@
+use Rattle.tg_syntax.specs.Plain.{plain}
+use Rattle.tg_command.specs.Commands.{asked_of}
+use Rattle.tg_driver.proofs.AnswerLemmas.{due_of_run}
+use Rattle.tg_driver.proofs.ProgramRuns.{ends_of_run}
 use Rattle.tg_driver.proofs.TokenFacts.{source_callee, source_form}
 use Rattle.tg_driver.proofs.top.answer_run.Goals as goal
 
@@ -6,3 +10,12 @@ is_built-requires g c = let s = c.requires.source.1 in source_callee _ _ s.token
 
 pub run_program-requires-clause-form : goal.run_program-requires-clause-form
 run_program-requires-clause-form g c = let s = c.requires.source.1 in source_form _ _ s.tokens _ s.source (c.is_built.ensures.0 c.if-not-is_built.false)
+
+pub answer_end-requires : goal.answer_end-requires
+answer_end-requires g c =
+    let built = c.is_built.ensures.0 c.if-not-is_built.false in
+    ends_of_run _ _ _ _ _ _ (c.in-Ok.ensures.runs c.args.source.now.names built.calls_exit)
+
+pub returns-in-Ok-clause-due : goal.returns-in-Ok-clause-due
+returns-in-Ok-clause-due g c text s mode =
+    due_of_run (asked_of c.args.command.now) text c.args.source.now.names (plain c.args.source.now.program.body) c.in-Ok.end _ mode s (c.is_built.ensures.0 c.if-not-is_built.false) c.in-Ok.ensures.runs c.answer_end.ensures
