@@ -9,3 +9,4 @@ pub mod Standing
 pub mod Orders
 pub mod Begun
 pub mod NamesKnown
+pub mod Spelled
