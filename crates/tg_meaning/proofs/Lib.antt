@@ -7,3 +7,4 @@ pub mod GoingOn
 pub mod MoreFuel
 pub mod Unfolding
 mod PassingClauses
+pub mod AsSource

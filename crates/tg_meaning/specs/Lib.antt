@@ -7,4 +7,5 @@ pub mod Evaluation
 pub mod Outcomes
 pub mod Direct
 pub mod Passing
+pub mod Meant
 pub mod Laws

@@ -1,3 +1,4 @@
+ghost use Rattle.tg_meaning.specs.Meant.{AllStepsAsSource, TurnsAsSource, NoEndingIsFull, OnlyStuckIsStuck};
 ghost use Rattle.tg_meaning.specs.Laws.{
   FormsAgree,
   NothingIsTakenBack,
@@ -31,4 +32,13 @@ pub fn fuel_is_a_bound()
 pub fn fuel_unfolds()
     ensures jobs { FuelUnfolds }
     ensures programs { ProgramUnfolds }
+{}
+
+/// Laws of a program's run as one that code may follow: each step is the same step there, no ending stands for a full
+/// stack, and only what is stuck is taken for it.
+pub fn programs_as_sources()
+    ensures steps { AllStepsAsSource }
+    ensures turns { TurnsAsSource }
+    ensures full { NoEndingIsFull }
+    ensures stuck { OnlyStuckIsStuck }
 {}

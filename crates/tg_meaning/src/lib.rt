@@ -5,5 +5,7 @@
 mod laws;
 mod standards;
 
-pub use laws::{forms_agree, fuel_is_a_bound, fuel_unfolds, nothing_is_taken_back};
+pub use laws::{
+    forms_agree, fuel_is_a_bound, fuel_unfolds, nothing_is_taken_back, programs_as_sources,
+};
 pub use standards::Standard;

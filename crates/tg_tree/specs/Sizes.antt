@@ -1,6 +1,6 @@
--- Two numbers of a function's text, with its frame, at each stage before instructions are chosen. The length is at least the
--- number of the instructions that are made of it in the end, and the room at least the words of its frame and the temporaries that
--- its code has then. Both count in advance what later passes may write and draw, so that no pass makes them greater.
+-- Two numbers of a function's text with its frame, at each stage before instructions are chosen: its length, which counts the
+-- instructions that are made of it in the end, and its room, the words of its frame and the temporaries that its code has then. Both
+-- count in advance what later passes may write and draw, part by part, so that a pass adds no more than a constant.
 use Rattle.std.specs.Prelude.{ℕ, ◌+◌, ◌*◌, List, [], ◌∷◌, length}
 use Rattle.tg_tree.specs.declared.operators.Bin.{Bin}
 use Rattle.tg_tree.specs.declared.operators.Bin.TheVariants.{ShiftLeft, ShiftRight, ShiftSigned}

@@ -13,6 +13,7 @@ ghost use Rattle.tg_tree.specs.Laws.{
 };
 
 /// The laws of runs of trees: each is its own step, one that is over stays so with more fuel, and any other goes on.
+/// That a run is determined by its code, sizes and input is no law: it is a function of these and of fuel.
 pub fn trees_run()
     ensures step { TreesStep }
     ensures over { TreesStayOver }
