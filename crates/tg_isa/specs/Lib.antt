@@ -6,3 +6,4 @@ pub mod Lines
 pub mod Operands
 pub mod Items
 pub mod Assembly
+pub mod Writing

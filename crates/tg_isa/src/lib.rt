@@ -11,6 +11,7 @@ mod keywords;
 mod mips;
 mod names;
 mod registers;
+mod writing;
 
 pub use bits::Bits;
 pub use decoding::decode;
@@ -20,6 +21,7 @@ pub use keywords::{AsmRule, Keyword, Segment, Slot};
 pub use mips::Mips;
 pub use names::name;
 pub use registers::Reg;
+pub use writing::line;
 
 #[cfg(test)]
 mod tests;

@@ -1,5 +1,7 @@
-use crate::{Bits, Mips, Reg, decode, encode, name};
+use crate::{Bits, Mips, Reg, decode, encode, line, name};
+use std::alloc::Global;
 use std::process::Abort;
+use std::test::Fail;
 
 // Each word was made by another assembler: GNU `as` for MIPS I, big endian. Its `break 0,7` is `break 7` here.
 
@@ -165,4 +167,90 @@ fn names_of_registers(rt: HostRuntime) {
     assert_eq!(rt; name(reg(8)), "$t0");
     assert_eq!(rt; name(reg(24)), "$t8");
     assert_eq!(rt; name(reg(31)), "$ra");
+}
+
+/// The line of an instruction with the label `main` is the text.
+fn reads(rt: &impl Abort, alloc: Global, one: Mips, text: &str) -> Result<(), Fail> {
+    let line = line(alloc, &one, "main")?;
+    assert_eq!(rt; line.as_slice(), text.as_bytes());
+    Ok(())
+}
+
+#[test]
+fn lines_of_registers(rt: HostRuntime) -> Result<(), Fail> {
+    let alloc = rt.alloc();
+    reads(
+        &rt,
+        alloc,
+        Mips::Sll(reg(10), reg(9), Bits::new(31)),
+        "sll $t2, $t1, 31",
+    )?;
+    reads(&rt, alloc, Mips::Jr(reg(31)), "jr $ra")?;
+    reads(&rt, alloc, Mips::Jalr(reg(2), reg(16)), "jalr $v0, $s0")?;
+    reads(&rt, alloc, Mips::Syscall, "syscall")?;
+    reads(&rt, alloc, Mips::Break(Bits::new(1048575)), "break 1048575")?;
+    reads(&rt, alloc, Mips::Mfhi(reg(9)), "mfhi $t1")?;
+    reads(&rt, alloc, Mips::Mult(reg(8), reg(9)), "mult $t0, $t1")?;
+    reads(
+        &rt,
+        alloc,
+        Mips::Addu(reg(2), reg(4), reg(5)),
+        "addu $v0, $a0, $a1",
+    )?;
+    Ok(())
+}
+
+#[test]
+fn lines_of_labels_and_numbers(rt: HostRuntime) -> Result<(), Fail> {
+    let alloc = rt.alloc();
+    reads(&rt, alloc, Mips::J(Bits::new(64)), "j main")?;
+    reads(
+        &rt,
+        alloc,
+        Mips::Beq(reg(0), reg(8), Bits::new(65535)),
+        "beq $zero, $t0, main",
+    )?;
+    reads(
+        &rt,
+        alloc,
+        Mips::Bgez(reg(30), Bits::new(0)),
+        "bgez $fp, main",
+    )?;
+    reads(
+        &rt,
+        alloc,
+        Mips::Addiu(reg(29), reg(29), Bits::new(65532)),
+        "addiu $sp, $sp, -4",
+    )?;
+    reads(
+        &rt,
+        alloc,
+        Mips::Slti(reg(2), reg(3), Bits::new(32768)),
+        "slti $v0, $v1, -32768",
+    )?;
+    reads(
+        &rt,
+        alloc,
+        Mips::Andi(reg(13), reg(14), Bits::new(65535)),
+        "andi $t5, $t6, 65535",
+    )?;
+    reads(
+        &rt,
+        alloc,
+        Mips::Lui(reg(8), Bits::new(32768)),
+        "lui $t0, 32768",
+    )?;
+    reads(
+        &rt,
+        alloc,
+        Mips::Lw(reg(8), Bits::new(4), reg(29)),
+        "lw $t0, 4($sp)",
+    )?;
+    reads(
+        &rt,
+        alloc,
+        Mips::Sw(reg(31), Bits::new(65528), reg(30)),
+        "sw $ra, -8($fp)",
+    )?;
+    Ok(())
 }
