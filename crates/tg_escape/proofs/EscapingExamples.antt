@@ -1,10 +1,10 @@
 -- What escapes in small programs, computed by the definition itself. Above each stands the program's text.
-use Rattle.std.proofs.Common.{◌≡◌, ℕ, List, [], ◌∷◌, Option, Some, None, refl}
+use Rattle.std.proofs.Common.{◌≡◌, ℕ, List, [], ◌∷◌, None, refl}
 use Rattle.tg_base.specs.declared.ids.Span.{Span}
 use Rattle.tg_syntax.specs.declared.tokens.Ident.{Ident}
 use Rattle.tg_syntax.specs.declared.trees.Param.{Param}
 use Rattle.tg_syntax.specs.declared.trees.Op.TheVariants.{Plus, Minus, Greater}
-use Rattle.tg_syntax.specs.Tree.{Exp, Int, Read, Call, Binary, Assign, When, For, Let, Seq, Place, Simple, Exps, no_exps, exp, Decs, no_decs, variable, functions, FunDecs, no_functions, function}
+use Rattle.tg_syntax.specs.Tree.{Exp, Int, Read, Call, Binary, Assign, When, For, Let, Seq, Simple, Exps, no_exps, exp, Decs, no_decs, variable, functions, FunDecs, no_functions, function}
 use Rattle.tg_escape.specs.Escaping.{escapes_of}
 
 -- an identifier by its number and its first byte; spans of expressions aren't looked at

@@ -1,10 +1,10 @@
 -- A program's run as one that code may follow.
-use Rattle.std.proofs.Common.{◌≡◌, ℕ, zero, suc, Bool, List, refl}
+use Rattle.std.proofs.Common.{◌≡◌, ℕ, zero, suc, refl}
 use Rattle.std.specs.Prelude.{◌≢◌}
 use Rattle.tg_base.specs.declared.ends.RunEnd.TheVariants.{StackFull}
 use Rattle.tg_runs.specs.Runs.{turn}
 use Rattle.tg_runs.specs.Agreement.{Meets, Stuck}
-use Rattle.tg_meaning.specs.Values.{Ending, normal, by_nil, by_index, by_division, by_chr, by_substring, by_size, by_heap, by_overflow, by_exit, End, ended, out_of_fuel, stuck, World}
+use Rattle.tg_meaning.specs.Values.{normal, by_nil, by_index, by_division, by_chr, by_substring, by_size, by_heap, by_overflow, by_exit, End, ended, out_of_fuel, stuck, World}
 use Rattle.tg_meaning.specs.Outcomes.{Outcome, over_in}
 use Rattle.tg_meaning.specs.Passing.{Rest, with_turn}
 use Rattle.tg_meaning.specs.Meant.{meant, as_source, rest_run, StepsAsSource}
