@@ -8,3 +8,4 @@ pub mod GroupSteps
 pub mod NestingSteps
 pub mod ParseSteps
 pub mod OneFault
+mod Passings

@@ -6,13 +6,13 @@ use Rattle.tg_syntax.specs.declared.tokens.Word.TheVariants.{WElse}
 use Rattle.tg_syntax.specs.declared.trees.Op.{Op}
 use Rattle.tg_syntax.specs.Tree.{Exp}
 use Rattle.tg_syntax.specs.Tails.{ends_tail, is_short}
-use Rattle.tg_syntax.specs.Grammar.{Level}
+use Rattle.tg_syntax.specs.Grammar.{Level, Unary}
 use Rattle.tg_parser.specs.declared.faults.Stop.{Stop}
-use Rattle.tg_parser.specs.Given.{Refuses}
+use Rattle.tg_parser.specs.Given.{Refuses, Gives}
 use Rattle.tg_grammar.specs.declared.marks.Mark.{Mark}
 use Rattle.tg_grammar.specs.declared.marks.Mark.TheVariants.{OfWord}
-use Rattle.tg_grammar.specs.Steps.{Job, Of, Steps, Answer, split, want, test, oper}
-use Rattle.tg_grammar.specs.Reading.{Does}
+use Rattle.tg_grammar.specs.Steps.{Job, Of, At, Steps, Answer, Got, split, want, test, oper}
+use Rattle.tg_grammar.specs.Reading.{Does, job}
 
 -- a program, at some tokens, does what another one does at others
 pub record Leads (j : Job) (s : Steps (Of j)) (ts : List Spanned) (z : Steps (Of j)) (rest : List Spanned) : Type 0 where
@@ -44,3 +44,11 @@ abbrev pub Elses : Result Bool Stop → Exp → List Spanned → Type 0
 Elses (Ok true) x ts = (j : Job) (f : Span → Steps (Of j)) (z : Steps (Of j)) → Leads j (test (is_short x) z (split (OfWord WElse) f z)) ts (want (OfWord WElse) f) ts
 Elses (Ok false) x ts = (j : Job) (f : Span → Steps (Of j)) (z : Steps (Of j)) → Leads j (test (is_short x) z (split (OfWord WElse) f z)) ts z ts
 Elses (Err e) x ts = (j : Job) (f : Span → Steps (Of j)) (z : Steps (Of j)) → Refuses e j (test (is_short x) z (split (OfWord WElse) f z)) ts
+
+-- what is read at the level of unary expressions, up to some tokens, is read so at another level
+pub record Passes (k : Level) (l : Exp) (ts : List Spanned) : Type 0 where
+  pub goes : (start : List Spanned) → Does (At Unary) (job (At Unary)) start (Got l ts) → Does (At k) (job (At k)) start (Got l ts)
+
+-- what a result says at a level of what begins with an expression of the level of unary ones, and goes on with some tokens
+abbrev pub Completes : {X : Type 0} → Level → (X → Exp) → (X → List Spanned) → Result X Stop → Steps Exp → Exp → List Spanned → Type 0
+Completes k value rest r s l ts = (start : List Spanned) → Does (At Unary) (job (At Unary)) start (Got l ts) → Gives (At k) value rest r s start

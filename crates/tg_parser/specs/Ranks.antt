@@ -1,6 +1,10 @@
--- The levels of the grammar that the code's ranks are.
+-- The levels of the grammar that the code's ranks are, and the operators that they have.
+use Rattle.std.specs.Prelude.{◌≡◌, None}
+use Rattle.tg_syntax.specs.declared.tokens.Token.{Token}
 use Rattle.tg_syntax.specs.Grammar.{Level}
 use Rattle.tg_syntax.specs.Grammar as grammar
+use Rattle.tg_grammar.specs.Steps.{op_of}
+use Rattle.tg_grammar.specs.Reading.{below}
 use Rattle.tg_parser.specs.declared.ranks.Rank.{Rank}
 use Rattle.tg_parser.specs.declared.ranks.Rank.TheVariants.{Disjunction, Conjunction, Comparison, Sum, Term, Unary}
 
@@ -11,3 +15,8 @@ level_of Comparison = grammar.Comparison
 level_of Sum = grammar.Sum
 level_of Term = grammar.Term
 level_of Unary = grammar.Unary
+
+-- a token is no operator of a rank, nor of one that binds more tightly
+pub data NoneWithin : Rank → Token → Type 0 where
+  at_unary : (t : Token) → NoneWithin Unary t
+  looser : {k b : Rank} {t : Token} → level_of b ≡ below (level_of k) → None ≡ op_of (level_of k) t → NoneWithin b t → NoneWithin k t

@@ -31,7 +31,7 @@ impl From<Memory> for SyntaxFault {
 
 /// Why reading stops.
 #[derive(Clone, Copy)]
-pub enum Stop {
+pub(crate) enum Stop {
     /// The token that begins at this byte can't stand where it stands.
     Wrong(u32),
     /// The list ends too early.

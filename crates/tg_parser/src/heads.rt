@@ -1,4 +1,4 @@
-ghost use Rattle.std.specs.Prelude.{◌≡◌, ◌<◌, ◌≤◌, IfOk, IfSome, length};
+ghost use Rattle.std.specs.Prelude.{◌≡◌, ◌<◌, ◌≤◌, true, IfOk, IfSome, length};
 ghost use Rattle.tg_syntax.specs.declared.tokens.Word.TheVariants.{WFor};
 ghost use Rattle.tg_syntax.specs.declared.tokens.Sign.TheVariants.{LeftParen, RightParen};
 ghost use Rattle.tg_syntax.specs.Plain.{plain};
@@ -10,13 +10,13 @@ ghost use Rattle.tg_grammar.specs.Reading.{
   assigning,
 };
 ghost use Rattle.tg_parser.specs.Ranks.{level_of};
-ghost use Rattle.tg_parser.specs.Opens.{Begins, BeginsTwo, Skips, Operates, Elses};
+ghost use Rattle.tg_parser.specs.Opens.{Begins, BeginsTwo, Skips, Operates, Elses, Passes};
 ghost use Rattle.tg_parser.specs.Heads.{unary_of, plain_of, assigning_to, Declares};
 
 use crate::ends::{ends_tail, is_short};
 use crate::faults::Stop;
 use crate::forms::{annotation, listed_params};
-use crate::ranks::{Rank, operator};
+use crate::ranks::{Rank, is_operator_within, operator};
 use crate::taking::{Reading, is, next, take, take_name};
 use std::alloc::Global;
 use tg_base::{Memory, Span};
@@ -128,6 +128,20 @@ pub(crate) fn operator_behind<'a>(
             Ok(Some((Operator { op, at }, after)))
         }
         None => Ok(None),
+    }
+}
+
+/// Whether what stands behind an expression that binds more tightly than the operators is no operator of a rank, nor of
+/// one that binds more tightly, so that the expression is whole at that rank.
+pub(crate) fn is_over(left: &Exp, rank: Rank, tokens: &[Spanned]) -> bool
+    ensures { result ≡ true → Passes (level_of rank) (plain left.now) tokens.now }
+{
+    if ends_tail(left) {
+        return true;
+    }
+    match next(tokens) {
+        Err(_) => false,
+        Ok((token, _)) => !is_operator_within(rank, &token.token),
     }
 }
 

@@ -17,10 +17,9 @@ mod ranks;
 mod reading;
 mod taking;
 
-pub use faults::{Stop, SyntaxFault, SyntaxRule};
+pub use faults::{SyntaxFault, SyntaxRule};
 pub use laws::{fault_excludes_program, faults_once};
 pub use parsing::parse;
-pub use taking::{Reading, is, next, take, take_name};
 
 #[cfg(test)]
 mod tests;

@@ -1,8 +1,8 @@
-ghost use Rattle.std.specs.Prelude.{◌≡◌};
+ghost use Rattle.std.specs.Prelude.{◌≡◌, false};
 ghost use Rattle.tg_syntax.specs.Grammar.{or_op, and_op, rel_op, sum_op, term_op};
 ghost use Rattle.tg_grammar.specs.Steps.{op_of};
 ghost use Rattle.tg_grammar.specs.Reading.{below as below_level};
-ghost use Rattle.tg_parser.specs.Ranks.{level_of};
+ghost use Rattle.tg_parser.specs.Ranks.{level_of, NoneWithin};
 
 use tg_syntax::{Op, Sign, Token};
 
@@ -41,6 +41,19 @@ pub(crate) fn operator(rank: Rank, token: &Token) -> Option<Op>
         Rank::Sum => sum(token),
         Rank::Term => term(token),
         Rank::Unary => None,
+    }
+}
+
+/// Whether a token is an operator of a rank, or of one that binds more tightly.
+pub(crate) fn is_operator_within(rank: Rank, token: &Token) -> bool
+    ensures { result ≡ false → NoneWithin rank token.now }
+{
+    match rank {
+        Rank::Unary => false,
+        _ => match operator(rank, token) {
+            Some(_) => true,
+            None => is_operator_within(below(rank), token),
+        },
     }
 }
 

@@ -43,7 +43,7 @@ ghost use Rattle.tg_grammar.specs.Reading.{
 };
 ghost use Rattle.tg_parser.specs.Given.{Gives};
 ghost use Rattle.tg_parser.specs.Ranks.{level_of};
-ghost use Rattle.tg_parser.specs.Opens.{Begins, BeginsTwo};
+ghost use Rattle.tg_parser.specs.Opens.{Begins, BeginsTwo, Completes};
 ghost use Rattle.tg_parser.specs.Heads.{one_of};
 
 use crate::built::{
@@ -54,8 +54,8 @@ use crate::faults::Stop;
 use crate::forms::type_dec;
 use crate::groups::{push_function, push_type, push_variable};
 use crate::heads::{
-    Declared, Start, Target, atom, begins, counter, declared_next, function_head, operator_behind,
-    skip, target_of, variable_head, wants_else,
+    Declared, Start, Target, atom, begins, counter, declared_next, function_head, is_over,
+    operator_behind, skip, target_of, variable_head, wants_else,
 };
 use crate::ranks::{Rank, below};
 use crate::taking::{Reading, next, take, take_name};
@@ -82,10 +82,24 @@ fn at(alloc: Global, rank: Rank, tokens: &[Spanned]) -> Reading<Exp>
         (job (At (level_of rank))) tokens.now }
     ensures shorter { IfOk result (λ x. length x.1.now < length tokens.now) }
 {
+    let (left, rest) = unary(alloc, tokens)?;
+    onward(alloc, rank, left, rest)
+}
+
+/// What follows an expression that binds more tightly than the operators, up to a rank.
+#[cycle(descent)]
+fn onward(alloc: Global, rank: Rank, left: Exp, tokens: &[Spanned]) -> Reading<Exp>
+    ensures given { Completes (level_of rank) (λ x. plain x.0) (λ x. x.1.now) result
+        (job (At (level_of rank))) (plain left) tokens.now }
+    ensures shorter { IfOk result (λ x. length x.1.now ≤ length tokens.now) }
+{
+    if is_over(&left, rank, tokens) {
+        return Ok((left, tokens));
+    }
     match rank {
-        Rank::Unary => unary(alloc, tokens),
-        Rank::Comparison => comparison(alloc, tokens),
-        _ => operands(alloc, rank, tokens),
+        Rank::Unary => Ok((left, tokens)),
+        Rank::Comparison => comparison(alloc, left, tokens),
+        _ => operands(alloc, rank, left, tokens),
     }
 }
 
@@ -118,15 +132,16 @@ fn assignment(alloc: Global, span: Span, place: Var, tokens: &[Spanned]) -> Read
     Ok((e, rest))
 }
 
-/// Operands of a rank that groups to the left.
+/// What follows the first unary expression in operands of a rank that groups to the left.
 #[cycle(descent)]
-fn operands(alloc: Global, rank: Rank, tokens: &[Spanned]) -> Reading<Exp>
-    ensures given { Gives (At (level_of rank)) (λ x. plain x.0) (λ x. x.1.now) result
-        (call (At (below_level (level_of rank))) (λ l. last (After (level_of rank) l))) tokens.now }
-    ensures shorter { IfOk result (λ x. length x.1.now < length tokens.now) }
+fn operands(alloc: Global, rank: Rank, left: Exp, tokens: &[Spanned]) -> Reading<Exp>
+    ensures given { Completes (level_of rank) (λ x. plain x.0) (λ x. x.1.now) result
+        (call (At (below_level (level_of rank))) (λ l. last (After (level_of rank) l)))
+        (plain left) tokens.now }
+    ensures shorter { IfOk result (λ x. length x.1.now ≤ length tokens.now) }
 {
-    let (left, rest) = at(alloc, below(rank), tokens)?;
-    operators(alloc, rank, left, rest)
+    let (first, rest) = onward(alloc, below(rank), left, tokens)?;
+    operators(alloc, rank, first, rest)
 }
 
 /// What follows a left operand of a rank that groups to the left.
@@ -144,19 +159,19 @@ fn operators(alloc: Global, rank: Rank, left: Exp, tokens: &[Spanned]) -> Readin
     operators(alloc, rank, e, rest)
 }
 
-/// A comparison, which doesn't group.
+/// What follows the first unary expression in a comparison, which doesn't group.
 #[cycle(descent)]
-fn comparison(alloc: Global, tokens: &[Spanned]) -> Reading<Exp>
-    ensures given { Gives (At ComparisonLevel) (λ x. plain x.0) (λ x. x.1.now) result
-        (job (At ComparisonLevel)) tokens.now }
-    ensures shorter { IfOk result (λ x. length x.1.now < length tokens.now) }
+fn comparison(alloc: Global, left: Exp, tokens: &[Spanned]) -> Reading<Exp>
+    ensures given { Completes ComparisonLevel (λ x. plain x.0) (λ x. x.1.now) result
+        (job (At ComparisonLevel)) (plain left) tokens.now }
+    ensures shorter { IfOk result (λ x. length x.1.now ≤ length tokens.now) }
 {
-    let (left, rest) = at(alloc, Rank::Sum, tokens)?;
-    let Some((operator, after)) = operator_behind(&left, Rank::Comparison, rest)? else {
-        return Ok((left, rest));
+    let (first, rest) = onward(alloc, Rank::Sum, left, tokens)?;
+    let Some((operator, after)) = operator_behind(&first, Rank::Comparison, rest)? else {
+        return Ok((first, rest));
     };
     let (right, rest) = at(alloc, Rank::Sum, after)?;
-    let e = combined(alloc, operator.op, operator.at, left, right)?;
+    let e = combined(alloc, operator.op, operator.at, first, right)?;
     Ok((e, rest))
 }
 

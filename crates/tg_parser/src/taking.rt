@@ -9,10 +9,10 @@ use tg_grammar::Mark;
 use tg_syntax::{Ident, Spanned, Token};
 
 /// What was read, and the tokens behind it.
-pub type Reading<'a, T> = Result<(T, &'a [Spanned]), Stop>;
+pub(crate) type Reading<'a, T> = Result<(T, &'a [Spanned]), Stop>;
 
 /// Whether a token is a mark.
-pub fn is(mark: Mark, token: &Spanned) -> bool
+pub(crate) fn is(mark: Mark, token: &Spanned) -> bool
     ensures { IsTrue result ↔ (token.now.token ≡ token_of mark) }
 {
     match (mark, &token.token) {
@@ -24,7 +24,7 @@ pub fn is(mark: Mark, token: &Spanned) -> bool
 }
 
 /// The first token, and those behind it.
-pub fn next(tokens: &[Spanned]) -> Result<(&Spanned, &[Spanned]), Stop>
+pub(crate) fn next(tokens: &[Spanned]) -> Result<(&Spanned, &[Spanned]), Stop>
     ensures first { MatchResult result
         (λ x. tokens.now ≡ x.0.now ∷ x.1.now)
         (λ e. (e ≡ More) × (tokens.now ≡ [])) }
@@ -38,7 +38,7 @@ pub fn next(tokens: &[Spanned]) -> Result<(&Spanned, &[Spanned]), Stop>
 
 /// The span of a mark that has to stand at the front.
 #[tactic(auto, using(crate::proofs::Chains::take_yes, crate::proofs::Chains::take_no, crate::proofs::Chains::take_none))]
-pub fn take(mark: Mark, tokens: &[Spanned]) -> Reading<Span>
+pub(crate) fn take(mark: Mark, tokens: &[Spanned]) -> Reading<Span>
     ensures given { Gives OneSpan (λ x. x.0) (λ x. x.1.now) result (want mark (λ s. give s)) tokens.now }
     ensures shorter { IfOk result (λ x. length x.1.now < length tokens.now) }
 {
@@ -56,7 +56,7 @@ pub fn take(mark: Mark, tokens: &[Spanned]) -> Reading<Span>
 
 /// An identifier that has to stand at the front.
 #[tactic(auto, using(crate::proofs::Chains::name_is, crate::proofs::Chains::name_not, crate::proofs::Chains::name_none))]
-pub fn take_name(tokens: &[Spanned]) -> Reading<Ident>
+pub(crate) fn take_name(tokens: &[Spanned]) -> Reading<Ident>
     ensures given { Gives OneName (λ x. x.0) (λ x. x.1.now) result (name (λ x. give x)) tokens.now }
     ensures shorter { IfOk result (λ x. length x.1.now < length tokens.now) }
 {

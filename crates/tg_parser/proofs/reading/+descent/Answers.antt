@@ -16,6 +16,7 @@ use Rattle.tg_parser.proofs.Chains.{want_on, want_then, want_stops, name_on, nam
 use Rattle.tg_parser.proofs.Leading.{then, gives, raise, carry, want_leads, name_leads, call_leads, last_at, begins_ended, two_ended}
 use Rattle.tg_parser.proofs.Descents.{got_is, same_leads, level_does, level_refuses, after_same, suffix_does, suffix_refuses, suffix_same, some_leads, none_leads, some_operates, none_operates, some_declares, none_declares, if_some, elses_yes, elses_no, leaf_is, leaf_none, look_leads, refuse_at}
 use Rattle.tg_parser.proofs.Onwards.{exps_end, inits_end, exps_one, inits_one, exps_none, inits_none, items_first, items_more, items_stops, inits_first, inits_more, inits_stops, decs_first, decs_more, decs_stops}
+use Rattle.tg_parser.proofs.Passings.{unary_refuses}
 use Rattle.tg_parser.proofs.reading.+descent.Goals as goal
 
 pub whole-returns-in_err-left-clause-given : goal.whole-returns-in_err-left-clause-given
@@ -39,11 +40,23 @@ assignment-returns-in_err-e-clause-given t c = ended _ _ _ _ _ _ c.from_residual
 pub assignment-returns-clause-given : goal.assignment-returns-clause-given
 assignment-returns-clause-given t c = got_is (At Whole) c.in_ok-e.ensures (gives (then (some_leads _ _ c.in_ok-after.ensures.given c.in-Some.is (At Whole) _ _) (call_leads (At Whole) (At Whole) c.in_ok-value.ensures.given)))
 
-pub operands-returns-in_err-left-clause-given : goal.operands-returns-in_err-left-clause-given
-operands-returns-in_err-left-clause-given t c = ended _ _ _ _ _ _ c.from_residual.ensures (call_stops (At _) (At _) (level_refuses c.below.ensures c.in_err-left.ensures.given))
+pub at-returns-in_err-left-clause-given : goal.at-returns-in_err-left-clause-given
+at-returns-in_err-left-clause-given t c = ended _ _ _ _ _ _ c.from_residual.ensures (unary_refuses c.args.rank c.in_err-left.ensures.given)
+
+pub at-returns-clause-given : goal.at-returns-clause-given
+at-returns-clause-given t c = c.onward.ensures.given _ c.in_ok-left.ensures.given
+
+pub onward-returns-then-is_over-clause-given : goal.onward-returns-then-is_over-clause-given
+onward-returns-then-is_over-clause-given t c = λ start d. (c.is_over.ensures c.if-is_over.true).goes start d
+
+pub onward-returns-in-Unary-clause-given : goal.onward-returns-in-Unary-clause-given
+onward-returns-in-Unary-clause-given t c = λ start d. level_does (ap level_of (sym c.in-Unary.is)) d
+
+pub operands-returns-in_err-first-clause-given : goal.operands-returns-in_err-first-clause-given
+operands-returns-in_err-first-clause-given t c = λ start d. ended _ _ _ _ _ _ c.from_residual.ensures (call_stops (At _) (At _) (level_refuses c.below.ensures (c.in_err-first.ensures.given start d)))
 
 pub operands-returns-clause-given : goal.operands-returns-clause-given
-operands-returns-clause-given t c = carry c.operators.result _ _ (call_leads (At _) (At _) (level_does c.below.ensures c.in_ok-left.ensures.given)) (last_at c.operators.result _ _ _ _ _ _ c.operators.ensures.given)
+operands-returns-clause-given t c = λ start d. carry c.operators.result _ _ (call_leads (At _) (At _) (level_does c.below.ensures (c.in_ok-first.ensures.given start d))) (last_at c.operators.result _ _ _ _ _ _ c.operators.ensures.given)
 
 pub operators-returns-in_default-clause-given : goal.operators-returns-in_default-clause-given
 operators-returns-in_default-clause-given t c = gives (none_operates _ _ _ _ c.in_ok-operator.ensures.given c.in_default.is (After (level_of c.args.rank) (plain c.args.left)) _ _)
@@ -57,23 +70,23 @@ operators-returns-in_err-e-clause-given t c = ended _ _ _ _ _ _ c.from_residual-
 pub operators-returns-clause-given : goal.operators-returns-clause-given
 operators-returns-clause-given t c = carry c.operators.result _ _ (then (some_operates _ _ _ _ c.in_ok-operator.ensures.given c.in-Some.is (After (level_of c.args.rank) (plain c.args.left)) _ _) (call_leads (After (level_of c.args.rank) (plain c.args.left)) (At (below (level_of c.args.rank))) (level_does c.below.ensures c.in_ok-right.ensures.given))) (after_same c.operators.result _ _ _ _ _ _ _ c.in_ok-e.ensures c.operators.ensures.given)
 
-pub comparison-returns-in_err-left-clause-given : goal.comparison-returns-in_err-left-clause-given
-comparison-returns-in_err-left-clause-given t c = ended _ _ _ _ _ _ c.from_residual.ensures (call_stops (At Comparison) (At Sum) c.in_err-left.ensures.given)
+pub comparison-returns-in_err-first-clause-given : goal.comparison-returns-in_err-first-clause-given
+comparison-returns-in_err-first-clause-given t c = λ start d. ended _ _ _ _ _ _ c.from_residual.ensures (call_stops (At Comparison) (At Sum) (c.in_err-first.ensures.given start d))
 
 pub comparison-returns-in_err-operator-clause-given : goal.comparison-returns-in_err-operator-clause-given
-comparison-returns-in_err-operator-clause-given t c = ended _ _ _ _ _ _ c.from_residual-in_err-operator.ensures (call_then (At Comparison) (At Sum) c.in_ok-left.ensures.given (c.in_err-operator.ensures.given (At Comparison) _ _))
+comparison-returns-in_err-operator-clause-given t c = λ start d. ended _ _ _ _ _ _ c.from_residual-in_err-operator.ensures (call_then (At Comparison) (At Sum) (c.in_ok-first.ensures.given start d) (c.in_err-operator.ensures.given (At Comparison) _ _))
 
 pub comparison-returns-in_default-clause-given : goal.comparison-returns-in_default-clause-given
-comparison-returns-in_default-clause-given t c = gives (then (call_leads (At Comparison) (At Sum) c.in_ok-left.ensures.given) (none_operates _ _ _ _ c.in_ok-operator.ensures.given c.in_default.is (At Comparison) _ _))
+comparison-returns-in_default-clause-given t c = λ start d. gives (then (call_leads (At Comparison) (At Sum) (c.in_ok-first.ensures.given start d)) (none_operates _ _ _ _ c.in_ok-operator.ensures.given c.in_default.is (At Comparison) _ _))
 
 pub comparison-returns-in_err-right-clause-given : goal.comparison-returns-in_err-right-clause-given
-comparison-returns-in_err-right-clause-given t c = ended _ _ _ _ _ _ c.from_residual-in_err-right.ensures (raise (then (call_leads (At Comparison) (At Sum) c.in_ok-left.ensures.given) (some_operates _ _ _ _ c.in_ok-operator.ensures.given c.in-Some.is (At Comparison) _ _)) (call_stops (At Comparison) (At Sum) c.in_err-right.ensures.given))
+comparison-returns-in_err-right-clause-given t c = λ start d. ended _ _ _ _ _ _ c.from_residual-in_err-right.ensures (raise (then (call_leads (At Comparison) (At Sum) (c.in_ok-first.ensures.given start d)) (some_operates _ _ _ _ c.in_ok-operator.ensures.given c.in-Some.is (At Comparison) _ _)) (call_stops (At Comparison) (At Sum) c.in_err-right.ensures.given))
 
 pub comparison-returns-clause-given : goal.comparison-returns-clause-given
-comparison-returns-clause-given t c = got_is (At Comparison) c.in_ok-e.ensures (gives (then (call_leads (At Comparison) (At Sum) c.in_ok-left.ensures.given) (then (some_operates _ _ _ _ c.in_ok-operator.ensures.given c.in-Some.is (At Comparison) _ _) (call_leads (At Comparison) (At Sum) c.in_ok-right.ensures.given))))
+comparison-returns-clause-given t c = λ start d. got_is (At Comparison) c.in_ok-e.ensures (gives (then (call_leads (At Comparison) (At Sum) (c.in_ok-first.ensures.given start d)) (then (some_operates _ _ _ _ c.in_ok-operator.ensures.given c.in-Some.is (At Comparison) _ _) (call_leads (At Comparison) (At Sum) c.in_ok-right.ensures.given))))
 
 pub comparison-returns-in_err-e-clause-given : goal.comparison-returns-in_err-e-clause-given
-comparison-returns-in_err-e-clause-given t c = ended _ _ _ _ _ _ c.from_residual-in_err-e.ensures (no_memory (At Comparison))
+comparison-returns-in_err-e-clause-given t c = λ start d. ended _ _ _ _ _ _ c.from_residual-in_err-e.ensures (no_memory (At Comparison))
 
 pub unary-returns-in_err-first-clause-given : goal.unary-returns-in_err-first-clause-given
 unary-returns-in_err-first-clause-given t c = ended _ _ _ _ _ _ c.from_residual.ensures (leaf_none (At Unary) c.in_err-first.ensures.first)

@@ -25,7 +25,10 @@ operands_height Term = 4
 operands_height Unary = 4
 
 abbrev pub decreases-at : goal.decreases-at
-decreases-at l = 32 * length l.tokens.now + height l.rank
+decreases-at l = 32 * length l.tokens.now + 13
+
+abbrev pub decreases-onward : goal.decreases-onward
+decreases-onward l = 32 * length l.tokens.now + height l.rank
 
 abbrev pub decreases-operands : goal.decreases-operands
 decreases-operands l = 32 * length l.tokens.now + operands_height l.rank

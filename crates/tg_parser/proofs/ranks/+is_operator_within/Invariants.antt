@@ -1,0 +1,7 @@
+use Rattle.std.proofs.Common.{ℕ}
+use Rattle.tg_parser.specs.Ranks.{level_of}
+use Rattle.tg_parser.proofs.Passings.{looseness}
+use Rattle.tg_parser.proofs.ranks.+is_operator_within.Given as goal
+
+abbrev pub decreases-is_operator_within : goal.decreases-is_operator_within
+decreases-is_operator_within l = looseness (level_of l.rank)
