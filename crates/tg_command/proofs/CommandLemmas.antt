@@ -7,7 +7,7 @@ use Rattle.tg_command.specs.declared.counts.Limits.{Limits}
 use Rattle.tg_command.specs.Modes.{name_of}
 use Rattle.tg_command.specs.Commands.{Ask, Asked, IsUsageFault, heap, mode, refused, stack, steps}
 use Rattle.tg_command.specs.declared.modes.Mode.{Mode}
-use Rattle.tg_command.specs.declared.modes.Mode.TheVariants.{Check, Run}
+use Rattle.tg_command.specs.declared.modes.Mode.TheVariants.{Check, Run, Exec}
 
 given_once : (limits : Limits) (o : Option (List ℕ)) (m n : ℕ) → GivesCount limits o m → GivesCount limits o n → m ≡ n
 given_once limits None m n p q = p ∙ sym q
@@ -18,6 +18,11 @@ name_once Check Check e = refl
 name_once Check Run e = absurd (other_text 0 99 114 (name_of Check) (name_of Run) refl refl (λ q. absurd (omega (arith, q))) e)
 name_once Run Check e = absurd (other_text 0 114 99 (name_of Run) (name_of Check) refl refl (λ q. absurd (omega (arith, q))) e)
 name_once Run Run e = refl
+name_once Check Exec e = absurd (other_text 0 99 101 (name_of Check) (name_of Exec) refl refl (λ q. absurd (omega (arith, q))) e)
+name_once Exec Check e = absurd (other_text 0 101 99 (name_of Exec) (name_of Check) refl refl (λ q. absurd (omega (arith, q))) e)
+name_once Run Exec e = absurd (other_text 0 114 101 (name_of Run) (name_of Exec) refl refl (λ q. absurd (omega (arith, q))) e)
+name_once Exec Run e = absurd (other_text 0 101 114 (name_of Exec) (name_of Run) refl refl (λ q. absurd (omega (arith, q))) e)
+name_once Exec Exec e = refl
 
 some_once : {X : Type 0} (x y : X) → Some x ≡ Some y → x ≡ y
 some_once {X} x y e = ap (λ (o : Option X). unwrap_or o x) e

@@ -8,6 +8,8 @@ pub enum Mode {
     Check,
     /// Compiles a source and runs it.
     Run,
+    /// Assembles a text of assembly and runs it.
+    Exec,
 }
 
 /// The mode of this name, in its one spelling. Here and in `name_of` stand the names of the modes.
@@ -18,6 +20,7 @@ pub(crate) fn named(name: &str) -> Option<Mode>
     match name {
         "check" => Some(Mode::Check),
         "run" => Some(Mode::Run),
+        "exec" => Some(Mode::Exec),
         _ => None,
     }
 }

@@ -3,7 +3,7 @@ use std::alloc::{AllocError, Global};
 use std::test::Fail;
 
 // Command lines, with a `|` between their words, that are usage faults.
-static REFUSED: [&str; 71] = [
+static REFUSED: [&str; 72] = [
     "tiger",
     "tiger|run",
     "tiger|a.tig",
@@ -74,11 +74,12 @@ static REFUSED: [&str; 71] = [
     "tiger|check|a|--heap|6",
     "tiger|check|a|--stack|4",
     "tiger|check|a|--steps|0",
-    "tiger|exec|a",
+    "tiger|execute|a",
+    "tiger|Exec|a",
 ];
 
 // Command lines with what they ask for: the mode, the file, the heap, the stack and the steps.
-static TAKEN: [(&str, Mode, &str, u32, u32, u64); 20] = [
+static TAKEN: [(&str, Mode, &str, u32, u32, u64); 21] = [
     (
         "tiger|run|a.tig",
         Mode::Run,
@@ -94,6 +95,14 @@ static TAKEN: [(&str, Mode, &str, u32, u32, u64); 20] = [
         16_777_216,
         67_108_864,
         1_000_000_000,
+    ),
+    (
+        "tiger|exec|a.s|--steps|10",
+        Mode::Exec,
+        "a.s",
+        16_777_216,
+        67_108_864,
+        10,
     ),
     (
         "tiger|run|a.s",

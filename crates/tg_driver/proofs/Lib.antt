@@ -19,3 +19,4 @@ pub mod FaultsOnce
 pub mod AnswersOnce
 pub mod AnswerLemmas
 pub mod ValueExamples
+mod Pieces

@@ -24,7 +24,7 @@ use Rattle.tg_driver.specs.StackCode.{value_code, exit_code, program_code, opera
 use Rattle.tg_driver.specs.Images.{IsImageOf}
 use Rattle.tg_driver.specs.Finishing.{end_of_value}
 use Rattle.tg_driver.specs.Meanings.{IsEndOf, Means}
-use Rattle.tg_driver.specs.Causes.{RunsTo, Runs, EndsSilently, IsRunEnd, outcome_of}
+use Rattle.tg_driver.specs.Causes.{RunsTo, Runs, EndsSilently, outcome_of}
 use Rattle.tg_driver.proofs.StackSteps.{Path}
 use Rattle.tg_driver.proofs.StackPrograms.{Finishes, program_finishes}
 use Rattle.tg_driver.proofs.Evaluated.{means_end}
@@ -191,19 +191,6 @@ runs_to program image heap stack steps end form small room is f enough too_few n
       enough = λ le. subst P (sym (enough le)) (means_end names program heap stack calls);
       too_few = too_few;
     }
-
--- an end of a run is an exit, an overflow, or that the steps are used up
-end_is_run : (e : RunEnd) (p : End) → IsEndOf e p → IsRunEnd e
-end_is_run (Exit code) p h = tt
-end_is_run Overflow p h = tt
-end_is_run _ p h = absurd h
-
-pub ends_of_run : (names : List (List ℕ)) (program : Exp) (heap stack steps : ℕ) (end : RunEnd) → RunsTo names program heap stack steps end → IsRunEnd end
-ends_of_run names program heap stack steps end r = by (cases_lt steps r.needed)
-  where
-    by : (steps < r.needed) ⊎ (r.needed ≤ steps) → IsRunEnd end
-    by (inr le) = end_is_run end (evaluate names program [] heap stack 0).end ((r.enough le).ends [] 0)
-    by (inl lt) = let Q : RunEnd → Type 0 = λ x. IsRunEnd x in subst Q (sym (r.too_few lt)) tt
 
 -- the call of the machine that was loaded with the image
 pub record IsCallOf {I O : Type 0} (program : Exp) (heap stack steps : ℕ) (input input' : I) (out out' : O) (e : RunEnd) : Type 0 where

@@ -11,3 +11,6 @@ pub mod Named
 pub mod Readings
 pub mod Telling
 pub mod Meanings
+pub mod Endings
+pub mod Plainly
+pub mod Found

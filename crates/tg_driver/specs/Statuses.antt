@@ -1,29 +1,30 @@
 -- The status and the line of each answer.
-use Rattle.std.specs.Prelude.{ℕ, ◌%◌, ◌≡◌, ◌<◌, List, [], ◌∷◌, ◌++◌, length, codes, Option}
+use Rattle.std.specs.Prelude.{ℕ, ◌≡◌, ◌<◌, List, [], ◌∷◌, ◌++◌, length, codes, Option}
 use Rattle.std.specs.Fmt.{decimal}
 use Rattle.std.specs.Io.KnownBytes.{Appends}
 use Rattle.tg_base.specs.Causes.{Rose}
-use Rattle.tg_base.specs.Words.{unsigned}
 use Rattle.tg_base.specs.Writes.{TakesFront}
+use Rattle.tg_isa.specs.declared.keywords.AsmRule.{AsmRule}
+use Rattle.tg_isa.specs.declared.keywords.AsmRule.TheVariants.{A1, A2, A3, A4, A5, A6, A7, A8, A9}
 use Rattle.tg_syntax.specs.declared.faults.LexRule.TheVariants.{L1, L2, L3, L4, L5, L6, L7}
 use Rattle.tg_parser.specs.declared.faults.SyntaxRule.TheVariants.{S1, S2}
 use Rattle.tg_driver.specs.declared.faults.Rule.{Rule}
 use Rattle.tg_driver.specs.declared.faults.Rule.TheVariants.{Lexical, Syntactic}
 use Rattle.tg_driver.specs.declared.faults.Fault.{Fault}
 use Rattle.tg_driver.specs.declared.answers.Answer.{Answer}
-use Rattle.tg_driver.specs.declared.answers.Answer.TheVariants.{Usage, Unreadable, Faulty, Accepted, NotBuilt, OutOfMemory, Exited, Overflowed, StepsUsedUp}
+use Rattle.tg_driver.specs.declared.answers.Answer.TheVariants.{Usage, Unreadable, Faulty, BadLine, TooLong, Accepted, NotBuilt, OutOfMemory, Finished}
+use Rattle.tg_driver.specs.Endings.{ended, end_status, end_line}
 
--- an exit's status is its code modulo 256
 abbrev pub status_of : Answer → ℕ
 status_of Usage = 64
 status_of (Faulty fault) = 65
+status_of (BadLine rule line) = 65
+status_of TooLong = 65
 status_of Unreadable = 66
 status_of NotBuilt = 69
 status_of OutOfMemory = 70
 status_of Accepted = 0
-status_of (Exited code) = unsigned code % 256
-status_of StepsUsedUp = 109
-status_of Overflowed = 110
+status_of (Finished end) = end_status end
 
 -- a rule, and what it says of a text that breaks it
 abbrev pub rule_text : Rule → List ℕ
@@ -37,24 +38,37 @@ rule_text (Lexical L7) = codes "L7 source too long"
 rule_text (Syntactic S1) = codes "S1 unexpected token"
 rule_text (Syntactic S2) = codes "S2 nesting too deep"
 
-abbrev pub ended : List ℕ → List ℕ
-ended text = codes "tiger: " ++ (text ++ 10 ∷ [])
+-- a rule of assembly text, likewise
+abbrev pub asm_text : AsmRule → List ℕ
+asm_text A1 = codes "A1 bad line"
+asm_text A2 = codes "A2 unknown instruction"
+asm_text A3 = codes "A3 bad operand"
+asm_text A4 = codes "A4 label twice"
+asm_text A5 = codes "A5 unknown label"
+asm_text A6 = codes "A6 out of reach"
+asm_text A7 = codes "A7 number out of range"
+asm_text A8 = codes "A8 segment too large"
+asm_text A9 = codes "A9 no main"
 
 -- `LINE:COLUMN: RULE WORDS`
 abbrev pub fault_text : Fault → List ℕ
 fault_text fault = decimal fault.place.line ++ (codes ":" ++ (decimal fault.place.column ++ (codes ": " ++ rule_text fault.rule)))
 
+-- `line LINE: RULE WORDS`
+abbrev pub bad_line_text : AsmRule → (line : ℕ) → List ℕ
+bad_line_text rule line = codes "line " ++ (decimal line ++ (codes ": " ++ asm_text rule))
+
 -- each line is ended by byte 10; an exit and an accepted source have none
 abbrev pub line_of : Answer → List ℕ
 line_of Usage = ended (codes "usage: tiger MODE FILE [--heap BYTES] [--stack BYTES] [--steps COUNT]")
 line_of (Faulty fault) = ended (fault_text fault)
+line_of (BadLine rule line) = ended (bad_line_text rule line)
+line_of TooLong = ended (codes "line 1: A10 file too long")
 line_of Unreadable = ended (codes "cannot read file")
 line_of NotBuilt = ended (codes "not built")
 line_of OutOfMemory = ended (codes "out of memory")
 line_of Accepted = []
-line_of (Exited code) = []
-line_of StepsUsedUp = ended (codes "step limit")
-line_of Overflowed = ended (codes "overflow")
+line_of (Finished end) = end_line end
 
 -- the error sink took the whole line, and this is its status; or the write failed, and the status is 74
 pub data Reports {E : Type 0} (taken : E → Option (List ℕ)) (faults : E → ℕ) (answer : Answer) (err err' : E) (status : ℕ) : Type 0 where

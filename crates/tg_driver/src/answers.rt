@@ -2,7 +2,10 @@ ghost use Rattle.std.specs.Prelude.{◌≡◌};
 ghost use Rattle.tg_driver.specs.Statuses.{line_of, status_of};
 ghost use Rattle.tg_driver.specs.Telling.{IsFixed};
 
+use crate::endings::end_status;
 use crate::faults::Fault;
+use tg_asm::AsmRule;
+use tg_base::RunEnd;
 
 /// What the program answers, before it reports it.
 #[derive(Clone, Copy, Debug, PartialEq, Eq)]
@@ -11,6 +14,10 @@ pub(crate) enum Answer {
     Usage,
     /// The source has a fault.
     Faulty(Fault),
+    /// The assembly text has a fault, on this line.
+    BadLine(AsmRule, u64),
+    /// The assembly text is longer than it may be.
+    TooLong,
     /// The file can't be read.
     Unreadable,
     /// The source isn't of the built form.
@@ -19,12 +26,8 @@ pub(crate) enum Answer {
     OutOfMemory,
     /// The source has no fault.
     Accepted,
-    /// The program ended with a code.
-    Exited(i32),
-    /// The program has used up its steps.
-    StepsUsedUp,
-    /// The program's arithmetic overflowed.
-    Overflowed,
+    /// The machine ended so.
+    Finished(RunEnd),
 }
 
 /// The line of a faulty command, with its newline.
@@ -34,20 +37,19 @@ pub fn usage() -> &'static str
     "tiger: usage: tiger MODE FILE [--heap BYTES] [--stack BYTES] [--steps COUNT]\n"
 }
 
-/// The line on the error sink of an answer other than `Faulty`; an exit and an accepted source have none.
+/// The line on the error sink of an answer whose line is a text of its own; an accepted source has none.
 pub(crate) fn line(answer: Answer) -> &'static str
     requires { IsFixed answer }
     ensures { result.now ≡ line_of answer }
 {
     match answer {
         Answer::Usage => usage(),
-        Answer::Faulty(_) => unreachable!(),
+        Answer::TooLong => "tiger: line 1: A10 file too long\n",
         Answer::Unreadable => "tiger: cannot read file\n",
         Answer::NotBuilt => "tiger: not built\n",
         Answer::OutOfMemory => "tiger: out of memory\n",
-        Answer::Accepted | Answer::Exited(_) => "",
-        Answer::StepsUsedUp => "tiger: step limit\n",
-        Answer::Overflowed => "tiger: overflow\n",
+        Answer::Accepted => "",
+        Answer::Faulty(_) | Answer::BadLine(_, _) | Answer::Finished(_) => unreachable!(),
     }
 }
 
@@ -57,13 +59,11 @@ pub(crate) fn status(answer: Answer) -> u8
 {
     match answer {
         Answer::Usage => 64,
-        Answer::Faulty(_) => 65,
+        Answer::Faulty(_) | Answer::BadLine(_, _) | Answer::TooLong => 65,
         Answer::Unreadable => 66,
         Answer::NotBuilt => 69,
         Answer::OutOfMemory => 70,
         Answer::Accepted => 0,
-        Answer::Exited(code) => (code.cast_unsigned() % 256) as u8,
-        Answer::StepsUsedUp => 109,
-        Answer::Overflowed => 110,
+        Answer::Finished(end) => end_status(end),
     }
 }

@@ -1,9 +1,10 @@
 ghost use Rattle.std.specs.Prelude.{◌≡◌, ◌++◌, IfOk, codes, string_bytes};
 ghost use Rattle.std.specs.Fmt.{decimal};
-ghost use Rattle.tg_driver.specs.declared.answers.Answer.TheVariants.{Faulty};
-ghost use Rattle.tg_driver.specs.Statuses.{line_of, rule_text};
+ghost use Rattle.tg_driver.specs.declared.answers.Answer.TheVariants.{BadLine, Faulty};
+ghost use Rattle.tg_driver.specs.Statuses.{asm_text, line_of, rule_text};
 
 use std::alloc::{AllocError, Global};
+use tg_asm::AsmRule;
 use tg_base::Place;
 use tg_lexer::LexRule;
 use tg_parser::SyntaxRule;
@@ -53,4 +54,36 @@ fn located(alloc: Global, line: u32, column: u32, text: &str) -> Result<String, 
         ++ (decimal column ++ (codes ": " ++ (text.now ++ codes "\n")))))) }
 {
     format!(in alloc; "tiger: {line}:{column}: {text}\n")
+}
+
+/// The name of a rule of assembly text, and what it says of a text that breaks it.
+fn asm_text(rule: AsmRule) -> &'static str
+    ensures { result.now ≡ asm_text rule }
+{
+    match rule {
+        AsmRule::A1 => "A1 bad line",
+        AsmRule::A2 => "A2 unknown instruction",
+        AsmRule::A3 => "A3 bad operand",
+        AsmRule::A4 => "A4 label twice",
+        AsmRule::A5 => "A5 unknown label",
+        AsmRule::A6 => "A6 out of reach",
+        AsmRule::A7 => "A7 number out of range",
+        AsmRule::A8 => "A8 segment too large",
+        AsmRule::A9 => "A9 no main",
+    }
+}
+
+/// The line of a fault of assembly text on a line of it, with its newline.
+pub(crate) fn bad_line(alloc: Global, rule: AsmRule, line: u64) -> Result<String, AllocError>
+    ensures { IfOk result (λ s. string_bytes s ≡ line_of (BadLine rule line)) }
+{
+    numbered(alloc, line, asm_text(rule))
+}
+
+/// The line of a text with its line.
+fn numbered(alloc: Global, line: u64, text: &str) -> Result<String, AllocError>
+    ensures { IfOk result (λ s. string_bytes s ≡ codes "tiger: line " ++ (decimal line
+        ++ (codes ": " ++ (text.now ++ codes "\n")))) }
+{
+    format!(in alloc; "tiger: line {line}: {text}\n")
 }

@@ -3,17 +3,23 @@
 #![tactic(auto)]
 
 mod answers;
+mod checking;
+mod endings;
+mod executing;
 mod faults;
 mod forms;
 mod laws;
 mod making;
 mod reading;
 mod running;
+mod telling;
 mod top;
 
 pub use answers::usage;
 pub use laws::{meaning_of_built, one_answer};
 pub use top::tiger;
 
+#[cfg(test)]
+mod exec_tests;
 #[cfg(test)]
 mod tests;

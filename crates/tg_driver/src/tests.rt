@@ -166,7 +166,7 @@ static RUNS: [(&str, u8, &str); 40] = [
 ];
 
 // Command lines, with a `|` between their words, and their statuses, where FILE holds `exit(7)`.
-static LINES: [(&str, u8); 88] = [
+static LINES: [(&str, u8); 90] = [
     ("tiger", 64),
     ("tiger|run", 64),
     ("tiger|FILE", 64),
@@ -179,7 +179,7 @@ static LINES: [(&str, u8); 88] = [
     ("tiger|ru|FILE", 64),
     ("tiger||FILE", 64),
     ("tiger|build|FILE", 64),
-    ("tiger|exec|FILE", 64),
+    ("tiger|execute|FILE", 64),
     ("tiger|-|FILE", 64),
     ("tiger|run|FILE|--heap", 64),
     ("tiger|run|FILE|--heap|", 64),
@@ -251,6 +251,8 @@ static LINES: [(&str, u8); 88] = [
     ("tiger|--steps|1|check|FILE", 0),
     ("tiger|run|MISSING", 66),
     ("tiger|check|MISSING", 66),
+    ("tiger|exec|FILE", 65),
+    ("tiger|exec|MISSING", 66),
     ("tiger|run|", 66),
     ("tiger|run|run", 66),
     ("tiger|run|-", 66),

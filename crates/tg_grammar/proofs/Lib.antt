@@ -9,4 +9,3 @@ pub mod Standing
 pub mod Orders
 pub mod Begun
 pub mod NamesKnown
-pub mod Spelled

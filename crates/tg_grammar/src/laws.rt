@@ -1,7 +1,6 @@
 ghost use Rattle.tg_grammar.specs.Places.{
   SpansExpressions,
   SpansPlaces,
-  SpansTokens,
   TokensStand,
   ProgramsInOrder,
   ProgramsApart,
@@ -30,9 +29,8 @@ pub fn descent_is_exact()
     ensures ends { EndsAlways }
 {}
 
-/// Laws of spans: a token's covers its bytes, and an expression's runs from its first token to its last.
+/// Laws of spans: an expression's runs from its first token to its last.
 pub fn spans_are_exact()
-    ensures tokens { SpansTokens }
     ensures expressions { SpansExpressions }
     ensures places { SpansPlaces }
 {}

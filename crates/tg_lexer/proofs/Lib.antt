@@ -12,3 +12,4 @@ pub mod Scans
 pub mod Onces
 pub mod Excludes
 pub mod StringFaults
+pub mod Spelled

@@ -1,3 +1,4 @@
 pub mod Fronts
 pub mod Numbering
 pub mod Answers
+pub mod Spelled

@@ -4,6 +4,7 @@ ghost use Rattle.tg_syntax.specs.declared.faults.LexRule.{LexRule};
 ghost use Rattle.tg_syntax.specs.declared.tokens.Spanned.{Spanned};
 ghost use Rattle.tg_syntax.specs.Lexing.{Lexes};
 ghost use Rattle.tg_syntax.specs.LexicalFaults.{HasLexicalFault};
+ghost use Rattle.tg_lexer.specs.Spelled.{SpansTokens};
 
 /// The law that a text has at most one list of tokens, where no name stands twice. It does nothing.
 pub fn lexes_once()
@@ -22,4 +23,9 @@ pub fn fault_excludes_tokens()
 pub fn faults_once()
     ensures { (text : List ℕ) (rule other : LexRule) (at to : ℕ) → HasLexicalFault text rule at
         → HasLexicalFault text other to → (rule ≡ other) × (at ≡ to) }
+{}
+
+/// The law that the span of each token covers the bytes that spell it. It does nothing.
+pub fn spans_cover_bytes()
+    ensures { SpansTokens }
 {}

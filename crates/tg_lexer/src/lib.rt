@@ -16,6 +16,6 @@ mod strings;
 mod words;
 
 pub use faults::LexFault;
-pub use laws::{fault_excludes_tokens, faults_once, lexes_once};
+pub use laws::{fault_excludes_tokens, faults_once, lexes_once, spans_cover_bytes};
 pub use lexing::lex;
 pub use tg_syntax::LexRule;

@@ -1,4 +1,3 @@
-use Rattle.tg_grammar.proofs.Spelled.{tokens_spelled}
 use Rattle.tg_grammar.proofs.Covers.{span_of-Reads, span_of-IsPlace}
 use Rattle.tg_grammar.proofs.laws.spans_are_exact.Goals as goal
 
@@ -7,6 +6,3 @@ returns-clause-expressions c level tokens e r = span_of-Reads r
 
 pub returns-clause-places : goal.returns-clause-places
 returns-clause-places c tokens s v p = span_of-IsPlace p
-
-pub returns-clause-tokens : goal.returns-clause-tokens
-returns-clause-tokens c names text tokens l = tokens_spelled l

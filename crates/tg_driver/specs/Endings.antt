@@ -1,0 +1,61 @@
+-- The status and the line of each end of a run.
+use Rattle.std.specs.Prelude.{ℕ, ◌+◌, ◌/◌, ◌%◌, ◌==◌, List, [], ◌∷◌, ◌++◌, codes, nat_lt, if◌then◌else◌}
+use Rattle.std.specs.Fmt.{decimal}
+use Rattle.tg_base.specs.declared.ends.RunEnd.{RunEnd}
+use Rattle.tg_base.specs.declared.ends.RunEnd.TheVariants.{Exit, Break, Overflow, HeapFull, StackFull, StepLimit, BadAddress, Unaligned, BadWord, BadService, ReadFault, WriteFault}
+use Rattle.tg_base.specs.Words.{unsigned}
+
+-- by the code of `break`: what a compiled program tests for, and any other
+abbrev pub break_status : (code : ℕ) → ℕ
+break_status n =
+    if n == 2 then 101 else if n == 3 then 102 else if n == 7 then 103
+    else if n == 4 then 104 else if n == 5 then 105 else if n == 6 then 106 else 111
+
+-- an exit's status is its code modulo 256
+abbrev pub end_status : RunEnd → ℕ
+end_status (Exit code) = unsigned code % 256
+end_status (Break code) = break_status code
+end_status HeapFull = 107
+end_status StackFull = 108
+end_status StepLimit = 109
+end_status Overflow = 110
+end_status (BadAddress a) = 111
+end_status (Unaligned a) = 111
+end_status (BadWord w) = 111
+end_status (BadService n) = 111
+end_status ReadFault = 74
+end_status WriteFault = 74
+
+abbrev pub ended : List ℕ → List ℕ
+ended text = codes "tiger: " ++ (text ++ 10 ∷ [])
+
+-- a digit of base 16, in lower case; a word as `0x` and eight of them
+abbrev pub hex_digit : ℕ → ℕ
+hex_digit d = if nat_lt d 10 then d + 48 else d + 87
+
+abbrev pub word_text : ℕ → List ℕ
+word_text w =
+    48 ∷ 120
+    ∷ hex_digit (w / 268435456 % 16) ∷ hex_digit (w / 16777216 % 16) ∷ hex_digit (w / 1048576 % 16) ∷ hex_digit (w / 65536 % 16)
+    ∷ hex_digit (w / 4096 % 16) ∷ hex_digit (w / 256 % 16) ∷ hex_digit (w / 16 % 16) ∷ hex_digit (w % 16) ∷ []
+
+abbrev pub break_text : (code : ℕ) → List ℕ
+break_text n =
+    if n == 2 then codes "nil" else if n == 3 then codes "index out of range" else if n == 7 then codes "division by zero"
+    else if n == 4 then codes "chr out of range" else if n == 5 then codes "substring out of range" else if n == 6 then codes "negative size"
+    else codes "break " ++ decimal n
+
+-- an exit has no line
+abbrev pub end_line : RunEnd → List ℕ
+end_line (Exit code) = []
+end_line (Break code) = ended (break_text code)
+end_line HeapFull = ended (codes "heap full")
+end_line StackFull = ended (codes "stack full")
+end_line StepLimit = ended (codes "step limit")
+end_line Overflow = ended (codes "overflow")
+end_line (BadAddress a) = ended (codes "bad address " ++ word_text a)
+end_line (Unaligned a) = ended (codes "unaligned " ++ word_text a)
+end_line (BadWord w) = ended (codes "bad word " ++ word_text w)
+end_line (BadService n) = ended (codes "bad service " ++ word_text n)
+end_line ReadFault = ended (codes "read or write failed")
+end_line WriteFault = ended (codes "read or write failed")

@@ -1,0 +1,28 @@
+ghost use Rattle.std.specs.Prelude.{ℕ, List};
+ghost use Rattle.tg_driver.specs.Found.{IsFound, IsRefused};
+ghost use Rattle.tg_driver.specs.Readings.{IsRefusalOf};
+
+use crate::answers::Answer;
+use crate::reading::{Refusal, read_source};
+use std::alloc::Global;
+
+/// The answer of a source that is to be checked.
+pub(crate) fn answer_check(alloc: Global, text: &[u8]) -> Answer
+    ensures { IsFound text.now result }
+{
+    let _source = match read_source(alloc, text) {
+        Ok(source) => source,
+        Err(refusal) => return refused(refusal),
+    };
+    Answer::Accepted
+}
+
+/// The answer of a source that is refused.
+pub(crate) fn refused(refusal: Refusal) -> Answer
+    ensures { (text : List ℕ) → IsRefusalOf text refusal → IsRefused text result }
+{
+    match refusal {
+        Refusal::Fault(fault) => Answer::Faulty(fault),
+        Refusal::Memory => Answer::OutOfMemory,
+    }
+}

@@ -1,0 +1,167 @@
+use crate::tiger;
+use std::alloc::Global;
+use std::collections::BTreeMap;
+use std::process::Abort;
+use std::test::Fail;
+use tg_base::{ListSource, MapShelf, RoomSink};
+
+// A status, a blank, the line on the error sink but for `tiger: ` and the newline, a `|`, the output, a `|`, and the
+// assembly text that `exec` answers so.
+static ENDS: [&str; 44] = [
+    "0 ||main: jr $ra\n",
+    "0 ||main: jr $ra",
+    "0 ||main: jr $ra\r\n",
+    "0 ||main: li $v0, 10\nsyscall\n",
+    "7 ||main: li $a0, 7\nli $v0, 17\nsyscall\n",
+    "255 ||main: li $a0, -1\nli $v0, 17\nsyscall\n",
+    "44 ||main: li $a0, 300\nli $v0, 17\nsyscall\n",
+    "7 |hi|.data\nm: .asciiz \"hi\"\n.text\nmain: la $a0, m\nli $v0, 4\nsyscall\nli $a0, 7\nli $v0, 17\nsyscall\n",
+    "0 |-5|main: li $a0, -5\nli $v0, 1\nsyscall\njr $ra\n",
+    "0 |A|main: li $a0, 65\nli $v0, 11\nsyscall\njr $ra\n",
+    "0 |x|main: li $v0, 12\nsyscall\naddu $a0, $v0, $zero\nli $v0, 11\nsyscall\njr $ra\n",
+    "111 unaligned 0x00000002||.text\nmain: lw $t0, 2($zero)\n",
+    "111 unaligned 0x10010001||.data\na: .word 5\n.text\nmain: la $t0, a\nlw $t1, 1($t0)\n",
+    "111 bad address 0x00000000||main: lw $t0, 0($zero)\n",
+    "111 bad address 0x7ffffffc||main: jr $sp\n",
+    "111 bad address 0x00400004||main: nop\n",
+    "111 bad address 0xfffffffc||main: lw $t0, -4($zero)\n",
+    "111 bad service 0x00000005||main: li $v0, 5\nsyscall\n",
+    "111 bad service 0xffffffff||main: li $v0, -1\nsyscall\n",
+    "111 break 0||main: break 0\n",
+    "111 break 1||main: break 1\n",
+    "111 break 8||main: break 8\n",
+    "111 break 9||main: break 9\n",
+    "111 break 1048575||main: break 1048575\n",
+    "101 nil||main: break 2\n",
+    "102 index out of range||main: break 3\n",
+    "103 division by zero||main: break 7\n",
+    "104 chr out of range||main: break 4\n",
+    "105 substring out of range||main: break 5\n",
+    "106 negative size||main: break 6\n",
+    "107 heap full||main: lui $a0, 0x7fff\nli $v0, 9\nsyscall\n",
+    "108 stack full||main: lui $t0, 0x4000\nsw $t0, 0($t0)\n",
+    "110 overflow||.text\nmain: lui $t0, 0x8000\naddi $t0, $t0, -1\n",
+    "109 step limit||main: j main\n",
+    "65 line 2: A4 label twice||main:\nmain:\n",
+    "65 line 2: A1 bad line||.text\nmain: .word 1\n",
+    "65 line 1: A2 unknown instruction||frob $t0\n",
+    "65 line 2: A3 bad operand||main:\n add $t0, $t1\n",
+    "65 line 1: A5 unknown label||main: j nowhere\n",
+    "65 line 1: A7 number out of range||main: addi $t0, $t0, 32768\n",
+    "65 line 3: A8 segment too large||.data\n.space 16711680\n.byte 1\n",
+    "65 line 1: A9 no main||",
+    "65 line 1: A9 no main||nop\n",
+    "65 line 2: A7 number out of range||main: j nowhere\naddi $t0, $t0, 32768\n",
+];
+
+/// What a call of `exec` left: the status, the error sink's bytes, the output, and the count of reads.
+#[derive(Drop)]
+struct Seen {
+    status: u8,
+    error: Vec<u8>,
+    out: Vec<u8>,
+    reads: u64,
+}
+
+/// `exec` of a text with 1,000 steps on a source that holds `xyz`. The source fails at the listed calls, and the output
+/// has this room.
+fn execute(alloc: Global, text: &[u8], read_fails: &[u64], room: usize) -> Result<Seen, Fail> {
+    let mut files = BTreeMap::new(alloc);
+    files.insert(String::from_str(alloc, "a.s")?, text.to_vec(alloc)?)?;
+    let mut shelf = MapShelf::new(files, Vec::new(alloc));
+    let mut input = ListSource::new(b"xyz".to_vec(alloc)?, read_fails.to_vec(alloc)?);
+    let mut out = RoomSink::new(alloc, room, Vec::new(alloc))
+        .ok()
+        .ok_or("no memory")?;
+    let mut err = RoomSink::new(alloc, 128, Vec::new(alloc))
+        .ok()
+        .ok_or("no memory")?;
+    let mut words = Vec::new(alloc);
+    for word in ["tiger", "exec", "a.s", "--steps", "1000"] {
+        words.push(String::from_str(alloc, word)?)?;
+    }
+    let status = tiger(alloc, &words, &mut shelf, &mut input, &mut out, &mut err);
+    Ok(Seen {
+        status,
+        error: err.taken().to_vec(alloc)?,
+        out: out.taken().to_vec(alloc)?,
+        reads: input.calls(),
+    })
+}
+
+/// `exec` of a text ends with this status, this line on the error sink and this output.
+fn ends(
+    rt: &impl Abort,
+    alloc: Global,
+    text: &[u8],
+    status: u8,
+    line: &str,
+    out: &str,
+) -> Result<(), Fail> {
+    let seen = execute(alloc, text, &[], 64)?;
+    let want = if line.is_empty() {
+        String::new(alloc)
+    } else {
+        format!(in alloc; "tiger: {line}\n")?
+    };
+    assert_eq!(rt; seen.status, status, "{line}");
+    assert_eq!(rt; seen.error.as_slice(), want.as_bytes(), "{line}");
+    assert_eq!(rt; seen.out.as_slice(), out.as_bytes(), "{line}");
+    Ok(())
+}
+
+#[test]
+fn texts_end_as_they_must(rt: HostRuntime) -> Result<(), Fail> {
+    let alloc = rt.alloc();
+    for row in ENDS {
+        let Some((status, more)) = row.split_once(' ') else {
+            return Err(Fail::from("no status"));
+        };
+        let Some((line, more)) = more.split_once('|') else {
+            return Err(Fail::from("no line"));
+        };
+        let Some((out, text)) = more.split_once('|') else {
+            return Err(Fail::from("no output"));
+        };
+        let status = status.parse::<u8>().ok().ok_or("no number")?;
+        ends(&rt, alloc, text.as_bytes(), status, line, out)?;
+    }
+    Ok(())
+}
+
+static ECHO: &str =
+    "main: li $v0, 12\nsyscall\naddu $a0, $v0, $zero\nli $v0, 11\nsyscall\njr $ra\n";
+
+#[test]
+fn reads_what_it_asks_for_and_no_more(rt: HostRuntime) -> Result<(), Fail> {
+    let alloc = rt.alloc();
+    let seen = execute(alloc, ECHO.as_bytes(), &[], 64)?;
+    assert_eq!(rt; seen.reads, 1);
+    let seen = execute(alloc, b"main: jr $ra\n", &[], 64)?;
+    assert_eq!(rt; seen.reads, 0);
+    let seen = execute(alloc, b"main: j nowhere\n", &[], 64)?;
+    assert_eq!(rt; seen.reads, 0);
+    Ok(())
+}
+
+#[test]
+fn faults_of_the_streams(rt: HostRuntime) -> Result<(), Fail> {
+    let alloc = rt.alloc();
+    let failed = b"tiger: read or write failed\n".as_slice();
+    let seen = execute(alloc, ECHO.as_bytes(), &[1], 64)?;
+    assert_eq!(rt; seen.status, 74);
+    assert_eq!(rt; seen.error.as_slice(), failed);
+    assert!(rt; seen.out.is_empty());
+    let seen = execute(alloc, ECHO.as_bytes(), &[], 0)?;
+    assert_eq!(rt; seen.status, 74);
+    assert_eq!(rt; seen.error.as_slice(), failed);
+    assert!(rt; seen.out.is_empty());
+    Ok(())
+}
+
+#[test]
+fn longest_text(rt: HostRuntime) -> Result<(), Fail> {
+    let alloc = rt.alloc();
+    let text = vec![in alloc; b'\n'; 67_108_865]?;
+    ends(&rt, alloc, &text, 65, "line 1: A10 file too long", "")
+}
