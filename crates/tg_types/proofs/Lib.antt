@@ -1,11 +1,3 @@
-pub mod HeaderSteps
-pub mod FieldSteps
-pub mod TreeSteps
-pub mod LimitSteps
-pub mod DeclaredSums
-pub mod Namings
-pub mod TableLemmas
-pub mod Steps
 pub mod TypingExamples
 pub mod Has
 pub mod Worlds
