@@ -391,7 +391,7 @@ fn items(alloc: Global, separator: Sign, first: Exp, tokens: &[Spanned]) -> Read
         (job (Items separator (exp (plain first) no_exps))) tokens.now }
     ensures shorter { IfOk result (λ x. length x.1.now ≤ length tokens.now) }
 {
-    let mut items = Vec::new(alloc);
+    let mut items = Vec::with_capacity(alloc, 1)?;
     items.push(first)?;
     let mut rest = tokens;
     'items: loop {
@@ -441,7 +441,7 @@ fn inits(alloc: Global, first: Init, tokens: &[Spanned]) -> Reading<Vec<Init>>
         (job (MoreInits (init first.field (plain first.value) no_inits))) tokens.now }
     ensures shorter { IfOk result (λ x. length x.1.now ≤ length tokens.now) }
 {
-    let mut inits = Vec::new(alloc);
+    let mut inits = Vec::with_capacity(alloc, 1)?;
     inits.push(first)?;
     let mut rest = tokens;
     'inits: loop {

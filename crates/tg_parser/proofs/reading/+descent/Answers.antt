@@ -364,14 +364,20 @@ listed-returns-clause-given t c = gives (then (none_leads _ _ c.in_ok-last.ensur
 pub listed_inits-returns-clause-given : goal.listed_inits-returns-clause-given
 listed_inits-returns-clause-given t c = gives (then (none_leads _ _ c.in_ok-last.ensures.given c.in_default.is ListedInits _ _) (then (call_leads ListedInits OneInit c.in_ok-first.ensures.given) (then (call_leads ListedInits (MoreInits (init c.in_ok-first.first.field (plain c.in_ok-first.first.value) no_inits)) c.in_ok-inits.ensures.given) (want_leads ListedInits c.in_ok-last-2.ensures.given))))
 
+pub items-returns-in_err-items-clause-given : goal.items-returns-in_err-items-clause-given
+items-returns-in_err-items-clause-given t c = ended _ _ _ _ _ _ c.from_residual.ensures (no_memory (Items _ _))
+
 pub items-returns-in_err-push-clause-given : goal.items-returns-in_err-push-clause-given
-items-returns-in_err-push-clause-given t c = ended _ _ _ _ _ _ c.from_residual.ensures (no_memory (Items _ _))
+items-returns-in_err-push-clause-given t c = ended _ _ _ _ _ _ c.from_residual-in_err-push.ensures (no_memory (Items _ _))
 
 pub items-returns-in_err-push-2-clause-given : goal.items-returns-in_err-push-2-clause-given
 items-returns-in_err-push-2-clause-given t c = ended _ _ _ _ _ _ c.from_residual-in_err-push-2.ensures (no_memory (Items _ _))
 
+pub inits-returns-in_err-inits-clause-given : goal.inits-returns-in_err-inits-clause-given
+inits-returns-in_err-inits-clause-given t c = ended _ _ _ _ _ _ c.from_residual.ensures (no_memory (MoreInits _))
+
 pub inits-returns-in_err-push-clause-given : goal.inits-returns-in_err-push-clause-given
-inits-returns-in_err-push-clause-given t c = ended _ _ _ _ _ _ c.from_residual.ensures (no_memory (MoreInits _))
+inits-returns-in_err-push-clause-given t c = ended _ _ _ _ _ _ c.from_residual-in_err-push.ensures (no_memory (MoreInits _))
 
 pub inits-returns-in_err-push-2-clause-given : goal.inits-returns-in_err-push-2-clause-given
 inits-returns-in_err-push-2-clause-given t c = ended _ _ _ _ _ _ c.from_residual-in_err-push-2.ensures (no_memory (MoreInits _))
@@ -419,13 +425,13 @@ pub with_function-returns-clause-given : goal.with_function-returns-clause-given
 with_function-returns-clause-given t c = λ j f. then (call_leads j FunDec (gives (then (c.in_ok-head.ensures.given FunDec (λ h. want (OfSign Equal) (λ _. call (At Whole) (λ e. give (one_function h.name h.params h.result e))))) (c.in_ok-body.ensures.given FunDec _)))) (same_leads j (ap f (sym c.in_ok-push_function.ensures)))
 
 pub items-items-init : goal.items-items-init
-items-items-init t c = record { onward = items_first _ _ _ _ (exps_one _ c.new-items.ensures.items c.in_ok-push.ensures.items); shorter = omega arith }
+items-items-init t c = record { onward = items_first _ _ _ _ (exps_one _ c.in_ok-items.ensures.items c.in_ok-push.ensures.items); shorter = omega arith }
 
 pub items-items-preserved : goal.items-items-preserved
 items-items-preserved t c = record { onward = items_more c.items.invariant.onward (some_leads _ _ c.in_ok-after.ensures.given c.in-Some.is) c.in_ok-e.ensures.given (ap exps_of c.in_ok-push-2.ensures.items ∙ exps_end _ _); shorter = omega (arith, if_some _ c.in_ok-after.ensures.shorter c.in-Some.is, c.in_ok-e.ensures.shorter) }
 
 pub inits-inits-init : goal.inits-inits-init
-inits-inits-init t c = record { onward = inits_first _ _ _ (inits_one _ c.new-inits.ensures.items c.in_ok-push.ensures.items); shorter = omega arith }
+inits-inits-init t c = record { onward = inits_first _ _ _ (inits_one _ c.in_ok-inits.ensures.items c.in_ok-push.ensures.items); shorter = omega arith }
 
 pub inits-inits-preserved : goal.inits-inits-preserved
 inits-inits-preserved t c = record { onward = inits_more c.inits.invariant.onward (some_leads _ _ c.in_ok-after.ensures.given c.in-Some.is) c.in_ok-init.ensures.given (ap inits_of c.in_ok-push-2.ensures.items ∙ inits_end _ _); shorter = omega (arith, if_some _ c.in_ok-after.ensures.shorter c.in-Some.is, c.in_ok-init.ensures.shorter) }
