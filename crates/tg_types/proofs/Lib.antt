@@ -1,3 +1,16 @@
+pub mod HeaderChecks
+pub mod ChainSteps
+pub mod NoteSteps
+pub mod GroupSteps
+pub mod HeaderSteps
+pub mod FieldSteps
+pub mod TreeSteps
+pub mod LimitSteps
+pub mod DeclaredSums
+pub mod LimitFaults
+pub mod Namings
+pub mod TableLemmas
+pub mod Steps
 pub mod TypingExamples
 pub mod Has
 pub mod Worlds

@@ -6,3 +6,13 @@ pub mod Typing
 pub mod Limits
 pub mod Accepted
 pub mod Laws
+pub mod Kinds
+pub mod Tables
+pub mod Bindings
+pub mod Shapes
+pub mod States
+pub mod Selections
+pub mod Trees
+pub mod Faults
+pub mod Answered
+pub mod Declaring

@@ -1,3 +1,5 @@
+use std::alloc::{AllocError, AllocFailed};
+use tg_base::Memory;
 use thiserror::Error;
 
 /// A rule of typing.
@@ -56,4 +58,37 @@ pub enum TypeFault {
     Bad { rule: TypeRule, at: u32 },
     #[error("no more memory")]
     Memory,
+}
+
+impl From<AllocError> for TypeFault {
+    ghost use Rattle.std.specs.Prelude.{◌≡◌};
+    ghost use Rattle.tg_types.specs.declared.faults.TypeFault.TheVariants.{Memory as NoMemory};
+
+    ghost from_gives = { λ _ e. e ≡ NoMemory };
+
+    fn from(_value: AllocError) -> Self {
+        TypeFault::Memory
+    }
+}
+
+impl<T: Drop> From<AllocFailed<T>> for TypeFault {
+    ghost use Rattle.std.specs.Prelude.{◌≡◌};
+    ghost use Rattle.tg_types.specs.declared.faults.TypeFault.TheVariants.{Memory as NoMemory};
+
+    ghost from_gives = { λ _ e. e ≡ NoMemory };
+
+    fn from(_value: AllocFailed<T>) -> Self {
+        TypeFault::Memory
+    }
+}
+
+impl From<Memory> for TypeFault {
+    ghost use Rattle.std.specs.Prelude.{◌≡◌};
+    ghost use Rattle.tg_types.specs.declared.faults.TypeFault.TheVariants.{Memory as NoMemory};
+
+    ghost from_gives = { λ _ e. e ≡ NoMemory };
+
+    fn from(_value: Memory) -> Self {
+        TypeFault::Memory
+    }
 }

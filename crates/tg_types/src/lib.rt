@@ -3,10 +3,27 @@
 //! never stuck. What checks programs comes next.
 #![tactic(auto)]
 
+mod bindings;
+mod chains;
+mod checking;
 mod faults;
+mod groups;
+mod headers;
+mod kinds;
 mod laws;
+mod limits;
+mod lookups;
 mod notes;
+mod operators;
+mod records;
+mod rules;
+mod shapes;
+mod standards;
+mod states;
+mod tables;
+mod trees;
 
+pub use checking::{Checked, Notes, check};
 pub use faults::{TypeFault, TypeRule};
 pub use laws::never_stuck;
 pub use notes::{Means, Note};

@@ -1,0 +1,10 @@
+use Rattle.std.proofs.Common.{refl, sym, ap, ◌∙◌}
+use Rattle.std.specs.Prelude.{not}
+use Rattle.tg_types.proofs.Steps.{step, given, given_is, keep_is, fails_first, fails_then, ended, carry, last_fails}
+use Rattle.tg_types.proofs.rules.expected.Goals as goal
+
+pub returns-in_err-value_needed : goal.returns-in_err-value_needed
+returns-in_err-value_needed c = λ n. ended _ _ _ c.from_residual.ensures (fails_first _ _ (c.in_err-value_needed.ensures n))
+
+pub returns : goal.returns
+returns c = λ n. carry c.kept.result _ _ (step _ _ (c.in_ok-value_needed.ensures n) (keep_is _ _ refl (sym c.fits.ensures))) (c.kept.ensures n)

@@ -1,0 +1,126 @@
+ghost use Rattle.std.specs.Prelude.{◌≡◌, [], length, List, ℕ, Bool, IfOk, OnOk};
+ghost use Rattle.tg_syntax.specs.Plain.{plain_functions};
+ghost use Rattle.tg_types.specs.declared.faults.TypeRule.TheVariants.{T17};
+ghost use Rattle.tg_types.specs.Checks.{Noted};
+ghost use Rattle.tg_types.specs.Scopes.{Scope};
+ghost use Rattle.tg_types.specs.Groups as groups;
+ghost use Rattle.tg_types.specs.Selections.{function_count, header_of};
+ghost use Rattle.tg_syntax.specs.NamesWithin.{FunctionsWithin, ParamsWithin, KindWithin};
+ghost use Rattle.tg_types.specs.States.{Gives, Opens, scope_of, noted_of};
+
+use crate::bindings::{Binding, Signature};
+use crate::faults::{TypeFault, TypeRule};
+use crate::groups::fresh;
+use crate::kinds::Ty;
+use crate::lookups::type_named;
+use crate::states::State;
+use std::collections::HashSet;
+use tg_base::{Memory, Names};
+use tg_syntax::{FunDec, FunDecs, Ident, Param};
+
+/// The functions of a group have different names.
+pub(crate) fn all_fresh(state: &State, functions: &FunDecs) -> Result<(), TypeFault>
+    ensures { (n : Noted) → Gives result (λ _. tt) n (groups.no_repeats T17 [] (groups.function_names (plain_functions functions.now)) n) }
+{
+    let mut earlier = HashSet::new(state.alloc);
+    for function in &functions.items {
+        fresh(&mut earlier, TypeRule::T17, function.name)?;
+    }
+    Ok(())
+}
+
+/// The signatures of a group of functions.
+pub(crate) fn headers(
+    names: &Names,
+    state: &State,
+    functions: &FunDecs,
+) -> Result<Vec<Signature>, TypeFault>
+    requires { FunctionsWithin (length names.now) (plain_functions functions.now) }
+    ensures given { (scope : Scope) (in_loop : Bool) → scope ≡ scope_of names.now state.now in_loop →
+        (n : Noted) → Gives result (λ v. v.items) n (groups.headers (plain_functions functions.now) scope n) }
+    ensures as_many { IfOk result (λ v. function_count (plain_functions functions.now) ≡ length v.items) }
+{
+    let mut signatures = Vec::new(state.alloc);
+    for function in &functions.items {
+        signatures.push(header(names, state, function)?)?;
+    }
+    Ok(signatures)
+}
+
+fn header(names: &Names, state: &State, function: &FunDec) -> Result<Signature, TypeFault>
+    requires params { ParamsWithin (length names.now) function.now.params }
+    requires kind { KindWithin (length names.now) function.now.result }
+    ensures { (scope : Scope) (in_loop : Bool) → scope ≡ scope_of names.now state.now in_loop →
+        (n : Noted) → Gives result (λ s. s) n (header_of function.now.params function.now.result scope n) }
+{
+    let params = param_types(names, state, function.params.as_slice())?;
+    let outcome = result_type(names, state, function.result)?;
+    Ok(Signature::new(params, outcome))
+}
+
+fn result_type(names: &Names, state: &State, kind: Option<Ident>) -> Result<Ty, TypeFault>
+    requires { KindWithin (length names.now) kind }
+    ensures { (scope : Scope) (in_loop : Bool) → scope ≡ scope_of names.now state.now in_loop →
+        (n : Noted) → Gives result (λ t. t) n (groups.result_type scope kind n) }
+{
+    match kind {
+        Some(kind) => type_named(names, state, kind),
+        None => Ok(Ty::nothing()),
+    }
+}
+
+fn param_types(names: &Names, state: &State, params: &[Param]) -> Result<Vec<Ty>, TypeFault>
+    requires { ParamsWithin (length names.now) params.now }
+    ensures given { (scope : Scope) (in_loop : Bool) → scope ≡ scope_of names.now state.now in_loop →
+        (n : Noted) → Gives result (λ v. v.items) n (groups.param_types scope [] params.now n) }
+{
+    let mut earlier = HashSet::new(state.alloc);
+    let mut types = Vec::new(state.alloc);
+    for param in params {
+        fresh(&mut earlier, TypeRule::T18, param.name)?;
+        types.push(type_named(names, state, param.kind)?)?;
+    }
+    Ok(types)
+}
+
+/// Opens the functions of a group.
+pub(crate) fn open_functions(
+    state: &mut State,
+    functions: &FunDecs,
+    signatures: &[Signature],
+) -> Result<(), Memory>
+    requires { function_count (plain_functions functions.now) ≡ length signatures.now }
+    ensures given { (names : List (List ℕ)) (in_loop : Bool) (scope : Scope) → scope ≡ scope_of names state.old in_loop →
+        OnOk result (groups.with_functions (plain_functions functions.now) signatures.now scope ≡ scope_of names state.new in_loop) }
+    ensures opens { OnOk result (Opens state.old state.new) }
+    ensures noted { noted_of state.new ≡ noted_of state.old }
+    ensures types { state.new.types ≡ state.old.types }
+{
+    let mut at = 0;
+    for function in &functions.items {
+        let binding = Binding::function(function.name.span.from, signatures[at].copy()?);
+        state.bindings.push(function.name.name.0, binding)?;
+        at += 1;
+    }
+    Ok(())
+}
+
+/// Opens the parameters of a function.
+pub(crate) fn open_params(state: &mut State, params: &[Param], types: &[Ty]) -> Result<(), Memory>
+    ensures given { (names : List (List ℕ)) (in_loop : Bool) (scope : Scope) → scope ≡ scope_of names state.old in_loop →
+        OnOk result (groups.with_params params.now types.now scope ≡ scope_of names state.new in_loop) }
+    ensures opens { OnOk result (Opens state.old state.new) }
+    ensures noted { noted_of state.new ≡ noted_of state.old }
+    ensures types { state.new.types ≡ state.old.types }
+{
+    let mut at = 0;
+    for param in params {
+        if at >= types.len() {
+            return Ok(());
+        }
+        let binding = Binding::variable(param.name.span.from, types[at], false);
+        state.bindings.push(param.name.name.0, binding)?;
+        at += 1;
+    }
+    Ok(())
+}

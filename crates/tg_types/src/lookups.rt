@@ -1,0 +1,108 @@
+ghost use Rattle.std.specs.Prelude.{◌≡◌, ◌<◌, ◌++◌, length, Bool};
+ghost use Rattle.tg_types.specs.declared.faults.TypeFault.TheVariants.{Bad};
+ghost use Rattle.tg_types.specs.Types.{named};
+ghost use Rattle.tg_types.specs.Checks.{Noted};
+ghost use Rattle.tg_types.specs.Scopes.{Scope, bound, standard_types};
+ghost use Rattle.tg_types.specs.Groups as groups;
+ghost use Rattle.tg_types.specs.Typing as typing;
+ghost use Rattle.tg_types.specs.States.{Gives, Keeps, scope_of, noted_of};
+
+use crate::bindings::Signature;
+use crate::faults::{TypeFault, TypeRule};
+use crate::kinds::Ty;
+use crate::notes::Means;
+use crate::standards::{signature_of, standard_of, standard_type};
+use crate::states::State;
+use tg_base::Names;
+use tg_syntax::Ident;
+
+/// The type that a name has at a place of the text.
+pub(crate) fn type_of(names: &Names, state: &State, x: Ident) -> Option<Ty>
+    requires { x.name.0 < length names.now }
+    ensures { result ≡ named x.name.0 (state.now.types ++ standard_types 0 names.now) }
+{
+    match state.types.get(x.name.0) {
+        Some(ty) => Some(*ty),
+        None => standard_type(names.text(x.name)),
+    }
+}
+
+/// A type's name.
+pub(crate) fn type_named(names: &Names, state: &State, x: Ident) -> Result<Ty, TypeFault>
+    requires { x.name.0 < length names.now }
+    ensures { (scope : Scope) (in_loop : Bool) → scope ≡ scope_of names.now state.now in_loop →
+        (n : Noted) → Gives result (λ t. t) n (groups.type_named x scope n) }
+{
+    match type_of(names, state, x) {
+        Some(ty) => Ok(ty),
+        None => Err(bad(TypeRule::T3, x)),
+    }
+}
+
+/// A variable that is used.
+pub(crate) fn variable(names: &Names, state: &mut State, x: Ident) -> Result<Ty, TypeFault>
+    requires { x.name.0 < length names.now }
+    ensures given { (scope : Scope) (in_loop : Bool) → scope ≡ scope_of names.now state.old in_loop →
+        Gives result (λ t. t) (noted_of state.new) (typing.variable_of x (bound x scope) (noted_of state.old)) }
+    ensures kept { Keeps state.old state.new }
+{
+    match state.bindings.get(x.name.0) {
+        Some(binding) => match binding.as_variable() {
+            Some(found) => {
+                state.note(x.span.from, Means::Variable(found.0))?;
+                Ok(found.1)
+            }
+            None => Err(bad(TypeRule::T4, x)),
+        },
+        None => match standard_of(names.text(x.name)) {
+            Some(_) => Err(bad(TypeRule::T4, x)),
+            None => Err(bad(TypeRule::T1, x)),
+        },
+    }
+}
+
+/// A function that is called.
+pub(crate) fn function(names: &Names, state: &mut State, f: Ident) -> Result<Signature, TypeFault>
+    requires { f.name.0 < length names.now }
+    ensures given { (scope : Scope) (in_loop : Bool) → scope ≡ scope_of names.now state.old in_loop →
+        Gives result (λ s. s) (noted_of state.new) (typing.function_of f (bound f scope) (noted_of state.old)) }
+    ensures kept { Keeps state.old state.new }
+{
+    match state.bindings.get(f.name.0) {
+        Some(binding) => match binding.as_function() {
+            Some((at, signature)) => {
+                let signature = signature.copy()?;
+                state.note(f.span.from, Means::Function(at))?;
+                Ok(signature)
+            }
+            None => Err(bad(TypeRule::T5, f)),
+        },
+        None => match standard_of(names.text(f.name)) {
+            Some(standard) => {
+                state.note(f.span.from, Means::Standard(standard))?;
+                Ok(signature_of(state.alloc, standard)?)
+            }
+            None => Err(bad(TypeRule::T2, f)),
+        },
+    }
+}
+
+/// Whether a name is a loop's variable.
+pub(crate) fn is_loop_variable(names: &Names, state: &State, x: Ident) -> bool
+    requires { x.name.0 < length names.now }
+    ensures { (scope : Scope) (in_loop : Bool) → scope ≡ scope_of names.now state.now in_loop → result ≡ typing.is_loop_variable (bound x scope) }
+{
+    match state.bindings.get(x.name.0) {
+        Some(binding) => binding.is_loop_variable(),
+        None => false,
+    }
+}
+
+fn bad(rule: TypeRule, x: Ident) -> TypeFault
+    ensures { result ≡ Bad rule x.span.from }
+{
+    TypeFault::Bad {
+        rule,
+        at: x.span.from,
+    }
+}

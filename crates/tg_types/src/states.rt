@@ -1,0 +1,47 @@
+ghost use Rattle.std.specs.Prelude.{◌≡◌, [], List, ℕ};
+ghost use Rattle.tg_types.specs.Checks.{note, Noted};
+ghost use Rattle.tg_types.specs.States.{Gives, Keeps, noted_of};
+
+use crate::bindings::Binding;
+use crate::faults::TypeFault;
+use crate::kinds::Ty;
+use crate::notes::{Means, Note};
+use crate::shapes::Shape;
+use crate::tables::Table;
+use std::alloc::Global;
+
+/// What is open at a place of the text, the shapes of types so far, and the notes so far.
+#[derive(Drop)]
+pub(crate) struct State {
+    pub(crate) alloc: Global,
+    pub(crate) bindings: Table<Binding>,
+    pub(crate) types: Table<Ty>,
+    pub(crate) shapes: Table<Shape>,
+    pub(crate) notes: Vec<Note>,
+}
+
+impl State {
+    /// Nothing is open, and nothing noted.
+    pub(crate) fn new(alloc: Global) -> State
+        ensures bindings { result.bindings ≡ [] }
+        ensures types { result.types ≡ [] }
+        ensures noted { noted_of result ≡ record { shapes = []; notes = [] } }
+    {
+        State {
+            alloc,
+            bindings: Table::new(alloc),
+            types: Table::new(alloc),
+            shapes: Table::new(alloc),
+            notes: Vec::new(alloc),
+        }
+    }
+
+    /// A note behind the others.
+    pub(crate) fn note(&mut self, at: u32, means: Means) -> Result<(), TypeFault>
+        ensures given { Gives result (λ _. tt) (noted_of self.new) (note at means (noted_of self.old)) }
+        ensures kept { Keeps self.old self.new }
+    {
+        self.notes.push(Note { at, means })?;
+        Ok(())
+    }
+}

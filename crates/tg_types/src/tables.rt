@@ -1,0 +1,146 @@
+ghost use Rattle.std.specs.Prelude.{◌≡◌, ◌≤◌, [], ◌∷◌, ◌++◌, drop, length, List, OnOk, IfOk};
+ghost use Rattle.std.specs.Option.{option_copied};
+ghost use Rattle.tg_types.specs.Types.{named};
+ghost use Rattle.tg_types.specs.Tables.{placed_at};
+
+use std::alloc::Global;
+use std::collections::HashMap;
+use std::marker::Model;
+use tg_base::Memory;
+
+/// What a name has, with the place of the entry of the same name that it hides.
+#[derive(Drop)]
+pub(crate) struct Entry<V> {
+    name: u32,
+    hidden: Option<u32>,
+    value: V,
+}
+
+/// Names with what they have, the newest first. A look-up and the end of a scope don't walk over what is open.
+#[derive(Drop)]
+pub(crate) struct Table<V> {
+    top: HashMap<u32, u32>,
+    entries: Vec<Entry<V>>,
+}
+
+impl<V> Model for Table<V> {
+    ghost use Rattle.std.specs.Prelude.{List, ℕ};
+
+    ghost Value = { List (ℕ × V) };
+
+    ghost use Rattle.tg_types.specs.Tables.{entries_of, IsLinked};
+
+    ghost view = { λ t. entries_of t.entries.items };
+
+    ghost invariant = { λ t. IsLinked t.top t.entries.items };
+}
+
+impl<V: Drop> Table<V> {
+    pub(crate) fn new(alloc: Global) -> Table<V>
+        ensures { result ≡ [] }
+    {
+        Table {
+            top: HashMap::new(alloc),
+            entries: Vec::new(alloc),
+        }
+    }
+
+    pub(crate) fn len(&self) -> usize
+        ensures { result ≡ length self.now }
+    {
+        self.entries.len()
+    }
+
+    /// What a name has.
+    pub(crate) fn get(&self, name: u32) -> Option<&V>
+        ensures { option_copied result ≡ named name self.now }
+    {
+        let _ = self.entries.as_slice();
+        match self.top.get(&name) {
+            Some(at) => Some(&self.entries[*at as usize].value),
+            None => None,
+        }
+    }
+
+    /// The place of a name, from the newest on.
+    pub(crate) fn find(&self, name: u32) -> Option<u32>
+        ensures { result ≡ placed_at name 0 self.now }
+    {
+        let _ = self.entries.as_slice();
+        match self.top.get(&name) {
+            Some(at) => Some(self.entries.len() as u32 - 1 - *at),
+            None => None,
+        }
+    }
+
+    /// A name's entry before the others.
+    pub(crate) fn push(&mut self, name: u32, value: V) -> Result<(), Memory>
+        ensures { OnOk result (self.new ≡ (name, value) ∷ self.old) }
+    {
+        let at = self.entries.len();
+        if at >= 4294967295 {
+            return Err(Memory);
+        }
+        let hidden = self.top.get(&name).copied();
+        self.entries.push(Entry {
+            name,
+            hidden,
+            value,
+        })?;
+        match self.top.insert(name, at as u32) {
+            Ok(_) => Ok(()),
+            Err(_) => {
+                self.entries.pop();
+                Err(Memory)
+            }
+        }
+    }
+
+    /// Takes the newest entries away, so many that this many are left.
+    pub(crate) fn cut_to(&mut self, len: usize)
+        requires { len ≤ length self.old }
+        ensures { (front back : List _) → self.old ≡ front ++ back → length back ≡ len → self.new ≡ back }
+    {
+        while self.len() > len {
+            self.pop();
+        }
+    }
+
+    // Takes the newest entry away.
+    fn pop(&mut self)
+        ensures { self.new ≡ drop 1 self.old }
+    {
+        let Some(entry) = self.entries.pop() else {
+            return;
+        };
+        let Entry {
+            name,
+            hidden,
+            value: _,
+        } = entry;
+        match hidden {
+            Some(at) => {
+                let _ = self.top.insert(name, at);
+            }
+            None => {
+                self.top.remove(&name);
+            }
+        }
+    }
+}
+
+impl<V: Copy> Table<V> {
+    /// The entries, the newest first.
+    pub(crate) fn to_vec(&self, alloc: Global) -> Result<Vec<(u32, V)>, Memory>
+        ensures { IfOk result (λ v. v.items ≡ self.now) }
+    {
+        let mut entries = Vec::new(alloc);
+        let mut at = self.entries.len();
+        while at > 0 {
+            at -= 1;
+            let entry = &self.entries[at];
+            entries.push((entry.name, entry.value))?;
+        }
+        Ok(entries)
+    }
+}
