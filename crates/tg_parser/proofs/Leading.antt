@@ -1,5 +1,5 @@
 -- How what the parts of a program do makes up what it does.
-use Rattle.std.specs.Prelude.{◌↔◌, Result, Ok, Err, IsErr}
+use Rattle.std.specs.Prelude.{IsTrue, ◌↔◌, Result, Ok, Err, IsErr}
 use Rattle.std.specs.Result.{IsErrAnd}
 use Rattle.std.proofs.Common.{ℕ, ◌≡◌, List, [], ◌∷◌, Option, Some, None, Bool, true, false, refl, sym, subst, ◌∙◌}
 use Rattle.tg_base.specs.declared.ids.Span.{Span}
