@@ -1,10 +1,10 @@
 -- Data and strings are read one by one.
-use Rattle.std.proofs.Common.{◌≡◌, ◌≢◌, ◌<◌, ◌≤◌, ◌+◌, ℕ, suc, Bool, true, false, not, cond, List, [], ◌∷◌, ◌++◌, length, map, drop, get_or, Option, Some, None, refl, sym, ap, ◌∙◌, arith, append-nil, append_assoc, drop-cons, add-one}
+use Rattle.std.proofs.Common.{◌≡◌, ◌<◌, ◌≤◌, ◌+◌, ℕ, suc, Bool, true, false, not, List, [], ◌∷◌, ◌++◌, length, map, drop, get_or, Option, Some, None, refl, sym, ap, ◌∙◌, append-nil, append_assoc, drop-cons, add-one}
 use Rattle.std.specs.Prelude.{slice_index, ◌&&◌, ◌==◌}
 use Rattle.std.proofs.lemmas.List.{drop_all, map-append}
 use Rattle.tg_isa.specs.declared.keywords.Keyword.{Keyword}
 use Rattle.tg_isa.specs.Items as items
-use Rattle.tg_isa.specs.Operands.{string, before_string, escape, plain}
+use Rattle.tg_isa.specs.Operands.{string, before_string}
 use Rattle.tg_asm.specs.Cuts.{operand_of}
 use Rattle.tg_asm.specs.Means.{datum_of, meant_by}
 use Rattle.tg_asm.specs.declared.cuts.Operand.{Operand}

@@ -1,10 +1,10 @@
 -- What the passes give is what the definition gives.
-use Rattle.std.proofs.Common.{◌≡◌, ◌≤◌, ℕ, List, length, Result, Ok, Err, Option, Some, None, refl, sym, ap, ◌∙◌}
+use Rattle.std.proofs.Common.{◌≡◌, ◌≤◌, ℕ, List, length, Ok, Err, Some, None, refl}
 use Rattle.tg_isa.specs.declared.keywords.AsmRule.TheVariants.{A9}
 use Rattle.tg_isa.specs.Lines.{lines}
-use Rattle.tg_isa.specs.Assembly.{Layout, Made, Fault, blank, unmade, layout, make, entry, last_line, assembled, Assembled}
-use Rattle.tg_asm.specs.Layouts.{GivesLayout, IsSmall, layout_of}
-use Rattle.tg_asm.specs.Images.{GivesMade, GivesImage, made_of}
+use Rattle.tg_isa.specs.Assembly.{Layout, Made, blank, unmade, layout, make, entry, last_line, assembled}
+use Rattle.tg_asm.specs.Layouts.{GivesLayout, IsSmall}
+use Rattle.tg_asm.specs.Images.{GivesMade, GivesImage}
 use Rattle.tg_asm.specs.declared.faults.AsmFault.{AsmFault}
 use Rattle.tg_asm.specs.declared.faults.AsmFault.TheVariants as fault
 use Rattle.tg_asm.proofs.Sizes.{made_even}

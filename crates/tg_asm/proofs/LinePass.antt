@@ -1,8 +1,8 @@
 -- Lines are laid out one by one.
-use Rattle.std.proofs.Common.{◌≡◌, ◌<◌, ◌≤◌, ◌+◌, ℕ, suc, List, [], ◌∷◌, length, Result, Ok, Err, refl, sym, ap, ◌∙◌, arith}
+use Rattle.std.proofs.Common.{◌≡◌, ◌<◌, ◌≤◌, ◌+◌, ℕ, List, [], ◌∷◌, length, Ok, Err, refl, ap, ◌∙◌, arith}
 use Rattle.tg_isa.specs.declared.keywords.AsmRule.{AsmRule}
 use Rattle.tg_isa.specs.Lines.{lines}
-use Rattle.tg_isa.specs.Assembly.{Layout, blank, add_line, layout, Fault}
+use Rattle.tg_isa.specs.Assembly.{Layout, blank, add_line, layout}
 use Rattle.tg_asm.specs.Layouts.{IsSmall}
 
 pub record LaidOut (text rest : List ℕ) (l : Layout) (n : ℕ) : Type 0 where

@@ -1,9 +1,9 @@
 -- Words and data are made one by one.
-use Rattle.std.proofs.Common.{◌≡◌, ◌<◌, ◌≤◌, ◌+◌, ◌-◌, ◌%◌, ℕ, suc, List, [], ◌∷◌, ◌++◌, length, map, take, drop, replicate, get_or, Result, Ok, Err, refl, sym, ap, ◌∙◌, arith, drop-cons, add-one}
+use Rattle.std.proofs.Common.{◌≡◌, ◌<◌, ◌≤◌, ◌+◌, ◌-◌, ◌%◌, ℕ, suc, List, [], ◌∷◌, ◌++◌, length, map, drop, get_or, Result, Ok, Err, refl, ap, ◌∙◌, arith, drop-cons, add-one}
 use Rattle.std.proofs.lemmas.List.{drop_all}
 use Rattle.tg_isa.specs.declared.keywords.AsmRule.{AsmRule}
 use Rattle.tg_isa.specs.Items as items
-use Rattle.tg_isa.specs.Assembly.{Layout, Made, make_words, make_data, word, datum_bytes, pad, round_up}
+use Rattle.tg_isa.specs.Assembly.{Layout, Made, make_words, make_data, word, datum_bytes, round_up}
 use Rattle.tg_asm.specs.Means.{datum_of}
 use Rattle.tg_asm.specs.declared.items.Datum.{Datum}
 

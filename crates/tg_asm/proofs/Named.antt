@@ -1,5 +1,5 @@
 -- A register is looked for among the names.
-use Rattle.std.proofs.Common.{◌≡◌, ◌<◌, ◌≤◌, ◌+◌, ℕ, zero, suc, Bool, true, false, List, [], ◌∷◌, length, drop, Option, Some, None, refl, sym, ap, ◌∙◌, arith, drop-cons, add-one}
+use Rattle.std.proofs.Common.{◌≡◌, ◌<◌, ◌+◌, ℕ, suc, true, false, List, [], ◌∷◌, drop, Some, refl, sym, ap, ◌∙◌, drop-cons, add-one}
 use Rattle.std.specs.Str.{bytes_eq}
 use Rattle.tg_isa.specs.Names.{names, name_of}
 use Rattle.tg_isa.specs.Operands.{named, named_from}

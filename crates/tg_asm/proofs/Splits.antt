@@ -1,9 +1,9 @@
 -- A text is split byte by byte.
-use Rattle.std.proofs.Common.{◌≡◌, ◌<◌, ◌≤◌, ◌+◌, ℕ, suc, Bool, true, false, cond, List, [], ◌∷◌, ◌++◌, length, take, drop, get_or, refl, sym, ap, ◌∙◌, arith, append-nil, append_assoc, drop-cons, add-one}
+use Rattle.std.proofs.Common.{◌≡◌, ◌<◌, ◌≤◌, ◌+◌, ℕ, suc, Bool, true, false, List, [], ◌∷◌, ◌++◌, length, take, drop, refl, sym, ap, ◌∙◌, arith, append-nil, append_assoc, drop-cons, add-one}
 use Rattle.std.specs.Prelude.{slice_index, ◌==◌}
 use Rattle.std.proofs.Math.Seq.{take-suc}
 use Rattle.std.proofs.lemmas.List.{drop_all}
-use Rattle.tg_isa.specs.Lines.{front, back, lines, onto_first, before_lines}
+use Rattle.tg_isa.specs.Lines.{front, back, lines, onto_first}
 
 -- what the first `at` bytes, none of the class, leave of a split
 pub record Split (class : ℕ → Bool) (text : List ℕ) (at : ℕ) : Type 0 where

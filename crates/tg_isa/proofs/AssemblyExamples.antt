@@ -1,5 +1,5 @@
 -- Texts, assembled as the definition says.
-use Rattle.std.specs.Prelude.{◌≡◌, List, [], ◌∷◌, ◌++◌, ℕ, map, codes, Some, None, Result, Ok, Err}
+use Rattle.std.specs.Prelude.{◌≡◌, List, [], ◌∷◌, ℕ, codes, Result, Ok, Err}
 use Rattle.std.proofs.Common.{refl}
 use Rattle.tg_isa.specs.declared.keywords.AsmRule.{AsmRule}
 use Rattle.tg_isa.specs.declared.keywords.AsmRule.TheVariants.{A1, A2, A3, A4, A5, A6, A7, A9}

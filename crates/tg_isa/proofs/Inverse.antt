@@ -1,5 +1,5 @@
 -- The row of an instruction's word is that instruction.
-use Rattle.std.proofs.Common.{◌≡◌, ◌≢◌, sym, ap, ◌∙◌, Option, None, IfNone, ◌<◌, ◌/◌, ◌%◌, ℕ, arith, refl, Some, lit<}
+use Rattle.std.proofs.Common.{◌≡◌, ◌≢◌, ap, Option, None, IfNone, ◌<◌, ◌/◌, ◌%◌, ℕ, arith, refl, Some, lit<}
 use Rattle.tg_isa.specs.declared.mips.Mips.{Mips}
 use Rattle.tg_isa.specs.declared.mips.Mips.TheVariants.{Sll, Srl, Sra, Jr, Jalr, Syscall, Break, Mfhi, Mflo, Mult, Div, Add, Sub, Addu, Subu, And, Or, Xor, Nor, Slt, Sltu, J, Jal, Beq, Bne, Blez, Bgtz, Bltz, Bgez, Addi, Addiu, Slti, Sltiu, Andi, Ori, Xori, Lui, Lb, Lbu, Lw, Sb, Sw}
 use Rattle.tg_isa.specs.Table.{register_form, immediate_form, jump_form, code_form, word_of, IsRow, decode_of}

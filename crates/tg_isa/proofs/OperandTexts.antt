@@ -1,16 +1,16 @@
 -- Numbers, registers and labels are read as they are written.
-use Rattle.std.proofs.Common.{◌≡◌, ◌≢◌, ◌⊎◌, inl, inr, ◌<◌, ◌≤◌, ◌+◌, ◌-◌, ◌*◌, ◌/◌, ◌%◌, ◌^◌, ℕ, zero, suc, min, Bool, true, false, not, cond, List, [], ◌∷◌, ◌++◌, length, Option, Some, None, refl, sym, ap, subst, ◌∙◌, arith, append_assoc}
-use Rattle.std.specs.Prelude.{◌&&◌, ◌||◌, ◌==◌, nat_lt, nat_le, if◌then◌else◌}
+use Rattle.std.proofs.Common.{◌≡◌, ◌≢◌, ◌⊎◌, inl, inr, ◌<◌, ◌≤◌, ◌+◌, ◌-◌, ◌*◌, ◌/◌, ◌%◌, ◌^◌, ℕ, zero, suc, Bool, true, false, not, cond, List, [], ◌∷◌, ◌++◌, length, Option, Some, None, refl, sym, ap, subst, ◌∙◌, arith, append_assoc}
+use Rattle.std.specs.Prelude.{◌&&◌, ◌||◌, ◌==◌, nat_lt, if◌then◌else◌}
 use Rattle.std.specs.Fmt.{decimal}
 use Rattle.std.proofs.lemmas.Fmt.{decimal_by_steps}
 use Rattle.std.proofs.lemmas.Bool.{eqb-true, le-leb, ltb-true, ltb-false}
 use Rattle.std.proofs.lemmas.Bool.Decides.{eqb_tells}
 use Rattle.std.proofs.Math.Nat.{mod-eq_of_lt}
 use Rattle.tg_isa.specs.Names.{name_of}
-use Rattle.tg_isa.specs.Lines.{front, back, is_end, begins_label, is_in_label, is_past_label}
-use Rattle.tg_isa.specs.Operands.{Signed, capped, digit, digits, some_digits, hexadecimal, magnitude, with_sign, number, is_within, field, register, is_label, Address, or_nothing, address_of, closed, closed_address, in_parens, based}
+use Rattle.tg_isa.specs.Lines.{front, back, is_end, begins_label, is_past_label}
+use Rattle.tg_isa.specs.Operands.{Signed, capped, digit, digits, some_digits, hexadecimal, magnitude, with_sign, number, is_within, field, register, is_label, or_nothing, address_of, closed_address, in_parens, based}
 use Rattle.tg_isa.specs.Writing.{signed_text, based_text}
-use Rattle.tg_isa.proofs.WordCuts.{and_true, or_false, not_true, none_of, begins, is_some, is_newline, first_not, rest_not, none_cons, none_append, front_until, back_until, IsWord}
+use Rattle.tg_isa.proofs.WordCuts.{and_true, or_false, not_true, none_of, is_some, is_newline, first_not, rest_not, none_cons, none_append, front_until, back_until, IsWord}
 
 -- what holds of all small numbers
 abbrev all_below : ℕ → (ℕ → Bool) → Bool

@@ -1,5 +1,5 @@
 -- The line of an instruction is read as that instruction.
-use Rattle.std.proofs.Common.{◌≡◌, ◌<◌, ◌≤◌, ◌+◌, ◌^◌, ◌%◌, ℕ, Bool, true, false, List, [], ◌∷◌, ◌++◌, length, Option, Some, Result, Ok, Err, IfOk, OnOk, IsTrue, Vec, refl, sym, ap, subst, ◌∙◌, arith, lit≤}
+use Rattle.std.proofs.Common.{◌≡◌, ◌<◌, ◌≤◌, ◌+◌, ◌^◌, ℕ, true, false, List, [], ◌∷◌, ◌++◌, length, Option, Some, Result, Ok, Err, IfOk, OnOk, IsTrue, Vec, refl, sym, ap, subst, ◌∙◌, arith, lit≤}
 use Rattle.std.specs.Fmt.{decimal}
 use Rattle.std.specs.declared.alloc.Global.{Global}
 use Rattle.tg_base.specs.declared.faults.Memory.{Memory}
@@ -13,12 +13,12 @@ use Rattle.tg_isa.specs.declared.keywords.Segment.TheVariants.{Code}
 use Rattle.tg_isa.specs.declared.keywords.AsmRule.{AsmRule}
 use Rattle.tg_isa.specs.Names.{name_of}
 use Rattle.tg_isa.specs.Table.{IsRow}
-use Rattle.tg_isa.specs.Lines.{begins_label, is_past_label, is_end, Operand, Plain, cut}
-use Rattle.tg_isa.specs.Operands.{Signed, nothing, number, is_within, field, register, is_label, based, Fields, unfilled, fill, fill_all, fill_rd, fill_rs, fill_rt, fill_number, fill_based}
+use Rattle.tg_isa.specs.Lines.{begins_label, is_past_label, is_end, Operand, Plain}
+use Rattle.tg_isa.specs.Operands.{Signed, nothing, number, is_within, register, is_label, based, Fields, unfilled, fill, fill_all, fill_rd, fill_rs, fill_rt, fill_number, fill_based}
 use Rattle.tg_isa.specs.Items.{keyword, slots, least, greatest, Coded, Fixed, coded, Item, Words, filled, instruction, item, stands_in}
-use Rattle.tg_isa.specs.Assembly.{Reading, with_labels, read_known, read_cut, reading}
+use Rattle.tg_isa.specs.Assembly.{with_labels, read_known, read_cut}
 use Rattle.tg_isa.specs.Writing.{signed_text, based_text, joined, line_of, takes_label, unlabelled_row, coded_row, ReadsBack}
-use Rattle.tg_isa.proofs.WordCuts.{none_of, is_newline, IsWord, AreWords, plains, none_append, lines_alone, cut_words, newlines_joined}
+use Rattle.tg_isa.proofs.WordCuts.{none_of, is_newline, AreWords, plains, none_append, lines_alone, cut_words, newlines_joined}
 use Rattle.tg_isa.proofs.OperandTexts.{register_named, name_word, NumberText, decimal_text, signed_of, signed_number, signed_within, signed_field, plain_within, plain_field, based_word, based_read, label_word}
 
 -- what a word that names an instruction has

@@ -1,7 +1,7 @@
 -- Lines of words parted by commas are cut into those words.
-use Rattle.std.proofs.Common.{◌≡◌, ◌<◌, ◌≤◌, ◌+◌, ℕ, zero, suc, Bool, true, false, not, cond, List, [], ◌∷◌, ◌++◌, length, Option, Some, None, refl, sym, ap, ◌∙◌, arith, length-append}
+use Rattle.std.proofs.Common.{◌≡◌, ◌<◌, ◌≤◌, ◌+◌, ℕ, zero, suc, Bool, true, false, not, List, [], ◌∷◌, ◌++◌, length, Option, Some, None, refl, ap, ◌∙◌, arith, length-append}
 use Rattle.std.specs.Prelude.{◌&&◌, ◌||◌, ◌==◌}
-use Rattle.tg_isa.specs.Lines.{lines, onto_first, front, back, skip, is_blank, is_solid, is_end, begins_label, is_past_label, before_colon, label_at, unlabelled, labelled, Operand, Plain, operand, before_operands, operands, operands_in, Gap, Over, Next, without_comma, after_comma, gap, first_gap, Cut, cut_with, cut_item, cut}
+use Rattle.tg_isa.specs.Lines.{lines, onto_first, front, back, skip, is_blank, is_end, begins_label, is_past_label, before_colon, label_at, unlabelled, labelled, Operand, Plain, operand, before_operands, operands, operands_in, Gap, Over, Next, without_comma, after_comma, gap, first_gap, cut_with, cut_item, cut}
 use Rattle.tg_isa.specs.Writing.{further, joined}
 
 pub and_true : (a b : Bool) → (a && b) ≡ true → (a ≡ true) × (b ≡ true)

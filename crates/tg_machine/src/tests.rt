@@ -361,3 +361,53 @@ fn edges_of_the_regions(rt: HostRuntime) -> Result<(), Fail> {
     }
     Ok(())
 }
+
+/// So many words from a seed, by a congruence (Numerical Recipes).
+fn random_words(alloc: Global, seed: u32, count: usize) -> Result<Vec<u32>, Fail> {
+    let mut words = Vec::new(alloc);
+    let mut state = seed;
+    for _ in 0..count {
+        state = state.wrapping_mul(1_664_525).wrapping_add(1_013_904_223);
+        words.push(state)?;
+    }
+    Ok(words)
+}
+
+#[test]
+fn random_words_as_code(rt: HostRuntime) -> Result<(), Fail> {
+    let alloc = rt.alloc();
+    for seed in 0..200 {
+        let mut run = machine(&rt, alloc, random_words(alloc, seed, 50)?)?;
+        let mut input = PlainSource::new(Vec::new(alloc));
+        let mut out = RoomSink::new(alloc, 64, Vec::new(alloc))?;
+        let end = run.run(&mut input, &mut out, 1000);
+        if end != RunEnd::StepLimit {
+            assert_eq!(rt; run.run(&mut input, &mut out, 1000), end);
+        }
+    }
+    Ok(())
+}
+
+#[test]
+fn jumps_anywhere(rt: HostRuntime) -> Result<(), Fail> {
+    let alloc = rt.alloc();
+    for (upper, lower, want) in [
+        (0x0000, 0x0000, RunEnd::Exit(0)),
+        (0x0000, 0x0001, RunEnd::Unaligned(1)),
+        (0x0000, 0x0004, RunEnd::BadAddress(4)),
+        (0x003f, 0xfffc, RunEnd::BadAddress(0x003f_fffc)),
+        (0x0040, 0x0002, RunEnd::Unaligned(0x0040_0002)),
+        (0x0040, 0x000c, RunEnd::BadAddress(0x0040_000c)),
+        (0x1001, 0x0000, RunEnd::BadAddress(0x1001_0000)),
+        (0x7fff, 0xfff8, RunEnd::BadAddress(0x7fff_fff8)),
+        (0xffff, 0xfffc, RunEnd::BadAddress(0xffff_fffc)),
+    ] {
+        let program = [
+            Mips::Lui(Reg::T0, bits(upper)),
+            Mips::Ori(Reg::T0, Reg::T0, bits(lower)),
+            Mips::Jr(Reg::T0),
+        ];
+        assert_eq!(rt; end_of(alloc, loaded(&rt, alloc, &program)?)?, want);
+    }
+    Ok(())
+}

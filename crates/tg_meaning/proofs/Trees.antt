@@ -10,7 +10,7 @@ use Rattle.tg_syntax.specs.declared.trees.Param.{Param}
 use Rattle.tg_syntax.specs.declared.trees.Op.{Op}
 use Rattle.tg_syntax.specs.declared.trees.Op.TheVariants as op
 use Rattle.tg_syntax.specs.Tree as tree
-use Rattle.tg_syntax.specs.Tree.{Exp, Place, Exps, no_exps, exp, Inits, no_inits, init, Decs, no_decs, FunDecs, no_functions}
+use Rattle.tg_syntax.specs.Tree.{Exp, Place, Exps, no_exps, exp, Inits, no_inits, init, Decs, no_functions}
 use Rattle.tg_meaning.specs.Values.{End}
 use Rattle.tg_meaning.specs.Outcomes.{Outcome}
 use Rattle.tg_meaning.specs.Direct.{evaluate}

@@ -102,7 +102,7 @@ pub split_none : (j : Job) {m : Mark} {f : Span → Steps (Of j)} {s : Steps (Of
 split_none j {m} {f} {s} {ts} {e} p = subst (λ x. Refuses x j (split m f s) ts) (sym p.0) (subst (λ w. Refuses More j (split m f s) w) (sym p.1) (wants (split_out j)))
 
 -- at an exit by a question mark
-no_truth : IsTrue false → ⊥
+pub no_truth : IsTrue false → ⊥
 no_truth h = cc
 
 pub ended : {X : Type 0} (j : Job) (value : X → Of j) (rest : X → List Spanned) (result : Result X Stop) (s : Steps (Of j)) (ts : List Spanned) {e : Stop} → IsErr result × IsErrAnd result (λ x. x ≡ e) → Refuses e j s ts → Gives j value rest result s ts

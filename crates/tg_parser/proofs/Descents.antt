@@ -1,6 +1,6 @@
 -- Steps of the descent: levels, the first token, marks that may stand, and a value by another name.
 use Rattle.std.specs.Prelude.{Result, Ok, IfSome}
-use Rattle.std.proofs.Common.{ℕ, ◌≡◌, List, [], ◌∷◌, Option, Some, None, Bool, true, false, refl, sym, subst}
+use Rattle.std.proofs.Common.{ℕ, ◌≡◌, List, [], ◌∷◌, Option, Some, None, Bool, true, false, sym, subst}
 use Rattle.tg_base.specs.declared.ids.Span.{Span}
 use Rattle.tg_syntax.specs.declared.tokens.Spanned.{Spanned}
 use Rattle.tg_syntax.specs.declared.tokens.Token.{Token}
@@ -13,17 +13,14 @@ use Rattle.tg_syntax.specs.Grammar.{Level}
 use Rattle.tg_parser.specs.declared.faults.Stop.{Stop}
 use Rattle.tg_parser.specs.declared.faults.Stop.TheVariants.{Wrong, More}
 use Rattle.tg_parser.specs.declared.heads.Declared.{Declared}
-use Rattle.tg_parser.specs.declared.ranks.Rank.{Rank}
-use Rattle.tg_parser.specs.declared.ranks.Rank.TheVariants.{Disjunction, Conjunction, Comparison, Sum, Term, Unary}
-use Rattle.tg_parser.specs.Ranks.{level_of}
 use Rattle.tg_parser.specs.Given.{Refuses, refuses, wants, Gives}
 use Rattle.tg_parser.specs.Opens.{Leads, Skips, Operates, Elses}
 use Rattle.tg_parser.specs.Heads.{one_of, Declares}
 use Rattle.tg_parser.proofs.Leading.{last_after, last_suffix}
 use Rattle.tg_grammar.specs.declared.marks.Mark.{Mark}
 use Rattle.tg_grammar.specs.declared.marks.Mark.TheVariants.{OfWord}
-use Rattle.tg_grammar.specs.Steps.{Got, Job, Of, At, After, Suffix, MoreDecs, Steps, give, want, refuse, split, oper, leaf, look, test, call}
-use Rattle.tg_grammar.specs.Reading.{Does, refuse_bad, leaf_yes, leaf_no, leaf_out, look_at, below, job, last, more_decs}
+use Rattle.tg_grammar.specs.Steps.{Got, Job, Of, At, After, Suffix, MoreDecs, Steps, give, want, refuse, split, oper, leaf, look, test}
+use Rattle.tg_grammar.specs.Reading.{Does, refuse_bad, leaf_yes, leaf_no, leaf_out, look_at, job, last, more_decs}
 
 -- a value, and a program, that equal others
 pub got_is : (j : Job) {s : Steps (Of j)} {x y : Of j} {ts rest : List Spanned} → x ≡ y → Does j s ts (Got y rest) → Does j s ts (Got x rest)
@@ -31,15 +28,6 @@ got_is j {s} {x} {y} {ts} {rest} e d = subst (λ v. Does j s ts (Got v rest)) (s
 
 pub same_leads : (j : Job) {s z : Steps (Of j)} {ts : List Spanned} → s ≡ z → Leads j s ts z ts
 same_leads j {s} {z} {ts} e = record { goes = λ r d. subst (λ x. Does j x ts r) (sym e) d }
-
--- the rank of operands
-pub grouped : {X : Type 0} (k : Rank) (value : X → Exp) (rest : X → List Spanned) (r : Result X Stop) (ts : List Spanned) → (k ≡ Unary → ⊥) → (k ≡ Comparison → ⊥) → Gives (At (level_of k)) value rest r (call (At (below (level_of k))) (λ l. last (After (level_of k) l))) ts → Gives (At (level_of k)) value rest r (job (At (level_of k))) ts
-grouped Disjunction value rest r ts u c h = h
-grouped Conjunction value rest r ts u c h = h
-grouped Comparison value rest r ts u c h = absurd (c refl)
-grouped Sum value rest r ts u c h = h
-grouped Term value rest r ts u c h = h
-grouped Unary value rest r ts u c h = absurd (u refl)
 
 pub level_does : {a b : Level} {x : Exp} {ts rest : List Spanned} → a ≡ b → Does (At a) (job (At a)) ts (Got x rest) → Does (At b) (job (At b)) ts (Got x rest)
 level_does {x = x} {ts = ts} {rest = rest} e d = subst (λ k. Does (At k) (job (At k)) ts (Got x rest)) e d

@@ -16,7 +16,7 @@ use Rattle.tg_parser.specs.declared.heads.Declared.{Declared}
 use Rattle.tg_parser.specs.Given.{Refuses, refuses, wants, no_memory, Gives}
 use Rattle.tg_parser.specs.Opens.{Leads, Begins, BeginsTwo, Skips, Operates, Elses}
 use Rattle.tg_parser.specs.Heads.{Declares}
-use Rattle.tg_parser.proofs.Chains.{want_on, name_on, call_stops}
+use Rattle.tg_parser.proofs.Chains.{want_on, name_on, call_stops, no_truth}
 use Rattle.tg_grammar.specs.declared.marks.Mark.{Mark}
 use Rattle.tg_grammar.specs.declared.marks.Mark.TheVariants.{OfWord}
 use Rattle.tg_grammar.specs.Steps.{token_of, op_of, Answer, Got, Bad, Out, Job, Of, At, After, Suffix, MoreDecs, Steps, OneSpan, OneName, give, want, name, split, oper, test, call}
@@ -90,9 +90,6 @@ pub oper_none : (j : Job) {k : Level} {f : Op → ℕ → Steps (Of j)} {z : Ste
 oper_none j {k} {f} {z} {ts} {e} p = subst (λ x. Refuses x j (oper k f z) ts) (sym p.0) (subst (λ w. Refuses More j (oper k f z) w) (sym p.1) (wants (oper_out j)))
 
 -- at an exit by a question mark
-no_truth : IsTrue false → ⊥
-no_truth h = cc
-
 pub begins_ended : {X A : Type 0} (value : X → A) (rest : X → List Spanned) (r : Result X Stop) {s : (j : Job) → (A → Steps (Of j)) → Steps (Of j)} {ts : List Spanned} {e : Stop} → IsErr r × IsErrAnd r (λ x. x ≡ e) → ((j : Job) (f : A → Steps (Of j)) → Refuses e j (s j f) ts) → Begins value rest r s ts
 begins_ended value rest (Ok x) h d = absurd (no_truth h.0)
 begins_ended value rest (Err x) {s = s} {ts = ts} h d = λ j f. subst (λ y. Refuses y j (s j f) ts) (sym h.1) (d j f)

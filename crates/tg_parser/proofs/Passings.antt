@@ -1,7 +1,6 @@
 -- What is read by unary expressions alone is read so at looser levels, where no operator of theirs follows.
-use Rattle.std.proofs.Common.{ℕ, ◌≡◌, ◌<◌, List, [], ◌∷◌, None, Bool, true, false, refl, sym, subst, arith}
+use Rattle.std.proofs.Common.{ℕ, ◌≡◌, ◌<◌, List, ◌∷◌, None, true, false, refl, sym, subst, arith}
 use Rattle.tg_syntax.specs.declared.tokens.Spanned.{Spanned}
-use Rattle.tg_syntax.specs.declared.tokens.Token.{Token}
 use Rattle.tg_syntax.specs.declared.trees.Op.{Op}
 use Rattle.tg_syntax.specs.Tree.{Exp}
 use Rattle.tg_syntax.specs.Tails.{ends_tail}
@@ -16,8 +15,8 @@ use Rattle.tg_parser.specs.Opens.{Leads, Passes}
 use Rattle.tg_parser.proofs.Chains.{call_stops}
 use Rattle.tg_parser.proofs.Leading.{then, gives, test_is, test_not, oper_not}
 use Rattle.tg_parser.proofs.Descents.{level_does}
-use Rattle.tg_grammar.specs.Steps.{op_of, Got, Job, Of, At, After, Steps, oper, test}
-use Rattle.tg_grammar.specs.Reading.{Does, give_got, call_got, below, job}
+use Rattle.tg_grammar.specs.Steps.{op_of, Job, Of, At, After, Steps, oper, test}
+use Rattle.tg_grammar.specs.Reading.{give_got, call_got, below, job}
 
 -- no operator of a level follows
 record Quiet (k : Level) (l : Exp) (ts : List Spanned) : Type 0 where

@@ -8,7 +8,7 @@ use Rattle.tg_tree.specs.Memory.{Memory, Cell, Closed, Unset, Has, Spot, in_stat
 use Rattle.tg_tree.specs.Meaning.{World, Back, over, with_word, with_memory, with_text, before, text_from, take_heap, read_byte}
 use Rattle.tg_tree.specs.Running.{with_fuel}
 use Rattle.tg_tree.specs.Holding as holding
-use Rattle.tg_tree.specs.Holding.{HoldsToo, unset, set, CellHoldsToo, not_stored, stored_to, stored, TempsHoldToo, WorldHoldsToo, in_stack, UnlessWrong}
+use Rattle.tg_tree.specs.Holding.{HoldsToo, unset, set, CellHoldsToo, not_stored, stored_to, stored, TempsHoldToo, WorldHoldsToo, in_stack}
 use Rattle.tg_tree.proofs.Relating.{Related, Keeps, AlikeBack, AlikeWorld, with_put}
 
 -- as far as so much fuel

@@ -1,4 +1,4 @@
-use Rattle.std.proofs.Common.{ℕ, List, ◌≡◌, ◌⊎◌, inl, inr, subst, None, map, string_bytes}
+use Rattle.std.proofs.Common.{ℕ, List, ◌≡◌, ◌⊎◌, inl, inr, subst, None}
 use Rattle.tg_driver.specs.Causes.{Answers, HasRun, Untouched}
 use Rattle.tg_cli.specs.Ends.{EndsWith, IsStatus, answered, no_memory, not_text}
 use Rattle.tg_cli.proofs.status.Goals as goal

@@ -1,4 +1,3 @@
-use Rattle.std.proofs.Common.{ap, ◌∙◌, sym}
 use Rattle.tg_asm.specs.Images.{made_of}
 use Rattle.tg_asm.specs.Layouts.{layout_of}
 use Rattle.tg_asm.proofs.Ends.{few_words, few_bytes}

@@ -1,6 +1,6 @@
-use Rattle.std.proofs.Common.{sym, ◌∙◌, ap, refl}
+use Rattle.std.proofs.Common.{sym, ap}
 use Rattle.tg_asm.specs.Cuts.{texts}
-use Rattle.tg_asm.proofs.CutLoops.{labels_begin, labels_shorter, labels_pushed, labels_end, texts_pushed}
+use Rattle.tg_asm.proofs.CutLoops.{labels_begin, labels_shorter, labels_pushed, texts_pushed}
 use Rattle.tg_asm.proofs.cuts.labels.Goals as goal
 
 pub loop-name-init : goal.loop-name-init
