@@ -1,6 +1,8 @@
 -- Lists of a tree's parts, one after another.
-use Rattle.std.specs.Prelude.{Option, Some, None, Result, Ok, Err, OnOk}
+use Rattle.std.specs.Prelude.{Option, Some, None, IfSome, Box, box_value, Result, Ok, Err, OnOk}
 use Rattle.std.proofs.Common.{◌≡◌, ℕ, zero, suc, ◌+◌, ◌<◌, ◌≤◌, List, [], ◌∷◌, ◌++◌, length, drop, get_or, Bool, false, refl, sym, ap, ◌∙◌, subst, arith}
+use Rattle.std.specs.declared.alloc.Global.{Global}
+use Rattle.std.specs.Option.{option_map}
 use Rattle.std.proofs.Math.Seq.{drop-length}
 use Rattle.std.proofs.lemmas.List.{drop_more}
 use Rattle.tg_base.specs.declared.ids.Span.{Span}
@@ -12,22 +14,22 @@ use Rattle.tg_syntax.specs.declared.trees.Exps.{Exps as CodeExps, out-Exps}
 use Rattle.tg_syntax.specs.declared.trees.Decs.{Decs as CodeDecs}
 use Rattle.tg_syntax.specs.declared.trees.Inits.{Inits as CodeInits, out-Inits}
 use Rattle.tg_syntax.specs.declared.trees.FunDecs.{FunDecs as CodeFunDecs, out-FunDecs}
-use Rattle.tg_syntax.specs.declared.trees.Kind.{Kind, Nil, Break, Int, Text, Read, Call, Neg', Binary', Make, Fill', Assign', If', None', Some', While', For', Let, Let', Seq}
+use Rattle.tg_syntax.specs.declared.trees.Kind.{Kind, Nil, Break, Int, Text, Read, Call, Neg', Binary', Make, Fill', Assign', If, If', None', Some', While', For', Let, Let', Seq}
 use Rattle.tg_syntax.specs.Tree.{Exp, Exps, no_exps, exp, Inits, Decs, no_decs, FunDecs}
 use Rattle.tg_syntax.specs.Plain.{plain, plain_kind, plain_exps, plain_inits, plain_functions, plain_dec}
 use Rattle.tg_syntax.specs.Lists.{exps_of, inits_of, decs_of, functions_of}
 use Rattle.tg_syntax.proofs.ListLaws.{plain_kind-Let, plain_exps-items, plain_inits-items, plain_functions-items}
 use Rattle.tg_types.specs.declared.faults.TypeFault.{TypeFault}
 use Rattle.tg_types.specs.declared.states.State.{State}
-use Rattle.tg_types.specs.Types.{Ty, none_type}
+use Rattle.tg_types.specs.Types.{Ty, int_type, none_type}
 use Rattle.tg_types.specs.Checks.{Check, Noted, Checked, fine, give, on_fine, ◌>>=◌}
 use Rattle.tg_types.specs.Scopes.{Scope, Signature}
 use Rattle.tg_types.specs.Typing.{start_of, count, expect_all, expect_fields, typed, typed_last, declare, bodies}
 use Rattle.tg_types.specs.Selections.{init_count, function_count}
-use Rattle.tg_types.specs.Trees.{fitting, one_body}
+use Rattle.tg_types.specs.Trees.{fitting, choice, second_way, idle, one_body}
 use Rattle.tg_syntax.specs.NamesWithin.{NamesWithin, ExpsWithin, InitsWithin, DecsWithin, FunctionsWithin}
 use Rattle.tg_types.specs.States.{Fails, Gives, Leads, Keeps, Opens, scope_of, noted_of}
-use Rattle.tg_types.proofs.Steps.{step, two_steps, given, fails_first, two_fail_first, last_fails, same_scope, keeps_both, keeps_same, opens_keep, opens_both}
+use Rattle.tg_types.proofs.Steps.{step, two_steps, given, fails_first, two_fail_first, two_fail_then, last_fails, same_scope, keeps_both, keeps_same, opens_keep, opens_both}
 
 -- where an expression begins
 kind_start : (k : Kind) (s : Span) → start_of (plain_kind k s) ≡ s.from
@@ -265,3 +267,36 @@ let_decs n k s ds es e h = (let_within n k s ds es e h).0
 
 pub let_exps : (n : ℕ) (k : Kind) (s : Span) (ds : CodeDecs) (es : CodeExps) → k ≡ Let ds es → NamesWithin n (plain_kind k s) → ExpsWithin n (plain_exps es)
 let_exps n k s ds es e h = (let_within n k s ds es e h).1
+
+-- a choice begins with its test
+pub choice_fails : (s : Span) (test this : Exp) (other : Option Exp) (scope : Scope) (n : Noted) {e : TypeFault} → Fails e (fitting test int_type scope n) → Fails e (typed (choice s test this other) scope n)
+choice_fails s test this None scope n h = two_fail_first _ _ _ _ h
+choice_fails s test this (Some o) scope n h = two_fail_first _ _ _ _ h
+
+-- the second way of a choice
+pub way_in : {A : Type 0} (n : ℕ) (f : A → Exp) (o : Option A) (b : A) → o ≡ Some b → IfSome o (λ x. NamesWithin n (f x)) → NamesWithin n (f b)
+way_in n f o b e h = subst (λ x. IfSome x (λ y. NamesWithin n (f y))) e h
+
+-- a choice with two ways goes on with the first, and then with the second
+pub choice_first_fails : (s : Span) (test this : Exp) (other : Option Exp) (way : Exp) (scope : Scope) (n : Noted) {m : Noted} {e : TypeFault} → other ≡ Some way → fitting test int_type scope n ≡ fine tt m → Fails e (typed this scope m) → Fails e (typed (choice s test this other) scope n)
+choice_first_fails s test this other way scope n i g h =
+    last_fails (ap (λ o. typed (choice s test this o) scope n) i) (two_fail_then _ _ _ _ g (fails_first _ _ h))
+
+pub choice_both : (s : Span) (test this : Exp) (other : Option Exp) (way : Exp) (scope : Scope) (n : Noted) {m l : Noted} {t : Ty} → other ≡ Some way → fitting test int_type scope n ≡ fine tt m → typed this scope m ≡ fine t l → typed (choice s test this other) scope n ≡ second_way t way scope l
+choice_both s test this other way scope n i g h = ap (λ o. typed (choice s test this o) scope n) i ∙ two_steps _ _ _ _ g (step _ _ h refl)
+
+pub choice_one : (s : Span) (test this : Exp) (other : Option Exp) (scope : Scope) (n : Noted) {m : Noted} → other ≡ None → fitting test int_type scope n ≡ fine tt m → typed (choice s test this other) scope n ≡ idle this scope m
+choice_one s test this other scope n i g = ap (λ o. typed (choice s test this o) scope n) i ∙ two_steps _ _ _ _ g refl
+
+-- the parts of a choice
+pub choice_whole : (k : Kind) (s : Span) (test this : Box CodeExp Global) (other : Option (Box CodeExp Global)) → k ≡ If test this other → plain_kind k s ≡ choice s (plain (box_value test)) (plain (box_value this)) (option_map (λ b. plain (box_value b)) other)
+choice_whole k s test this None e = ap (λ x. plain_kind x s) e
+choice_whole k s test this (Some b) e = ap (λ x. plain_kind x s) e
+
+pub choice_within : (n : ℕ) (s : Span) (test this : Exp) (other : Option Exp) → NamesWithin n (choice s test this other) → NamesWithin n test × NamesWithin n this
+choice_within n s test this None h = (h.0, h.1)
+choice_within n s test this (Some o) h = (h.0, h.1)
+
+pub way_within : {A : Type 0} (n : ℕ) (s : Span) (f : A → Exp) (test this : Exp) (other : Option A) → NamesWithin n (choice s test this (option_map f other)) → IfSome other (λ x. NamesWithin n (f x))
+way_within n s f test this None h = tt
+way_within n s f test this (Some o) h = h.2

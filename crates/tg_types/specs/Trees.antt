@@ -1,11 +1,11 @@
 -- Parts of the typing of trees.
-use Rattle.std.specs.Prelude.{◌≡◌, ◌<◌, ℕ, List, length, get_or, Option, true}
+use Rattle.std.specs.Prelude.{◌≡◌, ◌<◌, ℕ, List, length, get_or, Option, Some, None, true}
 use Rattle.tg_base.specs.declared.ids.Span.{Span}
 use Rattle.tg_syntax.specs.declared.tokens.Ident.{Ident}
 use Rattle.tg_syntax.specs.declared.trees.Op.{Op}
 use Rattle.tg_syntax.specs.declared.trees.Param.{Param}
 use Rattle.tg_types.specs.declared.faults.TypeRule.TheVariants.{T6}
-use Rattle.tg_syntax.specs.Tree.{Exp}
+use Rattle.tg_syntax.specs.Tree.{Exp, If, When}
 use Rattle.tg_types.specs.Types.{Ty, int_type, none_type, alike, joined}
 use Rattle.tg_types.specs.Checks.{Check, give, keep, ◌>>=◌, ◌>>◌}
 use Rattle.tg_types.specs.Scopes.{Scope, Signature, variable_at, at_of, binding, in_a_loop}
@@ -38,6 +38,11 @@ filled whole wanted value scope = typed value scope >>= λ a. expect wanted a (s
 -- the second way of a choice, whose first has a type
 abbrev pub second_way : Ty → Exp → Scope → Check Ty
 second_way t other scope = typed other scope >>= λ u. keep T6 (start_of other) (alike t u) >> give (joined t u)
+
+-- a choice, with or without its second way
+abbrev pub choice : Span → (test this : Exp) → Option Exp → Exp
+choice s test this None = When s test this
+choice s test this (Some other) = If s test this other
 
 -- what has no value, and neither has the whole
 abbrev pub idle : Exp → Scope → Check Ty

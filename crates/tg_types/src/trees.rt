@@ -1,8 +1,9 @@
-ghost use Rattle.std.specs.Prelude.{◌≡◌, ◌==◌, length, Bool, OnOk, ◌∷◌, Some, None, true, false};
+ghost use Rattle.std.specs.Prelude.{◌≡◌, ◌==◌, length, Bool, OnOk, IfSome, box_value, ◌∷◌, Some, None, true, false};
+ghost use Rattle.std.specs.Option.{option_map};
 ghost use Rattle.tg_syntax.specs.Plain.{plain, plain_place, plain_exps, plain_inits, plain_dec, plain_functions};
 ghost use Rattle.tg_syntax.specs.Lists.{decs_of};
 ghost use Rattle.tg_syntax.specs.Tree as tree;
-ghost use Rattle.tg_syntax.specs.declared.trees.Kind.{Let};
+ghost use Rattle.tg_syntax.specs.declared.trees.Kind.{If, Let};
 ghost use Rattle.tg_syntax.specs.declared.trees.Exps.{out-Exps};
 ghost use Rattle.tg_syntax.specs.declared.trees.Inits.{out-Inits};
 ghost use Rattle.tg_syntax.specs.declared.trees.FunDecs.{out-FunDecs};
@@ -11,7 +12,7 @@ ghost use Rattle.tg_types.specs.Checks.{Noted};
 ghost use Rattle.tg_types.specs.Scopes.{Scope, variable_at};
 ghost use Rattle.tg_types.specs.Typing as typing;
 ghost use Rattle.tg_types.specs.Selections.{init_count, function_count};
-ghost use Rattle.tg_types.specs.Trees.{nowhere, fitting, without_value, left_operand, right_operand, filled, second_way, idle, counting, one_body, IsAmong};
+ghost use Rattle.tg_types.specs.Trees.{nowhere, fitting, without_value, left_operand, right_operand, filled, second_way, choice, idle, counting, one_body, IsAmong};
 ghost use Rattle.tg_syntax.specs.NamesWithin.{NamesWithin, PlaceWithin, ExpsWithin, InitsWithin, DecsWithin, FunctionsWithin, IsWithin};
 ghost use Rattle.tg_types.specs.States.{Gives, Leads, Keeps, Opens, scope_of, noted_of};
 
@@ -65,14 +66,16 @@ pub(crate) fn typed(
             assignable(names, state, place)?;
             filled(names, state, Ty::nothing(), ty, value, in_loop)
         }
-        Kind::If(test, this, Some(other)) => {
+        Kind::If(test, this, other) => {
+            choice_named(names, e, test, this, other);
             fitting_int(names, state, test, in_loop)?;
-            let ty = typed(names, state, this, in_loop)?;
-            joined(names, state, ty, other, in_loop)
-        }
-        Kind::If(test, this, None) => {
-            fitting_int(names, state, test, in_loop)?;
-            idle(names, state, this, in_loop)
+            match other {
+                Some(other) => {
+                    let ty = typed(names, state, this, in_loop)?;
+                    joined(names, state, ty, other, in_loop)
+                }
+                None => idle(names, state, this, in_loop),
+            }
         }
         Kind::While(test, body) => {
             fitting_int(names, state, test, in_loop)?;
@@ -620,6 +623,16 @@ fn function_named(names: &Names, all: &FunDecs, function: &FunDec)
     requires all { FunctionsWithin (length names.now) (plain_functions all.now) }
     requires among { IsAmong function.now (out-FunDecs all.now).items.items }
     ensures { NamesWithin (length names.now) (plain function.now.body) }
+{}
+
+// A choice is one with or without a second way, whose parts have its names.
+fn choice_named(names: &Names, e: &Exp, test: &Box<Exp>, this: &Box<Exp>, other: &Option<Box<Exp>>)
+    requires all { NamesWithin (length names.now) (plain e.now) }
+    requires parts { e.now.kind ≡ If test.now this.now other.now }
+    ensures whole { plain e.now ≡ choice e.now.span (plain (box_value test.now)) (plain (box_value this.now)) (option_map (λ b. plain (box_value b)) other.now) }
+    ensures test { NamesWithin (length names.now) (plain (box_value test.now)) }
+    ensures this { NamesWithin (length names.now) (plain (box_value this.now)) }
+    ensures other { IfSome other.now (λ b. NamesWithin (length names.now) (plain (box_value b))) }
 {}
 
 fn let_named(names: &Names, e: &Exp, decs: &Decs, body: &Exps)

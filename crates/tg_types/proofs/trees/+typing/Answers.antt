@@ -1,6 +1,7 @@
 use Rattle.std.proofs.Common.{refl, sym, ap, ◌∙◌, ◌≡◌, arith, rules, length, map, get_or, subst, ◌+◌, true, false, [], ◌∷◌}
 use Rattle.std.proofs.lemmas.Bool.{eqb-true}
-use Rattle.std.specs.Prelude.{◌==◌}
+use Rattle.std.specs.Prelude.{◌==◌, box_value}
+use Rattle.std.specs.Option.{option_map}
 use Rattle.tg_syntax.specs.Plain.{plain, plain_kind, plain_place, plain_exps, plain_inits, plain_functions, plain_dec, plain_type}
 use Rattle.tg_syntax.specs.Tree as tree
 use Rattle.tg_syntax.specs.NamesWithin.{NamesWithin, DecsWithin}
@@ -10,13 +11,13 @@ use Rattle.tg_types.specs.Types.{int_type, none_type}
 use Rattle.tg_types.specs.Selections.{selected_of}
 use Rattle.tg_types.specs.Groups as groups
 use Rattle.tg_types.specs.Typing as typing
-use Rattle.tg_types.specs.Trees.{fitting, without_value, filled, idle}
+use Rattle.tg_types.specs.Trees.{fitting, without_value, filled, second_way, choice, idle}
 use Rattle.tg_types.specs.States.{no_memory, scope_of, noted_of}
 use Rattle.tg_syntax.proofs.ListLaws.{plain_kind-Let, plain_exps-items, plain_inits-items, plain_functions-items}
 use Rattle.tg_syntax.specs.Lists.{exps_of, inits_of, decs_of, functions_of}
-use Rattle.tg_types.proofs.Steps.{step, two_steps, given, fails_first, fails_then, two_fail_first, two_fail_then, ended, leads_ended, carry, last_fails, same_scope, no_loop_scope, opens_both, opens_keep, given_is, keep_is, keep_true, kept_steps, kept_fail, kept_then, cut_back, opened_state}
+use Rattle.tg_types.proofs.Steps.{step, two_steps, given, fails_first, fails_then, two_fail_first, two_fail_then, ended, leads_ended, carry, last_fails, same_scope, no_loop_scope, opens_both, opens_keep, given_is, keep_is, keep_true, kept_steps, kept_fail, kept_then, cut_back, opened_state, keeps_both}
 use Rattle.tg_types.proofs.HeaderSteps.{open_one}
-use Rattle.tg_types.proofs.TreeSteps.{start_is, count_is, init_count_is, function_count_is, exp_below, init_below, dec_below, function_below, arguments_none, arguments_one, arguments_fail, arguments_all, fields_none, fields_one, fields_fail, fields_all, order_none, order_one, order_fails, order_all, decs_none, decs_one, decs_fail, decs_all, bodies_none, bodies_one, bodies_fail, bodies_all, leads_carry, leads_on, leads_kept}
+use Rattle.tg_types.proofs.TreeSteps.{start_is, count_is, init_count_is, function_count_is, exp_below, init_below, dec_below, function_below, arguments_none, arguments_one, arguments_fail, arguments_all, fields_none, fields_one, fields_fail, fields_all, order_none, order_one, order_fails, order_all, decs_none, decs_one, decs_fail, decs_all, bodies_none, bodies_one, bodies_fail, bodies_all, leads_carry, leads_on, leads_kept, choice_fails, choice_first_fails, choice_both, choice_one, way_in}
 use Rattle.tg_types.proofs.trees.+typing.Goals as goal
 
 pub fitting-returns-in_err-got-clause-given : goal.fitting-returns-in_err-got-clause-given
@@ -376,3 +377,14 @@ bodies-function_named-requires t c = record { all = c.requires.names; among = (c
 pub typed-let_named-requires : goal.typed-let_named-requires
 typed-let_named-requires t c = record { all = c.requires; parts = c.in-Let.is }
 
+pub typed-returns-in_err-fitting_int-in-If-clause-given : goal.typed-returns-in_err-fitting_int-in-If-clause-given
+typed-returns-in_err-fitting_int-in-If-clause-given t c = λ scope h. ended _ _ _ c.from_residual-in_err-fitting_int-in-If.ensures (last_fails (ap (λ x. typing.typed x scope (noted_of c.args.state.now)) c.choice_named.ensures.whole ∙ ap (λ x. typing.typed (choice c.args.e.now.span (plain x) (plain (box_value c.in-If.this)) (option_map (λ b. plain (box_value b)) c.in-If.other)) scope (noted_of c.args.state.now)) (sym c.deref-in-If.ensures)) (choice_fails c.args.e.now.span _ _ _ _ _ (c.in_err-fitting_int-in-If.ensures.given scope h)))
+
+pub typed-returns-in_err-ty-in-Some-clause-given : goal.typed-returns-in_err-ty-in-Some-clause-given
+typed-returns-in_err-ty-in-Some-clause-given t c = λ scope h. ended _ _ _ c.from_residual-in_err-ty-in-Some.ensures (last_fails (ap (λ x. typing.typed x scope (noted_of c.args.state.now)) c.choice_named.ensures.whole ∙ ap (λ x. typing.typed (choice c.args.e.now.span (plain x) (plain (box_value c.in-If.this)) (option_map (λ b. plain (box_value b)) c.in-If.other)) scope (noted_of c.args.state.now)) (sym c.deref-in-If.ensures) ∙ ap (λ x. typing.typed (choice c.args.e.now.span (plain c.deref-in-If.result.now) (plain x) (option_map (λ b. plain (box_value b)) c.in-If.other)) scope (noted_of c.args.state.now)) (sym c.deref-in-Some.ensures)) (choice_first_fails c.args.e.now.span _ _ _ _ scope _ (ap (option_map (λ b. plain (box_value b))) c.in-Some.is) (c.in_ok-fitting_int-in-If.ensures.given scope h) (c.in_err-ty-in-Some.ensures.given scope (same_scope c.args.names.now c.in_ok-fitting_int-in-If.ensures.kept h))))
+
+pub typed-returns-in_ok-ty-in-Some-clause-given : goal.typed-returns-in_ok-ty-in-Some-clause-given
+typed-returns-in_ok-ty-in-Some-clause-given t c = λ scope h. carry c.joined.result _ _ (ap (λ x. typing.typed x scope (noted_of c.args.state.now)) c.choice_named.ensures.whole ∙ ap (λ x. typing.typed (choice c.args.e.now.span (plain x) (plain (box_value c.in-If.this)) (option_map (λ b. plain (box_value b)) c.in-If.other)) scope (noted_of c.args.state.now)) (sym c.deref-in-If.ensures) ∙ ap (λ x. typing.typed (choice c.args.e.now.span (plain c.deref-in-If.result.now) (plain x) (option_map (λ b. plain (box_value b)) c.in-If.other)) scope (noted_of c.args.state.now)) (sym c.deref-in-Some.ensures) ∙ choice_both c.args.e.now.span _ _ _ _ scope _ (ap (option_map (λ b. plain (box_value b))) c.in-Some.is) (c.in_ok-fitting_int-in-If.ensures.given scope h) (c.in_ok-ty-in-Some.ensures.given scope (same_scope c.args.names.now c.in_ok-fitting_int-in-If.ensures.kept h)) ∙ ap (λ e. second_way c.in_ok-ty-in-Some.ty (plain e) scope (noted_of c.typed.new.state)) (sym c.deref-in-Some-2.ensures)) (c.joined.ensures.given scope (same_scope c.args.names.now (keeps_both c.in_ok-fitting_int-in-If.ensures.kept c.in_ok-ty-in-Some.ensures.kept) h))
+
+pub typed-returns-in-None-clause-given : goal.typed-returns-in-None-clause-given
+typed-returns-in-None-clause-given t c = λ scope h. carry c.idle.result _ _ (ap (λ x. typing.typed x scope (noted_of c.args.state.now)) c.choice_named.ensures.whole ∙ ap (λ x. typing.typed (choice c.args.e.now.span (plain x) (plain (box_value c.in-If.this)) (option_map (λ b. plain (box_value b)) c.in-If.other)) scope (noted_of c.args.state.now)) (sym c.deref-in-If.ensures) ∙ ap (λ x. typing.typed (choice c.args.e.now.span (plain c.deref-in-If.result.now) (plain x) (option_map (λ b. plain (box_value b)) c.in-If.other)) scope (noted_of c.args.state.now)) (sym c.deref-in-None.ensures) ∙ choice_one c.args.e.now.span _ _ _ scope _ (ap (option_map (λ b. plain (box_value b))) c.in-None.is) (c.in_ok-fitting_int-in-If.ensures.given scope h)) (c.idle.ensures.given scope (same_scope c.args.names.now c.in_ok-fitting_int-in-If.ensures.kept h))
