@@ -8,11 +8,14 @@ use Rattle.tg_syntax.specs.LexicalFaults as fault
 use Rattle.tg_syntax.specs.SyntaxFaults.{IsAt}
 use Rattle.tg_parser.specs.declared.faults.SyntaxRule.{SyntaxRule}
 use Rattle.tg_parser.specs.declared.faults.SyntaxRule.TheVariants.{S1, S2}
-use Rattle.tg_driver.specs.declared.faults.Rule.TheVariants.{Lexical, Syntactic}
+use Rattle.tg_driver.specs.declared.faults.Rule.TheVariants.{Lexical, Syntactic, Typed}
 use Rattle.tg_parser.specs.Answers.{HasSyntaxFault}
+use Rattle.tg_syntax.specs.Tree.{Exp}
+use Rattle.tg_types.specs.declared.faults.TypeRule.{TypeRule}
+use Rattle.tg_types.specs.Accepted.{finding, at_fault}
 use Rattle.tg_driver.specs.declared.faults.Rule.{Rule}
-use Rattle.tg_driver.specs.Sources.{HasTokens, HasFault, lexical, syntactic}
-use Rattle.tg_driver.specs.Readings.{HasBadTokens}
+use Rattle.tg_driver.specs.Sources.{HasTokens, HasTree, HasFault, lexical, syntactic, ill_typed}
+use Rattle.tg_driver.specs.Readings.{HasBadTokens, HasBadTypes}
 
 -- what was read and what is left are the whole
 leads_length : {at to : ℕ} {text rest : List ℕ} → LeadsTo at text to rest → to + length rest ≡ at + length text
@@ -90,13 +93,20 @@ syntactic_within : (text : List ℕ) (names : List (List ℕ)) (tokens : List Sp
 syntactic_within text names tokens S1 at has f = at_within text names tokens f.front f.one at has f.is_at
 syntactic_within text names tokens S2 at has f = at_within text names tokens f.front f.one at has f.is_at
 
+typed_within : (text : List ℕ) (names : List (List ℕ)) (tokens : List Spanned) (program : Exp) (rule : TypeRule) (at : ℕ) → HasTree text names tokens program → finding names program ≡ at_fault rule at → IsWithin text at
+typed_within text names tokens program rule at tree f = ?
+
 pub within_text : (text : List ℕ) (rule : Rule) (at : ℕ) → HasFault text rule at → IsWithin text at
 within_text text rule at (lexical {rule = r} f) = lexical_within text r at f
 within_text text rule at (syntactic {names = names} {tokens = tokens} {rule = r} has f) = syntactic_within text names tokens r at has f
+within_text text rule at (ill_typed {names = names} {tokens = tokens} {program = program} {rule = r} tree f) = typed_within text names tokens program r at tree f
 
--- the fault of the lexer, and that of the parser
+-- the fault of the lexer, that of the parser, and that of the checker
 pub lexer_fault : (text : List ℕ) (rule : LexRule) (at : ℕ) → HasLexicalFault text rule at → HasFault text (Lexical rule) at
 lexer_fault text rule at f = lexical f
 
 pub parser_fault : (text : List ℕ) (rule : SyntaxRule) (at : ℕ) → HasBadTokens text rule at → HasFault text (Syntactic rule) at
 parser_fault text rule at h = syntactic h.has_tokens h.fault
+
+pub checker_fault : (text : List ℕ) (rule : TypeRule) (at : ℕ) → HasBadTypes text rule at → HasFault text (Typed rule) at
+checker_fault text rule at h = ill_typed h.tree h.fault

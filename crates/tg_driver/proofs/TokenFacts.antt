@@ -157,10 +157,10 @@ program_callee : (names : List (List ℕ)) {tokens : List Spanned} {e : Exp} →
 program_callee names (grammar.program {a = a} t r end) k = names_callee names r (left names a (t ∷ []) k)
 
 pub source_callee : (text : List ℕ) (names : List (List ℕ)) (tokens : List Spanned) (program : Exp) → IsSourceOf text names tokens program → NamesCallee names program
-source_callee text names tokens program s = program_callee names s.parsed (tokens_known s.has_tokens.lexed)
+source_callee text names tokens program s = program_callee names s.tree.parsed (tokens_known s.tree.has_tokens.lexed)
 
 program_form : (names : List (List ℕ)) {tokens : List Spanned} {e : Exp} → IsProgram tokens e → AreKnown names tokens → CallsExit names e → HasExitForm e
 program_form names (grammar.program {a = a} t r end) k c = exit_form names r (left names a (t ∷ []) k) c
 
 pub source_form : (text : List ℕ) (names : List (List ℕ)) (tokens : List Spanned) (program : Exp) → IsSourceOf text names tokens program → IsBuilt names program → HasExitForm program
-source_form text names tokens program s b = program_form names s.parsed (tokens_known s.has_tokens.lexed) b.calls_exit
+source_form text names tokens program s b = program_form names s.tree.parsed (tokens_known s.tree.has_tokens.lexed) b.calls_exit

@@ -1,5 +1,5 @@
 -- What reading a text answers.
-use Rattle.std.specs.Prelude.{ℕ, List, Result, Ok, Err}
+use Rattle.std.specs.Prelude.{ℕ, ◌≡◌, List, Result, Ok, Err}
 use Rattle.tg_syntax.specs.declared.tokens.Spanned.{Spanned}
 use Rattle.tg_syntax.specs.LexicalFaults.{HasLexicalFault}
 use Rattle.tg_syntax.specs.Plain.{plain}
@@ -10,10 +10,14 @@ use Rattle.tg_parser.specs.Answers.{HasSyntaxFault}
 use Rattle.tg_parser.specs.declared.faults.SyntaxFault.{SyntaxFault}
 use Rattle.tg_parser.specs.declared.faults.SyntaxFault.TheVariants as parsed
 use Rattle.tg_parser.specs.declared.faults.SyntaxRule.{SyntaxRule}
+use Rattle.tg_types.specs.declared.faults.TypeRule.{TypeRule}
+use Rattle.tg_types.specs.declared.faults.TypeFault.{TypeFault}
+use Rattle.tg_types.specs.declared.faults.TypeFault.TheVariants as typed
+use Rattle.tg_types.specs.Accepted.{finding, at_fault}
 use Rattle.tg_driver.specs.declared.reading.NamedProgram.{NamedProgram}
 use Rattle.tg_driver.specs.declared.reading.Refusal.{Refusal}
 use Rattle.tg_driver.specs.declared.reading.Refusal.TheVariants as refusal
-use Rattle.tg_driver.specs.Sources.{HasTokens, IsSourceOf, IsFaultOf}
+use Rattle.tg_driver.specs.Sources.{HasTokens, HasTree, IsSourceOf, IsFaultOf}
 
 -- the text's lexical fault; want of memory says nothing of the text
 abbrev pub IsLexFaultOf : List ℕ → LexFault → Type 0
@@ -31,12 +35,33 @@ abbrev pub IsSyntaxFaultOf : List ℕ → SyntaxFault → Type 0
 IsSyntaxFaultOf text (parsed.Bad rule at) = HasBadTokens text rule at
 IsSyntaxFaultOf text parsed.Memory = Unit {0}
 
+-- the text is a tree, which has this fault of types
+pub record HasBadTypes (text : List ℕ) (rule : TypeRule) (at : ℕ) : Type 0 where
+  pub names : List (List ℕ)
+  pub tokens : List Spanned
+  pub program : Exp
+  pub tree : HasTree text names tokens program
+  pub fault : finding names program ≡ at_fault rule at
+
+abbrev pub IsTypeFaultOf : List ℕ → TypeFault → Type 0
+IsTypeFaultOf text (typed.Bad rule at) = HasBadTypes text rule at
+IsTypeFaultOf text typed.Memory = Unit {0}
+
 -- the text's first fault, with its place
 abbrev pub IsRefusalOf : List ℕ → Refusal → Type 0
 IsRefusalOf text (refusal.Fault fault) = IsFaultOf text fault
 IsRefusalOf text refusal.Memory = Unit {0}
 
--- the text is this program, by some tokens and these names
+-- the text is this tree, by some tokens and these names
+pub record HasNamedTree (text : List ℕ) (names : List (List ℕ)) (program : Exp) : Type 0 where
+  pub tokens : List Spanned
+  pub tree : HasTree text names tokens program
+
+abbrev pub IsParsed : List ℕ → Result NamedProgram Refusal → Type 0
+IsParsed text (Ok s) = HasNamedTree text s.names (plain s.program.body)
+IsParsed text (Err why) = IsRefusalOf text why
+
+-- and it has no fault of types
 pub record IsNamedSource (text : List ℕ) (names : List (List ℕ)) (program : Exp) : Type 0 where
   pub tokens : List Spanned
   pub source : IsSourceOf text names tokens program

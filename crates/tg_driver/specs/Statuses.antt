@@ -8,8 +8,10 @@ use Rattle.tg_isa.specs.declared.keywords.AsmRule.{AsmRule}
 use Rattle.tg_isa.specs.declared.keywords.AsmRule.TheVariants.{A1, A2, A3, A4, A5, A6, A7, A8, A9}
 use Rattle.tg_syntax.specs.declared.faults.LexRule.TheVariants.{L1, L2, L3, L4, L5, L6, L7}
 use Rattle.tg_parser.specs.declared.faults.SyntaxRule.TheVariants.{S1, S2}
+use Rattle.tg_types.specs.declared.faults.TypeRule.{TypeRule}
+use Rattle.tg_types.specs.declared.faults.TypeRule.TheVariants.{T1, T2, T3, T4, T5, T6, T7, T8, T9, T10, T11, T12, T13, T14, T15, T16, T17, T18, T19, T20, T21, T22}
 use Rattle.tg_driver.specs.declared.faults.Rule.{Rule}
-use Rattle.tg_driver.specs.declared.faults.Rule.TheVariants.{Lexical, Syntactic}
+use Rattle.tg_driver.specs.declared.faults.Rule.TheVariants.{Lexical, Syntactic, Typed}
 use Rattle.tg_driver.specs.declared.faults.Fault.{Fault}
 use Rattle.tg_driver.specs.declared.answers.Answer.{Answer}
 use Rattle.tg_driver.specs.declared.answers.Answer.TheVariants.{Usage, Unreadable, Faulty, BadLine, TooLong, Accepted, NotBuilt, OutOfMemory, Finished}
@@ -26,6 +28,31 @@ status_of OutOfMemory = 70
 status_of Accepted = 0
 status_of (Finished end) = end_status end
 
+-- a rule of types, and what it says of a program that breaks it
+abbrev pub type_text : TypeRule → List ℕ
+type_text T1 = codes "T1 unknown variable"
+type_text T2 = codes "T2 unknown function"
+type_text T3 = codes "T3 unknown type"
+type_text T4 = codes "T4 function used as variable"
+type_text T5 = codes "T5 variable called"
+type_text T6 = codes "T6 type mismatch"
+type_text T7 = codes "T7 not a record"
+type_text T8 = codes "T8 no such field"
+type_text T9 = codes "T9 not an array"
+type_text T10 = codes "T10 wrong number of arguments"
+type_text T11 = codes "T11 wrong fields"
+type_text T12 = codes "T12 value needed"
+type_text T13 = codes "T13 nil without a record type"
+type_text T14 = codes "T14 break outside a loop"
+type_text T15 = codes "T15 loop variable assigned"
+type_text T16 = codes "T16 type declared twice"
+type_text T17 = codes "T17 function declared twice"
+type_text T18 = codes "T18 name declared twice"
+type_text T19 = codes "T19 type cycle"
+type_text T20 = codes "T20 functions nested too deep"
+type_text T21 = codes "T21 function too large"
+type_text T22 = codes "T22 program too large"
+
 -- a rule, and what it says of a text that breaks it
 abbrev pub rule_text : Rule → List ℕ
 rule_text (Lexical L1) = codes "L1 illegal character"
@@ -37,6 +64,7 @@ rule_text (Lexical L6) = codes "L6 control byte in string"
 rule_text (Lexical L7) = codes "L7 source too long"
 rule_text (Syntactic S1) = codes "S1 unexpected token"
 rule_text (Syntactic S2) = codes "S2 nesting too deep"
+rule_text (Typed rule) = type_text rule
 
 -- a rule of assembly text, likewise
 abbrev pub asm_text : AsmRule → List ℕ

@@ -10,11 +10,10 @@ use std::alloc::Global;
 pub(crate) fn answer_check(alloc: Global, text: &[u8]) -> Answer
     ensures { IsFound text.now result }
 {
-    let _source = match read_source(alloc, text) {
-        Ok(source) => source,
-        Err(refusal) => return refused(refusal),
-    };
-    Answer::Accepted
+    match read_source(alloc, text) {
+        Ok(_) => Answer::Accepted,
+        Err(refusal) => refused(refusal),
+    }
 }
 
 /// The answer of a source that is refused.

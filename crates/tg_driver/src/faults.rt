@@ -1,19 +1,21 @@
 ghost use Rattle.std.specs.Prelude.{◌≡◌, ◌++◌, IfOk, codes, string_bytes};
 ghost use Rattle.std.specs.Fmt.{decimal};
 ghost use Rattle.tg_driver.specs.declared.answers.Answer.TheVariants.{BadLine, Faulty};
-ghost use Rattle.tg_driver.specs.Statuses.{asm_text, line_of, rule_text};
+ghost use Rattle.tg_driver.specs.Statuses.{asm_text, line_of, rule_text, type_text};
 
 use std::alloc::{AllocError, Global};
 use tg_asm::AsmRule;
 use tg_base::Place;
 use tg_lexer::LexRule;
 use tg_parser::SyntaxRule;
+use tg_types::TypeRule;
 
 /// A rule that a source breaks.
 #[derive(Clone, Copy, Debug, PartialEq, Eq)]
 pub(crate) enum Rule {
     Lexical(LexRule),
     Syntactic(SyntaxRule),
+    Typed(TypeRule),
 }
 
 /// The first fault of a source.
@@ -37,6 +39,37 @@ pub(crate) fn rule_text(rule: Rule) -> &'static str
         Rule::Lexical(LexRule::L7) => "L7 source too long",
         Rule::Syntactic(SyntaxRule::S1) => "S1 unexpected token",
         Rule::Syntactic(SyntaxRule::S2) => "S2 nesting too deep",
+        Rule::Typed(rule) => type_text(rule),
+    }
+}
+
+/// The name of a rule of types, and what it says of a program that breaks it.
+fn type_text(rule: TypeRule) -> &'static str
+    ensures { result.now ≡ type_text rule }
+{
+    match rule {
+        TypeRule::T1 => "T1 unknown variable",
+        TypeRule::T2 => "T2 unknown function",
+        TypeRule::T3 => "T3 unknown type",
+        TypeRule::T4 => "T4 function used as variable",
+        TypeRule::T5 => "T5 variable called",
+        TypeRule::T6 => "T6 type mismatch",
+        TypeRule::T7 => "T7 not a record",
+        TypeRule::T8 => "T8 no such field",
+        TypeRule::T9 => "T9 not an array",
+        TypeRule::T10 => "T10 wrong number of arguments",
+        TypeRule::T11 => "T11 wrong fields",
+        TypeRule::T12 => "T12 value needed",
+        TypeRule::T13 => "T13 nil without a record type",
+        TypeRule::T14 => "T14 break outside a loop",
+        TypeRule::T15 => "T15 loop variable assigned",
+        TypeRule::T16 => "T16 type declared twice",
+        TypeRule::T17 => "T17 function declared twice",
+        TypeRule::T18 => "T18 name declared twice",
+        TypeRule::T19 => "T19 type cycle",
+        TypeRule::T20 => "T20 functions nested too deep",
+        TypeRule::T21 => "T21 function too large",
+        TypeRule::T22 => "T22 program too large",
     }
 }
 

@@ -1,5 +1,5 @@
 ghost use Rattle.tg_driver.specs.Sources.{HasFault};
-ghost use Rattle.tg_driver.specs.Readings.{IsRead, IsLexFaultOf, IsSyntaxFaultOf, IsRefusalOf};
+ghost use Rattle.tg_driver.specs.Readings.{IsRead, IsParsed, IsLexFaultOf, IsSyntaxFaultOf, IsTypeFaultOf, IsRefusalOf};
 
 use crate::faults::{Fault, Rule};
 use std::alloc::Global;
@@ -7,6 +7,7 @@ use tg_base::{Names, place};
 use tg_lexer::{LexFault, lex};
 use tg_parser::{SyntaxFault, parse};
 use tg_syntax::Program;
+use tg_types::{TypeFault, check};
 
 /// A program with its names.
 #[derive(Drop)]
@@ -24,9 +25,20 @@ pub(crate) enum Refusal {
     Memory,
 }
 
-/// The program of a text, or its first fault.
+/// The program of a text that has no fault, or its first fault.
 pub(crate) fn read_source(alloc: Global, text: &[u8]) -> Result<NamedProgram, Refusal>
     ensures { IsRead text.now result }
+{
+    let source = parse_source(alloc, text)?;
+    match check(alloc, &source.program, &source.names) {
+        Ok(_) => Ok(source),
+        Err(fault) => Err(ill_typed(text, fault)),
+    }
+}
+
+/// The tree of a text, whose types aren't looked at, or its first fault of lexemes or syntax.
+fn parse_source(alloc: Global, text: &[u8]) -> Result<NamedProgram, Refusal>
+    ensures { IsParsed text.now result }
 {
     let mut names = Names::new(alloc);
     let tokens = match lex(alloc, text, &mut names) {
@@ -58,6 +70,17 @@ fn syntactic(text: &[u8], fault: SyntaxFault) -> Refusal
     match fault {
         SyntaxFault::Bad { rule, at } => faulty(text, Rule::Syntactic(rule), at),
         SyntaxFault::Memory => Refusal::Memory,
+    }
+}
+
+/// The refusal of a text whose tree has a fault of types.
+fn ill_typed(text: &[u8], fault: TypeFault) -> Refusal
+    requires { IsTypeFaultOf text.now fault }
+    ensures { IsRefusalOf text.now result }
+{
+    match fault {
+        TypeFault::Bad { rule, at } => faulty(text, Rule::Typed(rule), at),
+        TypeFault::Memory => Refusal::Memory,
     }
 }
 
