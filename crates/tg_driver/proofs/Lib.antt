@@ -11,6 +11,7 @@ pub mod ExitFound
 pub mod Evaluated
 pub mod ProgramRuns
 pub mod FaultPlaces
+pub mod Typings
 pub mod TokenEnds
 pub mod TokenFacts
 pub mod LineLemmas

@@ -66,6 +66,11 @@ pub record IsNamedSource (text : List ℕ) (names : List (List ℕ)) (program : 
   pub tokens : List Spanned
   pub source : IsSourceOf text names tokens program
 
+-- what typing such a tree answers
+abbrev pub IsTyped : List ℕ → NamedProgram → Result (Unit {0}) Refusal → Type 0
+IsTyped text s (Ok x) = IsNamedSource text s.names (plain s.program.body)
+IsTyped text s (Err why) = IsRefusalOf text why
+
 abbrev pub IsRead : List ℕ → Result NamedProgram Refusal → Type 0
 IsRead text (Ok s) = IsNamedSource text s.names (plain s.program.body)
 IsRead text (Err why) = IsRefusalOf text why

@@ -1,5 +1,15 @@
 ghost use Rattle.tg_driver.specs.Sources.{HasFault};
-ghost use Rattle.tg_driver.specs.Readings.{IsRead, IsParsed, IsLexFaultOf, IsSyntaxFaultOf, IsTypeFaultOf, IsRefusalOf};
+ghost use Rattle.tg_driver.specs.Readings.{
+  HasNamedTree,
+  IsRead,
+  IsParsed,
+  IsTyped,
+  IsLexFaultOf,
+  IsSyntaxFaultOf,
+  IsTypeFaultOf,
+  IsRefusalOf,
+};
+ghost use Rattle.tg_syntax.specs.Plain.{plain};
 
 use crate::faults::{Fault, Rule};
 use std::alloc::Global;
@@ -30,8 +40,17 @@ pub(crate) fn read_source(alloc: Global, text: &[u8]) -> Result<NamedProgram, Re
     ensures { IsRead text.now result }
 {
     let source = parse_source(alloc, text)?;
+    type_source(alloc, text, &source)?;
+    Ok(source)
+}
+
+/// Types the tree of a text.
+fn type_source(alloc: Global, text: &[u8], source: &NamedProgram) -> Result<(), Refusal>
+    requires { HasNamedTree text.now source.now.names (plain source.now.program.body) }
+    ensures { IsTyped text.now source.now result }
+{
     match check(alloc, &source.program, &source.names) {
-        Ok(_) => Ok(source),
+        Ok(_checked) => Ok(()),
         Err(fault) => Err(ill_typed(text, fault)),
     }
 }
