@@ -4,7 +4,8 @@ use Rattle.std.specs.Prelude.{map, ◌==◌, if◌then◌else◌, slice_index_or
 use Rattle.std.specs.List.{AllPairs}
 use Rattle.std.proofs.lemmas.Bool.{eqb-true}
 use Rattle.tg_syntax.specs.Tree.{Form, Alias, Fields, Array, TypeDec, Exp, Nil, Break, Int, Text, Read, Call, Neg, Binary, Make, Fill, Assign, If, When, While, For, Let, Seq, Place, Simple, Field, Index, Exps, no_exps, exp, Inits, no_inits, init, Decs, no_decs, types, variable, functions, FunDecs, no_functions, function}
-use Rattle.tg_types.specs.Types.{Ty, int_type, none_type, Shape, named}
+use Rattle.tg_types.specs.Types.{Ty, int_type, none_type, Shape}
+use Rattle.tg_symbols.specs.Tables.{named}
 use Rattle.tg_types.specs.Checks.{Noted, fine}
 use Rattle.tg_types.specs.Scopes.{Signature, variable_at, Scope, at_of, binding, in_a_loop, in_no_loop}
 use Rattle.tg_types.specs.Groups.{declare_types, names_of, with_group as group_scope, add_form, add_forms, function_names, with_functions, with_params}

@@ -9,7 +9,8 @@ use Rattle.tg_base.specs.declared.ids.Span.{Span}
 use Rattle.tg_syntax.specs.Tree.{Form, Alias, Fields, Array, TypeDec, Exp, Nil, Break, Int, Text, Read, Call, Neg, Binary, Make, Fill, Assign, If, When, While, For, Let, Seq, Place, Simple, Field, Index, Exps, no_exps, exp, Inits, no_inits, init, Decs, no_decs, types, variable, functions, FunDecs, no_functions, function}
 use Rattle.tg_meaning.specs.Environments.{function_named}
 use Rattle.tg_types.specs.declared.faults.TypeRule.{TypeRule}
-use Rattle.tg_types.specs.Types.{Ty, int_type, none_type, Shape, named}
+use Rattle.tg_types.specs.Types.{Ty, int_type, none_type, Shape}
+use Rattle.tg_symbols.specs.Tables.{named}
 use Rattle.tg_types.specs.Checks.{Noted, fine}
 use Rattle.tg_types.specs.Scopes.{Signature, variable_at, Scope, name_of, at_of, binding, in_a_loop, in_no_loop}
 use Rattle.tg_types.specs.Groups.{stands_in, no_repeats, declare_types, known_fields, known_form, known_forms, names_of, chains_end, with_group, type_at_end, chain_of, add_form, add_forms, function_names, param_types, result_type, headers, with_functions, with_params}

@@ -9,14 +9,15 @@ use Rattle.tg_syntax.specs.Lists.{inits_of}
 use Rattle.tg_types.proofs.TreeSteps.{from_here, none_left}
 use Rattle.tg_types.specs.declared.faults.TypeRule.{TypeRule}
 use Rattle.tg_types.specs.declared.faults.TypeRule.TheVariants.{T7, T8, T9}
-use Rattle.tg_types.specs.Types.{Ty, int_type, string_type, nil_type, none_type, record_type, array_type, Shape, record_shape, array_shape, named}
+use Rattle.tg_types.specs.Types.{Ty, int_type, string_type, nil_type, none_type, record_type, array_type, Shape, record_shape, array_shape}
+use Rattle.tg_symbols.specs.Tables.{named}
 use Rattle.tg_types.specs.Checks.{Check, Noted, Checked, fine, fault, present, give, refuse, shape_at, ◌>>=◌}
 use Rattle.tg_types.specs.Scopes.{name_of, at_of}
 use Rattle.tg_types.specs.Typing.{fields_in, fields_of, element_in, element_of, placed, are_fields}
 use Rattle.tg_types.specs.Kinds.{record_byte, array_byte}
 use Rattle.tg_types.specs.Shapes.{fields_in_shape, element_in_shape}
 use Rattle.tg_types.specs.Selections.{init_count}
-use Rattle.tg_types.specs.Tables.{placed_at}
+use Rattle.tg_symbols.specs.Tables.{placed_at}
 
 -- what isn't a record
 pub not_record : (t : Ty) (at : ℕ) (n : Noted) → None ≡ record_byte t → fields_of t at n ≡ fault T7 at

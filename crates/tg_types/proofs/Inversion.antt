@@ -6,7 +6,8 @@ use Rattle.tg_syntax.specs.declared.trees.Op.{Op}
 use Rattle.tg_syntax.specs.declared.trees.Op.TheVariants.{Equal, NotEqual, Less, LessEqual, Greater, GreaterEqual}
 use Rattle.tg_types.specs.declared.faults.TypeRule.{TypeRule}
 use Rattle.tg_types.specs.declared.notes.Means.{Means}
-use Rattle.tg_types.specs.Types.{Ty, int_type, string_type, nil_type, none_type, record_type, array_type, Shape, record_shape, array_shape, named, are_nil, has_order, same, is_nil_for, fits, alike, joined}
+use Rattle.tg_types.specs.Types.{Ty, int_type, string_type, nil_type, none_type, record_type, array_type, Shape, record_shape, array_shape, are_nil, has_order, same, is_nil_for, fits, alike, joined}
+use Rattle.tg_symbols.specs.Tables.{named}
 use Rattle.tg_types.specs.Checks.{Noted, Checked, fine, fault, Check, on_fine, ◌>>=◌, give, refuse, keep, present, note, shape_at, add_shape}
 use Rattle.tg_types.specs.Scopes.{Signature, Binding, variable_at, function_at, standard_one, name_of}
 use Rattle.tg_types.specs.Typing.{expect, expect_none, variable_of, function_of, fields_in, fields_of, element_in, element_of, placed, select, compares, ordered, equated, left_side, equal_sides, right_side}

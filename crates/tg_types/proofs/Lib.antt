@@ -9,7 +9,6 @@ pub mod LimitSteps
 pub mod DeclaredSums
 pub mod LimitFaults
 pub mod Namings
-pub mod TableLemmas
 pub mod Steps
 pub mod TypingExamples
 pub mod Has

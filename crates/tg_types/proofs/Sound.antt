@@ -16,7 +16,8 @@ use Rattle.tg_meaning.specs.Operators.{exact_quotient, is_below, string_less, co
 use Rattle.tg_meaning.specs.Evaluation as E
 use Rattle.tg_meaning.specs.Evaluation.{Location, in_variable, in_field, in_element, Job, run_function, repeat_while, repeat_for, with_variable, count}
 use Rattle.std.proofs.lemmas.Bool.{ltb-true}
-use Rattle.tg_types.specs.Types.{Ty, int_type, string_type, none_type, record_type, array_type, Shape, record_shape, array_shape, named}
+use Rattle.tg_types.specs.Types.{Ty, int_type, string_type, none_type, record_type, array_type, Shape, record_shape, array_shape}
+use Rattle.tg_symbols.specs.Tables.{named}
 use Rattle.tg_types.specs.Scopes.{Signature, Binding, variable_at, function_at, Scope, name_of, at_of, binding, in_a_loop, in_no_loop, signature}
 use Rattle.tg_types.specs.Groups.{with_functions, with_params}
 use Rattle.tg_types.proofs.Has as Has

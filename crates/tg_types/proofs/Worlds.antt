@@ -6,7 +6,8 @@ use Rattle.tg_syntax.specs.Tree.{FunDecs, function}
 use Rattle.tg_meaning.specs.Values.{Value, int, string, nil, reference, nothing, Object, fields, elements, Entry, variable, group, standard, World}
 use Rattle.tg_meaning.specs.Operators.{get_field, set_field, field_in, element_in, with_field, with_element}
 use Rattle.tg_meaning.specs.Environments.{Function, Bound, to_variable, to_function, to_standard, function_named, or_beyond, find}
-use Rattle.tg_types.specs.Types.{Ty, int_type, string_type, nil_type, none_type, record_type, array_type, Shape, record_shape, array_shape, named}
+use Rattle.tg_types.specs.Types.{Ty, int_type, string_type, nil_type, none_type, record_type, array_type, Shape, record_shape, array_shape}
+use Rattle.tg_symbols.specs.Tables.{named}
 use Rattle.tg_types.specs.Scopes.{Signature, Binding, variable_at, function_at, standard_one, Scope, name_of, at_of, binding, in_no_loop}
 use Rattle.tg_types.specs.Groups.{with_functions, with_params}
 use Rattle.tg_types.proofs.Has.{Fits, the_same, nil_for, Apart, Has, HasBodies, end_bodies, a_body}

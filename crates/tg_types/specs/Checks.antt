@@ -4,7 +4,8 @@ use Rattle.std.specs.Prelude.{ℕ, List, [], ◌∷◌, ◌++◌, Option, Some, 
 use Rattle.tg_types.specs.declared.faults.TypeRule.{TypeRule}
 use Rattle.tg_types.specs.declared.notes.Note.{Note}
 use Rattle.tg_types.specs.declared.notes.Means.{Means}
-use Rattle.tg_types.specs.Types.{Shape, named}
+use Rattle.tg_types.specs.Types.{Shape}
+use Rattle.tg_symbols.specs.Tables.{named}
 
 pub record Noted : Type 0 where
   pub shapes : List (ℕ × Shape)

@@ -7,7 +7,6 @@ pub mod Limits
 pub mod Accepted
 pub mod Laws
 pub mod Kinds
-pub mod Tables
 pub mod Bindings
 pub mod Shapes
 pub mod States

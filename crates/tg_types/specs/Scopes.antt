@@ -6,7 +6,8 @@ use Rattle.tg_syntax.specs.declared.tokens.Ident.{Ident}
 use Rattle.tg_meaning.specs.declared.standards.Standard.{Standard}
 use Rattle.tg_meaning.specs.declared.standards.Standard.TheVariants.{Print, Flush, Getchar, Ord, Chr, Size, Substring, Concat, Not, Exit}
 use Rattle.tg_meaning.specs.Environments.{standard_text, standards}
-use Rattle.tg_types.specs.Types.{Ty, int_type, string_type, none_type, named}
+use Rattle.tg_types.specs.Types.{Ty, int_type, string_type, none_type}
+use Rattle.tg_symbols.specs.Tables.{named}
 
 pub record Signature : Type 0 where
   pub params : List Ty

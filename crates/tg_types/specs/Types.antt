@@ -47,8 +47,3 @@ abbrev pub has_order : Ty → Bool
 has_order int_type = true
 has_order string_type = true
 has_order _ = false
-
--- the first entry of a name
-abbrev pub named : {A : Type 0} → ℕ → List (ℕ × A) → Option A
-named x [] = None
-named x (entry ∷ rest) = if entry.0 == x then Some entry.1 else named x rest

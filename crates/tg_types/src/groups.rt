@@ -17,10 +17,10 @@ use crate::lookups::type_of;
 use crate::rules::kept;
 use crate::shapes::Shape;
 use crate::states::State;
-use crate::tables::Table;
 use std::alloc::Global;
 use std::collections::{HashMap, HashSet};
 use tg_base::{Memory, Names};
+use tg_symbols::Table;
 use tg_syntax::{Form, Ident, Param, TypeDec};
 
 /// Consecutive types, whose names the rest of the scope sees.

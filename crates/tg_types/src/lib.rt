@@ -20,7 +20,6 @@ mod rules;
 mod shapes;
 mod standards;
 mod states;
-mod tables;
 mod trees;
 
 pub use checking::{Checked, Notes, check};

@@ -1,6 +1,6 @@
 ghost use Rattle.std.specs.Prelude.{◌≡◌, ◌<◌, ◌++◌, length, Bool};
 ghost use Rattle.tg_types.specs.declared.faults.TypeFault.TheVariants.{Bad};
-ghost use Rattle.tg_types.specs.Types.{named};
+ghost use Rattle.tg_symbols.specs.Tables.{named};
 ghost use Rattle.tg_types.specs.Checks.{Noted};
 ghost use Rattle.tg_types.specs.Scopes.{Scope, bound, standard_types};
 ghost use Rattle.tg_types.specs.Groups as groups;

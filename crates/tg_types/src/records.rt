@@ -9,7 +9,7 @@ use crate::kinds::Ty;
 use crate::notes::Means;
 use crate::rules::kept;
 use crate::states::State;
-use crate::tables::Table;
+use tg_symbols::Table;
 use tg_syntax::{Ident, Inits};
 
 /// The fields of a type, which is that of the part at a byte.

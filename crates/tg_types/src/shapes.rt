@@ -4,8 +4,8 @@ ghost use Rattle.tg_types.specs.Types as types;
 ghost use Rattle.tg_types.specs.Shapes.{fields_in_shape, element_in_shape};
 
 use crate::kinds::Ty;
-use crate::tables::Table;
 use std::marker::Model;
+use tg_symbols::Table;
 
 /// What a record or array type is made of.
 #[derive(Drop)]

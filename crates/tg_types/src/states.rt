@@ -7,8 +7,8 @@ use crate::faults::TypeFault;
 use crate::kinds::Ty;
 use crate::notes::{Means, Note};
 use crate::shapes::Shape;
-use crate::tables::Table;
 use std::alloc::Global;
+use tg_symbols::Table;
 
 /// What is open at a place of the text, the shapes of types so far, and the notes so far.
 #[derive(Drop)]

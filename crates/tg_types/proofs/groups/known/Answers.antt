@@ -1,6 +1,6 @@
 use Rattle.std.proofs.Common.{◌≡◌, refl, sym, ap, ◌∙◌}
 use Rattle.std.specs.Prelude.{◌||◌}
-use Rattle.tg_types.specs.Types.{named}
+use Rattle.tg_symbols.specs.Tables.{named}
 use Rattle.tg_types.specs.Groups as groups
 use Rattle.tg_types.proofs.Steps.{carry, keep_is}
 use Rattle.tg_types.specs.declared.faults.TypeRule.TheVariants.{T3}

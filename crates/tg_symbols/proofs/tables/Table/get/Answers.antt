@@ -1,7 +1,7 @@
 use Rattle.std.proofs.Common.{length, sym, ◌∙◌, ap, arith}
-use Rattle.tg_types.specs.Types.{named}
-use Rattle.tg_types.proofs.TableLemmas.{below_length, named_by_place, named_none}
-use Rattle.tg_types.proofs.tables.Table.get.Goals as goal
+use Rattle.tg_symbols.specs.Tables.{named}
+use Rattle.tg_symbols.proofs.TableLemmas.{below_length, named_by_place, named_none}
+use Rattle.tg_symbols.proofs.tables.Table.get.Goals as goal
 
 pub index-requires : goal.index-requires
 index-requires g c =

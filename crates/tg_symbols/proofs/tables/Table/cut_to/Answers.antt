@@ -1,6 +1,6 @@
 use Rattle.std.proofs.Common.{arith}
-use Rattle.tg_types.proofs.TableLemmas.{cut_none, cut_one, cut_is}
-use Rattle.tg_types.proofs.tables.Table.cut_to.Goals as goal
+use Rattle.tg_symbols.proofs.TableLemmas.{cut_none, cut_one, cut_is}
+use Rattle.tg_symbols.proofs.tables.Table.cut_to.Goals as goal
 
 pub loop-self-init : goal.loop-self-init
 loop-self-init g c = cut_none _ _ c.requires

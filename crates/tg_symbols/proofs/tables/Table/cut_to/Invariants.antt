@@ -1,6 +1,6 @@
 use Rattle.std.proofs.Common.{length}
-use Rattle.tg_types.proofs.TableLemmas.{IsCut}
-use Rattle.tg_types.proofs.tables.Table.cut_to.Given as goal
+use Rattle.tg_symbols.proofs.TableLemmas.{IsCut}
+use Rattle.tg_symbols.proofs.tables.Table.cut_to.Given as goal
 
 abbrev pub invariant-loop-self : goal.invariant-loop-self
 invariant-loop-self g l = IsCut l.len l.initial.self l.self

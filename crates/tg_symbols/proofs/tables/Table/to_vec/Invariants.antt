@@ -1,7 +1,7 @@
 use Rattle.std.proofs.Common.{◌≡◌, ◌≤◌, ◌++◌, length, map, reverse, take}
-use Rattle.tg_types.specs.Tables.{entries_of}
-use Rattle.tg_types.proofs.TableLemmas.{pair}
-use Rattle.tg_types.proofs.tables.Table.to_vec.Given as goal
+use Rattle.tg_symbols.specs.Tables.{entries_of}
+use Rattle.tg_symbols.proofs.TableLemmas.{pair}
+use Rattle.tg_symbols.proofs.tables.Table.to_vec.Given as goal
 
 abbrev pub invariant-loop-at : goal.invariant-loop-at
 invariant-loop-at g l = record {

@@ -1,7 +1,6 @@
-ghost use Rattle.std.specs.Prelude.{◌≡◌, ◌≤◌, [], ◌∷◌, ◌++◌, drop, length, List, OnOk, IfOk};
+ghost use Rattle.std.specs.Prelude.{◌≡◌, ◌≤◌, [], ◌∷◌, ◌++◌, drop, length, List, OnOk, OnErr, IfOk};
 ghost use Rattle.std.specs.Option.{option_copied};
-ghost use Rattle.tg_types.specs.Types.{named};
-ghost use Rattle.tg_types.specs.Tables.{placed_at};
+ghost use Rattle.tg_symbols.specs.Tables.{named, placed_at};
 
 use std::alloc::Global;
 use std::collections::HashMap;
@@ -10,15 +9,17 @@ use tg_base::Memory;
 
 /// What a name has, with the place of the entry of the same name that it hides.
 #[derive(Drop)]
-pub(crate) struct Entry<V> {
+struct Entry<V> {
     name: u32,
     hidden: Option<u32>,
     value: V,
 }
 
-/// Names with what they have, the newest first. A look-up and the end of a scope don't walk over what is open.
+/// A scoped symbol table: names, which are numbers, with what they have, the newest first. A newer entry hides the
+/// older ones of its name until it is taken away. A look-up and an entry's end take a bounded number of look-ups in a
+/// hash map, and don't walk over what is open; only an entry pushed takes memory.
 #[derive(Drop)]
-pub(crate) struct Table<V> {
+pub struct Table<V> {
     top: HashMap<u32, u32>,
     entries: Vec<Entry<V>>,
 }
@@ -28,7 +29,7 @@ impl<V> Model for Table<V> {
 
     ghost Value = { List (ℕ × V) };
 
-    ghost use Rattle.tg_types.specs.Tables.{entries_of, IsLinked};
+    ghost use Rattle.tg_symbols.specs.Tables.{entries_of, IsLinked};
 
     ghost view = { λ t. entries_of t.entries.items };
 
@@ -36,7 +37,8 @@ impl<V> Model for Table<V> {
 }
 
 impl<V: Drop> Table<V> {
-    pub(crate) fn new(alloc: Global) -> Table<V>
+    /// No entries. It takes no memory.
+    pub fn new(alloc: Global) -> Table<V>
         ensures { result ≡ [] }
     {
         Table {
@@ -45,14 +47,15 @@ impl<V: Drop> Table<V> {
         }
     }
 
-    pub(crate) fn len(&self) -> usize
+    /// How many entries are open, hidden ones too. A scope remembers it at its beginning and cuts to it at its end.
+    pub fn len(&self) -> usize
         ensures { result ≡ length self.now }
     {
         self.entries.len()
     }
 
-    /// What a name has.
-    pub(crate) fn get(&self, name: u32) -> Option<&V>
+    /// What a name has, by its newest entry.
+    pub fn get(&self, name: u32) -> Option<&V>
         ensures { option_copied result ≡ named name self.now }
     {
         let _ = self.entries.as_slice();
@@ -62,8 +65,8 @@ impl<V: Drop> Table<V> {
         }
     }
 
-    /// The place of a name, from the newest on.
-    pub(crate) fn find(&self, name: u32) -> Option<u32>
+    /// The place of a name's newest entry, counted from the newest of all on.
+    pub fn find(&self, name: u32) -> Option<u32>
         ensures { result ≡ placed_at name 0 self.now }
     {
         let _ = self.entries.as_slice();
@@ -73,9 +76,10 @@ impl<V: Drop> Table<V> {
         }
     }
 
-    /// A name's entry before the others.
-    pub(crate) fn push(&mut self, name: u32, value: V) -> Result<(), Memory>
-        ensures { OnOk result (self.new ≡ (name, value) ∷ self.old) }
+    /// A name's entry before the others. It fails for want of memory, for which 2^32 - 1 open entries stand too.
+    pub fn push(&mut self, name: u32, value: V) -> Result<(), Memory>
+        ensures ok { OnOk result (self.new ≡ (name, value) ∷ self.old) }
+        ensures err { OnErr result (self.new ≡ self.old) }
     {
         let at = self.entries.len();
         if at >= 4294967295 {
@@ -97,7 +101,7 @@ impl<V: Drop> Table<V> {
     }
 
     /// Takes the newest entries away, so many that this many are left.
-    pub(crate) fn cut_to(&mut self, len: usize)
+    pub fn cut_to(&mut self, len: usize)
         requires { len ≤ length self.old }
         ensures { (front back : List _) → self.old ≡ front ++ back → length back ≡ len → self.new ≡ back }
     {
@@ -131,7 +135,7 @@ impl<V: Drop> Table<V> {
 
 impl<V: Copy> Table<V> {
     /// The entries, the newest first.
-    pub(crate) fn to_vec(&self, alloc: Global) -> Result<Vec<(u32, V)>, Memory>
+    pub fn to_vec(&self, alloc: Global) -> Result<Vec<(u32, V)>, Memory>
         ensures { IfOk result (λ v. v.items ≡ self.now) }
     {
         let mut entries = Vec::new(alloc);

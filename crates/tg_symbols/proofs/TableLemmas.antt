@@ -1,10 +1,10 @@
 -- Entries of tables, the newest first.
 use Rattle.std.specs.Prelude.{Option, Some, None, ◌==◌, if◌then◌else◌}
-use Rattle.std.proofs.Common.{◌≡◌, ℕ, zero, suc, ◌+◌, ◌-◌, ◌<◌, ◌≤◌, List, [], ◌∷◌, ◌++◌, length, map, reverse, take, drop, get_or, Bool, true, false, refl, sym, ap, ◌∙◌, subst, arith, length-drop, length-append, append_assoc}
+use Rattle.std.proofs.Common.{◌≡◌, ℕ, zero, suc, ◌+◌, ◌-◌, ◌<◌, ◌≤◌, List, [], ◌∷◌, ◌++◌, length, map, reverse, take, drop, get_or, Bool, true, false, refl, sym, ap, ◌∙◌, arith, length-drop, length-append, append_assoc}
 use Rattle.std.proofs.lemmas.List.{length-reverse, get_or-reverse, reverse-append}
-use Rattle.tg_types.specs.declared.tables.Entry.{Entry}
-use Rattle.tg_types.specs.Types.{named}
-use Rattle.tg_types.specs.Tables.{top_of, placed_at, entries_of}
+use Rattle.tg_symbols.specs.declared.tables.Entry.{Entry}
+use Rattle.tg_symbols.specs.Tables.{named}
+use Rattle.tg_symbols.specs.Tables.{top_of, placed_at, entries_of}
 
 abbrev pub pair : {V : Type 0} → Entry V → ℕ × V
 pair e = (e.name, e.value)

@@ -1,8 +1,18 @@
--- Tables of names: what their entries are to those that use them, and how entries of one name are linked.
+-- Scoped symbol tables (Appel, chapter 5): names with what they have, the newest first; and how the entries of one name are linked.
 use Rattle.std.specs.Prelude.{◌≡◌, ◌≤◌, ℕ, suc, ◌==◌, nat_eq, List, [], ◌∷◌, length, map, reverse, Option, Some, None, if◌then◌else◌}
 use Rattle.std.specs.HashMap.{get}
 use Rattle.std.specs.HashMap.{HashMap}
-use Rattle.tg_types.specs.declared.tables.Entry.{Entry}
+use Rattle.tg_symbols.specs.declared.tables.Entry.{Entry}
+
+-- what a name has: what the first entry of that name has
+abbrev pub named : {A : Type 0} → ℕ → List (ℕ × A) → Option A
+named x [] = None
+named x (entry ∷ rest) = if entry.0 == x then Some entry.1 else named x rest
+
+-- the place of a name, from the newest on, counted from a number
+abbrev pub placed_at : {A : Type 0} → ℕ → (from : ℕ) → List (ℕ × A) → Option ℕ
+placed_at x from [] = None
+placed_at x from (entry ∷ rest) = if entry.0 == x then Some from else placed_at x (suc from) rest
 
 -- names with what they have, the newest first, of entries whose newest is the last
 abbrev pub entries_of : {V : Type 0} → List (Entry V) → List (ℕ × V)
@@ -18,12 +28,8 @@ abbrev pub AreChained : {V : Type 0} → List (Entry V) → Type 0
 AreChained [] = Unit {0}
 AreChained (e ∷ older) = (e.hidden ≡ top_of e.name older) × AreChained older
 
+-- for each name the table tells the place of its newest entry, and each entry that of the one it hides
 pub record IsLinked {V S : Type 0} (top : HashMap ℕ ℕ S) (entries : List (Entry V)) : Type 0 where
   pub short : length entries ≤ 4294967295
   pub tops : (x : ℕ) → get nat_eq top x ≡ top_of x (reverse entries)
   pub chained : AreChained (reverse entries)
-
--- the place of a name, from the newest on, counted from a number
-abbrev pub placed_at : {A : Type 0} → ℕ → (from : ℕ) → List (ℕ × A) → Option ℕ
-placed_at x from [] = None
-placed_at x from (entry ∷ rest) = if entry.0 == x then Some from else placed_at x (suc from) rest

@@ -1,7 +1,7 @@
 use Rattle.std.proofs.Common.{length, sym, ◌∙◌, ap, arith, ◌-◌, Some}
-use Rattle.tg_types.specs.Tables.{placed_at}
-use Rattle.tg_types.proofs.TableLemmas.{below_length, placed_by_place, placed_none}
-use Rattle.tg_types.proofs.tables.Table.find.Goals as goal
+use Rattle.tg_symbols.specs.Tables.{placed_at}
+use Rattle.tg_symbols.proofs.TableLemmas.{below_length, placed_by_place, placed_none}
+use Rattle.tg_symbols.proofs.tables.Table.find.Goals as goal
 
 pub overflow_sub-result-in-Some : goal.overflow_sub-result-in-Some
 overflow_sub-result-in-Some g c =
