@@ -20,4 +20,5 @@ pub mod Derived
 pub mod TypeBytes
 pub mod AmongBeginnings
 pub mod Bytes
+pub mod FaultBytes
 pub mod NeverStuck

@@ -5,6 +5,7 @@ pub mod Groups
 pub mod Typing
 pub mod Limits
 pub mod Accepted
+pub mod BeginWithin
 pub mod Laws
 pub mod Kinds
 pub mod Bindings

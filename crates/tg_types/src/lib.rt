@@ -24,5 +24,5 @@ mod trees;
 
 pub use checking::{Checked, Notes, check};
 pub use faults::{TypeFault, TypeRule};
-pub use laws::never_stuck;
+pub use laws::{faults_stand_within, never_stuck};
 pub use notes::{Means, Note};

@@ -1,0 +1,473 @@
+-- A fault of types stands where a part of the program begins: each check's fault does, and so does that of checks one after
+-- another.
+use Rattle.std.proofs.Common.{◌≡◌, ◌≤◌, ℕ, suc, ◌+◌, sum_by, List, [], ◌∷◌, ◌++◌, Option, Some, None, Bool, true, false, refl, subst}
+use Rattle.std.specs.Prelude.{nat_lt, if◌then◌else◌}
+use Rattle.tg_syntax.specs.declared.tokens.Ident.{Ident}
+use Rattle.tg_syntax.specs.declared.trees.Param.{Param}
+use Rattle.tg_syntax.specs.declared.trees.Op.{Op}
+use Rattle.tg_syntax.specs.declared.trees.Op.TheVariants.{Plus, Minus, Times, Divide, Equal, NotEqual, Less, LessEqual, Greater, GreaterEqual, And, Or}
+use Rattle.tg_syntax.specs.Tree.{Form, Alias, Fields, Array, TypeDec, Exp, Nil, Break, Int, Text, Read, Call, Neg, Binary, Make, Fill, Assign, If, When, While, For, Let, Seq, Place, Simple, Field, Index, Exps, no_exps, exp, Inits, no_inits, init, Decs, no_decs, types, variable, functions, FunDecs, no_functions, function}
+use Rattle.tg_syntax.specs.Measures.{size}
+use Rattle.tg_types.specs.declared.faults.TypeRule.{TypeRule}
+use Rattle.tg_types.specs.declared.faults.TypeRule.TheVariants.{T16, T17, T20, T21, T22}
+use Rattle.tg_types.specs.declared.notes.Means.{Means}
+use Rattle.tg_types.specs.declared.notes.Note.{Note}
+use Rattle.tg_types.specs.Types.{Ty, int_type, string_type, nil_type, none_type, record_type, array_type, Shape, record_shape, array_shape}
+use Rattle.tg_types.specs.Checks.{Noted, Checked, fine, fault, Check, on_fine, ◌>>=◌, give, refuse, keep, present, note, shape_at, add_shape}
+use Rattle.tg_types.specs.Scopes.{Signature, Binding, variable_at, function_at, standard_one, Scope, at_of, bound as bound_in, binding, in_a_loop, in_no_loop, outermost}
+use Rattle.tg_types.specs.Groups.{no_repeats, names_of, known_fields, known_form, known_forms, chains_end, with_group, add_form, add_forms, declare_types, function_names, param_types, result_type, headers, with_functions, with_params}
+use Rattle.tg_types.specs.Typing.{start_of, place_start, expect, variable_of, function_of, assignable, fields_in, fields_of, element_in, element_of, select, ordered, equated, left_side, equal_sides, right_side, own_type, body_fits, typed, typed_place, expect_all, expect_fields, typed_last, declare, bodies}
+use Rattle.tg_types.specs.Limits.{Declared, declared, declared_place, declared_exps, declared_inits, declared_decs, declared_functions, above, first_above, limit_fault}
+use Rattle.tg_types.specs.Accepted.{at_fault, within_limits, finding_of, finding}
+use Rattle.tg_types.specs.BeginWithin.{IdentBegins, ParamsBegin, FormBegins, TypesBegin, KindBegins, BeginsWithin, PlaceBegins, ExpsBegin, InitsBegin, DecsBegin, FunctionsBegin}
+
+-- the fault of a check, if it has one, stands at this byte or before it
+pub record FaultsWithin {A : Type 0} (bound : ℕ) (m : Check A) : Type 0 where
+  pub within : (n : Noted) (rule : TypeRule) (at : ℕ) → m n ≡ fault rule at → at ≤ bound
+
+-- the same of a limit
+abbrev IsLimitWithin : (bound : ℕ) → Option (TypeRule × ℕ) → Type 0
+IsLimitWithin bound None = Unit {0}
+IsLimitWithin bound (Some f) = f.1 ≤ bound
+
+record LimitWithin (bound : ℕ) (o : Option (TypeRule × ℕ)) : Type 0 where
+  within : IsLimitWithin bound o
+
+module _ (bound : ℕ) where
+  in_parts : {A B : Type 0} (m : Check A) (next : A → Check B) → FaultsWithin bound m → ((a : A) → FaultsWithin bound (next a)) → (n : Noted) (rule : TypeRule) (at : ℕ) (o : Checked A) → m n ≡ o → on_fine o next ≡ fault rule at → at ≤ bound
+  in_parts m next f g n rule at (fine a noted) is e = (g a).within noted rule at e
+  in_parts m next f g n rule at (fault r b) is e =
+      let same : b ≡ at = cc in
+      subst (λ k. k ≤ bound) same (f.within n r b is)
+
+  -- the fault of two checks is the first's, or the second's
+  bind : {A B : Type 0} {m : Check A} {next : A → Check B} → FaultsWithin bound m → ((a : A) → FaultsWithin bound (next a)) → FaultsWithin bound (m >>= next)
+  unfolding ◌>>=◌
+  bind {m = m} {next = next} f g = record { within = λ n rule at e. in_parts m next f g n rule at (m n) refl e }
+
+  given : {A : Type 0} (a : A) → FaultsWithin bound (give a)
+  unfolding give
+  given a = record { within = λ n rule at e. cc }
+
+  refused : {A : Type 0} (rule : TypeRule) (at : ℕ) → at ≤ bound → FaultsWithin bound (refuse {A = A} rule at)
+  unfolding refuse
+  refused rule at h = record { within = λ n r b e. let same : at ≡ b = cc in subst (λ k. k ≤ bound) same h }
+
+  kept : (rule : TypeRule) (at : ℕ) (b : Bool) → at ≤ bound → FaultsWithin bound (keep rule at b)
+  kept rule at true h = given _
+  kept rule at false h = refused _ _ h
+
+  presented : {A : Type 0} (rule : TypeRule) (at : ℕ) (o : Option A) → at ≤ bound → FaultsWithin bound (present rule at o)
+  presented rule at (Some a) h = given _
+  presented rule at None h = refused _ _ h
+
+  noted : (at : ℕ) (means : Means) → FaultsWithin bound (note at means)
+  unfolding note
+  noted at means = record { within = λ n rule b e. cc }
+
+  shape : (at : ℕ) → FaultsWithin bound (shape_at at)
+  unfolding shape_at
+  shape at = record { within = λ n rule b e. cc }
+
+  shape_added : (at : ℕ) (s : Shape) → FaultsWithin bound (add_shape at s)
+  unfolding add_shape
+  shape_added at s = record { within = λ n rule b e. cc }
+
+  -- ---- names, types and operators
+
+  expected : (wanted got : Ty) (at : ℕ) → at ≤ bound → FaultsWithin bound (expect wanted got at)
+  expected wanted got at h = bind (kept _ _ _ h) (λ _. kept _ _ _ h)
+
+  of_variable : (x : Ident) (b : Option Binding) → IdentBegins bound x → FaultsWithin bound (variable_of x b)
+  of_variable x None h = refused _ _ h
+  of_variable x (Some (variable_at at t loop)) h = bind (noted _ _) (λ _. given _)
+  of_variable x (Some (function_at at s)) h = refused _ _ h
+  of_variable x (Some (standard_one f)) h = refused _ _ h
+
+  of_function : (f : Ident) (b : Option Binding) → IdentBegins bound f → FaultsWithin bound (function_of f b)
+  of_function f None h = refused _ _ h
+  of_function f (Some (variable_at at t loop)) h = refused _ _ h
+  of_function f (Some (function_at at s)) h = bind (noted _ _) (λ _. given _)
+  of_function f (Some (standard_one g)) h = bind (noted _ _) (λ _. given _)
+
+  of_assignable : (v : Place) (scope : Scope) → PlaceBegins bound v → FaultsWithin bound (assignable v scope)
+  of_assignable (Simple x) scope h = kept _ _ _ h
+  of_assignable (Field v f) scope h = given _
+  of_assignable (Index v e) scope h = given _
+
+  of_fields_in : (s : Option Shape) (at : ℕ) → at ≤ bound → FaultsWithin bound (fields_in s at)
+  of_fields_in (Some (record_shape fs)) at h = given _
+  of_fields_in (Some (array_shape t)) at h = refused _ _ h
+  of_fields_in None at h = refused _ _ h
+
+  of_fields : (t : Ty) (at : ℕ) → at ≤ bound → FaultsWithin bound (fields_of t at)
+  of_fields (record_type byte) at h = bind (shape _) (λ s. of_fields_in s at h)
+  of_fields int_type at h = refused _ _ h
+  of_fields string_type at h = refused _ _ h
+  of_fields nil_type at h = refused _ _ h
+  of_fields none_type at h = refused _ _ h
+  of_fields (array_type byte) at h = refused _ _ h
+
+  of_element_in : (s : Option Shape) (at : ℕ) → at ≤ bound → FaultsWithin bound (element_in s at)
+  of_element_in (Some (array_shape t)) at h = given _
+  of_element_in (Some (record_shape fs)) at h = refused _ _ h
+  of_element_in None at h = refused _ _ h
+
+  of_element : (t : Ty) (at : ℕ) → at ≤ bound → FaultsWithin bound (element_of t at)
+  of_element (array_type byte) at h = bind (shape _) (λ s. of_element_in s at h)
+  of_element int_type at h = refused _ _ h
+  of_element string_type at h = refused _ _ h
+  of_element nil_type at h = refused _ _ h
+  of_element none_type at h = refused _ _ h
+  of_element (record_type byte) at h = refused _ _ h
+
+  of_select : (fs : List (ℕ × Ty)) (f : Ident) → IdentBegins bound f → FaultsWithin bound (select fs f)
+  of_select fs f h = bind (presented _ _ _ h) (λ found. bind (noted _ _) (λ _. given _))
+
+  of_ordered : (left : Ty) (at left_at : ℕ) → left_at ≤ bound → FaultsWithin bound (ordered left at left_at)
+  of_ordered left at left_at h = bind (kept _ _ _ h) (λ _. bind (kept _ _ _ h) (λ _. bind (noted _ _) (λ _. given _)))
+
+  of_equated : (left : Ty) (at left_at : ℕ) → left_at ≤ bound → FaultsWithin bound (equated left at left_at)
+  of_equated left at left_at h = bind (kept _ _ _ h) (λ _. bind (noted _ _) (λ _. given _))
+
+  of_int_left : (left : Ty) (at : ℕ) → at ≤ bound → FaultsWithin bound (expect int_type left at >>= λ _. give int_type)
+  of_int_left left at h = bind (expected int_type left at h) (λ _. given _)
+
+  of_left : (op : Op) (left : Ty) (at left_at : ℕ) → left_at ≤ bound → FaultsWithin bound (left_side op left at left_at)
+  of_left Less left at left_at h = of_ordered left at left_at h
+  of_left LessEqual left at left_at h = of_ordered left at left_at h
+  of_left Greater left at left_at h = of_ordered left at left_at h
+  of_left GreaterEqual left at left_at h = of_ordered left at left_at h
+  of_left Equal left at left_at h = of_equated left at left_at h
+  of_left NotEqual left at left_at h = of_equated left at left_at h
+  of_left Plus left at left_at h = of_int_left left left_at h
+  of_left Minus left at left_at h = of_int_left left left_at h
+  of_left Times left at left_at h = of_int_left left left_at h
+  of_left Divide left at left_at h = of_int_left left left_at h
+  of_left And left at left_at h = of_int_left left left_at h
+  of_left Or left at left_at h = of_int_left left left_at h
+
+  of_equal : (left right : Ty) (right_at whole : ℕ) → right_at ≤ bound → whole ≤ bound → FaultsWithin bound (equal_sides left right right_at whole)
+  of_equal left right right_at whole h w = bind (kept _ _ _ h) (λ _. bind (kept _ _ _ w) (λ _. kept _ _ _ h))
+
+  of_right : (op : Op) (left right : Ty) (right_at whole : ℕ) → right_at ≤ bound → whole ≤ bound → FaultsWithin bound (right_side op left right right_at whole)
+  of_right Equal left right right_at whole h w = of_equal left right right_at whole h w
+  of_right NotEqual left right right_at whole h w = of_equal left right right_at whole h w
+  of_right Less left right right_at whole h w = expected left right right_at h
+  of_right LessEqual left right right_at whole h w = expected left right right_at h
+  of_right Greater left right right_at whole h w = expected left right right_at h
+  of_right GreaterEqual left right right_at whole h w = expected left right right_at h
+  of_right Plus left right right_at whole h w = expected left right right_at h
+  of_right Minus left right right_at whole h w = expected left right right_at h
+  of_right Times left right right_at whole h w = expected left right right_at h
+  of_right Divide left right right_at whole h w = expected left right right_at h
+  of_right And left right right_at whole h w = expected left right right_at h
+  of_right Or left right right_at whole h w = expected left right right_at h
+
+  of_own_type : (t : Ty) (at : ℕ) → at ≤ bound → FaultsWithin bound (own_type t at)
+  of_own_type t at h = bind (kept _ _ _ h) (λ _. bind (kept _ _ _ h) (λ _. given _))
+
+  of_body_fits : (kind : Option Ident) (result got : Ty) (at : ℕ) → at ≤ bound → FaultsWithin bound (body_fits kind result got at)
+  of_body_fits (Some x) result got at h = expected result got at h
+  of_body_fits None result got at h = kept _ _ _ h
+
+  -- ---- groups
+
+  -- each of these identifiers begins within
+  abbrev AllBegin : List Ident → Type 0
+  AllBegin [] = Unit {0}
+  AllBegin (x ∷ xs) = IdentBegins bound x × AllBegin xs
+
+  of_no_repeats : (rule : TypeRule) (earlier names : List Ident) → AllBegin names → FaultsWithin bound (no_repeats rule earlier names)
+  of_no_repeats rule earlier [] h = given _
+  of_no_repeats rule earlier (x ∷ xs) h = bind (kept _ _ _ h.0) (λ _. of_no_repeats rule (x ∷ earlier) xs h.1)
+
+  type_names : (ds : List TypeDec) → TypesBegin bound ds → AllBegin (names_of ds)
+  type_names [] h = tt
+  type_names (d ∷ ds) h = (h.0, type_names ds h.2)
+
+  names_of_functions : (fs : FunDecs) → FunctionsBegin bound fs → AllBegin (function_names fs)
+  names_of_functions no_functions h = tt
+  names_of_functions (function f ps r body rest) h = (h.0, names_of_functions rest h.4)
+
+  of_known_fields : (ds : List TypeDec) (scope : Scope) (earlier : List Ident) (ps : List Param) → ParamsBegin bound ps → FaultsWithin bound (known_fields ds scope earlier ps)
+  of_known_fields ds scope earlier [] h = given _
+  of_known_fields ds scope earlier (p ∷ ps) h = bind (kept _ _ _ h.0) (λ _. bind (kept _ _ _ h.1) (λ _. of_known_fields ds scope (p.name ∷ earlier) ps h.2))
+
+  of_known_form : (ds : List TypeDec) (scope : Scope) (form : Form) → FormBegins bound form → FaultsWithin bound (known_form ds scope form)
+  of_known_form ds scope (Alias x) h = kept _ _ _ h
+  of_known_form ds scope (Fields ps) h = of_known_fields ds scope [] ps h
+  of_known_form ds scope (Array x) h = kept _ _ _ h
+
+  of_known_forms : (group ds : List TypeDec) (scope : Scope) → TypesBegin bound ds → FaultsWithin bound (known_forms group ds scope)
+  of_known_forms group [] scope h = given _
+  of_known_forms group (d ∷ ds) scope h = bind (of_known_form group scope d.form h.1) (λ _. of_known_forms group ds scope h.2)
+
+  of_chains : (group ds : List TypeDec) → TypesBegin bound ds → FaultsWithin bound (chains_end group ds)
+  of_chains group [] h = given _
+  of_chains group (d ∷ ds) h = bind (kept _ _ _ h.0) (λ _. of_chains group ds h.2)
+
+  of_form : (scope : Scope) (at : ℕ) (form : Form) → FaultsWithin bound (add_form scope at form)
+  of_form scope at (Alias x) = given _
+  of_form scope at (Fields ps) = shape_added _ _
+  of_form scope at (Array x) = shape_added _ _
+
+  of_forms : (scope : Scope) (ds : List TypeDec) → FaultsWithin bound (add_forms scope ds)
+  of_forms scope [] = given _
+  of_forms scope (d ∷ ds) = bind (of_form scope (at_of d.name) d.form) (λ _. of_forms scope ds)
+
+  of_types : (ds : List TypeDec) (scope : Scope) → TypesBegin bound ds → FaultsWithin bound (declare_types ds scope)
+  of_types ds scope h =
+      bind (of_no_repeats T16 [] (names_of ds) (type_names ds h)) (λ _.
+      bind (of_known_forms ds ds scope h) (λ _.
+      bind (of_chains ds ds h) (λ _.
+      bind (of_forms (with_group ds ds scope scope) ds) (λ _. given _))))
+
+  of_params : (scope : Scope) (earlier : List Ident) (ps : List Param) → ParamsBegin bound ps → FaultsWithin bound (param_types scope earlier ps)
+  of_params scope earlier [] h = given _
+  of_params scope earlier (p ∷ ps) h =
+      bind (kept _ _ _ h.0) (λ _.
+      bind (presented _ _ _ h.1) (λ t.
+      bind (of_params scope (p.name ∷ earlier) ps h.2) (λ ts. given _)))
+
+  of_result : (scope : Scope) (kind : Option Ident) → KindBegins bound kind → FaultsWithin bound (result_type scope kind)
+  of_result scope None h = given _
+  of_result scope (Some x) h = presented _ _ _ h
+
+  of_headers : (fs : FunDecs) (scope : Scope) → FunctionsBegin bound fs → FaultsWithin bound (headers fs scope)
+  of_headers no_functions scope h = given _
+  of_headers (function f ps r body rest) scope h =
+      bind (of_params scope [] ps h.1) (λ ts.
+      bind (of_result scope r h.2) (λ t.
+      bind (of_headers rest scope h.4) (λ more. given _)))
+
+  -- ---- the tree
+
+  -- where an expression begins, and an l-value
+  start : (e : Exp) → BeginsWithin bound e → start_of e ≤ bound
+  start (Nil s) h = h
+  start (Break s) h = h
+  start (Int s k) h = h
+  start (Text s bytes) h = h
+  start (Read s v) h = h.0
+  start (Call s f args) h = h.0
+  start (Neg s a) h = h.0
+  start (Binary s op at a b) h = h.0
+  start (Make s x inits) h = h.0
+  start (Fill s x size value) h = h.0
+  start (Assign s v e) h = h.0
+  start (If s test this other) h = h.0
+  start (When s test this) h = h.0
+  start (While s test body) h = h.0
+  start (For s x low high body) h = h.0
+  start (Let s ds es) h = h.0
+  start (Seq s es) h = h.0
+
+  start_of_place : (v : Place) → PlaceBegins bound v → place_start v ≤ bound
+  start_of_place (Simple x) h = h
+  start_of_place (Field v f) h = start_of_place v h.0
+  start_of_place (Index v e) h = start_of_place v h.0
+
+  mutual
+    of_exp : (e : Exp) (scope : Scope) → BeginsWithin bound e → FaultsWithin bound (typed e scope)
+    of_exp (Nil s) scope h = given _
+    of_exp (Int s k) scope h = given _
+    of_exp (Text s bytes) scope h = given _
+    of_exp (Break s) scope h = bind (kept _ _ _ h) (λ _. given _)
+    of_exp (Read s v) scope h = of_place v scope h.1
+    of_exp (Call s f args) scope h =
+        bind (of_function f (bound_in f scope) h.1) (λ sig.
+        bind (kept _ _ _ h.1) (λ _.
+        bind (of_args args sig.params scope h.2) (λ _. given _)))
+    of_exp (Neg s a) scope h =
+        bind (of_exp a scope h.1) (λ t.
+        bind (expected int_type t (start_of a) (start a h.1)) (λ _. given _))
+    of_exp (Binary whole op at a b) scope h =
+        bind (of_exp a scope h.2) (λ t.
+        bind (of_left op t at (start_of a) (start a h.2)) (λ left.
+        bind (of_exp b scope h.3) (λ u.
+        bind (of_right op left u (start_of b) whole.from (start b h.3) h.0) (λ _. given _))))
+    of_exp (Make s x inits) scope h =
+        bind (presented _ _ _ h.1) (λ t.
+        bind (of_fields t (at_of x) h.1) (λ fs.
+        bind (kept _ _ _ h.1) (λ _.
+        bind (of_inits inits fs scope h.2) (λ _. given _))))
+    of_exp (Fill s x size value) scope h =
+        bind (presented _ _ _ h.1) (λ t.
+        bind (of_element t (at_of x) h.1) (λ element.
+        bind (of_exp size scope h.2) (λ a.
+        bind (expected int_type a (start_of size) (start size h.2)) (λ _.
+        bind (of_exp value scope h.3) (λ b.
+        bind (expected element b (start_of value) (start value h.3)) (λ _. given _))))))
+    of_exp (Assign s v e) scope h =
+        bind (of_place v scope h.1) (λ t.
+        bind (of_assignable v scope h.1) (λ _.
+        bind (of_exp e scope h.2) (λ a.
+        bind (expected t a (start_of e) (start e h.2)) (λ _. given _))))
+    of_exp (If s test this other) scope h =
+        bind (of_exp test scope h.1) (λ c.
+        bind (expected int_type c (start_of test) (start test h.1)) (λ _.
+        bind (of_exp this scope h.2) (λ a.
+        bind (of_exp other scope h.3) (λ b.
+        bind (kept _ _ _ (start other h.3)) (λ _. given _)))))
+    of_exp (When s test this) scope h =
+        bind (of_exp test scope h.1) (λ c.
+        bind (expected int_type c (start_of test) (start test h.1)) (λ _.
+        bind (of_exp this scope h.2) (λ a.
+        bind (kept _ _ _ (start this h.2)) (λ _. given _))))
+    of_exp (While s test body) scope h =
+        bind (of_exp test scope h.1) (λ c.
+        bind (expected int_type c (start_of test) (start test h.1)) (λ _.
+        bind (of_exp body (in_a_loop scope) h.2) (λ a.
+        bind (kept _ _ _ (start body h.2)) (λ _. given _))))
+    of_exp (For s x low high body) scope h =
+        bind (of_exp low scope h.2) (λ l.
+        bind (expected int_type l (start_of low) (start low h.2)) (λ _.
+        bind (of_exp high scope h.3) (λ k.
+        bind (expected int_type k (start_of high) (start high h.3)) (λ _.
+        bind (of_exp body (in_a_loop (binding x (variable_at (at_of x) int_type true) scope)) h.4) (λ a.
+        bind (kept _ _ _ (start body h.4)) (λ _. given _))))))
+    of_exp (Let s ds es) scope h = bind (of_decs ds scope h.1) (λ inner. of_last none_type es inner h.2)
+    of_exp (Seq s es) scope h = of_last none_type es scope h.1
+
+    of_place : (v : Place) (scope : Scope) → PlaceBegins bound v → FaultsWithin bound (typed_place v scope)
+    of_place (Simple x) scope h = of_variable x (bound_in x scope) h
+    of_place (Field v f) scope h =
+        bind (of_place v scope h.0) (λ t.
+        bind (of_fields t (place_start v) (start_of_place v h.0)) (λ fs. of_select fs f h.1))
+    of_place (Index v e) scope h =
+        bind (of_place v scope h.0) (λ t.
+        bind (of_element t (place_start v) (start_of_place v h.0)) (λ element.
+        bind (of_exp e scope h.1) (λ a.
+        bind (expected int_type a (start_of e) (start e h.1)) (λ _. given _))))
+
+    of_args : (es : Exps) (ts : List Ty) (scope : Scope) → ExpsBegin bound es → FaultsWithin bound (expect_all es ts scope)
+    of_args no_exps ts scope h = given _
+    of_args (exp e rest) [] scope h = given _
+    of_args (exp e rest) (t ∷ ts) scope h =
+        bind (of_exp e scope h.0) (λ a.
+        bind (expected t a (start_of e) (start e h.0)) (λ _. of_args rest ts scope h.1))
+
+    of_inits : (is : Inits) (fs : List (ℕ × Ty)) (scope : Scope) → InitsBegin bound is → FaultsWithin bound (expect_fields is fs scope)
+    of_inits no_inits fs scope h = given _
+    of_inits (init f e rest) [] scope h = given _
+    of_inits (init f e rest) (field ∷ fs) scope h =
+        bind (of_exp e scope h.1) (λ a.
+        bind (expected field.1 a (start_of e) (start e h.1)) (λ _. of_inits rest fs scope h.2))
+
+    of_last : (t : Ty) (es : Exps) (scope : Scope) → ExpsBegin bound es → FaultsWithin bound (typed_last t es scope)
+    of_last t no_exps scope h = given _
+    of_last t (exp e rest) scope h = bind (of_exp e scope h.0) (λ u. of_last u rest scope h.1)
+
+    of_decs : (ds : Decs) (scope : Scope) → DecsBegin bound ds → FaultsWithin bound (declare ds scope)
+    of_decs no_decs scope h = given _
+    of_decs (types ds rest) scope h = bind (of_types ds scope h.0) (λ inner. of_decs rest inner h.1)
+    of_decs (variable x None e rest) scope h =
+        bind (of_exp e scope h.2) (λ t.
+        bind (of_own_type t (start_of e) (start e h.2)) (λ own.
+        of_decs rest (binding x (variable_at (at_of x) own false) scope) h.3))
+    of_decs (variable x (Some kind) e rest) scope h =
+        bind (presented _ _ _ h.1) (λ t.
+        bind (of_exp e scope h.2) (λ a.
+        bind (expected t a (start_of e) (start e h.2)) (λ _.
+        of_decs rest (binding x (variable_at (at_of x) t false) scope) h.3)))
+    of_decs (functions fs rest) scope h =
+        bind (of_no_repeats T17 [] (function_names fs) (names_of_functions fs h.0)) (λ _.
+        bind (of_headers fs scope h.0) (λ ss.
+        bind (of_bodies fs ss (in_no_loop (with_functions fs ss scope)) h.0) (λ _.
+        of_decs rest (with_functions fs ss scope) h.1)))
+
+    of_bodies : (fs : FunDecs) (ss : List Signature) (scope : Scope) → FunctionsBegin bound fs → FaultsWithin bound (bodies fs ss scope)
+    of_bodies no_functions ss scope h = given _
+    of_bodies (function f ps r body rest) [] scope h = given _
+    of_bodies (function f ps r body rest) (s ∷ ss) scope h =
+        bind (of_exp body (with_params ps s.params scope) h.3) (λ a.
+        bind (of_body_fits r s.result a (start_of body) (start body h.3)) (λ _. of_bodies rest ss scope h.4))
+
+  -- ---- the limits
+
+  -- each of these functions is declared within
+  abbrev AreWithin : List Declared → Type 0
+  AreWithin [] = Unit {0}
+  AreWithin (f ∷ fs) = (f.at ≤ bound) × AreWithin fs
+
+  both : (fs gs : List Declared) → AreWithin fs → AreWithin gs → AreWithin (fs ++ gs)
+  both [] gs h i = i
+  both (f ∷ fs) gs h i = (h.0, both fs gs h.1 i)
+
+  mutual
+    declared_within : (k : ℕ) (e : Exp) → BeginsWithin bound e → AreWithin (declared k e)
+    declared_within k (Nil s) h = tt
+    declared_within k (Break s) h = tt
+    declared_within k (Int s n) h = tt
+    declared_within k (Text s bytes) h = tt
+    declared_within k (Read s v) h = in_place k v h.1
+    declared_within k (Call s f args) h = in_exps k args h.2
+    declared_within k (Neg s a) h = declared_within k a h.1
+    declared_within k (Binary s op at a b) h = both _ _ (declared_within k a h.2) (declared_within k b h.3)
+    declared_within k (Make s x inits) h = in_inits k inits h.2
+    declared_within k (Fill s x a b) h = both _ _ (declared_within k a h.2) (declared_within k b h.3)
+    declared_within k (Assign s v a) h = both _ _ (in_place k v h.1) (declared_within k a h.2)
+    declared_within k (If s c a b) h = both _ _ (declared_within k c h.1) (both _ _ (declared_within k a h.2) (declared_within k b h.3))
+    declared_within k (When s c a) h = both _ _ (declared_within k c h.1) (declared_within k a h.2)
+    declared_within k (While s c a) h = both _ _ (declared_within k c h.1) (declared_within k a h.2)
+    declared_within k (For s x l u a) h = both _ _ (declared_within k l h.2) (both _ _ (declared_within k u h.3) (declared_within k a h.4))
+    declared_within k (Let s ds es) h = both _ _ (in_decs k ds h.1) (in_exps k es h.2)
+    declared_within k (Seq s es) h = in_exps k es h.1
+
+    in_place : (k : ℕ) (v : Place) → PlaceBegins bound v → AreWithin (declared_place k v)
+    in_place k (Simple x) h = tt
+    in_place k (Field v f) h = in_place k v h.0
+    in_place k (Index v e) h = both _ _ (in_place k v h.0) (declared_within k e h.1)
+
+    in_exps : (k : ℕ) (es : Exps) → ExpsBegin bound es → AreWithin (declared_exps k es)
+    in_exps k no_exps h = tt
+    in_exps k (exp e rest) h = both _ _ (declared_within k e h.0) (in_exps k rest h.1)
+
+    in_inits : (k : ℕ) (is : Inits) → InitsBegin bound is → AreWithin (declared_inits k is)
+    in_inits k no_inits h = tt
+    in_inits k (init f e rest) h = both _ _ (declared_within k e h.1) (in_inits k rest h.2)
+
+    in_decs : (k : ℕ) (ds : Decs) → DecsBegin bound ds → AreWithin (declared_decs k ds)
+    in_decs k no_decs h = tt
+    in_decs k (types ds rest) h = in_decs k rest h.1
+    in_decs k (variable x kind e rest) h = both _ _ (declared_within k e h.2) (in_decs k rest h.3)
+    in_decs k (functions fs rest) h = both _ _ (in_functions k fs h.0) (in_decs k rest h.1)
+
+    in_functions : (k : ℕ) (fs : FunDecs) → FunctionsBegin bound fs → AreWithin (declared_functions k fs)
+    in_functions k no_functions h = tt
+    in_functions k (function f ps r body rest) h = (h.0, both _ _ (declared_within (suc k) body h.3) (in_functions k rest h.4))
+
+  either : (rule : TypeRule) (at number limit : ℕ) (o : Option (TypeRule × ℕ)) → at ≤ bound → LimitWithin bound o → LimitWithin bound (above rule at number limit o)
+  either rule at number limit o h i = by (nat_lt limit number)
+    where
+      by : (b : Bool) → LimitWithin bound (if b then Some (rule, at) else o)
+      by true = record { within = h }
+      by false = i
+
+  first_within : (fs : List Declared) → AreWithin fs → LimitWithin bound (first_above fs)
+  first_within [] h = record { within = tt }
+  first_within (f ∷ fs) h = either T20 f.at f.level 32 _ h.0 (either T21 f.at f.nodes 4096 _ h.0 (first_within fs h.1))
+
+  limit_within : (body : Exp) → BeginsWithin bound body → LimitWithin bound (limit_fault body)
+  limit_within body h =
+      either T22 (start_of body) (size body + sum_by (λ f. f.nodes) (declared 0 body)) 32768 _ (start body h)
+      (either T21 (start_of body) (size body) 4096 _ (start body h)
+      (first_within (declared 0 body) (declared_within 0 body h)))
+
+  -- ---- what a program is found to be
+
+  beyond_limits : (notes : List Note) (o : Option (TypeRule × ℕ)) (rule : TypeRule) (at : ℕ) → LimitWithin bound o → within_limits notes o ≡ at_fault rule at → at ≤ bound
+  beyond_limits notes None rule at h e = cc
+  beyond_limits notes (Some f) rule at h e =
+      let same : f.1 ≡ at = cc in
+      subst (λ k. k ≤ bound) same h.within
+
+  found_within : (body : Exp) (n : Noted) (o : Checked Ty) (scope : Scope) (rule : TypeRule) (at : ℕ) → BeginsWithin bound body → typed body scope n ≡ o → finding_of body o ≡ at_fault rule at → at ≤ bound
+  found_within body n (fine t noted) scope rule at h is e = beyond_limits noted.notes (limit_fault body) rule at (limit_within body h) e
+  found_within body n (fault r b) scope rule at h is e =
+      let same : b ≡ at = cc in
+      subst (λ k. k ≤ bound) same ((of_exp body scope h).within n r b is)
+
+  pub faults_stand_within : (names : List (List ℕ)) (body : Exp) (rule : TypeRule) (at : ℕ) → BeginsWithin bound body → finding names body ≡ at_fault rule at → at ≤ bound
+  faults_stand_within names body rule at h e = found_within body (record { shapes = []; notes = [] }) _ (outermost names) rule at h refl e
