@@ -1,3 +1,4 @@
+use crate::tests::status_of;
 use crate::tiger;
 use std::alloc::Global;
 use std::collections::BTreeMap;
@@ -114,16 +115,13 @@ fn ends(
 fn texts_end_as_they_must(rt: HostRuntime) -> Result<(), Fail> {
     let alloc = rt.alloc();
     for row in ENDS {
-        let Some((status, more)) = row.split_once(' ') else {
-            return Err(Fail::from("no status"));
-        };
+        let (status, more) = status_of(row)?;
         let Some((line, more)) = more.split_once('|') else {
             return Err(Fail::from("no line"));
         };
         let Some((out, text)) = more.split_once('|') else {
             return Err(Fail::from("no output"));
         };
-        let status = status.parse::<u8>().ok().ok_or("no number")?;
         ends(&rt, alloc, text.as_bytes(), status, line, out)?;
     }
     Ok(())
