@@ -9,16 +9,16 @@ use Rattle.tg_syntax.specs.Beginnings.{param_beginnings, form_beginnings, type_b
 use Rattle.tg_types.proofs.TypeBytes.{with_form, with_group, bytes_in, bytes_in_place, bytes_in_exps, bytes_in_inits, bytes_in_decs, bytes_in_bodies, type_bytes}
 
 -- some of a list, in its order
-data Some_of : List ℕ → List ℕ → Type 0 where
+pub data Some_of : List ℕ → List ℕ → Type 0 where
   nothing : Some_of [] []
   skip : (y : ℕ) {xs ys : List ℕ} → Some_of xs ys → Some_of xs (y ∷ ys)
   keep : (y : ℕ) {xs ys : List ℕ} → Some_of xs ys → Some_of (y ∷ xs) (y ∷ ys)
 
-among_params : (ps : List Param) {xs ys : List ℕ} → Some_of xs ys → Some_of xs (param_beginnings ps ys)
+pub among_params : (ps : List Param) {xs ys : List ℕ} → Some_of xs ys → Some_of xs (param_beginnings ps ys)
 among_params [] s = s
 among_params (p ∷ ps) s = among_params ps (skip _ (skip _ s))
 
-among_kind : (k : Option Ident) {xs ys : List ℕ} → Some_of xs ys → Some_of xs (kind_beginnings k ys)
+pub among_kind : (k : Option Ident) {xs ys : List ℕ} → Some_of xs ys → Some_of xs (kind_beginnings k ys)
 among_kind None s = s
 among_kind (Some x) s = skip _ s
 
@@ -84,7 +84,7 @@ place_in (keep y s) (suc j) lt = let r = place_in s j (omega (arith, lt)) in (su
 behind : (R : ℕ → ℕ → Type 0) (y : ℕ) (ys : List ℕ) → AllPairs R (y ∷ ys) → AllPairs R ys
 behind R y ys h i j d lt within = h (suc i) (suc j) d (omega (arith, lt)) (omega (arith, within))
 
-pairs : (R : ℕ → ℕ → Type 0) {xs ys : List ℕ} → Some_of xs ys → AllPairs R ys → AllPairs R xs
+pub pairs : (R : ℕ → ℕ → Type 0) {xs ys : List ℕ} → Some_of xs ys → AllPairs R ys → AllPairs R xs
 pairs R nothing h i j d lt within = absurd (omega (arith, within))
 pairs R (skip y {ys} s) h i j d lt within = pairs R s (behind R y ys h) i j d lt within
 pairs R (keep y s) h i zero d lt within = absurd (omega (arith, lt))

@@ -21,4 +21,7 @@ pub mod TypeBytes
 pub mod AmongBeginnings
 pub mod Bytes
 pub mod FaultBytes
+pub mod NoteBytes
+pub mod Rising
+pub mod CheckSteps
 pub mod NeverStuck

@@ -15,4 +15,5 @@ pub mod Selections
 pub mod Trees
 pub mod Faults
 pub mod Answered
+pub mod Programs
 pub mod Declaring

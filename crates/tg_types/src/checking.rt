@@ -3,7 +3,8 @@ ghost use Rattle.tg_syntax.specs.Plain.{plain};
 ghost use Rattle.tg_syntax.specs.NamesWithin.{NamesWithin};
 ghost use Rattle.tg_syntax.specs.Beginnings.{BeginsApart};
 ghost use Rattle.tg_types.specs.Accepted.{finding};
-ghost use Rattle.tg_types.specs.Answered.{Accepts, IsAt, meaning_at};
+ghost use Rattle.tg_types.specs.Answered.{Accepts, AreRising, IsAt, meaning_at};
+ghost use Rattle.tg_types.specs.Programs.{IsAccepted};
 
 use crate::faults::TypeFault;
 use crate::limits::first_limit;
@@ -35,11 +36,27 @@ impl Model for Notes {
 }
 
 impl Notes {
+    /// The notes of a vector, in which each stands behind those before it. It takes no memory.
+    pub fn from_vec(notes: Vec<Note>) -> Notes
+        requires { AreRising notes.items }
+        ensures { result ≡ notes.items }
+    {
+        Notes { notes }
+    }
+
     /// The notes.
     pub fn as_slice(&self) -> &[Note]
         ensures { result.now ≡ self.now }
     {
         &self.notes
+    }
+
+    /// The vector of the notes. It takes no memory.
+    pub fn into_vec(self) -> Vec<Note>
+        ensures notes { result.items ≡ self }
+        ensures rising { AreRising self }
+    {
+        self.notes
     }
 
     /// What is noted at a byte. It takes no memory.
@@ -64,12 +81,36 @@ impl Notes {
     }
 }
 
-/// A program that has no fault of types, with its names and its notes.
+/// A program that has no fault of types, with its names and its notes. Whoever reads a field knows that its names lie
+/// within the list, that its identifiers and operators begin at bytes of their own, and that the notes are those of its
+/// typing.
 #[derive(Drop)]
 pub struct Checked<'a> {
     pub program: &'a Program,
     pub names: &'a Names,
     pub notes: Notes,
+}
+
+impl<'a> Model for Checked<'a> {
+    ghost use Rattle.tg_types.specs.Programs.{CheckedProgram, checked_code, IsAccepted};
+
+    ghost Value = { CheckedProgram };
+
+    ghost coded = { checked_code };
+
+    ghost view = { λ c. record { program = c.program.now; names = c.names.now; notes = c.notes } };
+
+    ghost invariant = { λ c. IsAccepted (record { program = c.program.now; names = c.names.now; notes = c.notes }) };
+}
+
+impl<'a> Checked<'a> {
+    /// The notes.
+    pub fn notes(&self) -> &Notes
+        ensures notes { result.now ≡ self.now.notes }
+        ensures accepted { IsAccepted self.now }
+    {
+        &self.notes
+    }
 }
 
 /// Types a program, whose identifiers are numbered by a list of names.
@@ -81,8 +122,8 @@ pub fn check<'a>(
     requires names { NamesWithin (length names.now) (plain program.now.body) }
     requires apart { BeginsApart (plain program.now.body) }
     ensures ok { IfOk result (λ c. Accepts (finding names.now (plain program.now.body)) c.notes) }
-    ensures program { IfOk result (λ c. c.program.now ≡ program.now) }
-    ensures names { IfOk result (λ c. c.names.now ≡ names.now) }
+    ensures program { IfOk result (λ c. c.program ≡ program.now) }
+    ensures names { IfOk result (λ c. c.names ≡ names.now) }
     ensures err { IfErr result (λ e. IsAt (finding names.now (plain program.now.body)) e) }
 {
     let mut state = State::new(alloc);
@@ -98,6 +139,6 @@ pub fn check<'a>(
     Ok(Checked {
         program,
         names,
-        notes: Notes { notes },
+        notes: Notes::from_vec(notes),
     })
 }

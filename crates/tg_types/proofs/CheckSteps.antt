@@ -1,0 +1,56 @@
+-- From the typing of a program's body to what the check of the program answers.
+use Rattle.std.specs.Prelude.{Result, Ok, Err, Option, Some, None, IfErr, IsErr, IsTrue}
+use Rattle.std.specs.Result.{IsErrAnd}
+use Rattle.std.proofs.Common.{◌≡◌, ℕ, List, [], ◌++◌, Bool, false, refl, sym, ap, ap₂, ◌∙◌, subst}
+use Rattle.std.specs.List.Sorted.{IsPermutation}
+use Rattle.tg_syntax.specs.Tree.{Exp}
+use Rattle.tg_types.specs.declared.faults.TypeRule.{TypeRule}
+use Rattle.tg_types.specs.declared.faults.TypeFault.{TypeFault}
+use Rattle.tg_types.specs.declared.faults.TypeFault.TheVariants.{Memory}
+use Rattle.tg_types.specs.declared.limits.Limit.{Limit}
+use Rattle.tg_types.specs.declared.notes.Note.{Note}
+use Rattle.tg_types.specs.declared.states.State.{State}
+use Rattle.tg_types.specs.Types.{Ty}
+use Rattle.tg_types.specs.Checks.{Noted, fine}
+use Rattle.tg_types.specs.Scopes.{Scope, Binding, standard_bindings, standard_types, outermost}
+use Rattle.tg_types.specs.States.{Fails, bad, no_memory, scope_of, noted_of}
+use Rattle.tg_types.specs.Typing.{typed}
+use Rattle.tg_types.specs.Limits.{limit_fault}
+use Rattle.tg_types.specs.Faults.{rule_and_byte}
+use Rattle.tg_types.specs.Accepted.{finding, finding_of, within_limits, accepted}
+use Rattle.tg_types.specs.Answered.{Accepts, AreRising, IsAt}
+
+abbrev begin : Noted
+begin = record { shapes = []; notes = [] }
+
+abbrev opened : (names : List (List ℕ)) → List (ℕ × Binding) → List (ℕ × Ty) → Scope
+opened names bs ts = record { bindings = bs ++ standard_bindings 0 names; types = ts ++ standard_types 0 names; in_loop = false }
+
+-- nothing is open yet
+pub outside : (names : List (List ℕ)) (s : State) → s.bindings ≡ [] → s.types ≡ [] → outermost names ≡ scope_of names s false
+outside names s b t = ap₂ (λ x y. opened names x y) (sym b) (sym t)
+
+pub starts : (names : List (List ℕ)) (body : Exp) (s : State) → noted_of s ≡ begin → typed body (outermost names) begin ≡ typed body (outermost names) (noted_of s)
+starts names body s n = ap (λ g. typed body (outermost names) g) (sym n)
+
+-- a fault of typing
+fails : (names : List (List ℕ)) (body : Exp) (s : State) (e : TypeFault) → noted_of s ≡ begin → Fails e (typed body (outermost names) (noted_of s)) → IsAt (finding names body) e
+fails names body s _ n (bad d) = ap (λ c. finding_of body c) (starts names body s n ∙ d)
+fails names body s _ n no_memory = tt
+
+found : (names : List (List ℕ)) (body : Exp) (t : Ty) (h : Noted) (o : Option (TypeRule × ℕ)) → typed body (outermost names) begin ≡ fine t h → o ≡ limit_fault body → finding names body ≡ within_limits h.notes o
+found names body t h o e l = ap (λ c. finding_of body c) e ∙ ap (λ x. within_limits h.notes x) (sym l)
+
+never : IsTrue false → ⊥
+never h = cc
+
+-- what a `?` returns
+pub passed : {X : Type 0} (names : List (List ℕ)) (body : Exp) (s : State) (r : Result X TypeFault) (e : TypeFault) → noted_of s ≡ begin → IsErr r × IsErrAnd r (λ x. x ≡ e) → Fails e (typed body (outermost names) (noted_of s)) → IfErr r (λ x. IsAt (finding names body) x)
+passed names body s (Ok x) e n h f = absurd (never h.0)
+passed names body s (Err x) e n h f = subst (λ y. IsAt (finding names body) y) (sym h.1) (fails names body s e n f)
+
+-- no fault at all
+pub accepts : (names : List (List ℕ)) (body : Exp) (t : Ty) (h : Noted) (limit : Option Limit) (sorted notes : List Note) → typed body (outermost names) begin ≡ fine t h → limit ≡ None → rule_and_byte limit ≡ limit_fault body → IsPermutation h.notes sorted → AreRising sorted → notes ≡ sorted → Accepts (finding names body) notes
+accepts names body t h limit sorted notes e n l p r i =
+    let f = found names body t h (rule_and_byte None) e (ap rule_and_byte (sym n) ∙ l) in
+    subst (λ ns. Accepts (finding names body) ns) (sym i) (subst (λ f. Accepts f sorted) (sym f) (p, r))
