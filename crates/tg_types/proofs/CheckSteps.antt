@@ -2,8 +2,9 @@
 use Rattle.std.specs.Prelude.{Result, Ok, Err, Option, Some, None, IfErr, IsErr, IsTrue}
 use Rattle.std.specs.Result.{IsErrAnd}
 use Rattle.std.proofs.Common.{◌≡◌, ℕ, List, [], ◌++◌, Bool, false, refl, sym, ap, ap₂, ◌∙◌, subst}
-use Rattle.std.specs.List.Sorted.{IsPermutation}
+use Rattle.std.specs.List.Sorted.{IsPermutation, IsNonDecreasingBy}
 use Rattle.tg_syntax.specs.Tree.{Exp}
+use Rattle.tg_syntax.specs.Beginnings.{BeginsApart}
 use Rattle.tg_types.specs.declared.faults.TypeRule.{TypeRule}
 use Rattle.tg_types.specs.declared.faults.TypeFault.{TypeFault}
 use Rattle.tg_types.specs.declared.faults.TypeFault.TheVariants.{Memory}
@@ -18,7 +19,8 @@ use Rattle.tg_types.specs.Typing.{typed}
 use Rattle.tg_types.specs.Limits.{limit_fault}
 use Rattle.tg_types.specs.Faults.{rule_and_byte}
 use Rattle.tg_types.specs.Accepted.{finding, finding_of, within_limits, accepted}
-use Rattle.tg_types.specs.Answered.{Accepts, AreRising, IsAt}
+use Rattle.tg_types.specs.Answered.{Accepts, IsAt}
+use Rattle.tg_types.proofs.Rising.{rises}
 
 abbrev begin : Noted
 begin = record { shapes = []; notes = [] }
@@ -50,7 +52,7 @@ passed names body s (Ok x) e n h f = absurd (never h.0)
 passed names body s (Err x) e n h f = subst (λ y. IsAt (finding names body) y) (sym h.1) (fails names body s e n f)
 
 -- no fault at all
-pub accepts : (names : List (List ℕ)) (body : Exp) (t : Ty) (h : Noted) (limit : Option Limit) (sorted notes : List Note) → typed body (outermost names) begin ≡ fine t h → limit ≡ None → rule_and_byte limit ≡ limit_fault body → IsPermutation h.notes sorted → AreRising sorted → notes ≡ sorted → Accepts (finding names body) notes
-accepts names body t h limit sorted notes e n l p r i =
+pub accepts : (names : List (List ℕ)) (body : Exp) (t : Ty) (h : Noted) (limit : Option Limit) (sorted notes : List Note) → typed body (outermost names) begin ≡ fine t h → limit ≡ None → rule_and_byte limit ≡ limit_fault body → BeginsApart body → IsPermutation h.notes sorted → IsNonDecreasingBy (λ (n : Note). n.at) sorted → notes ≡ sorted → Accepts (finding names body) notes
+accepts names body t h limit sorted notes e n l b p r i =
     let f = found names body t h (rule_and_byte None) e (ap rule_and_byte (sym n) ∙ l) in
-    subst (λ ns. Accepts (finding names body) ns) (sym i) (subst (λ f. Accepts f sorted) (sym f) (p, r))
+    subst (λ ns. Accepts (finding names body) ns) (sym i) (subst (λ f. Accepts f sorted) (sym f) (p, rises body (outermost names) t h sorted b e p r))

@@ -13,7 +13,7 @@ use Rattle.tg_types.proofs.checking.check.Goals as goal
 
 pub returns-in_err-typed-clause-err : goal.returns-in_err-typed-clause-err
 returns-in_err-typed-clause-err c =
-    passed c.args.names.now (plain c.args.program.now.body) c.new-state.result c.from_residual.result c.in_err-typed.field-0 c.new-state.ensures.noted c.from_residual.ensures (c.in_err-typed.ensures.given (outermost c.args.names.now) (outside c.args.names.now c.new-state.result c.new-state.ensures.bindings c.new-state.ensures.types))
+    passed c.args.names.now (plain c.args.program.now.body) c.new-state.result c.from_residual.result c.in_err-typed.field-0.0 c.new-state.ensures.noted c.from_residual.ensures (c.in_err-typed.ensures.given (outermost c.args.names.now) (outside c.args.names.now c.new-state.result c.new-state.ensures.bindings c.new-state.ensures.types))
 
 pub from_vec-requires : goal.from_vec-requires
 from_vec-requires c =
@@ -24,10 +24,18 @@ from_vec-requires c =
 
 pub invariant_of-result : goal.invariant_of-result
 invariant_of-result c =
-    let x : ⊥ = c.in_default.is in
-    ?
+    let names = c.args.names.now in
+    let body = plain c.args.program.now.body in
+    let is = starts names body c.new-state.result c.new-state.ensures.noted ∙ c.in_ok-typed.ensures.given (outermost names) (outside names c.new-state.result c.new-state.ensures.bindings c.new-state.ensures.types) in
+    record {
+      within = c.requires.names;
+      apart = c.requires.apart;
+      accepted = accepts names body c.in_ok-typed.field-0 (noted_of c.typed.new.state) c.first_limit.result c.sort_by_key.new.self.items c.from_vec.result is c.in_default.is c.first_limit.ensures c.requires.apart c.in_ok-sort_by_key.ensures.permutation (IsNonDecreasingBy-from_sort_by_key (λ (n : Note). n.at) _ c.in_ok-sort_by_key.ensures.sorted (λ a r q k. search rules)) c.from_vec.ensures;
+    }
 
 pub returns-clause-ok : goal.returns-clause-ok
 returns-clause-ok c =
-    let x : ⊥ = c.in_default.not-Some in
-    ?
+    let names = c.args.names.now in
+    let body = plain c.args.program.now.body in
+    let is = starts names body c.new-state.result c.new-state.ensures.noted ∙ c.in_ok-typed.ensures.given (outermost names) (outside names c.new-state.result c.new-state.ensures.bindings c.new-state.ensures.types) in
+    accepts names body c.in_ok-typed.field-0 (noted_of c.typed.new.state) c.first_limit.result c.sort_by_key.new.self.items c.from_vec.result is c.in_default.is c.first_limit.ensures c.requires.apart c.in_ok-sort_by_key.ensures.permutation (IsNonDecreasingBy-from_sort_by_key (λ (n : Note). n.at) _ c.in_ok-sort_by_key.ensures.sorted (λ a r q k. search rules)) c.from_vec.ensures
