@@ -12,7 +12,7 @@ use Rattle.tg_types.specs.declared.limits.Limit.{Limit}
 use Rattle.tg_types.specs.declared.notes.Note.{Note}
 use Rattle.tg_types.specs.declared.states.State.{State}
 use Rattle.tg_types.specs.Types.{Ty}
-use Rattle.tg_types.specs.Checks.{Noted, fine}
+use Rattle.tg_types.specs.Checks.{Noted, Checked, fine}
 use Rattle.tg_types.specs.Scopes.{Scope, Binding, standard_bindings, standard_types, outermost}
 use Rattle.tg_types.specs.States.{Fails, bad, no_memory, scope_of, noted_of}
 use Rattle.tg_types.specs.Typing.{typed}
@@ -28,17 +28,15 @@ begin = record { shapes = []; notes = [] }
 abbrev opened : (names : List (List ℕ)) → List (ℕ × Binding) → List (ℕ × Ty) → Scope
 opened names bs ts = record { bindings = bs ++ standard_bindings 0 names; types = ts ++ standard_types 0 names; in_loop = false }
 
--- nothing is open yet
-pub outside : (names : List (List ℕ)) (s : State) → s.bindings ≡ [] → s.types ≡ [] → outermost names ≡ scope_of names s false
-outside names s b t = ap₂ (λ x y. opened names x y) (sym b) (sym t)
-
-pub starts : (names : List (List ℕ)) (body : Exp) (s : State) → noted_of s ≡ begin → typed body (outermost names) begin ≡ typed body (outermost names) (noted_of s)
-starts names body s n = ap (λ g. typed body (outermost names) g) (sym n)
+-- what is typed where nothing is open yet
+pub at_first : (names : List (List ℕ)) (body : Exp) (s : State) (P : Checked Ty → Type 0) → s.bindings ≡ [] → s.types ≡ [] → noted_of s ≡ begin → ((scope : Scope) → scope ≡ scope_of names s false → P (typed body scope (noted_of s))) → P (typed body (outermost names) begin)
+at_first names body s P b t n given =
+    subst (λ g. P (typed body (outermost names) g)) n (given (outermost names) (ap₂ (λ x y. opened names x y) (sym b) (sym t)))
 
 -- a fault of typing
-fails : (names : List (List ℕ)) (body : Exp) (s : State) (e : TypeFault) → noted_of s ≡ begin → Fails e (typed body (outermost names) (noted_of s)) → IsAt (finding names body) e
-fails names body s _ n (bad d) = ap (λ c. finding_of body c) (starts names body s n ∙ d)
-fails names body s _ n no_memory = tt
+fails : (names : List (List ℕ)) (body : Exp) (e : TypeFault) → Fails e (typed body (outermost names) begin) → IsAt (finding names body) e
+fails names body _ (bad d) = ap (λ c. finding_of body c) d
+fails names body _ no_memory = tt
 
 found : (names : List (List ℕ)) (body : Exp) (t : Ty) (h : Noted) (o : Option (TypeRule × ℕ)) → typed body (outermost names) begin ≡ fine t h → o ≡ limit_fault body → finding names body ≡ within_limits h.notes o
 found names body t h o e l = ap (λ c. finding_of body c) e ∙ ap (λ x. within_limits h.notes x) (sym l)
@@ -47,9 +45,9 @@ never : IsTrue false → ⊥
 never h = cc
 
 -- what a `?` returns
-pub passed : {X : Type 0} (names : List (List ℕ)) (body : Exp) (s : State) (r : Result X TypeFault) (e : TypeFault) → noted_of s ≡ begin → IsErr r × IsErrAnd r (λ x. x ≡ e) → Fails e (typed body (outermost names) (noted_of s)) → IfErr r (λ x. IsAt (finding names body) x)
-passed names body s (Ok x) e n h f = absurd (never h.0)
-passed names body s (Err x) e n h f = subst (λ y. IsAt (finding names body) y) (sym h.1) (fails names body s e n f)
+pub passed : {X : Type 0} (names : List (List ℕ)) (body : Exp) (r : Result X TypeFault) (e : TypeFault) → IsErr r × IsErrAnd r (λ x. x ≡ e) → Fails e (typed body (outermost names) begin) → IfErr r (λ x. IsAt (finding names body) x)
+passed names body (Ok x) e h f = absurd (never h.0)
+passed names body (Err x) e h f = subst (λ y. IsAt (finding names body) y) (sym h.1) (fails names body e f)
 
 -- no fault at all
 pub accepts : (names : List (List ℕ)) (body : Exp) (t : Ty) (h : Noted) (limit : Option Limit) (sorted notes : List Note) → typed body (outermost names) begin ≡ fine t h → limit ≡ None → rule_and_byte limit ≡ limit_fault body → BeginsApart body → IsPermutation h.notes sorted → IsNonDecreasingBy (λ (n : Note). n.at) sorted → notes ≡ sorted → Accepts (finding names body) notes

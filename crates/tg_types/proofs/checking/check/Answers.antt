@@ -1,41 +1,48 @@
-use Rattle.std.proofs.Common.{◌≡◌, List, [], refl, subst, rules, ◌∙◌}
+use Rattle.std.proofs.Common.{◌≡◌, rules}
 use Rattle.std.proofs.lemmas.List.Sorted.{IsNonDecreasingBy-from_sort_by_key}
 use Rattle.tg_syntax.specs.Plain.{plain}
 use Rattle.tg_types.specs.declared.notes.Note.{Note}
+use Rattle.tg_types.specs.Checks.{fine}
 use Rattle.tg_types.specs.Scopes.{outermost}
-use Rattle.tg_types.specs.States.{noted_of}
-use Rattle.tg_types.specs.Accepted.{finding}
-use Rattle.tg_types.specs.Answered.{Accepts, AreRising}
-use Rattle.tg_types.specs.Typing.{typed}
+use Rattle.tg_types.specs.States.{Fails, noted_of}
 use Rattle.tg_types.proofs.Rising.{rises}
-use Rattle.tg_types.proofs.CheckSteps.{outside, starts, passed, accepts}
+use Rattle.tg_types.proofs.CheckSteps.{at_first, passed, accepts}
 use Rattle.tg_types.proofs.checking.check.Goals as goal
 
 pub returns-in_err-typed-clause-err : goal.returns-in_err-typed-clause-err
 returns-in_err-typed-clause-err c =
-    passed c.args.names.now (plain c.args.program.now.body) c.new-state.result c.from_residual.result c.in_err-typed.field-0.0 c.new-state.ensures.noted c.from_residual.ensures (c.in_err-typed.ensures.given (outermost c.args.names.now) (outside c.args.names.now c.new-state.result c.new-state.ensures.bindings c.new-state.ensures.types))
+    let names = c.args.names.now in
+    let body = plain c.args.program.now.body in
+    let n = c.new-state.ensures in
+    passed names body c.from_residual.result c.in_err-typed.field-0.0 c.from_residual.ensures (at_first names body c.new-state.result (λ x. Fails c.in_err-typed.field-0.0 x) n.bindings n.types n.noted c.in_err-typed.ensures.given)
 
 pub from_vec-requires : goal.from_vec-requires
 from_vec-requires c =
     let names = c.args.names.now in
     let body = plain c.args.program.now.body in
-    let is = starts names body c.new-state.result c.new-state.ensures.noted ∙ c.in_ok-typed.ensures.given (outermost names) (outside names c.new-state.result c.new-state.ensures.bindings c.new-state.ensures.types) in
-    rises body (outermost names) c.in_ok-typed.field-0 (noted_of c.typed.new.state) c.sort_by_key.new.self.items c.requires.apart is c.in_ok-sort_by_key.ensures.permutation (IsNonDecreasingBy-from_sort_by_key (λ (n : Note). n.at) _ c.in_ok-sort_by_key.ensures.sorted (λ a r q k. search rules))
+    let n = c.new-state.ensures in
+    let noted = noted_of c.typed.new.state in
+    let is = at_first names body c.new-state.result (λ x. x ≡ fine c.in_ok-typed.field-0 noted) n.bindings n.types n.noted c.in_ok-typed.ensures.given in
+    rises body (outermost names) c.in_ok-typed.field-0 noted c.sort_by_key.new.self.items c.requires.apart is c.in_ok-sort_by_key.ensures.permutation (IsNonDecreasingBy-from_sort_by_key (λ (n : Note). n.at) _ c.in_ok-sort_by_key.ensures.sorted (λ a r q k. search rules))
 
 pub invariant_of-result : goal.invariant_of-result
 invariant_of-result c =
     let names = c.args.names.now in
     let body = plain c.args.program.now.body in
-    let is = starts names body c.new-state.result c.new-state.ensures.noted ∙ c.in_ok-typed.ensures.given (outermost names) (outside names c.new-state.result c.new-state.ensures.bindings c.new-state.ensures.types) in
+    let n = c.new-state.ensures in
+    let noted = noted_of c.typed.new.state in
+    let is = at_first names body c.new-state.result (λ x. x ≡ fine c.in_ok-typed.field-0 noted) n.bindings n.types n.noted c.in_ok-typed.ensures.given in
     record {
       within = c.requires.names;
       apart = c.requires.apart;
-      accepted = accepts names body c.in_ok-typed.field-0 (noted_of c.typed.new.state) c.first_limit.result c.sort_by_key.new.self.items c.from_vec.result is c.in_default.is c.first_limit.ensures c.requires.apart c.in_ok-sort_by_key.ensures.permutation (IsNonDecreasingBy-from_sort_by_key (λ (n : Note). n.at) _ c.in_ok-sort_by_key.ensures.sorted (λ a r q k. search rules)) c.from_vec.ensures;
+      accepted = accepts names body c.in_ok-typed.field-0 noted c.first_limit.result c.sort_by_key.new.self.items c.from_vec.result is c.in_default.is c.first_limit.ensures c.requires.apart c.in_ok-sort_by_key.ensures.permutation (IsNonDecreasingBy-from_sort_by_key (λ (n : Note). n.at) _ c.in_ok-sort_by_key.ensures.sorted (λ a r q k. search rules)) c.from_vec.ensures;
     }
 
 pub returns-clause-ok : goal.returns-clause-ok
 returns-clause-ok c =
     let names = c.args.names.now in
     let body = plain c.args.program.now.body in
-    let is = starts names body c.new-state.result c.new-state.ensures.noted ∙ c.in_ok-typed.ensures.given (outermost names) (outside names c.new-state.result c.new-state.ensures.bindings c.new-state.ensures.types) in
-    accepts names body c.in_ok-typed.field-0 (noted_of c.typed.new.state) c.first_limit.result c.sort_by_key.new.self.items c.from_vec.result is c.in_default.is c.first_limit.ensures c.requires.apart c.in_ok-sort_by_key.ensures.permutation (IsNonDecreasingBy-from_sort_by_key (λ (n : Note). n.at) _ c.in_ok-sort_by_key.ensures.sorted (λ a r q k. search rules)) c.from_vec.ensures
+    let n = c.new-state.ensures in
+    let noted = noted_of c.typed.new.state in
+    let is = at_first names body c.new-state.result (λ x. x ≡ fine c.in_ok-typed.field-0 noted) n.bindings n.types n.noted c.in_ok-typed.ensures.given in
+    accepts names body c.in_ok-typed.field-0 noted c.first_limit.result c.sort_by_key.new.self.items c.from_vec.result is c.in_default.is c.first_limit.ensures c.requires.apart c.in_ok-sort_by_key.ensures.permutation (IsNonDecreasingBy-from_sort_by_key (λ (n : Note). n.at) _ c.in_ok-sort_by_key.ensures.sorted (λ a r q k. search rules)) c.from_vec.ensures
