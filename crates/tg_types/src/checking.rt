@@ -4,7 +4,6 @@ ghost use Rattle.tg_syntax.specs.NamesWithin.{NamesWithin};
 ghost use Rattle.tg_syntax.specs.Beginnings.{BeginsApart};
 ghost use Rattle.tg_types.specs.Accepted.{finding};
 ghost use Rattle.tg_types.specs.Answered.{Accepts, AreRising, IsAt, meaning_at};
-ghost use Rattle.tg_types.specs.Programs.{IsAccepted};
 
 use crate::faults::TypeFault;
 use crate::limits::first_limit;
@@ -101,16 +100,6 @@ impl<'a> Model for Checked<'a> {
     ghost view = { λ c. record { program = c.program.now; names = c.names.now; notes = c.notes } };
 
     ghost invariant = { λ c. IsAccepted (record { program = c.program.now; names = c.names.now; notes = c.notes }) };
-}
-
-impl<'a> Checked<'a> {
-    /// The notes.
-    pub fn notes(&self) -> &Notes
-        ensures notes { result.now ≡ self.now.notes }
-        ensures accepted { IsAccepted self.now }
-    {
-        &self.notes
-    }
 }
 
 /// Types a program, whose identifiers are numbered by a list of names.
