@@ -10,6 +10,7 @@ pub mod OnlyLemmas
 pub mod ExitFound
 pub mod Evaluated
 pub mod ProgramRuns
+pub mod ProgramsWithin
 pub mod FaultPlaces
 pub mod Typings
 pub mod TokenEnds

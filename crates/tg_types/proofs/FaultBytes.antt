@@ -22,8 +22,8 @@ use Rattle.tg_types.specs.Accepted.{at_fault, within_limits, finding_of, finding
 use Rattle.tg_types.specs.BeginWithin.{IdentBegins, ParamsBegin, FormBegins, TypesBegin, KindBegins, BeginsWithin, PlaceBegins, ExpsBegin, InitsBegin, DecsBegin, FunctionsBegin}
 
 -- the fault of a check, if it has one, stands at this byte or before it
-pub record FaultsWithin {A : Type 0} (bound : ℕ) (m : Check A) : Type 0 where
-  pub within : (n : Noted) (rule : TypeRule) (at : ℕ) → m n ≡ fault rule at → at ≤ bound
+record FaultsWithin {A : Type 0} (bound : ℕ) (m : Check A) : Type 0 where
+  within : (n : Noted) (rule : TypeRule) (at : ℕ) → m n ≡ fault rule at → at ≤ bound
 
 -- the same of a limit
 abbrev IsLimitWithin : (bound : ℕ) → Option (TypeRule × ℕ) → Type 0
@@ -244,7 +244,7 @@ module _ (bound : ℕ) where
   -- ---- the tree
 
   -- where an expression begins, and an l-value
-  start : (e : Exp) → BeginsWithin bound e → start_of e ≤ bound
+  pub start : (e : Exp) → BeginsWithin bound e → start_of e ≤ bound
   start (Nil s) h = h
   start (Break s) h = h
   start (Int s k) h = h
