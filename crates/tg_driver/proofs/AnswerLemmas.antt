@@ -1,5 +1,5 @@
 -- From the answers of a text to those of the words.
-use Rattle.std.proofs.Common.{ℕ, ◌≡◌, ◌≢◌, List, Option, sym, ◌∙◌}
+use Rattle.std.proofs.Common.{ℕ, ◌≡◌, List, Option, sym, ◌∙◌}
 use Rattle.tg_base.specs.declared.ends.RunEnd.{RunEnd}
 use Rattle.tg_base.specs.Files.{Files, IsFrontOf}
 use Rattle.tg_isa.specs.declared.images.Image.{Image}
@@ -11,7 +11,6 @@ use Rattle.tg_driver.specs.Found.{IsFound, IsRefused}
 use Rattle.tg_syntax.specs.Tree.{Exp}
 use Rattle.tg_driver.specs.BuiltForm.{IsBuilt}
 use Rattle.tg_driver.specs.Readings.{IsNamedSource}
-use Rattle.tg_driver.specs.Statuses.{Reports}
 use Rattle.tg_driver.specs.Telling.{IsReported, itself, no_memory, IsBeforeRun}
 use Rattle.tg_driver.specs.Causes.{Runs, IsRun, IsDue, IsDueOfText, Answers, most_of}
 

@@ -1,24 +1,23 @@
 -- A text has at most one answer besides want of memory.
 use Rattle.std.specs.Prelude.{Result, Ok, Err}
-use Rattle.std.proofs.Common.{ℕ, ◌≡◌, ◌≢◌, ◌≤◌, ◌<◌, ◌⊎◌, inl, inr, List, [], ◌∷◌, Option, length, refl, sym, ap, subst, arith, ◌∙◌}
+use Rattle.std.proofs.Common.{ℕ, ◌≡◌, ◌≢◌, ◌<◌, ◌⊎◌, inl, inr, List, [], length, refl, sym, ap, subst, arith, ◌∙◌}
 use Rattle.tg_base.specs.declared.ends.RunEnd.{RunEnd}
-use Rattle.tg_base.specs.declared.ends.RunEnd.TheVariants.{Exit, Overflow, StepLimit}
-use Rattle.tg_base.specs.State.{State, start}
+use Rattle.tg_base.specs.declared.ends.RunEnd.TheVariants.{StepLimit}
 use Rattle.tg_isa.specs.declared.images.Image.{Image}
 use Rattle.tg_isa.specs.declared.keywords.AsmRule.{AsmRule}
 use Rattle.tg_isa.specs.Assembly.{Assembled, Fault as AsmFault, assembled}
 use Rattle.tg_asm.specs.Images.{image_of}
-use Rattle.tg_isa.specs.Runs.{World, Outcome, Running, Ended, run, begun}
+use Rattle.tg_isa.specs.Runs.{World, Outcome, Running, Ended, run}
 use Rattle.tg_syntax.specs.Tree.{Exp}
 use Rattle.tg_command.specs.declared.modes.Mode.TheVariants.{Check, Run, Exec}
 use Rattle.tg_command.specs.Commands.{Asked}
 use Rattle.tg_driver.specs.declared.answers.Answer.{Answer}
-use Rattle.tg_driver.specs.declared.answers.Answer.TheVariants.{Usage, Unreadable, Faulty, BadLine, TooLong, Accepted, NotBuilt, OutOfMemory, Finished}
+use Rattle.tg_driver.specs.declared.answers.Answer.TheVariants.{Faulty, BadLine, TooLong, Accepted, NotBuilt, OutOfMemory, Finished}
 use Rattle.tg_driver.specs.declared.faults.Fault.{Fault}
 use Rattle.tg_driver.specs.BuiltForm.{IsBuilt}
 use Rattle.tg_driver.specs.Images.{IsImageOf}
 use Rattle.tg_driver.specs.Sources.{IsFaultOf}
-use Rattle.tg_driver.specs.Causes.{outcome_of, EndsSilently, RunsTo, IsBuiltSource, IsOtherSource, IsSource, IsRun, IsText, IsExec, IsBadLine, of_source, of_assembly, IsDueOfText, IsEnded}
+use Rattle.tg_driver.specs.Causes.{outcome_of, EndsSilently, RunsTo, IsBuiltSource, IsOtherSource, IsSource, IsRun, IsText, IsBadLine, of_source, of_assembly, IsDueOfText, IsEnded}
 use Rattle.tg_driver.proofs.FaultsOnce.{fault_once_told, source_excludes, source_once}
 
 -- the end of an outcome

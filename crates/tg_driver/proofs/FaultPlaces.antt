@@ -2,7 +2,7 @@
 use Rattle.std.proofs.Common.{ℕ, ◌+◌, ◌≡◌, ◌≤◌, ◌<◌, ◌^◌, List, [], ◌∷◌, ◌++◌, length, refl, subst, arith, length-append}
 use Rattle.tg_syntax.specs.declared.faults.LexRule.{LexRule}
 use Rattle.tg_syntax.specs.declared.tokens.Spanned.{Spanned}
-use Rattle.tg_syntax.specs.Lexing.{Lexes, ends, blank, comment, token}
+use Rattle.tg_syntax.specs.Lexing.{blank, comment, token}
 use Rattle.tg_syntax.specs.LexicalFaults.{LeadsTo, FaultInString, FaultAt, HasLexicalFault}
 use Rattle.tg_syntax.specs.LexicalFaults as fault
 use Rattle.tg_syntax.specs.SyntaxFaults.{IsAt}
@@ -16,6 +16,7 @@ use Rattle.tg_types.specs.Accepted.{finding, at_fault}
 use Rattle.tg_driver.specs.declared.faults.Rule.{Rule}
 use Rattle.tg_driver.specs.Sources.{HasTokens, HasTree, HasFault, lexical, syntactic, ill_typed}
 use Rattle.tg_driver.specs.Readings.{HasBadTokens, HasBadTypes}
+use Rattle.tg_driver.proofs.ProgramsWithin.{AreWithin, tokens_within, type_fault_within, type_fault_small}
 
 -- what was read and what is left are the whole
 leads_length : {at to : ℕ} {text rest : List ℕ} → LeadsTo at text to rest → to + length rest ≡ at + length text
@@ -59,24 +60,6 @@ lexical_within text rule at (fault.met short l f) =
     let w = fault_within f in
     record { within = omega (arith, h, w, short); small = omega (arith, h, w, short) }
 
--- each token begins within the text
-abbrev AreWithin : ℕ → List Spanned → Type 0
-AreWithin end [] = Unit {0}
-AreWithin end (t ∷ tokens) = (t.span.from ≤ end) × AreWithin end tokens
-
-AreWithin-as : (m n : ℕ) (tokens : List Spanned) → m ≡ n → AreWithin m tokens → AreWithin n tokens
-AreWithin-as m n tokens e h = let P : ℕ → Type 0 = λ k. AreWithin k tokens in subst P e h
-
-tokens_within : {names : List (List ℕ)} {at : ℕ} {text : List ℕ} {tokens : List Spanned} → Lexes names at text tokens → AreWithin (at + length text) tokens
-tokens_within (ends at) = (omega arith, tt)
-tokens_within {tokens = tokens} (blank b is l) = AreWithin-as _ _ tokens (omega arith) (tokens_within l)
-tokens_within {tokens = tokens} (comment inside {rest = rest} c l) =
-    let e = length-append inside rest in
-    AreWithin-as _ _ tokens (omega (arith, e)) (tokens_within l)
-tokens_within (token bytes one {rest = rest} {tokens = tokens} s longest o l) =
-    let e = length-append bytes rest in
-    (omega arith, AreWithin-as _ _ tokens (omega (arith, e)) (tokens_within l))
-
 one_within : (end : ℕ) (front : List Spanned) (one : Spanned) (after : List Spanned) → AreWithin end (front ++ one ∷ after) → one.span.from ≤ end
 one_within end [] one after h = h.0
 one_within end (t ∷ front) one after h = one_within end front one after h.1
@@ -94,7 +77,8 @@ syntactic_within text names tokens S1 at has f = at_within text names tokens f.f
 syntactic_within text names tokens S2 at has f = at_within text names tokens f.front f.one at has f.is_at
 
 typed_within : (text : List ℕ) (names : List (List ℕ)) (tokens : List Spanned) (program : Exp) (rule : TypeRule) (at : ℕ) → HasTree text names tokens program → finding names program ≡ at_fault rule at → IsWithin text at
-typed_within text names tokens program rule at tree f = ?
+typed_within text names tokens program rule at tree f =
+    record { within = type_fault_within text names tokens program rule at tree.has_tokens tree.parsed f; small = type_fault_small text names tokens program rule at tree.has_tokens tree.parsed f }
 
 pub within_text : (text : List ℕ) (rule : Rule) (at : ℕ) → HasFault text rule at → IsWithin text at
 within_text text rule at (lexical {rule = r} f) = lexical_within text r at f

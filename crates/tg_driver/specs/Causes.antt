@@ -3,7 +3,7 @@ use Rattle.std.specs.Prelude.{ℕ, ◌+◌, ◌*◌, ◌≡◌, ◌≢◌, ◌�
 use Rattle.tg_base.specs.Causes.{Rose}
 use Rattle.tg_base.specs.Files.{Files, IsFrontOf}
 use Rattle.tg_base.specs.declared.ends.RunEnd.{RunEnd}
-use Rattle.tg_base.specs.declared.ends.RunEnd.TheVariants.{Exit, Overflow, StepLimit}
+use Rattle.tg_base.specs.declared.ends.RunEnd.TheVariants.{StepLimit}
 use Rattle.tg_base.specs.State.{State, start}
 use Rattle.tg_isa.specs.declared.images.Image.{Image}
 use Rattle.tg_isa.specs.declared.keywords.AsmRule.{AsmRule}

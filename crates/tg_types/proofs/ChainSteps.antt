@@ -2,10 +2,10 @@
 use Rattle.std.specs.Prelude.{Option, Some, None, slice_get, ◌==◌, if◌then◌else◌}
 use Rattle.std.specs.Option.{option_map, unwrap_or}
 use Rattle.std.specs.List.{All}
-use Rattle.std.proofs.Common.{◌≡◌, ℕ, zero, suc, ◌+◌, ◌*◌, ◌/◌, ◌%◌, ◌<◌, ◌≤◌, List, [], ◌∷◌, ◌++◌, length, map, drop, get_or, Bool, true, false, refl, sym, ap, ◌∙◌, subst, arith, append_assoc}
+use Rattle.std.proofs.Common.{◌≡◌, ℕ, zero, suc, ◌+◌, ◌*◌, ◌<◌, ◌≤◌, List, [], ◌∷◌, ◌++◌, length, map, drop, get_or, Bool, true, false, refl, sym, ap, ◌∙◌, subst, arith, append_assoc}
 use Rattle.std.proofs.Math.Nat.{mul-add, add-mul, mul-zero}
 use Rattle.std.proofs.lemmas.List.{length-map, get_or-map, get_or_default, ext_get_or}
-use Rattle.std.proofs.lemmas.Option.{unwrap_or-slice_get, slice_get-get_or, get_or_from_slice_get, slice_get_within, slice_get-map, slice_get_read}
+use Rattle.std.proofs.lemmas.Option.{unwrap_or-slice_get, get_or_from_slice_get, slice_get-map, slice_get_read}
 use Rattle.std.proofs.lemmas.List.Elements.{All-nil, All-cons}
 use Rattle.tg_syntax.specs.declared.tokens.Ident.{Ident}
 use Rattle.tg_syntax.specs.declared.trees.TypeDec.{TypeDec as CodeTypeDec}
@@ -17,7 +17,7 @@ use Rattle.tg_syntax.specs.NamesWithin.{TypesWithin, FormWithin, IsWithin}
 use Rattle.tg_types.specs.declared.chains.Chain.{Chain as CodeChain}
 use Rattle.tg_types.specs.declared.chains.Chain.TheVariants.{Outside, EndsAt, Onward}
 use Rattle.tg_types.specs.Scopes.{name_of}
-use Rattle.tg_types.specs.Groups.{Chain, outside, ends_at, endless, declared_as, link, chain, chain_of}
+use Rattle.tg_types.specs.Groups.{Chain, ends_at, endless, declared_as, link, chain, chain_of}
 use Rattle.tg_types.proofs.TreeSteps.{from_here, none_left}
 use Rattle.tg_types.specs.Declaring.{place_in, chain_from, ChainWithin, AreDifferent, start_at, start_in, link_at, links_in, LeadsWithin, followed}
 

@@ -1,18 +1,16 @@
 -- Fields and elements of types.
 use Rattle.std.specs.Prelude.{Option, Some, None, ◌==◌, ◌&&◌, if◌then◌else◌}
-use Rattle.std.specs.Option.{option_map}
-use Rattle.std.proofs.Common.{◌≡◌, ℕ, zero, suc, ◌+◌, ◌<◌, drop, get_or, List, [], ◌∷◌, length, Bool, true, false, refl, sym, ap, ◌∙◌, subst, arith}
-use Rattle.tg_syntax.specs.declared.tokens.Ident.{Ident}
+use Rattle.std.proofs.Common.{◌≡◌, ℕ, suc, ◌+◌, ◌<◌, drop, get_or, List, [], ◌∷◌, length, Bool, true, false, refl, sym, ap, ◌∙◌, arith}
 use Rattle.tg_syntax.specs.Tree.{Inits, no_inits, init}
 use Rattle.tg_syntax.specs.declared.trees.Init.{Init as CodeInit}
 use Rattle.tg_syntax.specs.Lists.{inits_of}
 use Rattle.tg_types.proofs.TreeSteps.{from_here, none_left}
 use Rattle.tg_types.specs.declared.faults.TypeRule.{TypeRule}
-use Rattle.tg_types.specs.declared.faults.TypeRule.TheVariants.{T7, T8, T9}
+use Rattle.tg_types.specs.declared.faults.TypeRule.TheVariants.{T7, T9}
 use Rattle.tg_types.specs.Types.{Ty, int_type, string_type, nil_type, none_type, record_type, array_type, Shape, record_shape, array_shape}
 use Rattle.tg_symbols.specs.Tables.{named}
-use Rattle.tg_types.specs.Checks.{Check, Noted, Checked, fine, fault, present, give, refuse, shape_at, ◌>>=◌}
-use Rattle.tg_types.specs.Scopes.{name_of, at_of}
+use Rattle.tg_types.specs.Checks.{Noted, fine, fault, present, give, refuse, shape_at, ◌>>=◌}
+use Rattle.tg_types.specs.Scopes.{name_of}
 use Rattle.tg_types.specs.Typing.{fields_in, fields_of, element_in, element_of, placed, are_fields}
 use Rattle.tg_types.specs.Kinds.{record_byte, array_byte}
 use Rattle.tg_types.specs.Shapes.{fields_in_shape, element_in_shape}

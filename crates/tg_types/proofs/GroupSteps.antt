@@ -1,5 +1,5 @@
 -- Groups of type declarations, one after another.
-use Rattle.std.specs.Prelude.{Option, Some, None, slice_get, nat_eq, ◌==◌, ◌||◌, not, cond, if◌then◌else◌}
+use Rattle.std.specs.Prelude.{Option, Some, None, nat_eq, ◌==◌, ◌||◌, not, cond, if◌then◌else◌}
 use Rattle.std.specs.Prelude.{Result, Ok, Err, OnOk}
 use Rattle.std.specs.Option.{option_map, is_some}
 use Rattle.std.specs.List.{All}
@@ -15,14 +15,13 @@ use Rattle.std.proofs.lemmas.List.{length-map, get_or-map, get_or_default}
 use Rattle.tg_syntax.specs.declared.tokens.Ident.{Ident}
 use Rattle.tg_syntax.specs.declared.trees.Param.{Param}
 use Rattle.tg_syntax.specs.declared.trees.TypeDec.{TypeDec as CodeTypeDec}
-use Rattle.tg_syntax.specs.Tree.{Form, TypeDec, Alias, Fields, Array}
+use Rattle.tg_syntax.specs.Tree.{TypeDec}
 use Rattle.tg_syntax.specs.Plain.{plain_type, plain_form}
 use Rattle.tg_syntax.specs.NamesWithin.{TypesWithin, FormWithin, ParamsWithin, IsWithin}
-use Rattle.tg_types.specs.declared.faults.TypeRule.{TypeRule}
-use Rattle.tg_types.specs.declared.faults.TypeRule.TheVariants.{T3, T16, T18, T19}
+use Rattle.tg_types.specs.declared.faults.TypeRule.TheVariants.{T16, T18, T19}
 use Rattle.tg_types.specs.declared.faults.TypeFault.{TypeFault}
 use Rattle.tg_types.specs.declared.faults.TypeFault.TheVariants.{Bad}
-use Rattle.tg_types.specs.Checks.{Check, Checked, Noted, fine, fault, on_fine, keep, give, refuse, add_shape, ◌>>=◌, ◌>>◌}
+use Rattle.tg_types.specs.Checks.{Check, Noted, fine, keep, give, refuse, add_shape, ◌>>=◌, ◌>>◌}
 use Rattle.tg_types.specs.Scopes.{Scope, name_of, at_of, standard_bindings, standard_types}
 use Rattle.tg_types.specs.Types.{Ty, Shape}
 use Rattle.tg_types.specs.Groups as groups
@@ -32,7 +31,7 @@ use Rattle.tg_types.specs.declared.states.State.{State}
 use Rattle.tg_types.specs.declared.chains.Chain.{Chain as CodeChain}
 use Rattle.tg_types.specs.declared.chains.Chain.TheVariants.{Outside, EndsAt, Onward}
 use Rattle.tg_types.proofs.ChainSteps.{there}
-use Rattle.tg_types.specs.States.{Fails, bad, no_memory, Gives, Keeps, Opens, scope_of, noted_of}
+use Rattle.tg_types.specs.States.{Fails, bad, Gives, Keeps, Opens, scope_of, noted_of}
 use Rattle.tg_types.proofs.Steps.{step, given, fails_first, fails_then, last_fails, kept_true, kept_false, keeps_same, keeps_both, same_scope, given_is, opens_keep, opens_both}
 use Rattle.tg_types.proofs.TreeSteps.{from_here, none_left}
 

@@ -21,7 +21,7 @@ use Rattle.tg_symbols.specs.Tables.{named}
 use Rattle.tg_types.specs.Scopes.{Signature, Binding, variable_at, function_at, Scope, name_of, at_of, binding, in_a_loop, in_no_loop, signature}
 use Rattle.tg_types.specs.Groups.{with_functions, with_params}
 use Rattle.tg_types.proofs.Has as Has
-use Rattle.tg_types.proofs.Has.{Fits, the_same, Alike, records, arrays, nil_and, and_nil, Compares, Identifies, Callee, declared, standard}
+use Rattle.tg_types.proofs.Has.{Fits, Alike, records, arrays, nil_and, and_nil, Compares, Identifies, Callee, declared, standard}
 use Rattle.tg_types.proofs.Worlds
 
 abbrev pub Known : (A : Type 0) → Type 1

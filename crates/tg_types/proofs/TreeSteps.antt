@@ -1,6 +1,6 @@
 -- Lists of a tree's parts, one after another.
 use Rattle.std.specs.Prelude.{Option, Some, None, IfSome, Box, box_value, Result, Ok, Err, OnOk}
-use Rattle.std.proofs.Common.{◌≡◌, ℕ, zero, suc, ◌+◌, ◌<◌, ◌≤◌, List, [], ◌∷◌, ◌++◌, length, drop, get_or, Bool, false, refl, sym, ap, ◌∙◌, subst, arith}
+use Rattle.std.proofs.Common.{◌≡◌, ℕ, zero, suc, ◌+◌, ◌<◌, List, [], ◌∷◌, length, drop, get_or, Bool, false, refl, sym, ap, ◌∙◌, subst, arith}
 use Rattle.std.specs.declared.alloc.Global.{Global}
 use Rattle.std.specs.Option.{option_map}
 use Rattle.std.proofs.Math.Seq.{drop-length}
@@ -15,7 +15,7 @@ use Rattle.tg_syntax.specs.declared.trees.Decs.{Decs as CodeDecs}
 use Rattle.tg_syntax.specs.declared.trees.Inits.{Inits as CodeInits, out-Inits}
 use Rattle.tg_syntax.specs.declared.trees.FunDecs.{FunDecs as CodeFunDecs, out-FunDecs}
 use Rattle.tg_syntax.specs.declared.trees.Kind.{Kind, Nil, Break, Int, Text, Read, Call, Neg', Binary', Make, Fill', Assign', If, If', None', Some', While', For', Let, Let', Seq}
-use Rattle.tg_syntax.specs.Tree.{Exp, Exps, no_exps, exp, Inits, Decs, no_decs, FunDecs}
+use Rattle.tg_syntax.specs.Tree.{Exp, Decs, no_decs}
 use Rattle.tg_syntax.specs.Plain.{plain, plain_kind, plain_exps, plain_inits, plain_functions, plain_dec}
 use Rattle.tg_syntax.specs.Lists.{exps_of, inits_of, decs_of, functions_of}
 use Rattle.tg_syntax.proofs.ListLaws.{plain_kind-Let, plain_exps-items, plain_inits-items, plain_functions-items}
@@ -29,7 +29,7 @@ use Rattle.tg_types.specs.Selections.{init_count, function_count}
 use Rattle.tg_types.specs.Trees.{fitting, choice, second_way, idle, one_body}
 use Rattle.tg_syntax.specs.NamesWithin.{NamesWithin, ExpsWithin, InitsWithin, DecsWithin, FunctionsWithin}
 use Rattle.tg_types.specs.States.{Fails, Gives, Leads, Keeps, Opens, scope_of, noted_of}
-use Rattle.tg_types.proofs.Steps.{step, two_steps, given, fails_first, two_fail_first, two_fail_then, last_fails, same_scope, keeps_both, keeps_same, opens_keep, opens_both}
+use Rattle.tg_types.proofs.Steps.{step, two_steps, fails_first, two_fail_first, two_fail_then, last_fails, same_scope, keeps_both, keeps_same, opens_keep, opens_both}
 
 -- where an expression begins
 kind_start : (k : Kind) (s : Span) → start_of (plain_kind k s) ≡ s.from

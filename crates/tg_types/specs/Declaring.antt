@@ -1,5 +1,5 @@
 -- Sets and maps of names, beside the lists that the definition searches.
-use Rattle.std.specs.Prelude.{◌≡◌, ◌<◌, ℕ, suc, ◌==◌, nat_eq, length, slice_get, List, [], ◌∷◌, Bool, Option, Some, None, if◌then◌else◌}
+use Rattle.std.specs.Prelude.{◌≡◌, ◌<◌, ℕ, suc, ◌==◌, nat_eq, length, slice_get, List, [], ◌∷◌, Option, Some, None, if◌then◌else◌}
 use Rattle.std.specs.Option.{option_map, unwrap_or}
 use Rattle.std.specs.HashMap as hash
 use Rattle.std.specs.HashMap.{HashMap}
@@ -10,7 +10,7 @@ use Rattle.tg_syntax.specs.Tree.{Form, TypeDec, Alias, Fields, Array}
 use Rattle.tg_syntax.specs.declared.trees.TypeDec.{TypeDec as CodeTypeDec}
 use Rattle.tg_types.specs.Types.{Ty}
 use Rattle.tg_types.specs.Scopes.{name_of}
-use Rattle.tg_types.specs.Groups.{Chain, outside, ends_at, endless, stands_in, names_of}
+use Rattle.tg_types.specs.Groups.{Chain, outside, ends_at, endless, stands_in}
 use Rattle.tg_types.specs.declared.chains.Chain.{Chain as CodeChain}
 use Rattle.tg_types.specs.declared.chains.Chain.TheVariants.{Outside, EndsAt, Onward}
 use Rattle.tg_syntax.specs.NamesWithin.{IsWithin}

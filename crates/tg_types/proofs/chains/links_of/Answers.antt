@@ -1,8 +1,7 @@
-use Rattle.std.proofs.Common.{◌≡◌, ◌++◌, ◌+◌, ℕ, drop, length, map, refl, sym, ap, subst, ◌∙◌, arith}
+use Rattle.std.proofs.Common.{◌++◌, ◌+◌, drop, map, sym, ap, subst, ◌∙◌, arith}
 use Rattle.std.specs.List.{All}
-use Rattle.std.proofs.lemmas.List.{length-map}
-use Rattle.tg_syntax.specs.Plain.{plain_type, plain_form}
-use Rattle.tg_types.specs.Declaring.{ChainWithin, links_in, link_at}
+use Rattle.tg_syntax.specs.Plain.{plain_type}
+use Rattle.tg_types.specs.Declaring.{ChainWithin, links_in}
 use Rattle.tg_types.proofs.ChainSteps.{links_more, links_all, links_within}
 use Rattle.tg_types.proofs.chains.links_of.Goals as goal
 

@@ -1,4 +1,4 @@
-use Rattle.std.proofs.Common.{◌≡◌, length, refl, sym, ap, ◌∙◌, arith}
+use Rattle.std.proofs.Common.{length, arith}
 use Rattle.tg_types.proofs.Steps.{ended}
 use Rattle.tg_types.proofs.GroupSteps.{form_within, added_one, added_fail, added_all}
 use Rattle.tg_types.proofs.groups.add_forms.Goals as goal

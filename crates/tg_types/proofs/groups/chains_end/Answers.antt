@@ -1,9 +1,9 @@
-use Rattle.std.proofs.Common.{◌≡◌, ◌+◌, refl, sym, ap, ◌∙◌, map, arith}
+use Rattle.std.proofs.Common.{◌+◌, sym, ap, ◌∙◌, map, arith}
 use Rattle.tg_syntax.specs.Plain.{plain_type}
 use Rattle.tg_types.specs.Checks.{keep}
 use Rattle.tg_types.specs.declared.faults.TypeRule.TheVariants.{T19}
 use Rattle.tg_types.proofs.Steps.{ended, last_fails}
-use Rattle.tg_types.proofs.GroupSteps.{ends_none, ends_one, ends_fail, ends_all, end_has}
+use Rattle.tg_types.proofs.GroupSteps.{ends_one, ends_fail, ends_all, end_has}
 use Rattle.tg_types.proofs.groups.chains_end.Goals as goal
 
 pub returns-in_err-kept : goal.returns-in_err-kept

@@ -1,4 +1,4 @@
-use Rattle.std.proofs.Common.{◌≡◌, true, length, map, refl, sym, ap, subst, ◌∙◌, arith}
+use Rattle.std.proofs.Common.{true, length, map, refl, sym, ap, subst, ◌∙◌}
 use Rattle.std.specs.List.{All}
 use Rattle.tg_syntax.specs.Plain.{plain_type}
 use Rattle.tg_types.specs.Declaring.{ChainWithin, chain_from}

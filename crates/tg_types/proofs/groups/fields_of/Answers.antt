@@ -1,4 +1,4 @@
-use Rattle.std.proofs.Common.{◌≡◌, ◌<◌, ◌-◌, ◌∷◌, refl, sym, ap, ◌∙◌, map, drop, length, arith}
+use Rattle.std.proofs.Common.{◌≡◌, ◌<◌, ◌-◌, ◌∷◌, ap, ◌∙◌, map, drop, length, arith}
 use Rattle.tg_syntax.specs.declared.trees.Param.{Param}
 use Rattle.tg_types.specs.Groups as groups
 use Rattle.tg_types.proofs.GroupSteps.{field_at, field_within, fields_back}

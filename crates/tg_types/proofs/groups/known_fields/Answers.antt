@@ -1,4 +1,4 @@
-use Rattle.std.proofs.Common.{◌≡◌, refl, sym, ap, ◌∙◌, length, arith}
+use Rattle.std.proofs.Common.{length, arith}
 use Rattle.tg_types.proofs.Steps.{ended}
 use Rattle.tg_types.proofs.GroupSteps.{fields_one, fields_repeat, fields_unknown, fields_all, field_within}
 use Rattle.tg_types.proofs.groups.known_fields.Goals as goal

@@ -1,4 +1,4 @@
-use Rattle.std.proofs.Common.{◌≡◌, [], refl, sym, ap, ◌∙◌}
+use Rattle.std.proofs.Common.{[], sym, ap, ◌∙◌}
 use Rattle.tg_syntax.specs.Plain.{plain_form}
 use Rattle.tg_types.specs.Groups as groups
 use Rattle.tg_types.proofs.Steps.{carry}

@@ -1,4 +1,4 @@
-use Rattle.std.proofs.Common.{◌≡◌, refl, sym, ap, ◌∙◌, length, arith}
+use Rattle.std.proofs.Common.{length, arith}
 use Rattle.tg_types.proofs.Steps.{ended}
 use Rattle.tg_types.proofs.GroupSteps.{form_within, forms_one, forms_fail, forms_all}
 use Rattle.tg_types.proofs.groups.known_forms.Goals as goal

@@ -1,4 +1,4 @@
-use Rattle.std.proofs.Common.{◌≡◌, refl, sym, ap, ◌∙◌, map, arith}
+use Rattle.std.proofs.Common.{ap, ◌∙◌, map, arith}
 use Rattle.tg_syntax.specs.Plain.{plain_type}
 use Rattle.tg_types.specs.Groups as groups
 use Rattle.tg_types.specs.Declaring.{chain_from}

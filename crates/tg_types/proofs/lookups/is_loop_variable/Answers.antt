@@ -1,6 +1,5 @@
 use Rattle.std.proofs.Common.{ap, ◌∙◌, refl, []}
 use Rattle.std.proofs.lemmas.Option.{slice_get-get_or}
-use Rattle.tg_types.specs.States.{noted_of}
 use Rattle.tg_types.proofs.Namings.{bound_open, bound_outside, loop_open, loop_outside}
 use Rattle.tg_types.proofs.lookups.is_loop_variable.Goals as goal
 

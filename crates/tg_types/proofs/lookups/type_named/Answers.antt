@@ -1,5 +1,4 @@
 use Rattle.std.proofs.Common.{ap}
-use Rattle.tg_types.specs.States.{noted_of}
 use Rattle.tg_types.proofs.Namings.{type_is, type_unknown, bad_is}
 use Rattle.tg_types.proofs.lookups.type_named.Goals as goal
 

@@ -1,6 +1,5 @@
-use Rattle.std.proofs.Common.{refl, sym, ap, ◌∙◌}
-use Rattle.std.specs.Prelude.{not}
-use Rattle.tg_types.proofs.Steps.{step, given, given_is, keep_is, fails_first, fails_then, ended, carry, last_fails}
+use Rattle.std.proofs.Common.{sym, ap, ◌∙◌}
+use Rattle.tg_types.proofs.Steps.{step, given_is, fails_first, ended, last_fails}
 use Rattle.tg_types.specs.Typing.{expect}
 use Rattle.tg_types.proofs.operators.counted.Goals as goal
 

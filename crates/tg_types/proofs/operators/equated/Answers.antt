@@ -1,5 +1,4 @@
-use Rattle.std.proofs.Common.{refl}
-use Rattle.tg_types.proofs.Steps.{step, given, fails_first, fails_then, ended, carry, last_fails}
+use Rattle.tg_types.proofs.Steps.{step, given, fails_first, fails_then, ended}
 use Rattle.tg_types.proofs.operators.equated.Goals as goal
 
 pub returns-in_err-value_needed-clause-given : goal.returns-in_err-value_needed-clause-given

@@ -1,5 +1,5 @@
-use Rattle.std.proofs.Common.{refl, sym, ap, ◌∙◌}
-use Rattle.tg_types.proofs.Steps.{step, two_steps, given, given_is, keep_is, fails_first, fails_then, two_fail_first, two_fail_then, ended, carry, last_fails}
+use Rattle.std.proofs.Common.{sym, ◌∙◌}
+use Rattle.tg_types.proofs.Steps.{step, fails_first, ended}
 use Rattle.tg_types.specs.States.{bad}
 use Rattle.tg_types.proofs.FieldSteps.{present_is, present_not, placed_is, placed_not, named_not}
 use Rattle.tg_types.proofs.records.placed.Goals as goal

@@ -1,5 +1,4 @@
-use Rattle.std.proofs.Common.{refl, sym, ap, ◌∙◌}
-use Rattle.tg_types.proofs.Steps.{step, two_steps, given, given_is, keep_is, fails_first, fails_then, two_fail_first, two_fail_then, ended, carry, last_fails}
+use Rattle.tg_types.proofs.Steps.{step, two_steps, given, fails_first, two_fail_first, two_fail_then, ended}
 use Rattle.tg_types.proofs.records.selected.Goals as goal
 
 pub returns-in_err-place-clause-given : goal.returns-in_err-place-clause-given

@@ -1,6 +1,5 @@
-use Rattle.std.proofs.Common.{refl, sym, ap, ◌∙◌}
-use Rattle.std.specs.Prelude.{not}
-use Rattle.tg_types.proofs.Steps.{step, given, given_is, keep_is, fails_first, fails_then, ended, carry, last_fails}
+use Rattle.std.proofs.Common.{refl, sym}
+use Rattle.tg_types.proofs.Steps.{step, keep_is, fails_first, ended, carry}
 use Rattle.tg_types.proofs.rules.expected.Goals as goal
 
 pub returns-in_err-value_needed : goal.returns-in_err-value_needed

@@ -1,5 +1,3 @@
-use Rattle.std.proofs.Common.{refl, ap}
-use Rattle.tg_types.specs.Checks.{keep, give, refuse}
 use Rattle.tg_types.specs.States.{bad}
 use Rattle.tg_types.proofs.Steps.{kept_true, kept_false}
 use Rattle.tg_types.proofs.rules.kept.Goals as goal

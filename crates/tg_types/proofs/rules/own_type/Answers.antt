@@ -1,6 +1,6 @@
 use Rattle.std.proofs.Common.{refl, sym, ap, ◌∙◌}
 use Rattle.std.specs.Prelude.{not}
-use Rattle.tg_types.proofs.Steps.{step, given, given_is, keep_is, fails_first, fails_then, ended, carry, last_fails}
+use Rattle.tg_types.proofs.Steps.{step, given, keep_is, fails_first, fails_then, ended, last_fails}
 use Rattle.tg_types.specs.Types.{same}
 use Rattle.tg_types.proofs.rules.own_type.Goals as goal
 

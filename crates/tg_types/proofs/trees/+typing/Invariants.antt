@@ -1,4 +1,4 @@
-use Rattle.std.proofs.Common.{◌≡◌, ◌≤◌, ◌+◌, length}
+use Rattle.std.proofs.Common.{◌≡◌}
 use Rattle.tg_types.proofs.TreeSteps.{ArgumentsOn, FieldsOn, InOrder, DeclarationsOn, BodiesOn}
 use Rattle.tg_types.proofs.trees.+typing.Given as goal
 

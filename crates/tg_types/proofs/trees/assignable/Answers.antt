@@ -1,5 +1,5 @@
 use Rattle.std.proofs.Common.{refl, sym, ap, ◌∙◌}
-use Rattle.tg_types.proofs.Steps.{step, two_steps, given, given_is, keep_is, fails_first, fails_then, two_fail_first, two_fail_then, ended, carry, last_fails}
+use Rattle.tg_types.proofs.Steps.{keep_is, carry}
 use Rattle.std.specs.Prelude.{not}
 use Rattle.tg_syntax.specs.Plain.{plain_place}
 use Rattle.tg_types.specs.Typing as typing

@@ -1,5 +1,5 @@
-use Rattle.std.proofs.Common.{refl, sym, ap, ◌∙◌}
-use Rattle.tg_types.proofs.Steps.{step, two_steps, given, given_is, keep_is, fails_first, fails_then, two_fail_first, two_fail_then, ended, carry, last_fails}
+use Rattle.std.proofs.Common.{refl, ◌∙◌}
+use Rattle.tg_types.proofs.Steps.{step, given_is, keep_is, fails_first, ended, last_fails}
 use Rattle.tg_types.proofs.trees.broken.Goals as goal
 
 pub returns-in_err-kept : goal.returns-in_err-kept

@@ -1,5 +1,4 @@
-use Rattle.std.specs.Prelude.{length, box_value, ◌≡◌}
-use Rattle.std.specs.Option.{option_map}
+use Rattle.std.specs.Prelude.{length, box_value}
 use Rattle.std.proofs.Common.{subst}
 use Rattle.tg_syntax.specs.Plain.{plain}
 use Rattle.tg_syntax.specs.NamesWithin.{NamesWithin}

@@ -1,4 +1,4 @@
-use Rattle.std.proofs.Common.{◌≡◌, ◌+◌, ◌-◌, ◌/◌, ◌<◌, length, refl, sym, ap, ◌∙◌, arith}
+use Rattle.std.proofs.Common.{◌+◌, ◌-◌, ◌/◌, length, sym, ap, ◌∙◌}
 use Rattle.tg_types.specs.Answered.{meaning_at}
 use Rattle.tg_types.proofs.NoteSteps.{middle_below, within, strictly, between_upper, between_lower, found, between_none}
 use Rattle.tg_types.proofs.checking.Notes.find.Goals as goal

@@ -1,5 +1,3 @@
-use Rattle.std.proofs.Common.{refl, ap}
-use Rattle.tg_types.specs.Checks.{note, fine}
 use Rattle.tg_types.specs.States.{no_memory}
 use Rattle.tg_types.proofs.Steps.{ended, noted}
 use Rattle.tg_types.proofs.states.State.note.Goals as goal
