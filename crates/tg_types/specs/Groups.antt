@@ -7,7 +7,7 @@ use Rattle.tg_types.specs.declared.faults.TypeRule.{TypeRule}
 use Rattle.tg_types.specs.declared.faults.TypeRule.TheVariants.{T3, T16, T18, T19}
 use Rattle.tg_types.specs.Types.{Ty, none_type, record_type, array_type, record_shape, array_shape}
 use Rattle.tg_symbols.specs.Tables.{named}
-use Rattle.tg_types.specs.Checks.{Check, give, keep, present, add_shape, ◌>>◌}
+use Rattle.tg_types.specs.Checks.{Check, give, keep, present, add_shape, ◌>>=◌, ◌>>◌}
 use Rattle.tg_types.specs.Scopes.{Signature, variable_at, function_at, Scope, name_of, at_of, binding}
 
 abbrev pub stands_in : ℕ → List Ident → Bool

@@ -8,7 +8,7 @@ use Rattle.tg_syntax.specs.Tree.{Exp, Nil, Break, Int, Text, Read, Call, Neg, Bi
 use Rattle.tg_types.specs.declared.faults.TypeRule.TheVariants.{T1, T2, T4, T5, T6, T7, T8, T9, T10, T11, T12, T13, T14, T15, T17}
 use Rattle.tg_types.specs.declared.notes.Means.TheVariants as means
 use Rattle.tg_types.specs.Types.{Ty, int_type, string_type, nil_type, none_type, record_type, array_type, Shape, record_shape, array_shape, same, fits, alike, joined, are_nil, has_order}
-use Rattle.tg_types.specs.Checks.{Check, give, refuse, keep, present, note, shape_at, ◌>>◌}
+use Rattle.tg_types.specs.Checks.{Check, give, refuse, keep, present, note, shape_at, ◌>>=◌, ◌>>◌}
 use Rattle.tg_types.specs.Scopes.{Signature, Binding, variable_at, function_at, standard_one, Scope, name_of, at_of, bound, binding, in_a_loop, in_no_loop, signature}
 use Rattle.tg_types.specs.Groups.{no_repeats, type_named, declare_types, function_names, headers, with_functions, with_params}
 
