@@ -11,7 +11,7 @@ pub(crate) fn answer_check(alloc: Global, text: &[u8]) -> Answer
     ensures { IsFound text.now result }
 {
     match read_source(alloc, text) {
-        Ok(_) => Answer::Accepted,
+        Ok(_source) => Answer::Accepted,
         Err(refusal) => refused(refusal),
     }
 }
