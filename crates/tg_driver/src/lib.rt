@@ -23,3 +23,5 @@ pub use top::tiger;
 mod exec_tests;
 #[cfg(test)]
 mod tests;
+#[cfg(test)]
+mod typing_tests;

@@ -142,20 +142,20 @@ static RUNS: [&str; 40] = [
     "69 not built|exit(1/2)",
     "69 not built|exit(1+2/2)",
     "69 not built|print(\"x\")",
-    "69 not built|exit()",
-    "69 not built|exit(1,2)",
-    "69 not built|exits(1)",
-    "69 not built|Exit(1)",
-    "69 not built|exi(1)",
+    "65 1:1: T10 wrong number of arguments|exit()",
+    "65 1:1: T10 wrong number of arguments|exit(1,2)",
+    "65 1:1: T2 unknown function|exits(1)",
+    "65 1:1: T2 unknown function|Exit(1)",
+    "65 1:1: T2 unknown function|exi(1)",
     "69 not built|(exit(1))",
     "69 not built|exit((1;2))",
-    "69 not built|exit(())",
-    "69 not built|exit(a)",
+    "65 1:6: T12 value needed|exit(())",
+    "65 1:6: T1 unknown variable|exit(a)",
     "69 not built|exit(1=1)",
     "69 not built|exit(1&1)",
-    "69 not built|exit(nil)",
-    "69 not built|exit(exit(1))",
-    "69 not built|exit(\"1\")",
+    "65 1:6: T6 type mismatch|exit(nil)",
+    "65 1:6: T12 value needed|exit(exit(1))",
+    "65 1:6: T6 type mismatch|exit(\"1\")",
     "69 not built|exit(if 1 then 2 else 3)",
     "69 not built|1",
     "69 not built|let in exit(1) end",
@@ -307,7 +307,7 @@ fn call(
 }
 
 /// A line of words has this status and this line for a text, and leaves input and output alone.
-fn answers(
+pub(crate) fn answers(
     rt: &impl Abort,
     alloc: Global,
     words: &str,
@@ -337,13 +337,13 @@ pub(crate) fn status_of(row: &str) -> Result<(u8, &str), Fail> {
 }
 
 /// Both modes refuse the text by this line.
-fn refused(rt: &impl Abort, alloc: Global, text: &[u8], line: &str) -> Result<(), Fail> {
+pub(crate) fn refused(rt: &impl Abort, alloc: Global, text: &[u8], line: &str) -> Result<(), Fail> {
     answers(rt, alloc, "tiger|check|FILE", text, 65, line)?;
     answers(rt, alloc, "tiger|run|FILE", text, 65, line)
 }
 
 /// Both modes refuse the text of a row by its line.
-fn refused_as(rt: &impl Abort, alloc: Global, row: &str) -> Result<(), Fail> {
+pub(crate) fn refused_as(rt: &impl Abort, alloc: Global, row: &str) -> Result<(), Fail> {
     let Some((line, text)) = row.split_once('|') else {
         return Err(Fail::from("a row"));
     };
@@ -401,7 +401,7 @@ fn lines_of_words_have_their_statuses(rt: HostRuntime) -> Result<(), Fail> {
 }
 
 // `first`, so many times `more`, and `last`
-fn repeated(
+pub(crate) fn repeated(
     alloc: Global,
     first: &[u8],
     more: &[u8],
@@ -460,8 +460,7 @@ fn as_large_as_may_be(rt: HostRuntime) -> Result<(), Fail> {
     let whole = repeated(alloc, b"exit(", &terms, 1, b")")?;
     answers(&rt, alloc, run, &whole, 58, "")?;
     let whole = repeated(alloc, b"exit(-", &terms, 1, b")")?;
-    answers(&rt, alloc, run, &whole, 69, "not built")?;
-    answers(&rt, alloc, "tiger|check|FILE", &whole, 0, "")
+    refused(&rt, alloc, &whole, "1:1: T21 function too large")
 }
 
 #[test]
