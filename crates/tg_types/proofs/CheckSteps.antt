@@ -1,13 +1,12 @@
 -- From the typing of a program's body to what the check of the program answers.
-use Rattle.std.specs.Prelude.{Result, Ok, Err, Option, Some, None, IfErr, IsErr, IsTrue}
+use Rattle.std.specs.Prelude.{Result, Ok, Err, Option, None, IfErr, IsErr, IsTrue}
 use Rattle.std.specs.Result.{IsErrAnd}
-use Rattle.std.proofs.Common.{◌≡◌, ℕ, List, [], ◌++◌, Bool, false, refl, sym, ap, ap₂, ◌∙◌, subst}
+use Rattle.std.proofs.Common.{◌≡◌, ℕ, List, [], ◌++◌, false, sym, ap, ap₂, ◌∙◌, subst}
 use Rattle.std.specs.List.Sorted.{IsPermutation, IsNonDecreasingBy}
 use Rattle.tg_syntax.specs.Tree.{Exp}
 use Rattle.tg_syntax.specs.Beginnings.{BeginsApart}
 use Rattle.tg_types.specs.declared.faults.TypeRule.{TypeRule}
 use Rattle.tg_types.specs.declared.faults.TypeFault.{TypeFault}
-use Rattle.tg_types.specs.declared.faults.TypeFault.TheVariants.{Memory}
 use Rattle.tg_types.specs.declared.limits.Limit.{Limit}
 use Rattle.tg_types.specs.declared.notes.Note.{Note}
 use Rattle.tg_types.specs.declared.states.State.{State}
@@ -18,7 +17,7 @@ use Rattle.tg_types.specs.States.{Fails, bad, no_memory, scope_of, noted_of}
 use Rattle.tg_types.specs.Typing.{typed}
 use Rattle.tg_types.specs.Limits.{limit_fault}
 use Rattle.tg_types.specs.Faults.{rule_and_byte}
-use Rattle.tg_types.specs.Accepted.{finding, finding_of, within_limits, accepted}
+use Rattle.tg_types.specs.Accepted.{finding, finding_of, within_limits}
 use Rattle.tg_types.specs.Answered.{Accepts, IsAt}
 use Rattle.tg_types.proofs.Rising.{rises}
 

@@ -1,5 +1,5 @@
 -- Notes that stand at bytes of their own rise once they are sorted.
-use Rattle.std.proofs.Common.{◌≡◌, ◌≢◌, ℕ, ◌<◌, ◌≤◌, List, [], length, get_or, Bool, true, false, eqb, sym, ap, ◌∙◌, arith, ne_eqb}
+use Rattle.std.proofs.Common.{◌≡◌, ◌≢◌, ℕ, ◌<◌, ◌≤◌, List, [], get_or, false, eqb, sym, ap, ◌∙◌, arith, ne_eqb}
 use Rattle.std.specs.Prelude.{map, reverse}
 use Rattle.std.specs.List.{AllPairs, IsDistinct}
 use Rattle.std.specs.List.Sorted.{IsPermutation, IsNonDecreasingBy}
@@ -7,14 +7,14 @@ use Rattle.std.proofs.lemmas.List.{get_or-map, length-map}
 use Rattle.std.proofs.lemmas.List.Sorted.{IsPermutation-trans, IsPermutation-sym, IsPermutation-reverse, IsPermutation-map}
 use Rattle.std.proofs.lemmas.Map.Keys.{IsDistinct-IsPermutation, IsDistinct-from_apart, apart_from_distinct}
 use Rattle.tg_syntax.specs.Tree.{Exp}
-use Rattle.tg_syntax.specs.Beginnings.{beginnings, BeginsApart}
+use Rattle.tg_syntax.specs.Beginnings.{BeginsApart}
 use Rattle.tg_types.specs.declared.notes.Note.{Note}
 use Rattle.tg_types.specs.Types.{Ty}
 use Rattle.tg_types.specs.Checks.{Noted, fine}
 use Rattle.tg_types.specs.Scopes.{Scope}
 use Rattle.tg_types.specs.Typing.{typed}
 use Rattle.tg_types.specs.Answered.{AreRising}
-use Rattle.tg_types.proofs.AmongBeginnings.{Some_of, nothing, pairs}
+use Rattle.tg_types.proofs.AmongBeginnings.{nothing, pairs}
 use Rattle.tg_types.proofs.NoteBytes.{marks, note_bytes}
 
 abbrev at : Note → ℕ
