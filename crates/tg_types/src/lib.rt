@@ -1,6 +1,6 @@
-//! Types of Tiger (Appel, chapter 5 and appendix A): begun. The typing of programs is a definition in `specs/`, with
-//! computed examples: a program's notes, or its first fault with its place. Promises the law that an accepted program is
-//! never stuck. What checks programs comes next.
+//! Types of Tiger (Appel, chapter 5 and appendix A). `check` types a program: it answers notes on what the program's
+//! uses, fields and comparisons mean, or the first fault with its rule and byte, exactly as the definition of typing in
+//! `specs/` does. Promises too that an accepted program is never stuck, and that a fault stands within its text.
 #![tactic(auto)]
 
 mod bindings;
