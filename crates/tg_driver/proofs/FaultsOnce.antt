@@ -6,6 +6,7 @@ use Rattle.tg_syntax.specs.Tree.{Exp}
 use Rattle.tg_syntax.specs.Grammar.{IsProgram}
 use Rattle.tg_lexer.proofs.Excludes.{fault_excludes, fault_once}
 use Rattle.tg_grammar.proofs.Complete.{one_tree}
+use Rattle.tg_parser.specs.declared.faults.SyntaxRule.{SyntaxRule}
 use Rattle.tg_parser.specs.Answers.{HasSyntaxFault}
 use Rattle.tg_parser.proofs.OneFault.{faults_once, fault_excludes_program}
 use Rattle.tg_types.specs.declared.faults.TypeRule.{TypeRule}
