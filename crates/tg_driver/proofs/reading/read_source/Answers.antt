@@ -1,1 +1,0 @@
-use Rattle.tg_driver.proofs.reading.read_source.Goals as goal
