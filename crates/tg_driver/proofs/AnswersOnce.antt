@@ -1,24 +1,23 @@
 -- A text has at most one answer besides want of memory.
 use Rattle.std.specs.Prelude.{Result, Ok, Err}
-use Rattle.std.proofs.Common.{ℕ, ◌≡◌, ◌≢◌, ◌≤◌, ◌<◌, ◌⊎◌, inl, inr, List, [], ◌∷◌, Option, length, refl, sym, ap, subst, arith, ◌∙◌}
+use Rattle.std.proofs.Common.{ℕ, ◌≡◌, ◌≢◌, ◌<◌, ◌⊎◌, inl, inr, List, [], length, refl, sym, ap, subst, arith, ◌∙◌}
 use Rattle.tg_base.specs.declared.ends.RunEnd.{RunEnd}
-use Rattle.tg_base.specs.declared.ends.RunEnd.TheVariants.{Exit, Overflow, StepLimit}
-use Rattle.tg_base.specs.State.{State, start}
+use Rattle.tg_base.specs.declared.ends.RunEnd.TheVariants.{StepLimit}
 use Rattle.tg_isa.specs.declared.images.Image.{Image}
 use Rattle.tg_isa.specs.declared.keywords.AsmRule.{AsmRule}
 use Rattle.tg_isa.specs.Assembly.{Assembled, Fault as AsmFault, assembled}
 use Rattle.tg_asm.specs.Images.{image_of}
-use Rattle.tg_isa.specs.Runs.{World, Outcome, Running, Ended, run, begun}
+use Rattle.tg_isa.specs.Runs.{World, Outcome, Running, Ended, run}
 use Rattle.tg_syntax.specs.Tree.{Exp}
 use Rattle.tg_command.specs.declared.modes.Mode.TheVariants.{Check, Run, Exec}
 use Rattle.tg_command.specs.Commands.{Asked}
 use Rattle.tg_driver.specs.declared.answers.Answer.{Answer}
-use Rattle.tg_driver.specs.declared.answers.Answer.TheVariants.{Usage, Unreadable, Faulty, BadLine, TooLong, Accepted, NotBuilt, OutOfMemory, Finished}
+use Rattle.tg_driver.specs.declared.answers.Answer.TheVariants.{Faulty, BadLine, TooLong, Accepted, NotBuilt, OutOfMemory, Finished}
 use Rattle.tg_driver.specs.declared.faults.Fault.{Fault}
 use Rattle.tg_driver.specs.BuiltForm.{IsBuilt}
 use Rattle.tg_driver.specs.Images.{IsImageOf}
 use Rattle.tg_driver.specs.Sources.{IsFaultOf}
-use Rattle.tg_driver.specs.Causes.{outcome_of, EndsSilently, RunsTo, IsBuiltSource, IsOtherSource, IsSource, IsRun, IsText, IsExec, IsBadLine, of_source, of_assembly, IsDueOfText, IsEnded}
+use Rattle.tg_driver.specs.Causes.{RunRelation, outcome_of, EndsSilently, RunsTo, IsBuiltSource, IsOtherSource, IsSource, IsRun, IsText, IsBadLine, of_source, of_assembly, IsDueOfText, IsEnded}
 use Rattle.tg_driver.proofs.FaultsOnce.{fault_once_told, source_excludes, source_once}
 
 -- the end of an outcome
@@ -73,7 +72,7 @@ check_no_exec asked p q = let e : Check ≡ Exec = sym p ∙ q in cc
 run_no_exec : (asked : Asked) → asked.mode ≡ Run → asked.mode ≢ Exec
 run_no_exec asked p q = let e : Run ≡ Exec = sym p ∙ q in cc
 
-cause : (untouched : Type 0) (runs : Image → (heap stack steps : ℕ) → RunEnd → Type 0) (asked : Asked) (text : List ℕ) (a : Answer) → IsDueOfText untouched runs asked text a → a ≢ OutOfMemory → Cause asked text a
+cause : (untouched : Type 0) (runs : RunRelation) (asked : Asked) (text : List ℕ) (a : Answer) → IsDueOfText untouched runs asked text a → a ≢ OutOfMemory → Cause asked text a
 cause untouched runs asked text (Faulty f) due ne = source due.1 (fault f due.2)
 cause untouched runs asked text (BadLine rule line) due ne = assembly due.1.is_text.mode (bad rule line due.1)
 cause untouched runs asked text TooLong due ne = assembly due.1 (long due.2)
@@ -169,6 +168,6 @@ by_causes asked text (source n p) (assembly m q) = absurd (n m)
 by_causes asked text (assembly n p) (source m q) = absurd (m n)
 by_causes asked text (assembly n p) (assembly m q) = of_texts asked text n p q
 
-pub one_answer : (untouched : Type 0) (runs : Image → (heap stack steps : ℕ) → RunEnd → Type 0) (asked : Asked) (text : List ℕ) (a b : Answer) → IsDueOfText untouched runs asked text a → IsDueOfText untouched runs asked text b → a ≢ OutOfMemory → b ≢ OutOfMemory → (a ≡ b) ⊎ ((asked.mode ≡ Exec) × IsEnded a × IsEnded b)
+pub one_answer : (untouched : Type 0) (runs : RunRelation) (asked : Asked) (text : List ℕ) (a b : Answer) → IsDueOfText untouched runs asked text a → IsDueOfText untouched runs asked text b → a ≢ OutOfMemory → b ≢ OutOfMemory → (a ≡ b) ⊎ ((asked.mode ≡ Exec) × IsEnded a × IsEnded b)
 unfolding Same
 one_answer untouched runs asked text a b p q ne me = by_causes asked text (cause untouched runs asked text a p ne) (cause untouched runs asked text b q me)

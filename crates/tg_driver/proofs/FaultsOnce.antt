@@ -1,7 +1,6 @@
 -- A text has at most one first fault, and none where it is a program; and it is at most one program.
 use Rattle.std.proofs.Common.{ℕ, ◌≡◌, List, sym, ap, subst, ◌∙◌}
 use Rattle.tg_base.specs.Lines.{place_of}
-use Rattle.tg_syntax.specs.declared.faults.LexRule.{LexRule}
 use Rattle.tg_syntax.specs.declared.tokens.Spanned.{Spanned}
 use Rattle.tg_syntax.specs.Tree.{Exp}
 use Rattle.tg_syntax.specs.Grammar.{IsProgram}

@@ -16,15 +16,13 @@ use Rattle.tg_syntax.specs.declared.trees.Op.{Op}
 use Rattle.tg_syntax.specs.declared.trees.Op.TheVariants as op
 use Rattle.tg_syntax.specs.Tree.{Exp, Int, Neg, Binary, Seq, Call, exp, no_exps}
 use Rattle.tg_syntax.specs.Measures.{size as nodes}
-use Rattle.tg_meaning.specs.Values.{End}
-use Rattle.tg_meaning.specs.Direct.{evaluate}
 use Rattle.tg_driver.specs.Runnable.{IsRunnable, HasExitForm}
 use Rattle.tg_driver.specs.Values.{value, exit_value}
 use Rattle.tg_driver.specs.StackCode.{value_code, exit_code, program_code, operator_code, operands_code, result_code, negation_code, words_of}
 use Rattle.tg_driver.specs.Images.{IsImageOf}
 use Rattle.tg_driver.specs.Finishing.{end_of_value}
-use Rattle.tg_driver.specs.Meanings.{IsEndOf, Means}
-use Rattle.tg_driver.specs.Causes.{RunsTo, Runs, EndsSilently, outcome_of}
+use Rattle.tg_driver.specs.Meanings.{Means}
+use Rattle.tg_driver.specs.Causes.{Runs, EndsSilently, outcome_of}
 use Rattle.tg_driver.proofs.StackSteps.{Path}
 use Rattle.tg_driver.proofs.StackPrograms.{Finishes, program_finishes}
 use Rattle.tg_driver.proofs.Evaluated.{means_end}

@@ -12,7 +12,7 @@ use Rattle.tg_syntax.specs.declared.tokens.Sign.{Sign}
 use Rattle.tg_syntax.specs.Spans.{joined}
 use Rattle.tg_syntax.specs.Tree.{Exp, Call, Seq, Exps, exp, no_exps}
 use Rattle.tg_syntax.specs.Groups.{snoc}
-use Rattle.tg_syntax.specs.Grammar.{Level, Reads, AreMany, AreAny, IsProgram, or_op, and_op, rel_op, sum_op, term_op}
+use Rattle.tg_syntax.specs.Grammar.{Level, Reads, AreMany, AreAny, IsProgram}
 use Rattle.tg_syntax.specs.Grammar as grammar
 use Rattle.tg_driver.specs.BuiltForm.{is_arithmetic, is_argument, is_only_argument, CallsExit, IsBuilt}
 use Rattle.tg_driver.specs.Runnable.{IsRunnable, HasExitForm}

@@ -1,5 +1,3 @@
-use Rattle.std.specs.Prelude.{IfErr}
-use Rattle.tg_syntax.specs.Plain.{plain}
 use Rattle.tg_driver.proofs.Typings.{names_within, begins_apart, typed_source, typed_fault}
 use Rattle.tg_driver.proofs.reading.type_source.Goals as goal
 

@@ -1,4 +1,3 @@
-use Rattle.tg_command.specs.Commands.{asked_of}
 use Rattle.tg_driver.specs.Causes.{HasRun, Untouched}
 use Rattle.tg_driver.proofs.AnswerLemmas.{due_of_text}
 use Rattle.tg_driver.proofs.top.answer_words.Goals as goal
