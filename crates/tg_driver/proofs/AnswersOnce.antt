@@ -17,7 +17,7 @@ use Rattle.tg_driver.specs.declared.faults.Fault.{Fault}
 use Rattle.tg_driver.specs.BuiltForm.{IsBuilt}
 use Rattle.tg_driver.specs.Images.{IsImageOf}
 use Rattle.tg_driver.specs.Sources.{IsFaultOf}
-use Rattle.tg_driver.specs.Causes.{outcome_of, EndsSilently, RunsTo, IsBuiltSource, IsOtherSource, IsSource, IsRun, IsText, IsBadLine, of_source, of_assembly, IsDueOfText, IsEnded}
+use Rattle.tg_driver.specs.Causes.{RunRelation, outcome_of, EndsSilently, RunsTo, IsBuiltSource, IsOtherSource, IsSource, IsRun, IsText, IsBadLine, of_source, of_assembly, IsDueOfText, IsEnded}
 use Rattle.tg_driver.proofs.FaultsOnce.{fault_once_told, source_excludes, source_once}
 
 -- the end of an outcome
@@ -72,7 +72,7 @@ check_no_exec asked p q = let e : Check ≡ Exec = sym p ∙ q in cc
 run_no_exec : (asked : Asked) → asked.mode ≡ Run → asked.mode ≢ Exec
 run_no_exec asked p q = let e : Run ≡ Exec = sym p ∙ q in cc
 
-cause : (untouched : Type 0) (runs : Image → (heap stack steps : ℕ) → RunEnd → Type 0) (asked : Asked) (text : List ℕ) (a : Answer) → IsDueOfText untouched runs asked text a → a ≢ OutOfMemory → Cause asked text a
+cause : (untouched : Type 0) (runs : RunRelation) (asked : Asked) (text : List ℕ) (a : Answer) → IsDueOfText untouched runs asked text a → a ≢ OutOfMemory → Cause asked text a
 cause untouched runs asked text (Faulty f) due ne = source due.1 (fault f due.2)
 cause untouched runs asked text (BadLine rule line) due ne = assembly due.1.is_text.mode (bad rule line due.1)
 cause untouched runs asked text TooLong due ne = assembly due.1 (long due.2)
@@ -168,6 +168,6 @@ by_causes asked text (source n p) (assembly m q) = absurd (n m)
 by_causes asked text (assembly n p) (source m q) = absurd (m n)
 by_causes asked text (assembly n p) (assembly m q) = of_texts asked text n p q
 
-pub one_answer : (untouched : Type 0) (runs : Image → (heap stack steps : ℕ) → RunEnd → Type 0) (asked : Asked) (text : List ℕ) (a b : Answer) → IsDueOfText untouched runs asked text a → IsDueOfText untouched runs asked text b → a ≢ OutOfMemory → b ≢ OutOfMemory → (a ≡ b) ⊎ ((asked.mode ≡ Exec) × IsEnded a × IsEnded b)
+pub one_answer : (untouched : Type 0) (runs : RunRelation) (asked : Asked) (text : List ℕ) (a b : Answer) → IsDueOfText untouched runs asked text a → IsDueOfText untouched runs asked text b → a ≢ OutOfMemory → b ≢ OutOfMemory → (a ≡ b) ⊎ ((asked.mode ≡ Exec) × IsEnded a × IsEnded b)
 unfolding Same
 one_answer untouched runs asked text a b p q ne me = by_causes asked text (cause untouched runs asked text a p ne) (cause untouched runs asked text b q me)

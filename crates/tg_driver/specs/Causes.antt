@@ -85,10 +85,20 @@ pub record IsRun (asked : Asked) (text : List ℕ) (end : RunEnd) : Type 0 where
 abbrev pub Untouched : {I O : Type 0} → (input input' : I) (out out' : O) → Type 0
 Untouched input input' out out' = (input' ≡ input) × (out' ≡ out)
 
+-- what may be said of a run of an image with these sizes and steps that ends so
+abbrev pub RunRelation : Type 1
+RunRelation = Image → (heap stack steps : ℕ) → RunEnd → Type 0
+
 -- the call ran an image on the source and the output sink with these sizes and steps, and the machine ended so
 pub record HasRun {I O : Type 0} (left : I → Option (List ℕ)) (read_faults : I → ℕ) (taken : O → Option (List ℕ)) (write_faults : O → ℕ) (input input' : I) (out out' : O) (image : Image) (heap stack steps : ℕ) (end : RunEnd) : Type 0 where
   pub after : Simulated
   pub ran : Ran left read_faults taken write_faults steps (loaded image heap stack) after input input' out out' end
+
+-- an image was run with these sizes and steps, or not touched for want of memory
+abbrev pub Executes : (untouched : Type 0) (runs : RunRelation) (image : Image) (heap stack steps : ℕ) → Answer → Type 0
+Executes untouched runs image heap stack steps (Finished end) = runs image heap stack steps end
+Executes untouched runs image heap stack steps OutOfMemory = untouched
+Executes untouched runs image heap stack steps _ = ⊥
 
 -- assembly text is to be run, and it isn't too long
 pub record IsText (asked : Asked) (text : List ℕ) : Type 0 where
@@ -96,7 +106,7 @@ pub record IsText (asked : Asked) (text : List ℕ) : Type 0 where
   pub short : length text ≤ 67108864
 
 -- it has no fault, and its image runs so
-pub record IsExec (runs : Image → (heap stack steps : ℕ) → RunEnd → Type 0) (asked : Asked) (text : List ℕ) (end : RunEnd) : Type 0 where
+pub record IsExec (runs : RunRelation) (asked : Asked) (text : List ℕ) (end : RunEnd) : Type 0 where
   pub is_text : IsText asked text
   pub image : Image
   pub assembles : assembled text ≡ Ok (image_of image)
@@ -108,12 +118,12 @@ pub record IsBadLine (asked : Asked) (text : List ℕ) (rule : AsmRule) (line : 
   pub fault : assembled text ≡ Err (record { rule = rule; line = line })
 
 -- a run of a source touches nothing, and one of assembly text what its services read and write
-pub data IsEnd (untouched : Type 0) (runs : Image → (heap stack steps : ℕ) → RunEnd → Type 0) (asked : Asked) (text : List ℕ) (end : RunEnd) : Type 0 where
+pub data IsEnd (untouched : Type 0) (runs : RunRelation) (asked : Asked) (text : List ℕ) (end : RunEnd) : Type 0 where
   of_source : untouched → IsRun asked text end → IsEnd untouched runs asked text end
   of_assembly : IsExec runs asked text end → IsEnd untouched runs asked text end
 
 -- the cause of each answer to a command, by the text of its file
-abbrev pub IsDueOfText : (untouched : Type 0) (runs : Image → (heap stack steps : ℕ) → RunEnd → Type 0) (asked : Asked) (text : List ℕ) → Answer → Type 0
+abbrev pub IsDueOfText : (untouched : Type 0) (runs : RunRelation) (asked : Asked) (text : List ℕ) → Answer → Type 0
 IsDueOfText untouched runs asked text (Faulty fault) = untouched × (asked.mode ≢ Exec) × IsFaultOf text fault
 IsDueOfText untouched runs asked text (BadLine rule line) = untouched × IsBadLine asked text rule line
 IsDueOfText untouched runs asked text TooLong = untouched × (asked.mode ≡ Exec) × (67108864 < length text)
@@ -129,7 +139,7 @@ most_of Exec = 67108865
 most_of _ = 262145
 
 -- The words ask for a file that begins with a text, of which the answer is due.
-pub record IsOfText (untouched : Type 0) (runs : Image → (heap stack steps : ℕ) → RunEnd → Type 0) (words : List (List ℕ)) (files : Files) (answer : Answer) : Type 0 where
+pub record IsOfText (untouched : Type 0) (runs : RunRelation) (words : List (List ℕ)) (files : Files) (answer : Answer) : Type 0 where
   pub asked : Asked
   pub ask : Ask words asked
   pub text : List ℕ
@@ -143,14 +153,14 @@ pub record IsUnreadable (words : List (List ℕ)) (before after : List ℕ → �
   pub rose : Rose (before asked.file) (after asked.file)
 
 -- the cause of each answer; want of memory has none, and then nothing was touched
-abbrev pub IsDue : (untouched : Type 0) (runs : Image → (heap stack steps : ℕ) → RunEnd → Type 0) (words : List (List ℕ)) (files : Files) (before after : List ℕ → ℕ) → Answer → Type 0
+abbrev pub IsDue : (untouched : Type 0) (runs : RunRelation) (words : List (List ℕ)) (files : Files) (before after : List ℕ → ℕ) → Answer → Type 0
 IsDue untouched runs words files before after Usage = untouched × IsUsageFault words
 IsDue untouched runs words files before after Unreadable = untouched × IsUnreadable words before after
 IsDue untouched runs words files before after OutOfMemory = untouched
 IsDue untouched runs words files before after answer = IsOfText untouched runs words files answer
 
 -- The answer is due, and the status and the error sink report it.
-pub record Answers {E : Type 0} (untouched : Type 0) (runs : Image → (heap stack steps : ℕ) → RunEnd → Type 0) (words : List (List ℕ)) (files : Files) (before after : List ℕ → ℕ) (taken : E → Option (List ℕ)) (faults : E → ℕ) (err err' : E) (status : ℕ) : Type 0 where
+pub record Answers {E : Type 0} (untouched : Type 0) (runs : RunRelation) (words : List (List ℕ)) (files : Files) (before after : List ℕ → ℕ) (taken : E → Option (List ℕ)) (faults : E → ℕ) (err err' : E) (status : ℕ) : Type 0 where
   pub answer : Answer
   pub due : IsDue untouched runs words files before after answer
   pub reports : Reports taken faults answer err err' status

@@ -2,8 +2,7 @@ ghost use Rattle.std.specs.Prelude.{◌≡◌, ◌≤◌, length};
 ghost use Rattle.tg_command.specs.declared.modes.Mode.TheVariants.{Exec};
 ghost use Rattle.tg_command.specs.Commands.{asked_of};
 ghost use Rattle.tg_command.specs.Counts.{IsWithin, heap_limits, stack_limits, step_limits};
-ghost use Rattle.tg_driver.specs.Causes.{HasRun, IsDueOfText, Untouched};
-ghost use Rattle.tg_driver.specs.Found.{Executes};
+ghost use Rattle.tg_driver.specs.Causes.{Executes, HasRun, IsDueOfText, Untouched};
 
 use crate::answers::Answer;
 use std::alloc::Global;
