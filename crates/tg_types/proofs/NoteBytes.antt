@@ -143,7 +143,7 @@ mutual
       let d = given _ _ _ _ r.onward in
       let k = kept _ _ _ _ _ _ q.first in
       stay r.between h d.1 (all_notes args p.value.params scope r.value q.between r.between (eqb-true _ _ k.0) r.first
-          (stay p.between q.between k.1 (one_more (at_of f) g p.between (callee_noted f _ p.value g p.between p.first) s)))
+      (stay p.between q.between k.1 (one_more (at_of f) g p.between (callee_noted f _ p.value g p.between p.first) s)))
   note_bytes (Neg z a) scope t g h e s =
       let p = steps e in
       let q = steps p.onward in
@@ -158,7 +158,7 @@ mutual
       let d = given _ _ _ _ u.onward in
       let f = sides op p.value r.value q.value at _ _ _ u.value p.between q.between r.between u.between q.first u.first in
       stay r.between h (f.2 ∙ d.1) (note_bytes b scope r.value q.between r.between r.first
-          (left_noted op p.value at _ q.value p.between q.between q.first (note_bytes a scope p.value g p.between p.first s)))
+      (left_noted op p.value at _ q.value p.between q.between q.first (note_bytes a scope p.value g p.between p.first s)))
   note_bytes (Make z y inits) scope t g h e s =
       let p = steps e in
       let q = steps p.onward in
@@ -182,7 +182,7 @@ mutual
       let i = expected_int _ _ _ _ _ u.first in
       let j = expected _ _ _ _ _ _ w.first in
       stay v.between h (j.1 ∙ d.1) (note_bytes value scope v.value u.between v.between v.first
-          (stay r.between u.between i.1 (note_bytes size scope r.value q.between r.between r.first (skip (at_of y) (stay g q.between (n.1 ∙ f.3) s)))))
+      (stay r.between u.between i.1 (note_bytes size scope r.value q.between r.between r.first (skip (at_of y) (stay g q.between (n.1 ∙ f.3) s)))))
   note_bytes (Assign z v a) scope t g h e s =
       let p = steps e in
       let q = steps p.onward in
@@ -192,7 +192,7 @@ mutual
       let m = assignable_keep v scope q.value p.between q.between q.first in
       let j = expected _ _ _ _ _ _ u.first in
       stay r.between h (j.1 ∙ d.1) (note_bytes a scope r.value q.between r.between r.first
-          (stay p.between q.between m (place_notes v scope p.value g p.between p.first s)))
+      (stay p.between q.between m (place_notes v scope p.value g p.between p.first s)))
   note_bytes (If z c a b) scope t g h e s =
       let p = steps e in
       let q = steps p.onward in
@@ -203,7 +203,7 @@ mutual
       let i = expected_int _ _ _ _ _ q.first in
       let k = kept _ _ _ _ _ _ v.first in
       stay u.between h (k.1 ∙ d.1) (note_bytes b scope u.value r.between u.between u.first
-          (note_bytes a scope r.value q.between r.between r.first (stay p.between q.between i.1 (note_bytes c scope p.value g p.between p.first s))))
+      (note_bytes a scope r.value q.between r.between r.first (stay p.between q.between i.1 (note_bytes c scope p.value g p.between p.first s))))
   note_bytes (When z c a) scope t g h e s =
       let p = steps e in
       let q = steps p.onward in
@@ -213,7 +213,7 @@ mutual
       let i = expected_int _ _ _ _ _ q.first in
       let k = expected_none _ _ _ _ _ u.first in
       stay r.between h (k.1 ∙ d.1) (note_bytes a scope r.value q.between r.between r.first
-          (stay p.between q.between i.1 (note_bytes c scope p.value g p.between p.first s)))
+      (stay p.between q.between i.1 (note_bytes c scope p.value g p.between p.first s)))
   note_bytes (While z c a) scope t g h e s =
       let p = steps e in
       let q = steps p.onward in
@@ -223,7 +223,7 @@ mutual
       let i = expected_int _ _ _ _ _ q.first in
       let k = expected_none _ _ _ _ _ u.first in
       stay r.between h (k.1 ∙ d.1) (note_bytes a (in_a_loop scope) r.value q.between r.between r.first
-          (stay p.between q.between i.1 (note_bytes c scope p.value g p.between p.first s)))
+      (stay p.between q.between i.1 (note_bytes c scope p.value g p.between p.first s)))
   note_bytes (For z y low high a) scope t g h e s =
       let p = steps e in
       let q = steps p.onward in
@@ -237,8 +237,8 @@ mutual
       let j = expected_int _ _ _ _ _ u.first in
       let k = expected_none _ _ _ _ _ w.first in
       stay v.between h (k.1 ∙ d.1) (note_bytes a inner v.value u.between v.between v.first
-          (stay r.between u.between j.1 (note_bytes high scope r.value q.between r.between r.first
-          (stay p.between q.between i.1 (note_bytes low scope p.value g p.between p.first (skip (at_of y) s))))))
+      (stay r.between u.between j.1 (note_bytes high scope r.value q.between r.between r.first
+      (stay p.between q.between i.1 (note_bytes low scope p.value g p.between p.first (skip (at_of y) s))))))
   note_bytes (Let z ds es) scope t g h e s =
       let p = steps e in
       last_notes none_type es p.value t p.between h p.onward (decs_notes ds scope p.value g p.between p.first s)
@@ -260,7 +260,7 @@ mutual
       let k = element_got p.value _ q.value p.between q.between q.first in
       let j = expected_int _ _ _ _ _ u.first in
       stay r.between h (j.1 ∙ d.1) (note_bytes i scope r.value q.between r.between r.first
-          (stay p.between q.between k.3 (place_notes v scope p.value g p.between p.first s)))
+      (stay p.between q.between k.3 (place_notes v scope p.value g p.between p.first s)))
 
   all_notes : (es : Exps) (ts : List Ty) (scope : Scope) (y : Unit {0}) (g h : Noted) {ys : List ℕ} → count es ≡ length ts → expect_all es ts scope g ≡ fine y h → Some_of (marks g) ys → Some_of (marks h) (exps_beginnings es ys)
   all_notes no_exps [] scope y g h c e s = stay g h (given _ _ _ _ e).1 s
@@ -271,7 +271,7 @@ mutual
       let q = steps p.onward in
       let f = expected _ _ _ _ _ _ q.first in
       all_notes rest ts scope y q.between h (let j : count rest ≡ length ts = cc in j) q.onward
-          (stay p.between q.between f.1 (note_bytes a scope p.value g p.between p.first s))
+      (stay p.between q.between f.1 (note_bytes a scope p.value g p.between p.first s))
 
   inits_notes : (es : Inits) (fs : List (ℕ × Ty)) (scope : Scope) (y : Unit {0}) (g h : Noted) {ys : List ℕ} → are_fields es fs ≡ true → expect_fields es fs scope g ≡ fine y h → Some_of (marks g) ys → Some_of (marks h) (inits_beginnings es ys)
   inits_notes no_inits [] scope y g h c e s = stay g h (given _ _ _ _ e).1 s
@@ -283,7 +283,7 @@ mutual
       let w = expected _ _ _ _ _ _ q.first in
       let b = both _ (are_fields rest fs) c in
       inits_notes rest fs scope y q.between h b.1 q.onward
-          (stay p.between q.between w.1 (note_bytes a scope p.value g p.between p.first (skip (at_of f) s)))
+      (stay p.between q.between w.1 (note_bytes a scope p.value g p.between p.first (skip (at_of f) s)))
 
   last_notes : (u : Ty) (es : Exps) (scope : Scope) (t : Ty) (g h : Noted) {ys : List ℕ} → typed_last u es scope g ≡ fine t h → Some_of (marks g) ys → Some_of (marks h) (exps_beginnings es ys)
   last_notes u no_exps scope t g h e s = stay g h (given _ _ _ _ e).1 s
@@ -296,13 +296,13 @@ mutual
   decs_notes (types ds rest) scope inner g h {ys} e s =
       let p = steps e in
       decs_notes rest p.value inner p.between h p.onward
-          (skip_types ds (subst (λ k. Some_of k ys) (sym (types_stay ds scope p.value g p.between p.first)) s))
+      (skip_types ds (subst (λ k. Some_of k ys) (sym (types_stay ds scope p.value g p.between p.first)) s))
   decs_notes (variable y None a rest) scope inner g h e s =
       let p = steps e in
       let q = steps p.onward in
       let o = own_got p.value _ q.value p.between q.between q.first in
       decs_notes rest (binding y (variable_at (at_of y) q.value false) scope) inner q.between h q.onward
-          (stay p.between q.between o.1 (note_bytes a scope p.value g p.between p.first (skip (at_of y) s)))
+      (stay p.between q.between o.1 (note_bytes a scope p.value g p.between p.first (skip (at_of y) s)))
   decs_notes (variable y (Some kind) a rest) scope inner g h e s =
       let p = steps e in
       let q = steps p.onward in
@@ -310,15 +310,15 @@ mutual
       let n = presented _ _ _ _ _ _ p.first in
       let f = expected _ _ _ _ _ _ r.first in
       decs_notes rest (binding y (variable_at (at_of y) p.value false) scope) inner r.between h r.onward
-          (stay q.between r.between f.1 (note_bytes a scope q.value p.between q.between q.first (stay g p.between n.1 (skip (at_of kind) (skip (at_of y) s)))))
+      (stay q.between r.between f.1 (note_bytes a scope q.value p.between q.between q.first (stay g p.between n.1 (skip (at_of kind) (skip (at_of y) s)))))
   decs_notes (functions fs rest) scope inner g h e s =
       let p = steps e in
       let q = steps p.onward in
       let r = steps q.onward in
       let hd = headed fs scope q.value p.between q.between q.first in
       decs_notes rest (with_functions fs q.value scope) inner r.between h r.onward
-          (bodies_notes fs q.value (in_no_loop (with_functions fs q.value scope)) r.value q.between r.between hd.0 r.first
-          (stay g q.between (no_repeats_keep _ [] (function_names fs) p.value g p.between p.first ∙ hd.1) s))
+      (bodies_notes fs q.value (in_no_loop (with_functions fs q.value scope)) r.value q.between r.between hd.0 r.first
+      (stay g q.between (no_repeats_keep _ [] (function_names fs) p.value g p.between p.first ∙ hd.1) s))
 
   bodies_notes : (fs : FunDecs) (ss : List Signature) (scope : Scope) (y : Unit {0}) (g h : Noted) {ys : List ℕ} → Headed fs ss → bodies fs ss scope g ≡ fine y h → Some_of (marks g) ys → Some_of (marks h) (function_beginnings fs ys)
   bodies_notes no_functions _ scope y g h no_heads e s = stay g h (given _ _ _ _ e).1 s
@@ -327,4 +327,4 @@ mutual
       let q = steps p.onward in
       let b = body_got r sig.result p.value _ q.value p.between q.between m q.first in
       bodies_notes rest ss scope y q.between h hd q.onward
-          (stay p.between q.between b.1 (note_bytes body (with_params ps sig.params scope) p.value g p.between p.first (among_kind r (among_params ps (skip (at_of f) s)))))
+      (stay p.between q.between b.1 (note_bytes body (with_params ps sig.params scope) p.value g p.between p.first (among_kind r (among_params ps (skip (at_of f) s)))))

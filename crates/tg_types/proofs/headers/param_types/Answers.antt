@@ -22,22 +22,28 @@ loop-param-preserved c =
     types_one (param_at ps k) c.in_ok-type_named.field-0 a c.loop-param-test.true (param_is ps k c.loop-param-test.true) (λ n. c.in_ok-fresh.ensures.given a.earlier a.has n) c.in_ok-type_named.ensures (c.in_ok-fresh.ensures.seen a.earlier a.has) c.in_ok-push.ensures.items
 
 pub returns-in_err-fresh : goal.returns-in_err-fresh
-returns-in_err-fresh c = record { given = λ scope in_loop h n.
-    let ps = c.args.params.now in
-    let k = c.loop-param.param-index in
-    let a = c.loop-param.invariant in
-    ended _ _ _ c.from_residual.ensures (types_repeat (param_at ps k) a c.loop-param-test.true (param_is ps k c.loop-param-test.true) (λ m. c.in_err-fresh.ensures.given a.earlier a.has m) scope in_loop h n) }
+returns-in_err-fresh c = record {
+  given = λ scope in_loop h n.
+      let ps = c.args.params.now in
+      let k = c.loop-param.param-index in
+      let a = c.loop-param.invariant in
+      ended _ _ _ c.from_residual.ensures (types_repeat (param_at ps k) a c.loop-param-test.true (param_is ps k c.loop-param-test.true) (λ m. c.in_err-fresh.ensures.given a.earlier a.has m) scope in_loop h n);
+}
 
 pub returns-in_err-type_named : goal.returns-in_err-type_named
-returns-in_err-type_named c = record { given = λ scope in_loop h n.
-    let ps = c.args.params.now in
-    let k = c.loop-param.param-index in
-    let a = c.loop-param.invariant in
-    ended _ _ _ c.from_residual-in_err-type_named.ensures (types_unknown (param_at ps k) a c.loop-param-test.true (param_is ps k c.loop-param-test.true) (λ m. c.in_ok-fresh.ensures.given a.earlier a.has m) c.in_err-type_named.ensures scope in_loop h n) }
+returns-in_err-type_named c = record {
+  given = λ scope in_loop h n.
+      let ps = c.args.params.now in
+      let k = c.loop-param.param-index in
+      let a = c.loop-param.invariant in
+      ended _ _ _ c.from_residual-in_err-type_named.ensures (types_unknown (param_at ps k) a c.loop-param-test.true (param_is ps k c.loop-param-test.true) (λ m. c.in_ok-fresh.ensures.given a.earlier a.has m) c.in_err-type_named.ensures scope in_loop h n);
+}
 
 pub returns-in_err-push : goal.returns-in_err-push
 returns-in_err-push c = record { given = λ scope in_loop h n. ended _ _ _ c.from_residual-in_err-push.ensures no_memory }
 
 pub returns : goal.returns
-returns c = record { given = λ scope in_loop h n.
-    types_all c.loop-param.invariant (omega (arith, c.loop-param.auto.param-index-end, c.loop-param-test.false)) scope in_loop h n }
+returns c = record {
+  given = λ scope in_loop h n.
+      types_all c.loop-param.invariant (omega (arith, c.loop-param.auto.param-index-end, c.loop-param-test.false)) scope in_loop h n;
+}
