@@ -10,3 +10,6 @@ mod sets;
 
 pub use finding::escapes;
 pub use sets::Escapes;
+
+#[cfg(test)]
+mod tests;

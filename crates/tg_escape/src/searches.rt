@@ -44,19 +44,16 @@ fn in_exp(search: &mut Search, e: &Exp, level: usize) -> Result<(), Memory>
     match &e.kind {
         Kind::Nil | Kind::Break | Kind::Int(_) | Kind::Text(_) => Ok(()),
         Kind::Read(place) => in_place(search, place, level),
-        Kind::Call(_, arguments) => in_exps(search, arguments, level),
+        Kind::Call(_, items) | Kind::Seq(items) => in_exps(search, items, level),
         Kind::Neg(a) => in_exp(search, a, level),
-        Kind::Binary(_, _, a, b) | Kind::Fill(_, a, b) | Kind::While(a, b) => {
-            in_exp(search, a, level)?;
-            in_exp(search, b, level)
-        }
+        Kind::Binary(_, _, a, b) | Kind::Fill(_, a, b) | Kind::If(a, b, None) | Kind::While(a, b) =>
+            {
+                in_exp(search, a, level)?;
+                in_exp(search, b, level)
+            }
         Kind::Make(_, inits) => in_inits(search, inits, level),
         Kind::Assign(place, a) => {
             in_place(search, place, level)?;
-            in_exp(search, a, level)
-        }
-        Kind::If(c, a, None) => {
-            in_exp(search, c, level)?;
             in_exp(search, a, level)
         }
         Kind::If(c, a, Some(b)) => {
@@ -76,7 +73,6 @@ fn in_exp(search: &mut Search, e: &Exp, level: usize) -> Result<(), Memory>
             search.table.cut_to(open);
             Ok(())
         }
-        Kind::Seq(items) => in_exps(search, items, level),
     }
 }
 
@@ -225,7 +221,9 @@ fn declare_functions(search: &mut Search, group: &FunDecs) -> Result<(), Memory>
     ensures declared { OnOk result (Finds search.old search.new (escaping.declare_functions (plain_functions group.now) search.old.table) (λ after. after)) }
 {
     for function in &group.items {
-        search.table.push(function.name.name.0, Declaration::function())?;
+        search
+            .table
+            .push(function.name.name.0, Declaration::function())?;
     }
     Ok(())
 }

@@ -13,7 +13,7 @@ in_turn-returns t c = closed (_ ∷ []) (behind (λ s. s) (escaping (plain c.arg
 pub in_exp-returns-in_ok-in_exps-in-Let : goal.in_exp-returns-in_ok-in_exps-in-Let
 in_exp-returns-in_ok-in_exps-in-Let t c =
     let o = decs_open c.args.level (decs_of c.in-Let.decs.items.items) c.args.search.now.table in
-    subst (λ x. Finds c.args.search.now (record { table = c.cut_to.new.self; escapes = c.in_exps-in-Let.new.search.escapes }) c.args.search.now.table (escaping x c.args.level c.args.search.now.table)) (sym (ap (λ k. plain_kind k c.args.e.now.span) c.in-Let.is ∙ plain_kind-Let c.in-Let.decs c.in-Let.body c.args.e.now.span))
+    subst (λ x. Finds c.args.search.now (record { table = c.cut_to.new.self; escapes = c.in_exps.new.search.escapes }) c.args.search.now.table (escaping x c.args.level c.args.search.now.table)) (sym (ap (λ k. plain_kind k c.args.e.now.span) c.in-Let.is ∙ plain_kind-Let c.in-Let.decs c.in-Let.body c.args.e.now.span))
     (closed o.0 (behind (λ s. s) (escaping_exps (plain_exps c.in-Let.body) c.args.level) c.in_ok-in_decs-in-Let.ensures c.in_ok-in_exps-in-Let.ensures) o.1 c.cut_to.ensures c.len-open.ensures refl)
 
 pub in_exps-loop-e-init : goal.in_exps-loop-e-init
