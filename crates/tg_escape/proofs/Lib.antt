@@ -1,1 +1,3 @@
 mod EscapingExamples
+pub mod SetSteps
+pub mod SearchSteps

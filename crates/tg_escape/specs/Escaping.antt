@@ -1,6 +1,7 @@
 -- Which variables escape (Appel, chapter 6): exactly those that a function nested in their declaring function uses. A variable is
 -- named by the byte of its declaring identifier; a function's parameters and the variables of its loops are declared in it too.
-use Rattle.std.specs.Prelude.{ℕ, ◌+◌, ◌==◌, nat_lt, List, [], ◌∷◌, Option, Some, None, if◌then◌else◌}
+use Rattle.std.specs.Prelude.{ℕ, ◌+◌, nat_lt, List, [], ◌∷◌, Option, Some, if◌then◌else◌}
+use Rattle.tg_symbols.specs.Tables.{named}
 use Rattle.tg_syntax.specs.declared.tokens.Ident.{Ident}
 use Rattle.tg_syntax.specs.declared.trees.Param.{Param}
 use Rattle.tg_syntax.specs.Tree.{Exp, Nil, Break, Int, Text, Read, Call, Neg, Binary, Make, Fill, Assign, If, When, While, For, Let, Seq, Place, Simple, Field, Index, Exps, no_exps, exp, Inits, no_inits, init, Decs, no_decs, types, variable, functions, FunDecs, no_functions, function}
@@ -19,10 +20,6 @@ declare x d seen = (x.name.0, d) ∷ seen
 
 abbrev pub declare_variable : (level : ℕ) → Ident → Seen → Seen
 declare_variable level x seen = declare x (a_variable x.span.from level) seen
-
-abbrev pub declared : ℕ → Seen → Option Declared
-declared x [] = None
-declared x (entry ∷ seen) = if entry.0 == x then Some entry.1 else declared x seen
 
 abbrev pub declare_params : (level : ℕ) → List Param → Seen → Seen
 declare_params level [] seen = seen
@@ -68,7 +65,7 @@ abbrev mutual
   escaping (Seq _ es) level seen after = escaping_exps es level seen after
 
   pub escaping_place : Place → (level : ℕ) → Seen → List ℕ → List ℕ
-  escaping_place (Simple x) level seen after = used level (declared x.name.0 seen) after
+  escaping_place (Simple x) level seen after = used level (named x.name.0 seen) after
   escaping_place (Field v _) level seen after = escaping_place v level seen after
   escaping_place (Index v e) level seen after = escaping_place v level seen (escaping e level seen after)
 

@@ -1,1 +1,3 @@
 pub mod Escaping
+pub mod Declarations
+pub mod Searches

@@ -1,3 +1,15 @@
 //! Which variables of a program escape (Appel, chapter 6): those that a function nested in their declaring function
-//! uses. The definition stands in `specs/`; the call that finds them comes with the checker.
+//! uses. Promises the translation exactly their set, found in one walk over the tree. The definition stands in
+//! `specs/Escaping.antt`.
 #![tactic(auto)]
+
+mod declarations;
+mod finding;
+mod searches;
+mod sets;
+
+pub use finding::escapes;
+pub use sets::Escapes;
+
+#[cfg(test)]
+mod tests;

@@ -1,0 +1,57 @@
+ghost use Rattle.std.specs.Prelude.{◌≡◌};
+ghost use Rattle.tg_escape.specs.Escaping.{a_variable, a_function};
+ghost use Rattle.tg_escape.specs.Declarations.{variable_outside};
+
+use std::marker::Model;
+
+/// What a name is declared to be: a variable, with the byte of its declaring identifier and the level of its declaring
+/// function, or a function.
+#[derive(Drop)]
+pub(crate) enum Meaning {
+    Variable(u32, usize),
+    Function,
+}
+
+/// A name's declaration, which contracts see as the definition's.
+#[derive(Drop)]
+pub(crate) struct Declaration {
+    meaning: Meaning,
+}
+
+impl Model for Declaration {
+    ghost use Rattle.tg_escape.specs.Escaping.{Declared};
+
+    ghost Value = { Declared };
+
+    ghost use Rattle.tg_escape.specs.Declarations.{declared_as};
+
+    ghost view = { λ d. declared_as d.meaning };
+}
+
+impl Declaration {
+    pub(crate) fn variable(at: u32, level: usize) -> Declaration
+        ensures { result ≡ a_variable at level }
+    {
+        Declaration {
+            meaning: Meaning::Variable(at, level),
+        }
+    }
+
+    pub(crate) fn function() -> Declaration
+        ensures { result ≡ a_function }
+    {
+        Declaration {
+            meaning: Meaning::Function,
+        }
+    }
+
+    /// The byte of a variable that belongs to a function outside of those of a level.
+    pub(crate) fn outside(&self, level: usize) -> Option<u32>
+        ensures { result ≡ variable_outside level self.now }
+    {
+        match self.meaning {
+            Meaning::Variable(at, own) if own < level => Some(at),
+            _ => None,
+        }
+    }
+}
