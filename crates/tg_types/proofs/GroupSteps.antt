@@ -3,7 +3,6 @@ use Rattle.std.specs.Prelude.{Option, Some, None, nat_eq, ◌==◌, ◌||◌, no
 use Rattle.std.specs.Prelude.{Result, Ok, Err, OnOk}
 use Rattle.std.specs.Option.{option_map, is_some}
 use Rattle.std.specs.List.{All}
-use Rattle.std.specs.Map.{lookup}
 use Rattle.std.specs.List.{list_any}
 use Rattle.std.specs.HashSet as set
 use Rattle.std.specs.HashSet.{HashSet}
@@ -32,7 +31,7 @@ use Rattle.tg_types.specs.declared.chains.Chain.{Chain as CodeChain}
 use Rattle.tg_types.specs.declared.chains.Chain.TheVariants.{Outside, EndsAt, Onward}
 use Rattle.tg_types.proofs.ChainSteps.{there}
 use Rattle.tg_types.specs.States.{Fails, bad, Gives, Keeps, Opens, scope_of, noted_of}
-use Rattle.tg_types.proofs.Steps.{step, given, fails_first, fails_then, last_fails, kept_true, kept_false, keeps_same, keeps_both, same_scope, given_is, opens_keep, opens_both}
+use Rattle.tg_types.proofs.Steps.{step, given, fails_first, fails_then, last_fails, kept_true, kept_false, keeps_both, same_scope, given_is, opens_keep, opens_both}
 use Rattle.tg_types.proofs.TreeSteps.{from_here, none_left}
 
 -- ---- fronts of lists
@@ -118,9 +117,6 @@ pub record PlacesOn {S : Type 0} (places : HashMap ℕ ℕ S) (ds : List TypeDec
   pub seen : (y : ℕ) → stands_in y earlier ≡ is_some (place_in y (take k ds))
   pub onward : (n : Noted) → no_repeats T16 [] (names_of ds) n ≡ no_repeats T16 earlier (names_of (drop k ds)) n
 
-pub places_none : {S : Type 0} {places : HashMap ℕ ℕ S} {ds : List TypeDec} → hash.IsEmpty places → PlacesOn places ds 0
-places_none e = record { earlier = []; has = λ x. ap (λ es. lookup (nat_eq x) es) e; seen = λ y. refl; onward = λ n. refl }
-
 pub places_one : {S : Type 0} {places : HashMap ℕ ℕ S} {next : HashMap ℕ ℕ S} {ds : List TypeDec} {k : ℕ} (d : TypeDec) → PlacesOn places ds k → k < length ds → d ≡ get_or ds k d → hash.get nat_eq places (name_of d.name) ≡ None → ((q : ℕ) → hash.get nat_eq next q ≡ cond (nat_eq (name_of d.name) q) (Some k) (hash.get nat_eq places q)) → PlacesOn next ds (k + 1)
 places_one {places = places} {ds = ds} {k = k} d a l i g u =
     let x = name_of d.name in
@@ -141,9 +137,6 @@ places_repeat {ds = ds} {k = k} d a l i g n =
 pub places_all : {S : Type 0} {places : HashMap ℕ ℕ S} {ds : List TypeDec} {k : ℕ} → PlacesOn places ds k → k ≡ length ds → (n : Noted) → no_repeats T16 [] (names_of ds) n ≡ fine tt n
 unfolding give
 places_all {ds = ds} {k = k} a e n = a.onward n ∙ ap (λ l. no_repeats T16 a.earlier (names_of l) n) (none_left ds k e)
-
-pub places_has : {S : Type 0} {places : HashMap ℕ ℕ S} {ds : List TypeDec} {k : ℕ} → PlacesOn places ds k → k ≡ length ds → HasPlaces places ds
-places_has {ds = ds} {k = k} a e x = a.has x ∙ ap (λ l. place_in x l) (front_all ds k e)
 
 -- names that don't repeat are declared once
 kept_on : (at : ℕ) (b : Bool) (next : Check (Unit {0})) (n : Noted) → (keep T16 at (not b) >>= λ _. next) n ≡ fine tt n → (b ≡ false) × (next n ≡ fine tt n)
@@ -200,9 +193,6 @@ none_of (Some a) h = absurd (cc)
 own_is_some : {A : Type 0} (o : Option A) → groups.is_some o ≡ is_some o
 own_is_some None = refl
 own_is_some (Some a) = refl
-
-or_is : (b c : Bool) → b ≡ true → b || c ≡ true
-or_is b c e = ap (λ x. x || c) e
 
 pub known_inside : {S : Type 0} (places : HashMap ℕ ℕ S) (group : List TypeDec) (x : ℕ) (other b : Bool) → HasPlaces places group → b ≡ is_some (hash.get nat_eq places x) → b ≡ true → true ≡ stands_in x (names_of group) || other
 known_inside places group x other b h e t =
@@ -262,9 +252,6 @@ fields_all {ps = ps} {k = k} a l whole scope in_loop p e n = a.onward whole scop
 pub record FormsOn {S : Type 0} (names : List (List ℕ)) (s : State) (places : HashMap ℕ ℕ S) (ds : List TypeDec) (k : ℕ) : Type 0 where
   pub onward : (whole : List TypeDec) (scope : Scope) (in_loop : Bool) → HasPlaces places whole → scope ≡ scope_of names s in_loop → (n : Noted) → known_forms whole ds scope n ≡ known_forms whole (drop k ds) scope n
 
-pub forms_none : {S : Type 0} {names : List (List ℕ)} {s : State} {places : HashMap ℕ ℕ S} {ds : List TypeDec} → FormsOn names s places ds 0
-forms_none = record { onward = λ whole scope in_loop p e n. refl }
-
 pub forms_one : {S : Type 0} {names : List (List ℕ)} {s : State} {places : HashMap ℕ ℕ S} (group : List CodeTypeDec) {k : ℕ} (d : CodeTypeDec) → FormsOn names s places (map plain_type group) k → k < length group → d ≡ get_or group k d → ((whole : List TypeDec) (scope : Scope) (in_loop : Bool) → HasPlaces places whole → scope ≡ scope_of names s in_loop → (n : Noted) → known_form whole scope (plain_form d.form) n ≡ fine tt n) → FormsOn names s places (map plain_type group) (k + 1)
 forms_one group {k = k} d a l i f = record { onward = λ whole scope in_loop p e n. a.onward whole scope in_loop p e n ∙ (ap (λ x. known_forms whole x scope n) (plain_here group k d l i) ∙ step _ _ (f whole scope in_loop p e n) refl) }
 
@@ -284,9 +271,6 @@ form_within n (x ∷ group) (suc k) d w l e = form_within n group k d w.2 (omega
 
 pub record EndsOn (whole ds : List TypeDec) (k : ℕ) : Type 0 where
   pub onward : (n : Noted) → chains_end whole ds n ≡ chains_end whole (drop k ds) n
-
-pub ends_none : {whole : List TypeDec} {ds : List TypeDec} → EndsOn whole ds 0
-ends_none = record { onward = λ n. refl }
 
 -- the chain of a declaration is the one that its end stands for
 pub end_is : (whole : List TypeDec) (group : List CodeTypeDec) (ends : List CodeChain) (k : ℕ) (d : CodeTypeDec) (c : CodeChain) → map (λ c. chain_from whole c) ends ≡ map (λ d. chain_of whole d.name) (map plain_type group) → length ends ≡ length group → k < length group → d ≡ get_or group k d → c ≡ get_or ends k c → chain_from whole c ≡ chain_of whole d.name
@@ -341,9 +325,6 @@ fields_back f ps at table p l h =
 pub record AddedOn (names : List (List ℕ)) (first now : State) (ds : List TypeDec) (k : ℕ) : Type 0 where
   pub keeps : Keeps first now
   pub onward : (scope : Scope) (in_loop : Bool) → scope ≡ scope_of names first in_loop → add_forms scope ds (noted_of first) ≡ add_forms scope (drop k ds) (noted_of now)
-
-pub added_none : {names : List (List ℕ)} {s : State} {ds : List TypeDec} → AddedOn names s s ds 0
-added_none = record { keeps = keeps_same; onward = λ scope in_loop h. refl }
 
 pub added_one : {names : List (List ℕ)} {first : State} {now : State} {next : State} (group : List CodeTypeDec) {k : ℕ} (d : CodeTypeDec) → AddedOn names first now (map plain_type group) k → k < length group → d ≡ get_or group k d → Keeps now next → ((scope : Scope) (in_loop : Bool) → scope ≡ scope_of names now in_loop → add_form scope d.name.span.from (plain_form d.form) (noted_of now) ≡ fine tt (noted_of next)) → AddedOn names first next (map plain_type group) (k + 1)
 added_one {names = names} {now = now} group {k = k} d a l i kept f = record {

@@ -13,9 +13,6 @@ pub record Between (at : ℕ) (notes : List Note) (low high : ℕ) : Type 0 wher
   pub before : (k : ℕ) (d : Note) → k < low → (get_or notes k d).at < at
   pub behind : (k : ℕ) (d : Note) → high ≤ k → k < length notes → at < (get_or notes k d).at
 
-pub between_all : (at : ℕ) (notes : List Note) (high : ℕ) → high ≡ length notes → Between at notes 0 high
-between_all at notes high e = record { fits = omega (arith, e); before = λ k d l. absurd (omega (arith, l)); behind = λ k d l m. absurd (omega (arith, l, m, e)) }
-
 below : (notes : List Note) (at m k : ℕ) (d : Note) → (get_or notes m d).at < at → (k < m → (get_or notes k d).at < (get_or notes m d).at) → k ≤ m → (get_or notes k d).at < at
 below notes at m k d x f le = elim (eq-or-lt_of_le le) [ inl e ↦ subst (λ j. (get_or notes j d).at < at) (sym e) x | inr l ↦ omega (arith, x, f l) ]
 

@@ -1,7 +1,7 @@
 -- Chains of checks: what one leaves the next with, and how faults come through.
 use Rattle.std.specs.Prelude.{Result, Ok, Err, IsErr, IsTrue}
 use Rattle.std.specs.Result.{IsErrAnd}
-use Rattle.std.proofs.Common.{◌≡◌, ℕ, List, [], ◌∷◌, ◌++◌, Bool, true, false, refl, sym, ap, ◌∙◌, subst, append_assoc, ◌≤◌, length, length-append, arith}
+use Rattle.std.proofs.Common.{◌≡◌, ℕ, List, [], ◌∷◌, ◌++◌, Bool, true, false, refl, sym, ap, ◌∙◌, subst, append_assoc, length}
 use Rattle.tg_syntax.specs.declared.tokens.Ident.{Ident}
 use Rattle.tg_types.specs.declared.faults.TypeRule.{TypeRule}
 use Rattle.tg_types.specs.declared.faults.TypeFault.{TypeFault}
@@ -10,7 +10,7 @@ use Rattle.tg_types.specs.declared.notes.Note.{Note}
 use Rattle.tg_types.specs.declared.notes.Means.{Means}
 use Rattle.tg_types.specs.Types.{Ty, Shape}
 use Rattle.tg_types.specs.Checks.{Check, Noted, Checked, fine, fault, on_fine, keep, give, refuse, note, ◌>>=◌}
-use Rattle.tg_types.specs.Scopes.{Scope, Binding, binding, standard_bindings, standard_types, in_a_loop, in_no_loop}
+use Rattle.tg_types.specs.Scopes.{Scope, Binding, binding, standard_bindings, standard_types, in_no_loop}
 use Rattle.tg_types.specs.States.{Fails, bad, no_memory, Gives, Leads, Keeps, Opens, scope_of}
 
 no_truth : IsTrue false → ⊥
@@ -106,9 +106,6 @@ pub noted : (at : ℕ) (means : Means) {shapes : List (ℕ × Shape)} (old : Lis
 unfolding note
 noted _ _ {shapes = shapes} _ e = ap (λ ns. fine tt (record { shapes = shapes; notes = ns })) (sym e)
 
-pub loop_scope : (s : State) (names : List (List ℕ)) {in_loop : Bool} {scope : Scope} → scope ≡ scope_of names s in_loop → in_a_loop scope ≡ scope_of names s true
-loop_scope _ _ h = ap in_a_loop h
-
 pub no_loop_scope : (s : State) (names : List (List ℕ)) {in_loop : Bool} {scope : Scope} → scope ≡ scope_of names s in_loop → in_no_loop scope ≡ scope_of names s false
 no_loop_scope _ _ h = ap in_no_loop h
 
@@ -155,9 +152,6 @@ kept_then m k g n {e = e} d h = subst (λ x. Fails e x) (sym (kept_grouped (m n)
 -- the end of a scope
 pub cut_back : {A : Type 0} {before : List A} {now : List A} {after : List A} (more : List A) {len : ℕ} → ((front back : List A) → now ≡ front ++ back → length back ≡ len → after ≡ back) → now ≡ more ++ before → len ≡ length before → after ≡ before
 cut_back _ f e l = f _ _ e (sym l)
-
-pub cut_fits : {A : Type 0} (before now more : List A) (len : ℕ) → now ≡ more ++ before → len ≡ length before → len ≤ length now
-cut_fits before now more len e l = omega (arith, l, ap length e, length-append more before)
 
 -- one more name
 pub opened : (x : Ident) {b : Binding} {old : List (ℕ × Binding)} {new : List (ℕ × Binding)} (types : List (ℕ × Ty)) (outer : List (ℕ × Ty)) (rest : List (ℕ × Binding)) {in_loop : Bool} {scope : Scope} → new ≡ (x.name.0, b) ∷ old → scope ≡ record { bindings = old ++ rest; types = types ++ outer; in_loop = in_loop } → binding x b scope ≡ record { bindings = new ++ rest; types = types ++ outer; in_loop = in_loop }

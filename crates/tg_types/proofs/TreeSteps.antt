@@ -246,27 +246,9 @@ leads_kept (Ok x) names in_loop old new m onward n inner e k g = ap (λ y. on_fi
 leads_kept (Err x) names in_loop old new m onward n inner e k g = fails_first m (λ _. onward inner) g
 
 -- the names of the parts that a loop comes to
-pub exp_among : (n : ℕ) (es : CodeExps) (xs : List CodeExp) (k : ℕ) (e : CodeExp) → xs ≡ (out-Exps es).items.items → ExpsWithin n (plain_exps es) → k < length xs → e ≡ get_or xs k e → NamesWithin n (plain e)
-exp_among n es xs k e s h l i = exp_below n es k e h (omega (arith, l, ap length s)) (i ∙ ap (λ ys. get_or ys k e) s)
-
-pub init_among : (n : ℕ) (is : CodeInits) (xs : List CodeInit) (k : ℕ) (e : CodeInit) → xs ≡ (out-Inits is).items.items → InitsWithin n (plain_inits is) → k < length xs → e ≡ get_or xs k e → NamesWithin n (plain e.value)
-init_among n is xs k e s h l i = init_below n is k e h (omega (arith, l, ap length s)) (i ∙ ap (λ ys. get_or ys k e) s)
-
-pub dec_among : (n : ℕ) (ds xs : List CodeDec) (k : ℕ) (d : CodeDec) → xs ≡ ds → DecsWithin n (decs_of ds) → k < length xs → d ≡ get_or xs k d → DecsWithin n (plain_dec d no_decs)
-dec_among n ds xs k d s h l i = dec_below n ds k d h (omega (arith, l, ap length s)) (i ∙ ap (λ ys. get_or ys k d) s)
-
-pub function_among : (n : ℕ) (fs : CodeFunDecs) (xs : List CodeFunDec) (k : ℕ) (f : CodeFunDec) → xs ≡ (out-FunDecs fs).items.items → FunctionsWithin n (plain_functions fs) → k < length xs → f ≡ get_or xs k f → NamesWithin n (plain f.body)
-function_among n fs xs k f s h l i = function_below n fs k f h (omega (arith, l, ap length s)) (i ∙ ap (λ ys. get_or ys k f) s)
-
 -- the names of a `let`
 pub let_within : (n : ℕ) (k : Kind) (s : Span) (ds : CodeDecs) (es : CodeExps) → k ≡ Let ds es → NamesWithin n (plain_kind k s) → DecsWithin n (decs_of ds.items.items) × ExpsWithin n (plain_exps es)
 let_within n k s ds es e h = subst (λ x. NamesWithin n x) (plain_kind-Let ds es s) (subst (λ y. NamesWithin n (plain_kind y s)) e h)
-
-pub let_decs : (n : ℕ) (k : Kind) (s : Span) (ds : CodeDecs) (es : CodeExps) → k ≡ Let ds es → NamesWithin n (plain_kind k s) → DecsWithin n (decs_of ds.items.items)
-let_decs n k s ds es e h = (let_within n k s ds es e h).0
-
-pub let_exps : (n : ℕ) (k : Kind) (s : Span) (ds : CodeDecs) (es : CodeExps) → k ≡ Let ds es → NamesWithin n (plain_kind k s) → ExpsWithin n (plain_exps es)
-let_exps n k s ds es e h = (let_within n k s ds es e h).1
 
 -- a choice begins with its test
 pub choice_fails : (s : Span) (test this : Exp) (other : Option Exp) (scope : Scope) (n : Noted) {e : TypeFault} → Fails e (fitting test int_type scope n) → Fails e (typed (choice s test this other) scope n)
@@ -274,9 +256,6 @@ choice_fails s test this None scope n h = two_fail_first _ _ _ _ h
 choice_fails s test this (Some o) scope n h = two_fail_first _ _ _ _ h
 
 -- the second way of a choice
-pub way_in : {A : Type 0} (n : ℕ) (f : A → Exp) (o : Option A) (b : A) → o ≡ Some b → IfSome o (λ x. NamesWithin n (f x)) → NamesWithin n (f b)
-way_in n f o b e h = subst (λ x. IfSome x (λ y. NamesWithin n (f y))) e h
-
 -- a choice with two ways goes on with the first, and then with the second
 pub choice_first_fails : (s : Span) (test this : Exp) (other : Option Exp) (way : Exp) (scope : Scope) (n : Noted) {m : Noted} {e : TypeFault} → other ≡ Some way → fitting test int_type scope n ≡ fine tt m → Fails e (typed this scope m) → Fails e (typed (choice s test this other) scope n)
 choice_first_fails s test this other way scope n i g h =
