@@ -1,4 +1,4 @@
-use Rattle.std.proofs.Common.{sym, ap, ◌∙◌, [], subst}
+use Rattle.std.proofs.Common.{sym, ap, ◌∙◌, []}
 use Rattle.std.specs.FinSet.{empty}
 use Rattle.tg_syntax.specs.Plain.{plain}
 use Rattle.tg_escape.specs.Escaping.{escaping, escapes_of}
