@@ -1,14 +1,15 @@
 -- Runs of small trees, each computed by the definition itself.
-use Rattle.std.proofs.Common.{◌≡◌, ℕ, ◌+◌, ◌-◌, ◌*◌, List, [], ◌∷◌, ◌++◌, refl}
+use Rattle.std.proofs.Common.{◌≡◌, ℕ, ◌+◌, ◌-◌, ◌*◌, List, [], ◌∷◌, ◌++◌, map, true, false, refl}
 use Rattle.std.specs.Prelude.{codes, pos}
 use Rattle.tg_base.specs.declared.ends.RunEnd.TheVariants.{Exit, Break as Broken, Overflow, HeapFull, StackFull, BadService}
 use Rattle.tg_base.specs.State.{stack_top}
 use Rattle.tg_frame.specs.declared.accesses.Access.{Access}
 use Rattle.tg_frame.specs.declared.accesses.Access.TheVariants.{InTemp, InFrame}
 use Rattle.tg_runs.specs.Ran.{Ran, Stop, Ended, WantsFuel, Wrong}
-use Rattle.tg_tree.specs.declared.operators.Bin.TheVariants.{Add, Sub, Mul, Div, ShiftLeft, ShiftSigned, AddTrap, SubTrap, MulHigh}
-use Rattle.tg_tree.specs.declared.operators.Rel.TheVariants.{Less, Equal, Below}
+use Rattle.tg_tree.specs.declared.operators.Bin.TheVariants.{Add, Sub, Mul, Div, And, Or, Xor, ShiftLeft, ShiftRight, ShiftSigned, AddTrap, SubTrap, MulHigh}
+use Rattle.tg_tree.specs.declared.operators.Rel.TheVariants.{Equal, NotEqual, Less, LessEqual, Greater, GreaterEqual, Below, NotBelow}
 use Rattle.tg_tree.specs.Tree.{Tx, Const, Address, Temp, FrameAddress, Binary, Load, LoadByte, Call, Service, After, Txs, no_txs, tx, Compare, Both, Not, Ts, Move, Store, StoreByte, Do, If, Loop, Break, Fault, Seq, Return, Stms, no_stms, stm, Function, Literal, Linear, Mark, Do', Jump, Branch, Fault', Return'}
+use Rattle.tg_tree.specs.Operators.{word, stops_by, operate, holds}
 use Rattle.tg_tree.specs.Running.{tree_run}
 use Rattle.tg_tree.specs.Flat.{flat_run}
 
@@ -130,6 +131,16 @@ shifts = refl
 -- the two orders
 orders : alone (seq (If (Both (Compare Less (Const 4294967295) (Const 0)) (Not (Compare Below (Const 4294967295) (Const 0)))) (print (Const 1)) (print (Const 2)) ∷ Return (Const 0) ∷ [])) ≡ finished (1 ∷ [])
 orders = refl
+
+-- each comparison, of -1 with 0, of 0 with -1, and of a word with itself
+comparisons : map (λ rel. (holds rel 4294967295 0, holds rel 0 4294967295, holds rel 7 7)) (Equal ∷ NotEqual ∷ Less ∷ LessEqual ∷ Greater ∷ GreaterEqual ∷ Below ∷ NotBelow ∷ []) ≡
+    (false, false, true) ∷ (true, true, false) ∷ (true, false, false) ∷ (true, false, true) ∷ (false, true, false) ∷ (false, true, true) ∷ (false, true, false) ∷ (true, false, true) ∷ []
+comparisons = refl
+
+-- each operator that doesn't trap
+operations : operate Add 4294967295 2 ∷ operate Sub 0 1 ∷ operate Mul 65537 65536 ∷ operate Div 4294967289 2 ∷ operate Div 1 0 ∷ operate And 12 10 ∷ operate Or 12 10 ∷ operate Xor 12 10 ∷ operate ShiftLeft 3 33 ∷ operate ShiftRight 4294967295 31 ∷ operate ShiftSigned 4294967294 1 ∷ operate MulHigh 4294967295 2 ∷ [] ≡
+    word 1 ∷ word 4294967295 ∷ word 65536 ∷ word 4294967293 ∷ stops_by Wrong ∷ word 8 ∷ word 14 ∷ word 6 ∷ word 6 ∷ word 1 ∷ word 4294967295 ∷ word 4294967295 ∷ []
+operations = refl
 
 -- a byte is stored into a literal, and into a slot that holds a word
 byte_stored : does (fun 32 [] 1 (seq (StoreByte (Address 40) (Const 360) ∷ Do (Service 4 (Address 40)) ∷ Store (home 0) (Const 258) ∷ StoreByte (Binary Add (home 0) (Const 1)) (Const 3) ∷ print (LoadByte (Binary Add (home 0) (Const 1))) ∷ print (Load (home 0)) ∷ Return (Const 0) ∷ [])) ∷ []) (record { label = 40; text = codes "abc" } ∷ []) 1 ≡ finished (codes "hbc" ++ 3 ∷ 2 ∷ [])
