@@ -1,5 +1,5 @@
 -- Runs of small trees, each computed by the definition itself.
-use Rattle.std.proofs.Common.{◌≡◌, ℕ, ◌+◌, ◌-◌, ◌*◌, List, [], ◌∷◌, ◌++◌, map, true, false, refl}
+use Rattle.std.proofs.Common.{◌≡◌, ℕ, ◌+◌, ◌-◌, ◌*◌, List, [], ◌∷◌, ◌++◌, map, Bool, true, false, refl}
 use Rattle.std.specs.Prelude.{codes, pos}
 use Rattle.tg_base.specs.declared.ends.RunEnd.TheVariants.{Exit, Break as Broken, Overflow, HeapFull, StackFull, BadService}
 use Rattle.tg_base.specs.State.{stack_top}
@@ -133,7 +133,7 @@ orders : alone (seq (If (Both (Compare Less (Const 4294967295) (Const 0)) (Not (
 orders = refl
 
 -- each comparison, of -1 with 0, of 0 with -1, and of a word with itself
-comparisons : map (λ rel. (holds rel 4294967295 0, holds rel 0 4294967295, holds rel 7 7)) (Equal ∷ NotEqual ∷ Less ∷ LessEqual ∷ Greater ∷ GreaterEqual ∷ Below ∷ NotBelow ∷ []) ≡
+comparisons : map {B = Bool × Bool × Bool} (λ rel. (holds rel 4294967295 0, holds rel 0 4294967295, holds rel 7 7)) (Equal ∷ NotEqual ∷ Less ∷ LessEqual ∷ Greater ∷ GreaterEqual ∷ Below ∷ NotBelow ∷ []) ≡
     (false, false, true) ∷ (true, true, false) ∷ (true, false, false) ∷ (true, false, true) ∷ (false, true, false) ∷ (false, true, true) ∷ (false, true, false) ∷ (true, false, true) ∷ []
 comparisons = refl
 
