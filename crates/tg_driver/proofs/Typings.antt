@@ -12,6 +12,8 @@ use Rattle.tg_types.specs.declared.faults.TypeFault.TheVariants.{Bad, Memory}
 use Rattle.tg_types.specs.declared.notes.Note.{Note}
 use Rattle.tg_types.specs.Accepted.{Finding, finding, accepted, at_fault}
 use Rattle.tg_types.specs.Answered.{Accepts, IsAt}
+use Rattle.tg_types.proofs.NeverStuck.{never_stuck}
+use Rattle.tg_driver.specs.Meanings.{SourcesAreNeverStuck}
 use Rattle.tg_driver.specs.Readings.{HasNamedTree, IsNamedSource, IsTypeFaultOf}
 
 pub names_within : (text : List ℕ) (names : List (List ℕ)) (program : Exp) → HasNamedTree text names program → NamesWithin (length names) program
@@ -32,3 +34,8 @@ typed_source text names program sorted t h =
 pub typed_fault : (text : List ℕ) (names : List (List ℕ)) (program : Exp) (fault : TypeFault) → HasNamedTree text names program → IsAt (finding names program) fault → IsTypeFaultOf text fault
 typed_fault text names program (Bad rule at) t h = record { names = names; tokens = t.tokens; program = program; tree = t.tree; fault = h }
 typed_fault text names program Memory t h = tt
+
+-- so a source's evaluation is never stuck
+pub sources_are_never_stuck : SourcesAreNeverStuck
+sources_are_never_stuck text names tokens program s input heap stack fuel =
+    never_stuck names program s.notes s.well_typed (begins_apart text names program (record { tokens = tokens; tree = s.tree })) input heap stack fuel

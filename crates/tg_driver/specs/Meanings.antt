@@ -1,14 +1,16 @@
--- What a program means, as the end of a machine, and that one of the built form ends by the value of its argument.
-use Rattle.std.specs.Prelude.{ℕ, ◌+◌, ◌≡◌, ◌≤◌, List, [], Option, Some, None}
+-- What a program means, as the end of a machine; that one of the built form ends by the value of its argument; and that none is stuck.
+use Rattle.std.specs.Prelude.{ℕ, ◌+◌, ◌≡◌, ◌≢◌, ◌≤◌, List, [], Option, Some, None}
 use Rattle.tg_base.specs.Words.{signed}
 use Rattle.tg_base.specs.declared.ends.RunEnd.{RunEnd}
 use Rattle.tg_base.specs.declared.ends.RunEnd.TheVariants.{Exit, Overflow}
+use Rattle.tg_syntax.specs.declared.tokens.Spanned.{Spanned}
 use Rattle.tg_syntax.specs.Tree.{Exp}
 use Rattle.tg_syntax.specs.Measures.{size}
-use Rattle.tg_meaning.specs.Values.{End, Ending, by_exit, by_overflow, ended}
+use Rattle.tg_meaning.specs.Values.{End, Ending, by_exit, by_overflow, ended, stuck}
 use Rattle.tg_meaning.specs.Levels.{activation, runtime_weight}
 use Rattle.tg_meaning.specs.Outcomes.{Outcome}
 use Rattle.tg_meaning.specs.Direct.{evaluate}
+use Rattle.tg_driver.specs.Sources.{IsSourceOf}
 use Rattle.tg_driver.specs.BuiltForm.{CallsExit}
 use Rattle.tg_driver.specs.Values.{exit_value}
 
@@ -47,3 +49,9 @@ MeansItsValue =
     (names : List (List ℕ)) (body : Exp) → CallsExit names body →
     (input : List ℕ) (heap stack fuel : ℕ) →
     EndsQuietly body input stack (ending_of (exit_value body)) (evaluate names body input heap stack fuel)
+
+-- whatever its input, its sizes and its fuel, a text that is a program meets no value of the wrong kind and no name without meaning
+abbrev pub SourcesAreNeverStuck : Type 0
+SourcesAreNeverStuck =
+    (text : List ℕ) (names : List (List ℕ)) (tokens : List Spanned) (program : Exp) → IsSourceOf text names tokens program →
+    (input : List ℕ) (heap stack fuel : ℕ) → (evaluate names program input heap stack fuel).end ≢ stuck

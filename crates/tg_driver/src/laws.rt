@@ -4,7 +4,7 @@ ghost use Rattle.tg_command.specs.Commands.{Asked};
 ghost use Rattle.tg_driver.specs.declared.answers.Answer.{Answer as Answers};
 ghost use Rattle.tg_driver.specs.declared.answers.Answer.TheVariants.{OutOfMemory};
 ghost use Rattle.tg_driver.specs.Causes.{HasRun, IsDueOfText, IsEnded, Untouched};
-ghost use Rattle.tg_driver.specs.Meanings.{MeansItsValue};
+ghost use Rattle.tg_driver.specs.Meanings.{MeansItsValue, SourcesAreNeverStuck};
 
 use tg_base::{Sink, Source};
 
@@ -23,4 +23,10 @@ pub fn one_answer<I: Source, O: Sink>()
 /// The law that a program of the built form means what its value says: evaluation ends by it, and does nothing else.
 pub fn meaning_of_built()
     ensures { MeansItsValue }
+{}
+
+/// The law that the evaluation of an accepted source is never stuck: it meets no value of the wrong kind and no name
+/// without meaning. It does nothing.
+pub fn sources_are_never_stuck()
+    ensures { SourcesAreNeverStuck }
 {}

@@ -16,7 +16,7 @@ mod telling;
 mod top;
 
 pub use answers::usage;
-pub use laws::{meaning_of_built, one_answer};
+pub use laws::{meaning_of_built, one_answer, sources_are_never_stuck};
 pub use top::tiger;
 
 #[cfg(test)]
