@@ -1,0 +1,5 @@
+pub mod Operands
+pub mod Shapes
+pub mod Uses
+pub mod Codes
+pub mod Lengths

@@ -1,0 +1,94 @@
+-- What an instruction does, in a few shapes: every law of instructions has a case a shape and not a case an instruction.
+use Rattle.std.specs.Prelude.{ℕ, ◌+◌, ◌*◌, ◌==◌, if◌then◌else◌, Bool, nat_lt, Option, Some, None, bit_and, bit_or, bit_xor}
+use Rattle.tg_base.specs.Words.{add, sub, less, quot, rem, exact_sum, exact_difference, product_high, product_low, extended, extended_byte, shift_left, shift_right, shift_signed, neither, flag}
+use Rattle.tg_runs.specs.Ran.{Wrong}
+use Rattle.tg_tree.specs.declared.operators.Rel.{Rel}
+use Rattle.tg_tree.specs.Memory.{Memory, load, load_byte, store, store_byte}
+use Rattle.tg_tree.specs.Operators.{Given, word, stops_by, exactly}
+use Rattle.tg_instr.specs.declared.operands.Opnd.{Opnd}
+use Rattle.tg_instr.specs.declared.instr.Instr.{Instr}
+use Rattle.tg_instr.specs.declared.instr.Instr.TheVariants.{Sll, Srl, Sra, Mfhi, Mflo, Mult, Div, Add, Sub, Addu, Subu, And, Or, Xor, Nor, Slt, Sltu, Addi, Addiu, Slti, Sltiu, Andi, Ori, Xori, Lui, Lb, Lbu, Lw, Sb, Sw, Move, FrameLoad, FrameStore, FrameAddress, Address, Mark, Jump, Branch, Call, Service, Fault, Return}
+
+-- what holds a value in an activation: an operand, or one of the two halves of a product
+pub data Holder : Type 0 where
+  Operand : Opnd → Holder
+  Hi Lo : Holder
+
+pub data Shape : Type 0 where
+  -- `to` gets a word; a word of one or of two words
+  From0 : (to : Opnd) → ℕ → Shape
+  From1 : (to : Opnd) → (from : Holder) → (ℕ → Given) → Shape
+  From2 : (to left right : Opnd) → (ℕ → ℕ → Given) → Shape
+  -- hi and lo get words of two words
+  Halves : (left right : Opnd) → (low high : ℕ → ℕ → Given) → Shape
+  -- `to` gets whatever `from` holds
+  Copy : (to from : Opnd) → Shape
+  -- memory at so many bytes behind `base`
+  Loads : (to base : Opnd) → (bytes : ℕ) → (Memory → ℕ → Option ℕ) → Shape
+  Stores : (from base : Opnd) → (bytes : ℕ) → (Memory → ℕ → ℕ → Option Memory) → Shape
+  -- a slot of the frame, the frame address, and the address of a literal
+  FromSlot : (to : Opnd) → (slot : ℕ) → Shape
+  ToSlot : (from : Opnd) → (slot : ℕ) → Shape
+  Base : (to : Opnd) → Shape
+  AddressOf : (to : Opnd) → (label : ℕ) → Shape
+  -- a mark, and what leads elsewhere
+  Here : (mark : ℕ) → Shape
+  Goes : (mark : ℕ) → Shape
+  Tests : Rel → (left right : Opnd) → (mark : ℕ) → Shape
+  Calls : (label : ℕ) → Shape
+  Asks : Shape
+  Fails : (code : ℕ) → Shape
+  Returns : Shape
+
+-- a word that goes wrong where the divisor is 0
+abbrev pub unless_zero : (ℕ → ℕ → ℕ) → ℕ → ℕ → Given
+unless_zero f a b = if b == 0 then stops_by Wrong else word (f a b)
+
+-- a byte that is loaded with its sign
+abbrev pub with_sign : Option ℕ → Option ℕ
+with_sign (Some b) = Some (extended_byte b)
+with_sign None = None
+
+abbrev pub shape : Instr → Shape
+shape (Sll rd rt n) = From1 rd (Operand rt) (λ a. word (shift_left a n))
+shape (Srl rd rt n) = From1 rd (Operand rt) (λ a. word (shift_right a n))
+shape (Sra rd rt n) = From1 rd (Operand rt) (λ a. word (shift_signed a n))
+shape (Mfhi rd) = From1 rd Hi (λ a. word a)
+shape (Mflo rd) = From1 rd Lo (λ a. word a)
+shape (Mult rs rt) = Halves rs rt (λ a b. word (product_low a b)) (λ a b. word (product_high a b))
+shape (Div rs rt) = Halves rs rt (unless_zero quot) (unless_zero rem)
+shape (Add rd rs rt) = From2 rd rs rt (λ a b. exactly (exact_sum a b))
+shape (Sub rd rs rt) = From2 rd rs rt (λ a b. exactly (exact_difference a b))
+shape (Addu rd rs rt) = From2 rd rs rt (λ a b. word (add a b))
+shape (Subu rd rs rt) = From2 rd rs rt (λ a b. word (sub a b))
+shape (And rd rs rt) = From2 rd rs rt (λ a b. word (bit_and a b))
+shape (Or rd rs rt) = From2 rd rs rt (λ a b. word (bit_or a b))
+shape (Xor rd rs rt) = From2 rd rs rt (λ a b. word (bit_xor a b))
+shape (Nor rd rs rt) = From2 rd rs rt (λ a b. word (neither a b))
+shape (Slt rd rs rt) = From2 rd rs rt (λ a b. word (flag (less a b)))
+shape (Sltu rd rs rt) = From2 rd rs rt (λ a b. word (flag (nat_lt a b)))
+shape (Addi rt rs n) = From1 rt (Operand rs) (λ a. exactly (exact_sum a (extended n)))
+shape (Addiu rt rs n) = From1 rt (Operand rs) (λ a. word (add a (extended n)))
+shape (Slti rt rs n) = From1 rt (Operand rs) (λ a. word (flag (less a (extended n))))
+shape (Sltiu rt rs n) = From1 rt (Operand rs) (λ a. word (flag (nat_lt a (extended n))))
+shape (Andi rt rs n) = From1 rt (Operand rs) (λ a. word (bit_and a n))
+shape (Ori rt rs n) = From1 rt (Operand rs) (λ a. word (bit_or a n))
+shape (Xori rt rs n) = From1 rt (Operand rs) (λ a. word (bit_xor a n))
+shape (Lui rt n) = From0 rt (n * 65536)
+shape (Lb rt n rs) = Loads rt rs (extended n) (λ m a. with_sign (load_byte m a))
+shape (Lbu rt n rs) = Loads rt rs (extended n) load_byte
+shape (Lw rt n rs) = Loads rt rs (extended n) load
+shape (Sb rt n rs) = Stores rt rs (extended n) store_byte
+shape (Sw rt n rs) = Stores rt rs (extended n) store
+shape (Move to from) = Copy to from
+shape (FrameLoad to k) = FromSlot to k
+shape (FrameStore from k) = ToSlot from k
+shape (FrameAddress to) = Base to
+shape (Address to label) = AddressOf to label.0
+shape (Mark m) = Here m
+shape (Jump m) = Goes m
+shape (Branch test m) = Tests test.rel test.left test.right m
+shape (Call label) = Calls label.0
+shape Service = Asks
+shape (Fault n) = Fails n
+shape Return = Returns
