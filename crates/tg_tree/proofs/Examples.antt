@@ -9,6 +9,7 @@ use Rattle.tg_runs.specs.Ran.{Ran, Stop, Ended, WantsFuel, Wrong}
 use Rattle.tg_tree.specs.declared.operators.Bin.TheVariants.{Add, Sub, Mul, Div, And, Or, Xor, ShiftLeft, ShiftRight, ShiftSigned, AddTrap, SubTrap, MulHigh}
 use Rattle.tg_tree.specs.declared.operators.Rel.TheVariants.{Equal, NotEqual, Less, LessEqual, Greater, GreaterEqual, Below, NotBelow}
 use Rattle.tg_tree.specs.Tree.{Tx, Const, Address, Temp, FrameAddress, Binary, Load, LoadByte, Call, Service, After, Txs, no_txs, tx, Compare, Both, Not, Ts, Move, Store, StoreByte, Do, If, Loop, Break, Fault, Seq, Return, Stms, no_stms, stm, Function, Literal, Linear, Mark, Do', Jump, Branch, Fault', Return'}
+use Rattle.tg_tree.specs.Units.{Trees}
 use Rattle.tg_tree.specs.Operators.{word, stops_by, operate, holds}
 use Rattle.tg_tree.specs.Running.{tree_run}
 use Rattle.tg_tree.specs.Flat.{flat_run}
@@ -43,7 +44,7 @@ seen p = (p.output, p.stop)
 
 abbrev does_in : (size : ℕ) → List (Function Ts) → List Literal → ℕ → List ℕ × Stop
 does_in size functions literals fuel =
-    seen (tree_run (record { functions = functions; literals = literals }) (λ label. size) (stack_top - 256) 8 32 (codes "xy") fuel)
+    seen (tree_run Trees (record { functions = functions; literals = literals }) (λ label. size) (stack_top - 256) 8 32 (codes "xy") fuel)
 
 abbrev does : List (Function Ts) → List Literal → ℕ → List ℕ × Stop
 does functions literals fuel = does_in 64 functions literals fuel

@@ -9,7 +9,7 @@ use Rattle.tg_runs.proofs.Fixpoint.{again_is}
 use Rattle.tg_tree.specs.Tree.{Linear, Mark, Do', Jump, Branch, Fault', Return', Code}
 use Rattle.tg_tree.specs.Operators.{holds}
 use Rattle.tg_tree.specs.Memory.{begin}
-use Rattle.tg_tree.specs.Units.{statement_units}
+use Rattle.tg_tree.specs.Units.{Canonical, element_units}
 use Rattle.tg_tree.specs.Meaning.{World, Temps, Activation, Back, Point, wrong}
 use Rattle.tg_tree.specs.Running.{function_of}
 use Rattle.tg_tree.specs.Flat.{behind, FlatPoint, enter_flat, jump_to, run_flat, flat_step, flat_going, flat_run}
@@ -45,17 +45,17 @@ module _ (R : Related) (W : RelatedWorlds) (T : RelatedTemps) where
 
         keep_flat : (rest : List Linear) (w x : World) (t u : Temps) → W w x → T t u → R n w (run_flat code size floor room c whole a b rest w t) (run_flat code size floor room d whole a b' rest x u)
         keep_flat [] w x t u r s = keeps.stop n Wrong w x r
-        keep_flat (Mark m ∷ rest) w x t u r s = keeps.work n statement_units w _ _ (keep_flat rest w x t u r s)
+        keep_flat (Mark m ∷ rest) w x t u r s = keeps.work n (element_units (Mark m)) w _ _ (keep_flat rest w x t u r s)
         keep_flat (Do' c' ∷ rest) w x t u r s =
-            keep_run R W T keeps n room code.literals _ _ _ _ keep_enter_flat no_loop c' a _ _ b b' _ _ (λ k w1 x1 t1 u1 r1 s1. keeps.stop n Wrong w1 x1 r1) hb (λ w1 x1 t1 u1 r1 s1. keep_flat rest w1 x1 t1 u1 r1 s1) w x t u r s
-        keep_flat (Jump m ∷ rest) w x t u r s = keeps.work n statement_units w _ _ (keep_jump (behind m whole) w x t u r s)
+            keep_run R W T keeps n Canonical room code.literals _ _ _ _ keep_enter_flat no_loop c' a _ _ b b' _ _ (λ k w1 x1 t1 u1 r1 s1. keeps.stop n Wrong w1 x1 r1) hb (λ w1 x1 t1 u1 r1 s1. keep_flat rest w1 x1 t1 u1 r1 s1) w x t u r s
+        keep_flat (Jump m ∷ rest) w x t u r s = keeps.work n (element_units (Jump m)) w _ _ (keep_jump (behind m whole) w x t u r s)
         keep_flat (Branch rel e f m ∷ rest) w x t u r s =
-            keeps.work n statement_units w _ _ (keep_value R W T keeps n room code.literals _ _ _ _ keep_enter_flat no_loop e a _ _ b b' _ _ (λ k w1 x1 t1 u1 r1 s1. keeps.stop n Wrong w1 x1 r1) hb (λ p w1 x1 t1 u1 r1 s1.
-            keep_value R W T keeps n room code.literals _ _ _ _ keep_enter_flat no_loop f a _ _ b b' _ _ (λ k w2 x2 t2 u2 r2 s2. keeps.stop n Wrong w2 x2 r2) hb (λ q w2 x2 t2 u2 r2 s2.
+            keeps.work n (element_units (Branch rel e f m)) w _ _ (keep_value R W T keeps n Canonical room code.literals _ _ _ _ keep_enter_flat no_loop e a _ _ b b' _ _ (λ k w1 x1 t1 u1 r1 s1. keeps.stop n Wrong w1 x1 r1) hb (λ p w1 x1 t1 u1 r1 s1.
+            keep_value R W T keeps n Canonical room code.literals _ _ _ _ keep_enter_flat no_loop f a _ _ b b' _ _ (λ k w2 x2 t2 u2 r2 s2. keeps.stop n Wrong w2 x2 r2) hb (λ q w2 x2 t2 u2 r2 s2.
             keep_if R W T keeps n (holds rel p q) w2 _ _ _ _ (keep_jump (behind m whole) w2 x2 t2 u2 r2 s2) (keep_flat rest w2 x2 t2 u2 r2 s2)) w1 x1 t1 u1 r1 s1) w x t u r s)
-        keep_flat (Fault' k ∷ rest) w x t u r s = keeps.work n statement_units w _ _ (keeps.stop n (Ended (Break k)) w x r)
+        keep_flat (Fault' k ∷ rest) w x t u r s = keeps.work n (element_units (Fault' k)) w _ _ (keeps.stop n (Ended (Break k)) w x r)
         keep_flat (Return' e ∷ rest) w x t u r s =
-            keeps.work n statement_units w _ _ (keep_value R W T keeps n room code.literals _ _ _ _ keep_enter_flat no_loop e a _ _ b b' _ _ (λ k w1 x1 t1 u1 r1 s1. keeps.stop n Wrong w1 x1 r1) hb (λ v w1 x1 t1 u1 r1 s1. hb v w1 x1 r1) w x t u r s)
+            keeps.work n (element_units (Return' e)) w _ _ (keep_value R W T keeps n Canonical room code.literals _ _ _ _ keep_enter_flat no_loop e a _ _ b b' _ _ (λ k w1 x1 t1 u1 r1 s1. keeps.stop n Wrong w1 x1 r1) hb (λ v w1 x1 t1 u1 r1 s1. hb v w1 x1 r1) w x t u r s)
 
       pub keep_flat_step : (x y : FlatPoint) → AlikeFlat n x y → R n x.world (flat_step code size floor room c x) (flat_step code size floor room d y)
       keep_flat_step x y (alike_flat whole rest a b b' w z t u h r s) = keep_flat whole a b b' h rest w z t u r s

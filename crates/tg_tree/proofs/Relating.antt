@@ -1,6 +1,6 @@
 -- What holds of what comes next holds of the run: one induction over trees, for any relation of two runs, of two worlds and of two
 -- activations' temporaries that the steps keep.
-use Rattle.std.proofs.Common.{◌≡◌, ℕ, zero, suc, ◌+◌, ◌-◌, ◌^◌, ◌%◌, ◌<◌, ◌≤◌, List, [], ◌∷◌, ◌++◌, Bool, true, false, Option, Some, None, refl, arith}
+use Rattle.std.proofs.Common.{◌≡◌, ℕ, zero, suc, ◌+◌, ◌-◌, ◌^◌, ◌%◌, ◌<◌, ◌≤◌, List, [], ◌∷◌, ◌++◌, length, Bool, true, false, Option, Some, None, refl, arith}
 use Rattle.std.specs.Prelude.{◌==◌, nat_lt, pos, if◌then◌else◌}
 use Rattle.std.specs.Fmt.{signed_decimal}
 use Rattle.tg_base.specs.declared.ends.RunEnd.TheVariants.{Exit, Break as Broken, StackFull, BadService}
@@ -14,7 +14,7 @@ use Rattle.tg_tree.specs.Tree.{Tx, Const, Address, Temp, FrameAddress, Binary, L
 use Rattle.tg_tree.specs.Operators.{Given, word, stops_by, operate, holds}
 use Rattle.tg_tree.specs.Memory.{Cell, Unset, Closed, Has, put, slot, lay, load, load_byte, store, store_byte, literal_address}
 use Rattle.tg_tree.specs.Meaning.{World, Temps, set_temp, Activation, Go, GoAll, Next, Out, Back, Point, over, charged, written, with_word, with_given, with_memory, leaving, with_text, text_from, take_heap, read_byte, service, value, values, test, run, run_all}
-use Rattle.tg_tree.specs.Units.{expression_units, condition_units, statement_units, call_units}
+use Rattle.tg_tree.specs.Units.{Stage, expression_units, argument_units, condition_units, statement_units, entry_units}
 use Rattle.tg_tree.specs.Running.{with_fuel, placed, entered, with_slots, without_slots, no_temps}
 
 -- two runs, as far as so much fuel, from a world of the first
@@ -131,61 +131,61 @@ module _ (R : Related) (W : RelatedWorlds) (T : RelatedTemps) where
           keep_if (nat_lt top (floor + size f.label)) w _ _ _ _ (keeps.stop n (Ended StackFull) w w' r)
           (keeps.later n w (with_slots f top w) _ _ ([], refl) (keep_placed top f.params vs (with_slots f top w) (with_slots f top w') no_temps no_temps _ _ (laid top f.slots Unset w w' r) keeps.none (λ w1 v1 t1 u1 r1 s1. keeps.fuel n w1 v1 _ _ r1 (λ m lt. later m lt f.body _ _ _ w1 v1 t1 u1 r1 s1 (λ v w2 v2 r2. keeps.down m n w2 _ _ (omega arith) (keeps.later n w2 (without_slots f top w2) _ _ ([], refl) (h v (without_slots f top w2) (without_slots f top v2) (laid top f.slots Closed w2 v2 r2))))))))
 
-      module _ (room : ℕ) (literals : List Literal) (enter enter' : ℕ → List ℕ → ℕ → Back → World → Run Ran) (later later' : Point → Run Ran) (enters : (label : ℕ) (vs : List ℕ) (top : ℕ) (back back' : Back) (w w' : World) → W w w' → AlikeBack n back back' → R n w (enter label vs top back w) (enter' label vs top back' w')) (goes_on : (x y : Point) → Alike n x y → R n x.world (later x) (later' y)) where
+      module _ (stage : Stage) (room : ℕ) (literals : List Literal) (enter enter' : ℕ → List ℕ → ℕ → Back → World → Run Ran) (later later' : Point → Run Ran) (enters : (label : ℕ) (vs : List ℕ) (top : ℕ) (back back' : Back) (w w' : World) → W w w' → AlikeBack n back back' → R n w (enter label vs top back w) (enter' label vs top back' w')) (goes_on : (x y : Point) → Alike n x y → R n x.world (later x) (later' y)) where
         mutual
-          pub keep_value : (e : Tx) (a : Activation) (o o' : Out) (b b' : Back) (g g' : Go) → AlikeGo n o o' → AlikeBack n b b' → AlikeGo n g g' → (w x : World) (t u : Temps) → W w x → T t u → R n w (value room literals enter later e a o b g w t) (value room literals enter' later' e a o' b' g' x u)
-          keep_value (Const v) a o o' b b' g g' ho hb hg w x t u r s = keeps.work n expression_units w _ _ (hg v w x t u r s)
+          pub keep_value : (e : Tx) (a : Activation) (o o' : Out) (b b' : Back) (g g' : Go) → AlikeGo n o o' → AlikeBack n b b' → AlikeGo n g g' → (w x : World) (t u : Temps) → W w x → T t u → R n w (value stage room literals enter later e a o b g w t) (value stage room literals enter' later' e a o' b' g' x u)
+          keep_value (Const v) a o o' b b' g g' ho hb hg w x t u r s = keeps.work n (expression_units stage (Const v)) w _ _ (hg v w x t u r s)
           keep_value (Address label) a o o' b b' g g' ho hb hg w x t u r s =
-              keeps.work n expression_units w _ _ (keep_word (literal_address literals label) w x _ _ r (λ v. hg v w x t u r s))
-          keep_value (Temp i) a o o' b b' g g' ho hb hg w x t u r s = keeps.work n expression_units w _ _ (keeps.temp n i w x t u _ _ r s (λ v. hg v w x t u r s))
-          keep_value FrameAddress a o o' b b' g g' ho hb hg w x t u r s = keeps.work n expression_units w _ _ (hg a.base w x t u r s)
+              keeps.work n (expression_units stage (Address label)) w _ _ (keep_word (literal_address literals label) w x _ _ r (λ v. hg v w x t u r s))
+          keep_value (Temp i) a o o' b b' g g' ho hb hg w x t u r s = keeps.work n (expression_units stage (Temp i)) w _ _ (keeps.temp n i w x t u _ _ r s (λ v. hg v w x t u r s))
+          keep_value FrameAddress a o o' b b' g g' ho hb hg w x t u r s = keeps.work n (expression_units stage FrameAddress) w _ _ (hg a.base w x t u r s)
           keep_value (Binary op e f) a o o' b b' g g' ho hb hg w x t u r s =
-              keeps.work n expression_units w _ _ (keep_value e a o o' b b' _ _ ho hb (λ p w1 x1 t1 u1 r1 s1. keep_value f a o o' b b' _ _ ho hb (λ q w2 x2 t2 u2 r2 s2. keep_given (operate op p q) w2 x2 _ _ r2 (λ v. hg v w2 x2 t2 u2 r2 s2)) w1 x1 t1 u1 r1 s1) w x t u r s)
+              keeps.work n (expression_units stage (Binary op e f)) w _ _ (keep_value e a o o' b b' _ _ ho hb (λ p w1 x1 t1 u1 r1 s1. keep_value f a o o' b b' _ _ ho hb (λ q w2 x2 t2 u2 r2 s2. keep_given (operate op p q) w2 x2 _ _ r2 (λ v. hg v w2 x2 t2 u2 r2 s2)) w1 x1 t1 u1 r1 s1) w x t u r s)
           keep_value (Load e) a o o' b b' g g' ho hb hg w x t u r s =
-              keeps.work n expression_units w _ _ (keep_value e a o o' b b' _ _ ho hb (λ p w1 x1 t1 u1 r1 s1. keeps.loads n p w1 x1 _ _ r1 (λ v. hg v w1 x1 t1 u1 r1 s1)) w x t u r s)
+              keeps.work n (expression_units stage (Load e)) w _ _ (keep_value e a o o' b b' _ _ ho hb (λ p w1 x1 t1 u1 r1 s1. keeps.loads n p w1 x1 _ _ r1 (λ v. hg v w1 x1 t1 u1 r1 s1)) w x t u r s)
           keep_value (LoadByte e) a o o' b b' g g' ho hb hg w x t u r s =
-              keeps.work n expression_units w _ _ (keep_value e a o o' b b' _ _ ho hb (λ p w1 x1 t1 u1 r1 s1. keeps.load_bytes n p w1 x1 _ _ r1 (λ v. hg v w1 x1 t1 u1 r1 s1)) w x t u r s)
+              keeps.work n (expression_units stage (LoadByte e)) w _ _ (keep_value e a o o' b b' _ _ ho hb (λ p w1 x1 t1 u1 r1 s1. keeps.load_bytes n p w1 x1 _ _ r1 (λ v. hg v w1 x1 t1 u1 r1 s1)) w x t u r s)
           keep_value (Call label es) a o o' b b' g g' ho hb hg w x t u r s =
-              keeps.work n expression_units w _ _ (keep_values es a o o' b b' _ _ ho hb (λ vs w1 x1 t1 u1 r1 s1. keeps.work n call_units w1 _ _ (enters label vs (a.base - a.size) _ _ w1 x1 r1 (λ v w2 x2 r2. hg v w2 x2 t1 u1 r2 s1))) w x t u r s)
+              keeps.work n (expression_units stage (Call label es)) w _ _ (keep_values es a o o' b b' _ _ ho hb (λ vs w1 x1 t1 u1 r1 s1. keeps.work n (entry_units (length vs)) w1 _ _ (enters label vs (a.base - a.size) _ _ w1 x1 r1 (λ v w2 x2 r2. hg v w2 x2 t1 u1 r2 s1))) w x t u r s)
           keep_value (Service k e) a o o' b b' g g' ho hb hg w x t u r s =
-              keeps.work n expression_units w _ _ (keep_value e a o o' b b' _ _ ho hb (λ p w1 x1 t1 u1 r1 s1. keep_service room k p w1 x1 _ _ r1 (λ v w2 x2 r2. hg v w2 x2 t1 u1 r2 s1)) w x t u r s)
+              keeps.work n (expression_units stage (Service k e)) w _ _ (keep_value e a o o' b b' _ _ ho hb (λ p w1 x1 t1 u1 r1 s1. keep_service room k p w1 x1 _ _ r1 (λ v w2 x2 r2. hg v w2 x2 t1 u1 r2 s1)) w x t u r s)
           keep_value (After c e) a o o' b b' g g' ho hb hg w x t u r s =
-              keeps.work n expression_units w _ _ (keep_run c a o o' b b' _ _ ho hb (λ w1 x1 t1 u1 r1 s1. keep_value e a o o' b b' g g' ho hb hg w1 x1 t1 u1 r1 s1) w x t u r s)
+              keeps.work n (expression_units stage (After c e)) w _ _ (keep_run c a o o' b b' _ _ ho hb (λ w1 x1 t1 u1 r1 s1. keep_value e a o o' b b' g g' ho hb hg w1 x1 t1 u1 r1 s1) w x t u r s)
 
-          pub keep_values : (es : Txs) (a : Activation) (o o' : Out) (b b' : Back) (g g' : GoAll) → AlikeGo n o o' → AlikeBack n b b' → AlikeAll n g g' → (w x : World) (t u : Temps) → W w x → T t u → R n w (values room literals enter later es a o b g w t) (values room literals enter' later' es a o' b' g' x u)
+          pub keep_values : (es : Txs) (a : Activation) (o o' : Out) (b b' : Back) (g g' : GoAll) → AlikeGo n o o' → AlikeBack n b b' → AlikeAll n g g' → (w x : World) (t u : Temps) → W w x → T t u → R n w (values stage room literals enter later es a o b g w t) (values stage room literals enter' later' es a o' b' g' x u)
           keep_values no_txs a o o' b b' g g' ho hb hg w x t u r s = hg [] w x t u r s
           keep_values (tx e es) a o o' b b' g g' ho hb hg w x t u r s =
-              keep_value e a o o' b b' _ _ ho hb (λ v w1 x1 t1 u1 r1 s1. keep_values es a o o' b b' _ _ ho hb (λ vs w2 x2 t2 u2 r2 s2. hg (v ∷ vs) w2 x2 t2 u2 r2 s2) w1 x1 t1 u1 r1 s1) w x t u r s
+              keeps.work n (argument_units stage es) w _ _ (keep_value e a o o' b b' _ _ ho hb (λ v w1 x1 t1 u1 r1 s1. keep_values es a o o' b b' _ _ ho hb (λ vs w2 x2 t2 u2 r2 s2. hg (v ∷ vs) w2 x2 t2 u2 r2 s2) w1 x1 t1 u1 r1 s1) w x t u r s)
 
-          pub keep_test : (c : Cond) (a : Activation) (o o' : Out) (b b' : Back) (y y' z z' : Next) → AlikeGo n o o' → AlikeBack n b b' → AlikeNext n y y' → AlikeNext n z z' → (w x : World) (t u : Temps) → W w x → T t u → R n w (test room literals enter later c a o b y z w t) (test room literals enter' later' c a o' b' y' z' x u)
+          pub keep_test : (c : Cond) (a : Activation) (o o' : Out) (b b' : Back) (y y' z z' : Next) → AlikeGo n o o' → AlikeBack n b b' → AlikeNext n y y' → AlikeNext n z z' → (w x : World) (t u : Temps) → W w x → T t u → R n w (test stage room literals enter later c a o b y z w t) (test stage room literals enter' later' c a o' b' y' z' x u)
           keep_test (Compare rel e f) a o o' b b' y y' z z' ho hb hy hz w x t u r s =
-              keeps.work n condition_units w _ _ (keep_value e a o o' b b' _ _ ho hb (λ p w1 x1 t1 u1 r1 s1. keep_value f a o o' b b' _ _ ho hb (λ q w2 x2 t2 u2 r2 s2. keep_if (holds rel p q) w2 _ _ _ _ (hy w2 x2 t2 u2 r2 s2) (hz w2 x2 t2 u2 r2 s2)) w1 x1 t1 u1 r1 s1) w x t u r s)
-          keep_test (Not c) a o o' b b' y y' z z' ho hb hy hz w x t u r s = keeps.work n condition_units w _ _ (keep_test c a o o' b b' z z' y y' ho hb hz hy w x t u r s)
+              keeps.work n (condition_units stage (Compare rel e f)) w _ _ (keep_value e a o o' b b' _ _ ho hb (λ p w1 x1 t1 u1 r1 s1. keep_value f a o o' b b' _ _ ho hb (λ q w2 x2 t2 u2 r2 s2. keep_if (holds rel p q) w2 _ _ _ _ (hy w2 x2 t2 u2 r2 s2) (hz w2 x2 t2 u2 r2 s2)) w1 x1 t1 u1 r1 s1) w x t u r s)
+          keep_test (Not c) a o o' b b' y y' z z' ho hb hy hz w x t u r s = keeps.work n (condition_units stage (Not c)) w _ _ (keep_test c a o o' b b' z z' y y' ho hb hz hy w x t u r s)
           keep_test (Both c d) a o o' b b' y y' z z' ho hb hy hz w x t u r s =
-              keeps.work n condition_units w _ _ (keep_test c a o o' b b' _ _ z z' ho hb (λ w1 x1 t1 u1 r1 s1. keep_test d a o o' b b' y y' z z' ho hb hy hz w1 x1 t1 u1 r1 s1) hz w x t u r s)
+              keeps.work n (condition_units stage (Both c d)) w _ _ (keep_test c a o o' b b' _ _ z z' ho hb (λ w1 x1 t1 u1 r1 s1. keep_test d a o o' b b' y y' z z' ho hb hy hz w1 x1 t1 u1 r1 s1) hz w x t u r s)
           keep_test (Either c d) a o o' b b' y y' z z' ho hb hy hz w x t u r s =
-              keeps.work n condition_units w _ _ (keep_test c a o o' b b' y y' _ _ ho hb hy (λ w1 x1 t1 u1 r1 s1. keep_test d a o o' b b' y y' z z' ho hb hy hz w1 x1 t1 u1 r1 s1) w x t u r s)
+              keeps.work n (condition_units stage (Either c d)) w _ _ (keep_test c a o o' b b' y y' _ _ ho hb hy (λ w1 x1 t1 u1 r1 s1. keep_test d a o o' b b' y y' z z' ho hb hy hz w1 x1 t1 u1 r1 s1) w x t u r s)
 
-          pub keep_run : (c : Ts) (a : Activation) (o o' : Out) (b b' : Back) (g g' : Next) → AlikeGo n o o' → AlikeBack n b b' → AlikeNext n g g' → (w x : World) (t u : Temps) → W w x → T t u → R n w (run room literals enter later c a o b g w t) (run room literals enter' later' c a o' b' g' x u)
+          pub keep_run : (c : Ts) (a : Activation) (o o' : Out) (b b' : Back) (g g' : Next) → AlikeGo n o o' → AlikeBack n b b' → AlikeNext n g g' → (w x : World) (t u : Temps) → W w x → T t u → R n w (run stage room literals enter later c a o b g w t) (run stage room literals enter' later' c a o' b' g' x u)
           keep_run (Move i e) a o o' b b' g g' ho hb hg w x t u r s =
-              keeps.work n statement_units w _ _ (keep_value e a o o' b b' _ _ ho hb (λ v w1 x1 t1 u1 r1 s1. hg w1 x1 _ _ r1 (keeps.sets i v t1 u1 s1)) w x t u r s)
+              keeps.work n (statement_units stage (Move i e)) w _ _ (keep_value e a o o' b b' _ _ ho hb (λ v w1 x1 t1 u1 r1 s1. hg w1 x1 _ _ r1 (keeps.sets i v t1 u1 s1)) w x t u r s)
           keep_run (Store e f) a o o' b b' g g' ho hb hg w x t u r s =
-              keeps.work n statement_units w _ _ (keep_value e a o o' b b' _ _ ho hb (λ p w1 x1 t1 u1 r1 s1. keep_value f a o o' b b' _ _ ho hb (λ q w2 x2 t2 u2 r2 s2. keeps.stores n p q w2 x2 _ _ r2 (λ w3 x3 r3. hg w3 x3 t2 u2 r3 s2)) w1 x1 t1 u1 r1 s1) w x t u r s)
+              keeps.work n (statement_units stage (Store e f)) w _ _ (keep_value e a o o' b b' _ _ ho hb (λ p w1 x1 t1 u1 r1 s1. keep_value f a o o' b b' _ _ ho hb (λ q w2 x2 t2 u2 r2 s2. keeps.stores n p q w2 x2 _ _ r2 (λ w3 x3 r3. hg w3 x3 t2 u2 r3 s2)) w1 x1 t1 u1 r1 s1) w x t u r s)
           keep_run (StoreByte e f) a o o' b b' g g' ho hb hg w x t u r s =
-              keeps.work n statement_units w _ _ (keep_value e a o o' b b' _ _ ho hb (λ p w1 x1 t1 u1 r1 s1. keep_value f a o o' b b' _ _ ho hb (λ q w2 x2 t2 u2 r2 s2. keeps.store_bytes n p q w2 x2 _ _ r2 (λ w3 x3 r3. hg w3 x3 t2 u2 r3 s2)) w1 x1 t1 u1 r1 s1) w x t u r s)
+              keeps.work n (statement_units stage (StoreByte e f)) w _ _ (keep_value e a o o' b b' _ _ ho hb (λ p w1 x1 t1 u1 r1 s1. keep_value f a o o' b b' _ _ ho hb (λ q w2 x2 t2 u2 r2 s2. keeps.store_bytes n p q w2 x2 _ _ r2 (λ w3 x3 r3. hg w3 x3 t2 u2 r3 s2)) w1 x1 t1 u1 r1 s1) w x t u r s)
           keep_run (Do e) a o o' b b' g g' ho hb hg w x t u r s =
-              keeps.work n statement_units w _ _ (keep_value e a o o' b b' _ _ ho hb (λ v w1 x1 t1 u1 r1 s1. hg w1 x1 t1 u1 r1 s1) w x t u r s)
+              keeps.work n (statement_units stage (Do e)) w _ _ (keep_value e a o o' b b' _ _ ho hb (λ v w1 x1 t1 u1 r1 s1. hg w1 x1 t1 u1 r1 s1) w x t u r s)
           keep_run (If c d e) a o o' b b' g g' ho hb hg w x t u r s =
-              keeps.work n statement_units w _ _ (keep_test c a o o' b b' _ _ _ _ ho hb (λ w1 x1 t1 u1 r1 s1. keep_run d a o o' b b' g g' ho hb hg w1 x1 t1 u1 r1 s1) (λ w1 x1 t1 u1 r1 s1. keep_run e a o o' b b' g g' ho hb hg w1 x1 t1 u1 r1 s1) w x t u r s)
+              keeps.work n (statement_units stage (If c d e)) w _ _ (keep_test c a o o' b b' _ _ _ _ ho hb (λ w1 x1 t1 u1 r1 s1. keep_run d a o o' b b' g g' ho hb hg w1 x1 t1 u1 r1 s1) (λ w1 x1 t1 u1 r1 s1. keep_run e a o o' b b' g g' ho hb hg w1 x1 t1 u1 r1 s1) w x t u r s)
           keep_run (Loop c) a o o' b b' g g' ho hb hg w x t u r s =
-              keeps.work n statement_units w _ _ (keep_run c a _ _ b b' _ _ (keep_leaving g g' o o' hg ho) hb (λ w1 x1 t1 u1 r1 s1. goes_on _ _ (alike (Loop c) a o o' b b' g g' w1 x1 t1 u1 ho hb hg r1 s1)) w x t u r s)
-          keep_run (Break k) a o o' b b' g g' ho hb hg w x t u r s = keeps.work n statement_units w _ _ (ho k w x t u r s)
-          keep_run (Fault k) a o o' b b' g g' ho hb hg w x t u r s = keeps.work n statement_units w _ _ (keeps.stop n (Ended (Broken k)) w x r)
-          keep_run (Seq cs) a o o' b b' g g' ho hb hg w x t u r s = keeps.work n statement_units w _ _ (keep_all cs a o o' b b' g g' ho hb hg w x t u r s)
+              keeps.work n (statement_units stage (Loop c)) w _ _ (keep_run c a _ _ b b' _ _ (keep_leaving g g' o o' hg ho) hb (λ w1 x1 t1 u1 r1 s1. goes_on _ _ (alike (Loop c) a o o' b b' g g' w1 x1 t1 u1 ho hb hg r1 s1)) w x t u r s)
+          keep_run (Break k) a o o' b b' g g' ho hb hg w x t u r s = keeps.work n (statement_units stage (Break k)) w _ _ (ho k w x t u r s)
+          keep_run (Fault k) a o o' b b' g g' ho hb hg w x t u r s = keeps.work n (statement_units stage (Fault k)) w _ _ (keeps.stop n (Ended (Broken k)) w x r)
+          keep_run (Seq cs) a o o' b b' g g' ho hb hg w x t u r s = keeps.work n (statement_units stage (Seq cs)) w _ _ (keep_all cs a o o' b b' g g' ho hb hg w x t u r s)
           keep_run (Return e) a o o' b b' g g' ho hb hg w x t u r s =
-              keeps.work n statement_units w _ _ (keep_value e a o o' b b' _ _ ho hb (λ v w1 x1 t1 u1 r1 s1. hb v w1 x1 r1) w x t u r s)
+              keeps.work n (statement_units stage (Return e)) w _ _ (keep_value e a o o' b b' _ _ ho hb (λ v w1 x1 t1 u1 r1 s1. hb v w1 x1 r1) w x t u r s)
 
-          pub keep_all : (cs : Stms) (a : Activation) (o o' : Out) (b b' : Back) (g g' : Next) → AlikeGo n o o' → AlikeBack n b b' → AlikeNext n g g' → (w x : World) (t u : Temps) → W w x → T t u → R n w (run_all room literals enter later cs a o b g w t) (run_all room literals enter' later' cs a o' b' g' x u)
+          pub keep_all : (cs : Stms) (a : Activation) (o o' : Out) (b b' : Back) (g g' : Next) → AlikeGo n o o' → AlikeBack n b b' → AlikeNext n g g' → (w x : World) (t u : Temps) → W w x → T t u → R n w (run_all stage room literals enter later cs a o b g w t) (run_all stage room literals enter' later' cs a o' b' g' x u)
           keep_all no_stms a o o' b b' g g' ho hb hg w x t u r s = hg w x t u r s
           keep_all (stm c cs) a o o' b b' g g' ho hb hg w x t u r s =
               keep_run c a o o' b b' _ _ ho hb (λ w1 x1 t1 u1 r1 s1. keep_all cs a o o' b b' g g' ho hb hg w1 x1 t1 u1 r1 s1) w x t u r s

@@ -1,32 +1,40 @@
 -- What texts name, their lengths and rooms, and sizes of frames, each computed by the definition itself.
-use Rattle.std.proofs.Common.{◌≡◌, ◌+◌, List, [], ◌∷◌, refl, arith}
+use Rattle.std.proofs.Common.{◌≡◌, ℕ, zero, suc, ◌+◌, List, [], ◌∷◌, refl, arith}
 use Rattle.tg_frame.specs.declared.accesses.Access.TheVariants.{InFrame}
-use Rattle.tg_tree.specs.declared.operators.Bin.TheVariants.{Add, ShiftLeft}
-use Rattle.tg_tree.specs.declared.operators.Rel.TheVariants.{Less}
-use Rattle.tg_tree.specs.Tree.{Const, Address, Temp, Binary, Call, no_txs, tx, Compare, Move, If, Fault, Seq, Return, Stms, no_stms, stm, Function, Linear, Mark, Do', Jump, Branch, Return'}
+use Rattle.tg_tree.specs.declared.operators.Bin.TheVariants.{Add, Sub, Div, ShiftLeft, AddTrap}
+use Rattle.tg_tree.specs.declared.operators.Rel.TheVariants.{Equal, NotEqual, Less}
+use Rattle.tg_tree.specs.Tree.{Tx, Const, Address, Temp, FrameAddress, Binary, Load, Call, After, no_txs, tx, Compare, Both, Ts, Move, Store, Do, If, Loop, Break, Fault, Seq, Return, Stms, no_stms, stm, Function, Linear, Mark, Do', Jump, Branch, Return'}
 use Rattle.tg_tree.specs.Named.{function, literal, fault, temporary, named_ts, named_flat}
 use Rattle.tg_tree.specs.FrameSizes.{IsSizeOf}
-use Rattle.tg_tree.specs.Sizes.{tree_length, tree_room, canonical_length, flat_length, flat_room}
+use Rattle.tg_tree.specs.Units.{Trees, Canonical, entry_units}
+use Rattle.tg_tree.specs.Sizes.{expression_length, condition_length, statement_length, tree_length, tree_room, canonical_length, canonical_room, flat_length, flat_room}
 
 abbrev fun : {Body : Type 0} → Body → Function Body
 fun body = record { label = 33; params = InFrame 0 ∷ []; slots = 1; temps = 2; out = 0; body = body }
 
+abbrev stms : List Ts → Stms
+stms [] = no_stms
+stms (s ∷ ss) = stm s (stms ss)
+
+abbrev seq : List Ts → Ts
+seq ss = Seq (stms ss)
+
 -- if t0 < 2 then t1 := call 34 (literal 40) else fault 6; return t1
 abbrev body : Stms
 body =
-    stm (If (Compare Less (Temp 0) (Const 2)) (Move 1 (Call 34 (tx (Address 40) no_txs))) (Fault 6)) (stm (Return (Temp 1)) no_stms)
+    stms (If (Compare Less (Temp 0) (Const 2)) (Move 1 (Call 34 (tx (Address 40) no_txs))) (Fault 6) ∷ Return (Temp 1) ∷ [])
 
 names_in_order : named_ts (Seq body) [] ≡ temporary 0 ∷ temporary 1 ∷ function 34 ∷ literal 40 ∷ fault 6 ∷ temporary 1 ∷ []
 names_in_order = refl
 
 -- each pass makes the text shorter in this measure
-lengths_as_a_tree : tree_length (fun (Seq body)) ≡ 6 + (10 + (80 + (12 + 14)) + (10 + (14 + 4 + (4 + 14))) + 10) + (10 + 12 + 12)
+lengths_as_a_tree : tree_length (fun (Seq body)) ≡ 6 + (4 + (4 + 2) + (2 + (4 + (4 + 1))) + 3) + 16
 lengths_as_a_tree = refl
 
 rooms_as_a_tree : tree_room (fun (Seq body)) ≡ 3 + 2 + (6 + (1 + 2)) + (2 + 1 + (2 + 2)) + 1
 rooms_as_a_tree = refl
 
-lengths_as_statements : canonical_length (fun body) ≡ 6 + (10 + (12 + (1 + 3)) + (10 + (3 + 4 + (4 + 3))) + 10) + (10 + 12 + 1)
+lengths_as_statements : canonical_length (fun body) ≡ 6 + (4 + (4 + 2) + (2 + (2 + (4 + 1))) + 3) + 16
 lengths_as_statements = refl
 
 -- the same as flat code
@@ -36,15 +44,63 @@ flat_body = Branch Less (Temp 0) (Const 2) 1 ∷ Jump 2 ∷ Mark 1 ∷ Do' (Move
 flat_names : named_flat flat_body [] ≡ temporary 0 ∷ temporary 1 ∷ function 34 ∷ literal 40 ∷ temporary 1 ∷ []
 flat_names = refl
 
-lengths_as_flat_code : flat_length (fun flat_body) ≡ 6 + (4 + (1 + 3)) + 2 + 2 + (2 + (3 + 4 + (4 + 3))) + (2 + 12 + 1) + 2 + (2 + 12 + 3)
+lengths_as_flat_code : flat_length (fun flat_body) ≡ 6 + (2 + 2) + 1 + 1 + (2 + (2 + (4 + 1))) + 14 + 1 + (14 + 2)
 lengths_as_flat_code = refl
+
+rooms_as_statements : canonical_room (fun body) ≡ 3 + 2 + (1 + (0 + 1)) + (1 + 1 + (2 + 1)) + 0
+rooms_as_statements = refl
 
 rooms_as_flat_code : flat_room (fun flat_body) ≡ 3 + 2 + (1 + (0 + 1)) + (1 + 1 + (2 + 1)) + 1
 rooms_as_flat_code = refl
 
--- a shift by a word needs more
-shift_needs_more : flat_length (fun (Return' (Binary ShiftLeft (Temp 0) (Temp 1)) ∷ [])) ≡ 24 + flat_length (fun (Return' (Binary Add (Temp 0) (Temp 1)) ∷ []))
-shift_needs_more = refl
+-- a shift by a word needs more than one by a constant
+shifts_by_a_constant : expression_length Canonical (Binary ShiftLeft (Temp 0) (Const 5)) ≡ 3
+shifts_by_a_constant = refl
+
+shifts_by_a_word : expression_length Canonical (Binary ShiftLeft (Temp 0) (Temp 1)) ≡ 21
+shifts_by_a_word = refl
+
+-- a left side before one that isn't flat
+lifts_a_left_side : expression_length Trees (Binary Add (Temp 0) (Call 34 no_txs)) ≡ 1 + 2 + 4
+lifts_a_left_side = refl
+
+-- so many static links; one of them, and a call across 32 levels
+abbrev links : ℕ → Tx
+links zero = FrameAddress
+links (suc n) = Load (Binary Sub (links n) (Const 4))
+
+one_link : expression_length Trees (links 2) ≡ 4 + expression_length Trees (links 1)
+one_link = refl
+
+call_across_levels : expression_length Trees (Call 34 (tx (links 32) no_txs)) ≡ 137
+call_across_levels = refl
+
+-- t0 / t1 with its two tests, and the moves of both sides
+abbrev quotient : Tx
+quotient =
+    After (seq (If (Compare Equal (Temp 1) (Const 0)) (Fault 7) (seq []) ∷ If (Both (Compare Equal (Temp 0) (Const 2147483648)) (Compare Equal (Temp 1) (Const 4294967295))) (Do (Binary AddTrap (Const 2147483648) (Const 2147483648))) (seq []) ∷ [])) (Binary Div (Temp 0) (Temp 1))
+
+quotient_with_its_tests : expression_length Trees quotient ≡ 36
+quotient_with_its_tests = refl
+
+-- a value of a condition whose right side isn't flat
+lifts_a_condition : condition_length Trees (Both (Compare NotEqual (Temp 0) (Const 0)) (Compare NotEqual (Call 34 no_txs) (Const 0))) ≡ 22 + (4 + 2) + (4 + 4 + 2)
+lifts_a_condition = refl
+
+-- for t0 in a slot: the bounds, the test before the loop, the loop with its test and step
+abbrev slot : Tx
+slot = Binary Sub FrameAddress (Const 4)
+
+abbrev counted : Ts
+counted =
+    seq (Move 0 (Temp 2) ∷ Move 1 (Temp 3) ∷ If (Compare Less (Temp 0) (Temp 1)) (seq (Store slot (Temp 0) ∷ Loop (seq (If (Compare Equal (Load slot) (Temp 1)) (Break 0) (seq []) ∷ Store slot (Binary Add (Load slot) (Const 1)) ∷ [])) ∷ [])) (seq []) ∷ [])
+
+counted_loop : statement_length Trees counted ≡ 50
+counted_loop = refl
+
+-- an entry of a function with three parameters
+entry_of_three : entry_units 3 ≡ 40
+entry_of_three = refl
 
 -- a frame of one slot may have 8 bytes, and no fewer
 eight_bytes : IsSizeOf (fun body) 8

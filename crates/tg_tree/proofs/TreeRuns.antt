@@ -9,6 +9,7 @@ use Rattle.tg_runs.specs.Ran.{Ran, Ended, WantsFuel, Wrong, stops, IsOver, GoesO
 use Rattle.tg_runs.proofs.Fixpoint.{again_is}
 use Rattle.tg_tree.specs.Tree.{Ts, Function, Code}
 use Rattle.tg_tree.specs.Memory.{begin}
+use Rattle.tg_tree.specs.Units.{Stage}
 use Rattle.tg_tree.specs.Meaning.{World, Temps, Activation, Back, Point}
 use Rattle.tg_tree.specs.Running.{function_of, with_fuel, entered, body_point, enter, step, going, tree_run}
 use Rattle.tg_tree.specs.Holding.{TempsHoldToo, WorldHoldsToo, UnlessWrong, NextReadsNoMore}
@@ -16,8 +17,8 @@ use Rattle.tg_tree.proofs.Relating.{Related, RelatedWorlds, RelatedTemps, Keeps,
 use Rattle.tg_tree.proofs.Going.{one, OneWorld, OneTemps, Same, same_keeps, IsOnward, Onward, onward_keeps}
 use Rattle.tg_tree.proofs.Filled.{Filled, filled_keeps}
 
-module _ (R : Related) (W : RelatedWorlds) (T : RelatedTemps) (keeps : Keeps R W T) (code : Code Ts) (size : ℕ → ℕ) (floor room n : ℕ) (c d : Point → Run Ran) (later : (m : ℕ) → m < n → (x y : Point) → Alike R W T m x y → R m x.world (c x) (d y)) where
-  pub keep_enter : (label : ℕ) (vs : List ℕ) (top : ℕ) (back back' : Back) (w x : World) → W w x → AlikeBack R W T n back back' → R n w (enter code size floor room c label vs top back w) (enter code size floor room d label vs top back' x)
+module _ (R : Related) (W : RelatedWorlds) (T : RelatedTemps) (keeps : Keeps R W T) (stage : Stage) (code : Code Ts) (size : ℕ → ℕ) (floor room n : ℕ) (c d : Point → Run Ran) (later : (m : ℕ) → m < n → (x y : Point) → Alike R W T m x y → R m x.world (c x) (d y)) where
+  pub keep_enter : (label : ℕ) (vs : List ℕ) (top : ℕ) (back back' : Back) (w x : World) → W w x → AlikeBack R W T n back back' → R n w (enter stage code size floor room c label vs top back w) (enter stage code size floor room d label vs top back' x)
   keep_enter label vs top back back' w x r h =
       keep_entered R W T keeps n size floor _ _
       (λ m lt s a b b' w1 x1 t1 u1 r1 s1 k. later m lt (body_point s a b w1 t1) (body_point s a b' x1 u1) (alike s a _ _ b b' _ _ w1 x1 t1 u1 (λ v w2 x2 t2 u2 r2 s2. keeps.stop m Wrong w2 x2 r2) k (λ w2 x2 t2 u2 r2 s2. keeps.stop m Wrong w2 x2 r2) r1 s1))
@@ -27,9 +28,9 @@ module _ (R : Related) (W : RelatedWorlds) (T : RelatedTemps) (keeps : Keeps R W
   keep_head x y (alike s a o o' b b' g g' w v t u h k l r q) =
       keeps.fuel n w v _ _ r (λ m lt. later m lt _ _ (alike_down R W T keeps m n _ _ (omega arith) (alike s a o o' b b' g g' w v t u h k l r q)))
 
-  pub keep_step : (x y : Point) → Alike R W T n x y → R n x.world (step code size floor room c x) (step code size floor room d y)
+  pub keep_step : (x y : Point) → Alike R W T n x y → R n x.world (step stage code size floor room c x) (step stage code size floor room d y)
   keep_step x y (alike s a o o' b b' g g' w v t u h k l r q) =
-      keep_run R W T keeps n room code.literals (enter code size floor room c) (enter code size floor room d) _ _ keep_enter keep_head s a o o' b b' g g' h k l w v t u r q
+      keep_run R W T keeps n stage room code.literals (enter stage code size floor room c) (enter stage code size floor room d) _ _ keep_enter keep_head s a o o' b b' g g' h k l w v t u r q
 
 pub same_alike : (n : ℕ) (x : Point) → Alike Same OneWorld OneTemps n x x
 same_alike n x =
@@ -44,36 +45,36 @@ same_alike n x =
     same_next : (n : ℕ) (next : World → Temps → Run Ran) (w y : World) (t u : Temps) → OneWorld w y → OneTemps t u → IsSameTo n (next w t) (next y u)
     same_next n next w y t u (one p) (one q) = λ i le. refl
 
-module _ (code : Code Ts) (size : ℕ → ℕ) (floor room : ℕ) where
+module _ (stage : Stage) (code : Code Ts) (size : ℕ → ℕ) (floor room : ℕ) where
   abbrev goes : Point → Run Ran
-  goes = going code size floor room
+  goes = going stage code size floor room
 
-  pub trees_step : (p : Point) (n : ℕ) → goes p n ≡ step code size floor room goes p n
+  pub trees_step : (p : Point) (n : ℕ) → goes p n ≡ step stage code size floor room goes p n
   trees_step p n =
-      again_is (stops [] WantsFuel) (step code size floor room) (Alike Same OneWorld OneTemps)
+      again_is (stops [] WantsFuel) (step stage code size floor room) (Alike Same OneWorld OneTemps)
       (record { alike = same_alike; down = λ m k x y le h. alike_down Same OneWorld OneTemps same_keeps m k x y le h })
-      (λ k c d h x y r. keep_step Same OneWorld OneTemps same_keeps code size floor room k c d h x y r) p n
+      (λ k c d h x y r. keep_step Same OneWorld OneTemps same_keeps stage code size floor room k c d h x y r) p n
 
   onward_from : (n m : ℕ) → m < n → (x y : Point) → Alike Onward OneWorld OneTemps m x y → Onward m x.world (goes x) (goes y)
   onward_from zero m lt x y r = λ j i lj li. absurd (omega arith)
   onward_from (suc n) m lt x y r = λ j i lj li.
-      let h = keep_step Onward OneWorld OneTemps onward_keeps code size floor room m goes goes (λ k km. onward_from n k (omega arith)) x y r in
-      subst (λ p. IsOnward x.world p (goes y j)) (sym (trees_step x i)) (subst (λ q. IsOnward x.world (step code size floor room goes x i) q) (sym (trees_step y j)) (h j i lj li))
+      let h = keep_step Onward OneWorld OneTemps onward_keeps stage code size floor room m goes goes (λ k km. onward_from n k (omega arith)) x y r in
+      subst (λ p. IsOnward x.world p (goes y j)) (sym (trees_step x i)) (subst (λ q. IsOnward x.world (step stage code size floor room goes x i) q) (sym (trees_step y j)) (h j i lj li))
 
-  trees_onward : (body : ℕ) (input : List ℕ) (i j : ℕ) → i ≤ j → IsOnward (record { memory = begin code.literals; input = input }) (tree_run code size floor room body input i) (tree_run code size floor room body input j)
+  trees_onward : (body : ℕ) (input : List ℕ) (i j : ℕ) → i ≤ j → IsOnward (record { memory = begin code.literals; input = input }) (tree_run stage code size floor room body input i) (tree_run stage code size floor room body input j)
   trees_onward body input i j le =
-      keep_enter Onward OneWorld OneTemps onward_keeps code size floor room j goes goes (λ m lt. onward_from j m lt) body [] stack_top _ _ (record { memory = begin code.literals; input = input }) _ (one _) (λ v w x r. onward_keeps.stop j (Ended (Exit (pos 0))) w x r) j i (omega arith) le
+      keep_enter Onward OneWorld OneTemps onward_keeps stage code size floor room j goes goes (λ m lt. onward_from j m lt) body [] stack_top _ _ (record { memory = begin code.literals; input = input }) _ (one _) (λ v w x r. onward_keeps.stop j (Ended (Exit (pos 0))) w x r) j i (omega arith) le
 
-  pub trees_stay_over : (body : ℕ) (input : List ℕ) (i j : ℕ) → i ≤ j → IsOver (tree_run code size floor room body input i).stop → tree_run code size floor room body input j ≡ tree_run code size floor room body input i
+  pub trees_stay_over : (body : ℕ) (input : List ℕ) (i j : ℕ) → i ≤ j → IsOver (tree_run stage code size floor room body input i).stop → tree_run stage code size floor room body input j ≡ tree_run stage code size floor room body input i
   trees_stay_over body input i j le o = (trees_onward body input i j le).over o
 
-  pub trees_only_go_on : (body : ℕ) (input : List ℕ) (i j : ℕ) → i ≤ j → GoesOn (tree_run code size floor room body input i) (tree_run code size floor room body input j)
+  pub trees_only_go_on : (body : ℕ) (input : List ℕ) (i j : ℕ) → i ≤ j → GoesOn (tree_run stage code size floor room body input i) (tree_run stage code size floor room body input j)
   trees_only_go_on body input i j le = (trees_onward body input i j le).on
 
   filled_from : (n m : ℕ) → m < n → (x y : Point) → Alike Filled WorldHoldsToo TempsHoldToo m x y → Filled m x.world (goes x) (goes y)
   filled_from zero m lt x y r = λ i le ne. absurd (omega arith)
   filled_from (suc n) m lt x y r = λ i le ne.
-      let h = keep_step Filled WorldHoldsToo TempsHoldToo filled_keeps code size floor room m goes goes (λ k km. filled_from n k (omega arith)) x y r in
+      let h = keep_step Filled WorldHoldsToo TempsHoldToo filled_keeps stage code size floor room m goes goes (λ k km. filled_from n k (omega arith)) x y r in
       let e = trees_step x i in
       trees_step y i ∙ (h i le (λ z. ne (ap (λ p. p.stop) e ∙ z)) ∙ sym e)
 

@@ -7,7 +7,7 @@ use Rattle.tg_runs.specs.Ran.{Ran, Ended, WantsFuel, stops}
 use Rattle.tg_tree.specs.Tree.{Linear, Mark, Do', Jump, Branch, Fault', Return', Code}
 use Rattle.tg_tree.specs.Operators.{holds}
 use Rattle.tg_tree.specs.Memory.{begin}
-use Rattle.tg_tree.specs.Units.{statement_units}
+use Rattle.tg_tree.specs.Units.{Canonical, element_units}
 use Rattle.tg_tree.specs.Meaning.{World, Temps, Activation, Back, over, wrong, charged, value, run}
 use Rattle.tg_tree.specs.Running.{function_of, with_fuel, entered}
 
@@ -40,17 +40,17 @@ module _ (code : Code (List Linear)) (size : ℕ → ℕ) (floor room : ℕ) whe
     -- no loop and no break stands in flat code
     abbrev pub run_flat : List Linear → World → Temps → Run Ran
     run_flat [] w temps = wrong w
-    run_flat (Mark m ∷ rest) w temps = charged statement_units (run_flat rest w temps)
+    run_flat (Mark m ∷ rest) w temps = charged (element_units (Mark m)) (run_flat rest w temps)
     run_flat (Do' s ∷ rest) w temps =
-        run room code.literals (enter_flat later) (λ q. wrong q.world) s a (λ k w1 t1. wrong w1) back (λ w1 t1. run_flat rest w1 t1) w temps
-    run_flat (Jump m ∷ rest) w temps = charged statement_units (jump_to (behind m whole) w temps)
+        run Canonical room code.literals (enter_flat later) (λ q. wrong q.world) s a (λ k w1 t1. wrong w1) back (λ w1 t1. run_flat rest w1 t1) w temps
+    run_flat (Jump m ∷ rest) w temps = charged (element_units (Jump m)) (jump_to (behind m whole) w temps)
     run_flat (Branch rel x y m ∷ rest) w temps =
-        charged statement_units (value room code.literals (enter_flat later) (λ q. wrong q.world) x a (λ k w1 t1. wrong w1) back (λ u w1 t1.
-        value room code.literals (enter_flat later) (λ q. wrong q.world) y a (λ k w2 t2. wrong w2) back (λ v w2 t2.
+        charged (element_units (Branch rel x y m)) (value Canonical room code.literals (enter_flat later) (λ q. wrong q.world) x a (λ k w1 t1. wrong w1) back (λ u w1 t1.
+        value Canonical room code.literals (enter_flat later) (λ q. wrong q.world) y a (λ k w2 t2. wrong w2) back (λ v w2 t2.
         if holds rel u v then jump_to (behind m whole) w2 t2 else run_flat rest w2 t2) w1 t1) w temps)
-    run_flat (Fault' n ∷ rest) w temps = charged statement_units (over (Ended (Break n)) w)
+    run_flat (Fault' n ∷ rest) w temps = charged (element_units (Fault' n)) (over (Ended (Break n)) w)
     run_flat (Return' x ∷ rest) w temps =
-        charged statement_units (value room code.literals (enter_flat later) (λ q. wrong q.world) x a (λ k w1 t1. wrong w1) back (λ v w1 t1. back v w1) w temps)
+        charged (element_units (Return' x)) (value Canonical room code.literals (enter_flat later) (λ q. wrong q.world) x a (λ k w1 t1. wrong w1) back (λ v w1 t1. back v w1) w temps)
 
   abbrev pub flat_step : (FlatPoint → Run Ran) → FlatPoint → Run Ran
   flat_step later p = run_flat later p.whole p.activation p.back p.rest p.world p.temps

@@ -1,12 +1,13 @@
 -- The value of a flat expression, without what comes next: a word, or how the run stops.
 use Rattle.std.specs.Prelude.{ℕ, ◌+◌, ◌≡◌, ◌≤◌, List, Option, Some, None}
 use Rattle.tg_runs.specs.Runs.{Run}
-use Rattle.tg_runs.specs.Ran.{Ran, Wrong, stops, works}
+use Rattle.tg_runs.specs.Ran.{Ran, Wrong}
 use Rattle.tg_tree.specs.Tree.{Tx, Const, Address, Temp, FrameAddress, Binary, Load, LoadByte, Literal}
 use Rattle.tg_tree.specs.Operators.{Given, word, stops_by, operate}
 use Rattle.tg_tree.specs.Memory.{Memory, load, load_byte, literal_address}
-use Rattle.tg_tree.specs.Units.{expression_units}
-use Rattle.tg_tree.specs.Meaning.{World, Temps, Activation, Go, Out, Back, Point, value}
+use Rattle.tg_tree.specs.Units.{Stage, expression_units}
+use Rattle.tg_tree.specs.Sizes.{expression_length}
+use Rattle.tg_tree.specs.Meaning.{World, Temps, Activation, Go, Out, Back, Point, charged, with_given, value}
 use Rattle.tg_tree.specs.Shapes.{IsFlat}
 
 abbrev pub or_wrong : Option ℕ → Given
@@ -28,21 +29,38 @@ flat_value ls base m t (Load x) = onward (flat_value ls base m t x) (λ u. or_wr
 flat_value ls base m t (LoadByte x) = onward (flat_value ls base m t x) (λ u. or_wrong (load_byte m u))
 flat_value ls base m t _ = stops_by Wrong
 
--- the units of all its expressions
-abbrev pub flat_units : Tx → ℕ
-flat_units (Binary _ x y) = expression_units + (flat_units x + flat_units y)
-flat_units (Load x) = expression_units + flat_units x
-flat_units (LoadByte x) = expression_units + flat_units x
-flat_units _ = expression_units
+-- what comes after a word is spent too
+abbrev pub after_word : Given → ℕ → ℕ
+after_word (word v) k = k
+after_word (stops_by s) k = 0
 
--- a run does so many units of work and goes on with the word, or stops so with at most as much work
-abbrev pub RunsBy : Given → (units : ℕ) → (go : ℕ → Run Ran) → World → Run Ran → Type 0
-RunsBy (word v) k go w c = (n : ℕ) → c n ≡ works k (go v n)
-RunsBy (stops_by s) k go w c = (j : ℕ) × (j ≤ k) × ((n : ℕ) → c n ≡ works j (stops w.input s))
+-- the units of the expressions that are come to
+abbrev pub flat_spent : Stage → List Literal → (base : ℕ) → Memory → Temps → Tx → ℕ
+flat_spent g ls base m t (Binary op x y) =
+    expression_units g (Binary op x y) +
+    (flat_spent g ls base m t x + after_word (flat_value ls base m t x) (flat_spent g ls base m t y))
+flat_spent g ls base m t (Load x) = expression_units g (Load x) + flat_spent g ls base m t x
+flat_spent g ls base m t (LoadByte x) = expression_units g (LoadByte x) + flat_spent g ls base m t x
+flat_spent g ls base m t x = expression_units g x
 
--- a run of a flat expression is its value
-abbrev pub FlatRunsByValue : Type 0
-FlatRunsByValue =
-    (room : ℕ) (ls : List Literal) (enter : ℕ → List ℕ → ℕ → Back → World → Run Ran) (later : Point → Run Ran) (x : Tx) (a : Activation) (out : Out) (back : Back) (go : Go) (w : World) (t : Temps) →
+-- a run of a flat expression goes on with its value, or stops so, behind exactly what it spends
+abbrev pub FlatRunsAsValue : Type 0
+FlatRunsAsValue =
+    (g : Stage) (room : ℕ) (ls : List Literal) (enter : ℕ → List ℕ → ℕ → Back → World → Run Ran)
+    (later : Point → Run Ran) (x : Tx) (a : Activation) (out : Out) (back : Back) (go : Go) (w : World)
+    (t : Temps) (n : ℕ) →
     IsFlat x →
-    RunsBy (flat_value ls a.base w.memory t x) (flat_units x) (λ v. go v w t) w (value room ls enter later x a out back go w t)
+    value g room ls enter later x a out back go w t n ≡
+    charged (flat_spent g ls a.base w.memory t x)
+    (with_given (flat_value ls a.base w.memory t x) w (λ v. go v w t)) n
+
+-- and that is its length at most, and all of it where there is a word
+abbrev pub FlatSpendsLength : Type 0
+FlatSpendsLength =
+    (g : Stage) (ls : List Literal) (base : ℕ) (m : Memory) (t : Temps) (x : Tx) →
+    IsFlat x → flat_spent g ls base m t x ≤ expression_length g x
+
+abbrev pub FlatWordSpendsAll : Type 0
+FlatWordSpendsAll =
+    (g : Stage) (ls : List Literal) (base : ℕ) (m : Memory) (t : Temps) (x : Tx) (v : ℕ) →
+    IsFlat x → flat_value ls base m t x ≡ word v → flat_spent g ls base m t x ≡ expression_length g x

@@ -4,6 +4,7 @@ use Rattle.tg_base.specs.declared.ends.RunEnd.TheVariants.{StackFull}
 use Rattle.tg_runs.specs.Runs.{Run}
 use Rattle.tg_runs.specs.Ran.{Ran, Ended, stops, StaysOver, OnlyGoesOn}
 use Rattle.tg_tree.specs.Tree.{Ts, Linear, Function, Code}
+use Rattle.tg_tree.specs.Units.{Stage}
 use Rattle.tg_tree.specs.Meaning.{World, Temps, Back, Point}
 use Rattle.tg_tree.specs.Running.{function_of, enter, step, going, tree_run}
 use Rattle.tg_tree.specs.Flat.{FlatPoint, enter_flat, flat_step, flat_going, flat_run}
@@ -12,8 +13,8 @@ use Rattle.tg_tree.specs.Holding.{TempsHoldToo, WorldHoldsToo, UnlessWrong, Back
 -- a run is its own step: what comes of a point is a step from it, and then what comes of the points behind it
 abbrev pub TreesStep : Type 0
 TreesStep =
-    (code : Code Ts) (size : ℕ → ℕ) (floor room : ℕ) (p : Point) (n : ℕ) →
-    going code size floor room p n ≡ step code size floor room (going code size floor room) p n
+    (stage : Stage) (code : Code Ts) (size : ℕ → ℕ) (floor room : ℕ) (p : Point) (n : ℕ) →
+    going stage code size floor room p n ≡ step stage code size floor room (going stage code size floor room) p n
 
 abbrev pub FlatCodeSteps : Type 0
 FlatCodeSteps =
@@ -23,7 +24,7 @@ FlatCodeSteps =
 -- more fuel changes nothing of a run that is over
 abbrev pub TreesStayOver : Type 0
 TreesStayOver =
-    (code : Code Ts) (size : ℕ → ℕ) (floor room body : ℕ) (input : List ℕ) → StaysOver (tree_run code size floor room body input)
+    (stage : Stage) (code : Code Ts) (size : ℕ → ℕ) (floor room body : ℕ) (input : List ℕ) → StaysOver (tree_run stage code size floor room body input)
 
 abbrev pub FlatCodeStaysOver : Type 0
 FlatCodeStaysOver =
@@ -32,7 +33,7 @@ FlatCodeStaysOver =
 -- and any other run goes on with it
 abbrev pub TreesOnlyGoOn : Type 0
 TreesOnlyGoOn =
-    (code : Code Ts) (size : ℕ → ℕ) (floor room body : ℕ) (input : List ℕ) → OnlyGoesOn (tree_run code size floor room body input)
+    (stage : Stage) (code : Code Ts) (size : ℕ → ℕ) (floor room body : ℕ) (input : List ℕ) → OnlyGoesOn (tree_run stage code size floor room body input)
 
 abbrev pub FlatCodeOnlyGoesOn : Type 0
 FlatCodeOnlyGoesOn =
@@ -42,9 +43,9 @@ FlatCodeOnlyGoesOn =
 -- memory outside the statics, the taken heap and the slots of open activations: whatever these hold, it is the same.
 abbrev pub TreesReadNoMore : Type 0
 TreesReadNoMore =
-    (code : Code Ts) (size : ℕ → ℕ) (floor room : ℕ) (p : Point) (x : World) (u : Temps) →
+    (stage : Stage) (code : Code Ts) (size : ℕ → ℕ) (floor room : ℕ) (p : Point) (x : World) (u : Temps) →
     NextReadsNoMore p → WorldHoldsToo p.world x → TempsHoldToo p.temps u →
-    UnlessWrong (going code size floor room p) (going code size floor room (record p { world = x; temps = u }))
+    UnlessWrong (going stage code size floor room p) (going stage code size floor room (record p { world = x; temps = u }))
 
 abbrev pub FlatCodeReadsNoMore : Type 0
 FlatCodeReadsNoMore =
@@ -55,9 +56,9 @@ FlatCodeReadsNoMore =
 -- a call of a function whose frame reaches below the floor ends the run there, whatever its arguments and its fuel
 abbrev pub TreesFillStack : Type 0
 TreesFillStack =
-    (code : Code Ts) (size : ℕ → ℕ) (floor room : ℕ) (later : Point → Run Ran) (label : ℕ) (f : Function Ts) (vs : List ℕ) (top : ℕ) (back : Back) (w : World) (n : ℕ) →
+    (stage : Stage) (code : Code Ts) (size : ℕ → ℕ) (floor room : ℕ) (later : Point → Run Ran) (label : ℕ) (f : Function Ts) (vs : List ℕ) (top : ℕ) (back : Back) (w : World) (n : ℕ) →
     function_of label code.functions ≡ Some f → top < floor + size f.label →
-    enter code size floor room later label vs top back w n ≡ stops w.input (Ended StackFull)
+    enter stage code size floor room later label vs top back w n ≡ stops w.input (Ended StackFull)
 
 abbrev pub FlatCodeFillsStack : Type 0
 FlatCodeFillsStack =

@@ -12,7 +12,7 @@ use Rattle.tg_tree.specs.Tree as tree
 use Rattle.tg_tree.specs.Tree.{Tx, Txs, Cond, Ts, Stms, Literal}
 use Rattle.tg_tree.specs.Operators.{Given, word, stops_by, operate, holds}
 use Rattle.tg_tree.specs.Memory.{Memory, load, load_byte, store, store_byte, literal_address}
-use Rattle.tg_tree.specs.Units.{expression_units, condition_units, statement_units, call_units}
+use Rattle.tg_tree.specs.Units.{Stage, expression_units, argument_units, condition_units, statement_units, entry_units}
 
 -- what all activations share: memory, and the input that is left
 pub record World : Type 0 where
@@ -59,16 +59,6 @@ charged k c n = works k (c n)
 
 abbrev pub written : List ℕ → Run Ran → Run Ran
 written bytes c n = writes bytes (c n)
-
--- one expression, one condition, and one statement
-abbrev pub paid : Run Ran → Run Ran
-paid c = charged expression_units c
-
-abbrev pub tested : Run Ran → Run Ran
-tested c = charged condition_units c
-
-abbrev pub stepped : Run Ran → Run Ran
-stepped c = charged statement_units c
 
 -- a word that has to be there
 abbrev pub with_word : Option ℕ → World → (ℕ → Run Ran) → Run Ran
@@ -140,55 +130,55 @@ pub record Point : Type 0 where
   pub world : World
   pub temps : Temps
 
--- For a heap's room, literals, what a call does (with its label, its arguments, the caller's low end, and what comes after its
+-- For a stage, whose units are charged, a heap's room, literals, what a call does (with its label, its arguments, the caller's low end, and what comes after its
 -- return), and what comes of going on with a loop from its head.
-module _ (room : ℕ) (literals : List Literal) (enter : ℕ → List ℕ → ℕ → Back → World → Run Ran) (later : Point → Run Ran) where
+module _ (stage : Stage) (room : ℕ) (literals : List Literal) (enter : ℕ → List ℕ → ℕ → Back → World → Run Ran) (later : Point → Run Ran) where
   abbrev mutual
     pub value : Tx → Activation → Out → Back → Go → World → Temps → Run Ran
-    value (tree.Const n) a out back go w temps = paid (go n w temps)
-    value (tree.Address label) a out back go w temps = paid (with_word (literal_address literals label) w (λ v. go v w temps))
-    value (tree.Temp i) a out back go w temps = paid (with_word (temps i) w (λ v. go v w temps))
-    value tree.FrameAddress a out back go w temps = paid (go a.base w temps)
+    value (tree.Const n) a out back go w temps = charged (expression_units stage (tree.Const n)) (go n w temps)
+    value (tree.Address label) a out back go w temps = charged (expression_units stage (tree.Address label)) (with_word (literal_address literals label) w (λ v. go v w temps))
+    value (tree.Temp i) a out back go w temps = charged (expression_units stage (tree.Temp i)) (with_word (temps i) w (λ v. go v w temps))
+    value tree.FrameAddress a out back go w temps = charged (expression_units stage tree.FrameAddress) (go a.base w temps)
     value (tree.Binary op x y) a out back go w temps =
-        paid (value x a out back (λ u w1 t1. value y a out back (λ v w2 t2. with_given (operate op u v) w2 (λ r. go r w2 t2)) w1 t1) w temps)
+        charged (expression_units stage (tree.Binary op x y)) (value x a out back (λ u w1 t1. value y a out back (λ v w2 t2. with_given (operate op u v) w2 (λ r. go r w2 t2)) w1 t1) w temps)
     value (tree.Load x) a out back go w temps =
-        paid (value x a out back (λ u w1 t1. with_word (load w1.memory u) w1 (λ v. go v w1 t1)) w temps)
+        charged (expression_units stage (tree.Load x)) (value x a out back (λ u w1 t1. with_word (load w1.memory u) w1 (λ v. go v w1 t1)) w temps)
     value (tree.LoadByte x) a out back go w temps =
-        paid (value x a out back (λ u w1 t1. with_word (load_byte w1.memory u) w1 (λ v. go v w1 t1)) w temps)
+        charged (expression_units stage (tree.LoadByte x)) (value x a out back (λ u w1 t1. with_word (load_byte w1.memory u) w1 (λ v. go v w1 t1)) w temps)
     value (tree.Call label xs) a out back go w temps =
-        paid (values xs a out back (λ vs w1 t1. charged call_units (enter label vs (a.base - a.size) (λ v w2. go v w2 t1) w1)) w temps)
+        charged (expression_units stage (tree.Call label xs)) (values xs a out back (λ vs w1 t1. charged (entry_units (length vs)) (enter label vs (a.base - a.size) (λ v w2. go v w2 t1) w1)) w temps)
     value (tree.Service n x) a out back go w temps =
-        paid (value x a out back (λ u w1 t1. service room n u w1 (λ v w2. go v w2 t1)) w temps)
-    value (tree.After s x) a out back go w temps = paid (run s a out back (λ w1 t1. value x a out back go w1 t1) w temps)
+        charged (expression_units stage (tree.Service n x)) (value x a out back (λ u w1 t1. service room n u w1 (λ v w2. go v w2 t1)) w temps)
+    value (tree.After s x) a out back go w temps = charged (expression_units stage (tree.After s x)) (run s a out back (λ w1 t1. value x a out back go w1 t1) w temps)
 
     pub values : Txs → Activation → Out → Back → GoAll → World → Temps → Run Ran
     values tree.no_txs a out back go w temps = go [] w temps
     values (tree.tx x xs) a out back go w temps =
-        value x a out back (λ v w1 t1. values xs a out back (λ vs w2 t2. go (v ∷ vs) w2 t2) w1 t1) w temps
+        charged (argument_units stage xs) (value x a out back (λ v w1 t1. values xs a out back (λ vs w2 t2. go (v ∷ vs) w2 t2) w1 t1) w temps)
 
     -- a condition, and what comes where it holds and where it doesn't
     pub test : Cond → Activation → Out → Back → (yes' no' : Next) → World → Temps → Run Ran
     test (tree.Compare rel x y) a out back yes' no' w temps =
-        tested (value x a out back (λ u w1 t1. value y a out back (λ v w2 t2. if holds rel u v then yes' w2 t2 else no' w2 t2) w1 t1) w temps)
-    test (tree.Not c) a out back yes' no' w temps = tested (test c a out back no' yes' w temps)
-    test (tree.Both c d) a out back yes' no' w temps = tested (test c a out back (λ w1 t1. test d a out back yes' no' w1 t1) no' w temps)
-    test (tree.Either c d) a out back yes' no' w temps = tested (test c a out back yes' (λ w1 t1. test d a out back yes' no' w1 t1) w temps)
+        charged (condition_units stage (tree.Compare rel x y)) (value x a out back (λ u w1 t1. value y a out back (λ v w2 t2. if holds rel u v then yes' w2 t2 else no' w2 t2) w1 t1) w temps)
+    test (tree.Not c) a out back yes' no' w temps = charged (condition_units stage (tree.Not c)) (test c a out back no' yes' w temps)
+    test (tree.Both c d) a out back yes' no' w temps = charged (condition_units stage (tree.Both c d)) (test c a out back (λ w1 t1. test d a out back yes' no' w1 t1) no' w temps)
+    test (tree.Either c d) a out back yes' no' w temps = charged (condition_units stage (tree.Either c d)) (test c a out back yes' (λ w1 t1. test d a out back yes' no' w1 t1) w temps)
 
     pub run : Ts → Activation → Out → Back → Next → World → Temps → Run Ran
-    run (tree.Move i x) a out back next w temps = stepped (value x a out back (λ v w1 t1. next w1 (set_temp i v t1)) w temps)
+    run (tree.Move i x) a out back next w temps = charged (statement_units stage (tree.Move i x)) (value x a out back (λ v w1 t1. next w1 (set_temp i v t1)) w temps)
     run (tree.Store x y) a out back next w temps =
-        stepped (value x a out back (λ u w1 t1. value y a out back (λ v w2 t2. with_memory (store w2.memory u v) w2 (λ w3. next w3 t2)) w1 t1) w temps)
+        charged (statement_units stage (tree.Store x y)) (value x a out back (λ u w1 t1. value y a out back (λ v w2 t2. with_memory (store w2.memory u v) w2 (λ w3. next w3 t2)) w1 t1) w temps)
     run (tree.StoreByte x y) a out back next w temps =
-        stepped (value x a out back (λ u w1 t1. value y a out back (λ v w2 t2. with_memory (store_byte w2.memory u v) w2 (λ w3. next w3 t2)) w1 t1) w temps)
-    run (tree.Do x) a out back next w temps = stepped (value x a out back (λ v w1 t1. next w1 t1) w temps)
+        charged (statement_units stage (tree.StoreByte x y)) (value x a out back (λ u w1 t1. value y a out back (λ v w2 t2. with_memory (store_byte w2.memory u v) w2 (λ w3. next w3 t2)) w1 t1) w temps)
+    run (tree.Do x) a out back next w temps = charged (statement_units stage (tree.Do x)) (value x a out back (λ v w1 t1. next w1 t1) w temps)
     run (tree.If c s t) a out back next w temps =
-        stepped (test c a out back (λ w1 t1. run s a out back next w1 t1) (λ w1 t1. run t a out back next w1 t1) w temps)
+        charged (statement_units stage (tree.If c s t)) (test c a out back (λ w1 t1. run s a out back next w1 t1) (λ w1 t1. run t a out back next w1 t1) w temps)
     run (tree.Loop s) a out back next w temps =
-        stepped (run s a (leaving next out) back (λ w1 t1. later (record { statement = tree.Loop s; activation = a; out = out; back = back; next = next; world = w1; temps = t1 })) w temps)
-    run (tree.Break k) a out back next w temps = stepped (out k w temps)
-    run (tree.Fault n) a out back next w temps = stepped (over (Ended (Break n)) w)
-    run (tree.Seq ss) a out back next w temps = stepped (run_all ss a out back next w temps)
-    run (tree.Return x) a out back next w temps = stepped (value x a out back (λ v w1 t1. back v w1) w temps)
+        charged (statement_units stage (tree.Loop s)) (run s a (leaving next out) back (λ w1 t1. later (record { statement = tree.Loop s; activation = a; out = out; back = back; next = next; world = w1; temps = t1 })) w temps)
+    run (tree.Break k) a out back next w temps = charged (statement_units stage (tree.Break k)) (out k w temps)
+    run (tree.Fault n) a out back next w temps = charged (statement_units stage (tree.Fault n)) (over (Ended (Break n)) w)
+    run (tree.Seq ss) a out back next w temps = charged (statement_units stage (tree.Seq ss)) (run_all ss a out back next w temps)
+    run (tree.Return x) a out back next w temps = charged (statement_units stage (tree.Return x)) (value x a out back (λ v w1 t1. back v w1) w temps)
 
     pub run_all : Stms → Activation → Out → Back → Next → World → Temps → Run Ran
     run_all tree.no_stms a out back next w temps = next w temps

@@ -1,12 +1,13 @@
 -- Runs of trees. A return to the head of a loop and a call take a unit of fuel each.
-use Rattle.std.specs.Prelude.{ℕ, ◌+◌, ◌==◌, List, [], ◌∷◌, Option, Some, None, nat_lt, if◌then◌else◌, pos}
+use Rattle.std.specs.Prelude.{ℕ, ◌+◌, ◌==◌, List, [], ◌∷◌, Option, Some, None, map, nat_lt, if◌then◌else◌, pos}
 use Rattle.tg_base.specs.declared.ends.RunEnd.TheVariants.{Exit, StackFull}
 use Rattle.tg_base.specs.State.{stack_top}
 use Rattle.tg_frame.specs.declared.accesses.Access.{Access}
 use Rattle.tg_frame.specs.declared.accesses.Access.TheVariants.{InTemp, InFrame}
 use Rattle.tg_runs.specs.Runs.{Run, turn, again}
 use Rattle.tg_runs.specs.Ran.{Ran, Ended, WantsFuel, stops}
-use Rattle.tg_tree.specs.Tree.{Ts, Function, Code}
+use Rattle.tg_tree.specs.Tree.{Ts, Stms, Seq, Function, Code}
+use Rattle.tg_tree.specs.Units.{Stage, Canonical}
 use Rattle.tg_tree.specs.Memory.{Unset, Closed, Has, put, slot, lay, begin}
 use Rattle.tg_tree.specs.Meaning.{World, Temps, set_temp, Activation, Back, Next, Point, over, wrong, run}
 
@@ -55,8 +56,8 @@ body_point s a back w temps = record {
   temps = temps;
 }
 
--- for a size of each frame by its function's label, the stack's floor, and the heap's room
-module _ (code : Code Ts) (size : ℕ → ℕ) (floor room : ℕ) where
+-- for the stage whose units are charged, a size of each frame by its function's label, the stack's floor, and the heap's room
+module _ (stage : Stage) (code : Code Ts) (size : ℕ → ℕ) (floor room : ℕ) where
   abbrev pub enter : (Point → Run Ran) → ℕ → List ℕ → ℕ → Back → World → Run Ran
   enter later label vs top back w =
       entered size floor (λ s a back' w1 temps. later (body_point s a back' w1 temps)) (function_of label code.functions) vs top back w
@@ -64,7 +65,7 @@ module _ (code : Code Ts) (size : ℕ → ℕ) (floor room : ℕ) where
   -- one step: a statement up to the next unit of fuel
   abbrev pub step : (Point → Run Ran) → Point → Run Ran
   step later p =
-      run room code.literals (enter later) (λ q. with_fuel q.world (later q)) p.statement p.activation p.out p.back p.next p.world p.temps
+      run stage room code.literals (enter later) (λ q. with_fuel q.world (later q)) p.statement p.activation p.out p.back p.next p.world p.temps
 
   abbrev pub going : Point → Run Ran
   going = again (stops [] WantsFuel) step
@@ -73,3 +74,11 @@ module _ (code : Code Ts) (size : ℕ → ℕ) (floor room : ℕ) where
   abbrev pub tree_run : (body : ℕ) → (input : List ℕ) → Run Ran
   tree_run body input =
       enter going body [] stack_top (λ v w. over (Ended (Exit (pos 0))) w) (record { memory = begin code.literals; input = input })
+
+-- Canonical statements run as the tree that has them in sequence.
+abbrev pub in_sequence : Function Stms → Function Ts
+in_sequence f = record { label = f.label; params = f.params; slots = f.slots; temps = f.temps; out = f.out; body = Seq f.body }
+
+abbrev pub canonical_run : Code Stms → (size : ℕ → ℕ) → (floor room body : ℕ) → (input : List ℕ) → Run Ran
+canonical_run code size floor room body input =
+    tree_run Canonical (record { functions = map in_sequence code.functions; literals = code.literals }) size floor room body input

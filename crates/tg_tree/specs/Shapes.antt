@@ -1,5 +1,5 @@
 -- The shapes of trees that passes ask for and give.
-use Rattle.std.specs.Prelude.{ℕ, ◌+◌, ◌<◌, ◌≢◌, List, [], ◌∷◌}
+use Rattle.std.specs.Prelude.{ℕ, ◌+◌, ◌<◌, ◌≢◌, ◌&&◌, List, [], ◌∷◌, Bool, true, false}
 use Rattle.std.specs.List.{Contains, AllPairs}
 use Rattle.tg_tree.specs.Tree.{Tx, Const, Address, Temp, FrameAddress, Binary, Load, LoadByte, Call, Service, After, Txs, no_txs, tx, Cond, Compare, Not, Both, Either, Ts, Move, Store, StoreByte, Do, If, Loop, Break, Fault, Seq, Return, Stms, no_stms, stm, Linear, Mark, Do', Jump, Branch, Fault', Return'}
 
@@ -74,6 +74,26 @@ IsFlat _ = Unit {0}
 abbrev pub AreFlat : Txs → Type 0
 AreFlat no_txs = Unit {0}
 AreFlat (tx x xs) = IsFlat x × AreFlat xs
+
+-- the tests of both, and of the expressions of a condition
+abbrev pub is_flat : Tx → Bool
+is_flat (Binary _ x y) = is_flat x && is_flat y
+is_flat (Load x) = is_flat x
+is_flat (LoadByte x) = is_flat x
+is_flat (Call _ _) = false
+is_flat (Service _ _) = false
+is_flat (After _ _) = false
+is_flat _ = true
+
+abbrev pub are_flat : Txs → Bool
+are_flat no_txs = true
+are_flat (tx x xs) = is_flat x && are_flat xs
+
+abbrev pub is_flat_condition : Cond → Bool
+is_flat_condition (Compare _ x y) = is_flat x && is_flat y
+is_flat_condition (Not c) = is_flat_condition c
+is_flat_condition (Both c d) = is_flat_condition c && is_flat_condition d
+is_flat_condition (Either c d) = is_flat_condition c && is_flat_condition d
 
 -- flat, or a call or a service of flat expressions
 abbrev pub IsFlatSide : Tx → Type 0

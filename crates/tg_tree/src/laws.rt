@@ -1,4 +1,4 @@
-ghost use Rattle.tg_tree.specs.FlatValue.{FlatRunsByValue};
+ghost use Rattle.tg_tree.specs.FlatValue.{FlatRunsAsValue, FlatSpendsLength, FlatWordSpendsAll};
 ghost use Rattle.tg_tree.specs.Laws.{
   TreesStep,
   TreesStayOver,
@@ -27,9 +27,12 @@ pub fn flat_code_runs()
     ensures on { FlatCodeOnlyGoesOn }
 {}
 
-/// The law that a run of a flat expression is its value, with the units of work of its expressions.
+/// The laws that a run of a flat expression is its value, behind exactly the units of work that it spends: at most its
+/// length, and all of it where it has a word.
 pub fn flat_expressions_run()
-    ensures { FlatRunsByValue }
+    ensures runs { FlatRunsAsValue }
+    ensures within { FlatSpendsLength }
+    ensures whole { FlatWordSpendsAll }
 {}
 
 /// The law that what was never stored doesn't matter: a run that doesn't go wrong is the same whatever temporaries hold

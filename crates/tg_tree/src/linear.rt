@@ -2,7 +2,7 @@ use crate::operators::Rel;
 use crate::trees::{Ts, Tx};
 
 /// An element of the flat form after tracing (Appel, chapter 8).
-#[derive(Debug, PartialEq, Eq, Drop)]
+#[derive(Drop)]
 pub enum Linear {
     Mark(u32),
     Do(Ts),

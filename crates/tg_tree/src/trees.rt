@@ -3,7 +3,7 @@ use tg_base::{Label, Temp};
 
 /// An expression, which gives a word (Appel, chapter 7).
 #[cycle(tree)]
-#[derive(Debug, PartialEq, Eq, Drop)]
+#[derive(Drop)]
 pub enum Tx {
     Const(u32),
     /// The address of a literal.
@@ -24,14 +24,14 @@ pub enum Tx {
 
 /// Expressions.
 #[cycle(tree)]
-#[derive(Debug, PartialEq, Eq, Drop)]
+#[derive(Drop)]
 pub struct Txs {
     pub items: Vec<Tx>,
 }
 
 /// A condition. `Both` and `Either` look at their right side only where it matters.
 #[cycle(tree)]
-#[derive(Debug, PartialEq, Eq, Drop)]
+#[derive(Drop)]
 pub enum Cond {
     Compare(Rel, Box<Tx>, Box<Tx>),
     Not(Box<Cond>),
@@ -41,7 +41,7 @@ pub enum Cond {
 
 /// A statement.
 #[cycle(tree)]
-#[derive(Debug, PartialEq, Eq, Drop)]
+#[derive(Drop)]
 pub enum Ts {
     Move(Temp, Tx),
     /// A word, or the low byte of one, is stored at an address.
@@ -60,7 +60,7 @@ pub enum Ts {
 
 /// Statements.
 #[cycle(tree)]
-#[derive(Debug, PartialEq, Eq, Drop)]
+#[derive(Drop)]
 pub struct Stms {
     pub items: Vec<Ts>,
 }
