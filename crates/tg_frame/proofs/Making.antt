@@ -8,10 +8,11 @@ use Rattle.std.proofs.lemmas.List.Folds.{list_any-append}
 use Rattle.tg_base.specs.declared.ids.Temp.{Temp}
 use Rattle.tg_frame.specs.declared.accesses.Access.{Access}
 use Rattle.tg_frame.specs.declared.accesses.Access.TheVariants.{InTemp, InFrame}
-use Rattle.tg_frame.specs.Homes.{is_slot, slots_of, temps_of, slot_bound, temp_bound, is_same_home, differ}
+use Rattle.tg_frame.specs.Homes.{is_slot, homes_from, homes_of, next_home, slots_of, temps_of, slot_bound, temp_bound, is_same_home, differ}
 
 -- homes for what was asked, with as many slots and temporaries
 pub record Made (asked : List Bool) (homes : List Access) (slots temps : ℕ) : Type 0 where
+  pub exact : homes ≡ homes_of asked
   pub are : map is_slot homes ≡ asked
   pub slots_are : slots ≡ slots_of asked
   pub temps_are : temps ≡ temps_of asked
@@ -21,7 +22,7 @@ pub record Made (asked : List Bool) (homes : List Access) (slots temps : ℕ) : 
   pub distinct : IsTrue (differ homes)
 
 pub made_none : Made [] [] 0 0
-made_none = record { are = refl; slots_are = refl; temps_are = refl; drawn = refl; slots_below = omega arith; temps_below = omega arith; distinct = refl }
+made_none = record { exact = refl; are = refl; slots_are = refl; temps_are = refl; drawn = refl; slots_below = omega arith; temps_below = omega arith; distinct = refl }
 
 map_push : (homes : List Access) (a : Access) → map is_slot (homes ++ a ∷ []) ≡ map is_slot homes ++ is_slot a ∷ []
 map_push [] a = refl
@@ -46,6 +47,23 @@ temps_keep : (asked : List Bool) → temps_of (asked ++ true ∷ []) ≡ temps_o
 temps_keep [] = refl
 temps_keep (true ∷ asked) = temps_keep asked
 temps_keep (false ∷ asked) = ap (λ n. n + 1) (temps_keep asked)
+
+-- the homes that are asked for, and one more
+homes_push : (asked : List Bool) (b : Bool) (s t : ℕ) → homes_from s t (asked ++ b ∷ []) ≡ homes_from s t asked ++ next_home b (s + slots_of asked) (t + temps_of asked) ∷ []
+homes_push [] true s t = let e : s ≡ s + 0 = omega arith in ap (λ n. InFrame n ∷ []) e
+homes_push [] false s t = let e : t ≡ t + 0 = omega arith in ap (λ n. InTemp (record { 0 = n }) ∷ []) e
+homes_push (true ∷ asked) b s t =
+    let e : s + 1 + slots_of asked ≡ s + (slots_of asked + 1) = omega arith in
+    ap (λ l. InFrame s ∷ l) (homes_push asked b (s + 1) t ∙ ap (λ n. homes_from (s + 1) t asked ++ next_home b n (t + temps_of asked) ∷ []) e)
+homes_push (false ∷ asked) b s t =
+    let e : t + 1 + temps_of asked ≡ t + (temps_of asked + 1) = omega arith in
+    ap (λ l. InTemp (record { 0 = t }) ∷ l) (homes_push asked b s (t + 1) ∙ ap (λ n. homes_from s (t + 1) asked ++ next_home b (s + slots_of asked) n ∷ []) e)
+
+exact_push : (asked : List Bool) (b : Bool) (homes : List Access) (slots temps : ℕ) → homes ≡ homes_of asked → slots ≡ slots_of asked → temps ≡ temps_of asked → homes ++ next_home b slots temps ∷ [] ≡ homes_of (asked ++ b ∷ [])
+exact_push asked b homes slots temps e f g =
+    let zs : slots ≡ 0 + slots_of asked = omega (arith, f) in
+    let zt : temps ≡ 0 + temps_of asked = omega (arith, g) in
+    ap (λ l. l ++ next_home b slots temps ∷ []) e ∙ (ap (λ n. homes_of asked ++ next_home b n temps ∷ []) zs ∙ (ap (λ n. homes_of asked ++ next_home b (0 + slots_of asked) n ∷ []) zt ∙ sym (homes_push asked b 0 0)))
 
 length_push : (asked : List Bool) (b : Bool) → length (asked ++ b ∷ []) ≡ length asked + 1
 length_push [] b = refl
@@ -119,6 +137,7 @@ temp_differs (a ∷ homes) t d le =
 pub made_slot : (asked : List Bool) (homes : List Access) (slots temps : ℕ) → Made asked homes slots temps → Made (asked ++ true ∷ []) (homes ++ InFrame slots ∷ []) (slots + 1) temps
 made_slot asked homes slots temps m =
     record {
+      exact = exact_push asked true homes slots temps m.exact m.slots_are m.temps_are;
       are = map_push homes (InFrame slots) ∙ ap (λ l. l ++ true ∷ []) m.are;
       slots_are = ap (λ n. n + 1) m.slots_are ∙ sym (slots_push asked);
       temps_are = m.temps_are ∙ sym (temps_keep asked);
@@ -131,6 +150,7 @@ made_slot asked homes slots temps m =
 pub made_temp : (asked : List Bool) (homes : List Access) (slots temps : ℕ) → Made asked homes slots temps → Made (asked ++ false ∷ []) (homes ++ InTemp (record { 0 = temps }) ∷ []) slots (temps + 1)
 made_temp asked homes slots temps m =
     record {
+      exact = exact_push asked false homes slots temps m.exact m.slots_are m.temps_are;
       are = map_push homes (InTemp (record { 0 = temps })) ∙ ap (λ l. l ++ false ∷ []) m.are;
       slots_are = m.slots_are ∙ sym (slots_keep asked);
       temps_are = ap (λ n. n + 1) m.temps_are ∙ sym (temps_push asked);

@@ -19,6 +19,15 @@ abbrev pub next_home : Bool → (slots temps : ℕ) → Access
 next_home true slots temps = InFrame slots
 next_home false slots temps = InTemp (record { 0 = temps })
 
+-- homes for what is asked, one after another, where so many slots and temporaries are drawn
+abbrev pub homes_from : (slots temps : ℕ) → List Bool → List Access
+homes_from slots temps [] = []
+homes_from slots temps (true ∷ asked) = InFrame slots ∷ homes_from (slots + 1) temps asked
+homes_from slots temps (false ∷ asked) = InTemp (record { 0 = temps }) ∷ homes_from slots (temps + 1) asked
+
+abbrev pub homes_of : List Bool → List Access
+homes_of asked = homes_from 0 0 asked
+
 -- how many homes are asked for in the frame, and outside
 abbrev pub slots_of : List Bool → ℕ
 slots_of [] = 0

@@ -6,6 +6,7 @@ ghost use Rattle.tg_frame.specs.Homes.{
   temp_bound,
   differ,
   is_slot,
+  homes_of,
   slots_of,
   temps_of,
   IsDrawn,
@@ -35,7 +36,8 @@ pub struct Frame {
 pub fn new_frame(alloc: Global, label: Label, escaping: &[bool]) -> Result<Frame, Memory>
     requires { length escaping.now ≤ 4194304 }
     ensures label { IfOk result (λ f. f.label ≡ label) }
-    ensures params { IfOk result (λ f. map is_slot f.params ≡ escaping.now) }
+    ensures params { IfOk result (λ f. f.params ≡ homes_of escaping.now) }
+    ensures escaping { IfOk result (λ f. map is_slot f.params ≡ escaping.now) }
     ensures slots { IfOk result (λ f. f.slots ≡ slots_of escaping.now) }
     ensures temps { IfOk result (λ f. f.temps ≡ temps_of escaping.now) }
     ensures out { IfOk result (λ f. f.out ≡ 0) }
