@@ -6,3 +6,4 @@ pub mod Filled
 pub mod TreeRuns
 pub mod FlatRuns
 pub mod FlatValues
+pub mod ListLaws

@@ -13,3 +13,5 @@ pub mod Named
 pub mod FrameSizes
 pub mod Sizes
 pub mod Holding
+pub mod Forms
+pub mod Lists

@@ -6,6 +6,7 @@
 mod fragments;
 mod laws;
 mod linear;
+mod making;
 mod operators;
 mod trees;
 
@@ -14,5 +15,9 @@ pub use laws::{
     flat_code_runs, flat_expressions_run, full_stack_ends_the_call, nothing_else_is_read, trees_run,
 };
 pub use linear::Linear;
+pub use making::{
+    after, binary, both, call, compare, either, if_else, load, load_byte, repeat, sequence,
+    service, when,
+};
 pub use operators::{Bin, Rel};
 pub use trees::{Cond, Stms, Ts, Tx, Txs};
