@@ -8,8 +8,9 @@ use Rattle.tg_syntax.specs.declared.trees.Op.{Op}
 use Rattle.tg_syntax.specs.declared.trees.Op.TheVariants as op
 use Rattle.tg_syntax.specs.Tree.{Exp, Int, Call, Neg, Binary, Seq, exp, no_exps}
 use Rattle.tg_syntax.specs.Measures.{size}
+use Rattle.tg_runs.specs.Outcomes.{ended}
 use Rattle.tg_meaning.specs.declared.standards.Standard.TheVariants.{Exit}
-use Rattle.tg_meaning.specs.Values.{Value, int, Entry, Env, ended, by_overflow, add_weight}
+use Rattle.tg_meaning.specs.Values.{Value, int, Entry, Env, by_overflow, add_weight}
 use Rattle.tg_meaning.specs.Environments.{to_standard, find, outermost}
 use Rattle.tg_meaning.specs.Levels.{Far, crossed, far_from, hops, activation, program_weight}
 use Rattle.tg_meaning.specs.Evaluation.{Job, eval, eval_all, call, operate, with_left, exactly, meaning}

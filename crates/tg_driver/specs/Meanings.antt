@@ -6,16 +6,16 @@ use Rattle.tg_base.specs.declared.ends.RunEnd.TheVariants.{Exit, Overflow}
 use Rattle.tg_syntax.specs.declared.tokens.Spanned.{Spanned}
 use Rattle.tg_syntax.specs.Tree.{Exp}
 use Rattle.tg_syntax.specs.Measures.{size}
-use Rattle.tg_meaning.specs.Values.{End, Ending, by_exit, by_overflow, ended, stuck}
+use Rattle.tg_runs.specs.Outcomes.{End, ended, stuck, Outcome}
+use Rattle.tg_meaning.specs.Values.{Ending, by_exit, by_overflow}
 use Rattle.tg_meaning.specs.Levels.{activation, runtime_weight}
-use Rattle.tg_meaning.specs.Outcomes.{Outcome}
 use Rattle.tg_meaning.specs.Direct.{evaluate}
 use Rattle.tg_driver.specs.Sources.{IsSourceOf}
 use Rattle.tg_driver.specs.BuiltForm.{CallsExit}
 use Rattle.tg_driver.specs.Values.{exit_value}
 
 -- the end of a machine that runs what ends so
-abbrev pub IsEndOf : RunEnd → End → Type 0
+abbrev pub IsEndOf : RunEnd → End Ending → Type 0
 IsEndOf (Exit code) e = (v : ℕ) × (e ≡ ended (by_exit v)) × (code ≡ signed v)
 IsEndOf Overflow e = e ≡ ended by_overflow
 IsEndOf _ e = ⊥
@@ -34,7 +34,7 @@ ending_of None = by_overflow
 
 -- The run ends so. It writes nothing, reads nothing of its input, takes no heap, opens no declared function, and costs a unit
 -- for each node at most; a stack for its activation and one call of the runtime isn't passed.
-pub record EndsQuietly (body : Exp) (input : List ℕ) (stack : ℕ) (ending : Ending) (o : Outcome) : Type 0 where
+pub record EndsQuietly (body : Exp) (input : List ℕ) (stack : ℕ) (ending : Ending) (o : Outcome Ending) : Type 0 where
   pub ends : o.end ≡ ended ending
   pub unwritten : o.output ≡ []
   pub unread : o.input ≡ input

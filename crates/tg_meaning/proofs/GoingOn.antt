@@ -2,14 +2,14 @@
 use Rattle.std.proofs.Common.{◌≡◌, ℕ, zero, suc, ◌+◌, max, List, [], ◌++◌, Option, Some, None, Bool, true, false, nat_lt, refl, sym, ap, ◌∙◌, append_assoc, arith, le_trans, take, drop}
 use Rattle.std.specs.Prelude.{if◌then◌else◌}
 use Rattle.std.proofs.lemmas.List.{append-nil, take-append-drop}
-use Rattle.tg_meaning.specs.Values.{Value, End, ended, by_heap, add_heap, add_weight, go_deeper}
+use Rattle.tg_runs.specs.Outcomes.{End, ended, Outcome}
+use Rattle.tg_meaning.specs.Values.{Value, by_heap, add_heap, add_weight, go_deeper, Ending}
 use Rattle.tg_meaning.specs.Evaluation.{eval, meaning, Job}
-use Rattle.tg_meaning.specs.Outcomes.{Outcome}
 use Rattle.tg_meaning.specs.Direct.{State, Result, gives, breaks, is_over, Direct, after, after_body, returned, fuelled, found, changed, first_past, past_limit, direct, told, outcome}
 use Rattle.tg_meaning.specs.Laws.{GoesOn, so_far, NothingIsTakenBack}
 use Rattle.tg_meaning.proofs.Related.{Related, eval_same, meaning_same}
 
-pub goes_on : (o : Outcome) → GoesOn o o
+pub goes_on : (o : Outcome Ending) → GoesOn o o
 goes_on o = record {
   output = ([], sym (append-nil o.output));
   input = ([], refl);
@@ -19,7 +19,7 @@ goes_on o = record {
   deepest = omega arith;
 }
 
-pub goes_on_on : (a b c : Outcome) → GoesOn a b → GoesOn b c → GoesOn a c
+pub goes_on_on : (a b c : Outcome Ending) → GoesOn a b → GoesOn b c → GoesOn a c
 goes_on_on a b c g h = record {
   output = (g.output.0 ++ h.output.0, h.output.1 ∙ ap (λ x. x ++ h.output.0) g.output.1 ∙ append_assoc a.output g.output.0 h.output.0);
   input = (g.input.0 ++ h.input.0, g.input.1 ∙ ap (λ x. g.input.0 ++ x) h.input.1 ∙ sym (append_assoc g.input.0 h.input.0 c.input));
@@ -30,7 +30,7 @@ goes_on_on a b c g h = record {
 }
 
 -- the end doesn't matter
-pub whatever_end : (e e' : End) (s s' : State) → GoesOn (so_far s) (so_far s') → GoesOn (told e s) (told e' s')
+pub whatever_end : (e e' : End Ending) (s s' : State) → GoesOn (so_far s) (so_far s') → GoesOn (told e s) (told e' s')
 whatever_end e e' s s' g = record {
   output = g.output;
   input = g.input;
@@ -45,7 +45,7 @@ state_of (gives a s) = s
 state_of (breaks s) = s
 state_of (is_over e s) = s
 
-abbrev pub now : {A : Type 0} → Result A → Outcome
+abbrev pub now : {A : Type 0} → Result A → Outcome Ending
 now r = so_far (state_of r)
 
 abbrev pub Keeps : (A : Type 0) → Direct A → Type 0
@@ -54,17 +54,17 @@ Keeps A m = (s : State) → GoesOn (so_far s) (now (m s))
 abbrev pub Keep : (A : Type 0) → Direct A → Direct A → Type 0
 Keep A m m' = Keeps A m
 
-pub after_keeps : {A B : Type 0} (o : Outcome) (r : Result A) (f : A → Direct B) → GoesOn o (now r) → ((a : A) → Keeps B (f a)) → GoesOn o (now (after r f))
+pub after_keeps : {A B : Type 0} (o : Outcome Ending) (r : Result A) (f : A → Direct B) → GoesOn o (now r) → ((a : A) → Keeps B (f a)) → GoesOn o (now (after r f))
 after_keeps o (gives a s) f g h = goes_on_on o (so_far s) (now (f a s)) g (h a s)
 after_keeps o (breaks s) f g h = g
 after_keeps o (is_over e s) f g h = g
 
-pub loop_keeps : (o : Outcome) (r : Result Value) (k : Direct Value) → GoesOn o (now r) → Keeps Value k → GoesOn o (now (after_body r k))
+pub loop_keeps : (o : Outcome Ending) (r : Result Value) (k : Direct Value) → GoesOn o (now r) → Keeps Value k → GoesOn o (now (after_body r k))
 loop_keeps o (gives v s) k g h = goes_on_on o (so_far s) (now (k s)) g (h s)
 loop_keeps o (breaks s) k g h = g
 loop_keeps o (is_over e s) k g h = g
 
-pub returned_keeps : (o : Outcome) (r : Result Value) → GoesOn o (now r) → GoesOn o (now (returned r))
+pub returned_keeps : (o : Outcome Ending) (r : Result Value) → GoesOn o (now r) → GoesOn o (now (returned r))
 returned_keeps o (gives v s) g = g
 returned_keeps o (breaks s) g = g
 returned_keeps o (is_over e s) g = g
@@ -170,7 +170,7 @@ module _ (heap stack : ℕ) where
   meaning_keeps n job =
       meaning_same Direct Direct (direct heap stack) (direct heap stack) Keep all_keep (λ m m' g s. fuelled_keeps s.fuel s m g) n job
 
-outcome_keeps : (o : Outcome) (r : Result Value) → GoesOn o (now r) → GoesOn o (outcome r)
+outcome_keeps : (o : Outcome Ending) (r : Result Value) → GoesOn o (now r) → GoesOn o (outcome r)
 outcome_keeps o (gives v s) g = record { output = g.output; input = g.input; heap = g.heap; cost = g.cost; past_limit = g.past_limit; deepest = g.deepest }
 outcome_keeps o (breaks s) g = record { output = g.output; input = g.input; heap = g.heap; cost = g.cost; past_limit = g.past_limit; deepest = g.deepest }
 outcome_keeps o (is_over e s) g = record { output = g.output; input = g.input; heap = g.heap; cost = g.cost; past_limit = g.past_limit; deepest = g.deepest }

@@ -3,10 +3,10 @@ use Rattle.std.proofs.Common.{◌≡◌, ◌≢◌, inl, inr, ℕ, zero, suc, �
 use Rattle.std.specs.Prelude.{if◌then◌else◌}
 use Rattle.std.proofs.lemmas.Bool.{cases_lt}
 use Rattle.tg_syntax.specs.Tree.{Exp}
-use Rattle.tg_meaning.specs.Values.{Value, Entry, End, ended, normal, by_heap, out_of_fuel, stuck, add_heap}
+use Rattle.tg_runs.specs.Outcomes.{End, ended, out_of_fuel, stuck, Outcome}
+use Rattle.tg_meaning.specs.Values.{Value, Entry, normal, by_heap, add_heap, Ending}
 use Rattle.tg_meaning.specs.Environments.{outermost}
 use Rattle.tg_meaning.specs.Evaluation.{meaning, program, Job}
-use Rattle.tg_meaning.specs.Outcomes.{Outcome}
 use Rattle.tg_meaning.specs.Direct.{State, Result, gives, breaks, is_over, Direct, after, after_body, returned, fuelled, found, changed, direct, begin, told, outcome, evaluate}
 use Rattle.tg_meaning.specs.Laws.{GoesOn, so_far, MoreFuelIsIdle, MoreFuelGoesOn, HasOneOutcome}
 use Rattle.tg_meaning.proofs.Related.{Related, run_same, run_program_same}
@@ -58,7 +58,7 @@ returned_longer d n (is_over (ended e) s) r' g = ap returned g
 returned_longer d n (is_over stuck s) r' g = ap returned g
 returned_longer d n (is_over out_of_fuel s) r' g = returned_keeps (so_far s) r' g
 
-over_longer : (A : Type 0) (d n : ℕ) (e : End) (s : State) → Longer {A = A} d n (is_over e s) (is_over e (more d s))
+over_longer : (A : Type 0) (d n : ℕ) (e : End Ending) (s : State) → Longer {A = A} d n (is_over e s) (is_over e (more d s))
 over_longer A d n (ended e) s = refl
 over_longer A d n stuck s = refl
 over_longer A d n out_of_fuel s = goes_on (so_far s)
@@ -135,12 +135,12 @@ outcome_idle d n (is_over (ended e) s) r' g h = ap outcome g
 outcome_idle d n (is_over stuck s) r' g h = ap outcome g
 outcome_idle d n (is_over out_of_fuel s) r' g h = absurd (h refl)
 
-outcome_now : (e : End) (s : State) (r : Result Value) → GoesOn (so_far s) (now r) → GoesOn (told e s) (outcome r)
+outcome_now : (e : End Ending) (s : State) (r : Result Value) → GoesOn (so_far s) (now r) → GoesOn (told e s) (outcome r)
 outcome_now e s (gives v s') g = whatever_end e (ended normal) s s' g
 outcome_now e s (breaks s') g = whatever_end e stuck s s' g
 outcome_now e s (is_over e' s') g = whatever_end e e' s s' g
 
-equal_goes_on : (o o' : Outcome) → o' ≡ o → GoesOn o o'
+equal_goes_on : (o o' : Outcome Ending) → o' ≡ o → GoesOn o o'
 equal_goes_on o o' e = subst (λ x. GoesOn o x) (sym e) (goes_on o)
 
 outcome_goes_on : (d n : ℕ) (r r' : Result Value) → Longer d n r r' → GoesOn (outcome r) (outcome r')

@@ -6,9 +6,9 @@ use Rattle.tg_syntax.specs.declared.tokens.Ident.{Ident}
 use Rattle.tg_syntax.specs.declared.trees.Op.{Op}
 use Rattle.tg_syntax.specs.Tree.{Exp, Break, Int, Call, Neg, Binary, If, While, Let, Place, Exps, Decs, Assign}
 use Rattle.tg_syntax.specs.declared.trees.Op.TheVariants.{Minus}
+use Rattle.tg_runs.specs.Outcomes.{costs}
 use Rattle.tg_meaning.specs.Values.{Value, int, nothing, Env, World}
 use Rattle.tg_meaning.specs.Environments.{name_of, find}
-use Rattle.tg_meaning.specs.Outcomes.{costs}
 use Rattle.tg_meaning.specs.Passing.{Rest, Passing, with_turn, with_found, passing}
 use Rattle.tg_meaning.specs.Evaluation as E
 use Rattle.tg_meaning.specs.Evaluation.{Job, repeat_while}

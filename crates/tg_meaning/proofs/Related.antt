@@ -6,9 +6,10 @@ use Rattle.tg_syntax.specs.declared.trees.Param.{Param}
 use Rattle.tg_syntax.specs.declared.trees.Op.{Op}
 use Rattle.tg_syntax.specs.declared.trees.Op.TheVariants.{Plus, Minus, Times, Divide, And, Or}
 use Rattle.tg_syntax.specs.Tree.{Exp, Nil, Break, Int, Text, Read, Call, Neg, Binary, Make, Fill, Assign, If, When, While, For, Let, Seq, Place, Simple, Field, Index, Exps, no_exps, exp, Inits, no_inits, init, Decs, no_decs, types, variable as variable_dec, functions}
+use Rattle.tg_runs.specs.Outcomes.{End, ended, stuck}
 use Rattle.tg_meaning.specs.declared.standards.Standard.{Standard}
 use Rattle.tg_meaning.specs.declared.standards.Standard.TheVariants.{Print, Flush, Getchar, Ord, Chr, Size, Substring, Concat, Not, Exit}
-use Rattle.tg_meaning.specs.Values.{Value, int, string, nil, reference, nothing, Object, fields, elements, Entry, Env, by_chr, End, ended, stuck, World}
+use Rattle.tg_meaning.specs.Values.{Value, int, string, nil, reference, nothing, Object, fields, elements, Entry, Env, by_chr, World, Ending}
 use Rattle.tg_meaning.specs.Actions.{Actions}
 use Rattle.tg_meaning.specs.Environments.{Bound, to_variable, to_function, to_standard}
 use Rattle.tg_meaning.specs.Operators.{exact_quotient, is_below, comparison, identity}
@@ -21,7 +22,7 @@ module _ (Action Action' : Type 0 → Type 0) (M : Actions Action) (M' : Actions
     pub gives : (A : Type 0) (a : A) → R A (M.give a) (M'.give a)
     pub binds : (A B : Type 0) (m : Action A) (m' : Action' A) (f : A → Action B) (f' : A → Action' B) → R A m m' → ((a : A) → R B (f a) (f' a)) → R B (M.bind m f) (M'.bind m' f')
     pub breaks : (A : Type 0) → R A M.break M'.break
-    pub overs : (A : Type 0) (e : End) → R A (M.over e) (M'.over e)
+    pub overs : (A : Type 0) (e : End Ending) → R A (M.over e) (M'.over e)
     pub loops : (m k : Action Value) (m' k' : Action' Value) → R Value m m' → R Value k k' → R Value (M.in_loop m k) (M'.in_loop m' k')
     pub bodies : (m : Action Value) (m' : Action' Value) → R Value m m' → R Value (M.in_function m) (M'.in_function m')
     pub looks : (A : Type 0) (f : World → Option A) → R A (M.look f) (M'.look f)

@@ -3,7 +3,8 @@ use Rattle.std.proofs.Common.{◌≡◌, ℕ, ◌-◌, ◌^◌, List, [], ◌∷
 use Rattle.std.specs.Prelude.{codes}
 use Prim.Native.String.{String}
 use Rattle.tg_syntax.specs.Tree.{Exp, no_decs}
-use Rattle.tg_meaning.specs.Values.{End, ended, stuck, normal, by_index, by_chr, by_substring, by_size, by_heap, by_exit}
+use Rattle.tg_runs.specs.Outcomes.{End, ended, stuck}
+use Rattle.tg_meaning.specs.Values.{normal, by_index, by_chr, by_substring, by_size, by_heap, by_exit, Ending}
 use Rattle.tg_meaning.specs.Direct.{evaluate}
 use Rattle.tg_meaning.proofs.Trees.{nil, break, num, text, bytes, simple, index, read, var, call, neg, ◌+'◌, ◌-'◌, ◌='◌, ◌<>'◌, ◌<'◌, ◌<='◌, ◌>'◌, ◌&'◌, ◌or'◌, set, when, while, for, seq, array, make, fun, let_var, block, evaluated, does, on_heap, names}
 
@@ -11,7 +12,7 @@ abbrev say : String → Exp
 say chars = call "print" (text chars ∷ [])
 
 -- the answer of a program that exits with 1 where e isn't 0
-abbrev tells : Exp → End × List ℕ
+abbrev tells : Exp → End Ending × List ℕ
 tells e = does (call "exit" (e ∷ [])) 0
 
 -- (while 1 do (while (break; 1) do print("a"); print("b")); print("c")): the break belongs to the loop outside
@@ -63,7 +64,7 @@ check_before_right : does (assigns_at 3) 2 ≡ (ended by_index, codes "f")
 check_before_right = refl
 
 -- let type r={x:int} var a:r:=nil var b:=r{x=1} in exit(..) end
-abbrev compares : Exp → End × List ℕ
+abbrev compares : Exp → End Ending × List ℕ
 compares e = does (block (let_var "a" nil (let_var "b" (make (("x", num 1) ∷ [])) no_decs)) (call "exit" (e ∷ []) ∷ [])) 0
 
 -- a=a, a=b, b=a, a<>b, b=b
@@ -87,7 +88,7 @@ heap_to_the_word : (on_heap 12 [] (call "print" (call "concat" (text "ab" ∷ te
 heap_to_the_word = (refl, refl, refl, refl)
 
 -- substring("abc",3,0), substring("abc",-1,1), substring("abc",1,-1), substring("abc",0,4), substring("abc",1,2)
-abbrev part : Exp → Exp → End × List ℕ
+abbrev part : Exp → Exp → End Ending × List ℕ
 part first count = does (call "print" (call "substring" (text "abc" ∷ first ∷ count ∷ []) ∷ [])) 0
 
 substrings : (part (num 3) (num 0) ≡ (ended normal, [])) × (part (neg (num 1)) (num 1) ≡ (ended by_substring, [])) × (part (num 1) (neg (num 1)) ≡ (ended by_substring, [])) × (part (num 0) (num 4) ≡ (ended by_substring, [])) × (part (num 1) (num 2) ≡ (ended normal, codes "bc"))

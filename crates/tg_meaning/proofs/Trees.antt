@@ -11,8 +11,8 @@ use Rattle.tg_syntax.specs.declared.trees.Op.{Op}
 use Rattle.tg_syntax.specs.declared.trees.Op.TheVariants as op
 use Rattle.tg_syntax.specs.Tree as tree
 use Rattle.tg_syntax.specs.Tree.{Exp, Place, Exps, no_exps, exp, Inits, no_inits, init, Decs, no_functions}
-use Rattle.tg_meaning.specs.Values.{End}
-use Rattle.tg_meaning.specs.Outcomes.{Outcome}
+use Rattle.tg_runs.specs.Outcomes.{End, Outcome}
+use Rattle.tg_meaning.specs.Values.{Ending}
 use Rattle.tg_meaning.specs.Direct.{evaluate}
 
 abbrev pub here : Span
@@ -158,17 +158,17 @@ abbrev pub block : Decs → List Exp → Exp
 block decs es = tree.Let here decs (exps es)
 
 -- what comes of a program: with default sizes; the end and the output alone
-abbrev pub evaluated : Exp → ℕ → Outcome
+abbrev pub evaluated : Exp → ℕ → Outcome Ending
 evaluated e fuel = evaluate names e [] 16777216 67108864 fuel
 
-abbrev pub seen : Outcome → End × List ℕ
+abbrev pub seen : Outcome Ending → End Ending × List ℕ
 seen o = (o.end, o.output)
 
-abbrev pub does : Exp → ℕ → End × List ℕ
+abbrev pub does : Exp → ℕ → End Ending × List ℕ
 does e fuel = seen (evaluated e fuel)
 
 abbrev pub index : Place → Exp → Place
 index place e = tree.Index place e
 
-abbrev pub on_heap : ℕ → List ℕ → Exp → ℕ → End × List ℕ
+abbrev pub on_heap : ℕ → List ℕ → Exp → ℕ → End Ending × List ℕ
 on_heap heap input e fuel = seen (evaluate names e input heap 67108864 fuel)

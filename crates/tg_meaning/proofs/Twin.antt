@@ -3,12 +3,12 @@ use Rattle.std.proofs.Common.{◌≡◌, ℕ, zero, suc, ◌+◌, max, List, [],
 use Rattle.std.specs.Prelude.{if◌then◌else◌}
 use Rattle.std.proofs.lemmas.List.{append-nil}
 use Rattle.tg_syntax.specs.Tree.{Exp}
-use Rattle.tg_meaning.specs.Values.{Value, End, ended, normal, by_heap, stuck, add_heap}
+use Rattle.tg_runs.specs.Outcomes.{End, ended, stuck, Outcome, first_written, writes, costs, passes_limit, reaches}
+use Rattle.tg_meaning.specs.Values.{Value, normal, by_heap, add_heap, Ending}
 use Rattle.tg_meaning.specs.Environments.{outermost}
 use Rattle.tg_meaning.specs.Evaluation.{program}
-use Rattle.tg_meaning.specs.Outcomes.{Outcome, over_in, first_written, writes, costs, passes_limit, reaches}
 use Rattle.tg_meaning.specs.Direct.{Trace, State, Result, gives, breaks, is_over, Direct, after, after_body, returned, fuelled, found, changed, first_past, past_limit, direct, begin, told, outcome, evaluate}
-use Rattle.tg_meaning.specs.Passing.{Rest, Passing, ends, with_turn, with_found, passing, evaluate_passing}
+use Rattle.tg_meaning.specs.Passing.{Rest, Passing, over_in, ends, with_turn, with_found, passing, evaluate_passing}
 use Rattle.tg_meaning.proofs.Related.{Related, program_same}
 
 -- what comes of having done this, and then what has this outcome
@@ -16,7 +16,7 @@ abbrev earlier : Option (List ℕ) → List ℕ → Option (List ℕ) → Option
 earlier (Some past) output later = Some past
 earlier None output later = first_written output later
 
-abbrev since : Trace → Outcome → Outcome
+abbrev since : Trace → Outcome Ending → Outcome Ending
 since t o = record {
   end = o.end;
   output = t.output ++ o.output;
@@ -28,7 +28,7 @@ since t o = record {
 }
 
 -- a result, and then what comes next
-abbrev finished : {A : Type 0} → Result A → (A → Rest) → Rest → Outcome
+abbrev finished : {A : Type 0} → Result A → (A → Rest) → Rest → Outcome Ending
 finished (gives a s) go out = since s.trace (go a s.world s.fuel)
 finished (breaks s) go out = since s.trace (out s.world s.fuel)
 finished (is_over e s) go out = since s.trace (over_in s.world e)
@@ -64,17 +64,17 @@ earlier_written (Some p) output bytes later = refl
 earlier_written None output bytes None = refl
 earlier_written None output bytes (Some q) = ap Some (append_assoc output bytes q)
 
-write_same : (t : Trace) (bytes : List ℕ) (o : Outcome) → since (record t { output = t.output ++ bytes }) o ≡ since t (writes bytes o)
+write_same : (t : Trace) (bytes : List ℕ) (o : Outcome Ending) → since (record t { output = t.output ++ bytes }) o ≡ since t (writes bytes o)
 write_same t bytes o =
     ap₂ (λ x y. record { end = o.end; output = x; input = o.input; heap = o.heap; cost = t.cost + o.cost; output_past_limit = y; deepest = max t.deepest o.deepest })
     (append_assoc t.output bytes o.output) (earlier_written t.output_past_limit t.output bytes o.output_past_limit)
 
-spend_same : (t : Trace) (k : ℕ) (o : Outcome) → since (record t { cost = t.cost + k }) o ≡ since t (costs k o)
+spend_same : (t : Trace) (k : ℕ) (o : Outcome Ending) → since (record t { cost = t.cost + k }) o ≡ since t (costs k o)
 spend_same t k o =
     let e : t.cost + k + o.cost ≡ t.cost + (k + o.cost) = omega arith in
     ap (λ x. record { end = o.end; output = t.output ++ o.output; input = o.input; heap = o.heap; cost = x; output_past_limit = earlier t.output_past_limit t.output o.output_past_limit; deepest = max t.deepest o.deepest }) e
 
-deeper_same : (t : Trace) (d : ℕ) (o : Outcome) → since (record t { deepest = max t.deepest d }) o ≡ since t (reaches d o)
+deeper_same : (t : Trace) (d : ℕ) (o : Outcome Ending) → since (record t { deepest = max t.deepest d }) o ≡ since t (reaches d o)
 deeper_same t d o =
     let e : max (max t.deepest d) o.deepest ≡ max t.deepest (max d o.deepest) = omega arith in
     ap (λ x. record { end = o.end; output = t.output ++ o.output; input = o.input; heap = o.heap; cost = t.cost + o.cost; output_past_limit = earlier t.output_past_limit t.output o.output_past_limit; deepest = x }) e
@@ -84,7 +84,7 @@ earlier_past (Some p) above output later = refl
 earlier_past None true output later = ap Some (sym (append-nil output))
 earlier_past None false output later = refl
 
-weigh_same : (t : Trace) (above : Bool) (o : Outcome) → since (past_limit above t) o ≡ since t (passes_limit above o)
+weigh_same : (t : Trace) (above : Bool) (o : Outcome Ending) → since (past_limit above t) o ≡ since t (passes_limit above o)
 weigh_same t above o =
     ap (λ x. record { end = o.end; output = t.output ++ o.output; input = o.input; heap = o.heap; cost = t.cost + o.cost; output_past_limit = x; deepest = max t.deepest o.deepest })
     (earlier_past t.output_past_limit above t.output o.output_past_limit)
@@ -125,7 +125,7 @@ earlier_none : (past : Option (List ℕ)) (output : List ℕ) → past ≡ earli
 earlier_none (Some p) output = refl
 earlier_none None output = refl
 
-told_same : (e : End) (s : State) → told e s ≡ since s.trace (over_in s.world e)
+told_same : (e : End Ending) (s : State) → told e s ≡ since s.trace (over_in s.world e)
 told_same e s =
     let c : s.trace.cost ≡ s.trace.cost + 0 = omega arith in
     let d : s.trace.deepest ≡ max s.trace.deepest 0 = omega arith in
@@ -141,7 +141,7 @@ first_nothing : (o : Option (List ℕ)) → first_written [] o ≡ o
 first_nothing (Some p) = refl
 first_nothing None = refl
 
-since_start : (o : Outcome) → since (record { output = []; cost = 0; output_past_limit = None; deepest = 0 }) o ≡ o
+since_start : (o : Outcome Ending) → since (record { output = []; cost = 0; output_past_limit = None; deepest = 0 }) o ≡ o
 since_start o =
     let c : 0 + o.cost ≡ o.cost = omega arith in
     let d : max 0 o.deepest ≡ o.deepest = omega arith in

@@ -1,10 +1,10 @@
 -- What stands behind a unit of fuel, without a bound, and its equation.
 use Rattle.std.proofs.Common.{◌≡◌, ℕ, zero, suc, ◌+◌, ◌≤◌, Option, Some, None, Bool, true, false, nat_lt, refl, ap, arith, le_trans}
 use Rattle.std.specs.Prelude.{if◌then◌else◌}
-use Rattle.tg_meaning.specs.Values.{Value, ended, normal, by_heap, stuck, World, start, add_heap}
+use Rattle.tg_runs.specs.Outcomes.{ended, stuck, writes, costs, passes_limit, reaches}
+use Rattle.tg_meaning.specs.Values.{Value, normal, by_heap, World, start, add_heap}
 use Rattle.tg_meaning.specs.Environments.{outermost}
 use Rattle.tg_meaning.specs.Evaluation.{meaning, Job}
-use Rattle.tg_meaning.specs.Outcomes.{writes, costs, passes_limit, reaches}
 use Rattle.tg_meaning.specs.Passing.{Rest, Passing, ends, with_turn, with_found, passing}
 use Rattle.tg_meaning.specs.Laws.{behind, FuelUnfolds, ProgramUnfolds}
 use Rattle.tg_meaning.proofs.Related.{Related, run_same, run_program_same}

@@ -3,8 +3,8 @@ use Rattle.std.proofs.Common.{◌≡◌, ℕ, ◌-◌, ◌^◌, List, [], ◌∷
 use Rattle.std.specs.Prelude.{codes}
 use Prim.Native.String.{String}
 use Rattle.tg_syntax.specs.Tree.{Exp, no_decs}
-use Rattle.tg_meaning.specs.Values.{End, ended, out_of_fuel, normal, by_nil, by_index, by_division, by_chr, by_substring, by_size, by_heap, by_overflow, by_exit}
-use Rattle.tg_meaning.specs.Outcomes.{Outcome}
+use Rattle.tg_runs.specs.Outcomes.{End, ended, out_of_fuel, Outcome}
+use Rattle.tg_meaning.specs.Values.{normal, by_nil, by_index, by_division, by_chr, by_substring, by_size, by_heap, by_overflow, by_exit, Ending}
 use Rattle.tg_meaning.specs.Direct.{evaluate}
 use Rattle.tg_meaning.proofs.Trees.{nil, break, num, text, simple, field, index, read, var, call, neg, ◌+'◌, ◌-'◌, ◌*'◌, ◌/'◌, ◌='◌, ◌<>'◌, ◌<'◌, ◌>'◌, ◌&'◌, set, when, if_else, while, for, seq, array, make, fun, let_var, block, does, on_heap, names}
 
@@ -113,7 +113,7 @@ heap_of_one_record : on_heap 8 [] (block (let_var "a" nil no_decs) (set (simple 
 heap_of_one_record = refl
 
 -- let function f()=f() in print("x"); f() end, with 65536 bytes of stack
-abbrev endless : ℕ → Outcome
+abbrev endless : ℕ → Outcome Ending
 endless fuel = evaluate names (block (fun "f" [] (call "f" []) no_decs) (say "x" ∷ call "f" [] ∷ [])) [] 16777216 65536 fuel
 
 -- the program weighs 2304 and each activation 1344, so the 48th is too much
@@ -128,7 +128,7 @@ without_end : does (while (num 1) (seq [])) 100 ≡ (out_of_fuel, [])
 without_end = refl
 
 -- let var c:=getchar() in while c<>"" do (print(c); c:=getchar()) end, on the bytes 00 FF 41
-abbrev copy : ℕ → End × List ℕ
+abbrev copy : ℕ → End Ending × List ℕ
 copy heap = on_heap heap (0 ∷ 255 ∷ 65 ∷ []) (block (let_var "c" (call "getchar" []) no_decs) (while (var "c" <>' text "") (seq (call "print" (var "c" ∷ []) ∷ set (simple "c") (call "getchar" []) ∷ [])) ∷ [])) 3
 
 input_to_output : copy 16777216 ≡ (ended normal, 0 ∷ 255 ∷ 65 ∷ [])

@@ -1,7 +1,8 @@
 -- What an evaluation may do. `Action A` is an action that gives an A, or leaves a loop by a `break`, or after which the run is
 -- over. Two forms of actions follow: results (Direct.antt), and runs that take what comes next (Passing.antt).
 use Rattle.std.specs.Prelude.{ℕ, List, Option}
-use Rattle.tg_meaning.specs.Values.{Value, Object, End, World}
+use Rattle.tg_runs.specs.Outcomes.{End}
+use Rattle.tg_meaning.specs.Values.{Value, Object, World, Ending}
 
 pub record Actions (Action : Type 0 → Type 0) : Type 1 where
   -- gives this; does one action, and then the next with what it gave
@@ -9,7 +10,7 @@ pub record Actions (Action : Type 0 → Type 0) : Type 1 where
   pub bind : {A B : Type 0} → Action A → (A → Action B) → Action B
   -- leaves the loop; the run is over
   pub break : {A : Type 0} → Action A
-  pub over : {A : Type 0} → End → Action A
+  pub over : {A : Type 0} → End Ending → Action A
   -- a loop's body, and what follows it unless a `break` leaves that loop
   pub in_loop : (body onward : Action Value) → Action Value
   -- a function's body, in which no `break` stands outside a loop

@@ -1,11 +1,11 @@
 -- Evaluation by results: an action takes a state, and gives a value in a new state, or breaks, or is over.
 use Rattle.std.specs.Prelude.{ℕ, zero, suc, ◌+◌, max, List, [], ◌++◌, length, take, Option, Some, None, Bool, nat_lt, if◌then◌else◌}
 use Rattle.tg_syntax.specs.Tree.{Exp}
-use Rattle.tg_meaning.specs.Values.{Value, normal, by_heap, End, ended, out_of_fuel, stuck, World, start, add_variable, put_variable, add_object, put_object, add_heap, drop_byte, add_weight, drop_weight, go_deeper, go_back}
+use Rattle.tg_runs.specs.Outcomes.{End, ended, out_of_fuel, stuck, Outcome}
+use Rattle.tg_meaning.specs.Values.{Value, normal, by_heap, World, start, add_variable, put_variable, add_object, put_object, add_heap, drop_byte, add_weight, drop_weight, go_deeper, go_back, Ending}
 use Rattle.tg_meaning.specs.Actions.{Actions}
 use Rattle.tg_meaning.specs.Environments.{outermost}
 use Rattle.tg_meaning.specs.Evaluation.{program}
-use Rattle.tg_meaning.specs.Outcomes.{Outcome}
 
 -- what a run has done so far
 pub record Trace : Type 0 where
@@ -22,7 +22,7 @@ pub record State : Type 0 where
 pub data Result (A : Type 0) : Type 0 where
   gives : A → State → Result A
   breaks : State → Result A
-  is_over : End → State → Result A
+  is_over : End Ending → State → Result A
 
 abbrev pub Direct : Type 0 → Type 0
 Direct A = State → Result A
@@ -97,7 +97,7 @@ begin input fuel = record {
   trace = record { output = []; cost = 0; output_past_limit = None; deepest = 0 };
 }
 
-abbrev pub told : End → State → Outcome
+abbrev pub told : End Ending → State → Outcome Ending
 told e s = record {
   end = e;
   output = s.trace.output;
@@ -108,12 +108,12 @@ told e s = record {
   deepest = s.trace.deepest;
 }
 
-abbrev pub outcome : Result Value → Outcome
+abbrev pub outcome : Result Value → Outcome Ending
 outcome (gives v s) = told (ended normal) s
 outcome (breaks s) = told stuck s
 outcome (is_over e s) = told e s
 
 -- the outcome of a program with these names, on an input, with bytes of heap and of stack, and at most so much fuel
-abbrev pub evaluate : (names : List (List ℕ)) → Exp → (input : List ℕ) → (heap stack fuel : ℕ) → Outcome
+abbrev pub evaluate : (names : List (List ℕ)) → Exp → (input : List ℕ) → (heap stack fuel : ℕ) → Outcome Ending
 evaluate names body input heap stack fuel =
     outcome (program Direct (direct heap stack) body (outermost names) fuel (begin input fuel))

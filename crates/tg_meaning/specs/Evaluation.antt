@@ -6,9 +6,10 @@ use Rattle.tg_syntax.specs.declared.trees.Param.{Param}
 use Rattle.tg_syntax.specs.declared.trees.Op.{Op}
 use Rattle.tg_syntax.specs.declared.trees.Op.TheVariants.{Plus, Minus, Times, Divide, And, Or}
 use Rattle.tg_syntax.specs.Tree.{Exp, Nil, Break, Int, Text, Read, Call, Neg, Binary, Make, Fill, Assign, If, When, While, For, Let, Seq, Place, Simple, Field, Index, Exps, no_exps, exp, Inits, no_inits, init, Decs, no_decs, types, variable as variable_dec, functions, FunDecs, no_functions, function}
+use Rattle.tg_runs.specs.Outcomes.{ended, out_of_fuel, stuck}
 use Rattle.tg_meaning.specs.declared.standards.Standard.{Standard}
 use Rattle.tg_meaning.specs.declared.standards.Standard.TheVariants.{Print, Flush, Getchar, Ord, Chr, Size, Substring, Concat, Not, Exit}
-use Rattle.tg_meaning.specs.Values.{Value, int, string, nil, reference, nothing, Object, fields, elements, Entry, variable, group, Env, Ending, by_nil, by_index, by_division, by_chr, by_substring, by_size, by_overflow, by_exit, ended, out_of_fuel, stuck}
+use Rattle.tg_meaning.specs.Values.{Value, int, string, nil, reference, nothing, Object, fields, elements, Entry, variable, group, Env, Ending, by_nil, by_index, by_division, by_chr, by_substring, by_size, by_overflow, by_exit}
 use Rattle.tg_meaning.specs.Actions.{Actions}
 use Rattle.tg_meaning.specs.Environments.{name_of, Function, Bound, to_variable, to_function, to_standard, find}
 use Rattle.tg_meaning.specs.Levels.{program_weight, function_weight, runtime_weight}

@@ -1,10 +1,10 @@
 -- Laws of evaluation.
 use Rattle.std.specs.Prelude.{◌≡◌, ◌≢◌, ◌≤◌, ℕ, suc, ◌+◌, List, ◌++◌, Some}
 use Rattle.tg_syntax.specs.Tree.{Exp}
-use Rattle.tg_meaning.specs.Values.{Value, Env, ended, normal, out_of_fuel, stuck, start}
+use Rattle.tg_runs.specs.Outcomes.{ended, out_of_fuel, stuck, Outcome}
+use Rattle.tg_meaning.specs.Values.{Value, Env, Ending, normal, start}
 use Rattle.tg_meaning.specs.Environments.{outermost}
 use Rattle.tg_meaning.specs.Evaluation.{Job, eval, run, run_program, meaning}
-use Rattle.tg_meaning.specs.Outcomes.{Outcome}
 use Rattle.tg_meaning.specs.Direct.{State, Direct, direct, told, outcome, evaluate}
 use Rattle.tg_meaning.specs.Passing.{Rest, Passing, passing, ends, evaluate_passing}
 
@@ -16,7 +16,7 @@ FormsAgree =
 
 -- the first goes on as the second: more is written, more of the input is read, the heap, the cost and the greatest depth
 -- don't fall, and what was written when the limit was passed stays
-pub record GoesOn (o o' : Outcome) : Type 0 where
+pub record GoesOn (o o' : Outcome Ending) : Type 0 where
   pub output : (more : List ℕ) × (o'.output ≡ o.output ++ more)
   pub input : (read : List ℕ) × (o.input ≡ read ++ o'.input)
   pub heap : o.heap ≤ o'.heap
@@ -25,7 +25,7 @@ pub record GoesOn (o o' : Outcome) : Type 0 where
   pub deepest : o.deepest ≤ o'.deepest
 
 -- each expression goes on from what was so far
-abbrev pub so_far : State → Outcome
+abbrev pub so_far : State → Outcome Ending
 so_far s = told out_of_fuel s
 
 abbrev pub NothingIsTakenBack : Type 0

@@ -4,7 +4,6 @@ pub mod Levels
 pub mod Operators
 pub mod Actions
 pub mod Evaluation
-pub mod Outcomes
 pub mod Direct
 pub mod Passing
 pub mod Meant

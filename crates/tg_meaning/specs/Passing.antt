@@ -1,26 +1,38 @@
 -- Evaluation that passes along what comes next: an action takes what comes after its value and what comes after a `break`, and
 -- an outcome is what happens from that moment on.
-use Rattle.std.specs.Prelude.{ℕ, zero, suc, ◌+◌, List, length, take, Option, Some, None, nat_lt, if◌then◌else◌}
+use Rattle.std.specs.Prelude.{ℕ, ◌+◌, List, [], length, take, Option, Some, None, nat_lt, if◌then◌else◌}
 use Rattle.tg_syntax.specs.Tree.{Exp}
-use Rattle.tg_meaning.specs.Values.{Value, normal, by_heap, End, ended, out_of_fuel, stuck, World, start, add_variable, put_variable, add_object, put_object, add_heap, drop_byte, add_weight, drop_weight, go_deeper, go_back}
+use Rattle.tg_runs.specs.Runs.{Run, turn}
+use Rattle.tg_runs.specs.Outcomes.{End, ended, out_of_fuel, stuck, Outcome, writes, costs, passes_limit, reaches}
+use Rattle.tg_meaning.specs.Values.{Value, normal, by_heap, World, start, add_variable, put_variable, add_object, put_object, add_heap, drop_byte, add_weight, drop_weight, go_deeper, go_back, Ending}
 use Rattle.tg_meaning.specs.Actions.{Actions}
 use Rattle.tg_meaning.specs.Environments.{outermost}
 use Rattle.tg_meaning.specs.Evaluation.{program}
-use Rattle.tg_meaning.specs.Outcomes.{Outcome, over_in, writes, costs, passes_limit, reaches}
 
 -- what comes from a world on, by the fuel that is left
 abbrev pub Rest : Type 0
-Rest = World → (fuel : ℕ) → Outcome
+Rest = World → Run (Outcome Ending)
 
 abbrev pub Passing : Type 0 → Type 0
 Passing A = (go : A → Rest) → (out : Rest) → Rest
 
-abbrev pub ends : End → Rest
+-- a run that is over in this world
+abbrev pub over_in : World → End Ending → Outcome Ending
+over_in w end = record {
+  end = end;
+  output = [];
+  input = w.input;
+  heap = w.heap;
+  cost = 0;
+  output_past_limit = None;
+  deepest = 0;
+}
+
+abbrev pub ends : End Ending → Rest
 ends e w n = over_in w e
 
 abbrev pub with_turn : Rest → Rest
-with_turn rest w zero = over_in w out_of_fuel
-with_turn rest w (suc n) = rest w n
+with_turn rest w = turn (over_in w out_of_fuel) (rest w)
 
 abbrev pub with_found : {A : Type 0} → Option A → (A → Rest) → Rest
 with_found (Some a) go = go a
@@ -51,6 +63,6 @@ passing heap stack = record {
 }
 
 -- the same outcome as by results
-abbrev pub evaluate_passing : (names : List (List ℕ)) → Exp → (input : List ℕ) → (heap stack fuel : ℕ) → Outcome
+abbrev pub evaluate_passing : (names : List (List ℕ)) → Exp → (input : List ℕ) → (heap stack fuel : ℕ) → Outcome Ending
 evaluate_passing names body input heap stack fuel =
     program Passing (passing heap stack) body (outermost names) fuel (λ v. ends (ended normal)) (ends stuck) (start input) fuel

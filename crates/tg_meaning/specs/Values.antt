@@ -33,11 +33,6 @@ pub data Ending : Type 0 where
   normal by_nil by_index by_division by_chr by_substring by_size by_heap by_overflow : Ending
   by_exit : ℕ → Ending
 
--- how a run is over: the program has ended, wants more fuel, or has met a value of the wrong kind or a name without meaning
-pub data End : Type 0 where
-  ended : Ending → End
-  out_of_fuel stuck : End
-
 -- what a run has at a moment: variables and objects, the input that is left, the bytes of heap that are taken, the weight of
 -- what is open, and the number of open activations of declared functions
 pub record World : Type 0 where

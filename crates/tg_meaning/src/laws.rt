@@ -1,4 +1,4 @@
-ghost use Rattle.tg_meaning.specs.Meant.{AllStepsAsSource, TurnsAsSource, NoEndingIsFull, OnlyStuckIsStuck};
+ghost use Rattle.tg_meaning.specs.Meant.{TurnsAsSource, NoEndingIsFull, OnlyStuckIsStuck};
 ghost use Rattle.tg_meaning.specs.Laws.{
   FormsAgree,
   NothingIsTakenBack,
@@ -34,10 +34,9 @@ pub fn fuel_unfolds()
     ensures programs { ProgramUnfolds }
 {}
 
-/// Laws of a program's run as one that code may follow: each step is the same step there, no ending stands for a full
-/// stack, and only what is stuck is taken for it.
+/// Laws of a program's run as one that code may follow: a unit of fuel is used there as here, no
+/// ending stands for a full stack, and only what is stuck is taken for it.
 pub fn programs_as_sources()
-    ensures steps { AllStepsAsSource }
     ensures turns { TurnsAsSource }
     ensures full { NoEndingIsFull }
     ensures stuck { OnlyStuckIsStuck }

@@ -1,5 +1,7 @@
 pub mod Runs
 pub mod Ran
+pub mod Outcomes
 pub mod Preserving
 pub mod Agreement
+pub mod Simulating
 pub mod Laws

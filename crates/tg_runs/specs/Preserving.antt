@@ -3,7 +3,8 @@ use Rattle.std.specs.Prelude.{ℕ, ◌+◌, ◌*◌, ◌≡◌, ◌≢◌, ◌�
 use Rattle.tg_runs.specs.Runs.{Run}
 use Rattle.tg_runs.specs.Ran.{Ran, Wrong}
 
--- it writes the same, leaves the same input and stops the same way, with at most a times the work and b units more
+-- it writes the same, leaves the same input and stops the same way, with at most a times the work
+-- and b units more
 pub record DoesTheSame (a b : ℕ) (p q : Ran) : Type 0 where
   pub output : q.output ≡ p.output
   pub input : q.input ≡ p.input

@@ -1,8 +1,7 @@
 ghost use Rattle.tg_runs.specs.Laws.{
-  CallsItself,
-  TurnsAlike,
   PassesCompose,
   FollowingAgrees,
+  FollowingFills,
   AgreementGoesOn,
   FullStackGoesOn,
   FollowsWriting,
@@ -18,25 +17,41 @@ ghost use Rattle.tg_runs.specs.Laws.{
   FollowsWithCredit,
   FollowsAlong,
 };
-
-/// The laws of a run that calls itself after a unit of fuel, with arguments `X` and outcomes `O`: it is its own step.
-pub fn calls_itself<X, O>()
-    ensures step { CallsItself X O }
-    ensures turns { TurnsAlike O }
-{}
+ghost use Rattle.tg_runs.specs.Simulating.{
+  SimulationPreserves,
+  SimulatesStopping,
+  SimulatesWriting,
+  SimulatesTurn,
+  SimulatesTurnBehind,
+  SimulatesPaying,
+  SimulatesWorking,
+  SimulatesWrong,
+  SimulatesLess,
+  SimulatesWithCredit,
+  SimulatesAlong,
+  SimulatesComing,
+  FollowsComing,
+  ComesItself,
+  ComesOn,
+  ComesWriting,
+  ComesWorking,
+  ComesTurn,
+};
 
 /// The law that what two passes promise holds of both, one behind the other.
 pub fn passes_compose()
     ensures { PassesCompose }
 {}
 
-/// The law that code which follows a program agrees with it, both ways.
+/// The laws that code which follows a program agrees with it, both ways, and ends by a full stack
+/// where the program's calls are too deep for it.
 pub fn following_agrees()
-    ensures { FollowingAgrees }
+    ensures agrees { FollowingAgrees }
+    ensures fills { FollowingFills }
 {}
 
-/// The laws that code which agrees with a program, and ends by a full stack where its calls are too deep, still does
-/// so behind a pass.
+/// The laws that code which agrees with a program, and ends by a full stack where its calls are too
+/// deep, still does so behind a pass.
 pub fn agreement_goes_on()
     ensures agrees { AgreementGoesOn }
     ensures full { FullStackGoesOn }
@@ -56,4 +71,32 @@ pub fn steps_follow()
     ensures less { FollowsLess }
     ensures credit { FollowsWithCredit }
     ensures along { FollowsAlong }
+    ensures coming { FollowsComing }
+{}
+
+/// The laws of simulation behind a pass: that it is what a pass promises, and one for each step
+/// that the code before the pass and the code behind it take.
+pub fn passes_simulate()
+    ensures preserves { SimulationPreserves }
+    ensures stopping { SimulatesStopping }
+    ensures writing { SimulatesWriting }
+    ensures turn { SimulatesTurn }
+    ensures turn_behind { SimulatesTurnBehind }
+    ensures paying { SimulatesPaying }
+    ensures working { SimulatesWorking }
+    ensures wrong { SimulatesWrong }
+    ensures less { SimulatesLess }
+    ensures credit { SimulatesWithCredit }
+    ensures along { SimulatesAlong }
+    ensures coming { SimulatesComing }
+{}
+
+/// The laws of a run that comes to another by steps of its own, as a loop of the runtime does round
+/// by round.
+pub fn runs_come()
+    ensures itself { ComesItself }
+    ensures on { ComesOn }
+    ensures writing { ComesWriting }
+    ensures working { ComesWorking }
+    ensures turn { ComesTurn }
 {}

@@ -1,8 +1,11 @@
-//! The theory of runs, on which every pass of the compiler stands: runs by fuel, code that follows a program, what a
-//! pass from code to code promises, and how agreement with a program goes on from pass to pass. Its functions do
-//! nothing: each carries laws over the definitions of `specs/`.
+//! The theory of runs, on which every pass of the compiler stands: runs by fuel, what comes of a
+//! program and of code, code that follows a program, what a pass from code to code promises, and
+//! how agreement with a program goes on from pass to pass. Its functions do nothing: each carries
+//! laws over the definitions of `specs/`.
 #![tactic(auto)]
 
 mod laws;
 
-pub use laws::{agreement_goes_on, calls_itself, following_agrees, passes_compose, steps_follow};
+pub use laws::{
+    agreement_goes_on, following_agrees, passes_compose, passes_simulate, runs_come, steps_follow,
+};

@@ -2,7 +2,7 @@
 use Rattle.std.proofs.Common.{◌≡◌, ◌≢◌, ℕ, List, [], refl, subst, sym}
 use Rattle.std.specs.List.{AllPairs}
 use Rattle.tg_syntax.specs.Tree.{Exp}
-use Rattle.tg_meaning.specs.Values.{stuck}
+use Rattle.tg_runs.specs.Outcomes.{stuck}
 use Rattle.tg_meaning.specs.Direct.{evaluate}
 use Rattle.tg_meaning.specs.Environments.{outermost as entries_of}
 use Rattle.tg_types.specs.declared.notes.Note.{Note}

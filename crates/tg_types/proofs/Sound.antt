@@ -7,9 +7,10 @@ use Rattle.tg_syntax.specs.declared.trees.Param.{Param}
 use Rattle.tg_syntax.specs.declared.trees.Op.{Op}
 use Rattle.tg_syntax.specs.declared.trees.Op.TheVariants.{Plus, Minus, Times, Divide, Equal, NotEqual, Less, LessEqual, Greater, GreaterEqual, And, Or}
 use Rattle.tg_syntax.specs.Tree.{Exp, Place, Exps, Inits, Decs, FunDecs, no_functions, function}
+use Rattle.tg_runs.specs.Outcomes.{End, ended, stuck}
 use Rattle.tg_meaning.specs.declared.standards.Standard.{Standard}
 use Rattle.tg_meaning.specs.declared.standards.Standard.TheVariants.{Print, Flush, Getchar, Ord, Chr, Size, Substring, Concat, Not, Exit}
-use Rattle.tg_meaning.specs.Values.{Value, int, string, nothing, Object, fields, Entry, group, Env, Ending, by_chr, by_index, End, ended, stuck}
+use Rattle.tg_meaning.specs.Values.{Value, int, string, nothing, Object, fields, Entry, group, Env, Ending, by_chr, by_index}
 use Rattle.tg_meaning.specs.Actions.{Actions}
 use Rattle.tg_meaning.specs.Environments.{Function, Bound}
 use Rattle.tg_meaning.specs.Operators.{exact_quotient, is_below, string_less, comparison, identity, field_in, element_in, with_field, with_element}
@@ -74,7 +75,7 @@ module _ (shapes : List (ℕ × Shape)) where
       pub binds : (s : Worlds.Stores) (b : Bool) (A B : Type 0) (P : Known A) (Q : Known B) (m : Action A) (f : A → Action B) → S s b A P m → ((w : Worlds.Stores) → Worlds.GrowsTo s w → (a : A) → P w a → S w b B Q (f a)) → S s b B Q (M.bind m f)
       pub weakens : (s : Worlds.Stores) (b : Bool) (A : Type 0) (P Q : Known A) (m : Action A) → S s b A P m → ((w : Worlds.Stores) (a : A) → P w a → Q w a) → S s b A Q m
       pub breaks : (s : Worlds.Stores) (b : Bool) (A : Type 0) (P : Known A) → b ≡ true → S s b A P M.break
-      pub overs : (s : Worlds.Stores) (b : Bool) (A : Type 0) (P : Known A) (e : End) → e ≢ stuck → S s b A P (M.over e)
+      pub overs : (s : Worlds.Stores) (b : Bool) (A : Type 0) (P : Known A) (e : End Ending) → e ≢ stuck → S s b A P (M.over e)
       pub loops : (s : Worlds.Stores) (b : Bool) (P : Known Value) (m k : Action Value) → S s true Value P m → ((w : Worlds.Stores) → Worlds.GrowsTo s w → S w b Value (a_value none_type) k) → S s b Value (a_value none_type) (M.in_loop m k)
       pub bodies : (s : Worlds.Stores) (b : Bool) (P : Known Value) (m : Action Value) → S s false Value P m → S s b Value P (M.in_function m)
       pub knowns : (s : Worlds.Stores) (b : Bool) (A : Type 0) (P : Known A) (o : Option A) (a : A) → o ≡ Some a → P s a → S s b A P (M.look (λ w. o))
@@ -100,7 +101,7 @@ module _ (shapes : List (ℕ × Shape)) where
       give : {s : Worlds.Stores} {b : Bool} {A : Type 0} {P : Known A} {a : A} → P s a → S s b A P (M.give a)
       give {s} {b} {A} {P} {a} p = L.gives s b A P a p
 
-      over : {s : Worlds.Stores} {b : Bool} {A : Type 0} {P : Known A} {e : End} → e ≢ stuck → S s b A P (M.over e)
+      over : {s : Worlds.Stores} {b : Bool} {A : Type 0} {P : Known A} {e : End Ending} → e ≢ stuck → S s b A P (M.over e)
       over {s} {b} {A} {P} {e} p = L.overs s b A P e p
 
       not_stuck : (e : Ending) → ended e ≢ stuck

@@ -3,8 +3,9 @@ use Rattle.std.proofs.Common.{◌≡◌, ◌≢◌, ℕ, zero, suc, ◌+◌, Lis
 use Rattle.std.specs.Prelude.{slice_get, if◌then◌else◌}
 use Rattle.std.specs.Str.{bytes_eq}
 use Rattle.tg_syntax.specs.Tree.{Exp}
+use Rattle.tg_runs.specs.Outcomes.{End, ended, stuck}
 use Rattle.tg_meaning.specs.declared.standards.Standard.{Standard}
-use Rattle.tg_meaning.specs.Values.{Value, Object, Entry, standard, by_heap, End, ended, stuck, World, add_heap}
+use Rattle.tg_meaning.specs.Values.{Value, Object, Entry, standard, by_heap, World, add_heap, Ending}
 use Rattle.tg_meaning.specs.Environments.{standard_text, standards, standards_of, outermost_from}
 use Rattle.tg_meaning.specs.Evaluation.{Job, meaning, program}
 use Rattle.tg_meaning.specs.Direct.{State, Result, gives, breaks, is_over, Direct, after, after_body, returned, fuelled, found, changed, direct, begin, outcome}
@@ -19,7 +20,7 @@ module _ (shapes : List (ℕ × Shape)) where
   pub data Fine {A : Type 0} (s : Worlds.Stores) (b : Bool) (P : Known A) : Result A → Type 0 where
     gives_fine : {a : A} {st : State} (w : Worlds.Stores) → Worlds.GrowsTo s w → Worlds.IsWorld shapes w st.world → P w a → Fine s b P (gives a st)
     breaks_fine : {st : State} (w : Worlds.Stores) → b ≡ true → Worlds.GrowsTo s w → Worlds.IsWorld shapes w st.world → Fine s b P (breaks st)
-    over_fine : {e : End} {st : State} → e ≢ stuck → Fine s b P (is_over e st)
+    over_fine : {e : End Ending} {st : State} → e ≢ stuck → Fine s b P (is_over e st)
 
   abbrev pub Keeps : Worlds.Stores → Bool → (A : Type 0) → Known A → Direct A → Type 0
   Keeps s b A P m = (st : State) → Worlds.IsWorld shapes s st.world → Fine s b P (m st)

@@ -2,7 +2,7 @@
 use Rattle.std.specs.Prelude.{◌≡◌, ◌≢◌, ◌≤◌, ℕ, List}
 use Rattle.tg_syntax.specs.Tree.{Exp}
 use Rattle.tg_syntax.specs.Beginnings.{BeginsApart}
-use Rattle.tg_meaning.specs.Values.{stuck}
+use Rattle.tg_runs.specs.Outcomes.{stuck}
 use Rattle.tg_meaning.specs.Direct.{evaluate}
 use Rattle.tg_types.specs.declared.faults.TypeRule.{TypeRule}
 use Rattle.tg_types.specs.declared.notes.Note.{Note}

@@ -1,11 +1,8 @@
-use Rattle.tg_meaning.proofs.AsSource.{steps_as_source, turns_as_source, no_ending_is_full, only_stuck_is_stuck}
+use Rattle.tg_meaning.proofs.AsSource.{turns_as_source, no_ending_is_full, only_stuck_is_stuck}
 use Rattle.tg_meaning.proofs.laws.programs_as_sources.Goals as goal
 
-pub returns-clause-steps : goal.returns-clause-steps
-returns-clause-steps c = λ o. steps_as_source o
-
 pub returns-clause-turns : goal.returns-clause-turns
-returns-clause-turns c = λ rest w n. turns_as_source rest w n
+returns-clause-turns c = turns_as_source
 
 pub returns-clause-full : goal.returns-clause-full
 returns-clause-full c = λ o h. no_ending_is_full o.end h
