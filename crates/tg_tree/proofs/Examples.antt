@@ -8,22 +8,12 @@ use Rattle.tg_frame.specs.declared.accesses.Access.TheVariants.{InTemp, InFrame}
 use Rattle.tg_runs.specs.Ran.{Ran, Stop, Ended, WantsFuel, Wrong}
 use Rattle.tg_tree.specs.declared.operators.Bin.TheVariants.{Add, Sub, Mul, Div, And, Or, Xor, ShiftLeft, ShiftRight, ShiftSigned, AddTrap, SubTrap, MulHigh}
 use Rattle.tg_tree.specs.declared.operators.Rel.TheVariants.{Equal, NotEqual, Less, LessEqual, Greater, GreaterEqual, Below, NotBelow}
-use Rattle.tg_tree.specs.Tree.{Tx, Const, Address, Temp, FrameAddress, Binary, Load, LoadByte, Call, Service, After, Txs, no_txs, tx, Compare, Both, Not, Ts, Move, Store, StoreByte, Do, If, Loop, Break, Fault, Seq, Return, Stms, no_stms, stm, Function, Literal, Linear, Mark, Do', Jump, Branch, Fault', Return'}
+use Rattle.tg_tree.specs.Tree.{Tx, Const, Address, Temp, FrameAddress, Binary, Load, LoadByte, Call, Service, After, no_txs, Compare, Both, Not, Ts, Move, Store, StoreByte, Do, If, Loop, Break, Fault, Return, Function, Literal, Linear, Mark, Do', Jump, Branch, Fault', Return'}
 use Rattle.tg_tree.specs.Units.{Trees}
+use Rattle.tg_tree.specs.Forms.{txs, sequence, nothing}
 use Rattle.tg_tree.specs.Operators.{word, stops_by, operate, holds}
 use Rattle.tg_tree.specs.Running.{tree_run}
 use Rattle.tg_tree.specs.Flat.{flat_run}
-
-abbrev stms : List Ts → Stms
-stms [] = no_stms
-stms (s ∷ ss) = stm s (stms ss)
-
-abbrev seq : List Ts → Ts
-seq ss = Seq (stms ss)
-
-abbrev txs : List Tx → Txs
-txs [] = no_txs
-txs (x ∷ xs) = tx x (txs xs)
 
 abbrev fun : {Body : Type 0} → ℕ → List Access → ℕ → Body → Function Body
 fun label params slots body = record { label = label; params = params; slots = slots; temps = 0; out = 0; body = body }
@@ -58,7 +48,7 @@ finished bytes = (bytes, Ended (Exit (pos 0)))
 -- a loop that counts; and with a unit of fuel too few
 abbrev counts : Ts
 counts =
-    seq (Move 0 (Const 0) ∷ Loop (If (Compare Less (Temp 0) (Const 3)) (seq (print (Temp 0) ∷ Move 0 (Binary Add (Temp 0) (Const 1)) ∷ [])) (Break 0)) ∷ Return (Const 0) ∷ [])
+    sequence (Move 0 (Const 0) ∷ Loop (If (Compare Less (Temp 0) (Const 3)) (sequence (print (Temp 0) ∷ Move 0 (Binary Add (Temp 0) (Const 1)) ∷ [])) (Break 0)) ∷ Return (Const 0) ∷ [])
 
 loop_counts : does (fun 32 [] 0 counts ∷ []) [] 4 ≡ finished (0 ∷ 1 ∷ 2 ∷ [])
 loop_counts = refl
@@ -69,9 +59,9 @@ wants_one_more = refl
 -- a function reads and writes a variable two levels out, by static links in the frames
 abbrev outer_variable : List (Function Ts)
 outer_variable =
-    fun 32 [] 1 (seq (Store (home 0) (Const 7) ∷ Do (Call 33 (txs (FrameAddress ∷ []))) ∷ print (Load (home 0)) ∷ Return (Const 0) ∷ [])) ∷
-    fun 33 (InFrame 0 ∷ []) 1 (seq (Do (Call 34 (txs (FrameAddress ∷ []))) ∷ Return (Const 0) ∷ [])) ∷
-    fun 34 (InFrame 0 ∷ []) 1 (seq (Move 0 (Load (Binary Sub (Load (home 0)) (Const 4))) ∷ Store (Binary Sub (Temp 0) (Const 4)) (Binary Add (Load (Binary Sub (Temp 0) (Const 4))) (Const 1)) ∷ Return (Const 0) ∷ [])) ∷ []
+    fun 32 [] 1 (sequence (Store (home 0) (Const 7) ∷ Do (Call 33 (txs (FrameAddress ∷ []))) ∷ print (Load (home 0)) ∷ Return (Const 0) ∷ [])) ∷
+    fun 33 (InFrame 0 ∷ []) 1 (sequence (Do (Call 34 (txs (FrameAddress ∷ []))) ∷ Return (Const 0) ∷ [])) ∷
+    fun 34 (InFrame 0 ∷ []) 1 (sequence (Move 0 (Load (Binary Sub (Load (home 0)) (Const 4))) ∷ Store (Binary Sub (Temp 0) (Const 4)) (Binary Add (Load (Binary Sub (Temp 0) (Const 4))) (Const 1)) ∷ Return (Const 0) ∷ [])) ∷ []
 
 two_levels_out : does outer_variable [] 3 ≡ finished (8 ∷ [])
 two_levels_out = refl
@@ -83,9 +73,9 @@ outer_frame = Load (Binary Sub (Load (home 0)) (Const 4))
 
 abbrev adds_up : List (Function Ts)
 adds_up =
-    fun 32 [] 1 (seq (Store (home 0) (Const 10) ∷ Do (Call 33 (txs (FrameAddress ∷ []))) ∷ print (Load (home 0)) ∷ Return (Const 0) ∷ [])) ∷
-    fun 33 (InFrame 0 ∷ []) 1 (seq (Do (Call 34 (txs (FrameAddress ∷ Const 3 ∷ []))) ∷ Return (Const 0) ∷ [])) ∷
-    fun 34 (InFrame 0 ∷ temp 0 ∷ []) 1 (seq (Store (Binary Sub outer_frame (Const 4)) (Binary Add (Load (Binary Sub outer_frame (Const 4))) (Temp 0)) ∷ If (Compare Less (Const 1) (Temp 0)) (Do (Call 34 (txs (Load (home 0) ∷ Binary Sub (Temp 0) (Const 1) ∷ [])))) (seq []) ∷ Return (Const 0) ∷ [])) ∷ []
+    fun 32 [] 1 (sequence (Store (home 0) (Const 10) ∷ Do (Call 33 (txs (FrameAddress ∷ []))) ∷ print (Load (home 0)) ∷ Return (Const 0) ∷ [])) ∷
+    fun 33 (InFrame 0 ∷ []) 1 (sequence (Do (Call 34 (txs (FrameAddress ∷ Const 3 ∷ []))) ∷ Return (Const 0) ∷ [])) ∷
+    fun 34 (InFrame 0 ∷ temp 0 ∷ []) 1 (sequence (Store (Binary Sub outer_frame (Const 4)) (Binary Add (Load (Binary Sub outer_frame (Const 4))) (Temp 0)) ∷ If (Compare Less (Const 1) (Temp 0)) (Do (Call 34 (txs (Load (home 0) ∷ Binary Sub (Temp 0) (Const 1) ∷ [])))) nothing ∷ Return (Const 0) ∷ [])) ∷ []
 
 recursion_adds_up : does_in 48 adds_up [] 5 ≡ finished (16 ∷ [])
 recursion_adds_up = refl
@@ -93,7 +83,7 @@ recursion_adds_up = refl
 -- a call with six arguments
 abbrev six : List (Function Ts)
 six =
-    fun 32 [] 0 (seq (print (Call 33 (txs (Const 1 ∷ Const 2 ∷ Const 3 ∷ Const 4 ∷ Const 5 ∷ Const 6 ∷ []))) ∷ Return (Const 0) ∷ [])) ∷
+    fun 32 [] 0 (sequence (print (Call 33 (txs (Const 1 ∷ Const 2 ∷ Const 3 ∷ Const 4 ∷ Const 5 ∷ Const 6 ∷ []))) ∷ Return (Const 0) ∷ [])) ∷
     fun 33 (temp 0 ∷ temp 1 ∷ temp 2 ∷ temp 3 ∷ InFrame 0 ∷ temp 5 ∷ []) 1
     (Return (Binary Add (Binary Mul (Temp 0) (Const 100)) (Binary Add (Binary Mul (Load (home 0)) (Const 10)) (Temp 5)))) ∷ []
 
@@ -101,19 +91,19 @@ six_arguments : does six [] 2 ≡ finished (156 ∷ [])
 six_arguments = refl
 
 -- a record is made and read
-record_made : alone (seq (Move 0 (Service 9 (Const 7)) ∷ Store (Temp 0) (Const 5) ∷ Store (Binary Add (Temp 0) (Const 4)) (Const 6) ∷ print (Binary Mul (Load (Temp 0)) (Load (Binary Add (Temp 0) (Const 4)))) ∷ Return (Const 0) ∷ [])) ≡ finished (30 ∷ [])
+record_made : alone (sequence (Move 0 (Service 9 (Const 7)) ∷ Store (Temp 0) (Const 5) ∷ Store (Binary Add (Temp 0) (Const 4)) (Const 6) ∷ print (Binary Mul (Load (Temp 0)) (Load (Binary Add (Temp 0) (Const 4)))) ∷ Return (Const 0) ∷ [])) ≡ finished (30 ∷ [])
 record_made = refl
 
 -- a literal is read byte by byte, behind another one
-literal_read : does (fun 32 [] 0 (seq (Do (Service 11 (LoadByte (Address 41))) ∷ Do (Service 11 (LoadByte (Binary Add (Address 41) (Const 1)))) ∷ Do (Service 4 (Address 40)) ∷ Return (Const 0) ∷ [])) ∷ []) (record { label = 40; text = codes "abc" } ∷ record { label = 41; text = codes "hi" } ∷ []) 1 ≡ finished (codes "hiabc")
+literal_read : does (fun 32 [] 0 (sequence (Do (Service 11 (LoadByte (Address 41))) ∷ Do (Service 11 (LoadByte (Binary Add (Address 41) (Const 1)))) ∷ Do (Service 4 (Address 40)) ∷ Return (Const 0) ∷ [])) ∷ []) (record { label = 40; text = codes "abc" } ∷ record { label = 41; text = codes "hi" } ∷ []) 1 ≡ finished (codes "hiabc")
 literal_read = refl
 
 -- the input is read, and a condition looks at its right side only where it matters
-input_read : alone (seq (Do (Service 11 (Service 12 (Const 0))) ∷ If (Both (Not (Compare Equal (Const 1) (Const 1))) (Compare Equal (Temp 0) (Const 0))) (Fault 1) (Do (Service 11 (Service 12 (Const 0)))) ∷ print (Service 12 (Const 0)) ∷ Return (Const 0) ∷ [])) ≡ finished (120 ∷ 121 ∷ 255 ∷ [])
+input_read : alone (sequence (Do (Service 11 (Service 12 (Const 0))) ∷ If (Both (Not (Compare Equal (Const 1) (Const 1))) (Compare Equal (Temp 0) (Const 0))) (Fault 1) (Do (Service 11 (Service 12 (Const 0)))) ∷ print (Service 12 (Const 0)) ∷ Return (Const 0) ∷ [])) ≡ finished (120 ∷ 121 ∷ 255 ∷ [])
 input_read = refl
 
 -- a statement before an expression, a fault, an overflow, the upper word of a product
-after_a_statement : alone (seq (print (After (Move 0 (Const 4)) (Temp 0)) ∷ Fault 6 ∷ [])) ≡ (4 ∷ [], Ended (Broken 6))
+after_a_statement : alone (sequence (print (After (Move 0 (Const 4)) (Temp 0)) ∷ Fault 6 ∷ [])) ≡ (4 ∷ [], Ended (Broken 6))
 after_a_statement = refl
 
 overflows : alone (Do (Binary AddTrap (Const 2147483647) (Const 1))) ≡ ([], Ended Overflow)
@@ -122,15 +112,15 @@ overflows = refl
 underflows : alone (Do (Binary SubTrap (Const 2147483648) (Const 1))) ≡ ([], Ended Overflow)
 underflows = refl
 
-wraps : alone (seq (print (Binary Add (Const 4294967295) (Const 3)) ∷ Return (Const 0) ∷ [])) ≡ finished (2 ∷ [])
+wraps : alone (sequence (print (Binary Add (Const 4294967295) (Const 3)) ∷ Return (Const 0) ∷ [])) ≡ finished (2 ∷ [])
 wraps = refl
 
 -- a shift uses the low five bits of its right operand
-shifts : alone (seq (print (Binary ShiftLeft (Const 3) (Const 33)) ∷ print (Binary ShiftSigned (Const 4294967288) (Const 1)) ∷ Return (Const 0) ∷ [])) ≡ finished (6 ∷ 252 ∷ [])
+shifts : alone (sequence (print (Binary ShiftLeft (Const 3) (Const 33)) ∷ print (Binary ShiftSigned (Const 4294967288) (Const 1)) ∷ Return (Const 0) ∷ [])) ≡ finished (6 ∷ 252 ∷ [])
 shifts = refl
 
 -- the two orders
-orders : alone (seq (If (Both (Compare Less (Const 4294967295) (Const 0)) (Not (Compare Below (Const 4294967295) (Const 0)))) (print (Const 1)) (print (Const 2)) ∷ Return (Const 0) ∷ [])) ≡ finished (1 ∷ [])
+orders : alone (sequence (If (Both (Compare Less (Const 4294967295) (Const 0)) (Not (Compare Below (Const 4294967295) (Const 0)))) (print (Const 1)) (print (Const 2)) ∷ Return (Const 0) ∷ [])) ≡ finished (1 ∷ [])
 orders = refl
 
 -- each comparison, of -1 with 0, of 0 with -1, and of a word with itself
@@ -144,27 +134,27 @@ operations : operate Add 4294967295 2 ∷ operate Sub 0 1 ∷ operate Mul 65537 
 operations = refl
 
 -- a byte is stored into a literal, and into a slot that holds a word
-byte_stored : does (fun 32 [] 1 (seq (StoreByte (Address 40) (Const 360) ∷ Do (Service 4 (Address 40)) ∷ Store (home 0) (Const 258) ∷ StoreByte (Binary Add (home 0) (Const 1)) (Const 3) ∷ print (LoadByte (Binary Add (home 0) (Const 1))) ∷ print (Load (home 0)) ∷ Return (Const 0) ∷ [])) ∷ []) (record { label = 40; text = codes "abc" } ∷ []) 1 ≡ finished (codes "hbc" ++ 3 ∷ 2 ∷ [])
+byte_stored : does (fun 32 [] 1 (sequence (StoreByte (Address 40) (Const 360) ∷ Do (Service 4 (Address 40)) ∷ Store (home 0) (Const 258) ∷ StoreByte (Binary Add (home 0) (Const 1)) (Const 3) ∷ print (LoadByte (Binary Add (home 0) (Const 1))) ∷ print (Load (home 0)) ∷ Return (Const 0) ∷ [])) ∷ []) (record { label = 40; text = codes "abc" } ∷ []) 1 ≡ finished (codes "hbc" ++ 3 ∷ 2 ∷ [])
 byte_stored = refl
 
 -- the other services: two exits, and a number that no service has
 exits_with_a_code : alone (Do (Service 17 (Const 7))) ≡ ([], Ended (Exit (pos 7)))
 exits_with_a_code = refl
 
-exits : alone (seq (print (Const 1) ∷ Do (Service 10 (Const 9)) ∷ [])) ≡ finished (1 ∷ [])
+exits : alone (sequence (print (Const 1) ∷ Do (Service 10 (Const 9)) ∷ [])) ≡ finished (1 ∷ [])
 exits = refl
 
 no_service : alone (Do (Service 8 (Const 0))) ≡ ([], Ended (BadService 8))
 no_service = refl
 
-product_above : alone (seq (print (Binary MulHigh (Const 65536) (Const 65536)) ∷ Return (Const 0) ∷ [])) ≡ finished (1 ∷ [])
+product_above : alone (sequence (print (Binary MulHigh (Const 65536) (Const 65536)) ∷ Return (Const 0) ∷ [])) ≡ finished (1 ∷ [])
 product_above = refl
 
 -- a full stack, at the call whose frame reaches below the floor; a full heap
-stack_full : does (fun 32 [] 0 (seq (print (Const 1) ∷ Return (Call 32 no_txs) ∷ [])) ∷ []) [] 9 ≡ (1 ∷ 1 ∷ 1 ∷ 1 ∷ [], Ended StackFull)
+stack_full : does (fun 32 [] 0 (sequence (print (Const 1) ∷ Return (Call 32 no_txs) ∷ [])) ∷ []) [] 9 ≡ (1 ∷ 1 ∷ 1 ∷ 1 ∷ [], Ended StackFull)
 stack_full = refl
 
-heap_full : alone (seq (Do (Service 9 (Const 5)) ∷ Do (Service 9 (Const 1)) ∷ [])) ≡ ([], Ended HeapFull)
+heap_full : alone (sequence (Do (Service 9 (Const 5)) ∷ Do (Service 9 (Const 1)) ∷ [])) ≡ ([], Ended HeapFull)
 heap_full = refl
 
 -- each way to go wrong
@@ -183,7 +173,7 @@ loads_above_its_slots = refl
 loads_a_byte_from_nowhere : alone (Return (LoadByte (Const 4))) ≡ ([], Wrong)
 loads_a_byte_from_nowhere = refl
 
-loads_behind_the_heap : alone (seq (Move 0 (Service 9 (Const 4)) ∷ Return (Load (Binary Add (Temp 0) (Const 4))) ∷ [])) ≡ ([], Wrong)
+loads_behind_the_heap : alone (sequence (Move 0 (Service 9 (Const 4)) ∷ Return (Load (Binary Add (Temp 0) (Const 4))) ∷ [])) ≡ ([], Wrong)
 loads_behind_the_heap = refl
 
 text_without_an_end : does (fun 32 [] 0 (Do (Service 4 (Address 40))) ∷ []) (record { label = 40; text = codes "abcd" } ∷ []) 1 ≡ ([], Wrong)
@@ -229,11 +219,11 @@ no_literal : alone (Do (Address 40)) ≡ ([], Wrong)
 no_literal = refl
 
 -- a slot of a function that has returned is closed
-slot_of_a_closed_activation : does (fun 32 [] 0 (seq (Move 0 (Call 33 no_txs) ∷ Return (Load (Temp 0)) ∷ [])) ∷ fun 33 [] 1 (seq (Store (home 0) (Const 1) ∷ Return (home 0) ∷ [])) ∷ []) [] 3 ≡ ([], Wrong)
+slot_of_a_closed_activation : does (fun 32 [] 0 (sequence (Move 0 (Call 33 no_txs) ∷ Return (Load (Temp 0)) ∷ [])) ∷ fun 33 [] 1 (sequence (Store (home 0) (Const 1) ∷ Return (home 0) ∷ [])) ∷ []) [] 3 ≡ ([], Wrong)
 slot_of_a_closed_activation = refl
 
 -- a slot is unset again in the next activation, and a temporary too
-slot_of_an_earlier_activation : does (fun 32 [] 0 (seq (Do (Call 33 (txs (Const 1 ∷ []))) ∷ Return (Call 33 (txs (Const 0 ∷ []))) ∷ [])) ∷ fun 33 (temp 0 ∷ []) 1 (seq (If (Compare Equal (Temp 0) (Const 1)) (seq (Store (home 0) (Const 1) ∷ Move 1 (Const 1) ∷ [])) (print (Load (home 0))) ∷ Return (Const 0) ∷ [])) ∷ []) [] 3 ≡ ([], Wrong)
+slot_of_an_earlier_activation : does (fun 32 [] 0 (sequence (Do (Call 33 (txs (Const 1 ∷ []))) ∷ Return (Call 33 (txs (Const 0 ∷ []))) ∷ [])) ∷ fun 33 (temp 0 ∷ []) 1 (sequence (If (Compare Equal (Temp 0) (Const 1)) (sequence (Store (home 0) (Const 1) ∷ Move 1 (Const 1) ∷ [])) (print (Load (home 0))) ∷ Return (Const 0) ∷ [])) ∷ []) [] 3 ≡ ([], Wrong)
 slot_of_an_earlier_activation = refl
 
 -- flat code: a loop that counts

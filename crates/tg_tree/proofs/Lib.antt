@@ -7,3 +7,4 @@ pub mod TreeRuns
 pub mod FlatRuns
 pub mod FlatValues
 pub mod ListLaws
+pub mod Flatness

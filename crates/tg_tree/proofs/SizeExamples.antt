@@ -3,7 +3,8 @@ use Rattle.std.proofs.Common.{◌≡◌, ℕ, zero, suc, ◌+◌, List, [], ◌�
 use Rattle.tg_frame.specs.declared.accesses.Access.TheVariants.{InFrame}
 use Rattle.tg_tree.specs.declared.operators.Bin.TheVariants.{Add, Sub, Div, ShiftLeft, AddTrap}
 use Rattle.tg_tree.specs.declared.operators.Rel.TheVariants.{Equal, NotEqual, Less}
-use Rattle.tg_tree.specs.Tree.{Tx, Const, Address, Temp, FrameAddress, Binary, Load, Call, After, no_txs, tx, Compare, Both, Ts, Move, Store, Do, If, Loop, Break, Fault, Seq, Return, Stms, no_stms, stm, Function, Linear, Mark, Do', Jump, Branch, Return'}
+use Rattle.tg_tree.specs.Tree.{Tx, Const, Address, Temp, FrameAddress, Binary, Load, Call, After, no_txs, tx, Compare, Both, Ts, Move, Store, Do, If, Loop, Break, Fault, Seq, Return, Stms, Function, Linear, Mark, Do', Jump, Branch, Return'}
+use Rattle.tg_tree.specs.Forms.{stms, sequence, nothing}
 use Rattle.tg_tree.specs.Named.{function, literal, fault, temporary, named_ts, named_flat}
 use Rattle.tg_tree.specs.FrameSizes.{IsSizeOf}
 use Rattle.tg_tree.specs.Units.{Trees, Canonical, entry_units}
@@ -11,13 +12,6 @@ use Rattle.tg_tree.specs.Sizes.{expression_length, condition_length, statement_l
 
 abbrev fun : {Body : Type 0} → Body → Function Body
 fun body = record { label = 33; params = InFrame 0 ∷ []; slots = 1; temps = 2; out = 0; body = body }
-
-abbrev stms : List Ts → Stms
-stms [] = no_stms
-stms (s ∷ ss) = stm s (stms ss)
-
-abbrev seq : List Ts → Ts
-seq ss = Seq (stms ss)
 
 -- if t0 < 2 then t1 := call 34 (literal 40) else fault 6; return t1
 abbrev body : Stms
@@ -78,7 +72,7 @@ call_across_levels = refl
 -- t0 / t1 with its two tests, and the moves of both sides
 abbrev quotient : Tx
 quotient =
-    After (seq (If (Compare Equal (Temp 1) (Const 0)) (Fault 7) (seq []) ∷ If (Both (Compare Equal (Temp 0) (Const 2147483648)) (Compare Equal (Temp 1) (Const 4294967295))) (Do (Binary AddTrap (Const 2147483648) (Const 2147483648))) (seq []) ∷ [])) (Binary Div (Temp 0) (Temp 1))
+    After (sequence (If (Compare Equal (Temp 1) (Const 0)) (Fault 7) nothing ∷ If (Both (Compare Equal (Temp 0) (Const 2147483648)) (Compare Equal (Temp 1) (Const 4294967295))) (Do (Binary AddTrap (Const 2147483648) (Const 2147483648))) nothing ∷ [])) (Binary Div (Temp 0) (Temp 1))
 
 quotient_with_its_tests : expression_length Trees quotient ≡ 36
 quotient_with_its_tests = refl
@@ -93,7 +87,7 @@ slot = Binary Sub FrameAddress (Const 4)
 
 abbrev counted : Ts
 counted =
-    seq (Move 0 (Temp 2) ∷ Move 1 (Temp 3) ∷ If (Compare Less (Temp 0) (Temp 1)) (seq (Store slot (Temp 0) ∷ Loop (seq (If (Compare Equal (Load slot) (Temp 1)) (Break 0) (seq []) ∷ Store slot (Binary Add (Load slot) (Const 1)) ∷ [])) ∷ [])) (seq []) ∷ [])
+    sequence (Move 0 (Temp 2) ∷ Move 1 (Temp 3) ∷ If (Compare Less (Temp 0) (Temp 1)) (sequence (Store slot (Temp 0) ∷ Loop (sequence (If (Compare Equal (Load slot) (Temp 1)) (Break 0) nothing ∷ Store slot (Binary Add (Load slot) (Const 1)) ∷ [])) ∷ [])) nothing ∷ [])
 
 counted_loop : statement_length Trees counted ≡ 50
 counted_loop = refl

@@ -1,5 +1,6 @@
 pub mod Tree
 pub mod Plain
+pub mod Lists
 pub mod Operators
 pub mod Memory
 pub mod Units
@@ -14,4 +15,3 @@ pub mod FrameSizes
 pub mod Sizes
 pub mod Holding
 pub mod Forms
-pub mod Lists

@@ -1,5 +1,6 @@
 -- The plain tree of the code's tree.
 use Rattle.std.specs.Prelude.{map}
+use Rattle.tg_frame.specs.declared.frames.Frame.{Frame}
 use Rattle.tg_tree.specs.declared.trees.Tx.{Tx, Const, Address, Temp, FrameAddress, Binary', Load', LoadByte', Call', Service', After', Row_of-Tx, end_of-Tx, more_of-Tx}
 use Rattle.tg_tree.specs.declared.trees.Ts.{Ts, Move, Store, StoreByte, Do, If', Loop', Break, Fault, Seq', Return, Row_of-Ts, end_of-Ts, more_of-Ts}
 use Rattle.tg_tree.specs.declared.trees.Cond.{Cond, Compare', Not', Both', Either'}
@@ -57,15 +58,19 @@ plain_linear (linear.Branch rel a b n) = tree.Branch rel (plain_tx a) (plain_tx 
 plain_linear (linear.Fault n) = tree.Fault' n
 plain_linear (linear.Return a) = tree.Return' (plain_tx a)
 
-abbrev pub plain_fragment : Fragment → tree.Function tree.Ts
-plain_fragment f = record {
-  label = f.frame.label.0;
-  params = f.frame.params;
-  slots = f.frame.slots;
-  temps = f.frame.temps;
-  out = f.frame.out;
-  body = plain_ts f.body;
+-- a function of this frame, with a body of some form
+abbrev pub plain_function : {Body : Type 0} → Frame → Body → tree.Function Body
+plain_function frame body = record {
+  label = frame.label.0;
+  params = frame.params;
+  slots = frame.slots;
+  temps = frame.temps;
+  out = frame.out;
+  body = body;
 }
+
+abbrev pub plain_fragment : Fragment → tree.Function tree.Ts
+plain_fragment f = plain_function f.frame (plain_ts f.body)
 
 abbrev pub plain_literal : Literal → tree.Literal
 plain_literal l = record { label = l.label.0; text = l.text }

@@ -56,10 +56,14 @@ abbrev mutual
   LastEndsFunction (stm s no_stms) = EndsFunction s
   LastEndsFunction (stm s (stm t ss)) = LastEndsFunction (stm t ss)
 
--- a body that is closed
+-- a body that is closed, as a statement and as statements
 pub record IsClosed (body : Ts) : Type 0 where
   pub breaks : BreaksWithin 0 body
   pub last : EndsFunction body
+
+pub record AreClosed (body : Stms) : Type 0 where
+  pub breaks : BreaksWithinStms 0 body
+  pub last : LastEndsFunction body
 
 -- an expression without call, service and statement
 abbrev pub IsFlat : Tx → Type 0

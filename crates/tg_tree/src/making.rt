@@ -67,6 +67,14 @@ pub fn compare(alloc: Global, rel: Rel, left: Tx, right: Tx) -> Result<Cond, Mem
     Ok(Cond::Compare(rel, left, right))
 }
 
+/// The condition that holds where this one doesn't.
+pub fn negate(alloc: Global, test: Cond) -> Result<Cond, Memory>
+    ensures { IfOk result (λ c. plain_cond c ≡ tree.Not (plain_cond test)) }
+{
+    let test = Box::new(alloc, test)?;
+    Ok(Cond::Not(test))
+}
+
 /// Two conditions of which both hold; the second one is looked at only where the first one holds.
 pub fn both(alloc: Global, left: Cond, right: Cond) -> Result<Cond, Memory>
     ensures { IfOk result (λ c. plain_cond c ≡ tree.Both (plain_cond left) (plain_cond right)) }
