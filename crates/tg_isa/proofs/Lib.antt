@@ -1,6 +1,12 @@
 pub mod Inverse
 mod LineExamples
 mod AssemblyExamples
+mod TextExamples
 pub mod WordCuts
 pub mod OperandTexts
 pub mod ReadBack
+pub mod FirstPass
+pub mod LabelTables
+pub mod SecondPass
+pub mod PlacedTexts
+pub mod TextLines

@@ -256,7 +256,7 @@ pub based_read : (n r : ℕ) → n < 2 ^ 16 → r < 32 → based (based_text n r
 based_read n r h k = ap based (append_assoc (signed_text n) (40 ∷ name_of r) (41 ∷ [])) ∙ based_at (signed_text n) (name_of r) (signed_of n) r (signed_number n h) (name_closes r k) (register_named r k)
 
 -- labels
-none_past : (class : ℕ → Bool) (t : List ℕ) → (length (back class t) == 0) ≡ true → none_of class t ≡ true
+pub none_past : (class : ℕ → Bool) (t : List ℕ) → (length (back class t) == 0) ≡ true → none_of class t ≡ true
 none_past class [] h = refl
 none_past class (c ∷ t) h = by (class c) refl (none_past class t)
   where
@@ -277,10 +277,10 @@ not_byte k c h e = by (c == k) refl
         cc
     by false s = refl
 
-label_end : (c : ℕ) → is_past_label c ≡ false → is_end c ≡ false
+pub label_end : (c : ℕ) → is_past_label c ≡ false → is_end c ≡ false
 label_end c h = rw (not_byte 32 c refl h, not_byte 9 c refl h, not_byte 13 c refl h, not_byte 44 c refl h, not_byte 34 c refl h, not_byte 35 c refl h) refl
 
-letter_in : (c : ℕ) → begins_label c ≡ true → is_past_label c ≡ false
+pub letter_in : (c : ℕ) → begins_label c ≡ true → is_past_label c ≡ false
 letter_in c h = rw h refl
 
 pub label_word : (t : List ℕ) → is_label t ≡ true → IsWord t

@@ -13,23 +13,23 @@ use Rattle.tg_isa.specs.declared.keywords.Segment.TheVariants.{Code}
 use Rattle.tg_isa.specs.declared.keywords.AsmRule.{AsmRule}
 use Rattle.tg_isa.specs.Names.{name_of}
 use Rattle.tg_isa.specs.Table.{IsRow}
-use Rattle.tg_isa.specs.Lines.{begins_label, is_past_label, is_end, Operand, Plain}
+use Rattle.tg_isa.specs.Lines.{lines, begins_label, is_past_label, is_end, Operand, Plain}
 use Rattle.tg_isa.specs.Operands.{Signed, nothing, number, is_within, register, is_label, based, Fields, unfilled, fill, fill_all, fill_rd, fill_rs, fill_rt, fill_number, fill_based}
 use Rattle.tg_isa.specs.Items.{keyword, slots, least, greatest, Coded, Fixed, coded, Item, Words, filled, instruction, item, stands_in}
-use Rattle.tg_isa.specs.Assembly.{with_labels, read_known, read_cut}
+use Rattle.tg_isa.specs.Assembly.{reading, with_labels, read_known, read_cut}
 use Rattle.tg_isa.specs.Writing.{signed_text, based_text, joined, line_of, takes_label, unlabelled_row, coded_row, ReadsBack}
 use Rattle.tg_isa.proofs.WordCuts.{none_of, is_newline, AreWords, plains, none_append, lines_alone, cut_words, newlines_joined}
 use Rattle.tg_isa.proofs.OperandTexts.{register_named, name_word, NumberText, decimal_text, signed_of, signed_number, signed_within, signed_field, plain_within, plain_field, based_word, based_read, label_word}
 
 -- what a word that names an instruction has
-record Ready (k : Keyword) (c : ℕ) (word : List ℕ) : Type 0 where
-  letter : begins_label c ≡ true
-  label : none_of is_past_label word ≡ true
-  ends : none_of is_end (c ∷ word) ≡ true
-  newlines : none_of is_newline (c ∷ word) ≡ true
-  found : keyword (c ∷ word) ≡ Some k
-  stands : stands_in k Code ≡ true
-  same : (os : List Operand) → item k os ≡ instruction k os
+pub record Ready (k : Keyword) (c : ℕ) (word : List ℕ) : Type 0 where
+  pub letter : begins_label c ≡ true
+  pub label : none_of is_past_label word ≡ true
+  pub ends : none_of is_end (c ∷ word) ≡ true
+  pub newlines : none_of is_newline (c ∷ word) ≡ true
+  pub found : keyword (c ∷ word) ≡ Some k
+  pub stands : stands_in k Code ≡ true
+  pub same : (os : List Operand) → item k os ≡ instruction k os
 
 known : (k : Keyword) (os : List Operand) (o : Option Keyword) → o ≡ Some k → stands_in k Code ≡ true → read_known Code [] os o ≡ with_labels [] (item k os)
 known k os o e h = ap (read_known Code [] os) e ∙ stands
@@ -43,16 +43,24 @@ filled_in k f h = rw h refl
 abbrev done : List Coded → Result Item AsmRule
 done ws = Ok (Words ws)
 
+-- a word of code with its operands is read as what it codes
+pub words_read : (k : Keyword) (c : ℕ) (word : List ℕ) (os : List (List ℕ)) (f : Fields) → Ready k c word → AreWords os → fill_all (slots k (length (plains os))) (plains os) unfilled ≡ Some f → is_within (least k) (greatest k) f.number ≡ true → reading Code ((c ∷ word) ++ joined os) ≡ Ok (record { labels = []; item = Words (coded k f) })
+words_read k c word os f r w fills within =
+    ap (read_cut Code) (cut_words c word os r.letter r.label r.ends w)
+    ∙ known k (plains os) (keyword (c ∷ word)) r.found r.stands
+    ∙ ap (with_labels []) (r.same (plains os) ∙ ap (filled k) fills ∙ filled_in k f within)
+
+pub words_line : (k : Keyword) (c : ℕ) (word : List ℕ) (os : List (List ℕ)) → Ready k c word → AreWords os → lines ((c ∷ word) ++ joined os) ≡ ((c ∷ word) ++ joined os) ∷ []
+words_line k c word os r w = lines_alone ((c ∷ word) ++ joined os) (none_append is_newline (c ∷ word) (joined os) r.newlines (newlines_joined os w))
+
 back_of : (one : Mips) (target : List ℕ) (k : Keyword) (c : ℕ) (word : List ℕ) (os : List (List ℕ)) (f : Fields) → Ready k c word → AreWords os → fill_all (slots k (length (plains os))) (plains os) unfilled ≡ Some f → is_within (least k) (greatest k) f.number ≡ true → coded k f ≡ coded_row one target ∷ [] → ReadsBack one target ((c ∷ word) ++ joined os)
 back_of one target k c word os f r w fills within same = record {
-  line = lines_alone ((c ∷ word) ++ joined os) (none_append is_newline (c ∷ word) (joined os) r.newlines (newlines_joined os w));
-  read = ap (read_cut Code) (cut_words c word os r.letter r.label r.ends w)
-      ∙ known k (plains os) (keyword (c ∷ word)) r.found r.stands
-      ∙ ap (with_labels []) (r.same (plains os) ∙ ap (filled k) fills ∙ filled_in k f within ∙ ap done same);
+  line = words_line k c word os r w;
+  read = words_read k c word os f r w fills within ∙ ap (λ ws. with_labels [] (done ws)) same;
 }
 
 -- operands fill fields one after the other
-step : (s : Slot) (more : List Slot) (o : Operand) (os : List Operand) (f g : Fields) → fill s o f ≡ Some g → fill_all (s ∷ more) (o ∷ os) f ≡ fill_all more os g
+pub step : (s : Slot) (more : List Slot) (o : Operand) (os : List Operand) (f g : Fields) → fill s o f ≡ Some g → fill_all (s ∷ more) (o ∷ os) f ≡ fill_all more os g
 step s more o os f g e = rw (e, fill_all) refl
 
 rd_in : (x : List ℕ) (r : ℕ) (f : Fields) → register x ≡ Some r → fill Rd (Plain x) f ≡ Some (record f { rd = r })
@@ -61,19 +69,19 @@ rd_in x r f e = ap (fill_rd f) e
 rs_in : (x : List ℕ) (r : ℕ) (f : Fields) → register x ≡ Some r → fill Rs (Plain x) f ≡ Some (record f { rs = r })
 rs_in x r f e = ap (fill_rs f) e
 
-rt_in : (x : List ℕ) (r : ℕ) (f : Fields) → register x ≡ Some r → fill Rt (Plain x) f ≡ Some (record f { rt = r })
+pub rt_in : (x : List ℕ) (r : ℕ) (f : Fields) → register x ≡ Some r → fill Rt (Plain x) f ≡ Some (record f { rt = r })
 rt_in x r f e = ap (fill_rt f) e
 
 number_in : (x : List ℕ) (n : Signed) (f : Fields) → number x ≡ Some n → fill Number (Plain x) f ≡ Some (record f { number = n })
 number_in x n f e = ap (fill_number f) e
 
-label_in : (x : List ℕ) (f : Fields) → is_label x ≡ true → fill Label (Plain x) f ≡ Some (record f { label = x })
+pub label_in : (x : List ℕ) (f : Fields) → is_label x ≡ true → fill Label (Plain x) f ≡ Some (record f { label = x })
 label_in x f e = rw e refl
 
 based_in : (x : List ℕ) (n : Signed) (r : ℕ) (f : Fields) → based x ≡ Some (record { number = n; base = r }) → fill Based (Plain x) f ≡ Some (record f { number = n; rs = r })
 based_in x n r f e = ap (fill_based f) e
 
-abbrev fields : (rd rs rt : ℕ) → Signed → List ℕ → Fields
+abbrev pub fields : (rd rs rt : ℕ) → Signed → List ℕ → Fields
 fields rd rs rt n label = record { rd = rd; rs = rs; rt = rt; number = n; label = label }
 
 abbrev plain : ℕ → Signed
@@ -150,7 +158,7 @@ small_text n limit h k = decimal_text n (omega (arith, h, k))
 below_within : (n limit : ℕ) → n < limit + 1 → is_within 0 limit (plain n) ≡ true
 below_within n limit h = plain_within n limit (omega (arith, h))
 
-reads : (one : Mips) (target : List ℕ) → IsRow (unlabelled_row one) → (takes_label one ≡ true → is_label target ≡ true) → ReadsBack one target (line_of one target)
+pub reads : (one : Mips) (target : List ℕ) → IsRow (unlabelled_row one) → (takes_label one ≡ true → is_label target ≡ true) → ReadsBack one target (line_of one target)
 reads (row.Sll rd rt n) target h l = back_of (row.Sll rd rt n) target Sll 115 (108 ∷ 108 ∷ []) (name_of rd ∷ name_of rt ∷ decimal n ∷ []) (fields rd 0 rt (plain n) []) (record { letter = refl; label = refl; ends = refl; newlines = refl; found = refl; stands = refl; same = λ os. refl }) (name_word rd h.0, (name_word rt h.1, ((small_text n 32 h.2 (lit≤ tt)).word, tt))) (fills_shift rd rt (plain n) (name_of rd) (name_of rt) (decimal n) (register_named rd h.0) (register_named rt h.1) (small_text n 32 h.2 (lit≤ tt)).read) (below_within n 31 h.2) (ap (λ m. Fixed (row.Sll rd rt m) ∷ []) (plain_field 5 n h.2))
 reads (row.Srl rd rt n) target h l = back_of (row.Srl rd rt n) target Srl 115 (114 ∷ 108 ∷ []) (name_of rd ∷ name_of rt ∷ decimal n ∷ []) (fields rd 0 rt (plain n) []) (record { letter = refl; label = refl; ends = refl; newlines = refl; found = refl; stands = refl; same = λ os. refl }) (name_word rd h.0, (name_word rt h.1, ((small_text n 32 h.2 (lit≤ tt)).word, tt))) (fills_shift rd rt (plain n) (name_of rd) (name_of rt) (decimal n) (register_named rd h.0) (register_named rt h.1) (small_text n 32 h.2 (lit≤ tt)).read) (below_within n 31 h.2) (ap (λ m. Fixed (row.Srl rd rt m) ∷ []) (plain_field 5 n h.2))
 reads (row.Sra rd rt n) target h l = back_of (row.Sra rd rt n) target Sra 115 (114 ∷ 97 ∷ []) (name_of rd ∷ name_of rt ∷ decimal n ∷ []) (fields rd 0 rt (plain n) []) (record { letter = refl; label = refl; ends = refl; newlines = refl; found = refl; stands = refl; same = λ os. refl }) (name_word rd h.0, (name_word rt h.1, ((small_text n 32 h.2 (lit≤ tt)).word, tt))) (fills_shift rd rt (plain n) (name_of rd) (name_of rt) (decimal n) (register_named rd h.0) (register_named rt h.1) (small_text n 32 h.2 (lit≤ tt)).read) (below_within n 31 h.2) (ap (λ m. Fixed (row.Sra rd rt m) ∷ []) (plain_field 5 n h.2))

@@ -70,20 +70,20 @@ abbrev pub AreWords : List (List ℕ) → Type 0
 AreWords [] = Unit {0}
 AreWords (o ∷ os) = IsWord o × AreWords os
 
-record Visible (c : ℕ) : Type 0 where
-  blank : is_blank c ≡ false
-  comma : (c == 44) ≡ false
-  quote : (c == 34) ≡ false
-  hash : (c == 35) ≡ false
+pub record Visible (c : ℕ) : Type 0 where
+  pub blank : is_blank c ≡ false
+  pub comma : (c == 44) ≡ false
+  pub quote : (c == 34) ≡ false
+  pub hash : (c == 35) ≡ false
 
-visible : (c : ℕ) → is_end c ≡ false → Visible c
+pub visible : (c : ℕ) → is_end c ≡ false → Visible c
 visible c h =
     let a = or_false (is_blank c) (c == 44 || (c == 34 || c == 35)) h in
     let b = or_false (c == 44) (c == 34 || c == 35) a.1 in
     let d = or_false (c == 34) (c == 35) b.1 in
     record { blank = a.0; comma = b.0; quote = d.0; hash = d.1 }
 
-skipped : (c : ℕ) (t : List ℕ) → is_blank c ≡ false → skip (c ∷ t) ≡ c ∷ t
+pub skipped : (c : ℕ) (t : List ℕ) → is_blank c ≡ false → skip (c ∷ t) ≡ c ∷ t
 skipped c t h = rw h refl
 
 -- operands
@@ -130,7 +130,7 @@ begins_further : (os : List (List ℕ)) → begins is_end (further os) ≡ true
 begins_further [] = refl
 begins_further (o ∷ os) = refl
 
-abbrev next_operands : ℕ → Option (Operand × List ℕ) → Option (List Operand)
+abbrev pub next_operands : ℕ → Option (Operand × List ℕ) → Option (List Operand)
 next_operands n (Some o) = before_operands o.0 (operands n (gap o.1))
 next_operands n None = None
 
@@ -179,11 +179,12 @@ begins_joined : (os : List (List ℕ)) → begins is_end (joined os) ≡ true
 begins_joined [] = refl
 begins_joined (o ∷ os) = refl
 
-pub cut_words : (c : ℕ) (word : List ℕ) (os : List (List ℕ)) → begins_label c ≡ true → none_of is_past_label word ≡ true → none_of is_end (c ∷ word) ≡ true → AreWords os → cut (c ∷ word ++ joined os) ≡ Some (record { labels = []; word = c ∷ word; operands = plains os })
-cut_words c word os b n e w =
+-- a line that begins with a word and no label
+pub cut_unlabelled : (c : ℕ) (word : List ℕ) (os : List (List ℕ)) → label_at (c ∷ word ++ joined os) ≡ None → none_of is_end (c ∷ word) ≡ true → AreWords os → cut (c ∷ word ++ joined os) ≡ Some (record { labels = []; word = c ∷ word; operands = plains os })
+cut_unlabelled c word os b e w =
     let v = visible c (first_not is_end c word e) in
     let t = c ∷ word ++ joined os in
-    let l : labelled (length t) t ≡ unlabelled t = labels_none (length (word ++ joined os)) t (no_label c word os b n) in
+    let l : labelled (length t) t ≡ unlabelled t = labels_none (length (word ++ joined os)) t b in
     let f : front is_end t ≡ c ∷ word = front_until is_end (c ∷ word) (joined os) e (begins_joined os) in
     let k : back is_end t ≡ joined os = back_until is_end (c ∷ word) (joined os) e (begins_joined os) in
     ap (λ s. cut_item (labelled (length t) s)) (skipped c (word ++ joined os) v.blank)
@@ -192,6 +193,9 @@ cut_words c word os b n e w =
     ∙ ap (λ s. cut_with [] s (operands_in (back is_end t))) f
     ∙ ap (λ s. cut_with [] (c ∷ word) (operands_in s)) k
     ∙ ap (cut_with [] (c ∷ word)) (operands_cut os w)
+
+pub cut_words : (c : ℕ) (word : List ℕ) (os : List (List ℕ)) → begins_label c ≡ true → none_of is_past_label word ≡ true → none_of is_end (c ∷ word) ≡ true → AreWords os → cut (c ∷ word ++ joined os) ≡ Some (record { labels = []; word = c ∷ word; operands = plains os })
+cut_words c word os b n e w = cut_unlabelled c word os (no_label c word os b n) e w
 
 newlines_further : (os : List (List ℕ)) → AreWords os → none_of is_newline (further os) ≡ true
 newlines_further [] w = refl
