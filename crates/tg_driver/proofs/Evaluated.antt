@@ -8,11 +8,12 @@ use Rattle.tg_syntax.specs.declared.trees.Op.{Op}
 use Rattle.tg_syntax.specs.declared.trees.Op.TheVariants as op
 use Rattle.tg_syntax.specs.Tree.{Exp, Int, Call, Neg, Binary, Seq, exp, no_exps}
 use Rattle.tg_syntax.specs.Measures.{size}
+use Rattle.tg_syntax.specs.Functions.{Levels, hops}
 use Rattle.tg_runs.specs.Outcomes.{ended}
 use Rattle.tg_meaning.specs.declared.standards.Standard.TheVariants.{Exit}
 use Rattle.tg_meaning.specs.Values.{Value, int, Entry, Env, by_overflow, add_weight}
 use Rattle.tg_meaning.specs.Environments.{to_standard, find, outermost}
-use Rattle.tg_meaning.specs.Levels.{Far, crossed, far_from, hops, activation, program_weight}
+use Rattle.tg_meaning.specs.Levels.{activation, program_weight}
 use Rattle.tg_meaning.specs.Evaluation.{Job, eval, eval_all, call, operate, with_left, exactly, meaning}
 use Rattle.tg_meaning.specs.Direct.{State, Result, gives, is_over, Direct, after, returned, found, past_limit, direct, begin, outcome, evaluate}
 use Rattle.tg_driver.specs.BuiltForm.{is_arithmetic, is_argument, CallsExit}
@@ -62,15 +63,15 @@ argument (Binary s o at a b) h =
 argument (Seq s (exp a no_exps)) h = parentheses s (argument a h)
 argument _ h = absurd (never h)
 
-no_hops : {e : Exp} → Argument e → (far : Far) → hops e far ≡ 0
-no_hops (number s n) far = refl
-no_hops (negation s a) far = no_hops a far
-no_hops (operation s o at {a} {b} h x y) far =
-    let l : hops a far ≡ 0 = no_hops x far in
-    let r : hops b far ≡ 0 = no_hops y far in
+no_hops : {e : Exp} → Argument e → (n : ℕ) (seen : Levels) → hops n seen e ≡ 0
+no_hops (number s k) n seen = refl
+no_hops (negation s a) n seen = no_hops a n seen
+no_hops (operation s o at {a} {b} h x y) n seen =
+    let l : hops n seen a ≡ 0 = no_hops x n seen in
+    let r : hops n seen b ≡ 0 = no_hops y n seen in
     omega arith
-no_hops (parentheses s {a} x) far =
-    let l : hops a far ≡ 0 = no_hops x far in
+no_hops (parentheses s {a} x) n seen =
+    let l : hops n seen a ≡ 0 = no_hops x n seen in
     omega arith
 
 module _ (heap stack : ℕ) (after_turn : Job → Direct Value) where
@@ -197,19 +198,18 @@ means_its_value names (Call p f (exp a no_exps)) h input heap stack fuel =
     let entries : List Entry = outermost names in
     let env : Env = record { level = 0; entries = entries } in
     let after_turn : Job → Direct Value = λ job. meaning Direct (direct heap stack) fuel job in
-    let weight : ℕ = program_weight body entries in
+    let weight : ℕ = program_weight body in
     let x : Argument a = argument a h.1 in
     let is : find f.name.0 entries ≡ Some (to_standard Exit) = exit_found names f.name.0 h.0 in
-    let near : crossed 0 (find f.name.0 entries) ≡ 0 = ap (λ b. crossed 0 b) is in
-    let inside : hops a (far_from 0 entries) ≡ 0 = no_hops x (far_from 0 entries) in
-    let flat : hops body (far_from 0 entries) ≡ 0 = omega (arith, near, inside) in
+    let flat : hops 0 [] a ≡ 0 = no_hops x 0 [] in
+    let light : weight ≡ activation (size body) 0 = omega (arith, flat) in
     let s : State = spent 1 (opened stack weight input fuel) in
     let c : Comes (size a) (value a) s (eval Direct (direct heap stack) after_turn a env s) = evaluated heap stack after_turn x env s in
     let whole : evaluate names body input heap stack fuel ≡ outcome (returned (exiting heap stack after_turn (finish (value a) (spent c.steps s)))) =
     ap (λ b. outcome (returned (after (found b s) (λ callee t. after (eval_all Direct (direct heap stack) after_turn (exp a no_exps) env t) (λ values. call Direct (direct heap stack) after_turn callee 0 values))))) is ∙
     ap (λ r. outcome (returned (exiting heap stack after_turn r))) c.is in
     subst (λ o. EndsQuietly body input stack (ending_of (value a)) o) (sym whole)
-    (ends_quietly body input heap stack fuel weight c.steps after_turn (value a) (ap (λ n. activation (size body) n) flat) (omega (arith, c.few)))
+    (ends_quietly body input heap stack fuel weight c.steps after_turn (value a) light (omega (arith, c.few)))
 means_its_value names (Call p f no_exps) h input heap stack fuel = absurd (never h.1)
 means_its_value names (Call p f (exp a (exp b rest))) h input heap stack fuel = absurd (never h.1)
 means_its_value names _ h input heap stack fuel = absurd h

@@ -359,7 +359,7 @@ module _ (Action : Type 0 → Type 0) (M : Actions Action) where
     -- the program's body, in the outermost scope
     abbrev pub run_program : Exp → List Entry → Action Value
     run_program body entries = do
-      weigh (program_weight body entries)
+      weigh (program_weight body)
       in_function (eval body (record { level = 0; entries = entries }))
 
   -- what stands behind a unit of fuel, where at most n units are used after it

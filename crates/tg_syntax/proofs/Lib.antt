@@ -1,4 +1,6 @@
 pub mod BeginningsExamples
+pub mod FunctionExamples
+pub mod FunctionLaws
 pub mod GrammarExamples
 pub mod GroupLaws
 pub mod InnerLemmas

@@ -11,5 +11,6 @@ pub mod Grammar
 pub mod Nesting
 pub mod SyntaxFaults
 pub mod Measures
+pub mod Functions
 pub mod Beginnings
 pub mod NamesWithin

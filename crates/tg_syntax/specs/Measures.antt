@@ -98,10 +98,6 @@ abbrev mutual
   inner_functions no_functions = 0
   inner_functions (function _ _ _ body rest) = size body + inner body + inner_functions rest
 
--- the nodes of all bodies of a program
-abbrev pub program_size : Exp → ℕ
-program_size body = size body + inner body
-
 -- a number, or the greatest of 32 bits where it is as large or larger
 abbrev pub capped : ℕ → ℕ
 capped n = min n 4294967295

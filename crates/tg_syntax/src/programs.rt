@@ -1,7 +1,6 @@
 ghost use Rattle.std.specs.Prelude.{◌≡◌};
 ghost use Rattle.tg_syntax.specs.Measures.{
   capped,
-  program_size,
   inner,
   inner_place,
   inner_exps,
@@ -9,6 +8,7 @@ ghost use Rattle.tg_syntax.specs.Measures.{
   inner_decs,
   inner_functions,
 };
+ghost use Rattle.tg_syntax.specs.Functions.{program_size};
 ghost use Rattle.tg_syntax.specs.Plain.{
   plain,
   plain_place,

@@ -6,7 +6,9 @@ use Rattle.tg_syntax.specs.declared.trees.Exp.{Exp as CodeExp}
 use Rattle.tg_syntax.specs.declared.trees.Kind.{Kind, Nil, Break, Int, Text, Read, Call, Neg', Binary', Make, Fill', Assign', If', None', Some', While', For', Let', Seq}
 use Rattle.tg_syntax.specs.Plain.{plain, plain_kind}
 use Rattle.tg_syntax.specs.Spans.{span_of}
-use Rattle.tg_syntax.specs.Measures.{size, program_size, capped}
+use Rattle.tg_syntax.specs.Measures.{size, capped}
+use Rattle.tg_syntax.specs.Functions.{program_size}
+use Rattle.tg_syntax.proofs.FunctionLaws.{program_size_is}
 use Rattle.tg_types.specs.declared.faults.TypeRule.{TypeRule}
 use Rattle.tg_types.specs.declared.faults.TypeRule.TheVariants.{T21, T22}
 use Rattle.tg_types.specs.Limits.{declared, above, first_above, limit_fault}
@@ -46,4 +48,4 @@ capped_within n limit k e h l = omega arith
 
 pub fault_parts : (e : CodeExp) → above T22 e.span.from (program_size (plain e)) 32768 (above T21 e.span.from (size (plain e)) 4096 (first_above (declared 0 (plain e)))) ≡ limit_fault (plain e)
 fault_parts e =
-    ap (λ k. above T22 e.span.from (size (plain e) + k) 32768 (above T21 e.span.from (size (plain e)) 4096 (first_above (declared 0 (plain e))))) (inner_is 0 (plain e)) ∙ ap (λ s. above T22 s.from (size (plain e) + sum_by (λ f. f.nodes) (declared 0 (plain e))) 32768 (above T21 s.from (size (plain e)) 4096 (first_above (declared 0 (plain e))))) (sym (kind_span e.kind e.span))
+    ap (λ k. above T22 e.span.from k 32768 (above T21 e.span.from (size (plain e)) 4096 (first_above (declared 0 (plain e))))) (program_size_is (plain e)) ∙ ap (λ k. above T22 e.span.from (size (plain e) + k) 32768 (above T21 e.span.from (size (plain e)) 4096 (first_above (declared 0 (plain e))))) (inner_is 0 (plain e)) ∙ ap (λ s. above T22 s.from (size (plain e) + sum_by (λ f. f.nodes) (declared 0 (plain e))) 32768 (above T21 s.from (size (plain e)) 4096 (first_above (declared 0 (plain e))))) (sym (kind_span e.kind e.span))

@@ -1,6 +1,7 @@
 use Rattle.std.proofs.Common.{◌∙◌, arith}
 use Rattle.tg_syntax.specs.Plain.{plain}
-use Rattle.tg_syntax.specs.Measures.{size, program_size}
+use Rattle.tg_syntax.specs.Measures.{size}
+use Rattle.tg_syntax.specs.Functions.{program_size}
 use Rattle.tg_types.specs.declared.faults.TypeRule.TheVariants.{T21, T22}
 use Rattle.tg_types.specs.Limits.{declared, above, first_above}
 use Rattle.tg_types.proofs.LimitFaults.{over, within, capped_over, capped_within, fault_parts}
