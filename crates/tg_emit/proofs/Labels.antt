@@ -1,0 +1,87 @@
+-- Labels are ASCII texts, and a row whose form takes no label is written without one.
+use Rattle.std.proofs.Common.{ℕ, zero, suc, ◌≡◌, ◌<◌, List, [], ◌∷◌, length, Bool, true, false, refl, sym, ap, ◌∙◌, arith, lit<}
+use Rattle.std.specs.Prelude.{IsTrue, ◌==◌, IsAscii, IsUtf8}
+use Rattle.std.proofs.lemmas.Bool.Decides.{nat_tests}
+use Rattle.std.proofs.lemmas.Str.{IsUtf8-from_ascii}
+use Rattle.tg_isa.specs.Lines.{back, begins_label, is_in_label, is_past_label}
+use Rattle.tg_isa.specs.Operands.{is_label}
+use Rattle.tg_emit.proofs.Fitting.{left_holds, right_holds}
+use Rattle.tg_isa.specs.declared.mips.Mips.{Mips}
+use Rattle.tg_isa.specs.declared.mips.Mips.TheVariants as row
+use Rattle.tg_isa.specs.Writing.{takes_label, line_of}
+
+pub written_alone : (one : Mips) (s t : List ℕ) → takes_label one ≡ false → line_of one s ≡ line_of one t
+written_alone (row.Sll rd rt n) s t h = refl
+written_alone (row.Srl rd rt n) s t h = refl
+written_alone (row.Sra rd rt n) s t h = refl
+written_alone (row.Jr rs) s t h = refl
+written_alone (row.Jalr rd rs) s t h = refl
+written_alone row.Syscall s t h = refl
+written_alone (row.Break n) s t h = refl
+written_alone (row.Mfhi rd) s t h = refl
+written_alone (row.Mflo rd) s t h = refl
+written_alone (row.Mult rs rt) s t h = refl
+written_alone (row.Div rs rt) s t h = refl
+written_alone (row.Add rd rs rt) s t h = refl
+written_alone (row.Sub rd rs rt) s t h = refl
+written_alone (row.Addu rd rs rt) s t h = refl
+written_alone (row.Subu rd rs rt) s t h = refl
+written_alone (row.And rd rs rt) s t h = refl
+written_alone (row.Or rd rs rt) s t h = refl
+written_alone (row.Xor rd rs rt) s t h = refl
+written_alone (row.Nor rd rs rt) s t h = refl
+written_alone (row.Slt rd rs rt) s t h = refl
+written_alone (row.Sltu rd rs rt) s t h = refl
+written_alone (row.J n) s t h = cc
+written_alone (row.Jal n) s t h = cc
+written_alone (row.Beq rs rt n) s t h = cc
+written_alone (row.Bne rs rt n) s t h = cc
+written_alone (row.Blez rs n) s t h = cc
+written_alone (row.Bgtz rs n) s t h = cc
+written_alone (row.Bltz rs n) s t h = cc
+written_alone (row.Bgez rs n) s t h = cc
+written_alone (row.Addi rt rs n) s t h = refl
+written_alone (row.Addiu rt rs n) s t h = refl
+written_alone (row.Slti rt rs n) s t h = refl
+written_alone (row.Sltiu rt rs n) s t h = refl
+written_alone (row.Andi rt rs n) s t h = refl
+written_alone (row.Ori rt rs n) s t h = refl
+written_alone (row.Xori rt rs n) s t h = refl
+written_alone (row.Lui rt n) s t h = refl
+written_alone (row.Lb rt n rs) s t h = refl
+written_alone (row.Lbu rt n rs) s t h = refl
+written_alone (row.Lw rt n rs) s t h = refl
+written_alone (row.Sb rt n rs) s t h = refl
+written_alone (row.Sw rt n rs) s t h = refl
+
+begins_below : (c : ℕ) → begins_label c ≡ true → c < 128
+begins_below c h = grind (arith, nat_tests)
+
+in_label_below : (c : ℕ) → is_in_label c ≡ true → c < 128
+in_label_below c h = grind (arith, nat_tests)
+
+-- a text without a byte that is in no label
+ascii_front : (text : List ℕ) → length (back is_past_label text) ≡ 0 → IsAscii text
+ascii_front [] h = λ i. lit< tt
+ascii_front (c ∷ text) h = by_class (is_in_label c) refl (λ k. ascii_front text k)
+  where
+    by_class : (b : Bool) → is_in_label c ≡ b → (length (back is_past_label text) ≡ 0 → IsAscii text) → IsAscii (c ∷ text)
+    by_class true e rest zero = in_label_below c e
+    by_class true e rest (suc i) = rest (let same : length (back is_past_label (c ∷ text)) ≡ length (back is_past_label text) = rw e refl in sym same ∙ h) i
+    by_class false e rest i = let long : length (back is_past_label (c ∷ text)) ≡ length (c ∷ text) = rw e refl in absurd (omega arith)
+
+pub label_ascii : (text : List ℕ) → IsTrue (is_label text) → IsAscii text
+label_ascii [] h i = lit< tt
+label_ascii (c ∷ text) h zero = begins_below c (left_holds _ _ h)
+label_ascii (c ∷ text) h (suc i) = ascii_front text (let e : IsTrue (length (back is_past_label text) == 0) = right_holds (begins_label c) _ h in grind (arith, nat_tests)) i
+
+pub label_utf8 : (text : List ℕ) → IsTrue (is_label text) → IsUtf8 text
+label_utf8 text h = IsUtf8-from_ascii text (label_ascii text h)
+
+-- what is written of a row is written with a text that is its label, where it takes one
+pub written_with : (one : Mips) (s t : List ℕ) → (IsTrue (takes_label one) → s ≡ t) → line_of one s ≡ line_of one t
+written_with one s t h = by_label (takes_label one) refl
+  where
+    by_label : (b : Bool) → takes_label one ≡ b → line_of one s ≡ line_of one t
+    by_label true e = ap (line_of one) (h e)
+    by_label false e = written_alone one s t e

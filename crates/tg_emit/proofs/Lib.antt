@@ -1,0 +1,4 @@
+pub mod Appending
+mod Examples
+pub mod Fitting
+pub mod Labels

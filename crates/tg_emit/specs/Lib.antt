@@ -1,0 +1,5 @@
+pub mod Names
+pub mod Rows
+pub mod Lines
+pub mod Text
+pub mod Conditions

@@ -1,0 +1,110 @@
+ghost use Rattle.std.specs.Prelude.{◌≡◌, ◌++◌, IsTrue, IfOk, OnOk, nat_lt};
+ghost use Rattle.std.specs.List.{list_all};
+ghost use Rattle.tg_emit.specs.Conditions.{is_emittable};
+ghost use Rattle.tg_base.specs.State.{padded};
+ghost use Rattle.tg_emit.specs.Lines.{
+  assembly_of,
+  functions_lines,
+  literal_lines,
+  literals_lines,
+  words,
+  words_of as words_of_line,
+};
+
+use crate::assembly::{Assembly, Line};
+use crate::bodies::function;
+use crate::frames::push;
+use crate::names;
+use std::alloc::Global;
+use tg_base::{Bytes, Memory};
+use tg_instr::Allocated;
+use tg_tree::Literal;
+
+/// The words of code up to which each branch is one row; in longer code each is turned round over a jump, since a branch
+/// reaches 32,767 words.
+const NEAR: usize = 32000;
+
+/// The lines of a program's functions and literals, functions first, each in its order.
+pub fn emit(
+    alloc: Global,
+    functions: &[Allocated],
+    literals: &[Literal],
+) -> Result<Assembly, Memory>
+    requires { IsTrue (list_all is_emittable functions.now) }
+    ensures { IfOk result (λ assembly. assembly ≡ assembly_of functions.now literals.now) }
+{
+    let near = bodies(alloc, functions, false)?;
+    let mut list = if is_above(&near, NEAR) {
+        bodies(alloc, functions, true)?
+    } else {
+        near
+    };
+    put_literals(alloc, &mut list, literals)?;
+    Ok(Assembly::from_vec(list))
+}
+
+fn bodies(alloc: Global, functions: &[Allocated], turned: bool) -> Result<Vec<Line>, Memory>
+    requires { IsTrue (list_all is_emittable functions.now) }
+    ensures { IfOk result (λ list. list.items ≡ functions_lines turned functions.now) }
+{
+    let mut list = Vec::new(alloc);
+    for one in functions.iter() {
+        function(alloc, &mut list, turned, one)?;
+    }
+    Ok(list)
+}
+
+/// Whether lines are more words of code than so many.
+fn is_above(list: &[Line], most: usize) -> bool
+    ensures { result ≡ nat_lt most (words list.now) }
+{
+    let mut left = most;
+    for line in list.iter() {
+        let words = words_of(line);
+        if left < words {
+            return true;
+        }
+        left -= words;
+    }
+    false
+}
+
+fn words_of(line: &Line) -> usize
+    ensures { result ≡ words_of_line line.now }
+{
+    match line {
+        Line::One(_, _) => 1,
+        Line::La(_, _) => 2,
+        _ => 0,
+    }
+}
+
+fn put_literals(alloc: Global, list: &mut Vec<Line>, literals: &[Literal]) -> Result<(), Memory>
+    ensures { OnOk result (list.new.items ≡ list.old.items ++ literals_lines literals.now) }
+{
+    for one in literals.iter() {
+        put_literal(alloc, list, one)?;
+    }
+    Ok(())
+}
+
+fn put_literal(alloc: Global, list: &mut Vec<Line>, one: &Literal) -> Result<(), Memory>
+    ensures { OnOk result (list.new.items ≡ list.old.items ++ literal_lines one.now) }
+{
+    push(list, Line::Label(names::literal(alloc, one.label)?))?;
+    push(
+        list,
+        Line::Statics(padded_bytes(alloc, one.text.as_slice())?),
+    )
+}
+
+/// Bytes, padded to a multiple of 4.
+fn padded_bytes(alloc: Global, bytes: &[u8]) -> Result<Bytes, Memory>
+    ensures { IfOk result (λ all. all ≡ padded bytes.now) }
+{
+    let mut all = Vec::from_slice(alloc, bytes)?;
+    for _ in 0..(4 - bytes.len() % 4) % 4 {
+        all.push(0)?;
+    }
+    Ok(Bytes::from_vec(all))
+}
