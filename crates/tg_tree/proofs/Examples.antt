@@ -40,7 +40,7 @@ abbrev does : List (Function Ts) → List Literal → ℕ → List ℕ × Stop
 does functions literals fuel = does_in 64 functions literals fuel
 
 abbrev alone : Ts → List ℕ × Stop
-alone s = does (fun 32 [] 1 s ∷ []) [] 1
+alone s = does (fun 32 [] 1 s ∷ []) [] 0
 
 abbrev finished : List ℕ → List ℕ × Stop
 finished bytes = (bytes, Ended (Exit (pos 0)))
@@ -50,10 +50,10 @@ abbrev counts : Ts
 counts =
     sequence (Move 0 (Const 0) ∷ Loop (If (Compare Less (Temp 0) (Const 3)) (sequence (print (Temp 0) ∷ Move 0 (Binary Add (Temp 0) (Const 1)) ∷ [])) (Break 0)) ∷ Return (Const 0) ∷ [])
 
-loop_counts : does (fun 32 [] 0 counts ∷ []) [] 4 ≡ finished (0 ∷ 1 ∷ 2 ∷ [])
+loop_counts : does (fun 32 [] 0 counts ∷ []) [] 3 ≡ finished (0 ∷ 1 ∷ 2 ∷ [])
 loop_counts = refl
 
-wants_one_more : does (fun 32 [] 0 counts ∷ []) [] 3 ≡ (0 ∷ 1 ∷ 2 ∷ [], WantsFuel)
+wants_one_more : does (fun 32 [] 0 counts ∷ []) [] 2 ≡ (0 ∷ 1 ∷ 2 ∷ [], WantsFuel)
 wants_one_more = refl
 
 -- a function reads and writes a variable two levels out, by static links in the frames
@@ -63,7 +63,7 @@ outer_variable =
     fun 33 (InFrame 0 ∷ []) 1 (sequence (Do (Call 34 (txs (FrameAddress ∷ []))) ∷ Return (Const 0) ∷ [])) ∷
     fun 34 (InFrame 0 ∷ []) 1 (sequence (Move 0 (Load (Binary Sub (Load (home 0)) (Const 4))) ∷ Store (Binary Sub (Temp 0) (Const 4)) (Binary Add (Load (Binary Sub (Temp 0) (Const 4))) (Const 1)) ∷ Return (Const 0) ∷ [])) ∷ []
 
-two_levels_out : does outer_variable [] 3 ≡ finished (8 ∷ [])
+two_levels_out : does outer_variable [] 2 ≡ finished (8 ∷ [])
 two_levels_out = refl
 
 -- a recursive function adds its argument to a variable two levels out: the outer function hands its frame address on, and each
@@ -77,7 +77,7 @@ adds_up =
     fun 33 (InFrame 0 ∷ []) 1 (sequence (Do (Call 34 (txs (FrameAddress ∷ Const 3 ∷ []))) ∷ Return (Const 0) ∷ [])) ∷
     fun 34 (InFrame 0 ∷ temp 0 ∷ []) 1 (sequence (Store (Binary Sub outer_frame (Const 4)) (Binary Add (Load (Binary Sub outer_frame (Const 4))) (Temp 0)) ∷ If (Compare Less (Const 1) (Temp 0)) (Do (Call 34 (txs (Load (home 0) ∷ Binary Sub (Temp 0) (Const 1) ∷ [])))) nothing ∷ Return (Const 0) ∷ [])) ∷ []
 
-recursion_adds_up : does_in 48 adds_up [] 5 ≡ finished (16 ∷ [])
+recursion_adds_up : does_in 48 adds_up [] 4 ≡ finished (16 ∷ [])
 recursion_adds_up = refl
 
 -- a call with six arguments
@@ -87,7 +87,7 @@ six =
     fun 33 (temp 0 ∷ temp 1 ∷ temp 2 ∷ temp 3 ∷ InFrame 0 ∷ temp 5 ∷ []) 1
     (Return (Binary Add (Binary Mul (Temp 0) (Const 100)) (Binary Add (Binary Mul (Load (home 0)) (Const 10)) (Temp 5)))) ∷ []
 
-six_arguments : does six [] 2 ≡ finished (156 ∷ [])
+six_arguments : does six [] 1 ≡ finished (156 ∷ [])
 six_arguments = refl
 
 -- a record is made and read
@@ -95,7 +95,7 @@ record_made : alone (sequence (Move 0 (Service 9 (Const 7)) ∷ Store (Temp 0) (
 record_made = refl
 
 -- a literal is read byte by byte, behind another one
-literal_read : does (fun 32 [] 0 (sequence (Do (Service 11 (LoadByte (Address 41))) ∷ Do (Service 11 (LoadByte (Binary Add (Address 41) (Const 1)))) ∷ Do (Service 4 (Address 40)) ∷ Return (Const 0) ∷ [])) ∷ []) (record { label = 40; text = codes "abc" } ∷ record { label = 41; text = codes "hi" } ∷ []) 1 ≡ finished (codes "hiabc")
+literal_read : does (fun 32 [] 0 (sequence (Do (Service 11 (LoadByte (Address 41))) ∷ Do (Service 11 (LoadByte (Binary Add (Address 41) (Const 1)))) ∷ Do (Service 4 (Address 40)) ∷ Return (Const 0) ∷ [])) ∷ []) (record { label = 40; text = codes "abc" } ∷ record { label = 41; text = codes "hi" } ∷ []) 0 ≡ finished (codes "hiabc")
 literal_read = refl
 
 -- the input is read, and a condition looks at its right side only where it matters
@@ -134,7 +134,7 @@ operations : operate Add 4294967295 2 ∷ operate Sub 0 1 ∷ operate Mul 65537 
 operations = refl
 
 -- a byte is stored into a literal, and into a slot that holds a word
-byte_stored : does (fun 32 [] 1 (sequence (StoreByte (Address 40) (Const 360) ∷ Do (Service 4 (Address 40)) ∷ Store (home 0) (Const 258) ∷ StoreByte (Binary Add (home 0) (Const 1)) (Const 3) ∷ print (LoadByte (Binary Add (home 0) (Const 1))) ∷ print (Load (home 0)) ∷ Return (Const 0) ∷ [])) ∷ []) (record { label = 40; text = codes "abc" } ∷ []) 1 ≡ finished (codes "hbc" ++ 3 ∷ 2 ∷ [])
+byte_stored : does (fun 32 [] 1 (sequence (StoreByte (Address 40) (Const 360) ∷ Do (Service 4 (Address 40)) ∷ Store (home 0) (Const 258) ∷ StoreByte (Binary Add (home 0) (Const 1)) (Const 3) ∷ print (LoadByte (Binary Add (home 0) (Const 1))) ∷ print (Load (home 0)) ∷ Return (Const 0) ∷ [])) ∷ []) (record { label = 40; text = codes "abc" } ∷ []) 0 ≡ finished (codes "hbc" ++ 3 ∷ 2 ∷ [])
 byte_stored = refl
 
 -- the other services: two exits, and a number that no service has
@@ -151,7 +151,7 @@ product_above : alone (sequence (print (Binary MulHigh (Const 65536) (Const 6553
 product_above = refl
 
 -- a full stack, at the call whose frame reaches below the floor; a full heap
-stack_full : does (fun 32 [] 0 (sequence (print (Const 1) ∷ Return (Call 32 no_txs) ∷ [])) ∷ []) [] 9 ≡ (1 ∷ 1 ∷ 1 ∷ 1 ∷ [], Ended StackFull)
+stack_full : does (fun 32 [] 0 (sequence (print (Const 1) ∷ Return (Call 32 no_txs) ∷ [])) ∷ []) [] 3 ≡ (1 ∷ 1 ∷ 1 ∷ 1 ∷ [], Ended StackFull)
 stack_full = refl
 
 heap_full : alone (sequence (Do (Service 9 (Const 5)) ∷ Do (Service 9 (Const 1)) ∷ [])) ≡ ([], Ended HeapFull)
@@ -176,10 +176,10 @@ loads_a_byte_from_nowhere = refl
 loads_behind_the_heap : alone (sequence (Move 0 (Service 9 (Const 4)) ∷ Return (Load (Binary Add (Temp 0) (Const 4))) ∷ [])) ≡ ([], Wrong)
 loads_behind_the_heap = refl
 
-text_without_an_end : does (fun 32 [] 0 (Do (Service 4 (Address 40))) ∷ []) (record { label = 40; text = codes "abcd" } ∷ []) 1 ≡ ([], Wrong)
+text_without_an_end : does (fun 32 [] 0 (Do (Service 4 (Address 40))) ∷ []) (record { label = 40; text = codes "abcd" } ∷ []) 0 ≡ ([], Wrong)
 text_without_an_end = refl
 
-loads_from_no_multiple_of_4 : does (fun 32 [] 0 (Return (Load (Binary Add (Address 40) (Const 1)))) ∷ []) (record { label = 40; text = codes "abcdefgh" } ∷ []) 1 ≡ ([], Wrong)
+loads_from_no_multiple_of_4 : does (fun 32 [] 0 (Return (Load (Binary Add (Address 40) (Const 1)))) ∷ []) (record { label = 40; text = codes "abcdefgh" } ∷ []) 0 ≡ ([], Wrong)
 loads_from_no_multiple_of_4 = refl
 
 slot_not_stored_to : alone (Return (Load (home 0))) ≡ ([], Wrong)
@@ -191,7 +191,7 @@ stores_to_nowhere = refl
 stores_a_byte_to_nowhere : alone (StoreByte (Const 4) (Const 0)) ≡ ([], Wrong)
 stores_a_byte_to_nowhere = refl
 
-stores_to_no_multiple_of_4 : does (fun 32 [] 0 (Store (Binary Add (Address 40) (Const 2)) (Const 0)) ∷ []) (record { label = 40; text = codes "abcdefgh" } ∷ []) 1 ≡ ([], Wrong)
+stores_to_no_multiple_of_4 : does (fun 32 [] 0 (Store (Binary Add (Address 40) (Const 2)) (Const 0)) ∷ []) (record { label = 40; text = codes "abcdefgh" } ∷ []) 0 ≡ ([], Wrong)
 stores_to_no_multiple_of_4 = refl
 
 stores_a_byte_to_an_unset_slot : alone (StoreByte (home 0) (Const 0)) ≡ ([], Wrong)
@@ -203,10 +203,10 @@ stores_to_no_slot = refl
 calls_no_function : alone (Do (Call 33 no_txs)) ≡ ([], Wrong)
 calls_no_function = refl
 
-one_argument_too_many : does (fun 32 [] 0 (Do (Call 33 (txs (Const 1 ∷ [])))) ∷ fun 33 [] 0 (Return (Const 0)) ∷ []) [] 3 ≡ ([], Wrong)
+one_argument_too_many : does (fun 32 [] 0 (Do (Call 33 (txs (Const 1 ∷ [])))) ∷ fun 33 [] 0 (Return (Const 0)) ∷ []) [] 0 ≡ ([], Wrong)
 one_argument_too_many = refl
 
-one_argument_too_few : does (fun 32 [] 0 (Do (Call 33 no_txs)) ∷ fun 33 (temp 0 ∷ []) 0 (Return (Const 0)) ∷ []) [] 3 ≡ ([], Wrong)
+one_argument_too_few : does (fun 32 [] 0 (Do (Call 33 no_txs)) ∷ fun 33 (temp 0 ∷ []) 0 (Return (Const 0)) ∷ []) [] 0 ≡ ([], Wrong)
 one_argument_too_few = refl
 
 goes_on_behind_its_end : alone (print (Const 1)) ≡ (1 ∷ [], Wrong)
@@ -219,11 +219,11 @@ no_literal : alone (Do (Address 40)) ≡ ([], Wrong)
 no_literal = refl
 
 -- a slot of a function that has returned is closed
-slot_of_a_closed_activation : does (fun 32 [] 0 (sequence (Move 0 (Call 33 no_txs) ∷ Return (Load (Temp 0)) ∷ [])) ∷ fun 33 [] 1 (sequence (Store (home 0) (Const 1) ∷ Return (home 0) ∷ [])) ∷ []) [] 3 ≡ ([], Wrong)
+slot_of_a_closed_activation : does (fun 32 [] 0 (sequence (Move 0 (Call 33 no_txs) ∷ Return (Load (Temp 0)) ∷ [])) ∷ fun 33 [] 1 (sequence (Store (home 0) (Const 1) ∷ Return (home 0) ∷ [])) ∷ []) [] 1 ≡ ([], Wrong)
 slot_of_a_closed_activation = refl
 
 -- a slot is unset again in the next activation, and a temporary too
-slot_of_an_earlier_activation : does (fun 32 [] 0 (sequence (Do (Call 33 (txs (Const 1 ∷ []))) ∷ Return (Call 33 (txs (Const 0 ∷ []))) ∷ [])) ∷ fun 33 (temp 0 ∷ []) 1 (sequence (If (Compare Equal (Temp 0) (Const 1)) (sequence (Store (home 0) (Const 1) ∷ Move 1 (Const 1) ∷ [])) (print (Load (home 0))) ∷ Return (Const 0) ∷ [])) ∷ []) [] 3 ≡ ([], Wrong)
+slot_of_an_earlier_activation : does (fun 32 [] 0 (sequence (Do (Call 33 (txs (Const 1 ∷ []))) ∷ Return (Call 33 (txs (Const 0 ∷ []))) ∷ [])) ∷ fun 33 (temp 0 ∷ []) 1 (sequence (If (Compare Equal (Temp 0) (Const 1)) (sequence (Store (home 0) (Const 1) ∷ Move 1 (Const 1) ∷ [])) (print (Load (home 0))) ∷ Return (Const 0) ∷ [])) ∷ []) [] 2 ≡ ([], Wrong)
 slot_of_an_earlier_activation = refl
 
 -- flat code: a loop that counts
@@ -235,15 +235,15 @@ abbrev flat_does : ℕ → List ℕ × Stop
 flat_does fuel =
     seen (flat_run (record { functions = fun 32 [] 0 flat_counts ∷ []; literals = [] }) (λ label. 64) (stack_top - 256) 8 32 [] fuel)
 
-flat_loop_counts : flat_does 5 ≡ finished (0 ∷ 1 ∷ 2 ∷ [])
+flat_loop_counts : flat_does 4 ≡ finished (0 ∷ 1 ∷ 2 ∷ [])
 flat_loop_counts = refl
 
-flat_wants_more : flat_does 4 ≡ (0 ∷ 1 ∷ 2 ∷ [], WantsFuel)
+flat_wants_more : flat_does 3 ≡ (0 ∷ 1 ∷ 2 ∷ [], WantsFuel)
 flat_wants_more = refl
 
 -- a fault, an end that is missing, and a mark that is missing
 abbrev flat_alone : List Linear → List ℕ × Stop
-flat_alone code = seen (flat_run (record { functions = fun 32 [] 0 code ∷ []; literals = [] }) (λ label. 64) (stack_top - 256) 8 32 [] 3)
+flat_alone code = seen (flat_run (record { functions = fun 32 [] 0 code ∷ []; literals = [] }) (λ label. 64) (stack_top - 256) 8 32 [] 0)
 
 flat_faults : flat_alone (Do' (print (Const 1)) ∷ Fault' 3 ∷ []) ≡ (1 ∷ [], Ended (Broken 3))
 flat_faults = refl
@@ -254,5 +254,5 @@ flat_goes_on_behind_its_end = refl
 flat_jumps_to_no_mark : flat_alone (Jump 1 ∷ []) ≡ ([], Wrong)
 flat_jumps_to_no_mark = refl
 
-flat_recursion : seen (flat_run (record { functions = fun 32 [] 0 (Do' (Move 0 (Call 33 (txs (Const 3 ∷ [])))) ∷ Do' (print (Temp 0)) ∷ Return' (Const 0) ∷ []) ∷ fun 33 (temp 0 ∷ []) 0 (Branch Equal (Temp 0) (Const 0) 1 ∷ Do' (Move 1 (Call 33 (txs (Binary Sub (Temp 0) (Const 1) ∷ [])))) ∷ Return' (Binary Add (Temp 1) (Temp 0)) ∷ Mark 1 ∷ Return' (Const 0) ∷ []) ∷ []; literals = [] }) (λ label. 8) (stack_top - 256) 8 32 [] 6) ≡ finished (6 ∷ [])
+flat_recursion : seen (flat_run (record { functions = fun 32 [] 0 (Do' (Move 0 (Call 33 (txs (Const 3 ∷ [])))) ∷ Do' (print (Temp 0)) ∷ Return' (Const 0) ∷ []) ∷ fun 33 (temp 0 ∷ []) 0 (Branch Equal (Temp 0) (Const 0) 1 ∷ Do' (Move 1 (Call 33 (txs (Binary Sub (Temp 0) (Const 1) ∷ [])))) ∷ Return' (Binary Add (Temp 1) (Temp 0)) ∷ Mark 1 ∷ Return' (Const 0) ∷ []) ∷ []; literals = [] }) (λ label. 8) (stack_top - 256) 8 32 [] 5) ≡ finished (6 ∷ [])
 flat_recursion = refl

@@ -5,7 +5,7 @@ use Rattle.tg_base.specs.State.{heap_base}
 use Rattle.tg_runs.specs.Runs.{Run}
 use Rattle.tg_runs.specs.Ran.{Ran, Stop, WantsFuel, Wrong, writes, works}
 use Rattle.tg_tree.specs.Memory.{Memory, Cell, Closed, Unset, Has, Spot, in_statics, in_heap, elsewhere, spot, cell_word, cell_byte, word_in, byte_in, load, load_byte, put_open, put_byte, with_byte, store_in, store_byte_in, store, store_byte}
-use Rattle.tg_tree.specs.Meaning.{World, Back, over, with_word, with_memory, with_text, before, text_from, take_heap, read_byte}
+use Rattle.tg_tree.specs.Actions.{World, Back, over, with_word, with_memory, with_text, before, text_from, take_heap, read_byte}
 use Rattle.tg_tree.specs.Running.{with_fuel}
 use Rattle.tg_tree.specs.Holding as holding
 use Rattle.tg_tree.specs.Holding.{HoldsToo, unset, set, CellHoldsToo, not_stored, stored_to, stored, TempsHoldToo, WorldHoldsToo, in_stack}

@@ -7,7 +7,8 @@ use Rattle.tg_tree.specs.Operators.{Given, word, stops_by, operate}
 use Rattle.tg_tree.specs.Memory.{Memory, load, load_byte, literal_address}
 use Rattle.tg_tree.specs.Units.{Stage, expression_units}
 use Rattle.tg_tree.specs.Sizes.{expression_length}
-use Rattle.tg_tree.specs.Meaning.{World, Temps, Activation, Go, Out, Back, Point, with_word, with_given, charged, value}
+use Rattle.tg_tree.specs.Actions.{World, Temps, Around, Go, with_word, with_given, charged}
+use Rattle.tg_tree.specs.Meaning.{Enter, Point, value}
 use Rattle.tg_tree.specs.Shapes.{IsFlat}
 use Rattle.tg_tree.specs.FlatValue.{or_wrong, onward, flat_value, after_word, flat_spent}
 
@@ -36,41 +37,41 @@ last_runs g f w next go k n h =
     onward_runs g f w next go k 0 n (λ v. h v ∙ sym (works_none (with_given (f v) w go n))) ∙
     ap (λ j. works j (with_given (onward g f) w go n)) (no_more g k)
 
-module _ (g : Stage) (room : ℕ) (ls : List Literal) (enter : ℕ → List ℕ → ℕ → Back → World → Run Ran) (later : Point → Run Ran) where
-  pub flat_runs : (x : Tx) (a : Activation) (out : Out) (back : Back) (go : Go) (w : World) (t : Temps) (n : ℕ) → IsFlat x → value g room ls enter later x a out back go w t n ≡ charged (flat_spent g ls a.base w.memory t x) (with_given (flat_value ls a.base w.memory t x) w (λ v. go v w t)) n
-  flat_runs (Const v) a out back go w t n f = refl
-  flat_runs (Address label) a out back go w t n f =
+module _ (g : Stage) (room : ℕ) (ls : List Literal) (enter : Enter) (later : Point → Run Ran) where
+  pub flat_runs : (x : Tx) (z : Around) (go : Go ℕ) (w : World) (t : Temps) (n : ℕ) → IsFlat x → value g room ls enter later x z go w t n ≡ charged (flat_spent g ls z.activation.base w.memory t x) (with_given (flat_value ls z.activation.base w.memory t x) w (λ v. go v w t)) n
+  flat_runs (Const v) z go w t n f = refl
+  flat_runs (Address label) z go w t n f =
       ap (works (expression_units g (Address label))) (word_runs (literal_address ls label) w (λ v. go v w t) n)
-  flat_runs (Temp i) a out back go w t n f = ap (works (expression_units g (Temp i))) (word_runs (t i) w (λ v. go v w t) n)
-  flat_runs FrameAddress a out back go w t n f = refl
-  flat_runs (Binary op x y) a out back go w t n f =
+  flat_runs (Temp i) z go w t n f = ap (works (expression_units g (Temp i))) (word_runs (t i) w (λ v. go v w t) n)
+  flat_runs FrameAddress z go w t n f = refl
+  flat_runs (Binary op x y) z go w t n f =
       let e = expression_units g (Binary op x y) in
-      let sx = flat_spent g ls a.base w.memory t x in
-      let sy = flat_spent g ls a.base w.memory t y in
-      let vx = flat_value ls a.base w.memory t x in
-      let vy = flat_value ls a.base w.memory t y in
+      let sx = flat_spent g ls z.activation.base w.memory t x in
+      let sy = flat_spent g ls z.activation.base w.memory t y in
+      let vx = flat_value ls z.activation.base w.memory t x in
+      let vy = flat_value ls z.activation.base w.memory t y in
       ap (works e)
-      (flat_runs x a out back (λ u w1 t1. value g room ls enter later y a out back (λ v w2 t2. with_given (operate op u v) w2 (λ r. go r w2 t2)) w1 t1) w t n f.0 ∙
+      (flat_runs x z (λ u w1 t1. value g room ls enter later y z (λ v w2 t2. with_given (operate op u v) w2 (λ r. go r w2 t2)) w1 t1) w t n f.0 ∙
       onward_runs vx (λ u. onward vy (λ v. operate op u v)) w _ (λ v. go v w t) sx sy n
-      (λ u. flat_runs y a out back (λ v w2 t2. with_given (operate op u v) w2 (λ r. go r w2 t2)) w t n f.1 ∙ last_runs vy (λ v. operate op u v) w _ (λ v. go v w t) sy n (λ v. refl))) ∙
+      (λ u. flat_runs y z (λ v w2 t2. with_given (operate op u v) w2 (λ r. go r w2 t2)) w t n f.1 ∙ last_runs vy (λ v. operate op u v) w _ (λ v. go v w t) sy n (λ v. refl))) ∙
       works_add e (sx + after_word vx sy) _
-  flat_runs (Load x) a out back go w t n f =
+  flat_runs (Load x) z go w t n f =
       let e = expression_units g (Load x) in
-      let sx = flat_spent g ls a.base w.memory t x in
+      let sx = flat_spent g ls z.activation.base w.memory t x in
       ap (works e)
-      (flat_runs x a out back (λ u w1 t1. with_word (load w1.memory u) w1 (λ v. go v w1 t1)) w t n f ∙
-      last_runs (flat_value ls a.base w.memory t x) (λ u. or_wrong (load w.memory u)) w _ (λ v. go v w t) sx n (λ u. word_runs (load w.memory u) w (λ v. go v w t) n)) ∙
+      (flat_runs x z (λ u w1 t1. with_word (load w1.memory u) w1 (λ v. go v w1 t1)) w t n f ∙
+      last_runs (flat_value ls z.activation.base w.memory t x) (λ u. or_wrong (load w.memory u)) w _ (λ v. go v w t) sx n (λ u. word_runs (load w.memory u) w (λ v. go v w t) n)) ∙
       works_add e sx _
-  flat_runs (LoadByte x) a out back go w t n f =
+  flat_runs (LoadByte x) z go w t n f =
       let e = expression_units g (LoadByte x) in
-      let sx = flat_spent g ls a.base w.memory t x in
+      let sx = flat_spent g ls z.activation.base w.memory t x in
       ap (works e)
-      (flat_runs x a out back (λ u w1 t1. with_word (load_byte w1.memory u) w1 (λ v. go v w1 t1)) w t n f ∙
-      last_runs (flat_value ls a.base w.memory t x) (λ u. or_wrong (load_byte w.memory u)) w _ (λ v. go v w t) sx n (λ u. word_runs (load_byte w.memory u) w (λ v. go v w t) n)) ∙
+      (flat_runs x z (λ u w1 t1. with_word (load_byte w1.memory u) w1 (λ v. go v w1 t1)) w t n f ∙
+      last_runs (flat_value ls z.activation.base w.memory t x) (λ u. or_wrong (load_byte w.memory u)) w _ (λ v. go v w t) sx n (λ u. word_runs (load_byte w.memory u) w (λ v. go v w t) n)) ∙
       works_add e sx _
-  flat_runs (Call label xs) a out back go w t n f = absurd f
-  flat_runs (Service k x) a out back go w t n f = absurd f
-  flat_runs (After s x) a out back go w t n f = absurd f
+  flat_runs (Call label xs) z go w t n f = absurd f
+  flat_runs (Service k x) z go w t n f = absurd f
+  flat_runs (After s x) z go w t n f = absurd f
 
 -- what it spends, and its length
 at_most : (g : Given) (k l : ℕ) → k ≤ l → after_word g k ≤ l

@@ -7,7 +7,7 @@ use Rattle.tg_runs.specs.Runs.{Run, IsSameTo}
 use Rattle.tg_runs.specs.Ran.{Ran, Stop, Ended, WantsFuel, Wrong, stops, writes, works, IsOver, GoesOn}
 use Rattle.tg_runs.proofs.Fixpoint.{turn_same}
 use Rattle.tg_tree.specs.Memory.{Memory, load, load_byte, store, store_byte, Cell}
-use Rattle.tg_tree.specs.Meaning.{World, Temps, set_temp, Back, over, charged, written, with_word, with_memory, with_text, text_from, take_heap, read_byte}
+use Rattle.tg_tree.specs.Actions.{World, Temps, set_temp, Back, over, charged, written, with_word, with_memory, with_text, text_from, take_heap, read_byte}
 use Rattle.tg_tree.specs.Running.{with_fuel, no_temps}
 use Rattle.tg_tree.proofs.Relating.{Related, IsLater, Keeps, AlikeBack, with_put}
 

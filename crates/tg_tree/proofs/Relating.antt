@@ -1,7 +1,7 @@
 -- What holds of what comes next holds of the run: one induction over trees, for any relation of two runs, of two worlds and of two
 -- activations' temporaries that the steps keep.
-use Rattle.std.proofs.Common.{◌≡◌, ℕ, zero, suc, ◌+◌, ◌-◌, ◌^◌, ◌%◌, ◌<◌, ◌≤◌, List, [], ◌∷◌, ◌++◌, length, Bool, true, false, Option, Some, None, refl, arith}
-use Rattle.std.specs.Prelude.{◌==◌, nat_lt, pos, if◌then◌else◌}
+use Rattle.std.proofs.Common.{◌≡◌, ℕ, zero, suc, ◌+◌, ◌-◌, ◌^◌, ◌%◌, ◌<◌, ◌≤◌, List, [], ◌∷◌, ◌++◌, length, Bool, true, false, Option, Some, None, refl}
+use Rattle.std.specs.Prelude.{◌==◌, not, nat_lt, pos, if◌then◌else◌}
 use Rattle.std.specs.Fmt.{signed_decimal}
 use Rattle.tg_base.specs.declared.ends.RunEnd.TheVariants.{Exit, Break as Broken, StackFull, BadService}
 use Rattle.tg_base.specs.Words.{signed}
@@ -13,9 +13,10 @@ use Rattle.tg_runs.specs.Ran.{Ran, Stop, Ended, Wrong}
 use Rattle.tg_tree.specs.Tree.{Tx, Const, Address, Temp, FrameAddress, Binary, Load, LoadByte, Call, Service, After, Txs, no_txs, tx, Cond, Compare, Not, Both, Either, Ts, Move, Store, StoreByte, Do, If, Loop, Break, Fault, Seq, Return, Stms, no_stms, stm, Literal, Function}
 use Rattle.tg_tree.specs.Operators.{Given, word, stops_by, operate, holds}
 use Rattle.tg_tree.specs.Memory.{Cell, Unset, Closed, Has, put, slot, lay, load, load_byte, store, store_byte, literal_address}
-use Rattle.tg_tree.specs.Meaning.{World, Temps, set_temp, Activation, Go, GoAll, Next, Out, Back, Point, over, charged, written, with_word, with_given, with_memory, leaving, with_text, text_from, take_heap, read_byte, service, value, values, test, run, run_all}
+use Rattle.tg_tree.specs.Actions.{World, Temps, set_temp, Activation, Around, Acts, Go, Next, Out, Back, over, charged, written, with_word, with_given, with_memory, leaving, with_text, text_from, take_heap, read_byte, service}
+use Rattle.tg_tree.specs.Meaning.{Enter, Point, value, values, test, run, run_all}
 use Rattle.tg_tree.specs.Units.{Stage, expression_units, argument_units, condition_units, statement_units, entry_units}
-use Rattle.tg_tree.specs.Running.{with_fuel, placed, entered, with_slots, without_slots, no_temps}
+use Rattle.tg_tree.specs.Running.{Runner, with_fuel, placed, entered, with_slots, without_slots, no_temps}
 
 -- two runs, as far as so much fuel, from a world of the first
 abbrev pub Related : Type 1
@@ -65,23 +66,32 @@ module _ (R : Related) (W : RelatedWorlds) (T : RelatedTemps) where
     pub sets : (i v : ℕ) (t t' : Temps) → T t t' → T (set_temp i v t) (set_temp i v t')
     pub none : T no_temps no_temps
 
-  abbrev pub AlikeGo : ℕ → Go → Go → Type 0
-  AlikeGo n c d = (v : ℕ) (w w' : World) (t t' : Temps) → W w w' → T t t' → R n w (c v w t) (d v w' t')
-
-  abbrev pub AlikeAll : ℕ → GoAll → GoAll → Type 0
-  AlikeAll n c d = (vs : List ℕ) (w w' : World) (t t' : Temps) → W w w' → T t t' → R n w (c vs w t) (d vs w' t')
+  abbrev pub AlikeGo : {A : Type 0} → ℕ → Go A → Go A → Type 0
+  AlikeGo {A} n c d = (a : A) (w w' : World) (t t' : Temps) → W w w' → T t t' → R n w (c a w t) (d a w' t')
 
   abbrev pub AlikeNext : ℕ → Next → Next → Type 0
   AlikeNext n c d = (w w' : World) (t t' : Temps) → W w w' → T t t' → R n w (c w t) (d w' t')
 
+  -- what is around two parts of an activation differs in what comes after breaks and returns alone
+  pub data AlikeAround (n : ℕ) : Around → Around → Type 0 where
+    around :
+        (a : Activation) (out out' : Out) (back back' : Back) → AlikeGo n out out' → AlikeBack n back back' →
+        AlikeAround n (record { activation = a; out = out; back = back }) (record { activation = a; out = out'; back = back' })
+
   -- two points that differ in what comes next, in worlds and temporaries alone
   pub data Alike (n : ℕ) : Point → Point → Type 0 where
-    alike : (s : Ts) (a : Activation) (out out' : Out) (back back' : Back) (next next' : Next) (w w' : World) (t t' : Temps) → AlikeGo n out out' → AlikeBack n back back' → AlikeNext n next next' → W w w' → T t t' → Alike n (record { statement = s; activation = a; out = out; back = back; next = next; world = w; temps = t }) (record { statement = s; activation = a; out = out'; back = back'; next = next'; world = w'; temps = t' })
+    alike :
+        (s : Ts) (e e' : Around) (next next' : Next) (w w' : World) (t t' : Temps) → AlikeAround n e e' → AlikeNext n next next' → W w w' → T t t' →
+        Alike n (record { statement = s; around = e; next = next; world = w; temps = t }) (record { statement = s; around = e'; next = next'; world = w'; temps = t' })
 
   module _ (keeps : Keeps) where
+    pub around_down : (m n : ℕ) (e e' : Around) → m ≤ n → AlikeAround n e e' → AlikeAround m e e'
+    around_down m n e e' le (around a out out' back back' h k) =
+        around a out out' back back' (λ v w1 v1 t1 u1 r q. keeps.down m n w1 _ _ le (h v w1 v1 t1 u1 r q)) (λ v w1 v1 r. keeps.down m n w1 _ _ le (k v w1 v1 r))
+
     pub alike_down : (m n : ℕ) (x y : Point) → m ≤ n → Alike n x y → Alike m x y
-    alike_down m n x y le (alike s a out out' back back' next next' w w' t t' h k l hw ht) =
-        alike s a out out' back back' next next' w w' t t' (λ v w1 v1 t1 u1 r q. keeps.down m n w1 _ _ le (h v w1 v1 t1 u1 r q)) (λ v w1 v1 r. keeps.down m n w1 _ _ le (k v w1 v1 r)) (λ w1 v1 t1 u1 r q. keeps.down m n w1 _ _ le (l w1 v1 t1 u1 r q)) hw ht
+    alike_down m n x y le (alike s e e' next next' w w' t t' h l hw ht) =
+        alike s e e' next next' w w' t t' (around_down m n e e' le h) (λ w1 v1 t1 u1 r q. keeps.down m n w1 _ _ le (l w1 v1 t1 u1 r q)) hw ht
 
     laid : (base k : ℕ) (c : Cell) (w w' : World) → W w w' → W (record w { memory = lay base k c w.memory }) (record w' { memory = lay base k c w'.memory })
     laid base zero c w w' h = h
@@ -100,9 +110,26 @@ module _ (R : Related) (W : RelatedWorlds) (T : RelatedTemps) where
       keep_given (word v) w w' p q r h = h v
       keep_given (stops_by s) w w' p q r h = keeps.stop n s w w' r
 
+      -- one of two actions, by a test
+      pub keep_choice : {K : Type 0} (b : Bool) (p q p' q' : Acts K) (e e' : Around) (k k' : K) (w w' : World) (t t' : Temps) → R n w (p e k w t) (p' e' k' w' t') → R n w (q e k w t) (q' e' k' w' t') → R n w ((if b then p else q) e k w t) ((if b then p' else q') e' k' w' t')
+      keep_choice true p q p' q' e e' k k' w w' t t' h l = h
+      keep_choice false p q p' q' e e' k k' w w' t t' h l = l
+
       keep_leaving : (p q : Next) (x y : Out) → AlikeNext n p q → AlikeGo n x y → AlikeGo n (leaving p x) (leaving q y)
       keep_leaving p q x y h k zero w w' t t' r s = h w w' t t' r s
       keep_leaving p q x y h k (suc i) w w' t t' r s = k i w w' t t' r s
+
+      keep_frame : (e e' : Around) (g g' : Go ℕ) → AlikeAround n e e' → AlikeGo n g g' → (w x : World) (t u : Temps) → W w x → T t u → R n w (g e.activation.base w t) (g' e'.activation.base x u)
+      keep_frame e e' g g' (around a o o' b b' ho hb) hg w x t u r s = hg a.base w x t u r s
+
+      keep_leave : (k : ℕ) (e e' : Around) → AlikeAround n e e' → (w x : World) (t u : Temps) → W w x → T t u → R n w (e.out k w t) (e'.out k x u)
+      keep_leave k e e' (around a o o' b b' ho hb) w x t u r s = ho k w x t u r s
+
+      pub keep_back : (v : ℕ) (e e' : Around) → AlikeAround n e e' → (w x : World) → W w x → R n w (e.back v w) (e'.back v x)
+      keep_back v e e' (around a o o' b b' ho hb) w x r = hb v w x r
+
+      keep_around : (e e' : Around) (g g' : Next) → AlikeAround n e e' → AlikeNext n g g' → AlikeAround n (record e { out = leaving g e.out }) (record e' { out = leaving g' e'.out })
+      keep_around e e' g g' (around a o o' b b' ho hb) hg = around a _ _ b b' (keep_leaving g g' o o' hg ho) hb
 
       keep_service : (room asked a : ℕ) (w w' : World) (p q : Back) → W w w' → AlikeBack n p q → R n w (service room asked a w p) (service room asked a w' q)
       keep_service room asked a w w' p q r h =
@@ -124,68 +151,90 @@ module _ (R : Related) (W : RelatedWorlds) (T : RelatedTemps) where
       keep_placed base (InFrame k ∷ homes) (v ∷ vs) w w' t t' p q r s h =
           keeps.later n w (with_put (slot base k) (Has v) w) _ _ ([], refl) (keep_placed base homes vs _ _ t t' p q (keeps.puts (slot base k) (Has v) w w' r) s h)
 
-      -- a call, where what runs a body keeps the relation with less fuel
-      pub keep_entered : {Body : Type 0} (size : ℕ → ℕ) (floor : ℕ) (body body' : Body → Activation → Back → World → Temps → Run Ran) → ((m : ℕ) → m < n → (s : Body) (a : Activation) (back back' : Back) (w w' : World) (t t' : Temps) → W w w' → T t t' → AlikeBack m back back' → R m w (body s a back w t) (body' s a back' w' t')) → (f : Option (Function Body)) (vs : List ℕ) (top : ℕ) (back back' : Back) (w w' : World) → W w w' → AlikeBack n back back' → R n w (entered size floor body f vs top back w) (entered size floor body' f vs top back' w')
-      keep_entered size floor body body' later None vs top back back' w w' r h = keeps.stop n Wrong w w' r
-      keep_entered size floor body body' later (Some f) vs top back back' w w' r h =
+      -- a function that is entered, where what runs a body keeps the relation
+      pub keep_entered : {Body : Type 0} (size : ℕ → ℕ) (floor : ℕ) (body body' : Runner Body) → ((s : Body) (e e' : Around) (w w' : World) (t t' : Temps) → AlikeAround n e e' → W w w' → T t t' → R n w (body s e w t) (body' s e' w' t')) → (f : Option (Function Body)) (vs : List ℕ) (top : ℕ) (back back' : Back) (w w' : World) → W w w' → AlikeBack n back back' → R n w (entered size floor body f vs top back w) (entered size floor body' f vs top back' w')
+      keep_entered size floor body body' runs None vs top back back' w w' r h = keeps.stop n Wrong w w' r
+      keep_entered size floor body body' runs (Some f) vs top back back' w w' r h =
           keep_if (nat_lt top (floor + size f.label)) w _ _ _ _ (keeps.stop n (Ended StackFull) w w' r)
-          (keeps.later n w (with_slots f top w) _ _ ([], refl) (keep_placed top f.params vs (with_slots f top w) (with_slots f top w') no_temps no_temps _ _ (laid top f.slots Unset w w' r) keeps.none (λ w1 v1 t1 u1 r1 s1. keeps.fuel n w1 v1 _ _ r1 (λ m lt. later m lt f.body _ _ _ w1 v1 t1 u1 r1 s1 (λ v w2 v2 r2. keeps.down m n w2 _ _ (omega arith) (keeps.later n w2 (without_slots f top w2) _ _ ([], refl) (h v (without_slots f top w2) (without_slots f top v2) (laid top f.slots Closed w2 v2 r2))))))))
+          (keeps.later n w (with_slots f top w) _ _ ([], refl)
+          (keep_placed top f.params vs (with_slots f top w) (with_slots f top w') no_temps no_temps _ _ (laid top f.slots Unset w w' r) keeps.none
+          (λ w1 v1 t1 u1 r1 s1. runs f.body _ _ w1 v1 t1 u1
+          (around (record { base = top; size = size f.label }) _ _ _ _ (λ k w2 v2 t2 u2 r2 s2. keeps.stop n Wrong w2 v2 r2)
+          (λ v w2 v2 r2. keeps.later n w2 (without_slots f top w2) _ _ ([], refl) (h v (without_slots f top w2) (without_slots f top v2) (laid top f.slots Closed w2 v2 r2)))) r1 s1)))
 
-      module _ (stage : Stage) (room : ℕ) (literals : List Literal) (enter enter' : ℕ → List ℕ → ℕ → Back → World → Run Ran) (later later' : Point → Run Ran) (enters : (label : ℕ) (vs : List ℕ) (top : ℕ) (back back' : Back) (w w' : World) → W w w' → AlikeBack n back back' → R n w (enter label vs top back w) (enter' label vs top back' w')) (goes_on : (x y : Point) → Alike n x y → R n x.world (later x) (later' y)) where
+      module _ (stage : Stage) (room : ℕ) (literals : List Literal) (enter enter' : Enter) (later later' : Point → Run Ran) (enters : (label : ℕ) (vs : List ℕ) (top : ℕ) (back back' : Back) (w w' : World) → W w w' → AlikeBack n back back' → R n w (enter label vs top back w) (enter' label vs top back' w')) (goes_on : (x y : Point) → Alike n x y → R n x.world (later x) (later' y)) where
+        keep_call : (label : ℕ) (vs : List ℕ) (e e' : Around) (g g' : Go ℕ) → AlikeAround n e e' → AlikeGo n g g' → (w x : World) (t u : Temps) → W w x → T t u → R n w (enter label vs (e.activation.base - e.activation.size) (λ v w1. g v w1 t) w) (enter' label vs (e'.activation.base - e'.activation.size) (λ v w1. g' v w1 u) x)
+        keep_call label vs e e' g g' (around a o o' b b' ho hb) hg w x t u r s =
+            enters label vs (a.base - a.size) _ _ w x r (λ v w2 x2 r2. hg v w2 x2 t u r2 s)
+
         mutual
-          pub keep_value : (e : Tx) (a : Activation) (o o' : Out) (b b' : Back) (g g' : Go) → AlikeGo n o o' → AlikeBack n b b' → AlikeGo n g g' → (w x : World) (t u : Temps) → W w x → T t u → R n w (value stage room literals enter later e a o b g w t) (value stage room literals enter' later' e a o' b' g' x u)
-          keep_value (Const v) a o o' b b' g g' ho hb hg w x t u r s = keeps.work n (expression_units stage (Const v)) w _ _ (hg v w x t u r s)
-          keep_value (Address label) a o o' b b' g g' ho hb hg w x t u r s =
+          pub keep_value : (p : Tx) (e e' : Around) (g g' : Go ℕ) → AlikeAround n e e' → AlikeGo n g g' → (w x : World) (t u : Temps) → W w x → T t u → R n w (value stage room literals enter later p e g w t) (value stage room literals enter' later' p e' g' x u)
+          keep_value (Const v) e e' g g' he hg w x t u r s = keeps.work n (expression_units stage (Const v)) w _ _ (hg v w x t u r s)
+          keep_value (Address label) e e' g g' he hg w x t u r s =
               keeps.work n (expression_units stage (Address label)) w _ _ (keep_word (literal_address literals label) w x _ _ r (λ v. hg v w x t u r s))
-          keep_value (Temp i) a o o' b b' g g' ho hb hg w x t u r s = keeps.work n (expression_units stage (Temp i)) w _ _ (keeps.temp n i w x t u _ _ r s (λ v. hg v w x t u r s))
-          keep_value FrameAddress a o o' b b' g g' ho hb hg w x t u r s = keeps.work n (expression_units stage FrameAddress) w _ _ (hg a.base w x t u r s)
-          keep_value (Binary op e f) a o o' b b' g g' ho hb hg w x t u r s =
-              keeps.work n (expression_units stage (Binary op e f)) w _ _ (keep_value e a o o' b b' _ _ ho hb (λ p w1 x1 t1 u1 r1 s1. keep_value f a o o' b b' _ _ ho hb (λ q w2 x2 t2 u2 r2 s2. keep_given (operate op p q) w2 x2 _ _ r2 (λ v. hg v w2 x2 t2 u2 r2 s2)) w1 x1 t1 u1 r1 s1) w x t u r s)
-          keep_value (Load e) a o o' b b' g g' ho hb hg w x t u r s =
-              keeps.work n (expression_units stage (Load e)) w _ _ (keep_value e a o o' b b' _ _ ho hb (λ p w1 x1 t1 u1 r1 s1. keeps.loads n p w1 x1 _ _ r1 (λ v. hg v w1 x1 t1 u1 r1 s1)) w x t u r s)
-          keep_value (LoadByte e) a o o' b b' g g' ho hb hg w x t u r s =
-              keeps.work n (expression_units stage (LoadByte e)) w _ _ (keep_value e a o o' b b' _ _ ho hb (λ p w1 x1 t1 u1 r1 s1. keeps.load_bytes n p w1 x1 _ _ r1 (λ v. hg v w1 x1 t1 u1 r1 s1)) w x t u r s)
-          keep_value (Call label es) a o o' b b' g g' ho hb hg w x t u r s =
-              keeps.work n (expression_units stage (Call label es)) w _ _ (keep_values es a o o' b b' _ _ ho hb (λ vs w1 x1 t1 u1 r1 s1. keeps.work n (entry_units (length vs)) w1 _ _ (enters label vs (a.base - a.size) _ _ w1 x1 r1 (λ v w2 x2 r2. hg v w2 x2 t1 u1 r2 s1))) w x t u r s)
-          keep_value (Service k e) a o o' b b' g g' ho hb hg w x t u r s =
-              keeps.work n (expression_units stage (Service k e)) w _ _ (keep_value e a o o' b b' _ _ ho hb (λ p w1 x1 t1 u1 r1 s1. keep_service room k p w1 x1 _ _ r1 (λ v w2 x2 r2. hg v w2 x2 t1 u1 r2 s1)) w x t u r s)
-          keep_value (After c e) a o o' b b' g g' ho hb hg w x t u r s =
-              keeps.work n (expression_units stage (After c e)) w _ _ (keep_run c a o o' b b' _ _ ho hb (λ w1 x1 t1 u1 r1 s1. keep_value e a o o' b b' g g' ho hb hg w1 x1 t1 u1 r1 s1) w x t u r s)
+          keep_value (Temp i) e e' g g' he hg w x t u r s =
+              keeps.work n (expression_units stage (Temp i)) w _ _ (keeps.temp n i w x t u _ _ r s (λ v. hg v w x t u r s))
+          keep_value FrameAddress e e' g g' he hg w x t u r s =
+              keeps.work n (expression_units stage FrameAddress) w _ _ (keep_frame e e' g g' he hg w x t u r s)
+          keep_value (Binary op p q) e e' g g' he hg w x t u r s =
+              keeps.work n (expression_units stage (Binary op p q)) w _ _ (keep_value p e e' _ _ he
+              (λ a w1 x1 t1 u1 r1 s1. keep_value q e e' _ _ he (λ b w2 x2 t2 u2 r2 s2. keep_given (operate op a b) w2 x2 _ _ r2 (λ v. hg v w2 x2 t2 u2 r2 s2)) w1 x1 t1 u1 r1 s1) w x t u r s)
+          keep_value (Load p) e e' g g' he hg w x t u r s =
+              keeps.work n (expression_units stage (Load p)) w _ _ (keep_value p e e' _ _ he (λ a w1 x1 t1 u1 r1 s1. keeps.loads n a w1 x1 _ _ r1 (λ v. hg v w1 x1 t1 u1 r1 s1)) w x t u r s)
+          keep_value (LoadByte p) e e' g g' he hg w x t u r s =
+              keeps.work n (expression_units stage (LoadByte p)) w _ _ (keep_value p e e' _ _ he (λ a w1 x1 t1 u1 r1 s1. keeps.load_bytes n a w1 x1 _ _ r1 (λ v. hg v w1 x1 t1 u1 r1 s1)) w x t u r s)
+          keep_value (Call label ps) e e' g g' he hg w x t u r s =
+              keeps.work n (expression_units stage (Call label ps)) w _ _ (keep_values ps e e' _ _ he
+              (λ vs w1 x1 t1 u1 r1 s1. keeps.work n (entry_units (length vs)) w1 _ _ (keep_call label vs e e' g g' he hg w1 x1 t1 u1 r1 s1)) w x t u r s)
+          keep_value (Service k p) e e' g g' he hg w x t u r s =
+              keeps.work n (expression_units stage (Service k p)) w _ _ (keep_value p e e' _ _ he
+              (λ a w1 x1 t1 u1 r1 s1. keep_service room k a w1 x1 _ _ r1 (λ v w2 x2 r2. hg v w2 x2 t1 u1 r2 s1)) w x t u r s)
+          keep_value (After c p) e e' g g' he hg w x t u r s =
+              keeps.work n (expression_units stage (After c p)) w _ _ (keep_run c e e' _ _ he (λ w1 x1 t1 u1 r1 s1. keep_value p e e' g g' he hg w1 x1 t1 u1 r1 s1) w x t u r s)
 
-          pub keep_values : (es : Txs) (a : Activation) (o o' : Out) (b b' : Back) (g g' : GoAll) → AlikeGo n o o' → AlikeBack n b b' → AlikeAll n g g' → (w x : World) (t u : Temps) → W w x → T t u → R n w (values stage room literals enter later es a o b g w t) (values stage room literals enter' later' es a o' b' g' x u)
-          keep_values no_txs a o o' b b' g g' ho hb hg w x t u r s = hg [] w x t u r s
-          keep_values (tx e es) a o o' b b' g g' ho hb hg w x t u r s =
-              keeps.work n (argument_units stage es) w _ _ (keep_value e a o o' b b' _ _ ho hb (λ v w1 x1 t1 u1 r1 s1. keep_values es a o o' b b' _ _ ho hb (λ vs w2 x2 t2 u2 r2 s2. hg (v ∷ vs) w2 x2 t2 u2 r2 s2) w1 x1 t1 u1 r1 s1) w x t u r s)
+          pub keep_values : (ps : Txs) (e e' : Around) (g g' : Go (List ℕ)) → AlikeAround n e e' → AlikeGo n g g' → (w x : World) (t u : Temps) → W w x → T t u → R n w (values stage room literals enter later ps e g w t) (values stage room literals enter' later' ps e' g' x u)
+          keep_values no_txs e e' g g' he hg w x t u r s = hg [] w x t u r s
+          keep_values (tx p ps) e e' g g' he hg w x t u r s =
+              keeps.work n (argument_units stage ps) w _ _ (keep_value p e e' _ _ he
+              (λ v w1 x1 t1 u1 r1 s1. keep_values ps e e' _ _ he (λ vs w2 x2 t2 u2 r2 s2. hg (v ∷ vs) w2 x2 t2 u2 r2 s2) w1 x1 t1 u1 r1 s1) w x t u r s)
 
-          pub keep_test : (c : Cond) (a : Activation) (o o' : Out) (b b' : Back) (y y' z z' : Next) → AlikeGo n o o' → AlikeBack n b b' → AlikeNext n y y' → AlikeNext n z z' → (w x : World) (t u : Temps) → W w x → T t u → R n w (test stage room literals enter later c a o b y z w t) (test stage room literals enter' later' c a o' b' y' z' x u)
-          keep_test (Compare rel e f) a o o' b b' y y' z z' ho hb hy hz w x t u r s =
-              keeps.work n (condition_units stage (Compare rel e f)) w _ _ (keep_value e a o o' b b' _ _ ho hb (λ p w1 x1 t1 u1 r1 s1. keep_value f a o o' b b' _ _ ho hb (λ q w2 x2 t2 u2 r2 s2. keep_if (holds rel p q) w2 _ _ _ _ (hy w2 x2 t2 u2 r2 s2) (hz w2 x2 t2 u2 r2 s2)) w1 x1 t1 u1 r1 s1) w x t u r s)
-          keep_test (Not c) a o o' b b' y y' z z' ho hb hy hz w x t u r s = keeps.work n (condition_units stage (Not c)) w _ _ (keep_test c a o o' b b' z z' y y' ho hb hz hy w x t u r s)
-          keep_test (Both c d) a o o' b b' y y' z z' ho hb hy hz w x t u r s =
-              keeps.work n (condition_units stage (Both c d)) w _ _ (keep_test c a o o' b b' _ _ z z' ho hb (λ w1 x1 t1 u1 r1 s1. keep_test d a o o' b b' y y' z z' ho hb hy hz w1 x1 t1 u1 r1 s1) hz w x t u r s)
-          keep_test (Either c d) a o o' b b' y y' z z' ho hb hy hz w x t u r s =
-              keeps.work n (condition_units stage (Either c d)) w _ _ (keep_test c a o o' b b' y y' _ _ ho hb hy (λ w1 x1 t1 u1 r1 s1. keep_test d a o o' b b' y y' z z' ho hb hy hz w1 x1 t1 u1 r1 s1) w x t u r s)
+          pub keep_test : (c : Cond) (e e' : Around) (g g' : Go Bool) → AlikeAround n e e' → AlikeGo n g g' → (w x : World) (t u : Temps) → W w x → T t u → R n w (test stage room literals enter later c e g w t) (test stage room literals enter' later' c e' g' x u)
+          keep_test (Compare rel p q) e e' g g' he hg w x t u r s =
+              keeps.work n (condition_units stage (Compare rel p q)) w _ _ (keep_value p e e' _ _ he
+              (λ a w1 x1 t1 u1 r1 s1. keep_value q e e' _ _ he (λ b w2 x2 t2 u2 r2 s2. hg (holds rel a b) w2 x2 t2 u2 r2 s2) w1 x1 t1 u1 r1 s1) w x t u r s)
+          keep_test (Not c) e e' g g' he hg w x t u r s =
+              keeps.work n (condition_units stage (Not c)) w _ _ (keep_test c e e' _ _ he (λ b w1 x1 t1 u1 r1 s1. hg (not b) w1 x1 t1 u1 r1 s1) w x t u r s)
+          keep_test (Both c d) e e' g g' he hg w x t u r s =
+              keeps.work n (condition_units stage (Both c d)) w _ _ (keep_test c e e' _ _ he
+              (λ b w1 x1 t1 u1 r1 s1. keep_choice b _ _ _ _ e e' g g' w1 x1 t1 u1 (keep_test d e e' g g' he hg w1 x1 t1 u1 r1 s1) (hg false w1 x1 t1 u1 r1 s1)) w x t u r s)
+          keep_test (Either c d) e e' g g' he hg w x t u r s =
+              keeps.work n (condition_units stage (Either c d)) w _ _ (keep_test c e e' _ _ he
+              (λ b w1 x1 t1 u1 r1 s1. keep_choice b _ _ _ _ e e' g g' w1 x1 t1 u1 (hg true w1 x1 t1 u1 r1 s1) (keep_test d e e' g g' he hg w1 x1 t1 u1 r1 s1)) w x t u r s)
 
-          pub keep_run : (c : Ts) (a : Activation) (o o' : Out) (b b' : Back) (g g' : Next) → AlikeGo n o o' → AlikeBack n b b' → AlikeNext n g g' → (w x : World) (t u : Temps) → W w x → T t u → R n w (run stage room literals enter later c a o b g w t) (run stage room literals enter' later' c a o' b' g' x u)
-          keep_run (Move i e) a o o' b b' g g' ho hb hg w x t u r s =
-              keeps.work n (statement_units stage (Move i e)) w _ _ (keep_value e a o o' b b' _ _ ho hb (λ v w1 x1 t1 u1 r1 s1. hg w1 x1 _ _ r1 (keeps.sets i v t1 u1 s1)) w x t u r s)
-          keep_run (Store e f) a o o' b b' g g' ho hb hg w x t u r s =
-              keeps.work n (statement_units stage (Store e f)) w _ _ (keep_value e a o o' b b' _ _ ho hb (λ p w1 x1 t1 u1 r1 s1. keep_value f a o o' b b' _ _ ho hb (λ q w2 x2 t2 u2 r2 s2. keeps.stores n p q w2 x2 _ _ r2 (λ w3 x3 r3. hg w3 x3 t2 u2 r3 s2)) w1 x1 t1 u1 r1 s1) w x t u r s)
-          keep_run (StoreByte e f) a o o' b b' g g' ho hb hg w x t u r s =
-              keeps.work n (statement_units stage (StoreByte e f)) w _ _ (keep_value e a o o' b b' _ _ ho hb (λ p w1 x1 t1 u1 r1 s1. keep_value f a o o' b b' _ _ ho hb (λ q w2 x2 t2 u2 r2 s2. keeps.store_bytes n p q w2 x2 _ _ r2 (λ w3 x3 r3. hg w3 x3 t2 u2 r3 s2)) w1 x1 t1 u1 r1 s1) w x t u r s)
-          keep_run (Do e) a o o' b b' g g' ho hb hg w x t u r s =
-              keeps.work n (statement_units stage (Do e)) w _ _ (keep_value e a o o' b b' _ _ ho hb (λ v w1 x1 t1 u1 r1 s1. hg w1 x1 t1 u1 r1 s1) w x t u r s)
-          keep_run (If c d e) a o o' b b' g g' ho hb hg w x t u r s =
-              keeps.work n (statement_units stage (If c d e)) w _ _ (keep_test c a o o' b b' _ _ _ _ ho hb (λ w1 x1 t1 u1 r1 s1. keep_run d a o o' b b' g g' ho hb hg w1 x1 t1 u1 r1 s1) (λ w1 x1 t1 u1 r1 s1. keep_run e a o o' b b' g g' ho hb hg w1 x1 t1 u1 r1 s1) w x t u r s)
-          keep_run (Loop c) a o o' b b' g g' ho hb hg w x t u r s =
-              keeps.work n (statement_units stage (Loop c)) w _ _ (keep_run c a _ _ b b' _ _ (keep_leaving g g' o o' hg ho) hb (λ w1 x1 t1 u1 r1 s1. goes_on _ _ (alike (Loop c) a o o' b b' g g' w1 x1 t1 u1 ho hb hg r1 s1)) w x t u r s)
-          keep_run (Break k) a o o' b b' g g' ho hb hg w x t u r s = keeps.work n (statement_units stage (Break k)) w _ _ (ho k w x t u r s)
-          keep_run (Fault k) a o o' b b' g g' ho hb hg w x t u r s = keeps.work n (statement_units stage (Fault k)) w _ _ (keeps.stop n (Ended (Broken k)) w x r)
-          keep_run (Seq cs) a o o' b b' g g' ho hb hg w x t u r s = keeps.work n (statement_units stage (Seq cs)) w _ _ (keep_all cs a o o' b b' g g' ho hb hg w x t u r s)
-          keep_run (Return e) a o o' b b' g g' ho hb hg w x t u r s =
-              keeps.work n (statement_units stage (Return e)) w _ _ (keep_value e a o o' b b' _ _ ho hb (λ v w1 x1 t1 u1 r1 s1. hb v w1 x1 r1) w x t u r s)
+          pub keep_run : (c : Ts) (e e' : Around) (g g' : Next) → AlikeAround n e e' → AlikeNext n g g' → (w x : World) (t u : Temps) → W w x → T t u → R n w (run stage room literals enter later c e g w t) (run stage room literals enter' later' c e' g' x u)
+          keep_run (Move i p) e e' g g' he hg w x t u r s =
+              keeps.work n (statement_units stage (Move i p)) w _ _ (keep_value p e e' _ _ he (λ v w1 x1 t1 u1 r1 s1. hg w1 x1 _ _ r1 (keeps.sets i v t1 u1 s1)) w x t u r s)
+          keep_run (Store p q) e e' g g' he hg w x t u r s =
+              keeps.work n (statement_units stage (Store p q)) w _ _ (keep_value p e e' _ _ he
+              (λ a w1 x1 t1 u1 r1 s1. keep_value q e e' _ _ he (λ b w2 x2 t2 u2 r2 s2. keeps.stores n a b w2 x2 _ _ r2 (λ w3 x3 r3. hg w3 x3 t2 u2 r3 s2)) w1 x1 t1 u1 r1 s1) w x t u r s)
+          keep_run (StoreByte p q) e e' g g' he hg w x t u r s =
+              keeps.work n (statement_units stage (StoreByte p q)) w _ _ (keep_value p e e' _ _ he
+              (λ a w1 x1 t1 u1 r1 s1. keep_value q e e' _ _ he (λ b w2 x2 t2 u2 r2 s2. keeps.store_bytes n a b w2 x2 _ _ r2 (λ w3 x3 r3. hg w3 x3 t2 u2 r3 s2)) w1 x1 t1 u1 r1 s1) w x t u r s)
+          keep_run (Do p) e e' g g' he hg w x t u r s =
+              keeps.work n (statement_units stage (Do p)) w _ _ (keep_value p e e' _ _ he (λ v w1 x1 t1 u1 r1 s1. hg w1 x1 t1 u1 r1 s1) w x t u r s)
+          keep_run (If c d f) e e' g g' he hg w x t u r s =
+              keeps.work n (statement_units stage (If c d f)) w _ _ (keep_test c e e' _ _ he
+              (λ b w1 x1 t1 u1 r1 s1. keep_choice b _ _ _ _ e e' g g' w1 x1 t1 u1 (keep_run d e e' g g' he hg w1 x1 t1 u1 r1 s1) (keep_run f e e' g g' he hg w1 x1 t1 u1 r1 s1)) w x t u r s)
+          keep_run (Loop c) e e' g g' he hg w x t u r s =
+              keeps.work n (statement_units stage (Loop c)) w _ _ (keep_run c _ _ _ _ (keep_around e e' g g' he hg)
+              (λ w1 x1 t1 u1 r1 s1. goes_on _ _ (alike (Loop c) e e' g g' w1 x1 t1 u1 he hg r1 s1)) w x t u r s)
+          keep_run (Break k) e e' g g' he hg w x t u r s = keeps.work n (statement_units stage (Break k)) w _ _ (keep_leave k e e' he w x t u r s)
+          keep_run (Fault k) e e' g g' he hg w x t u r s = keeps.work n (statement_units stage (Fault k)) w _ _ (keeps.stop n (Ended (Broken k)) w x r)
+          keep_run (Seq cs) e e' g g' he hg w x t u r s = keeps.work n (statement_units stage (Seq cs)) w _ _ (keep_all cs e e' g g' he hg w x t u r s)
+          keep_run (Return p) e e' g g' he hg w x t u r s =
+              keeps.work n (statement_units stage (Return p)) w _ _ (keep_value p e e' _ _ he (λ v w1 x1 t1 u1 r1 s1. keep_back v e e' he w1 x1 r1) w x t u r s)
 
-          pub keep_all : (cs : Stms) (a : Activation) (o o' : Out) (b b' : Back) (g g' : Next) → AlikeGo n o o' → AlikeBack n b b' → AlikeNext n g g' → (w x : World) (t u : Temps) → W w x → T t u → R n w (run_all stage room literals enter later cs a o b g w t) (run_all stage room literals enter' later' cs a o' b' g' x u)
-          keep_all no_stms a o o' b b' g g' ho hb hg w x t u r s = hg w x t u r s
-          keep_all (stm c cs) a o o' b b' g g' ho hb hg w x t u r s =
-              keep_run c a o o' b b' _ _ ho hb (λ w1 x1 t1 u1 r1 s1. keep_all cs a o o' b b' g g' ho hb hg w1 x1 t1 u1 r1 s1) w x t u r s
+          pub keep_all : (cs : Stms) (e e' : Around) (g g' : Next) → AlikeAround n e e' → AlikeNext n g g' → (w x : World) (t u : Temps) → W w x → T t u → R n w (run_all stage room literals enter later cs e g w t) (run_all stage room literals enter' later' cs e' g' x u)
+          keep_all no_stms e e' g g' he hg w x t u r s = hg w x t u r s
+          keep_all (stm c cs) e e' g g' he hg w x t u r s =
+              keep_run c e e' _ _ he (λ w1 x1 t1 u1 r1 s1. keep_all cs e e' g g' he hg w1 x1 t1 u1 r1 s1) w x t u r s

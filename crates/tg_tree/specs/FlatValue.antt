@@ -7,7 +7,8 @@ use Rattle.tg_tree.specs.Operators.{Given, word, stops_by, operate}
 use Rattle.tg_tree.specs.Memory.{Memory, load, load_byte, literal_address}
 use Rattle.tg_tree.specs.Units.{Stage, expression_units}
 use Rattle.tg_tree.specs.Sizes.{expression_length}
-use Rattle.tg_tree.specs.Meaning.{World, Temps, Activation, Go, Out, Back, Point, charged, with_given, value}
+use Rattle.tg_tree.specs.Actions.{World, Temps, Go, Around, charged, with_given}
+use Rattle.tg_tree.specs.Meaning.{Enter, Point, value}
 use Rattle.tg_tree.specs.Shapes.{IsFlat}
 
 abbrev pub or_wrong : Option ℕ → Given
@@ -46,13 +47,12 @@ flat_spent g ls base m t x = expression_units g x
 -- a run of a flat expression goes on with its value, or stops so, behind exactly what it spends
 abbrev pub FlatRunsAsValue : Type 0
 FlatRunsAsValue =
-    (g : Stage) (room : ℕ) (ls : List Literal) (enter : ℕ → List ℕ → ℕ → Back → World → Run Ran)
-    (later : Point → Run Ran) (x : Tx) (a : Activation) (out : Out) (back : Back) (go : Go) (w : World)
-    (t : Temps) (n : ℕ) →
+    (g : Stage) (room : ℕ) (ls : List Literal) (enter : Enter) (later : Point → Run Ran)
+    (x : Tx) (e : Around) (go : Go ℕ) (w : World) (t : Temps) (n : ℕ) →
     IsFlat x →
-    value g room ls enter later x a out back go w t n ≡
-    charged (flat_spent g ls a.base w.memory t x)
-    (with_given (flat_value ls a.base w.memory t x) w (λ v. go v w t)) n
+    value g room ls enter later x e go w t n ≡
+    charged (flat_spent g ls e.activation.base w.memory t x)
+    (with_given (flat_value ls e.activation.base w.memory t x) w (λ v. go v w t)) n
 
 -- and that is its length at most, and all of it where there is a word
 abbrev pub FlatSpendsLength : Type 0

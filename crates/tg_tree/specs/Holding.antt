@@ -4,7 +4,7 @@ use Rattle.std.specs.Prelude.{◌≡◌, ◌≢◌, ℕ, List, Option, Some, Non
 use Rattle.tg_runs.specs.Runs.{Run}
 use Rattle.tg_runs.specs.Ran.{Ran, Wrong}
 use Rattle.tg_tree.specs.Memory.{Cell, Closed, Unset, Has}
-use Rattle.tg_tree.specs.Meaning.{World, Temps, Back, Point}
+use Rattle.tg_tree.specs.Actions.{World, Temps, Next, Back, Around}
 
 -- where the first holds a word, the second holds the same
 pub data HoldsToo : Option ℕ → Option ℕ → Type 0 where
@@ -23,7 +23,12 @@ TempsHoldToo t u = (i : ℕ) → HoldsToo (t i) (u i)
 
 -- two worlds with the same statics, heap and input
 pub data WorldHoldsToo : World → World → Type 0 where
-  in_stack : (statics heap input : List ℕ) (cells cells' : ℕ → Cell) → ((a : ℕ) → CellHoldsToo (cells a) (cells' a)) → WorldHoldsToo (record { memory = record { statics = statics; heap = heap; stack = cells }; input = input }) (record { memory = record { statics = statics; heap = heap; stack = cells' }; input = input })
+  in_stack :
+      (statics heap input : List ℕ) (cells cells' : ℕ → Cell) →
+      ((a : ℕ) → CellHoldsToo (cells a) (cells' a)) →
+      WorldHoldsToo
+      (record { memory = record { statics = statics; heap = heap; stack = cells }; input = input })
+      (record { memory = record { statics = statics; heap = heap; stack = cells' }; input = input })
 
 -- unless the first run goes wrong, the second is the same
 abbrev pub UnlessWrong : Run Ran → Run Ran → Type 0
@@ -33,7 +38,11 @@ UnlessWrong c d = (n : ℕ) → (c n).stop ≢ Wrong → d n ≡ c n
 abbrev pub BackReadsNoMore : Back → Type 0
 BackReadsNoMore back = (v : ℕ) (w x : World) → WorldHoldsToo w x → UnlessWrong (back v w) (back v x)
 
-pub record NextReadsNoMore (p : Point) : Type 0 where
-  pub out : (k : ℕ) (w x : World) (t u : Temps) → WorldHoldsToo w x → TempsHoldToo t u → UnlessWrong (p.out k w t) (p.out k x u)
-  pub back : BackReadsNoMore (p.back)
-  pub next : (w x : World) (t u : Temps) → WorldHoldsToo w x → TempsHoldToo t u → UnlessWrong (p.next w t) (p.next x u)
+abbrev pub NextReadsNoMore : Next → Type 0
+NextReadsNoMore next =
+    (w x : World) (t u : Temps) →
+    WorldHoldsToo w x → TempsHoldToo t u → UnlessWrong (next w t) (next x u)
+
+pub record AroundReadsNoMore (e : Around) : Type 0 where
+  pub out : (k : ℕ) → NextReadsNoMore (e.out k)
+  pub back : BackReadsNoMore e.back

@@ -4,6 +4,7 @@ pub mod Lists
 pub mod Operators
 pub mod Memory
 pub mod Units
+pub mod Actions
 pub mod Meaning
 pub mod Running
 pub mod Flat

@@ -1,4 +1,4 @@
--- Runs of trees. A return to the head of a loop and a call take a unit of fuel each.
+-- Runs of trees. A return to the head of a loop and a call take a unit of fuel each, and the first activation of a program takes none.
 use Rattle.std.specs.Prelude.{ℕ, ◌+◌, ◌==◌, List, [], ◌∷◌, Option, Some, None, map, nat_lt, if◌then◌else◌, pos}
 use Rattle.tg_base.specs.declared.ends.RunEnd.TheVariants.{Exit, StackFull}
 use Rattle.tg_base.specs.State.{stack_top}
@@ -9,7 +9,8 @@ use Rattle.tg_runs.specs.Ran.{Ran, Ended, WantsFuel, stops}
 use Rattle.tg_tree.specs.Tree.{Ts, Stms, Seq, Function, Code}
 use Rattle.tg_tree.specs.Units.{Stage, Canonical}
 use Rattle.tg_tree.specs.Memory.{Unset, Closed, Has, put, slot, lay, begin}
-use Rattle.tg_tree.specs.Meaning.{World, Temps, set_temp, Activation, Back, Next, Point, over, wrong, run}
+use Rattle.tg_tree.specs.Actions.{World, Temps, set_temp, Activation, Back, Next, Around, over, wrong}
+use Rattle.tg_tree.specs.Meaning.{Enter, Point, run}
 
 abbrev pub function_of : {Body : Type 0} → ℕ → List (Function Body) → Option (Function Body)
 function_of label [] = None
@@ -35,45 +36,56 @@ without_slots f base w = record w { memory = lay base f.slots Closed w.memory }
 abbrev pub no_temps : Temps
 no_temps t = None
 
--- A call of a function whose frame begins at this address: where its frame reaches below the stack's floor the stack is full.
--- What runs the body is given; it gets the activation, and what comes after a return.
-abbrev pub entered : {Body : Type 0} → (size : ℕ → ℕ) → (floor : ℕ) → (body : Body → Activation → Back → World → Temps → Run Ran) → Option (Function Body) → List ℕ → (top : ℕ) → Back → World → Run Ran
+-- what runs a function's body, in some form of code
+abbrev pub Runner : Type 0 → Type 0
+Runner Body = Body → Around → World → Temps → Run Ran
+
+-- what is around a body: it leaves no loop but its own
+abbrev pub outermost : Activation → Back → Around
+outermost activation back = record { activation = activation; out = λ k w temps. wrong w; back = back }
+
+-- A function is entered, with a frame that begins at this address: where it reaches below the stack's floor the stack is full.
+abbrev pub entered : {Body : Type 0} → (size : ℕ → ℕ) → (floor : ℕ) → Runner Body → Option (Function Body) → List ℕ → (top : ℕ) → Back → World → Run Ran
 entered size floor body None vs top back w = wrong w
 entered size floor body (Some f) vs top back w =
     if nat_lt top (floor + size f.label) then over (Ended StackFull) w else
-    placed top f.params vs (with_slots f top w) no_temps (λ w1 temps.
-    with_fuel w1 (body f.body (record { base = top; size = size f.label }) (λ v w2. back v (without_slots f top w2)) w1 temps))
+    placed top f.params vs (with_slots f top w) no_temps
+    (body f.body (outermost (record { base = top; size = size f.label }) (λ v w1. back v (without_slots f top w1))))
 
--- a function's body from its begin: nothing stands around its loops, and its end is a return
-abbrev pub body_point : Ts → Activation → Back → World → Temps → Point
-body_point s a back w temps = record {
-  statement = s;
-  activation = a;
-  out = λ k w1 t1. wrong w1;
-  back = back;
-  next = λ w1 t1. wrong w1;
-  world = w;
-  temps = temps;
-}
+-- a call runs the body behind a unit of fuel
+abbrev pub fuelled : {Body : Type 0} → Runner Body → Runner Body
+fuelled body s e w temps = with_fuel w (body s e w temps)
+
+-- a body from its begin, whose end is a return
+abbrev pub body_point : Ts → Around → World → Temps → Point
+body_point s e w temps =
+    record { statement = s; around = e; next = λ w1 t1. wrong w1; world = w; temps = temps }
+
+-- the first activation of a program, whose return is the program's end
+abbrev pub program : {Body : Type 0} → (size : ℕ → ℕ) → (floor : ℕ) → Runner Body → Code Body → (body : ℕ) → (input : List ℕ) → Run Ran
+program size floor runner code body input =
+    entered size floor runner (function_of body code.functions) [] stack_top (λ v w. over (Ended (Exit (pos 0))) w)
+    (record { memory = begin code.literals; input = input })
 
 -- for the stage whose units are charged, a size of each frame by its function's label, the stack's floor, and the heap's room
 module _ (stage : Stage) (code : Code Ts) (size : ℕ → ℕ) (floor room : ℕ) where
-  abbrev pub enter : (Point → Run Ran) → ℕ → List ℕ → ℕ → Back → World → Run Ran
+  abbrev pub run_body : (Point → Run Ran) → Runner Ts
+  run_body later s e w temps = later (body_point s e w temps)
+
+  abbrev pub enter : (Point → Run Ran) → Enter
   enter later label vs top back w =
-      entered size floor (λ s a back' w1 temps. later (body_point s a back' w1 temps)) (function_of label code.functions) vs top back w
+      entered size floor (fuelled (run_body later)) (function_of label code.functions) vs top back w
 
   -- one step: a statement up to the next unit of fuel
   abbrev pub step : (Point → Run Ran) → Point → Run Ran
   step later p =
-      run stage room code.literals (enter later) (λ q. with_fuel q.world (later q)) p.statement p.activation p.out p.back p.next p.world p.temps
+      run stage room code.literals (enter later) (λ q. with_fuel q.world (later q)) p.statement p.around p.next p.world p.temps
 
   abbrev pub going : Point → Run Ran
   going = again (stops [] WantsFuel) step
 
-  -- the function with the label of the program's body, as the first activation; its return is the program's end
   abbrev pub tree_run : (body : ℕ) → (input : List ℕ) → Run Ran
-  tree_run body input =
-      enter going body [] stack_top (λ v w. over (Ended (Exit (pos 0))) w) (record { memory = begin code.literals; input = input })
+  tree_run body input = program size floor (run_body going) code body input
 
 -- Canonical statements run as the tree that has them in sequence.
 abbrev pub in_sequence : Function Stms → Function Ts

@@ -8,8 +8,7 @@ ghost use Rattle.tg_tree.specs.Laws.{
   FlatCodeOnlyGoesOn,
   TreesReadNoMore,
   FlatCodeReadsNoMore,
-  TreesFillStack,
-  FlatCodeFillsStack,
+  FullStackEnds,
 };
 
 /// The laws of runs of trees: each is its own step, one that is over stays so with more fuel, and any other goes on.
@@ -43,8 +42,8 @@ pub fn nothing_else_is_read()
     ensures flat { FlatCodeReadsNoMore }
 {}
 
-/// The law that the stack is full at the very call whose frame reaches below its floor.
-pub fn full_stack_ends_the_call()
-    ensures trees { TreesFillStack }
-    ensures flat { FlatCodeFillsStack }
+/// The law that the stack is full as soon as a function is entered whose frame reaches below its floor, in any form of
+/// code.
+pub fn full_stack_ends_the_call<Body>()
+    ensures { FullStackEnds Body }
 {}

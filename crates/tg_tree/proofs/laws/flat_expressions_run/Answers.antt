@@ -2,7 +2,7 @@ use Rattle.tg_tree.proofs.FlatValues.{flat_runs, spends_length, word_spends}
 use Rattle.tg_tree.proofs.laws.flat_expressions_run.Goals as goal
 
 pub returns-clause-runs : goal.returns-clause-runs
-returns-clause-runs c = λ g room ls enter later x a out back go w t n f. flat_runs g room ls enter later x a out back go w t n f
+returns-clause-runs c = λ g room ls enter later x e go w t n f. flat_runs g room ls enter later x e go w t n f
 
 pub returns-clause-within : goal.returns-clause-within
 returns-clause-within c = λ g ls base m t x f. spends_length g ls base m t x f
