@@ -12,7 +12,7 @@ use Rattle.tg_syntax.specs.Functions.{Levels, hops}
 use Rattle.tg_runs.specs.Outcomes.{ended}
 use Rattle.tg_meaning.specs.declared.standards.Standard.TheVariants.{Exit}
 use Rattle.tg_meaning.specs.Values.{Value, int, Entry, Env, by_overflow, add_weight}
-use Rattle.tg_meaning.specs.Environments.{to_standard, find, outermost}
+use Rattle.tg_meaning.specs.Environments.{to_standard, find, levels_out, outermost}
 use Rattle.tg_meaning.specs.Levels.{activation, program_weight}
 use Rattle.tg_meaning.specs.Evaluation.{Job, eval, eval_all, call, operate, with_left, exactly, meaning}
 use Rattle.tg_meaning.specs.Direct.{State, Result, gives, is_over, Direct, after, returned, found, past_limit, direct, begin, outcome, evaluate}
@@ -165,12 +165,12 @@ opened stack weight input fuel =
 -- the call of `exit` on what its argument comes to
 abbrev exiting : (heap stack : ℕ) → (Job → Direct Value) → Result Value → Result Value
 exiting heap stack after_turn r =
-    after (after r (λ v t. gives (v ∷ []) t)) (λ values. call Direct (direct heap stack) after_turn (to_standard Exit) 0 values)
+    after (after r (λ v t. gives (v ∷ []) t)) (λ values. call Direct (direct heap stack) after_turn (to_standard Exit) values)
 
 not_past : (stack weight : ℕ) → weight ≤ stack → nat_lt stack weight ≡ false
 not_past stack weight h = le-ltb stack weight h
 
-ends_quietly : (body : Exp) (input : List ℕ) (heap stack fuel weight k : ℕ) (after_turn : Job → Direct Value) (v : Option ℕ) → weight ≡ activation (size body) 0 → 1 + k ≤ size body → EndsQuietly body input stack (ending_of v) (outcome (returned (exiting heap stack after_turn (finish v (spent k (spent 1 (opened stack weight input fuel)))))))
+ends_quietly : (body : Exp) (input : List ℕ) (heap stack fuel weight k : ℕ) (after_turn : Job → Direct Value) (v : Option ℕ) → weight ≡ activation (size body) 0 → 1 + k ≤ size body → EndsQuietly body input stack (ending_of v) (outcome (returned (exiting heap stack after_turn (finish v (spent k (spent 0 (spent 1 (opened stack weight input fuel))))))))
 ends_quietly body input heap stack fuel weight k after_turn (Some n) e few =
     record {
       ends = refl;
@@ -203,10 +203,11 @@ means_its_value names (Call p f (exp a no_exps)) h input heap stack fuel =
     let is : find f.name.0 entries ≡ Some (to_standard Exit) = exit_found names f.name.0 h.0 in
     let flat : hops 0 [] a ≡ 0 = no_hops x 0 [] in
     let light : weight ≡ activation (size body) 0 = omega (arith, flat) in
-    let s : State = spent 1 (opened stack weight input fuel) in
+    -- the name is looked up, which crosses no level
+    let s : State = spent 0 (spent 1 (opened stack weight input fuel)) in
     let c : Comes (size a) (value a) s (eval Direct (direct heap stack) after_turn a env s) = evaluated heap stack after_turn x env s in
     let whole : evaluate names body input heap stack fuel ≡ outcome (returned (exiting heap stack after_turn (finish (value a) (spent c.steps s)))) =
-    ap (λ b. outcome (returned (after (found b s) (λ callee t. after (eval_all Direct (direct heap stack) after_turn (exp a no_exps) env t) (λ values. call Direct (direct heap stack) after_turn callee 0 values))))) is ∙
+    ap (λ b. outcome (returned (after (after (found b (spent 1 (opened stack weight input fuel))) (λ callee t. gives callee (spent (levels_out 0 callee) t))) (λ callee t. after (eval_all Direct (direct heap stack) after_turn (exp a no_exps) env t) (λ values. call Direct (direct heap stack) after_turn callee values))))) is ∙
     ap (λ r. outcome (returned (exiting heap stack after_turn r))) c.is in
     subst (λ o. EndsQuietly body input stack (ending_of (value a)) o) (sym whole)
     (ends_quietly body input heap stack fuel weight c.steps after_turn (value a) light (omega (arith, c.few)))

@@ -1,6 +1,7 @@
 pub mod Trees
 mod WorkedExamples
 mod Subtleties
+mod CostExamples
 pub mod Related
 pub mod Twin
 pub mod GoingOn

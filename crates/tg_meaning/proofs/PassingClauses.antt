@@ -8,7 +8,7 @@ use Rattle.tg_syntax.specs.Tree.{Exp, Break, Int, Call, Neg, Binary, If, While, 
 use Rattle.tg_syntax.specs.declared.trees.Op.TheVariants.{Minus}
 use Rattle.tg_runs.specs.Outcomes.{costs}
 use Rattle.tg_meaning.specs.Values.{Value, int, nothing, Env, World}
-use Rattle.tg_meaning.specs.Environments.{name_of, find}
+use Rattle.tg_meaning.specs.Environments.{name_of, find, levels_out}
 use Rattle.tg_meaning.specs.Passing.{Rest, Passing, with_turn, with_found, passing}
 use Rattle.tg_meaning.specs.Evaluation as E
 use Rattle.tg_meaning.specs.Evaluation.{Job, repeat_while}
@@ -39,7 +39,8 @@ module _ (heap stack : ℕ) (after : Job → Passing Value) (go : Value → Rest
   while_is : (s : Span) (c a : Exp) (env : Env) → eval (While s c a) env go out w n ≡ costs 1 (eval c env (λ v. choose v (λ go out. eval a env (λ _. with_turn (after (repeat_while c a env) go out)) (go nothing)) (λ go out. go nothing) go out) out w n)
   while_is s c a env = refl
 
-  call_is : (s : Span) (f : Ident) (args : Exps) (env : Env) → eval (Call s f args) env go out w n ≡ costs 1 (with_found (find (name_of f) env.entries) (λ callee. E.eval_all Passing (passing heap stack) after args env (λ values. E.call Passing (passing heap stack) after callee env.level values go out) out) w n)
+  -- the levels that the call crosses are paid before its arguments are evaluated
+  call_is : (s : Span) (f : Ident) (args : Exps) (env : Env) → eval (Call s f args) env go out w n ≡ costs 1 (with_found (find (name_of f) env.entries) (λ callee w n. costs (levels_out env.level callee) (E.eval_all Passing (passing heap stack) after args env (λ values. E.call Passing (passing heap stack) after callee values go out) out w n)) w n)
   call_is s f args env = refl
 
   assign_is : (s : Span) (v : Place) (e : Exp) (env : Env) → eval (Assign s v e) env go out w n ≡ costs 1 (E.locate Passing (passing heap stack) after v env (λ l. eval e env (λ x. E.write_location Passing (passing heap stack) l x (λ _. go nothing) out) out) out w n)

@@ -2,6 +2,7 @@
 use Rattle.std.proofs.Common.{ℕ, zero, suc, ◌+◌, List, [], ◌∷◌, length, Option, Some, None, Bool, true, false, nat_lt}
 use Rattle.std.specs.Prelude.{if◌then◌else◌, ◌==◌, ◌||◌}
 use Rattle.tg_base.specs.Words.{less, is_negative, exact_sum, exact_difference, exact_product}
+use Rattle.tg_syntax.specs.declared.tokens.Ident.{Ident}
 use Rattle.tg_syntax.specs.declared.trees.Param.{Param}
 use Rattle.tg_syntax.specs.declared.trees.Op.{Op}
 use Rattle.tg_syntax.specs.declared.trees.Op.TheVariants.{Plus, Minus, Times, Divide, And, Or}
@@ -61,10 +62,20 @@ module _ (Action Action' : Type 0 → Type 0) (M : Actions Action) (M' : Actions
     read_location_same (in_field r f) = binds (L.looks Object _) λ o. L.looks Value _
     read_location_same (in_element r i) = binds (L.looks Object _) λ o. L.looks Value _
 
+    replace_same : (l : Location) (v : Value) → R (Unit {0}) (E.replace Action M l v) (E.replace Action' M' l v)
+    replace_same (in_variable place) v = L.sets place v
+    replace_same (in_field r f) v = binds (L.looks Object _) λ o. L.puts r _
+    replace_same (in_element r i) v = binds (L.looks Object _) λ o. L.puts r _
+
     write_location_same : (l : Location) (v : Value) → R (Unit {0}) (E.write_location Action M l v) (E.write_location Action' M' l v)
-    write_location_same (in_variable place) v = L.sets place v
-    write_location_same (in_field r f) v = binds (L.looks Object _) λ o. L.puts r _
-    write_location_same (in_element r i) v = binds (L.looks Object _) λ o. L.puts r _
+    write_location_same l v = binds (read_location_same l) λ _. replace_same l v
+
+    look_up_same : (x : Ident) (env : Env) → R Bound (E.look_up Action M x env) (E.look_up Action' M' x env)
+    look_up_same x env = binds (L.looks Bound _) λ b. binds (L.spends _) λ _. L.gives Bound b
+
+    locate_variable_same : (b : Bound) → R Location (E.locate_variable Action M b) (E.locate_variable Action' M' b)
+    locate_variable_same (to_variable level place) = L.gives Location _
+    locate_variable_same _ = L.overs Location _
 
     locate_field_same : (v : Value) (f : ℕ) → R Location (E.locate_field Action M v f) (E.locate_field Action' M' v f)
     locate_field_same nil f = L.overs Location _
@@ -143,15 +154,10 @@ module _ (Action Action' : Type 0 → Type 0) (M : Actions Action) (M' : Actions
     call_standard_same _ _ = L.overs Value _
 
     module _ (after : Job → Action Value) (after' : Job → Action' Value) (turned : (job : Job) → R Value (M.turn (after job)) (M'.turn (after' job))) where
-      call_same : (b : Bound) (here : ℕ) (args : List Value) → R Value (E.call Action M after b here args) (E.call Action' M' after' b here args)
-      call_same (to_function level f seen) here args =
-          binds (L.spends _) λ _. binds (L.weighs _) λ _. binds L.descends λ _. turned _
-      call_same (to_standard f) here args = runtime_same Value _ _ (call_standard_same f args)
-      call_same (to_variable level place) here args = L.overs Value _
-
-      locate_variable_same : (b : Bound) (here : ℕ) → R Location (E.locate_variable Action M after b here) (E.locate_variable Action' M' after' b here)
-      locate_variable_same (to_variable level place) here = binds (L.spends _) λ _. L.gives Location _
-      locate_variable_same _ here = L.overs Location _
+      call_same : (b : Bound) (args : List Value) → R Value (E.call Action M after b args) (E.call Action' M' after' b args)
+      call_same (to_function level f seen) args = binds (L.weighs _) λ _. binds L.descends λ _. turned _
+      call_same (to_standard f) args = runtime_same Value _ _ (call_standard_same f args)
+      call_same (to_variable level place) args = L.overs Value _
 
       while_loop_same : (test body : Action Value) (test' body' : Action' Value) (again : Job) → R Value test test' → R Value body body' → R Value (E.while_loop Action M after test body again) (E.while_loop Action' M' after' test' body' again)
       while_loop_same test body test' body' again g h =
@@ -169,7 +175,7 @@ module _ (Action Action' : Type 0 → Type 0) (M : Actions Action) (M' : Actions
         eval_same (Text _ bytes) env = binds (L.spends 1) λ _. L.gives Value _
         eval_same (Read _ v) env = binds (L.spends 1) λ _. binds (locate_same v env) λ l. read_location_same l
         eval_same (Call _ f args) env =
-            binds (L.spends 1) λ _. binds (L.looks Bound _) λ callee. binds (eval_all_same args env) λ values. call_same callee env.level values
+            binds (L.spends 1) λ _. binds (look_up_same f env) λ callee. binds (eval_all_same args env) λ values. call_same callee values
         eval_same (Neg _ a) env = binds (L.spends 1) λ _. binds (eval_same a env) λ x. operate_same Minus (int 0) x
         eval_same (Binary _ op _ a b) env =
             binds (L.spends 1) λ _. binds (eval_same a env) λ x. with_left_same op x _ _ (eval_same b env)
@@ -191,7 +197,7 @@ module _ (Action Action' : Type 0 → Type 0) (M : Actions Action) (M' : Actions
         eval_same (Seq _ es) env = binds (L.spends 1) λ _. eval_last_same nothing es env
 
         pub locate_same : (p : Place) (env : Env) → R Location (E.locate Action M after p env) (E.locate Action' M' after' p env)
-        locate_same (Simple x) env = binds (L.spends 1) λ _. binds (L.looks Bound _) λ b. locate_variable_same b env.level
+        locate_same (Simple x) env = binds (L.spends 1) λ _. binds (look_up_same x env) λ b. locate_variable_same b
         locate_same (Field p f) env =
             binds (L.spends 1) λ _. binds (locate_same p env) λ l. binds (read_location_same l) λ v. locate_field_same v _
         locate_same (Index p e) env =

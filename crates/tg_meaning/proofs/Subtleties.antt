@@ -4,9 +4,10 @@ use Rattle.std.specs.Prelude.{codes}
 use Prim.Native.String.{String}
 use Rattle.tg_syntax.specs.Tree.{Exp, no_decs}
 use Rattle.tg_runs.specs.Outcomes.{End, ended, stuck}
-use Rattle.tg_meaning.specs.Values.{normal, by_index, by_chr, by_substring, by_size, by_heap, by_exit, Ending}
-use Rattle.tg_meaning.specs.Direct.{evaluate}
-use Rattle.tg_meaning.proofs.Trees.{nil, break, num, text, bytes, simple, index, read, var, call, neg, ◌+'◌, ◌-'◌, ◌='◌, ◌<>'◌, ◌<'◌, ◌<='◌, ◌>'◌, ◌&'◌, ◌or'◌, set, when, while, for, seq, array, make, fun, let_var, block, evaluated, does, on_heap, names}
+use Rattle.tg_meaning.specs.Values.{int, nothing, elements, Ending, normal, by_index, by_chr, by_substring, by_size, by_heap, by_exit, add_object}
+use Rattle.tg_meaning.specs.Evaluation.{in_element, write_location}
+use Rattle.tg_meaning.specs.Direct.{State, Direct, gives, after, direct, begin, told, outcome, evaluate}
+use Rattle.tg_meaning.proofs.Trees.{nil, break, num, text, bytes, simple, field, index, read, var, call, neg, ◌+'◌, ◌-'◌, ◌='◌, ◌<>'◌, ◌<'◌, ◌<='◌, ◌>'◌, ◌&'◌, ◌or'◌, set, when, while, for, seq, array, make, fun, let_var, block, evaluated, does, on_heap, names}
 
 abbrev say : String → Exp
 say chars = call "print" (text chars ∷ [])
@@ -133,3 +134,19 @@ print_past_the_stack = (refl, refl, refl)
 -- an activation that is closed weighs nothing: (f(); f(); f()) has one open at once
 one_open_at_once : (evaluated (block (fun "f" [] (seq []) no_decs) (call "f" [] ∷ call "f" [] ∷ call "f" [] ∷ [])) 3).deepest ≡ 1
 one_open_at_once = refl
+
+-- a store to what isn't there is stuck, as a read is: let var a:=r{x=1} in a.y:=2 end, and let var a:=t[1] of 0 in a.x:=2 end
+store_to_no_field : does (block (let_var "a" (make (("x", num 1) ∷ [])) no_decs) (set (field (simple "a") "y") (num 2) ∷ [])) 0 ≡ (stuck, [])
+store_to_no_field = refl
+
+store_to_no_record : does (block (let_var "a" (array (num 1) (num 0)) no_decs) (set (field (simple "a") "x") (num 2) ∷ [])) 0 ≡ (stuck, [])
+store_to_no_record = refl
+
+-- the same past the end of an array, which no l-value whose checks are made comes to
+abbrev with_array : State
+with_array =
+    let s = begin [] 0 in
+    record s { world = add_object (elements (int 0 ∷ [])) s.world }
+
+store_to_no_element : outcome (after (write_location Direct (direct 0 0) (in_element 0 1) (int 2) with_array) (λ done s. gives nothing s)) ≡ told stuck with_array
+store_to_no_element = refl

@@ -1,5 +1,5 @@
 -- What names stand for.
-use Rattle.std.specs.Prelude.{ℕ, suc, ◌==◌, List, [], ◌∷◌, ◌++◌, Option, Some, None, if◌then◌else◌, codes}
+use Rattle.std.specs.Prelude.{ℕ, suc, ◌-◌, ◌==◌, List, [], ◌∷◌, ◌++◌, Option, Some, None, if◌then◌else◌, codes}
 use Rattle.std.specs.Str.{bytes_eq}
 use Rattle.tg_syntax.specs.declared.tokens.Ident.{Ident}
 use Rattle.tg_syntax.specs.declared.trees.Param.{Param}
@@ -37,6 +37,13 @@ find x [] = None
 find x (variable y level place ∷ rest) = if y == x then Some (to_variable level place) else find x rest
 find x (group level fs ∷ rest) = or_beyond (function_named x fs) level (group level fs ∷ rest) (find x rest)
 find x (standard y f ∷ rest) = if y == x then Some (to_standard f) else find x rest
+
+-- the levels from a function's text out to the one that declares what a name is bound to; a standard
+-- function is at hand at each
+abbrev pub levels_out : (here : ℕ) → Bound → ℕ
+levels_out here (to_variable level place) = here - level
+levels_out here (to_function level f seen) = here - level
+levels_out here (to_standard f) = 0
 
 -- the outermost scope: those of the names that are a standard function's, by their places in the list of names
 abbrev pub standard_text : Standard → List ℕ

@@ -2,6 +2,7 @@
 use Rattle.std.specs.Prelude.{ℕ, zero, suc, ◌+◌, ◌-◌, ◌^◌, ◌==◌, List, [], ◌∷◌, ◌++◌, length, take, drop, replicate, Option, Some, None, Bool, true, false, ◌||◌, nat_lt, if◌then◌else◌, slice_get}
 use Rattle.std.specs.Str.{bytes_eq}
 use Rattle.tg_base.specs.Words.{add, less, is_negative, exact_sum, exact_difference, exact_product}
+use Rattle.tg_syntax.specs.declared.tokens.Ident.{Ident}
 use Rattle.tg_syntax.specs.declared.trees.Param.{Param}
 use Rattle.tg_syntax.specs.declared.trees.Op.{Op}
 use Rattle.tg_syntax.specs.declared.trees.Op.TheVariants.{Plus, Minus, Times, Divide, And, Or}
@@ -11,7 +12,7 @@ use Rattle.tg_meaning.specs.declared.standards.Standard.{Standard}
 use Rattle.tg_meaning.specs.declared.standards.Standard.TheVariants.{Print, Flush, Getchar, Ord, Chr, Size, Substring, Concat, Not, Exit}
 use Rattle.tg_meaning.specs.Values.{Value, int, string, nil, reference, nothing, Object, fields, elements, Entry, variable, group, Env, Ending, by_nil, by_index, by_division, by_chr, by_substring, by_size, by_overflow, by_exit}
 use Rattle.tg_meaning.specs.Actions.{Actions}
-use Rattle.tg_meaning.specs.Environments.{name_of, Function, Bound, to_variable, to_function, to_standard, find}
+use Rattle.tg_meaning.specs.Environments.{name_of, Function, Bound, to_variable, to_function, to_standard, find, levels_out}
 use Rattle.tg_meaning.specs.Levels.{program_weight, function_weight, runtime_weight}
 use Rattle.tg_meaning.specs.Operators.{exact_quotient, is_below, string_less, comparison, identity, truth, field_in, element_in, with_field, with_element, record_bytes, array_bytes, string_bytes}
 
@@ -74,14 +75,30 @@ module _ (Action : Type 0 → Type 0) (M : Actions Action) where
     object ← look (λ w. slice_get w.objects r)
     known (element_in i object)
 
-  abbrev pub write_location : Location → Value → Action (Unit {0})
-  write_location (in_variable place) v = set_variable place v
-  write_location (in_field r f) v = do
+  abbrev pub replace : Location → Value → Action (Unit {0})
+  replace (in_variable place) v = set_variable place v
+  replace (in_field r f) v = do
     object ← look (λ w. slice_get w.objects r)
     set_object r (with_field f v object)
-  write_location (in_element r i) v = do
+  replace (in_element r i) v = do
     object ← look (λ w. slice_get w.objects r)
     set_object r (with_element i v object)
+
+  -- a store to what isn't there is stuck, as a read is
+  abbrev pub write_location : Location → Value → Action (Unit {0})
+  write_location location v = read_location location >> replace location v
+
+  -- What a name is bound to. The levels out to its declaration are paid here, since code goes out to
+  -- it before it does anything else with it: for a call, before the arguments are evaluated.
+  abbrev pub look_up : Ident → Env → Action Bound
+  look_up x env = do
+    bound ← known (find (name_of x) env.entries)
+    spend (levels_out env.level bound)
+    give bound
+
+  abbrev pub locate_variable : Bound → Action Location
+  locate_variable (to_variable level place) = give (in_variable place)
+  locate_variable _ = over stuck
 
   abbrev pub locate_field : Value → (name : ℕ) → Action Location
   locate_field nil f = end_program by_nil
@@ -197,18 +214,13 @@ module _ (Action : Type 0 → Type 0) (M : Actions Action) where
 
   module _ (after_turn : Job → Action Value) where
     -- a call whose arguments are evaluated: the activation opens, and then the unit of fuel is used
-    abbrev pub call : Bound → (here : ℕ) → List Value → Action Value
-    call (to_function level f seen) here args = do
-      spend (here - level)
+    abbrev pub call : Bound → List Value → Action Value
+    call (to_function level f seen) args = do
       weigh (function_weight level f seen)
       descend
       turn (after_turn (run_function level f seen args))
-    call (to_standard f) here args = runtime (call_standard f args)
-    call (to_variable level place) here args = over stuck
-
-    abbrev pub locate_variable : Bound → (here : ℕ) → Action Location
-    locate_variable (to_variable level place) here = spend (here - level) >> give (in_variable place)
-    locate_variable _ here = over stuck
+    call (to_standard f) args = runtime (call_standard f args)
+    call (to_variable level place) args = over stuck
 
     -- a loop from its head on; its `for` variable has a value already
     abbrev pub while_loop : (test body : Action Value) → (again : Job) → Action Value
@@ -236,9 +248,9 @@ module _ (Action : Type 0 → Type 0) (M : Actions Action) where
         read_location location
       eval (Call _ f args) env = do
         spend 1
-        callee ← known (find (name_of f) env.entries)
+        callee ← look_up f env
         values ← eval_all args env
-        call callee env.level values
+        call callee values
       eval (Neg _ a) env = do
         spend 1
         x ← eval a env
@@ -292,8 +304,8 @@ module _ (Action : Type 0 → Type 0) (M : Actions Action) where
       pub locate : Place → Env → Action Location
       locate (Simple x) env = do
         spend 1
-        bound ← known (find (name_of x) env.entries)
-        locate_variable bound env.level
+        bound ← look_up x env
+        locate_variable bound
       locate (Field place f) env = do
         spend 1
         location ← locate place env

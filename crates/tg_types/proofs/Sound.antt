@@ -3,6 +3,7 @@ use Rattle.std.proofs.Common.{◌≡◌, ◌≢◌, ℕ, zero, suc, ◌+◌, ◌
 use Rattle.std.specs.Prelude.{not, ◌&&◌, slice_get, ◌==◌, ◌||◌, if◌then◌else◌}
 use Rattle.std.specs.Str.{bytes_eq}
 use Rattle.tg_base.specs.Words.{less, is_negative, exact_sum, exact_difference, exact_product}
+use Rattle.tg_syntax.specs.declared.tokens.Ident.{Ident}
 use Rattle.tg_syntax.specs.declared.trees.Param.{Param}
 use Rattle.tg_syntax.specs.declared.trees.Op.{Op}
 use Rattle.tg_syntax.specs.declared.trees.Op.TheVariants.{Plus, Minus, Times, Divide, Equal, NotEqual, Less, LessEqual, Greater, GreaterEqual, And, Or}
@@ -12,7 +13,7 @@ use Rattle.tg_meaning.specs.declared.standards.Standard.{Standard}
 use Rattle.tg_meaning.specs.declared.standards.Standard.TheVariants.{Print, Flush, Getchar, Ord, Chr, Size, Substring, Concat, Not, Exit}
 use Rattle.tg_meaning.specs.Values.{Value, int, string, nothing, Object, fields, Entry, group, Env, Ending, by_chr, by_index}
 use Rattle.tg_meaning.specs.Actions.{Actions}
-use Rattle.tg_meaning.specs.Environments.{Function, Bound}
+use Rattle.tg_meaning.specs.Environments.{Function, Bound, find}
 use Rattle.tg_meaning.specs.Operators.{exact_quotient, is_below, string_less, comparison, identity, field_in, element_in, with_field, with_element}
 use Rattle.tg_meaning.specs.Evaluation as E
 use Rattle.tg_meaning.specs.Evaluation.{Location, in_variable, in_field, in_element, Job, run_function, repeat_while, repeat_for, with_variable, count}
@@ -140,12 +141,23 @@ module _ (shapes : List (ℕ × Shape)) where
       read_kept s b _ t (at_element {r} {i} at n e p lt) =
           onward (L.objects s b r (Worlds.array_of at n) e) λ w g o q. let found = Worlds.element_there shapes w.objs o at n i t q p lt in L.knowns w b Value (a_value t) (element_in i o) found.0 found.1 found.2
 
-      write_kept : (s : Worlds.Stores) (b : Bool) (l : Location) (v : Value) (t : Ty) → IsLocation s l t → Worlds.IsValue s.objs v t → S s b (Unit {0}) (whatever (Unit {0})) (E.write_location Action M l v)
-      write_kept s b _ v t (at_variable {place} e) q = L.sets s b place v t e q
-      write_kept s b _ v t (at_field {r} {f} at fs e n p) q =
+      replace_kept : (s : Worlds.Stores) (b : Bool) (l : Location) (v : Value) (t : Ty) → IsLocation s l t → Worlds.IsValue s.objs v t → S s b (Unit {0}) (whatever (Unit {0})) (E.replace Action M l v)
+      replace_kept s b _ v t (at_variable {place} e) q = L.sets s b place v t e q
+      replace_kept s b _ v t (at_field {r} {f} at fs e n p) q =
           onward (L.objects s b r (Worlds.record_of at) e) λ w g o h. L.puts w b r (with_field f v o) (Worlds.record_of at) (g.objs r _ e) (Worlds.field_put shapes w.objs o at f fs t v h n p (Worlds.value_on s w g v t q))
-      write_kept s b _ v t (at_element {r} {i} at n e p lt) q =
+      replace_kept s b _ v t (at_element {r} {i} at n e p lt) q =
           onward (L.objects s b r (Worlds.array_of at n) e) λ w g o h. L.puts w b r (with_element i v o) (Worlds.array_of at n) (g.objs r _ e) (Worlds.element_put shapes w.objs o at n i t v h p (Worlds.value_on s w g v t q))
+
+      write_kept : (s : Worlds.Stores) (b : Bool) (l : Location) (v : Value) (t : Ty) → IsLocation s l t → Worlds.IsValue s.objs v t → S s b (Unit {0}) (whatever (Unit {0})) (E.write_location Action M l v)
+      write_kept s b l v t p q = onward (read_kept s b l t p) λ w g _ _. replace_kept w b l v t (location_on s w l t g p) (Worlds.value_on s w g v t q)
+
+      -- what a name is bound to, with the levels out to it
+      look_up_kept : (s : Worlds.Stores) (b : Bool) (x : Ident) (env : Env) (c : Binding) (d : Bound) → find (name_of x) env.entries ≡ Some d → Worlds.Means shapes s.vars d c → S s b Bound (λ w d. Worlds.Means shapes w.vars d c) (E.look_up Action M x env)
+      look_up_kept s b x env c d e m =
+          onward (L.knowns s b Bound (λ w d. Worlds.Means shapes w.vars d c) _ d e m) λ w g d m. onward (L.spends w b _) λ v k _ _. L.gives v b Bound (λ w d. Worlds.Means shapes w.vars d c) d (Worlds.means_on shapes w v d c k m)
+
+      variable_kept : (s : Worlds.Stores) (b : Bool) (d : Bound) (at : ℕ) (t : Ty) (loop : Bool) → Worlds.Means shapes s.vars d (variable_at at t loop) → S s b Location (λ w l. IsLocation w l t) (E.locate_variable Action M d)
+      variable_kept s b _ at t loop (Worlds.means_variable {level} {place} e) = L.gives s b Location (λ w l. IsLocation w l t) _ (at_variable e)
 
       field_kept : (s : Worlds.Stores) (b : Bool) (v : Value) (f at : ℕ) (fs : List (ℕ × Ty)) (t : Ty) → Worlds.IsValue s.objs v (record_type at) → named at shapes ≡ Some (record_shape fs) → named f fs ≡ Some t → S s b Location (λ w l. IsLocation w l t) (E.locate_field Action M v f)
       field_kept s b _ f at fs t Worlds.is_nil_record n p = ends
@@ -266,17 +278,14 @@ module _ (shapes : List (ℕ × Shape)) where
       values_on v w xs ts g h = Worlds.each_map (Worlds.IsValue v.objs) (Worlds.IsValue w.objs) xs ts (λ a t p. Worlds.value_on v w g a t p) h
 
       module _ (after : Job → Action Value) (turned : (s : Worlds.Stores) (b : Bool) (job : Job) (t : Ty) → IsJob s job t b → S s b Value (a_value t) (M.turn (after job))) where
-        call_kept : (s : Worlds.Stores) (b : Bool) (d : Bound) (c : Binding) (sig : Signature) (here : ℕ) (args : List Value) → Worlds.Means shapes s.vars d c → Callee c sig → Worlds.Each (Worlds.IsValue s.objs) args sig.params → S s b Value (a_value sig.result) (E.call Action M after d here args)
-        call_kept s b _ _ sig here args (Worlds.means_function {level} {at} {f} {seen} scope h e) declared vs =
-            paid λ w g. onward (L.weighs w b _) λ v k _ _. onward (L.descends v b) λ u j _ _.
-            let all = Worlds.grows_on s w u g (Worlds.grows_on w v u k j) in
+        call_kept : (s : Worlds.Stores) (b : Bool) (d : Bound) (c : Binding) (sig : Signature) (args : List Value) → Worlds.Means shapes s.vars d c → Callee c sig → Worlds.Each (Worlds.IsValue s.objs) args sig.params → S s b Value (a_value sig.result) (E.call Action M after d args)
+        call_kept s b _ _ sig args (Worlds.means_function {level} {at} {f} {seen} scope h e) declared vs =
+            onward (L.weighs s b _) λ v k _ _. onward (L.descends v b) λ u j _ _.
+            let all = Worlds.grows_on s v u k j in
             turned u b _ sig.result (a_function scope h (values_on s u args sig.params all vs) (Worlds.sees_on shapes s u seen scope.bindings all e))
-        call_kept s b _ _ _ here args Worlds.means_standard (standard f) vs =
+        call_kept s b _ _ _ args Worlds.means_standard (standard f) vs =
             runtime_kept s b (signature f).result _ λ w g. standard_kept f w b args (values_on s w args (signature f).params g vs)
-        call_kept s b _ _ sig here args (Worlds.means_variable e) c vs = elim c [ ]
-
-        variable_kept : (s : Worlds.Stores) (b : Bool) (d : Bound) (at here : ℕ) (t : Ty) (loop : Bool) → Worlds.Means shapes s.vars d (variable_at at t loop) → S s b Location (λ w l. IsLocation w l t) (E.locate_variable Action M after d here)
-        variable_kept s b _ at here t loop (Worlds.means_variable {level} {place} e) = paid λ w g. give (at_variable (g.vars place t e))
+        call_kept s b _ _ sig args (Worlds.means_variable e) c vs = elim c [ ]
 
         while_kept : (s : Worlds.Stores) (b : Bool) (test body : Action Value) (again : Job) → S s b Value (a_value int_type) test → ((w : Worlds.Stores) → Worlds.GrowsTo s w → S w true Value (a_value none_type) body) → ((w : Worlds.Stores) → Worlds.GrowsTo s w → IsJob w again none_type b) → S s b Value (a_value none_type) (E.while_loop Action M after test body again)
         while_kept s b test body again g h j =
@@ -303,9 +312,9 @@ module _ (shapes : List (ℕ × Shape)) where
           eval_kept _ env scope _ s (Has.call {f = f} {args = args} {sig = sig} c e h hs) v =
               paid λ w g. let v' = Worlds.sees_on shapes s w env.entries scope.bindings g v in
               let d = Worlds.found shapes w.vars (name_of f) env.entries scope.bindings c v' e in
-              onward (L.knowns w scope.in_loop Bound (λ x y. Worlds.Means shapes x.vars y c) _ d.0 d.1 d.2) λ x k callee m.
+              onward (look_up_kept w scope.in_loop f env c d.0 d.1 d.2) λ x k callee m.
               onward (eval_all_kept args env scope sig.params x hs (Worlds.sees_on shapes w x env.entries scope.bindings k v')) λ y i values q.
-              call_kept y scope.in_loop callee c sig env.level values (Worlds.means_on shapes x y callee c i m) h q
+              call_kept y scope.in_loop callee c sig values (Worlds.means_on shapes x y callee c i m) h q
           eval_kept _ env scope _ s (Has.neg {a = a} h) v =
               paid λ w g. onward (eval_kept a env scope int_type w h (Worlds.sees_on shapes s w env.entries scope.bindings g v)) λ u k x p. second scope.in_loop Minus 0 (λ y c. exactly_kept y scope.in_loop (exact_difference 0 c)) u x p
           eval_kept _ env scope _ s (Has.ints {op = op} {a = a} {b = b} h k) v =
@@ -360,7 +369,7 @@ module _ (shapes : List (ℕ × Shape)) where
           pub locate_kept : (p : Place) (env : Env) (scope : Scope) (t : Ty) (s : Worlds.Stores) → Has.HasPlace shapes p scope t → Worlds.Sees shapes s.vars env.entries scope.bindings → S s scope.in_loop Location (λ w l. IsLocation w l t) (E.locate Action M after p env)
           locate_kept _ env scope t s (Has.simple {x = x} at loop e) v =
               paid λ w g. let d = Worlds.found shapes w.vars (name_of x) env.entries scope.bindings (variable_at at t loop) (Worlds.sees_on shapes s w env.entries scope.bindings g v) e in
-              onward (L.knowns w scope.in_loop Bound (λ u y. Worlds.Means shapes u.vars y (variable_at at t loop)) _ d.0 d.1 d.2) λ u k b m. variable_kept u scope.in_loop b at env.level t loop m
+              onward (look_up_kept w scope.in_loop x env (variable_at at t loop) d.0 d.1 d.2) λ u k b m. variable_kept u scope.in_loop b at t loop m
           locate_kept _ env scope t s (Has.field {v = p} {f = f} at fs h e n) v =
               paid λ w g. onward (locate_kept p env scope (record_type at) w h (Worlds.sees_on shapes s w env.entries scope.bindings g v)) λ u k l q.
               onward (read_kept u scope.in_loop l (record_type at) q) λ x i a r. field_kept x scope.in_loop a (name_of f) at fs t r e n
