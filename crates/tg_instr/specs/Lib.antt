@@ -3,3 +3,4 @@ pub mod Shapes
 pub mod Uses
 pub mod Codes
 pub mod Lengths
+pub mod Renaming

@@ -7,9 +7,11 @@ mod building;
 mod codes;
 mod instr;
 mod operands;
+mod renaming;
 mod uses;
 
 pub use building::push_instr;
 pub use codes::{Allocated, Code};
 pub use instr::{Instr, Instrs, Test};
 pub use operands::Opnd;
+pub use renaming::Named;
