@@ -1,17 +1,29 @@
 -- How the program ends.
-use Rattle.std.specs.Prelude.{◌≡◌, ◌⊎◌, ℕ, List, None}
+use Rattle.std.specs.Prelude.{◌≡◌, ◌⊎◌, ℕ, List, Option, None}
 use Rattle.tg_base.specs.Causes.{Rose}
-use Rattle.tg_driver.specs.Causes.{Answers, HasRun, Untouched}
+use Rattle.tg_base.specs.Files.{Files}
+use Rattle.tg_driver.specs.Calls.{Stream, stream_of, shelf_of, call_of}
+use Rattle.tg_driver.specs.Answered.{Answers}
 
 -- with a status, or with 74 where its line couldn't be written
 abbrev pub EndsWith : ℕ → ℕ → ℕ → ℕ → Type 0
 EndsWith status before now result = (result ≡ status) ⊎ ((result ≡ 74) × Rose before now)
 
+-- a stream of the system, as its count of faults: it tells no bytes
+abbrev pub untold : (before after : ℕ) → Stream ℕ
+untold before after = stream_of (λ s. None) (λ s. s) before after
+
+-- the status is that of the top call on some words, for counts of faults of the shelf, the input, the output and the error sink
+abbrev pub AnswersWords : (words : List (List ℕ)) (files reads writes errors : ℕ) (files' reads' writes' errors' : ℕ) (status : ℕ) → Type 0
+AnswersWords words files reads writes errors files' reads' writes' errors' status =
+    Answers (call_of words (shelf_of (λ s. None) (λ s name. s) files files') (untold reads reads') (untold writes writes') (untold errors errors')) status
+
 -- With the status of the top call on some words, or with that of words that can't be read: memory is wanting, or one isn't
--- UTF-8. The system's files and streams tell no bytes, and their counts of faults begin at 0.
+-- UTF-8. The counts of faults begin at 0.
 pub data IsStatus (status : ℕ) : Type 0 where
-  answered : (words : List (List ℕ)) (files : List ℕ → ℕ) (reads writes errors : ℕ) →
-      Answers {E = ℕ} (Untouched 0 reads 0 writes) (HasRun (λ input. None) (λ input. input) (λ out. None) (λ out. out) 0 reads 0 writes)
-      words None (λ name. 0) files (λ err. None) (λ err. err) 0 errors status → IsStatus status
+  answered :
+      (words : List (List ℕ)) (files reads writes errors : ℕ) →
+      AnswersWords words 0 0 0 0 files reads writes errors status →
+      IsStatus status
   no_memory : (errors : ℕ) → EndsWith 70 0 errors status → IsStatus status
   not_text : (errors : ℕ) → EndsWith 64 0 errors status → IsStatus status

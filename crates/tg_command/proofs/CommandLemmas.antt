@@ -1,7 +1,7 @@
 -- Words ask for one thing at most, and then are no usage fault.
-use Rattle.std.proofs.Common.{◌≡◌, ◌∙◌, ℕ, List, Option, Some, None, refl, sym, ap, arith}
+use Rattle.std.specs.Prelude.{◌==◌, if◌then◌else◌}
+use Rattle.std.proofs.Common.{◌≡◌, ◌∙◌, ℕ, List, [], ◌∷◌, Option, Some, None, refl, sym, ap}
 use Rattle.std.specs.Option.{unwrap_or}
-use Rattle.tg_command.proofs.ArgumentLemmas.{other_text}
 use Rattle.tg_command.specs.Counts.{GivesCount}
 use Rattle.tg_command.specs.declared.counts.Limits.{Limits}
 use Rattle.tg_command.specs.Modes.{name_of}
@@ -13,16 +13,19 @@ given_once : (limits : Limits) (o : Option (List ℕ)) (m n : ℕ) → GivesCoun
 given_once limits None m n p q = p ∙ sym q
 given_once limits (Some text) m n p q = p.value ∙ sym q.value
 
+-- the mode of a name, by its first byte
+mode_named : List ℕ → Mode
+mode_named [] = Check
+mode_named (first ∷ rest) = if first == 99 then Check else if first == 114 then Run else Exec
+
+mode_named-name_of : (m : Mode) → mode_named (name_of m) ≡ m
+unfolding mode_named
+mode_named-name_of Check = refl
+mode_named-name_of Run = refl
+mode_named-name_of Exec = refl
+
 pub name_once : (a b : Mode) → name_of a ≡ name_of b → a ≡ b
-name_once Check Check e = refl
-name_once Check Run e = absurd (other_text 0 99 114 (name_of Check) (name_of Run) refl refl (λ q. absurd (omega (arith, q))) e)
-name_once Run Check e = absurd (other_text 0 114 99 (name_of Run) (name_of Check) refl refl (λ q. absurd (omega (arith, q))) e)
-name_once Run Run e = refl
-name_once Check Exec e = absurd (other_text 0 99 101 (name_of Check) (name_of Exec) refl refl (λ q. absurd (omega (arith, q))) e)
-name_once Exec Check e = absurd (other_text 0 101 99 (name_of Exec) (name_of Check) refl refl (λ q. absurd (omega (arith, q))) e)
-name_once Run Exec e = absurd (other_text 0 114 101 (name_of Run) (name_of Exec) refl refl (λ q. absurd (omega (arith, q))) e)
-name_once Exec Run e = absurd (other_text 0 101 114 (name_of Exec) (name_of Run) refl refl (λ q. absurd (omega (arith, q))) e)
-name_once Exec Exec e = refl
+name_once a b e = sym (mode_named-name_of a) ∙ ap mode_named e ∙ mode_named-name_of b
 
 some_once : {X : Type 0} (x y : X) → Some x ≡ Some y → x ≡ y
 some_once {X} x y e = ap (λ (o : Option X). unwrap_or o x) e

@@ -1,6 +1,6 @@
 -- What the words of a command line ask for.
 use Rattle.std.specs.Prelude.{◌≡◌, ℕ, List, Some, codes, string_bytes}
-use Rattle.tg_command.specs.Counts.{GivesCount, heap_limits, stack_limits, step_limits}
+use Rattle.tg_command.specs.Counts.{GivesCount, IsWithin, heap_limits, stack_limits, step_limits}
 use Rattle.tg_command.specs.Modes.{name_of}
 use Rattle.tg_command.specs.Simple.{IsTaken, value_of}
 use Rattle.tg_command.specs.declared.Command.{Command}
@@ -19,6 +19,12 @@ pub record Asked : Type 0 where
 -- what a command asks for
 abbrev pub asked_of : Command → Asked
 asked_of c = record { mode = c.mode; file = string_bytes c.file; heap = c.heap; stack = c.stack; steps = c.steps }
+
+-- its sizes and its steps keep their limits
+pub record KeepsLimits (a : Asked) : Type 0 where
+  pub heap : IsWithin heap_limits a.heap
+  pub stack : IsWithin stack_limits a.stack
+  pub steps : IsWithin step_limits a.steps
 
 -- the words ask for this
 pub record Ask (words : List (List ℕ)) (a : Asked) : Type 0 where

@@ -2,7 +2,7 @@ ghost use Rattle.std.specs.Prelude.{◌≡◌, ◌<◌, ℕ, IfNone, IfSome, opt
 ghost use Rattle.tg_command.specs.Counts.{GivesCount, IsCount};
 
 /// The limits of a number: the least and the most, of what it is a multiple, and what stands for it where it is absent.
-#[derive(Clone, Copy, Debug)]
+#[derive(Clone, Copy)]
 pub(crate) struct Limits {
     pub(crate) least: u64,
     pub(crate) most: u64,

@@ -9,8 +9,7 @@ mod simple;
 
 ghost use Rattle.std.specs.Prelude.{◌≡◌, IfErr, IfOk, IsErr, map, string_bytes};
 ghost use Rattle.tg_command.specs.declared.CommandFault.TheVariants.{Memory};
-ghost use Rattle.tg_command.specs.Commands.{Ask, Blames, IsUsageFault, asked_of};
-ghost use Rattle.tg_command.specs.Counts.{IsWithin, heap_limits, stack_limits, step_limits};
+ghost use Rattle.tg_command.specs.Commands.{Ask, Blames, IsUsageFault, KeepsLimits, asked_of};
 
 use counts::{HEAP, STACK, STEPS, count_or_default};
 pub use laws::asks_once;
@@ -59,9 +58,7 @@ pub fn read_words(alloc: Global, words: &[String]) -> Result<Command, CommandFau
     ensures ok { IfOk result (λ c. Ask (map string_bytes words.now) (asked_of c)) }
     ensures usage { IfErr result (λ fault. Blames fault (map string_bytes words.now)) }
     ensures fault { IsUsageFault (map string_bytes words.now) → IsErr result }
-    ensures heap { IfOk result (λ c. IsWithin heap_limits c.heap) }
-    ensures stack { IfOk result (λ c. IsWithin stack_limits c.stack) }
-    ensures steps { IfOk result (λ c. IsWithin step_limits c.steps) }
+    ensures limits { IfOk result (λ c. KeepsLimits (asked_of c)) }
 {
     let values = take_words(alloc, words)?;
     let mode = named(values.mode).ok_or(CommandFault::Usage)?;
@@ -76,6 +73,3 @@ pub fn read_words(alloc: Global, words: &[String]) -> Result<Command, CommandFau
         steps,
     })
 }
-
-#[cfg(test)]
-mod tests;

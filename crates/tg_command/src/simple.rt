@@ -10,7 +10,7 @@ use clap::{Arg, ArgAction, Command, Error};
 use std::alloc::{AllocError, Global};
 
 /// The values of the arguments, as they stand in the words.
-#[derive(Clone, Copy, Debug)]
+#[derive(Clone, Copy)]
 pub(crate) struct Values<'a> {
     pub(crate) mode: &'a str,
     pub(crate) file: &'a str,

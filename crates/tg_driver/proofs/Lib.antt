@@ -18,7 +18,10 @@ pub mod TokenFacts
 pub mod LineLemmas
 pub mod TokensOnce
 pub mod FaultsOnce
-pub mod AnswersOnce
+pub mod SourcesOnce
+pub mod ModesOnce
+pub mod ExactRuns
+pub mod Complete
 pub mod AnswerLemmas
 pub mod ValueExamples
 mod Pieces

@@ -22,7 +22,7 @@ use Rattle.tg_driver.specs.StackCode.{value_code, exit_code, program_code, opera
 use Rattle.tg_driver.specs.Images.{IsImageOf}
 use Rattle.tg_driver.specs.Finishing.{end_of_value}
 use Rattle.tg_driver.specs.Meanings.{Means}
-use Rattle.tg_driver.specs.Causes.{Runs, EndsSilently, outcome_of}
+use Rattle.tg_driver.specs.BuiltRuns.{Runs, EndsSilently, outcome_of}
 use Rattle.tg_driver.proofs.StackSteps.{Path}
 use Rattle.tg_driver.proofs.StackPrograms.{Finishes, program_finishes}
 use Rattle.tg_driver.proofs.Evaluated.{means_end}

@@ -6,7 +6,16 @@ pub mod Finishing
 pub mod Images
 pub mod Sources
 pub mod Statuses
-pub mod Causes
+pub mod BuiltRuns
+pub mod Calls
+pub mod OfFiles
+pub mod Runs
+pub mod CheckMode
+pub mod RunMode
+pub mod ExecMode
+pub mod Modes
+pub mod Answered
+pub mod Laws
 pub mod Named
 pub mod Readings
 pub mod Telling

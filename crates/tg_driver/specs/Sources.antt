@@ -36,6 +36,13 @@ pub record IsSourceOf (text : List ℕ) (names : List (List ℕ)) (tokens : List
   pub notes : List Note
   pub well_typed : finding names program ≡ accepted notes
 
+-- the text is a program
+pub record IsSource (text : List ℕ) : Type 0 where
+  pub names : List (List ℕ)
+  pub tokens : List Spanned
+  pub program : Exp
+  pub source : IsSourceOf text names tokens program
+
 -- The text's first fault, with its rule and its byte: that of its bytes, or where it is tokens that of these, or where they are a
 -- tree that of its types.
 pub data HasFault (text : List ℕ) : Rule → ℕ → Type 0 where

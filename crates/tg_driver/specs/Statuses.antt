@@ -1,9 +1,6 @@
 -- The status and the line of each answer.
-use Rattle.std.specs.Prelude.{ℕ, ◌≡◌, ◌<◌, List, [], ◌++◌, length, codes, Option}
+use Rattle.std.specs.Prelude.{ℕ, List, [], ◌++◌, codes}
 use Rattle.std.specs.Fmt.{decimal}
-use Rattle.std.specs.Io.KnownBytes.{Appends}
-use Rattle.tg_base.specs.Causes.{Rose}
-use Rattle.tg_base.specs.Writes.{TakesFront}
 use Rattle.tg_isa.specs.declared.keywords.AsmRule.{AsmRule}
 use Rattle.tg_isa.specs.declared.keywords.AsmRule.TheVariants.{A1, A2, A3, A4, A5, A6, A7, A8, A9}
 use Rattle.tg_syntax.specs.declared.faults.LexRule.TheVariants.{L1, L2, L3, L4, L5, L6, L7}
@@ -97,8 +94,3 @@ line_of NotBuilt = ended (codes "not built")
 line_of OutOfMemory = ended (codes "out of memory")
 line_of Accepted = []
 line_of (Finished end) = end_line end
-
--- the error sink took the whole line, and this is its status; or the write failed, and the status is 74
-pub data Reports {E : Type 0} (taken : E → Option (List ℕ)) (faults : E → ℕ) (answer : Answer) (err err' : E) (status : ℕ) : Type 0 where
-  told : status ≡ status_of answer → Appends (taken err) (taken err') (line_of answer) → Reports taken faults answer err err' status
-  failed : status ≡ 74 → 0 < length (line_of answer) → Rose (faults err) (faults err') → TakesFront (taken err) (taken err') (line_of answer) → Reports taken faults answer err err' status

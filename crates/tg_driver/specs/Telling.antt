@@ -1,8 +1,9 @@
 -- How an answer is reported.
-use Rattle.std.specs.Prelude.{ℕ, List, Option}
+use Rattle.std.specs.Prelude.{ℕ}
 use Rattle.tg_driver.specs.declared.answers.Answer.{Answer}
 use Rattle.tg_driver.specs.declared.answers.Answer.TheVariants.{Faulty, BadLine, Finished, OutOfMemory}
-use Rattle.tg_driver.specs.Statuses.{Reports}
+use Rattle.tg_driver.specs.Calls.{Stream, Takes}
+use Rattle.tg_driver.specs.Statuses.{line_of, status_of}
 
 -- the line of an answer is a text of its own
 abbrev pub IsFixed : Answer → Type 0
@@ -16,7 +17,11 @@ abbrev pub IsBeforeRun : Answer → Type 0
 IsBeforeRun (Finished end) = ⊥
 IsBeforeRun answer = Unit {0}
 
--- the answer is reported as it is, or, before anything was read or written, as want of memory
-pub data IsReported {E : Type 0} (taken : E → Option (List ℕ)) (faults : E → ℕ) (answer : Answer) (err err' : E) (status : ℕ) : Type 0 where
-  itself : Reports taken faults answer err err' status → IsReported taken faults answer err err' status
-  no_memory : IsBeforeRun answer → Reports taken faults OutOfMemory err err' status → IsReported taken faults answer err err' status
+-- the sink took the line of the answer, and the status is its own; or the line failed, and the status is 74
+abbrev pub IsTold : {E : Type 0} → Stream E → Answer → (status : ℕ) → Type 0
+IsTold err answer status = Takes err (line_of answer) (status_of answer) 74 status
+
+-- the answer is told as it is, or, before anything was read or written, as want of memory
+pub data IsReported {E : Type 0} (err : Stream E) (answer : Answer) (status : ℕ) : Type 0 where
+  itself : IsTold err answer status → IsReported err answer status
+  no_memory : IsBeforeRun answer → IsTold err OutOfMemory status → IsReported err answer status

@@ -1,14 +1,15 @@
 ghost use Rattle.std.specs.Prelude.{◌≡◌};
 ghost use Rattle.tg_driver.specs.Statuses.{line_of, status_of};
+ghost use Rattle.tg_driver.specs.OfFiles.{unread_answer};
 ghost use Rattle.tg_driver.specs.Telling.{IsFixed};
 
 use crate::endings::end_status;
 use crate::faults::Fault;
 use tg_asm::AsmRule;
-use tg_base::RunEnd;
+use tg_base::{RunEnd, ShelfFault};
 
 /// What the program answers, before it reports it.
-#[derive(Clone, Copy, Debug, PartialEq, Eq)]
+#[derive(Clone, Copy)]
 pub(crate) enum Answer {
     /// The words are no command.
     Usage,
@@ -50,6 +51,16 @@ pub(crate) fn line(answer: Answer) -> &'static str
         Answer::OutOfMemory => "tiger: out of memory\n",
         Answer::Accepted => "",
         Answer::Faulty(_) | Answer::BadLine(_, _) | Answer::Finished(_) => unreachable!(),
+    }
+}
+
+/// The answer where the file wasn't read.
+pub(crate) fn unread(fault: ShelfFault) -> Answer
+    ensures { result ≡ unread_answer fault }
+{
+    match fault {
+        ShelfFault::Failed => Answer::Unreadable,
+        ShelfFault::Memory => Answer::OutOfMemory,
     }
 }
 

@@ -11,7 +11,7 @@ use tg_parser::SyntaxRule;
 use tg_types::TypeRule;
 
 /// A rule that a source breaks.
-#[derive(Clone, Copy, Debug, PartialEq, Eq)]
+#[derive(Clone, Copy)]
 pub(crate) enum Rule {
     Lexical(LexRule),
     Syntactic(SyntaxRule),
@@ -19,7 +19,7 @@ pub(crate) enum Rule {
 }
 
 /// The first fault of a source.
-#[derive(Clone, Copy, Debug, PartialEq, Eq)]
+#[derive(Clone, Copy)]
 pub(crate) struct Fault {
     pub(crate) rule: Rule,
     pub(crate) place: Place,

@@ -12,16 +12,14 @@ mod laws;
 mod making;
 mod reading;
 mod running;
+mod streams;
 mod telling;
 mod top;
 
 pub use answers::usage;
-pub use laws::{meaning_of_built, one_answer, sources_are_never_stuck};
+pub use laws::{
+    answers_are_complete, answers_are_exact, meaning_of_built, one_answer, runs_are_exact,
+    sources_are_never_stuck,
+};
+pub use tg_generate::generate;
 pub use top::tiger;
-
-#[cfg(test)]
-mod exec_tests;
-#[cfg(test)]
-mod tests;
-#[cfg(test)]
-mod typing_tests;

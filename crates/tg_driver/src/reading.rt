@@ -19,6 +19,9 @@ use tg_parser::{SyntaxFault, parse};
 use tg_syntax::Program;
 use tg_types::{TypeFault, check};
 
+/// The most bytes of a source.
+pub(crate) const LONGEST: usize = 262_144;
+
 /// A program with its names.
 #[derive(Drop)]
 pub(crate) struct NamedProgram {
@@ -28,7 +31,7 @@ pub(crate) struct NamedProgram {
 }
 
 /// Why a text isn't taken.
-#[derive(Clone, Copy, Debug, PartialEq, Eq)]
+#[derive(Clone, Copy)]
 pub(crate) enum Refusal {
     Fault(Fault),
     /// Want of memory.

@@ -1,42 +1,60 @@
-ghost use Rattle.std.specs.Prelude.{◌≡◌, ◌≤◌, ℕ, List, IfOk};
+ghost use Rattle.std.specs.Prelude.{◌≡◌, ◌≤◌, ⊤, ℕ, List, IfOk};
 ghost use Rattle.tg_syntax.specs.Measures.{size};
 ghost use Rattle.tg_syntax.specs.Plain.{plain};
-ghost use Rattle.tg_command.specs.declared.modes.Mode.TheVariants.{Run};
-ghost use Rattle.tg_command.specs.Commands.{asked_of};
-ghost use Rattle.tg_command.specs.Counts.{IsWithin, heap_limits, stack_limits, step_limits};
-ghost use Rattle.tg_driver.specs.Causes.{HasRun, IsDueOfText, Runs, Untouched};
+ghost use Rattle.tg_command.specs.Commands.{KeepsLimits, asked_of};
+ghost use Rattle.tg_driver.specs.BuiltRuns.{Runs};
+ghost use Rattle.tg_driver.specs.Calls.{shelf_of};
+ghost use Rattle.tg_driver.specs.OfFiles.{OfFile, OrMemory};
 ghost use Rattle.tg_driver.specs.Readings.{IsNamedSource};
+ghost use Rattle.tg_driver.specs.RunMode.{IsRun};
 ghost use Rattle.tg_driver.specs.Runnable.{HasExitForm};
 
-use crate::answers::Answer;
+use crate::answers::{Answer, unread};
 use crate::checking::refused;
 use crate::forms::is_built;
 use crate::making::make;
-use crate::reading::{NamedProgram, read_source};
+use crate::reading::{LONGEST, NamedProgram, read_source};
+use crate::streams::Streams;
 use std::alloc::Global;
-use tg_base::{Memory, RunEnd, Sink, Source};
+use tg_base::{Memory, RunEnd, Shelf, Sink, Source};
 use tg_command::Command;
 use tg_machine::load;
 use tg_syntax::Program;
 
+/// The answer of the mode `run`.
+pub(crate) fn answer_run<H: Shelf, I: Source, O: Sink>(
+    alloc: Global,
+    command: &Command,
+    shelf: &mut H,
+    streams: Streams<I, O>,
+) -> Answer
+    requires { KeepsLimits (asked_of command.now) }
+    ensures due { OrMemory ⊤ (OfFile (shelf_of H.files H.faults shelf.old shelf.new)
+        (asked_of command.now).file 262145 (IsRun (asked_of command.now))) result }
+    ensures files { H.files shelf.new ≡ H.files shelf.old }
+    ensures unread { streams.exit.0.now ≡ streams.entry.input.now }
+    ensures unwritten { streams.exit.1.0.now ≡ streams.entry.out.now }
+{
+    match shelf.read_file(alloc, command.file.as_str(), LONGEST + 1) {
+        Ok(text) => run_text(alloc, command, &text, streams),
+        Err(fault) => unread(fault),
+    }
+}
+
 /// The answer of a source that is to be run.
-pub(crate) fn answer_run<I: Source, O: Sink>(
+fn run_text<I: Source, O: Sink>(
     alloc: Global,
     command: &Command,
     text: &[u8],
-    input: &mut I,
-    out: &mut O,
+    streams: Streams<I, O>,
 ) -> Answer
-    requires mode { command.now.mode ≡ Run }
-    requires heap { IsWithin heap_limits command.now.heap }
-    requires stack { IsWithin stack_limits command.now.stack }
-    requires steps { IsWithin step_limits command.now.steps }
-    ensures due { IsDueOfText (Untouched input.old input.new out.old out.new)
-        (HasRun I.left I.faults O.taken O.faults input.old input.new out.old out.new)
-        (asked_of command.now) text.now result }
+    requires { KeepsLimits (asked_of command.now) }
+    ensures due { OrMemory ⊤ (IsRun (asked_of command.now) text.now) result }
+    ensures unread { streams.exit.0.now ≡ streams.entry.input.now }
+    ensures unwritten { streams.exit.1.0.now ≡ streams.entry.out.now }
 {
     match read_source(alloc, text) {
-        Ok(source) => answer_program(alloc, command, &source, input, out),
+        Ok(source) => answer_program(alloc, command, &source, streams),
         Err(refusal) => refused(refusal),
     }
 }
@@ -46,25 +64,21 @@ fn answer_program<I: Source, O: Sink>(
     alloc: Global,
     command: &Command,
     source: &NamedProgram,
-    input: &mut I,
-    out: &mut O,
+    streams: Streams<I, O>,
 ) -> Answer
-    requires mode { command.now.mode ≡ Run }
-    requires heap { IsWithin heap_limits command.now.heap }
-    requires stack { IsWithin stack_limits command.now.stack }
-    requires steps { IsWithin step_limits command.now.steps }
+    requires limits { KeepsLimits (asked_of command.now) }
     requires source { (text : List ℕ)
         × IsNamedSource text source.now.names (plain source.now.program.body) }
     ensures due { (text : List ℕ)
         → IsNamedSource text source.now.names (plain source.now.program.body)
-        → IsDueOfText (Untouched input.old input.new out.old out.new)
-        (HasRun I.left I.faults O.taken O.faults input.old input.new out.old out.new)
-        (asked_of command.now) text result }
+        → OrMemory ⊤ (IsRun (asked_of command.now) text) result }
+    ensures unread { streams.exit.0.now ≡ streams.entry.input.now }
+    ensures unwritten { streams.exit.1.0.now ≡ streams.entry.out.now }
 {
     if !is_built(&source.program, &source.names) {
         return Answer::NotBuilt;
     }
-    match run_program(alloc, command, &source.program, input, out) {
+    match run_program(alloc, command, &source.program, streams) {
         Ok(end) => Answer::Finished(end),
         Err(_) => Answer::OutOfMemory,
     }
@@ -75,20 +89,18 @@ fn run_program<I: Source, O: Sink>(
     alloc: Global,
     command: &Command,
     program: &Program,
-    input: &mut I,
-    out: &mut O,
+    streams: Streams<I, O>,
 ) -> Result<RunEnd, Memory>
-    requires heap { IsWithin heap_limits command.now.heap }
-    requires stack { IsWithin stack_limits command.now.stack }
-    requires steps { IsWithin step_limits command.now.steps }
+    requires limits { KeepsLimits (asked_of command.now) }
     requires form { HasExitForm (plain program.now.body) }
     requires small { size (plain program.now.body) ≤ 4096 }
     ensures runs { IfOk result (Runs (plain program.now.body)
         command.now.heap command.now.stack command.now.steps) }
-    ensures unread { input.new ≡ input.old }
-    ensures unwritten { out.new ≡ out.old }
+    ensures unread { streams.exit.0.now ≡ streams.entry.input.now }
+    ensures unwritten { streams.exit.1.0.now ≡ streams.entry.out.now }
 {
     let image = make(alloc, program)?;
     let mut machine = load(alloc, &image, command.heap, command.stack)?;
+    let Streams { input, out } = streams;
     Ok(machine.run(input, out, command.steps))
 }

@@ -1,6 +1,7 @@
 ghost use Rattle.std.specs.Prelude.{◌≡◌, ◌≤◌};
-ghost use Rattle.tg_driver.specs.Statuses.{Reports, line_of};
-ghost use Rattle.tg_driver.specs.Telling.{IsReported};
+ghost use Rattle.tg_driver.specs.Calls.{stream_of};
+ghost use Rattle.tg_driver.specs.Statuses.{line_of};
+ghost use Rattle.tg_driver.specs.Telling.{IsReported, IsTold};
 
 use crate::answers::{Answer, line, status};
 use crate::endings::{end_status, write_end};
@@ -11,7 +12,7 @@ use tg_base::{RunEnd, Sink, write_all};
 
 /// Reports an answer on the error sink, and answers its status. After a run it takes no memory.
 pub(crate) fn report<E: Sink>(alloc: Global, err: &mut E, answer: Answer) -> u8
-    ensures reports { IsReported E.taken E.faults answer err.old err.new result }
+    ensures reports { IsReported (stream_of E.taken E.faults err.old err.new) answer result }
     ensures later { E.faults err.old ≤ E.faults err.new }
 {
     match answer {
@@ -24,7 +25,8 @@ pub(crate) fn report<E: Sink>(alloc: Global, err: &mut E, answer: Answer) -> u8
 
 /// Reports a fault of a source, or want of memory where the fault's line finds none.
 fn report_fault<E: Sink>(alloc: Global, err: &mut E, fault: Fault) -> u8
-    ensures reports { IsReported E.taken E.faults (Answer.Faulty fault) err.old err.new result }
+    ensures reports { IsReported (stream_of E.taken E.faults err.old err.new)
+        (Answer.Faulty fault) result }
     ensures later { E.faults err.old ≤ E.faults err.new }
 {
     match fault_line(alloc, fault) {
@@ -35,8 +37,8 @@ fn report_fault<E: Sink>(alloc: Global, err: &mut E, fault: Fault) -> u8
 
 /// Reports a fault of assembly text, or want of memory where its line finds none.
 fn report_line<E: Sink>(alloc: Global, err: &mut E, rule: AsmRule, at: u64) -> u8
-    ensures reports { IsReported E.taken E.faults (Answer.BadLine rule at)
-        err.old err.new result }
+    ensures reports { IsReported (stream_of E.taken E.faults err.old err.new)
+        (Answer.BadLine rule at) result }
     ensures later { E.faults err.old ≤ E.faults err.new }
 {
     match bad_line(alloc, rule, at) {
@@ -48,7 +50,7 @@ fn report_line<E: Sink>(alloc: Global, err: &mut E, rule: AsmRule, at: u64) -> u
 /// Writes the line of an answer, and answers its status, or 74 where the write fails.
 fn tell<E: Sink>(err: &mut E, answer: Answer, line: &str) -> u8
     requires { line.now ≡ line_of answer }
-    ensures reports { Reports E.taken E.faults answer err.old err.new result }
+    ensures told { IsTold (stream_of E.taken E.faults err.old err.new) answer result }
     ensures later { E.faults err.old ≤ E.faults err.new }
 {
     match write_all(err, line.as_bytes()) {
@@ -59,7 +61,8 @@ fn tell<E: Sink>(err: &mut E, answer: Answer, line: &str) -> u8
 
 /// Writes the line of an end of the machine, and answers its status, or 74 where the write fails.
 fn tell_end<E: Sink>(err: &mut E, end: RunEnd) -> u8
-    ensures reports { Reports E.taken E.faults (Answer.Finished end) err.old err.new result }
+    ensures told { IsTold (stream_of E.taken E.faults err.old err.new)
+        (Answer.Finished end) result }
     ensures later { E.faults err.old ≤ E.faults err.new }
 {
     match write_end(err, end) {

@@ -1,22 +1,18 @@
 ghost use Rattle.std.specs.Prelude.{◌≡◌, ◌≤◌, map, string_bytes};
-ghost use Rattle.tg_command.specs.Commands.{asked_of};
-ghost use Rattle.tg_command.specs.Counts.{IsWithin, heap_limits, stack_limits, step_limits};
-ghost use Rattle.tg_driver.specs.Causes.{
-  Answers,
-  HasRun,
-  IsDue,
-  IsDueOfText,
-  Untouched,
-  most_of,
-};
+ghost use Rattle.tg_command.specs.Commands.{KeepsLimits, asked_of};
+ghost use Rattle.tg_driver.specs.Answered.{Answers, IsDue};
+ghost use Rattle.tg_driver.specs.Calls.{Untouched, call_of, shelf_of, stream_of, streams_of};
+ghost use Rattle.tg_driver.specs.Modes.{InMode};
+ghost use Rattle.tg_driver.specs.OfFiles.{OrMemory};
 
 use crate::answers::Answer;
 use crate::checking::answer_check;
 use crate::executing::answer_exec;
 use crate::running::answer_run;
+use crate::streams::Streams;
 use crate::telling::report;
 use std::alloc::Global;
-use tg_base::{Shelf, ShelfFault, Sink, Source};
+use tg_base::{Shelf, Sink, Source};
 use tg_command::{Command, CommandFault, Mode, read_words};
 
 /// The program: reads the words of a command, does what they ask, and answers the exit status.
@@ -28,14 +24,15 @@ pub fn tiger<H: Shelf, I: Source, O: Sink, E: Sink>(
     out: &mut O,
     err: &mut E,
 ) -> u8
-    ensures answers { Answers (Untouched input.old input.new out.old out.new)
-        (HasRun I.left I.faults O.taken O.faults input.old input.new out.old out.new)
-        (map string_bytes words.now) (H.files shelf.old)
-        (H.faults shelf.old) (H.faults shelf.new) E.taken E.faults err.old err.new result }
+    ensures answers { Answers (call_of (map string_bytes words.now)
+        (shelf_of H.files H.faults shelf.old shelf.new)
+        (stream_of I.left I.faults input.old input.new)
+        (stream_of O.taken O.faults out.old out.new)
+        (stream_of E.taken E.faults err.old err.new)) result }
     ensures files { H.files shelf.new ≡ H.files shelf.old }
     ensures err_later { E.faults err.old ≤ E.faults err.new }
 {
-    let answer = answer_words(alloc, words, shelf, input, out);
+    let answer = answer_words(alloc, words, shelf, Streams { input, out });
     report(alloc, err, answer)
 }
 
@@ -44,55 +41,45 @@ fn answer_words<H: Shelf, I: Source, O: Sink>(
     alloc: Global,
     words: &[String],
     shelf: &mut H,
-    input: &mut I,
-    out: &mut O,
+    streams: Streams<I, O>,
 ) -> Answer
-    ensures due { IsDue (Untouched input.old input.new out.old out.new)
-        (HasRun I.left I.faults O.taken O.faults input.old input.new out.old out.new)
-        (map string_bytes words.now) (H.files shelf.old)
-        (H.faults shelf.old) (H.faults shelf.new) result }
+    ensures due { IsDue (map string_bytes words.now)
+        (shelf_of H.files H.faults shelf.old shelf.new)
+        (streams_of
+        (stream_of I.left I.faults streams.entry.input.now streams.exit.0.now)
+        (stream_of O.taken O.faults streams.entry.out.now streams.exit.1.0.now))
+        result }
     ensures files { H.files shelf.new ≡ H.files shelf.old }
 {
-    let command = match read_words(alloc, words) {
-        Ok(command) => command,
-        Err(CommandFault::Usage) => return Answer::Usage,
-        Err(CommandFault::Memory) => return Answer::OutOfMemory,
-    };
-    match shelf.read_file(alloc, command.file.as_str(), most(command.mode)) {
-        Ok(text) => answer_text(alloc, &command, &text, input, out),
-        Err(ShelfFault::Failed) => Answer::Unreadable,
-        Err(ShelfFault::Memory) => Answer::OutOfMemory,
+    match read_words(alloc, words) {
+        Ok(command) => answer_command(alloc, &command, shelf, streams),
+        Err(CommandFault::Usage) => Answer::Usage,
+        Err(CommandFault::Memory) => Answer::OutOfMemory,
     }
 }
 
-/// The most bytes that the shelf is asked for: one more than the file of a mode may have.
-fn most(mode: Mode) -> usize
-    ensures { result ≡ most_of mode }
-{
-    match mode {
-        Mode::Exec => 67_108_865,
-        _ => 262_145,
-    }
-}
-
-/// The answer that is due to a command for the text of its file.
-fn answer_text<I: Source, O: Sink>(
+/// The answer to a command, by its mode.
+fn answer_command<H: Shelf, I: Source, O: Sink>(
     alloc: Global,
     command: &Command,
-    text: &[u8],
-    input: &mut I,
-    out: &mut O,
+    shelf: &mut H,
+    streams: Streams<I, O>,
 ) -> Answer
-    requires heap { IsWithin heap_limits command.now.heap }
-    requires stack { IsWithin stack_limits command.now.stack }
-    requires steps { IsWithin step_limits command.now.steps }
-    ensures due { IsDueOfText (Untouched input.old input.new out.old out.new)
-        (HasRun I.left I.faults O.taken O.faults input.old input.new out.old out.new)
-        (asked_of command.now) text.now result }
+    requires { KeepsLimits (asked_of command.now) }
+    ensures due { let left_alone = Untouched (streams_of
+        (stream_of I.left I.faults streams.entry.input.now streams.exit.0.now)
+        (stream_of O.taken O.faults streams.entry.out.now streams.exit.1.0.now)) in
+        OrMemory left_alone (InMode command.now.mode
+        (shelf_of H.files H.faults shelf.old shelf.new)
+        (streams_of
+        (stream_of I.left I.faults streams.entry.input.now streams.exit.0.now)
+        (stream_of O.taken O.faults streams.entry.out.now streams.exit.1.0.now))
+        (asked_of command.now)) result }
+    ensures files { H.files shelf.new ≡ H.files shelf.old }
 {
     match command.mode {
-        Mode::Check => answer_check(alloc, text),
-        Mode::Run => answer_run(alloc, command, text, input, out),
-        Mode::Exec => answer_exec(alloc, command, text, input, out),
+        Mode::Check => answer_check(alloc, command, shelf),
+        Mode::Run => answer_run(alloc, command, shelf, streams),
+        Mode::Exec => answer_exec(alloc, command, shelf, streams),
     }
 }

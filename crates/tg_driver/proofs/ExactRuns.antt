@@ -1,0 +1,51 @@
+-- Runs whose reads and writes all succeed are those of the definition.
+use Rattle.std.proofs.Common.{ℕ, ◌≡◌, List, [], ◌++◌, Option, Some, refl, sym, ap, subst, ◌∙◌, append-nil}
+use Rattle.std.specs.Io.KnownBytes.{Appends}
+use Rattle.tg_base.specs.declared.ends.RunEnd.{RunEnd}
+use Rattle.tg_base.specs.declared.ends.RunEnd.TheVariants.{ReadFault, WriteFault}
+use Rattle.tg_base.specs.State.{start}
+use Rattle.tg_isa.specs.declared.images.Image.{Image}
+use Rattle.tg_isa.specs.Runs.{World, run, begun, answers}
+use Rattle.tg_machine.specs.Ran.{Stops, still, ended, read_failed, write_failed, Tells}
+use Rattle.tg_driver.specs.Calls.{Streams}
+use Rattle.tg_driver.specs.Runs.{HasRun, EndsOn, end_in, world_in, outcome_on, IsExact}
+use Rattle.tg_driver.specs.Laws.{IsFaultless}
+
+-- the outcome, by its parts
+record Comes (n : ℕ) (w : World) (e : RunEnd) (last : World) (front : List ℕ) : Type 0 where
+  end_is : e ≡ end_in (run n w)
+  last_is : last ≡ world_in (run n w)
+  no_front : front ≡ []
+
+comes : (n : ℕ) (w : World) (e : RunEnd) (last : World) (front : List ℕ) → (e ≡ ReadFault → ⊥) → (e ≡ WriteFault → ⊥) → Stops n w e last front → Comes n w e last front
+comes n w e last front r s (still q p f) = record { end_is = p ∙ sym (ap end_in q); last_is = sym (ap world_in q); no_front = f }
+comes n w e last front r s (ended q f) = record { end_is = sym (ap end_in q); last_is = sym (ap world_in q); no_front = f }
+comes n w e last front r s (read_failed i l q p d f) = absurd (r d)
+comes n w e last front r s (write_failed i rest l q p d) = absurd (s d)
+
+whole : (written front : List ℕ) → front ≡ [] → written ++ front ≡ written
+whole written front e = ap (λ f. written ++ f) e ∙ append-nil written
+
+pub exact_run : {I O : Type 0} (s : Streams I O) (image : Image) (heap stack steps : ℕ) (end : RunEnd) (bytes : List ℕ) → HasRun s image heap stack steps end → IsFaultless s bytes → IsExact s image heap stack steps end bytes
+exact_run s image heap stack steps end bytes h f =
+    let r = h.ran in
+    let T : Option (List ℕ) → Type 0 = λ o. Tells o r.input_before in
+    let same : r.input_before ≡ answers bytes = subst T f.tells r.told in
+    let S : List (Option ℕ) → Type 0 = λ i. Stops steps (begun (start image.code image.statics image.entry heap stack) i) end r.last r.front in
+    let c = comes steps _ end r.last r.front (λ d. f.all_read (r.read_cause d)) (λ d. f.all_written (r.write_cause d)) (subst S same r.stops) in
+    let W : List ℕ → Type 0 = λ w. Appends (s.out.told s.out.before) (s.out.told s.out.after) w in
+    let R : World → Type 0 = λ w. Tells (s.input.told s.input.after) w.input in
+    record {
+      ends = c.end_is;
+      writes = subst W (whole r.last.output r.front c.no_front ∙ ap (λ w. w.output) c.last_is) r.writes;
+      rest = subst R c.last_is r.rest;
+    }
+
+-- two such runs on the same bytes end alike
+pub exact_alike : {I O J P : Type 0} (s : Streams I O) (t : Streams J P) (bytes : List ℕ) (image : Image) (heap stack steps : ℕ) (d e : RunEnd) → IsFaultless s bytes → IsFaultless t bytes → HasRun s image heap stack steps d → HasRun t image heap stack steps e → d ≡ e
+exact_alike s t bytes image heap stack steps d e f g p q =
+    (exact_run s image heap stack steps d bytes p f).ends ∙ sym ((exact_run t image heap stack steps e bytes q g).ends)
+
+pub ends_as_told : {I O : Type 0} (s : Streams I O) (image : Image) (heap stack steps : ℕ) (d e : RunEnd) → ((bytes : List ℕ) → s.input.told s.input.before ≡ Some bytes → IsFaultless s bytes) → HasRun s image heap stack steps d → EndsOn (s.input.told s.input.before) image heap stack steps e → d ≡ e
+ends_as_told s image heap stack steps d e faultless p q =
+    (exact_run s image heap stack steps d q.bytes p (faultless q.bytes q.told_are)).ends ∙ sym q.ends

@@ -1,0 +1,124 @@
+-- A text has at most one answer in each mode.
+use Rattle.std.specs.Prelude.{Result, Ok, Err}
+use Rattle.std.proofs.Common.{ℕ, ◌≡◌, ◌<◌, ◌≤◌, ◌⊎◌, inl, inr, List, length, refl, sym, ap, subst, arith, ◌∙◌}
+use Rattle.tg_base.specs.declared.ends.RunEnd.{RunEnd}
+use Rattle.tg_isa.specs.declared.images.Image.{Image}
+use Rattle.tg_isa.specs.Assembly.{Assembled, Fault as AsmFault, assembled}
+use Rattle.tg_asm.specs.Images.{image_of}
+use Rattle.tg_command.specs.declared.modes.Mode.{Mode}
+use Rattle.tg_command.specs.declared.modes.Mode.TheVariants.{Check, Run, Exec}
+use Rattle.tg_command.specs.Commands.{Asked}
+use Rattle.tg_driver.specs.declared.answers.Answer.{Answer}
+use Rattle.tg_driver.specs.declared.answers.Answer.TheVariants.{Faulty, BadLine, TooLong, Accepted, NotBuilt, Finished}
+use Rattle.tg_driver.specs.Answered.{IsEnded}
+use Rattle.tg_driver.specs.Runs.{RunRelation}
+use Rattle.tg_driver.specs.CheckMode.{IsChecked}
+use Rattle.tg_driver.specs.RunMode.{IsRun}
+use Rattle.tg_driver.specs.ExecMode.{EndsImage, IsExecuted}
+use Rattle.tg_driver.specs.Modes.{IsDueOfText}
+use Rattle.tg_driver.proofs.FaultsOnce.{fault_once_told}
+use Rattle.tg_driver.proofs.SourcesOnce.{no_fault, no_fault_of_other, no_fault_of_built, not_both, built_once}
+
+checked_once : (text : List ℕ) (a b : Answer) → IsChecked text a → IsChecked text b → a ≡ b
+checked_once text (Faulty f) (Faulty g) p q = ap Faulty (fault_once_told text f g p q)
+checked_once text (Faulty f) Accepted p q = absurd (no_fault text f p q)
+checked_once text (Faulty f) _ p q = absurd q
+checked_once text Accepted (Faulty f) p q = absurd (no_fault text f q p)
+checked_once text Accepted Accepted p q = refl
+checked_once text Accepted _ p q = absurd q
+checked_once text _ b p q = absurd p
+
+run_once : (asked : Asked) (text : List ℕ) (a b : Answer) → IsRun asked text a → IsRun asked text b → a ≡ b
+run_once asked text (Faulty f) (Faulty g) p q = ap Faulty (fault_once_told text f g p q)
+run_once asked text (Faulty f) NotBuilt p q = absurd (no_fault_of_other text f p q)
+run_once asked text (Faulty f) (Finished e) p q = absurd (no_fault_of_built asked text f e p q)
+run_once asked text (Faulty f) _ p q = absurd q
+run_once asked text NotBuilt (Faulty f) p q = absurd (no_fault_of_other text f q p)
+run_once asked text NotBuilt NotBuilt p q = refl
+run_once asked text NotBuilt (Finished e) p q = absurd (not_both asked text e p q)
+run_once asked text NotBuilt _ p q = absurd q
+run_once asked text (Finished d) (Faulty f) p q = absurd (no_fault_of_built asked text f d q p)
+run_once asked text (Finished d) NotBuilt p q = absurd (not_both asked text d q p)
+run_once asked text (Finished d) (Finished e) p q = ap Finished (built_once asked text d e p q)
+run_once asked text (Finished d) _ p q = absurd q
+run_once asked text _ b p q = absurd p
+
+-- the fault and the image of a text that has one
+fault_in : Result Assembled AsmFault → AsmFault → AsmFault
+fault_in (Ok image) otherwise = otherwise
+fault_in (Err e) otherwise = e
+
+same_fault : (text : List ℕ) (e f : AsmFault) → assembled text ≡ Err e → assembled text ≡ Err f → e ≡ f
+unfolding fault_in
+same_fault text e f p q = ap (λ (r : Result Assembled AsmFault). fault_in r e) (sym p ∙ q)
+
+image_in : Result Assembled AsmFault → Assembled → Assembled
+image_in (Ok image) otherwise = image
+image_in (Err e) otherwise = otherwise
+
+same_image : (text : List ℕ) (i j : Image) → assembled text ≡ Ok (image_of i) → assembled text ≡ Ok (image_of j) → i ≡ j
+unfolding image_in
+same_image text i j p q =
+    let one : image_of i ≡ image_of j = ap (λ (r : Result Assembled AsmFault). image_in r (image_of i)) (sym p ∙ q) in
+    λ k. record { code = (one k).code; statics = (one k).statics; entry = (one k).entry }
+
+no_image : (text : List ℕ) (i : Assembled) (e : AsmFault) → assembled text ≡ Ok i → assembled text ≡ Err e → ⊥
+no_image text i e p q = let h : Ok i ≡ Err e = sym p ∙ q in cc
+
+bad_as : AsmFault → Answer
+bad_as e = BadLine e.rule e.line
+
+too_long : (text : List ℕ) → length text ≤ 67108864 → 67108864 < length text → ⊥
+too_long text s l = absurd (omega (arith, s, l))
+
+-- what is said of the runs of one image leaves one end
+AreAlike : (runs others : RunRelation) → Asked → Type 0
+AreAlike runs others asked = (image : Image) (d e : RunEnd) → runs image asked.heap asked.stack asked.steps d → others image asked.heap asked.stack asked.steps e → d ≡ e
+
+ended_once : (runs others : RunRelation) (asked : Asked) (text : List ℕ) (d e : RunEnd) → AreAlike runs others asked → EndsImage runs asked text d → EndsImage others asked text e → d ≡ e
+unfolding AreAlike
+ended_once runs others asked text d e alike p q =
+    let P : Image → Type 0 = λ i. runs i asked.heap asked.stack asked.steps d in
+    alike q.image d e (subst P (same_image text p.image q.image p.assembles q.assembles) p.run) q.run
+
+-- in `exec` two answers are one, or two ends
+pub executed_alike : (runs others : RunRelation) (asked : Asked) (text : List ℕ) (a b : Answer) → IsExecuted runs asked text a → IsExecuted others asked text b → (a ≡ b) ⊎ (IsEnded a × IsEnded b)
+unfolding bad_as
+executed_alike runs others asked text TooLong TooLong p q = inl refl
+executed_alike runs others asked text TooLong (BadLine r n) p q = absurd (too_long text q.short p)
+executed_alike runs others asked text TooLong (Finished e) p q = absurd (too_long text q.short p)
+executed_alike runs others asked text TooLong _ p q = absurd q
+executed_alike runs others asked text (BadLine r n) TooLong p q = absurd (too_long text p.short q)
+executed_alike runs others asked text (BadLine r n) (BadLine s k) p q = inl (ap bad_as (same_fault text _ _ p.fault q.fault))
+executed_alike runs others asked text (BadLine r n) (Finished e) p q = absurd (no_image text _ _ q.assembles p.fault)
+executed_alike runs others asked text (BadLine r n) _ p q = absurd q
+executed_alike runs others asked text (Finished d) TooLong p q = absurd (too_long text p.short q)
+executed_alike runs others asked text (Finished d) (BadLine s k) p q = absurd (no_image text _ _ p.assembles q.fault)
+executed_alike runs others asked text (Finished d) (Finished e) p q = inr (tt, tt)
+executed_alike runs others asked text (Finished d) _ p q = absurd q
+executed_alike runs others asked text _ b p q = absurd p
+
+executed_once : (runs others : RunRelation) (asked : Asked) (text : List ℕ) (a b : Answer) → AreAlike runs others asked → IsExecuted runs asked text a → IsExecuted others asked text b → a ≡ b
+executed_once runs others asked text a b alike p q = by a b p q (executed_alike runs others asked text a b p q)
+  where
+    by : (a b : Answer) → IsExecuted runs asked text a → IsExecuted others asked text b → (a ≡ b) ⊎ (IsEnded a × IsEnded b) → a ≡ b
+    by a b p q (inl e) = e
+    by (Finished d) (Finished e) p q (inr both) = ap Finished (ended_once runs others asked text d e alike p q)
+    by a (Finished e) p q (inr both) = absurd (both.0)
+    by a b p q (inr both) = absurd (both.1)
+
+-- whatever the mode
+pub due_alike : (runs : RunRelation) (mode : Mode) (asked : Asked) (text : List ℕ) (a b : Answer) → IsDueOfText runs mode asked text a → IsDueOfText runs mode asked text b → (a ≡ b) ⊎ ((mode ≡ Exec) × IsEnded a × IsEnded b)
+due_alike runs Check asked text a b p q = inl (checked_once text a b p q)
+due_alike runs Run asked text a b p q = inl (run_once asked text a b p q)
+due_alike runs Exec asked text a b p q = by (executed_alike runs runs asked text a b p q)
+  where
+    by : (a ≡ b) ⊎ (IsEnded a × IsEnded b) → (a ≡ b) ⊎ ((Exec ≡ Exec) × IsEnded a × IsEnded b)
+    by (inl e) = inl e
+    by (inr both) = inr (refl, both.0, both.1)
+
+pub due_once : (runs others : RunRelation) (mode : Mode) (asked : Asked) (text : List ℕ) (a b : Answer) → ((image : Image) (d e : RunEnd) → runs image asked.heap asked.stack asked.steps d → others image asked.heap asked.stack asked.steps e → d ≡ e) → IsDueOfText runs mode asked text a → IsDueOfText others mode asked text b → a ≡ b
+unfolding AreAlike
+due_once runs others Check asked text a b alike p q = checked_once text a b p q
+due_once runs others Run asked text a b alike p q = run_once asked text a b p q
+due_once runs others Exec asked text a b alike p q = executed_once runs others asked text a b alike p q

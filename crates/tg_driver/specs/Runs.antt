@@ -1,0 +1,59 @@
+-- Runs of the machine on the streams of a call.
+use Rattle.std.specs.Prelude.{ℕ, ◌≡◌, List, Option, Some}
+use Rattle.std.specs.Io.KnownBytes.{Appends}
+use Rattle.tg_base.specs.declared.ends.RunEnd.{RunEnd}
+use Rattle.tg_base.specs.declared.ends.RunEnd.TheVariants.{StepLimit}
+use Rattle.tg_base.specs.State.{start}
+use Rattle.tg_isa.specs.declared.images.Image.{Image}
+use Rattle.tg_isa.specs.Runs.{World, Outcome, Running, Ended, run, begun, answers}
+use Rattle.tg_machine.specs.Machines.{Simulated, loaded}
+use Rattle.tg_machine.specs.Ran.{Ran, Tells}
+use Rattle.tg_driver.specs.declared.answers.Answer.{Answer}
+use Rattle.tg_driver.specs.declared.answers.Answer.TheVariants.{OutOfMemory, Finished}
+use Rattle.tg_driver.specs.Calls.{Streams, Untouched}
+
+-- what may be said of a run of an image with these sizes and steps that ends so
+abbrev pub RunRelation : Type 1
+RunRelation = Image → (heap stack steps : ℕ) → RunEnd → Type 0
+
+-- the machine ran the image on the streams with these sizes and steps, and it ended so
+pub record HasRun {I O : Type 0} (s : Streams I O) (image : Image) (heap stack steps : ℕ) (end : RunEnd) : Type 0 where
+  pub after : Simulated
+  pub ran :
+      Ran s.input.told s.input.faults s.out.told s.out.faults steps (loaded image heap stack) after
+      s.input.before s.input.after s.out.before s.out.after end
+
+-- the answer is the end of such a run; or memory was wanting for it, and nothing was touched
+abbrev pub IsRunOrMemory : {I O : Type 0} → Streams I O → Image → (heap stack steps : ℕ) → Answer → Type 0
+IsRunOrMemory s image heap stack steps (Finished end) = HasRun s image heap stack steps end
+IsRunOrMemory s image heap stack steps OutOfMemory = Untouched s
+IsRunOrMemory s image heap stack steps _ = ⊥
+
+-- the end of an outcome, and its world: the steps are used up where the machine still runs
+abbrev pub end_in : Outcome → RunEnd
+end_in (Running w) = StepLimit
+end_in (Ended e w) = e
+
+abbrev pub world_in : Outcome → World
+world_in (Running w) = w
+world_in (Ended e w) = w
+
+-- what comes of an image with these sizes and steps on an input of these bytes
+abbrev pub outcome_on : Image → (heap stack steps : ℕ) (bytes : List ℕ) → Outcome
+outcome_on image heap stack steps bytes =
+    run steps (begun (start image.code image.statics image.entry heap stack) (answers bytes))
+
+-- so the run ends, where the input tells its bytes
+pub record EndsOn (told : Option (List ℕ)) (image : Image) (heap stack steps : ℕ) (end : RunEnd) : Type 0 where
+  pub bytes : List ℕ
+  pub told_are : told ≡ Some bytes
+  pub ends : end ≡ end_in (outcome_on image heap stack steps bytes)
+
+-- the run ended as it does on these bytes, wrote what it writes there, and left what it leaves
+pub record IsExact {I O : Type 0} (s : Streams I O) (image : Image) (heap stack steps : ℕ) (end : RunEnd) (bytes : List ℕ) : Type 0 where
+  pub ends : end ≡ end_in (outcome_on image heap stack steps bytes)
+  pub writes :
+      Appends (s.out.told s.out.before) (s.out.told s.out.after)
+      (world_in (outcome_on image heap stack steps bytes)).output
+  pub rest :
+      Tells (s.input.told s.input.after) (world_in (outcome_on image heap stack steps bytes)).input
