@@ -4,11 +4,11 @@ use Rattle.std.specs.Prelude.{◌≢◌, ◌==◌, nat_lt, if◌then◌else◌}
 use Rattle.tg_base.specs.State.{heap_base}
 use Rattle.tg_runs.specs.Runs.{Run}
 use Rattle.tg_runs.specs.Ran.{Ran, Stop, WantsFuel, Wrong, writes, works}
-use Rattle.tg_tree.specs.Memory.{Memory, Cell, Closed, Unset, Has, Spot, in_statics, in_heap, elsewhere, spot, cell_word, cell_byte, word_in, byte_in, load, load_byte, put_open, put_byte, with_byte, store_in, store_byte_in, store, store_byte}
+use Rattle.tg_tree.specs.Memory.{Memory, Cell, Closed, Unset, Has, Kept, Spot, in_statics, in_heap, elsewhere, spot, cell_word, cell_byte, word_in, byte_in, load, load_byte, put_open, put_byte, with_byte, store_in, store_byte_in, store, store_byte}
 use Rattle.tg_tree.specs.Actions.{World, Back, over, with_word, with_memory, with_text, before, text_from, take_heap, read_byte}
 use Rattle.tg_tree.specs.Running.{with_fuel}
 use Rattle.tg_tree.specs.Holding as holding
-use Rattle.tg_tree.specs.Holding.{HoldsToo, unset, set, CellHoldsToo, not_stored, stored_to, stored, TempsHoldToo, WorldHoldsToo, in_stack}
+use Rattle.tg_tree.specs.Holding.{HoldsToo, unset, set, CellHoldsToo, not_stored, stored_to, stored, kept, TempsHoldToo, WorldHoldsToo, in_stack}
 use Rattle.tg_tree.proofs.Relating.{Related, Keeps, AlikeBack, AlikeWorld, with_put}
 
 -- as far as so much fuel
@@ -36,17 +36,20 @@ cell_words c c' (holding.elsewhere d) = unset (cell_word d)
 cell_words c c' not_stored = unset None
 cell_words c c' (stored_to v) = unset (Some v)
 cell_words c c' (stored v) = set v
+cell_words c c' (kept r) = unset None
 
 cell_bytes : (k : ℕ) (c c' : Cell) → CellHoldsToo c c' → HoldsToo (cell_byte c k) (cell_byte c' k)
 cell_bytes k c c' (holding.elsewhere d) = unset (cell_byte d k)
 cell_bytes k c c' not_stored = unset None
 cell_bytes k c c' (stored_to v) = unset (cell_byte (Has v) k)
 cell_bytes k c c' (stored v) = set _
+cell_bytes k c c' (kept r) = unset None
 
 same_cell : (c : Cell) → CellHoldsToo c c
 same_cell Closed = holding.elsewhere Closed
 same_cell Unset = not_stored
 same_cell (Has v) = stored v
+same_cell (Kept r) = kept r
 
 put_cell : (b : Bool) (c d p q : Cell) → CellHoldsToo c d → CellHoldsToo p q → CellHoldsToo (if b then c else p) (if b then d else q)
 put_cell true c d p q h k = h
@@ -88,6 +91,7 @@ module _ (statics heap input : List ℕ) (cells cells' : ℕ → Cell) (more : (
     opened a v c c' not_stored = h _ _ (is_put a (Has v) (Has v) (stored v))
     opened a v c c' (stored_to u) = h _ _ (is_put a (Has v) (Has v) (stored v))
     opened a v c c' (stored u) = h _ _ (is_put a (Has v) (Has v) (stored v))
+    opened a v c c' (kept r) = h _ _ (is_put a (Has v) (Has v) (stored v))
 
     store_spot : (a v : ℕ) (s : Spot) → Filled n first (with_memory (store_in first.memory a s v) first p) (with_memory (store_in second.memory a s v) second q)
     store_spot a v (in_statics i) = h _ _ (in_stack _ heap input cells cells' more)
@@ -106,6 +110,7 @@ module _ (statics heap input : List ℕ) (cells cells' : ℕ → Cell) (more : (
     byte_opened a k v c c' not_stored = goes_wrong n first _
     byte_opened a k v c c' (stored_to u) = goes_wrong n first _
     byte_opened a k v c c' (stored u) = h _ _ (is_put a (Has (with_byte u k v)) (Has (with_byte u k v)) (stored (with_byte u k v)))
+    byte_opened a k v c c' (kept r) = goes_wrong n first _
 
     byte_store_spot : (a v : ℕ) (s : Spot) → Filled n first (with_memory (store_byte_in first.memory a s v) first p) (with_memory (store_byte_in second.memory a s v) second q)
     byte_store_spot a v (in_statics i) = h _ _ (in_stack _ heap input cells cells' more)

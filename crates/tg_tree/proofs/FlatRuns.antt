@@ -1,5 +1,5 @@
 -- Runs of flat code: each is its own step, goes on with more fuel alone, and reads nothing but what is set.
-use Rattle.std.proofs.Common.{◌≡◌, ℕ, ◌<◌, ◌≤◌, List, [], ◌∷◌, Option, Some, None, arith}
+use Rattle.std.proofs.Common.{◌≡◌, ℕ, ◌<◌, ◌≤◌, List, [], ◌∷◌, length, Option, Some, None, arith}
 use Rattle.std.specs.Prelude.{pos}
 use Rattle.tg_base.specs.declared.ends.RunEnd.TheVariants.{Exit, Break}
 use Rattle.tg_base.specs.State.{stack_top}
@@ -9,7 +9,7 @@ use Rattle.tg_runs.proofs.Fixpoint.{again_is, runs_relate}
 use Rattle.tg_tree.specs.Tree.{Linear, Mark, Do', Jump, Branch, Fault', Return', Code}
 use Rattle.tg_tree.specs.Operators.{holds}
 use Rattle.tg_tree.specs.Memory.{begin}
-use Rattle.tg_tree.specs.Units.{Canonical, element_units}
+use Rattle.tg_tree.specs.Units.{Canonical, element_units, entry_units}
 use Rattle.tg_tree.specs.Actions.{World, Temps, Around, Back, wrong}
 use Rattle.tg_tree.specs.Meaning.{Point}
 use Rattle.tg_tree.specs.Running.{function_of}
@@ -34,9 +34,9 @@ module _ (R : Related) (W : RelatedWorlds) (T : RelatedTemps) where
     module _ (code : Code (List Linear)) (size : ℕ → ℕ) (floor room n : ℕ) (c d : FlatPoint → Run Ran) (later : (m : ℕ) → m < n → (x y : FlatPoint) → AlikeFlat m x y → R m x.world (c x) (d y)) where
       pub keep_enter_flat : (label : ℕ) (vs : List ℕ) (top : ℕ) (back back' : Back) (w x : World) → W w x → AlikeBack R W T n back back' → R n w (enter_flat code size floor room c label vs top back w) (enter_flat code size floor room d label vs top back' x)
       keep_enter_flat label vs top back back' w x r h =
-          keep_entered R W T keeps n size floor _ _
+          keeps.work n (entry_units (length vs)) w _ _ (keep_entered R W T keeps n size floor _ _
           (λ all e e' w1 x1 t1 u1 he r1 s1. keeps.fuel n w1 x1 _ _ r1 (λ m lt. later m lt _ _ (alike_flat all all e e' w1 x1 t1 u1 (around_down R W T keeps m n e e' (omega arith) he) r1 s1)))
-          (function_of label code.functions) vs top back back' w x r h
+          (function_of label code.functions) vs top back back' w x r h)
 
       no_loop : (x y : Point) → Alike R W T n x y → R n x.world (wrong x.world) (wrong y.world)
       no_loop x y (alike s e e' g g' w v t u h l r q) = keeps.stop n Wrong w v r

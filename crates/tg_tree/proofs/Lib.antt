@@ -8,3 +8,4 @@ pub mod FlatRuns
 pub mod FlatValues
 pub mod ListLaws
 pub mod Flatness
+pub mod Linking

@@ -1,6 +1,6 @@
 -- What holds of what comes next holds of the run: one induction over trees, for any relation of two runs, of two worlds and of two
 -- activations' temporaries that the steps keep.
-use Rattle.std.proofs.Common.{◌≡◌, ℕ, zero, suc, ◌+◌, ◌-◌, ◌^◌, ◌%◌, ◌<◌, ◌≤◌, List, [], ◌∷◌, ◌++◌, length, Bool, true, false, Option, Some, None, refl}
+use Rattle.std.proofs.Common.{◌≡◌, ℕ, zero, suc, ◌+◌, ◌-◌, ◌^◌, ◌%◌, ◌<◌, ◌≤◌, List, [], ◌∷◌, ◌++◌, Bool, true, false, Option, Some, None, refl}
 use Rattle.std.specs.Prelude.{◌==◌, not, nat_lt, pos, if◌then◌else◌}
 use Rattle.std.specs.Fmt.{signed_decimal}
 use Rattle.tg_base.specs.declared.ends.RunEnd.TheVariants.{Exit, Break as Broken, StackFull, BadService}
@@ -15,7 +15,7 @@ use Rattle.tg_tree.specs.Operators.{Given, word, stops_by, operate, holds}
 use Rattle.tg_tree.specs.Memory.{Cell, Unset, Closed, Has, put, slot, lay, load, load_byte, store, store_byte, literal_address}
 use Rattle.tg_tree.specs.Actions.{World, Temps, set_temp, Activation, Around, Acts, Go, Next, Out, Back, over, charged, written, with_word, with_given, with_memory, leaving, with_text, text_from, take_heap, read_byte, service}
 use Rattle.tg_tree.specs.Meaning.{Enter, Point, value, values, test, run, run_all}
-use Rattle.tg_tree.specs.Units.{Stage, expression_units, argument_units, condition_units, statement_units, entry_units}
+use Rattle.tg_tree.specs.Units.{Stage, expression_units, argument_units, condition_units, statement_units}
 use Rattle.tg_tree.specs.Running.{Runner, with_fuel, placed, entered, with_slots, without_slots, no_temps}
 
 -- two runs, as far as so much fuel, from a world of the first
@@ -185,7 +185,7 @@ module _ (R : Related) (W : RelatedWorlds) (T : RelatedTemps) where
               keeps.work n (expression_units stage (LoadByte p)) w _ _ (keep_value p e e' _ _ he (λ a w1 x1 t1 u1 r1 s1. keeps.load_bytes n a w1 x1 _ _ r1 (λ v. hg v w1 x1 t1 u1 r1 s1)) w x t u r s)
           keep_value (Call label ps) e e' g g' he hg w x t u r s =
               keeps.work n (expression_units stage (Call label ps)) w _ _ (keep_values ps e e' _ _ he
-              (λ vs w1 x1 t1 u1 r1 s1. keeps.work n (entry_units (length vs)) w1 _ _ (keep_call label vs e e' g g' he hg w1 x1 t1 u1 r1 s1)) w x t u r s)
+              (λ vs w1 x1 t1 u1 r1 s1. keep_call label vs e e' g g' he hg w1 x1 t1 u1 r1 s1) w x t u r s)
           keep_value (Service k p) e e' g g' he hg w x t u r s =
               keeps.work n (expression_units stage (Service k p)) w _ _ (keep_value p e e' _ _ he
               (λ a w1 x1 t1 u1 r1 s1. keep_service room k a w1 x1 _ _ r1 (λ v w2 x2 r2. hg v w2 x2 t1 u1 r2 s1)) w x t u r s)

@@ -7,7 +7,7 @@ use Rattle.tg_tree.specs.Tree.{Tx, Const, Address, Temp, FrameAddress, Binary, L
 use Rattle.tg_tree.specs.Forms.{stms, sequence, nothing}
 use Rattle.tg_tree.specs.Named.{function, literal, fault, temporary, named_ts, named_flat}
 use Rattle.tg_tree.specs.FrameSizes.{IsSizeOf}
-use Rattle.tg_tree.specs.Units.{Trees, Canonical, entry_units}
+use Rattle.tg_tree.specs.Units.{Trees, Canonical, entry_units, marked_entry_units}
 use Rattle.tg_tree.specs.Sizes.{expression_length, condition_length, statement_length, tree_length, tree_room, canonical_length, canonical_room, flat_length, flat_room}
 
 abbrev fun : {Body : Type 0} → Body → Function Body
@@ -95,6 +95,9 @@ counted_loop = refl
 -- an entry of a function with three parameters
 entry_of_three : entry_units 3 ≡ 40
 entry_of_three = refl
+
+entry_with_its_mark : marked_entry_units 3 ≡ 41
+entry_with_its_mark = refl
 
 -- a frame of one slot may have 8 bytes, and no fewer
 eight_bytes : IsSizeOf (fun body) 8

@@ -1,5 +1,5 @@
 -- Runs of trees: each is its own step, goes on with more fuel alone, and reads nothing but what is set.
-use Rattle.std.proofs.Common.{◌≡◌, ℕ, ◌+◌, ◌<◌, ◌≤◌, List, [], Option, Some, Bool, true, refl, ap, ◌∙◌, arith}
+use Rattle.std.proofs.Common.{◌≡◌, ℕ, ◌+◌, ◌<◌, ◌≤◌, List, [], length, Option, Some, Bool, true, refl, ap, ◌∙◌, arith}
 use Rattle.std.proofs.lemmas.Bool.{lt-ltb}
 use Rattle.std.specs.Prelude.{pos, nat_lt, if◌then◌else◌}
 use Rattle.tg_base.specs.declared.ends.RunEnd.TheVariants.{Exit, StackFull}
@@ -9,7 +9,7 @@ use Rattle.tg_runs.specs.Ran.{Ran, Ended, WantsFuel, Wrong, stops, IsOver, GoesO
 use Rattle.tg_runs.proofs.Fixpoint.{again_is, runs_relate}
 use Rattle.tg_tree.specs.Tree.{Ts, Function, Code}
 use Rattle.tg_tree.specs.Memory.{begin}
-use Rattle.tg_tree.specs.Units.{Stage}
+use Rattle.tg_tree.specs.Units.{Stage, marked_entry_units}
 use Rattle.tg_tree.specs.Actions.{World, Temps, Around, Next, Back}
 use Rattle.tg_tree.specs.Meaning.{Point}
 use Rattle.tg_tree.specs.Running.{Runner, function_of, with_fuel, entered, run_body, body_point, enter, step, going, tree_run}
@@ -27,9 +27,9 @@ module _ (R : Related) (W : RelatedWorlds) (T : RelatedTemps) (keeps : Keeps R W
   module _ (n : ℕ) (c d : Point → Run Ran) (later : (m : ℕ) → m < n → (x y : Point) → Alike R W T m x y → R m x.world (c x) (d y)) where
     pub keep_enter : (label : ℕ) (vs : List ℕ) (top : ℕ) (back back' : Back) (w x : World) → W w x → AlikeBack R W T n back back' → R n w (enter stage code size floor room c label vs top back w) (enter stage code size floor room d label vs top back' x)
     keep_enter label vs top back back' w x r h =
-        keep_entered R W T keeps n size floor _ _
+        keeps.work n (marked_entry_units (length vs)) w _ _ (keep_entered R W T keeps n size floor _ _
         (λ s e e' w1 x1 t1 u1 he r1 s1. keeps.fuel n w1 x1 _ _ r1 (λ m lt. keep_body m c d (later m lt) s e e' w1 x1 t1 u1 (around_down R W T keeps m n e e' (omega arith) he) r1 s1))
-        (function_of label code.functions) vs top back back' w x r h
+        (function_of label code.functions) vs top back back' w x r h)
 
     pub keep_head : (x y : Point) → Alike R W T n x y → R n x.world (with_fuel x.world (c x)) (with_fuel y.world (d y))
     keep_head x y (alike s e e' g g' w v t u h l r q) =

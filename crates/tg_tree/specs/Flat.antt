@@ -5,10 +5,10 @@ use Rattle.tg_runs.specs.Runs.{Run, again}
 use Rattle.tg_runs.specs.Ran.{Ran, Ended, WantsFuel, Wrong, stops}
 use Rattle.tg_tree.specs.Tree.{Linear, Mark, Do', Jump, Branch, Fault', Return', Code}
 use Rattle.tg_tree.specs.Operators.{holds}
-use Rattle.tg_tree.specs.Units.{Canonical, element_units}
+use Rattle.tg_tree.specs.Units.{Canonical, element_units, entry_units}
 use Rattle.tg_tree.specs.Actions.{World, Temps, Around, Acts, ◌>>=◌, ◌>>◌, pay, stop, go_back, wrong}
 use Rattle.tg_tree.specs.Meaning.{Enter, value, run}
-use Rattle.tg_tree.specs.Running.{Runner, function_of, with_fuel, fuelled, entered, program}
+use Rattle.tg_tree.specs.Running.{Runner, with_fuel, call_in, program}
 
 -- what stands behind a mark
 abbrev pub behind : (mark : ℕ) → List Linear → Option (List Linear)
@@ -34,8 +34,7 @@ module _ (code : Code (List Linear)) (size : ℕ → ℕ) (floor room : ℕ) whe
       later (record { whole = all; rest = all; around = e; world = w; temps = temps })
 
   abbrev pub enter_flat : (FlatPoint → Run Ran) → Enter
-  enter_flat later label vs top back w =
-      entered size floor (fuelled (run_flat_body later)) (function_of label code.functions) vs top back w
+  enter_flat later = call_in entry_units size floor (run_flat_body later) code.functions
 
   module _ (later : FlatPoint → Run Ran) (whole : List Linear) where
     abbrev pub jump_to : Option (List Linear) → Acts Last

@@ -3,7 +3,7 @@
 use Rattle.std.specs.Prelude.{◌≡◌, ◌≢◌, ℕ, List, Option, Some, None}
 use Rattle.tg_runs.specs.Runs.{Run}
 use Rattle.tg_runs.specs.Ran.{Ran, Wrong}
-use Rattle.tg_tree.specs.Memory.{Cell, Closed, Unset, Has}
+use Rattle.tg_tree.specs.Memory.{Cell, Closed, Unset, Has, Kept}
 use Rattle.tg_tree.specs.Actions.{World, Temps, Next, Back, Around}
 
 -- where the first holds a word, the second holds the same
@@ -17,6 +17,7 @@ pub data CellHoldsToo : Cell → Cell → Type 0 where
   not_stored : CellHoldsToo Unset Unset
   stored_to : (v : ℕ) → CellHoldsToo Unset (Has v)
   stored : (v : ℕ) → CellHoldsToo (Has v) (Has v)
+  kept : (register : ℕ) → CellHoldsToo (Kept register) (Kept register)
 
 abbrev pub TempsHoldToo : Temps → Temps → Type 0
 TempsHoldToo t u = (i : ℕ) → HoldsToo (t i) (u i)

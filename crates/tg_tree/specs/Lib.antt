@@ -9,6 +9,7 @@ pub mod Meaning
 pub mod Running
 pub mod Flat
 pub mod Shapes
+pub mod Carrying
 pub mod Laws
 pub mod FlatValue
 pub mod Named

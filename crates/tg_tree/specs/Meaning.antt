@@ -1,5 +1,5 @@
 -- The meaning of expressions, conditions and statements (Appel, chapter 7).
-use Rattle.std.specs.Prelude.{ℕ, ◌-◌, List, [], ◌∷◌, length, Bool, true, false, not, if◌then◌else◌}
+use Rattle.std.specs.Prelude.{ℕ, ◌-◌, List, [], ◌∷◌, Bool, true, false, not, if◌then◌else◌}
 use Rattle.tg_base.specs.declared.ends.RunEnd.TheVariants.{Break}
 use Rattle.tg_runs.specs.Runs.{Run}
 use Rattle.tg_runs.specs.Ran.{Ran, Ended}
@@ -7,7 +7,7 @@ use Rattle.tg_tree.specs.Tree as tree
 use Rattle.tg_tree.specs.Tree.{Tx, Txs, Cond, Ts, Stms, Literal}
 use Rattle.tg_tree.specs.Operators.{operate, holds}
 use Rattle.tg_tree.specs.Memory.{load, load_byte, store, store_byte, literal_address}
-use Rattle.tg_tree.specs.Units.{Stage, expression_units, argument_units, condition_units, statement_units, entry_units}
+use Rattle.tg_tree.specs.Units.{Stage, expression_units, argument_units, condition_units, statement_units}
 use Rattle.tg_tree.specs.Actions.{World, Temps, Go, Next, Back, Around, Acts, ◌>>=◌, ◌>>◌, give, skip, pay, stop, known, read_temp, write_temp, read_memory, write_memory, given, frame_address, leave, leaving, go_back, ask}
 
 -- a statement that is to be run, with all that comes next
@@ -65,7 +65,6 @@ module _ (stage : Stage) (room : ℕ) (literals : List Literal) (enter : Enter) 
     value (tree.Call label xs) = do
       pay (expression_units stage (tree.Call label xs))
       vs ← values xs
-      pay (entry_units (length vs))
       enter_function label vs
     value (tree.Service n x) = do
       pay (expression_units stage (tree.Service n x))

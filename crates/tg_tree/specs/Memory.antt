@@ -3,12 +3,13 @@ use Rattle.std.specs.Prelude.{ℕ, zero, suc, ◌+◌, ◌-◌, ◌*◌, ◌/◌
 use Rattle.tg_base.specs.State.{offset, word_at, set_word, padded, statics_base, heap_base}
 use Rattle.tg_tree.specs.Tree.{Literal}
 
--- A word of the stack: no slot of an open activation; a slot that wasn't stored to since its activation began; or what a slot
--- holds.
+-- A word of the stack: no slot of an open activation; a slot that wasn't stored to since its activation began; what a slot holds;
+-- or, in runs of instructions alone, the value that its activation found in a register and must give back.
 pub data Cell : Type 0 where
   Closed : Cell
   Unset : Cell
   Has : ℕ → Cell
+  Kept : (register : ℕ) → Cell
 
 -- statics and the taken heap as bytes, and the stack by addresses
 pub record Memory : Type 0 where

@@ -1,5 +1,5 @@
 -- Runs of trees. A return to the head of a loop and a call take a unit of fuel each, and the first activation of a program takes none.
-use Rattle.std.specs.Prelude.{ℕ, ◌+◌, ◌==◌, List, [], ◌∷◌, Option, Some, None, map, nat_lt, if◌then◌else◌, pos}
+use Rattle.std.specs.Prelude.{ℕ, ◌+◌, ◌==◌, List, [], ◌∷◌, Option, Some, None, length, map, nat_lt, if◌then◌else◌, pos}
 use Rattle.tg_base.specs.declared.ends.RunEnd.TheVariants.{Exit, StackFull}
 use Rattle.tg_base.specs.State.{stack_top}
 use Rattle.tg_frame.specs.declared.accesses.Access.{Access}
@@ -7,9 +7,9 @@ use Rattle.tg_frame.specs.declared.accesses.Access.TheVariants.{InTemp, InFrame}
 use Rattle.tg_runs.specs.Runs.{Run, turn, again}
 use Rattle.tg_runs.specs.Ran.{Ran, Ended, WantsFuel, stops}
 use Rattle.tg_tree.specs.Tree.{Ts, Stms, Seq, Function, Code}
-use Rattle.tg_tree.specs.Units.{Stage, Canonical}
+use Rattle.tg_tree.specs.Units.{Stage, Canonical, marked_entry_units}
 use Rattle.tg_tree.specs.Memory.{Unset, Closed, Has, put, slot, lay, begin}
-use Rattle.tg_tree.specs.Actions.{World, Temps, set_temp, Activation, Back, Next, Around, over, wrong}
+use Rattle.tg_tree.specs.Actions.{World, Temps, set_temp, Activation, Back, Next, Around, over, wrong, charged}
 use Rattle.tg_tree.specs.Meaning.{Enter, Point, run}
 
 abbrev pub function_of : {Body : Type 0} → ℕ → List (Function Body) → Option (Function Body)
@@ -52,9 +52,19 @@ entered size floor body (Some f) vs top back w =
     placed top f.params vs (with_slots f top w) no_temps
     (body f.body (outermost (record { base = top; size = size f.label }) (λ v w1. back v (without_slots f top w1))))
 
--- a call runs the body behind a unit of fuel
+-- a function by its label, among these
+abbrev pub begin_in : {Body : Type 0} → (size : ℕ → ℕ) → (floor : ℕ) → Runner Body → List (Function Body) → Enter
+begin_in size floor runner functions label vs top back w =
+    entered size floor runner (function_of label functions) vs top back w
+
+-- a call pays for the entry, by the number of its arguments, and runs the body behind a unit of fuel
 abbrev pub fuelled : {Body : Type 0} → Runner Body → Runner Body
 fuelled body s e w temps = with_fuel w (body s e w temps)
+
+abbrev pub call_in :
+    {Body : Type 0} → (units : ℕ → ℕ) → (size : ℕ → ℕ) → (floor : ℕ) → Runner Body → List (Function Body) → Enter
+call_in units size floor runner functions label vs top back w =
+    charged (units (length vs)) (begin_in size floor (fuelled runner) functions label vs top back w)
 
 -- a body from its begin, whose end is a return
 abbrev pub body_point : Ts → Around → World → Temps → Point
@@ -62,9 +72,10 @@ body_point s e w temps =
     record { statement = s; around = e; next = λ w1 t1. wrong w1; world = w; temps = temps }
 
 -- the first activation of a program, whose return is the program's end
-abbrev pub program : {Body : Type 0} → (size : ℕ → ℕ) → (floor : ℕ) → Runner Body → Code Body → (body : ℕ) → (input : List ℕ) → Run Ran
+abbrev pub program :
+    {Body : Type 0} → (size : ℕ → ℕ) → (floor : ℕ) → Runner Body → Code Body → (body : ℕ) → (input : List ℕ) → Run Ran
 program size floor runner code body input =
-    entered size floor runner (function_of body code.functions) [] stack_top (λ v w. over (Ended (Exit (pos 0))) w)
+    begin_in size floor runner code.functions body [] stack_top (λ v w. over (Ended (Exit (pos 0))) w)
     (record { memory = begin code.literals; input = input })
 
 -- for the stage whose units are charged, a size of each frame by its function's label, the stack's floor, and the heap's room
@@ -73,8 +84,7 @@ module _ (stage : Stage) (code : Code Ts) (size : ℕ → ℕ) (floor room : ℕ
   run_body later s e w temps = later (body_point s e w temps)
 
   abbrev pub enter : (Point → Run Ran) → Enter
-  enter later label vs top back w =
-      entered size floor (fuelled (run_body later)) (function_of label code.functions) vs top back w
+  enter later = call_in marked_entry_units size floor (run_body later) code.functions
 
   -- one step: a statement up to the next unit of fuel
   abbrev pub step : (Point → Run Ran) → Point → Run Ran

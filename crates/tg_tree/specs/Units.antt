@@ -121,6 +121,10 @@ element_units (Return' _) = 14
 abbrev pub parameter_units : ℕ
 parameter_units = 6
 
--- the entry of a function that is called: its frame, and nine registers kept
+-- the entry of a function that is called: its frame, nine registers kept, and its arguments
 abbrev pub entry_units : (arguments : ℕ) → ℕ
 entry_units n = 22 + parameter_units * n
+
+-- before its code is flat, with the mark that its code begins with then
+abbrev pub marked_entry_units : (arguments : ℕ) → ℕ
+marked_entry_units n = 1 + entry_units n

@@ -1,3 +1,4 @@
+ghost use Rattle.tg_tree.specs.Carrying.{FunctionsCarryCalls, FunctionsCarryPrograms};
 ghost use Rattle.tg_tree.specs.FlatValue.{FlatRunsAsValue, FlatSpendsLength, FlatWordSpendsAll};
 ghost use Rattle.tg_tree.specs.Laws.{
   TreesStep,
@@ -46,4 +47,11 @@ pub fn nothing_else_is_read()
 /// code.
 pub fn full_stack_ends_the_call<Body>()
     ensures { FullStackEnds Body }
+{}
+
+/// The laws of a pass that takes one function at a time, from one form of code to another: where the body of each
+/// function does what it did if calls do, calls do, and so does a program from its first activation on.
+pub fn functions_carry<A, B>()
+    ensures calls { FunctionsCarryCalls A B }
+    ensures programs { FunctionsCarryPrograms A B }
 {}
