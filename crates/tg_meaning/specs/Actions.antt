@@ -1,5 +1,7 @@
--- What an evaluation may do. `Action A` is an action that gives an A, or leaves a loop by a `break`, or after which the run is
--- over. Two forms of actions follow: results (Direct.antt), and runs that take what comes next (Passing.antt).
+-- What an evaluation may do. `Action A` is an action that gives an A, or leaves a loop by a
+-- `break`, or after which the run is over. Two forms of actions follow: results (Direct.antt), and
+-- runs that take what comes next (Passing.antt), the first as the language is explained, the second
+-- as translated code behaves.
 use Rattle.std.specs.Prelude.{ℕ, List, Option}
 use Rattle.tg_runs.specs.Outcomes.{End}
 use Rattle.tg_meaning.specs.Values.{Value, Object, World, Ending}

@@ -14,14 +14,17 @@ FormsAgree =
     (names : List (List ℕ)) (body : Exp) (input : List ℕ) (heap stack fuel : ℕ) →
     evaluate names body input heap stack fuel ≡ evaluate_passing names body input heap stack fuel
 
--- the first goes on as the second: more is written, more of the input is read, the heap, the cost and the greatest depth
--- don't fall, and what was written when the limit was passed stays
+-- the first goes on as the second: more is written, more of the input is read, the heap, the cost
+-- and the greatest depth don't fall, and what was written when the limit was passed stays
 pub record GoesOn (o o' : Outcome Ending) : Type 0 where
   pub output : (more : List ℕ) × (o'.output ≡ o.output ++ more)
   pub input : (read : List ℕ) × (o.input ≡ read ++ o'.input)
   pub heap : o.heap ≤ o'.heap
   pub cost : o.cost ≤ o'.cost
-  pub past_limit : (past : List ℕ) → o.output_past_limit ≡ Some past → o'.output_past_limit ≡ Some past
+  pub past_limit :
+      (past : List ℕ) →
+      o.output_past_limit ≡ Some past →
+      o'.output_past_limit ≡ Some past
   pub deepest : o.deepest ≤ o'.deepest
 
 -- each expression goes on from what was so far
@@ -31,7 +34,8 @@ so_far s = told out_of_fuel s
 abbrev pub NothingIsTakenBack : Type 0
 NothingIsTakenBack =
     (heap stack bound : ℕ) (e : Exp) (env : Env) (s : State) →
-    GoesOn (so_far s) (outcome (eval Direct (direct heap stack) (λ job. meaning Direct (direct heap stack) bound job) e env s))
+    let after_turn : Job → Direct Value = λ job. meaning Direct (direct heap stack) bound job in
+    GoesOn (so_far s) (outcome (eval Direct (direct heap stack) after_turn e env s))
 
 -- a run that isn't out of fuel is the same with more fuel
 abbrev pub MoreFuelIsIdle : Type 0
@@ -44,7 +48,9 @@ MoreFuelIsIdle =
 abbrev pub MoreFuelGoesOn : Type 0
 MoreFuelGoesOn =
     (names : List (List ℕ)) (body : Exp) (input : List ℕ) (heap stack fuel more : ℕ) →
-    GoesOn (evaluate names body input heap stack fuel) (evaluate names body input heap stack (fuel + more))
+    GoesOn
+    (evaluate names body input heap stack fuel)
+    (evaluate names body input heap stack (fuel + more))
 
 -- two amounts of fuel that are enough give one outcome
 abbrev pub HasOneOutcome : Type 0
@@ -62,10 +68,12 @@ behind heap stack job go out w n = meaning Passing (passing heap stack) (suc n) 
 abbrev pub FuelUnfolds : Type 0
 FuelUnfolds =
     (heap stack : ℕ) (job : Job) (go : Value → Rest) (out : Rest) (w : _) (n : ℕ) →
-    behind heap stack job go out w n ≡ run Passing (passing heap stack) (behind heap stack) job go out w n
+    behind heap stack job go out w n ≡
+    run Passing (passing heap stack) (behind heap stack) job go out w n
 
 abbrev pub ProgramUnfolds : Type 0
 ProgramUnfolds =
     (names : List (List ℕ)) (body : Exp) (input : List ℕ) (heap stack fuel : ℕ) →
     evaluate_passing names body input heap stack fuel ≡
-    run_program Passing (passing heap stack) (behind heap stack) body (outermost names) (λ v. ends (ended normal)) (ends stuck) (start input) fuel
+    run_program Passing (passing heap stack) (behind heap stack) body (outermost names)
+    (λ v. ends (ended normal)) (ends stuck) (start input) fuel

@@ -1,4 +1,6 @@
--- What an activation of a function weighs, by the measures of its text.
+-- What an activation of a function weighs, by the measures of its text. Weights are this compiler's
+-- own: what they allow for is what its frames have at most, so a stack that the weight never passes
+-- is never full.
 use Rattle.std.specs.Prelude.{ℕ, suc, ◌+◌, ◌*◌, List, [], ◌∷◌}
 use Rattle.tg_syntax.specs.Tree.{Exp}
 use Rattle.tg_syntax.specs.Functions.{Levels, own_functions, function_nodes, function_hops}
@@ -12,7 +14,8 @@ levels_of (variable x level place ∷ rest) = record { name = x; level = level }
 levels_of (group level fs ∷ rest) = own_functions level fs (levels_of rest)
 levels_of (standard x f ∷ rest) = levels_of rest
 
--- the bytes that an activation weighs, by the nodes of its function and the levels that its text crosses
+-- the bytes that an activation weighs, by the nodes of its function and the levels that its text
+-- crosses
 abbrev pub activation : (nodes hops : ℕ) → ℕ
 activation nodes hops = 256 * nodes + 64 * hops + 1024
 
@@ -23,7 +26,9 @@ program_weight body = activation (function_nodes [] body) (function_hops 0 [] []
 -- of a function that is declared at this level and sees these entries
 abbrev pub function_weight : (level : ℕ) → Function → List Entry → ℕ
 function_weight level f seen =
-    activation (function_nodes f.params f.body) (function_hops (suc level) (levels_of seen) f.params f.body)
+    activation
+    (function_nodes f.params f.body)
+    (function_hops (suc level) (levels_of seen) f.params f.body)
 
 -- of an open call of the runtime
 abbrev pub runtime_weight : ℕ

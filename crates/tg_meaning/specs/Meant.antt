@@ -1,16 +1,19 @@
 -- A program's run as one that code may follow: what its outcome is on the machine.
 use Rattle.std.specs.Prelude.{ℕ, ◌≡◌, ◌≢◌, List, pos}
 use Rattle.tg_base.specs.declared.ends.RunEnd.{RunEnd}
-use Rattle.tg_base.specs.declared.ends.RunEnd.TheVariants.{Exit, Break, Overflow, HeapFull, StackFull}
+use Rattle.tg_base.specs.declared.ends.RunEnd.TheVariants.{Exit, Break, Overflow, HeapFull}
+use Rattle.tg_base.specs.declared.ends.RunEnd.TheVariants.{StackFull}
 use Rattle.tg_base.specs.Words.{signed}
 use Rattle.tg_syntax.specs.Tree.{Exp}
 use Rattle.tg_runs.specs.Runs.{Run, turn}
 use Rattle.tg_runs.specs.Outcomes.{ended, out_of_fuel, stuck, Outcome, map_ending}
 use Rattle.tg_runs.specs.Agreement.{Source}
-use Rattle.tg_meaning.specs.Values.{Ending, normal, by_nil, by_index, by_division, by_chr, by_substring, by_size, by_heap, by_overflow, by_exit, World}
+use Rattle.tg_meaning.specs.Values.{Ending, normal, by_nil, by_index, by_division, by_chr}
+use Rattle.tg_meaning.specs.Values.{by_substring, by_size, by_heap, by_overflow, by_exit, World}
 use Rattle.tg_meaning.specs.Passing.{Rest, over_in, with_turn, evaluate_passing}
 
--- the end of the machine that stands for an ending
+-- the end of the machine that stands for an ending: a fault that the book leaves open stops it by a
+-- `break` with the number of its status
 abbrev pub machine_end : Ending → RunEnd
 machine_end normal = Exit (pos 0)
 machine_end (by_exit i) = Exit (signed i)
@@ -23,6 +26,7 @@ machine_end by_division = Break 7
 machine_end by_heap = HeapFull
 machine_end by_overflow = Overflow
 
+-- as a program that code may follow
 abbrev pub as_source : Outcome Ending → Source
 as_source o = map_ending machine_end o
 
@@ -31,8 +35,10 @@ abbrev pub rest_run : Rest → World → Run Source
 rest_run rest w n = as_source (rest w n)
 
 -- a program's run on an input
-abbrev pub program_run : (names : List (List ℕ)) → Exp → (input : List ℕ) → (heap stack : ℕ) → Run Source
-program_run names body input heap stack n = as_source (evaluate_passing names body input heap stack n)
+abbrev pub program_run :
+    (names : List (List ℕ)) → Exp → (input : List ℕ) → (heap stack : ℕ) → Run Source
+program_run names body input heap stack n =
+    as_source (evaluate_passing names body input heap stack n)
 
 -- a unit of fuel is used there as here
 abbrev pub TurnsAsSource : Type 0

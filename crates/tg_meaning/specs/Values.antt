@@ -1,9 +1,11 @@
--- Values, records and arrays, the entries of environments, endings, and what a run has at a moment.
+-- Values, records and arrays (Appel, appendix A.2 and A.3), the entries of environments (chapter
+-- 5), endings, and what a run has at a moment.
 use Rattle.std.specs.Prelude.{ℕ, ◌+◌, ◌-◌, List, [], ◌∷◌, ◌++◌, drop, slice_set}
 use Rattle.tg_syntax.specs.Tree.{FunDecs}
 use Rattle.tg_meaning.specs.declared.standards.Standard.{Standard}
 
--- a value: an int, by its word; a string, by its bytes; nil; a record or an array, by its place among the objects; no value
+-- a value (appendix A.3): an int, by its word; a string, by its bytes; nil; a record or an array,
+-- by its place among the objects, so that two names may stand for one; or no value
 pub data Value : Type 0 where
   int : ℕ → Value
   string : List ℕ → Value
@@ -11,30 +13,35 @@ pub data Value : Type 0 where
   reference : ℕ → Value
   nothing : Value
 
--- a record has values by the names of its fields, an array by their places
+-- a record has values by the names of its fields, an array by their places (appendix A.2)
 pub data Object : Type 0 where
   fields : List (ℕ × Value) → Object
   elements : List Value → Object
 
--- an entry of an environment: a variable with its place among the variables, or a group of functions, each with the level of
--- the function that declares it; or a standard function
+-- an entry of an environment (chapter 5): a variable with its place among the variables, or a group
+-- of functions, each with the level of the function that declares it (chapter 6); or a standard
+-- function
 pub data Entry : Type 0 where
   variable : (name level place : ℕ) → Entry
   group : (level : ℕ) → FunDecs → Entry
   standard : (name : ℕ) → Standard → Entry
 
--- what a place of the text sees, innermost first, and the level of the function that it is a text of
+-- what a place of the text sees, innermost first, and the level of the function that it is a text
+-- of
 pub record Env : Type 0 where
   pub level : ℕ
   pub entries : List Entry
 
--- how a program ends
+-- how a program ends: at its end; where something isn't there, as nil's fields and an index outside
+-- its array, which the book leaves open; for want of heap; where an int has no word; by `exit`
+-- (appendix A.4)
 pub data Ending : Type 0 where
   normal by_nil by_index by_division by_chr by_substring by_size by_heap by_overflow : Ending
   by_exit : ℕ → Ending
 
--- what a run has at a moment: variables and objects, the input that is left, the bytes of heap that are taken, the weight of
--- what is open, and the number of open activations of declared functions
+-- What a run has at a moment: variables and objects, of which none goes (records and arrays have
+-- infinite extent, appendix A.3), the input that is left, the bytes of heap that are taken, the
+-- weight of what is open, and the number of open activations of declared functions.
 pub record World : Type 0 where
   pub variables : List Value
   pub objects : List Object
@@ -44,7 +51,16 @@ pub record World : Type 0 where
   pub depth : ℕ
 
 abbrev pub start : List ℕ → World
-start input = record { variables = []; objects = []; input = input; heap = 0; weight = 0; depth = 0 }
+start input = record {
+  variables = [];
+  objects = [];
+  input = input;
+  heap = 0;
+  weight = 0;
+  depth = 0;
+}
+
+-- How each of these changes.
 
 abbrev pub add_variable : Value → World → World
 add_variable v w = record w { variables = w.variables ++ v ∷ [] }

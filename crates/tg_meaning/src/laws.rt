@@ -19,16 +19,16 @@ pub fn nothing_is_taken_back()
     ensures { NothingIsTakenBack }
 {}
 
-/// Laws of fuel: more of it changes nothing of a run that is over, and a run that is out of it goes on; so a program
-/// has at most one outcome.
+/// Laws of fuel: more of it changes nothing of a run that is over, and a run that is out of it goes
+/// on; so a program has at most one outcome.
 pub fn fuel_is_a_bound()
     ensures idle { MoreFuelIsIdle }
     ensures on { MoreFuelGoesOn }
     ensures one { HasOneOutcome }
 {}
 
-/// Laws of what stands behind a unit of fuel: it is the job's run with the same behind the next unit, and a program is
-/// its body's run over it.
+/// Laws of what stands behind a unit of fuel: it is the job's run with the same behind the next
+/// unit, and a program is its body's run over it.
 pub fn fuel_unfolds()
     ensures jobs { FuelUnfolds }
     ensures programs { ProgramUnfolds }
