@@ -1,5 +1,6 @@
 -- What the sources, the sink and the shelves in memory hold.
-use Rattle.std.specs.Prelude.{ℕ, ◌-◌, ◌==◌, [], length, Some, Bool, if◌then◌else◌, ◌||◌, List, Option, String, Vec, map, string_bytes}
+use Rattle.std.specs.Prelude.{ℕ, ◌-◌, ◌==◌, [], length, Some, Bool, if◌then◌else◌, ◌||◌, List}
+use Rattle.std.specs.Prelude.{Option, String, Vec, map, string_bytes}
 use Rattle.std.specs.BTreeMap.{BTreeMap}
 use Rattle.std.specs.Option.{is_none}
 use Rattle.std.specs.Map.{lookup}
@@ -24,7 +25,8 @@ pub record RoomBytes : Type 0 where
   pub room : ℕ
   pub counts : Counts
 
--- files that fail for a missing name alone: their names and bytes, and the calls and the faults so far
+-- files that fail for a missing name alone: their names and bytes, and the calls and the faults so
+-- far
 pub record PlainFiles : Type 0 where
   pub held : List (List ℕ × List ℕ)
   pub calls : ℕ

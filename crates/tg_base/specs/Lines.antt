@@ -6,7 +6,8 @@ use Rattle.tg_base.specs.declared.places.Place.{Place}
 abbrev pub is_line_end : ℕ → Bool
 is_line_end b = b == 10
 
--- Both count from 1: the line by the line ends before the byte, and the column by the bytes since the last of them.
+-- Both count from 1: the line by the line ends before the byte, and the column by the bytes since
+-- the last of them.
 abbrev pub place_of : List ℕ → ℕ → Place
 place_of text at = record {
   line = count_by is_line_end (take at text) + 1;

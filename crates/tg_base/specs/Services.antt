@@ -1,12 +1,15 @@
 -- The services of the system (SPIM manual, table of system services).
-use Rattle.std.specs.Prelude.{ℕ, zero, suc, ◌+◌, ◌*◌, ◌/◌, ◌%◌, List, [], ◌∷◌, ◌++◌, length, replicate, true, false, if◌then◌else◌, ◌==◌, nat_lt, Option, Some, None, Result, Ok, Err, pos}
+use Rattle.std.specs.Prelude.{ℕ, zero, suc, ◌+◌, ◌*◌, ◌/◌, ◌%◌, List, [], ◌∷◌, ◌++◌, length}
+use Rattle.std.specs.Prelude.{replicate, true, false, if◌then◌else◌, ◌==◌, nat_lt, Option, Some}
+use Rattle.std.specs.Prelude.{None, Result, Ok, Err, pos}
 use Rattle.tg_base.specs.declared.ends.RunEnd.{RunEnd}
 use Rattle.tg_base.specs.declared.ends.RunEnd.TheVariants.{Exit, HeapFull, BadAddress, BadService}
 use Rattle.tg_base.specs.Words.{signed}
 use Rattle.std.specs.Fmt.{signed_decimal}
 use Rattle.tg_base.specs.State.{State, heap_base, register, set_register, load_byte}
 
--- What one step does: it goes on in a state, ends, asks for a byte of input and goes on in a state with the answer,
+-- What one step does: it goes on in a state, ends, asks for a byte of input and goes on in a state
+-- with the answer,
 -- or writes bytes and then goes on in a state.
 pub data Step : Type 0 where
   Goes : State → Step
@@ -29,12 +32,16 @@ abbrev pub before : ℕ → Result (List ℕ) RunEnd → Result (List ℕ) RunEn
 before b (Ok bytes) = Ok (b ∷ bytes)
 before b (Err e) = Err e
 
--- service 4: the bytes from an address on, up to a 0 byte, at most so many; or how the first load that isn't served ends
+-- service 4: the bytes from an address on, up to a 0 byte, at most so many; or how the first load
+-- that isn't served ends
 abbrev pub text_from : ℕ → State → ℕ → Result (List ℕ) RunEnd
 text_from zero s a = Err (BadAddress a)
 text_from (suc n) s a =
     elim (load_byte s a) as (λ _. Result (List ℕ) RunEnd) [
-      | Ok b ↦ elim (b == 0) as (λ _. Result (List ℕ) RunEnd) [ true ↦ Ok [] | false ↦ before b (text_from n s (a + 1)) ]
+      | Ok b ↦ elim (b == 0) as (λ _. Result (List ℕ) RunEnd) [
+        | true ↦ Ok []
+        | false ↦ before b (text_from n s (a + 1))
+      ]
       | Err e ↦ Err e
     ]
 

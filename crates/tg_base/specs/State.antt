@@ -1,5 +1,8 @@
--- What the machine holds, and what its addresses answer (MIPS I manual, memory; SPIM manual, regions).
-use Rattle.std.specs.Prelude.{ℕ, ◌+◌, ◌-◌, ◌*◌, ◌/◌, ◌%◌, List, [], ◌++◌, length, replicate, slice_index, slice_set, if◌then◌else◌, ◌&&◌, ◌==◌, nat_lt, nat_le, Option, Some, None, Result, Ok, Err}
+-- What the machine holds, and what its addresses answer (MIPS I manual, memory; SPIM manual,
+-- regions).
+use Rattle.std.specs.Prelude.{ℕ, ◌+◌, ◌-◌, ◌*◌, ◌/◌, ◌%◌, List, [], ◌++◌, length, replicate}
+use Rattle.std.specs.Prelude.{slice_index, slice_set, if◌then◌else◌, ◌&&◌, ◌==◌, nat_lt, nat_le}
+use Rattle.std.specs.Prelude.{Option, Some, None, Result, Ok, Err}
 use Rattle.tg_base.specs.declared.ends.RunEnd.{RunEnd}
 use Rattle.tg_base.specs.declared.ends.RunEnd.TheVariants.{StackFull, BadAddress, Unaligned}
 
@@ -29,6 +32,20 @@ heap_base = 0x11000000
 abbrev pub stack_top : ℕ
 stack_top = 0x7FFFFFFC
 
+-- An address from here on, below the stack's floor, means that the stack is full.
+abbrev pub stack_reach : ℕ
+stack_reach = 0x40000000
+
+-- the greatest number of words of code, and of bytes of statics, of heap and of stack
+abbrev pub most_words : ℕ
+most_words = 66060288
+
+abbrev pub most_bytes : ℕ
+most_bytes = 16711680
+
+abbrev pub most_room : ℕ
+most_room = 268435456
+
 abbrev pub floor : State → ℕ
 floor s = stack_top - length s.stack
 
@@ -55,7 +72,7 @@ pub data Spot : Type 0 where
 
 -- an address that no region has: below the stack's floor the stack is full
 abbrev pub fault : State → ℕ → RunEnd
-fault s a = if nat_le 0x40000000 a && nat_lt a (floor s) then StackFull else BadAddress a
+fault s a = if nat_le stack_reach a && nat_lt a (floor s) then StackFull else BadAddress a
 
 abbrev pub in_statics : State → ℕ → Option ℕ → Spot
 in_statics s a (Some i) = InStatics i
@@ -75,11 +92,13 @@ spot s a = in_stack s a (offset a (floor s) (length s.stack))
 -- the word at a byte of a region, little endian, and the region with a new word there
 abbrev pub word_at : List ℕ → ℕ → ℕ
 word_at bytes i =
-    slice_index bytes i + 256 * slice_index bytes (i + 1) + 65536 * slice_index bytes (i + 2) + 16777216 * slice_index bytes (i + 3)
+    slice_index bytes i + 256 * slice_index bytes (i + 1)
+    + 65536 * slice_index bytes (i + 2) + 16777216 * slice_index bytes (i + 3)
 
 abbrev pub set_word : List ℕ → ℕ → ℕ → List ℕ
 set_word bytes i v =
-    slice_set (slice_set (slice_set (slice_set bytes i (v % 256)) (i + 1) (v / 256 % 256)) (i + 2) (v / 65536 % 256)) (i + 3) (v / 16777216)
+    let low = slice_set (slice_set bytes i (v % 256)) (i + 1) (v / 256 % 256) in
+    slice_set (slice_set low (i + 2) (v / 65536 % 256)) (i + 3) (v / 16777216)
 
 -- what stands at a spot
 abbrev pub byte_there : State → Spot → Result ℕ RunEnd

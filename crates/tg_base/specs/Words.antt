@@ -1,5 +1,8 @@
--- Words: numbers below 2 ^ 32, which stand for themselves or for ints in two's complement (MIPS I manual, chapter 3).
-use Rattle.std.specs.Prelude.{ℕ, ◌+◌, ◌-◌, ◌*◌, ◌/◌, ◌%◌, ◌^◌, ℤ, pos, negsuc, ◌+ℤ◌, ◌-ℤ◌, ◌*ℤ◌, Bool, ◌&&◌, if◌then◌else◌, Option, Some, None, nat_lt, int_lt, int_div, int_rem, bit_or}
+-- Words: numbers below 2 ^ 32, which stand for themselves or for ints in two's complement (MIPS I
+-- manual, chapter 3).
+use Rattle.std.specs.Prelude.{ℕ, ◌+◌, ◌-◌, ◌*◌, ◌/◌, ◌%◌, ◌^◌, ℤ, pos, negsuc, ◌+ℤ◌, ◌-ℤ◌, ◌*ℤ◌}
+use Rattle.std.specs.Prelude.{Bool, ◌&&◌, if◌then◌else◌, Option, Some, None, nat_lt, int_lt}
+use Rattle.std.specs.Prelude.{int_div, int_rem, bit_or}
 use Rattle.std.specs.Int.{cast_signed, cast_unsigned, int_shr}
 use Rattle.std.proofs.Common.{w32, w64}
 

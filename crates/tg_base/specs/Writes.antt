@@ -7,5 +7,7 @@ abbrev pub TakesFront : Option (List ℕ) → Option (List ℕ) → List ℕ →
 TakesFront old new piece = (front rest : List ℕ) × (piece ≡ front ++ rest) × Appends old new front
 
 -- a sink took the whole piece, or failed and took a prefix of it
-abbrev pub TakesAll : {T E : Type 0} → Option (List ℕ) → Option (List ℕ) → Result T E → List ℕ → Type 0
-TakesAll old new result piece = MatchResult result (λ _. Appends old new piece) (λ _. TakesFront old new piece)
+abbrev pub TakesAll : {T E : Type 0} →
+    Option (List ℕ) → Option (List ℕ) → Result T E → List ℕ → Type 0
+TakesAll old new result piece =
+    MatchResult result (λ _. Appends old new piece) (λ _. TakesFront old new piece)

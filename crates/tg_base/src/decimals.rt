@@ -1,7 +1,8 @@
 ghost use Rattle.std.specs.Prelude.{◌≡◌, ◌≤◌, take};
 ghost use Rattle.std.specs.Fmt.{signed_decimal};
 
-/// Writes the decimal text of an int at the front of `into`, and answers its length, which is 1 to 11 bytes.
+/// Writes the decimal text of an int at the front of `into`, and answers its length, which is 1 to
+/// 11 bytes.
 pub fn decimal(value: i32, into: &mut [u8; 11]) -> usize
     ensures fits { result ≤ 11 }
     ensures text { take result into.new ≡ signed_decimal value }

@@ -1,4 +1,5 @@
-/// A piece of a text: it begins at the byte `from` and ends before the byte `to`, both counted from 0.
+/// A piece of a text: it begins at the byte `from` and ends before the byte `to`, both counted from
+/// 0.
 #[derive(Clone, Copy, Debug, PartialEq, Eq)]
 pub struct Span {
     pub from: u32,

@@ -1,6 +1,6 @@
-//! What every layer shares: places, names, words of 32 bits, the state of the machine, and the outside.
-//! Promises exact numbers and texts, and objects in memory that fail only where they were told to.
-//! The definitions of words, of the machine's state and of its services stand in `specs/`.
+//! What every layer shares: places, names, words of 32 bits, the state of the machine, and the
+//! outside. Promises exact numbers and texts, and objects in memory that fail only where they were
+//! told to. The definitions of words, of the machine's state and of its services stand in `specs/`.
 #![tactic(auto)]
 
 mod arithmetic;
@@ -14,6 +14,7 @@ mod numbering;
 mod outside;
 mod places;
 mod products;
+mod regions;
 mod shelves;
 mod sinks;
 mod sources;
@@ -30,6 +31,9 @@ pub use numbering::Names;
 pub use outside::{Shelf, ShelfFault, Sink, Source, write_all};
 pub use places::Place;
 pub use products::product_in_range;
+pub use regions::{
+    CODE_BASE, HEAP_BASE, MOST_BYTES, MOST_WORDS, STACK_REACH, STACK_TOP, STATICS_BASE,
+};
 pub use shelves::{MapShelf, PlainShelf};
 pub use sinks::RoomSink;
 pub use sources::{ListSource, PlainSource};

@@ -15,8 +15,8 @@ pub trait Source {
 
     ghost faults: { Self → ℕ };
 
-    /// Puts the next bytes at the front of `into`, and answers how many: 0 at the end of input alone.
-    /// After `Failed` the bytes left are as before.
+    /// Puts the next bytes at the front of `into`, and answers how many: 0 at the end of input
+    /// alone. After `Failed` the bytes left are as before.
     fn read(&mut self, into: &mut [u8]) -> Result<usize, Failed>
         requires { 0 < length into.old }
         ensures bound { ReadsAtMost result into.new }
@@ -30,7 +30,8 @@ pub trait Sink {
 
     ghost faults: { Self → ℕ };
 
-    /// Takes the first bytes of `piece`, and answers how many, at least 1. After `Failed` it has taken none.
+    /// Takes the first bytes of `piece`, and answers how many, at least 1. After `Failed` it has
+    /// taken none.
     fn write(&mut self, piece: &[u8]) -> Result<usize, Failed>
         requires { 0 < length piece.now }
         ensures some { IfOk result (λ n. (0 < n) × (n ≤ length piece.now)) }
@@ -47,8 +48,8 @@ pub enum ShelfFault {
     Memory,
 }
 
-/// Files by their names. Its meaning is a map from names to bytes, where it tells it, which no call changes,
-/// and a count of faults for each name.
+/// Files by their names. Its meaning is a map from names to bytes, where it tells it, which no call
+/// changes, and a count of faults for each name.
 pub trait Shelf {
     ghost files: { Self → Files };
 
@@ -58,12 +59,14 @@ pub trait Shelf {
     fn read_file(&mut self, alloc: Global, name: &str, most: usize) -> Result<Vec<u8>, ShelfFault>
         ensures same { files self.new ≡ files self.old }
         ensures later { (n : List ℕ) → faults self.old n ≤ faults self.new n }
-        ensures cause { IsErrOf result ShelfFault.Failed → Rose (faults self.old name.now) (faults self.new name.now) }
+        ensures cause { IsErrOf result ShelfFault.Failed →
+            Rose (faults self.old name.now) (faults self.new name.now) }
         ensures bound { IfOk result (λ v. length v.items ≤ most) }
         ensures front { IfOk result (λ v. IsFrontOf (files self.old) name.now most v.items) };
 }
 
-/// Writes a piece whole. After `Failed` the sink has taken a prefix of it, and an empty piece leaves the sink alone.
+/// Writes a piece whole. After `Failed` the sink has taken a prefix of it, and an empty piece
+/// leaves the sink alone.
 pub fn write_all<O: Sink>(out: &mut O, piece: &[u8]) -> Result<(), Failed>
     ensures bytes { TakesAll (O.taken out.old) (O.taken out.new) result piece.now }
     ensures cause { HasCause (O.faults out.old) (O.faults out.new) result }

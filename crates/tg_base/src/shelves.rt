@@ -1,4 +1,22 @@
-ghost use Rattle.std.specs.Prelude.{◌≡◌, ◌≤◌, ◌↔◌, ◌||◌, ℕ, List, length, take, not, is_err, is_some, false, IsTrue, IfOk, IsErrOf, OnErr, if◌then◌else◌};
+ghost use Rattle.std.specs.Prelude.{
+  ◌≡◌,
+  ◌≤◌,
+  ◌↔◌,
+  ◌||◌,
+  ℕ,
+  List,
+  length,
+  take,
+  not,
+  is_err,
+  is_some,
+  false,
+  IsTrue,
+  IfOk,
+  IsErrOf,
+  OnErr,
+  if◌then◌else◌,
+};
 ghost use Rattle.std.specs.declared.option.Option.TheVariants.{Some};
 ghost use Rattle.tg_base.specs.Causes.{Rose};
 ghost use Rattle.tg_base.specs.Counts.{counted, none_so_far, next_fails, after_call};
@@ -78,7 +96,8 @@ impl Shelf for PlainShelf {
         ensures cause { IsErrOf result ShelfFault.Failed → Rose self.old.faults self.new.faults }
         ensures bound { IfOk result (λ v. length v.items ≤ most) }
         ensures front { IfOk result (λ v. IsFrontOf (told self.old.held) name.now most v.items) }
-        ensures missing { (result ≡ Err ShelfFault.Failed) ↔ IsTrue (is_missing self.old.held name.now) }
+        ensures missing { (result ≡ Err ShelfFault.Failed)
+            ↔ IsTrue (is_missing self.old.held name.now) }
         ensures calls { self.new.calls ≡ counted self.old.calls }
         ensures faults { self.new.faults ≡ faults_after self.old name.now }
     {
@@ -93,7 +112,8 @@ impl Shelf for PlainShelf {
     }
 }
 
-/// Files in memory, which fail at the listed calls and for a missing name. Calls are numbered from 1.
+/// Files in memory, which fail at the listed calls and for a missing name. Calls are numbered from
+/// 1.
 ///
 /// Its count of faults for every name is that of all.
 #[derive(Drop)]
@@ -144,11 +164,13 @@ impl Shelf for MapShelf {
     fn read_file(&mut self, alloc: Global, name: &str, most: usize) -> Result<Vec<u8>, ShelfFault>
         ensures same { self.new.held ≡ self.old.held }
         ensures later { self.old.counts.faults ≤ self.new.counts.faults }
-        ensures cause { IsErrOf result ShelfFault.Failed → Rose self.old.counts.faults self.new.counts.faults }
+        ensures cause { IsErrOf result ShelfFault.Failed →
+            Rose self.old.counts.faults self.new.counts.faults }
         ensures bound { IfOk result (λ v. length v.items ≤ most) }
         ensures front { IfOk result (λ v. IsFrontOf (told self.old.held) name.now most v.items) }
         ensures failed { (result ≡ Err ShelfFault.Failed) ↔ IsTrue (read_fails self.old name.now) }
-        ensures counted { self.new.counts ≡ after_call self.old.counts (read_fails self.old name.now) }
+        ensures counted { self.new.counts
+            ≡ after_call self.old.counts (read_fails self.old name.now) }
     {
         let failing = self.tally.next_fails();
         match self.files.get(name) {
