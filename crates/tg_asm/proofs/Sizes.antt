@@ -5,7 +5,8 @@ use Rattle.std.proofs.lemmas.List.{length-replicate}
 use Rattle.tg_isa.specs.declared.keywords.AsmRule.{AsmRule}
 use Rattle.tg_isa.specs.Lines.{lines}
 use Rattle.tg_isa.specs.Items.{Item, Nothing, Section, Words, Data', Coded, Datum, Value, Place, Single, Bytes, Zeros, width, widths}
-use Rattle.tg_isa.specs.Assembly.{Layout, Spot, Reading, Made, blank, unmade, spot_of, add_label, add_new, add_one, add_labels, add_words, add_data, add_item, add_reading, add_line, layout, round_up, word, make_words, address_of, datum_bytes, place_bytes, make_data, pad, make_item, make_reading, make_line, make, reading, most_words, most_bytes}
+use Rattle.tg_base.specs.State.{most_words, most_bytes}
+use Rattle.tg_isa.specs.Assembly.{Layout, Spot, Reading, Made, blank, unmade, spot_of, add_label, add_new, add_one, add_labels, add_words, add_data, add_item, add_reading, add_line, layout, round_up, word, make_words, address_of, datum_bytes, place_bytes, make_data, pad, make_item, make_reading, make_line, make, reading}
 
 -- the segment is the same, and there are as many words and bytes
 pub record Even (l : Layout) (m : Made) : Type 0 where

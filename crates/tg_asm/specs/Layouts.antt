@@ -1,5 +1,6 @@
 -- Layouts of the code, as the definition has them.
 use Rattle.std.specs.Prelude.{◌≤◌, ◌≡◌, ⊤, Result, Ok, Err}
+use Rattle.tg_base.specs.State.{most_words, most_bytes}
 use Rattle.tg_isa.specs.Assembly as assembly
 use Rattle.tg_asm.specs.declared.faults.AsmFault.{AsmFault}
 use Rattle.tg_asm.specs.declared.faults.AsmFault.TheVariants as fault
@@ -10,7 +11,7 @@ layout_of l = record { segment = l.segment; words = l.words; starts = l.starts.i
 
 -- the segments are within their limits
 abbrev pub IsSmall : assembly.Layout → Type 0
-IsSmall l = (l.words ≤ assembly.most_words) × (l.size ≤ assembly.most_bytes)
+IsSmall l = (l.words ≤ most_words) × (l.size ≤ most_bytes)
 
 -- A call gives the layout of the definition, or its fault; or memory was wanting.
 abbrev pub GivesLayout : Result assembly.Layout assembly.Fault → Result Layout AsmFault → Type 0

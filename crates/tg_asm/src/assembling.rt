@@ -1,4 +1,5 @@
 ghost use Rattle.std.specs.Prelude.{◌≡◌, ◌≤◌, ◌==◌, IfOk, count_by, length};
+ghost use Rattle.tg_base.specs.State.{most_bytes, most_words};
 ghost use Rattle.tg_isa.specs.Assembly as assembly;
 ghost use Rattle.tg_asm.specs.Images.{GivesImage};
 ghost use Rattle.tg_asm.specs.Layouts.{layout_of};
@@ -48,8 +49,8 @@ fn last_line(text: &[u8]) -> u64
 /// wanting, and may come in place of any other answer. The time is linear in the sizes of the text and of the image.
 pub fn assemble(alloc: Global, text: &[u8]) -> Result<Image, AsmFault>
     ensures image { GivesImage (assembly.assembled text.now) result }
-    ensures code { IfOk result (λ i. length i.code ≤ 66060288) }
-    ensures statics { IfOk result (λ i. length i.statics ≤ 16711680) }
+    ensures code { IfOk result (λ i. length i.code ≤ most_words) }
+    ensures statics { IfOk result (λ i. length i.statics ≤ most_bytes) }
 {
     let layout = lay_out(alloc, text)?;
     let made = make(alloc, &layout, text)?;

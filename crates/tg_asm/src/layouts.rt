@@ -1,4 +1,5 @@
 ghost use Rattle.std.specs.Prelude.{◌≡◌, ◌≤◌, ◌<◌, ◌^◌, map, min, length, OnOk, IfOk, Ok};
+ghost use Rattle.tg_base.specs.State.{most_bytes};
 ghost use Rattle.tg_isa.specs.Assembly as assembly;
 ghost use Rattle.tg_isa.specs.Items as items;
 ghost use Rattle.tg_asm.specs.Cuts.{texts};
@@ -15,13 +16,8 @@ use crate::labels::Labels;
 use crate::readings::{Reading, read_line};
 use crate::spots::Spot;
 use std::alloc::Global;
+use tg_base::{MOST_BYTES, MOST_WORDS};
 use tg_isa::{AsmRule, Segment};
-
-/// The greatest number of words of code.
-const MOST_WORDS: u32 = 66060288;
-
-/// The greatest number of bytes of statics.
-const MOST_BYTES: u32 = 16711680;
 
 /// More bytes than any segment takes.
 const CAP: u64 = 1099511627776;
@@ -64,7 +60,7 @@ fn widths(data: &[Datum<'_>]) -> u64
 
 /// The first multiple of a number from a place on.
 pub(crate) fn round_up(place: u32, align: Align) -> u32
-    requires { place ≤ 16711680 }
+    requires { place ≤ most_bytes }
     ensures value { result ≡ assembly.round_up place (bytes_of align) }
     ensures bound { result ≤ 16711688 }
 {

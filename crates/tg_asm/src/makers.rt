@@ -8,25 +8,20 @@ ghost use Rattle.tg_asm.specs.Spots.{found_spot, spot_of};
 use crate::items::Coded;
 use crate::layouts::Layout;
 use crate::spots::Spot;
-use tg_base::{add, mul};
+use tg_base::{CODE_BASE, STATICS_BASE, add, mul};
 use tg_isa::{AsmRule, Bits, Mips, Reg, encode};
-
-/// Where the code begins, and where the statics begin.
-const CODE: u32 = 0x0040_0000;
-
-const STATICS: u32 = 0x1001_0000;
 
 /// The place of a spot.
 pub(crate) fn address(layout: &Layout, spot: Spot) -> u32
     ensures { result ≡ assembly.address (layout_of layout.now) (spot_of spot) }
 {
     match spot {
-        Spot::InCode(at) => add(CODE, mul(4, at)),
+        Spot::InCode(at) => add(CODE_BASE, mul(4, at)),
         Spot::InStatics(at) => {
             if at < layout.starts.len() {
-                add(STATICS, layout.starts[at])
+                add(STATICS_BASE, layout.starts[at])
             } else {
-                add(STATICS, layout.size)
+                add(STATICS_BASE, layout.size)
             }
         }
     }

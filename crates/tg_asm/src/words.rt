@@ -3,6 +3,7 @@ ghost use Rattle.tg_isa.specs.Items as items;
 ghost use Rattle.tg_isa.specs.Items.{spelling};
 ghost use Rattle.tg_isa.specs.declared.keywords.Keyword.{Keyword};
 
+use tg_base::MOST_BYTES;
 use tg_isa::{Keyword, Segment, Slot};
 
 /// The item that a word is spelled as.
@@ -162,7 +163,7 @@ pub(crate) fn greatest(keyword: Keyword) -> u64
         Keyword::Andi | Keyword::Ori | Keyword::Xori | Keyword::Lui => 65535,
         Keyword::Li | Keyword::Word => 4294967295,
         Keyword::Byte => 255,
-        Keyword::Space => 16711680,
+        Keyword::Space => u64::from(MOST_BYTES),
         Keyword::Align => 3,
         _ => 0,
     }

@@ -6,11 +6,12 @@ use Rattle.std.specs.List.{All}
 use Rattle.std.proofs.lemmas.List.{append-nil, map-append, get_or_append_left}
 use Rattle.std.proofs.Math.Seq.{get_or-append_seam}
 use Rattle.std.proofs.lemmas.Slice.Eq.{bytes_eq-Decides}
+use Rattle.tg_base.specs.State.{most_words, most_bytes}
 use Rattle.tg_isa.specs.declared.keywords.Segment.{Segment}
 use Rattle.tg_isa.specs.declared.keywords.Segment.TheVariants.{Code, Statics}
 use Rattle.tg_isa.specs.declared.keywords.AsmRule.{AsmRule}
 use Rattle.tg_isa.specs.Items.{Item, Nothing, Section, Words, Data', widths}
-use Rattle.tg_isa.specs.Assembly.{Reading, Spot, InCode, InStatics, Layout, next_spot, spot_among, spot_of, add_label, add_labels, round_up, most_words, most_bytes, add_item, labelled_item, add_reading, add_line, Fault, layout}
+use Rattle.tg_isa.specs.Assembly.{Reading, Spot, InCode, InStatics, Layout, next_spot, spot_among, spot_of, add_label, add_labels, round_up, add_item, labelled_item, add_reading, add_line, Fault, layout}
 use Rattle.tg_isa.specs.Placement.{segment_behind, Reads, item_words, code_in, byte_behind, last_byte, labels_in}
 
 -- the items of the statics among readings: how many, and where each begins

@@ -3,10 +3,11 @@ use Rattle.std.specs.Prelude.{IsSome, if◌then◌else◌}
 use Rattle.std.proofs.Common.{◌≡◌, ◌≤◌, ◌+◌, ℕ, true, false, Bool, List, [], ◌∷◌, ◌++◌, length, map, Option, Some, None, Ok, get_or, refl, sym, ap, subst, ◌∙◌, arith, append_assoc, length-append}
 use Rattle.std.specs.Str.{bytes_eq}
 use Rattle.std.proofs.lemmas.List.{map-append, get_or-append-add}
+use Rattle.tg_base.specs.State.{most_words, most_bytes}
 use Rattle.tg_isa.specs.declared.keywords.Segment.{Segment}
 use Rattle.tg_isa.specs.declared.keywords.Segment.TheVariants.{Code, Statics}
 use Rattle.tg_isa.specs.Items.{Item, Nothing, Section, Words, Data', widths}
-use Rattle.tg_isa.specs.Assembly.{Reading, Spot, InCode, InStatics, Layout, spot_among, spot_of, address, address_of, most_words, most_bytes, round_up}
+use Rattle.tg_isa.specs.Assembly.{Reading, Spot, InCode, InStatics, Layout, spot_among, spot_of, address, address_of, round_up}
 use Rattle.tg_isa.specs.Placement.{segment_behind, item_words, code_in, byte_behind, last_byte, begins_at, next_byte, Position, AtWord, AtByte, address_at, next_position, Positions, positions_from, position_of, found_address}
 use Rattle.tg_isa.proofs.FirstPass.{item_starts, starts_from, spot_next, Entries, named_so, spots_from, starts_alike, bytes_grow}
 

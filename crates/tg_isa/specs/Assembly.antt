@@ -1,7 +1,7 @@
 -- The assembly relation: which image a text is, or its first fault with its line (SPIM manual, assembler syntax).
 use Rattle.std.specs.Prelude.{ℕ, ◌+◌, ◌-◌, ◌/◌, ◌%◌, ◌^◌, List, [], ◌∷◌, ◌++◌, length, replicate, slice_index_or, ◌==◌, nat_le, nat_lt, if◌then◌else◌, codes, Option, Some, None, Result, Ok, Err}
 use Rattle.std.specs.Str.{bytes_eq}
-use Rattle.tg_base.specs.State.{code_base, statics_base}
+use Rattle.tg_base.specs.State.{code_base, statics_base, most_words, most_bytes}
 use Rattle.tg_base.specs.Words.{add, mul}
 use Rattle.tg_isa.specs.declared.mips.Mips.{Mips}
 use Rattle.tg_isa.specs.declared.mips.Mips.TheVariants as row
@@ -87,13 +87,6 @@ add_labels l (name ∷ more) =
 -- the first multiple of a number from a place on
 abbrev pub round_up : ℕ → ℕ → ℕ
 round_up n multiple = n + (multiple - n % multiple) % multiple
-
--- the greatest number of words of code, and of bytes of statics
-abbrev pub most_words : ℕ
-most_words = 66060288
-
-abbrev pub most_bytes : ℕ
-most_bytes = 16711680
 
 abbrev pub add_words : Layout → ℕ → Result Layout AsmRule
 add_words l n = if nat_le (l.words + n) most_words then Ok (record l { words = l.words + n }) else Err A8

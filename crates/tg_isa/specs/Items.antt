@@ -1,6 +1,7 @@
 -- Items of assembly text, and what each means for the code or the statics (SPIM manual, assembler syntax).
 use Rattle.std.specs.Prelude.{ℕ, ◌+◌, ◌/◌, ◌%◌, ◌^◌, List, [], ◌∷◌, ◌++◌, length, Bool, true, false, ◌==◌, ◌&&◌, if◌then◌else◌, codes, Option, Some, None, Result, Ok, Err}
 use Rattle.std.specs.Str.{bytes_eq}
+use Rattle.tg_base.specs.State.{most_bytes}
 use Rattle.tg_isa.specs.declared.mips.Mips.{Mips}
 use Rattle.tg_isa.specs.declared.mips.Mips.TheVariants as row
 use Rattle.tg_isa.specs.declared.keywords.Keyword.{Keyword}
@@ -172,7 +173,7 @@ greatest Sw = 32767
 greatest Li = 4294967295
 greatest Word = 4294967295
 greatest Byte = 255
-greatest Space = 16711680
+greatest Space = most_bytes
 greatest Align = 3
 greatest _ = 0
 

@@ -1,14 +1,14 @@
 -- Where the items and the labels of a text stand, and the image that they make (SPIM manual, assembler syntax).
 use Rattle.std.specs.Prelude.{ℕ, ◌+◌, ◌-◌, ◌*◌, ◌/◌, ◌%◌, ◌^◌, ◌≡◌, ◌≢◌, ◌<◌, ◌≤◌, ⊤, List, [], ◌∷◌, ◌++◌, length, map, replicate, AllPairs, if◌then◌else◌, codes, Option, Some, None, Ok, IsSome}
 use Rattle.std.specs.Str.{bytes_eq}
-use Rattle.tg_base.specs.State.{code_base, statics_base}
+use Rattle.tg_base.specs.State.{code_base, statics_base, most_words, most_bytes}
 use Rattle.tg_isa.specs.declared.mips.Mips.TheVariants as row
 use Rattle.tg_isa.specs.declared.keywords.Segment.{Segment}
 use Rattle.tg_isa.specs.declared.keywords.Segment.TheVariants.{Code, Statics}
 use Rattle.tg_isa.specs.Table.{word_of}
 use Rattle.tg_isa.specs.Operands.{field}
 use Rattle.tg_isa.specs.Items.{Item, Section, Words, Data', Coded, Fixed, Branch, Jump, Upper, Lower, Datum, Value, Place, Single, Bytes, Zeros, widths}
-use Rattle.tg_isa.specs.Assembly.{Reading, reading, Assembled, round_up, most_words, most_bytes, with_offset, with_target, word_bytes}
+use Rattle.tg_isa.specs.Assembly.{Reading, reading, Assembled, round_up, with_offset, with_target, word_bytes}
 
 -- the segment in force behind an item
 abbrev pub segment_behind : Segment → Item → Segment

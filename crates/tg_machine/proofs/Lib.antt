@@ -2,3 +2,4 @@ pub mod Product
 pub mod Texts
 pub mod Runs
 pub mod Reached
+pub mod Chaining

@@ -12,7 +12,7 @@ use Rattle.tg_isa.specs.Effects.{step}
 use Rattle.tg_isa.specs.Runs.{World, Running, run, begun, answers, first_answer, later_answers}
 use Rattle.tg_machine.specs.Machines.{simulated}
 use Rattle.tg_machine.specs.Moves.{IsOwn, Answers, Moved}
-use Rattle.tg_machine.specs.Ran.{Ran, Tells, ComesToRead, ComesToWrite, counted, still, ended, read_failed, write_failed}
+use Rattle.tg_machine.specs.Ran.{Ran, GoesOn, Tells, StillTells, ComesToRead, ComesToWrite, counted, still, ended, read_failed, write_failed}
 use Rattle.tg_machine.proofs.Runs.{run_more, run_over}
 
 -- some answers that a source tells or may give
@@ -53,6 +53,18 @@ kept_tells None new rest k t = tt
 kept_tells (Some xs) None rest k t = absurd k
 kept_tells (Some xs) (Some ys) rest k t = t ∙ ap (map Some) k
 
+-- and still tells
+answer_tells : (old new : Option (List ℕ)) (answer : Option ℕ) → Answers old new answer → StillTells old new
+answer_tells None new answer h k = cc
+answer_tells (Some xs) (Some ys) answer h k = refl
+answer_tells (Some xs) None (Some b) h k = absurd h
+answer_tells (Some xs) None None h k = absurd h.0
+
+keep_tells : (old new : Option (List ℕ)) → Keeps old new → StillTells old new
+keep_tells None new h k = cc
+keep_tells (Some xs) (Some ys) h k = refl
+keep_tells (Some xs) None h k = absurd h
+
 -- after so many steps
 pub record Reached {I O : Type 0}
     (left : I → Option (List ℕ)) (read_faults : I → ℕ) (taken : O → Option (List ℕ)) (write_faults : O → ℕ)
@@ -61,6 +73,7 @@ pub record Reached {I O : Type 0}
   pub output : List ℕ
   pub told : (rest : List (Option ℕ)) → Tells (left input') rest → Tells (left input) (read ++ rest)
   pub comes : (rest : List (Option ℕ)) → Tells (left input') rest → run n (begun old (read ++ rest)) ≡ Running (record { machine = new; input = rest; output = output })
+  pub tells : StillTells (left input) (left input')
   pub writes : Appends (taken out) (taken out') output
   pub unread : (input' ≡ input) ⊎ ((rest : List (Option ℕ)) → Tells (left input') rest → ComesToRead n (begun old (read ++ rest)))
   pub unwritten : (out' ≡ out) ⊎ ((rest : List (Option ℕ)) → Tells (left input') rest → ComesToWrite n (begun old (read ++ rest)))
@@ -75,6 +88,7 @@ reached_none left read_faults taken write_faults s input out written fits = reco
   output = [];
   told = λ rest t. t;
   comes = λ rest t. refl;
+  tells = λ h. h;
   writes = Appends-nil (taken out);
   unread = inl refl;
   unwritten = inl refl;
@@ -83,7 +97,7 @@ reached_none left read_faults taken write_faults s input out written fits = reco
   counts = omega (arith, fits);
 }
 
-counted-add : (w a b : ℕ) → counted (counted w a) b ≡ counted w (a + b)
+pub counted-add : (w a b : ℕ) → counted (counted w a) b ≡ counted w (a + b)
 counted-add w a b = omega arith
 
 later_read : (n : ℕ) (w : World) → ComesToRead n w → ComesToRead (n + 1) w
@@ -126,6 +140,7 @@ reached_goes left read_faults taken write_faults n old mid new first input start
   output = r.output;
   told = r.told;
   comes = λ rest t. run_more n (begun old (r.read ++ rest)) _ (Goes new) _ (r.comes rest t) s refl;
+  tells = r.tells;
   writes = r.writes;
   unread = onto_same (left input) r.read (λ l. ComesToRead n (begun old l)) (λ l. ComesToRead (n + 1) (begun old l)) (λ l. later_read n (begun old l)) r.unread;
   unwritten = onto_same (left input) r.read (λ l. ComesToWrite n (begun old l)) (λ l. ComesToWrite (n + 1) (begun old l)) (λ l. later_write n (begun old l)) r.unwritten;
@@ -149,6 +164,7 @@ reached_reads left read_faults taken write_faults n old mid after new first inpu
       comes = λ rest t. ap (λ l. run (n + 1) (begun old l)) (append_assoc r.read ad.more rest)
           ∙ run_more n (begun old (r.read ++ (ad.more ++ rest))) _ (Reads after) _ (r.comes (ad.more ++ rest) (ad.tells rest t)) s
           (same_world _ _ _ _ r.output (ap (answered after) (ad.first rest t) ∙ sym is) (ad.later rest t));
+      tells = λ h. answer_tells (left input) (left input') answer a (r.tells h);
       writes = r.writes;
       unread = inr (λ rest t. at_read old mid after n (r.read ++ ad.more) rest r.output (ad.more ++ rest)
           (ap (λ l. run n (begun old l)) (append_assoc r.read ad.more rest) ∙ r.comes (ad.more ++ rest) (ad.tells rest t)) s);
@@ -177,6 +193,7 @@ reached_writes left read_faults taken write_faults n old mid new first input sta
       output = r.output ++ bytes;
       told = r.told;
       comes = λ rest t. run_more n (begun old (r.read ++ rest)) _ (Writes bytes new) _ (r.comes rest t) s refl;
+      tells = r.tells;
       writes = Appends-trans (taken start) (taken out) (taken out') r.output bytes r.writes a;
       unread = onto_same (left input) r.read (λ l. ComesToRead n (begun old l)) (λ l. ComesToRead (n + 1) (begun old l)) (λ l. later_read n (begun old l)) r.unread;
       unwritten = inr (λ rest t. at_write old mid new n (r.read ++ rest) rest r.output bytes (r.comes rest t) s);
@@ -247,6 +264,7 @@ ran_all left read_faults taken write_faults n old new input input' out out' writ
       stops = still (r.comes rest t) refl refl;
       told = r.told rest t;
       rest = t;
+      tells = r.tells;
       writes = subst (Appends (taken out) (taken out')) (sym (append-nil r.output)) r.writes;
       unread = given (left input') r.read rest (λ l. ComesToRead n (begun old l)) t r.unread;
       unwritten = given (left input') r.read rest (λ l. ComesToWrite n (begun old l)) t r.unwritten;
@@ -254,7 +272,7 @@ ran_all left read_faults taken write_faults n old new input input' out out' writ
       writes_later = r.writes_later;
       read_cause = λ h. cc;
       write_cause = λ h. cc;
-      goes_on = λ _. (refl, refl);
+      goes_on = λ _. record { running = r.comes rest t; end = refl; state = refl; whole = refl };
       keeps = λ h. absurd (h refl);
       written = r.counts;
     }
@@ -275,6 +293,7 @@ ran_ended left read_faults taken write_faults steps n old mid new input input' o
       stops = ended (run_over steps n (begun old (r.read ++ rest)) _ e lt (r.comes rest t) s) refl;
       told = r.told rest t;
       rest = t;
+      tells = r.tells;
       writes = subst (Appends (taken out) (taken out')) (sym (append-nil r.output)) r.writes;
       unread = touched_read n steps (begun old (r.read ++ rest)) le (given (left input') r.read rest (λ l. ComesToRead n (begun old l)) t r.unread);
       unwritten = touched_write n steps (begun old (r.read ++ rest)) le (given (left input') r.read rest (λ l. ComesToWrite n (begun old l)) t r.unwritten);
@@ -287,7 +306,7 @@ ran_ended left read_faults taken write_faults steps n old mid new input input' o
       written = r.counts;
     }
 
-rose_later : (a b c : ℕ) → a ≤ b → Rose b c → Rose a c
+pub rose_later : (a b c : ℕ) → a ≤ b → Rose b c → Rose a c
 rose_later a b c le h = omega arith
 
 ran_unread : {I O : Type 0} (left : I → Option (List ℕ)) (read_faults : I → ℕ) (taken : O → Option (List ℕ)) (write_faults : O → ℕ)
@@ -308,6 +327,7 @@ ran_unread left read_faults taken write_faults steps n old mid new after first i
       stops = read_failed n lt (r.comes rest t) (after, s) refl refl;
       told = r.told rest t;
       rest = t';
+      tells = λ h. keep_tells (left input) (left input') keeps (r.tells h);
       writes = subst (Appends (taken start) (taken out)) (sym (append-nil r.output)) r.writes;
       unread = inr (record { steps = n; world = record { machine = mid; input = rest; output = r.output }; within = lt; comes = r.comes rest t; reading = (after, s) });
       unwritten = touched_write n steps (begun old (r.read ++ rest)) le (given (left input) r.read rest (λ l. ComesToWrite n (begun old l)) t r.unwritten);
@@ -337,6 +357,7 @@ ran_unwritten left read_faults taken write_faults steps n old mid new after firs
       stops = write_failed n takes.1 lt (r.comes rest t) (after, s ∙ ap (λ b. Writes b after) takes.2) refl;
       told = r.told rest t;
       rest = t;
+      tells = r.tells;
       writes = Appends-trans (taken start) (taken out) (taken out') r.output takes.0 r.writes takes.3;
       unread = touched_read n steps (begun old (r.read ++ rest)) le (given (left input) r.read rest (λ l. ComesToRead n (begun old l)) t r.unread);
       unwritten = inr (record { steps = n; world = record { machine = mid; input = rest; output = r.output }; bytes = bytes; within = lt; comes = r.comes rest t; writing = (after, s) });
@@ -367,3 +388,14 @@ ran_out left read_faults taken write_faults steps n old mid new first input inpu
 ran_out left read_faults taken write_faults steps n old mid new first input input' start out out' before written written' (Writes bytes s) (Err f) e lt r is was m =
     let same : e ≡ WriteFault = cc (was, m.0.0) in
     rw (same, m.2, m.0.3) (ran_unwritten left read_faults taken write_faults steps n old mid new s first input start out out' before written bytes lt r is m.0.1 m.0.2 m.1)
+
+-- no step ends by the limit of steps
+pub moved_apart : {T I O : Type 0} (left : I → Option (List ℕ)) (read_faults : I → ℕ) (taken : O → Option (List ℕ)) (write_faults : O → ℕ)
+    (new : State) (input input' : I) (out out' : O) (written written' : ℕ) (d : Step) (result : Result T RunEnd) (e : RunEnd) →
+    result ≡ Err e → Moved left read_faults taken write_faults d result new input input' out out' written written' → e ≡ StepLimit → ⊥
+moved_apart left read_faults taken write_faults new input input' out out' written written' d (Ok done) e was m h = cc
+moved_apart left read_faults taken write_faults new input input' out out' written written' (Goes s) (Err f) e was m h = absurd m.0
+moved_apart left read_faults taken write_faults new input input' out out' written written' (Ends g) (Err f) e was m h =
+    own_limit f m.0.1 (cc (was, h))
+moved_apart left read_faults taken write_faults new input input' out out' written written' (Reads s) (Err f) e was m h = cc (was, h, m.0.0)
+moved_apart left read_faults taken write_faults new input input' out out' written written' (Writes bytes s) (Err f) e was m h = cc (was, h, m.0.0)

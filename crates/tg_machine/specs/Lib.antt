@@ -3,3 +3,4 @@ pub mod Inside
 pub mod Ran
 pub mod Layout
 pub mod Moves
+pub mod Laws

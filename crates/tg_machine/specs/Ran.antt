@@ -1,5 +1,5 @@
 -- What a call that makes at most so many steps leaves of the machine, of the source and of the sink.
-use Rattle.std.specs.Prelude.{ℕ, ◌+◌, ◌-◌, ◌^◌, ◌≡◌, ◌≢◌, ◌<◌, ◌≤◌, ◌⊎◌, ⊤, min, List, [], ◌++◌, length, Option, Some, None}
+use Rattle.std.specs.Prelude.{ℕ, ◌+◌, ◌-◌, ◌^◌, ◌≡◌, ◌≢◌, ◌<◌, ◌≤◌, ◌⊎◌, ⊤, min, List, [], ◌++◌, length, Option, Some, None, IsSome}
 use Rattle.std.specs.Io.KnownBytes.{Appends}
 use Rattle.tg_base.specs.declared.ends.RunEnd.{RunEnd}
 use Rattle.tg_base.specs.declared.ends.RunEnd.TheVariants.{StepLimit, ReadFault, WriteFault}
@@ -14,6 +14,10 @@ use Rattle.tg_machine.specs.Machines.{Simulated}
 abbrev pub Tells : Option (List ℕ) → List (Option ℕ) → Type 0
 Tells None input = ⊤
 Tells (Some bytes) input = input ≡ answers bytes
+
+-- a source that tells its bytes still does
+abbrev pub StillTells : Option (List ℕ) → Option (List ℕ) → Type 0
+StillTells old new = IsSome old → IsSome new
 
 -- the machine is at a service that reads; or at one that writes these bytes
 abbrev pub IsReading : State → Type 0
@@ -50,6 +54,13 @@ pub data Stops (n : ℕ) (w : World) (e : RunEnd) (last : World) (front : List �
 abbrev pub counted : ℕ → ℕ → ℕ
 counted n more = min (n + more) (2 ^ 64 - 1)
 
+-- all steps were made, and the machine goes on from the last world
+pub record GoesOn (n : ℕ) (w last : World) (new : Simulated) (front : List ℕ) : Type 0 where
+  pub running : run n w ≡ Running last
+  pub end : new.end ≡ None
+  pub state : new.state ≡ last.machine
+  pub whole : front ≡ []
+
 -- The call runs the machine on what the reads of the source answer, and writes to the sink what the run writes.
 pub record Ran {I O : Type 0}
     (left : I → Option (List ℕ)) (read_faults : I → ℕ) (taken : O → Option (List ℕ)) (write_faults : O → ℕ)
@@ -61,6 +72,7 @@ pub record Ran {I O : Type 0}
   -- the source's bytes before and after, where it tells them, and the sink's
   pub told : Tells (left input) input_before
   pub rest : Tells (left input') last.input
+  pub tells : StillTells (left input) (left input')
   pub writes : Appends (taken out) (taken out') (last.output ++ front)
   -- a source is left alone where no service reads, and a sink where none writes
   pub unread : (input' ≡ input) ⊎ ComesToRead n (begun old.state input_before)
@@ -71,6 +83,6 @@ pub record Ran {I O : Type 0}
   pub read_cause : e ≡ ReadFault → Rose (read_faults input) (read_faults input')
   pub write_cause : e ≡ WriteFault → Rose (write_faults out) (write_faults out')
   -- the machine goes on from the last world, or keeps its end
-  pub goes_on : e ≡ StepLimit → (new.end ≡ None) × (new.state ≡ last.machine)
+  pub goes_on : e ≡ StepLimit → GoesOn n (begun old.state input_before) last new front
   pub keeps : e ≢ StepLimit → new.end ≡ Some e
   pub written : new.written ≡ counted old.written (length last.output)

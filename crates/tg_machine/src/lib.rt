@@ -5,6 +5,7 @@
 
 mod cores;
 mod effects;
+mod laws;
 mod loading;
 mod machines;
 mod services;
@@ -15,6 +16,7 @@ mod steps;
 mod tests;
 mod words;
 
+pub use laws::calls_chain;
 pub use loading::load;
 pub use machines::Machine;
 pub use status::Status;

@@ -1,4 +1,4 @@
-ghost use Rattle.std.specs.Prelude.{◌≡◌, ◌<◌, None, IfSome};
+ghost use Rattle.std.specs.Prelude.{◌≡◌, ◌≢◌, ◌<◌, None, IfSome};
 ghost use Rattle.tg_machine.specs.Machines.{HasEnded, end_of};
 ghost use Rattle.tg_machine.specs.Ran.{Ran};
 
@@ -37,6 +37,7 @@ impl Machine {
 
     /// Makes one step, whose fetch counts. A machine that has ended answers its end again and does nothing.
     pub fn step<I: Source, O: Sink>(&mut self, input: &mut I, out: &mut O) -> Status
+        ensures apart { self.old.end ≡ None → result ≢ Status.Ended RunEnd.StepLimit }
         ensures step { self.old.end ≡ None →
             Ran I.left I.faults O.taken O.faults 1 self.old self.new
             input.old input.new out.old out.new (end_of result) }
@@ -64,6 +65,7 @@ impl Machine {
     /// Makes at most so many steps, where the machine hasn't ended.
     #[inline(always)]
     fn advance<I: Source, O: Sink>(&mut self, input: &mut I, out: &mut O, steps: u64) -> Status
+        ensures apart { self.old.end ≡ None → result ≢ Status.Ended RunEnd.StepLimit }
         ensures run { self.old.end ≡ None →
             Ran I.left I.faults O.taken O.faults steps self.old self.new
             input.old input.new out.old out.new (end_of result) }

@@ -1,4 +1,4 @@
-ghost use Rattle.std.specs.Prelude.{◌<◌, ◌^◌, None};
+ghost use Rattle.std.specs.Prelude.{◌<◌, ◌^◌, ◌≢◌, None};
 ghost use Rattle.tg_isa.specs.Effects.{step};
 ghost use Rattle.tg_machine.specs.Machines.{end_of, kept, simulated};
 ghost use Rattle.tg_machine.specs.Moves.{Moved};
@@ -38,7 +38,8 @@ impl Core {
         steps: u64,
     ) -> Status
         requires { written.old < 2 ^ 64 }
-        ensures { Ran I.left I.faults O.taken O.faults steps
+        ensures apart { result ≢ Status.Ended RunEnd.StepLimit }
+        ensures ran { Ran I.left I.faults O.taken O.faults steps
             (simulated self.old None written.old) (simulated self.new (kept result) written.new)
             input.old input.new out.old out.new (end_of result) }
     {
