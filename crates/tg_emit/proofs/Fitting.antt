@@ -3,32 +3,13 @@ use Rattle.std.proofs.Common.{ℕ, ◌≡◌, ◌<◌, ◌≤◌, ◌*◌, List,
 use Rattle.std.specs.Prelude.{IsTrue, ◌&&◌}
 use Rattle.std.specs.List.{list_all}
 use Rattle.std.proofs.lemmas.Bool.Decides.{nat_tests}
-use Rattle.std.proofs.lemmas.List.Folds.{list_all_at}
 use Rattle.tg_frame.specs.declared.frames.Frame.{Frame}
 use Rattle.tg_instr.specs.declared.instr.Instr.{Instr}
 use Rattle.tg_instr.specs.declared.instr.Instr.TheVariants.{FrameLoad, FrameStore}
 use Rattle.tg_instr.specs.Codes.{has_slots_below}
+use Rattle.tg_instr.proofs.Tests.{left_holds, right_holds, both_hold}
 use Rattle.tg_emit.specs.Conditions.{fits_frame}
 use Rattle.tg_emit.specs.Lines.{size_of}
-
-pub left_holds : (a b : Bool) → IsTrue (a && b) → IsTrue a
-left_holds true b h = refl
-left_holds false b h = h
-
-pub right_holds : (a b : Bool) → IsTrue (a && b) → IsTrue b
-right_holds true b h = h
-right_holds false b h = cc
-
-pub both_hold : (a b : Bool) → IsTrue a → IsTrue b → IsTrue (a && b)
-both_hold true b h k = k
-both_hold false b h k = h
-
-pub all_at : {X : Type 0} (p : X → Bool) (xs : List X) (i : ℕ) (d : X) → i < length xs → IsTrue (list_all p xs) → IsTrue (p (get_or xs i d))
-all_at p xs i d h all = by_cases (p (get_or xs i d)) refl
-  where
-    by_cases : (b : Bool) → p (get_or xs i d) ≡ b → IsTrue b
-    by_cases true e = refl
-    by_cases false e = let no : list_all p xs ≡ false = list_all_at p xs i d h e in cc
 
 fits_one : (slots size : ℕ) → 4 * slots ≤ size → (one : Instr) → IsTrue (has_slots_below slots one) → IsTrue (fits_frame size one)
 fits_one slots size h (FrameLoad to k) below = grind (arith, nat_tests)

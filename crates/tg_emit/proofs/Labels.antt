@@ -5,7 +5,7 @@ use Rattle.std.proofs.lemmas.Bool.Decides.{nat_tests}
 use Rattle.std.proofs.lemmas.Str.{IsUtf8-from_ascii}
 use Rattle.tg_isa.specs.Lines.{back, begins_label, is_in_label, is_past_label}
 use Rattle.tg_isa.specs.Operands.{is_label}
-use Rattle.tg_emit.proofs.Fitting.{left_holds, right_holds}
+use Rattle.tg_instr.proofs.Tests.{left_holds, right_holds}
 use Rattle.tg_isa.specs.declared.mips.Mips.{Mips}
 use Rattle.tg_isa.specs.declared.mips.Mips.TheVariants as row
 use Rattle.tg_isa.specs.Writing.{takes_label, line_of}

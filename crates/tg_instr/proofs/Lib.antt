@@ -1,0 +1,2 @@
+-- tests of both and of all, for the passes above
+pub mod Tests

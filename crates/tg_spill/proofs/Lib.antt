@@ -1,0 +1,6 @@
+mod Counts
+mod Examples
+mod Keeping
+mod Making
+mod Naming
+mod Registers
