@@ -91,7 +91,7 @@ temp_keeps (InFrame r ∷ homes) s t le = temp_keeps homes s t le
 temp_keeps (InTemp u ∷ homes) s t le = let k = temp_keeps homes s t (omega arith) in omega arith
 
 -- a home that none of the others is keeps them distinct
-both : (x y : Bool) → (not x && y) ≡ true → (x ≡ false) × (y ≡ true)
+pub both : (x y : Bool) → (not x && y) ≡ true → (x ≡ false) × (y ≡ true)
 both true y e = cc
 both false y e = (refl, e)
 

@@ -19,7 +19,7 @@ use tg_base::{Label, Memory, Temp};
 
 /// A function's frame: its label, the homes of its parameters, how many slots (words) and temporaries were drawn, and
 /// the words at its low end for the arguments past the fourth of the calls that the function makes.
-#[derive(Debug, PartialEq, Eq, Drop)]
+#[derive(Drop)]
 pub struct Frame {
     pub label: Label,
     pub params: Accesses,

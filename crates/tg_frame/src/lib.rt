@@ -4,10 +4,12 @@
 
 mod accesses;
 mod frames;
+mod laws;
 mod links;
 
 pub use accesses::{Access, Accesses};
 pub use frames::{Frame, new_frame};
+pub use laws::homes_stay_apart;
 pub use links::link_path;
 
 #[cfg(test)]

@@ -1,5 +1,6 @@
 mod Examples
 mod SizeExamples
+mod LinkExamples
 pub mod Relating
 pub mod Going
 pub mod Filled
@@ -9,3 +10,4 @@ pub mod FlatValues
 pub mod ListLaws
 pub mod Flatness
 pub mod Linking
+pub mod Alikes

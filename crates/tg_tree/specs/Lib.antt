@@ -7,6 +7,7 @@ pub mod Units
 pub mod Actions
 pub mod Meaning
 pub mod Running
+pub mod Links
 pub mod Flat
 pub mod Shapes
 pub mod Carrying
