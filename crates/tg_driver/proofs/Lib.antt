@@ -13,7 +13,6 @@ pub mod ProgramRuns
 pub mod ProgramsWithin
 pub mod FaultPlaces
 pub mod Typings
-pub mod TokenEnds
 pub mod TokenFacts
 pub mod LineLemmas
 pub mod TokensOnce

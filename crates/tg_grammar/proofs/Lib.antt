@@ -8,4 +8,5 @@ pub mod Covers
 pub mod Standing
 pub mod Orders
 pub mod Begun
+pub mod ThroughProgram
 pub mod NamesKnown

@@ -7,7 +7,9 @@ use Rattle.tg_syntax.specs.declared.tokens.Sign.TheVariants.{Comma, Colon, Semic
 use Rattle.tg_syntax.specs.declared.tokens.Token.{Token}
 use Rattle.tg_syntax.specs.declared.tokens.Token.TheVariants as token
 use Rattle.tg_syntax.specs.declared.tokens.Spanned.{Spanned}
-use Rattle.tg_syntax.specs.Spellings.{word_text, sign_text, IsName, IsDigits, Spells}
+use Rattle.std.specs.Str.Parse.{IsNumeral}
+use Rattle.tg_syntax.proofs.Numerals.{none_is_numeral}
+use Rattle.tg_syntax.specs.Spellings.{word_text, sign_text, IsName, Spells}
 use Rattle.tg_syntax.specs.Lexing.{Lexes, ends, blank, comment, token as one_token}
 use Rattle.tg_grammar.specs.Places.{StandFrom}
 
@@ -63,8 +65,8 @@ full_name : (bytes : List ℕ) → IsName bytes → Full bytes
 full_name [] h = h
 full_name (b ∷ bytes) h = tt
 
-full_digits : (bytes : List ℕ) → IsDigits bytes → Full bytes
-full_digits [] h = h
+full_digits : (bytes : List ℕ) → IsNumeral 10 bytes → Full bytes
+full_digits [] h = none_is_numeral h
 full_digits (b ∷ bytes) h = tt
 
 full : (names : List (List ℕ)) (bytes : List ℕ) (one : Token) → Spells names bytes one → Full bytes

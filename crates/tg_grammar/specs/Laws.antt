@@ -1,8 +1,9 @@
 -- The laws of descent: it reads the programs and no other lists, and refuses the first token that can't stand.
 use Rattle.std.specs.Prelude.{◌≡◌, List, [], ◌∷◌, ◌++◌}
 use Rattle.tg_syntax.specs.declared.tokens.Spanned.{Spanned}
-use Rattle.tg_syntax.specs.Tree.{Exp}
-use Rattle.tg_syntax.specs.Grammar.{IsProgram}
+use Rattle.tg_syntax.specs.Tree.{Exp, Decs}
+use Rattle.tg_syntax.specs.Groups.{AreLongest}
+use Rattle.tg_syntax.specs.Grammar.{AreDecs, IsProgram}
 use Rattle.tg_syntax.specs.SyntaxFaults.{Begins, EndsOnce}
 use Rattle.tg_grammar.specs.Steps.{Got, Bad, Out, Whole_program}
 use Rattle.tg_grammar.specs.Reading.{whole_program, Does}
@@ -10,6 +11,10 @@ use Rattle.tg_grammar.specs.Reading.{whole_program, Does}
 -- a list of tokens has at most one tree
 abbrev pub HasOneTree : Type 0
 HasOneTree = (tokens : List Spanned) (a b : Exp) → IsProgram tokens a → IsProgram tokens b → a ≡ b
+
+-- of the declarations of a `let` each group is as long as possible
+abbrev pub GroupsLongest : Type 0
+GroupsLongest = (tokens : List Spanned) (ds : Decs) → AreDecs tokens ds → AreLongest ds
 
 -- each program is read, to its tree
 abbrev pub ReadsEach : Type 0

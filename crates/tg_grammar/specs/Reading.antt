@@ -1,9 +1,13 @@
 -- Descent by precedence, as programs over the first token of what is left, and what they do to a list of tokens.
 use Rattle.std.specs.Prelude.{ℕ, ◌≡◌, Bool, true, false, List, [], ◌∷◌, ◌++◌, Option, Some, None}
 use Rattle.tg_base.specs.declared.ids.Span.{Span}
-use Rattle.tg_syntax.specs.declared.tokens.Word.TheVariants.{WArray, WBreak, WDo, WElse, WEnd, WFor, WFunction, WIf, WIn, WLet, WNil, WOf, WThen, WTo, WType, WVar, WWhile}
+use Rattle.tg_syntax.specs.declared.tokens.Word.TheVariants.{WArray, WBreak, WDo, WElse, WEnd, WFor}
+use Rattle.tg_syntax.specs.declared.tokens.Word.TheVariants.{WFunction, WIf, WIn, WLet, WNil, WOf}
+use Rattle.tg_syntax.specs.declared.tokens.Word.TheVariants.{WThen, WTo, WType, WVar, WWhile}
 use Rattle.tg_syntax.specs.declared.tokens.Sign.{Sign}
-use Rattle.tg_syntax.specs.declared.tokens.Sign.TheVariants.{Comma, Colon, Semicolon, LeftParen, RightParen, LeftBracket, RightBracket, LeftBrace, RightBrace, Dot, Equal}
+use Rattle.tg_syntax.specs.declared.tokens.Sign.TheVariants.{Comma, Colon, Semicolon, LeftParen}
+use Rattle.tg_syntax.specs.declared.tokens.Sign.TheVariants.{RightParen, LeftBracket, RightBracket}
+use Rattle.tg_syntax.specs.declared.tokens.Sign.TheVariants.{LeftBrace, RightBrace, Dot, Equal}
 use Rattle.tg_syntax.specs.declared.tokens.Sign.TheVariants as sign
 use Rattle.tg_syntax.specs.declared.tokens.Token.{Token}
 use Rattle.tg_syntax.specs.declared.tokens.Token.TheVariants as token
@@ -11,14 +15,24 @@ use Rattle.tg_syntax.specs.declared.tokens.Spanned.{Spanned}
 use Rattle.tg_syntax.specs.declared.tokens.Ident.{Ident}
 use Rattle.tg_syntax.specs.declared.trees.Param.{Param}
 use Rattle.tg_syntax.specs.declared.trees.Op.{Op}
-use Rattle.tg_syntax.specs.Tree.{Form, Alias, Fields, Array, Exp, Nil, Break, Int, Text, Read, Call, Neg, Binary, Make, Fill, Assign, If, When, While, For, Let, Seq, Place, Simple, Field, Index, Exps, no_exps, exp, Inits, no_inits, init, Decs, no_decs}
+use Rattle.tg_syntax.specs.Tree.{Form, Alias, Fields, Array, Exp, Nil, Break, Int, Text, Read, Call}
+use Rattle.tg_syntax.specs.Tree.{Neg, Binary, Make, Fill, Assign, If, When, While, For, Let, Seq}
+use Rattle.tg_syntax.specs.Tree.{Place, Simple, Field, Index, Exps, no_exps, exp, Inits, no_inits}
+use Rattle.tg_syntax.specs.Tree.{init, Decs, no_decs}
 use Rattle.tg_syntax.specs.Spans.{span_of, joined}
 use Rattle.tg_syntax.specs.Tails.{ends_tail, is_short}
-use Rattle.tg_syntax.specs.Groups.{snoc, snoc_init, Dec, one_type, one_variable, one_function, snoc_dec}
-use Rattle.tg_syntax.specs.Grammar.{Level, Whole, Disjunction, Conjunction, Comparison, Sum, Term, Unary, IsIdent}
+use Rattle.tg_syntax.specs.Groups.{snoc, snoc_init, Dec, one_type, one_variable, one_function}
+use Rattle.tg_syntax.specs.Groups.{snoc_dec}
+use Rattle.tg_syntax.specs.Grammar.{Level, Whole, Disjunction, Conjunction, Comparison, Sum, Term}
+use Rattle.tg_syntax.specs.Grammar.{Unary, IsIdent}
 use Rattle.tg_grammar.specs.declared.marks.Mark.{Mark}
 use Rattle.tg_grammar.specs.declared.marks.Mark.TheVariants.{OfSign, OfWord, OfEnd}
-use Rattle.tg_grammar.specs.Steps.{token_of, op_of, Answer, Got, Bad, Out, Job, OneSpan, OneName, At, After, Suffix, Listed, Items, OneInit, ListedInits, MoreInits, OneParam, ListedParams, MoreParams, OneForm, Annotation, TypeDec, VarDec, FunDec, MoreDecs, Whole_program, Of, Steps, give, refuse, want, name, split, oper, leaf, look, test, call}
+use Rattle.tg_grammar.specs.Steps.{token_of, op_of, Answer, Got, Bad, Out, Job, OneSpan, OneName}
+use Rattle.tg_grammar.specs.Steps.{At, After, Suffix, Listed, Items, OneInit, ListedInits}
+use Rattle.tg_grammar.specs.Steps.{MoreInits, OneParam, ListedParams, MoreParams, OneForm}
+use Rattle.tg_grammar.specs.Steps.{Annotation, TypeDec, VarDec, FunDec, MoreDecs, Whole_program, Of}
+use Rattle.tg_grammar.specs.Steps.{Steps, give, refuse, want, name, split, oper, leaf, look, test}
+use Rattle.tg_grammar.specs.Steps.{call}
 
 -- the level of right operands
 abbrev pub below : Level → Level

@@ -10,7 +10,8 @@ use Rattle.tg_syntax.specs.declared.trees.Param.{Param}
 use Rattle.tg_syntax.specs.declared.trees.Op.{Op}
 use Rattle.tg_syntax.specs.Tree.{Form, Exp, Place, Exps, Inits, Decs}
 use Rattle.tg_syntax.specs.Groups.{Dec}
-use Rattle.tg_syntax.specs.Grammar.{Level, Disjunction, Conjunction, Comparison, Sum, Term, or_op, and_op, rel_op, sum_op, term_op}
+use Rattle.tg_syntax.specs.Grammar.{Level, Disjunction, Conjunction, Comparison, Sum, Term, or_op}
+use Rattle.tg_syntax.specs.Grammar.{and_op, rel_op, sum_op, term_op}
 use Rattle.tg_grammar.specs.declared.marks.Mark.{Mark}
 use Rattle.tg_grammar.specs.declared.marks.Mark.TheVariants as mark
 

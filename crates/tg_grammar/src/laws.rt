@@ -8,6 +8,7 @@ ghost use Rattle.tg_grammar.specs.Places.{
 };
 ghost use Rattle.tg_grammar.specs.Laws.{
   HasOneTree,
+  GroupsLongest,
   ReadsEach,
   ReadsPrograms,
   RefusesFirst,
@@ -18,6 +19,11 @@ ghost use Rattle.tg_grammar.specs.Laws.{
 /// A law: each list of tokens is the program of at most one tree.
 pub fn one_tree()
     ensures { HasOneTree }
+{}
+
+/// A law: neighbouring declarations of types, and of functions, are one group (Appel, appendix A.2).
+pub fn groups_are_longest()
+    ensures { GroupsLongest }
 {}
 
 /// The laws of descent: it reads each program and nothing else, and stops at the first token that can't stand.

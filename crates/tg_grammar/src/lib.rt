@@ -5,5 +5,5 @@
 mod laws;
 mod marks;
 
-pub use laws::{descent_is_exact, one_tree, places_are_apart, spans_are_exact};
+pub use laws::{descent_is_exact, groups_are_longest, one_tree, places_are_apart, spans_are_exact};
 pub use marks::Mark;

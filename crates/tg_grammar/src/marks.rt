@@ -1,7 +1,7 @@
 use tg_syntax::{Sign, Word};
 
 /// A token that is known by itself.
-#[derive(Clone, Copy, Debug, PartialEq, Eq)]
+#[derive(Clone, Copy)]
 pub enum Mark {
     OfSign(Sign),
     OfWord(Word),

@@ -4,7 +4,9 @@ use Rattle.std.specs.Prelude.{◌==◌, ◌||◌, ◌⊎◌, MatchBool, IsTrue, 
 use Rattle.std.proofs.lemmas.Bool.{eqb-true}
 use Rattle.std.proofs.lemmas.Bool.Decides.{nat_tests}
 use Rattle.std.proofs.lemmas.List.{take_at, length-take-le}
-use Rattle.tg_syntax.specs.Spellings.{Escape, newline, tab, quote, backslash, control, decimal, blanks, AllAre, is_digit, is_blank, is_between, number_of}
+use Rattle.std.specs.Str.Parse.{digits_value}
+use Rattle.tg_syntax.proofs.Numerals.{is_digit_from, bytes_of_digits, digits_of_bytes}
+use Rattle.tg_syntax.specs.Spellings.{Escape, newline, tab, quote, backslash, control, decimal, blanks, AllAre, is_digit, is_blank, is_between}
 use Rattle.tg_syntax.specs.LexicalFaults.{IsBegun, Misfits}
 use Rattle.tg_lexer.specs.declared.escapes.Escaped.{Escaped}
 use Rattle.tg_lexer.specs.declared.escapes.Escaped.TheVariants.{Cut, Bad}
@@ -84,7 +86,7 @@ escape_one (blanks b more h) a e n t q s = no_end more (tail_is e)
     no_end (x ∷ more) e = not_cons (sym e)
 
 -- a longer one that begins with a caret, a digit or a blank
-escape_more : {xs meant : List ℕ} → Escape xs meant → (a b : ℕ) (more : List ℕ) → xs ≡ a ∷ b ∷ more → is_blank a ≡ false → ((a ≡ 94) × IsTrue (is_between 64 95 b || is_between 97 122 b)) ⊎ (IsTrue (is_digit a) × IsTrue (is_digit b) × (c : ℕ) × (more ≡ c ∷ []) × IsTrue (is_digit c) × (number_of (a ∷ b ∷ c ∷ []) ≤ 255))
+escape_more : {xs meant : List ℕ} → Escape xs meant → (a b : ℕ) (more : List ℕ) → xs ≡ a ∷ b ∷ more → is_blank a ≡ false → ((a ≡ 94) × IsTrue (is_between 64 95 b || is_between 97 122 b)) ⊎ (IsTrue (is_digit a) × IsTrue (is_digit b) × (c : ℕ) × (more ≡ c ∷ []) × IsTrue (is_digit c) × (digits_value 10 (a ∷ b ∷ c ∷ []) ≤ 255))
 escape_more newline a b more e n = absurd (not_cons (tail_is e))
 escape_more tab a b more e n = absurd (not_cons (tail_is e))
 escape_more quote a b more e n = absurd (not_cons (tail_is e))
@@ -93,7 +95,8 @@ escape_more (control x h) a b more e n = inl (sym (head_is e), subst (λ z. IsTr
 escape_more (decimal x y z h le) a b more e n =
     let ea : x ≡ a = head_is e in
     let eb : y ≡ b = head_is (tail_is e) in
-    inr (subst (λ z. IsTrue (is_digit z)) ea h.0, subst (λ z. IsTrue (is_digit z)) eb h.1.0, z, sym (tail_is (tail_is e)), h.1.1.0, subst (λ v. number_of (a ∷ v ∷ z ∷ []) ≤ 255) eb (subst (λ v. number_of (v ∷ y ∷ z ∷ []) ≤ 255) ea le))
+    let d = bytes_of_digits (x ∷ y ∷ z ∷ []) h in
+    inr (subst (λ z. IsTrue (is_digit z)) ea d.0, subst (λ z. IsTrue (is_digit z)) eb d.1.0, z, sym (tail_is (tail_is e)), d.1.1.0, subst (λ v. digits_value 10 (a ∷ v ∷ z ∷ []) ≤ 255) eb (subst (λ v. digits_value 10 (v ∷ y ∷ z ∷ []) ≤ 255) ea le))
 escape_more (blanks x more' h) a b more e n = absurd (apart is_blank a x n h.0 (sym (head_is e)))
 
 digit_blank : (b : ℕ) → is_digit b ≡ true → is_blank b ≡ false
@@ -119,7 +122,7 @@ misfits_caret b h =
       ends = λ meant k. by (escape_more k 94 b [] refl refl);
     }
   where
-    by : ((◌≡◌ {A = ℕ} 94 94) × IsTrue (is_between 64 95 b || is_between 97 122 b)) ⊎ (IsTrue (is_digit 94) × IsTrue (is_digit b) × (c : ℕ) × ([] ≡ c ∷ []) × IsTrue (is_digit c) × (number_of (94 ∷ b ∷ c ∷ []) ≤ 255)) → ⊥
+    by : ((◌≡◌ {A = ℕ} 94 94) × IsTrue (is_between 64 95 b || is_between 97 122 b)) ⊎ (IsTrue (is_digit 94) × IsTrue (is_digit b) × (c : ℕ) × ([] ≡ c ∷ []) × IsTrue (is_digit c) × (digits_value 10 (94 ∷ b ∷ c ∷ []) ≤ 255)) → ⊥
     by (inl x) = clash h x.1
     by (inr x) = clash refl x.0
 
@@ -131,11 +134,11 @@ misfits_digit a b h k =
       ends = λ meant g. by (escape_more g a b [] refl (digit_blank a h));
     }
   where
-    by : ((a ≡ 94) × IsTrue (is_between 64 95 b || is_between 97 122 b)) ⊎ (IsTrue (is_digit a) × IsTrue (is_digit b) × (c : ℕ) × ([] ≡ c ∷ []) × IsTrue (is_digit c) × (number_of (a ∷ b ∷ c ∷ []) ≤ 255)) → ⊥
+    by : ((a ≡ 94) × IsTrue (is_between 64 95 b || is_between 97 122 b)) ⊎ (IsTrue (is_digit a) × IsTrue (is_digit b) × (c : ℕ) × ([] ≡ c ∷ []) × IsTrue (is_digit c) × (digits_value 10 (a ∷ b ∷ c ∷ []) ≤ 255)) → ⊥
     by (inl x) = apart (λ z. z == 94) a 94 (digit_caret a h) refl x.0
     by (inr x) = clash k x.1
 
-pub misfits_digits : (a b c : ℕ) → is_digit a ≡ true → is_digit b ≡ true → (is_digit c ≡ true → 255 < number_of (a ∷ b ∷ c ∷ [])) → Misfits (a ∷ b ∷ []) c
+pub misfits_digits : (a b c : ℕ) → is_digit a ≡ true → is_digit b ≡ true → (is_digit c ≡ true → 255 < digits_value 10 (a ∷ b ∷ c ∷ [])) → Misfits (a ∷ b ∷ []) c
 misfits_digits a b c h k g =
     record {
       is_begun = IsBegun.digits a b h k;
@@ -143,13 +146,13 @@ misfits_digits a b c h k g =
       ends = λ meant x. by (escape_more x a b (c ∷ []) refl (digit_blank a h));
     }
   where
-    by : ((a ≡ 94) × IsTrue (is_between 64 95 b || is_between 97 122 b)) ⊎ (IsTrue (is_digit a) × IsTrue (is_digit b) × (d : ℕ) × (c ∷ [] ≡ d ∷ []) × IsTrue (is_digit d) × (number_of (a ∷ b ∷ d ∷ []) ≤ 255)) → ⊥
+    by : ((a ≡ 94) × IsTrue (is_between 64 95 b || is_between 97 122 b)) ⊎ (IsTrue (is_digit a) × IsTrue (is_digit b) × (d : ℕ) × (c ∷ [] ≡ d ∷ []) × IsTrue (is_digit d) × (digits_value 10 (a ∷ b ∷ d ∷ []) ≤ 255)) → ⊥
     by (inl x) = apart (λ z. z == 94) a 94 (digit_caret a h) refl x.0
     by (inr x) =
         let e : x.2 ≡ c = sym (head_is x.3) in
         let d : is_digit c ≡ true = subst (λ z. is_digit z ≡ true) e x.4 in
-        let l : number_of (a ∷ b ∷ c ∷ []) ≤ 255 = subst (λ z. number_of (a ∷ b ∷ z ∷ []) ≤ 255) e x.5 in
-        let m : 255 < number_of (a ∷ b ∷ c ∷ []) = g d in
+        let l : digits_value 10 (a ∷ b ∷ c ∷ []) ≤ 255 = subst (λ z. digits_value 10 (a ∷ b ∷ z ∷ []) ≤ 255) e x.5 in
+        let m : 255 < digits_value 10 (a ∷ b ∷ c ∷ []) = g d in
         omega arith
 
 -- a misfit is a newline or another byte
@@ -192,13 +195,13 @@ digits_misfit text a b c x e h f k g l m = misfit_is text (a ∷ b ∷ []) c (dr
 digit_line : (b : ℕ) → is_digit b ≡ true → b ≡ 10 → ⊥
 digit_line b h e = apart is_digit 10 b refl h (sym e)
 
-pub digits_great : (text : List ℕ) (a b c n : ℕ) → slice_get text 0 ≡ Some a → is_digit a ≡ true → Some b ≡ slice_get text 1 → is_digit b ≡ true → Some c ≡ slice_get text 2 → is_digit c ≡ true → n ≡ number_of (a ∷ b ∷ c ∷ []) → 255 < n → IsBad text
+pub digits_great : (text : List ℕ) (a b c n : ℕ) → slice_get text 0 ≡ Some a → is_digit a ≡ true → Some b ≡ slice_get text 1 → is_digit b ≡ true → Some c ≡ slice_get text 2 → is_digit c ≡ true → n ≡ digits_value 10 (a ∷ b ∷ c ∷ []) → 255 < n → IsBad text
 digits_great text a b c n e h f k g l w m =
     subst IsBad (sym (three_first text a b c e f g)) (bad (a ∷ b ∷ []) c (drop 3 text) (misfits_digits a b c h k (λ d. subst (λ v. 255 < v) w m)) (digit_line c l))
 
-pub digits_whole : (text : List ℕ) (a b c n : ℕ) → slice_get text 0 ≡ Some a → is_digit a ≡ true → Some b ≡ slice_get text 1 → is_digit b ≡ true → Some c ≡ slice_get text 2 → is_digit c ≡ true → n ≡ number_of (a ∷ b ∷ c ∷ []) → n ≤ 255 → (3 ≤ length text) × Escape (take 3 text) (n ∷ [])
+pub digits_whole : (text : List ℕ) (a b c n : ℕ) → slice_get text 0 ≡ Some a → is_digit a ≡ true → Some b ≡ slice_get text 1 → is_digit b ≡ true → Some c ≡ slice_get text 2 → is_digit c ≡ true → n ≡ digits_value 10 (a ∷ b ∷ c ∷ []) → n ≤ 255 → (3 ≤ length text) × Escape (take 3 text) (n ∷ [])
 digits_whole text a b c n e h f k g l w m =
-    rw w (escape_whole text (a ∷ b ∷ c ∷ []) (drop 3 text) (number_of (a ∷ b ∷ c ∷ []) ∷ []) (three_first text a b c e f g) (decimal a b c (h, (k, (l, tt))) (subst (λ v. v ≤ 255) w m)))
+    rw w (escape_whole text (a ∷ b ∷ c ∷ []) (drop 3 text) (digits_value 10 (a ∷ b ∷ c ∷ []) ∷ []) (three_first text a b c e f g) (decimal a b c (digits_of_bytes (a ∷ b ∷ c ∷ []) (h, (k, (l, tt)))) (subst (λ v. v ≤ 255) w m)))
 
 -- blanks
 run_some : (text : List ℕ) (size a : ℕ) → IsRun is_blank text size → slice_get text 0 ≡ Some a → is_blank a ≡ true → (more : List ℕ) × (take size text ≡ a ∷ more)
@@ -268,7 +271,7 @@ blank_escape tab a more b e h = absurd (apart is_blank 116 a refl h (head_is e))
 blank_escape quote a more b e h = absurd (apart is_blank 34 a refl h (head_is e))
 blank_escape backslash a more b e h = absurd (apart is_blank 92 a refl h (head_is e))
 blank_escape (control x k) a more b e h = absurd (apart is_blank 94 a refl h (head_is e))
-blank_escape (decimal x y z k le) a more b e h = absurd (clash (digit_blank x k.0) (ap is_blank (head_is e) ∙ h))
+blank_escape (decimal x y z k le) a more b e h = absurd (clash (digit_blank x (is_digit_from x k.0)) (ap is_blank (head_is e) ∙ h))
 blank_escape (blanks x more' k) a more b e h = sym (last_same more' more 92 b (tail_is e))
 
 misfits_blanks : (a : ℕ) (more : List ℕ) (b : ℕ) → AllAre is_blank (a ∷ more) → is_blank b ≡ false → (b == 92) ≡ false → Misfits (a ∷ more) b

@@ -3,7 +3,9 @@ use Rattle.std.proofs.Common.{ℕ, ◌≡◌, ◌⊎◌, inl, inr, ◌%◌, List
 use Rattle.std.specs.Prelude.{◌==◌, IsTrue}
 use Rattle.std.proofs.lemmas.Bool.Decides.{nat_tests}
 use Rattle.std.proofs.lemmas.List.{append_cancel_right}
-use Rattle.tg_syntax.specs.Spellings.{Escape, newline, tab, quote, backslash, control, decimal, blanks, AllAre, is_digit, is_blank, number_of}
+use Rattle.std.specs.Str.Parse.{digits_value}
+use Rattle.tg_syntax.proofs.Numerals.{is_digit_from}
+use Rattle.tg_syntax.specs.Spellings.{Escape, newline, tab, quote, backslash, control, decimal, blanks, AllAre, is_digit, is_blank}
 use Rattle.tg_syntax.specs.LexicalFaults.{IsBegun, Misfits}
 use Rattle.tg_lexer.proofs.Basics.{head_is, tail_is, not_cons, clash, GoesOn, two_fronts}
 
@@ -13,7 +15,7 @@ rest_of_control [] = ([], [])
 rest_of_control (b ∷ text) = (text, b % 32 ∷ [])
 
 abbrev rest_of_decimal : ℕ → List ℕ → List ℕ × List ℕ
-rest_of_decimal a (b ∷ c ∷ text) = (text, number_of (a ∷ b ∷ c ∷ []) ∷ [])
+rest_of_decimal a (b ∷ c ∷ text) = (text, digits_value 10 (a ∷ b ∷ c ∷ []) ∷ [])
 rest_of_decimal a _ = ([], [])
 
 abbrev rest_of_blanks : List ℕ → List ℕ × List ℕ
@@ -59,7 +61,7 @@ rest_of-escape tab rest = refl
 rest_of-escape quote rest = refl
 rest_of-escape backslash rest = refl
 rest_of-escape (control b h) rest = refl
-rest_of-escape (decimal a b c h le) rest = plain_rest a (b ∷ c ∷ rest) true (digit_plain a h.0) h.0
+rest_of-escape (decimal a b c h le) rest = let d = is_digit_from a h.0 in plain_rest a (b ∷ c ∷ rest) true (digit_plain a d) d
 rest_of-escape (blanks b more h) rest =
     ap (λ l. rest_of (b ∷ l)) (append_assoc more (92 ∷ []) rest) ∙ plain_rest b (more ++ 92 ∷ rest) false (blank_plain b h.0) (blank_digit b h.0) ∙ rest_of-blanks more rest h.1
 
@@ -122,7 +124,9 @@ escape_ends tab rest = refl
 escape_ends quote rest = refl
 escape_ends backslash rest = refl
 escape_ends (control b h) rest = refl
-escape_ends (decimal a b c h le) rest = going_is (a == 94) (is_digit a) (is_blank a) false true (is_blank a) (b ∷ c ∷ rest) (digit_plain a h.0).c h.0 refl
+escape_ends (decimal a b c h le) rest =
+    let d = is_digit_from a h.0 in
+    going_is (a == 94) (is_digit a) (is_blank a) false true (is_blank a) (b ∷ c ∷ rest) (digit_plain a d).c d refl
 escape_ends (blanks b more h) rest = going_is (b == 94) (is_digit b) (is_blank b) false false true ((more ++ 92 ∷ []) ++ rest) (blank_plain b h.0).c (blank_digit b h.0) h.0 ∙ blanks_end more rest h.1
 
 pub begun_no_escape : {begun escape meant : List ℕ} → IsBegun begun → Escape escape meant → (rest : List ℕ) → begun ≡ escape ++ rest → ⊥
@@ -161,8 +165,8 @@ front_begun (control b h) [] d q e = IsBegun.backslash
 front_begun (control b h) (x ∷ []) d q e = let same : 94 ≡ x = head_is e in subst (λ z. IsBegun (z ∷ [])) same IsBegun.caret
 front_begun (control b h) (x ∷ y ∷ p) d q e = absurd (none p d q (tail_is (tail_is e)))
 front_begun (decimal a b c h le) [] d q e = IsBegun.backslash
-front_begun (decimal a b c h le) (x ∷ []) d q e = let same : a ≡ x = head_is e in subst (λ z. IsBegun (z ∷ [])) same (IsBegun.digit a h.0)
-front_begun (decimal a b c h le) (x ∷ y ∷ []) d q e = let same : a ∷ b ∷ [] ≡ x ∷ y ∷ [] = two_same e in subst IsBegun same (IsBegun.digits a b h.0 h.1.0)
+front_begun (decimal a b c h le) (x ∷ []) d q e = let same : a ≡ x = head_is e in subst (λ z. IsBegun (z ∷ [])) same (IsBegun.digit a (is_digit_from a h.0))
+front_begun (decimal a b c h le) (x ∷ y ∷ []) d q e = let same : a ∷ b ∷ [] ≡ x ∷ y ∷ [] = two_same e in subst IsBegun same (IsBegun.digits a b (is_digit_from a h.0) (is_digit_from b h.1.0))
 front_begun (decimal a b c h le) (x ∷ y ∷ z ∷ p) d q e = absurd (none p d q (tail_is (tail_is (tail_is e))))
 front_begun (blanks b more h) [] d q e = IsBegun.backslash
 front_begun (blanks b more h) (x ∷ p) d q e = subst (λ z. IsBegun (z ∷ p)) (head_is e) (blanks_front b more p d q h (tail_is e))

@@ -2,15 +2,17 @@
 use Rattle.std.proofs.Common.{ℕ, ◌+◌, ◌≡◌, ◌≤◌, List, [], ◌∷◌, ◌++◌, length, Bool, true, false, refl, sym, ap, subst, ◌∙◌, arith, append_assoc}
 use Rattle.std.specs.Prelude.{not}
 use Rattle.std.proofs.lemmas.List.{append_cancel_left}
+use Rattle.std.specs.Str.Parse.{IsNumeral, digits_value}
 use Rattle.tg_syntax.specs.declared.faults.LexRule.{LexRule}
 use Rattle.tg_syntax.specs.declared.faults.LexRule.TheVariants.{L1}
 use Rattle.tg_syntax.specs.declared.tokens.Token.{Token}
 use Rattle.tg_syntax.specs.declared.tokens.Token.TheVariants as token
 use Rattle.tg_syntax.specs.declared.tokens.Spanned.{Spanned}
 use Rattle.tg_syntax.specs.declared.tokens.Sign.TheVariants.{Divide}
-use Rattle.tg_syntax.specs.Spellings.{Spells, HasTokenForm, sign, IsDigits, IsQuoted, nothing, quoted, digits, number_of, is_blank, is_digit}
+use Rattle.tg_syntax.specs.Spellings.{Spells, HasTokenForm, sign, IsQuoted, nothing, quoted, digits, is_blank, is_digit}
 use Rattle.tg_syntax.specs.Lexing.{Lexes, ends, blank, comment, token, IsLongest, OpensComment, Closes}
 use Rattle.tg_syntax.specs.LexicalFaults.{LeadsTo, here, FaultAt, illegal_byte, comment_not_closed, in_string, large_int, HasLexicalFault, too_long, met, FaultInString}
+use Rattle.tg_syntax.proofs.Numerals.{is_digit_from, none_is_numeral}
 use Rattle.tg_lexer.proofs.Basics.{head_is, tail_is, not_cons, differ, apart, clash}
 use Rattle.tg_lexer.proofs.Closings.{closes_once}
 use Rattle.tg_lexer.proofs.Quotings.{quoted_goes_on, fault_no_string}
@@ -23,10 +25,10 @@ not_both true e f = cc
 not_both false e f = cc
 
 -- an int that is too large
-digits_first : (names : List (List ℕ)) (bytes : List ℕ) (one : Token) → IsDigits bytes → Spells names bytes one → 1 ≡ kind one
+digits_first : (names : List (List ℕ)) (bytes : List ℕ) (one : Token) → IsNumeral 10 bytes → Spells names bytes one → 1 ≡ kind one
 digits_first names bytes one d s = sym (digits_kind bytes d) ∙ spells_kind names bytes one s
 
-int_small : (names : List (List ℕ)) (bytes : List ℕ) (one : Token) → IsDigits bytes → Spells names bytes one → number_of bytes ≤ 2147483647
+int_small : (names : List (List ℕ)) (bytes : List ℕ) (one : Token) → IsNumeral 10 bytes → Spells names bytes one → digits_value 10 bytes ≤ 2147483647
 int_small names bytes (token.Int n) d s = subst (λ m. m ≤ 2147483647) s.1 s.2
 int_small names bytes (token.Word w) d s = absurd (differ 1 0 refl (digits_first names bytes (token.Word w) d s))
 int_small names bytes (token.Ident n) d s = absurd (differ 1 0 refl (digits_first names bytes (token.Ident n) d s))
@@ -34,16 +36,16 @@ int_small names bytes (token.Text t) d s = absurd (differ 1 2 refl (digits_first
 int_small names bytes (token.Sign g) d s = absurd (differ 1 3 refl (digits_first names bytes (token.Sign g) d s))
 int_small names bytes token.End d s = absurd s
 
-digits_begin : (bytes rest : List ℕ) (b : ℕ) (after : List ℕ) → IsDigits bytes → bytes ++ rest ≡ b ∷ after → is_digit b ≡ true
-digits_begin [] rest b after d e = absurd d
-digits_begin (x ∷ bytes) rest b after d e = subst (λ y. is_digit y ≡ true) (head_is e) d.0
+digits_begin : (bytes rest : List ℕ) (b : ℕ) (after : List ℕ) → IsNumeral 10 bytes → bytes ++ rest ≡ b ∷ after → is_digit b ≡ true
+digits_begin [] rest b after d e = none_is_numeral d
+digits_begin (x ∷ bytes) rest b after d e = subst (λ y. is_digit y ≡ true) (head_is e) (is_digit_from x d.1.0)
 
 -- no step can be made where a fault stands
 fault_some : {at : ℕ} {text : List ℕ} {rule : LexRule} {place : ℕ} → FaultAt at text rule place → text ≡ [] → ⊥
 fault_some (illegal_byte b rest n no_form) e = not_cons (sym e)
 fault_some (comment_not_closed behind never) e = not_cons (sym e)
 fault_some (in_string inside meant rest q f) e = not_cons (sym e)
-fault_some (large_int [] rest d longest lt) e = d
+fault_some (large_int [] rest d longest lt) e = none_is_numeral d
 fault_some (large_int (b ∷ bytes) rest d longest lt) e = not_cons (sym e)
 
 no_blank : {at : ℕ} {text : List ℕ} {rule : LexRule} {place : ℕ} → FaultAt at text rule place → (b : ℕ) (after : List ℕ) → text ≡ b ∷ after → is_blank b ≡ true → ⊥
@@ -76,7 +78,7 @@ no_token (comment_not_closed behind never) names bytes after one e s longest o =
 no_token (in_string inside meant rest q f) names bytes after one e s longest o = string_token inside meant rest q f bytes after e (spells_form names bytes one s)
 no_token (large_int digit rest d longest' lt) names bytes after one e s longest o =
     let is : bytes ≡ digit = one_front digit rest bytes after e (digits digit d) longest' (spells_form names bytes one s) longest in
-    let k : number_of digit ≤ 2147483647 = int_small names digit one d (subst (λ l. Spells names l one) is s) in
+    let k : digits_value 10 digit ≤ 2147483647 = int_small names digit one d (subst (λ l. Spells names l one) is s) in
     omega arith
 
 -- no tokens stand where a fault does

@@ -13,3 +13,5 @@ pub mod Onces
 pub mod Excludes
 pub mod StringFaults
 pub mod Spelled
+pub mod TokenEnds
+pub mod AsciiNames

@@ -13,7 +13,9 @@ use Rattle.tg_syntax.specs.declared.tokens.Word.{Word}
 use Rattle.tg_syntax.specs.declared.tokens.Word.TheVariants.{WArray, WBreak, WDo, WElse, WEnd, WFor, WFunction, WIf, WIn, WLet, WNil, WOf, WThen, WTo, WType, WVar, WWhile}
 use Rattle.tg_syntax.specs.declared.tokens.Sign.{Sign}
 use Rattle.tg_syntax.specs.declared.tokens.Sign.TheVariants.{Comma, Colon, Semicolon, LeftParen, RightParen, LeftBracket, RightBracket, LeftBrace, RightBrace, Dot, Plus, Minus, Times, Divide, Equal, NotEqual, Less, LessEqual, Greater, GreaterEqual, And, Or, Assign}
-use Rattle.tg_syntax.specs.Spellings.{Spells, word_text, sign_text, is_letter, is_digit, is_name_byte, is_blank, AllAre, IsName, IsDigits, HasTokenForm, name, sign, digits, quoted, IsQuoted}
+use Rattle.std.specs.Str.Parse.{IsNumeral}
+use Rattle.tg_syntax.proofs.Numerals.{is_digit_from, none_is_numeral}
+use Rattle.tg_syntax.specs.Spellings.{Spells, word_text, sign_text, is_letter, is_digit, is_name_byte, is_blank, AllAre, IsName, HasTokenForm, name, sign, digits, quoted, IsQuoted}
 use Rattle.tg_syntax.specs.Lexing.{Lexes, ends, blank, comment, token, spanned, IsLongest, OpensComment, Closes}
 use Rattle.tg_syntax.proofs.Longest.{begins, is_mark}
 use Rattle.tg_lexer.proofs.Basics.{head_is, tail_is, not_cons, differ, apart, clash, GoesOn, two_fronts}
@@ -52,10 +54,11 @@ name_kind : (bytes : List ℕ) → IsName bytes → kind_of bytes ≡ 0
 name_kind [] h = absurd h
 name_kind (b ∷ bytes) h = ap (λ x. cond x 0 (cond (is_digit b) 1 (cond (b == 34) 2 3))) h.0
 
-pub digits_kind : (bytes : List ℕ) → IsDigits bytes → kind_of bytes ≡ 1
-digits_kind [] h = absurd h
+pub digits_kind : (bytes : List ℕ) → IsNumeral 10 bytes → kind_of bytes ≡ 1
+digits_kind [] h = none_is_numeral h
 digits_kind (b ∷ bytes) h =
-    ap (λ x. cond x 0 (cond (is_digit b) 1 (cond (b == 34) 2 3))) (digit_letter b h.0) ∙ ap (λ x. cond x 1 (cond (b == 34) 2 3)) h.0
+    let d = is_digit_from b h.1.0 in
+    ap (λ x. cond x 0 (cond (is_digit b) 1 (cond (b == 34) 2 3))) (digit_letter b d) ∙ ap (λ x. cond x 1 (cond (b == 34) 2 3)) d
 
 pub spells_kind : (names : List (List ℕ)) (bytes : List ℕ) (one : Token) → Spells names bytes one → kind_of bytes ≡ kind one
 spells_kind names bytes (token.Word w) h = ap kind_of h ∙ word_kind w
@@ -237,15 +240,15 @@ pub form_begins : {xs : List ℕ} → HasTokenForm xs → begins is_blank xs ≡
 form_begins (name [] h) = absurd h
 form_begins (name (b ∷ bytes) h) = letter_blank b h.0
 form_begins (sign s) = sign_blank s
-form_begins (digits [] h) = absurd h
-form_begins (digits (b ∷ bytes) h) = digit_blank b h.0
+form_begins (digits [] h) = none_is_numeral h
+form_begins (digits (b ∷ bytes) h) = digit_blank b (is_digit_from b h.1.0)
 form_begins (quoted q) = refl
 
 pub form_some : {xs : List ℕ} → HasTokenForm xs → xs ≡ [] → ⊥
 form_some (name [] h) e = h
 form_some (name (b ∷ bytes) h) e = not_cons (sym e)
 form_some (sign s) e = clash (ap (begins is_mark) e) (sign_mark s)
-form_some (digits [] h) e = h
+form_some (digits [] h) e = none_is_numeral h
 form_some (digits (b ∷ bytes) h) e = not_cons (sym e)
 form_some (quoted q) e = not_cons (sym e)
 

@@ -9,7 +9,9 @@ use Rattle.tg_syntax.specs.declared.tokens.Sign.{Sign}
 use Rattle.tg_syntax.specs.declared.tokens.Word.{Word}
 use Rattle.tg_syntax.specs.declared.faults.LexRule.{LexRule}
 use Rattle.tg_syntax.specs.declared.faults.LexRule.TheVariants.{L1, L2, L5}
-use Rattle.tg_syntax.specs.Spellings.{sign_text, word_text, is_blank, is_letter, is_digit, is_name_byte, AllAre, IsName, IsDigits, number_of, IsQuoted, HasTokenForm, name, sign, digits, quoted}
+use Rattle.std.specs.Str.Parse.{IsNumeral, digits_value}
+use Rattle.tg_syntax.proofs.Numerals.{is_digit_from, digits_of_bytes, none_is_numeral}
+use Rattle.tg_syntax.specs.Spellings.{sign_text, word_text, is_blank, is_letter, is_digit, is_name_byte, AllAre, IsName, IsQuoted, HasTokenForm, name, sign, digits, quoted}
 use Rattle.tg_syntax.specs.Lexing.{OpensComment, Closes, IsLongest}
 use Rattle.tg_syntax.specs.LexicalFaults.{FaultAt, illegal_byte, comment_not_closed, large_int}
 use Rattle.tg_syntax.proofs.Longest.{begins, is_mark, form_of_mark, name_longest, digits_longest}
@@ -46,10 +48,12 @@ pub stopped : (class : ℕ → Bool) (text : List ℕ) → ((b : ℕ) (after : L
 stopped class [] h = refl
 stopped class (b ∷ text) h = h b text refl
 
-digits_run : (text : List ℕ) (size : ℕ) → BeginsWith is_digit text → IsRun is_digit text size → IsDigits (take size text)
-digits_run text size h r = let m = run_begins is_digit text size h r in subst IsDigits (sym m.2) (subst (AllAre is_digit) m.2 r.all)
+digits_run : (text : List ℕ) (size : ℕ) → BeginsWith is_digit text → IsRun is_digit text size → IsNumeral 10 (take size text)
+digits_run text size h r =
+    let m = run_begins is_digit text size h r in
+    (subst (λ bytes. 0 < length bytes) (sym m.2) (omega arith), digits_of_bytes (take size text) r.all)
 
-pub int_token : (n : List (List ℕ)) (text : List ℕ) (size value : ℕ) → BeginsWith is_digit text → IsRun is_digit text size → value ≡ number_of (take size text) → value ≤ 2147483647 → IsToken n text (token.Int value) size
+pub int_token : (n : List (List ℕ)) (text : List ℕ) (size value : ℕ) → BeginsWith is_digit text → IsRun is_digit text size → value ≡ digits_value 10 (take size text) → value ≤ 2147483647 → IsToken n text (token.Int value) size
 int_token n text size value h r e le =
     let d = digits_run text size h r in
     record {
@@ -62,7 +66,7 @@ int_token n text size value h r e le =
       no_comment = no_slash is_digit text refl h;
     }
 
-pub int_large : (at : ℕ) (text : List ℕ) (size : ℕ) → BeginsWith is_digit text → IsRun is_digit text size → 2147483647 < number_of (take size text) → FaultAt at text L5 at
+pub int_large : (at : ℕ) (text : List ℕ) (size : ℕ) → BeginsWith is_digit text → IsRun is_digit text size → 2147483647 < digits_value 10 (take size text) → FaultAt at text L5 at
 int_large at text size h r lt =
     let d = digits_run text size h r in
     subst (λ l. FaultAt at l L5 at) (take-append-drop size text) (large_int (take size text) (drop size text) d (digits_longest (take size text) (drop size text) d (stopped is_digit (drop size text) r.stops)) lt)
@@ -101,8 +105,8 @@ pub form_quoted : {xs : List ℕ} → HasTokenForm xs → (bytes : List ℕ) →
 form_quoted (name [] h) bytes e = absurd h
 form_quoted (name (b ∷ more) h) bytes e = absurd (apart is_letter 34 b refl h.0 (sym (head_is e)))
 form_quoted (sign s) bytes e = absurd (clash refl (sym (ap (begins is_mark) e) ∙ sign_mark s))
-form_quoted (digits [] h) bytes e = absurd h
-form_quoted (digits (b ∷ more) h) bytes e = absurd (apart is_digit 34 b refl h.0 (sym (head_is e)))
+form_quoted (digits [] h) bytes e = none_is_numeral h
+form_quoted (digits (b ∷ more) h) bytes e = absurd (apart is_digit 34 b refl (is_digit_from b h.1.0) (sym (head_is e)))
 form_quoted (quoted {inside = inside} {meant = meant} q) bytes e = (inside, meant, q, sym (tail_is e))
 
 pub string_longest : (inside meant rest : List ℕ) → IsQuoted inside meant → IsLongest (34 ∷ inside ++ 34 ∷ []) rest

@@ -7,6 +7,7 @@ use Rattle.tg_syntax.specs.declared.tokens.Token.TheVariants as token
 use Rattle.tg_syntax.specs.declared.tokens.Spanned.{Spanned}
 use Rattle.tg_syntax.specs.declared.tokens.Word.{Word}
 use Rattle.tg_syntax.specs.declared.tokens.Word.TheVariants.{WArray}
+use Rattle.tg_syntax.proofs.Numerals.{none_is_numeral}
 use Rattle.tg_syntax.specs.Spellings.{Spells, word_text}
 use Rattle.tg_syntax.specs.Lexing.{Lexes, spanned, OpensComment}
 use Rattle.tg_syntax.specs.LexicalFaults.{LeadsTo, FaultAt, HasLexicalFault, met}
@@ -30,7 +31,7 @@ pub spells_some : (names : List (List ℕ)) (one : Token) → Spells names [] on
 spells_some names (token.Word w) h = clash refl (ap (begins (λ b. true)) h ∙ word_some w)
 spells_some names (token.Sign s) h = clash refl (ap (begins is_mark) h ∙ sign_mark s)
 spells_some names (token.Ident n) h = h.0
-spells_some names (token.Int n) h = h.0
+spells_some names (token.Int n) h = none_is_numeral h.0
 spells_some names (token.Text t) h = not_cons h.1
 spells_some names token.End h = h
 

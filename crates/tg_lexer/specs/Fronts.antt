@@ -1,8 +1,11 @@
 -- What a text begins with.
-use Rattle.std.specs.Prelude.{ℕ, ◌+◌, ◌≡◌, ◌≢◌, ◌≤◌, List, [], ◌∷◌, ◌++◌, length, take, drop, Bool, false, ◌==◌, IsTrue, Option, Some, None, Result, Ok, Err, MatchBool, not, ◌&&◌}
+use Rattle.std.specs.Prelude.{ℕ, ◌+◌, ◌≡◌, ◌≢◌, ◌≤◌, List, [], ◌∷◌, ◌++◌, length, take, drop, Bool}
+use Rattle.std.specs.Prelude.{false, ◌==◌, IsTrue, Option, Some, None, Result, Ok, Err, MatchBool}
+use Rattle.std.specs.Prelude.{not, ◌&&◌}
 use Rattle.tg_syntax.specs.declared.tokens.Token.{Token}
 use Rattle.tg_syntax.specs.declared.tokens.Sign.{Sign}
-use Rattle.tg_syntax.specs.Spellings.{Spells, sign_text, is_blank, is_letter, is_digit, AllAre, Escape, IsQuoted}
+use Rattle.tg_syntax.specs.Spellings.{Spells, sign_text, is_blank, is_letter, is_digit, AllAre}
+use Rattle.tg_syntax.specs.Spellings.{Escape, IsQuoted}
 use Rattle.tg_syntax.specs.Lexing.{IsLongest, OpensComment, ClosesComment, Closes}
 use Rattle.tg_syntax.specs.LexicalFaults.{IsBegun, Misfits, FaultAt}
 use Rattle.tg_lexer.specs.declared.comments.Mark.{Mark}

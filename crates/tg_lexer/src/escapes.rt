@@ -1,5 +1,6 @@
 ghost use Rattle.std.specs.Prelude.{◌≡◌, ◌||◌, [], ◌∷◌, IsTrue, Some, slice_get};
-ghost use Rattle.tg_syntax.specs.Spellings.{is_blank as blank, is_digit as digit, is_between, number_of};
+ghost use Rattle.std.specs.Str.Parse.{digits_value};
+ghost use Rattle.tg_syntax.specs.Spellings.{is_blank as blank, is_digit as digit, is_between};
 ghost use Rattle.tg_lexer.specs.Fronts.{IsEscape, IsMisfit};
 
 use crate::bytes::{blanks, byte_at, is_blank, is_digit};
@@ -54,7 +55,7 @@ fn number(a: u8, b: u8, c: u8) -> u32
     requires first { IsTrue (digit a) }
     requires second { IsTrue (digit b) }
     requires third { IsTrue (digit c) }
-    ensures { result ≡ number_of (a ∷ b ∷ c ∷ []) }
+    ensures { result ≡ digits_value 10 (a ∷ b ∷ c ∷ []) }
 {
     let tens = 10 * (a - b'0') as u32 + (b - b'0') as u32;
     10 * tens + (c - b'0') as u32

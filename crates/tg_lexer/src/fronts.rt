@@ -97,6 +97,7 @@ fn read_sign(text: &[u8], at: usize) -> Result<Front, LexFault>
 }
 
 // The name that bytes of a name are.
+#[tactic(auto, using(crate::proofs::AsciiNames::name_is_text))]
 fn intern(bytes: &[u8], names: &mut Names) -> Result<Name, Memory>
     requires bytes { AllAre is_name_byte bytes.now }
     requires room { length names.old < 2 ^ 31 }
@@ -105,8 +106,8 @@ fn intern(bytes: &[u8], names: &mut Names) -> Result<Name, Memory>
 {
     match from_utf8(bytes) {
         Ok(text) => names.intern(text),
-        // Bytes of a name are ASCII, so this never comes.
-        Err(_) => Err(Memory),
+        // Bytes of a name are ASCII.
+        Err(_) => unreachable!(),
     }
 }
 

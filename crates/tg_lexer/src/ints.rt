@@ -1,5 +1,6 @@
 ghost use Rattle.std.specs.Prelude.{◌≡◌, ◌≤◌, ◌<◌, MatchOption};
-ghost use Rattle.tg_syntax.specs.Spellings.{AllAre, is_digit, number_of};
+ghost use Rattle.std.specs.Str.Parse.{digits_value};
+ghost use Rattle.tg_syntax.specs.Spellings.{AllAre, is_digit};
 
 /// The greatest int that a text may hold.
 const GREATEST: u64 = 2147483647;
@@ -7,7 +8,7 @@ const GREATEST: u64 = 2147483647;
 // The int that digits stand for, unless it is too great.
 pub(crate) fn int(digits: &[u8]) -> Option<u32>
     requires { AllAre is_digit digits.now }
-    ensures { let n = number_of digits.now in
+    ensures { let n = digits_value 10 digits.now in
         MatchOption result (2147483647 < n) (λ value. (value ≡ n) × (value ≤ 2147483647)) }
 {
     let mut value: u32 = 0;

@@ -7,15 +7,18 @@ use Rattle.tg_syntax.specs.Plain.{plain, plain_place}
 use Rattle.tg_syntax.specs.Groups.{Dec, snoc_dec}
 use Rattle.tg_parser.specs.declared.faults.Stop.{Stop}
 use Rattle.tg_parser.specs.declared.heads.Start.{Start}
-use Rattle.tg_parser.specs.declared.heads.Start.TheVariants.{Minus, Parenthesis, If, While, For, Let, Name, Nothing}
+use Rattle.tg_parser.specs.declared.heads.Start.TheVariants.{Minus, Parenthesis, If, While, For}
+use Rattle.tg_parser.specs.declared.heads.Start.TheVariants.{Let, Name, Nothing}
 use Rattle.tg_parser.specs.declared.heads.Target.{Target}
 use Rattle.tg_parser.specs.declared.heads.Target.TheVariants.{Place, Other}
 use Rattle.tg_parser.specs.declared.heads.Declared.{Declared}
 use Rattle.tg_parser.specs.declared.heads.Declared.TheVariants.{OneType, OneVariable, OneFunction}
 use Rattle.tg_parser.specs.Given.{Refuses}
 use Rattle.tg_parser.specs.Opens.{Leads}
-use Rattle.tg_grammar.specs.Steps.{Job, Of, Steps, TypeDec, VarDec, FunDec, MoreDecs, give, refuse, name, call}
-use Rattle.tg_grammar.specs.Reading.{assigning, negating, grouping, choosing, looping, counting, declaring, naming, more_decs, last}
+use Rattle.tg_grammar.specs.Steps.{Job, Of, Steps, TypeDec, VarDec, FunDec, MoreDecs, give, refuse}
+use Rattle.tg_grammar.specs.Steps.{name, call}
+use Rattle.tg_grammar.specs.Reading.{assigning, negating, grouping, choosing, looping, counting}
+use Rattle.tg_grammar.specs.Reading.{declaring, naming, more_decs, last}
 
 -- by how an expression begins
 abbrev pub unary_of : Start → Steps Exp

@@ -6,7 +6,8 @@ use Rattle.tg_syntax.specs.Grammar as grammar
 use Rattle.tg_grammar.specs.Steps.{op_of}
 use Rattle.tg_grammar.specs.Reading.{below}
 use Rattle.tg_parser.specs.declared.ranks.Rank.{Rank}
-use Rattle.tg_parser.specs.declared.ranks.Rank.TheVariants.{Disjunction, Conjunction, Comparison, Sum, Term, Unary}
+use Rattle.tg_parser.specs.declared.ranks.Rank.TheVariants.{Disjunction, Conjunction, Comparison}
+use Rattle.tg_parser.specs.declared.ranks.Rank.TheVariants.{Sum, Term, Unary}
 
 abbrev pub level_of : Rank → Level
 level_of Disjunction = grammar.Disjunction

@@ -20,6 +20,3 @@ mod taking;
 pub use faults::{SyntaxFault, SyntaxRule};
 pub use laws::{fault_excludes_program, faults_once};
 pub use parsing::parse;
-
-#[cfg(test)]
-mod tests;

@@ -46,6 +46,3 @@ fn readable(alloc: Global, tokens: &[Spanned]) -> Result<&[Spanned], Memory>
         Some(place) => Ok(&tokens[..place + 1]),
     }
 }
-
-#[cfg(test)]
-mod tests;

@@ -1,20 +1,22 @@
 -- Examples of the grammar, the nesting and the nodes, by the definitions.
-use Rattle.std.proofs.Common.{ℕ, ◌+◌, ◌≡◌, List, [], ◌∷◌, true, false, Some, replicate, refl}
-use Rattle.std.specs.Prelude.{fold}
+use Rattle.std.proofs.Common.{ℕ, ◌+◌, ◌≡◌, List, [], ◌∷◌, Bool, true, false, Some, replicate, refl}
+use Rattle.std.specs.Prelude.{fold, map}
 use Rattle.tg_base.specs.declared.ids.Span.{Span}
-use Rattle.tg_syntax.specs.declared.tokens.Word.TheVariants.{WElse, WIf, WIn, WLet, WThen, WType}
+use Rattle.tg_syntax.specs.declared.tokens.Word.TheVariants.{WArray, WBreak, WDo, WElse, WEnd, WFor, WFunction, WIf, WIn, WLet, WNil, WOf, WThen, WTo, WType, WVar, WWhile}
 use Rattle.tg_syntax.specs.declared.tokens.Sign.TheVariants as sign
 use Rattle.tg_syntax.specs.declared.tokens.Token.{Token}
 use Rattle.tg_syntax.specs.declared.tokens.Token.TheVariants as token
 use Rattle.tg_syntax.specs.declared.tokens.Spanned.{Spanned}
 use Rattle.tg_syntax.specs.declared.tokens.Ident.{Ident}
 use Rattle.tg_syntax.specs.declared.tokens.Word.{Word}
+use Rattle.tg_syntax.specs.declared.trees.Op.{Op}
 use Rattle.tg_syntax.specs.declared.trees.Op.TheVariants as op
-use Rattle.tg_syntax.specs.Tree.{Form, TypeDec, Exp, Place, no_exps, no_decs, types}
+use Rattle.tg_syntax.specs.Tree.{Form, TypeDec, Exp, Place, no_exps, exp, no_decs, types}
 use Rattle.tg_syntax.specs.Lexing.{spanned}
+use Rattle.tg_syntax.specs.Tails.{ends_tail, is_short}
 use Rattle.tg_syntax.specs.Nesting.{after_token, nesting_of}
 use Rattle.tg_syntax.specs.Measures.{size, decs_size}
-use Rattle.tg_syntax.specs.Grammar.{Whole, Sum, Term, Tail, term_op, Reads, whole_up, or_up, and_up, cmp_up, sum_up, sum_more, term_up, term_more, unary_primary, unary_tail, primary_place, primary_int, tail_then, tail_else, place_simple, IsProgram, program}
+use Rattle.tg_syntax.specs.Grammar.{Whole, Comparison, Sum, Term, Tail, sum_op, term_op, Reads, whole_up, or_up, and_up, cmp_up, cmp_two, sum_up, sum_more, term_up, term_more, unary_primary, unary_tail, primary_place, primary_int, tail_then, tail_else, place_simple, IsProgram, program}
 
 -- tokens of one byte, and words, from a byte on
 abbrev tok : Token → ℕ → Spanned
@@ -132,6 +134,69 @@ nearest_then =
 pub not_outer : {a : List Spanned} {s z : Span} {c d y w : Exp} → Reads Tail a (Exp.If s c (Exp.When z d y) w) → ⊥
 not_outer (tail_else t u v i h j k short l m) = true_false short
 
+-- tails stand at the right end of what they end, and are short where their last expression is
+abbrev assigned : Exp → Exp
+assigned e = Exp.Assign (span 0 9) (Place.Simple (record { name = record { 0 = 0 }; span = span 0 1 })) e
+
+abbrev without_else : Exp → Exp
+without_else e = Exp.When (span 0 9) (int 1 3) e
+
+abbrev with_else : Exp → Exp
+with_else e = Exp.If (span 0 9) (int 1 3) (int 2 5) e
+
+abbrev loop : Exp → Exp
+loop e = Exp.While (span 0 9) (int 1 3) e
+
+abbrev counted : Exp → Exp
+counted e = Exp.For (span 0 9) (record { name = record { 0 = 0 }; span = span 0 1 }) (int 1 3) (int 2 5) e
+
+abbrev filled : Exp → Exp
+filled e = Exp.Fill (span 0 9) (record { name = record { 0 = 0 }; span = span 0 1 }) (int 1 3) e
+
+abbrev tails : List Exp
+tails = with_else (int 3 7) ∷ loop (int 3 7) ∷ counted (int 3 7) ∷ filled (int 3 7) ∷ without_else (int 3 7) ∷ []
+
+abbrev ends : (Exp → Exp) → List Bool
+ends around = map (λ e. ends_tail (around e)) (int 3 7 ∷ tails)
+
+tails_end : (ends (λ e. e) ≡ false ∷ replicate 5 true) × (ends (λ e. Exp.Neg (span 0 9) e) ≡ false ∷ replicate 5 true) × (ends assigned ≡ false ∷ replicate 5 true)
+tails_end = (refl, refl, refl)
+
+tails_enclosed : ends (λ e. Exp.Seq (span 0 9) (exp e no_exps)) ≡ replicate 6 false
+tails_enclosed = refl
+
+short : map is_short tails ≡ false ∷ false ∷ false ∷ false ∷ true ∷ []
+short = refl
+
+short_inside : (is_short (with_else (without_else (int 3 7))) ≡ true) × (is_short (loop (without_else (int 3 7))) ≡ true) × (is_short (counted (without_else (int 3 7))) ≡ true) × (is_short (filled (without_else (int 3 7))) ≡ true) × (is_short (assigned (without_else (int 3 7))) ≡ true)
+short_inside = (refl, refl, refl, refl, refl)
+
+-- `a = b = c` compares nothing: a comparison is no side of another
+not_sum : (t : Token) → sum_op t ≡ Some op.Equal → ⊥
+not_sum (token.Sign sign.Plus) e = cc
+not_sum (token.Sign sign.Minus) e = cc
+not_sum (token.Sign _) e = cc
+not_sum _ e = cc
+
+not_term : (t : Token) → term_op t ≡ Some op.Equal → ⊥
+not_term (token.Sign sign.Times) e = cc
+not_term (token.Sign sign.Divide) e = cc
+not_term (token.Sign _) e = cc
+not_term _ e = cc
+
+term_equal : {a : List Spanned} {s : Span} {at : ℕ} {l r : Exp} → Reads Term a (Exp.Binary s op.Equal at l r) → ⊥
+term_equal (term_up (unary_primary h)) = elim h [ ]
+term_equal (term_up (unary_tail h)) = elim h [ ]
+term_equal (term_more t h ends e k) = not_term t.token e
+
+sum_equal : {a : List Spanned} {s : Span} {at : ℕ} {l r : Exp} → Reads Sum a (Exp.Binary s op.Equal at l r) → ⊥
+sum_equal (sum_up h) = term_equal h
+sum_equal (sum_more t h ends e k) = not_sum t.token e
+
+pub compares_once : {a : List Spanned} {s z : Span} {at to : ℕ} {o : Op} {l m r : Exp} → Reads Comparison a (Exp.Binary s o at (Exp.Binary z op.Equal to l m) r) → Reads Sum a (Exp.Binary s o at (Exp.Binary z op.Equal to l m) r)
+compares_once (cmp_up h) = h
+compares_once (cmp_two t h ends e k) = absurd (sum_equal h)
+
 -- nestings
 abbrev nesting : List Token → ℕ
 nesting tokens = nesting_of (fold (λ counts one. after_token one counts) (0 ∷ []) tokens)
@@ -142,24 +207,57 @@ id = token.Ident (record { 0 = 0 })
 pub nesting_none : nesting [] ≡ 0
 nesting_none = refl
 
-pub nesting_signs : nesting (token.Sign sign.Minus ∷ token.Sign sign.Minus ∷ id ∷ []) ≡ 2
-nesting_signs = refl
+-- two signs, before a token
+abbrev behind_signs : Token → ℕ
+behind_signs one = nesting (token.Sign sign.Minus ∷ token.Sign sign.Minus ∷ one ∷ [])
 
-pub nesting_argument : nesting (id ∷ token.Sign sign.LeftParen ∷ token.Sign sign.Minus ∷ token.Int 1 ∷ []) ≡ 2
-nesting_argument = refl
+-- names, ints and texts leave the nesting
+nesting_left : (behind_signs id ≡ 2) × (behind_signs (token.Int 7) ≡ 2) × (behind_signs (token.Text (7 ∷ [])) ≡ 2)
+nesting_left = (refl, refl, refl)
+
+-- operators, `:=` and `.` raise it, and so do the words that begin a tail
+abbrev raising : List Token
+raising =
+    token.Sign sign.Dot ∷ token.Sign sign.Plus ∷ token.Sign sign.Minus ∷ token.Sign sign.Times ∷ token.Sign sign.Divide ∷
+    token.Sign sign.Equal ∷ token.Sign sign.NotEqual ∷ token.Sign sign.Less ∷ token.Sign sign.LessEqual ∷
+    token.Sign sign.Greater ∷ token.Sign sign.GreaterEqual ∷ token.Sign sign.And ∷ token.Sign sign.Or ∷ token.Sign sign.Assign ∷
+    token.Word WIf ∷ token.Word WWhile ∷ token.Word WFor ∷ token.Word WOf ∷ []
+
+nesting_raised : map behind_signs raising ≡ replicate 18 3
+nesting_raised = refl
+
+-- a list's separators and the words that begin a part of a `let` make it 0 again
+nesting_reset : map behind_signs (token.Sign sign.Semicolon ∷ token.Sign sign.Comma ∷ token.Word WIn ∷ token.Word WType ∷ token.Word WVar ∷ token.Word WFunction ∷ []) ≡ replicate 6 0
+nesting_reset = refl
+
+-- a colon and the other words leave it
+nesting_kept : map behind_signs (token.Sign sign.Colon ∷ token.Word WThen ∷ token.Word WElse ∷ token.Word WDo ∷ token.Word WTo ∷ token.Word WNil ∷ token.Word WBreak ∷ token.Word WArray ∷ []) ≡ replicate 8 2
+nesting_kept = refl
+
+-- what opens a bracket counts one, and a new count begins
+nesting_opened : map behind_signs (token.Sign sign.LeftParen ∷ token.Sign sign.LeftBracket ∷ token.Sign sign.LeftBrace ∷ token.Word WLet ∷ []) ≡ replicate 4 3
+nesting_opened = refl
+
+-- what closes it takes its count away; `]` raises the one around it
+abbrev closed : (opening closing : Token) → ℕ
+closed opening closing = nesting (opening ∷ token.Sign sign.Minus ∷ token.Sign sign.Minus ∷ closing ∷ [])
+
+nesting_closed :
+    (closed (token.Sign sign.LeftParen) (token.Sign sign.RightParen) ≡ 0) × (closed (token.Sign sign.LeftBrace) (token.Sign sign.RightBrace) ≡ 0) ×
+    (closed (token.Word WLet) (token.Word WEnd) ≡ 0) × (closed (token.Sign sign.LeftBracket) (token.Sign sign.RightBracket) ≡ 1)
+nesting_closed = (refl, refl, refl, refl)
+
+-- a reset inside leaves the counts around it
+nesting_reset_inside : nesting (token.Sign sign.Minus ∷ token.Sign sign.LeftParen ∷ token.Sign sign.Minus ∷ token.Sign sign.Semicolon ∷ []) ≡ 2
+nesting_reset_inside = refl
 
 pub nesting_call : nesting (id ∷ token.Sign sign.LeftParen ∷ token.Sign sign.Minus ∷ token.Int 1 ∷ token.Sign sign.RightParen ∷ []) ≡ 0
 nesting_call = refl
 
-pub nesting_index : nesting (id ∷ token.Sign sign.LeftBracket ∷ id ∷ token.Sign sign.RightBracket ∷ []) ≡ 1
-nesting_index = refl
-
 pub nesting_let : nesting (token.Word WLet ∷ token.Word WType ∷ id ∷ token.Sign sign.Equal ∷ id ∷ []) ≡ 2
 nesting_let = refl
 
-pub nesting_in : nesting (token.Word WLet ∷ token.Word WType ∷ id ∷ token.Sign sign.Equal ∷ id ∷ token.Word WIn ∷ []) ≡ 1
-nesting_in = refl
-
+-- what was not opened isn't closed
 pub nesting_unopened : nesting (token.Sign sign.RightParen ∷ token.Sign sign.RightParen ∷ token.Word WIf ∷ []) ≡ 1
 nesting_unopened = refl
 

@@ -2,23 +2,8 @@
 use Rattle.std.proofs.Common.{List}
 use Rattle.tg_syntax.specs.declared.tokens.Spanned.{Spanned}
 use Rattle.tg_syntax.specs.Tree.{TypeDec, Decs, no_decs, types, variable, functions, FunDecs}
-use Rattle.tg_syntax.specs.Groups.{Dec, one_type, one_variable, one_function, snoc_dec}
+use Rattle.tg_syntax.specs.Groups.{Dec, one_type, one_variable, one_function, snoc_dec, NoTypesFirst, NoFunctionsFirst, AreLongest}
 use Rattle.tg_syntax.specs.Grammar.{AreDecs, decs_none, decs_more}
-
--- the first group is not one of types, not one of functions
-abbrev pub NoTypesFirst : Decs → Type 0
-NoTypesFirst (types ts rest) = ⊥
-NoTypesFirst _ = Unit {0}
-
-abbrev pub NoFunctionsFirst : Decs → Type 0
-NoFunctionsFirst (functions fs rest) = ⊥
-NoFunctionsFirst _ = Unit {0}
-
-abbrev pub AreLongest : Decs → Type 0
-AreLongest no_decs = Unit {0}
-AreLongest (types ts rest) = NoTypesFirst rest × AreLongest rest
-AreLongest (variable x t e rest) = AreLongest rest
-AreLongest (functions fs rest) = NoFunctionsFirst rest × AreLongest rest
 
 types_behind : (ts : List TypeDec) (rest : Decs) (d : Dec) → NoFunctionsFirst (snoc_dec (types ts rest) d)
 types_behind ts no_decs (one_type t) = tt

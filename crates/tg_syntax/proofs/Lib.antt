@@ -6,5 +6,6 @@ pub mod GroupLaws
 pub mod InnerLemmas
 pub mod ListLaws
 pub mod Longest
+pub mod Numerals
 pub mod SizeLemmas
 pub mod TokenExamples

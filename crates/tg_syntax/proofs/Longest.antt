@@ -3,10 +3,12 @@ use Rattle.std.proofs.Common.{ℕ, ◌≡◌, List, [], ◌∷◌, ◌++◌, Boo
 use Rattle.std.specs.Prelude.{not, ◌||◌, ◌&&◌, ◌==◌}
 use Rattle.std.proofs.lemmas.Bool.{eq-eqb}
 use Rattle.std.proofs.lemmas.Bool.Decides.{nat_tests}
+use Rattle.std.specs.Str.Parse.{IsNumeral}
 use Rattle.tg_syntax.specs.declared.tokens.Sign.{Sign}
 use Rattle.tg_syntax.specs.declared.tokens.Sign.TheVariants.{Comma}
-use Rattle.tg_syntax.specs.Spellings.{sign_text, is_letter, is_digit, is_name_byte, IsName, IsDigits, AllAre, HasTokenForm, name, sign, digits, quoted}
+use Rattle.tg_syntax.specs.Spellings.{sign_text, is_letter, is_digit, is_name_byte, IsName, AllAre, HasTokenForm, name, sign, digits, quoted}
 use Rattle.tg_syntax.specs.Lexing.{IsLongest}
+use Rattle.tg_syntax.proofs.Numerals.{bytes_of_digits, none_is_numeral}
 
 abbrev pub begins : (ℕ → Bool) → List ℕ → Bool
 begins class [] = false
@@ -62,24 +64,24 @@ pub form_of_letter : {xs : List ℕ} → HasTokenForm xs → (b : ℕ) (bytes : 
 form_of_letter (name [] h) b bytes e l = absurd h
 form_of_letter (name (c ∷ cs) h) b bytes e l = let same : cs ≡ bytes = cc in subst (AllAre is_name_byte) same h.1
 form_of_letter (sign s) b bytes e l = absurd (clash (letter_mark b l) (sym (ap (begins is_mark) e) ∙ sign_mark s))
-form_of_letter (digits [] h) b bytes e l = absurd h
-form_of_letter (digits (c ∷ cs) h) b bytes e l = let same : c ≡ b = cc in absurd (clash (digit_letter c h.0) (ap is_letter same ∙ l))
+form_of_letter (digits [] h) b bytes e l = none_is_numeral h
+form_of_letter (digits (c ∷ cs) h) b bytes e l = let same : c ≡ b = cc in absurd (clash (digit_letter c (bytes_of_digits (c ∷ cs) h.1).0) (ap is_letter same ∙ l))
 form_of_letter (quoted {inside} q) b bytes e l = let same : 34 ≡ b = cc in absurd (clash refl (ap is_letter same ∙ l))
 
 pub form_of_digit : {xs : List ℕ} → HasTokenForm xs → (b : ℕ) (bytes : List ℕ) → xs ≡ b ∷ bytes → is_digit b ≡ true → AllAre is_digit bytes
 form_of_digit (name [] h) b bytes e d = absurd h
 form_of_digit (name (c ∷ cs) h) b bytes e d = let same : c ≡ b = cc in absurd (clash (digit_letter b d) (sym (ap is_letter same) ∙ h.0))
 form_of_digit (sign s) b bytes e d = absurd (clash (digit_mark b d) (sym (ap (begins is_mark) e) ∙ sign_mark s))
-form_of_digit (digits [] h) b bytes e d = absurd h
-form_of_digit (digits (c ∷ cs) h) b bytes e d = let same : cs ≡ bytes = cc in subst (AllAre is_digit) same h.1
+form_of_digit (digits [] h) b bytes e d = none_is_numeral h
+form_of_digit (digits (c ∷ cs) h) b bytes e d = let same : cs ≡ bytes = cc in subst (AllAre is_digit) same (bytes_of_digits (c ∷ cs) h.1).1
 form_of_digit (quoted {inside} q) b bytes e d = let same : 34 ≡ b = cc in absurd (clash refl (ap is_digit same ∙ d))
 
 pub form_of_mark : {xs : List ℕ} → HasTokenForm xs → (b : ℕ) (bytes : List ℕ) → xs ≡ b ∷ bytes → is_mark b ≡ true → (s : Sign) × (sign_text s ≡ b ∷ bytes)
 form_of_mark (name [] h) b bytes e m = absurd h
 form_of_mark (name (c ∷ cs) h) b bytes e m = let same : c ≡ b = cc in absurd (clash (mark_letter b m) (sym (ap is_letter same) ∙ h.0))
 form_of_mark (sign s) b bytes e m = (s, e)
-form_of_mark (digits [] h) b bytes e m = absurd h
-form_of_mark (digits (c ∷ cs) h) b bytes e m = let same : c ≡ b = cc in absurd (clash (mark_digit b m) (sym (ap is_digit same) ∙ h.0))
+form_of_mark (digits [] h) b bytes e m = none_is_numeral h
+form_of_mark (digits (c ∷ cs) h) b bytes e m = let same : c ≡ b = cc in absurd (clash (mark_digit b m) (sym (ap is_digit same) ∙ (bytes_of_digits (c ∷ cs) h.1).0))
 form_of_mark (quoted {inside} q) b bytes e m = let same : 34 ≡ b = cc in absurd (clash refl (ap is_mark same ∙ m))
 
 -- a name that no letter, digit or underscore follows
@@ -90,11 +92,11 @@ name_longest (b ∷ bytes) rest h stop (c ∷ more) after e ne f =
     clash (sym (ap (begins is_name_byte) e) ∙ stop) (AllAre_right is_name_byte bytes (c ∷ more) (form_of_letter f b (bytes ++ c ∷ more) refl h.0)).0
 
 -- digits that no digit follows
-pub digits_longest : (bytes rest : List ℕ) → IsDigits bytes → begins is_digit rest ≡ false → IsLongest bytes rest
+pub digits_longest : (bytes rest : List ℕ) → IsNumeral 10 bytes → begins is_digit rest ≡ false → IsLongest bytes rest
 digits_longest bytes rest h stop [] after e ne f = ne refl
-digits_longest [] rest h stop (c ∷ more) after e ne f = h
+digits_longest [] rest h stop (c ∷ more) after e ne f = none_is_numeral h
 digits_longest (b ∷ bytes) rest h stop (c ∷ more) after e ne f =
-    clash (sym (ap (begins is_digit) e) ∙ stop) (AllAre_right is_digit bytes (c ∷ more) (form_of_digit f b (bytes ++ c ∷ more) refl h.0)).0
+    clash (sym (ap (begins is_digit) e) ∙ stop) (AllAre_right is_digit bytes (c ∷ more) (form_of_digit f b (bytes ++ c ∷ more) refl (bytes_of_digits (b ∷ bytes) h.1).0)).0
 
 -- a byte that is a sign, and no first byte of a longer one
 pub mark_longest : (b : ℕ) (rest : List ℕ) → is_mark b ≡ true → begins_pair (b ∷ b ∷ []) ≡ false → IsLongest (b ∷ []) rest

@@ -2,15 +2,17 @@
 use Rattle.std.proofs.Common.{ℕ, zero, suc, ◌≡◌, ◌≢◌, List, [], ◌∷◌, ◌++◌, Bool, true, false, refl, sym, ap, ◌∙◌, arith}
 use Rattle.std.specs.Prelude.{codes, cond, ◌||◌, ◌==◌, ◌&&◌}
 use Rattle.std.proofs.lemmas.Bool.Decides.{nat_tests}
+use Rattle.std.specs.Str.Parse.{IsNumeral}
 use Rattle.tg_syntax.specs.declared.tokens.Word.{Word}
 use Rattle.tg_syntax.specs.declared.tokens.Word.TheVariants.{WArray}
 use Rattle.tg_syntax.specs.declared.tokens.Sign.{Sign}
 use Rattle.tg_syntax.specs.declared.tokens.Sign.TheVariants.{Comma, LeftParen, RightParen, Minus}
 use Rattle.tg_syntax.specs.declared.tokens.Token.TheVariants as token
 use Rattle.tg_syntax.specs.declared.faults.LexRule.TheVariants.{L1, L2, L3, L4, L5, L6}
-use Rattle.tg_syntax.specs.Spellings.{word_text, sign_text, is_digit, is_blank, IsDigits, HasTokenForm, nothing, plain, Escape}
+use Rattle.tg_syntax.specs.Spellings.{word_text, sign_text, is_digit, is_blank, HasTokenForm, nothing, plain, Escape}
 use Rattle.tg_syntax.specs.Lexing.{Lexes, spanned, IsLongest, OpensComment, Closes}
 use Rattle.tg_syntax.specs.LexicalFaults.{HasLexicalFault, met, LeadsTo, here, illegal_byte, comment_not_closed, in_string, bad_escape, large_int, control_byte, end_in_escape, line_in_escape, IsBegun}
+use Rattle.tg_syntax.proofs.Numerals.{bytes_of_digits, digits_of_bytes}
 use Rattle.tg_syntax.proofs.Longest.{name_longest, digits_longest, mark_longest, form_of_mark, begins}
 
 -- no text that begins with another byte opens a comment
@@ -42,16 +44,19 @@ exit_tokens =
     Lexes.token (codes "exit") (token.Ident (record { 0 = 0 })) {rest = codes "(-1)"} ((refl, (refl, (refl, (refl, tt)))), no_word, refl) (name_longest (codes "exit") (codes "(-1)") (refl, (refl, (refl, (refl, tt)))) refl) (not_opening 101 (codes "xit(-1)") refl)
     (Lexes.token (codes "(") (token.Sign LeftParen) {rest = codes "-1)"} refl (mark_longest 40 (codes "-1)") refl refl) (not_opening 40 (codes "-1)") refl)
     (Lexes.token (codes "-") (token.Sign Minus) {rest = codes "1)"} refl (mark_longest 45 (codes "1)") refl refl) (not_opening 45 (codes "1)") refl)
-    (Lexes.token (codes "1") (token.Int 1) {rest = codes ")"} ((refl, tt), refl, omega arith) (digits_longest (codes "1") (codes ")") (refl, tt) refl) (not_opening 49 (codes ")") refl)
+    (Lexes.token (codes "1") (token.Int 1) {rest = codes ")"} (one_digit, refl, omega arith) (digits_longest (codes "1") (codes ")") one_digit refl) (not_opening 49 (codes ")") refl)
     (Lexes.token (codes ")") (token.Sign RightParen) {rest = []} refl (mark_longest 41 [] refl refl) (not_opening 41 [] refl)
     (Lexes.ends 8)))))
+  where
+    one_digit : IsNumeral 10 (codes "1")
+    one_digit = (omega arith, digits_of_bytes (codes "1") (refl, tt))
 
 -- `abc` is never `ab` and `c`, and 2147483648 is never two ints
 pub name_not_cut : IsLongest (codes "ab") (codes "c") → ⊥
 name_not_cut h = h (codes "c") [] refl (λ e. cc) (HasTokenForm.name (codes "abc") (refl, (refl, (refl, tt))))
 
-ten_digits : IsDigits (codes "2147483648")
-ten_digits = (refl, (refl, (refl, (refl, (refl, (refl, (refl, (refl, (refl, (refl, tt))))))))))
+ten_digits : IsNumeral 10 (codes "2147483648")
+ten_digits = (omega arith, digits_of_bytes (codes "2147483648") (refl, (refl, (refl, (refl, (refl, (refl, (refl, (refl, (refl, (refl, tt)))))))))))
 
 pub int_not_cut : IsLongest (codes "214748364") (codes "8") → ⊥
 int_not_cut h = h (codes "8") [] refl (λ e. cc) (HasTokenForm.digits (codes "2147483648") ten_digits)
@@ -84,7 +89,7 @@ digit_escape Escape.tab a b c e d = absurd (cc)
 digit_escape Escape.quote a b c e d = absurd (cc)
 digit_escape Escape.backslash a b c e d = absurd (cc)
 digit_escape (Escape.control x h) a b c e d = absurd (cc)
-digit_escape (Escape.decimal x y z h le) a b c e d = let same : z ≡ c = cc in ap is_digit (sym same) ∙ h.1.1.0
+digit_escape (Escape.decimal x y z h le) a b c e d = let same : z ≡ c = cc in ap is_digit (sym same) ∙ (bytes_of_digits (x ∷ y ∷ z ∷ []) h).1.1.0
 digit_escape (Escape.blanks x more h) a b c e d = let same : x ≡ a = cc in absurd (no_digit x h.0 (ap is_digit same ∙ d))
   where
     no_digit : (x : ℕ) → is_blank x ≡ true → is_digit x ≡ true → ⊥

@@ -2,7 +2,9 @@
 use Rattle.std.specs.Prelude.{List, [], ◌∷◌, ◌++◌, Option}
 use Rattle.tg_syntax.specs.declared.tokens.Ident.{Ident}
 use Rattle.tg_syntax.specs.declared.trees.Param.{Param}
-use Rattle.tg_syntax.specs.Tree.{TypeDec, Exp, Exps, no_exps, exp, Inits, no_inits, init, Decs, no_decs, types, variable, functions, FunDecs, no_functions, function}
+use Rattle.tg_syntax.specs.Tree.{TypeDec, Exp, Exps, no_exps, exp, Inits, no_inits, init, Decs}
+use Rattle.tg_syntax.specs.Tree.{no_decs, types, variable, functions, FunDecs, no_functions}
+use Rattle.tg_syntax.specs.Tree.{function}
 
 abbrev pub snoc : Exps → Exp → Exps
 snoc no_exps e = exp e no_exps
@@ -44,3 +46,19 @@ snoc_dec (functions fs no_decs) d = behind_functions fs d
 snoc_dec (types ts rest) d = types ts (snoc_dec rest d)
 snoc_dec (variable x t e rest) d = variable x t e (snoc_dec rest d)
 snoc_dec (functions fs rest) d = functions fs (snoc_dec rest d)
+
+-- a group of types doesn't come first, nor one of functions
+abbrev pub NoTypesFirst : Decs → Type 0
+NoTypesFirst (types ts rest) = ⊥
+NoTypesFirst _ = Unit {0}
+
+abbrev pub NoFunctionsFirst : Decs → Type 0
+NoFunctionsFirst (functions fs rest) = ⊥
+NoFunctionsFirst _ = Unit {0}
+
+-- each group is as long as possible: no two neighbours are groups of types, or of functions
+abbrev pub AreLongest : Decs → Type 0
+AreLongest no_decs = Unit {0}
+AreLongest (types ts rest) = NoTypesFirst rest × AreLongest rest
+AreLongest (variable x t e rest) = AreLongest rest
+AreLongest (functions fs rest) = NoFunctionsFirst rest × AreLongest rest

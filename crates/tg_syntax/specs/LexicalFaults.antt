@@ -1,9 +1,12 @@
 -- The first lexical fault of a text, met in reading from its front, and its place.
-use Rattle.std.specs.Prelude.{ℕ, ◌+◌, ◌≡◌, ◌≢◌, ◌<◌, ◌≤◌, List, [], ◌∷◌, ◌++◌, length, Bool, ◌||◌, ◌==◌, nat_le, not, IsTrue}
+use Rattle.std.specs.Prelude.{ℕ, ◌+◌, ◌≡◌, ◌≢◌, ◌<◌, ◌≤◌, List, [], ◌∷◌, ◌++◌, length, Bool, ◌||◌}
+use Rattle.std.specs.Prelude.{◌==◌, nat_le, not, IsTrue}
+use Rattle.std.specs.Str.Parse.{IsNumeral, digits_value}
 use Rattle.tg_syntax.specs.declared.faults.LexRule.{LexRule}
 use Rattle.tg_syntax.specs.declared.faults.LexRule.TheVariants.{L1, L2, L3, L4, L5, L6, L7}
 use Rattle.tg_syntax.specs.declared.tokens.Token.{Token}
-use Rattle.tg_syntax.specs.Spellings.{Spells, HasTokenForm, IsQuoted, Escape, AllAre, IsDigits, number_of, is_blank, is_digit}
+use Rattle.tg_syntax.specs.Spellings.{Spells, HasTokenForm, IsQuoted, Escape, AllAre, is_blank}
+use Rattle.tg_syntax.specs.Spellings.{is_digit}
 use Rattle.tg_syntax.specs.Lexing.{OpensComment, Closes, IsLongest}
 
 -- from a byte on, the text is tokens, blanks and comments up to another byte, where this rest of it begins
@@ -45,7 +48,7 @@ pub data FaultAt (at : ℕ) : List ℕ → LexRule → ℕ → Type 0 where
   illegal_byte : (b : ℕ) (rest : List ℕ) → IsTrue (not (is_blank b)) → ((more : List ℕ) → HasTokenForm (b ∷ more) → ⊥) → FaultAt at (b ∷ rest) L1 at
   comment_not_closed : (behind : List ℕ) → ((inside rest : List ℕ) → behind ≡ inside ++ rest → Closes 1 inside → ⊥) → FaultAt at (47 ∷ 42 ∷ behind) L2 at
   in_string : (quoted meant rest : List ℕ) {rule : LexRule} {place : ℕ} → IsQuoted quoted meant → FaultInString at (at + 1 + length quoted) rest rule place → FaultAt at (34 ∷ quoted ++ rest) rule place
-  large_int : (bytes rest : List ℕ) → IsDigits bytes → IsLongest bytes rest → 2147483647 < number_of bytes → FaultAt at (bytes ++ rest) L5 at
+  large_int : (bytes rest : List ℕ) → IsNumeral 10 bytes → IsLongest bytes rest → 2147483647 < digits_value 10 bytes → FaultAt at (bytes ++ rest) L5 at
 
 -- the text's first fault; its length is tested first
 pub data HasLexicalFault : List ℕ → LexRule → ℕ → Type 0 where

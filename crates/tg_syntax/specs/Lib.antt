@@ -13,4 +13,5 @@ pub mod SyntaxFaults
 pub mod Measures
 pub mod Functions
 pub mod Beginnings
+pub mod Throughout
 pub mod NamesWithin

@@ -4,7 +4,8 @@ use Rattle.tg_syntax.specs.declared.trees.Exp.{Exp as CodeExp}
 use Rattle.tg_syntax.specs.declared.trees.Init.{Init as CodeInit}
 use Rattle.tg_syntax.specs.declared.trees.Dec.{Dec as CodeDec}
 use Rattle.tg_syntax.specs.declared.trees.FunDec.{FunDec as CodeFunDec}
-use Rattle.tg_syntax.specs.Tree.{Exps, no_exps, exp, Inits, no_inits, init, Decs, no_decs, FunDecs, no_functions, function}
+use Rattle.tg_syntax.specs.Tree.{Exps, no_exps, exp, Inits, no_inits, init, Decs, no_decs, FunDecs}
+use Rattle.tg_syntax.specs.Tree.{no_functions, function}
 use Rattle.tg_syntax.specs.Plain.{plain, plain_dec}
 
 abbrev pub exps_of : List CodeExp → Exps

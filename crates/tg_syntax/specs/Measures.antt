@@ -1,6 +1,10 @@
 -- The nodes of a body.
 use Rattle.std.specs.Prelude.{ℕ, ◌+◌, min, length, sum_by}
-use Rattle.tg_syntax.specs.Tree.{Form, Alias, Fields, Array, TypeDec, Exp, Nil, Break, Int, Text, Read, Call, Neg, Binary, Make, Fill, Assign, If, When, While, For, Let, Seq, Place, Simple, Field, Index, Exps, no_exps, exp, Inits, no_inits, init, Decs, no_decs, types, variable, functions, FunDecs, no_functions, function}
+use Rattle.tg_syntax.specs.Tree.{Form, Alias, Fields, Array, TypeDec, Exp, Nil, Break, Int, Text}
+use Rattle.tg_syntax.specs.Tree.{Read, Call, Neg, Binary, Make, Fill, Assign, If, When, While, For}
+use Rattle.tg_syntax.specs.Tree.{Let, Seq, Place, Simple, Field, Index, Exps, no_exps, exp, Inits}
+use Rattle.tg_syntax.specs.Tree.{no_inits, init, Decs, no_decs, types, variable, functions, FunDecs}
+use Rattle.tg_syntax.specs.Tree.{no_functions, function}
 
 abbrev pub form_size : Form → ℕ
 form_size (Alias _) = 1

@@ -4,9 +4,12 @@ use Rattle.tg_syntax.specs.declared.tokens.Token.{Token}
 use Rattle.tg_syntax.specs.declared.tokens.Token.TheVariants as token
 use Rattle.tg_syntax.specs.declared.tokens.Spanned.{Spanned}
 use Rattle.tg_syntax.specs.declared.tokens.Word.{Word}
-use Rattle.tg_syntax.specs.declared.tokens.Word.TheVariants.{WEnd, WFor, WFunction, WIf, WIn, WLet, WOf, WType, WVar, WWhile}
+use Rattle.tg_syntax.specs.declared.tokens.Word.TheVariants.{WEnd, WFor, WFunction, WIf, WIn, WLet}
+use Rattle.tg_syntax.specs.declared.tokens.Word.TheVariants.{WOf, WType, WVar, WWhile}
 use Rattle.tg_syntax.specs.declared.tokens.Sign.{Sign}
-use Rattle.tg_syntax.specs.declared.tokens.Sign.TheVariants.{Comma, Semicolon, LeftParen, RightParen, LeftBracket, RightBracket, LeftBrace, RightBrace, Colon}
+use Rattle.tg_syntax.specs.declared.tokens.Sign.TheVariants.{Comma, Semicolon, LeftParen}
+use Rattle.tg_syntax.specs.declared.tokens.Sign.TheVariants.{RightParen, LeftBracket, RightBracket}
+use Rattle.tg_syntax.specs.declared.tokens.Sign.TheVariants.{LeftBrace, RightBrace, Colon}
 
 -- a bracket begins a count of 0
 abbrev pub pushed : List ℕ → List ℕ

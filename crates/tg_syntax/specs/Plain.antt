@@ -2,16 +2,24 @@
 use Rattle.std.specs.Prelude.{map}
 use Rattle.tg_base.specs.declared.ids.Span.{Span}
 use Rattle.tg_syntax.specs.declared.trees.Exp.{Exp as CodeExp}
-use Rattle.tg_syntax.specs.declared.trees.Kind.{Kind, Nil, Break, Int, Text, Read, Call, Neg', Binary', Make, Fill', Assign', If', While', For', Let', Seq, None', Some', Row_of-Dec, end_of-Dec, more_of-Dec}
+use Rattle.tg_syntax.specs.declared.trees.Kind.{Kind, Nil, Break, Int, Text, Read, Call, Neg'}
+use Rattle.tg_syntax.specs.declared.trees.Kind.{Binary', Make, Fill', Assign', If', While', For'}
+use Rattle.tg_syntax.specs.declared.trees.Kind.{Let', Seq, None', Some', Row_of-Dec, end_of-Dec}
+use Rattle.tg_syntax.specs.declared.trees.Kind.{more_of-Dec}
 use Rattle.tg_syntax.specs.declared.trees.Var.{Var, Simple, Field', Index'}
 use Rattle.tg_syntax.specs.declared.trees.Dec.{Dec, Types, Variable', Functions}
-use Rattle.tg_syntax.specs.declared.trees.Exps.{Exps as CodeExps, Exps', Row_of-Exp, end_of-Exp, more_of-Exp}
-use Rattle.tg_syntax.specs.declared.trees.Inits.{Inits as CodeInits, Inits', Row_of-Init, end_of-Init, more_of-Init}
-use Rattle.tg_syntax.specs.declared.trees.FunDecs.{FunDecs as CodeFunDecs, FunDecs', Row_of-FunDec, end_of-FunDec, more_of-FunDec}
+use Rattle.tg_syntax.specs.declared.trees.Exps.{Exps as CodeExps, Exps', Row_of-Exp, end_of-Exp}
+use Rattle.tg_syntax.specs.declared.trees.Exps.{more_of-Exp}
+use Rattle.tg_syntax.specs.declared.trees.Inits.{Inits as CodeInits, Inits', Row_of-Init}
+use Rattle.tg_syntax.specs.declared.trees.Inits.{end_of-Init, more_of-Init}
+use Rattle.tg_syntax.specs.declared.trees.FunDecs.{FunDecs as CodeFunDecs, FunDecs', Row_of-FunDec}
+use Rattle.tg_syntax.specs.declared.trees.FunDecs.{end_of-FunDec, more_of-FunDec}
 use Rattle.tg_syntax.specs.declared.trees.TypeDec.{TypeDec as CodeTypeDec}
 use Rattle.tg_syntax.specs.declared.trees.Form.{Form as CodeForm}
 use Rattle.tg_syntax.specs.declared.trees.Form.TheVariants.{Alias, Fields, Array}
-use Rattle.tg_syntax.specs.Tree.{Form, TypeDec, Exp, Place, Exps, no_exps, exp, Inits, no_inits, init, Decs, no_decs, types, variable, functions, FunDecs, no_functions, function}
+use Rattle.tg_syntax.specs.Tree.{Form, TypeDec, Exp, Place, Exps, no_exps, exp, Inits, no_inits}
+use Rattle.tg_syntax.specs.Tree.{init, Decs, no_decs, types, variable, functions, FunDecs}
+use Rattle.tg_syntax.specs.Tree.{no_functions, function}
 
 abbrev pub plain_form : CodeForm → Form
 plain_form (Alias name) = Form.Alias name

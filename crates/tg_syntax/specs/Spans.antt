@@ -1,6 +1,7 @@
 -- The spans of expressions.
 use Rattle.tg_base.specs.declared.ids.Span.{Span}
-use Rattle.tg_syntax.specs.Tree.{Exp, Nil, Break, Int, Text, Read, Call, Neg, Binary, Make, Fill, Assign, If, When, While, For, Let, Seq}
+use Rattle.tg_syntax.specs.Tree.{Exp, Nil, Break, Int, Text, Read, Call, Neg, Binary, Make, Fill}
+use Rattle.tg_syntax.specs.Tree.{Assign, If, When, While, For, Let, Seq}
 
 abbrev pub span_of : Exp → Span
 span_of (Nil s) = s

@@ -1,9 +1,18 @@
 -- How tokens are spelled (Appel, appendix A).
-use Rattle.std.specs.Prelude.{ℕ, ◌+◌, ◌-◌, ◌*◌, ◌%◌, ◌≡◌, ◌≢◌, ◌≤◌, List, [], ◌∷◌, ◌++◌, Bool, ◌||◌, ◌&&◌, ◌==◌, nat_le, IsTrue, not, fold, codes, slice_get, Some}
+use Rattle.std.specs.Prelude.{ℕ, ◌%◌, ◌≡◌, ◌≢◌, ◌≤◌, List, [], ◌∷◌, ◌++◌, Bool, ◌||◌, ◌&&◌, ◌==◌}
+use Rattle.std.specs.Prelude.{nat_le, IsTrue, not, codes, slice_get, Some}
+use Rattle.std.specs.Str.Parse.{IsNumeral, AllDigits, digits_value}
 use Rattle.tg_syntax.specs.declared.tokens.Word.{Word}
-use Rattle.tg_syntax.specs.declared.tokens.Word.TheVariants.{WArray, WBreak, WDo, WElse, WEnd, WFor, WFunction, WIf, WIn, WLet, WNil, WOf, WThen, WTo, WType, WVar, WWhile}
+use Rattle.tg_syntax.specs.declared.tokens.Word.TheVariants.{WArray, WBreak, WDo, WElse, WEnd, WFor}
+use Rattle.tg_syntax.specs.declared.tokens.Word.TheVariants.{WFunction, WIf, WIn, WLet, WNil, WOf}
+use Rattle.tg_syntax.specs.declared.tokens.Word.TheVariants.{WThen, WTo, WType, WVar, WWhile}
 use Rattle.tg_syntax.specs.declared.tokens.Sign.{Sign}
-use Rattle.tg_syntax.specs.declared.tokens.Sign.TheVariants.{Comma, Colon, Semicolon, LeftParen, RightParen, LeftBracket, RightBracket, LeftBrace, RightBrace, Dot, Plus, Minus, Times, Divide, Equal, NotEqual, Less, LessEqual, Greater, GreaterEqual, And, Or, Assign}
+use Rattle.tg_syntax.specs.declared.tokens.Sign.TheVariants.{Comma, Colon, Semicolon, LeftParen}
+use Rattle.tg_syntax.specs.declared.tokens.Sign.TheVariants.{RightParen, LeftBracket, RightBracket}
+use Rattle.tg_syntax.specs.declared.tokens.Sign.TheVariants.{LeftBrace, RightBrace, Dot, Plus}
+use Rattle.tg_syntax.specs.declared.tokens.Sign.TheVariants.{Minus, Times, Divide, Equal, NotEqual}
+use Rattle.tg_syntax.specs.declared.tokens.Sign.TheVariants.{Less, LessEqual, Greater, GreaterEqual}
+use Rattle.tg_syntax.specs.declared.tokens.Sign.TheVariants.{And, Or, Assign}
 use Rattle.tg_syntax.specs.declared.tokens.Token.{Token}
 use Rattle.tg_syntax.specs.declared.tokens.Token.TheVariants as token
 
@@ -79,14 +88,6 @@ abbrev pub IsName : List ℕ → Type 0
 IsName [] = ⊥
 IsName (b ∷ bytes) = IsTrue (is_letter b) × AllAre is_name_byte bytes
 
--- one digit or more, and the number that they stand for
-abbrev pub IsDigits : List ℕ → Type 0
-IsDigits [] = ⊥
-IsDigits (b ∷ bytes) = AllAre is_digit (b ∷ bytes)
-
-abbrev pub number_of : List ℕ → ℕ
-number_of bytes = fold (λ n b. 10 * n + (b - 48)) 0 bytes
-
 -- What stands between the quotes of a string, and the bytes that it means.
 abbrev pub is_plain : ℕ → Bool
 is_plain b = (is_between 32 126 b || is_between 128 255 b) && (not (b == 34) && not (b == 92))
@@ -99,7 +100,11 @@ pub data Escape : List ℕ → List ℕ → Type 0 where
   -- `^` and a byte from `@` to `_` or from `a` to `z`
   control : (b : ℕ) → IsTrue (is_between 64 95 b || is_between 97 122 b) → Escape (94 ∷ b ∷ []) (b % 32 ∷ [])
   -- three digits, at most 255
-  decimal : (a b c : ℕ) → AllAre is_digit (a ∷ b ∷ c ∷ []) → number_of (a ∷ b ∷ c ∷ []) ≤ 255 → Escape (a ∷ b ∷ c ∷ []) (number_of (a ∷ b ∷ c ∷ []) ∷ [])
+  decimal :
+      (a b c : ℕ) →
+      AllDigits 10 (a ∷ b ∷ c ∷ []) →
+      digits_value 10 (a ∷ b ∷ c ∷ []) ≤ 255 →
+      Escape (a ∷ b ∷ c ∷ []) (digits_value 10 (a ∷ b ∷ c ∷ []) ∷ [])
   -- blanks up to a backslash mean nothing
   blanks : (b : ℕ) (more : List ℕ) → AllAre is_blank (b ∷ more) → Escape (b ∷ more ++ 92 ∷ []) []
 
@@ -113,7 +118,7 @@ pub data HasTokenForm : List ℕ → Type 0 where
   -- a reserved word or an identifier
   name : (bytes : List ℕ) → IsName bytes → HasTokenForm bytes
   sign : (s : Sign) → HasTokenForm (sign_text s)
-  digits : (bytes : List ℕ) → IsDigits bytes → HasTokenForm bytes
+  digits : (bytes : List ℕ) → IsNumeral 10 bytes → HasTokenForm bytes
   quoted : {inside meant : List ℕ} → IsQuoted inside meant → HasTokenForm (34 ∷ inside ++ 34 ∷ [])
 
 -- These bytes spell a token, where names are numbered by their places in a list.
@@ -121,6 +126,6 @@ abbrev pub Spells : List (List ℕ) → List ℕ → Token → Type 0
 Spells names bytes (token.Word w) = bytes ≡ word_text w
 Spells names bytes (token.Sign s) = bytes ≡ sign_text s
 Spells names bytes (token.Ident n) = IsName bytes × ((w : Word) → bytes ≢ word_text w) × (slice_get names n.0 ≡ Some bytes)
-Spells names bytes (token.Int n) = IsDigits bytes × (n ≡ number_of bytes) × (n ≤ 2147483647)
+Spells names bytes (token.Int n) = IsNumeral 10 bytes × (n ≡ digits_value 10 bytes) × (n ≤ 2147483647)
 Spells names bytes (token.Text t) = (inside : List ℕ) × (bytes ≡ 34 ∷ inside ++ 34 ∷ []) × IsQuoted inside t
 Spells names bytes token.End = ⊥

@@ -150,6 +150,3 @@ fn count(length: usize) -> u32
         4294967295
     }
 }
-
-#[cfg(test)]
-mod tests;

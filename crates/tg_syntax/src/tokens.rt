@@ -1,7 +1,7 @@
 use tg_base::{Bytes, Name, Span};
 
 /// A reserved word (Appel, appendix A).
-#[derive(Clone, Copy, Debug, PartialEq, Eq)]
+#[derive(Clone, Copy, PartialEq, Eq)]
 pub enum Word {
     WArray,
     WBreak,
@@ -23,7 +23,7 @@ pub enum Word {
 }
 
 /// A punctuation sign (Appel, appendix A).
-#[derive(Clone, Copy, Debug, PartialEq, Eq)]
+#[derive(Clone, Copy, PartialEq, Eq)]
 pub enum Sign {
     Comma,
     Colon,
@@ -51,7 +51,7 @@ pub enum Sign {
 }
 
 /// A token: an int is at most 2147483647, and a text holds its bytes without quotes and escapes.
-#[derive(Clone, Debug, PartialEq, Eq, Drop)]
+#[derive(Drop)]
 pub enum Token {
     Word(Word),
     Sign(Sign),
@@ -63,14 +63,14 @@ pub enum Token {
 }
 
 /// A token with the span of its bytes.
-#[derive(Clone, Debug, PartialEq, Eq, Drop)]
+#[derive(Drop)]
 pub struct Spanned {
     pub token: Token,
     pub span: Span,
 }
 
 /// An identifier with the span of its bytes.
-#[derive(Clone, Copy, Debug, PartialEq, Eq)]
+#[derive(Clone, Copy)]
 pub struct Ident {
     pub name: Name,
     pub span: Span,

@@ -2,21 +2,21 @@ use crate::tokens::Ident;
 use tg_base::{Bytes, ListOf, Span};
 
 /// A program: one expression.
-#[derive(Debug, PartialEq, Eq, Drop)]
+#[derive(Drop)]
 pub struct Program {
     pub body: Exp,
 }
 
 /// An expression with its place.
 #[cycle(ast)]
-#[derive(Debug, PartialEq, Eq, Drop)]
+#[derive(Drop)]
 pub struct Exp {
     pub span: Span,
     pub kind: Kind,
 }
 
 /// An operator.
-#[derive(Clone, Copy, Debug, PartialEq, Eq)]
+#[derive(Clone, Copy)]
 pub enum Op {
     Plus,
     Minus,
@@ -34,7 +34,7 @@ pub enum Op {
 
 /// What an expression is.
 #[cycle(ast)]
-#[derive(Debug, PartialEq, Eq, Drop)]
+#[derive(Drop)]
 pub enum Kind {
     Nil,
     Break,
@@ -56,7 +56,7 @@ pub enum Kind {
 
 /// An l-value.
 #[cycle(ast)]
-#[derive(Debug, PartialEq, Eq, Drop)]
+#[derive(Drop)]
 pub enum Var {
     Simple(Ident),
     Field(Box<Var>, Ident),
@@ -65,7 +65,7 @@ pub enum Var {
 
 /// A field's value.
 #[cycle(ast)]
-#[derive(Debug, PartialEq, Eq, Drop)]
+#[derive(Drop)]
 pub struct Init {
     pub field: Ident,
     pub value: Exp,
@@ -73,35 +73,35 @@ pub struct Init {
 
 /// Expressions.
 #[cycle(ast)]
-#[derive(Debug, PartialEq, Eq, Drop)]
+#[derive(Drop)]
 pub struct Exps {
     pub items: Vec<Exp>,
 }
 
 /// Fields' values.
 #[cycle(ast)]
-#[derive(Debug, PartialEq, Eq, Drop)]
+#[derive(Drop)]
 pub struct Inits {
     pub items: Vec<Init>,
 }
 
 /// Declarations.
 #[cycle(ast)]
-#[derive(Debug, PartialEq, Eq, Drop)]
+#[derive(Drop)]
 pub struct Decs {
     pub items: Vec<Dec>,
 }
 
 /// Functions that may call each other.
 #[cycle(ast)]
-#[derive(Debug, PartialEq, Eq, Drop)]
+#[derive(Drop)]
 pub struct FunDecs {
     pub items: Vec<FunDec>,
 }
 
 /// A declaration.
 #[cycle(ast)]
-#[derive(Debug, PartialEq, Eq, Drop)]
+#[derive(Drop)]
 pub enum Dec {
     Types(TypeDecs),
     Variable(Ident, Option<Ident>, Exp),
@@ -110,7 +110,7 @@ pub enum Dec {
 
 /// A function's declaration.
 #[cycle(ast)]
-#[derive(Debug, PartialEq, Eq, Drop)]
+#[derive(Drop)]
 pub struct FunDec {
     pub name: Ident,
     pub params: Params,
@@ -122,14 +122,14 @@ pub struct FunDec {
 pub type TypeDecs = ListOf<TypeDec>;
 
 /// A type's declaration.
-#[derive(Clone, Debug, PartialEq, Eq, Drop)]
+#[derive(Drop)]
 pub struct TypeDec {
     pub name: Ident,
     pub form: Form,
 }
 
 /// A type's form.
-#[derive(Clone, Debug, PartialEq, Eq, Drop)]
+#[derive(Drop)]
 pub enum Form {
     Alias(Ident),
     Fields(Params),
@@ -140,7 +140,7 @@ pub enum Form {
 pub type Params = ListOf<Param>;
 
 /// A parameter, or a record's field.
-#[derive(Clone, Copy, Debug, PartialEq, Eq)]
+#[derive(Clone, Copy)]
 pub struct Param {
     pub name: Ident,
     pub kind: Ident,

@@ -248,7 +248,9 @@ leads_kept (Err x) names in_loop old new m onward n inner e k g = fails_first m 
 -- the names of the parts that a loop comes to
 -- the names of a `let`
 pub let_within : (n : ℕ) (k : Kind) (s : Span) (ds : CodeDecs) (es : CodeExps) → k ≡ Let ds es → NamesWithin n (plain_kind k s) → DecsWithin n (decs_of ds.items.items) × ExpsWithin n (plain_exps es)
-let_within n k s ds es e h = subst (λ x. NamesWithin n x) (plain_kind-Let ds es s) (subst (λ y. NamesWithin n (plain_kind y s)) e h)
+let_within n k s ds es e h =
+    let all = subst (λ x. NamesWithin n x) (plain_kind-Let ds es s) (subst (λ y. NamesWithin n (plain_kind y s)) e h) in
+    (all.1, all.2)
 
 -- a choice begins with its test
 pub choice_fails : (s : Span) (test this : Exp) (other : Option Exp) (scope : Scope) (n : Noted) {e : TypeFault} → Fails e (fitting test int_type scope n) → Fails e (typed (choice s test this other) scope n)
@@ -273,9 +275,9 @@ choice_whole k s test this None e = ap (λ x. plain_kind x s) e
 choice_whole k s test this (Some b) e = ap (λ x. plain_kind x s) e
 
 pub choice_within : (n : ℕ) (s : Span) (test this : Exp) (other : Option Exp) → NamesWithin n (choice s test this other) → NamesWithin n test × NamesWithin n this
-choice_within n s test this None h = (h.0, h.1)
-choice_within n s test this (Some o) h = (h.0, h.1)
+choice_within n s test this None h = (h.1, h.2)
+choice_within n s test this (Some o) h = (h.1, h.2)
 
 pub way_within : {A : Type 0} (n : ℕ) (s : Span) (f : A → Exp) (test this : Exp) (other : Option A) → NamesWithin n (choice s test this (option_map f other)) → IfSome other (λ x. NamesWithin n (f x))
 way_within n s f test this None h = tt
-way_within n s f test this (Some o) h = h.2
+way_within n s f test this (Some o) h = h.3

@@ -1,6 +1,6 @@
 use Rattle.std.proofs.Common.{◌≡◌, ◌≤◌, take}
-use Rattle.tg_syntax.specs.Spellings.{number_of}
+use Rattle.std.specs.Str.Parse.{digits_value}
 use Rattle.tg_lexer.proofs.ints.int.Given as goal
 
 abbrev pub invariant-loop-byte : goal.invariant-loop-byte
-invariant-loop-byte l = (l.value ≡ number_of (take l.byte-index l.digits)) × (l.value ≤ 2147483647)
+invariant-loop-byte l = (l.value ≡ digits_value 10 (take l.byte-index l.digits)) × (l.value ≤ 2147483647)

@@ -6,6 +6,7 @@ use Rattle.tg_syntax.specs.LexicalFaults.{too_long}
 use Rattle.tg_lexer.specs.Fronts.{IsFront, IsRead}
 use Rattle.tg_lexer.specs.Numbering.{names_after}
 use Rattle.tg_lexer.proofs.Scans.{scanned_none, scanned_gap, scanned_token, scanned_end, scanned_named, scanned_kept, scanned_after, read_bad}
+use Rattle.tg_lexer.proofs.TokenEnds.{ends_once}
 use Rattle.tg_lexer.proofs.lexing.lex.Goals as goal
 
 pub loop-at-init : goal.loop-at-init
@@ -45,6 +46,9 @@ returns-in_err-push-clause-kept c = scanned_kept _ _ _ _ _ _ c.loop-at.invariant
 
 pub returns-clause-lexed : goal.returns-clause-lexed
 returns-clause-lexed c = rw (c.in_ok-push.ensures.items, c.spanned-2.ensures) (scanned_end _ _ _ _ _ c.loop-at.invariant c.loop-at-test.false)
+
+pub returns-clause-ends : goal.returns-clause-ends
+returns-clause-ends c = rw (c.in_ok-push.ensures.items, c.spanned-2.ensures) (ends_once (scanned_end _ _ _ _ _ c.loop-at.invariant c.loop-at-test.false))
 
 pub returns-clause-named : goal.returns-clause-named
 returns-clause-named c = rw (c.in_ok-push.ensures.items, c.spanned-2.ensures) (scanned_named _ _ _ _ _ c.loop-at.invariant)
