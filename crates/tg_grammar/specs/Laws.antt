@@ -1,4 +1,5 @@
--- The laws of descent: it reads the programs and no other lists, and refuses the first token that can't stand.
+-- The laws of descent: it reads the programs and no other lists, and refuses the first token that
+-- can't stand.
 use Rattle.std.specs.Prelude.{◌≡◌, List, [], ◌∷◌, ◌++◌}
 use Rattle.tg_syntax.specs.declared.tokens.Spanned.{Spanned}
 use Rattle.tg_syntax.specs.Tree.{Exp, Decs}
@@ -18,7 +19,9 @@ GroupsLongest = (tokens : List Spanned) (ds : Decs) → AreDecs tokens ds → Ar
 
 -- each program is read, to its tree
 abbrev pub ReadsEach : Type 0
-ReadsEach = (tokens : List Spanned) (e : Exp) → IsProgram tokens e → Does Whole_program whole_program tokens (Got e [])
+ReadsEach =
+    (tokens : List Spanned) (e : Exp) → IsProgram tokens e →
+    Does Whole_program whole_program tokens (Got e [])
 
 -- what is read of a list that ends by its one end is a program
 abbrev pub ReadsPrograms : Type 0
@@ -45,4 +48,5 @@ WantsMore = (tokens : List Spanned) → Does Whole_program whole_program tokens 
 
 -- and never behind the one end of a list
 abbrev pub EndsAlways : Type 0
-EndsAlways = (tokens : List Spanned) → EndsOnce tokens → Does Whole_program whole_program tokens Out → ⊥
+EndsAlways =
+    (tokens : List Spanned) → EndsOnce tokens → Does Whole_program whole_program tokens Out → ⊥

@@ -23,24 +23,33 @@ pub record IsSpanOf (s : Span) (tokens : List Spanned) : Type 0 where
 
 -- whatever tokens are read as an expression, its span is theirs
 abbrev pub SpansExpressions : Type 0
-SpansExpressions = (level : Level) (tokens : List Spanned) (e : Exp) → Reads level tokens e → IsSpanOf (span_of e) tokens
+SpansExpressions =
+    (level : Level) (tokens : List Spanned) (e : Exp) → Reads level tokens e →
+    IsSpanOf (span_of e) tokens
 
 -- and an l-value's
 abbrev pub SpansPlaces : Type 0
-SpansPlaces = (tokens : List Spanned) (s : Span) (v : Place) → IsPlace tokens s v → IsSpanOf s tokens
+SpansPlaces =
+    (tokens : List Spanned) (s : Span) (v : Place) → IsPlace tokens s v → IsSpanOf s tokens
 
--- from this byte on each token begins where the one before it ends, or later, and none but the end is empty
+-- from this byte on each token begins where the one before it ends, or later, and none but the end
+-- is empty
 abbrev pub StandFrom : (at : ℕ) → List Spanned → Type 0
 StandFrom at [] = Unit {0}
 StandFrom at (t ∷ ts) = (at ≤ t.span.from) × (t.span.from ≤ t.span.to) × (t.token ≢ End → t.span.from < t.span.to) × StandFrom t.span.to ts
 
 -- so do the tokens of a text
 abbrev pub TokensStand : Type 0
-TokensStand = (names : List (List ℕ)) (text : List ℕ) (tokens : List Spanned) → Lexes names 0 text tokens → StandFrom 0 tokens
+TokensStand =
+    (names : List (List ℕ)) (text : List ℕ) (tokens : List Spanned) → Lexes names 0 text tokens →
+    StandFrom 0 tokens
 
--- the identifiers and operators of a program whose tokens stand so begin each behind those before it
+-- the identifiers and operators of a program whose tokens stand so begin each behind those before
+-- it
 abbrev pub ProgramsInOrder : Type 0
-ProgramsInOrder = (tokens : List Spanned) (body : Exp) → StandFrom 0 tokens → IsProgram tokens body → BeginsInOrder body
+ProgramsInOrder =
+    (tokens : List Spanned) (body : Exp) → StandFrom 0 tokens → IsProgram tokens body →
+    BeginsInOrder body
 
 -- in a text no two begin at the same byte
 abbrev pub ProgramsApart : Type 0

@@ -1,4 +1,5 @@
--- Descent by precedence, as programs over the first token of what is left, and what they do to a list of tokens.
+-- Descent by precedence, as programs over the first token of what is left, and what they do to a
+-- list of tokens.
 use Rattle.std.specs.Prelude.{ℕ, ◌≡◌, Bool, true, false, List, [], ◌∷◌, ◌++◌, Option, Some, None}
 use Rattle.tg_base.specs.declared.ids.Span.{Span}
 use Rattle.tg_syntax.specs.declared.tokens.Word.TheVariants.{WArray, WBreak, WDo, WElse, WEnd, WFor}
@@ -117,7 +118,8 @@ declaring =
     call (Listed Semicolon (OfWord WEnd)) (λ y. give (Let (joined s y.1) ds y.0)))))
 
 abbrev pub negating : Steps Exp
-negating = want (OfSign sign.Minus) (λ s. call (At Unary) (λ e. give (Neg (joined s (span_of e)) e)))
+negating =
+    want (OfSign sign.Minus) (λ s. call (At Unary) (λ e. give (Neg (joined s (span_of e)) e)))
 
 abbrev pub grouping : Steps Exp
 grouping =
@@ -177,7 +179,8 @@ listed_params c =
     (call OneParam (λ p. call (MoreParams (p ∷ [])) (λ ps. want c (λ _. give ps))))
 
 abbrev pub more_params : List Param → Steps (List Param)
-more_params ps = split (OfSign Comma) (λ _. call OneParam (λ p. last (MoreParams (ps ++ p ∷ [])))) (give ps)
+more_params ps =
+    split (OfSign Comma) (λ _. call OneParam (λ p. last (MoreParams (ps ++ p ∷ [])))) (give ps)
 
 abbrev pub one_form : Steps Form
 one_form =
@@ -238,25 +241,85 @@ pub data Does : (j : Job) → Steps (Of j) → List Spanned → Answer (Of j) �
   give_got : (j : Job) {x : Of j} {ts : List Spanned} → Does j (give x) ts (Got x ts)
   refuse_bad : (j : Job) {t : Spanned} {ts : List Spanned} → Does j refuse (t ∷ ts) (Bad t ts)
   refuse_out : (j : Job) → Does j refuse [] Out
-  want_got : (j : Job) {m : Mark} {f : Span → Steps (Of j)} {t : Spanned} {ts : List Spanned} {r : Answer (Of j)} → t.token ≡ token_of m → Does j (f t.span) ts r → Does j (want m f) (t ∷ ts) r
-  want_bad : (j : Job) {m : Mark} {f : Span → Steps (Of j)} {t : Spanned} {ts : List Spanned} → (t.token ≡ token_of m → ⊥) → Does j (want m f) (t ∷ ts) (Bad t ts)
+  want_got :
+      (j : Job) {m : Mark} {f : Span → Steps (Of j)} {t : Spanned} {ts : List Spanned}
+      {r : Answer (Of j)} →
+      t.token ≡ token_of m → Does j (f t.span) ts r →
+      Does j (want m f) (t ∷ ts) r
+  want_bad :
+      (j : Job) {m : Mark} {f : Span → Steps (Of j)} {t : Spanned} {ts : List Spanned} →
+      (t.token ≡ token_of m → ⊥) →
+      Does j (want m f) (t ∷ ts) (Bad t ts)
   want_out : (j : Job) {m : Mark} {f : Span → Steps (Of j)} → Does j (want m f) [] Out
-  name_got : (j : Job) {f : Ident → Steps (Of j)} {t : Spanned} {ts : List Spanned} {r : Answer (Of j)} {x : Ident} → IsIdent t x → Does j (f x) ts r → Does j (name f) (t ∷ ts) r
-  name_bad : (j : Job) {f : Ident → Steps (Of j)} {t : Spanned} {ts : List Spanned} → ((x : Ident) → IsIdent t x → ⊥) → Does j (name f) (t ∷ ts) (Bad t ts)
+  name_got :
+      (j : Job) {f : Ident → Steps (Of j)} {t : Spanned} {ts : List Spanned} {r : Answer (Of j)}
+      {x : Ident} →
+      IsIdent t x → Does j (f x) ts r →
+      Does j (name f) (t ∷ ts) r
+  name_bad :
+      (j : Job) {f : Ident → Steps (Of j)} {t : Spanned} {ts : List Spanned} →
+      ((x : Ident) → IsIdent t x → ⊥) →
+      Does j (name f) (t ∷ ts) (Bad t ts)
   name_out : (j : Job) {f : Ident → Steps (Of j)} → Does j (name f) [] Out
-  split_yes : (j : Job) {m : Mark} {f : Span → Steps (Of j)} {s : Steps (Of j)} {t : Spanned} {ts : List Spanned} {r : Answer (Of j)} → t.token ≡ token_of m → Does j (f t.span) ts r → Does j (split m f s) (t ∷ ts) r
-  split_no : (j : Job) {m : Mark} {f : Span → Steps (Of j)} {s : Steps (Of j)} {t : Spanned} {ts : List Spanned} {r : Answer (Of j)} → (t.token ≡ token_of m → ⊥) → Does j s (t ∷ ts) r → Does j (split m f s) (t ∷ ts) r
-  split_out : (j : Job) {m : Mark} {f : Span → Steps (Of j)} {s : Steps (Of j)} → Does j (split m f s) [] Out
-  oper_yes : (j : Job) {k : Level} {f : Op → ℕ → Steps (Of j)} {s : Steps (Of j)} {t : Spanned} {ts : List Spanned} {r : Answer (Of j)} (o : Op) → op_of k t.token ≡ Some o → Does j (f o t.span.from) ts r → Does j (oper k f s) (t ∷ ts) r
-  oper_no : (j : Job) {k : Level} {f : Op → ℕ → Steps (Of j)} {s : Steps (Of j)} {t : Spanned} {ts : List Spanned} {r : Answer (Of j)} → op_of k t.token ≡ None → Does j s (t ∷ ts) r → Does j (oper k f s) (t ∷ ts) r
-  oper_out : (j : Job) {k : Level} {f : Op → ℕ → Steps (Of j)} {s : Steps (Of j)} → Does j (oper k f s) [] Out
-  leaf_yes : (j : Job) {g : Spanned → Option (Of j)} {s : Steps (Of j)} {t : Spanned} {ts : List Spanned} {x : Of j} → g t ≡ Some x → Does j (leaf g s) (t ∷ ts) (Got x ts)
-  leaf_no : (j : Job) {g : Spanned → Option (Of j)} {s : Steps (Of j)} {t : Spanned} {ts : List Spanned} {r : Answer (Of j)} → g t ≡ None → Does j s (t ∷ ts) r → Does j (leaf g s) (t ∷ ts) r
+  split_yes :
+      (j : Job) {m : Mark} {f : Span → Steps (Of j)} {s : Steps (Of j)} {t : Spanned}
+      {ts : List Spanned} {r : Answer (Of j)} →
+      t.token ≡ token_of m → Does j (f t.span) ts r →
+      Does j (split m f s) (t ∷ ts) r
+  split_no :
+      (j : Job) {m : Mark} {f : Span → Steps (Of j)} {s : Steps (Of j)} {t : Spanned}
+      {ts : List Spanned} {r : Answer (Of j)} →
+      (t.token ≡ token_of m → ⊥) → Does j s (t ∷ ts) r →
+      Does j (split m f s) (t ∷ ts) r
+  split_out :
+      (j : Job) {m : Mark} {f : Span → Steps (Of j)} {s : Steps (Of j)} →
+      Does j (split m f s) [] Out
+  oper_yes :
+      (j : Job) {k : Level} {f : Op → ℕ → Steps (Of j)} {s : Steps (Of j)} {t : Spanned}
+      {ts : List Spanned} {r : Answer (Of j)} (o : Op) →
+      op_of k t.token ≡ Some o → Does j (f o t.span.from) ts r →
+      Does j (oper k f s) (t ∷ ts) r
+  oper_no :
+      (j : Job) {k : Level} {f : Op → ℕ → Steps (Of j)} {s : Steps (Of j)} {t : Spanned}
+      {ts : List Spanned} {r : Answer (Of j)} →
+      op_of k t.token ≡ None → Does j s (t ∷ ts) r →
+      Does j (oper k f s) (t ∷ ts) r
+  oper_out :
+      (j : Job) {k : Level} {f : Op → ℕ → Steps (Of j)} {s : Steps (Of j)} →
+      Does j (oper k f s) [] Out
+  leaf_yes :
+      (j : Job) {g : Spanned → Option (Of j)} {s : Steps (Of j)} {t : Spanned}
+      {ts : List Spanned} {x : Of j} →
+      g t ≡ Some x →
+      Does j (leaf g s) (t ∷ ts) (Got x ts)
+  leaf_no :
+      (j : Job) {g : Spanned → Option (Of j)} {s : Steps (Of j)} {t : Spanned}
+      {ts : List Spanned} {r : Answer (Of j)} →
+      g t ≡ None → Does j s (t ∷ ts) r →
+      Does j (leaf g s) (t ∷ ts) r
   leaf_out : (j : Job) {g : Spanned → Option (Of j)} {s : Steps (Of j)} → Does j (leaf g s) [] Out
-  look_at : (j : Job) {f : Token → Steps (Of j)} {t : Spanned} {ts : List Spanned} {r : Answer (Of j)} → Does j (f t.token) (t ∷ ts) r → Does j (look f) (t ∷ ts) r
+  look_at :
+      (j : Job) {f : Token → Steps (Of j)} {t : Spanned} {ts : List Spanned} {r : Answer (Of j)} →
+      Does j (f t.token) (t ∷ ts) r →
+      Does j (look f) (t ∷ ts) r
   look_out : (j : Job) {f : Token → Steps (Of j)} → Does j (look f) [] Out
-  test_yes : (j : Job) {b : Bool} {s z : Steps (Of j)} {ts : List Spanned} {r : Answer (Of j)} → b ≡ true → Does j s ts r → Does j (test b s z) ts r
-  test_no : (j : Job) {b : Bool} {s z : Steps (Of j)} {ts : List Spanned} {r : Answer (Of j)} → b ≡ false → Does j z ts r → Does j (test b s z) ts r
-  call_got : (j i : Job) {f : Of i → Steps (Of j)} {ts rest : List Spanned} {x : Of i} {r : Answer (Of j)} → Does i (job i) ts (Got x rest) → Does j (f x) rest r → Does j (call i f) ts r
-  call_bad : (j i : Job) {f : Of i → Steps (Of j)} {ts rest : List Spanned} {t : Spanned} → Does i (job i) ts (Bad t rest) → Does j (call i f) ts (Bad t rest)
-  call_out : (j i : Job) {f : Of i → Steps (Of j)} {ts : List Spanned} → Does i (job i) ts Out → Does j (call i f) ts Out
+  test_yes :
+      (j : Job) {b : Bool} {s z : Steps (Of j)} {ts : List Spanned} {r : Answer (Of j)} →
+      b ≡ true → Does j s ts r →
+      Does j (test b s z) ts r
+  test_no :
+      (j : Job) {b : Bool} {s z : Steps (Of j)} {ts : List Spanned} {r : Answer (Of j)} →
+      b ≡ false → Does j z ts r →
+      Does j (test b s z) ts r
+  call_got :
+      (j i : Job) {f : Of i → Steps (Of j)} {ts rest : List Spanned} {x : Of i}
+      {r : Answer (Of j)} →
+      Does i (job i) ts (Got x rest) → Does j (f x) rest r →
+      Does j (call i f) ts r
+  call_bad :
+      (j i : Job) {f : Of i → Steps (Of j)} {ts rest : List Spanned} {t : Spanned} →
+      Does i (job i) ts (Bad t rest) →
+      Does j (call i f) ts (Bad t rest)
+  call_out :
+      (j i : Job) {f : Of i → Steps (Of j)} {ts : List Spanned} → Does i (job i) ts Out →
+      Does j (call i f) ts Out

@@ -30,7 +30,8 @@ op_of Sum t = sum_op t
 op_of Term t = term_op t
 op_of _ t = None
 
--- what reading gives: a value and the rest, the token that can't stand where it stands, or a want of more tokens
+-- what reading gives: a value and the rest, the token that can't stand where it stands, or a want
+-- of more tokens
 pub data Answer (A : Type 0) : Type 0 where
   Got : A → List Spanned → Answer A
   Bad : Spanned → List Spanned → Answer A

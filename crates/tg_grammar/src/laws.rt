@@ -21,12 +21,14 @@ pub fn one_tree()
     ensures { HasOneTree }
 {}
 
-/// A law: neighbouring declarations of types, and of functions, are one group (Appel, appendix A.2).
+/// A law: neighbouring declarations of types, and of functions, are one group (Appel, appendix
+/// A.2).
 pub fn groups_are_longest()
     ensures { GroupsLongest }
 {}
 
-/// The laws of descent: it reads each program and nothing else, and stops at the first token that can't stand.
+/// The laws of descent: it reads each program and nothing else, and stops at the first token that
+/// can't stand.
 pub fn descent_is_exact()
     ensures each { ReadsEach }
     ensures programs { ReadsPrograms }
@@ -41,7 +43,8 @@ pub fn spans_are_exact()
     ensures places { SpansPlaces }
 {}
 
-/// Laws of places: tokens stand in order, so identifiers and operators begin at bytes of their own, and each name is known.
+/// Laws of places: tokens stand in order, so identifiers and operators begin at bytes of their own,
+/// and each name is known.
 pub fn places_are_apart()
     ensures tokens { TokensStand }
     ensures order { ProgramsInOrder }

@@ -1,5 +1,5 @@
-//! The theory of the grammar: descent by precedence as programs over the first token, and that each list of tokens
-//! has at most one tree.
+//! The theory of the grammar: descent by precedence as programs over the first token, and that each
+//! list of tokens has at most one tree.
 #![tactic(auto)]
 
 mod laws;

@@ -52,7 +52,8 @@ pub record IsSignFront (text : List ℕ) (s : Sign) (size : ℕ) : Type 0 where
 
 abbrev pub FoundSign : List ℕ → Option (Sign × ℕ) → Type 0
 FoundSign text (Some (s, size)) = IsSignFront text s size
-FoundSign text None = (b : ℕ) (rest : List ℕ) → text ≡ b ∷ rest → (s : Sign) (more : List ℕ) → sign_text s ≢ b ∷ more
+FoundSign text None =
+    (b : ℕ) (rest : List ℕ) → text ≡ b ∷ rest → (s : Sign) (more : List ℕ) → sign_text s ≢ b ∷ more
 
 -- the end or a newline stands where an escape goes on, or another byte that doesn't fit
 pub data IsCut : List ℕ → Type 0 where
@@ -60,7 +61,10 @@ pub data IsCut : List ℕ → Type 0 where
   line : (begun rest : List ℕ) → Misfits begun 10 → IsCut (begun ++ 10 ∷ rest)
 
 pub data IsBad : List ℕ → Type 0 where
-  bad : (begun : List ℕ) (b : ℕ) (rest : List ℕ) → Misfits begun b → b ≢ 10 → IsBad (begun ++ b ∷ rest)
+  bad :
+      (begun : List ℕ) (b : ℕ) (rest : List ℕ) →
+      Misfits begun b → b ≢ 10 →
+      IsBad (begun ++ b ∷ rest)
 
 abbrev pub IsEscape : List ℕ → Escaped → Type 0
 IsEscape text (Byte b size) = (size ≤ length text) × Escape (take size text) (b ∷ [])
@@ -82,12 +86,16 @@ pub record IsString (text meant : List ℕ) (size : ℕ) : Type 0 where
 
 abbrev pub IsBehindQuote : ℕ → List ℕ → Quoted → Type 0
 IsBehindQuote quote text (Whole meant size) = IsString text meant size
-IsBehindQuote quote text (Fault rule place) = FaultAt quote (34 ∷ text) rule place × (place ≤ quote + length text)
+IsBehindQuote quote text (Fault rule place) =
+    FaultAt quote (34 ∷ text) rule place × (place ≤ quote + length text)
 
 -- a blank or a comment of so many bytes
 pub data IsGap : List ℕ → ℕ → Type 0 where
   blank : (b : ℕ) (rest : List ℕ) → IsTrue (is_blank b) → IsGap (b ∷ rest) 1
-  comment : (inside rest : List ℕ) → Closes 1 inside → IsGap (47 ∷ 42 ∷ inside ++ rest) (2 + length inside)
+  comment :
+      (inside rest : List ℕ) →
+      Closes 1 inside →
+      IsGap (47 ∷ 42 ∷ inside ++ rest) (2 + length inside)
 
 -- the text's longest front that is a token is this one, of so many bytes
 pub record IsToken (names : List (List ℕ)) (text : List ℕ) (one : Token) (size : ℕ) : Type 0 where

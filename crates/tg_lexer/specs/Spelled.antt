@@ -6,7 +6,8 @@ use Rattle.tg_syntax.specs.declared.tokens.Spanned.{Spanned}
 use Rattle.tg_syntax.specs.Spellings.{Spells}
 use Rattle.tg_syntax.specs.Lexing.{Lexes}
 
--- The text's bytes in the token's span spell it, where names are numbered by their places in a list; the end stands behind all.
+-- The text's bytes in the token's span spell it, where names are numbered by their places in a
+-- list; the end stands behind all.
 abbrev pub SpellsOrEnds : List (List ℕ) → (bytes after : List ℕ) → Token → Type 0
 SpellsOrEnds names bytes after End = (bytes ≡ []) × (after ≡ [])
 SpellsOrEnds names bytes after one = Spells names bytes one
@@ -26,4 +27,6 @@ AreSpelled names text (t ∷ ts) = IsSpelled names text t × AreSpelled names te
 
 -- the span of each token of a text covers its bytes
 abbrev pub SpansTokens : Type 0
-SpansTokens = (names : List (List ℕ)) (text : List ℕ) (tokens : List Spanned) → Lexes names 0 text tokens → AreSpelled names text tokens
+SpansTokens =
+    (names : List (List ℕ)) (text : List ℕ) (tokens : List Spanned) → Lexes names 0 text tokens →
+    AreSpelled names text tokens

@@ -27,8 +27,9 @@ fn spanned(token: Token, from: usize, to: usize) -> Spanned
     Spanned { token, span }
 }
 
-/// The tokens of a text, with its end as the last one. Names that aren't there yet go last, in the order in which they
-/// first come. The time is that of one pass over the text, and of a look-up for each identifier.
+/// The tokens of a text, with its end as the last one. Names that aren't there yet go last, in the
+/// order in which they first come. The time is that of one pass over the text, and of a look-up for
+/// each identifier.
 pub fn lex(alloc: Global, text: &[u8], names: &mut Names) -> Result<Vec<Spanned>, LexFault>
     requires { length names.old < 2 ^ 30 }
     ensures lexed { IfOk result (λ tokens. Lexes names.new 0 text.now tokens.items) }

@@ -15,4 +15,6 @@ pub record IsFirstDeep (tokens : List Spanned) (place : ℕ) : Type 0 where
 -- all tokens, or those up to the first that is too deep
 pub data IsReadable (tokens : List Spanned) : List Spanned → Type 0 where
   all : IsShallow tokens → IsReadable tokens tokens
-  cut : {place : ℕ} (found : IsFirstDeep tokens place) → IsReadable tokens (found.front ++ found.one ∷ [])
+  cut :
+      {place : ℕ} (found : IsFirstDeep tokens place) →
+      IsReadable tokens (found.front ++ found.one ∷ [])

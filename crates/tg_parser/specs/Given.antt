@@ -6,13 +6,20 @@ use Rattle.tg_parser.specs.declared.faults.Stop.TheVariants.{Wrong, More, Memory
 use Rattle.tg_grammar.specs.Steps.{Job, Of, Steps, Got, Bad, Out}
 use Rattle.tg_grammar.specs.Reading.{Does}
 
--- a program refuses a token, whose first byte is named, or wants more tokens; want of memory says nothing
+-- a program refuses a token, whose first byte is named, or wants more tokens; want of memory says
+-- nothing
 pub data Refuses : Stop → (j : Job) → Steps (Of j) → List Spanned → Type 0 where
-  refuses : {j : Job} {s : Steps (Of j)} {ts after : List Spanned} (one : Spanned) → Does j s ts (Bad one after) → Refuses (Wrong one.span.from) j s ts
+  refuses :
+      {j : Job} {s : Steps (Of j)} {ts after : List Spanned} (one : Spanned) →
+      Does j s ts (Bad one after) →
+      Refuses (Wrong one.span.from) j s ts
   wants : {j : Job} {s : Steps (Of j)} {ts : List Spanned} → Does j s ts Out → Refuses More j s ts
   no_memory : (j : Job) {s : Steps (Of j)} {ts : List Spanned} → Refuses Memory j s ts
 
 -- what a result says that a program does
-abbrev pub Gives : {X : Type 0} (j : Job) → (X → Of j) → (X → List Spanned) → Result X Stop → Steps (Of j) → List Spanned → Type 0
+abbrev pub Gives :
+    {X : Type 0} (j : Job) →
+    (X → Of j) → (X → List Spanned) → Result X Stop → Steps (Of j) → List Spanned →
+    Type 0
 Gives j value rest (Ok x) s ts = Does j s ts (Got (value x) (rest x))
 Gives j value rest (Err e) s ts = Refuses e j s ts

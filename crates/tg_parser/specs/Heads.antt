@@ -47,8 +47,14 @@ one_of OneType j f = call TypeDec f
 one_of OneVariable j f = call VarDec f
 one_of OneFunction j f = call FunDec f
 
--- what a result says of the programs that go on behind a declaration's first word, and otherwise have read all
-abbrev pub Declares : {X : Type 0} → (X → Declared) → (X → List Spanned) → Result (Option X) Stop → List Spanned → Type 0
-Declares kind rest (Ok (Some x)) ts = (ds : Decs) → Leads (MoreDecs ds) (more_decs ds) ts (one_of (kind x) (MoreDecs ds) (λ d. last (MoreDecs (snoc_dec ds d)))) (rest x)
+-- what a result says of the programs that go on behind a declaration's first word, and otherwise
+-- have read all
+abbrev pub Declares :
+    {X : Type 0} →
+    (X → Declared) → (X → List Spanned) → Result (Option X) Stop → List Spanned →
+    Type 0
+Declares kind rest (Ok (Some x)) ts =
+    (ds : Decs) →
+    Leads (MoreDecs ds) (more_decs ds) ts (one_of (kind x) (MoreDecs ds) (λ d. last (MoreDecs (snoc_dec ds d)))) (rest x)
 Declares kind rest (Ok None) ts = (ds : Decs) → Leads (MoreDecs ds) (more_decs ds) ts (give ds) ts
 Declares kind rest (Err e) ts = (ds : Decs) → Refuses e (MoreDecs ds) (more_decs ds) ts

@@ -20,4 +20,7 @@ level_of Unary = grammar.Unary
 -- a token is no operator of a rank, nor of one that binds more tightly
 pub data NoneWithin : Rank → Token → Type 0 where
   at_unary : (t : Token) → NoneWithin Unary t
-  looser : {k b : Rank} {t : Token} → level_of b ≡ below (level_of k) → None ≡ op_of (level_of k) t → NoneWithin b t → NoneWithin k t
+  looser :
+      {k b : Rank} {t : Token} →
+      level_of b ≡ below (level_of k) → None ≡ op_of (level_of k) t → NoneWithin b t →
+      NoneWithin k t

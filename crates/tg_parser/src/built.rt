@@ -47,8 +47,8 @@ fn up_to(first: Span, last: &Exp) -> Span
     joined(first, span_of(last))
 }
 
-/// An expression behind a minus sign, which spans from the sign on, as the others here span from their first token to
-/// the end of their last expression.
+/// An expression behind a minus sign, which spans from the sign on, as the others here span from
+/// their first token to the end of their last expression.
 pub(crate) fn negated(alloc: Global, first: Span, a: Exp) -> Result<Exp, Memory>
     ensures { IfOk result
         (λ e. plain e ≡ PlainNeg (joined_span first (plain_span_of (plain a))) (plain a)) }

@@ -4,7 +4,8 @@ ghost use Rattle.tg_syntax.specs.Tails.{ends_tail as has_tail, is_short as has_s
 
 use tg_syntax::{Exp, Kind};
 
-/// Whether an `if`, a loop or an array's creation stands at the right end, which takes all that follows.
+/// Whether an `if`, a loop or an array's creation stands at the right end, which takes all that
+/// follows.
 pub(crate) fn ends_tail(e: &Exp) -> bool
     ensures { result ≡ has_tail (plain e.now) }
 {

@@ -9,7 +9,8 @@ pub enum SyntaxRule {
     S2,
 }
 
-/// Why tokens aren't a program: a rule and the first byte of the token where it is broken, or want of memory.
+/// Why tokens aren't a program: a rule and the first byte of the token where it is broken, or want
+/// of memory.
 #[derive(Clone, Copy, Debug, PartialEq, Eq, Error)]
 pub enum SyntaxFault {
     #[error("a fault of syntax at byte {at}")]

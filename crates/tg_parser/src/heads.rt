@@ -131,8 +131,9 @@ pub(crate) fn operator_behind<'a>(
     }
 }
 
-/// Whether what stands behind an expression that binds more tightly than the operators is no operator of a rank, nor of
-/// one that binds more tightly, so that the expression is whole at that rank.
+/// Whether what stands behind an expression that binds more tightly than the operators is no
+/// operator of a rank, nor of one that binds more tightly, so that the expression is whole at that
+/// rank.
 pub(crate) fn is_over(left: &Exp, rank: Rank, tokens: &[Spanned]) -> bool
     ensures { result ≡ true → Passes (level_of rank) (plain left.now) tokens.now }
 {

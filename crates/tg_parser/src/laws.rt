@@ -12,7 +12,8 @@ pub fn faults_once()
         → HasSyntaxFault tokens other to → (rule ≡ other) × (at ≡ to) }
 {}
 
-/// The law that a list of tokens with a fault of syntax is no program whose nesting stays within 256. It does nothing.
+/// The law that a list of tokens with a fault of syntax is no program whose nesting stays within
+/// 256. It does nothing.
 pub fn fault_excludes_program()
     ensures { (tokens : List Spanned) (rule : SyntaxRule) (at : ℕ) → HasSyntaxFault tokens rule at
         → (tree : Exp) → IsProgram tokens tree → IsShallow tokens → ⊥ }

@@ -1,5 +1,5 @@
--- Where the parts of a text begin that have a place of their own: its identifiers, which are uses, declared names, fields,
--- parameters and types, and the operators between two expressions.
+-- Where the parts of a text begin that have a place of their own: its identifiers, which are uses,
+-- declared names, fields, parameters and types, and the operators between two expressions.
 use Rattle.std.specs.Prelude.{ℕ, ◌≢◌, ◌<◌, List, [], ◌∷◌, Option, Some, None}
 use Rattle.std.specs.List.{AllPairs}
 use Rattle.tg_syntax.specs.declared.tokens.Ident.{Ident}
@@ -12,7 +12,8 @@ use Rattle.tg_syntax.specs.Tree.{no_functions, function}
 
 abbrev pub param_beginnings : List Param → (before : List ℕ) → List ℕ
 param_beginnings [] before = before
-param_beginnings (p ∷ ps) before = param_beginnings ps (p.kind.span.from ∷ p.name.span.from ∷ before)
+param_beginnings (p ∷ ps) before =
+    param_beginnings ps (p.kind.span.from ∷ p.name.span.from ∷ before)
 
 abbrev pub form_beginnings : Form → (before : List ℕ) → List ℕ
 form_beginnings (Alias x) before = x.span.from ∷ before
@@ -21,7 +22,8 @@ form_beginnings (Array x) before = x.span.from ∷ before
 
 abbrev pub type_beginnings : List TypeDec → (before : List ℕ) → List ℕ
 type_beginnings [] before = before
-type_beginnings (d ∷ ds) before = type_beginnings ds (form_beginnings d.form (d.name.span.from ∷ before))
+type_beginnings (d ∷ ds) before =
+    type_beginnings ds (form_beginnings d.form (d.name.span.from ∷ before))
 
 -- a type's name that may be left out
 abbrev pub kind_beginnings : Option Ident → (before : List ℕ) → List ℕ
@@ -40,12 +42,15 @@ abbrev mutual
   beginnings (Neg _ a) before = beginnings a before
   beginnings (Binary _ _ at a b) before = beginnings b (at ∷ beginnings a before)
   beginnings (Make _ x inits) before = inits_beginnings inits (x.span.from ∷ before)
-  beginnings (Fill _ x size value) before = beginnings value (beginnings size (x.span.from ∷ before))
+  beginnings (Fill _ x size value) before =
+      beginnings value (beginnings size (x.span.from ∷ before))
   beginnings (Assign _ v e) before = beginnings e (place_beginnings v before)
-  beginnings (If _ test this other) before = beginnings other (beginnings this (beginnings test before))
+  beginnings (If _ test this other) before =
+      beginnings other (beginnings this (beginnings test before))
   beginnings (When _ test this) before = beginnings this (beginnings test before)
   beginnings (While _ test body) before = beginnings body (beginnings test before)
-  beginnings (For _ x low high body) before = beginnings body (beginnings high (beginnings low (x.span.from ∷ before)))
+  beginnings (For _ x low high body) before =
+      beginnings body (beginnings high (beginnings low (x.span.from ∷ before)))
   beginnings (Let _ ds es) before = exps_beginnings es (decs_beginnings ds before)
   beginnings (Seq _ es) before = exps_beginnings es before
 
@@ -60,18 +65,21 @@ abbrev mutual
 
   pub inits_beginnings : Inits → (before : List ℕ) → List ℕ
   inits_beginnings no_inits before = before
-  inits_beginnings (init f e rest) before = inits_beginnings rest (beginnings e (f.span.from ∷ before))
+  inits_beginnings (init f e rest) before =
+      inits_beginnings rest (beginnings e (f.span.from ∷ before))
 
   pub decs_beginnings : Decs → (before : List ℕ) → List ℕ
   decs_beginnings no_decs before = before
   decs_beginnings (types ds rest) before = decs_beginnings rest (type_beginnings ds before)
-  decs_beginnings (variable x kind e rest) before = decs_beginnings rest (beginnings e (kind_beginnings kind (x.span.from ∷ before)))
+  decs_beginnings (variable x kind e rest) before =
+      decs_beginnings rest (beginnings e (kind_beginnings kind (x.span.from ∷ before)))
   decs_beginnings (functions fs rest) before = decs_beginnings rest (function_beginnings fs before)
 
   pub function_beginnings : FunDecs → (before : List ℕ) → List ℕ
   function_beginnings no_functions before = before
   function_beginnings (function f ps result body rest) before =
-      function_beginnings rest (beginnings body (kind_beginnings result (param_beginnings ps (f.span.from ∷ before))))
+      let header = kind_beginnings result (param_beginnings ps (f.span.from ∷ before)) in
+      function_beginnings rest (beginnings body header)
 
 -- no two begin at the same byte
 abbrev pub BeginsApart : Exp → Type 0

@@ -43,8 +43,8 @@ own_decs here (types _ rest) seen = own_decs here rest seen
 own_decs here (variable x _ _ rest) seen = own_decs here rest (own here x seen)
 own_decs here (functions fs rest) seen = own_decs here rest (own_functions here fs seen)
 
--- the levels that a text of this level crosses: at each use of a variable and each call of a declared
--- function, without the bodies of the functions that it declares
+-- the levels that a text of this level crosses: at each use of a variable and each call of a
+-- declared function, without the bodies of the functions that it declares
 abbrev mutual
   pub hops : (here : ℕ) → Levels → Exp → ℕ
   hops n seen (Nil _) = 0

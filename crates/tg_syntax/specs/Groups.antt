@@ -1,4 +1,5 @@
--- Lists with one more at their end. Consecutive type declarations, and consecutive function declarations, are one group.
+-- Lists with one more at their end. Consecutive type declarations, and consecutive function
+-- declarations, are one group.
 use Rattle.std.specs.Prelude.{List, [], ◌∷◌, ◌++◌, Option}
 use Rattle.tg_syntax.specs.declared.tokens.Ident.{Ident}
 use Rattle.tg_syntax.specs.declared.trees.Param.{Param}
@@ -27,7 +28,8 @@ alone (one_function f params result e) = functions (function f params result e n
 
 abbrev pub snoc_function : FunDecs → Ident → List Param → Option Ident → Exp → FunDecs
 snoc_function no_functions f params result e = function f params result e no_functions
-snoc_function (function g ps r b rest) f params result e = function g ps r b (snoc_function rest f params result e)
+snoc_function (function g ps r b rest) f params result e =
+    function g ps r b (snoc_function rest f params result e)
 
 -- behind one group alone: in it, where it is of its kind
 abbrev pub behind_types : List TypeDec → Dec → Decs
@@ -35,7 +37,8 @@ behind_types ts (one_type d) = types (ts ++ d ∷ []) no_decs
 behind_types ts d = types ts (alone d)
 
 abbrev pub behind_functions : FunDecs → Dec → Decs
-behind_functions fs (one_function f params result e) = functions (snoc_function fs f params result e) no_decs
+behind_functions fs (one_function f params result e) =
+    functions (snoc_function fs f params result e) no_decs
 behind_functions fs d = functions fs (alone d)
 
 -- behind all: in the last group, where that is of its kind

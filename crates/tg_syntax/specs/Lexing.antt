@@ -16,12 +16,19 @@ OpensComment text = Begins 47 42 text
 abbrev pub ClosesComment : List ℕ → Type 0
 ClosesComment text = Begins 42 47 text
 
--- with its last bytes the text closes so many comments that are open, and before them it leaves none closed; comments nest
+-- with its last bytes the text closes so many comments that are open, and before them it leaves
+-- none closed; comments nest
 pub data Closes : ℕ → List ℕ → Type 0 where
   done : Closes 0 []
   closes : {depth : ℕ} {more : List ℕ} → Closes depth more → Closes (suc depth) (42 ∷ 47 ∷ more)
-  opens : {depth : ℕ} {more : List ℕ} → Closes (suc (suc depth)) more → Closes (suc depth) (47 ∷ 42 ∷ more)
-  byte : {depth : ℕ} (b : ℕ) {more : List ℕ} → (OpensComment (b ∷ more) → ⊥) → (ClosesComment (b ∷ more) → ⊥) → Closes (suc depth) more → Closes (suc depth) (b ∷ more)
+  opens :
+      {depth : ℕ} {more : List ℕ} →
+      Closes (suc (suc depth)) more →
+      Closes (suc depth) (47 ∷ 42 ∷ more)
+  byte :
+      {depth : ℕ} (b : ℕ) {more : List ℕ} →
+      (OpensComment (b ∷ more) → ⊥) → (ClosesComment (b ∷ more) → ⊥) → Closes (suc depth) more →
+      Closes (suc depth) (b ∷ more)
 
 abbrev pub spanned : Token → ℕ → ℕ → Spanned
 spanned token from to = record { token = token; span = record { from = from; to = to } }
@@ -34,6 +41,16 @@ IsLongest bytes rest =
 -- The text from a byte on is these tokens and the end, with blanks and comments between them.
 pub data Lexes (names : List (List ℕ)) : ℕ → List ℕ → List Spanned → Type 0 where
   ends : (at : ℕ) → Lexes names at [] (spanned End at at ∷ [])
-  blank : {at : ℕ} (b : ℕ) {rest : List ℕ} {tokens : List Spanned} → IsTrue (is_blank b) → Lexes names (at + 1) rest tokens → Lexes names at (b ∷ rest) tokens
-  comment : {at : ℕ} (inside : List ℕ) {rest : List ℕ} {tokens : List Spanned} → Closes 1 inside → Lexes names (at + 2 + length inside) rest tokens → Lexes names at (47 ∷ 42 ∷ inside ++ rest) tokens
-  token : {at : ℕ} (bytes : List ℕ) (one : Token) {rest : List ℕ} {tokens : List Spanned} → Spells names bytes one → IsLongest bytes rest → (OpensComment (bytes ++ rest) → ⊥) → Lexes names (at + length bytes) rest tokens → Lexes names at (bytes ++ rest) (spanned one at (at + length bytes) ∷ tokens)
+  blank :
+      {at : ℕ} (b : ℕ) {rest : List ℕ} {tokens : List Spanned} →
+      IsTrue (is_blank b) → Lexes names (at + 1) rest tokens →
+      Lexes names at (b ∷ rest) tokens
+  comment :
+      {at : ℕ} (inside : List ℕ) {rest : List ℕ} {tokens : List Spanned} →
+      Closes 1 inside → Lexes names (at + 2 + length inside) rest tokens →
+      Lexes names at (47 ∷ 42 ∷ inside ++ rest) tokens
+  token :
+      {at : ℕ} (bytes : List ℕ) (one : Token) {rest : List ℕ} {tokens : List Spanned} →
+      Spells names bytes one → IsLongest bytes rest → (OpensComment (bytes ++ rest) → ⊥) →
+      Lexes names (at + length bytes) rest tokens →
+      Lexes names at (bytes ++ rest) (spanned one at (at + length bytes) ∷ tokens)

@@ -1,4 +1,5 @@
--- The nesting of a list of tokens: how many constructs are open, with a count for each bracket that is open.
+-- The nesting of a list of tokens: how many constructs are open, with a count for each bracket that
+-- is open.
 use Rattle.std.specs.Prelude.{ℕ, ◌+◌, ◌-◌, ◌≤◌, List, [], ◌∷◌, length, sum}
 use Rattle.tg_syntax.specs.declared.tokens.Token.{Token}
 use Rattle.tg_syntax.specs.declared.tokens.Token.TheVariants as token
@@ -67,4 +68,5 @@ nesting_of counts = length counts - 1 + sum counts
 abbrev pub NestsWithin : ℕ → List ℕ → List Spanned → Type 0
 NestsWithin limit counts [] = Unit {0}
 NestsWithin limit counts (one ∷ tokens) =
-    (nesting_of (after_token one.token counts) ≤ limit) × NestsWithin limit (after_token one.token counts) tokens
+    let after = after_token one.token counts in
+    (nesting_of after ≤ limit) × NestsWithin limit after tokens

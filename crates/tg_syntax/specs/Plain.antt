@@ -38,14 +38,17 @@ abbrev mutual
   plain_kind (Read v) s = Exp.Read s (plain_place v)
   plain_kind (Call f args) s = Exp.Call s f (plain_exps args)
   plain_kind (Neg' _ sa a) s = Exp.Neg s (plain_kind a sa)
-  plain_kind (Binary' op at _ sa a _ sb b) s = Exp.Binary s op at (plain_kind a sa) (plain_kind b sb)
+  plain_kind (Binary' op at _ sa a _ sb b) s =
+      Exp.Binary s op at (plain_kind a sa) (plain_kind b sb)
   plain_kind (Make name all) s = Exp.Make s name (plain_inits all)
   plain_kind (Fill' name _ sa a _ sb b) s = Exp.Fill s name (plain_kind a sa) (plain_kind b sb)
   plain_kind (Assign' v _ sa a) s = Exp.Assign s (plain_place v) (plain_kind a sa)
   plain_kind (If' _ sc c _ sa a None') s = Exp.When s (plain_kind c sc) (plain_kind a sa)
-  plain_kind (If' _ sc c _ sa a (Some' _ sb b)) s = Exp.If s (plain_kind c sc) (plain_kind a sa) (plain_kind b sb)
+  plain_kind (If' _ sc c _ sa a (Some' _ sb b)) s =
+      Exp.If s (plain_kind c sc) (plain_kind a sa) (plain_kind b sb)
   plain_kind (While' _ sc c _ sa a) s = Exp.While s (plain_kind c sc) (plain_kind a sa)
-  plain_kind (For' x _ sl l _ sh h _ sa a) s = Exp.For s x (plain_kind l sl) (plain_kind h sh) (plain_kind a sa)
+  plain_kind (For' x _ sl l _ sh h _ sa a) s =
+      Exp.For s x (plain_kind l sl) (plain_kind h sh) (plain_kind a sa)
   plain_kind (Let' _ ds es) s = Exp.Let s (plain_decs ds) (plain_exps es)
   plain_kind (Seq es) s = Exp.Seq s (plain_exps es)
 
@@ -83,7 +86,8 @@ abbrev mutual
 
   pub plain_function_row : {n : _} → Row_of-FunDec n → FunDecs
   plain_function_row end_of-FunDec = no_functions
-  plain_function_row (more_of-FunDec f params result s e rest) = function f params result (plain_kind e s) (plain_function_row rest)
+  plain_function_row (more_of-FunDec f params result s e rest) =
+      function f params result (plain_kind e s) (plain_function_row rest)
 
 abbrev pub plain : CodeExp → Exp
 plain e = plain_kind e.kind e.span

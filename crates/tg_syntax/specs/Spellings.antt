@@ -98,7 +98,10 @@ pub data Escape : List ℕ → List ℕ → Type 0 where
   quote : Escape (34 ∷ []) (34 ∷ [])
   backslash : Escape (92 ∷ []) (92 ∷ [])
   -- `^` and a byte from `@` to `_` or from `a` to `z`
-  control : (b : ℕ) → IsTrue (is_between 64 95 b || is_between 97 122 b) → Escape (94 ∷ b ∷ []) (b % 32 ∷ [])
+  control :
+      (b : ℕ) →
+      IsTrue (is_between 64 95 b || is_between 97 122 b) →
+      Escape (94 ∷ b ∷ []) (b % 32 ∷ [])
   -- three digits, at most 255
   decimal :
       (a b c : ℕ) →
@@ -110,8 +113,14 @@ pub data Escape : List ℕ → List ℕ → Type 0 where
 
 pub data IsQuoted : List ℕ → List ℕ → Type 0 where
   nothing : IsQuoted [] []
-  plain : (b : ℕ) {bytes meant : List ℕ} → IsTrue (is_plain b) → IsQuoted bytes meant → IsQuoted (b ∷ bytes) (b ∷ meant)
-  escaped : {escape more bytes meant : List ℕ} → Escape escape more → IsQuoted bytes meant → IsQuoted (92 ∷ escape ++ bytes) (more ++ meant)
+  plain :
+      (b : ℕ) {bytes meant : List ℕ} →
+      IsTrue (is_plain b) → IsQuoted bytes meant →
+      IsQuoted (b ∷ bytes) (b ∷ meant)
+  escaped :
+      {escape more bytes meant : List ℕ} →
+      Escape escape more → IsQuoted bytes meant →
+      IsQuoted (92 ∷ escape ++ bytes) (more ++ meant)
 
 -- The bytes have the form of a token, whatever the list of names holds and however large an int is.
 pub data HasTokenForm : List ℕ → Type 0 where
@@ -125,7 +134,10 @@ pub data HasTokenForm : List ℕ → Type 0 where
 abbrev pub Spells : List (List ℕ) → List ℕ → Token → Type 0
 Spells names bytes (token.Word w) = bytes ≡ word_text w
 Spells names bytes (token.Sign s) = bytes ≡ sign_text s
-Spells names bytes (token.Ident n) = IsName bytes × ((w : Word) → bytes ≢ word_text w) × (slice_get names n.0 ≡ Some bytes)
-Spells names bytes (token.Int n) = IsNumeral 10 bytes × (n ≡ digits_value 10 bytes) × (n ≤ 2147483647)
-Spells names bytes (token.Text t) = (inside : List ℕ) × (bytes ≡ 34 ∷ inside ++ 34 ∷ []) × IsQuoted inside t
+Spells names bytes (token.Ident n) =
+    IsName bytes × ((w : Word) → bytes ≢ word_text w) × (slice_get names n.0 ≡ Some bytes)
+Spells names bytes (token.Int n) =
+    IsNumeral 10 bytes × (n ≡ digits_value 10 bytes) × (n ≤ 2147483647)
+Spells names bytes (token.Text t) =
+    (inside : List ℕ) × (bytes ≡ 34 ∷ inside ++ 34 ∷ []) × IsQuoted inside t
 Spells names bytes token.End = ⊥

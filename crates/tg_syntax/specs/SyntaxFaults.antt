@@ -1,4 +1,5 @@
--- The first fault of syntax in a list of tokens that ends by its one end. The end counts as a token.
+-- The first fault of syntax in a list of tokens that ends by its one end. The end counts as a
+-- token.
 use Rattle.std.specs.Prelude.{ℕ, ◌≡◌, List, [], ◌∷◌, ◌++◌}
 use Rattle.tg_syntax.specs.declared.tokens.Token.TheVariants.{End}
 use Rattle.tg_syntax.specs.declared.tokens.Spanned.{Spanned}
@@ -22,7 +23,8 @@ pub record IsAt (tokens front : List Spanned) (one : Spanned) (at : ℕ) : Type 
   pub whole : tokens ≡ front ++ one ∷ after
   pub place : at ≡ one.span.from
 
--- S1 comes first, and stands at this byte: after the tokens before it some program could go on, and with it none can
+-- S1 comes first, and stands at this byte: after the tokens before it some program could go on, and
+-- with it none can
 pub record HasUnexpected (tokens : List Spanned) (at : ℕ) : Type 0 where
   pub front : List Spanned
   pub one : Spanned
@@ -31,7 +33,8 @@ pub record HasUnexpected (tokens : List Spanned) (at : ℕ) : Type 0 where
   pub cannot : Begins (front ++ one ∷ []) → ⊥
   pub shallow : IsShallow front
 
--- S2 comes first, and stands at this byte: after this token the nesting is above 256, and some program begins so
+-- S2 comes first, and stands at this byte: after this token the nesting is above 256, and some
+-- program begins so
 pub record HasTooDeep (tokens : List Spanned) (at : ℕ) : Type 0 where
   pub front : List Spanned
   pub one : Spanned

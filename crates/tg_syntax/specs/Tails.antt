@@ -1,9 +1,10 @@
--- The right end of an expression, which is reached through the right operand of an operator, the operand of unary minus
--- and the right side of an assignment.
+-- The right end of an expression, which is reached through the right operand of an operator, the
+-- operand of unary minus and the right side of an assignment.
 use Rattle.std.specs.Prelude.{Bool, true, false}
 use Rattle.tg_syntax.specs.Tree.{Exp, Neg, Binary, Fill, Assign, If, When, While, For}
 
--- a tail stands at the right end: an `if`, a loop or an array's creation, which takes all that follows
+-- a tail stands at the right end: an `if`, a loop or an array's creation, which takes all that
+-- follows
 abbrev pub ends_tail : Exp → Bool
 ends_tail (Neg _ a) = ends_tail a
 ends_tail (Binary _ _ _ a b) = ends_tail b

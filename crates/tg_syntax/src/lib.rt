@@ -1,6 +1,6 @@
-//! Tokens and syntax trees of Tiger, which are plain data, and their measures.
-//! Promises exact counts of nodes, and which tree each call here makes. The token relation, the grammar relation and
-//! the plain tree by which contracts speak stand in `specs/`.
+//! Tokens and syntax trees of Tiger, which are plain data, and their measures. Promises exact
+//! counts of nodes, and which tree each call here makes. The token relation, the grammar relation
+//! and the plain tree by which contracts speak stand in `specs/`.
 #![tactic(auto)]
 
 mod faults;

@@ -22,8 +22,8 @@ ghost use Rattle.tg_syntax.specs.Tree.{no_decs};
 
 use crate::trees::{Dec, Exp, Exps, Form, FunDecs, Inits, Kind, TypeDec, TypeDecs, Var};
 
-/// The nodes of a body, or the greatest `u32` where there are as many or more. Of a function that is declared in the
-/// body its declaration and its parameters count, and its own body doesn't.
+/// The nodes of a body, or the greatest `u32` where there are as many or more. Of a function that
+/// is declared in the body its declaration and its parameters count, and its own body doesn't.
 #[cycle(nodes)]
 pub fn nodes(body: &Exp) -> u32
     ensures { result ≡ capped (size (plain body.now)) }

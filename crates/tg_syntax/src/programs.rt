@@ -22,7 +22,8 @@ ghost use Rattle.tg_syntax.specs.Tree.{no_decs};
 use crate::measures::nodes;
 use crate::trees::{Dec, Exp, Exps, FunDecs, Inits, Kind, Program, Var};
 
-/// The nodes of a program, which are those of all its bodies, or the greatest `u32` where there are as many or more.
+/// The nodes of a program, which are those of all its bodies, or the greatest `u32` where there are
+/// as many or more.
 pub fn program_nodes(program: &Program) -> u32
     ensures { result ≡ capped (program_size (plain program.now.body)) }
 {

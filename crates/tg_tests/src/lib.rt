@@ -1,3 +1,12 @@
 //! Tests of calls that several crates make up, one file a subject, and nothing but tests. They stand apart from the
 //! crates that they call, since a crate with tests is proved twice.
 #![tactic(auto)]
+
+#[cfg(test)]
+mod counting;
+#[cfg(test)]
+mod lexing;
+#[cfg(test)]
+mod parsing;
+#[cfg(test)]
+mod reading;
