@@ -23,7 +23,8 @@ next_home false slots temps = InTemp (record { 0 = temps })
 abbrev pub homes_from : (slots temps : ℕ) → List Bool → List Access
 homes_from slots temps [] = []
 homes_from slots temps (true ∷ asked) = InFrame slots ∷ homes_from (slots + 1) temps asked
-homes_from slots temps (false ∷ asked) = InTemp (record { 0 = temps }) ∷ homes_from slots (temps + 1) asked
+homes_from slots temps (false ∷ asked) =
+    InTemp (record { 0 = temps }) ∷ homes_from slots (temps + 1) asked
 
 abbrev pub homes_of : List Bool → List Access
 homes_of asked = homes_from 0 0 asked

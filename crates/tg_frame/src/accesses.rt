@@ -1,6 +1,7 @@
 use tg_base::{ListOf, Temp};
 
-/// The home of a variable: a temporary, or a slot of the frame, which is a word. Slots are counted from 0.
+/// The home of a variable: a temporary, or a slot of the frame, which is a word. Slots are counted
+/// from 0.
 #[derive(Clone, Copy, Debug, PartialEq, Eq)]
 pub enum Access {
     InTemp(Temp),

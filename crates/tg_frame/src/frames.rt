@@ -17,8 +17,9 @@ use crate::accesses::{Access, Accesses};
 use std::alloc::Global;
 use tg_base::{Label, Memory, Temp};
 
-/// A function's frame: its label, the homes of its parameters, how many slots (words) and temporaries were drawn, and
-/// the words at its low end for the arguments past the fourth of the calls that the function makes.
+/// A function's frame: its label, the homes of its parameters, how many slots (words) and
+/// temporaries were drawn, and the words at its low end for the arguments past the fourth of the
+/// calls that the function makes.
 #[derive(Drop)]
 pub struct Frame {
     pub label: Label,
@@ -31,7 +32,8 @@ pub struct Frame {
     pub ghost distinct: { IsTrue (differ params) },
 }
 
-/// A frame with a home for each parameter, in the frame exactly where `escaping` says so; its `out` is 0.
+/// A frame with a home for each parameter, in the frame exactly where `escaping` says so; its `out`
+/// is 0.
 #[tactic(auto, using(crate::proofs::Making::made_none, crate::proofs::Making::made_slot, crate::proofs::Making::made_temp))]
 pub fn new_frame(alloc: Global, label: Label, escaping: &[bool]) -> Result<Frame, Memory>
     requires { length escaping.now ≤ 4194304 }

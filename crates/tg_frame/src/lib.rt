@@ -1,5 +1,5 @@
-//! Frames and the homes of variables in them (Appel, chapter 6). Promises the translation homes that are pairwise
-//! distinct, and in the frame exactly where that is asked.
+//! Frames and the homes of variables in them (Appel, chapter 6). Promises the translation homes
+//! that are pairwise distinct, and in the frame exactly where that is asked.
 #![tactic(auto)]
 
 mod accesses;

@@ -256,3 +256,17 @@ flat_jumps_to_no_mark = refl
 
 flat_recursion : seen (flat_run (record { functions = fun 32 [] 0 (Do' (Move 0 (Call 33 (txs (Const 3 ∷ [])))) ∷ Do' (print (Temp 0)) ∷ Return' (Const 0) ∷ []) ∷ fun 33 (temp 0 ∷ []) 0 (Branch Equal (Temp 0) (Const 0) 1 ∷ Do' (Move 1 (Call 33 (txs (Binary Sub (Temp 0) (Const 1) ∷ [])))) ∷ Return' (Binary Add (Temp 1) (Temp 0)) ∷ Mark 1 ∷ Return' (Const 0) ∷ []) ∷ []; literals = [] }) (λ label. 8) (stack_top - 256) 8 32 [] 5) ≡ finished (6 ∷ [])
 flat_recursion = refl
+
+-- the work of runs: each node that is come to, as often as it is
+abbrev work_of : List (Function Ts) → ℕ → ℕ
+work_of functions fuel =
+    (tree_run Trees (record { functions = functions; literals = [] }) (λ label. 64) (stack_top - 256) 8 32 [] fuel).work
+
+loop_works : work_of (fun 32 [] 0 counts ∷ []) 3 ≡ (2 + 2) + 4 * (4 + 4 + 4 + 2) + 3 * (7 + 2 + 1 + 2) + 3 + (16 + 2)
+loop_works = refl
+
+call_works : work_of six 1 ≡ 7 + 4 + 6 * (4 + 2) + (1 + 22 + 6 * 6) + (16 + 1 + (2 + 2) + (1 + (2 + (1 + 1 + 1 + 2) + 2))) + (16 + 2)
+call_works = refl
+
+flat_code_works : (flat_run (record { functions = fun 32 [] 0 flat_counts ∷ []; literals = [] }) (λ label. 64) (stack_top - 256) 8 32 [] 4).work ≡ (2 + 2) + 1 + 4 * (2 + 2) + 3 * (5 + (2 + 1 + 2) + 1) + (14 + 2)
+flat_code_works = refl

@@ -1,13 +1,13 @@
 -- What texts name, their lengths and rooms, and sizes of frames, each computed by the definition itself.
-use Rattle.std.proofs.Common.{◌≡◌, ℕ, zero, suc, ◌+◌, List, [], ◌∷◌, refl, arith}
+use Rattle.std.proofs.Common.{◌≡◌, ℕ, zero, suc, ◌+◌, List, [], ◌∷◌, map, refl, arith}
 use Rattle.tg_frame.specs.declared.accesses.Access.TheVariants.{InFrame}
-use Rattle.tg_tree.specs.declared.operators.Bin.TheVariants.{Add, Sub, Div, ShiftLeft, AddTrap}
+use Rattle.tg_tree.specs.declared.operators.Bin.TheVariants.{Add, Sub, Mul, Div, And, Or, Xor, ShiftLeft, ShiftRight, ShiftSigned, AddTrap, SubTrap, MulHigh}
 use Rattle.tg_tree.specs.declared.operators.Rel.TheVariants.{Equal, NotEqual, Less}
-use Rattle.tg_tree.specs.Tree.{Tx, Const, Address, Temp, FrameAddress, Binary, Load, Call, After, no_txs, tx, Compare, Both, Ts, Move, Store, Do, If, Loop, Break, Fault, Seq, Return, Stms, Function, Linear, Mark, Do', Jump, Branch, Return'}
+use Rattle.tg_tree.specs.Tree.{Tx, Const, Address, Temp, FrameAddress, Binary, Load, LoadByte, Call, Service, After, no_txs, tx, Cond, Compare, Not, Both, Either, Ts, Move, Store, StoreByte, Do, If, Loop, Break, Fault, Seq, Return, Stms, Function, Linear, Mark, Do', Jump, Branch, Fault', Return'}
 use Rattle.tg_tree.specs.Forms.{stms, sequence, nothing}
 use Rattle.tg_tree.specs.Named.{function, literal, fault, temporary, named_ts, named_flat}
 use Rattle.tg_tree.specs.FrameSizes.{IsSizeOf}
-use Rattle.tg_tree.specs.Units.{Trees, Canonical, entry_units, marked_entry_units}
+use Rattle.tg_tree.specs.Units.{Trees, Canonical, operator_units, expression_units, argument_units, condition_units, statement_units, element_units, entry_units, marked_entry_units}
 use Rattle.tg_tree.specs.Sizes.{expression_length, condition_length, statement_length, tree_length, tree_room, canonical_length, canonical_room, flat_length, flat_room}
 
 abbrev fun : {Body : Type 0} → Body → Function Body
@@ -46,6 +46,34 @@ rooms_as_statements = refl
 
 rooms_as_flat_code : flat_room (fun flat_body) ≡ 3 + 2 + (1 + (0 + 1)) + (1 + 1 + (2 + 1)) + 1
 rooms_as_flat_code = refl
+
+-- each node alone
+expressions_alone : map (expression_units Trees) (Const 7 ∷ Address 40 ∷ Temp 0 ∷ FrameAddress ∷ Load (Temp 0) ∷ LoadByte (Temp 0) ∷ Call 34 no_txs ∷ Service 9 (Temp 0) ∷ After nothing (Temp 0) ∷ []) ≡
+    2 ∷ 1 ∷ 0 ∷ 1 ∷ 1 ∷ 1 ∷ 4 ∷ 7 ∷ 0 ∷ []
+expressions_alone = refl
+
+operators_alone : map (λ op. operator_units op (Temp 1)) (Add ∷ Sub ∷ Mul ∷ Div ∷ And ∷ Or ∷ Xor ∷ ShiftLeft ∷ ShiftRight ∷ ShiftSigned ∷ AddTrap ∷ SubTrap ∷ MulHigh ∷ []) ≡
+    1 ∷ 1 ∷ 2 ∷ 2 ∷ 1 ∷ 1 ∷ 1 ∷ 21 ∷ 21 ∷ 21 ∷ 1 ∷ 1 ∷ 2 ∷ []
+operators_alone = refl
+
+abbrev lifted : Tx
+lifted = Call 34 no_txs
+
+abbrev holds : Cond
+holds = Compare Equal (Temp 0) lifted
+
+conditions_alone : map (condition_units Trees) (Compare Equal lifted (Temp 0) ∷ holds ∷ Not holds ∷ Both holds holds ∷ Either holds holds ∷ []) ≡ 4 ∷ 6 ∷ 0 ∷ 22 ∷ 22 ∷ []
+conditions_alone = refl
+
+statements_alone : map (statement_units Trees) (Move 0 lifted ∷ Store (Temp 0) lifted ∷ StoreByte (Temp 0) lifted ∷ Do lifted ∷ If holds nothing nothing ∷ Loop nothing ∷ Break 0 ∷ Fault 1 ∷ nothing ∷ Return lifted ∷ []) ≡
+    2 ∷ 3 ∷ 3 ∷ 0 ∷ 4 ∷ 4 ∷ 3 ∷ 3 ∷ 0 ∷ 16 ∷ []
+statements_alone = refl
+
+elements_alone : map element_units (Mark 1 ∷ Do' nothing ∷ Jump 1 ∷ Branch Equal (Temp 0) (Temp 1) 1 ∷ Fault' 1 ∷ Return' (Temp 0) ∷ []) ≡ 1 ∷ 0 ∷ 1 ∷ 2 ∷ 1 ∷ 14 ∷ []
+elements_alone = refl
+
+arguments_alone : argument_units Trees no_txs ∷ argument_units Trees (tx lifted no_txs) ∷ argument_units Canonical (tx lifted no_txs) ∷ [] ≡ 4 ∷ 6 ∷ 4 ∷ []
+arguments_alone = refl
 
 -- a shift by a word needs more than one by a constant
 shifts_by_a_constant : expression_length Canonical (Binary ShiftLeft (Temp 0) (Const 5)) ≡ 3

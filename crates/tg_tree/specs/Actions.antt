@@ -1,5 +1,5 @@
--- What the parts of a body act on, and their actions, each of which is passed what comes next: an outcome is what happens from that
--- moment on.
+-- What the parts of a body act on, and their actions, each of which is passed what comes next: an
+-- outcome is what happens from that moment on.
 use Rattle.std.specs.Prelude.{ℕ, zero, suc, ◌+◌, ◌^◌, ◌%◌, ◌==◌, List, [], ◌∷◌, ◌++◌, length, replicate, Option, Some, None, true, false, nat_lt, if◌then◌else◌, pos}
 use Rattle.std.specs.Fmt.{signed_decimal}
 use Rattle.tg_base.specs.declared.ends.RunEnd.TheVariants.{Exit, HeapFull, BadService}
@@ -28,7 +28,8 @@ pub record Activation : Type 0 where
   pub base : ℕ
   pub size : ℕ
 
--- what comes after a value, after a statement, after a break out of so many loops and one more, after a return
+-- what comes after a value, after a statement, after a break out of so many loops and one more,
+-- after a return
 abbrev pub Go : Type 0 → Type 0
 Go A = A → World → Temps → Run Ran
 
@@ -144,7 +145,11 @@ abbrev pub text_from : ℕ → Memory → ℕ → Option (List ℕ)
 text_from zero m a = None
 text_from (suc n) m a =
     elim (load_byte m a) as (λ _. Option (List ℕ)) [
-      | Some b ↦ elim (b == 0) as (λ _. Option (List ℕ)) [ true ↦ Some [] | false ↦ before b (text_from n m (a + 1)) ]
+      | Some b ↦
+          elim (b == 0) as (λ _. Option (List ℕ)) [
+            | true ↦ Some []
+            | false ↦ before b (text_from n m (a + 1))
+          ]
       | None ↦ None
     ]
 
@@ -156,7 +161,8 @@ with_text (Some bytes) w next = written bytes next
 abbrev pub take_heap : (room : ℕ) → ℕ → World → (ℕ → World → Run Ran) → Run Ran
 take_heap room n w go =
     if nat_lt room (length w.memory.heap + n) then over (Ended HeapFull) w else
-    go (heap_base + length w.memory.heap) (record w { memory = record w.memory { heap = w.memory.heap ++ replicate n 0 } })
+    go (heap_base + length w.memory.heap)
+    (record w { memory = record w.memory { heap = w.memory.heap ++ replicate n 0 } })
 
 -- service 12
 abbrev pub read_byte : List ℕ → World → (ℕ → World → Run Ran) → Run Ran

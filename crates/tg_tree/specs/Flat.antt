@@ -1,4 +1,5 @@
--- Runs of flat code (Appel, chapter 8). A jump, a branch that is taken and a call take a unit of fuel each.
+-- Runs of flat code (Appel, chapter 8). A jump, a branch that is taken and a call take a unit of
+-- fuel each.
 use Rattle.std.specs.Prelude.{ℕ, ◌==◌, List, [], ◌∷◌, Option, Some, None, if◌then◌else◌}
 use Rattle.tg_base.specs.declared.ends.RunEnd.TheVariants.{Break}
 use Rattle.tg_runs.specs.Runs.{Run, again}
@@ -40,7 +41,8 @@ module _ (code : Code (List Linear)) (size : ℕ → ℕ) (floor room : ℕ) whe
     abbrev pub jump_to : Option (List Linear) → Acts Last
     jump_to None e last w temps = wrong w
     jump_to (Some rest) e last w temps =
-        with_fuel w (later (record { whole = whole; rest = rest; around = e; world = w; temps = temps }))
+        with_fuel w
+        (later (record { whole = whole; rest = rest; around = e; world = w; temps = temps }))
 
     -- no loop stands in flat code
     abbrev pub run_flat : List Linear → Acts Last

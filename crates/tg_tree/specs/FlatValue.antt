@@ -25,9 +25,12 @@ flat_value ls base m t (Const n) = word n
 flat_value ls base m t (Address label) = or_wrong (literal_address ls label)
 flat_value ls base m t (Temp i) = or_wrong (t i)
 flat_value ls base m t FrameAddress = word base
-flat_value ls base m t (Binary op x y) = onward (flat_value ls base m t x) (λ u. onward (flat_value ls base m t y) (λ v. operate op u v))
+flat_value ls base m t (Binary op x y) =
+    onward (flat_value ls base m t x) (λ u.
+    onward (flat_value ls base m t y) (λ v. operate op u v))
 flat_value ls base m t (Load x) = onward (flat_value ls base m t x) (λ u. or_wrong (load m u))
-flat_value ls base m t (LoadByte x) = onward (flat_value ls base m t x) (λ u. or_wrong (load_byte m u))
+flat_value ls base m t (LoadByte x) =
+    onward (flat_value ls base m t x) (λ u. or_wrong (load_byte m u))
 flat_value ls base m t _ = stops_by Wrong
 
 -- what comes after a word is spent too
@@ -39,7 +42,8 @@ after_word (stops_by s) k = 0
 abbrev pub flat_spent : Stage → List Literal → (base : ℕ) → Memory → Temps → Tx → ℕ
 flat_spent g ls base m t (Binary op x y) =
     expression_units g (Binary op x y) +
-    (flat_spent g ls base m t x + after_word (flat_value ls base m t x) (flat_spent g ls base m t y))
+    (flat_spent g ls base m t x +
+    after_word (flat_value ls base m t x) (flat_spent g ls base m t y))
 flat_spent g ls base m t (Load x) = expression_units g (Load x) + flat_spent g ls base m t x
 flat_spent g ls base m t (LoadByte x) = expression_units g (LoadByte x) + flat_spent g ls base m t x
 flat_spent g ls base m t x = expression_units g x
@@ -63,4 +67,5 @@ FlatSpendsLength =
 abbrev pub FlatWordSpendsAll : Type 0
 FlatWordSpendsAll =
     (g : Stage) (ls : List Literal) (base : ℕ) (m : Memory) (t : Temps) (x : Tx) (v : ℕ) →
-    IsFlat x → flat_value ls base m t x ≡ word v → flat_spent g ls base m t x ≡ expression_length g x
+    IsFlat x → flat_value ls base m t x ≡ word v →
+    flat_spent g ls base m t x ≡ expression_length g x

@@ -19,10 +19,19 @@ module _ {Body : Type 0} (named : Body → List Named) (functions : List (Functi
   -- functions of the runtime, each of which calls the next
   pub data IsNested : List (Function Body) → Type 0 where
     innermost : (f : Function Body) → Contains functions f → IsRuntime f → IsNested (f ∷ [])
-    calling : (f g : Function Body) (inner : List (Function Body)) → Contains functions f → IsRuntime f → Contains (named f.body) (name.function g.label) → IsNested (g ∷ inner) → IsNested (f ∷ g ∷ inner)
+    calling :
+        (f g : Function Body) (inner : List (Function Body)) →
+        Contains functions f →
+        IsRuntime f →
+        Contains (named f.body) (name.function g.label) →
+        IsNested (g ∷ inner) →
+        IsNested (f ∷ g ∷ inner)
 
-  -- with a bound for each function of the source; those of the runtime that are open at once have 4,096 bytes
+  -- with a bound for each function of the source; those of the runtime that are open at once have
+  -- 4,096 bytes
   pub record AreAllowed (bound size : ℕ → ℕ) : Type 0 where
     pub each : (f : Function Body) → Contains functions f → IsSizeOf f (size f.label)
-    pub source : (f : Function Body) → Contains functions f → 32 ≤ f.label → size f.label ≤ bound f.label
-    pub runtime : (fs : List (Function Body)) → IsNested fs → sum (map (λ f. size f.label) fs) ≤ 4096
+    pub source :
+        (f : Function Body) → Contains functions f → 32 ≤ f.label → size f.label ≤ bound f.label
+    pub runtime :
+        (fs : List (Function Body)) → IsNested fs → sum (map (λ f. size f.label) fs) ≤ 4096

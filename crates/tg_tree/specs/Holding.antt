@@ -1,5 +1,5 @@
--- What a run may read: temporaries that are set, and slots of open activations that were stored to. The second of two worlds holds at
--- least what the first holds there.
+-- What a run may read: temporaries that are set, and slots of open activations that were stored to.
+-- The second of two worlds holds at least what the first holds there.
 use Rattle.std.specs.Prelude.{◌≡◌, ◌≢◌, ℕ, List, Option, Some, None}
 use Rattle.tg_runs.specs.Runs.{Run}
 use Rattle.tg_runs.specs.Ran.{Ran, Wrong}
@@ -11,7 +11,8 @@ pub data HoldsToo : Option ℕ → Option ℕ → Type 0 where
   unset : (o : Option ℕ) → HoldsToo None o
   set : (v : ℕ) → HoldsToo (Some v) (Some v)
 
--- a slot of an open activation is one in the second too, with the word that was stored to it; anything may stand elsewhere
+-- a slot of an open activation is one in the second too, with the word that was stored to it;
+-- anything may stand elsewhere
 pub data CellHoldsToo : Cell → Cell → Type 0 where
   elsewhere : (c : Cell) → CellHoldsToo Closed c
   not_stored : CellHoldsToo Unset Unset

@@ -10,7 +10,8 @@ use Rattle.tg_tree.specs.Running.{Runner, entered, step, going, tree_run}
 use Rattle.tg_tree.specs.Flat.{FlatPoint, flat_step, flat_going, flat_run}
 use Rattle.tg_tree.specs.Holding.{TempsHoldToo, WorldHoldsToo, UnlessWrong, NextReadsNoMore, AroundReadsNoMore}
 
--- a run is its own step: what comes of a point is a step from it, and then what comes of the points behind it
+-- a run is its own step: what comes of a point is a step from it, and then what comes of the points
+-- behind it
 abbrev pub TreesStep : Type 0
 TreesStep =
     (stage : Stage) (code : Code Ts) (size : ℕ → ℕ) (floor room : ℕ) (p : Point) (n : ℕ) →
@@ -45,11 +46,13 @@ FlatCodeOnlyGoesOn =
     (code : Code (List Linear)) (size : ℕ → ℕ) (floor room body : ℕ) (input : List ℕ) →
     OnlyGoesOn (flat_run code size floor room body input)
 
--- A run that doesn't go wrong reads no temporary that isn't set, no slot that wasn't stored to since its activation began, and no
--- memory outside the statics, the taken heap and the slots of open activations: whatever these hold, it is the same.
+-- A run that doesn't go wrong reads no temporary that isn't set, no slot that wasn't stored to
+-- since its activation began, and no memory outside the statics, the taken heap and the slots of
+-- open activations: whatever these hold, it is the same.
 abbrev pub TreesReadNoMore : Type 0
 TreesReadNoMore =
-    (stage : Stage) (code : Code Ts) (size : ℕ → ℕ) (floor room : ℕ) (p : Point) (x : World) (u : Temps) →
+    (stage : Stage) (code : Code Ts) (size : ℕ → ℕ) (floor room : ℕ)
+    (p : Point) (x : World) (u : Temps) →
     AroundReadsNoMore p.around → NextReadsNoMore p.next →
     WorldHoldsToo p.world x → TempsHoldToo p.temps u →
     UnlessWrong (going stage code size floor room p)
@@ -57,15 +60,18 @@ TreesReadNoMore =
 
 abbrev pub FlatCodeReadsNoMore : Type 0
 FlatCodeReadsNoMore =
-    (code : Code (List Linear)) (size : ℕ → ℕ) (floor room : ℕ) (p : FlatPoint) (x : World) (u : Temps) →
+    (code : Code (List Linear)) (size : ℕ → ℕ) (floor room : ℕ)
+    (p : FlatPoint) (x : World) (u : Temps) →
     AroundReadsNoMore p.around → WorldHoldsToo p.world x → TempsHoldToo p.temps u →
     UnlessWrong (flat_going code size floor room p)
     (flat_going code size floor room (record p { world = x; temps = u }))
 
--- a function whose frame reaches below the floor ends the run as it is entered, whatever its arguments and the fuel
+-- a function whose frame reaches below the floor ends the run as it is entered, whatever its
+-- arguments and the fuel
 abbrev pub FullStackEnds : Type 0 → Type 0
 FullStackEnds Body =
-    (size : ℕ → ℕ) (floor : ℕ) (runner : Runner Body) (found : Option (Function Body)) (f : Function Body)
+    (size : ℕ → ℕ) (floor : ℕ) (runner : Runner Body)
+    (found : Option (Function Body)) (f : Function Body)
     (vs : List ℕ) (top : ℕ) (back : Back) (w : World) (n : ℕ) →
     found ≡ Some f → top < floor + size f.label →
     entered size floor runner found vs top back w n ≡ stops w.input (Ended StackFull)

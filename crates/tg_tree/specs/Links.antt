@@ -1,5 +1,6 @@
--- Static links (Appel, chapter 6). The first argument of a call of a declared function is the frame address of the current activation
--- of the function around it in the text. A run that goes wrong at any other first argument is the run, where the links are right.
+-- Static links (Appel, chapter 6). The first argument of a call of a declared function is the frame
+-- address of the current activation of the function around it in the text. A run that goes wrong at
+-- any other first argument is the run, where the links are right.
 use Rattle.std.specs.Prelude.{ℕ, ◌-◌, ◌≡◌, ◌==◌, List, [], ◌∷◌, length, drop, Bool, false, nat_lt, if◌then◌else◌}
 use Rattle.tg_runs.specs.Runs.{Run, again}
 use Rattle.tg_runs.specs.Ran.{Ran, WantsFuel, stops}
@@ -9,7 +10,8 @@ use Rattle.tg_tree.specs.Actions.{wrong}
 use Rattle.tg_tree.specs.Meaning.{Enter, Point, run}
 use Rattle.tg_tree.specs.Running.{Runner, with_fuel, call_in, body_point, program, tree_run}
 
--- a point, with the frame addresses of its activation and of those around it in the text, innermost first
+-- a point, with the frame addresses of its activation and of those around it in the text, innermost
+-- first
 pub record LinkedPoint : Type 0 where
   pub point : Point
   pub frames : List ℕ
@@ -18,7 +20,8 @@ abbrev pub first_is : List ℕ → List ℕ → Bool
 first_is (v ∷ vs) (frame ∷ frames) = v == frame
 first_is _ _ = false
 
--- for the level of each declared function by its label; the program's body, with the label 32, has the level 0
+-- for the level of each declared function by its label; the program's body, with the label 32, has
+-- the level 0
 module _ (stage : Stage) (code : Code Ts) (size : ℕ → ℕ) (floor room : ℕ) (level : ℕ → ℕ) where
   -- those around a function, of those that its caller sees
   abbrev pub frames_around : (label : ℕ) → List ℕ → List ℕ
@@ -29,14 +32,15 @@ module _ (stage : Stage) (code : Code Ts) (size : ℕ → ℕ) (floor room : ℕ
       later (record { point = body_point s e w temps; frames = e.activation.base ∷ frames })
 
   abbrev pub call_within : (LinkedPoint → Run Ran) → (frames : List ℕ) → Enter
-  call_within later frames = call_in marked_entry_units size floor (run_linked_body later frames) code.functions
+  call_within later frames =
+      call_in marked_entry_units size floor (run_linked_body later frames) code.functions
 
   -- a function of the runtime is in no other
   abbrev pub enter_linked : (LinkedPoint → Run Ran) → (frames : List ℕ) → Enter
   enter_linked later frames label vs top back w =
       if nat_lt label 32 then call_within later [] label vs top back w else
-      if first_is vs (frames_around label frames) then call_within later (frames_around label frames) label vs top back w else
-      wrong w
+      if first_is vs (frames_around label frames) then
+      call_within later (frames_around label frames) label vs top back w else wrong w
 
   abbrev pub linked_step : (LinkedPoint → Run Ran) → LinkedPoint → Run Ran
   linked_step later p =
@@ -46,7 +50,8 @@ module _ (stage : Stage) (code : Code Ts) (size : ℕ → ℕ) (floor room : ℕ
 
   abbrev pub linked_run : (body : ℕ) → (input : List ℕ) → Run Ran
   linked_run body input =
-      program size floor (run_linked_body (again (stops [] WantsFuel) linked_step) []) code body input
+      program size floor (run_linked_body (again (stops [] WantsFuel) linked_step) [])
+      code body input
 
   abbrev pub LinksAreRight : Type 0
   LinksAreRight =

@@ -18,13 +18,16 @@ pub record Point : Type 0 where
   pub world : World
   pub temps : Temps
 
--- what a call does, of its label, its arguments, the caller's low end, and what comes after its return
+-- what a call does, of its label, its arguments, the caller's low end, and what comes after its
+-- return
 abbrev pub Enter : Type 0
 Enter = ℕ → List ℕ → ℕ → Back → World → Run Ran
 
--- For the stage whose units are charged, a heap's room, literals, what a call does, and what comes of going on with a loop from its
--- head.
-module _ (stage : Stage) (room : ℕ) (literals : List Literal) (enter : Enter) (later : Point → Run Ran) where
+-- For the stage whose units are charged, a heap's room, literals, what a call does, and what comes
+-- of going on with a loop from its head.
+module _
+    (stage : Stage) (room : ℕ) (literals : List Literal)
+    (enter : Enter) (later : Point → Run Ran) where
   abbrev pub enter_function : (label : ℕ) → List ℕ → Acts (Go ℕ)
   enter_function label vs e go w t =
       enter label vs (e.activation.base - e.activation.size) (λ v w1. go v w1 t) w
@@ -33,7 +36,8 @@ module _ (stage : Stage) (room : ℕ) (literals : List Literal) (enter : Enter) 
   abbrev pub repeat : (loop : Ts) → (turn : Acts Next) → Acts Next
   repeat loop turn e next w t =
       turn (record e { out = leaving next e.out })
-      (λ w1 t1. later (record { statement = loop; around = e; next = next; world = w1; temps = t1 })) w t
+      (λ w1 t1.
+      later (record { statement = loop; around = e; next = next; world = w1; temps = t1 })) w t
 
   abbrev mutual
     pub value : Tx → Acts (Go ℕ)

@@ -1,10 +1,12 @@
--- The memory of a run of trees: the regions of the machine, where the stack is seen by the slots of open activations.
+-- The memory of a run of trees: the regions of the machine, where the stack is seen by the slots of
+-- open activations.
 use Rattle.std.specs.Prelude.{ℕ, zero, suc, ◌+◌, ◌-◌, ◌*◌, ◌/◌, ◌%◌, ◌^◌, ◌==◌, List, [], ◌∷◌, ◌++◌, length, slice_index, slice_set, Option, Some, None, if◌then◌else◌}
 use Rattle.tg_base.specs.State.{offset, word_at, set_word, padded, statics_base, heap_base}
 use Rattle.tg_tree.specs.Tree.{Literal}
 
--- A word of the stack: no slot of an open activation; a slot that wasn't stored to since its activation began; what a slot holds;
--- or, in runs of instructions alone, the value that its activation found in a register and must give back.
+-- A word of the stack: no slot of an open activation; a slot that wasn't stored to since its
+-- activation began; what a slot holds; or, in runs of instructions alone, the value that its
+-- activation found in a register and must give back.
 pub data Cell : Type 0 where
   Closed : Cell
   Unset : Cell
@@ -110,7 +112,9 @@ statics_of (l ∷ ls) = padded l.text ++ statics_of ls
 
 abbrev pub literal_from : (at label : ℕ) → List Literal → Option ℕ
 literal_from at label [] = None
-literal_from at label (l ∷ ls) = if l.label == label then Some at else literal_from (at + length (padded l.text)) label ls
+literal_from at label (l ∷ ls) =
+    if l.label == label then Some at else
+    literal_from (at + length (padded l.text)) label ls
 
 abbrev pub literal_address : List Literal → ℕ → Option ℕ
 literal_address ls label = literal_from statics_base label ls

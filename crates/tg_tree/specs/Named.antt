@@ -1,5 +1,5 @@
--- What texts name: the functions that they call, the literals whose addresses they take, the numbers of their faults, and their
--- temporaries.
+-- What texts name: the functions that they call, the literals whose addresses they take, the
+-- numbers of their faults, and their temporaries.
 use Rattle.std.specs.Prelude.{◌≢◌, ◌<◌, ℕ, List, [], ◌∷◌, ◌++◌, map}
 use Rattle.std.specs.List.{Contains, AllPairs}
 use Rattle.tg_tree.specs.Tree.{Tx, Const, Address, Temp, FrameAddress, Binary, Load, LoadByte, Call, Service, After, Txs, no_txs, tx, Cond, Compare, Not, Both, Either, Ts, Move, Store, StoreByte, Do, If, Loop, Break, Fault, Seq, Return, Stms, no_stms, stm, Linear, Mark, Do', Jump, Branch, Fault', Return', Function, Code}
@@ -64,8 +64,12 @@ module _ {Body : Type 0} (named : Body → List Named) where
 
   -- one text names no more than another but for temporaries
   pub record NamesNoMore (before after : Body) : Type 0 where
-    pub functions : (label : ℕ) → Contains (named after) (function label) → Contains (named before) (function label)
-    pub literals : (label : ℕ) → Contains (named after) (literal label) → Contains (named before) (literal label)
+    pub functions :
+        (label : ℕ) →
+        Contains (named after) (function label) → Contains (named before) (function label)
+    pub literals :
+        (label : ℕ) →
+        Contains (named after) (literal label) → Contains (named before) (literal label)
     pub faults : (n : ℕ) → Contains (named after) (fault n) → Contains (named before) (fault n)
 
   -- the labels of functions and literals
@@ -75,10 +79,19 @@ module _ {Body : Type 0} (named : Body → List Named) where
   abbrev pub literal_labels : Code Body → List ℕ
   literal_labels code = map (λ l. l.label) code.literals
 
-  -- all labels differ, the program's body is there, and so is each function and literal that a function names
+  -- all labels differ, the program's body is there, and so is each function and literal that a
+  -- function names
   pub record IsLinked (code : Code Body) : Type 0 where
     pub apart : AllPairs (λ a b. a ≢ b) (function_labels code ++ literal_labels code)
     pub body : Contains (function_labels code) 32
-    pub calls : (f : Function Body) (label : ℕ) → Contains code.functions f → Contains (named f.body) (function label) → Contains (function_labels code) label
-    pub addresses : (f : Function Body) (label : ℕ) → Contains code.functions f → Contains (named f.body) (literal label) → Contains (literal_labels code) label
-    pub faults : (f : Function Body) (n : ℕ) → Contains code.functions f → Contains (named f.body) (fault n) → n < 1048576
+    pub calls :
+        (f : Function Body) (label : ℕ) →
+        Contains code.functions f → Contains (named f.body) (function label) →
+        Contains (function_labels code) label
+    pub addresses :
+        (f : Function Body) (label : ℕ) →
+        Contains code.functions f → Contains (named f.body) (literal label) →
+        Contains (literal_labels code) label
+    pub faults :
+        (f : Function Body) (n : ℕ) →
+        Contains code.functions f → Contains (named f.body) (fault n) → n < 1048576

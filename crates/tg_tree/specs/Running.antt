@@ -1,4 +1,5 @@
--- Runs of trees. A return to the head of a loop and a call take a unit of fuel each, and the first activation of a program takes none.
+-- Runs of trees. A return to the head of a loop and a call take a unit of fuel each, and the first
+-- activation of a program takes none.
 use Rattle.std.specs.Prelude.{ℕ, ◌+◌, ◌==◌, List, [], ◌∷◌, Option, Some, None, length, map, nat_lt, if◌then◌else◌, pos}
 use Rattle.tg_base.specs.declared.ends.RunEnd.TheVariants.{Exit, StackFull}
 use Rattle.tg_base.specs.State.{stack_top}
@@ -22,7 +23,8 @@ with_fuel w c = turn (stops w.input WantsFuel) c
 -- the arguments in the homes of the parameters; another number of them goes wrong
 abbrev pub placed : (base : ℕ) → List Access → List ℕ → World → Temps → Next → Run Ran
 placed base [] [] w temps next = next w temps
-placed base (InTemp t ∷ homes) (v ∷ vs) w temps next = placed base homes vs w (set_temp t.0 v temps) next
+placed base (InTemp t ∷ homes) (v ∷ vs) w temps next =
+    placed base homes vs w (set_temp t.0 v temps) next
 placed base (InFrame k ∷ homes) (v ∷ vs) w temps next =
     placed base homes vs (record w { memory = put (slot base k) (Has v) w.memory }) temps next
 placed base _ _ w temps next = wrong w
@@ -42,27 +44,37 @@ Runner Body = Body → Around → World → Temps → Run Ran
 
 -- what is around a body: it leaves no loop but its own
 abbrev pub outermost : Activation → Back → Around
-outermost activation back = record { activation = activation; out = λ k w temps. wrong w; back = back }
+outermost activation back =
+    record { activation = activation; out = λ k w temps. wrong w; back = back }
 
--- A function is entered, with a frame that begins at this address: where it reaches below the stack's floor the stack is full.
-abbrev pub entered : {Body : Type 0} → (size : ℕ → ℕ) → (floor : ℕ) → Runner Body → Option (Function Body) → List ℕ → (top : ℕ) → Back → World → Run Ran
+-- A function is entered, with a frame that begins at this address: where it reaches below the
+-- stack's floor the stack is full.
+abbrev pub entered :
+    {Body : Type 0} → (size : ℕ → ℕ) → (floor : ℕ) → Runner Body →
+    Option (Function Body) → List ℕ → (top : ℕ) → Back → World → Run Ran
 entered size floor body None vs top back w = wrong w
 entered size floor body (Some f) vs top back w =
     if nat_lt top (floor + size f.label) then over (Ended StackFull) w else
     placed top f.params vs (with_slots f top w) no_temps
-    (body f.body (outermost (record { base = top; size = size f.label }) (λ v w1. back v (without_slots f top w1))))
+    (body f.body
+    (outermost (record { base = top; size = size f.label })
+    (λ v w1. back v (without_slots f top w1))))
 
 -- a function by its label, among these
-abbrev pub begin_in : {Body : Type 0} → (size : ℕ → ℕ) → (floor : ℕ) → Runner Body → List (Function Body) → Enter
+abbrev pub begin_in :
+    {Body : Type 0} → (size : ℕ → ℕ) → (floor : ℕ) → Runner Body →
+    List (Function Body) → Enter
 begin_in size floor runner functions label vs top back w =
     entered size floor runner (function_of label functions) vs top back w
 
--- a call pays for the entry, by the number of its arguments, and runs the body behind a unit of fuel
+-- a call pays for the entry, by the number of its arguments, and runs the body behind a unit of
+-- fuel
 abbrev pub fuelled : {Body : Type 0} → Runner Body → Runner Body
 fuelled body s e w temps = with_fuel w (body s e w temps)
 
 abbrev pub call_in :
-    {Body : Type 0} → (units : ℕ → ℕ) → (size : ℕ → ℕ) → (floor : ℕ) → Runner Body → List (Function Body) → Enter
+    {Body : Type 0} → (units : ℕ → ℕ) → (size : ℕ → ℕ) → (floor : ℕ) → Runner Body →
+    List (Function Body) → Enter
 call_in units size floor runner functions label vs top back w =
     charged (units (length vs)) (begin_in size floor (fuelled runner) functions label vs top back w)
 
@@ -73,12 +85,15 @@ body_point s e w temps =
 
 -- the first activation of a program, whose return is the program's end
 abbrev pub program :
-    {Body : Type 0} → (size : ℕ → ℕ) → (floor : ℕ) → Runner Body → Code Body → (body : ℕ) → (input : List ℕ) → Run Ran
+    {Body : Type 0} → (size : ℕ → ℕ) → (floor : ℕ) → Runner Body → Code Body →
+    (body : ℕ) → (input : List ℕ) → Run Ran
 program size floor runner code body input =
-    begin_in size floor runner code.functions body [] stack_top (λ v w. over (Ended (Exit (pos 0))) w)
+    begin_in size floor runner code.functions body [] stack_top
+    (λ v w. over (Ended (Exit (pos 0))) w)
     (record { memory = begin code.literals; input = input })
 
--- for the stage whose units are charged, a size of each frame by its function's label, the stack's floor, and the heap's room
+-- for the stage whose units are charged, a size of each frame by its function's label, the stack's
+-- floor, and the heap's room
 module _ (stage : Stage) (code : Code Ts) (size : ℕ → ℕ) (floor room : ℕ) where
   abbrev pub run_body : (Point → Run Ran) → Runner Ts
   run_body later s e w temps = later (body_point s e w temps)
@@ -89,7 +104,8 @@ module _ (stage : Stage) (code : Code Ts) (size : ℕ → ℕ) (floor room : ℕ
   -- one step: a statement up to the next unit of fuel
   abbrev pub step : (Point → Run Ran) → Point → Run Ran
   step later p =
-      run stage room code.literals (enter later) (λ q. with_fuel q.world (later q)) p.statement p.around p.next p.world p.temps
+      run stage room code.literals (enter later) (λ q. with_fuel q.world (later q))
+      p.statement p.around p.next p.world p.temps
 
   abbrev pub going : Point → Run Ran
   going = again (stops [] WantsFuel) step
@@ -99,8 +115,18 @@ module _ (stage : Stage) (code : Code Ts) (size : ℕ → ℕ) (floor room : ℕ
 
 -- Canonical statements run as the tree that has them in sequence.
 abbrev pub in_sequence : Function Stms → Function Ts
-in_sequence f = record { label = f.label; params = f.params; slots = f.slots; temps = f.temps; out = f.out; body = Seq f.body }
+in_sequence f = record {
+  label = f.label;
+  params = f.params;
+  slots = f.slots;
+  temps = f.temps;
+  out = f.out;
+  body = Seq f.body;
+}
 
-abbrev pub canonical_run : Code Stms → (size : ℕ → ℕ) → (floor room body : ℕ) → (input : List ℕ) → Run Ran
+abbrev pub canonical_run :
+    Code Stms → (size : ℕ → ℕ) → (floor room body : ℕ) → (input : List ℕ) → Run Ran
 canonical_run code size floor room body input =
-    tree_run Canonical (record { functions = map in_sequence code.functions; literals = code.literals }) size floor room body input
+    tree_run Canonical
+    (record { functions = map in_sequence code.functions; literals = code.literals })
+    size floor room body input

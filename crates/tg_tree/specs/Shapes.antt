@@ -113,7 +113,8 @@ IsFlatStatement (StoreByte x y) = IsFlat x × IsFlat y
 IsFlatStatement (Do x) = IsFlatSide x
 IsFlatStatement _ = ⊥
 
--- Canonical statements: each expression is flat but for a call or service that is a whole right side.
+-- Canonical statements: each expression is flat but for a call or service that is a whole right
+-- side.
 abbrev pub IsFlatCond : Cond → Type 0
 IsFlatCond (Compare _ x y) = IsFlat x × IsFlat y
 IsFlatCond (Not c) = IsFlatCond c

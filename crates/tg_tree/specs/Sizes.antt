@@ -1,6 +1,7 @@
--- Two numbers of a function's text with its frame, at each stage before instructions are chosen: its length, in units, and its room,
--- the words of its frame and the temporaries that its code has then. Both count in advance what later passes may write and draw, part
--- by part, so that a pass adds no more than a constant.
+-- Two numbers of a function's text with its frame, at each stage before instructions are chosen:
+-- its length, in units, and its room, the words of its frame and the temporaries that its code has
+-- then. Both count in advance what later passes may write and draw, part by part, so that a pass
+-- adds no more than a constant.
 use Rattle.std.specs.Prelude.{ℕ, ◌+◌, ◌*◌, List, [], ◌∷◌, length}
 use Rattle.tg_tree.specs.declared.operators.Bin.{Bin}
 use Rattle.tg_tree.specs.declared.operators.Bin.TheVariants.{ShiftLeft, ShiftRight, ShiftSigned}
@@ -52,7 +53,8 @@ module _ (g : Stage) where
         statement_units g (StoreByte x y) + (expression_length x + expression_length y)
     statement_length (Do x) = statement_units g (Do x) + expression_length x
     statement_length (If c s t) =
-        statement_units g (If c s t) + (condition_length c + (statement_length s + statement_length t))
+        statement_units g (If c s t) +
+        (condition_length c + (statement_length s + statement_length t))
     statement_length (Loop s) = statement_units g (Loop s) + statement_length s
     statement_length (Seq ss) = statement_units g (Seq ss) + statements_length ss
     statement_length (Return x) = statement_units g (Return x) + expression_length x
@@ -66,7 +68,8 @@ module _ (g : Stage) where
 abbrev pub element_length : Linear → ℕ
 element_length (Do' s) = element_units (Do' s) + statement_length Canonical s
 element_length (Branch rel x y m) =
-    element_units (Branch rel x y m) + (expression_length Canonical x + expression_length Canonical y)
+    element_units (Branch rel x y m) +
+    (expression_length Canonical x + expression_length Canonical y)
 element_length (Return' x) = element_units (Return' x) + expression_length Canonical x
 element_length e = element_units e
 
@@ -96,7 +99,8 @@ module _ (w : Rooms) where
   abbrev mutual
     pub expression_room : Tx → ℕ
     expression_room (Temp _) = w.temporary
-    expression_room (Binary op x y) = w.expression + shift_room op + (expression_room x + expression_room y)
+    expression_room (Binary op x y) =
+        w.expression + shift_room op + (expression_room x + expression_room y)
     expression_room (Load x) = w.expression + expression_room x
     expression_room (LoadByte x) = w.expression + expression_room x
     expression_room (Call _ xs) = w.expression + w.call + arguments_room xs
@@ -184,7 +188,8 @@ abbrev pub canonical_length : Function Stms → ℕ
 canonical_length f = parameters_length f + statements_length Canonical f.body
 
 abbrev pub canonical_room : Function Stms → ℕ
-canonical_room f = frame_room f + (parameters_room in_canonical f + statements_room in_canonical f.body)
+canonical_room f =
+    frame_room f + (parameters_room in_canonical f + statements_room in_canonical f.body)
 
 abbrev pub flat_length : Function (List Linear) → ℕ
 flat_length f = parameters_length f + code_length f.body

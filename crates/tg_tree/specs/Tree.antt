@@ -54,7 +54,8 @@ pub data Linear : Type 0 where
   Fault' : ℕ → Linear
   Return' : Tx → Linear
 
--- a function with a body of some form: its label, the homes of its parameters, its slots, temporaries and words for arguments
+-- a function with a body of some form: its label, the homes of its parameters, its slots,
+-- temporaries and words for arguments
 pub record Function (Body : Type 0) : Type 0 where
   pub label : ℕ
   pub params : List Access

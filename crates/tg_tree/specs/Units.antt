@@ -1,6 +1,7 @@
--- Units of work and of length. A unit stands for an instruction that is made of a part in the end. What one node of a text counts is
--- stated here, once: a run is charged it each time that it comes to the node, and the length of the text is its sum over the nodes. A
--- node counts in advance what later passes may write for it, so that a pass adds no more than a constant to either number.
+-- Units of work and of length. A unit stands for an instruction that is made of a part in the end.
+-- What one node of a text counts is stated here, once: a run is charged it each time that it comes
+-- to the node, and the length of the text is its sum over the nodes. A node counts in advance what
+-- later passes may write for it, so that a pass adds no more than a constant to either number.
 use Rattle.std.specs.Prelude.{ℕ, ◌+◌, ◌*◌, Bool, if◌then◌else◌}
 use Rattle.tg_tree.specs.declared.operators.Bin.{Bin}
 use Rattle.tg_tree.specs.declared.operators.Bin.TheVariants.{Mul, Div, MulHigh, ShiftLeft, ShiftRight, ShiftSigned}
@@ -39,11 +40,13 @@ use Rattle.tg_tree.specs.Tree.{
 }
 use Rattle.tg_tree.specs.Shapes.{is_flat, are_flat, is_flat_condition}
 
--- as translated, or canonical: with calls and services that are whole right sides, as the statements of flat code are too
+-- as translated, or canonical: with calls and services that are whole right sides, as the
+-- statements of flat code are too
 pub data Stage : Type 0 where
   Trees Canonical : Stage
 
--- a word kept in a temporary: a move of its own, before a part that isn't flat and is lifted in front of it
+-- a word kept in a temporary: a move of its own, before a part that isn't flat and is lifted in
+-- front of it
 abbrev pub lifted_units : Stage → (flat : Bool) → ℕ
 lifted_units Trees flat = if flat then 0 else 2
 lifted_units Canonical flat = 0
@@ -63,7 +66,8 @@ abbrev pub shift_units : (right : Tx) → ℕ
 shift_units (Const _) = 1
 shift_units _ = 21
 
--- an operator with its right side: products and quotients leave their answers in registers of their own
+-- an operator with its right side: products and quotients leave their answers in registers of their
+-- own
 abbrev pub operator_units : Bin → (right : Tx) → ℕ
 operator_units Mul y = 2
 operator_units Div y = 2
@@ -73,7 +77,8 @@ operator_units ShiftRight y = shift_units y
 operator_units ShiftSigned y = shift_units y
 operator_units _ y = 1
 
--- an expression: a constant has two halves; a service has its number, its argument, itself and what it gives
+-- an expression: a constant has two halves; a service has its number, its argument, itself and what
+-- it gives
 abbrev pub expression_units : Stage → Tx → ℕ
 expression_units g (Const _) = 2
 expression_units g (Temp _) = 0
@@ -94,8 +99,8 @@ condition_units g (Not _) = 0
 condition_units g (Both c d) = joined_units g (is_flat_condition d)
 condition_units g (Either c d) = joined_units g (is_flat_condition d)
 
--- a statement, with its jumps and marks: a move counts two, since one between two slots is three instructions; a return gives nine
--- registers back
+-- a statement, with its jumps and marks: a move counts two, since one between two slots is three
+-- instructions; a return gives nine registers back
 abbrev pub statement_units : Stage → Ts → ℕ
 statement_units g (Move _ _) = 2
 statement_units g (Store x y) = 1 + lifted_units g (is_flat y)

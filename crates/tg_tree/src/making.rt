@@ -84,7 +84,8 @@ pub fn both(alloc: Global, left: Cond, right: Cond) -> Result<Cond, Memory>
     Ok(Cond::Both(left, right))
 }
 
-/// Two conditions of which one holds; the second one is looked at only where the first one doesn't hold.
+/// Two conditions of which one holds; the second one is looked at only where the first one doesn't
+/// hold.
 pub fn either(alloc: Global, left: Cond, right: Cond) -> Result<Cond, Memory>
     ensures { IfOk result (λ c. plain_cond c ≡ tree.Either (plain_cond left) (plain_cond right)) }
 {
