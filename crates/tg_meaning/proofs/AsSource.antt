@@ -1,5 +1,5 @@
 -- A program's run as one that code may follow.
-use Rattle.std.proofs.Common.{◌≡◌, ℕ, zero, suc, refl}
+use Rattle.std.proofs.Common.{◌≡◌, zero, suc, refl}
 use Rattle.std.specs.Prelude.{◌≢◌}
 use Rattle.tg_base.specs.declared.ends.RunEnd.TheVariants.{StackFull}
 use Rattle.tg_runs.specs.Outcomes.{End, ended, out_of_fuel, stuck, map_end}

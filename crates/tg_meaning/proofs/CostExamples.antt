@@ -1,10 +1,11 @@
 -- Computed examples of cost and weight. Above each stands the program's text. The numbers are those of an evaluator that was written apart
 -- from the definition, and each rule of cost and weight, turned, fails in one of them.
-use Rattle.std.proofs.Common.{◌≡◌, ℕ, List, [], ◌∷◌, Some, None, refl, pred}
+use Rattle.std.proofs.Common.{◌≡◌, ℕ, [], ◌∷◌, Some, None, refl, pred}
 use Rattle.tg_syntax.specs.Tree as tree
 use Rattle.tg_syntax.specs.Tree.{Exp, Decs, no_decs}
 use Rattle.tg_meaning.specs.Direct.{evaluate}
-use Rattle.tg_meaning.proofs.Trees.{id, param, num, text, simple, index, read, var, call, ◌-'◌, ◌='◌, ◌<'◌, ◌>'◌, set, when, for, seq, array, make, fun, let_var, block, evaluated, names}
+use Rattle.tg_meaning.proofs.Trees.{id, param, num, text, simple, index, read, var, call, ◌-'◌, ◌='◌, ◌<'◌, ◌>'◌, set, when, for, seq, array, make, fun}
+use Rattle.tg_meaning.proofs.Trees.{let_var, block, names}
 
 -- what a program costs, on the input A, with fuel enough
 abbrev costs : Exp → ℕ
@@ -79,7 +80,8 @@ declarations : (costs (block (two_types (let_var "a" (num 0) two_functions)) [])
 declarations = (refl, (refl, refl))
 
 -- let var a:=t[5] of 0 var i:=a[1] in end, and let var a:=r{x=1} in end: each creation is a call of the runtime
-creations : (costs (block (let_var "a" (array (num 5) (num 0)) (let_var "i" (read (index (simple "a") (num 1))) no_decs)) []) ≡ 15) × Holds 6400 (block (let_var "a" (array (num 1) (num 0)) no_decs) []) × Holds 6400 (block (let_var "a" (make (("x", num 1) ∷ [])) no_decs) [])
+creations : (costs (block (let_var "a" (array (num 5) (num 0)) (let_var "i" (read (index (simple "a") (num 1))) no_decs)) []) ≡ 15) ×
+    Holds 6400 (block (let_var "a" (array (num 1) (num 0)) no_decs) []) × Holds 6400 (block (let_var "a" (make (("x", num 1) ∷ [])) no_decs) [])
 creations = (refl, (refl, refl), (refl, refl))
 
 -- let function f(n:int):int = f(exit(n)) in f(1) end: the level out to f is paid before its argument, which ends the program

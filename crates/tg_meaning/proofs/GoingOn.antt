@@ -1,11 +1,13 @@
 -- Nothing that was done is taken back.
-use Rattle.std.proofs.Common.{◌≡◌, ℕ, zero, suc, ◌+◌, max, List, [], ◌++◌, Option, Some, None, Bool, true, false, nat_lt, refl, sym, ap, ◌∙◌, append_assoc, arith, le_trans, take, drop}
+use Rattle.std.proofs.Common.{◌≡◌, ℕ, zero, suc, ◌+◌, max, List, [], ◌++◌, Option, Some, None, Bool, true, false, nat_lt, refl, sym, ap, ◌∙◌, append_assoc}
+use Rattle.std.proofs.Common.{arith, le_trans, take, drop}
 use Rattle.std.specs.Prelude.{if◌then◌else◌}
 use Rattle.std.proofs.lemmas.List.{append-nil, take-append-drop}
 use Rattle.tg_runs.specs.Outcomes.{End, ended, Outcome}
 use Rattle.tg_meaning.specs.Values.{Value, by_heap, add_heap, add_weight, go_deeper, Ending}
 use Rattle.tg_meaning.specs.Evaluation.{eval, meaning, Job}
-use Rattle.tg_meaning.specs.Direct.{State, Result, gives, breaks, is_over, Direct, after, after_body, returned, fuelled, found, changed, first_past, past_limit, direct, told, outcome}
+use Rattle.tg_meaning.specs.Direct.{State, Result, gives, breaks, is_over, Direct, after, after_body, returned, fuelled, found, changed, first_past, past_limit}
+use Rattle.tg_meaning.specs.Direct.{direct, told, outcome}
 use Rattle.tg_meaning.specs.Laws.{GoesOn, so_far, NothingIsTakenBack}
 use Rattle.tg_meaning.proofs.Related.{Related, eval_same, meaning_same}
 
@@ -54,7 +56,8 @@ Keeps A m = (s : State) → GoesOn (so_far s) (now (m s))
 abbrev pub Keep : (A : Type 0) → Direct A → Direct A → Type 0
 Keep A m m' = Keeps A m
 
-pub after_keeps : {A B : Type 0} (o : Outcome Ending) (r : Result A) (f : A → Direct B) → GoesOn o (now r) → ((a : A) → Keeps B (f a)) → GoesOn o (now (after r f))
+pub after_keeps : {A B : Type 0} (o : Outcome Ending) (r : Result A) (f : A → Direct B) → GoesOn o (now r) → ((a : A) → Keeps B (f a)) →
+    GoesOn o (now (after r f))
 after_keeps o (gives a s) f g h = goes_on_on o (so_far s) (now (f a s)) g (h a s)
 after_keeps o (breaks s) f g h = g
 after_keeps o (is_over e s) f g h = g
@@ -77,7 +80,8 @@ pub fuelled_keeps : (n : ℕ) (s : State) (m : Direct Value) → Keeps Value m �
 fuelled_keeps zero s m g = goes_on (so_far s)
 fuelled_keeps (suc n) s m g = g (record s { fuel = n })
 
-take_keeps : (full : Bool) (bytes : ℕ) (s : State) → GoesOn (so_far s) (now {A = Unit {0}} (if full then is_over (ended by_heap) s else changed tt (add_heap bytes) s))
+take_keeps : (full : Bool) (bytes : ℕ) (s : State) →
+    GoesOn (so_far s) (now {A = Unit {0}} (if full then is_over (ended by_heap) s else changed tt (add_heap bytes) s))
 take_keeps true bytes s = goes_on (so_far s)
 take_keeps false bytes s = record {
   output = ([], sym (append-nil s.trace.output));
@@ -132,7 +136,8 @@ weigh_keeps k above s = record {
   deepest = omega arith;
 }
 
-descend_keeps : (s : State) → GoesOn (so_far s) (so_far (record s { world = go_deeper s.world; trace = record s.trace { deepest = max s.trace.deepest (s.world.depth + 1) } }))
+descend_keeps : (s : State) →
+    GoesOn (so_far s) (so_far (record s { world = go_deeper s.world; trace = record s.trace { deepest = max s.trace.deepest (s.world.depth + 1) } }))
 descend_keeps s = record {
   output = ([], sym (append-nil s.trace.output));
   input = ([], refl);
@@ -178,5 +183,6 @@ outcome_keeps o (is_over e s) g = record { output = g.output; input = g.input; h
 pub nothing_taken_back : NothingIsTakenBack
 nothing_taken_back heap stack bound e env s =
     outcome_keeps (so_far s) (eval Direct (direct heap stack) (λ job. meaning Direct (direct heap stack) bound job) e env s)
-    (eval_same Direct Direct (direct heap stack) (direct heap stack) Keep (all_keep heap stack) (λ job. meaning Direct (direct heap stack) bound job) (λ job. meaning Direct (direct heap stack) bound job)
+    (eval_same Direct Direct (direct heap stack) (direct heap stack) Keep (all_keep heap stack) (λ job. meaning Direct (direct heap stack) bound job)
+    (λ job. meaning Direct (direct heap stack) bound job)
     (λ job s. fuelled_keeps s.fuel s (meaning Direct (direct heap stack) bound job) (meaning_keeps heap stack bound job)) e env s)

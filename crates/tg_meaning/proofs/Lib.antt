@@ -7,5 +7,6 @@ pub mod Twin
 pub mod GoingOn
 pub mod MoreFuel
 pub mod Unfolding
+pub mod OwnStep
 mod PassingClauses
 pub mod AsSource

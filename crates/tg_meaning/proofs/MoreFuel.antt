@@ -1,5 +1,6 @@
 -- More fuel changes nothing of a run that is over, and one that is out of fuel goes on.
-use Rattle.std.proofs.Common.{◌≡◌, ◌≢◌, inl, inr, ℕ, zero, suc, ◌+◌, ◌-◌, ◌≤◌, List, Option, Some, None, Bool, true, false, nat_lt, refl, sym, ap, ◌∙◌, subst, arith, le_trans}
+use Rattle.std.proofs.Common.{◌≡◌, ◌≢◌, inl, inr, ℕ, zero, suc, ◌+◌, ◌-◌, ◌≤◌, List, Option, Some, None, Bool, true, false, nat_lt, refl, sym, ap, ◌∙◌, subst}
+use Rattle.std.proofs.Common.{arith, le_trans}
 use Rattle.std.specs.Prelude.{if◌then◌else◌}
 use Rattle.std.proofs.lemmas.Bool.{cases_lt}
 use Rattle.tg_syntax.specs.Tree.{Exp}
@@ -7,7 +8,8 @@ use Rattle.tg_runs.specs.Outcomes.{End, ended, out_of_fuel, stuck, Outcome}
 use Rattle.tg_meaning.specs.Values.{Value, Entry, normal, by_heap, add_heap, Ending}
 use Rattle.tg_meaning.specs.Environments.{outermost}
 use Rattle.tg_meaning.specs.Evaluation.{meaning, program, Job}
-use Rattle.tg_meaning.specs.Direct.{State, Result, gives, breaks, is_over, Direct, after, after_body, returned, fuelled, found, changed, direct, begin, told, outcome, evaluate}
+use Rattle.tg_meaning.specs.Direct.{State, Result, gives, breaks, is_over, Direct, after, after_body, returned, fuelled, found, changed, direct, begin, told}
+use Rattle.tg_meaning.specs.Direct.{outcome, evaluate}
 use Rattle.tg_meaning.specs.Laws.{GoesOn, so_far, MoreFuelIsIdle, MoreFuelGoesOn, HasOneOutcome}
 use Rattle.tg_meaning.proofs.Related.{Related, run_same, run_program_same}
 use Rattle.tg_meaning.proofs.GoingOn.{goes_on, whatever_end, now, Keeps, after_keeps, loop_keeps, returned_keeps, fuelled_keeps, all_keep, meaning_keeps}
@@ -35,7 +37,8 @@ less_fuel d n n' (is_over (ended e) s) r' le g = g
 less_fuel d n n' (is_over stuck s) r' le g = g
 less_fuel d n n' (is_over out_of_fuel s) r' le g = g
 
-after_longer : {A B : Type 0} (d k n : ℕ) (r r' : Result A) (f f' : A → Direct B) → n ≤ k → Longer d n r r' → ((a : A) → Longers d k B (f a) (f' a)) → Longer d n (after r f) (after r' f')
+after_longer : {A B : Type 0} (d k n : ℕ) (r r' : Result A) (f f' : A → Direct B) → n ≤ k → Longer d n r r' → ((a : A) → Longers d k B (f a) (f' a)) →
+    Longer d n (after r f) (after r' f')
 after_longer {A} {B} d k n (gives a s) r' f f' le g h =
     subst (λ x. Longer {A = B} d n (f a s) (after x f')) (sym g.0) (less_fuel d s.fuel n (f a s) (f' a (more d s)) g.1 ((h a).0 s (le_trans g.1 le)))
 after_longer d k n (breaks s) r' f f' le g h = (ap (λ x. after x f') g.0, g.1)
@@ -43,7 +46,8 @@ after_longer d k n (is_over (ended e) s) r' f f' le g h = ap (λ x. after x f') 
 after_longer d k n (is_over stuck s) r' f f' le g h = ap (λ x. after x f') g
 after_longer d k n (is_over out_of_fuel s) r' f f' le g h = after_keeps (so_far s) r' f' g (λ a. (h a).1)
 
-loop_longer : (d k n : ℕ) (r r' : Result Value) (f f' : Direct Value) → n ≤ k → Longer d n r r' → Longers d k Value f f' → Longer d n (after_body r f) (after_body r' f')
+loop_longer : (d k n : ℕ) (r r' : Result Value) (f f' : Direct Value) → n ≤ k → Longer d n r r' → Longers d k Value f f' →
+    Longer d n (after_body r f) (after_body r' f')
 loop_longer d k n (gives v s) r' f f' le g h =
     subst (λ x. Longer {A = Value} d n (f s) (after_body x f')) (sym g.0) (less_fuel d s.fuel n (f s) (f' (more d s)) g.1 (h.0 s (le_trans g.1 le)))
 loop_longer d k n (breaks s) r' f f' le g h = (ap (λ x. after_body x f') g.0, g.1)
@@ -67,7 +71,9 @@ found_longer : {A : Type 0} (d : ℕ) (o : Option A) (s : State) → Longer d s.
 found_longer d (Some a) s = (refl, omega arith)
 found_longer d None s = refl
 
-take_longer : (d : ℕ) (full : Bool) (bytes : ℕ) (s : State) → Longer {A = Unit {0}} d s.fuel (if full then is_over (ended by_heap) s else changed tt (add_heap bytes) s) (if full then is_over (ended by_heap) (more d s) else changed tt (add_heap bytes) (more d s))
+take_longer : (d : ℕ) (full : Bool) (bytes : ℕ) (s : State) → Longer {A = Unit {0}} d s.fuel
+    (if full then is_over (ended by_heap) s else changed tt (add_heap bytes) s)
+    (if full then is_over (ended by_heap) (more d s) else changed tt (add_heap bytes) (more d s))
 take_longer d true bytes s = refl
 take_longer d false bytes s = (refl, omega arith)
 
@@ -113,7 +119,8 @@ module _ (heap stack d : ℕ) where
   abbrev at : ℕ → Job → Direct Value
   at n = λ job. meaning Direct (direct heap stack) n job
 
-  turn_longer : (k n m : ℕ) → k ≤ n → k + d ≤ m → (job : Job) → (s : State) → s.fuel ≤ k → Longer d s.fuel (fuelled s.fuel s (at n job)) (fuelled (s.fuel + d) (more d s) (at m job))
+  turn_longer : (k n m : ℕ) → k ≤ n → k + d ≤ m → (job : Job) → (s : State) → s.fuel ≤ k →
+      Longer d s.fuel (fuelled s.fuel s (at n job)) (fuelled (s.fuel + d) (more d s) (at m job))
   turn_longer zero n m p q job s le =
       none_left d s.fuel s (at n job) (at m job) le (meaning_keeps heap stack m job)
   turn_longer (suc k) zero m p q job s le = absurd (omega arith)
@@ -123,10 +130,15 @@ module _ (heap stack d : ℕ) where
       (run_same Direct Direct (direct heap stack) (direct heap stack) (Longers d k) (all_longer heap stack d k) (at n) (at m)
       (λ j. (turn_longer k n m (omega arith) (omega arith) j, λ t. fuelled_keeps t.fuel t (at m j) (meaning_keeps heap stack m j))) job)
 
-  program_longer : (body : Exp) (entries : List Entry) (n : ℕ) (s : State) → s.fuel ≤ n → Longer d s.fuel (program Direct (direct heap stack) body entries n s) (program Direct (direct heap stack) body entries (n + d) (more d s))
+  program_longer : (body : Exp) (entries : List Entry) (n : ℕ) (s : State) → s.fuel ≤ n →
+      Longer d s.fuel (program Direct (direct heap stack) body entries n s) (program Direct (direct heap stack) body entries (n + d) (more d s))
   program_longer body entries n s le =
       (run_program_same Direct Direct (direct heap stack) (direct heap stack) (Longers d s.fuel) (all_longer heap stack d s.fuel) (at n) (at (n + d))
-      (λ j. (turn_longer s.fuel n (n + d) le (omega arith) j, λ t. fuelled_keeps t.fuel t (at (n + d) j) (meaning_keeps heap stack (n + d) j))) body entries).0 s (omega arith)
+      (λ j. (
+        turn_longer s.fuel n (n + d) le (omega arith) j,
+        λ t. fuelled_keeps t.fuel t (at (n + d) j)
+            (meaning_keeps heap stack (n + d) j),
+      )) body entries).0 s (omega arith)
 
 outcome_idle : (d n : ℕ) (r r' : Result Value) → Longer d n r r' → (outcome r).end ≢ out_of_fuel → outcome r' ≡ outcome r
 outcome_idle d n (gives v s) r' g h = ap outcome g.0
@@ -156,10 +168,12 @@ more_is_idle names body input heap stack fuel more h =
 
 pub more_goes_on : MoreFuelGoesOn
 more_goes_on names body input heap stack fuel more =
-    outcome_goes_on more fuel (program Direct (direct heap stack) body (outermost names) fuel (begin input fuel)) (program Direct (direct heap stack) body (outermost names) (fuel + more) (begin input (fuel + more)))
+    outcome_goes_on more fuel (program Direct (direct heap stack) body (outermost names) fuel (begin input fuel))
+    (program Direct (direct heap stack) body (outermost names) (fuel + more) (begin input (fuel + more)))
     (program_longer heap stack more body (outermost names) fuel (begin input fuel) (omega arith))
 
-above : (names : List (List ℕ)) (body : Exp) (input : List ℕ) (heap stack fuel fuel' : ℕ) → fuel ≤ fuel' → (evaluate names body input heap stack fuel).end ≢ out_of_fuel → evaluate names body input heap stack fuel' ≡ evaluate names body input heap stack fuel
+above : (names : List (List ℕ)) (body : Exp) (input : List ℕ) (heap stack fuel fuel' : ℕ) → fuel ≤ fuel' →
+    (evaluate names body input heap stack fuel).end ≢ out_of_fuel → evaluate names body input heap stack fuel' ≡ evaluate names body input heap stack fuel
 above names body input heap stack fuel fuel' le h =
     let e : fuel' ≡ fuel + (fuel' - fuel) = omega arith in
     ap (λ n. evaluate names body input heap stack n) e ∙ more_is_idle names body input heap stack fuel (fuel' - fuel) h

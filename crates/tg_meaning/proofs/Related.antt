@@ -6,7 +6,8 @@ use Rattle.tg_syntax.specs.declared.tokens.Ident.{Ident}
 use Rattle.tg_syntax.specs.declared.trees.Param.{Param}
 use Rattle.tg_syntax.specs.declared.trees.Op.{Op}
 use Rattle.tg_syntax.specs.declared.trees.Op.TheVariants.{Plus, Minus, Times, Divide, And, Or}
-use Rattle.tg_syntax.specs.Tree.{Exp, Nil, Break, Int, Text, Read, Call, Neg, Binary, Make, Fill, Assign, If, When, While, For, Let, Seq, Place, Simple, Field, Index, Exps, no_exps, exp, Inits, no_inits, init, Decs, no_decs, types, variable as variable_dec, functions}
+use Rattle.tg_syntax.specs.Tree.{Exp, Nil, Break, Int, Text, Read, Call, Neg, Binary, Make, Fill, Assign, If, When, While, For, Let, Seq, Place, Simple, Field}
+use Rattle.tg_syntax.specs.Tree.{Index, Exps, no_exps, exp, Inits, no_inits, init, Decs, no_decs, types, variable as variable_dec, functions}
 use Rattle.tg_runs.specs.Outcomes.{End, ended, stuck}
 use Rattle.tg_meaning.specs.declared.standards.Standard.{Standard}
 use Rattle.tg_meaning.specs.declared.standards.Standard.TheVariants.{Print, Flush, Getchar, Ord, Chr, Size, Substring, Concat, Not, Exit}
@@ -21,7 +22,8 @@ module _ (Action Action' : Type 0 → Type 0) (M : Actions Action) (M' : Actions
   -- what a relation of actions has to keep
   pub record Related : Type 1 where
     pub gives : (A : Type 0) (a : A) → R A (M.give a) (M'.give a)
-    pub binds : (A B : Type 0) (m : Action A) (m' : Action' A) (f : A → Action B) (f' : A → Action' B) → R A m m' → ((a : A) → R B (f a) (f' a)) → R B (M.bind m f) (M'.bind m' f')
+    pub binds : (A B : Type 0) (m : Action A) (m' : Action' A) (f : A → Action B) (f' : A → Action' B) → R A m m' → ((a : A) → R B (f a) (f' a)) →
+        R B (M.bind m f) (M'.bind m' f')
     pub breaks : (A : Type 0) → R A M.break M'.break
     pub overs : (A : Type 0) (e : End Ending) → R A (M.over e) (M'.over e)
     pub loops : (m k : Action Value) (m' k' : Action' Value) → R Value m m' → R Value k k' → R Value (M.in_loop m k) (M'.in_loop m' k')
@@ -41,7 +43,8 @@ module _ (Action Action' : Type 0 → Type 0) (M : Actions Action) (M' : Actions
     pub ascends : R (Unit {0}) M.ascend M'.ascend
 
   module _ (L : Related) where
-    binds : {A B : Type 0} {m : Action A} {m' : Action' A} {f : A → Action B} {f' : A → Action' B} → R A m m' → ((a : A) → R B (f a) (f' a)) → R B (M.bind m f) (M'.bind m' f')
+    binds : {A B : Type 0} {m : Action A} {m' : Action' A} {f : A → Action B} {f' : A → Action' B} → R A m m' → ((a : A) → R B (f a) (f' a)) →
+        R B (M.bind m f) (M'.bind m' f')
     binds {A} {B} {m} {m'} {f} {f'} g h = L.binds A B m m' f f' g h
 
     chosen : (A : Type 0) (b : Bool) (m k : Action A) (m' k' : Action' A) → R A m m' → R A k k' → R A (if b then m else k) (if b then m' else k')
@@ -52,7 +55,8 @@ module _ (Action Action' : Type 0 → Type 0) (M : Actions Action) (M' : Actions
     int_of_same (int n) = L.gives ℕ n
     int_of_same _ = L.overs ℕ stuck
 
-    choose_same : (v : Value) (m k : Action Value) (m' k' : Action' Value) → R Value m m' → R Value k k' → R Value (E.choose Action M v m k) (E.choose Action' M' v m' k')
+    choose_same : (v : Value) (m k : Action Value) (m' k' : Action' Value) → R Value m m' → R Value k k' →
+        R Value (E.choose Action M v m k) (E.choose Action' M' v m' k')
     choose_same (int zero) m k m' k' g h = h
     choose_same (int (suc n)) m k m' k' g h = g
     choose_same _ m k m' k' g h = L.overs Value stuck
@@ -121,7 +125,8 @@ module _ (Action Action' : Type 0 → Type 0) (M : Actions Action) (M' : Actions
     operate_same op (reference a) (reference b) = held_same (identity op (a == b))
     operate_same op _ _ = L.overs Value _
 
-    with_left_same : (op : Op) (x : Value) (m : Action Value) (m' : Action' Value) → R Value m m' → R Value (E.with_left Action M op x m) (E.with_left Action' M' op x m')
+    with_left_same : (op : Op) (x : Value) (m : Action Value) (m' : Action' Value) → R Value m m' →
+        R Value (E.with_left Action M op x m) (E.with_left Action' M' op x m')
     with_left_same And x m m' g = choose_same x _ _ _ _ g (L.gives Value _)
     with_left_same Or x m m' g = choose_same x _ _ _ _ (L.gives Value _) g
     with_left_same op x m m' g = binds g λ y. operate_same op x y
@@ -131,7 +136,8 @@ module _ (Action Action' : Type 0 → Type 0) (M : Actions Action) (M' : Actions
 
     make_array_same : (n : ℕ) (v : Value) → R Value (E.make_array Action M n v) (E.make_array Action' M' n v)
     make_array_same n v =
-        runtime_same Value _ _ (chosen Value (is_negative n) _ _ _ _ (L.overs Value _) (binds (L.takes _) λ _. binds (L.spends _) λ _. binds (L.makes _) λ r. L.gives Value _))
+        runtime_same Value _ _ (chosen Value (is_negative n) _ _ _ _ (L.overs Value _)
+        (binds (L.takes _) λ _. binds (L.spends _) λ _. binds (L.makes _) λ r. L.gives Value _))
 
     make_string_same : (bytes : List ℕ) → R Value (E.make_string Action M bytes) (E.make_string Action' M' bytes)
     make_string_same bytes = binds (L.takes _) λ _. binds (L.spends _) λ _. L.gives Value _
@@ -159,13 +165,16 @@ module _ (Action Action' : Type 0 → Type 0) (M : Actions Action) (M' : Actions
       call_same (to_standard f) args = runtime_same Value _ _ (call_standard_same f args)
       call_same (to_variable level place) args = L.overs Value _
 
-      while_loop_same : (test body : Action Value) (test' body' : Action' Value) (again : Job) → R Value test test' → R Value body body' → R Value (E.while_loop Action M after test body again) (E.while_loop Action' M' after' test' body' again)
+      while_loop_same : (test body : Action Value) (test' body' : Action' Value) (again : Job) → R Value test test' → R Value body body' →
+          R Value (E.while_loop Action M after test body again) (E.while_loop Action' M' after' test' body' again)
       while_loop_same test body test' body' again g h =
           binds g λ v. choose_same v _ _ _ _ (L.loops _ _ _ _ h (turned again)) (L.gives Value _)
 
-      for_loop_same : (place high : ℕ) (body : Action Value) (body' : Action' Value) (again : Job) → R Value body body' → R Value (E.for_loop Action M after place high body again) (E.for_loop Action' M' after' place high body' again)
+      for_loop_same : (place high : ℕ) (body : Action Value) (body' : Action' Value) (again : Job) → R Value body body' →
+          R Value (E.for_loop Action M after place high body again) (E.for_loop Action' M' after' place high body' again)
       for_loop_same place high body body' again h =
-          L.loops _ _ _ _ h (binds (L.looks Value _) λ v. binds (int_of_same v) λ i. chosen Value (i == high) _ _ _ _ (L.gives Value _) (binds (L.sets place _) λ _. turned again))
+          L.loops _ _ _ _ h (binds (L.looks Value _) λ v. binds (int_of_same v) λ i. chosen Value (i == high) _ _ _ _ (L.gives Value _)
+          (binds (L.sets place _) λ _. turned again))
 
       mutual
         pub eval_same : (e : Exp) (env : Env) → R Value (E.eval Action M after e env) (E.eval Action' M' after' e env)
@@ -222,7 +231,8 @@ module _ (Action Action' : Type 0 → Type 0) (M : Actions Action) (M' : Actions
             binds (L.spends 1) λ _. binds (eval_same e env) λ v. binds (L.news v) λ place. declare_same rest _
         declare_same (functions fs rest) env = binds (L.spends _) λ _. declare_same rest _
 
-      bind_params_same : (ps : List Param) (vs : List Value) (env : Env) → R Env (E.bind_params Action M after ps vs env) (E.bind_params Action' M' after' ps vs env)
+      bind_params_same : (ps : List Param) (vs : List Value) (env : Env) →
+          R Env (E.bind_params Action M after ps vs env) (E.bind_params Action' M' after' ps vs env)
       bind_params_same [] [] env = L.gives Env env
       bind_params_same (p ∷ ps) (v ∷ vs) env = binds (L.spends 1) λ _. binds (L.news v) λ place. bind_params_same ps vs _
       bind_params_same _ _ env = L.overs Env _
@@ -233,7 +243,8 @@ module _ (Action Action' : Type 0 → Type 0) (M : Actions Action) (M' : Actions
       run_same (repeat_while test body env) = while_loop_same _ _ _ _ _ (eval_same test env) (eval_same body env)
       run_same (repeat_for place high body env) = for_loop_same place high _ _ _ (eval_same body env)
 
-      pub run_program_same : (body : Exp) (entries : List Entry) → R Value (E.run_program Action M after body entries) (E.run_program Action' M' after' body entries)
+      pub run_program_same : (body : Exp) (entries : List Entry) →
+          R Value (E.run_program Action M after body entries) (E.run_program Action' M' after' body entries)
       run_program_same body entries = binds (L.weighs _) λ _. L.bodies _ _ (eval_same body _)
 
     -- where a unit of fuel keeps the relation too

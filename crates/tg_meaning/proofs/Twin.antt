@@ -1,5 +1,6 @@
 -- Evaluation by results and evaluation that passes along what comes next have one outcome.
-use Rattle.std.proofs.Common.{◌≡◌, ℕ, zero, suc, ◌+◌, max, List, [], ◌++◌, Option, Some, None, Bool, true, false, nat_lt, refl, sym, ap, ap₂, ◌∙◌, append_assoc, arith}
+use Rattle.std.proofs.Common.{◌≡◌, ℕ, zero, suc, ◌+◌, max, List, [], ◌++◌, Option, Some, None, Bool, true, false, nat_lt, refl, sym, ap, ap₂, ◌∙◌, append_assoc}
+use Rattle.std.proofs.Common.{arith}
 use Rattle.std.specs.Prelude.{if◌then◌else◌}
 use Rattle.std.proofs.lemmas.List.{append-nil}
 use Rattle.tg_syntax.specs.Tree.{Exp}
@@ -7,7 +8,8 @@ use Rattle.tg_runs.specs.Outcomes.{End, ended, stuck, Outcome, first_written, wr
 use Rattle.tg_meaning.specs.Values.{Value, normal, by_heap, add_heap, Ending}
 use Rattle.tg_meaning.specs.Environments.{outermost}
 use Rattle.tg_meaning.specs.Evaluation.{program}
-use Rattle.tg_meaning.specs.Direct.{Trace, State, Result, gives, breaks, is_over, Direct, after, after_body, returned, fuelled, found, changed, first_past, past_limit, direct, begin, told, outcome, evaluate}
+use Rattle.tg_meaning.specs.Direct.{Trace, State, Result, gives, breaks, is_over, Direct, after, after_body, returned, fuelled, found, changed, first_past}
+use Rattle.tg_meaning.specs.Direct.{past_limit, direct, begin, told, outcome, evaluate}
 use Rattle.tg_meaning.specs.Passing.{Rest, Passing, over_in, ends, with_turn, with_found, passing, evaluate_passing}
 use Rattle.tg_meaning.proofs.Related.{Related, program_same}
 
@@ -36,12 +38,14 @@ finished (is_over e s) go out = since s.trace (over_in s.world e)
 abbrev Same : (A : Type 0) → Direct A → Passing A → Type 0
 Same A m m' = (go : A → Rest) (out : Rest) (s : State) → finished (m s) go out ≡ since s.trace (m' go out s.world s.fuel)
 
-after_same : {A B : Type 0} (r : Result A) (f : A → Direct B) (f' : A → Passing B) (go : B → Rest) (out : Rest) → ((a : A) → Same B (f a) (f' a)) → finished (after r f) go out ≡ finished r (λ a. f' a go out) out
+after_same : {A B : Type 0} (r : Result A) (f : A → Direct B) (f' : A → Passing B) (go : B → Rest) (out : Rest) → ((a : A) → Same B (f a) (f' a)) →
+    finished (after r f) go out ≡ finished r (λ a. f' a go out) out
 after_same (gives a s) f f' go out h = h a go out s
 after_same (breaks s) f f' go out h = refl
 after_same (is_over e s) f f' go out h = refl
 
-loop_same : (r : Result Value) (k : Direct Value) (k' : Passing Value) (go : Value → Rest) (out : Rest) → Same Value k k' → finished (after_body r k) go out ≡ finished r (λ v. k' go out) (go Value.nothing)
+loop_same : (r : Result Value) (k : Direct Value) (k' : Passing Value) (go : Value → Rest) (out : Rest) → Same Value k k' →
+    finished (after_body r k) go out ≡ finished r (λ v. k' go out) (go Value.nothing)
 loop_same (gives v s) k k' go out h = h go out s
 loop_same (breaks s) k k' go out h = refl
 loop_same (is_over e s) k k' go out h = refl
@@ -55,41 +59,78 @@ found_same : {A : Type 0} (o : Option A) (s : State) (go : A → Rest) (out : Re
 found_same (Some a) s go out = refl
 found_same None s go out = refl
 
-take_same : (full : Bool) (bytes : ℕ) (s : State) (go : Unit {0} → Rest) (out : Rest) → finished (if full then is_over (ended by_heap) s else changed tt (add_heap bytes) s) go out ≡ since s.trace ((if full then ends (ended by_heap) s.world else go tt (add_heap bytes s.world)) s.fuel)
+take_same : (full : Bool) (bytes : ℕ) (s : State) (go : Unit {0} → Rest) (out : Rest) →
+    finished (if full then is_over (ended by_heap) s else changed tt (add_heap bytes) s) go out ≡
+    since s.trace ((if full then ends (ended by_heap) s.world else go tt (add_heap bytes s.world)) s.fuel)
 take_same true bytes s go out = refl
 take_same false bytes s go out = refl
 
-earlier_written : (past : Option (List ℕ)) (output bytes : List ℕ) (later : Option (List ℕ)) → earlier past (output ++ bytes) later ≡ earlier past output (first_written bytes later)
+earlier_written : (past : Option (List ℕ)) (output bytes : List ℕ) (later : Option (List ℕ)) →
+    earlier past (output ++ bytes) later ≡ earlier past output (first_written bytes later)
 earlier_written (Some p) output bytes later = refl
 earlier_written None output bytes None = refl
 earlier_written None output bytes (Some q) = ap Some (append_assoc output bytes q)
 
 write_same : (t : Trace) (bytes : List ℕ) (o : Outcome Ending) → since (record t { output = t.output ++ bytes }) o ≡ since t (writes bytes o)
 write_same t bytes o =
-    ap₂ (λ x y. record { end = o.end; output = x; input = o.input; heap = o.heap; cost = t.cost + o.cost; output_past_limit = y; deepest = max t.deepest o.deepest })
+    ap₂ (λ x y. record {
+      end = o.end;
+      output = x;
+      input = o.input;
+      heap = o.heap;
+      cost = t.cost + o.cost;
+      output_past_limit = y;
+      deepest = max t.deepest o.deepest;
+    })
     (append_assoc t.output bytes o.output) (earlier_written t.output_past_limit t.output bytes o.output_past_limit)
 
 spend_same : (t : Trace) (k : ℕ) (o : Outcome Ending) → since (record t { cost = t.cost + k }) o ≡ since t (costs k o)
 spend_same t k o =
     let e : t.cost + k + o.cost ≡ t.cost + (k + o.cost) = omega arith in
-    ap (λ x. record { end = o.end; output = t.output ++ o.output; input = o.input; heap = o.heap; cost = x; output_past_limit = earlier t.output_past_limit t.output o.output_past_limit; deepest = max t.deepest o.deepest }) e
+    ap (λ x. record {
+      end = o.end;
+      output = t.output ++ o.output;
+      input = o.input;
+      heap = o.heap;
+      cost = x;
+      output_past_limit = earlier t.output_past_limit t.output o.output_past_limit;
+      deepest = max t.deepest o.deepest;
+    }) e
 
 deeper_same : (t : Trace) (d : ℕ) (o : Outcome Ending) → since (record t { deepest = max t.deepest d }) o ≡ since t (reaches d o)
 deeper_same t d o =
     let e : max (max t.deepest d) o.deepest ≡ max t.deepest (max d o.deepest) = omega arith in
-    ap (λ x. record { end = o.end; output = t.output ++ o.output; input = o.input; heap = o.heap; cost = t.cost + o.cost; output_past_limit = earlier t.output_past_limit t.output o.output_past_limit; deepest = x }) e
+    ap (λ x. record {
+      end = o.end;
+      output = t.output ++ o.output;
+      input = o.input;
+      heap = o.heap;
+      cost = t.cost + o.cost;
+      output_past_limit = earlier t.output_past_limit t.output o.output_past_limit;
+      deepest = x;
+    }) e
 
-earlier_past : (past : Option (List ℕ)) (above : Bool) (output : List ℕ) (later : Option (List ℕ)) → earlier (first_past past above output) output later ≡ earlier past output (if above then Some [] else later)
+earlier_past : (past : Option (List ℕ)) (above : Bool) (output : List ℕ) (later : Option (List ℕ)) →
+    earlier (first_past past above output) output later ≡ earlier past output (if above then Some [] else later)
 earlier_past (Some p) above output later = refl
 earlier_past None true output later = ap Some (sym (append-nil output))
 earlier_past None false output later = refl
 
 weigh_same : (t : Trace) (above : Bool) (o : Outcome Ending) → since (past_limit above t) o ≡ since t (passes_limit above o)
 weigh_same t above o =
-    ap (λ x. record { end = o.end; output = t.output ++ o.output; input = o.input; heap = o.heap; cost = t.cost + o.cost; output_past_limit = x; deepest = max t.deepest o.deepest })
+    ap (λ x. record {
+      end = o.end;
+      output = t.output ++ o.output;
+      input = o.input;
+      heap = o.heap;
+      cost = t.cost + o.cost;
+      output_past_limit = x;
+      deepest = max t.deepest o.deepest;
+    })
     (earlier_past t.output_past_limit above t.output o.output_past_limit)
 
-turn_same : (n : ℕ) (s : State) (m : Direct Value) (m' : Passing Value) (go : Value → Rest) (out : Rest) → Same Value m m' → finished (fuelled n s m) go out ≡ since s.trace (with_turn (m' go out) s.world n)
+turn_same : (n : ℕ) (s : State) (m : Direct Value) (m' : Passing Value) (go : Value → Rest) (out : Rest) → Same Value m m' →
+    finished (fuelled n s m) go out ≡ since s.trace (with_turn (m' go out) s.world n)
 turn_same zero s m m' go out h = refl
 turn_same (suc n) s m m' go out h = h go out (record s { fuel = n })
 
@@ -117,7 +158,8 @@ module _ (heap stack : ℕ) where
     ascends = λ go out s. refl;
   }
 
-  pub program_as_passing : (body : Exp) (entries : List _) (n : ℕ) → Same Value (program Direct (direct heap stack) body entries n) (program Passing (passing heap stack) body entries n)
+  pub program_as_passing : (body : Exp) (entries : List _) (n : ℕ) →
+      Same Value (program Direct (direct heap stack) body entries n) (program Passing (passing heap stack) body entries n)
   program_as_passing body entries n =
       program_same Direct Passing (direct heap stack) (passing heap stack) Same all_same (λ m m' g go out s. turn_same s.fuel s m m' go out g) body entries n
 
@@ -129,8 +171,24 @@ told_same : (e : End Ending) (s : State) → told e s ≡ since s.trace (over_in
 told_same e s =
     let c : s.trace.cost ≡ s.trace.cost + 0 = omega arith in
     let d : s.trace.deepest ≡ max s.trace.deepest 0 = omega arith in
-    ap₂ (λ x y. record { end = e; output = x; input = s.world.input; heap = s.world.heap; cost = y; output_past_limit = s.trace.output_past_limit; deepest = s.trace.deepest }) (sym (append-nil s.trace.output)) c ∙
-    ap₂ (λ x y. record { end = e; output = s.trace.output ++ []; input = s.world.input; heap = s.world.heap; cost = s.trace.cost + 0; output_past_limit = x; deepest = y }) (earlier_none s.trace.output_past_limit s.trace.output) d
+    ap₂ (λ x y. record {
+      end = e;
+      output = x;
+      input = s.world.input;
+      heap = s.world.heap;
+      cost = y;
+      output_past_limit = s.trace.output_past_limit;
+      deepest = s.trace.deepest;
+    }) (sym (append-nil s.trace.output)) c ∙
+    ap₂ (λ x y. record {
+      end = e;
+      output = s.trace.output ++ [];
+      input = s.world.input;
+      heap = s.world.heap;
+      cost = s.trace.cost + 0;
+      output_past_limit = x;
+      deepest = y;
+    }) (earlier_none s.trace.output_past_limit s.trace.output) d
 
 outcome_same : (r : Result Value) → outcome r ≡ finished r (λ v. ends (ended normal)) (ends stuck)
 outcome_same (gives v s) = told_same (ended normal) s
@@ -145,10 +203,20 @@ since_start : (o : Outcome Ending) → since (record { output = []; cost = 0; ou
 since_start o =
     let c : 0 + o.cost ≡ o.cost = omega arith in
     let d : max 0 o.deepest ≡ o.deepest = omega arith in
-    ap₂ (λ x y. record { end = o.end; output = o.output; input = o.input; heap = o.heap; cost = x; output_past_limit = first_written [] o.output_past_limit; deepest = y }) c d ∙
-    ap (λ x. record { end = o.end; output = o.output; input = o.input; heap = o.heap; cost = o.cost; output_past_limit = x; deepest = o.deepest }) (first_nothing o.output_past_limit)
+    ap₂ (λ x y. record {
+      end = o.end;
+      output = o.output;
+      input = o.input;
+      heap = o.heap;
+      cost = x;
+      output_past_limit = first_written [] o.output_past_limit;
+      deepest = y;
+    }) c d ∙
+    ap (λ x. record { end = o.end; output = o.output; input = o.input; heap = o.heap; cost = o.cost; output_past_limit = x; deepest = o.deepest })
+    (first_nothing o.output_past_limit)
 
-pub twins : (names : List (List ℕ)) (body : Exp) (input : List ℕ) (heap stack fuel : ℕ) → evaluate names body input heap stack fuel ≡ evaluate_passing names body input heap stack fuel
+pub twins : (names : List (List ℕ)) (body : Exp) (input : List ℕ) (heap stack fuel : ℕ) →
+    evaluate names body input heap stack fuel ≡ evaluate_passing names body input heap stack fuel
 twins names body input heap stack fuel =
     outcome_same (program Direct (direct heap stack) body (outermost names) fuel (begin input fuel)) ∙
     program_as_passing heap stack body (outermost names) fuel (λ v. ends (ended normal)) (ends stuck) (begin input fuel) ∙

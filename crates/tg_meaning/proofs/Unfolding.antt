@@ -21,7 +21,8 @@ found_agree : {A : Type 0} (k : ℕ) (o : Option A) (go go' : A → Rest) → ((
 found_agree k (Some a) go go' h = h a
 found_agree k None go go' h = λ w n le. refl
 
-take_agree : (k : ℕ) (full : Bool) (w w' : World) (go go' : Rest) (n : ℕ) → n ≤ k → Rests k go go' → (if full then ends (ended by_heap) w else go w') n ≡ (if full then ends (ended by_heap) w else go' w') n
+take_agree : (k : ℕ) (full : Bool) (w w' : World) (go go' : Rest) (n : ℕ) → n ≤ k → Rests k go go' →
+    (if full then ends (ended by_heap) w else go w') n ≡ (if full then ends (ended by_heap) w else go' w') n
 take_agree k true w w' go go' n le h = refl
 take_agree k false w w' go go' n le h = h w' n le
 
@@ -32,7 +33,8 @@ module _ (heap stack k : ℕ) where
     binds = λ A B m m' f f' g h go go' out out' hg ho. g (λ a. f a go out) (λ a. f' a go' out') out out' (λ a. h a go go' out out' hg ho) ho;
     breaks = λ A go go' out out' hg ho. ho;
     overs = λ A e go go' out out' hg ho w n le. refl;
-    loops = λ m f m' f' g h go go' out out' hg ho. g (λ v. f go out) (λ v. f' go' out') (go Value.nothing) (go' Value.nothing) (λ v. h go go' out out' hg ho) (hg Value.nothing);
+    loops = λ m f m' f' g h go go' out out' hg ho. g (λ v. f go out) (λ v. f' go' out') (go Value.nothing) (go' Value.nothing) (λ v. h go go' out out' hg ho)
+        (hg Value.nothing);
     bodies = λ m m' g go go' out out' hg ho. g go go' (ends stuck) (ends stuck) hg (λ w n le. refl);
     looks = λ A f go go' out out' hg ho w n le. found_agree k (f w) go go' hg w n le;
     news = λ v go go' out out' hg ho w n le. hg _ _ n le;
@@ -78,11 +80,13 @@ module _ (heap stack : ℕ) where
   same k go a w n le = refl
 
   -- a bound above the fuel gives what stands behind it
-  bound_is_behind : (n : ℕ) (job : Job) (go go' : Value → Rest) (out out' : Rest) (k : ℕ) → suc k ≤ n → ((a : Value) → Rests k (go a) (go' a)) → Rests k out out' → Rests k (at n job go out) (behind heap stack job go' out')
+  bound_is_behind : (n : ℕ) (job : Job) (go go' : Value → Rest) (out out' : Rest) (k : ℕ) → suc k ≤ n → ((a : Value) → Rests k (go a) (go' a)) →
+      Rests k out out' → Rests k (at n job go out) (behind heap stack job go' out')
   bound_is_behind zero job go go' out out' k p hg ho w j le = absurd (omega arith)
   bound_is_behind (suc n) job go go' out out' k p hg ho w j le =
       run_same Passing Passing (passing heap stack) (passing heap stack) (Agree j) (all_agree heap stack j) (at n) (at j)
-      (bounds_agree j n j (omega arith) (omega arith)) job go go' out out' (λ a v i l. hg a v i (le_trans l le)) (λ v i l. ho v i (le_trans l le)) w j (omega arith)
+      (bounds_agree j n j (omega arith) (omega arith)) job go go' out out' (λ a v i l. hg a v i (le_trans l le)) (λ v i l. ho v i (le_trans l le)) w j
+      (omega arith)
 
   turn_behind : (k n : ℕ) (job : Job) → k ≤ n → Agree k Value ((passing heap stack).turn (at n job)) ((passing heap stack).turn (behind heap stack job))
   turn_behind k n job p go go' out out' hg ho w zero le = refl
@@ -97,4 +101,5 @@ fuel_unfolds heap stack job go out w n =
 pub program_unfolds : ProgramUnfolds
 program_unfolds names body input heap stack fuel =
     run_program_same Passing Passing (passing heap stack) (passing heap stack) (Agree fuel) (all_agree heap stack fuel) (at heap stack fuel) (behind heap stack)
-    (λ j. turn_behind heap stack fuel fuel j (omega arith)) body (outermost names) (λ v. ends (ended normal)) (λ v. ends (ended normal)) (ends stuck) (ends stuck) (λ a v i l. refl) (λ v i l. refl) (start input) fuel (omega arith)
+    (λ j. turn_behind heap stack fuel fuel j (omega arith)) body (outermost names) (λ v. ends (ended normal)) (λ v. ends (ended normal)) (ends stuck)
+    (ends stuck) (λ a v i l. refl) (λ v i l. refl) (start input) fuel (omega arith)

@@ -6,7 +6,8 @@ use Rattle.tg_syntax.specs.Tree.{Exp, no_decs}
 use Rattle.tg_runs.specs.Outcomes.{End, ended, out_of_fuel, Outcome}
 use Rattle.tg_meaning.specs.Values.{normal, by_nil, by_index, by_division, by_chr, by_substring, by_size, by_heap, by_overflow, by_exit, Ending}
 use Rattle.tg_meaning.specs.Direct.{evaluate}
-use Rattle.tg_meaning.proofs.Trees.{nil, break, num, text, simple, field, index, read, var, call, neg, ◌+'◌, ◌-'◌, ◌*'◌, ◌/'◌, ◌='◌, ◌<>'◌, ◌<'◌, ◌>'◌, ◌&'◌, set, when, if_else, while, for, seq, array, make, fun, let_var, block, does, on_heap, names}
+use Rattle.tg_meaning.proofs.Trees.{nil, break, num, text, simple, field, index, read, var, call, neg, ◌+'◌, ◌-'◌, ◌*'◌, ◌/'◌, ◌='◌, ◌<>'◌, ◌<'◌, ◌>'◌, ◌&'◌}
+use Rattle.tg_meaning.proofs.Trees.{set, when, if_else, while, for, seq, array, make, fun, let_var, block, does, on_heap, names}
 
 -- print("x")
 abbrev say : String → Exp
@@ -31,7 +32,12 @@ index_of_the_size = refl
 index_below_zero : does (block (let_var "a" (array (num 3) (num 7)) no_decs) (set (index (simple "a") (neg (num 1))) (num 0) ∷ [])) 0 ≡ (ended by_index, [])
 index_below_zero = refl
 
-elements_apart : does (block (let_var "a" (array (num 3) (num 7)) no_decs) (set (index (simple "a") (num 2)) (num 1) ∷ call "exit" (read (index (simple "a") (num 2)) +' read (index (simple "a") (num 0)) ∷ []) ∷ [])) 0 ≡ (ended (by_exit 8), [])
+elements_apart : does (block (let_var "a" (array (num 3) (num 7)) no_decs)
+    (set (index (simple "a") (num 2)) (num 1) ∷ call "exit" (read (index (simple "a") (num 2)) +' read (index (simple "a") (num 0)) ∷ []) ∷ [])) 0 ≡ (
+      ended
+          (by_exit 8),
+      [],
+    )
 elements_apart = refl
 
 -- 1/0
@@ -62,7 +68,8 @@ across_zero : does (for "i" (neg (num 1)) (num 1) (say ".")) 2 ≡ (ended normal
 across_zero = refl
 
 -- let var m:=-2147483647-1 in if m/(-1)=m then print("w") end
-least_by_minus_one : does (block (let_var "m" (neg (num 2147483647) -' num 1) no_decs) (when ((var "m" /' neg (num 1)) =' var "m") (say "w") ∷ [])) 0 ≡ (ended by_overflow, [])
+least_by_minus_one : does (block (let_var "m" (neg (num 2147483647) -' num 1) no_decs) (when ((var "m" /' neg (num 1)) =' var "m") (say "w") ∷ [])) 0 ≡
+    (ended by_overflow, [])
 least_by_minus_one = refl
 
 -- exit(2147483647+1); (print("a"); exit(65536*32768)); exit(-65536*32768); exit(-(-2147483647-1)); exit(1/0+(2147483647+1))
@@ -109,7 +116,9 @@ one_call_too_many : does nested 6 ≡ (out_of_fuel, [])
 one_call_too_many = refl
 
 -- let type r={x:int,y:int} var a:r:=nil in a:=r{x=1,y=2}; print("1"); a:=r{x=3,y=4}; print("2") end, with 8 bytes of heap
-heap_of_one_record : on_heap 8 [] (block (let_var "a" nil no_decs) (set (simple "a") (make (("x", num 1) ∷ ("y", num 2) ∷ [])) ∷ say "1" ∷ set (simple "a") (make (("x", num 3) ∷ ("y", num 4) ∷ [])) ∷ say "2" ∷ [])) 0 ≡ (ended by_heap, codes "1")
+heap_of_one_record : on_heap 8 [] (block (let_var "a" nil no_decs)
+    (set (simple "a") (make (("x", num 1) ∷ ("y", num 2) ∷ [])) ∷ say "1" ∷ set (simple "a") (make (("x", num 3) ∷ ("y", num 4) ∷ [])) ∷ say "2" ∷ [])) 0 ≡
+    (ended by_heap, codes "1")
 heap_of_one_record = refl
 
 -- let function f()=f() in print("x"); f() end, with 65536 bytes of stack
@@ -129,7 +138,8 @@ without_end = refl
 
 -- let var c:=getchar() in while c<>"" do (print(c); c:=getchar()) end, on the bytes 00 FF 41
 abbrev copy : ℕ → End Ending × List ℕ
-copy heap = on_heap heap (0 ∷ 255 ∷ 65 ∷ []) (block (let_var "c" (call "getchar" []) no_decs) (while (var "c" <>' text "") (seq (call "print" (var "c" ∷ []) ∷ set (simple "c") (call "getchar" []) ∷ [])) ∷ [])) 3
+copy heap = on_heap heap (0 ∷ 255 ∷ 65 ∷ []) (block (let_var "c" (call "getchar" []) no_decs)
+    (while (var "c" <>' text "") (seq (call "print" (var "c" ∷ []) ∷ set (simple "c") (call "getchar" []) ∷ [])) ∷ [])) 3
 
 input_to_output : copy 16777216 ≡ (ended normal, 0 ∷ 255 ∷ 65 ∷ [])
 input_to_output = refl
@@ -143,7 +153,8 @@ inner_else : does (when (num 1) (if_else (num 0) (say "a") (say "b"))) 0 ≡ (en
 inner_else = refl
 
 -- if "ab"<"b" & concat("a","b")="ab" then exit(size(substring("tiger",1,3)))
-strings : does (when ((text "ab" <' text "b") &' (call "concat" (text "a" ∷ text "b" ∷ []) =' text "ab")) (call "exit" (call "size" (call "substring" (text "tiger" ∷ num 1 ∷ num 3 ∷ []) ∷ []) ∷ []))) 0 ≡ (ended (by_exit 3), [])
+strings : does (when ((text "ab" <' text "b") &' (call "concat" (text "a" ∷ text "b" ∷ []) =' text "ab"))
+    (call "exit" (call "size" (call "substring" (text "tiger" ∷ num 1 ∷ num 3 ∷ []) ∷ []) ∷ []))) 0 ≡ (ended (by_exit 3), [])
 strings = refl
 
 -- print(chr(256)); print(substring("abc",2,2)); let type t=array of int var a:=t[0-1] of 0 in end
@@ -161,5 +172,6 @@ break_drops_operands : does (seq (while (num 1) (call "exit" (num 1 +' seq (brea
 break_drops_operands = refl
 
 -- let type r={f:int} var a:=r{f=1} function g():int=(a.f:=5; 10) in exit(a.f+g()) end
-field_before_a_call : does (block (let_var "a" (make (("f", num 1) ∷ [])) (fun "g" [] (seq (set (field (simple "a") "f") (num 5) ∷ num 10 ∷ [])) no_decs)) (call "exit" (read (field (simple "a") "f") +' call "g" [] ∷ []) ∷ [])) 1 ≡ (ended (by_exit 11), [])
+field_before_a_call : does (block (let_var "a" (make (("f", num 1) ∷ [])) (fun "g" [] (seq (set (field (simple "a") "f") (num 5) ∷ num 10 ∷ [])) no_decs))
+    (call "exit" (read (field (simple "a") "f") +' call "g" [] ∷ []) ∷ [])) 1 ≡ (ended (by_exit 11), [])
 field_before_a_call = refl

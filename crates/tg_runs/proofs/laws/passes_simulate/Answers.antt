@@ -1,4 +1,5 @@
-use Rattle.tg_runs.proofs.Simulations.{simulation_preserves, simulates_stopping, simulates_writing, simulates_turn, simulates_turn_behind, simulates_paying, simulates_working, simulates_wrong, simulates_less, simulates_with_credit, simulates_along, simulates_coming}
+use Rattle.tg_runs.proofs.Simulations.{simulation_preserves, simulates_stopping, simulates_writing, simulates_turn, simulates_turn_behind, simulates_paying}
+use Rattle.tg_runs.proofs.Simulations.{simulates_working, simulates_wrong, simulates_less, simulates_with_credit, simulates_along, simulates_coming}
 use Rattle.tg_runs.proofs.laws.passes_simulate.Goals as goal
 
 pub returns-clause-preserves : goal.returns-clause-preserves

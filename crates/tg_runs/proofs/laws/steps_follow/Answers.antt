@@ -1,4 +1,5 @@
-use Rattle.tg_runs.proofs.Following.{follows_writing, follows_paying, follows_working, follows_passing, follows_reaching, follows_full, follows_turn, follows_turn_of_code, follows_stuck, follows_less, follows_with_credit, follows_along}
+use Rattle.tg_runs.proofs.Following.{follows_writing, follows_paying, follows_working, follows_passing, follows_reaching, follows_full, follows_turn}
+use Rattle.tg_runs.proofs.Following.{follows_turn_of_code, follows_stuck, follows_less, follows_with_credit, follows_along}
 use Rattle.tg_runs.proofs.Simulations.{follows_coming}
 use Rattle.tg_runs.proofs.laws.steps_follow.Goals as goal
 
