@@ -1,0 +1,164 @@
+use std::alloc::{AllocError, Global};
+use std::collections::BTreeMap;
+use std::process::Abort;
+use std::test::Fail;
+use tg_base::{ListSource, MapShelf, RoomSink};
+use tg_driver::tiger;
+
+/// What a call is made on: the text of the one file FILE, the room of the output, and the calls
+/// that fail.
+///
+/// The input is `xyz`.
+#[derive(Clone, Copy)]
+pub(crate) struct Outside<'a> {
+    pub(crate) text: &'a [u8],
+    pub(crate) room: usize,
+    pub(crate) shelf_fails: &'a [u64],
+    pub(crate) read_fails: &'a [u64],
+    pub(crate) err_fails: &'a [u64],
+}
+
+impl<'a> Outside<'a> {
+    /// Nothing fails, and the output has a room of 64 bytes.
+    pub(crate) fn of(text: &'a [u8]) -> Outside<'a> {
+        Outside {
+            text,
+            room: 64,
+            shelf_fails: &[],
+            read_fails: &[],
+            err_fails: &[],
+        }
+    }
+}
+
+/// What a call left: the status, the bytes of the sinks, and the counts of calls and faults.
+#[derive(Drop)]
+pub(crate) struct Seen {
+    pub(crate) status: u8,
+    pub(crate) error: Vec<u8>,
+    pub(crate) out: Vec<u8>,
+    pub(crate) files_asked: u64,
+    pub(crate) files_failed: u64,
+    pub(crate) reads: u64,
+    pub(crate) writes: u64,
+    pub(crate) lines_failed: u64,
+}
+
+/// The words of a line, with a `|` between them.
+pub(crate) fn words_of(alloc: Global, line: &str) -> Result<Vec<String>, AllocError> {
+    let mut words = Vec::new(alloc);
+    for word in line.split('|') {
+        words.push(String::from_str(alloc, word)?)?;
+    }
+    Ok(words)
+}
+
+fn sink(alloc: Global, room: usize, fails: &[u64]) -> Result<RoomSink, Fail> {
+    match RoomSink::new(alloc, room, fails.to_vec(alloc)?) {
+        Ok(sink) => Ok(sink),
+        Err(_) => Err(Fail::from("no memory")),
+    }
+}
+
+/// The program on the words of a line.
+pub(crate) fn call(alloc: Global, line: &str, outside: Outside) -> Result<Seen, Fail> {
+    let mut files = BTreeMap::new(alloc);
+    files.insert(
+        String::from_str(alloc, "FILE")?,
+        outside.text.to_vec(alloc)?,
+    )?;
+    let mut shelf = MapShelf::new(files, outside.shelf_fails.to_vec(alloc)?);
+    let mut input = ListSource::new(
+        b"xyz".as_slice().to_vec(alloc)?,
+        outside.read_fails.to_vec(alloc)?,
+    );
+    let mut out = sink(alloc, outside.room, &[])?;
+    let mut err = sink(alloc, 128, outside.err_fails)?;
+    let words = words_of(alloc, line)?;
+    let status = tiger(alloc, &words, &mut shelf, &mut input, &mut out, &mut err);
+    Ok(Seen {
+        status,
+        error: err.taken().to_vec(alloc)?,
+        out: out.taken().to_vec(alloc)?,
+        files_asked: shelf.calls(),
+        files_failed: shelf.faults(),
+        reads: input.calls(),
+        writes: out.calls(),
+        lines_failed: err.faults(),
+    })
+}
+
+/// The status that a row begins with, and what stands behind the blank.
+pub(crate) fn status_of(row: &str) -> Result<(u8, &str), Fail> {
+    let Some((status, rest)) = row.split_once(' ') else {
+        return Err(Fail::from("no status"));
+    };
+    Ok((status.parse::<u8>().ok().ok_or("no number")?, rest))
+}
+
+/// The parts of a row before its first `|` and behind it.
+pub(crate) fn parts_of(row: &str) -> Result<(&str, &str), Fail> {
+    let Some(parts) = row.split_once('|') else {
+        return Err(Fail::from("a row"));
+    };
+    Ok(parts)
+}
+
+/// A call asks for one file, and has this status, this line on the error sink and this output.
+pub(crate) fn is_answered(
+    rt: &impl Abort,
+    alloc: Global,
+    seen: &Seen,
+    status: u8,
+    line: &str,
+    out: &str,
+) -> Result<(), Fail> {
+    let want = if line.is_empty() {
+        String::new(alloc)
+    } else {
+        format!(in alloc; "tiger: {line}\n")?
+    };
+    assert_eq!(rt; seen.status, status, "{line}");
+    assert_eq!(rt; seen.error.as_slice(), want.as_bytes(), "{line}");
+    assert_eq!(rt; seen.out.as_slice(), out.as_bytes(), "{line}");
+    assert_eq!(rt; seen.files_asked, 1, "{line}");
+    Ok(())
+}
+
+/// A line of words has this status and this line for a text, and leaves input and output alone.
+pub(crate) fn answers(
+    rt: &impl Abort,
+    alloc: Global,
+    words: &str,
+    text: &[u8],
+    status: u8,
+    line: &str,
+) -> Result<(), Fail> {
+    let seen = call(alloc, words, Outside::of(text))?;
+    is_answered(rt, alloc, &seen, status, line, "")?;
+    assert_eq!(rt; (seen.reads, seen.writes), (0, 0), "{line}");
+    Ok(())
+}
+
+/// Both modes that read sources refuse the text by this line.
+pub(crate) fn refused(rt: &impl Abort, alloc: Global, text: &[u8], line: &str) -> Result<(), Fail> {
+    answers(rt, alloc, "tiger|check|FILE", text, 65, line)?;
+    answers(rt, alloc, "tiger|run|FILE", text, 65, line)
+}
+
+/// `first`, so many times `more`, and `last`.
+pub(crate) fn repeated(
+    alloc: Global,
+    first: &[u8],
+    more: &[u8],
+    times: usize,
+    last: &[u8],
+) -> Result<Vec<u8>, AllocError> {
+    let mut text = Vec::new(alloc);
+    text.extend_from_slice(first)?;
+    for _ in 0..times {
+        text.extend_from_slice(more)?;
+    }
+    text.extend_from_slice(last)?;
+    Ok(text)
+}

@@ -1,0 +1,17 @@
+//! Tests of the program's top call and of its command line, on objects in memory. Each table stands
+//! beside the test that goes through it; the expected lines and statuses come from the product's
+//! tables.
+#![tactic(auto)]
+
+#[cfg(test)]
+mod calls;
+#[cfg(test)]
+mod faults;
+#[cfg(test)]
+mod programs;
+#[cfg(test)]
+mod runs;
+#[cfg(test)]
+mod texts;
+#[cfg(test)]
+mod words;
