@@ -12,7 +12,7 @@ use Rattle.tg_types.specs.declared.faults.TypeFault.TheVariants.{Bad, Memory}
 use Rattle.tg_types.specs.declared.notes.Note.{Note}
 use Rattle.tg_types.specs.Accepted.{Finding, finding, accepted, at_fault}
 use Rattle.tg_types.specs.Answered.{Accepts, IsAt}
-use Rattle.tg_types.proofs.NeverStuck.{never_stuck}
+use Rattle.tg_types.proofs.NeverStuck.{accepted_never_stuck}
 use Rattle.tg_driver.specs.Meanings.{SourcesAreNeverStuck}
 use Rattle.tg_driver.specs.Readings.{HasNamedTree, IsNamedSource, IsTypeFaultOf}
 
@@ -38,4 +38,4 @@ typed_fault text names program Memory t h = tt
 -- so a source's evaluation is never stuck
 pub sources_are_never_stuck : SourcesAreNeverStuck
 sources_are_never_stuck text names tokens program s input heap stack fuel =
-    never_stuck names program s.notes s.well_typed (begins_apart text names program (record { tokens = tokens; tree = s.tree })) input heap stack fuel
+    accepted_never_stuck names program s.notes s.well_typed (begins_apart text names program (record { tokens = tokens; tree = s.tree })) input heap stack fuel

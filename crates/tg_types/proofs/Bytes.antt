@@ -11,7 +11,7 @@ use Rattle.tg_types.specs.Scopes.{Signature, variable_at, Scope, at_of, binding,
 use Rattle.tg_types.specs.Groups.{declare_types, names_of, with_group as group_scope, add_form, add_forms, function_names, with_functions, with_params}
 use Rattle.tg_types.specs.Typing.{typed, typed_place, typed_last, expect_all, expect_fields, declare, bodies, are_fields, count}
 use Rattle.tg_types.proofs.TypeBytes.{with_form, with_group, bytes_in, bytes_in_place, bytes_in_exps, bytes_in_inits, bytes_in_decs, bytes_in_bodies}
-use Rattle.tg_types.proofs.Has.{AreApart}
+use Rattle.tg_types.specs.Has.{AreApart}
 use Rattle.tg_types.proofs.Inversion.{steps, kept, given, presented, shape_added, expected, expected_int, expected_none, sides, variable_got, callee_got, fields_got, element_got, selected}
 use Rattle.tg_types.proofs.Derived.{both, no_repeats_keep, known_forms_keep, chains_keep, Headed, no_heads, a_head, headed, body_got, assignable_keep, own_got}
 
@@ -27,7 +27,8 @@ still g h e = ap bytes_of (sym e)
 still_shapes : (g h : Noted) → g.shapes ≡ h.shapes → bytes_of h ≡ bytes_of g
 still_shapes g h e = ap keys (sym e)
 
-form_bytes : (scope : Scope) (at : ℕ) (form : Form) (x : Unit {0}) (g h : Noted) → add_form scope at form g ≡ fine x h → bytes_of h ≡ with_form at form (bytes_of g)
+form_bytes : (scope : Scope) (at : ℕ) (form : Form) (x : Unit {0}) (g h : Noted) → add_form scope at form g ≡ fine x h →
+    bytes_of h ≡ with_form at form (bytes_of g)
 form_bytes scope at (Alias y) x g h e = still g h (given _ _ _ _ e).1
 form_bytes scope at (Fields ps) x g h e = ap keys (sym (shape_added _ _ _ _ _ e))
 form_bytes scope at (Array y) x g h e = ap keys (sym (shape_added _ _ _ _ _ e))
@@ -46,7 +47,8 @@ types_bytes ds scope inner g h e =
     let d = steps c.onward in
     let f = given _ _ _ _ d.onward in
     still d.between h f.1 ∙ forms_bytes (group_scope ds ds scope scope) ds d.value c.between d.between d.first ∙
-    ap (λ y. with_group ds y) (still g c.between (no_repeats_keep _ [] (names_of ds) a.value g a.between a.first ∙ known_forms_keep ds ds scope b.value a.between b.between b.first ∙ chains_keep ds ds c.value b.between c.between c.first))
+    ap (λ y. with_group ds y) (still g c.between (no_repeats_keep _ [] (names_of ds) a.value g a.between a.first
+    ∙ known_forms_keep ds ds scope b.value a.between b.between b.first ∙ chains_keep ds ds c.value b.between c.between c.first))
 
 mutual
   pub gathered : (e : Exp) (scope : Scope) (t : Ty) (g h : Noted) → typed e scope g ≡ fine t h → bytes_of h ≡ bytes_in e (bytes_of g)
@@ -105,7 +107,8 @@ mutual
       let i = expected_int _ _ _ _ _ u.first in
       let j = expected _ _ _ _ _ _ w.first in
       still v.between h (j.1 ∙ d.1) ∙ gathered value scope v.value u.between v.between v.first ∙
-      ap (λ y. bytes_in value y) (still r.between u.between i.1 ∙ gathered size scope r.value q.between r.between r.first ∙ ap (λ y. bytes_in size y) (still g q.between (n.1 ∙ f.3)))
+      ap (λ y. bytes_in value y) (still r.between u.between i.1 ∙ gathered size scope r.value q.between r.between r.first ∙ ap (λ y. bytes_in size y)
+      (still g q.between (n.1 ∙ f.3)))
   gathered (Assign s v a) scope t g h e =
       let p = steps e in
       let q = steps p.onward in
@@ -126,7 +129,8 @@ mutual
       let i = expected_int _ _ _ _ _ q.first in
       let k = kept _ _ _ _ _ _ v.first in
       still u.between h (k.1 ∙ d.1) ∙ gathered b scope u.value r.between u.between u.first ∙
-      ap (λ y. bytes_in b y) (gathered a scope r.value q.between r.between r.first ∙ ap (λ y. bytes_in a y) (still p.between q.between i.1 ∙ gathered c scope p.value g p.between p.first))
+      ap (λ y. bytes_in b y) (gathered a scope r.value q.between r.between r.first ∙ ap (λ y. bytes_in a y)
+      (still p.between q.between i.1 ∙ gathered c scope p.value g p.between p.first))
   gathered (When s c a) scope t g h e =
       let p = steps e in
       let q = steps p.onward in
@@ -186,7 +190,8 @@ mutual
       still r.between h (j.1 ∙ d.1) ∙ gathered i scope r.value q.between r.between r.first ∙
       ap (λ y. bytes_in i y) (still p.between q.between k.3 ∙ gathered_place v scope p.value g p.between p.first)
 
-  pub gathered_all : (es : Exps) (ts : List Ty) (scope : Scope) (y : Unit {0}) (g h : Noted) → count es ≡ length ts → expect_all es ts scope g ≡ fine y h → bytes_of h ≡ bytes_in_exps es (bytes_of g)
+  pub gathered_all : (es : Exps) (ts : List Ty) (scope : Scope) (y : Unit {0}) (g h : Noted) → count es ≡ length ts → expect_all es ts scope g ≡ fine y h →
+      bytes_of h ≡ bytes_in_exps es (bytes_of g)
   gathered_all no_exps [] scope y g h c e = still g h (given _ _ _ _ e).1
   gathered_all no_exps (t ∷ ts) scope y g h c e = cc
   gathered_all (exp a rest) [] scope y g h c e = cc
@@ -197,7 +202,8 @@ mutual
       gathered_all rest ts scope y q.between h (let j : count rest ≡ length ts = cc in j) q.onward ∙
       ap (λ z. bytes_in_exps rest z) (still p.between q.between f.1 ∙ gathered a scope p.value g p.between p.first)
 
-  pub gathered_inits : (es : Inits) (fs : List (ℕ × Ty)) (scope : Scope) (y : Unit {0}) (g h : Noted) → are_fields es fs ≡ true → expect_fields es fs scope g ≡ fine y h → bytes_of h ≡ bytes_in_inits es (bytes_of g)
+  pub gathered_inits : (es : Inits) (fs : List (ℕ × Ty)) (scope : Scope) (y : Unit {0}) (g h : Noted) → are_fields es fs ≡ true →
+      expect_fields es fs scope g ≡ fine y h → bytes_of h ≡ bytes_in_inits es (bytes_of g)
   gathered_inits no_inits [] scope y g h c e = still g h (given _ _ _ _ e).1
   gathered_inits no_inits (field ∷ fs) scope y g h c e = cc
   gathered_inits (init f a rest) [] scope y g h c e = cc
@@ -209,7 +215,8 @@ mutual
       gathered_inits rest fs scope y q.between h b.1 q.onward ∙
       ap (λ z. bytes_in_inits rest z) (still p.between q.between w.1 ∙ gathered a scope p.value g p.between p.first)
 
-  pub gathered_last : (u : Ty) (es : Exps) (scope : Scope) (t : Ty) (g h : Noted) → typed_last u es scope g ≡ fine t h → bytes_of h ≡ bytes_in_exps es (bytes_of g)
+  pub gathered_last : (u : Ty) (es : Exps) (scope : Scope) (t : Ty) (g h : Noted) → typed_last u es scope g ≡ fine t h →
+      bytes_of h ≡ bytes_in_exps es (bytes_of g)
   gathered_last u no_exps scope t g h e = still g h (given _ _ _ _ e).1
   gathered_last u (exp a rest) scope t g h e =
       let p = steps e in
@@ -233,7 +240,8 @@ mutual
       let n = presented _ _ _ _ _ _ p.first in
       let f = expected _ _ _ _ _ _ r.first in
       gathered_decs rest (binding y (variable_at (at_of y) p.value false) scope) inner r.between h r.onward ∙
-      ap (λ z. bytes_in_decs rest z) (still q.between r.between f.1 ∙ gathered a scope q.value p.between q.between q.first ∙ ap (λ z. bytes_in a z) (still g p.between n.1))
+      ap (λ z. bytes_in_decs rest z) (still q.between r.between f.1 ∙ gathered a scope q.value p.between q.between q.first ∙ ap (λ z. bytes_in a z)
+      (still g p.between n.1))
   gathered_decs (functions fs rest) scope inner g h e =
       let p = steps e in
       let q = steps p.onward in
@@ -243,7 +251,8 @@ mutual
       ap (λ z. bytes_in_decs rest z) (gathered_bodies fs q.value (in_no_loop (with_functions fs q.value scope)) r.value q.between r.between hd.0 r.first ∙
       ap (λ z. bytes_in_bodies fs z) (still g q.between (no_repeats_keep _ [] (function_names fs) p.value g p.between p.first ∙ hd.1)))
 
-  pub gathered_bodies : (fs : FunDecs) (ss : List Signature) (scope : Scope) (y : Unit {0}) (g h : Noted) → Headed fs ss → bodies fs ss scope g ≡ fine y h → bytes_of h ≡ bytes_in_bodies fs (bytes_of g)
+  pub gathered_bodies : (fs : FunDecs) (ss : List Signature) (scope : Scope) (y : Unit {0}) (g h : Noted) → Headed fs ss → bodies fs ss scope g ≡ fine y h →
+      bytes_of h ≡ bytes_in_bodies fs (bytes_of g)
   gathered_bodies no_functions _ scope y g h no_heads e = still g h (given _ _ _ _ e).1
   gathered_bodies (function f ps r body rest) _ scope y g h (a_head {s = s} {ss = ss} n m hd) e =
       let p = steps e in
@@ -263,5 +272,8 @@ not_among (one ∷ l) x h = by (one.0 == x) refl (not_among l x (λ j lt. h (suc
 
 pub apart_by_keys : (l : List (ℕ × Shape)) → AllPairs (λ a b. a ≢ b) (keys l) → AreApart l
 apart_by_keys [] h = tt
-apart_by_keys (one ∷ l) h =
-    (not_among l one.0 (λ j lt. h zero (suc j) 0 (omega arith) (omega (arith, lt))), apart_by_keys l (λ i j d lt le. h (suc i) (suc j) d (omega (arith, lt)) (omega (arith, le))))
+apart_by_keys (one ∷ l) h = (
+  not_among l one.0 (λ j lt. h zero (suc j) 0 (omega arith) (omega (arith, lt))),
+  apart_by_keys l
+      (λ i j d lt le. h (suc i) (suc j) d (omega (arith, lt)) (omega (arith, le))),
+)

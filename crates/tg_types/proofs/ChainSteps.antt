@@ -34,7 +34,8 @@ pub place_below : (x : ℕ) (ds : List TypeDec) (k : ℕ) → place_in x ds ≡ 
 place_below x [] k h = cc
 place_below x (d ∷ ds) k h = place_below_step (name_of d.name == x) (place_in x ds) (length ds) k (λ j e. place_below x ds j e) h
 
-no_place_step : (b : Bool) (d : TypeDec) (o : Option ℕ) (p : Option TypeDec) → (o ≡ None → p ≡ None) → (if b then Some 0 else option_map suc o) ≡ None → (if b then Some d else p) ≡ None
+no_place_step : (b : Bool) (d : TypeDec) (o : Option ℕ) (p : Option TypeDec) → (o ≡ None → p ≡ None) → (if b then Some 0 else option_map suc o) ≡ None →
+    (if b then Some d else p) ≡ None
 no_place_step true d o p f h = cc
 no_place_step false d None p f h = f refl
 no_place_step false d (Some j) p f h = cc
@@ -51,7 +52,8 @@ pub record StandsAt (ds : List TypeDec) (k : ℕ) (p : Option TypeDec) : Type 0 
 further : (ds : List TypeDec) (d : TypeDec) (j k : ℕ) (p : Option TypeDec) → suc j ≡ k → StandsAt ds j p → StandsAt (d ∷ ds) k p
 further ds d j k p e s = record { declared = s.declared; there = ap (λ i. slice_get (d ∷ ds) i) (sym e) ∙ s.there; is = s.is }
 
-at_place_step : (b : Bool) (d : TypeDec) (ds : List TypeDec) (o : Option ℕ) (p : Option TypeDec) (k : ℕ) → ((j : ℕ) → o ≡ Some j → StandsAt ds j p) → (if b then Some 0 else option_map suc o) ≡ Some k → StandsAt (d ∷ ds) k (if b then Some d else p)
+at_place_step : (b : Bool) (d : TypeDec) (ds : List TypeDec) (o : Option ℕ) (p : Option TypeDec) (k : ℕ) → ((j : ℕ) → o ≡ Some j → StandsAt ds j p) →
+    (if b then Some 0 else option_map suc o) ≡ Some k → StandsAt (d ∷ ds) k (if b then Some d else p)
 at_place_step true d ds o p k f h =
     let e : 0 ≡ k = cc in
     record { declared = d; there = ap (λ i. slice_get (d ∷ ds) i) (sym e); is = refl }
@@ -92,7 +94,8 @@ keeps_one P L f (Outside x) p = p
 keeps_one P L f (EndsAt k) p = p
 keeps_one P L f (Onward k) p = f k p
 
-run_keeps : (P : CodeChain → Type 0) (L : List CodeChain) → ((k : ℕ) → P (Onward k) → P (followed (Onward k) L)) → (n : ℕ) (c : CodeChain) → P c → P (run n L c)
+run_keeps : (P : CodeChain → Type 0) (L : List CodeChain) → ((k : ℕ) → P (Onward k) → P (followed (Onward k) L)) → (n : ℕ) (c : CodeChain) → P c →
+    P (run n L c)
 run_keeps P L f zero c p = p
 run_keeps P L f (suc n) c p = run_keeps P L f n (followed c L) (keeps_one P L f c p)
 
@@ -105,7 +108,8 @@ pub record IsAfter (n : ℕ) (L xs : List CodeChain) : Type 0 where
   pub as_many : length xs ≡ length L
   pub each : (k : ℕ) (d : CodeChain) → k < length L → get_or xs k d ≡ run n L (Onward k)
 
-pub all_after : (P : CodeChain → Type 0) (n : ℕ) (L xs : List CodeChain) → IsAfter n L xs → All P L → ((k : ℕ) → P (Onward k) → k < length L) → ((k : ℕ) → k < length L → P (Onward k)) → All P xs
+pub all_after : (P : CodeChain → Type 0) (n : ℕ) (L xs : List CodeChain) → IsAfter n L xs → All P L → ((k : ℕ) → P (Onward k) → k < length L) →
+    ((k : ℕ) → k < length L → P (Onward k)) → All P xs
 all_after P n L xs s a below onward k d h =
     let l : k < length L = omega (arith, h, s.as_many) in
     subst P (sym (s.each k d l)) (run_keeps P L (λ j p. one_link P L a j (below j p)) n (Onward k) (onward k l))
@@ -119,12 +123,14 @@ followed_after n L xs s (Outside x) h = sym (run_outside n L x)
 followed_after n L xs s (EndsAt k) h = sym (run_ends n L k)
 followed_after n L xs s (Onward k) h = unwrap_or-slice_get xs k (Onward k) ∙ s.each k (Onward k) h
 
-pub composed_after : (a b : ℕ) (L xs ys zs : List CodeChain) → IsAfter a L xs → IsAfter b L ys → All (LeadsWithin (length L)) L → zs ≡ map (λ c. followed c ys) xs → IsAfter (b + a) L zs
+pub composed_after : (a b : ℕ) (L xs ys zs : List CodeChain) → IsAfter a L xs → IsAfter b L ys → All (LeadsWithin (length L)) L →
+    zs ≡ map (λ c. followed c ys) xs → IsAfter (b + a) L zs
 composed_after a b L xs ys zs s t w e = record {
   as_many = ap length e ∙ (length-map xs (λ c. followed c ys) ∙ s.as_many);
   each = λ k d h.
       let l : k < length xs = omega (arith, h, s.as_many) in
-      ap (λ z. get_or z k d) e ∙ (get_or-map (λ c. followed c ys) xs k d d l ∙ (followed_after b L ys t (get_or xs k d) (lead_after a L xs s w k d l) ∙ (ap (λ c. run b L c) (s.each k d h) ∙ sym (run_both b a L (Onward k)))));
+      ap (λ z. get_or z k d) e ∙ (get_or-map (λ c. followed c ys) xs k d d l
+      ∙ (followed_after b L ys t (get_or xs k d) (lead_after a L xs s w k d l) ∙ (ap (λ c. run b L c) (s.each k d h) ∙ sym (run_both b a L (Onward k)))));
 }
 
 pub after_none : (L xs : List CodeChain) → length xs ≡ length L → ((k : ℕ) (d : CodeChain) → k < length L → get_or xs k d ≡ Onward k) → IsAfter 0 L xs
@@ -157,7 +163,8 @@ even_total a b n q total e h =
     let g : (b + b) * q ≡ b * q + b * q = add-mul b b q in
     omega (arith, h, f, g)
 
-pub squares_odd : (L ends links ends' links' : List CodeChain) (count half : ℕ) → Squares L ends links count → count ≡ half + half + 1 → All (LeadsWithin (length L)) L → ends' ≡ map (λ c. followed c links) ends → links' ≡ map (λ c. followed c links) links → Squares L ends' links' half
+pub squares_odd : (L ends links ends' links' : List CodeChain) (count half : ℕ) → Squares L ends links count → count ≡ half + half + 1 →
+    All (LeadsWithin (length L)) L → ends' ≡ map (λ c. followed c links) ends → links' ≡ map (λ c. followed c links) links → Squares L ends' links' half
 squares_odd L ends links ends' links' count half s e w d f = record {
   ends_after = s.links_after + s.ends_after;
   links_after = s.links_after + s.links_after;
@@ -166,7 +173,8 @@ squares_odd L ends links ends' links' count half s e w d f = record {
   links_stand = composed_after s.links_after s.links_after L links links links' s.links_stand s.links_stand w f;
 }
 
-pub squares_even : (L ends links links' : List CodeChain) (count half : ℕ) → Squares L ends links count → count ≡ half + half → All (LeadsWithin (length L)) L → links' ≡ map (λ c. followed c links) links → Squares L ends links' half
+pub squares_even : (L ends links links' : List CodeChain) (count half : ℕ) → Squares L ends links count → count ≡ half + half →
+    All (LeadsWithin (length L)) L → links' ≡ map (λ c. followed c links) links → Squares L ends links' half
 squares_even L ends links links' count half s e w f = record {
   ends_after = s.ends_after;
   links_after = s.links_after + s.links_after;
@@ -186,10 +194,13 @@ squares_end L ends links count s e =
 abbrev pub stand : ℕ → Form → CodeChain
 stand k f = elim f [ Alias _ ↦ Onward k | Fields _ ↦ EndsAt k | Array _ ↦ EndsAt k ]
 
-stand_some : (k : ℕ) (p : Option TypeDec) (d : TypeDec) → p ≡ Some d → (elim p [ Some d ↦ elim d.form [ Alias _ ↦ Onward k | Fields _ ↦ EndsAt k | Array _ ↦ EndsAt k ] | None ↦ Onward k ]) ≡ stand k d.form
-stand_some k p d e = ap (λ (o : Option TypeDec). elim o [ Some d ↦ elim d.form [ Alias _ ↦ Onward k | Fields _ ↦ EndsAt k | Array _ ↦ EndsAt k ] | None ↦ Onward k ]) e
+stand_some : (k : ℕ) (p : Option TypeDec) (d : TypeDec) → p ≡ Some d →
+    (elim p [ Some d ↦ elim d.form [ Alias _ ↦ Onward k | Fields _ ↦ EndsAt k | Array _ ↦ EndsAt k ] | None ↦ Onward k ]) ≡ stand k d.form
+stand_some k p d e =
+    ap (λ (o : Option TypeDec). elim o [ Some d ↦ elim d.form [ Alias _ ↦ Onward k | Fields _ ↦ EndsAt k | Array _ ↦ EndsAt k ] | None ↦ Onward k ]) e
 
-pub started : (ds : List TypeDec) (x : Ident) (k : ℕ) (d : TypeDec) → place_in (name_of x) ds ≡ Some k → slice_get ds k ≡ Some d → start_in ds x ≡ stand k d.form
+pub started : (ds : List TypeDec) (x : Ident) (k : ℕ) (d : TypeDec) → place_in (name_of x) ds ≡ Some k → slice_get ds k ≡ Some d →
+    start_in ds x ≡ stand k d.form
 started ds x k d h e = ap (λ o. start_at x o ds) h ∙ stand_some k (slice_get ds k) d e
 
 pub started_outside : (ds : List TypeDec) (x : Ident) → place_in (name_of x) ds ≡ None → start_in ds x ≡ Outside x
@@ -218,7 +229,8 @@ start_leads_at : (ds : List TypeDec) (x : Ident) (o : Option ℕ) → place_in (
 start_leads_at ds x None e = subst (λ c. LeadsWithin (length ds) c) (sym (started_outside ds x e)) tt
 start_leads_at ds x (Some k) e =
     let s = at_place (name_of x) ds k e in
-    subst (λ c. LeadsWithin (length ds) c) (sym (started ds x k s.declared e s.there)) (stand_leads (length ds) k s.declared.form (place_below (name_of x) ds k e))
+    subst (λ c. LeadsWithin (length ds) c) (sym (started ds x k s.declared e s.there))
+    (stand_leads (length ds) k s.declared.form (place_below (name_of x) ds k e))
 
 start_leads : (ds : List TypeDec) (x : Ident) → LeadsWithin (length ds) (start_in ds x)
 start_leads ds x = start_leads_at ds x (place_in (name_of x) ds) refl
@@ -233,21 +245,25 @@ link_leads whole k (Alias x) = start_leads whole x
 link_leads whole k (Fields _) = tt
 link_leads whole k (Array _) = tt
 
-pub links_within : (n : ℕ) (whole : List TypeDec) (from : ℕ) (ds : List TypeDec) → from + length ds ≤ length whole → TypesWithin n ds → All (ChainWithin n whole) (links_in whole from ds)
+pub links_within : (n : ℕ) (whole : List TypeDec) (from : ℕ) (ds : List TypeDec) → from + length ds ≤ length whole → TypesWithin n ds →
+    All (ChainWithin n whole) (links_in whole from ds)
 links_within n whole from [] l w = All-nil (ChainWithin n whole)
 links_within n whole from (d ∷ ds) l w =
-    All-cons (ChainWithin n whole) (link_at whole from d.form) (links_in whole (suc from) ds) (link_within n whole from d.form (omega (arith, l)) w.1) (links_within n whole (suc from) ds (omega (arith, l)) w.2)
+    All-cons (ChainWithin n whole) (link_at whole from d.form) (links_in whole (suc from) ds) (link_within n whole from d.form (omega (arith, l)) w.1)
+    (links_within n whole (suc from) ds (omega (arith, l)) w.2)
 
 pub links_lead : (whole : List TypeDec) (from : ℕ) (ds : List TypeDec) → All (LeadsWithin (length whole)) (links_in whole from ds)
 links_lead whole from [] = All-nil (LeadsWithin (length whole))
 links_lead whole from (d ∷ ds) =
-    All-cons (LeadsWithin (length whole)) (link_at whole from d.form) (links_in whole (suc from) ds) (link_leads whole from d.form) (links_lead whole (suc from) ds)
+    All-cons (LeadsWithin (length whole)) (link_at whole from d.form) (links_in whole (suc from) ds) (link_leads whole from d.form)
+    (links_lead whole (suc from) ds)
 
 pub links_many : (whole : List TypeDec) (from : ℕ) (ds : List TypeDec) → length (links_in whole from ds) ≡ length ds
 links_many whole from [] = refl
 links_many whole from (d ∷ ds) = ap suc (links_many whole (suc from) ds)
 
-links_at : (whole : List TypeDec) (from : ℕ) (ds : List TypeDec) (k : ℕ) (d : TypeDec) → slice_get ds k ≡ Some d → slice_get (links_in whole from ds) k ≡ Some (link_at whole (from + k) d.form)
+links_at : (whole : List TypeDec) (from : ℕ) (ds : List TypeDec) (k : ℕ) (d : TypeDec) → slice_get ds k ≡ Some d →
+    slice_get (links_in whole from ds) k ≡ Some (link_at whole (from + k) d.form)
 links_at whole from [] k d h = absurd (cc)
 links_at whole from (e ∷ ds) zero d h =
     let i : e ≡ d = cc in
@@ -291,12 +307,15 @@ module _ (ds : List TypeDec) where
   stand_chain n a k d (Fields _) e h = form_ends n k d h
   stand_chain n a k d (Array _) e h = form_ends n k d h
 
-  start_chain_at : (n : ℕ) → Aliases n → (y : Ident) (o : Option ℕ) → place_in (name_of y) ds ≡ o → from_there n (start_in ds y) ≡ chain (suc n) ds (name_of y)
+  start_chain_at : (n : ℕ) → Aliases n → (y : Ident) (o : Option ℕ) → place_in (name_of y) ds ≡ o →
+      from_there n (start_in ds y) ≡ chain (suc n) ds (name_of y)
   start_chain_at n a y None e =
-      ap (λ c. from_there n c) (started_outside ds y e) ∙ (ap (λ c. chain_from ds c) (run_outside n links y) ∙ sym (ap (λ p. link (λ x. chain n ds x) (name_of y) p) (no_place (name_of y) ds e)))
+      ap (λ c. from_there n c) (started_outside ds y e) ∙ (ap (λ c. chain_from ds c) (run_outside n links y) ∙ sym
+      (ap (λ p. link (λ x. chain n ds x) (name_of y) p) (no_place (name_of y) ds e)))
   start_chain_at n a y (Some k) e =
       let s = at_place (name_of y) ds k e in
-      ap (λ c. from_there n c) (started ds y k s.declared e s.there) ∙ (stand_chain n a k s.declared s.declared.form refl s.there ∙ sym (ap (λ p. link (λ x. chain n ds x) (name_of y) p) s.is))
+      ap (λ c. from_there n c) (started ds y k s.declared e s.there)
+      ∙ (stand_chain n a k s.declared s.declared.form refl s.there ∙ sym (ap (λ p. link (λ x. chain n ds x) (name_of y) p) s.is))
 
   start_chain : (n : ℕ) → Aliases n → (y : Ident) → from_there n (start_in ds y) ≡ chain (suc n) ds (name_of y)
   start_chain n a y = start_chain_at n a y (place_in (name_of y) ds) refl
@@ -311,7 +330,8 @@ module _ (ds : List TypeDec) where
   by_form m k d (Fields _) e h = ap (λ c. from_there m c) (followed_at k d h ∙ ap (λ f. link_at ds k f) e) ∙ form_ends m k d h
   by_form m k d (Array _) e h = ap (λ c. from_there m c) (followed_at k d h ∙ ap (λ f. link_at ds k f) e) ∙ form_ends m k d h
 
-  one_chain : (n k : ℕ) (d : TypeDec) → k < n → slice_get ds k ≡ Some d → declared_as (name_of d.name) ds ≡ Some d → from_there n (Onward k) ≡ chain (suc n) ds (name_of d.name)
+  one_chain : (n k : ℕ) (d : TypeDec) → k < n → slice_get ds k ≡ Some d → declared_as (name_of d.name) ds ≡ Some d →
+      from_there n (Onward k) ≡ chain (suc n) ds (name_of d.name)
   one_chain zero k d l h e = absurd (omega (arith, l))
   one_chain (suc m) k d l h e = by_form m k d d.form refl h ∙ sym (ap (λ p. link (λ x. chain (suc m) ds x) (name_of d.name) p) e)
 
@@ -320,18 +340,26 @@ module _ (ds : List TypeDec) where
       let s = at_place (name_of d.name) ds k p in
       s.is ∙ (sym s.there ∙ h)
 
-  at_each : (ends : List CodeChain) → AreDifferent ds → IsAfter (length links) links ends → (k : ℕ) → k < length ds → get_or (map (λ c. chain_from ds c) ends) k endless ≡ get_or (map (λ d. chain_of ds d.name) ds) k endless
+  at_each : (ends : List CodeChain) → AreDifferent ds → IsAfter (length links) links ends → (k : ℕ) → k < length ds →
+      get_or (map (λ c. chain_from ds c) ends) k endless ≡ get_or (map (λ d. chain_of ds d.name) ds) k endless
   at_each ends different s k l =
       let o = there ds k l in
       let many : length links ≡ length ds = links_many ds 0 ds in
       let m : k < length links = omega (arith, l, many) in
-      get_or-map (λ c. chain_from ds c) ends k (Onward k) endless (omega (arith, m, s.as_many)) ∙ (ap (λ c. chain_from ds c) (s.each k (Onward k) m) ∙ (one_chain (length links) k o.0 m o.1 (declared_there k o.0 o.1 (different k o.0 o.1)) ∙ (ap (λ n. chain (suc n) ds (name_of o.0.name)) many ∙ (ap (λ (d : TypeDec). chain_of ds d.name) (sym (get_or_from_slice_get ds k o.0 o.0 o.1)) ∙ sym (get_or-map (λ (d : TypeDec). chain_of ds d.name) ds k o.0 endless l)))))
+      get_or-map (λ c. chain_from ds c) ends k (Onward k) endless (omega (arith, m, s.as_many))
+      ∙ (ap (λ c. chain_from ds c) (s.each k (Onward k) m)
+      ∙ (one_chain (length links) k o.0 m o.1 (declared_there k o.0 o.1 (different k o.0 o.1))
+      ∙ (ap (λ n. chain (suc n) ds (name_of o.0.name)) many
+      ∙ (ap (λ (d : TypeDec). chain_of ds d.name) (sym (get_or_from_slice_get ds k o.0 o.0 o.1)) ∙ sym
+      (get_or-map (λ (d : TypeDec). chain_of ds d.name) ds k o.0 endless l)))))
 
-  pub chains_are : (ends : List CodeChain) → AreDifferent ds → IsAfter (length links) links ends → map (λ c. chain_from ds c) ends ≡ map (λ d. chain_of ds d.name) ds
+  pub chains_are : (ends : List CodeChain) → AreDifferent ds → IsAfter (length links) links ends →
+      map (λ c. chain_from ds c) ends ≡ map (λ d. chain_of ds d.name) ds
   chains_are ends different s =
       let many : length links ≡ length ds = links_many ds 0 ds in
       let as_many : length ends ≡ length ds = s.as_many ∙ many in
-      ext_get_or endless _ _ (length-map ends (λ c. chain_from ds c) ∙ (as_many ∙ sym (length-map ds (λ (d : TypeDec). chain_of ds d.name)))) (λ k h. at_each ends different s k (omega (arith, h, length-map ends (λ c. chain_from ds c), as_many)))
+      ext_get_or endless _ _ (length-map ends (λ c. chain_from ds c) ∙ (as_many ∙ sym (length-map ds (λ (d : TypeDec). chain_of ds d.name))))
+      (λ k h. at_each ends different s k (omega (arith, h, length-map ends (λ c. chain_from ds c), as_many)))
 
   pub ends_within : (n : ℕ) (ends : List CodeChain) → IsAfter (length links) links ends → All (ChainWithin n ds) links → All (ChainWithin n ds) ends
   ends_within n ends s a =
@@ -342,28 +370,35 @@ pub leads_all : (ds : List TypeDec) (L : List CodeChain) → L ≡ links_in ds 0
 leads_all ds L e =
     subst (λ l. All (LeadsWithin (length l)) l) (sym e) (subst (λ n. All (LeadsWithin n) (links_in ds 0 ds)) (sym (links_many ds 0 ds)) (links_lead ds 0 ds))
 
-may_follow : (n : ℕ) (L xs first second : List CodeChain) → IsAfter n L xs → All (LeadsWithin (length L)) L → first ≡ xs → length second ≡ length L → All (LeadsWithin (length second)) first
-may_follow n L xs first second s w e f = subst (λ l. All (LeadsWithin (length second)) l) (sym e) (subst (λ k. All (LeadsWithin k) xs) (sym f) (lead_after n L xs s w))
+may_follow : (n : ℕ) (L xs first second : List CodeChain) → IsAfter n L xs → All (LeadsWithin (length L)) L → first ≡ xs → length second ≡ length L →
+    All (LeadsWithin (length second)) first
+may_follow n L xs first second s w e f =
+    subst (λ l. All (LeadsWithin (length second)) l) (sym e) (subst (λ k. All (LeadsWithin k) xs) (sym f) (lead_after n L xs s w))
 
-pub may_multiply : (L ends links first second : List CodeChain) (count : ℕ) → Squares L ends links count → All (LeadsWithin (length L)) L → first ≡ ends → second ≡ links → All (LeadsWithin (length second)) first
+pub may_multiply : (L ends links first second : List CodeChain) (count : ℕ) → Squares L ends links count → All (LeadsWithin (length L)) L → first ≡ ends →
+    second ≡ links → All (LeadsWithin (length second)) first
 may_multiply L ends ls first second count s w e f = may_follow s.ends_after L ends first second s.ends_stand w e (ap length f ∙ s.links_stand.as_many)
 
-pub may_square : (L ends links first second : List CodeChain) (count : ℕ) → Squares L ends links count → All (LeadsWithin (length L)) L → first ≡ links → second ≡ links → All (LeadsWithin (length second)) first
+pub may_square : (L ends links first second : List CodeChain) (count : ℕ) → Squares L ends links count → All (LeadsWithin (length L)) L → first ≡ links →
+    second ≡ links → All (LeadsWithin (length second)) first
 may_square L ends links first second count s w e f = may_follow s.links_after L links first second s.links_stand w e (ap length f ∙ s.links_stand.as_many)
 
 -- where a list is composed with another
 pub composed_is : (first second a b zs : List CodeChain) → first ≡ a → second ≡ b → zs ≡ map (λ c. followed c second) first → zs ≡ map (λ c. followed c b) a
 composed_is first second a b zs e f h = h ∙ (ap (λ x. map (λ c. followed c second) x) e ∙ ap (λ y. map (λ c. followed c y) a) f)
 
-pub squares_final : (ds : List TypeDec) (L ends links : List CodeChain) (count : ℕ) → L ≡ links_in ds 0 ds → Squares L ends links count → count ≤ 0 → IsAfter (length (links_in ds 0 ds)) (links_in ds 0 ds) ends
+pub squares_final : (ds : List TypeDec) (L ends links : List CodeChain) (count : ℕ) → L ≡ links_in ds 0 ds → Squares L ends links count → count ≤ 0 →
+    IsAfter (length (links_in ds 0 ds)) (links_in ds 0 ds) ends
 squares_final ds L ends links count e s l = subst (λ x. IsAfter (length x) x ends) e (squares_end L ends links count s (omega (arith, l)))
 
 -- ---- from the code's declarations
 
-pub there_plain : (group : List CodeTypeDec) (k : ℕ) (d : CodeTypeDec) → k < length group → d ≡ get_or group k d → slice_get (map plain_type group) k ≡ Some (plain_type d)
+pub there_plain : (group : List CodeTypeDec) (k : ℕ) (d : CodeTypeDec) → k < length group → d ≡ get_or group k d →
+    slice_get (map plain_type group) k ≡ Some (plain_type d)
 there_plain group k d l e = slice_get-map plain_type group k ∙ ap (λ o. option_map plain_type o) (slice_get_read group (length group) k d refl l e)
 
-pub started_here : (group : List CodeTypeDec) (x : Ident) (k : ℕ) (d : CodeTypeDec) → place_in (name_of x) (map plain_type group) ≡ Some k → d ≡ get_or group k d → start_in (map plain_type group) x ≡ stand k (plain_form d.form)
+pub started_here : (group : List CodeTypeDec) (x : Ident) (k : ℕ) (d : CodeTypeDec) → place_in (name_of x) (map plain_type group) ≡ Some k →
+    d ≡ get_or group k d → start_in (map plain_type group) x ≡ stand k (plain_form d.form)
 started_here group x k d h e =
     let l : k < length group = omega (arith, place_below (name_of x) (map plain_type group) k h, length-map group plain_type) in
     started (map plain_type group) x k (plain_type d) h (there_plain group k d l e)
@@ -379,18 +414,24 @@ link_ends whole k (FieldsOf ps) n = refl
 link_ends whole k (ArrayOf x) n = refl
 
 -- one more link
-pub links_more : (whole : List TypeDec) (group : List CodeTypeDec) (links rest : List CodeChain) (k : ℕ) (d : CodeTypeDec) (c : CodeChain) → k < length group → d ≡ get_or group k d → c ≡ link_at whole k (plain_form d.form) → links ++ links_in whole k (drop k (map plain_type group)) ≡ rest → (links ++ c ∷ []) ++ links_in whole (k + 1) (drop (k + 1) (map plain_type group)) ≡ rest
+pub links_more : (whole : List TypeDec) (group : List CodeTypeDec) (links rest : List CodeChain) (k : ℕ) (d : CodeTypeDec) (c : CodeChain) →
+    k < length group → d ≡ get_or group k d → c ≡ link_at whole k (plain_form d.form) → links ++ links_in whole k (drop k (map plain_type group)) ≡ rest →
+    (links ++ c ∷ []) ++ links_in whole (k + 1) (drop (k + 1) (map plain_type group)) ≡ rest
 links_more whole group links rest k d c l e i h =
     let n : plain_type d ≡ get_or (map plain_type group) k (plain_type d) = ap plain_type e ∙ sym (get_or-map plain_type group k d (plain_type d) l) in
     let m : k < length (map plain_type group) = omega (arith, l, length-map group plain_type) in
     let j : k + 1 ≡ suc k = omega arith in
-    append_assoc links (c ∷ []) (links_in whole (k + 1) (drop (k + 1) (map plain_type group))) ∙ (ap (λ x. links ++ (x ∷ links_in whole (k + 1) (drop (k + 1) (map plain_type group)))) i ∙ (ap (λ y. links ++ (link_at whole k (plain_form d.form) ∷ links_in whole y (drop (k + 1) (map plain_type group)))) j ∙ (ap (λ t. links ++ links_in whole k t) (sym (from_here (map plain_type group) k (plain_type d) m n)) ∙ h)))
+    append_assoc links (c ∷ []) (links_in whole (k + 1) (drop (k + 1) (map plain_type group)))
+    ∙ (ap (λ x. links ++ (x ∷ links_in whole (k + 1) (drop (k + 1) (map plain_type group)))) i
+    ∙ (ap (λ y. links ++ (link_at whole k (plain_form d.form) ∷ links_in whole y (drop (k + 1) (map plain_type group)))) j
+    ∙ (ap (λ t. links ++ links_in whole k t) (sym (from_here (map plain_type group) k (plain_type d) m n)) ∙ h)))
 
 nil_after : {A : Type 0} (xs : List A) → xs ++ [] ≡ xs
 nil_after [] = refl
 nil_after (x ∷ xs) = ap (λ ys. x ∷ ys) (nil_after xs)
 
-pub links_all : (whole : List TypeDec) (group : List CodeTypeDec) (links rest : List CodeChain) (k : ℕ) → k ≡ length group → links ++ links_in whole k (drop k (map plain_type group)) ≡ rest → links ≡ rest
+pub links_all : (whole : List TypeDec) (group : List CodeTypeDec) (links rest : List CodeChain) (k : ℕ) → k ≡ length group →
+    links ++ links_in whole k (drop k (map plain_type group)) ≡ rest → links ≡ rest
 links_all whole group links rest k e h =
     let m : k ≡ length (map plain_type group) = omega (arith, e, length-map group plain_type) in
     sym (nil_after links) ∙ (ap (λ t. links ++ links_in whole k t) (sym (none_left (map plain_type group) k m)) ∙ h)

@@ -28,7 +28,8 @@ abbrev opened : (names : List (List ℕ)) → List (ℕ × Binding) → List (�
 opened names bs ts = record { bindings = bs ++ standard_bindings 0 names; types = ts ++ standard_types 0 names; in_loop = false }
 
 -- what is typed where nothing is open yet
-pub at_first : (names : List (List ℕ)) (body : Exp) (s : State) (P : Checked Ty → Type 0) → s.bindings ≡ [] → s.types ≡ [] → noted_of s ≡ begin → ((scope : Scope) → scope ≡ scope_of names s false → P (typed body scope (noted_of s))) → P (typed body (outermost names) begin)
+pub at_first : (names : List (List ℕ)) (body : Exp) (s : State) (P : Checked Ty → Type 0) → s.bindings ≡ [] → s.types ≡ [] → noted_of s ≡ begin →
+    ((scope : Scope) → scope ≡ scope_of names s false → P (typed body scope (noted_of s))) → P (typed body (outermost names) begin)
 at_first names body s P b t n given =
     subst (λ g. P (typed body (outermost names) g)) n (given (outermost names) (ap₂ (λ x y. opened names x y) (sym b) (sym t)))
 
@@ -37,19 +38,23 @@ fails : (names : List (List ℕ)) (body : Exp) (e : TypeFault) → Fails e (type
 fails names body _ (bad d) = ap (λ c. finding_of body c) d
 fails names body _ no_memory = tt
 
-found : (names : List (List ℕ)) (body : Exp) (t : Ty) (h : Noted) (o : Option (TypeRule × ℕ)) → typed body (outermost names) begin ≡ fine t h → o ≡ limit_fault body → finding names body ≡ within_limits h.notes o
+found : (names : List (List ℕ)) (body : Exp) (t : Ty) (h : Noted) (o : Option (TypeRule × ℕ)) → typed body (outermost names) begin ≡ fine t h →
+    o ≡ limit_fault body → finding names body ≡ within_limits h.notes o
 found names body t h o e l = ap (λ c. finding_of body c) e ∙ ap (λ x. within_limits h.notes x) (sym l)
 
 never : IsTrue false → ⊥
 never h = cc
 
 -- what a `?` returns
-pub passed : {X : Type 0} (names : List (List ℕ)) (body : Exp) (r : Result X TypeFault) (e : TypeFault) → IsErr r × IsErrAnd r (λ x. x ≡ e) → Fails e (typed body (outermost names) begin) → IfErr r (λ x. IsAt (finding names body) x)
+pub passed : {X : Type 0} (names : List (List ℕ)) (body : Exp) (r : Result X TypeFault) (e : TypeFault) → IsErr r × IsErrAnd r (λ x. x ≡ e) →
+    Fails e (typed body (outermost names) begin) → IfErr r (λ x. IsAt (finding names body) x)
 passed names body (Ok x) e h f = absurd (never h.0)
 passed names body (Err x) e h f = subst (λ y. IsAt (finding names body) y) (sym h.1) (fails names body e f)
 
 -- no fault at all
-pub accepts : (names : List (List ℕ)) (body : Exp) (t : Ty) (h : Noted) (limit : Option Limit) (sorted notes : List Note) → typed body (outermost names) begin ≡ fine t h → limit ≡ None → rule_and_byte limit ≡ limit_fault body → BeginsApart body → IsPermutation h.notes sorted → IsNonDecreasingBy (λ (n : Note). n.at) sorted → notes ≡ sorted → Accepts (finding names body) notes
+pub accepts : (names : List (List ℕ)) (body : Exp) (t : Ty) (h : Noted) (limit : Option Limit) (sorted notes : List Note) →
+    typed body (outermost names) begin ≡ fine t h → limit ≡ None → rule_and_byte limit ≡ limit_fault body → BeginsApart body → IsPermutation h.notes sorted →
+    IsNonDecreasingBy (λ (n : Note). n.at) sorted → notes ≡ sorted → Accepts (finding names body) notes
 accepts names body t h limit sorted notes e n l b p r i =
     let f = found names body t h (rule_and_byte None) e (ap rule_and_byte (sym n) ∙ l) in
     subst (λ ns. Accepts (finding names body) ns) (sym i) (subst (λ f. Accepts f sorted) (sym f) (p, rises body (outermost names) t h sorted b e p r))

@@ -27,7 +27,8 @@ not_record none_type at n e = refl
 not_record (record_type b) at n e = grind arith
 not_record (array_type b) at n e = refl
 
-pub of_shape : (t : Ty) (at byte : ℕ) (o : Option Shape) (n : Noted) → Some byte ≡ record_byte t → o ≡ named byte n.shapes → fields_of t at n ≡ fields_in o at n
+pub of_shape : (t : Ty) (at byte : ℕ) (o : Option Shape) (n : Noted) → Some byte ≡ record_byte t → o ≡ named byte n.shapes →
+    fields_of t at n ≡ fields_in o at n
 unfolding ◌>>=◌ shape_at
 of_shape (record_type b) at byte o n e d =
     let i : byte ≡ b = grind arith in
@@ -62,7 +63,8 @@ not_array none_type at n e = refl
 not_array (record_type b) at n e = refl
 not_array (array_type b) at n e = grind arith
 
-pub of_array : (t : Ty) (at byte : ℕ) (o : Option Shape) (n : Noted) → Some byte ≡ array_byte t → o ≡ named byte n.shapes → element_of t at n ≡ element_in o at n
+pub of_array : (t : Ty) (at byte : ℕ) (o : Option Shape) (n : Noted) → Some byte ≡ array_byte t → o ≡ named byte n.shapes →
+    element_of t at n ≡ element_in o at n
 unfolding ◌>>=◌ shape_at
 of_array (array_type b) at byte o n e d =
     let i : byte ≡ b = grind arith in
@@ -88,7 +90,8 @@ element_not (array_shape u) at n e = grind arith
 element_not (record_shape gs) at n e = refl
 
 -- the place and the type of a field are found apart
-apart : (b : Bool) (from : ℕ) (t : Ty) (p : Option (ℕ × Ty)) (k : Option ℕ) (o : Option Ty) → ((j : ℕ) (u : Ty) → k ≡ Some j → o ≡ Some u → p ≡ Some (j, u)) → (j : ℕ) (u : Ty) → (if b then Some from else k) ≡ Some j → (if b then Some t else o) ≡ Some u → (if b then Some (from, t) else p) ≡ Some (j, u)
+apart : (b : Bool) (from : ℕ) (t : Ty) (p : Option (ℕ × Ty)) (k : Option ℕ) (o : Option Ty) → ((j : ℕ) (u : Ty) → k ≡ Some j → o ≡ Some u → p ≡ Some (j, u)) →
+    (j : ℕ) (u : Ty) → (if b then Some from else k) ≡ Some j → (if b then Some t else o) ≡ Some u → (if b then Some (from, t) else p) ≡ Some (j, u)
 apart true from t p k o f j u h i =
     let x : from ≡ j = grind arith in
     let y : t ≡ u = ap (λ w. elim w [ Some v ↦ v | None ↦ t ]) i in
@@ -97,9 +100,11 @@ apart false from t p k o f j u h i = f j u h i
 
 pub placed_is : (x from : ℕ) (fs : List (ℕ × Ty)) (j : ℕ) (u : Ty) → placed_at x from fs ≡ Some j → named x fs ≡ Some u → placed x from fs ≡ Some (j, u)
 placed_is x from [] j u h i = grind arith
-placed_is x from (f ∷ fs) j u h i = apart (f.0 == x) from f.1 (placed x (suc from) fs) (placed_at x (suc from) fs) (named x fs) (placed_is x (suc from) fs) j u h i
+placed_is x from (f ∷ fs) j u h i =
+    apart (f.0 == x) from f.1 (placed x (suc from) fs) (placed_at x (suc from) fs) (named x fs) (placed_is x (suc from) fs) j u h i
 
-none_apart : (b : Bool) (from : ℕ) (t : Ty) (p : Option (ℕ × Ty)) (k : Option ℕ) → (k ≡ None → p ≡ None) → (if b then Some from else k) ≡ None → (if b then Some (from, t) else p) ≡ None
+none_apart : (b : Bool) (from : ℕ) (t : Ty) (p : Option (ℕ × Ty)) (k : Option ℕ) → (k ≡ None → p ≡ None) → (if b then Some from else k) ≡ None →
+    (if b then Some (from, t) else p) ≡ None
 none_apart true from t p k f h = grind arith
 none_apart false from t p k f h = f h
 
@@ -107,7 +112,8 @@ pub placed_not : (x from : ℕ) (fs : List (ℕ × Ty)) → placed_at x from fs 
 placed_not x from [] h = refl
 placed_not x from (f ∷ fs) h = none_apart (f.0 == x) from f.1 (placed x (suc from) fs) (placed_at x (suc from) fs) (placed_not x (suc from) fs) h
 
-both_none : (b : Bool) (from : ℕ) (t : Ty) (k : Option ℕ) (o : Option Ty) → (o ≡ None → k ≡ None) → (if b then Some t else o) ≡ None → (if b then Some from else k) ≡ None
+both_none : (b : Bool) (from : ℕ) (t : Ty) (k : Option ℕ) (o : Option Ty) → (o ≡ None → k ≡ None) → (if b then Some t else o) ≡ None →
+    (if b then Some from else k) ≡ None
 both_none true from t k o f h = grind arith
 both_none false from t k o f h = f h
 
@@ -151,15 +157,23 @@ pub record FieldsLeft (is : List CodeInit) (fs : List (ℕ × Ty)) (k : ℕ) : T
 pub left_none : (is : List CodeInit) (fs : List (ℕ × Ty)) → length is ≡ length fs → FieldsLeft is fs 0
 left_none is fs e = record { same = e; onward = refl }
 
-pub left_one : (is : List CodeInit) (fs : List (ℕ × Ty)) (k : ℕ) (i : CodeInit) (f : ℕ × Ty) → FieldsLeft is fs k → k < length is → i ≡ get_or is k i → f ≡ get_or fs k f → (name_of i.field == f.0) ≡ true → FieldsLeft is fs (k + 1)
+pub left_one : (is : List CodeInit) (fs : List (ℕ × Ty)) (k : ℕ) (i : CodeInit) (f : ℕ × Ty) → FieldsLeft is fs k → k < length is → i ≡ get_or is k i →
+    f ≡ get_or fs k f → (name_of i.field == f.0) ≡ true → FieldsLeft is fs (k + 1)
 left_one is fs k i f a l d e h = record {
   same = a.same;
-  onward = a.onward ∙ (ap (λ x. are_fields (inits_of x) (drop k fs)) (from_here is k i l d) ∙ (ap (λ y. are_fields (inits_of (i ∷ drop (k + 1) is)) y) (from_here fs k f (omega (arith, l, a.same)) e) ∙ ap (λ b. b && are_fields (inits_of (drop (k + 1) is)) (drop (k + 1) fs)) h));
+  onward =
+      a.onward ∙ (ap (λ x. are_fields (inits_of x) (drop k fs)) (from_here is k i l d)
+      ∙ (ap (λ y. are_fields (inits_of (i ∷ drop (k + 1) is)) y) (from_here fs k f (omega (arith, l, a.same)) e) ∙ ap
+      (λ b. b && are_fields (inits_of (drop (k + 1) is)) (drop (k + 1) fs)) h));
 }
 
-pub left_differs : (is : List CodeInit) (fs : List (ℕ × Ty)) (k : ℕ) (i : CodeInit) (f : ℕ × Ty) → FieldsLeft is fs k → k < length is → i ≡ get_or is k i → f ≡ get_or fs k f → (name_of i.field == f.0) ≡ false → false ≡ are_fields (inits_of is) fs
+pub left_differs : (is : List CodeInit) (fs : List (ℕ × Ty)) (k : ℕ) (i : CodeInit) (f : ℕ × Ty) → FieldsLeft is fs k → k < length is → i ≡ get_or is k i →
+    f ≡ get_or fs k f → (name_of i.field == f.0) ≡ false → false ≡ are_fields (inits_of is) fs
 left_differs is fs k i f a l d e h =
-    sym (a.onward ∙ (ap (λ x. are_fields (inits_of x) (drop k fs)) (from_here is k i l d) ∙ (ap (λ y. are_fields (inits_of (i ∷ drop (k + 1) is)) y) (from_here fs k f (omega (arith, l, a.same)) e) ∙ ap (λ b. b && are_fields (inits_of (drop (k + 1) is)) (drop (k + 1) fs)) h)))
+    sym (a.onward ∙ (ap (λ x. are_fields (inits_of x) (drop k fs)) (from_here is k i l d)
+    ∙ (ap (λ y. are_fields (inits_of (i ∷ drop (k + 1) is)) y) (from_here fs k f (omega (arith, l, a.same)) e) ∙ ap
+    (λ b. b && are_fields (inits_of (drop (k + 1) is)) (drop (k + 1) fs)) h)))
 
 pub left_all : (is : List CodeInit) (fs : List (ℕ × Ty)) (k : ℕ) → FieldsLeft is fs k → k ≡ length is → true ≡ are_fields (inits_of is) fs
-left_all is fs k a e = sym (a.onward ∙ (ap (λ x. are_fields (inits_of x) (drop k fs)) (none_left is k e) ∙ ap (λ y. are_fields no_inits y) (none_left fs k (e ∙ a.same))))
+left_all is fs k a e =
+    sym (a.onward ∙ (ap (λ x. are_fields (inits_of x) (drop k fs)) (none_left is k e) ∙ ap (λ y. are_fields no_inits y) (none_left fs k (e ∙ a.same))))

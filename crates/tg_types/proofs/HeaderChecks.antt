@@ -50,18 +50,25 @@ pub record FreshOn {S : Type 0} (rule : TypeRule) (seen : HashSet ℕ S) (fs : L
 pub fresh_none : {S : Type 0} {rule : TypeRule} {seen : HashSet ℕ S} {fs : List CodeFunDec} → HasNames seen [] → FreshOn rule seen fs 0
 fresh_none h = record { earlier = []; has = h; onward = λ n. refl }
 
-pub fresh_one : {S : Type 0} {rule : TypeRule} {seen : HashSet ℕ S} {next : HashSet ℕ S} {fs : List CodeFunDec} {k : ℕ} (f : CodeFunDec) (a : FreshOn rule seen fs k) → k < length fs → f ≡ get_or fs k f → ((n : Noted) → keep rule f.name.span.from (not (stands_in f.name.name.0 a.earlier)) n ≡ fine tt n) → HasNames next (f.name ∷ a.earlier) → FreshOn rule next fs (k + 1)
+pub fresh_one : {S : Type 0} {rule : TypeRule} {seen : HashSet ℕ S} {next : HashSet ℕ S} {fs : List CodeFunDec} {k : ℕ} (f : CodeFunDec)
+    (a : FreshOn rule seen fs k) → k < length fs → f ≡ get_or fs k f →
+    ((n : Noted) → keep rule f.name.span.from (not (stands_in f.name.name.0 a.earlier)) n ≡ fine tt n) → HasNames next (f.name ∷ a.earlier) →
+    FreshOn rule next fs (k + 1)
 fresh_one {rule = rule} {fs = fs} {k = k} f a l i g h = record {
   earlier = f.name ∷ a.earlier;
   has = h;
   onward = λ n. a.onward n ∙ (ap (λ x. no_repeats rule a.earlier (function_names (functions_of x)) n) (from_here fs k f l i) ∙ step _ _ (g n) refl);
 }
 
-pub fresh_fails : {S : Type 0} {rule : TypeRule} {seen : HashSet ℕ S} {fs : List CodeFunDec} {k : ℕ} (f : CodeFunDec) {e : TypeFault} (a : FreshOn rule seen fs k) → k < length fs → f ≡ get_or fs k f → ((n : Noted) → Fails e (keep rule f.name.span.from (not (stands_in f.name.name.0 a.earlier)) n)) → (n : Noted) → Fails e (no_repeats rule [] (function_names (functions_of fs)) n)
+pub fresh_fails : {S : Type 0} {rule : TypeRule} {seen : HashSet ℕ S} {fs : List CodeFunDec} {k : ℕ} (f : CodeFunDec) {e : TypeFault}
+    (a : FreshOn rule seen fs k) → k < length fs → f ≡ get_or fs k f →
+    ((n : Noted) → Fails e (keep rule f.name.span.from (not (stands_in f.name.name.0 a.earlier)) n)) → (n : Noted) →
+    Fails e (no_repeats rule [] (function_names (functions_of fs)) n)
 fresh_fails {rule = rule} {fs = fs} {k = k} f a l i g n =
     last_fails (a.onward n ∙ ap (λ x. no_repeats rule a.earlier (function_names (functions_of x)) n) (from_here fs k f l i)) (fails_first _ _ (g n))
 
-pub fresh_all : {S : Type 0} {rule : TypeRule} {seen : HashSet ℕ S} {fs : List CodeFunDec} {k : ℕ} → FreshOn rule seen fs k → k ≡ length fs → (n : Noted) → no_repeats rule [] (function_names (functions_of fs)) n ≡ fine tt n
+pub fresh_all : {S : Type 0} {rule : TypeRule} {seen : HashSet ℕ S} {fs : List CodeFunDec} {k : ℕ} → FreshOn rule seen fs k → k ≡ length fs → (n : Noted) →
+    no_repeats rule [] (function_names (functions_of fs)) n ≡ fine tt n
 unfolding give
 fresh_all {rule = rule} {fs = fs} {k = k} a e n = a.onward n ∙ ap (λ x. no_repeats rule a.earlier (function_names (functions_of x)) n) (none_left fs k e)
 
@@ -69,32 +76,50 @@ fresh_all {rule = rule} {fs = fs} {k = k} a e n = a.onward n ∙ ap (λ x. no_re
 pub record TypesOn {S : Type 0} (names : List (List ℕ)) (s : State) (seen : HashSet ℕ S) (ps : List Param) (ts : List Ty) (k : ℕ) : Type 0 where
   pub earlier : List Ident
   pub has : HasNames seen earlier
-  pub gives : (scope : Scope) (in_loop : Bool) → scope ≡ scope_of names s in_loop → (n : Noted) (more : List Ty) → param_types scope earlier (drop k ps) n ≡ fine more n → param_types scope [] ps n ≡ fine (ts ++ more) n
-  pub fails : (scope : Scope) (in_loop : Bool) → scope ≡ scope_of names s in_loop → (n : Noted) (e : TypeFault) → Fails e (param_types scope earlier (drop k ps) n) → Fails e (param_types scope [] ps n)
+  pub gives : (scope : Scope) (in_loop : Bool) → scope ≡ scope_of names s in_loop → (n : Noted) (more : List Ty) →
+      param_types scope earlier (drop k ps) n ≡ fine more n → param_types scope [] ps n ≡ fine (ts ++ more) n
+  pub fails : (scope : Scope) (in_loop : Bool) → scope ≡ scope_of names s in_loop → (n : Noted) (e : TypeFault) →
+      Fails e (param_types scope earlier (drop k ps) n) → Fails e (param_types scope [] ps n)
 
 pub types_none : {S : Type 0} {names : List (List ℕ)} {s : State} {seen : HashSet ℕ S} {ps : List Param} → HasNames seen [] → TypesOn names s seen ps [] 0
 types_none h = record { earlier = []; has = h; gives = λ scope in_loop d n more e. e; fails = λ scope in_loop d n e f. f }
 
-pub types_one : {S : Type 0} {names : List (List ℕ)} {s : State} {seen : HashSet ℕ S} {next : HashSet ℕ S} {ps : List Param} {ts : List Ty} {us : List Ty} {k : ℕ} (p : Param) (t : Ty) (a : TypesOn names s seen ps ts k) → k < length ps → p ≡ get_or ps k p → ((n : Noted) → keep T18 p.name.span.from (not (stands_in p.name.name.0 a.earlier)) n ≡ fine tt n) → ((scope : Scope) (in_loop : Bool) → scope ≡ scope_of names s in_loop → (n : Noted) → type_named p.kind scope n ≡ fine t n) → HasNames next (p.name ∷ a.earlier) → us ≡ ts ++ t ∷ [] → TypesOn names s next ps us (k + 1)
+pub types_one : {S : Type 0} {names : List (List ℕ)} {s : State} {seen : HashSet ℕ S} {next : HashSet ℕ S} {ps : List Param} {ts : List Ty} {us : List Ty}
+    {k : ℕ} (p : Param) (t : Ty) (a : TypesOn names s seen ps ts k) → k < length ps → p ≡ get_or ps k p →
+    ((n : Noted) → keep T18 p.name.span.from (not (stands_in p.name.name.0 a.earlier)) n ≡ fine tt n) →
+    ((scope : Scope) (in_loop : Bool) → scope ≡ scope_of names s in_loop → (n : Noted) → type_named p.kind scope n ≡ fine t n) →
+    HasNames next (p.name ∷ a.earlier) → us ≡ ts ++ t ∷ [] → TypesOn names s next ps us (k + 1)
 types_one {ps = ps} {ts = ts} {k = k} p t a l i g h has u = record {
   earlier = p.name ∷ a.earlier;
   has = has;
   gives = λ scope in_loop d n more e.
-      a.gives scope in_loop d n (t ∷ more) (ap (λ x. param_types scope a.earlier x n) (from_here ps k p l i) ∙ step _ _ (g n) (step _ _ (h scope in_loop d n) (step _ _ e given))) ∙ ap (λ x. fine x n) (sym (append_assoc ts (t ∷ []) more) ∙ ap (λ x. x ++ more) (sym u));
+      a.gives scope in_loop d n (t ∷ more) (ap (λ x. param_types scope a.earlier x n) (from_here ps k p l i) ∙ step _ _ (g n)
+      (step _ _ (h scope in_loop d n) (step _ _ e given))) ∙ ap (λ x. fine x n) (sym (append_assoc ts (t ∷ []) more) ∙ ap (λ x. x ++ more) (sym u));
   fails = λ scope in_loop d n e f.
-      a.fails scope in_loop d n e (last_fails (ap (λ x. param_types scope a.earlier x n) (from_here ps k p l i)) (fails_then _ _ (g n) (fails_then _ _ (h scope in_loop d n) (fails_first _ _ f))));
+      a.fails scope in_loop d n e (last_fails (ap (λ x. param_types scope a.earlier x n) (from_here ps k p l i))
+      (fails_then _ _ (g n) (fails_then _ _ (h scope in_loop d n) (fails_first _ _ f))));
 }
 
 -- a name that is repeated, and a type that isn't known
-pub types_repeat : {S : Type 0} {names : List (List ℕ)} {s : State} {seen : HashSet ℕ S} {ps : List Param} {ts : List Ty} {k : ℕ} (p : Param) {e : TypeFault} (a : TypesOn names s seen ps ts k) → k < length ps → p ≡ get_or ps k p → ((n : Noted) → Fails e (keep T18 p.name.span.from (not (stands_in p.name.name.0 a.earlier)) n)) → (scope : Scope) (in_loop : Bool) → scope ≡ scope_of names s in_loop → (n : Noted) → Fails e (param_types scope [] ps n)
+pub types_repeat : {S : Type 0} {names : List (List ℕ)} {s : State} {seen : HashSet ℕ S} {ps : List Param} {ts : List Ty} {k : ℕ} (p : Param) {e : TypeFault}
+    (a : TypesOn names s seen ps ts k) → k < length ps → p ≡ get_or ps k p →
+    ((n : Noted) → Fails e (keep T18 p.name.span.from (not (stands_in p.name.name.0 a.earlier)) n)) → (scope : Scope) (in_loop : Bool) →
+    scope ≡ scope_of names s in_loop → (n : Noted) → Fails e (param_types scope [] ps n)
 types_repeat {ps = ps} {k = k} p a l i g scope in_loop d n =
     a.fails scope in_loop d n _ (last_fails (ap (λ x. param_types scope a.earlier x n) (from_here ps k p l i)) (fails_first _ _ (g n)))
 
-pub types_unknown : {S : Type 0} {names : List (List ℕ)} {s : State} {seen : HashSet ℕ S} {ps : List Param} {ts : List Ty} {k : ℕ} (p : Param) {e : TypeFault} (a : TypesOn names s seen ps ts k) → k < length ps → p ≡ get_or ps k p → ((n : Noted) → keep T18 p.name.span.from (not (stands_in p.name.name.0 a.earlier)) n ≡ fine tt n) → ((scope : Scope) (in_loop : Bool) → scope ≡ scope_of names s in_loop → (n : Noted) → Fails e (type_named p.kind scope n)) → (scope : Scope) (in_loop : Bool) → scope ≡ scope_of names s in_loop → (n : Noted) → Fails e (param_types scope [] ps n)
+pub types_unknown : {S : Type 0} {names : List (List ℕ)} {s : State} {seen : HashSet ℕ S} {ps : List Param} {ts : List Ty} {k : ℕ} (p : Param) {e : TypeFault}
+    (a : TypesOn names s seen ps ts k) → k < length ps → p ≡ get_or ps k p →
+    ((n : Noted) → keep T18 p.name.span.from (not (stands_in p.name.name.0 a.earlier)) n ≡ fine tt n) →
+    ((scope : Scope) (in_loop : Bool) → scope ≡ scope_of names s in_loop → (n : Noted) → Fails e (type_named p.kind scope n)) →
+    (scope : Scope) (in_loop : Bool) → scope ≡ scope_of names s in_loop → (n : Noted) → Fails e (param_types scope [] ps n)
 types_unknown {ps = ps} {k = k} p a l i g h scope in_loop d n =
-    a.fails scope in_loop d n _ (last_fails (ap (λ x. param_types scope a.earlier x n) (from_here ps k p l i)) (fails_then _ _ (g n) (fails_first _ _ (h scope in_loop d n))))
+    a.fails scope in_loop d n _ (last_fails (ap (λ x. param_types scope a.earlier x n) (from_here ps k p l i))
+    (fails_then _ _ (g n) (fails_first _ _ (h scope in_loop d n))))
 
-pub types_all : {S : Type 0} {names : List (List ℕ)} {s : State} {seen : HashSet ℕ S} {ps : List Param} {ts : List Ty} {k : ℕ} → TypesOn names s seen ps ts k → k ≡ length ps → (scope : Scope) (in_loop : Bool) → scope ≡ scope_of names s in_loop → (n : Noted) → param_types scope [] ps n ≡ fine ts n
+pub types_all : {S : Type 0} {names : List (List ℕ)} {s : State} {seen : HashSet ℕ S} {ps : List Param} {ts : List Ty} {k : ℕ} →
+    TypesOn names s seen ps ts k → k ≡ length ps → (scope : Scope) (in_loop : Bool) → scope ≡ scope_of names s in_loop → (n : Noted) →
+    param_types scope [] ps n ≡ fine ts n
 unfolding give
 types_all {ps = ps} {ts = ts} {k = k} a e scope in_loop d n =
     a.gives scope in_loop d n [] (ap (λ x. param_types scope a.earlier x n) (none_left ps k e)) ∙ ap (λ x. fine x n) (append-nil ts)
@@ -110,47 +135,65 @@ unfolding give
 after_result (fine b n) f g = refl
 after_result (fault rule at) f g = refl
 
-after_params : {A B C D : Type 0} (x : Checked A) (r : Check B) (f : A → B → C) (g : C → Check D) → on_fine x (λ a. r >>= λ b. g (f a b)) ≡ on_fine (on_fine x (λ a. r >>= λ b. give (f a b))) g
+after_params : {A B C D : Type 0} (x : Checked A) (r : Check B) (f : A → B → C) (g : C → Check D) →
+    on_fine x (λ a. r >>= λ b. g (f a b)) ≡ on_fine (on_fine x (λ a. r >>= λ b. give (f a b))) g
 unfolding ◌>>=◌
 after_params (fine a n) r f g = after_result (r n) (f a) g
 after_params (fault rule at) r f g = refl
 
-header_first : (f : Ident) (ps : List Param) (r : Option Ident) (body : Exp) (rest : FunDecs) (scope : Scope) (n : Noted) → headers (function f ps r body rest) scope n ≡ (header_of ps r scope >>= λ s. headers rest scope >>= λ more. give (s ∷ more)) n
+header_first : (f : Ident) (ps : List Param) (r : Option Ident) (body : Exp) (rest : FunDecs) (scope : Scope) (n : Noted) →
+    headers (function f ps r body rest) scope n ≡ (header_of ps r scope >>= λ s. headers rest scope >>= λ more. give (s ∷ more)) n
 unfolding ◌>>=◌
 header_first f ps r body rest scope n =
-    after_params (param_types scope [] ps n) (result_type scope r) (λ ts t. record { params = ts; result = t }) (λ s. headers rest scope >>= λ more. give (s ∷ more))
+    after_params (param_types scope [] ps n) (result_type scope r) (λ ts t. record { params = ts; result = t })
+    (λ s. headers rest scope >>= λ more. give (s ∷ more))
 
 -- headers: what is left, and what it makes of the whole
 pub record HeadersOn (names : List (List ℕ)) (s : State) (fs : List CodeFunDec) (ss : List Signature) (k : ℕ) : Type 0 where
   pub count : k ≡ length ss
-  pub gives : (scope : Scope) (in_loop : Bool) → scope ≡ scope_of names s in_loop → (n : Noted) (more : List Signature) → headers (functions_of (drop k fs)) scope n ≡ fine more n → headers (functions_of fs) scope n ≡ fine (ss ++ more) n
-  pub fails : (scope : Scope) (in_loop : Bool) → scope ≡ scope_of names s in_loop → (n : Noted) (e : TypeFault) → Fails e (headers (functions_of (drop k fs)) scope n) → Fails e (headers (functions_of fs) scope n)
+  pub gives : (scope : Scope) (in_loop : Bool) → scope ≡ scope_of names s in_loop → (n : Noted) (more : List Signature) →
+      headers (functions_of (drop k fs)) scope n ≡ fine more n → headers (functions_of fs) scope n ≡ fine (ss ++ more) n
+  pub fails : (scope : Scope) (in_loop : Bool) → scope ≡ scope_of names s in_loop → (n : Noted) (e : TypeFault) →
+      Fails e (headers (functions_of (drop k fs)) scope n) → Fails e (headers (functions_of fs) scope n)
 
 pub headers_none : {names : List (List ℕ)} {s : State} {fs : List CodeFunDec} → HeadersOn names s fs [] 0
 headers_none = record { count = refl; gives = λ scope in_loop d n more e. e; fails = λ scope in_loop d n e f. f }
 
-pub headers_one : {names : List (List ℕ)} {s : State} {fs : List CodeFunDec} {ss : List Signature} {us : List Signature} {k : ℕ} (f : CodeFunDec) (h : Signature) (a : HeadersOn names s fs ss k) → k < length fs → f ≡ get_or fs k f → ((scope : Scope) (in_loop : Bool) → scope ≡ scope_of names s in_loop → (n : Noted) → header_of f.params f.result scope n ≡ fine h n) → us ≡ ss ++ h ∷ [] → HeadersOn names s fs us (k + 1)
+pub headers_one : {names : List (List ℕ)} {s : State} {fs : List CodeFunDec} {ss : List Signature} {us : List Signature} {k : ℕ} (f : CodeFunDec)
+    (h : Signature) (a : HeadersOn names s fs ss k) → k < length fs → f ≡ get_or fs k f →
+    ((scope : Scope) (in_loop : Bool) → scope ≡ scope_of names s in_loop → (n : Noted) → header_of f.params f.result scope n ≡ fine h n) → us ≡ ss ++ h ∷ [] →
+    HeadersOn names s fs us (k + 1)
 headers_one {fs = fs} {ss = ss} {k = k} f h a l i g u = record {
   count = omega (arith, a.count, ap length u, length-append ss (h ∷ []));
   gives = λ scope in_loop d n more e.
-      a.gives scope in_loop d n (h ∷ more) (ap (λ x. headers (functions_of x) scope n) (from_here fs k f l i) ∙ (header_first f.name f.params f.result (plain f.body) (functions_of (drop (k + 1) fs)) scope n ∙ step _ _ (g scope in_loop d n) (step _ _ e given))) ∙ ap (λ x. fine x n) (sym (append_assoc ss (h ∷ []) more) ∙ ap (λ x. x ++ more) (sym u));
+      a.gives scope in_loop d n (h ∷ more) (ap (λ x. headers (functions_of x) scope n) (from_here fs k f l i)
+      ∙ (header_first f.name f.params f.result (plain f.body) (functions_of (drop (k + 1) fs)) scope n ∙ step _ _ (g scope in_loop d n)
+      (step _ _ e given))) ∙ ap (λ x. fine x n) (sym (append_assoc ss (h ∷ []) more) ∙ ap (λ x. x ++ more) (sym u));
   fails = λ scope in_loop d n e b.
-      a.fails scope in_loop d n e (last_fails (ap (λ x. headers (functions_of x) scope n) (from_here fs k f l i) ∙ header_first f.name f.params f.result (plain f.body) (functions_of (drop (k + 1) fs)) scope n) (fails_then _ _ (g scope in_loop d n) (fails_first _ _ b)));
+      a.fails scope in_loop d n e (last_fails (ap (λ x. headers (functions_of x) scope n) (from_here fs k f l i) ∙ header_first f.name f.params f.result
+      (plain f.body) (functions_of (drop (k + 1) fs)) scope n) (fails_then _ _ (g scope in_loop d n) (fails_first _ _ b)));
 }
 
-pub headers_fail : {names : List (List ℕ)} {s : State} {fs : List CodeFunDec} {ss : List Signature} {k : ℕ} (f : CodeFunDec) {e : TypeFault} (a : HeadersOn names s fs ss k) → k < length fs → f ≡ get_or fs k f → ((scope : Scope) (in_loop : Bool) → scope ≡ scope_of names s in_loop → (n : Noted) → Fails e (header_of f.params f.result scope n)) → (scope : Scope) (in_loop : Bool) → scope ≡ scope_of names s in_loop → (n : Noted) → Fails e (headers (functions_of fs) scope n)
+pub headers_fail : {names : List (List ℕ)} {s : State} {fs : List CodeFunDec} {ss : List Signature} {k : ℕ} (f : CodeFunDec) {e : TypeFault}
+    (a : HeadersOn names s fs ss k) → k < length fs → f ≡ get_or fs k f →
+    ((scope : Scope) (in_loop : Bool) → scope ≡ scope_of names s in_loop → (n : Noted) → Fails e (header_of f.params f.result scope n)) →
+    (scope : Scope) (in_loop : Bool) → scope ≡ scope_of names s in_loop → (n : Noted) → Fails e (headers (functions_of fs) scope n)
 headers_fail {fs = fs} {k = k} f a l i g scope in_loop d n =
-    a.fails scope in_loop d n _ (last_fails (ap (λ x. headers (functions_of x) scope n) (from_here fs k f l i) ∙ header_first f.name f.params f.result (plain f.body) (functions_of (drop (k + 1) fs)) scope n) (fails_first _ _ (g scope in_loop d n)))
+    a.fails scope in_loop d n _ (last_fails (ap (λ x. headers (functions_of x) scope n) (from_here fs k f l i) ∙ header_first f.name f.params f.result
+    (plain f.body) (functions_of (drop (k + 1) fs)) scope n) (fails_first _ _ (g scope in_loop d n)))
 
-pub headers_all : {names : List (List ℕ)} {s : State} {fs : List CodeFunDec} {ss : List Signature} {k : ℕ} → HeadersOn names s fs ss k → k ≡ length fs → (scope : Scope) (in_loop : Bool) → scope ≡ scope_of names s in_loop → (n : Noted) → headers (functions_of fs) scope n ≡ fine ss n
+pub headers_all : {names : List (List ℕ)} {s : State} {fs : List CodeFunDec} {ss : List Signature} {k : ℕ} → HeadersOn names s fs ss k → k ≡ length fs →
+    (scope : Scope) (in_loop : Bool) → scope ≡ scope_of names s in_loop → (n : Noted) → headers (functions_of fs) scope n ≡ fine ss n
 unfolding give
 headers_all {fs = fs} {ss = ss} {k = k} a e scope in_loop d n =
     a.gives scope in_loop d n [] (ap (λ x. headers (functions_of x) scope n) (none_left fs k e)) ∙ ap (λ x. fine x n) (append-nil ss)
 
-headers_within : (n : ℕ) (fs : List CodeFunDec) (k : ℕ) (f : CodeFunDec) → FunctionsWithin n (functions_of fs) → k < length fs → f ≡ get_or fs k f → ParamsWithin n f.params × KindWithin n f.result
+headers_within : (n : ℕ) (fs : List CodeFunDec) (k : ℕ) (f : CodeFunDec) → FunctionsWithin n (functions_of fs) → k < length fs → f ≡ get_or fs k f →
+    ParamsWithin n f.params × KindWithin n f.result
 headers_within n [] k f h l i = absurd (omega (arith, l))
 headers_within n (x ∷ fs) zero f h l i = subst (λ y. ParamsWithin n y.params × KindWithin n y.result) (sym i) (h.1, h.2)
 headers_within n (x ∷ fs) (suc k) f h l i = headers_within n fs k f h.4 (omega (arith, l)) i
 
-pub header_within : (n : ℕ) (fs : CodeFunDecs) (k : ℕ) (f : CodeFunDec) → FunctionsWithin n (plain_functions fs) → k < length (out-FunDecs fs).items.items → f ≡ get_or (out-FunDecs fs).items.items k f → ParamsWithin n f.params × KindWithin n f.result
+pub header_within : (n : ℕ) (fs : CodeFunDecs) (k : ℕ) (f : CodeFunDec) → FunctionsWithin n (plain_functions fs) → k < length (out-FunDecs fs).items.items →
+    f ≡ get_or (out-FunDecs fs).items.items k f → ParamsWithin n f.params × KindWithin n f.result
 header_within n fs k f h l i = headers_within n (out-FunDecs fs).items.items k f (subst (λ x. FunctionsWithin n x) (plain_functions-items fs) h) l i

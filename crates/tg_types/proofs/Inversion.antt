@@ -1,18 +1,23 @@
 -- What checks that came out fine say of their parts.
-use Rattle.std.proofs.Common.{◌≡◌, ℕ, suc, List, [], ◌∷◌, ◌++◌, Option, Some, None, Bool, true, false, refl, sym, ap, ◌∙◌, subst}
+use Rattle.std.proofs.Common.{◌≡◌, ℕ, suc, List, [], ◌∷◌, ◌++◌, Option, Some, None, Bool, true, false, refl, sym, ap, ◌∙◌, subst, arith}
 use Rattle.std.specs.Prelude.{not, ◌||◌, ◌==◌, if◌then◌else◌}
 use Rattle.tg_syntax.specs.declared.tokens.Ident.{Ident}
 use Rattle.tg_syntax.specs.declared.trees.Op.{Op}
 use Rattle.tg_syntax.specs.declared.trees.Op.TheVariants.{Equal, NotEqual, Less, LessEqual, Greater, GreaterEqual}
 use Rattle.tg_types.specs.declared.faults.TypeRule.{TypeRule}
 use Rattle.tg_types.specs.declared.notes.Means.{Means}
+use Rattle.tg_types.specs.declared.notes.Means.TheVariants as means
+use Rattle.tg_types.specs.declared.notes.Note.{Note}
 use Rattle.tg_types.specs.Types.{Ty, int_type, string_type, nil_type, none_type, record_type, array_type, Shape, record_shape, array_shape, are_nil, has_order, same, is_nil_for, fits, alike, joined}
 use Rattle.tg_symbols.specs.Tables.{named}
 use Rattle.tg_types.specs.Checks.{Noted, Checked, fine, fault, Check, on_fine, ◌>>=◌, give, refuse, keep, present, note, shape_at, add_shape}
-use Rattle.tg_types.specs.Scopes.{Signature, Binding, variable_at, function_at, standard_one, name_of}
+use Rattle.tg_types.specs.Scopes.{Signature, Binding, variable_at, function_at, standard_one, name_of, at_of}
 use Rattle.tg_types.specs.Typing.{expect, expect_none, variable_of, function_of, fields_in, fields_of, element_in, element_of, placed, select, compares, ordered, equated, left_side, equal_sides, right_side}
 use Rattle.std.proofs.lemmas.Bool.{eqb-true}
-use Rattle.tg_types.proofs.Has.{Fits, the_same, nil_for, Alike, records, arrays, nil_and, and_nil, Compares, Identifies, Callee, declared, standard}
+use Rattle.std.proofs.lemmas.List.{append-nil}
+use Rattle.std.proofs.lemmas.List.Elements.{Contains-append_right}
+use Rattle.std.specs.List.{Contains}
+use Rattle.tg_types.specs.Has.{Fits, the_same, nil_for, Alike, records, arrays, nil_and, and_nil, Compares, Identifies, Callee, declared, standard, use_of, Says, SaysOf}
 
 -- both steps of two are fine
 pub record Steps {A B : Type 0} (m : Check A) (next : A → Check B) (b : B) (start end : Noted) : Type 0 where
@@ -21,7 +26,8 @@ pub record Steps {A B : Type 0} (m : Check A) (next : A → Check B) (b : B) (st
   pub first : m start ≡ fine value between
   pub onward : next value between ≡ fine b end
 
-steps_of : {A B : Type 0} (m : Check A) (next : A → Check B) (b : B) (start end : Noted) (o : Checked A) → m start ≡ o → on_fine o next ≡ fine b end → Steps m next b start end
+steps_of : {A B : Type 0} (m : Check A) (next : A → Check B) (b : B) (start end : Noted) (o : Checked A) → m start ≡ o → on_fine o next ≡ fine b end →
+    Steps m next b start end
 steps_of m next b start end (fine a noted) is e = record { value = a; between = noted; first = is; onward = e }
 steps_of m next b start end (fault rule at) is e = cc
 
@@ -50,6 +56,14 @@ refused rule at a g h e = cc
 pub after_note : (at : ℕ) (m : Means) (x : Unit {0}) (g h : Noted) → note at m g ≡ fine x h → g.shapes ≡ h.shapes
 unfolding note
 after_note at m x g h e = let k : record g { notes = g.notes ++ record { at = at; means = m } ∷ [] } ≡ h = cc in ap (λ n. n.shapes) k
+
+pub added_note : (at : ℕ) (m : Means) (x : Unit {0}) (g h : Noted) → note at m g ≡ fine x h → h.notes ≡ g.notes ++ record { at = at; means = m } ∷ []
+unfolding note
+added_note at m x g h e = let k : record g { notes = g.notes ++ record { at = at; means = m } ∷ [] } ≡ h = cc in ap (λ n. n.notes) (sym k)
+
+pub shape_notes : (at : ℕ) (s : Shape) (x : Unit {0}) (g h : Noted) → add_shape at s g ≡ fine x h → g.notes ≡ h.notes
+unfolding add_shape
+shape_notes at s x g h e = let k : record g { shapes = (at, s) ∷ g.shapes } ≡ h = cc in ap (λ n. n.notes) k
 
 pub shape_found : (at : ℕ) (o : Option Shape) (g h : Noted) → shape_at at g ≡ fine o h → (named at g.shapes ≡ o) × (g ≡ h)
 unfolding shape_at
@@ -126,7 +140,8 @@ pub data Sides (op : Op) : Ty → Ty → Type 0 where
   both_strings : Compares op → Sides op string_type string_type
   both_same : {t u : Ty} → Identifies op → Alike t u → Sides op t u
 
-alike_sides : (op : Op) → Compares op → Identifies op → (t u : Ty) → not (same t none_type) ≡ true → not (are_nil t u) ≡ true → alike t u ≡ true → Sides op t u
+alike_sides : (op : Op) → Compares op → Identifies op → (t u : Ty) → not (same t none_type) ≡ true → not (are_nil t u) ≡ true → alike t u ≡ true →
+    Sides op t u
 alike_sides op c i int_type int_type n a e = both_ints
 alike_sides op c i string_type string_type n a e = both_strings c
 alike_sides op c i nil_type nil_type n a e = cc
@@ -150,11 +165,35 @@ ordered_pair op c (array_type k) u e f = cc
 compares_shapes : (at : ℕ) (t : Ty) (x : Unit {0}) (g h : Noted) → compares at t g ≡ fine x h → g.shapes ≡ h.shapes
 compares_shapes at t x g h e = after_note _ _ _ _ _ e
 
-abbrev Facts : Op → Ty → Ty → (g g1 g2 h : Noted) → Type 0
-Facts op t u g g1 g2 h = Sides op t u × (g.shapes ≡ g1.shapes) × (g2 ≡ h)
+-- what a comparison of a type is noted as
+abbrev pub compared : Ty → Means
+compared t = if same t string_type then means.Content else means.Number
 
-ordered_sides : (op : Op) → Compares op → (t u left : Ty) (at la ra : ℕ) (x : Unit {0}) (g g1 g2 h : Noted) → ordered t at la g ≡ fine left g1 → expect left u ra g2 ≡ fine x h → Facts op t u g g1 g2 h
-ordered_sides op c t u left at la ra x g g1 g2 h e e' =
+-- all of these are among those
+abbrev pub AreIn : List Note → List Note → Type 0
+AreIn few all = (n : Note) → Contains few n → Contains all n
+
+-- the notes grow by that of an operator
+abbrev pub Notes : Op → (at : ℕ) → Ty → (g h : Noted) → Type 0
+Notes op at t g h = (more : List Note) × (h.notes ≡ g.notes ++ more) × ((ns : List Note) → AreIn h.notes ns → SaysOf ns op at (compared t))
+
+pub last_said : (a : List Note) (n : Note) → Contains (a ++ n ∷ []) n
+last_said a n = Contains-append_right a (n ∷ []) n (0, omega arith, refl)
+
+abbrev Wrap : Op → (at : ℕ) → Ty → Type 0
+Wrap op at t = (ns : List Note) → Says ns at (compared t) → SaysOf ns op at (compared t)
+
+noted_one : (op : Op) (at : ℕ) (t : Ty) (g h : Noted) → Wrap op at t → h.notes ≡ g.notes ++ record { at = at; means = compared t } ∷ [] → Notes op at t g h
+noted_one op at t g h wrap e =
+    let n : Note = record { at = at; means = compared t } in
+    (n ∷ [], e, λ ns c. wrap ns (c n (subst (λ l. Contains l n) (sym e) (last_said g.notes n))))
+
+abbrev Facts : Op → (at : ℕ) → Ty → Ty → (g g1 g2 h : Noted) → Type 0
+Facts op at t u g g1 g2 h = Sides op t u × (g.shapes ≡ g1.shapes) × (g2 ≡ h) × Notes op at t g g1
+
+ordered_sides : (op : Op) → Compares op → (t u left : Ty) (at la ra : ℕ) → Wrap op at t → (x : Unit {0}) (g g1 g2 h : Noted) →
+    ordered t at la g ≡ fine left g1 → expect left u ra g2 ≡ fine x h → Facts op at t u g g1 g2 h
+ordered_sides op c t u left at la ra wrap x g g1 g2 h e e' =
     let p = steps e in
     let q = steps p.onward in
     let r = steps q.onward in
@@ -162,11 +201,18 @@ ordered_sides op c t u left at la ra x g g1 g2 h e e' =
     let o = kept _ _ _ _ _ _ q.first in
     let k = compares_shapes _ _ _ _ _ r.first in
     let l = given _ _ _ _ r.onward in
-    let f = expected left u ra x g2 h e' in
-    (ordered_pair op c t u o.0 (subst (λ y. Fits u y) (sym l.0) f.0), ap (λ y. y.shapes) (n.1 ∙ o.1) ∙ k ∙ ap (λ y. y.shapes) l.1, f.1)
+    let f = expected left u ra x g2 h e' in (
+      ordered_pair op c t u o.0 (subst (λ y. Fits u y) (sym l.0) f.0),
+      ap (λ y. y.shapes) (n.1 ∙ o.1) ∙ k ∙ ap
+          (λ y. y.shapes) l.1,
+      f.1,
+      noted_one op at t g g1 wrap
+          (ap (λ y. y.notes) (sym l.1) ∙ added_note _ _ _ _ _ r.first ∙ ap (λ y. y.notes ++ record { at = at; means = compared t } ∷ []) (sym (n.1 ∙ o.1))),
+    )
 
-equated_sides : (op : Op) → Compares op → Identifies op → (t u left : Ty) (at la ra whole : ℕ) (x : Unit {0}) (g g1 g2 h : Noted) → equated t at la g ≡ fine left g1 → equal_sides left u ra whole g2 ≡ fine x h → Facts op t u g g1 g2 h
-equated_sides op c i t u left at la ra whole x g g1 g2 h e e' =
+equated_sides : (op : Op) → Compares op → Identifies op → (t u left : Ty) (at la ra whole : ℕ) → Wrap op at t → (x : Unit {0}) (g g1 g2 h : Noted) →
+    equated t at la g ≡ fine left g1 → equal_sides left u ra whole g2 ≡ fine x h → Facts op at t u g g1 g2 h
+equated_sides op c i t u left at la ra whole wrap x g g1 g2 h e e' =
     let p = steps e in
     let q = steps p.onward in
     let n = kept _ _ _ _ _ _ p.first in
@@ -176,48 +222,84 @@ equated_sides op c i t u left at la ra whole x g g1 g2 h e e' =
     let b = steps a.onward in
     let m = kept _ _ _ _ _ _ a.first in
     let o = kept _ _ _ _ _ _ b.first in
-    let j = kept _ _ _ _ _ _ b.onward in
-    (alike_sides op c i t u n.0 (subst (λ y. not (are_nil y u) ≡ true) (sym l.0) o.0) (subst (λ y. alike y u ≡ true) (sym l.0) j.0), ap (λ y. y.shapes) n.1 ∙ k ∙ ap (λ y. y.shapes) l.1, m.1 ∙ o.1 ∙ j.1)
+    let j = kept _ _ _ _ _ _ b.onward in (
+      alike_sides op c i t u n.0 (subst (λ y. not (are_nil y u) ≡ true) (sym l.0) o.0) (subst (λ y. alike y u ≡ true) (sym l.0) j.0),
+      ap (λ y. y.shapes) n.1
+          ∙ k ∙ ap (λ y. y.shapes) l.1,
+      m.1 ∙ o.1 ∙ j.1,
+      noted_one op at t g g1 wrap
+          (ap (λ y. y.notes) (sym l.1) ∙ added_note _ _ _ _ _ q.first ∙ ap (λ y. y.notes ++ record { at = at; means = compared t } ∷ []) (sym n.1)),
+    )
 
-arithmetic_sides : (op : Op) (t u left : Ty) (la ra : ℕ) (x : Unit {0}) (g g1 g2 h : Noted) → (expect int_type t la >>= (λ _. give int_type)) g ≡ fine left g1 → expect left u ra g2 ≡ fine x h → Facts op t u g g1 g2 h
-arithmetic_sides op t u left la ra x g g1 g2 h e e' =
+arithmetic_sides : (op : Op) (t u left : Ty) (at la ra : ℕ) → ((ns : List Note) → SaysOf ns op at (compared t)) → (x : Unit {0}) (g g1 g2 h : Noted) →
+    (expect int_type t la >>= (λ _. give int_type)) g ≡ fine left g1 → expect left u ra g2 ≡ fine x h → Facts op at t u g g1 g2 h
+arithmetic_sides op t u left at la ra wrap x g g1 g2 h e e' =
     let p = steps e in
     let n = expected_int _ _ _ _ _ p.first in
     let l = given _ _ _ _ p.onward in
     let f = expected left u ra x g2 h e' in
-    let i : u ≡ int_type = fits_int u (subst (λ y. Fits u y) (sym l.0) f.0) in
-    (subst (λ y. Sides op y u) (sym n.0) (subst (λ y. Sides op int_type y) (sym i) both_ints), ap (λ y. y.shapes) (n.1 ∙ l.1), f.1)
+    let i : u ≡ int_type = fits_int u (subst (λ y. Fits u y) (sym l.0) f.0) in (
+      subst (λ y. Sides op y u) (sym n.0) (subst (λ y. Sides op int_type y) (sym i) both_ints),
+      ap (λ y. y.shapes) (n.1 ∙ l.1),
+      f.1,
+      ([], ap (λ y. y.notes) (sym (n.1 ∙ l.1)) ∙ sym (append-nil g.notes), λ ns c. wrap ns),
+    )
 
-pub sides : (op : Op) (t u left : Ty) (at la ra whole : ℕ) (x : Unit {0}) (g g1 g2 h : Noted) → left_side op t at la g ≡ fine left g1 → right_side op left u ra whole g2 ≡ fine x h → Facts op t u g g1 g2 h
-sides Less t u left at la ra whole x g g1 g2 h e e' = ordered_sides Less (λ a b c. (b, refl)) t u left at la ra x g g1 g2 h e e'
-sides LessEqual t u left at la ra whole x g g1 g2 h e e' = ordered_sides LessEqual (λ a b c. (not c, refl)) t u left at la ra x g g1 g2 h e e'
-sides Greater t u left at la ra whole x g g1 g2 h e e' = ordered_sides Greater (λ a b c. (c, refl)) t u left at la ra x g g1 g2 h e e'
-sides GreaterEqual t u left at la ra whole x g g1 g2 h e e' = ordered_sides GreaterEqual (λ a b c. (not b, refl)) t u left at la ra x g g1 g2 h e e'
-sides Equal t u left at la ra whole x g g1 g2 h e e' = equated_sides Equal (λ a b c. (a, refl)) (λ a. (a, refl)) t u left at la ra whole x g g1 g2 h e e'
-sides NotEqual t u left at la ra whole x g g1 g2 h e e' = equated_sides NotEqual (λ a b c. (not a, refl)) (λ a. (not a, refl)) t u left at la ra whole x g g1 g2 h e e'
-sides op t u left at la ra whole x g g1 g2 h e e' = arithmetic_sides op t u left la ra x g g1 g2 h e e'
+pub sides : (op : Op) (t u left : Ty) (at la ra whole : ℕ) (x : Unit {0}) (g g1 g2 h : Noted) → left_side op t at la g ≡ fine left g1 →
+    right_side op left u ra whole g2 ≡ fine x h → Facts op at t u g g1 g2 h
+sides Less t u left at la ra whole x g g1 g2 h e e' = ordered_sides Less (λ a b c. (b, refl)) t u left at la ra (λ ns s. s) x g g1 g2 h e e'
+sides LessEqual t u left at la ra whole x g g1 g2 h e e' = ordered_sides LessEqual (λ a b c. (not c, refl)) t u left at la ra (λ ns s. s) x g g1 g2 h e e'
+sides Greater t u left at la ra whole x g g1 g2 h e e' = ordered_sides Greater (λ a b c. (c, refl)) t u left at la ra (λ ns s. s) x g g1 g2 h e e'
+sides GreaterEqual t u left at la ra whole x g g1 g2 h e e' =
+    ordered_sides GreaterEqual (λ a b c. (not b, refl)) t u left at la ra (λ ns s. s) x g g1 g2 h e e'
+sides Equal t u left at la ra whole x g g1 g2 h e e' =
+    equated_sides Equal (λ a b c. (a, refl)) (λ a. (a, refl)) t u left at la ra whole (λ ns s. s) x g g1 g2 h e e'
+sides NotEqual t u left at la ra whole x g g1 g2 h e e' =
+    equated_sides NotEqual (λ a b c. (not a, refl)) (λ a. (not a, refl)) t u left at la ra whole (λ ns s. s) x g g1 g2 h e e'
+sides op t u left at la ra whole x g g1 g2 h e e' = arithmetic_sides op t u left at la ra (λ ns. tt) x g g1 g2 h e e'
 
 -- names
-pub variable_got : (x : Ident) (o : Option Binding) (t : Ty) (g h : Noted) → variable_of x o g ≡ fine t h → (at : ℕ) × (loop : Bool) × (o ≡ Some (variable_at at t loop)) × (g.shapes ≡ h.shapes)
+pub variable_got : (x : Ident) (o : Option Binding) (t : Ty) (g h : Noted) → variable_of x o g ≡ fine t h →
+    (at : ℕ) × (loop : Bool) × (o ≡ Some (variable_at at t loop)) × (g.shapes ≡ h.shapes)
+    × (h.notes ≡ g.notes ++ record { at = at_of x; means = means.Variable at } ∷ [])
 variable_got x None t g h e = absurd (refused _ _ _ _ _ e)
 variable_got x (Some (function_at at s)) t g h e = absurd (refused _ _ _ _ _ e)
 variable_got x (Some (standard_one f)) t g h e = absurd (refused _ _ _ _ _ e)
 variable_got x (Some (variable_at at u loop)) t g h e =
     let p = steps e in
-    let q = given _ _ _ _ p.onward in
-    (at, loop, ap (λ y. Some (variable_at at y loop)) q.0, after_note _ _ _ _ _ p.first ∙ ap (λ y. y.shapes) q.1)
+    let q = given _ _ _ _ p.onward in (
+      at,
+      loop,
+      ap (λ y. Some (variable_at at y loop)) q.0,
+      after_note _ _ _ _ _ p.first ∙ ap (λ y. y.shapes) q.1,
+      ap (λ y. y.notes) (sym q.1)
+          ∙ added_note _ _ _ _ _ p.first,
+    )
 
-pub callee_got : (f : Ident) (o : Option Binding) (s : Signature) (g h : Noted) → function_of f o g ≡ fine s h → (b : Binding) × (o ≡ Some b) × Callee b s × (g.shapes ≡ h.shapes)
+pub callee_got : (f : Ident) (o : Option Binding) (s : Signature) (g h : Noted) → function_of f o g ≡ fine s h →
+    (b : Binding) × (o ≡ Some b) × Callee b s × (g.shapes ≡ h.shapes) × (h.notes ≡ g.notes ++ record { at = at_of f; means = use_of b } ∷ [])
 callee_got f None s g h e = absurd (refused _ _ _ _ _ e)
 callee_got f (Some (variable_at at t loop)) s g h e = absurd (refused _ _ _ _ _ e)
 callee_got f (Some (function_at at sig)) s g h e =
     let p = steps e in
-    let q = given _ _ _ _ p.onward in
-    (function_at at sig, refl, subst (λ y. Callee (function_at at sig) y) q.0 declared, after_note _ _ _ _ _ p.first ∙ ap (λ y. y.shapes) q.1)
+    let q = given _ _ _ _ p.onward in (
+      function_at at sig,
+      refl,
+      subst (λ y. Callee (function_at at sig) y) q.0 declared,
+      after_note _ _ _ _ _ p.first ∙ ap (λ y. y.shapes) q.1,
+      ap
+          (λ y. y.notes) (sym q.1) ∙ added_note _ _ _ _ _ p.first,
+    )
 callee_got f (Some (standard_one k)) s g h e =
     let p = steps e in
-    let q = given _ _ _ _ p.onward in
-    (standard_one k, refl, subst (λ y. Callee (standard_one k) y) q.0 (standard k), after_note _ _ _ _ _ p.first ∙ ap (λ y. y.shapes) q.1)
+    let q = given _ _ _ _ p.onward in (
+      standard_one k,
+      refl,
+      subst (λ y. Callee (standard_one k) y) q.0 (standard k),
+      after_note _ _ _ _ _ p.first ∙ ap (λ y. y.shapes) q.1,
+      ap (λ y. y.notes)
+          (sym q.1) ∙ added_note _ _ _ _ _ p.first,
+    )
 
 -- records and arrays
 fields_in_got : (o : Option Shape) (at : ℕ) (fs : List (ℕ × Ty)) (g h : Noted) → fields_in o at g ≡ fine fs h → (o ≡ Some (record_shape fs)) × (g ≡ h)
@@ -225,7 +307,8 @@ fields_in_got None at fs g h e = absurd (refused _ _ _ _ _ e)
 fields_in_got (Some (array_shape t)) at fs g h e = absurd (refused _ _ _ _ _ e)
 fields_in_got (Some (record_shape gs)) at fs g h e = let p = given _ _ _ _ e in (ap (λ y. Some (record_shape y)) p.0, p.1)
 
-pub fields_got : (t : Ty) (at : ℕ) (fs : List (ℕ × Ty)) (g h : Noted) → fields_of t at g ≡ fine fs h → (byte : ℕ) × (t ≡ record_type byte) × (named byte g.shapes ≡ Some (record_shape fs)) × (g ≡ h)
+pub fields_got : (t : Ty) (at : ℕ) (fs : List (ℕ × Ty)) (g h : Noted) → fields_of t at g ≡ fine fs h →
+    (byte : ℕ) × (t ≡ record_type byte) × (named byte g.shapes ≡ Some (record_shape fs)) × (g ≡ h)
 fields_got (record_type byte) at fs g h e =
     let p = steps e in
     let q = shape_found _ _ _ _ p.first in
@@ -242,7 +325,8 @@ element_in_got None at t g h e = absurd (refused _ _ _ _ _ e)
 element_in_got (Some (record_shape fs)) at t g h e = absurd (refused _ _ _ _ _ e)
 element_in_got (Some (array_shape u)) at t g h e = let p = given _ _ _ _ e in (ap (λ y. Some (array_shape y)) p.0, p.1)
 
-pub element_got : (t : Ty) (at : ℕ) (u : Ty) (g h : Noted) → element_of t at g ≡ fine u h → (byte : ℕ) × (t ≡ array_type byte) × (named byte g.shapes ≡ Some (array_shape u)) × (g ≡ h)
+pub element_got : (t : Ty) (at : ℕ) (u : Ty) (g h : Noted) → element_of t at g ≡ fine u h →
+    (byte : ℕ) × (t ≡ array_type byte) × (named byte g.shapes ≡ Some (array_shape u)) × (g ≡ h)
 element_got (array_type byte) at u g h e =
     let p = steps e in
     let q = shape_found _ _ _ _ p.first in
@@ -258,15 +342,25 @@ placed_named : (f from : ℕ) (fs : List (ℕ × Ty)) (found : ℕ × Ty) → pl
 placed_named f from [] found e = cc
 placed_named f from (field ∷ rest) found e = by (field.0 == f) (placed_named f (suc from) rest found) e
   where
-    by : (c : Bool) → (placed f (suc from) rest ≡ Some found → named f rest ≡ Some found.1) → (if c then Some (from, field.1) else placed f (suc from) rest) ≡ Some found → (if c then Some field.1 else named f rest) ≡ Some found.1
+    by : (c : Bool) → (placed f (suc from) rest ≡ Some found → named f rest ≡ Some found.1) →
+        (if c then Some (from, field.1) else placed f (suc from) rest) ≡ Some found → (if c then Some field.1 else named f rest) ≡ Some found.1
     by true r e = let k : (from, field.1) ≡ found = cc in ap (λ y. Some y.1) k
     by false r e = r e
 
-pub selected : (fs : List (ℕ × Ty)) (f : Ident) (t : Ty) (g h : Noted) → select fs f g ≡ fine t h → (named (name_of f) fs ≡ Some t) × (g.shapes ≡ h.shapes)
+pub selected : (fs : List (ℕ × Ty)) (f : Ident) (t : Ty) (g h : Noted) → select fs f g ≡ fine t h →
+    (named (name_of f) fs ≡ Some t) × (g.shapes ≡ h.shapes) × (k : ℕ) × (placed (name_of f) 0 fs ≡ Some (k, t))
+    × (h.notes ≡ g.notes ++ record { at = at_of f; means = means.Field k } ∷ [])
 selected fs f t g h e =
     let p = steps e in
     let q = steps p.onward in
     let a = presented _ _ _ _ _ _ p.first in
     let b = after_note _ _ _ _ _ q.first in
-    let c = given _ _ _ _ q.onward in
-    (placed_named (name_of f) 0 fs p.value a.0 ∙ ap (λ y. Some y) c.0, ap (λ y. y.shapes) a.1 ∙ b ∙ ap (λ y. y.shapes) c.1)
+    let c = given _ _ _ _ q.onward in (
+      placed_named (name_of f) 0 fs p.value a.0 ∙ ap (λ y. Some y) c.0,
+      ap (λ y. y.shapes) a.1 ∙ b ∙ ap (λ y. y.shapes) c.1,
+      p.value.0,
+      a.0 ∙ ap
+          (λ y. Some (p.value.0, y)) c.0,
+      ap (λ y. y.notes) (sym c.1) ∙ added_note _ _ _ _ _ q.first ∙ ap
+          (λ y. y.notes ++ record { at = at_of f; means = means.Field p.value.0 } ∷ []) (sym a.1),
+    )

@@ -6,12 +6,11 @@ pub mod HeaderSteps
 pub mod FieldSteps
 pub mod TreeSteps
 pub mod LimitSteps
-pub mod DeclaredSums
 pub mod LimitFaults
 pub mod Namings
 pub mod Steps
 pub mod TypingExamples
-pub mod Has
+pub mod NotesExamples
 pub mod Worlds
 pub mod Sound
 pub mod SoundDirect
@@ -24,4 +23,6 @@ pub mod FaultBytes
 pub mod NoteBytes
 pub mod Rising
 pub mod CheckSteps
+pub mod Derivations
 pub mod NeverStuck
+pub mod NotesFound

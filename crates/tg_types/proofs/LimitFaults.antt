@@ -1,18 +1,16 @@
 -- The limits of a program, one after another.
 use Rattle.std.specs.Prelude.{Option, Some}
-use Rattle.std.proofs.Common.{◌≡◌, ℕ, ◌+◌, ◌<◌, ◌≤◌, sum_by, refl, sym, ap, ◌∙◌, arith}
+use Rattle.std.proofs.Common.{◌≡◌, ℕ, ◌<◌, ◌≤◌, [], refl, sym, ap, arith}
 use Rattle.tg_base.specs.declared.ids.Span.{Span}
 use Rattle.tg_syntax.specs.declared.trees.Exp.{Exp as CodeExp}
 use Rattle.tg_syntax.specs.declared.trees.Kind.{Kind, Nil, Break, Int, Text, Read, Call, Neg', Binary', Make, Fill', Assign', If', None', Some', While', For', Let', Seq}
 use Rattle.tg_syntax.specs.Plain.{plain, plain_kind}
 use Rattle.tg_syntax.specs.Spans.{span_of}
 use Rattle.tg_syntax.specs.Measures.{size, capped}
-use Rattle.tg_syntax.specs.Functions.{program_size}
-use Rattle.tg_syntax.proofs.FunctionLaws.{program_size_is}
 use Rattle.tg_types.specs.declared.faults.TypeRule.{TypeRule}
 use Rattle.tg_types.specs.declared.faults.TypeRule.TheVariants.{T21, T22}
-use Rattle.tg_types.specs.Limits.{declared, above, first_above, limit_fault}
-use Rattle.tg_types.proofs.DeclaredSums.{inner_is}
+use Rattle.tg_syntax.specs.Functions.{declared, program_size}
+use Rattle.tg_types.specs.Limits.{above, first_above, limit_fault}
 
 kind_span : (k : Kind) (s : Span) → span_of (plain_kind k s) ≡ s
 kind_span Nil s = refl
@@ -46,6 +44,8 @@ capped_over n limit k e h = omega arith
 pub capped_within : (n limit k : ℕ) → k ≡ capped n → k ≤ limit → limit < 4294967295 → n ≤ limit
 capped_within n limit k e h l = omega arith
 
-pub fault_parts : (e : CodeExp) → above T22 e.span.from (program_size (plain e)) 32768 (above T21 e.span.from (size (plain e)) 4096 (first_above (declared 0 (plain e)))) ≡ limit_fault (plain e)
+pub fault_parts : (e : CodeExp) → above T22 e.span.from (program_size (plain e)) 32768
+    (above T21 e.span.from (size (plain e)) 4096 (first_above (declared 0 [] (plain e)))) ≡ limit_fault (plain e)
 fault_parts e =
-    ap (λ k. above T22 e.span.from k 32768 (above T21 e.span.from (size (plain e)) 4096 (first_above (declared 0 (plain e))))) (program_size_is (plain e)) ∙ ap (λ k. above T22 e.span.from (size (plain e) + k) 32768 (above T21 e.span.from (size (plain e)) 4096 (first_above (declared 0 (plain e))))) (inner_is 0 (plain e)) ∙ ap (λ s. above T22 s.from (size (plain e) + sum_by (λ f. f.nodes) (declared 0 (plain e))) 32768 (above T21 s.from (size (plain e)) 4096 (first_above (declared 0 (plain e))))) (sym (kind_span e.kind e.span))
+    ap (λ s. above T22 s.from (program_size (plain e)) 32768 (above T21 s.from (size (plain e)) 4096 (first_above (declared 0 [] (plain e)))))
+    (sym (kind_span e.kind e.span))

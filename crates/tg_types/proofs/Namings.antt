@@ -20,7 +20,8 @@ use Rattle.tg_types.specs.Bindings.{variable_in, function_in, IsDeclared}
 use Rattle.tg_types.specs.States.{Fails, bad}
 use Rattle.tg_types.proofs.Steps.{step, given, fails_first}
 
-front : {A : Type 0} (b : Bool) (v w : A) (o p : Option A) → (o ≡ Some w → p ≡ Some w) → (if b then Some v else o) ≡ Some w → (if b then Some v else p) ≡ Some w
+front : {A : Type 0} (b : Bool) (v w : A) (o p : Option A) → (o ≡ Some w → p ≡ Some w) → (if b then Some v else o) ≡ Some w →
+    (if b then Some v else p) ≡ Some w
 front true v w o p f h = h
 front false v w o p f h = f h
 
@@ -47,48 +48,60 @@ entry_there : {A B : Type 0} (f : A → B) (n x : ℕ) (o : Option A) (rest : Li
 entry_there f n x None rest h = refl
 entry_there f n x (Some a) rest h = ap (λ b. if b then Some (f a) else named x rest) h
 
-entry_here : {A B : Type 0} (f : A → B) (n x : ℕ) (o : Option A) (rest : List (ℕ × B)) → (n == x) ≡ true → named x rest ≡ None → named x (entry f n o ++ rest) ≡ option_map f o
+entry_here : {A B : Type 0} (f : A → B) (n x : ℕ) (o : Option A) (rest : List (ℕ × B)) → (n == x) ≡ true → named x rest ≡ None →
+    named x (entry f n o ++ rest) ≡ option_map f o
 entry_here f n x None rest h d = d
 entry_here f n x (Some a) rest h d = ap (λ b. if b then Some (f a) else named x rest) h
 
 no_binding : (n x : ℕ) (names : List (List ℕ)) → x < n → named x (standard_bindings n names) ≡ None
 no_binding n x [] h = refl
-no_binding n x (t ∷ names) h = entry_there standard_one n x (standard_of t standards) (standard_bindings (suc n) names) (apart n x h) ∙ no_binding (suc n) x names (omega (arith, h))
+no_binding n x (t ∷ names) h =
+    entry_there standard_one n x (standard_of t standards) (standard_bindings (suc n) names) (apart n x h) ∙ no_binding (suc n) x names (omega (arith, h))
 
 no_type : (n x : ℕ) (names : List (List ℕ)) → x < n → named x (standard_types n names) ≡ None
 no_type n x [] h = refl
-no_type n x (t ∷ names) h = entry_there (λ t. t) n x (type_of_text t) (standard_types (suc n) names) (apart n x h) ∙ no_type (suc n) x names (omega (arith, h))
+no_type n x (t ∷ names) h =
+    entry_there (λ t. t) n x (type_of_text t) (standard_types (suc n) names) (apart n x h) ∙ no_type (suc n) x names (omega (arith, h))
 
-binding_from : (n k x : ℕ) (names : List (List ℕ)) (text : List ℕ) → x ≡ n + k → slice_get names k ≡ Some text → named x (standard_bindings n names) ≡ option_map standard_one (standard_of text standards)
+binding_from : (n k x : ℕ) (names : List (List ℕ)) (text : List ℕ) → x ≡ n + k → slice_get names k ≡ Some text →
+    named x (standard_bindings n names) ≡ option_map standard_one (standard_of text standards)
 binding_from n k x [] text e h = grind arith
 binding_from n zero x (t ∷ names) text e h =
-    entry_here standard_one n x (standard_of t standards) (standard_bindings (suc n) names) (eq-eqb n x (omega (arith, e))) (no_binding (suc n) x names (omega (arith, e))) ∙ ap (λ o. option_map standard_one (elim o [ Some t ↦ standard_of t standards | None ↦ None ])) h
+    entry_here standard_one n x (standard_of t standards) (standard_bindings (suc n) names) (eq-eqb n x (omega (arith, e)))
+    (no_binding (suc n) x names (omega (arith, e))) ∙ ap (λ o. option_map standard_one (elim o [ Some t ↦ standard_of t standards | None ↦ None ])) h
 binding_from n (suc k) x (t ∷ names) text e h =
-    entry_there standard_one n x (standard_of t standards) (standard_bindings (suc n) names) (later n x (omega (arith, e))) ∙ binding_from (suc n) k x names text (omega (arith, e)) h
+    entry_there standard_one n x (standard_of t standards) (standard_bindings (suc n) names) (later n x (omega (arith, e))) ∙ binding_from
+    (suc n) k x names text (omega (arith, e)) h
 
-type_from : (n k x : ℕ) (names : List (List ℕ)) (text : List ℕ) → x ≡ n + k → slice_get names k ≡ Some text → named x (standard_types n names) ≡ option_map (λ t. t) (type_of_text text)
+type_from : (n k x : ℕ) (names : List (List ℕ)) (text : List ℕ) → x ≡ n + k → slice_get names k ≡ Some text →
+    named x (standard_types n names) ≡ option_map (λ t. t) (type_of_text text)
 type_from n k x [] text e h = grind arith
 type_from n zero x (t ∷ names) text e h =
-    entry_here (λ t. t) n x (type_of_text t) (standard_types (suc n) names) (eq-eqb n x (omega (arith, e))) (no_type (suc n) x names (omega (arith, e))) ∙ ap (λ o. option_map (λ t. t) (elim o [ Some t ↦ type_of_text t | None ↦ None ])) h
+    entry_here (λ t. t) n x (type_of_text t) (standard_types (suc n) names) (eq-eqb n x (omega (arith, e))) (no_type (suc n) x names (omega (arith, e))) ∙ ap
+    (λ o. option_map (λ t. t) (elim o [ Some t ↦ type_of_text t | None ↦ None ])) h
 type_from n (suc k) x (t ∷ names) text e h =
-    entry_there (λ t. t) n x (type_of_text t) (standard_types (suc n) names) (later n x (omega (arith, e))) ∙ type_from (suc n) k x names text (omega (arith, e)) h
+    entry_there (λ t. t) n x (type_of_text t) (standard_types (suc n) names) (later n x (omega (arith, e))) ∙ type_from (suc n) k x names text
+    (omega (arith, e)) h
 
 same_option : {A : Type 0} (o : Option A) → option_map (λ a. a) o ≡ o
 same_option None = refl
 same_option (Some a) = refl
 
-pub binding_outside : (x : ℕ) (names : List (List ℕ)) (text : List ℕ) → slice_get names x ≡ Some text → named x (standard_bindings 0 names) ≡ option_map standard_one (standard_of text standards)
+pub binding_outside : (x : ℕ) (names : List (List ℕ)) (text : List ℕ) → slice_get names x ≡ Some text →
+    named x (standard_bindings 0 names) ≡ option_map standard_one (standard_of text standards)
 binding_outside x names text h = binding_from 0 x x names text (omega arith) h
 
 pub type_outside : (x : ℕ) (names : List (List ℕ)) (text : List ℕ) → slice_get names x ≡ Some text → named x (standard_types 0 names) ≡ type_of_text text
 type_outside x names text h = type_from 0 x x names text (omega arith) h ∙ same_option (type_of_text text)
 
 -- types by their names
-pub type_is : (x : Ident) (scope : Scope) {types : List (ℕ × Ty)} {t : Ty} {n : Noted} → scope.types ≡ types → Some t ≡ named (name_of x) types → type_named x scope n ≡ fine t n
+pub type_is : (x : Ident) (scope : Scope) {types : List (ℕ × Ty)} {t : Ty} {n : Noted} → scope.types ≡ types → Some t ≡ named (name_of x) types →
+    type_named x scope n ≡ fine t n
 unfolding give
 type_is x _ {n = n} h e = ap (λ ts. present T3 (at_of x) (named (name_of x) ts) n) h ∙ ap (λ o. present T3 (at_of x) o n) (sym e)
 
-pub type_unknown : (x : Ident) (scope : Scope) {types : List (ℕ × Ty)} (n : Noted) → scope.types ≡ types → None ≡ named (name_of x) types → type_named x scope n ≡ fault T3 (at_of x)
+pub type_unknown : (x : Ident) (scope : Scope) {types : List (ℕ × Ty)} (n : Noted) → scope.types ≡ types → None ≡ named (name_of x) types →
+    type_named x scope n ≡ fault T3 (at_of x)
 unfolding refuse
 type_unknown x _ n h e = ap (λ ts. present T3 (at_of x) (named (name_of x) ts) n) h ∙ ap (λ o. present T3 (at_of x) o n) (sym e)
 
@@ -96,18 +109,23 @@ pub bad_is : {A : Type 0} {rule : TypeRule} {at : ℕ} {e : TypeFault} {c : Chec
 bad_is {c = c} h d = subst (λ e. Fails e c) (sym h) (bad d)
 
 -- bindings by their names
-pub bound_open : (x : Ident) (scope : Scope) (bindings : List (ℕ × Binding)) (outer : List (ℕ × Binding)) {b : Binding} → scope.bindings ≡ bindings ++ outer → Some b ≡ named (name_of x) bindings → bound x scope ≡ Some b
+pub bound_open : (x : Ident) (scope : Scope) (bindings : List (ℕ × Binding)) (outer : List (ℕ × Binding)) {b : Binding} → scope.bindings ≡ bindings ++ outer →
+    Some b ≡ named (name_of x) bindings → bound x scope ≡ Some b
 bound_open x _ _ _ h e = ap (λ bs. named (name_of x) bs) h ∙ named_front (name_of x) _ _ _ (sym e)
 
-pub bound_outside : (x : Ident) (scope : Scope) (bindings : List (ℕ × Binding)) (names : List (List ℕ)) {text : List ℕ} {o : Option Standard} → scope.bindings ≡ bindings ++ standard_bindings 0 names → None ≡ named (name_of x) bindings → slice_get names (name_of x) ≡ Some text → o ≡ standard_of text standards → bound x scope ≡ option_map standard_one o
+pub bound_outside : (x : Ident) (scope : Scope) (bindings : List (ℕ × Binding)) (names : List (List ℕ)) {text : List ℕ} {o : Option Standard} →
+    scope.bindings ≡ bindings ++ standard_bindings 0 names → None ≡ named (name_of x) bindings → slice_get names (name_of x) ≡ Some text →
+    o ≡ standard_of text standards → bound x scope ≡ option_map standard_one o
 bound_outside x _ _ names {text = text} h e g d =
-    ap (λ bs. named (name_of x) bs) h ∙ (named_behind (name_of x) _ _ (sym e) ∙ (binding_outside (name_of x) names text g ∙ ap (λ o. option_map standard_one o) (sym d)))
+    ap (λ bs. named (name_of x) bs) h ∙ (named_behind (name_of x) _ _ (sym e)
+    ∙ (binding_outside (name_of x) names text g ∙ ap (λ o. option_map standard_one o) (sym d)))
 
 inside : {A : Type 0} → A → Option A → A
 inside a (Some b) = b
 inside a None = a
 
-variable_case : (x : Ident) (b : Binding) {at : ℕ} {t : Ty} (n : Noted) {n' : Noted} → Some (at, t) ≡ variable_in b → note (at_of x) (means.Variable at) n ≡ fine tt n' → variable_of x (Some b) n ≡ fine t n'
+variable_case : (x : Ident) (b : Binding) {at : ℕ} {t : Ty} (n : Noted) {n' : Noted} → Some (at, t) ≡ variable_in b →
+    note (at_of x) (means.Variable at) n ≡ fine tt n' → variable_of x (Some b) n ≡ fine t n'
 unfolding inside
 variable_case x (variable_at a u loop) {at} {t} n {n'} e d =
     let p : (at, t) ≡ (a, u) = ap (λ o. inside (at, t) o) e in
@@ -115,10 +133,12 @@ variable_case x (variable_at a u loop) {at} {t} n {n'} e d =
 variable_case x (function_at a s) _ e d = grind arith
 variable_case x (standard_one f) _ e d = grind arith
 
-pub variable_found : (x : Ident) {o : Option Binding} {b : Binding} {at : ℕ} {t : Ty} (n : Noted) {n' : Noted} → o ≡ Some b → Some (at, t) ≡ variable_in b → note (at_of x) (means.Variable at) n ≡ fine tt n' → variable_of x o n ≡ fine t n'
+pub variable_found : (x : Ident) {o : Option Binding} {b : Binding} {at : ℕ} {t : Ty} (n : Noted) {n' : Noted} → o ≡ Some b → Some (at, t) ≡ variable_in b →
+    note (at_of x) (means.Variable at) n ≡ fine tt n' → variable_of x o n ≡ fine t n'
 variable_found x {b = b} n h e d = ap (λ o. variable_of x o n) h ∙ variable_case x b _ e d
 
-variable_case_fails : (x : Ident) (b : Binding) {at : ℕ} {t : Ty} (n : Noted) {e : TypeFault} → Some (at, t) ≡ variable_in b → Fails e (note (at_of x) (means.Variable at) n) → Fails e (variable_of x (Some b) n)
+variable_case_fails : (x : Ident) (b : Binding) {at : ℕ} {t : Ty} (n : Noted) {e : TypeFault} → Some (at, t) ≡ variable_in b →
+    Fails e (note (at_of x) (means.Variable at) n) → Fails e (variable_of x (Some b) n)
 unfolding inside
 variable_case_fails x (variable_at a u loop) {at} {t} n {e} i d =
     let p : (at, t) ≡ (a, u) = ap (λ o. inside (at, t) o) i in
@@ -126,7 +146,8 @@ variable_case_fails x (variable_at a u loop) {at} {t} n {e} i d =
 variable_case_fails x (function_at a s) _ i d = grind arith
 variable_case_fails x (standard_one f) _ i d = grind arith
 
-pub variable_fails : (x : Ident) {o : Option Binding} {b : Binding} {at : ℕ} {t : Ty} (n : Noted) {e : TypeFault} → o ≡ Some b → Some (at, t) ≡ variable_in b → Fails e (note (at_of x) (means.Variable at) n) → Fails e (variable_of x o n)
+pub variable_fails : (x : Ident) {o : Option Binding} {b : Binding} {at : ℕ} {t : Ty} (n : Noted) {e : TypeFault} → o ≡ Some b →
+    Some (at, t) ≡ variable_in b → Fails e (note (at_of x) (means.Variable at) n) → Fails e (variable_of x o n)
 variable_fails x {b = b} n {e = e} h i d = subst (λ o. Fails e (variable_of x o n)) (sym h) (variable_case_fails x b _ i d)
 
 not_variable : (x : Ident) (b : Binding) (n : Noted) → None ≡ variable_in b → variable_of x (Some b) n ≡ fault T4 (at_of x)
@@ -147,7 +168,8 @@ unfolding refuse
 variable_unknown x n h = ap (λ o. variable_of x o n) h
 
 -- functions
-function_case : (f : Ident) (b : Binding) {at : ℕ} {s : Signature} (n : Noted) {n' : Noted} → Some (at, s) ≡ function_in b → note (at_of f) (means.Function at) n ≡ fine tt n' → function_of f (Some b) n ≡ fine s n'
+function_case : (f : Ident) (b : Binding) {at : ℕ} {s : Signature} (n : Noted) {n' : Noted} → Some (at, s) ≡ function_in b →
+    note (at_of f) (means.Function at) n ≡ fine tt n' → function_of f (Some b) n ≡ fine s n'
 unfolding inside
 function_case f (function_at a u) {at} {s} n {n'} e d =
     let p : (at, s) ≡ (a, u) = ap (λ o. inside (at, s) o) e in
@@ -155,10 +177,12 @@ function_case f (function_at a u) {at} {s} n {n'} e d =
 function_case f (variable_at a t loop) _ e d = grind arith
 function_case f (standard_one g) _ e d = grind arith
 
-pub function_found : (f : Ident) {o : Option Binding} {b : Binding} {at : ℕ} {s : Signature} (n : Noted) {n' : Noted} → o ≡ Some b → Some (at, s) ≡ function_in b → note (at_of f) (means.Function at) n ≡ fine tt n' → function_of f o n ≡ fine s n'
+pub function_found : (f : Ident) {o : Option Binding} {b : Binding} {at : ℕ} {s : Signature} (n : Noted) {n' : Noted} → o ≡ Some b →
+    Some (at, s) ≡ function_in b → note (at_of f) (means.Function at) n ≡ fine tt n' → function_of f o n ≡ fine s n'
 function_found f {b = b} n h e d = ap (λ o. function_of f o n) h ∙ function_case f b _ e d
 
-function_case_fails : (f : Ident) (b : Binding) {at : ℕ} {s : Signature} (n : Noted) {e : TypeFault} → Some (at, s) ≡ function_in b → Fails e (note (at_of f) (means.Function at) n) → Fails e (function_of f (Some b) n)
+function_case_fails : (f : Ident) (b : Binding) {at : ℕ} {s : Signature} (n : Noted) {e : TypeFault} → Some (at, s) ≡ function_in b →
+    Fails e (note (at_of f) (means.Function at) n) → Fails e (function_of f (Some b) n)
 unfolding inside
 function_case_fails f (function_at a u) {at} {s} n {e} i d =
     let p : (at, s) ≡ (a, u) = ap (λ o. inside (at, s) o) i in
@@ -166,7 +190,8 @@ function_case_fails f (function_at a u) {at} {s} n {e} i d =
 function_case_fails f (variable_at a t loop) _ i d = grind arith
 function_case_fails f (standard_one g) _ i d = grind arith
 
-pub function_fails : (f : Ident) {o : Option Binding} {b : Binding} {at : ℕ} {s : Signature} (n : Noted) {e : TypeFault} → o ≡ Some b → Some (at, s) ≡ function_in b → Fails e (note (at_of f) (means.Function at) n) → Fails e (function_of f o n)
+pub function_fails : (f : Ident) {o : Option Binding} {b : Binding} {at : ℕ} {s : Signature} (n : Noted) {e : TypeFault} → o ≡ Some b →
+    Some (at, s) ≡ function_in b → Fails e (note (at_of f) (means.Function at) n) → Fails e (function_of f o n)
 function_fails f {b = b} n {e = e} h i d = subst (λ o. Fails e (function_of f o n)) (sym h) (function_case_fails f b _ i d)
 
 not_function : (f : Ident) (b : Binding) (n : Noted) → None ≡ function_in b → IsDeclared b → function_of f (Some b) n ≡ fault T5 (at_of f)
@@ -175,13 +200,16 @@ not_function f (variable_at a u loop) _ i d = refl
 not_function f (function_at a t) _ i d = grind arith
 not_function f (standard_one g) _ i d = absurd d
 
-pub function_not : (f : Ident) {o : Option Binding} {b : Binding} (n : Noted) → o ≡ Some b → None ≡ function_in b → IsDeclared b → function_of f o n ≡ fault T5 (at_of f)
+pub function_not : (f : Ident) {o : Option Binding} {b : Binding} (n : Noted) → o ≡ Some b → None ≡ function_in b → IsDeclared b →
+    function_of f o n ≡ fault T5 (at_of f)
 function_not f {b = b} n h i d = ap (λ o. function_of f o n) h ∙ not_function f b _ i d
 
-pub standard_found : (f : Ident) {o : Option Binding} {g : Standard} (n : Noted) {n' : Noted} → o ≡ Some (standard_one g) → note (at_of f) (means.Standard g) n ≡ fine tt n' → function_of f o n ≡ fine (signature g) n'
+pub standard_found : (f : Ident) {o : Option Binding} {g : Standard} (n : Noted) {n' : Noted} → o ≡ Some (standard_one g) →
+    note (at_of f) (means.Standard g) n ≡ fine tt n' → function_of f o n ≡ fine (signature g) n'
 standard_found f n h d = ap (λ o. function_of f o n) h ∙ step _ _ d given
 
-pub standard_fails : (f : Ident) {o : Option Binding} {g : Standard} (n : Noted) {e : TypeFault} → o ≡ Some (standard_one g) → Fails e (note (at_of f) (means.Standard g) n) → Fails e (function_of f o n)
+pub standard_fails : (f : Ident) {o : Option Binding} {g : Standard} (n : Noted) {e : TypeFault} → o ≡ Some (standard_one g) →
+    Fails e (note (at_of f) (means.Standard g) n) → Fails e (function_of f o n)
 standard_fails f n {e = e} h d = subst (λ o. Fails e (function_of f o n)) (sym h) (fails_first _ _ d)
 
 pub function_unknown : (f : Ident) {o : Option Binding} (n : Noted) → o ≡ None → function_of f o n ≡ fault T2 (at_of f)

@@ -81,7 +81,8 @@ arithmetic_stays left left_at t g h e =
     (expected_int _ _ _ _ _ p.first).1 ∙ (given _ _ _ _ p.onward).1
 
 -- the note of an operator, where it compares
-left_noted : (op : Op) (left : Ty) (at left_at : ℕ) (t : Ty) (g h : Noted) {ys : List ℕ} → left_side op left at left_at g ≡ fine t h → Some_of (marks g) ys → Some_of (marks h) (at ∷ ys)
+left_noted : (op : Op) (left : Ty) (at left_at : ℕ) (t : Ty) (g h : Noted) {ys : List ℕ} → left_side op left at left_at g ≡ fine t h → Some_of (marks g) ys →
+    Some_of (marks h) (at ∷ ys)
 left_noted Less left at left_at t g h e s = one_more at g h (ordered_noted left at left_at t g h e) s
 left_noted LessEqual left at left_at t g h e s = one_more at g h (ordered_noted left at left_at t g h e) s
 left_noted Greater left at left_at t g h e s = one_more at g h (ordered_noted left at left_at t g h e) s
@@ -125,10 +126,12 @@ types_stay ds scope inner g h e =
     let d = steps c.onward in
     let f = given _ _ _ _ d.onward in
     ap marks (sym f.1) ∙ forms_stay (with_group ds ds scope scope) ds d.value c.between d.between d.first ∙
-    ap marks (sym (no_repeats_keep _ [] (names_of ds) a.value g a.between a.first ∙ known_forms_keep ds ds scope b.value a.between b.between b.first ∙ chains_keep ds ds c.value b.between c.between c.first))
+    ap marks (sym (no_repeats_keep _ [] (names_of ds) a.value g a.between a.first ∙ known_forms_keep ds ds scope b.value a.between b.between b.first
+    ∙ chains_keep ds ds c.value b.between c.between c.first))
 
 mutual
-  pub note_bytes : (e : Exp) (scope : Scope) (t : Ty) (g h : Noted) {ys : List ℕ} → typed e scope g ≡ fine t h → Some_of (marks g) ys → Some_of (marks h) (beginnings e ys)
+  pub note_bytes : (e : Exp) (scope : Scope) (t : Ty) (g h : Noted) {ys : List ℕ} → typed e scope g ≡ fine t h → Some_of (marks g) ys →
+      Some_of (marks h) (beginnings e ys)
   note_bytes (Nil z) scope t g h e s = stay g h (given _ _ _ _ e).1 s
   note_bytes (Int z n) scope t g h e s = stay g h (given _ _ _ _ e).1 s
   note_bytes (Text z b) scope t g h e s = stay g h (given _ _ _ _ e).1 s
@@ -244,13 +247,15 @@ mutual
       last_notes none_type es p.value t p.between h p.onward (decs_notes ds scope p.value g p.between p.first s)
   note_bytes (Seq z es) scope t g h e s = last_notes none_type es scope t g h e s
 
-  place_notes : (v : Place) (scope : Scope) (t : Ty) (g h : Noted) {ys : List ℕ} → typed_place v scope g ≡ fine t h → Some_of (marks g) ys → Some_of (marks h) (place_beginnings v ys)
+  place_notes : (v : Place) (scope : Scope) (t : Ty) (g h : Noted) {ys : List ℕ} → typed_place v scope g ≡ fine t h → Some_of (marks g) ys →
+      Some_of (marks h) (place_beginnings v ys)
   place_notes (Simple y) scope t g h e s = one_more (at_of y) g h (variable_noted y _ t g h e) s
   place_notes (Field v f) scope t g h e s =
       let p = steps e in
       let q = steps p.onward in
       let k = fields_got p.value _ q.value p.between q.between q.first in
-      one_more (at_of f) q.between h (selected_noted q.value f t q.between h q.onward) (stay p.between q.between k.3 (place_notes v scope p.value g p.between p.first s))
+      one_more (at_of f) q.between h (selected_noted q.value f t q.between h q.onward)
+      (stay p.between q.between k.3 (place_notes v scope p.value g p.between p.first s))
   place_notes (Index v i) scope t g h e s =
       let p = steps e in
       let q = steps p.onward in
@@ -262,7 +267,8 @@ mutual
       stay r.between h (j.1 ∙ d.1) (note_bytes i scope r.value q.between r.between r.first
       (stay p.between q.between k.3 (place_notes v scope p.value g p.between p.first s)))
 
-  all_notes : (es : Exps) (ts : List Ty) (scope : Scope) (y : Unit {0}) (g h : Noted) {ys : List ℕ} → count es ≡ length ts → expect_all es ts scope g ≡ fine y h → Some_of (marks g) ys → Some_of (marks h) (exps_beginnings es ys)
+  all_notes : (es : Exps) (ts : List Ty) (scope : Scope) (y : Unit {0}) (g h : Noted) {ys : List ℕ} → count es ≡ length ts →
+      expect_all es ts scope g ≡ fine y h → Some_of (marks g) ys → Some_of (marks h) (exps_beginnings es ys)
   all_notes no_exps [] scope y g h c e s = stay g h (given _ _ _ _ e).1 s
   all_notes no_exps (t ∷ ts) scope y g h c e s = cc
   all_notes (exp a rest) [] scope y g h c e s = cc
@@ -273,7 +279,8 @@ mutual
       all_notes rest ts scope y q.between h (let j : count rest ≡ length ts = cc in j) q.onward
       (stay p.between q.between f.1 (note_bytes a scope p.value g p.between p.first s))
 
-  inits_notes : (es : Inits) (fs : List (ℕ × Ty)) (scope : Scope) (y : Unit {0}) (g h : Noted) {ys : List ℕ} → are_fields es fs ≡ true → expect_fields es fs scope g ≡ fine y h → Some_of (marks g) ys → Some_of (marks h) (inits_beginnings es ys)
+  inits_notes : (es : Inits) (fs : List (ℕ × Ty)) (scope : Scope) (y : Unit {0}) (g h : Noted) {ys : List ℕ} → are_fields es fs ≡ true →
+      expect_fields es fs scope g ≡ fine y h → Some_of (marks g) ys → Some_of (marks h) (inits_beginnings es ys)
   inits_notes no_inits [] scope y g h c e s = stay g h (given _ _ _ _ e).1 s
   inits_notes no_inits (field ∷ fs) scope y g h c e s = cc
   inits_notes (init f a rest) [] scope y g h c e s = cc
@@ -285,13 +292,15 @@ mutual
       inits_notes rest fs scope y q.between h b.1 q.onward
       (stay p.between q.between w.1 (note_bytes a scope p.value g p.between p.first (skip (at_of f) s)))
 
-  last_notes : (u : Ty) (es : Exps) (scope : Scope) (t : Ty) (g h : Noted) {ys : List ℕ} → typed_last u es scope g ≡ fine t h → Some_of (marks g) ys → Some_of (marks h) (exps_beginnings es ys)
+  last_notes : (u : Ty) (es : Exps) (scope : Scope) (t : Ty) (g h : Noted) {ys : List ℕ} → typed_last u es scope g ≡ fine t h → Some_of (marks g) ys →
+      Some_of (marks h) (exps_beginnings es ys)
   last_notes u no_exps scope t g h e s = stay g h (given _ _ _ _ e).1 s
   last_notes u (exp a rest) scope t g h e s =
       let p = steps e in
       last_notes p.value rest scope t p.between h p.onward (note_bytes a scope p.value g p.between p.first s)
 
-  decs_notes : (ds : Decs) (scope inner : Scope) (g h : Noted) {ys : List ℕ} → declare ds scope g ≡ fine inner h → Some_of (marks g) ys → Some_of (marks h) (decs_beginnings ds ys)
+  decs_notes : (ds : Decs) (scope inner : Scope) (g h : Noted) {ys : List ℕ} → declare ds scope g ≡ fine inner h → Some_of (marks g) ys →
+      Some_of (marks h) (decs_beginnings ds ys)
   decs_notes no_decs scope inner g h e s = stay g h (given _ _ _ _ e).1 s
   decs_notes (types ds rest) scope inner g h {ys} e s =
       let p = steps e in
@@ -320,11 +329,13 @@ mutual
       (bodies_notes fs q.value (in_no_loop (with_functions fs q.value scope)) r.value q.between r.between hd.0 r.first
       (stay g q.between (no_repeats_keep _ [] (function_names fs) p.value g p.between p.first ∙ hd.1) s))
 
-  bodies_notes : (fs : FunDecs) (ss : List Signature) (scope : Scope) (y : Unit {0}) (g h : Noted) {ys : List ℕ} → Headed fs ss → bodies fs ss scope g ≡ fine y h → Some_of (marks g) ys → Some_of (marks h) (function_beginnings fs ys)
+  bodies_notes : (fs : FunDecs) (ss : List Signature) (scope : Scope) (y : Unit {0}) (g h : Noted) {ys : List ℕ} → Headed fs ss →
+      bodies fs ss scope g ≡ fine y h → Some_of (marks g) ys → Some_of (marks h) (function_beginnings fs ys)
   bodies_notes no_functions _ scope y g h no_heads e s = stay g h (given _ _ _ _ e).1 s
   bodies_notes (function f ps r body rest) _ scope y g h (a_head {s = sig} {ss = ss} n m hd) e s =
       let p = steps e in
       let q = steps p.onward in
       let b = body_got r sig.result p.value _ q.value p.between q.between m q.first in
       bodies_notes rest ss scope y q.between h hd q.onward
-      (stay p.between q.between b.1 (note_bytes body (with_params ps sig.params scope) p.value g p.between p.first (among_kind r (among_params ps (skip (at_of f) s)))))
+      (stay p.between q.between b.1 (note_bytes body (with_params ps sig.params scope) p.value g p.between p.first
+      (among_kind r (among_params ps (skip (at_of f) s)))))

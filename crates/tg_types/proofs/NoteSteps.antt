@@ -13,22 +13,28 @@ pub record Between (at : ℕ) (notes : List Note) (low high : ℕ) : Type 0 wher
   pub before : (k : ℕ) (d : Note) → k < low → (get_or notes k d).at < at
   pub behind : (k : ℕ) (d : Note) → high ≤ k → k < length notes → at < (get_or notes k d).at
 
-below : (notes : List Note) (at m k : ℕ) (d : Note) → (get_or notes m d).at < at → (k < m → (get_or notes k d).at < (get_or notes m d).at) → k ≤ m → (get_or notes k d).at < at
+below : (notes : List Note) (at m k : ℕ) (d : Note) → (get_or notes m d).at < at → (k < m → (get_or notes k d).at < (get_or notes m d).at) → k ≤ m →
+    (get_or notes k d).at < at
 below notes at m k d x f le = elim (eq-or-lt_of_le le) [ inl e ↦ subst (λ j. (get_or notes j d).at < at) (sym e) x | inr l ↦ omega (arith, x, f l) ]
 
-above : (notes : List Note) (at m k : ℕ) (d : Note) → at < (get_or notes m d).at → (m < k → (get_or notes m d).at < (get_or notes k d).at) → m ≤ k → at < (get_or notes k d).at
+above : (notes : List Note) (at m k : ℕ) (d : Note) → at < (get_or notes m d).at → (m < k → (get_or notes m d).at < (get_or notes k d).at) → m ≤ k →
+    at < (get_or notes k d).at
 above notes at m k d x f le = elim (eq-or-lt_of_le le) [ inl e ↦ subst (λ j. at < (get_or notes j d).at) e x | inr l ↦ omega (arith, x, f l) ]
 
-pub between_upper : (at : ℕ) (notes : List Note) (low high middle : ℕ) (n : Note) → AreRising notes → Between at notes low high → middle < high → n ≡ get_or notes middle n → n.at < at → Between at notes (middle + 1) high
+pub between_upper : (at : ℕ) (notes : List Note) (low high middle : ℕ) (n : Note) → AreRising notes → Between at notes low high → middle < high →
+    n ≡ get_or notes middle n → n.at < at → Between at notes (middle + 1) high
 between_upper at notes low high middle n r b l i h =
     let m : middle < length notes = omega (arith, l, b.fits) in
     record {
       fits = b.fits;
-      before = λ k d s. below notes at middle k d (subst (λ (x : Note). x.at < at) (i ∙ get_or_default notes middle n d m) h) (λ t. r k middle d t m) (omega (arith, s));
+      before =
+          λ k d s. below notes at middle k d (subst (λ (x : Note). x.at < at) (i ∙ get_or_default notes middle n d m) h) (λ t. r k middle d t m)
+          (omega (arith, s));
       behind = b.behind;
     }
 
-pub between_lower : (at : ℕ) (notes : List Note) (low high middle : ℕ) (n : Note) → AreRising notes → Between at notes low high → middle < high → n ≡ get_or notes middle n → at < n.at → Between at notes low middle
+pub between_lower : (at : ℕ) (notes : List Note) (low high middle : ℕ) (n : Note) → AreRising notes → Between at notes low high → middle < high →
+    n ≡ get_or notes middle n → at < n.at → Between at notes low middle
 between_lower at notes low high middle n r b l i h =
     let m : middle < length notes = omega (arith, l, b.fits) in
     record {
@@ -50,21 +56,27 @@ unequal a b d = grind arith
 rising_tail : (x : Note) (xs : List Note) → AreRising (x ∷ xs) → AreRising xs
 rising_tail x xs r i j d l m = r (suc i) (suc j) d (omega (arith, l)) (omega (arith, m))
 
-pub found : (at : ℕ) (notes : List Note) (k : ℕ) (n : Note) → AreRising notes → k < length notes → n ≡ get_or notes k n → n.at ≡ at → meaning_at at notes ≡ Some n.means
+pub found : (at : ℕ) (notes : List Note) (k : ℕ) (n : Note) → AreRising notes → k < length notes → n ≡ get_or notes k n → n.at ≡ at →
+    meaning_at at notes ≡ Some n.means
 found at [] k n r l i e = absurd (omega (arith, l))
-found at (x ∷ notes) zero n r l i e = found_step (x.at == at) x.means n.means (meaning_at at notes) (eq-eqb x.at at (ap (λ (y : Note). y.at) (sym i) ∙ e)) (ap (λ (y : Note). y.means) (sym i))
+found at (x ∷ notes) zero n r l i e =
+    found_step (x.at == at) x.means n.means (meaning_at at notes) (eq-eqb x.at at (ap (λ (y : Note). y.at) (sym i) ∙ e)) (ap (λ (y : Note). y.means) (sym i))
 found at (x ∷ notes) (suc k) n r l i e =
     let m : k < length notes = omega (arith, l) in
     let s : x.at < (get_or notes k n).at = r zero (suc k) n (omega arith) (omega (arith, l)) in
     let t : x.at < at = subst (λ v. x.at < v) (ap (λ (y : Note). y.at) (sym i) ∙ e) s in
-    other_step (x.at == at) x.means (meaning_at at notes) (Some n.means) (unequal x.at at (λ q. omega (arith, t, q))) (found at notes k n (rising_tail x notes r) m i e)
+    other_step (x.at == at) x.means (meaning_at at notes) (Some n.means) (unequal x.at at (λ q. omega (arith, t, q)))
+    (found at notes k n (rising_tail x notes r) m i e)
 
 pub nowhere : (at : ℕ) (notes : List Note) → ((k : ℕ) (d : Note) → k < length notes → (get_or notes k d).at ≢ at) → meaning_at at notes ≡ None
 nowhere at [] f = refl
-nowhere at (x ∷ notes) f = other_step (x.at == at) x.means (meaning_at at notes) None (unequal x.at at (f zero x (omega arith))) (nowhere at notes (λ k d l. f (suc k) d (omega (arith, l))))
+nowhere at (x ∷ notes) f =
+    other_step (x.at == at) x.means (meaning_at at notes) None (unequal x.at at (f zero x (omega arith)))
+    (nowhere at notes (λ k d l. f (suc k) d (omega (arith, l))))
 
 pub between_none : (at : ℕ) (notes : List Note) (low high : ℕ) → Between at notes low high → high ≤ low → meaning_at at notes ≡ None
-between_none at notes low high b l = nowhere at notes (λ k d m e. elim (le-or-gt high k) [ inl h ↦ omega (arith, b.behind k d h m, e) | inr h ↦ omega (arith, b.before k d (omega (arith, h, l)), e) ])
+between_none at notes low high b l =
+    nowhere at notes (λ k d m e. elim (le-or-gt high k) [ inl h ↦ omega (arith, b.behind k d h m, e) | inr h ↦ omega (arith, b.before k d (omega (arith, h, l)), e) ])
   where
     le-or-gt : (a b : ℕ) → (a ≤ b) ⊎ (b < a)
     le-or-gt zero b = inl (omega arith)

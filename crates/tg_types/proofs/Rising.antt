@@ -24,7 +24,8 @@ flips : (x y : ℕ) → eqb x y ≡ eqb y x
 flips x y = grind arith
 
 -- the notes of a text stand at bytes of their own
-apart : (body : Exp) (scope : Scope) (t : Ty) (h : Noted) → BeginsApart body → typed body scope (record { shapes = []; notes = [] }) ≡ fine t h → IsDistinct eqb (marks h)
+apart : (body : Exp) (scope : Scope) (t : Ty) (h : Noted) → BeginsApart body → typed body scope (record { shapes = []; notes = [] }) ≡ fine t h →
+    IsDistinct eqb (marks h)
 apart body scope t h b e =
     let s = note_bytes body scope t (record { shapes = []; notes = [] }) h e nothing in
     let p : AllPairs (λ x y. x ≢ y) (marks h) = pairs (λ x y. x ≢ y) s b in
@@ -33,18 +34,24 @@ apart body scope t h b e =
 -- in another order too
 sorted_apart : (notes sorted : List Note) → IsPermutation notes sorted → IsDistinct eqb (reverse (map at notes)) → IsDistinct eqb (map at sorted)
 sorted_apart notes sorted p d =
-    IsDistinct-IsPermutation eqb flips (reverse (map at notes)) (map at sorted) (IsPermutation-trans (reverse (map at notes)) (map at notes) (map at sorted) (IsPermutation-sym (map at notes) (reverse (map at notes)) (IsPermutation-reverse (map at notes))) (IsPermutation-map at notes sorted p)) d
+    IsDistinct-IsPermutation eqb flips (reverse (map at notes)) (map at sorted)
+    (IsPermutation-trans (reverse (map at notes)) (map at notes) (map at sorted)
+    (IsPermutation-sym (map at notes) (reverse (map at notes)) (IsPermutation-reverse (map at notes))) (IsPermutation-map at notes sorted p)) d
 
 strictly : (sorted : List Note) → IsNonDecreasingBy at sorted → IsDistinct eqb (map at sorted) → AreRising sorted
 strictly sorted n d i j x l m =
     let here : get_or (map at sorted) i x.at ≡ (get_or sorted i x).at = get_or-map at sorted i x x.at (omega (arith, l, m)) in
     let there : get_or (map at sorted) j x.at ≡ (get_or sorted j x).at = get_or-map at sorted j x x.at m in
-    let differ : eqb (get_or (map at sorted) i x.at) (get_or (map at sorted) j x.at) ≡ false = apart_from_distinct eqb (map at sorted) i j x.at d l (omega (arith, m, length-map sorted at)) in
+    let differ : eqb (get_or (map at sorted) i x.at) (get_or (map at sorted) j x.at) ≡ false = apart_from_distinct eqb (map at sorted) i j x.at d l
+    (omega (arith, m, length-map sorted at)) in
     let below : (get_or sorted i x).at ≤ (get_or sorted j x).at = n i j x (omega (arith, l)) m in
-    strict (get_or sorted i x).at (get_or sorted j x).at (ap (λ k. eqb k (get_or sorted j x).at) (sym here) ∙ ap (λ k. eqb (get_or (map at sorted) i x.at) k) (sym there) ∙ differ) below
+    strict (get_or sorted i x).at (get_or sorted j x).at
+    (ap (λ k. eqb k (get_or sorted j x).at) (sym here) ∙ ap (λ k. eqb (get_or (map at sorted) i x.at) k) (sym there) ∙ differ) below
   where
     strict : (a b : ℕ) → eqb a b ≡ false → a ≤ b → a < b
     strict a b e l = grind arith
 
-pub rises : (body : Exp) (scope : Scope) (t : Ty) (h : Noted) (sorted : List Note) → BeginsApart body → typed body scope (record { shapes = []; notes = [] }) ≡ fine t h → IsPermutation h.notes sorted → IsNonDecreasingBy (λ (n : Note). n.at) sorted → AreRising sorted
+pub rises : (body : Exp) (scope : Scope) (t : Ty) (h : Noted) (sorted : List Note) → BeginsApart body →
+    typed body scope (record { shapes = []; notes = [] }) ≡ fine t h → IsPermutation h.notes sorted → IsNonDecreasingBy (λ (n : Note). n.at) sorted →
+    AreRising sorted
 rises body scope t h sorted b e p n = strictly sorted n (sorted_apart h.notes sorted p (apart body scope t h b e))

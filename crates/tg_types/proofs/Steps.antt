@@ -17,7 +17,8 @@ no_truth : IsTrue false → ⊥
 no_truth h = cc
 
 -- one check gave this, and the next goes on
-pub step : {A : Type 0} {B : Type 0} (m : Check A) (next : A → Check B) {n : Noted} {n' : Noted} {a : A} {c : Checked B} → m n ≡ fine a n' → next a n' ≡ c → (m >>= next) n ≡ c
+pub step : {A : Type 0} {B : Type 0} (m : Check A) (next : A → Check B) {n : Noted} {n' : Noted} {a : A} {c : Checked B} → m n ≡ fine a n' → next a n' ≡ c →
+    (m >>= next) n ≡ c
 unfolding ◌>>=◌
 step _ next e d = ap (λ x. on_fine x next) e ∙ d
 
@@ -27,7 +28,8 @@ grouped (fine a n) f g = refl
 grouped (fault rule at) f g = refl
 
 -- the same where the check is the front of a longer one
-pub two_steps : {A : Type 0} {B : Type 0} {C : Type 0} (m : Check A) (f : A → Check B) (g : B → Check C) (n : Noted) {n' : Noted} {b : B} {c : Checked C} → (m >>= f) n ≡ fine b n' → g b n' ≡ c → (m >>= λ a. f a >>= g) n ≡ c
+pub two_steps : {A : Type 0} {B : Type 0} {C : Type 0} (m : Check A) (f : A → Check B) (g : B → Check C) (n : Noted) {n' : Noted} {b : B} {c : Checked C} →
+    (m >>= f) n ≡ fine b n' → g b n' ≡ c → (m >>= λ a. f a >>= g) n ≡ c
 unfolding ◌>>=◌
 two_steps m f g n e d = grouped (m n) f g ∙ (ap (λ x. on_fine x g) e ∙ d)
 
@@ -42,39 +44,47 @@ unfolding ◌>>=◌
 fails_first _ next (bad d) = bad (ap (λ x. on_fine x next) d)
 fails_first _ _ no_memory = no_memory
 
-pub fails_then : {A : Type 0} {B : Type 0} (m : Check A) (next : A → Check B) {n : Noted} {n' : Noted} {a : A} {e : TypeFault} → m n ≡ fine a n' → Fails e (next a n') → Fails e ((m >>= next) n)
+pub fails_then : {A : Type 0} {B : Type 0} (m : Check A) (next : A → Check B) {n : Noted} {n' : Noted} {a : A} {e : TypeFault} → m n ≡ fine a n' →
+    Fails e (next a n') → Fails e ((m >>= next) n)
 unfolding ◌>>=◌
 fails_then _ next {e = e} d f = subst (λ x. Fails e (on_fine x next)) (sym d) f
 
-pub two_fail_first : {A : Type 0} {B : Type 0} {C : Type 0} (m : Check A) (f : A → Check B) (g : B → Check C) (n : Noted) {e : TypeFault} → Fails e ((m >>= f) n) → Fails e ((m >>= λ a. f a >>= g) n)
+pub two_fail_first : {A : Type 0} {B : Type 0} {C : Type 0} (m : Check A) (f : A → Check B) (g : B → Check C) (n : Noted) {e : TypeFault} →
+    Fails e ((m >>= f) n) → Fails e ((m >>= λ a. f a >>= g) n)
 unfolding ◌>>=◌
 two_fail_first m f g n (bad d) = bad (grouped (m n) f g ∙ ap (λ x. on_fine x g) d)
 two_fail_first _ _ _ _ no_memory = no_memory
 
-pub two_fail_then : {A : Type 0} {B : Type 0} {C : Type 0} (m : Check A) (f : A → Check B) (g : B → Check C) (n : Noted) {n' : Noted} {b : B} {e : TypeFault} → (m >>= f) n ≡ fine b n' → Fails e (g b n') → Fails e ((m >>= λ a. f a >>= g) n)
+pub two_fail_then : {A : Type 0} {B : Type 0} {C : Type 0} (m : Check A) (f : A → Check B) (g : B → Check C)
+    (n : Noted) {n' : Noted} {b : B} {e : TypeFault} → (m >>= f) n ≡ fine b n' → Fails e (g b n') → Fails e ((m >>= λ a. f a >>= g) n)
 unfolding ◌>>=◌
 two_fail_then m f g n {e = e} d h = subst (λ x. Fails e x) (sym (grouped (m n) f g)) (subst (λ x. Fails e (on_fine x g)) (sym d) h)
 
 -- what a `?` returns
-pub ended : {X A : Type 0} (r : Result X TypeFault) (value : X → A) (after : Noted) {c : Checked A} {e : TypeFault} → IsErr r × IsErrAnd r (λ x. x ≡ e) → Fails e c → Gives r value after c
+pub ended : {X A : Type 0} (r : Result X TypeFault) (value : X → A) (after : Noted) {c : Checked A} {e : TypeFault} → IsErr r × IsErrAnd r (λ x. x ≡ e) →
+    Fails e c → Gives r value after c
 ended (Ok x) value after h f = absurd (no_truth h.0)
 ended (Err x) value after {c = c} h f = subst (λ y. Fails y c) (sym h.1) f
 
-pub leads_ended : {X A : Type 0} (r : Result X TypeFault) (scope : Scope) (after : Noted) (onward : Scope → Noted → Checked A) {c : Checked A} {e : TypeFault} → IsErr r × IsErrAnd r (λ x. x ≡ e) → Fails e c → Leads r scope after onward c
+pub leads_ended : {X A : Type 0} (r : Result X TypeFault) (scope : Scope) (after : Noted)
+    (onward : Scope → Noted → Checked A) {c : Checked A} {e : TypeFault} → IsErr r × IsErrAnd r (λ x. x ≡ e) → Fails e c → Leads r scope after onward c
 leads_ended (Ok x) scope after onward h f = absurd (no_truth h.0)
 leads_ended (Err x) scope after onward {c = c} h f = subst (λ y. Fails y c) (sym h.1) f
 
 -- an answer that is handed on
-pub carry : {X A : Type 0} (r : Result X TypeFault) (value : X → A) (after : Noted) {c c' : Checked A} → c ≡ c' → Gives r value after c' → Gives r value after c
+pub carry : {X A : Type 0} (r : Result X TypeFault) (value : X → A) (after : Noted) {c c' : Checked A} → c ≡ c' → Gives r value after c' →
+    Gives r value after c
 carry r value after d g = subst (λ c. Gives r value after c) (sym d) g
 
 pub last_fails : {A : Type 0} {c c' : Checked A} {e : TypeFault} → c ≡ c' → Fails e c' → Fails e c
 last_fails {e = e} d f = subst (λ c. Fails e c) (sym d) f
 
 -- the scope of a state whose open names are the same
-pub same_scope : {old : State} {new : State} (names : List (List ℕ)) {in_loop : Bool} {scope : Scope} → Keeps old new → scope ≡ scope_of names old in_loop → scope ≡ scope_of names new in_loop
+pub same_scope : {old : State} {new : State} (names : List (List ℕ)) {in_loop : Bool} {scope : Scope} → Keeps old new → scope ≡ scope_of names old in_loop →
+    scope ≡ scope_of names new in_loop
 same_scope {old = old} {new = new} names {in_loop = in_loop} k h =
-    h ∙ (ap (λ b. record { bindings = b ++ standard_bindings 0 names; types = old.types ++ standard_types 0 names; in_loop = in_loop }) (sym k.bindings) ∙ ap (λ t. record { bindings = new.bindings ++ standard_bindings 0 names; types = t ++ standard_types 0 names; in_loop = in_loop }) (sym k.types))
+    h ∙ (ap (λ b. record { bindings = b ++ standard_bindings 0 names; types = old.types ++ standard_types 0 names; in_loop = in_loop }) (sym k.bindings) ∙ ap
+    (λ t. record { bindings = new.bindings ++ standard_bindings 0 names; types = t ++ standard_types 0 names; in_loop = in_loop }) (sym k.types))
 
 pub keeps_both : {a b c : State} → Keeps a b → Keeps b c → Keeps a c
 keeps_both k l = record { bindings = l.bindings ∙ k.bindings; types = l.types ∙ k.types }
@@ -102,11 +112,13 @@ pub kept_false : {rule : TypeRule} {at : ℕ} {b : Bool} (n : Noted) → b ≡ f
 unfolding refuse
 kept_false {rule = rule} {at = at} n e = ap (λ b. keep rule at b n) e
 
-pub noted : (at : ℕ) (means : Means) {shapes : List (ℕ × Shape)} (old : List Note) {new : List Note} → new ≡ old ++ record { at = at; means = means } ∷ [] → note at means (record { shapes = shapes; notes = old }) ≡ fine tt (record { shapes = shapes; notes = new })
+pub noted : (at : ℕ) (means : Means) {shapes : List (ℕ × Shape)} (old : List Note) {new : List Note} → new ≡ old ++ record { at = at; means = means } ∷ [] →
+    note at means (record { shapes = shapes; notes = old }) ≡ fine tt (record { shapes = shapes; notes = new })
 unfolding note
 noted _ _ {shapes = shapes} _ e = ap (λ ns. fine tt (record { shapes = shapes; notes = ns })) (sym e)
 
-pub no_loop_scope : (s : State) (names : List (List ℕ)) {in_loop : Bool} {scope : Scope} → scope ≡ scope_of names s in_loop → in_no_loop scope ≡ scope_of names s false
+pub no_loop_scope : (s : State) (names : List (List ℕ)) {in_loop : Bool} {scope : Scope} → scope ≡ scope_of names s in_loop →
+    in_no_loop scope ≡ scope_of names s false
 no_loop_scope _ _ h = ap in_no_loop h
 
 pub keep_is : (rule : TypeRule) {at : ℕ} {at' : ℕ} {b : Bool} {b' : Bool} (n : Noted) → at ≡ at' → b ≡ b' → keep rule at b n ≡ keep rule at' b' n
@@ -131,32 +143,42 @@ unfolding give
 kept_inner (fine u n) a g = refl
 kept_inner (fault rule at) a g = refl
 
-kept_grouped : {A B : Type 0} (x : Checked A) (k : A → Check (Unit {0})) (g : A → Check B) → on_fine x (λ a. k a >>= λ _. g a) ≡ on_fine (on_fine x (λ a. k a >>= λ _. give a)) g
+kept_grouped : {A B : Type 0} (x : Checked A) (k : A → Check (Unit {0})) (g : A → Check B) →
+    on_fine x (λ a. k a >>= λ _. g a) ≡ on_fine (on_fine x (λ a. k a >>= λ _. give a)) g
 unfolding ◌>>=◌
 kept_grouped (fault rule at) k g = refl
 kept_grouped (fine a n) k g = kept_inner (k a n) a g
 
-pub kept_steps : {A : Type 0} {B : Type 0} (m : Check A) (k : A → Check (Unit {0})) (g : A → Check B) (n : Noted) {n' : Noted} {a : A} {c : Checked B} → (m >>= λ a. k a >>= λ _. give a) n ≡ fine a n' → g a n' ≡ c → (m >>= λ a. k a >>= λ _. g a) n ≡ c
+pub kept_steps : {A : Type 0} {B : Type 0} (m : Check A) (k : A → Check (Unit {0})) (g : A → Check B) (n : Noted) {n' : Noted} {a : A} {c : Checked B} →
+    (m >>= λ a. k a >>= λ _. give a) n ≡ fine a n' → g a n' ≡ c → (m >>= λ a. k a >>= λ _. g a) n ≡ c
 unfolding ◌>>=◌
 kept_steps m k g n e d = kept_grouped (m n) k g ∙ (ap (λ x. on_fine x g) e ∙ d)
 
-pub kept_fail : {A : Type 0} {B : Type 0} (m : Check A) (k : A → Check (Unit {0})) (g : A → Check B) (n : Noted) {e : TypeFault} → Fails e ((m >>= λ a. k a >>= λ _. give a) n) → Fails e ((m >>= λ a. k a >>= λ _. g a) n)
+pub kept_fail : {A : Type 0} {B : Type 0} (m : Check A) (k : A → Check (Unit {0})) (g : A → Check B) (n : Noted) {e : TypeFault} →
+    Fails e ((m >>= λ a. k a >>= λ _. give a) n) → Fails e ((m >>= λ a. k a >>= λ _. g a) n)
 unfolding ◌>>=◌
 kept_fail m k g n (bad d) = bad (kept_grouped (m n) k g ∙ ap (λ x. on_fine x g) d)
 kept_fail _ _ _ _ no_memory = no_memory
 
-pub kept_then : {A : Type 0} {B : Type 0} (m : Check A) (k : A → Check (Unit {0})) (g : A → Check B) (n : Noted) {n' : Noted} {a : A} {e : TypeFault} → (m >>= λ a. k a >>= λ _. give a) n ≡ fine a n' → Fails e (g a n') → Fails e ((m >>= λ a. k a >>= λ _. g a) n)
+pub kept_then : {A : Type 0} {B : Type 0} (m : Check A) (k : A → Check (Unit {0})) (g : A → Check B) (n : Noted) {n' : Noted} {a : A} {e : TypeFault} →
+    (m >>= λ a. k a >>= λ _. give a) n ≡ fine a n' → Fails e (g a n') → Fails e ((m >>= λ a. k a >>= λ _. g a) n)
 unfolding ◌>>=◌
 kept_then m k g n {e = e} d h = subst (λ x. Fails e x) (sym (kept_grouped (m n) k g)) (subst (λ x. Fails e (on_fine x g)) (sym d) h)
 
 -- the end of a scope
-pub cut_back : {A : Type 0} {before : List A} {now : List A} {after : List A} (more : List A) {len : ℕ} → ((front back : List A) → now ≡ front ++ back → length back ≡ len → after ≡ back) → now ≡ more ++ before → len ≡ length before → after ≡ before
+pub cut_back : {A : Type 0} {before : List A} {now : List A} {after : List A} (more : List A) {len : ℕ} →
+    ((front back : List A) → now ≡ front ++ back → length back ≡ len → after ≡ back) → now ≡ more ++ before → len ≡ length before → after ≡ before
 cut_back _ f e l = f _ _ e (sym l)
 
 -- one more name
-pub opened : (x : Ident) {b : Binding} {old : List (ℕ × Binding)} {new : List (ℕ × Binding)} (types : List (ℕ × Ty)) (outer : List (ℕ × Ty)) (rest : List (ℕ × Binding)) {in_loop : Bool} {scope : Scope} → new ≡ (x.name.0, b) ∷ old → scope ≡ record { bindings = old ++ rest; types = types ++ outer; in_loop = in_loop } → binding x b scope ≡ record { bindings = new ++ rest; types = types ++ outer; in_loop = in_loop }
-opened x {b = b} types outer rest {in_loop = in_loop} e h = ap (λ s. binding x b s) h ∙ ap (λ bs. record { bindings = bs ++ rest; types = types ++ outer; in_loop = in_loop }) (sym e)
+pub opened : (x : Ident) {b : Binding} {old : List (ℕ × Binding)} {new : List (ℕ × Binding)} (types : List (ℕ × Ty)) (outer : List (ℕ × Ty))
+    (rest : List (ℕ × Binding)) {in_loop : Bool} {scope : Scope} → new ≡ (x.name.0, b) ∷ old →
+    scope ≡ record { bindings = old ++ rest; types = types ++ outer; in_loop = in_loop } →
+    binding x b scope ≡ record { bindings = new ++ rest; types = types ++ outer; in_loop = in_loop }
+opened x {b = b} types outer rest {in_loop = in_loop} e h =
+    ap (λ s. binding x b s) h ∙ ap (λ bs. record { bindings = bs ++ rest; types = types ++ outer; in_loop = in_loop }) (sym e)
 
-pub opened_state : (x : Ident) (b : Binding) (names : List (List ℕ)) (in_loop : Bool) (old new : State) {scope : Scope} → new.bindings ≡ (x.name.0, b) ∷ old.bindings → new.types ≡ old.types → scope ≡ scope_of names old in_loop → binding x b scope ≡ scope_of names new in_loop
+pub opened_state : (x : Ident) (b : Binding) (names : List (List ℕ)) (in_loop : Bool) (old new : State) {scope : Scope} →
+    new.bindings ≡ (x.name.0, b) ∷ old.bindings → new.types ≡ old.types → scope ≡ scope_of names old in_loop → binding x b scope ≡ scope_of names new in_loop
 opened_state x b names in_loop old new e t h =
     ap (λ s. binding x b s) h ∙ (ap (λ bs. record { bindings = bs ++ standard_bindings 0 names; types = old.types ++ standard_types 0 names; in_loop = in_loop }) (sym e) ∙ ap (λ ts. record { bindings = new.bindings ++ standard_bindings 0 names; types = ts ++ standard_types 0 names; in_loop = in_loop }) (sym t))

@@ -82,15 +82,18 @@ exps_below n [] k e h l i = absurd (omega (arith, l))
 exps_below n (x ∷ es) zero e h l i = subst (λ y. NamesWithin n (plain y)) (sym i) h.0
 exps_below n (x ∷ es) (suc k) e h l i = exps_below n es k e h.1 (omega (arith, l)) i
 
-pub exp_below : (n : ℕ) (es : CodeExps) (k : ℕ) (e : CodeExp) → ExpsWithin n (plain_exps es) → k < length (out-Exps es).items.items → e ≡ get_or (out-Exps es).items.items k e → NamesWithin n (plain e)
+pub exp_below : (n : ℕ) (es : CodeExps) (k : ℕ) (e : CodeExp) → ExpsWithin n (plain_exps es) → k < length (out-Exps es).items.items →
+    e ≡ get_or (out-Exps es).items.items k e → NamesWithin n (plain e)
 exp_below n es k e h l i = exps_below n (out-Exps es).items.items k e (subst (λ x. ExpsWithin n x) (plain_exps-items es) h) l i
 
-inits_below : (n : ℕ) (is : List CodeInit) (k : ℕ) (e : CodeInit) → InitsWithin n (inits_of is) → k < length is → e ≡ get_or is k e → NamesWithin n (plain e.value)
+inits_below : (n : ℕ) (is : List CodeInit) (k : ℕ) (e : CodeInit) → InitsWithin n (inits_of is) → k < length is → e ≡ get_or is k e →
+    NamesWithin n (plain e.value)
 inits_below n [] k e h l i = absurd (omega (arith, l))
 inits_below n (x ∷ is) zero e h l i = subst (λ y. NamesWithin n (plain y.value)) (sym i) h.1
 inits_below n (x ∷ is) (suc k) e h l i = inits_below n is k e h.2 (omega (arith, l)) i
 
-pub init_below : (n : ℕ) (is : CodeInits) (k : ℕ) (e : CodeInit) → InitsWithin n (plain_inits is) → k < length (out-Inits is).items.items → e ≡ get_or (out-Inits is).items.items k e → NamesWithin n (plain e.value)
+pub init_below : (n : ℕ) (is : CodeInits) (k : ℕ) (e : CodeInit) → InitsWithin n (plain_inits is) → k < length (out-Inits is).items.items →
+    e ≡ get_or (out-Inits is).items.items k e → NamesWithin n (plain e.value)
 init_below n is k e h l i = inits_below n (out-Inits is).items.items k e (subst (λ x. InitsWithin n x) (plain_inits-items is) h) l i
 
 -- one more of a list
@@ -103,68 +106,107 @@ none_left xs k e = ap (λ j. drop j xs) e ∙ drop-length xs
 -- arguments, each of its type
 pub record ArgumentsOn (names : List (List ℕ)) (in_loop : Bool) (first now : State) (es : List CodeExp) (ts : List Ty) (k : ℕ) : Type 0 where
   pub kept : Keeps first now
-  pub onward : (scope : Scope) → scope ≡ scope_of names first in_loop → expect_all (exps_of es) ts scope (noted_of first) ≡ expect_all (exps_of (drop k es)) (drop k ts) scope (noted_of now)
+  pub onward : (scope : Scope) → scope ≡ scope_of names first in_loop →
+      expect_all (exps_of es) ts scope (noted_of first) ≡ expect_all (exps_of (drop k es)) (drop k ts) scope (noted_of now)
 
 pub arguments_none : {names : List (List ℕ)} {in_loop : Bool} {s : State} {es : List CodeExp} {ts : List Ty} → ArgumentsOn names in_loop s s es ts 0
 arguments_none = record { kept = keeps_same; onward = λ scope h. refl }
 
-pub arguments_one : {names : List (List ℕ)} {in_loop : Bool} {first now next : State} {es : List CodeExp} {ts : List Ty} {k : ℕ} (e : CodeExp) (t : Ty) → ArgumentsOn names in_loop first now es ts k → k < length es → length es ≡ length ts → e ≡ get_or es k e → t ≡ get_or ts k t → ((scope : Scope) → scope ≡ scope_of names now in_loop → fitting (plain e) t scope (noted_of now) ≡ fine tt (noted_of next)) → Keeps now next → ArgumentsOn names in_loop first next es ts (k + 1)
+pub arguments_one : {names : List (List ℕ)} {in_loop : Bool} {first now next : State} {es : List CodeExp} {ts : List Ty} {k : ℕ} (e : CodeExp) (t : Ty) →
+    ArgumentsOn names in_loop first now es ts k → k < length es → length es ≡ length ts → e ≡ get_or es k e → t ≡ get_or ts k t →
+    ((scope : Scope) → scope ≡ scope_of names now in_loop → fitting (plain e) t scope (noted_of now) ≡ fine tt (noted_of next)) → Keeps now next →
+    ArgumentsOn names in_loop first next es ts (k + 1)
 arguments_one {names = names} {now = now} {es = es} {ts = ts} {k = k} e t a l m i j g p = record {
   kept = keeps_both a.kept p;
   onward = λ scope h.
-      a.onward scope h ∙ (ap (λ x. expect_all (exps_of x) (drop k ts) scope (noted_of now)) (from_here es k e l i) ∙ (ap (λ y. expect_all (exps_of (e ∷ drop (k + 1) es)) y scope (noted_of now)) (from_here ts k t (omega (arith, l, m)) j) ∙ two_steps _ _ _ _ (g scope (same_scope names a.kept h)) refl));
+      a.onward scope h ∙ (ap (λ x. expect_all (exps_of x) (drop k ts) scope (noted_of now)) (from_here es k e l i)
+      ∙ (ap (λ y. expect_all (exps_of (e ∷ drop (k + 1) es)) y scope (noted_of now)) (from_here ts k t (omega (arith, l, m)) j) ∙ two_steps _ _ _ _
+      (g scope (same_scope names a.kept h)) refl));
 }
 
-pub arguments_fail : {names : List (List ℕ)} {in_loop : Bool} {first now : State} {es : List CodeExp} {ts : List Ty} {k : ℕ} (e : CodeExp) (t : Ty) {f : TypeFault} → ArgumentsOn names in_loop first now es ts k → k < length es → length es ≡ length ts → e ≡ get_or es k e → t ≡ get_or ts k t → ((scope : Scope) → scope ≡ scope_of names now in_loop → Fails f (fitting (plain e) t scope (noted_of now))) → (scope : Scope) → scope ≡ scope_of names first in_loop → Fails f (expect_all (exps_of es) ts scope (noted_of first))
+pub arguments_fail : {names : List (List ℕ)} {in_loop : Bool} {first now : State} {es : List CodeExp} {ts : List Ty} {k : ℕ} (e : CodeExp)
+    (t : Ty) {f : TypeFault} → ArgumentsOn names in_loop first now es ts k → k < length es → length es ≡ length ts → e ≡ get_or es k e → t ≡ get_or ts k t →
+    ((scope : Scope) → scope ≡ scope_of names now in_loop → Fails f (fitting (plain e) t scope (noted_of now))) → (scope : Scope) →
+    scope ≡ scope_of names first in_loop → Fails f (expect_all (exps_of es) ts scope (noted_of first))
 arguments_fail {names = names} {now = now} {es = es} {ts = ts} {k = k} e t a l m i j g scope h =
-    last_fails (a.onward scope h ∙ (ap (λ x. expect_all (exps_of x) (drop k ts) scope (noted_of now)) (from_here es k e l i) ∙ ap (λ y. expect_all (exps_of (e ∷ drop (k + 1) es)) y scope (noted_of now)) (from_here ts k t (omega (arith, l, m)) j))) (two_fail_first _ _ _ _ (g scope (same_scope names a.kept h)))
+    last_fails (a.onward scope h ∙ (ap (λ x. expect_all (exps_of x) (drop k ts) scope (noted_of now)) (from_here es k e l i) ∙ ap
+    (λ y. expect_all (exps_of (e ∷ drop (k + 1) es)) y scope (noted_of now)) (from_here ts k t (omega (arith, l, m)) j)))
+    (two_fail_first _ _ _ _ (g scope (same_scope names a.kept h)))
 
-pub arguments_all : {names : List (List ℕ)} {in_loop : Bool} {first now : State} {es : List CodeExp} {ts : List Ty} {k : ℕ} → ArgumentsOn names in_loop first now es ts k → k ≡ length es → (scope : Scope) → scope ≡ scope_of names first in_loop → expect_all (exps_of es) ts scope (noted_of first) ≡ fine tt (noted_of now)
+pub arguments_all : {names : List (List ℕ)} {in_loop : Bool} {first now : State} {es : List CodeExp} {ts : List Ty} {k : ℕ} →
+    ArgumentsOn names in_loop first now es ts k → k ≡ length es → (scope : Scope) → scope ≡ scope_of names first in_loop →
+    expect_all (exps_of es) ts scope (noted_of first) ≡ fine tt (noted_of now)
 unfolding give
-arguments_all {now = now} {es = es} {ts = ts} {k = k} a e scope h = a.onward scope h ∙ ap (λ x. expect_all (exps_of x) (drop k ts) scope (noted_of now)) (none_left es k e)
+arguments_all {now = now} {es = es} {ts = ts} {k = k} a e scope h =
+    a.onward scope h ∙ ap (λ x. expect_all (exps_of x) (drop k ts) scope (noted_of now)) (none_left es k e)
 
 -- fields' values, each of its type
 pub record FieldsOn (names : List (List ℕ)) (in_loop : Bool) (first now : State) (es : List CodeInit) (ts : List (ℕ × Ty)) (k : ℕ) : Type 0 where
   pub kept : Keeps first now
-  pub onward : (scope : Scope) → scope ≡ scope_of names first in_loop → expect_fields (inits_of es) ts scope (noted_of first) ≡ expect_fields (inits_of (drop k es)) (drop k ts) scope (noted_of now)
+  pub onward : (scope : Scope) → scope ≡ scope_of names first in_loop →
+      expect_fields (inits_of es) ts scope (noted_of first) ≡ expect_fields (inits_of (drop k es)) (drop k ts) scope (noted_of now)
 
 pub fields_none : {names : List (List ℕ)} {in_loop : Bool} {s : State} {es : List CodeInit} {ts : List (ℕ × Ty)} → FieldsOn names in_loop s s es ts 0
 fields_none = record { kept = keeps_same; onward = λ scope h. refl }
 
-pub fields_one : {names : List (List ℕ)} {in_loop : Bool} {first now next : State} {es : List CodeInit} {ts : List (ℕ × Ty)} {k : ℕ} (e : CodeInit) (t : ℕ × Ty) → FieldsOn names in_loop first now es ts k → k < length es → length es ≡ length ts → e ≡ get_or es k e → t ≡ get_or ts k t → ((scope : Scope) → scope ≡ scope_of names now in_loop → fitting (plain e.value) t.1 scope (noted_of now) ≡ fine tt (noted_of next)) → Keeps now next → FieldsOn names in_loop first next es ts (k + 1)
+pub fields_one : {names : List (List ℕ)} {in_loop : Bool} {first now next : State} {es : List CodeInit} {ts : List (ℕ × Ty)} {k : ℕ} (e : CodeInit)
+    (t : ℕ × Ty) → FieldsOn names in_loop first now es ts k → k < length es → length es ≡ length ts → e ≡ get_or es k e → t ≡ get_or ts k t →
+    ((scope : Scope) → scope ≡ scope_of names now in_loop → fitting (plain e.value) t.1 scope (noted_of now) ≡ fine tt (noted_of next)) → Keeps now next →
+    FieldsOn names in_loop first next es ts (k + 1)
 fields_one {names = names} {now = now} {es = es} {ts = ts} {k = k} e t a l m i j g p = record {
   kept = keeps_both a.kept p;
   onward = λ scope h.
-      a.onward scope h ∙ (ap (λ x. expect_fields (inits_of x) (drop k ts) scope (noted_of now)) (from_here es k e l i) ∙ (ap (λ y. expect_fields (inits_of (e ∷ drop (k + 1) es)) y scope (noted_of now)) (from_here ts k t (omega (arith, l, m)) j) ∙ two_steps _ _ _ _ (g scope (same_scope names a.kept h)) refl));
+      a.onward scope h ∙ (ap (λ x. expect_fields (inits_of x) (drop k ts) scope (noted_of now)) (from_here es k e l i)
+      ∙ (ap (λ y. expect_fields (inits_of (e ∷ drop (k + 1) es)) y scope (noted_of now)) (from_here ts k t (omega (arith, l, m)) j) ∙ two_steps _ _ _ _
+      (g scope (same_scope names a.kept h)) refl));
 }
 
-pub fields_fail : {names : List (List ℕ)} {in_loop : Bool} {first now : State} {es : List CodeInit} {ts : List (ℕ × Ty)} {k : ℕ} (e : CodeInit) (t : ℕ × Ty) {f : TypeFault} → FieldsOn names in_loop first now es ts k → k < length es → length es ≡ length ts → e ≡ get_or es k e → t ≡ get_or ts k t → ((scope : Scope) → scope ≡ scope_of names now in_loop → Fails f (fitting (plain e.value) t.1 scope (noted_of now))) → (scope : Scope) → scope ≡ scope_of names first in_loop → Fails f (expect_fields (inits_of es) ts scope (noted_of first))
+pub fields_fail : {names : List (List ℕ)} {in_loop : Bool} {first now : State} {es : List CodeInit} {ts : List (ℕ × Ty)} {k : ℕ} (e : CodeInit)
+    (t : ℕ × Ty) {f : TypeFault} → FieldsOn names in_loop first now es ts k → k < length es → length es ≡ length ts → e ≡ get_or es k e → t ≡ get_or ts k t →
+    ((scope : Scope) → scope ≡ scope_of names now in_loop → Fails f (fitting (plain e.value) t.1 scope (noted_of now))) → (scope : Scope) →
+    scope ≡ scope_of names first in_loop → Fails f (expect_fields (inits_of es) ts scope (noted_of first))
 fields_fail {names = names} {now = now} {es = es} {ts = ts} {k = k} e t a l m i j g scope h =
-    last_fails (a.onward scope h ∙ (ap (λ x. expect_fields (inits_of x) (drop k ts) scope (noted_of now)) (from_here es k e l i) ∙ ap (λ y. expect_fields (inits_of (e ∷ drop (k + 1) es)) y scope (noted_of now)) (from_here ts k t (omega (arith, l, m)) j))) (two_fail_first _ _ _ _ (g scope (same_scope names a.kept h)))
+    last_fails (a.onward scope h ∙ (ap (λ x. expect_fields (inits_of x) (drop k ts) scope (noted_of now)) (from_here es k e l i) ∙ ap
+    (λ y. expect_fields (inits_of (e ∷ drop (k + 1) es)) y scope (noted_of now)) (from_here ts k t (omega (arith, l, m)) j)))
+    (two_fail_first _ _ _ _ (g scope (same_scope names a.kept h)))
 
-pub fields_all : {names : List (List ℕ)} {in_loop : Bool} {first now : State} {es : List CodeInit} {ts : List (ℕ × Ty)} {k : ℕ} → FieldsOn names in_loop first now es ts k → k ≡ length es → (scope : Scope) → scope ≡ scope_of names first in_loop → expect_fields (inits_of es) ts scope (noted_of first) ≡ fine tt (noted_of now)
+pub fields_all : {names : List (List ℕ)} {in_loop : Bool} {first now : State} {es : List CodeInit} {ts : List (ℕ × Ty)} {k : ℕ} →
+    FieldsOn names in_loop first now es ts k → k ≡ length es → (scope : Scope) → scope ≡ scope_of names first in_loop →
+    expect_fields (inits_of es) ts scope (noted_of first) ≡ fine tt (noted_of now)
 unfolding give
-fields_all {now = now} {es = es} {ts = ts} {k = k} a e scope h = a.onward scope h ∙ ap (λ x. expect_fields (inits_of x) (drop k ts) scope (noted_of now)) (none_left es k e)
+fields_all {now = now} {es = es} {ts = ts} {k = k} a e scope h =
+    a.onward scope h ∙ ap (λ x. expect_fields (inits_of x) (drop k ts) scope (noted_of now)) (none_left es k e)
 
 -- expressions in order
 pub record InOrder (names : List (List ℕ)) (in_loop : Bool) (first now : State) (es : List CodeExp) (t : Ty) (k : ℕ) : Type 0 where
   pub kept : Keeps first now
-  pub onward : (scope : Scope) → scope ≡ scope_of names first in_loop → typed_last none_type (exps_of es) scope (noted_of first) ≡ typed_last t (exps_of (drop k es)) scope (noted_of now)
+  pub onward : (scope : Scope) → scope ≡ scope_of names first in_loop →
+      typed_last none_type (exps_of es) scope (noted_of first) ≡ typed_last t (exps_of (drop k es)) scope (noted_of now)
 
 pub order_none : {names : List (List ℕ)} {in_loop : Bool} {s : State} {es : List CodeExp} {t : Ty} → t ≡ none_type → InOrder names in_loop s s es t 0
 order_none {s = s} {es = es} e = record { kept = keeps_same; onward = λ scope h. ap (λ t. typed_last t (exps_of es) scope (noted_of s)) (sym e) }
 
-pub order_one : {names : List (List ℕ)} {in_loop : Bool} {first now next : State} {es : List CodeExp} {t u : Ty} {k : ℕ} (e : CodeExp) → InOrder names in_loop first now es t k → k < length es → e ≡ get_or es k e → ((scope : Scope) → scope ≡ scope_of names now in_loop → typed (plain e) scope (noted_of now) ≡ fine u (noted_of next)) → Keeps now next → InOrder names in_loop first next es u (k + 1)
+pub order_one : {names : List (List ℕ)} {in_loop : Bool} {first now next : State} {es : List CodeExp} {t u : Ty} {k : ℕ} (e : CodeExp) →
+    InOrder names in_loop first now es t k → k < length es → e ≡ get_or es k e →
+    ((scope : Scope) → scope ≡ scope_of names now in_loop → typed (plain e) scope (noted_of now) ≡ fine u (noted_of next)) → Keeps now next →
+    InOrder names in_loop first next es u (k + 1)
 order_one {names = names} {now = now} {es = es} {t = t} {k = k} e a l i g p = record {
   kept = keeps_both a.kept p;
-  onward = λ scope h. a.onward scope h ∙ (ap (λ x. typed_last t (exps_of x) scope (noted_of now)) (from_here es k e l i) ∙ step _ _ (g scope (same_scope names a.kept h)) refl);
+  onward =
+      λ scope h. a.onward scope h ∙ (ap (λ x. typed_last t (exps_of x) scope (noted_of now)) (from_here es k e l i) ∙ step _ _
+      (g scope (same_scope names a.kept h)) refl);
 }
 
-pub order_fails : {names : List (List ℕ)} {in_loop : Bool} {first now : State} {es : List CodeExp} {t : Ty} {k : ℕ} (e : CodeExp) {f : TypeFault} → InOrder names in_loop first now es t k → k < length es → e ≡ get_or es k e → ((scope : Scope) → scope ≡ scope_of names now in_loop → Fails f (typed (plain e) scope (noted_of now))) → (scope : Scope) → scope ≡ scope_of names first in_loop → Fails f (typed_last none_type (exps_of es) scope (noted_of first))
+pub order_fails : {names : List (List ℕ)} {in_loop : Bool} {first now : State} {es : List CodeExp} {t : Ty} {k : ℕ} (e : CodeExp) {f : TypeFault} →
+    InOrder names in_loop first now es t k → k < length es → e ≡ get_or es k e →
+    ((scope : Scope) → scope ≡ scope_of names now in_loop → Fails f (typed (plain e) scope (noted_of now))) → (scope : Scope) →
+    scope ≡ scope_of names first in_loop → Fails f (typed_last none_type (exps_of es) scope (noted_of first))
 order_fails {names = names} {now = now} {es = es} {t = t} {k = k} e a l i g scope h =
-    last_fails (a.onward scope h ∙ ap (λ x. typed_last t (exps_of x) scope (noted_of now)) (from_here es k e l i)) (fails_first _ _ (g scope (same_scope names a.kept h)))
+    last_fails (a.onward scope h ∙ ap (λ x. typed_last t (exps_of x) scope (noted_of now)) (from_here es k e l i))
+    (fails_first _ _ (g scope (same_scope names a.kept h)))
 
-pub order_all : {names : List (List ℕ)} {in_loop : Bool} {first now : State} {es : List CodeExp} {t : Ty} {k : ℕ} → InOrder names in_loop first now es t k → k ≡ length es → (scope : Scope) → scope ≡ scope_of names first in_loop → typed_last none_type (exps_of es) scope (noted_of first) ≡ fine t (noted_of now)
+pub order_all : {names : List (List ℕ)} {in_loop : Bool} {first now : State} {es : List CodeExp} {t : Ty} {k : ℕ} → InOrder names in_loop first now es t k →
+    k ≡ length es → (scope : Scope) → scope ≡ scope_of names first in_loop → typed_last none_type (exps_of es) scope (noted_of first) ≡ fine t (noted_of now)
 unfolding give
 order_all {now = now} {es = es} {t = t} {k = k} a e scope h = a.onward scope h ∙ ap (λ x. typed_last t (exps_of x) scope (noted_of now)) (none_left es k e)
 
@@ -174,110 +216,153 @@ dec_apart n (Types ds) rest h = ((h.0, tt), h.1)
 dec_apart n (Variable' x t s e) rest h = ((h.0, h.1, h.2, tt), h.3)
 dec_apart n (Functions fs) rest h = ((h.0, tt), h.1)
 
-pub dec_below : (n : ℕ) (ds : List CodeDec) (k : ℕ) (d : CodeDec) → DecsWithin n (decs_of ds) → k < length ds → d ≡ get_or ds k d → DecsWithin n (plain_dec d no_decs)
+pub dec_below : (n : ℕ) (ds : List CodeDec) (k : ℕ) (d : CodeDec) → DecsWithin n (decs_of ds) → k < length ds → d ≡ get_or ds k d →
+    DecsWithin n (plain_dec d no_decs)
 dec_below n [] k d h l i = absurd (omega (arith, l))
 dec_below n (x ∷ ds) zero d h l i = subst (λ y. DecsWithin n (plain_dec y no_decs)) (sym i) (dec_apart n x (decs_of ds) h).0
 dec_below n (x ∷ ds) (suc k) d h l i = dec_below n ds k d (dec_apart n x (decs_of ds) h).1 (omega (arith, l)) i
 
 pub record DeclarationsOn (names : List (List ℕ)) (in_loop : Bool) (first now : State) (ds : List CodeDec) (k : ℕ) : Type 0 where
   pub opens : Opens first now
-  pub onward : (scope : Scope) → scope ≡ scope_of names first in_loop → declare (decs_of ds) scope (noted_of first) ≡ declare (decs_of (drop k ds)) (scope_of names now in_loop) (noted_of now)
+  pub onward : (scope : Scope) → scope ≡ scope_of names first in_loop →
+      declare (decs_of ds) scope (noted_of first) ≡ declare (decs_of (drop k ds)) (scope_of names now in_loop) (noted_of now)
 
 pub decs_none : {names : List (List ℕ)} {in_loop : Bool} {s : State} {ds : List CodeDec} → DeclarationsOn names in_loop s s ds 0
 decs_none {s = s} {ds = ds} = record { opens = opens_keep keeps_same; onward = λ scope h. ap (λ x. declare (decs_of ds) x (noted_of s)) h }
 
-pub decs_one : {names : List (List ℕ)} {in_loop : Bool} {first now next : State} {ds : List CodeDec} {k : ℕ} (d : CodeDec) → DeclarationsOn names in_loop first now ds k → k < length ds → d ≡ get_or ds k d → ((rest : Decs) (scope : Scope) → scope ≡ scope_of names now in_loop → declare (plain_dec d rest) scope (noted_of now) ≡ declare rest (scope_of names next in_loop) (noted_of next)) → Opens now next → DeclarationsOn names in_loop first next ds (k + 1)
+pub decs_one : {names : List (List ℕ)} {in_loop : Bool} {first now next : State} {ds : List CodeDec} {k : ℕ} (d : CodeDec) →
+    DeclarationsOn names in_loop first now ds k → k < length ds → d ≡ get_or ds k d →
+    ((rest : Decs) (scope : Scope) → scope ≡ scope_of names now in_loop →
+    declare (plain_dec d rest) scope (noted_of now) ≡ declare rest (scope_of names next in_loop) (noted_of next)) → Opens now next →
+    DeclarationsOn names in_loop first next ds (k + 1)
 decs_one {names = names} {in_loop = in_loop} {now = now} {ds = ds} {k = k} d a l i g p = record {
   opens = opens_both a.opens p;
-  onward = λ scope h. a.onward scope h ∙ (ap (λ x. declare (decs_of x) (scope_of names now in_loop) (noted_of now)) (from_here ds k d l i) ∙ g (decs_of (drop (k + 1) ds)) (scope_of names now in_loop) refl);
+  onward =
+      λ scope h. a.onward scope h ∙ (ap (λ x. declare (decs_of x) (scope_of names now in_loop) (noted_of now)) (from_here ds k d l i) ∙ g
+      (decs_of (drop (k + 1) ds)) (scope_of names now in_loop) refl);
 }
 
-pub decs_fail : {names : List (List ℕ)} {in_loop : Bool} {first now : State} {ds : List CodeDec} {k : ℕ} (d : CodeDec) {f : TypeFault} → DeclarationsOn names in_loop first now ds k → k < length ds → d ≡ get_or ds k d → ((rest : Decs) (scope : Scope) → scope ≡ scope_of names now in_loop → Fails f (declare (plain_dec d rest) scope (noted_of now))) → (scope : Scope) → scope ≡ scope_of names first in_loop → Fails f (declare (decs_of ds) scope (noted_of first))
+pub decs_fail : {names : List (List ℕ)} {in_loop : Bool} {first now : State} {ds : List CodeDec} {k : ℕ} (d : CodeDec) {f : TypeFault} →
+    DeclarationsOn names in_loop first now ds k → k < length ds → d ≡ get_or ds k d →
+    ((rest : Decs) (scope : Scope) → scope ≡ scope_of names now in_loop → Fails f (declare (plain_dec d rest) scope (noted_of now))) → (scope : Scope) →
+    scope ≡ scope_of names first in_loop → Fails f (declare (decs_of ds) scope (noted_of first))
 decs_fail {names = names} {in_loop = in_loop} {now = now} {ds = ds} {k = k} d a l i g scope h =
-    last_fails (a.onward scope h ∙ ap (λ x. declare (decs_of x) (scope_of names now in_loop) (noted_of now)) (from_here ds k d l i)) (g (decs_of (drop (k + 1) ds)) (scope_of names now in_loop) refl)
+    last_fails (a.onward scope h ∙ ap (λ x. declare (decs_of x) (scope_of names now in_loop) (noted_of now)) (from_here ds k d l i))
+    (g (decs_of (drop (k + 1) ds)) (scope_of names now in_loop) refl)
 
-pub decs_all : {names : List (List ℕ)} {in_loop : Bool} {first now : State} {ds : List CodeDec} {k : ℕ} → DeclarationsOn names in_loop first now ds k → k ≡ length ds → (scope : Scope) → scope ≡ scope_of names first in_loop → declare (decs_of ds) scope (noted_of first) ≡ fine (scope_of names now in_loop) (noted_of now)
+pub decs_all : {names : List (List ℕ)} {in_loop : Bool} {first now : State} {ds : List CodeDec} {k : ℕ} → DeclarationsOn names in_loop first now ds k →
+    k ≡ length ds → (scope : Scope) → scope ≡ scope_of names first in_loop →
+    declare (decs_of ds) scope (noted_of first) ≡ fine (scope_of names now in_loop) (noted_of now)
 unfolding give
-decs_all {names = names} {in_loop = in_loop} {now = now} {ds = ds} {k = k} a e scope h = a.onward scope h ∙ ap (λ x. declare (decs_of x) (scope_of names now in_loop) (noted_of now)) (none_left ds k e)
+decs_all {names = names} {in_loop = in_loop} {now = now} {ds = ds} {k = k} a e scope h =
+    a.onward scope h ∙ ap (λ x. declare (decs_of x) (scope_of names now in_loop) (noted_of now)) (none_left ds k e)
 
 -- bodies
-functions_below : (n : ℕ) (fs : List CodeFunDec) (k : ℕ) (f : CodeFunDec) → FunctionsWithin n (functions_of fs) → k < length fs → f ≡ get_or fs k f → NamesWithin n (plain f.body)
+functions_below : (n : ℕ) (fs : List CodeFunDec) (k : ℕ) (f : CodeFunDec) → FunctionsWithin n (functions_of fs) → k < length fs → f ≡ get_or fs k f →
+    NamesWithin n (plain f.body)
 functions_below n [] k f h l i = absurd (omega (arith, l))
 functions_below n (x ∷ fs) zero f h l i = subst (λ y. NamesWithin n (plain y.body)) (sym i) h.3
 functions_below n (x ∷ fs) (suc k) f h l i = functions_below n fs k f h.4 (omega (arith, l)) i
 
-pub function_below : (n : ℕ) (fs : CodeFunDecs) (k : ℕ) (f : CodeFunDec) → FunctionsWithin n (plain_functions fs) → k < length (out-FunDecs fs).items.items → f ≡ get_or (out-FunDecs fs).items.items k f → NamesWithin n (plain f.body)
+pub function_below : (n : ℕ) (fs : CodeFunDecs) (k : ℕ) (f : CodeFunDec) → FunctionsWithin n (plain_functions fs) → k < length (out-FunDecs fs).items.items →
+    f ≡ get_or (out-FunDecs fs).items.items k f → NamesWithin n (plain f.body)
 function_below n fs k f h l i = functions_below n (out-FunDecs fs).items.items k f (subst (λ x. FunctionsWithin n x) (plain_functions-items fs) h) l i
 
 pub record BodiesOn (names : List (List ℕ)) (first now : State) (fs : List CodeFunDec) (ss : List Signature) (k : ℕ) : Type 0 where
   pub kept : Keeps first now
-  pub onward : (scope : Scope) → scope ≡ scope_of names first false → bodies (functions_of fs) ss scope (noted_of first) ≡ bodies (functions_of (drop k fs)) (drop k ss) scope (noted_of now)
+  pub onward : (scope : Scope) → scope ≡ scope_of names first false →
+      bodies (functions_of fs) ss scope (noted_of first) ≡ bodies (functions_of (drop k fs)) (drop k ss) scope (noted_of now)
 
 pub bodies_none : {names : List (List ℕ)} {s : State} {fs : List CodeFunDec} {ss : List Signature} → BodiesOn names s s fs ss 0
 bodies_none = record { kept = keeps_same; onward = λ scope h. refl }
 
-pub bodies_one : {names : List (List ℕ)} {first now next : State} {fs : List CodeFunDec} {ss : List Signature} {k : ℕ} (f : CodeFunDec) (s : Signature) → BodiesOn names first now fs ss k → k < length fs → length fs ≡ length ss → f ≡ get_or fs k f → s ≡ get_or ss k s → ((scope : Scope) → scope ≡ scope_of names now false → one_body f.params f.result (plain f.body) s scope (noted_of now) ≡ fine tt (noted_of next)) → Keeps now next → BodiesOn names first next fs ss (k + 1)
+pub bodies_one : {names : List (List ℕ)} {first now next : State} {fs : List CodeFunDec} {ss : List Signature} {k : ℕ} (f : CodeFunDec) (s : Signature) →
+    BodiesOn names first now fs ss k → k < length fs → length fs ≡ length ss → f ≡ get_or fs k f → s ≡ get_or ss k s →
+    ((scope : Scope) → scope ≡ scope_of names now false → one_body f.params f.result (plain f.body) s scope (noted_of now) ≡ fine tt (noted_of next)) →
+    Keeps now next → BodiesOn names first next fs ss (k + 1)
 bodies_one {names = names} {now = now} {fs = fs} {ss = ss} {k = k} f s a l m i j g p = record {
   kept = keeps_both a.kept p;
   onward = λ scope h.
-      a.onward scope h ∙ (ap (λ x. bodies (functions_of x) (drop k ss) scope (noted_of now)) (from_here fs k f l i) ∙ (ap (λ y. bodies (functions_of (f ∷ drop (k + 1) fs)) y scope (noted_of now)) (from_here ss k s (omega (arith, l, m)) j) ∙ two_steps _ _ _ _ (g scope (same_scope names a.kept h)) refl));
+      a.onward scope h ∙ (ap (λ x. bodies (functions_of x) (drop k ss) scope (noted_of now)) (from_here fs k f l i)
+      ∙ (ap (λ y. bodies (functions_of (f ∷ drop (k + 1) fs)) y scope (noted_of now)) (from_here ss k s (omega (arith, l, m)) j) ∙ two_steps _ _ _ _
+      (g scope (same_scope names a.kept h)) refl));
 }
 
-pub bodies_fail : {names : List (List ℕ)} {first now : State} {fs : List CodeFunDec} {ss : List Signature} {k : ℕ} (f : CodeFunDec) (s : Signature) {e : TypeFault} → BodiesOn names first now fs ss k → k < length fs → length fs ≡ length ss → f ≡ get_or fs k f → s ≡ get_or ss k s → ((scope : Scope) → scope ≡ scope_of names now false → Fails e (one_body f.params f.result (plain f.body) s scope (noted_of now))) → (scope : Scope) → scope ≡ scope_of names first false → Fails e (bodies (functions_of fs) ss scope (noted_of first))
+pub bodies_fail : {names : List (List ℕ)} {first now : State} {fs : List CodeFunDec} {ss : List Signature} {k : ℕ} (f : CodeFunDec)
+    (s : Signature) {e : TypeFault} → BodiesOn names first now fs ss k → k < length fs → length fs ≡ length ss → f ≡ get_or fs k f → s ≡ get_or ss k s →
+    ((scope : Scope) → scope ≡ scope_of names now false → Fails e (one_body f.params f.result (plain f.body) s scope (noted_of now))) → (scope : Scope) →
+    scope ≡ scope_of names first false → Fails e (bodies (functions_of fs) ss scope (noted_of first))
 bodies_fail {names = names} {now = now} {fs = fs} {ss = ss} {k = k} f s a l m i j g scope h =
-    last_fails (a.onward scope h ∙ (ap (λ x. bodies (functions_of x) (drop k ss) scope (noted_of now)) (from_here fs k f l i) ∙ ap (λ y. bodies (functions_of (f ∷ drop (k + 1) fs)) y scope (noted_of now)) (from_here ss k s (omega (arith, l, m)) j))) (two_fail_first _ _ _ _ (g scope (same_scope names a.kept h)))
+    last_fails (a.onward scope h ∙ (ap (λ x. bodies (functions_of x) (drop k ss) scope (noted_of now)) (from_here fs k f l i) ∙ ap
+    (λ y. bodies (functions_of (f ∷ drop (k + 1) fs)) y scope (noted_of now)) (from_here ss k s (omega (arith, l, m)) j)))
+    (two_fail_first _ _ _ _ (g scope (same_scope names a.kept h)))
 
-pub bodies_all : {names : List (List ℕ)} {first now : State} {fs : List CodeFunDec} {ss : List Signature} {k : ℕ} → BodiesOn names first now fs ss k → k ≡ length fs → (scope : Scope) → scope ≡ scope_of names first false → bodies (functions_of fs) ss scope (noted_of first) ≡ fine tt (noted_of now)
+pub bodies_all : {names : List (List ℕ)} {first now : State} {fs : List CodeFunDec} {ss : List Signature} {k : ℕ} → BodiesOn names first now fs ss k →
+    k ≡ length fs → (scope : Scope) → scope ≡ scope_of names first false → bodies (functions_of fs) ss scope (noted_of first) ≡ fine tt (noted_of now)
 unfolding give
-bodies_all {now = now} {fs = fs} {ss = ss} {k = k} a e scope h = a.onward scope h ∙ ap (λ x. bodies (functions_of x) (drop k ss) scope (noted_of now)) (none_left fs k e)
+bodies_all {now = now} {fs = fs} {ss = ss} {k = k} a e scope h =
+    a.onward scope h ∙ ap (λ x. bodies (functions_of x) (drop k ss) scope (noted_of now)) (none_left fs k e)
 
 -- a check goes on behind an answer
-pub leads_carry : {X A : Type 0} (r : Result X TypeFault) (scope : Scope) (after : Noted) (onward : Scope → Noted → Checked A) {c c' : Checked A} → c ≡ c' → Leads r scope after onward c' → Leads r scope after onward c
+pub leads_carry : {X A : Type 0} (r : Result X TypeFault) (scope : Scope) (after : Noted) (onward : Scope → Noted → Checked A) {c c' : Checked A} → c ≡ c' →
+    Leads r scope after onward c' → Leads r scope after onward c
 leads_carry r scope after onward d g = subst (λ c. Leads r scope after onward c) (sym d) g
 
-pub leads_on : {X A : Type 0} (r : Result X TypeFault) (scope : Scope) (after : Noted) (m : Check Scope) (onward : Scope → Check A) (n : Noted) → Gives r (λ _. scope) after (m n) → Leads r scope after onward ((m >>= onward) n)
+pub leads_on : {X A : Type 0} (r : Result X TypeFault) (scope : Scope) (after : Noted) (m : Check Scope) (onward : Scope → Check A) (n : Noted) →
+    Gives r (λ _. scope) after (m n) → Leads r scope after onward ((m >>= onward) n)
 unfolding ◌>>=◌
 leads_on (Ok x) scope after m onward n g = ap (λ y. on_fine y onward) g
 leads_on (Err e) scope after m onward n g = fails_first m onward g
 
-pub leads_kept : {X A : Type 0} (r : Result X TypeFault) (names : List (List ℕ)) (in_loop : Bool) (old new : State) (m : Check (Unit {0})) (onward : Scope → Check A) (n : Noted) (inner : Scope) → inner ≡ scope_of names old in_loop → OnOk r (Keeps old new) → Gives r (λ _. tt) (noted_of new) (m n) → Leads r (scope_of names new in_loop) (noted_of new) onward ((m >>= λ _. onward inner) n)
+pub leads_kept : {X A : Type 0} (r : Result X TypeFault) (names : List (List ℕ)) (in_loop : Bool) (old new : State) (m : Check (Unit {0}))
+    (onward : Scope → Check A) (n : Noted) (inner : Scope) → inner ≡ scope_of names old in_loop → OnOk r (Keeps old new) →
+    Gives r (λ _. tt) (noted_of new) (m n) → Leads r (scope_of names new in_loop) (noted_of new) onward ((m >>= λ _. onward inner) n)
 unfolding ◌>>=◌
-leads_kept (Ok x) names in_loop old new m onward n inner e k g = ap (λ y. on_fine y (λ _. onward inner)) g ∙ ap (λ s. onward s (noted_of new)) (same_scope names k e)
+leads_kept (Ok x) names in_loop old new m onward n inner e k g =
+    ap (λ y. on_fine y (λ _. onward inner)) g ∙ ap (λ s. onward s (noted_of new)) (same_scope names k e)
 leads_kept (Err x) names in_loop old new m onward n inner e k g = fails_first m (λ _. onward inner) g
 
 -- the names of the parts that a loop comes to
 -- the names of a `let`
-pub let_within : (n : ℕ) (k : Kind) (s : Span) (ds : CodeDecs) (es : CodeExps) → k ≡ Let ds es → NamesWithin n (plain_kind k s) → DecsWithin n (decs_of ds.items.items) × ExpsWithin n (plain_exps es)
+pub let_within : (n : ℕ) (k : Kind) (s : Span) (ds : CodeDecs) (es : CodeExps) → k ≡ Let ds es → NamesWithin n (plain_kind k s) →
+    DecsWithin n (decs_of ds.items.items) × ExpsWithin n (plain_exps es)
 let_within n k s ds es e h =
     let all = subst (λ x. NamesWithin n x) (plain_kind-Let ds es s) (subst (λ y. NamesWithin n (plain_kind y s)) e h) in
     (all.1, all.2)
 
 -- a choice begins with its test
-pub choice_fails : (s : Span) (test this : Exp) (other : Option Exp) (scope : Scope) (n : Noted) {e : TypeFault} → Fails e (fitting test int_type scope n) → Fails e (typed (choice s test this other) scope n)
+pub choice_fails : (s : Span) (test this : Exp) (other : Option Exp) (scope : Scope) (n : Noted) {e : TypeFault} → Fails e (fitting test int_type scope n) →
+    Fails e (typed (choice s test this other) scope n)
 choice_fails s test this None scope n h = two_fail_first _ _ _ _ h
 choice_fails s test this (Some o) scope n h = two_fail_first _ _ _ _ h
 
 -- the second way of a choice
 -- a choice with two ways goes on with the first, and then with the second
-pub choice_first_fails : (s : Span) (test this : Exp) (other : Option Exp) (way : Exp) (scope : Scope) (n : Noted) {m : Noted} {e : TypeFault} → other ≡ Some way → fitting test int_type scope n ≡ fine tt m → Fails e (typed this scope m) → Fails e (typed (choice s test this other) scope n)
+pub choice_first_fails : (s : Span) (test this : Exp) (other : Option Exp) (way : Exp) (scope : Scope) (n : Noted) {m : Noted} {e : TypeFault} →
+    other ≡ Some way → fitting test int_type scope n ≡ fine tt m → Fails e (typed this scope m) → Fails e (typed (choice s test this other) scope n)
 choice_first_fails s test this other way scope n i g h =
     last_fails (ap (λ o. typed (choice s test this o) scope n) i) (two_fail_then _ _ _ _ g (fails_first _ _ h))
 
-pub choice_both : (s : Span) (test this : Exp) (other : Option Exp) (way : Exp) (scope : Scope) (n : Noted) {m l : Noted} {t : Ty} → other ≡ Some way → fitting test int_type scope n ≡ fine tt m → typed this scope m ≡ fine t l → typed (choice s test this other) scope n ≡ second_way t way scope l
+pub choice_both : (s : Span) (test this : Exp) (other : Option Exp) (way : Exp) (scope : Scope) (n : Noted) {m l : Noted} {t : Ty} → other ≡ Some way →
+    fitting test int_type scope n ≡ fine tt m → typed this scope m ≡ fine t l → typed (choice s test this other) scope n ≡ second_way t way scope l
 choice_both s test this other way scope n i g h = ap (λ o. typed (choice s test this o) scope n) i ∙ two_steps _ _ _ _ g (step _ _ h refl)
 
-pub choice_one : (s : Span) (test this : Exp) (other : Option Exp) (scope : Scope) (n : Noted) {m : Noted} → other ≡ None → fitting test int_type scope n ≡ fine tt m → typed (choice s test this other) scope n ≡ idle this scope m
+pub choice_one : (s : Span) (test this : Exp) (other : Option Exp) (scope : Scope) (n : Noted) {m : Noted} → other ≡ None →
+    fitting test int_type scope n ≡ fine tt m → typed (choice s test this other) scope n ≡ idle this scope m
 choice_one s test this other scope n i g = ap (λ o. typed (choice s test this o) scope n) i ∙ two_steps _ _ _ _ g refl
 
 -- the parts of a choice
-pub choice_whole : (k : Kind) (s : Span) (test this : Box CodeExp Global) (other : Option (Box CodeExp Global)) → k ≡ If test this other → plain_kind k s ≡ choice s (plain (box_value test)) (plain (box_value this)) (option_map (λ b. plain (box_value b)) other)
+pub choice_whole : (k : Kind) (s : Span) (test this : Box CodeExp Global) (other : Option (Box CodeExp Global)) → k ≡ If test this other →
+    plain_kind k s ≡ choice s (plain (box_value test)) (plain (box_value this)) (option_map (λ b. plain (box_value b)) other)
 choice_whole k s test this None e = ap (λ x. plain_kind x s) e
 choice_whole k s test this (Some b) e = ap (λ x. plain_kind x s) e
 
-pub choice_within : (n : ℕ) (s : Span) (test this : Exp) (other : Option Exp) → NamesWithin n (choice s test this other) → NamesWithin n test × NamesWithin n this
+pub choice_within : (n : ℕ) (s : Span) (test this : Exp) (other : Option Exp) → NamesWithin n (choice s test this other) →
+    NamesWithin n test × NamesWithin n this
 choice_within n s test this None h = (h.1, h.2)
 choice_within n s test this (Some o) h = (h.1, h.2)
 
-pub way_within : {A : Type 0} (n : ℕ) (s : Span) (f : A → Exp) (test this : Exp) (other : Option A) → NamesWithin n (choice s test this (option_map f other)) → IfSome other (λ x. NamesWithin n (f x))
+pub way_within : {A : Type 0} (n : ℕ) (s : Span) (f : A → Exp) (test this : Exp) (other : Option A) →
+    NamesWithin n (choice s test this (option_map f other)) → IfSome other (λ x. NamesWithin n (f x))
 way_within n s f test this None h = tt
 way_within n s f test this (Some o) h = h.3

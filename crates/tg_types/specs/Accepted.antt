@@ -23,4 +23,5 @@ finding_of body (fault rule at) = at_fault rule at
 
 -- a program's finding, where its identifiers are numbered by this list of names
 abbrev pub finding : (names : List (List ℕ)) → Exp → Finding
-finding names body = finding_of body (typed body (outermost names) (record { shapes = []; notes = [] }))
+finding names body =
+    finding_of body (typed body (outermost names) (record { shapes = []; notes = [] }))

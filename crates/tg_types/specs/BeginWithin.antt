@@ -1,6 +1,6 @@
--- Each part of a tree begins at this byte, or before it: its expressions, its identifiers, and the
--- operators between two expressions.
-use Rattle.std.specs.Prelude.{ℕ, ◌≤◌, List, Option}
+-- Each part of a tree begins at such a byte: its expressions, its identifiers, and the operators
+-- between two expressions.
+use Rattle.std.specs.Prelude.{ℕ, List, Option, Bool, IsTrue}
 use Rattle.tg_syntax.specs.declared.tokens.Ident.{Ident}
 use Rattle.tg_syntax.specs.declared.trees.Param.{Param}
 use Rattle.tg_syntax.specs.Tree.{Form, TypeDec, Exp, Place, Exps, Inits, Decs, FunDecs}
@@ -8,39 +8,39 @@ use Rattle.tg_syntax.specs.Throughout.{ThroughParams, ThroughForm, ThroughTypes,
 use Rattle.tg_syntax.specs.Throughout.{Throughout, ThroughPlace, ThroughExps, ThroughInits}
 use Rattle.tg_syntax.specs.Throughout.{ThroughDecs, ThroughFunctions}
 
-abbrev pub IdentBegins : (bound : ℕ) → Ident → Type 0
-IdentBegins n x = x.span.from ≤ n
+abbrev pub IdentBegins : (here : ℕ → Bool) → Ident → Type 0
+IdentBegins here x = IsTrue (here x.span.from)
 
-abbrev pub IsUpTo : (bound at : ℕ) → Type 0
-IsUpTo n at = at ≤ n
+abbrev pub IsHere : (here : ℕ → Bool) → (at : ℕ) → Type 0
+IsHere here at = IsTrue (here at)
 
-abbrev pub BeginsWithin : (bound : ℕ) → Exp → Type 0
-BeginsWithin n e = Throughout (IdentBegins n) (IsUpTo n) e
+abbrev pub BeginsWithin : (here : ℕ → Bool) → Exp → Type 0
+BeginsWithin here e = Throughout (IdentBegins here) (IsHere here) e
 
 -- the same of the parts of a tree
-abbrev pub ParamsBegin : (bound : ℕ) → List Param → Type 0
-ParamsBegin n ps = ThroughParams (IdentBegins n) (IsUpTo n) ps
+abbrev pub ParamsBegin : (here : ℕ → Bool) → List Param → Type 0
+ParamsBegin here ps = ThroughParams (IdentBegins here) (IsHere here) ps
 
-abbrev pub FormBegins : (bound : ℕ) → Form → Type 0
-FormBegins n f = ThroughForm (IdentBegins n) (IsUpTo n) f
+abbrev pub FormBegins : (here : ℕ → Bool) → Form → Type 0
+FormBegins here f = ThroughForm (IdentBegins here) (IsHere here) f
 
-abbrev pub TypesBegin : (bound : ℕ) → List TypeDec → Type 0
-TypesBegin n ds = ThroughTypes (IdentBegins n) (IsUpTo n) ds
+abbrev pub TypesBegin : (here : ℕ → Bool) → List TypeDec → Type 0
+TypesBegin here ds = ThroughTypes (IdentBegins here) (IsHere here) ds
 
-abbrev pub KindBegins : (bound : ℕ) → Option Ident → Type 0
-KindBegins n kind = ThroughKind (IdentBegins n) (IsUpTo n) kind
+abbrev pub KindBegins : (here : ℕ → Bool) → Option Ident → Type 0
+KindBegins here kind = ThroughKind (IdentBegins here) (IsHere here) kind
 
-abbrev pub PlaceBegins : (bound : ℕ) → Place → Type 0
-PlaceBegins n v = ThroughPlace (IdentBegins n) (IsUpTo n) v
+abbrev pub PlaceBegins : (here : ℕ → Bool) → Place → Type 0
+PlaceBegins here v = ThroughPlace (IdentBegins here) (IsHere here) v
 
-abbrev pub ExpsBegin : (bound : ℕ) → Exps → Type 0
-ExpsBegin n es = ThroughExps (IdentBegins n) (IsUpTo n) es
+abbrev pub ExpsBegin : (here : ℕ → Bool) → Exps → Type 0
+ExpsBegin here es = ThroughExps (IdentBegins here) (IsHere here) es
 
-abbrev pub InitsBegin : (bound : ℕ) → Inits → Type 0
-InitsBegin n inits = ThroughInits (IdentBegins n) (IsUpTo n) inits
+abbrev pub InitsBegin : (here : ℕ → Bool) → Inits → Type 0
+InitsBegin here inits = ThroughInits (IdentBegins here) (IsHere here) inits
 
-abbrev pub DecsBegin : (bound : ℕ) → Decs → Type 0
-DecsBegin n ds = ThroughDecs (IdentBegins n) (IsUpTo n) ds
+abbrev pub DecsBegin : (here : ℕ → Bool) → Decs → Type 0
+DecsBegin here ds = ThroughDecs (IdentBegins here) (IsHere here) ds
 
-abbrev pub FunctionsBegin : (bound : ℕ) → FunDecs → Type 0
-FunctionsBegin n fs = ThroughFunctions (IdentBegins n) (IsUpTo n) fs
+abbrev pub FunctionsBegin : (here : ℕ → Bool) → FunDecs → Type 0
+FunctionsBegin here fs = ThroughFunctions (IdentBegins here) (IsHere here) fs

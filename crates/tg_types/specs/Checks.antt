@@ -1,5 +1,5 @@
--- Checks, one after another: the first fault is given. They thread the shapes of the forms that were declared so far, and the
--- notes so far, in the order of the text.
+-- Checks, one after another: the first fault is given. They thread the shapes of the forms that
+-- were declared so far, and the notes so far, in the order of the text.
 use Rattle.std.specs.Prelude.{ℕ, List, [], ◌∷◌, ◌++◌, Option, Some, None, Bool, true, false}
 use Rattle.tg_types.specs.declared.faults.TypeRule.{TypeRule}
 use Rattle.tg_types.specs.declared.notes.Note.{Note}
@@ -46,7 +46,8 @@ present rule at (Some a) = give a
 present rule at None = refuse rule at
 
 unfoldable pub note : (at : ℕ) → Means → Check (Unit {0})
-note at means = λ noted. fine tt (record noted { notes = noted.notes ++ record { at = at; means = means } ∷ [] })
+note at means =
+    λ n. fine tt (record n { notes = n.notes ++ record { at = at; means = means } ∷ [] })
 
 unfoldable pub shape_at : (at : ℕ) → Check (Option Shape)
 shape_at at = λ noted. fine (named at noted.shapes) noted

@@ -47,18 +47,24 @@ named_types _ _ before = before
 
 -- each name of a group is declared once
 abbrev pub AreDifferent : List TypeDec → Type 0
-AreDifferent ds = (k : ℕ) (d : TypeDec) → slice_get ds k ≡ Some d → place_in (name_of d.name) ds ≡ Some k
+AreDifferent ds =
+    (k : ℕ) (d : TypeDec) → slice_get ds k ≡ Some d → place_in (name_of d.name) ds ≡ Some k
 
 -- where a chain begins at a name, and one link from each declaration of a group
 abbrev pub start_at : Ident → Option ℕ → List TypeDec → CodeChain
 start_at x None ds = Outside x
-start_at x (Some k) ds = elim (slice_get ds k) [ Some d ↦ elim d.form [ Alias _ ↦ Onward k | Fields _ ↦ EndsAt k | Array _ ↦ EndsAt k ] | None ↦ Onward k ]
+start_at x (Some k) ds =
+    elim (slice_get ds k) [
+      | Some d ↦ elim d.form [ Alias _ ↦ Onward k | Fields _ ↦ EndsAt k | Array _ ↦ EndsAt k ]
+      | None ↦ Onward k
+    ]
 
 abbrev pub start_in : List TypeDec → Ident → CodeChain
 start_in ds x = start_at x (place_in (name_of x) ds) ds
 
 abbrev pub link_at : (whole : List TypeDec) → (at : ℕ) → Form → CodeChain
-link_at whole k form = elim form [ Alias x ↦ start_in whole x | Fields _ ↦ EndsAt k | Array _ ↦ EndsAt k ]
+link_at whole k form =
+    elim form [ Alias x ↦ start_in whole x | Fields _ ↦ EndsAt k | Array _ ↦ EndsAt k ]
 
 abbrev pub links_in : (whole : List TypeDec) → (from : ℕ) → List TypeDec → List CodeChain
 links_in whole k [] = []

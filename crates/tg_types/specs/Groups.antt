@@ -17,7 +17,8 @@ stands_in x (y ∷ ys) = (name_of y == x) || stands_in x ys
 -- a fault at the first name that repeats an earlier one
 abbrev pub no_repeats : TypeRule → (earlier names : List Ident) → Check (Unit {0})
 no_repeats rule earlier [] = give tt
-no_repeats rule earlier (x ∷ xs) = keep rule (at_of x) (not (stands_in (name_of x) earlier)) >> no_repeats rule (x ∷ earlier) xs
+no_repeats rule earlier (x ∷ xs) =
+    keep rule (at_of x) (not (stands_in (name_of x) earlier)) >> no_repeats rule (x ∷ earlier) xs
 
 abbrev pub type_named : Ident → Scope → Check Ty
 type_named x scope = present T3 (at_of x) (named (name_of x) scope.types)
@@ -38,9 +39,12 @@ is_some None = false
 
 -- a name of the group, or one that is known outside
 abbrev pub known : List TypeDec → Scope → Ident → Check (Unit {0})
-known ds scope x = keep T3 (at_of x) (stands_in (name_of x) (names_of ds) || is_some (named (name_of x) scope.types))
+known ds scope x =
+    keep T3 (at_of x)
+    (stands_in (name_of x) (names_of ds) || is_some (named (name_of x) scope.types))
 
-abbrev pub known_fields : List TypeDec → Scope → (earlier : List Ident) → List Param → Check (Unit {0})
+abbrev pub known_fields : List TypeDec → Scope → (earlier : List Ident) → List Param →
+    Check (Unit {0})
 known_fields ds scope earlier [] = give tt
 known_fields ds scope earlier (p ∷ ps) = do
   keep T18 (at_of p.name) (not (stands_in (name_of p.name) earlier))
@@ -56,7 +60,8 @@ abbrev pub known_forms : (group ds : List TypeDec) → Scope → Check (Unit {0}
 known_forms group [] scope = give tt
 known_forms group (d ∷ ds) scope = known_form group scope d.form >> known_forms group ds scope
 
--- where a chain of aliases leaves the group, or the form at which it ends; one that is longer than the group never ends
+-- where a chain of aliases leaves the group, or the form at which it ends; one that is longer than
+-- the group never ends
 pub data Chain : Type 0 where
   outside : (name : ℕ) → Chain
   ends_at : TypeDec → Chain
@@ -64,7 +69,8 @@ pub data Chain : Type 0 where
 
 abbrev pub link : (ℕ → Chain) → ℕ → Option TypeDec → Chain
 link onward x None = outside x
-link onward x (Some d) = elim d.form [ Alias y ↦ onward (name_of y) | Fields _ ↦ ends_at d | Array _ ↦ ends_at d ]
+link onward x (Some d) =
+    elim d.form [ Alias y ↦ onward (name_of y) | Fields _ ↦ ends_at d | Array _ ↦ ends_at d ]
 
 abbrev pub chain : (links : ℕ) → List TypeDec → ℕ → Chain
 chain zero ds x = endless
@@ -79,7 +85,8 @@ has_end _ = true
 
 abbrev pub chains_end : (group ds : List TypeDec) → Check (Unit {0})
 chains_end group [] = give tt
-chains_end group (d ∷ ds) = keep T19 (at_of d.name) (has_end (chain_of group d.name)) >> chains_end group ds
+chains_end group (d ∷ ds) =
+    keep T19 (at_of d.name) (has_end (chain_of group d.name)) >> chains_end group ds
 
 -- the type of a name that is known
 abbrev pub or_none : Option Ty → Ty
@@ -87,7 +94,12 @@ or_none (Some t) = t
 or_none None = none_type
 
 abbrev pub type_declared : TypeDec → Ty
-type_declared d = elim d.form [ Alias _ ↦ none_type | Fields _ ↦ record_type (at_of d.name) | Array _ ↦ array_type (at_of d.name) ]
+type_declared d =
+    elim d.form [
+      | Alias _ ↦ none_type
+      | Fields _ ↦ record_type (at_of d.name)
+      | Array _ ↦ array_type (at_of d.name)
+    ]
 
 abbrev pub type_at_end : Chain → Scope → Ty
 type_at_end (outside x) scope = or_none (named x scope.types)
@@ -96,15 +108,17 @@ type_at_end endless scope = none_type
 
 abbrev pub with_group : (group ds : List TypeDec) → (outer inner : Scope) → Scope
 with_group group [] outer inner = inner
-with_group group (d ∷ ds) outer inner =
-    with_group group ds outer (record inner { types = (name_of d.name, type_at_end (chain_of group d.name) outer) ∷ inner.types })
+with_group group (d ∷ ds) outer s =
+    with_group group ds outer
+    (record s { types = (name_of d.name, type_at_end (chain_of group d.name) outer) ∷ s.types })
 
 abbrev pub known_type : Scope → Ident → Ty
 known_type scope x = or_none (named (name_of x) scope.types)
 
 abbrev pub add_form : Scope → (at : ℕ) → Form → Check (Unit {0})
 add_form scope at (Alias x) = give tt
-add_form scope at (Fields ps) = add_shape at (record_shape (map (λ p. (name_of p.name, known_type scope p.kind)) ps))
+add_form scope at (Fields ps) =
+    add_shape at (record_shape (map (λ p. (name_of p.name, known_type scope p.kind)) ps))
 add_form scope at (Array x) = add_shape at (array_shape (known_type scope x))
 
 abbrev pub add_forms : Scope → List TypeDec → Check (Unit {0})
@@ -147,9 +161,11 @@ headers (function f ps r body rest) scope = do
   give (record { params = ts; result = t } ∷ more)
 
 abbrev pub with_functions : FunDecs → List Signature → Scope → Scope
-with_functions (function f _ _ _ rest) (s ∷ more) scope = with_functions rest more (binding f (function_at (at_of f) s) scope)
+with_functions (function f _ _ _ rest) (s ∷ more) scope =
+    with_functions rest more (binding f (function_at (at_of f) s) scope)
 with_functions _ _ scope = scope
 
 abbrev pub with_params : List Param → List Ty → Scope → Scope
-with_params (p ∷ ps) (t ∷ ts) scope = with_params ps ts (binding p.name (variable_at (at_of p.name) t false) scope)
+with_params (p ∷ ps) (t ∷ ts) scope =
+    with_params ps ts (binding p.name (variable_at (at_of p.name) t false) scope)
 with_params _ _ scope = scope

@@ -4,9 +4,9 @@ pub mod Scopes
 pub mod Groups
 pub mod Typing
 pub mod Limits
+pub mod Has
 pub mod Accepted
 pub mod BeginWithin
-pub mod Laws
 pub mod Kinds
 pub mod Bindings
 pub mod Shapes
@@ -16,4 +16,6 @@ pub mod Trees
 pub mod Faults
 pub mod Answered
 pub mod Programs
+pub mod Derivations
+pub mod Laws
 pub mod Declaring

@@ -18,7 +18,11 @@ pub record CheckedProgram : Type 0 where
 
 abbrev pub checked_code : Coded CheckedProgram
 checked_code =
-    code_by (Program × (List (List ℕ) × List Note)) (coded× program.the_row.coded (coded× (coded_list (coded_list coded_ℕ)) (coded_list note.the_row.coded))) (λ c. (c.program, (c.names, c.notes))) (λ p. record { program = p.0; names = p.1.0; notes = p.1.1 }) (λ _. refl)
+    code_by (Program × (List (List ℕ) × List Note))
+    (coded× program.the_row.coded
+    (coded× (coded_list (coded_list coded_ℕ)) (coded_list note.the_row.coded)))
+    (λ c. (c.program, (c.names, c.notes)))
+    (λ p. record { program = p.0; names = p.1.0; notes = p.1.1 }) (λ _. refl)
 
 -- it meets the condition of the check, and has no fault; the notes are its own
 pub record IsAccepted (p : CheckedProgram) : Type 0 where

@@ -1,5 +1,5 @@
--- What a place of the text sees. Types have one name space; variables and functions share the other. An inner declaration
--- hides an outer one.
+-- What a place of the text sees. Types have one name space; variables and functions share the
+-- other. An inner declaration hides an outer one.
 use Rattle.std.specs.Prelude.{ℕ, suc, List, [], ◌∷◌, ◌++◌, Option, Some, None, Bool, true, false, if◌then◌else◌, codes}
 use Rattle.std.specs.Str.{bytes_eq}
 use Rattle.tg_syntax.specs.declared.tokens.Ident.{Ident}
@@ -13,15 +13,15 @@ pub record Signature : Type 0 where
   pub params : List Ty
   pub result : Ty
 
--- a name's declaration: a variable with its type, which may be a loop's, or a function, each with the byte of its declaring
--- identifier; or a standard function
+-- a name's declaration: a variable with its type, which may be a loop's, or a function, each with
+-- the byte of its declaring identifier; or a standard function
 pub data Binding : Type 0 where
   variable_at : (at : ℕ) → Ty → (loop : Bool) → Binding
   function_at : (at : ℕ) → Signature → Binding
   standard_one : Standard → Binding
 
--- names with their bindings, and type names with their types, the innermost first; whether a loop of the same function is
--- open
+-- names with their bindings, and type names with their types, the innermost first; whether a loop
+-- of the same function is open
 pub record Scope : Type 0 where
   pub bindings : List (ℕ × Binding)
   pub types : List (ℕ × Ty)
@@ -53,18 +53,23 @@ signature Getchar = record { params = []; result = string_type }
 signature Ord = record { params = string_type ∷ []; result = int_type }
 signature Chr = record { params = int_type ∷ []; result = string_type }
 signature Size = record { params = string_type ∷ []; result = int_type }
-signature Substring = record { params = string_type ∷ int_type ∷ int_type ∷ []; result = string_type }
+signature Substring =
+    record { params = string_type ∷ int_type ∷ int_type ∷ []; result = string_type }
 signature Concat = record { params = string_type ∷ string_type ∷ []; result = string_type }
 signature Not = record { params = int_type ∷ []; result = int_type }
 signature Exit = record { params = int_type ∷ []; result = none_type }
 
--- the outermost scope: those of the names that mean something there, by their places in the list of names
+-- the outermost scope: those of the names that mean something there, by their places in the list of
+-- names
 abbrev pub standard_of : List ℕ → List Standard → Option Standard
 standard_of text [] = None
-standard_of text (f ∷ rest) = if bytes_eq text (standard_text f) then Some f else standard_of text rest
+standard_of text (f ∷ rest) =
+    if bytes_eq text (standard_text f) then Some f else standard_of text rest
 
 abbrev pub type_of_text : List ℕ → Option Ty
-type_of_text text = if bytes_eq text (codes "int") then Some int_type else if bytes_eq text (codes "string") then Some string_type else None
+type_of_text text =
+    if bytes_eq text (codes "int") then Some int_type else
+    if bytes_eq text (codes "string") then Some string_type else None
 
 abbrev pub entry : {A B : Type 0} → (A → B) → ℕ → Option A → List (ℕ × B)
 entry f n None = []
@@ -72,11 +77,14 @@ entry f n (Some a) = (n, f a) ∷ []
 
 abbrev pub standard_bindings : ℕ → List (List ℕ) → List (ℕ × Binding)
 standard_bindings n [] = []
-standard_bindings n (text ∷ names) = entry standard_one n (standard_of text standards) ++ standard_bindings (suc n) names
+standard_bindings n (text ∷ names) =
+    entry standard_one n (standard_of text standards) ++ standard_bindings (suc n) names
 
 abbrev pub standard_types : ℕ → List (List ℕ) → List (ℕ × Ty)
 standard_types n [] = []
-standard_types n (text ∷ names) = entry (λ t. t) n (type_of_text text) ++ standard_types (suc n) names
+standard_types n (text ∷ names) =
+    entry (λ t. t) n (type_of_text text) ++ standard_types (suc n) names
 
 abbrev pub outermost : List (List ℕ) → Scope
-outermost names = record { bindings = standard_bindings 0 names; types = standard_types 0 names; in_loop = false }
+outermost names =
+    record { bindings = standard_bindings 0 names; types = standard_types 0 names; in_loop = false }

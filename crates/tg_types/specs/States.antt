@@ -25,12 +25,14 @@ pub data Fails {A : Type 0} : TypeFault → Checked A → Type 0 where
   no_memory : {c : Checked A} → Fails Memory c
 
 -- an answer is what a check gives, with what is noted after it
-abbrev pub Gives : {X A : Type 0} → Result X TypeFault → (X → A) → (after : Noted) → Checked A → Type 0
+abbrev pub Gives : {X A : Type 0} → Result X TypeFault → (X → A) → (after : Noted) → Checked A →
+    Type 0
 Gives (Ok x) value after c = c ≡ fine (value x) after
 Gives (Err e) value after c = Fails e c
 
 -- an answer is that a check goes on behind a scope, or its fault
-abbrev pub Leads : {X A : Type 0} → Result X TypeFault → Scope → (after : Noted) → (Scope → Noted → Checked A) → Checked A → Type 0
+abbrev pub Leads : {X A : Type 0} → Result X TypeFault → Scope → (after : Noted) →
+    (Scope → Noted → Checked A) → Checked A → Type 0
 Leads (Ok x) scope after onward c = c ≡ onward scope after
 Leads (Err e) scope after onward c = Fails e c
 

@@ -29,15 +29,18 @@ abbrev pub left_operand : Op → (at : ℕ) → Exp → Scope → Check Ty
 left_operand op at a scope = typed a scope >>= λ t. left_side op t at (start_of a)
 
 abbrev pub right_operand : Op → (left : Ty) → Exp → (whole : ℕ) → Scope → Check Ty
-right_operand op left b whole scope = typed b scope >>= λ u. right_side op left u (start_of b) whole >> give int_type
+right_operand op left b whole scope =
+    typed b scope >>= λ u. right_side op left u (start_of b) whole >> give int_type
 
 -- a value that fits into something, and the type of the whole
 abbrev pub filled : (whole wanted : Ty) → Exp → Scope → Check Ty
-filled whole wanted value scope = typed value scope >>= λ a. expect wanted a (start_of value) >> give whole
+filled whole wanted value scope =
+    typed value scope >>= λ a. expect wanted a (start_of value) >> give whole
 
 -- the second way of a choice, whose first has a type
 abbrev pub second_way : Ty → Exp → Scope → Check Ty
-second_way t other scope = typed other scope >>= λ u. keep T6 (start_of other) (alike t u) >> give (joined t u)
+second_way t other scope =
+    typed other scope >>= λ u. keep T6 (start_of other) (alike t u) >> give (joined t u)
 
 -- a choice, with or without its second way
 abbrev pub choice : Span → (test this : Exp) → Option Exp → Exp
@@ -50,11 +53,13 @@ idle e scope = typed e scope >>= λ t. expect_none t (start_of e) >> give none_t
 
 -- the body of a loop that counts
 abbrev pub counting : Ident → Exp → Scope → Check Ty
-counting x body scope = idle body (in_a_loop (binding x (variable_at (at_of x) int_type true) scope))
+counting x body scope =
+    idle body (in_a_loop (binding x (variable_at (at_of x) int_type true) scope))
 
 -- one body of a group
 abbrev pub one_body : List Param → Option Ident → Exp → Signature → Scope → Check (Unit {0})
-one_body ps r body s scope = typed body (with_params ps s.params scope) >>= λ a. body_fits r s.result a (start_of body)
+one_body ps r body s scope =
+    typed body (with_params ps s.params scope) >>= λ a. body_fits r s.result a (start_of body)
 
 -- a part of a list
 abbrev pub IsAmong : {A : Type 0} → A → List A → Type 0

@@ -1,5 +1,5 @@
--- Types: int, string, nil, none, and one new type for each record or array form that is declared, named by the byte of its
--- declaration. Two types are equal only where they are the same one.
+-- Types: int, string, nil, none, and one new type for each record or array form that is declared,
+-- named by the byte of its declaration. Two types are equal only where they are the same one.
 use Rattle.std.specs.Prelude.{ℕ, ◌==◌, ◌||◌, List, Bool, true, false}
 
 pub data Ty : Type 0 where

@@ -80,7 +80,8 @@ element_of _ at = refuse T9 at
 -- a field's place and type
 abbrev pub placed : ℕ → (from : ℕ) → List (ℕ × Ty) → Option (ℕ × Ty)
 placed f from [] = None
-placed f from (field ∷ rest) = if field.0 == f then Some (from, field.1) else placed f (suc from) rest
+placed f from (field ∷ rest) =
+    if field.0 == f then Some (from, field.1) else placed f (suc from) rest
 
 abbrev pub select : List (ℕ × Ty) → Ident → Check Ty
 select fs f = do

@@ -1,6 +1,17 @@
-ghost use Rattle.tg_types.specs.Laws.{FaultsStandWithin, IsNeverStuck};
+ghost use Rattle.tg_types.specs.Laws.{CheckedHasType, FaultsStandWithin, IsNeverStuck, NotesAreFound};
 
-/// A law: an accepted program is never stuck.
+/// A law: a checked program has a type by the relation of typed parts, which asks of each use, call, field and
+/// comparison what the program's notes say there.
+pub fn checked_has_type()
+    ensures { CheckedHasType }
+{}
+
+/// A law: what is noted at a byte is what `Notes::find` answers.
+pub fn notes_are_found()
+    ensures { NotesAreFound }
+{}
+
+/// A law: a checked program is never stuck.
 pub fn never_stuck()
     ensures { IsNeverStuck }
 {}

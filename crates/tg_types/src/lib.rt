@@ -24,5 +24,6 @@ mod trees;
 
 pub use checking::{Checked, Notes, check};
 pub use faults::{TypeFault, TypeRule};
-pub use laws::{faults_stand_within, never_stuck};
+pub use laws::{checked_has_type, faults_stand_within, never_stuck, notes_are_found};
 pub use notes::{Means, Note};
+pub use tg_meaning::Standard;

@@ -19,12 +19,15 @@ pub returns-in_ok-fields-in-Fields-clause-given : goal.returns-in_ok-fields-in-F
 returns-in_ok-fields-in-Fields-clause-given c = λ scope in_loop h.
     let at = c.args.dec.now.name.span.from in
     let n = noted_of c.args.state.now in
-    let is = c.record_of.ensures ∙ ap record_shape (c.in_ok-fields-in-Fields.ensures scope in_loop h ∙ ap (λ ps. map (λ (p : Param). (p.name.name.0, groups.known_type scope p.kind)) ps) c.as_slice.ensures) in
-    carry c.add_shape.result _ _ (ap (λ f. groups.add_form scope at (plain_form f) n) c.in-Fields.is ∙ ap (λ s. add_shape at s n) (sym is)) c.add_shape.ensures.given
+    let is = c.record_of.ensures ∙ ap record_shape (c.in_ok-fields-in-Fields.ensures scope in_loop h ∙ ap
+    (λ ps. map (λ (p : Param). (p.name.name.0, groups.known_type scope p.kind)) ps) c.as_slice.ensures) in
+    carry c.add_shape.result _ _ (ap (λ f. groups.add_form scope at (plain_form f) n) c.in-Fields.is ∙ ap (λ s. add_shape at s n) (sym is))
+    c.add_shape.ensures.given
 
 pub returns-in-Array-clause-given : goal.returns-in-Array-clause-given
 returns-in-Array-clause-given c = λ scope in_loop h.
     let at = c.args.dec.now.name.span.from in
     let n = noted_of c.args.state.now in
     let is = c.array_of.ensures ∙ ap array_shape (c.known_type-element.ensures scope in_loop h) in
-    carry c.add_shape-in-Array.result _ _ (ap (λ f. groups.add_form scope at (plain_form f) n) c.in-Array.is ∙ ap (λ s. add_shape at s n) (sym is)) c.add_shape-in-Array.ensures.given
+    carry c.add_shape-in-Array.result _ _ (ap (λ f. groups.add_form scope at (plain_form f) n) c.in-Array.is ∙ ap (λ s. add_shape at s n) (sym is))
+    c.add_shape-in-Array.ensures.given

@@ -8,5 +8,6 @@ use Rattle.tg_types.proofs.groups.chains_end.Given as goal
 abbrev pub invariant-loop-dec : goal.invariant-loop-dec
 invariant-loop-dec l = record {
   at_index : l.at ≡ l.dec-index;
-  onward : map (chain_from (map plain_type l.group)) l.ends ≡ map (λ d. chain_of (map plain_type l.group) d.name) (map plain_type l.group) → EndsOn (map plain_type l.group) (map plain_type l.group) l.dec-index;
+  onward : map (chain_from (map plain_type l.group)) l.ends ≡ map (λ d. chain_of (map plain_type l.group) d.name) (map plain_type l.group) →
+      EndsOn (map plain_type l.group) (map plain_type l.group) l.dec-index;
 }

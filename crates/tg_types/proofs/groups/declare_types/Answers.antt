@@ -17,7 +17,8 @@ pub returns-in_err-known_forms-clause-given : goal.returns-in_err-known_forms-cl
 returns-in_err-known_forms-clause-given c = λ scope in_loop h.
     let n = noted_of c.args.state.now in
     let ds = map plain_type c.args.group.now in
-    ended _ _ _ c.from_residual-in_err-known_forms.ensures (fails_then _ _ (c.in_ok-places.ensures.given n) (fails_first _ _ (c.in_err-known_forms.ensures ds scope in_loop c.in_ok-places.ensures.places h n)))
+    ended _ _ _ c.from_residual-in_err-known_forms.ensures
+    (fails_then _ _ (c.in_ok-places.ensures.given n) (fails_first _ _ (c.in_err-known_forms.ensures ds scope in_loop c.in_ok-places.ensures.places h n)))
 
 pub returns-in_err-ends-clause-given : goal.returns-in_err-ends-clause-given
 returns-in_err-ends-clause-given c = λ scope in_loop h. ended _ _ _ c.from_residual-in_err-ends.ensures no_memory
@@ -33,7 +34,10 @@ returns-in_err-chains_end-clause-given c = λ scope in_loop h.
     let n = noted_of c.args.state.now in
     let ds = map plain_type c.args.group.now in
     let chains = ap (λ l. map (λ e. chain_from ds e) l) c.deref.ensures.value ∙ c.in_ok-ends.ensures.chains in
-    ended _ _ _ c.from_residual-in_err-chains_end.ensures (fails_then _ _ (c.in_ok-places.ensures.given n) (fails_then _ _ (c.in_ok-known_forms.ensures ds scope in_loop c.in_ok-places.ensures.places h n) (fails_first _ _ (c.in_err-chains_end.ensures chains n))))
+    ended _ _ _ c.from_residual-in_err-chains_end.ensures
+    (fails_then _ _ (c.in_ok-places.ensures.given n)
+    (fails_then _ _ (c.in_ok-known_forms.ensures ds scope in_loop c.in_ok-places.ensures.places h n)
+    (fails_first _ _ (c.in_err-chains_end.ensures chains n))))
 
 pub types_of-requires : goal.types_of-requires
 types_of-requires c =
@@ -46,7 +50,8 @@ returns-in_err-types-clause-given c = λ scope in_loop h. ended _ _ _ c.from_res
 
 pub open_types-requires : goal.open_types-requires
 open_types-requires c =
-    ap length c.deref-3.ensures.value ∙ (ap length (c.in_ok-types.ensures _ true refl) ∙ (length-map c.deref-2.result.now _ ∙ (ap length c.deref-2.ensures.value ∙ c.in_ok-ends.ensures.as_many)))
+    ap length c.deref-3.ensures.value ∙ (ap length (c.in_ok-types.ensures _ true refl)
+    ∙ (length-map c.deref-2.result.now _ ∙ (ap length c.deref-2.ensures.value ∙ c.in_ok-ends.ensures.as_many)))
 
 pub returns-in_err-open_types-clause-given : goal.returns-in_err-open_types-clause-given
 returns-in_err-open_types-clause-given c = λ scope in_loop h. ended _ _ _ c.from_residual-in_err-open_types.ensures no_memory
@@ -63,10 +68,16 @@ returns-clause-given c = λ scope in_loop h.
     let chains = ap (λ l. map (λ e. chain_from ds e) l) c.deref.ensures.value ∙ c.in_ok-ends.ensures.chains in
     let chains_too = ap (λ l. map (λ e. chain_from ds e) l) c.deref-2.ensures.value ∙ c.in_ok-ends.ensures.chains in
     let types = types_are ds c.deref-2.result.now c.deref-3.result.now scope chains_too (c.deref-3.ensures.value ∙ c.in_ok-types.ensures scope in_loop h) in
-    let opened = group_scope names in_loop old mid c.args.group.now c.deref-3.result.now scope h types c.in_ok-open_types.ensures.types c.in_ok-open_types.ensures.bindings in
-    let last = subst (λ m. Gives c.add_forms.result (λ _. tt) (noted_of new) (groups.add_forms inner ds m)) c.in_ok-open_types.ensures.noted (c.add_forms.ensures.given inner in_loop opened) in
-    carry c.add_forms.result _ _ (step _ _ (c.in_ok-places.ensures.given n) (step _ _ (c.in_ok-known_forms.ensures ds scope in_loop c.in_ok-places.ensures.places h n) (step _ _ (c.in_ok-chains_end.ensures chains n) refl))) (scope_after c.add_forms.result names in_loop mid new inner (groups.add_forms inner ds) n opened c.add_forms.ensures.kept last)
+    let opened = group_scope names in_loop old mid c.args.group.now c.deref-3.result.now scope h types c.in_ok-open_types.ensures.types
+    c.in_ok-open_types.ensures.bindings in
+    let last = subst (λ m. Gives c.add_forms.result (λ _. tt) (noted_of new) (groups.add_forms inner ds m)) c.in_ok-open_types.ensures.noted
+    (c.add_forms.ensures.given inner in_loop opened) in
+    carry c.add_forms.result _ _ (step _ _ (c.in_ok-places.ensures.given n)
+    (step _ _ (c.in_ok-known_forms.ensures ds scope in_loop c.in_ok-places.ensures.places h n) (step _ _ (c.in_ok-chains_end.ensures chains n) refl)))
+    (scope_after c.add_forms.result names in_loop mid new inner (groups.add_forms inner ds) n opened c.add_forms.ensures.kept last)
 
 pub returns-clause-opens : goal.returns-clause-opens
 returns-clause-opens c =
-    opens_after c.add_forms.result c.args.state.now c.open_types.new.state c.add_forms.new.state (opens_types c.args.state.now c.open_types.new.state c.args.group.now c.deref-3.result.now c.in_ok-open_types.ensures.types c.in_ok-open_types.ensures.bindings) c.add_forms.ensures.kept
+    opens_after c.add_forms.result c.args.state.now c.open_types.new.state c.add_forms.new.state
+    (opens_types c.args.state.now c.open_types.new.state c.args.group.now c.deref-3.result.now c.in_ok-open_types.ensures.types
+    c.in_ok-open_types.ensures.bindings) c.add_forms.ensures.kept

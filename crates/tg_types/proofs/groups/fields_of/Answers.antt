@@ -13,7 +13,10 @@ pub loop-at-preserved : goal.loop-at-preserved
 loop-at-preserved c = record {
   low = omega (arith, c.loop-at.invariant.low);
   made = λ scope in_loop h.
-      c.in_ok-push.ensures.ok ∙ (ap (λ t. ((field_at c.args.fields.now (c.loop-at.at - 1)).name.name.0, t) ∷ c.loop-at.table) (c.known_type.ensures scope in_loop h) ∙ fields_back (λ (p : Param). (p.name.name.0, groups.known_type scope p.kind)) c.args.fields.now c.loop-at.at c.loop-at.table (omega (arith, c.loop-at-test.true)) c.loop-at.invariant.low (c.loop-at.invariant.made scope in_loop h));
+      c.in_ok-push.ensures.ok ∙ (ap (λ t. ((field_at c.args.fields.now (c.loop-at.at - 1)).name.name.0, t) ∷ c.loop-at.table)
+      (c.known_type.ensures scope in_loop h) ∙ fields_back
+      (λ (p : Param). (p.name.name.0, groups.known_type scope p.kind)) c.args.fields.now c.loop-at.at c.loop-at.table
+      (omega (arith, c.loop-at-test.true)) c.loop-at.invariant.low (c.loop-at.invariant.made scope in_loop h));
 }
 
 pub returns : goal.returns

@@ -6,7 +6,8 @@ use Rattle.tg_types.proofs.groups.known_fields.Goals as goal
 pub returns-in_err-fresh : goal.returns-in_err-fresh
 returns-in_err-fresh c = λ whole scope in_loop h e n.
     let a = c.loop-field.invariant in
-    ended _ _ _ c.from_residual.ensures (fields_repeat a c.loop-field-test.true (λ m. c.in_err-fresh.ensures.given a.earlier a.has m) whole scope in_loop h e n)
+    ended _ _ _ c.from_residual.ensures (fields_repeat a c.loop-field-test.true
+    (λ m. c.in_err-fresh.ensures.given a.earlier a.has m) whole scope in_loop h e n)
 
 pub known-requires : goal.known-requires
 known-requires c = field_within (length c.args.names.now) c.args.fields.now c.loop-field.field-index c.requires c.loop-field-test.true
@@ -14,12 +15,16 @@ known-requires c = field_within (length c.args.names.now) c.args.fields.now c.lo
 pub returns-in_err-known : goal.returns-in_err-known
 returns-in_err-known c = λ whole scope in_loop h e n.
     let a = c.loop-field.invariant in
-    ended _ _ _ c.from_residual-in_err-known.ensures (fields_unknown a c.loop-field-test.true (λ m. c.in_ok-fresh.ensures.given a.earlier a.has m) c.in_err-known.ensures whole scope in_loop h e n)
+    ended _ _ _ c.from_residual-in_err-known.ensures (fields_unknown a c.loop-field-test.true
+    (λ m. c.in_ok-fresh.ensures.given a.earlier a.has m) c.in_err-known.ensures whole scope in_loop h e n)
 
 pub loop-field-preserved : goal.loop-field-preserved
 loop-field-preserved c =
     let a = c.loop-field.invariant in
-    fields_one a c.loop-field-test.true (λ m. c.in_ok-fresh.ensures.given a.earlier a.has m) c.in_ok-known.ensures (c.in_ok-fresh.ensures.seen a.earlier a.has)
+    fields_one a c.loop-field-test.true (λ m. c.in_ok-fresh.ensures.given a.earlier a.has m) c.in_ok-known.ensures
+    (c.in_ok-fresh.ensures.seen a.earlier a.has)
 
 pub returns : goal.returns
-returns c = λ whole scope in_loop h e n. fields_all c.loop-field.invariant (omega (arith, c.loop-field.auto.field-index-end, c.loop-field-test.false)) whole scope in_loop h e n
+returns c =
+    λ whole scope in_loop h e n. fields_all c.loop-field.invariant
+    (omega (arith, c.loop-field.auto.field-index-end, c.loop-field-test.false)) whole scope in_loop h e n

@@ -10,8 +10,10 @@ returns-in-Alias c = λ whole scope in_loop h e n.
 
 pub returns-in-Fields : goal.returns-in-Fields
 returns-in-Fields c = λ whole scope in_loop h e n.
-    carry c.known_fields.result _ _ (ap (λ f. groups.known_form whole scope (plain_form f) n) c.in-Fields.is ∙ ap (λ ps. groups.known_fields whole scope [] ps n) (sym c.as_slice.ensures)) (c.known_fields.ensures whole scope in_loop h e n)
+    carry c.known_fields.result _ _ (ap (λ f. groups.known_form whole scope (plain_form f) n) c.in-Fields.is ∙ ap
+    (λ ps. groups.known_fields whole scope [] ps n) (sym c.as_slice.ensures)) (c.known_fields.ensures whole scope in_loop h e n)
 
 pub returns-in-Array : goal.returns-in-Array
 returns-in-Array c = λ whole scope in_loop h e n.
-    carry c.known-in-Array.result _ _ (ap (λ f. groups.known_form whole scope (plain_form f) n) c.in-Array.is) (c.known-in-Array.ensures whole scope in_loop h e n)
+    carry c.known-in-Array.result _ _ (ap (λ f. groups.known_form whole scope (plain_form f) n) c.in-Array.is)
+    (c.known-in-Array.ensures whole scope in_loop h e n)

@@ -14,18 +14,24 @@ pub returns-then-is_some-clause-given : goal.returns-then-is_some-clause-given
 returns-then-is_some-clause-given c = λ n.
     let group = c.args.group.now in
     let k = c.loop-at.at in
-    places_repeat (plain_type c.index-group-at.result) c.loop-at.invariant (plain_below group k c.loop-at-test.true) (plain_at group k c.index-group-at.result c.loop-at-test.true c.index-group-at.is) (ap (λ o. is_some o) (sym c.in_ok-insert.ensures.old) ∙ (sym c.is_some.ensures ∙ c.if-is_some.true)) n
+    places_repeat (plain_type c.index-group-at.result) c.loop-at.invariant (plain_below group k c.loop-at-test.true)
+    (plain_at group k c.index-group-at.result c.loop-at-test.true c.index-group-at.is)
+    (ap (λ o. is_some o) (sym c.in_ok-insert.ensures.old) ∙ (sym c.is_some.ensures ∙ c.if-is_some.true)) n
 
 pub loop-at-preserved : goal.loop-at-preserved
 loop-at-preserved c =
     let group = c.args.group.now in
     let k = c.loop-at.at in
-    places_one (plain_type c.index-group-at.result) c.loop-at.invariant (plain_below group k c.loop-at-test.true) (plain_at group k c.index-group-at.result c.loop-at-test.true c.index-group-at.is) (none_of _ (ap (λ o. is_some o) (sym c.in_ok-insert.ensures.old) ∙ (sym c.is_some.ensures ∙ c.if-is_some.false))) c.in_ok-insert.ensures.updates.0
+    places_one (plain_type c.index-group-at.result) c.loop-at.invariant (plain_below group k c.loop-at-test.true)
+    (plain_at group k c.index-group-at.result c.loop-at-test.true c.index-group-at.is)
+    (none_of _ (ap (λ o. is_some o) (sym c.in_ok-insert.ensures.old) ∙ (sym c.is_some.ensures ∙ c.if-is_some.false))) c.in_ok-insert.ensures.updates.0
 
 pub returns-clause-given : goal.returns-clause-given
-returns-clause-given c = λ n. places_all c.loop-at.invariant (plain_end c.args.group.now c.loop-at.at (omega (arith, c.loop-at.auto.at-end, c.loop-at-test.false))) n
+returns-clause-given c =
+    λ n. places_all c.loop-at.invariant (plain_end c.args.group.now c.loop-at.at (omega (arith, c.loop-at.auto.at-end, c.loop-at-test.false))) n
 
 pub returns-clause-different : goal.returns-clause-different
 returns-clause-different c =
     let n : Noted = record { shapes = []; notes = [] } in
-    differ (map plain_type c.args.group.now) [] n (places_all c.loop-at.invariant (plain_end c.args.group.now c.loop-at.at (omega (arith, c.loop-at.auto.at-end, c.loop-at-test.false))) n)
+    differ (map plain_type c.args.group.now) [] n (places_all c.loop-at.invariant
+    (plain_end c.args.group.now c.loop-at.at (omega (arith, c.loop-at.auto.at-end, c.loop-at-test.false))) n)

@@ -7,4 +7,6 @@ use Rattle.tg_types.specs.Declaring.{chain_from}
 use Rattle.tg_types.proofs.groups.types_of.Given as goal
 
 abbrev pub invariant-loop-end : goal.invariant-loop-end
-invariant-loop-end l = (scope : Scope) (in_loop : Bool) → scope ≡ scope_of l.names l.state in_loop → l.types.items ≡ map (λ e. groups.type_at_end (chain_from (map plain_type l.group) e) scope) (take l.end-index l.ends)
+invariant-loop-end l =
+    (scope : Scope) (in_loop : Bool) → scope ≡ scope_of l.names l.state in_loop →
+    l.types.items ≡ map (λ e. groups.type_at_end (chain_from (map plain_type l.group) e) scope) (take l.end-index l.ends)

@@ -6,7 +6,8 @@ use Rattle.tg_types.proofs.headers.param_types.Goals as goal
 
 pub loop-param-init : goal.loop-param-init
 loop-param-init c =
-    subst (λ ts. TypesOn c.args.names.now c.args.state.now c.new-earlier.result c.args.params.now ts 0) (sym c.new-types.ensures.items) (types_none (none_seen c.new-earlier.result c.new-earlier.ensures.empty))
+    subst (λ ts. TypesOn c.args.names.now c.args.state.now c.new-earlier.result c.args.params.now ts 0) (sym c.new-types.ensures.items)
+    (types_none (none_seen c.new-earlier.result c.new-earlier.ensures.empty))
 
 pub type_named-requires : goal.type_named-requires
 type_named-requires c =
@@ -19,7 +20,9 @@ loop-param-preserved c =
     let ps = c.args.params.now in
     let k = c.loop-param.param-index in
     let a = c.loop-param.invariant in
-    types_one (param_at ps k) c.in_ok-type_named.field-0 a c.loop-param-test.true (param_is ps k c.loop-param-test.true) (λ n. c.in_ok-fresh.ensures.given a.earlier a.has n) c.in_ok-type_named.ensures (c.in_ok-fresh.ensures.seen a.earlier a.has) c.in_ok-push.ensures.items
+    types_one (param_at ps k) c.in_ok-type_named.field-0 a c.loop-param-test.true (param_is ps k c.loop-param-test.true)
+    (λ n. c.in_ok-fresh.ensures.given a.earlier a.has n) c.in_ok-type_named.ensures
+    (c.in_ok-fresh.ensures.seen a.earlier a.has) c.in_ok-push.ensures.items
 
 pub returns-in_err-fresh : goal.returns-in_err-fresh
 returns-in_err-fresh c = record {
@@ -27,7 +30,8 @@ returns-in_err-fresh c = record {
       let ps = c.args.params.now in
       let k = c.loop-param.param-index in
       let a = c.loop-param.invariant in
-      ended _ _ _ c.from_residual.ensures (types_repeat (param_at ps k) a c.loop-param-test.true (param_is ps k c.loop-param-test.true) (λ m. c.in_err-fresh.ensures.given a.earlier a.has m) scope in_loop h n);
+      ended _ _ _ c.from_residual.ensures (types_repeat (param_at ps k) a c.loop-param-test.true (param_is ps k c.loop-param-test.true)
+      (λ m. c.in_err-fresh.ensures.given a.earlier a.has m) scope in_loop h n);
 }
 
 pub returns-in_err-type_named : goal.returns-in_err-type_named
@@ -36,7 +40,9 @@ returns-in_err-type_named c = record {
       let ps = c.args.params.now in
       let k = c.loop-param.param-index in
       let a = c.loop-param.invariant in
-      ended _ _ _ c.from_residual-in_err-type_named.ensures (types_unknown (param_at ps k) a c.loop-param-test.true (param_is ps k c.loop-param-test.true) (λ m. c.in_ok-fresh.ensures.given a.earlier a.has m) c.in_err-type_named.ensures scope in_loop h n);
+      ended _ _ _ c.from_residual-in_err-type_named.ensures
+      (types_unknown (param_at ps k) a c.loop-param-test.true (param_is ps k c.loop-param-test.true)
+      (λ m. c.in_ok-fresh.ensures.given a.earlier a.has m) c.in_err-type_named.ensures scope in_loop h n);
 }
 
 pub returns-in_err-push : goal.returns-in_err-push

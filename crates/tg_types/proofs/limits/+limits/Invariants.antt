@@ -12,4 +12,5 @@ abbrev pub invariant-decs_above-loop-dec : goal.invariant-decs_above-loop-dec
 invariant-decs_above-loop-dec l = first_in (dec_limit l.level) l.dec-items ≡ first_in (dec_limit l.level) (drop l.dec-index l.dec-items)
 
 abbrev pub invariant-functions_above-loop-function : goal.invariant-functions_above-loop-function
-invariant-functions_above-loop-function l = first_in (function_limit l.level) l.function-items ≡ first_in (function_limit l.level) (drop l.function-index l.function-items)
+invariant-functions_above-loop-function l =
+    first_in (function_limit l.level) l.function-items ≡ first_in (function_limit l.level) (drop l.function-index l.function-items)

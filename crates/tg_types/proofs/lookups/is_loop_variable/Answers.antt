@@ -7,4 +7,6 @@ pub returns-in-Some : goal.returns-in-Some
 returns-in-Some c = λ scope l h. c.is_loop_variable.ensures ∙ loop_open (bound_open c.args.x scope _ _ (ap (λ s. s.bindings) h) c.in-Some.ensures)
 
 pub returns-in-None : goal.returns-in-None
-returns-in-None c = λ scope l h. loop_outside _ (bound_outside c.args.x scope _ c.args.names.now (ap (λ s. s.bindings) h) c.in-None.ensures (slice_get-get_or c.args.names.now c.args.x.name.0 [] c.requires) refl)
+returns-in-None c =
+    λ scope l h. loop_outside _ (bound_outside c.args.x scope _ c.args.names.now (ap (λ s. s.bindings) h) c.in-None.ensures
+    (slice_get-get_or c.args.names.now c.args.x.name.0 [] c.requires) refl)

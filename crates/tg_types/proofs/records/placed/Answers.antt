@@ -11,7 +11,9 @@ pub returns-in_default : goal.returns-in_default
 returns-in_default c = bad (step _ _ c.in_ok-fields.ensures (present_not _ _ _ (placed_not c.args.field.name.0 0 _ (sym c.find.ensures ∙ c.in_default.is))))
 
 pub returns-in-Some-get : goal.returns-in-Some-get
-returns-in-Some-get c = step _ _ c.in_ok-fields.ensures (present_is _ _ _ (placed_is c.args.field.name.0 0 _ _ _ (sym c.find.ensures ∙ c.in-Some.is) (sym c.in-Some-get.ensures)))
+returns-in-Some-get c =
+    step _ _ c.in_ok-fields.ensures (present_is _ _ _ (placed_is c.args.field.name.0 0 _ _ _ (sym c.find.ensures ∙ c.in-Some.is) (sym c.in-Some-get.ensures)))
 
 pub returns-in-None : goal.returns-in-None
-returns-in-None c = bad (step _ _ c.in_ok-fields.ensures (present_not _ _ _ (placed_not c.args.field.name.0 0 _ (named_not c.args.field.name.0 0 _ (sym c.in-None.ensures)))))
+returns-in-None c =
+    bad (step _ _ c.in_ok-fields.ensures (present_not _ _ _ (placed_not c.args.field.name.0 0 _ (named_not c.args.field.name.0 0 _ (sym c.in-None.ensures)))))

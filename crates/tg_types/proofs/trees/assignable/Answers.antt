@@ -7,7 +7,9 @@ use Rattle.tg_types.specs.Checks.{give}
 use Rattle.tg_types.proofs.trees.assignable.Goals as goal
 
 pub returns-in-Simple : goal.returns-in-Simple
-returns-in-Simple c = λ scope l h n. carry c.kept.result _ _ (ap (λ v. typing.assignable (plain_place v) scope n) c.in-Simple.is ∙ keep_is _ _ refl (ap not (sym (c.is_loop_variable.ensures scope l h)))) (c.kept.ensures n)
+returns-in-Simple c =
+    λ scope l h n. carry c.kept.result _ _ (ap (λ v. typing.assignable (plain_place v) scope n) c.in-Simple.is ∙ keep_is _ _ refl
+    (ap not (sym (c.is_loop_variable.ensures scope l h)))) (c.kept.ensures n)
 
 pub returns-in-Field : goal.returns-in-Field
 unfolding give

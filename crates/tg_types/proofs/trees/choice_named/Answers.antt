@@ -9,10 +9,16 @@ pub returns-clause-whole : goal.returns-clause-whole
 returns-clause-whole c = choice_whole c.args.e.now.kind c.args.e.now.span _ _ _ c.requires.parts
 
 pub returns-clause-test : goal.returns-clause-test
-returns-clause-test c = (choice_within _ c.args.e.now.span _ _ _ (subst (λ x. NamesWithin (length c.args.names.now) x) (choice_whole c.args.e.now.kind c.args.e.now.span _ _ _ c.requires.parts) c.requires.all)).0
+returns-clause-test c =
+    (choice_within _ c.args.e.now.span _ _ _ (subst (λ x. NamesWithin (length c.args.names.now) x)
+    (choice_whole c.args.e.now.kind c.args.e.now.span _ _ _ c.requires.parts) c.requires.all)).0
 
 pub returns-clause-this : goal.returns-clause-this
-returns-clause-this c = (choice_within _ c.args.e.now.span _ _ _ (subst (λ x. NamesWithin (length c.args.names.now) x) (choice_whole c.args.e.now.kind c.args.e.now.span _ _ _ c.requires.parts) c.requires.all)).1
+returns-clause-this c =
+    (choice_within _ c.args.e.now.span _ _ _ (subst (λ x. NamesWithin (length c.args.names.now) x)
+    (choice_whole c.args.e.now.kind c.args.e.now.span _ _ _ c.requires.parts) c.requires.all)).1
 
 pub returns-clause-other : goal.returns-clause-other
-returns-clause-other c = way_within _ c.args.e.now.span (λ b. plain (box_value b)) _ _ _ (subst (λ x. NamesWithin (length c.args.names.now) x) (choice_whole c.args.e.now.kind c.args.e.now.span _ _ _ c.requires.parts) c.requires.all)
+returns-clause-other c =
+    way_within _ c.args.e.now.span (λ b. plain (box_value b)) _ _ _
+    (subst (λ x. NamesWithin (length c.args.names.now) x) (choice_whole c.args.e.now.kind c.args.e.now.span _ _ _ c.requires.parts) c.requires.all)
