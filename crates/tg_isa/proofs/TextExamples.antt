@@ -33,5 +33,5 @@ unfolding program_image
 text_assembled = refl
 
 -- lines without numbers
-plain_text : text_of (Label (codes "main") ∷ La 4 (codes "text") ∷ One (row.Bne 2 0 0) (codes "main") ∷ One row.Syscall [] ∷ Enter Statics ∷ Label (codes "text") ∷ Text (104 ∷ 10 ∷ 34 ∷ 92 ∷ 0 ∷ 9 ∷ 200 ∷ []) ∷ []) ≡ codes "main:\nla $a0, text\nbne $v0, $zero, main\nsyscall\n.data\ntext:\n.ascii \"h\\n\\\"\\\\\\0\\t" ++ (200 ∷ codes "\"\n")
+plain_text : text_of (Label (codes "main") ∷ La 4 (codes "text") ∷ One (row.Bne 2 0 0) (codes "main") ∷ One row.Syscall [] ∷ Enter Statics ∷ Label (codes "text") ∷ Text (104 ∷ 10 ∷ 34 ∷ 92 ∷ 0 ∷ 9 ∷ 200 ∷ []) ∷ []) ≡ codes "main:\n\tla $a0, text\n\tbne $v0, $zero, main\n\tsyscall\n\t.data\ntext:\n\t.ascii \"h\\n\\\"\\\\\\0\\t" ++ (200 ∷ codes "\"\n")
 plain_text = refl

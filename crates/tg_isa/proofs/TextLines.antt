@@ -1,23 +1,25 @@
 -- The lines of a text that is put together are read as those lines.
 use Rattle.std.specs.Prelude.{codes, nat_le, if◌then◌else◌, ◌==◌, ◌||◌}
-use Rattle.std.proofs.Common.{◌≡◌, ◌<◌, ◌≤◌, ◌^◌, ℕ, zero, suc, true, false, Bool, List, [], ◌∷◌, ◌++◌, length, map, Some, Ok, Err, refl, sym, ap, subst, ◌∙◌, arith, append_assoc, le-leb, eqb-true}
+use Rattle.std.proofs.Common.{◌≡◌, ◌<◌, ◌≤◌, ◌^◌, ℕ, zero, suc, true, false, Bool, List, [], ◌∷◌, ◌++◌, length, map, Some, Ok, Err, refl, sym, ap, subst, ◌∙◌, arith, append_assoc, le-leb, eqb-true, Result, Option, None}
 use Rattle.std.specs.List.{All}
 use Rattle.std.specs.Fmt.{decimal}
 use Rattle.std.proofs.lemmas.List.{append-nil}
+use Rattle.tg_base.specs.State.{most_bytes}
 use Rattle.tg_isa.specs.declared.keywords.Keyword.{Keyword}
 use Rattle.tg_isa.specs.declared.keywords.Keyword.TheVariants as word
 use Rattle.tg_isa.specs.declared.keywords.Segment.{Segment}
 use Rattle.tg_isa.specs.declared.keywords.Segment.TheVariants.{Code, Statics}
-use Rattle.tg_isa.specs.declared.keywords.AsmRule.TheVariants.{A7}
+use Rattle.tg_isa.specs.declared.keywords.AsmRule.{AsmRule}
+use Rattle.tg_isa.specs.declared.keywords.AsmRule.TheVariants.{A7, A1}
 use Rattle.tg_isa.specs.declared.keywords.Slot.TheVariants as slot
 use Rattle.tg_isa.specs.Names.{name_of}
-use Rattle.tg_isa.specs.Lines.{lines, is_blank, is_between, Next, cut, before_lines, onto_first, front, back, is_past_label, before_colon, label_at, begins_label, unlabelled, before_labelled, labelled, Plain, Quoted, as_quoted, quoted, before_quoted, operands, cut_with, cut_item}
+use Rattle.tg_isa.specs.Lines.{lines, is_blank, is_between, Next, cut, before_lines, onto_first, front, back, is_past_label, before_colon, label_at, begins_label, unlabelled, before_labelled, labelled, Plain, Quoted, as_quoted, quoted, before_quoted, operands, cut_with, cut_item, Labelled, is_over, is_end, operands_in, skip, Operand}
 use Rattle.tg_isa.specs.Operands.{nothing, fill_all, is_label, plain, string, before_string, unfilled}
 use Rattle.tg_isa.specs.Items as items
-use Rattle.tg_isa.specs.Assembly.{Reading, reading, read_cut, with_labels}
+use Rattle.tg_isa.specs.Assembly.{Reading, reading, read_cut, with_labels, read_word, read_known}
 use Rattle.tg_isa.specs.Placement.{Reads, segment_behind}
-use Rattle.tg_isa.specs.Writing.{joined}
-use Rattle.tg_isa.specs.Texts.{Line, Enter, Label, One, La, Align, Words, Bytes, Text, escaped, escaped_text, is_in_string, written_line, text_of, unsigned, reading_of, readings_of, StandsIn, AreLines}
+use Rattle.tg_isa.specs.Writing.{joined, line_of}
+use Rattle.tg_isa.specs.Texts.{Line, Enter, Label, One, La, Align, Words, Bytes, Text, escaped, escaped_text, is_in_string, written_line, text_of, unsigned, reading_of, readings_of, StandsIn, AreLines, Globl, Space, reads_item}
 use Rattle.tg_isa.specs.Laws.{LinesHaveImage}
 use Rattle.tg_isa.proofs.PlacedTexts.{assembled_so}
 use Rattle.tg_isa.proofs.WordCuts.{visible, skipped, and_true, none_of, is_newline, none_append, none_cons, front_until, back_until, lines_alone, AreWords, plains, next_operands, cut_unlabelled, newlines_joined}
@@ -78,6 +80,9 @@ label_there c t h f b = rw h (ap (λ x. before_colon (c ∷ x) (back is_past_lab
 labels_some : (n : ℕ) (text name : List ℕ) → label_at text ≡ Some (name, []) → labelled (suc n) text ≡ record { labels = name ∷ []; rest = [] }
 labels_some n text name e = rw (e, labelled) (ap (before_labelled name) (nothing_labelled n))
 
+labels_first : (n : ℕ) (t : List ℕ) (l : List ℕ × List ℕ) → label_at t ≡ Some l → labelled (suc n) t ≡ before_labelled l.0 (labelled n (skip l.1))
+labels_first n t l e = rw (e, labelled) refl
+
 label_read : (segment : Segment) (name : List ℕ) → is_label name ≡ true → reading segment (name ++ 58 ∷ []) ≡ Ok (record { labels = name ∷ []; item = items.Nothing })
 label_read segment [] h = cc
 label_read segment (c ∷ t) h =
@@ -107,7 +112,7 @@ la_fills r label h k =
 la_words : (r : ℕ) (label : List ℕ) → r < 32 → is_label label ≡ true → AreWords (name_of r ∷ label ∷ [])
 la_words r label h k = (name_word r h, (label_word label k, tt))
 
-la_read : (r : ℕ) (label : List ℕ) → r < 32 → is_label label ≡ true → IsRead Code (written_line (La r label)) (reading_of (La r label))
+la_read : (r : ℕ) (label : List ℕ) → r < 32 → is_label label ≡ true → IsRead Code (codes "la" ++ joined (name_of r ∷ label ∷ [])) (reading_of (La r label))
 la_read r label h k = record {
   line = words_line word.La 108 (97 ∷ []) (name_of r ∷ label ∷ []) la_ready (la_words r label h k);
   read = words_read word.La 108 (97 ∷ []) (name_of r ∷ label ∷ []) (fields 31 0 r nothing label) la_ready (la_words r label h k) (la_fills r label h k) refl;
@@ -121,7 +126,7 @@ numbers_words (n ∷ ns) h = ((decimal_text n (h 0 n (omega arith))).word, numbe
 directive_line : (c : ℕ) (word : List ℕ) (os : List (List ℕ)) → none_of is_newline (c ∷ word) ≡ true → AreWords os → lines ((c ∷ word) ++ joined os) ≡ ((c ∷ word) ++ joined os) ∷ []
 directive_line c word os h w = lines_alone ((c ∷ word) ++ joined os) (none_append is_newline (c ∷ word) (joined os) h (newlines_joined os w))
 
-align_read : (power : ℕ) → power ≤ 3 → IsRead Statics (written_line (Align power)) (reading_of (Align power))
+align_read : (power : ℕ) → power ≤ 3 → IsRead Statics (codes ".align" ++ joined (decimal power ∷ [])) (reading_of (Align power))
 align_read power h =
     let n = decimal_text power (omega (arith, h)) in
     let t : nat_le power 3 ≡ true = le-leb power 3 h in
@@ -162,9 +167,9 @@ bytes_fit (n ∷ ns) h =
 fitting : (k : Keyword) (align : ℕ) (ds : List items.Datum) → items.data_fit k ds ≡ true → items.within_data k align (Some ds) ≡ Ok (items.Data' align ds)
 fitting k align ds h = rw h refl
 
-words_read' : (ns : List ℕ) → 0 < length ns → All (λ n. n < 2 ^ 32) ns → IsRead Statics (written_line (Words ns)) (reading_of (Words ns))
-words_read' [] p h = absurd (omega (arith, p))
-words_read' (n ∷ ns) p h = record {
+words_line_read : (ns : List ℕ) → 0 < length ns → All (λ n. n < 2 ^ 32) ns → IsRead Statics (codes ".word" ++ joined (map decimal ns)) (reading_of (Words ns))
+words_line_read [] p h = absurd (omega (arith, p))
+words_line_read (n ∷ ns) p h = record {
   line = directive_line 46 (119 ∷ 111 ∷ 114 ∷ 100 ∷ []) (map decimal (n ∷ ns)) refl (numbers_words (n ∷ ns) h);
   read = ap (read_cut Statics) (cut_unlabelled 46 (119 ∷ 111 ∷ 114 ∷ 100 ∷ []) (map decimal (n ∷ ns)) refl refl (numbers_words (n ∷ ns) h))
       ∙ ap (λ o. with_labels [] (items.within_data word.Word 4 o)) (words_data (n ∷ ns) h)
@@ -174,7 +179,7 @@ words_read' (n ∷ ns) p h = record {
 small : (ns : List ℕ) → All (λ n. n < 2 ^ 8) ns → All (λ n. n < 2 ^ 32) ns
 small ns h k d lt = let l = h k d lt in omega (arith, l)
 
-bytes_read : (ns : List ℕ) → 0 < length ns → All (λ n. n < 2 ^ 8) ns → IsRead Statics (written_line (Bytes ns)) (reading_of (Bytes ns))
+bytes_read : (ns : List ℕ) → 0 < length ns → All (λ n. n < 2 ^ 8) ns → IsRead Statics (codes ".byte" ++ joined (map decimal ns)) (reading_of (Bytes ns))
 bytes_read [] p h = absurd (omega (arith, p))
 bytes_read (n ∷ ns) p h = record {
   line = directive_line 46 (98 ∷ 121 ∷ 116 ∷ 101 ∷ []) (map decimal (n ∷ ns)) refl (numbers_words (n ∷ ns) (small (n ∷ ns) h));
@@ -277,27 +282,100 @@ quoted_operand n text e = ap (next_operands (suc n)) (ap as_quoted e)
 text_cut : (text : List ℕ) → quoted false (text ++ (34 ∷ [])) ≡ Some (text, []) → cut (codes ".ascii \"" ++ (text ++ codes "\"")) ≡ Some (record { labels = []; word = codes ".ascii"; operands = Quoted text ∷ [] })
 text_cut text e = ap (cut_with [] (codes ".ascii")) (quoted_operand (length (34 ∷ (text ++ (34 ∷ [])))) text e)
 
-text_read : (bytes : List ℕ) → AreSpelled bytes → IsRead Statics (written_line (Text bytes)) (reading_of (Text bytes))
+text_read : (bytes : List ℕ) → AreSpelled bytes → IsRead Statics (codes ".ascii \"" ++ (escaped_text bytes ++ codes "\"")) (reading_of (Text bytes))
 text_read bytes h = record {
-  line = lines_alone (written_line (Text bytes)) (none_append is_newline (codes ".ascii \"") (escaped_text bytes ++ (34 ∷ [])) refl (none_append is_newline (escaped_text bytes) (34 ∷ []) (newlines_text bytes h) refl));
+  line = lines_alone (codes ".ascii \"" ++ (escaped_text bytes ++ codes "\"")) (none_append is_newline (codes ".ascii \"") (escaped_text bytes ++ (34 ∷ [])) refl (none_append is_newline (escaped_text bytes) (34 ∷ []) (newlines_text bytes h) refl));
   read = ap (read_cut Statics) (text_cut (escaped_text bytes) (quoted_text bytes [] h))
       ∙ ap (λ o. with_labels [] (items.text_item [] o)) (string_text bytes h)
       ∙ ap (λ b. with_labels [] (Ok (items.Data' 1 (items.Bytes b ∷ [])))) (append-nil bytes);
 }
 
+-- the lines of a name for a loader, and of zeros
+globl_read : (segment : Segment) (name : List ℕ) → is_label name ≡ true → IsRead segment (codes ".globl" ++ joined (name ∷ [])) (reads_item items.Nothing)
+globl_read segment name h =
+    let w = label_word name h in
+    let directive : List ℕ = 103 ∷ 108 ∷ 111 ∷ 98 ∷ 108 ∷ [] in
+    record {
+      line = directive_line 46 directive (name ∷ []) refl (w, tt);
+      read = ap (read_cut segment) (cut_unlabelled 46 directive (name ∷ []) refl refl (w, tt))
+          ∙ (let t : is_label name ≡ true = h in rw t refl);
+    }
+
+space_read : (n : ℕ) → n ≤ most_bytes → IsRead Statics (codes ".space" ++ joined (decimal n ∷ [])) (reading_of (Space n))
+space_read n h =
+    let d = decimal_text n (omega (arith, h)) in
+    let t : nat_le n most_bytes ≡ true = le-leb n most_bytes h in
+    let directive : List ℕ = 115 ∷ 112 ∷ 97 ∷ 99 ∷ 101 ∷ [] in
+    record {
+      line = directive_line 46 directive (decimal n ∷ []) refl (d.word, tt);
+      read = ap (read_cut Statics) (cut_unlabelled 46 directive (decimal n ∷ []) refl refl (d.word, tt))
+          ∙ ap (λ o. with_labels [] (items.zeros (items.sized word.Space o))) d.read
+          ∙ ap (λ b. with_labels [] (items.zeros (if b then Ok n else Err A7))) t;
+    }
+
+-- a tab in front of an item changes nothing
+with_labels-labels : (labels : List (List ℕ)) (o : Result items.Item AsmRule) (r : Reading) → with_labels labels o ≡ Ok r → labels ≡ r.labels
+with_labels-labels labels (Ok i) r h = cc
+with_labels-labels labels (Err e) r h = cc
+
+read_word-labels : (segment : Segment) (labels : List (List ℕ)) (os : List Operand) (word : List ℕ) (r : Reading) → read_word segment labels os word ≡ Ok r → labels ≡ r.labels
+read_word-labels segment labels os [] r h = cc
+read_word-labels segment labels os (c ∷ word) r h = by (items.keyword (c ∷ word)) h
+  where
+    stands : (k : Keyword) (b : Bool) → (if b then with_labels labels (items.item k os) else Err A1) ≡ Ok r → labels ≡ r.labels
+    stands k true e = with_labels-labels labels (items.item k os) r e
+    stands k false e = cc
+
+    by : (o : Option Keyword) → read_known segment labels os o ≡ Ok r → labels ≡ r.labels
+    by (Some k) e = stands k (items.stands_in k segment) e
+    by None e = cc
+
+cut_with-labels : (segment : Segment) (labels : List (List ℕ)) (word : List ℕ) (found : Option (List Operand)) (r : Reading) → read_cut segment (cut_with labels word found) ≡ Ok r → labels ≡ r.labels
+cut_with-labels segment labels [] found r h = cc
+cut_with-labels segment labels (c ∷ word) None r h = cc
+cut_with-labels segment labels (c ∷ word) (Some os) r h = read_word-labels segment labels os (c ∷ word) r h
+
+cut_item-labels : (segment : Segment) (l : Labelled) (r : Reading) → read_cut segment (cut_item l) ≡ Ok r → l.labels ≡ r.labels
+cut_item-labels segment l r h = by (is_over l.rest) h
+  where
+    by : (b : Bool) → read_cut segment (if b then Some (record { labels = l.labels; word = []; operands = [] }) else cut_with l.labels (front is_end l.rest) (operands_in (back is_end l.rest))) ≡ Ok r → l.labels ≡ r.labels
+    by true e = cc
+    by false e = cut_with-labels segment l.labels (front is_end l.rest) (operands_in (back is_end l.rest)) r e
+
+unlabelled_more : (n : ℕ) (t : List ℕ) → (labelled (suc n) t).labels ≡ [] → labelled (suc (suc n)) t ≡ labelled (suc n) t
+unlabelled_more n t h = by (label_at t) refl
+  where
+    by : (o : Option (List ℕ × List ℕ)) → label_at t ≡ o → labelled (suc (suc n)) t ≡ labelled (suc n) t
+    by None e = rw (e, labelled) refl
+    by (Some l) e =
+        let none : l.0 ∷ (labelled n (skip l.1)).labels ≡ [] = sym (ap (λ (x : Labelled). x.labels) (labels_first n t l e)) ∙ h in
+        cc
+
+indented : (segment : Segment) (t : List ℕ) (i : items.Item) → IsRead segment t (reads_item i) → IsRead segment (9 ∷ t) (reads_item i)
+indented segment t i h = record { line = ap (before_lines 9) h.line; read = reads t h.read }
+  where
+    reads : (t : List ℕ) → reading segment t ≡ Ok (reads_item i) → reading segment (9 ∷ t) ≡ Ok (reads_item i)
+    reads [] e = e
+    reads (c ∷ rest) e =
+        let none : (labelled (length (c ∷ rest)) (skip (c ∷ rest))).labels ≡ [] = cut_item-labels segment (labelled (length (c ∷ rest)) (skip (c ∷ rest))) (reads_item i) e in
+        ap (λ l. read_cut segment (cut_item l)) (unlabelled_more (length rest) (skip (c ∷ rest)) none) ∙ e
+
 -- a line that may stand in a segment is read so
 line_read : (segment : Segment) (l : Line) → StandsIn segment l → IsRead segment (written_line l) (reading_of l)
+line_read segment (Globl name) h = indented segment (codes ".globl" ++ joined (name ∷ [])) items.Nothing (globl_read segment name h)
 line_read Code (Enter Code) h = record { line = refl; read = refl }
 line_read Code (Enter Statics) h = record { line = refl; read = refl }
 line_read Statics (Enter Code) h = record { line = refl; read = refl }
 line_read Statics (Enter Statics) h = record { line = refl; read = refl }
 line_read segment (Label name) h = record { line = label_lines name h; read = label_read segment name h }
-line_read Code (One one target) h = let r = reads one target h.0 h.1 in record { line = r.line; read = r.read }
-line_read Code (La r label) h = la_read r label h.0 h.1
-line_read Statics (Align power) h = align_read power h
-line_read Statics (Words ns) h = words_read' ns h.0 h.1
-line_read Statics (Bytes ns) h = bytes_read ns h.0 h.1
-line_read Statics (Text bytes) h = text_read bytes h
+line_read Code (One one target) h = let r = reads one target h.0 h.1 in indented Code (line_of one target) _ (record { line = r.line; read = r.read })
+line_read Code (La r label) h = indented Code (codes "la" ++ joined (name_of r ∷ label ∷ [])) _ (la_read r label h.0 h.1)
+line_read Statics (Align power) h = indented Statics (codes ".align" ++ joined (decimal power ∷ [])) _ (align_read power h)
+line_read Statics (Space n) h = indented Statics (codes ".space" ++ joined (decimal n ∷ [])) _ (space_read n h)
+line_read Statics (Words ns) h = indented Statics (codes ".word" ++ joined (map decimal ns)) _ (words_line_read ns h.0 h.1)
+line_read Statics (Bytes ns) h = indented Statics (codes ".byte" ++ joined (map decimal ns)) _ (bytes_read ns h.0 h.1)
+line_read Statics (Text bytes) h = indented Statics (codes ".ascii \"" ++ (escaped_text bytes ++ codes "\"")) _ (text_read bytes h)
+line_read Code (Space n) h = absurd h
 line_read Code (Align power) h = absurd h
 line_read Code (Words ns) h = absurd h
 line_read Code (Bytes ns) h = absurd h
