@@ -10,3 +10,4 @@ pub mod LabelTables
 pub mod SecondPass
 pub mod PlacedTexts
 pub mod TextLines
+pub mod FuelRuns

@@ -2,6 +2,7 @@ pub mod Names
 pub mod Table
 pub mod Effects
 pub mod Runs
+pub mod ImageRuns
 pub mod Lines
 pub mod Operands
 pub mod Items

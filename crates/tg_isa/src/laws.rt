@@ -1,3 +1,4 @@
+ghost use Rattle.tg_isa.specs.ImageRuns.{MachineGoesOn, MachineStaysOver, RunsByFuel};
 ghost use Rattle.tg_isa.specs.Laws.{LinesHaveImage, ReadingsHaveImage};
 
 /// The law of an assembly text: its image is that of its readings. The code and the statics are the items in order,
@@ -10,4 +11,12 @@ pub fn text_is_placed()
 /// labels that they name stand and are within reach, `main` is in the code, and the segments' limits hold.
 pub fn lines_have_image()
     ensures { LinesHaveImage }
+{}
+
+/// The laws of the machine's run by fuel: it is what so many steps come to, what has ended stays so with more fuel, and
+/// with more fuel a run goes on from what it was.
+pub fn machine_runs_by_fuel()
+    ensures run { RunsByFuel }
+    ensures over { MachineStaysOver }
+    ensures goes_on { MachineGoesOn }
 {}
