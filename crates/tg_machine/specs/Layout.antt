@@ -1,6 +1,6 @@
 -- What the fields of a core keep.
 use Rattle.std.specs.Prelude.{◌%◌, ◌≤◌, ◌≡◌, length, vec_capacity, map}
-use Rattle.tg_base.specs.State.{State}
+use Rattle.tg_base.specs.State.{State, most_words, most_bytes, most_room}
 use Rattle.tg_isa.specs.Table.{decode_of}
 use Rattle.tg_machine.specs.declared.cores.Core.TheInside.{Inside}
 
@@ -20,13 +20,13 @@ state_of m = record {
 
 -- the sizes of the regions, in whole words, with the heap's memory taken, and each word decoded
 pub record IsLaidOut (m : Inside) : Type 0 where
-  pub code_fits : length m.code.items ≤ 66060288
-  pub statics_fit : length m.statics.items ≤ 16711680
+  pub code_fits : length m.code.items ≤ most_words
+  pub statics_fit : length m.statics.items ≤ most_bytes
   pub statics_whole : length m.statics.items % 4 ≡ 0
   pub heap_fits : length m.heap.items ≤ m.room
   pub heap_whole : length m.heap.items % 4 ≡ 0
-  pub room_fits : m.room ≤ 268435456
+  pub room_fits : m.room ≤ most_room
   pub room_held : m.room ≤ vec_capacity m.heap
-  pub stack_fits : length m.stack ≤ 268435456
+  pub stack_fits : length m.stack ≤ most_room
   pub stack_whole : length m.stack % 4 ≡ 0
   pub decoded : m.rows.items ≡ map decode_of m.code.items

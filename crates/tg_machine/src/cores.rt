@@ -8,21 +8,12 @@ ghost use Rattle.tg_machine.specs.Moves.{IsDone, IsOwn};
 use crate::stacks::Stack;
 use crate::words::{extend, offset, product, remainder, set_word, word_at};
 use std::marker::Model;
-use tg_base::{RunEnd, quot};
+use tg_base::{CODE_BASE, HEAP_BASE, RunEnd, STACK_REACH, STACK_TOP, STATICS_BASE, quot};
 use tg_isa::{Bits, Mips, Reg};
-
-/// Where the code begins.
-pub(crate) const CODE: u32 = 0x0040_0000;
-/// Where the statics begin.
-const STATICS: u32 = 0x1001_0000;
-/// Where the heap begins.
-const HEAP: u32 = 0x1100_0000;
-/// Where the stack ends.
-pub(crate) const TOP: u32 = 0x7fff_fffc;
 
 /// A program in memory with its registers. Each word of code stands beside its instruction, decoded once.
 #[derive(Drop)]
-pub(crate) struct Core {
+pub struct Core {
     pub(crate) registers: [u32; 32],
     pub(crate) hi: u32,
     pub(crate) lo: u32,
@@ -48,15 +39,17 @@ impl Model for Core {
 }
 
 impl Core {
+    /// The value of a register.
     #[inline(always)]
-    pub(crate) fn register(&self, number: Reg) -> u32
+    pub fn register(&self, number: Reg) -> u32
         ensures { result ≡ state.register self.now number }
     {
         self.registers[number.number() as usize]
     }
 
+    /// Puts a value into a register; register 0 keeps its 0.
     #[inline(always)]
-    pub(crate) fn set(&mut self, number: Reg, value: u32)
+    pub fn set(&mut self, number: Reg, value: u32)
         ensures { self.new ≡ state.set_register self.old number value }
     {
         let at = number.number() as usize;
@@ -71,107 +64,109 @@ impl Core {
         ensures value { result ≡ state.fault self.now address }
         ensures own { IsOwn result }
     {
-        let floor = TOP - self.stack.len() as u32;
-        if address >= 1073741824 && address < floor {
+        let floor = STACK_TOP - self.stack.len() as u32;
+        if address >= STACK_REACH && address < floor {
             RunEnd::StackFull
         } else {
             RunEnd::BadAddress(address)
         }
     }
 
-    /// The word at an address.
+    /// The word at an address. An address that isn't a multiple of 4 or isn't served ends the run.
     #[inline(always)]
-    pub(crate) fn load_word(&self, address: u32) -> Result<u32, RunEnd>
+    pub fn load_word(&self, address: u32) -> Result<u32, RunEnd>
         ensures value { result ≡ state.load_word self.now address }
         ensures own { IfErr result IsOwn }
     {
         if address % 4 != 0 {
             return Err(RunEnd::Unaligned(address));
         }
-        let floor = TOP - self.stack.len() as u32;
+        let floor = STACK_TOP - self.stack.len() as u32;
         if let Some(at) = offset(address, floor, self.stack.len()) {
             return Ok(self.stack.word(at));
         }
-        if let Some(at) = offset(address, HEAP, self.heap.len()) {
+        if let Some(at) = offset(address, HEAP_BASE, self.heap.len()) {
             return Ok(word_at(&self.heap, at));
         }
-        if let Some(at) = offset(address, STATICS, self.statics.len()) {
+        if let Some(at) = offset(address, STATICS_BASE, self.statics.len()) {
             return Ok(word_at(&self.statics, at));
         }
         Err(self.fault(address))
     }
 
-    /// The byte at an address, which is below the top of the stack.
+    /// The byte at an address, which is below the top of the stack. An address that isn't served ends
+    /// the run.
     #[inline(always)]
-    pub(crate) fn load_byte(&self, address: u32) -> Result<u8, RunEnd>
+    pub fn load_byte(&self, address: u32) -> Result<u8, RunEnd>
         ensures value { result ≡ state.load_byte self.now address }
         ensures low { IfOk result (λ _. address < state.stack_top) }
         ensures own { IfErr result IsOwn }
     {
-        let floor = TOP - self.stack.len() as u32;
+        let floor = STACK_TOP - self.stack.len() as u32;
         if let Some(at) = offset(address, floor, self.stack.len()) {
             return Ok(self.stack.byte(at));
         }
-        if let Some(at) = offset(address, HEAP, self.heap.len()) {
+        if let Some(at) = offset(address, HEAP_BASE, self.heap.len()) {
             return Ok(self.heap[at]);
         }
-        if let Some(at) = offset(address, STATICS, self.statics.len()) {
+        if let Some(at) = offset(address, STATICS_BASE, self.statics.len()) {
             return Ok(self.statics[at]);
         }
         Err(self.fault(address))
     }
 
-    /// Puts a word at an address.
+    /// Puts a word at an address. An address that isn't a multiple of 4 or isn't served ends the run.
     #[inline(always)]
-    pub(crate) fn store_word(&mut self, address: u32, value: u32) -> Result<(), RunEnd>
+    pub fn store_word(&mut self, address: u32, value: u32) -> Result<(), RunEnd>
         ensures { IsDone (effects.stored (state.store_word self.old address value))
             result self.new }
     {
         if address % 4 != 0 {
             return Err(RunEnd::Unaligned(address));
         }
-        let floor = TOP - self.stack.len() as u32;
+        let floor = STACK_TOP - self.stack.len() as u32;
         if let Some(at) = offset(address, floor, self.stack.len()) {
             self.stack.set_word(at, value);
             return Ok(());
         }
-        if let Some(at) = offset(address, HEAP, self.heap.len()) {
+        if let Some(at) = offset(address, HEAP_BASE, self.heap.len()) {
             set_word(&mut self.heap, at, value);
             return Ok(());
         }
-        if let Some(at) = offset(address, STATICS, self.statics.len()) {
+        if let Some(at) = offset(address, STATICS_BASE, self.statics.len()) {
             set_word(&mut self.statics, at, value);
             return Ok(());
         }
         Err(self.fault(address))
     }
 
-    /// Puts the low byte of a word at an address.
+    /// Puts the low byte of a word at an address. An address that isn't served ends the run.
     #[inline(always)]
-    pub(crate) fn store_byte(&mut self, address: u32, value: u32) -> Result<(), RunEnd>
+    pub fn store_byte(&mut self, address: u32, value: u32) -> Result<(), RunEnd>
         ensures { IsDone (effects.stored (state.store_byte self.old address value))
             result self.new }
     {
         let low = (value % 256) as u8;
-        let floor = TOP - self.stack.len() as u32;
+        let floor = STACK_TOP - self.stack.len() as u32;
         if let Some(at) = offset(address, floor, self.stack.len()) {
             self.stack.set_byte(at, low);
             return Ok(());
         }
-        if let Some(at) = offset(address, HEAP, self.heap.len()) {
+        if let Some(at) = offset(address, HEAP_BASE, self.heap.len()) {
             self.heap[at] = low;
             return Ok(());
         }
-        if let Some(at) = offset(address, STATICS, self.statics.len()) {
+        if let Some(at) = offset(address, STATICS_BASE, self.statics.len()) {
             self.statics[at] = low;
             return Ok(());
         }
         Err(self.fault(address))
     }
 
-    /// The instruction at the place.
+    /// The instruction at the place. Place 0 ends the run with exit code 0; so does a place without a
+    /// word of the table, by its address or its word.
     #[inline(always)]
-    pub(crate) fn fetch(&self) -> Result<Mips, RunEnd>
+    pub fn fetch(&self) -> Result<Mips, RunEnd>
         ensures value { result ≡ effects.fetch self.now }
         ensures own { IfErr result IsOwn }
     {
@@ -182,7 +177,7 @@ impl Core {
         if place % 4 != 0 {
             return Err(RunEnd::Unaligned(place));
         }
-        match offset(place, CODE, 4 * self.code.len()) {
+        match offset(place, CODE_BASE, 4 * self.code.len()) {
             Some(at) => match self.rows[at / 4] {
                 Some(one) => Ok(one),
                 None => Err(RunEnd::BadWord(self.code[at / 4])),
@@ -191,29 +186,33 @@ impl Core {
         }
     }
 
+    /// The value of lo.
     #[inline(always)]
-    pub(crate) fn lo(&self) -> u32
+    pub fn lo(&self) -> u32
         ensures { result ≡ self.now.lo }
     {
         self.lo
     }
 
+    /// The value of hi.
     #[inline(always)]
-    pub(crate) fn hi(&self) -> u32
+    pub fn hi(&self) -> u32
         ensures { result ≡ self.now.hi }
     {
         self.hi
     }
 
+    /// The place of the next instruction.
     #[inline(always)]
-    pub(crate) fn place(&self) -> u32
+    pub fn place(&self) -> u32
         ensures { result ≡ self.now.place }
     {
         self.place
     }
 
+    /// Goes on at a place.
     #[inline(always)]
-    pub(crate) fn go(&mut self, place: u32)
+    pub fn go(&mut self, place: u32)
         ensures { self.new ≡ state.go self.old place }
     {
         self.place = place;
@@ -221,7 +220,7 @@ impl Core {
 
     /// Puts the signed product of two words into hi and lo.
     #[inline(always)]
-    pub(crate) fn multiply(&mut self, left: u32, right: u32)
+    pub fn multiply(&mut self, left: u32, right: u32)
         ensures { self.new
             ≡ record self.old { hi = product_high left right; lo = product_low left right } }
     {
@@ -232,7 +231,7 @@ impl Core {
 
     /// Puts the quotient of two words into lo and the remainder into hi. By 0 both stay.
     #[inline(always)]
-    pub(crate) fn divide(&mut self, left: u32, right: u32)
+    pub fn divide(&mut self, left: u32, right: u32)
         ensures { self.new ≡ effects.divide self.old left right }
     {
         if right != 0 {
@@ -243,15 +242,15 @@ impl Core {
 
     /// The address of a load or a store.
     #[inline(always)]
-    pub(crate) fn address(&self, base: Reg, number: Bits<16>) -> u32
+    pub fn address(&self, base: Reg, number: Bits<16>) -> u32
         ensures { result ≡ effects.address self.now base number }
     {
         self.register(base).wrapping_add(extend(number))
     }
 
-    /// Takes so many more bytes of heap, if there is room.
+    /// Takes so many more bytes of heap, if there is room, and answers where they begin in $v0.
     #[inline(never)]
-    pub(crate) fn take_heap(&mut self, size: usize) -> Result<(), RunEnd>
+    pub fn take_heap(&mut self, size: usize) -> Result<(), RunEnd>
         requires whole { size % 4 ≡ 0 }
         requires bound { size ≤ 4294967296 }
         ensures { IsDone (take_heap self.old size) result self.new }
@@ -261,7 +260,7 @@ impl Core {
             return Err(RunEnd::HeapFull);
         }
         self.heap.resize(taken + size, 0).unwrap();
-        self.set(Reg::V0, HEAP + taken as u32);
+        self.set(Reg::V0, HEAP_BASE + taken as u32);
         Ok(())
     }
 }

@@ -97,7 +97,7 @@ impl Core {
 
     /// The effect of an instruction that calls no service, in a core whose place is the next one.
     #[inline(always)]
-    pub(crate) fn execute(&mut self, one: Mips) -> Result<(), RunEnd>
+    pub fn execute(&mut self, one: Mips) -> Result<(), RunEnd>
         requires { one ≢ Mips.Syscall }
         ensures { IsDone (effects.effect one self.old) result self.new }
     {

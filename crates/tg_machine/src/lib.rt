@@ -16,6 +16,7 @@ mod steps;
 mod tests;
 mod words;
 
+pub use cores::Core;
 pub use laws::calls_chain;
 pub use loading::load;
 pub use machines::Machine;

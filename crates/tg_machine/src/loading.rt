@@ -1,13 +1,13 @@
 ghost use Rattle.std.specs.Prelude.{◌≡◌, ◌≤◌, ◌<◌, ◌+◌, ◌*◌, ◌%◌, length, map, IfOk, OnOk, ◌++◌, ◌∷◌, []};
-ghost use Rattle.tg_base.specs.State.{padded, start};
+ghost use Rattle.tg_base.specs.State.{most_bytes, most_room, most_words, padded, start};
 ghost use Rattle.tg_isa.specs.Table.{decode_of};
 ghost use Rattle.tg_machine.specs.Machines.{loaded};
 
-use crate::cores::{Core, TOP};
+use crate::cores::Core;
 use crate::machines::Machine;
 use crate::stacks::Stack;
 use std::alloc::Global;
-use tg_base::Memory;
+use tg_base::{Memory, STACK_TOP};
 use tg_isa::{Image, Mips, decode};
 
 /// A machine at the start of an image, with so many bytes of heap and of stack. It takes all memory of the run.
@@ -15,15 +15,15 @@ use tg_isa::{Image, Mips, decode};
 /// Memory of the heap and of the stack is reserved and not written to, so their sizes cost no time. `Memory` comes
 /// where any of it is wanting; a step or a run takes none.
 pub fn load(alloc: Global, image: &Image, heap: u32, stack: u32) -> Result<Machine, Memory>
-    requires code { length image.now.code ≤ 66060288 }
-    requires statics { length image.now.statics ≤ 16711680 }
-    requires heap { heap ≤ 268435456 }
+    requires code { length image.now.code ≤ most_words }
+    requires statics { length image.now.statics ≤ most_bytes }
+    requires heap { heap ≤ most_room }
     requires whole_heap { heap % 4 ≡ 0 }
-    requires stack { stack ≤ 268435456 }
+    requires stack { stack ≤ most_room }
     requires whole_stack { stack % 4 ≡ 0 }
     ensures { IfOk result (λ m. m ≡ loaded image.now heap stack) }
 {
-    let core = core_of(alloc, image, heap, stack)?;
+    let core = Core::load(alloc, image, heap, stack)?;
     Ok(Machine {
         core,
         end: None,
@@ -31,36 +31,38 @@ pub fn load(alloc: Global, image: &Image, heap: u32, stack: u32) -> Result<Machi
     })
 }
 
-/// The core of that machine.
-fn core_of(alloc: Global, image: &Image, heap: u32, stack: u32) -> Result<Core, Memory>
-    requires code { length image.now.code ≤ 66060288 }
-    requires statics { length image.now.statics ≤ 16711680 }
-    requires heap { heap ≤ 268435456 }
-    requires stack { stack ≤ 268435456 }
-    requires whole_stack { stack % 4 ≡ 0 }
-    ensures { IfOk result
-        (λ s. s ≡ start image.now.code image.now.statics image.now.entry heap stack) }
-{
-    let words = image.code.as_slice();
-    let mut registers = [0; 32];
-    registers[29] = TOP;
-    Ok(Core {
-        registers,
-        hi: 0,
-        lo: 0,
-        place: image.entry,
-        code: words.to_vec(alloc)?,
-        rows: rows_of(alloc, words)?,
-        statics: padded(alloc, image.statics.as_slice())?,
-        heap: Vec::with_capacity(alloc, heap as usize)?,
-        room: heap,
-        stack: Stack::new(alloc, stack as usize)?,
-    })
+impl Core {
+    /// The core of that machine, with the same conditions.
+    pub fn load(alloc: Global, image: &Image, heap: u32, stack: u32) -> Result<Core, Memory>
+        requires code { length image.now.code ≤ most_words }
+        requires statics { length image.now.statics ≤ most_bytes }
+        requires heap { heap ≤ most_room }
+        requires stack { stack ≤ most_room }
+        requires whole_stack { stack % 4 ≡ 0 }
+        ensures { IfOk result
+            (λ s. s ≡ start image.now.code image.now.statics image.now.entry heap stack) }
+    {
+        let words = image.code.as_slice();
+        let mut registers = [0; 32];
+        registers[29] = STACK_TOP;
+        Ok(Core {
+            registers,
+            hi: 0,
+            lo: 0,
+            place: image.entry,
+            code: words.to_vec(alloc)?,
+            rows: rows_of(alloc, words)?,
+            statics: padded(alloc, image.statics.as_slice())?,
+            heap: Vec::with_capacity(alloc, heap as usize)?,
+            room: heap,
+            stack: Stack::new(alloc, stack as usize)?,
+        })
+    }
 }
 
 /// Bytes with zeros behind them up to whole words.
 fn padded(alloc: Global, bytes: &[u8]) -> Result<Vec<u8>, Memory>
-    requires { length bytes.now ≤ 16711680 }
+    requires { length bytes.now ≤ most_bytes }
     ensures { IfOk result (λ v. v.items ≡ padded bytes.now) }
 {
     let size = bytes.len() + (4 - bytes.len() % 4) % 4;

@@ -133,7 +133,7 @@ impl Core {
 
     /// The service that $v0 names, with its argument in $a0.
     #[inline(never)]
-    pub(crate) fn service<I: Source, O: Sink>(
+    pub fn service<I: Source, O: Sink>(
         &mut self,
         input: &mut I,
         out: &mut O,

@@ -1,6 +1,8 @@
 ghost use Rattle.std.specs.Prelude.{◌≡◌, ◌<◌, ◌≤◌, ◌+◌, ◌-◌, ◌%◌, length, ℕ, vec_capacity, replicate, ◌++◌, IfOk, slice_index, slice_set};
 ghost use Rattle.tg_base.specs.State as state;
+ghost use Rattle.tg_base.specs.State.{most_room};
 
+use byteorder::{ByteOrder, LittleEndian};
 use crate::words::{set_word, word_at};
 use std::alloc::{AllocError, Global};
 use std::marker::Model;
@@ -14,6 +16,8 @@ pub(crate) struct Stack {
 }
 
 impl Model for Stack {
+    ghost use Rattle.tg_base.specs.State.{most_room};
+
     ghost use Rattle.std.specs.Prelude.{List, ℕ, length, vec_capacity, replicate, ◌++◌, ◌-◌, ◌≤◌, ◌≡◌, ◌%◌};
 
     ghost Value = { List ℕ };
@@ -21,7 +25,7 @@ impl Model for Stack {
     ghost view = { λ s. replicate (s.size - length s.near.items) 0 ++ s.near.items };
 
     ghost invariant = { λ s. (length s.near.items ≤ s.size)
-        × (s.size ≤ vec_capacity s.near) × (s.size ≤ 268435456) };
+        × (s.size ≤ vec_capacity s.near) × (s.size ≤ most_room) };
 }
 
 /// Puts zeros before what a vector holds.
@@ -40,7 +44,7 @@ impl Stack {
     /// A stack of zeros. It reserves all memory and touches none.
     #[inline(always)]
     pub(crate) fn new(alloc: Global, size: usize) -> Result<Stack, AllocError>
-        requires { size ≤ 268435456 }
+        requires { size ≤ most_room }
         ensures { IfOk result (λ s. s ≡ replicate size 0) }
     {
         let near = Vec::with_capacity(alloc, size)?;
@@ -50,7 +54,7 @@ impl Stack {
     #[inline(always)]
     pub(crate) fn len(&self) -> usize
         ensures value { result ≡ length self.now }
-        ensures fits { result ≤ 268435456 }
+        ensures fits { result ≤ most_room }
     {
         self.size
     }
@@ -79,7 +83,7 @@ impl Stack {
         if skipped <= at {
             return word_at(&self.near, at - skipped);
         }
-        u32::from_le_bytes([
+        LittleEndian::read_u32(&[
             self.byte(at),
             self.byte(at + 1),
             self.byte(at + 2),
@@ -116,7 +120,7 @@ fn reach(near: &mut Vec<u8>, size: usize, at: usize)
     requires held { length near.old.items ≤ size }
     requires room { size ≤ vec_capacity near.old }
     requires within { at < size }
-    requires bound { size ≤ 268435456 }
+    requires bound { size ≤ most_room }
     ensures reached { size - length near.new.items ≤ at }
     ensures held { length near.new.items ≤ size }
     ensures room { size ≤ vec_capacity near.new }

@@ -12,7 +12,7 @@ use tg_isa::Mips;
 impl Core {
     /// Makes one step.
     #[inline(always)]
-    pub(crate) fn step<I: Source, O: Sink>(
+    pub fn step<I: Source, O: Sink>(
         &mut self,
         input: &mut I,
         out: &mut O,
@@ -30,7 +30,7 @@ impl Core {
     }
 
     /// Makes at most so many steps.
-    pub(crate) fn run<I: Source, O: Sink>(
+    pub fn run<I: Source, O: Sink>(
         &mut self,
         input: &mut I,
         out: &mut O,

@@ -1,7 +1,8 @@
-ghost use Rattle.std.specs.Prelude.{◌≡◌, ◌≢◌, ◌+◌, ◌≤◌, length, vec_capacity};
+ghost use Rattle.std.specs.Prelude.{◌≡◌, ◌≢◌, ◌+◌, ◌≤◌, ◌/◌, ◌%◌, [], ◌∷◌, length, vec_capacity};
 ghost use Rattle.tg_base.specs.Words.{exact_difference, exact_sum, extended, extended_byte, product, rem};
 ghost use Rattle.tg_base.specs.State as state;
 
+use byteorder::{ByteOrder, LittleEndian};
 use tg_isa::Bits;
 
 /// 16 bits with their sign.
@@ -49,7 +50,18 @@ pub(crate) fn word_at(bytes: &Vec<u8>, at: usize) -> u32
     requires { at + 4 ≤ length bytes.now.items }
     ensures { result ≡ state.word_at bytes.now.items at }
 {
-    u32::from_le_bytes([bytes[at], bytes[at + 1], bytes[at + 2], bytes[at + 3]])
+    LittleEndian::read_u32(&bytes[at..])
+}
+
+/// The bytes of a word, little endian.
+#[inline(always)]
+fn bytes_of(value: u32) -> [u8; 4]
+    ensures { result
+        ≡ value % 256 ∷ value / 256 % 256 ∷ value / 65536 % 256 ∷ value / 16777216 ∷ [] }
+{
+    let mut word = [0; 4];
+    LittleEndian::write_u32(&mut word, value);
+    word
 }
 
 /// Puts a word at a byte, little endian.
@@ -60,10 +72,11 @@ pub(crate) fn set_word(bytes: &mut Vec<u8>, at: usize, value: u32)
     ensures length { length bytes.new.items ≡ length bytes.old.items }
     ensures capacity { vec_capacity bytes.new ≡ vec_capacity bytes.old }
 {
-    bytes[at] = (value % 256) as u8;
-    bytes[at + 1] = (value / 256 % 256) as u8;
-    bytes[at + 2] = (value / 65536 % 256) as u8;
-    bytes[at + 3] = (value / 16777216) as u8;
+    let word = bytes_of(value);
+    bytes[at] = word[0];
+    bytes[at + 1] = word[1];
+    bytes[at + 2] = word[2];
+    bytes[at + 3] = word[3];
 }
 
 /// The signed sum, where it is in range.
