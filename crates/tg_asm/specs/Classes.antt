@@ -2,7 +2,8 @@
 use Rattle.std.specs.Prelude.{ℕ, Bool, ◌==◌}
 use Rattle.tg_isa.specs.Lines.{is_solid, is_end, is_past_label}
 use Rattle.tg_asm.specs.declared.bytes.Class.{Class}
-use Rattle.tg_asm.specs.declared.bytes.Class.TheVariants.{Newline, Solid, End, PastLabel, Open, Close}
+use Rattle.tg_asm.specs.declared.bytes.Class.TheVariants.{Newline, Solid, End, PastLabel, Open}
+use Rattle.tg_asm.specs.declared.bytes.Class.TheVariants.{Close}
 
 abbrev pub in_class : Class → ℕ → Bool
 in_class Newline = λ c. c == 10

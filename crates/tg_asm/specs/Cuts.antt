@@ -29,7 +29,12 @@ gap_of (Next text) = lines.Next text.now
 gap_of Misshapen = lines.Misshapen
 
 abbrev pub cut_of : Cut → lines.Cut
-cut_of c = record { labels = texts c.labels.items; word = c.word.now; operands = map operand_of c.operands.items }
+cut_of c =
+    record {
+      labels = texts c.labels.items;
+      word = c.word.now;
+      operands = map operand_of c.operands.items;
+    }
 
 abbrev pub found_cut : Option Cut → Option lines.Cut
 found_cut (Some c) = Some (cut_of c)

@@ -7,7 +7,14 @@ use Rattle.tg_asm.specs.declared.faults.AsmFault.TheVariants as fault
 use Rattle.tg_asm.specs.declared.layouts.Layout.{Layout}
 
 abbrev pub layout_of : Layout → assembly.Layout
-layout_of l = record { segment = l.segment; words = l.words; starts = l.starts.items; size = l.size; labels = l.labels }
+layout_of l =
+    record {
+      segment = l.segment;
+      words = l.words;
+      starts = l.starts.items;
+      size = l.size;
+      labels = l.labels;
+    }
 
 -- the segments are within their limits
 abbrev pub IsSmall : assembly.Layout → Type 0

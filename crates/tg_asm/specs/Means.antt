@@ -1,5 +1,6 @@
 -- Items of the code, as the definition has them.
-use Rattle.std.specs.Prelude.{ℕ, ◌≡◌, ⊤, List, [], ◌∷◌, map, Bool, if◌then◌else◌, Option, Some, None, Result, Ok, Err}
+use Rattle.std.specs.Prelude.{ℕ, ◌≡◌, ⊤, List, [], ◌∷◌, map, Bool, if◌then◌else◌, Option, Some}
+use Rattle.std.specs.Prelude.{None, Result, Ok, Err}
 use Rattle.tg_isa.specs.Items as items
 use Rattle.tg_isa.specs.Operands.{escape, plain}
 use Rattle.tg_isa.specs.declared.keywords.AsmRule.{AsmRule}
@@ -61,7 +62,8 @@ Gives view meant (Ok x) = meant ≡ Ok (view x)
 Gives view meant (Err (refused.Rule r)) = meant ≡ Err r
 Gives view meant (Err refused.Memory) = ⊤
 
--- A call that changes a value leaves what the definition gives, or tells its fault; or memory was wanting.
+-- A call that changes a value leaves what the definition gives, or tells its fault; or memory was
+-- wanting.
 abbrev pub Leaves : {S T : Type 0} → Result T AsmRule → Result S Refused → T → Type 0
 Leaves meant (Ok done) new = meant ≡ Ok new
 Leaves meant (Err (refused.Rule r)) new = meant ≡ Err r

@@ -10,7 +10,8 @@ found_address (Some a) = Some (record { number = signed_of a.0; base = a.1 })
 found_address None = None
 
 abbrev pub fields_of : Fields → operands.Fields
-fields_of f = record { rd = f.rd; rs = f.rs; rt = f.rt; number = signed_of f.number; label = f.label.now }
+fields_of f =
+    record { rd = f.rd; rs = f.rs; rt = f.rt; number = signed_of f.number; label = f.label.now }
 
 abbrev pub found_fields : Option Fields → Option operands.Fields
 found_fields (Some f) = Some (fields_of f)

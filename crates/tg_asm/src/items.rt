@@ -1,9 +1,34 @@
-ghost use Rattle.std.specs.Prelude.{◌≡◌, ◌<◌, ◌≤◌, ◌^◌, ◌∷◌, [], ◌&&◌, ◌==◌, not, if◌then◌else◌, map, IfOk, MatchOption, Some, None, false};
+ghost use Rattle.std.specs.Prelude.{
+  ◌≡◌,
+  ◌<◌,
+  ◌≤◌,
+  ◌^◌,
+  ◌∷◌,
+  [],
+  ◌&&◌,
+  ◌==◌,
+  not,
+  if◌then◌else◌,
+  map,
+  IfOk,
+  MatchOption,
+  Some,
+  None,
+  false,
+};
 ghost use Rattle.tg_isa.specs.Items as items;
 ghost use Rattle.tg_isa.specs.declared.keywords.Keyword.{Keyword};
 ghost use Rattle.tg_isa.specs.Operands as strings;
 ghost use Rattle.tg_asm.specs.Cuts.{operand_of};
-ghost use Rattle.tg_asm.specs.Means.{Gives, bytes_of, datum_found, datum_of, item_of, meant_by, words_of};
+ghost use Rattle.tg_asm.specs.Means.{
+  Gives,
+  bytes_of,
+  datum_found,
+  datum_of,
+  item_of,
+  meant_by,
+  words_of,
+};
 ghost use Rattle.tg_asm.specs.Numbers.{signed_of};
 ghost use Rattle.tg_asm.specs.Registers.{fields_of};
 

@@ -8,7 +8,8 @@ use std::alloc::Global;
 use std::marker::Model;
 use tg_base::Memory;
 
-/// The labels of a text, which contracts see as the list of their names and spots in the order of the text.
+/// The labels of a text, which contracts see as the list of their names and spots in the order of
+/// the text.
 #[derive(Drop)]
 pub(crate) struct Labels {
     spots: IndexMap<Vec<u8>, Spot>,

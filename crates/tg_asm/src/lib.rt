@@ -1,6 +1,7 @@
 //! The assembler: an assembly text becomes the image of a program, in two passes over its lines.
-//! Promises to `tiger exec` the text's image exactly where the definition gives it, else its first fault with its line.
-//! The definition stands in `specs/` of `tg_isa`: lines to items, items to places, labels to places, places to words.
+//! Promises to `tiger exec` the text's image exactly where the definition gives it, else its first
+//! fault with its line. The definition stands in `specs/` of `tg_isa`: lines to items, items to
+//! places, labels to places, places to words.
 #![tactic(auto)]
 
 mod assembling;
@@ -22,6 +23,3 @@ mod words;
 
 pub use assembling::assemble;
 pub use faults::{AsmFault, AsmRule};
-
-#[cfg(test)]
-mod tests;

@@ -11,6 +11,7 @@ use crate::items::{Align, Coded, Datum, Item, Words};
 use crate::layouts::Layout;
 use crate::makers::{place_of, word};
 use crate::readings::read_line;
+use byteorder::{ByteOrder, LittleEndian};
 use std::alloc::Global;
 use tg_base::Memory;
 use tg_isa::Segment;
@@ -161,7 +162,9 @@ impl Made {
 fn word_bytes(word: u32) -> [u8; 4]
     ensures { result ≡ assembly.word_bytes word }
 {
-    word.to_le_bytes()
+    let mut bytes = [0; 4];
+    LittleEndian::write_u32(&mut bytes, word);
+    bytes
 }
 
 /// What the lines of a text make, or the first fault of A5 and A6.

@@ -1,7 +1,7 @@
 -- A text whose lines are read without a fault is the image of its readings.
 use Rattle.std.specs.Prelude.{codes, nat_lt}
 use Rattle.std.proofs.Common.{◌≡◌, ◌<◌, ◌≤◌, ℕ, true, List, [], length, Option, Some, None, Ok, sym, ap, subst, ◌∙◌, arith, lt-ltb}
-use Rattle.tg_base.specs.State.{most_words, most_bytes}
+use Rattle.tg_base.specs.State.{most_words}
 use Rattle.tg_isa.specs.declared.keywords.Segment.TheVariants.{Code}
 use Rattle.tg_isa.specs.Lines.{lines}
 use Rattle.tg_isa.specs.Assembly.{Reading, Spot, InCode, InStatics, Layout, blank, spot_of, address, entry_at, entry, unmade, make, layout, enter, finish, fill_in, assembled}

@@ -1,5 +1,8 @@
--- The assembly relation: which image a text is, or its first fault with its line (SPIM manual, assembler syntax).
-use Rattle.std.specs.Prelude.{ℕ, ◌+◌, ◌-◌, ◌/◌, ◌%◌, ◌^◌, List, [], ◌∷◌, ◌++◌, length, replicate, slice_index_or, ◌==◌, nat_le, nat_lt, if◌then◌else◌, codes, Option, Some, None, Result, Ok, Err}
+-- The assembly relation: which image a text is, or its first fault with its line (SPIM manual,
+-- assembler syntax).
+use Rattle.std.specs.Prelude.{ℕ, ◌+◌, ◌-◌, ◌/◌, ◌%◌, ◌^◌, List, [], ◌∷◌, ◌++◌, length, replicate}
+use Rattle.std.specs.Prelude.{slice_index_or, ◌==◌, nat_le, nat_lt, if◌then◌else◌, codes, Option}
+use Rattle.std.specs.Prelude.{Some, None, Result, Ok, Err}
 use Rattle.std.specs.Str.{bytes_eq}
 use Rattle.tg_base.specs.State.{code_base, statics_base, most_words, most_bytes}
 use Rattle.tg_base.specs.Words.{add, mul}
@@ -13,9 +16,12 @@ use Rattle.tg_isa.specs.declared.keywords.AsmRule.TheVariants.{A1, A2, A4, A5, A
 use Rattle.tg_isa.specs.Table.{word_of}
 use Rattle.tg_isa.specs.Lines.{lines, Cut, cut, Operand}
 use Rattle.tg_isa.specs.Operands.{field}
-use Rattle.tg_isa.specs.Items.{keyword, stands_in, Item, Nothing, Section, Words, Data', item, Coded, Fixed, Branch, Jump, Upper, Lower, Datum, Value, Place, Single, Bytes, Zeros, widths}
+use Rattle.tg_isa.specs.Items.{keyword, stands_in, Item, Nothing, Section, Words, Data', item}
+use Rattle.tg_isa.specs.Items.{Coded, Fixed, Branch, Jump, Upper, Lower, Datum, Value, Place}
+use Rattle.tg_isa.specs.Items.{Single, Bytes, Zeros, widths}
 
--- Lines to items: the labels and the item of a line that stands in a segment, or the first fault of A1, A2, A3, A7.
+-- Lines to items: the labels and the item of a line that stands in a segment, or the first fault of
+-- A1, A2, A3, A7.
 pub record Reading : Type 0 where
   pub labels : List (List ℕ)
   pub item : Item
@@ -24,8 +30,10 @@ abbrev pub with_labels : List (List ℕ) → Result Item AsmRule → Result Read
 with_labels labels (Ok i) = Ok (record { labels = labels; item = i })
 with_labels labels (Err e) = Err e
 
-abbrev pub read_known : Segment → List (List ℕ) → List Operand → Option Keyword → Result Reading AsmRule
-read_known segment labels os (Some k) = if stands_in k segment then with_labels labels (item k os) else Err A1
+abbrev pub read_known : Segment → List (List ℕ) → List Operand → Option Keyword →
+    Result Reading AsmRule
+read_known segment labels os (Some k) =
+    if stands_in k segment then with_labels labels (item k os) else Err A1
 read_known segment labels os None = Err A2
 
 abbrev pub read_word : Segment → List (List ℕ) → List Operand → List ℕ → Result Reading AsmRule
@@ -39,12 +47,14 @@ read_cut segment None = Err A1
 abbrev pub reading : Segment → List ℕ → Result Reading AsmRule
 reading segment line = read_cut segment (cut line)
 
--- Items to places. A label stands for a word of the code, or for an item of the statics, by its number.
+-- Items to places. A label stands for a word of the code, or for an item of the statics, by its
+-- number.
 pub data Spot : Type 0 where
   InCode : ℕ → Spot
   InStatics : ℕ → Spot
 
--- The segment in force, the words of code so far, where each item of the statics begins and where they end so far,
+-- The segment in force, the words of code so far, where each item of the statics begins and where
+-- they end so far,
 -- and the labels so far.
 pub record Layout : Type 0 where
   pub segment : Segment
@@ -82,18 +92,24 @@ add_one l name = add_new l name (spot_of l name)
 abbrev pub add_labels : Layout → List (List ℕ) → Result Layout AsmRule
 add_labels l [] = Ok l
 add_labels l (name ∷ more) =
-    elim (add_one l name) as (λ _. Result Layout AsmRule) [ Ok m ↦ add_labels m more | Err e ↦ Err e ]
+    elim (add_one l name) as (λ _. Result Layout AsmRule) [
+      | Ok m ↦ add_labels m more
+      | Err e ↦ Err e
+    ]
 
 -- the first multiple of a number from a place on
 abbrev pub round_up : ℕ → ℕ → ℕ
 round_up n multiple = n + (multiple - n % multiple) % multiple
 
 abbrev pub add_words : Layout → ℕ → Result Layout AsmRule
-add_words l n = if nat_le (l.words + n) most_words then Ok (record l { words = l.words + n }) else Err A8
+add_words l n =
+    if nat_le (l.words + n) most_words then Ok (record l { words = l.words + n }) else Err A8
 
 abbrev pub add_data : Layout → (start size : ℕ) → Result Layout AsmRule
 add_data l start size =
-    if nat_le (start + size) most_bytes then Ok (record l { starts = l.starts ++ start ∷ []; size = start + size }) else Err A8
+    if nat_le (start + size) most_bytes
+    then Ok (record l { starts = l.starts ++ start ∷ []; size = start + size })
+    else Err A8
 
 abbrev pub add_item : Item → Layout → Result Layout AsmRule
 add_item Nothing l = Ok l
@@ -153,8 +169,14 @@ with_target one k = one
 -- the branch at a word to another: forwards, or backwards
 abbrev pub branch_word : Mips → (at to : ℕ) → Result ℕ AsmRule
 branch_word one at to =
-    if nat_lt at to then (if nat_le (to - (at + 1)) 32767 then Ok (word_of (with_offset one (to - (at + 1)))) else Err A6) else
-    if nat_le (at + 1 - to) 32768 then Ok (word_of (with_offset one (2 ^ 16 - (at + 1 - to)))) else Err A6
+    if nat_lt at to then (
+    if nat_le (to - (at + 1)) 32767
+    then Ok (word_of (with_offset one (to - (at + 1))))
+    else Err A6
+    ) else
+    if nat_le (at + 1 - to) 32768
+    then Ok (word_of (with_offset one (2 ^ 16 - (at + 1 - to))))
+    else Err A6
 
 abbrev pub branch_to : Mips → (at : ℕ) → Option Spot → Result ℕ AsmRule
 branch_to one at (Some (InCode to)) = branch_word one at to
@@ -163,7 +185,8 @@ branch_to one at None = Err A5
 
 -- a jump, but not to the code's end
 abbrev pub jump_to : Layout → Mips → Option Spot → Result ℕ AsmRule
-jump_to l one (Some (InCode to)) = if nat_lt to l.words then Ok (word_of (with_target one (code_base / 4 + to))) else Err A6
+jump_to l one (Some (InCode to)) =
+    if nat_lt to l.words then Ok (word_of (with_target one (code_base / 4 + to))) else Err A6
 jump_to l one (Some (InStatics k)) = Err A6
 jump_to l one None = Err A5
 
@@ -223,7 +246,11 @@ make_data l m (d ∷ more) =
     ]
 
 abbrev pub pad : Made → ℕ → Made
-pad m multiple = record m { statics = m.statics ++ replicate (round_up (length m.statics) multiple - length m.statics) 0 }
+pad m multiple =
+    record m {
+      statics = m.statics
+          ++ replicate (round_up (length m.statics) multiple - length m.statics) 0;
+    }
 
 abbrev pub make_item : Layout → Made → Item → Result Made AsmRule
 make_item l m Nothing = Ok m

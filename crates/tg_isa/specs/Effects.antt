@@ -1,13 +1,25 @@
--- What each instruction does, a row of the table a line, and one step of the machine (MIPS I manual, appendix A).
-use Rattle.std.specs.Prelude.{ℕ, ◌+◌, ◌*◌, ◌/◌, ◌%◌, ◌^◌, length, slice_index, Bool, if◌then◌else◌, ◌==◌, nat_lt, Option, Some, None, Result, Ok, Err, bit_and, bit_or, bit_xor, pos}
+-- What each instruction does, a row of the table a line, and one step of the machine (MIPS I
+-- manual, appendix A).
+use Rattle.std.specs.Prelude.{ℕ, ◌+◌, ◌*◌, ◌/◌, ◌%◌, ◌^◌, length, slice_index, Bool, if◌then◌else◌}
+use Rattle.std.specs.Prelude.{◌==◌, nat_lt, Option, Some, None, Result, Ok, Err, bit_and, bit_or}
+use Rattle.std.specs.Prelude.{bit_xor, pos}
 use Rattle.tg_isa.specs.declared.mips.Mips.{Mips}
-use Rattle.tg_isa.specs.declared.mips.Mips.TheVariants.{Sll, Srl, Sra, Jr, Jalr, Syscall, Break, Mfhi, Mflo, Mult, Div, Add, Sub, Addu, Subu, And, Or, Xor, Nor, Slt, Sltu, J, Jal, Beq, Bne, Blez, Bgtz, Bltz, Bgez, Addi, Addiu, Slti, Sltiu, Andi, Ori, Xori, Lui, Lb, Lbu, Lw, Sb, Sw}
+use Rattle.tg_isa.specs.declared.mips.Mips.TheVariants.{Sll, Srl, Sra, Jr, Jalr, Syscall, Break}
+use Rattle.tg_isa.specs.declared.mips.Mips.TheVariants.{Mfhi, Mflo, Mult, Div, Add, Sub, Addu, Subu}
+use Rattle.tg_isa.specs.declared.mips.Mips.TheVariants.{And, Or, Xor, Nor, Slt, Sltu, J, Jal, Beq}
+use Rattle.tg_isa.specs.declared.mips.Mips.TheVariants.{Bne, Blez, Bgtz, Bltz, Bgez, Addi, Addiu}
+use Rattle.tg_isa.specs.declared.mips.Mips.TheVariants.{Slti, Sltiu, Andi, Ori, Xori, Lui, Lb, Lbu}
+use Rattle.tg_isa.specs.declared.mips.Mips.TheVariants.{Lw, Sb, Sw}
 use Rattle.tg_isa.specs.Table.{decode_of}
 use Rattle.tg_base.specs.declared.ends.RunEnd.TheVariants as ends
 use Rattle.tg_base.specs.declared.ends.RunEnd.{RunEnd}
-use Rattle.tg_base.specs.declared.ends.RunEnd.TheVariants.{Exit, Overflow, BadAddress, Unaligned, BadWord}
-use Rattle.tg_base.specs.Words.{add, sub, less, quot, rem, exact_sum, exact_difference, product_high, product_low, extended, extended_byte, shift_left, shift_right, shift_signed, neither, flag}
-use Rattle.tg_base.specs.State.{State, code_base, register, set_register, go, offset, load_byte, load_word, store_byte, store_word}
+use Rattle.tg_base.specs.declared.ends.RunEnd.TheVariants.{Exit, Overflow, BadAddress, Unaligned}
+use Rattle.tg_base.specs.declared.ends.RunEnd.TheVariants.{BadWord}
+use Rattle.tg_base.specs.Words.{add, sub, less, quot, rem, exact_sum, exact_difference}
+use Rattle.tg_base.specs.Words.{product_high, product_low, extended, extended_byte, shift_left}
+use Rattle.tg_base.specs.Words.{shift_right, shift_signed, neither, flag}
+use Rattle.tg_base.specs.State.{State, code_base, register, set_register, go, offset, load_byte}
+use Rattle.tg_base.specs.State.{load_word, store_byte, store_word}
 use Rattle.tg_base.specs.Services.{Step, Goes, Ends, service}
 
 -- a register gets a word, or the access ends
@@ -65,7 +77,10 @@ effect (Break code) s = Ends (ends.Break code)
 effect (Mfhi rd) s = Goes (set_register s rd s.hi)
 effect (Mflo rd) s = Goes (set_register s rd s.lo)
 effect (Mult rs rt) s =
-    Goes (record s { hi = product_high (register s rs) (register s rt); lo = product_low (register s rs) (register s rt) })
+    Goes (record s {
+      hi = product_high (register s rs) (register s rt);
+      lo = product_low (register s rs) (register s rt);
+    })
 effect (Div rs rt) s = Goes (divide s (register s rs) (register s rt))
 effect (Add rd rs rt) s = put_exact s rd (exact_sum (register s rs) (register s rt))
 effect (Sub rd rs rt) s = put_exact s rd (exact_difference (register s rs) (register s rt))
@@ -87,8 +102,10 @@ effect (Bltz rs number) s = branch_if (less (register s rs) 0) s number
 effect (Bgez rs number) s = branch_unless (less (register s rs) 0) s number
 effect (Addi rt rs number) s = put_exact s rt (exact_sum (register s rs) (extended number))
 effect (Addiu rt rs number) s = Goes (set_register s rt (add (register s rs) (extended number)))
-effect (Slti rt rs number) s = Goes (set_register s rt (flag (less (register s rs) (extended number))))
-effect (Sltiu rt rs number) s = Goes (set_register s rt (flag (nat_lt (register s rs) (extended number))))
+effect (Slti rt rs number) s =
+    Goes (set_register s rt (flag (less (register s rs) (extended number))))
+effect (Sltiu rt rs number) s =
+    Goes (set_register s rt (flag (nat_lt (register s rs) (extended number))))
 effect (Andi rt rs number) s = Goes (set_register s rt (bit_and (register s rs) number))
 effect (Ori rt rs number) s = Goes (set_register s rt (bit_or (register s rs) number))
 effect (Xori rt rs number) s = Goes (set_register s rt (bit_xor (register s rs) number))

@@ -1,11 +1,21 @@
--- Items of assembly text, and what each means for the code or the statics (SPIM manual, assembler syntax).
-use Rattle.std.specs.Prelude.{ℕ, ◌+◌, ◌/◌, ◌%◌, ◌^◌, List, [], ◌∷◌, ◌++◌, length, Bool, true, false, ◌==◌, ◌&&◌, if◌then◌else◌, codes, Option, Some, None, Result, Ok, Err}
+-- Items of assembly text, and what each means for the code or the statics (SPIM manual, assembler
+-- syntax).
+use Rattle.std.specs.Prelude.{ℕ, ◌+◌, ◌/◌, ◌%◌, ◌^◌, List, [], ◌∷◌, ◌++◌, length, Bool, true, false}
+use Rattle.std.specs.Prelude.{◌==◌, ◌&&◌, if◌then◌else◌, codes, Option, Some, None, Result, Ok, Err}
 use Rattle.std.specs.Str.{bytes_eq}
 use Rattle.tg_base.specs.State.{most_bytes}
 use Rattle.tg_isa.specs.declared.mips.Mips.{Mips}
 use Rattle.tg_isa.specs.declared.mips.Mips.TheVariants as row
 use Rattle.tg_isa.specs.declared.keywords.Keyword.{Keyword}
-use Rattle.tg_isa.specs.declared.keywords.Keyword.TheVariants.{Sll, Srl, Sra, Jr, Jalr, Syscall, Break, Mfhi, Mflo, Mult, Div, Add, Sub, Addu, Subu, And, Or, Xor, Nor, Slt, Sltu, J, Jal, Beq, Bne, Blez, Bgtz, Bltz, Bgez, Addi, Addiu, Slti, Sltiu, Andi, Ori, Xori, Lui, Lb, Lbu, Lw, Sb, Sw, Nop, Move, Li, La, Text, Data, Globl, Word, Byte, Ascii, Asciiz, Space, Align}
+use Rattle.tg_isa.specs.declared.keywords.Keyword.TheVariants.{Sll, Srl, Sra, Jr, Jalr, Syscall}
+use Rattle.tg_isa.specs.declared.keywords.Keyword.TheVariants.{Break, Mfhi, Mflo, Mult, Div, Add}
+use Rattle.tg_isa.specs.declared.keywords.Keyword.TheVariants.{Sub, Addu, Subu, And, Or, Xor, Nor}
+use Rattle.tg_isa.specs.declared.keywords.Keyword.TheVariants.{Slt, Sltu, J, Jal, Beq, Bne, Blez}
+use Rattle.tg_isa.specs.declared.keywords.Keyword.TheVariants.{Bgtz, Bltz, Bgez, Addi, Addiu, Slti}
+use Rattle.tg_isa.specs.declared.keywords.Keyword.TheVariants.{Sltiu, Andi, Ori, Xori, Lui, Lb, Lbu}
+use Rattle.tg_isa.specs.declared.keywords.Keyword.TheVariants.{Lw, Sb, Sw, Nop, Move, Li, La, Text}
+use Rattle.tg_isa.specs.declared.keywords.Keyword.TheVariants.{Data, Globl, Word, Byte, Ascii}
+use Rattle.tg_isa.specs.declared.keywords.Keyword.TheVariants.{Asciiz, Space, Align}
 use Rattle.tg_isa.specs.declared.keywords.Slot.{Slot}
 use Rattle.tg_isa.specs.declared.keywords.Slot.TheVariants.{Rd, Rs, Rt, Number, Based, Label}
 use Rattle.tg_isa.specs.declared.keywords.Segment.{Segment}
@@ -13,7 +23,8 @@ use Rattle.tg_isa.specs.declared.keywords.Segment.TheVariants.{Code, Statics}
 use Rattle.tg_isa.specs.declared.keywords.AsmRule.{AsmRule}
 use Rattle.tg_isa.specs.declared.keywords.AsmRule.TheVariants.{A3, A7}
 use Rattle.tg_isa.specs.Lines.{Operand, Plain, Quoted}
-use Rattle.tg_isa.specs.Operands.{Signed, number, is_within, field, is_label, string, Fields, unfilled, fill_all}
+use Rattle.tg_isa.specs.Operands.{Signed, number, is_within, field, is_label, string, Fields}
+use Rattle.tg_isa.specs.Operands.{unfilled, fill_all}
 
 -- the words that name items
 abbrev pub spelling : Keyword → List ℕ
@@ -224,7 +235,8 @@ row_of Sw f = row.Sw f.rt (field 16 f.number) f.rs
 row_of Move f = row.Addu f.rd 0 f.rs
 row_of _ f = row.Sll 0 0 0
 
--- A word of code: a row, a row whose label is a branch's or a jump's, or a half of a label's place for a register.
+-- A word of code: a row, a row whose label is a branch's or a jump's, or a half of a label's place
+-- for a register.
 pub data Coded : Type 0 where
   Fixed : Mips → Coded
   Branch : Mips → List ℕ → Coded
@@ -255,7 +267,8 @@ coded Li f = load_number f.rt f.number
 coded La f = Upper f.rt f.label ∷ Lower f.rt f.label ∷ []
 coded k f = Fixed (row_of k f) ∷ []
 
--- Data of the statics: a number or a label's place in four bytes, a number in one, bytes, and so many zeros.
+-- Data of the statics: a number or a label's place in four bytes, a number in one, bytes, and so
+-- many zeros.
 pub data Datum : Type 0 where
   Value : Signed → Datum
   Place : List ℕ → Datum
@@ -284,7 +297,8 @@ pub data Item : Type 0 where
 
 -- an instruction
 abbrev pub filled : Keyword → Option Fields → Result Item AsmRule
-filled k (Some f) = if is_within (least k) (greatest k) f.number then Ok (Words (coded k f)) else Err A7
+filled k (Some f) =
+    if is_within (least k) (greatest k) f.number then Ok (Words (coded k f)) else Err A7
 filled k None = Err A3
 
 abbrev pub instruction : Keyword → List Operand → Result Item AsmRule

@@ -1,5 +1,6 @@
 -- Assembly text as lines, and a line as labels, an item's word and its operands.
-use Rattle.std.specs.Prelude.{ℕ, zero, suc, List, [], ◌∷◌, length, Bool, true, false, not, ◌==◌, ◌&&◌, ◌||◌, nat_le, if◌then◌else◌, Option, Some, None}
+use Rattle.std.specs.Prelude.{ℕ, zero, suc, List, [], ◌∷◌, length, Bool, true, false, not, ◌==◌}
+use Rattle.std.specs.Prelude.{◌&&◌, ◌||◌, nat_le, if◌then◌else◌, Option, Some, None}
 
 -- A line ends at byte 10 or at the end of the text.
 abbrev pub onto_first : ℕ → List (List ℕ) → List (List ℕ)
@@ -13,7 +14,8 @@ abbrev pub lines : List ℕ → List (List ℕ)
 lines [] = [] ∷ []
 lines (c ∷ text) = before_lines c (lines text)
 
--- classes of bytes: blanks; what ends an item's word and an operand (a blank, `,`, `"`, `#`); what labels are made of
+-- classes of bytes: blanks; what ends an item's word and an operand (a blank, `,`, `"`, `#`); what
+-- labels are made of
 abbrev pub is_between : ℕ → ℕ → ℕ → Bool
 is_between low high c = nat_le low c && nat_le c high
 
@@ -59,7 +61,10 @@ before_colon name (c ∷ text) = if c == 58 then Some (name, text) else None
 
 abbrev pub label_at : List ℕ → Option (List ℕ × List ℕ)
 label_at [] = None
-label_at (c ∷ text) = if begins_label c then before_colon (c ∷ front is_past_label text) (back is_past_label text) else None
+label_at (c ∷ text) =
+    if begins_label c
+    then before_colon (c ∷ front is_past_label text) (back is_past_label text)
+    else None
 
 -- the labels in front of a text, at most so many, and what follows them and their blanks
 pub record Labelled : Type 0 where
@@ -80,7 +85,8 @@ labelled (suc n) text =
       | None ↦ unlabelled text
     ]
 
--- An operand is a run of bytes, or what stands between two quotes, with its escapes as they are written.
+-- An operand is a run of bytes, or what stands between two quotes, with its escapes as they are
+-- written.
 pub data Operand : Type 0 where
   Plain : List ℕ → Operand
   Quoted : List ℕ → Operand
@@ -109,7 +115,8 @@ operand (c ∷ text) =
     if c == 34 then as_quoted (quoted false text) else
     Some (Plain (c ∷ front is_end text), back is_end text)
 
--- What stands before the next operand: the line is over, or the operand follows, or the line has no such shape.
+-- What stands before the next operand: the line is over, or the operand follows, or the line has no
+-- such shape.
 pub data Gap : Type 0 where
   Over : Gap
   Next : List ℕ → Gap
@@ -171,7 +178,8 @@ pub record Cut : Type 0 where
 abbrev pub cut_with : List (List ℕ) → List ℕ → Option (List Operand) → Option Cut
 cut_with labels [] found = None
 cut_with labels (c ∷ word) None = None
-cut_with labels (c ∷ word) (Some os) = Some (record { labels = labels; word = c ∷ word; operands = os })
+cut_with labels (c ∷ word) (Some os) =
+    Some (record { labels = labels; word = c ∷ word; operands = os })
 
 abbrev pub cut_item : Labelled → Option Cut
 cut_item l =

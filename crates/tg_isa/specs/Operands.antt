@@ -1,8 +1,12 @@
--- What the operands of an item are: numbers, registers, labels and strings (SPIM manual, assembler syntax).
-use Rattle.std.specs.Prelude.{ℕ, ◌+◌, ◌-◌, ◌*◌, ◌%◌, ◌^◌, min, List, [], ◌∷◌, length, Bool, true, false, ◌==◌, ◌&&◌, ◌||◌, nat_le, nat_lt, if◌then◌else◌, Option, Some, None}
+-- What the operands of an item are: numbers, registers, labels and strings (SPIM manual, assembler
+-- syntax).
+use Rattle.std.specs.Prelude.{ℕ, ◌+◌, ◌-◌, ◌*◌, ◌%◌, ◌^◌, min, List, [], ◌∷◌, length, Bool, true}
+use Rattle.std.specs.Prelude.{false, ◌==◌, ◌&&◌, ◌||◌, nat_le, nat_lt, if◌then◌else◌, Option, Some}
+use Rattle.std.specs.Prelude.{None}
 use Rattle.std.specs.Str.{bytes_eq}
 use Rattle.tg_isa.specs.Names.{names}
-use Rattle.tg_isa.specs.Lines.{is_between, begins_label, is_past_label, front, back, Operand, Plain, Quoted}
+use Rattle.tg_isa.specs.Lines.{is_between, begins_label, is_past_label, front, back, Operand, Plain}
+use Rattle.tg_isa.specs.Lines.{Quoted}
 use Rattle.tg_isa.specs.declared.keywords.Slot.{Slot}
 use Rattle.tg_isa.specs.declared.keywords.Slot.TheVariants.{Rd, Rs, Rt, Number, Based, Label}
 
@@ -32,7 +36,10 @@ digit base c =
 abbrev pub digits : (base value : ℕ) → List ℕ → Option ℕ
 digits base value [] = Some value
 digits base value (c ∷ text) =
-    elim (digit base c) as (λ _. Option ℕ) [ Some d ↦ digits base (capped (base * value + d)) text | None ↦ None ]
+    elim (digit base c) as (λ _. Option ℕ) [
+      | Some d ↦ digits base (capped (base * value + d)) text
+      | None ↦ None
+    ]
 
 abbrev pub some_digits : ℕ → List ℕ → Option ℕ
 some_digits base [] = None
@@ -53,14 +60,16 @@ with_sign negative None = None
 
 abbrev pub number : List ℕ → Option Signed
 number [] = None
-number (c ∷ text) = if c == 45 then with_sign true (magnitude text) else with_sign false (magnitude (c ∷ text))
+number (c ∷ text) =
+    if c == 45 then with_sign true (magnitude text) else with_sign false (magnitude (c ∷ text))
 
 -- a number from minus `least` to `greatest`, and its bits in a field of so many
 abbrev pub is_within : (least greatest : ℕ) → Signed → Bool
 is_within least greatest n = if n.negative then nat_le n.size least else nat_le n.size greatest
 
 abbrev pub field : ℕ → Signed → ℕ
-field width n = if n.negative then (2 ^ width - n.size % 2 ^ width) % 2 ^ width else n.size % 2 ^ width
+field width n =
+    if n.negative then (2 ^ width - n.size % 2 ^ width) % 2 ^ width else n.size % 2 ^ width
 
 -- a register: `$` with its name, or with a number
 abbrev pub in_file : Option Signed → Option ℕ
@@ -73,7 +82,8 @@ numbered (c ∷ text) = if c == 36 then in_file (number text) else None
 
 abbrev pub named_from : ℕ → List (List ℕ) → List ℕ → Option ℕ
 named_from r [] text = None
-named_from r (name ∷ more) text = if bytes_eq name text then Some r else named_from (r + 1) more text
+named_from r (name ∷ more) text =
+    if bytes_eq name text then Some r else named_from (r + 1) more text
 
 abbrev pub named : List ℕ → Option ℕ
 named text = named_from 0 names text
@@ -108,7 +118,8 @@ abbrev pub closed : List ℕ → Bool
 closed text = length (back (λ c. c == 41) text) == 1
 
 abbrev pub closed_address : Option Signed → List ℕ → Option Address
-closed_address n text = if closed text then address_of n (register (front (λ c. c == 41) text)) else None
+closed_address n text =
+    if closed text then address_of n (register (front (λ c. c == 41) text)) else None
 
 abbrev pub in_parens : Option Signed → List ℕ → Option Address
 in_parens n [] = None
@@ -139,7 +150,10 @@ abbrev pub string : (escaped : Bool) → List ℕ → Option (List ℕ)
 string escaped [] = if escaped then None else Some []
 string true (c ∷ text) = before_string (escape c) (string false text)
 string false (c ∷ text) =
-    elim (c == 92) as (λ _. Option (List ℕ)) [ true ↦ string true text | false ↦ before_string (plain c) (string false text) ]
+    elim (c == 92) as (λ _. Option (List ℕ)) [
+      | true ↦ string true text
+      | false ↦ before_string (plain c) (string false text)
+    ]
 
 -- What the operands of an instruction fill. Until they do, rd is $ra and all else is 0.
 pub record Fields : Type 0 where
@@ -190,4 +204,5 @@ abbrev pub fill_all : List Slot → List Operand → Fields → Option Fields
 fill_all [] [] f = Some f
 fill_all [] (o ∷ os) f = None
 fill_all (s ∷ slots) [] f = None
-fill_all (s ∷ slots) (o ∷ os) f = elim (fill s o f) as (λ _. Option Fields) [ Some g ↦ fill_all slots os g | None ↦ None ]
+fill_all (s ∷ slots) (o ∷ os) f =
+    elim (fill s o f) as (λ _. Option Fields) [ Some g ↦ fill_all slots os g | None ↦ None ]

@@ -1,5 +1,8 @@
--- Where the items and the labels of a text stand, and the image that they make (SPIM manual, assembler syntax).
-use Rattle.std.specs.Prelude.{ℕ, ◌+◌, ◌-◌, ◌*◌, ◌/◌, ◌%◌, ◌^◌, ◌≡◌, ◌≢◌, ◌<◌, ◌≤◌, ⊤, List, [], ◌∷◌, ◌++◌, length, map, replicate, AllPairs, if◌then◌else◌, codes, Option, Some, None, Ok, IsSome}
+-- Where the items and the labels of a text stand, and the image that they make (SPIM manual,
+-- assembler syntax).
+use Rattle.std.specs.Prelude.{ℕ, ◌+◌, ◌-◌, ◌*◌, ◌/◌, ◌%◌, ◌^◌, ◌≡◌, ◌≢◌, ◌<◌, ◌≤◌, ⊤, List, [], ◌∷◌}
+use Rattle.std.specs.Prelude.{◌++◌, length, map, replicate, AllPairs, if◌then◌else◌, codes, Option}
+use Rattle.std.specs.Prelude.{Some, None, Ok, IsSome}
 use Rattle.std.specs.Str.{bytes_eq}
 use Rattle.tg_base.specs.State.{code_base, statics_base, most_words, most_bytes}
 use Rattle.tg_isa.specs.declared.mips.Mips.TheVariants as row
@@ -7,8 +10,10 @@ use Rattle.tg_isa.specs.declared.keywords.Segment.{Segment}
 use Rattle.tg_isa.specs.declared.keywords.Segment.TheVariants.{Code, Statics}
 use Rattle.tg_isa.specs.Table.{word_of}
 use Rattle.tg_isa.specs.Operands.{field}
-use Rattle.tg_isa.specs.Items.{Item, Section, Words, Data', Coded, Fixed, Branch, Jump, Upper, Lower, Datum, Value, Place, Single, Bytes, Zeros, widths}
-use Rattle.tg_isa.specs.Assembly.{Reading, reading, Assembled, round_up, with_offset, with_target, word_bytes}
+use Rattle.tg_isa.specs.Items.{Item, Section, Words, Data', Coded, Fixed, Branch, Jump, Upper}
+use Rattle.tg_isa.specs.Items.{Lower, Datum, Value, Place, Single, Bytes, Zeros, widths}
+use Rattle.tg_isa.specs.Assembly.{Reading, reading, Assembled, round_up, with_offset, with_target}
+use Rattle.tg_isa.specs.Assembly.{word_bytes}
 
 -- the segment in force behind an item
 abbrev pub segment_behind : Segment → Item → Segment
@@ -72,7 +77,8 @@ abbrev pub positions_from : Segment → (word byte : ℕ) → List Reading → P
 positions_from segment word byte [] = []
 positions_from segment word byte (r ∷ rs) =
     map (λ name. (name, next_position segment word byte (r ∷ rs))) r.labels
-    ++ positions_from (segment_behind segment r.item) (word + length (item_words r.item)) (byte_behind byte r.item) rs
+    ++ positions_from (segment_behind segment r.item)
+    (word + length (item_words r.item)) (byte_behind byte r.item) rs
 
 abbrev pub positions : List Reading → Positions
 positions rs = positions_from Code 0 0 rs
@@ -102,10 +108,14 @@ offset_to at to = (to + 2 ^ 16 - (at + 1)) % 2 ^ 16
 -- a word of the code
 abbrev pub placed_word : Positions → (at : ℕ) → Coded → ℕ
 placed_word ps at (Fixed one) = word_of one
-placed_word ps at (Branch one label) = word_of (with_offset one (offset_to at (found_word (position_of ps label))))
-placed_word ps at (Jump one label) = word_of (with_target one (code_base / 4 + found_word (position_of ps label)))
-placed_word ps at (Upper r label) = word_of (row.Lui r (found_address (position_of ps label) / 2 ^ 16))
-placed_word ps at (Lower r label) = word_of (row.Ori r r (found_address (position_of ps label) % 2 ^ 16))
+placed_word ps at (Branch one label) =
+    word_of (with_offset one (offset_to at (found_word (position_of ps label))))
+placed_word ps at (Jump one label) =
+    word_of (with_target one (code_base / 4 + found_word (position_of ps label)))
+placed_word ps at (Upper r label) =
+    word_of (row.Lui r (found_address (position_of ps label) / 2 ^ 16))
+placed_word ps at (Lower r label) =
+    word_of (row.Ori r r (found_address (position_of ps label) % 2 ^ 16))
 
 abbrev pub placed_words : Positions → (at : ℕ) → List Coded → List ℕ
 placed_words ps at [] = []
@@ -124,12 +134,14 @@ placed_data ps [] = []
 placed_data ps (d ∷ ds) = placed_datum ps d ++ placed_data ps ds
 
 abbrev pub placed_item : Positions → (byte : ℕ) → Item → List ℕ
-placed_item ps byte (Data' multiple ds) = replicate (round_up byte multiple - byte) 0 ++ placed_data ps ds
+placed_item ps byte (Data' multiple ds) =
+    replicate (round_up byte multiple - byte) 0 ++ placed_data ps ds
 placed_item ps byte i = []
 
 abbrev pub placed_bytes : Positions → (byte : ℕ) → List Reading → List ℕ
 placed_bytes ps byte [] = []
-placed_bytes ps byte (r ∷ rs) = placed_item ps byte r.item ++ placed_bytes ps (byte_behind byte r.item) rs
+placed_bytes ps byte (r ∷ rs) =
+    placed_item ps byte r.item ++ placed_bytes ps (byte_behind byte r.item) rs
 
 -- the image of readings; its entry is the place of `main`
 abbrev pub image_of : List Reading → Assembled

@@ -5,7 +5,8 @@ use Rattle.tg_base.specs.State.{State}
 use Rattle.tg_base.specs.Services.{Step, Goes, Ends, Reads, Writes, answered}
 use Rattle.tg_isa.specs.Effects.{step}
 
--- A machine, what its reads will answer (a byte, or None for the end of input; past the list, the end), and the output so far.
+-- A machine, what its reads will answer (a byte, or None for the end of input; past the list, the
+-- end), and the output so far.
 pub record World : Type 0 where
   pub machine : State
   pub input : List (Option ℕ)
@@ -32,13 +33,22 @@ abbrev pub proceed : World → Step → Outcome
 proceed w (Goes s) = Running (record { machine = s; input = w.input; output = w.output })
 proceed w (Ends e) = Ended e w
 proceed w (Reads s) =
-    Running (record { machine = answered s (first_answer w.input); input = later_answers w.input; output = w.output })
-proceed w (Writes bytes s) = Running (record { machine = s; input = w.input; output = w.output ++ bytes })
+    Running (record {
+      machine = answered s (first_answer w.input);
+      input = later_answers w.input;
+      output = w.output;
+    })
+proceed w (Writes bytes s) =
+    Running (record { machine = s; input = w.input; output = w.output ++ bytes })
 
 -- what at most so many steps come to
 abbrev pub run : ℕ → World → Outcome
 run zero w = Running w
-run (suc n) w = elim (proceed w (step w.machine)) as (λ _. Outcome) [ Running v ↦ run n v | Ended e v ↦ Ended e v ]
+run (suc n) w =
+    elim (proceed w (step w.machine)) as (λ _. Outcome) [
+      | Running v ↦ run n v
+      | Ended e v ↦ Ended e v
+    ]
 
 -- a world of a machine on which nothing was written yet
 abbrev pub begun : State → List (Option ℕ) → World

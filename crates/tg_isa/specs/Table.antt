@@ -1,7 +1,13 @@
 -- The instruction table: each row's word, and the row of a word (MIPS I manual, appendix A).
-use Rattle.std.specs.Prelude.{ℕ, ◌+◌, ◌*◌, ◌/◌, ◌%◌, ◌^◌, ◌<◌, ◌==◌, ◌&&◌, if◌then◌else◌, Option, Some, None}
+use Rattle.std.specs.Prelude.{ℕ, ◌+◌, ◌*◌, ◌/◌, ◌%◌, ◌^◌, ◌<◌, ◌==◌, ◌&&◌, if◌then◌else◌, Option}
+use Rattle.std.specs.Prelude.{Some, None}
 use Rattle.tg_isa.specs.declared.mips.Mips.{Mips}
-use Rattle.tg_isa.specs.declared.mips.Mips.TheVariants.{Sll, Srl, Sra, Jr, Jalr, Syscall, Break, Mfhi, Mflo, Mult, Div, Add, Sub, Addu, Subu, And, Or, Xor, Nor, Slt, Sltu, J, Jal, Beq, Bne, Blez, Bgtz, Bltz, Bgez, Addi, Addiu, Slti, Sltiu, Andi, Ori, Xori, Lui, Lb, Lbu, Lw, Sb, Sw}
+use Rattle.tg_isa.specs.declared.mips.Mips.TheVariants.{Sll, Srl, Sra, Jr, Jalr, Syscall, Break}
+use Rattle.tg_isa.specs.declared.mips.Mips.TheVariants.{Mfhi, Mflo, Mult, Div, Add, Sub, Addu, Subu}
+use Rattle.tg_isa.specs.declared.mips.Mips.TheVariants.{And, Or, Xor, Nor, Slt, Sltu, J, Jal, Beq}
+use Rattle.tg_isa.specs.declared.mips.Mips.TheVariants.{Bne, Blez, Bgtz, Bltz, Bgez, Addi, Addiu}
+use Rattle.tg_isa.specs.declared.mips.Mips.TheVariants.{Slti, Sltiu, Andi, Ori, Xori, Lui, Lb, Lbu}
+use Rattle.tg_isa.specs.declared.mips.Mips.TheVariants.{Lw, Sb, Sw}
 
 -- a word with opcode 0, by its fields from rs on; and one with another opcode
 abbrev pub register_form : (rs rt rd shamt funct : ℕ) → ℕ
@@ -168,7 +174,8 @@ decode_compared_form w =
     if rt_field w == 1 then Some (Bgez (rs_field w) (immediate_field w)) else
     None
 
--- the row of a word, where it has one: the inverse of `word_of`, which `encode` and `decode` promise
+-- the row of a word, where it has one: the inverse of `word_of`, which `encode` and `decode`
+-- promise
 abbrev pub decode_of : ℕ → Option Mips
 decode_of w =
     if opcode_field w == 0x00 then decode_register_form w else

@@ -1,5 +1,7 @@
--- Texts that are put together from lines, and what their lines are read as (SPIM manual, assembler syntax).
-use Rattle.std.specs.Prelude.{ℕ, ◌^◌, ◌<◌, ◌≤◌, List, [], ◌∷◌, ◌++◌, length, map, All, Bool, false, IsTrue, ◌==◌, ◌||◌, if◌then◌else◌, codes}
+-- Texts that are put together from lines, and what their lines are read as (SPIM manual, assembler
+-- syntax).
+use Rattle.std.specs.Prelude.{ℕ, ◌^◌, ◌<◌, ◌≤◌, List, [], ◌∷◌, ◌++◌, length, map, All, Bool, false}
+use Rattle.std.specs.Prelude.{IsTrue, ◌==◌, ◌||◌, if◌then◌else◌, codes}
 use Rattle.std.specs.Fmt.{decimal}
 use Rattle.tg_base.specs.State.{most_bytes}
 use Rattle.tg_isa.specs.declared.mips.Mips.{Mips}
@@ -95,7 +97,8 @@ abbrev pub StandsIn : Segment → Line → Type 0
 StandsIn segment (Enter other) = Unit {0}
 StandsIn segment (Globl name) = IsTrue (is_label name)
 StandsIn segment (Label name) = IsTrue (is_label name)
-StandsIn Code (One one target) = IsRow (unlabelled_row one) × (IsTrue (takes_label one) → IsTrue (is_label target))
+StandsIn Code (One one target) =
+    IsRow (unlabelled_row one) × (IsTrue (takes_label one) → IsTrue (is_label target))
 StandsIn Code (La r label) = (r < 32) × IsTrue (is_label label)
 StandsIn Statics (Align power) = power ≤ 3
 StandsIn Statics (Space n) = n ≤ most_bytes
@@ -107,4 +110,5 @@ StandsIn Statics l = ⊥
 
 abbrev pub AreLines : Segment → List Line → Type 0
 AreLines segment [] = Unit {0}
-AreLines segment (l ∷ ls) = StandsIn segment l × AreLines (segment_behind segment (reading_of l).item) ls
+AreLines segment (l ∷ ls) =
+    StandsIn segment l × AreLines (segment_behind segment (reading_of l).item) ls

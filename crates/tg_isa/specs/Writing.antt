@@ -1,10 +1,18 @@
--- An instruction as a line of assembly text, and how the line is read (SPIM manual, assembler syntax).
-use Rattle.std.specs.Prelude.{ℕ, ◌-◌, List, [], ◌∷◌, ◌++◌, ◌≡◌, Bool, true, false, nat_lt, if◌then◌else◌, Ok}
+-- An instruction as a line of assembly text, and how the line is read (SPIM manual, assembler
+-- syntax).
+use Rattle.std.specs.Prelude.{ℕ, ◌-◌, List, [], ◌∷◌, ◌++◌, ◌≡◌, Bool, true, false, nat_lt}
+use Rattle.std.specs.Prelude.{if◌then◌else◌, Ok}
 use Rattle.std.specs.Fmt.{decimal}
 use Rattle.tg_isa.specs.declared.mips.Mips.{Mips}
 use Rattle.tg_isa.specs.declared.mips.Mips.TheVariants as row
 use Rattle.tg_isa.specs.declared.keywords.Keyword.{Keyword}
-use Rattle.tg_isa.specs.declared.keywords.Keyword.TheVariants.{Sll, Srl, Sra, Jr, Jalr, Syscall, Break, Mfhi, Mflo, Mult, Div, Add, Sub, Addu, Subu, And, Or, Xor, Nor, Slt, Sltu, J, Jal, Beq, Bne, Blez, Bgtz, Bltz, Bgez, Addi, Addiu, Slti, Sltiu, Andi, Ori, Xori, Lui, Lb, Lbu, Lw, Sb, Sw}
+use Rattle.tg_isa.specs.declared.keywords.Keyword.TheVariants.{Sll, Srl, Sra, Jr, Jalr, Syscall}
+use Rattle.tg_isa.specs.declared.keywords.Keyword.TheVariants.{Break, Mfhi, Mflo, Mult, Div, Add}
+use Rattle.tg_isa.specs.declared.keywords.Keyword.TheVariants.{Sub, Addu, Subu, And, Or, Xor, Nor}
+use Rattle.tg_isa.specs.declared.keywords.Keyword.TheVariants.{Slt, Sltu, J, Jal, Beq, Bne, Blez}
+use Rattle.tg_isa.specs.declared.keywords.Keyword.TheVariants.{Bgtz, Bltz, Bgez, Addi, Addiu, Slti}
+use Rattle.tg_isa.specs.declared.keywords.Keyword.TheVariants.{Sltiu, Andi, Ori, Xori, Lui, Lb, Lbu}
+use Rattle.tg_isa.specs.declared.keywords.Keyword.TheVariants.{Lw, Sb, Sw}
 use Rattle.tg_isa.specs.declared.keywords.Segment.TheVariants.{Code}
 use Rattle.tg_isa.specs.Names.{name_of}
 use Rattle.tg_isa.specs.Lines.{lines}
@@ -148,7 +156,11 @@ coded_row (row.J n) target = Jump (row.J 0) target
 coded_row (row.Jal n) target = Jump (row.Jal 0) target
 coded_row one target = Fixed one
 
--- A text is one line, which the assembly relation reads as an instruction, with a label in the place of its field.
+-- A text is one line, which the assembly relation reads as an instruction, with a label in the
+-- place of its field.
 pub record ReadsBack (one : Mips) (target text : List ℕ) : Type 0 where
   pub line : lines text ≡ text ∷ []
-  pub read : reading Code text ≡ Ok (record { labels = []; item = Words (coded_row one target ∷ []) })
+  pub read : reading Code text ≡ Ok (record {
+    labels = [];
+    item = Words (coded_row one target ∷ []);
+  })

@@ -1,5 +1,13 @@
 ghost use Rattle.std.specs.Prelude.{◌≡◌, Some, ◌<◌, ◌^◌};
-ghost use Rattle.tg_isa.specs.Table.{IsRow, code_form, decode_of, immediate_form, jump_form, register_form, word_of};
+ghost use Rattle.tg_isa.specs.Table.{
+  IsRow,
+  code_form,
+  decode_of,
+  immediate_form,
+  jump_form,
+  register_form,
+  word_of,
+};
 
 use crate::bits::Bits;
 use crate::mips::Mips;

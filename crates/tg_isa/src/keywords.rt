@@ -1,5 +1,5 @@
-/// What the word of an item in assembly text names: an instruction of the table, by its row, a pseudo-instruction or a
-/// directive (SPIM manual, assembler syntax).
+/// What the word of an item in assembly text names: an instruction of the table, by its row, a
+/// pseudo-instruction or a directive (SPIM manual, assembler syntax).
 #[derive(Clone, Copy)]
 pub enum Keyword {
     Sll,

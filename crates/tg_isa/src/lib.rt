@@ -1,6 +1,6 @@
 //! The instruction table of MIPS I: registers, instructions, their words, and images of programs.
-//! Promises that `encode` and `decode` are inverse, and that `decode` answers None exactly outside the table.
-//! One step and a run of the machine are defined in `specs/`.
+//! Promises that `encode` and `decode` are inverse, and that `decode` answers None exactly outside
+//! the table. One step and a run of the machine are defined in `specs/`.
 #![tactic(auto)]
 
 mod bits;
@@ -24,6 +24,3 @@ pub use mips::Mips;
 pub use names::name;
 pub use registers::Reg;
 pub use writing::line;
-
-#[cfg(test)]
-mod tests;

@@ -1,10 +1,11 @@
 use crate::bits::Bits;
 use crate::registers::Reg;
 
-/// An instruction of the table, with its operands in the order of the assembly text (MIPS I manual, appendix A).
+/// An instruction of the table, with its operands in the order of the assembly text (MIPS I manual,
+/// appendix A).
 ///
-/// Fields are the bits of the word: an immediate has no sign of its own, and a label is the offset in words of a branch
-/// or the target of a jump.
+/// Fields are the bits of the word: an immediate has no sign of its own, and a label is the offset
+/// in words of a branch or the target of a jump.
 #[derive(Clone, Copy)]
 pub enum Mips {
     Sll(Reg, Reg, Bits<5>),

@@ -2,7 +2,8 @@ ghost use Rattle.std.specs.Prelude.{◌≡◌, ℕ, ◌<◌};
 
 use std::marker::Model;
 
-/// A register of the machine, which contracts see as its number, below 32 (MIPS I manual, register usage).
+/// A register of the machine, which contracts see as its number, below 32 (MIPS I manual, register
+/// usage).
 #[derive(Clone, Copy, Debug, PartialEq, Eq)]
 pub struct Reg(u8);
 

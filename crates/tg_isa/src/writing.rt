@@ -3,7 +3,16 @@ ghost use Rattle.std.specs.Fmt.{decimal};
 ghost use Rattle.tg_isa.specs.Names.{name_of};
 ghost use Rattle.tg_isa.specs.Operands.{is_label};
 ghost use Rattle.tg_isa.specs.Table.{IsRow};
-ghost use Rattle.tg_isa.specs.Writing.{ReadsBack, based_text, further, joined, line_of, signed_text, takes_label, unlabelled_row};
+ghost use Rattle.tg_isa.specs.Writing.{
+  ReadsBack,
+  based_text,
+  further,
+  joined,
+  line_of,
+  signed_text,
+  takes_label,
+  unlabelled_row,
+};
 
 use crate::bits::Bits;
 use crate::mips::Mips;

@@ -184,7 +184,7 @@ calls_chain left read_faults taken write_faults k n old mid new first input inpu
     let j = joined k (left first) (left input) old.state mid.state a.input_before b.input_before a.last g.running g.state a.told a.rest a.tells b.told in
     let output = a.last.output in
     let wrote : Appends (taken start) (taken out) output =
-        subst (Appends (taken start) (taken out)) (ap (λ f. output ++ f) g.whole ∙ append-nil output) a.writes in
+    subst (Appends (taken start) (taken out)) (ap (λ f. output ++ f) g.whole ∙ append-nil output) a.writes in
     let size : length (output ++ b.last.output) ≡ length output + length b.last.output = length-append output b.last.output in
     let reads_later : read_faults first ≤ read_faults input' = omega (arith, a.reads_later, b.reads_later) in
     let writes_later : write_faults start ≤ write_faults out' = omega (arith, a.writes_later, b.writes_later) in

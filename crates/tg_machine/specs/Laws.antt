@@ -5,7 +5,8 @@ use Rattle.tg_base.specs.declared.ends.RunEnd.TheVariants.{StepLimit}
 use Rattle.tg_machine.specs.Machines.{Simulated}
 use Rattle.tg_machine.specs.Ran.{Ran}
 
--- Calls can be chained: so many steps, all made, and then so many more, are a call of as many steps together.
+-- Calls can be chained: so many steps, all made, and then so many more, are a call of as many steps
+-- together.
 abbrev pub CallsChain : (I O : Type 0) → Type 0
 CallsChain I O =
     (left : I → Option (List ℕ)) (read_faults : I → ℕ)

@@ -36,7 +36,8 @@ end_of Running = StepLimit
 end_of (Ended e) = e
 
 -- a machine that has ended does nothing
-pub record HasEnded {I O : Type 0} (old new : Simulated) (input input' : I) (out out' : O) : Type 0 where
+pub record HasEnded {I O : Type 0} (old new : Simulated) (input input' : I)
+    (out out' : O) : Type 0 where
   pub machine : new ≡ old
   pub unread : input' ≡ input
   pub unwritten : out' ≡ out

@@ -1,5 +1,6 @@
 -- What a step of the code leaves, by what the step of the definition does.
-use Rattle.std.specs.Prelude.{ℕ, ◌≡◌, ◌≤◌, ◌<◌, ◌+◌, List, [], ◌∷◌, length, slice_index, Option, Some, None, Result, Ok, Err}
+use Rattle.std.specs.Prelude.{ℕ, ◌≡◌, ◌≤◌, ◌<◌, ◌+◌, List, [], ◌∷◌, length, slice_index, Option}
+use Rattle.std.specs.Prelude.{Some, None, Result, Ok, Err}
 use Rattle.std.specs.Io.KnownBytes.{Appends, Consumes, IsAtEnd, Keeps}
 use Rattle.tg_base.specs.declared.ends.RunEnd.{RunEnd}
 use Rattle.tg_base.specs.declared.ends.RunEnd.TheVariants.{StepLimit, ReadFault, WriteFault}
@@ -9,7 +10,8 @@ use Rattle.tg_base.specs.State.{State, load_byte, stack_top}
 use Rattle.tg_base.specs.Services.{Step, Goes, Ends, Reads, Writes, answered, text_at}
 use Rattle.tg_machine.specs.Ran.{counted}
 
--- an end that the machine comes to itself, with no limit of steps and no fault of a source or a sink
+-- an end that the machine comes to itself, with no limit of steps and no fault of a source or a
+-- sink
 abbrev pub IsOwn : RunEnd → Type 0
 IsOwn StepLimit = ⊥
 IsOwn ReadFault = ⊥
@@ -31,7 +33,8 @@ Answers old new (Some b) = Consumes old new (b ∷ [])
 Answers old new None = Keeps old new × IsAtEnd new
 
 -- a read was answered, and the core goes on with the answer; or it failed
-abbrev pub HasRead : {T : Type 0} → (after new : State) (old_left new_left : Option (List ℕ)) (old_faults new_faults : ℕ) →
+abbrev pub HasRead : {T : Type 0} →
+    (after new : State) (old_left new_left : Option (List ℕ)) (old_faults new_faults : ℕ) →
     Result T RunEnd → Type 0
 HasRead after new old_left new_left old_faults new_faults (Ok done) =
     (answer : Option ℕ) × Answers old_left new_left answer × (new ≡ answered after answer)
@@ -40,28 +43,39 @@ HasRead after new old_left new_left old_faults new_faults (Err e) =
 
 -- a write was whole, and is counted; or it failed
 abbrev pub HasWritten : {T : Type 0} → List ℕ →
-    (old_taken new_taken : Option (List ℕ)) (old_faults new_faults old_written new_written : ℕ) → Result T RunEnd → Type 0
+    (old_taken new_taken : Option (List ℕ)) (old_faults new_faults old_written new_written : ℕ) →
+    Result T RunEnd → Type 0
 HasWritten bytes old_taken new_taken old_faults new_faults old_written new_written (Ok done) =
     Appends old_taken new_taken bytes × (new_written ≡ counted old_written (length bytes))
 HasWritten bytes old_taken new_taken old_faults new_faults old_written new_written (Err e) =
-    (e ≡ WriteFault) × TakesFront old_taken new_taken bytes × Rose old_faults new_faults × (new_written ≡ old_written)
+    (e ≡ WriteFault) × TakesFront old_taken new_taken bytes × Rose old_faults new_faults
+    × (new_written ≡ old_written)
 
--- what a step of the code leaves of the core, of the source, of the sink and of the count of bytes written
+-- what a step of the code leaves of the core, of the source, of the sink and of the count of bytes
+-- written
 abbrev pub Moved : {T I O : Type 0} →
-    (left : I → Option (List ℕ)) (read_faults : I → ℕ) (taken : O → Option (List ℕ)) (write_faults : O → ℕ) →
-    Step → Result T RunEnd → (new : State) (input input' : I) (out out' : O) (written written' : ℕ) → Type 0
-Moved left read_faults taken write_faults (Goes s) result new input input' out out' written written' =
+    (left : I → Option (List ℕ)) (read_faults : I → ℕ)
+    (taken : O → Option (List ℕ)) (write_faults : O → ℕ) →
+    Step → Result T RunEnd →
+    (new : State) (input input' : I) (out out' : O) (written written' : ℕ) → Type 0
+Moved left read_faults taken write_faults (Goes s)
+    result new input input' out out' written written' =
     IsDone (Goes s) result new × (input' ≡ input) × (out' ≡ out) × (written' ≡ written)
-Moved left read_faults taken write_faults (Ends e) result new input input' out out' written written' =
+Moved left read_faults taken write_faults (Ends e)
+    result new input input' out out' written written' =
     IsDone (Ends e) result new × (input' ≡ input) × (out' ≡ out) × (written' ≡ written)
-Moved left read_faults taken write_faults (Reads s) result new input input' out out' written written' =
+Moved left read_faults taken write_faults (Reads s)
+    result new input input' out out' written written' =
     HasRead s new (left input) (left input') (read_faults input) (read_faults input') result
     × (read_faults input ≤ read_faults input') × (out' ≡ out) × (written' ≡ written)
-Moved left read_faults taken write_faults (Writes bytes s) result new input input' out out' written written' =
-    HasWritten bytes (taken out) (taken out') (write_faults out) (write_faults out') written written' result
+Moved left read_faults taken write_faults (Writes bytes s)
+    result new input input' out out' written written' =
+    HasWritten bytes (taken out) (taken out')
+    (write_faults out) (write_faults out') written written' result
     × (write_faults out ≤ write_faults out') × (input' ≡ input) × (new ≡ s)
 
--- these so many bytes are the text at an address, each is loaded, and the 0 behind them is below the top of the stack
+-- these so many bytes are the text at an address, each is loaded, and the 0 behind them is below
+-- the top of the stack
 pub record IsText (s : State) (a n : ℕ) (text : List ℕ) : Type 0 where
   pub found : text_at s a ≡ Ok text
   pub size : length text ≡ n
@@ -72,7 +86,8 @@ pub record IsText (s : State) (a n : ℕ) (text : List ℕ) : Type 0 where
 abbrev pub HasText : State → (a n : ℕ) → Type 0
 HasText s a n = (text : List ℕ) × IsText s a n text
 
--- a call that writes the text at an address wrote it whole, or failed; or ended as the text's load does
+-- a call that writes the text at an address wrote it whole, or failed; or ended as the text's load
+-- does
 abbrev pub HasPut : {T : Type 0} → {O : Type 0} → (taken : O → Option (List ℕ)) (faults : O → ℕ) →
     Result (List ℕ) RunEnd → (old new : O) (old_written new_written : ℕ) → Result T RunEnd → Type 0
 HasPut taken faults (Ok text) old new old_written new_written result =

@@ -1,5 +1,7 @@
--- What a call that makes at most so many steps leaves of the machine, of the source and of the sink.
-use Rattle.std.specs.Prelude.{ℕ, ◌+◌, ◌-◌, ◌^◌, ◌≡◌, ◌≢◌, ◌<◌, ◌≤◌, ◌⊎◌, ⊤, min, List, [], ◌++◌, length, Option, Some, None, IsSome}
+-- What a call that makes at most so many steps leaves of the machine, of the source and of the
+-- sink.
+use Rattle.std.specs.Prelude.{ℕ, ◌+◌, ◌-◌, ◌^◌, ◌≡◌, ◌≢◌, ◌<◌, ◌≤◌, ◌⊎◌, ⊤, min, List, [], ◌++◌}
+use Rattle.std.specs.Prelude.{length, Option, Some, None, IsSome}
 use Rattle.std.specs.Io.KnownBytes.{Appends}
 use Rattle.tg_base.specs.declared.ends.RunEnd.{RunEnd}
 use Rattle.tg_base.specs.declared.ends.RunEnd.TheVariants.{StepLimit, ReadFault, WriteFault}
@@ -42,13 +44,16 @@ pub record ComesToWrite (n : ℕ) (w : World) : Type 0 where
   pub comes : run steps w ≡ Running world
   pub writing : IsWriting world.machine bytes
 
--- How such a call ends at the last world of the run, after which it wrote `front` of a write that failed:
+-- How such a call ends at the last world of the run, after which it wrote `front` of a write that
+-- failed:
 -- as the run of the definition does, or at a read or a write that failed.
 pub data Stops (n : ℕ) (w : World) (e : RunEnd) (last : World) (front : List ℕ) : Type 0 where
   still : run n w ≡ Running last → e ≡ StepLimit → front ≡ [] → Stops n w e last front
   ended : run n w ≡ Ended e last → front ≡ [] → Stops n w e last front
-  read_failed : (i : ℕ) → i < n → run i w ≡ Running last → IsReading last.machine → e ≡ ReadFault → front ≡ [] → Stops n w e last front
-  write_failed : (i : ℕ) (rest : List ℕ) → i < n → run i w ≡ Running last → IsWriting last.machine (front ++ rest) → e ≡ WriteFault → Stops n w e last front
+  read_failed : (i : ℕ) → i < n → run i w ≡ Running last → IsReading last.machine →
+      e ≡ ReadFault → front ≡ [] → Stops n w e last front
+  write_failed : (i : ℕ) (rest : List ℕ) → i < n → run i w ≡ Running last →
+      IsWriting last.machine (front ++ rest) → e ≡ WriteFault → Stops n w e last front
 
 -- a sum that stops at the greatest u64
 abbrev pub counted : ℕ → ℕ → ℕ
@@ -61,9 +66,11 @@ pub record GoesOn (n : ℕ) (w last : World) (new : Simulated) (front : List ℕ
   pub state : new.state ≡ last.machine
   pub whole : front ≡ []
 
--- The call runs the machine on what the reads of the source answer, and writes to the sink what the run writes.
+-- The call runs the machine on what the reads of the source answer, and writes to the sink what the
+-- run writes.
 pub record Ran {I O : Type 0}
-    (left : I → Option (List ℕ)) (read_faults : I → ℕ) (taken : O → Option (List ℕ)) (write_faults : O → ℕ)
+    (left : I → Option (List ℕ)) (read_faults : I → ℕ)
+    (taken : O → Option (List ℕ)) (write_faults : O → ℕ)
     (n : ℕ) (old new : Simulated) (input input' : I) (out out' : O) (e : RunEnd) : Type 0 where
   pub input_before : List (Option ℕ)
   pub last : World

@@ -11,7 +11,8 @@ use std::marker::Model;
 use tg_base::{CODE_BASE, HEAP_BASE, RunEnd, STACK_REACH, STACK_TOP, STATICS_BASE, quot};
 use tg_isa::{Bits, Mips, Reg};
 
-/// A program in memory with its registers. Each word of code stands beside its instruction, decoded once.
+/// A program in memory with its registers. Each word of code stands beside its instruction, decoded
+/// once.
 #[derive(Drop)]
 pub struct Core {
     pub(crate) registers: [u32; 32],
@@ -94,8 +95,8 @@ impl Core {
         Err(self.fault(address))
     }
 
-    /// The byte at an address, which is below the top of the stack. An address that isn't served ends
-    /// the run.
+    /// The byte at an address, which is below the top of the stack. An address that isn't served
+    /// ends the run.
     #[inline(always)]
     pub fn load_byte(&self, address: u32) -> Result<u8, RunEnd>
         ensures value { result ≡ state.load_byte self.now address }
@@ -115,7 +116,8 @@ impl Core {
         Err(self.fault(address))
     }
 
-    /// Puts a word at an address. An address that isn't a multiple of 4 or isn't served ends the run.
+    /// Puts a word at an address. An address that isn't a multiple of 4 or isn't served ends the
+    /// run.
     #[inline(always)]
     pub fn store_word(&mut self, address: u32, value: u32) -> Result<(), RunEnd>
         ensures { IsDone (effects.stored (state.store_word self.old address value))
@@ -163,8 +165,8 @@ impl Core {
         Err(self.fault(address))
     }
 
-    /// The instruction at the place. Place 0 ends the run with exit code 0; so does a place without a
-    /// word of the table, by its address or its word.
+    /// The instruction at the place. Place 0 ends the run with exit code 0; so does a place without
+    /// a word of the table, by its address or its word.
     #[inline(always)]
     pub fn fetch(&self) -> Result<Mips, RunEnd>
         ensures value { result ≡ effects.fetch self.now }

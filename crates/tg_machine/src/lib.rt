@@ -1,6 +1,6 @@
 //! The simulator: a machine in memory, which runs images by the instruction table, step by step.
-//! Promises that each step and each run is that of the definition, that memory outside the regions is never touched,
-//! and that a machine that has ended answers its end again.
+//! Promises that each step and each run is that of the definition, that memory outside the regions
+//! is never touched, and that a machine that has ended answers its end again.
 #![tactic(auto)]
 
 mod cores;
@@ -12,8 +12,6 @@ mod services;
 mod stacks;
 mod status;
 mod steps;
-#[cfg(test)]
-mod tests;
 mod words;
 
 pub use cores::Core;

@@ -1,4 +1,18 @@
-ghost use Rattle.std.specs.Prelude.{◌≡◌, ◌≤◌, ◌<◌, ◌+◌, ◌*◌, ◌%◌, length, map, IfOk, OnOk, ◌++◌, ◌∷◌, []};
+ghost use Rattle.std.specs.Prelude.{
+  ◌≡◌,
+  ◌≤◌,
+  ◌<◌,
+  ◌+◌,
+  ◌*◌,
+  ◌%◌,
+  length,
+  map,
+  IfOk,
+  OnOk,
+  ◌++◌,
+  ◌∷◌,
+  [],
+};
 ghost use Rattle.tg_base.specs.State.{most_bytes, most_room, most_words, padded, start};
 ghost use Rattle.tg_isa.specs.Table.{decode_of};
 ghost use Rattle.tg_machine.specs.Machines.{loaded};
@@ -10,10 +24,11 @@ use std::alloc::Global;
 use tg_base::{Memory, STACK_TOP};
 use tg_isa::{Image, Mips, decode};
 
-/// A machine at the start of an image, with so many bytes of heap and of stack. It takes all memory of the run.
+/// A machine at the start of an image, with so many bytes of heap and of stack. It takes all memory
+/// of the run.
 ///
-/// Memory of the heap and of the stack is reserved and not written to, so their sizes cost no time. `Memory` comes
-/// where any of it is wanting; a step or a run takes none.
+/// Memory of the heap and of the stack is reserved and not written to, so their sizes cost no time.
+/// `Memory` comes where any of it is wanting; a step or a run takes none.
 pub fn load(alloc: Global, image: &Image, heap: u32, stack: u32) -> Result<Machine, Memory>
     requires code { length image.now.code ≤ most_words }
     requires statics { length image.now.statics ≤ most_bytes }

@@ -7,8 +7,8 @@ use crate::status::Status;
 use std::marker::Model;
 use tg_base::{RunEnd, Sink, Source};
 
-/// A machine with a program: its registers and its regions, how it ended if it has, and how many bytes its services
-/// have written.
+/// A machine with a program: its registers and its regions, how it ended if it has, and how many
+/// bytes its services have written.
 #[derive(Drop)]
 pub struct Machine {
     pub(crate) core: Core,
@@ -27,15 +27,16 @@ impl Model for Machine {
 }
 
 impl Machine {
-    /// How many bytes the services of this machine have written since it was loaded, without a service whose write
-    /// failed, or the greatest u64 where that is less.
+    /// How many bytes the services of this machine have written since it was loaded, without a
+    /// service whose write failed, or the greatest u64 where that is less.
     pub fn written(&self) -> u64
         ensures { result ≡ self.now.written }
     {
         self.written
     }
 
-    /// Makes one step, whose fetch counts. A machine that has ended answers its end again and does nothing.
+    /// Makes one step, whose fetch counts. A machine that has ended answers its end again and does
+    /// nothing.
     pub fn step<I: Source, O: Sink>(&mut self, input: &mut I, out: &mut O) -> Status
         ensures apart { self.old.end ≡ None → result ≢ Status.Ended RunEnd.StepLimit }
         ensures step { self.old.end ≡ None →
@@ -47,7 +48,8 @@ impl Machine {
         self.advance(input, out, 1)
     }
 
-    /// Makes at most `steps` steps. `StepLimit` says that all were made and the machine hasn't ended.
+    /// Makes at most `steps` steps. `StepLimit` says that all were made and the machine hasn't
+    /// ended.
     pub fn run<I: Source, O: Sink>(&mut self, input: &mut I, out: &mut O, steps: u64) -> RunEnd
         requires { 0 < steps }
         ensures run { self.old.end ≡ None →

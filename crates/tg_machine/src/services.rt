@@ -1,10 +1,33 @@
 ghost use Rattle.std.specs.Io.KnownBytes.{Keeps};
-ghost use Rattle.std.specs.Prelude.{◌≡◌, ◌<◌, ◌≤◌, ◌+◌, ℕ, length, slice_index, EachIndex, IfErr, IfOk, MatchResult, IsOk, Ok, Err};
+ghost use Rattle.std.specs.Prelude.{
+  ◌≡◌,
+  ◌<◌,
+  ◌≤◌,
+  ◌+◌,
+  ℕ,
+  length,
+  slice_index,
+  EachIndex,
+  IfErr,
+  IfOk,
+  MatchResult,
+  IsOk,
+  Ok,
+  Err,
+};
 ghost use Rattle.tg_base.specs.Causes.{HasCause};
 ghost use Rattle.tg_base.specs.State as state;
 ghost use Rattle.tg_base.specs.Services.{service, text_at};
 ghost use Rattle.tg_base.specs.Writes.{TakesAll};
-ghost use Rattle.tg_machine.specs.Moves.{Answers, HasPut, HasRead, HasText, HasWritten, IsOwn, Moved};
+ghost use Rattle.tg_machine.specs.Moves.{
+  Answers,
+  HasPut,
+  HasRead,
+  HasText,
+  HasWritten,
+  IsOwn,
+  Moved,
+};
 
 use crate::cores::Core;
 use tg_base::{Failed, RunEnd, Sink, Source, decimal, write_all};

@@ -1,14 +1,29 @@
-ghost use Rattle.std.specs.Prelude.{◌≡◌, ◌<◌, ◌≤◌, ◌+◌, ◌-◌, ◌%◌, length, ℕ, vec_capacity, replicate, ◌++◌, IfOk, slice_index, slice_set};
+ghost use Rattle.std.specs.Prelude.{
+  ◌≡◌,
+  ◌<◌,
+  ◌≤◌,
+  ◌+◌,
+  ◌-◌,
+  ◌%◌,
+  length,
+  ℕ,
+  vec_capacity,
+  replicate,
+  ◌++◌,
+  IfOk,
+  slice_index,
+  slice_set,
+};
 ghost use Rattle.tg_base.specs.State as state;
 ghost use Rattle.tg_base.specs.State.{most_room};
 
-use byteorder::{ByteOrder, LittleEndian};
 use crate::words::{set_word, word_at};
+use byteorder::{ByteOrder, LittleEndian};
 use std::alloc::{AllocError, Global};
 use std::marker::Model;
 
-/// The bytes of the stack, which grows down. Only the bytes from the lowest one written on are held, in memory that was
-/// reserved for all of them; the bytes before these are 0.
+/// The bytes of the stack, which grows down. Only the bytes from the lowest one written on are
+/// held, in memory that was reserved for all of them; the bytes before these are 0.
 #[derive(Drop)]
 pub(crate) struct Stack {
     near: Vec<u8>,
@@ -17,7 +32,6 @@ pub(crate) struct Stack {
 
 impl Model for Stack {
     ghost use Rattle.tg_base.specs.State.{most_room};
-
     ghost use Rattle.std.specs.Prelude.{List, ℕ, length, vec_capacity, replicate, ◌++◌, ◌-◌, ◌≤◌, ◌≡◌, ◌%◌};
 
     ghost Value = { List ℕ };
@@ -114,7 +128,8 @@ impl Stack {
     }
 }
 
-/// Makes a vector hold the byte at a place, where zeros stand before it up to a size. It at least doubles the vector.
+/// Makes a vector hold the byte at a place, where zeros stand before it up to a size. It at least
+/// doubles the vector.
 #[inline(always)]
 fn reach(near: &mut Vec<u8>, size: usize, at: usize)
     requires held { length near.old.items ≤ size }

@@ -1,5 +1,12 @@
 ghost use Rattle.std.specs.Prelude.{◌≡◌, ◌≢◌, ◌+◌, ◌≤◌, ◌/◌, ◌%◌, [], ◌∷◌, length, vec_capacity};
-ghost use Rattle.tg_base.specs.Words.{exact_difference, exact_sum, extended, extended_byte, product, rem};
+ghost use Rattle.tg_base.specs.Words.{
+  exact_difference,
+  exact_sum,
+  extended,
+  extended_byte,
+  product,
+  rem,
+};
 ghost use Rattle.tg_base.specs.State as state;
 
 use byteorder::{ByteOrder, LittleEndian};

@@ -1,9 +1,10 @@
-use crate::{Bits, Mips, Reg, decode, encode, line, name};
 use std::alloc::Global;
 use std::process::Abort;
 use std::test::Fail;
+use tg_isa::{Bits, Mips, Reg, decode, encode, line, name};
 
-// Each word was made by another assembler: GNU `as` for MIPS I, big endian. Its `break 0,7` is `break 7` here.
+// Each word was made by another assembler: GNU `as` for MIPS I, big endian. Its `break 0,7` is
+// `break 7` here.
 
 /// The instruction has the word, and the word is an instruction with that word.
 fn gives(rt: &impl Abort, one: Mips, word: u32) {

@@ -1,10 +1,11 @@
-use crate::{AsmFault, AsmRule, assemble};
 use std::alloc::Global;
 use std::process::Abort;
 use std::test::Fail;
+use tg_asm::{AsmFault, assemble};
 use tg_isa::Image;
 
-// In each row: what a text is, before the first `|`, and the text. What it is: the rule and the line of its first
+// In each row: what a text is, before the first `|`, and the text. What it is: the rule and the
+// line of its first
 // fault, or the entry, the words of the code and, behind a `/`, the bytes of the statics.
 
 // Each rule at its first line.
@@ -149,7 +150,8 @@ static COMPETITIONS: [&str; 24] = [
     "A2 1|.word: x",
 ];
 
-// Words of the table, as GNU `as` and `llvm-mc` make them for MIPS I, big endian. Their `break 0,7` is `break 7` here,
+// Words of the table, as GNU `as` and `llvm-mc` make them for MIPS I, big endian. Their `break 0,7`
+// is `break 7` here,
 // and their `move` is an `or`.
 static WORDS: [&str; 58] = [
     "400000: 000957c0|main: sll $t2, $t1, 31",
@@ -283,28 +285,13 @@ fn hold(rt: &impl Abort, alloc: Global, rows: &[&str]) -> Result<(), Fail> {
 }
 
 #[test]
-fn faults(rt: HostRuntime) -> Result<(), Fail> {
-    hold(&rt, rt.alloc(), &FAULTS)
-}
-
-#[test]
-fn more_faults(rt: HostRuntime) -> Result<(), Fail> {
-    hold(&rt, rt.alloc(), &MORE_FAULTS)
-}
-
-#[test]
-fn faults_in_competition(rt: HostRuntime) -> Result<(), Fail> {
-    hold(&rt, rt.alloc(), &COMPETITIONS)
-}
-
-#[test]
-fn words_of_another_assembler(rt: HostRuntime) -> Result<(), Fail> {
-    hold(&rt, rt.alloc(), &WORDS)
-}
-
-#[test]
-fn images(rt: HostRuntime) -> Result<(), Fail> {
-    hold(&rt, rt.alloc(), &IMAGES)
+fn faults_and_images(rt: HostRuntime) -> Result<(), Fail> {
+    let alloc = rt.alloc();
+    hold(&rt, alloc, &FAULTS)?;
+    hold(&rt, alloc, &MORE_FAULTS)?;
+    hold(&rt, alloc, &COMPETITIONS)?;
+    hold(&rt, alloc, &WORDS)?;
+    hold(&rt, alloc, &IMAGES)
 }
 
 /// A text of so many `nop`s between two lines.
@@ -318,45 +305,42 @@ fn between(alloc: Global, first: &str, count: u32, last: &str) -> Result<Vec<u8>
     Ok(text)
 }
 
-#[test]
-fn reach_of_branches_forwards(rt: HostRuntime) -> Result<(), Fail> {
-    let alloc = rt.alloc();
-    let near = assemble(
-        alloc,
-        &between(alloc, "main: beq $t0, $t1, x", 32767, "x: nop")?,
-    )?;
-    assert_eq!(rt; near.code.as_slice().first().copied(), Some(0x11097fff));
-    let far = assemble(
-        alloc,
-        &between(alloc, "main: beq $t0, $t1, x", 32768, "x: nop")?,
-    );
-    assert!(rt;
-        far == Err(AsmFault::Bad {
-            rule: AsmRule::A6,
-            line: 1
-        })
-    );
-    Ok(())
+/// The first and the last word of a text, or its fault.
+fn ends_shown(alloc: Global, text: &[u8]) -> Result<String, Fail> {
+    match assemble(alloc, text) {
+        Ok(image) => {
+            let code = image.code.as_slice();
+            let first = code.first().copied().unwrap_or(0);
+            let last = code.last().copied().unwrap_or(0);
+            Ok(format!(in alloc; "{first:08x} {last:08x}")?)
+        }
+        Err(AsmFault::Bad { rule, line }) => Ok(format!(in alloc; "{rule:?} {line}")?),
+        Err(AsmFault::Memory) => Ok(String::from_str(alloc, "memory")?),
+    }
 }
 
 #[test]
-fn reach_of_branches_backwards(rt: HostRuntime) -> Result<(), Fail> {
+fn reach_of_branches(rt: HostRuntime) -> Result<(), Fail> {
     let alloc = rt.alloc();
-    let near = assemble(
-        alloc,
-        &between(alloc, "main: nop", 32766, "bne $t0, $t1, main")?,
-    )?;
-    assert_eq!(rt; near.code.as_slice().last().copied(), Some(0x15098000));
-    let far = assemble(
-        alloc,
-        &between(alloc, "main: nop", 32767, "bne $t0, $t1, main")?,
-    );
-    assert!(rt;
-        far == Err(AsmFault::Bad {
-            rule: AsmRule::A6,
-            line: 32769
-        })
-    );
+    for (first, count, last, want) in [
+        (
+            "main: beq $t0, $t1, x",
+            32767,
+            "x: nop",
+            "11097fff 00000000",
+        ),
+        ("main: beq $t0, $t1, x", 32768, "x: nop", "A6 1"),
+        (
+            "main: nop",
+            32766,
+            "bne $t0, $t1, main",
+            "00000000 15098000",
+        ),
+        ("main: nop", 32767, "bne $t0, $t1, main", "A6 32769"),
+    ] {
+        let shown = ends_shown(alloc, &between(alloc, first, count, last)?)?;
+        assert_eq!(rt; shown.as_str(), want);
+    }
     Ok(())
 }
 
