@@ -1,5 +1,5 @@
 -- The parts of a line are found one after the other.
-use Rattle.std.proofs.Common.{◌≡◌, ◌<◌, ◌≤◌, ◌+◌, ◌-◌, ℕ, zero, suc, Bool, true, false, not, cond, List, [], ◌∷◌, ◌++◌, length, take, drop, map, Option, Some, None, refl, sym, ap, ◌∙◌, arith, append-nil, append_assoc, drop-cons, add-one}
+use Rattle.std.proofs.Common.{◌≡◌, ◌<◌, ◌≤◌, ◌+◌, ℕ, zero, suc, Bool, true, false, not, cond, List, [], ◌∷◌, ◌++◌, length, take, drop, map, Option, Some, None, refl, sym, ap, ◌∙◌, arith, append-nil, append_assoc, drop-cons, add-one}
 use Rattle.std.specs.Prelude.{slice_index, ◌==◌, ◌&&◌}
 use Rattle.std.specs.Borrow.{Bor}
 use Rattle.std.proofs.Math.Seq.{take-suc}
@@ -9,7 +9,6 @@ use Rattle.tg_isa.specs.Lines as lines
 use Rattle.tg_isa.specs.Lines.{front, back, quoted, before_quoted, Labelled, before_labelled, unlabelled, labelled, label_at, before_colon, skip, Over, Next, Misshapen, first_gap, gap, before_operands, begins_label, is_past_label, is_end, is_solid}
 use Rattle.tg_asm.specs.Cuts.{texts, operand_of}
 use Rattle.tg_asm.specs.declared.cuts.Operand.{Operand}
-use Rattle.tg_asm.specs.declared.cuts.Gap.{Gap}
 
 -- a split takes nothing more than the text
 pub length-back : (class : ℕ → Bool) (text : List ℕ) → length (back class text) ≤ length text

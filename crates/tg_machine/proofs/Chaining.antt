@@ -1,17 +1,13 @@
 -- A call behind a call that made all its steps.
-use Rattle.std.specs.Prelude.{IsSome}
-use Rattle.std.proofs.Common.{◌≡◌, ◌≢◌, ◌<◌, ◌≤◌, ◌⊎◌, inl, inr, ◌+◌, ◌^◌, ℕ, zero, suc, List, [], ◌∷◌, ◌++◌, length, Option, Some, None, arith, refl, sym, ap, ◌∙◌, subst, append_assoc, append-nil, length-append}
+use Rattle.std.proofs.Common.{◌≡◌, ◌<◌, ◌≤◌, ◌⊎◌, inl, inr, ◌+◌, ℕ, zero, suc, List, [], ◌∷◌, ◌++◌, length, Option, Some, None, arith, refl, sym, ap, ◌∙◌, subst, append_assoc, append-nil, length-append}
 use Rattle.std.specs.Io.KnownBytes.{Appends}
 use Rattle.std.proofs.KnownBytes.{Appends-trans}
 use Rattle.tg_base.specs.declared.ends.RunEnd.{RunEnd}
-use Rattle.tg_base.specs.declared.ends.RunEnd.TheVariants.{StepLimit, ReadFault, WriteFault}
-use Rattle.tg_base.specs.Causes.{Rose}
 use Rattle.tg_base.specs.State.{State}
 use Rattle.tg_base.specs.Services.{Step, Goes, Ends, Reads, Writes, answered}
 use Rattle.tg_isa.specs.Effects.{step}
-use Rattle.tg_isa.specs.Runs.{World, Outcome, Running, Ended, proceed, run, begun, answers, first_answer, later_answers}
-use Rattle.tg_machine.specs.Machines.{Simulated}
-use Rattle.tg_machine.specs.Ran.{Ran, GoesOn, Tells, StillTells, IsReading, IsWriting, ComesToRead, ComesToWrite, Stops, still, ended, read_failed, write_failed, counted}
+use Rattle.tg_isa.specs.Runs.{World, Outcome, Running, Ended, proceed, run, begun, first_answer, later_answers}
+use Rattle.tg_machine.specs.Ran.{Tells, StillTells, IsReading, IsWriting, ComesToRead, ComesToWrite, Stops, still, ended, read_failed, write_failed, counted}
 use Rattle.tg_machine.specs.Laws.{CallsChain}
 use Rattle.tg_machine.proofs.Runs.{go_on, run_suc, run_add, running_same}
 use Rattle.tg_machine.proofs.Reached.{counted-add, rose_later}

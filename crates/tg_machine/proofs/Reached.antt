@@ -12,7 +12,7 @@ use Rattle.tg_isa.specs.Effects.{step}
 use Rattle.tg_isa.specs.Runs.{World, Running, run, begun, answers, first_answer, later_answers}
 use Rattle.tg_machine.specs.Machines.{simulated}
 use Rattle.tg_machine.specs.Moves.{IsOwn, Answers, Moved}
-use Rattle.tg_machine.specs.Ran.{Ran, GoesOn, Tells, StillTells, ComesToRead, ComesToWrite, counted, still, ended, read_failed, write_failed}
+use Rattle.tg_machine.specs.Ran.{Ran, Tells, StillTells, ComesToRead, ComesToWrite, counted, still, ended, read_failed, write_failed}
 use Rattle.tg_machine.proofs.Runs.{run_more, run_over}
 
 -- some answers that a source tells or may give

@@ -1,5 +1,5 @@
 -- The laws of calls of the machine.
-use Rattle.std.specs.Prelude.{ℕ, ◌+◌, ◌≡◌, List, Option, None}
+use Rattle.std.specs.Prelude.{ℕ, ◌+◌, List, Option}
 use Rattle.tg_base.specs.declared.ends.RunEnd.{RunEnd}
 use Rattle.tg_base.specs.declared.ends.RunEnd.TheVariants.{StepLimit}
 use Rattle.tg_machine.specs.Machines.{Simulated}
