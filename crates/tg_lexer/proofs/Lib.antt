@@ -1,17 +1,19 @@
-pub mod Basics
-pub mod Closings
-pub mod Escapings
-pub mod Quotings
-pub mod EscapeSteps
-pub mod StringSteps
-pub mod Numerals
-pub mod SignSteps
-pub mod Readings
+-- laws that crates above use: how names are numbered, that a text has one list of tokens or one fault, and where tokens end
 pub mod Interning
-pub mod Scans
 pub mod Onces
 pub mod Excludes
-pub mod StringFaults
-pub mod Spelled
 pub mod TokenEnds
-pub mod AsciiNames
+-- this crate's own
+mod Basics
+mod Closings
+mod Escapings
+mod Quotings
+mod EscapeSteps
+mod StringSteps
+mod Numerals
+mod SignSteps
+mod Readings
+mod Scans
+mod StringFaults
+mod Spelled
+mod AsciiNames

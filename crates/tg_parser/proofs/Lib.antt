@@ -1,11 +1,13 @@
-pub mod Chains
-pub mod Params
-pub mod Leading
-pub mod Descents
-pub mod EndedLists
-pub mod Onwards
-pub mod GroupSteps
-pub mod NestingSteps
-pub mod ParseSteps
+-- a law that crates above use: a list of tokens has one fault of syntax at most
 pub mod OneFault
+-- this crate's own
+mod Chains
+mod Params
+mod Leading
+mod Descents
+mod EndedLists
+mod Onwards
+mod GroupSteps
+mod NestingSteps
+mod ParseSteps
 mod Passings

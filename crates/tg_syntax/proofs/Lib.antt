@@ -1,11 +1,13 @@
-pub mod BeginningsExamples
-pub mod FunctionExamples
-pub mod FunctionLaws
-pub mod GrammarExamples
-pub mod GroupLaws
-pub mod InnerLemmas
+-- laws that crates above use
 pub mod ListLaws
 pub mod Longest
 pub mod Numerals
-pub mod SizeLemmas
-pub mod TokenExamples
+pub mod GroupLaws
+pub mod FunctionLaws
+-- this crate's own
+mod SizeLemmas
+mod InnerLemmas
+mod BeginningsExamples
+mod FunctionExamples
+mod GrammarExamples
+mod TokenExamples
