@@ -13,13 +13,17 @@ EndsWith status before now result = (result ≡ status) ⊎ ((result ≡ 74) × 
 abbrev pub untold : (before after : ℕ) → Stream ℕ
 untold before after = stream_of (λ s. None) (λ s. s) before after
 
--- the status is that of the top call on some words, for counts of faults of the shelf, the input, the output and the error sink
-abbrev pub AnswersWords : (words : List (List ℕ)) (files reads writes errors : ℕ) (files' reads' writes' errors' : ℕ) (status : ℕ) → Type 0
+-- the status is that of the top call on some words, for counts of faults of the shelf, the input,
+-- the output and the error sink
+abbrev pub AnswersWords :
+    (words : List (List ℕ)) (files reads writes errors : ℕ)
+    (files' reads' writes' errors' : ℕ) (status : ℕ) → Type 0
 AnswersWords words files reads writes errors files' reads' writes' errors' status =
-    Answers (call_of words (shelf_of (λ s. None) (λ s name. s) files files') (untold reads reads') (untold writes writes') (untold errors errors')) status
+    Answers (call_of words (shelf_of (λ s. None) (λ s name. s) files files')
+    (untold reads reads') (untold writes writes') (untold errors errors')) status
 
--- With the status of the top call on some words, or with that of words that can't be read: memory is wanting, or one isn't
--- UTF-8. The counts of faults begin at 0.
+-- With the status of the top call on some words, or with that of words that can't be read: memory
+-- is wanting, or one isn't UTF-8. The counts of faults begin at 0.
 pub data IsStatus (status : ℕ) : Type 0 where
   answered :
       (words : List (List ℕ)) (files reads writes errors : ℕ) →

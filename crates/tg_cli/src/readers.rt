@@ -9,7 +9,8 @@ use std::io::Read;
 use std::marker::Model;
 use tg_base::{Failed, Source};
 
-/// A source over a reader, which contracts see as its count of faults. Each error of the reader is a fault.
+/// A source over a reader, which contracts see as its count of faults. Each error of the reader is
+/// a fault.
 #[derive(Drop)]
 pub struct ReaderSource<R> {
     reader: R,

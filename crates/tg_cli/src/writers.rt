@@ -8,7 +8,8 @@ use std::io::Write;
 use std::marker::Model;
 use tg_base::{Failed, Sink};
 
-/// A sink over a writer, which contracts see as its count of faults. Each piece is handed on at once.
+/// A sink over a writer, which contracts see as its count of faults. Each piece is handed on at
+/// once.
 ///
 /// Each error of the writer is a fault, and so is a write of nothing.
 #[derive(Drop)]

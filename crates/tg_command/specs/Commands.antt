@@ -8,7 +8,8 @@ use Rattle.tg_command.specs.declared.CommandFault.{CommandFault}
 use Rattle.tg_command.specs.declared.CommandFault.TheVariants.{Usage, Memory}
 use Rattle.tg_command.specs.declared.modes.Mode.{Mode}
 
--- what a command line can ask for: a mode, a file by its name, the bytes of heap and of stack, and the steps
+-- what a command line can ask for: a mode, a file by its name, the bytes of heap and of stack, and
+-- the steps
 pub record Asked : Type 0 where
   pub mode : Mode
   pub file : List ℕ
@@ -18,7 +19,13 @@ pub record Asked : Type 0 where
 
 -- what a command asks for
 abbrev pub asked_of : Command → Asked
-asked_of c = record { mode = c.mode; file = string_bytes c.file; heap = c.heap; stack = c.stack; steps = c.steps }
+asked_of c = record {
+  mode = c.mode;
+  file = string_bytes c.file;
+  heap = c.heap;
+  stack = c.stack;
+  steps = c.steps;
+}
 
 -- its sizes and its steps keep their limits
 pub record KeepsLimits (a : Asked) : Type 0 where
@@ -35,13 +42,20 @@ pub record Ask (words : List (List ℕ)) (a : Asked) : Type 0 where
   pub stack : GivesCount stack_limits (value_of (codes "stack") words) a.stack
   pub steps : GivesCount step_limits (value_of (codes "steps") words) a.steps
 
--- the words ask for nothing: the simple command refuses them, no mode has the name, or a value is no number within its limits
+-- the words ask for nothing: the simple command refuses them, no mode has the name, or a value is
+-- no number within its limits
 pub data IsUsageFault (words : List (List ℕ)) : Type 0 where
   refused : (IsTaken words → ⊥) → IsUsageFault words
   mode : ((m : Mode) → value_of (codes "mode") words ≡ Some (name_of m) → ⊥) → IsUsageFault words
-  heap : ((n : ℕ) → GivesCount heap_limits (value_of (codes "heap") words) n → ⊥) → IsUsageFault words
-  stack : ((n : ℕ) → GivesCount stack_limits (value_of (codes "stack") words) n → ⊥) → IsUsageFault words
-  steps : ((n : ℕ) → GivesCount step_limits (value_of (codes "steps") words) n → ⊥) → IsUsageFault words
+  heap :
+      ((n : ℕ) → GivesCount heap_limits (value_of (codes "heap") words) n → ⊥) →
+      IsUsageFault words
+  stack :
+      ((n : ℕ) → GivesCount stack_limits (value_of (codes "stack") words) n → ⊥) →
+      IsUsageFault words
+  steps :
+      ((n : ℕ) → GivesCount step_limits (value_of (codes "steps") words) n → ⊥) →
+      IsUsageFault words
 
 -- what a fault says of the words; want of memory says nothing
 abbrev pub Blames : CommandFault → List (List ℕ) → Type 0

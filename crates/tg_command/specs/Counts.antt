@@ -21,7 +21,8 @@ pub record IsWithin (limits : Limits) (n : ℕ) : Type 0 where
   pub most : n ≤ limits.most
   pub whole : n % limits.unit ≡ 0
 
--- the text spells the number by 1 to 20 decimal digits, leading zeros allowed, and the number keeps the limits
+-- the text spells the number by 1 to 20 decimal digits, leading zeros allowed, and the number keeps
+-- the limits
 pub record IsCount (text : List ℕ) (limits : Limits) (n : ℕ) : Type 0 where
   pub digits : IsNumeral 10 text
   pub few : length text ≤ 20

@@ -1,4 +1,5 @@
--- The simple command `MODE FILE [--heap BYTES] [--stack BYTES] [--steps COUNT]`, as the command line's parser knows it.
+-- The simple command `MODE FILE [--heap BYTES] [--stack BYTES] [--steps COUNT]`, as the command
+-- line's parser knows it.
 use Rattle.std.specs.Prelude.{◌≡◌, ◌≤◌, List, [], Option, Some, None, codes, true, false, is_some}
 use Rattle.clap.specs.Words.{App, Rule, Text, new_app, new_rule, rule_of, with_rule, fault_of, first_of, matches_of, first_value, found_of, IsParsedFrom, IsPlainArg}
 use Rattle.clap.specs.Facts.{least_values}
@@ -26,8 +27,9 @@ simple_command = with_rule (with_rule (with_rule (with_rule (with_rule
     (positional (codes "mode"))) (positional (codes "file")))
     (option (codes "heap"))) (option (codes "stack"))) (option (codes "steps"))
 
--- The simple command takes the words, of which the first is the program's name: by `clap`'s `fault_of`, which lists the kinds
--- of error of the first step of the parse that fails, no step fails.
+-- The simple command takes the words, of which the first is the program's name: by `clap`'s
+-- `fault_of`, which lists the kinds of error of the first step of the parse that fails, no step
+-- fails.
 abbrev pub IsTaken : List Text → Type 0
 IsTaken words = fault_of simple_command words ≡ []
 

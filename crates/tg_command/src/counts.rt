@@ -1,7 +1,8 @@
 ghost use Rattle.std.specs.Prelude.{◌≡◌, ◌<◌, ℕ, IfNone, IfSome, option_map};
 ghost use Rattle.tg_command.specs.Counts.{GivesCount, IsCount};
 
-/// The limits of a number: the least and the most, of what it is a multiple, and what stands for it where it is absent.
+/// The limits of a number: the least and the most, of what it is a multiple, and what stands for it
+/// where it is absent.
 #[derive(Clone, Copy)]
 pub(crate) struct Limits {
     pub(crate) least: u64,

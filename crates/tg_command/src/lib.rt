@@ -1,5 +1,5 @@
-//! The command line: `MODE FILE [--heap BYTES] [--stack BYTES] [--steps COUNT]`.
-//! Promises the mode, the file and the three numbers that the words ask for, or that they ask for none.
+//! The command line: `MODE FILE [--heap BYTES] [--stack BYTES] [--steps COUNT]`. Promises the mode,
+//! the file and the three numbers that the words ask for, or that they ask for none.
 #![tactic(auto)]
 
 mod counts;
@@ -51,9 +51,10 @@ impl From<AllocError> for CommandFault {
 
 /// The command that the words ask for. The first word is the program's name, and isn't read.
 ///
-/// A repeated option, an abbreviated one, one without a value and a separate value that begins with `-` are usage faults. After
-/// `--` every word is MODE or FILE, and so is a lone `-`. An option that the mode doesn't use is read and tested as any other.
-/// `Usage` is answered only at a usage fault, and a usage fault is never `Ok`; `Memory` may come in place of any answer.
+/// A repeated option, an abbreviated one, one without a value and a separate value that begins with
+/// `-` are usage faults. After `--` every word is MODE or FILE, and so is a lone `-`. An option
+/// that the mode doesn't use is read and tested as any other. `Usage` is answered only at a usage
+/// fault, and a usage fault is never `Ok`; `Memory` may come in place of any answer.
 pub fn read_words(alloc: Global, words: &[String]) -> Result<Command, CommandFault>
     ensures ok { IfOk result (λ c. Ask (map string_bytes words.now) (asked_of c)) }
     ensures usage { IfErr result (λ fault. Blames fault (map string_bytes words.now)) }

@@ -59,7 +59,8 @@ fn fault_of(error: &Error) -> CommandFault
     }
 }
 
-/// The values that the simple command takes from the words, of which the first is the program's name.
+/// The values that the simple command takes from the words, of which the first is the program's
+/// name.
 pub(crate) fn take_words<'a>(alloc: Global, words: &'a [String]) -> Result<Values<'a>, CommandFault>
     ensures ok { IfOk result (λ values. AreValuesOf (map string_bytes words.entry.now) values) }
     ensures refused { result ≡ Err CommandFault.Usage

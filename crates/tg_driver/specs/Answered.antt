@@ -7,9 +7,10 @@ use Rattle.tg_driver.specs.Calls.{Shelved, Streams, Untouched, Call}
 use Rattle.tg_driver.specs.Modes.{InMode}
 use Rattle.tg_driver.specs.Telling.{IsTold}
 
--- The answer is due: the words are no command; memory was wanting, before anything was read or written; or the mode that the
--- words ask for gives it.
-pub data IsDue {H I O : Type 0} (words : List (List ℕ)) (shelf : Shelved H) (s : Streams I O) (answer : Answer) : Type 0 where
+-- The answer is due: the words are no command; memory was wanting, before anything was read or
+-- written; or the mode that the words ask for gives it.
+pub data IsDue {H I O : Type 0}
+    (words : List (List ℕ)) (shelf : Shelved H) (s : Streams I O) (answer : Answer) : Type 0 where
   usage :
       answer ≡ Usage →
       IsUsageFault words →
@@ -23,7 +24,8 @@ pub data IsDue {H I O : Type 0} (words : List (List ℕ)) (shelf : Shelved H) (s
       InMode a.mode shelf s a answer →
       IsDue words shelf s answer
 
--- The answer is due. The error sink took its line, and the status is its own; or the line failed, and the status is 74.
+-- The answer is due. The error sink took its line, and the status is its own; or the line failed,
+-- and the status is 74.
 pub record Answers {H I O E : Type 0} (c : Call H I O E) (status : ℕ) : Type 0 where
   pub answer : Answer
   pub due : IsDue c.words c.shelf c.streams answer

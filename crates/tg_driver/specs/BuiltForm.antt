@@ -1,4 +1,5 @@
--- The built form: the programs that are run today, `exit(e)` with e of ints, `+`, `-`, `*`, unary minus and parentheses.
+-- The built form: the programs that are run today, `exit(e)` with e of ints, `+`, `-`, `*`, unary
+-- minus and parentheses.
 use Rattle.std.specs.Prelude.{ℕ, ◌≡◌, ◌≤◌, List, Bool, true, false, ◌&&◌, IsTrue, codes, Some, slice_get}
 use Rattle.tg_syntax.specs.declared.trees.Op.{Op}
 use Rattle.tg_syntax.specs.declared.trees.Op.TheVariants as op
@@ -26,7 +27,8 @@ is_only_argument _ = false
 
 -- a call of the function whose name is `exit`, with such an argument alone
 abbrev pub CallsExit : List (List ℕ) → Exp → Type 0
-CallsExit names (Call _ f arguments) = (slice_get names f.name.0 ≡ Some (codes "exit")) × IsTrue (is_only_argument arguments)
+CallsExit names (Call _ f arguments) =
+    (slice_get names f.name.0 ≡ Some (codes "exit")) × IsTrue (is_only_argument arguments)
 CallsExit names _ = ⊥
 
 -- such a call, of at most so many nodes

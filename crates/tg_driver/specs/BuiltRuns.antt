@@ -18,16 +18,18 @@ abbrev pub outcome_of : RunEnd → World → Outcome
 outcome_of StepLimit w = Running w
 outcome_of end w = Ended end w
 
--- Whatever the input, the machine's run on an image with these sizes and steps ends so, and reads and writes nothing.
+-- Whatever the input, the machine's run on an image with these sizes and steps ends so, and reads
+-- and writes nothing.
 pub record EndsSilently (image : Image) (heap stack steps : ℕ) (end : RunEnd) : Type 0 where
   pub last : State
   pub ends : (input : List (Option ℕ)) →
       run steps (begun (start image.code image.statics image.entry heap stack) input)
       ≡ outcome_of end (record { machine = last; input = input; output = [] })
 
--- The machine runs the image of the program. It needs so many steps: with these or more it ends as evaluation does, and with
--- fewer they are used up.
-pub record RunsTo (names : List (List ℕ)) (program : Exp) (heap stack steps : ℕ) (end : RunEnd) : Type 0 where
+-- The machine runs the image of the program. It needs so many steps: with these or more it ends as
+-- evaluation does, and with fewer they are used up.
+pub record RunsTo (names : List (List ℕ)) (program : Exp)
+    (heap stack steps : ℕ) (end : RunEnd) : Type 0 where
   pub image : Image
   pub image_of : IsImageOf program image
   pub run_ends : EndsSilently image heap stack steps end
@@ -38,7 +40,8 @@ pub record RunsTo (names : List (List ℕ)) (program : Exp) (heap stack steps : 
 
 -- so it runs, by whatever names it is of the built form
 abbrev pub Runs : (program : Exp) (heap stack steps : ℕ) (end : RunEnd) → Type 0
-Runs program heap stack steps end = (names : List (List ℕ)) → CallsExit names program → RunsTo names program heap stack steps end
+Runs program heap stack steps end =
+    (names : List (List ℕ)) → CallsExit names program → RunsTo names program heap stack steps end
 
 -- the text is a program of the built form, or one of another form
 pub record IsBuiltSource (text : List ℕ) (program : Exp) : Type 0 where

@@ -12,7 +12,8 @@ pub record Stream (T : Type 0) : Type 0 where
   pub before : T
   pub after : T
 
-abbrev pub stream_of : {T : Type 0} → (T → Option (List ℕ)) → (T → ℕ) → (before after : T) → Stream T
+abbrev pub stream_of :
+    {T : Type 0} → (T → Option (List ℕ)) → (T → ℕ) → (before after : T) → Stream T
 stream_of told faults before after =
     record { told = told; faults = faults; before = before; after = after }
 
@@ -34,7 +35,8 @@ streams_of input out = record { input = input; out = out }
 abbrev pub Untouched : {I O : Type 0} → Streams I O → Type 0
 Untouched s = Stays s.input × Stays s.out
 
--- the files: what the shelf tells of them, its count of faults for each name, and itself before and after
+-- the files: what the shelf tells of them, its count of faults for each name, and itself before and
+-- after
 pub record Shelved (H : Type 0) : Type 0 where
   pub files : H → Files
   pub faults : H → List ℕ → ℕ
@@ -56,12 +58,16 @@ pub record Call (H I O E : Type 0) : Type 0 where
   pub streams : Streams I O
   pub err : Stream E
 
-abbrev pub call_of : {H I O E : Type 0} → List (List ℕ) → Shelved H → Stream I → Stream O → Stream E → Call H I O E
+abbrev pub call_of :
+    {H I O E : Type 0} → List (List ℕ) →
+    Shelved H → Stream I → Stream O → Stream E → Call H I O E
 call_of words shelf input out err =
     record { words = words; shelf = shelf; streams = streams_of input out; err = err }
 
--- A sink took the text that is due, whole, and this is the result; or a write failed, it took a front, and that is the result.
-pub data Takes {T A : Type 0} (sink : Stream T) (due : List ℕ) (whole failed result : A) : Type 0 where
+-- A sink took the text that is due, whole, and this is the result; or a write failed, it took a
+-- front, and that is the result.
+pub data Takes {T A : Type 0}
+    (sink : Stream T) (due : List ℕ) (whole failed result : A) : Type 0 where
   all :
       result ≡ whole →
       Appends (sink.told sink.before) (sink.told sink.after) due →

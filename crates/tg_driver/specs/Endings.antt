@@ -36,13 +36,19 @@ hex_digit d = if nat_lt d 10 then d + 48 else d + 87
 abbrev pub word_text : ℕ → List ℕ
 word_text w =
     48 ∷ 120
-    ∷ hex_digit (w / 268435456 % 16) ∷ hex_digit (w / 16777216 % 16) ∷ hex_digit (w / 1048576 % 16) ∷ hex_digit (w / 65536 % 16)
-    ∷ hex_digit (w / 4096 % 16) ∷ hex_digit (w / 256 % 16) ∷ hex_digit (w / 16 % 16) ∷ hex_digit (w % 16) ∷ []
+    ∷ hex_digit (w / 268435456 % 16) ∷ hex_digit (w / 16777216 % 16)
+    ∷ hex_digit (w / 1048576 % 16) ∷ hex_digit (w / 65536 % 16)
+    ∷ hex_digit (w / 4096 % 16) ∷ hex_digit (w / 256 % 16)
+    ∷ hex_digit (w / 16 % 16) ∷ hex_digit (w % 16) ∷ []
 
 abbrev pub break_text : (code : ℕ) → List ℕ
 break_text n =
-    if n == 2 then codes "nil" else if n == 3 then codes "index out of range" else if n == 7 then codes "division by zero"
-    else if n == 4 then codes "chr out of range" else if n == 5 then codes "substring out of range" else if n == 6 then codes "negative size"
+    if n == 2 then codes "nil"
+    else if n == 3 then codes "index out of range"
+    else if n == 7 then codes "division by zero"
+    else if n == 4 then codes "chr out of range"
+    else if n == 5 then codes "substring out of range"
+    else if n == 6 then codes "negative size"
     else codes "break " ++ decimal n
 
 -- an exit has no line

@@ -18,7 +18,8 @@ pub record IsBadLine (text : List ℕ) (rule : AsmRule) (line : ℕ) : Type 0 wh
   pub fault : assembled text ≡ Err (record { rule = rule; line = line })
 
 -- it has no fault, and its image runs so with these sizes and steps
-pub record EndsImage (runs : RunRelation) (asked : Asked) (text : List ℕ) (end : RunEnd) : Type 0 where
+pub record EndsImage (runs : RunRelation)
+    (asked : Asked) (text : List ℕ) (end : RunEnd) : Type 0 where
   pub short : length text ≤ 67108864
   pub image : Image
   pub assembles : assembled text ≡ Ok (image_of image)
@@ -33,4 +34,5 @@ IsExecuted runs asked text _ = ⊥
 
 abbrev pub ByExec : {H I O : Type 0} → Shelved H → Streams I O → Asked → Answer → Type 0
 ByExec shelf s asked answer =
-    UntouchedBeforeRun s answer × OfFile shelf asked.file 67108865 (IsExecuted (HasRun s) asked) answer
+    UntouchedBeforeRun s answer
+    × OfFile shelf asked.file 67108865 (IsExecuted (HasRun s) asked) answer

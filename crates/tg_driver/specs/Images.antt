@@ -15,7 +15,8 @@ abbrev pub argument_code : Exp → List Mips
 argument_code (Call _ _ arguments) = only_code arguments
 argument_code _ = []
 
--- the words of the stack code of the argument, and of the exit with it; no statics, and the first word as the entry
+-- the words of the stack code of the argument, and of the exit with it; no statics, and the first
+-- word as the entry
 pub record IsImageOf (program : Exp) (image : Image) : Type 0 where
   pub code : image.code ≡ words_of (argument_code program ++ exit_code)
   pub statics : image.statics ≡ []

@@ -19,14 +19,15 @@ pub record IsFaultless {I O : Type 0} (s : Streams I O) (bytes : List ℕ) : Typ
   pub all_read : HasFailed s.input → ⊥
   pub all_written : HasFailed s.out → ⊥
 
--- The shelf tells the files, and the named one has these bytes
+-- the shelf tells the files, and the named one has these bytes
 pub record HoldsFile {H : Type 0} (shelf : Shelved H) (name bytes : List ℕ) : Type 0 where
   pub at : List ℕ → Option (List ℕ)
   pub tells : shelf.files shelf.before ≡ Some at
   pub holds : at name ≡ Some bytes
 
 -- the words ask for this, the file has these bytes, and no count of faults rose
-pub record IsGood {H I O E : Type 0} (c : Call H I O E) (asked : Asked) (file : List ℕ) : Type 0 where
+pub record IsGood {H I O E : Type 0} (c : Call H I O E)
+    (asked : Asked) (file : List ℕ) : Type 0 where
   pub ask : Ask c.words asked
   pub there : HoldsFile c.shelf asked.file file
   pub readable : IsUnread c.shelf asked.file → ⊥

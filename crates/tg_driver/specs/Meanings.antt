@@ -1,4 +1,5 @@
--- What a program means, as the end of a machine; that one of the built form ends by the value of its argument; and that none is stuck.
+-- What a program means, as the end of a machine; that one of the built form ends by the value of
+-- its argument; and that none is stuck.
 use Rattle.std.specs.Prelude.{ℕ, ◌+◌, ◌≡◌, ◌≢◌, ◌≤◌, List, [], Option, Some, None}
 use Rattle.tg_base.specs.Words.{signed}
 use Rattle.tg_base.specs.declared.ends.RunEnd.{RunEnd}
@@ -20,21 +21,27 @@ IsEndOf (Exit code) e = (v : ℕ) × (e ≡ ended (by_exit v)) × (code ≡ sign
 IsEndOf Overflow e = e ≡ ended by_overflow
 IsEndOf _ e = ⊥
 
--- On any input and with any fuel evaluation ends so, and neither writes nor reads. The program's identifiers are numbered by
--- these names.
-pub record Means (names : List (List ℕ)) (program : Exp) (heap stack : ℕ) (end : RunEnd) : Type 0 where
-  pub ends : (input : List ℕ) (fuel : ℕ) → IsEndOf end (evaluate names program input heap stack fuel).end
-  pub unwritten : (input : List ℕ) (fuel : ℕ) → (evaluate names program input heap stack fuel).output ≡ []
-  pub unread : (input : List ℕ) (fuel : ℕ) → (evaluate names program input heap stack fuel).input ≡ input
+-- On any input and with any fuel evaluation ends so, and neither writes nor reads. The program's
+-- identifiers are numbered by these names.
+pub record Means (names : List (List ℕ)) (program : Exp) (heap stack : ℕ)
+    (end : RunEnd) : Type 0 where
+  pub ends :
+      (input : List ℕ) (fuel : ℕ) → IsEndOf end (evaluate names program input heap stack fuel).end
+  pub unwritten :
+      (input : List ℕ) (fuel : ℕ) → (evaluate names program input heap stack fuel).output ≡ []
+  pub unread :
+      (input : List ℕ) (fuel : ℕ) → (evaluate names program input heap stack fuel).input ≡ input
 
 -- how a program of the built form ends by the value of its argument
 abbrev pub ending_of : Option ℕ → Ending
 ending_of (Some v) = by_exit v
 ending_of None = by_overflow
 
--- The run ends so. It writes nothing, reads nothing of its input, takes no heap, opens no declared function, and costs a unit
--- for each node at most; a stack for its activation and one call of the runtime isn't passed.
-pub record EndsQuietly (body : Exp) (input : List ℕ) (stack : ℕ) (ending : Ending) (o : Outcome Ending) : Type 0 where
+-- The run ends so. It writes nothing, reads nothing of its input, takes no heap, opens no declared
+-- function, and costs a unit for each node at most; a stack for its activation and one call of the
+-- runtime isn't passed.
+pub record EndsQuietly (body : Exp) (input : List ℕ) (stack : ℕ)
+    (ending : Ending) (o : Outcome Ending) : Type 0 where
   pub ends : o.end ≡ ended ending
   pub unwritten : o.output ≡ []
   pub unread : o.input ≡ input
@@ -48,10 +55,14 @@ abbrev pub MeansItsValue : Type 0
 MeansItsValue =
     (names : List (List ℕ)) (body : Exp) → CallsExit names body →
     (input : List ℕ) (heap stack fuel : ℕ) →
-    EndsQuietly body input stack (ending_of (exit_value body)) (evaluate names body input heap stack fuel)
+    EndsQuietly body input stack (ending_of (exit_value body))
+    (evaluate names body input heap stack fuel)
 
--- whatever its input, its sizes and its fuel, a text that is a program meets no value of the wrong kind and no name without meaning
+-- whatever its input, its sizes and its fuel, a text that is a program meets no value of the wrong
+-- kind and no name without meaning
 abbrev pub SourcesAreNeverStuck : Type 0
 SourcesAreNeverStuck =
-    (text : List ℕ) (names : List (List ℕ)) (tokens : List Spanned) (program : Exp) → IsSourceOf text names tokens program →
-    (input : List ℕ) (heap stack fuel : ℕ) → (evaluate names program input heap stack fuel).end ≢ stuck
+    (text : List ℕ) (names : List (List ℕ)) (tokens : List Spanned) (program : Exp) →
+    IsSourceOf text names tokens program →
+    (input : List ℕ) (heap stack fuel : ℕ) →
+    (evaluate names program input heap stack fuel).end ≢ stuck

@@ -7,7 +7,8 @@ use Rattle.tg_driver.specs.declared.answers.Answer.{Answer}
 use Rattle.tg_driver.specs.declared.answers.Answer.TheVariants.{Unreadable, OutOfMemory, Finished}
 use Rattle.tg_driver.specs.Calls.{Shelved, IsUnread, Streams, Untouched}
 
--- The file can't be read; or the shelf gave so many of its first bytes, or all where it is shorter, and the answer is due to them.
+-- The file can't be read; or the shelf gave so many of its first bytes, or all where it is shorter,
+-- and the answer is due to them.
 pub data OfFile {H : Type 0} (shelf : Shelved H) (name : List ℕ) (most : ℕ)
     (due : List ℕ → Answer → Type 0) (answer : Answer) : Type 0 where
   unreadable : answer ≡ Unreadable → IsUnread shelf name → OfFile shelf name most due answer

@@ -1,4 +1,5 @@
--- The mode `run`: reads a source, and runs a program of the built form. Such a program reads and writes nothing.
+-- The mode `run`: reads a source, and runs a program of the built form. Such a program reads and
+-- writes nothing.
 use Rattle.std.specs.Prelude.{List, ℕ}
 use Rattle.tg_base.specs.declared.ends.RunEnd.{RunEnd}
 use Rattle.tg_syntax.specs.Tree.{Exp}

@@ -1,4 +1,5 @@
--- The programs that the maker makes code for: those of the built form, with ints that a source can spell.
+-- The programs that the maker makes code for: those of the built form, with ints that a source can
+-- spell.
 use Rattle.std.specs.Prelude.{◌≤◌, IsTrue}
 use Rattle.tg_syntax.specs.Tree.{Exp, Int, Neg, Binary, Seq, Call, exp, no_exps}
 use Rattle.tg_driver.specs.BuiltForm.{is_arithmetic}

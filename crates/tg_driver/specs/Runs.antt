@@ -17,14 +17,16 @@ abbrev pub RunRelation : Type 1
 RunRelation = Image → (heap stack steps : ℕ) → RunEnd → Type 0
 
 -- the machine ran the image on the streams with these sizes and steps, and it ended so
-pub record HasRun {I O : Type 0} (s : Streams I O) (image : Image) (heap stack steps : ℕ) (end : RunEnd) : Type 0 where
+pub record HasRun {I O : Type 0} (s : Streams I O)
+    (image : Image) (heap stack steps : ℕ) (end : RunEnd) : Type 0 where
   pub after : Simulated
   pub ran :
       Ran s.input.told s.input.faults s.out.told s.out.faults steps (loaded image heap stack) after
       s.input.before s.input.after s.out.before s.out.after end
 
 -- the answer is the end of such a run; or memory was wanting for it, and nothing was touched
-abbrev pub IsRunOrMemory : {I O : Type 0} → Streams I O → Image → (heap stack steps : ℕ) → Answer → Type 0
+abbrev pub IsRunOrMemory :
+    {I O : Type 0} → Streams I O → Image → (heap stack steps : ℕ) → Answer → Type 0
 IsRunOrMemory s image heap stack steps (Finished end) = HasRun s image heap stack steps end
 IsRunOrMemory s image heap stack steps OutOfMemory = Untouched s
 IsRunOrMemory s image heap stack steps _ = ⊥
@@ -44,13 +46,15 @@ outcome_on image heap stack steps bytes =
     run steps (begun (start image.code image.statics image.entry heap stack) (answers bytes))
 
 -- so the run ends, where the input tells its bytes
-pub record EndsOn (told : Option (List ℕ)) (image : Image) (heap stack steps : ℕ) (end : RunEnd) : Type 0 where
+pub record EndsOn (told : Option (List ℕ))
+    (image : Image) (heap stack steps : ℕ) (end : RunEnd) : Type 0 where
   pub bytes : List ℕ
   pub told_are : told ≡ Some bytes
   pub ends : end ≡ end_in (outcome_on image heap stack steps bytes)
 
 -- the run ended as it does on these bytes, wrote what it writes there, and left what it leaves
-pub record IsExact {I O : Type 0} (s : Streams I O) (image : Image) (heap stack steps : ℕ) (end : RunEnd) (bytes : List ℕ) : Type 0 where
+pub record IsExact {I O : Type 0} (s : Streams I O)
+    (image : Image) (heap stack steps : ℕ) (end : RunEnd) (bytes : List ℕ) : Type 0 where
   pub ends : end ≡ end_in (outcome_on image heap stack steps bytes)
   pub writes :
       Appends (s.out.told s.out.before) (s.out.told s.out.after)

@@ -77,7 +77,9 @@ asm_text A9 = codes "A9 no main"
 
 -- `LINE:COLUMN: RULE WORDS`
 abbrev pub fault_text : Fault → List ℕ
-fault_text fault = decimal fault.place.line ++ (codes ":" ++ (decimal fault.place.column ++ (codes ": " ++ rule_text fault.rule)))
+fault_text fault =
+    decimal fault.place.line ++ (codes ":"
+    ++ (decimal fault.place.column ++ (codes ": " ++ rule_text fault.rule)))
 
 -- `line LINE: RULE WORDS`
 abbrev pub bad_line_text : AsmRule → (line : ℕ) → List ℕ
@@ -85,7 +87,8 @@ bad_line_text rule line = codes "line " ++ (decimal line ++ (codes ": " ++ asm_t
 
 -- each line is ended by byte 10; an exit and an accepted source have none
 abbrev pub line_of : Answer → List ℕ
-line_of Usage = ended (codes "usage: tiger MODE FILE [--heap BYTES] [--stack BYTES] [--steps COUNT]")
+line_of Usage =
+    ended (codes "usage: tiger MODE FILE [--heap BYTES] [--stack BYTES] [--steps COUNT]")
 line_of (Faulty fault) = ended (fault_text fault)
 line_of (BadLine rule line) = ended (bad_line_text rule line)
 line_of TooLong = ended (codes "line 1: A10 file too long")

@@ -17,7 +17,8 @@ abbrev pub IsBeforeRun : Answer → Type 0
 IsBeforeRun (Finished end) = ⊥
 IsBeforeRun answer = Unit {0}
 
--- the sink took the line of the answer, and the status is its own; or the line failed, and the status is 74
+-- the sink took the line of the answer, and the status is its own; or the line failed, and the
+-- status is 74
 abbrev pub IsTold : {E : Type 0} → Stream E → Answer → (status : ℕ) → Type 0
 IsTold err answer status = Takes err (line_of answer) (status_of answer) 74 status
 

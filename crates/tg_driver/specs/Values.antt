@@ -12,11 +12,13 @@ applied op.Minus a b = exact_difference a b
 applied op.Times a b = exact_product a b
 applied _ a b = None
 
--- the word of the value, or None where an operator overflows; both operands come before the operator
+-- the word of the value, or None where an operator overflows; both operands come before the
+-- operator
 abbrev pub value : Exp → Option ℕ
 value (Int _ n) = Some n
 value (Neg _ a) = option_and_then (λ x. exact_difference 0 x) (value a)
-value (Binary _ o _ a b) = option_and_then (λ x. option_and_then (λ y. applied o x y) (value b)) (value a)
+value (Binary _ o _ a b) =
+    option_and_then (λ x. option_and_then (λ y. applied o x y) (value b)) (value a)
 value (Seq _ (exp a no_exps)) = value a
 value _ = None
 

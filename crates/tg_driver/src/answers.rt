@@ -38,7 +38,8 @@ pub fn usage() -> &'static str
     "tiger: usage: tiger MODE FILE [--heap BYTES] [--stack BYTES] [--steps COUNT]\n"
 }
 
-/// The line on the error sink of an answer whose line is a text of its own; an accepted source has none.
+/// The line on the error sink of an answer whose line is a text of its own; an accepted source has
+/// none.
 pub(crate) fn line(answer: Answer) -> &'static str
     requires { IsFixed answer }
     ensures { result.now ≡ line_of answer }

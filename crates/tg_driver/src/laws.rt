@@ -12,8 +12,9 @@ ghost use Rattle.tg_driver.specs.Meanings.{MeansItsValue, SourcesAreNeverStuck};
 ghost use Rattle.tg_driver.specs.Modes.{IsDueOfText, most_of};
 ghost use Rattle.tg_driver.specs.Runs.{EndsOn, HasRun, IsExact};
 
-/// The law that a command has at most one answer for a text, but for the ends of a machine that runs assembly text,
-/// which its input decides: so each answer comes exactly where its cause stands, or want of memory. It does nothing.
+/// The law that a command has at most one answer for a text, but for the ends of a machine that
+/// runs assembly text, which its input decides: so each answer comes exactly where its cause
+/// stands, or want of memory. It does nothing.
 pub fn one_answer<I, O>()
     ensures { (s : Streams I O) (asked : Asked) (text : List ℕ) (a b : Answer)
         → IsDueOfText (HasRun s) asked.mode asked text a
@@ -21,8 +22,9 @@ pub fn one_answer<I, O>()
         → (a ≡ b) ⊎ ((asked.mode ≡ Exec) × IsEnded a × IsEnded b) }
 {}
 
-/// The law that a run ends exactly as the definition's run does on the same bytes, where the input tells them and no read
-/// or write failed: it writes what that one writes, and leaves what it leaves. It does nothing.
+/// The law that a run ends exactly as the definition's run does on the same bytes, where the input
+/// tells them and no read or write failed: it writes what that one writes, and leaves what it
+/// leaves. It does nothing.
 pub fn runs_are_exact<I, O>()
     ensures { (s : Streams I O) (image : Image) (heap stack steps : ℕ) (end : RunEnd)
         (bytes : List ℕ)
@@ -30,8 +32,8 @@ pub fn runs_are_exact<I, O>()
         → IsExact s image heap stack steps end bytes }
 {}
 
-/// The law that two calls for one text have one answer where their inputs tell the same bytes and no read or write
-/// failed, besides want of memory. It does nothing.
+/// The law that two calls for one text have one answer where their inputs tell the same bytes and
+/// no read or write failed, besides want of memory. It does nothing.
 pub fn answers_are_exact<I, O, J, P>()
     ensures { (s : Streams I O) (t : Streams J P) (asked : Asked) (text bytes : List ℕ)
         (a b : Answer)
@@ -41,8 +43,8 @@ pub fn answers_are_exact<I, O, J, P>()
         → a ≡ b }
 {}
 
-/// The law that a call with good words for a file that is there, in which no count of faults rose, is answered as its
-/// text and its input determine, or by want of memory. It does nothing.
+/// The law that a call with good words for a file that is there, in which no count of faults rose,
+/// is answered as its text and its input determine, or by want of memory. It does nothing.
 pub fn answers_are_complete<H, I, O, E>()
     ensures { (c : Call H I O E) (status : ℕ) (asked : Asked) (file : List ℕ) (answer : Answer)
         → Answers c status → IsGood c asked file
@@ -51,13 +53,14 @@ pub fn answers_are_complete<H, I, O, E>()
         → Gives c status answer ⊎ Gives c status OutOfMemory }
 {}
 
-/// The law that a program of the built form means what its value says: evaluation ends by it, and does nothing else.
+/// The law that a program of the built form means what its value says: evaluation ends by it, and
+/// does nothing else.
 pub fn meaning_of_built()
     ensures { MeansItsValue }
 {}
 
-/// The law that the evaluation of an accepted source is never stuck: it meets no value of the wrong kind and no name
-/// without meaning. It does nothing.
+/// The law that the evaluation of an accepted source is never stuck: it meets no value of the wrong
+/// kind and no name without meaning. It does nothing.
 pub fn sources_are_never_stuck()
     ensures { SourcesAreNeverStuck }
 {}

@@ -1,5 +1,6 @@
-//! The passes joined together, and the top call `tiger`, which reads the words of a command and answers a status.
-//! Promises every answer with its cause, and that the status of a run is that of the machine.
+//! The passes joined together, and the top call `tiger`, which reads the words of a command and
+//! answers a status. Promises every answer with its cause, and that the status of a run is that of
+//! the machine.
 #![tactic(auto)]
 
 mod answers;

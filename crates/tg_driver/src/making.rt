@@ -2,7 +2,16 @@ ghost use Rattle.std.specs.Prelude.{◌≡◌, ◌++◌, ◌∷◌, [], ◌≤�
 ghost use Rattle.tg_isa.specs.Table.{word_of};
 ghost use Rattle.tg_syntax.specs.Plain.{plain, plain_exps};
 ghost use Rattle.tg_driver.specs.Images.{IsImageOf, argument_code, only_code};
-ghost use Rattle.tg_driver.specs.StackCode.{value_code, operator_code, operands_code, negation_code, int_code, result_code, exit_code, words_of};
+ghost use Rattle.tg_driver.specs.StackCode.{
+  value_code,
+  operator_code,
+  operands_code,
+  negation_code,
+  int_code,
+  result_code,
+  exit_code,
+  words_of,
+};
 
 use std::alloc::Global;
 use tg_base::{Bytes, Memory, Words};
@@ -31,7 +40,8 @@ pub(crate) fn make(alloc: Global, program: &Program) -> Result<Image, Memory>
 
 /// The code of the only argument of a call; none where there is another number.
 fn push_argument(code: &mut Vec<u32>, e: &Exp) -> Result<(), Memory>
-    ensures { OnOk result (code.new.items ≡ code.old.items ++ words_of (argument_code (plain e.now))) }
+    ensures { OnOk result (code.new.items
+        ≡ code.old.items ++ words_of (argument_code (plain e.now))) }
 {
     match &e.kind {
         Kind::Call(_, arguments) => push_only(code, arguments),
@@ -41,7 +51,8 @@ fn push_argument(code: &mut Vec<u32>, e: &Exp) -> Result<(), Memory>
 
 #[cycle(making)]
 fn push_only(code: &mut Vec<u32>, list: &Exps) -> Result<(), Memory>
-    ensures { OnOk result (code.new.items ≡ code.old.items ++ words_of (only_code (plain_exps list.now))) }
+    ensures { OnOk result (code.new.items
+        ≡ code.old.items ++ words_of (only_code (plain_exps list.now))) }
 {
     match list.items.as_slice() {
         [only] => push_value(code, only),
@@ -49,7 +60,8 @@ fn push_only(code: &mut Vec<u32>, list: &Exps) -> Result<(), Memory>
     }
 }
 
-/// The code of an expression, which puts its value on the stack; none where it isn't of the built form.
+/// The code of an expression, which puts its value on the stack; none where it isn't of the built
+/// form.
 #[cycle(making)]
 fn push_value(code: &mut Vec<u32>, e: &Exp) -> Result<(), Memory>
     ensures { OnOk result (code.new.items ≡ code.old.items ++ words_of (value_code (plain e.now))) }
@@ -118,9 +130,11 @@ fn push_operator(code: &mut Vec<u32>, op: Op) -> Result<(), Memory>
     }
 }
 
-/// The product, and the sum that overflows where the product's upper word isn't the sign of its lower one.
+/// The product, and the sum that overflows where the product's upper word isn't the sign of its
+/// lower one.
 fn push_product(code: &mut Vec<u32>) -> Result<(), Memory>
-    ensures { OnOk result (code.new.items ≡ code.old.items ++ words_of (operator_code Op.Times)) }
+    ensures { OnOk result (code.new.items
+        ≡ code.old.items ++ words_of (operator_code Op.Times)) }
 {
     push(code, Mips::Mult(Reg::T0, Reg::T1))?;
     push(code, Mips::Mflo(Reg::T0))?;

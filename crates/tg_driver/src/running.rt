@@ -84,7 +84,8 @@ fn answer_program<I: Source, O: Sink>(
     }
 }
 
-/// Makes the image of a program of the built form, and runs it on the machine with the sizes and the steps of a command.
+/// Makes the image of a program of the built form, and runs it on the machine with the sizes and
+/// the steps of a command.
 fn run_program<I: Source, O: Sink>(
     alloc: Global,
     command: &Command,

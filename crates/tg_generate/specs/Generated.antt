@@ -29,7 +29,8 @@ function_lines (suc n) = function_lines n ++ function_line (suc n)
 
 -- it calls the last function, and prints what that answers and what was counted
 abbrev pub last_line : ℕ → List ℕ
-last_line n = codes "in p(f" ++ (decimal n ++ codes "(0)); print(\"\\n\"); p(s); print(\"\\n\") end\n")
+last_line n =
+    codes "in p(f" ++ (decimal n ++ codes "(0)); print(\"\\n\"); p(s); print(\"\\n\") end\n")
 
 abbrev pub generated : ℕ → List ℕ
 generated n = head_lines ++ (function_lines n ++ last_line n)
