@@ -55,7 +55,8 @@ used_in_its_own_function : escapes_of (block (var (i 0 8) (num 1) no_decs) (read
 used_in_its_own_function = refl
 
 -- let var x:=1 function f():int=let var x:=2 in x end in f() end
-hidden_by_an_inner_one : escapes_of (block (var (i 0 8) (num 1) (functions (fun (i 1 22) [] (block (var (i 0 38) (num 2) no_decs) (read 0 ∷ [])) no_functions) no_decs)) (call 1 [] ∷ [])) ≡ []
+hidden_by_an_inner_one : escapes_of (block (var (i 0 8) (num 1)
+    (functions (fun (i 1 22) [] (block (var (i 0 38) (num 2) no_decs) (read 0 ∷ [])) no_functions) no_decs)) (call 1 [] ∷ [])) ≡ []
 hidden_by_an_inner_one = refl
 
 -- for j:=0 to 9 do let function f():int=j in f() end
@@ -63,5 +64,6 @@ a_loops_variable : escapes_of (For here (i 0 4) (num 0) (num 9) (block (function
 a_loops_variable = refl
 
 -- let var x:=1 function x():int=3 function g():int=x() in g() end, where the function hides the variable
-hidden_by_a_function : escapes_of (block (var (i 0 8) (num 1) (functions (fun (i 0 22) [] (num 3) (fun (i 1 41) [] (call 0 []) no_functions)) no_decs)) (call 1 [] ∷ [])) ≡ []
+hidden_by_a_function : escapes_of (block (var (i 0 8) (num 1) (functions (fun (i 0 22) [] (num 3) (fun (i 1 41) [] (call 0 []) no_functions)) no_decs))
+    (call 1 [] ∷ [])) ≡ []
 hidden_by_a_function = refl

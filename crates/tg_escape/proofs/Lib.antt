@@ -1,3 +1,4 @@
 mod EscapingExamples
 pub mod SetSteps
 pub mod SearchSteps
+pub mod Joins

@@ -28,13 +28,15 @@ pub declares : {a b : Search} {seen : Seen} → b.table ≡ seen → length a.ta
 declares t o e = record { table = t; at_least = o; found = λ after. ap (λ s. with_all after s) (sym e) }
 
 -- one text behind another, which sees what is declared then
-pub behind : {a b c : Search} {seen : Seen} {uses : List ℕ → List ℕ} (later : Seen → Seen) (next : Seen → List ℕ → List ℕ) → Finds a b seen uses → Finds b c (later b.table) (next b.table) → Finds a c (later seen) (λ after. uses (next seen after))
+pub behind : {a b c : Search} {seen : Seen} {uses : List ℕ → List ℕ} (later : Seen → Seen) (next : Seen → List ℕ → List ℕ) → Finds a b seen uses →
+    Finds b c (later b.table) (next b.table) → Finds a c (later seen) (λ after. uses (next seen after))
 behind {b = b} {c = c} {seen = seen} later next m n =
     let o : Finds b c (later seen) (next seen) = subst (λ s. Finds b c (later s) (next s)) m.table n in
     record { table = o.table; at_least = omega (arith, m.at_least, o.at_least); found = λ after. m.found (next seen after) ∙ o.found after }
 
 -- a scope's end
-pub closed : {a b c : Search} {seen : Seen} {uses : List ℕ → List ℕ} {len : ℕ} (front : Seen) → Finds a b seen uses → seen ≡ front ++ a.table → ((more back : Seen) → b.table ≡ more ++ back → length back ≡ len → c.table ≡ back) → len ≡ length a.table → c.escapes ≡ b.escapes → Finds a c a.table uses
+pub closed : {a b c : Search} {seen : Seen} {uses : List ℕ → List ℕ} {len : ℕ} (front : Seen) → Finds a b seen uses → seen ≡ front ++ a.table →
+    ((more back : Seen) → b.table ≡ more ++ back → length back ≡ len → c.table ≡ back) → len ≡ length a.table → c.escapes ≡ b.escapes → Finds a c a.table uses
 closed {a = a} front f e cut l s =
     let t = cut front a.table (f.table ∙ e) (sym l) in
     record {
@@ -64,16 +66,20 @@ pub record WalkedTo {X : Type 0} (first now : Search) (part : X → List ℕ →
 pub walk_begins : {X : Type 0} {s : Search} {part : X → List ℕ → List ℕ} {xs : List X} → WalkedTo s s part xs 0
 walk_begins = record { table = refl; at_least = omega arith; found = λ after. refl }
 
-pub walk_on : {X : Type 0} {a b c : Search} {xs : List X} {k : ℕ} (part : Seen → X → List ℕ → List ℕ) (x : X) → WalkedTo a b (part a.table) xs k → k < length xs → x ≡ get_or xs k x → Finds b c b.table (part b.table x) → WalkedTo a c (part a.table) xs (k + 1)
+pub walk_on : {X : Type 0} {a b c : Search} {xs : List X} {k : ℕ} (part : Seen → X → List ℕ → List ℕ) (x : X) → WalkedTo a b (part a.table) xs k →
+    k < length xs → x ≡ get_or xs k x → Finds b c b.table (part b.table x) → WalkedTo a c (part a.table) xs (k + 1)
 walk_on {a = a} {b = b} {c = c} {xs = xs} {k = k} part x w l i f =
     let g : Finds b c a.table (part a.table x) = subst (λ s. Finds b c s (part s x)) w.table f in
     record {
       table = g.table;
       at_least = omega (arith, w.at_least, g.at_least);
-      found = λ after. w.found after ∙ (ap (λ ys. with_all (in_order (part a.table) ys after) b.escapes) (from_here xs k x l i) ∙ g.found (in_order (part a.table) (drop (k + 1) xs) after));
+      found =
+          λ after. w.found after ∙ (ap (λ ys. with_all (in_order (part a.table) ys after) b.escapes) (from_here xs k x l i) ∙ g.found
+          (in_order (part a.table) (drop (k + 1) xs) after));
     }
 
-pub walk_ends : {X : Type 0} {a b : Search} {xs : List X} {k : ℕ} {part : X → List ℕ → List ℕ} → WalkedTo a b part xs k → k ≡ length xs → Finds a b a.table (in_order part xs)
+pub walk_ends : {X : Type 0} {a b : Search} {xs : List X} {k : ℕ} {part : X → List ℕ → List ℕ} → WalkedTo a b part xs k → k ≡ length xs →
+    Finds a b a.table (in_order part xs)
 walk_ends {b = b} {xs = xs} {k = k} {part = part} w e = record {
   table = w.table;
   at_least = w.at_least;
@@ -81,7 +87,8 @@ walk_ends {b = b} {xs = xs} {k = k} {part = part} w e = record {
 }
 
 -- another way to say what is used
-pub uses_are : {a b : Search} {seen : Seen} {uses others : List ℕ → List ℕ} → ((after : List ℕ) → others after ≡ uses after) → Finds a b seen uses → Finds a b seen others
+pub uses_are : {a b : Search} {seen : Seen} {uses others : List ℕ → List ℕ} → ((after : List ℕ) → others after ≡ uses after) → Finds a b seen uses →
+    Finds a b seen others
 uses_are {a = a} e f = record { table = f.table; at_least = f.at_least; found = λ after. ap (λ l. with_all l a.escapes) (e after) ∙ f.found after }
 
 -- the lists of a tree
@@ -94,32 +101,40 @@ init_uses level seen i = escaping (plain i.value) level seen
 abbrev pub function_uses : (level : ℕ) → Seen → CodeFunDec → List ℕ → List ℕ
 function_uses level seen f = escaping (plain f.body) (level + 1) (declare_params (level + 1) f.params seen)
 
-exps_in : (level : ℕ) (seen : Seen) (es : List CodeExp) (after : List ℕ) → escaping_exps (exps_of es) level seen after ≡ in_order (exp_uses level seen) es after
+exps_in : (level : ℕ) (seen : Seen) (es : List CodeExp) (after : List ℕ) →
+    escaping_exps (exps_of es) level seen after ≡ in_order (exp_uses level seen) es after
 exps_in level seen [] after = refl
 exps_in level seen (e ∷ es) after = ap (λ l. escaping (plain e) level seen l) (exps_in level seen es after)
 
-pub exps_are : (level : ℕ) (seen : Seen) (es : CodeExps) (after : List ℕ) → escaping_exps (plain_exps es) level seen after ≡ in_order (exp_uses level seen) (out-Exps es).items.items after
+pub exps_are : (level : ℕ) (seen : Seen) (es : CodeExps) (after : List ℕ) →
+    escaping_exps (plain_exps es) level seen after ≡ in_order (exp_uses level seen) (out-Exps es).items.items after
 exps_are level seen es after = ap (λ x. escaping_exps x level seen after) (plain_exps-items es) ∙ exps_in level seen (out-Exps es).items.items after
 
-inits_in : (level : ℕ) (seen : Seen) (is : List CodeInit) (after : List ℕ) → escaping_inits (inits_of is) level seen after ≡ in_order (init_uses level seen) is after
+inits_in : (level : ℕ) (seen : Seen) (is : List CodeInit) (after : List ℕ) →
+    escaping_inits (inits_of is) level seen after ≡ in_order (init_uses level seen) is after
 inits_in level seen [] after = refl
 inits_in level seen (i ∷ is) after = ap (λ l. escaping (plain i.value) level seen l) (inits_in level seen is after)
 
-pub inits_are : (level : ℕ) (seen : Seen) (is : CodeInits) (after : List ℕ) → escaping_inits (plain_inits is) level seen after ≡ in_order (init_uses level seen) (out-Inits is).items.items after
+pub inits_are : (level : ℕ) (seen : Seen) (is : CodeInits) (after : List ℕ) →
+    escaping_inits (plain_inits is) level seen after ≡ in_order (init_uses level seen) (out-Inits is).items.items after
 inits_are level seen is after = ap (λ x. escaping_inits x level seen after) (plain_inits-items is) ∙ inits_in level seen (out-Inits is).items.items after
 
-functions_in : (level : ℕ) (seen : Seen) (fs : List CodeFunDec) (after : List ℕ) → escaping_functions (functions_of fs) level seen after ≡ in_order (function_uses level seen) fs after
+functions_in : (level : ℕ) (seen : Seen) (fs : List CodeFunDec) (after : List ℕ) →
+    escaping_functions (functions_of fs) level seen after ≡ in_order (function_uses level seen) fs after
 functions_in level seen [] after = refl
 functions_in level seen (f ∷ fs) after = ap (λ l. function_uses level seen f l) (functions_in level seen fs after)
 
-pub functions_are : (level : ℕ) (seen : Seen) (fs : CodeFunDecs) (after : List ℕ) → escaping_functions (plain_functions fs) level seen after ≡ in_order (function_uses level seen) (out-FunDecs fs).items.items after
-functions_are level seen fs after = ap (λ x. escaping_functions x level seen after) (plain_functions-items fs) ∙ functions_in level seen (out-FunDecs fs).items.items after
+pub functions_are : (level : ℕ) (seen : Seen) (fs : CodeFunDecs) (after : List ℕ) →
+    escaping_functions (plain_functions fs) level seen after ≡ in_order (function_uses level seen) (out-FunDecs fs).items.items after
+functions_are level seen fs after =
+    ap (λ x. escaping_functions x level seen after) (plain_functions-items fs) ∙ functions_in level seen (out-FunDecs fs).items.items after
 
 -- declarations, each of which the later ones see
 pub record DeclaredTo (first now : Search) (level : ℕ) (ds : List CodeDec) (k : ℕ) : Type 0 where
   pub at_least : length first.table ≤ length now.table
   pub table : declare_all level (decs_of ds) first.table ≡ declare_all level (decs_of (drop k ds)) now.table
-  pub found : (after : List ℕ) → with_all (escaping_decs (decs_of ds) level first.table after) first.escapes ≡ with_all (escaping_decs (decs_of (drop k ds)) level now.table after) now.escapes
+  pub found : (after : List ℕ) → with_all (escaping_decs (decs_of ds) level first.table after) first.escapes ≡ with_all
+      (escaping_decs (decs_of (drop k ds)) level now.table after) now.escapes
 
 pub decs_begin : {s : Search} {level : ℕ} {ds : List CodeDec} → DeclaredTo s s level ds 0
 decs_begin = record { at_least = omega arith; table = refl; found = λ after. refl }
@@ -144,26 +159,36 @@ decs_open level (types _ rest) seen = decs_open level rest seen
 decs_open level (variable x _ _ rest) seen = opened_both (_ ∷ [], refl) (decs_open level rest (declare_variable level x seen))
 decs_open level (functions fs rest) seen = opened_both (functions_open fs seen) (decs_open level rest (declare_functions fs seen))
 
-dec_table : (level : ℕ) (d : CodeDec) (rest : Decs) (seen : Seen) → declare_all level (plain_dec d rest) seen ≡ declare_all level rest (declare_all level (plain_dec d no_decs) seen)
+dec_table : (level : ℕ) (d : CodeDec) (rest : Decs) (seen : Seen) →
+    declare_all level (plain_dec d rest) seen ≡ declare_all level rest (declare_all level (plain_dec d no_decs) seen)
 dec_table level (Types ds) rest seen = refl
 dec_table level (Variable' x t s e) rest seen = refl
 dec_table level (Functions fs) rest seen = refl
 
-dec_uses : (level : ℕ) (d : CodeDec) (rest : Decs) (seen : Seen) (after : List ℕ) → escaping_decs (plain_dec d rest) level seen after ≡ escaping_decs (plain_dec d no_decs) level seen (escaping_decs rest level (declare_all level (plain_dec d no_decs) seen) after)
+dec_uses : (level : ℕ) (d : CodeDec) (rest : Decs) (seen : Seen) (after : List ℕ) →
+    escaping_decs (plain_dec d rest) level seen after ≡ escaping_decs (plain_dec d no_decs) level seen
+    (escaping_decs rest level (declare_all level (plain_dec d no_decs) seen) after)
 dec_uses level (Types ds) rest seen after = refl
 dec_uses level (Variable' x t s e) rest seen after = refl
 dec_uses level (Functions fs) rest seen after = refl
 
-pub dec_more : {a b c : Search} {level : ℕ} {ds : List CodeDec} {k : ℕ} (d : CodeDec) → DeclaredTo a b level ds k → k < length ds → d ≡ get_or ds k d → Finds b c (declare_all level (plain_dec d no_decs) b.table) (escaping_decs (plain_dec d no_decs) level b.table) → DeclaredTo a c level ds (k + 1)
+pub dec_more : {a b c : Search} {level : ℕ} {ds : List CodeDec} {k : ℕ} (d : CodeDec) → DeclaredTo a b level ds k → k < length ds → d ≡ get_or ds k d →
+    Finds b c (declare_all level (plain_dec d no_decs) b.table) (escaping_decs (plain_dec d no_decs) level b.table) → DeclaredTo a c level ds (k + 1)
 dec_more {a = a} {b = b} {c = c} {level = level} {ds = ds} {k = k} d w l i f =
     let rest : Decs = decs_of (drop (k + 1) ds) in
     record {
       at_least = omega (arith, w.at_least, f.at_least);
-      table = w.table ∙ (ap (λ x. declare_all level (decs_of x) b.table) (from_here ds k d l i) ∙ (dec_table level d rest b.table ∙ ap (λ s. declare_all level rest s) (sym f.table)));
-      found = λ after. w.found after ∙ (ap (λ x. with_all (escaping_decs (decs_of x) level b.table after) b.escapes) (from_here ds k d l i) ∙ (ap (λ x. with_all x b.escapes) (dec_uses level d rest b.table after) ∙ (f.found _ ∙ ap (λ s. with_all (escaping_decs rest level s after) c.escapes) (sym f.table))));
+      table =
+          w.table ∙ (ap (λ x. declare_all level (decs_of x) b.table) (from_here ds k d l i)
+          ∙ (dec_table level d rest b.table ∙ ap (λ s. declare_all level rest s) (sym f.table)));
+      found =
+          λ after. w.found after ∙ (ap (λ x. with_all (escaping_decs (decs_of x) level b.table after) b.escapes) (from_here ds k d l i)
+          ∙ (ap (λ x. with_all x b.escapes) (dec_uses level d rest b.table after)
+          ∙ (f.found _ ∙ ap (λ s. with_all (escaping_decs rest level s after) c.escapes) (sym f.table))));
     }
 
-pub decs_end : {a b : Search} {level : ℕ} {ds : List CodeDec} {k : ℕ} → DeclaredTo a b level ds k → k ≡ length ds → Finds a b (declare_all level (decs_of ds) a.table) (escaping_decs (decs_of ds) level a.table)
+pub decs_end : {a b : Search} {level : ℕ} {ds : List CodeDec} {k : ℕ} → DeclaredTo a b level ds k → k ≡ length ds →
+    Finds a b (declare_all level (decs_of ds) a.table) (escaping_decs (decs_of ds) level a.table)
 decs_end {a = a} {b = b} {level = level} {ds = ds} {k = k} w e = record {
   table = sym (w.table ∙ ap (λ x. declare_all level (decs_of x) b.table) (none_left ds k e));
   at_least = w.at_least;
@@ -188,23 +213,31 @@ no_name = record { name = record { 0 = 0 }; span = record { from = 0; to = 0 } }
 abbrev param_at : List Param → ℕ → Param
 param_at ps k = get_or ps k (record { name = no_name; kind = no_name })
 
-pub one_param : {a b c : Search} {level k : ℕ} {ps : List Param} → NamedTo a b (declare_params level) ps k → k < length ps → Finds b c (declare_variable level (param_at ps k).name b.table) (λ after. after) → NamedTo a c (declare_params level) ps (k + 1)
+pub one_param : {a b c : Search} {level k : ℕ} {ps : List Param} → NamedTo a b (declare_params level) ps k → k < length ps →
+    Finds b c (declare_variable level (param_at ps k).name b.table) (λ after. after) → NamedTo a c (declare_params level) ps (k + 1)
 one_param {b = b} {level = level} {k = k} {ps = ps} w l f = record {
-  table = w.table ∙ (ap (λ xs. declare_params level xs b.table) (from_here ps k (param_at ps k) l (get_or_default ps k _ _ l)) ∙ ap (λ s. declare_params level (drop (k + 1) ps) s) (sym f.table));
+  table =
+      w.table ∙ (ap (λ xs. declare_params level xs b.table) (from_here ps k (param_at ps k) l (get_or_default ps k _ _ l)) ∙ ap
+      (λ s. declare_params level (drop (k + 1) ps) s) (sym f.table));
   count = omega (arith, w.count, ap length f.table);
   escapes = sym (f.found []) ∙ w.escapes;
 }
 
-pub one_function : {a b c : Search} {k : ℕ} {fs : List CodeFunDec} (f : CodeFunDec) → NamedTo a b all_functions fs k → k < length fs → f ≡ get_or fs k f → c.table ≡ declare f.name a_function b.table → c.escapes ≡ b.escapes → NamedTo a c all_functions fs (k + 1)
+pub one_function : {a b c : Search} {k : ℕ} {fs : List CodeFunDec} (f : CodeFunDec) → NamedTo a b all_functions fs k → k < length fs → f ≡ get_or fs k f →
+    c.table ≡ declare f.name a_function b.table → c.escapes ≡ b.escapes → NamedTo a c all_functions fs (k + 1)
 one_function {b = b} {k = k} {fs = fs} f w l i t e = record {
   table = w.table ∙ (ap (λ xs. all_functions xs b.table) (from_here fs k f l i) ∙ ap (λ s. all_functions (drop (k + 1) fs) s) (sym t));
   count = omega (arith, w.count, ap length t);
   escapes = e ∙ w.escapes;
 }
 
-pub params_end : {a b : Search} {level k : ℕ} {ps : List Param} → NamedTo a b (declare_params level) ps k → k ≡ length ps → Finds a b (declare_params level ps a.table) (λ after. after)
-params_end {b = b} {level = level} {k = k} {ps = ps} w e = declares (sym (w.table ∙ ap (λ xs. declare_params level xs b.table) (none_left ps k e))) (omega (arith, w.count)) w.escapes
+pub params_end : {a b : Search} {level k : ℕ} {ps : List Param} → NamedTo a b (declare_params level) ps k → k ≡ length ps →
+    Finds a b (declare_params level ps a.table) (λ after. after)
+params_end {b = b} {level = level} {k = k} {ps = ps} w e =
+    declares (sym (w.table ∙ ap (λ xs. declare_params level xs b.table) (none_left ps k e))) (omega (arith, w.count)) w.escapes
 
-pub functions_end : {a b : Search} {k : ℕ} (fs : CodeFunDecs) {items : List CodeFunDec} → items ≡ (out-FunDecs fs).items.items → NamedTo a b all_functions items k → k ≡ length items → Finds a b (declare_functions (plain_functions fs) a.table) (λ after. after)
+pub functions_end : {a b : Search} {k : ℕ} (fs : CodeFunDecs) {items : List CodeFunDec} → items ≡ (out-FunDecs fs).items.items →
+    NamedTo a b all_functions items k → k ≡ length items → Finds a b (declare_functions (plain_functions fs) a.table) (λ after. after)
 functions_end {a = a} {b = b} {k = k} fs {items = items} d w e =
-    declares (sym (ap (λ x. declare_functions x a.table) (plain_functions-items fs ∙ ap functions_of (sym d)) ∙ (w.table ∙ ap (λ xs. all_functions xs b.table) (none_left items k e)))) (omega (arith, w.count)) w.escapes
+    declares (sym (ap (λ x. declare_functions x a.table) (plain_functions-items fs ∙ ap functions_of (sym d))
+    ∙ (w.table ∙ ap (λ xs. all_functions xs b.table) (none_left items k e)))) (omega (arith, w.count)) w.escapes

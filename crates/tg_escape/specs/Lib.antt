@@ -1,3 +1,4 @@
 pub mod Escaping
 pub mod Declarations
 pub mod Searches
+pub mod Laws

@@ -10,8 +10,8 @@ abbrev pub with_all : List ℕ → FinSet nat_cmp → FinSet nat_cmp
 with_all [] found = found
 with_all (at ∷ rest) found = with_all rest (insert found at)
 
--- afterwards these names are declared, none less than before, and the bytes of a text's uses are found, which are the first of a
--- longer list
+-- afterwards these names are declared, none less than before, and the bytes of a text's uses are
+-- found, which are the first of a longer list
 pub record Finds (old new : Search) (seen : Seen) (uses : List ℕ → List ℕ) : Type 0 where
   pub table : new.table ≡ seen
   pub at_least : length old.table ≤ length new.table

@@ -5,10 +5,12 @@
 
 mod declarations;
 mod finding;
+mod laws;
 mod searches;
 mod sets;
 
 pub use finding::escapes;
+pub use laws::uses_join;
 pub use sets::Escapes;
 
 #[cfg(test)]

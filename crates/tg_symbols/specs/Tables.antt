@@ -1,4 +1,5 @@
--- Scoped symbol tables (Appel, chapter 5): names with what they have, the newest first; and how the entries of one name are linked.
+-- Scoped symbol tables (Appel, chapter 5): names with what they have, the newest first; and how the
+-- entries of one name are linked.
 use Rattle.std.specs.Prelude.{◌≡◌, ◌≤◌, ℕ, suc, ◌==◌, nat_eq, List, [], ◌∷◌, length, map, reverse, Option, Some, None, if◌then◌else◌}
 use Rattle.std.specs.HashMap.{get}
 use Rattle.std.specs.HashMap.{HashMap}
@@ -28,7 +29,8 @@ abbrev pub AreChained : {V : Type 0} → List (Entry V) → Type 0
 AreChained [] = Unit {0}
 AreChained (e ∷ older) = (e.hidden ≡ top_of e.name older) × AreChained older
 
--- for each name the table tells the place of its newest entry, and each entry that of the one it hides
+-- for each name the table tells the place of its newest entry, and each entry that of the one it
+-- hides
 pub record IsLinked {V S : Type 0} (top : HashMap ℕ ℕ S) (entries : List (Entry V)) : Type 0 where
   pub short : length entries ≤ 4294967295
   pub tops : (x : ℕ) → get nat_eq top x ≡ top_of x (reverse entries)

@@ -8,4 +8,5 @@ use Rattle.tg_escape.proofs.searches.escapes_in.Goals as goal
 
 pub returns : goal.returns
 returns c =
-    sym (c.in_ok-in_exp.ensures.found []) ∙ (ap (λ s. with_all (escaping (plain c.args.body.now) 0 c.new.result []) s) c.new-2.ensures ∙ (ap (λ t. with_all (escaping (plain c.args.body.now) 0 t []) empty) c.new.ensures ∙ all_of (escapes_of (plain c.args.body.now))))
+    sym (c.in_ok-in_exp.ensures.found []) ∙ (ap (λ s. with_all (escaping (plain c.args.body.now) 0 c.new.result []) s) c.new-2.ensures
+    ∙ (ap (λ t. with_all (escaping (plain c.args.body.now) 0 t []) empty) c.new.ensures ∙ all_of (escapes_of (plain c.args.body.now))))
