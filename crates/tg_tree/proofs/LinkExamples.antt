@@ -36,14 +36,21 @@ seen p = p.stop
 abbrev plainly : (link : Tx) → Stop
 plainly link = seen (tree_run Trees (program link) (λ label. 8) (stack_top - 256) 8 32 [] 2)
 
-abbrev linked : (link : Tx) → Stop
-linked link = seen (linked_run Trees (program link) (λ label. 8) (stack_top - 256) 8 (λ label. label - 32) 32 [] 2)
+abbrev linked : (level : ℕ → ℕ) → (link : Tx) → Stop
+linked level link = seen (linked_run Trees (program link) (λ label. 8) (stack_top - 256) 8 level 32 [] 2)
 
-right_link : linked FrameAddress ≡ Ended (Exit (pos 0))
+right_link : linked (λ label. label - 32) FrameAddress ≡ Ended (Exit (pos 0))
 right_link = refl
 
+-- where 34 is declared beside 33, it is given the link of its caller
+right_link_of_a_sibling : linked (λ label. 1) (Load home) ≡ Ended (Exit (pos 0))
+right_link_of_a_sibling = refl
+
+wrong_link_of_a_sibling : linked (λ label. 1) FrameAddress ≡ Wrong
+wrong_link_of_a_sibling = refl
+
 -- the caller's own link, where its frame address is due
-wrong_link : linked (Load home) ≡ Wrong
+wrong_link : linked (λ label. label - 32) (Load home) ≡ Wrong
 wrong_link = refl
 
 wrong_link_runs : plainly (Load home) ≡ Ended (Exit (pos 0))
