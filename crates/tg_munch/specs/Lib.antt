@@ -1,0 +1,4 @@
+pub mod Bodies
+pub mod Choosing
+pub mod Munching
+pub mod Tiles
