@@ -1,5 +1,5 @@
 -- The plain list of the code's list is that of its items; lists that are put together have plain lists put together.
-use Rattle.std.proofs.Common.{◌≡◌, List, [], ◌∷◌, ◌++◌, refl, ap, ◌∙◌}
+use Rattle.std.proofs.Common.{◌≡◌, List, [], ◌∷◌, ◌++◌, map, refl, ap, ◌∙◌}
 use mathlib.Core.Former.{Count}
 use Rattle.tg_tree.specs.declared.trees.Tx.{Tx as CodeTx, Call, Call', Row_of-Tx, end_of-Tx, more_of-Tx, items-the_row-Tx, items_hidden-the_row-Tx-1}
 use Rattle.tg_tree.specs.declared.trees.Ts.{Ts as CodeTs, Seq, Seq', Row_of-Ts, end_of-Ts, more_of-Ts, items-the_row-Ts, items_hidden-the_row-Ts-0}
@@ -9,6 +9,7 @@ use Rattle.tg_base.specs.declared.ids.Label.{Label}
 use Rattle.tg_tree.specs.Tree as tree
 use Rattle.tg_tree.specs.Tree.{no_txs, tx, no_stms, stm}
 use Rattle.tg_tree.specs.Plain.{plain_tx, plain_txs, plain_ts, plain_stms}
+use Rattle.tg_tree.specs.Forms.{stms, when, repeat_until}
 use Rattle.tg_tree.specs.Lists.{txs_of, stms_of, join_txs, join_stms}
 
 pub plain_txs-items : (n : Count) (row : Row_of-Tx n) → plain_txs row ≡ txs_of (items-the_row-Tx n row)
@@ -68,3 +69,15 @@ join_txs-assoc (tx x xs) ys zs = ap (tx x) (join_txs-assoc xs ys zs)
 pub join_stms-assoc : (ss ts us : tree.Stms) → join_stms (join_stms ss ts) us ≡ join_stms ss (join_stms ts us)
 join_stms-assoc no_stms ts us = refl
 join_stms-assoc (stm s ss) ts us = ap (stm s) (join_stms-assoc ss ts us)
+
+-- a list with one more statement behind
+pub stms_of-last : (ss : List CodeTs) (s : CodeTs) → stms_of (ss ++ s ∷ []) ≡ stms (map plain_ts ss ++ plain_ts s ∷ [])
+stms_of-last [] s = refl
+stms_of-last (first ∷ ss) s = ap (tree.stm (plain_ts first)) (stms_of-last ss s)
+
+-- what is repeated, once the test stands behind it
+pub turn_is :
+    (c : tree.Cond) (ss turn : List CodeTs) (test whole : CodeTs) →
+    plain_ts test ≡ when c (tree.Break 0) → turn ≡ ss ++ test ∷ [] → plain_ts whole ≡ tree.Seq (stms_of turn) → tree.Loop (plain_ts whole) ≡ repeat_until c (map plain_ts ss)
+turn_is c ss turn test whole is more all =
+    ap tree.Loop (all ∙ ap tree.Seq (ap stms_of more ∙ (stms_of-last ss test ∙ ap (λ t. stms (map plain_ts ss ++ t ∷ [])) is)))

@@ -17,8 +17,8 @@ pub use laws::{
 };
 pub use linear::Linear;
 pub use making::{
-    after, binary, both, call, compare, either, if_else, load, load_byte, negate, repeat, sequence,
-    service, when,
+    after, binary, both, call, compare, either, if_else, load, load_byte, negate, repeat,
+    repeat_until, sequence, service, when,
 };
 pub use operators::{Bin, Rel};
 pub use trees::{Cond, Stms, Ts, Tx, Txs};

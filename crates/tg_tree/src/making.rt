@@ -1,4 +1,4 @@
-ghost use Rattle.std.specs.Prelude.{◌≡◌, IfOk};
+ghost use Rattle.std.specs.Prelude.{◌≡◌, IfOk, map};
 ghost use Rattle.tg_tree.specs.Plain.{plain_tx, plain_cond, plain_ts};
 ghost use Rattle.tg_tree.specs.Lists.{txs_of, stms_of};
 ghost use Rattle.tg_tree.specs.Tree as tree;
@@ -96,7 +96,8 @@ pub fn either(alloc: Global, left: Cond, right: Cond) -> Result<Cond, Memory>
 
 /// One of two statements, by a condition.
 pub fn if_else(alloc: Global, test: Cond, this: Ts, other: Ts) -> Result<Ts, Memory>
-    ensures { IfOk result (λ s. plain_ts s ≡ tree.If (plain_cond test) (plain_ts this) (plain_ts other)) }
+    ensures { IfOk result (λ s. plain_ts s ≡
+        tree.If (plain_cond test) (plain_ts this) (plain_ts other)) }
 {
     let this = Box::new(alloc, this)?;
     let other = Box::new(alloc, other)?;
@@ -117,6 +118,15 @@ pub fn repeat(alloc: Global, turn: Ts) -> Result<Ts, Memory>
 {
     let turn = Box::new(alloc, turn)?;
     Ok(Ts::Loop(turn))
+}
+
+/// Statements again and again, until a condition holds behind a turn.
+pub fn repeat_until(alloc: Global, done: Cond, mut turn: Vec<Ts>) -> Result<Ts, Memory>
+    ensures { IfOk result (λ s. plain_ts s ≡
+        forms.repeat_until (plain_cond done) (map plain_ts turn.items)) }
+{
+    turn.push(when(alloc, done, Ts::Break(0))?)?;
+    repeat(alloc, sequence(turn))
 }
 
 /// One statement after another.

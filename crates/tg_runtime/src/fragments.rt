@@ -1,0 +1,101 @@
+ghost use Rattle.std.specs.Prelude.{◌≡◌, ◌≤◌, IfOk, length, map};
+ghost use Rattle.tg_frame.specs.Homes.{temps_of};
+ghost use Rattle.tg_tree.specs.Plain.{plain_ts, plain_fragment, plain_fragments};
+ghost use Rattle.tg_runtime.specs.Routines as routines;
+
+use crate::creation::{make_array, make_record};
+use crate::routines::Routine;
+use crate::standards::{chr, exit, flush, getchar, negation, ord, print, size};
+use crate::strings::{compare_strings, concat, substring};
+use std::alloc::Global;
+use tg_base::Memory;
+use tg_frame::new_frame;
+use tg_tree::{Fragment, Fragments, Ts};
+
+/// The functions of the runtime, in the order of their labels, and no literal.
+pub fn runtime(alloc: Global) -> Result<Fragments, Memory>
+    ensures { IfOk result (λ f. plain_fragments f ≡ routines.runtime) }
+{
+    let mut functions = creations(alloc)?;
+    functions.append(&mut inputs_and_outputs(alloc)?)?;
+    functions.append(&mut bytes_and_sizes(alloc)?)?;
+    functions.append(&mut parts_and_sums(alloc)?)?;
+    functions.append(&mut of_ints(alloc)?)?;
+    Ok(Fragments {
+        functions,
+        literals: Vec::new(alloc),
+    })
+}
+
+fn creations(alloc: Global) -> Result<Vec<Fragment>, Memory>
+    ensures { IfOk result (λ fs. map plain_fragment fs.items ≡ routines.creations) }
+{
+    let record = function(alloc, Routine::MakeRecord, &[false], 1, make_record(alloc)?)?;
+    let array = function(
+        alloc,
+        Routine::MakeArray,
+        &[false, false],
+        5,
+        make_array(alloc)?,
+    )?;
+    let body = compare_strings(alloc)?;
+    let order = function(alloc, Routine::Compare, &[false, false], 7, body)?;
+    Ok(vec![in alloc; record, array, order]?)
+}
+
+fn inputs_and_outputs(alloc: Global) -> Result<Vec<Fragment>, Memory>
+    ensures { IfOk result (λ fs. map plain_fragment fs.items ≡ routines.inputs_and_outputs) }
+{
+    Ok(vec![in alloc;
+        function(alloc, Routine::Print, &[false], 3, print(alloc)?)?,
+        function(alloc, Routine::Flush, &[], 0, flush())?,
+        function(alloc, Routine::Getchar, &[], 2, getchar(alloc)?)?,
+    ]?)
+}
+
+fn bytes_and_sizes(alloc: Global) -> Result<Vec<Fragment>, Memory>
+    ensures { IfOk result (λ fs. map plain_fragment fs.items ≡ routines.bytes_and_sizes) }
+{
+    Ok(vec![in alloc;
+        function(alloc, Routine::Ord, &[false], 1, ord(alloc)?)?,
+        function(alloc, Routine::Chr, &[false], 2, chr(alloc)?)?,
+        function(alloc, Routine::Size, &[false], 1, size(alloc)?)?,
+    ]?)
+}
+
+fn parts_and_sums(alloc: Global) -> Result<Vec<Fragment>, Memory>
+    ensures { IfOk result (λ fs. map plain_fragment fs.items ≡ routines.parts_and_sums) }
+{
+    let body = substring(alloc)?;
+    Ok(vec![in alloc;
+        function(alloc, Routine::Substring, &[false, false, false], 7, body)?,
+        function(alloc, Routine::Concat, &[false, false], 6, concat(alloc)?)?,
+    ]?)
+}
+
+fn of_ints(alloc: Global) -> Result<Vec<Fragment>, Memory>
+    ensures { IfOk result (λ fs. map plain_fragment fs.items ≡ routines.of_ints) }
+{
+    Ok(vec![in alloc;
+        function(alloc, Routine::Not, &[false], 1, negation(alloc)?)?,
+        function(alloc, Routine::Exit, &[false], 1, exit(alloc)?)?,
+    ]?)
+}
+
+// A function with its parameters and so many temporaries.
+fn function(
+    alloc: Global,
+    one: Routine,
+    params: &[bool],
+    temps: u32,
+    body: Ts,
+) -> Result<Fragment, Memory>
+    requires few { length params.now ≤ 4194304 }
+    requires temps { temps_of params.now ≤ temps }
+    ensures { IfOk result (λ f. plain_fragment f ≡
+        routines.function_of one params.now temps (plain_ts body)) }
+{
+    let mut frame = new_frame(alloc, one.label(), params)?;
+    frame.temps = temps;
+    Ok(Fragment { frame, body })
+}

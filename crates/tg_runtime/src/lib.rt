@@ -1,0 +1,16 @@
+//! The runtime of compiled programs: what makes records, arrays and strings, the comparison of
+//! strings, and the standard functions (Appel, appendix A.4), as trees that go through the same
+//! passes as a program's own functions. Promises exactly the functions of `specs/Routines.antt`.
+#![tactic(auto)]
+
+mod creation;
+mod forms;
+mod fragments;
+mod laws;
+mod routines;
+mod standards;
+mod strings;
+
+pub use fragments::runtime;
+pub use laws::routines_are_closed;
+pub use routines::Routine;
