@@ -12,6 +12,3 @@ mod sets;
 pub use finding::escapes;
 pub use laws::uses_join;
 pub use sets::Escapes;
-
-#[cfg(test)]
-mod tests;

@@ -5,8 +5,16 @@
 #[cfg(test)]
 mod counting;
 #[cfg(test)]
+mod escaping;
+#[cfg(test)]
 mod lexing;
+#[cfg(test)]
+mod lists;
+#[cfg(test)]
+mod noted;
 #[cfg(test)]
 mod parsing;
 #[cfg(test)]
 mod reading;
+#[cfg(test)]
+mod tables;

@@ -1,3 +1,7 @@
+ghost use Rattle.std.specs.Prelude.{IfOk};
+ghost use Rattle.tg_syntax.specs.Plain.{plain};
+ghost use Rattle.tg_tests.specs.Texts.{IsCheckable};
+
 use std::alloc::Global;
 use std::test::Fail;
 use tg_base::Names;
@@ -5,9 +9,25 @@ use tg_lexer::lex;
 use tg_parser::parse;
 use tg_syntax::Program;
 
-/// The program that a text is.
-pub(crate) fn program_of(alloc: Global, text: &str) -> Result<Program, Fail> {
+/// The tree of a text, with the texts of its identifiers.
+#[derive(Drop)]
+pub(crate) struct Source {
+    pub(crate) program: Program,
+    pub(crate) names: Names,
+}
+
+/// The tree of a text, whose types aren't looked at.
+pub(crate) fn read(alloc: Global, text: &str) -> Result<Source, Fail>
+    ensures { IfOk result (λ s. IsCheckable s.names (plain s.program.body)) }
+{
     let mut names = Names::new(alloc);
     let tokens = lex(alloc, text.as_bytes(), &mut names)?;
-    Ok(parse(alloc, &tokens)?)
+    let program = parse(alloc, &tokens)?;
+    Ok(Source { program, names })
+}
+
+/// The program that a text is.
+pub(crate) fn program_of(alloc: Global, text: &str) -> Result<Program, Fail> {
+    let Source { program, names: _ } = read(alloc, text)?;
+    Ok(program)
 }
