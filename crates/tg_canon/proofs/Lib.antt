@@ -1,0 +1,4 @@
+mod CanonExamples
+pub mod Always
+pub mod Canonicals
+pub mod Closings
