@@ -31,7 +31,8 @@ above_stack r n =
     if nat_lt n 32768 then alone (Addiu r 29 n) ∷ [] else
     in_at n ++ alone (Addu r 29 1) ∷ []
 
--- the entry takes the frame's bytes from $sp, and loads the word there: where the stack is too small, it ends the run
+-- the entry takes the frame's bytes from $sp, and loads the word there: where the stack is too
+-- small, it ends the run
 abbrev pub lowered : (size : ℕ) → List Line
 lowered n =
     if nat_le n 32768 then alone (Addiu 29 29 (65536 - n)) ∷ [] else
@@ -40,7 +41,8 @@ lowered n =
 abbrev pub entry : (label size : ℕ) → List Line
 entry label size = Label (function_name label) ∷ lowered size ++ alone (Lw 0 0 29) ∷ []
 
--- a load or a store at a number of bytes above $sp; for a large one $at gets what its lower 16 bits, with their sign, lack
+-- a load or a store at a number of bytes above $sp; for a large one $at gets what its lower 16
+-- bits, with their sign, lack
 abbrev pub load_at : (register offset : ℕ) → List Line
 load_at r n =
     if nat_lt n 32768 then alone (Lw r n 29) ∷ [] else
@@ -56,7 +58,8 @@ abbrev pub slot_offset : (size slot : ℕ) → ℕ
 slot_offset size k = size - 4 * (k + 1)
 
 -- a branch to a label, or the opposite branch over a jump there
-abbrev pub branch_lines : (turned : Bool) → (to_there opposite : Mips) → (there around : List ℕ) → List Line
+abbrev pub branch_lines :
+    (turned : Bool) → (to_there opposite : Mips) → (there around : List ℕ) → List Line
 branch_lines false to_there opposite there around = One to_there there ∷ []
 branch_lines true to_there opposite there around =
     One opposite around ∷ One (J 0) there ∷ Label around ∷ []
@@ -67,10 +70,13 @@ row_lines None = []
 
 -- an instruction of a function with this label and frame, at a place of its code
 abbrev pub instruction_lines : (turned : Bool) → (label size place : ℕ) → Instr → List Line
-instruction_lines turned label size place (FrameLoad to k) = load_at (register_of to) (slot_offset size k)
-instruction_lines turned label size place (FrameStore from k) = store_at (register_of from) (slot_offset size k)
+instruction_lines turned label size place (FrameLoad to k) =
+    load_at (register_of to) (slot_offset size k)
+instruction_lines turned label size place (FrameStore from k) =
+    store_at (register_of from) (slot_offset size k)
 instruction_lines turned label size place (FrameAddress to) = above_stack (register_of to) size
-instruction_lines turned label size place (Address to literal) = La (register_of to) (literal_name literal.0) ∷ []
+instruction_lines turned label size place (Address to literal) =
+    La (register_of to) (literal_name literal.0) ∷ []
 instruction_lines turned label size place (Mark m) = Label (mark_name label m) ∷ []
 instruction_lines turned label size place (Jump m) = One (J 0) (mark_name label m) ∷ []
 instruction_lines turned label size place (Branch test m) =

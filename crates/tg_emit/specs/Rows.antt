@@ -1,4 +1,5 @@
--- The row of the instruction table for an instruction that is one, over registers (MIPS I manual, appendix A).
+-- The row of the instruction table for an instruction that is one, over registers (MIPS I manual,
+-- appendix A).
 use Rattle.std.specs.Prelude.{ℕ, Option, Some, None}
 use Rattle.tg_isa.specs.declared.mips.Mips.{Mips}
 use Rattle.tg_isa.specs.declared.mips.Mips.TheVariants as row
@@ -50,7 +51,8 @@ row_of (Move to from) = Some (row.Addu (register_of to) 0 (register_of from))
 row_of Service = Some row.Syscall
 row_of _ = None
 
--- the branch of a comparison between two registers; that with a signed order has $zero on its right, and none is without sign
+-- the branch of a comparison between two registers; that with a signed order has $zero on its
+-- right, and none is without sign
 abbrev pub branch_on : Rel → (left right : ℕ) → Mips
 branch_on Equal left right = row.Beq left right 0
 branch_on NotEqual left right = row.Bne left right 0
@@ -74,4 +76,5 @@ abbrev pub branch_of : Test → Mips
 branch_of test = branch_on test.rel (register_of test.left) (register_of test.right)
 
 abbrev pub opposite_branch_of : Test → Mips
-opposite_branch_of test = branch_on (opposite test.rel) (register_of test.left) (register_of test.right)
+opposite_branch_of test =
+    branch_on (opposite test.rel) (register_of test.left) (register_of test.right)

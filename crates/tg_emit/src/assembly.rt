@@ -6,7 +6,8 @@ use tg_isa::{Mips, Reg};
 pub enum Line {
     /// A label, without its colon.
     Label(Bytes),
-    /// An instruction, with the label that it leads to where its form takes one; the field for it is 0 then.
+    /// An instruction, with the label that it leads to where its form takes one; the field for it
+    /// is 0 then.
     One(Mips, Bytes),
     /// The address of a label, which takes two words of code.
     La(Reg, Bytes),

@@ -14,7 +14,8 @@ use tg_base::{Label, Memory};
 use tg_instr::{Allocated, Instr, Test};
 use tg_isa::{Bits, Mips, Reg};
 
-/// Where an instruction stands: its function's label and frame, in bytes, and its place in the function's code.
+/// Where an instruction stands: its function's label and frame, in bytes, and its place in the
+/// function's code.
 #[derive(Clone, Copy)]
 struct Site {
     label: Label,

@@ -20,8 +20,8 @@ use tg_base::{Bytes, Memory};
 use tg_instr::Allocated;
 use tg_tree::Literal;
 
-/// The words of code up to which each branch is one row; in longer code each is turned round over a jump, since a branch
-/// reaches 32,767 words.
+/// The words of code up to which each branch is one row; in longer code each is turned round over a
+/// jump, since a branch reaches 32,767 words.
 const NEAR: usize = 32000;
 
 /// The lines of a program's functions and literals, functions first, each in its order.

@@ -105,7 +105,8 @@ pub fn entry(alloc: Global, list: &mut Vec<Line>, label: Label, size: u32) -> Re
 fn near_in_at(alloc: Global, list: &mut Vec<Line>, offset: u32) -> Result<(), Memory>
     requires { offset < 2 ^ 31 }
     ensures { OnOk result (list.new.items ≡
-        list.old.items ++ alone_line (Lui 1 ((offset + 32768) / 65536)) ∷ alone_line (Addu 1 1 29) ∷ []) }
+        list.old.items
+        ++ alone_line (Lui 1 ((offset + 32768) / 65536)) ∷ alone_line (Addu 1 1 29) ∷ []) }
 {
     let at = Reg::new(AT);
     alone(

@@ -1,6 +1,6 @@
-//! Assembly of the functions of a program (Appel, chapters 9 and 12): what stands for each instruction over registers, for
-//! the entry and the return of a function, and for literals. Promises exactly the lines that the definition states, and
-//! their text.
+//! Assembly of the functions of a program (Appel, chapters 9 and 12): what stands for each
+//! instruction over registers, for the entry and the return of a function, and for literals.
+//! Promises exactly the lines that the definition states, and their text.
 #![tactic(auto)]
 
 mod assembly;

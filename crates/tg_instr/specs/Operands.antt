@@ -17,7 +17,8 @@ abbrev pub is_zero : Opnd → Bool
 is_zero (Reg r) = r == 0
 is_zero _ = false
 
--- the table branches on an equality or inequality of two registers, and on a signed order of one with 0 (MIPS I manual)
+-- the table branches on an equality or inequality of two registers, and on a signed order of one
+-- with 0 (MIPS I manual)
 abbrev pub is_one_row : Rel → (left right : Opnd) → Bool
 is_one_row Equal left right = true
 is_one_row NotEqual left right = true

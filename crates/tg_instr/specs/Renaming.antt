@@ -1,5 +1,5 @@
--- The operands that an instruction's text names, and the instruction with others in their places. A call, a service and a
--- return name none: what they use and define besides is fixed.
+-- The operands that an instruction's text names, and the instruction with others in their places. A
+-- call, a service and a return name none: what they use and define besides is fixed.
 use Rattle.std.specs.Prelude.{ℕ, Option, Some, None, Bool, true, false, ◌≡◌, refl}
 use Rattle.tg_tree.specs.declared.operators.Rel.{Rel}
 use Rattle.tg_instr.specs.declared.operands.Opnd.{Opnd}
@@ -52,8 +52,10 @@ named (Branch test m) = names None (Some test.left) (Some test.right)
 named _ = names None None None
 
 -- a test of two other operands, where they make one row too
-abbrev pub tested : (rel : Rel) (left right : Opnd) (fits : Bool) → is_one_row rel left right ≡ fits → Test → Test
-tested rel left right true is_row test = record { rel = rel; left = left; right = right; is_one_row = is_row }
+abbrev pub tested :
+    (rel : Rel) (left right : Opnd) (fits : Bool) → is_one_row rel left right ≡ fits → Test → Test
+tested rel left right true is_row test =
+    record { rel = rel; left = left; right = right; is_one_row = is_row }
 tested rel left right false is_row test = test
 
 abbrev pub renamed_test : Test → (left right : Opnd) → Test

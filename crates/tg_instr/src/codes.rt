@@ -12,8 +12,8 @@ ghost use Rattle.tg_instr.specs.Codes.{
 use crate::instr::Instrs;
 use tg_frame::Frame;
 
-/// A function's code: its marks differ, each mark that an instruction leads to stands in it, its temporaries are below
-/// `temps`, and its last instruction is a jump, a fault or a return.
+/// A function's code: its marks differ, each mark that an instruction leads to stands in it, its
+/// temporaries are below `temps`, and its last instruction is a jump, a fault or a return.
 #[derive(Drop)]
 pub struct Code {
     pub list: Instrs,

@@ -6,8 +6,8 @@ use tg_base::{Label, ListOf};
 use tg_isa::Bits;
 use tg_tree::Rel;
 
-/// What a branch tests. It is one row of the instruction table: an equality or inequality of two operands, or a signed
-/// order between an operand and `$zero` on its right.
+/// What a branch tests. It is one row of the instruction table: an equality or inequality of two
+/// operands, or a signed order between an operand and `$zero` on its right.
 #[derive(Drop)]
 pub struct Test {
     pub rel: Rel,
@@ -16,8 +16,9 @@ pub struct Test {
     pub ghost is_one_row: { IsTrue (is_one_row rel left right) },
 }
 
-/// An instruction over temporaries and registers. The rows of the table (MIPS I manual, appendix A) have their operands
-/// in the order of the assembly text, and number fields are the bits of the word.
+/// An instruction over temporaries and registers. The rows of the table (MIPS I manual, appendix A)
+/// have their operands in the order of the assembly text, and number fields are the bits of the
+/// word.
 #[derive(Drop)]
 pub enum Instr {
     Sll(Opnd, Opnd, Bits<5>),

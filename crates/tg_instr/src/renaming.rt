@@ -3,8 +3,8 @@ ghost use Rattle.std.specs.Prelude.{◌≡◌, IsTrue};
 use crate::instr::{Instr, Test};
 use crate::operands::Opnd;
 
-/// The operands that an instruction's text names: what it defines, and what it uses, in the order of the text. A call, a
-/// service and a return name none, whatever they use and define besides.
+/// The operands that an instruction's text names: what it defines, and what it uses, in the order
+/// of the text. A call, a service and a return name none, whatever they use and define besides.
 #[derive(Clone, Copy)]
 pub struct Named {
     pub to: Option<Opnd>,
@@ -94,8 +94,8 @@ impl Instr {
         }
     }
 
-    /// The instruction with other operands in the places of those that its text names; those that it doesn't name are
-    /// passed over.
+    /// The instruction with other operands in the places of those that its text names; those that
+    /// it doesn't name are passed over.
     pub fn renamed(&self, to: Opnd, first: Opnd, second: Opnd) -> Instr
         requires { IsTrue (stays_one_row self.now first second) }
         ensures { result ≡ renamed self.now to first second }

@@ -20,7 +20,8 @@ const GIVEN_BACK: [u8; 10] = [2, 16, 17, 18, 19, 20, 21, 22, 23, 31];
 impl Instr {
     ghost use Rattle.tg_instr.specs.Uses.{uses_of, defs_of};
 
-    /// The operands whose content the instruction reads, moves or hands on, in the order of its text.
+    /// The operands whose content the instruction reads, moves or hands on, in the order of its
+    /// text.
     pub fn uses(&self, alloc: Global) -> SmallVec<Opnd, 24>
         ensures { result.items ≡ uses_of self.now }
     {
@@ -46,7 +47,8 @@ impl Instr {
         }
     }
 
-    /// The operands that hold something else behind the instruction than before it: at a call all that it may change.
+    /// The operands that hold something else behind the instruction than before it: at a call all
+    /// that it may change.
     pub fn defs(&self, alloc: Global) -> SmallVec<Opnd, 24>
         ensures { result.items ≡ defs_of self.now }
     {

@@ -17,7 +17,8 @@ abbrev pub kept : List ℕ → Choice (Unit {0})
 kept [] = give tt
 kept (r ∷ rs) = fresh >>= (λ t. put (Move t (Reg r)) >> kept rs)
 
--- parameter i comes from $a0 to $a3, or from the word 4·(i - 4) bytes above the frame address, where its caller put it
+-- parameter i comes from $a0 to $a3, or from the word 4·(i - 4) bytes above the frame address,
+-- where its caller put it
 abbrev pub from_caller : (i : ℕ) → Tx
 from_caller i = tree.Load (tree.Binary Add tree.FrameAddress (tree.Const (4 * (i - 4))))
 

@@ -1,4 +1,5 @@
--- Choosing instructions: what it gives, the instructions that are written, and the temporaries and marks that are drawn.
+-- Choosing instructions: what it gives, the instructions that are written, and the temporaries and
+-- marks that are drawn.
 use Rattle.std.specs.Prelude.{ℕ, ◌+◌, List, [], ◌∷◌, ◌++◌, Option, Some, None}
 use Rattle.tg_instr.specs.declared.operands.Opnd.{Opnd}
 use Rattle.tg_instr.specs.declared.operands.Opnd.TheVariants.{Temp, Reg}
@@ -37,7 +38,12 @@ abbrev pub put : Instr → Choice (Unit {0})
 put one d = record { value = tt; code = one ∷ []; drawn = d }
 
 abbrev pub fresh : Choice Opnd
-fresh d = record { value = Temp (record { 0 = d.temp }); code = []; drawn = record d { temp = d.temp + 1 } }
+fresh d =
+    record {
+      value = Temp (record { 0 = d.temp });
+      code = [];
+      drawn = record d { temp = d.temp + 1 };
+    }
 
 abbrev pub fresh_mark : Choice ℕ
 fresh_mark d = record { value = d.mark; code = []; drawn = record d { mark = d.mark + 1 } }

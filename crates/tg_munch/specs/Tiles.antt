@@ -1,4 +1,5 @@
--- Tiles: which parts of a tree one instruction stands for (Appel, chapter 9; MIPS I manual, the fields of instructions).
+-- Tiles: which parts of a tree one instruction stands for (Appel, chapter 9; MIPS I manual, the
+-- fields of instructions).
 use Rattle.std.specs.Prelude.{ℕ, zero, suc, ◌+◌, ◌-◌, ◌*◌, ◌/◌, ◌%◌, ◌^◌, ◌==◌, ◌&&◌, ◌||◌, not, nat_lt, nat_le, Bool, true, false, List, [], ◌∷◌, Option, Some, None, refl, if◌then◌else◌}
 use Rattle.tg_tree.specs.declared.operators.Bin.{Bin}
 use Rattle.tg_tree.specs.declared.operators.Bin.TheVariants as bin
@@ -34,8 +35,8 @@ constant to n =
     if n % 65536 == 0 then defining (Lui to (field (n / 65536))) to else
     put (Lui to (field (n / 65536))) >> defining (Ori to to (field n)) to
 
--- Where a load or a store goes, by the operator of its address and the sides: a slot of a frame with so many, some bytes
--- behind the left side, or behind the whole address.
+-- Where a load or a store goes, by the operator of its address and the sides: a slot of a frame
+-- with so many, some bytes behind the left side, or behind the whole address.
 pub data Base : Type 0 where
   OfSlot : ℕ → Base
   BehindLeft : (bytes : ℕ) → Base
@@ -76,9 +77,11 @@ stored_byte _ left whole value = whole >>= (λ b. value >>= (λ v. put (Sb v 0 b
 -- an operator whose right side is a constant: the instruction that has it in its field
 abbrev pub with_field : Bin → (n : ℕ) → (to left : Opnd) → Option Instr
 with_field bin.Add n to x = if is_small n then Some (Addiu to x (field n)) else None
-with_field bin.Sub n to x = if is_small (negated n) then Some (Addiu to x (field (negated n))) else None
+with_field bin.Sub n to x =
+    if is_small (negated n) then Some (Addiu to x (field (negated n))) else None
 with_field bin.AddTrap n to x = if is_small n then Some (Addi to x (field n)) else None
-with_field bin.SubTrap n to x = if is_small (negated n) then Some (Addi to x (field (negated n))) else None
+with_field bin.SubTrap n to x =
+    if is_small (negated n) then Some (Addi to x (field (negated n))) else None
 with_field bin.And n to x = if nat_lt n 65536 then Some (Andi to x (field n)) else None
 with_field bin.Or n to x = if nat_lt n 65536 then Some (Ori to x (field n)) else None
 with_field bin.Xor n to x = if nat_lt n 65536 then Some (Xori to x (field n)) else None

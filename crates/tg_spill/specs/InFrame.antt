@@ -1,5 +1,5 @@
--- Code whose temporaries stand in slots of the frame, each in one of its own: what an instruction uses is loaded before it, and
--- what it defines is stored behind it (Appel, chapter 11).
+-- Code whose temporaries stand in slots of the frame, each in one of its own: what an instruction
+-- uses is loaded before it, and what it defines is stored behind it (Appel, chapter 11).
 use Rattle.std.specs.Prelude.{ℕ, zero, suc, ◌+◌, ◌*◌, ◌≤◌, length, List, [], ◌∷◌, ◌++◌, Option, Some, None}
 use Rattle.tg_instr.specs.declared.operands.Opnd.{Opnd}
 use Rattle.tg_instr.specs.declared.operands.Opnd.TheVariants.{Temp, Reg}
@@ -35,7 +35,8 @@ stored base r None = []
 abbrev pub through_slots : (base : ℕ) → Instr → Named → List Instr
 through_slots base one n =
     loaded base 8 n.first ++ (loaded base 9 n.second
-    ++ (renamed one (through_named 8 n.to) (through_named 8 n.first) (through_named 9 n.second) ∷ stored base 8 n.to))
+    ++ (renamed one (through_named 8 n.to) (through_named 8 n.first) (through_named 9 n.second)
+    ∷ stored base 8 n.to))
 
 -- a move between a slot and a register is a load or a store; one between two slots goes through $t0
 abbrev pub moved : (base : ℕ) → (to from : Opnd) → List Instr

@@ -1,7 +1,8 @@
 use tg_base::ListOf;
 use tg_instr::Allocated;
 
-/// Where a temporary of the code that was handed in stands: in a colour, by its place among the colours, or in a slot.
+/// Where a temporary of the code that was handed in stands: in a colour, by its place among the
+/// colours, or in a slot.
 #[derive(Clone, Copy)]
 pub enum Home {
     Colour(u8),
@@ -11,8 +12,8 @@ pub enum Home {
 /// The homes of temporaries, in the order of their numbers.
 pub type Homes = ListOf<Home>;
 
-/// What an allocation gives: the code over registers with its frame, the home of each temporary, whether all of them
-/// stand in the frame, and how many slots were added.
+/// What an allocation gives: the code over registers with its frame, the home of each temporary,
+/// whether all of them stand in the frame, and how many slots were added.
 #[derive(Drop)]
 pub struct Allocation {
     pub done: Allocated,

@@ -11,7 +11,8 @@ use tg_base::Memory;
 use tg_frame::Frame;
 use tg_instr::{Allocated, Code, Instr, Instrs};
 
-/// The code with every temporary in a slot of its own, above those that the frame has: temporary t in slot `slots + t`.
+/// The code with every temporary in a slot of its own, above those that the frame has: temporary t
+/// in slot `slots + t`.
 pub fn in_frame(alloc: Global, code: &Code, frame: Frame) -> Result<Allocation, Memory>
     requires slots { frame.slots < 16777216 }
     requires temps { code.now.temps < 16777216 }
@@ -26,7 +27,8 @@ pub fn in_frame(alloc: Global, code: &Code, frame: Frame) -> Result<Allocation, 
     ensures homes { IfOk result (λ a. a.registers ≡ homes_from frame.slots code.now.temps) }
     ensures slots { IfOk result (λ a. a.slots ≡ code.now.temps) }
     ensures all { IfOk result (λ a. IsTrue a.all_in_frame) }
-    ensures registers { IfOk result (λ a. IsTrue (list_all (names_registers is_allocated) a.done.code.list)) }
+    ensures registers { IfOk result
+        (λ a. IsTrue (list_all (names_registers is_allocated) a.done.code.list)) }
 {
     let base = frame.slots;
     let list = instructions(alloc, code.list.as_slice(), base, code.temps)?;

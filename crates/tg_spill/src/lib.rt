@@ -1,5 +1,6 @@
-//! Register allocation with every temporary in the frame (Appel, chapter 11): what a function's code is where each
-//! temporary stands in a slot of its own. Promises exactly that code, and homes of all temporaries.
+//! Register allocation with every temporary in the frame (Appel, chapter 11): what a function's
+//! code is where each temporary stands in a slot of its own. Promises exactly that code, and homes
+//! of all temporaries.
 #![tactic(auto)]
 
 mod allocations;

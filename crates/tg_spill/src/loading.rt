@@ -21,7 +21,8 @@ const FIRST: u8 = 8;
 
 const SECOND: u8 = 9;
 
-/// Puts what stands for an instruction at the end of a list, where slot `base + t` is that of the temporary t.
+/// Puts what stands for an instruction at the end of a list, where slot `base + t` is that of the
+/// temporary t.
 pub fn put(list: &mut Vec<Instr>, base: u32, temps: u32, one: &Instr) -> Result<(), Memory>
     requires below { IsTrue (has_temps_below temps one.now) }
     requires fits { base + temps < 2 ^ 32 }
@@ -37,7 +38,8 @@ pub fn put(list: &mut Vec<Instr>, base: u32, temps: u32, one: &Instr) -> Result<
 fn put_through(list: &mut Vec<Instr>, base: u32, temps: u32, one: &Instr) -> Result<(), Memory>
     requires below { IsTrue (has_temps_below temps one.now) }
     requires fits { base + temps < 2 ^ 32 }
-    ensures { OnOk result (list.new.items ≡ list.old.items ++ through_slots base one.now (named one.now)) }
+    ensures { OnOk result
+        (list.new.items ≡ list.old.items ++ through_slots base one.now (named one.now)) }
 {
     let named = one.named();
     load(list, base, temps, FIRST, named.first)?;
