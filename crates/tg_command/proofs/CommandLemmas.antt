@@ -1,28 +1,44 @@
 -- Words ask for one thing at most, and then are no usage fault.
 use Rattle.std.specs.Prelude.{◌==◌, if◌then◌else◌}
-use Rattle.std.proofs.Common.{◌≡◌, ◌∙◌, ℕ, List, [], ◌∷◌, Option, Some, None, refl, sym, ap}
+use Rattle.std.proofs.Common.{◌≡◌, ◌∙◌, ℕ, List, [], ◌∷◌, Option, Some, None, refl, sym, ap, subst}
 use Rattle.std.specs.Option.{unwrap_or}
-use Rattle.tg_command.specs.Counts.{GivesCount}
+use Rattle.tg_command.specs.Counts.{GivesCount, GivesNumber}
 use Rattle.tg_command.specs.declared.counts.Limits.{Limits}
 use Rattle.tg_command.specs.Modes.{name_of}
-use Rattle.tg_command.specs.Commands.{Ask, Asked, IsUsageFault, heap, mode, refused, stack, steps}
+use Rattle.tg_command.specs.Commands.{Ask, Asked, IsUsageFault, heap, mode, number, refused, stack, steps}
 use Rattle.tg_command.specs.declared.modes.Mode.{Mode}
-use Rattle.tg_command.specs.declared.modes.Mode.TheVariants.{Check, Run, Exec}
+use Rattle.tg_command.specs.declared.modes.Mode.TheVariants.{Check, Build, Run, Exec, Gen}
 
 given_once : (limits : Limits) (o : Option (List ℕ)) (m n : ℕ) → GivesCount limits o m → GivesCount limits o n → m ≡ n
 given_once limits None m n p q = p ∙ sym q
 given_once limits (Some text) m n p q = p.value ∙ sym q.value
 
+number_same : (m : Mode) (file : List ℕ) (a b : ℕ) → GivesNumber m file a → GivesNumber m file b → a ≡ b
+number_same Check file a b p q = p ∙ sym q
+number_same Build file a b p q = p ∙ sym q
+number_same Run file a b p q = p ∙ sym q
+number_same Exec file a b p q = p ∙ sym q
+number_same Gen file a b p q = p.value ∙ sym q.value
+
+number_once : (m n : Mode) (f g : List ℕ) (a b : ℕ) → m ≡ n → f ≡ g → GivesNumber m f a → GivesNumber n g b → a ≡ b
+number_once m n f g a b same_mode same_file p q =
+    let P : List ℕ → Type 0 = λ file. GivesNumber m file b in
+    let Q : Mode → Type 0 = λ one. GivesNumber one g b in
+    number_same m f a b p (subst P (sym same_file) (subst Q (sym same_mode) q))
+
 -- the mode of a name, by its first byte
 mode_named : List ℕ → Mode
 mode_named [] = Check
-mode_named (first ∷ rest) = if first == 99 then Check else if first == 114 then Run else Exec
+mode_named (first ∷ rest) =
+    if first == 99 then Check else if first == 98 then Build else if first == 114 then Run else if first == 101 then Exec else Gen
 
 mode_named-name_of : (m : Mode) → mode_named (name_of m) ≡ m
 unfolding mode_named
 mode_named-name_of Check = refl
+mode_named-name_of Build = refl
 mode_named-name_of Run = refl
 mode_named-name_of Exec = refl
+mode_named-name_of Gen = refl
 
 pub name_once : (a b : Mode) → name_of a ≡ name_of b → a ≡ b
 name_once a b e = sym (mode_named-name_of a) ∙ ap mode_named e ∙ mode_named-name_of b
@@ -34,14 +50,21 @@ pub asked_once : (words : List (List ℕ)) (a b : Asked) → Ask words a → Ask
 asked_once words a b p q =
     let modes = name_once a.mode b.mode (some_once _ _ (sym p.mode ∙ q.mode)) in
     let files = some_once a.file b.file (sym p.file ∙ q.file) in
+    let numbers = number_once a.mode b.mode a.file b.file a.number b.number modes files p.number q.number in
     let heaps = given_once _ _ a.heap b.heap p.heap q.heap in
     let stacks = given_once _ _ a.stack b.stack p.stack q.stack in
     let steps = given_once _ _ a.steps b.steps p.steps q.steps in
-    λ i. record { mode = modes i; file = files i; heap = heaps i; stack = stacks i; steps = steps i }
+    λ i. record { mode = modes i; file = files i; number = numbers i; heap = heaps i; stack = stacks i; steps = steps i }
 
 pub asked_no_fault : (words : List (List ℕ)) (a : Asked) → Ask words a → IsUsageFault words → ⊥
 asked_no_fault words a p (refused h) = h p.taken
 asked_no_fault words a p (mode h) = h a.mode p.mode
+asked_no_fault words a p (number m file named given h) =
+    let P : List ℕ → Type 0 = λ f. GivesNumber m f a.number in
+    let Q : Mode → Type 0 = λ one. GivesNumber one a.file a.number in
+    let modes = name_once a.mode m (some_once _ _ (sym p.mode ∙ named)) in
+    let files = some_once a.file file (sym p.file ∙ given) in
+    h a.number (subst P files (subst Q modes p.number))
 asked_no_fault words a p (heap h) = h a.heap p.heap
 asked_no_fault words a p (stack h) = h a.stack p.stack
 asked_no_fault words a p (steps h) = h a.steps p.steps

@@ -1,18 +1,20 @@
 -- What the words of a command line ask for.
 use Rattle.std.specs.Prelude.{◌≡◌, ℕ, List, Some, codes, string_bytes}
-use Rattle.tg_command.specs.Counts.{GivesCount, IsWithin, heap_limits, stack_limits, step_limits}
+use Rattle.tg_command.specs.Counts.{GivesCount, GivesNumber, IsWithin, function_limits, heap_limits, stack_limits, step_limits}
 use Rattle.tg_command.specs.Modes.{name_of}
 use Rattle.tg_command.specs.Simple.{IsTaken, value_of}
 use Rattle.tg_command.specs.declared.Command.{Command}
 use Rattle.tg_command.specs.declared.CommandFault.{CommandFault}
 use Rattle.tg_command.specs.declared.CommandFault.TheVariants.{Usage, Memory}
 use Rattle.tg_command.specs.declared.modes.Mode.{Mode}
+use Rattle.tg_command.specs.declared.modes.Mode.TheVariants.{Gen}
 
--- what a command line can ask for: a mode, a file by its name, the bytes of heap and of stack, and
--- the steps
+-- what a command line can ask for: a mode, a file by its name, the number of functions in `gen`, the
+-- bytes of heap and of stack, and the steps
 pub record Asked : Type 0 where
   pub mode : Mode
   pub file : List ℕ
+  pub number : ℕ
   pub heap : ℕ
   pub stack : ℕ
   pub steps : ℕ
@@ -22,13 +24,15 @@ abbrev pub asked_of : Command → Asked
 asked_of c = record {
   mode = c.mode;
   file = string_bytes c.file;
+  number = c.number;
   heap = c.heap;
   stack = c.stack;
   steps = c.steps;
 }
 
--- its sizes and its steps keep their limits
+-- the number of functions of `gen`, the sizes and the steps keep their limits
 pub record KeepsLimits (a : Asked) : Type 0 where
+  pub number : a.mode ≡ Gen → IsWithin function_limits a.number
   pub heap : IsWithin heap_limits a.heap
   pub stack : IsWithin stack_limits a.stack
   pub steps : IsWithin step_limits a.steps
@@ -38,15 +42,22 @@ pub record Ask (words : List (List ℕ)) (a : Asked) : Type 0 where
   pub taken : IsTaken words
   pub mode : value_of (codes "mode") words ≡ Some (name_of a.mode)
   pub file : value_of (codes "file") words ≡ Some a.file
+  pub number : GivesNumber a.mode a.file a.number
   pub heap : GivesCount heap_limits (value_of (codes "heap") words) a.heap
   pub stack : GivesCount stack_limits (value_of (codes "stack") words) a.stack
   pub steps : GivesCount step_limits (value_of (codes "steps") words) a.steps
 
--- the words ask for nothing: the simple command refuses them, no mode has the name, or a value is
--- no number within its limits
+-- the words ask for nothing: the simple command refuses them, no mode has the name, or a value, in
+-- `gen` FILE too, is no number within its limits
 pub data IsUsageFault (words : List (List ℕ)) : Type 0 where
   refused : (IsTaken words → ⊥) → IsUsageFault words
   mode : ((m : Mode) → value_of (codes "mode") words ≡ Some (name_of m) → ⊥) → IsUsageFault words
+  number :
+      (m : Mode) (file : List ℕ) →
+      value_of (codes "mode") words ≡ Some (name_of m) →
+      value_of (codes "file") words ≡ Some file →
+      ((n : ℕ) → GivesNumber m file n → ⊥) →
+      IsUsageFault words
   heap :
       ((n : ℕ) → GivesCount heap_limits (value_of (codes "heap") words) n → ⊥) →
       IsUsageFault words

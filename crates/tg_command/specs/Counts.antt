@@ -2,6 +2,8 @@
 use Rattle.std.specs.Prelude.{◌≡◌, ℕ, ◌≤◌, ◌%◌, List, length, Option, Some, None}
 use Rattle.std.specs.Str.Parse.{IsNumeral, digits_value}
 use Rattle.tg_command.specs.declared.counts.Limits.{Limits}
+use Rattle.tg_command.specs.declared.modes.Mode.{Mode}
+use Rattle.tg_command.specs.declared.modes.Mode.TheVariants.{Gen}
 
 -- bytes of the heap: a multiple of 4
 abbrev pub heap_limits : Limits
@@ -14,6 +16,10 @@ stack_limits = record { least = 65536; most = 268435456; unit = 4; default = 671
 -- steps of the machine
 abbrev pub step_limits : Limits
 step_limits = record { least = 1; most = 4611686018427387904; unit = 1; default = 1000000000 }
+
+-- functions of a generated program; nothing stands for a number that is absent, since it never is
+abbrev pub function_limits : Limits
+function_limits = record { least = 1; most = 1000; unit = 1; default = 1 }
 
 -- the number keeps the limits
 pub record IsWithin (limits : Limits) (n : ℕ) : Type 0 where
@@ -33,3 +39,8 @@ pub record IsCount (text : List ℕ) (limits : Limits) (n : ℕ) : Type 0 where
 abbrev pub GivesCount : Limits → Option (List ℕ) → ℕ → Type 0
 GivesCount limits None n = n ≡ limits.default
 GivesCount limits (Some text) n = IsCount text limits n
+
+-- a mode takes FILE for this number: `gen` for the one that it spells, any other mode for none
+abbrev pub GivesNumber : Mode → (file : List ℕ) → ℕ → Type 0
+GivesNumber Gen file n = IsCount file function_limits n
+GivesNumber _ file n = n ≡ 0

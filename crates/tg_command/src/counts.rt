@@ -1,5 +1,7 @@
 ghost use Rattle.std.specs.Prelude.{◌≡◌, ◌<◌, ℕ, IfNone, IfSome, option_map};
-ghost use Rattle.tg_command.specs.Counts.{GivesCount, IsCount};
+ghost use Rattle.tg_command.specs.Counts.{GivesCount, GivesNumber, IsCount};
+
+use crate::modes::Mode;
 
 /// The limits of a number: the least and the most, of what it is a multiple, and what stands for it
 /// where it is absent.
@@ -35,6 +37,14 @@ pub(crate) const STEPS: Limits = Limits {
     default: 1_000_000_000,
 };
 
+/// How many functions `gen` makes: the number that stands for FILE, which is never absent.
+pub(crate) const FUNCTIONS: Limits = Limits {
+    least: 1,
+    most: 1000,
+    unit: 1,
+    default: 1,
+};
+
 /// The number that the text spells within the limits.
 pub(crate) fn count(text: &str, limits: Limits) -> Option<u64>
     requires { 0 < limits.unit }
@@ -60,5 +70,17 @@ pub(crate) fn count_or_default(text: Option<&str>, limits: Limits) -> Option<u64
     match text {
         Some(text) => count(text, limits),
         None => Some(limits.default),
+    }
+}
+
+/// The number that a mode takes FILE for: in `gen` the one that it spells within the limits, in
+/// every other mode 0.
+pub(crate) fn number_for(mode: Mode, file: &str) -> Option<u64>
+    ensures some { IfSome result (GivesNumber mode file.now) }
+    ensures none { IfNone result ((n : ℕ) → GivesNumber mode file.now n → ⊥) }
+{
+    match mode {
+        Mode::Gen => count(file, FUNCTIONS),
+        _ => Some(0),
     }
 }

@@ -11,7 +11,7 @@ ghost use Rattle.std.specs.Prelude.{◌≡◌, IfErr, IfOk, IsErr, map, string_b
 ghost use Rattle.tg_command.specs.declared.CommandFault.TheVariants.{Memory};
 ghost use Rattle.tg_command.specs.Commands.{Ask, Blames, IsUsageFault, KeepsLimits, asked_of};
 
-use counts::{HEAP, STACK, STEPS, count_or_default};
+use counts::{HEAP, STACK, STEPS, count_or_default, number_for};
 pub use laws::asks_once;
 pub use modes::Mode;
 use modes::named;
@@ -24,6 +24,8 @@ pub struct Command {
     pub mode: Mode,
     /// The word FILE as it stands, which may be empty.
     pub file: String,
+    /// The number that FILE spells in the mode `gen`, from 1 to 1,000; else 0.
+    pub number: u32,
     /// The size of the heap in bytes: a multiple of 4 from 4 to 268,435,456.
     pub heap: u32,
     /// The size of the stack in bytes: a multiple of 4 from 65,536 to 268,435,456.
@@ -63,12 +65,14 @@ pub fn read_words(alloc: Global, words: &[String]) -> Result<Command, CommandFau
 {
     let values = take_words(alloc, words)?;
     let mode = named(values.mode).ok_or(CommandFault::Usage)?;
+    let number = number_for(mode, values.file).ok_or(CommandFault::Usage)?;
     let heap = count_or_default(values.heap, HEAP).ok_or(CommandFault::Usage)?;
     let stack = count_or_default(values.stack, STACK).ok_or(CommandFault::Usage)?;
     let steps = count_or_default(values.steps, STEPS).ok_or(CommandFault::Usage)?;
     Ok(Command {
         mode,
         file: String::from_str(alloc, values.file)?,
+        number: number as u32,
         heap: heap as u32,
         stack: stack as u32,
         steps,

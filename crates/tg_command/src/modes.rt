@@ -6,10 +6,14 @@ ghost use Rattle.tg_command.specs.Modes.{name_of};
 pub enum Mode {
     /// Refuses or accepts a source.
     Check,
+    /// Compiles a source and writes its assembly text.
+    Build,
     /// Compiles a source and runs it.
     Run,
     /// Assembles a text of assembly and runs it.
     Exec,
+    /// Generates a source of as many functions as FILE says, compiles it and runs it.
+    Gen,
 }
 
 /// The mode of this name, in its one spelling. Here and in `name_of` stand the names of the modes.
@@ -19,8 +23,10 @@ pub(crate) fn named(name: &str) -> Option<Mode>
 {
     match name {
         "check" => Some(Mode::Check),
+        "build" => Some(Mode::Build),
         "run" => Some(Mode::Run),
         "exec" => Some(Mode::Exec),
+        "gen" => Some(Mode::Gen),
         _ => None,
     }
 }

@@ -21,12 +21,14 @@ pub(crate) enum Answer {
     TooLong,
     /// The file can't be read.
     Unreadable,
-    /// The source isn't of the built form.
-    NotBuilt,
     /// Want of memory.
     OutOfMemory,
     /// The source has no fault.
     Accepted,
+    /// The output took the assembly text of the source.
+    Built,
+    /// A write of what is due on the output failed.
+    Unwritten,
     /// The machine ended so.
     Finished(RunEnd),
 }
@@ -38,8 +40,8 @@ pub fn usage() -> &'static str
     "tiger: usage: tiger MODE FILE [--heap BYTES] [--stack BYTES] [--steps COUNT]\n"
 }
 
-/// The line on the error sink of an answer whose line is a text of its own; an accepted source has
-/// none.
+/// The line on the error sink of an answer whose line is a text of its own; an accepted source
+/// and a built one have none.
 pub(crate) fn line(answer: Answer) -> &'static str
     requires { IsFixed answer }
     ensures { result.now ≡ line_of answer }
@@ -48,9 +50,9 @@ pub(crate) fn line(answer: Answer) -> &'static str
         Answer::Usage => usage(),
         Answer::TooLong => "tiger: line 1: A10 file too long\n",
         Answer::Unreadable => "tiger: cannot read file\n",
-        Answer::NotBuilt => "tiger: not built\n",
         Answer::OutOfMemory => "tiger: out of memory\n",
-        Answer::Accepted => "",
+        Answer::Unwritten => "tiger: read or write failed\n",
+        Answer::Accepted | Answer::Built => "",
         Answer::Faulty(_) | Answer::BadLine(_, _) | Answer::Finished(_) => unreachable!(),
     }
 }
@@ -73,9 +75,9 @@ pub(crate) fn status(answer: Answer) -> u8
         Answer::Usage => 64,
         Answer::Faulty(_) | Answer::BadLine(_, _) | Answer::TooLong => 65,
         Answer::Unreadable => 66,
-        Answer::NotBuilt => 69,
         Answer::OutOfMemory => 70,
-        Answer::Accepted => 0,
+        Answer::Unwritten => 74,
+        Answer::Accepted | Answer::Built => 0,
         Answer::Finished(end) => end_status(end),
     }
 }

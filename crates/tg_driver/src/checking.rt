@@ -1,22 +1,14 @@
-ghost use Rattle.std.specs.Prelude.{◌≡◌, ⊤, ℕ, List};
-ghost use Rattle.tg_command.specs.Commands.{asked_of};
-ghost use Rattle.tg_driver.specs.Calls.{shelf_of};
-ghost use Rattle.tg_driver.specs.CheckMode.{IsChecked};
-ghost use Rattle.tg_driver.specs.Found.{IsRefused};
-ghost use Rattle.tg_driver.specs.OfFiles.{OfFile, OrMemory};
-ghost use Rattle.tg_driver.specs.Readings.{IsRefusalOf};
-
 use crate::answers::{Answer, unread};
-use crate::reading::{LONGEST, Refusal, read_source};
+use crate::faults::{Fault, Rule};
+use crate::reading::{LONGEST, NamedProgram, ill_typed, parse_source};
+use crate::refusals::Refusal;
 use std::alloc::Global;
-use tg_base::Shelf;
+use tg_base::{Shelf, place};
 use tg_command::Command;
+use tg_types::check;
 
 /// The answer of the mode `check`.
 pub(crate) fn answer_check<H: Shelf>(alloc: Global, command: &Command, shelf: &mut H) -> Answer
-    ensures due { OrMemory ⊤ (OfFile (shelf_of H.files H.faults shelf.old shelf.new)
-        (asked_of command.now).file 262145 IsChecked) result }
-    ensures files { H.files shelf.new ≡ H.files shelf.old }
 {
     match shelf.read_file(alloc, command.file.as_str(), LONGEST + 1) {
         Ok(text) => check_text(alloc, &text),
@@ -26,20 +18,38 @@ pub(crate) fn answer_check<H: Shelf>(alloc: Global, command: &Command, shelf: &m
 
 /// The answer of a source that is to be checked.
 fn check_text(alloc: Global, text: &[u8]) -> Answer
-    ensures { OrMemory ⊤ (IsChecked text.now) result }
 {
-    match read_source(alloc, text) {
-        Ok(_source) => Answer::Accepted,
-        Err(refusal) => refused(refusal),
+    match parse_source(alloc, text) {
+        Ok(source) => check_program(alloc, text, &source),
+        Err(refusal) => refused(text, refusal),
+    }
+}
+
+/// The answer of the tree of a source that is to be checked.
+fn check_program(alloc: Global, text: &[u8], source: &NamedProgram) -> Answer
+{
+    match check(alloc, &source.program, &source.names) {
+        Ok(_checked) => Answer::Accepted,
+        Err(fault) => refused(text, ill_typed(fault)),
     }
 }
 
 /// The answer of a source that is refused.
-pub(crate) fn refused(refusal: Refusal) -> Answer
-    ensures { (text : List ℕ) → IsRefusalOf text refusal → IsRefused text result }
+pub(crate) fn refused(text: &[u8], refusal: Refusal) -> Answer
 {
     match refusal {
-        Refusal::Fault(fault) => Answer::Faulty(fault),
+        Refusal::Lex { rule, at } => faulty(text, Rule::Lexical(rule), at),
+        Refusal::Syntax { rule, at } => faulty(text, Rule::Syntactic(rule), at),
+        Refusal::Typing { rule, at } => faulty(text, Rule::Typed(rule), at),
         Refusal::Memory => Answer::OutOfMemory,
     }
+}
+
+/// The answer of a source whose first fault stands at a byte.
+fn faulty(text: &[u8], rule: Rule, at: u32) -> Answer
+{
+    Answer::Faulty(Fault {
+        rule,
+        place: place(text, at),
+    })
 }

@@ -69,7 +69,7 @@ fn execute_text<I: Source, O: Sink>(
 }
 
 /// Runs an image on the machine with the sizes and the steps of a command.
-fn execute<I: Source, O: Sink>(
+pub(crate) fn execute<I: Source, O: Sink>(
     alloc: Global,
     command: &Command,
     image: &Image,

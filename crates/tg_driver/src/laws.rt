@@ -8,7 +8,7 @@ ghost use Rattle.tg_driver.specs.declared.answers.Answer.TheVariants.{OutOfMemor
 ghost use Rattle.tg_driver.specs.Answered.{Answers, IsEnded};
 ghost use Rattle.tg_driver.specs.Calls.{Call, Streams};
 ghost use Rattle.tg_driver.specs.Laws.{Gives, IsFaultless, IsGood};
-ghost use Rattle.tg_driver.specs.Meanings.{MeansItsValue, SourcesAreNeverStuck};
+ghost use Rattle.tg_driver.specs.Meanings.{SourcesAreNeverStuck};
 ghost use Rattle.tg_driver.specs.Modes.{IsDueOfText, most_of};
 ghost use Rattle.tg_driver.specs.Runs.{EndsOn, HasRun, IsExact};
 
@@ -51,12 +51,6 @@ pub fn answers_are_complete<H, I, O, E>()
         → IsDueOfText (EndsOn (c.streams.input.told c.streams.input.before)) asked.mode asked
         (take (most_of asked.mode) file) answer
         → Gives c status answer ⊎ Gives c status OutOfMemory }
-{}
-
-/// The law that a program of the built form means what its value says: evaluation ends by it, and
-/// does nothing else.
-pub fn meaning_of_built()
-    ensures { MeansItsValue }
 {}
 
 /// The law that the evaluation of an accepted source is never stuck: it meets no value of the wrong

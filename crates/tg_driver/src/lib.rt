@@ -4,23 +4,27 @@
 #![tactic(auto)]
 
 mod answers;
+mod building;
 mod checking;
+mod compiling;
 mod endings;
 mod executing;
 mod faults;
-mod forms;
+mod generating;
 mod laws;
-mod making;
 mod reading;
+mod refusals;
 mod running;
 mod streams;
 mod telling;
 mod top;
 
 pub use answers::usage;
+pub use compiling::compile;
 pub use laws::{
-    answers_are_complete, answers_are_exact, meaning_of_built, one_answer, runs_are_exact,
-    sources_are_never_stuck,
+    answers_are_complete, answers_are_exact, one_answer, runs_are_exact, sources_are_never_stuck,
 };
+pub use refusals::Refusal;
+pub use tg_compile::Compiled;
 pub use tg_generate::generate;
 pub use top::tiger;

@@ -6,8 +6,10 @@ ghost use Rattle.tg_driver.specs.Modes.{InMode};
 ghost use Rattle.tg_driver.specs.OfFiles.{OrMemory};
 
 use crate::answers::Answer;
+use crate::building::answer_build;
 use crate::checking::answer_check;
 use crate::executing::answer_exec;
+use crate::generating::answer_gen;
 use crate::running::answer_run;
 use crate::streams::Streams;
 use crate::telling::report;
@@ -79,7 +81,30 @@ fn answer_command<H: Shelf, I: Source, O: Sink>(
 {
     match command.mode {
         Mode::Check => answer_check(alloc, command, shelf),
+        Mode::Build => build_to(alloc, command, shelf, streams),
         Mode::Run => answer_run(alloc, command, shelf, streams),
         Mode::Exec => answer_exec(alloc, command, shelf, streams),
+        Mode::Gen => generate_to(alloc, command, streams),
     }
+}
+
+fn build_to<H: Shelf, I: Source, O: Sink>(
+    alloc: Global,
+    command: &Command,
+    shelf: &mut H,
+    streams: Streams<I, O>,
+) -> Answer
+{
+    let Streams { input: _, out } = streams;
+    answer_build(alloc, command, shelf, out)
+}
+
+fn generate_to<I: Source, O: Sink>(
+    alloc: Global,
+    command: &Command,
+    streams: Streams<I, O>,
+) -> Answer
+{
+    let Streams { input: _, out } = streams;
+    answer_gen(alloc, command, out)
 }

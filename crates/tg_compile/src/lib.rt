@@ -1,0 +1,10 @@
+//! The passes between a checked program and its assembly text, one after another (Appel, chapters 6
+//! to 12). Promises the driver a text that stands to the program as the passes' definitions say.
+#![tactic(auto)]
+
+mod bodies;
+mod compiled;
+mod programs;
+
+pub use compiled::Compiled;
+pub use programs::compile_checked;

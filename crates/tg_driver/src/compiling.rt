@@ -1,0 +1,24 @@
+use crate::reading::{NamedProgram, ill_typed, parse_source};
+use crate::refusals::Refusal;
+use std::alloc::Global;
+use tg_compile::{Compiled, compile_checked};
+use tg_types::check;
+
+/// Compiles a source: the code of its functions and its assembly text.
+///
+/// It is refused by its first fault exactly where it has one; `Memory` may come in place of any
+/// answer.
+pub fn compile(alloc: Global, text: &[u8]) -> Result<Compiled, Refusal>
+{
+    let source = parse_source(alloc, text)?;
+    compile_program(alloc, &source)
+}
+
+/// Types the tree of a source and compiles it.
+fn compile_program(alloc: Global, source: &NamedProgram) -> Result<Compiled, Refusal>
+{
+    match check(alloc, &source.program, &source.names) {
+        Ok(checked) => Ok(compile_checked(alloc, &checked)?),
+        Err(fault) => Err(ill_typed(fault)),
+    }
+}
