@@ -1,11 +1,13 @@
 -- Words ask for one thing at most, and then are no usage fault.
-use Rattle.std.specs.Prelude.{◌==◌, if◌then◌else◌}
+use Rattle.std.specs.Prelude.{◌==◌, if◌then◌else◌, Result, Ok, Err, IfErr}
 use Rattle.std.proofs.Common.{◌≡◌, ◌∙◌, ℕ, List, [], ◌∷◌, Option, Some, None, refl, sym, ap, subst}
 use Rattle.std.specs.Option.{unwrap_or}
 use Rattle.tg_command.specs.Counts.{GivesCount, GivesNumber}
 use Rattle.tg_command.specs.declared.counts.Limits.{Limits}
 use Rattle.tg_command.specs.Modes.{name_of}
-use Rattle.tg_command.specs.Commands.{Ask, Asked, IsUsageFault, heap, mode, number, refused, stack, steps}
+use Rattle.tg_command.specs.declared.CommandFault.{CommandFault}
+use Rattle.tg_command.specs.declared.CommandFault.TheVariants.{Usage, Memory}
+use Rattle.tg_command.specs.Commands.{Ask, Asked, Blames, IsUsageFault, heap, mode, number, refused, stack, steps}
 use Rattle.tg_command.specs.declared.modes.Mode.{Mode}
 use Rattle.tg_command.specs.declared.modes.Mode.TheVariants.{Check, Build, Run, Exec, Gen}
 
@@ -68,3 +70,9 @@ asked_no_fault words a p (number m file named given h) =
 asked_no_fault words a p (heap h) = h a.heap p.heap
 asked_no_fault words a p (stack h) = h a.stack p.stack
 asked_no_fault words a p (steps h) = h a.steps p.steps
+
+-- words that have a usage fault are blamed by every error
+pub all_blamed : {T : Type 0} (r : Result T CommandFault) (words : List (List ℕ)) → IsUsageFault words → IfErr r (λ fault. Blames fault words)
+all_blamed (Ok t) words h = tt
+all_blamed (Err Usage) words h = h
+all_blamed (Err Memory) words h = tt

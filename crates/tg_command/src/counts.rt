@@ -1,6 +1,7 @@
-ghost use Rattle.std.specs.Prelude.{◌≡◌, ◌<◌, ℕ, IfNone, IfSome, option_map};
+ghost use Rattle.std.specs.Prelude.{◌≡◌, ◌<◌, ℕ, IfErr, IfNone, IfOk, IfSome, option_map};
 ghost use Rattle.tg_command.specs.Counts.{GivesCount, GivesNumber, IsCount};
 
+use crate::CommandFault;
 use crate::modes::Mode;
 
 /// The limits of a number: the least and the most, of what it is a multiple, and what stands for it
@@ -73,14 +74,17 @@ pub(crate) fn count_or_default(text: Option<&str>, limits: Limits) -> Option<u64
     }
 }
 
-/// The number that a mode takes FILE for: in `gen` the one that it spells within the limits, in
-/// every other mode 0.
-pub(crate) fn number_for(mode: Mode, file: &str) -> Option<u64>
-    ensures some { IfSome result (GivesNumber mode file.now) }
-    ensures none { IfNone result ((n : ℕ) → GivesNumber mode file.now n → ⊥) }
+/// The number that a mode takes FILE for: in `gen` the one that it spells within the limits, else a
+/// usage fault; in every other mode 0.
+pub(crate) fn number_for(mode: Mode, file: &str) -> Result<u64, CommandFault>
+    ensures ok { IfOk result (GivesNumber mode file.now) }
+    ensures usage { IfErr result (λ _. (n : ℕ) → GivesNumber mode file.now n → ⊥) }
 {
     match mode {
-        Mode::Gen => count(file, FUNCTIONS),
-        _ => Some(0),
+        Mode::Gen => match count(file, FUNCTIONS) {
+            Some(number) => Ok(number),
+            None => Err(CommandFault::Usage),
+        },
+        _ => Ok(0),
     }
 }

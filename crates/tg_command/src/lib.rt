@@ -65,7 +65,7 @@ pub fn read_words(alloc: Global, words: &[String]) -> Result<Command, CommandFau
 {
     let values = take_words(alloc, words)?;
     let mode = named(values.mode).ok_or(CommandFault::Usage)?;
-    let number = number_for(mode, values.file).ok_or(CommandFault::Usage)?;
+    let number = number_for(mode, values.file)?;
     let heap = count_or_default(values.heap, HEAP).ok_or(CommandFault::Usage)?;
     let stack = count_or_default(values.stack, STACK).ok_or(CommandFault::Usage)?;
     let steps = count_or_default(values.steps, STEPS).ok_or(CommandFault::Usage)?;
