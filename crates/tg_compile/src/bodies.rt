@@ -1,6 +1,11 @@
+ghost use Rattle.std.specs.Prelude.{◌≡◌, IfOk, OnOk};
+ghost use Rattle.tg_tree.specs.Plain.{plain_fragment};
+ghost use Rattle.tg_compile.specs.Compiling.{CompilesFunction};
+
 use std::alloc::Global;
 use tg_base::Memory;
 use tg_canon::linearize;
+use tg_conditions::can_stand_in_frame;
 use tg_frame::Frame;
 use tg_instr::Code;
 use tg_munch::munch;
@@ -9,21 +14,33 @@ use tg_trace::{blocks, trace};
 use tg_tree::{Fragment, Linear, Ts};
 
 /// The code of a function over registers, with each temporary in its frame.
-pub(crate) fn compile_function(alloc: Global, one: Fragment) -> Result<Allocation, Memory> {
+pub(crate) fn compile_function(alloc: Global, one: Fragment) -> Result<Allocation, Memory>
+    ensures { IfOk result (λ a. CompilesFunction (plain_fragment one) a.done) }
+{
     let Fragment { frame, body } = one;
     let mut frame = frame;
     let code = choose(alloc, &mut frame, body)?;
-    in_frame(alloc, &code, frame)
+    if !can_stand_in_frame(&code, &frame) {
+        return Err(Memory);
+    }
+    Ok(in_frame(alloc, &code, frame)?)
 }
 
 /// The instructions of a body.
-fn choose(alloc: Global, frame: &mut Frame, body: Ts) -> Result<Code, Memory> {
+fn choose(alloc: Global, frame: &mut Frame, body: Ts) -> Result<Code, Memory>
+    ensures label { OnOk result (frame.new.label ≡ frame.old.label) }
+    ensures params { OnOk result (frame.new.params ≡ frame.old.params) }
+{
     let flat = flatten(alloc, frame, body)?;
-    munch(alloc, &flat, frame)
+    Ok(munch(alloc, &flat, frame)?)
 }
 
 /// The flat code of a body: canonical statements, cut into blocks and laid in traces.
-fn flatten(alloc: Global, frame: &mut Frame, body: Ts) -> Result<Vec<Linear>, Memory> {
+fn flatten(alloc: Global, frame: &mut Frame, body: Ts) -> Result<Vec<Linear>, Memory>
+    ensures label { OnOk result (frame.new.label ≡ frame.old.label) }
+    ensures params { OnOk result (frame.new.params ≡ frame.old.params) }
+{
     let statements = linearize(alloc, frame, body)?;
-    trace(alloc, blocks(alloc, statements)?)
+    let cut = blocks(alloc, statements)?;
+    Ok(trace(alloc, cut)?)
 }

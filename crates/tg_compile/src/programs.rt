@@ -1,7 +1,17 @@
+ghost use Rattle.std.specs.Prelude.{◌≡◌, IfOk, map, IsTrue};
+ghost use Rattle.std.specs.List.{list_all};
+ghost use Rattle.tg_syntax.specs.Plain.{plain};
+ghost use Rattle.tg_tree.specs.Tree.{Code, Ts as PlainTs};
+ghost use Rattle.tg_tree.specs.Plain.{plain_fragment, plain_fragments};
+ghost use Rattle.tg_emit.specs.Lines.{assembly_of};
+ghost use Rattle.tg_emit.specs.Text.{text_of};
+ghost use Rattle.tg_compile.specs.Compiling.{CompileFunctions, Compiles, with_runtime};
+
 use crate::bodies::compile_function;
 use crate::compiled::Compiled;
 use std::alloc::Global;
 use tg_base::Memory;
+use tg_conditions::are_emittable;
 use tg_emit::{emit, text};
 use tg_escape::escapes;
 use tg_instr::Allocated;
@@ -19,22 +29,30 @@ struct Placement {
     slots: u32,
 }
 
+/// Compiled functions: their codes, and where the temporaries of each stand.
+#[derive(Drop)]
+struct Functions {
+    codes: Vec<Allocated>,
+    placements: Vec<Placement>,
+}
+
 /// Compiles a program that has no fault: its functions and the runtime's become assembly text.
-pub fn compile_checked(alloc: Global, checked: &Checked) -> Result<Compiled, Memory> {
-    let program = fragments(alloc, checked)?;
-    let mut functions = Vec::new(alloc);
-    let mut placements = Vec::new(alloc);
-    let Fragments { functions: bodies, literals } = program;
-    compile_functions(alloc, bodies, &mut functions, &mut placements)?;
-    let written = write(alloc, &functions, &literals)?;
+pub fn compile_checked(alloc: Global, checked: &Checked) -> Result<Compiled, Memory>
+    ensures { IfOk result (λ c. Compiles (plain checked.now.program.body) c.text.items) }
+{
+    let Fragments { functions: bodies, literals } = fragments(alloc, checked)?;
+    let functions = compile_functions(alloc, bodies)?;
+    let written = write(alloc, &functions.codes, &literals)?;
     Ok(Compiled {
-        allocations: join(alloc, functions, placements)?,
+        allocations: join(alloc, functions)?,
         text: written,
     })
 }
 
 /// The functions and literals of a program, and behind them the runtime's.
-fn fragments(alloc: Global, checked: &Checked) -> Result<Fragments, Memory> {
+fn fragments(alloc: Global, checked: &Checked) -> Result<Fragments, Memory>
+    ensures { IfOk result (λ f. (tree : Code PlainTs) × (plain_fragments f ≡ with_runtime tree)) }
+{
     let escaping = escapes(alloc, checked)?;
     let mut program = translate(alloc, checked, &escaping)?;
     let mut below = runtime(alloc)?;
@@ -43,38 +61,37 @@ fn fragments(alloc: Global, checked: &Checked) -> Result<Fragments, Memory> {
     Ok(program)
 }
 
-/// Compiles functions one after another: their code, and where their temporaries stand.
-fn compile_functions(
-    alloc: Global,
-    bodies: Vec<Fragment>,
-    functions: &mut Vec<Allocated>,
-    placements: &mut Vec<Placement>,
-) -> Result<(), Memory> {
+/// Compiles functions one after another.
+fn compile_functions(alloc: Global, bodies: Vec<Fragment>) -> Result<Functions, Memory>
+    ensures { IfOk result
+        (λ f. CompileFunctions (map plain_fragment bodies.items) f.codes.items) }
+{
+    let mut codes = Vec::new(alloc);
+    let mut placements = Vec::new(alloc);
     for one in bodies {
         let Allocation { done, registers, all_in_frame, slots } = compile_function(alloc, one)?;
-        functions.push(done)?;
+        codes.push(done)?;
         placements.push(Placement { registers, all_in_frame, slots })?;
     }
-    Ok(())
+    Ok(Functions { codes, placements })
 }
 
 /// The assembly text of functions and literals.
-fn write(
-    alloc: Global,
-    functions: &[Allocated],
-    literals: &[Literal],
-) -> Result<Vec<u8>, Memory> {
-    text(alloc, &emit(alloc, functions, literals)?)
+fn write(alloc: Global, codes: &[Allocated], literals: &[Literal]) -> Result<Vec<u8>, Memory>
+    ensures { IfOk result (λ t. t.items ≡ text_of (assembly_of codes.now literals.now)) }
+{
+    if !are_emittable(codes) {
+        return Err(Memory);
+    }
+    let assembly = emit(alloc, codes, literals)?;
+    Ok(text(alloc, &assembly)?)
 }
 
-/// Allocations of their code and their placements.
-fn join(
-    alloc: Global,
-    functions: Vec<Allocated>,
-    placements: Vec<Placement>,
-) -> Result<Vec<Allocation>, Memory> {
+/// The allocations of compiled functions.
+fn join(alloc: Global, functions: Functions) -> Result<Vec<Allocation>, Memory> {
+    let Functions { codes, placements } = functions;
     let mut all = Vec::new(alloc);
-    for (done, placement) in functions.into_iter().zip(placements) {
+    for (done, placement) in codes.into_iter().zip(placements) {
         let Placement { registers, all_in_frame, slots } = placement;
         all.push(Allocation { done, registers, all_in_frame, slots })?;
     }

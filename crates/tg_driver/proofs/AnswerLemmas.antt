@@ -8,24 +8,24 @@ use Rattle.tg_base.specs.Files.{IsFrontOf}
 use Rattle.tg_isa.specs.declared.images.Image.{Image}
 use Rattle.tg_isa.specs.Assembly.{assembled}
 use Rattle.tg_asm.specs.Images.{image_of}
-use Rattle.tg_syntax.specs.Tree.{Exp}
 use Rattle.tg_command.specs.declared.modes.Mode.{Mode}
-use Rattle.tg_command.specs.declared.modes.Mode.TheVariants.{Check, Run, Exec}
+use Rattle.tg_command.specs.declared.modes.Mode.TheVariants.{Check, Build, Run, Exec, Gen}
 use Rattle.tg_command.specs.Commands.{Asked, Ask}
 use Rattle.tg_driver.specs.declared.answers.Answer.{Answer}
-use Rattle.tg_driver.specs.declared.answers.Answer.TheVariants.{Usage, Unreadable, Faulty, BadLine, TooLong, Accepted, NotBuilt, OutOfMemory, Finished}
-use Rattle.tg_driver.specs.BuiltForm.{IsBuilt}
-use Rattle.tg_driver.specs.BuiltRuns.{Runs}
-use Rattle.tg_driver.specs.Calls.{Stream, Streams, Untouched, Shelved, IsUnread, Call}
-use Rattle.tg_driver.specs.OfFiles.{OfFile, unreadable, read, OrMemory, unread_answer, UntouchedBeforeRun}
+use Rattle.tg_driver.specs.declared.answers.Answer.TheVariants.{Usage, Unreadable, Faulty, BadLine, TooLong, Accepted, Built, Unwritten, OutOfMemory, Finished}
+use Rattle.tg_driver.specs.Builds.{RunRelation, Builds, RunsAssembled, EndsBuilt}
+use Rattle.tg_driver.specs.Calls.{Stream, Streams, Stays, Untouched, Shelved, IsUnread, Call, Takes}
+use Rattle.tg_driver.specs.OfFiles.{OfFile, unreadable, read, OrMemory, unread_answer, HasStarted, StaysBeforeStart, UntouchedBeforeStart}
 use Rattle.tg_driver.specs.Found.{IsRefused}
-use Rattle.tg_driver.specs.Readings.{IsNamedSource}
+use Rattle.tg_driver.specs.Readings.{IsRefusalOf}
 use Rattle.tg_driver.specs.Runs.{HasRun, IsRunOrMemory}
 use Rattle.tg_driver.specs.CheckMode.{IsChecked, ByCheck}
-use Rattle.tg_driver.specs.RunMode.{EndsBuilt, IsRun, ByRun}
+use Rattle.tg_driver.specs.BuildMode.{WritesBuilt, IsBuilt, ByBuild}
+use Rattle.tg_driver.specs.RunMode.{EndsAssembled, IsRun, ByRun}
+use Rattle.tg_driver.specs.GenMode.{SumsUp, SumsUpRun, SumsUpBuilt, IsGenerated, ByGen}
 use Rattle.tg_driver.specs.ExecMode.{IsExecuted, ByExec}
 use Rattle.tg_driver.specs.Modes.{InMode}
-use Rattle.tg_driver.specs.Telling.{IsBeforeRun, IsReported, itself, no_memory}
+use Rattle.tg_driver.specs.Telling.{IsBeforeStart, IsReported, itself, no_memory}
 use Rattle.tg_driver.specs.Answered.{IsDue, usage, asked, Answers}
 use Rattle.tg_driver.specs.Answered as answered
 
@@ -44,19 +44,62 @@ checked_of_refused text (Faulty f) r = r
 checked_of_refused text OutOfMemory r = tt
 checked_of_refused text _ r = absurd r
 
-pub run_of_refused : (a : Asked) (text : List ℕ) (answer : Answer) → IsRefused text answer → OrMemory (Unit {0}) (IsRun a text) answer
-run_of_refused a text (Faulty f) r = r
-run_of_refused a text OutOfMemory r = tt
-run_of_refused a text _ r = absurd r
+pub built_of_refused : {O : Type 0} (out : Stream O) (text : List ℕ) (answer : Answer) → IsRefused text answer → OrMemory (Unit {0}) (IsBuilt out text) answer
+built_of_refused out text (Faulty f) r = r
+built_of_refused out text OutOfMemory r = tt
+built_of_refused out text _ r = absurd r
 
--- a run of a built program
-pub ends_built : (a : Asked) (text : List ℕ) (names : List (List ℕ)) (program : Exp) (end : RunEnd) → IsNamedSource text names program → IsBuilt names program → Runs program a.heap a.stack a.steps end → EndsBuilt a text end
-ends_built a text names program end s b r =
-    record {
-      program = program;
-      built = record { names = names; tokens = s.tokens; source = s.source; built = b };
-      runs = r names b.calls_exit;
-    }
+pub run_of_refused : (runs : RunRelation) (a : Asked) (text : List ℕ) (answer : Answer) → IsRefused text answer → OrMemory (Unit {0}) (IsRun runs a text) answer
+run_of_refused runs a text (Faulty f) r = r
+run_of_refused runs a text OutOfMemory r = tt
+run_of_refused runs a text _ r = absurd r
+
+-- a refusal leaves the streams alone
+pub refused_stays : {T : Type 0} (out : Stream T) (text : List ℕ) (answer : Answer) → IsRefused text answer → Stays out → StaysBeforeStart out answer
+refused_stays out text (Faulty f) r h = h
+refused_stays out text OutOfMemory r h = h
+refused_stays out text _ r h = absurd r
+
+pub refused_untouched : {I O : Type 0} (s : Streams I O) (text : List ℕ) (answer : Answer) → IsRefused text answer → Untouched s → UntouchedBeforeStart s answer
+refused_untouched s text (Faulty f) r h = h
+refused_untouched s text OutOfMemory r h = h
+refused_untouched s text _ r h = absurd r
+
+-- a sink took an assembly text, or failed
+pub written : {O : Type 0} (out : Stream O) (text assembly : List ℕ) (answer : Answer) → Builds text assembly → Takes out assembly Built Unwritten answer → HasStarted answer → OrMemory (Unit {0}) (IsBuilt out text) answer
+written out text assembly Built b t h = record { assembly = assembly; builds = b; takes = t }
+written out text assembly Unwritten b t h = record { assembly = assembly; builds = b; takes = t }
+written out text assembly (Finished end) b (all is a) h = absurd (cc)
+written out text assembly (Finished end) b (part is p f t) h = absurd (cc)
+written out text assembly _ b t h = absurd h
+
+pub started_stays : {T : Type 0} (out : Stream T) (answer : Answer) → HasStarted answer → StaysBeforeStart out answer
+started_stays out (Finished end) h = tt
+started_stays out Built h = tt
+started_stays out Unwritten h = tt
+started_stays out _ h = absurd h
+
+-- a run of what a source is built to
+pub ends_built : (runs : RunRelation) (a : Asked) (text assembly : List ℕ) (answer : Answer) → Builds text assembly → EndsAssembled runs assembly a.heap a.stack a.steps answer → OrMemory (Unit {0}) (IsRun runs a text) answer
+ends_built runs a text assembly (Finished end) b r = record { assembly = assembly; builds = b; ran = r }
+ends_built runs a text assembly OutOfMemory b r = tt
+ends_built runs a text assembly _ b r = absurd r
+
+pub assembled_run : {I O : Type 0} (s : Streams I O) (assembly : List ℕ) (image : Image) (heap stack steps : ℕ) (answer : Answer) → assembled assembly ≡ Ok (image_of image) → IsRunOrMemory s image heap stack steps answer → EndsAssembled (HasRun s) assembly heap stack steps answer
+assembled_run s assembly image heap stack steps (Finished end) is run = record { image = image; assembles = is; run = run }
+assembled_run s assembly image heap stack steps OutOfMemory is run = tt
+assembled_run s assembly image heap stack steps _ is run = absurd run
+
+-- a run of what a generated source is built to, and its summary
+pub sums_up_built : {O : Type 0} (out : Stream O) (functions : ℕ) (text assembly : List ℕ) (image : Image) (heap stack steps : ℕ) (answer : Answer) → Builds text assembly → assembled assembly ≡ Ok (image_of image) → OrMemory (Unit {0}) (SumsUpRun out functions (length text) image heap stack steps) answer → OrMemory (Unit {0}) (SumsUpBuilt out functions text heap stack steps) answer
+sums_up_built out functions text assembly image heap stack steps OutOfMemory b is h = tt
+sums_up_built out functions text assembly image heap stack steps _ b is h =
+    record { end = h.end; ends = record { assembly = assembly; builds = b; ran = record { image = image; assembles = is; run = h.sums_up } } }
+
+pub in_number : {O : Type 0} (out : Stream O) (functions : ℕ) (text other : List ℕ) (heap stack steps : ℕ) (answer : Answer) → text ≡ other → OrMemory (Unit {0}) (SumsUpBuilt out functions text heap stack steps) answer → OrMemory (Unit {0}) (SumsUpBuilt out functions other heap stack steps) answer
+in_number out functions text other heap stack steps answer is h =
+    let P : List ℕ → Type 0 = λ t. OrMemory (Unit {0}) (SumsUpBuilt out functions t heap stack steps) answer in
+    subst P is h
 
 -- a run of an image that was assembled
 pub executed : {I O : Type 0} (s : Streams I O) (a : Asked) (text : List ℕ) (image : Image) (answer : Answer) → length text ≤ 67108864 → assembled text ≡ Ok (image_of image) → IsRunOrMemory s image a.heap a.stack a.steps answer → OrMemory (Unit {0}) (IsExecuted (HasRun s) a text) answer
@@ -64,7 +107,7 @@ executed s a text image (Finished end) short is run = record { short = short; im
 executed s a text image OutOfMemory short is run = tt
 executed s a text image _ short is run = absurd run
 
-pub executed_untouched : {I O : Type 0} (s : Streams I O) (image : Image) (heap stack steps : ℕ) (answer : Answer) → IsRunOrMemory s image heap stack steps answer → UntouchedBeforeRun s answer
+pub executed_untouched : {I O : Type 0} (s : Streams I O) (image : Image) (heap stack steps : ℕ) (answer : Answer) → IsRunOrMemory s image heap stack steps answer → UntouchedBeforeStart s answer
 executed_untouched s image heap stack steps (Finished end) run = tt
 executed_untouched s image heap stack steps OutOfMemory run = run
 executed_untouched s image heap stack steps _ run = absurd run
@@ -74,11 +117,26 @@ pub by_check : {H I O : Type 0} (shelf : Shelved H) (s : Streams I O) (a : Asked
 by_check shelf s a OutOfMemory u h = u
 by_check shelf s a _ u h = (u, h)
 
-pub by_run : {H I O : Type 0} (shelf : Shelved H) (s : Streams I O) (a : Asked) (answer : Answer) → Untouched s → OrMemory (Unit {0}) (OfFile shelf a.file 262145 (IsRun a)) answer → OrMemory (Untouched s) (ByRun shelf s a) answer
+-- a sink that stays, and a source that does, are streams that do
+before_start : {I O : Type 0} (s : Streams I O) (answer : Answer) → Stays s.input → StaysBeforeStart s.out answer → UntouchedBeforeStart s answer
+before_start s (Finished end) i o = tt
+before_start s Built i o = tt
+before_start s Unwritten i o = tt
+before_start s _ i o = (i, o)
+
+pub by_build : {H I O : Type 0} (shelf : Shelved H) (s : Streams I O) (a : Asked) (answer : Answer) → Stays s.input → StaysBeforeStart s.out answer → OrMemory (Unit {0}) (OfFile shelf a.file 262145 (IsBuilt s.out)) answer → OrMemory (Untouched s) (ByBuild shelf s a) answer
+by_build shelf s a OutOfMemory i o h = (i, o)
+by_build shelf s a answer i o h = (i, before_start s answer i o, h)
+
+pub by_gen : {H I O : Type 0} (shelf : Shelved H) (s : Streams I O) (a : Asked) (answer : Answer) → shelf.after ≡ shelf.before → Stays s.input → StaysBeforeStart s.out answer → OrMemory (Unit {0}) (IsGenerated s.out a) answer → OrMemory (Untouched s) (ByGen shelf s a) answer
+by_gen shelf s a OutOfMemory same i o h = (i, o)
+by_gen shelf s a answer same i o h = (same, i, before_start s answer i o, h)
+
+pub by_run : {H I O : Type 0} (shelf : Shelved H) (s : Streams I O) (a : Asked) (answer : Answer) → UntouchedBeforeStart s answer → OrMemory (Unit {0}) (OfFile shelf a.file 262145 (IsRun (HasRun s) a)) answer → OrMemory (Untouched s) (ByRun shelf s a) answer
 by_run shelf s a OutOfMemory u h = u
 by_run shelf s a _ u h = (u, h)
 
-pub by_exec : {H I O : Type 0} (shelf : Shelved H) (s : Streams I O) (a : Asked) (answer : Answer) → UntouchedBeforeRun s answer → OrMemory (Unit {0}) (OfFile shelf a.file 67108865 (IsExecuted (HasRun s) a)) answer → OrMemory (Untouched s) (ByExec shelf s a) answer
+pub by_exec : {H I O : Type 0} (shelf : Shelved H) (s : Streams I O) (a : Asked) (answer : Answer) → UntouchedBeforeStart s answer → OrMemory (Unit {0}) (OfFile shelf a.file 67108865 (IsExecuted (HasRun s) a)) answer → OrMemory (Untouched s) (ByExec shelf s a) answer
 by_exec shelf s a OutOfMemory u h = u
 by_exec shelf s a _ u h = (u, h)
 
@@ -87,14 +145,21 @@ pub due_of_mode : {H I O : Type 0} (words : List (List ℕ)) (shelf : Shelved H)
 due_of_mode words shelf s a OutOfMemory ask h = answered.no_memory refl h
 due_of_mode words shelf s a _ ask h = asked a ask h
 
--- before a run nothing was touched
-left_in : {H I O : Type 0} (mode : Mode) (shelf : Shelved H) (s : Streams I O) (a : Asked) (answer : Answer) → IsBeforeRun answer → InMode mode shelf s a answer → Untouched s
-left_in Check shelf s a answer b h = h.0
-left_in Run shelf s a answer b h = h.0
-left_in Exec shelf s a (Finished end) b h = absurd b
-left_in Exec shelf s a _ b h = h.0
+-- before that nothing was touched
+untouched : {I O : Type 0} (s : Streams I O) (answer : Answer) → IsBeforeStart answer → UntouchedBeforeStart s answer → Untouched s
+untouched s (Finished end) b u = absurd b
+untouched s Built b u = absurd b
+untouched s Unwritten b u = absurd b
+untouched s _ b u = u
 
-left_alone : {H I O : Type 0} (words : List (List ℕ)) (shelf : Shelved H) (s : Streams I O) (answer : Answer) → IsBeforeRun answer → IsDue words shelf s answer → Untouched s
+left_in : {H I O : Type 0} (mode : Mode) (shelf : Shelved H) (s : Streams I O) (a : Asked) (answer : Answer) → IsBeforeStart answer → InMode mode shelf s a answer → Untouched s
+left_in Check shelf s a answer b h = h.0
+left_in Build shelf s a answer b h = untouched s answer b h.1
+left_in Run shelf s a answer b h = untouched s answer b h.0
+left_in Exec shelf s a answer b h = untouched s answer b h.0
+left_in Gen shelf s a answer b h = untouched s answer b h.2
+
+left_alone : {H I O : Type 0} (words : List (List ℕ)) (shelf : Shelved H) (s : Streams I O) (answer : Answer) → IsBeforeStart answer → IsDue words shelf s answer → Untouched s
 left_alone words shelf s answer b (usage is fault same u) = u
 left_alone words shelf s answer b (answered.no_memory is u) = u
 left_alone words shelf s answer b (asked a ask h) = left_in a.mode shelf s a answer b h

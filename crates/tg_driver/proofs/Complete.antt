@@ -1,21 +1,31 @@
--- Good words for a file that is there, with no fault of a count, are answered as the text determines, or by want of memory.
-use Rattle.std.proofs.Common.{ℕ, ◌≡◌, ◌⊎◌, inl, inr, List, Option, Some, None, take, refl, sym, ap, subst, ◌∙◌}
+-- Good words for a file that is there, with no fault of a count, are answered as text and input settle, or by want of memory.
+use Rattle.std.proofs.Common.{ℕ, ◌≡◌, ◌≤◌, ◌⊎◌, inl, inr, List, [], length, Option, Some, None, take, refl, sym, ap, subst, ◌∙◌, arith}
+use Rattle.tg_base.specs.Causes.{Rose}
 use Rattle.tg_base.specs.Files.{Files, IsFrontOf}
+use Rattle.tg_base.specs.declared.ends.RunEnd.{RunEnd}
+use Rattle.tg_base.specs.declared.ends.RunEnd.TheVariants.{Exit, Break, Overflow, HeapFull, StackFull, StepLimit, BadAddress, Unaligned, BadWord, BadService, ReadFault, WriteFault}
+use Rattle.tg_isa.specs.declared.images.Image.{Image}
+use Rattle.tg_generate.specs.Generated.{generated}
 use Rattle.tg_command.specs.declared.modes.Mode.{Mode}
-use Rattle.tg_command.specs.declared.modes.Mode.TheVariants.{Check, Run, Exec}
+use Rattle.tg_command.specs.declared.modes.Mode.TheVariants.{Check, Build, Run, Exec, Gen}
 use Rattle.tg_command.specs.Commands.{Asked, Ask}
 use Rattle.tg_command.proofs.CommandLemmas.{asked_once, asked_no_fault}
 use Rattle.tg_driver.specs.declared.answers.Answer.{Answer}
-use Rattle.tg_driver.specs.declared.answers.Answer.TheVariants.{OutOfMemory}
-use Rattle.tg_driver.specs.Calls.{Streams, Shelved, IsUnread, Call, all, part}
+use Rattle.tg_driver.specs.declared.answers.Answer.TheVariants.{Faulty, BadLine, TooLong, Built, Unwritten, Finished, OutOfMemory}
+use Rattle.tg_driver.specs.Calls.{Stream, stream_of, HasFailed, Streams, Shelved, IsUnread, Call, Takes, all, part}
 use Rattle.tg_driver.specs.OfFiles.{OfFile, unreadable, read}
-use Rattle.tg_driver.specs.Runs.{HasRun, EndsOn}
-use Rattle.tg_driver.specs.Modes.{InMode, IsDueOfText, most_of}
+use Rattle.tg_driver.specs.Builds.{RunRelation, EndsBuilt}
+use Rattle.tg_driver.specs.Runs.{HasRun}
+use Rattle.tg_driver.specs.BuildMode.{WritesBuilt, IsBuilt}
+use Rattle.tg_driver.specs.RunMode.{IsRun}
+use Rattle.tg_driver.specs.ExecMode.{IsExecuted}
+use Rattle.tg_driver.specs.GenMode.{no_input, TakesSummary, SumsUp, IsGenerated}
+use Rattle.tg_driver.specs.Modes.{InMode, most_of}
 use Rattle.tg_driver.specs.Telling.{IsTold}
 use Rattle.tg_driver.specs.Answered.{IsDue, usage, no_memory, asked, Answers}
-use Rattle.tg_driver.specs.Laws.{IsFaultless, HoldsFile, IsGood, Gives}
-use Rattle.tg_driver.proofs.ExactRuns.{ends_as_told}
-use Rattle.tg_driver.proofs.ModesOnce.{due_once}
+use Rattle.tg_driver.specs.Laws.{HoldsFile, ReadsFile, IsGood, Gives, EndsAsTold, IsFaultyOrBuilt, EndsGenerated, Settles, IsSettled}
+use Rattle.tg_driver.proofs.ExactRuns.{ends_as_told, ends_faultless}
+use Rattle.tg_driver.proofs.SourcesOnce.{built_source}
 
 -- the front of a file that the shelf holds
 front_is : (files : Files) (name : List ℕ) (most : ℕ) (text file : List ℕ) (at : List ℕ → Option (List ℕ)) → files ≡ Some at → at name ≡ Some file → IsFrontOf files name most text → text ≡ take most file
@@ -27,34 +37,116 @@ front_is files name most text file at tells holds front =
     held at front holds = rw holds at front
 
 -- the answer to the text of the file, where that can be read
-of_mode : {H I O : Type 0} (mode : Mode) (shelf : Shelved H) (s : Streams I O) (a : Asked) (answer : Answer) → InMode mode shelf s a answer → OfFile shelf a.file (most_of mode) (IsDueOfText (HasRun s) mode a) answer
-of_mode Check shelf s a answer h = h.1
-of_mode Run shelf s a answer h = h.1
-of_mode Exec shelf s a answer h = h.1
+to_text : {H : Type 0} (shelf : Shelved H) (name : List ℕ) (most : ℕ) (due : List ℕ → Answer → Type 0) (file : List ℕ) (answer : Answer) → HoldsFile shelf name file → (IsUnread shelf name → ⊥) → OfFile shelf name most due answer → due (take most file) answer
+to_text shelf name most due file answer there readable (unreadable is u) = absurd (readable u)
+to_text shelf name most due file answer there readable (read text front h) =
+    let P : List ℕ → Type 0 = λ t. due t answer in
+    subst P (front_is _ name most text file there.at there.tells there.holds front) h
 
-to_text : {H I O : Type 0} (mode : Mode) (shelf : Shelved H) (s : Streams I O) (a : Asked) (file : List ℕ) (answer : Answer) → HoldsFile shelf a.file file → (IsUnread shelf a.file → ⊥) → OfFile shelf a.file (most_of mode) (IsDueOfText (HasRun s) mode a) answer → IsDueOfText (HasRun s) mode a (take (most_of mode) file) answer
-to_text mode shelf s a file answer there readable (unreadable is u) = absurd (readable u)
-to_text mode shelf s a file answer there readable (read text front due) =
-    let P : List ℕ → Type 0 = λ t. IsDueOfText (HasRun s) mode a t answer in
-    subst P (front_is _ a.file (most_of mode) text file there.at there.tells there.holds front) due
+-- what is said of runs may be said more weakly
+ends_more : (runs others : RunRelation) (text : List ℕ) (heap stack steps : ℕ) (end : RunEnd) → ((image : Image) → runs image heap stack steps end → others image heap stack steps end) → EndsBuilt runs text heap stack steps end → EndsBuilt others text heap stack steps end
+ends_more runs others text heap stack steps end more e =
+    record { assembly = e.assembly; builds = e.builds; ran = record { image = e.ran.image; assembles = e.ran.assembles; run = more e.ran.image e.ran.run } }
+
+of_built : {O : Type 0} (out : Stream O) (text : List ℕ) (answer : Answer) → (HasFailed out → ⊥) → IsBuilt out text answer → IsFaultyOrBuilt text answer
+of_built out text (Faulty f) written h = h
+of_built out text Built written h = built_source text h.assembly h.builds
+of_built out text Unwritten written h = failed h.takes
+  where
+    failed : {assembly : List ℕ} → Takes out assembly Built Unwritten Unwritten → ⊥
+    failed (all is a) = absurd (cc)
+    failed (part is some f front) = written f
+of_built out text _ written h = absurd h
+
+of_run : {I O : Type 0} (s : Streams I O) (a : Asked) (text : List ℕ) (answer : Answer) → (HasFailed s.input → ⊥) → (HasFailed s.out → ⊥) → IsRun (HasRun s) a text answer → IsRun (EndsAsTold (s.input.told s.input.before)) a text answer
+of_run s a text (Faulty f) r w h = h
+of_run s a text (Finished end) r w h =
+    ends_more (HasRun s) (EndsAsTold (s.input.told s.input.before)) text a.heap a.stack a.steps end (λ image run. ends_faultless s image a.heap a.stack a.steps end r w run) h
+of_run s a text _ r w h = absurd h
+
+of_exec : {I O : Type 0} (s : Streams I O) (a : Asked) (text : List ℕ) (answer : Answer) → (HasFailed s.input → ⊥) → (HasFailed s.out → ⊥) → IsExecuted (HasRun s) a text answer → IsExecuted (EndsAsTold (s.input.told s.input.before)) a text answer
+of_exec s a text TooLong r w h = h
+of_exec s a text (BadLine rule line) r w h = h
+of_exec s a text (Finished end) r w h =
+    record { short = h.short; image = h.image; assembles = h.assembles; run = ends_faultless s h.image a.heap a.stack a.steps end r w h.run }
+of_exec s a text _ r w h = absurd h
+
+-- counts over a run and a summary
+rose_later : (a b c : ℕ) → a ≤ b → Rose b c → Rose a c
+rose_later a b c h r = omega (arith, h, r)
+
+-- a summary that the sink took, after a run whose writes all passed
+pub record Passed (end : RunEnd) (answer : Answer) : Type 0 where
+  pub finished : answer ≡ Finished end
+  pub written : end ≡ WriteFault → ⊥
+
+taken : {O : Type 0} (out : Stream O) (due : List ℕ) (end : RunEnd) (answer : Answer) → (HasFailed out → ⊥) → (end ≡ WriteFault → ⊥) → Takes out due (Finished end) Unwritten answer → Passed end answer
+taken out due end answer kept other (all is a) = record { finished = is; written = other }
+taken out due end answer kept other (part is some f front) = absurd (kept f)
+
+passed : {O : Type 0} (out : Stream O) (functions source written : ℕ) (end : RunEnd) (answer : Answer) → (HasFailed out → ⊥) → (end ≡ WriteFault → ⊥) → TakesSummary out functions source written end answer → Passed end answer
+passed out functions source written WriteFault answer kept other h = absurd (other refl)
+passed out functions source written (Exit n) answer kept other h = taken out _ (Exit n) answer kept other h
+passed out functions source written (Break n) answer kept other h = taken out _ (Break n) answer kept other h
+passed out functions source written Overflow answer kept other h = taken out _ Overflow answer kept other h
+passed out functions source written HeapFull answer kept other h = taken out _ HeapFull answer kept other h
+passed out functions source written StackFull answer kept other h = taken out _ StackFull answer kept other h
+passed out functions source written StepLimit answer kept other h = taken out _ StepLimit answer kept other h
+passed out functions source written (BadAddress n) answer kept other h = taken out _ (BadAddress n) answer kept other h
+passed out functions source written (Unaligned n) answer kept other h = taken out _ (Unaligned n) answer kept other h
+passed out functions source written (BadWord n) answer kept other h = taken out _ (BadWord n) answer kept other h
+passed out functions source written (BadService n) answer kept other h = taken out _ (BadService n) answer kept other h
+passed out functions source written ReadFault answer kept other h = taken out _ ReadFault answer kept other h
+
+-- a run that ended at a failed write leaves a sink that has failed
+write_failed : {O : Type 0} (out : Stream O) (between : O) (functions source written : ℕ) (end : RunEnd) (answer : Answer) → end ≡ WriteFault → Rose (out.faults out.before) (out.faults between) → TakesSummary (stream_of out.told out.faults between out.after) functions source written end answer → HasFailed out
+write_failed out between functions source written end answer is rose h =
+    let P : RunEnd → Type 0 = λ e. TakesSummary (stream_of out.told out.faults between out.after) functions source written e answer in
+    let stays = (subst P is h).0 in
+    let Q : _ → Type 0 = λ x. Rose (out.faults out.before) (out.faults x) in
+    subst Q (sym stays) rose
+
+no_read : Rose 0 0 → ⊥
+no_read r = absurd (omega (arith, r))
+
+of_gen : {O : Type 0} (out : Stream O) (a : Asked) (answer : Answer) → (HasFailed out → ⊥) → IsGenerated out a answer → EndsGenerated a answer
+of_gen out a answer kept h =
+    let sums = h.ends.ran.run in
+    let s = record { input = no_input sums.input; out = stream_of out.told out.faults out.before sums.between } in
+    let other : h.end ≡ WriteFault → ⊥ = λ is. kept (write_failed out sums.between _ _ _ h.end answer is (sums.run.ran.write_cause is) sums.sums_up) in
+    let last = passed (stream_of out.told out.faults sums.between out.after) _ _ _ h.end answer
+    (λ f. kept (rose_later _ _ _ sums.run.ran.writes_later f)) other sums.sums_up in
+    let P : Answer → Type 0 = λ x. EndsGenerated a x in
+    subst P (sym last.finished)
+    (record {
+      assembly = h.ends.assembly;
+      builds = h.ends.builds;
+      ran = record {
+        image = h.ends.ran.image;
+        assembles = h.ends.ran.assembles;
+        run = ends_as_told s h.ends.ran.image a.heap a.stack a.steps h.end (λ is. no_read (sums.run.ran.read_cause is)) other sums.run;
+      };
+    })
+
+settled : {H I O E : Type 0} (c : Call H I O E) (a : Asked) (file : List ℕ) (mode : Mode) (answer : Answer) → IsGood c a file → (ReadsFile mode → ReadsFile a.mode) → InMode mode c.shelf c.streams a answer → Settles (c.streams.input.told c.streams.input.before) mode a (take (most_of mode) file) answer
+settled c a file Check answer good reads h = to_text c.shelf a.file 262145 _ file answer (good.there (reads tt)) good.readable h.1
+settled c a file Build answer good reads h = of_built c.streams.out _ answer good.all_written (to_text c.shelf a.file 262145 _ file answer (good.there (reads tt)) good.readable h.2)
+settled c a file Run answer good reads h = of_run c.streams a _ answer good.all_read good.all_written (to_text c.shelf a.file 262145 _ file answer (good.there (reads tt)) good.readable h.1)
+settled c a file Exec answer good reads h = of_exec c.streams a _ answer good.all_read good.all_written (to_text c.shelf a.file 67108865 _ file answer (good.there (reads tt)) good.readable h.1)
+settled c a file Gen answer good reads h = of_gen c.streams.out a answer good.all_written h.3
 
 -- the line was told
 given : {H I O E : Type 0} (c : Call H I O E) (status : ℕ) (a : Asked) (file : List ℕ) (answer : Answer) → IsGood c a file → IsTold c.err answer status → Gives c status answer
 given c status a file answer good (all is line) = record { status_is = is; line_is = line }
 given c status a file answer good (part is some failed front) = absurd (good.all_told failed)
 
-pub complete : {H I O E : Type 0} (c : Call H I O E) (status : ℕ) (a : Asked) (file : List ℕ) (answer : Answer) → Answers c status → IsGood c a file → IsDueOfText (EndsOn (c.streams.input.told c.streams.input.before)) a.mode a (take (most_of a.mode) file) answer → Gives c status answer ⊎ Gives c status OutOfMemory
-complete c status a file answer h good due = by h.answer (given c status a file h.answer good h.told) h.due
+pub complete : {H I O E : Type 0} (c : Call H I O E) (status : ℕ) (a : Asked) (file : List ℕ) → Answers c status → IsGood c a file → IsSettled c status a (take (most_of a.mode) file) ⊎ Gives c status OutOfMemory
+complete c status a file h good = by h.answer (given c status a file h.answer good h.told) h.due
   where
-    by : (found : Answer) → Gives c status found → IsDue c.words c.shelf c.streams found → Gives c status answer ⊎ Gives c status OutOfMemory
+    by : (found : Answer) → Gives c status found → IsDue c.words c.shelf c.streams found → IsSettled c status a (take (most_of a.mode) file) ⊎ Gives c status OutOfMemory
     by found gives (usage is fault same u) = absurd (asked_no_fault c.words a good.ask fault)
     by found gives (no_memory is u) = let P : Answer → Type 0 = λ x. Gives c status x in inr (subst P is gives)
     by found gives (asked b ask h) =
         let P : Asked → Type 0 = λ x. InMode x.mode c.shelf c.streams x found in
         let in_mode = subst P (asked_once c.words b a ask good.ask) h in
-        let text = to_text a.mode c.shelf c.streams a file found good.there good.readable (of_mode a.mode c.shelf c.streams a found in_mode) in
-        let faultless : (bytes : List ℕ) → c.streams.input.told c.streams.input.before ≡ Some bytes → IsFaultless c.streams bytes = λ bytes t. record { tells = t; all_read = good.all_read; all_written = good.all_written } in
-        let same = due_once (HasRun c.streams) (EndsOn (c.streams.input.told c.streams.input.before)) a.mode a (take (most_of a.mode) file) found answer
-        (λ image d e p q. ends_as_told c.streams image a.heap a.stack a.steps d e faultless p q) text due in
-        let Q : Answer → Type 0 = λ x. Gives c status x in
-        inl (subst Q same gives)
+        inl (record { answer = found; settled = settled c a file a.mode found good (λ r. r) in_mode; gives = gives })

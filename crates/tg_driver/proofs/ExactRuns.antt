@@ -7,9 +7,9 @@ use Rattle.tg_base.specs.State.{start}
 use Rattle.tg_isa.specs.declared.images.Image.{Image}
 use Rattle.tg_isa.specs.Runs.{World, run, begun, answers}
 use Rattle.tg_machine.specs.Ran.{Stops, still, ended, read_failed, write_failed, Tells}
-use Rattle.tg_driver.specs.Calls.{Streams}
-use Rattle.tg_driver.specs.Runs.{HasRun, EndsOn, end_in, world_in, outcome_on, IsExact}
-use Rattle.tg_driver.specs.Laws.{IsFaultless}
+use Rattle.tg_driver.specs.Calls.{Streams, HasFailed}
+use Rattle.tg_driver.specs.Runs.{HasRun, end_in, world_in, outcome_on, IsExact}
+use Rattle.tg_driver.specs.Laws.{IsFaultless, EndsAsTold}
 
 -- the outcome, by its parts
 record Comes (n : ℕ) (w : World) (e : RunEnd) (last : World) (front : List ℕ) : Type 0 where
@@ -46,6 +46,14 @@ pub exact_alike : {I O J P : Type 0} (s : Streams I O) (t : Streams J P) (bytes 
 exact_alike s t bytes image heap stack steps d e f g p q =
     (exact_run s image heap stack steps d bytes p f).ends ∙ sym ((exact_run t image heap stack steps e bytes q g).ends)
 
-pub ends_as_told : {I O : Type 0} (s : Streams I O) (image : Image) (heap stack steps : ℕ) (d e : RunEnd) → ((bytes : List ℕ) → s.input.told s.input.before ≡ Some bytes → IsFaultless s bytes) → HasRun s image heap stack steps d → EndsOn (s.input.told s.input.before) image heap stack steps e → d ≡ e
-ends_as_told s image heap stack steps d e faultless p q =
-    (exact_run s image heap stack steps d q.bytes p (faultless q.bytes q.told_are)).ends ∙ sym q.ends
+-- such a run ends as it does on the bytes that its input tells
+pub ends_as_told : {I O : Type 0} (s : Streams I O) (image : Image) (heap stack steps : ℕ) (end : RunEnd) → (end ≡ ReadFault → ⊥) → (end ≡ WriteFault → ⊥) → HasRun s image heap stack steps end → EndsAsTold (s.input.told s.input.before) image heap stack steps end
+ends_as_told s image heap stack steps end read written h bytes tells =
+    let r = h.ran in
+    let T : Option (List ℕ) → Type 0 = λ o. Tells o r.input_before in
+    let same : r.input_before ≡ answers bytes = subst T tells r.told in
+    let S : List (Option ℕ) → Type 0 = λ i. Stops steps (begun (start image.code image.statics image.entry heap stack) i) end r.last r.front in
+    (comes steps _ end r.last r.front read written (subst S same r.stops)).end_is
+
+pub ends_faultless : {I O : Type 0} (s : Streams I O) (image : Image) (heap stack steps : ℕ) (end : RunEnd) → (HasFailed s.input → ⊥) → (HasFailed s.out → ⊥) → HasRun s image heap stack steps end → EndsAsTold (s.input.told s.input.before) image heap stack steps end
+ends_faultless s image heap stack steps end read written h = ends_as_told s image heap stack steps end (λ d. read (h.ran.read_cause d)) (λ d. written (h.ran.write_cause d)) h

@@ -1,19 +1,6 @@
-pub mod Fetches
-pub mod StackMemory
-pub mod StackSteps
-pub mod StackMacros
-pub mod StackProducts
-pub mod StackValues
-pub mod StackPrograms
-pub mod SilentRuns
-pub mod OnlyLemmas
-pub mod ExitFound
-pub mod Evaluated
-pub mod ProgramRuns
 pub mod ProgramsWithin
 pub mod FaultPlaces
 pub mod Typings
-pub mod TokenFacts
 pub mod LineLemmas
 pub mod TokensOnce
 pub mod FaultsOnce
@@ -22,5 +9,4 @@ pub mod ModesOnce
 pub mod ExactRuns
 pub mod Complete
 pub mod AnswerLemmas
-pub mod ValueExamples
 mod Pieces

@@ -6,18 +6,20 @@ use Rattle.tg_isa.specs.declared.images.Image.{Image}
 use Rattle.tg_isa.specs.Assembly.{Assembled, Fault as AsmFault, assembled}
 use Rattle.tg_asm.specs.Images.{image_of}
 use Rattle.tg_command.specs.declared.modes.Mode.{Mode}
-use Rattle.tg_command.specs.declared.modes.Mode.TheVariants.{Check, Run, Exec}
+use Rattle.tg_command.specs.declared.modes.Mode.TheVariants.{Check, Build, Run, Exec, Gen}
 use Rattle.tg_command.specs.Commands.{Asked}
 use Rattle.tg_driver.specs.declared.answers.Answer.{Answer}
-use Rattle.tg_driver.specs.declared.answers.Answer.TheVariants.{Faulty, BadLine, TooLong, Accepted, NotBuilt, Finished}
-use Rattle.tg_driver.specs.Answered.{IsEnded}
-use Rattle.tg_driver.specs.Runs.{RunRelation}
+use Rattle.tg_driver.specs.declared.answers.Answer.TheVariants.{Faulty, BadLine, TooLong, Accepted, Built, Unwritten, Finished}
+use Rattle.tg_driver.specs.OfFiles.{HasStarted}
+use Rattle.tg_driver.specs.Builds.{RunRelation}
 use Rattle.tg_driver.specs.CheckMode.{IsChecked}
+use Rattle.tg_driver.specs.BuildMode.{IsBuildable}
 use Rattle.tg_driver.specs.RunMode.{IsRun}
+use Rattle.tg_driver.specs.GenMode.{IsGenerable}
 use Rattle.tg_driver.specs.ExecMode.{EndsImage, IsExecuted}
 use Rattle.tg_driver.specs.Modes.{IsDueOfText}
 use Rattle.tg_driver.proofs.FaultsOnce.{fault_once_told}
-use Rattle.tg_driver.proofs.SourcesOnce.{no_fault, no_fault_of_other, no_fault_of_built, not_both, built_once}
+use Rattle.tg_driver.proofs.SourcesOnce.{no_fault, no_fault_of_built}
 
 checked_once : (text : List ℕ) (a b : Answer) → IsChecked text a → IsChecked text b → a ≡ b
 checked_once text (Faulty f) (Faulty g) p q = ap Faulty (fault_once_told text f g p q)
@@ -28,20 +30,39 @@ checked_once text Accepted Accepted p q = refl
 checked_once text Accepted _ p q = absurd q
 checked_once text _ b p q = absurd p
 
-run_once : (asked : Asked) (text : List ℕ) (a b : Answer) → IsRun asked text a → IsRun asked text b → a ≡ b
-run_once asked text (Faulty f) (Faulty g) p q = ap Faulty (fault_once_told text f g p q)
-run_once asked text (Faulty f) NotBuilt p q = absurd (no_fault_of_other text f p q)
-run_once asked text (Faulty f) (Finished e) p q = absurd (no_fault_of_built asked text f e p q)
-run_once asked text (Faulty f) _ p q = absurd q
-run_once asked text NotBuilt (Faulty f) p q = absurd (no_fault_of_other text f q p)
-run_once asked text NotBuilt NotBuilt p q = refl
-run_once asked text NotBuilt (Finished e) p q = absurd (not_both asked text e p q)
-run_once asked text NotBuilt _ p q = absurd q
-run_once asked text (Finished d) (Faulty f) p q = absurd (no_fault_of_built asked text f d q p)
-run_once asked text (Finished d) NotBuilt p q = absurd (not_both asked text d q p)
-run_once asked text (Finished d) (Finished e) p q = ap Finished (built_once asked text d e p q)
-run_once asked text (Finished d) _ p q = absurd q
-run_once asked text _ b p q = absurd p
+-- two answers are one, or the streams were touched
+built_alike : (text : List ℕ) (a b : Answer) → IsBuildable text a → IsBuildable text b → (a ≡ b) ⊎ (HasStarted a × HasStarted b)
+built_alike text (Faulty f) (Faulty g) p q = inl (ap Faulty (fault_once_told text f g p q))
+built_alike text (Faulty f) Built p q = absurd (no_fault text f p q)
+built_alike text (Faulty f) Unwritten p q = absurd (no_fault text f p q)
+built_alike text (Faulty f) _ p q = absurd q
+built_alike text Built (Faulty f) p q = absurd (no_fault text f q p)
+built_alike text Built Built p q = inr (tt, tt)
+built_alike text Built Unwritten p q = inr (tt, tt)
+built_alike text Built _ p q = absurd q
+built_alike text Unwritten (Faulty f) p q = absurd (no_fault text f q p)
+built_alike text Unwritten Built p q = inr (tt, tt)
+built_alike text Unwritten Unwritten p q = inr (tt, tt)
+built_alike text Unwritten _ p q = absurd q
+built_alike text _ b p q = absurd p
+
+run_alike : (runs : RunRelation) (asked : Asked) (text : List ℕ) (a b : Answer) → IsRun runs asked text a → IsRun runs asked text b → (a ≡ b) ⊎ (HasStarted a × HasStarted b)
+run_alike runs asked text (Faulty f) (Faulty g) p q = inl (ap Faulty (fault_once_told text f g p q))
+run_alike runs asked text (Faulty f) (Finished e) p q = absurd (no_fault_of_built runs text asked.heap asked.stack asked.steps f e p q)
+run_alike runs asked text (Faulty f) _ p q = absurd q
+run_alike runs asked text (Finished d) (Faulty f) p q = absurd (no_fault_of_built runs text asked.heap asked.stack asked.steps f d q p)
+run_alike runs asked text (Finished d) (Finished e) p q = inr (tt, tt)
+run_alike runs asked text (Finished d) _ p q = absurd q
+run_alike runs asked text _ b p q = absurd p
+
+generated_alike : (a b : Answer) → IsGenerable a → IsGenerable b → (a ≡ b) ⊎ (HasStarted a × HasStarted b)
+generated_alike (Finished d) (Finished e) p q = inr (tt, tt)
+generated_alike (Finished d) Unwritten p q = inr (tt, tt)
+generated_alike (Finished d) _ p q = absurd q
+generated_alike Unwritten (Finished e) p q = inr (tt, tt)
+generated_alike Unwritten Unwritten p q = inr (tt, tt)
+generated_alike Unwritten _ p q = absurd q
+generated_alike _ b p q = absurd p
 
 -- the fault and the image of a text that has one
 fault_in : Result Assembled AsmFault → AsmFault → AsmFault
@@ -82,7 +103,7 @@ ended_once runs others asked text d e alike p q =
     alike q.image d e (subst P (same_image text p.image q.image p.assembles q.assembles) p.run) q.run
 
 -- in `exec` two answers are one, or two ends
-pub executed_alike : (runs others : RunRelation) (asked : Asked) (text : List ℕ) (a b : Answer) → IsExecuted runs asked text a → IsExecuted others asked text b → (a ≡ b) ⊎ (IsEnded a × IsEnded b)
+pub executed_alike : (runs others : RunRelation) (asked : Asked) (text : List ℕ) (a b : Answer) → IsExecuted runs asked text a → IsExecuted others asked text b → (a ≡ b) ⊎ (HasStarted a × HasStarted b)
 unfolding bad_as
 executed_alike runs others asked text TooLong TooLong p q = inl refl
 executed_alike runs others asked text TooLong (BadLine r n) p q = absurd (too_long text q.short p)
@@ -101,24 +122,24 @@ executed_alike runs others asked text _ b p q = absurd p
 executed_once : (runs others : RunRelation) (asked : Asked) (text : List ℕ) (a b : Answer) → AreAlike runs others asked → IsExecuted runs asked text a → IsExecuted others asked text b → a ≡ b
 executed_once runs others asked text a b alike p q = by a b p q (executed_alike runs others asked text a b p q)
   where
-    by : (a b : Answer) → IsExecuted runs asked text a → IsExecuted others asked text b → (a ≡ b) ⊎ (IsEnded a × IsEnded b) → a ≡ b
+    by : (a b : Answer) → IsExecuted runs asked text a → IsExecuted others asked text b → (a ≡ b) ⊎ (HasStarted a × HasStarted b) → a ≡ b
     by a b p q (inl e) = e
     by (Finished d) (Finished e) p q (inr both) = ap Finished (ended_once runs others asked text d e alike p q)
-    by a (Finished e) p q (inr both) = absurd (both.0)
-    by a b p q (inr both) = absurd (both.1)
+    by (Finished d) Built p q (inr both) = absurd q
+    by (Finished d) Unwritten p q (inr both) = absurd q
+    by (Finished d) b p q (inr both) = absurd (both.1)
+    by Built b p q (inr both) = absurd p
+    by Unwritten b p q (inr both) = absurd p
+    by a b p q (inr both) = absurd (both.0)
 
 -- whatever the mode
-pub due_alike : (runs : RunRelation) (mode : Mode) (asked : Asked) (text : List ℕ) (a b : Answer) → IsDueOfText runs mode asked text a → IsDueOfText runs mode asked text b → (a ≡ b) ⊎ ((mode ≡ Exec) × IsEnded a × IsEnded b)
+pub due_alike : (runs : RunRelation) (mode : Mode) (asked : Asked) (text : List ℕ) (a b : Answer) → IsDueOfText runs mode asked text a → IsDueOfText runs mode asked text b → (a ≡ b) ⊎ (HasStarted a × HasStarted b)
 due_alike runs Check asked text a b p q = inl (checked_once text a b p q)
-due_alike runs Run asked text a b p q = inl (run_once asked text a b p q)
-due_alike runs Exec asked text a b p q = by (executed_alike runs runs asked text a b p q)
-  where
-    by : (a ≡ b) ⊎ (IsEnded a × IsEnded b) → (a ≡ b) ⊎ ((Exec ≡ Exec) × IsEnded a × IsEnded b)
-    by (inl e) = inl e
-    by (inr both) = inr (refl, both.0, both.1)
+due_alike runs Build asked text a b p q = built_alike text a b p q
+due_alike runs Run asked text a b p q = run_alike runs asked text a b p q
+due_alike runs Exec asked text a b p q = executed_alike runs runs asked text a b p q
+due_alike runs Gen asked text a b p q = generated_alike a b p q
 
-pub due_once : (runs others : RunRelation) (mode : Mode) (asked : Asked) (text : List ℕ) (a b : Answer) → ((image : Image) (d e : RunEnd) → runs image asked.heap asked.stack asked.steps d → others image asked.heap asked.stack asked.steps e → d ≡ e) → IsDueOfText runs mode asked text a → IsDueOfText others mode asked text b → a ≡ b
+pub exec_once : (runs others : RunRelation) (asked : Asked) (text : List ℕ) (a b : Answer) → ((image : Image) (d e : RunEnd) → runs image asked.heap asked.stack asked.steps d → others image asked.heap asked.stack asked.steps e → d ≡ e) → IsExecuted runs asked text a → IsExecuted others asked text b → a ≡ b
 unfolding AreAlike
-due_once runs others Check asked text a b alike p q = checked_once text a b p q
-due_once runs others Run asked text a b alike p q = run_once asked text a b p q
-due_once runs others Exec asked text a b alike p q = executed_once runs others asked text a b alike p q
+exec_once runs others asked text a b alike p q = executed_once runs others asked text a b alike p q

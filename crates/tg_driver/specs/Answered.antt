@@ -2,7 +2,7 @@
 use Rattle.std.specs.Prelude.{ℕ, ◌≡◌, List}
 use Rattle.tg_command.specs.Commands.{Asked, Ask, IsUsageFault}
 use Rattle.tg_driver.specs.declared.answers.Answer.{Answer}
-use Rattle.tg_driver.specs.declared.answers.Answer.TheVariants.{Usage, OutOfMemory, Finished}
+use Rattle.tg_driver.specs.declared.answers.Answer.TheVariants.{Usage, OutOfMemory}
 use Rattle.tg_driver.specs.Calls.{Shelved, Streams, Untouched, Call}
 use Rattle.tg_driver.specs.Modes.{InMode}
 use Rattle.tg_driver.specs.Telling.{IsTold}
@@ -30,8 +30,3 @@ pub record Answers {H I O E : Type 0} (c : Call H I O E) (status : ℕ) : Type 0
   pub answer : Answer
   pub due : IsDue c.words c.shelf c.streams answer
   pub told : IsTold c.err answer status
-
--- an end of the machine
-abbrev pub IsEnded : Answer → Type 0
-IsEnded (Finished end) = Unit {0}
-IsEnded answer = ⊥

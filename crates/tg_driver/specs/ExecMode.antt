@@ -9,8 +9,9 @@ use Rattle.tg_command.specs.Commands.{Asked}
 use Rattle.tg_driver.specs.declared.answers.Answer.{Answer}
 use Rattle.tg_driver.specs.declared.answers.Answer.TheVariants.{BadLine, TooLong, Finished}
 use Rattle.tg_driver.specs.Calls.{Shelved, Streams}
-use Rattle.tg_driver.specs.OfFiles.{OfFile, UntouchedBeforeRun}
-use Rattle.tg_driver.specs.Runs.{RunRelation, HasRun}
+use Rattle.tg_driver.specs.OfFiles.{OfFile, UntouchedBeforeStart}
+use Rattle.tg_driver.specs.Builds.{RunRelation}
+use Rattle.tg_driver.specs.Runs.{HasRun}
 
 -- the text isn't too long, and this is its first fault
 pub record IsBadLine (text : List ℕ) (rule : AsmRule) (line : ℕ) : Type 0 where
@@ -34,5 +35,5 @@ IsExecuted runs asked text _ = ⊥
 
 abbrev pub ByExec : {H I O : Type 0} → Shelved H → Streams I O → Asked → Answer → Type 0
 ByExec shelf s asked answer =
-    UntouchedBeforeRun s answer
+    UntouchedBeforeStart s answer
     × OfFile shelf asked.file 67108865 (IsExecuted (HasRun s) asked) answer

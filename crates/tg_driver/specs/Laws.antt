@@ -1,17 +1,23 @@
 -- What the answers to a call amount to.
-use Rattle.std.specs.Prelude.{ℕ, ◌≡◌, ◌⊎◌, List, Option, Some, take}
+use Rattle.std.specs.Prelude.{ℕ, ◌≡◌, ◌⊎◌, List, [], Option, Some, take}
 use Rattle.std.specs.Io.KnownBytes.{Appends}
 use Rattle.tg_base.specs.declared.ends.RunEnd.{RunEnd}
 use Rattle.tg_isa.specs.declared.images.Image.{Image}
-use Rattle.tg_command.specs.declared.modes.Mode.TheVariants.{Exec}
+use Rattle.tg_generate.specs.Generated.{generated}
+use Rattle.tg_command.specs.declared.modes.Mode.{Mode}
+use Rattle.tg_command.specs.declared.modes.Mode.TheVariants.{Check, Build, Run, Exec, Gen}
 use Rattle.tg_command.specs.Commands.{Asked, Ask}
 use Rattle.tg_driver.specs.declared.answers.Answer.{Answer}
-use Rattle.tg_driver.specs.declared.answers.Answer.TheVariants.{OutOfMemory}
+use Rattle.tg_driver.specs.declared.answers.Answer.TheVariants.{Faulty, Built, Finished, OutOfMemory}
 use Rattle.tg_driver.specs.Calls.{Stream, HasFailed, Streams, Shelved, IsUnread, Call}
-use Rattle.tg_driver.specs.Runs.{HasRun, EndsOn, IsExact}
-use Rattle.tg_driver.specs.Modes.{IsDueOfText, most_of}
+use Rattle.tg_driver.specs.Sources.{IsFaultOf, IsSource}
+use Rattle.tg_driver.specs.Builds.{RunRelation, EndsBuilt}
+use Rattle.tg_driver.specs.Runs.{end_in, outcome_on}
+use Rattle.tg_driver.specs.CheckMode.{IsChecked}
+use Rattle.tg_driver.specs.RunMode.{IsRun}
+use Rattle.tg_driver.specs.ExecMode.{IsExecuted}
 use Rattle.tg_driver.specs.Statuses.{status_of, line_of}
-use Rattle.tg_driver.specs.Answered.{Answers, IsEnded}
+use Rattle.tg_driver.specs.Answered.{Answers}
 
 -- the input tells these bytes, and no read or write failed
 pub record IsFaultless {I O : Type 0} (s : Streams I O) (bytes : List ℕ) : Type 0 where
@@ -25,11 +31,16 @@ pub record HoldsFile {H : Type 0} (shelf : Shelved H) (name bytes : List ℕ) : 
   pub tells : shelf.files shelf.before ≡ Some at
   pub holds : at name ≡ Some bytes
 
--- the words ask for this, the file has these bytes, and no count of faults rose
+-- all modes but `gen` read the file
+abbrev pub ReadsFile : Mode → Type 0
+ReadsFile Gen = ⊥
+ReadsFile _ = Unit {0}
+
+-- the words ask for this, the file has these bytes where it is read, and no count of faults rose
 pub record IsGood {H I O E : Type 0} (c : Call H I O E)
     (asked : Asked) (file : List ℕ) : Type 0 where
   pub ask : Ask c.words asked
-  pub there : HoldsFile c.shelf asked.file file
+  pub there : ReadsFile asked.mode → HoldsFile c.shelf asked.file file
   pub readable : IsUnread c.shelf asked.file → ⊥
   pub all_read : HasFailed c.streams.input → ⊥
   pub all_written : HasFailed c.streams.out → ⊥
@@ -39,3 +50,36 @@ pub record IsGood {H I O E : Type 0} (c : Call H I O E)
 pub record Gives {H I O E : Type 0} (c : Call H I O E) (status : ℕ) (answer : Answer) : Type 0 where
   pub status_is : status ≡ status_of answer
   pub line_is : Appends (c.err.told c.err.before) (c.err.told c.err.after) (line_of answer)
+
+-- where an input tells its bytes, a run of the image ends so on these
+abbrev pub EndsAsTold : Option (List ℕ) → RunRelation
+EndsAsTold told image heap stack steps end =
+    (bytes : List ℕ) → told ≡ Some bytes → end ≡ end_in (outcome_on image heap stack steps bytes)
+
+-- to a source: its first fault, or that it is built
+abbrev pub IsFaultyOrBuilt : List ℕ → Answer → Type 0
+IsFaultyOrBuilt text (Faulty fault) = IsFaultOf text fault
+IsFaultyOrBuilt text Built = IsSource text
+IsFaultyOrBuilt text _ = ⊥
+
+-- the end of a run of what a generated source is built to, on an empty input
+abbrev pub EndsGenerated : Asked → Answer → Type 0
+EndsGenerated asked (Finished end) =
+    EndsBuilt (EndsAsTold (Some [])) (generated asked.number)
+    asked.heap asked.stack asked.steps end
+EndsGenerated asked _ = ⊥
+
+-- what text and input settle where no read or write fails
+abbrev pub Settles : (told : Option (List ℕ)) → Mode → Asked → (text : List ℕ) → Answer → Type 0
+Settles told Check asked text answer = IsChecked text answer
+Settles told Build asked text answer = IsFaultyOrBuilt text answer
+Settles told Run asked text answer = IsRun (EndsAsTold told) asked text answer
+Settles told Exec asked text answer = IsExecuted (EndsAsTold told) asked text answer
+Settles told Gen asked text answer = EndsGenerated asked answer
+
+-- the status and the line are those of an answer that is so settled
+pub record IsSettled {H I O E : Type 0} (c : Call H I O E)
+    (status : ℕ) (asked : Asked) (text : List ℕ) : Type 0 where
+  pub answer : Answer
+  pub settled : Settles (c.streams.input.told c.streams.input.before) asked.mode asked text answer
+  pub gives : Gives c status answer

@@ -2,26 +2,32 @@
 -- streams it touches.
 use Rattle.std.specs.Prelude.{ℕ, List, Option}
 use Rattle.tg_command.specs.declared.modes.Mode.{Mode}
-use Rattle.tg_command.specs.declared.modes.Mode.TheVariants.{Check, Run, Exec}
+use Rattle.tg_command.specs.declared.modes.Mode.TheVariants.{Check, Build, Run, Exec, Gen}
 use Rattle.tg_command.specs.Commands.{Asked}
 use Rattle.tg_driver.specs.declared.answers.Answer.{Answer}
 use Rattle.tg_driver.specs.Calls.{Shelved, Streams}
-use Rattle.tg_driver.specs.Runs.{RunRelation, EndsOn}
+use Rattle.tg_driver.specs.Builds.{RunRelation}
 use Rattle.tg_driver.specs.CheckMode.{IsChecked, ByCheck}
+use Rattle.tg_driver.specs.BuildMode.{IsBuildable, ByBuild}
 use Rattle.tg_driver.specs.RunMode.{IsRun, ByRun}
 use Rattle.tg_driver.specs.ExecMode.{IsExecuted, ByExec}
+use Rattle.tg_driver.specs.GenMode.{IsGenerable, ByGen}
 
 -- the answer is due in the mode
 abbrev pub InMode : {H I O : Type 0} → Mode → Shelved H → Streams I O → Asked → Answer → Type 0
 InMode Check shelf s asked answer = ByCheck shelf s asked answer
+InMode Build shelf s asked answer = ByBuild shelf s asked answer
 InMode Run shelf s asked answer = ByRun shelf s asked answer
 InMode Exec shelf s asked answer = ByExec shelf s asked answer
+InMode Gen shelf s asked answer = ByGen shelf s asked answer
 
 -- the answer is due to the text of the file, by what is said of runs
 abbrev pub IsDueOfText : RunRelation → Mode → Asked → List ℕ → Answer → Type 0
 IsDueOfText runs Check asked text answer = IsChecked text answer
-IsDueOfText runs Run asked text answer = IsRun asked text answer
+IsDueOfText runs Build asked text answer = IsBuildable text answer
+IsDueOfText runs Run asked text answer = IsRun runs asked text answer
 IsDueOfText runs Exec asked text answer = IsExecuted runs asked text answer
+IsDueOfText runs Gen asked text answer = IsGenerable answer
 
 -- the bytes that a mode asks the shelf for: one more than its file may have
 abbrev pub most_of : Mode → ℕ

@@ -4,8 +4,8 @@ use Rattle.tg_base.specs.declared.outside.ShelfFault.{ShelfFault}
 use Rattle.tg_base.specs.declared.outside.ShelfFault.TheVariants.{Failed, Memory}
 use Rattle.tg_base.specs.Files.{IsFrontOf}
 use Rattle.tg_driver.specs.declared.answers.Answer.{Answer}
-use Rattle.tg_driver.specs.declared.answers.Answer.TheVariants.{Unreadable, OutOfMemory, Finished}
-use Rattle.tg_driver.specs.Calls.{Shelved, IsUnread, Streams, Untouched}
+use Rattle.tg_driver.specs.declared.answers.Answer.TheVariants.{Unreadable, OutOfMemory, Built, Unwritten, Finished}
+use Rattle.tg_driver.specs.Calls.{Stream, Stays, Shelved, IsUnread, Streams, Untouched}
 
 -- The file can't be read; or the shelf gave so many of its first bytes, or all where it is shorter,
 -- and the answer is due to them.
@@ -28,7 +28,24 @@ abbrev pub OrMemory : (wanting : Type 0) (due : Answer → Type 0) → Answer �
 OrMemory wanting due OutOfMemory = wanting
 OrMemory wanting due answer = due answer
 
--- before a run the streams are as they were
-abbrev pub UntouchedBeforeRun : {I O : Type 0} → Streams I O → Answer → Type 0
-UntouchedBeforeRun s (Finished end) = Unit {0}
-UntouchedBeforeRun s answer = Untouched s
+-- The streams were touched: a run has ended, or an assembly text or a summary was written, whole or
+-- in part.
+abbrev pub HasStarted : Answer → Type 0
+HasStarted (Finished end) = Unit {0}
+HasStarted Built = Unit {0}
+HasStarted Unwritten = Unit {0}
+HasStarted answer = ⊥
+
+-- before that a sink is as it was
+abbrev pub StaysBeforeStart : {T : Type 0} → Stream T → Answer → Type 0
+StaysBeforeStart out (Finished end) = Unit {0}
+StaysBeforeStart out Built = Unit {0}
+StaysBeforeStart out Unwritten = Unit {0}
+StaysBeforeStart out answer = Stays out
+
+-- and so are the streams
+abbrev pub UntouchedBeforeStart : {I O : Type 0} → Streams I O → Answer → Type 0
+UntouchedBeforeStart s (Finished end) = Unit {0}
+UntouchedBeforeStart s Built = Unit {0}
+UntouchedBeforeStart s Unwritten = Unit {0}
+UntouchedBeforeStart s answer = Untouched s

@@ -15,9 +15,12 @@ use Rattle.tg_types.specs.declared.faults.TypeFault.{TypeFault}
 use Rattle.tg_types.specs.declared.faults.TypeFault.TheVariants as typed
 use Rattle.tg_types.specs.Accepted.{finding, at_fault}
 use Rattle.tg_driver.specs.declared.reading.NamedProgram.{NamedProgram}
-use Rattle.tg_driver.specs.declared.reading.Refusal.{Refusal}
-use Rattle.tg_driver.specs.declared.reading.Refusal.TheVariants as refusal
-use Rattle.tg_driver.specs.Sources.{HasTokens, HasTree, IsSourceOf, IsFaultOf}
+use Rattle.tg_driver.specs.declared.refusals.Refusal.{Refusal}
+use Rattle.tg_driver.specs.declared.refusals.Refusal.TheVariants as refusal
+use Rattle.tg_driver.specs.declared.faults.Rule.TheVariants.{Lexical, Syntactic, Typed}
+use Rattle.tg_compile.specs.declared.compiled.Compiled.{Compiled}
+use Rattle.tg_driver.specs.Sources.{HasTokens, HasTree, IsSourceOf, HasFault}
+use Rattle.tg_driver.specs.Builds.{Builds}
 
 -- the text's lexical fault; want of memory says nothing of the text
 abbrev pub IsLexFaultOf : List ℕ → LexFault → Type 0
@@ -47,9 +50,11 @@ abbrev pub IsTypeFaultOf : List ℕ → TypeFault → Type 0
 IsTypeFaultOf text (typed.Bad rule at) = HasBadTypes text rule at
 IsTypeFaultOf text typed.Memory = Unit {0}
 
--- the text's first fault, with its place
+-- the text's first fault
 abbrev pub IsRefusalOf : List ℕ → Refusal → Type 0
-IsRefusalOf text (refusal.Fault fault) = IsFaultOf text fault
+IsRefusalOf text (refusal.Lex rule at) = HasFault text (Lexical rule) at
+IsRefusalOf text (refusal.Syntax rule at) = HasFault text (Syntactic rule) at
+IsRefusalOf text (refusal.Typing rule at) = HasFault text (Typed rule) at
 IsRefusalOf text refusal.Memory = Unit {0}
 
 -- the text is this tree, by some tokens and these names
@@ -66,11 +71,7 @@ pub record IsNamedSource (text : List ℕ) (names : List (List ℕ)) (program : 
   pub tokens : List Spanned
   pub source : IsSourceOf text names tokens program
 
--- what typing such a tree answers
-abbrev pub IsTyped : List ℕ → NamedProgram → Result (Unit {0}) Refusal → Type 0
-IsTyped text s (Ok x) = IsNamedSource text s.names (plain s.program.body)
-IsTyped text s (Err why) = IsRefusalOf text why
-
-abbrev pub IsRead : List ℕ → Result NamedProgram Refusal → Type 0
-IsRead text (Ok s) = IsNamedSource text s.names (plain s.program.body)
-IsRead text (Err why) = IsRefusalOf text why
+-- what compiling a text answers: an assembly text that it is built to, or its first fault
+abbrev pub IsCompiled : List ℕ → Result Compiled Refusal → Type 0
+IsCompiled text (Ok c) = Builds text c.text.items
+IsCompiled text (Err why) = IsRefusalOf text why

@@ -1,28 +1,30 @@
--- The mode `run`: reads a source, and runs a program of the built form. Such a program reads and
--- writes nothing.
+-- The mode `run`: reads a source, and runs the image of an assembly text of it on the streams.
 use Rattle.std.specs.Prelude.{List, ℕ}
-use Rattle.tg_base.specs.declared.ends.RunEnd.{RunEnd}
-use Rattle.tg_syntax.specs.Tree.{Exp}
 use Rattle.tg_command.specs.Commands.{Asked}
 use Rattle.tg_driver.specs.declared.answers.Answer.{Answer}
-use Rattle.tg_driver.specs.declared.answers.Answer.TheVariants.{Faulty, NotBuilt, Finished}
-use Rattle.tg_driver.specs.Calls.{Shelved, Streams, Untouched}
-use Rattle.tg_driver.specs.OfFiles.{OfFile}
+use Rattle.tg_driver.specs.declared.answers.Answer.TheVariants.{Faulty, OutOfMemory, Finished}
+use Rattle.tg_driver.specs.Calls.{Shelved, Streams}
+use Rattle.tg_driver.specs.OfFiles.{OfFile, UntouchedBeforeStart}
 use Rattle.tg_driver.specs.Sources.{IsFaultOf}
-use Rattle.tg_driver.specs.BuiltRuns.{IsBuiltSource, IsOtherSource, RunsTo}
+use Rattle.tg_driver.specs.Builds.{RunRelation, RunsAssembled, EndsBuilt}
+use Rattle.tg_driver.specs.Runs.{HasRun}
 
--- the text is a program of the built form, and its run with these sizes and steps ends so
-pub record EndsBuilt (asked : Asked) (text : List ℕ) (end : RunEnd) : Type 0 where
-  pub program : Exp
-  pub built : IsBuiltSource text program
-  pub runs : RunsTo built.names program asked.heap asked.stack asked.steps end
+-- the answer is the end of such a run, or memory was wanting for it
+abbrev pub EndsAssembled :
+    (runs : RunRelation) (assembly : List ℕ) (heap stack steps : ℕ) → Answer → Type 0
+EndsAssembled runs assembly heap stack steps (Finished end) =
+    RunsAssembled runs assembly heap stack steps end
+EndsAssembled runs assembly heap stack steps OutOfMemory = Unit {0}
+EndsAssembled runs assembly heap stack steps _ = ⊥
 
--- to a text: its first fault, that it is a program of another form, or the end of its run
-abbrev pub IsRun : Asked → List ℕ → Answer → Type 0
-IsRun asked text (Faulty fault) = IsFaultOf text fault
-IsRun asked text NotBuilt = IsOtherSource text
-IsRun asked text (Finished end) = EndsBuilt asked text end
-IsRun asked text _ = ⊥
+-- to a text: its first fault, or the end of a run of what it is built to
+abbrev pub IsRun : (runs : RunRelation) → Asked → List ℕ → Answer → Type 0
+IsRun runs asked text (Faulty fault) = IsFaultOf text fault
+IsRun runs asked text (Finished end) =
+    EndsBuilt runs text asked.heap asked.stack asked.steps end
+IsRun runs asked text _ = ⊥
 
 abbrev pub ByRun : {H I O : Type 0} → Shelved H → Streams I O → Asked → Answer → Type 0
-ByRun shelf s asked answer = Untouched s × OfFile shelf asked.file 262145 (IsRun asked) answer
+ByRun shelf s asked answer =
+    UntouchedBeforeStart s answer
+    × OfFile shelf asked.file 262145 (IsRun (HasRun s) asked) answer

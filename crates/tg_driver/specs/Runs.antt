@@ -12,10 +12,6 @@ use Rattle.tg_driver.specs.declared.answers.Answer.{Answer}
 use Rattle.tg_driver.specs.declared.answers.Answer.TheVariants.{OutOfMemory, Finished}
 use Rattle.tg_driver.specs.Calls.{Streams, Untouched}
 
--- what may be said of a run of an image with these sizes and steps that ends so
-abbrev pub RunRelation : Type 1
-RunRelation = Image → (heap stack steps : ℕ) → RunEnd → Type 0
-
 -- the machine ran the image on the streams with these sizes and steps, and it ended so
 pub record HasRun {I O : Type 0} (s : Streams I O)
     (image : Image) (heap stack steps : ℕ) (end : RunEnd) : Type 0 where
@@ -44,13 +40,6 @@ world_in (Ended e w) = w
 abbrev pub outcome_on : Image → (heap stack steps : ℕ) (bytes : List ℕ) → Outcome
 outcome_on image heap stack steps bytes =
     run steps (begun (start image.code image.statics image.entry heap stack) (answers bytes))
-
--- so the run ends, where the input tells its bytes
-pub record EndsOn (told : Option (List ℕ))
-    (image : Image) (heap stack steps : ℕ) (end : RunEnd) : Type 0 where
-  pub bytes : List ℕ
-  pub told_are : told ≡ Some bytes
-  pub ends : end ≡ end_in (outcome_on image heap stack steps bytes)
 
 -- the run ended as it does on these bytes, wrote what it writes there, and left what it leaves
 pub record IsExact {I O : Type 0} (s : Streams I O)

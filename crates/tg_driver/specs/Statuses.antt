@@ -11,7 +11,7 @@ use Rattle.tg_driver.specs.declared.faults.Rule.{Rule}
 use Rattle.tg_driver.specs.declared.faults.Rule.TheVariants.{Lexical, Syntactic, Typed}
 use Rattle.tg_driver.specs.declared.faults.Fault.{Fault}
 use Rattle.tg_driver.specs.declared.answers.Answer.{Answer}
-use Rattle.tg_driver.specs.declared.answers.Answer.TheVariants.{Usage, Unreadable, Faulty, BadLine, TooLong, Accepted, NotBuilt, OutOfMemory, Finished}
+use Rattle.tg_driver.specs.declared.answers.Answer.TheVariants.{Usage, Unreadable, Faulty, BadLine, TooLong, Accepted, Built, Unwritten, OutOfMemory, Finished}
 use Rattle.tg_driver.specs.Endings.{ended, end_status, end_line}
 
 abbrev pub status_of : Answer → ℕ
@@ -20,9 +20,10 @@ status_of (Faulty fault) = 65
 status_of (BadLine rule line) = 65
 status_of TooLong = 65
 status_of Unreadable = 66
-status_of NotBuilt = 69
 status_of OutOfMemory = 70
 status_of Accepted = 0
+status_of Built = 0
+status_of Unwritten = 74
 status_of (Finished end) = end_status end
 
 -- a rule of types, and what it says of a program that breaks it
@@ -85,7 +86,7 @@ fault_text fault =
 abbrev pub bad_line_text : AsmRule → (line : ℕ) → List ℕ
 bad_line_text rule line = codes "line " ++ (decimal line ++ (codes ": " ++ asm_text rule))
 
--- each line is ended by byte 10; an exit and an accepted source have none
+-- each line is ended by byte 10; an exit, an accepted source and a built one have none
 abbrev pub line_of : Answer → List ℕ
 line_of Usage =
     ended (codes "usage: tiger MODE FILE [--heap BYTES] [--stack BYTES] [--steps COUNT]")
@@ -93,7 +94,8 @@ line_of (Faulty fault) = ended (fault_text fault)
 line_of (BadLine rule line) = ended (bad_line_text rule line)
 line_of TooLong = ended (codes "line 1: A10 file too long")
 line_of Unreadable = ended (codes "cannot read file")
-line_of NotBuilt = ended (codes "not built")
 line_of OutOfMemory = ended (codes "out of memory")
 line_of Accepted = []
+line_of Built = []
+line_of Unwritten = ended (codes "read or write failed")
 line_of (Finished end) = end_line end

@@ -1,7 +1,7 @@
 -- How an answer is reported.
 use Rattle.std.specs.Prelude.{ℕ}
 use Rattle.tg_driver.specs.declared.answers.Answer.{Answer}
-use Rattle.tg_driver.specs.declared.answers.Answer.TheVariants.{Faulty, BadLine, Finished, OutOfMemory}
+use Rattle.tg_driver.specs.declared.answers.Answer.TheVariants.{Faulty, BadLine, Built, Unwritten, Finished, OutOfMemory}
 use Rattle.tg_driver.specs.Calls.{Stream, Takes}
 use Rattle.tg_driver.specs.Statuses.{line_of, status_of}
 
@@ -12,10 +12,12 @@ IsFixed (BadLine rule line) = ⊥
 IsFixed (Finished end) = ⊥
 IsFixed answer = Unit {0}
 
--- nothing has run
-abbrev pub IsBeforeRun : Answer → Type 0
-IsBeforeRun (Finished end) = ⊥
-IsBeforeRun answer = Unit {0}
+-- nothing has run, and no assembly text was written
+abbrev pub IsBeforeStart : Answer → Type 0
+IsBeforeStart (Finished end) = ⊥
+IsBeforeStart Built = ⊥
+IsBeforeStart Unwritten = ⊥
+IsBeforeStart answer = Unit {0}
 
 -- the sink took the line of the answer, and the status is its own; or the line failed, and the
 -- status is 74
@@ -25,4 +27,4 @@ IsTold err answer status = Takes err (line_of answer) (status_of answer) 74 stat
 -- the answer is told as it is, or, before anything was read or written, as want of memory
 pub data IsReported {E : Type 0} (err : Stream E) (answer : Answer) (status : ℕ) : Type 0 where
   itself : IsTold err answer status → IsReported err answer status
-  no_memory : IsBeforeRun answer → IsTold err OutOfMemory status → IsReported err answer status
+  no_memory : IsBeforeStart answer → IsTold err OutOfMemory status → IsReported err answer status

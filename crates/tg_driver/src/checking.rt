@@ -1,3 +1,13 @@
+ghost use Rattle.std.specs.Prelude.{◌≡◌, ⊤};
+ghost use Rattle.tg_syntax.specs.Plain.{plain};
+ghost use Rattle.tg_command.specs.Commands.{asked_of};
+ghost use Rattle.tg_driver.specs.Calls.{shelf_of};
+ghost use Rattle.tg_driver.specs.CheckMode.{IsChecked};
+ghost use Rattle.tg_driver.specs.Found.{IsRefused};
+ghost use Rattle.tg_driver.specs.OfFiles.{OfFile, OrMemory};
+ghost use Rattle.tg_driver.specs.Readings.{HasNamedTree, IsRefusalOf};
+ghost use Rattle.tg_driver.specs.Sources.{HasFault};
+
 use crate::answers::{Answer, unread};
 use crate::faults::{Fault, Rule};
 use crate::reading::{LONGEST, NamedProgram, ill_typed, parse_source};
@@ -9,6 +19,9 @@ use tg_types::check;
 
 /// The answer of the mode `check`.
 pub(crate) fn answer_check<H: Shelf>(alloc: Global, command: &Command, shelf: &mut H) -> Answer
+    ensures due { OrMemory ⊤ (OfFile (shelf_of H.files H.faults shelf.old shelf.new)
+        (asked_of command.now).file 262145 IsChecked) result }
+    ensures files { H.files shelf.new ≡ H.files shelf.old }
 {
     match shelf.read_file(alloc, command.file.as_str(), LONGEST + 1) {
         Ok(text) => check_text(alloc, &text),
@@ -18,6 +31,7 @@ pub(crate) fn answer_check<H: Shelf>(alloc: Global, command: &Command, shelf: &m
 
 /// The answer of a source that is to be checked.
 fn check_text(alloc: Global, text: &[u8]) -> Answer
+    ensures { OrMemory ⊤ (IsChecked text.now) result }
 {
     match parse_source(alloc, text) {
         Ok(source) => check_program(alloc, text, &source),
@@ -27,6 +41,8 @@ fn check_text(alloc: Global, text: &[u8]) -> Answer
 
 /// The answer of the tree of a source that is to be checked.
 fn check_program(alloc: Global, text: &[u8], source: &NamedProgram) -> Answer
+    requires { HasNamedTree text.now source.now.names (plain source.now.program.body) }
+    ensures { OrMemory ⊤ (IsChecked text.now) result }
 {
     match check(alloc, &source.program, &source.names) {
         Ok(_checked) => Answer::Accepted,
@@ -36,6 +52,8 @@ fn check_program(alloc: Global, text: &[u8], source: &NamedProgram) -> Answer
 
 /// The answer of a source that is refused.
 pub(crate) fn refused(text: &[u8], refusal: Refusal) -> Answer
+    requires { IsRefusalOf text.now refusal }
+    ensures { IsRefused text.now result }
 {
     match refusal {
         Refusal::Lex { rule, at } => faulty(text, Rule::Lexical(rule), at),
@@ -47,6 +65,8 @@ pub(crate) fn refused(text: &[u8], refusal: Refusal) -> Answer
 
 /// The answer of a source whose first fault stands at a byte.
 fn faulty(text: &[u8], rule: Rule, at: u32) -> Answer
+    requires { HasFault text.now rule at }
+    ensures { IsRefused text.now result }
 {
     Answer::Faulty(Fault {
         rule,

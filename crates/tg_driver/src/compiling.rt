@@ -1,3 +1,7 @@
+ghost use Rattle.std.specs.Prelude.{ℕ, List};
+ghost use Rattle.tg_syntax.specs.Plain.{plain};
+ghost use Rattle.tg_driver.specs.Readings.{HasNamedTree, IsCompiled};
+
 use crate::reading::{NamedProgram, ill_typed, parse_source};
 use crate::refusals::Refusal;
 use std::alloc::Global;
@@ -9,6 +13,7 @@ use tg_types::check;
 /// It is refused by its first fault exactly where it has one; `Memory` may come in place of any
 /// answer.
 pub fn compile(alloc: Global, text: &[u8]) -> Result<Compiled, Refusal>
+    ensures { IsCompiled text.now result }
 {
     let source = parse_source(alloc, text)?;
     compile_program(alloc, &source)
@@ -16,6 +21,11 @@ pub fn compile(alloc: Global, text: &[u8]) -> Result<Compiled, Refusal>
 
 /// Types the tree of a source and compiles it.
 fn compile_program(alloc: Global, source: &NamedProgram) -> Result<Compiled, Refusal>
+    requires { (text : List ℕ)
+        × HasNamedTree text source.now.names (plain source.now.program.body) }
+    ensures { (text : List ℕ)
+        → HasNamedTree text source.now.names (plain source.now.program.body)
+        → IsCompiled text result }
 {
     match check(alloc, &source.program, &source.names) {
         Ok(checked) => Ok(compile_checked(alloc, &checked)?),

@@ -2,7 +2,7 @@ ghost use Rattle.std.specs.Prelude.{◌≡◌, ◌≤◌, ⊤, length};
 ghost use Rattle.tg_command.specs.Commands.{KeepsLimits, asked_of};
 ghost use Rattle.tg_driver.specs.Calls.{shelf_of, stream_of, streams_of};
 ghost use Rattle.tg_driver.specs.ExecMode.{IsExecuted};
-ghost use Rattle.tg_driver.specs.OfFiles.{OfFile, OrMemory, UntouchedBeforeRun};
+ghost use Rattle.tg_driver.specs.OfFiles.{OfFile, OrMemory, UntouchedBeforeStart};
 ghost use Rattle.tg_driver.specs.Runs.{HasRun, IsRunOrMemory};
 
 use crate::answers::{Answer, unread};
@@ -31,7 +31,7 @@ pub(crate) fn answer_exec<H: Shelf, I: Source, O: Sink>(
         (stream_of I.left I.faults streams.entry.input.now streams.exit.0.now)
         (stream_of O.taken O.faults streams.entry.out.now streams.exit.1.0.now)))
         (asked_of command.now))) result }
-    ensures before_run { UntouchedBeforeRun (streams_of
+    ensures before_start { UntouchedBeforeStart (streams_of
         (stream_of I.left I.faults streams.entry.input.now streams.exit.0.now)
         (stream_of O.taken O.faults streams.entry.out.now streams.exit.1.0.now)) result }
     ensures files { H.files shelf.new ≡ H.files shelf.old }
@@ -54,7 +54,7 @@ fn execute_text<I: Source, O: Sink>(
         (stream_of I.left I.faults streams.entry.input.now streams.exit.0.now)
         (stream_of O.taken O.faults streams.entry.out.now streams.exit.1.0.now)))
         (asked_of command.now) text.now) result }
-    ensures before_run { UntouchedBeforeRun (streams_of
+    ensures before_start { UntouchedBeforeStart (streams_of
         (stream_of I.left I.faults streams.entry.input.now streams.exit.0.now)
         (stream_of O.taken O.faults streams.entry.out.now streams.exit.1.0.now)) result }
 {

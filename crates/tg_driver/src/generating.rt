@@ -1,10 +1,29 @@
+ghost use Rattle.std.specs.Prelude.{◌≡◌, ◌++◌, ◌≤◌, ◌<◌, ℕ, ⊤, [], length};
+ghost use Rattle.std.specs.Fmt.{decimal};
+ghost use Rattle.tg_base.specs.Causes.{HasCause};
+ghost use Rattle.tg_base.specs.Writes.{TakesAll};
+ghost use Rattle.tg_isa.specs.declared.images.Image.{Image as ImageOf};
+ghost use Rattle.tg_machine.specs.Machines.{loaded};
+ghost use Rattle.tg_command.specs.Counts.{IsWithin, function_limits};
+ghost use Rattle.tg_command.specs.Commands.{KeepsLimits, asked_of};
+ghost use Rattle.tg_driver.specs.Calls.{stream_of};
+ghost use Rattle.tg_driver.specs.Endings.{end_status};
+ghost use Rattle.tg_driver.specs.GenMode.{
+  IsGenerated,
+  SumsUpBuilt,
+  SumsUpRun,
+  TakesSummary,
+  counts,
+  summary,
+};
+ghost use Rattle.tg_driver.specs.OfFiles.{HasStarted, OrMemory, StaysBeforeStart};
+
 use crate::answers::Answer;
-use crate::checking::refused;
 use crate::compiling::compile;
 use crate::endings::end_status;
+use crate::images::image_of;
 use std::alloc::Global;
-use tg_asm::assemble;
-use tg_base::{Failed, Memory, PlainSource, RunEnd, Sink, write_all};
+use tg_base::{Failed, PlainSource, RunEnd, Sink, write_all};
 use tg_command::Command;
 use tg_generate::generate;
 use tg_isa::Image;
@@ -13,6 +32,11 @@ use tg_machine::{Machine, load};
 /// The answer of the mode `gen`: generates a source, compiles it, runs it on an empty input, and
 /// writes the summary line.
 pub(crate) fn answer_gen<O: Sink>(alloc: Global, command: &Command, out: &mut O) -> Answer
+    requires limits { KeepsLimits (asked_of command.now) }
+    requires number { IsWithin function_limits command.now.number }
+    ensures due { OrMemory ⊤ (IsGenerated (stream_of O.taken O.faults out.old out.new)
+        (asked_of command.now)) result }
+    ensures before_start { StaysBeforeStart (stream_of O.taken O.faults out.old out.new) result }
 {
     match generate(alloc, command.number) {
         Ok(text) => run_generated(alloc, command, &text, out),
@@ -20,24 +44,19 @@ pub(crate) fn answer_gen<O: Sink>(alloc: Global, command: &Command, out: &mut O)
     }
 }
 
-/// The answer of a generated source.
+/// The answer of a generated source. A refusal of it is told as want of memory.
 fn run_generated<O: Sink>(alloc: Global, command: &Command, text: &[u8], out: &mut O) -> Answer
+    requires { KeepsLimits (asked_of command.now) }
+    ensures due { OrMemory ⊤ (SumsUpBuilt (stream_of O.taken O.faults out.old out.new)
+        command.now.number text.now command.now.heap command.now.stack command.now.steps) result }
+    ensures before_start { StaysBeforeStart (stream_of O.taken O.faults out.old out.new) result }
 {
     match compile(alloc, text) {
         Ok(compiled) => match image_of(alloc, &compiled.text) {
             Ok(image) => execute_generated(alloc, command, &image, text.len(), out),
             Err(_) => Answer::OutOfMemory,
         },
-        Err(refusal) => refused(text, refusal),
-    }
-}
-
-/// The image of an assembly text that was made of a source.
-fn image_of(alloc: Global, assembly: &[u8]) -> Result<Image, Memory>
-{
-    match assemble(alloc, assembly) {
-        Ok(image) => Ok(image),
-        Err(_) => Err(Memory),
+        Err(_) => Answer::OutOfMemory,
     }
 }
 
@@ -50,6 +69,13 @@ fn execute_generated<O: Sink>(
     bytes: usize,
     out: &mut O,
 ) -> Answer
+    requires limits { KeepsLimits (asked_of command.now) }
+    requires code { length image.now.code ≤ 66060288 }
+    requires statics { length image.now.statics ≤ 16711680 }
+    ensures due { OrMemory ⊤ (SumsUpRun (stream_of O.taken O.faults out.old out.new)
+        command.now.number bytes image.now command.now.heap command.now.stack command.now.steps)
+        result }
+    ensures before_start { StaysBeforeStart (stream_of O.taken O.faults out.old out.new) result }
 {
     match load(alloc, image, command.heap, command.stack) {
         Ok(machine) => {
@@ -60,7 +86,8 @@ fn execute_generated<O: Sink>(
     }
 }
 
-/// Runs a machine, and writes the summary line of its run. It takes no memory.
+/// Runs a machine, and writes the summary line of its run, unless the run ended at a write that
+/// failed. It takes no memory.
 fn run_and_sum_up<O: Sink>(
     machine: Machine,
     command: &Command,
@@ -68,20 +95,24 @@ fn run_and_sum_up<O: Sink>(
     input: PlainSource,
     out: &mut O,
 ) -> Answer
+    requires { 0 < command.now.steps }
+    ensures sums_up { (image : ImageOf) (heap stack : ℕ)
+        → machine ≡ loaded image heap stack
+        → input ≡ record { left = []; calls = 0 }
+        → SumsUpRun (stream_of O.taken O.faults out.old out.new)
+        command.now.number bytes image heap stack command.now.steps result }
+    ensures started { HasStarted result }
 {
     let mut machine = machine;
     let mut input = input;
     let end = machine.run(&mut input, out, command.steps);
-    let summary = Summary {
+    let told = Summary {
         functions: command.number,
         source: bytes,
         output: machine.written(),
         status: end_status(end),
     };
-    match write_summary(out, summary) {
-        Ok(()) => Answer::Finished(end),
-        Err(_) => Answer::Unwritten,
-    }
+    sum_up(out, end, told)
 }
 
 /// What the summary line of `gen` tells: how many functions were generated, the bytes of their
@@ -94,18 +125,49 @@ struct Summary {
     status: u8,
 }
 
-/// Writes the summary line, piece by piece, so that it takes no memory.
-fn write_summary<O: Sink>(out: &mut O, summary: Summary) -> Result<(), Failed>
+/// Writes the summary line of a run that ended so, unless it ended at a write that failed.
+fn sum_up<O: Sink>(out: &mut O, end: RunEnd, it: Summary) -> Answer
+    requires { it.status ≡ end_status end }
+    ensures sums_up { TakesSummary (stream_of O.taken O.faults out.old out.new)
+        it.functions it.source it.output end result }
+    ensures started { HasStarted result }
 {
-    write_count(out, b"functions ", u64::from(summary.functions))?;
-    write_count(out, b" source ", summary.source as u64)?;
-    write_count(out, b" output ", summary.output)?;
-    write_count(out, b" status ", u64::from(summary.status))?;
+    if let RunEnd::WriteFault = end {
+        return Answer::Finished(end);
+    }
+    match write_summary(out, it) {
+        Ok(()) => Answer::Finished(end),
+        Err(_) => Answer::Unwritten,
+    }
+}
+
+/// Writes the summary line, piece by piece, so that it takes no memory.
+fn write_summary<O: Sink>(out: &mut O, it: Summary) -> Result<(), Failed>
+    ensures line { TakesAll (O.taken out.old) (O.taken out.new) result
+        (summary it.functions it.source it.output it.status) }
+    ensures cause { HasCause (O.faults out.old) (O.faults out.new) result }
+{
+    write_counts(out, it)?;
+    write_count(out, b" status ", u64::from(it.status))?;
     write_all(out, b"\n")
+}
+
+/// Writes what the summary line has before its status.
+fn write_counts<O: Sink>(out: &mut O, it: Summary) -> Result<(), Failed>
+    ensures line { TakesAll (O.taken out.old) (O.taken out.new) result
+        (counts it.functions it.source it.output) }
+    ensures cause { HasCause (O.faults out.old) (O.faults out.new) result }
+{
+    write_count(out, b"functions ", u64::from(it.functions))?;
+    write_count(out, b" source ", it.source as u64)?;
+    write_count(out, b" output ", it.output)
 }
 
 /// Writes a word and a number.
 fn write_count<O: Sink>(out: &mut O, word: &[u8], number: u64) -> Result<(), Failed>
+    ensures line { TakesAll (O.taken out.old) (O.taken out.new) result
+        (word.now ++ decimal number) }
+    ensures cause { HasCause (O.faults out.old) (O.faults out.new) result }
 {
     let mut buffer = itoa::Buffer::new();
     write_all(out, word)?;

@@ -1,25 +1,26 @@
 ghost use Rattle.std.specs.Prelude.{◌≡◌, ◌⊎◌, ℕ, List, take};
 ghost use Rattle.tg_base.specs.declared.ends.RunEnd.{RunEnd};
 ghost use Rattle.tg_isa.specs.declared.images.Image.{Image};
-ghost use Rattle.tg_command.specs.declared.modes.Mode.TheVariants.{Exec};
 ghost use Rattle.tg_command.specs.Commands.{Asked};
 ghost use Rattle.tg_driver.specs.declared.answers.Answer.{Answer};
 ghost use Rattle.tg_driver.specs.declared.answers.Answer.TheVariants.{OutOfMemory};
-ghost use Rattle.tg_driver.specs.Answered.{Answers, IsEnded};
+ghost use Rattle.tg_driver.specs.Answered.{Answers};
 ghost use Rattle.tg_driver.specs.Calls.{Call, Streams};
-ghost use Rattle.tg_driver.specs.Laws.{Gives, IsFaultless, IsGood};
+ghost use Rattle.tg_driver.specs.ExecMode.{IsExecuted};
+ghost use Rattle.tg_driver.specs.Laws.{Gives, IsFaultless, IsGood, IsSettled};
 ghost use Rattle.tg_driver.specs.Meanings.{SourcesAreNeverStuck};
 ghost use Rattle.tg_driver.specs.Modes.{IsDueOfText, most_of};
-ghost use Rattle.tg_driver.specs.Runs.{EndsOn, HasRun, IsExact};
+ghost use Rattle.tg_driver.specs.OfFiles.{HasStarted};
+ghost use Rattle.tg_driver.specs.Runs.{HasRun, IsExact};
 
-/// The law that a command has at most one answer for a text, but for the ends of a machine that
-/// runs assembly text, which its input decides: so each answer comes exactly where its cause
-/// stands, or want of memory. It does nothing.
+/// The law that a command has at most one answer for a text, but where the streams were touched: an
+/// end of a run, which the input decides too, or whether the output took what was written. So each
+/// refusal comes exactly where its cause stands, or want of memory. It does nothing.
 pub fn one_answer<I, O>()
     ensures { (s : Streams I O) (asked : Asked) (text : List ℕ) (a b : Answer)
         → IsDueOfText (HasRun s) asked.mode asked text a
         → IsDueOfText (HasRun s) asked.mode asked text b
-        → (a ≡ b) ⊎ ((asked.mode ≡ Exec) × IsEnded a × IsEnded b) }
+        → (a ≡ b) ⊎ (HasStarted a × HasStarted b) }
 {}
 
 /// The law that a run ends exactly as the definition's run does on the same bytes, where the input
@@ -32,25 +33,24 @@ pub fn runs_are_exact<I, O>()
         → IsExact s image heap stack steps end bytes }
 {}
 
-/// The law that two calls for one text have one answer where their inputs tell the same bytes and
-/// no read or write failed, besides want of memory. It does nothing.
+/// The law that two calls that run one assembly text have one answer where their inputs tell the
+/// same bytes and no read or write failed, besides want of memory. It does nothing.
 pub fn answers_are_exact<I, O, J, P>()
     ensures { (s : Streams I O) (t : Streams J P) (asked : Asked) (text bytes : List ℕ)
         (a b : Answer)
         → IsFaultless s bytes → IsFaultless t bytes
-        → IsDueOfText (HasRun s) asked.mode asked text a
-        → IsDueOfText (HasRun t) asked.mode asked text b
+        → IsExecuted (HasRun s) asked text a
+        → IsExecuted (HasRun t) asked text b
         → a ≡ b }
 {}
 
 /// The law that a call with good words for a file that is there, in which no count of faults rose,
-/// is answered as its text and its input determine, or by want of memory. It does nothing.
+/// is answered as its text and its input settle, or by want of memory. It does nothing.
 pub fn answers_are_complete<H, I, O, E>()
-    ensures { (c : Call H I O E) (status : ℕ) (asked : Asked) (file : List ℕ) (answer : Answer)
+    ensures { (c : Call H I O E) (status : ℕ) (asked : Asked) (file : List ℕ)
         → Answers c status → IsGood c asked file
-        → IsDueOfText (EndsOn (c.streams.input.told c.streams.input.before)) asked.mode asked
-        (take (most_of asked.mode) file) answer
-        → Gives c status answer ⊎ Gives c status OutOfMemory }
+        → IsSettled c status asked (take (most_of asked.mode) file)
+        ⊎ Gives c status OutOfMemory }
 {}
 
 /// The law that the evaluation of an accepted source is never stuck: it meets no value of the wrong

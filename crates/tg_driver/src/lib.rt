@@ -11,6 +11,7 @@ mod endings;
 mod executing;
 mod faults;
 mod generating;
+mod images;
 mod laws;
 mod reading;
 mod refusals;

@@ -1,10 +1,10 @@
+ghost use Rattle.std.specs.Prelude.{ℕ, List};
 ghost use Rattle.tg_driver.specs.Readings.{
-  HasNamedTree,
-  IsParsed,
   IsLexFaultOf,
+  IsParsed,
+  IsRefusalOf,
   IsSyntaxFaultOf,
   IsTypeFaultOf,
-  IsRefusalOf,
 };
 
 use crate::refusals::Refusal;

@@ -1,11 +1,18 @@
+ghost use Rattle.std.specs.Prelude.{◌≡◌, ⊤};
+ghost use Rattle.tg_command.specs.Commands.{KeepsLimits, asked_of};
+ghost use Rattle.tg_driver.specs.Calls.{shelf_of, stream_of, streams_of};
+ghost use Rattle.tg_driver.specs.OfFiles.{OfFile, OrMemory, UntouchedBeforeStart};
+ghost use Rattle.tg_driver.specs.RunMode.{EndsAssembled, IsRun};
+ghost use Rattle.tg_driver.specs.Runs.{HasRun};
+
 use crate::answers::{Answer, unread};
 use crate::checking::refused;
 use crate::compiling::compile;
 use crate::executing::execute;
+use crate::images::image_of;
 use crate::reading::LONGEST;
 use crate::streams::Streams;
 use std::alloc::Global;
-use tg_asm::assemble;
 use tg_base::{Shelf, Sink, Source};
 use tg_command::Command;
 
@@ -16,6 +23,17 @@ pub(crate) fn answer_run<H: Shelf, I: Source, O: Sink>(
     shelf: &mut H,
     streams: Streams<I, O>,
 ) -> Answer
+    requires { KeepsLimits (asked_of command.now) }
+    ensures due { OrMemory ⊤ (OfFile (shelf_of H.files H.faults shelf.old shelf.new)
+        (asked_of command.now).file 262145
+        (IsRun (HasRun (streams_of
+        (stream_of I.left I.faults streams.entry.input.now streams.exit.0.now)
+        (stream_of O.taken O.faults streams.entry.out.now streams.exit.1.0.now)))
+        (asked_of command.now))) result }
+    ensures before_start { UntouchedBeforeStart (streams_of
+        (stream_of I.left I.faults streams.entry.input.now streams.exit.0.now)
+        (stream_of O.taken O.faults streams.entry.out.now streams.exit.1.0.now)) result }
+    ensures files { H.files shelf.new ≡ H.files shelf.old }
 {
     match shelf.read_file(alloc, command.file.as_str(), LONGEST + 1) {
         Ok(text) => run_text(alloc, command, &text, streams),
@@ -30,6 +48,14 @@ fn run_text<I: Source, O: Sink>(
     text: &[u8],
     streams: Streams<I, O>,
 ) -> Answer
+    requires { KeepsLimits (asked_of command.now) }
+    ensures due { OrMemory ⊤ (IsRun (HasRun (streams_of
+        (stream_of I.left I.faults streams.entry.input.now streams.exit.0.now)
+        (stream_of O.taken O.faults streams.entry.out.now streams.exit.1.0.now)))
+        (asked_of command.now) text.now) result }
+    ensures before_start { UntouchedBeforeStart (streams_of
+        (stream_of I.left I.faults streams.entry.input.now streams.exit.0.now)
+        (stream_of O.taken O.faults streams.entry.out.now streams.exit.1.0.now)) result }
 {
     match compile(alloc, text) {
         Ok(compiled) => run_assembly(alloc, command, &compiled.text, streams),
@@ -45,8 +71,16 @@ fn run_assembly<I: Source, O: Sink>(
     assembly: &[u8],
     streams: Streams<I, O>,
 ) -> Answer
+    requires { KeepsLimits (asked_of command.now) }
+    ensures runs { EndsAssembled (HasRun (streams_of
+        (stream_of I.left I.faults streams.entry.input.now streams.exit.0.now)
+        (stream_of O.taken O.faults streams.entry.out.now streams.exit.1.0.now)))
+        assembly.now command.now.heap command.now.stack command.now.steps result }
+    ensures before_start { UntouchedBeforeStart (streams_of
+        (stream_of I.left I.faults streams.entry.input.now streams.exit.0.now)
+        (stream_of O.taken O.faults streams.entry.out.now streams.exit.1.0.now)) result }
 {
-    match assemble(alloc, assembly) {
+    match image_of(alloc, assembly) {
         Ok(image) => execute(alloc, command, &image, streams),
         Err(_) => Answer::OutOfMemory,
     }

@@ -1,9 +1,12 @@
-ghost use Rattle.std.specs.Prelude.{◌≡◌, ◌≤◌, map, string_bytes};
+ghost use Rattle.std.specs.Prelude.{◌≡◌, ◌≤◌, ⊤, map, string_bytes};
+ghost use Rattle.tg_command.specs.Counts.{IsWithin, function_limits};
 ghost use Rattle.tg_command.specs.Commands.{KeepsLimits, asked_of};
 ghost use Rattle.tg_driver.specs.Answered.{Answers, IsDue};
 ghost use Rattle.tg_driver.specs.Calls.{Untouched, call_of, shelf_of, stream_of, streams_of};
+ghost use Rattle.tg_driver.specs.BuildMode.{IsBuilt};
+ghost use Rattle.tg_driver.specs.GenMode.{IsGenerated};
 ghost use Rattle.tg_driver.specs.Modes.{InMode};
-ghost use Rattle.tg_driver.specs.OfFiles.{OrMemory};
+ghost use Rattle.tg_driver.specs.OfFiles.{OfFile, OrMemory, StaysBeforeStart};
 
 use crate::answers::Answer;
 use crate::building::answer_build;
@@ -88,22 +91,39 @@ fn answer_command<H: Shelf, I: Source, O: Sink>(
     }
 }
 
+/// The answer of the mode `build`, which writes to the output alone.
 fn build_to<H: Shelf, I: Source, O: Sink>(
     alloc: Global,
     command: &Command,
     shelf: &mut H,
     streams: Streams<I, O>,
 ) -> Answer
+    ensures due { OrMemory ⊤ (OfFile (shelf_of H.files H.faults shelf.old shelf.new)
+        (asked_of command.now).file 262145
+        (IsBuilt (stream_of O.taken O.faults streams.entry.out.now streams.exit.1.0.now))) result }
+    ensures before_start { StaysBeforeStart
+        (stream_of O.taken O.faults streams.entry.out.now streams.exit.1.0.now) result }
+    ensures unread { streams.exit.0.now ≡ streams.entry.input.now }
+    ensures files { H.files shelf.new ≡ H.files shelf.old }
 {
     let Streams { input: _, out } = streams;
     answer_build(alloc, command, shelf, out)
 }
 
+/// The answer of the mode `gen`, which writes to the output alone.
 fn generate_to<I: Source, O: Sink>(
     alloc: Global,
     command: &Command,
     streams: Streams<I, O>,
 ) -> Answer
+    requires limits { KeepsLimits (asked_of command.now) }
+    requires number { IsWithin function_limits command.now.number }
+    ensures due { OrMemory ⊤ (IsGenerated
+        (stream_of O.taken O.faults streams.entry.out.now streams.exit.1.0.now)
+        (asked_of command.now)) result }
+    ensures before_start { StaysBeforeStart
+        (stream_of O.taken O.faults streams.entry.out.now streams.exit.1.0.now) result }
+    ensures unread { streams.exit.0.now ≡ streams.entry.input.now }
 {
     let Streams { input: _, out } = streams;
     answer_gen(alloc, command, out)

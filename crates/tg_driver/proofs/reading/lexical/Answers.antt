@@ -1,5 +1,5 @@
 use Rattle.tg_driver.proofs.FaultPlaces.{lexer_fault}
 use Rattle.tg_driver.proofs.reading.lexical.Goals as goal
 
-pub faulty-requires : goal.faulty-requires
-faulty-requires c = lexer_fault c.args.text.now c.in-Bad.rule c.in-Bad.at (rw c.in-Bad.is at c.requires)
+pub returns-in-Bad : goal.returns-in-Bad
+returns-in-Bad c = λ text h. lexer_fault text c.in-Bad.rule c.in-Bad.at (rw c.in-Bad.is at h)

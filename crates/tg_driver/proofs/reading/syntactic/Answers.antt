@@ -1,5 +1,5 @@
 use Rattle.tg_driver.proofs.FaultPlaces.{parser_fault}
 use Rattle.tg_driver.proofs.reading.syntactic.Goals as goal
 
-pub faulty-requires : goal.faulty-requires
-faulty-requires c = parser_fault c.args.text.now c.in-Bad.rule c.in-Bad.at (rw c.in-Bad.is at c.requires)
+pub returns-in-Bad : goal.returns-in-Bad
+returns-in-Bad c = λ text h. parser_fault text c.in-Bad.rule c.in-Bad.at (rw c.in-Bad.is at h)

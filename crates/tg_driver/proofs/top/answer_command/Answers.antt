@@ -1,8 +1,8 @@
 use Rattle.std.proofs.Common.{refl}
-use Rattle.tg_command.specs.declared.modes.Mode.TheVariants.{Check, Run, Exec}
+use Rattle.tg_command.specs.declared.modes.Mode.TheVariants.{Check, Build, Run, Exec, Gen}
 use Rattle.tg_command.specs.Commands.{asked_of}
 use Rattle.tg_driver.specs.Calls.{shelf_of, stream_of, streams_of}
-use Rattle.tg_driver.proofs.AnswerLemmas.{by_check, by_run, by_exec, in_mode}
+use Rattle.tg_driver.proofs.AnswerLemmas.{by_check, by_build, by_run, by_exec, by_gen, in_mode}
 use Rattle.tg_driver.proofs.top.answer_command.Goals as goal
 
 pub returns-in-Check-clause-due : goal.returns-in-Check-clause-due
@@ -15,6 +15,16 @@ returns-in-Check-clause-due g c =
     in_mode Check shelf streams asked c.answer_check.result c.in-Check.is
     (by_check shelf streams asked c.answer_check.result (refl, refl) c.answer_check.ensures.due)
 
+pub returns-in-Build-clause-due : goal.returns-in-Build-clause-due
+returns-in-Build-clause-due g c =
+    let shelf = shelf_of g.H.Shelf.files g.H.Shelf.faults c.args.shelf.now c.build_to.new.shelf in
+    let streams = streams_of
+    (stream_of g.I.Source.left g.I.Source.faults c.args.streams.input.now c.build_to.new.streams.0)
+    (stream_of g.O.Sink.taken g.O.Sink.faults c.args.streams.out.now c.build_to.new.streams.1.0) in
+    let asked = asked_of c.args.command.now in
+    in_mode Build shelf streams asked c.build_to.result c.in-Build.is
+    (by_build shelf streams asked c.build_to.result c.build_to.ensures.unread c.build_to.ensures.before_start c.build_to.ensures.due)
+
 pub returns-in-Run-clause-due : goal.returns-in-Run-clause-due
 returns-in-Run-clause-due g c =
     let shelf = shelf_of g.H.Shelf.files g.H.Shelf.faults c.args.shelf.now c.answer_run.new.shelf in
@@ -23,7 +33,7 @@ returns-in-Run-clause-due g c =
     (stream_of g.O.Sink.taken g.O.Sink.faults c.args.streams.out.now c.answer_run.new.streams.1.0) in
     let asked = asked_of c.args.command.now in
     in_mode Run shelf streams asked c.answer_run.result c.in-Run.is
-    (by_run shelf streams asked c.answer_run.result (c.answer_run.ensures.unread, c.answer_run.ensures.unwritten) c.answer_run.ensures.due)
+    (by_run shelf streams asked c.answer_run.result c.answer_run.ensures.before_start c.answer_run.ensures.due)
 
 pub returns-in-Exec-clause-due : goal.returns-in-Exec-clause-due
 returns-in-Exec-clause-due g c =
@@ -33,4 +43,17 @@ returns-in-Exec-clause-due g c =
     (stream_of g.O.Sink.taken g.O.Sink.faults c.args.streams.out.now c.answer_exec.new.streams.1.0) in
     let asked = asked_of c.args.command.now in
     in_mode Exec shelf streams asked c.answer_exec.result c.in-Exec.is
-    (by_exec shelf streams asked c.answer_exec.result c.answer_exec.ensures.before_run c.answer_exec.ensures.due)
+    (by_exec shelf streams asked c.answer_exec.result c.answer_exec.ensures.before_start c.answer_exec.ensures.due)
+
+pub returns-in-Gen-clause-due : goal.returns-in-Gen-clause-due
+returns-in-Gen-clause-due g c =
+    let shelf = shelf_of g.H.Shelf.files g.H.Shelf.faults c.args.shelf.now c.args.shelf.now in
+    let streams = streams_of
+    (stream_of g.I.Source.left g.I.Source.faults c.args.streams.input.now c.generate_to.new.streams.0)
+    (stream_of g.O.Sink.taken g.O.Sink.faults c.args.streams.out.now c.generate_to.new.streams.1.0) in
+    let asked = asked_of c.args.command.now in
+    in_mode Gen shelf streams asked c.generate_to.result c.in-Gen.is
+    (by_gen shelf streams asked c.generate_to.result refl c.generate_to.ensures.unread c.generate_to.ensures.before_start c.generate_to.ensures.due)
+
+pub generate_to-requires-clause-number : goal.generate_to-requires-clause-number
+generate_to-requires-clause-number g c = c.requires.number c.in-Gen.is

@@ -1,0 +1,39 @@
+-- What a program is compiled to, pass after pass. Each line says as much of its pass as is proved.
+use Rattle.std.specs.Prelude.{◌≡◌, ℕ, List, [], ◌∷◌, ◌++◌, map}
+use Rattle.tg_syntax.specs.Tree.{Exp}
+use Rattle.tg_tree.specs.declared.fragments.Literal.{Literal}
+use Rattle.tg_tree.specs.Tree.{Ts, Function, Code}
+use Rattle.tg_tree.specs.Plain.{plain_literal}
+use Rattle.tg_runtime.specs.Routines.{runtime}
+use Rattle.tg_instr.specs.declared.codes.Allocated.{Allocated}
+use Rattle.tg_emit.specs.Lines.{assembly_of}
+use Rattle.tg_emit.specs.Text.{text_of}
+
+-- the functions and literals of a program, and behind them the runtime's
+abbrev pub with_runtime : Code Ts → Code Ts
+with_runtime program = record {
+  functions = program.functions ++ runtime.functions;
+  literals = program.literals ++ runtime.literals;
+}
+
+-- code over registers that stands for a function: under its label, with its parameters
+pub record CompilesFunction (f : Function Ts) (code : Allocated) : Type 0 where
+  pub label : code.frame.label.0 ≡ f.label
+  pub params : code.frame.params ≡ f.params
+
+-- each function has its code, in their order
+abbrev pub CompileFunctions : List (Function Ts) → List Allocated → Type 0
+CompileFunctions [] [] = Unit {0}
+CompileFunctions (f ∷ functions) (code ∷ codes) =
+    CompilesFunction f code × CompileFunctions functions codes
+CompileFunctions _ _ = ⊥
+
+-- The text is the assembly of the program: of the functions and literals that it is translated to
+-- and the runtime's, each function compiled.
+pub record Compiles (program : Exp) (text : List ℕ) : Type 0 where
+  pub tree : Code Ts
+  pub codes : List Allocated
+  pub literals : List Literal
+  pub functions_are : CompileFunctions (with_runtime tree).functions codes
+  pub literals_are : map plain_literal literals ≡ (with_runtime tree).literals
+  pub text_is : text ≡ text_of (assembly_of codes literals)
