@@ -15,6 +15,7 @@ pub(crate) struct Outside<'a> {
     pub(crate) room: usize,
     pub(crate) shelf_fails: &'a [u64],
     pub(crate) read_fails: &'a [u64],
+    pub(crate) write_fails: &'a [u64],
     pub(crate) err_fails: &'a [u64],
 }
 
@@ -26,6 +27,7 @@ impl<'a> Outside<'a> {
             room: 64,
             shelf_fails: &[],
             read_fails: &[],
+            write_fails: &[],
             err_fails: &[],
         }
     }
@@ -42,6 +44,7 @@ pub(crate) struct Seen {
     pub(crate) reads: u64,
     pub(crate) writes: u64,
     pub(crate) lines_failed: u64,
+    pub(crate) writes_failed: u64,
 }
 
 /// The words of a line, with a `|` between them.
@@ -72,7 +75,7 @@ pub(crate) fn call(alloc: Global, line: &str, outside: Outside) -> Result<Seen, 
         b"xyz".as_slice().to_vec(alloc)?,
         outside.read_fails.to_vec(alloc)?,
     );
-    let mut out = sink(alloc, outside.room, &[])?;
+    let mut out = sink(alloc, outside.room, outside.write_fails)?;
     let mut err = sink(alloc, 128, outside.err_fails)?;
     let words = words_of(alloc, line)?;
     let status = tiger(alloc, &words, &mut shelf, &mut input, &mut out, &mut err);
@@ -85,6 +88,7 @@ pub(crate) fn call(alloc: Global, line: &str, outside: Outside) -> Result<Seen, 
         reads: input.calls(),
         writes: out.calls(),
         lines_failed: err.faults(),
+        writes_failed: out.faults(),
     })
 }
 
@@ -140,9 +144,10 @@ pub(crate) fn answers(
     Ok(())
 }
 
-/// Both modes that read sources refuse the text by this line.
+/// The modes that read sources refuse the text by this line.
 pub(crate) fn refused(rt: &impl Abort, alloc: Global, text: &[u8], line: &str) -> Result<(), Fail> {
     answers(rt, alloc, "tiger|check|FILE", text, 65, line)?;
+    answers(rt, alloc, "tiger|build|FILE", text, 65, line)?;
     answers(rt, alloc, "tiger|run|FILE", text, 65, line)
 }
 

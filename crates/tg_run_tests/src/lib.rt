@@ -8,6 +8,8 @@ mod calls;
 #[cfg(test)]
 mod faults;
 #[cfg(test)]
+mod languages;
+#[cfg(test)]
 mod programs;
 #[cfg(test)]
 mod runs;

@@ -23,26 +23,26 @@ static RUNS: [&str; 40] = [
     "110 overflow|exit(46341*46341)",
     "110 overflow|exit(65536*65536)",
     "110 overflow|exit((2147483647+1)*0)",
-    "69 not built|exit(1/2)",
-    "69 not built|exit(1+2/2)",
-    "69 not built|print(\"x\")",
+    "0 |exit(1/2)",
+    "2 |exit(1+2/2)",
+    "103 division by zero|exit(1/0)",
     "65 1:1: T10 wrong number of arguments|exit()",
     "65 1:1: T10 wrong number of arguments|exit(1,2)",
     "65 1:1: T2 unknown function|exits(1)",
     "65 1:1: T2 unknown function|Exit(1)",
     "65 1:1: T2 unknown function|exi(1)",
-    "69 not built|(exit(1))",
-    "69 not built|exit((1;2))",
+    "1 |(exit(1))",
+    "2 |exit((1;2))",
     "65 1:6: T12 value needed|exit(())",
     "65 1:6: T1 unknown variable|exit(a)",
-    "69 not built|exit(1=1)",
-    "69 not built|exit(1&1)",
+    "1 |exit(1=1)",
+    "1 |exit(1&1)",
     "65 1:6: T6 type mismatch|exit(nil)",
     "65 1:6: T12 value needed|exit(exit(1))",
     "65 1:6: T6 type mismatch|exit(\"1\")",
-    "69 not built|exit(if 1 then 2 else 3)",
-    "69 not built|1",
-    "69 not built|let in exit(1) end",
+    "2 |exit(if 1 then 2 else 3)",
+    "0 |1",
+    "1 |let in exit(1) end",
 ];
 
 #[test]
@@ -85,7 +85,7 @@ fn files_and_lines_that_fail(rt: HostRuntime) -> Result<(), Fail> {
         shelf_fails: &[1],
         ..Outside::of(b"exit(0)")
     };
-    for line in ["tiger|check|FILE", "tiger|run|FILE", "tiger|exec|FILE"] {
+    for line in ["tiger|check|FILE", "tiger|build|FILE", "tiger|run|FILE", "tiger|exec|FILE"] {
         let seen = call(alloc, line, unread)?;
         assert_eq!(rt; seen.status, 66);
         assert_eq!(rt;

@@ -5,7 +5,7 @@ use tg_command::{Command, Mode, read_words};
 use tg_driver::usage;
 
 // Command lines, with a `|` between their words, that are usage faults. FILE is there.
-static REFUSED: [&str; 78] = [
+static REFUSED: [&str; 85] = [
     "tiger",
     "tiger|run",
     "tiger|FILE",
@@ -17,7 +17,14 @@ static REFUSED: [&str; 78] = [
     "tiger|runs|FILE",
     "tiger|ru|FILE",
     "tiger||FILE",
-    "tiger|build|FILE",
+    "tiger|builds|FILE",
+    "tiger|gen|0",
+    "tiger|gen|1001",
+    "tiger|gen|x",
+    "tiger|gen|",
+    "tiger|gen|+1",
+    "tiger|gen|000000000000000000001",
+    "tiger|gen|FILE",
     "tiger|execute|FILE",
     "tiger|-|FILE",
     "tiger|run|FILE|--heap",
@@ -87,7 +94,7 @@ static REFUSED: [&str; 78] = [
 ];
 
 // A status, a blank, and a command line that has it, where FILE holds `exit(7)`.
-static LINES: [&str; 33] = [
+static LINES: [&str; 35] = [
     "7 tiger|run|FILE",
     "7 |run|FILE",
     "0 tiger|check|FILE",
@@ -98,19 +105,21 @@ static LINES: [&str; 33] = [
     "7 tiger|run|FILE|--heap=8",
     "7 tiger|--heap|8|run|FILE",
     "7 tiger|run|--heap=8|FILE",
-    "7 tiger|--steps=7|run|--stack|65536|FILE|--heap=4",
+    "7 tiger|--steps=1000|run|--stack|65536|FILE|--heap=4",
     "7 tiger|run|FILE|--heap|4",
     "7 tiger|run|FILE|--heap|268435456",
     "7 tiger|run|FILE|--heap|00000000000000000008",
     "7 tiger|run|FILE|--stack|65536",
     "7 tiger|run|FILE|--stack|268435456",
     "7 tiger|run|FILE|--steps|4611686018427387904",
-    "7 tiger|run|FILE|--steps|00000000000000000007",
-    "7 tiger|run|FILE|--steps|8",
-    "7 tiger|run|FILE|--steps|7",
-    "109 tiger|run|FILE|--steps|6",
+    "7 tiger|run|FILE|--steps|00000000000000001000",
+    "7 tiger|run|FILE|--steps|1001",
+    "7 tiger|run|FILE|--steps|1000",
+    "109 tiger|run|FILE|--steps|4",
     "109 tiger|run|FILE|--steps|1",
     "0 tiger|check|FILE|--steps|1",
+    "0 tiger|build|FILE|--steps|1",
+    "66 tiger|build|MISSING",
     "0 tiger|check|FILE|--heap|4|--stack|65536",
     "0 tiger|--steps|1|check|FILE",
     "66 tiger|run|MISSING",
@@ -125,10 +134,13 @@ static LINES: [&str; 33] = [
 
 // The mode, the heap, the stack, the steps and the file that a command line asks for, with blanks
 // between them, a `|`, and the line.
-static TAKEN: [&str; 21] = [
+static TAKEN: [&str; 24] = [
     "run 16777216 67108864 1000000000 a.tig|tiger|run|a.tig",
     "check 16777216 67108864 1000000000 a.tig|tiger|check|a.tig",
     "exec 16777216 67108864 10 a.s|tiger|exec|a.s|--steps|10",
+    "build 16777216 67108864 1000000000 a|tiger|build|a",
+    "gen 16777216 67108864 1000000000 0017|tiger|gen|0017",
+    "gen 16777216 67108864 1000000000 1000|tiger|gen|1000",
     "run 16777216 67108864 1000000000 a.s|tiger|run|a.s",
     "run 16777216 67108864 1000000000 a||run|a",
     "run 16777216 67108864 1000000000 run|tiger|run|run",
@@ -170,8 +182,10 @@ fn lines_of_words_have_their_statuses(rt: HostRuntime) -> Result<(), Fail> {
 fn told(alloc: Global, command: &Command) -> Result<String, AllocError> {
     let mode = match command.mode {
         Mode::Check => "check",
+        Mode::Build => "build",
         Mode::Run => "run",
         Mode::Exec => "exec",
+        Mode::Gen => "gen",
     };
     let file = command.file.as_str();
     let (heap, stack, steps) = (command.heap, command.stack, command.steps);
