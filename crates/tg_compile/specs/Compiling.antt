@@ -1,11 +1,17 @@
--- What a program is compiled to, pass after pass. Each line says as much of its pass as is proved.
-use Rattle.std.specs.Prelude.{◌≡◌, ℕ, List, [], ◌∷◌, ◌++◌, map}
+-- What a program is compiled to, pass after pass (Appel, chapters 7 to 12).
+use Rattle.std.specs.Prelude.{◌≡◌, ◌+◌, ℕ, List, [], ◌∷◌, ◌++◌, map}
 use Rattle.tg_syntax.specs.Tree.{Exp}
 use Rattle.tg_tree.specs.declared.fragments.Literal.{Literal}
-use Rattle.tg_tree.specs.Tree.{Ts, Function, Code}
+use Rattle.tg_tree.specs.Tree.{Ts, Linear, Function, Code}
 use Rattle.tg_tree.specs.Plain.{plain_literal}
 use Rattle.tg_runtime.specs.Routines.{runtime}
+use Rattle.tg_canon.specs.Canon.{linearized}
+use Rattle.tg_trace.specs.Cutting.{blocks_of}
+use Rattle.tg_trace.specs.Laying.{traced}
 use Rattle.tg_instr.specs.declared.codes.Allocated.{Allocated}
+use Rattle.tg_munch.specs.Choosing.{Chosen}
+use Rattle.tg_munch.specs.Bodies.{munched, outs}
+use Rattle.tg_spill.specs.InFrame.{code_in_frame}
 use Rattle.tg_emit.specs.Lines.{assembly_of}
 use Rattle.tg_emit.specs.Text.{text_of}
 
@@ -16,10 +22,28 @@ with_runtime program = record {
   literals = program.literals ++ runtime.literals;
 }
 
--- code over registers that stands for a function: under its label, with its parameters
+-- the flat code of a function: its canonical statements, cut into blocks that are laid in traces
+abbrev pub flattened : Function Ts → Function (List Linear)
+flattened f = record {
+  label = f.label;
+  params = f.params;
+  slots = f.slots;
+  temps = (linearized f.body f.temps).next;
+  out = f.out;
+  body = traced (blocks_of (linearized f.body f.temps).it);
+}
+
+-- the instructions that are chosen for it, and what was drawn for them
+abbrev pub chosen : Function Ts → Chosen (Unit {0})
+chosen f = munched (flattened f)
+
+-- code over registers that stands for a function, with each temporary in a slot of its own
 pub record CompilesFunction (f : Function Ts) (code : Allocated) : Type 0 where
   pub label : code.frame.label.0 ≡ f.label
   pub params : code.frame.params ≡ f.params
+  pub slots : code.frame.slots ≡ f.slots + (chosen f).drawn.temp
+  pub out : code.frame.out ≡ outs (flattened f).body
+  pub list : code.code.list ≡ code_in_frame f.slots (chosen f).code
 
 -- each function has its code, in their order
 abbrev pub CompileFunctions : List (Function Ts) → List Allocated → Type 0

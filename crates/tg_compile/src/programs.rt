@@ -11,7 +11,7 @@ use crate::bodies::compile_function;
 use crate::compiled::Compiled;
 use std::alloc::Global;
 use tg_base::Memory;
-use tg_conditions::are_emittable;
+use tg_conditions::{are_emittable, have_labels};
 use tg_emit::{emit, text};
 use tg_escape::escapes;
 use tg_instr::Allocated;
@@ -84,6 +84,9 @@ fn write(alloc: Global, codes: &[Allocated], literals: &[Literal]) -> Result<Vec
         return Err(Memory);
     }
     let assembly = emit(alloc, codes, literals)?;
+    if !have_labels(&assembly) {
+        return Err(Memory);
+    }
     Ok(text(alloc, &assembly)?)
 }
 
