@@ -1,2 +1,3 @@
 -- tests of both and of all, for the passes above
 pub mod Tests
+mod MeaningExamples

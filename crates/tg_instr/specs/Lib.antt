@@ -4,3 +4,6 @@ pub mod Uses
 pub mod Codes
 pub mod Lengths
 pub mod Renaming
+pub mod Contents
+pub mod Meaning
+pub mod Running
