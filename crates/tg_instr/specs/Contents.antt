@@ -1,9 +1,10 @@
 -- What operands hold in a run of instructions. What a function finds in $s0 to $s7 and $ra at its
 -- entry it must give back: it may move it and keep it in a slot, and has no other use of it.
-use Rattle.std.specs.Prelude.{ℕ, zero, suc, ◌+◌, ◌-◌, ◌==◌, ◌&&◌, ◌||◌, Bool, true, false, nat_le, nat_lt, if◌then◌else◌}
+use Rattle.std.specs.Prelude.{ℕ, ◌-◌, ◌==◌, ◌&&◌, ◌||◌, Bool, true, false, List, [], ◌∷◌, ◌++◌, map, if◌then◌else◌}
 use Rattle.tg_instr.specs.declared.operands.Opnd.TheVariants.{Temp, Reg}
-use Rattle.tg_instr.specs.Operands.{is_same}
+use Rattle.tg_instr.specs.Operands.{is_same, registers}
 use Rattle.tg_instr.specs.Shapes.{Holder, Operand, Hi, Lo}
+use Rattle.tg_instr.specs.Uses.{arguments, clobbered, given_back}
 use Rattle.tg_tree.specs.Actions.{Activation}
 use Rattle.tg_tree.specs.Memory.{Cell, Unset, Has, Kept}
 
@@ -35,44 +36,44 @@ held a contents (Operand (Reg r)) =
     contents (Operand (Reg r))
 held a contents x = contents x
 
--- a call keeps $s0 to $s7; a function gives these and $ra back
-abbrev pub is_kept : (register : ℕ) → Bool
-is_kept r = nat_le 16 r && nat_lt r 24
+abbrev pub is_in : (register : ℕ) → List ℕ → Bool
+is_in r [] = false
+is_in r (n ∷ ns) = r == n || is_in r ns
 
-abbrev pub is_given_back : (register : ℕ) → Bool
-is_given_back r = is_kept r || r == 31
-
-abbrev pub is_argument : (register : ℕ) → Bool
-is_argument r = nat_le 4 r && nat_lt r 8
+abbrev pub is_among : Holder → List Holder → Bool
+is_among x [] = false
+is_among x (y ∷ ys) = is_holder x y || is_among x ys
 
 -- what is handed on to another activation: what is to be given back is nothing to it
 abbrev pub handed : Content → Content
 handed (Word v) = Word v
 handed _ = Nothing
 
--- at the entry of a function: $a0 to $a3 are handed on
+-- at the entry of a function: $a0 to $a3 are handed on, and what is to be given back is found
 abbrev pub at_entry : Contents → Contents
 at_entry contents (Operand (Reg r)) =
-    if is_argument r then handed (contents (Operand (Reg r))) else
-    if is_given_back r then Found r else Nothing
+    if is_in r arguments then handed (contents (Operand (Reg r))) else
+    if is_in r given_back then Found r else Nothing
 at_entry contents x = Nothing
 
--- after a call: $v0 is handed on, and the caller's temporaries and what a call keeps stay
-abbrev pub after_call : (result : Content) → Contents → Contents
-after_call c contents (Operand (Temp i)) = contents (Operand (Temp i))
-after_call c contents (Operand (Reg r)) =
-    if r == 2 then c else if is_kept r then contents (Operand (Reg r)) else Nothing
-after_call c contents x = Nothing
+-- what a call leaves unset, but for the result in $v0
+abbrev pub left_unset : List Holder
+left_unset = map (λ x. Operand x) (registers clobbered) ++ (Hi ∷ Lo ∷ [])
 
--- at a return: $ra and $s0 on, so many of these, have what was found there
+abbrev pub after_call : (result : Content) → Contents → Contents
+after_call c contents x =
+    if is_holder x (Operand (Reg 2)) then c else
+    if is_among x left_unset then Nothing else contents x
+
+-- at a return each of these registers has what was found in it
 abbrev pub is_found : (register : ℕ) → Content → Bool
 is_found r (Found q) = q == r
 is_found r _ = false
 
-abbrev pub gives_back : (saved : ℕ) → Contents → Bool
-gives_back zero contents = is_found 31 (contents (Operand (Reg 31)))
-gives_back (suc n) contents =
-    is_found (16 + n) (contents (Operand (Reg (16 + n)))) && gives_back n contents
+abbrev pub gives_back : (registers : List ℕ) → Contents → Bool
+gives_back [] contents = true
+gives_back (r ∷ rs) contents =
+    is_found r (contents (Operand (Reg r))) && gives_back rs contents
 
 -- in a slot of the frame
 abbrev pub cell_of : Content → Cell

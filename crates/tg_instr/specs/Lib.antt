@@ -7,3 +7,4 @@ pub mod Renaming
 pub mod Contents
 pub mod Meaning
 pub mod Running
+pub mod Laws

@@ -13,7 +13,8 @@ use Rattle.tg_instr.specs.declared.operands.Opnd.{Opnd}
 use Rattle.tg_instr.specs.declared.operands.Opnd.TheVariants.{Reg}
 use Rattle.tg_instr.specs.Operands.{is_same}
 use Rattle.tg_instr.specs.Shapes.{Holder, Operand, Hi, Lo, Shape, From0, From1, From2, Halves, Copy, Loads, Stores, FromSlot, ToSlot, Base, AddressOf, Here, Goes, Tests, Calls, Asks, Fails, Returns}
-use Rattle.tg_instr.specs.Contents.{Content, Nothing, Word, Contents, set, held, handed, after_call, gives_back, cell_of, content_of}
+use Rattle.tg_instr.specs.Uses.{given_back}
+use Rattle.tg_instr.specs.Contents.{Content, Nothing, Word, Contents, set, held, handed, at_entry, after_call, gives_back, cell_of, content_of}
 
 -- what comes after an instruction, after a value, at a mark, after a return
 abbrev pub Next : Type 0
@@ -28,8 +29,8 @@ Jumps = (mark : ℕ) → World → Contents → Run Ran
 abbrev pub Back : Type 0
 Back = Content → World → Run Ran
 
--- a function is entered by its label, with what the registers have, its frame address and what
--- comes after its return
+-- a function is entered by its label, with what its registers have, its frame address and what comes
+-- after its return
 abbrev pub Enter : Type 0
 Enter = (label : ℕ) → Contents → (top : ℕ) → Back → World → Run Ran
 
@@ -116,12 +117,12 @@ jump m e next w s = e.jumps m w s
 
 abbrev pub go_back : Acts Next
 go_back e next w s =
-    if gives_back 8 s then e.back (handed (s (Operand (Reg 2)))) w else wrong w
+    if gives_back given_back s then e.back (handed (s (Operand (Reg 2)))) w else wrong w
 
 module _ (room : ℕ) (literals : List Literal) (enter : Enter) where
   abbrev pub call : (label : ℕ) → Acts Next
   call label e next w s =
-      enter label s (e.activation.base - e.activation.size)
+      enter label (at_entry s) (e.activation.base - e.activation.size)
       (λ c w1. next w1 (after_call c s)) w
 
   abbrev pub ask : (asked argument : ℕ) → Acts (Go ℕ)

@@ -57,7 +57,7 @@ module _ (units : Instr → ℕ) (code : Code (List Instr)) (size : ℕ → ℕ)
         back = λ c w1.
           back c (with_frame f (record { base = top; size = size f.label }) Closed w1);
         world = with_frame f (record { base = top; size = size f.label }) Unset w;
-        contents = at_entry s;
+        contents = s;
       })
 
   -- a call runs the body behind a unit of fuel
@@ -106,6 +106,6 @@ module _ (units : Instr → ℕ) (code : Code (List Instr)) (size : ℕ → ℕ)
   -- the first activation of a program, whose return is the program's end
   abbrev pub code_run : (body : ℕ) → (input : List ℕ) → Run Ran
   code_run body input =
-      begin_code code_going (function_of body code.functions) no_contents stack_top
+      begin_code code_going (function_of body code.functions) (at_entry no_contents) stack_top
       (λ c w. over (Ended (Exit (pos 0))) w)
       (record { memory = begin code.literals; input = input })
