@@ -1,10 +1,8 @@
 -- The uses of a text stand before those that come after it.
 use Rattle.std.proofs.Common.{◌≡◌, ℕ, List, [], ◌∷◌, ◌++◌, length, Option, Some, None, refl, sym, ap, ◌∙◌, append_assoc}
 use Rattle.tg_symbols.specs.Tables.{named}
-use Rattle.tg_syntax.specs.declared.tokens.Ident.{Ident}
-use Rattle.tg_syntax.specs.declared.trees.Param.{Param}
-use Rattle.tg_syntax.specs.Tree.{Exp, Nil, Break, Int, Text, Read, Call, Neg, Binary, Make, Fill, Assign, If, When, While, For, Let, Seq, Place, Simple, Field, Index, Exps, no_exps, exp, Inits, no_inits, init, Decs, no_decs, types, variable, functions, FunDecs, no_functions, function}
-use Rattle.tg_escape.specs.Uses.{Declared, Seen, Use, declare_variable, declare_params, declare_functions, declare_all, used, uses, place_uses, exps_uses, inits_uses, decs_uses, functions_uses, function_uses}
+use Rattle.tg_syntax.specs.Tree.{Nil, Break, Int, Text, Read, Call, Neg, Binary, Make, Fill, Assign, If, When, While, For, Let, Seq, Place, Simple, Field, Index, Exps, no_exps, exp, Inits, no_inits, init, Decs, no_decs, types, variable, functions, FunDecs, no_functions, function}
+use Rattle.tg_escape.specs.Uses.{Declared, Seen, Use, declare_variable, declare_params, declare_functions, declare_all, used, uses, place_uses, exps_uses, inits_uses, decs_uses, functions_uses}
 use Rattle.tg_escape.specs.Laws.{UsesJoin}
 
 -- what stands before a list stands before it alone
@@ -74,9 +72,6 @@ mutual
   functions_join : (fs : FunDecs) (n : List ℕ) (s : Seen) → Joins (functions_uses fs n s)
   functions_join no_functions n s after = refl
   functions_join (function f params _ body rest) n s after =
-      two (function_uses f params body n s) (functions_uses rest n s) (function_joins f params body n s) (functions_join rest n s) after
-
-  function_joins : (f : Ident) (params : List Param) (body : Exp) (n : List ℕ) (s : Seen) → Joins (function_uses f params body n s)
-  function_joins f params body n s after =
       let inner = n ++ f.span.from ∷ [] in
-      uses_join body inner (declare_params (length inner) params s) after
+      let seen = declare_params (length inner) params s in
+      two (uses body inner seen) (functions_uses rest n s) (uses_join body inner seen) (functions_join rest n s) after

@@ -1,5 +1,5 @@
 -- Walks over a tree, one part after another.
-use Rattle.std.proofs.Common.{◌≡◌, ℕ, ◌+◌, ◌<◌, List, [], ◌∷◌, ◌++◌, Option, Some, None, IsSome, ◌↔◌, option_to_list, length, drop, get_or, refl, sym, ap, ◌∙◌, subst, arith, append_assoc, length-append}
+use Rattle.std.proofs.Common.{◌≡◌, ℕ, ◌+◌, ◌<◌, ◌≤◌, List, [], ◌∷◌, ◌++◌, true, false, Option, Some, None, IsSome, ◌↔◌, option_to_list, length, drop, get_or, refl, sym, ap, ◌∙◌, subst, arith, append_assoc, length-append}
 use Rattle.std.proofs.Math.Seq.{drop-length}
 use Rattle.std.proofs.lemmas.List.{drop_more, get_or_default, same_from_push}
 use Rattle.tg_syntax.specs.declared.trees.Exp.{Exp as CodeExp}
@@ -15,10 +15,9 @@ use Rattle.tg_syntax.specs.Tree.{Exp, Decs, no_decs, types, variable, functions,
 use Rattle.tg_syntax.specs.Plain.{plain, plain_exps, plain_inits, plain_functions, plain_dec}
 use Rattle.tg_syntax.specs.Lists.{exps_of, inits_of, decs_of, functions_of}
 use Rattle.tg_syntax.proofs.ListLaws.{plain_exps-items, plain_inits-items, plain_functions-items}
-use Rattle.tg_escape.specs.declared.found.Found.{Found}
 use Rattle.tg_escape.specs.declared.searches.Search.{Search}
 use Rattle.tg_escape.specs.Uses.{Seen, Use, a_function, declare, declare_variable, declare_params, declare_functions, declare_all, uses, exps_uses, inits_uses, decs_uses, functions_uses, function_uses, uses_of}
-use Rattle.tg_escape.specs.Searches.{Finds, FindsUses, FindsDeclared, Declares, with_use, with_uses}
+use Rattle.tg_escape.specs.Searches.{Finds, FindsUses, FindsDeclared, Declares, with_uses}
 
 -- nothing is used, and nothing is declared
 pub nothing : {s : Search} → Finds s s s.table (λ after. after)
@@ -135,11 +134,11 @@ functions_are within seen fs after =
     ap (λ x. functions_uses x within seen after) (plain_functions-items fs) ∙ functions_in within seen (out-FunDecs fs).items.items after
 
 -- declarations, each of which the later ones see
-pub record DeclaredTo (first now : Search) (within : List ℕ) (ds : List CodeDec) (k : ℕ) : Type 0 where
-  pub within : now.within.items ≡ within
-  pub table : declare_all (length within) (decs_of ds) first.table ≡ declare_all (length within) (decs_of (drop k ds)) now.table
-  pub found : (after : List Use) → with_uses (decs_uses (decs_of ds) within first.table after) first.found ≡ with_uses
-      (decs_uses (decs_of (drop k ds)) within now.table after) now.found
+pub record DeclaredTo (first now : Search) (around : List ℕ) (ds : List CodeDec) (k : ℕ) : Type 0 where
+  pub within : now.within.items ≡ around
+  pub table : declare_all (length around) (decs_of ds) first.table ≡ declare_all (length around) (decs_of (drop k ds)) now.table
+  pub found : (after : List Use) → with_uses (decs_uses (decs_of ds) around first.table after) first.found ≡ with_uses
+      (decs_uses (decs_of (drop k ds)) around now.table after) now.found
 
 pub decs_begin : {s : Search} {ds : List CodeDec} → DeclaredTo s s s.within.items ds 0
 decs_begin = record { within = refl; table = refl; found = λ after. refl }
@@ -182,7 +181,7 @@ pub dec_more : {a b c : Search} {within : List ℕ} {ds : List CodeDec} {k : ℕ
 dec_more {a = a} {b = b} {c = c} {within = within} {ds = ds} {k = k} d w l i f =
     let rest : Decs = decs_of (drop (k + 1) ds) in
     let g : Finds b c (declare_all (length within) (plain_dec d no_decs) b.table) (decs_uses (plain_dec d no_decs) within b.table) =
-        subst (λ v. Finds b c (declare_all (length v) (plain_dec d no_decs) b.table) (decs_uses (plain_dec d no_decs) v b.table)) w.within f in
+    subst (λ v. Finds b c (declare_all (length v) (plain_dec d no_decs) b.table) (decs_uses (plain_dec d no_decs) v b.table)) w.within f in
     record {
       within = g.within ∙ w.within;
       table =
@@ -223,7 +222,7 @@ pub one_param : {a b c : Search} {k : ℕ} {ps : List Param} → NamedTo a b (de
     Declares b c (λ level. declare_variable level (param_at ps k).name) → NamedTo a c (declare_params (length a.within.items)) ps (k + 1)
 one_param {a = a} {b = b} {c = c} {k = k} {ps = ps} w l f =
     let g : Finds b c (declare_variable (length a.within.items) (param_at ps k).name b.table) (λ after. after) =
-        subst (λ v. Finds b c (declare_variable (length v) (param_at ps k).name b.table) (λ after. after)) w.within f in
+    subst (λ v. Finds b c (declare_variable (length v) (param_at ps k).name b.table) (λ after. after)) w.within f in
     record {
       table =
           w.table ∙ (ap (λ xs. declare_params (length a.within.items) xs b.table) (from_here ps k (param_at ps k) l (get_or_default ps k _ _ l)) ∙ ap
@@ -261,8 +260,8 @@ pub body_closed : {a o b c d : Search} {len : ℕ} (f : Ident) (ps : List Param)
 body_closed {a = a} {o = o} {b = b} {c = c} {d = d} f ps body t w s m n cut l left e =
     let inner = a.within.items ++ f.span.from ∷ [] in
     let both : Finds o c (declare_params (length o.within.items) ps o.table)
-            (λ after. uses body o.within.items (declare_params (length o.within.items) ps o.table) after) =
-        behind (λ within seen. seen) (uses body) m n in
+    (λ after. uses body o.within.items (declare_params (length o.within.items) ps o.table) after) =
+    behind (λ within seen. seen) (uses body) m n in
     let front = params_open (length o.within.items) ps o.table in
     record {
       table = cut front.0 a.table (both.table ∙ (front.1 ∙ ap (λ x. front.0 ++ x) t)) (sym l);
@@ -279,8 +278,17 @@ pub found_in : {a b : Search} (e : Exp) → a.table ≡ [] → a.within.items �
 found_in {a = a} e t w f =
     sym (f.found []) ∙ (ap (λ v. with_uses (uses e v a.table []) a.found) w ∙ ap (λ s. with_uses (uses e [] s []) a.found) t)
 
+-- what stood in a table still stands in it
+pub still_open : {a b : Search} {seen : Seen} {inner : List Use → List Use} {len : ℕ} (front : Seen) → Finds a b seen inner → seen ≡ front ++ a.table →
+    len ≡ length a.table → len ≤ length b.table
+still_open {a = a} front f e l = omega (arith, l, ap length (f.table ∙ e), length-append front a.table)
+
+no_value : {A : Type 0} → false ≡ true → A
+no_value e = absurd (cc)
+
 -- a vector whose last item is taken away
-pub left_of : (old new xs : List ℕ) (x : ℕ) (r : Option ℕ) → old ≡ new ++ option_to_list r → IsSome r ↔ (0 < length old) → old ≡ xs ++ x ∷ [] → new ≡ xs
-left_of old new xs x None i v e =
-    absurd (v.2 (omega (arith, ap length e, length-append xs (x ∷ []))))
-left_of old new xs x (Some y) i v e = (same_from_push new xs y x (sym i ∙ e)).0
+pub left_of : (old new xs : List ℕ) (x n : ℕ) (r : Option ℕ) → old ≡ new ++ option_to_list r → n ≡ length old → IsSome r ↔ (0 < n) →
+    old ≡ xs ++ x ∷ [] → new ≡ xs
+left_of old new xs x n None i l v e =
+    no_value (v.1 (omega (arith, ap length e, length-append xs (x ∷ []))))
+left_of old new xs x n (Some y) i l v e = (same_from_push new xs y x (sym i ∙ e)).0

@@ -54,8 +54,9 @@ fn add_links(links: &mut Links, own: usize, within: &[u32]) -> Result<(), Memory
     ensures { let shown = slice_range within.now own (length within.now - 1) in
         OnOk result (links.new ≡ with_all shown links.old) }
 {
-    if own + 1 < within.len() {
-        add_all(links, &within[own..within.len() - 1])?;
+    let user = within.len().saturating_sub(1);
+    if own < user {
+        add_all(links, &within[own..user])?;
     }
     Ok(())
 }
