@@ -7,3 +7,5 @@ pub mod MarkLists
 pub mod Ending
 pub mod Deepest
 pub mod Told
+pub mod Lettering
+pub mod Knowing

@@ -39,19 +39,21 @@ zero_is n h = grind (arith, nat_tests)
 
 pub closed_told : (s : Ts) (r : Bool) → r ≡ (loops_around s == 0 && ends_function s) → IsTrue r ↔ IsClosed s
 closed_told s r e = (
-    λ h. record {
-      breaks = enough s 0 (is_zero (loops_around s) (left_holds _ (ends_function s) (sym e ∙ h)));
-      last = tested_function_ends s (right_holds (loops_around s == 0) _ (sym e ∙ h));
-    },
-    λ f. e ∙ both_hold _ _ (zero_is (loops_around s) (needed s 0 f.breaks)) (function_ends_tested s f.last))
+  λ h. record {
+    breaks = enough s 0 (is_zero (loops_around s) (left_holds _ (ends_function s) (sym e ∙ h)));
+    last = tested_function_ends s (right_holds (loops_around s == 0) _ (sym e ∙ h));
+  },
+  λ f. e ∙ both_hold _ _ (zero_is (loops_around s) (needed s 0 f.breaks)) (function_ends_tested s f.last),
+)
 
 pub all_closed_told : (ss : Stms) (r : Bool) → r ≡ (loops_around_stms ss == 0 && last_ends_function ss) → IsTrue r ↔ AreClosed ss
 all_closed_told ss r e = (
-    λ h. record {
-      breaks = enough_stms ss 0 (is_zero (loops_around_stms ss) (left_holds _ (last_ends_function ss) (sym e ∙ h)));
-      last = tested_last ss (right_holds (loops_around_stms ss == 0) _ (sym e ∙ h));
-    },
-    λ f. e ∙ both_hold _ _ (zero_is (loops_around_stms ss) (needed_stms ss 0 f.breaks)) (last_tested ss f.last))
+  λ h. record {
+    breaks = enough_stms ss 0 (is_zero (loops_around_stms ss) (left_holds _ (last_ends_function ss) (sym e ∙ h)));
+    last = tested_last ss (right_holds (loops_around_stms ss == 0) _ (sym e ∙ h));
+  },
+  λ f. e ∙ both_hold _ _ (zero_is (loops_around_stms ss) (needed_stms ss 0 f.breaks)) (last_tested ss f.last),
+)
 
 pub well_marked_told : (code : List Linear) (ms ts : List ℕ) (apart there last : Bool) → ms ≡ marks code → ts ≡ targets code →
     IsTrue apart ↔ AllPairs (λ m n. m ≢ n) ms → IsTrue there ↔ ((m : ℕ) → Contains ts m → Contains ms m) → last ≡ ends_code code →
@@ -59,12 +61,33 @@ pub well_marked_told : (code : List Linear) (ms ts : List ℕ) (apart there last
 well_marked_told code ms ts apart there last em et a t e =
     let a' : IsTrue apart ↔ AllPairs (λ m n. m ≢ n) (marks code) = subst (λ (l : List ℕ). IsTrue apart ↔ AllPairs (λ m n. m ≢ n) l) em a in
     let t' : IsTrue there ↔ ((m : ℕ) → Contains (targets code) m → Contains (marks code) m) =
-        subst (λ (l : List ℕ). IsTrue there ↔ ((m : ℕ) → Contains l m → Contains (marks code) m)) et
-        (subst (λ (l : List ℕ). IsTrue there ↔ ((m : ℕ) → Contains ts m → Contains l m)) em t) in
-    (
-    λ h. record {
-      apart = a'.0 (left_holds apart (there && last) h);
-      there = t'.0 (left_holds there last (right_holds apart (there && last) h));
-      last = tested_code_ends code (sym e ∙ right_holds there last (right_holds apart (there && last) h));
-    },
-    λ f. both_hold _ _ (a'.1 f.apart) (both_hold _ _ (t'.1 f.there) (e ∙ code_ends_tested code f.last)))
+    subst (λ (l : List ℕ). IsTrue there ↔ ((m : ℕ) → Contains l m → Contains (marks code) m)) et
+    (subst (λ (l : List ℕ). IsTrue there ↔ ((m : ℕ) → Contains ts m → Contains l m)) em t) in (
+      λ h. record {
+        apart = a'.0 (left_holds apart (there && last) h);
+        there = t'.0 (left_holds there last (right_holds apart (there && last) h));
+        last = tested_code_ends code (sym e ∙ right_holds there last (right_holds apart (there && last) h));
+      },
+      λ f. both_hold _ _ (a'.1 f.apart) (both_hold _ _ (t'.1 f.there) (e ∙ code_ends_tested code f.last)),
+    )
+
+-- Sizes.
+pub fits_told : (frame params weight room : ℕ) (r : Bool) → weight ≡ min room 1000000000 → IsTrue r ↔ (frame + (2 * min params 1000000000 + weight) ≤ 4000000) →
+    IsTrue r ↔ (frame + (2 * params + room) ≤ 4000000)
+fits_told frame params weight room r e t = (
+  λ h. let k : frame + (2 * min params 1000000000 + weight) ≤ 4000000 = t.0 h in omega arith,
+  λ h. t.1 (let k : frame + (2 * min params 1000000000 + weight) ≤ 4000000 = omega arith in k),
+)
+
+pub short_told : (params weight length : ℕ) (r : Bool) → weight ≡ min length 1000000000 → IsTrue r ↔ (6 * min params 1000000000 + weight ≤ 100000000) →
+    IsTrue r ↔ (6 * params + length ≤ 100000000)
+short_told params weight length r e t = (
+  λ h. let k : 6 * min params 1000000000 + weight ≤ 100000000 = t.0 h in omega arith,
+  λ h. t.1 (let k : 6 * min params 1000000000 + weight ≤ 100000000 = omega arith in k),
+)
+
+pub few_told : (weight length : ℕ) (r : Bool) → weight ≡ min length 1000000000 → IsTrue r ↔ (weight ≤ 100000000) → IsTrue r ↔ (length ≤ 100000000)
+few_told weight length r e t = (
+  λ h. let k : weight ≤ 100000000 = t.0 h in omega arith,
+  λ h. t.1 (let k : weight ≤ 100000000 = omega arith in k),
+)

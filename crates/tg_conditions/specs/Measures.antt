@@ -1,6 +1,6 @@
 -- What is measured of texts: rooms, lengths, and how many names are of nothing that is there.
-use Rattle.std.specs.Prelude.{ℕ, ◌+◌, Bool, if◌then◌else◌, nat_lt, nat_eq, true, ◌==◌}
-use Rattle.std.specs.Layout.HashSet.{HashSet}
+use Rattle.std.specs.Prelude.{ℕ, ◌+◌, Bool, if◌then◌else◌, nat_lt, nat_eq, true, ◌==◌, min}
+use Rattle.std.specs.HashSet.{HashSet}
 use Rattle.std.specs.HashSet as bag
 use Rattle.tg_tree.specs.Tree.{Tx, Const, Address, Temp, FrameAddress, Binary, Load, LoadByte, Call, Service, After, Cond, Compare, Ts, Move, Fault, Linear, Branch, Fault'}
 use Rattle.tg_tree.specs.Units.{Stage, Canonical, expression_units, statement_units, element_units, condition_units, argument_units}
@@ -95,6 +95,8 @@ weights_of (Unknown functions literals) =
 -- a body names none but these
 abbrev pub knows : {S : Type 0} → (functions literals : HashSet ℕ S) → Ts → Bool
 knows functions literals body =
-    ts_weight
+    min
+    (ts_weight
     (stranger_weights
-    (is_known (bag.contains nat_eq functions) (bag.contains nat_eq literals))) body == 0
+    (is_known (bag.contains nat_eq functions) (bag.contains nat_eq literals))) body)
+    1000000000 == 0

@@ -4,6 +4,7 @@ ghost use Rattle.tg_tree.specs.Plain.{plain_fragments, plain_ts};
 ghost use Rattle.tg_tree.specs.Named as names;
 ghost use Rattle.tg_conditions.specs.Measures.{knows};
 
+use crate::marks::all_hold;
 use crate::measures::Measure;
 use crate::sets::{all_differ, set_of};
 use crate::weighing::weigh;
@@ -25,10 +26,11 @@ pub fn is_linked(alloc: Global, program: &Fragments) -> Result<bool, Memory>
     let functions = function_labels(alloc, &program.functions)?;
     let literals = literal_labels(alloc, &program.literals)?;
     let apart = differ_together(alloc, functions.as_slice(), literals.as_slice())?;
-    let functions = set_of(alloc, functions.as_slice())?;
-    let literals = set_of(alloc, literals.as_slice())?;
-    let known = name_known(&program.functions, &functions, &literals);
-    Ok(apart && functions.contains(&BODY) && known)
+    let known = set_of(alloc, functions.as_slice())?;
+    let addressed = set_of(alloc, literals.as_slice())?;
+    let has_body = known.contains(&BODY);
+    let all = all_know(&program.functions, &known, &addressed);
+    Ok(all_hold(apart, has_body, all))
 }
 
 fn function_labels(alloc: Global, functions: &[Fragment]) -> Result<Vec<u32>, Memory>
@@ -53,9 +55,15 @@ fn differ_together(alloc: Global, first: &[u32], second: &[u32]) -> Result<bool,
 }
 
 /// Whether each body names none but these functions and literals, and faults of at most 20 bits.
-fn name_known(functions: &[Fragment], labels: &HashSet<u32>, literals: &HashSet<u32>) -> bool
+fn all_know(functions: &[Fragment], labels: &HashSet<u32>, literals: &HashSet<u32>) -> bool
     ensures { result ≡
         list_all (λ f. knows labels.now literals.now (plain_ts f.body)) functions.now }
 {
-    functions.iter().all(|f| weigh(&f.body, &Measure::Unknown(labels, literals)) == 0)
+    functions.iter().all(|one| is_known(one, labels, literals))
+}
+
+fn is_known(one: &Fragment, labels: &HashSet<u32>, literals: &HashSet<u32>) -> bool
+    ensures { result ≡ knows labels.now literals.now (plain_ts one.now.body) }
+{
+    weigh(&one.body, &Measure::Unknown(labels, literals)) == 0
 }

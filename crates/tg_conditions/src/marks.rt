@@ -21,7 +21,7 @@ pub fn is_well_marked(alloc: Global, code: &[Linear]) -> Result<bool, Memory>
     Ok(all_hold(apart, there, ends_code(code)))
 }
 
-fn all_hold(first: bool, second: bool, third: bool) -> bool
+pub(crate) fn all_hold(first: bool, second: bool, third: bool) -> bool
     ensures { result ≡ (first && (second && third)) }
 {
     first && second && third

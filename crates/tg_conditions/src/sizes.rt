@@ -19,7 +19,7 @@ pub fn tree_has_room(body: &Ts, frame: &Frame) -> bool
     ensures { IsTrue result ↔
         (sizes.tree_room (plain_function frame.now (plain_ts body.now)) ≤ 4000000) }
 {
-    room(weigh(body, &Measure::TreeRoom), frame) <= ROOM
+    fits(weigh(body, &Measure::TreeRoom), frame)
 }
 
 /// Whether the room of flat code with its frame is at most 4,000,000.
@@ -27,7 +27,7 @@ pub fn code_has_room(code: &[Linear], frame: &Frame) -> bool
     ensures { IsTrue result ↔
         (sizes.flat_room (plain_function frame.now (code_of code.now)) ≤ 4000000) }
 {
-    room(weigh_code(code, &Measure::FlatRoom), frame) <= ROOM
+    fits(weigh_code(code, &Measure::FlatRoom), frame)
 }
 
 /// Whether the length of flat code with its frame is at most 100,000,000.
@@ -35,8 +35,7 @@ pub fn code_is_short(code: &[Linear], frame: &Frame) -> bool
     ensures { IsTrue result ↔
         (sizes.flat_length (plain_function frame.now (code_of code.now)) ≤ 100000000) }
 {
-    let weight = weigh_code(code, &Measure::FlatLength) as u64;
-    6 * parameters(frame) + weight <= LENGTH
+    is_short(weigh_code(code, &Measure::FlatLength), frame)
 }
 
 /// Whether the length of canonical statements is at most 100,000,000.
@@ -44,18 +43,31 @@ pub fn statements_are_short(statements: &[Ts]) -> bool
     ensures { IsTrue result ↔
         (sizes.statements_length units.Canonical (stms_of statements.now) ≤ 100000000) }
 {
-    let weight = weigh_statements(statements, &Measure::FlatLength) as u64;
-    weight <= LENGTH
+    is_at_most_length(weigh_statements(statements, &Measure::FlatLength))
 }
 
-/// The room of a body with its frame.
-fn room(weight: u32, frame: &Frame) -> u64
-    ensures { result ≡
-        sizes.frame_room (plain_function frame.now weight)
-        + (2 * min (length frame.now.params) 1000000000 + weight) }
+/// Whether a body of some room fits with its frame.
+fn fits(weight: u32, frame: &Frame) -> bool
+    ensures { IsTrue result ↔
+        (sizes.frame_room (plain_function frame.now weight)
+        + (2 * min (length frame.now.params) 1000000000 + weight) ≤ 4000000) }
 {
     let words = frame.slots as u64 + frame.temps as u64 + frame.out as u64;
-    words + (2 * parameters(frame) + weight as u64)
+    words + (2 * parameters(frame) + weight as u64) <= ROOM
+}
+
+/// Whether code of some length is short enough with the parameters of its function.
+fn is_short(weight: u32, frame: &Frame) -> bool
+    ensures { IsTrue result ↔
+        (6 * min (length frame.now.params) 1000000000 + weight ≤ 100000000) }
+{
+    6 * parameters(frame) + weight as u64 <= LENGTH
+}
+
+fn is_at_most_length(weight: u32) -> bool
+    ensures { IsTrue result ↔ (weight ≤ 100000000) }
+{
+    weight as u64 <= LENGTH
 }
 
 /// The parameters of a function, or 1,000,000,000 where it has more.
