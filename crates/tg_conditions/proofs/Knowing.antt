@@ -94,6 +94,10 @@ pub function_labels_are : (fs : List Fragment) → map (λ f. f.label) (map plai
 function_labels_are [] = refl
 function_labels_are (f ∷ fs) = ap (λ l. f.frame.label.0 ∷ l) (function_labels_are fs)
 
+pub labels_more : (fs : List Fragment) (g : Fragment) → map (λ f. f.frame.label.0) (fs ++ g ∷ []) ≡ map (λ f. f.frame.label.0) fs ++ g.frame.label.0 ∷ []
+labels_more [] g = refl
+labels_more (f ∷ fs) g = ap (λ l. f.frame.label.0 ∷ l) (labels_more fs g)
+
 pub literal_labels_are : (ls : List Literal) → map (λ l. l.label) (map plain_literal ls) ≡ map (λ l. l.label.0) ls
 literal_labels_are [] = refl
 literal_labels_are (l ∷ ls) = ap (λ ms. l.label.0 ∷ ms) (literal_labels_are ls)

@@ -1,4 +1,4 @@
-ghost use Rattle.std.specs.Prelude.{◌≡◌, ◌==◌, length};
+ghost use Rattle.std.specs.Prelude.{◌≡◌, ◌∷◌};
 ghost use Rattle.std.specs.List.{list_all};
 ghost use Rattle.tg_isa.specs.Lines as lines;
 ghost use Rattle.tg_isa.specs.Operands as operands;
@@ -42,14 +42,20 @@ fn takes_label(row: &Mips) -> bool
     }
 }
 
-#[tactic(auto, using(crate::proofs::Lettering::all_in_label))]
 fn is_label(text: &[u8]) -> bool
     ensures { result ≡ operands.is_label text.now }
 {
     match text {
-        [first, rest @ ..] => begins_label(*first) && all_in_label(rest),
+        [first, rest @ ..] => make_label(*first, rest),
         [] => false,
     }
+}
+
+#[tactic(auto, using(crate::proofs::Lettering::all_in_label))]
+fn make_label(first: u8, rest: &[u8]) -> bool
+    ensures { result ≡ operands.is_label (first ∷ rest.now) }
+{
+    begins_label(first) && all_in_label(rest)
 }
 
 fn all_in_label(text: &[u8]) -> bool

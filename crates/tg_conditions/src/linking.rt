@@ -1,4 +1,4 @@
-ghost use Rattle.std.specs.Prelude.{◌≡◌, ◌↔◌, ◌++◌, ◌≢◌, ◌==◌, IfOk, IsTrue, [], map};
+ghost use Rattle.std.specs.Prelude.{◌≡◌, ◌↔◌, ◌++◌, ◌∷◌, ◌≢◌, ◌==◌, IfOk, OnOk, IsTrue, [], map};
 ghost use Rattle.std.specs.List.{AllPairs, list_all};
 ghost use Rattle.tg_tree.specs.Plain.{plain_fragments, plain_ts};
 ghost use Rattle.tg_tree.specs.Named as names;
@@ -36,7 +36,18 @@ pub fn is_linked(alloc: Global, program: &Fragments) -> Result<bool, Memory>
 fn function_labels(alloc: Global, functions: &[Fragment]) -> Result<Vec<u32>, Memory>
     ensures { IfOk result (λ list. list.items ≡ map (λ f. f.frame.label.0) functions.now) }
 {
-    Ok(functions.iter().map(|f| f.frame.label.0).collect(alloc)?)
+    let mut list = Vec::new(alloc);
+    for one in functions {
+        put_label(&mut list, one)?;
+    }
+    Ok(list)
+}
+
+fn put_label(list: &mut Vec<u32>, one: &Fragment) -> Result<(), Memory>
+    ensures { OnOk result (list.new.items ≡ list.old.items ++ one.now.frame.label.0 ∷ []) }
+{
+    list.push(one.frame.label.0)?;
+    Ok(())
 }
 
 fn literal_labels(alloc: Global, literals: &[Literal]) -> Result<Vec<u32>, Memory>
