@@ -9,10 +9,10 @@ use Rattle.tg_tree.specs.declared.linear.Linear.{Linear as CodeLinear}
 use Rattle.tg_tree.specs.declared.trees.Txs.{Txs}
 use Rattle.tg_tree.specs.declared.trees.Stms.{Stms}
 use Rattle.tg_tree.specs.Tree as tree
-use Rattle.tg_tree.specs.Plain.{plain_tx, plain_ts, plain_linear}
+use Rattle.tg_tree.specs.Plain.{plain_tx, plain_ts}
 use Rattle.tg_tree.specs.Lists.{txs_of, stms_of, code_of}
 use Rattle.tg_tree.proofs.ListLaws.{plain_tx-Call, plain_ts-Seq}
-use Rattle.tg_conditions.specs.Weights.{Weights, tx_weight, txs_weight, ts_weight, stms_weight, element_weight, code_weight, of_argument, of_ts, of_element}
+use Rattle.tg_conditions.specs.Weights.{Weights, tx_weight, txs_weight, ts_weight, stms_weight, code_weight, of_argument, of_ts, of_element}
 
 -- the sum of two, of which the first or both stop there
 pub capped_own : (own part W P r : ℕ) → r ≡ min (own + part) 1000000000 → own ≡ W → part ≡ min P 1000000000 → r ≡ min (W + P) 1000000000
@@ -22,9 +22,13 @@ pub capped_two : (left right L R r : ℕ) → r ≡ min (left + right) 100000000
 capped_two left right L R r h e f = omega arith
 
 -- one more of a list
-pub capped_more : {X : Type 0} (f : X → ℕ) (xs : List X) (i : ℕ) (x : X) → i < length xs → x ≡ get_or xs i x → (total one r : ℕ) → total ≡ min (sum_by f (take i xs)) 1000000000 → one ≡ min (f x) 1000000000 → r ≡ min (total + one) 1000000000 → r ≡ min (sum_by f (take (i + 1) xs)) 1000000000
+pub capped_more :
+    {X : Type 0} (f : X → ℕ) (xs : List X) (i : ℕ) (x : X) → i < length xs → x ≡ get_or xs i x →
+    (total one r : ℕ) → total ≡ min (sum_by f (take i xs)) 1000000000 → one ≡ min (f x) 1000000000 →
+    r ≡ min (total + one) 1000000000 → r ≡ min (sum_by f (take (i + 1) xs)) 1000000000
 capped_more f xs i x h e total one r t o s =
-    capped_two total one (sum_by f (take i xs)) (f x) r s t o ∙ ap (λ n. min n 1000000000) (ap (λ y. sum_by f (take i xs) + f y) e ∙ sym (sum_by_more f xs i x h))
+    capped_two total one (sum_by f (take i xs)) (f x) r s t o
+    ∙ ap (λ n. min n 1000000000) (ap (λ y. sum_by f (take i xs) + f y) e ∙ sym (sum_by_more f xs i x h))
 
 module _ (w : Weights) where
   -- the lists of trees
@@ -40,7 +44,9 @@ module _ (w : Weights) where
   code_sum [] = let h : 0 ≡ sum_by (of_element w) [] = omega arith in h
   code_sum (e ∷ es) = let h = code_sum es in let k = sum_by-cons (of_element w) e es in omega arith
 
-  pub call_weight : (label : Label) (xs : Txs) → tx_weight w (plain_tx (Call label xs)) ≡ w.expression (plain_tx (Call label xs)) + sum_by (of_argument w) xs.items.items
+  pub call_weight :
+      (label : Label) (xs : Txs) →
+      tx_weight w (plain_tx (Call label xs)) ≡ w.expression (plain_tx (Call label xs)) + sum_by (of_argument w) xs.items.items
   call_weight label xs =
       ap (tx_weight w) (plain_tx-Call label xs) ∙ (ap (λ n. w.expression (tree.Call label.0 (txs_of xs.items.items)) + n) (txs_sum xs.items.items)
       ∙ ap (λ x. w.expression x + sum_by (of_argument w) xs.items.items) (sym (plain_tx-Call label xs)))

@@ -20,12 +20,18 @@ txs_push : (xs : List CodeTx) (x : CodeTx) → loops_around_txs (txs_of (xs ++ x
 txs_push [] x = omega arith
 txs_push (y ∷ xs) x = let h = txs_push xs x in omega arith
 
-pub stms_more : (ss : List CodeTs) (i : ℕ) (s : CodeTs) → i < length ss → s ≡ get_or ss i s → loops_around_stms (stms_of (take (i + 1) ss)) ≡ max (loops_around (plain_ts s)) (loops_around_stms (stms_of (take i ss)))
+pub stms_more :
+    (ss : List CodeTs) (i : ℕ) (s : CodeTs) → i < length ss → s ≡ get_or ss i s →
+    loops_around_stms (stms_of (take (i + 1) ss)) ≡
+    max (loops_around (plain_ts s)) (loops_around_stms (stms_of (take i ss)))
 stms_more ss i s h e =
     ap (λ l. loops_around_stms (stms_of l)) (take_more ss i s h) ∙ (stms_push (take i ss) (get_or ss i s)
     ∙ ap (λ t. max (loops_around (plain_ts t)) (loops_around_stms (stms_of (take i ss)))) (sym e))
 
-pub txs_more : (xs : List CodeTx) (i : ℕ) (x : CodeTx) → i < length xs → x ≡ get_or xs i x → loops_around_txs (txs_of (take (i + 1) xs)) ≡ max (loops_around_tx (plain_tx x)) (loops_around_txs (txs_of (take i xs)))
+pub txs_more :
+    (xs : List CodeTx) (i : ℕ) (x : CodeTx) → i < length xs → x ≡ get_or xs i x →
+    loops_around_txs (txs_of (take (i + 1) xs)) ≡
+    max (loops_around_tx (plain_tx x)) (loops_around_txs (txs_of (take i xs)))
 txs_more xs i x h e =
     ap (λ l. loops_around_txs (txs_of l)) (take_more xs i x h) ∙ (txs_push (take i xs) (get_or xs i x)
     ∙ ap (λ t. max (loops_around_tx (plain_tx t)) (loops_around_txs (txs_of (take i xs)))) (sym e))

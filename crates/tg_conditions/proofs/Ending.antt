@@ -1,12 +1,12 @@
 -- The last element of code, and the last statement of a body.
-use Rattle.std.proofs.Common.{◌≡◌, ℕ, ◌-◌, ◌+◌, suc, List, [], ◌∷◌, length, Bool, true, false, Option, Some, None, refl, sym, ap, ◌∙◌, arith}
+use Rattle.std.proofs.Common.{◌≡◌, ◌-◌, suc, List, [], ◌∷◌, length, true, false, Some, None, refl, ap, ◌∙◌, arith}
 use Rattle.std.specs.List.{slice_get}
 use Rattle.tg_tree.specs.declared.trees.Ts.{Ts as CodeTs, Seq}
 use Rattle.tg_tree.specs.declared.trees.Stms.{Stms}
 use Rattle.tg_tree.specs.declared.linear.Linear.{Linear as CodeLinear}
 use Rattle.tg_tree.specs.Plain.{plain_ts, plain_linear}
 use Rattle.tg_tree.specs.Lists.{stms_of, code_of}
-use Rattle.tg_tree.specs.Tree.{Tx, Ts, Move, Store, StoreByte, Do, If, Loop, Break, Fault, Seq as PlainSeq, Return, Stms as PlainStms, no_stms, stm, Linear, Mark, Do', Jump, Branch, Fault', Return'}
+use Rattle.tg_tree.specs.Tree.{Ts, Move, Store, StoreByte, Do, If, Loop, Break, Fault, Seq as PlainSeq, Return, Stms as PlainStms, no_stms, stm, Linear, Mark, Do', Jump, Branch, Fault', Return'}
 use Rattle.tg_tree.specs.Shapes.{EndsCode, EndsFunction, LastEndsFunction}
 use Rattle.tg_tree.proofs.ListLaws.{plain_ts-Seq}
 use Rattle.tg_conditions.specs.Ends.{is_end, ends_code, ends_function, last_ends_function}

@@ -1,11 +1,10 @@
 -- What the counts of names, and the sets of labels, tell.
-use Rattle.std.proofs.Common.{◌≡◌, ◌≢◌, ◌≤◌, ◌<◌, ℕ, ◌+◌, List, [], ◌∷◌, ◌++◌, length, get_or, map, Bool, true, false, nat_eq, refl, sym, ap, ◌∙◌, subst, arith}
+use Rattle.std.proofs.Common.{◌≡◌, ◌≢◌, ◌<◌, ℕ, ◌+◌, List, [], ◌∷◌, ◌++◌, length, get_or, map, Bool, true, false, nat_eq, refl, sym, ap, ◌∙◌, subst, arith}
 use Rattle.std.specs.Prelude.{◌&&◌, ◌==◌, ◌↔◌, IsTrue, min, nat_lt}
 use Rattle.std.specs.List.{list_all, AllPairs, Contains}
 use Rattle.std.specs.HashSet.{HashSet}
 use Rattle.std.specs.HashSet as bag
 use Rattle.std.specs.HashSet.{hash_set_len}
-use Rattle.std.specs.Set.{is_member}
 use Rattle.std.specs.Cmp.{nat_eq_equiv, unsigned_Decides}
 use Rattle.std.proofs.lemmas.List.Folds.{list_all-map}
 use Rattle.std.proofs.lemmas.List.Elements.{All-contains, Contains-get_or}
@@ -47,11 +46,15 @@ module _ (allowed : Named → Bool) where
   none_capped n h = let k : min n 1000000000 ≡ 0 = omega arith in grind (arith, nat_tests)
 
   -- each name is allowed exactly where the count is 0
-  pub each_allowed : (ns : List Named) (count : ℕ) → strangers allowed ns ≡ count → IsTrue (min count 1000000000 == 0) → (n : Named) → Contains ns n → allowed n ≡ true
+  pub each_allowed :
+      (ns : List Named) (count : ℕ) → strangers allowed ns ≡ count → IsTrue (min count 1000000000 == 0) →
+      (n : Named) → Contains ns n → allowed n ≡ true
   each_allowed ns count e h n there =
       All-contains (λ m. allowed m ≡ true) ns n (AllPass-from_list_all allowed ns (none_strange ns (e ∙ capped_none count h))) there
 
-  pub counts_none : (ns : List Named) (count : ℕ) → strangers allowed ns ≡ count → ((n : Named) → Contains ns n → allowed n ≡ true) → IsTrue (min count 1000000000 == 0)
+  pub counts_none :
+      (ns : List Named) (count : ℕ) → strangers allowed ns ≡ count →
+      ((n : Named) → Contains ns n → allowed n ≡ true) → IsTrue (min count 1000000000 == 0)
   counts_none ns count e f =
       none_capped count (sym e ∙ all_allowed ns (list_all-from_AllPass allowed ns (λ k d h. f (get_or ns k d) (Contains-get_or ns k d h))))
 
@@ -82,11 +85,15 @@ is_in xs set q made h = (is_member-Decides unsigned_Decides xs q).0 (sym (made.0
 pub in_set : {S : Type 0} (xs : List ℕ) (set : HashSet ℕ S) (q : ℕ) → bag.IsFromIterResult nat_eq xs set → Contains xs q → bag.contains nat_eq set q ≡ true
 in_set xs set q made h = made.0 q ∙ (is_member-Decides unsigned_Decides xs q).1 h
 
-pub among_told : {S : Type 0} (few many : List ℕ) (set : HashSet ℕ S) (r : Bool) → bag.IsFromIterResult nat_eq many set → r ≡ list_all (bag.contains nat_eq set) few →
+pub among_told :
+    {S : Type 0} (few many : List ℕ) (set : HashSet ℕ S) (r : Bool) →
+    bag.IsFromIterResult nat_eq many set → r ≡ list_all (bag.contains nat_eq set) few →
     IsTrue r ↔ ((m : ℕ) → Contains few m → Contains many m)
 among_told few many set r made is = (
-  λ h m there. is_in many set m made (All-contains (λ q. bag.contains nat_eq set q ≡ true) few m (AllPass-from_list_all (bag.contains nat_eq set) few (sym is ∙ h)) there),
-  λ f. is ∙ list_all-from_AllPass (bag.contains nat_eq set) few (λ k d h. in_set many set (get_or few k d) made (f (get_or few k d) (Contains-get_or few k d h))),
+  λ h m there. is_in many set m made (All-contains (λ q. bag.contains nat_eq set q ≡ true) few m
+      (AllPass-from_list_all (bag.contains nat_eq set) few (sym is ∙ h)) there),
+  λ f. is ∙ list_all-from_AllPass (bag.contains nat_eq set) few (λ k d h.
+      in_set many set (get_or few k d) made (f (get_or few k d) (Contains-get_or few k d h))),
 )
 
 -- Labels.
@@ -122,10 +129,13 @@ module _ {S : Type 0} (program : Fragments) (fs ls : List ℕ) (functions litera
   known_of : list_all (λ f. knows functions literals f.body) code_functions ≡ true → (f : Function Ts) → Contains code_functions f →
       (n : Named) → Contains (names f.body) n → allowed n ≡ true
   known_of all f inside n there =
-      let k = All-contains (λ g. knows functions literals g.body ≡ true) code_functions f (AllPass-from_list_all (λ g. knows functions literals g.body) code_functions all) inside in
+      let k = All-contains (λ g. knows functions literals g.body ≡ true) code_functions f
+      (AllPass-from_list_all (λ g. knows functions literals g.body) code_functions all) inside in
       each_allowed allowed (names f.body) (ts_weight (stranger_weights allowed) f.body) (counted f.body) k n there
 
-  allowed_name : IsLinked names (plain_fragments program) → (f : Function Ts) → Contains code_functions f → (n : Named) → Contains (names f.body) n → allowed n ≡ true
+  allowed_name :
+      IsLinked names (plain_fragments program) → (f : Function Ts) → Contains code_functions f →
+      (n : Named) → Contains (names f.body) n → allowed n ≡ true
   allowed_name l f inside (function label) there =
       in_set fs functions label made_functions (subst (λ (ms : List ℕ). Contains ms label) (sym fs_are) (l.calls f label inside there))
   allowed_name l f inside (literal label) there =
@@ -159,7 +169,9 @@ module _ {S : Type 0} (program : Fragments) (fs ls : List ℕ) (functions litera
       linked ha hb hk = record {
         apart = subst (λ (ms : List ℕ). AllPairs (λ m n. m ≢ n) ms) labels_are (a.0 ha);
         body = subst (λ (ms : List ℕ). Contains ms 32) fs_are (is_in fs functions 32 made_functions (sym b ∙ hb));
-        calls = λ f label inside there. subst (λ (ms : List ℕ). Contains ms label) fs_are (is_in fs functions label made_functions (known_of (same ∙ hk) f inside (function label) there));
-        addresses = λ f label inside there. subst (λ (ms : List ℕ). Contains ms label) ls_are (is_in ls literals label made_literals (known_of (same ∙ hk) f inside (literal label) there));
+        calls = λ f label inside there. subst (λ (ms : List ℕ). Contains ms label) fs_are
+            (is_in fs functions label made_functions (known_of (same ∙ hk) f inside (function label) there));
+        addresses = λ f label inside there. subst (λ (ms : List ℕ). Contains ms label) ls_are
+            (is_in ls literals label made_literals (known_of (same ∙ hk) f inside (literal label) there));
         faults = λ f n inside there. let m : nat_lt n 1048576 ≡ true = known_of (same ∙ hk) f inside (fault n) there in grind (arith, nat_tests);
       }

@@ -1,5 +1,5 @@
 -- The marks and the targets of code with one element more.
-use Rattle.std.proofs.Common.{◌≡◌, ℕ, List, [], ◌∷◌, ◌++◌, refl, ap}
+use Rattle.std.proofs.Common.{◌≡◌, List, [], ◌∷◌, ◌++◌, refl, ap}
 use Rattle.tg_tree.specs.declared.linear.Linear.{Linear as CodeLinear}
 use Rattle.tg_tree.specs.declared.linear.Linear.TheVariants as code
 use Rattle.tg_tree.specs.Plain.{plain_linear}

@@ -1,12 +1,11 @@
 -- The tests of shapes tell which code is flat, and which statements are canonical.
-use Rattle.std.proofs.Common.{◌≡◌, List, [], ◌∷◌, Bool, true, false, refl}
+use Rattle.std.proofs.Common.{◌≡◌, List, [], ◌∷◌, true, refl}
 use Rattle.std.specs.Prelude.{◌&&◌}
-use Rattle.std.specs.List.{list_all}
 use Rattle.tg_tree.specs.Tree.{Tx, Const, Address, Temp, FrameAddress, Binary, Load, LoadByte, Call, Service, After, Ts, Move, Store, StoreByte, Do, If, Loop, Break, Fault, Seq, Return, Stms, no_stms, stm, Linear, Mark, Do', Jump, Branch, Fault', Return'}
-use Rattle.tg_tree.specs.Shapes.{IsFlatSide, IsFlatStatement, IsFlatCode, IsCanonical, AreCanonical, is_flat, are_flat, is_flat_condition}
+use Rattle.tg_tree.specs.Shapes.{IsFlatSide, IsFlatStatement, IsFlatCode, IsCanonical, AreCanonical, is_flat, is_flat_condition}
 use Rattle.tg_tree.proofs.Flatness.{flat_tested, tested_flat, all_flat_tested, all_tested_flat, condition_tested, tested_condition}
 use Rattle.tg_instr.proofs.Tests.{left_holds, right_holds, both_hold}
-use Rattle.tg_conditions.specs.Flat.{is_flat_side, is_flat_statement, is_flat_element, is_flat_code, is_canonical, are_canonical}
+use Rattle.tg_conditions.specs.Flat.{is_flat_side, is_flat_statement, is_flat_code, is_canonical, are_canonical}
 
 side_tested : (x : Tx) → IsFlatSide x → is_flat_side x ≡ true
 side_tested (Const n) f = refl

@@ -1,9 +1,9 @@
 -- Weights are the rooms and the lengths of the tree language, and count the names that aren't allowed.
-use Rattle.std.proofs.Common.{◌≡◌, ℕ, ◌+◌, List, [], ◌∷◌, Bool, true, false, refl, arith, ap, ◌∙◌}
+use Rattle.std.proofs.Common.{◌≡◌, ℕ, ◌+◌, List, [], ◌∷◌, Bool, refl, arith}
 use Rattle.tg_tree.specs.Tree.{Tx, Const, Address, Temp, FrameAddress, Binary, Load, LoadByte, Call, Service, After, Txs, no_txs, tx, Cond, Compare, Not, Both, Either, Ts, Move, Store, StoreByte, Do, If, Loop, Break, Fault, Seq, Return, Stms, no_stms, stm, Linear, Mark, Do', Jump, Branch, Fault', Return'}
 use Rattle.tg_tree.specs.Units.{Canonical}
 use Rattle.tg_tree.specs.Sizes.{Rooms, expression_room, arguments_room, condition_room, statement_room, statements_room, element_room, code_room, expression_length, arguments_length, condition_length, statement_length, statements_length, element_length, code_length}
-use Rattle.tg_tree.specs.Named.{Named, function, literal, fault, temporary, named_tx, named_txs, named_cond, named_ts, named_stms, named_flat}
+use Rattle.tg_tree.specs.Named.{Named, named_tx, named_txs, named_cond, named_ts, named_stms, named_flat}
 use Rattle.tg_conditions.specs.Weights.{tx_weight, txs_weight, cond_weight, ts_weight, stms_weight, element_weight, code_weight}
 use Rattle.tg_conditions.specs.Measures.{room_weights, length_weights, stranger_weights, forbidden}
 
@@ -161,7 +161,9 @@ module _ (allowed : Named → Bool) where
     stranger_stms no_stms after = omega arith
     stranger_stms (stm s ss) after = let h = stranger_ts s (named_stms ss after) in let k = stranger_stms ss after in omega arith
 
-  pub stranger_code : (code : List Linear) (after : List Named) → strangers (named_flat code after) ≡ code_weight (stranger_weights allowed) code + strangers after
+  pub stranger_code :
+      (code : List Linear) (after : List Named) →
+      strangers (named_flat code after) ≡ code_weight (stranger_weights allowed) code + strangers after
   stranger_code [] after = omega arith
   stranger_code (Mark m ∷ rest) after = let h = stranger_code rest after in omega arith
   stranger_code (Do' s ∷ rest) after = let h = stranger_ts s (named_flat rest after) in let k = stranger_code rest after in omega arith

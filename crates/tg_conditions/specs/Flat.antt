@@ -1,7 +1,7 @@
 -- Tests of the shapes of flat code and of canonical statements.
 use Rattle.std.specs.Prelude.{◌&&◌, Bool, true, false, List}
 use Rattle.std.specs.List.{list_all}
-use Rattle.tg_tree.specs.Tree.{Tx, Const, Address, Temp, FrameAddress, Binary, Load, LoadByte, Call, Service, After, Ts, Move, Store, StoreByte, Do, If, Loop, Break, Fault, Seq, Return, Stms, no_stms, stm, Linear, Mark, Do', Jump, Branch, Fault', Return'}
+use Rattle.tg_tree.specs.Tree.{Tx, Call, Service, Ts, Move, Store, StoreByte, Do, If, Loop, Break, Fault, Seq, Return, Stms, no_stms, stm, Linear, Do', Branch, Return'}
 use Rattle.tg_tree.specs.Shapes.{is_flat, are_flat, is_flat_condition}
 
 abbrev pub is_flat_side : Tx → Bool

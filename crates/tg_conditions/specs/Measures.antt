@@ -2,8 +2,8 @@
 use Rattle.std.specs.Prelude.{ℕ, ◌+◌, Bool, if◌then◌else◌, nat_lt, nat_eq, true, ◌==◌, min}
 use Rattle.std.specs.HashSet.{HashSet}
 use Rattle.std.specs.HashSet as bag
-use Rattle.tg_tree.specs.Tree.{Tx, Const, Address, Temp, FrameAddress, Binary, Load, LoadByte, Call, Service, After, Cond, Compare, Ts, Move, Fault, Linear, Branch, Fault'}
-use Rattle.tg_tree.specs.Units.{Stage, Canonical, expression_units, statement_units, element_units, condition_units, argument_units}
+use Rattle.tg_tree.specs.Tree.{Tx, Address, Temp, Binary, Call, Service, After, Ts, Move, Fault, Linear, Branch, Fault'}
+use Rattle.tg_tree.specs.Units.{Canonical, expression_units, statement_units, element_units, condition_units, argument_units}
 use Rattle.tg_tree.specs.Tree.{no_txs}
 use Rattle.tg_tree.specs.Named.{Named, function, literal, fault, temporary}
 use Rattle.tg_conditions.specs.declared.measures.Measure.{Measure}

@@ -13,7 +13,8 @@ use tg_tree::{Linear, Ts};
 /// Whether each temporary of a body is one that its frame has drawn.
 pub fn tree_has_its_temps(body: &Ts, frame: &Frame) -> bool
     ensures { IsTrue result ↔
-        names.HasItsTemps (λ s. names.named_ts s []) (plain_function frame.now (plain_ts body.now)) }
+        names.HasItsTemps (λ s. names.named_ts s [])
+        (plain_function frame.now (plain_ts body.now)) }
 {
     draws_no_other(body, frame.temps)
 }
@@ -28,7 +29,8 @@ fn draws_no_other(body: &Ts, temps: u32) -> bool
 /// Whether each temporary of flat code is one that its frame has drawn.
 pub fn code_has_its_temps(code: &[Linear], frame: &Frame) -> bool
     ensures { IsTrue result ↔
-        names.HasItsTemps (λ e. names.named_flat e []) (plain_function frame.now (code_of code.now)) }
+        names.HasItsTemps (λ e. names.named_flat e [])
+        (plain_function frame.now (code_of code.now)) }
 {
     code_draws_no_other(code, frame.temps)
 }

@@ -1,4 +1,4 @@
-use Rattle.std.proofs.Common.{ℕ, List, [], ◌∷◌, ◌++◌, map, ap, ◌∙◌, ◌≡◌}
+use Rattle.std.proofs.Common.{[], ◌∷◌, ◌++◌, map, ap, ◌∙◌}
 use Rattle.tg_tree.specs.declared.fragments.Fragment.{Fragment}
 use Rattle.tg_emit.proofs.Appending.{one_more}
 use Rattle.tg_conditions.proofs.Knowing.{labels_more}

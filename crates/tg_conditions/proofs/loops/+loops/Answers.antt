@@ -1,4 +1,4 @@
-use Rattle.std.proofs.Common.{◌≡◌, ap, sym, ◌∙◌, arith}
+use Rattle.std.proofs.Common.{ap, sym, ◌∙◌, arith}
 use Rattle.tg_tree.specs.Plain.{plain_tx}
 use Rattle.tg_conditions.specs.Loops.{loops_around_tx}
 use Rattle.tg_conditions.proofs.Deepest.{stms_more, txs_more, around_call}

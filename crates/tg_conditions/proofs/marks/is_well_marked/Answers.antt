@@ -1,8 +1,7 @@
-use Rattle.std.proofs.Common.{◌≡◌, ◌≢◌, ℕ, List, ap, sym, ◌∙◌, subst}
-use Rattle.std.specs.Prelude.{◌↔◌, ◌&&◌, IsTrue}
+use Rattle.std.proofs.Common.{◌≢◌, ℕ, List, sym, ◌∙◌, subst}
+use Rattle.std.specs.Prelude.{◌↔◌, IsTrue}
 use Rattle.std.specs.List.{AllPairs, Contains}
 use Rattle.tg_tree.specs.Lists.{code_of}
-use Rattle.tg_tree.specs.Shapes.{IsWellMarked}
 use Rattle.tg_conditions.proofs.Told.{well_marked_told}
 use Rattle.tg_conditions.proofs.marks.is_well_marked.Goals as goal
 
