@@ -1,7 +1,11 @@
 -- From the answers of a text to those of a call.
 use Rattle.std.specs.Prelude.{Ok, Err, IsErrOf, ◌≤◌, length}
-use Rattle.std.proofs.Common.{ℕ, ◌≡◌, List, refl, sym, ◌∙◌, subst}
+use Rattle.std.proofs.Common.{ℕ, ◌≡◌, ◌<◌, List, [], Option, Some, None, refl, sym, ap, ◌∙◌, subst, arith}
 use Rattle.tg_base.specs.declared.ends.RunEnd.{RunEnd}
+use Rattle.tg_base.specs.declared.ends.RunEnd.TheVariants.{Exit, Break, Overflow, HeapFull, StackFull, StepLimit, BadAddress, Unaligned, BadWord, BadService, ReadFault, WriteFault}
+use Rattle.tg_base.specs.InMemory.{PlainBytes}
+use Rattle.tg_machine.specs.Machines.{Simulated, loaded}
+use Rattle.tg_machine.specs.Ran.{Ran}
 use Rattle.tg_base.specs.declared.outside.ShelfFault.{ShelfFault}
 use Rattle.tg_base.specs.declared.outside.ShelfFault.TheVariants.{Failed, Memory}
 use Rattle.tg_base.specs.Files.{IsFrontOf}
@@ -14,7 +18,7 @@ use Rattle.tg_command.specs.Commands.{Asked, Ask}
 use Rattle.tg_driver.specs.declared.answers.Answer.{Answer}
 use Rattle.tg_driver.specs.declared.answers.Answer.TheVariants.{Usage, Unreadable, Faulty, BadLine, TooLong, Accepted, Built, Unwritten, OutOfMemory, Finished}
 use Rattle.tg_driver.specs.Builds.{RunRelation, Builds, RunsAssembled, EndsBuilt}
-use Rattle.tg_driver.specs.Calls.{Stream, Streams, Stays, Untouched, Shelved, IsUnread, Call, Takes}
+use Rattle.tg_driver.specs.Calls.{Stream, stream_of, Streams, Stays, Untouched, Shelved, IsUnread, Call, Takes, all, part}
 use Rattle.tg_driver.specs.OfFiles.{OfFile, unreadable, read, OrMemory, unread_answer, HasStarted, StaysBeforeStart, UntouchedBeforeStart}
 use Rattle.tg_driver.specs.Found.{IsRefused}
 use Rattle.tg_driver.specs.Readings.{IsRefusalOf}
@@ -22,7 +26,8 @@ use Rattle.tg_driver.specs.Runs.{HasRun, IsRunOrMemory}
 use Rattle.tg_driver.specs.CheckMode.{IsChecked, ByCheck}
 use Rattle.tg_driver.specs.BuildMode.{WritesBuilt, IsBuilt, ByBuild}
 use Rattle.tg_driver.specs.RunMode.{EndsAssembled, IsRun, ByRun}
-use Rattle.tg_driver.specs.GenMode.{SumsUp, SumsUpRun, SumsUpBuilt, IsGenerated, ByGen}
+use Rattle.tg_driver.specs.GenMode.{summary, TakesSummary, SumsUp, SumsUpRun, SumsUpBuilt, IsGenerated, ByGen}
+use Rattle.tg_driver.specs.Endings.{end_status}
 use Rattle.tg_driver.specs.ExecMode.{IsExecuted, ByExec}
 use Rattle.tg_driver.specs.Modes.{InMode}
 use Rattle.tg_driver.specs.Telling.{IsBeforeStart, IsReported, itself, no_memory}
@@ -95,6 +100,45 @@ pub sums_up_built : {O : Type 0} (out : Stream O) (functions : ℕ) (text assemb
 sums_up_built out functions text assembly image heap stack steps OutOfMemory b is h = tt
 sums_up_built out functions text assembly image heap stack steps _ b is h =
     record { end = h.end; ends = record { assembly = assembly; builds = b; ran = record { image = image; assembles = is; run = h.sums_up } } }
+
+-- what holds of an answer holds of it unless memory is wanting
+pub or_memory : (due : Answer → Type 0) (answer : Answer) → due answer → OrMemory (Unit {0}) due answer
+or_memory due OutOfMemory h = tt
+or_memory due _ h = h
+
+-- a machine that was loaded ran on no input, and its summary was written
+pub sums_up : {O : Type 0} (told : O → Option (List ℕ)) (faults : O → ℕ) (before between after : O) (functions source steps : ℕ) (machine new : Simulated) (input input' : PlainBytes) (image : Image) (heap stack : ℕ) (end : RunEnd) (answer : Answer) → machine ≡ loaded image heap stack → input ≡ record { left = []; calls = 0 } → (machine.end ≡ None → Ran (λ s. Some s.left) (λ _. 0) told faults steps machine new input input' before between end) → TakesSummary (stream_of told faults between after) functions source new.written end answer → SumsUpRun (stream_of told faults before after) functions source image heap stack steps answer
+sums_up told faults before between after functions source steps machine new input input' image heap stack end answer is empty ran takes =
+    let P : Simulated → Type 0 = λ m. Ran (λ s. Some s.left) (λ _. 0) told faults steps m new input input' before between end in
+    let Q : PlainBytes → Type 0 = λ i. Ran (λ s. Some s.left) (λ _. 0) told faults steps (loaded image heap stack) new i input' before between end in
+    record {
+      end = end;
+      sums_up = record {
+        input = input';
+        between = between;
+        run = record { after = new; ran = subst Q empty (subst P is (ran (ap (λ m. m.end) is))) };
+        sums_up = takes;
+      };
+    }
+
+-- a summary that is due, whatever the end was but a write that failed
+pub takes_summary : {O : Type 0} (out : Stream O) (functions source written : ℕ) (end : RunEnd) (answer : Answer) → (end ≡ WriteFault → ⊥) → Takes out (summary functions source written (end_status end)) (Finished end) Unwritten answer → TakesSummary out functions source written end answer
+takes_summary out functions source written WriteFault answer other h = absurd (other refl)
+takes_summary out functions source written (Exit n) answer other h = h
+takes_summary out functions source written (Break n) answer other h = h
+takes_summary out functions source written Overflow answer other h = h
+takes_summary out functions source written HeapFull answer other h = h
+takes_summary out functions source written StackFull answer other h = h
+takes_summary out functions source written StepLimit answer other h = h
+takes_summary out functions source written (BadAddress n) answer other h = h
+takes_summary out functions source written (Unaligned n) answer other h = h
+takes_summary out functions source written (BadWord n) answer other h = h
+takes_summary out functions source written (BadService n) answer other h = h
+takes_summary out functions source written ReadFault answer other h = h
+
+-- the line isn't empty
+pub summary_some : (functions source written status : ℕ) → 0 < length (summary functions source written status)
+summary_some functions source written status = omega arith
 
 pub in_number : {O : Type 0} (out : Stream O) (functions : ℕ) (text other : List ℕ) (heap stack steps : ℕ) (answer : Answer) → text ≡ other → OrMemory (Unit {0}) (SumsUpBuilt out functions text heap stack steps) answer → OrMemory (Unit {0}) (SumsUpBuilt out functions other heap stack steps) answer
 in_number out functions text other heap stack steps answer is h =

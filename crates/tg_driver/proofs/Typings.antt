@@ -13,7 +13,10 @@ use Rattle.tg_types.specs.declared.notes.Note.{Note}
 use Rattle.tg_types.specs.Accepted.{Finding, finding, accepted, at_fault}
 use Rattle.tg_types.specs.Answered.{Accepts, IsAt}
 use Rattle.tg_types.proofs.NeverStuck.{accepted_never_stuck}
+use Rattle.tg_compile.specs.Compiling.{Compiles}
 use Rattle.tg_driver.specs.Meanings.{SourcesAreNeverStuck}
+use Rattle.tg_driver.specs.Sources.{IsSource}
+use Rattle.tg_driver.specs.Builds.{Builds}
 use Rattle.tg_driver.specs.Readings.{HasNamedTree, IsNamedSource, IsTypeFaultOf}
 
 pub names_within : (text : List ℕ) (names : List (List ℕ)) (program : Exp) → HasNamedTree text names program → NamesWithin (length names) program
@@ -34,6 +37,17 @@ typed_source text names program sorted t h =
 pub typed_fault : (text : List ℕ) (names : List (List ℕ)) (program : Exp) (fault : TypeFault) → HasNamedTree text names program → IsAt (finding names program) fault → IsTypeFaultOf text fault
 typed_fault text names program (Bad rule at) t h = record { names = names; tokens = t.tokens; program = program; tree = t.tree; fault = h }
 typed_fault text names program Memory t h = tt
+
+-- a program that was compiled, and the text is built to its assembly text
+pub builds : (text : List ℕ) (names : List (List ℕ)) (program : Exp) (sorted : List Note) (assembly : List ℕ) → HasNamedTree text names program → Accepts (finding names program) sorted → Compiles program assembly → Builds text assembly
+builds text names program sorted assembly t h compiles =
+    let n = typed_source text names program sorted t h in
+    record { names = names; tokens = n.tokens; program = program; source = n.source; compiles = compiles }
+
+pub is_source : (text : List ℕ) (names : List (List ℕ)) (program : Exp) (sorted : List Note) → HasNamedTree text names program → Accepts (finding names program) sorted → IsSource text
+is_source text names program sorted t h =
+    let n = typed_source text names program sorted t h in
+    record { names = names; tokens = n.tokens; program = program; source = n.source }
 
 -- so a source's evaluation is never stuck
 pub sources_are_never_stuck : SourcesAreNeverStuck

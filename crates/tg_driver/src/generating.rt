@@ -170,6 +170,14 @@ fn write_count<O: Sink>(out: &mut O, word: &[u8], number: u64) -> Result<(), Fai
     ensures cause { HasCause (O.faults out.old) (O.faults out.new) result }
 {
     let mut buffer = itoa::Buffer::new();
-    write_all(out, word)?;
-    write_all(out, buffer.format(number).as_bytes())
+    write_two(out, word, buffer.format(number).as_bytes())
+}
+
+/// Writes two pieces, one after the other.
+fn write_two<O: Sink>(out: &mut O, first: &[u8], second: &[u8]) -> Result<(), Failed>
+    ensures line { TakesAll (O.taken out.old) (O.taken out.new) result (first.now ++ second.now) }
+    ensures cause { HasCause (O.faults out.old) (O.faults out.new) result }
+{
+    write_all(out, first)?;
+    write_all(out, second)
 }

@@ -1,16 +1,29 @@
-use Rattle.std.proofs.Common.{◌≡◌, List, [], ◌∷◌, ◌++◌, sym, ap, subst, ◌∙◌}
+use Rattle.std.proofs.Common.{◌≡◌, List, [], ◌∷◌, ◌++◌, sym, subst, ◌∙◌}
 use Rattle.std.specs.Prelude.{map}
 use Rattle.std.proofs.IntoIterSteps.{All-taken}
 use Rattle.std.proofs.lemmas.List.{map-append}
 use Rattle.tg_tree.specs.declared.fragments.Fragment.{Fragment}
 use Rattle.tg_tree.specs.Tree.{Ts, Function}
 use Rattle.tg_tree.specs.Plain.{plain_fragment}
+use Rattle.tg_instr.specs.declared.codes.Allocated.{Allocated}
 use Rattle.tg_compile.specs.Compiling.{CompileFunctions}
 use Rattle.tg_compile.proofs.Chain.{compile_more}
 use Rattle.tg_compile.proofs.programs.compile_functions.Goals as goal
 
 pub loop-one-preserved : goal.loop-one-preserved
-loop-one-preserved c = ?
+loop-one-preserved c =
+    let before = map plain_fragment c.loop-one.yielded in
+    let one = plain_fragment c.in-Some.one in
+    let more = compile_more before c.loop-one.codes.items one c.in_ok-done.field-0.done c.loop-one.invariant c.in_ok-done.ensures in
+    let P : List (Function Ts) → Type 0 = λ fs. CompileFunctions fs c.push.new.self.items in
+    let Q : List Allocated → Type 0 = λ codes. CompileFunctions (before ++ one ∷ []) codes in
+    subst P (sym (map-append plain_fragment c.loop-one.yielded (c.in-Some.one ∷ []))) (subst Q (sym c.in_ok-push.ensures.items) more)
 
 pub returns : goal.returns
-returns c = ?
+returns c =
+    let first = c.into_iter-one-iterator.result in
+    let all : c.loop-one.yielded ≡ first.rest.items =
+        All-taken first c.loop-one.yielded (c.next.new.self, (c.loop-one.one-iterator, c.loop-one.yielded_by, c.in-None.ensures.steps)) in
+    let given : first.rest.items ≡ c.args.bodies.items = c.into_iter-one-iterator.ensures.into_iter_gives.0 in
+    let P : List Fragment → Type 0 = λ xs. CompileFunctions (map plain_fragment xs) c.loop-one.codes.items in
+    subst P (all ∙ given) c.loop-one.invariant

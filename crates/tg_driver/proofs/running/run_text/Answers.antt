@@ -1,5 +1,27 @@
-use Rattle.tg_driver.proofs.AnswerLemmas.{run_of_refused}
+use Rattle.std.proofs.Common.{refl}
+use Rattle.tg_command.specs.Commands.{asked_of}
+use Rattle.tg_driver.specs.Calls.{stream_of, streams_of}
+use Rattle.tg_driver.specs.Runs.{HasRun}
+use Rattle.tg_driver.proofs.AnswerLemmas.{run_of_refused, refused_untouched, ends_built}
 use Rattle.tg_driver.proofs.running.run_text.Goals as goal
 
+pub returns-in-Ok-clause-due : goal.returns-in-Ok-clause-due
+returns-in-Ok-clause-due g c =
+    let streams = streams_of
+    (stream_of g.I.Source.left g.I.Source.faults c.args.streams.input.now c.run_assembly.new.streams.0)
+    (stream_of g.O.Sink.taken g.O.Sink.faults c.args.streams.out.now c.run_assembly.new.streams.1.0) in
+    ends_built (HasRun streams) (asked_of c.args.command.now) _ _ c.run_assembly.result c.in-Ok.ensures (rw c.deref.ensures.value at c.run_assembly.ensures.runs)
+
 pub returns-in-Err-clause-due : goal.returns-in-Err-clause-due
-returns-in-Err-clause-due g c = run_of_refused _ _ _ (c.refused.ensures _ c.in-Err.ensures)
+returns-in-Err-clause-due g c =
+    let streams = streams_of
+    (stream_of g.I.Source.left g.I.Source.faults c.args.streams.input.now c.args.streams.input.now)
+    (stream_of g.O.Sink.taken g.O.Sink.faults c.args.streams.out.now c.args.streams.out.now) in
+    run_of_refused (HasRun streams) (asked_of c.args.command.now) _ c.refused.result c.refused.ensures
+
+pub returns-in-Err-clause-before_start : goal.returns-in-Err-clause-before_start
+returns-in-Err-clause-before_start g c =
+    let streams = streams_of
+    (stream_of g.I.Source.left g.I.Source.faults c.args.streams.input.now c.args.streams.input.now)
+    (stream_of g.O.Sink.taken g.O.Sink.faults c.args.streams.out.now c.args.streams.out.now) in
+    refused_untouched streams _ c.refused.result c.refused.ensures (refl, refl)
