@@ -12,7 +12,7 @@ use Rattle.tg_command.specs.Commands.{Asked, Ask}
 use Rattle.tg_command.proofs.CommandLemmas.{asked_once, asked_no_fault}
 use Rattle.tg_driver.specs.declared.answers.Answer.{Answer}
 use Rattle.tg_driver.specs.declared.answers.Answer.TheVariants.{Faulty, BadLine, TooLong, Built, Unwritten, Finished, OutOfMemory}
-use Rattle.tg_driver.specs.Calls.{Stream, stream_of, HasFailed, Streams, Shelved, IsUnread, Call, Takes, all, part}
+use Rattle.tg_driver.specs.Calls.{Stream, stream_of, streams_of, HasFailed, Streams, Shelved, IsUnread, Call, Takes, all, part}
 use Rattle.tg_driver.specs.OfFiles.{OfFile, unreadable, read}
 use Rattle.tg_driver.specs.Builds.{RunRelation, EndsBuilt}
 use Rattle.tg_driver.specs.Runs.{HasRun}
@@ -100,10 +100,10 @@ passed out functions source written ReadFault answer kept other h = taken out _ 
 
 -- a run that ended at a failed write leaves a sink that has failed
 write_failed : {O : Type 0} (out : Stream O) (between : O) (functions source written : ℕ) (end : RunEnd) (answer : Answer) → end ≡ WriteFault → Rose (out.faults out.before) (out.faults between) → TakesSummary (stream_of out.told out.faults between out.after) functions source written end answer → HasFailed out
-write_failed out between functions source written end answer is rose h =
+write_failed {O} out between functions source written end answer is rose h =
     let P : RunEnd → Type 0 = λ e. TakesSummary (stream_of out.told out.faults between out.after) functions source written e answer in
     let stays = (subst P is h).0 in
-    let Q : _ → Type 0 = λ x. Rose (out.faults out.before) (out.faults x) in
+    let Q : O → Type 0 = λ x. Rose (out.faults out.before) (out.faults x) in
     subst Q (sym stays) rose
 
 no_read : Rose 0 0 → ⊥
@@ -112,7 +112,7 @@ no_read r = absurd (omega (arith, r))
 of_gen : {O : Type 0} (out : Stream O) (a : Asked) (answer : Answer) → (HasFailed out → ⊥) → IsGenerated out a answer → EndsGenerated a answer
 of_gen out a answer kept h =
     let sums = h.ends.ran.run in
-    let s = record { input = no_input sums.input; out = stream_of out.told out.faults out.before sums.between } in
+    let s = streams_of (no_input sums.input) (stream_of out.told out.faults out.before sums.between) in
     let other : h.end ≡ WriteFault → ⊥ = λ is. kept (write_failed out sums.between _ _ _ h.end answer is (sums.run.ran.write_cause is) sums.sums_up) in
     let last = passed (stream_of out.told out.faults sums.between out.after) _ _ _ h.end answer
     (λ f. kept (rose_later _ _ _ sums.run.ran.writes_later f)) other sums.sums_up in
