@@ -25,9 +25,9 @@ tree_of functions literals = record { functions = map plain_fragment functions; 
 pub joined : (fs gs all : List Fragment) (ls ms every : List Literal) → all ≡ fs ++ gs → every ≡ ls ++ ms → tree_of gs ms ≡ runtime → tree_of all every ≡ with_runtime (tree_of fs ls)
 joined fs gs all ls ms every p q r =
     let functions : map plain_fragment all ≡ map plain_fragment fs ++ runtime.functions =
-        ap (λ x. map plain_fragment x) p ∙ map-append plain_fragment fs gs ∙ ap (λ (c : Code Ts). map plain_fragment fs ++ c.functions) r in
+    ap (λ x. map plain_fragment x) p ∙ map-append plain_fragment fs gs ∙ ap (λ (c : Code Ts). map plain_fragment fs ++ c.functions) r in
     let literals : map plain_literal every ≡ map plain_literal ls ++ runtime.literals =
-        ap (λ x. map plain_literal x) q ∙ map-append plain_literal ls ms ∙ ap (λ (c : Code Ts). map plain_literal ls ++ c.literals) r in
+    ap (λ x. map plain_literal x) q ∙ map-append plain_literal ls ms ∙ ap (λ (c : Code Ts). map plain_literal ls ++ c.literals) r in
     λ i. record { functions = functions i; literals = literals i }
 
 -- one more function
@@ -43,5 +43,5 @@ flat_is frame new body statements blocks flat label params slots out gives cut l
     let labels : new.label.0 ≡ frame.label.0 = ap (λ l. l.0) label in
     let temps : new.temps ≡ (linearized body frame.temps).next = sym (ap (λ (d : Drawn Stms). d.next) gives.is) in
     let code : flat ≡ traced (blocks_of (linearized body frame.temps).it) =
-        laid ∙ ap traced (cut ∙ sym (ap (λ (d : Drawn Stms). blocks_of d.it) gives.is)) in
+    laid ∙ ap traced (cut ∙ sym (ap (λ (d : Drawn Stms). blocks_of d.it) gives.is)) in
     λ i. record { label = labels i; params = params i; slots = slots i; temps = temps i; out = out i; body = code i }

@@ -40,7 +40,10 @@ struct Functions {
 pub fn compile_checked(alloc: Global, checked: &Checked) -> Result<Compiled, Memory>
     ensures { IfOk result (λ c. Compiles (plain checked.now.program.body) c.text.items) }
 {
-    let Fragments { functions: bodies, literals } = fragments(alloc, checked)?;
+    let Fragments {
+        functions: bodies,
+        literals,
+    } = fragments(alloc, checked)?;
     let functions = compile_functions(alloc, bodies)?;
     let written = write(alloc, &functions.codes, &literals)?;
     Ok(Compiled {
@@ -69,9 +72,18 @@ fn compile_functions(alloc: Global, bodies: Vec<Fragment>) -> Result<Functions, 
     let mut codes = Vec::new(alloc);
     let mut placements = Vec::new(alloc);
     for one in bodies {
-        let Allocation { done, registers, all_in_frame, slots } = compile_function(alloc, one)?;
+        let Allocation {
+            done,
+            registers,
+            all_in_frame,
+            slots,
+        } = compile_function(alloc, one)?;
         codes.push(done)?;
-        placements.push(Placement { registers, all_in_frame, slots })?;
+        placements.push(Placement {
+            registers,
+            all_in_frame,
+            slots,
+        })?;
     }
     Ok(Functions { codes, placements })
 }
@@ -95,8 +107,17 @@ fn join(alloc: Global, functions: Functions) -> Result<Vec<Allocation>, Memory> 
     let Functions { codes, placements } = functions;
     let mut all = Vec::new(alloc);
     for (done, placement) in codes.into_iter().zip(placements) {
-        let Placement { registers, all_in_frame, slots } = placement;
-        all.push(Allocation { done, registers, all_in_frame, slots })?;
+        let Placement {
+            registers,
+            all_in_frame,
+            slots,
+        } = placement;
+        all.push(Allocation {
+            done,
+            registers,
+            all_in_frame,
+            slots,
+        })?;
     }
     Ok(all)
 }

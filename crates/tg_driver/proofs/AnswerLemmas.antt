@@ -107,8 +107,8 @@ or_memory due OutOfMemory h = tt
 or_memory due _ h = h
 
 -- a machine that was loaded ran on no input, and its summary was written
-pub sums_up : {O : Type 0} (told : O → Option (List ℕ)) (faults : O → ℕ) (before between after : O) (functions source steps : ℕ) (machine new : Simulated) (input input' : PlainBytes) (image : Image) (heap stack : ℕ) (end : RunEnd) (answer : Answer) → machine ≡ loaded image heap stack → input ≡ record { left = []; calls = 0 } → (machine.end ≡ None → Ran (λ s. Some s.left) (λ _. 0) told faults steps machine new input input' before between end) → TakesSummary (stream_of told faults between after) functions source new.written end answer → SumsUpRun (stream_of told faults before after) functions source image heap stack steps answer
-sums_up told faults before between after functions source steps machine new input input' image heap stack end answer is empty ran takes =
+pub ran_and_summed : {O : Type 0} (told : O → Option (List ℕ)) (faults : O → ℕ) (before between after : O) (functions source steps : ℕ) (machine new : Simulated) (input input' : PlainBytes) (image : Image) (heap stack : ℕ) (end : RunEnd) (answer : Answer) → machine ≡ loaded image heap stack → input ≡ record { left = []; calls = 0 } → (machine.end ≡ None → Ran (λ s. Some s.left) (λ _. 0) told faults steps machine new input input' before between end) → TakesSummary (stream_of told faults between after) functions source new.written end answer → SumsUpRun (stream_of told faults before after) functions source image heap stack steps answer
+ran_and_summed told faults before between after functions source steps machine new input input' image heap stack end answer is empty ran takes =
     let P : Simulated → Type 0 = λ m. Ran (λ s. Some s.left) (λ _. 0) told faults steps m new input input' before between end in
     let Q : PlainBytes → Type 0 = λ i. Ran (λ s. Some s.left) (λ _. 0) told faults steps (loaded image heap stack) new i input' before between end in
     record {
@@ -116,7 +116,7 @@ sums_up told faults before between after functions source steps machine new inpu
       sums_up = record {
         input = input';
         between = between;
-        run = record { after = new; ran = subst Q empty (subst P is (ran (ap (λ m. m.end) is))) };
+        run = record { after = new; ran = subst Q empty (subst P is (ran (ap (λ (m : Simulated). m.end) is))) };
         sums_up = takes;
       };
     }

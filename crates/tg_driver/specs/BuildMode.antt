@@ -9,7 +9,8 @@ use Rattle.tg_driver.specs.Sources.{IsFaultOf, IsSource}
 use Rattle.tg_driver.specs.Builds.{Builds}
 
 -- the sink took an assembly text of the source, whole, or a write of it failed
-pub record WritesBuilt {O : Type 0} (out : Stream O) (text : List ℕ) (answer : Answer) : Type 0 where
+pub record WritesBuilt {O : Type 0} (out : Stream O)
+    (text : List ℕ) (answer : Answer) : Type 0 where
   pub assembly : List ℕ
   pub builds : Builds text assembly
   pub takes : Takes out assembly Built Unwritten answer

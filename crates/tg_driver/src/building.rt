@@ -35,7 +35,8 @@ pub(crate) fn answer_build<H: Shelf, O: Sink>(
 
 /// The answer of a source that is to be built.
 fn build_text<O: Sink>(alloc: Global, text: &[u8], out: &mut O) -> Answer
-    ensures due { OrMemory ⊤ (IsBuilt (stream_of O.taken O.faults out.old out.new) text.now) result }
+    ensures due { OrMemory ⊤ (IsBuilt (stream_of O.taken O.faults out.old out.new) text.now)
+        result }
     ensures before_start { StaysBeforeStart (stream_of O.taken O.faults out.old out.new) result }
 {
     match compile(alloc, text) {

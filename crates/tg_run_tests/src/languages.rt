@@ -111,10 +111,30 @@ fn outputs_that_fail(rt: HostRuntime) -> Result<(), Fail> {
 
 // The words of `gen`, a `|`, the status, a blank, the line, a `|` and the output.
 static GENERATED: [(&str, u8, &str, &str); 4] = [
-    ("tiger|gen|1", 0, "", "0\n0\nfunctions 1 source 215 output 4 status 0\n"),
-    ("tiger|gen|3", 0, "", "10\n12\nfunctions 3 source 439 output 6 status 0\n"),
-    ("tiger|gen|3|--steps|1", 109, "step limit", "functions 3 source 439 output 0 status 109\n"),
-    ("tiger|gen|003|--heap|4", 107, "heap full", "functions 3 source 439 output 0 status 107\n"),
+    (
+        "tiger|gen|1",
+        0,
+        "",
+        "0\n0\nfunctions 1 source 215 output 4 status 0\n",
+    ),
+    (
+        "tiger|gen|3",
+        0,
+        "",
+        "10\n12\nfunctions 3 source 439 output 6 status 0\n",
+    ),
+    (
+        "tiger|gen|3|--steps|1",
+        109,
+        "step limit",
+        "functions 3 source 439 output 0 status 109\n",
+    ),
+    (
+        "tiger|gen|003|--heap|4",
+        107,
+        "heap full",
+        "functions 3 source 439 output 0 status 107\n",
+    ),
 ];
 
 #[test]
@@ -122,7 +142,11 @@ fn generated_programs_run(rt: HostRuntime) -> Result<(), Fail> {
     let alloc = rt.alloc();
     for (words, status, line, out) in GENERATED {
         let seen = call(alloc, words, Outside::of(b""))?;
-        assert_eq!(rt; (seen.status, seen.out.as_slice()), (status, out.as_bytes()), "{words}");
+        assert_eq!(rt;
+            (seen.status, seen.out.as_slice()),
+            (status, out.as_bytes()),
+            "{words}"
+        );
         assert_eq!(rt; (seen.files_asked, seen.reads), (0, 0));
         let told = if line.is_empty() { 0 } else { line.len() + 8 };
         assert_eq!(rt; seen.error.len(), told, "{words}");
@@ -132,6 +156,9 @@ fn generated_programs_run(rt: HostRuntime) -> Result<(), Fail> {
         ..Outside::of(b"")
     };
     let seen = call(alloc, "tiger|gen|3", full)?;
-    assert_eq!(rt; (seen.status, seen.out.as_slice()), (74, b"10\n".as_slice()));
+    assert_eq!(rt;
+        (seen.status, seen.out.as_slice()),
+        (74, b"10\n".as_slice())
+    );
     Ok(())
 }

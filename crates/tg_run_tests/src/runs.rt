@@ -85,7 +85,12 @@ fn files_and_lines_that_fail(rt: HostRuntime) -> Result<(), Fail> {
         shelf_fails: &[1],
         ..Outside::of(b"exit(0)")
     };
-    for line in ["tiger|check|FILE", "tiger|build|FILE", "tiger|run|FILE", "tiger|exec|FILE"] {
+    for line in [
+        "tiger|check|FILE",
+        "tiger|build|FILE",
+        "tiger|run|FILE",
+        "tiger|exec|FILE",
+    ] {
         let seen = call(alloc, line, unread)?;
         assert_eq!(rt; seen.status, 66);
         assert_eq!(rt;

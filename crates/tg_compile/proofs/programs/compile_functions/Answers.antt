@@ -23,7 +23,7 @@ pub returns : goal.returns
 returns c =
     let first = c.into_iter-one-iterator.result in
     let all : c.loop-one.yielded ≡ first.rest.items =
-        All-taken first c.loop-one.yielded (c.next.new.self, (c.loop-one.one-iterator, c.loop-one.yielded_by, c.in-None.ensures.steps)) in
+    All-taken first c.loop-one.yielded (c.next.new.self, (c.loop-one.one-iterator, c.loop-one.yielded_by, c.in-None.ensures.steps)) in
     let given : first.rest.items ≡ c.args.bodies.items = c.into_iter-one-iterator.ensures.into_iter_gives.0 in
     let P : List Fragment → Type 0 = λ xs. CompileFunctions (map plain_fragment xs) c.loop-one.codes.items in
     subst P (all ∙ given) c.loop-one.invariant
