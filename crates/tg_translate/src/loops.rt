@@ -1,0 +1,89 @@
+use crate::constructs::equals;
+use crate::homes::Within;
+use crate::operands::{Operand, hold};
+use crate::places::{assign_value, own_place, read};
+use crate::states::{State, next};
+use std::alloc::Global;
+use tg_base::{Memory, sub};
+use tg_frame::Access;
+use tg_tree::{Bin, Cond, Rel, Ts, Tx, binary, compare, if_else, repeat, sequence, when};
+
+/// Where a loop's body stands.
+pub(crate) fn in_body(within: Within) -> Within {
+    Within {
+        level: within.level,
+        link_in_slot: within.link_in_slot,
+        leave: 0,
+    }
+}
+
+/// Where a loop's test stands: a `break` in it ends the loop outside.
+pub(crate) fn in_test(within: Within) -> Result<Within, Memory> {
+    Ok(Within {
+        level: within.level,
+        link_in_slot: within.link_in_slot,
+        leave: next(within.leave)?,
+    })
+}
+
+/// A turn again and again, while a condition holds.
+pub(crate) fn repeat_while(alloc: Global, test: Cond, turn: Ts) -> Result<Ts, Memory> {
+    repeat(alloc, if_else(alloc, test, turn, Ts::Break(0))?)
+}
+
+/// One below the first value of a loop's variable, by the wrapping forms.
+fn first_minus_one(alloc: Global, low: Operand) -> Result<Tx, Memory> {
+    match low {
+        Operand::Number(number) => Ok(Tx::Const(sub(number, 1))),
+        Operand::Kept(temp) => binary(alloc, Bin::Sub, Tx::Temp(temp), Tx::Const(1)),
+    }
+}
+
+/// The value of a variable of the function at work.
+fn read_home(alloc: Global, variable: Access) -> Result<Tx, Memory> {
+    read(alloc, own_place(alloc, variable)?)
+}
+
+/// A variable of the function at work becomes a value.
+fn assign_home(alloc: Global, variable: Access, value: Tx) -> Result<Ts, Memory> {
+    assign_value(own_place(alloc, variable)?, value)
+}
+
+/// The turns of a loop that counts, of which there is one at least. The test for the last turn comes
+/// before the addition, so the bound may be the greatest int. The variable starts one below its
+/// first value, and each turn begins with the addition: so a turn's end is one branch back.
+fn turns(
+    alloc: Global,
+    variable: Access,
+    low: Operand,
+    high: Operand,
+    turn: Ts,
+) -> Result<Ts, Memory> {
+    let first = assign_home(alloc, variable, first_minus_one(alloc, low)?)?;
+    let next = binary(alloc, Bin::Add, read_home(alloc, variable)?, Tx::Const(1))?;
+    let is_last = equals(alloc, read_home(alloc, variable)?, high.tree())?;
+    let turn = vec![in alloc;
+        assign_home(alloc, variable, next)?,
+        turn,
+        when(alloc, is_last, Ts::Break(0))?,
+    ]?;
+    Ok(sequence(vec![in alloc; first, repeat(alloc, sequence(turn))?]?))
+}
+
+/// A loop that counts from one value to another.
+pub(crate) fn count(
+    state: &mut State,
+    variable: Access,
+    low: Tx,
+    high: Tx,
+    turn: Ts,
+) -> Result<Ts, Memory> {
+    let alloc = state.alloc;
+    let mut done = Vec::new(alloc);
+    let low = hold(state, false, &mut done, low)?;
+    let high = hold(state, false, &mut done, high)?;
+    let is_run = compare(alloc, Rel::GreaterEqual, high.tree(), low.tree())?;
+    let turns = turns(alloc, variable, low, high, turn)?;
+    done.push(when(alloc, is_run, turns)?)?;
+    Ok(sequence(done))
+}

@@ -1,0 +1,152 @@
+use crate::constructs::{
+    LEAST_INT, MINUS_ONE, call_with_two, product_check, quotient_check, zero_check,
+};
+use crate::operands::hold;
+use crate::states::State;
+use crate::wants::{Made, Want, as_statement, test_of};
+use std::alloc::Global;
+use tg_base::{Memory, sub};
+use tg_runtime::Routine;
+use tg_syntax::Op;
+use tg_tree::{Bin, Cond, Rel, Ts, Tx, after, binary, both, compare, either, if_else, sequence};
+use tg_types::Means;
+
+/// What an operator wants of its left side.
+pub(crate) fn left_want(op: Op) -> Want {
+    match op {
+        Op::And | Op::Or => Want::Test,
+        _ => Want::Value,
+    }
+}
+
+/// Both conditions, or one of them.
+pub(crate) fn connected(alloc: Global, op: Op, left: Cond, right: Cond) -> Result<Cond, Memory> {
+    match op {
+        Op::And => both(alloc, left, right),
+        _ => either(alloc, left, right),
+    }
+}
+
+/// `a & b` is `if a then b else 0`, and `a | b` is `if a then 1 else b`.
+pub(crate) fn chosen(
+    alloc: Global,
+    op: Op,
+    arms: Want,
+    left: Cond,
+    right: Made,
+) -> Result<Ts, Memory> {
+    match op {
+        Op::And => {
+            let this = as_statement(alloc, arms, right)?;
+            let other = as_statement(alloc, arms, Made::Value(Tx::Const(0)))?;
+            if_else(alloc, left, this, other)
+        }
+        _ => {
+            let this = as_statement(alloc, arms, Made::Value(Tx::Const(1)))?;
+            let other = as_statement(alloc, arms, right)?;
+            if_else(alloc, left, this, other)
+        }
+    }
+}
+
+/// A connective where a condition is wanted.
+pub(crate) fn tested(alloc: Global, op: Op, left: Cond, right: Made) -> Result<Made, Memory> {
+    let right = test_of(alloc, right)?;
+    Ok(Made::Test(connected(alloc, op, left, right)?))
+}
+
+/// Whether strings are compared, by what the operator means.
+pub(crate) fn compares_strings(meaning: Option<Means>) -> bool {
+    matches!(meaning, Some(Means::Content))
+}
+
+fn relation(op: Op) -> Rel {
+    match op {
+        Op::Equal => Rel::Equal,
+        Op::NotEqual => Rel::NotEqual,
+        Op::Less => Rel::Less,
+        Op::LessEqual => Rel::LessEqual,
+        Op::Greater => Rel::Greater,
+        _ => Rel::GreaterEqual,
+    }
+}
+
+/// Strings are compared by the runtime, which answers their order as an int.
+fn comparison(
+    alloc: Global,
+    op: Op,
+    of_strings: bool,
+    left: Tx,
+    right: Tx,
+) -> Result<Cond, Memory> {
+    if of_strings {
+        let order = call_with_two(alloc, Routine::Compare, left, right)?;
+        compare(alloc, relation(op), order, Tx::Const(0))
+    } else {
+        compare(alloc, relation(op), left, right)
+    }
+}
+
+/// A product, which ends the program where it overflows.
+fn product(state: &mut State, direct: bool, left: Tx, right: Tx) -> Result<Made, Memory> {
+    let alloc = state.alloc;
+    let mut done = Vec::new(alloc);
+    let left = hold(state, direct, &mut done, left)?;
+    let right = hold(state, true, &mut done, right)?;
+    let to = state.fresh()?;
+    let low = binary(alloc, Bin::Mul, left.tree(), right.tree())?;
+    done.push(Ts::Move(to, low))?;
+    done.push(product_check(alloc, left.tree(), right.tree(), Tx::Temp(to))?)?;
+    let value = after(alloc, sequence(done), Tx::Temp(to))?;
+    Ok(Made::Value(value))
+}
+
+/// A quotient, which ends the program where the divisor is 0 and where it overflows.
+fn checked_quotient(state: &mut State, direct: bool, left: Tx, right: Tx) -> Result<Made, Memory> {
+    let alloc = state.alloc;
+    let mut done = Vec::new(alloc);
+    let left = hold(state, direct, &mut done, left)?;
+    let right = hold(state, true, &mut done, right)?;
+    done.push(zero_check(alloc, right.tree())?)?;
+    done.push(quotient_check(alloc, left.tree(), right.tree())?)?;
+    let value = binary(alloc, Bin::Div, left.tree(), right.tree())?;
+    Ok(Made::Value(after(alloc, sequence(done), value)?))
+}
+
+/// A quotient. A number other than 0 and -1 divides without a check.
+fn quotient(state: &mut State, direct: bool, left: Tx, right: Tx) -> Result<Made, Memory> {
+    match right {
+        Tx::Const(number) if number != 0 && number != MINUS_ONE => {
+            let value = binary(state.alloc, Bin::Div, left, Tx::Const(number))?;
+            Ok(Made::Value(value))
+        }
+        _ => checked_quotient(state, direct, left, right),
+    }
+}
+
+/// An operator between two values. The left side's temporary may be used itself where the right
+/// side assigns nothing, which `direct` says.
+pub(crate) fn operation(
+    state: &mut State,
+    op: Op,
+    of_strings: bool,
+    direct: bool,
+    left: Tx,
+    right: Tx,
+) -> Result<Made, Memory> {
+    match op {
+        Op::Plus => Ok(Made::Value(binary(state.alloc, Bin::AddTrap, left, right)?)),
+        Op::Minus => Ok(Made::Value(binary(state.alloc, Bin::SubTrap, left, right)?)),
+        Op::Times => product(state, direct, left, right),
+        Op::Divide => quotient(state, direct, left, right),
+        _ => Ok(Made::Test(comparison(state.alloc, op, of_strings, left, right)?)),
+    }
+}
+
+/// A negation. That of a number is a number, unless it overflows.
+pub(crate) fn negation(alloc: Global, value: Tx) -> Result<Tx, Memory> {
+    match value {
+        Tx::Const(number) if number != LEAST_INT => Ok(Tx::Const(sub(0, number))),
+        _ => binary(alloc, Bin::SubTrap, Tx::Const(0), value),
+    }
+}

@@ -1,0 +1,122 @@
+use crate::homes::{Callee, Home};
+use std::alloc::Global;
+use std::mem::replace;
+use tg_base::{Label, Memory, Temp};
+use tg_frame::{Access, Frame, new_frame};
+use tg_symbols::Table;
+use tg_tree::{Fragment, Fragments, Literal, Ts};
+
+/// How many slots, and how many temporaries, a function's frame may have.
+const MOST_HOMES: u32 = 4194304;
+
+/// What a translation draws: labels, literals, the functions that are done, and homes; and the
+/// frame of the function at work.
+#[derive(Drop)]
+pub(crate) struct State {
+    pub(crate) alloc: Global,
+    pub(crate) label: u32,
+    pub(crate) literals: Vec<Literal>,
+    pub(crate) functions: Vec<Fragment>,
+    pub(crate) homes: Table<Home>,
+    pub(crate) callees: Table<Callee>,
+    pub(crate) frame: Frame,
+}
+
+/// What a function's text is put aside for: the functions that were done before it, and the frame
+/// of the function around it.
+#[derive(Drop)]
+pub(crate) struct Outer {
+    functions: Vec<Fragment>,
+    frame: Frame,
+}
+
+impl State {
+    /// Nothing is drawn, and the frame is that of the program's body.
+    pub(crate) fn new(alloc: Global, first: u32, frame: Frame) -> State {
+        State {
+            alloc,
+            label: first,
+            literals: Vec::new(alloc),
+            functions: Vec::new(alloc),
+            homes: Table::new(alloc),
+            callees: Table::new(alloc),
+            frame,
+        }
+    }
+
+    fn has_room(&self) -> Result<(), Memory> {
+        if self.frame.slots >= MOST_HOMES || self.frame.temps >= MOST_HOMES {
+            return Err(Memory);
+        }
+        Ok(())
+    }
+
+    /// A fresh temporary.
+    pub(crate) fn fresh(&mut self) -> Result<Temp, Memory> {
+        self.has_room()?;
+        Ok(self.frame.fresh())
+    }
+
+    /// A home for a local variable, in the frame where it escapes.
+    pub(crate) fn local(&mut self, escapes: bool) -> Result<Access, Memory> {
+        self.has_room()?;
+        Ok(self.frame.alloc_local(escapes))
+    }
+
+    /// The next label.
+    pub(crate) fn draw_label(&mut self) -> Result<Label, Memory> {
+        let label = self.label;
+        self.label = next(label)?;
+        Ok(Label(label))
+    }
+
+    /// A function's text begins, with a frame of its own.
+    pub(crate) fn open(&mut self, frame: Frame) -> Outer {
+        Outer {
+            functions: replace(&mut self.functions, Vec::new(self.alloc)),
+            frame: replace(&mut self.frame, frame),
+        }
+    }
+
+    /// A function's text ends: it stands behind those before it, and before those found in it.
+    pub(crate) fn close(&mut self, outer: Outer, body: Ts) -> Result<(), Memory> {
+        let Outer { functions, frame } = outer;
+        let frame = replace(&mut self.frame, frame);
+        let mut inner = replace(&mut self.functions, functions);
+        self.functions.push(Fragment { frame, body })?;
+        self.functions.append(&mut inner)?;
+        Ok(())
+    }
+
+    /// The program's text ends: its body stands before its functions.
+    pub(crate) fn finish(self, body: Ts) -> Result<Fragments, Memory> {
+        let State {
+            alloc,
+            label: _,
+            literals,
+            functions: mut inner,
+            homes: _,
+            callees: _,
+            frame,
+        } = self;
+        let mut functions = vec![in alloc; Fragment { frame, body }]?;
+        functions.append(&mut inner)?;
+        Ok(Fragments {
+            functions,
+            literals,
+        })
+    }
+}
+
+/// The number after a number.
+pub(crate) fn next(number: u32) -> Result<u32, Memory> {
+    number.checked_add(1).ok_or(Memory)
+}
+
+/// A frame for a function of a label.
+pub(crate) fn frame_of(alloc: Global, label: Label, asked: &[bool]) -> Result<Frame, Memory> {
+    if asked.len() > MOST_HOMES as usize {
+        return Err(Memory);
+    }
+    new_frame(alloc, label, asked)
+}
