@@ -1,6 +1,6 @@
 -- What the constructs of the language become, as small trees (Appel, chapters 6 and 7): static
 -- links and slots, checks, arithmetic that ends the program by overflow, records and arrays.
-use Rattle.std.specs.Prelude.{ℕ, zero, suc, ◌+◌, ◌-◌, ◌*◌, ◌%◌, ◌==◌, ◌||◌, not, List, [], ◌∷◌, ◌++◌, length, replicate, max, Bool, true, false, if◌then◌else◌}
+use Rattle.std.specs.Prelude.{ℕ, zero, suc, ◌+◌, ◌*◌, ◌==◌, ◌||◌, List, [], ◌∷◌, ◌++◌, length, max, Bool, true, false, if◌then◌else◌}
 use Rattle.std.specs.Int.{to_le_bytes, w32}
 use Rattle.tg_base.specs.Words.{sub}
 use Rattle.tg_frame.specs.declared.accesses.Access.{Access}
@@ -13,12 +13,19 @@ use Rattle.tg_syntax.specs.declared.trees.Op.TheVariants as op
 use Rattle.tg_tree.specs.declared.operators.Bin.TheVariants.{Add, Sub, Mul, Div, ShiftLeft, ShiftSigned, AddTrap, SubTrap, MulHigh}
 use Rattle.tg_tree.specs.declared.operators.Rel.{Rel}
 use Rattle.tg_tree.specs.declared.operators.Rel.TheVariants as rel
-use Rattle.tg_tree.specs.Tree.{Tx, Const, Address, Temp, FrameAddress, Binary, Load, Call, After, Cond, Compare, Both, Ts, Move, Store, Do, If, Loop, Break, Fault, Return, Literal}
-use Rattle.tg_tree.specs.Forms.{txs, sequence, nothing, when}
+use Rattle.tg_tree.specs.Tree.{Tx, Const, Temp, FrameAddress, Binary, Load, Call, After, Txs, no_txs, tx, Cond, Compare, Both, Ts, Move, Store, Do, If, Loop, Break, Fault, Seq, Stms, no_stms, stm}
+use Rattle.tg_tree.specs.Forms.{when}
+use Rattle.tg_tree.specs.Plain.{plain_tx}
+use Rattle.tg_tree.specs.Lists.{stms_of}
+use Rattle.tg_translate.specs.declared.places.Place.{Place as CodePlace}
+use Rattle.tg_translate.specs.declared.places.Place.TheVariants as code
 use Rattle.tg_translate.specs.declared.operands.Operand.{Operand}
 use Rattle.tg_translate.specs.declared.operands.Operand.TheVariants.{Number, Kept}
+use Rattle.tg_translate.specs.declared.wants.Want.{Want}
+use Rattle.tg_translate.specs.declared.wants.Want.TheVariants as want
+use Rattle.tg_translate.specs.declared.homes.Within.{Within}
 use Rattle.tg_translate.specs.States.{Acts, ◌>>=◌, ◌>>◌, give, fresh}
-use Rattle.tg_translate.specs.Wants.{Made, value, done, test, put_in, dropped, value_of}
+use Rattle.tg_translate.specs.Wants.{Made, value, done, test, put_in, value_of, followed, value_behind}
 
 abbrev pub minus_one : ℕ
 minus_one = 4294967295
@@ -38,32 +45,32 @@ operand (Number n) = Const n
 operand (Kept t) = Temp t.0
 
 pub record Held : Type 0 where
-  pub before : List Ts
+  pub before : Stms
   pub operand : Operand
 
 -- A value is kept for its uses. A variable's temporary may be used itself where nothing assigns it
 -- meanwhile.
-abbrev pub hold : (direct : Bool) → List Ts → Tx → Acts Held
+abbrev pub keep : Stms → Tx → Acts Held
+keep before x = do
+  t ← fresh
+  give (record { before = followed before (Move t x); operand = Kept (record { 0 = t }) })
+
+abbrev pub hold : (direct : Bool) → Stms → Tx → Acts Held
 hold direct before (Const n) = give (record { before = before; operand = Number n })
 hold true before (Temp t) =
     give (record { before = before; operand = Kept (record { 0 = t }) })
-hold direct before x = do
-  t ← fresh
-  give (record { before = before ++ Move t x ∷ []; operand = Kept (record { 0 = t }) })
-
-abbrev pub Operands : Type 0
-Operands = List Operand
+hold direct before x = keep before x
 
 pub record HeldAll : Type 0 where
-  pub before : List Ts
+  pub before : Stms
   pub operands : List Operand
 
-abbrev pub hold_all : (direct : Bool) → List Ts → List Tx → Acts HeldAll
-hold_all direct before [] = give (record { before = before; operands = [] })
-hold_all direct before (x ∷ xs) = do
+-- one after another, behind those that are kept
+abbrev pub hold_all : (direct : Bool) → Stms → Txs → List Operand → Acts HeldAll
+hold_all direct before no_txs kept = give (record { before = before; operands = kept })
+hold_all direct before (tx x xs) kept = do
   h ← hold direct before x
-  all ← hold_all direct h.before xs
-  give (record { before = all.before; operands = h.operand ∷ all.operands })
+  hold_all direct h.before xs (kept ++ h.operand ∷ [])
 
 -- Frames and static links (chapter 6). Slot k is the word 4·(k + 1) bytes below the frame address.
 -- A link that stands in a slot stands in the first one, since it is the first parameter.
@@ -88,27 +95,36 @@ frame_out kept (suc (suc n)) = link_of (frame_out kept (suc n))
 
 pub data Place : Type 0 where
   in_temp : ℕ → Place
-  at_address : List Ts → Tx → Place
+  at_address : Stms → Tx → Place
+
+abbrev pub plain_place : CodePlace → Place
+plain_place (code.InTemp t) = in_temp t.0
+plain_place (code.AtAddress before a) = at_address (stms_of before.items) (plain_tx a)
 
 abbrev pub place_in : (frame : Tx) → Access → Place
 place_in frame (InTemp t) = in_temp t.0
-place_in frame (InFrame k) = at_address [] (slot_address frame k)
+place_in frame (InFrame k) = at_address no_stms (slot_address frame k)
 
 -- a home in the activation at work
 abbrev pub own_place : Access → Place
 own_place home = place_in FrameAddress home
 
-abbrev pub after_all : List Ts → Tx → Tx
-after_all [] x = x
-after_all ss x = After (sequence ss) x
+abbrev pub after_all : Stms → Tx → Tx
+after_all no_stms x = x
+after_all ss x = After (Seq ss) x
 
 abbrev pub read : Place → Tx
 read (in_temp t) = Temp t
 read (at_address before a) = after_all before (Load a)
 
-abbrev pub store_at : List Ts → (address value : Tx) → Ts
-store_at [] a x = Store a x
-store_at before a x = sequence (before ++ Store a x ∷ [])
+abbrev pub store_at : Stms → (address value : Tx) → Ts
+store_at no_stms a x = Store a x
+store_at before a x = Seq (followed before (Store a x))
+
+-- what an assignment wants of its right side, and a declaration of its value
+abbrev pub want_for : Place → Want
+want_for (in_temp t) = want.Into (record { 0 = t })
+want_for (at_address before a) = want.Value
 
 -- what was made is assigned; a statement has put it there already where the place is a temporary
 abbrev pub assign : Place → Made → Acts Ts
@@ -147,46 +163,68 @@ quotient_check left right =
 -- Records and arrays: field k is the word 4·k bytes behind the record's address, an array's length
 -- comes first.
 
+abbrev pub field_of : (field : ℕ) → Stms → (record_ : Tx) → Place
+field_of k before r = at_address (followed before (nil_check r)) (plus r (4 * k))
+
 abbrev pub field_place : (field : ℕ) → (record_ : Tx) → Acts Place
 field_place k x = do
-  r ← hold true [] x
-  give (at_address (r.before ++ nil_check (operand r.operand) ∷ [])
-      (plus (operand r.operand) (4 * k)))
+  r ← hold true no_stms x
+  give (field_of k r.before (operand r.operand))
 
 abbrev pub element : (array index : Tx) → Tx
 element array index =
     Binary Add (Binary Add (Binary ShiftLeft index (Const 2)) array) (Const 4)
 
+abbrev pub element_of : Stms → (array index : Tx) → Place
+element_of before a i = at_address (followed before (index_check a i)) (element a i)
+
 abbrev pub element_place : (direct : Bool) → (array index : Tx) → Acts Place
 element_place direct x y = do
-  a ← hold direct [] x
+  a ← hold direct no_stms x
   i ← hold true a.before y
-  give (at_address (i.before ++ index_check (operand a.operand) (operand i.operand) ∷ [])
-      (element (operand a.operand) (operand i.operand)))
+  give (element_of i.before (operand a.operand) (operand i.operand))
 
-abbrev pub call_routine : Routine → List Tx → Tx
-call_routine one xs = Call (label_of one) (txs xs)
+abbrev pub call_routine : Routine → Txs → Tx
+call_routine one xs = Call (label_of one) xs
+
+abbrev pub one_tx : Tx → Txs
+one_tx x = tx x no_txs
+
+abbrev pub two_txs : Tx → Tx → Txs
+two_txs x y = tx x (tx y no_txs)
 
 -- a record takes 4 bytes at least
 abbrev pub record_bytes : (fields : ℕ) → ℕ
 record_bytes n = max 4 (4 * n)
 
-abbrev pub stores_from : (record_ : ℕ) → (field : ℕ) → List Operand → List Ts
-stores_from r k [] = []
-stores_from r k (x ∷ xs) =
-    Store (plus (Temp r) (4 * k)) (operand x) ∷ stores_from r (suc k) xs
+abbrev pub store_field : (record_ field : ℕ) → Operand → Ts
+store_field r k x = Store (plus (Temp r) (4 * k)) (operand x)
 
-abbrev pub make_record : (direct : Bool) → List Tx → Acts Made
+-- the fields from one on are stored
+abbrev pub store_fields : Stms → (record_ field : ℕ) → List Operand → Stms
+store_fields before r k [] = before
+store_fields before r k (x ∷ xs) =
+    store_fields (followed before (store_field r k x)) r (suc k) xs
+
+abbrev pub call_for_record : (fields : ℕ) → Tx
+call_for_record n = call_routine routine.MakeRecord (one_tx (Const (record_bytes n)))
+
+-- the values of the fields are kept, the record is made, and then they are stored in it
+abbrev pub record_of : (record_ : ℕ) → HeldAll → Made
+record_of r all =
+    value_behind
+    (store_fields (followed all.before (Move r (call_for_record (length all.operands))))
+    r 0 all.operands)
+    (Temp r)
+
+abbrev pub make_record : (direct : Bool) → Txs → Acts Made
 make_record direct xs = do
-  all ← hold_all direct [] xs
+  all ← hold_all direct no_stms xs []
   r ← fresh
-  give (value (After (sequence (
-      all.before
-      ++ Move r (call_routine routine.MakeRecord (Const (record_bytes (length xs)) ∷ []))
-      ∷ stores_from r 0 all.operands)) (Temp r)))
+  give (record_of r all)
 
 abbrev pub make_array : (size value : Tx) → Tx
-make_array size x = call_routine routine.MakeArray (size ∷ x ∷ [])
+make_array size x = call_routine routine.MakeArray (two_txs size x)
 
 -- Operators.
 
@@ -200,28 +238,31 @@ relation _ = rel.GreaterEqual
 
 -- strings are compared by the runtime, which answers their order as an int
 abbrev pub comparison : Op → (of_strings : Bool) → (left right : Tx) → Cond
-comparison op true x y = Compare (relation op) (call_routine routine.Compare (x ∷ y ∷ [])) (Const 0)
+comparison op true x y = Compare (relation op) (call_routine routine.Compare (two_txs x y)) (Const 0)
 comparison op false x y = Compare (relation op) x y
+
+abbrev pub product_of : (product : ℕ) → Stms → (left right : Tx) → Made
+product_of p before l r =
+    value_behind
+    (followed (followed before (Move p (Binary Mul l r))) (product_check l r (Temp p)))
+    (Temp p)
 
 abbrev pub product : (direct : Bool) → (left right : Tx) → Acts Made
 product direct x y = do
-  l ← hold direct [] x
+  l ← hold direct no_stms x
   r ← hold true l.before y
   p ← fresh
-  give (value (After (sequence (
-      r.before
-      ++ Move p (Binary Mul (operand l.operand) (operand r.operand))
-      ∷ product_check (operand l.operand) (operand r.operand) (Temp p) ∷ [])) (Temp p)))
+  give (product_of p r.before (operand l.operand) (operand r.operand))
+
+abbrev pub quotient_of : Stms → (left right : Tx) → Made
+quotient_of before l r =
+    value_behind (followed (followed before (zero_check r)) (quotient_check l r)) (Binary Div l r)
 
 abbrev pub checked_quotient : (direct : Bool) → (left right : Tx) → Acts Made
 checked_quotient direct x y = do
-  l ← hold direct [] x
+  l ← hold direct no_stms x
   r ← hold true l.before y
-  give (value (After (sequence (
-      r.before
-      ++ zero_check (operand r.operand)
-      ∷ quotient_check (operand l.operand) (operand r.operand) ∷ []))
-      (Binary Div (operand l.operand) (operand r.operand))))
+  give (quotient_of r.before (operand l.operand) (operand r.operand))
 
 -- a number other than 0 and -1 divides without a check
 abbrev pub quotient : (direct : Bool) → (left right : Tx) → Acts Made
@@ -245,6 +286,13 @@ negation x = Binary SubTrap (Const 0) x
 
 -- Loops.
 
+-- where a loop's body and its test stand: a `break` in the test ends the loop outside
+abbrev pub in_body : Within → Within
+in_body within = record within { leave = 0 }
+
+abbrev pub in_test : Within → Within
+in_test within = record within { leave = within.leave + 1 }
+
 -- a turn while a condition holds
 abbrev pub repeat_while : Cond → Ts → Ts
 repeat_while c turn = Loop (If c turn (Break 0))
@@ -261,29 +309,28 @@ assign_value (at_address before a) x = store_at before a x
 -- The test for the last turn comes before the addition, so the bound may be the greatest int. The
 -- variable starts one below its first value, and each turn begins with the addition: so a turn's
 -- end is one branch back.
+abbrev pub turn_of : (variable : Access) → (high : Operand) → Ts → Ts
+turn_of i high turn = Seq (
+    stm (assign_value (own_place i) (Binary Add (read (own_place i)) (Const 1))) (
+    stm turn (
+    stm (when (Compare rel.Equal (read (own_place i)) (operand high)) (Break 0)) no_stms)))
+
 abbrev pub turns : (variable : Access) → (low high : Operand) → Ts → Ts
-turns i low high turn = sequence (
-    assign_value (own_place i) (first_minus_one low) ∷
-    Loop (sequence (
-    assign_value (own_place i) (Binary Add (read (own_place i)) (Const 1)) ∷
-    turn ∷
-    when (Compare rel.Equal (read (own_place i)) (operand high)) (Break 0) ∷ [])) ∷ [])
+turns i low high turn = Seq (
+    stm (assign_value (own_place i) (first_minus_one low)) (
+    stm (Loop (turn_of i high turn)) no_stms))
+
+abbrev pub count_of : Stms → (variable : Access) → (low high : Operand) → Ts → Ts
+count_of before i low high turn =
+    Seq (followed before
+    (when (Compare rel.GreaterEqual (operand high) (operand low)) (turns i low high turn)))
 
 abbrev pub count : (variable : Access) → (low high : Tx) → Ts → Acts Ts
 count i x y turn = do
-  l ← hold false [] x
+  l ← hold false no_stms x
   h ← hold false l.before y
-  give (sequence (h.before ++
-      when (Compare rel.GreaterEqual (operand h.operand) (operand l.operand))
-      (turns i l.operand h.operand turn) ∷ []))
+  give (count_of h.before i l.operand h.operand turn)
 
 -- Strings: a word of length and the bytes; zeros up to a multiple of 4 follow where it is laid out.
 abbrev pub string_text : List ℕ → List ℕ
 string_text bytes = to_le_bytes w32 (length bytes) ++ bytes
-
--- Functions: what has a result gives it back, and anything else gives 0 back.
-abbrev pub closing : (has_result : Bool) → Made → Acts Ts
-closing true m = do
-  x ← value_of m
-  give (Return x)
-closing false m = give (sequence (dropped m ∷ Return (Const 0) ∷ []))

@@ -1,6 +1,6 @@
 -- What the passes before found of a program, and what names are to a translation: homes of
 -- variables and labels of functions, with the level of the function that declares them.
-use Rattle.std.specs.Prelude.{ℕ, ◌-◌, List, [], ◌∷◌, Option, Some, None, Bool, true, false}
+use Rattle.std.specs.Prelude.{ℕ, ◌-◌, List, Option, Some, None, Bool, true, false}
 use Rattle.tg_frame.specs.declared.accesses.Access.{Access}
 use Rattle.tg_runtime.specs.declared.routines.Routine.{Routine}
 use Rattle.tg_runtime.specs.declared.routines.Routine.TheVariants as routine
@@ -8,8 +8,12 @@ use Rattle.tg_meaning.specs.declared.standards.Standard.{Standard}
 use Rattle.tg_meaning.specs.declared.standards.Standard.TheVariants as standard
 use Rattle.tg_types.specs.declared.notes.Means.{Means}
 use Rattle.tg_types.specs.declared.notes.Means.TheVariants as means
-use Rattle.tg_tree.specs.Tree.{Tx, Const, Address, Call, Literal}
-use Rattle.tg_tree.specs.Forms.{txs}
+use Rattle.tg_tree.specs.Tree.{Tx, Const, Address, Call, Txs, tx, no_stms}
+use Rattle.std.specs.Ordering.{nat_cmp}
+use Rattle.std.specs.FinSet.{FinSet, contains}
+use Rattle.tg_types.specs.declared.notes.Note.{Note}
+use Rattle.tg_types.specs.Answered.{meaning_at}
+use Rattle.tg_translate.specs.declared.findings.Findings.{Findings as CodeFindings}
 use Rattle.tg_translate.specs.declared.homes.Home.{Home}
 use Rattle.tg_translate.specs.declared.homes.Callee.{Callee}
 use Rattle.tg_translate.specs.declared.homes.Within.{Within}
@@ -24,6 +28,16 @@ pub record Findings : Type 0 where
   pub escapes : (at : ℕ) → Bool
   pub keeps_link : (at : ℕ) → Bool
 
+abbrev pub found : List Note → FinSet nat_cmp → Findings
+found notes escapes = record {
+  meaning = λ at. meaning_at at notes;
+  escapes = λ at. contains escapes at;
+  keeps_link = λ at. true;
+}
+
+abbrev pub findings_of : CodeFindings → Findings
+findings_of f = found f.notes.now f.escapes.now
+
 -- a part of a function's text: a level outwards is a static link
 abbrev pub frame_at : Within → (level : ℕ) → Tx
 frame_at within level = frame_out within.link_in_slot (within.level - level)
@@ -32,15 +46,18 @@ frame_at within level = frame_out within.link_in_slot (within.level - level)
 abbrev pub no_value : Tx
 no_value = Const 0
 
+abbrev pub nowhere : Place
+nowhere = at_address no_stms no_value
+
 abbrev pub home_place : Within → Option Home → Place
 home_place within (Some home) = place_in (frame_at within home.level) home.access
-home_place within None = at_address [] no_value
+home_place within None = nowhere
 
 abbrev pub variable_place : Within → Option Means → Acts Place
 variable_place within (Some (means.Variable at)) = do
   home ← home_at at
   give (home_place within home)
-variable_place within _ = give (at_address [] no_value)
+variable_place within _ = give nowhere
 
 abbrev pub field_number : Option Means → ℕ
 field_number (Some (means.Field k)) = k
@@ -63,12 +80,12 @@ routine_of standard.Not = routine.Not
 routine_of standard.Exit = routine.Exit
 
 -- the first argument is the frame address of the function that declares the callee
-abbrev pub call_declared : Within → List Tx → Option Callee → Tx
+abbrev pub call_declared : Within → Txs → Option Callee → Tx
 call_declared within xs (Some callee) =
-    Call callee.label.0 (txs (frame_at within callee.level ∷ xs))
+    Call callee.label.0 (tx (frame_at within callee.level) xs)
 call_declared within xs None = no_value
 
-abbrev pub call : Within → Option Means → List Tx → Acts Tx
+abbrev pub call : Within → Option Means → Txs → Acts Tx
 call within (Some (means.Standard f)) xs = give (call_routine (routine_of f) xs)
 call within (Some (means.Function at)) xs = do
   callee ← callee_at at

@@ -1,13 +1,19 @@
 -- What a translation draws: labels, literals, the functions that are done, the homes of variables
 -- and the labels of functions; and, of the function at work, its slots and temporaries. Actions
 -- draw one after another.
-use Rattle.std.specs.Prelude.{ℕ, ◌+◌, List, [], ◌∷◌, ◌++◌, Bool, true, false, Option}
+use Rattle.std.specs.Prelude.{ℕ, ◌+◌, List, [], ◌∷◌, ◌++◌, map, Bool, Option, if◌then◌else◌}
 use Rattle.tg_frame.specs.declared.accesses.Access.{Access}
 use Rattle.tg_frame.specs.Homes.{next_home}
 use Rattle.tg_symbols.specs.Tables.{named}
 use Rattle.tg_tree.specs.Tree.{Ts, Function, Literal}
+use Rattle.tg_tree.specs.Plain.{plain_function, plain_fragment, plain_literal}
+use Rattle.tg_translate.specs.declared.states.State.{State as CodeState}
 use Rattle.tg_translate.specs.declared.homes.Home.{Home}
 use Rattle.tg_translate.specs.declared.homes.Callee.{Callee}
+
+-- a function without its body
+abbrev pub Frame : Type 0
+Frame = Function (Unit {0})
 
 -- `label` is the next one; homes and callees stand by the byte of their declaring identifier, the
 -- newest first, and none is taken back, since no two are declared at one byte
@@ -17,8 +23,17 @@ pub record State : Type 0 where
   pub functions : List (Function Ts)
   pub homes : List (ℕ × Home)
   pub callees : List (ℕ × Callee)
-  pub slots : ℕ
-  pub temps : ℕ
+  pub frame : Frame
+
+abbrev pub state_of : CodeState → State
+state_of s = record {
+  label = s.label;
+  literals = map plain_literal s.literals.items;
+  functions = map plain_fragment s.functions.items;
+  homes = s.homes;
+  callees = s.callees;
+  frame = plain_function s.frame tt;
+}
 
 pub data Drawn (A : Type 0) : Type 0 where
   drawn : A → State → Drawn A
@@ -40,14 +55,24 @@ abbrev pub ◌>>◌ : {A B : Type 0} → Acts A → Acts B → Acts B
 abbrev pub give : {A : Type 0} → A → Acts A
 give a = λ s. drawn a s
 
+abbrev pub with_frame : Frame → State → State
+with_frame f s = record s { frame = f }
+
+abbrev pub one_temp : Frame → Frame
+one_temp f = record f { temps = f.temps + 1 }
+
+abbrev pub one_slot : Frame → Frame
+one_slot f = record f { slots = f.slots + 1 }
+
 -- a fresh temporary
 abbrev pub fresh : Acts ℕ
-fresh = λ s. drawn s.temps (record s { temps = s.temps + 1 })
+fresh = λ s. drawn s.frame.temps (with_frame (one_temp s.frame) s)
 
 -- a home for a local variable, in the frame where it escapes
 abbrev pub local : (escapes : Bool) → Acts Access
-local true = λ s. drawn (next_home true s.slots s.temps) (record s { slots = s.slots + 1 })
-local false = λ s. drawn (next_home false s.slots s.temps) (record s { temps = s.temps + 1 })
+local escapes =
+    λ s. drawn (next_home escapes s.frame.slots s.frame.temps)
+    (with_frame (if escapes then one_slot s.frame else one_temp s.frame) s)
 
 abbrev pub next_label : Acts ℕ
 next_label = λ s. drawn s.label s

@@ -1,9 +1,10 @@
 -- What an expression becomes: a value, a statement, or a condition (Appel, chapter 7: Ex, Nx, Cx),
 -- and how each is made what its place wants.
-use Rattle.std.specs.Prelude.{ℕ, List, [], ◌∷◌, ◌++◌}
+use Rattle.std.specs.Prelude.{ℕ}
 use Rattle.tg_tree.specs.declared.operators.Rel.TheVariants.{NotEqual}
-use Rattle.tg_tree.specs.Tree.{Tx, Const, Temp, After, Cond, Compare, Ts, Move, Do, If}
-use Rattle.tg_tree.specs.Forms.{sequence, nothing}
+use Rattle.tg_tree.specs.Tree.{Tx, Const, Temp, After, Cond, Compare, Ts, Move, Do, If, Seq, Stms, no_stms, stm}
+use Rattle.tg_tree.specs.Forms.{nothing}
+use Rattle.tg_tree.specs.Lists.{join_stms}
 use Rattle.tg_tree.specs.Plain.{plain_tx, plain_cond, plain_ts}
 use Rattle.tg_translate.specs.declared.wants.Want.{Want}
 use Rattle.tg_translate.specs.declared.wants.Want.TheVariants.{Value, Into, Dropped, Test}
@@ -74,11 +75,21 @@ deliver (Into _) arms s = done s
 deliver Dropped arms s = done s
 deliver _ arms s = taken_from arms s
 
+-- a statement behind others
+abbrev pub followed : Stms → Ts → Stms
+followed ss s = join_stms ss (stm s no_stms)
+
+abbrev pub value_behind : Stms → Tx → Made
+value_behind ss x = value (After (Seq ss) x)
+
+abbrev pub done_behind : Want → Stms → Made → Made
+done_behind want ss m = done (Seq (followed ss (as_statement want m)))
+
 -- what was made, behind statements
-abbrev pub behind : Want → List Ts → Made → Acts Made
-behind want [] m = give m
-behind (Into t) ss m = give (done (sequence (ss ++ put_in t.0 m ∷ [])))
-behind Dropped ss m = give (done (sequence (ss ++ dropped m ∷ [])))
+abbrev pub behind : Want → Stms → Made → Acts Made
+behind want no_stms m = give m
+behind (Into t) ss m = give (done_behind (Into t) ss m)
+behind Dropped ss m = give (done_behind Dropped ss m)
 behind _ ss m = do
   x ← value_of m
-  give (value (After (sequence ss) x))
+  give (value_behind ss x)

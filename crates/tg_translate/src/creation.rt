@@ -1,47 +1,83 @@
+ghost use Rattle.std.specs.Prelude.{◌≡◌, IfOk, OnOk, length};
+ghost use Rattle.tg_tree.specs.Plain.{plain_tx, plain_ts};
+ghost use Rattle.tg_tree.specs.Lists.{stms_of, txs_of};
+ghost use Rattle.tg_translate.specs.States.{drawn, state_of};
+ghost use Rattle.tg_translate.specs.Wants.{plain_made};
+ghost use Rattle.tg_translate.specs.Constructs as constructs;
+
 use crate::constructs::{bytes_of, call_with_one, plus};
 use crate::operands::{Operand, hold_all};
-use crate::states::State;
-use crate::wants::Made;
+use crate::states::{State, next};
+use crate::wants::{Made, push, value_behind};
 use std::alloc::Global;
 use tg_base::{Memory, Temp};
 use tg_runtime::Routine;
-use tg_tree::{Ts, Tx, after, sequence};
+use tg_tree::{Ts, Tx};
 
 /// The bytes of a record of so many fields: 4 for each, and 4 at least.
-fn record_bytes(fields: usize) -> Result<u32, Memory> {
+fn record_bytes(fields: usize) -> Result<u32, Memory>
+    ensures { IfOk result (λ n. n ≡ constructs.record_bytes fields) }
+{
     let fields = u32::try_from(fields).map_err(|_| Memory)?;
     Ok(bytes_of(fields)?.max(4))
 }
 
 /// The values of fields are kept, the record is made, and then they are stored in it.
-pub(crate) fn make_record(
-    state: &mut State,
-    direct: bool,
-    values: Vec<Tx>,
-) -> Result<Made, Memory> {
-    let alloc = state.alloc;
-    let bytes = record_bytes(values.len())?;
-    let mut done = Vec::new(alloc);
+pub(crate) fn make_record(state: &mut State, direct: bool, values: Vec<Tx>) -> Result<Made, Memory>
+    ensures { IfOk result (λ m.
+        constructs.make_record direct (txs_of values.items) (state_of state.old) ≡
+        drawn (plain_made m) (state_of state.new)) }
+{
+    let mut done = Vec::new(state.alloc);
     let operands = hold_all(state, direct, &mut done, values)?;
-    let record = state.fresh()?;
-    let made = call_with_one(alloc, Routine::MakeRecord, Tx::Const(bytes))?;
-    done.push(Ts::Move(record, made))?;
-    store_fields(alloc, &mut done, record, &operands)?;
-    let value = after(alloc, sequence(done), Tx::Temp(record))?;
-    Ok(Made::Value(value))
+    let to = state.fresh()?;
+    record_of(state.alloc, to, done, &operands)
 }
 
+fn record_of(
+    alloc: Global,
+    to: Temp,
+    mut done: Vec<Ts>,
+    operands: &[Operand],
+) -> Result<Made, Memory>
+    ensures { IfOk result (λ m. plain_made m ≡ constructs.record_of to.0
+        (record { before = stms_of done.items; operands = operands.now })) }
+{
+    let made = call_for_record(alloc, operands.len())?;
+    push(&mut done, Ts::Move(to, made))?;
+    store_fields(alloc, &mut done, to, operands)?;
+    value_behind(alloc, done, Tx::Temp(to))
+}
+
+fn call_for_record(alloc: Global, fields: usize) -> Result<Tx, Memory>
+    ensures { IfOk result (λ x. plain_tx x ≡ constructs.call_for_record fields) }
+{
+    let bytes = Tx::Const(record_bytes(fields)?);
+    call_with_one(alloc, Routine::MakeRecord, bytes)
+}
+
+/// The fields are stored, one after another.
 fn store_fields(
     alloc: Global,
     done: &mut Vec<Ts>,
-    record: Temp,
+    to: Temp,
     operands: &[Operand],
-) -> Result<(), Memory> {
+) -> Result<(), Memory>
+    ensures { OnOk result (stms_of done.new.items ≡
+        constructs.store_fields (stms_of done.old.items) to.0 0 operands.now) }
+{
     let mut field = 0;
     for operand in operands {
-        let address = plus(alloc, Tx::Temp(record), bytes_of(field)?)?;
-        done.push(Ts::Store(address, operand.tree()))?;
-        field += 1;
+        push(done, store_field(alloc, to, field, *operand)?)?;
+        field = next(field)?;
     }
     Ok(())
+}
+
+fn store_field(alloc: Global, to: Temp, field: u32, operand: Operand) -> Result<Ts, Memory>
+    ensures { IfOk result (λ s. plain_ts s ≡
+        constructs.store_field to.0 field operand) }
+{
+    let address = plus(alloc, Tx::Temp(to), bytes_of(field)?)?;
+    Ok(Ts::Store(address, operand.tree()))
 }

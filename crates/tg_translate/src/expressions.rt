@@ -1,3 +1,25 @@
+ghost use Rattle.std.specs.Prelude.{◌≡◌, IfOk, OnOk, is_some};
+ghost use Rattle.tg_syntax.specs.Plain.{
+  plain,
+  plain_place as plain_var,
+  plain_exps,
+  plain_inits,
+  plain_dec,
+  plain_functions,
+};
+ghost use Rattle.tg_syntax.specs.Lists.{decs_of};
+ghost use Rattle.tg_syntax.specs.Tree.{no_decs};
+ghost use Rattle.tg_tree.specs.Plain.{plain_tx, plain_cond, plain_ts};
+ghost use Rattle.tg_tree.specs.Tree.{no_txs, no_stms};
+ghost use Rattle.tg_tree.specs.Lists.{txs_of, stms_of};
+ghost use Rattle.tg_translate.specs.States.{drawn, state_of};
+ghost use Rattle.tg_translate.specs.Wants.{plain_made};
+ghost use Rattle.tg_translate.specs.Constructs.{plain_place};
+ghost use Rattle.tg_translate.specs.Scopes.{findings_of};
+ghost use Rattle.tg_translate.specs.Functions as functions;
+ghost use Rattle.tg_translate.specs.Translate as translation;
+ghost use Rattle.tg_translate.specs.Parts as parts;
+
 use crate::calls::{call_by, literal};
 use crate::constructs::call_with_two;
 use crate::creation::make_record;
@@ -28,7 +50,10 @@ pub(crate) fn expression(
     e: &Exp,
     want: Want,
     within: Within,
-) -> Result<Made, Memory> {
+) -> Result<Made, Memory>
+    ensures { IfOk result (λ m. translation.expression (findings_of findings.now) (plain e.now) want within
+        (state_of state.old) ≡ drawn (plain_made m) (state_of state.new)) }
+{
     match &e.kind {
         Kind::Nil => Ok(Made::Value(Tx::Const(0))),
         Kind::Int(number) => Ok(Made::Value(Tx::Const(*number))),
@@ -90,7 +115,10 @@ pub(crate) fn expression(
 
 // The value of an expression.
 #[cycle(translation)]
-fn value(findings: &Findings, state: &mut State, e: &Exp, within: Within) -> Result<Tx, Memory> {
+fn value(findings: &Findings, state: &mut State, e: &Exp, within: Within) -> Result<Tx, Memory>
+    ensures { IfOk result (λ x. parts.value_in (findings_of findings.now) (plain e.now) within
+        (state_of state.old) ≡ drawn (plain_tx x) (state_of state.new)) }
+{
     let made = expression(findings, state, e, Want::Value, within)?;
     value_of(state, made)
 }
@@ -102,19 +130,20 @@ fn condition(
     state: &mut State,
     e: &Exp,
     within: Within,
-) -> Result<Cond, Memory> {
+) -> Result<Cond, Memory>
+    ensures { IfOk result (λ x. parts.condition_in (findings_of findings.now) (plain e.now) within
+        (state_of state.old) ≡ drawn (plain_cond x) (state_of state.new)) }
+{
     let made = expression(findings, state, e, Want::Test, within)?;
     test_of(state.alloc, made)
 }
 
 // The statement that does an expression, without its value.
 #[cycle(translation)]
-fn statement(
-    findings: &Findings,
-    state: &mut State,
-    e: &Exp,
-    within: Within,
-) -> Result<Ts, Memory> {
+fn statement(findings: &Findings, state: &mut State, e: &Exp, within: Within) -> Result<Ts, Memory>
+    ensures { IfOk result (λ x. parts.statement_in (findings_of findings.now) (plain e.now) within
+        (state_of state.old) ≡ drawn (plain_ts x) (state_of state.new)) }
+{
     let made = expression(findings, state, e, Want::Dropped, within)?;
     dropped(state.alloc, made)
 }
@@ -127,7 +156,10 @@ fn arm(
     e: &Exp,
     arms: Want,
     within: Within,
-) -> Result<Ts, Memory> {
+) -> Result<Ts, Memory>
+    ensures { IfOk result (λ x. parts.arm_in (findings_of findings.now) (plain e.now) arms within
+        (state_of state.old) ≡ drawn (plain_ts x) (state_of state.new)) }
+{
     let made = expression(findings, state, e, arms, within)?;
     as_statement(state.alloc, arms, made)
 }
@@ -139,7 +171,10 @@ fn called(
     f: Ident,
     arguments: &Exps,
     within: Within,
-) -> Result<Made, Memory> {
+) -> Result<Made, Memory>
+    ensures { IfOk result (λ m. parts.called (findings_of findings.now) f (plain_exps arguments.now) within
+        (state_of state.old) ≡ drawn (plain_made m) (state_of state.new)) }
+{
     let arguments = values(findings, state, arguments, within)?;
     let meaning = findings.meaning(f.span.from);
     Ok(Made::Value(call_by(state, within, meaning, arguments)?))
@@ -156,7 +191,10 @@ fn with_left(
     b: &Exp,
     want: Want,
     within: Within,
-) -> Result<Made, Memory> {
+) -> Result<Made, Memory>
+    ensures { IfOk result (λ m. parts.with_left_in (findings_of findings.now) op at (plain_made left) (plain b.now) want within
+        (state_of state.old) ≡ drawn (plain_made m) (state_of state.new)) }
+{
     match op {
         Op::And | Op::Or => {
             let left = test_of(state.alloc, left)?;
@@ -181,7 +219,10 @@ fn connective(
     b: &Exp,
     want: Want,
     within: Within,
-) -> Result<Made, Memory> {
+) -> Result<Made, Memory>
+    ensures { IfOk result (λ m. parts.connective_in (findings_of findings.now) op (plain_cond left) (plain b.now) want within
+        (state_of state.old) ≡ drawn (plain_made m) (state_of state.new)) }
+{
     match want {
         Want::Test => {
             let right = expression(findings, state, b, Want::Test, within)?;
@@ -202,7 +243,10 @@ fn made_record(
     state: &mut State,
     inits: &Inits,
     within: Within,
-) -> Result<Made, Memory> {
+) -> Result<Made, Memory>
+    ensures { IfOk result (λ m. parts.made_record (findings_of findings.now) (plain_inits inits.now) within
+        (state_of state.old) ≡ drawn (plain_made m) (state_of state.new)) }
+{
     let values = fields(findings, state, inits, within)?;
     make_record(state, inits_assign_nothing(inits), values)
 }
@@ -215,7 +259,10 @@ fn filled(
     size: Tx,
     item: &Exp,
     within: Within,
-) -> Result<Made, Memory> {
+) -> Result<Made, Memory>
+    ensures { IfOk result (λ m. parts.filled (findings_of findings.now) (plain_tx size) (plain item.now) within
+        (state_of state.old) ≡ drawn (plain_made m) (state_of state.new)) }
+{
     let item = value(findings, state, item, within)?;
     let array = call_with_two(state.alloc, Routine::MakeArray, size, item)?;
     Ok(Made::Value(array))
@@ -229,7 +276,10 @@ fn assigned(
     place: Place,
     e: &Exp,
     within: Within,
-) -> Result<Made, Memory> {
+) -> Result<Made, Memory>
+    ensures { IfOk result (λ m. parts.assigned (findings_of findings.now) (plain_place place) (plain e.now) within
+        (state_of state.old) ≡ drawn (plain_made m) (state_of state.new)) }
+{
     let made = expression(findings, state, e, want_for(&place), within)?;
     Ok(Made::Done(assign(state, place, made)?))
 }
@@ -241,7 +291,10 @@ fn when_true(
     test: Cond,
     this: &Exp,
     within: Within,
-) -> Result<Made, Memory> {
+) -> Result<Made, Memory>
+    ensures { IfOk result (λ m. parts.when_true (findings_of findings.now) (plain_cond test) (plain this.now) within
+        (state_of state.old) ≡ drawn (plain_made m) (state_of state.new)) }
+{
     let this = statement(findings, state, this, within)?;
     let none = nothing(state.alloc);
     Ok(Made::Done(if_else(state.alloc, test, this, none)?))
@@ -254,7 +307,10 @@ fn turned(
     test: Cond,
     body: &Exp,
     within: Within,
-) -> Result<Made, Memory> {
+) -> Result<Made, Memory>
+    ensures { IfOk result (λ m. parts.turned (findings_of findings.now) (plain_cond test) (plain body.now) within
+        (state_of state.old) ≡ drawn (plain_made m) (state_of state.new)) }
+{
     let turn = statement(findings, state, body, in_body(within))?;
     Ok(Made::Done(repeat_while(state.alloc, test, turn)?))
 }
@@ -268,7 +324,10 @@ fn counted(
     high: Tx,
     body: &Exp,
     within: Within,
-) -> Result<Made, Memory> {
+) -> Result<Made, Memory>
+    ensures { IfOk result (λ m. parts.counted (findings_of findings.now) x (plain_tx low) (plain_tx high) (plain body.now) within
+        (state_of state.old) ≡ drawn (plain_made m) (state_of state.new)) }
+{
     let variable = declare_variable(findings, state, within.level, x.span.from)?;
     let turn = statement(findings, state, body, in_body(within))?;
     Ok(Made::Done(count(state, variable, low, high, turn)?))
@@ -280,7 +339,10 @@ fn locate(
     state: &mut State,
     place: &Var,
     within: Within,
-) -> Result<Place, Memory> {
+) -> Result<Place, Memory>
+    ensures { IfOk result (λ p. translation.locate (findings_of findings.now) (plain_var place.now) within
+        (state_of state.old) ≡ drawn (plain_place p) (state_of state.new)) }
+{
     match place {
         Var::Simple(x) => variable_place(state, within, findings.meaning(x.span.from)),
         Var::Field(of, field) => {
@@ -305,7 +367,10 @@ fn indexed(
     array: Tx,
     index: &Exp,
     within: Within,
-) -> Result<Place, Memory> {
+) -> Result<Place, Memory>
+    ensures { IfOk result (λ p. parts.indexed (findings_of findings.now) (plain_tx array) (plain index.now) within
+        (state_of state.old) ≡ drawn (plain_place p) (state_of state.new)) }
+{
     let value = value(findings, state, index, within)?;
     element_place(state, assigns_nothing(index), array, value)
 }
@@ -317,7 +382,10 @@ fn values(
     state: &mut State,
     exps: &Exps,
     within: Within,
-) -> Result<Vec<Tx>, Memory> {
+) -> Result<Vec<Tx>, Memory>
+    ensures { IfOk result (λ xs. translation.values (findings_of findings.now) (plain_exps exps.now) no_txs within
+        (state_of state.old) ≡ drawn (txs_of xs.items) (state_of state.new)) }
+{
     let mut values = Vec::new(state.alloc);
     for e in &exps.items {
         values.push(value(findings, state, e, within)?)?;
@@ -332,7 +400,10 @@ fn fields(
     state: &mut State,
     inits: &Inits,
     within: Within,
-) -> Result<Vec<Tx>, Memory> {
+) -> Result<Vec<Tx>, Memory>
+    ensures { IfOk result (λ xs. translation.fields (findings_of findings.now) (plain_inits inits.now) no_txs within
+        (state_of state.old) ≡ drawn (txs_of xs.items) (state_of state.new)) }
+{
     let mut values = Vec::new(state.alloc);
     for init in &inits.items {
         values.push(value(findings, state, &init.value, within)?)?;
@@ -349,7 +420,10 @@ fn sequence(
     exps: &Exps,
     want: Want,
     within: Within,
-) -> Result<Made, Memory> {
+) -> Result<Made, Memory>
+    ensures { IfOk result (λ m. parts.sequence_in (findings_of findings.now) (plain_exps exps.now) want (stms_of before.items) within
+        (state_of state.old) ≡ drawn (plain_made m) (state_of state.new)) }
+{
     let mut last = Made::Value(Tx::Const(0));
     let mut left = exps.items.len();
     for e in &exps.items {
@@ -370,7 +444,11 @@ fn declarations(
     state: &mut State,
     decs: &Decs,
     within: Within,
-) -> Result<Vec<Ts>, Memory> {
+) -> Result<Vec<Ts>, Memory>
+    ensures { IfOk result (λ ss.
+        translation.declarations (findings_of findings.now) (decs_of decs.now.items.items) no_stms within
+        (state_of state.old) ≡ drawn (stms_of ss.items) (state_of state.new)) }
+{
     let mut before = Vec::new(state.alloc);
     for dec in &decs.items {
         declaration(findings, state, &mut before, dec, within)?;
@@ -385,7 +463,11 @@ fn declaration(
     before: &mut Vec<Ts>,
     dec: &Dec,
     within: Within,
-) -> Result<(), Memory> {
+) -> Result<(), Memory>
+    ensures { OnOk result (
+        translation.declarations (findings_of findings.now) (plain_dec dec.now no_decs) (stms_of before.old.items) within
+        (state_of state.old) ≡ drawn (stms_of before.new.items) (state_of state.new)) }
+{
     match dec {
         Dec::Types(_) => Ok(()),
         Dec::Variable(x, _, e) => {
@@ -408,7 +490,10 @@ fn variable(
     x: Ident,
     e: &Exp,
     within: Within,
-) -> Result<Ts, Memory> {
+) -> Result<Ts, Memory>
+    ensures { IfOk result (λ s. parts.variable_in (findings_of findings.now) x (plain e.now) within
+        (state_of state.old) ≡ drawn (plain_ts s) (state_of state.new)) }
+{
     let home = declare_variable(findings, state, within.level, x.span.from)?;
     let place = own_place(state.alloc, home)?;
     let made = expression(findings, state, e, want_for(&place), within)?;
@@ -423,7 +508,11 @@ fn bodies(
     group: &FunDecs,
     first: u32,
     within: Within,
-) -> Result<(), Memory> {
+) -> Result<(), Memory>
+    ensures { OnOk result (
+        translation.bodies (findings_of findings.now) (plain_functions group.now) first within
+        (state_of state.old) ≡ drawn tt (state_of state.new)) }
+{
     let mut label = first;
     for function in &group.items {
         body(findings, state, function, Label(label), within)?;
@@ -440,7 +529,11 @@ fn body(
     function: &FunDec,
     label: Label,
     within: Within,
-) -> Result<(), Memory> {
+) -> Result<(), Memory>
+    ensures { OnOk result (
+        parts.body_in (findings_of findings.now) function.now label.0 within
+        (state_of state.old) ≡ drawn tt (state_of state.new)) }
+{
     let kept = findings.keeps_link(function.name.span.from);
     let inner = inside(within, kept)?;
     let outer = begin(

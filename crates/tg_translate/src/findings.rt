@@ -1,3 +1,5 @@
+ghost use Rattle.std.specs.Prelude.{◌≡◌};
+
 use tg_escape::Escapes;
 use tg_types::{Means, Notes};
 
@@ -9,18 +11,27 @@ pub(crate) struct Findings<'a> {
 }
 
 impl Findings<'_> {
+    ghost use Rattle.tg_translate.specs.Scopes.{findings_of};
+
     /// What is noted at a byte.
-    pub(crate) fn meaning(&self, at: u32) -> Option<Means> {
+    pub(crate) fn meaning(&self, at: u32) -> Option<Means>
+        ensures { result ≡ (findings_of self.now).meaning at }
+    {
         self.notes.find(at)
     }
 
     /// Whether the variable that is declared at a byte escapes.
-    pub(crate) fn escapes(&self, at: u32) -> bool {
+    pub(crate) fn escapes(&self, at: u32) -> bool
+        ensures { result ≡ (findings_of self.now).escapes at }
+    {
         self.escapes.has(at)
     }
 
     /// Whether the function that is declared at a byte keeps its static link in a slot.
-    pub(crate) fn keeps_link(&self, _at: u32) -> bool {
+    pub(crate) fn keeps_link(&self, at: u32) -> bool
+        ensures { result ≡ (findings_of self.now).keeps_link at }
+    {
+        let _ = at;
         true
     }
 }

@@ -1,3 +1,11 @@
+ghost use Rattle.std.specs.Prelude.{◌≡◌, IfOk, OnOk};
+ghost use Rattle.tg_syntax.specs.Plain.{plain_functions};
+ghost use Rattle.tg_tree.specs.Plain.{plain_ts};
+ghost use Rattle.tg_translate.specs.States.{drawn, state_of};
+ghost use Rattle.tg_translate.specs.Wants.{plain_made};
+ghost use Rattle.tg_translate.specs.Scopes.{findings_of};
+ghost use Rattle.tg_translate.specs.Functions as functions;
+
 use crate::findings::Findings;
 use crate::homes::{Callee, Home, Within};
 use crate::states::{Outer, State, frame_of, next};
@@ -15,7 +23,10 @@ fn asked(
     findings: &Findings,
     link_in_slot: bool,
     params: &[Param],
-) -> Result<Vec<bool>, Memory> {
+) -> Result<Vec<bool>, Memory>
+    ensures { IfOk result (λ v. v.items ≡
+        functions.asked (findings_of findings.now).escapes link_in_slot params.now) }
+{
     let mut asked = vec![in alloc; link_in_slot]?;
     for param in params {
         asked.push(findings.escapes(param.name.span.from))?;
@@ -45,7 +56,10 @@ fn declare_params(
     level: u32,
     params: &[Param],
     homes: &[Access],
-) -> Result<(), Memory> {
+) -> Result<(), Memory>
+    ensures { OnOk result (functions.declare_params level params.now
+        (functions.own_homes homes.now) (state_of state.old) ≡ drawn tt (state_of state.new)) }
+{
     let mut at = 1;
     for param in params {
         if at >= homes.len() {
@@ -66,7 +80,10 @@ pub(crate) fn declare_functions(
     state: &mut State,
     level: u32,
     group: &FunDecs,
-) -> Result<(), Memory> {
+) -> Result<(), Memory>
+    ensures { OnOk result (functions.declare_functions level (plain_functions group.now)
+        (state_of state.old) ≡ drawn tt (state_of state.new)) }
+{
     for function in &group.items {
         let label = state.draw_label()?;
         state
@@ -77,7 +94,9 @@ pub(crate) fn declare_functions(
 }
 
 /// Where the text of a function stands that is declared here.
-pub(crate) fn inside(within: Within, link_in_slot: bool) -> Result<Within, Memory> {
+pub(crate) fn inside(within: Within, link_in_slot: bool) -> Result<Within, Memory>
+    ensures { IfOk result (λ w. w ≡ functions.inside within link_in_slot) }
+{
     Ok(Within {
         level: next(within.level)?,
         link_in_slot,
@@ -86,7 +105,9 @@ pub(crate) fn inside(within: Within, link_in_slot: bool) -> Result<Within, Memor
 }
 
 /// What a function wants of its body.
-pub(crate) fn result_want(has_result: bool) -> Want {
+pub(crate) fn result_want(has_result: bool) -> Want
+    ensures { result ≡ functions.result_want has_result }
+{
     if has_result {
         Want::Value
     } else {
@@ -96,7 +117,11 @@ pub(crate) fn result_want(has_result: bool) -> Want {
 
 /// The statement of a function's body: what has a result gives it back, and anything else gives 0
 /// back.
-pub(crate) fn closing(state: &mut State, has_result: bool, made: Made) -> Result<Ts, Memory> {
+pub(crate) fn closing(state: &mut State, has_result: bool, made: Made) -> Result<Ts, Memory>
+    ensures { IfOk result (λ s.
+        functions.closing has_result (plain_made made) (state_of state.old) ≡
+        drawn (plain_ts s) (state_of state.new)) }
+{
     if has_result {
         return Ok(Ts::Return(value_of(state, made)?));
     }

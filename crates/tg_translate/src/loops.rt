@@ -1,15 +1,24 @@
+ghost use Rattle.std.specs.Prelude.{◌≡◌, IfOk};
+ghost use Rattle.tg_tree.specs.Plain.{plain_tx, plain_cond, plain_ts};
+ghost use Rattle.tg_tree.specs.Lists.{stms_of};
+ghost use Rattle.tg_translate.specs.States.{drawn, state_of};
+ghost use Rattle.tg_translate.specs.Constructs as constructs;
+
 use crate::constructs::equals;
 use crate::homes::Within;
 use crate::operands::{Operand, hold};
 use crate::places::{assign_value, own_place, read};
 use crate::states::{State, next};
+use crate::wants::push;
 use std::alloc::Global;
 use tg_base::{Memory, sub};
 use tg_frame::Access;
 use tg_tree::{Bin, Cond, Rel, Ts, Tx, binary, compare, if_else, repeat, sequence, when};
 
 /// Where a loop's body stands.
-pub(crate) fn in_body(within: Within) -> Within {
+pub(crate) fn in_body(within: Within) -> Within
+    ensures { result ≡ constructs.in_body within }
+{
     Within {
         level: within.level,
         link_in_slot: within.link_in_slot,
@@ -18,7 +27,9 @@ pub(crate) fn in_body(within: Within) -> Within {
 }
 
 /// Where a loop's test stands: a `break` in it ends the loop outside.
-pub(crate) fn in_test(within: Within) -> Result<Within, Memory> {
+pub(crate) fn in_test(within: Within) -> Result<Within, Memory>
+    ensures { IfOk result (λ w. w ≡ constructs.in_test within) }
+{
     Ok(Within {
         level: within.level,
         link_in_slot: within.link_in_slot,
@@ -27,12 +38,17 @@ pub(crate) fn in_test(within: Within) -> Result<Within, Memory> {
 }
 
 /// A turn again and again, while a condition holds.
-pub(crate) fn repeat_while(alloc: Global, test: Cond, turn: Ts) -> Result<Ts, Memory> {
+pub(crate) fn repeat_while(alloc: Global, test: Cond, turn: Ts) -> Result<Ts, Memory>
+    ensures { IfOk result (λ s. plain_ts s ≡
+        constructs.repeat_while (plain_cond test) (plain_ts turn)) }
+{
     repeat(alloc, if_else(alloc, test, turn, Ts::Break(0))?)
 }
 
 /// One below the first value of a loop's variable, by the wrapping forms.
-fn first_minus_one(alloc: Global, low: Operand) -> Result<Tx, Memory> {
+fn first_minus_one(alloc: Global, low: Operand) -> Result<Tx, Memory>
+    ensures { IfOk result (λ x. plain_tx x ≡ constructs.first_minus_one low) }
+{
     match low {
         Operand::Number(number) => Ok(Tx::Const(sub(number, 1))),
         Operand::Kept(temp) => binary(alloc, Bin::Sub, Tx::Temp(temp), Tx::Const(1)),
@@ -40,12 +56,18 @@ fn first_minus_one(alloc: Global, low: Operand) -> Result<Tx, Memory> {
 }
 
 /// The value of a variable of the function at work.
-fn read_home(alloc: Global, variable: Access) -> Result<Tx, Memory> {
+fn read_home(alloc: Global, variable: Access) -> Result<Tx, Memory>
+    ensures { IfOk result (λ x. plain_tx x ≡
+        constructs.read (constructs.own_place variable)) }
+{
     read(alloc, own_place(alloc, variable)?)
 }
 
 /// A variable of the function at work becomes a value.
-fn assign_home(alloc: Global, variable: Access, value: Tx) -> Result<Ts, Memory> {
+fn assign_home(alloc: Global, variable: Access, value: Tx) -> Result<Ts, Memory>
+    ensures { IfOk result (λ s. plain_ts s ≡
+        constructs.assign_value (constructs.own_place variable) (plain_tx value)) }
+{
     assign_value(own_place(alloc, variable)?, value)
 }
 
@@ -58,16 +80,25 @@ fn turns(
     low: Operand,
     high: Operand,
     turn: Ts,
-) -> Result<Ts, Memory> {
+) -> Result<Ts, Memory>
+    ensures { IfOk result (λ s. plain_ts s ≡
+        constructs.turns variable low high (plain_ts turn)) }
+{
     let first = assign_home(alloc, variable, first_minus_one(alloc, low)?)?;
+    let turn = turn_of(alloc, variable, high, turn)?;
+    Ok(sequence(vec![in alloc; first, repeat(alloc, turn)?]?))
+}
+
+/// A turn of a loop that counts.
+fn turn_of(alloc: Global, variable: Access, high: Operand, turn: Ts) -> Result<Ts, Memory>
+    ensures { IfOk result (λ s. plain_ts s ≡
+        constructs.turn_of variable high (plain_ts turn)) }
+{
     let next = binary(alloc, Bin::Add, read_home(alloc, variable)?, Tx::Const(1))?;
+    let step = assign_home(alloc, variable, next)?;
     let is_last = equals(alloc, read_home(alloc, variable)?, high.tree())?;
-    let turn = vec![in alloc;
-        assign_home(alloc, variable, next)?,
-        turn,
-        when(alloc, is_last, Ts::Break(0))?,
-    ]?;
-    Ok(sequence(vec![in alloc; first, repeat(alloc, sequence(turn))?]?))
+    let stop = when(alloc, is_last, Ts::Break(0))?;
+    Ok(sequence(vec![in alloc; step, turn, stop]?))
 }
 
 /// A loop that counts from one value to another.
@@ -77,13 +108,30 @@ pub(crate) fn count(
     low: Tx,
     high: Tx,
     turn: Ts,
-) -> Result<Ts, Memory> {
-    let alloc = state.alloc;
-    let mut done = Vec::new(alloc);
+) -> Result<Ts, Memory>
+    ensures { IfOk result (λ s.
+        constructs.count variable (plain_tx low) (plain_tx high) (plain_ts turn)
+        (state_of state.old) ≡ drawn (plain_ts s) (state_of state.new)) }
+{
+    let mut done = Vec::new(state.alloc);
     let low = hold(state, false, &mut done, low)?;
     let high = hold(state, false, &mut done, high)?;
+    count_of(state.alloc, done, variable, low, high, turn)
+}
+
+fn count_of(
+    alloc: Global,
+    mut done: Vec<Ts>,
+    variable: Access,
+    low: Operand,
+    high: Operand,
+    turn: Ts,
+) -> Result<Ts, Memory>
+    ensures { IfOk result (λ s. plain_ts s ≡
+        constructs.count_of (stms_of done.items) variable low high (plain_ts turn)) }
+{
     let is_run = compare(alloc, Rel::GreaterEqual, high.tree(), low.tree())?;
     let turns = turns(alloc, variable, low, high, turn)?;
-    done.push(when(alloc, is_run, turns)?)?;
+    push(&mut done, when(alloc, is_run, turns)?)?;
     Ok(sequence(done))
 }

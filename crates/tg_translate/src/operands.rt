@@ -1,3 +1,9 @@
+ghost use Rattle.std.specs.Prelude.{◌≡◌, [], length, IfOk};
+ghost use Rattle.tg_tree.specs.Plain.{plain_tx};
+ghost use Rattle.tg_tree.specs.Lists.{stms_of, txs_of};
+ghost use Rattle.tg_translate.specs.States.{drawn, state_of};
+ghost use Rattle.tg_translate.specs.Constructs as constructs;
+
 use crate::states::State;
 use tg_base::{Memory, Temp};
 use tg_tree::{Ts, Tx};
@@ -11,7 +17,9 @@ pub(crate) enum Operand {
 
 impl Operand {
     /// The operand as a tree.
-    pub(crate) fn tree(self) -> Tx {
+    pub(crate) fn tree(self) -> Tx
+        ensures { plain_tx result ≡ constructs.operand self }
+    {
         match self {
             Operand::Number(number) => Tx::Const(number),
             Operand::Kept(temp) => Tx::Temp(temp),
@@ -26,7 +34,11 @@ pub(crate) fn hold(
     direct: bool,
     before: &mut Vec<Ts>,
     value: Tx,
-) -> Result<Operand, Memory> {
+) -> Result<Operand, Memory>
+    ensures { IfOk result (λ o.
+        constructs.hold direct (stms_of before.old.items) (plain_tx value) (state_of state.old) ≡
+        drawn (record { before = stms_of before.new.items; operand = o }) (state_of state.new)) }
+{
     match value {
         Tx::Const(number) => Ok(Operand::Number(number)),
         Tx::Temp(temp) if direct => Ok(Operand::Kept(temp)),
@@ -34,7 +46,11 @@ pub(crate) fn hold(
     }
 }
 
-fn keep(state: &mut State, before: &mut Vec<Ts>, value: Tx) -> Result<Operand, Memory> {
+fn keep(state: &mut State, before: &mut Vec<Ts>, value: Tx) -> Result<Operand, Memory>
+    ensures { IfOk result (λ o.
+        constructs.keep (stms_of before.old.items) (plain_tx value) (state_of state.old) ≡
+        drawn (record { before = stms_of before.new.items; operand = o }) (state_of state.new)) }
+{
     let temp = state.fresh()?;
     before.push(Ts::Move(temp, value))?;
     Ok(Operand::Kept(temp))
@@ -46,7 +62,13 @@ pub(crate) fn hold_all(
     direct: bool,
     before: &mut Vec<Ts>,
     values: Vec<Tx>,
-) -> Result<Vec<Operand>, Memory> {
+) -> Result<Vec<Operand>, Memory>
+    ensures { IfOk result (λ all.
+        constructs.hold_all direct (stms_of before.old.items) (txs_of values.items) []
+        (state_of state.old) ≡
+        drawn (record { before = stms_of before.new.items; operands = all.items })
+        (state_of state.new)) }
+{
     let mut operands = Vec::new(state.alloc);
     for value in values {
         operands.push(hold(state, direct, before, value)?)?;

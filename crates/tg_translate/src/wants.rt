@@ -1,3 +1,11 @@
+ghost use Rattle.std.specs.Prelude.{◌≡◌, IfOk, OnOk};
+ghost use Rattle.tg_tree.specs.Plain.{plain_tx, plain_cond, plain_ts};
+ghost use Rattle.tg_tree.specs.Lists.{stms_of};
+ghost use Rattle.tg_tree.specs.Forms as forms;
+ghost use Rattle.tg_translate.specs.States.{drawn, state_of};
+ghost use Rattle.tg_translate.specs.Wants as wants;
+ghost use Rattle.tg_translate.specs.Wants.{plain_made};
+
 use crate::states::State;
 use std::alloc::Global;
 use tg_base::{Memory, Temp};
@@ -23,18 +31,25 @@ pub(crate) enum Made {
 }
 
 /// 1 where a condition holds, and else 0.
-fn truth_into(alloc: Global, to: Temp, test: Cond) -> Result<Ts, Memory> {
+fn truth_into(alloc: Global, to: Temp, test: Cond) -> Result<Ts, Memory>
+    ensures { IfOk result (λ s. plain_ts s ≡ wants.truth_into to.0 (plain_cond test)) }
+{
     let one = Ts::Move(to, Tx::Const(1));
     if_else(alloc, test, one, Ts::Move(to, Tx::Const(0)))
 }
 
 /// No statement.
-pub(crate) fn nothing(alloc: Global) -> Ts {
+pub(crate) fn nothing(alloc: Global) -> Ts
+    ensures { plain_ts result ≡ forms.nothing }
+{
     sequence(Vec::new(alloc))
 }
 
 /// The value of what was made.
-pub(crate) fn value_of(state: &mut State, made: Made) -> Result<Tx, Memory> {
+pub(crate) fn value_of(state: &mut State, made: Made) -> Result<Tx, Memory>
+    ensures { IfOk result (λ x. wants.value_of (plain_made made) (state_of state.old) ≡
+        drawn (plain_tx x) (state_of state.new)) }
+{
     match made {
         Made::Value(value) => Ok(value),
         Made::Done(done) => after(state.alloc, done, Tx::Const(0)),
@@ -47,7 +62,9 @@ pub(crate) fn value_of(state: &mut State, made: Made) -> Result<Tx, Memory> {
 }
 
 /// The statement that puts the value of what was made into a temporary.
-pub(crate) fn put_in(alloc: Global, to: Temp, made: Made) -> Result<Ts, Memory> {
+pub(crate) fn put_in(alloc: Global, to: Temp, made: Made) -> Result<Ts, Memory>
+    ensures { IfOk result (λ s. plain_ts s ≡ wants.put_in to.0 (plain_made made)) }
+{
     match made {
         Made::Value(value) => Ok(Ts::Move(to, value)),
         Made::Done(done) => Ok(done),
@@ -56,7 +73,9 @@ pub(crate) fn put_in(alloc: Global, to: Temp, made: Made) -> Result<Ts, Memory> 
 }
 
 /// The statement that does what was made, without its value.
-pub(crate) fn dropped(alloc: Global, made: Made) -> Result<Ts, Memory> {
+pub(crate) fn dropped(alloc: Global, made: Made) -> Result<Ts, Memory>
+    ensures { IfOk result (λ s. plain_ts s ≡ wants.dropped (plain_made made)) }
+{
     match made {
         Made::Value(value) => Ok(Ts::Do(value)),
         Made::Done(done) => Ok(done),
@@ -65,12 +84,16 @@ pub(crate) fn dropped(alloc: Global, made: Made) -> Result<Ts, Memory> {
 }
 
 /// The condition that a value isn't 0.
-fn is_true(alloc: Global, value: Tx) -> Result<Cond, Memory> {
+fn is_true(alloc: Global, value: Tx) -> Result<Cond, Memory>
+    ensures { IfOk result (λ c. plain_cond c ≡ wants.is_true (plain_tx value)) }
+{
     compare(alloc, Rel::NotEqual, value, Tx::Const(0))
 }
 
 /// The condition that what was made is true.
-pub(crate) fn test_of(alloc: Global, made: Made) -> Result<Cond, Memory> {
+pub(crate) fn test_of(alloc: Global, made: Made) -> Result<Cond, Memory>
+    ensures { IfOk result (λ c. plain_cond c ≡ wants.test_of (plain_made made)) }
+{
     match made {
         Made::Value(value) => is_true(alloc, value),
         Made::Done(done) => is_true(alloc, after(alloc, done, Tx::Const(0))?),
@@ -79,7 +102,10 @@ pub(crate) fn test_of(alloc: Global, made: Made) -> Result<Cond, Memory> {
 }
 
 /// Where the values of arms go of which one is taken: into a temporary, or nowhere.
-pub(crate) fn arms(state: &mut State, want: Want) -> Result<Want, Memory> {
+pub(crate) fn arms(state: &mut State, want: Want) -> Result<Want, Memory>
+    ensures { IfOk result
+        (λ w. wants.arms want (state_of state.old) ≡ drawn w (state_of state.new)) }
+{
     match want {
         Want::Into(_) | Want::Dropped => Ok(want),
         Want::Value | Want::Test => Ok(Want::Into(state.fresh()?)),
@@ -87,7 +113,9 @@ pub(crate) fn arms(state: &mut State, want: Want) -> Result<Want, Memory> {
 }
 
 /// The statement of an arm.
-pub(crate) fn as_statement(alloc: Global, arms: Want, made: Made) -> Result<Ts, Memory> {
+pub(crate) fn as_statement(alloc: Global, arms: Want, made: Made) -> Result<Ts, Memory>
+    ensures { IfOk result (λ s. plain_ts s ≡ wants.as_statement arms (plain_made made)) }
+{
     match arms {
         Want::Into(to) => put_in(alloc, to, made),
         _ => dropped(alloc, made),
@@ -95,18 +123,39 @@ pub(crate) fn as_statement(alloc: Global, arms: Want, made: Made) -> Result<Ts, 
 }
 
 /// What is made of the statement of the arms.
-pub(crate) fn deliver(alloc: Global, want: Want, arms: Want, done: Ts) -> Result<Made, Memory> {
+pub(crate) fn deliver(alloc: Global, want: Want, arms: Want, done: Ts) -> Result<Made, Memory>
+    ensures { IfOk result (λ m. plain_made m ≡ wants.deliver want arms (plain_ts done)) }
+{
     match want {
         Want::Into(_) | Want::Dropped => Ok(Made::Done(done)),
         Want::Value | Want::Test => taken_from(alloc, arms, done),
     }
 }
 
-fn taken_from(alloc: Global, arms: Want, done: Ts) -> Result<Made, Memory> {
+fn taken_from(alloc: Global, arms: Want, done: Ts) -> Result<Made, Memory>
+    ensures { IfOk result (λ m. plain_made m ≡ wants.taken_from arms (plain_ts done)) }
+{
     match arms {
         Want::Into(to) => Ok(Made::Value(after(alloc, done, Tx::Temp(to))?)),
         _ => Ok(Made::Done(done)),
     }
+}
+
+/// A value behind statements.
+pub(crate) fn value_behind(alloc: Global, before: Vec<Ts>, value: Tx) -> Result<Made, Memory>
+    ensures { IfOk result (λ m. plain_made m ≡
+        wants.value_behind (stms_of before.items) (plain_tx value)) }
+{
+    Ok(Made::Value(after(alloc, sequence(before), value)?))
+}
+
+/// A statement behind others.
+pub(crate) fn push(statements: &mut Vec<Ts>, last: Ts) -> Result<(), Memory>
+    ensures { OnOk result (stms_of statements.new.items ≡
+        wants.followed (stms_of statements.old.items) (plain_ts last)) }
+{
+    statements.push(last)?;
+    Ok(())
 }
 
 /// What was made, behind statements.
@@ -115,7 +164,11 @@ pub(crate) fn behind(
     want: Want,
     before: Vec<Ts>,
     made: Made,
-) -> Result<Made, Memory> {
+) -> Result<Made, Memory>
+    ensures { IfOk result (λ m.
+        wants.behind want (stms_of before.items) (plain_made made) (state_of state.old) ≡
+        drawn (plain_made m) (state_of state.new)) }
+{
     if before.is_empty() {
         return Ok(made);
     }
@@ -123,12 +176,15 @@ pub(crate) fn behind(
         Want::Into(_) | Want::Dropped => done_behind(state.alloc, want, before, made),
         Want::Value | Want::Test => {
             let value = value_of(state, made)?;
-            Ok(Made::Value(after(state.alloc, sequence(before), value)?))
+            value_behind(state.alloc, before, value)
         }
     }
 }
 
-fn done_behind(alloc: Global, want: Want, mut before: Vec<Ts>, made: Made) -> Result<Made, Memory> {
-    before.push(as_statement(alloc, want, made)?)?;
+fn done_behind(alloc: Global, want: Want, mut before: Vec<Ts>, made: Made) -> Result<Made, Memory>
+    ensures { IfOk result (λ m. plain_made m ≡
+        wants.done_behind want (stms_of before.items) (plain_made made)) }
+{
+    push(&mut before, as_statement(alloc, want, made)?)?;
     Ok(Made::Done(sequence(before)))
 }

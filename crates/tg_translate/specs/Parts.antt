@@ -1,0 +1,110 @@
+-- The parts of a translation that the code makes in functions of their own.
+use Rattle.std.specs.Prelude.{ℕ, is_some}
+use Rattle.tg_syntax.specs.declared.tokens.Ident.{Ident}
+use Rattle.tg_syntax.specs.declared.trees.Op.{Op}
+use Rattle.tg_syntax.specs.declared.trees.FunDec.{FunDec}
+use Rattle.tg_syntax.specs.Plain.{plain}
+use Rattle.tg_syntax.specs.Tree.{Exp, Exps, Inits}
+use Rattle.tg_tree.specs.Tree.{Tx, Cond, Ts, If, Stms, no_txs}
+use Rattle.tg_tree.specs.Forms.{nothing}
+use Rattle.tg_translate.specs.declared.wants.Want.{Want}
+use Rattle.tg_translate.specs.declared.wants.Want.TheVariants as want
+use Rattle.tg_translate.specs.declared.homes.Within.{Within}
+use Rattle.tg_translate.specs.States.{Acts, ◌>>=◌, ◌>>◌, give}
+use Rattle.tg_translate.specs.Wants.{Made, value, done, value_of, dropped, test_of, as_statement, behind}
+use Rattle.tg_translate.specs.Constructs.{Place, own_place, want_for, assign, element_place, make_record, make_array, repeat_while, in_body, count}
+use Rattle.tg_translate.specs.Scopes.{Findings, compares_strings, call, declare_variable}
+use Rattle.tg_translate.specs.Purity.{assigns_nothing, inits_assign_nothing}
+use Rattle.tg_translate.specs.Functions.{at_of, body}
+use Rattle.tg_translate.specs.Translate.{connective, with_left, expression, values, fields, sequence}
+
+module _ (findings : Findings) where
+  abbrev pub value_in : Exp → Within → Acts Tx
+  value_in e within = do
+    m ← expression findings e want.Value within
+    value_of m
+
+  abbrev pub condition_in : Exp → Within → Acts Cond
+  condition_in e within = do
+    m ← expression findings e want.Test within
+    give (test_of m)
+
+  abbrev pub arm_in : Exp → Want → Within → Acts Ts
+  arm_in e arms within = do
+    m ← expression findings e arms within
+    give (as_statement arms m)
+
+  abbrev pub statement_in : Exp → Within → Acts Ts
+  statement_in e within = do
+    m ← expression findings e want.Dropped within
+    give (dropped m)
+
+  abbrev pub called : Ident → Exps → Within → Acts Made
+  called f args within = do
+    xs ← values findings args no_txs within
+    x ← call within (findings.meaning (at_of f)) xs
+    give (value x)
+
+  abbrev pub connective_in : Op → Cond → Exp → Want → Within → Acts Made
+  connective_in op left b w within = connective op w left (λ v. expression findings b v within)
+
+  abbrev pub with_left_in : Op → (at : ℕ) → Made → Exp → Want → Within → Acts Made
+  with_left_in op at left b w within =
+      with_left op (compares_strings (findings.meaning at)) (assigns_nothing b) w left
+      (λ v. expression findings b v within)
+
+  abbrev pub made_record : Inits → Within → Acts Made
+  made_record inits within = do
+    xs ← fields findings inits no_txs within
+    make_record (inits_assign_nothing inits) xs
+
+  abbrev pub filled : (size : Tx) → Exp → Within → Acts Made
+  filled size item within = do
+    n ← expression findings item want.Value within
+    y ← value_of n
+    give (value (make_array size y))
+
+  abbrev pub assigned : Place → Exp → Within → Acts Made
+  assigned place e within = do
+    m ← expression findings e (want_for place) within
+    s ← assign place m
+    give (done s)
+
+  abbrev pub when_true : Cond → Exp → Within → Acts Made
+  when_true c a within = do
+    m ← expression findings a want.Dropped within
+    give (done (If c (dropped m) nothing))
+
+  abbrev pub turned : Cond → Exp → Within → Acts Made
+  turned c a within = do
+    m ← expression findings a want.Dropped (in_body within)
+    give (done (repeat_while c (dropped m)))
+
+  abbrev pub counted : Ident → (low high : Tx) → Exp → Within → Acts Made
+  counted i x y a within = do
+    home ← declare_variable (findings.escapes (at_of i)) within.level (at_of i)
+    m ← expression findings a want.Dropped (in_body within)
+    s ← count home x y (dropped m)
+    give (done s)
+
+  abbrev pub indexed : (array : Tx) → Exp → Within → Acts Place
+  indexed array e within = do
+    m ← expression findings e want.Value within
+    y ← value_of m
+    element_place (assigns_nothing e) array y
+
+  abbrev pub sequence_in : Exps → Want → Stms → Within → Acts Made
+  sequence_in es w before within = do
+    begun ← sequence findings es w before within
+    behind w begun.before begun.last
+
+  abbrev pub variable_in : Ident → Exp → Within → Acts Ts
+  variable_in x e within = do
+    home ← declare_variable (findings.escapes (at_of x)) within.level (at_of x)
+    m ← expression findings e (want_for (own_place home)) within
+    assign (own_place home) m
+
+  abbrev pub body_in : FunDec → (label : ℕ) → Within → Acts (Unit {0})
+  body_in f label within =
+      body label findings.escapes (findings.keeps_link (at_of f.name)) (is_some f.result) f.params
+      (λ w v. expression findings (plain f.body) w v) within
