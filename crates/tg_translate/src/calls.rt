@@ -48,7 +48,7 @@ pub(crate) fn call_by(
         Some(Means::Standard(standard)) => Ok(call(routine_of(standard).label(), arguments)),
         Some(Means::Function(at)) => {
             let callee = state.callees.get(at).copied();
-            call_declared(state.alloc, within, arguments, callee)
+            Ok(call_declared(state.alloc, within, arguments, callee)?)
         }
         _ => Ok(Tx::Const(0)),
     }

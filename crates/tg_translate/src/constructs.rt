@@ -41,7 +41,7 @@ pub(crate) fn plus(alloc: Global, address: Tx, bytes: u32) -> Result<Tx, Memory>
     if bytes == 0 {
         return Ok(address);
     }
-    binary(alloc, Bin::Add, address, Tx::Const(bytes))
+    Ok(binary(alloc, Bin::Add, address, Tx::Const(bytes))?)
 }
 
 /// The address of a slot: the word 4·(slot + 1) bytes below the frame address.
@@ -51,14 +51,14 @@ pub(crate) fn slot_address(alloc: Global, frame: Tx, slot: u32) -> Result<Tx, Me
     if slot >= MOST_WORDS {
         return Err(Memory);
     }
-    binary(alloc, Bin::Sub, frame, Tx::Const(4 * (slot + 1)))
+    Ok(binary(alloc, Bin::Sub, frame, Tx::Const(4 * (slot + 1)))?)
 }
 
 /// The static link of the activation with this frame address, which stands in its first slot.
 fn link_of(alloc: Global, frame: Tx) -> Result<Tx, Memory>
     ensures { IfOk result (λ x. plain_tx x ≡ constructs.link_of (plain_tx frame)) }
 {
-    load(alloc, slot_address(alloc, frame, 0)?)
+    Ok(load(alloc, slot_address(alloc, frame, 0)?)?)
 }
 
 /// The static link of the activation at work, in its first slot or its first temporary.
@@ -66,7 +66,7 @@ fn own_link(alloc: Global, link_in_slot: bool) -> Result<Tx, Memory>
     ensures { IfOk result (λ x. plain_tx x ≡ constructs.own_link link_in_slot) }
 {
     if link_in_slot {
-        link_of(alloc, Tx::FrameAddress)
+        Ok(link_of(alloc, Tx::FrameAddress)?)
     } else {
         Ok(Tx::Temp(Temp(0)))
     }
@@ -80,9 +80,9 @@ pub(crate) fn frame_out(alloc: Global, link_in_slot: bool, hops: u32) -> Result<
         return Ok(Tx::FrameAddress);
     }
     if hops == 1 {
-        return own_link(alloc, link_in_slot);
+        return Ok(own_link(alloc, link_in_slot)?);
     }
-    link_of(alloc, frame_out(alloc, link_in_slot, hops - 1)?)
+    Ok(link_of(alloc, frame_out(alloc, link_in_slot, hops - 1)?)?)
 }
 
 /// Ends the program where a record is nil.
@@ -90,7 +90,7 @@ pub(crate) fn nil_check(alloc: Global, record_: Tx) -> Result<Ts, Memory>
     ensures { IfOk result (λ s. plain_ts s ≡ constructs.nil_check (plain_tx record_)) }
 {
     let is_nil = compare(alloc, Rel::Equal, record_, Tx::Const(0))?;
-    when(alloc, is_nil, Ts::Fault(NIL))
+    Ok(when(alloc, is_nil, Ts::Fault(NIL))?)
 }
 
 /// Ends the program where an index isn't below an array's length: one comparison without sign.
@@ -99,7 +99,7 @@ pub(crate) fn index_check(alloc: Global, array: Tx, index: Tx) -> Result<Ts, Mem
         constructs.index_check (plain_tx array) (plain_tx index)) }
 {
     let is_outside = compare(alloc, Rel::NotBelow, index, load(alloc, array)?)?;
-    when(alloc, is_outside, Ts::Fault(INDEX))
+    Ok(when(alloc, is_outside, Ts::Fault(INDEX))?)
 }
 
 /// Ends the program where a divisor is 0.
@@ -107,7 +107,7 @@ pub(crate) fn zero_check(alloc: Global, divisor: Tx) -> Result<Ts, Memory>
     ensures { IfOk result (λ s. plain_ts s ≡ constructs.zero_check (plain_tx divisor)) }
 {
     let is_zero = compare(alloc, Rel::Equal, divisor, Tx::Const(0))?;
-    when(alloc, is_zero, Ts::Fault(DIVISION))
+    Ok(when(alloc, is_zero, Ts::Fault(DIVISION))?)
 }
 
 /// Ends the program by overflow.
@@ -128,7 +128,7 @@ pub(crate) fn product_check(alloc: Global, left: Tx, right: Tx, product: Tx) -> 
     let high = binary(alloc, Bin::MulHigh, left, right)?;
     let sign = binary(alloc, Bin::ShiftSigned, product, Tx::Const(31))?;
     let overflows = compare(alloc, Rel::NotEqual, high, sign)?;
-    when(alloc, overflows, overflow(alloc)?)
+    Ok(when(alloc, overflows, overflow(alloc)?)?)
 }
 
 /// Ends the program where a quotient overflows: that of -2147483648 and -1.
@@ -139,7 +139,7 @@ pub(crate) fn quotient_check(alloc: Global, left: Tx, right: Tx) -> Result<Ts, M
     let by_minus_one = compare(alloc, Rel::Equal, right, Tx::Const(MINUS_ONE))?;
     let of_least = compare(alloc, Rel::Equal, left, Tx::Const(LEAST_INT))?;
     let overflows = both(alloc, by_minus_one, of_least)?;
-    when(alloc, overflows, overflow(alloc)?)
+    Ok(when(alloc, overflows, overflow(alloc)?)?)
 }
 
 /// The address of an array's element: the length comes first.
@@ -149,7 +149,7 @@ pub(crate) fn element(alloc: Global, array: Tx, index: Tx) -> Result<Tx, Memory>
 {
     let offset = binary(alloc, Bin::ShiftLeft, index, Tx::Const(2))?;
     let before = binary(alloc, Bin::Add, offset, array)?;
-    binary(alloc, Bin::Add, before, Tx::Const(4))
+    Ok(binary(alloc, Bin::Add, before, Tx::Const(4))?)
 }
 
 /// A call of the runtime with one argument.
@@ -178,5 +178,5 @@ pub(crate) fn equals(alloc: Global, left: Tx, right: Tx) -> Result<Cond, Memory>
     ensures { IfOk result (λ c. plain_cond c ≡
         tree.Compare PlainEqual (plain_tx left) (plain_tx right)) }
 {
-    compare(alloc, Rel::Equal, left, right)
+    Ok(compare(alloc, Rel::Equal, left, right)?)
 }

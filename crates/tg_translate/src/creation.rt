@@ -31,7 +31,7 @@ pub(crate) fn make_record(state: &mut State, direct: bool, values: Vec<Tx>) -> R
     let mut done = Vec::new(state.alloc);
     let operands = hold_all(state, direct, &mut done, values)?;
     let to = state.fresh()?;
-    record_of(state.alloc, to, done, &operands)
+    Ok(record_of(state.alloc, to, done, &operands)?)
 }
 
 fn record_of(
@@ -46,14 +46,14 @@ fn record_of(
     let made = call_for_record(alloc, operands.len())?;
     push(&mut done, Ts::Move(to, made))?;
     store_fields(alloc, &mut done, to, operands)?;
-    value_behind(alloc, done, Tx::Temp(to))
+    Ok(value_behind(alloc, done, Tx::Temp(to))?)
 }
 
 fn call_for_record(alloc: Global, fields: usize) -> Result<Tx, Memory>
     ensures { IfOk result (λ x. plain_tx x ≡ constructs.call_for_record fields) }
 {
     let bytes = Tx::Const(record_bytes(fields)?);
-    call_with_one(alloc, Routine::MakeRecord, bytes)
+    Ok(call_with_one(alloc, Routine::MakeRecord, bytes)?)
 }
 
 /// The fields are stored, one after another.

@@ -58,28 +58,28 @@ pub(crate) fn expression(
         Kind::Nil => Ok(Made::Value(Tx::Const(0))),
         Kind::Int(number) => Ok(Made::Value(Tx::Const(*number))),
         Kind::Break => Ok(Made::Done(Ts::Break(within.leave))),
-        Kind::Text(bytes) => literal(state, bytes),
+        Kind::Text(bytes) => Ok(literal(state, bytes)?),
         Kind::Read(place) => {
             let place = locate(findings, state, place, within)?;
             Ok(Made::Value(read(state.alloc, place)?))
         }
-        Kind::Call(f, arguments) => called(findings, state, *f, arguments, within),
+        Kind::Call(f, arguments) => Ok(called(findings, state, *f, arguments, within)?),
         Kind::Neg(a) => {
             let value = value(findings, state, a, within)?;
             Ok(Made::Value(negation(state.alloc, value)?))
         }
         Kind::Binary(op, at, a, b) => {
             let left = expression(findings, state, a, left_want(*op), within)?;
-            with_left(findings, state, *op, *at, left, b, want, within)
+            Ok(with_left(findings, state, *op, *at, left, b, want, within)?)
         }
-        Kind::Make(_, inits) => made_record(findings, state, inits, within),
+        Kind::Make(_, inits) => Ok(made_record(findings, state, inits, within)?),
         Kind::Fill(_, size, item) => {
             let size = value(findings, state, size, within)?;
-            filled(findings, state, size, item, within)
+            Ok(filled(findings, state, size, item, within)?)
         }
         Kind::Assign(place, a) => {
             let place = locate(findings, state, place, within)?;
-            assigned(findings, state, place, a, within)
+            Ok(assigned(findings, state, place, a, within)?)
         }
         Kind::If(test, this, Some(other)) => {
             let test = condition(findings, state, test, within)?;
@@ -87,28 +87,28 @@ pub(crate) fn expression(
             let this = arm(findings, state, this, arms, within)?;
             let other = arm(findings, state, other, arms, within)?;
             let choice = if_else(state.alloc, test, this, other)?;
-            deliver(state.alloc, want, arms, choice)
+            Ok(deliver(state.alloc, want, arms, choice)?)
         }
         Kind::If(test, this, None) => {
             let test = condition(findings, state, test, within)?;
-            when_true(findings, state, test, this, within)
+            Ok(when_true(findings, state, test, this, within)?)
         }
         Kind::While(test, body) => {
             let test = condition(findings, state, test, in_test(within)?)?;
-            turned(findings, state, test, body, within)
+            Ok(turned(findings, state, test, body, within)?)
         }
         Kind::For(x, low, high, body) => {
             let low = value(findings, state, low, within)?;
             let high = value(findings, state, high, within)?;
-            counted(findings, state, *x, low, high, body, within)
+            Ok(counted(findings, state, *x, low, high, body, within)?)
         }
         Kind::Let(decs, body) => {
             let before = declarations(findings, state, decs, within)?;
-            sequence(findings, state, before, body, want, within)
+            Ok(sequence(findings, state, before, body, want, within)?)
         }
         Kind::Seq(items) => {
             let before = Vec::new(state.alloc);
-            sequence(findings, state, before, items, want, within)
+            Ok(sequence(findings, state, before, items, want, within)?)
         }
     }
 }
@@ -120,7 +120,7 @@ fn value(findings: &Findings, state: &mut State, e: &Exp, within: Within) -> Res
         (state_of state.old) ≡ drawn (plain_tx x) (state_of state.new)) }
 {
     let made = expression(findings, state, e, Want::Value, within)?;
-    value_of(state, made)
+    Ok(value_of(state, made)?)
 }
 
 // The condition that an expression is true.
@@ -135,7 +135,7 @@ fn condition(
         (state_of state.old) ≡ drawn (plain_cond x) (state_of state.new)) }
 {
     let made = expression(findings, state, e, Want::Test, within)?;
-    test_of(state.alloc, made)
+    Ok(test_of(state.alloc, made)?)
 }
 
 // The statement that does an expression, without its value.
@@ -145,7 +145,7 @@ fn statement(findings: &Findings, state: &mut State, e: &Exp, within: Within) ->
         (state_of state.old) ≡ drawn (plain_ts x) (state_of state.new)) }
 {
     let made = expression(findings, state, e, Want::Dropped, within)?;
-    dropped(state.alloc, made)
+    Ok(dropped(state.alloc, made)?)
 }
 
 // An arm of a choice.
@@ -161,7 +161,7 @@ fn arm(
         (state_of state.old) ≡ drawn (plain_ts x) (state_of state.new)) }
 {
     let made = expression(findings, state, e, arms, within)?;
-    as_statement(state.alloc, arms, made)
+    Ok(as_statement(state.alloc, arms, made)?)
 }
 
 #[cycle(translation)]
@@ -198,13 +198,13 @@ fn with_left(
     match op {
         Op::And | Op::Or => {
             let left = test_of(state.alloc, left)?;
-            connective(findings, state, op, left, b, want, within)
+            Ok(connective(findings, state, op, left, b, want, within)?)
         }
         _ => {
             let left = value_of(state, left)?;
             let right = value(findings, state, b, within)?;
             let of_strings = compares_strings(findings.meaning(at));
-            operation(state, op, of_strings, assigns_nothing(b), left, right)
+            Ok(operation(state, op, of_strings, assigns_nothing(b), left, right)?)
         }
     }
 }
@@ -226,13 +226,13 @@ fn connective(
     match want {
         Want::Test => {
             let right = expression(findings, state, b, Want::Test, within)?;
-            tested(state.alloc, op, left, right)
+            Ok(tested(state.alloc, op, left, right)?)
         }
         _ => {
             let arms = arms(state, want)?;
             let right = expression(findings, state, b, arms, within)?;
             let choice = chosen(state.alloc, op, arms, left, right)?;
-            deliver(state.alloc, want, arms, choice)
+            Ok(deliver(state.alloc, want, arms, choice)?)
         }
     }
 }
@@ -248,7 +248,7 @@ fn made_record(
         (state_of state.old) ≡ drawn (plain_made m) (state_of state.new)) }
 {
     let values = fields(findings, state, inits, within)?;
-    make_record(state, inits_assign_nothing(inits), values)
+    Ok(make_record(state, inits_assign_nothing(inits), values)?)
 }
 
 // An array of a size.
@@ -344,17 +344,17 @@ fn locate(
         (state_of state.old) ≡ drawn (plain_place p) (state_of state.new)) }
 {
     match place {
-        Var::Simple(x) => variable_place(state, within, findings.meaning(x.span.from)),
+        Var::Simple(x) => Ok(variable_place(state, within, findings.meaning(x.span.from))?),
         Var::Field(of, field) => {
             let of = locate(findings, state, of, within)?;
             let record = read(state.alloc, of)?;
             let number = field_number(findings.meaning(field.span.from));
-            field_place(state, number, record)
+            Ok(field_place(state, number, record)?)
         }
         Var::Index(of, index) => {
             let of = locate(findings, state, of, within)?;
             let array = read(state.alloc, of)?;
-            indexed(findings, state, array, index, within)
+            Ok(indexed(findings, state, array, index, within)?)
         }
     }
 }
@@ -372,7 +372,7 @@ fn indexed(
         (state_of state.old) ≡ drawn (plain_place p) (state_of state.new)) }
 {
     let value = value(findings, state, index, within)?;
-    element_place(state, assigns_nothing(index), array, value)
+    Ok(element_place(state, assigns_nothing(index), array, value)?)
 }
 
 // Arguments, from the left.
@@ -434,7 +434,7 @@ fn sequence(
             last = expression(findings, state, e, want, within)?;
         }
     }
-    behind(state, want, before, last)
+    Ok(behind(state, want, before, last)?)
 }
 
 // The statements of declarations.
@@ -477,7 +477,7 @@ fn declaration(
         Dec::Functions(group) => {
             let first = state.label;
             declare_functions(state, within.level, group)?;
-            bodies(findings, state, group, first, within)
+            Ok(bodies(findings, state, group, first, within)?)
         }
     }
 }
@@ -497,7 +497,7 @@ fn variable(
     let home = declare_variable(findings, state, within.level, x.span.from)?;
     let place = own_place(state.alloc, home)?;
     let made = expression(findings, state, e, want_for(&place), within)?;
-    assign(state, place, made)
+    Ok(assign(state, place, made)?)
 }
 
 // The functions of a group, whose labels go up from this one.
@@ -553,5 +553,5 @@ fn body(
         inner,
     )?;
     let body = closing(state, has_result, made)?;
-    state.close(outer, body)
+    Ok(state.close(outer, body)?)
 }

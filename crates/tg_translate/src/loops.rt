@@ -42,7 +42,7 @@ pub(crate) fn repeat_while(alloc: Global, test: Cond, turn: Ts) -> Result<Ts, Me
     ensures { IfOk result (λ s. plain_ts s ≡
         constructs.repeat_while (plain_cond test) (plain_ts turn)) }
 {
-    repeat(alloc, if_else(alloc, test, turn, Ts::Break(0))?)
+    Ok(repeat(alloc, if_else(alloc, test, turn, Ts::Break(0))?)?)
 }
 
 /// One below the first value of a loop's variable, by the wrapping forms.
@@ -51,7 +51,7 @@ fn first_minus_one(alloc: Global, low: Operand) -> Result<Tx, Memory>
 {
     match low {
         Operand::Number(number) => Ok(Tx::Const(sub(number, 1))),
-        Operand::Kept(temp) => binary(alloc, Bin::Sub, Tx::Temp(temp), Tx::Const(1)),
+        Operand::Kept(temp) => Ok(binary(alloc, Bin::Sub, Tx::Temp(temp), Tx::Const(1))?),
     }
 }
 
@@ -60,7 +60,7 @@ fn read_home(alloc: Global, variable: Access) -> Result<Tx, Memory>
     ensures { IfOk result (λ x. plain_tx x ≡
         constructs.read (constructs.own_place variable)) }
 {
-    read(alloc, own_place(alloc, variable)?)
+    Ok(read(alloc, own_place(alloc, variable)?)?)
 }
 
 /// A variable of the function at work becomes a value.
@@ -68,7 +68,7 @@ fn assign_home(alloc: Global, variable: Access, value: Tx) -> Result<Ts, Memory>
     ensures { IfOk result (λ s. plain_ts s ≡
         constructs.assign_value (constructs.own_place variable) (plain_tx value)) }
 {
-    assign_value(own_place(alloc, variable)?, value)
+    Ok(assign_value(own_place(alloc, variable)?, value)?)
 }
 
 /// The turns of a loop that counts, of which there is one at least. The test for the last turn comes
@@ -116,7 +116,7 @@ pub(crate) fn count(
     let mut done = Vec::new(state.alloc);
     let low = hold(state, false, &mut done, low)?;
     let high = hold(state, false, &mut done, high)?;
-    count_of(state.alloc, done, variable, low, high, turn)
+    Ok(count_of(state.alloc, done, variable, low, high, turn)?)
 }
 
 fn count_of(

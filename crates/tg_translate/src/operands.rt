@@ -42,7 +42,7 @@ pub(crate) fn hold(
     match value {
         Tx::Const(number) => Ok(Operand::Number(number)),
         Tx::Temp(temp) if direct => Ok(Operand::Kept(temp)),
-        _ => keep(state, before, value),
+        _ => Ok(keep(state, before, value)?),
     }
 }
 

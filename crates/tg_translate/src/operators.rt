@@ -37,8 +37,8 @@ pub(crate) fn connected(alloc: Global, op: Op, left: Cond, right: Cond) -> Resul
         choices.connected op (plain_cond left) (plain_cond right)) }
 {
     match op {
-        Op::And => both(alloc, left, right),
-        _ => either(alloc, left, right),
+        Op::And => Ok(both(alloc, left, right)?),
+        _ => Ok(either(alloc, left, right)?),
     }
 }
 
@@ -57,12 +57,12 @@ pub(crate) fn chosen(
         Op::And => {
             let this = as_statement(alloc, arms, right)?;
             let other = as_statement(alloc, arms, Made::Value(Tx::Const(0)))?;
-            if_else(alloc, left, this, other)
+            Ok(if_else(alloc, left, this, other)?)
         }
         _ => {
             let this = as_statement(alloc, arms, Made::Value(Tx::Const(1)))?;
             let other = as_statement(alloc, arms, right)?;
-            if_else(alloc, left, this, other)
+            Ok(if_else(alloc, left, this, other)?)
         }
     }
 }
@@ -103,9 +103,9 @@ fn comparison(alloc: Global, op: Op, of_strings: bool, left: Tx, right: Tx) -> R
 {
     if of_strings {
         let order = call_with_two(alloc, Routine::Compare, left, right)?;
-        compare(alloc, relation(op), order, Tx::Const(0))
+        Ok(compare(alloc, relation(op), order, Tx::Const(0))?)
     } else {
-        compare(alloc, relation(op), left, right)
+        Ok(compare(alloc, relation(op), left, right)?)
     }
 }
 
@@ -119,7 +119,7 @@ fn product(state: &mut State, direct: bool, left: Tx, right: Tx) -> Result<Made,
     let left = hold(state, direct, &mut done, left)?;
     let right = hold(state, true, &mut done, right)?;
     let to = state.fresh()?;
-    product_of(state.alloc, to, done, left, right)
+    Ok(product_of(state.alloc, to, done, left, right)?)
 }
 
 fn product_of(
@@ -137,7 +137,7 @@ fn product_of(
     push(&mut done, Ts::Move(to, low))?;
     let check = product_check(alloc, left.tree(), right.tree(), Tx::Temp(to))?;
     push(&mut done, check)?;
-    value_behind(alloc, done, Tx::Temp(to))
+    Ok(value_behind(alloc, done, Tx::Temp(to))?)
 }
 
 /// A quotient, which ends the program where the divisor is 0 and where it overflows.
@@ -149,7 +149,7 @@ fn checked_quotient(state: &mut State, direct: bool, left: Tx, right: Tx) -> Res
     let mut done = Vec::new(state.alloc);
     let left = hold(state, direct, &mut done, left)?;
     let right = hold(state, true, &mut done, right)?;
-    quotient_of(state.alloc, done, left, right)
+    Ok(quotient_of(state.alloc, done, left, right)?)
 }
 
 fn quotient_of(
@@ -165,7 +165,7 @@ fn quotient_of(
     push(&mut done, zero_check(alloc, right.tree())?)?;
     push(&mut done, quotient_check(alloc, left.tree(), right.tree())?)?;
     let value = binary(alloc, Bin::Div, left.tree(), right.tree())?;
-    value_behind(alloc, done, value)
+    Ok(value_behind(alloc, done, value)?)
 }
 
 /// A quotient. A number other than 0 and -1 divides without a check.
@@ -179,7 +179,7 @@ fn quotient(state: &mut State, direct: bool, left: Tx, right: Tx) -> Result<Made
             let value = binary(state.alloc, Bin::Div, left, Tx::Const(number))?;
             Ok(Made::Value(value))
         }
-        _ => checked_quotient(state, direct, left, right),
+        _ => Ok(checked_quotient(state, direct, left, right)?),
     }
 }
 
@@ -200,8 +200,8 @@ pub(crate) fn operation(
     match op {
         Op::Plus => Ok(Made::Value(binary(state.alloc, Bin::AddTrap, left, right)?)),
         Op::Minus => Ok(Made::Value(binary(state.alloc, Bin::SubTrap, left, right)?)),
-        Op::Times => product(state, direct, left, right),
-        Op::Divide => quotient(state, direct, left, right),
+        Op::Times => Ok(product(state, direct, left, right)?),
+        Op::Divide => Ok(quotient(state, direct, left, right)?),
         _ => Ok(Made::Test(comparison(state.alloc, op, of_strings, left, right)?)),
     }
 }
@@ -212,6 +212,6 @@ pub(crate) fn negation(alloc: Global, value: Tx) -> Result<Tx, Memory>
 {
     match value {
         Tx::Const(number) if number != LEAST_INT => Ok(Tx::Const(sub(0, number))),
-        _ => binary(alloc, Bin::SubTrap, Tx::Const(0), value),
+        _ => Ok(binary(alloc, Bin::SubTrap, Tx::Const(0), value)?),
     }
 }

@@ -51,7 +51,7 @@ pub(crate) fn frame_at(alloc: Global, within: Within, level: u32) -> Result<Tx, 
     } else {
         0
     };
-    frame_out(alloc, within.link_in_slot, hops)
+    Ok(frame_out(alloc, within.link_in_slot, hops)?)
 }
 
 fn home_place(alloc: Global, within: Within, home: Option<Home>) -> Result<Place, Memory>
@@ -60,7 +60,7 @@ fn home_place(alloc: Global, within: Within, home: Option<Home>) -> Result<Place
     match home {
         Some(home) => {
             let frame = frame_at(alloc, within, home.level)?;
-            place_in(alloc, frame, home.access)
+            Ok(place_in(alloc, frame, home.access)?)
         }
         None => Ok(nowhere(alloc)),
     }
@@ -85,7 +85,7 @@ pub(crate) fn variable_place(
     match meaning {
         Some(Means::Variable(at)) => {
             let home = state.homes.get(at).copied();
-            home_place(state.alloc, within, home)
+            Ok(home_place(state.alloc, within, home)?)
         }
         _ => Ok(nowhere(state.alloc)),
     }
@@ -111,7 +111,7 @@ pub(crate) fn declare_variable(
 pub(crate) fn own_place(alloc: Global, access: Access) -> Result<Place, Memory>
     ensures { IfOk result (λ p. plain_place p ≡ constructs.own_place access) }
 {
-    place_in(alloc, Tx::FrameAddress, access)
+    Ok(place_in(alloc, Tx::FrameAddress, access)?)
 }
 
 /// The value that stands in a place.
@@ -120,7 +120,7 @@ pub(crate) fn read(alloc: Global, place: Place) -> Result<Tx, Memory>
 {
     match place {
         Place::InTemp(temp) => Ok(Tx::Temp(temp)),
-        Place::AtAddress(before, address) => after_all(alloc, before, load(alloc, address)?),
+        Place::AtAddress(before, address) => Ok(after_all(alloc, before, load(alloc, address)?)?),
     }
 }
 
@@ -131,7 +131,7 @@ fn after_all(alloc: Global, before: Vec<Ts>, value: Tx) -> Result<Tx, Memory>
     if before.is_empty() {
         return Ok(value);
     }
-    after(alloc, sequence(before), value)
+    Ok(after(alloc, sequence(before), value)?)
 }
 
 fn store_at(before: Vec<Ts>, address: Tx, value: Tx) -> Result<Ts, Memory>
@@ -154,7 +154,7 @@ pub(crate) fn assign_value(place: Place, value: Tx) -> Result<Ts, Memory>
 {
     match place {
         Place::InTemp(temp) => Ok(Ts::Move(temp, value)),
-        Place::AtAddress(before, address) => store_at(before, address, value),
+        Place::AtAddress(before, address) => Ok(store_at(before, address, value)?),
     }
 }
 
@@ -166,10 +166,10 @@ pub(crate) fn assign(state: &mut State, place: Place, made: Made) -> Result<Ts, 
         drawn (plain_ts s) (state_of state.new)) }
 {
     match place {
-        Place::InTemp(temp) => put_in(state.alloc, temp, made),
+        Place::InTemp(temp) => Ok(put_in(state.alloc, temp, made)?),
         Place::AtAddress(before, address) => {
             let value = value_of(state, made)?;
-            store_at(before, address, value)
+            Ok(store_at(before, address, value)?)
         }
     }
 }
@@ -202,7 +202,7 @@ pub(crate) fn field_place(state: &mut State, field: u32, record_: Tx) -> Result<
 {
     let mut before = Vec::new(state.alloc);
     let held = hold(state, true, &mut before, record_)?;
-    field_of(state.alloc, field, before, held)
+    Ok(field_of(state.alloc, field, before, held)?)
 }
 
 fn field_of(alloc: Global, field: u32, mut before: Vec<Ts>, held: Operand) -> Result<Place, Memory>
@@ -229,7 +229,7 @@ pub(crate) fn element_place(
     let mut before = Vec::new(state.alloc);
     let array = hold(state, direct, &mut before, array)?;
     let index = hold(state, true, &mut before, index)?;
-    element_of(state.alloc, before, array, index)
+    Ok(element_of(state.alloc, before, array, index)?)
 }
 
 fn element_of(

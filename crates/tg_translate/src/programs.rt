@@ -46,5 +46,5 @@ pub fn translate(alloc: Global, checked: &Checked, escapes: &Escapes) -> Result<
         outermost,
     )?;
     let body = closing(&mut state, false, made)?;
-    state.finish(body)
+    Ok(state.finish(body)?)
 }

@@ -145,7 +145,7 @@ impl State {
 pub(crate) fn next(number: u32) -> Result<u32, Memory>
     ensures { IfOk result (λ n. n ≡ number + 1) }
 {
-    number.checked_add(1).ok_or(Memory)
+    Ok(number.checked_add(1).ok_or(Memory)?)
 }
 
 /// A frame for a function of a label.
@@ -155,5 +155,5 @@ pub(crate) fn frame_of(alloc: Global, label: Label, asked: &[bool]) -> Result<Fr
     if asked.len() > MOST_HOMES as usize {
         return Err(Memory);
     }
-    new_frame(alloc, label, asked)
+    Ok(new_frame(alloc, label, asked)?)
 }

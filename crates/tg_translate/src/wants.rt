@@ -35,7 +35,7 @@ fn truth_into(alloc: Global, to: Temp, test: Cond) -> Result<Ts, Memory>
     ensures { IfOk result (λ s. plain_ts s ≡ wants.truth_into to.0 (plain_cond test)) }
 {
     let one = Ts::Move(to, Tx::Const(1));
-    if_else(alloc, test, one, Ts::Move(to, Tx::Const(0)))
+    Ok(if_else(alloc, test, one, Ts::Move(to, Tx::Const(0)))?)
 }
 
 /// No statement.
@@ -52,11 +52,11 @@ pub(crate) fn value_of(state: &mut State, made: Made) -> Result<Tx, Memory>
 {
     match made {
         Made::Value(value) => Ok(value),
-        Made::Done(done) => after(state.alloc, done, Tx::Const(0)),
+        Made::Done(done) => Ok(after(state.alloc, done, Tx::Const(0))?),
         Made::Test(test) => {
             let to = state.fresh()?;
             let truth = truth_into(state.alloc, to, test)?;
-            after(state.alloc, truth, Tx::Temp(to))
+            Ok(after(state.alloc, truth, Tx::Temp(to))?)
         }
     }
 }
@@ -68,7 +68,7 @@ pub(crate) fn put_in(alloc: Global, to: Temp, made: Made) -> Result<Ts, Memory>
     match made {
         Made::Value(value) => Ok(Ts::Move(to, value)),
         Made::Done(done) => Ok(done),
-        Made::Test(test) => truth_into(alloc, to, test),
+        Made::Test(test) => Ok(truth_into(alloc, to, test)?),
     }
 }
 
@@ -79,7 +79,7 @@ pub(crate) fn dropped(alloc: Global, made: Made) -> Result<Ts, Memory>
     match made {
         Made::Value(value) => Ok(Ts::Do(value)),
         Made::Done(done) => Ok(done),
-        Made::Test(test) => if_else(alloc, test, nothing(alloc), nothing(alloc)),
+        Made::Test(test) => Ok(if_else(alloc, test, nothing(alloc), nothing(alloc))?),
     }
 }
 
@@ -87,7 +87,7 @@ pub(crate) fn dropped(alloc: Global, made: Made) -> Result<Ts, Memory>
 fn is_true(alloc: Global, value: Tx) -> Result<Cond, Memory>
     ensures { IfOk result (λ c. plain_cond c ≡ wants.is_true (plain_tx value)) }
 {
-    compare(alloc, Rel::NotEqual, value, Tx::Const(0))
+    Ok(compare(alloc, Rel::NotEqual, value, Tx::Const(0))?)
 }
 
 /// The condition that what was made is true.
@@ -95,8 +95,8 @@ pub(crate) fn test_of(alloc: Global, made: Made) -> Result<Cond, Memory>
     ensures { IfOk result (λ c. plain_cond c ≡ wants.test_of (plain_made made)) }
 {
     match made {
-        Made::Value(value) => is_true(alloc, value),
-        Made::Done(done) => is_true(alloc, after(alloc, done, Tx::Const(0))?),
+        Made::Value(value) => Ok(is_true(alloc, value)?),
+        Made::Done(done) => Ok(is_true(alloc, after(alloc, done, Tx::Const(0))?)?),
         Made::Test(test) => Ok(test),
     }
 }
@@ -117,8 +117,8 @@ pub(crate) fn as_statement(alloc: Global, arms: Want, made: Made) -> Result<Ts, 
     ensures { IfOk result (λ s. plain_ts s ≡ wants.as_statement arms (plain_made made)) }
 {
     match arms {
-        Want::Into(to) => put_in(alloc, to, made),
-        _ => dropped(alloc, made),
+        Want::Into(to) => Ok(put_in(alloc, to, made)?),
+        _ => Ok(dropped(alloc, made)?),
     }
 }
 
@@ -128,7 +128,7 @@ pub(crate) fn deliver(alloc: Global, want: Want, arms: Want, done: Ts) -> Result
 {
     match want {
         Want::Into(_) | Want::Dropped => Ok(Made::Done(done)),
-        Want::Value | Want::Test => taken_from(alloc, arms, done),
+        Want::Value | Want::Test => Ok(taken_from(alloc, arms, done)?),
     }
 }
 
@@ -173,10 +173,10 @@ pub(crate) fn behind(
         return Ok(made);
     }
     match want {
-        Want::Into(_) | Want::Dropped => done_behind(state.alloc, want, before, made),
+        Want::Into(_) | Want::Dropped => Ok(done_behind(state.alloc, want, before, made)?),
         Want::Value | Want::Test => {
             let value = value_of(state, made)?;
-            value_behind(state.alloc, before, value)
+            Ok(value_behind(state.alloc, before, value)?)
         }
     }
 }
