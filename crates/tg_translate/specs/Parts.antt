@@ -11,33 +11,25 @@ use Rattle.tg_translate.specs.declared.wants.Want.{Want}
 use Rattle.tg_translate.specs.declared.wants.Want.TheVariants as want
 use Rattle.tg_translate.specs.declared.homes.Within.{Within}
 use Rattle.tg_translate.specs.States.{Acts, ◌>>=◌, ◌>>◌, give}
-use Rattle.tg_translate.specs.Wants.{Made, value, done, value_of, dropped, test_of, as_statement, behind}
-use Rattle.tg_translate.specs.Constructs.{Place, own_place, want_for, assign, element_place, make_record, make_array, repeat_while, in_body, count}
+use Rattle.tg_translate.specs.Wants.{Made, value, done, value_from, condition_from, arm_from, statement_from, behind}
+use Rattle.tg_translate.specs.Constructs.{Place, want_for, assign, element_place, make_record, make_array, repeat_while, in_body, count}
 use Rattle.tg_translate.specs.Scopes.{Findings, compares_strings, call, declare_variable}
 use Rattle.tg_translate.specs.Purity.{assigns_nothing, inits_assign_nothing}
 use Rattle.tg_translate.specs.Functions.{at_of, body}
-use Rattle.tg_translate.specs.Translate.{connective, with_left, expression, values, fields, sequence}
+use Rattle.tg_translate.specs.Translate.{connective, with_left, declaration_of, expression, values, fields, sequence}
 
 module _ (findings : Findings) where
   abbrev pub value_in : Exp → Within → Acts Tx
-  value_in e within = do
-    m ← expression findings e want.Value within
-    value_of m
+  value_in e within = value_from (expression findings e want.Value within)
 
   abbrev pub condition_in : Exp → Within → Acts Cond
-  condition_in e within = do
-    m ← expression findings e want.Test within
-    give (test_of m)
+  condition_in e within = condition_from (expression findings e want.Test within)
 
   abbrev pub arm_in : Exp → Want → Within → Acts Ts
-  arm_in e arms within = do
-    m ← expression findings e arms within
-    give (as_statement arms m)
+  arm_in e arms within = arm_from arms (expression findings e arms within)
 
   abbrev pub statement_in : Exp → Within → Acts Ts
-  statement_in e within = do
-    m ← expression findings e want.Dropped within
-    give (dropped m)
+  statement_in e within = statement_from (expression findings e want.Dropped within)
 
   abbrev pub called : Ident → Exps → Within → Acts Made
   called f args within = do
@@ -60,8 +52,7 @@ module _ (findings : Findings) where
 
   abbrev pub filled : (size : Tx) → Exp → Within → Acts Made
   filled size item within = do
-    n ← expression findings item want.Value within
-    y ← value_of n
+    y ← value_in item within
     give (value (make_array size y))
 
   abbrev pub assigned : Place → Exp → Within → Acts Made
@@ -72,25 +63,24 @@ module _ (findings : Findings) where
 
   abbrev pub when_true : Cond → Exp → Within → Acts Made
   when_true c a within = do
-    m ← expression findings a want.Dropped within
-    give (done (If c (dropped m) nothing))
+    s ← statement_in a within
+    give (done (If c s nothing))
 
   abbrev pub turned : Cond → Exp → Within → Acts Made
   turned c a within = do
-    m ← expression findings a want.Dropped (in_body within)
-    give (done (repeat_while c (dropped m)))
+    s ← statement_in a (in_body within)
+    give (done (repeat_while c s))
 
   abbrev pub counted : Ident → (low high : Tx) → Exp → Within → Acts Made
   counted i x y a within = do
     home ← declare_variable (findings.escapes (at_of i)) within.level (at_of i)
-    m ← expression findings a want.Dropped (in_body within)
-    s ← count home x y (dropped m)
+    turn ← statement_in a (in_body within)
+    s ← count home x y turn
     give (done s)
 
   abbrev pub indexed : (array : Tx) → Exp → Within → Acts Place
   indexed array e within = do
-    m ← expression findings e want.Value within
-    y ← value_of m
+    y ← value_in e within
     element_place (assigns_nothing e) array y
 
   abbrev pub sequence_in : Exps → Want → Stms → Within → Acts Made
@@ -99,10 +89,9 @@ module _ (findings : Findings) where
     behind w begun.before begun.last
 
   abbrev pub variable_in : Ident → Exp → Within → Acts Ts
-  variable_in x e within = do
-    home ← declare_variable (findings.escapes (at_of x)) within.level (at_of x)
-    m ← expression findings e (want_for (own_place home)) within
-    assign (own_place home) m
+  variable_in x e within =
+      declaration_of (findings.escapes (at_of x)) within.level (at_of x)
+      (λ v. expression findings e v within)
 
   abbrev pub body_in : FunDec → (label : ℕ) → Within → Acts (Unit {0})
   body_in f label within =

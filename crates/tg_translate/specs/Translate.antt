@@ -37,13 +37,19 @@ with_left And of_strings direct w left right = connective And w (test_of left) r
 with_left Or of_strings direct w left right = connective Or w (test_of left) right
 with_left op of_strings direct w left right = do
   x ← value_of left
-  m ← right want.Value
-  y ← value_of m
+  y ← value_from (right want.Value)
   operation op of_strings direct x y
 
 pub record Begun : Type 0 where
   pub before : Stms
   pub last : Made
+
+-- a variable is declared, and becomes a value that doesn't see it
+abbrev pub declaration_of : (escapes : Bool) → (level at : ℕ) → (Want → Acts Made) → Acts Ts
+declaration_of escapes level at e = do
+  home ← declare_variable escapes level at
+  m ← e (want_for (own_place home))
+  assign (own_place home) m
 
 module _ (findings : Findings) where
   abbrev mutual
@@ -60,8 +66,7 @@ module _ (findings : Findings) where
       x ← call within (findings.meaning (at_of f)) xs
       give (value x)
     expression (Neg _ a) w within = do
-      m ← expression a want.Value within
-      x ← value_of m
+      x ← value_from (expression a want.Value within)
       give (value (negation x))
     expression (Binary _ op at a b) w within = do
       left ← expression a (left_want op) within
@@ -71,10 +76,8 @@ module _ (findings : Findings) where
       xs ← fields inits no_txs within
       make_record (inits_assign_nothing inits) xs
     expression (Fill _ _ size item) w within = do
-      m ← expression size want.Value within
-      x ← value_of m
-      n ← expression item want.Value within
-      y ← value_of n
+      x ← value_from (expression size want.Value within)
+      y ← value_from (expression item want.Value within)
       give (value (make_array x y))
     expression (Assign _ v e) w within = do
       place ← locate v within
@@ -82,27 +85,25 @@ module _ (findings : Findings) where
       s ← assign place m
       give (done s)
     expression (If _ c a b) w within = do
-      c ← expression c want.Test within
+      c ← condition_from (expression c want.Test within)
       v ← arms w
-      m ← expression a v within
-      n ← expression b v within
-      give (deliver w v (tree.If (test_of c) (as_statement v m) (as_statement v n)))
+      s ← arm_from v (expression a v within)
+      t ← arm_from v (expression b v within)
+      give (deliver w v (tree.If c s t))
     expression (When _ c a) w within = do
-      c ← expression c want.Test within
-      m ← expression a want.Dropped within
-      give (done (tree.If (test_of c) (dropped m) nothing))
+      c ← condition_from (expression c want.Test within)
+      s ← statement_from (expression a want.Dropped within)
+      give (done (tree.If c s nothing))
     expression (While _ c a) w within = do
-      c ← expression c want.Test (in_test within)
-      m ← expression a want.Dropped (in_body within)
-      give (done (repeat_while (test_of c) (dropped m)))
+      c ← condition_from (expression c want.Test (in_test within))
+      s ← statement_from (expression a want.Dropped (in_body within))
+      give (done (repeat_while c s))
     expression (For _ i low high a) w within = do
-      l ← expression low want.Value within
-      x ← value_of l
-      h ← expression high want.Value within
-      y ← value_of h
+      x ← value_from (expression low want.Value within)
+      y ← value_from (expression high want.Value within)
       home ← declare_variable (findings.escapes (at_of i)) within.level (at_of i)
-      m ← expression a want.Dropped (in_body within)
-      s ← count home x y (dropped m)
+      turn ← statement_from (expression a want.Dropped (in_body within))
+      s ← count home x y turn
       give (done s)
     expression (Let _ ds es) w within = do
       before ← declarations ds no_stms within
@@ -119,24 +120,21 @@ module _ (findings : Findings) where
       field_place (field_number (findings.meaning (at_of f))) (read place)
     locate (Index v e) within = do
       place ← locate v within
-      m ← expression e want.Value within
-      y ← value_of m
+      y ← value_from (expression e want.Value within)
       element_place (assigns_nothing e) (read place) y
 
     -- arguments, from the left, behind those before them
     pub values : Exps → Txs → Within → Acts Txs
     values no_exps before within = give before
     values (exp e rest) before within = do
-      m ← expression e want.Value within
-      x ← value_of m
+      x ← value_from (expression e want.Value within)
       values rest (join_txs before (tx x no_txs)) within
 
     -- fields of a creation, from the left
     pub fields : Inits → Txs → Within → Acts Txs
     fields no_inits before within = give before
     fields (init _ e rest) before within = do
-      m ← expression e want.Value within
-      x ← value_of m
+      x ← value_from (expression e want.Value within)
       fields rest (join_txs before (tx x no_txs)) within
 
     -- all but the last are dropped; the last is what its place wants
@@ -147,16 +145,15 @@ module _ (findings : Findings) where
       m ← expression e w within
       give (record { before = before; last = m })
     sequence (exp e (exp f rest)) w before within = do
-      m ← expression e want.Dropped within
-      sequence (exp f rest) w (followed before (dropped m)) within
+      s ← statement_from (expression e want.Dropped within)
+      sequence (exp f rest) w (followed before s) within
 
     pub declarations : Decs → Stms → Within → Acts Stms
     declarations no_decs before within = give before
     declarations (types _ rest) before within = declarations rest before within
     declarations (variable x _ e rest) before within = do
-      home ← declare_variable (findings.escapes (at_of x)) within.level (at_of x)
-      m ← expression e (want_for (own_place home)) within
-      s ← assign (own_place home) m
+      s ← declaration_of (findings.escapes (at_of x)) within.level (at_of x)
+          (λ v. expression e v within)
       declarations rest (followed before s) within
     declarations (functions fs rest) before within = do
       first ← next_label

@@ -93,3 +93,17 @@ behind Dropped ss m = give (done_behind Dropped ss m)
 behind _ ss m = do
   x ← value_of m
   give (value_behind ss x)
+
+-- what an expression's place makes of it
+
+abbrev pub value_from : Acts Made → Acts Tx
+value_from m = m >>= value_of
+
+abbrev pub condition_from : Acts Made → Acts Cond
+condition_from m = m >>= λ c. give (test_of c)
+
+abbrev pub arm_from : (arms : Want) → Acts Made → Acts Ts
+arm_from arms m = m >>= λ s. give (as_statement arms s)
+
+abbrev pub statement_from : Acts Made → Acts Ts
+statement_from m = m >>= λ s. give (dropped s)
