@@ -93,14 +93,20 @@ closing true m = do
   give (Return x)
 closing false m = give (gives_nothing m)
 
+abbrev pub body_in :
+    Frame → List Param → (link_in_slot has_result : Bool) →
+    (text : Want → Within → Acts Made) → Within → Acts Ts
+body_in f params kept has_result text within = do
+  declare_params (within.level + 1) params (own_homes f.params)
+  m ← text (result_want has_result) (inside within kept)
+  closing has_result m
+
 abbrev pub body :
-    (label : ℕ) → (escapes : ℕ → Bool) → (keeps_link has_result : Bool) → List Param →
-    (Want → Within → Acts Made) → Within → Acts (Unit {0})
-body label escapes kept has_result params e within =
-    in_frame (frame_for label (asked escapes kept params)) (do
-      declare_params (within.level + 1) params (own_homes (homes_of (asked escapes kept params)))
-      m ← e (result_want has_result) (inside within kept)
-      closing has_result m)
+    (label : ℕ) → (escapes keeps_link : ℕ → Bool) → (at : ℕ) → (has_result : Bool) →
+    List Param → (text : Want → Within → Acts Made) → Within → Acts (Unit {0})
+body label escapes keeps_link at has_result params text within =
+    let f = frame_for label (asked escapes (keeps_link at) params) in
+    in_frame f (body_in f params (keeps_link at) has_result text within)
 
 -- The program's body has the label 32, and the labels of declared functions and literals follow.
 

@@ -13,7 +13,7 @@ use Rattle.tg_translate.specs.declared.homes.Within.{Within}
 use Rattle.tg_translate.specs.States.{Acts, ◌>>=◌, ◌>>◌, give}
 use Rattle.tg_translate.specs.Wants.{Made, value, done, value_from, condition_from, arm_from, statement_from, behind}
 use Rattle.tg_translate.specs.Constructs.{Place, want_for, assign, element_place, make_record, make_array, repeat_while, in_body, count}
-use Rattle.tg_translate.specs.Scopes.{Findings, compares_strings, call, declare_variable}
+use Rattle.tg_translate.specs.Scopes.{Findings, call, declare_variable}
 use Rattle.tg_translate.specs.Purity.{assigns_nothing, inits_assign_nothing}
 use Rattle.tg_translate.specs.Functions.{at_of, body}
 use Rattle.tg_translate.specs.Translate.{connective, with_left, declaration_of, expression, values, fields, sequence}
@@ -42,7 +42,7 @@ module _ (findings : Findings) where
 
   abbrev pub with_left_in : Op → (at : ℕ) → Made → Exp → Want → Within → Acts Made
   with_left_in op at left b w within =
-      with_left op (compares_strings (findings.meaning at)) (assigns_nothing b) w left
+      with_left op (findings.meaning at) (assigns_nothing b) w left
       (λ v. expression findings b v within)
 
   abbrev pub made_record : Inits → Within → Acts Made
@@ -90,10 +90,10 @@ module _ (findings : Findings) where
 
   abbrev pub variable_in : Ident → Exp → Within → Acts Ts
   variable_in x e within =
-      declaration_of (findings.escapes (at_of x)) within.level (at_of x)
+      declaration_of findings.escapes within.level (at_of x)
       (λ v. expression findings e v within)
 
   abbrev pub body_in : FunDec → (label : ℕ) → Within → Acts (Unit {0})
   body_in f label within =
-      body label findings.escapes (findings.keeps_link (at_of f.name)) (is_some f.result) f.params
+      body label findings.escapes findings.keeps_link (at_of f.name) (is_some f.result) f.params
       (λ w v. expression findings (plain f.body) w v) within

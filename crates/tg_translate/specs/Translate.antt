@@ -1,7 +1,7 @@
 -- The translation of a checked program to trees (Appel, chapter 7). Each expression is translated
 -- for what its place wants of it. Fragments stand in the order of the source, the program's body
 -- first.
-use Rattle.std.specs.Prelude.{ℕ, ◌+◌, List, [], is_some, Bool, true, false}
+use Rattle.std.specs.Prelude.{ℕ, ◌+◌, List, [], is_some, Option, Bool, true, false}
 use Rattle.tg_syntax.specs.declared.trees.Op.{Op}
 use Rattle.tg_syntax.specs.declared.trees.Op.TheVariants.{And, Or}
 use Rattle.tg_syntax.specs.Tree as source
@@ -10,11 +10,12 @@ use Rattle.tg_tree.specs.Tree as tree
 use Rattle.tg_tree.specs.Tree.{Const, Txs, no_txs, tx, Ts, Stms, no_stms, Code}
 use Rattle.tg_tree.specs.Forms.{nothing}
 use Rattle.tg_tree.specs.Lists.{join_txs}
+use Rattle.tg_types.specs.declared.notes.Means.{Means}
 use Rattle.tg_translate.specs.declared.wants.Want.{Want}
 use Rattle.tg_translate.specs.declared.wants.Want.TheVariants as want
 use Rattle.tg_translate.specs.declared.homes.Within.{Within}
 use Rattle.tg_translate.specs.States.{Acts, ◌>>=◌, ◌>>◌, give, next_label}
-use Rattle.tg_translate.specs.Wants.{Made, value, done, test, value_of, dropped, test_of, arms, as_statement, deliver, followed, behind}
+use Rattle.tg_translate.specs.Wants.{Made, value, done, test_of, value_of, value_from, condition_from, arm_from, statement_from, arms, deliver, followed, behind, test, dropped}
 use Rattle.tg_translate.specs.Constructs.{Place, in_temp, at_address, own_place, read, want_for, assign, field_place, element_place, make_record, make_array, operation, negation, repeat_while, in_body, in_test, count}
 use Rattle.tg_translate.specs.Scopes.{Findings, variable_place, field_number, compares_strings, call, literal, declare_variable}
 use Rattle.tg_translate.specs.Choices.{left_want, tested, chosen}
@@ -32,22 +33,22 @@ connective op w c right = do
 
 -- an operator whose left side is translated
 abbrev pub with_left :
-    Op → (of_strings direct : Bool) → Want → Made → (right : Want → Acts Made) → Acts Made
-with_left And of_strings direct w left right = connective And w (test_of left) right
-with_left Or of_strings direct w left right = connective Or w (test_of left) right
-with_left op of_strings direct w left right = do
+    Op → Option Means → (direct : Bool) → Want → Made → (right : Want → Acts Made) → Acts Made
+with_left And meaning direct w left right = connective And w (test_of left) right
+with_left Or meaning direct w left right = connective Or w (test_of left) right
+with_left op meaning direct w left right = do
   x ← value_of left
   y ← value_from (right want.Value)
-  operation op of_strings direct x y
+  operation op (compares_strings meaning) direct x y
 
 pub record Begun : Type 0 where
   pub before : Stms
   pub last : Made
 
 -- a variable is declared, and becomes a value that doesn't see it
-abbrev pub declaration_of : (escapes : Bool) → (level at : ℕ) → (Want → Acts Made) → Acts Ts
+abbrev pub declaration_of : (escapes : ℕ → Bool) → (level at : ℕ) → (Want → Acts Made) → Acts Ts
 declaration_of escapes level at e = do
-  home ← declare_variable escapes level at
+  home ← declare_variable (escapes at) level at
   m ← e (want_for (own_place home))
   assign (own_place home) m
 
@@ -70,8 +71,7 @@ module _ (findings : Findings) where
       give (value (negation x))
     expression (Binary _ op at a b) w within = do
       left ← expression a (left_want op) within
-      with_left op (compares_strings (findings.meaning at)) (assigns_nothing b) w left
-      (λ v. expression b v within)
+      with_left op (findings.meaning at) (assigns_nothing b) w left (λ v. expression b v within)
     expression (Make _ _ inits) w within = do
       xs ← fields inits no_txs within
       make_record (inits_assign_nothing inits) xs
@@ -152,8 +152,7 @@ module _ (findings : Findings) where
     declarations no_decs before within = give before
     declarations (types _ rest) before within = declarations rest before within
     declarations (variable x _ e rest) before within = do
-      s ← declaration_of (findings.escapes (at_of x)) within.level (at_of x)
-          (λ v. expression e v within)
+      s ← declaration_of findings.escapes within.level (at_of x) (λ v. expression e v within)
       declarations rest (followed before s) within
     declarations (functions fs rest) before within = do
       first ← next_label
@@ -165,8 +164,8 @@ module _ (findings : Findings) where
     pub bodies : FunDecs → (label : ℕ) → Within → Acts (Unit {0})
     bodies no_functions label within = give tt
     bodies (function f params result e rest) label within = do
-      body label findings.escapes (findings.keeps_link (at_of f)) (is_some result) params
-      (λ w v. expression e w v) within
+      body label findings.escapes findings.keeps_link (at_of f) (is_some result) params
+          (λ w v. expression e w v) within
       bodies rest (label + 1) within
 
 abbrev pub program_body : Findings → Exp → Acts Ts
