@@ -19,6 +19,7 @@ use Rattle.tg_translate.specs.declared.homes.Within.{Within}
 use Rattle.tg_translate.specs.States.{State, Acts, Drawn, drawn, after, ◌>>=◌, ◌>>◌, give}
 use Rattle.tg_translate.specs.declared.wants.Want.{Want}
 use Rattle.tg_translate.specs.Wants.{Made, value, followed}
+use Rattle.tg_translate.specs.Constructs.{HeldAll, hold_next}
 use Rattle.tg_translate.specs.Functions.{at_of, declare_functions}
 use Rattle.tg_translate.specs.Scopes.{Findings}
 use Rattle.tg_translate.specs.Translate.{expression, values, fields, sequence, declarations, declaration_of, bodies, Begun}
@@ -69,8 +70,8 @@ module _ (findings : Findings) (within : Within) where
   abbrev pub value_step : CodeExp → Txs → Acts Txs
   value_step e before = value_in findings (plain e) within >>= λ x. give (join_txs before (tx x no_txs))
 
-  abbrev pub field_step : CodeInit → Txs → Acts Txs
-  field_step i before = value_in findings (plain i.value) within >>= λ x. give (join_txs before (tx x no_txs))
+  abbrev pub field_step : (direct : Bool) → CodeInit → HeldAll → Acts HeldAll
+  field_step direct i before = value_in findings (plain i.value) within >>= λ x. hold_next direct before x
 
   abbrev pub declaration_step : CodeDec → Stms → Acts Stms
   declaration_step d before = declarations findings (plain_dec d no_decs) before within
@@ -87,14 +88,17 @@ module _ (findings : Findings) (within : Within) where
       values findings (plain_exps es) no_txs within s ≡ in_turn value_step (out-Exps es).items.items no_txs s
   values_are es s = ap (λ x. values findings x no_txs within s) (plain_exps-items es) ∙ values_in (out-Exps es).items.items no_txs s
 
-  fields_in : (is : List CodeInit) (before : Txs) (s : State) → fields findings (inits_of is) before within s ≡ in_turn field_step is before s
-  fields_in [] before s = refl
-  fields_in (i ∷ is) before s =
-      together (value_in findings (plain i.value) within s) (λ x t. fields_in is (join_txs before (tx x no_txs)) t)
+  fields_in : (is : List CodeInit) (direct : Bool) (before : HeldAll) (s : State) →
+      fields findings (inits_of is) direct before within s ≡ in_turn (field_step direct) is before s
+  fields_in [] direct before s = refl
+  fields_in (i ∷ is) direct before s =
+      together (value_in findings (plain i.value) within s)
+      (λ x t. alike (hold_next direct before x t) (λ more u. fields_in is direct more u))
 
-  pub fields_are : (is : CodeInits) (s : State) →
-      fields findings (plain_inits is) no_txs within s ≡ in_turn field_step (out-Inits is).items.items no_txs s
-  fields_are is s = ap (λ x. fields findings x no_txs within s) (plain_inits-items is) ∙ fields_in (out-Inits is).items.items no_txs s
+  pub fields_are : (is : CodeInits) (direct : Bool) (before : HeldAll) (s : State) →
+      fields findings (plain_inits is) direct before within s ≡ in_turn (field_step direct) (out-Inits is).items.items before s
+  fields_are is direct before s =
+      ap (λ x. fields findings x direct before within s) (plain_inits-items is) ∙ fields_in (out-Inits is).items.items direct before s
 
   dec_then : (d : CodeDec) (rest : Decs) (before : Stms) (s : State) →
       declarations findings (plain_dec d rest) before within s

@@ -61,16 +61,18 @@ hold true before (Temp t) =
     give (record { before = before; operand = Kept (record { 0 = t }) })
 hold direct before x = keep before x
 
+-- values that are kept, one after another
 pub record HeldAll : Type 0 where
   pub before : Stms
   pub operands : List Operand
 
--- one after another, behind those that are kept
-abbrev pub hold_all : (direct : Bool) → Stms → Txs → List Operand → Acts HeldAll
-hold_all direct before no_txs kept = give (record { before = before; operands = kept })
-hold_all direct before (tx x xs) kept = do
-  h ← hold direct before x
-  hold_all direct h.before xs (kept ++ h.operand ∷ [])
+abbrev pub none_held : HeldAll
+none_held = record { before = no_stms; operands = [] }
+
+abbrev pub hold_next : (direct : Bool) → HeldAll → Tx → Acts HeldAll
+hold_next direct all x = do
+  h ← hold direct all.before x
+  give (record { before = h.before; operands = all.operands ++ h.operand ∷ [] })
 
 -- Frames and static links (chapter 6). Slot k is the word 4·(k + 1) bytes below the frame address.
 -- A link that stands in a slot stands in the first one, since it is the first parameter.
@@ -217,9 +219,8 @@ record_of r all =
     r 0 all.operands)
     (Temp r)
 
-abbrev pub make_record : (direct : Bool) → Txs → Acts Made
-make_record direct xs = do
-  all ← hold_all direct no_stms xs []
+abbrev pub make_record : HeldAll → Acts Made
+make_record all = do
   r ← fresh
   give (record_of r all)
 

@@ -12,7 +12,7 @@ use Rattle.tg_translate.specs.declared.wants.Want.TheVariants as want
 use Rattle.tg_translate.specs.declared.homes.Within.{Within}
 use Rattle.tg_translate.specs.States.{Acts, ◌>>=◌, ◌>>◌, give}
 use Rattle.tg_translate.specs.Wants.{Made, value, done, value_from, condition_from, arm_from, statement_from, behind}
-use Rattle.tg_translate.specs.Constructs.{Place, want_for, assign, element_place, make_record, make_array, repeat_while, in_body, count}
+use Rattle.tg_translate.specs.Constructs.{Place, none_held, want_for, assign, element_place, make_record, make_array, repeat_while, in_body, count}
 use Rattle.tg_translate.specs.Scopes.{Findings, call, declare_variable}
 use Rattle.tg_translate.specs.Purity.{assigns_nothing, inits_assign_nothing}
 use Rattle.tg_translate.specs.Functions.{at_of, body}
@@ -47,8 +47,8 @@ module _ (findings : Findings) where
 
   abbrev pub made_record : Inits → Within → Acts Made
   made_record inits within = do
-    xs ← fields findings inits no_txs within
-    make_record (inits_assign_nothing inits) xs
+    all ← fields findings inits (inits_assign_nothing inits) none_held within
+    make_record all
 
   abbrev pub filled : (size : Tx) → Exp → Within → Acts Made
   filled size item within = do

@@ -16,7 +16,7 @@ use Rattle.tg_translate.specs.declared.wants.Want.TheVariants as want
 use Rattle.tg_translate.specs.declared.homes.Within.{Within}
 use Rattle.tg_translate.specs.States.{Acts, ◌>>=◌, ◌>>◌, give, next_label}
 use Rattle.tg_translate.specs.Wants.{Made, value, done, test_of, value_of, value_from, condition_from, arm_from, statement_from, arms, deliver, followed, behind, test, dropped}
-use Rattle.tg_translate.specs.Constructs.{Place, in_temp, at_address, own_place, read, want_for, assign, field_place, element_place, make_record, make_array, operation, negation, repeat_while, in_body, in_test, count}
+use Rattle.tg_translate.specs.Constructs.{Place, HeldAll, none_held, hold_next, in_temp, at_address, own_place, read, want_for, assign, field_place, element_place, make_record, make_array, operation, negation, repeat_while, in_body, in_test, count}
 use Rattle.tg_translate.specs.Scopes.{Findings, variable_place, field_number, compares_strings, call, literal, declare_variable}
 use Rattle.tg_translate.specs.Choices.{left_want, tested, chosen}
 use Rattle.tg_translate.specs.Purity.{assigns_nothing, inits_assign_nothing}
@@ -73,8 +73,8 @@ module _ (findings : Findings) where
       left ← expression a (left_want op) within
       with_left op (findings.meaning at) (assigns_nothing b) w left (λ v. expression b v within)
     expression (Make _ _ inits) w within = do
-      xs ← fields inits no_txs within
-      make_record (inits_assign_nothing inits) xs
+      all ← fields inits (inits_assign_nothing inits) none_held within
+      make_record all
     expression (Fill _ _ size item) w within = do
       x ← value_from (expression size want.Value within)
       y ← value_from (expression item want.Value within)
@@ -130,12 +130,13 @@ module _ (findings : Findings) where
       x ← value_from (expression e want.Value within)
       values rest (join_txs before (tx x no_txs)) within
 
-    -- fields of a creation, from the left
-    pub fields : Inits → Txs → Within → Acts Txs
-    fields no_inits before within = give before
-    fields (init _ e rest) before within = do
+    -- fields of a creation, from the left, which are kept behind those before them
+    pub fields : Inits → (direct : Bool) → HeldAll → Within → Acts HeldAll
+    fields no_inits direct before within = give before
+    fields (init _ e rest) direct before within = do
       x ← value_from (expression e want.Value within)
-      fields rest (join_txs before (tx x no_txs)) within
+      more ← hold_next direct before x
+      fields rest direct more within
 
     -- all but the last are dropped; the last is what its place wants
     pub sequence : Exps → Want → Stms → Within → Acts Begun

@@ -1,12 +1,12 @@
 ghost use Rattle.std.specs.Prelude.{◌≡◌, IfOk, OnOk, length};
 ghost use Rattle.tg_tree.specs.Plain.{plain_tx, plain_ts};
-ghost use Rattle.tg_tree.specs.Lists.{stms_of, txs_of};
+ghost use Rattle.tg_tree.specs.Lists.{stms_of};
 ghost use Rattle.tg_translate.specs.States.{drawn, state_of};
 ghost use Rattle.tg_translate.specs.Wants.{plain_made};
 ghost use Rattle.tg_translate.specs.Constructs as constructs;
 
 use crate::constructs::{bytes_of, call_with_one, plus};
-use crate::operands::{Operand, hold_all};
+use crate::operands::Operand;
 use crate::states::{State, next};
 use crate::wants::{Made, push, value_behind};
 use std::alloc::Global;
@@ -22,16 +22,19 @@ fn record_bytes(fields: usize) -> Result<u32, Memory>
     Ok(bytes_of(fields)?.max(4))
 }
 
-/// The values of fields are kept, the record is made, and then they are stored in it.
-pub(crate) fn make_record(state: &mut State, direct: bool, values: Vec<Tx>) -> Result<Made, Memory>
+/// A record whose fields' values are kept.
+pub(crate) fn make_record(
+    state: &mut State,
+    before: Vec<Ts>,
+    operands: &[Operand],
+) -> Result<Made, Memory>
     ensures { IfOk result (λ m.
-        constructs.make_record direct (txs_of values.items) (state_of state.old) ≡
-        drawn (plain_made m) (state_of state.new)) }
+        constructs.make_record
+        (record { before = stms_of before.items; operands = operands.now })
+        (state_of state.old) ≡ drawn (plain_made m) (state_of state.new)) }
 {
-    let mut done = Vec::new(state.alloc);
-    let operands = hold_all(state, direct, &mut done, values)?;
     let to = state.fresh()?;
-    Ok(record_of(state.alloc, to, done, &operands)?)
+    Ok(record_of(state.alloc, to, before, operands)?)
 }
 
 fn record_of(

@@ -1,4 +1,4 @@
-ghost use Rattle.std.specs.Prelude.{◌≡◌, IfOk, OnOk, is_some};
+ghost use Rattle.std.specs.Prelude.{◌≡◌, [], IfOk, OnOk, is_some};
 ghost use Rattle.tg_syntax.specs.Plain.{
   plain,
   plain_place as plain_var,
@@ -27,6 +27,7 @@ use crate::findings::Findings;
 use crate::functions::{begin, closing, declare_functions, inside, result_want};
 use crate::homes::Within;
 use crate::loops::{count, in_body, in_test, repeat_while};
+use crate::operands::{Operand, hold};
 use crate::operators::{chosen, compares_strings, left_want, negation, operation, tested};
 use crate::places::{
     Place, assign, declare_variable, element_place, field_number, field_place, own_place, read,
@@ -244,11 +245,14 @@ fn made_record(
     inits: &Inits,
     within: Within,
 ) -> Result<Made, Memory>
-    ensures { IfOk result (λ m. parts.made_record (findings_of findings.now) (plain_inits inits.now) within
+    ensures { IfOk result (λ m.
+        parts.made_record (findings_of findings.now) (plain_inits inits.now) within
         (state_of state.old) ≡ drawn (plain_made m) (state_of state.new)) }
 {
-    let values = fields(findings, state, inits, within)?;
-    Ok(make_record(state, inits_assign_nothing(inits), values)?)
+    let direct = inits_assign_nothing(inits);
+    let mut before = Vec::new(state.alloc);
+    let operands = fields(findings, state, &mut before, inits, direct, within)?;
+    Ok(make_record(state, before, &operands)?)
 }
 
 // An array of a size.
@@ -393,22 +397,29 @@ fn values(
     Ok(values)
 }
 
-// Fields of a creation, from the left.
+// Fields of a creation, from the left, which are kept.
 #[cycle(translation)]
 fn fields(
     findings: &Findings,
     state: &mut State,
+    before: &mut Vec<Ts>,
     inits: &Inits,
+    direct: bool,
     within: Within,
-) -> Result<Vec<Tx>, Memory>
-    ensures { IfOk result (λ xs. translation.fields (findings_of findings.now) (plain_inits inits.now) no_txs within
-        (state_of state.old) ≡ drawn (txs_of xs.items) (state_of state.new)) }
+) -> Result<Vec<Operand>, Memory>
+    ensures { IfOk result (λ all.
+        translation.fields (findings_of findings.now) (plain_inits inits.now) direct
+        (record { before = stms_of before.old.items; operands = [] }) within
+        (state_of state.old) ≡
+        drawn (record { before = stms_of before.new.items; operands = all.items })
+        (state_of state.new)) }
 {
-    let mut values = Vec::new(state.alloc);
+    let mut operands = Vec::new(state.alloc);
     for init in &inits.items {
-        values.push(value(findings, state, &init.value, within)?)?;
+        let value = value(findings, state, &init.value, within)?;
+        operands.push(hold(state, direct, before, value)?)?;
     }
-    Ok(values)
+    Ok(operands)
 }
 
 // Expressions behind statements: all but the last are dropped, the last is what their place wants.

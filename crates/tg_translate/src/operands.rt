@@ -1,6 +1,6 @@
-ghost use Rattle.std.specs.Prelude.{◌≡◌, [], length, IfOk};
+ghost use Rattle.std.specs.Prelude.{◌≡◌, IfOk};
 ghost use Rattle.tg_tree.specs.Plain.{plain_tx};
-ghost use Rattle.tg_tree.specs.Lists.{stms_of, txs_of};
+ghost use Rattle.tg_tree.specs.Lists.{stms_of};
 ghost use Rattle.tg_translate.specs.States.{drawn, state_of};
 ghost use Rattle.tg_translate.specs.Constructs as constructs;
 
@@ -54,24 +54,4 @@ fn keep(state: &mut State, before: &mut Vec<Ts>, value: Tx) -> Result<Operand, M
     let temp = state.fresh()?;
     before.push(Ts::Move(temp, value))?;
     Ok(Operand::Kept(temp))
-}
-
-/// Values are kept, one after another.
-pub(crate) fn hold_all(
-    state: &mut State,
-    direct: bool,
-    before: &mut Vec<Ts>,
-    values: Vec<Tx>,
-) -> Result<Vec<Operand>, Memory>
-    ensures { IfOk result (λ all.
-        constructs.hold_all direct (stms_of before.old.items) (txs_of values.items) []
-        (state_of state.old) ≡
-        drawn (record { before = stms_of before.new.items; operands = all.items })
-        (state_of state.new)) }
-{
-    let mut operands = Vec::new(state.alloc);
-    for value in values {
-        operands.push(hold(state, direct, before, value)?)?;
-    }
-    Ok(operands)
 }
