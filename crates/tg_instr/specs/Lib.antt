@@ -4,3 +4,7 @@ pub mod Uses
 pub mod Codes
 pub mod Lengths
 pub mod Renaming
+pub mod Contents
+pub mod Meaning
+pub mod Running
+pub mod Laws

@@ -1,6 +1,6 @@
 -- The operands that an instruction's text names, and the instruction with others in their places. A
 -- call, a service and a return name none: what they use and define besides is fixed.
-use Rattle.std.specs.Prelude.{ℕ, Option, Some, None, Bool, true, false, ◌≡◌, refl}
+use Rattle.std.specs.Prelude.{Option, Some, None, Bool, true, false, ◌≡◌, refl}
 use Rattle.tg_tree.specs.declared.operators.Rel.{Rel}
 use Rattle.tg_instr.specs.declared.operands.Opnd.{Opnd}
 use Rattle.tg_instr.specs.declared.instr.Test.{Test}

@@ -1,6 +1,6 @@
 -- What an instruction does, in a few shapes: every law of instructions has a case a shape and not a
 -- case an instruction.
-use Rattle.std.specs.Prelude.{ℕ, ◌+◌, ◌*◌, ◌==◌, if◌then◌else◌, Bool, nat_lt, Option, Some, None, bit_and, bit_or, bit_xor}
+use Rattle.std.specs.Prelude.{ℕ, ◌*◌, ◌==◌, if◌then◌else◌, nat_lt, Option, Some, None, bit_and, bit_or, bit_xor}
 use Rattle.tg_base.specs.Words.{add, sub, less, quot, rem, exact_sum, exact_difference, product_high, product_low, extended, extended_byte, shift_left, shift_right, shift_signed, neither, flag}
 use Rattle.tg_runs.specs.Ran.{Wrong}
 use Rattle.tg_tree.specs.declared.operators.Rel.{Rel}

@@ -1,4 +1,5 @@
 pub mod Product
+mod WrittenWords
 pub mod Texts
 pub mod Runs
 pub mod Reached

@@ -60,18 +60,16 @@ pub(crate) fn word_at(bytes: &Vec<u8>, at: usize) -> u32
     LittleEndian::read_u32(&bytes[at..])
 }
 
-/// The bytes of a word, little endian.
+/// Puts a word at a byte, little endian.
 #[inline(always)]
-fn bytes_of(value: u32) -> [u8; 4]
-    ensures { result
-        ≡ value % 256 ∷ value / 256 % 256 ∷ value / 65536 % 256 ∷ value / 16777216 ∷ [] }
+fn put_word(bytes: &mut [u8], at: usize, value: u32)
+    requires { at + 4 ≤ length bytes.old }
+    ensures { bytes.new ≡ state.set_word bytes.old at value }
 {
-    let mut word = [0; 4];
-    LittleEndian::write_u32(&mut word, value);
-    word
+    LittleEndian::write_u32(&mut bytes[at..], value);
 }
 
-/// Puts a word at a byte, little endian.
+/// Puts a word at a byte of a region, little endian.
 #[inline(always)]
 pub(crate) fn set_word(bytes: &mut Vec<u8>, at: usize, value: u32)
     requires { at + 4 ≤ length bytes.old.items }
@@ -79,11 +77,7 @@ pub(crate) fn set_word(bytes: &mut Vec<u8>, at: usize, value: u32)
     ensures length { length bytes.new.items ≡ length bytes.old.items }
     ensures capacity { vec_capacity bytes.new ≡ vec_capacity bytes.old }
 {
-    let word = bytes_of(value);
-    bytes[at] = word[0];
-    bytes[at + 1] = word[1];
-    bytes[at + 2] = word[2];
-    bytes[at + 3] = word[3];
+    put_word(bytes, at, value);
 }
 
 /// The signed sum, where it is in range.
