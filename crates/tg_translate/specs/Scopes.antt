@@ -28,15 +28,15 @@ pub record Findings : Type 0 where
   pub escapes : (at : ℕ) → Bool
   pub keeps_link : (at : ℕ) → Bool
 
-abbrev pub found : List Note → FinSet nat_cmp → Findings
-found notes escapes = record {
+abbrev pub found : List Note → (escapes links : FinSet nat_cmp) → Findings
+found notes escapes links = record {
   meaning = λ at. meaning_at at notes;
   escapes = λ at. contains escapes at;
-  keeps_link = λ at. true;
+  keeps_link = λ at. contains links at;
 }
 
 abbrev pub findings_of : CodeFindings → Findings
-findings_of f = found f.notes.now f.escapes.now
+findings_of f = found f.notes.now f.escapes.now f.links.now
 
 -- a part of a function's text: a level outwards is a static link
 abbrev pub frame_at : Within → (level : ℕ) → Tx

@@ -1,13 +1,15 @@
 ghost use Rattle.std.specs.Prelude.{◌≡◌};
 
-use tg_escape::Escapes;
+use tg_escape::{Escapes, Links};
 use tg_types::{Means, Notes};
 
-/// What the passes before found of a program: what its uses mean, and which variables escape.
+/// What the passes before found of a program: what its uses mean, which variables escape, and
+/// through the static links of which functions nested ones go.
 #[derive(Drop)]
 pub(crate) struct Findings<'a> {
     pub(crate) notes: &'a Notes,
     pub(crate) escapes: &'a Escapes,
+    pub(crate) links: &'a Links,
 }
 
 impl Findings<'_> {
@@ -31,7 +33,6 @@ impl Findings<'_> {
     pub(crate) fn keeps_link(&self, at: u32) -> bool
         ensures { result ≡ (findings_of self.now).keeps_link at }
     {
-        let _ = at;
-        true
+        self.links.has(at)
     }
 }

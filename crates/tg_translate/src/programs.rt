@@ -1,5 +1,7 @@
 ghost use Rattle.std.specs.Prelude.{◌≡◌, IfOk};
+ghost use Rattle.std.specs.FinSet.{from_list};
 ghost use Rattle.tg_syntax.specs.Plain.{plain};
+ghost use Rattle.tg_escape.specs.Links.{links_of};
 ghost use Rattle.tg_tree.specs.Plain.{plain_fragments};
 ghost use Rattle.tg_translate.specs.Scopes.{found};
 ghost use Rattle.tg_translate.specs.Translate as translation;
@@ -12,7 +14,7 @@ use crate::states::{State, frame_of};
 use crate::wants::Want;
 use std::alloc::Global;
 use tg_base::{Label, Memory};
-use tg_escape::Escapes;
+use tg_escape::{Escapes, links};
 use tg_tree::Fragments;
 use tg_types::Checked;
 
@@ -24,12 +26,15 @@ const BODY: u32 = 32;
 /// fails for want of memory alone.
 pub fn translate(alloc: Global, checked: &Checked, escapes: &Escapes) -> Result<Fragments, Memory>
     ensures { IfOk result (λ code. plain_fragments code ≡
-        translation.translated (found checked.now.notes escapes.now)
+        translation.translated
+        (found checked.now.notes escapes.now (from_list (links_of (plain checked.now.program.body))))
         (plain checked.now.program.body)) }
 {
+    let links = links(alloc, checked)?;
     let findings = Findings {
         notes: &checked.notes,
         escapes,
+        links: &links,
     };
     let frame = frame_of(alloc, Label(BODY), &[])?;
     let mut state = State::new(alloc, BODY + 1, frame);
