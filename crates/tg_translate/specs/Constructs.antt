@@ -25,7 +25,7 @@ use Rattle.tg_translate.specs.declared.wants.Want.{Want}
 use Rattle.tg_translate.specs.declared.wants.Want.TheVariants as want
 use Rattle.tg_translate.specs.declared.homes.Within.{Within}
 use Rattle.tg_translate.specs.States.{Acts, ◌>>=◌, ◌>>◌, give, fresh}
-use Rattle.tg_translate.specs.Wants.{Made, value, done, test, put_in, value_of, followed, value_behind}
+use Rattle.tg_translate.specs.Wants.{Made, value, done, test, put_in, value_of, is_none, followed, value_behind}
 
 abbrev pub minus_one : ℕ
 minus_one = 4294967295
@@ -112,16 +112,14 @@ abbrev pub own_place : Access → Place
 own_place home = place_in FrameAddress home
 
 abbrev pub after_all : Stms → Tx → Tx
-after_all no_stms x = x
-after_all ss x = After (Seq ss) x
+after_all ss x = if is_none ss then x else After (Seq ss) x
 
 abbrev pub read : Place → Tx
 read (in_temp t) = Temp t
 read (at_address before a) = after_all before (Load a)
 
 abbrev pub store_at : Stms → (address value : Tx) → Ts
-store_at no_stms a x = Store a x
-store_at before a x = Seq (followed before (Store a x))
+store_at ss a x = if is_none ss then Store a x else Seq (followed ss (Store a x))
 
 -- what an assignment wants of its right side, and a declaration of its value
 abbrev pub want_for : Place → Want

@@ -1,6 +1,6 @@
 -- What an expression becomes: a value, a statement, or a condition (Appel, chapter 7: Ex, Nx, Cx),
 -- and how each is made what its place wants.
-use Rattle.std.specs.Prelude.{ℕ}
+use Rattle.std.specs.Prelude.{ℕ, Bool, true, false, if◌then◌else◌}
 use Rattle.tg_tree.specs.declared.operators.Rel.TheVariants.{NotEqual}
 use Rattle.tg_tree.specs.Tree.{Tx, Const, Temp, After, Cond, Compare, Ts, Move, Do, If, Seq, Stms, no_stms, stm}
 use Rattle.tg_tree.specs.Forms.{nothing}
@@ -75,6 +75,10 @@ deliver (Into _) arms s = done s
 deliver Dropped arms s = done s
 deliver _ arms s = taken_from arms s
 
+abbrev pub is_none : Stms → Bool
+is_none no_stms = true
+is_none (stm s ss) = false
+
 -- a statement behind others
 abbrev pub followed : Stms → Ts → Stms
 followed ss s = join_stms ss (stm s no_stms)
@@ -86,13 +90,15 @@ abbrev pub done_behind : Want → Stms → Made → Made
 done_behind want ss m = done (Seq (followed ss (as_statement want m)))
 
 -- what was made, behind statements
-abbrev pub behind : Want → Stms → Made → Acts Made
-behind want no_stms m = give m
-behind (Into t) ss m = give (done_behind (Into t) ss m)
-behind Dropped ss m = give (done_behind Dropped ss m)
-behind _ ss m = do
+abbrev pub behind_some : Want → Stms → Made → Acts Made
+behind_some (Into t) ss m = give (done_behind (Into t) ss m)
+behind_some Dropped ss m = give (done_behind Dropped ss m)
+behind_some _ ss m = do
   x ← value_of m
   give (value_behind ss x)
+
+abbrev pub behind : Want → Stms → Made → Acts Made
+behind want ss m = if is_none ss then give m else behind_some want ss m
 
 -- what an expression's place makes of it
 

@@ -14,7 +14,7 @@ use crate::findings::Findings;
 use crate::homes::{Home, Within};
 use crate::operands::{Operand, hold};
 use crate::states::State;
-use crate::wants::{Made, Want, push, put_in, value_of};
+use crate::wants::{Made, Want, is_none, push, put_in, value_of};
 use std::alloc::Global;
 use tg_base::{Memory, Temp};
 use tg_frame::{Access, link_path};
@@ -128,7 +128,7 @@ fn after_all(alloc: Global, before: Vec<Ts>, value: Tx) -> Result<Tx, Memory>
     ensures { IfOk result (λ x. plain_tx x ≡
         constructs.after_all (stms_of before.items) (plain_tx value)) }
 {
-    if before.is_empty() {
+    if is_none(&before) {
         return Ok(value);
     }
     Ok(after(alloc, sequence(before), value)?)
@@ -139,7 +139,7 @@ fn store_at(before: Vec<Ts>, address: Tx, value: Tx) -> Result<Ts, Memory>
         constructs.store_at (stms_of before.items) (plain_tx address) (plain_tx value)) }
 {
     let store = Ts::Store(address, value);
-    if before.is_empty() {
+    if is_none(&before) {
         return Ok(store);
     }
     let mut done = before;

@@ -149,7 +149,16 @@ pub(crate) fn value_behind(alloc: Global, before: Vec<Ts>, value: Tx) -> Result<
     Ok(Made::Value(after(alloc, sequence(before), value)?))
 }
 
+/// Whether there is no statement.
+#[tactic(auto, using(crate::proofs::Lists::length_is_none))]
+pub(crate) fn is_none(statements: &[Ts]) -> bool
+    ensures { result ≡ wants.is_none (stms_of statements.now) }
+{
+    statements.is_empty()
+}
+
 /// A statement behind others.
+#[tactic(auto, using(crate::proofs::Lists::pushed))]
 pub(crate) fn push(statements: &mut Vec<Ts>, last: Ts) -> Result<(), Memory>
     ensures { OnOk result (stms_of statements.new.items ≡
         wants.followed (stms_of statements.old.items) (plain_ts last)) }
@@ -169,9 +178,17 @@ pub(crate) fn behind(
         wants.behind want (stms_of before.items) (plain_made made) (state_of state.old) ≡
         drawn (plain_made m) (state_of state.new)) }
 {
-    if before.is_empty() {
+    if is_none(&before) {
         return Ok(made);
     }
+    Ok(behind_some(state, want, before, made)?)
+}
+
+fn behind_some(state: &mut State, want: Want, before: Vec<Ts>, made: Made) -> Result<Made, Memory>
+    ensures { IfOk result (λ m.
+        wants.behind_some want (stms_of before.items) (plain_made made) (state_of state.old) ≡
+        drawn (plain_made m) (state_of state.new)) }
+{
     match want {
         Want::Into(_) | Want::Dropped => Ok(done_behind(state.alloc, want, before, made)?),
         Want::Value | Want::Test => {
