@@ -1,25 +1,3 @@
-ghost use Rattle.std.specs.Prelude.{◌≡◌, [], IfOk, OnOk, is_some};
-ghost use Rattle.tg_syntax.specs.Plain.{
-  plain,
-  plain_place as plain_var,
-  plain_exps,
-  plain_inits,
-  plain_dec,
-  plain_functions,
-};
-ghost use Rattle.tg_syntax.specs.Lists.{decs_of};
-ghost use Rattle.tg_syntax.specs.Tree.{no_decs};
-ghost use Rattle.tg_tree.specs.Plain.{plain_tx, plain_cond, plain_ts};
-ghost use Rattle.tg_tree.specs.Tree.{no_txs, no_stms};
-ghost use Rattle.tg_tree.specs.Lists.{txs_of, stms_of};
-ghost use Rattle.tg_translate.specs.States.{drawn, state_of};
-ghost use Rattle.tg_translate.specs.Wants.{plain_made};
-ghost use Rattle.tg_translate.specs.Constructs.{plain_place};
-ghost use Rattle.tg_translate.specs.Scopes.{findings_of};
-ghost use Rattle.tg_translate.specs.Functions as functions;
-ghost use Rattle.tg_translate.specs.Translate as translation;
-ghost use Rattle.tg_translate.specs.Parts as parts;
-
 use crate::calls::{call_by, literal};
 use crate::constructs::call_with_two;
 use crate::creation::make_record;
@@ -51,10 +29,7 @@ pub(crate) fn expression(
     e: &Exp,
     want: Want,
     within: Within,
-) -> Result<Made, Memory>
-    ensures { IfOk result (λ m. translation.expression (findings_of findings.now) (plain e.now) want within
-        (state_of state.old) ≡ drawn (plain_made m) (state_of state.new)) }
-{
+) -> Result<Made, Memory> {
     match &e.kind {
         Kind::Nil => Ok(Made::Value(Tx::Const(0))),
         Kind::Int(number) => Ok(Made::Value(Tx::Const(*number))),
@@ -71,16 +46,16 @@ pub(crate) fn expression(
         }
         Kind::Binary(op, at, a, b) => {
             let left = expression(findings, state, a, left_want(*op), within)?;
-            Ok(with_left(findings, state, *op, *at, left, b, want, within)?)
+            Ok(with_left(findings, state, b, *op, *at, left, want, within)?)
         }
         Kind::Make(_, inits) => Ok(made_record(findings, state, inits, within)?),
         Kind::Fill(_, size, item) => {
             let size = value(findings, state, size, within)?;
-            Ok(filled(findings, state, size, item, within)?)
+            Ok(filled(findings, state, item, size, within)?)
         }
         Kind::Assign(place, a) => {
             let place = locate(findings, state, place, within)?;
-            Ok(assigned(findings, state, place, a, within)?)
+            Ok(assigned(findings, state, a, place, within)?)
         }
         Kind::If(test, this, Some(other)) => {
             let test = condition(findings, state, test, within)?;
@@ -92,34 +67,31 @@ pub(crate) fn expression(
         }
         Kind::If(test, this, None) => {
             let test = condition(findings, state, test, within)?;
-            Ok(when_true(findings, state, test, this, within)?)
+            Ok(when_true(findings, state, this, test, within)?)
         }
         Kind::While(test, body) => {
             let test = condition(findings, state, test, in_test(within)?)?;
-            Ok(turned(findings, state, test, body, within)?)
+            Ok(turned(findings, state, body, test, within)?)
         }
         Kind::For(x, low, high, body) => {
             let low = value(findings, state, low, within)?;
             let high = value(findings, state, high, within)?;
-            Ok(counted(findings, state, *x, low, high, body, within)?)
+            Ok(counted(findings, state, body, *x, low, high, within)?)
         }
         Kind::Let(decs, body) => {
             let before = declarations(findings, state, decs, within)?;
-            Ok(sequence(findings, state, before, body, want, within)?)
+            Ok(sequence(findings, state, body, before, want, within)?)
         }
         Kind::Seq(items) => {
             let before = Vec::new(state.alloc);
-            Ok(sequence(findings, state, before, items, want, within)?)
+            Ok(sequence(findings, state, items, before, want, within)?)
         }
     }
 }
 
 // The value of an expression.
 #[cycle(translation)]
-fn value(findings: &Findings, state: &mut State, e: &Exp, within: Within) -> Result<Tx, Memory>
-    ensures { IfOk result (λ x. parts.value_in (findings_of findings.now) (plain e.now) within
-        (state_of state.old) ≡ drawn (plain_tx x) (state_of state.new)) }
-{
+fn value(findings: &Findings, state: &mut State, e: &Exp, within: Within) -> Result<Tx, Memory> {
     let made = expression(findings, state, e, Want::Value, within)?;
     Ok(value_of(state, made)?)
 }
@@ -131,20 +103,19 @@ fn condition(
     state: &mut State,
     e: &Exp,
     within: Within,
-) -> Result<Cond, Memory>
-    ensures { IfOk result (λ x. parts.condition_in (findings_of findings.now) (plain e.now) within
-        (state_of state.old) ≡ drawn (plain_cond x) (state_of state.new)) }
-{
+) -> Result<Cond, Memory> {
     let made = expression(findings, state, e, Want::Test, within)?;
     Ok(test_of(state.alloc, made)?)
 }
 
 // The statement that does an expression, without its value.
 #[cycle(translation)]
-fn statement(findings: &Findings, state: &mut State, e: &Exp, within: Within) -> Result<Ts, Memory>
-    ensures { IfOk result (λ x. parts.statement_in (findings_of findings.now) (plain e.now) within
-        (state_of state.old) ≡ drawn (plain_ts x) (state_of state.new)) }
-{
+fn statement(
+    findings: &Findings,
+    state: &mut State,
+    e: &Exp,
+    within: Within,
+) -> Result<Ts, Memory> {
     let made = expression(findings, state, e, Want::Dropped, within)?;
     Ok(dropped(state.alloc, made)?)
 }
@@ -157,10 +128,7 @@ fn arm(
     e: &Exp,
     arms: Want,
     within: Within,
-) -> Result<Ts, Memory>
-    ensures { IfOk result (λ x. parts.arm_in (findings_of findings.now) (plain e.now) arms within
-        (state_of state.old) ≡ drawn (plain_ts x) (state_of state.new)) }
-{
+) -> Result<Ts, Memory> {
     let made = expression(findings, state, e, arms, within)?;
     Ok(as_statement(state.alloc, arms, made)?)
 }
@@ -172,10 +140,7 @@ fn called(
     f: Ident,
     arguments: &Exps,
     within: Within,
-) -> Result<Made, Memory>
-    ensures { IfOk result (λ m. parts.called (findings_of findings.now) f (plain_exps arguments.now) within
-        (state_of state.old) ≡ drawn (plain_made m) (state_of state.new)) }
-{
+) -> Result<Made, Memory> {
     let arguments = values(findings, state, arguments, within)?;
     let meaning = findings.meaning(f.span.from);
     Ok(Made::Value(call_by(state, within, meaning, arguments)?))
@@ -186,20 +151,17 @@ fn called(
 fn with_left(
     findings: &Findings,
     state: &mut State,
+    b: &Exp,
     op: Op,
     at: u32,
     left: Made,
-    b: &Exp,
     want: Want,
     within: Within,
-) -> Result<Made, Memory>
-    ensures { IfOk result (λ m. parts.with_left_in (findings_of findings.now) op at (plain_made left) (plain b.now) want within
-        (state_of state.old) ≡ drawn (plain_made m) (state_of state.new)) }
-{
+) -> Result<Made, Memory> {
     match op {
         Op::And | Op::Or => {
             let left = test_of(state.alloc, left)?;
-            Ok(connective(findings, state, op, left, b, want, within)?)
+            Ok(connective(findings, state, b, op, left, want, within)?)
         }
         _ => {
             let left = value_of(state, left)?;
@@ -215,15 +177,12 @@ fn with_left(
 fn connective(
     findings: &Findings,
     state: &mut State,
+    b: &Exp,
     op: Op,
     left: Cond,
-    b: &Exp,
     want: Want,
     within: Within,
-) -> Result<Made, Memory>
-    ensures { IfOk result (λ m. parts.connective_in (findings_of findings.now) op (plain_cond left) (plain b.now) want within
-        (state_of state.old) ≡ drawn (plain_made m) (state_of state.new)) }
-{
+) -> Result<Made, Memory> {
     match want {
         Want::Test => {
             let right = expression(findings, state, b, Want::Test, within)?;
@@ -244,14 +203,10 @@ fn made_record(
     state: &mut State,
     inits: &Inits,
     within: Within,
-) -> Result<Made, Memory>
-    ensures { IfOk result (λ m.
-        parts.made_record (findings_of findings.now) (plain_inits inits.now) within
-        (state_of state.old) ≡ drawn (plain_made m) (state_of state.new)) }
-{
+) -> Result<Made, Memory> {
     let direct = inits_assign_nothing(inits);
     let mut before = Vec::new(state.alloc);
-    let operands = fields(findings, state, &mut before, inits, direct, within)?;
+    let operands = fields(findings, state, inits, &mut before, direct, within)?;
     Ok(make_record(state, before, &operands)?)
 }
 
@@ -260,13 +215,10 @@ fn made_record(
 fn filled(
     findings: &Findings,
     state: &mut State,
-    size: Tx,
     item: &Exp,
+    size: Tx,
     within: Within,
-) -> Result<Made, Memory>
-    ensures { IfOk result (λ m. parts.filled (findings_of findings.now) (plain_tx size) (plain item.now) within
-        (state_of state.old) ≡ drawn (plain_made m) (state_of state.new)) }
-{
+) -> Result<Made, Memory> {
     let item = value(findings, state, item, within)?;
     let array = call_with_two(state.alloc, Routine::MakeArray, size, item)?;
     Ok(Made::Value(array))
@@ -277,13 +229,10 @@ fn filled(
 fn assigned(
     findings: &Findings,
     state: &mut State,
-    place: Place,
     e: &Exp,
+    place: Place,
     within: Within,
-) -> Result<Made, Memory>
-    ensures { IfOk result (λ m. parts.assigned (findings_of findings.now) (plain_place place) (plain e.now) within
-        (state_of state.old) ≡ drawn (plain_made m) (state_of state.new)) }
-{
+) -> Result<Made, Memory> {
     let made = expression(findings, state, e, want_for(&place), within)?;
     Ok(Made::Done(assign(state, place, made)?))
 }
@@ -292,13 +241,10 @@ fn assigned(
 fn when_true(
     findings: &Findings,
     state: &mut State,
-    test: Cond,
     this: &Exp,
+    test: Cond,
     within: Within,
-) -> Result<Made, Memory>
-    ensures { IfOk result (λ m. parts.when_true (findings_of findings.now) (plain_cond test) (plain this.now) within
-        (state_of state.old) ≡ drawn (plain_made m) (state_of state.new)) }
-{
+) -> Result<Made, Memory> {
     let this = statement(findings, state, this, within)?;
     let none = nothing(state.alloc);
     Ok(Made::Done(if_else(state.alloc, test, this, none)?))
@@ -308,13 +254,10 @@ fn when_true(
 fn turned(
     findings: &Findings,
     state: &mut State,
-    test: Cond,
     body: &Exp,
+    test: Cond,
     within: Within,
-) -> Result<Made, Memory>
-    ensures { IfOk result (λ m. parts.turned (findings_of findings.now) (plain_cond test) (plain body.now) within
-        (state_of state.old) ≡ drawn (plain_made m) (state_of state.new)) }
-{
+) -> Result<Made, Memory> {
     let turn = statement(findings, state, body, in_body(within))?;
     Ok(Made::Done(repeat_while(state.alloc, test, turn)?))
 }
@@ -323,15 +266,12 @@ fn turned(
 fn counted(
     findings: &Findings,
     state: &mut State,
+    body: &Exp,
     x: Ident,
     low: Tx,
     high: Tx,
-    body: &Exp,
     within: Within,
-) -> Result<Made, Memory>
-    ensures { IfOk result (λ m. parts.counted (findings_of findings.now) x (plain_tx low) (plain_tx high) (plain body.now) within
-        (state_of state.old) ≡ drawn (plain_made m) (state_of state.new)) }
-{
+) -> Result<Made, Memory> {
     let variable = declare_variable(findings, state, within.level, x.span.from)?;
     let turn = statement(findings, state, body, in_body(within))?;
     Ok(Made::Done(count(state, variable, low, high, turn)?))
@@ -343,10 +283,7 @@ fn locate(
     state: &mut State,
     place: &Var,
     within: Within,
-) -> Result<Place, Memory>
-    ensures { IfOk result (λ p. translation.locate (findings_of findings.now) (plain_var place.now) within
-        (state_of state.old) ≡ drawn (plain_place p) (state_of state.new)) }
-{
+) -> Result<Place, Memory> {
     match place {
         Var::Simple(x) => Ok(variable_place(state, within, findings.meaning(x.span.from))?),
         Var::Field(of, field) => {
@@ -358,7 +295,7 @@ fn locate(
         Var::Index(of, index) => {
             let of = locate(findings, state, of, within)?;
             let array = read(state.alloc, of)?;
-            Ok(indexed(findings, state, array, index, within)?)
+            Ok(indexed(findings, state, index, array, within)?)
         }
     }
 }
@@ -368,13 +305,10 @@ fn locate(
 fn indexed(
     findings: &Findings,
     state: &mut State,
-    array: Tx,
     index: &Exp,
+    array: Tx,
     within: Within,
-) -> Result<Place, Memory>
-    ensures { IfOk result (λ p. parts.indexed (findings_of findings.now) (plain_tx array) (plain index.now) within
-        (state_of state.old) ≡ drawn (plain_place p) (state_of state.new)) }
-{
+) -> Result<Place, Memory> {
     let value = value(findings, state, index, within)?;
     Ok(element_place(state, assigns_nothing(index), array, value)?)
 }
@@ -386,10 +320,7 @@ fn values(
     state: &mut State,
     exps: &Exps,
     within: Within,
-) -> Result<Vec<Tx>, Memory>
-    ensures { IfOk result (λ xs. translation.values (findings_of findings.now) (plain_exps exps.now) no_txs within
-        (state_of state.old) ≡ drawn (txs_of xs.items) (state_of state.new)) }
-{
+) -> Result<Vec<Tx>, Memory> {
     let mut values = Vec::new(state.alloc);
     for e in &exps.items {
         values.push(value(findings, state, e, within)?)?;
@@ -402,18 +333,11 @@ fn values(
 fn fields(
     findings: &Findings,
     state: &mut State,
-    before: &mut Vec<Ts>,
     inits: &Inits,
+    before: &mut Vec<Ts>,
     direct: bool,
     within: Within,
-) -> Result<Vec<Operand>, Memory>
-    ensures { IfOk result (λ all.
-        translation.fields (findings_of findings.now) (plain_inits inits.now) direct
-        (record { before = stms_of before.old.items; operands = [] }) within
-        (state_of state.old) ≡
-        drawn (record { before = stms_of before.new.items; operands = all.items })
-        (state_of state.new)) }
-{
+) -> Result<Vec<Operand>, Memory> {
     let mut operands = Vec::new(state.alloc);
     for init in &inits.items {
         let value = value(findings, state, &init.value, within)?;
@@ -427,14 +351,11 @@ fn fields(
 fn sequence(
     findings: &Findings,
     state: &mut State,
-    mut before: Vec<Ts>,
     exps: &Exps,
+    mut before: Vec<Ts>,
     want: Want,
     within: Within,
-) -> Result<Made, Memory>
-    ensures { IfOk result (λ m. parts.sequence_in (findings_of findings.now) (plain_exps exps.now) want (stms_of before.items) within
-        (state_of state.old) ≡ drawn (plain_made m) (state_of state.new)) }
-{
+) -> Result<Made, Memory> {
     let mut last = Made::Value(Tx::Const(0));
     let mut left = exps.items.len();
     for e in &exps.items {
@@ -455,14 +376,10 @@ fn declarations(
     state: &mut State,
     decs: &Decs,
     within: Within,
-) -> Result<Vec<Ts>, Memory>
-    ensures { IfOk result (λ ss.
-        translation.declarations (findings_of findings.now) (decs_of decs.now.items.items) no_stms within
-        (state_of state.old) ≡ drawn (stms_of ss.items) (state_of state.new)) }
-{
+) -> Result<Vec<Ts>, Memory> {
     let mut before = Vec::new(state.alloc);
     for dec in &decs.items {
-        declaration(findings, state, &mut before, dec, within)?;
+        declaration(findings, state, dec, &mut before, within)?;
     }
     Ok(before)
 }
@@ -471,14 +388,10 @@ fn declarations(
 fn declaration(
     findings: &Findings,
     state: &mut State,
-    before: &mut Vec<Ts>,
     dec: &Dec,
+    before: &mut Vec<Ts>,
     within: Within,
-) -> Result<(), Memory>
-    ensures { OnOk result (
-        translation.declarations (findings_of findings.now) (plain_dec dec.now no_decs) (stms_of before.old.items) within
-        (state_of state.old) ≡ drawn (stms_of before.new.items) (state_of state.new)) }
-{
+) -> Result<(), Memory> {
     match dec {
         Dec::Types(_) => Ok(()),
         Dec::Variable(x, _, e) => {
@@ -501,10 +414,7 @@ fn variable(
     x: Ident,
     e: &Exp,
     within: Within,
-) -> Result<Ts, Memory>
-    ensures { IfOk result (λ s. parts.variable_in (findings_of findings.now) x (plain e.now) within
-        (state_of state.old) ≡ drawn (plain_ts s) (state_of state.new)) }
-{
+) -> Result<Ts, Memory> {
     let home = declare_variable(findings, state, within.level, x.span.from)?;
     let place = own_place(state.alloc, home)?;
     let made = expression(findings, state, e, want_for(&place), within)?;
@@ -519,11 +429,7 @@ fn bodies(
     group: &FunDecs,
     first: u32,
     within: Within,
-) -> Result<(), Memory>
-    ensures { OnOk result (
-        translation.bodies (findings_of findings.now) (plain_functions group.now) first within
-        (state_of state.old) ≡ drawn tt (state_of state.new)) }
-{
+) -> Result<(), Memory> {
     let mut label = first;
     for function in &group.items {
         body(findings, state, function, Label(label), within)?;
@@ -540,11 +446,7 @@ fn body(
     function: &FunDec,
     label: Label,
     within: Within,
-) -> Result<(), Memory>
-    ensures { OnOk result (
-        parts.body_in (findings_of findings.now) function.now label.0 within
-        (state_of state.old) ≡ drawn tt (state_of state.new)) }
-{
+) -> Result<(), Memory> {
     let kept = findings.keeps_link(function.name.span.from);
     let inner = inside(within, kept)?;
     let outer = begin(

@@ -23,10 +23,7 @@ fn asked(
     findings: &Findings,
     link_in_slot: bool,
     params: &[Param],
-) -> Result<Vec<bool>, Memory>
-    ensures { IfOk result (λ v. v.items ≡
-        functions.asked (findings_of findings.now).escapes link_in_slot params.now) }
-{
+) -> Result<Vec<bool>, Memory> {
     let mut asked = vec![in alloc; link_in_slot]?;
     for param in params {
         asked.push(findings.escapes(param.name.span.from))?;
@@ -56,10 +53,7 @@ fn declare_params(
     level: u32,
     params: &[Param],
     homes: &[Access],
-) -> Result<(), Memory>
-    ensures { OnOk result (functions.declare_params level params.now
-        (functions.own_homes homes.now) (state_of state.old) ≡ drawn tt (state_of state.new)) }
-{
+) -> Result<(), Memory> {
     let mut at = 1;
     for param in params {
         if at >= homes.len() {
@@ -80,10 +74,7 @@ pub(crate) fn declare_functions(
     state: &mut State,
     level: u32,
     group: &FunDecs,
-) -> Result<(), Memory>
-    ensures { OnOk result (functions.declare_functions level (plain_functions group.now)
-        (state_of state.old) ≡ drawn tt (state_of state.new)) }
-{
+) -> Result<(), Memory> {
     for function in &group.items {
         let label = state.draw_label()?;
         state

@@ -5,6 +5,7 @@ ghost use Rattle.tg_translate.specs.States.{drawn, state_of};
 ghost use Rattle.tg_translate.specs.Constructs as constructs;
 
 use crate::states::State;
+use crate::wants::push;
 use tg_base::{Memory, Temp};
 use tg_tree::{Ts, Tx};
 
@@ -52,6 +53,6 @@ fn keep(state: &mut State, before: &mut Vec<Ts>, value: Tx) -> Result<Operand, M
         drawn (record { before = stms_of before.new.items; operand = o }) (state_of state.new)) }
 {
     let temp = state.fresh()?;
-    before.push(Ts::Move(temp, value))?;
+    push(before, Ts::Move(temp, value))?;
     Ok(Operand::Kept(temp))
 }

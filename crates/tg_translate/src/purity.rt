@@ -1,15 +1,9 @@
-ghost use Rattle.std.specs.Prelude.{◌≡◌};
-ghost use Rattle.tg_syntax.specs.Plain.{plain, plain_place, plain_exps, plain_inits};
-ghost use Rattle.tg_translate.specs.Purity as purity;
-
 use tg_syntax::{Exp, Exps, Inits, Kind, Var};
 
 /// Whether an expression assigns no variable of the function that it stands in. A call assigns none,
 /// since what a nested function assigns escapes.
 #[cycle(purity)]
-pub(crate) fn assigns_nothing(e: &Exp) -> bool
-    ensures { result ≡ purity.assigns_nothing (plain e.now) }
-{
+pub(crate) fn assigns_nothing(e: &Exp) -> bool {
     match &e.kind {
         Kind::Nil | Kind::Int(_) | Kind::Text(_) => true,
         Kind::Read(place) => place_assigns_nothing(place),
@@ -25,9 +19,7 @@ pub(crate) fn assigns_nothing(e: &Exp) -> bool
 }
 
 #[cycle(purity)]
-fn place_assigns_nothing(place: &Var) -> bool
-    ensures { result ≡ purity.place_assigns_nothing (plain_place place.now) }
-{
+fn place_assigns_nothing(place: &Var) -> bool {
     match place {
         Var::Simple(_) => true,
         Var::Field(of, _) => place_assigns_nothing(of),
@@ -36,9 +28,7 @@ fn place_assigns_nothing(place: &Var) -> bool
 }
 
 #[cycle(purity)]
-fn all_assign_nothing(exps: &Exps) -> bool
-    ensures { result ≡ purity.all_assign_nothing (plain_exps exps.now) }
-{
+fn all_assign_nothing(exps: &Exps) -> bool {
     for e in &exps.items {
         if !assigns_nothing(e) {
             return false;
@@ -49,9 +39,7 @@ fn all_assign_nothing(exps: &Exps) -> bool
 
 /// Whether the fields of a creation assign no variable of the function that they stand in.
 #[cycle(purity)]
-pub(crate) fn inits_assign_nothing(inits: &Inits) -> bool
-    ensures { result ≡ purity.inits_assign_nothing (plain_inits inits.now) }
-{
+pub(crate) fn inits_assign_nothing(inits: &Inits) -> bool {
     for init in &inits.items {
         if !assigns_nothing(&init.value) {
             return false;
