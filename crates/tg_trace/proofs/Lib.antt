@@ -1,0 +1,4 @@
+mod Examples
+pub mod Backs
+pub mod Rests
+pub mod Depths

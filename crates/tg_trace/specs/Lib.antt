@@ -1,0 +1,4 @@
+pub mod Block
+pub mod Cutting
+pub mod Laying
+pub mod Plains
