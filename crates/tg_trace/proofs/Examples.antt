@@ -31,7 +31,6 @@ on_less = Branch Less (Temp 0) (Const 3)
 abbrev on_equal : (yes' no' : ℕ) → End
 on_equal = Branch Equal (Temp 0) (Const 4)
 
-
 -- a loop with its test at its head
 abbrev a_loop : List Block
 a_loop = blocks_of (stms (set ∷ Loop (If less set (Break 0)) ∷ done ∷ []))

@@ -8,10 +8,12 @@ mod cuts;
 mod cutting;
 mod emission;
 mod flows;
+mod laws;
 mod orders;
 mod placing;
 mod traces;
 
 pub use cutting::blocks;
 pub use flows::{Block, Blocks, End};
+pub use laws::{blocks_are_well_formed, code_is_well_formed};
 pub use traces::trace;
