@@ -1,5 +1,5 @@
 -- Each shape of instruction changes its definitions alone, and reads its uses alone.
-use Rattle.std.proofs.Common.{◌≡◌, ℕ, ◌-◌, ◌==◌, ◌&&◌, ◌||◌, Bool, true, false, List, [], ◌∷◌, ◌++◌, map, nat_lt, if◌then◌else◌, refl, sym, ap, ◌∙◌}
+use Rattle.std.proofs.Common.{◌≡◌, ℕ, ◌-◌, ◌==◌, ◌&&◌, ◌||◌, Bool, true, false, List, [], ◌∷◌, ◌++◌, map, nat_lt, if◌then◌else◌, refl, ap}
 use Rattle.std.proofs.lemmas.Bool.{eqb-true}
 use Rattle.tg_tree.specs.Actions.{World, Activation, wrong, with_word, with_given, with_memory, service}
 use Rattle.tg_tree.specs.Operators.{holds}
@@ -8,10 +8,10 @@ use Rattle.tg_base.specs.Words.{add}
 use Rattle.tg_instr.specs.declared.operands.Opnd.{Opnd}
 use Rattle.tg_instr.specs.declared.operands.Opnd.TheVariants.{Temp, Reg}
 use Rattle.tg_instr.specs.Operands.{is_same, registers}
-use Rattle.tg_instr.specs.Shapes.{Holder, Operand, Hi, Lo, Shape, From0, From1, From2, Halves, Copy, Loads, Stores, FromSlot, ToSlot, Base, AddressOf, Here, Goes, Tests, Calls, Asks, Fails, Returns}
+use Rattle.tg_instr.specs.Shapes.{Holder, Operand, Hi, Lo, From0, From1, From2, Halves, Copy, Loads, Stores, FromSlot, ToSlot, Base, AddressOf, Here, Goes, Tests, Calls, Asks, Fails, Returns}
 use Rattle.tg_instr.specs.Uses.{arguments, given_back}
 use Rattle.tg_instr.specs.Contents.{Content, Nothing, Word, Contents, is_holder, set, held, handed, is_in, is_among, at_entry, left_unset, after_call, is_found, gives_back, content_of}
-use Rattle.tg_instr.specs.Meaning.{Next, Enter, Around, with_content_word, with_content, put_in, put_slot, jump, skip, act}
+use Rattle.tg_instr.specs.Meaning.{Next, Around, with_content_word, with_content, put_in, put_slot, jump, skip}
 use Rattle.tg_instr.specs.Laws as law
 use Rattle.tg_instr.specs.Laws.{within, only, Agree, changes, reads}
 
