@@ -1,0 +1,6 @@
+pub mod NameTexts
+pub mod Apart
+pub mod CodeLines
+pub mod PlainLines
+pub mod InstructionLines
+pub mod FunctionLines
