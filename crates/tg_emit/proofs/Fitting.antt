@@ -1,6 +1,6 @@
 -- What the type of an allocated function keeps, and the condition of `emit`, say of each instruction.
-use Rattle.std.proofs.Common.{ℕ, ap, ◌≡◌, ◌<◌, ◌≤◌, ◌*◌, List, [], ◌∷◌, length, get_or, Bool, true, false, refl, arith}
-use Rattle.std.specs.Prelude.{IsTrue, ◌&&◌}
+use Rattle.std.proofs.Common.{ℕ, ap, ◌≡◌, ◌≤◌, ◌*◌, List, [], ◌∷◌, Bool, refl, arith}
+use Rattle.std.specs.Prelude.{IsTrue}
 use Rattle.std.specs.List.{list_all}
 use Rattle.std.proofs.lemmas.Bool.Decides.{nat_tests}
 use Rattle.tg_frame.specs.declared.frames.Frame.{Frame}
@@ -9,7 +9,7 @@ use Rattle.tg_instr.specs.declared.instr.Instr.TheVariants.{FrameLoad, FrameStor
 use Rattle.tg_instr.specs.Codes.{has_slots_below}
 use Rattle.tg_instr.proofs.Tests.{left_holds, right_holds, both_hold}
 use Rattle.tg_emit.specs.Conditions.{fits_frame}
-use Rattle.std.specs.Prelude.{Option, Some, Result, Ok, Err, OnOk}
+use Rattle.std.specs.Prelude.{Some, Result, Ok, Err, OnOk}
 use Rattle.tg_isa.specs.declared.mips.Mips.{Mips}
 use Rattle.tg_emit.specs.Lines.{size_of, alone, row_lines, instruction_lines}
 use Rattle.tg_emit.specs.Ranges.{NumbersFit}

@@ -1,5 +1,5 @@
 -- What the types of functions and literals say of their numbers: each fits the bits that hold it.
-use Rattle.std.specs.Prelude.{ℕ, ◌<◌, ◌^◌, List, [], ◌∷◌, length, All, IfSome}
+use Rattle.std.specs.Prelude.{◌<◌, ◌^◌, length, All, IfSome}
 use Rattle.tg_isa.specs.Table.{IsRow}
 use Rattle.tg_tree.specs.declared.fragments.Literal.{Literal}
 use Rattle.tg_instr.specs.declared.instr.Instr.{Instr}

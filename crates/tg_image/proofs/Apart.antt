@@ -1,6 +1,6 @@
 -- Names that differ pairwise, and where the assembler finds each.
-use Rattle.std.proofs.Common.{ℕ, suc, ◌≡◌, ◌<◌, ◌+◌, List, [], ◌∷◌, ◌++◌, length, map, Bool, true, false, Option, Some, None, refl, sym, ap, ◌∙◌, arith, subst}
-use Rattle.std.specs.Prelude.{◌≢◌, ◌⊎◌, inl, inr, if◌then◌else◌, IsSome}
+use Rattle.std.proofs.Common.{ℕ, ◌≡◌, List, [], ◌∷◌, ◌++◌, map, Bool, true, false, Some, refl, sym, ap, ◌∙◌, arith, ◌≢◌, ◌⊎◌, inl, inr}
+use Rattle.std.specs.Prelude.{if◌then◌else◌}
 use Rattle.std.specs.List.{AllByRecursion, AllPairs}
 use Rattle.std.specs.Str.{bytes_eq}
 use Rattle.std.proofs.lemmas.List.{append_cancel_left}
@@ -44,7 +44,7 @@ differ_behind front (t ∷ ts) h =
     (each_map (λ u. front ++ u) (λ y. (front ++ t) ≢ y) ts (each_weaker (λ u. t ≢ u) (λ u. (front ++ t) ≢ (front ++ u)) (λ u n e. n (append_cancel_left front t u e)) ts h.0), differ_behind front ts h.1)
 
 pub pairs_differ : (xs : List (List ℕ)) → Differ xs → AllPairs (λ a b. a ≢ b) xs
-pairs_differ [] h i j d l k = absurd (omega arith)
+pairs_differ [] h = λ i j d l k. absurd (omega arith)
 pairs_differ (x ∷ xs) h = AllPairs-cons (λ a b. a ≢ b) x xs (All-from_recursion (λ y. x ≢ y) xs h.0) (pairs_differ xs h.1)
 
 -- a name that stands somewhere

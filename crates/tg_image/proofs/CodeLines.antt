@@ -1,6 +1,6 @@
 -- Lines of code: their words, the labels that they give, and how the assembler reads them.
-use Rattle.std.proofs.Common.{ℕ, ◌≡◌, ◌<◌, ◌≤◌, ◌+◌, ◌^◌, List, [], ◌∷◌, ◌++◌, length, map, Bool, true, false, refl, sym, ap, ◌∙◌, arith, append_assoc, append-nil, subst, length-append}
-use Rattle.std.specs.Prelude.{IsTrue, ◌×◌}
+use Rattle.std.proofs.Common.{ℕ, ◌≡◌, ◌<◌, ◌+◌, List, [], ◌∷◌, ◌++◌, length, map, refl, ap, ◌∙◌, arith, subst}
+use Rattle.std.specs.Prelude.{IsTrue}
 use Rattle.std.specs.List.{AllByRecursion}
 use Rattle.tg_isa.specs.declared.mips.Mips.{Mips}
 use Rattle.tg_isa.specs.declared.mips.Mips.TheVariants as row
@@ -8,14 +8,14 @@ use Rattle.tg_isa.specs.declared.keywords.Segment.TheVariants.{Code}
 use Rattle.tg_isa.specs.Table.{IsRow}
 use Rattle.tg_isa.specs.Operands.{is_label}
 use Rattle.tg_isa.specs.Writing.{takes_label, unlabelled_row, coded_row}
-use Rattle.tg_isa.specs.Items.{Coded, Fixed, Upper, Lower}
-use Rattle.tg_isa.specs.Placement.{Positions, AtWord, positions_from, labels_in, code_in, last_byte, WordsReach, WordReaches, ItemsStand}
+use Rattle.tg_isa.specs.Items.{Coded, Upper, Lower}
+use Rattle.tg_isa.specs.Placement.{Positions, AtWord, positions_from, labels_in, code_in, last_byte, WordsReach, ItemsStand}
 use Rattle.tg_isa.specs.Texts as texts
 use Rattle.tg_emit.specs.declared.assembly.Line.{Line}
 use Rattle.tg_emit.specs.declared.assembly.Line.TheVariants.{Label, One, La, Statics}
-use Rattle.tg_emit.specs.Lines.{words_of, words}
+use Rattle.tg_emit.specs.Lines.{words}
 use Rattle.tg_image.specs.Images.{written_line}
-use Rattle.tg_image.proofs.Apart.{names_of, names_append}
+use Rattle.tg_image.proofs.Apart.{names_of}
 
 -- a line that may stand in the code, and whose fields fit
 abbrev pub IsCode : Line → Type 0

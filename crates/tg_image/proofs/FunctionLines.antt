@@ -1,19 +1,19 @@
 -- The lines of the code of a function: what stands in them, its marks, and that what they lead to is reached.
-use Rattle.std.proofs.Common.{ℕ, suc, ◌≡◌, ◌<◌, ◌≤◌, ◌+◌, ◌*◌, ◌^◌, List, [], ◌∷◌, ◌++◌, length, map, Bool, true, false, not, refl, sym, ap, ◌∙◌, arith, subst, append-nil, eqb-true}
-use Rattle.std.specs.Prelude.{IsTrue, ◌==◌, ◌||◌, ◌&&◌, Option, Some, None, inl, inr, max, nat_lt}
+use Rattle.std.proofs.Common.{ℕ, ◌≡◌, ◌<◌, ◌≤◌, ◌+◌, ◌^◌, List, [], ◌∷◌, ◌++◌, length, map, Bool, true, false, refl, sym, ap, ◌∙◌, arith, subst, append-nil, eqb-true, inl, inr}
+use Rattle.std.specs.Prelude.{IsTrue, ◌||◌, nat_lt}
 use Rattle.std.specs.List.{AllByRecursion, list_any, list_all}
 use Rattle.std.proofs.lemmas.Bool.Decides.{nat_tests}
 use Rattle.std.proofs.lemmas.List.{map-append}
 use Rattle.std.proofs.lemmas.List.Elements.{recursion_from_All}
 use Rattle.tg_isa.specs.declared.mips.Mips.TheVariants as row
-use Rattle.tg_isa.specs.Placement.{Position, AtWord, Positions, position_of, WordsReach}
+use Rattle.tg_isa.specs.Placement.{AtWord, Positions, WordsReach}
 use Rattle.tg_instr.specs.declared.instr.Instr.{Instr}
-use Rattle.tg_instr.specs.declared.instr.Instr.TheVariants.{Mark, Branch}
+use Rattle.tg_instr.specs.declared.instr.Instr.TheVariants.{Mark}
 use Rattle.tg_instr.specs.declared.codes.Allocated.{Allocated}
 use Rattle.tg_instr.specs.Codes.{is_mark, leads_to_marks, is_end, ends_well}
 use Rattle.tg_instr.proofs.Tests.{left_holds, right_holds}
 use Rattle.tg_emit.specs.declared.assembly.Line.{Line}
-use Rattle.tg_emit.specs.declared.assembly.Line.TheVariants.{Label, One}
+use Rattle.tg_emit.specs.declared.assembly.Line.TheVariants.{Label}
 use Rattle.tg_emit.specs.Names.{function_name, mark_name}
 use Rattle.tg_emit.specs.Ranges.{InstructionFits, FunctionFits}
 use Rattle.tg_emit.specs.Conditions.{has_code, is_emittable}
@@ -34,8 +34,8 @@ abbrev pub tails : (turned : Bool) (place : ℕ) → List Instr → List (List �
 tails turned place [] = []
 tails turned place (one ∷ rest) = tail_of turned place one ++ tails turned (place + 1) rest
 
-joined : (xs ys as bs : List (List ℕ)) → xs ≡ as → ys ≡ bs → xs ++ ys ≡ as ++ bs
-joined xs ys as bs h k = rw (h, k) refl
+joined : (xs ys us vs : List (List ℕ)) → xs ≡ us → ys ≡ vs → xs ++ ys ≡ us ++ vs
+joined xs ys us vs h k = rw (h, k) refl
 
 pub given_of_code : (turned : Bool) (label size place : ℕ) (list : List Instr) → size < 2 ^ 29 → AllByRecursion InstructionFits list → IsTrue (list_all has_code list) → given_in (code_lines turned label size place list) ≡ map (λ t. function_name label ++ t) (tails turned place list)
 given_of_code turned label size place [] h f c = refl
@@ -101,7 +101,7 @@ some_ends : (m : ℕ) (one : Instr) (rest : List Instr) → IsTrue (ends_well (o
 some_ends m one [] h k = cc
 some_ends m one (two ∷ rest) h k = h
 
-or_right : (a b : Bool) → a ≡ false → IsTrue (a || b) → IsTrue b
+pub or_right : (a b : Bool) → a ≡ false → IsTrue (a || b) → IsTrue b
 or_right true b e h = cc
 or_right false b e h = h
 
@@ -217,5 +217,5 @@ reach_of_function ps n turned functions literals w f s k names fits finds =
     reach_lines ps n w (opening size) (code_of turned f)
     (plain_reach ps n w (opening size) (opening_plain size k.some k.size))
     (reach_of_code ps n turned functions literals f.frame.label.0 size 0 (w + words (opening size)) f.code.list f.code.list s
-      (λ m h. in_code ps n w body (mark_name f.frame.label.0 m) (omega arith) inner (mark_of_function turned f w m h))
-      k.size k.fits k.codes f.code.marks_stand names (omega arith) (finds_right ps w (opening size) (code_of turned f) inner))
+    (λ m h. in_code ps n w body (mark_name f.frame.label.0 m) (omega arith) inner (mark_of_function turned f w m h))
+    k.size k.fits k.codes f.code.marks_stand names (omega arith) (finds_right ps w (opening size) (code_of turned f) inner))

@@ -1,23 +1,20 @@
 -- The lines of an instruction: what stands in them, which labels they give, and that what they lead to is reached.
-use Rattle.std.proofs.Common.{ℕ, suc, ◌≡◌, ◌<◌, ◌≤◌, ◌+◌, ◌*◌, ◌^◌, List, [], ◌∷◌, ◌++◌, length, map, Bool, true, false, refl, sym, ap, ◌∙◌, arith, subst}
-use Rattle.std.specs.Prelude.{IsTrue, ◌==◌, Option, Some, None, IsSome, inl}
-use Rattle.std.specs.List.{AllByRecursion, list_any, list_all}
+use Rattle.std.proofs.Common.{ℕ, ◌≡◌, ◌<◌, ◌≤◌, ◌+◌, ◌^◌, List, [], ◌∷◌, ◌++◌, map, Bool, true, false, refl, sym, arith, subst, inl}
+use Rattle.std.specs.Prelude.{IsTrue, Some, IsSome}
+use Rattle.std.specs.List.{list_any}
 use Rattle.std.specs.Fmt.{decimal}
-use Rattle.std.proofs.lemmas.Bool.Decides.{nat_tests}
-use Rattle.tg_isa.specs.declared.mips.Mips.{Mips}
 use Rattle.tg_isa.specs.declared.mips.Mips.TheVariants as row
 use Rattle.tg_isa.specs.Table.{IsRow}
-use Rattle.tg_isa.specs.Writing.{takes_label, coded_row}
-use Rattle.tg_isa.specs.Items.{Coded, Branch as BranchTo, Upper, Lower}
+use Rattle.tg_isa.specs.Writing.{coded_row}
+use Rattle.tg_isa.specs.Items.{Branch as BranchTo}
 use Rattle.tg_isa.specs.Placement.{Position, AtWord, Positions, position_of, BranchReaches, JumpReaches, WordsReach, WordReaches}
 use Rattle.tg_tree.specs.declared.operators.Rel.{Rel}
 use Rattle.tg_tree.specs.declared.operators.Rel.TheVariants.{Equal, NotEqual, Less, LessEqual, Greater, GreaterEqual, Below, NotBelow}
 use Rattle.tg_instr.specs.declared.instr.Instr.{Instr}
 use Rattle.tg_instr.specs.declared.instr.Test.{Test}
-use Rattle.tg_instr.specs.declared.instr.Instr.TheVariants.{FrameLoad, FrameStore, FrameAddress, Address, Mark, Jump, Branch, Call, Fault, Return}
+use Rattle.tg_instr.specs.declared.instr.Instr.TheVariants.{Address, Mark, Jump, Branch, Call, Fault, Return}
 use Rattle.tg_instr.specs.Codes.{is_mark, leads_to_marks, is_end}
-use Rattle.tg_emit.specs.declared.assembly.Line.{Line}
-use Rattle.tg_emit.specs.declared.assembly.Line.TheVariants.{Label, One, La, Statics}
+use Rattle.tg_emit.specs.declared.assembly.Line.TheVariants.{Label}
 use Rattle.tg_emit.specs.Names.{function_name, mark_name, behind_name, literal_name}
 use Rattle.tg_emit.specs.Rows.{register_of, branch_on, opposite, branch_of, opposite_branch_of}
 use Rattle.tg_emit.specs.Ranges.{InstructionFits}
@@ -27,7 +24,7 @@ use Rattle.tg_image.specs.Programs.{is_among, names_those}
 use Rattle.tg_image.proofs.NameTexts.{function_label, mark_label, behind_label, literal_label}
 use Rattle.tg_image.proofs.Apart.{Stands}
 use Rattle.tg_image.proofs.CodeLines.{AreCode, coded_in, labels_from, given_in, words_append}
-use Rattle.tg_image.proofs.PlainLines.{ArePlain, is_plain, plain_code, plain_given, plain_reach, plain_instruction}
+use Rattle.tg_image.proofs.PlainLines.{plain_code, plain_given, plain_reach, plain_instruction}
 
 -- branches
 branch_fits : (rel : Rel) (left right : ℕ) → left < 32 → right < 32 → IsRow (branch_on rel left right)

@@ -4,3 +4,9 @@ pub mod CodeLines
 pub mod PlainLines
 pub mod InstructionLines
 pub mod FunctionLines
+pub mod ProgramLines
+pub mod LabelsDiffer
+pub mod StaticsLines
+pub mod WrittenTexts
+pub mod HasLabels
+pub mod Soundness

@@ -1,10 +1,10 @@
 -- The names of functions, marks, places and literals are labels of the assembler's syntax, and differ where these do.
-use Rattle.std.proofs.Common.{ℕ, ◌≡◌, ◌<◌, ◌≤◌, ◌+◌, ◌%◌, ◌/◌, ◌^◌, List, [], ◌∷◌, ◌++◌, length, Bool, true, false, not, refl, sym, ap, ◌∙◌, arith, append-nil, subst}
+use Rattle.std.proofs.Common.{ℕ, ◌≡◌, ◌<◌, ◌+◌, ◌%◌, ◌^◌, List, [], ◌∷◌, ◌++◌, Bool, true, false, not, refl, sym, ap, ◌∙◌, arith, append-nil, subst}
 use Rattle.std.specs.Prelude.{IsTrue, ◌==◌, ◌||◌, ◌≢◌, codes, if◌then◌else◌}
 use Rattle.std.specs.Fmt.{decimal}
 use Rattle.std.proofs.lemmas.Fmt.{decimal_by_steps, decimal_injective}
 use Rattle.std.proofs.lemmas.Bool.Decides.{nat_tests}
-use Rattle.tg_isa.specs.Lines.{front, back, is_between, begins_label, is_in_label, is_past_label}
+use Rattle.tg_isa.specs.Lines.{front, back, is_between, begins_label, is_past_label}
 use Rattle.tg_isa.specs.Operands.{is_label}
 use Rattle.tg_isa.proofs.WordCuts.{none_of, begins, none_append, none_cons, first_not, rest_not, front_until, back_until}
 use Rattle.tg_emit.specs.Names.{function_name, mark_name, behind_name, literal_name}
@@ -77,14 +77,21 @@ behind_label n p h k = tail_label n (95 ∷ decimal p) h (none_cons is_past_labe
 pub literal_label : (n : ℕ) → n < 2 ^ 64 → IsTrue (is_label (literal_name n))
 literal_label n h = label_of 115 (decimal n) refl (decimal_in_label n h)
 
+pub not_same : (m k : ℕ) → (m == k) ≡ false → m ≢ k
+not_same m k h e = grind (arith, nat_tests)
+
+abbrev pub first_byte : List ℕ → ℕ
+first_byte [] = 0
+first_byte (c ∷ text) = c
+
 -- names that are alike are of one function, and alike behind its name
 pub function_differ : (a b : ℕ) → a < 2 ^ 64 → b < 2 ^ 64 → function_name a ≡ function_name b → a ≡ b
 function_differ a b h k e = by (a == 32) (b == 32) refl refl e
   where
     by : (x y : Bool) → (a == 32) ≡ x → (b == 32) ≡ y → (if x then codes "main" else codes "f" ++ decimal a) ≡ (if y then codes "main" else codes "f" ++ decimal b) → a ≡ b
     by true true p q e = grind (arith, nat_tests)
-    by true false p q e = cc
-    by false true p q e = cc
+    by true false p q e = absurd (not_same 109 102 refl (ap first_byte e))
+    by false true p q e = absurd (not_same 102 109 refl (ap first_byte e))
     by false false p q e = let d : decimal a ≡ decimal b = cc in decimal_injective a b h k d
 
 pub record SameParts (a b : ℕ) (s t : List ℕ) : Type 0 where
@@ -108,8 +115,8 @@ pub literal_apart : (a b : ℕ) (t : List ℕ) → function_name a ++ t ≢ lite
 literal_apart a b t e = by (a == 32) e
   where
     by : (x : Bool) → (if x then codes "main" else codes "f" ++ decimal a) ++ t ≡ literal_name b → ⊥
-    by true e = cc
-    by false e = cc
+    by true e = not_same 109 115 refl (ap first_byte e)
+    by false e = not_same 102 115 refl (ap first_byte e)
 
 pub mark_tails : (m n : ℕ) → m < 2 ^ 64 → n < 2 ^ 64 → 46 ∷ decimal m ≡ 46 ∷ decimal n → m ≡ n
 mark_tails m n h k e = let d : decimal m ≡ decimal n = cc in decimal_injective m n h k d

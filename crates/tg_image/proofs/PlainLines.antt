@@ -1,5 +1,5 @@
 -- Lines that are rows and lead to no label: most instructions are such lines.
-use Rattle.std.proofs.Common.{ℕ, ◌≡◌, ◌<◌, ◌≤◌, ◌+◌, ◌-◌, ◌*◌, ◌/◌, ◌%◌, ◌^◌, List, [], ◌∷◌, ◌++◌, Bool, true, false, refl, sym, ap, ◌∙◌, arith, subst}
+use Rattle.std.proofs.Common.{ℕ, ◌≡◌, ◌<◌, ◌≤◌, ◌+◌, ◌-◌, ◌/◌, ◌%◌, ◌^◌, List, [], ◌∷◌, ◌++◌, Bool, true, false, refl, sym, arith, subst}
 use Rattle.std.specs.Prelude.{IsTrue, Option, Some, None, IfSome, nat_lt, nat_le, if◌then◌else◌}
 use Rattle.std.specs.List.{AllByRecursion}
 use Rattle.std.proofs.lemmas.Bool.Decides.{nat_tests}
@@ -7,17 +7,17 @@ use Rattle.tg_isa.specs.declared.mips.Mips.{Mips}
 use Rattle.tg_isa.specs.declared.mips.Mips.TheVariants as row
 use Rattle.tg_isa.specs.Table.{IsRow}
 use Rattle.tg_isa.specs.Writing.{takes_label, coded_row}
-use Rattle.tg_isa.specs.Items.{Coded, Fixed}
+use Rattle.tg_isa.specs.Items.{Fixed}
 use Rattle.tg_isa.specs.Placement.{Positions, WordsReach, WordReaches}
 use Rattle.tg_instr.specs.declared.instr.Instr.{Instr}
 use Rattle.tg_instr.specs.declared.instr.Instr.TheVariants.{FrameLoad, FrameStore, FrameAddress, Address, Mark, Jump, Branch, Call, Fault, Return}
 use Rattle.tg_emit.specs.declared.assembly.Line.{Line}
 use Rattle.tg_emit.specs.declared.assembly.Line.TheVariants.{Label, One, La, Statics}
 use Rattle.tg_emit.specs.Rows.{register_of, row_of}
-use Rattle.tg_emit.specs.Ranges.{InstructionFits, RowFits}
+use Rattle.tg_emit.specs.Ranges.{InstructionFits}
 use Rattle.tg_emit.specs.Conditions.{has_code}
 use Rattle.tg_emit.specs.Lines.{alone, in_at, above_stack, lowered, load_at, store_at, slot_offset, row_lines, instruction_lines}
-use Rattle.tg_image.proofs.CodeLines.{IsCode, AreCode, coded_in, labels_from, given_in}
+use Rattle.tg_image.proofs.CodeLines.{AreCode, coded_in, given_in}
 use Rattle.tg_image.proofs.Apart.{each_append}
 
 abbrev pub IsPlain : Line → Type 0

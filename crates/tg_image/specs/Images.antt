@@ -1,5 +1,5 @@
 -- The lines of a program in the words of the assembler, and the image that they are.
-use Rattle.std.specs.Prelude.{ℕ, ◌+◌, ◌*◌, ◌≡◌, List, [], ◌∷◌, ◌++◌, map, length, codes, Ok, IsTrue}
+use Rattle.std.specs.Prelude.{ℕ, ◌≡◌, List, [], ◌∷◌, ◌++◌, map, codes, Ok, IsTrue}
 use Rattle.std.specs.List.{list_all}
 use Rattle.tg_base.specs.State.{padded}
 use Rattle.tg_isa.specs.declared.keywords.Segment.TheVariants.{Code, Statics as InStatics}
@@ -13,7 +13,7 @@ use Rattle.tg_emit.specs.declared.assembly.Line.TheVariants.{Label, One, La, Sta
 use Rattle.tg_emit.specs.Names.{literal_name}
 use Rattle.tg_emit.specs.Lines.{functions_lines, is_long, assembly_of}
 use Rattle.tg_emit.specs.Text.{text_of}
-use Rattle.tg_emit.specs.Conditions.{has_labels}
+use Rattle.tg_emit.specs.Conditions.{has_labels, is_emittable}
 use Rattle.tg_image.specs.Programs.{IsProgram, AreTyped}
 
 -- bytes of the statics; none at all are still an item
@@ -45,7 +45,8 @@ program_written fs ls =
 -- what is emitted has labels of the assembler's syntax
 abbrev pub EmittedHasLabels : Type 0
 EmittedHasLabels =
-    (fs : List Allocated) (ls : List Literal) → AreTyped fs ls →
+    (fs : List Allocated) (ls : List Literal) →
+    IsTrue (list_all is_emittable fs) → AreTyped fs ls →
     IsTrue (list_all has_labels (assembly_of fs ls))
 
 -- the text of a program is assembled without a fault

@@ -1,4 +1,4 @@
-use Rattle.std.proofs.Common.{◌++◌, ap, ◌∙◌, get_or, sym, subst}
+use Rattle.std.proofs.Common.{◌++◌, ap, ◌∙◌, subst}
 use Rattle.std.proofs.lemmas.List.Elements.{All-more}
 use Rattle.tg_emit.specs.Lines.{instruction_lines}
 use Rattle.tg_emit.specs.Ranges.{InstructionFits}
