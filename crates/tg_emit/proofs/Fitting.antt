@@ -40,7 +40,8 @@ numbers_of_row (Branch test m) found h = cc
 numbers_of_row (Call callee) found h = cc
 numbers_of_row _ found h = tt
 
-pub lines_of_row : (turned : Bool) (label size place : ℕ) (one : Instr) (found : Mips) → row_of one ≡ Some found → instruction_lines turned label size place one ≡ alone found ∷ []
+pub lines_of_row : (turned : Bool) (label size place : ℕ) (one : Instr) (found : Mips) → row_of one ≡ Some found →
+    instruction_lines turned label size place one ≡ alone found ∷ []
 lines_of_row turned label size place (FrameLoad to k) found h = cc
 lines_of_row turned label size place (FrameStore from k) found h = cc
 lines_of_row turned label size place (FrameAddress to) found h = cc

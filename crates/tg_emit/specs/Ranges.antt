@@ -3,7 +3,8 @@ use Rattle.std.specs.Prelude.{◌<◌, ◌^◌, length, All, IfSome}
 use Rattle.tg_isa.specs.Table.{IsRow}
 use Rattle.tg_tree.specs.declared.fragments.Literal.{Literal}
 use Rattle.tg_instr.specs.declared.instr.Instr.{Instr}
-use Rattle.tg_instr.specs.declared.instr.Instr.TheVariants.{FrameLoad, FrameStore, FrameAddress, Address, Mark, Jump, Branch, Call}
+use Rattle.tg_instr.specs.declared.instr.Instr.TheVariants.{FrameLoad, FrameStore, FrameAddress}
+use Rattle.tg_instr.specs.declared.instr.Instr.TheVariants.{Address, Mark, Jump, Branch, Call}
 use Rattle.tg_instr.specs.declared.codes.Allocated.{Allocated}
 use Rattle.tg_emit.specs.Rows.{register_of, row_of}
 

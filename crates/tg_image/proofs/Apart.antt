@@ -30,7 +30,8 @@ differ_append [] ys h k a = k
 differ_append (x ∷ xs) ys h k a = (each_append (λ y. x ≢ y) xs ys h.0 a.0, differ_append xs ys h.1 k a.1)
 
 -- by what is known of the names of either
-pub apart_by : (P Q : List ℕ → Type 0) → ((x y : List ℕ) → P x → Q y → x ≢ y) → (xs ys : List (List ℕ)) → AllByRecursion P xs → AllByRecursion Q ys → Apart xs ys
+pub apart_by : (P Q : List ℕ → Type 0) → ((x y : List ℕ) → P x → Q y → x ≢ y) → (xs ys : List (List ℕ)) → AllByRecursion P xs → AllByRecursion Q ys →
+    Apart xs ys
 apart_by P Q f xs ys h k = each_weaker P (λ x. AllByRecursion (λ y. x ≢ y) ys) (λ x p. each_weaker Q (λ y. x ≢ y) (λ y q. f x y p q) ys k) xs h
 
 pub each_map : {X Y : Type 0} (f : X → Y) (P : Y → Type 0) (xs : List X) → AllByRecursion (λ x. P (f x)) xs → AllByRecursion P (map f xs)
@@ -41,7 +42,8 @@ each_map f P (x ∷ xs) h = (h.0, each_map f P xs h.1)
 pub differ_behind : (front : List ℕ) (ts : List (List ℕ)) → Differ ts → Differ (map (λ t. front ++ t) ts)
 differ_behind front [] h = tt
 differ_behind front (t ∷ ts) h =
-    (each_map (λ u. front ++ u) (λ y. (front ++ t) ≢ y) ts (each_weaker (λ u. t ≢ u) (λ u. (front ++ t) ≢ (front ++ u)) (λ u n e. n (append_cancel_left front t u e)) ts h.0), differ_behind front ts h.1)
+    (each_map (λ u. front ++ u) (λ y. (front ++ t) ≢ y) ts (each_weaker (λ u. t ≢ u) (λ u. (front ++ t) ≢ (front ++ u))
+        (λ u n e. n (append_cancel_left front t u e)) ts h.0), differ_behind front ts h.1)
 
 pub pairs_differ : (xs : List (List ℕ)) → Differ xs → AllPairs (λ a b. a ≢ b) xs
 pairs_differ [] h = λ i j d l k. absurd (omega arith)

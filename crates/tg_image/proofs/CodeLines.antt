@@ -96,7 +96,8 @@ labels_append w (Statics bytes ∷ xs) ys =
     let e : w + words xs ≡ w + (0 + words xs) = omega arith in
     labels_append w xs ys ∙ ap (λ n. labels_from w xs ++ labels_from n ys) e
 
-pub reach_append : (ps : Positions) (n at : ℕ) (xs ys : List Coded) → WordsReach ps n at xs → WordsReach ps n (at + length xs) ys → WordsReach ps n at (xs ++ ys)
+pub reach_append : (ps : Positions) (n at : ℕ) (xs ys : List Coded) → WordsReach ps n at xs → WordsReach ps n (at + length xs) ys →
+    WordsReach ps n at (xs ++ ys)
 reach_append ps n at [] ys h k = let e : at + 0 ≡ at = omega arith in subst (λ a. WordsReach ps n a ys) e k
 reach_append ps n at (x ∷ xs) ys h k =
     let e : at + length (x ∷ xs) ≡ at + 1 + length xs = omega arith in
@@ -125,19 +126,22 @@ code_stands (One one target ∷ ls) more h k = ((unlabelled_fits one h.0.0, h.0.
 code_stands (La register target ∷ ls) more h k = (h.0, code_stands ls more h.1 k)
 code_stands (Statics bytes ∷ ls) more h k = absurd h.0
 
-pub code_words : (ls : List Line) (more : List texts.Line) → AreCode ls → code_in (texts.readings_of (in_front ls more)) ≡ coded_in ls ++ code_in (texts.readings_of more)
+pub code_words : (ls : List Line) (more : List texts.Line) → AreCode ls →
+    code_in (texts.readings_of (in_front ls more)) ≡ coded_in ls ++ code_in (texts.readings_of more)
 code_words [] more h = refl
 code_words (Label name ∷ ls) more h = code_words ls more h.1
 code_words (One one target ∷ ls) more h = ap (λ l. coded_row one target ∷ l) (code_words ls more h.1)
 code_words (La register target ∷ ls) more h = ap (λ l. Upper register target ∷ Lower register target ∷ l) (code_words ls more h.1)
 code_words (Statics bytes ∷ ls) more h = absurd h.0
 
-pub code_positions : (w b : ℕ) (ls : List Line) (more : List texts.Line) → AreCode ls → positions_from Code w b (texts.readings_of (in_front ls more)) ≡ labels_from w ls ++ positions_from Code (w + words ls) b (texts.readings_of more)
+pub code_positions : (w b : ℕ) (ls : List Line) (more : List texts.Line) → AreCode ls →
+    positions_from Code w b (texts.readings_of (in_front ls more)) ≡ labels_from w ls ++ positions_from Code (w + words ls) b (texts.readings_of more)
 code_positions w b [] more h = let e : w ≡ w + 0 = omega arith in ap (λ n. positions_from Code n b (texts.readings_of more)) e
 code_positions w b (Label name ∷ ls) more h =
     let e : w + 0 + words ls ≡ w + (0 + words ls) = omega arith in
     let z : w + 0 ≡ w = omega arith in
-    ap (λ l. (name, AtWord w) ∷ l) (code_positions (w + 0) b ls more h.1 ∙ ap (λ n. labels_from (w + 0) ls ++ positions_from Code n b (texts.readings_of more)) e ∙ ap (λ n. labels_from n ls ++ positions_from Code (w + (0 + words ls)) b (texts.readings_of more)) z)
+    ap (λ l. (name, AtWord w) ∷ l) (code_positions (w + 0) b ls more h.1 ∙ ap (λ n. labels_from (w + 0) ls ++ positions_from Code n b
+        (texts.readings_of more)) e ∙ ap (λ n. labels_from n ls ++ positions_from Code (w + (0 + words ls)) b (texts.readings_of more)) z)
 code_positions w b (One one target ∷ ls) more h =
     let e : w + 1 + words ls ≡ w + (1 + words ls) = omega arith in
     code_positions (w + 1) b ls more h.1 ∙ ap (λ n. labels_from (w + 1) ls ++ positions_from Code n b (texts.readings_of more)) e
@@ -146,21 +150,24 @@ code_positions w b (La register target ∷ ls) more h =
     code_positions (w + 2) b ls more h.1 ∙ ap (λ n. labels_from (w + 2) ls ++ positions_from Code n b (texts.readings_of more)) e
 code_positions w b (Statics bytes ∷ ls) more h = absurd h.0
 
-pub code_bytes : (b : ℕ) (ls : List Line) (more : List texts.Line) → AreCode ls → last_byte b (texts.readings_of (in_front ls more)) ≡ last_byte b (texts.readings_of more)
+pub code_bytes : (b : ℕ) (ls : List Line) (more : List texts.Line) → AreCode ls →
+    last_byte b (texts.readings_of (in_front ls more)) ≡ last_byte b (texts.readings_of more)
 code_bytes b [] more h = refl
 code_bytes b (Label name ∷ ls) more h = code_bytes b ls more h.1
 code_bytes b (One one target ∷ ls) more h = code_bytes b ls more h.1
 code_bytes b (La register target ∷ ls) more h = code_bytes b ls more h.1
 code_bytes b (Statics bytes ∷ ls) more h = absurd h.0
 
-pub code_items : (ps : Positions) (ls : List Line) (more : List texts.Line) → AreCode ls → ItemsStand ps (texts.readings_of more) → ItemsStand ps (texts.readings_of (in_front ls more))
+pub code_items : (ps : Positions) (ls : List Line) (more : List texts.Line) → AreCode ls → ItemsStand ps (texts.readings_of more) →
+    ItemsStand ps (texts.readings_of (in_front ls more))
 code_items ps [] more h k = k
 code_items ps (Label name ∷ ls) more h k = (tt, code_items ps ls more h.1 k)
 code_items ps (One one target ∷ ls) more h k = (tt, code_items ps ls more h.1 k)
 code_items ps (La register target ∷ ls) more h k = (tt, code_items ps ls more h.1 k)
 code_items ps (Statics bytes ∷ ls) more h k = absurd h.0
 
-pub code_labels : (ls : List Line) (more : List texts.Line) → AreCode ls → labels_in (texts.readings_of (in_front ls more)) ≡ given_in ls ++ labels_in (texts.readings_of more)
+pub code_labels : (ls : List Line) (more : List texts.Line) → AreCode ls →
+    labels_in (texts.readings_of (in_front ls more)) ≡ given_in ls ++ labels_in (texts.readings_of more)
 code_labels [] more h = refl
 code_labels (Label name ∷ ls) more h = ap (λ l. name ∷ l) (code_labels ls more h.1)
 code_labels (One one target ∷ ls) more h = code_labels ls more h.1

@@ -47,7 +47,8 @@ branch_coded GreaterEqual left right target = refl
 branch_coded Below left right target = refl
 branch_coded NotBelow left right target = refl
 
-branch_code : (turned : Bool) (test : Test) (there around : List ℕ) → register_of test.left < 32 → register_of test.right < 32 → AreCode (Label there ∷ []) → AreCode (Label around ∷ []) → AreCode (branch_lines turned (branch_of test) (opposite_branch_of test) there around)
+branch_code : (turned : Bool) (test : Test) (there around : List ℕ) → register_of test.left < 32 → register_of test.right < 32 →
+    AreCode (Label there ∷ []) → AreCode (Label around ∷ []) → AreCode (branch_lines turned (branch_of test) (opposite_branch_of test) there around)
 branch_code false test there around h k t a = ((branch_fits test.rel (register_of test.left) (register_of test.right) h k, λ _. t.0), tt)
 branch_code true test there around h k t a =
     ((branch_fits (opposite test.rel) (register_of test.left) (register_of test.right) h k, λ _. a.0), ((omega arith, λ _. t.0), (a.0, tt)))
@@ -55,14 +56,17 @@ branch_code true test there around h k t a =
 wide : (n : ℕ) → n < 2 ^ 32 → n < 2 ^ 64
 wide n h = omega arith
 
-pub code_of_instruction : (turned : Bool) (label size place : ℕ) (one : Instr) → label < 2 ^ 32 → size < 2 ^ 29 → place < 2 ^ 64 → InstructionFits one → IsTrue (has_code one) → AreCode (instruction_lines turned label size place one)
+pub code_of_instruction : (turned : Bool) (label size place : ℕ) (one : Instr) → label < 2 ^ 32 → size < 2 ^ 29 → place < 2 ^ 64 → InstructionFits one →
+    IsTrue (has_code one) → AreCode (instruction_lines turned label size place one)
 code_of_instruction turned label size place (Address to literal) l h p f c = ((f.numbers.0, literal_label literal.0 (wide literal.0 f.numbers.1)), tt)
 code_of_instruction turned label size place (Mark m) l h p f c = (mark_label label m (wide label l) (wide m f.numbers), tt)
 code_of_instruction turned label size place (Jump m) l h p f c = ((omega arith, λ _. mark_label label m (wide label l) (wide m f.numbers)), tt)
 code_of_instruction turned label size place (Branch test m) l h p f c =
-    branch_code turned test (mark_name label m) (behind_name label place) f.numbers.0 f.numbers.1 (mark_label label m (wide label l) (wide m f.numbers.2), tt) (behind_label label place (wide label l) p, tt)
+    branch_code turned test (mark_name label m) (behind_name label place) f.numbers.0 f.numbers.1
+        (mark_label label m (wide label l) (wide m f.numbers.2), tt) (behind_label label place (wide label l) p, tt)
 code_of_instruction turned label size place (Call callee) l h p f c = ((omega arith, λ _. function_label callee.0 (wide callee.0 f.numbers)), tt)
-code_of_instruction turned label size place one l h p f c = plain_code (instruction_lines turned label size place one) (plain_instruction turned label size place one h f c refl)
+code_of_instruction turned label size place one l h p f c = plain_code (instruction_lines turned label size place one)
+    (plain_instruction turned label size place one h f c refl)
 
 -- what follows the name of the function in the label that an instruction gives, if any
 abbrev pub behind_tail : (turned : Bool) (place : ℕ) → List (List ℕ)
@@ -74,17 +78,21 @@ tail_of turned place (Mark m) = (46 ∷ decimal m) ∷ []
 tail_of turned place (Branch test m) = behind_tail turned place
 tail_of turned place one = []
 
-branch_given : (turned : Bool) (label place : ℕ) (test : Test) (m : ℕ) (there : List ℕ) → given_in (branch_lines turned (branch_of test) (opposite_branch_of test) there (behind_name label place)) ≡ map (λ t. function_name label ++ t) (tail_of turned place (Branch test m))
+branch_given : (turned : Bool) (label place : ℕ) (test : Test) (m : ℕ) (there : List ℕ) →
+    given_in (branch_lines turned (branch_of test) (opposite_branch_of test) there (behind_name label place)) ≡ map (λ t. function_name label ++ t)
+    (tail_of turned place (Branch test m))
 branch_given false label place test m there = refl
 branch_given true label place test m there = refl
 
-pub given_of_instruction : (turned : Bool) (label size place : ℕ) (one : Instr) → size < 2 ^ 29 → InstructionFits one → IsTrue (has_code one) → given_in (instruction_lines turned label size place one) ≡ map (λ t. function_name label ++ t) (tail_of turned place one)
+pub given_of_instruction : (turned : Bool) (label size place : ℕ) (one : Instr) → size < 2 ^ 29 → InstructionFits one → IsTrue (has_code one) →
+    given_in (instruction_lines turned label size place one) ≡ map (λ t. function_name label ++ t) (tail_of turned place one)
 given_of_instruction turned label size place (Address to literal) h f c = refl
 given_of_instruction turned label size place (Mark m) h f c = refl
 given_of_instruction turned label size place (Jump m) h f c = refl
 given_of_instruction turned label size place (Branch test m) h f c = branch_given turned label place test m (mark_name label m)
 given_of_instruction turned label size place (Call callee) h f c = refl
-given_of_instruction turned label size place one h f c = plain_given (instruction_lines turned label size place one) (plain_instruction turned label size place one h f c refl)
+given_of_instruction turned label size place one h f c = plain_given (instruction_lines turned label size place one)
+    (plain_instruction turned label size place one h f c refl)
 
 -- a name that stands at a word of so much code
 pub record IsInCode (ps : Positions) (n : ℕ) (name : List ℕ) : Type 0 where
@@ -108,22 +116,35 @@ pub record Surrounds (ps : Positions) (n : ℕ) (turned : Bool) (functions liter
 abbrev pub Finds : Positions → Positions → Type 0
 Finds ps qs = (name : List ℕ) (p : Position) → Stands qs name p → position_of ps name ≡ Some p
 
-branch_reach : (ps : Positions) (n w : ℕ) (turned : Bool) (test : Test) (there around : List ℕ) → (turned ≡ false → n ≤ 32000) → IsInCode ps n there → w + words (branch_lines turned (branch_of test) (opposite_branch_of test) there around) ≤ n → Finds ps (labels_from w (branch_lines turned (branch_of test) (opposite_branch_of test) there around)) → WordsReach ps n w (coded_in (branch_lines turned (branch_of test) (opposite_branch_of test) there around))
+branch_reach : (ps : Positions) (n w : ℕ) (turned : Bool) (test : Test) (there around : List ℕ) → (turned ≡ false → n ≤ 32000) → IsInCode ps n there →
+    w + words (branch_lines turned (branch_of test) (opposite_branch_of test) there around) ≤ n →
+    Finds ps (labels_from w (branch_lines turned (branch_of test) (opposite_branch_of test) there around)) →
+    WordsReach ps n w (coded_in (branch_lines turned (branch_of test) (opposite_branch_of test) there around))
 branch_reach ps n w false test there around near t fits finds =
-    (subst (WordReaches ps n w) (sym (branch_coded test.rel (register_of test.left) (register_of test.right) there)) (branch_near ps n w there (near refl) (omega arith) t), tt)
+    (subst (WordReaches ps n w) (sym (branch_coded test.rel (register_of test.left) (register_of test.right) there))
+        (branch_near ps n w there (near refl) (omega arith) t), tt)
 branch_reach ps n w true test there around near t fits finds =
     let at : position_of ps around ≡ Some (AtWord (w + 1 + 1)) = finds around (AtWord (w + 1 + 1)) (inl refl) in
     let r : BranchReaches w (position_of ps around) = subst (BranchReaches w) (sym at) (omega arith, omega arith) in
-    (subst (WordReaches ps n w) (sym (branch_coded (opposite test.rel) (register_of test.left) (register_of test.right) around)) r, (jump_there ps n there t, tt))
+    (subst (WordReaches ps n w) (sym (branch_coded (opposite test.rel) (register_of test.left) (register_of test.right) around)) r,
+        (jump_there ps n there t, tt))
 
-pub reach_of_instruction : (ps : Positions) (n : ℕ) (turned : Bool) (functions literals : List ℕ) (label size place w : ℕ) (all : List Instr) (one : Instr) → Surrounds ps n turned functions literals → ((m : ℕ) → IsTrue (list_any (is_mark m) all) → IsInCode ps n (mark_name label m)) → size < 2 ^ 29 → InstructionFits one → IsTrue (has_code one) → IsTrue (leads_to_marks all one) → IsTrue (names_those functions literals one) → w + words (instruction_lines turned label size place one) ≤ n → Finds ps (labels_from w (instruction_lines turned label size place one)) → WordsReach ps n w (coded_in (instruction_lines turned label size place one))
-reach_of_instruction ps n turned functions literals label size place w all (Address to literal) s marks h f c m names fits finds = (s.addresses literal.0 names, (s.addresses literal.0 names, tt))
+pub reach_of_instruction : (ps : Positions) (n : ℕ) (turned : Bool) (functions literals : List ℕ) (label size place w : ℕ) (all : List Instr) (one : Instr)
+    → Surrounds ps n turned functions literals → ((m : ℕ) → IsTrue (list_any (is_mark m) all) → IsInCode ps n (mark_name label m)) → size < 2 ^ 29 →
+    InstructionFits one → IsTrue (has_code one) → IsTrue (leads_to_marks all one) → IsTrue (names_those functions literals one) →
+    w + words (instruction_lines turned label size place one) ≤ n → Finds ps (labels_from w (instruction_lines turned label size place one)) →
+    WordsReach ps n w (coded_in (instruction_lines turned label size place one))
+reach_of_instruction ps n turned functions literals label size place w all (Address to literal) s marks h f c m names fits finds =
+    (s.addresses literal.0 names, (s.addresses literal.0 names, tt))
 reach_of_instruction ps n turned functions literals label size place w all (Mark k) s marks h f c m names fits finds = tt
-reach_of_instruction ps n turned functions literals label size place w all (Jump k) s marks h f c m names fits finds = (jump_there ps n (mark_name label k) (marks k m), tt)
+reach_of_instruction ps n turned functions literals label size place w all (Jump k) s marks h f c m names fits finds =
+    (jump_there ps n (mark_name label k) (marks k m), tt)
 reach_of_instruction ps n turned functions literals label size place w all (Branch test k) s marks h f c m names fits finds =
     branch_reach ps n w turned test (mark_name label k) (behind_name label place) s.near (marks k m) fits finds
-reach_of_instruction ps n turned functions literals label size place w all (Call callee) s marks h f c m names fits finds = (jump_there ps n (function_name callee.0) (s.calls callee.0 names), tt)
-reach_of_instruction ps n turned functions literals label size place w all one s marks h f c m names fits finds = plain_reach ps n w (instruction_lines turned label size place one) (plain_instruction turned label size place one h f c refl)
+reach_of_instruction ps n turned functions literals label size place w all (Call callee) s marks h f c m names fits finds =
+    (jump_there ps n (function_name callee.0) (s.calls callee.0 names), tt)
+reach_of_instruction ps n turned functions literals label size place w all one s marks h f c m names fits finds = plain_reach ps n w
+    (instruction_lines turned label size place one) (plain_instruction turned label size place one h f c refl)
 
 -- the last instruction of a function is a word at least
 pub end_words : (turned : Bool) (label size place : ℕ) (one : Instr) → IsTrue (is_end one) → 1 ≤ words (instruction_lines turned label size place one)

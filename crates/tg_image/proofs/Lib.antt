@@ -10,3 +10,4 @@ pub mod StaticsLines
 pub mod WrittenTexts
 pub mod HasLabels
 pub mod Soundness
+mod Examples

@@ -88,7 +88,8 @@ first_byte (c ∷ text) = c
 pub function_differ : (a b : ℕ) → a < 2 ^ 64 → b < 2 ^ 64 → function_name a ≡ function_name b → a ≡ b
 function_differ a b h k e = by (a == 32) (b == 32) refl refl e
   where
-    by : (x y : Bool) → (a == 32) ≡ x → (b == 32) ≡ y → (if x then codes "main" else codes "f" ++ decimal a) ≡ (if y then codes "main" else codes "f" ++ decimal b) → a ≡ b
+    by : (x y : Bool) → (a == 32) ≡ x → (b == 32) ≡ y →
+        (if x then codes "main" else codes "f" ++ decimal a) ≡ (if y then codes "main" else codes "f" ++ decimal b) → a ≡ b
     by true true p q e = grind (arith, nat_tests)
     by true false p q e = absurd (not_same 109 102 refl (ap first_byte e))
     by false true p q e = absurd (not_same 102 109 refl (ap first_byte e))
@@ -98,12 +99,14 @@ pub record SameParts (a b : ℕ) (s t : List ℕ) : Type 0 where
   pub function : a ≡ b
   pub tail : s ≡ t
 
-pub same_parts : (a b : ℕ) (s t : List ℕ) → a < 2 ^ 64 → b < 2 ^ 64 → begins is_separator s ≡ true → begins is_separator t ≡ true → function_name a ++ s ≡ function_name b ++ t → SameParts a b s t
+pub same_parts : (a b : ℕ) (s t : List ℕ) → a < 2 ^ 64 → b < 2 ^ 64 → begins is_separator s ≡ true → begins is_separator t ≡ true →
+    function_name a ++ s ≡ function_name b ++ t → SameParts a b s t
 same_parts a b s t h k p q e =
     let u = function_unparted a h in
     let v = function_unparted b k in
     record {
-      function = function_differ a b h k (sym (front_until is_separator (function_name a) s u p) ∙ ap (front is_separator) e ∙ front_until is_separator (function_name b) t v q);
+      function = function_differ a b h k (sym (front_until is_separator (function_name a) s u p) ∙ ap (front is_separator) e ∙ front_until is_separator
+          (function_name b) t v q);
       tail = sym (back_until is_separator (function_name a) s u p) ∙ ap (back is_separator) e ∙ back_until is_separator (function_name b) t v q;
     }
 

@@ -92,14 +92,18 @@ lowered_plain n z h = by (nat_le n 32768) refl
 pub load_plain : (r n : ℕ) → r < 32 → n < 2 ^ 29 → ArePlain (load_at r n)
 load_plain r n k h = by (nat_lt n 32768) refl
   where
-    by : (b : Bool) → nat_lt n 32768 ≡ b → ArePlain (if b then alone (row.Lw r n 29) ∷ [] else alone (row.Lui 1 ((n + 32768) / 65536)) ∷ alone (row.Addu 1 1 29) ∷ alone (row.Lw r (n % 65536) 1) ∷ [])
+    by : (b : Bool) → nat_lt n 32768 ≡ b →
+        ArePlain (if b then alone (row.Lw r n 29) ∷ [] else alone (row.Lui 1 ((n + 32768) / 65536)) ∷ alone (row.Addu 1 1 29) ∷ alone
+        (row.Lw r (n % 65536) 1) ∷ [])
     by true e = let l = below_test n 32768 e in (((k, omega arith, omega arith), refl), tt)
     by false e = (((omega arith, omega arith), refl), (((omega arith, omega arith, omega arith), refl), (((k, omega arith, omega arith), refl), tt)))
 
 pub store_plain : (r n : ℕ) → r < 32 → n < 2 ^ 29 → ArePlain (store_at r n)
 store_plain r n k h = by (nat_lt n 32768) refl
   where
-    by : (b : Bool) → nat_lt n 32768 ≡ b → ArePlain (if b then alone (row.Sw r n 29) ∷ [] else alone (row.Lui 1 ((n + 32768) / 65536)) ∷ alone (row.Addu 1 1 29) ∷ alone (row.Sw r (n % 65536) 1) ∷ [])
+    by : (b : Bool) → nat_lt n 32768 ≡ b →
+        ArePlain (if b then alone (row.Sw r n 29) ∷ [] else alone (row.Lui 1 ((n + 32768) / 65536)) ∷ alone (row.Addu 1 1 29) ∷ alone
+        (row.Sw r (n % 65536) 1) ∷ [])
     by true e = let l = below_test n 32768 e in (((k, omega arith, omega arith), refl), tt)
     by false e = (((omega arith, omega arith), refl), (((omega arith, omega arith, omega arith), refl), (((k, omega arith, omega arith), refl), tt)))
 
@@ -130,7 +134,8 @@ is_plain (Branch test m) = false
 is_plain (Call callee) = false
 is_plain one = true
 
-pub plain_instruction : (turned : Bool) (label size place : ℕ) (one : Instr) → size < 2 ^ 29 → InstructionFits one → IsTrue (has_code one) → IsTrue (is_plain one) → ArePlain (instruction_lines turned label size place one)
+pub plain_instruction : (turned : Bool) (label size place : ℕ) (one : Instr) → size < 2 ^ 29 → InstructionFits one → IsTrue (has_code one) →
+    IsTrue (is_plain one) → ArePlain (instruction_lines turned label size place one)
 plain_instruction turned label size place (FrameLoad to k) h f c p = load_plain (register_of to) (slot_offset size k) f.numbers (omega arith)
 plain_instruction turned label size place (FrameStore from k) h f c p = store_plain (register_of from) (slot_offset size k) f.numbers (omega arith)
 plain_instruction turned label size place (FrameAddress to) h f c p = above_plain (register_of to) size f.numbers h

@@ -1,5 +1,6 @@
 -- The readings of a program's lines are sound, and its text has their image.
-use Rattle.std.proofs.Common.{ℕ, ◌≡◌, ◌≤◌, ◌+◌, List, [], ◌∷◌, ◌++◌, length, Bool, true, false, Some, refl, sym, ap, ◌∙◌, arith, subst, append-nil, ◌⊎◌, inl, inr, eqb-true}
+use Rattle.std.proofs.Common.{ℕ, ◌≡◌, ◌≤◌, ◌+◌, List, [], ◌∷◌, ◌++◌, length, Bool, true, false, Some, refl, sym, ap, ◌∙◌, arith, subst, append-nil, ◌⊎◌, inl}
+use Rattle.std.proofs.Common.{inr, eqb-true}
 use Rattle.std.specs.Prelude.{IsTrue, ◌==◌, codes, nat_lt, IsSome, if◌then◌else◌}
 use Rattle.std.specs.List.{AllByRecursion}
 use Rattle.std.specs.Str.{bytes_eq}
@@ -21,7 +22,8 @@ use Rattle.tg_emit.specs.Lines.{functions_lines, is_long, words}
 use Rattle.tg_image.specs.Programs.{function_labels, literal_labels, is_among, bytes_of, IsProgram, AreTyped}
 use Rattle.tg_image.specs.Images.{statics_written, program_written, ProgramHasImage}
 use Rattle.tg_image.proofs.Apart.{Differ, differ_append, pairs_differ, Stands, stands_left, names_of, found}
-use Rattle.tg_image.proofs.CodeLines.{AreCode, coded_in, labels_from, given_in, coded_words, code_stands, code_words, code_positions, code_bytes, code_items, code_labels}
+use Rattle.tg_image.proofs.CodeLines.{AreCode, coded_in, labels_from, given_in, coded_words, code_stands, code_words, code_positions, code_bytes, code_items}
+use Rattle.tg_image.proofs.CodeLines.{code_labels}
 use Rattle.tg_image.proofs.InstructionLines.{IsInCode, jump_there, Surrounds, Finds}
 use Rattle.tg_image.proofs.FunctionLines.{IsEmitted, in_code, or_right}
 use Rattle.tg_image.proofs.ProgramLines.{all_emitted, code_of_functions, label_given, reach_of_functions}
@@ -42,7 +44,8 @@ is_found : (ps : Positions) (name : List ℕ) → IsAmong (names_of ps) name →
 is_found [] name h = absurd h
 is_found (p ∷ ps) name h = by (bytes_eq name p.0) refl h (λ k. is_found ps name k)
   where
-    by : (b : Bool) → bytes_eq name p.0 ≡ b → (name ≡ p.0) ⊎ IsAmong (names_of ps) name → (IsAmong (names_of ps) name → IsSome (position_of ps name)) → IsSome (if b then Some p.1 else position_of ps name)
+    by : (b : Bool) → bytes_eq name p.0 ≡ b → (name ≡ p.0) ⊎ IsAmong (names_of ps) name → (IsAmong (names_of ps) name → IsSome (position_of ps name)) →
+        IsSome (if b then Some p.1 else position_of ps name)
     by true e h later = refl
     by false e (inl s) later = let t = (bytes_eq-Decides name p.0).1 s in cc
     by false e (inr k) later = later k
@@ -51,7 +54,8 @@ literal_among : (label : ℕ) (ls : List Literal) → IsTrue (is_among (literal_
 literal_among label [] h = cc
 literal_among label (l ∷ ls) h = by (label == l.label.0) refl (λ more. literal_among label ls more)
   where
-    by : (b : Bool) → (label == l.label.0) ≡ b → (IsTrue (is_among (literal_labels ls) label) → IsAmong (literal_names ls) (literal_name label)) → IsAmong (literal_names (l ∷ ls)) (literal_name label)
+    by : (b : Bool) → (label == l.label.0) ≡ b → (IsTrue (is_among (literal_labels ls) label) → IsAmong (literal_names ls) (literal_name label)) →
+        IsAmong (literal_names (l ∷ ls)) (literal_name label)
     by true e later = inl (ap literal_name (eqb-true label l.label.0 e))
     by false e later = inr (later (or_right (label == l.label.0) (is_among (literal_labels ls) label) e h))
 
@@ -80,7 +84,8 @@ labels_are : (fs : List Allocated) (ls : List Literal) → Known fs ls → label
 labels_are fs ls k = code_labels (code_of fs) (statics_written ls) k.code ∙ ap (λ n. given_in (code_of fs) ++ n) (statics_labels ls)
 
 code_is : (fs : List Allocated) (ls : List Literal) → Known fs ls → code_in (read_so fs ls) ≡ coded_in (code_of fs)
-code_is fs ls k = code_words (code_of fs) (statics_written ls) k.code ∙ ap (λ n. coded_in (code_of fs) ++ n) (statics_code ls) ∙ append-nil (coded_in (code_of fs))
+code_is fs ls k = code_words (code_of fs) (statics_written ls) k.code ∙ ap (λ n. coded_in (code_of fs) ++ n) (statics_code ls) ∙ append-nil
+    (coded_in (code_of fs))
 
 differ_all : (fs : List Allocated) (ls : List Literal) → Known fs ls → Differ (labels_in (read_so fs ls))
 differ_all fs ls k =
@@ -97,24 +102,31 @@ finds_code : (fs : List Allocated) (ls : List Literal) → Known fs ls → Finds
 finds_code fs ls k name p h =
     let more = positions_from Code (0 + words (code_of fs)) 0 (texts.readings_of (statics_written ls)) in
     let e : positions (read_so fs ls) ≡ labels_from 0 (code_of fs) ++ more = code_positions 0 0 (code_of fs) (statics_written ls) k.code in
-    found (positions (read_so fs ls)) name p (subst Differ (sym (positions_named fs ls)) (differ_all fs ls k)) (subst (λ ps. Stands ps name p) (sym e) (stands_left (labels_from 0 (code_of fs)) more name p h))
+    found (positions (read_so fs ls)) name p (subst Differ (sym (positions_named fs ls)) (differ_all fs ls k))
+        (subst (λ ps. Stands ps name p) (sym e) (stands_left (labels_from 0 (code_of fs)) more name p h))
 
-function_there : (fs : List Allocated) (ls : List Literal) → Known fs ls → (label : ℕ) → IsTrue (is_among (function_labels fs) label) → IsInCode (positions (read_so fs ls)) (words (code_of fs)) (function_name label)
-function_there fs ls k label h = in_code (positions (read_so fs ls)) (words (code_of fs)) 0 (code_of fs) (function_name label) (omega arith) (finds_code fs ls k) (label_given (is_long fs) 0 label fs h)
+function_there : (fs : List Allocated) (ls : List Literal) → Known fs ls → (label : ℕ) → IsTrue (is_among (function_labels fs) label) →
+    IsInCode (positions (read_so fs ls)) (words (code_of fs)) (function_name label)
+function_there fs ls k label h = in_code (positions (read_so fs ls)) (words (code_of fs)) 0 (code_of fs) (function_name label) (omega arith)
+    (finds_code fs ls k) (label_given (is_long fs) 0 label fs h)
 
-literal_there : (fs : List Allocated) (ls : List Literal) → Known fs ls → (label : ℕ) → IsTrue (is_among (literal_labels ls) label) → IsSome (position_of (positions (read_so fs ls)) (literal_name label))
+literal_there : (fs : List Allocated) (ls : List Literal) → Known fs ls → (label : ℕ) → IsTrue (is_among (literal_labels ls) label) →
+    IsSome (position_of (positions (read_so fs ls)) (literal_name label))
 literal_there fs ls k label h =
     is_found (positions (read_so fs ls)) (literal_name label)
-    (subst (λ ns. IsAmong ns (literal_name label)) (sym (positions_named fs ls ∙ labels_are fs ls k)) (among_right (given_in (code_of fs)) (literal_names ls) (literal_name label) (literal_among label ls h)))
+    (subst (λ ns. IsAmong ns (literal_name label)) (sym (positions_named fs ls ∙ labels_are fs ls k))
+        (among_right (given_in (code_of fs)) (literal_names ls) (literal_name label) (literal_among label ls h)))
 
 short_code : (fs : List Allocated) → is_long fs ≡ false → words (code_of fs) ≤ 32000
 short_code fs e = subst (λ t. words (functions_lines t fs) ≤ 32000) (sym e) (not_above 32000 (words (functions_lines false fs)) e)
 
-surrounds : (fs : List Allocated) (ls : List Literal) → Known fs ls → Surrounds (positions (read_so fs ls)) (words (code_of fs)) (is_long fs) (function_labels fs) (literal_labels ls)
+surrounds : (fs : List Allocated) (ls : List Literal) → Known fs ls →
+    Surrounds (positions (read_so fs ls)) (words (code_of fs)) (is_long fs) (function_labels fs) (literal_labels ls)
 surrounds fs ls k = record { near = short_code fs; calls = function_there fs ls k; addresses = literal_there fs ls k }
 
 reaches : (fs : List Allocated) (ls : List Literal) → Known fs ls → WordsReach (positions (read_so fs ls)) (words (code_of fs)) 0 (coded_in (code_of fs))
-reaches fs ls k = reach_of_functions (positions (read_so fs ls)) (words (code_of fs)) (is_long fs) (function_labels fs) (literal_labels ls) 0 fs (surrounds fs ls k) k.emitted k.program.names (omega arith) (finds_code fs ls k)
+reaches fs ls k = reach_of_functions (positions (read_so fs ls)) (words (code_of fs)) (is_long fs) (function_labels fs) (literal_labels ls) 0 fs
+    (surrounds fs ls k) k.emitted k.program.names (omega arith) (finds_code fs ls k)
 
 length_is : (fs : List Allocated) (ls : List Literal) → Known fs ls → length (code_in (read_so fs ls)) ≡ words (code_of fs)
 length_is fs ls k = ap (λ c. length c) (code_is fs ls k) ∙ coded_words (code_of fs)
@@ -133,9 +145,11 @@ is_sound fs ls k =
       labels_differ = pairs_differ (labels_in (read_so fs ls)) (differ_all fs ls k);
       code_fits = subst (λ m. m ≤ most_words) (sym n) (let f : words (code_of fs) ≤ most_words = omega arith in f);
       statics_fit = subst (λ m. m ≤ most_bytes) (sym b) bytes_fit;
-      words_reach = subst (λ m. WordsReach ps m 0 (code_in (read_so fs ls))) (sym n) (subst (WordsReach ps (words (code_of fs)) 0) (sym (code_is fs ls k)) (reaches fs ls k));
+      words_reach = subst (λ m. WordsReach ps m 0 (code_in (read_so fs ls))) (sym n)
+          (subst (WordsReach ps (words (code_of fs)) 0) (sym (code_is fs ls k)) (reaches fs ls k));
       items_stand = (tt, (tt, code_items ps (code_of fs) (statics_written ls) k.code (statics_items ps ls)));
-      main_stands = subst (λ m. JumpReaches m (position_of ps (codes "main"))) (sym n) (jump_there ps (words (code_of fs)) (codes "main") (function_there fs ls k 32 k.program.has_body));
+      main_stands = subst (λ m. JumpReaches m (position_of ps (codes "main"))) (sym n)
+          (jump_there ps (words (code_of fs)) (codes "main") (function_there fs ls k 32 k.program.has_body));
     }
 
 written_stands : (fs : List Allocated) (ls : List Literal) → Known fs ls → texts.AreLines Code (program_written fs ls)

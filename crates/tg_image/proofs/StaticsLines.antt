@@ -8,7 +8,8 @@ use Rattle.tg_isa.specs.declared.keywords.Segment.{Segment}
 use Rattle.tg_isa.specs.declared.keywords.Segment.TheVariants.{Code, Statics as InStatics}
 use Rattle.tg_isa.specs.Items.{Datum, Single, widths}
 use Rattle.tg_isa.specs.Assembly.{Reading, round_up}
-use Rattle.tg_isa.specs.Placement.{Position, Positions, positions_from, next_position, segment_behind, item_words, byte_behind, labels_in, code_in, last_byte, DataStand, ItemsStand}
+use Rattle.tg_isa.specs.Placement.{Position, Positions, positions_from, next_position, segment_behind, item_words, byte_behind, labels_in, code_in, last_byte}
+use Rattle.tg_isa.specs.Placement.{DataStand, ItemsStand}
 use Rattle.tg_isa.specs.Texts as texts
 use Rattle.tg_tree.specs.declared.fragments.Literal.{Literal}
 use Rattle.tg_emit.specs.Names.{literal_name}
@@ -34,7 +35,8 @@ no_padding : (b : ℕ) → round_up b 1 ≡ b
 no_padding b = omega arith
 
 -- a line of bytes, in front of others
-line_stands : (bytes : List ℕ) (more : List texts.Line) → All (λ c. c < 2 ^ 8) bytes → texts.AreLines InStatics more → texts.AreLines InStatics (bytes_line bytes ∷ more)
+line_stands : (bytes : List ℕ) (more : List texts.Line) → All (λ c. c < 2 ^ 8) bytes → texts.AreLines InStatics more →
+    texts.AreLines InStatics (bytes_line bytes ∷ more)
 line_stands [] more h k = (omega arith, k)
 line_stands (b ∷ bytes) more h k = ((omega arith, h), k)
 
@@ -46,7 +48,8 @@ line_code : (bytes : List ℕ) (more : List texts.Line) → code_in (texts.readi
 line_code [] more = refl
 line_code (b ∷ bytes) more = refl
 
-line_bytes : (at : ℕ) (bytes : List ℕ) (more : List texts.Line) → last_byte at (texts.readings_of (bytes_line bytes ∷ more)) ≡ last_byte (at + length bytes) (texts.readings_of more)
+line_bytes : (at : ℕ) (bytes : List ℕ) (more : List texts.Line) →
+    last_byte at (texts.readings_of (bytes_line bytes ∷ more)) ≡ last_byte (at + length bytes) (texts.readings_of more)
 line_bytes at [] more = let e : round_up at 1 + 0 ≡ at + 0 = omega arith in ap (λ n. last_byte n (texts.readings_of more)) e
 line_bytes at (b ∷ bytes) more =
     let w = bytes_width (b ∷ bytes) in
@@ -54,7 +57,8 @@ line_bytes at (b ∷ bytes) more =
     let e : round_up at 1 + widths (read_bytes (b ∷ bytes)) ≡ at + length (b ∷ bytes) = omega arith in
     ap (λ n. last_byte n (texts.readings_of more)) e
 
-line_items : (ps : Positions) (bytes : List ℕ) (more : List texts.Line) → ItemsStand ps (texts.readings_of more) → ItemsStand ps (texts.readings_of (bytes_line bytes ∷ more))
+line_items : (ps : Positions) (bytes : List ℕ) (more : List texts.Line) → ItemsStand ps (texts.readings_of more) →
+    ItemsStand ps (texts.readings_of (bytes_line bytes ∷ more))
 line_items ps [] more h = ((tt, tt), h)
 line_items ps (b ∷ bytes) more h = (bytes_stand ps (b ∷ bytes), h)
 

@@ -49,7 +49,9 @@ stands_in_code (La register target) xs ls h k = refl
 stands_in_code (Statics bytes) xs ls h k = absurd h
 
 -- a line and what follows it
-put : (before after : Bool) (line : Line) (rest : List Line) (more : List texts.Line) → is_in_statics line rest ≡ after → lines_text after rest ≡ texts.text_of more → lines_text before (line ∷ rest) ≡ switched before after ++ (texts.written_line (written_line line) ++ (10 ∷ texts.text_of more))
+put : (before after : Bool) (line : Line) (rest : List Line) (more : List texts.Line) → is_in_statics line rest ≡ after →
+    lines_text after rest ≡ texts.text_of more →
+    lines_text before (line ∷ rest) ≡ switched before after ++ (texts.written_line (written_line line) ++ (10 ∷ texts.text_of more))
 put before after line rest more e h =
     ap (λ s. (switched before s ++ line_text line) ++ (10 ∷ lines_text s rest)) e
     ∙ ap (λ t. (switched before after ++ line_text line) ++ (10 ∷ t)) h
@@ -68,9 +70,12 @@ statics_same (l ∷ ls) =
     put false true (Label (literal_name l.label.0)) (Statics (padded l.text) ∷ literals_lines ls) (bytes_line (padded l.text) ∷ literals_written ls) refl
     (put true true (Statics (padded l.text)) (literals_lines ls) (literals_written ls) refl (literals_same ls))
 
-code_same : (xs : List Line) (ls : List Literal) → AreCode xs → lines_text false (xs ++ literals_lines ls) ≡ texts.text_of (map written_line xs ++ statics_written ls)
+code_same : (xs : List Line) (ls : List Literal) → AreCode xs →
+    lines_text false (xs ++ literals_lines ls) ≡ texts.text_of (map written_line xs ++ statics_written ls)
 code_same [] ls h = statics_same ls
-code_same (x ∷ xs) ls h = put false false x (xs ++ literals_lines ls) (map written_line xs ++ statics_written ls) (stands_in_code x xs ls h.0 h.1) (code_same xs ls h.1)
+code_same (x ∷ xs) ls h = put false false x (xs ++ literals_lines ls) (map written_line xs ++ statics_written ls) (stands_in_code x xs ls h.0 h.1)
+    (code_same xs ls h.1)
 
-pub text_same : (fs : List Allocated) (ls : List Literal) → AreCode (functions_lines (is_long fs) fs) → text_of (assembly_of fs ls) ≡ texts.text_of (program_written fs ls)
+pub text_same : (fs : List Allocated) (ls : List Literal) → AreCode (functions_lines (is_long fs) fs) →
+    text_of (assembly_of fs ls) ≡ texts.text_of (program_written fs ls)
 text_same fs ls h = ap (λ t. codes "\t.text\n\t.globl main\n" ++ t) (code_same (functions_lines (is_long fs) fs) ls h)

@@ -53,4 +53,5 @@ EmittedHasLabels =
 abbrev pub ProgramHasImage : Type 0
 ProgramHasImage =
     (fs : List Allocated) (ls : List Literal) → IsProgram fs ls → AreTyped fs ls →
-    assembled (text_of (assembly_of fs ls)) ≡ Ok (image_of (texts.readings_of (program_written fs ls)))
+    assembled (text_of (assembly_of fs ls))
+    ≡ Ok (image_of (texts.readings_of (program_written fs ls)))

@@ -1,5 +1,6 @@
 -- When functions over registers and literals are a program.
-use Rattle.std.specs.Prelude.{ℕ, ◌+◌, ◌==◌, ◌<◌, ◌≤◌, ◌&&◌, List, [], ◌∷◌, length, Bool, true, not, IsTrue, All}
+use Rattle.std.specs.Prelude.{ℕ, ◌+◌, ◌==◌, ◌<◌, ◌≤◌, ◌&&◌, List, [], ◌∷◌, length, Bool, true, not}
+use Rattle.std.specs.Prelude.{IsTrue, All}
 use Rattle.std.specs.List.{list_any, list_all}
 use Rattle.tg_base.specs.State.{most_words, most_bytes, padded}
 use Rattle.tg_tree.specs.declared.fragments.Literal.{Literal}

@@ -9,6 +9,11 @@ pub loop-place-preserved : goal.loop-place-preserved
 loop-place-preserved c =
     let one = c.index-instructions-place.result in
     record {
-      lines = code_one_more c.args.turned c.args.label.0 c.args.size c.loop-place.place c.args.instructions.now one c.loop-place-test.true c.args.list.now.items c.loop-place.list.items _ c.loop-place.invariant.lines (c.in_ok-instruction.ensures.lines ∙ ap (λ x. c.loop-place.list.items ++ instruction_lines c.args.turned c.args.label.0 c.args.size c.loop-place.place x) c.index-instructions-place.is);
-      fits = All-more InstructionFits c.args.instructions.now c.loop-place.place one c.loop-place-test.true c.loop-place.invariant.fits (subst InstructionFits c.index-instructions-place.is (record { row = c.in_ok-instruction.ensures.row; numbers = c.in_ok-instruction.ensures.numbers }));
+      lines = code_one_more c.args.turned c.args.label.0 c.args.size c.loop-place.place c.args.instructions.now one c.loop-place-test.true
+          c.args.list.now.items c.loop-place.list.items _ c.loop-place.invariant.lines
+          (c.in_ok-instruction.ensures.lines ∙ ap (λ x. c.loop-place.list.items ++ instruction_lines c.args.turned c.args.label.0 c.args.size
+          c.loop-place.place x) c.index-instructions-place.is);
+      fits = All-more InstructionFits c.args.instructions.now c.loop-place.place one c.loop-place-test.true c.loop-place.invariant.fits
+          (subst InstructionFits c.index-instructions-place.is (record { row = c.in_ok-instruction.ensures.row; numbers =
+          c.in_ok-instruction.ensures.numbers }));
     }
