@@ -16,7 +16,7 @@ pub one_more : {A B : Type 0} (f : List A → List B) (g : A → List B) → ((x
     new ≡ old ++ f (take (i + 1) xs)
 one_more f g law xs i d h old list new made more =
     more ∙ (ap (λ l. l ++ g (get_or xs i d)) made ∙ (append_assoc old (f (take i xs)) (g (get_or xs i d)) ∙ ap (λ l. old ++ l)
-        (sym (law (take i xs) (get_or xs i d)) ∙ ap f (sym (take_more xs i d h)))))
+    (sym (law (take i xs) (get_or xs i d)) ∙ ap f (sym (take_more xs i d h)))))
 
 pub further_more : (xs : List ℕ) (x : ℕ) → further_numbers (xs ++ x ∷ []) ≡ further_numbers xs ++ (44 ∷ 32 ∷ decimal x)
 further_more [] x = ap (λ l. 44 ∷ 32 ∷ l) (append-nil (decimal x))
@@ -28,7 +28,7 @@ pub functions_more : (turned : Bool) (xs : List Allocated) (x : Allocated) →
 functions_more turned [] x = append-nil (function_lines turned x)
 functions_more turned (y ∷ xs) x =
     ap (λ l. function_lines turned y ++ l) (functions_more turned xs x) ∙ sym (append_assoc (function_lines turned y) (functions_lines turned xs)
-        (function_lines turned x))
+    (function_lines turned x))
 
 pub literals_more : (xs : List Literal) (x : Literal) → literals_lines (xs ++ x ∷ []) ≡ literals_lines xs ++ literal_lines x
 literals_more [] x = append-nil (literal_lines x)
@@ -43,9 +43,9 @@ code_more turned label size place [] x =
 code_more turned label size place (y ∷ xs) x =
     let e : place + 1 + length xs ≡ place + suc (length xs) = omega arith in
     ap (λ l. instruction_lines turned label size place y ++ l) (code_more turned label size (place + 1) xs x ∙ ap
-        (λ p. code_lines turned label size (place + 1) xs ++ instruction_lines turned label size p x) e)
+    (λ p. code_lines turned label size (place + 1) xs ++ instruction_lines turned label size p x) e)
     ∙ sym (append_assoc (instruction_lines turned label size place y) (code_lines turned label size (place + 1) xs)
-        (instruction_lines turned label size (place + suc (length xs)) x))
+    (instruction_lines turned label size (place + suc (length xs)) x))
 
 pub words_more : (xs : List Line) (x : Line) → words (xs ++ x ∷ []) ≡ words xs + words_of x
 words_more [] x = let e : words_of x + 0 ≡ 0 + words_of x = omega arith in e
@@ -62,9 +62,9 @@ pub code_one_more : (turned : Bool) (label size i : ℕ) (xs : List Instr) (d : 
 code_one_more turned label size i xs d h old list new made more =
     let at : 0 + length (take i xs) ≡ i = zero-add (length (take i xs)) ∙ length-take-le i xs (omega arith) in
     more ∙ (ap (λ l. l ++ instruction_lines turned label size i (get_or xs i d)) made ∙
-        (append_assoc old (code_lines turned label size 0 (take i xs)) (instruction_lines turned label size i (get_or xs i d)) ∙ ap (λ l. old ++ l)
-        (ap (λ p. code_lines turned label size 0 (take i xs) ++ instruction_lines turned label size p (get_or xs i d)) (sym at) ∙
-        (sym (code_more turned label size 0 (take i xs) (get_or xs i d)) ∙ ap (code_lines turned label size 0) (sym (take_more xs i d h))))))
+    (append_assoc old (code_lines turned label size 0 (take i xs)) (instruction_lines turned label size i (get_or xs i d)) ∙ ap (λ l. old ++ l)
+    (ap (λ p. code_lines turned label size 0 (take i xs) ++ instruction_lines turned label size p (get_or xs i d)) (sym at) ∙
+    (sym (code_more turned label size 0 (take i xs) (get_or xs i d)) ∙ ap (code_lines turned label size 0) (sym (take_more xs i d h))))))
 
 pub words_at : (xs : List Line) (i : ℕ) (x : Line) → i < length xs → x ≡ get_or xs i x → words (take (i + 1) xs) ≡ words (take i xs) + words_of x
 words_at xs i x h e = ap words (take_more xs i x h) ∙ (words_more (take i xs) (get_or xs i x) ∙ ap (λ y. words (take i xs) + words_of y) (sym e))

@@ -41,9 +41,11 @@ each_map f P (x ∷ xs) h = (h.0, each_map f P xs h.1)
 -- texts that differ do so behind a text
 pub differ_behind : (front : List ℕ) (ts : List (List ℕ)) → Differ ts → Differ (map (λ t. front ++ t) ts)
 differ_behind front [] h = tt
-differ_behind front (t ∷ ts) h =
-    (each_map (λ u. front ++ u) (λ y. (front ++ t) ≢ y) ts (each_weaker (λ u. t ≢ u) (λ u. (front ++ t) ≢ (front ++ u))
-        (λ u n e. n (append_cancel_left front t u e)) ts h.0), differ_behind front ts h.1)
+differ_behind front (t ∷ ts) h = (
+  each_map (λ u. front ++ u) (λ y. (front ++ t) ≢ y) ts (each_weaker (λ u. t ≢ u) (λ u. (front ++ t) ≢ (front ++ u))
+      (λ u n e. n (append_cancel_left front t u e)) ts h.0),
+  differ_behind front ts h.1,
+)
 
 pub pairs_differ : (xs : List (List ℕ)) → Differ xs → AllPairs (λ a b. a ≢ b) xs
 pairs_differ [] h = λ i j d l k. absurd (omega arith)

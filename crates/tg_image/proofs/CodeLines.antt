@@ -141,7 +141,7 @@ code_positions w b (Label name ∷ ls) more h =
     let e : w + 0 + words ls ≡ w + (0 + words ls) = omega arith in
     let z : w + 0 ≡ w = omega arith in
     ap (λ l. (name, AtWord w) ∷ l) (code_positions (w + 0) b ls more h.1 ∙ ap (λ n. labels_from (w + 0) ls ++ positions_from Code n b
-        (texts.readings_of more)) e ∙ ap (λ n. labels_from n ls ++ positions_from Code (w + (0 + words ls)) b (texts.readings_of more)) z)
+    (texts.readings_of more)) e ∙ ap (λ n. labels_from n ls ++ positions_from Code (w + (0 + words ls)) b (texts.readings_of more)) z)
 code_positions w b (One one target ∷ ls) more h =
     let e : w + 1 + words ls ≡ w + (1 + words ls) = omega arith in
     code_positions (w + 1) b ls more h.1 ∙ ap (λ n. labels_from (w + 1) ls ++ positions_from Code n b (texts.readings_of more)) e

@@ -32,8 +32,8 @@ pub code_of_code : (turned : Bool) (label size place : ℕ) (list : List Instr) 
 code_of_code turned label size place [] l h p f c = tt
 code_of_code turned label size place (one ∷ rest) l h p f c =
     each_append IsCode (instruction_lines turned label size place one) (code_lines turned label size (place + 1) rest)
-        (code_of_instruction turned label size place one l h (omega arith) f.0 (left_holds _ _ c))
-        (code_of_code turned label size (place + 1) rest l h (omega arith) f.1 (right_holds (has_code one) _ c))
+    (code_of_instruction turned label size place one l h (omega arith) f.0 (left_holds _ _ c))
+    (code_of_code turned label size (place + 1) rest l h (omega arith) f.1 (right_holds (has_code one) _ c))
 
 abbrev pub tails : (turned : Bool) (place : ℕ) → List Instr → List (List ℕ)
 tails turned place [] = []
@@ -48,7 +48,7 @@ given_of_code turned label size place [] h f c = refl
 given_of_code turned label size place (one ∷ rest) h f c =
     given_append (instruction_lines turned label size place one) (code_lines turned label size (place + 1) rest)
     ∙ joined _ _ _ _ (given_of_instruction turned label size place one h f.0 (left_holds _ _ c))
-        (given_of_code turned label size (place + 1) rest h f.1 (right_holds (has_code one) _ c))
+    (given_of_code turned label size (place + 1) rest h f.1 (right_holds (has_code one) _ c))
     ∙ sym (map-append (λ t. function_name label ++ t) (tail_of turned place one) (tails turned (place + 1) rest))
 
 -- code that ends well is a word at least
@@ -130,7 +130,7 @@ pub mark_given : (turned : Bool) (label size place w m : ℕ) (list : List Instr
 mark_given turned label size place w m [] h e = cc
 mark_given turned label size place w m (one ∷ rest) h e =
     by (is_mark m one) refl (λ more. mark_given turned label size (place + 1) (w + words (instruction_lines turned label size place one)) m rest more
-        (some_ends m one rest e more))
+    (some_ends m one rest e more))
   where
     by : (b : Bool) → is_mark m one ≡ b →
         (IsTrue (list_any (is_mark m) rest) →
@@ -153,7 +153,7 @@ pub reach_lines : (ps : Positions) (n w : ℕ) (xs ys : List Line) → WordsReac
     WordsReach ps n w (coded_in (xs ++ ys))
 reach_lines ps n w xs ys h k =
     subst (WordsReach ps n w) (sym (coded_append xs ys)) (reach_append ps n w (coded_in xs) (coded_in ys) h
-        (subst (λ m. WordsReach ps n (w + m) (coded_in ys)) (sym (coded_words xs)) k))
+    (subst (λ m. WordsReach ps n (w + m) (coded_in ys)) (sym (coded_words xs)) k))
 
 pub reach_of_code : (ps : Positions) (n : ℕ) (turned : Bool) (functions literals : List ℕ) (label size place w : ℕ) (all list : List Instr) →
     Surrounds ps n turned functions literals → ((m : ℕ) → IsTrue (list_any (is_mark m) all) → IsInCode ps n (mark_name label m)) → size < 2 ^ 29 →
@@ -167,10 +167,10 @@ reach_of_code ps n turned functions literals label size place w all (one ∷ res
     let e = words_append here more in
     reach_lines ps n w here more
     (reach_of_instruction ps n turned functions literals label size place w all one s marks h f.0 (left_holds _ _ c) (left_holds _ _ m)
-        (left_holds _ _ names) (omega arith) (finds_left ps w here more finds))
+    (left_holds _ _ names) (omega arith) (finds_left ps w here more finds))
     (reach_of_code ps n turned functions literals label size (place + 1) (w + words here) all rest s marks h f.1 (right_holds (has_code one) _ c)
-        (right_holds (leads_to_marks all one) _ m) (right_holds (names_those functions literals one) _ names) (omega arith)
-        (finds_right ps w here more finds))
+    (right_holds (leads_to_marks all one) _ m) (right_holds (names_those functions literals one) _ names) (omega arith)
+    (finds_right ps w here more finds))
 
 -- A whole function.
 abbrev pub opening : ℕ → List Line
@@ -214,10 +214,12 @@ pub code_of_function : (turned : Bool) (f : Allocated) → IsEmitted f → AreCo
 code_of_function turned f k =
     let size = size_of f.frame in
     let l = k.label in
-    let n = k.length in
-    (function_label f.frame.label.0 (omega arith), each_append IsCode (opening size) (code_of turned f)
-        (plain_code (opening size) (opening_plain size k.some k.size)) (code_of_code turned f.frame.label.0 size 0 f.code.list k.label k.size (omega arith)
-        k.fits k.codes))
+    let n = k.length in (
+      function_label f.frame.label.0 (omega arith),
+      each_append IsCode (opening size) (code_of turned f)
+          (plain_code (opening size) (opening_plain size k.some k.size)) (code_of_code turned f.frame.label.0 size 0 f.code.list k.label k.size (omega arith)
+          k.fits k.codes),
+    )
 
 pub given_of_function : (turned : Bool) (f : Allocated) → IsEmitted f →
     given_in (function_lines turned f) ≡ map (λ t. function_name f.frame.label.0 ++ t) ([] ∷ tails turned 0 f.code.list)
@@ -227,7 +229,7 @@ given_of_function turned f k =
     let rest : given_in (opening size ++ code_of turned f) ≡ map (λ t. name ++ t) (tails turned 0 f.code.list) =
     given_append (opening size) (code_of turned f)
     ∙ joined _ _ [] _ (plain_given (opening size) (opening_plain size k.some k.size))
-        (given_of_code turned f.frame.label.0 size 0 f.code.list k.size k.fits k.codes) in
+    (given_of_code turned f.frame.label.0 size 0 f.code.list k.size k.fits k.codes) in
     ap (λ l. name ∷ l) rest ∙ ap (λ n. n ∷ map (λ t. name ++ t) (tails turned 0 f.code.list)) (sym (append-nil name))
 
 pub function_given : (turned : Bool) (f : Allocated) (w : ℕ) → IsGiven w (function_lines turned f) (function_name f.frame.label.0)

@@ -63,7 +63,7 @@ code_of_instruction turned label size place (Mark m) l h p f c = (mark_label lab
 code_of_instruction turned label size place (Jump m) l h p f c = ((omega arith, λ _. mark_label label m (wide label l) (wide m f.numbers)), tt)
 code_of_instruction turned label size place (Branch test m) l h p f c =
     branch_code turned test (mark_name label m) (behind_name label place) f.numbers.0 f.numbers.1
-        (mark_label label m (wide label l) (wide m f.numbers.2), tt) (behind_label label place (wide label l) p, tt)
+    (mark_label label m (wide label l) (wide m f.numbers.2), tt) (behind_label label place (wide label l) p, tt)
 code_of_instruction turned label size place (Call callee) l h p f c = ((omega arith, λ _. function_label callee.0 (wide callee.0 f.numbers)), tt)
 code_of_instruction turned label size place one l h p f c = plain_code (instruction_lines turned label size place one)
     (plain_instruction turned label size place one h f c refl)
@@ -120,14 +120,17 @@ branch_reach : (ps : Positions) (n w : ℕ) (turned : Bool) (test : Test) (there
     w + words (branch_lines turned (branch_of test) (opposite_branch_of test) there around) ≤ n →
     Finds ps (labels_from w (branch_lines turned (branch_of test) (opposite_branch_of test) there around)) →
     WordsReach ps n w (coded_in (branch_lines turned (branch_of test) (opposite_branch_of test) there around))
-branch_reach ps n w false test there around near t fits finds =
-    (subst (WordReaches ps n w) (sym (branch_coded test.rel (register_of test.left) (register_of test.right) there))
-        (branch_near ps n w there (near refl) (omega arith) t), tt)
+branch_reach ps n w false test there around near t fits finds = (
+  subst (WordReaches ps n w) (sym (branch_coded test.rel (register_of test.left) (register_of test.right) there))
+      (branch_near ps n w there (near refl) (omega arith) t),
+  tt,
+)
 branch_reach ps n w true test there around near t fits finds =
     let at : position_of ps around ≡ Some (AtWord (w + 1 + 1)) = finds around (AtWord (w + 1 + 1)) (inl refl) in
-    let r : BranchReaches w (position_of ps around) = subst (BranchReaches w) (sym at) (omega arith, omega arith) in
-    (subst (WordReaches ps n w) (sym (branch_coded (opposite test.rel) (register_of test.left) (register_of test.right) around)) r,
-        (jump_there ps n there t, tt))
+    let r : BranchReaches w (position_of ps around) = subst (BranchReaches w) (sym at) (omega arith, omega arith) in (
+      subst (WordReaches ps n w) (sym (branch_coded (opposite test.rel) (register_of test.left) (register_of test.right) around)) r,
+      (jump_there ps n there t, tt),
+    )
 
 pub reach_of_instruction : (ps : Positions) (n : ℕ) (turned : Bool) (functions literals : List ℕ) (label size place w : ℕ) (all : List Instr) (one : Instr)
     → Surrounds ps n turned functions literals → ((m : ℕ) → IsTrue (list_any (is_mark m) all) → IsInCode ps n (mark_name label m)) → size < 2 ^ 29 →

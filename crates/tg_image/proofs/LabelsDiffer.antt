@@ -67,14 +67,14 @@ mark_apart turned place m [] h f n = tt
 mark_apart turned place m (one ∷ rest) h f n =
     let k = neither (is_mark m one) (list_any (is_mark m) rest) n in
     each_append (λ t. (46 ∷ decimal m) ≢ t) (tail_of turned place one) (tails turned (place + 1) rest) (mark_unlike turned place m one h f.0 k.0)
-        (mark_apart turned (place + 1) m rest h f.1 k.1)
+    (mark_apart turned (place + 1) m rest h f.1 k.1)
 
 place_apart : (turned : Bool) (p place : ℕ) (list : List Instr) → p < place → place + length list ≤ 2 ^ 64 →
     AllByRecursion (λ t. (95 ∷ decimal p) ≢ t) (tails turned place list)
 place_apart turned p place [] h l = tt
 place_apart turned p place (one ∷ rest) h l =
     each_append (λ t. (95 ∷ decimal p) ≢ t) (tail_of turned place one) (tails turned (place + 1) rest) (place_unlike turned p place one h (omega arith))
-        (place_apart turned p (place + 1) rest (omega arith) (omega arith))
+    (place_apart turned p (place + 1) rest (omega arith) (omega arith))
 
 nothing_apart : (turned : Bool) (place : ℕ) (list : List Instr) → AllByRecursion (λ t. [] ≢ t) (tails turned place list)
 nothing_apart turned place [] = tt
@@ -102,14 +102,14 @@ tails_differ : (turned : Bool) (place : ℕ) (list : List Instr) → place + len
 tails_differ turned place [] l f d = tt
 tails_differ turned place (one ∷ rest) l f d =
     differ_append (tail_of turned place one) (tails turned (place + 1) rest) (single_differs turned place one)
-        (tails_differ turned (place + 1) rest (omega arith) f.1 (rest_marks one rest d)) (one_apart turned place one rest (omega arith) f.0 f.1 d)
+    (tails_differ turned (place + 1) rest (omega arith) f.1 (rest_marks one rest d)) (one_apart turned place one rest (omega arith) f.0 f.1 d)
 
 function_differs : (turned : Bool) (f : Allocated) → IsEmitted f → Differ (given_in (function_lines turned f))
 function_differs turned f k =
     let l = k.length in
     subst Differ (sym (given_of_function turned f k))
     (differ_behind (function_name f.frame.label.0) ([] ∷ tails turned 0 f.code.list)
-        (nothing_apart turned 0 f.code.list, tails_differ turned 0 f.code.list (omega arith) k.fits f.code.marks_differ))
+    (nothing_apart turned 0 f.code.list, tails_differ turned 0 f.code.list (omega arith) k.fits f.code.marks_differ))
 
 -- a name of the code of the function with a label, and one of no such code
 pub record IsOf (label : ℕ) (name : List ℕ) : Type 0 where
@@ -126,7 +126,7 @@ names_are_of turned f k =
     subst (AllByRecursion (IsOf f.frame.label.0)) (sym (given_of_function turned f k))
     (each_map (λ t. name ++ t) (IsOf f.frame.label.0) ([] ∷ tails turned 0 f.code.list)
     (each_weaker (λ t. begins is_separator t ≡ true) (λ t. IsOf f.frame.label.0 (name ++ t)) (λ t b. record { tail = t; begin = b; is = refl })
-        ([] ∷ tails turned 0 f.code.list) (refl, tails_begin turned 0 f.code.list)))
+    ([] ∷ tails turned 0 f.code.list) (refl, tails_begin turned 0 f.code.list)))
 
 of_another : (a b : ℕ) → a < 2 ^ 32 → b < 2 ^ 32 → a ≢ b → (name : List ℕ) → IsOf b name → IsNotOf a name
 of_another a b h k n name o t begin e = n ((same_parts a b t o.tail (omega arith) (omega arith) begin o.begin (sym e ∙ o.is)).function)

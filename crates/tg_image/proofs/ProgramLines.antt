@@ -51,4 +51,4 @@ reach_of_functions ps n turned functions literals w (f ∷ fs) s k names fits fi
     reach_lines ps n w here more
     (reach_of_function ps n turned functions literals w f s k.0 (left_holds _ _ names) (omega arith) (finds_left ps w here more finds))
     (reach_of_functions ps n turned functions literals (w + words here) fs s k.1 (right_holds (calls_those functions literals f) _ names) (omega arith)
-        (finds_right ps w here more finds))
+    (finds_right ps w here more finds))

@@ -103,7 +103,7 @@ finds_code fs ls k name p h =
     let more = positions_from Code (0 + words (code_of fs)) 0 (texts.readings_of (statics_written ls)) in
     let e : positions (read_so fs ls) ≡ labels_from 0 (code_of fs) ++ more = code_positions 0 0 (code_of fs) (statics_written ls) k.code in
     found (positions (read_so fs ls)) name p (subst Differ (sym (positions_named fs ls)) (differ_all fs ls k))
-        (subst (λ ps. Stands ps name p) (sym e) (stands_left (labels_from 0 (code_of fs)) more name p h))
+    (subst (λ ps. Stands ps name p) (sym e) (stands_left (labels_from 0 (code_of fs)) more name p h))
 
 function_there : (fs : List Allocated) (ls : List Literal) → Known fs ls → (label : ℕ) → IsTrue (is_among (function_labels fs) label) →
     IsInCode (positions (read_so fs ls)) (words (code_of fs)) (function_name label)
@@ -115,7 +115,7 @@ literal_there : (fs : List Allocated) (ls : List Literal) → Known fs ls → (l
 literal_there fs ls k label h =
     is_found (positions (read_so fs ls)) (literal_name label)
     (subst (λ ns. IsAmong ns (literal_name label)) (sym (positions_named fs ls ∙ labels_are fs ls k))
-        (among_right (given_in (code_of fs)) (literal_names ls) (literal_name label) (literal_among label ls h)))
+    (among_right (given_in (code_of fs)) (literal_names ls) (literal_name label) (literal_among label ls h)))
 
 short_code : (fs : List Allocated) → is_long fs ≡ false → words (code_of fs) ≤ 32000
 short_code fs e = subst (λ t. words (functions_lines t fs) ≤ 32000) (sym e) (not_above 32000 (words (functions_lines false fs)) e)

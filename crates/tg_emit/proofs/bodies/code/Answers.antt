@@ -14,6 +14,9 @@ loop-place-preserved c =
           (c.in_ok-instruction.ensures.lines ∙ ap (λ x. c.loop-place.list.items ++ instruction_lines c.args.turned c.args.label.0 c.args.size
           c.loop-place.place x) c.index-instructions-place.is);
       fits = All-more InstructionFits c.args.instructions.now c.loop-place.place one c.loop-place-test.true c.loop-place.invariant.fits
-          (subst InstructionFits c.index-instructions-place.is (record { row = c.in_ok-instruction.ensures.row; numbers =
-          c.in_ok-instruction.ensures.numbers }));
+          (subst InstructionFits c.index-instructions-place.is (record {
+            row = c.in_ok-instruction.ensures.row;
+            numbers =
+                c.in_ok-instruction.ensures.numbers;
+          }));
     }
