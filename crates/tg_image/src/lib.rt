@@ -3,5 +3,7 @@
 #![tactic(auto)]
 
 mod laws;
+mod programs;
 
 pub use laws::{emitted_has_labels, program_has_image};
+pub use programs::is_program;
