@@ -1,5 +1,6 @@
 -- The test of a program tells whether it is one.
-use Rattle.std.proofs.Common.{ℕ, suc, ◌≡◌, ◌≢◌, ◌<◌, ◌≤◌, ◌+◌, ◌-◌, ◌%◌, List, [], ◌∷◌, ◌++◌, length, get_or, take, drop, replicate, map, Bool, true, false, not, nat_eq, refl, sym, ap, subst, ◌∙◌, arith, add_assoc, length-append}
+use Rattle.std.proofs.Common.{ℕ, suc, ◌≡◌, ◌≢◌, ◌<◌, ◌≤◌, ◌+◌, ◌-◌, ◌%◌, List, [], ◌∷◌, ◌++◌, length, get_or, take, drop, replicate, map, Bool, true, false}
+use Rattle.std.proofs.Common.{not, nat_eq, refl, sym, ap, subst, ◌∙◌, arith, add_assoc, length-append}
 use Rattle.std.specs.Prelude.{◌↔◌, ◌==◌, ◌&&◌, ◌||◌, IsTrue, nat_lt, nat_le}
 use Rattle.std.specs.Bool.{Decides}
 use Rattle.std.specs.List.{list_all, list_any, All, AllPairs, AllByRecursion}
@@ -29,7 +30,8 @@ not_among : (x : ℕ) (xs : List ℕ) → IsTrue (not (is_among xs x)) → AllBy
 not_among x [] h = tt
 not_among x (y ∷ xs) h = by (x == y) refl h (λ k. not_among x xs k)
   where
-    by : (b : Bool) → (x == y) ≡ b → IsTrue (not (b || is_among xs x)) → (IsTrue (not (is_among xs x)) → AllByRecursion (λ y. x ≢ y) xs) → AllByRecursion (λ y. x ≢ y) (y ∷ xs)
+    by : (b : Bool) → (x == y) ≡ b → IsTrue (not (b || is_among xs x)) → (IsTrue (not (is_among xs x)) → AllByRecursion (λ y. x ≢ y) xs) →
+        AllByRecursion (λ y. x ≢ y) (y ∷ xs)
     by true e h later = cc
     by false e h later = (unlike x y e, later h)
       where
@@ -49,17 +51,21 @@ among_none x (y ∷ xs) h = by (x == y) refl (among_none x xs (λ k d l. h (suc 
 
 differ_pairs : (xs : List ℕ) → IsTrue (labels_differ xs) → AllPairs (λ a b. a ≢ b) xs
 differ_pairs [] h = λ i j d l k. absurd (omega arith)
-differ_pairs (x ∷ xs) h = AllPairs-cons (λ a b. a ≢ b) x xs (All-from_recursion (λ y. x ≢ y) xs (not_among x xs (left_holds _ _ h))) (differ_pairs xs (right_holds (not (is_among xs x)) _ h))
+differ_pairs (x ∷ xs) h = AllPairs-cons (λ a b. a ≢ b) x xs (All-from_recursion (λ y. x ≢ y) xs (not_among x xs (left_holds _ _ h)))
+    (differ_pairs xs (right_holds (not (is_among xs x)) _ h))
 
 pairs_differ : (xs : List ℕ) → AllPairs (λ a b. a ≢ b) xs → IsTrue (labels_differ xs)
 pairs_differ [] h = refl
 pairs_differ (x ∷ xs) h =
-    both_hold _ _ (among_none x xs (λ k d l. h 0 (suc k) d (omega arith) (omega arith))) (pairs_differ xs (λ i j d l k. h (suc i) (suc j) d (omega arith) (omega arith)))
+    both_hold _ _ (among_none x xs (λ k d l. h 0 (suc k) d (omega arith) (omega arith)))
+    (pairs_differ xs (λ i j d l k. h (suc i) (suc j) d (omega arith) (omega arith)))
 
-labels_by_size : {S : Type 0} (xs : List ℕ) (n : ℕ) (set : HashSet ℕ S) → bag.IsFromIterResult nat_eq xs set → length xs ≡ n → (hash_set_len set == n) ≡ labels_differ xs
+labels_by_size : {S : Type 0} (xs : List ℕ) (n : ℕ) (set : HashSet ℕ S) → bag.IsFromIterResult nat_eq xs set → length xs ≡ n →
+    (hash_set_len set == n) ≡ labels_differ xs
 labels_by_size xs n set made e =
     ap (λ m. hash_set_len set == m) (sym e)
-    ∙ same_from_decides (hash_set_len set == length xs) (labels_differ xs) (hash_set_len-Decides unsigned_Decides nat_eq_equiv xs set made) (differ_pairs xs, pairs_differ xs)
+    ∙ same_from_decides (hash_set_len set == length xs) (labels_differ xs) (hash_set_len-Decides unsigned_Decides nat_eq_equiv xs set made)
+    (differ_pairs xs, pairs_differ xs)
 
 function_count : (fs : List Allocated) → length (function_labels fs) ≡ length fs
 function_count [] = refl
@@ -117,9 +123,17 @@ whole fs ls =
     && (list_all (calls_those (function_labels fs) (literal_labels ls)) fs
     && (nat_lt (words (functions_lines (is_long fs) fs)) most_words && nat_le (bytes_of ls) most_bytes))))
 
-whole_so : {S : Type 0} (fs : List Allocated) (ls : List Literal) (known there : HashSet ℕ S) → bag.IsFromIterResult nat_eq (function_labels fs) known → bag.IsFromIterResult nat_eq (literal_labels ls) there → is_whole fs ls (assembly_of fs ls) known there ≡ whole fs ls
+whole_so : {S : Type 0} (fs : List Allocated) (ls : List Literal) (known there : HashSet ℕ S) → bag.IsFromIterResult nat_eq (function_labels fs) known →
+    bag.IsFromIterResult nat_eq (literal_labels ls) there → is_whole fs ls (assembly_of fs ls) known there ≡ whole fs ls
 whole_so fs ls known there k t =
-    rw (labels_by_size (function_labels fs) (length fs) known k (function_count fs), labels_by_size (literal_labels ls) (length ls) there t (literal_count ls), k.0 32, functions_within (function_labels fs) (literal_labels ls) known there k t fs, assembly_words fs ls) refl
+    rw (
+      labels_by_size (function_labels fs) (length fs) known k (function_count fs),
+      labels_by_size (literal_labels ls) (length ls) there t
+          (literal_count ls),
+      k.0 32,
+      functions_within (function_labels fs) (literal_labels ls) known there k t fs,
+      assembly_words fs ls,
+    ) refl
 
 whole_told : (fs : List Allocated) (ls : List Literal) → IsTrue (list_all is_emittable fs) → IsTrue (whole fs ls) ↔ IsProgram fs ls
 whole_told fs ls e = (there, back)
@@ -146,9 +160,13 @@ whole_told fs ls e = (there, back)
         }
 
     back : IsProgram fs ls → IsTrue (whole fs ls)
-    back p = both_hold _ _ p.functions_differ (both_hold _ _ p.literals_differ (both_hold _ _ p.has_body (both_hold _ _ p.names (both_hold _ _ (test_below (words (functions_lines (is_long fs) fs)) most_words p.code_fits) (test_within (bytes_of ls) most_bytes p.statics_fit)))))
+    back p = both_hold _ _ p.functions_differ (both_hold _ _ p.literals_differ (both_hold _ _ p.has_body
+        (both_hold _ _ p.names (both_hold _ _ (test_below (words (functions_lines (is_long fs) fs)) most_words p.code_fits)
+        (test_within (bytes_of ls) most_bytes p.statics_fit)))))
 
-pub program_told : {S : Type 0} (fs : List Allocated) (ls : List Literal) (lines : List Line) (known there : HashSet ℕ S) (r : Bool) → bag.IsFromIterResult nat_eq (function_labels fs) known → bag.IsFromIterResult nat_eq (literal_labels ls) there → IsTrue (list_all is_emittable fs) → lines ≡ assembly_of fs ls → r ≡ is_whole fs ls lines known there → IsTrue r ↔ IsProgram fs ls
+pub program_told : {S : Type 0} (fs : List Allocated) (ls : List Literal) (lines : List Line) (known there : HashSet ℕ S) (r : Bool) →
+    bag.IsFromIterResult nat_eq (function_labels fs) known → bag.IsFromIterResult nat_eq (literal_labels ls) there → IsTrue (list_all is_emittable fs) →
+    lines ≡ assembly_of fs ls → r ≡ is_whole fs ls lines known there → IsTrue r ↔ IsProgram fs ls
 program_told fs ls lines known there r k t e l is =
     let so : r ≡ whole fs ls = is ∙ ap (λ x. is_whole fs ls x known there) l ∙ whole_so fs ls known there k t in
     let w = whole_told fs ls e in
@@ -171,8 +189,10 @@ bytes_front : (xs ys : List Literal) → bytes_of xs ≤ bytes_of (xs ++ ys)
 bytes_front [] ys = omega arith
 bytes_front (x ∷ xs) ys = let h = bytes_front xs ys in omega arith
 
-pub bytes_at : (ls : List Literal) (i : ℕ) (l : Literal) → i < length ls → l ≡ get_or ls i l → bytes_of (take (i + 1) ls) ≡ bytes_of (take i ls) + length (padded l.text)
-bytes_at ls i l h e = ap bytes_of (take_more ls i l h) ∙ (bytes_more (take i ls) (get_or ls i l) ∙ ap (λ m. bytes_of (take i ls) + length (padded m.text)) (sym e))
+pub bytes_at : (ls : List Literal) (i : ℕ) (l : Literal) → i < length ls → l ≡ get_or ls i l →
+    bytes_of (take (i + 1) ls) ≡ bytes_of (take i ls) + length (padded l.text)
+bytes_at ls i l h e = ap bytes_of (take_more ls i l h) ∙ (bytes_more (take i ls) (get_or ls i l) ∙ ap (λ m. bytes_of (take i ls) + length (padded m.text))
+    (sym e))
 
 pub bytes_below : (ls : List Literal) (i : ℕ) → bytes_of (take i ls) ≤ bytes_of ls
 bytes_below ls i = subst (λ ms. bytes_of (take i ls) ≤ bytes_of ms) (take-append-drop i ls) (bytes_front (take i ls) (drop i ls))

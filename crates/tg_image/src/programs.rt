@@ -47,13 +47,7 @@ pub fn is_program(
 {
     let known = function_set(alloc, functions)?;
     let there = literal_set(alloc, literals)?;
-    Ok(is_whole(
-        functions,
-        literals,
-        assembly.as_slice(),
-        &known,
-        &there,
-    ))
+    Ok(is_whole(functions, literals, assembly.as_slice(), &known, &there))
 }
 
 fn is_whole(
