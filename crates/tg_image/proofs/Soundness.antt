@@ -1,16 +1,16 @@
 -- The readings of a program's lines are sound, and its text has their image.
 use Rattle.std.proofs.Common.{ℕ, ◌≡◌, ◌≤◌, ◌+◌, List, [], ◌∷◌, ◌++◌, length, Bool, true, false, Some, refl, sym, ap, ◌∙◌, arith, subst, append-nil, ◌⊎◌, inl}
-use Rattle.std.proofs.Common.{inr, eqb-true}
+use Rattle.std.proofs.Common.{inr, eqb-true, ◌*◌}
 use Rattle.std.specs.Prelude.{IsTrue, ◌==◌, codes, nat_lt, IsSome, if◌then◌else◌}
 use Rattle.std.specs.List.{AllByRecursion}
 use Rattle.std.specs.Str.{bytes_eq}
 use Rattle.std.proofs.lemmas.Bool.Decides.{nat_tests}
 use Rattle.std.proofs.lemmas.List.Elements.{recursion_from_All}
 use Rattle.std.proofs.lemmas.Slice.Eq.{bytes_eq-Decides}
-use Rattle.tg_base.specs.State.{most_words, most_bytes}
+use Rattle.tg_base.specs.State.{most_words, most_bytes, code_base}
 use Rattle.tg_isa.specs.declared.keywords.Segment.TheVariants.{Code}
 use Rattle.tg_isa.specs.Assembly.{Reading, assembled}
-use Rattle.tg_isa.specs.Placement.{Positions, positions, positions_from, position_of, labels_in, code_in, last_byte, WordsReach, JumpReaches, IsSound}
+use Rattle.tg_isa.specs.Placement.{AtWord, found_address, Positions, positions, positions_from, position_of, labels_in, code_in, last_byte, WordsReach, JumpReaches, IsSound}
 use Rattle.tg_isa.specs.Texts as texts
 use Rattle.tg_isa.proofs.TextLines.{lines_have_image}
 use Rattle.tg_tree.specs.declared.fragments.Literal.{Literal}
@@ -18,11 +18,11 @@ use Rattle.tg_instr.specs.declared.codes.Allocated.{Allocated}
 use Rattle.tg_emit.specs.declared.assembly.Line.{Line}
 use Rattle.tg_emit.specs.Names.{function_name, literal_name}
 use Rattle.tg_emit.specs.Ranges.{FunctionFits, LiteralFits}
-use Rattle.tg_emit.specs.Lines.{functions_lines, is_long, words}
+use Rattle.tg_emit.specs.Lines.{function_lines, functions_lines, is_long, words}
 use Rattle.tg_image.specs.Programs.{function_labels, literal_labels, is_among, bytes_of, IsProgram, AreTyped}
-use Rattle.tg_image.specs.Images.{statics_written, program_written, ProgramHasImage}
-use Rattle.tg_image.proofs.Apart.{Differ, differ_append, pairs_differ, Stands, stands_left, names_of, found}
-use Rattle.tg_image.proofs.CodeLines.{AreCode, coded_in, labels_from, given_in, coded_words, code_stands, code_words, code_positions, code_bytes, code_items}
+use Rattle.tg_image.specs.Images.{statics_written, program_written, words_before, ProgramHasImage, ProgramEntersBody}
+use Rattle.tg_image.proofs.Apart.{Differ, differ_append, pairs_differ, Stands, stands_left, stands_right, names_of, found}
+use Rattle.tg_image.proofs.CodeLines.{AreCode, coded_in, labels_from, labels_append, given_in, coded_words, code_stands, code_words, code_positions, code_bytes, code_items}
 use Rattle.tg_image.proofs.CodeLines.{code_labels}
 use Rattle.tg_image.proofs.InstructionLines.{IsInCode, jump_there, Surrounds, Finds}
 use Rattle.tg_image.proofs.FunctionLines.{IsEmitted, in_code, or_right}
@@ -159,3 +159,39 @@ pub program_has_image : ProgramHasImage
 program_has_image fs ls p t =
     let k = known fs ls p t in
     ap assembled (text_same fs ls k.code) ∙ lines_have_image (program_written fs ls) (written_stands fs ls k) (is_sound fs ls k)
+
+-- the body stands behind the words of the functions before it
+label_stands :
+    (turned : Bool) (w label : ℕ) (fs : List Allocated) → IsTrue (is_among (function_labels fs) label) →
+    Stands (labels_from w (functions_lines turned fs)) (function_name label) (AtWord (w + words_before turned label fs))
+label_stands turned w label [] h = cc
+label_stands turned w label (f ∷ fs) h = by (label == f.frame.label.0) refl (λ more. label_stands turned (w + words here) label fs more)
+  where
+    here : List Line
+    here = function_lines turned f
+
+    rest : List Line
+    rest = functions_lines turned fs
+
+    by :
+        (b : Bool) → (label == f.frame.label.0) ≡ b →
+        (IsTrue (is_among (function_labels fs) label) → Stands (labels_from (w + words here) rest) (function_name label)
+        (AtWord (w + words here + words_before turned label fs))) →
+        Stands (labels_from w (here ++ rest)) (function_name label) (AtWord (w + (if b then 0 else words here + words_before turned label fs)))
+    by true e later =
+        let z : w ≡ w + 0 = omega arith in
+        inl (ap (λ l. (function_name l, AtWord w)) (sym (eqb-true label f.frame.label.0 e)) ∙ ap (λ n. (function_name label, AtWord n)) z)
+    by false e later =
+        let n = words_before turned label fs in
+        let z : w + words here + n ≡ w + (words here + n) = omega arith in
+        let there = later (or_right (label == f.frame.label.0) (is_among (function_labels fs) label) e h) in
+        subst (λ q. Stands q (function_name label) (AtWord (w + (words here + n)))) (sym (labels_append w here rest))
+        (stands_right (labels_from w here) (labels_from (w + words here) rest) (function_name label) (AtWord (w + (words here + n)))
+        (subst (λ m. Stands (labels_from (w + words here) rest) (function_name label) (AtWord m)) z there))
+
+pub program_enters_body : ProgramEntersBody
+program_enters_body fs ls p t =
+    let k = known fs ls p t in
+    let n = words_before (is_long fs) 32 fs in
+    let z : code_base + 4 * (0 + n) ≡ code_base + 4 * n = omega arith in
+    ap found_address (finds_code fs ls k (codes "main") (AtWord (0 + n)) (label_stands (is_long fs) 0 32 fs p.has_body)) ∙ z

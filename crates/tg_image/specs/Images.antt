@@ -1,7 +1,8 @@
 -- The lines of a program in the words of the assembler, and the image that they are.
-use Rattle.std.specs.Prelude.{ℕ, ◌≡◌, List, [], ◌∷◌, ◌++◌, map, codes, Ok, IsTrue}
+use Rattle.std.specs.Prelude.{ℕ, ◌+◌, ◌*◌, ◌≡◌, ◌==◌, Bool, List, [], ◌∷◌, ◌++◌, map, length, codes}
+use Rattle.std.specs.Prelude.{Ok, IsTrue, if◌then◌else◌}
 use Rattle.std.specs.List.{list_all}
-use Rattle.tg_base.specs.State.{padded}
+use Rattle.tg_base.specs.State.{padded, code_base}
 use Rattle.tg_isa.specs.declared.keywords.Segment.TheVariants.{Code, Statics as InStatics}
 use Rattle.tg_isa.specs.Assembly.{assembled}
 use Rattle.tg_isa.specs.Placement.{image_of}
@@ -11,7 +12,7 @@ use Rattle.tg_instr.specs.declared.codes.Allocated.{Allocated}
 use Rattle.tg_emit.specs.declared.assembly.Line.{Line}
 use Rattle.tg_emit.specs.declared.assembly.Line.TheVariants.{Label, One, La, Statics}
 use Rattle.tg_emit.specs.Names.{literal_name}
-use Rattle.tg_emit.specs.Lines.{functions_lines, is_long, assembly_of}
+use Rattle.tg_emit.specs.Lines.{words, function_lines, functions_lines, is_long, assembly_of}
 use Rattle.tg_emit.specs.Text.{text_of}
 use Rattle.tg_emit.specs.Conditions.{has_labels, is_emittable}
 use Rattle.tg_image.specs.Programs.{IsProgram, AreTyped}
@@ -42,6 +43,13 @@ program_written fs ls =
     texts.Enter Code ∷ texts.Globl (codes "main")
     ∷ map written_line (functions_lines (is_long fs) fs) ++ statics_written ls
 
+-- the words of code before a function
+abbrev pub words_before : (turned : Bool) → (label : ℕ) → List Allocated → ℕ
+words_before turned label [] = 0
+words_before turned label (f ∷ fs) =
+    if label == f.frame.label.0 then 0 else
+    words (function_lines turned f) + words_before turned label fs
+
 -- what is emitted has labels of the assembler's syntax
 abbrev pub EmittedHasLabels : Type 0
 EmittedHasLabels =
@@ -55,3 +63,10 @@ ProgramHasImage =
     (fs : List Allocated) (ls : List Literal) → IsProgram fs ls → AreTyped fs ls →
     assembled (text_of (assembly_of fs ls))
     ≡ Ok (image_of (texts.readings_of (program_written fs ls)))
+
+-- and runs from the first word of its body on
+abbrev pub ProgramEntersBody : Type 0
+ProgramEntersBody =
+    (fs : List Allocated) (ls : List Literal) → IsProgram fs ls → AreTyped fs ls →
+    (image_of (texts.readings_of (program_written fs ls))).entry
+    ≡ code_base + 4 * words_before (is_long fs) 32 fs
