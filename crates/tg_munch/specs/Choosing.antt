@@ -21,7 +21,7 @@ Choice A = Drawn → Chosen A
 
 infixl 10 ◌>>=◌
 infixl 10 ◌>>◌
-abbrev pub ◌>>=◌ : {A B : Type 0} → Choice A → (A → Choice B) → Choice B
+unfoldable pub ◌>>=◌ : {A B : Type 0} → Choice A → (A → Choice B) → Choice B
 ◌>>=◌ first onward d =
     let one = first d in
     let two = onward one.value one.drawn in

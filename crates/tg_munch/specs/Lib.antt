@@ -1,4 +1,6 @@
 pub mod Bodies
 pub mod Choosing
+pub mod Comparing
+pub mod Drafts
 pub mod Munching
 pub mod Tiles
