@@ -10,11 +10,11 @@ use Rattle.tg_munch.specs.declared.orders.Order.{Order}
 use Rattle.tg_munch.specs.declared.orders.Short.{Short}
 use Rattle.tg_munch.specs.declared.orders.Short.TheVariants.{Zero, Field}
 use Rattle.tg_munch.specs.Choosing.{Choice, ◌>>=◌, ◌>>◌, give, put, fresh}
-use Rattle.tg_munch.specs.Tiles.{nothing, is_small, field, if_zero, unless_zero}
+use Rattle.tg_munch.specs.Tiles.{nothing, is_small, field, if_equal, unless_equal}
 
 -- a branch where the test for less came to 1, or to 0
 abbrev pub on_flag : (holds : Bool) → (flag : Opnd) → (mark : ℕ) → Instr
-on_flag holds x m = if holds then unless_zero x m else if_zero x m
+on_flag holds x m = if holds then unless_equal x nothing m else if_equal x nothing m
 
 -- 1 where one word is less than another, with or without sign, else 0
 abbrev pub flag : (signed : Bool) → (to left right : Opnd) → Instr
@@ -34,10 +34,8 @@ order signed holds = record { signed = signed; holds = holds }
 
 -- two operands
 abbrev pub branch_on : Rel → (left right : Opnd) → (mark : ℕ) → Choice (Unit {0})
-branch_on Equal x y m =
-    put (Branch (record { rel = Equal; left = x; right = y; is_one_row = refl }) m)
-branch_on NotEqual x y m =
-    put (Branch (record { rel = NotEqual; left = x; right = y; is_one_row = refl }) m)
+branch_on Equal x y m = put (if_equal x y m)
+branch_on NotEqual x y m = put (unless_equal x y m)
 branch_on Less x y m = on_less (order true true) x y m
 branch_on GreaterEqual x y m = on_less (order true false) x y m
 branch_on Greater x y m = on_less (order true true) y x m
@@ -60,8 +58,8 @@ if_at_least x m = Branch (record { rel = GreaterEqual; left = x; right = nothing
 
 -- an operand and 0: no word is below it
 abbrev pub against_zero : Rel → (left : Opnd) → (mark : ℕ) → Choice (Unit {0})
-against_zero Equal x m = put (if_zero x m)
-against_zero NotEqual x m = put (unless_zero x m)
+against_zero Equal x m = put (if_equal x nothing m)
+against_zero NotEqual x m = put (unless_equal x nothing m)
 against_zero Less x m = put (if_less x m)
 against_zero LessEqual x m = put (if_at_most x m)
 against_zero Greater x m = put (if_greater x m)

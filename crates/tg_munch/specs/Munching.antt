@@ -3,6 +3,7 @@
 use Rattle.std.specs.Prelude.{ℕ, ◌+◌, ◌-◌, ◌*◌, ◌==◌, nat_lt, List, [], ◌∷◌, Option, Some, None, if◌then◌else◌}
 use Rattle.tg_tree.specs.declared.operators.Bin.{Bin}
 use Rattle.tg_tree.specs.declared.operators.Rel.{Rel}
+use Rattle.tg_base.specs.declared.ids.Label.{Label}
 use Rattle.tg_tree.specs.Tree as tree
 use Rattle.tg_tree.specs.Tree.{Tx, Txs, Ts, Linear, no_txs, tx}
 use Rattle.tg_instr.specs.declared.operands.Opnd.{Opnd}
@@ -24,6 +25,19 @@ temp i = Temp (record { 0 = i })
 -- argument i of a call: the first four in $a0 to $a3, further ones in the low words of the frame
 abbrev pub argument : (i : ℕ) → Opnd
 argument i = Reg (4 + i)
+
+abbrev pub fresh_constant : ℕ → Choice Opnd
+fresh_constant n = fresh >>= (λ to. constant to n)
+
+abbrev pub constant_in : ℕ → Option Opnd → Choice Opnd
+constant_in n (Some to) = constant to n
+constant_in n None = if n == 0 then give nothing else fresh_constant n
+
+abbrev pub address_in : Label → Option Opnd → Choice Opnd
+address_in label dest = choose dest >>= (λ to. defining (Address to label) to)
+
+abbrev pub frame_address_in : Option Opnd → Choice Opnd
+frame_address_in dest = choose dest >>= (λ to. defining (FrameAddress to) to)
 
 -- what a call or a service answers, in $v0, goes into the operand that is asked for
 abbrev pub answer_in : Option Opnd → Choice Opnd
@@ -55,44 +69,36 @@ module _ (slots : ℕ) where
   abbrev mutual
     -- an expression in the operand that is asked for, or in one of its own
     pub expression : Tx → Option Opnd → Choice Opnd
-    expression (tree.Const n) (Some to) = constant to n
-    expression (tree.Const n) None =
-        if n == 0 then give nothing else (fresh >>= (λ to. constant to n))
-    expression (tree.Address label) dest =
-        choose dest >>= (λ to. defining (Address to (record { 0 = label })) to)
+    expression (tree.Const n) dest = constant_in n dest
+    expression (tree.Address label) dest = address_in (record { 0 = label }) dest
     expression (tree.Temp i) dest = moved dest (temp i)
-    expression tree.FrameAddress dest = choose dest >>= (λ to. defining (FrameAddress to) to)
+    expression tree.FrameAddress dest = frame_address_in dest
     expression (tree.Binary op x y) dest =
         tiled op (tile op x y) dest (expression x None) (expression y None)
-    expression (tree.Load (tree.Binary op x y)) dest =
-        choose dest >>= (λ to. loaded (slot slots (tree.Binary op x y))
-        (based (offset (tree.Binary op x y)) (expression x None)
-        (expression (tree.Binary op x y) None)) to)
     expression (tree.Load x) dest =
-        choose dest >>= (λ to.
-        loaded None (based None (expression x None) (expression x None)) to)
-    expression (tree.LoadByte (tree.Binary op x y)) dest =
-        choose dest >>= (λ to. loaded_byte (based (offset (tree.Binary op x y)) (expression x None)
-        (expression (tree.Binary op x y) None)) to)
-    expression (tree.LoadByte x) dest =
-        choose dest >>= (λ to.
-        loaded_byte (based None (expression x None) (expression x None)) to)
+        choose dest >>= (λ to. loaded (slot slots x) (based_at x) to)
+    expression (tree.LoadByte x) dest = choose dest >>= (λ to. loaded_byte (based_at x) to)
     expression (tree.Call label xs) dest =
         arguments 0 xs >> put (Call (record { 0 = label })) >> answer_in dest
     expression (tree.Service n x) dest = asked n (expression x (Some (Reg 4))) >> answer_in dest
     -- (canonical code has none)
     expression (tree.After s x) dest = expression x dest
 
+    -- an address: an operand and a number of bytes behind it
+    pub based_at : Tx → Choice Base
+    based_at x = based (offset x) (left_side x) (expression x None)
+
+    pub left_side : Tx → Choice Opnd
+    left_side (tree.Binary op x y) = expression x None
+    left_side x = expression x None
+
     -- the arguments of a call from one on
     pub arguments : (i : ℕ) → Txs → Choice (Unit {0})
     arguments i no_txs = give tt
     arguments i (tx x xs) = passed i (expression x) >> arguments (i + 1) xs
 
-  -- an address: an operand and a number of bytes behind it
-  abbrev pub based_at : Tx → Choice Base
-  based_at (tree.Binary op x y) =
-      based (offset (tree.Binary op x y)) (expression x None) (expression (tree.Binary op x y) None)
-  based_at x = based None (expression x None) (expression x None)
+  abbrev pub loaded_to : Tx → (to : Opnd) → Choice Opnd
+  loaded_to x to = loaded (slot slots x) (based_at x) to
 
   -- a call or a service, whose answer is let go
   abbrev pub effect : Tx → Choice (Unit {0})

@@ -158,12 +158,12 @@ first_tile op None None = if is_shift op then ByWord else Operands
 abbrev pub tile : Bin → (left right : Tx) → Tile
 tile op x y = first_tile op (constant_side op y) (exchanged_side op x)
 
--- a branch where an operand is 0, or isn't
-abbrev pub unless_zero : Opnd → (mark : ℕ) → Instr
-unless_zero x m = Branch (record { rel = NotEqual; left = x; right = nothing; is_one_row = refl }) m
+-- a branch where two operands are equal, or aren't
+abbrev pub if_equal : (left right : Opnd) → (mark : ℕ) → Instr
+if_equal x y m = Branch (record { rel = Equal; left = x; right = y; is_one_row = refl }) m
 
-abbrev pub if_zero : Opnd → (mark : ℕ) → Instr
-if_zero x m = Branch (record { rel = Equal; left = x; right = nothing; is_one_row = refl }) m
+abbrev pub unless_equal : (left right : Opnd) → (mark : ℕ) → Instr
+unless_equal x y m = Branch (record { rel = NotEqual; left = x; right = y; is_one_row = refl }) m
 
 -- a shift by so many bits
 abbrev pub shift_by : Bin → (to : Opnd) → (bits : ℕ) → Instr
@@ -175,7 +175,7 @@ shift_by _ to n = Sra to to n
 abbrev pub shift_bit : Bin → (to amount : Opnd) → (bits : ℕ) → Choice (Unit {0})
 shift_bit op to amount n =
     fresh >>= (λ bit. fresh_mark >>= (λ m.
-    put (Andi bit amount n) >> (put (if_zero bit m) >> (put (shift_by op to n) >> put (Mark m)))))
+    put (Andi bit amount n) >> (put (if_equal bit nothing m) >> (put (shift_by op to n) >> put (Mark m)))))
 
 abbrev pub shift_bits : Bin → (to amount : Opnd) → Choice (Unit {0})
 shift_bits op to y =
@@ -207,11 +207,13 @@ operated _ to x y = give to
 abbrev pub shifted_into : Bin → (dest : Option Opnd) → (left amount : Opnd) → Choice Opnd
 shifted_into op dest x y = shifted op x y >>= (λ z. moved dest z)
 
+abbrev pub with_field : Immediate → (dest : Option Opnd) → (side : Choice Opnd) → Choice Opnd
+with_field one dest side =
+    choose dest >>= (λ to. side >>= (λ x. defining (instruction one to x) to))
+
 abbrev pub tiled : Bin → Tile → (dest : Option Opnd) → (left right : Choice Opnd) → Choice Opnd
-tiled op (Right one) dest left right =
-    choose dest >>= (λ to. left >>= (λ x. defining (instruction one to x) to))
-tiled op (Left one) dest left right =
-    choose dest >>= (λ to. right >>= (λ y. defining (instruction one to y) to))
+tiled op (Right one) dest left right = with_field one dest left
+tiled op (Left one) dest left right = with_field one dest right
 tiled op ByWord dest left right =
     left >>= (λ x. right >>= (λ y. shifted_into op dest x y))
 tiled op Operands dest left right =

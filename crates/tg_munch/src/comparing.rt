@@ -12,28 +12,41 @@ use tg_instr::{Instr, Opnd, Test};
 use tg_isa::{Bits, Reg};
 use tg_tree::{Rel, Tx};
 
+/// `$zero`.
+fn zero() -> Opnd
+    ensures { result ≡ tiles.nothing }
+{
+    Opnd::Reg(Reg::ZERO)
+}
+
+/// A branch where two operands are equal.
+fn if_equal(left: Opnd, right: Opnd, mark: u32) -> Instr
+    ensures { result ≡ tiles.if_equal left right mark }
+{
+    let rel = Rel::Equal;
+    Instr::Branch(Test { rel, left, right }, mark)
+}
+
+/// A branch where two operands aren't equal.
+fn unless_equal(left: Opnd, right: Opnd, mark: u32) -> Instr
+    ensures { result ≡ tiles.unless_equal left right mark }
+{
+    let rel = Rel::NotEqual;
+    Instr::Branch(Test { rel, left, right }, mark)
+}
+
 /// A branch where an operand is 0.
 pub(crate) fn if_zero(left: Opnd, mark: u32) -> Instr
-    ensures { result ≡ tiles.if_zero left mark }
+    ensures { result ≡ tiles.if_equal left tiles.nothing mark }
 {
-    let test = Test {
-        rel: Rel::Equal,
-        left,
-        right: Opnd::Reg(Reg::ZERO),
-    };
-    Instr::Branch(test, mark)
+    if_equal(left, zero(), mark)
 }
 
 /// A branch where an operand isn't 0.
 fn unless_zero(left: Opnd, mark: u32) -> Instr
-    ensures { result ≡ tiles.unless_zero left mark }
+    ensures { result ≡ tiles.unless_equal left tiles.nothing mark }
 {
-    let test = Test {
-        rel: Rel::NotEqual,
-        left,
-        right: Opnd::Reg(Reg::ZERO),
-    };
-    Instr::Branch(test, mark)
+    unless_equal(left, zero(), mark)
 }
 
 /// A branch where an operand is less than 0.
@@ -155,7 +168,7 @@ fn on_less_field(
 }
 
 /// A branch on a comparison of two operands.
-fn branch_on(
+pub(crate) fn branch_on(
     draft: &mut Draft,
     rel: Rel,
     left: Opnd,
@@ -165,14 +178,8 @@ fn branch_on(
     ensures { OnOk result (Writes (comparing.branch_on rel left right mark) draft.old draft.new tt) }
 {
     match rel {
-        Rel::Equal => {
-            let rel = Rel::Equal;
-            draft.put(Instr::Branch(Test { rel, left, right }, mark))
-        }
-        Rel::NotEqual => {
-            let rel = Rel::NotEqual;
-            draft.put(Instr::Branch(Test { rel, left, right }, mark))
-        }
+        Rel::Equal => draft.put(if_equal(left, right, mark)),
+        Rel::NotEqual => draft.put(unless_equal(left, right, mark)),
         Rel::Less => on_less(draft, order(true, true), left, right, mark),
         Rel::GreaterEqual => on_less(draft, order(true, false), left, right, mark),
         Rel::Greater => on_less(draft, order(true, true), right, left, mark),

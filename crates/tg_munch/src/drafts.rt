@@ -10,7 +10,7 @@ use tg_instr::{Instr, Opnd, push_instr};
 use tg_isa::Reg;
 
 /// The most temporaries of a function.
-const MOST_TEMPS: u32 = 16777215;
+pub(crate) const MOST_TEMPS: u32 = 16777215;
 
 /// The code of a function as far as it is chosen, with the next temporary and the next mark.
 #[derive(Drop)]

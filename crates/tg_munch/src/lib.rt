@@ -2,9 +2,19 @@
 //! over temporaries and registers. Promises exactly the code that `specs/` computes.
 #![tactic(auto)]
 
+mod bodies;
 mod comparing;
 mod drafts;
+mod expressions;
+mod finishing;
+mod munching;
 mod operators;
 mod orders;
+mod statements;
 mod tiles;
 mod tiling;
+
+pub use munching::munch;
+
+#[cfg(test)]
+mod tests;

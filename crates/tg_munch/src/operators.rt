@@ -86,25 +86,26 @@ fn shift_by(op: Bin, to: Opnd, bits: u32) -> Instr
 fn shift_bit(
     draft: &mut Draft,
     op: Bin,
-    to: Opnd,
-    amount: Opnd,
+    to: &Opnd,
+    amount: &Opnd,
     bits: u32,
 ) -> Result<(), Memory>
     requires { bits < 32 }
-    ensures { OnOk result (Writes (tiles.shift_bit op to amount bits) draft.old draft.new tt) }
+    ensures { OnOk result
+        (Writes (tiles.shift_bit op to.now amount.now bits) draft.old draft.new tt) }
 {
     let bit = draft.fresh()?;
     let mark = draft.fresh_mark()?;
     let tested = bit;
-    draft.put(Instr::Andi(bit, amount, Bits::new(bits)))?;
+    draft.put(Instr::Andi(bit, *amount, Bits::new(bits)))?;
     draft.put(if_zero(tested, mark))?;
-    draft.put(shift_by(op, to, bits))?;
+    draft.put(shift_by(op, *to, bits))?;
     draft.put(Instr::Mark(mark))?;
     Ok(())
 }
 
-fn shift_bits(draft: &mut Draft, op: Bin, to: Opnd, amount: Opnd) -> Result<(), Memory>
-    ensures { OnOk result (Writes (tiles.shift_bits op to amount) draft.old draft.new tt) }
+fn shift_bits(draft: &mut Draft, op: Bin, to: &Opnd, amount: &Opnd) -> Result<(), Memory>
+    ensures { OnOk result (Writes (tiles.shift_bits op to.now amount.now) draft.old draft.new tt) }
 {
     shift_bit(draft, op, to, amount, 1)?;
     shift_bit(draft, op, to, amount, 2)?;
@@ -121,7 +122,7 @@ fn shift(draft: &mut Draft, op: Bin, word: Opnd, amount: Opnd) -> Result<Opnd, M
     let to = draft.fresh()?;
     let target = to;
     draft.put(Instr::Move(target, word))?;
-    shift_bits(draft, op, to, amount)?;
+    shift_bits(draft, op, &to, &amount)?;
     Ok(to)
 }
 
