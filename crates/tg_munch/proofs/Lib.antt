@@ -1,2 +1,3 @@
 mod Examples
+pub mod Walking
 pub mod Writing

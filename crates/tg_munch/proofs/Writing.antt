@@ -1,8 +1,14 @@
 -- A choice behind another, as a draft has them.
-use Rattle.std.proofs.Common.{◌≡◌, List, [], ◌∷◌, ◌++◌, refl, sym, ap, ◌∙◌, append_assoc, append-nil, subst}
+use mathlib.Core.Bool.{Bool-set}
+use Rattle.std.proofs.Common.{ℕ, true, ◌≡◌, List, [], ◌∷◌, ◌++◌, refl, sym, ap, ◌∙◌, append_assoc, append-nil}
+use Rattle.std.specs.Prelude.{IsTrue}
+use Rattle.tg_tree.specs.declared.operators.Rel.{Rel}
+use Rattle.tg_instr.specs.Operands.{is_one_row}
+use Rattle.tg_instr.specs.declared.operands.Opnd.{Opnd}
 use Rattle.tg_instr.specs.declared.instr.Instr.{Instr}
+use Rattle.tg_instr.specs.declared.instr.Instr.TheVariants.{Branch}
 use Rattle.tg_munch.specs.declared.drafts.Draft.{Draft}
-use Rattle.tg_munch.specs.Choosing.{Drawn, Chosen, Choice, ◌>>=◌, ◌>>◌, give, put, defining}
+use Rattle.tg_munch.specs.Choosing.{Choice, ◌>>=◌, give}
 use Rattle.tg_munch.specs.Drafts.{Writes, drawn_in}
 
 -- nothing is written
@@ -20,3 +26,7 @@ writes_then {first = first} onward {a = a} {b = b} {c = c} {x = x} {y = y} h k =
       drawn = k.drawn ∙ ap (λ r. r.drawn) same;
       given = k.given ∙ ap (λ r. r.value) same;
     }
+
+-- the proof in a test is one
+pub same_branch : (rel : Rel) (x y : Opnd) (p q : IsTrue (is_one_row rel x y)) (m : ℕ) → Branch (record { rel = rel; left = x; right = y; is_one_row = p }) m ≡ Branch (record { rel = rel; left = x; right = y; is_one_row = q }) m
+same_branch rel x y p q m = ap (λ r. Branch (record { rel = rel; left = x; right = y; is_one_row = r }) m) (Bool-set (is_one_row rel x y) true p q)

@@ -9,10 +9,10 @@ use Rattle.tg_tree.specs.Tree.{Tx, Txs, Ts, Linear, no_txs, tx}
 use Rattle.tg_instr.specs.declared.operands.Opnd.{Opnd}
 use Rattle.tg_instr.specs.declared.operands.Opnd.TheVariants.{Temp, Reg}
 use Rattle.tg_instr.specs.declared.instr.Instr.{Instr}
-use Rattle.tg_instr.specs.declared.instr.Instr.TheVariants.{Addu, Sw, Move, FrameAddress, Address, Mark, Jump, Call, Service, Fault, Return}
+use Rattle.tg_instr.specs.declared.instr.Instr.TheVariants.{Addu, Sw, Sb, Move, FrameStore, FrameAddress, Address, Mark, Jump, Call, Service, Fault, Return}
 use Rattle.tg_munch.specs.Choosing.{Choice, ◌>>=◌, ◌>>◌, give, put, fresh, choose, defining}
 use Rattle.tg_munch.specs.declared.tiles.Base.{Base}
-use Rattle.tg_munch.specs.Tiles.{nothing, constant, slot, offset, based, loaded, loaded_byte, stored, stored_byte, tile, tiled, moved}
+use Rattle.tg_munch.specs.Tiles.{nothing, constant, slot, offset, offset_by, based, loaded, loaded_byte, tile, tiled, moved}
 use Rattle.tg_munch.specs.Comparing.{short_side, against, is_turned, turned}
 
 -- what a function gives back: $s0 to $s7 and $ra
@@ -75,54 +75,96 @@ module _ (slots : ℕ) where
     expression tree.FrameAddress dest = frame_address_in dest
     expression (tree.Binary op x y) dest =
         tiled op (tile op x y) dest (expression x None) (expression y None)
+    expression (tree.Load (tree.Binary op x y)) dest =
+        choose dest >>= (λ to. loaded (slot slots (tree.Binary op x y))
+        (based (offset_by op y) (expression x None) (expression (tree.Binary op x y) None)) to)
     expression (tree.Load x) dest =
-        choose dest >>= (λ to. loaded (slot slots x) (based_at x) to)
-    expression (tree.LoadByte x) dest = choose dest >>= (λ to. loaded_byte (based_at x) to)
+        choose dest >>= (λ to.
+        loaded None (based None (expression x None) (expression x None)) to)
+    expression (tree.LoadByte (tree.Binary op x y)) dest =
+        choose dest >>= (λ to. loaded_byte
+        (based (offset_by op y) (expression x None) (expression (tree.Binary op x y) None)) to)
+    expression (tree.LoadByte x) dest =
+        choose dest >>= (λ to.
+        loaded_byte (based None (expression x None) (expression x None)) to)
     expression (tree.Call label xs) dest =
         arguments 0 xs >> put (Call (record { 0 = label })) >> answer_in dest
     expression (tree.Service n x) dest = asked n (expression x (Some (Reg 4))) >> answer_in dest
     -- (canonical code has none)
     expression (tree.After s x) dest = expression x dest
 
-    -- an address: an operand and a number of bytes behind it
-    pub based_at : Tx → Choice Base
-    based_at x = based (offset x) (left_side x) (expression x None)
-
-    pub left_side : Tx → Choice Opnd
-    left_side (tree.Binary op x y) = expression x None
-    left_side x = expression x None
-
     -- the arguments of a call from one on
     pub arguments : (i : ℕ) → Txs → Choice (Unit {0})
     arguments i no_txs = give tt
     arguments i (tx x xs) = passed i (expression x) >> arguments (i + 1) xs
 
+  -- the left side of an operator, and an address: an operand and a number of bytes behind it
+  abbrev pub left_side : Tx → Choice Opnd
+  left_side (tree.Binary op x y) = expression x None
+  left_side x = expression x None
+
+  abbrev pub based_at : Tx → Choice Base
+  based_at x = based (offset x) (left_side x) (expression x None)
+
   abbrev pub loaded_to : Tx → (to : Opnd) → Choice Opnd
   loaded_to x to = loaded (slot slots x) (based_at x) to
+
+  abbrev pub valued : Tx → Choice (Unit {0})
+  valued x = expression x None >> give tt
 
   -- a call or a service, whose answer is let go
   abbrev pub effect : Tx → Choice (Unit {0})
   effect (tree.Call label xs) = arguments 0 xs >> put (Call (record { 0 = label }))
   effect (tree.Service n x) = asked n (expression x (Some (Reg 4)))
-  effect x = expression x None >> give tt
+  effect x = valued x
+
+  -- the word, or the byte, at an address
+  abbrev pub loaded_at : Tx → Option Opnd → Choice Opnd
+  loaded_at x dest = choose dest >>= (λ to. loaded_to x to)
+
+  abbrev pub byte_at : Tx → Option Opnd → Choice Opnd
+  byte_at x dest = choose dest >>= (λ to. loaded_byte (based_at x) to)
+
+  -- a word is stored in a slot, or a word or a byte at an address
+  abbrev pub stored_slot : (slot : ℕ) → (value : Tx) → Choice (Unit {0})
+  stored_slot k y = expression y None >>= (λ v. put (FrameStore v k))
+
+  abbrev pub stored_word : (address value : Tx) → Choice (Unit {0})
+  stored_word x y =
+      based_at x >>= (λ b. expression y None >>= (λ v. put (Sw v b.bytes b.operand)))
+
+  abbrev pub stored : (slot : Option ℕ) → (address value : Tx) → Choice (Unit {0})
+  stored (Some k) x y = stored_slot k y
+  stored None x y = stored_word x y
+
+  abbrev pub stored_byte : (address value : Tx) → Choice (Unit {0})
+  stored_byte x y =
+      based_at x >>= (λ b. expression y None >>= (λ v. put (Sb v b.bytes b.operand)))
 
   -- a statement of flat code
   abbrev pub statement : Ts → Choice (Unit {0})
   statement (tree.Move i x) = expression x (Some (temp i)) >> give tt
-  statement (tree.Store x y) = stored (slot slots x) (based_at x) (expression y None)
-  statement (tree.StoreByte x y) = stored_byte (based_at x) (expression y None)
+  statement (tree.Store x y) = stored (slot slots x) x y
+  statement (tree.StoreByte x y) = stored_byte x y
   statement (tree.Do x) = effect x
   -- (the others are no statements of flat code)
   statement _ = give tt
 
-  -- A comparison: its left side, and what the right one needs.
+  -- a comparison: its left side, and what the right one needs
+  abbrev pub compared_with : Rel → (left : Opnd) → (right : Tx) → (mark : ℕ) → Choice (Unit {0})
+  compared_with rel a y m = against rel (short_side rel y) a (expression y None) m
+
   abbrev pub compared : Rel → (left right : Tx) → (mark : ℕ) → Choice (Unit {0})
-  compared rel x y m =
-      expression x None >>= (λ a. against rel (short_side rel y) a (expression y None) m)
+  compared rel x y m = expression x None >>= (λ a. compared_with rel a y m)
 
   abbrev pub branch : Rel → (left right : Tx) → (mark : ℕ) → Choice (Unit {0})
   branch rel x y m =
       if is_turned rel x y then compared (turned rel) y x m else compared rel x y m
+
+  -- a return with a word: the kept registers get back what they held
+  abbrev pub returned : (keeps : ℕ) → Tx → Choice (Unit {0})
+  returned keeps x =
+      expression x (Some (Reg 2)) >> (given_back keeps kept_registers >> put Return)
 
   -- an element of flat code, where the kept registers stand in temporaries from a number on
   abbrev pub element : (keeps : ℕ) → Linear → Choice (Unit {0})
@@ -131,8 +173,7 @@ module _ (slots : ℕ) where
   element keeps (tree.Jump m) = put (Jump m)
   element keeps (tree.Branch rel x y m) = branch rel x y m
   element keeps (tree.Fault' n) = put (Fault n)
-  element keeps (tree.Return' x) =
-      expression x (Some (Reg 2)) >> (given_back keeps kept_registers >> put Return)
+  element keeps (tree.Return' x) = returned keeps x
 
   abbrev pub elements : (keeps : ℕ) → List Linear → Choice (Unit {0})
   elements keeps [] = give tt

@@ -89,13 +89,6 @@ loaded None place to = place >>= (λ b. defining (Lw to b.bytes b.operand) to)
 abbrev pub loaded_byte : Choice Base → Opnd → Choice Opnd
 loaded_byte place to = place >>= (λ b. defining (Lbu to b.bytes b.operand) to)
 
-abbrev pub stored : (slot : Option ℕ) → Choice Base → (value : Choice Opnd) → Choice (Unit {0})
-stored (Some k) place value = value >>= (λ v. put (FrameStore v k))
-stored None place value = place >>= (λ b. value >>= (λ v. put (Sw v b.bytes b.operand)))
-
-abbrev pub stored_byte : Choice Base → (value : Choice Opnd) → Choice (Unit {0})
-stored_byte place value = place >>= (λ b. value >>= (λ v. put (Sb v b.bytes b.operand)))
-
 -- an operator whose one side is a constant: what an instruction with that in its field does
 abbrev pub if_small : (ℕ → Immediate) → ℕ → Option Immediate
 if_small make n = if is_small n then Some (make (field n)) else None

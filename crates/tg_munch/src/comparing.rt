@@ -12,13 +12,6 @@ use tg_instr::{Instr, Opnd, Test};
 use tg_isa::{Bits, Reg};
 use tg_tree::{Rel, Tx};
 
-/// `$zero`.
-fn zero() -> Opnd
-    ensures { result ≡ tiles.nothing }
-{
-    Opnd::Reg(Reg::ZERO)
-}
-
 /// A branch where two operands are equal.
 fn if_equal(left: Opnd, right: Opnd, mark: u32) -> Instr
     ensures { result ≡ tiles.if_equal left right mark }
@@ -39,14 +32,14 @@ fn unless_equal(left: Opnd, right: Opnd, mark: u32) -> Instr
 pub(crate) fn if_zero(left: Opnd, mark: u32) -> Instr
     ensures { result ≡ tiles.if_equal left tiles.nothing mark }
 {
-    if_equal(left, zero(), mark)
+    if_equal(left, Opnd::Reg(Reg::ZERO), mark)
 }
 
 /// A branch where an operand isn't 0.
 fn unless_zero(left: Opnd, mark: u32) -> Instr
     ensures { result ≡ tiles.unless_equal left tiles.nothing mark }
 {
-    unless_equal(left, zero(), mark)
+    unless_equal(left, Opnd::Reg(Reg::ZERO), mark)
 }
 
 /// A branch where an operand is less than 0.

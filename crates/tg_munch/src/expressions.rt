@@ -98,7 +98,7 @@ fn load(
     asked: Option<Opnd>,
 ) -> Result<Opnd, Memory>
     ensures { IfOk result
-        (λ v. Writes (munching.expression slots (tree.Load (plain_tx address.now)) asked)
+        (λ v. Writes (munching.loaded_at slots (plain_tx address.now) asked)
             draft.old draft.new v) }
 {
     let to = draft.choose(asked)?;
@@ -131,7 +131,7 @@ fn load_byte(
     asked: Option<Opnd>,
 ) -> Result<Opnd, Memory>
     ensures { IfOk result
-        (λ v. Writes (munching.expression slots (tree.LoadByte (plain_tx address.now)) asked)
+        (λ v. Writes (munching.byte_at slots (plain_tx address.now) asked)
             draft.old draft.new v) }
 {
     let to = draft.choose(asked)?;

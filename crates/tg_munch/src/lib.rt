@@ -16,5 +16,3 @@ mod tiling;
 
 pub use munching::munch;
 
-#[cfg(test)]
-mod tests;

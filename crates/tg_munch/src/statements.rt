@@ -72,7 +72,7 @@ fn store_word(draft: &mut Draft, slots: u32, address: &Tx, value: &Tx) -> Result
 /// The low byte of a word is stored at an address.
 fn store_byte(draft: &mut Draft, slots: u32, address: &Tx, value: &Tx) -> Result<(), Memory>
     ensures { OnOk result
-        (Writes (munching.stored_byte_at slots (plain_tx address.now) (plain_tx value.now))
+        (Writes (munching.stored_byte slots (plain_tx address.now) (plain_tx value.now))
             draft.old draft.new tt) }
 {
     let place = base(draft, slots, address)?;
