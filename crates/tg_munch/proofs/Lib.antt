@@ -1,3 +1,5 @@
 mod Examples
+pub mod Marks
 pub mod Walking
+pub mod Whole
 pub mod Writing

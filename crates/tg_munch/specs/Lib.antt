@@ -2,5 +2,6 @@ pub mod Bodies
 pub mod Choosing
 pub mod Comparing
 pub mod Drafts
+pub mod Marking
 pub mod Munching
 pub mod Tiles

@@ -169,7 +169,12 @@ fn left_side(draft: &mut Draft, slots: u32, address: &Tx) -> Result<Opnd, Memory
 {
     match address {
         Tx::Binary(_, left, _) => expression(draft, slots, left, None),
-        _ => expression(draft, slots, address, None),
+        Tx::Const(_) | Tx::Address(_) | Tx::Temp(_) | Tx::FrameAddress | Tx::Load(_) => {
+            expression(draft, slots, address, None)
+        }
+        Tx::LoadByte(_) | Tx::Call(_, _) | Tx::Service(_, _) | Tx::After(_, _) => {
+            expression(draft, slots, address, None)
+        }
     }
 }
 

@@ -124,10 +124,9 @@ pub(crate) fn tile(op: Bin, left: &Tx, right: &Tx) -> Tile
 }
 
 fn slot_below(slots: u32, n: u32) -> Option<u32>
-    requires { slots < 16777216 }
     ensures { result ≡ tiles.slot_below slots n }
 {
-    if n % 4 == 0 && 0 < n && n <= 4 * slots {
+    if n % 4 == 0 && 0 < n && n / 4 <= slots {
         Some(n / 4 - 1)
     } else {
         None
@@ -136,7 +135,6 @@ fn slot_below(slots: u32, n: u32) -> Option<u32>
 
 /// The slot of a frame with so many, where an address is the place of one.
 pub(crate) fn slot(slots: u32, address: &Tx) -> Option<u32>
-    requires { slots < 16777216 }
     ensures { result ≡ tiles.slot slots (plain_tx address.now) }
 {
     match address {
@@ -147,7 +145,6 @@ pub(crate) fn slot(slots: u32, address: &Tx) -> Option<u32>
 
 /// The slot at so many bytes below the frame address.
 fn slot_of(slots: u32, left: &Tx, right: &Tx) -> Option<u32>
-    requires { slots < 16777216 }
     ensures { result ≡ tiles.slot_of slots (plain_tx left.now) (plain_tx right.now) }
 {
     match (left, right) {

@@ -5,4 +5,4 @@ use Rattle.tg_munch.proofs.bodies.elements.Given as goal
 
 abbrev pub invariant-loop-one : goal.invariant-loop-one
 invariant-loop-one l =
-    Leads (λ i es. elements l.slots l.keeps (code_of es)) l.code 0 l.one-index l.fn.draft l.draft
+    Leads (λ i es. elements l.slots l.keeps (code_of es)) l.code 0 l.one-index l.one-index l.fn.draft l.draft

@@ -1,3 +1,10 @@
+use Rattle.std.proofs.Common.{None, arith, ap, sym, ◌∙◌, subst}
+use Rattle.tg_tree.specs.Plain.{plain_tx}
+use Rattle.tg_tree.proofs.ListLaws.{plain_tx-Call}
+use Rattle.tg_munch.specs.Drafts.{Writes}
+use Rattle.tg_munch.specs.Munching.{expression, based_at, left_side, passed, argument}
+use Rattle.tg_munch.specs.Tiles.{based, loaded}
+use Rattle.tg_munch.proofs.Walking.{leads_on, leads_end, argument_each, passed_low, passed_high, by_word, on_operands, load_is, load_byte_is}
 use Rattle.tg_munch.proofs.Writing.{writes_then, writes_none}
 use Rattle.tg_munch.proofs.expressions.+munching.Goals as goal
 
@@ -19,3 +26,61 @@ service-returns t c =
 
 pub call-returns : goal.call-returns
 call-returns t c = writes_then _ c.in_ok-arguments.ensures c.in_ok-put.ensures
+
+pub arguments-loop-i-preserved : goal.arguments-loop-i-preserved
+arguments-loop-i-preserved t c =
+    let i = c.loop-i.i in
+    leads_on (argument_each c.args.slots) c.args.items.now.items.items 0 i i
+    (rw c.deref-x-items.ensures.value at c.loop-i-test.true) (rw c.deref-x-items.ensures.value at c.x-item.is)
+    c.loop-i.invariant c.in_ok-pass.ensures
+
+pub arguments-returns : goal.arguments-returns
+arguments-returns t c =
+    let i = c.loop-i.i in
+    leads_end (argument_each c.args.slots) c.args.items.now.items.items 0 i i
+    (rw c.deref-x-items.ensures.value at (omega (arith, c.loop-i.auto.i-end, c.loop-i-test.false))) c.loop-i.invariant
+
+pub base-returns-in_ok-operand-in-Some : goal.base-returns-in_ok-operand-in-Some
+base-returns-in_ok-operand-in-Some t c =
+    let x = plain_tx c.args.address.now in
+    subst (λ o. Writes (based o (left_side c.args.slots x) (expression c.args.slots x None)) c.args.draft.now c.left_side.new.draft (record { bytes = c.in-Some.bytes; operand = c.in_ok-operand-in-Some.operand }))
+    c.in-Some.ensures (writes_then _ c.in_ok-operand-in-Some.ensures (writes_none _ _))
+
+pub base-returns-in_ok-operand-in-None : goal.base-returns-in_ok-operand-in-None
+base-returns-in_ok-operand-in-None t c =
+    let x = plain_tx c.args.address.now in
+    rw c.new.ensures (subst (λ o. Writes (based o (left_side c.args.slots x) (expression c.args.slots x None)) c.args.draft.now c.expression.new.draft (record { bytes = 0; operand = c.in_ok-operand-in-None.operand }))
+    c.in-None.ensures (writes_then _ c.in_ok-operand-in-None.ensures (writes_none _ _)))
+
+pub load_to-returns-in_ok-value-in-None : goal.load_to-returns-in_ok-value-in-None
+load_to-returns-in_ok-value-in-None t c =
+    subst (λ s. Writes (loaded s (based_at c.args.slots (plain_tx c.args.address.now)) c.args.to) c.args.draft.now c.define-in-None.new.self c.in_ok-value-in-None.value)
+    c.in-None.ensures (writes_then _ c.in_ok-place-in-None.ensures c.in_ok-value-in-None.ensures)
+
+pub expression-returns-in_ok-value-in-Call : goal.expression-returns-in_ok-value-in-Call
+expression-returns-in_ok-value-in-Call t c =
+    let h = c in ?
+
+pub expression-returns-in_ok-value-in-Service : goal.expression-returns-in_ok-value-in-Service
+expression-returns-in_ok-value-in-Service t c =
+    let h = c in ?
+
+pub expression-returns-in_ok-value-in-ByWord : goal.expression-returns-in_ok-value-in-ByWord
+expression-returns-in_ok-value-in-ByWord t c =
+    let h = c.deref in ?
+
+pub expression-returns-in_ok-value-in-Operands : goal.expression-returns-in_ok-value-in-Operands
+expression-returns-in_ok-value-in-Operands t c =
+    let h = c.deref in ?
+
+pub expression-returns-in-Load : goal.expression-returns-in-Load
+expression-returns-in-Load t c = ?
+
+pub expression-returns-in-LoadByte : goal.expression-returns-in-LoadByte
+expression-returns-in-LoadByte t c = ?
+
+pub pass-returns-then-i-lt4 : goal.pass-returns-then-i-lt4
+pass-returns-then-i-lt4 t c = ?
+
+pub pass-returns : goal.pass-returns
+pass-returns t c = ?
