@@ -1,5 +1,6 @@
 -- Tests of a code that go from its front to its end.
-use Rattle.std.proofs.Common.{ℕ, ◌≡◌, ◌≢◌, ◌<◌, ◌+◌, List, [], ◌∷◌, ◌++◌, Bool, true, false, length, get_or, set, take, refl, sym, ap, ◌∙◌, subst, arith, nat_eq, nat_lt, ◌≤◌, length-set, nat_tests}
+use Rattle.std.proofs.Common.{ℕ, ◌≡◌, ◌≢◌, ◌<◌, ◌+◌, List, [], ◌∷◌, ◌++◌, Bool, true, false, length, get_or, set, take, refl, true≢false, sym, ap, ◌∙◌, subst, arith, nat_eq, nat_lt, ◌≤◌, length-set}
+use Rattle.std.proofs.lemmas.Bool.Decides.{nat_tests}
 use Rattle.std.specs.Prelude.{IsTrue, ◌&&◌, ◌||◌, ◌==◌, not}
 use Rattle.std.specs.List.{list_all, list_any}
 use Rattle.std.proofs.lemmas.List.{take_more, get_or-set_same, get_or-set_other, get_or_past}
@@ -63,11 +64,11 @@ plain_end (Mark m) = refl
 plain_end _ = refl
 
 differ_plain : (xs : List Instr) (y : Instr) → ((m : ℕ) → is_mark m y ≡ false) → marks_differ (xs ++ y ∷ []) ≡ marks_differ xs
-differ_plain [] y no = plain_end y
-differ_plain (Mark m ∷ xs) y no =
-    ap (λ b. not b && marks_differ (xs ++ y ∷ [])) (any_last (is_mark m) xs y ∙ or_other (list_any (is_mark m) xs) (is_mark m y) (no m))
-    ∙ ap (λ b. not (list_any (is_mark m) xs) && b) (differ_plain xs y no)
-differ_plain (_ ∷ xs) y no = differ_plain xs y no
+differ_plain [] y none = plain_end y
+differ_plain (Mark m ∷ xs) y none =
+    ap (λ b. not b && marks_differ (xs ++ y ∷ [])) (any_last (is_mark m) xs y ∙ or_other (list_any (is_mark m) xs) (is_mark m y) (none m))
+    ∙ ap (λ b. not (list_any (is_mark m) xs) && b) (differ_plain xs y none)
+differ_plain (_ ∷ xs) y none = differ_plain xs y none
 
 noted : (xs : List Instr) (k m : ℕ) (before : List Bool) → k < length before → m < length before → IsTable xs before → (b : Bool) → nat_eq m k ≡ b → get_or (set before k true) m false ≡ list_any (is_mark m) (xs ++ Mark k ∷ [])
 noted xs k m before at less t true e =
@@ -78,8 +79,8 @@ noted xs k m before at less t false e =
     get_or-set_other before k m true false other ∙ (t m less ∙ sym (any_last (is_mark m) xs (Mark k) ∙ or_other (list_any (is_mark m) xs) (nat_eq m k) e))
 
 placed_plain : (xs : List Instr) (y : Instr) (before behind : List Bool) → ((m : ℕ) → is_mark m y ≡ false) → IsTrue (marks_differ xs) → IsTable xs before → behind ≡ before → IsTrue (marks_differ (xs ++ y ∷ [])) × IsTable (xs ++ y ∷ []) behind
-placed_plain xs y before behind no h t same =
-    (differ_plain xs y no ∙ h, λ m less. ap (λ s. get_or s m false) same ∙ (t m (subst (λ s. m < length s) same less) ∙ sym (any_last (is_mark m) xs y ∙ or_other (list_any (is_mark m) xs) (is_mark m y) (no m))))
+placed_plain xs y before behind none h t same =
+    (differ_plain xs y none ∙ h, λ m less. ap (λ s. get_or s m false) same ∙ (t m (subst (λ s. m < length s) same less) ∙ sym (any_last (is_mark m) xs y ∙ or_other (list_any (is_mark m) xs) (is_mark m y) (none m))))
 
 placed : (xs : List Instr) (x : Instr) (before behind : List Bool) → IsTrue (marks_differ xs) → IsTable xs before → Places x before behind → IsTrue (marks_differ (xs ++ x ∷ [])) × IsTable (xs ++ x ∷ []) behind
 placed xs (Mark k) before behind h t p =
@@ -103,20 +104,16 @@ noted_more xs i d before behind less n p =
     }
 
 -- where a jump or a branch leads, there is a mark, by the table
-in_table : (list : List Instr) (stands : List Bool) → IsTable list stands → (m : ℕ) → (b : Bool) → get_or stands m false ≡ b → IsTrue b → IsTrue (list_any (is_mark m) list)
-in_table list stands t m true e h = let less : m < length stands = inside stands m e in sym (t m less) ∙ e
-  where
-    inside : (s : List Bool) (k : ℕ) → get_or s k false ≡ true → k < length s
-    inside s k g = within (nat_lt k (length s)) refl
-      where
-        within : (c : Bool) → nat_lt k (length s) ≡ c → k < length s
-        within true r = grind (arith, nat_tests)
-        within false r = let over : length s ≤ k = grind (arith, nat_tests) in absurd (true_false (sym g ∙ get_or_past s k false over))
-    true_false : true ≡ false → ⊥
-    true_false q = cc
-in_table list stands t m false e h = cc
+inside : (s : List Bool) (k : ℕ) → get_or s k false ≡ true → (c : Bool) → nat_lt k (length s) ≡ c → k < length s
+inside s k g true r = grind (arith, nat_tests)
+inside s k g false r =
+    let over : length s ≤ k = grind (arith, nat_tests) in
+    absurd (true≢false (sym g ∙ get_or_past s k false over))
+
+in_table : (list : List Instr) (stands : List Bool) → IsTable list stands → (m : ℕ) → get_or stands m false ≡ true → IsTrue (list_any (is_mark m) list)
+in_table list stands t m e = sym (t m (inside stands m e (nat_lt m (length stands)) refl)) ∙ e
 
 pub leads_by_table : (list : List Instr) (stands : List Bool) → IsTable list stands → (one : Instr) → IsTrue (leads_in stands one) → IsTrue (leads_to_marks list one)
-leads_by_table list stands t (Jump m) h = in_table list stands t m (get_or stands m false) refl h
-leads_by_table list stands t (Branch test m) h = in_table list stands t m (get_or stands m false) refl h
+leads_by_table list stands t (Jump m) h = in_table list stands t m h
+leads_by_table list stands t (Branch test m) h = in_table list stands t m h
 leads_by_table list stands t _ h = refl

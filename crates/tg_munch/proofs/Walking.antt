@@ -1,8 +1,10 @@
 -- What the definitions say of a load, and walks over lists of choices, one after another.
-use Rattle.std.proofs.Common.{ℕ, suc, max, arith, nat_tests, nat_lt, Bool, true, false, ◌≡◌, ◌+◌, ◌-◌, ◌*◌, ◌<◌, ◌≤◌, List, [], ◌∷◌, Option, Some, None, length, drop, get_or, refl, sym, ap, ◌∙◌, subst}
+use Rattle.std.proofs.Common.{ℕ, suc, max, arith, nat_lt, Bool, true, false, ◌≡◌, ◌+◌, ◌-◌, ◌*◌, ◌<◌, ◌≤◌, List, [], ◌∷◌, Option, Some, None, length, drop, get_or, refl, sym, ap, ◌∙◌, subst}
 use Rattle.std.specs.Prelude.{if◌then◌else◌}
+use Rattle.std.proofs.lemmas.Bool.Decides.{nat_tests}
 use Rattle.std.proofs.lemmas.List.{drop_more}
 use Rattle.std.proofs.Math.Seq.{drop-length}
+use Rattle.tg_base.specs.declared.ids.Temp.{Temp}
 use Rattle.tg_tree.specs.declared.operators.Bin.{Bin}
 use Rattle.tg_tree.specs.declared.trees.Tx.{Tx as CodeTx}
 use Rattle.tg_tree.specs.Lists.{txs_of, code_of}
@@ -11,13 +13,13 @@ use Rattle.tg_tree.specs.Tree as tree
 use Rattle.tg_tree.specs.Tree.{Tx}
 use Rattle.tg_instr.specs.declared.operands.Opnd.{Opnd}
 use Rattle.tg_instr.specs.declared.operands.Opnd.TheVariants.{Reg}
-use Rattle.tg_instr.specs.declared.instr.Instr.TheVariants.{Move}
+use Rattle.tg_instr.specs.declared.instr.Instr.TheVariants.{Move, FrameStore}
 use Rattle.tg_munch.specs.declared.drafts.Draft.{Draft}
 use Rattle.tg_munch.specs.declared.tiles.Tile.TheVariants.{ByWord, Operands}
 use Rattle.tg_munch.specs.Choosing.{Choice, ◌>>=◌, ◌>>◌, give, put, choose}
 use Rattle.tg_munch.specs.Tiles.{tile, tiled, shifted_into, operated}
 use Rattle.tg_munch.specs.Munching.{temp, argument, store_low, passed, given_back, expression, arguments, loaded_at, byte_at, element, elements}
-use Rattle.tg_munch.specs.Bodies.{count, kept, kept_register, parameter, parameters}
+use Rattle.tg_munch.specs.Bodies.{count, kept, kept_register, from_caller, parameter, parameter_in_temp, parameter_in_frame, parameters}
 use Rattle.tg_munch.specs.Drafts.{Writes}
 use Rattle.tg_munch.proofs.Writing.{writes_then, writes_none}
 
@@ -76,6 +78,17 @@ pub passed_high : (i : ℕ) (value : Option Opnd → Choice Opnd) → 4 ≤ i �
 passed_high i value h =
     let e : nat_lt i 4 ≡ false = grind (arith, nat_tests) in
     ap (λ b. if b then (value (Some (argument i)) >> give tt) else (value None >>= (λ v. store_low (4 * (i - 4)) v))) e
+
+-- a parameter past the fourth
+pub far_in_temp : (slots i : ℕ) (t : Temp) → 4 ≤ i → parameter_in_temp slots i t ≡ (expression slots (from_caller i) (Some (temp t.0)) >> give tt)
+far_in_temp slots i t h =
+    let e : nat_lt i 4 ≡ false = grind (arith, nat_tests) in
+    ap (λ b. if b then put (Move (temp t.0) (argument i)) else (expression slots (from_caller i) (Some (temp t.0)) >> give tt)) e
+
+pub far_in_frame : (slots i k : ℕ) → 4 ≤ i → parameter_in_frame slots i k ≡ (expression slots (from_caller i) None >>= (λ v. put (FrameStore v k)))
+far_in_frame slots i k h =
+    let e : nat_lt i 4 ≡ false = grind (arith, nat_tests) in
+    ap (λ b. if b then put (FrameStore (argument i) k) else (expression slots (from_caller i) None >>= (λ v. put (FrameStore v k)))) e
 
 -- how many arguments a call has
 pub count_of : (xs : List CodeTx) → count (txs_of xs) ≡ length xs

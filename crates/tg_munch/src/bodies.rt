@@ -7,7 +7,7 @@ ghost use Rattle.tg_munch.specs.Drafts.{Writes};
 ghost use Rattle.tg_munch.specs.Munching as munching;
 
 use crate::drafts::Draft;
-use crate::expressions::expression;
+use crate::expressions::{expression, low_bytes};
 use crate::statements::{branch, statement};
 use std::alloc::Global;
 use tg_base::{Memory, Temp};
@@ -129,16 +129,10 @@ fn from_caller(alloc: Global, i: usize) -> Result<Tx, Memory>
     requires { 3 < i }
     ensures { IfOk result (λ x. plain_tx x ≡ bodies.from_caller i) }
 {
-    if i > MOST_PARAMETERS {
-        return Err(Memory);
-    }
-    let bytes = 4 * (i as u32 - 4);
+    let bytes = low_bytes(i)?;
     let address = binary(alloc, Bin::Add, Tx::FrameAddress, Tx::Const(bytes))?;
     load(alloc, address)
 }
-
-/// The most parameters of a function.
-const MOST_PARAMETERS: usize = 4000000;
 
 /// The elements of flat code, where the kept registers stand in temporaries from a number on.
 pub(crate) fn elements(

@@ -1,4 +1,4 @@
-ghost use Rattle.std.specs.Prelude.{◌≡◌, OnOk, IfOk};
+ghost use Rattle.std.specs.Prelude.{◌≡◌, ◌<◌, ◌*◌, ◌-◌, OnOk, IfOk};
 ghost use Rattle.tg_tree.specs.Lists.{txs_of};
 ghost use Rattle.tg_tree.specs.Plain.{plain_tx};
 ghost use Rattle.tg_tree.specs.Tree as tree;
@@ -15,8 +15,8 @@ use tg_instr::{Instr, Opnd};
 use tg_isa::{Bits, Reg};
 use tg_tree::{Tx, Txs};
 
-/// The most words for arguments at the low end of a frame.
-pub(crate) const MOST_OUT: usize = 4000000;
+/// The most arguments of a call.
+pub(crate) const MOST_ARGUMENTS: usize = 4000000;
 
 /// An expression in the operand that is asked for, or in one of its own.
 #[cycle(munching)]
@@ -169,12 +169,15 @@ fn left_side(draft: &mut Draft, slots: u32, address: &Tx) -> Result<Opnd, Memory
 {
     match address {
         Tx::Binary(_, left, _) => expression(draft, slots, left, None),
-        Tx::Const(_) | Tx::Address(_) | Tx::Temp(_) | Tx::FrameAddress | Tx::Load(_) => {
-            expression(draft, slots, address, None)
-        }
-        Tx::LoadByte(_) | Tx::Call(_, _) | Tx::Service(_, _) | Tx::After(_, _) => {
-            expression(draft, slots, address, None)
-        }
+        Tx::Const(_) => expression(draft, slots, address, None),
+        Tx::Address(_) => expression(draft, slots, address, None),
+        Tx::Temp(_) => expression(draft, slots, address, None),
+        Tx::FrameAddress => expression(draft, slots, address, None),
+        Tx::Load(_) => expression(draft, slots, address, None),
+        Tx::LoadByte(_) => expression(draft, slots, address, None),
+        Tx::Call(_, _) => expression(draft, slots, address, None),
+        Tx::Service(_, _) => expression(draft, slots, address, None),
+        Tx::After(_, _) => expression(draft, slots, address, None),
     }
 }
 
@@ -221,12 +224,21 @@ fn pass(draft: &mut Draft, slots: u32, i: usize, x: &Tx) -> Result<(), Memory>
         expression(draft, slots, x, Some(to))?;
         return Ok(());
     }
-    if i > MOST_OUT {
+    let bytes = low_bytes(i)?;
+    let value = expression(draft, slots, x, None)?;
+    store_low(draft, bytes, value)?;
+    Ok(())
+}
+
+/// Where argument i stands at the low end of the frame of its caller, in bytes.
+pub(crate) fn low_bytes(i: usize) -> Result<u32, Memory>
+    requires { 3 < i }
+    ensures { IfOk result (λ n. n ≡ 4 * (i - 4)) }
+{
+    if i > MOST_ARGUMENTS {
         return Err(Memory);
     }
-    let value = expression(draft, slots, x, None)?;
-    store_low(draft, 4 * (i as u32 - 4), value)?;
-    Ok(())
+    Ok(4 * (i as u32 - 4))
 }
 
 /// A service of the machine, with its argument in `$a0`.

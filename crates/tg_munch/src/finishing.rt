@@ -1,10 +1,10 @@
-ghost use Rattle.std.specs.Prelude.{◌≡◌, ◌<◌, ℕ, Bool, false, IsTrue, IfOk, All, length, slice_index_or, slice_set, true};
+ghost use Rattle.std.specs.Prelude.{◌≡◌, ◌<◌, ◌^◌, ℕ, true, false, IsTrue, IfOk, [], length, slice_index_or, slice_set};
 ghost use Rattle.std.specs.List.{list_all, list_any};
 ghost use Rattle.tg_instr.specs.Codes as codes;
 ghost use Rattle.tg_instr.specs.Codes.{is_below, is_mark, has_temps_below};
 ghost use Rattle.tg_munch.specs.Marking.{IsTable, Places, leads_in};
 
-use crate::drafts::Draft;
+use crate::drafts::{Draft, MOST_TEMPS};
 use std::alloc::Global;
 use tg_base::Memory;
 use tg_instr::{Code, Instr, Instrs, Opnd};
@@ -13,10 +13,14 @@ use tg_instr::{Code, Instr, Instrs, Opnd};
 pub(crate) fn finish(alloc: Global, draft: Draft) -> Result<Code, Memory>
     ensures list { IfOk result (λ c. c.list ≡ draft.list.items) }
     ensures temps { IfOk result (λ c. c.temps ≡ draft.temp) }
+    ensures few { IfOk result (λ c. c.temps < 2 ^ 24) }
 {
     let marks = draft.mark as usize;
     let temps = draft.temp;
     let list = draft.list;
+    if temps > MOST_TEMPS {
+        return Err(Memory);
+    }
     if !ends_well(&list) {
         return Err(Memory);
     }
@@ -106,7 +110,7 @@ fn are_marked(alloc: Global, marks: usize, list: &[Instr]) -> Result<bool, Memor
 /// Notes the marks of a list in a table that is empty, and answers whether they differ and have
 /// their places there.
 fn place_marks(stands: &mut [bool], list: &[Instr]) -> bool
-    requires { All (λ b. b ≡ false) stands.old }
+    requires { IsTable [] stands.old }
     ensures differ { IsTrue result → IsTrue (codes.marks_differ list.now) }
     ensures table { IsTrue result → IsTable list.now stands.new }
 {

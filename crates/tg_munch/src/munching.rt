@@ -1,11 +1,11 @@
-ghost use Rattle.std.specs.Prelude.{◌≡◌, ◌<◌, ◌-◌, ◌^◌, OnErr, IfOk};
+ghost use Rattle.std.specs.Prelude.{◌≡◌, ◌<◌, ◌-◌, ◌^◌, OnErr, IfOk, length};
 ghost use Rattle.tg_tree.specs.Lists.{code_of};
 ghost use Rattle.tg_tree.specs.Plain.{plain_linear, plain_function, plain_tx, plain_ts};
 ghost use Rattle.tg_munch.specs.Bodies as bodies;
 
 use crate::bodies::{KEPT, elements, keep, parameters};
 use crate::drafts::{Draft, MOST_TEMPS};
-use crate::expressions::MOST_OUT;
+use crate::expressions::MOST_ARGUMENTS;
 use crate::finishing::finish;
 use std::alloc::Global;
 use tg_base::Memory;
@@ -110,18 +110,19 @@ fn out_of(x: &Tx) -> Result<u32, Memory>
     ensures { IfOk result (λ n. n ≡ bodies.out_of (plain_tx x.now)) }
 {
     match x {
-        Tx::Call(_, items) => past_fourth(items.items.len()),
+        Tx::Call(_, items) => past_fourth(&items.items),
         Tx::Const(_) | Tx::Address(_) | Tx::Temp(_) | Tx::FrameAddress => Ok(0),
         Tx::Binary(_, _, _) | Tx::Load(_) | Tx::LoadByte(_) => Ok(0),
         Tx::Service(_, _) | Tx::After(_, _) => Ok(0),
     }
 }
 
-/// How many of so many arguments are past the fourth.
-fn past_fourth(count: usize) -> Result<u32, Memory>
-    ensures { IfOk result (λ n. n ≡ count - 4) }
+/// How many arguments are past the fourth.
+fn past_fourth(arguments: &[Tx]) -> Result<u32, Memory>
+    ensures { IfOk result (λ n. n ≡ length arguments.now - 4) }
 {
-    if count > MOST_OUT {
+    let count = arguments.len();
+    if count > MOST_ARGUMENTS {
         return Err(Memory);
     }
     Ok((count as u32).saturating_sub(4))

@@ -89,10 +89,14 @@ fn effect(draft: &mut Draft, slots: u32, x: &Tx) -> Result<(), Memory>
     match x {
         Tx::Call(label, items) => call(draft, slots, *label, items),
         Tx::Service(number, argument) => service(draft, slots, *number, argument),
-        Tx::Const(_) | Tx::Address(_) | Tx::Temp(_) | Tx::FrameAddress => value(draft, slots, x),
-        Tx::Binary(_, _, _) | Tx::Load(_) | Tx::LoadByte(_) | Tx::After(_, _) => {
-            value(draft, slots, x)
-        }
+        Tx::Const(_) => value(draft, slots, x),
+        Tx::Address(_) => value(draft, slots, x),
+        Tx::Temp(_) => value(draft, slots, x),
+        Tx::FrameAddress => value(draft, slots, x),
+        Tx::Binary(_, _, _) => value(draft, slots, x),
+        Tx::Load(_) => value(draft, slots, x),
+        Tx::LoadByte(_) => value(draft, slots, x),
+        Tx::After(_, _) => value(draft, slots, x),
     }
 }
 

@@ -1,4 +1,5 @@
-use Rattle.std.proofs.Common.{None, arith, ap, sym, ◌∙◌, subst}
+use Rattle.std.proofs.Common.{None, ◌≡◌, ◌+◌, length, arith, ap, sym, ◌∙◌, subst}
+use Rattle.std.specs.Prelude.{IfOk}
 use Rattle.tg_tree.specs.Plain.{plain_tx}
 use Rattle.tg_tree.proofs.ListLaws.{plain_tx-Call}
 use Rattle.tg_munch.specs.Drafts.{Writes}
@@ -37,8 +38,9 @@ arguments-loop-i-preserved t c =
 pub arguments-returns : goal.arguments-returns
 arguments-returns t c =
     let i = c.loop-i.i in
+    let over : i ≡ length c.deref-x-items.result.now = omega (arith, c.loop-i.auto.i-end, c.loop-i-test.false) in
     leads_end (argument_each c.args.slots) c.args.items.now.items.items 0 i i
-    (rw c.deref-x-items.ensures.value at (omega (arith, c.loop-i.auto.i-end, c.loop-i-test.false))) c.loop-i.invariant
+    (over ∙ ap length c.deref-x-items.ensures.value) c.loop-i.invariant
 
 pub base-returns-in_ok-operand-in-Some : goal.base-returns-in_ok-operand-in-Some
 base-returns-in_ok-operand-in-Some t c =
@@ -59,28 +61,60 @@ load_to-returns-in_ok-value-in-None t c =
 
 pub expression-returns-in_ok-value-in-Call : goal.expression-returns-in_ok-value-in-Call
 expression-returns-in_ok-value-in-Call t c =
-    let h = c in ?
+    subst (λ y. Writes (expression c.args.slots y c.args.asked) c.args.draft.now c.answer_in.new.draft c.in_ok-value-in-Call.value)
+    (sym (ap plain_tx c.in-Call.is ∙ plain_tx-Call c.in-Call.label c.in-Call.items))
+    (writes_then _ c.in_ok-call-in-Call.ensures c.in_ok-value-in-Call.ensures)
 
 pub expression-returns-in_ok-value-in-Service : goal.expression-returns-in_ok-value-in-Service
 expression-returns-in_ok-value-in-Service t c =
-    let h = c in ?
+    subst (λ y. Writes (expression c.args.slots (plain_tx y) c.args.asked) c.args.draft.now c.answer_in-in-Service.new.draft c.in_ok-value-in-Service.value)
+    (sym c.in-Service.is)
+    (writes_then _ (rw c.deref-in-Service.ensures at c.in_ok-service-in-Service.ensures) c.in_ok-value-in-Service.ensures)
 
 pub expression-returns-in_ok-value-in-ByWord : goal.expression-returns-in_ok-value-in-ByWord
 expression-returns-in_ok-value-in-ByWord t c =
-    let h = c.deref in ?
+    subst (λ y. Writes (expression c.args.slots (plain_tx y) c.args.asked) c.args.draft.now c.shift_into.new.draft c.in_ok-value-in-ByWord.value)
+    (sym c.in-Binary.is)
+    (by_word c.args.slots c.in-Binary.op (plain_tx c.in-Binary.left.value) (plain_tx c.in-Binary.right.value) c.args.asked
+    (rw (c.deref.ensures, c.deref-in-Binary.ensures) at c.in-ByWord.ensures)
+    (rw c.deref-in-ByWord.ensures at c.in_ok-word-in-ByWord.ensures)
+    (rw c.deref-in-ByWord-2.ensures at c.in_ok-amount-in-ByWord.ensures)
+    c.in_ok-value-in-ByWord.ensures)
 
 pub expression-returns-in_ok-value-in-Operands : goal.expression-returns-in_ok-value-in-Operands
 expression-returns-in_ok-value-in-Operands t c =
-    let h = c.deref in ?
+    subst (λ y. Writes (expression c.args.slots (plain_tx y) c.args.asked) c.args.draft.now c.operate.new.draft c.in_ok-value-in-Operands.value)
+    (sym c.in-Binary.is)
+    (on_operands c.args.slots c.in-Binary.op (plain_tx c.in-Binary.left.value) (plain_tx c.in-Binary.right.value) c.args.asked
+    (rw (c.deref.ensures, c.deref-in-Binary.ensures) at c.in-Operands.ensures)
+    c.in_ok-to-in-Operands.ensures
+    (rw c.deref-in-Operands.ensures at c.in_ok-first-in-Operands.ensures)
+    (rw c.deref-in-Operands-2.ensures at c.in_ok-second-in-Operands.ensures)
+    c.in_ok-value-in-Operands.ensures)
 
 pub expression-returns-in-Load : goal.expression-returns-in-Load
-expression-returns-in-Load t c = ?
+expression-returns-in-Load t c =
+    subst (λ y. IfOk c.load.result (λ v. Writes (expression c.args.slots (plain_tx y) c.args.asked) c.args.draft.now c.load.new.draft v))
+    (sym c.in-Load.is)
+    (subst (λ q. IfOk c.load.result (λ v. Writes q c.args.draft.now c.load.new.draft v))
+    (sym (load_is c.args.slots (plain_tx c.in-Load.address.value) c.args.asked)) (rw c.deref-in-Load.ensures at c.load.ensures))
 
 pub expression-returns-in-LoadByte : goal.expression-returns-in-LoadByte
-expression-returns-in-LoadByte t c = ?
+expression-returns-in-LoadByte t c =
+    subst (λ y. IfOk c.load_byte.result (λ v. Writes (expression c.args.slots (plain_tx y) c.args.asked) c.args.draft.now c.load_byte.new.draft v))
+    (sym c.in-LoadByte.is)
+    (subst (λ q. IfOk c.load_byte.result (λ v. Writes q c.args.draft.now c.load_byte.new.draft v))
+    (sym (load_byte_is c.args.slots (plain_tx c.in-LoadByte.address.value) c.args.asked)) (rw c.deref-in-LoadByte.ensures at c.load_byte.ensures))
 
 pub pass-returns-then-i-lt4 : goal.pass-returns-then-i-lt4
-pass-returns-then-i-lt4 t c = ?
+pass-returns-then-i-lt4 t c =
+    let value = expression c.args.slots (plain_tx c.args.x.now) in
+    let e : c.new.result ≡ 4 + c.args.i = omega (arith, c.new.ensures, c.if-i-lt4.true) in
+    subst (λ q. Writes q c.args.draft.now c.expression.new.draft tt) (sym (passed_low c.args.i value c.if-i-lt4.true))
+    (writes_then _ (rw e at c.in_ok-expression.ensures) (writes_none _ _))
 
 pub pass-returns : goal.pass-returns
-pass-returns t c = ?
+pass-returns t c =
+    let value = expression c.args.slots (plain_tx c.args.x.now) in
+    subst (λ q. Writes q c.args.draft.now c.store_low.new.draft tt) (sym (passed_high c.args.i value c.if-i-lt4.false))
+    (writes_then _ c.in_ok-value.ensures (rw c.in_ok-bytes.ensures at c.in_ok-store_low.ensures))
