@@ -84,9 +84,10 @@ placed_plain xs y before behind none h t same =
 
 placed : (xs : List Instr) (x : Instr) (before behind : List Bool) → IsTrue (marks_differ xs) → IsTable xs before → Places x before behind → IsTrue (marks_differ (xs ++ x ∷ [])) × IsTable (xs ++ x ∷ []) behind
 placed xs (Mark k) before behind h t p =
-    let none : list_any (is_mark k) xs ≡ false = sym (t k p.0) ∙ p.1 in
-    (differ_last xs k none ∙ h,
-    λ m less. ap (λ s. get_or s m false) p.2 ∙ noted xs k m before p.0 (subst (λ n. m < n) (ap length p.2 ∙ length-set before k true) less) t (nat_eq m k) refl)
+    let none : list_any (is_mark k) xs ≡ false = sym (t k p.0) ∙ p.1 in (
+      differ_last xs k none ∙ h,
+      λ m less. ap (λ s. get_or s m false) p.2 ∙ noted xs k m before p.0 (subst (λ n. m < n) (ap length p.2 ∙ length-set before k true) less) t (nat_eq m k) refl,
+    )
 placed xs y before behind h t p = placed_plain xs y before behind (λ m. refl) h t p
 
 -- the marks of a front are noted

@@ -160,9 +160,7 @@ fn element(draft: &mut Draft, slots: u32, keeps: u32, one: &Linear) -> Result<()
         Linear::Mark(mark) => draft.put(Instr::Mark(*mark)),
         Linear::Do(s) => statement(draft, slots, s),
         Linear::Jump(mark) => draft.put(Instr::Jump(*mark)),
-        Linear::Branch(rel, left, right, mark) => {
-            branch(draft, slots, *rel, left, right, *mark)
-        }
+        Linear::Branch(rel, left, right, mark) => { branch(draft, slots, *rel, left, right, *mark) }
         Linear::Fault(number) => draft.put(Instr::Fault(*number)),
         Linear::Return(x) => answer(draft, slots, keeps, x),
     }

@@ -134,7 +134,8 @@ fn on_less(
     right: Opnd,
     mark: u32,
 ) -> Result<(), Memory>
-    ensures { OnOk result (Writes (comparing.on_less order left right mark) draft.old draft.new tt) }
+    ensures { OnOk result
+        (Writes (comparing.on_less order left right mark) draft.old draft.new tt) }
 {
     let flagged = draft.fresh()?;
     let tested = flagged;
@@ -168,7 +169,8 @@ pub(crate) fn branch_on(
     right: Opnd,
     mark: u32,
 ) -> Result<(), Memory>
-    ensures { OnOk result (Writes (comparing.branch_on rel left right mark) draft.old draft.new tt) }
+    ensures { OnOk result
+        (Writes (comparing.branch_on rel left right mark) draft.old draft.new tt) }
 {
     match rel {
         Rel::Equal => draft.put(if_equal(left, right, mark)),
@@ -263,7 +265,8 @@ pub(crate) fn branch_short(
     left: Opnd,
     mark: u32,
 ) -> Result<(), Memory>
-    ensures { OnOk result (Writes (comparing.branch_short rel short left mark) draft.old draft.new tt) }
+    ensures { OnOk result
+        (Writes (comparing.branch_short rel short left mark) draft.old draft.new tt) }
 {
     match short {
         Short::Zero => against_zero(draft, rel, left, mark),

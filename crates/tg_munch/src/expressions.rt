@@ -80,7 +80,7 @@ fn with_constant(
 ) -> Result<Opnd, Memory>
     ensures { IfOk result
         (λ v. Writes (tiles.with_field one asked (munching.expression slots (plain_tx side.now) None))
-            draft.old draft.new v) }
+        draft.old draft.new v) }
 {
     let to = draft.choose(asked)?;
     let target = to;
@@ -91,15 +91,10 @@ fn with_constant(
 
 /// The word at an address.
 #[cycle(munching)]
-fn load(
-    draft: &mut Draft,
-    slots: u32,
-    address: &Tx,
-    asked: Option<Opnd>,
-) -> Result<Opnd, Memory>
+fn load(draft: &mut Draft, slots: u32, address: &Tx, asked: Option<Opnd>) -> Result<Opnd, Memory>
     ensures { IfOk result
         (λ v. Writes (munching.loaded_at slots (plain_tx address.now) asked)
-            draft.old draft.new v) }
+        draft.old draft.new v) }
 {
     let to = draft.choose(asked)?;
     let value = load_to(draft, slots, address, to)?;
@@ -132,7 +127,7 @@ fn load_byte(
 ) -> Result<Opnd, Memory>
     ensures { IfOk result
         (λ v. Writes (munching.byte_at slots (plain_tx address.now) asked)
-            draft.old draft.new v) }
+        draft.old draft.new v) }
 {
     let to = draft.choose(asked)?;
     let target = to;
@@ -183,15 +178,10 @@ fn left_side(draft: &mut Draft, slots: u32, address: &Tx) -> Result<Opnd, Memory
 
 /// A call, behind its arguments.
 #[cycle(munching)]
-pub(crate) fn call(
-    draft: &mut Draft,
-    slots: u32,
-    label: Label,
-    items: &Txs,
-) -> Result<(), Memory>
+pub(crate) fn call(draft: &mut Draft, slots: u32, label: Label, items: &Txs) -> Result<(), Memory>
     ensures { OnOk result
         (Writes (munching.effect slots (tree.Call label.0 (txs_of items.now.items.items)))
-            draft.old draft.new tt) }
+        draft.old draft.new tt) }
 {
     arguments(draft, slots, items)?;
     draft.put(Instr::Call(label))?;
@@ -203,7 +193,7 @@ pub(crate) fn call(
 fn arguments(draft: &mut Draft, slots: u32, items: &Txs) -> Result<(), Memory>
     ensures { OnOk result
         (Writes (munching.arguments slots 0 (txs_of items.now.items.items))
-            draft.old draft.new tt) }
+        draft.old draft.new tt) }
 {
     for (i, x) in items.items.iter().enumerate() {
         pass(draft, slots, i, x)?;
@@ -217,7 +207,7 @@ fn arguments(draft: &mut Draft, slots: u32, items: &Txs) -> Result<(), Memory>
 fn pass(draft: &mut Draft, slots: u32, i: usize, x: &Tx) -> Result<(), Memory>
     ensures { OnOk result
         (Writes (munching.passed i (munching.expression slots (plain_tx x.now)))
-            draft.old draft.new tt) }
+        draft.old draft.new tt) }
 {
     if i < 4 {
         let to = Opnd::Reg(Reg::new(4 + i as u8));
@@ -251,7 +241,7 @@ pub(crate) fn service(
 ) -> Result<(), Memory>
     ensures { OnOk result
         (Writes (munching.effect slots (tree.Service number (plain_tx argument.now)))
-            draft.old draft.new tt) }
+        draft.old draft.new tt) }
 {
     expression(draft, slots, argument, Some(Opnd::Reg(Reg::A0)))?;
     draft.constant(Opnd::Reg(Reg::V0), number)?;
@@ -265,7 +255,11 @@ fn constant(draft: &mut Draft, n: u32, asked: Option<Opnd>) -> Result<Opnd, Memo
 {
     match asked {
         Some(to) => draft.constant(to, n),
-        None => if n == 0 { Ok(Opnd::Reg(Reg::ZERO)) } else { fresh_constant(draft, n) },
+        None => if n == 0 {
+            Ok(Opnd::Reg(Reg::ZERO))
+        } else {
+            fresh_constant(draft, n)
+        },
     }
 }
 

@@ -1,7 +1,19 @@
-ghost use Rattle.std.specs.Prelude.{◌≡◌, ◌<◌, ◌^◌, ℕ, true, false, IsTrue, IfOk, [], length, slice_index_or, slice_set};
-ghost use Rattle.std.specs.List.{list_all, list_any};
+ghost use Rattle.std.specs.Prelude.{
+  ◌≡◌,
+  ◌<◌,
+  ◌^◌,
+  true,
+  false,
+  IsTrue,
+  IfOk,
+  [],
+  length,
+  slice_index_or,
+  slice_set,
+};
+ghost use Rattle.std.specs.List.{list_all};
 ghost use Rattle.tg_instr.specs.Codes as codes;
-ghost use Rattle.tg_instr.specs.Codes.{is_below, is_mark, has_temps_below};
+ghost use Rattle.tg_instr.specs.Codes.{is_below, has_temps_below};
 ghost use Rattle.tg_munch.specs.Marking.{IsTable, Places, leads_in};
 
 use crate::drafts::{Draft, MOST_TEMPS};

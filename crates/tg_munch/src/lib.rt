@@ -15,4 +15,3 @@ mod tiles;
 mod tiling;
 
 pub use munching::munch;
-

@@ -69,7 +69,11 @@ fn next_mark(one: &Linear) -> Result<u32, Memory>
     ensures { IfOk result (λ m. m ≡ bodies.next_mark (plain_linear one.now)) }
 {
     match one {
-        Linear::Mark(mark) => if *mark < u32::MAX { Ok(*mark + 1) } else { Err(Memory) },
+        Linear::Mark(mark) => if *mark < u32::MAX {
+            Ok(*mark + 1)
+        } else {
+            Err(Memory)
+        },
         Linear::Do(_) | Linear::Jump(_) | Linear::Branch(_, _, _, _) => Ok(0),
         Linear::Fault(_) | Linear::Return(_) => Ok(0),
     }

@@ -83,13 +83,7 @@ fn shift_by(op: Bin, to: Opnd, bits: u32) -> Instr
 }
 
 /// Shifts an operand by so many bits, where the bit of that value in another one is set.
-fn shift_bit(
-    draft: &mut Draft,
-    op: Bin,
-    to: &Opnd,
-    amount: &Opnd,
-    bits: u32,
-) -> Result<(), Memory>
+fn shift_bit(draft: &mut Draft, op: Bin, to: &Opnd, amount: &Opnd, bits: u32) -> Result<(), Memory>
     requires { bits < 32 }
     ensures { OnOk result
         (Writes (tiles.shift_bit op to.now amount.now bits) draft.old draft.new tt) }

@@ -31,7 +31,7 @@ pub(crate) fn statement(draft: &mut Draft, slots: u32, s: &Ts) -> Result<(), Mem
 fn move_to(draft: &mut Draft, slots: u32, temp: Temp, x: &Tx) -> Result<(), Memory>
     ensures { OnOk result
         (Writes (munching.statement slots (tree.Move temp.0 (plain_tx x.now)))
-            draft.old draft.new tt) }
+        draft.old draft.new tt) }
 {
     expression(draft, slots, x, Some(Opnd::Temp(temp)))?;
     Ok(())
@@ -41,7 +41,7 @@ fn move_to(draft: &mut Draft, slots: u32, temp: Temp, x: &Tx) -> Result<(), Memo
 fn store(draft: &mut Draft, slots: u32, address: &Tx, value: &Tx) -> Result<(), Memory>
     ensures { OnOk result
         (Writes (munching.statement slots (tree.Store (plain_tx address.now) (plain_tx value.now)))
-            draft.old draft.new tt) }
+        draft.old draft.new tt) }
 {
     match slot(slots, address) {
         Some(slot) => store_slot(draft, slots, slot, value),
@@ -61,7 +61,7 @@ fn store_slot(draft: &mut Draft, slots: u32, slot: u32, value: &Tx) -> Result<()
 fn store_word(draft: &mut Draft, slots: u32, address: &Tx, value: &Tx) -> Result<(), Memory>
     ensures { OnOk result
         (Writes (munching.stored_word slots (plain_tx address.now) (plain_tx value.now))
-            draft.old draft.new tt) }
+        draft.old draft.new tt) }
 {
     let place = base(draft, slots, address)?;
     let value = expression(draft, slots, value, None)?;
@@ -73,7 +73,7 @@ fn store_word(draft: &mut Draft, slots: u32, address: &Tx, value: &Tx) -> Result
 fn store_byte(draft: &mut Draft, slots: u32, address: &Tx, value: &Tx) -> Result<(), Memory>
     ensures { OnOk result
         (Writes (munching.stored_byte slots (plain_tx address.now) (plain_tx value.now))
-            draft.old draft.new tt) }
+        draft.old draft.new tt) }
 {
     let place = base(draft, slots, address)?;
     let value = expression(draft, slots, value, None)?;
@@ -119,7 +119,7 @@ pub(crate) fn branch(
 ) -> Result<(), Memory>
     ensures { OnOk result
         (Writes (munching.branch slots rel (plain_tx left.now) (plain_tx right.now) mark)
-            draft.old draft.new tt) }
+        draft.old draft.new tt) }
 {
     if is_turned(rel, left, right) {
         compare(draft, slots, turned(rel), right, left, mark)
@@ -138,7 +138,7 @@ fn compare(
 ) -> Result<(), Memory>
     ensures { OnOk result
         (Writes (munching.compared slots rel (plain_tx left.now) (plain_tx right.now) mark)
-            draft.old draft.new tt) }
+        draft.old draft.new tt) }
 {
     let first = expression(draft, slots, left, None)?;
     compare_with(draft, slots, rel, first, right, mark)?;
@@ -155,7 +155,7 @@ fn compare_with(
 ) -> Result<(), Memory>
     ensures { OnOk result
         (Writes (munching.compared_with slots rel first (plain_tx right.now) mark)
-            draft.old draft.new tt) }
+        draft.old draft.new tt) }
 {
     match short_side(rel, right) {
         Some(short) => branch_short(draft, rel, short, first, mark),

@@ -64,9 +64,21 @@ fn immediate(op: Bin, n: u32) -> Option<Immediate>
         Bin::Sub => sum(negated(n)),
         Bin::AddTrap => trapping_sum(n),
         Bin::SubTrap => trapping_sum(negated(n)),
-        Bin::And => if n < 65536 { Some(Immediate::And(field(n))) } else { None },
-        Bin::Or => if n < 65536 { Some(Immediate::Or(field(n))) } else { None },
-        Bin::Xor => if n < 65536 { Some(Immediate::Xor(field(n))) } else { None },
+        Bin::And => if n < 65536 {
+            Some(Immediate::And(field(n)))
+        } else {
+            None
+        },
+        Bin::Or => if n < 65536 {
+            Some(Immediate::Or(field(n)))
+        } else {
+            None
+        },
+        Bin::Xor => if n < 65536 {
+            Some(Immediate::Xor(field(n)))
+        } else {
+            None
+        },
         Bin::ShiftLeft => Some(Immediate::ShiftLeft(bits)),
         Bin::ShiftRight => Some(Immediate::ShiftRight(bits)),
         Bin::ShiftSigned => Some(Immediate::ShiftSigned(bits)),
@@ -119,7 +131,11 @@ pub(crate) fn tile(op: Bin, left: &Tx, right: &Tx) -> Tile
     match (constant_side(op, right), exchanged_side(op, left)) {
         (Some(one), _) => Tile::Right(one),
         (None, Some(one)) => Tile::Left(one),
-        (None, None) => if is_shift(op) { Tile::ByWord } else { Tile::Operands },
+        (None, None) => if is_shift(op) {
+            Tile::ByWord
+        } else {
+            Tile::Operands
+        },
     }
 }
 
