@@ -27,7 +27,8 @@ abbrev pub on_less : Order → (left right : Opnd) → (mark : ℕ) → Choice (
 on_less o x y m = fresh >>= (λ t. put (flag o.signed t x y) >> put (on_flag o.holds t m))
 
 abbrev pub on_less_field : Order → (field : ℕ) → (left : Opnd) → (mark : ℕ) → Choice (Unit {0})
-on_less_field o n x m = fresh >>= (λ t. put (field_flag o.signed t x n) >> put (on_flag o.holds t m))
+on_less_field o n x m =
+    fresh >>= (λ t. put (field_flag o.signed t x n) >> put (on_flag o.holds t m))
 
 abbrev pub order : (signed holds : Bool) → Order
 order signed holds = record { signed = signed; holds = holds }
@@ -54,7 +55,8 @@ abbrev pub if_greater : Opnd → (mark : ℕ) → Instr
 if_greater x m = Branch (record { rel = Greater; left = x; right = nothing; is_one_row = refl }) m
 
 abbrev pub if_at_least : Opnd → (mark : ℕ) → Instr
-if_at_least x m = Branch (record { rel = GreaterEqual; left = x; right = nothing; is_one_row = refl }) m
+if_at_least x m =
+    Branch (record { rel = GreaterEqual; left = x; right = nothing; is_one_row = refl }) m
 
 -- an operand and 0: no word is below it
 abbrev pub against_zero : Rel → (left : Opnd) → (mark : ℕ) → Choice (Unit {0})
@@ -87,7 +89,8 @@ short_field _ n = None
 abbrev pub short : Rel → (n : ℕ) → Option Short
 short rel n = if n == 0 then Some Zero else short_field rel n
 
--- how a comparison is made without an operand for its right side, if it is a constant that allows it
+-- how a comparison is made without an operand for its right side, where that is a constant that
+-- allows it
 abbrev pub short_side : Rel → (right : Tx) → Option Short
 short_side rel (Const n) = short rel n
 short_side rel _ = None

@@ -168,7 +168,8 @@ shift_by _ to n = Sra to to n
 abbrev pub shift_bit : Bin → (to amount : Opnd) → (bits : ℕ) → Choice (Unit {0})
 shift_bit op to amount n =
     fresh >>= (λ bit. fresh_mark >>= (λ m.
-    put (Andi bit amount n) >> (put (if_equal bit nothing m) >> (put (shift_by op to n) >> put (Mark m)))))
+    put (Andi bit amount n) >> (put (if_equal bit nothing m) >>
+    (put (shift_by op to n) >> put (Mark m)))))
 
 abbrev pub shift_bits : Bin → (to amount : Opnd) → Choice (Unit {0})
 shift_bits op to y =

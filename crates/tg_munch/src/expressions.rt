@@ -79,7 +79,8 @@ fn with_constant(
     asked: Option<Opnd>,
 ) -> Result<Opnd, Memory>
     ensures { IfOk result
-        (λ v. Writes (tiles.with_field one asked (munching.expression slots (plain_tx side.now) None))
+        (λ v. Writes
+        (tiles.with_field one asked (munching.expression slots (plain_tx side.now) None))
         draft.old draft.new v) }
 {
     let to = draft.choose(asked)?;
