@@ -1,4 +1,4 @@
-use Rattle.std.proofs.Common.{None, ◌≡◌, ◌+◌, length, arith, ap, sym, ◌∙◌, subst}
+use Rattle.std.proofs.Common.{None, ◌≡◌, ◌+◌, length, arith, refl, ap, sym, ◌∙◌, subst}
 use Rattle.std.specs.Prelude.{IfOk}
 use Rattle.tg_tree.specs.Plain.{plain_tx}
 use Rattle.tg_tree.proofs.ListLaws.{plain_tx-Call}
@@ -118,3 +118,15 @@ pass-returns t c =
     let value = expression c.args.slots (plain_tx c.args.x.now) in
     subst (λ q. Writes q c.args.draft.now c.store_low.new.draft tt) (sym (passed_high c.args.i value c.if-i-lt4.false))
     (writes_then _ c.in_ok-value.ensures (rw c.in_ok-bytes.ensures at c.in_ok-store_low.ensures))
+
+pub left_side-returns-in-Load : goal.left_side-returns-in-Load
+left_side-returns-in-Load t c =
+    subst (λ q. IfOk c.expression-in-Load.result (λ v. Writes q c.args.draft.now c.expression-in-Load.new.draft v))
+    (subst (λ y. expression c.args.slots (plain_tx y) None ≡ left_side c.args.slots (plain_tx y)) (sym c.in-Load.is) refl)
+    c.expression-in-Load.ensures
+
+pub left_side-returns-in-LoadByte : goal.left_side-returns-in-LoadByte
+left_side-returns-in-LoadByte t c =
+    subst (λ q. IfOk c.expression-in-LoadByte.result (λ v. Writes q c.args.draft.now c.expression-in-LoadByte.new.draft v))
+    (subst (λ y. expression c.args.slots (plain_tx y) None ≡ left_side c.args.slots (plain_tx y)) (sym c.in-LoadByte.is) refl)
+    c.expression-in-LoadByte.ensures
