@@ -1,17 +1,16 @@
 -- The instructions of small trees, computed.
-use Rattle.std.proofs.Common.{ℕ, ◌≡◌, List, [], ◌∷◌, Option, Some, None, refl}
+use Rattle.std.proofs.Common.{ℕ, ◌≡◌, List, [], ◌∷◌, None, refl}
 use Rattle.tg_frame.specs.declared.accesses.Access.TheVariants.{InTemp, InFrame}
 use Rattle.tg_tree.specs.declared.operators.Bin.TheVariants as bin
-use Rattle.tg_tree.specs.declared.operators.Rel.TheVariants.{Equal, NotEqual, Less, LessEqual, Greater, GreaterEqual, Below, NotBelow}
+use Rattle.tg_tree.specs.declared.operators.Rel.TheVariants.{Equal, NotEqual, Less, LessEqual, Greater, NotBelow}
 use Rattle.tg_tree.specs.Tree as tree
 use Rattle.tg_tree.specs.Tree.{Tx, Const, FrameAddress, Binary, Load, Txs, no_txs, tx, Mark, Do', Return'}
-use Rattle.tg_instr.specs.declared.operands.Opnd.{Opnd}
 use Rattle.tg_instr.specs.declared.operands.Opnd.TheVariants.{Reg}
 use Rattle.tg_instr.specs.declared.instr.Instr.{Instr}
 use Rattle.tg_instr.specs.declared.instr.Instr.TheVariants as instr
 use Rattle.tg_instr.specs.declared.instr.Instr.TheVariants.{Addiu, Addi, Add, Addu, Subu, Sll, Andi, Ori, Lui, Lw, Sw, Slt, Slti, Sltiu, Move, FrameLoad, FrameStore, Branch, Call, Service, Mult, Mflo, Return}
-use Rattle.tg_munch.specs.Choosing.{Drawn, Chosen, ◌>>=◌}
-use Rattle.tg_munch.specs.Munching.{temp, expression, statement, branch, elements}
+use Rattle.tg_munch.specs.Choosing.{Drawn, ◌>>=◌}
+use Rattle.tg_munch.specs.Munching.{temp, expression, statement, branch}
 use Rattle.tg_munch.specs.Bodies.{munched, outs}
 
 abbrev start : Drawn

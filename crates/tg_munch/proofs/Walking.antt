@@ -1,5 +1,5 @@
 -- What the definitions say of a load, and walks over lists of choices, one after another.
-use Rattle.std.proofs.Common.{ℕ, suc, max, arith, nat_lt, Bool, true, false, ◌≡◌, ◌+◌, ◌-◌, ◌*◌, ◌<◌, ◌≤◌, List, [], ◌∷◌, Option, Some, None, length, drop, get_or, refl, sym, ap, ◌∙◌, subst}
+use Rattle.std.proofs.Common.{ℕ, suc, max, arith, nat_lt, true, false, ◌≡◌, ◌+◌, ◌-◌, ◌*◌, ◌<◌, ◌≤◌, List, [], ◌∷◌, Option, Some, None, length, drop, get_or, refl, sym, ap, ◌∙◌, subst}
 use Rattle.std.specs.Prelude.{if◌then◌else◌}
 use Rattle.std.proofs.lemmas.Bool.Decides.{nat_tests}
 use Rattle.std.proofs.lemmas.List.{drop_more}
@@ -40,13 +40,16 @@ pub record EachChoice {X : Type 0} (f : ℕ → List X → Choice (Unit {0})) (g
 abbrev pub Leads : {X : Type 0} → (ℕ → List X → Choice (Unit {0})) → List X → (k p i : ℕ) → (a b : Draft) → Type 0
 Leads f xs k p i a b = (c : Draft) → Writes (f p (drop i xs)) b c tt → Writes (f k xs) a c tt
 
-pub leads_on : {X : Type 0} {f : ℕ → List X → Choice (Unit {0})} {g : ℕ → X → Choice (Unit {0})} → EachChoice f g → (xs : List X) (k p i : ℕ) {a b c : Draft} {x : X} → i < length xs → x ≡ get_or xs i x → Leads f xs k p i a b → Writes (g p x) b c tt → Leads f xs k (p + 1) (i + 1) a c
+pub leads_on : {X : Type 0} {f : ℕ → List X → Choice (Unit {0})} {g : ℕ → X → Choice (Unit {0})} → EachChoice f g →
+    (xs : List X) (k p i : ℕ) {a b c : Draft} {x : X} → i < length xs → x ≡ get_or xs i x → Leads f xs k p i a b → Writes (g p x) b c tt →
+    Leads f xs k (p + 1) (i + 1) a c
 leads_on {f = f} {g = g} each xs k p i {b = b} {c = c} {x = x} less at leads step d rest =
     let here : drop i xs ≡ x ∷ drop (i + 1) xs = drop_more xs i x less ∙ ap (λ y. y ∷ drop (i + 1) xs) (sym at) in
     leads d (subst (λ ys. Writes (f p ys) b d tt) (sym here)
     (subst (λ q. Writes q b d tt) (sym (each.more p x (drop (i + 1) xs))) (writes_then _ step rest)))
 
-pub leads_end : {X : Type 0} {f : ℕ → List X → Choice (Unit {0})} {g : ℕ → X → Choice (Unit {0})} → EachChoice f g → (xs : List X) (k p i : ℕ) {a b : Draft} → i ≡ length xs → Leads f xs k p i a b → Writes (f k xs) a b tt
+pub leads_end : {X : Type 0} {f : ℕ → List X → Choice (Unit {0})} {g : ℕ → X → Choice (Unit {0})} → EachChoice f g → (xs : List X) (k p i : ℕ) {a b : Draft} →
+    i ≡ length xs → Leads f xs k p i a b → Writes (f k xs) a b tt
 leads_end {f = f} each xs k p i {b = b} over leads =
     let none : drop i xs ≡ [] = ap (λ j. drop j xs) over ∙ drop-length xs in
     leads b (subst (λ ys. Writes (f p ys) b b tt) (sym none)
@@ -91,7 +94,8 @@ far_in_frame slots i k h =
     ap (λ b. if b then put (FrameStore (argument i) k) else (expression slots (from_caller i) None >>= (λ v. put (FrameStore v k)))) e
 
 -- an expression that is no call and no service
-pub valued_at : (slots : ℕ) (x y : CodeTx) → x ≡ y → valued slots (plain_tx y) ≡ effect slots (plain_tx y) → valued slots (plain_tx x) ≡ effect slots (plain_tx x)
+pub valued_at : (slots : ℕ) (x y : CodeTx) → x ≡ y → valued slots (plain_tx y) ≡ effect slots (plain_tx y) →
+    valued slots (plain_tx x) ≡ effect slots (plain_tx x)
 valued_at slots x y e h = subst (λ z. valued slots (plain_tx z) ≡ effect slots (plain_tx z)) (sym e) h
 
 -- how many arguments a call has
@@ -100,16 +104,23 @@ count_of [] = refl
 count_of (x ∷ xs) = ap suc (count_of xs)
 
 -- operators by a word, and on two operands
-pub by_word : (slots : ℕ) (op : Bin) (x y : Tx) (dest : Option Opnd) {a b c d : Draft} {v w z : Opnd} → ByWord ≡ tile op x y → Writes (expression slots x None) a b v → Writes (expression slots y None) b c w → Writes (shifted_into op dest v w) c d z → Writes (expression slots (tree.Binary op x y) dest) a d z
+pub by_word : (slots : ℕ) (op : Bin) (x y : Tx) (dest : Option Opnd) {a b c d : Draft} {v w z : Opnd} → ByWord ≡ tile op x y →
+    Writes (expression slots x None) a b v → Writes (expression slots y None) b c w → Writes (shifted_into op dest v w) c d z →
+    Writes (expression slots (tree.Binary op x y) dest) a d z
 by_word slots op x y dest {a = a} {d = d} {z = z} e h k m =
     subst (λ t. Writes (tiled op t dest (expression slots x None) (expression slots y None)) a d z) e (writes_then _ h (writes_then _ k m))
 
-pub on_operands : (slots : ℕ) (op : Bin) (x y : Tx) (dest : Option Opnd) {a b c d e : Draft} {to v w z : Opnd} → Operands ≡ tile op x y → Writes (choose dest) a b to → Writes (expression slots x None) b c v → Writes (expression slots y None) c d w → Writes (operated op to v w) d e z → Writes (expression slots (tree.Binary op x y) dest) a e z
+pub on_operands : (slots : ℕ) (op : Bin) (x y : Tx) (dest : Option Opnd) {a b c d e : Draft} {to v w z : Opnd} → Operands ≡ tile op x y →
+    Writes (choose dest) a b to → Writes (expression slots x None) b c v → Writes (expression slots y None) c d w → Writes (operated op to v w) d e z →
+    Writes (expression slots (tree.Binary op x y) dest) a e z
 on_operands slots op x y dest {a = a} {e = last} {z = z} eq g h k m =
-    subst (λ t. Writes (tiled op t dest (expression slots x None) (expression slots y None)) a last z) eq (writes_then _ g (writes_then _ h (writes_then _ k m)))
+    subst (λ t. Writes (tiled op t dest (expression slots x None) (expression slots y None)) a last z) eq
+    (writes_then _ g (writes_then _ h (writes_then _ k m)))
 
 -- the greatest number of a list's items, as far as they are looked at
-pub greatest_on : {X : Type 0} (F : List X → ℕ) (g : X → ℕ) → ((x : X) (xs : List X) → F (x ∷ xs) ≡ max (g x) (F xs)) → (xs : List X) (i : ℕ) (x : X) (above total : ℕ) → i < length xs → x ≡ get_or xs i x → max above (F (drop i xs)) ≡ total → max (max above (g x)) (F (drop (i + 1) xs)) ≡ total
+pub greatest_on : {X : Type 0} (F : List X → ℕ) (g : X → ℕ) → ((x : X) (xs : List X) → F (x ∷ xs) ≡ max (g x) (F xs)) →
+    (xs : List X) (i : ℕ) (x : X) (above total : ℕ) → i < length xs → x ≡ get_or xs i x → max above (F (drop i xs)) ≡ total →
+    max (max above (g x)) (F (drop (i + 1) xs)) ≡ total
 greatest_on F g step xs i x above total less at so =
     let here : drop i xs ≡ x ∷ drop (i + 1) xs = drop_more xs i x less ∙ ap (λ y. y ∷ drop (i + 1) xs) (sym at) in
     let opened : F (drop i xs) ≡ max (g x) (F (drop (i + 1) xs)) = ap F here ∙ step x (drop (i + 1) xs) in
@@ -118,7 +129,8 @@ greatest_on F g step xs i x above total less at so =
     regroup : (a b c : ℕ) → max (max a b) c ≡ max a (max b c)
     regroup a b c = omega arith
 
-pub greatest_end : {X : Type 0} (F : List X → ℕ) → F [] ≡ 0 → (xs : List X) (i above total : ℕ) → i ≡ length xs → max above (F (drop i xs)) ≡ total → above ≡ total
+pub greatest_end : {X : Type 0} (F : List X → ℕ) → F [] ≡ 0 → (xs : List X) (i above total : ℕ) → i ≡ length xs → max above (F (drop i xs)) ≡ total →
+    above ≡ total
 greatest_end F none xs i above total over so =
     let last : F (drop i xs) ≡ 0 = ap F (ap (λ j. drop j xs) over ∙ drop-length xs) ∙ none in
     let least : above ≡ max above 0 = omega arith in

@@ -1,16 +1,14 @@
 -- The instructions of a function: its entry, and the elements of its flat code.
-use Rattle.std.specs.Prelude.{ℕ, suc, ◌+◌, ◌-◌, ◌*◌, max, nat_lt, List, [], ◌∷◌, Option, Some, None, if◌then◌else◌}
+use Rattle.std.specs.Prelude.{ℕ, suc, ◌+◌, ◌-◌, ◌*◌, max, nat_lt, List, [], ◌∷◌, Some, None, if◌then◌else◌}
 use Rattle.tg_base.specs.declared.ids.Temp.{Temp}
 use Rattle.tg_frame.specs.declared.accesses.Access.{Access}
 use Rattle.tg_frame.specs.declared.accesses.Access.TheVariants.{InTemp, InFrame}
 use Rattle.tg_tree.specs.declared.operators.Bin.TheVariants.{Add}
 use Rattle.tg_tree.specs.Tree as tree
 use Rattle.tg_tree.specs.Tree.{Tx, Txs, Ts, Linear, Function, no_txs, tx}
-use Rattle.tg_instr.specs.declared.operands.Opnd.{Opnd}
 use Rattle.tg_instr.specs.declared.operands.Opnd.TheVariants.{Reg}
-use Rattle.tg_instr.specs.declared.instr.Instr.{Instr}
 use Rattle.tg_instr.specs.declared.instr.Instr.TheVariants.{Move, FrameStore}
-use Rattle.tg_munch.specs.Choosing.{Choice, Chosen, Drawn, ◌>>=◌, ◌>>◌, give, put, fresh}
+use Rattle.tg_munch.specs.Choosing.{Choice, Chosen, ◌>>=◌, ◌>>◌, give, put, fresh}
 use Rattle.tg_munch.specs.Munching.{temp, argument, kept_registers, expression, elements}
 
 -- the registers that are given back at the end go into temporaries of their own

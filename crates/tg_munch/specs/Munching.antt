@@ -1,14 +1,12 @@
 -- Maximal munch: the instructions of expressions, statements and elements of flat code (Appel,
 -- chapter 9).
 use Rattle.std.specs.Prelude.{ℕ, ◌+◌, ◌-◌, ◌*◌, ◌==◌, nat_lt, List, [], ◌∷◌, Option, Some, None, if◌then◌else◌}
-use Rattle.tg_tree.specs.declared.operators.Bin.{Bin}
 use Rattle.tg_tree.specs.declared.operators.Rel.{Rel}
 use Rattle.tg_base.specs.declared.ids.Label.{Label}
 use Rattle.tg_tree.specs.Tree as tree
 use Rattle.tg_tree.specs.Tree.{Tx, Txs, Ts, Linear, no_txs, tx}
 use Rattle.tg_instr.specs.declared.operands.Opnd.{Opnd}
 use Rattle.tg_instr.specs.declared.operands.Opnd.TheVariants.{Temp, Reg}
-use Rattle.tg_instr.specs.declared.instr.Instr.{Instr}
 use Rattle.tg_instr.specs.declared.instr.Instr.TheVariants.{Addu, Sw, Sb, Move, FrameStore, FrameAddress, Address, Mark, Jump, Call, Service, Fault, Return}
 use Rattle.tg_munch.specs.Choosing.{Choice, ◌>>=◌, ◌>>◌, give, put, fresh, choose, defining}
 use Rattle.tg_munch.specs.declared.tiles.Base.{Base}

@@ -1,4 +1,4 @@
-use Rattle.std.proofs.Common.{arith, ◌∙◌}
+use Rattle.std.proofs.Common.{arith}
 use Rattle.tg_munch.proofs.Walking.{leads_on, leads_end, element_each}
 use Rattle.tg_munch.proofs.bodies.elements.Goals as goal
 

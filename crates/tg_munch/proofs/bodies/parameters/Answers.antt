@@ -1,4 +1,4 @@
-use Rattle.std.proofs.Common.{arith, ◌∙◌}
+use Rattle.std.proofs.Common.{arith}
 use Rattle.std.proofs.lemmas.List.{get_or_default}
 use Rattle.tg_munch.proofs.Walking.{leads_on, leads_end, parameter_each}
 use Rattle.tg_munch.proofs.bodies.parameters.Goals as goal

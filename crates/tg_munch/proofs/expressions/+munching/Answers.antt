@@ -3,7 +3,7 @@ use Rattle.std.specs.Prelude.{IfOk}
 use Rattle.tg_tree.specs.Plain.{plain_tx}
 use Rattle.tg_tree.proofs.ListLaws.{plain_tx-Call}
 use Rattle.tg_munch.specs.Drafts.{Writes}
-use Rattle.tg_munch.specs.Munching.{expression, based_at, left_side, passed, argument}
+use Rattle.tg_munch.specs.Munching.{expression, based_at, left_side}
 use Rattle.tg_munch.specs.Tiles.{based, loaded}
 use Rattle.tg_munch.proofs.Walking.{leads_on, leads_end, argument_each, passed_low, passed_high, by_word, on_operands, load_is, load_byte_is}
 use Rattle.tg_munch.proofs.Writing.{writes_then, writes_none}
@@ -45,18 +45,21 @@ arguments-returns t c =
 pub base-returns-in_ok-operand-in-Some : goal.base-returns-in_ok-operand-in-Some
 base-returns-in_ok-operand-in-Some t c =
     let x = plain_tx c.args.address.now in
-    subst (λ o. Writes (based o (left_side c.args.slots x) (expression c.args.slots x None)) c.args.draft.now c.left_side.new.draft (record { bytes = c.in-Some.bytes; operand = c.in_ok-operand-in-Some.operand }))
+    subst (λ o. Writes (based o (left_side c.args.slots x) (expression c.args.slots x None))
+    c.args.draft.now c.left_side.new.draft (record { bytes = c.in-Some.bytes; operand = c.in_ok-operand-in-Some.operand }))
     c.in-Some.ensures (writes_then _ c.in_ok-operand-in-Some.ensures (writes_none _ _))
 
 pub base-returns-in_ok-operand-in-None : goal.base-returns-in_ok-operand-in-None
 base-returns-in_ok-operand-in-None t c =
     let x = plain_tx c.args.address.now in
-    rw c.new.ensures (subst (λ o. Writes (based o (left_side c.args.slots x) (expression c.args.slots x None)) c.args.draft.now c.expression.new.draft (record { bytes = 0; operand = c.in_ok-operand-in-None.operand }))
+    rw c.new.ensures (subst (λ o. Writes (based o (left_side c.args.slots x) (expression c.args.slots x None))
+    c.args.draft.now c.expression.new.draft (record { bytes = 0; operand = c.in_ok-operand-in-None.operand }))
     c.in-None.ensures (writes_then _ c.in_ok-operand-in-None.ensures (writes_none _ _)))
 
 pub load_to-returns-in_ok-value-in-None : goal.load_to-returns-in_ok-value-in-None
 load_to-returns-in_ok-value-in-None t c =
-    subst (λ s. Writes (loaded s (based_at c.args.slots (plain_tx c.args.address.now)) c.args.to) c.args.draft.now c.define-in-None.new.self c.in_ok-value-in-None.value)
+    subst (λ s. Writes (loaded s (based_at c.args.slots (plain_tx c.args.address.now)) c.args.to)
+    c.args.draft.now c.define-in-None.new.self c.in_ok-value-in-None.value)
     c.in-None.ensures (writes_then _ c.in_ok-place-in-None.ensures c.in_ok-value-in-None.ensures)
 
 pub expression-returns-in_ok-value-in-Call : goal.expression-returns-in_ok-value-in-Call

@@ -14,32 +14,40 @@ returns-in-Call c =
 
 pub returns-in-Const : goal.returns-in-Const
 returns-in-Const c =
-    subst (λ q. OnOk c.value.result (Writes q c.args.draft.now c.value.new.draft tt)) (valued_at c.args.slots c.args.x.now _ c.in-Const.is refl) c.value.ensures
+    subst (λ q. OnOk c.value.result (Writes q c.args.draft.now c.value.new.draft tt))
+    (valued_at c.args.slots c.args.x.now _ c.in-Const.is refl) c.value.ensures
 
 pub returns-in-Address : goal.returns-in-Address
 returns-in-Address c =
-    subst (λ q. OnOk c.value-in-Address.result (Writes q c.args.draft.now c.value-in-Address.new.draft tt)) (valued_at c.args.slots c.args.x.now _ c.in-Address.is refl) c.value-in-Address.ensures
+    subst (λ q. OnOk c.value-in-Address.result (Writes q c.args.draft.now c.value-in-Address.new.draft tt))
+    (valued_at c.args.slots c.args.x.now _ c.in-Address.is refl) c.value-in-Address.ensures
 
 pub returns-in-Temp : goal.returns-in-Temp
 returns-in-Temp c =
-    subst (λ q. OnOk c.value-in-Temp.result (Writes q c.args.draft.now c.value-in-Temp.new.draft tt)) (valued_at c.args.slots c.args.x.now _ c.in-Temp.is refl) c.value-in-Temp.ensures
+    subst (λ q. OnOk c.value-in-Temp.result (Writes q c.args.draft.now c.value-in-Temp.new.draft tt))
+    (valued_at c.args.slots c.args.x.now _ c.in-Temp.is refl) c.value-in-Temp.ensures
 
 pub returns-in-FrameAddress : goal.returns-in-FrameAddress
 returns-in-FrameAddress c =
-    subst (λ q. OnOk c.value-in-FrameAddress.result (Writes q c.args.draft.now c.value-in-FrameAddress.new.draft tt)) (valued_at c.args.slots c.args.x.now _ c.in-FrameAddress.is refl) c.value-in-FrameAddress.ensures
+    subst (λ q. OnOk c.value-in-FrameAddress.result (Writes q c.args.draft.now c.value-in-FrameAddress.new.draft tt))
+    (valued_at c.args.slots c.args.x.now _ c.in-FrameAddress.is refl) c.value-in-FrameAddress.ensures
 
 pub returns-in-Binary : goal.returns-in-Binary
 returns-in-Binary c =
-    subst (λ q. OnOk c.value-in-Binary.result (Writes q c.args.draft.now c.value-in-Binary.new.draft tt)) (valued_at c.args.slots c.args.x.now _ c.in-Binary.is refl) c.value-in-Binary.ensures
+    subst (λ q. OnOk c.value-in-Binary.result (Writes q c.args.draft.now c.value-in-Binary.new.draft tt))
+    (valued_at c.args.slots c.args.x.now _ c.in-Binary.is refl) c.value-in-Binary.ensures
 
 pub returns-in-Load : goal.returns-in-Load
 returns-in-Load c =
-    subst (λ q. OnOk c.value-in-Load.result (Writes q c.args.draft.now c.value-in-Load.new.draft tt)) (valued_at c.args.slots c.args.x.now _ c.in-Load.is refl) c.value-in-Load.ensures
+    subst (λ q. OnOk c.value-in-Load.result (Writes q c.args.draft.now c.value-in-Load.new.draft tt))
+    (valued_at c.args.slots c.args.x.now _ c.in-Load.is refl) c.value-in-Load.ensures
 
 pub returns-in-LoadByte : goal.returns-in-LoadByte
 returns-in-LoadByte c =
-    subst (λ q. OnOk c.value-in-LoadByte.result (Writes q c.args.draft.now c.value-in-LoadByte.new.draft tt)) (valued_at c.args.slots c.args.x.now _ c.in-LoadByte.is refl) c.value-in-LoadByte.ensures
+    subst (λ q. OnOk c.value-in-LoadByte.result (Writes q c.args.draft.now c.value-in-LoadByte.new.draft tt))
+    (valued_at c.args.slots c.args.x.now _ c.in-LoadByte.is refl) c.value-in-LoadByte.ensures
 
 pub returns-in-After : goal.returns-in-After
 returns-in-After c =
-    subst (λ q. OnOk c.value-in-After.result (Writes q c.args.draft.now c.value-in-After.new.draft tt)) (valued_at c.args.slots c.args.x.now _ c.in-After.is refl) c.value-in-After.ensures
+    subst (λ q. OnOk c.value-in-After.result (Writes q c.args.draft.now c.value-in-After.new.draft tt))
+    (valued_at c.args.slots c.args.x.now _ c.in-After.is refl) c.value-in-After.ensures
