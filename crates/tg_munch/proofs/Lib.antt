@@ -1,4 +1,5 @@
 mod Examples
+pub mod Kept
 pub mod Marks
 pub mod Walking
 pub mod Whole

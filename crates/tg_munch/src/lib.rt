@@ -7,6 +7,7 @@ mod comparing;
 mod drafts;
 mod expressions;
 mod finishing;
+mod laws;
 mod munching;
 mod operators;
 mod orders;
@@ -14,4 +15,5 @@ mod statements;
 mod tiles;
 mod tiling;
 
+pub use laws::code_is_kept;
 pub use munching::munch;
