@@ -1,5 +1,4 @@
 -- Connectives (Appel, chapter 7): conditions where they are tests, and else choices.
-use Rattle.std.specs.Prelude.{zero}
 use Rattle.tg_syntax.specs.declared.trees.Op.{Op}
 use Rattle.tg_syntax.specs.declared.trees.Op.TheVariants.{And, Or}
 use Rattle.tg_tree.specs.Tree.{Const, Cond, Both, Either, Ts, If}

@@ -24,8 +24,8 @@ use Rattle.tg_translate.specs.declared.operands.Operand.TheVariants.{Number, Kep
 use Rattle.tg_translate.specs.declared.wants.Want.{Want}
 use Rattle.tg_translate.specs.declared.wants.Want.TheVariants as want
 use Rattle.tg_translate.specs.declared.homes.Within.{Within}
-use Rattle.tg_translate.specs.States.{Acts, ◌>>=◌, ◌>>◌, give, fresh}
-use Rattle.tg_translate.specs.Wants.{Made, value, done, test, put_in, value_of, is_none, followed, value_behind}
+use Rattle.tg_translate.specs.States.{Acts, ◌>>=◌, give, fresh}
+use Rattle.tg_translate.specs.Wants.{Made, value, test, put_in, value_of, is_none, followed, value_behind}
 
 abbrev pub minus_one : ℕ
 minus_one = 4294967295

@@ -10,7 +10,7 @@ use Rattle.tg_tree.specs.Forms.{nothing}
 use Rattle.tg_translate.specs.declared.wants.Want.{Want}
 use Rattle.tg_translate.specs.declared.wants.Want.TheVariants as want
 use Rattle.tg_translate.specs.declared.homes.Within.{Within}
-use Rattle.tg_translate.specs.States.{Acts, ◌>>=◌, ◌>>◌, give}
+use Rattle.tg_translate.specs.States.{Acts, ◌>>=◌, give}
 use Rattle.tg_translate.specs.Wants.{Made, value, done, value_from, condition_from, arm_from, statement_from, behind}
 use Rattle.tg_translate.specs.Constructs.{Place, none_held, want_for, assign, element_place, make_record, make_array, repeat_while, in_body, count}
 use Rattle.tg_translate.specs.Scopes.{Findings, call, declare_variable}

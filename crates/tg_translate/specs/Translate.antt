@@ -1,7 +1,7 @@
 -- The translation of a checked program to trees (Appel, chapter 7). Each expression is translated
 -- for what its place wants of it. Fragments stand in the order of the source, the program's body
 -- first.
-use Rattle.std.specs.Prelude.{ℕ, ◌+◌, List, [], is_some, Option, Bool, true, false}
+use Rattle.std.specs.Prelude.{ℕ, ◌+◌, [], is_some, Option, Bool, false}
 use Rattle.tg_syntax.specs.declared.trees.Op.{Op}
 use Rattle.tg_syntax.specs.declared.trees.Op.TheVariants.{And, Or}
 use Rattle.tg_syntax.specs.Tree as source
@@ -15,8 +15,8 @@ use Rattle.tg_translate.specs.declared.wants.Want.{Want}
 use Rattle.tg_translate.specs.declared.wants.Want.TheVariants as want
 use Rattle.tg_translate.specs.declared.homes.Within.{Within}
 use Rattle.tg_translate.specs.States.{Acts, ◌>>=◌, ◌>>◌, give, next_label}
-use Rattle.tg_translate.specs.Wants.{Made, value, done, test_of, value_of, value_from, condition_from, arm_from, statement_from, arms, deliver, followed, behind, test, dropped}
-use Rattle.tg_translate.specs.Constructs.{Place, HeldAll, none_held, hold_next, in_temp, at_address, own_place, read, want_for, assign, field_place, element_place, make_record, make_array, operation, negation, repeat_while, in_body, in_test, count}
+use Rattle.tg_translate.specs.Wants.{Made, value, done, test_of, value_of, value_from, condition_from, arm_from, statement_from, arms, deliver, followed, behind}
+use Rattle.tg_translate.specs.Constructs.{Place, HeldAll, none_held, hold_next, own_place, read, want_for, assign, field_place, element_place, make_record, make_array, operation, negation, repeat_while, in_body, in_test, count}
 use Rattle.tg_translate.specs.Scopes.{Findings, variable_place, field_number, compares_strings, call, literal, declare_variable}
 use Rattle.tg_translate.specs.Choices.{left_want, tested, chosen}
 use Rattle.tg_translate.specs.Purity.{assigns_nothing, inits_assign_nothing}

@@ -7,10 +7,10 @@ use Rattle.tg_tree.specs.Forms.{nothing}
 use Rattle.tg_tree.specs.Lists.{join_stms}
 use Rattle.tg_tree.specs.Plain.{plain_tx, plain_cond, plain_ts}
 use Rattle.tg_translate.specs.declared.wants.Want.{Want}
-use Rattle.tg_translate.specs.declared.wants.Want.TheVariants.{Value, Into, Dropped, Test}
+use Rattle.tg_translate.specs.declared.wants.Want.TheVariants.{Into, Dropped}
 use Rattle.tg_translate.specs.declared.wants.Made.{Made as CodeMade}
 use Rattle.tg_translate.specs.declared.wants.Made.TheVariants as code
-use Rattle.tg_translate.specs.States.{Acts, ◌>>=◌, ◌>>◌, give, fresh}
+use Rattle.tg_translate.specs.States.{Acts, ◌>>=◌, give, fresh}
 
 -- a statement has no value, or it has put it where it was wanted
 pub data Made : Type 0 where
