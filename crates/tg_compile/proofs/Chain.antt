@@ -1,5 +1,5 @@
 -- Functions and literals behind one another, and what each is compiled to.
-use Rattle.std.proofs.Common.{◌≡◌, List, [], ◌∷◌, ◌++◌, refl, sym, ap, ◌∙◌}
+use Rattle.std.proofs.Common.{◌≡◌, ◌+◌, ℕ, List, [], ◌∷◌, ◌++◌, refl, sym, ap, ◌∙◌}
 use Rattle.std.specs.Prelude.{map}
 use Rattle.std.proofs.lemmas.List.{map-append}
 use Rattle.tg_tree.specs.declared.fragments.Fragment.{Fragment}
@@ -11,12 +11,14 @@ use Rattle.tg_instr.specs.declared.codes.Allocated.{Allocated}
 use Rattle.tg_frame.specs.declared.frames.Frame.{Frame}
 use Rattle.tg_tree.specs.Tree.{Linear, Stms}
 use Rattle.tg_tree.specs.Plain.{plain_function}
-use Rattle.tg_canon.specs.Canon.{linearized}
-use Rattle.tg_canon.specs.Drawing.{Drawn, Gives}
+use Rattle.tg_base.specs.declared.ids.Label.{Label}
+use Rattle.tg_instr.specs.declared.codes.Code.{Code as Instructions}
+use Rattle.tg_munch.specs.Bodies.{munched, outs}
+use Rattle.tg_spill.specs.InFrame.{code_in_frame}
 use Rattle.tg_trace.specs.Block.{Block}
 use Rattle.tg_trace.specs.Cutting.{blocks_of}
 use Rattle.tg_trace.specs.Laying.{traced}
-use Rattle.tg_compile.specs.Compiling.{with_runtime, flattened, CompilesFunction, CompileFunctions}
+use Rattle.tg_compile.specs.Compiling.{with_runtime, FlattensTo, Chooses, CompilesFunction, CompileFunctions}
 
 -- a program's functions and literals, before the runtime is behind them
 abbrev pub tree_of : List Fragment → List Literal → Code Ts
@@ -37,11 +39,42 @@ compile_more [] (c ∷ codes) f code h k = absurd h
 compile_more (g ∷ fs) [] f code h k = absurd h
 compile_more (g ∷ fs) (c ∷ codes) f code h k = (h.0, compile_more fs codes f code h.1 k)
 
--- canonical statements, blocks and traces give the flat code
-pub flat_is : (frame new : Frame) (body : Ts) (statements : Stms) (blocks : List Block) (flat : List Linear) → new.label ≡ frame.label → new.params ≡ frame.params → new.slots ≡ frame.slots → new.out ≡ frame.out → Gives (linearized body) frame.temps statements new.temps → blocks ≡ blocks_of statements → flat ≡ traced blocks → plain_function new flat ≡ flattened (plain_function frame body)
-flat_is frame new body statements blocks flat label params slots out gives cut laid =
-    let labels : new.label.0 ≡ frame.label.0 = ap (λ l. l.0) label in
-    let temps : new.temps ≡ (linearized body frame.temps).next = sym (ap (λ (d : Drawn Stms). d.next) gives.is) in
-    let code : flat ≡ traced (blocks_of (linearized body frame.temps).it) =
-    laid ∙ ap traced (cut ∙ sym (ap (λ (d : Drawn Stms). blocks_of d.it) gives.is)) in
-    λ i. record { label = labels i; params = params i; slots = slots i; temps = temps i; out = out i; body = code i }
+-- canonical statements, blocks and traces give flat code
+pub flattens : (frame new : Frame) (body : Ts) (statements : Stms) (blocks : List Block) (flat : List Linear) → new.label ≡ frame.label →
+    new.params ≡ frame.params → blocks ≡ blocks_of statements → flat ≡ traced blocks →
+    FlattensTo (plain_function frame body) (plain_function new flat)
+flattens frame new body statements blocks flat label params cut laid =
+    record { statements = statements; label = ap (λ (l : Label). l.0) label; params = params; body = laid ∙ ap traced cut }
+
+-- and the instructions that are chosen for it
+pub chooses : (f : Function Ts) (between new : Frame) (flat : List Linear) (code : Instructions) → FlattensTo f (plain_function between flat) →
+    new.label ≡ between.label → new.params ≡ between.params → new.slots ≡ between.slots → new.out ≡ outs flat →
+    code.list ≡ (munched (plain_function between flat)).code → code.temps ≡ (munched (plain_function between flat)).drawn.temp →
+    Chooses f new code
+chooses f between new flat code flattened label params slots out list temps =
+    record {
+      flat = plain_function between flat;
+      flattens = flattened;
+      label = ap (λ (l : Label). l.0) label ∙ flattened.label;
+      params = params ∙ flattened.params;
+      slots = slots;
+      out = out;
+      list = list;
+      temps = temps;
+    }
+
+-- and each of its temporaries gets a slot
+pub compiles : (f : Function Ts) (frame : Frame) (code : Instructions) (slots : ℕ) (done : Allocated) → Chooses f frame code →
+    done.frame.label ≡ frame.label → done.frame.params ≡ frame.params → done.frame.out ≡ frame.out →
+    done.frame.slots ≡ frame.slots + slots → slots ≡ code.temps → done.code.list ≡ code_in_frame frame.slots code.list →
+    CompilesFunction f done
+compiles f frame code slots done h label params out all drawn list =
+    record {
+      flat = h.flat;
+      flattens = h.flattens;
+      label = ap (λ (l : Label). l.0) label ∙ h.label;
+      params = params ∙ h.params;
+      out = out ∙ h.out;
+      slots = all ∙ ap (λ n. frame.slots + n) (drawn ∙ h.temps) ∙ ap (λ n. n + (munched h.flat).drawn.temp) h.slots;
+      list = list ∙ ap (λ n. code_in_frame n code.list) h.slots ∙ ap (λ l. code_in_frame h.flat.slots l) h.list;
+    }

@@ -2,14 +2,14 @@
 use Rattle.std.specs.Prelude.{◌≡◌, ◌+◌, ℕ, List, [], ◌∷◌, ◌++◌, map}
 use Rattle.tg_syntax.specs.Tree.{Exp}
 use Rattle.tg_tree.specs.declared.fragments.Literal.{Literal}
-use Rattle.tg_tree.specs.Tree.{Ts, Linear, Function, Code}
+use Rattle.tg_frame.specs.declared.frames.Frame.{Frame}
+use Rattle.tg_tree.specs.Tree.{Ts, Stms, Linear, Function, Code}
 use Rattle.tg_tree.specs.Plain.{plain_literal}
 use Rattle.tg_runtime.specs.Routines.{runtime}
-use Rattle.tg_canon.specs.Canon.{linearized}
 use Rattle.tg_trace.specs.Cutting.{blocks_of}
 use Rattle.tg_trace.specs.Laying.{traced}
 use Rattle.tg_instr.specs.declared.codes.Allocated.{Allocated}
-use Rattle.tg_munch.specs.Choosing.{Chosen}
+use Rattle.tg_instr.specs.declared.codes.Code.{Code as Instructions}
 use Rattle.tg_munch.specs.Bodies.{munched, outs}
 use Rattle.tg_spill.specs.InFrame.{code_in_frame}
 use Rattle.tg_emit.specs.Lines.{assembly_of}
@@ -22,28 +22,34 @@ with_runtime program = record {
   literals = program.literals ++ runtime.literals;
 }
 
--- the flat code of a function: its canonical statements, cut into blocks that are laid in traces
-abbrev pub flattened : Function Ts → Function (List Linear)
-flattened f = record {
-  label = f.label;
-  params = f.params;
-  slots = f.slots;
-  temps = (linearized f.body f.temps).next;
-  out = f.out;
-  body = traced (blocks_of (linearized f.body f.temps).it);
-}
+-- Flat code of a function: some canonical statements of it, cut into blocks that are laid in traces.
+-- What the lifting of calls out of expressions makes of a body isn't said yet.
+pub record FlattensTo (f : Function Ts) (flat : Function (List Linear)) : Type 0 where
+  pub statements : Stms
+  pub label : flat.label ≡ f.label
+  pub params : flat.params ≡ f.params
+  pub body : flat.body ≡ traced (blocks_of statements)
 
--- the instructions that are chosen for it, and what was drawn for them
-abbrev pub chosen : Function Ts → Chosen (Unit {0})
-chosen f = munched (flattened f)
+-- the instructions that are chosen for flat code of a function, and its frame then
+pub record Chooses (f : Function Ts) (frame : Frame) (code : Instructions) : Type 0 where
+  pub flat : Function (List Linear)
+  pub flattens : FlattensTo f flat
+  pub label : frame.label.0 ≡ f.label
+  pub params : frame.params ≡ f.params
+  pub slots : frame.slots ≡ flat.slots
+  pub out : frame.out ≡ outs flat.body
+  pub list : code.list ≡ (munched flat).code
+  pub temps : code.temps ≡ (munched flat).drawn.temp
 
 -- code over registers that stands for a function, with each temporary in a slot of its own
 pub record CompilesFunction (f : Function Ts) (code : Allocated) : Type 0 where
+  pub flat : Function (List Linear)
+  pub flattens : FlattensTo f flat
   pub label : code.frame.label.0 ≡ f.label
   pub params : code.frame.params ≡ f.params
-  pub slots : code.frame.slots ≡ f.slots + (chosen f).drawn.temp
-  pub out : code.frame.out ≡ outs (flattened f).body
-  pub list : code.code.list ≡ code_in_frame f.slots (chosen f).code
+  pub slots : code.frame.slots ≡ flat.slots + (munched flat).drawn.temp
+  pub out : code.frame.out ≡ outs flat.body
+  pub list : code.code.list ≡ code_in_frame flat.slots (munched flat).code
 
 -- each function has its code, in their order
 abbrev pub CompileFunctions : List (Function Ts) → List Allocated → Type 0

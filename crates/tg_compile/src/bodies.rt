@@ -1,8 +1,7 @@
-ghost use Rattle.std.specs.Prelude.{◌≡◌, IfOk};
+ghost use Rattle.std.specs.Prelude.{IfOk};
 ghost use Rattle.tg_tree.specs.Lists.{code_of};
 ghost use Rattle.tg_tree.specs.Plain.{plain_fragment, plain_function, plain_ts};
-ghost use Rattle.tg_munch.specs.Bodies.{outs};
-ghost use Rattle.tg_compile.specs.Compiling.{CompilesFunction, chosen, flattened};
+ghost use Rattle.tg_compile.specs.Compiling.{Chooses, CompilesFunction, FlattensTo};
 
 use std::alloc::Global;
 use tg_base::Memory;
@@ -30,15 +29,7 @@ pub(crate) fn compile_function(alloc: Global, one: Fragment) -> Result<Allocatio
 
 /// The instructions of a body.
 fn choose(alloc: Global, frame: &mut Frame, body: Ts) -> Result<Code, Memory>
-    ensures code { IfOk result (λ c. c.list ≡
-        (chosen (plain_function frame.old (plain_ts body))).code) }
-    ensures temps { IfOk result (λ c. c.temps ≡
-        (chosen (plain_function frame.old (plain_ts body))).drawn.temp) }
-    ensures out { IfOk result (λ c. frame.new.out ≡
-        outs (flattened (plain_function frame.old (plain_ts body))).body) }
-    ensures label { frame.new.label ≡ frame.old.label }
-    ensures params { frame.new.params ≡ frame.old.params }
-    ensures slots { frame.new.slots ≡ frame.old.slots }
+    ensures { IfOk result (Chooses (plain_function frame.old (plain_ts body)) frame.new) }
 {
     let flat = flatten(alloc, frame, body)?;
     Ok(munch(alloc, &flat, frame)?)
@@ -46,11 +37,8 @@ fn choose(alloc: Global, frame: &mut Frame, body: Ts) -> Result<Code, Memory>
 
 /// The flat code of a body: canonical statements, cut into blocks and laid in traces.
 fn flatten(alloc: Global, frame: &mut Frame, body: Ts) -> Result<Vec<Linear>, Memory>
-    ensures code { IfOk result (λ flat. plain_function frame.new (code_of flat.items) ≡
-        flattened (plain_function frame.old (plain_ts body))) }
-    ensures label { frame.new.label ≡ frame.old.label }
-    ensures params { frame.new.params ≡ frame.old.params }
-    ensures slots { frame.new.slots ≡ frame.old.slots }
+    ensures { IfOk result (λ flat. FlattensTo (plain_function frame.old (plain_ts body))
+        (plain_function frame.new (code_of flat.items))) }
 {
     let statements = linearize(alloc, frame, body)?;
     let cut = blocks(alloc, statements)?;

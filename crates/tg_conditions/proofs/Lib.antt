@@ -1,3 +1,4 @@
+mod Examples
 pub mod Trees
 pub mod Shapes
 pub mod Around

@@ -73,7 +73,8 @@ ascii_front (c ∷ text) h = by_class (is_in_label c) refl (λ k. ascii_front te
 pub label_ascii : (text : List ℕ) → IsTrue (is_label text) → IsAscii text
 label_ascii [] h i = lit< tt
 label_ascii (c ∷ text) h zero = begins_below c (left_holds _ _ h)
-label_ascii (c ∷ text) h (suc i) = ascii_front text (let e : IsTrue (length (back is_past_label text) == 0) = right_holds (begins_label c) _ h in grind (arith, nat_tests)) i
+label_ascii (c ∷ text) h (suc i) = ascii_front text (let e : IsTrue (length (back is_past_label text) == 0) = right_holds (begins_label c) _ h in grind
+    (arith, nat_tests)) i
 
 pub label_utf8 : (text : List ℕ) → IsTrue (is_label text) → IsUtf8 text
 label_utf8 text h = IsUtf8-from_ascii text (label_ascii text h)

@@ -1,9 +1,10 @@
-ghost use Rattle.std.specs.Prelude.{◌≡◌, ◌<◌, ◌^◌, ◌++◌, IsTrue, OnOk};
+ghost use Rattle.std.specs.Prelude.{◌≡◌, ◌<◌, ◌^◌, ◌++◌, IsTrue, OnOk, length};
 ghost use Rattle.tg_emit.specs.Conditions.{has_code, fits_frame, is_emittable};
-ghost use Rattle.std.specs.List.{list_all};
+ghost use Rattle.std.specs.List.{All, list_all};
+ghost use Rattle.tg_emit.specs.Ranges.{FunctionFits, InstructionFits, NumbersFit, RowFits};
 ghost use Rattle.tg_emit.specs.Lines.{branch_lines, code_lines, function_lines, instruction_lines};
 ghost use Rattle.tg_emit.specs.Names.{mark_name, behind_name};
-ghost use Rattle.tg_emit.specs.Rows.{branch_of, opposite_branch_of};
+ghost use Rattle.tg_emit.specs.Rows.{branch_of, opposite_branch_of, register_of};
 
 use crate::assembly::Line;
 use crate::frames::{above_stack, alone, entry, load, push, size, slot_offset, store};
@@ -34,8 +35,10 @@ fn instruction(
     requires size { site.size < 2 ^ 29 }
     requires code { IsTrue (has_code one.now) }
     requires slots { IsTrue (fits_frame site.size one.now) }
-    ensures { OnOk result (list.new.items ≡
+    ensures lines { OnOk result (list.new.items ≡
         list.old.items ++ instruction_lines turned site.label.0 site.size site.place one.now) }
+    ensures row { OnOk result (RowFits one.now) }
+    ensures numbers { OnOk result (NumbersFit one.now) }
 {
     match one {
         Instr::FrameLoad(to, slot) => {
@@ -82,9 +85,11 @@ fn branches(
     test: &Test,
     mark: u32,
 ) -> Result<(), Memory>
-    ensures { OnOk result (list.new.items ≡
+    ensures lines { OnOk result (list.new.items ≡
         list.old.items ++ branch_lines turned (branch_of test.now) (opposite_branch_of test.now)
         (mark_name site.label.0 mark) (behind_name site.label.0 site.place)) }
+    ensures fits { OnOk result
+        ((register_of test.now.left < 32) × (register_of test.now.right < 32)) }
 {
     let there = names::mark(alloc, site.label, mark)?;
     if !turned {
@@ -109,8 +114,10 @@ fn code(
     requires size { size < 2 ^ 29 }
     requires code { IsTrue (list_all has_code instructions.now) }
     requires slots { IsTrue (list_all (fits_frame size) instructions.now) }
-    ensures { OnOk result (list.new.items ≡
+    ensures lines { OnOk result (list.new.items ≡
         list.old.items ++ code_lines turned label.0 size 0 instructions.now) }
+    ensures fits { OnOk result (All InstructionFits instructions.now) }
+    ensures length { length instructions.now < 2 ^ 64 }
 {
     for (place, one) in instructions.iter().enumerate() {
         instruction(alloc, list, turned, Site { label, size, place }, one)?;
@@ -126,7 +133,8 @@ pub fn function(
     one: &Allocated,
 ) -> Result<(), Memory>
     requires { IsTrue (is_emittable one.now) }
-    ensures { OnOk result (list.new.items ≡ list.old.items ++ function_lines turned one.now) }
+    ensures lines { OnOk result (list.new.items ≡ list.old.items ++ function_lines turned one.now) }
+    ensures fits { OnOk result (FunctionFits one.now) }
 {
     let label = one.frame.label;
     let size = size(&one.frame);

@@ -1,5 +1,6 @@
-ghost use Rattle.std.specs.Prelude.{◌≡◌, ◌++◌, IsTrue, IfOk, OnOk, nat_lt};
-ghost use Rattle.std.specs.List.{list_all};
+ghost use Rattle.std.specs.Prelude.{◌≡◌, ◌++◌, ◌<◌, ◌^◌, IsTrue, IfOk, OnOk, nat_lt};
+ghost use Rattle.std.specs.List.{All, list_all};
+ghost use Rattle.tg_emit.specs.Ranges.{FunctionFits, LiteralFits};
 ghost use Rattle.tg_emit.specs.Conditions.{is_emittable};
 ghost use Rattle.tg_base.specs.State.{padded};
 ghost use Rattle.tg_emit.specs.Lines.{
@@ -31,7 +32,9 @@ pub fn emit(
     literals: &[Literal],
 ) -> Result<Assembly, Memory>
     requires { IsTrue (list_all is_emittable functions.now) }
-    ensures { IfOk result (λ assembly. assembly ≡ assembly_of functions.now literals.now) }
+    ensures lines { IfOk result (λ assembly. assembly ≡ assembly_of functions.now literals.now) }
+    ensures functions { OnOk result (All FunctionFits functions.now) }
+    ensures literals { OnOk result (All LiteralFits literals.now) }
 {
     let near = bodies(alloc, functions, false)?;
     let mut list = if is_above(&near, NEAR) {
@@ -45,7 +48,8 @@ pub fn emit(
 
 fn bodies(alloc: Global, functions: &[Allocated], turned: bool) -> Result<Vec<Line>, Memory>
     requires { IsTrue (list_all is_emittable functions.now) }
-    ensures { IfOk result (λ list. list.items ≡ functions_lines turned functions.now) }
+    ensures lines { IfOk result (λ list. list.items ≡ functions_lines turned functions.now) }
+    ensures fits { OnOk result (All FunctionFits functions.now) }
 {
     let mut list = Vec::new(alloc);
     for one in functions.iter() {
@@ -80,7 +84,8 @@ fn words_of(line: &Line) -> usize
 }
 
 fn put_literals(alloc: Global, list: &mut Vec<Line>, literals: &[Literal]) -> Result<(), Memory>
-    ensures { OnOk result (list.new.items ≡ list.old.items ++ literals_lines literals.now) }
+    ensures lines { OnOk result (list.new.items ≡ list.old.items ++ literals_lines literals.now) }
+    ensures fits { OnOk result (All LiteralFits literals.now) }
 {
     for one in literals.iter() {
         put_literal(alloc, list, one)?;
@@ -89,7 +94,8 @@ fn put_literals(alloc: Global, list: &mut Vec<Line>, literals: &[Literal]) -> Re
 }
 
 fn put_literal(alloc: Global, list: &mut Vec<Line>, one: &Literal) -> Result<(), Memory>
-    ensures { OnOk result (list.new.items ≡ list.old.items ++ literal_lines one.now) }
+    ensures lines { OnOk result (list.new.items ≡ list.old.items ++ literal_lines one.now) }
+    ensures fits { OnOk result (LiteralFits one.now) }
 {
     push(list, Line::Label(names::literal(alloc, one.label)?))?;
     push(
@@ -100,7 +106,8 @@ fn put_literal(alloc: Global, list: &mut Vec<Line>, one: &Literal) -> Result<(),
 
 /// Bytes, padded to a multiple of 4.
 fn padded_bytes(alloc: Global, bytes: &[u8]) -> Result<Bytes, Memory>
-    ensures { IfOk result (λ all. all ≡ padded bytes.now) }
+    ensures bytes { IfOk result (λ all. all ≡ padded bytes.now) }
+    ensures fits { OnOk result (All (λ c. c < 2 ^ 8) bytes.now) }
 {
     let mut all = Vec::from_slice(alloc, bytes)?;
     for _ in 0..(4 - bytes.len() % 4) % 4 {

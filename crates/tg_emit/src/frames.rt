@@ -94,7 +94,8 @@ fn lower_stack(alloc: Global, list: &mut Vec<Line>, number: u32) -> Result<(), M
 /// A function's entry: its label, its frame, and the probe of the frame's lowest word.
 pub fn entry(alloc: Global, list: &mut Vec<Line>, label: Label, size: u32) -> Result<(), Memory>
     requires { 0 < size }
-    ensures { OnOk result (list.new.items ≡ list.old.items ++ entry_lines label.0 size) }
+    ensures lines { OnOk result (list.new.items ≡ list.old.items ++ entry_lines label.0 size) }
+    ensures fits { label.0 < 2 ^ 32 }
 {
     push(list, Line::Label(names::function(alloc, label)?))?;
     lower_stack(alloc, list, size)?;

@@ -8,7 +8,8 @@ use tg_base::{Bytes, Label, Memory};
 
 /// The name of a function.
 pub fn function(alloc: Global, label: Label) -> Result<Bytes, Memory>
-    ensures { IfOk result (λ name. name ≡ function_name label.0) }
+    ensures name { IfOk result (λ name. name ≡ function_name label.0) }
+    ensures fits { label.0 < 2 ^ 32 }
 {
     Ok(Bytes::from_vec(function_text(alloc, label)?))
 }
@@ -36,7 +37,8 @@ pub fn behind(alloc: Global, label: Label, place: usize) -> Result<Bytes, Memory
 
 /// The name of a literal.
 pub fn literal(alloc: Global, label: Label) -> Result<Bytes, Memory>
-    ensures { IfOk result (λ name. name ≡ literal_name label.0) }
+    ensures name { IfOk result (λ name. name ≡ literal_name label.0) }
+    ensures fits { label.0 < 2 ^ 32 }
 {
     let mut name = Vec::from_slice(alloc, b"s")?;
     push_decimal(&mut name, label.0)?;

@@ -38,7 +38,8 @@ FindsUses old new uses = Finds old new old.table (uses old.within.items old.tabl
 
 -- names are declared in a text of this level
 abbrev pub Declares : (old new : Search) → (ℕ → Seen → Seen) → Type 0
-Declares old new declare = Finds old new (declare (length old.within.items) old.table) (λ after. after)
+Declares old new declare =
+    Finds old new (declare (length old.within.items) old.table) (λ after. after)
 
 -- what the uses of declarations show is found, which stay declared
 abbrev pub FindsDeclared : (old new : Search) → Decs → Type 0

@@ -88,7 +88,8 @@ fn in_exp(search: &mut Search, e: &Exp) -> Result<(), Memory>
 #[cycle(uses)]
 fn in_turn(search: &mut Search, x: Ident, body: &Exp) -> Result<(), Memory>
     ensures { OnOk result (FindsUses search.old search.new
-        (λ within seen. uses.uses (plain body.now) within (uses.declare_variable (length within) x seen))) }
+        (λ within seen. uses.uses (plain body.now) within
+        (uses.declare_variable (length within) x seen))) }
 {
     let open = search.table.len();
     declare_variable(search, x)?;
@@ -99,7 +100,8 @@ fn in_turn(search: &mut Search, x: Ident, body: &Exp) -> Result<(), Memory>
 
 #[cycle(uses)]
 fn in_place(search: &mut Search, place: &Var) -> Result<(), Memory>
-    ensures { OnOk result (FindsUses search.old search.new (uses.place_uses (plain_place place.now))) }
+    ensures { OnOk result
+        (FindsUses search.old search.new (uses.place_uses (plain_place place.now))) }
 {
     match place {
         Var::Simple(x) => use_of(search, *x),
@@ -123,7 +125,8 @@ fn in_exps(search: &mut Search, exps: &Exps) -> Result<(), Memory>
 
 #[cycle(uses)]
 fn in_inits(search: &mut Search, inits: &Inits) -> Result<(), Memory>
-    ensures { OnOk result (FindsUses search.old search.new (uses.inits_uses (plain_inits inits.now))) }
+    ensures { OnOk result
+        (FindsUses search.old search.new (uses.inits_uses (plain_inits inits.now))) }
 {
     for init in &inits.items {
         in_exp(search, &init.value)?;
@@ -162,7 +165,8 @@ fn in_dec(search: &mut Search, dec: &Dec) -> Result<(), Memory>
 // The bodies of functions that are declared.
 #[cycle(uses)]
 fn in_functions(search: &mut Search, group: &FunDecs) -> Result<(), Memory>
-    ensures { OnOk result (FindsUses search.old search.new (uses.functions_uses (plain_functions group.now))) }
+    ensures { OnOk result
+        (FindsUses search.old search.new (uses.functions_uses (plain_functions group.now))) }
 {
     for function in &group.items {
         in_function(search, function)?;
@@ -187,7 +191,8 @@ fn in_function(search: &mut Search, function: &FunDec) -> Result<(), Memory>
 
 // A use of a name.
 fn use_of(search: &mut Search, x: Ident) -> Result<(), Memory>
-    ensures { OnOk result (FindsUses search.old search.new (λ within seen. uses.used within (named x.name.0 seen))) }
+    ensures { OnOk result (FindsUses search.old search.new
+        (λ within seen. uses.used within (named x.name.0 seen))) }
 {
     let Some(declaration) = search.table.get(x.name.0) else {
         return Ok(());
@@ -196,14 +201,16 @@ fn use_of(search: &mut Search, x: Ident) -> Result<(), Memory>
 }
 
 fn declare_variable(search: &mut Search, x: Ident) -> Result<(), Memory>
-    ensures { OnOk result (Declares search.old search.new (λ level. uses.declare_variable level x)) }
+    ensures { OnOk result
+        (Declares search.old search.new (λ level. uses.declare_variable level x)) }
 {
     let variable = Declaration::variable(x.span.from, search.within.len());
     search.table.push(x.name.0, variable)
 }
 
 fn declare_params(search: &mut Search, params: &[Param]) -> Result<(), Memory>
-    ensures { OnOk result (Declares search.old search.new (λ level. uses.declare_params level params.now)) }
+    ensures { OnOk result
+        (Declares search.old search.new (λ level. uses.declare_params level params.now)) }
 {
     for param in params {
         declare_variable(search, param.name)?;

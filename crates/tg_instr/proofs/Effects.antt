@@ -1,5 +1,5 @@
 -- Each shape of instruction changes its definitions alone, and reads its uses alone.
-use Rattle.std.proofs.Common.{◌≡◌, ℕ, ◌-◌, ◌==◌, ◌&&◌, ◌||◌, Bool, true, false, List, [], ◌∷◌, ◌++◌, map, nat_lt, if◌then◌else◌, refl, sym, ap, ◌∙◌}
+use Rattle.std.proofs.Common.{◌≡◌, ℕ, ◌-◌, ◌==◌, ◌&&◌, ◌||◌, Bool, true, false, List, [], ◌∷◌, ◌++◌, map, nat_lt, if◌then◌else◌, refl, ap}
 use Rattle.std.proofs.lemmas.Bool.{eqb-true}
 use Rattle.tg_tree.specs.Actions.{World, Activation, wrong, with_word, with_given, with_memory, service}
 use Rattle.tg_tree.specs.Operators.{holds}
@@ -8,10 +8,10 @@ use Rattle.tg_base.specs.Words.{add}
 use Rattle.tg_instr.specs.declared.operands.Opnd.{Opnd}
 use Rattle.tg_instr.specs.declared.operands.Opnd.TheVariants.{Temp, Reg}
 use Rattle.tg_instr.specs.Operands.{is_same, registers}
-use Rattle.tg_instr.specs.Shapes.{Holder, Operand, Hi, Lo, Shape, From0, From1, From2, Halves, Copy, Loads, Stores, FromSlot, ToSlot, Base, AddressOf, Here, Goes, Tests, Calls, Asks, Fails, Returns}
+use Rattle.tg_instr.specs.Shapes.{Holder, Operand, Hi, Lo, From0, From1, From2, Halves, Copy, Loads, Stores, FromSlot, ToSlot, Base, AddressOf, Here, Goes, Tests, Calls, Asks, Fails, Returns}
 use Rattle.tg_instr.specs.Uses.{arguments, given_back}
 use Rattle.tg_instr.specs.Contents.{Content, Nothing, Word, Contents, is_holder, set, held, handed, is_in, is_among, at_entry, left_unset, after_call, is_found, gives_back, content_of}
-use Rattle.tg_instr.specs.Meaning.{Next, Enter, Around, with_content_word, with_content, put_in, put_slot, jump, skip, act}
+use Rattle.tg_instr.specs.Meaning.{Next, Around, with_content_word, with_content, put_in, put_slot, jump, skip}
 use Rattle.tg_instr.specs.Laws as law
 use Rattle.tg_instr.specs.Laws.{within, only, Agree, changes, reads}
 
@@ -62,10 +62,10 @@ changes_definitions room literals enter (From1 to from f) e next w s =
     λ i. with_content_word (held e.activation s from) w (λ u. with_given (f u) w (λ r. put_within to (Word r) e next w s i))
 changes_definitions room literals enter (From2 to left right f) e next w s =
     λ i. with_content_word (held e.activation s (Operand left)) w (λ u. with_content_word (held e.activation s (Operand right)) w (λ v.
-        with_given (f u v) w (λ r. put_within to (Word r) e next w s i)))
+    with_given (f u v) w (λ r. put_within to (Word r) e next w s i)))
 changes_definitions room literals enter (Halves left right low high) e next w s =
     λ i. with_content_word (held e.activation s (Operand left)) w (λ u. with_content_word (held e.activation s (Operand right)) w (λ v.
-        with_given (low u v) w (λ l. with_given (high u v) w (λ h. next w (halves_within (Word h) (Word l) s i)))))
+    with_given (low u v) w (λ l. with_given (high u v) w (λ h. next w (halves_within (Word h) (Word l) s i)))))
 changes_definitions room literals enter (Copy to from) e next w s =
     λ i. with_content (held e.activation s (Operand from)) w (λ c. put_within to c e next w s i)
 changes_definitions room literals enter (Loads to base n f) e next w s =
@@ -81,12 +81,12 @@ changes_definitions room literals enter (Here m) e next w s = refl
 changes_definitions room literals enter (Goes m) e next w s = refl
 changes_definitions room literals enter (Tests rel left right m) e next w s =
     λ i. with_content_word (held e.activation s (Operand left)) w (λ u. with_content_word (held e.activation s (Operand right)) w (λ v.
-        test_within (holds rel u v) m e next w s i))
+    test_within (holds rel u v) m e next w s i))
 changes_definitions room literals enter (Calls label) e next w s =
     λ i. enter label (at_entry s) (e.activation.base - e.activation.size) (λ c w1. next w1 (call_within c s i)) w
 changes_definitions room literals enter Asks e next w s =
     λ i. with_content_word (held e.activation s (Operand (Reg 2))) w (λ n. with_content_word (held e.activation s (Operand (Reg 4))) w (λ u.
-        service room n u w (λ v w1. next w1 (set_within (Operand (Reg 2)) (Word v) s i))))
+    service room n u w (λ v w1. next w1 (set_within (Operand (Reg 2)) (Word v) s i))))
 changes_definitions room literals enter (Fails n) e next w s = refl
 changes_definitions room literals enter Returns e next w s = refl
 
@@ -173,21 +173,21 @@ reads_uses room literals enter (From1 to Lo f) e next w s t h j =
     λ i. with_content_word (h.0 i) w (λ u. with_given (f u) w (λ r. put_only to (Word r) e next w s t i))
 reads_uses room literals enter (From2 to left right f) e next w s t h j =
     λ i. with_content_word (held_same e.activation (Operand left) s t h.0 i) w (λ u.
-        with_content_word (held_same e.activation (Operand right) s t h.1.0 i) w (λ v.
-        with_given (f u v) w (λ r. put_only to (Word r) e next w s t i)))
+    with_content_word (held_same e.activation (Operand right) s t h.1.0 i) w (λ v.
+    with_given (f u v) w (λ r. put_only to (Word r) e next w s t i)))
 reads_uses room literals enter (Halves left right low high) e next w s t h j =
     λ i. with_content_word (held_same e.activation (Operand left) s t h.0 i) w (λ u.
-        with_content_word (held_same e.activation (Operand right) s t h.1.0 i) w (λ v.
-        with_given (low u v) w (λ l. with_given (high u v) w (λ g. next w (only_halves (Word g) (Word l) s t i)))))
+    with_content_word (held_same e.activation (Operand right) s t h.1.0 i) w (λ v.
+    with_given (low u v) w (λ l. with_given (high u v) w (λ g. next w (only_halves (Word g) (Word l) s t i)))))
 reads_uses room literals enter (Copy to from) e next w s t h j =
     λ i. with_content (held_same e.activation (Operand from) s t h.0 i) w (λ c. put_only to c e next w s t i)
 reads_uses room literals enter (Loads to base n f) e next w s t h j =
     λ i. with_content_word (held_same e.activation (Operand base) s t h.0 i) w (λ a.
-        with_word (f w.memory (add a n)) w (λ v. put_only to (Word v) e next w s t i))
+    with_word (f w.memory (add a n)) w (λ v. put_only to (Word v) e next w s t i))
 reads_uses room literals enter (Stores from base n f) e next w s t h j =
     λ i. with_content_word (held_same e.activation (Operand base) s t h.1.0 i) w (λ a.
-        with_content_word (held_same e.activation (Operand from) s t h.0 i) w (λ v.
-        with_memory (f w.memory (add a n) v) w (λ w1. next w1 (λ x. Nothing))))
+    with_content_word (held_same e.activation (Operand from) s t h.0 i) w (λ v.
+    with_memory (f w.memory (add a n) v) w (λ w1. next w1 (λ x. Nothing))))
 reads_uses room literals enter (FromSlot to k) e next w s t h j =
     λ i. if nat_lt k e.slots then with_content (content_of (w.memory.stack (slot e.activation.base k))) w (λ c. put_only to c e next w s t i) else wrong w
 reads_uses room literals enter (ToSlot from k) e next w s t h j =
@@ -199,13 +199,13 @@ reads_uses room literals enter (Here m) e next w s t h j = refl
 reads_uses room literals enter (Goes m) e next w s t h j = j m w
 reads_uses room literals enter (Tests rel left right m) e next w s t h j =
     λ i. with_content_word (held_same e.activation (Operand left) s t h.0 i) w (λ u.
-        with_content_word (held_same e.activation (Operand right) s t h.1.0 i) w (λ v.
-        test_reads (holds rel u v) m e next w s t j i))
+    with_content_word (held_same e.activation (Operand right) s t h.1.0 i) w (λ v.
+    test_reads (holds rel u v) m e next w s t j i))
 reads_uses room literals enter (Calls label) e next w s t h j =
     λ i. enter label (entry_same s t h i) (e.activation.base - e.activation.size) (λ c w1. next w1 (only_call c s t i)) w
 reads_uses room literals enter Asks e next w s t h j =
     λ i. with_content_word (h.0 i) w (λ n. with_content_word (h.1.0 i) w (λ u.
-        service room n u w (λ v w1. next w1 (only_set (Operand (Reg 2)) (Word v) s t i))))
+    service room n u w (λ v w1. next w1 (only_set (Operand (Reg 2)) (Word v) s t i))))
 reads_uses room literals enter (Fails n) e next w s t h j = refl
 reads_uses room literals enter Returns e next w s t h j =
     λ i. if gives_same given_back s t h.1 i then e.back (handed (h.0 i)) w else wrong w

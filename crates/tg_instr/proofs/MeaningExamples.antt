@@ -78,7 +78,7 @@ reads_unset_hi = refl
 -- a temporary or a register is not set behind a call
 reads_behind_call :
     (ran_with (made 32 0 0 (Addiu (Reg 8) (Reg 0) 1 ∷ Move (temp 9) (Reg 31) ∷ Addiu (Reg 4) (Reg 0) 1 ∷
-        Call (record { 0 = 33 }) ∷ Move (Reg 4) (Reg 8) ∷ Fault 1 ∷ []) ∷ made 33 1 0 one_more ∷ []) 2).stop
+    Call (record { 0 = 33 }) ∷ Move (Reg 4) (Reg 8) ∷ Fault 1 ∷ []) ∷ made 33 1 0 one_more ∷ []) 2).stop
     ≡ Wrong
 reads_behind_call = refl
 

@@ -55,7 +55,7 @@ module _ (units : Instr → ℕ) (code : Code (List Instr)) (size : ℕ → ℕ)
         rest = f.body;
         activation = record { base = top; size = size f.label };
         back = λ c w1.
-          back c (with_frame f (record { base = top; size = size f.label }) Closed w1);
+            back c (with_frame f (record { base = top; size = size f.label }) Closed w1);
         world = with_frame f (record { base = top; size = size f.label }) Unset w;
         contents = s;
       })

@@ -8,7 +8,7 @@ use borrow.Rule.Slice.PartMut.{put_mid, mid_of}
 
 over : (xs : List ℕ) (i n a b c d : ℕ) → i + 4 ≤ length xs →
     put_mid i (suc (suc (suc (suc n)))) xs
-        (a ∷ b ∷ c ∷ d ∷ drop 4 (mid_of i (suc (suc (suc (suc n)))) xs)) ≡
+    (a ∷ b ∷ c ∷ d ∷ drop 4 (mid_of i (suc (suc (suc (suc n)))) xs)) ≡
     slice_set (slice_set (slice_set (slice_set xs i a) (suc i) b) (suc (suc i)) c) (suc (suc (suc i))) d
 over (p ∷ q ∷ r ∷ s ∷ xs) zero n a b c d h = ap (λ ys. a ∷ b ∷ c ∷ d ∷ ys) (take-append-drop n xs)
 over (x ∷ xs) (suc i) n a b c d h = ap (λ ys. x ∷ ys) (over xs i n a b c d (omega (arith, h)))

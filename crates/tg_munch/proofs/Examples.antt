@@ -1,17 +1,16 @@
 -- The instructions of small trees, computed.
-use Rattle.std.proofs.Common.{ℕ, ◌≡◌, List, [], ◌∷◌, Option, Some, None, refl}
+use Rattle.std.proofs.Common.{ℕ, ◌≡◌, List, [], ◌∷◌, None, refl}
 use Rattle.tg_frame.specs.declared.accesses.Access.TheVariants.{InTemp, InFrame}
 use Rattle.tg_tree.specs.declared.operators.Bin.TheVariants as bin
-use Rattle.tg_tree.specs.declared.operators.Rel.TheVariants.{Equal, NotEqual, Less, LessEqual, Greater, GreaterEqual, Below, NotBelow}
+use Rattle.tg_tree.specs.declared.operators.Rel.TheVariants.{Equal, NotEqual, Less, LessEqual, Greater, NotBelow}
 use Rattle.tg_tree.specs.Tree as tree
 use Rattle.tg_tree.specs.Tree.{Tx, Const, FrameAddress, Binary, Load, Txs, no_txs, tx, Mark, Do', Return'}
-use Rattle.tg_instr.specs.declared.operands.Opnd.{Opnd}
 use Rattle.tg_instr.specs.declared.operands.Opnd.TheVariants.{Reg}
 use Rattle.tg_instr.specs.declared.instr.Instr.{Instr}
 use Rattle.tg_instr.specs.declared.instr.Instr.TheVariants as instr
 use Rattle.tg_instr.specs.declared.instr.Instr.TheVariants.{Addiu, Addi, Add, Addu, Subu, Sll, Andi, Ori, Lui, Lw, Sw, Slt, Slti, Sltiu, Move, FrameLoad, FrameStore, Branch, Call, Service, Mult, Mflo, Return}
-use Rattle.tg_munch.specs.Choosing.{Drawn, Chosen}
-use Rattle.tg_munch.specs.Munching.{temp, expression, statement, branch, elements}
+use Rattle.tg_munch.specs.Choosing.{Drawn, ◌>>=◌}
+use Rattle.tg_munch.specs.Munching.{temp, expression, statement, branch}
 use Rattle.tg_munch.specs.Bodies.{munched, outs}
 
 abbrev start : Drawn
@@ -25,72 +24,94 @@ code_of x = (expression 2 x None start).code
 
 -- one instruction for a load with an offset, for an addition of a small constant, and for a slot
 offset : code_of (Load (Binary bin.Add (t 1) (Const 8))) ≡ Lw (temp 9) 8 (temp 1) ∷ []
+unfolding ◌>>=◌
 offset = refl
 
 offset_back : code_of (Load (Binary bin.Sub (t 1) (Const 4))) ≡ Lw (temp 9) 65532 (temp 1) ∷ []
+unfolding ◌>>=◌
 offset_back = refl
 
 slot : code_of (Load (Binary bin.Sub FrameAddress (Const 8))) ≡ FrameLoad (temp 9) 1 ∷ []
+unfolding ◌>>=◌
 slot = refl
 
 -- a slot that the frame doesn't have is no slot
 no_slot : code_of (Load (Binary bin.Sub FrameAddress (Const 12))) ≡ instr.FrameAddress (temp 10) ∷ Lw (temp 9) 65524 (temp 10) ∷ []
+unfolding ◌>>=◌
 no_slot = refl
 
 small : code_of (Binary bin.AddTrap (t 1) (Const 1)) ≡ Addi (temp 9) (temp 1) 1 ∷ []
+unfolding ◌>>=◌
 small = refl
 
 small_left : code_of (Binary bin.AddTrap (Const 4294967295) (t 1)) ≡ Addi (temp 9) (temp 1) 65535 ∷ []
+unfolding ◌>>=◌
 small_left = refl
 
 small_difference : code_of (Binary bin.SubTrap (t 1) (Const 32768)) ≡ Addi (temp 9) (temp 1) 32768 ∷ []
+unfolding ◌>>=◌
 small_difference = refl
 
 -- -32768 has no opposite in a field
 difference : code_of (Binary bin.SubTrap (t 1) (Const 4294934528)) ≡ Addiu (temp 10) (Reg 0) 32768 ∷ instr.Sub (temp 9) (temp 1) (temp 10) ∷ []
+unfolding ◌>>=◌
 difference = refl
 
 large : code_of (Binary bin.AddTrap (t 1) (Const 65536)) ≡ Lui (temp 10) 1 ∷ Add (temp 9) (temp 1) (temp 10) ∷ []
+unfolding ◌>>=◌
 large = refl
 
 halves : code_of (Const 305419896) ≡ Lui (temp 9) 4660 ∷ Ori (temp 9) (temp 9) 22136 ∷ []
+unfolding ◌>>=◌
 halves = refl
 
 zero_needs_none : code_of (Const 0) ≡ []
+unfolding ◌>>=◌
 zero_needs_none = refl
 
 product : code_of (Binary bin.Mul (t 1) (t 2)) ≡ Mult (temp 1) (temp 2) ∷ Mflo (temp 9) ∷ []
+unfolding ◌>>=◌
 product = refl
 
 shift : code_of (Binary bin.ShiftLeft (t 1) (Const 2)) ≡ Sll (temp 9) (temp 1) 2 ∷ []
+unfolding ◌>>=◌
 shift = refl
 
 -- one instruction for a comparison with 0
 with_zero : (branch 2 Less (t 1) (Const 0) 7 start).code ≡ Branch (record { rel = Less; left = temp 1; right = Reg 0; is_one_row = refl }) 7 ∷ []
+unfolding ◌>>=◌
 with_zero = refl
 
 zero_on_the_left : (branch 2 Less (Const 0) (t 1) 7 start).code ≡ Branch (record { rel = Greater; left = temp 1; right = Reg 0; is_one_row = refl }) 7 ∷ []
+unfolding ◌>>=◌
 zero_on_the_left = refl
 
 at_most : (branch 2 LessEqual (t 1) (Const 9) 7 start).code ≡ Slti (temp 9) (temp 1) 10 ∷ Branch (record { rel = NotEqual; left = temp 9; right = Reg 0; is_one_row = refl }) 7 ∷ []
+unfolding ◌>>=◌
 at_most = refl
 
 above : (branch 2 Greater (t 1) (t 2) 7 start).code ≡ Slt (temp 9) (temp 2) (temp 1) ∷ Branch (record { rel = NotEqual; left = temp 9; right = Reg 0; is_one_row = refl }) 7 ∷ []
+unfolding ◌>>=◌
 above = refl
 
 index : (branch 2 NotBelow (t 1) (Load (t 2)) 7 start).code ≡ Lw (temp 9) 0 (temp 2) ∷ instr.Sltu (temp 10) (temp 1) (temp 9) ∷ Branch (record { rel = Equal; left = temp 10; right = Reg 0; is_one_row = refl }) 7 ∷ []
+unfolding ◌>>=◌
 index = refl
 
 -- a call of five arguments, whose fifth stands in the frame
 call : (statement 2 (tree.Move 3 (tree.Call 40 (tx FrameAddress (tx (t 1) (tx (Const 0) (tx (t 2) (tx (t 1) no_txs))))))) start).code ≡ instr.FrameAddress (Reg 4) ∷ Move (Reg 5) (temp 1) ∷ Addiu (Reg 6) (Reg 0) 0 ∷ Move (Reg 7) (temp 2) ∷ Sw (temp 1) 0 (Reg 29) ∷ Call (record { 0 = 40 }) ∷ Move (temp 3) (Reg 2) ∷ []
+unfolding ◌>>=◌
 call = refl
 
 service : (statement 2 (tree.Do (tree.Service 11 (t 1))) start).code ≡ Move (Reg 4) (temp 1) ∷ Addiu (Reg 2) (Reg 0) 11 ∷ Service ∷ []
+unfolding ◌>>=◌
 service = refl
 
 words_for_arguments : outs (Do' (tree.Do (tree.Call 40 (tx (t 0) (tx (t 0) (tx (t 0) (tx (t 0) (tx (t 0) (tx (t 0) no_txs)))))))) ∷ Mark 1 ∷ []) ≡ 2
+unfolding ◌>>=◌
 words_for_arguments = refl
 
 -- a function of two parameters, the second of which escapes
 function : (munched (record { label = 33; params = InTemp (record { 0 = 0 }) ∷ InFrame 0 ∷ []; slots = 1; temps = 1; out = 0; body = Return' (Binary bin.AddTrap (t 0) (Const 1)) ∷ [] })).code ≡ Move (temp 1) (Reg 16) ∷ Move (temp 2) (Reg 17) ∷ Move (temp 3) (Reg 18) ∷ Move (temp 4) (Reg 19) ∷ Move (temp 5) (Reg 20) ∷ Move (temp 6) (Reg 21) ∷ Move (temp 7) (Reg 22) ∷ Move (temp 8) (Reg 23) ∷ Move (temp 9) (Reg 31) ∷ Move (temp 0) (Reg 4) ∷ FrameStore (Reg 5) 0 ∷ Addi (Reg 2) (temp 0) 1 ∷ Move (Reg 16) (temp 1) ∷ Move (Reg 17) (temp 2) ∷ Move (Reg 18) (temp 3) ∷ Move (Reg 19) (temp 4) ∷ Move (Reg 20) (temp 5) ∷ Move (Reg 21) (temp 6) ∷ Move (Reg 22) (temp 7) ∷ Move (Reg 23) (temp 8) ∷ Move (Reg 31) (temp 9) ∷ Return ∷ []
+unfolding ◌>>=◌
 function = refl

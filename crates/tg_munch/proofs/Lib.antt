@@ -1,1 +1,6 @@
 mod Examples
+pub mod Kept
+pub mod Marks
+pub mod Walking
+pub mod Whole
+pub mod Writing

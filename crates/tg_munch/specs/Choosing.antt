@@ -2,9 +2,8 @@
 -- marks that are drawn.
 use Rattle.std.specs.Prelude.{ℕ, ◌+◌, List, [], ◌∷◌, ◌++◌, Option, Some, None}
 use Rattle.tg_instr.specs.declared.operands.Opnd.{Opnd}
-use Rattle.tg_instr.specs.declared.operands.Opnd.TheVariants.{Temp, Reg}
+use Rattle.tg_instr.specs.declared.operands.Opnd.TheVariants.{Temp}
 use Rattle.tg_instr.specs.declared.instr.Instr.{Instr}
-use Rattle.tg_instr.specs.declared.instr.Instr.TheVariants.{Mark}
 
 -- the next temporary and the next mark
 pub record Drawn : Type 0 where
@@ -21,7 +20,7 @@ Choice A = Drawn → Chosen A
 
 infixl 10 ◌>>=◌
 infixl 10 ◌>>◌
-abbrev pub ◌>>=◌ : {A B : Type 0} → Choice A → (A → Choice B) → Choice B
+unfoldable pub ◌>>=◌ : {A B : Type 0} → Choice A → (A → Choice B) → Choice B
 ◌>>=◌ first onward d =
     let one = first d in
     let two = onward one.value one.drawn in

@@ -1,3 +1,19 @@
-//! Choice of instructions by maximal munch (Appel, chapter 9), as a function on plain flat code,
-//! with computed examples. There is no code that runs yet.
+//! Choice of instructions by maximal munch (Appel, chapter 9): what a function's flat code becomes
+//! over temporaries and registers. Promises exactly the code that `specs/` computes.
 #![tactic(auto)]
+
+mod bodies;
+mod comparing;
+mod drafts;
+mod expressions;
+mod finishing;
+mod laws;
+mod munching;
+mod operators;
+mod orders;
+mod statements;
+mod tiles;
+mod tiling;
+
+pub use laws::code_is_kept;
+pub use munching::munch;

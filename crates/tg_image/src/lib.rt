@@ -1,0 +1,9 @@
+//! The image of what is emitted (Appel, chapter 12): its labels are those of the assembler's
+//! syntax, and the text of a program is assembled without a fault.
+#![tactic(auto)]
+
+mod laws;
+mod programs;
+
+pub use laws::{emitted_has_labels, program_has_image};
+pub use programs::is_program;

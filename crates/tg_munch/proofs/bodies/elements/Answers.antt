@@ -1,0 +1,15 @@
+use Rattle.std.proofs.Common.{arith}
+use Rattle.tg_munch.proofs.Walking.{leads_on, leads_end, element_each}
+use Rattle.tg_munch.proofs.bodies.elements.Goals as goal
+
+pub loop-one-preserved : goal.loop-one-preserved
+loop-one-preserved c =
+    let i = c.loop-one.one-index in
+    leads_on (element_each c.args.slots c.args.keeps) c.args.code.now 0 i i c.loop-one-test.true c.one-item.is
+    c.loop-one.invariant c.in_ok-element.ensures
+
+pub returns : goal.returns
+returns c =
+    let i = c.loop-one.one-index in
+    leads_end (element_each c.args.slots c.args.keeps) c.args.code.now 0 i i
+    (omega (arith, c.loop-one.auto.one-index-end, c.loop-one-test.false)) c.loop-one.invariant

@@ -1,0 +1,8 @@
+use Rattle.tg_tree.specs.Lists.{code_of}
+use Rattle.tg_munch.specs.Munching.{elements}
+use Rattle.tg_munch.proofs.Walking.{Leads}
+use Rattle.tg_munch.proofs.bodies.elements.Given as goal
+
+abbrev pub invariant-loop-one : goal.invariant-loop-one
+invariant-loop-one l =
+    Leads (λ i es. elements l.slots l.keeps (code_of es)) l.code 0 l.one-index l.one-index l.fn.draft l.draft

@@ -1,0 +1,8 @@
+use Rattle.std.proofs.Common.{refl}
+use Rattle.tg_tree.specs.declared.operators.Rel.TheVariants.{GreaterEqual}
+use Rattle.tg_instr.specs.declared.operands.Opnd.TheVariants.{Reg}
+use Rattle.tg_munch.proofs.Writing.{same_branch}
+use Rattle.tg_munch.proofs.comparing.if_at_least.Goals as goal
+
+pub returns : goal.returns
+returns c = same_branch GreaterEqual c.args.left (Reg 0) _ refl c.args.mark

@@ -1,0 +1,5 @@
+use Rattle.tg_munch.proofs.Writing.{writes_then}
+use Rattle.tg_munch.proofs.expressions.frame_address.Goals as goal
+
+pub returns : goal.returns
+returns c = writes_then _ c.in_ok-to.ensures c.in_ok-value.ensures

@@ -1,0 +1,7 @@
+use Rattle.std.proofs.Common.{◌≡◌, max, drop}
+use Rattle.tg_tree.specs.Lists.{code_of}
+use Rattle.tg_munch.specs.Bodies.{mark_above}
+use Rattle.tg_munch.proofs.munching.mark_above.Given as goal
+
+abbrev pub invariant-loop-one : goal.invariant-loop-one
+invariant-loop-one l = max l.above (mark_above (code_of (drop l.one-index l.code))) ≡ mark_above (code_of l.code)

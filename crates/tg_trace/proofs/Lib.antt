@@ -1,0 +1,8 @@
+mod Examples
+pub mod Backs
+pub mod Rests
+pub mod Depths
+pub mod Places
+pub mod Marks
+pub mod Flats
+pub mod Wholes

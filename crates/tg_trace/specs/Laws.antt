@@ -1,0 +1,24 @@
+-- What the passes promise of their answers' shapes.
+use Rattle.std.specs.Prelude.{List}
+use Rattle.tg_tree.specs.Tree.{Stms}
+use Rattle.tg_tree.specs.Shapes.{AreCanonical, AreClosed, IsFlatCode, IsWellMarked}
+use Rattle.tg_trace.specs.Block.{Block}
+use Rattle.tg_trace.specs.Cutting.{blocks_of}
+use Rattle.tg_trace.specs.Laying.{traced}
+use Rattle.tg_trace.specs.Shapes.{AreFlatBlocks, AreWhole}
+
+-- canonical statements are cut into flat blocks, and those of a closed body into blocks that lead
+-- to one another
+abbrev pub BlocksAreFlat : Type 0
+BlocksAreFlat = (ss : Stms) → AreCanonical ss → AreFlatBlocks (blocks_of ss)
+
+abbrev pub BlocksAreWhole : Type 0
+BlocksAreWhole = (ss : Stms) → AreClosed ss → AreWhole (blocks_of ss)
+
+-- flat blocks are laid as flat code; each mark of that of whole blocks stands once, and the code
+-- goes to none but its own
+abbrev pub CodeIsFlat : Type 0
+CodeIsFlat = (bs : List Block) → AreFlatBlocks bs → IsFlatCode (traced bs)
+
+abbrev pub CodeIsWellMarked : Type 0
+CodeIsWellMarked = (bs : List Block) → AreWhole bs → IsWellMarked (traced bs)

@@ -1,0 +1,6 @@
+pub mod Block
+pub mod Cutting
+pub mod Laying
+pub mod Plains
+pub mod Shapes
+pub mod Laws

@@ -1,0 +1,19 @@
+//! Basic blocks and traces (Appel, chapter 8): canonical statements are cut into blocks, whose
+//! order then lets most jumps fall away. Promises the choice of instructions exactly the flat code
+//! of `specs/Cutting.antt` and `specs/Laying.antt`.
+#![tactic(auto)]
+
+mod conditions;
+mod cuts;
+mod cutting;
+mod emission;
+mod flows;
+mod laws;
+mod orders;
+mod placing;
+mod traces;
+
+pub use cutting::blocks;
+pub use flows::{Block, Blocks, End};
+pub use laws::{blocks_are_well_formed, code_is_well_formed};
+pub use traces::trace;

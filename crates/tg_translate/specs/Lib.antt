@@ -1,0 +1,9 @@
+pub mod States
+pub mod Wants
+pub mod Constructs
+pub mod Scopes
+pub mod Functions
+pub mod Choices
+pub mod Purity
+pub mod Translate
+pub mod Parts

@@ -1,0 +1,75 @@
+ghost use Rattle.std.specs.Prelude.{◌≡◌, IfOk, OnOk, length};
+ghost use Rattle.tg_tree.specs.Plain.{plain_tx, plain_ts};
+ghost use Rattle.tg_tree.specs.Lists.{stms_of};
+ghost use Rattle.tg_translate.specs.States.{drawn, state_of};
+ghost use Rattle.tg_translate.specs.Wants.{plain_made};
+ghost use Rattle.tg_translate.specs.Constructs as constructs;
+
+use crate::constructs::{bytes_of, call_with_one, plus};
+use crate::operands::Operand;
+use crate::states::{State, next};
+use crate::wants::{Made, push, value_behind};
+use std::alloc::Global;
+use tg_base::{Memory, Temp};
+use tg_runtime::Routine;
+use tg_tree::{Ts, Tx};
+
+/// The bytes of a record of so many fields: 4 for each, and 4 at least.
+fn record_bytes(fields: usize) -> Result<u32, Memory>
+    ensures { IfOk result (λ n. n ≡ constructs.record_bytes fields) }
+{
+    let fields = u32::try_from(fields).map_err(|_| Memory)?;
+    Ok(bytes_of(fields)?.max(4))
+}
+
+/// A record whose fields' values are kept.
+pub(crate) fn make_record(
+    state: &mut State,
+    before: Vec<Ts>,
+    operands: &[Operand],
+) -> Result<Made, Memory> {
+    let to = state.fresh()?;
+    Ok(record_of(state.alloc, to, before, operands)?)
+}
+
+fn record_of(
+    alloc: Global,
+    to: Temp,
+    mut done: Vec<Ts>,
+    operands: &[Operand],
+) -> Result<Made, Memory> {
+    let made = call_for_record(alloc, operands.len())?;
+    push(&mut done, Ts::Move(to, made))?;
+    store_fields(alloc, &mut done, to, operands)?;
+    Ok(value_behind(alloc, done, Tx::Temp(to))?)
+}
+
+fn call_for_record(alloc: Global, fields: usize) -> Result<Tx, Memory>
+    ensures { IfOk result (λ x. plain_tx x ≡ constructs.call_for_record fields) }
+{
+    let bytes = Tx::Const(record_bytes(fields)?);
+    Ok(call_with_one(alloc, Routine::MakeRecord, bytes)?)
+}
+
+/// The fields are stored, one after another.
+fn store_fields(
+    alloc: Global,
+    done: &mut Vec<Ts>,
+    to: Temp,
+    operands: &[Operand],
+) -> Result<(), Memory> {
+    let mut field = 0;
+    for operand in operands {
+        push(done, store_field(alloc, to, field, *operand)?)?;
+        field = next(field)?;
+    }
+    Ok(())
+}
+
+fn store_field(alloc: Global, to: Temp, field: u32, operand: Operand) -> Result<Ts, Memory>
+    ensures { IfOk result (λ s. plain_ts s ≡
+        constructs.store_field to.0 field operand) }
+{
+    let address = plus(alloc, Tx::Temp(to), bytes_of(field)?)?;
+    Ok(Ts::Store(address, operand.tree()))
+}

@@ -1,0 +1,122 @@
+ghost use Rattle.std.specs.Prelude.{◌≡◌, IfOk, OnOk};
+ghost use Rattle.tg_syntax.specs.Plain.{plain_functions};
+ghost use Rattle.tg_tree.specs.Plain.{plain_ts};
+ghost use Rattle.tg_translate.specs.States.{drawn, state_of};
+ghost use Rattle.tg_translate.specs.Wants.{plain_made};
+ghost use Rattle.tg_translate.specs.Scopes.{findings_of};
+ghost use Rattle.tg_translate.specs.Functions as functions;
+
+use crate::findings::Findings;
+use crate::homes::{Callee, Home, Within};
+use crate::states::{Outer, State, frame_of, next};
+use crate::wants::{Made, Want, dropped, value_of};
+use std::alloc::Global;
+use tg_base::{Label, Memory};
+use tg_frame::Access;
+use tg_syntax::{FunDecs, Param};
+use tg_tree::{Ts, Tx, sequence};
+
+/// Which parameters of a function go into the frame: the static link, which is the first, and its
+/// own.
+fn asked(
+    alloc: Global,
+    findings: &Findings,
+    link_in_slot: bool,
+    params: &[Param],
+) -> Result<Vec<bool>, Memory> {
+    let mut asked = vec![in alloc; link_in_slot]?;
+    for param in params {
+        asked.push(findings.escapes(param.name.span.from))?;
+    }
+    Ok(asked)
+}
+
+/// A function's text begins: with a frame of its own, and with its parameters declared.
+pub(crate) fn begin(
+    findings: &Findings,
+    state: &mut State,
+    label: Label,
+    link_in_slot: bool,
+    params: &[Param],
+    level: u32,
+) -> Result<Outer, Memory> {
+    let alloc = state.alloc;
+    let asked = asked(alloc, findings, link_in_slot, params)?;
+    let frame = frame_of(alloc, label, &asked)?;
+    declare_params(state, level, params, frame.params.as_slice())?;
+    Ok(state.open(frame))
+}
+
+// The homes of parameters are those behind the static link's.
+fn declare_params(
+    state: &mut State,
+    level: u32,
+    params: &[Param],
+    homes: &[Access],
+) -> Result<(), Memory> {
+    let mut at = 1;
+    for param in params {
+        if at >= homes.len() {
+            return Ok(());
+        }
+        let access = homes[at];
+        state
+            .homes
+            .push(param.name.span.from, Home { level, access })?;
+        at += 1;
+    }
+    Ok(())
+}
+
+/// The functions of a group may call each other. Each draws a label, and the group's functions are
+/// declared in a function of this level.
+pub(crate) fn declare_functions(
+    state: &mut State,
+    level: u32,
+    group: &FunDecs,
+) -> Result<(), Memory> {
+    for function in &group.items {
+        let label = state.draw_label()?;
+        state
+            .callees
+            .push(function.name.span.from, Callee { level, label })?;
+    }
+    Ok(())
+}
+
+/// Where the text of a function stands that is declared here.
+pub(crate) fn inside(within: Within, link_in_slot: bool) -> Result<Within, Memory>
+    ensures { IfOk result (λ w. w ≡ functions.inside within link_in_slot) }
+{
+    Ok(Within {
+        level: next(within.level)?,
+        link_in_slot,
+        leave: 0,
+    })
+}
+
+/// What a function wants of its body.
+pub(crate) fn result_want(has_result: bool) -> Want
+    ensures { result ≡ functions.result_want has_result }
+{
+    if has_result {
+        Want::Value
+    } else {
+        Want::Dropped
+    }
+}
+
+/// The statement of a function's body: what has a result gives it back, and anything else gives 0
+/// back.
+pub(crate) fn closing(state: &mut State, has_result: bool, made: Made) -> Result<Ts, Memory>
+    ensures { IfOk result (λ s.
+        functions.closing has_result (plain_made made) (state_of state.old) ≡
+        drawn (plain_ts s) (state_of state.new)) }
+{
+    if has_result {
+        return Ok(Ts::Return(value_of(state, made)?));
+    }
+    let alloc = state.alloc;
+    let done = dropped(alloc, made)?;
+    Ok(sequence(vec![in alloc; done, Ts::Return(Tx::Const(0))]?))
+}

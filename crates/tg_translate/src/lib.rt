@@ -1,0 +1,22 @@
+//! The translation of checked programs to trees (Appel, chapters 6 and 7): static links, homes of
+//! variables, checks of nil, of indices and of divisors, and arithmetic that ends the program by
+//! overflow. Promises the passes behind it exactly the trees of `specs/Translate.antt`.
+#![tactic(auto)]
+
+mod calls;
+mod constructs;
+mod creation;
+mod expressions;
+mod findings;
+mod functions;
+mod homes;
+mod loops;
+mod operands;
+mod operators;
+mod places;
+mod programs;
+mod purity;
+mod states;
+mod wants;
+
+pub use programs::translate;

@@ -1,0 +1,217 @@
+ghost use Rattle.std.specs.Prelude.{◌≡◌, IfOk};
+ghost use Rattle.tg_tree.specs.Plain.{plain_tx, plain_cond, plain_ts};
+ghost use Rattle.tg_tree.specs.Lists.{stms_of};
+ghost use Rattle.tg_translate.specs.States.{drawn, state_of};
+ghost use Rattle.tg_translate.specs.Wants as wants;
+ghost use Rattle.tg_translate.specs.Wants.{plain_made};
+ghost use Rattle.tg_translate.specs.Constructs as constructs;
+ghost use Rattle.tg_translate.specs.Scopes as scopes;
+ghost use Rattle.tg_translate.specs.Choices as choices;
+
+use crate::constructs::{
+    LEAST_INT, MINUS_ONE, call_with_two, product_check, quotient_check, zero_check,
+};
+use crate::operands::{Operand, hold};
+use crate::states::State;
+use crate::wants::{Made, Want, as_statement, push, test_of, value_behind};
+use std::alloc::Global;
+use tg_base::{Memory, Temp, sub};
+use tg_runtime::Routine;
+use tg_syntax::Op;
+use tg_tree::{Bin, Cond, Rel, Ts, Tx, binary, both, compare, either, if_else};
+use tg_types::Means;
+
+/// What an operator wants of its left side.
+pub(crate) fn left_want(op: Op) -> Want
+    ensures { result ≡ choices.left_want op }
+{
+    match op {
+        Op::And | Op::Or => Want::Test,
+        _ => Want::Value,
+    }
+}
+
+/// Both conditions, or one of them.
+pub(crate) fn connected(alloc: Global, op: Op, left: Cond, right: Cond) -> Result<Cond, Memory>
+    ensures { IfOk result (λ c. plain_cond c ≡
+        choices.connected op (plain_cond left) (plain_cond right)) }
+{
+    match op {
+        Op::And => Ok(both(alloc, left, right)?),
+        _ => Ok(either(alloc, left, right)?),
+    }
+}
+
+/// `a & b` is `if a then b else 0`, and `a | b` is `if a then 1 else b`.
+pub(crate) fn chosen(
+    alloc: Global,
+    op: Op,
+    arms: Want,
+    left: Cond,
+    right: Made,
+) -> Result<Ts, Memory>
+    ensures { IfOk result (λ s. plain_ts s ≡
+        choices.chosen op arms (plain_cond left) (plain_made right)) }
+{
+    match op {
+        Op::And => {
+            let this = as_statement(alloc, arms, right)?;
+            let other = as_statement(alloc, arms, Made::Value(Tx::Const(0)))?;
+            Ok(if_else(alloc, left, this, other)?)
+        }
+        _ => {
+            let this = as_statement(alloc, arms, Made::Value(Tx::Const(1)))?;
+            let other = as_statement(alloc, arms, right)?;
+            Ok(if_else(alloc, left, this, other)?)
+        }
+    }
+}
+
+/// A connective where a condition is wanted.
+pub(crate) fn tested(alloc: Global, op: Op, left: Cond, right: Made) -> Result<Made, Memory>
+    ensures { IfOk result (λ m. plain_made m ≡
+        choices.tested op (plain_cond left) (plain_made right)) }
+{
+    let right = test_of(alloc, right)?;
+    Ok(Made::Test(connected(alloc, op, left, right)?))
+}
+
+/// Whether strings are compared, by what the operator means.
+pub(crate) fn compares_strings(meaning: Option<Means>) -> bool
+    ensures { result ≡ scopes.compares_strings meaning }
+{
+    matches!(meaning, Some(Means::Content))
+}
+
+fn relation(op: Op) -> Rel
+    ensures { result ≡ constructs.relation op }
+{
+    match op {
+        Op::Equal => Rel::Equal,
+        Op::NotEqual => Rel::NotEqual,
+        Op::Less => Rel::Less,
+        Op::LessEqual => Rel::LessEqual,
+        Op::Greater => Rel::Greater,
+        _ => Rel::GreaterEqual,
+    }
+}
+
+/// Strings are compared by the runtime, which answers their order as an int.
+fn comparison(alloc: Global, op: Op, of_strings: bool, left: Tx, right: Tx) -> Result<Cond, Memory>
+    ensures { IfOk result (λ c. plain_cond c ≡
+        constructs.comparison op of_strings (plain_tx left) (plain_tx right)) }
+{
+    if of_strings {
+        let order = call_with_two(alloc, Routine::Compare, left, right)?;
+        Ok(compare(alloc, relation(op), order, Tx::Const(0))?)
+    } else {
+        Ok(compare(alloc, relation(op), left, right)?)
+    }
+}
+
+/// A product, which ends the program where it overflows.
+fn product(state: &mut State, direct: bool, left: Tx, right: Tx) -> Result<Made, Memory>
+    ensures { IfOk result (λ m.
+        constructs.product direct (plain_tx left) (plain_tx right) (state_of state.old) ≡
+        drawn (plain_made m) (state_of state.new)) }
+{
+    let mut done = Vec::new(state.alloc);
+    let left = hold(state, direct, &mut done, left)?;
+    let right = hold(state, true, &mut done, right)?;
+    let to = state.fresh()?;
+    Ok(product_of(state.alloc, to, done, left, right)?)
+}
+
+fn product_of(
+    alloc: Global,
+    to: Temp,
+    mut done: Vec<Ts>,
+    left: Operand,
+    right: Operand,
+) -> Result<Made, Memory>
+    ensures { IfOk result (λ m. plain_made m ≡
+        constructs.product_of to.0 (stms_of done.items) (constructs.operand left)
+        (constructs.operand right)) }
+{
+    let low = binary(alloc, Bin::Mul, left.tree(), right.tree())?;
+    push(&mut done, Ts::Move(to, low))?;
+    let check = product_check(alloc, left.tree(), right.tree(), Tx::Temp(to))?;
+    push(&mut done, check)?;
+    Ok(value_behind(alloc, done, Tx::Temp(to))?)
+}
+
+/// A quotient, which ends the program where the divisor is 0 and where it overflows.
+fn checked_quotient(state: &mut State, direct: bool, left: Tx, right: Tx) -> Result<Made, Memory>
+    ensures { IfOk result (λ m.
+        constructs.checked_quotient direct (plain_tx left) (plain_tx right) (state_of state.old) ≡
+        drawn (plain_made m) (state_of state.new)) }
+{
+    let mut done = Vec::new(state.alloc);
+    let left = hold(state, direct, &mut done, left)?;
+    let right = hold(state, true, &mut done, right)?;
+    Ok(quotient_of(state.alloc, done, left, right)?)
+}
+
+fn quotient_of(
+    alloc: Global,
+    mut done: Vec<Ts>,
+    left: Operand,
+    right: Operand,
+) -> Result<Made, Memory>
+    ensures { IfOk result (λ m. plain_made m ≡
+        constructs.quotient_of (stms_of done.items) (constructs.operand left)
+        (constructs.operand right)) }
+{
+    push(&mut done, zero_check(alloc, right.tree())?)?;
+    push(&mut done, quotient_check(alloc, left.tree(), right.tree())?)?;
+    let value = binary(alloc, Bin::Div, left.tree(), right.tree())?;
+    Ok(value_behind(alloc, done, value)?)
+}
+
+/// A quotient. A number other than 0 and -1 divides without a check.
+fn quotient(state: &mut State, direct: bool, left: Tx, right: Tx) -> Result<Made, Memory>
+    ensures { IfOk result (λ m.
+        constructs.quotient direct (plain_tx left) (plain_tx right) (state_of state.old) ≡
+        drawn (plain_made m) (state_of state.new)) }
+{
+    match right {
+        Tx::Const(number) if number != 0 && number != MINUS_ONE => {
+            let value = binary(state.alloc, Bin::Div, left, Tx::Const(number))?;
+            Ok(Made::Value(value))
+        }
+        _ => Ok(checked_quotient(state, direct, left, right)?),
+    }
+}
+
+/// An operator between two values. The left side's temporary may be used itself where the right
+/// side assigns nothing, which `direct` says.
+pub(crate) fn operation(
+    state: &mut State,
+    op: Op,
+    of_strings: bool,
+    direct: bool,
+    left: Tx,
+    right: Tx,
+) -> Result<Made, Memory>
+    ensures { IfOk result (λ m.
+        constructs.operation op of_strings direct (plain_tx left) (plain_tx right)
+        (state_of state.old) ≡ drawn (plain_made m) (state_of state.new)) }
+{
+    match op {
+        Op::Plus => Ok(Made::Value(binary(state.alloc, Bin::AddTrap, left, right)?)),
+        Op::Minus => Ok(Made::Value(binary(state.alloc, Bin::SubTrap, left, right)?)),
+        Op::Times => Ok(product(state, direct, left, right)?),
+        Op::Divide => Ok(quotient(state, direct, left, right)?),
+        _ => Ok(Made::Test(comparison(state.alloc, op, of_strings, left, right)?)),
+    }
+}
+
+/// A negation. That of a number is a number, unless it overflows.
+pub(crate) fn negation(alloc: Global, value: Tx) -> Result<Tx, Memory>
+    ensures { IfOk result (λ x. plain_tx x ≡ constructs.negation (plain_tx value)) }
+{
+    match value {
+        Tx::Const(number) if number != LEAST_INT => Ok(Tx::Const(sub(0, number))),
+        _ => Ok(binary(alloc, Bin::SubTrap, Tx::Const(0), value)?),
+    }
+}

@@ -1,0 +1,42 @@
+use crate::expressions::expression;
+use crate::findings::Findings;
+use crate::functions::closing;
+use crate::homes::Within;
+use crate::states::{State, frame_of};
+use crate::wants::Want;
+use std::alloc::Global;
+use tg_base::{Label, Memory};
+use tg_escape::{Escapes, links};
+use tg_tree::Fragments;
+use tg_types::Checked;
+
+/// The label of the program's body. Labels below it are the runtime's.
+const BODY: u32 = 32;
+
+/// The trees of a checked program (Appel, chapter 7): its body first, with the label 32, and then
+/// its functions in the order of the source; and its literals, one for each string of the text. It
+/// fails for want of memory alone.
+pub fn translate(alloc: Global, checked: &Checked, escapes: &Escapes) -> Result<Fragments, Memory> {
+    let links = links(alloc, checked)?;
+    let findings = Findings {
+        notes: &checked.notes,
+        escapes,
+        links: &links,
+    };
+    let frame = frame_of(alloc, Label(BODY), &[])?;
+    let mut state = State::new(alloc, BODY + 1, frame);
+    let outermost = Within {
+        level: 0,
+        link_in_slot: false,
+        leave: 0,
+    };
+    let made = expression(
+        &findings,
+        &mut state,
+        &checked.program.body,
+        Want::Dropped,
+        outermost,
+    )?;
+    let body = closing(&mut state, false, made)?;
+    Ok(state.finish(body)?)
+}
