@@ -1,11 +1,15 @@
 -- Sets of bytes, of the keys of a hash set and of lists.
 use Rattle.std.specs.Prelude.{cond, ◌||◌}
-use Rattle.std.specs.List.{list_any}
+use Rattle.std.specs.List.{list_any, flat_map}
 use Rattle.std.specs.Ordering.{nat_cmp, eq_by_cmp}
 use Rattle.std.specs.Cmp.{nat_cmp_total, nat_eq_equiv, unsigned_tied}
 use Rattle.std.specs.FinSet.{FinSet, empty, contains, insert, from_list, contains-empty, contains-insert, contains-from_list, same_set, nat_cmp-IsAntisymmetric}
-use Rattle.std.proofs.Common.{◌≡◌, ℕ, nat_eq, List, [], ◌∷◌, Bool, true, false, refl, sym, ap, ◌∙◌}
-use Rattle.tg_escape.specs.Searches.{with_all}
+use Rattle.std.proofs.Common.{◌≡◌, ℕ, nat_eq, List, [], ◌∷◌, ◌++◌, Bool, true, false, refl, sym, ap, ◌∙◌}
+use Rattle.tg_escape.specs.declared.found.Found.{Found}
+use Rattle.tg_escape.specs.Uses.{Use}
+use Rattle.tg_escape.specs.Escaping.{escapes_by}
+use Rattle.tg_escape.specs.Links.{links_by}
+use Rattle.tg_escape.specs.Searches.{with_all, with_use, with_uses}
 
 same_test : (ks : List ℕ) (q : ℕ) → list_any (eq_by_cmp nat_cmp q) ks ≡ list_any (nat_eq q) ks
 same_test [] q = refl
@@ -49,3 +53,23 @@ pub all_of : (ks : List ℕ) → with_all ks empty ≡ from_list ks
 all_of ks = same_set nat_cmp_total nat_cmp-IsAntisymmetric _ _ (λ q.
     has_all ks empty q ∙ (ap (λ b. list_any (eq_by_cmp nat_cmp q) ks || b) (contains-empty nat_cmp q)
     ∙ (none_more _ ∙ sym (contains-from_list nat_cmp_total ks q))))
+
+-- the bytes of two lists, one after another
+with_both : (xs ys : List ℕ) (s : FinSet nat_cmp) → with_all (xs ++ ys) s ≡ with_all ys (with_all xs s)
+with_both [] ys s = refl
+with_both (x ∷ xs) ys s = with_both xs ys (insert s x)
+
+-- what uses show to escape, and whose links they go through
+pub escapes_shown : (us : List Use) (f : Found) → (with_uses us f).escapes ≡ with_all (flat_map escapes_by us) f.escapes
+escapes_shown [] f = refl
+escapes_shown (u ∷ us) f = escapes_shown us (with_use u f) ∙ sym (with_both (escapes_by u) (flat_map escapes_by us) f.escapes)
+
+pub links_shown : (us : List Use) (f : Found) → (with_uses us f).links ≡ with_all (flat_map links_by us) f.links
+links_shown [] f = refl
+links_shown (u ∷ us) f = links_shown us (with_use u f) ∙ sym (with_both (links_by u) (flat_map links_by us) f.links)
+
+pub escapes_from_nothing : (us : List Use) (f g : Found) → g ≡ with_uses us f → f.escapes ≡ empty → g.escapes ≡ from_list (flat_map escapes_by us)
+escapes_from_nothing us f g e n = ap (λ x. x.escapes) e ∙ (escapes_shown us f ∙ (ap (λ s. with_all (flat_map escapes_by us) s) n ∙ all_of _))
+
+pub links_from_nothing : (us : List Use) (f g : Found) → g ≡ with_uses us f → f.links ≡ empty → g.links ≡ from_list (flat_map links_by us)
+links_from_nothing us f g e n = ap (λ x. x.links) e ∙ (links_shown us f ∙ (ap (λ s. with_all (flat_map links_by us) s) n ∙ all_of _))

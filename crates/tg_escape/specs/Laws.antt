@@ -1,11 +1,11 @@
--- A law of escaping variables.
+-- A law of uses.
 use Rattle.std.specs.Prelude.{◌≡◌, ℕ, List, [], ◌++◌}
 use Rattle.tg_syntax.specs.Tree.{Exp}
-use Rattle.tg_escape.specs.Escaping.{Seen, escaping}
+use Rattle.tg_escape.specs.Uses.{Seen, Use, uses}
 
--- what a text uses from outer functions doesn't depend on what comes after it, and stands before
--- that: so what a part of a program finds is in what the whole finds
+-- the uses of a text don't depend on those that come after it, and stand before them: so what a
+-- part of a program shows, the whole shows
 abbrev pub UsesJoin : Type 0
 UsesJoin =
-    (e : Exp) (level : ℕ) (seen : Seen) (after : List ℕ) →
-    escaping e level seen after ≡ escaping e level seen [] ++ after
+    (e : Exp) (within : List ℕ) (seen : Seen) (after : List Use) →
+    uses e within seen after ≡ uses e within seen [] ++ after

@@ -1,4 +1,6 @@
+pub mod Uses
 pub mod Escaping
+pub mod Links
 pub mod Declarations
 pub mod Searches
 pub mod Laws

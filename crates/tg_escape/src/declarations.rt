@@ -1,15 +1,16 @@
 ghost use Rattle.std.specs.Prelude.{◌≡◌};
-ghost use Rattle.tg_escape.specs.Escaping.{a_variable, a_function};
+ghost use Rattle.tg_escape.specs.Uses.{a_variable, a_function};
+ghost use Rattle.tg_escape.specs.Links.{level_of};
 ghost use Rattle.tg_escape.specs.Declarations.{variable_outside};
 
 use std::marker::Model;
 
-/// What a name is declared to be: a variable, with the byte of its declaring identifier and the level of its declaring
-/// function, or a function.
+/// What a name is declared to be: a variable, with the byte of its declaring identifier, or a
+/// function; each with the level of the text that declares it.
 #[derive(Drop)]
 pub(crate) enum Meaning {
     Variable(u32, usize),
-    Function,
+    Function(usize),
 }
 
 /// A name's declaration, which contracts see as the definition's.
@@ -19,7 +20,7 @@ pub(crate) struct Declaration {
 }
 
 impl Model for Declaration {
-    ghost use Rattle.tg_escape.specs.Escaping.{Declared};
+    ghost use Rattle.tg_escape.specs.Uses.{Declared};
 
     ghost Value = { Declared };
 
@@ -37,11 +38,20 @@ impl Declaration {
         }
     }
 
-    pub(crate) fn function() -> Declaration
-        ensures { result ≡ a_function }
+    pub(crate) fn function(level: usize) -> Declaration
+        ensures { result ≡ a_function level }
     {
         Declaration {
-            meaning: Meaning::Function,
+            meaning: Meaning::Function(level),
+        }
+    }
+
+    /// The level of the text that declares the name.
+    pub(crate) fn level(&self) -> usize
+        ensures { result ≡ level_of self.now }
+    {
+        match self.meaning {
+            Meaning::Variable(_, own) | Meaning::Function(own) => own,
         }
     }
 

@@ -1,75 +1,83 @@
-ghost use Rattle.std.specs.Prelude.{◌≡◌, ◌≤◌, ◌<◌, ◌+◌, ◌∷◌, length, OnOk, IfOk, List, ℕ};
-ghost use Rattle.std.specs.FinSet as set;
-ghost use Rattle.tg_syntax.specs.Plain.{plain, plain_place, plain_exps, plain_inits, plain_dec, plain_functions};
-ghost use Rattle.tg_syntax.specs.declared.trees.FunDecs.{out-FunDecs};
+ghost use Rattle.std.specs.Prelude.{◌≡◌, length, OnOk, IfOk};
+ghost use Rattle.std.specs.FinSet.{from_list};
+ghost use Rattle.tg_syntax.specs.Plain.{plain, plain_place, plain_exps, plain_inits, plain_dec};
+ghost use Rattle.tg_syntax.specs.Plain.{plain_functions};
 ghost use Rattle.tg_syntax.specs.Lists.{decs_of};
 ghost use Rattle.tg_syntax.specs.Tree.{no_decs};
 ghost use Rattle.tg_symbols.specs.Tables.{named};
-ghost use Rattle.tg_escape.specs.Escaping as escaping;
-ghost use Rattle.tg_escape.specs.Searches.{Finds};
+ghost use Rattle.tg_escape.specs.Uses as uses;
+ghost use Rattle.tg_escape.specs.Escaping.{escapes_of};
+ghost use Rattle.tg_escape.specs.Links.{links_of};
+ghost use Rattle.tg_escape.specs.Searches.{FindsUses, FindsDeclared, Declares};
 
 use crate::declarations::Declaration;
-use crate::sets::Escapes;
+use crate::found::Found;
 use std::alloc::Global;
 use tg_base::Memory;
 use tg_symbols::Table;
 use tg_syntax::{Dec, Decs, Exp, Exps, FunDec, FunDecs, Ident, Inits, Kind, Param, Var};
 
-/// What is declared at a place of the text, and the escaping variables that were found before it.
+/// What is declared at a place of the text, the functions that the place lies in, the outermost
+/// first, each by its byte, and what the uses before it show.
 #[derive(Drop)]
 pub(crate) struct Search {
     pub(crate) table: Table<Declaration>,
-    pub(crate) escapes: Escapes,
+    pub(crate) within: Vec<u32>,
+    pub(crate) found: Found,
 }
 
-/// The escaping variables of a program's body.
-pub(crate) fn escapes_in(alloc: Global, body: &Exp) -> Result<Escapes, Memory>
-    ensures { IfOk result (λ e. e ≡ set.from_list (escaping.escapes_of (plain body.now))) }
+/// What the uses in a program's body show.
+pub(crate) fn search_body(alloc: Global, body: &Exp) -> Result<Found, Memory>
+    ensures escapes { IfOk result (λ f. f.escapes ≡ from_list (escapes_of (plain body.now))) }
+    ensures links { IfOk result (λ f. f.links ≡ from_list (links_of (plain body.now))) }
 {
     let mut search = Search {
         table: Table::new(alloc),
-        escapes: Escapes::new(alloc),
+        within: Vec::new(alloc),
+        found: Found::nothing(alloc),
     };
-    in_exp(&mut search, body, 0)?;
-    Ok(search.escapes)
+    in_exp(&mut search, body)?;
+    Ok(search.found)
 }
 
-// What a text of a function of a level uses. The name of each function that is open is declared, so that the level is at
-// most the number of names.
-#[cycle(escaping)]
-fn in_exp(search: &mut Search, e: &Exp, level: usize) -> Result<(), Memory>
-    requires { level ≤ length search.old.table }
-    ensures { OnOk result (Finds search.old search.new search.old.table (escaping.escaping (plain e.now) level search.old.table)) }
+// The uses in a text.
+#[cycle(uses)]
+fn in_exp(search: &mut Search, e: &Exp) -> Result<(), Memory>
+    ensures { OnOk result (FindsUses search.old search.new (uses.uses (plain e.now))) }
 {
     match &e.kind {
         Kind::Nil | Kind::Break | Kind::Int(_) | Kind::Text(_) => Ok(()),
-        Kind::Read(place) => in_place(search, place, level),
-        Kind::Call(_, items) | Kind::Seq(items) => in_exps(search, items, level),
-        Kind::Neg(a) => in_exp(search, a, level),
+        Kind::Read(place) => in_place(search, place),
+        Kind::Call(function, args) => {
+            use_of(search, *function)?;
+            in_exps(search, args)
+        }
+        Kind::Seq(items) => in_exps(search, items),
+        Kind::Neg(a) => in_exp(search, a),
         Kind::Binary(_, _, a, b) | Kind::Fill(_, a, b) | Kind::If(a, b, None) | Kind::While(a, b) =>
             {
-                in_exp(search, a, level)?;
-                in_exp(search, b, level)
+                in_exp(search, a)?;
+                in_exp(search, b)
             }
-        Kind::Make(_, inits) => in_inits(search, inits, level),
+        Kind::Make(_, inits) => in_inits(search, inits),
         Kind::Assign(place, a) => {
-            in_place(search, place, level)?;
-            in_exp(search, a, level)
+            in_place(search, place)?;
+            in_exp(search, a)
         }
         Kind::If(c, a, Some(b)) => {
-            in_exp(search, c, level)?;
-            in_exp(search, a, level)?;
-            in_exp(search, b, level)
+            in_exp(search, c)?;
+            in_exp(search, a)?;
+            in_exp(search, b)
         }
         Kind::For(x, low, high, a) => {
-            in_exp(search, low, level)?;
-            in_exp(search, high, level)?;
-            in_turn(search, *x, a, level)
+            in_exp(search, low)?;
+            in_exp(search, high)?;
+            in_turn(search, *x, a)
         }
         Kind::Let(decs, body) => {
             let open = search.table.len();
-            in_decs(search, decs, level)?;
-            in_exps(search, body, level)?;
+            in_decs(search, decs)?;
+            in_exps(search, body)?;
             search.table.cut_to(open);
             Ok(())
         }
@@ -77,153 +85,142 @@ fn in_exp(search: &mut Search, e: &Exp, level: usize) -> Result<(), Memory>
 }
 
 // A loop's body, which sees the loop's variable.
-#[cycle(escaping)]
-fn in_turn(search: &mut Search, x: Ident, body: &Exp, level: usize) -> Result<(), Memory>
-    requires { level ≤ length search.old.table }
-    ensures { OnOk result (Finds search.old search.new search.old.table
-        (escaping.escaping (plain body.now) level (escaping.declare_variable level x search.old.table))) }
+#[cycle(uses)]
+fn in_turn(search: &mut Search, x: Ident, body: &Exp) -> Result<(), Memory>
+    ensures { OnOk result (FindsUses search.old search.new
+        (λ within seen. uses.uses (plain body.now) within (uses.declare_variable (length within) x seen))) }
 {
     let open = search.table.len();
-    declare_variable(search, x, level)?;
-    in_exp(search, body, level)?;
+    declare_variable(search, x)?;
+    in_exp(search, body)?;
     search.table.cut_to(open);
     Ok(())
 }
 
-#[cycle(escaping)]
-fn in_place(search: &mut Search, place: &Var, level: usize) -> Result<(), Memory>
-    requires { level ≤ length search.old.table }
-    ensures { OnOk result (Finds search.old search.new search.old.table (escaping.escaping_place (plain_place place.now) level search.old.table)) }
+#[cycle(uses)]
+fn in_place(search: &mut Search, place: &Var) -> Result<(), Memory>
+    ensures { OnOk result (FindsUses search.old search.new (uses.place_uses (plain_place place.now))) }
 {
     match place {
-        Var::Simple(x) => use_of(search, *x, level),
-        Var::Field(of, _) => in_place(search, of, level),
+        Var::Simple(x) => use_of(search, *x),
+        Var::Field(of, _) => in_place(search, of),
         Var::Index(of, index) => {
-            in_place(search, of, level)?;
-            in_exp(search, index, level)
+            in_place(search, of)?;
+            in_exp(search, index)
         }
     }
 }
 
-#[cycle(escaping)]
-fn in_exps(search: &mut Search, exps: &Exps, level: usize) -> Result<(), Memory>
-    requires { level ≤ length search.old.table }
-    ensures { OnOk result (Finds search.old search.new search.old.table (escaping.escaping_exps (plain_exps exps.now) level search.old.table)) }
+#[cycle(uses)]
+fn in_exps(search: &mut Search, exps: &Exps) -> Result<(), Memory>
+    ensures { OnOk result (FindsUses search.old search.new (uses.exps_uses (plain_exps exps.now))) }
 {
     for e in &exps.items {
-        in_exp(search, e, level)?;
+        in_exp(search, e)?;
     }
     Ok(())
 }
 
-#[cycle(escaping)]
-fn in_inits(search: &mut Search, inits: &Inits, level: usize) -> Result<(), Memory>
-    requires { level ≤ length search.old.table }
-    ensures { OnOk result (Finds search.old search.new search.old.table (escaping.escaping_inits (plain_inits inits.now) level search.old.table)) }
+#[cycle(uses)]
+fn in_inits(search: &mut Search, inits: &Inits) -> Result<(), Memory>
+    ensures { OnOk result (FindsUses search.old search.new (uses.inits_uses (plain_inits inits.now))) }
 {
     for init in &inits.items {
-        in_exp(search, &init.value, level)?;
+        in_exp(search, &init.value)?;
     }
     Ok(())
 }
 
 // Declarations, which stay declared.
-#[cycle(escaping)]
-fn in_decs(search: &mut Search, decs: &Decs, level: usize) -> Result<(), Memory>
-    requires { level ≤ length search.old.table }
-    ensures { OnOk result (Finds search.old search.new (escaping.declare_all level (decs_of decs.now.items.items) search.old.table)
-        (escaping.escaping_decs (decs_of decs.now.items.items) level search.old.table)) }
+#[cycle(uses)]
+fn in_decs(search: &mut Search, decs: &Decs) -> Result<(), Memory>
+    ensures { OnOk result (FindsDeclared search.old search.new (decs_of decs.now.items.items)) }
 {
     for dec in &decs.items {
-        in_dec(search, dec, level)?;
+        in_dec(search, dec)?;
     }
     Ok(())
 }
 
-#[cycle(escaping)]
-fn in_dec(search: &mut Search, dec: &Dec, level: usize) -> Result<(), Memory>
-    requires { level ≤ length search.old.table }
-    ensures { OnOk result (Finds search.old search.new (escaping.declare_all level (plain_dec dec.now no_decs) search.old.table)
-        (escaping.escaping_decs (plain_dec dec.now no_decs) level search.old.table)) }
+#[cycle(uses)]
+fn in_dec(search: &mut Search, dec: &Dec) -> Result<(), Memory>
+    ensures { OnOk result (FindsDeclared search.old search.new (plain_dec dec.now no_decs)) }
 {
     match dec {
         Dec::Types(_) => Ok(()),
         Dec::Variable(x, _, value) => {
-            in_exp(search, value, level)?;
-            declare_variable(search, *x, level)
+            in_exp(search, value)?;
+            declare_variable(search, *x)
         }
         Dec::Functions(group) => {
             declare_functions(search, group)?;
-            in_functions(search, group, level)
+            in_functions(search, group)
         }
     }
 }
 
 // The bodies of functions that are declared.
-#[cycle(escaping)]
-fn in_functions(search: &mut Search, group: &FunDecs, level: usize) -> Result<(), Memory>
-    requires { level + length (out-FunDecs group.now).items.items ≤ length search.old.table }
-    ensures { OnOk result (Finds search.old search.new search.old.table (escaping.escaping_functions (plain_functions group.now) level search.old.table)) }
+#[cycle(uses)]
+fn in_functions(search: &mut Search, group: &FunDecs) -> Result<(), Memory>
+    ensures { OnOk result (FindsUses search.old search.new (uses.functions_uses (plain_functions group.now))) }
 {
     for function in &group.items {
-        in_function(search, function, level)?;
+        in_function(search, function)?;
     }
     Ok(())
 }
 
-// A function's body, which is of the next level.
-#[cycle(escaping)]
-fn in_function(search: &mut Search, function: &FunDec, level: usize) -> Result<(), Memory>
-    requires { level < length search.old.table }
-    ensures { OnOk result (Finds search.old search.new search.old.table (escaping.escaping (plain function.now.body) (level + 1)
-        (escaping.declare_params (level + 1) function.now.params search.old.table))) }
+// A function's body, which lies in the function too.
+#[cycle(uses)]
+fn in_function(search: &mut Search, function: &FunDec) -> Result<(), Memory>
+    ensures { OnOk result (FindsUses search.old search.new
+        (uses.function_uses function.now.name function.now.params (plain function.now.body))) }
 {
     let open = search.table.len();
-    let inner = level + 1;
-    declare_params(search, function.params.as_slice(), inner)?;
-    in_exp(search, &function.body, inner)?;
+    search.within.push(function.name.span.from)?;
+    declare_params(search, function.params.as_slice())?;
+    in_exp(search, &function.body)?;
     search.table.cut_to(open);
+    search.within.pop();
     Ok(())
 }
 
 // A use of a name.
-fn use_of(search: &mut Search, x: Ident, level: usize) -> Result<(), Memory>
-    ensures { OnOk result (Finds search.old search.new search.old.table (escaping.used level (named x.name.0 search.old.table))) }
+fn use_of(search: &mut Search, x: Ident) -> Result<(), Memory>
+    ensures { OnOk result (FindsUses search.old search.new (λ within seen. uses.used within (named x.name.0 seen))) }
 {
     let Some(declaration) = search.table.get(x.name.0) else {
         return Ok(());
     };
-    match declaration.outside(level) {
-        Some(at) => search.escapes.add(at),
-        None => Ok(()),
-    }
+    search.found.add(declaration, search.within.as_slice())
 }
 
-fn declare_variable(search: &mut Search, x: Ident, level: usize) -> Result<(), Memory>
-    ensures { OnOk result (Finds search.old search.new (escaping.declare_variable level x search.old.table) (λ after. after)) }
+fn declare_variable(search: &mut Search, x: Ident) -> Result<(), Memory>
+    ensures { OnOk result (Declares search.old search.new (λ level. uses.declare_variable level x)) }
 {
-    let variable = Declaration::variable(x.span.from, level);
+    let variable = Declaration::variable(x.span.from, search.within.len());
     search.table.push(x.name.0, variable)
 }
 
-fn declare_params(search: &mut Search, params: &[Param], level: usize) -> Result<(), Memory>
-    ensures { OnOk result (Finds search.old search.new (escaping.declare_params level params.now search.old.table) (λ after. after)) }
+fn declare_params(search: &mut Search, params: &[Param]) -> Result<(), Memory>
+    ensures { OnOk result (Declares search.old search.new (λ level. uses.declare_params level params.now)) }
 {
     for param in params {
-        declare_variable(search, param.name, level)?;
+        declare_variable(search, param.name)?;
     }
     Ok(())
 }
 
 // Functions that may call each other.
 fn declare_functions(search: &mut Search, group: &FunDecs) -> Result<(), Memory>
-    ensures count { OnOk result (length search.new.table ≡ length search.old.table + length (out-FunDecs group.now).items.items) }
-    ensures declared { OnOk result (Finds search.old search.new (escaping.declare_functions (plain_functions group.now) search.old.table) (λ after. after)) }
+    ensures { OnOk result (Declares search.old search.new
+        (λ level. uses.declare_functions level (plain_functions group.now))) }
 {
+    let level = search.within.len();
     for function in &group.items {
         search
             .table
-            .push(function.name.name.0, Declaration::function())?;
+            .push(function.name.name.0, Declaration::function(level))?;
     }
     Ok(())
 }

@@ -1,7 +1,7 @@
 use crate::reading::read;
 use std::alloc::Global;
 use std::test::Fail;
-use tg_escape::escapes;
+use tg_escape::{escapes, links};
 use tg_types::check;
 
 // A text, and the bytes at which the variables are declared that escape.
@@ -53,6 +53,63 @@ fn escaping_bytes(alloc: Global, text: &str) -> Result<Vec<u32>, Fail> {
 fn variables_that_escape(rt: HostRuntime) -> Result<(), Fail> {
     for (text, want) in ESCAPING {
         let bytes = escaping_bytes(rt.alloc(), text)?;
+        assert_eq!(rt; bytes.as_slice(), want, "{text}");
+    }
+    Ok(())
+}
+
+// A text, and the bytes at which the functions are declared through whose static links functions
+// nested in them go.
+static LINKING: [(&str, &[u32]); 8] = [
+    ("exit(3)", &[]),
+    (
+        "let var x:=1 function f()=let function g()=x:=2 in g() end in f() end",
+        &[22],
+    ),
+    (
+        "let function f(n:int):int=let function g():int=n in g() end in exit(f(1)) end",
+        &[],
+    ),
+    (
+        "let function f()=let function g()=f() in g() end in f() end",
+        &[13],
+    ),
+    (
+        "let function f()=let function g()=g() in g() end in f() end",
+        &[],
+    ),
+    (
+        "let var x:=1 function f()=let function g()=let function h()=x:=2 in h() end in g() end in f() end",
+        &[22, 39],
+    ),
+    (
+        "let function f(n:int)=let function g()=let function h()=exit(n) in h() end in g() end in f(1) end",
+        &[35],
+    ),
+    (
+        "let function f()=let function g()=print(\"\") in g() end in f() end",
+        &[],
+    ),
+];
+
+// The bytes of a text at which the functions are declared whose links nested ones go through.
+fn linking_bytes(alloc: Global, text: &str) -> Result<Vec<u32>, Fail> {
+    let source = read(alloc, text)?;
+    let checked = check(alloc, &source.program, &source.names)?;
+    let found = links(alloc, &checked)?;
+    let mut bytes = Vec::new(alloc);
+    for at in 0..200u32 {
+        if found.has(at) {
+            bytes.push(at)?;
+        }
+    }
+    Ok(bytes)
+}
+
+#[test]
+fn functions_whose_links_nested_ones_go_through(rt: HostRuntime) -> Result<(), Fail> {
+    for (text, want) in LINKING {
+        let bytes = linking_bytes(rt.alloc(), text)?;
         assert_eq!(rt; bytes.as_slice(), want, "{text}");
     }
     Ok(())

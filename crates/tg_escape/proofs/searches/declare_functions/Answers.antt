@@ -1,4 +1,5 @@
-use Rattle.std.proofs.Common.{arith, ◌∙◌, ◌∷◌, ap, refl, length}
+use Rattle.std.proofs.Common.{arith, ◌∙◌, ◌∷◌, ap, refl}
+use Rattle.tg_escape.specs.Uses.{a_function}
 use Rattle.tg_escape.proofs.SearchSteps.{names_begin, one_function, functions_end}
 use Rattle.tg_escape.proofs.searches.declare_functions.Goals as goal
 
@@ -8,20 +9,9 @@ loop-function-init c = names_begin
 pub loop-function-preserved : goal.loop-function-preserved
 loop-function-preserved c =
     one_function c.function-item.result c.loop-function.invariant c.loop-function-test.true c.function-item.is
-    (c.in_ok-push.ensures.ok ∙ ap (λ d. (c.function-item.result.name.name.0, d) ∷ c.loop-function.search.table) c.function.ensures) refl
+    (c.in_ok-push.ensures.ok ∙ ap (λ d. (c.function-item.result.name.name.0, d) ∷ c.loop-function.search.table) (c.function.ensures ∙ ap a_function (omega (arith, c.len-level.ensures, c.args.search.now.within.ok)))) refl refl
 
-pub returns-clause-count : goal.returns-clause-count
-returns-clause-count c =
-    omega (
-      arith,
-      c.loop-function.invariant.count,
-      c.loop-function.auto.function-index-end,
-      c.loop-function-test.false,
-      ap length
-          c.deref-function-items.ensures.value,
-    )
-
-pub returns-clause-declared : goal.returns-clause-declared
-returns-clause-declared c =
+pub returns : goal.returns
+returns c =
     functions_end c.args.group.now c.deref-function-items.ensures.value c.loop-function.invariant
     (omega (arith, c.loop-function.auto.function-index-end, c.loop-function-test.false))
