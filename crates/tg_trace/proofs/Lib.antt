@@ -6,3 +6,5 @@ pub mod Places
 pub mod Marks
 pub mod Flats
 pub mod Wholes
+pub mod Costs
+pub mod Measures

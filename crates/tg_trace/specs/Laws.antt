@@ -1,7 +1,9 @@
 -- What the passes promise of their answers' shapes.
-use Rattle.std.specs.Prelude.{List}
+use Rattle.std.specs.Prelude.{ℕ, ◌+◌, ◌≤◌, List}
 use Rattle.tg_tree.specs.Tree.{Stms}
 use Rattle.tg_tree.specs.Shapes.{AreCanonical, AreClosed, IsFlatCode, IsWellMarked}
+use Rattle.tg_tree.specs.Units.{Canonical}
+use Rattle.tg_tree.specs.Sizes.{in_canonical, statements_length, code_length, statements_room, code_room}
 use Rattle.tg_trace.specs.Block.{Block}
 use Rattle.tg_trace.specs.Cutting.{blocks_of}
 use Rattle.tg_trace.specs.Laying.{traced}
@@ -22,3 +24,17 @@ CodeIsFlat = (bs : List Block) → AreFlatBlocks bs → IsFlatCode (traced bs)
 
 abbrev pub CodeIsWellMarked : Type 0
 CodeIsWellMarked = (bs : List Block) → AreWhole bs → IsWellMarked (traced bs)
+
+-- Cut and laid, they are at most so much longer, and ask for no more room.
+abbrev pub added_length : ℕ
+added_length = 2
+
+abbrev pub LengthStays : Type 0
+LengthStays =
+    (ss : Stms) →
+    code_length (traced (blocks_of ss)) ≤ statements_length Canonical ss + added_length
+
+abbrev pub RoomStays : Type 0
+RoomStays =
+    (ss : Stms) →
+    code_room in_canonical (traced (blocks_of ss)) ≤ statements_room in_canonical ss

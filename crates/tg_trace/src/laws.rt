@@ -3,6 +3,8 @@ ghost use Rattle.tg_trace.specs.Laws.{
   BlocksAreWhole,
   CodeIsFlat,
   CodeIsWellMarked,
+  LengthStays,
+  RoomStays,
 };
 
 /// Laws of the blocks into which statements are cut: those of canonical statements are flat, and
@@ -18,4 +20,11 @@ pub fn blocks_are_well_formed()
 pub fn code_is_well_formed()
     ensures flat { CodeIsFlat }
     ensures marks { CodeIsWellMarked }
+{}
+
+/// Laws of both together: the code is at most two units longer than the statements, and has no more
+/// room than they have.
+pub fn sizes_stay()
+    ensures length { LengthStays }
+    ensures room { RoomStays }
 {}
