@@ -8,3 +8,4 @@ pub mod Flats
 pub mod Wholes
 pub mod Costs
 pub mod Measures
+pub mod Names

@@ -4,6 +4,7 @@ ghost use Rattle.tg_trace.specs.Laws.{
   CodeIsFlat,
   CodeIsWellMarked,
   LengthStays,
+  NamesStay,
   RoomStays,
 };
 
@@ -27,4 +28,10 @@ pub fn code_is_well_formed()
 pub fn sizes_stay()
     ensures length { LengthStays }
     ensures room { RoomStays }
+{}
+
+/// The law that the code names nothing that the statements don't name, but for a fault 0. So no
+/// temporary is brought in.
+pub fn names_stay()
+    ensures { NamesStay }
 {}
