@@ -1,0 +1,252 @@
+ghost use Rattle.std.specs.Prelude.{◌≡◌, IfOk};
+ghost use Rattle.tg_tree.specs.Plain.{plain_tx, plain_cond, plain_ts};
+ghost use Rattle.tg_tree.specs.Lists.{txs_of, stms_of};
+ghost use Rattle.tg_canon.specs.Canon as canon;
+ghost use Rattle.tg_canon.specs.Breaking.{leads};
+ghost use Rattle.tg_canon.specs.Drawing.{Gives};
+ghost use Rattle.tg_canon.specs.Views.{
+  plain_part,
+  plain_parts,
+  plain_lifted,
+  plain_two,
+  plain_arguments,
+  plain_tested,
+};
+
+use crate::breaks::{Breaks, more_loops, target};
+use crate::lifted::{
+    Arguments, Lifted, Two, argument, behind, call_of, load_byte_from, load_from, no_arguments,
+    operate, serve, side_by_side, whole, word,
+};
+use crate::parts::{Part, Parts};
+use crate::statements::{drop_value, move_to, return_of, store, store_byte};
+use crate::supply::Supply;
+use crate::tested::{Tested, choose_by_parts, compare_both, is_whole};
+use tg_base::Memory;
+use tg_tree::{Cond, Stms, Ts, Tx, Txs};
+
+// What is lifted out of an expression, and what is left of it.
+#[cycle(canon)]
+fn lift(x: Tx, supply: &mut Supply, breaks: &Breaks) -> Result<Lifted, Memory>
+    ensures { IfOk result (λ a. Gives (canon.lift (leads breaks.now) (plain_tx x))
+        supply.old.next (plain_lifted a) supply.new.next) }
+{
+    match x {
+        Tx::Const(n) => Ok(whole(supply.alloc, Tx::Const(n))),
+        Tx::Address(label) => Ok(whole(supply.alloc, Tx::Address(label))),
+        Tx::Temp(temp) => Ok(whole(supply.alloc, Tx::Temp(temp))),
+        Tx::FrameAddress => Ok(whole(supply.alloc, Tx::FrameAddress)),
+        Tx::Binary(op, x, y) => {
+            let both = lift_both(Box::into_inner(x), Box::into_inner(y), supply, breaks)?;
+            Ok(operate(supply.alloc, op, both)?)
+        }
+        Tx::Load(x) => {
+            let a = lift_word(Box::into_inner(x), supply, breaks)?;
+            Ok(load_from(supply.alloc, a)?)
+        }
+        Tx::LoadByte(x) => {
+            let a = lift_word(Box::into_inner(x), supply, breaks)?;
+            Ok(load_byte_from(supply.alloc, a)?)
+        }
+        Tx::Call(label, xs) => Ok(call_of(label, lift_all(xs, supply, breaks)?)),
+        Tx::Service(number, x) => {
+            let a = lift_word(Box::into_inner(x), supply, breaks)?;
+            Ok(serve(supply.alloc, number, a)?)
+        }
+        Tx::After(s, x) => {
+            let a = lift(Box::into_inner(x), supply, breaks)?;
+            let p = linear(Box::into_inner(s), supply, breaks)?;
+            Ok(behind(supply.alloc, p, a)?)
+        }
+    }
+}
+
+// The same, as a word.
+#[cycle(canon)]
+fn lift_word(x: Tx, supply: &mut Supply, breaks: &Breaks) -> Result<Lifted, Memory>
+    ensures { IfOk result (λ a. Gives (canon.word (canon.lift (leads breaks.now) (plain_tx x)))
+        supply.old.next (plain_lifted a) supply.new.next) }
+{
+    let a = lift(x, supply, breaks)?;
+    Ok(word(supply, a)?)
+}
+
+// Two expressions, the right one before the left one.
+#[cycle(canon)]
+fn lift_both(x: Tx, y: Tx, supply: &mut Supply, breaks: &Breaks) -> Result<Two, Memory>
+    ensures { IfOk result (λ both. Gives
+        (canon.operands (leads breaks.now) (plain_tx x) (plain_tx y))
+        supply.old.next (plain_two both) supply.new.next) }
+{
+    let b = lift_word(y, supply, breaks)?;
+    let a = lift_word(x, supply, breaks)?;
+    Ok(side_by_side(supply, a, b)?)
+}
+
+// A call's arguments, from the last to the first.
+#[cycle(canon)]
+fn lift_all(mut xs: Txs, supply: &mut Supply, breaks: &Breaks) -> Result<Arguments, Memory>
+    ensures { IfOk result (λ all. Gives (canon.lift_all (leads breaks.now) (txs_of xs.items.items))
+        supply.old.next (plain_arguments all) supply.new.next) }
+{
+    let mut all = no_arguments(supply.alloc);
+    while let Some(x) = xs.items.pop() {
+        let a = lift_word(x, supply, breaks)?;
+        all = argument(supply, a, all)?;
+    }
+    Ok(all)
+}
+
+// A condition that stays whole.
+#[cycle(canon)]
+fn condition(test: Cond, supply: &mut Supply, breaks: &Breaks) -> Result<Tested, Memory>
+    ensures { IfOk result (λ t. Gives (canon.condition (leads breaks.now) (plain_cond test))
+        supply.old.next (plain_tested t) supply.new.next) }
+{
+    match test {
+        Cond::Compare(rel, x, y) => {
+            let both = lift_both(Box::into_inner(x), Box::into_inner(y), supply, breaks)?;
+            Ok(compare_both(supply.alloc, rel, both)?)
+        }
+        Cond::Not(c) => {
+            let t = condition(Box::into_inner(c), supply, breaks)?;
+            Ok(t.opposite(supply.alloc)?)
+        }
+        Cond::Both(c, d) => {
+            let u = condition(Box::into_inner(d), supply, breaks)?;
+            let t = condition(Box::into_inner(c), supply, breaks)?;
+            Ok(t.and(supply.alloc, u)?)
+        }
+        Cond::Either(c, d) => {
+            let u = condition(Box::into_inner(d), supply, breaks)?;
+            let t = condition(Box::into_inner(c), supply, breaks)?;
+            Ok(t.or(supply.alloc, u)?)
+        }
+    }
+}
+
+// Leaves so many loops and one more where a condition comes out so, tested part by part.
+#[cycle(canon)]
+fn leave(
+    test: Cond,
+    supply: &mut Supply,
+    breaks: &Breaks,
+    when: bool,
+    loops: u32,
+) -> Result<Part, Memory>
+    ensures { IfOk result (λ p. Gives (canon.leave (leads breaks.now) when loops (plain_cond test))
+        supply.old.next (plain_part p) supply.new.next) }
+{
+    match test {
+        Cond::Compare(rel, x, y) => {
+            let both = lift_both(Box::into_inner(x), Box::into_inner(y), supply, breaks)?;
+            let t = compare_both(supply.alloc, rel, both)?;
+            Ok(t.exit_where(supply.alloc, when, loops)?)
+        }
+        Cond::Not(c) => Ok(leave(Box::into_inner(c), supply, breaks, !when, loops)?),
+        Cond::Both(c, d) => {
+            if when {
+                let inner = Breaks::Deeper(1, breaks);
+                let further = more_loops(loops, 1)?;
+                let q = leave(Box::into_inner(d), supply, &inner, true, further)?;
+                let p = leave(Box::into_inner(c), supply, &inner, false, 0)?;
+                Ok(p.before(supply.alloc, q)?.block(supply.alloc)?)
+            } else {
+                let q = leave(Box::into_inner(d), supply, breaks, false, loops)?;
+                let p = leave(Box::into_inner(c), supply, breaks, false, loops)?;
+                Ok(p.before(supply.alloc, q)?)
+            }
+        }
+        Cond::Either(c, d) => {
+            if when {
+                let q = leave(Box::into_inner(d), supply, breaks, true, loops)?;
+                let p = leave(Box::into_inner(c), supply, breaks, true, loops)?;
+                Ok(p.before(supply.alloc, q)?)
+            } else {
+                let inner = Breaks::Deeper(1, breaks);
+                let further = more_loops(loops, 1)?;
+                let q = leave(Box::into_inner(d), supply, &inner, false, further)?;
+                let p = leave(Box::into_inner(c), supply, &inner, true, 0)?;
+                Ok(p.before(supply.alloc, q)?.block(supply.alloc)?)
+            }
+        }
+    }
+}
+
+// A statement in canonical form.
+#[cycle(canon)]
+fn linear(s: Ts, supply: &mut Supply, breaks: &Breaks) -> Result<Part, Memory>
+    ensures { IfOk result (λ p. Gives (canon.linear (leads breaks.now) (plain_ts s))
+        supply.old.next (plain_part p) supply.new.next) }
+{
+    match s {
+        Ts::Move(temp, x) => {
+            let a = lift(x, supply, breaks)?;
+            Ok(move_to(supply.alloc, temp, a)?)
+        }
+        Ts::Store(x, y) => {
+            let both = lift_both(x, y, supply, breaks)?;
+            Ok(store(supply.alloc, both)?)
+        }
+        Ts::StoreByte(x, y) => {
+            let both = lift_both(x, y, supply, breaks)?;
+            Ok(store_byte(supply.alloc, both)?)
+        }
+        Ts::Do(x) => {
+            let a = lift(x, supply, breaks)?;
+            Ok(drop_value(supply.alloc, a)?)
+        }
+        Ts::If(test, this, other) => {
+            let this = Box::into_inner(this);
+            let other = Box::into_inner(other);
+            if is_whole(&test) {
+                let q = linear(other, supply, breaks)?;
+                let p = linear(this, supply, breaks)?;
+                let t = condition(test, supply, breaks)?;
+                Ok(t.choose(supply.alloc, p, q)?)
+            } else {
+                let once = Breaks::Deeper(1, breaks);
+                let twice = Breaks::Deeper(2, breaks);
+                let q = linear(other, supply, &once)?;
+                let p = linear(this, supply, &twice)?;
+                let t = leave(test, supply, &twice, false, 0)?;
+                Ok(choose_by_parts(supply.alloc, t, p, q)?)
+            }
+        }
+        Ts::Loop(s) => {
+            let inner = Breaks::Inside(breaks);
+            let p = linear(Box::into_inner(s), supply, &inner)?;
+            Ok(p.repeated(supply.alloc)?)
+        }
+        Ts::Break(loops) => Ok(Part::still(Ts::Break(target(breaks, loops)?))),
+        Ts::Fault(number) => Ok(Part::still(Ts::Fault(number))),
+        Ts::Seq(ss) => Ok(linear_all(ss, supply, breaks)?.in_turn()),
+        Ts::Return(x) => {
+            let a = lift_word(x, supply, breaks)?;
+            Ok(return_of(supply.alloc, a)?)
+        }
+    }
+}
+
+// Statements, from the last to the first.
+#[cycle(canon)]
+fn linear_all(mut ss: Stms, supply: &mut Supply, breaks: &Breaks) -> Result<Parts, Memory>
+    ensures { IfOk result (λ all. Gives (canon.linear_all (leads breaks.now) (stms_of ss.items.items))
+        supply.old.next (plain_parts all) supply.new.next) }
+{
+    let mut all = Parts::new(supply.alloc);
+    while let Some(s) = ss.items.pop() {
+        let p = linear(s, supply, breaks)?;
+        all.put_in_front(p)?;
+    }
+    Ok(all)
+}
+
+/// A body in canonical form: the statement that the pass makes of it.
+pub(crate) fn linear_body(body: Ts, supply: &mut Supply) -> Result<Part, Memory>
+    ensures { IfOk result (λ p. Gives (canon.linear (λ k. k) (plain_ts body))
+        supply.old.next (plain_part p) supply.new.next) }
+{
+    let breaks = Breaks::Body;
+    Ok(linear(body, supply, &breaks)?)
+}
