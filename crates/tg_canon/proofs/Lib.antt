@@ -2,3 +2,8 @@ mod CanonExamples
 pub mod Always
 pub mod Canonicals
 pub mod Closings
+pub mod Steps
+pub mod Arms
+pub mod Walks
+pub mod Growing
+pub mod Nothings

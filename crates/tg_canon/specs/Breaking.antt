@@ -5,5 +5,5 @@ use Rattle.tg_canon.specs.Canon.{inside, deeper}
 
 abbrev pub leads : Breaks → ℕ → ℕ
 leads Body = λ k. k
-leads (Inside' outer) = inside (leads outer)
-leads (Deeper' n outer) = deeper n (leads outer)
+leads (Inside' _ outer) = inside (leads outer)
+leads (Deeper' n _ outer) = deeper n (leads outer)

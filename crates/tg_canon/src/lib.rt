@@ -3,17 +3,15 @@
 //! `specs/Canon.antt`.
 #![tactic(auto)]
 
+mod bodies;
 mod breaks;
 mod laws;
 mod lifted;
-mod linearize;
 mod parts;
 mod pass;
 mod statements;
 mod supply;
 mod tested;
-#[cfg(test)]
-mod tests;
 
+pub use bodies::linearize;
 pub use laws::canonical_statements;
-pub use linearize::linearize;

@@ -2,7 +2,7 @@ ghost use Rattle.std.specs.Prelude.{◌≡◌, IfOk, Bool};
 ghost use Rattle.tg_tree.specs.Plain.{plain_tx};
 ghost use Rattle.tg_tree.specs.Tree as tree;
 ghost use Rattle.tg_canon.specs.Canon as canon;
-ghost use Rattle.tg_canon.specs.Drawing.{Gives, give, ◌>>=◌};
+ghost use Rattle.tg_canon.specs.Drawing.{Gives};
 ghost use Rattle.tg_canon.specs.Views.{plain_part, plain_lifted, plain_two, plain_arguments};
 
 use crate::parts::{Part, is_nothing, nothing};
