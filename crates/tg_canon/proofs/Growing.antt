@@ -1,9 +1,9 @@
 -- The next number to draw never falls.
-use Rattle.std.proofs.Common.{◌≡◌, ℕ, zero, suc, ◌+◌, ◌≤◌, ◌&&◌, Bool, true, false, not, arith}
+use Rattle.std.proofs.Common.{◌≡◌, ℕ, zero, suc, ◌+◌, ◌≤◌, ◌&&◌, Bool, true, false, not, arith, subst}
 use Rattle.tg_tree.specs.declared.operators.Bin.{Bin}
 use Rattle.tg_tree.specs.declared.operators.Rel.{Rel}
 use Rattle.tg_tree.specs.Tree.{Tx, Const, Address, Temp, FrameAddress, Binary, Load, LoadByte, Call, Service, After, Txs, no_txs, tx, Cond, Compare, Not, Both, Either, Ts, Move, Store, StoreByte, Do, If, Loop, Break, Fault, Seq, Return, Stms, no_stms, stm}
-use Rattle.tg_canon.specs.Drawing.{Draws, give, fresh, ◌>>=◌}
+use Rattle.tg_canon.specs.Drawing.{Draws, Drawn, give, fresh, ◌>>=◌, Gives}
 use Rattle.tg_canon.specs.Canon.{Part, still, assigning, nothing, is_nothing, ◌before◌, loop_of, block, Parts, no_parts, in_front, in_turn, Lifted, Two, Arguments, no_arguments, whole, behind, hold, is_side, hold_side, word, stays, hold_unless, is_constant, is_sum, hold_but_offset, hold_for, hold_before, in_front_of, side_by_side, argument, over, over_two, over_all, with_one, with_two, dropped, is_whole, Tested, compared, opposite, joined, choice, exit_where, wide_choice, deeper, inside, choose, lift, lift_all, condition, leave, linear, linear_all, operands, statements_of, linearized}
 
 pub record Grows {A : Type 0} (m : Draws A) : Type 0 where
@@ -139,5 +139,5 @@ mutual
   linear_all_grows out no_stms = stays_at no_parts
   linear_all_grows out (stm s ss) = in_turn_grow (linear_all out ss) (linear out s) (λ all p. in_front p all) (linear_all_grows out ss) (linear_grows out s)
 
-pub body_grows : (body : Ts) → Grows (linear (λ k. k) body)
-body_grows body = linear_grows (λ k. k) body
+pub body_grows : (body : Ts) {k l : ℕ} {p : Part} → Gives (linear (λ k. k) body) k p l → k ≤ l
+body_grows body {k = k} g = subst (λ (d : Drawn Part). k ≤ d.next) g.is ((linear_grows (λ k. k) body).at k)

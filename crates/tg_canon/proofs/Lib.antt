@@ -7,3 +7,5 @@ pub mod Arms
 pub mod Walks
 pub mod Growing
 pub mod Nothings
+pub mod Others
+pub mod Cases

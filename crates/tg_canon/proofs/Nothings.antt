@@ -1,5 +1,6 @@
 -- A sequence in the code is nothing where it has no statement.
 use Rattle.std.proofs.Common.{◌≡◌, ◌==◌, ℕ, List, [], ◌∷◌, length, vec_len, refl, sym, ap, ◌∙◌}
+use Rattle.std.proofs.Math.Dec.{eqb-suc-zero}
 use Rattle.tg_tree.specs.declared.trees.Ts.{Ts as CodeTs, Seq}
 use Rattle.tg_tree.specs.declared.trees.Stms.{Stms}
 use Rattle.tg_tree.specs.Tree as tree
@@ -10,7 +11,7 @@ use Rattle.tg_canon.specs.Canon.{is_nothing, statements_of}
 
 none_is : (ss : List CodeTs) → is_nothing (tree.Seq (stms_of ss)) ≡ (length ss == 0)
 none_is [] = refl
-none_is (s ∷ ss) = refl
+none_is (s ∷ ss) = sym (eqb-suc-zero (length ss))
 
 pub is_nothing-Seq : (ss : Stms) → is_nothing (plain_ts (Seq ss)) ≡ (vec_len ss.items == 0)
 is_nothing-Seq ss = ap is_nothing (plain_ts-Seq ss) ∙ (none_is ss.items.items ∙ ap (λ n. n == 0) (sym ss.items.ok.0))

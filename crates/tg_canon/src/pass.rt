@@ -10,15 +10,14 @@ ghost use Rattle.tg_canon.specs.Views.{
   plain_part,
   plain_parts,
   plain_lifted,
-  plain_two,
   plain_arguments,
   plain_tested,
 };
 
 use crate::breaks::{Breaks, more_loops, target};
 use crate::lifted::{
-    Arguments, Lifted, Two, argument, behind, call_of, load_byte_from, load_from, no_arguments,
-    operate, serve, side_by_side, whole, word,
+    Arguments, Lifted, argument, behind, call_of, load_byte_from, load_from, no_arguments, operate,
+    serve, side_by_side, whole, word,
 };
 use crate::parts::{Part, Parts};
 use crate::statements::{drop_value, move_to, return_of, store, store_byte};
@@ -39,7 +38,9 @@ fn lift(x: Tx, supply: &mut Supply, breaks: &Breaks) -> Result<Lifted, Memory>
         Tx::Temp(temp) => Ok(whole(supply.alloc, Tx::Temp(temp))),
         Tx::FrameAddress => Ok(whole(supply.alloc, Tx::FrameAddress)),
         Tx::Binary(op, x, y) => {
-            let both = lift_both(Box::into_inner(x), Box::into_inner(y), supply, breaks)?;
+            let b = lift_word(Box::into_inner(y), supply, breaks)?;
+            let a = lift_word(Box::into_inner(x), supply, breaks)?;
+            let both = side_by_side(supply, a, b)?;
             Ok(operate(supply.alloc, op, both)?)
         }
         Tx::Load(x) => {
@@ -50,7 +51,10 @@ fn lift(x: Tx, supply: &mut Supply, breaks: &Breaks) -> Result<Lifted, Memory>
             let a = lift_word(Box::into_inner(x), supply, breaks)?;
             Ok(load_byte_from(supply.alloc, a)?)
         }
-        Tx::Call(label, xs) => Ok(call_of(label, lift_all(xs, supply, breaks)?)),
+        Tx::Call(label, xs) => {
+            let all = lift_all(xs, supply, breaks)?;
+            Ok(call_of(label, all))
+        }
         Tx::Service(number, x) => {
             let a = lift_word(Box::into_inner(x), supply, breaks)?;
             Ok(serve(supply.alloc, number, a)?)
@@ -71,18 +75,6 @@ fn lift_word(x: Tx, supply: &mut Supply, breaks: &Breaks) -> Result<Lifted, Memo
 {
     let a = lift(x, supply, breaks)?;
     Ok(word(supply, a)?)
-}
-
-// Two expressions, the right one before the left one.
-#[cycle(canon)]
-fn lift_both(x: Tx, y: Tx, supply: &mut Supply, breaks: &Breaks) -> Result<Two, Memory>
-    ensures { IfOk result (λ both. Gives
-        (canon.operands (leads breaks.now) (plain_tx x) (plain_tx y))
-        supply.old.next (plain_two both) supply.new.next) }
-{
-    let b = lift_word(y, supply, breaks)?;
-    let a = lift_word(x, supply, breaks)?;
-    Ok(side_by_side(supply, a, b)?)
 }
 
 // A call's arguments, from the last to the first.
@@ -107,7 +99,9 @@ fn condition(test: Cond, supply: &mut Supply, breaks: &Breaks) -> Result<Tested,
 {
     match test {
         Cond::Compare(rel, x, y) => {
-            let both = lift_both(Box::into_inner(x), Box::into_inner(y), supply, breaks)?;
+            let b = lift_word(Box::into_inner(y), supply, breaks)?;
+            let a = lift_word(Box::into_inner(x), supply, breaks)?;
+            let both = side_by_side(supply, a, b)?;
             Ok(compare_both(supply.alloc, rel, both)?)
         }
         Cond::Not(c) => {
@@ -141,7 +135,9 @@ fn leave(
 {
     match test {
         Cond::Compare(rel, x, y) => {
-            let both = lift_both(Box::into_inner(x), Box::into_inner(y), supply, breaks)?;
+            let b = lift_word(Box::into_inner(y), supply, breaks)?;
+            let a = lift_word(Box::into_inner(x), supply, breaks)?;
+            let both = side_by_side(supply, a, b)?;
             let t = compare_both(supply.alloc, rel, both)?;
             Ok(t.exit_where(supply.alloc, when, loops)?)
         }
@@ -152,7 +148,8 @@ fn leave(
                 let further = more_loops(loops, 1)?;
                 let q = leave(Box::into_inner(d), supply, &inner, true, further)?;
                 let p = leave(Box::into_inner(c), supply, &inner, false, 0)?;
-                Ok(p.before(supply.alloc, q)?.block(supply.alloc)?)
+                let both = p.before(supply.alloc, q)?;
+                Ok(both.block(supply.alloc)?)
             } else {
                 let q = leave(Box::into_inner(d), supply, breaks, false, loops)?;
                 let p = leave(Box::into_inner(c), supply, breaks, false, loops)?;
@@ -169,7 +166,8 @@ fn leave(
                 let further = more_loops(loops, 1)?;
                 let q = leave(Box::into_inner(d), supply, &inner, false, further)?;
                 let p = leave(Box::into_inner(c), supply, &inner, true, 0)?;
-                Ok(p.before(supply.alloc, q)?.block(supply.alloc)?)
+                let both = p.before(supply.alloc, q)?;
+                Ok(both.block(supply.alloc)?)
             }
         }
     }
@@ -187,11 +185,15 @@ fn linear(s: Ts, supply: &mut Supply, breaks: &Breaks) -> Result<Part, Memory>
             Ok(move_to(supply.alloc, temp, a)?)
         }
         Ts::Store(x, y) => {
-            let both = lift_both(x, y, supply, breaks)?;
+            let b = lift_word(y, supply, breaks)?;
+            let a = lift_word(x, supply, breaks)?;
+            let both = side_by_side(supply, a, b)?;
             Ok(store(supply.alloc, both)?)
         }
         Ts::StoreByte(x, y) => {
-            let both = lift_both(x, y, supply, breaks)?;
+            let b = lift_word(y, supply, breaks)?;
+            let a = lift_word(x, supply, breaks)?;
+            let both = side_by_side(supply, a, b)?;
             Ok(store_byte(supply.alloc, both)?)
         }
         Ts::Do(x) => {
@@ -220,9 +222,15 @@ fn linear(s: Ts, supply: &mut Supply, breaks: &Breaks) -> Result<Part, Memory>
             let p = linear(Box::into_inner(s), supply, &inner)?;
             Ok(p.repeated(supply.alloc)?)
         }
-        Ts::Break(loops) => Ok(Part::still(Ts::Break(target(breaks, loops)?))),
+        Ts::Break(loops) => {
+            let further = target(breaks, loops)?;
+            Ok(Part::still(Ts::Break(further)))
+        }
         Ts::Fault(number) => Ok(Part::still(Ts::Fault(number))),
-        Ts::Seq(ss) => Ok(linear_all(ss, supply, breaks)?.in_turn()),
+        Ts::Seq(ss) => {
+            let all = linear_all(ss, supply, breaks)?;
+            Ok(all.in_turn())
+        }
         Ts::Return(x) => {
             let a = lift_word(x, supply, breaks)?;
             Ok(return_of(supply.alloc, a)?)

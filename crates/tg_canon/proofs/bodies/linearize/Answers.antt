@@ -1,0 +1,4 @@
+use Rattle.tg_canon.proofs.bodies.linearize.Goals as goal
+
+pub returns : goal.returns
+returns c = ?
