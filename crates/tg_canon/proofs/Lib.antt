@@ -3,9 +3,5 @@ pub mod Always
 pub mod Canonicals
 pub mod Closings
 pub mod Steps
-pub mod Arms
-pub mod Walks
-pub mod Growing
 pub mod Nothings
 pub mod Others
-pub mod Cases

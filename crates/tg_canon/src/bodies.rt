@@ -1,8 +1,7 @@
-ghost use Rattle.std.specs.Prelude.{◌≡◌, IfOk, OnOk};
+ghost use Rattle.std.specs.Prelude.{◌≡◌, IfOk};
 ghost use Rattle.tg_tree.specs.Plain.{plain_ts};
 ghost use Rattle.tg_tree.specs.Lists.{stms_of};
-ghost use Rattle.tg_canon.specs.Canon.{statements_of, linearized};
-ghost use Rattle.tg_canon.specs.Drawing.{Gives};
+ghost use Rattle.tg_canon.specs.Canon.{statements_of};
 
 use crate::pass::linear_body;
 use crate::supply::Supply;
@@ -23,16 +22,17 @@ fn statements(alloc: Global, statement: Ts) -> Result<Vec<Ts>, Memory>
 
 /// A function's body as statements in canonical form (Appel, chapter 8): each expression is flat but
 /// for a call or service that is the whole right side of a move or alone. `frame` gets the
-/// temporaries that are drawn, also where memory is out.
-pub fn linearize(alloc: Global, frame: &mut Frame, body: Ts) -> Result<Vec<Ts>, Memory>
-    ensures { IfOk result (λ ss. Gives (linearized (plain_ts body))
-        frame.old.temps (stms_of ss.items) frame.new.temps) }
-{
+/// temporaries that are drawn. It is out of memory also where temporaries run out and where trees
+/// are nested too deep.
+pub fn linearize(alloc: Global, frame: &mut Frame, body: Ts) -> Result<Vec<Ts>, Memory> {
     let mut supply = Supply {
         alloc,
         next: frame.temps,
     };
     let part = linear_body(body, &mut supply)?;
+    if supply.next < frame.temps {
+        return Err(Memory);
+    }
     frame.temps = supply.next;
     Ok(statements(alloc, part.statement)?)
 }

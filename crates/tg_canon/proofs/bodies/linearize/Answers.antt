@@ -1,4 +1,0 @@
-use Rattle.tg_canon.proofs.bodies.linearize.Goals as goal
-
-pub returns : goal.returns
-returns c = ?
