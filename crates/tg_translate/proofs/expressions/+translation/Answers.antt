@@ -1,18 +1,19 @@
-use Rattle.std.proofs.Common.{◌≡◌, ◌+◌, List, [], ◌∷◌, ◌++◌, length, sym, ap, ◌∙◌, arith}
+use Rattle.std.proofs.Common.{◌≡◌, ◌+◌, [], ◌∷◌, ◌++◌, length, drop, sym, ap, ◌∙◌, arith}
 use Rattle.tg_syntax.specs.Plain.{plain, plain_kind, plain_exps}
 use Rattle.tg_syntax.proofs.ListLaws.{plain_kind-Let}
 use Rattle.tg_tree.specs.Tree.{Const, no_txs, tx, no_stms}
 use Rattle.tg_tree.specs.Lists.{txs_of, stms_of, join_txs}
 use Rattle.tg_tree.specs.Plain.{plain_ts}
 use Rattle.tg_tree.proofs.ListLaws.{txs_of-push}
-use Rattle.tg_translate.specs.States.{State, drawn, after, give, state_of}
+use Rattle.tg_translate.specs.States.{drawn, after, give, state_of}
 use Rattle.tg_translate.specs.Wants.{value, plain_made, behind}
 use Rattle.tg_translate.specs.Constructs.{hold_next}
 use Rattle.tg_translate.specs.Scopes.{findings_of}
-use Rattle.tg_translate.specs.Translate.{expression}
+use Rattle.tg_syntax.specs.Lists.{exps_of}
+use Rattle.tg_translate.specs.Translate.{expression, sequence}
 use Rattle.tg_translate.specs.Parts.{sequence_in}
 use Rattle.tg_translate.proofs.Steps.{step}
-use Rattle.tg_translate.proofs.Walks.{in_turn, walk_on, walk_ends, value_step, field_step, declaration_step, body_step, values_are, fields_are, declarations_are, bodies_are, sequence_begins, one_dropped, last_done, sequence_ends, sequence_of}
+use Rattle.tg_translate.proofs.Walks.{in_turn, walk_on, walk_ends, value_step, field_step, declaration_step, body_step, left_of, values_are, fields_are, declarations_are, bodies_are, one_dropped, last_done, sequence_ends, sequence_of}
 use Rattle.tg_translate.proofs.expressions.+translation.Goals as goal
 
 pub values-loop-e-preserved : goal.values-loop-e-preserved
@@ -86,3 +87,42 @@ expression-returns-in_ok-sequence-in-Let t c =
     (ap (λ k. plain_kind k c.args.e.now.span) c.in-Let.is ∙ plain_kind-Let c.in-Let.decs c.in-Let.body c.args.e.now.span)
     ∙ step (λ b. sequence_in (findings_of c.args.findings.now) (plain_exps c.in-Let.body) c.args.want b c.args.within)
     c.in_ok-before-in-Let.ensures c.in_ok-sequence-in-Let.ensures
+
+pub sequence-loop-e-preserved : goal.sequence-loop-e-preserved
+sequence-loop-e-preserved t c = record {
+  count = omega (arith, c.loop-e.invariant.count, c.if-left-eq0.false);
+  so_far =
+      one_dropped (findings_of c.args.findings.now) c.args.within c.deref-e-items.result.now c.args.want c.loop-e.e-index (stms_of c.args.before.items)
+      (stms_of c.loop-e.before.items) (state_of c.args.state.now) (state_of c.loop-e.state) (state_of c.statement.new.state) (value (Const 0))
+      c.e-item.result (plain_ts c.in_ok-statement.field-0) c.loop-e.invariant.so_far
+      (omega (arith, c.loop-e.invariant.count, c.if-left-eq0.false)) c.e-item.is c.in_ok-statement.ensures
+      ∙ ap (λ ss. left_of (findings_of c.args.findings.now) c.args.within (exps_of (drop (c.loop-e.e-index + 1) c.deref-e-items.result.now))
+      c.args.want ss (value (Const 0)) (state_of c.statement.new.state)) (sym c.in_ok-push.ensures);
+}
+
+pub sequence-returns-then-left-eq0 : goal.sequence-returns-then-left-eq0
+sequence-returns-then-left-eq0 t c =
+    let at_end : c.loop-e.e-index + 1 ≡ length c.deref-e-items.result.now =
+    omega (arith, c.loop-e.invariant.count, c.if-left-eq0.true, c.loop-e-test.true) in
+    step (λ begun. behind c.args.want begun.before begun.last)
+    (sequence_of (findings_of c.args.findings.now) c.args.within c.args.exps.now c.args.want (stms_of c.args.before.items) (state_of c.args.state.now)
+    ∙ (ap (λ es. sequence (findings_of c.args.findings.now) (exps_of es) c.args.want (stms_of c.args.before.items) c.args.within (state_of c.args.state.now))
+    (sym c.deref-e-items.ensures.value)
+    ∙ sequence_ends (findings_of c.args.findings.now) c.args.within c.deref-e-items.result.now c.args.want (c.loop-e.e-index + 1)
+    (stms_of c.args.before.items) (stms_of c.loop-e.before.items) (state_of c.args.state.now) (state_of c.expression.new.state)
+    (plain_made c.in_ok-last.last)
+    (last_done (findings_of c.args.findings.now) c.args.within c.deref-e-items.result.now c.args.want c.loop-e.e-index (stms_of c.args.before.items)
+    (stms_of c.loop-e.before.items) (state_of c.args.state.now) (state_of c.loop-e.state) (state_of c.expression.new.state) (value (Const 0))
+    c.e-item.result (plain_made c.in_ok-last.last) c.loop-e.invariant.so_far at_end c.e-item.is c.in_ok-last.ensures) at_end))
+    c.in_ok-behind.ensures
+
+pub sequence-returns : goal.sequence-returns
+sequence-returns t c =
+    step (λ begun. behind c.args.want begun.before begun.last)
+    (sequence_of (findings_of c.args.findings.now) c.args.within c.args.exps.now c.args.want (stms_of c.args.before.items) (state_of c.args.state.now)
+    ∙ (ap (λ es. sequence (findings_of c.args.findings.now) (exps_of es) c.args.want (stms_of c.args.before.items) c.args.within (state_of c.args.state.now))
+    (sym c.deref-e-items.ensures.value)
+    ∙ sequence_ends (findings_of c.args.findings.now) c.args.within c.deref-e-items.result.now c.args.want c.loop-e.e-index
+    (stms_of c.args.before.items) (stms_of c.loop-e.before.items) (state_of c.args.state.now) (state_of c.loop-e.state) (value (Const 0))
+    c.loop-e.invariant.so_far (omega (arith, c.loop-e.auto.e-index-end, c.loop-e-test.false))))
+    c.in_ok-behind-2.ensures
