@@ -1,5 +1,29 @@
 -- Walks over parameters, functions of a group and fields, as far as they have come.
-use Rattle.std.proofs.Common.{◌≡◌, ℕ, suc, ◌+◌, ◌<◌, List, [], ◌∷◌, ◌++◌, length, drop, get_or, map, refl, sym, ap, ◌∙◌, arith, Bool, true, false, append_assoc, append-nil}
+use Rattle.std.proofs.Common.{
+  ◌≡◌,
+  ℕ,
+  suc,
+  ◌+◌,
+  ◌<◌,
+  List,
+  [],
+  ◌∷◌,
+  ◌++◌,
+  length,
+  drop,
+  get_or,
+  map,
+  refl,
+  sym,
+  ap,
+  ◌∙◌,
+  arith,
+  Bool,
+  true,
+  false,
+  append_assoc,
+  append-nil,
+}
 use Rattle.std.proofs.Math.Seq.{drop-length}
 use Rattle.std.proofs.lemmas.List.{drop_more}
 use Rattle.tg_frame.specs.declared.accesses.Access.{Access}

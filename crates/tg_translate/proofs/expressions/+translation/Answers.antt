@@ -1,5 +1,5 @@
 use Rattle.std.proofs.Common.{◌≡◌, ◌+◌, [], ◌∷◌, ◌++◌, length, drop, sym, ap, ◌∙◌, arith}
-use Rattle.tg_syntax.specs.Plain.{plain, plain_kind, plain_exps}
+use Rattle.tg_syntax.specs.Plain.{plain_kind, plain_exps}
 use Rattle.tg_syntax.proofs.ListLaws.{plain_kind-Let}
 use Rattle.tg_tree.specs.Tree.{Const, no_txs, tx, no_stms}
 use Rattle.tg_tree.specs.Lists.{txs_of, stms_of, join_txs}
@@ -13,7 +13,24 @@ use Rattle.tg_syntax.specs.Lists.{exps_of}
 use Rattle.tg_translate.specs.Translate.{expression, sequence}
 use Rattle.tg_translate.specs.Parts.{sequence_in}
 use Rattle.tg_translate.proofs.Steps.{step}
-use Rattle.tg_translate.proofs.Walks.{in_turn, walk_on, walk_ends, value_step, field_step, declaration_step, body_step, left_of, values_are, fields_are, declarations_are, bodies_are, one_dropped, last_done, sequence_ends, sequence_of}
+use Rattle.tg_translate.proofs.Walks.{
+  in_turn,
+  walk_on,
+  walk_ends,
+  value_step,
+  field_step,
+  declaration_step,
+  body_step,
+  left_of,
+  values_are,
+  fields_are,
+  declarations_are,
+  bodies_are,
+  one_dropped,
+  last_done,
+  sequence_ends,
+  sequence_of,
+}
 use Rattle.tg_translate.proofs.expressions.+translation.Goals as goal
 
 pub values-loop-e-preserved : goal.values-loop-e-preserved

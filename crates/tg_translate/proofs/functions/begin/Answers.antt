@@ -1,7 +1,5 @@
-use Rattle.std.proofs.Common.{ap, sym, ◌∙◌, length, arith}
-use Rattle.tg_frame.specs.Homes.{homes_of}
+use Rattle.std.proofs.Common.{ap, ◌∙◌, length}
 use Rattle.tg_translate.specs.Scopes.{findings_of}
-use Rattle.tg_translate.specs.Functions.{asked}
 use Rattle.tg_translate.proofs.Declaring.{length-homes_from, length-asked}
 use Rattle.tg_translate.proofs.functions.begin.Goals as goal
 
