@@ -445,6 +445,13 @@ abbrev mutual
     p ← linear out s
     give (in_front p all)
 
+-- two operands as words
+abbrev pub operands : (out : ℕ → ℕ) → (left right : Tx) → Draws Two
+operands out x y = do
+  b ← word (lift out y)
+  a ← word (lift out x)
+  side_by_side a b
+
 -- the statements of a body in canonical form, drawing temporaries from a number on
 abbrev pub statements_of : Ts → Stms
 statements_of (Seq ss) = ss

@@ -1,5 +1,5 @@
 -- Temporaries are drawn one after another: the next number goes from each step to the one after it.
-use Rattle.std.specs.Prelude.{ℕ, ◌+◌}
+use Rattle.std.specs.Prelude.{ℕ, ◌≡◌, ◌+◌}
 
 pub record Drawn (A : Type 0) : Type 0 where
   pub it : A
@@ -21,3 +21,7 @@ abbrev pub ◌>>=◌ : {A B : Type 0} → Draws A → (A → Draws B) → Draws 
 -- a temporary that nothing else uses
 abbrev pub fresh : Draws ℕ
 fresh k = record { it = k; next = k + 1 }
+
+-- from a number on this is drawn, and that is the next number behind it
+pub record Gives {A : Type 0} (m : Draws A) (before : ℕ) (drawn : A) (after : ℕ) : Type 0 where
+  pub is : m before ≡ record { it = drawn; next = after }

@@ -1,3 +1,5 @@
 pub mod Drawing
 pub mod Canon
 pub mod Laws
+pub mod Breaking
+pub mod Views

@@ -1,8 +1,17 @@
-//! Canonical trees (Appel, chapter 8): what the pass that lifts statements, calls and services out
-//! of expressions makes of a tree, and what it promises of it. The definition stands in
-//! `specs/Canon.antt`. The code that computes it isn't here yet.
+//! Canonical trees (Appel, chapter 8): the pass that lifts statements, calls and services out of
+//! expressions. What it makes of a body is defined in `specs/Canon.antt`, a function on plain trees;
+//! each step of the code is proved to do what its step of the definition does.
 #![tactic(auto)]
 
+mod bodies;
+mod breaks;
 mod laws;
+mod lifted;
+mod parts;
+mod pass;
+mod statements;
+mod supply;
+mod tested;
 
+pub use bodies::linearize;
 pub use laws::canonical_statements;

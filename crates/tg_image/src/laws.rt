@@ -7,8 +7,8 @@ pub fn emitted_has_labels()
 {}
 
 /// The law of a program's text: the assembler never refuses it. Its labels differ, each that is
-/// named stands, branches and jumps reach, and code and statics are within the segments' limits. Its
-/// image begins at the first word of the program's body.
+/// named stands, branches and jumps reach, and code and statics are within the segments' limits.
+/// Its image begins at the first word of the program's body.
 pub fn program_has_image()
     ensures image { ProgramHasImage }
     ensures entry { ProgramEntersBody }

@@ -6,3 +6,6 @@ pub mod Places
 pub mod Marks
 pub mod Flats
 pub mod Wholes
+pub mod Costs
+pub mod Measures
+pub mod Names

@@ -4,6 +4,7 @@ use Rattle.std.specs.Prelude.{Option, Some, None, slice_get, slice_set, replicat
 use Rattle.std.specs.List.{Contains, AllPairs}
 use Rattle.std.proofs.Math.ListN.{length-set}
 use Rattle.std.proofs.lemmas.List.{length-replicate}
+use Rattle.std.proofs.lemmas.Option.{slice_get_within}
 use Rattle.std.proofs.lemmas.List.Elements.{Contains-get_or, Contains-append_left, Contains-append_right, Contains-append_cases}
 use Rattle.std.proofs.lemmas.List.Quantifiers.{all_pairs_push}
 use Rattle.tg_trace.specs.Block.{End, Jump, Branch, Fault, Return, Block}
@@ -34,6 +35,7 @@ pub record IsOrder (n : ℕ) (o : Order) : Type 0 where
   pub there : (p : ℕ) → slice_get o.laid p ≡ Some true → Contains o.places p
   pub free : (p : ℕ) → slice_get o.laid p ≡ Some false → Contains o.places p → ⊥
   pub apart : AllPairs (λ a b. a ≢ b) o.places
+  pub within : (p : ℕ) → Contains o.places p → p < n
 
 only_one : (p q : ℕ) → Contains (p ∷ []) q → p ≡ q
 only_one p q (zero, h, e) = e
@@ -59,8 +61,12 @@ put_free o p q f h (inl e) t c =
 put_free o p q f h (inr n) t c =
     elim (Contains-append_cases o.places (p ∷ []) q c) [ inl d ↦ h (sym (set_there o.laid p q n) ∙ t) d | inr d ↦ n (only_one p q d) ]
 
+put_within : (n : ℕ) (o : Order) (p q : ℕ) → p < n → (Contains o.places q → q < n) → Contains (o.places ++ p ∷ []) q → q < n
+put_within n o p q h i c = elim (Contains-append_cases o.places (p ∷ []) q c) [ inl d ↦ i d | inr d ↦ subst (λ x. x < n) (only_one p q d) h ]
+
 pub put_keeps : (n : ℕ) (o : Order) (p : ℕ) → slice_get o.laid p ≡ Some false → IsOrder n o → IsOrder n (put p o)
 put_keeps n o p f i = record {
+  within = λ q c. put_within n o p q (omega (arith, slice_get_within o.laid p false f, i.count)) (i.within q) c;
   count = length-set o.laid p true ∙ i.count;
   there = λ q. put_there o p q (i.there q) (same_or_not p q);
   free = λ q. put_free o p q f (i.free q) (same_or_not p q);
@@ -99,6 +105,7 @@ nothing_there (suc n) (suc p) h = nothing_there n p h
 
 pub traces_keep : (count : ℕ) (blocks : List Block) → IsOrder (length blocks) (traces count blocks)
 traces_keep zero blocks = record {
+  within = λ p c. absurd (omega (arith, c.1));
   count = length-replicate (length blocks) false;
   there = λ p h. absurd (nothing_there (length blocks) p h);
   free = λ p h c. omega (arith, c.1);

@@ -1,7 +1,11 @@
 -- What the passes promise of their answers' shapes.
-use Rattle.std.specs.Prelude.{List}
+use Rattle.std.specs.Prelude.{ℕ, ◌+◌, ◌≤◌, Bool, IsTrue, List, []}
+use Rattle.std.specs.List.{Contains}
 use Rattle.tg_tree.specs.Tree.{Stms}
 use Rattle.tg_tree.specs.Shapes.{AreCanonical, AreClosed, IsFlatCode, IsWellMarked}
+use Rattle.tg_tree.specs.Units.{Canonical}
+use Rattle.tg_tree.specs.Sizes.{in_canonical, statements_length, code_length, statements_room, code_room}
+use Rattle.tg_tree.specs.Named.{Named, fault, named_stms, named_flat}
 use Rattle.tg_trace.specs.Block.{Block}
 use Rattle.tg_trace.specs.Cutting.{blocks_of}
 use Rattle.tg_trace.specs.Laying.{traced}
@@ -22,3 +26,28 @@ CodeIsFlat = (bs : List Block) → AreFlatBlocks bs → IsFlatCode (traced bs)
 
 abbrev pub CodeIsWellMarked : Type 0
 CodeIsWellMarked = (bs : List Block) → AreWhole bs → IsWellMarked (traced bs)
+
+-- Cut and laid, they are at most so much longer, and ask for no more room.
+abbrev pub added_length : ℕ
+added_length = 2
+
+abbrev pub LengthStays : Type 0
+LengthStays =
+    (ss : Stms) →
+    code_length (traced (blocks_of ss)) ≤ statements_length Canonical ss + added_length
+
+abbrev pub RoomStays : Type 0
+RoomStays =
+    (ss : Stms) →
+    code_room in_canonical (traced (blocks_of ss)) ≤ statements_room in_canonical ss
+
+-- The code names no function, literal, temporary or fault that the statements don't name, but for a
+-- fault 0: whatever test all their names pass, its names pass.
+abbrev pub AreAllowed : (allowed : Named → Bool) → List Named → Type 0
+AreAllowed allowed names = (x : Named) → Contains names x → IsTrue (allowed x)
+
+abbrev pub NamesStay : Type 0
+NamesStay =
+    (allowed : Named → Bool) (ss : Stms) →
+    IsTrue (allowed (fault 0)) → AreAllowed allowed (named_stms ss []) →
+    AreAllowed allowed (named_flat (traced (blocks_of ss)) [])

@@ -3,6 +3,9 @@ ghost use Rattle.tg_trace.specs.Laws.{
   BlocksAreWhole,
   CodeIsFlat,
   CodeIsWellMarked,
+  LengthStays,
+  NamesStay,
+  RoomStays,
 };
 
 /// Laws of the blocks into which statements are cut: those of canonical statements are flat, and
@@ -18,4 +21,17 @@ pub fn blocks_are_well_formed()
 pub fn code_is_well_formed()
     ensures flat { CodeIsFlat }
     ensures marks { CodeIsWellMarked }
+{}
+
+/// Laws of both together: the code is at most two units longer than the statements, and has no more
+/// room than they have.
+pub fn sizes_stay()
+    ensures length { LengthStays }
+    ensures room { RoomStays }
+{}
+
+/// The law that the code names nothing that the statements don't name, but for a fault 0. So no
+/// temporary is brought in.
+pub fn names_stay()
+    ensures { NamesStay }
 {}

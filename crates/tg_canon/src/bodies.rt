@@ -1,0 +1,38 @@
+ghost use Rattle.std.specs.Prelude.{◌≡◌, IfOk};
+ghost use Rattle.tg_tree.specs.Plain.{plain_ts};
+ghost use Rattle.tg_tree.specs.Lists.{stms_of};
+ghost use Rattle.tg_canon.specs.Canon.{statements_of};
+
+use crate::pass::linear_body;
+use crate::supply::Supply;
+use std::alloc::Global;
+use tg_base::Memory;
+use tg_frame::Frame;
+use tg_tree::Ts;
+
+// The statements of a sequence, or the one statement.
+fn statements(alloc: Global, statement: Ts) -> Result<Vec<Ts>, Memory>
+    ensures { IfOk result (λ ss. stms_of ss.items ≡ statements_of (plain_ts statement)) }
+{
+    match statement {
+        Ts::Seq(inner) => Ok(inner.items),
+        other => Ok(vec![in alloc; other]?),
+    }
+}
+
+/// A function's body as statements in canonical form (Appel, chapter 8): each expression is flat but
+/// for a call or service that is the whole right side of a move or alone. `frame` gets the
+/// temporaries that are drawn. It is out of memory also where temporaries run out and where trees
+/// are nested too deep.
+pub fn linearize(alloc: Global, frame: &mut Frame, body: Ts) -> Result<Vec<Ts>, Memory> {
+    let mut supply = Supply {
+        alloc,
+        next: frame.temps,
+    };
+    let part = linear_body(body, &mut supply)?;
+    if supply.next < frame.temps {
+        return Err(Memory);
+    }
+    frame.temps = supply.next;
+    Ok(statements(alloc, part.statement)?)
+}

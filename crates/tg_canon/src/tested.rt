@@ -1,0 +1,146 @@
+ghost use Rattle.std.specs.Prelude.{◌≡◌, IfOk};
+ghost use Rattle.tg_tree.specs.Plain.{plain_tx, plain_cond};
+ghost use Rattle.tg_tree.specs.Shapes.{is_flat, is_flat_condition};
+ghost use Rattle.tg_tree.specs.Tree as tree;
+ghost use Rattle.tg_canon.specs.Canon as canon;
+ghost use Rattle.tg_canon.specs.Views.{plain_part, plain_two, plain_tested};
+
+use crate::lifted::Two;
+use crate::parts::{Part, nothing};
+use std::alloc::Global;
+use tg_base::Memory;
+use tg_tree::{Cond, Rel, Ts, Tx, both, either, if_else, negate};
+
+/// A flat condition behind what is lifted out of it.
+#[derive(Drop)]
+pub(crate) struct Tested {
+    pub(crate) front: Part,
+    pub(crate) condition: Cond,
+}
+
+fn is_flat_expression(x: &Tx) -> bool
+    ensures { result ≡ is_flat (plain_tx x.now) }
+{
+    match x {
+        Tx::Binary(_, left, right) => is_flat_expression(left) && is_flat_expression(right),
+        Tx::Load(address) | Tx::LoadByte(address) => is_flat_expression(address),
+        Tx::Call(_, _) | Tx::Service(_, _) | Tx::After(_, _) => false,
+        _ => true,
+    }
+}
+
+fn is_flat_test(test: &Cond) -> bool
+    ensures { result ≡ is_flat_condition (plain_cond test.now) }
+{
+    match test {
+        Cond::Compare(_, x, y) => is_flat_expression(x) && is_flat_expression(y),
+        Cond::Not(inner) => is_flat_test(inner),
+        Cond::Both(left, right) | Cond::Either(left, right) => {
+            is_flat_test(left) && is_flat_test(right)
+        }
+    }
+}
+
+/// Whether nothing has to be lifted out of a condition but what can be in front of all of it.
+pub(crate) fn is_whole(test: &Cond) -> bool
+    ensures { result ≡ canon.is_whole (plain_cond test.now) }
+{
+    match test {
+        Cond::Compare(_, _, _) => true,
+        Cond::Not(inner) => is_whole(inner),
+        Cond::Both(left, right) | Cond::Either(left, right) => is_whole(left)
+            && is_flat_test(right),
+    }
+}
+
+/// A comparison of two lifted expressions.
+pub(crate) fn compare_both(alloc: Global, rel: Rel, operands: Two) -> Result<Tested, Memory>
+    ensures { IfOk result (λ t.
+        plain_tested t ≡ canon.compared (tree.Compare rel) (plain_two operands)) }
+{
+    let left = Box::new(alloc, operands.left)?;
+    let right = Box::new(alloc, operands.right)?;
+    Ok(Tested {
+        front: operands.front,
+        condition: Cond::Compare(rel, left, right),
+    })
+}
+
+impl Tested {
+    /// The opposite.
+    pub(crate) fn opposite(self, alloc: Global) -> Result<Tested, Memory>
+        ensures { IfOk result (λ t. plain_tested t ≡ canon.opposite (plain_tested self)) }
+    {
+        Ok(Tested {
+            front: self.front,
+            condition: negate(alloc, self.condition)?,
+        })
+    }
+
+    /// Whether this one and another hold.
+    pub(crate) fn and(self, alloc: Global, other: Tested) -> Result<Tested, Memory>
+        ensures { IfOk result (λ t.
+            plain_tested t ≡ canon.joined tree.Both (plain_tested self) (plain_tested other)) }
+    {
+        Ok(Tested {
+            front: self.front.before(alloc, other.front)?,
+            condition: both(alloc, self.condition, other.condition)?,
+        })
+    }
+
+    /// Whether this one or another holds.
+    pub(crate) fn or(self, alloc: Global, other: Tested) -> Result<Tested, Memory>
+        ensures { IfOk result (λ t.
+            plain_tested t ≡ canon.joined tree.Either (plain_tested self) (plain_tested other)) }
+    {
+        Ok(Tested {
+            front: self.front.before(alloc, other.front)?,
+            condition: either(alloc, self.condition, other.condition)?,
+        })
+    }
+
+    /// One of two statements, by the condition.
+    pub(crate) fn choose(self, alloc: Global, this: Part, other: Part) -> Result<Part, Memory>
+        ensures { IfOk result (λ p. plain_part p ≡
+            canon.choice (plain_tested self) (plain_part this) (plain_part other)) }
+    {
+        let chosen = Part {
+            least: this.least.min(other.least),
+            greatest: this.greatest.max(other.greatest),
+            statement: if_else(alloc, self.condition, this.statement, other.statement)?,
+        };
+        Ok(self.front.before(alloc, chosen)?)
+    }
+
+    /// Leaves so many loops and one more where the condition comes out so, and goes on where it
+    /// doesn't.
+    pub(crate) fn exit_where(self, alloc: Global, when: bool, loops: u32) -> Result<Part, Memory>
+        ensures { IfOk result (λ p. plain_part p ≡
+            canon.exit_where when loops (plain_tested self)) }
+    {
+        let exit = Part::still(Ts::Break(loops));
+        let on = Part::still(nothing(alloc));
+        if when {
+            Ok(self.choose(alloc, exit, on)?)
+        } else {
+            Ok(self.choose(alloc, on, exit)?)
+        }
+    }
+}
+
+/// One of two statements, where a condition is tested part by part: the first one stands in two
+/// loops behind the test, which leaves the inner one where it fails, and the second one in the outer
+/// one behind that.
+pub(crate) fn choose_by_parts(
+    alloc: Global,
+    test: Part,
+    this: Part,
+    other: Part,
+) -> Result<Part, Memory>
+    ensures { IfOk result (λ p. plain_part p ≡
+        canon.wide_choice (plain_part test) (plain_part this) (plain_part other)) }
+{
+    let exit = Part::still(Ts::Break(1));
+    let inner = test.before(alloc, this)?.before(alloc, exit)?;
+    Ok(inner.repeated(alloc)?.before(alloc, other)?.block(alloc)?)
+}
