@@ -1,5 +1,5 @@
 -- A sequence in the code is nothing where it has no statement.
-use Rattle.std.proofs.Common.{◌≡◌, ◌==◌, ℕ, List, [], ◌∷◌, length, vec_len, refl, sym, ap, ◌∙◌}
+use Rattle.std.proofs.Common.{◌≡◌, ◌==◌, List, [], ◌∷◌, length, vec_len, refl, sym, ap, ◌∙◌}
 use Rattle.std.proofs.Math.Dec.{eqb-suc-zero}
 use Rattle.tg_tree.specs.declared.trees.Ts.{Ts as CodeTs, Seq}
 use Rattle.tg_tree.specs.declared.trees.Stms.{Stms}

@@ -1,11 +1,10 @@
 -- What isn't a sum is held unless it stays.
-use Rattle.std.proofs.Common.{◌≡◌, ℕ, refl, Box, Global, sym, ap, ◌∙◌}
+use Rattle.std.proofs.Common.{◌≡◌, ℕ, refl, Box, Global, ap, ◌∙◌}
 use Rattle.tg_tree.specs.declared.operators.Bin.{Bin}
 use Rattle.tg_tree.specs.declared.trees.Tx.{Tx as CodeTx, Const, Address, Temp, FrameAddress, Binary, Binary', Load', LoadByte', Call', Service', After'}
 use Rattle.tg_tree.specs.Plain.{plain_tx}
 use Rattle.tg_canon.specs.Drawing.{Draws, Gives}
 use Rattle.tg_canon.specs.Canon.{Part, Lifted, stays, hold_unless, hold_for}
-use Rattle.tg_canon.proofs.Steps.{same}
 
 other_held : (p : Part) (x : CodeTx) → ((op : Bin) (a b : Box CodeTx Global) → x ≡ Binary op a b → ⊥) → hold_for p (plain_tx x) ≡ hold_unless (stays p (plain_tx x)) (plain_tx x)
 other_held p (Const _) h = refl

@@ -1,6 +1,6 @@
 -- What the code's parts, expressions and conditions say, without boxes and vectors. Lists under way
 -- stand in the code with their first member last.
-use Rattle.std.specs.Prelude.{ℕ, reverse}
+use Rattle.std.specs.Prelude.{reverse}
 use Rattle.tg_tree.specs.Plain.{plain_tx, plain_cond, plain_ts}
 use Rattle.tg_tree.specs.Lists.{txs_of, stms_of}
 use Rattle.tg_canon.specs.declared.parts.Part.{Part}

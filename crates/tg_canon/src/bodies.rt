@@ -1,4 +1,4 @@
-ghost use Rattle.std.specs.Prelude.{◌≡◌, IfOk};
+ghost use Rattle.std.specs.Prelude.{◌≡◌, ◌≤◌, IfOk};
 ghost use Rattle.tg_tree.specs.Plain.{plain_ts};
 ghost use Rattle.tg_tree.specs.Lists.{stms_of};
 ghost use Rattle.tg_canon.specs.Canon.{statements_of};
@@ -24,7 +24,13 @@ fn statements(alloc: Global, statement: Ts) -> Result<Vec<Ts>, Memory>
 /// for a call or service that is the whole right side of a move or alone. `frame` gets the
 /// temporaries that are drawn. It is out of memory also where temporaries run out and where trees
 /// are nested too deep.
-pub fn linearize(alloc: Global, frame: &mut Frame, body: Ts) -> Result<Vec<Ts>, Memory> {
+pub fn linearize(alloc: Global, frame: &mut Frame, body: Ts) -> Result<Vec<Ts>, Memory>
+    ensures label { frame.new.label ≡ frame.old.label }
+    ensures params { frame.new.params ≡ frame.old.params }
+    ensures slots { frame.new.slots ≡ frame.old.slots }
+    ensures out { frame.new.out ≡ frame.old.out }
+    ensures temps { frame.old.temps ≤ frame.new.temps }
+{
     let mut supply = Supply {
         alloc,
         next: frame.temps,
