@@ -28,6 +28,7 @@ pub record FlattensTo (f : Function Ts) (flat : Function (List Linear)) : Type 0
   pub statements : Stms
   pub label : flat.label ≡ f.label
   pub params : flat.params ≡ f.params
+  pub slots : flat.slots ≡ f.slots
   pub body : flat.body ≡ traced (blocks_of statements)
 
 -- the instructions that are chosen for flat code of a function, and its frame then
