@@ -41,10 +41,10 @@ compile_more (g ∷ fs) (c ∷ codes) f code h k = (h.0, compile_more fs codes f
 
 -- canonical statements, blocks and traces give flat code
 pub flattens : (frame new : Frame) (body : Ts) (statements : Stms) (blocks : List Block) (flat : List Linear) → new.label ≡ frame.label →
-    new.params ≡ frame.params → blocks ≡ blocks_of statements → flat ≡ traced blocks →
+    new.params ≡ frame.params → new.slots ≡ frame.slots → blocks ≡ blocks_of statements → flat ≡ traced blocks →
     FlattensTo (plain_function frame body) (plain_function new flat)
-flattens frame new body statements blocks flat label params cut laid =
-    record { statements = statements; label = ap (λ (l : Label). l.0) label; params = params; body = laid ∙ ap traced cut }
+flattens frame new body statements blocks flat label params slots cut laid =
+    record { statements = statements; label = ap (λ (l : Label). l.0) label; params = params; slots = slots; body = laid ∙ ap traced cut }
 
 -- and the instructions that are chosen for it
 pub chooses : (f : Function Ts) (between new : Frame) (flat : List Linear) (code : Instructions) → FlattensTo f (plain_function between flat) →

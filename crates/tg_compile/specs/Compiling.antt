@@ -22,12 +22,13 @@ with_runtime program = record {
   literals = program.literals ++ runtime.literals;
 }
 
--- Flat code of a function: some canonical statements of it, cut into blocks that are laid in traces.
+-- Flat code of a function: canonical statements of it, cut into blocks that are laid in traces.
 -- What the lifting of calls out of expressions makes of a body isn't said yet.
 pub record FlattensTo (f : Function Ts) (flat : Function (List Linear)) : Type 0 where
   pub statements : Stms
   pub label : flat.label ≡ f.label
   pub params : flat.params ≡ f.params
+  pub slots : flat.slots ≡ f.slots
   pub body : flat.body ≡ traced (blocks_of statements)
 
 -- the instructions that are chosen for flat code of a function, and its frame then

@@ -148,7 +148,7 @@ fn write_summary<O: Sink>(out: &mut O, it: Summary) -> Result<(), Failed>
     ensures cause { HasCause (O.faults out.old) (O.faults out.new) result }
 {
     write_counts(out, it)?;
-    write_count(out, b" status ", u64::from(it.status))?;
+    write_count(out, b" status ", it.status as u64)?;
     write_all(out, b"\n")
 }
 
@@ -158,7 +158,7 @@ fn write_counts<O: Sink>(out: &mut O, it: Summary) -> Result<(), Failed>
         (counts it.functions it.source it.output) }
     ensures cause { HasCause (O.faults out.old) (O.faults out.new) result }
 {
-    write_count(out, b"functions ", u64::from(it.functions))?;
+    write_count(out, b"functions ", it.functions as u64)?;
     write_count(out, b" source ", it.source as u64)?;
     write_count(out, b" output ", it.output)
 }

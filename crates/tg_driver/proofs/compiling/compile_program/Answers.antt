@@ -7,8 +7,9 @@ check-requires-clause-names c = names_within _ _ _ c.requires.1
 pub check-requires-clause-apart : goal.check-requires-clause-apart
 check-requires-clause-apart c = begins_apart _ _ _ c.requires.1
 
-pub returns-in-Ok : goal.returns-in-Ok
-returns-in-Ok c = λ text t. ?
+pub returns-in_ok-compile_checked-in-Ok : goal.returns-in_ok-compile_checked-in-Ok
+returns-in_ok-compile_checked-in-Ok c = λ text t.
+    builds text _ _ _ _ t c.in-Ok.ensures.ok (rw c.in-Ok.ensures.program at c.in_ok-compile_checked-in-Ok.ensures)
 
 pub returns-in-Err : goal.returns-in-Err
 returns-in-Err c = λ text t. c.ill_typed.ensures text (typed_fault _ _ _ _ t c.in-Err.ensures.err)
