@@ -1,6 +1,6 @@
 -- From the answers of a text to those of a call.
 use Rattle.std.specs.Prelude.{Ok, Err, IsErrOf, ◌≤◌, length}
-use Rattle.std.proofs.Common.{ℕ, ◌≡◌, ◌<◌, List, [], Option, Some, None, refl, sym, ap, ◌∙◌, subst, arith}
+use Rattle.std.proofs.Common.{ℕ, ◌≡◌, ◌<◌, List, [], Option, Some, None, refl, sym, ap, subst, arith}
 use Rattle.tg_base.specs.declared.ends.RunEnd.{RunEnd}
 use Rattle.tg_base.specs.declared.ends.RunEnd.TheVariants.{Exit, Break, Overflow, HeapFull, StackFull, StepLimit, BadAddress, Unaligned, BadWord, BadService, ReadFault, WriteFault}
 use Rattle.tg_base.specs.InMemory.{PlainBytes}
@@ -16,17 +16,16 @@ use Rattle.tg_command.specs.declared.modes.Mode.{Mode}
 use Rattle.tg_command.specs.declared.modes.Mode.TheVariants.{Check, Build, Run, Exec, Gen}
 use Rattle.tg_command.specs.Commands.{Asked, Ask}
 use Rattle.tg_driver.specs.declared.answers.Answer.{Answer}
-use Rattle.tg_driver.specs.declared.answers.Answer.TheVariants.{Usage, Unreadable, Faulty, BadLine, TooLong, Accepted, Built, Unwritten, OutOfMemory, Finished}
-use Rattle.tg_driver.specs.Builds.{RunRelation, Builds, RunsAssembled, EndsBuilt}
+use Rattle.tg_driver.specs.declared.answers.Answer.TheVariants.{Faulty, Built, Unwritten, OutOfMemory, Finished}
+use Rattle.tg_driver.specs.Builds.{RunRelation, Builds}
 use Rattle.tg_driver.specs.Calls.{Stream, stream_of, Streams, Stays, Untouched, Shelved, IsUnread, Call, Takes, all, part}
 use Rattle.tg_driver.specs.OfFiles.{OfFile, unreadable, read, OrMemory, unread_answer, HasStarted, StaysBeforeStart, UntouchedBeforeStart}
 use Rattle.tg_driver.specs.Found.{IsRefused}
-use Rattle.tg_driver.specs.Readings.{IsRefusalOf}
 use Rattle.tg_driver.specs.Runs.{HasRun, IsRunOrMemory}
 use Rattle.tg_driver.specs.CheckMode.{IsChecked, ByCheck}
-use Rattle.tg_driver.specs.BuildMode.{WritesBuilt, IsBuilt, ByBuild}
+use Rattle.tg_driver.specs.BuildMode.{IsBuilt, ByBuild}
 use Rattle.tg_driver.specs.RunMode.{EndsAssembled, IsRun, ByRun}
-use Rattle.tg_driver.specs.GenMode.{summary, TakesSummary, SumsUp, SumsUpRun, SumsUpBuilt, IsGenerated, ByGen}
+use Rattle.tg_driver.specs.GenMode.{summary, TakesSummary, SumsUpRun, SumsUpBuilt, IsGenerated, ByGen}
 use Rattle.tg_driver.specs.Endings.{end_status}
 use Rattle.tg_driver.specs.ExecMode.{IsExecuted, ByExec}
 use Rattle.tg_driver.specs.Modes.{InMode}

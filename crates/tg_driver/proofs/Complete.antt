@@ -1,14 +1,13 @@
 -- Good words for a file that is there, with no fault of a count, are answered as text and input settle, or by want of memory.
-use Rattle.std.proofs.Common.{ℕ, ◌≡◌, ◌≤◌, ◌⊎◌, inl, inr, List, [], length, Option, Some, None, take, refl, sym, ap, subst, ◌∙◌, arith}
+use Rattle.std.proofs.Common.{ℕ, ◌≡◌, ◌≤◌, ◌⊎◌, inl, inr, List, Option, Some, take, refl, sym, subst, arith}
 use Rattle.tg_base.specs.Causes.{Rose}
 use Rattle.tg_base.specs.Files.{Files, IsFrontOf}
 use Rattle.tg_base.specs.declared.ends.RunEnd.{RunEnd}
 use Rattle.tg_base.specs.declared.ends.RunEnd.TheVariants.{Exit, Break, Overflow, HeapFull, StackFull, StepLimit, BadAddress, Unaligned, BadWord, BadService, ReadFault, WriteFault}
 use Rattle.tg_isa.specs.declared.images.Image.{Image}
-use Rattle.tg_generate.specs.Generated.{generated}
 use Rattle.tg_command.specs.declared.modes.Mode.{Mode}
 use Rattle.tg_command.specs.declared.modes.Mode.TheVariants.{Check, Build, Run, Exec, Gen}
-use Rattle.tg_command.specs.Commands.{Asked, Ask}
+use Rattle.tg_command.specs.Commands.{Asked}
 use Rattle.tg_command.proofs.CommandLemmas.{asked_once, asked_no_fault}
 use Rattle.tg_driver.specs.declared.answers.Answer.{Answer}
 use Rattle.tg_driver.specs.declared.answers.Answer.TheVariants.{Faulty, BadLine, TooLong, Built, Unwritten, Finished, OutOfMemory}
@@ -16,10 +15,10 @@ use Rattle.tg_driver.specs.Calls.{Stream, stream_of, streams_of, HasFailed, Stre
 use Rattle.tg_driver.specs.OfFiles.{OfFile, unreadable, read}
 use Rattle.tg_driver.specs.Builds.{RunRelation, EndsBuilt}
 use Rattle.tg_driver.specs.Runs.{HasRun}
-use Rattle.tg_driver.specs.BuildMode.{WritesBuilt, IsBuilt}
+use Rattle.tg_driver.specs.BuildMode.{IsBuilt}
 use Rattle.tg_driver.specs.RunMode.{IsRun}
 use Rattle.tg_driver.specs.ExecMode.{IsExecuted}
-use Rattle.tg_driver.specs.GenMode.{no_input, TakesSummary, SumsUp, IsGenerated}
+use Rattle.tg_driver.specs.GenMode.{no_input, TakesSummary, IsGenerated}
 use Rattle.tg_driver.specs.Modes.{InMode, most_of}
 use Rattle.tg_driver.specs.Telling.{IsTold}
 use Rattle.tg_driver.specs.Answered.{IsDue, usage, no_memory, asked, Answers}

@@ -1,5 +1,5 @@
 -- Runs whose reads and writes all succeed are those of the definition.
-use Rattle.std.proofs.Common.{ℕ, ◌≡◌, List, [], ◌++◌, Option, Some, refl, sym, ap, subst, ◌∙◌, append-nil}
+use Rattle.std.proofs.Common.{ℕ, ◌≡◌, List, [], ◌++◌, Option, sym, ap, subst, ◌∙◌, append-nil}
 use Rattle.std.specs.Io.KnownBytes.{Appends}
 use Rattle.tg_base.specs.declared.ends.RunEnd.{RunEnd}
 use Rattle.tg_base.specs.declared.ends.RunEnd.TheVariants.{ReadFault, WriteFault}
@@ -8,7 +8,7 @@ use Rattle.tg_isa.specs.declared.images.Image.{Image}
 use Rattle.tg_isa.specs.Runs.{World, run, begun, answers}
 use Rattle.tg_machine.specs.Ran.{Stops, still, ended, read_failed, write_failed, Tells}
 use Rattle.tg_driver.specs.Calls.{Streams, HasFailed}
-use Rattle.tg_driver.specs.Runs.{HasRun, end_in, world_in, outcome_on, IsExact}
+use Rattle.tg_driver.specs.Runs.{HasRun, end_in, world_in, IsExact}
 use Rattle.tg_driver.specs.Laws.{IsFaultless, EndsAsTold}
 
 -- the outcome, by its parts

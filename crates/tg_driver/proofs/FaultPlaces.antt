@@ -2,7 +2,6 @@
 use Rattle.std.proofs.Common.{ℕ, ◌+◌, ◌≡◌, ◌≤◌, ◌<◌, ◌^◌, List, [], ◌∷◌, ◌++◌, length, refl, subst, arith, length-append}
 use Rattle.tg_syntax.specs.declared.faults.LexRule.{LexRule}
 use Rattle.tg_syntax.specs.declared.tokens.Spanned.{Spanned}
-use Rattle.tg_syntax.specs.Lexing.{blank, comment, token}
 use Rattle.tg_syntax.specs.LexicalFaults.{LeadsTo, FaultInString, FaultAt, HasLexicalFault}
 use Rattle.tg_syntax.specs.LexicalFaults as fault
 use Rattle.tg_syntax.specs.SyntaxFaults.{IsAt}

@@ -1,15 +1,13 @@
 -- What the answers to a call amount to.
-use Rattle.std.specs.Prelude.{ℕ, ◌≡◌, ◌⊎◌, List, [], Option, Some, take}
+use Rattle.std.specs.Prelude.{ℕ, ◌≡◌, List, [], Option, Some}
 use Rattle.std.specs.Io.KnownBytes.{Appends}
-use Rattle.tg_base.specs.declared.ends.RunEnd.{RunEnd}
-use Rattle.tg_isa.specs.declared.images.Image.{Image}
 use Rattle.tg_generate.specs.Generated.{generated}
 use Rattle.tg_command.specs.declared.modes.Mode.{Mode}
 use Rattle.tg_command.specs.declared.modes.Mode.TheVariants.{Check, Build, Run, Exec, Gen}
 use Rattle.tg_command.specs.Commands.{Asked, Ask}
 use Rattle.tg_driver.specs.declared.answers.Answer.{Answer}
-use Rattle.tg_driver.specs.declared.answers.Answer.TheVariants.{Faulty, Built, Finished, OutOfMemory}
-use Rattle.tg_driver.specs.Calls.{Stream, HasFailed, Streams, Shelved, IsUnread, Call}
+use Rattle.tg_driver.specs.declared.answers.Answer.TheVariants.{Faulty, Built, Finished}
+use Rattle.tg_driver.specs.Calls.{HasFailed, Streams, Shelved, IsUnread, Call}
 use Rattle.tg_driver.specs.Sources.{IsFaultOf, IsSource}
 use Rattle.tg_driver.specs.Builds.{RunRelation, EndsBuilt}
 use Rattle.tg_driver.specs.Runs.{end_in, outcome_on}
@@ -17,7 +15,6 @@ use Rattle.tg_driver.specs.CheckMode.{IsChecked}
 use Rattle.tg_driver.specs.RunMode.{IsRun}
 use Rattle.tg_driver.specs.ExecMode.{IsExecuted}
 use Rattle.tg_driver.specs.Statuses.{status_of, line_of}
-use Rattle.tg_driver.specs.Answered.{Answers}
 
 -- the input tells these bytes, and no read or write failed
 pub record IsFaultless {I O : Type 0} (s : Streams I O) (bytes : List ℕ) : Type 0 where

@@ -1,6 +1,6 @@
 -- The modes: each has a file of its own, which says whether it reads a file, what is due, and which
 -- streams it touches.
-use Rattle.std.specs.Prelude.{ℕ, List, Option}
+use Rattle.std.specs.Prelude.{ℕ, List}
 use Rattle.tg_command.specs.declared.modes.Mode.{Mode}
 use Rattle.tg_command.specs.declared.modes.Mode.TheVariants.{Check, Build, Run, Exec, Gen}
 use Rattle.tg_command.specs.Commands.{Asked}

@@ -1,4 +1,3 @@
-use Rattle.std.proofs.Common.{refl}
 use Rattle.tg_compile.proofs.Chain.{tree_of, joined}
 use Rattle.tg_compile.proofs.programs.fragments.Goals as goal
 
