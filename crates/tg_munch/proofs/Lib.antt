@@ -1,3 +1,4 @@
+pub mod Drawing
 mod Examples
 pub mod Kept
 pub mod Marks
