@@ -30,7 +30,7 @@ pub drawn_on : (m n : ℕ) → m ≤ n → (x : Opnd) → D m x → D n x
 drawn_on m n le (Temp t) h = grind (arith, nat_tests)
 drawn_on m n le (Reg r) h = h
 
-option_on : (m n : ℕ) → m ≤ n → (x : Option Opnd) → IsTrue (is_option_drawn m x) → IsTrue (is_option_drawn n x)
+pub option_on : (m n : ℕ) → m ≤ n → (x : Option Opnd) → IsTrue (is_option_drawn m x) → IsTrue (is_option_drawn n x)
 option_on m n le (Some x) h = drawn_on m n le x h
 option_on m n le None h = refl
 
@@ -109,7 +109,7 @@ fits_halves : (slots : ℕ) (to : Opnd) (n : ℕ) (d : Drawn) → D d.temp to �
 fits_halves slots to n d h =
     fits_then _ (fits_put slots _ d (one_named _ h)) (λ e u le g. let k = drawn_on d.temp e.temp le to h in fits_define slots _ to e (two_named _ _ k k) k)
 
-fits_if : {A : Type 0} {good : ℕ → A → Bool} {slots : ℕ} (b : Bool) {q r : Choice A} {d : Drawn} → Fits good slots q d → Fits good slots r d → Fits good slots (if b then q else r) d
+pub fits_if : {A : Type 0} {good : ℕ → A → Bool} {slots : ℕ} (b : Bool) {q r : Choice A} {d : Drawn} → Fits good slots q d → Fits good slots r d → Fits good slots (if b then q else r) d
 fits_if true h k = h
 fits_if false h k = k
 

@@ -1,5 +1,6 @@
 pub mod Drawing
 mod Examples
+pub mod Naming
 pub mod Kept
 pub mod Marks
 pub mod Walking
