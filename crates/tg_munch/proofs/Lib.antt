@@ -1,6 +1,7 @@
 pub mod Drawing
 mod Examples
 pub mod Naming
+pub mod NamingCode
 pub mod Kept
 pub mod Marks
 pub mod Walking

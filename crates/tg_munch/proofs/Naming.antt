@@ -11,8 +11,8 @@ use Rattle.tg_instr.specs.declared.operands.Opnd.{Opnd}
 use Rattle.tg_instr.specs.declared.operands.Opnd.TheVariants.{Temp, Reg}
 use Rattle.tg_munch.specs.Choosing.{Drawn, Choice, ◌>>=◌, ◌>>◌, give, put, choose}
 use Rattle.tg_munch.specs.Naming.{is_fixed, is_drawn, is_option_drawn, names_drawn, TempsBelow, TempsOfAllBelow, TempsOfStatementBelow}
-use Rattle.tg_munch.specs.Tiles.{nothing, is_slot, slot_below, slot, offset_by, based, loaded, loaded_byte, tile}
-use Rattle.tg_munch.specs.Munching.{temp, argument, fresh_constant, constant_in, address_in, frame_address_in, answer_in, store_far, store_low, passed, asked, expression, arguments}
+use Rattle.tg_munch.specs.Tiles.{nothing, is_slot, slot_below, slot, offset, offset_by, based, loaded, loaded_byte, tile}
+use Rattle.tg_munch.specs.Munching.{temp, argument, fresh_constant, constant_in, address_in, frame_address_in, answer_in, store_far, store_low, passed, asked, expression, arguments, left_side, based_at, valued, effect, stored, stored_byte, statement}
 use Rattle.tg_munch.proofs.Drawing.{D, drawn_on, option_on, Fits, anything, fits_then, fits_give, fits_put, fits_define, fits_fresh, fits_choose, fits_if, fits_constant, fits_moved, fits_tiled, one_named, two_named, three_named, base_drawn, fits_based, is_option_slot, fits_loaded, fits_loaded_byte, Part}
 
 fits_constant_in : (slots n : ℕ) (asked : Option Opnd) (d : Drawn) → IsTrue (is_option_drawn d.temp asked) → Fits is_drawn slots (constant_in n asked) d
@@ -109,3 +109,44 @@ mutual
   fits_arguments slots least i (tx x xs) below d le =
       fits_then _ (fits_passed_by slots least i (expression slots x) (fits_expression slots least x below.0) d le (nat_lt i 4) refl)
       (λ e u a b. fits_arguments slots least (i + 1) xs below.1 e (omega (arith, le, a)))
+
+-- the left side of an address, and an address
+fits_left_side : (slots least : ℕ) (x : Tx) → TempsBelow least x → Part slots least (left_side slots x)
+fits_left_side slots least (tree.Binary op x y) below d le = fits_expression slots least x below.0 None d le refl
+fits_left_side slots least x below d le = fits_expression slots least x below None d le refl
+
+fits_based_at : (slots least : ℕ) (x : Tx) → TempsBelow least x → (d : Drawn) → least ≤ d.temp → Fits base_drawn slots (based_at slots x) d
+fits_based_at slots least x below d le =
+    fits_based slots least (offset x) (left_side slots x) (expression slots x None) (fits_left_side slots least x below)
+    (λ e l. fits_expression slots least x below None e l refl) d le
+
+fits_valued : (slots least : ℕ) (x : Tx) → TempsBelow least x → (d : Drawn) → least ≤ d.temp → Fits anything slots (valued slots x) d
+fits_valued slots least x below d le = fits_then _ (fits_expression slots least x below None d le refl) (λ e v a b. fits_give anything slots tt e refl)
+
+fits_effect : (slots least : ℕ) (x : Tx) → TempsBelow least x → (d : Drawn) → least ≤ d.temp → Fits anything slots (effect slots x) d
+fits_effect slots least (tree.Call label xs) below d le = fits_then _ (fits_arguments slots least 0 xs below d le) (λ e u a b. fits_put slots _ e refl)
+fits_effect slots least (tree.Service n x) below d le = fits_asked slots n _ d (fits_expression slots least x below (Some (Reg 4)) d le refl)
+fits_effect slots least x below d le = fits_valued slots least x below d le
+
+fits_stored : (slots least : ℕ) (k : Option ℕ) → IsTrue (is_option_slot slots k) → (x y : Tx) → TempsBelow least x → TempsBelow least y →
+    (d : Drawn) → least ≤ d.temp → Fits anything slots (stored slots k x y) d
+fits_stored slots least (Some k) s x y bx by d le =
+    fits_then _ (fits_expression slots least y by None d le refl) (λ e v a b. fits_put slots _ e (both_hold _ _ b s))
+fits_stored slots least None s x y bx by d le =
+    fits_then _ (fits_based_at slots least x bx d le) (λ e place a b.
+    fits_then _ (fits_expression slots least y by None e (omega (arith, le, a)) refl) (λ f v a' b'.
+    fits_put slots _ f (two_named _ _ b' (drawn_on e.temp f.temp a' place.operand b))))
+
+fits_stored_byte : (slots least : ℕ) (x y : Tx) → TempsBelow least x → TempsBelow least y → (d : Drawn) → least ≤ d.temp → Fits anything slots (stored_byte slots x y) d
+fits_stored_byte slots least x y bx by d le =
+    fits_then _ (fits_based_at slots least x bx d le) (λ e place a b.
+    fits_then _ (fits_expression slots least y by None e (omega (arith, le, a)) refl) (λ f v a' b'.
+    fits_put slots _ f (two_named _ _ b' (drawn_on e.temp f.temp a' place.operand b))))
+
+pub fits_statement : (slots least : ℕ) (s : Ts) → TempsOfStatementBelow least s → (d : Drawn) → least ≤ d.temp → Fits anything slots (statement slots s) d
+fits_statement slots least (tree.Move t x) below d le =
+    fits_then _ (fits_expression slots least x below.1 (Some (temp t)) d le (drawn_on least d.temp le (temp t) below.0)) (λ e v a b. fits_give anything slots tt e refl)
+fits_statement slots least (tree.Store x y) below d le = fits_stored slots least (slot slots x) (slot_named slots x) x y below.0 below.1 d le
+fits_statement slots least (tree.StoreByte x y) below d le = fits_stored_byte slots least x y below.0 below.1 d le
+fits_statement slots least (tree.Do x) below d le = fits_effect slots least x below d le
+fits_statement slots least _ below d le = fits_give anything slots tt d refl
