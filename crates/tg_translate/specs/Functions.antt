@@ -6,10 +6,22 @@ use Rattle.tg_syntax.specs.declared.tokens.Ident.{Ident}
 use Rattle.tg_syntax.specs.declared.trees.Param.{Param}
 use Rattle.tg_syntax.specs.Tree.{FunDecs, no_functions, function}
 use Rattle.tg_tree.specs.Tree.{Const, Ts, Seq, Return, no_stms, stm, Function, Code}
+use Rattle.tg_translate.specs.declared.homes.Home.{Home}
 use Rattle.tg_translate.specs.declared.homes.Within.{Within}
 use Rattle.tg_translate.specs.declared.wants.Want.{Want}
 use Rattle.tg_translate.specs.declared.wants.Want.TheVariants as want
-use Rattle.tg_translate.specs.States.{State, Frame, Acts, Drawn, drawn, ◌>>=◌, ◌>>◌, give, draw_label, declare_home, declare_callee}
+use Rattle.tg_translate.specs.States.{
+  State,
+  Frame,
+  Acts,
+  Drawn,
+  drawn,
+  ◌>>=◌,
+  ◌>>◌,
+  give,
+  draw_label,
+  declare_callee,
+}
 use Rattle.tg_translate.specs.Wants.{Made, value_of, dropped}
 
 abbrev pub at_of : Ident → ℕ
@@ -19,11 +31,17 @@ at_of x = x.span.from
 abbrev pub asked : (escapes : ℕ → Bool) → (keeps_link : Bool) → List Param → List Bool
 asked escapes kept params = kept ∷ map (λ p. escapes (at_of p.name)) params
 
+-- parameters are variables, each with its home
+abbrev pub parameters :
+    (level : ℕ) → List Param → List Access → List (ℕ × Home) → List (ℕ × Home)
+parameters level (p ∷ params) (home ∷ homes) seen =
+    parameters level params homes
+    ((at_of p.name, record { level = level; access = home }) ∷ seen)
+parameters level _ _ seen = seen
+
 abbrev pub declare_params : (level : ℕ) → List Param → List Access → Acts (Unit {0})
-declare_params level (p ∷ params) (home ∷ homes) = do
-  declare_home (at_of p.name) (record { level = level; access = home })
-  declare_params level params homes
-declare_params level _ _ = give tt
+declare_params level params homes =
+    λ s. drawn tt (record s { homes = parameters level params homes s.homes })
 
 -- the homes behind the static link's
 abbrev pub own_homes : List Access → List Access
@@ -75,6 +93,13 @@ opened s f = record s { functions = []; frame = f }
 -- a function's text is translated with a frame of its own
 abbrev pub in_frame : Frame → Acts Ts → Acts (Unit {0})
 in_frame f body = λ s. finish s (body (opened s f))
+
+-- a function's text begins: with a frame of its own, and with its parameters declared
+abbrev pub begun :
+    (escapes : ℕ → Bool) → (label : ℕ) → (kept : Bool) → (level : ℕ) → List Param → State → State
+begun escapes label kept level params s =
+    let f = frame_for label (asked escapes kept params) in
+    record (opened s f) { homes = parameters level params (own_homes f.params) s.homes }
 
 abbrev pub result_want : (has_result : Bool) → Want
 result_want true = want.Value

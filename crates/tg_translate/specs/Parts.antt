@@ -11,12 +11,40 @@ use Rattle.tg_translate.specs.declared.wants.Want.{Want}
 use Rattle.tg_translate.specs.declared.wants.Want.TheVariants as want
 use Rattle.tg_translate.specs.declared.homes.Within.{Within}
 use Rattle.tg_translate.specs.States.{Acts, ◌>>=◌, give}
-use Rattle.tg_translate.specs.Wants.{Made, value, done, value_from, condition_from, arm_from, statement_from, behind}
-use Rattle.tg_translate.specs.Constructs.{Place, none_held, want_for, assign, element_place, make_record, make_array, repeat_while, in_body, count}
+use Rattle.tg_translate.specs.Wants.{
+  Made,
+  value,
+  done,
+  value_from,
+  condition_from,
+  arm_from,
+  statement_from,
+  behind,
+}
+use Rattle.tg_translate.specs.Constructs.{
+  Place,
+  none_held,
+  want_for,
+  assign,
+  element_place,
+  make_record,
+  make_array,
+  repeat_while,
+  in_body,
+  count,
+}
 use Rattle.tg_translate.specs.Scopes.{Findings, call, declare_variable}
 use Rattle.tg_translate.specs.Purity.{assigns_nothing, inits_assign_nothing}
 use Rattle.tg_translate.specs.Functions.{at_of, body}
-use Rattle.tg_translate.specs.Translate.{connective, with_left, declaration_of, expression, values, fields, sequence}
+use Rattle.tg_translate.specs.Translate.{
+  connective,
+  with_left,
+  declaration_of,
+  expression,
+  values,
+  fields,
+  sequence,
+}
 
 module _ (findings : Findings) where
   abbrev pub value_in : Exp → Within → Acts Tx

@@ -2,7 +2,30 @@
 -- variable's temporary stays there while they are evaluated. A call assigns none, since what a
 -- nested function assigns escapes.
 use Rattle.std.specs.Prelude.{◌&&◌, Bool, true, false}
-use Rattle.tg_syntax.specs.Tree.{Exp, Nil, Int, Text, Read, Call, Neg, Binary, Make, Fill, If, Seq, Place, Simple, Field, Index, Exps, no_exps, exp, Inits, no_inits, init}
+use Rattle.tg_syntax.specs.Tree.{
+  Exp,
+  Nil,
+  Int,
+  Text,
+  Read,
+  Call,
+  Neg,
+  Binary,
+  Make,
+  Fill,
+  If,
+  Seq,
+  Place,
+  Simple,
+  Field,
+  Index,
+  Exps,
+  no_exps,
+  exp,
+  Inits,
+  no_inits,
+  init,
+}
 
 abbrev mutual
   pub assigns_nothing : Exp → Bool

@@ -17,9 +17,27 @@ use Rattle.tg_translate.specs.declared.findings.Findings.{Findings as CodeFindin
 use Rattle.tg_translate.specs.declared.homes.Home.{Home}
 use Rattle.tg_translate.specs.declared.homes.Callee.{Callee}
 use Rattle.tg_translate.specs.declared.homes.Within.{Within}
-use Rattle.tg_translate.specs.States.{Acts, ◌>>=◌, ◌>>◌, give, draw_label, add_literal, home_at, callee_at, declare_home, local}
+use Rattle.tg_translate.specs.States.{
+  Acts,
+  ◌>>=◌,
+  ◌>>◌,
+  give,
+  draw_label,
+  add_literal,
+  home_at,
+  callee_at,
+  declare_home,
+  local,
+}
 use Rattle.tg_translate.specs.Wants.{Made, value}
-use Rattle.tg_translate.specs.Constructs.{Place, at_address, place_in, frame_out, call_routine, string_text}
+use Rattle.tg_translate.specs.Constructs.{
+  Place,
+  at_address,
+  place_in,
+  frame_out,
+  call_routine,
+  string_text,
+}
 
 -- what is noted at a byte, whether the variable of a byte escapes, and whether the function of a
 -- byte keeps its static link in a slot, since a function nested in it goes through that

@@ -5,7 +5,43 @@ use Rattle.std.specs.Prelude.{ℕ, ◌+◌, [], is_some, Option, Bool, false}
 use Rattle.tg_syntax.specs.declared.trees.Op.{Op}
 use Rattle.tg_syntax.specs.declared.trees.Op.TheVariants.{And, Or}
 use Rattle.tg_syntax.specs.Tree as source
-use Rattle.tg_syntax.specs.Tree.{Exp, Nil, Break, Int, Text, Read, Call, Neg, Binary, Make, Fill, Assign, If, When, While, For, Let, Seq, Simple, Field, Index, Exps, no_exps, exp, Inits, no_inits, init, Decs, no_decs, types, variable, functions, FunDecs, no_functions, function}
+use Rattle.tg_syntax.specs.Tree.{
+  Exp,
+  Nil,
+  Break,
+  Int,
+  Text,
+  Read,
+  Call,
+  Neg,
+  Binary,
+  Make,
+  Fill,
+  Assign,
+  If,
+  When,
+  While,
+  For,
+  Let,
+  Seq,
+  Simple,
+  Field,
+  Index,
+  Exps,
+  no_exps,
+  exp,
+  Inits,
+  no_inits,
+  init,
+  Decs,
+  no_decs,
+  types,
+  variable,
+  functions,
+  FunDecs,
+  no_functions,
+  function,
+}
 use Rattle.tg_tree.specs.Tree as tree
 use Rattle.tg_tree.specs.Tree.{Const, Txs, no_txs, tx, Ts, Stms, no_stms, Code}
 use Rattle.tg_tree.specs.Forms.{nothing}
@@ -15,12 +51,62 @@ use Rattle.tg_translate.specs.declared.wants.Want.{Want}
 use Rattle.tg_translate.specs.declared.wants.Want.TheVariants as want
 use Rattle.tg_translate.specs.declared.homes.Within.{Within}
 use Rattle.tg_translate.specs.States.{Acts, ◌>>=◌, ◌>>◌, give, next_label}
-use Rattle.tg_translate.specs.Wants.{Made, value, done, test_of, value_of, value_from, condition_from, arm_from, statement_from, arms, deliver, followed, behind}
-use Rattle.tg_translate.specs.Constructs.{Place, HeldAll, none_held, hold_next, own_place, read, want_for, assign, field_place, element_place, make_record, make_array, operation, negation, repeat_while, in_body, in_test, count}
-use Rattle.tg_translate.specs.Scopes.{Findings, variable_place, field_number, compares_strings, call, literal, declare_variable}
+use Rattle.tg_translate.specs.Wants.{
+  Made,
+  value,
+  done,
+  test_of,
+  value_of,
+  value_from,
+  condition_from,
+  arm_from,
+  statement_from,
+  arms,
+  deliver,
+  followed,
+  behind,
+}
+use Rattle.tg_translate.specs.Constructs.{
+  Place,
+  HeldAll,
+  none_held,
+  hold_next,
+  own_place,
+  read,
+  want_for,
+  assign,
+  field_place,
+  element_place,
+  make_record,
+  make_array,
+  operation,
+  negation,
+  repeat_while,
+  in_body,
+  in_test,
+  count,
+}
+use Rattle.tg_translate.specs.Scopes.{
+  Findings,
+  variable_place,
+  field_number,
+  compares_strings,
+  call,
+  literal,
+  declare_variable,
+}
 use Rattle.tg_translate.specs.Choices.{left_want, tested, chosen}
 use Rattle.tg_translate.specs.Purity.{assigns_nothing, inits_assign_nothing}
-use Rattle.tg_translate.specs.Functions.{at_of, declare_functions, body, closing, outermost, beginning, frame_for, program}
+use Rattle.tg_translate.specs.Functions.{
+  at_of,
+  declare_functions,
+  body,
+  closing,
+  outermost,
+  beginning,
+  frame_for,
+  program,
+}
 
 abbrev pub connective : Op → Want → tree.Cond → (right : Want → Acts Made) → Acts Made
 connective op want.Test c right = do

@@ -2,7 +2,22 @@
 -- and how each is made what its place wants.
 use Rattle.std.specs.Prelude.{ℕ, Bool, true, false, if◌then◌else◌}
 use Rattle.tg_tree.specs.declared.operators.Rel.TheVariants.{NotEqual}
-use Rattle.tg_tree.specs.Tree.{Tx, Const, Temp, After, Cond, Compare, Ts, Move, Do, If, Seq, Stms, no_stms, stm}
+use Rattle.tg_tree.specs.Tree.{
+  Tx,
+  Const,
+  Temp,
+  After,
+  Cond,
+  Compare,
+  Ts,
+  Move,
+  Do,
+  If,
+  Seq,
+  Stms,
+  no_stms,
+  stm,
+}
 use Rattle.tg_tree.specs.Forms.{nothing}
 use Rattle.tg_tree.specs.Lists.{join_stms}
 use Rattle.tg_tree.specs.Plain.{plain_tx, plain_cond, plain_ts}

@@ -27,7 +27,11 @@ pub(crate) fn make_record(
     state: &mut State,
     before: Vec<Ts>,
     operands: &[Operand],
-) -> Result<Made, Memory> {
+) -> Result<Made, Memory>
+    ensures { IfOk result (λ m.
+        constructs.make_record (record { before = stms_of before.items; operands = operands.now })
+        (state_of state.old) ≡ drawn (plain_made m) (state_of state.new)) }
+{
     let to = state.fresh()?;
     Ok(record_of(state.alloc, to, before, operands)?)
 }
@@ -37,7 +41,11 @@ fn record_of(
     to: Temp,
     mut done: Vec<Ts>,
     operands: &[Operand],
-) -> Result<Made, Memory> {
+) -> Result<Made, Memory>
+    ensures { IfOk result (λ m. plain_made m ≡
+        constructs.record_of to.0
+        (record { before = stms_of done.items; operands = operands.now })) }
+{
     let made = call_for_record(alloc, operands.len())?;
     push(&mut done, Ts::Move(to, made))?;
     store_fields(alloc, &mut done, to, operands)?;
@@ -57,7 +65,10 @@ fn store_fields(
     done: &mut Vec<Ts>,
     to: Temp,
     operands: &[Operand],
-) -> Result<(), Memory> {
+) -> Result<(), Memory>
+    ensures { OnOk result (stms_of done.new.items ≡
+        constructs.store_fields (stms_of done.old.items) to.0 0 operands.now) }
+{
     let mut field = 0;
     for operand in operands {
         push(done, store_field(alloc, to, field, *operand)?)?;

@@ -1,3 +1,24 @@
+ghost use Rattle.std.specs.Prelude.{◌≡◌, [], IfOk, OnOk, is_some};
+ghost use Rattle.tg_syntax.specs.Plain.{
+  plain,
+  plain_place as plain_var,
+  plain_exps,
+  plain_inits,
+  plain_dec,
+  plain_functions,
+};
+ghost use Rattle.tg_syntax.specs.Lists.{decs_of};
+ghost use Rattle.tg_syntax.specs.Tree.{no_decs};
+ghost use Rattle.tg_tree.specs.Plain.{plain_tx, plain_cond, plain_ts};
+ghost use Rattle.tg_tree.specs.Tree.{no_txs, no_stms};
+ghost use Rattle.tg_tree.specs.Lists.{txs_of, stms_of};
+ghost use Rattle.tg_translate.specs.States.{drawn, state_of};
+ghost use Rattle.tg_translate.specs.Wants.{plain_made};
+ghost use Rattle.tg_translate.specs.Constructs.{plain_place};
+ghost use Rattle.tg_translate.specs.Scopes.{findings_of};
+ghost use Rattle.tg_translate.specs.Translate as translation;
+ghost use Rattle.tg_translate.specs.Parts as parts;
+
 use crate::calls::{call_by, literal};
 use crate::constructs::call_with_two;
 use crate::creation::make_record;
@@ -14,7 +35,7 @@ use crate::places::{
 use crate::purity::{assigns_nothing, inits_assign_nothing};
 use crate::states::{State, next};
 use crate::wants::{
-    Made, Want, arms, as_statement, behind, deliver, dropped, nothing, test_of, value_of,
+    Made, Want, arms, as_statement, behind, deliver, dropped, nothing, push, test_of, value_of,
 };
 use tg_base::{Label, Memory};
 use tg_runtime::Routine;
@@ -29,7 +50,11 @@ pub(crate) fn expression(
     e: &Exp,
     want: Want,
     within: Within,
-) -> Result<Made, Memory> {
+) -> Result<Made, Memory>
+    ensures { IfOk result (λ m.
+        translation.expression (findings_of findings.now) (plain e.now) want within
+        (state_of state.old) ≡ drawn (plain_made m) (state_of state.new)) }
+{
     match &e.kind {
         Kind::Nil => Ok(Made::Value(Tx::Const(0))),
         Kind::Int(number) => Ok(Made::Value(Tx::Const(*number))),
@@ -91,7 +116,11 @@ pub(crate) fn expression(
 
 // The value of an expression.
 #[cycle(translation)]
-fn value(findings: &Findings, state: &mut State, e: &Exp, within: Within) -> Result<Tx, Memory> {
+fn value(findings: &Findings, state: &mut State, e: &Exp, within: Within) -> Result<Tx, Memory>
+    ensures { IfOk result (λ x.
+        parts.value_in (findings_of findings.now) (plain e.now) within
+        (state_of state.old) ≡ drawn (plain_tx x) (state_of state.new)) }
+{
     let made = expression(findings, state, e, Want::Value, within)?;
     Ok(value_of(state, made)?)
 }
@@ -103,19 +132,22 @@ fn condition(
     state: &mut State,
     e: &Exp,
     within: Within,
-) -> Result<Cond, Memory> {
+) -> Result<Cond, Memory>
+    ensures { IfOk result (λ x.
+        parts.condition_in (findings_of findings.now) (plain e.now) within
+        (state_of state.old) ≡ drawn (plain_cond x) (state_of state.new)) }
+{
     let made = expression(findings, state, e, Want::Test, within)?;
     Ok(test_of(state.alloc, made)?)
 }
 
 // The statement that does an expression, without its value.
 #[cycle(translation)]
-fn statement(
-    findings: &Findings,
-    state: &mut State,
-    e: &Exp,
-    within: Within,
-) -> Result<Ts, Memory> {
+fn statement(findings: &Findings, state: &mut State, e: &Exp, within: Within) -> Result<Ts, Memory>
+    ensures { IfOk result (λ x.
+        parts.statement_in (findings_of findings.now) (plain e.now) within
+        (state_of state.old) ≡ drawn (plain_ts x) (state_of state.new)) }
+{
     let made = expression(findings, state, e, Want::Dropped, within)?;
     Ok(dropped(state.alloc, made)?)
 }
@@ -128,7 +160,11 @@ fn arm(
     e: &Exp,
     arms: Want,
     within: Within,
-) -> Result<Ts, Memory> {
+) -> Result<Ts, Memory>
+    ensures { IfOk result (λ x.
+        parts.arm_in (findings_of findings.now) (plain e.now) arms within
+        (state_of state.old) ≡ drawn (plain_ts x) (state_of state.new)) }
+{
     let made = expression(findings, state, e, arms, within)?;
     Ok(as_statement(state.alloc, arms, made)?)
 }
@@ -140,7 +176,11 @@ fn called(
     f: Ident,
     arguments: &Exps,
     within: Within,
-) -> Result<Made, Memory> {
+) -> Result<Made, Memory>
+    ensures { IfOk result (λ m.
+        parts.called (findings_of findings.now) f (plain_exps arguments.now) within
+        (state_of state.old) ≡ drawn (plain_made m) (state_of state.new)) }
+{
     let arguments = values(findings, state, arguments, within)?;
     let meaning = findings.meaning(f.span.from);
     Ok(Made::Value(call_by(state, within, meaning, arguments)?))
@@ -157,7 +197,12 @@ fn with_left(
     left: Made,
     want: Want,
     within: Within,
-) -> Result<Made, Memory> {
+) -> Result<Made, Memory>
+    ensures { IfOk result (λ m.
+        parts.with_left_in (findings_of findings.now) op at (plain_made left) (plain b.now) want
+        within
+        (state_of state.old) ≡ drawn (plain_made m) (state_of state.new)) }
+{
     match op {
         Op::And | Op::Or => {
             let left = test_of(state.alloc, left)?;
@@ -182,7 +227,12 @@ fn connective(
     left: Cond,
     want: Want,
     within: Within,
-) -> Result<Made, Memory> {
+) -> Result<Made, Memory>
+    ensures { IfOk result (λ m.
+        parts.connective_in (findings_of findings.now) op (plain_cond left) (plain b.now) want
+        within
+        (state_of state.old) ≡ drawn (plain_made m) (state_of state.new)) }
+{
     match want {
         Want::Test => {
             let right = expression(findings, state, b, Want::Test, within)?;
@@ -203,7 +253,11 @@ fn made_record(
     state: &mut State,
     inits: &Inits,
     within: Within,
-) -> Result<Made, Memory> {
+) -> Result<Made, Memory>
+    ensures { IfOk result (λ m.
+        parts.made_record (findings_of findings.now) (plain_inits inits.now) within
+        (state_of state.old) ≡ drawn (plain_made m) (state_of state.new)) }
+{
     let direct = inits_assign_nothing(inits);
     let mut before = Vec::new(state.alloc);
     let operands = fields(findings, state, inits, &mut before, direct, within)?;
@@ -218,7 +272,11 @@ fn filled(
     item: &Exp,
     size: Tx,
     within: Within,
-) -> Result<Made, Memory> {
+) -> Result<Made, Memory>
+    ensures { IfOk result (λ m.
+        parts.filled (findings_of findings.now) (plain_tx size) (plain item.now) within
+        (state_of state.old) ≡ drawn (plain_made m) (state_of state.new)) }
+{
     let item = value(findings, state, item, within)?;
     let array = call_with_two(state.alloc, Routine::MakeArray, size, item)?;
     Ok(Made::Value(array))
@@ -232,7 +290,11 @@ fn assigned(
     e: &Exp,
     place: Place,
     within: Within,
-) -> Result<Made, Memory> {
+) -> Result<Made, Memory>
+    ensures { IfOk result (λ m.
+        parts.assigned (findings_of findings.now) (plain_place place) (plain e.now) within
+        (state_of state.old) ≡ drawn (plain_made m) (state_of state.new)) }
+{
     let made = expression(findings, state, e, want_for(&place), within)?;
     Ok(Made::Done(assign(state, place, made)?))
 }
@@ -244,7 +306,11 @@ fn when_true(
     this: &Exp,
     test: Cond,
     within: Within,
-) -> Result<Made, Memory> {
+) -> Result<Made, Memory>
+    ensures { IfOk result (λ m.
+        parts.when_true (findings_of findings.now) (plain_cond test) (plain this.now) within
+        (state_of state.old) ≡ drawn (plain_made m) (state_of state.new)) }
+{
     let this = statement(findings, state, this, within)?;
     let none = nothing(state.alloc);
     Ok(Made::Done(if_else(state.alloc, test, this, none)?))
@@ -257,7 +323,11 @@ fn turned(
     body: &Exp,
     test: Cond,
     within: Within,
-) -> Result<Made, Memory> {
+) -> Result<Made, Memory>
+    ensures { IfOk result (λ m.
+        parts.turned (findings_of findings.now) (plain_cond test) (plain body.now) within
+        (state_of state.old) ≡ drawn (plain_made m) (state_of state.new)) }
+{
     let turn = statement(findings, state, body, in_body(within))?;
     Ok(Made::Done(repeat_while(state.alloc, test, turn)?))
 }
@@ -271,7 +341,12 @@ fn counted(
     low: Tx,
     high: Tx,
     within: Within,
-) -> Result<Made, Memory> {
+) -> Result<Made, Memory>
+    ensures { IfOk result (λ m.
+        parts.counted (findings_of findings.now) x (plain_tx low) (plain_tx high)
+        (plain body.now) within
+        (state_of state.old) ≡ drawn (plain_made m) (state_of state.new)) }
+{
     let variable = declare_variable(findings, state, within.level, x.span.from)?;
     let turn = statement(findings, state, body, in_body(within))?;
     Ok(Made::Done(count(state, variable, low, high, turn)?))
@@ -283,7 +358,11 @@ fn locate(
     state: &mut State,
     place: &Var,
     within: Within,
-) -> Result<Place, Memory> {
+) -> Result<Place, Memory>
+    ensures { IfOk result (λ p.
+        translation.locate (findings_of findings.now) (plain_var place.now) within
+        (state_of state.old) ≡ drawn (plain_place p) (state_of state.new)) }
+{
     match place {
         Var::Simple(x) => Ok(variable_place(state, within, findings.meaning(x.span.from))?),
         Var::Field(of, field) => {
@@ -308,7 +387,11 @@ fn indexed(
     index: &Exp,
     array: Tx,
     within: Within,
-) -> Result<Place, Memory> {
+) -> Result<Place, Memory>
+    ensures { IfOk result (λ p.
+        parts.indexed (findings_of findings.now) (plain_tx array) (plain index.now) within
+        (state_of state.old) ≡ drawn (plain_place p) (state_of state.new)) }
+{
     let value = value(findings, state, index, within)?;
     Ok(element_place(state, assigns_nothing(index), array, value)?)
 }
@@ -320,10 +403,15 @@ fn values(
     state: &mut State,
     exps: &Exps,
     within: Within,
-) -> Result<Vec<Tx>, Memory> {
+) -> Result<Vec<Tx>, Memory>
+    ensures { IfOk result (λ xs.
+        translation.values (findings_of findings.now) (plain_exps exps.now) no_txs within
+        (state_of state.old) ≡ drawn (txs_of xs.items) (state_of state.new)) }
+{
     let mut values = Vec::new(state.alloc);
     for e in &exps.items {
-        values.push(value(findings, state, e, within)?)?;
+        let value = value(findings, state, e, within)?;
+        values.push(value)?;
     }
     Ok(values)
 }
@@ -337,7 +425,14 @@ fn fields(
     before: &mut Vec<Ts>,
     direct: bool,
     within: Within,
-) -> Result<Vec<Operand>, Memory> {
+) -> Result<Vec<Operand>, Memory>
+    ensures { IfOk result (λ all.
+        translation.fields (findings_of findings.now) (plain_inits inits.now) direct
+        (record { before = stms_of before.old.items; operands = [] }) within
+        (state_of state.old) ≡
+        drawn (record { before = stms_of before.new.items; operands = all.items })
+        (state_of state.new)) }
+{
     let mut operands = Vec::new(state.alloc);
     for init in &inits.items {
         let value = value(findings, state, &init.value, within)?;
@@ -355,18 +450,22 @@ fn sequence(
     mut before: Vec<Ts>,
     want: Want,
     within: Within,
-) -> Result<Made, Memory> {
-    let mut last = Made::Value(Tx::Const(0));
+) -> Result<Made, Memory>
+    ensures { IfOk result (λ m.
+        parts.sequence_in (findings_of findings.now) (plain_exps exps.now) want
+        (stms_of before.items) within
+        (state_of state.old) ≡ drawn (plain_made m) (state_of state.new)) }
+{
     let mut left = exps.items.len();
     for e in &exps.items {
         left -= 1;
-        if left > 0 {
-            before.push(statement(findings, state, e, within)?)?;
-        } else {
-            last = expression(findings, state, e, want, within)?;
+        if left == 0 {
+            let last = expression(findings, state, e, want, within)?;
+            return Ok(behind(state, want, before, last)?);
         }
+        push(&mut before, statement(findings, state, e, within)?)?;
     }
-    Ok(behind(state, want, before, last)?)
+    Ok(behind(state, want, before, Made::Value(Tx::Const(0)))?)
 }
 
 // The statements of declarations.
@@ -376,7 +475,12 @@ fn declarations(
     state: &mut State,
     decs: &Decs,
     within: Within,
-) -> Result<Vec<Ts>, Memory> {
+) -> Result<Vec<Ts>, Memory>
+    ensures { IfOk result (λ ss.
+        translation.declarations (findings_of findings.now) (decs_of decs.now.items.items)
+        no_stms within
+        (state_of state.old) ≡ drawn (stms_of ss.items) (state_of state.new)) }
+{
     let mut before = Vec::new(state.alloc);
     for dec in &decs.items {
         declaration(findings, state, dec, &mut before, within)?;
@@ -391,11 +495,16 @@ fn declaration(
     dec: &Dec,
     before: &mut Vec<Ts>,
     within: Within,
-) -> Result<(), Memory> {
+) -> Result<(), Memory>
+    ensures { OnOk result (
+        translation.declarations (findings_of findings.now) (plain_dec dec.now no_decs)
+        (stms_of before.old.items) within
+        (state_of state.old) ≡ drawn (stms_of before.new.items) (state_of state.new)) }
+{
     match dec {
         Dec::Types(_) => Ok(()),
         Dec::Variable(x, _, e) => {
-            before.push(variable(findings, state, *x, e, within)?)?;
+            push(before, variable(findings, state, *x, e, within)?)?;
             Ok(())
         }
         Dec::Functions(group) => {
@@ -414,7 +523,11 @@ fn variable(
     x: Ident,
     e: &Exp,
     within: Within,
-) -> Result<Ts, Memory> {
+) -> Result<Ts, Memory>
+    ensures { IfOk result (λ s.
+        parts.variable_in (findings_of findings.now) x (plain e.now) within
+        (state_of state.old) ≡ drawn (plain_ts s) (state_of state.new)) }
+{
     let home = declare_variable(findings, state, within.level, x.span.from)?;
     let place = own_place(state.alloc, home)?;
     let made = expression(findings, state, e, want_for(&place), within)?;
@@ -429,7 +542,11 @@ fn bodies(
     group: &FunDecs,
     first: u32,
     within: Within,
-) -> Result<(), Memory> {
+) -> Result<(), Memory>
+    ensures { OnOk result (
+        translation.bodies (findings_of findings.now) (plain_functions group.now) first within
+        (state_of state.old) ≡ drawn tt (state_of state.new)) }
+{
     let mut label = first;
     for function in &group.items {
         body(findings, state, function, Label(label), within)?;
@@ -446,7 +563,11 @@ fn body(
     function: &FunDec,
     label: Label,
     within: Within,
-) -> Result<(), Memory> {
+) -> Result<(), Memory>
+    ensures { OnOk result (
+        parts.body_in (findings_of findings.now) function.now label.0 within
+        (state_of state.old) ≡ drawn tt (state_of state.new)) }
+{
     let kept = findings.keeps_link(function.name.span.from);
     let inner = inside(within, kept)?;
     let outer = begin(

@@ -1,4 +1,4 @@
-ghost use Rattle.std.specs.Prelude.{◌≡◌, IfOk, OnOk};
+ghost use Rattle.std.specs.Prelude.{◌≡◌, ◌+◌, length, IfOk, OnOk};
 ghost use Rattle.tg_syntax.specs.Plain.{plain_functions};
 ghost use Rattle.tg_tree.specs.Plain.{plain_ts};
 ghost use Rattle.tg_translate.specs.States.{drawn, state_of};
@@ -13,6 +13,7 @@ use crate::wants::{Made, Want, dropped, value_of};
 use std::alloc::Global;
 use tg_base::{Label, Memory};
 use tg_frame::Access;
+use tg_symbols::Table;
 use tg_syntax::{FunDecs, Param};
 use tg_tree::{Ts, Tx, sequence};
 
@@ -23,7 +24,10 @@ fn asked(
     findings: &Findings,
     link_in_slot: bool,
     params: &[Param],
-) -> Result<Vec<bool>, Memory> {
+) -> Result<Vec<bool>, Memory>
+    ensures { IfOk result (λ v. v.items ≡
+        functions.asked (findings_of findings.now).escapes link_in_slot params.now) }
+{
     let mut asked = vec![in alloc; link_in_slot]?;
     for param in params {
         asked.push(findings.escapes(param.name.span.from))?;
@@ -39,30 +43,35 @@ pub(crate) fn begin(
     link_in_slot: bool,
     params: &[Param],
     level: u32,
-) -> Result<Outer, Memory> {
+) -> Result<Outer, Memory>
+    ensures begun { OnOk result (
+        functions.begun (findings_of findings.now).escapes label.0 link_in_slot level params.now
+        (state_of state.old) ≡ state_of state.new) }
+    ensures functions { IfOk result (λ o. o.functions ≡ state.old.functions) }
+    ensures frame { IfOk result (λ o. o.frame ≡ state.old.frame) }
+{
     let alloc = state.alloc;
     let asked = asked(alloc, findings, link_in_slot, params)?;
     let frame = frame_of(alloc, label, &asked)?;
-    declare_params(state, level, params, frame.params.as_slice())?;
+    declare_params(&mut state.homes, level, params, frame.params.as_slice())?;
     Ok(state.open(frame))
 }
 
 // The homes of parameters are those behind the static link's.
 fn declare_params(
-    state: &mut State,
+    table: &mut Table<Home>,
     level: u32,
     params: &[Param],
     homes: &[Access],
-) -> Result<(), Memory> {
+) -> Result<(), Memory>
+    requires { length homes.now ≡ length params.now + 1 }
+    ensures { OnOk result (table.new ≡
+        functions.parameters level params.now (functions.own_homes homes.now) table.old) }
+{
     let mut at = 1;
     for param in params {
-        if at >= homes.len() {
-            return Ok(());
-        }
         let access = homes[at];
-        state
-            .homes
-            .push(param.name.span.from, Home { level, access })?;
+        table.push(param.name.span.from, Home { level, access })?;
         at += 1;
     }
     Ok(())
@@ -74,7 +83,10 @@ pub(crate) fn declare_functions(
     state: &mut State,
     level: u32,
     group: &FunDecs,
-) -> Result<(), Memory> {
+) -> Result<(), Memory>
+    ensures { OnOk result (functions.declare_functions level (plain_functions group.now)
+        (state_of state.old) ≡ drawn tt (state_of state.new)) }
+{
     for function in &group.items {
         let label = state.draw_label()?;
         state

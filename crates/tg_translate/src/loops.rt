@@ -71,9 +71,9 @@ fn assign_home(alloc: Global, variable: Access, value: Tx) -> Result<Ts, Memory>
     Ok(assign_value(own_place(alloc, variable)?, value)?)
 }
 
-/// The turns of a loop that counts, of which there is one at least. The test for the last turn comes
-/// before the addition, so the bound may be the greatest int. The variable starts one below its
-/// first value, and each turn begins with the addition: so a turn's end is one branch back.
+/// The turns of a loop that counts, of which there is one at least. The test for the last turn
+/// comes before the addition, so the bound may be the greatest int. The variable starts one below
+/// its first value, and each turn begins with the addition: so a turn's end is one branch back.
 fn turns(
     alloc: Global,
     variable: Access,

@@ -1,3 +1,11 @@
+ghost use Rattle.std.specs.Prelude.{◌≡◌, IfOk};
+ghost use Rattle.std.specs.FinSet.{from_list};
+ghost use Rattle.tg_syntax.specs.Plain.{plain};
+ghost use Rattle.tg_escape.specs.Links.{links_of};
+ghost use Rattle.tg_tree.specs.Plain.{plain_fragments};
+ghost use Rattle.tg_translate.specs.Scopes.{found};
+ghost use Rattle.tg_translate.specs.Translate as translation;
+
 use crate::expressions::expression;
 use crate::findings::Findings;
 use crate::functions::closing;
@@ -16,7 +24,13 @@ const BODY: u32 = 32;
 /// The trees of a checked program (Appel, chapter 7): its body first, with the label 32, and then
 /// its functions in the order of the source; and its literals, one for each string of the text. It
 /// fails for want of memory alone.
-pub fn translate(alloc: Global, checked: &Checked, escapes: &Escapes) -> Result<Fragments, Memory> {
+pub fn translate(alloc: Global, checked: &Checked, escapes: &Escapes) -> Result<Fragments, Memory>
+    ensures { IfOk result (λ code. plain_fragments code ≡
+        translation.translated
+        (found checked.now.notes escapes.now
+        (from_list (links_of (plain checked.now.program.body))))
+        (plain checked.now.program.body)) }
+{
     let links = links(alloc, checked)?;
     let findings = Findings {
         notes: &checked.notes,

@@ -1,9 +1,15 @@
+ghost use Rattle.std.specs.Prelude.{◌≡◌, ◌&&◌};
+ghost use Rattle.tg_syntax.specs.Plain.{plain, plain_place, plain_exps, plain_inits};
+ghost use Rattle.tg_translate.specs.Purity as purity;
+
 use tg_syntax::{Exp, Exps, Inits, Kind, Var};
 
-/// Whether an expression assigns no variable of the function that it stands in. A call assigns none,
-/// since what a nested function assigns escapes.
+/// Whether an expression assigns no variable of the function that it stands in. A call assigns
+/// none, since what a nested function assigns escapes.
 #[cycle(purity)]
-pub(crate) fn assigns_nothing(e: &Exp) -> bool {
+pub(crate) fn assigns_nothing(e: &Exp) -> bool
+    ensures { result ≡ purity.assigns_nothing (plain e.now) }
+{
     match &e.kind {
         Kind::Nil | Kind::Int(_) | Kind::Text(_) => true,
         Kind::Read(place) => place_assigns_nothing(place),
@@ -19,7 +25,9 @@ pub(crate) fn assigns_nothing(e: &Exp) -> bool {
 }
 
 #[cycle(purity)]
-fn place_assigns_nothing(place: &Var) -> bool {
+fn place_assigns_nothing(place: &Var) -> bool
+    ensures { result ≡ purity.place_assigns_nothing (plain_place place.now) }
+{
     match place {
         Var::Simple(_) => true,
         Var::Field(of, _) => place_assigns_nothing(of),
@@ -28,22 +36,32 @@ fn place_assigns_nothing(place: &Var) -> bool {
 }
 
 #[cycle(purity)]
-fn all_assign_nothing(exps: &Exps) -> bool {
+fn all_assign_nothing(exps: &Exps) -> bool
+    ensures { result ≡ purity.all_assign_nothing (plain_exps exps.now) }
+{
+    let mut all = true;
     for e in &exps.items {
-        if !assigns_nothing(e) {
-            return false;
-        }
+        let one = assigns_nothing(e);
+        all = both(all, one);
     }
-    true
+    all
 }
 
 /// Whether the fields of a creation assign no variable of the function that they stand in.
 #[cycle(purity)]
-pub(crate) fn inits_assign_nothing(inits: &Inits) -> bool {
+pub(crate) fn inits_assign_nothing(inits: &Inits) -> bool
+    ensures { result ≡ purity.inits_assign_nothing (plain_inits inits.now) }
+{
+    let mut all = true;
     for init in &inits.items {
-        if !assigns_nothing(&init.value) {
-            return false;
-        }
+        let one = assigns_nothing(&init.value);
+        all = both(all, one);
     }
-    true
+    all
+}
+
+fn both(one: bool, other: bool) -> bool
+    ensures { result ≡ (one && other) }
+{
+    one && other
 }

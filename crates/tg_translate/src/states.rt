@@ -1,5 +1,4 @@
-ghost use Rattle.std.specs.Prelude.{◌≡◌, ◌++◌, ◌∷◌, ◌<◌, ◌≤◌, ◌+◌, ◌^◌, [], length, map, IfOk, OnOk};
-ghost use Rattle.tg_frame.specs.Homes.{homes_of, slots_of, temps_of};
+ghost use Rattle.std.specs.Prelude.{◌≡◌, ◌<◌, ◌+◌, map, IfOk, OnOk};
 ghost use Rattle.tg_tree.specs.Plain.{plain_ts, plain_function, plain_fragment, plain_fragments};
 ghost use Rattle.tg_translate.specs.States as states;
 ghost use Rattle.tg_translate.specs.States.{drawn, state_of};

@@ -1,0 +1,242 @@
+-- Programs that are translated and run, each computed by the definitions themselves. Above each stands its text. An
+-- identifier is its byte, and each use has the byte of what it means.
+use Rattle.std.proofs.Common.{◌≡◌, ℕ, ◌-◌, ◌++◌, List, [], ◌∷◌, Option, Some, None, Bool, true, false, refl}
+use Rattle.std.specs.Prelude.{codes, pos}
+use Rattle.std.specs.List.{list_any}
+use Rattle.std.specs.Prelude.{nat_eq}
+use Prim.Native.String.{String}
+use Rattle.tg_base.specs.declared.ids.Span.{Span}
+use Rattle.tg_base.specs.declared.ends.RunEnd.TheVariants.{Exit, Break as Broken, Overflow}
+use Rattle.tg_base.specs.State.{stack_top}
+use Rattle.tg_runs.specs.Ran.{Ran, Stop, Ended}
+use Rattle.tg_symbols.specs.Tables.{named}
+use Rattle.tg_syntax.specs.declared.tokens.Ident.{Ident}
+use Rattle.tg_syntax.specs.declared.trees.Param.{Param}
+use Rattle.tg_syntax.specs.declared.trees.Op.{Op}
+use Rattle.tg_syntax.specs.declared.trees.Op.TheVariants as op
+use Rattle.tg_syntax.specs.Tree.{Exp, Nil, Break, Int, Text, Read, Call, Neg, Binary, Make, Fill, Assign, If, When, While, For, Let, Seq, Place, Simple, Field, Index, Exps, no_exps, exp, Inits, no_inits, init, Decs, no_decs, variable, functions, FunDecs, no_functions, function}
+use Rattle.tg_meaning.specs.declared.standards.Standard.TheVariants as standard
+use Rattle.tg_types.specs.declared.notes.Means.{Means}
+use Rattle.tg_types.specs.declared.notes.Means.TheVariants as means
+use Rattle.tg_tree.specs.Units.{Trees}
+use Rattle.tg_tree.specs.Running.{tree_run}
+use Rattle.tg_runtime.specs.Routines.{runtime}
+use Rattle.tg_translate.specs.Scopes.{Findings}
+use Rattle.tg_translate.specs.Translate.{translated}
+
+abbrev sp : Span
+sp = record { from = 0; to = 0 }
+
+abbrev id : ℕ → Ident
+id n = record { name = record { 0 = n }; span = record { from = n; to = n } }
+
+-- Names: variables x, y, i, k; functions f, g, h; fields 20 and 21; 40 compares strings, and 0 is any other operator.
+abbrev x : ℕ
+x = 1
+
+abbrev y : ℕ
+y = 2
+
+abbrev i : ℕ
+i = 3
+
+abbrev k : ℕ
+k = 4
+
+abbrev f : ℕ
+f = 11
+
+abbrev g : ℕ
+g = 12
+
+abbrev h : ℕ
+h = 13
+
+abbrev meanings : List (ℕ × Means)
+meanings =
+    (1, means.Variable 1) ∷ (2, means.Variable 2) ∷ (3, means.Variable 3) ∷ (4, means.Variable 4) ∷ (11, means.Function 11) ∷ (12, means.Function 12)
+    ∷ (13, means.Function 13) ∷ (20, means.Field 0) ∷ (21, means.Field 1) ∷ (30, means.Standard standard.Print) ∷ (31, means.Standard standard.Exit)
+    ∷ (40, means.Content) ∷ []
+
+abbrev findings : (escaping links : List ℕ) → Findings
+findings escaping links = record {
+  meaning = λ at. named at meanings;
+  escapes = λ at. list_any (nat_eq at) escaping;
+  keeps_link = λ at. list_any (nat_eq at) links;
+}
+
+abbrev exps : List Exp → Exps
+exps [] = no_exps
+exps (e ∷ es) = exp e (exps es)
+
+abbrev num : ℕ → Exp
+num n = Int sp n
+
+abbrev get : ℕ → Exp
+get n = Read sp (Simple (id n))
+
+abbrev set : ℕ → Exp → Exp
+set n e = Assign sp (Simple (id n)) e
+
+abbrev call : ℕ → List Exp → Exp
+call n es = Call sp (id n) (exps es)
+
+abbrev seq : List Exp → Exp
+seq es = Seq sp (exps es)
+
+abbrev text : String → Exp
+text chars = Text sp (codes chars)
+
+abbrev say : String → Exp
+say chars = call 30 (text chars ∷ [])
+
+abbrev exit : Exp → Exp
+exit e = call 31 (e ∷ [])
+
+abbrev binary : Op → Exp → Exp → Exp
+binary o a b = Binary sp o 0 a b
+
+abbrev plus : Exp → Exp → Exp
+plus a b = binary op.Plus a b
+
+abbrev let_var : ℕ → Exp → Decs → Decs
+let_var n e rest = variable (id n) None e rest
+
+abbrev block : Decs → List Exp → Exp
+block ds es = Let sp ds (exps es)
+
+abbrev params : List ℕ → List Param
+params [] = []
+params (n ∷ ns) = record { name = id n; kind = id 0 } ∷ params ns
+
+-- what a program writes, and how it stops
+abbrev seen : Ran → List ℕ × Stop
+seen p = (p.output, p.stop)
+
+abbrev does_with : (escaping links : List ℕ) → Exp → (fuel : ℕ) → List ℕ × Stop
+does_with escaping links e fuel =
+    let code = translated (findings escaping links) e in
+    seen (tree_run Trees (record { functions = code.functions ++ runtime.functions; literals = code.literals }) (λ label. 64)
+    (stack_top - 1024) 64 32 [] fuel)
+
+abbrev does : Exp → (fuel : ℕ) → List ℕ × Stop
+does e fuel = does_with [] [] e fuel
+
+abbrev ends : ℕ → List ℕ × Stop
+ends n = ([], Ended (Exit (pos n)))
+
+abbrev breaks : ℕ → List ℕ × Stop
+breaks n = ([], Ended (Broken n))
+
+abbrev writes : String → List ℕ × Stop
+writes chars = (codes chars, Ended (Exit (pos 0)))
+
+-- exit(300)
+exits : does (exit (num 300)) 2 ≡ ends 300
+exits = refl
+
+-- print("hi")
+says : does (say "hi") 4 ≡ writes "hi"
+says = refl
+
+-- exit(7/2), 1/0
+divides : does (exit (binary op.Divide (num 7) (num 2))) 2 ≡ ends 3
+divides = refl
+
+zero_divisor : does (binary op.Divide (num 1) (num 0)) 1 ≡ breaks 7
+zero_divisor = refl
+
+-- 2147483647+1, 65536*32768, exit(6*7)
+sum_overflows : does (plus (num 2147483647) (num 1)) 1 ≡ ([], Ended Overflow)
+sum_overflows = refl
+
+product_overflows : does (binary op.Times (num 65536) (num 32768)) 1 ≡ ([], Ended Overflow)
+product_overflows = refl
+
+product_fits : does (exit (binary op.Times (num 6) (num 7))) 2 ≡ ends 42
+product_fits = refl
+
+-- -2147483648/-1, where -2147483648 is -2147483647-1
+quotient_overflows : does (binary op.Divide (binary op.Minus (Neg sp (num 2147483647)) (num 1)) (Neg sp (num 1))) 1 ≡ ([], Ended Overflow)
+quotient_overflows = refl
+
+-- let var x:=3 in x:=x+4; exit(x) end
+variable_changes : does (block (let_var x (num 3) no_decs) (set x (plus (get x) (num 4)) ∷ exit (get x) ∷ [])) 2 ≡ ends 7
+variable_changes = refl
+
+-- the same where x stands in the frame
+slot_changes : does_with (x ∷ []) [] (block (let_var x (num 3) no_decs) (set x (plus (get x) (num 4)) ∷ exit (get x) ∷ [])) 2 ≡ ends 7
+slot_changes = refl
+
+-- let var x:=3 in exit(x+(x:=5; x)) end
+left_side_first :
+    does (block (let_var x (num 3) no_decs) (exit (plus (get x) (seq (set x (num 5) ∷ get x ∷ []))) ∷ [])) 2 ≡ ends 8
+left_side_first = refl
+
+-- exit((1<2)+(if 0 then 3 else 4)), exit((1&0)+(0|5))
+choices : does (exit (plus (binary op.Less (num 1) (num 2)) (If sp (num 0) (num 3) (num 4)))) 2 ≡ ends 5
+choices = refl
+
+connectives : does (exit (plus (binary op.And (num 1) (num 0)) (binary op.Or (num 0) (num 5)))) 2 ≡ ends 5
+connectives = refl
+
+-- let var x:=0 in while x<5 do (x:=x+1; if x=3 then break); exit(x) end
+broken_loop :
+    does (block (let_var x (num 0) no_decs)
+    (While sp (binary op.Less (get x) (num 5)) (seq (set x (plus (get x) (num 1)) ∷ When sp (binary op.Equal (get x) (num 3)) (Break sp) ∷ []))
+    ∷ exit (get x) ∷ [])) 9 ≡ ends 3
+broken_loop = refl
+
+-- while 1 do while (break; 1) do print("a")
+broken_test : does (While sp (num 1) (While sp (seq (Break sp ∷ num 1 ∷ [])) (say "a"))) 3 ≡ ends 0
+broken_test = refl
+
+-- for i:=2147483646 to 2147483647 do print("."), for i:=1 to 0 do print(".")
+greatest_bound : does (For sp (id i) (num 2147483646) (num 2147483647) (say ".")) 9 ≡ writes ".."
+greatest_bound = refl
+
+no_turn : does (For sp (id i) (num 1) (num 0) (say ".")) 9 ≡ ends 0
+no_turn = refl
+
+-- let type r={a:int,b:int} var x:r:=r{a=1,b=2} in x.a:=5; exit(x.a+x.b) end
+record_of_two :
+    does (block (let_var x (Make sp (id 0) (init (id 20) (num 1) (init (id 21) (num 2) no_inits))) no_decs)
+    (Assign sp (Field (Simple (id x)) (id 20)) (num 5) ∷ exit (plus (Read sp (Field (Simple (id x)) (id 20))) (Read sp (Field (Simple (id x)) (id 21)))) ∷ []))
+    9 ≡ ends 7
+record_of_two = refl
+
+-- let type r={a:int} var x:r:=nil in x.a:=1 end
+field_of_nil : does (block (let_var x (Nil sp) no_decs) (Assign sp (Field (Simple (id x)) (id 20)) (num 1) ∷ [])) 9 ≡ breaks 2
+field_of_nil = refl
+
+-- let type t=array of int var x:=t[3] of 7 in x[2]:=1; exit(x[2]+x[0]) end, and x[3]:=0
+elements :
+    does (block (let_var x (Fill sp (id 0) (num 3) (num 7)) no_decs)
+    (Assign sp (Index (Simple (id x)) (num 2)) (num 1)
+    ∷ exit (plus (Read sp (Index (Simple (id x)) (num 2))) (Read sp (Index (Simple (id x)) (num 0)))) ∷ [])) 9 ≡ ends 8
+elements = refl
+
+index_of_the_size :
+    does (block (let_var x (Fill sp (id 0) (num 3) (num 7)) no_decs) (Assign sp (Index (Simple (id x)) (num 3)) (num 0) ∷ [])) 9 ≡ breaks 3
+index_of_the_size = refl
+
+-- if "ab"<"b" then exit(3)
+strings_in_order : does (When sp (Binary sp op.Less 40 (text "ab") (text "b")) (exit (num 3))) 9 ≡ ends 3
+strings_in_order = refl
+
+-- let function f(x:int):int = if x<2 then 1 else x*f(x-1) in exit(f(4)) end
+recursion :
+    does (block (functions (function (id f) (params (x ∷ [])) (Some (id 0))
+    (If sp (binary op.Less (get x) (num 2)) (num 1) (binary op.Times (get x) (call f (binary op.Minus (get x) (num 1) ∷ [])))) no_functions) no_decs)
+    (exit (call f (num 4 ∷ [])) ∷ [])) 9 ≡ ends 24
+recursion = refl
+
+-- let function f(i:int):int = let var x:=i function g(k:int) = let function h() = x:=x+k in h(); if k>1 then g(k-1) end
+-- in g(3); x end in exit(f(10)) end
+links_three_deep :
+    does_with (x ∷ k ∷ []) (g ∷ []) (block (functions (function (id f) (params (i ∷ [])) (Some (id 0))
+    (block (let_var x (get i) (functions (function (id g) (params (k ∷ [])) None
+    (block (functions (function (id h) [] None (set x (plus (get x) (get k))) no_functions) no_decs)
+    (call h [] ∷ When sp (binary op.Greater (get k) (num 1)) (call g (binary op.Minus (get k) (num 1) ∷ [])) ∷ [])) no_functions) no_decs))
+    (call g (num 3 ∷ []) ∷ get x ∷ [])) no_functions) no_decs) (exit (call f (num 10 ∷ [])) ∷ [])) 20 ≡ ends 16
+links_three_deep = refl

@@ -1,0 +1,10 @@
+use Rattle.std.proofs.Common.{◌≡◌, drop}
+use Rattle.tg_syntax.specs.Lists.{functions_of}
+use Rattle.tg_translate.specs.States.{state_of}
+use Rattle.tg_translate.specs.Functions.{declare_functions}
+use Rattle.tg_translate.proofs.functions.declare_functions.Given as goal
+
+abbrev pub invariant-loop-function : goal.invariant-loop-function
+invariant-loop-function l =
+    declare_functions l.level (functions_of l.function-items) (state_of l.fn.state)
+    ≡ declare_functions l.level (functions_of (drop l.function-index l.function-items)) (state_of l.state)
