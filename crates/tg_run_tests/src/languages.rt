@@ -109,7 +109,7 @@ fn outputs_that_fail(rt: HostRuntime) -> Result<(), Fail> {
     is_answered(&rt, alloc, &seen, 74, failed, "x")
 }
 
-// The words of `gen`, a `|`, the status, a blank, the line, a `|` and the output.
+// The words of `gen`, the status, the line and the output.
 static GENERATED: [(&str, u8, &str, &str); 4] = [
     (
         "tiger|gen|1",
@@ -137,28 +137,28 @@ static GENERATED: [(&str, u8, &str, &str); 4] = [
     ),
 ];
 
+/// A call of `gen` asks for no file, reads nothing, and has this status, so many bytes on the error
+/// sink and this output.
+fn generates(rt: &impl Abort, seen: &Seen, status: u8, told: usize, out: &str) -> Result<(), Fail> {
+    assert_eq!(rt; seen.status, status, "{out}");
+    assert_eq!(rt; seen.out.as_slice(), out.as_bytes(), "{out}");
+    assert_eq!(rt; (seen.files_asked, seen.reads), (0, 0));
+    assert_eq!(rt; seen.error.len(), told, "{out}");
+    Ok(())
+}
+
 #[test]
 fn generated_programs_run(rt: HostRuntime) -> Result<(), Fail> {
     let alloc = rt.alloc();
     for (words, status, line, out) in GENERATED {
         let seen = call(alloc, words, Outside::of(b""))?;
-        assert_eq!(rt;
-            (seen.status, seen.out.as_slice()),
-            (status, out.as_bytes()),
-            "{words}"
-        );
-        assert_eq!(rt; (seen.files_asked, seen.reads), (0, 0));
         let told = if line.is_empty() { 0 } else { line.len() + 8 };
-        assert_eq!(rt; seen.error.len(), told, "{words}");
+        generates(&rt, &seen, status, told, out)?;
     }
     let full = Outside {
         room: 3,
         ..Outside::of(b"")
     };
     let seen = call(alloc, "tiger|gen|3", full)?;
-    assert_eq!(rt;
-        (seen.status, seen.out.as_slice()),
-        (74, b"10\n".as_slice())
-    );
-    Ok(())
+    generates(&rt, &seen, 74, 28, "10\n")
 }
