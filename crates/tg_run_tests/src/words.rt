@@ -1,5 +1,6 @@
-use crate::calls::{Outside, call, parts_of, status_of, words_of};
+use crate::calls::{Outside, Seen, call, parts_of, status_of, words_of};
 use std::alloc::{AllocError, Global};
+use std::process::Abort;
 use std::test::Fail;
 use tg_command::{Command, Mode, read_words};
 use tg_driver::usage;
@@ -162,14 +163,26 @@ static TAKEN: [&str; 24] = [
 ];
 
 #[test]
-fn lines_of_words_have_their_statuses(rt: HostRuntime) -> Result<(), Fail> {
+fn refused_lines_touch_nothing(rt: HostRuntime) -> Result<(), Fail> {
     let alloc = rt.alloc();
     for line in REFUSED {
         let seen = call(alloc, line, Outside::of(b"exit(7)"))?;
-        assert_eq!(rt; seen.status, 64, "{line}");
-        assert_eq!(rt; seen.error.as_slice(), usage().as_bytes());
-        assert_eq!(rt; (seen.files_asked, seen.reads, seen.writes), (0, 0, 0));
+        is_refused(&rt, &seen, line)?;
     }
+    Ok(())
+}
+
+/// A call told the usage, and asked for, read and wrote nothing.
+fn is_refused(rt: &impl Abort, seen: &Seen, line: &str) -> Result<(), Fail> {
+    assert_eq!(rt; seen.status, 64, "{line}");
+    assert_eq!(rt; seen.error.as_slice(), usage().as_bytes());
+    assert_eq!(rt; (seen.files_asked, seen.reads, seen.writes), (0, 0, 0));
+    Ok(())
+}
+
+#[test]
+fn lines_of_words_have_their_statuses(rt: HostRuntime) -> Result<(), Fail> {
+    let alloc = rt.alloc();
     for row in LINES {
         let (status, line) = status_of(row)?;
         let seen = call(alloc, line, Outside::of(b"exit(7)"))?;
