@@ -94,7 +94,8 @@ static REFUSED: [&str; 85] = [
     "tiger|Exec|FILE",
 ];
 
-// A status, a blank, and a command line that has it, where FILE holds `exit(7)`.
+// A status, a blank, and a command line that has it, where FILE holds `exit(7)` and the output takes
+// 64 bytes.
 static LINES: [&str; 35] = [
     "7 tiger|run|FILE",
     "7 |run|FILE",
@@ -119,7 +120,7 @@ static LINES: [&str; 35] = [
     "109 tiger|run|FILE|--steps|4",
     "109 tiger|run|FILE|--steps|1",
     "0 tiger|check|FILE|--steps|1",
-    "0 tiger|build|FILE|--steps|1",
+    "74 tiger|build|FILE|--steps|1",
     "66 tiger|build|MISSING",
     "0 tiger|check|FILE|--heap|4|--stack|65536",
     "0 tiger|--steps|1|check|FILE",
