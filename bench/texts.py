@@ -1,30 +1,23 @@
 """Assembly texts that `bench/exec` and `bench/compare` run, each for a number that its time grows with."""
 
-EXIT = """
-        li $v0, 10
-        syscall
-"""
+
+def text(code, statics="", functions=""):
+    """A text whose code begins at main and ends with status 0 behind the last line."""
+    data = f"        .data\n{statics}" if statics else ""
+    return f"{data}        .text\n        .globl main\n{code}        li $v0, 10\n        syscall\n{functions}"
 
 
 def loop(turns):
     """Two instructions a turn, and a few around them."""
-    return f"""
-        .text
-        .globl main
-main:   li $t0, {turns}
+    return text(f"""main:   li $t0, {turns}
 turn:   addiu $t0, $t0, -1
         bne $t0, $zero, turn
-{EXIT}"""
+""")
 
 
 def sieve(times):
     """The primes below 100,000, so many times: a word for each number."""
-    return f"""
-        .data
-marks:  .space 400000
-        .text
-        .globl main
-main:   li $s0, {times}
+    return text(f"""main:   li $s0, {times}
 again:  la $t0, marks
         li $t1, 0
         li $t2, 100000
@@ -51,18 +44,12 @@ skip:   addiu $t4, $t4, 1
         bne $t4, $t2, next
         addiu $s0, $s0, -1
         bne $s0, $zero, again
-{EXIT}"""
+""", "marks:  .space 400000\n")
 
 
 def byte_copy(times):
     """50,000 bytes, so many times."""
-    return f"""
-        .data
-from:   .space 50000
-into:   .space 50000
-        .text
-        .globl main
-main:   li $s0, {times}
+    return text(f"""main:   li $s0, {times}
 again:  la $t0, from
         la $t1, into
         li $t2, 50000
@@ -74,18 +61,14 @@ turn:   lbu $t3, 0($t0)
         bne $t2, $zero, turn
         addiu $s0, $s0, -1
         bne $s0, $zero, again
-{EXIT}"""
+""", "from:   .space 50000\ninto:   .space 50000\n")
 
 
 def nested_calls(number):
     """Fibonacci's number by calls of itself."""
-    return f"""
-        .text
-        .globl main
-main:   li $a0, {number}
+    return text(f"""main:   li $a0, {number}
         jal fib
-{EXIT}
-fib:    slti $t0, $a0, 2
+""", functions="""fib:    slti $t0, $a0, 2
         beq $t0, $zero, more
         addu $v0, $a0, $zero
         jr $ra
@@ -103,17 +86,12 @@ more:   addiu $sp, $sp, -12
         lw $ra, 0($sp)
         addiu $sp, $sp, 12
         jr $ra
-"""
+""")
 
 
 def output(lines):
     """Lines of 64 bytes, each put together and then printed."""
-    return f"""
-        .data
-line:   .space 65
-        .text
-        .globl main
-main:   li $t0, {lines}
+    return text(f"""main:   li $t0, {lines}
         li $t5, 10
 turn:   la $t1, line
         addiu $t2, $t1, 63
@@ -131,21 +109,18 @@ next:   bne $t1, $t2, fill
         syscall
         addiu $t0, $t0, -1
         bne $t0, $zero, turn
-{EXIT}"""
+""", "line:   .space 65\n")
 
 
 def single_bytes(count):
     """So many bytes, one at a time."""
-    return f"""
-        .text
-        .globl main
-main:   li $t0, {count}
+    return text(f"""main:   li $t0, {count}
         li $a0, 46
 turn:   li $v0, 11
         syscall
         addiu $t0, $t0, -1
         bne $t0, $zero, turn
-{EXIT}"""
+""")
 
 
 LOOP_STEPS = 40_000_000
