@@ -1,6 +1,7 @@
-"""The program that the benchmarks run."""
+"""The program that the benchmarks run, and the time that it takes."""
 import os
 import subprocess
+import sys
 
 
 def tiger():
@@ -10,3 +11,17 @@ def tiger():
         return program
     subprocess.run(["./tiger"], capture_output=True)
     return "crates/tg_cli/out/tg_cli"
+
+
+def processor_time(command):
+    """Seconds of the processor, which other programs at work beside it change little."""
+    process = subprocess.Popen(command, stdin=subprocess.DEVNULL, stdout=subprocess.DEVNULL)
+    _, status, used = os.wait4(process.pid, 0)
+    if status != 0:
+        sys.exit(f"{' '.join(command)}: status {status}")
+    return used.ru_utime + used.ru_stime
+
+
+def least_times(commands, turns):
+    """The least time of each command, which take turns, so that a busy moment of the machine falls on all."""
+    return [min(times) for times in zip(*([processor_time(command) for command in commands] for _ in range(turns)))]
