@@ -1,5 +1,6 @@
 """The program that the benchmarks run, and the time that it takes."""
 import os
+import resource
 import subprocess
 import sys
 
@@ -13,15 +14,23 @@ def tiger():
     return "crates/tg_cli/out/tg_cli"
 
 
-def processor_time(command):
-    """Seconds of the processor, which other programs at work beside it change little."""
-    process = subprocess.Popen(command, stdin=subprocess.DEVNULL, stdout=subprocess.DEVNULL)
-    _, status, used = os.wait4(process.pid, 0)
-    if status != 0:
-        sys.exit(f"{' '.join(command)}: status {status}")
-    return used.ru_utime + used.ru_stime
+def timed(command, output=subprocess.PIPE):
+    """Runs a command without input. Returns what came of it, and the seconds of the processor that it took, which other
+    programs at work beside it change little."""
+    before = resource.getrusage(resource.RUSAGE_CHILDREN)
+    ran = subprocess.run(command, stdin=subprocess.DEVNULL, stdout=output, stderr=subprocess.PIPE)
+    after = resource.getrusage(resource.RUSAGE_CHILDREN)
+    return ran, after.ru_utime + after.ru_stime - before.ru_utime - before.ru_stime
+
+
+def accepted_time(command):
+    """The time of a command that ends with 0, and whose output is dropped."""
+    ran, taken = timed(command, subprocess.DEVNULL)
+    if ran.returncode != 0:
+        sys.exit(f"{' '.join(command)}: status {ran.returncode}")
+    return taken
 
 
 def least_times(commands, turns):
     """The least time of each command, which take turns, so that a busy moment of the machine falls on all."""
-    return [min(times) for times in zip(*([processor_time(command) for command in commands] for _ in range(turns)))]
+    return [min(times) for times in zip(*([accepted_time(command) for command in commands] for _ in range(turns)))]
