@@ -1,0 +1,36 @@
+"""The program that the benchmarks run, and the time that it takes."""
+import os
+import resource
+import subprocess
+import sys
+
+
+def tiger():
+    """The program that TIGER names, or the built one itself, so that the launcher's start isn't timed."""
+    program = os.environ.get("TIGER")
+    if program:
+        return program
+    subprocess.run(["./tiger"], capture_output=True)
+    return "crates/tg_cli/out/tg_cli"
+
+
+def timed(command, output=subprocess.PIPE):
+    """Runs a command without input. Returns what came of it, and the seconds of the processor that it took, which other
+    programs at work beside it change little."""
+    before = resource.getrusage(resource.RUSAGE_CHILDREN)
+    ran = subprocess.run(command, stdin=subprocess.DEVNULL, stdout=output, stderr=subprocess.PIPE)
+    after = resource.getrusage(resource.RUSAGE_CHILDREN)
+    return ran, after.ru_utime + after.ru_stime - before.ru_utime - before.ru_stime
+
+
+def accepted_time(command):
+    """The time of a command that ends with 0, and whose output is dropped."""
+    ran, taken = timed(command, subprocess.DEVNULL)
+    if ran.returncode != 0:
+        sys.exit(f"{' '.join(command)}: status {ran.returncode}")
+    return taken
+
+
+def least_times(commands, turns):
+    """The least time of each command, which take turns, so that a busy moment of the machine falls on all."""
+    return [min(times) for times in zip(*([accepted_time(command) for command in commands] for _ in range(turns)))]
