@@ -1,0 +1,6 @@
+mod Places
+mod Changes
+mod Joining
+mod Runs
+mod Members
+mod Moves
