@@ -4,3 +4,4 @@ mod Joining
 mod Runs
 mod Members
 mod Moves
+mod Vectors

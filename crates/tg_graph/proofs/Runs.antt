@@ -13,10 +13,10 @@ run_at next n end y z xs ys p q r =
 
 -- Without a node.
 
-without_same : (x u : ℕ) (us : List ℕ) → x ≡ u → without x (u ∷ us) ≡ without x us
+pub without_same : (x u : ℕ) (us : List ℕ) → x ≡ u → without x (u ∷ us) ≡ without x us
 without_same x u us p = let t : eqb x u ≡ true = eq-eqb x u p in rw t refl
 
-without_other : (x u : ℕ) (us : List ℕ) → x ≢ u → without x (u ∷ us) ≡ u ∷ without x us
+pub without_other : (x u : ℕ) (us : List ℕ) → x ≢ u → without x (u ∷ us) ≡ u ∷ without x us
 without_other x u us p = let t : eqb x u ≡ false = ne_eqb x u p in rw t refl
 
 -- where a link to x leads once x is taken out
@@ -156,7 +156,7 @@ link_runs next prev x end n e xs i l b a h k o m r =
 
 -- Nodes put last one after another.
 
-range_more : (a k : ℕ) → range_with_len a (suc k) ≡ range_with_len a k ++ (a + k) ∷ []
+pub range_more : (a k : ℕ) → range_with_len a (suc k) ≡ range_with_len a k ++ (a + k) ∷ []
 range_more a zero = ap (λ v. v ∷ []) (omega arith)
 range_more a (suc k) =
     let e : a + 1 + k ≡ a + suc k = omega arith in

@@ -43,9 +43,9 @@ pub(crate) fn link_range(next: &mut [u32], prev: &mut [u32], from: u32, to: u32,
     requires nodes { from ≤ to }
     requires order { to ≤ end }
     requires within { end < length next.old }
-    requires alone { AreAlone next.old from end }
+    requires alone { AreAlone next.old from to }
     ensures inverse { AreInverse next.new prev.new }
-    ensures others { AreAlone next.new to end }
+    ensures others { (y : ℕ) → to ≤ y → y < end → slice_index next.old y ≡ y → slice_index next.new y ≡ y }
     ensures lists { (n : ℕ) → to ≤ n → n ≤ end →
         Relinks next.old next.new n (joined_to end (range_with_len from (to - from))) }
 {

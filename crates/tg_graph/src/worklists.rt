@@ -73,7 +73,11 @@ impl Model for Worklists {
 fn alone(alloc: Global, count: u32) -> Result<Vec<u32>, Memory>
     ensures { IfOk result (λ v. v.items ≡ range_with_len 0 count) }
 {
-    Ok((0..count).collect(alloc)?)
+    let mut places = Vec::with_capacity(alloc, count as usize)?;
+    for place in 0..count {
+        places.push(place)?;
+    }
+    Ok(places)
 }
 
 impl Worklists {

@@ -13,6 +13,7 @@ pub loop-node-init : goal.loop-node-init
 loop-node-init c = record {
   inverse = c.requires.inverse;
   alone = c.requires.alone;
+  others = λ y h k e. e;
   lists = λ n h k e xs o m r.
       let z : c.args.from - c.args.from ≡ 0 = omega arith in
       at_lists c.args.next.now n e _ _ _ (sym (ap (λ j. joined_to c.args.end (range_with_len c.args.from j) xs e) z ∙ joined_none c.args.end xs e)) r;
@@ -28,7 +29,9 @@ pub loop-node-preserved : goal.loop-node-preserved
 loop-node-preserved c = record {
   inverse = c.link_last.ensures.inverse;
   alone = λ y h k.
-      c.link_last.ensures.others y k (λ p. omega (arith, p, h)) (c.loop-node.invariant.alone y (omega (arith, h)) k);
+      c.link_last.ensures.others y (omega (arith, k)) (λ p. omega (arith, p, h)) (c.loop-node.invariant.alone y (omega (arith, h)) k);
+  others = λ y h k e.
+      c.link_last.ensures.others y k (λ p. omega (arith, p, h)) (c.loop-node.invariant.others y h k e);
   lists = λ n h k e xs o m r.
       let a = c.args.from in
       let j = c.loop-node.node - c.args.from in
@@ -45,7 +48,7 @@ pub returns-clause-inverse : goal.returns-clause-inverse
 returns-clause-inverse c = c.loop-node.invariant.inverse
 
 pub returns-clause-others : goal.returns-clause-others
-returns-clause-others c = λ y h k. c.loop-node.invariant.alone y (omega (arith, h)) k
+returns-clause-others c = c.loop-node.invariant.others
 
 pub returns-clause-lists : goal.returns-clause-lists
 returns-clause-lists c = λ n h k e xs o m r.

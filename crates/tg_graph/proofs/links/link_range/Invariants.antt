@@ -5,7 +5,8 @@ use Rattle.tg_graph.proofs.links.link_range.Given as goal
 
 pub record IsLinkedTo (old next prev : List ℕ) (from node to end : ℕ) : Type 0 where
   pub inverse : AreInverse next prev
-  pub alone : AreAlone next node end
+  pub alone : AreAlone next node to
+  pub others : (y : ℕ) → to ≤ y → y < end → slice_index old y ≡ y → slice_index next y ≡ y
   pub lists : (n : ℕ) → to ≤ n → n ≤ end → Relinks old next n (joined_to end (range_with_len from (node - from)))
 
 abbrev pub invariant-loop-node : goal.invariant-loop-node
