@@ -289,3 +289,10 @@ kept_bare n words h k r = record {
   told = λ x y l m t. bit_unset words (pair_place x y) ∙ sym (none_among n y x);
   counted = map_replicate (n - 25);
 }
+
+-- the same graph, kept in the same bits and counters
+pub kept_at : (n : ℕ) (ls ms : List (List ℕ)) (xs ys ds es : List ℕ) → ls ≡ ms → xs ≡ ys → ds ≡ es →
+    IsKept (record { nodes = n; adjacent = ls }) xs ds → IsKept (record { nodes = n; adjacent = ms }) ys es
+kept_at n ls ms xs ys ds es p q r k =
+    subst (λ (zs : List ℕ). IsKept (record { nodes = n; adjacent = ms }) ys zs) r
+    (subst (λ (zs : List ℕ). IsKept (record { nodes = n; adjacent = ms }) zs ds) q (subst (λ (zs : List (List ℕ)). IsKept (record { nodes = n; adjacent = zs }) xs ds) p k))

@@ -51,6 +51,13 @@ pub settled_linked : (n : ℕ) (next prev : List ℕ) (places : List Worklist) (
 settled_linked n next prev places f k =
     subst (λ (g : Worklist → List ℕ). AreLinked n next prev places g) (sym (settled n next prev places f k)) k
 
+-- the same links and places
+pub linked_at : (n : ℕ) (xs ys us vs : List ℕ) (ps qs : List Worklist) → xs ≡ ys → us ≡ vs → ps ≡ qs → AreLinked n xs us ps (list_from n xs) →
+    AreLinked n ys vs qs (list_from n ys)
+linked_at n xs ys us vs ps qs p q r k =
+    subst (λ (zs : List Worklist). AreLinked n ys vs zs (list_from n ys)) r
+    (subst (λ (zs : List ℕ). AreLinked n ys zs ps (list_from n ys)) q (subst (λ (zs : List ℕ). AreLinked n zs us ps (list_from n zs)) p k))
+
 -- Ends by their numbers.
 
 same_number : (n i j : ℕ) → (n + i == n + j) ≡ (i == j)

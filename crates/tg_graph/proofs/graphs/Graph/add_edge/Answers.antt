@@ -7,7 +7,7 @@ use Rattle.tg_graph.specs.Interference.{Interference, interferes, are_ends, with
 use Rattle.tg_graph.specs.Keeping.{IsKept, lists_of, counted_up}
 use Rattle.tg_graph.proofs.Places.{pair_within, within_at}
 use Rattle.tg_graph.proofs.Changes.{counted_few, length_counted}
-use Rattle.tg_graph.proofs.Joining.{CanJoin, few_counted, joined, kept_joined, interferes_joined}
+use Rattle.tg_graph.proofs.Joining.{CanJoin, few_counted, joined, kept_at, kept_joined, interferes_joined}
 use Rattle.tg_graph.proofs.Vectors.{at_err, at_ok}
 use Rattle.tg_graph.proofs.graphs.Graph.add_edge.Goals as goal
 
@@ -50,12 +50,6 @@ set_bit-requires c =
     let node : c.max.result < c.self.inside.nodes = omega arith in
     within_at _ _ _ _ c.pair_place-at.ensures c.deref_mut-3.ensures.value
     (pair_within c.min.result c.max.result c.self.inside.nodes (length c.self.inside.pairs.items) order node c.self.invariant.room)
-
-kept_at : (n : ℕ) (ls ms : List (List ℕ)) (xs ys ds es : List ℕ) → ls ≡ ms → xs ≡ ys → ds ≡ es →
-    IsKept (record { nodes = n; adjacent = ls }) xs ds → IsKept (record { nodes = n; adjacent = ms }) ys es
-kept_at n ls ms xs ys ds es p q r k =
-    subst (λ (zs : List ℕ). IsKept (record { nodes = n; adjacent = ms }) ys zs) r
-    (subst (λ (zs : List ℕ). IsKept (record { nodes = n; adjacent = ms }) zs ds) q (subst (λ (zs : List (List ℕ)). IsKept (record { nodes = n; adjacent = zs }) xs ds) p k))
 
 pub invariant_of-self-2 : goal.invariant_of-self-2
 invariant_of-self-2 c =

@@ -1,17 +1,12 @@
-use Rattle.std.proofs.Common.{◌≡◌, ℕ, ◌+◌, ◌<◌, List, [], ◌∷◌, length, set, sym, ap, ◌∙◌, subst, arith}
+use Rattle.std.proofs.Common.{◌≡◌, ℕ, ◌+◌, ◌<◌, List, [], ◌∷◌, length, set, refl, sym, ap, ◌∙◌, subst, arith}
 use Rattle.std.specs.Vec.{with_items}
 use Rattle.std.proofs.lemmas.List.{with_items_is}
 use Rattle.tg_graph.specs.declared.worklists.Worklist.{Worklist}
 use Rattle.tg_graph.specs.Lists.{Lists, lists_by, moved, number, without}
 use Rattle.tg_graph.specs.Chains.{Relinks, joined_to}
 use Rattle.tg_graph.specs.Linking.{AreLinked, list_from}
-use Rattle.tg_graph.proofs.Moves.{after_move, moved_by, settled, settled_linked}
+use Rattle.tg_graph.proofs.Moves.{after_move, linked_at, moved_by, settled, settled_linked}
 use Rattle.tg_graph.proofs.worklists.Worklists.move_to.Goals as goal
-
-linked_at : (n : ℕ) (xs ys us vs : List ℕ) (places : List Worklist) → xs ≡ ys → us ≡ vs → AreLinked n xs us places (list_from n xs) →
-    AreLinked n ys vs places (list_from n ys)
-linked_at n xs ys us vs places p q k =
-    subst (λ (zs : List ℕ). AreLinked n ys zs places (list_from n ys)) q (subst (λ (zs : List ℕ). AreLinked n zs us places (list_from n zs)) p k)
 
 pub invariant_of-self : goal.invariant_of-self
 invariant_of-self c =
@@ -34,8 +29,8 @@ invariant_of-self c =
     let before : length c.unlink.new.prev ≡ prev.len = c.unlink.auto.prev ∙ (ap length c.deref_mut-2.ensures.value ∙ sym prev.ok.0) in
     let back' : c.deref_mut-4.result.now ≡ c.unlink.new.prev = c.deref_mut-4.ensures.value ∙ with_items_is prev c.unlink.new.prev before in
     let before' : length c.link_last.new.prev ≡ prev.len = c.link_last.auto.prev ∙ (ap length back' ∙ before) in
-    linked_at n _ _ _ _ _ (sym (with_items_is (with_items next middle) last (size' ∙ sym next.ok.0)))
-    (sym (with_items_is (with_items prev c.unlink.new.prev) c.link_last.new.prev before'))
+    linked_at n _ _ _ _ _ _ (sym (with_items_is (with_items next middle) last (size' ∙ sym next.ok.0)))
+    (sym (with_items_is (with_items prev c.unlink.new.prev) c.link_last.new.prev before')) refl
     (settled_linked n last c.link_last.new.prev (set c.self.inside.places.items x c.args.list) (moved_by (list_from n next.items) x c.args.list)
       (after_move n x next.items middle last prev.items c.link_last.new.prev c.self.inside.places.items (list_from n next.items) c.args.list c.self.invariant node
         size size' first second c.link_last.ensures.inverse))
