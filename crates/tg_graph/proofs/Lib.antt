@@ -1,3 +1,4 @@
+mod Examples
 mod Places
 mod Changes
 mod Joining
@@ -5,3 +6,4 @@ mod Runs
 mod Members
 mod Moves
 mod Vectors
+mod Partitions

@@ -1,6 +1,6 @@
 -- What is in a list without a node, with one more, and in a range.
 use Rattle.std.specs.Prelude.{◌==◌, nat_eq, nat_lt, nat_le, if◌then◌else◌}
-use Rattle.std.proofs.Common.{◌≡◌, ◌≢◌, ◌⊎◌, ℕ, zero, suc, ◌+◌, ◌-◌, ◌<◌, ◌≤◌, ◌&&◌, ◌||◌, Bool, true, false, not, cond, eqb, ltb, leb, List, [], ◌∷◌, ◌++◌, length, Option, Some, None, slice_get, refl, sym, ap, ◌∙◌, subst, ⊎_elim, arith}
+use Rattle.std.proofs.Common.{◌≡◌, ◌≢◌, ◌⊎◌, ℕ, zero, suc, ◌+◌, ◌-◌, ◌<◌, ◌≤◌, ◌&&◌, ◌||◌, Bool, true, false, not, cond, eqb, ltb, leb, List, [], ◌∷◌, ◌++◌, length, Option, Some, None, IfSome, slice_get, refl, sym, ap, ◌∙◌, subst, ⊎_elim, arith}
 use Rattle.std.specs.List.{list_any, range_with_len}
 use Rattle.std.specs.Bool.{then_some}
 use Rattle.std.proofs.lemmas.Bool.{cases_eq, cases_lt, eq-eqb, ne_eqb, lt-ltb, le-ltb, cond-true, cond-false, and_right}
@@ -27,8 +27,8 @@ among_without_other x y [] d = refl
 among_without_other x y (u ∷ us) d =
     ⊎_elim
     (λ (p : x ≡ u).
-      ap (is_among y) (without_same x u us p)
-      ∙ (among_without_other x y us d ∙ sym (ap (λ b. b || is_among y us) (ne_eqb y u (λ e. d (e ∙ sym p))))))
+    ap (is_among y) (without_same x u us p)
+    ∙ (among_without_other x y us d ∙ sym (ap (λ b. b || is_among y us) (ne_eqb y u (λ e. d (e ∙ sym p))))))
     (λ (p : x ≢ u). ap (is_among y) (without_other x u us p) ∙ ap (λ b. (y == u) || b) (among_without_other x y us d))
     (cases_eq x u)
 
@@ -37,13 +37,13 @@ length_without x [] = omega arith
 length_without x (u ∷ us) =
     ⊎_elim
     (λ (p : x ≡ u).
-      let shorter = ap length (without_same x u us p) in
-      let there : bit (is_among x (u ∷ us)) ≡ 1 = ap (λ b. bit (b || is_among x us)) (eq-eqb x u p) in
-      omega (arith, shorter, there, length_without x us))
+    let shorter = ap length (without_same x u us p) in
+    let there : bit (is_among x (u ∷ us)) ≡ 1 = ap (λ b. bit (b || is_among x us)) (eq-eqb x u p) in
+    omega (arith, shorter, there, length_without x us))
     (λ (p : x ≢ u).
-      let same = ap length (without_other x u us p) in
-      let there : bit (is_among x (u ∷ us)) ≡ bit (is_among x us) = ap (λ b. bit (b || is_among x us)) (ne_eqb x u p) in
-      omega (arith, same, there, length_without x us))
+    let same = ap length (without_other x u us p) in
+    let there : bit (is_among x (u ∷ us)) ≡ bit (is_among x us) = ap (λ b. bit (b || is_among x us)) (ne_eqb x u p) in
+    omega (arith, same, there, length_without x us))
     (cases_eq x u)
 
 or_false : (b : Bool) → (b || false) ≡ b
@@ -76,8 +76,8 @@ among_within x a zero h l = absurd (omega (arith, h, l))
 among_within x a (suc k) h l =
     ⊎_elim (λ (p : x ≡ a). ap (λ b. b || is_among x (range_with_len (a + 1) k)) (eq-eqb x a p))
     (λ (p : x ≢ a).
-      ap (λ b. b || is_among x (range_with_len (a + 1) k)) (ne_eqb x a p)
-      ∙ among_within x (a + 1) k (omega (arith, h, p)) (omega (arith, l)))
+    ap (λ b. b || is_among x (range_with_len (a + 1) k)) (ne_eqb x a p)
+    ∙ among_within x (a + 1) k (omega (arith, h, p)) (omega (arith, l)))
     (cases_eq x a)
 
 -- The front of a run, and what stands behind a node.
@@ -87,6 +87,12 @@ at_node n y h = ap (λ b. then_some b y) (lt-ltb y n h)
 
 at_end : (n y : ℕ) → n ≤ y → then_some (nat_lt y n) y ≡ None
 at_end n y h = ap (λ b. then_some b y) (le-ltb y n h)
+
+pub some_below : (y n m : ℕ) → n ≡ m → IfSome (then_some (nat_lt y n) y) (λ x. x < m)
+some_below y n m e =
+    ⊎_elim (λ (h : y < n). subst (λ (o : Option ℕ). IfSome o (λ x. x < m)) (sym (at_node n y h)) (omega (arith, h, e)))
+    (λ (h : n ≤ y). subst (λ (o : Option ℕ). IfSome o (λ x. x < m)) (sym (at_end n y h)) tt)
+    (cases_lt y n)
 
 pub front_of : (next : ℕ → ℕ) (n end y : ℕ) (xs : List ℕ) → n ≤ end → IsRun next n y xs end → then_some (nat_lt y n) y ≡ slice_get xs 0
 front_of next n end y [] h r = at_end n y (omega (arith, h, r))
@@ -101,9 +107,9 @@ behind_of next n end x y [] h r t = absurd (none t)
 behind_of next n end x y (u ∷ us) h r t =
     ⊎_elim
     (λ (p : x ≡ u).
-      ap (λ v. then_some (nat_lt (next v) n) (next v)) p
-      ∙ (front_of next n end (next u) us h r.2 ∙ sym (cond-true _ _ _ (eq-eqb x u p))))
+    ap (λ v. then_some (nat_lt (next v) n) (next v)) p
+    ∙ (front_of next n end (next u) us h r.2 ∙ sym (cond-true _ _ _ (eq-eqb x u p))))
     (λ (p : x ≢ u).
-      behind_of next n end x (next u) us h r.2 (sym (false_or (x == u) (is_among x us) (ne_eqb x u p)) ∙ t)
-      ∙ sym (cond-false _ _ _ (ne_eqb x u p)))
+    behind_of next n end x (next u) us h r.2 (sym (false_or (x == u) (is_among x us) (ne_eqb x u p)) ∙ t)
+    ∙ sym (cond-false _ _ _ (ne_eqb x u p)))
     (cases_eq x u)

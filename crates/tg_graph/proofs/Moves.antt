@@ -42,8 +42,8 @@ one_fits n f Merged = omega arith
 pub settled : (n : ℕ) (next prev : List ℕ) (places : List Worklist) (f : Worklist → List ℕ) → AreLinked n next prev places f → list_from n next ≡ f
 settled n next prev places f k =
     let same : (w : Worklist) → list_from n next w ≡ f w =
-        λ w. let size : length (f w) ≤ n = omega (arith, one_fits n f w, k.fit) in
-          follows (slice_index next) n (n + number w) (omega arith) (f w) n (slice_index next (n + number w)) size (k.runs w) in
+    λ w. let size : length (f w) ≤ n = omega (arith, one_fits n f w, k.fit) in
+    follows (slice_index next) n (n + number w) (omega arith) (f w) n (slice_index next (n + number w)) size (k.runs w) in
     λ i w. same w i
 
 pub settled_linked : (n : ℕ) (next prev : List ℕ) (places : List Worklist) (f : Worklist → List ℕ) → AreLinked n next prev places f →
@@ -105,9 +105,9 @@ fits_moved : (n : ℕ) (f : Worklist → List ℕ) (x : ℕ) (l p : Worklist) �
     total (lists_by n f) ≤ n → total (lists_by n (moved_by f x l)) ≤ n
 fits_moved n f x l p e h =
     let sum : (a b c d i j a' b' c' d' i' j' q0 q1 q2 q3 q4 q5 r0 r1 r2 r3 r4 r5 : ℕ) →
-        a' + q0 ≤ a + r0 → b' + q1 ≤ b + r1 → c' + q2 ≤ c + r2 → d' + q3 ≤ d + r3 → i' + q4 ≤ i + r4 → j' + q5 ≤ j + r5 →
-        q0 + q1 + q2 + q3 + q4 + q5 ≡ 1 → r0 + r1 + r2 + r3 + r4 + r5 ≡ 1 → a + b + c + d + i + j ≤ n → a' + b' + c' + d' + i' + j' ≤ n =
-        λ a b c d i j a' b' c' d' i' j' q0 q1 q2 q3 q4 q5 r0 r1 r2 r3 r4 r5 h0 h1 h2 h3 h4 h5 s t u. omega (arith, h0, h1, h2, h3, h4, h5, s, t, u) in
+    a' + q0 ≤ a + r0 → b' + q1 ≤ b + r1 → c' + q2 ≤ c + r2 → d' + q3 ≤ d + r3 → i' + q4 ≤ i + r4 → j' + q5 ≤ j + r5 →
+    q0 + q1 + q2 + q3 + q4 + q5 ≡ 1 → r0 + r1 + r2 + r3 + r4 + r5 ≡ 1 → a + b + c + d + i + j ≤ n → a' + b' + c' + d' + i' + j' ≤ n =
+    λ a b c d i j a' b' c' d' i' j' q0 q1 q2 q3 q4 q5 r0 r1 r2 r3 r4 r5 h0 h1 h2 h3 h4 h5 s t u. omega (arith, h0, h1, h2, h3, h4, h5, s, t, u) in
     sum _ _ _ _ _ _ _ _ _ _ _ _ _ _ _ _ _ _ _ _ _ _ _ _
     (length_moved f x l p Fixed (e Fixed)) (length_moved f x l p Simplify (e Simplify)) (length_moved f x l p Freeze (e Freeze))
     (length_moved f x l p Spill (e Spill)) (length_moved f x l p Stacked (e Stacked)) (length_moved f x l p Merged (e Merged)) (ones p) (ones l) h
@@ -118,13 +118,13 @@ told_moved : (f : Worklist → List ℕ) (places : List Worklist) (x y : ℕ) (l
 told_moved f places x y l w h e =
     ⊎_elim
     (λ (p : y ≡ x).
-      let place : get_or (set places x l) y Fixed ≡ l = ap (λ i. get_or (set places x l) i Fixed) p ∙ get_or-set_same places x l Fixed h in
-      ap (λ i. is_among i (moved_by f x l w)) p
-      ∙ (among_added_same x (without x (f w)) (number w == number l) (among_without_same x (f w))
-      ∙ ap (λ v. number w == number v) (sym place)))
+    let place : get_or (set places x l) y Fixed ≡ l = ap (λ i. get_or (set places x l) i Fixed) p ∙ get_or-set_same places x l Fixed h in
+    ap (λ i. is_among i (moved_by f x l w)) p
+    ∙ (among_added_same x (without x (f w)) (number w == number l) (among_without_same x (f w))
+    ∙ ap (λ v. number w == number v) (sym place)))
     (λ (p : y ≢ x).
-      among_added_other x y (without x (f w)) (number w == number l) p
-      ∙ (among_without_other x y (f w) p ∙ (e ∙ ap (λ v. number w == number v) (sym (get_or-set_other places x y l Fixed p)))))
+    among_added_other x y (without x (f w)) (number w == number l) p
+    ∙ (among_without_other x y (f w) p ∙ (e ∙ ap (λ v. number w == number v) (sym (get_or-set_other places x y l Fixed p)))))
     (cases_eq y x)
 
 pub after_move : (n x : ℕ) (next middle last prev lastprev : List ℕ) (places : List Worklist) (f : Worklist → List ℕ) (l : Worklist) →
@@ -156,8 +156,8 @@ identity_inverse m =
     let size = length-range_with_len 0 m in
     let is : (y : ℕ) → y < length (range_with_len 0 m) → get_or (range_with_len 0 m) y 0 ≡ y = λ y h. itself m y (omega (arith, h, size)) in
     let each : (y : ℕ) → y < length (range_with_len 0 m) →
-        (slice_index (range_with_len 0 m) y < length (range_with_len 0 m)) × (slice_index (range_with_len 0 m) (slice_index (range_with_len 0 m) y) ≡ y) =
-        λ y h. (omega (arith, is y h, h), ap (λ i. get_or (range_with_len 0 m) i 0) (is y h) ∙ is y h) in
+    (slice_index (range_with_len 0 m) y < length (range_with_len 0 m)) × (slice_index (range_with_len 0 m) (slice_index (range_with_len 0 m) y) ≡ y) =
+    λ y h. (omega (arith, is y h, h), ap (λ i. get_or (range_with_len 0 m) i 0) (is y h) ∙ is y h) in
     record { sized = refl; ahead = each; back = each }
 
 abbrev pub start_places : ℕ → List Worklist
@@ -173,7 +173,7 @@ place_spill n x h k =
     get_or-append_right (replicate {A = Worklist} 25 Fixed) (replicate {A = Worklist} (n - 25) Spill) 25 x Fixed (length-replicate {A = Worklist} 25 Fixed) h
     ∙ get_or-replicate {A = Worklist} (n - 25) (x - 25) Spill Fixed (omega (arith, h, k))
 
-told_fixed : (n : ℕ) (w : Worklist) (x : ℕ) → x < 25 → is_among x (started_in n w) ≡ (number w == 0)
+pub told_fixed : (n : ℕ) (w : Worklist) (x : ℕ) → x < 25 → is_among x (started_in n w) ≡ (number w == 0)
 told_fixed n Fixed x h = among_within x 0 25 (omega arith) (omega (arith, h))
 told_fixed n Simplify x h = refl
 told_fixed n Freeze x h = refl
@@ -181,7 +181,7 @@ told_fixed n Spill x h = among_below x 25 (n - 25) h
 told_fixed n Stacked x h = refl
 told_fixed n Merged x h = refl
 
-told_spill : (n : ℕ) (w : Worklist) (x : ℕ) → 25 ≤ x → x < n → is_among x (started_in n w) ≡ (number w == 3)
+pub told_spill : (n : ℕ) (w : Worklist) (x : ℕ) → 25 ≤ x → x < n → is_among x (started_in n w) ≡ (number w == 3)
 told_spill n Fixed x h k = among_above x 0 25 (omega (arith, h))
 told_spill n Simplify x h k = refl
 told_spill n Freeze x h k = refl
@@ -213,9 +213,9 @@ start_linked n second third prev h k s t first next i = record {
       let within : n + number w < n + 6 = omega (arith, number_fits w) in
       let size = length-range_with_len 0 (n + 6) in
       let empty : IsRun (slice_index (range_with_len 0 (n + 6))) n (slice_index (range_with_len 0 (n + 6)) (n + number w)) [] (n + number w) =
-          itself (n + 6) (n + number w) within in
+      itself (n + 6) (n + number w) within in
       let one = run_of (slice_index second) n (slice_index second (n + number w)) (n + number w) _ _ (joined_by_number n 0 (number w) (range_with_len 0 25) [])
-          (first (n + number w) [] (omega arith) (omega (arith, within, size)) empty) in
+      (first (n + number w) [] (omega arith) (omega (arith, within, size)) empty) in
       run_of (slice_index third) n (slice_index third (n + number w)) (n + number w) _ _
       (joined_by_number n 3 (number w) (range_with_len 25 (n - 25)) ([] ++ (if number w == 0 then range_with_len 0 25 else [])) ∙ lists_started n w)
       (next (n + number w) ([] ++ (if number w == 0 then range_with_len 0 25 else [])) (omega arith) (omega (arith, within, s)) one);

@@ -59,22 +59,22 @@ bit_written words at k l =
     let small : at % 64 < 64 = omega arith in
     ⊎_elim
     (λ (p : k / 64 ≡ at / 64).
-      let here : get_or (written words at) (k / 64) 0 ≡ v = ap (λ i. get_or (written words at) i 0) p ∙ get_or-set_same words (at / 64) v 0 l in
-      let there : get_or words (k / 64) 0 ≡ w = ap (λ i. get_or words i 0) p in
-      ⊎_elim
-      (λ (q : k % 64 ≡ at % 64).
-        let is : k ≡ at = omega (arith, p, q) in
-        ap (λ i. bit_at i (k % 64) == 1) here ∙ (ap (λ i. bit_at v i == 1) q ∙ (ap (λ i. i == 1) (bit_at_set_same w64 w (at % 64) small)
-          ∙ sym (ap (λ b. b || bit words k) (eq-eqb k at is)))))
-      (λ (q : k % 64 ≢ at % 64).
-        let isnt : k ≢ at = λ e. q (ap (λ i. i % 64) e) in
-        ap (λ i. bit_at i (k % 64) == 1) here ∙ (ap (λ i. i == 1) (bit_at_set_other w64 w (at % 64) small (k % 64) q)
-          ∙ (ap (λ i. bit_at i (k % 64) == 1) (sym there) ∙ sym (ap (λ b. b || bit words k) (ne_eqb k at isnt)))))
-      (cases_eq (k % 64) (at % 64)))
+    let here : get_or (written words at) (k / 64) 0 ≡ v = ap (λ i. get_or (written words at) i 0) p ∙ get_or-set_same words (at / 64) v 0 l in
+    let there : get_or words (k / 64) 0 ≡ w = ap (λ i. get_or words i 0) p in
+    ⊎_elim
+    (λ (q : k % 64 ≡ at % 64).
+    let is : k ≡ at = omega (arith, p, q) in
+    ap (λ i. bit_at i (k % 64) == 1) here ∙ (ap (λ i. bit_at v i == 1) q ∙ (ap (λ i. i == 1) (bit_at_set_same w64 w (at % 64) small)
+    ∙ sym (ap (λ b. b || bit words k) (eq-eqb k at is)))))
+    (λ (q : k % 64 ≢ at % 64).
+    let isnt : k ≢ at = λ e. q (ap (λ i. i % 64) e) in
+    ap (λ i. bit_at i (k % 64) == 1) here ∙ (ap (λ i. i == 1) (bit_at_set_other w64 w (at % 64) small (k % 64) q)
+    ∙ (ap (λ i. bit_at i (k % 64) == 1) (sym there) ∙ sym (ap (λ b. b || bit words k) (ne_eqb k at isnt)))))
+    (cases_eq (k % 64) (at % 64)))
     (λ (p : k / 64 ≢ at / 64).
-      let isnt : k ≢ at = λ e. p (ap (λ i. i / 64) e) in
-      ap (λ i. bit_at i (k % 64) == 1) (get_or-set_other words (at / 64) (k / 64) v 0 p)
-      ∙ sym (ap (λ b. b || bit words k) (ne_eqb k at isnt)))
+    let isnt : k ≢ at = λ e. p (ap (λ i. i / 64) e) in
+    ap (λ i. bit_at i (k % 64) == 1) (get_or-set_other words (at / 64) (k / 64) v 0 p)
+    ∙ sym (ap (λ b. b || bit words k) (ne_eqb k at isnt)))
     (cases_eq (k / 64) (at / 64))
 
 pub read_replicate : {X : Type 0} (n i : ℕ) (d : X) → get_or (replicate n d) i d ≡ d

@@ -42,12 +42,12 @@ unlinked next new n x end s l h (u ∷ us) y r =
     let later : IsRun new n (skipped next x (next u)) (without x us) end = unlinked next new n x end s l h us (next u) r.2 in
     ⊎_elim
     (λ (p : x ≡ u).
-      let there : skipped next x (next u) ≡ skipped next x y =
-          ap (λ v. skipped next x (next v)) (sym p) ∙ (skipped_next next x ∙ sym (skipped_same next x y (r.0 ∙ sym p))) in
-      run_at new n end _ _ _ _ there (sym (without_same x u us p)) later)
+    let there : skipped next x (next u) ≡ skipped next x y =
+    ap (λ v. skipped next x (next v)) (sym p) ∙ (skipped_next next x ∙ sym (skipped_same next x y (r.0 ∙ sym p))) in
+    run_at new n end _ _ _ _ there (sym (without_same x u us p)) later)
     (λ (p : x ≢ u).
-      run_at new n end _ _ _ _ (sym (skipped_other next x y (λ q. p (sym (sym r.0 ∙ q))))) (sym (without_other x u us p))
-      (r.0, r.1, run_at new n end _ _ _ _ (sym (s u r.1 p)) refl later))
+    run_at new n end _ _ _ _ (sym (skipped_other next x y (λ q. p (sym (sym r.0 ∙ q))))) (sym (without_other x u us p))
+    (r.0, r.1, run_at new n end _ _ _ _ (sym (s u r.1 p)) refl later))
     (cases_eq x u)
 
 -- One more node before an end.
@@ -94,16 +94,16 @@ unlinked_at : (next prev : List ℕ) (x u : ℕ) → AreInverse next prev → x 
     get_or (next_unlinked next prev x) u 0 ≡ skipped (λ v. get_or next v 0) x (get_or next u 0)
 unlinked_at next prev x u i l m p =
     let first : get_or (next_unlinked next prev x) u 0 ≡ get_or (set next (get_or prev x 0) (get_or next x 0)) u 0 =
-        get_or-set_other _ x u x 0 (λ q. p (sym q)) in
+    get_or-set_other _ x u x 0 (λ q. p (sym q)) in
     ⊎_elim
     (λ (q : u ≡ get_or prev x 0).
-      let there : get_or next u 0 ≡ x = ap (λ v. get_or next v 0) q ∙ (i.back x l).1 in
-      let wrote : get_or (set next (get_or prev x 0) (get_or next x 0)) u 0 ≡ get_or next x 0 =
-          ap (λ v. get_or (set next (get_or prev x 0) (get_or next x 0)) v 0) q ∙ get_or-set_same next _ _ 0 ((i.back x l).0) in
-      first ∙ (wrote ∙ sym (skipped_same (λ v. get_or next v 0) x (get_or next u 0) there)))
+    let there : get_or next u 0 ≡ x = ap (λ v. get_or next v 0) q ∙ (i.back x l).1 in
+    let wrote : get_or (set next (get_or prev x 0) (get_or next x 0)) u 0 ≡ get_or next x 0 =
+    ap (λ v. get_or (set next (get_or prev x 0) (get_or next x 0)) v 0) q ∙ get_or-set_same next _ _ 0 ((i.back x l).0) in
+    first ∙ (wrote ∙ sym (skipped_same (λ v. get_or next v 0) x (get_or next u 0) there)))
     (λ (q : u ≢ get_or prev x 0).
-      let there : get_or next u 0 ≢ x = λ e. q (sym ((i.ahead u m).1) ∙ ap (λ v. get_or prev v 0) e) in
-      first ∙ (get_or-set_other next _ u _ 0 q ∙ sym (skipped_other (λ v. get_or next v 0) x (get_or next u 0) there)))
+    let there : get_or next u 0 ≢ x = λ e. q (sym ((i.ahead u m).1) ∙ ap (λ v. get_or prev v 0) e) in
+    first ∙ (get_or-set_other next _ u _ 0 q ∙ sym (skipped_other (λ v. get_or next v 0) x (get_or next u 0) there)))
     (cases_eq u (get_or prev x 0))
 
 pub unlink_runs : (next prev : List ℕ) (x n end : ℕ) (xs : List ℕ) → AreInverse next prev → x < length next → x < n → n ≤ end → end < length next →
@@ -112,7 +112,7 @@ pub unlink_runs : (next prev : List ℕ) (x n end : ℕ) (xs : List ℕ) → Are
 unlink_runs next prev x n end xs i l h k m r =
     run_at _ n end _ _ _ _ (sym (unlinked_at next prev x end i l m (λ p. omega (arith, p, h, k)))) refl
     (unlinked (slice_index next) (slice_index (next_unlinked next prev x)) n x end
-      (λ u b p. unlinked_at next prev x u i l (omega (arith, b, k, m)) p) h k xs (slice_index next end) r)
+    (λ u b p. unlinked_at next prev x u i l (omega (arith, b, k, m)) p) h k xs (slice_index next end) r)
 
 abbrev next_linked : (next prev : List ℕ) → (x end : ℕ) → List ℕ
 next_linked next prev x end = set (set next (get_or prev end 0) x) x end
@@ -121,16 +121,16 @@ linked_at : (next prev : List ℕ) (x end u : ℕ) → AreInverse next prev → 
     get_or (next_linked next prev x end) u 0 ≡ led end x (get_or next u 0)
 linked_at next prev x end u i l m p =
     let first : get_or (next_linked next prev x end) u 0 ≡ get_or (set next (get_or prev end 0) x) u 0 =
-        get_or-set_other _ x u end 0 (λ q. p (sym q)) in
+    get_or-set_other _ x u end 0 (λ q. p (sym q)) in
     ⊎_elim
     (λ (q : u ≡ get_or prev end 0).
-      let there : get_or next u 0 ≡ end = ap (λ v. get_or next v 0) q ∙ (i.back end l).1 in
-      let wrote : get_or (set next (get_or prev end 0) x) u 0 ≡ x =
-          ap (λ v. get_or (set next (get_or prev end 0) x) v 0) q ∙ get_or-set_same next _ _ 0 ((i.back end l).0) in
-      first ∙ (wrote ∙ sym (led_same end x (get_or next u 0) there)))
+    let there : get_or next u 0 ≡ end = ap (λ v. get_or next v 0) q ∙ (i.back end l).1 in
+    let wrote : get_or (set next (get_or prev end 0) x) u 0 ≡ x =
+    ap (λ v. get_or (set next (get_or prev end 0) x) v 0) q ∙ get_or-set_same next _ _ 0 ((i.back end l).0) in
+    first ∙ (wrote ∙ sym (led_same end x (get_or next u 0) there)))
     (λ (q : u ≢ get_or prev end 0).
-      let there : get_or next u 0 ≢ end = λ e. q (sym ((i.ahead u m).1) ∙ ap (λ v. get_or prev v 0) e) in
-      first ∙ (get_or-set_other next _ u _ 0 q ∙ sym (led_other end x (get_or next u 0) there)))
+    let there : get_or next u 0 ≢ end = λ e. q (sym ((i.ahead u m).1) ∙ ap (λ v. get_or prev v 0) e) in
+    first ∙ (get_or-set_other next _ u _ 0 q ∙ sym (led_other end x (get_or next u 0) there)))
     (cases_eq u (get_or prev end 0))
 
 -- nothing leads to a node that is linked to itself
@@ -152,7 +152,7 @@ link_runs next prev x end n e xs i l b a h k o m r =
     } in
     run_at _ n e _ _ _ _ (sym (linked_at next prev x end e i l m y)) refl
     (linked (slice_index next) (slice_index (next_linked next prev x end)) n x end e leads h k o xs (slice_index next e)
-      (apart_from next prev x e i b a m y) r)
+    (apart_from next prev x e i b a m y) r)
 
 -- Nodes put last one after another.
 
@@ -166,8 +166,8 @@ pub joined_more : (end a k : ℕ) (xs : List ℕ) (e : ℕ) →
     joined_to end ((a + k) ∷ []) (joined_to end (range_with_len a k) xs e) e ≡ joined_to end (range_with_len a (suc k)) xs e
 joined_more end a k xs e =
     elim (eqb e end) as (λ b. (xs ++ cond b (range_with_len a k) []) ++ cond b ((a + k) ∷ []) [] ≡ xs ++ cond b (range_with_len a (suc k)) []) [
-      true ↦ append_assoc xs (range_with_len a k) ((a + k) ∷ []) ∙ ap (λ vs. xs ++ vs) (sym (range_more a k))
-    | false ↦ append-nil (xs ++ [])
+      | true ↦ append_assoc xs (range_with_len a k) ((a + k) ∷ []) ∙ ap (λ vs. xs ++ vs) (sym (range_more a k))
+      | false ↦ append-nil (xs ++ [])
     ]
 
 -- What is found by following links.

@@ -22,7 +22,7 @@ at_ok (Err x) e h = absurd (no e)
     no p = cc
 
 -- the list at a place, by the vector that was read there
-list_read : (vs : List (Vec ℕ Global)) (i : ℕ) (w : Vec ℕ Global) → i < length vs → w ≡ get_or vs i w → get_or (lists_of vs) i [] ≡ w.items
+pub list_read : (vs : List (Vec ℕ Global)) (i : ℕ) (w : Vec ℕ Global) → i < length vs → w ≡ get_or vs i w → get_or (lists_of vs) i [] ≡ w.items
 list_read vs i w l e = get_or-map (λ (v : Vec ℕ Global). v.items) vs i w [] l ∙ ap (λ (v : Vec ℕ Global). v.items) (sym e)
 
 lists_set : (vs : List (Vec ℕ Global)) (i : ℕ) (v : Vec ℕ Global) → lists_of (set vs i v) ≡ set (lists_of vs) i v.items
@@ -45,10 +45,10 @@ pub lists_popped : (vs : List (Vec ℕ Global)) (x y : ℕ) (v w : Vec ℕ Globa
 lists_popped vs x y v w before h l e f q =
     let size : length before ≡ length vs = sym (length_with x y before) ∙ (sym (ap length q) ∙ length-map vs (λ (u : Vec ℕ Global). u.items)) in
     let now : w.items ≡ get_or before (x - 25) [] ++ y ∷ [] =
-        sym (list_read vs (x - 25) w l e) ∙ (ap (λ ls. get_or ls (x - 25) []) q ∙ list_same x y (x - 25) before h (omega (arith, size, l, h)) refl) in
+    sym (list_read vs (x - 25) w l e) ∙ (ap (λ ls. get_or ls (x - 25) []) q ∙ list_same x y (x - 25) before h (omega (arith, size, l, h)) refl) in
     let many : length (get_or before (x - 25) []) ≡ w.len - 1 = omega (arith, w.ok.0, ap length now, length_push (get_or before (x - 25) []) y) in
     let left : v.items ≡ get_or before (x - 25) [] =
-        f ∙ (ap (λ xs. take (w.len - 1) xs) now ∙ take_at (get_or before (x - 25) []) (y ∷ []) (w.len - 1) many) in
+    f ∙ (ap (λ xs. take (w.len - 1) xs) now ∙ take_at (get_or before (x - 25) []) (y ∷ []) (w.len - 1) many) in
     lists_set vs (x - 25) v
     ∙ (ap (λ ls. set ls (x - 25) v.items) (q ∙ with_temporary x y before h)
     ∙ (set-set before (x - 25) (get_or before (x - 25) [] ++ y ∷ []) v.items

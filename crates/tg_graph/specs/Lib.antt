@@ -4,3 +4,4 @@ pub mod Keeping
 pub mod Lists
 pub mod Chains
 pub mod Linking
+pub mod Laws

@@ -5,6 +5,7 @@ ghost use Rattle.std.specs.Prelude.{
   ◌≤◌,
   ◌||◌,
   ℕ,
+  All,
   IfOk,
   OnErr,
   OnOk,
@@ -66,6 +67,15 @@ impl Graph {
         })
     }
 
+    /// How many nodes it has, registers among them.
+    pub fn nodes(&self) -> u32
+        ensures value { result ≡ self.now.nodes }
+        ensures low { colours ≤ result }
+        ensures high { result ≤ most_nodes }
+    {
+        self.nodes
+    }
+
     /// Joins two nodes. Where they interfere already nothing changes.
     pub fn add_edge(&mut self, a: u32, b: u32) -> Result<(), Memory>
         requires first { a < self.old.nodes }
@@ -117,6 +127,7 @@ impl Graph {
         requires node { a < self.now.nodes }
         requires temporary { colours ≤ a }
         ensures value { result.now ≡ graph.neighbours self.now a }
+        ensures within { All (λ b. b < self.now.nodes) result.now }
         ensures exact { (b : ℕ) → is_among b result.now ≡ graph.interferes self.now a b }
         ensures distinct { IsDistinct nat_eq result.now }
     {

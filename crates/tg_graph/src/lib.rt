@@ -5,9 +5,12 @@
 
 mod bits;
 mod graphs;
+mod laws;
 mod links;
 mod lists;
 mod worklists;
 
 pub use graphs::Graph;
+pub use laws::{lists_stay_apart, registers_interfere};
+pub use lists::COLOURS;
 pub use worklists::{Worklist, Worklists};

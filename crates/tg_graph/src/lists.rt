@@ -20,8 +20,8 @@ ghost use Rattle.tg_graph.specs.Keeping.{lists_of, counted_up};
 use std::alloc::Global;
 use tg_base::Memory;
 
-/// The registers that serve as colours are the first nodes.
-pub(crate) const COLOURS: u32 = 25;
+/// How many registers serve as colours; they are the first nodes, in the order of the colours.
+pub const COLOURS: u32 = 25;
 
 /// As many empty lists. They take no memory of their own.
 pub(crate) fn empty_lists(alloc: Global, count: u32) -> Result<Vec<Vec<u32>>, Memory>

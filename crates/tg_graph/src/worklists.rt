@@ -1,4 +1,4 @@
-ghost use Rattle.std.specs.Prelude.{◌≡◌, ◌<◌, ◌≤◌, ◌==◌, ℕ, IfOk, IsTrue, slice_get};
+ghost use Rattle.std.specs.Prelude.{◌≡◌, ◌<◌, ◌≤◌, ◌==◌, ℕ, IfOk, IfSome, IsTrue, slice_get};
 ghost use Rattle.std.specs.List.{range_with_len};
 ghost use Rattle.tg_graph.specs.Interference.{colours, is_among, most_nodes};
 ghost use Rattle.tg_graph.specs.Lists as lists;
@@ -118,6 +118,7 @@ impl Worklists {
     /// The first node of a list.
     pub fn first(&self, list: Worklist) -> Option<u32>
         ensures value { result ≡ slice_get (nodes_in self.now list) 0 }
+        ensures within { IfSome result (λ x. x < self.now.nodes) }
     {
         let front = self.next[(self.nodes + number(list)) as usize];
         (front < self.nodes).then_some(front)
@@ -126,8 +127,9 @@ impl Worklists {
     /// The node that stands right behind one in its list.
     pub fn next(&self, node: u32) -> Option<u32>
         requires { node < self.now.nodes }
-        ensures { (list : Worklist) → IsTrue (is_among node (nodes_in self.now list)) →
+        ensures value { (list : Worklist) → IsTrue (is_among node (nodes_in self.now list)) →
             result ≡ after node (nodes_in self.now list) }
+        ensures within { IfSome result (λ x. x < self.now.nodes) }
     {
         let behind = self.next[node as usize];
         (behind < self.nodes).then_some(behind)
@@ -136,7 +138,8 @@ impl Worklists {
     /// The list in which a node is.
     pub fn place_of(&self, node: u32) -> Worklist
         requires { node < self.now.nodes }
-        ensures { (list : Worklist) → is_among node (nodes_in self.now list) ≡ (lists.number list == lists.number result) }
+        ensures { (list : Worklist) →
+            is_among node (nodes_in self.now list) ≡ (lists.number list == lists.number result) }
     {
         self.places[node as usize]
     }

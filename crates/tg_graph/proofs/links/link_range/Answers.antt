@@ -40,7 +40,7 @@ loop-node-preserved c = record {
       let so_far = c.loop-node.invariant.lists n h k e xs o m r in
       at_lists c.link_last.new.next n e _ _ _
       (ap (λ v. joined_to c.args.end (v ∷ []) (joined_to c.args.end (range_with_len a j) xs e) e) (sym there)
-        ∙ (joined_more c.args.end a j xs e ∙ ap (λ i. joined_to c.args.end (range_with_len a i) xs e) more))
+      ∙ (joined_more c.args.end a j xs e ∙ ap (λ i. joined_to c.args.end (range_with_len a i) xs e) more))
       (c.link_last.ensures.lists n (omega (arith, h)) k e (joined_to c.args.end (range_with_len a j) xs e) o (omega (arith, m, c.loop-node.auto.next)) so_far);
 }
 

@@ -8,7 +8,7 @@ returns-in_err-push-clause-err c =
     let p = err_from_is_err_and c.from_residual.result c.from_residual.ensures.1 in
     rw p.1
     (lists_same c.args.lists.now.items (c.args.node - 25) c.push.new.self c.index_mut-list.result.now (omega arith) c.index_mut-list.ensures.value
-      c.in_err-push.ensures.items)
+    c.in_err-push.ensures.items)
 
 pub returns-in_ok-push-clause-ok : goal.returns-in_ok-push-clause-ok
 returns-in_ok-push-clause-ok c =

@@ -13,6 +13,11 @@ returns-clause-bound c =
     let size : length c.self.inside.degrees.items ≡ c.self.inside.nodes - 25 = ap length kept.counted ∙ (length-map g.adjacent length ∙ kept.graph.sized) in
     let node : c.args.a < c.self.inside.nodes = omega arith in
     let read : c.index.result.now ≡ get_or c.self.inside.degrees.items (c.args.a - 25) 0 =
-        get_or_read c.self.inside.degrees.items (c.args.a - 25) c.index.result.now (omega (arith, size, node, c.requires.temporary)) c.index.ensures 0 in
-    omega (arith, nodes, read, degree_read g c.self.inside.pairs.items c.self.inside.degrees.items c.args.a kept c.requires.temporary node,
-      few_neighbours g c.args.a kept.graph c.requires.temporary node)
+    get_or_read c.self.inside.degrees.items (c.args.a - 25) c.index.result.now (omega (arith, size, node, c.requires.temporary)) c.index.ensures 0 in
+    omega (
+      arith,
+      nodes,
+      read,
+      degree_read g c.self.inside.pairs.items c.self.inside.degrees.items c.args.a kept c.requires.temporary node,
+      few_neighbours g c.args.a kept.graph c.requires.temporary node,
+    )
