@@ -32,10 +32,12 @@ again : with_edge (with_edge small 26 25) 4 3 ≡ small
 again = refl
 
 -- pairs stand by the greater number
-places : (pair_place 0 1 ≡ 0) × (pair_place 0 2 ≡ 1) × (pair_place 1 2 ≡ 2) × (pair_place 26 27 ≡ 377) × (triangle 28 ≡ 378)
+places : (pair_place 0 1 ≡ 0) × (pair_place 0 2 ≡ 1) × (pair_place 1 2 ≡ 2) × (pair_place 26 27 ≡ 377) ×
+    (triangle 28 ≡ 378)
 places = (refl, refl, refl, refl, refl)
 
-bits : (bit (5 ∷ 1 ∷ []) 0 ≡ true) × (bit (5 ∷ 1 ∷ []) 1 ≡ false) × (bit (5 ∷ 1 ∷ []) 2 ≡ true) × (bit (5 ∷ 1 ∷ []) 64 ≡ true)
+bits : (bit (5 ∷ 1 ∷ []) 0 ≡ true) × (bit (5 ∷ 1 ∷ []) 1 ≡ false) × (bit (5 ∷ 1 ∷ []) 2 ≡ true) ×
+    (bit (5 ∷ 1 ∷ []) 64 ≡ true)
 bits = (refl, refl, refl, refl)
 
 -- a node goes last, also in its own list

@@ -19,7 +19,8 @@ pub among_without_same : (x : ℕ) (xs : List ℕ) → is_among x (without x xs)
 among_without_same x [] = refl
 among_without_same x (u ∷ us) =
     ⊎_elim (λ (p : x ≡ u). ap (is_among x) (without_same x u us p) ∙ among_without_same x us)
-    (λ (p : x ≢ u). ap (is_among x) (without_other x u us p) ∙ (ap (λ b. b || is_among x (without x us)) (ne_eqb x u p) ∙ among_without_same x us))
+    (λ (p : x ≢ u). ap (is_among x) (without_other x u us p)
+    ∙ (ap (λ b. b || is_among x (without x us)) (ne_eqb x u p) ∙ among_without_same x us))
     (cases_eq x u)
 
 pub among_without_other : (x y : ℕ) (xs : List ℕ) → y ≢ x → is_among y (without x xs) ≡ is_among y xs
@@ -54,22 +55,28 @@ false_or : (b c : Bool) → b ≡ false → (b || c) ≡ c
 false_or b c p = ap (λ d. d || c) p
 
 -- a list with a node behind it, where that is so
-pub among_added_same : (x : ℕ) (xs : List ℕ) (b : Bool) → is_among x xs ≡ false → is_among x (xs ++ (if b then x ∷ [] else [])) ≡ b
-among_added_same x xs true p = list_any-append (nat_eq x) xs (x ∷ []) ∙ (false_or (is_among x xs) _ p ∙ ap (λ b. b || false) (eq-eqb x x refl))
+pub among_added_same : (x : ℕ) (xs : List ℕ) (b : Bool) → is_among x xs ≡ false →
+    is_among x (xs ++ (if b then x ∷ [] else [])) ≡ b
+among_added_same x xs true p = list_any-append (nat_eq x) xs (x ∷ [])
+    ∙ (false_or (is_among x xs) _ p ∙ ap (λ b. b || false) (eq-eqb x x refl))
 among_added_same x xs false p = list_any-append (nat_eq x) xs [] ∙ false_or (is_among x xs) _ p
 
-pub among_added_other : (x y : ℕ) (xs : List ℕ) (b : Bool) → y ≢ x → is_among y (xs ++ (if b then x ∷ [] else [])) ≡ is_among y xs
+pub among_added_other : (x y : ℕ) (xs : List ℕ) (b : Bool) → y ≢ x →
+    is_among y (xs ++ (if b then x ∷ [] else [])) ≡ is_among y xs
 among_added_other x y xs true d =
-    list_any-append (nat_eq y) xs (x ∷ []) ∙ (ap (λ b. is_among y xs || (b || false)) (ne_eqb y x d) ∙ or_false (is_among y xs))
+    list_any-append (nat_eq y) xs (x ∷ [])
+    ∙ (ap (λ b. is_among y xs || (b || false)) (ne_eqb y x d) ∙ or_false (is_among y xs))
 among_added_other x y xs false d = list_any-append (nat_eq y) xs [] ∙ or_false (is_among y xs)
 
 pub among_below : (x a k : ℕ) → x < a → is_among x (range_with_len a k) ≡ false
 among_below x a zero h = refl
-among_below x a (suc k) h = ap (λ b. b || is_among x (range_with_len (a + 1) k)) (ne_eqb x a (λ e. omega (arith, e, h))) ∙ among_below x (a + 1) k (omega (arith, h))
+among_below x a (suc k) h = ap (λ b. b || is_among x (range_with_len (a + 1) k)) (ne_eqb x a (λ e. omega (arith, e, h)))
+    ∙ among_below x (a + 1) k (omega (arith, h))
 
 pub among_above : (x a k : ℕ) → a + k ≤ x → is_among x (range_with_len a k) ≡ false
 among_above x a zero h = refl
-among_above x a (suc k) h = ap (λ b. b || is_among x (range_with_len (a + 1) k)) (ne_eqb x a (λ e. omega (arith, e, h))) ∙ among_above x (a + 1) k (omega (arith, h))
+among_above x a (suc k) h = ap (λ b. b || is_among x (range_with_len (a + 1) k)) (ne_eqb x a (λ e. omega (arith, e, h)))
+    ∙ among_above x (a + 1) k (omega (arith, h))
 
 pub among_within : (x a k : ℕ) → a ≤ x → x < a + k → is_among x (range_with_len a k) ≡ true
 among_within x a zero h l = absurd (omega (arith, h, l))
@@ -94,7 +101,8 @@ some_below y n m e =
     (λ (h : n ≤ y). subst (λ (o : Option ℕ). IfSome o (λ x. x < m)) (sym (at_end n y h)) tt)
     (cases_lt y n)
 
-pub front_of : (next : ℕ → ℕ) (n end y : ℕ) (xs : List ℕ) → n ≤ end → IsRun next n y xs end → then_some (nat_lt y n) y ≡ slice_get xs 0
+pub front_of : (next : ℕ → ℕ) (n end y : ℕ) (xs : List ℕ) → n ≤ end → IsRun next n y xs end →
+    then_some (nat_lt y n) y ≡ slice_get xs 0
 front_of next n end y [] h r = at_end n y (omega (arith, h, r))
 front_of next n end y (x ∷ xs) h r = at_node n y (omega (arith, r.0, r.1)) ∙ ap Some r.0
 

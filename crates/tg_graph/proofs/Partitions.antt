@@ -18,27 +18,32 @@ use Rattle.tg_graph.proofs.Moves.{nodes_by, told_fixed, told_spill}
 abbrev moved_list : Lists → ℕ → Worklist → Worklist → List ℕ
 moved_list lists node list l = without node (nodes_in lists l) ++ (if number l == number list then node ∷ [] else [])
 
-moved_is : (lists : Lists) (node : ℕ) (list l : Worklist) → nodes_in (moved lists node list) l ≡ moved_list lists node list l
+moved_is : (lists : Lists) (node : ℕ) (list l : Worklist) →
+    nodes_in (moved lists node list) l ≡ moved_list lists node list l
 moved_is lists node list l = nodes_by lists.nodes (moved_list lists node list) l
 
 pub moved_tells : (lists : Lists) (node : ℕ) (list l : Worklist) (y : ℕ) →
-    is_among y (nodes_in (moved lists node list) l) ≡ (if y == node then number l == number list else is_among y (nodes_in lists l))
+    is_among y (nodes_in (moved lists node list) l)
+    ≡ (if y == node then number l == number list else is_among y (nodes_in lists l))
 moved_tells lists node list l y =
     ap (is_among y) (moved_is lists node list l)
     ∙ ⊎_elim
     (λ (p : y ≡ node).
     ap (λ i. is_among i (moved_list lists node list l)) p
-    ∙ (among_added_same node (without node (nodes_in lists l)) (number l == number list) (among_without_same node (nodes_in lists l))
+    ∙ (among_added_same node (without node (nodes_in lists l)) (number l == number list)
+    (among_without_same node (nodes_in lists l))
     ∙ sym (cond-true _ _ _ (eq-eqb y node p))))
     (λ (p : y ≢ node).
     among_added_other node y (without node (nodes_in lists l)) (number l == number list) p
     ∙ (among_without_other node y (nodes_in lists l) p ∙ sym (cond-false _ _ _ (ne_eqb y node p))))
     (cases_eq y node)
 
-at_same : (lists : Lists) (node : ℕ) (list l : Worklist) (y : ℕ) → y ≡ node → is_among y (nodes_in (moved lists node list) l) ≡ (number l == number list)
+at_same : (lists : Lists) (node : ℕ) (list l : Worklist) (y : ℕ) → y ≡ node →
+    is_among y (nodes_in (moved lists node list) l) ≡ (number l == number list)
 at_same lists node list l y p = moved_tells lists node list l y ∙ cond-true _ _ _ (eq-eqb y node p)
 
-at_other : (lists : Lists) (node : ℕ) (list l : Worklist) (y : ℕ) → y ≢ node → is_among y (nodes_in (moved lists node list) l) ≡ is_among y (nodes_in lists l)
+at_other : (lists : Lists) (node : ℕ) (list l : Worklist) (y : ℕ) → y ≢ node →
+    is_among y (nodes_in (moved lists node list) l) ≡ is_among y (nodes_in lists l)
 at_other lists node list l y p = moved_tells lists node list l y ∙ cond-false _ _ _ (ne_eqb y node p)
 
 -- No node twice.
@@ -46,20 +51,25 @@ at_other lists node list l y p = moved_tells lists node list l y ∙ cond-false 
 all_without : (P : ℕ → Type 0) (x : ℕ) (xs : List ℕ) → AllByRecursion P xs → AllByRecursion P (without x xs)
 all_without P x [] h = tt
 all_without P x (u ∷ us) h =
-    ⊎_elim (λ (p : x ≡ u). subst (λ (ys : List ℕ). AllByRecursion P ys) (sym (without_same x u us p)) (all_without P x us h.1))
-    (λ (p : x ≢ u). subst (λ (ys : List ℕ). AllByRecursion P ys) (sym (without_other x u us p)) (h.0, all_without P x us h.1))
+    ⊎_elim (λ (p : x ≡ u). subst (λ (ys : List ℕ). AllByRecursion P ys) (sym (without_same x u us p))
+    (all_without P x us h.1))
+    (λ (p : x ≢ u). subst (λ (ys : List ℕ). AllByRecursion P ys) (sym (without_other x u us p))
+    (h.0, all_without P x us h.1))
     (cases_eq x u)
 
 distinct_without : (x : ℕ) (xs : List ℕ) → IsDistinct nat_eq xs → IsDistinct nat_eq (without x xs)
 unfolding IsDistinct
 distinct_without x [] h = tt
 distinct_without x (u ∷ us) h =
-    ⊎_elim (λ (p : x ≡ u). subst (λ (ys : List ℕ). IsDistinct nat_eq ys) (sym (without_same x u us p)) (distinct_without x us h.1))
+    ⊎_elim (λ (p : x ≡ u). subst (λ (ys : List ℕ). IsDistinct nat_eq ys) (sym (without_same x u us p))
+    (distinct_without x us h.1))
     (λ (p : x ≢ u).
-    subst (λ (ys : List ℕ). IsDistinct nat_eq ys) (sym (without_other x u us p)) (all_without (λ z. nat_eq u z ≡ false) x us h.0, distinct_without x us h.1))
+    subst (λ (ys : List ℕ). IsDistinct nat_eq ys) (sym (without_other x u us p))
+    (all_without (λ z. nat_eq u z ≡ false) x us h.0, distinct_without x us h.1))
     (cases_eq x u)
 
-distinct_added : (x : ℕ) (xs : List ℕ) (b : Bool) → IsDistinct nat_eq xs → is_among x xs ≡ false → IsDistinct nat_eq (xs ++ (if b then x ∷ [] else []))
+distinct_added : (x : ℕ) (xs : List ℕ) (b : Bool) → IsDistinct nat_eq xs → is_among x xs ≡ false →
+    IsDistinct nat_eq (xs ++ (if b then x ∷ [] else []))
 distinct_added x xs true h p = distinct_push xs x h p
 distinct_added x xs false h p = subst (λ (ys : List ℕ). IsDistinct nat_eq ys) (sym (append-nil xs)) h
 
@@ -90,11 +100,15 @@ not_both b p q = cc
 
 started_nodes : (n : ℕ) → colours ≤ n → (l : Worklist) (x : ℕ) → is_among x (started_in n l) ≡ true → x < n
 started_nodes n h Fixed x t =
-    ⊎_elim (λ (k : x < n). k) (λ (k : n ≤ x). absurd (not_both (is_among x (range_with_len 0 25)) t (among_above x 0 25 (omega (arith, h, k))))) (cases_lt x n)
+    ⊎_elim (λ (k : x < n). k) (λ (k : n ≤ x).
+    absurd (not_both (is_among x (range_with_len 0 25)) t (among_above x 0 25 (omega (arith, h, k)))))
+    (cases_lt x n)
 started_nodes n h Simplify x t = absurd (not_both false t refl)
 started_nodes n h Freeze x t = absurd (not_both false t refl)
 started_nodes n h Spill x t =
-    ⊎_elim (λ (k : x < n). k) (λ (k : n ≤ x). absurd (not_both (is_among x (range_with_len 25 (n - 25))) t (among_above x 25 (n - 25) (omega (arith, h, k))))) (cases_lt x n)
+    ⊎_elim (λ (k : x < n). k) (λ (k : n ≤ x).
+    absurd (not_both (is_among x (range_with_len 25 (n - 25))) t (among_above x 25 (n - 25) (omega (arith, h, k)))))
+    (cases_lt x n)
 started_nodes n h Stacked x t = absurd (not_both false t refl)
 started_nodes n h Merged x t = absurd (not_both false t refl)
 
@@ -112,7 +126,8 @@ start_parts n h = record {
         (m : Worklist) × ((l : Worklist) → is_among x (nodes_in (started n) l) ≡ (number l == number m))
     place list x t = (list, λ l. ap (is_among x) (nodes_by n (started_in n) l) ∙ t l)
 
-pub moved_parts : (lists : Lists) (node : ℕ) (list : Worklist) → ArePartition lists → node < lists.nodes → ArePartition (moved lists node list)
+pub moved_parts : (lists : Lists) (node : ℕ) (list : Worklist) → ArePartition lists → node < lists.nodes →
+    ArePartition (moved lists node list)
 moved_parts lists node list s h = record {
   one = λ x k.
       ⊎_elim (λ (p : x ≡ node). here list x (λ l. at_same lists node list l x p))
@@ -124,10 +139,12 @@ moved_parts lists node list s h = record {
       (cases_eq x node);
   once = λ l.
       subst (λ (xs : List ℕ). IsDistinct nat_eq xs) (sym (moved_is lists node list l))
-      (distinct_added node (without node (nodes_in lists l)) (number l == number list) (distinct_without node (nodes_in lists l) (s.once l))
+      (distinct_added node (without node (nodes_in lists l)) (number l == number list)
+      (distinct_without node (nodes_in lists l) (s.once l))
       (among_without_same node (nodes_in lists l)));
 }
   where
-    here : (m : Worklist) (x : ℕ) → ((l : Worklist) → is_among x (nodes_in (moved lists node list) l) ≡ (number l == number m)) →
+    here : (m : Worklist) (x : ℕ) →
+        ((l : Worklist) → is_among x (nodes_in (moved lists node list) l) ≡ (number l == number m)) →
         (m' : Worklist) × ((l : Worklist) → is_among x (nodes_in (moved lists node list) l) ≡ (number l == number m'))
     here m x t = (m, t)

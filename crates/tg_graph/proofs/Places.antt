@@ -29,10 +29,12 @@ place_below T more x y n h k =
     let e : n - suc y + suc y ≡ n = omega arith in
     omega (arith, h, more y, grows T more (n - suc y) (suc y), ap T e)
 
-same_places : (T : ℕ → ℕ) → ((n : ℕ) → T (suc n) ≡ T n + n) → (x y u v : ℕ) → x < y → u < v → T y + x ≡ T v + u → (x ≡ u) × (y ≡ v)
+same_places : (T : ℕ → ℕ) → ((n : ℕ) → T (suc n) ≡ T n + n) → (x y u v : ℕ) → x < y → u < v → T y + x ≡ T v + u →
+    (x ≡ u) × (y ≡ v)
 same_places T more x y u v h k e =
     ⊎_elim (λ (p : y ≡ v). (omega (arith, e, ap T p), p))
-    (λ o. ⊎_elim (λ (p : y < v). absurd (omega (arith, e, place_below T more x y v h p))) (λ (p : v < y). absurd (omega (arith, e, place_below T more u v y k p))) o)
+    (λ o. ⊎_elim (λ (p : y < v). absurd (omega (arith, e, place_below T more x y v h p)))
+    (λ (p : v < y). absurd (omega (arith, e, place_below T more u v y k p))) o)
     (cases_order y v)
 
 pub pair_below : (x y n : ℕ) → x < y → y < n → pair_place x y < triangle n
@@ -52,19 +54,22 @@ pair_within x y n k h l m =
 abbrev written : List ℕ → ℕ → List ℕ
 written words at = set words (at / 64) (bit_or (get_or words (at / 64) 0) (1 * 2 ^ (at % 64) % 18446744073709551616))
 
-pub bit_written : (words : List ℕ) (at k : ℕ) → at / 64 < length words → bit (written words at) k ≡ ((k == at) || bit words k)
+pub bit_written : (words : List ℕ) (at k : ℕ) → at / 64 < length words →
+    bit (written words at) k ≡ ((k == at) || bit words k)
 bit_written words at k l =
     let w = get_or words (at / 64) 0 in
     let v = bit_or w (1 * 2 ^ (at % 64) % 18446744073709551616) in
     let small : at % 64 < 64 = omega arith in
     ⊎_elim
     (λ (p : k / 64 ≡ at / 64).
-    let here : get_or (written words at) (k / 64) 0 ≡ v = ap (λ i. get_or (written words at) i 0) p ∙ get_or-set_same words (at / 64) v 0 l in
+    let here : get_or (written words at) (k / 64) 0 ≡ v = ap (λ i. get_or (written words at) i 0) p
+    ∙ get_or-set_same words (at / 64) v 0 l in
     let there : get_or words (k / 64) 0 ≡ w = ap (λ i. get_or words i 0) p in
     ⊎_elim
     (λ (q : k % 64 ≡ at % 64).
     let is : k ≡ at = omega (arith, p, q) in
-    ap (λ i. bit_at i (k % 64) == 1) here ∙ (ap (λ i. bit_at v i == 1) q ∙ (ap (λ i. i == 1) (bit_at_set_same w64 w (at % 64) small)
+    ap (λ i. bit_at i (k % 64) == 1) here
+    ∙ (ap (λ i. bit_at v i == 1) q ∙ (ap (λ i. i == 1) (bit_at_set_same w64 w (at % 64) small)
     ∙ sym (ap (λ b. b || bit words k) (eq-eqb k at is)))))
     (λ (q : k % 64 ≢ at % 64).
     let isnt : k ≢ at = λ e. q (ap (λ i. i % 64) e) in
@@ -79,7 +84,9 @@ bit_written words at k l =
 
 pub read_replicate : {X : Type 0} (n i : ℕ) (d : X) → get_or (replicate n d) i d ≡ d
 read_replicate n i d =
-    ⊎_elim (λ (h : i < n). get_or-replicate n i d d h) (λ (h : n ≤ i). get_or_past (replicate n d) i d (subst (λ (m : ℕ). m ≤ i) (sym (length-replicate n d)) h)) (cases_lt i n)
+    ⊎_elim (λ (h : i < n). get_or-replicate n i d d h)
+    (λ (h : n ≤ i). get_or_past (replicate n d) i d (subst (λ (m : ℕ). m ≤ i) (sym (length-replicate n d)) h))
+    (cases_lt i n)
 
 pub bit_unset : (n k : ℕ) → bit (replicate n 0) k ≡ false
 bit_unset n k = ap (λ w. bit_at w (k % 64) == 1) (read_replicate n (k / 64) 0) ∙ ap (λ i. i == 1) (bit_at-zero (k % 64))

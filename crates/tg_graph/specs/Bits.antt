@@ -1,5 +1,5 @@
--- Bits in words of 64, the lowest first; and the place of a pair of numbers in a triangle, where the
--- pairs stand by the greater number and then by the lesser.
+-- Bits in words of 64, the lowest first; and the place of a pair of numbers in a triangle, where
+-- the pairs stand by the greater number and then by the lesser.
 use Rattle.std.specs.Prelude.{ℕ, ◌+◌, ◌-◌, ◌*◌, ◌/◌, ◌%◌, Bool, List, ◌==◌, slice_index}
 use Rattle.std.specs.Int.{bit_at}
 

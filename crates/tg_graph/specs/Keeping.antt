@@ -19,5 +19,6 @@ pub record IsKept (g : Interference) (bits degrees : List ℕ) : Type 0 where
   pub few : g.nodes ≤ most_nodes
   pub graph : IsGraph g
   pub room : triangle g.nodes ≤ 64 * length bits
-  pub told : (x y : ℕ) → x < y → y < g.nodes → colours ≤ y → bit bits (pair_place x y) ≡ is_among x (neighbours g y)
+  pub told : (x y : ℕ) → x < y → y < g.nodes → colours ≤ y →
+      bit bits (pair_place x y) ≡ is_among x (neighbours g y)
   pub counted : degrees ≡ map length g.adjacent

@@ -12,7 +12,9 @@ RegistersInterfere =
 
 -- each node is in exactly one list, and there once
 pub record ArePartition (lists : Lists) : Type 0 where
-  pub one : (x : ℕ) → x < lists.nodes → (list : Worklist) × ((l : Worklist) → is_among x (nodes_in lists l) ≡ (number l == number list))
+  pub one : (x : ℕ) → x < lists.nodes →
+      (list : Worklist)
+      × ((l : Worklist) → is_among x (nodes_in lists l) ≡ (number l == number list))
   pub nodes : (l : Worklist) (x : ℕ) → IsTrue (is_among x (nodes_in lists l)) → x < lists.nodes
   pub once : (l : Worklist) → IsDistinct nat_eq (nodes_in lists l)
 

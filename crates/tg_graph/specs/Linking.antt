@@ -15,12 +15,15 @@ total lists =
     + length lists.stacked + length lists.merged
 
 -- these are the lists of the links, and each node's place tells the list in which it is
-pub record AreLinked (n : ℕ) (next prev : List ℕ) (places : List Worklist) (lists : Worklist → List ℕ) : Type 0 where
+pub record AreLinked
+    (n : ℕ) (next prev : List ℕ) (places : List Worklist) (lists : Worklist → List ℕ) : Type 0 where
   pub some : colours ≤ n
   pub few : n ≤ most_nodes
   pub sized : length next ≡ n + 6
   pub placed : length places ≡ n
   pub inverse : AreInverse next prev
-  pub runs : (list : Worklist) → IsRun (slice_index next) n (slice_index next (n + number list)) (lists list) (n + number list)
-  pub told : (list : Worklist) (x : ℕ) → x < n → is_among x (lists list) ≡ (number list == number (slice_index_or places x Fixed))
+  pub runs : (list : Worklist) →
+      IsRun (slice_index next) n (slice_index next (n + number list)) (lists list) (n + number list)
+  pub told : (list : Worklist) (x : ℕ) → x < n →
+      is_among x (lists list) ≡ (number list == number (slice_index_or places x Fixed))
   pub fit : total (lists_by n lists) ≤ n

@@ -60,7 +60,8 @@ without x xs = filter (λ y. not (x == y)) xs
 -- a node taken out of its list and put last in the one named
 abbrev pub moved : Lists → ℕ → Worklist → Lists
 moved lists node list =
-    lists_by lists.nodes (λ l. without node (nodes_in lists l) ++ (if number l == number list then node ∷ [] else []))
+    lists_by lists.nodes
+    (λ l. without node (nodes_in lists l) ++ (if number l == number list then node ∷ [] else []))
 
 -- what stands right behind a node
 abbrev pub after : ℕ → List ℕ → Option ℕ

@@ -28,9 +28,9 @@ use std::alloc::Global;
 use std::marker::Model;
 use tg_base::Memory;
 
-/// An interference graph: the registers that serve as colours, which all interfere with each other,
-/// and temporaries. It has a bit for each pair of nodes, and a counter and a list for each temporary
-/// (Appel, chapter 11: `adjSet`, `degree` and `adjList`).
+/// An interference graph: the registers that serve as colours, which all interfere with each
+/// other, and temporaries. It has a bit for each pair of nodes, and a counter and a list for each
+/// temporary (Appel, chapter 11: `adjSet`, `degree` and `adjList`).
 #[derive(Drop)]
 pub struct Graph {
     nodes: u32,
@@ -47,7 +47,9 @@ impl Model for Graph {
 
     ghost view = { λ g. record { nodes = g.nodes; adjacent = lists_of g.adjacent.items } };
 
-    ghost invariant = { λ g. IsKept (record { nodes = g.nodes; adjacent = lists_of g.adjacent.items }) g.pairs.items g.degrees.items };
+    ghost invariant = { λ g.
+        IsKept (record { nodes = g.nodes; adjacent = lists_of g.adjacent.items })
+        g.pairs.items g.degrees.items };
 }
 
 impl Graph {

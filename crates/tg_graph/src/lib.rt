@@ -1,6 +1,6 @@
 //! Interference graphs and worklists of register allocation (Appel, chapter 11; George and Appel
-//! 1996). Promises the allocator exact pairs, degrees and neighbours, and that each node is in exactly
-//! one list.
+//! 1996). Promises the allocator exact pairs, degrees and neighbours, and that each node is in
+//! exactly one list.
 #![tactic(auto)]
 
 mod bits;

@@ -26,7 +26,8 @@ pub(crate) fn link_last(next: &mut [u32], prev: &mut [u32], node: u32, end: u32)
     requires within { end < length next.old }
     requires alone { slice_index next.old node ≡ node }
     ensures inverse { AreInverse next.new prev.new }
-    ensures others { (y : ℕ) → y < end → y ≢ node → slice_index next.old y ≡ y → slice_index next.new y ≡ y }
+    ensures others { (y : ℕ) → y < end → y ≢ node → slice_index next.old y ≡ y →
+        slice_index next.new y ≡ y }
     ensures lists { (n : ℕ) → node < n → n ≤ end →
         Relinks next.old next.new n (joined_to end (node ∷ [])) }
 {
@@ -45,7 +46,8 @@ pub(crate) fn link_range(next: &mut [u32], prev: &mut [u32], from: u32, to: u32,
     requires within { end < length next.old }
     requires alone { AreAlone next.old from to }
     ensures inverse { AreInverse next.new prev.new }
-    ensures others { (y : ℕ) → to ≤ y → y < end → slice_index next.old y ≡ y → slice_index next.new y ≡ y }
+    ensures others { (y : ℕ) → to ≤ y → y < end → slice_index next.old y ≡ y →
+        slice_index next.new y ≡ y }
     ensures lists { (n : ℕ) → to ≤ n → n ≤ end →
         Relinks next.old next.new n (joined_to end (range_with_len from (to - from))) }
 {

@@ -56,7 +56,8 @@ pub(crate) fn push_neighbour(
 pub(crate) fn pop_neighbour(lists: &mut Vec<Vec<u32>>, node: u32)
     requires { node < colours + length lists.old.items }
     ensures { (before : List (List ℕ)) (y : ℕ) →
-        lists_of lists.old.items ≡ with_neighbour node y before → lists_of lists.new.items ≡ before }
+        lists_of lists.old.items ≡ with_neighbour node y before →
+        lists_of lists.new.items ≡ before }
 {
     if node >= COLOURS {
         let list = &mut lists[(node - COLOURS) as usize];

@@ -66,7 +66,8 @@ impl Model for Worklists {
     ghost view = { λ l. lists_by l.nodes (list_from l.nodes l.next.items) };
 
     ghost invariant = { λ l.
-        AreLinked l.nodes l.next.items l.prev.items l.places.items (list_from l.nodes l.next.items) };
+        AreLinked l.nodes l.next.items l.prev.items l.places.items
+        (list_from l.nodes l.next.items) };
 }
 
 /// Places that are linked to themselves.
@@ -81,8 +82,8 @@ fn alone(alloc: Global, count: u32) -> Result<Vec<u32>, Memory>
 }
 
 impl Worklists {
-    /// The registers in `Fixed` and all temporaries in `Spill`, in rising order. It takes all memory
-    /// of the lists.
+    /// The registers in `Fixed` and all temporaries in `Spill`, in rising order. It takes all
+    /// memory of the lists.
     pub fn new(alloc: Global, nodes: u32) -> Result<Worklists, Memory>
         requires low { colours ≤ nodes }
         requires high { nodes ≤ most_nodes }

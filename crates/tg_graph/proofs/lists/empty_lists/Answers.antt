@@ -12,7 +12,8 @@ loop-preserved c =
     ap lists_of c.in_ok-push.ensures.items
     ∙ (map_push (λ (v : Vec ℕ Global). v.items) c.loop.lists.items c.new.result
     ∙ (ap (λ (ls : List (List ℕ)). ls ++ c.new.result.items ∷ []) c.loop.invariant
-    ∙ (ap (λ (xs : List ℕ). replicate {A = List ℕ} c.loop.counter [] ++ xs ∷ []) c.new.ensures.items ∙ replicate_more c.loop.counter [])))
+    ∙ (ap (λ (xs : List ℕ). replicate {A = List ℕ} c.loop.counter [] ++ xs ∷ []) c.new.ensures.items
+    ∙ replicate_more c.loop.counter [])))
 
 pub returns : goal.returns
 returns c =

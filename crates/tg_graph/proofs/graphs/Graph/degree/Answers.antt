@@ -10,10 +10,12 @@ returns-clause-bound c =
     let g : Interference = record { nodes = c.self.inside.nodes; adjacent = lists_of c.self.inside.adjacent.items } in
     let kept : IsKept g c.self.inside.pairs.items c.self.inside.degrees.items = c.self.invariant in
     let nodes : c.self.inside.nodes ≡ c.args.self.now.nodes = ap (λ (h : Interference). h.nodes) c.self.view_is in
-    let size : length c.self.inside.degrees.items ≡ c.self.inside.nodes - 25 = ap length kept.counted ∙ (length-map g.adjacent length ∙ kept.graph.sized) in
+    let size : length c.self.inside.degrees.items ≡ c.self.inside.nodes - 25 = ap length kept.counted
+    ∙ (length-map g.adjacent length ∙ kept.graph.sized) in
     let node : c.args.a < c.self.inside.nodes = omega arith in
     let read : c.index.result.now ≡ get_or c.self.inside.degrees.items (c.args.a - 25) 0 =
-    get_or_read c.self.inside.degrees.items (c.args.a - 25) c.index.result.now (omega (arith, size, node, c.requires.temporary)) c.index.ensures 0 in
+    get_or_read c.self.inside.degrees.items (c.args.a - 25) c.index.result.now
+    (omega (arith, size, node, c.requires.temporary)) c.index.ensures 0 in
     omega (
       arith,
       nodes,

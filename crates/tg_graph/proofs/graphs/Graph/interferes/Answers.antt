@@ -9,4 +9,5 @@ has_bit-requires c =
     let order : c.min.result < c.max-high.result = omega arith in
     let node : c.max-high.result < c.self.inside.nodes = omega arith in
     within_at _ _ _ _ c.pair_place.ensures c.deref.ensures.value
-    (pair_within c.min.result c.max-high.result c.self.inside.nodes (length c.self.inside.pairs.items) order node c.self.invariant.room)
+    (pair_within c.min.result c.max-high.result c.self.inside.nodes
+    (length c.self.inside.pairs.items) order node c.self.invariant.room)

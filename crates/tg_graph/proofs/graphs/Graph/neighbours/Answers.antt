@@ -17,4 +17,5 @@ returns-clause-within c =
     let within : c.args.a - 25 < length vectors = omega (arith, size, node, c.requires.temporary) in
     let read : c.as_slice.result.now ≡ neighbours g c.args.a =
     c.as_slice.ensures.value ∙ sym (list_read vectors (c.args.a - 25) c.index.result.now within c.index.ensures) in
-    neighbours_below g c.args.a c.args.self.now.nodes c.as_slice.result.now kept.graph c.requires.temporary node read nodes
+    neighbours_below g c.args.a c.args.self.now.nodes c.as_slice.result.now
+    kept.graph c.requires.temporary node read nodes

@@ -11,7 +11,9 @@ pub invariant_of-result : goal.invariant_of-result
 invariant_of-result c =
     let n = c.args.nodes in
     let words = c.triangle.result / 64 + 1 in
-    let bits : c.in_ok-vec.field-0.items ≡ replicate words 0 = c.in_ok-vec.ensures.items_if_clones_equal (λ y h. search rules) in
-    let counters : c.in_ok-vec-2.field-0.items ≡ replicate (n - 25) 0 = c.in_ok-vec-2.ensures.items_if_clones_equal (λ y h. search rules) in
+    let bits : c.in_ok-vec.field-0.items ≡ replicate words 0 =
+    c.in_ok-vec.ensures.items_if_clones_equal (λ y h. search rules) in
+    let counters : c.in_ok-vec-2.field-0.items ≡ replicate (n - 25) 0 =
+    c.in_ok-vec-2.ensures.items_if_clones_equal (λ y h. search rules) in
     kept_at n _ _ _ _ _ _ (sym c.in_ok-empty_lists.ensures) (sym bits) (sym counters)
     (kept_bare n words c.requires.low c.requires.high (room (triangle n) c.triangle.result c.triangle.ensures))

@@ -15,14 +15,17 @@ returns-clause-value c =
     let end = n + number c.args.list in
     let within : n + c.number.result < length next = omega (arith, c.self.invariant.sized, c.number.ensures.fits) in
     let read : c.index-front.result.now ≡ get_or next end 0 =
-    get_or_read next (n + c.number.result) c.index-front.result.now within c.index-front.ensures 0 ∙ ap (λ i. get_or next (n + i) 0) c.number.ensures.value in
+    get_or_read next (n + c.number.result) c.index-front.result.now within c.index-front.ensures 0
+    ∙ ap (λ i. get_or next (n + i) 0) c.number.ensures.value in
     c.then_some.ensures
     ∙ (ap (λ (y : ℕ). then_some (nat_lt y n) y) read
-    ∙ (front_of (slice_index next) n end (slice_index next end) (list_from n next c.args.list) (omega arith) (c.self.invariant.runs c.args.list)
+    ∙ (front_of (slice_index next) n end (slice_index next end) (list_from n next c.args.list) (omega arith)
+    (c.self.invariant.runs c.args.list)
     ∙ (ap (λ (xs : List ℕ). slice_get xs 0) (sym (nodes_by n (list_from n next) c.args.list))
     ∙ ap (λ (v : Lists). slice_get (nodes_in v c.args.list) 0) c.self.view_is)))
 
 pub returns-clause-within : goal.returns-clause-within
 returns-clause-within c =
     subst (λ (o : Option ℕ). IfSome o (λ x. x < c.args.self.now.nodes)) (sym c.then_some.ensures)
-    (some_below c.index-front.result.now c.self.inside.nodes c.args.self.now.nodes (ap (λ (v : Lists). v.nodes) c.self.view_is))
+    (some_below c.index-front.result.now c.self.inside.nodes c.args.self.now.nodes
+    (ap (λ (v : Lists). v.nodes) c.self.view_is))

@@ -26,21 +26,25 @@ places_at n m places new h e p q =
 
 pub link_range-requires-clause-inverse : goal.link_range-requires-clause-inverse
 link_range-requires-clause-inverse c =
-    inverse_at _ _ _ (c.deref_mut.ensures.value ∙ c.in_ok-next.ensures) (c.deref_mut-2.ensures.value ∙ c.in_ok-prev.ensures)
+    inverse_at _ _ _ (c.deref_mut.ensures.value ∙ c.in_ok-next.ensures) (c.deref_mut-2.ensures.value
+    ∙ c.in_ok-prev.ensures)
     (identity_inverse (c.args.nodes + 6))
 
 pub link_range-requires-clause-within : goal.link_range-requires-clause-within
 link_range-requires-clause-within c =
-    let size = ap length (c.deref_mut.ensures.value ∙ c.in_ok-next.ensures) ∙ length-range_with_len 0 (c.args.nodes + 6) in
+    let size = ap length (c.deref_mut.ensures.value ∙ c.in_ok-next.ensures)
+    ∙ length-range_with_len 0 (c.args.nodes + 6) in
     omega (arith, size, c.number.ensures.fits)
 
 pub link_range-requires-clause-alone : goal.link_range-requires-clause-alone
 link_range-requires-clause-alone c = λ y h k.
-    ap (λ (xs : List ℕ). get_or xs y 0) (c.deref_mut.ensures.value ∙ c.in_ok-next.ensures) ∙ itself (c.args.nodes + 6) y (omega (arith, k, c.requires.low))
+    ap (λ (xs : List ℕ). get_or xs y 0) (c.deref_mut.ensures.value ∙ c.in_ok-next.ensures)
+    ∙ itself (c.args.nodes + 6) y (omega (arith, k, c.requires.low))
 
 pub link_range-requires-2-clause-within : goal.link_range-requires-2-clause-within
 link_range-requires-2-clause-within c =
-    let size = ap length (c.deref_mut.ensures.value ∙ c.in_ok-next.ensures) ∙ length-range_with_len 0 (c.args.nodes + 6) in
+    let size = ap length (c.deref_mut.ensures.value ∙ c.in_ok-next.ensures)
+    ∙ length-range_with_len 0 (c.args.nodes + 6) in
     let same : length c.link_range.new.next ≡ c.in_ok-next.next.len =
     c.link_range.auto.next ∙ (ap length c.deref_mut.ensures.value ∙ sym c.in_ok-next.next.ok.0) in
     let back = ap length (c.deref_mut-3.ensures.value ∙ with_items_is c.in_ok-next.next c.link_range.new.next same) in
@@ -51,8 +55,10 @@ link_range-requires-2-clause-alone c = λ y h k.
     let same : length c.link_range.new.next ≡ c.in_ok-next.next.len =
     c.link_range.auto.next ∙ (ap length c.deref_mut.ensures.value ∙ sym c.in_ok-next.next.ok.0) in
     let before : get_or c.deref_mut.result.now y 0 ≡ y =
-    ap (λ (xs : List ℕ). get_or xs y 0) (c.deref_mut.ensures.value ∙ c.in_ok-next.ensures) ∙ itself (c.args.nodes + 6) y (omega (arith, k)) in
-    ap (λ (xs : List ℕ). get_or xs y 0) (c.deref_mut-3.ensures.value ∙ with_items_is c.in_ok-next.next c.link_range.new.next same)
+    ap (λ (xs : List ℕ). get_or xs y 0) (c.deref_mut.ensures.value ∙ c.in_ok-next.ensures)
+    ∙ itself (c.args.nodes + 6) y (omega (arith, k)) in
+    ap (λ (xs : List ℕ). get_or xs y 0) (c.deref_mut-3.ensures.value
+    ∙ with_items_is c.in_ok-next.next c.link_range.new.next same)
     ∙ c.link_range.ensures.others y h (omega (arith, k)) before
 
 pub invariant_of-result : goal.invariant_of-result
@@ -64,25 +70,34 @@ invariant_of-result c =
     let third = c.link_range-2.new.next in
     let start : c.deref_mut.result.now ≡ range_with_len 0 (n + 6) = c.deref_mut.ensures.value ∙ c.in_ok-next.ensures in
     let long : next.len ≡ n + 6 = next.ok.0 ∙ (ap length c.in_ok-next.ensures ∙ length-range_with_len 0 (n + 6)) in
-    let size : length second ≡ next.len = c.link_range.auto.next ∙ (ap length c.deref_mut.ensures.value ∙ sym next.ok.0) in
+    let size : length second ≡ next.len = c.link_range.auto.next
+    ∙ (ap length c.deref_mut.ensures.value ∙ sym next.ok.0) in
     let back : c.deref_mut-3.result.now ≡ second = c.deref_mut-3.ensures.value ∙ with_items_is next second size in
     let size' : length third ≡ next.len = c.link_range-2.auto.next ∙ (ap length back ∙ size) in
     let first : Relinks (range_with_len 0 (n + 6)) second n (joined_to (n + 0) (range_with_len 0 25)) =
-    subst (λ (i : ℕ). Relinks (range_with_len 0 (n + 6)) second n (joined_to (n + i) (range_with_len 0 25))) c.number.ensures.value
-    (subst (λ (xs : List ℕ). Relinks xs second n (joined_to (n + c.number.result) (range_with_len 0 25))) start (c.link_range.ensures.lists n c.requires.low (omega arith))) in
+    subst (λ (i : ℕ). Relinks (range_with_len 0 (n + 6)) second n
+    (joined_to (n + i) (range_with_len 0 25))) c.number.ensures.value
+    (subst (λ (xs : List ℕ). Relinks xs second n (joined_to (n + c.number.result) (range_with_len 0 25))) start
+    (c.link_range.ensures.lists n c.requires.low (omega arith))) in
     let then : Relinks second third n (joined_to (n + 3) (range_with_len 25 (n - 25))) =
     subst (λ (i : ℕ). Relinks second third n (joined_to (n + i) (range_with_len 25 (n - 25)))) c.number-2.ensures.value
-    (subst (λ (xs : List ℕ). Relinks xs third n (joined_to (n + c.number-2.result) (range_with_len 25 (n - 25)))) back (c.link_range-2.ensures.lists n (omega arith) (omega arith))) in
-    let before : length c.link_range.new.prev ≡ prev.len = c.link_range.auto.prev ∙ (ap length c.deref_mut-2.ensures.value ∙ sym prev.ok.0) in
-    let back' : c.deref_mut-4.result.now ≡ c.link_range.new.prev = c.deref_mut-4.ensures.value ∙ with_items_is prev c.link_range.new.prev before in
+    (subst (λ (xs : List ℕ). Relinks xs third n (joined_to (n + c.number-2.result) (range_with_len 25 (n - 25)))) back
+    (c.link_range-2.ensures.lists n (omega arith) (omega arith))) in
+    let before : length c.link_range.new.prev ≡ prev.len = c.link_range.auto.prev
+    ∙ (ap length c.deref_mut-2.ensures.value ∙ sym prev.ok.0) in
+    let back' : c.deref_mut-4.result.now ≡ c.link_range.new.prev = c.deref_mut-4.ensures.value
+    ∙ with_items_is prev c.link_range.new.prev before in
     let before' : length c.link_range-2.new.prev ≡ prev.len = c.link_range-2.auto.prev ∙ (ap length back' ∙ before) in
     let places : c.resize.new.self.items ≡ start_places n =
-    places_at n c.in_ok-places.places.len c.in_ok-places.places.items c.resize.new.self.items c.requires.low c.in_ok-places.ensures.len
+    places_at n c.in_ok-places.places.len c.in_ok-places.places.items c.resize.new.self.items
+    c.requires.low c.in_ok-places.ensures.len
     (c.in_ok-places.ensures.items_if_clones_equal (λ y h. search rules)) c.in_ok-resize.ensures.items in
-    linked_at n _ _ _ _ _ _ (sym (with_items_is (with_items next second) third size')) (sym (with_items_is (with_items prev c.link_range.new.prev) c.link_range-2.new.prev before'))
+    linked_at n _ _ _ _ _ _ (sym (with_items_is (with_items next second) third size'))
+    (sym (with_items_is (with_items prev c.link_range.new.prev) c.link_range-2.new.prev before'))
     (sym places)
     (settled_linked n third c.link_range-2.new.prev (start_places n) (started_in n)
-    (start_linked n second third c.link_range-2.new.prev c.requires.low c.requires.high (size ∙ long) (size' ∙ long) first then c.link_range-2.ensures.inverse))
+    (start_linked n second third c.link_range-2.new.prev c.requires.low c.requires.high (size ∙ long) (size'
+    ∙ long) first then c.link_range-2.ensures.inverse))
 
 pub returns : goal.returns
 returns c =
@@ -92,15 +107,21 @@ returns c =
     let third = c.link_range-2.new.next in
     let start : c.deref_mut.result.now ≡ range_with_len 0 (n + 6) = c.deref_mut.ensures.value ∙ c.in_ok-next.ensures in
     let long : next.len ≡ n + 6 = next.ok.0 ∙ (ap length c.in_ok-next.ensures ∙ length-range_with_len 0 (n + 6)) in
-    let size : length second ≡ next.len = c.link_range.auto.next ∙ (ap length c.deref_mut.ensures.value ∙ sym next.ok.0) in
+    let size : length second ≡ next.len = c.link_range.auto.next
+    ∙ (ap length c.deref_mut.ensures.value ∙ sym next.ok.0) in
     let back : c.deref_mut-3.result.now ≡ second = c.deref_mut-3.ensures.value ∙ with_items_is next second size in
     let size' : length third ≡ next.len = c.link_range-2.auto.next ∙ (ap length back ∙ size) in
     let first : Relinks (range_with_len 0 (n + 6)) second n (joined_to (n + 0) (range_with_len 0 25)) =
-    subst (λ (i : ℕ). Relinks (range_with_len 0 (n + 6)) second n (joined_to (n + i) (range_with_len 0 25))) c.number.ensures.value
-    (subst (λ (xs : List ℕ). Relinks xs second n (joined_to (n + c.number.result) (range_with_len 0 25))) start (c.link_range.ensures.lists n c.requires.low (omega arith))) in
+    subst (λ (i : ℕ). Relinks (range_with_len 0 (n + 6)) second n
+    (joined_to (n + i) (range_with_len 0 25))) c.number.ensures.value
+    (subst (λ (xs : List ℕ). Relinks xs second n (joined_to (n + c.number.result) (range_with_len 0 25))) start
+    (c.link_range.ensures.lists n c.requires.low (omega arith))) in
     let then : Relinks second third n (joined_to (n + 3) (range_with_len 25 (n - 25))) =
     subst (λ (i : ℕ). Relinks second third n (joined_to (n + i) (range_with_len 25 (n - 25)))) c.number-2.ensures.value
-    (subst (λ (xs : List ℕ). Relinks xs third n (joined_to (n + c.number-2.result) (range_with_len 25 (n - 25)))) back (c.link_range-2.ensures.lists n (omega arith) (omega arith))) in
-    let linked = start_linked n second third c.link_range-2.new.prev c.requires.low c.requires.high (size ∙ long) (size' ∙ long) first then c.link_range-2.ensures.inverse in
+    (subst (λ (xs : List ℕ). Relinks xs third n (joined_to (n + c.number-2.result) (range_with_len 25 (n - 25)))) back
+    (c.link_range-2.ensures.lists n (omega arith) (omega arith))) in
+    let linked = start_linked n second third c.link_range-2.new.prev c.requires.low c.requires.high (size ∙ long) (size'
+    ∙ long) first then c.link_range-2.ensures.inverse in
     ap (λ (zs : List ℕ). lists_by n (list_from n zs)) (with_items_is (with_items next second) third size')
-    ∙ ap (λ (g : Worklist → List ℕ). lists_by n g) (settled n third c.link_range-2.new.prev (start_places n) (started_in n) linked)
+    ∙ ap (λ (g : Worklist → List ℕ). lists_by n g)
+    (settled n third c.link_range-2.new.prev (start_places n) (started_in n) linked)
