@@ -1,11 +1,11 @@
 -- Lists of neighbours, when one is added.
-use Rattle.std.specs.Prelude.{◌==◌, nat_eq, nat_lt, if◌then◌else◌}
-use Rattle.std.proofs.Common.{◌≡◌, ◌≢◌, ◌⊎◌, ℕ, zero, suc, ◌+◌, ◌-◌, ◌<◌, ◌≤◌, ◌&&◌, ◌||◌, Bool, true, false, cond, eqb, ltb, List, [], ◌∷◌, ◌++◌, length, map, get_or, set, replicate, slice_index, refl, sym, ap, ◌∙◌, subst, ⊎_elim, arith}
-use Rattle.std.specs.List.{list_any, IsDistinct, AllByRecursion}
+use Rattle.std.specs.Prelude.{◌==◌, nat_eq}
+use Rattle.std.proofs.Common.{◌≡◌, ◌≢◌, ℕ, ◌+◌, ◌-◌, ◌<◌, ◌≤◌, ◌&&◌, ◌||◌, Bool, true, false, eqb, ltb, List, [], ◌∷◌, ◌++◌, length, map, get_or, set, refl, sym, ap, ◌∙◌, subst, ⊎_elim, arith}
+use Rattle.std.specs.List.{IsDistinct, AllByRecursion}
 use Rattle.std.proofs.lemmas.Bool.{cases_eq, cases_lt, eq-eqb, ne_eqb, lt-ltb, le-ltb, cond-true, cond-false, or_parts}
-use Rattle.std.proofs.lemmas.List.{get_or-set_other, length-set, map-set, get_or-map, length_push, get_or_past, length-map, get_or-set_same}
+use Rattle.std.proofs.lemmas.List.{get_or-set_other, length-set, map-set, get_or-map, length_push, get_or_past, get_or-set_same}
 use Rattle.std.proofs.lemmas.List.Folds.{list_any-append}
-use Rattle.tg_graph.specs.Interference.{colours, is_register, is_among, with_neighbour}
+use Rattle.tg_graph.specs.Interference.{colours, is_among, with_neighbour}
 use Rattle.tg_graph.specs.Keeping.{counted_up}
 
 swapped : (a b : Bool) → (a || (b || false)) ≡ (b || a)

@@ -1,6 +1,5 @@
 -- Graphs and lists computed.
-use Rattle.std.specs.Prelude.{◌==◌}
-use Rattle.std.proofs.Common.{◌≡◌, ℕ, true, false, List, [], ◌∷◌, Option, Some, None, refl}
+use Rattle.std.proofs.Common.{◌≡◌, true, false, [], ◌∷◌, Some, None, refl}
 use Rattle.tg_graph.specs.declared.worklists.Worklist.TheVariants.{Simplify, Spill}
 use Rattle.tg_graph.specs.Bits.{bit, triangle, pair_place}
 use Rattle.tg_graph.specs.Interference.{Interference, bare, with_edge, interferes, neighbours, degree}

@@ -1,6 +1,6 @@
 -- Worklists, when a node is moved and when they begin.
-use Rattle.std.specs.Prelude.{◌==◌, nat_eq, if◌then◌else◌}
-use Rattle.std.proofs.Common.{◌≡◌, ◌≢◌, ◌⊎◌, ℕ, zero, suc, ◌+◌, ◌-◌, ◌<◌, ◌≤◌, Bool, true, false, eqb, List, [], ◌∷◌, ◌++◌, length, get_or, set, replicate, slice_index, refl, sym, ap, ◌∙◌, subst, ⊎_elim, arith}
+use Rattle.std.specs.Prelude.{◌==◌, if◌then◌else◌}
+use Rattle.std.proofs.Common.{◌≡◌, ◌≢◌, ℕ, ◌+◌, ◌-◌, ◌<◌, ◌≤◌, Bool, true, false, List, [], ◌∷◌, ◌++◌, length, get_or, set, replicate, slice_index, refl, sym, ap, ◌∙◌, subst, ⊎_elim, arith}
 use Rattle.std.specs.List.{range_with_len}
 use Rattle.std.proofs.lemmas.Bool.{cases_eq, cases_lt, eq-eqb, ne_eqb}
 use Rattle.std.proofs.lemmas.List.{get_or-set_same, get_or-set_other, length-set, length-append, length-replicate, get_or_append_left, get_or-append_right, get_or-replicate, append-nil}
@@ -8,7 +8,7 @@ use Rattle.std.proofs.lemmas.List.FromFn.{length-range_with_len, get_or-range_wi
 use Rattle.tg_graph.specs.declared.worklists.Worklist.{Worklist}
 use Rattle.tg_graph.specs.declared.worklists.Worklist.TheVariants.{Fixed, Simplify, Freeze, Spill, Stacked, Merged}
 use Rattle.tg_graph.specs.Interference.{colours, most_nodes, is_among}
-use Rattle.tg_graph.specs.Lists.{Lists, lists_by, nodes_in, number, without, started_in}
+use Rattle.tg_graph.specs.Lists.{lists_by, nodes_in, number, without, started_in}
 use Rattle.tg_graph.specs.Chains.{AreInverse, IsRun, Relinks, joined_to}
 use Rattle.tg_graph.specs.Linking.{AreLinked, list_from, total}
 use Rattle.tg_graph.proofs.Runs.{follows}

@@ -1,6 +1,6 @@
 -- Each node stays in exactly one list.
 use Rattle.std.specs.Prelude.{◌==◌, nat_eq, if◌then◌else◌}
-use Rattle.std.proofs.Common.{◌≡◌, ◌≢◌, ◌⊎◌, ℕ, zero, suc, ◌+◌, ◌-◌, ◌<◌, ◌≤◌, Bool, true, false, cond, eqb, List, [], ◌∷◌, ◌++◌, refl, sym, ap, ◌∙◌, subst, ⊎_elim, arith}
+use Rattle.std.proofs.Common.{◌≡◌, ◌≢◌, ℕ, zero, suc, ◌+◌, ◌-◌, ◌<◌, ◌≤◌, Bool, true, false, List, [], ◌∷◌, ◌++◌, refl, sym, ap, ◌∙◌, subst, ⊎_elim, arith}
 use Rattle.std.specs.List.{IsDistinct, AllByRecursion, range_with_len}
 use Rattle.std.proofs.lemmas.Bool.{cases_eq, cases_lt, eq-eqb, ne_eqb, cond-true, cond-false}
 use Rattle.std.proofs.lemmas.List.{append-nil}
@@ -11,7 +11,7 @@ use Rattle.tg_graph.specs.Lists.{Lists, nodes_in, number, without, started, star
 use Rattle.tg_graph.specs.Laws.{ArePartition}
 use Rattle.tg_graph.proofs.Runs.{without_same, without_other}
 use Rattle.tg_graph.proofs.Changes.{distinct_push}
-use Rattle.tg_graph.proofs.Members.{among_without_same, among_without_other, among_added_same, among_added_other, among_below, among_above, among_within}
+use Rattle.tg_graph.proofs.Members.{among_without_same, among_without_other, among_added_same, among_added_other, among_above}
 use Rattle.tg_graph.proofs.Moves.{nodes_by, told_fixed, told_spill}
 
 -- the members of a list after a move, by a number for the list

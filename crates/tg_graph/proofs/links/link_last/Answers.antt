@@ -1,4 +1,4 @@
-use Rattle.std.proofs.Common.{◌<◌, length, arith}
+use Rattle.std.proofs.Common.{arith}
 use Rattle.tg_graph.proofs.Runs.{link_runs}
 use Rattle.tg_graph.proofs.links.link_last.Goals as goal
 

@@ -1,8 +1,6 @@
-use Rattle.std.specs.Prelude.{◌==◌, if◌then◌else◌}
-use Rattle.std.proofs.Common.{◌≡◌, ◌≢◌, ℕ, suc, ◌+◌, ◌-◌, ◌<◌, ◌≤◌, List, [], ◌∷◌, ◌++◌, length, slice_index, refl, sym, ap, ◌∙◌, subst, arith}
-use Rattle.std.proofs.lemmas.List.{append-nil}
+use Rattle.std.proofs.Common.{◌≡◌, ℕ, suc, ◌+◌, ◌-◌, List, [], ◌∷◌, slice_index, sym, ap, ◌∙◌, subst, arith}
 use Rattle.std.specs.List.{range_with_len}
-use Rattle.tg_graph.specs.Chains.{AreAlone, AreInverse, IsRun, Relinks, joined_to}
+use Rattle.tg_graph.specs.Chains.{IsRun, joined_to}
 use Rattle.tg_graph.proofs.Runs.{joined_more, joined_none}
 use Rattle.tg_graph.proofs.links.link_range.Goals as goal
 

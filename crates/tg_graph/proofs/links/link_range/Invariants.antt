@@ -1,4 +1,4 @@
-use Rattle.std.proofs.Common.{◌≡◌, ℕ, ◌+◌, ◌-◌, ◌<◌, ◌≤◌, List, length, slice_index}
+use Rattle.std.proofs.Common.{◌≡◌, ℕ, ◌-◌, ◌<◌, ◌≤◌, List, slice_index}
 use Rattle.std.specs.List.{range_with_len}
 use Rattle.tg_graph.specs.Chains.{AreAlone, AreInverse, Relinks, joined_to}
 use Rattle.tg_graph.proofs.links.link_range.Given as goal

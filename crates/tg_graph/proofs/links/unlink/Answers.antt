@@ -1,4 +1,3 @@
-use Rattle.std.proofs.Common.{◌<◌, length, arith}
 use Rattle.tg_graph.proofs.Runs.{unlink_runs}
 use Rattle.tg_graph.proofs.links.unlink.Goals as goal
 

@@ -1,4 +1,4 @@
-use Rattle.std.proofs.Common.{◌<◌, ◌-◌, length, arith}
+use Rattle.std.proofs.Common.{arith}
 use Rattle.tg_graph.proofs.Vectors.{lists_popped}
 use Rattle.tg_graph.proofs.lists.pop_neighbour.Goals as goal
 

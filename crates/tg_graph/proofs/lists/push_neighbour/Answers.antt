@@ -1,4 +1,4 @@
-use Rattle.std.proofs.Common.{◌<◌, ◌-◌, length, arith, refl}
+use Rattle.std.proofs.Common.{◌-◌, arith}
 use Rattle.std.proofs.lemmas.Result.{err_from_is_err_and}
 use Rattle.tg_graph.proofs.Vectors.{lists_pushed, lists_same}
 use Rattle.tg_graph.proofs.lists.push_neighbour.Goals as goal

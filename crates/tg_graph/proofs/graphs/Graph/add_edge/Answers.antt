@@ -1,5 +1,5 @@
 use Rattle.std.specs.Prelude.{◌==◌}
-use Rattle.std.proofs.Common.{◌≡◌, ℕ, ◌+◌, ◌-◌, ◌<◌, ◌≤◌, ◌||◌, false, List, length, get_or, min, max, sym, ap, ◌∙◌, subst, arith}
+use Rattle.std.proofs.Common.{◌≡◌, ℕ, ◌+◌, ◌-◌, ◌<◌, ◌≤◌, ◌||◌, List, length, get_or, min, max, sym, ap, ◌∙◌, subst, arith}
 use Rattle.std.proofs.lemmas.List.{with_items_is}
 use Rattle.std.specs.Vec.{with_items}
 use Rattle.tg_graph.specs.Bits.{bit, pair_place}

@@ -1,4 +1,4 @@
-use Rattle.std.proofs.Common.{◌≡◌, ◌<◌, ◌≤◌, length, ap, arith}
+use Rattle.std.proofs.Common.{◌≡◌, ◌<◌, length, ap, arith}
 use Rattle.tg_graph.specs.Interference.{Interference}
 use Rattle.tg_graph.proofs.Places.{pair_within, within_at}
 use Rattle.tg_graph.proofs.graphs.Graph.interferes.Goals as goal

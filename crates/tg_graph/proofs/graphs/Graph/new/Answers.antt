@@ -1,6 +1,5 @@
 use Rattle.std.proofs.Common.{◌≡◌, ℕ, ◌+◌, ◌*◌, ◌/◌, ◌-◌, ◌≤◌, replicate, sym, rules, arith}
 use Rattle.tg_graph.specs.Bits.{triangle}
-use Rattle.tg_graph.specs.Interference.{bare}
 use Rattle.tg_graph.proofs.Joining.{kept_at, kept_bare}
 use Rattle.tg_graph.proofs.graphs.Graph.new.Goals as goal
 

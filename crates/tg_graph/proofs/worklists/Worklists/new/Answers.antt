@@ -1,4 +1,4 @@
-use Rattle.std.proofs.Common.{◌≡◌, ℕ, ◌+◌, ◌-◌, ◌<◌, ◌≤◌, List, ◌++◌, length, get_or, replicate, take, sym, ap, ◌∙◌, subst, rules, arith}
+use Rattle.std.proofs.Common.{◌≡◌, ℕ, ◌+◌, ◌-◌, ◌≤◌, List, ◌++◌, length, get_or, replicate, take, sym, ap, ◌∙◌, subst, rules, arith}
 use Rattle.std.specs.List.{range_with_len}
 use Rattle.std.specs.Vec.{with_items}
 use Rattle.std.proofs.lemmas.List.{with_items_is, take_all, length-replicate}
@@ -7,7 +7,7 @@ use Rattle.tg_graph.specs.declared.worklists.Worklist.{Worklist}
 use Rattle.tg_graph.specs.declared.worklists.Worklist.TheVariants.{Fixed, Spill}
 use Rattle.tg_graph.specs.Lists.{lists_by, started_in}
 use Rattle.tg_graph.specs.Chains.{AreInverse, Relinks, joined_to}
-use Rattle.tg_graph.specs.Linking.{AreLinked, list_from}
+use Rattle.tg_graph.specs.Linking.{list_from}
 use Rattle.tg_graph.proofs.Moves.{identity_inverse, itself, linked_at, settled, settled_linked, start_linked, start_places}
 use Rattle.tg_graph.proofs.worklists.Worklists.new.Goals as goal
 
