@@ -83,6 +83,7 @@ impl Graph {
         requires first { a < self.old.nodes }
         requires second { b < self.old.nodes }
         requires differ { a ≢ b }
+        ensures nodes { self.new.nodes ≡ self.old.nodes }
         ensures ok { OnOk result (self.new ≡ with_edge self.old a b) }
         ensures pairs { OnOk result ((x y : ℕ) →
             graph.interferes self.new x y ≡ (are_ends a b x y || graph.interferes self.old x y)) }
