@@ -1,0 +1,6 @@
+pub mod Graphs
+pub mod Policies
+pub mod States
+pub mod Steps
+pub mod Selection
+pub mod Rounds

@@ -1,0 +1,16 @@
+//! One round of iterated register coalescing (George and Appel 1996): its moves, steps and answer,
+//! the policy that says which temporary is spilled, and in `specs/` what a round is. Promises laws
+//! of every round, to the code that makes rounds and to those who read one.
+#![tactic(auto)]
+
+mod candidates;
+mod moves;
+mod policies;
+mod rounds;
+mod steps;
+
+pub use candidates::{Candidate, Mark};
+pub use moves::{Move, MoveState};
+pub use policies::{LeastUse, SpillPolicy};
+pub use rounds::{Colours, Moves, Nodes, Round, States, Steps};
+pub use steps::Step;
