@@ -1,6 +1,16 @@
 pub mod Choosing
 pub mod Deciding
+pub mod Counting
+pub mod Settling
 pub mod Taking
+pub mod Waiting
+pub mod Invariants
+pub mod Classes
+pub mod GreedyColouring
+pub mod NoSpill
+pub mod Explaining
+pub mod Selecting
+pub mod Shrinking
 pub mod Examples
 pub mod SmallRounds
 pub mod LargerRounds

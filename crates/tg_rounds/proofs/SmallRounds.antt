@@ -244,6 +244,25 @@ chained_moves_is : IsRound chained_moves
     (27 ∷ 27 ∷ 27 ∷ []) (Some 2 ∷ Some 2 ∷ Some 2 ∷ []) [])
 chained_moves_is = is_round chained_moves _ refl refl refl
 
+-- A neighbour of one end is a neighbour of the class: here one of 24 registers and the class.
+
+abbrev heavy_neighbour : (end : ℕ) → Problem
+heavy_neighbour end = original 28 ((27, end) ∷ with_each 27 (all_but 24)) (move 25 26 ∷ [])
+
+abbrev heavy_neighbour_round : (kept gone : ℕ) → Round
+heavy_neighbour_round kept gone =
+    round (heavy_neighbour gone) (Coalesce 0 kept gone true ∷ Simplify kept ∷ Simplify 27 ∷ []) (Coalesced ∷ [])
+    (kept ∷ kept ∷ 27 ∷ []) (Some 0 ∷ Some 0 ∷ Some 24 ∷ []) []
+
+heavy_neighbour_is : IsRound (heavy_neighbour 26) (heavy_neighbour_round 25 26)
+heavy_neighbour_is = is_round (heavy_neighbour 26) (heavy_neighbour_round 25 26) refl refl refl
+
+heavy_neighbour_is_too : IsRound (heavy_neighbour 25) (heavy_neighbour_round 26 25)
+heavy_neighbour_is_too = is_round (heavy_neighbour 25) (heavy_neighbour_round 26 25) refl refl refl
+
+heavy_neighbour_stays_high : NeverTakes (heavy_neighbour 26) (Coalesce 0 25 26 true ∷ []) (Simplify 27)
+heavy_neighbour_stays_high = impossible (heavy_neighbour 26) (Coalesce 0 25 26 true ∷ []) (Simplify 27) refl
+
 -- What a policy is told of a class: the uses of all its members, and that an original is among them;
 -- only neighbours that remain are counted.
 

@@ -1,11 +1,12 @@
 -- That a list of steps is taken, each where no step of an earlier kind is possible, by a test that computes.
-use Rattle.std.proofs.Common.{◌≡◌, ℕ, zero, suc, ◌<◌, Bool, true, false, not, ◌&&◌, ◌||◌, List, [], ◌∷◌, length, arith}
+use Rattle.std.proofs.Common.{◌≡◌, ℕ, zero, suc, ◌<◌, ◌≤◌, Bool, true, false, not, ◌&&◌, ◌||◌, List, [], ◌∷◌, length, arith}
 use Rattle.std.specs.Prelude.{nat_lt, IsFalse}
 use Rattle.tg_rounds.specs.declared.steps.Step.{Step}
 use Rattle.tg_rounds.specs.declared.steps.Step.TheVariants.{Simplify, Same, Constrain, Coalesce, Freeze, Spill}
 use Rattle.tg_rounds.specs.Graphs.{some}
 use Rattle.tg_rounds.specs.States.{Problem, State, remains, is_unsettled}
 use Rattle.tg_rounds.specs.Steps.{can, can_move, kind, after, IsTaken, AreTaken, is_same, is_constrained, is_safe}
+use Rattle.tg_rounds.specs.Laws.{FirstAreTaken}
 use Rattle.tg_rounds.proofs.Deciding.{both, and_true, or_left, or_right, clash, never, not_true, none}
 
 module _ (g : Problem) where
@@ -54,46 +55,58 @@ module _ (g : Problem) where
     no_coalesce i kept gone b n =
         never (λ h. let p = both (is_unsettled g s i) (is_safe g s i) (both _ _ (both _ _ (both _ _ h).0).0).0 in clash (of_parts i p.0 (or_right _ _ p.1)) n)
 
-    first_move : (other : Step) → kind g other < 2 → can_simplify ≡ false → can_settle ≡ false → IsFalse (can g s other)
-    first_move (Simplify x) l e f = no_simplify e x
-    first_move (Same i) l e f = no_same i (no_move f i)
-    first_move (Constrain i) l e f = no_constrain i (no_move f i)
-    first_move (Coalesce i kept gone b) l e f = no_coalesce i kept gone b (no_move f i)
-    first_move (Freeze x) l e f = absurd (omega arith)
-    first_move (Spill x) l e f = absurd (omega arith)
-
-    first_freeze : (other : Step) → kind g other < 3 → can_simplify ≡ false → can_settle ≡ false → can_freeze ≡ false → IsFalse (can g s other)
-    first_freeze (Freeze x) l e f h = no_freeze h x
-    first_freeze (Spill x) l e f h = absurd (omega arith)
-    first_freeze (Simplify x) l e f h = no_simplify e x
-    first_freeze (Same i) l e f h = no_same i (no_move f i)
-    first_freeze (Constrain i) l e f h = no_constrain i (no_move f i)
-    first_freeze (Coalesce i kept gone b) l e f h = no_coalesce i kept gone b (no_move f i)
-
-    first_simplify : (other : Step) → kind g other < 1 → can_simplify ≡ false → IsFalse (can g s other)
-    first_simplify (Simplify x) l e = no_simplify e x
-    first_simplify (Same i) l e = absurd (omega arith)
-    first_simplify (Constrain i) l e = absurd (omega arith)
-    first_simplify (Coalesce i kept gone b) l e = absurd (omega arith)
-    first_simplify (Freeze x) l e = absurd (omega arith)
-    first_simplify (Spill x) l e = absurd (omega arith)
+    -- no step of an earlier kind is possible
+    pub first : (step : Step) →
+        (0 < kind g step → (x : ℕ) → IsFalse (can g s (Simplify x))) →
+        (1 < kind g step → (i : ℕ) → IsFalse (can_move g s i)) →
+        (2 < kind g step → (x : ℕ) → IsFalse (can g s (Freeze x))) →
+        (other : Step) → kind g other < kind g step → IsFalse (can g s other)
+    first step simplify move freeze (Simplify x) l = simplify l x
+    first step simplify move freeze (Same i) l = no_same i (move l i)
+    first step simplify move freeze (Constrain i) l = no_constrain i (move l i)
+    first step simplify move freeze (Coalesce i kept gone b) l = no_coalesce i kept gone b (move l i)
+    first step simplify move freeze (Freeze x) l = freeze l x
+    first step simplify move freeze (Spill x) l = let most = at_most step in absurd (omega arith)
+      where
+        at_most : (step : Step) → kind g step ≤ 3
+        at_most (Simplify x) = omega arith
+        at_most (Same i) = omega arith
+        at_most (Constrain i) = omega arith
+        at_most (Coalesce i kept gone b) = omega arith
+        at_most (Freeze x) = omega arith
+        at_most (Spill x) = omega arith
 
     abbrev pub is_taken : Step → Bool
     is_taken step = can g s step && is_clear (kind g step)
 
-    by_kind : (step : Step) → is_clear (kind g step) ≡ true → (other : Step) → kind g other < kind g step → IsFalse (can g s other)
-    by_kind (Simplify x) e other l = absurd (omega arith)
-    by_kind (Same i) e other l = first_simplify other l (not_true e)
-    by_kind (Constrain i) e other l = first_simplify other l (not_true e)
-    by_kind (Coalesce i kept gone b) e other l = first_simplify other l (not_true e)
-    by_kind (Freeze x) e other l = let b = both _ _ e in first_move other l (not_true b.0) (not_true b.1)
-    by_kind (Spill x) e other l =
-        let b = both _ _ e in
-        let c = both _ _ b.0 in
-        first_freeze other l (not_true c.0) (not_true c.1) (not_true b.1)
+    no_simplify_before : (k : ℕ) → is_clear k ≡ true → 0 < k → can_simplify ≡ false
+    no_simplify_before zero e l = absurd (omega arith)
+    no_simplify_before (suc zero) e l = not_true e
+    no_simplify_before (suc (suc zero)) e l = not_true (both _ _ e).0
+    no_simplify_before (suc (suc (suc k))) e l = not_true (both _ _ (both _ _ e).0).0
+
+    no_settle_before : (k : ℕ) → is_clear k ≡ true → 1 < k → can_settle ≡ false
+    no_settle_before zero e l = absurd (omega arith)
+    no_settle_before (suc zero) e l = absurd (omega arith)
+    no_settle_before (suc (suc zero)) e l = not_true (both _ _ e).1
+    no_settle_before (suc (suc (suc k))) e l = not_true (both _ _ (both _ _ e).0).1
+
+    no_freeze_before : (k : ℕ) → is_clear k ≡ true → 2 < k → can_freeze ≡ false
+    no_freeze_before zero e l = absurd (omega arith)
+    no_freeze_before (suc zero) e l = absurd (omega arith)
+    no_freeze_before (suc (suc zero)) e l = absurd (omega arith)
+    no_freeze_before (suc (suc (suc k))) e l = not_true (both _ _ e).1
 
     pub taken : (step : Step) → is_taken step ≡ true → IsTaken g s step
-    taken step e = let b = both (can g s step) _ e in record { possible = b.0; first = by_kind step b.1 }
+    taken step e =
+        let b = both (can g s step) (is_clear (kind g step)) e in
+        record {
+          possible = b.0;
+          first = first step
+              (λ l. no_simplify (no_simplify_before (kind g step) b.1 l))
+              (λ l. no_move (no_settle_before (kind g step) b.1 l))
+              (λ l. no_freeze (no_freeze_before (kind g step) b.1 l));
+        }
 
   abbrev pub are_taken : State → List Step → Bool
   are_taken s [] = true
@@ -102,3 +115,7 @@ module _ (g : Problem) where
   pub all_taken : (s : State) (steps : List Step) → are_taken s steps ≡ true → AreTaken g s steps
   all_taken s [] e = tt
   all_taken s (step ∷ steps) e = let b = both (is_taken s step) _ e in (taken s step b.0, all_taken (after g s step) steps b.1)
+
+pub first_are_taken : FirstAreTaken
+first_are_taken g s step c simplify move freeze =
+    record { possible = c; first = first g s step simplify move freeze }

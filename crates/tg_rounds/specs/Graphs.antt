@@ -72,7 +72,7 @@ pub data IsGreedilyColourable (nodes : ℕ) (pairs : Pairs) : Set → Type 0 whe
       (S : Set) →
       ((x : ℕ) → x < nodes → IsTrue (S x) → IsTrue (is_register x)) →
       IsGreedilyColourable nodes pairs S
-  take_out :
+  without_low :
       (S : Set) (x : ℕ) →
       x < nodes →
       IsTrue (S x) →

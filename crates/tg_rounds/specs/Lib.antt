@@ -4,3 +4,5 @@ pub mod States
 pub mod Steps
 pub mod Selection
 pub mod Rounds
+pub mod Laws
+pub mod Waiting

@@ -4,12 +4,17 @@
 #![tactic(auto)]
 
 mod candidates;
+mod laws;
 mod moves;
 mod policies;
 mod rounds;
 mod steps;
 
 pub use candidates::{Candidate, Mark};
+pub use laws::{
+    colourable_never_spills, moves_are_explained, pairs_are_of_classes, states_are_sound,
+    steps_are_taken, waiting_fails,
+};
 pub use moves::{Move, MoveState};
 pub use policies::{LeastUse, SpillPolicy};
 pub use rounds::{Colours, Moves, Nodes, Round, States, Steps};

@@ -1,0 +1,49 @@
+ghost use Rattle.tg_rounds.specs.Laws.{
+  ColourableNeverSpills,
+  MovesAreExplained,
+  StepsShrink,
+  FirstAreTaken,
+  StartIsSound,
+  StepsKeepSound,
+  StartHasClasses,
+  StepsKeepClasses,
+  PairsAreOfClasses,
+};
+ghost use Rattle.tg_rounds.specs.Waiting.{WaitingFails, WokenAreDisturbed};
+
+/// The law that a round on a greedily colourable graph spills nothing (George and Appel 1996,
+/// section 4: coalescing that keeps a graph greedily colourable).
+pub fn colourable_never_spills()
+    ensures { ColourableNeverSpills }
+{}
+
+/// The law of what becomes of each move of a round.
+pub fn moves_are_explained()
+    ensures { MovesAreExplained }
+{}
+
+/// The laws of steps: that a round ends, and which steps are taken.
+pub fn steps_are_taken()
+    ensures shrink { StepsShrink }
+    ensures first { FirstAreTaken }
+{}
+
+/// The laws of the states of a round, which hold at its start and go on to hold.
+pub fn states_are_sound()
+    ensures start { StartIsSound }
+    ensures steps { StepsKeepSound }
+    ensures start_classes { StartHasClasses }
+    ensures steps_classes { StepsKeepClasses }
+{}
+
+/// The law that the merged pairs are those of the start between classes.
+pub fn pairs_are_of_classes()
+    ensures { PairsAreOfClasses }
+{}
+
+/// The laws that a waiting move fails its test until one of its ends is woken, and that no more is
+/// woken than what stands near a node that was merged, removed or spilled.
+pub fn waiting_fails()
+    ensures fails { WaitingFails }
+    ensures woken { WokenAreDisturbed }
+{}
