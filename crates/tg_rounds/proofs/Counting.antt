@@ -1,11 +1,11 @@
 -- How many numbers below another are in a set.
-use Rattle.std.proofs.Common.{◌≡◌, ◌≢◌, ℕ, zero, suc, ◌+◌, ◌<◌, ◌≤◌, Bool, true, false, not, ◌&&◌, ◌||◌, ◌⊎◌, inl, inr, refl, sym, ap, subst, ◌∙◌, arith, ⊎_elim, List, [], ◌∷◌, ◌++◌, length, Option, Some, None}
-use Rattle.std.specs.Prelude.{nat_lt, nat_eq, ◌==◌, if◌then◌else◌, filter, find, fold, is_none}
-use Rattle.std.specs.List.{list_any, range_with_len}
-use Rattle.std.proofs.lemmas.Bool.{ltb-true, lt-ltb}
+use Rattle.std.proofs.Common.{◌≡◌, ◌≢◌, ℕ, zero, suc, ◌+◌, ◌<◌, ◌≤◌, Bool, true, false, not, ◌&&◌, ◌||◌, ◌⊎◌, inl, inr}
+use Rattle.std.proofs.Common.{refl, sym, ap, subst, ◌∙◌, arith, ⊎_elim}
+use Rattle.std.specs.Prelude.{nat_eq, ◌==◌}
 use Rattle.std.proofs.lemmas.Bool.Decides.{eqb_tells}
 use Rattle.tg_rounds.specs.Graphs.{Set, bit, count, every, without}
-use Rattle.tg_rounds.proofs.Deciding.{clash, both, and_true, either, or_left, or_right, or_swap, neither, tells, never, not_true, not_false, from_false, from_true, or_false, and_false, same_node, same_test, some_is, every_is}
+use Rattle.tg_rounds.proofs.Deciding.{clash, both, and_true, either, or_left, or_right, tells, never, not_true}
+use Rattle.tg_rounds.proofs.Deciding.{from_false, same_node, same_test, every_is}
 
 bit_le : (p q : Bool) → (p ≡ true → q ≡ true) → bit p ≤ bit q
 bit_le true q h = let e = ap bit (h refl) in omega arith
@@ -23,7 +23,8 @@ pub fails_at : (S : Set) (n : ℕ) → every S n ≡ false → (x : ℕ) × (x <
 fails_at S zero e = cc
 fails_at S (suc n) e = by (tells (S n)) (fails_at S n)
   where
-    by : (S n ≡ true) ⊎ (S n ≡ false) → (every S n ≡ false → (x : ℕ) × (x < n) × (S x ≡ false)) → (x : ℕ) × (x < suc n) × (S x ≡ false)
+    by : (S n ≡ true) ⊎ (S n ≡ false) → (every S n ≡ false → (x : ℕ) × (x < n) × (S x ≡ false)) → (x : ℕ) ×
+        (x < suc n) × (S x ≡ false)
     by (inl t) r =
         let found = r (ap (λ b. b && every S n) (sym t) ∙ e) in
         let l = found.1 in
@@ -49,11 +50,13 @@ count_out S a (suc n) l h = by (eqb_tells a n) (λ k. count_out S a n k h)
   where
     same_count : (T : Set) (m : ℕ) → m ≤ a → count T m ≡ count (without a T) m
     same_count T m k =
-        let c = count_le T (without a T) m (λ x lx t. stays_in a x T (λ d. let e : x ≡ a = d in absurd (omega arith)) t) in
+        let c = count_le T (without a T) m (λ x lx t. stays_in a x T (λ d. let e : x ≡ a = d in absurd (omega arith)) t)
+        in
         let c' = count_le (without a T) T m (λ x lx t. (was_in a x T t).1) in
         omega arith
 
-    by : ((nat_eq a n ≡ true) × (a ≡ n)) ⊎ ((nat_eq a n ≡ false) × (a ≢ n)) → (a < n → count S n ≡ suc (count (without a S) n)) → count S (suc n) ≡ suc (count (without a S) (suc n))
+    by : ((nat_eq a n ≡ true) × (a ≡ n)) ⊎ ((nat_eq a n ≡ false) × (a ≢ n)) →
+        (a < n → count S n ≡ suc (count (without a S) n)) → count S (suc n) ≡ suc (count (without a S) (suc n))
     by (inl e) ih =
         let d = e.1 in
         let c = same_count S n (omega arith) in
@@ -67,7 +70,9 @@ count_out S a (suc n) l h = by (eqb_tells a n) (λ k. count_out S a n k h)
         omega arith
 
 -- where one number takes the place of another, a set grows by none
-pub count_swap : (p q : Set) (a b n : ℕ) → a < n → b < n → p b ≡ false → ((z : ℕ) → z < n → z ≢ a → p z ≡ true → q z ≡ true) → (p a ≡ true → (q a ≡ true) ⊎ (q b ≡ true)) → count p n ≤ count q n
+pub count_swap : (p q : Set) (a b n : ℕ) → a < n → b < n → p b ≡ false →
+    ((z : ℕ) → z < n → z ≢ a → p z ≡ true → q z ≡ true) → (p a ≡ true → (q a ≡ true) ⊎ (q b ≡ true)) →
+    count p n ≤ count q n
 count_swap p q a b n la lb pb h k = by (tells (p a))
   where
     at_a : q a ≡ true → (z : ℕ) → z < n → p z ≡ true → q z ≡ true
@@ -77,7 +82,8 @@ count_swap p q a b n la lb pb h k = by (tells (p a))
     moved e f =
         let c0 = count_out p a n la e in
         let c1 = count_out q b n lb f in
-        let c2 = count_le (without a p) (without b q) n (λ z l t. let o = was_in a z p t in stays_in b z q (λ d. clash (subst (λ w. p w ≡ true) d o.1) pb) (h z l o.0 o.1)) in
+        let c2 = count_le (without a p) (without b q) n (λ z l t. let o = was_in a z p t in
+        stays_in b z q (λ d. clash (subst (λ w. p w ≡ true) d o.1) pb) (h z l o.0 o.1)) in
         omega arith
 
     by : (p a ≡ true) ⊎ (p a ≡ false) → count p n ≤ count q n
@@ -85,10 +91,12 @@ count_swap p q a b n la lb pb h k = by (tells (p a))
     by (inr e) = count_le p q n (λ z l t. h z l (λ d. clash (subst (λ w. p w ≡ true) d t) e) t)
 
 -- a smaller set that lacks a number
-pub count_less : (S T : Set) (a n : ℕ) → a < n → S a ≡ true → T a ≡ false → ((x : ℕ) → x < n → T x ≡ true → S x ≡ true) → count T n < count S n
+pub count_less : (S T : Set) (a n : ℕ) → a < n → S a ≡ true → T a ≡ false →
+    ((x : ℕ) → x < n → T x ≡ true → S x ≡ true) → count T n < count S n
 count_less S T a n l s t sub =
     let c = count_out S a n l s in
-    let d = count_le T (without a S) n (λ x k h. stays_in a x S (λ e. clash (subst (λ w. T w ≡ true) e h) t) (sub x k h)) in
+    let d = count_le T (without a S) n
+    (λ x k h. stays_in a x S (λ e. clash (subst (λ w. T w ≡ true) e h) t) (sub x k h)) in
     omega arith
 
 -- a set with one number more
@@ -120,9 +128,11 @@ module _ (S : Set) (colour : ℕ → ℕ) where
   is_used zero y l h = absurd (omega arith)
   is_used (suc n) y l h = by (eqb_tells y n) (λ m. is_used n y m h)
     where
-      by : ((nat_eq y n ≡ true) × (y ≡ n)) ⊎ ((nat_eq y n ≡ false) × (y ≢ n)) → (y < n → used n (colour y) ≡ true) → used (suc n) (colour y) ≡ true
+      by : ((nat_eq y n ≡ true) × (y ≡ n)) ⊎ ((nat_eq y n ≡ false) × (y ≢ n)) → (y < n → used n (colour y) ≡ true) →
+          used (suc n) (colour y) ≡ true
       by (inl z) r =
-          or_left (S n && colour y == colour n) _ (and_true (subst (λ w. S w ≡ true) z.1 h) (same_test _ _ (ap colour z.1)))
+          or_left (S n && colour y == colour n) _
+          (and_true (subst (λ w. S w ≡ true) z.1 h) (same_test _ _ (ap colour z.1)))
       by (inr z) r = let d = z.1 in or_right (S n && colour y == colour n) _ (r (omega arith))
 
   few_used : (n m : ℕ) → count (used n) m ≤ count S n
@@ -136,18 +146,23 @@ module _ (S : Set) (colour : ℕ → ℕ) where
       by : (S n ≡ true) ⊎ (S n ≡ false) → count (used n) m ≤ count S n → count (used (suc n)) m ≤ count S (suc n)
       by (inl e) r =
           let b : bit (S n) ≡ 1 = ap bit e in
-          let c = one_more (colour n) (used n) (used (suc n)) m (λ k d h. ⊎_elim (λ q. absurd (d (same_node _ _ (both (S n) (k == colour n) q).1))) (λ q. q) (either (S n && k == colour n) (used n k) h)) in
+          let c = one_more (colour n) (used n) (used (suc n)) m
+          (λ k d h. ⊎_elim (λ q. absurd (d (same_node _ _ (both (S n) (k == colour n) q).1))) (λ q. q)
+          (either (S n && k == colour n) (used n k) h)) in
           omega arith
       by (inr e) r =
           let b : bit (S n) ≡ 0 = ap bit e in
-          let c = count_le (used (suc n)) (used n) m (λ k l h. ⊎_elim (λ q. absurd (clash (both (S n) (k == colour n) q).0 e)) (λ q. q) (either (S n && k == colour n) (used n k) h)) in
+          let c = count_le (used (suc n)) (used n) m
+          (λ k l h. ⊎_elim (λ q. absurd (clash (both (S n) (k == colour n) q).0 e)) (λ q. q)
+          (either (S n && k == colour n) (used n k) h)) in
           omega arith
 
 hole : (U : Set) (m : ℕ) → count U m < m → (k : ℕ) × (k < m) × (U k ≡ false)
 hole U zero h = absurd (omega arith)
 hole U (suc m) h = by (tells (U m)) (hole U m)
   where
-    by : (U m ≡ true) ⊎ (U m ≡ false) → (count U m < m → (k : ℕ) × (k < m) × (U k ≡ false)) → (k : ℕ) × (k < suc m) × (U k ≡ false)
+    by : (U m ≡ true) ⊎ (U m ≡ false) → (count U m < m → (k : ℕ) × (k < m) × (U k ≡ false)) → (k : ℕ) × (k < suc m) ×
+        (U k ≡ false)
     by (inl e) r =
         let b : bit (U m) ≡ 1 = ap bit e in
         let found = r (omega arith) in
@@ -155,9 +170,9 @@ hole U (suc m) h = by (tells (U m)) (hole U m)
         (found.0, omega arith, found.2)
     by (inr e) r = (m, omega arith, e)
 
-pub free_colour : (S : Set) (colour : ℕ → ℕ) (n m : ℕ) → count S n < m → (k : ℕ) × (k < m) × ((y : ℕ) → y < n → S y ≡ true → colour y ≢ k)
+pub free_colour : (S : Set) (colour : ℕ → ℕ) (n m : ℕ) → count S n < m → (k : ℕ) × (k < m) ×
+    ((y : ℕ) → y < n → S y ≡ true → colour y ≢ k)
 free_colour S colour n m h =
     let f = few_used S colour n m in
     let found = hole (used S colour n) m (omega arith) in
     (found.0, found.1, λ y l t e. clash (subst (λ k. used S colour n k ≡ true) e (is_used S colour n y l t)) found.2)
-

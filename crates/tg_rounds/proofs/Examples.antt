@@ -1,5 +1,6 @@
 -- How the examples of rounds are written.
-use Rattle.std.proofs.Common.{◌≡◌, ℕ, ◌<◌, Bool, true, false, not, ◌&&◌, ◌||◌, List, [], ◌∷◌, ◌++◌, length, Option, Some, map, replicate, refl, ap}
+use Rattle.std.proofs.Common.{◌≡◌, ℕ, ◌<◌, Bool, true, false, not, ◌&&◌, ◌||◌, List, ◌∷◌, ◌++◌, length, Option, Some}
+use Rattle.std.proofs.Common.{map, replicate, ap}
 use Rattle.std.specs.Prelude.{◌==◌}
 use Rattle.std.specs.List.{list_any, range_with_len}
 use Rattle.tg_rounds.specs.declared.candidates.Mark.{Mark}
@@ -9,7 +10,7 @@ use Rattle.tg_rounds.specs.declared.steps.Step.{Step}
 use Rattle.tg_rounds.specs.declared.rounds.Round.{Round}
 use Rattle.tg_rounds.specs.Graphs.{is_register, Pairs, Graph}
 use Rattle.tg_rounds.specs.Policies.{least_use}
-use Rattle.tg_rounds.specs.States.{Problem, State, start}
+use Rattle.tg_rounds.specs.States.{Problem, start}
 use Rattle.tg_rounds.specs.Steps.{can, kind, after_all, AreTaken, is_over}
 use Rattle.tg_rounds.specs.Selection.{select}
 use Rattle.tg_rounds.specs.Rounds.{listed, end, IsRound}
@@ -69,7 +70,8 @@ answer g steps = record {
   steps = steps;
   states = listed (length g.moves) (after_all g (start g) steps).states;
   aliases = listed g.graph.nodes (after_all g (start g) steps).alias;
-  colours = listed g.graph.nodes (λ x. (select g (after_all g (start g) steps)).colour ((after_all g (start g) steps).alias x));
+  colours = listed g.graph.nodes
+      (λ x. (select g (after_all g (start g) steps)).colour ((after_all g (start g) steps).alias x));
   spilled = (select g (after_all g (start g) steps)).spilled;
 }
 

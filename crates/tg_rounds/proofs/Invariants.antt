@@ -1,19 +1,18 @@
 -- What holds of every state of a round.
-use Rattle.std.proofs.Common.{◌≡◌, ◌≢◌, ℕ, zero, suc, ◌+◌, ◌<◌, ◌≤◌, Bool, true, false, not, ◌&&◌, ◌||◌, ◌⊎◌, inl, inr, refl, sym, ap, subst, ◌∙◌, arith, ⊎_elim, List, [], ◌∷◌, ◌++◌, length, Option, Some, None}
-use Rattle.std.specs.Prelude.{nat_lt, nat_eq, ◌==◌, if◌then◌else◌, filter, find, fold, is_none}
-use Rattle.std.specs.List.{list_any, range_with_len}
+use Rattle.std.proofs.Common.{◌≡◌, ◌≢◌, ℕ, ◌<◌, Bool, true, false, not, ◌&&◌, ◌||◌, ◌⊎◌, inl, inr, refl, sym, subst}
+use Rattle.std.proofs.Common.{◌∙◌, arith, ⊎_elim, length}
+use Rattle.std.specs.Prelude.{nat_lt, ◌==◌, if◌then◌else◌}
 use Rattle.std.proofs.lemmas.Bool.{ltb-true, lt-ltb}
-use Rattle.std.proofs.lemmas.Bool.Decides.{eqb_tells}
 use Rattle.tg_rounds.specs.declared.steps.Step.{Step}
 use Rattle.tg_rounds.specs.declared.steps.Step.TheVariants.{Simplify, Same, Constrain, Coalesce, Freeze, Spill}
-use Rattle.tg_rounds.specs.declared.moves.MoveState.{MoveState}
-use Rattle.tg_rounds.specs.declared.moves.MoveState.TheVariants.{Coalesced, Constrained, Frozen}
+use Rattle.tg_rounds.specs.declared.moves.MoveState.TheVariants.{Coalesced, Constrained}
 use Rattle.tg_rounds.specs.Graphs.{colour_count, is_register, Pairs, count, without, merged, IsGraph}
-use Rattle.tg_rounds.specs.States.{Problem, State, start, is_ready_or_waiting, low, remains, to, from, is_unsettled, touches, is_move_related}
-use Rattle.tg_rounds.specs.Steps.{high_neighbours, briggs, george, passes, is_same, is_constrained, is_safe, stands_under, can, freeze, after}
+use Rattle.tg_rounds.specs.States.{Problem, State, start, low, remains, to, from, is_unsettled, touches}
+use Rattle.tg_rounds.specs.Steps.{briggs, george, passes, is_same, is_constrained, is_safe, stands_under, can, after}
 use Rattle.tg_rounds.specs.Laws.{AreNodes, IsSound}
-use Rattle.tg_rounds.proofs.Deciding.{clash, both, and_true, either, or_left, or_right, or_swap, neither, tells, never, not_true, not_false, from_false, from_true, or_false, and_false, same_node, same_test, some_is, every_is}
-use Rattle.tg_rounds.proofs.Counting.{count_le, stays_in, was_in}
+use Rattle.tg_rounds.proofs.Deciding.{clash, both, and_true, either, or_left, or_right, or_swap, neither, tells, never}
+use Rattle.tg_rounds.proofs.Deciding.{not_true, from_false, and_false, same_node, same_test}
+use Rattle.tg_rounds.proofs.Counting.{count_le, stays_in}
 use Rattle.tg_rounds.proofs.Settling.{frozen_is, settled_at, elsewhere, not_touched, unrelated}
 
 module _ (g : Problem) where
@@ -42,21 +41,33 @@ module _ (g : Problem) where
   swapped_briggs : (s : State) (x y : ℕ) → briggs g s x y ≡ true → briggs g s y x ≡ true
   swapped_briggs s x y h =
       let l = ltb-true _ colour_count h in
-      let c = count_le (λ z. s.remaining z && (s.pairs y z || s.pairs x z) && not (low g s z)) (λ z. s.remaining z && (s.pairs x z || s.pairs y z) && not (low g s z)) g.graph.nodes (λ z l t. let o = both (s.remaining z && (s.pairs y z || s.pairs x z)) (not (low g s z)) t in let q = both (s.remaining z) (s.pairs y z || s.pairs x z) o.0 in and_true (and_true q.0 (or_swap (s.pairs y z) (s.pairs x z) q.1)) o.1) in
-      lt-ltb (count (λ z. s.remaining z && (s.pairs y z || s.pairs x z) && not (low g s z)) g.graph.nodes) colour_count (omega arith)
+      let c = count_le (λ z. s.remaining z && (s.pairs y z || s.pairs x z) && not (low g s z))
+      (λ z. s.remaining z && (s.pairs x z || s.pairs y z) && not (low g s z)) g.graph.nodes
+      (λ z l t. let o = both (s.remaining z && (s.pairs y z || s.pairs x z)) (not (low g s z)) t in
+      let q = both (s.remaining z) (s.pairs y z || s.pairs x z) o.0 in
+      and_true (and_true q.0 (or_swap (s.pairs y z) (s.pairs x z) q.1)) o.1) in
+      lt-ltb (count (λ z. s.remaining z && (s.pairs y z || s.pairs x z) && not (low g s z)) g.graph.nodes) colour_count
+      (omega arith)
 
-  swapped_test : (s : State) (x y : ℕ) → (is_register x && is_register y) ≡ false → passes g s x y ≡ true → passes g s y x ≡ true
+  swapped_test : (s : State) (x y : ℕ) → (is_register x && is_register y) ≡ false → passes g s x y ≡ true →
+      passes g s y x ≡ true
   swapped_test s x y apart h = by (is_register x) (is_register y) apart h
     where
-      by : (a b : Bool) → (a && b) ≡ false → (if a then george g s x y else if b then george g s y x else briggs g s x y) ≡ true → (if b then george g s y x else if a then george g s x y else briggs g s y x) ≡ true
+      by : (a b : Bool) → (a && b) ≡ false →
+          (if a then george g s x y else if b then george g s y x else briggs g s x y) ≡ true →
+          (if b then george g s y x else if a then george g s x y else briggs g s y x) ≡ true
       by true true e h = cc
       by true false e h = h
       by false true e h = h
       by false false e h = swapped_briggs s x y h
 
-  pub merges : (s : State) (j kept gone : ℕ) (b : Bool) → IsSound g s → can g s (Coalesce j kept gone b) ≡ true → Merges s kept gone
+  pub merges : (s : State) (j kept gone : ℕ) (b : Bool) → IsSound g s → can g s (Coalesce j kept gone b) ≡ true →
+      Merges s kept gone
   merges s j kept gone b sound c =
-      by (⊎_elim (λ p. let q = both (to g s j == kept) (from g s j == gone) p in inl (same_node _ _ q.0, same_node _ _ q.1)) (λ p. let q = both (to g s j == gone) (from g s j == kept) p in inr (same_node _ _ q.1, same_node _ _ q.0)) (either (to g s j == kept && from g s j == gone) (to g s j == gone && from g s j == kept) c2.1))
+      by (⊎_elim (λ p. let q = both (to g s j == kept) (from g s j == gone) p in
+      inl (same_node _ _ q.0, same_node _ _ q.1)) (λ p. let q = both (to g s j == gone) (from g s j == kept) p in
+      inr (same_node _ _ q.1, same_node _ _ q.0))
+      (either (to g s j == kept && from g s j == gone) (to g s j == gone && from g s j == kept) c2.1))
     where
       x : ℕ
       x = to g s j
@@ -64,10 +75,12 @@ module _ (g : Problem) where
       y : ℕ
       y = from g s j
 
-      c1 : ((is_unsettled g s j && is_safe g s j && ((x == kept && y == gone) || (x == gone && y == kept))) ≡ true) × (stands_under g s kept gone ≡ true)
+      c1 : ((is_unsettled g s j && is_safe g s j && ((x == kept && y == gone) || (x == gone && y == kept))) ≡ true) ×
+          (stands_under g s kept gone ≡ true)
       c1 = both _ (stands_under g s kept gone) (both _ _ c).0
 
-      c2 : ((is_unsettled g s j && is_safe g s j) ≡ true) × (((x == kept && y == gone) || (x == gone && y == kept)) ≡ true)
+      c2 : ((is_unsettled g s j && is_safe g s j) ≡ true) ×
+          (((x == kept && y == gone) || (x == gone && y == kept)) ≡ true)
       c2 = both (is_unsettled g s j && is_safe g s j) _ c1.0
 
       c3 : (is_unsettled g s j ≡ true) × (is_safe g s j ≡ true)
@@ -81,18 +94,22 @@ module _ (g : Problem) where
 
       free : (s.pairs x y ≡ false) × ((is_register x && is_register y) ≡ false)
       free =
-          neither (s.pairs x y) (is_register x && is_register y) (and_false (not (is_same g s j)) _ (not_true c5.1) c5.0)
+          neither (s.pairs x y) (is_register x && is_register y)
+          (and_false (not (is_same g s j)) _ (not_true c5.1) c5.0)
 
       temporary : (is_register kept && is_register gone) ≡ false → is_register gone ≡ false
       temporary e =
-          never (λ h. ⊎_elim (λ p. clash (and_true p h) e) (λ p. clash h (not_true (both (not (is_register gone)) _ p).0)) (either (is_register kept) _ c1.1))
+          never (λ h. ⊎_elim (λ p. clash (and_true p h) e)
+          (λ p. clash h (not_true (both (not (is_register gone)) _ p).0)) (either (is_register kept) _ c1.1))
 
       apart : x ≢ y
       apart e = clash (same_test x y e) (not_true c5.0)
 
       temporary_from : x ≡ kept → y ≡ gone → is_register y ≡ false
       temporary_from e f =
-          subst (λ w. is_register w ≡ false) (sym f) (temporary (subst (λ w. (is_register w && is_register gone) ≡ false) e (subst (λ w. (is_register x && is_register w) ≡ false) f free.1)))
+          subst (λ w. is_register w ≡ false) (sym f)
+          (temporary (subst (λ w. (is_register w && is_register gone) ≡ false) e
+          (subst (λ w. (is_register x && is_register w) ≡ false) f free.1)))
 
       swap_false : (p q : Bool) → (p && q) ≡ false → (q && p) ≡ false
       swap_false true true e = e
@@ -102,7 +119,10 @@ module _ (g : Problem) where
 
       temporary_to : y ≡ kept → x ≡ gone → is_register x ≡ false
       temporary_to e f =
-          subst (λ w. is_register w ≡ false) (sym f) (temporary (subst (λ w. (is_register w && is_register gone) ≡ false) e (subst (λ w. (is_register y && is_register w) ≡ false) f (swap_false (is_register x) (is_register y) free.1))))
+          subst (λ w. is_register w ≡ false) (sym f)
+          (temporary (subst (λ w. (is_register w && is_register gone) ≡ false) e
+          (subst (λ w. (is_register y && is_register w) ≡ false) f
+          (swap_false (is_register x) (is_register y) free.1))))
 
       by : ((x ≡ kept) × (y ≡ gone)) ⊎ ((y ≡ kept) × (x ≡ gone)) → Merges s kept gone
       by (inl e) =
@@ -129,38 +149,60 @@ module _ (g : Problem) where
           }))
 
   -- what holds of every state goes on to hold
-  merged_symmetric : (kept gone : ℕ) (e : Pairs) → ((x y : ℕ) → e x y ≡ e y x) → (x y : ℕ) → merged kept gone e x y ≡ true → merged kept gone e y x ≡ true
+  merged_symmetric : (kept gone : ℕ) (e : Pairs) → ((x y : ℕ) → e x y ≡ e y x) → (x y : ℕ) →
+      merged kept gone e x y ≡ true → merged kept gone e y x ≡ true
   merged_symmetric kept gone e sym_e x y h =
-      ⊎_elim (λ p. ⊎_elim (λ q. or_left _ _ (or_left _ _ (sym_e y x ∙ q))) (λ q. let o = both (x == kept) (e gone y) q in or_right _ _ (and_true o.0 (sym_e y gone ∙ o.1))) (either (e x y) (x == kept && e gone y) p)) (λ p. let o = both (y == kept) (e x gone) p in or_left _ _ (or_right _ _ (and_true o.0 (sym_e gone x ∙ o.1)))) (either (e x y || (x == kept && e gone y)) (y == kept && e x gone) h)
+      ⊎_elim (λ p. ⊎_elim (λ q. or_left _ _ (or_left _ _ (sym_e y x ∙ q)))
+      (λ q. let o = both (x == kept) (e gone y) q in or_right _ _ (and_true o.0 (sym_e y gone ∙ o.1)))
+      (either (e x y) (x == kept && e gone y) p)) (λ p. let o = both (y == kept) (e x gone) p in
+      or_left _ _ (or_right _ _ (and_true o.0 (sym_e gone x ∙ o.1))))
+      (either (e x y || (x == kept && e gone y)) (y == kept && e x gone) h)
 
   same_tests : (p q : Bool) → (p ≡ true → q ≡ true) → (q ≡ true → p ≡ true) → p ≡ q
   same_tests true q f h = sym (f refl)
   same_tests false true f h = h refl
   same_tests false false f h = refl
 
-  sound_merged : (s : State) (j kept gone : ℕ) (b : Bool) → IsSound g s → Merges s kept gone → IsSound g (after g s (Coalesce j kept gone b))
+  sound_merged : (s : State) (j kept gone : ℕ) (b : Bool) → IsSound g s → Merges s kept gone →
+      IsSound g (after g s (Coalesce j kept gone b))
   sound_merged s j kept gone b sound m = record {
-    symmetric = λ x y. same_tests _ _ (merged_symmetric kept gone s.pairs sound.symmetric x y) (merged_symmetric kept gone s.pairs sound.symmetric y x);
-    irreflexive = λ x. never (λ h. ⊎_elim (λ p. ⊎_elim (λ q. clash q (sound.irreflexive x)) (λ q. let o = both (x == kept) (s.pairs gone x) q in clash (subst (λ w. s.pairs gone w ≡ true) (same_node _ _ o.0) o.1) (sound.symmetric gone kept ∙ m.no_pair)) (either (s.pairs x x) (x == kept && s.pairs gone x) p)) (λ p. let o = both (x == kept) (s.pairs x gone) p in clash (subst (λ w. s.pairs w gone ≡ true) (same_node _ _ o.0) o.1) m.no_pair) (either (s.pairs x x || (x == kept && s.pairs gone x)) (x == kept && s.pairs x gone) h));
+    symmetric = λ x y. same_tests _ _ (merged_symmetric kept gone s.pairs sound.symmetric x y)
+        (merged_symmetric kept gone s.pairs sound.symmetric y x);
+    irreflexive = λ x. never
+        (λ h. ⊎_elim (λ p. ⊎_elim (λ q. clash q (sound.irreflexive x))
+        (λ q. let o = both (x == kept) (s.pairs gone x) q in
+        clash (subst (λ w. s.pairs gone w ≡ true) (same_node _ _ o.0) o.1) (sound.symmetric gone kept ∙ m.no_pair))
+        (either (s.pairs x x) (x == kept && s.pairs gone x) p))
+        (λ p. let o = both (x == kept) (s.pairs x gone) p in
+        clash (subst (λ w. s.pairs w gone ≡ true) (same_node _ _ o.0) o.1) m.no_pair)
+        (either (s.pairs x x || (x == kept && s.pairs gone x)) (x == kept && s.pairs x gone) h));
     to_remains = λ i u. moved (to g s i) (sound.to_remains i (settled_at g s j i Coalesced refl u));
     from_remains = λ i u. moved (from g s i) (sound.from_remains i (settled_at g s j i Coalesced refl u));
   }
     where
-      moved : (c : ℕ) → (c < g.graph.nodes) × (s.remaining c ≡ true) → ((if c == gone then kept else c) < g.graph.nodes) × (without gone s.remaining (if c == gone then kept else c) ≡ true)
+      moved : (c : ℕ) → (c < g.graph.nodes) × (s.remaining c ≡ true) →
+          ((if c == gone then kept else c) < g.graph.nodes) ×
+          (without gone s.remaining (if c == gone then kept else c) ≡ true)
       moved c h = by (tells (c == gone))
         where
-          by : ((c == gone) ≡ true) ⊎ ((c == gone) ≡ false) → ((if c == gone then kept else c) < g.graph.nodes) × (without gone s.remaining (if c == gone then kept else c) ≡ true)
+          by : ((c == gone) ≡ true) ⊎ ((c == gone) ≡ false) → ((if c == gone then kept else c) < g.graph.nodes) ×
+              (without gone s.remaining (if c == gone then kept else c) ≡ true)
           by (inl e) =
-              subst (λ t. ((if t then kept else c) < g.graph.nodes) × (without gone s.remaining (if t then kept else c) ≡ true)) (sym e) (m.kept_node, stays_in gone kept s.remaining m.differ m.kept_in)
+              subst (λ t. ((if t then kept else c) < g.graph.nodes) ×
+              (without gone s.remaining (if t then kept else c) ≡ true)) (sym e)
+              (m.kept_node, stays_in gone kept s.remaining m.differ m.kept_in)
           by (inr e) =
-              subst (λ t. ((if t then kept else c) < g.graph.nodes) × (without gone s.remaining (if t then kept else c) ≡ true)) (sym e) (h.0, and_true (from_false e) h.1)
+              subst (λ t. ((if t then kept else c) < g.graph.nodes) ×
+              (without gone s.remaining (if t then kept else c) ≡ true)) (sym e) (h.0, and_true (from_false e) h.1)
 
-  keeps_ends : (s : State) (x c : ℕ) → c ≢ x → (c < g.graph.nodes) × (s.remaining c ≡ true) → (c < g.graph.nodes) × (without x s.remaining c ≡ true)
+  keeps_ends : (s : State) (x c : ℕ) → c ≢ x → (c < g.graph.nodes) × (s.remaining c ≡ true) → (c < g.graph.nodes) ×
+      (without x s.remaining c ≡ true)
   keeps_ends s x c d h = (h.0, stays_in x c s.remaining d h.1)
 
   pub sound_after : (s : State) (step : Step) → IsSound g s → can g s step ≡ true → IsSound g (after g s step)
   sound_after s (Simplify x) k c =
-      let alone : (i : ℕ) → touches g s x i ≡ false = λ i. unrelated g s x i (not_true (both (remains g s x && low g s x) _ c).1) in
+      let alone : (i : ℕ) → touches g s x i ≡ false = λ i. unrelated g s x i
+      (not_true (both (remains g s x && low g s x) _ c).1) in
       record {
         symmetric = k.symmetric;
         irreflexive = k.irreflexive;
@@ -171,8 +213,10 @@ module _ (g : Problem) where
       record {
         symmetric = k.symmetric;
         irreflexive = k.irreflexive;
-        to_remains = λ i u. let w = frozen_is g s x i u in keeps_ends s x (to g s i) (elsewhere g s x i w (not_touched g s x i u)).0 (k.to_remains i w);
-        from_remains = λ i u. let w = frozen_is g s x i u in keeps_ends s x (from g s i) (elsewhere g s x i w (not_touched g s x i u)).1 (k.from_remains i w);
+        to_remains = λ i u. let w = frozen_is g s x i u in keeps_ends s x (to g s i)
+            (elsewhere g s x i w (not_touched g s x i u)).0 (k.to_remains i w);
+        from_remains = λ i u. let w = frozen_is g s x i u in
+            keeps_ends s x (from g s i) (elsewhere g s x i w (not_touched g s x i u)).1 (k.from_remains i w);
       }
   sound_after s (Coalesce j kept gone b) k c = sound_merged s j kept gone b k (merges s j kept gone b k c)
   sound_after s (Same j) k c =
@@ -196,4 +240,3 @@ module _ (g : Problem) where
         to_remains = λ i u. k.to_remains i (frozen_is g s x i u);
         from_remains = λ i u. k.from_remains i (frozen_is g s x i u);
       }
-

@@ -1,6 +1,5 @@
 -- Five larger rounds, of graphs that were drawn at random; an independent program made the steps.
-use Rattle.std.proofs.Common.{ℕ, true, false, List, [], ◌∷◌, ◌++◌, Some, None, refl}
-use Rattle.tg_rounds.specs.declared.candidates.Mark.{Mark}
+use Rattle.std.proofs.Common.{true, false, List, [], ◌∷◌, ◌++◌, Some, None, refl}
 use Rattle.tg_rounds.specs.declared.steps.Step.{Step}
 use Rattle.tg_rounds.specs.declared.steps.Step.TheVariants.{Simplify, Same, Constrain, Coalesce, Freeze, Spill}
 use Rattle.tg_rounds.specs.declared.moves.MoveState.TheVariants.{Coalesced, Constrained, Frozen}
@@ -61,7 +60,8 @@ second_steps =
     Simplify 25 ∷ Constrain 5 ∷ Same 6 ∷ Spill 27 ∷ []
 
 second_is : IsRound second
-    (round second second_steps (Coalesced ∷ Coalesced ∷ Coalesced ∷ Constrained ∷ Constrained ∷ Constrained ∷ Coalesced ∷ [])
+    (round second second_steps
+    (Coalesced ∷ Coalesced ∷ Coalesced ∷ Constrained ∷ Constrained ∷ Constrained ∷ Coalesced ∷ [])
     (25 ∷ 3 ∷ 27 ∷ 7 ∷ 22 ∷ []) (Some 0 ∷ Some 3 ∷ None ∷ Some 7 ∷ Some 22 ∷ []) (27 ∷ []))
 second_is = is_round second _ refl refl refl
 
@@ -87,7 +87,8 @@ third_steps =
     Constrain 4 ∷ Same 5 ∷ Constrain 6 ∷ Freeze 27 ∷ Simplify 27 ∷ Simplify 29 ∷ []
 
 third_is : IsRound third
-    (round third third_steps (Coalesced ∷ Constrained ∷ Coalesced ∷ Coalesced ∷ Constrained ∷ Coalesced ∷ Constrained ∷ Frozen ∷ [])
+    (round third third_steps
+    (Coalesced ∷ Constrained ∷ Coalesced ∷ Coalesced ∷ Constrained ∷ Coalesced ∷ Constrained ∷ Frozen ∷ [])
     (21 ∷ 29 ∷ 27 ∷ 29 ∷ 29 ∷ 30 ∷ []) (Some 21 ∷ Some 1 ∷ Some 3 ∷ Some 1 ∷ Some 1 ∷ Some 0 ∷ []) [])
 third_is = is_round third _ refl refl refl
 

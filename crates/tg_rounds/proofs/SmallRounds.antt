@@ -8,9 +8,8 @@ use Rattle.tg_rounds.specs.declared.moves.Move.{Move}
 use Rattle.tg_rounds.specs.declared.moves.MoveState.TheVariants.{Coalesced, Constrained, Frozen}
 use Rattle.tg_rounds.specs.declared.rounds.Round.{Round}
 use Rattle.tg_rounds.specs.States.{Problem, start}
-use Rattle.tg_rounds.specs.Steps.{can, candidates, after_all, is_over}
+use Rattle.tg_rounds.specs.Steps.{candidates, after_all, is_over}
 use Rattle.tg_rounds.specs.Rounds.{IsRound}
-use Rattle.tg_rounds.proofs.Deciding.{clash}
 use Rattle.tg_rounds.proofs.Examples.{graph, move, mark, marks_then, original, registers, with_each, round, is_round}
 use Rattle.tg_rounds.proofs.Examples.{NeverTakes, impossible, too_early}
 
@@ -58,11 +57,13 @@ abbrev held_move : Problem
 held_move = original 27 ((25, 26) ∷ []) (move 25 26 ∷ [])
 
 held_move_is : IsRound held_move
-    (round held_move (Constrain 0 ∷ Simplify 25 ∷ Simplify 26 ∷ []) (Constrained ∷ []) (25 ∷ 26 ∷ []) (Some 1 ∷ Some 0 ∷ []) [])
+    (round held_move (Constrain 0 ∷ Simplify 25 ∷ Simplify 26 ∷ []) (Constrained ∷ []) (25 ∷ 26 ∷ [])
+    (Some 1 ∷ Some 0 ∷ []) [])
 held_move_is = is_round held_move _ refl refl refl
 
 held_move_is_too : IsRound held_move
-    (round held_move (Constrain 0 ∷ Simplify 26 ∷ Simplify 25 ∷ []) (Constrained ∷ []) (25 ∷ 26 ∷ []) (Some 0 ∷ Some 1 ∷ []) [])
+    (round held_move (Constrain 0 ∷ Simplify 26 ∷ Simplify 25 ∷ []) (Constrained ∷ []) (25 ∷ 26 ∷ [])
+    (Some 0 ∷ Some 1 ∷ []) [])
 held_move_is_too = is_round held_move _ refl refl refl
 
 held_move_isn't_merged : NeverTakes held_move [] (Coalesce 0 25 26 true)
@@ -73,7 +74,8 @@ held_move_isn't_frozen = too_early held_move [] (Freeze 26) (Constrain 0) (omega
 
 -- both may not have one colour
 held_move_differs : IsRound held_move
-    (round held_move (Constrain 0 ∷ Simplify 25 ∷ Simplify 26 ∷ []) (Constrained ∷ []) (25 ∷ 26 ∷ []) (Some 0 ∷ Some 0 ∷ []) []) → ⊥
+    (round held_move (Constrain 0 ∷ Simplify 25 ∷ Simplify 26 ∷ []) (Constrained ∷ []) (25 ∷ 26 ∷ [])
+    (Some 0 ∷ Some 0 ∷ []) []) → ⊥
 held_move_differs t = apart (ap (λ l. slice_get l 25) t.colours)
   where
     apart : ◌≡◌ {A = Option (Option ℕ)} (Some (Some 0)) (Some (Some 1)) → ⊥
@@ -118,7 +120,8 @@ abbrev blocked_move : Problem
 blocked_move = original 27 ((25, 26) ∷ with_each 26 (all_but 2)) (move 25 2 ∷ [])
 
 blocked_move_is : IsRound blocked_move
-    (round blocked_move (Freeze 25 ∷ Simplify 25 ∷ Simplify 26 ∷ []) (Frozen ∷ []) (25 ∷ 26 ∷ []) (Some 0 ∷ Some 2 ∷ []) [])
+    (round blocked_move (Freeze 25 ∷ Simplify 25 ∷ Simplify 26 ∷ []) (Frozen ∷ []) (25 ∷ 26 ∷ [])
+    (Some 0 ∷ Some 2 ∷ []) [])
 blocked_move_is = is_round blocked_move _ refl refl refl
 
 blocked_move_isn't_merged : NeverTakes blocked_move [] (Coalesce 0 2 25 false)
@@ -129,7 +132,8 @@ blocked_move_isn't_spilled = too_early blocked_move [] (Spill 26) (Freeze 25) (o
 
 -- the first free colour, and no later one
 blocked_move_takes_first : IsRound blocked_move
-    (round blocked_move (Freeze 25 ∷ Simplify 25 ∷ Simplify 26 ∷ []) (Frozen ∷ []) (25 ∷ 26 ∷ []) (Some 1 ∷ Some 2 ∷ []) []) → ⊥
+    (round blocked_move (Freeze 25 ∷ Simplify 25 ∷ Simplify 26 ∷ []) (Frozen ∷ []) (25 ∷ 26 ∷ [])
+    (Some 1 ∷ Some 2 ∷ []) []) → ⊥
 blocked_move_takes_first t = apart (ap (λ l. slice_get l 25) t.colours)
   where
     apart : ◌≡◌ {A = Option (Option ℕ)} (Some (Some 1)) (Some (Some 0)) → ⊥
@@ -186,7 +190,8 @@ abbrev shared_colour : Problem
 shared_colour = original 27 ((26, 0) ∷ []) (move 25 26 ∷ [])
 
 shared_colour_is : IsRound shared_colour
-    (round shared_colour (Coalesce 0 25 26 true ∷ Simplify 25 ∷ []) (Coalesced ∷ []) (25 ∷ 25 ∷ []) (Some 1 ∷ Some 1 ∷ []) [])
+    (round shared_colour (Coalesce 0 25 26 true ∷ Simplify 25 ∷ []) (Coalesced ∷ []) (25 ∷ 25 ∷ [])
+    (Some 1 ∷ Some 1 ∷ []) [])
 shared_colour_is = is_round shared_colour _ refl refl refl
 
 -- Two high temporaries and a move that fails its test at the second: spilling the first freezes the
@@ -202,11 +207,13 @@ failing_move uses other_uses =
     }
 
 failing_move_is : IsRound (failing_move 1 2)
-    (round (failing_move 1 2) (Spill 25 ∷ Simplify 26 ∷ []) (Frozen ∷ []) (25 ∷ 26 ∷ []) (None ∷ Some 24 ∷ []) (25 ∷ []))
+    (round (failing_move 1 2) (Spill 25 ∷ Simplify 26 ∷ []) (Frozen ∷ []) (25 ∷ 26 ∷ []) (None ∷ Some 24 ∷ [])
+    (25 ∷ []))
 failing_move_is = is_round (failing_move 1 2) _ refl refl refl
 
 woken_move_is : IsRound (failing_move 2 1)
-    (round (failing_move 2 1) (Spill 26 ∷ Coalesce 0 24 25 false ∷ []) (Coalesced ∷ []) (24 ∷ 26 ∷ []) (Some 24 ∷ None ∷ []) (26 ∷ []))
+    (round (failing_move 2 1) (Spill 26 ∷ Coalesce 0 24 25 false ∷ []) (Coalesced ∷ []) (24 ∷ 26 ∷ [])
+    (Some 24 ∷ None ∷ []) (26 ∷ []))
 woken_move_is = is_round (failing_move 2 1) _ refl refl refl
 
 -- it has to be tried again
@@ -220,7 +227,8 @@ abbrev further_moves : Problem
 further_moves = original 27 [] (move 3 4 ∷ move 25 26 ∷ move 26 25 ∷ [])
 
 further_moves_is : IsRound further_moves
-    (round further_moves (Constrain 0 ∷ Coalesce 1 25 26 true ∷ Same 2 ∷ Simplify 25 ∷ []) (Constrained ∷ Coalesced ∷ Coalesced ∷ [])
+    (round further_moves (Constrain 0 ∷ Coalesce 1 25 26 true ∷ Same 2 ∷ Simplify 25 ∷ [])
+    (Constrained ∷ Coalesced ∷ Coalesced ∷ [])
     (25 ∷ 25 ∷ []) (Some 0 ∷ Some 0 ∷ []) [])
 further_moves_is = is_round further_moves _ refl refl refl
 

@@ -1,5 +1,6 @@
 -- That a list of steps is taken, each where no step of an earlier kind is possible, by a test that computes.
-use Rattle.std.proofs.Common.{◌≡◌, ℕ, zero, suc, ◌<◌, ◌≤◌, Bool, true, false, not, ◌&&◌, ◌||◌, List, [], ◌∷◌, length, arith}
+use Rattle.std.proofs.Common.{◌≡◌, ℕ, zero, suc, ◌<◌, ◌≤◌, Bool, true, false, not, ◌&&◌, ◌||◌, List, [], ◌∷◌, length}
+use Rattle.std.proofs.Common.{arith}
 use Rattle.std.specs.Prelude.{nat_lt, IsFalse}
 use Rattle.tg_rounds.specs.declared.steps.Step.{Step}
 use Rattle.tg_rounds.specs.declared.steps.Step.TheVariants.{Simplify, Same, Constrain, Coalesce, Freeze, Spill}
@@ -32,7 +33,8 @@ module _ (g : Problem) where
     pub node_of : (x : ℕ) (p q : Bool) → (remains g s x && p && q) ≡ true → nat_lt x g.graph.nodes ≡ true
     node_of x p q h = (both (nat_lt x g.graph.nodes) _ (both _ _ (both (remains g s x) p (both _ q h).0).0).0).0
 
-    pub of_parts : (i : ℕ) → is_unsettled g s i ≡ true → (is_same g s i || is_constrained g s i || is_safe g s i) ≡ true → can_move g s i ≡ true
+    pub of_parts : (i : ℕ) → is_unsettled g s i ≡ true →
+        (is_same g s i || is_constrained g s i || is_safe g s i) ≡ true → can_move g s i ≡ true
     of_parts i u h = and_true u h
 
     pub no_simplify : can_simplify ≡ false → (x : ℕ) → IsFalse (can g s (Simplify x))
@@ -42,18 +44,23 @@ module _ (g : Problem) where
     no_freeze e = none (λ x. can g s (Freeze x)) g.graph.nodes e (λ x h. node_of x _ _ h)
 
     pub no_move : can_settle ≡ false → (i : ℕ) → IsFalse (can_move g s i)
-    no_move e = none (can_move g s) (length g.moves) e (λ i h. (both (nat_lt i (length g.moves)) _ (both (is_unsettled g s i) _ h).0).0)
+    no_move e = none (can_move g s) (length g.moves) e
+        (λ i h. (both (nat_lt i (length g.moves)) _ (both (is_unsettled g s i) _ h).0).0)
 
     -- a move of which no step is possible
     pub no_same : (i : ℕ) → IsFalse (can_move g s i) → IsFalse (can g s (Same i))
-    no_same i n = never (λ h. let b = both (is_unsettled g s i) (is_same g s i) h in clash (of_parts i b.0 (or_left _ _ (or_left _ _ b.1))) n)
+    no_same i n = never (λ h. let b = both (is_unsettled g s i) (is_same g s i) h in
+        clash (of_parts i b.0 (or_left _ _ (or_left _ _ b.1))) n)
 
     pub no_constrain : (i : ℕ) → IsFalse (can_move g s i) → IsFalse (can g s (Constrain i))
-    no_constrain i n = never (λ h. let b = both (is_unsettled g s i) (is_constrained g s i) h in clash (of_parts i b.0 (or_left _ _ (or_right _ _ b.1))) n)
+    no_constrain i n = never (λ h. let b = both (is_unsettled g s i) (is_constrained g s i) h in
+        clash (of_parts i b.0 (or_left _ _ (or_right _ _ b.1))) n)
 
-    pub no_coalesce : (i kept gone : ℕ) (by_briggs : Bool) → IsFalse (can_move g s i) → IsFalse (can g s (Coalesce i kept gone by_briggs))
+    pub no_coalesce : (i kept gone : ℕ) (by_briggs : Bool) → IsFalse (can_move g s i) →
+        IsFalse (can g s (Coalesce i kept gone by_briggs))
     no_coalesce i kept gone b n =
-        never (λ h. let p = both (is_unsettled g s i) (is_safe g s i) (both _ _ (both _ _ (both _ _ h).0).0).0 in clash (of_parts i p.0 (or_right _ _ p.1)) n)
+        never (λ h. let p = both (is_unsettled g s i) (is_safe g s i) (both _ _ (both _ _ (both _ _ h).0).0).0 in
+        clash (of_parts i p.0 (or_right _ _ p.1)) n)
 
     -- no step of an earlier kind is possible
     pub first : (step : Step) →
@@ -114,7 +121,8 @@ module _ (g : Problem) where
 
   pub all_taken : (s : State) (steps : List Step) → are_taken s steps ≡ true → AreTaken g s steps
   all_taken s [] e = tt
-  all_taken s (step ∷ steps) e = let b = both (is_taken s step) _ e in (taken s step b.0, all_taken (after g s step) steps b.1)
+  all_taken s (step ∷ steps) e = let b = both (is_taken s step) _ e in
+      (taken s step b.0, all_taken (after g s step) steps b.1)
 
 pub first_are_taken : FirstAreTaken
 first_are_taken g s step c simplify move freeze =
