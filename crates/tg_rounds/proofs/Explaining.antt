@@ -21,91 +21,11 @@ use Rattle.tg_rounds.specs.Rounds.{listed}
 use Rattle.tg_rounds.specs.Laws.{IsFrozenAtLast, MovesAreExplained}
 use Rattle.tg_rounds.proofs.Deciding.{clash, both, and_true, either, or_left, or_right, neither, tells, never, not_true}
 use Rattle.tg_rounds.proofs.Deciding.{from_false, and_false, same_node, same_test, some_is, every_is}
-
--- Lists of a function's values.
-pub listed_at : (g : Problem) {A : Type 0} (n : ℕ) (f : ℕ → A) (i : ℕ) → i < n → slice_get (listed n f) i ≡ Some (f i)
-listed_at g n f i l =
-    let len = length-range_with_len 0 n in
-    slice_get-map f (range_with_len 0 n) i ∙
-    (ap (option_map f) (slice_get-get_or (range_with_len 0 n) i 0 (omega arith)) ∙ ap (λ x. Some (f x))
-    (get_or-range_with_len 0 n i 0 l ∙ zero-add i))
+use Rattle.tg_rounds.specs.Laws.{StandsWell}
+use Rattle.tg_rounds.proofs.Standing.{stands_at_start, stands_after, stands_either}
+use Rattle.tg_rounds.proofs.Answering.{the_same, colour_of, is_coloured, state_of}
 
 module _ (g : Problem) where
-  abbrev made : ℕ → Bool
-  made x = (mark_at g (start g) x).made
-
-  -- a class that has an original stands under a register or an original
-  record StandsWell (s : State) : Type 0 where
-    well : (y : ℕ) → y < g.graph.nodes → is_register (s.alias y) ≡ false → made (s.alias y) ≡ true → made y ≡ true
-
-  stands_at_start : StandsWell (start g)
-  stands_at_start = record { well = λ y l r h. h }
-
-  all_made_is : (s : State) (x y : ℕ) → all_made g s x ≡ true → y < g.graph.nodes → s.alias y ≡ x → made y ≡ true
-  all_made_is s x y h l e =
-      ⊎_elim (λ p. absurd (clash (same_test _ _ e) (not_true p))) (λ p. p)
-      (either _ _ ((every_is (λ y. not (s.alias y == x) || made y) g.graph.nodes).0 h y l))
-
-  of_stands : (s : State) → StandsWell s → (x : ℕ) → is_register x ≡ false → made x ≡ true → all_made g s x ≡ true
-  of_stands s w x r m =
-      (every_is (λ y. not (s.alias y == x) || made y) g.graph.nodes).1 (λ y l. by y l (tells (s.alias y == x)))
-    where
-      by : (y : ℕ) → y < g.graph.nodes → ((s.alias y == x) ≡ true) ⊎ ((s.alias y == x) ≡ false) →
-          (not (s.alias y == x) || made y) ≡ true
-      by y l (inl e) =
-          let d = same_node _ _ e in
-          or_right _ _ (w.well y l (subst (λ z. is_register z ≡ false) (sym d) r)
-          (subst (λ z. made z ≡ true) (sym d) m))
-      by y l (inr e) = or_left _ _ (from_false e)
-
-  stands_merged : (s : State) (i kept gone : ℕ) (b : Bool) → StandsWell s → stands_under g s kept gone ≡ true →
-      StandsWell (after g s (Coalesce i kept gone b))
-  stands_merged s i kept gone b w u = record { well = λ y l r h. by y l (tells (s.alias y == gone)) r h }
-    where
-      class' : ℕ → Bool → ℕ
-      class' y t = if t then kept else s.alias y
-
-      at_gone : (y : ℕ) → y < g.graph.nodes → s.alias y ≡ gone → is_register kept ≡ false → made kept ≡ true →
-          made y ≡ true
-      at_gone y l e r h =
-          ⊎_elim (λ p. absurd (clash p r))
-          (λ p. ⊎_elim (λ q. absurd (clash h (not_true q))) (λ q. all_made_is s gone y (both _ _ q).1 l e)
-          (either _ _ (both _ _ p).1)) (either (is_register kept) _ u)
-
-      by : (y : ℕ) → y < g.graph.nodes → ((s.alias y == gone) ≡ true) ⊎ ((s.alias y == gone) ≡ false) →
-          is_register (if s.alias y == gone then kept else s.alias y) ≡ false →
-          made (if s.alias y == gone then kept else s.alias y) ≡ true → made y ≡ true
-      by y l (inl e) r h =
-          at_gone y l (same_node _ _ e) (subst (λ t. is_register (if t then kept else s.alias y) ≡ false) e r)
-          (subst (λ t. made (if t then kept else s.alias y) ≡ true) e h)
-      by y l (inr e) r h =
-          w.well y l (subst (λ t. is_register (if t then kept else s.alias y) ≡ false) e r)
-          (subst (λ t. made (if t then kept else s.alias y) ≡ true) e h)
-
-  stands_after : (s : State) (step : Step) → StandsWell s → can g s step ≡ true → StandsWell (after g s step)
-  stands_after s (Coalesce i kept gone b) w c = stands_merged s i kept gone b w (both _ _ (both _ _ c).0).1
-  stands_after s (Simplify x) w c = record { well = w.well }
-  stands_after s (Same i) w c = record { well = w.well }
-  stands_after s (Constrain i) w c = record { well = w.well }
-  stands_after s (Freeze x) w c = record { well = w.well }
-  stands_after s (Spill x) w c = record { well = w.well }
-
-  -- one of two classes that aren't both registers may be kept
-  stands_either : (s : State) → StandsWell s → (x y : ℕ) → (is_register x && is_register y) ≡ false →
-      (stands_under g s x y ≡ true) ⊎ (stands_under g s y x ≡ true)
-  stands_either s w x y h = by (tells (is_register x)) (tells (is_register y)) (tells (made x)) (tells (made y))
-    where
-      by : (is_register x ≡ true) ⊎ (is_register x ≡ false) → (is_register y ≡ true) ⊎ (is_register y ≡ false) →
-          (made x ≡ true) ⊎ (made x ≡ false) → (made y ≡ true) ⊎ (made y ≡ false) → (stands_under g s x y ≡ true) ⊎
-          (stands_under g s y x ≡ true)
-      by (inl a) b c d = inl (or_left _ _ a)
-      by (inr a) (inl b) c d = inr (or_left _ _ b)
-      by (inr a) (inr b) (inr c) d = inl (or_right _ _ (and_true (from_false b) (or_left _ _ (from_false c))))
-      by (inr a) (inr b) (inl c) (inr d) = inr (or_right _ _ (and_true (from_false a) (or_left _ _ (from_false d))))
-      by (inr a) (inr b) (inl c) (inl d) =
-          inl (or_right _ _ (and_true (from_false b)
-          (or_right _ _ (and_true (of_stands s w x a c) (of_stands s w y b d)))))
-
   -- a step that settles the move, where one is possible
   record Settles (s : State) : Type 0 where
     step : Step
@@ -116,7 +36,7 @@ module _ (g : Problem) where
   flag true = refl
   flag false = refl
 
-  some_move : (s : State) → StandsWell s → (i : ℕ) → can_move g s i ≡ true → Settles s
+  some_move : (s : State) → StandsWell g s → (i : ℕ) → can_move g s i ≡ true → Settles s
   some_move s w i h = by (both (is_unsettled g s i) _ h)
     where
       fixed : Bool
@@ -147,7 +67,7 @@ module _ (g : Problem) where
                 (and_true (and_true u e)
                 (or_right _ _ (and_true (same_test (to g s i) _ refl) (same_test (from g s i) _ refl)))) k)
                 (flag fixed_back);
-          }) (stands_either s w (to g s i) (from g s i) d)
+          }) (stands_either g s w (to g s i) (from g s i) d)
 
       by : (is_unsettled g s i ≡ true) × ((is_same g s i || is_constrained g s i || is_safe g s i) ≡ true) → Settles s
       by p =
@@ -156,7 +76,7 @@ module _ (g : Problem) where
           (λ e. merging p.0 e) (either _ _ p.1)
 
   -- at a Freeze or a Spill no move passes its test
-  none_moves : (s : State) (step : Step) → StandsWell s → IsTaken g s step → 1 < kind g step → (i : ℕ) →
+  none_moves : (s : State) (step : Step) → StandsWell g s → IsTaken g s step → 1 < kind g step → (i : ℕ) →
       can_move g s i ≡ false
   none_moves s step w t l i =
       never (λ h. let m = some_move s w i h in let k = m.of_kind in clash m.possible (t.first m.step (omega arith)))
@@ -301,12 +221,12 @@ module _ (g : Problem) where
         no_move = f.no_move;
       })
 
-  fate : (s : State) (steps : List Step) (i : ℕ) → StandsWell s → AreTaken g s steps → is_unsettled g s i ≡ true →
+  fate : (s : State) (steps : List Step) (i : ℕ) → StandsWell g s → AreTaken g s steps → is_unsettled g s i ≡ true →
       Fate s steps i
   fate s [] i w t u = left_open u
   fate s (step ∷ steps) i w t u =
       by (tells (is_unsettled g (after g s step) i))
-      (fate (after g s step) steps i (stands_after s step w t.0.possible) t.1)
+      (fate (after g s step) steps i (stands_after g s step w t.0.possible) t.1)
     where
       closed : is_unsettled g (after g s step) i ≡ false → is_ready_or_waiting ((after g s step).states i) ≡ false
       closed v = and_false (nat_lt i (length g.moves)) _ v
@@ -349,16 +269,6 @@ moves_are_explained g round nodes r i a b m at ca cb differ =
     ends = subst (λ k. (k.to < g.graph.nodes) × (k.from < g.graph.nodes)) is_move
         (nodes i (record { to = 0; from = 0 }) inside)
 
-    colour_at : ℕ → Option ℕ
-    colour_at x = (select g end).colour (end.alias x)
-
-    the_same : {A : Type 0} {x y : A} → Some x ≡ Some y → x ≡ y
-    the_same e = cc
-
-    is_coloured : (x c : ℕ) → x < g.graph.nodes → slice_get round.colours x ≡ Some (Some c) → colour_at x ≡ Some c
-    is_coloured x c l h =
-        the_same (sym (listed_at g g.graph.nodes colour_at x l) ∙ (ap (λ l. slice_get l x) (sym r.colours) ∙ h))
-
     by : Fate g (start g) round.steps i → (slice_get round.states i ≡ Some Constrained) ⊎
         IsFrozenAtLast g (start g) round.steps i
     by (left_open h) = absurd
@@ -366,9 +276,9 @@ moves_are_explained g round nodes r i a b m at ca cb differ =
         ((some_is (is_unsettled g end) (length g.moves)).1 (i, inside, h))) (not_true r.over))
     by (one_class h) =
         absurd (differ (the_same
-        (sym (is_coloured m.to a ends.0 ca) ∙
+        (sym (is_coloured g round r m.to a ends.0 ca) ∙
         (ap (select g end).colour (subst (λ k. end.alias k.to ≡ end.alias k.from) is_move h) ∙
-        is_coloured m.from b ends.1 cb))))
+        is_coloured g round r m.from b ends.1 cb))))
     by (constrained h) = inl
-        (ap (λ l. slice_get l i) r.states ∙ (listed_at g (length g.moves) end.states i inside ∙ ap Some h))
+        (state_of g round r i inside ∙ ap Some h)
     by (frozen f) = inr f

@@ -8,8 +8,11 @@ pub mod Invariants
 pub mod Classes
 pub mod GreedyColouring
 pub mod NoSpill
+pub mod Answering
+pub mod Standing
 pub mod Explaining
 pub mod Selecting
+pub mod ProperColouring
 pub mod Shrinking
 pub mod Examples
 pub mod SmallRounds

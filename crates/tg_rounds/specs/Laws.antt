@@ -10,7 +10,8 @@ use Rattle.tg_rounds.specs.declared.steps.Step.{Step}
 use Rattle.tg_rounds.specs.declared.steps.Step.TheVariants.{Simplify, Freeze, Spill}
 use Rattle.tg_rounds.specs.declared.rounds.Round.{Round}
 use Rattle.tg_rounds.specs.Graphs.{count, IsGraph, IsGreedilyColourable, is_register}
-use Rattle.tg_rounds.specs.States.{Problem, State, start, remains, is_unsettled, to, from}
+use Rattle.tg_rounds.specs.States.{Problem, State, start, remains, is_unsettled, to, from, mark_at}
+use Rattle.tg_rounds.specs.States.{all_made}
 use Rattle.tg_rounds.specs.Steps.{can, can_move, after, after_all, kind, IsTaken, AreTaken}
 use Rattle.tg_rounds.specs.Rounds.{IsRound}
 
@@ -64,6 +65,44 @@ MovesAreExplained =
     slice_get round.colours m.from ≡ Some (Some b) →
     a ≢ b →
     (slice_get round.states i ≡ Some Constrained) ⊎ IsFrozenAtLast g (start g) round.steps i
+
+-- Colours.
+
+-- two nodes that interfere have two colours, where both have one
+abbrev pub ColoursDiffer : Type 0
+ColoursDiffer =
+    (g : Problem) (round : Round) →
+    IsGraph g.graph →
+    AreNodes g →
+    IsRound g round →
+    (x y a b : ℕ) →
+    x < g.graph.nodes →
+    y < g.graph.nodes →
+    IsTrue (g.graph.pairs x y) →
+    slice_get round.colours x ≡ Some (Some a) →
+    slice_get round.colours y ≡ Some (Some b) →
+    a ≢ b
+
+-- a register has its own colour
+abbrev pub RegistersAreColoured : Type 0
+RegistersAreColoured =
+    (g : Problem) (round : Round) →
+    IsGraph g.graph →
+    AreNodes g →
+    IsRound g round →
+    (x : ℕ) →
+    x < g.graph.nodes →
+    IsTrue (is_register x) →
+    slice_get round.colours x ≡ Some (Some x)
+
+abbrev pub ColoursAreRegisters : Type 0
+ColoursAreRegisters =
+    (g : Problem) (round : Round) →
+    IsRound g round →
+    (x a : ℕ) →
+    x < g.graph.nodes →
+    slice_get round.colours x ≡ Some (Some a) →
+    IsTrue (is_register a)
 
 -- Steps.
 
@@ -144,6 +183,36 @@ StepsKeepClasses =
     HasClasses g s →
     IsTrue (can g s step) →
     HasClasses g (after g s step)
+
+-- spilling made the temporary under which a class stands only where it made all members
+pub record StandsWell (g : Problem) (s : State) : Type 0 where
+  pub well :
+      (x : ℕ) →
+      x < g.graph.nodes →
+      IsFalse (is_register (s.alias x)) →
+      IsTrue (mark_at g s (s.alias x)).made →
+      IsTrue (mark_at g s x).made
+
+abbrev pub StartStandsWell : Type 0
+StartStandsWell = (g : Problem) → StandsWell g (start g)
+
+abbrev pub StepsKeepStanding : Type 0
+StepsKeepStanding =
+    (g : Problem) (s : State) (step : Step) →
+    StandsWell g s →
+    IsTrue (can g s step) →
+    StandsWell g (after g s step)
+
+-- so the mark of that temporary says whether it made all
+abbrev pub StandsByMark : Type 0
+StandsByMark =
+    (g : Problem) (s : State) →
+    StandsWell g s →
+    (x : ℕ) →
+    x < g.graph.nodes →
+    s.alias x ≡ x →
+    IsFalse (is_register x) →
+    all_made g s x ≡ (mark_at g s x).made
 
 -- The merged pairs are those of the start between classes: so colours may be chosen by either graph.
 pub record IsOfClasses (g : Problem) (s : State) : Type 0 where

@@ -1,12 +1,18 @@
 ghost use Rattle.tg_rounds.specs.Laws.{
   ColourableNeverSpills,
   MovesAreExplained,
+  ColoursDiffer,
+  RegistersAreColoured,
+  ColoursAreRegisters,
   StepsShrink,
   FirstAreTaken,
   StartIsSound,
   StepsKeepSound,
   StartHasClasses,
   StepsKeepClasses,
+  StartStandsWell,
+  StepsKeepStanding,
+  StandsByMark,
   PairsAreOfClasses,
 };
 ghost use Rattle.tg_rounds.specs.Waiting.{WaitingFails, WokenAreDisturbed};
@@ -22,6 +28,14 @@ pub fn moves_are_explained()
     ensures { MovesAreExplained }
 {}
 
+/// The laws of the colours that a round answers: two nodes that interfere have two, where both have
+/// one, and each register has its own.
+pub fn colours_are_proper()
+    ensures differ { ColoursDiffer }
+    ensures registers { RegistersAreColoured }
+    ensures below { ColoursAreRegisters }
+{}
+
 /// The laws of steps: that a round ends, and which steps are taken.
 pub fn steps_are_taken()
     ensures shrink { StepsShrink }
@@ -34,6 +48,9 @@ pub fn states_are_sound()
     ensures steps { StepsKeepSound }
     ensures start_classes { StartHasClasses }
     ensures steps_classes { StepsKeepClasses }
+    ensures start_standing { StartStandsWell }
+    ensures steps_standing { StepsKeepStanding }
+    ensures by_mark { StandsByMark }
 {}
 
 /// The law that the merged pairs are those of the start between classes.
