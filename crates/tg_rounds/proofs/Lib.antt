@@ -14,6 +14,7 @@ pub mod Explaining
 pub mod Selecting
 pub mod ProperColouring
 pub mod Shrinking
+pub mod Running
 pub mod Examples
 pub mod SmallRounds
 pub mod LargerRounds

@@ -12,7 +12,8 @@ use Rattle.tg_rounds.specs.Steps.{after_all}
 use Rattle.tg_rounds.specs.Selection.{Colouring, has_colour, precoloured, sees, is_free, pop, select}
 use Rattle.tg_rounds.specs.Rounds.{end, IsRound}
 use Rattle.tg_rounds.specs.Laws.{is_stacked, ColoursDiffer, RegistersAreColoured, ColoursAreRegisters}
-use Rattle.tg_rounds.proofs.Deciding.{clash, both, and_true, or_left, or_right, neither, tells, never, not_true, same_node, same_test, some_is}
+use Rattle.tg_rounds.proofs.Deciding.{clash, both, and_true, or_left, or_right, neither, tells, never, not_true}
+use Rattle.tg_rounds.proofs.Deciding.{same_node, same_test, some_is}
 use Rattle.tg_rounds.proofs.Classes.{Holds, holds_at_start, holds_all}
 use Rattle.tg_rounds.proofs.Answering.{answered, is_coloured}
 
@@ -26,7 +27,8 @@ finds_such p a (suc n) k e = by (tells (p a)) (finds_such p (a + 1) n k)
         (find p (range_with_len (a + 1) n) ≡ Some k → (p k ≡ true) × (k < (a + 1) + n)) →
         (p k ≡ true) × (k < a + suc n)
     by (inl t) r =
-        let same : a ≡ k = number (subst (λ b. (if b then Some a else find p (range_with_len (a + 1) n)) ≡ Some k) t e) in
+        let same : a ≡ k = number (subst (λ b. (if b then Some a else find p (range_with_len (a + 1) n)) ≡ Some k) t e)
+        in
         (subst (λ w. p w ≡ true) same t, omega arith)
       where
         number : Some a ≡ Some k → a ≡ k
@@ -46,19 +48,23 @@ any_of p q a (suc n) y l m h k = by (tells (q a)) (eqb_tells a y) (any_of p q (a
 
     by : (q a ≡ true) ⊎ (q a ≡ false) →
         ((nat_eq a y ≡ true) × (a ≡ y)) ⊎ ((nat_eq a y ≡ false) × (a ≢ y)) →
-        (a + 1 ≤ y → y < (a + 1) + n → q y ≡ true → p y ≡ true → list_any p (filter q (range_with_len (a + 1) n)) ≡ true) →
+        (a + 1 ≤ y → y < (a + 1) + n → q y ≡ true → p y ≡ true →
+        list_any p (filter q (range_with_len (a + 1) n)) ≡ true) →
         list_any p (filter q (range_with_len a (suc n))) ≡ true
     by (inl t) (inl s) r =
-        subst (λ b. list_any p (if b then a ∷ filter q (range_with_len (a + 1) n) else filter q (range_with_len (a + 1) n)) ≡ true)
+        subst (λ b. list_any p
+        (if b then a ∷ filter q (range_with_len (a + 1) n) else filter q (range_with_len (a + 1) n)) ≡ true)
         (sym t) (or_left (p a) _ (subst (λ w. p w ≡ true) (sym s.1) k))
     by (inl t) (inr s) r =
         let d = s.1 in
-        subst (λ b. list_any p (if b then a ∷ filter q (range_with_len (a + 1) n) else filter q (range_with_len (a + 1) n)) ≡ true)
+        subst (λ b. list_any p
+        (if b then a ∷ filter q (range_with_len (a + 1) n) else filter q (range_with_len (a + 1) n)) ≡ true)
         (sym t) (or_right (p a) _ (r (omega arith) (omega arith) h k))
     by (inr f) (inl s) r = absurd (clash h (subst (λ w. q w ≡ false) s.1 f))
     by (inr f) (inr s) r =
         let d = s.1 in
-        subst (λ b. list_any p (if b then a ∷ filter q (range_with_len (a + 1) n) else filter q (range_with_len (a + 1) n)) ≡ true)
+        subst (λ b. list_any p
+        (if b then a ∷ filter q (range_with_len (a + 1) n) else filter q (range_with_len (a + 1) n)) ≡ true)
         (sym f) (r (omega arith) (omega arith) h k)
 
 has_its_colour : (o : Option ℕ) (k : ℕ) → o ≡ Some k → has_colour o k ≡ true
@@ -139,7 +145,8 @@ module _ (g : Problem) (s : State) where
   module _ (h : Holds g s) (symmetric : (x y : ℕ) → g.graph.pairs x y ≡ g.graph.pairs y x) where
     two_classes : (x y : ℕ) → x < g.graph.nodes → y < g.graph.nodes → g.graph.pairs x y ≡ true → s.alias x ≢ s.alias y
     two_classes x y lx ly p e =
-        clash (subst (λ w. s.pairs (s.alias x) w ≡ true) (sym e) (h.keeps x y lx ly p)) (h.sound.irreflexive (s.alias x))
+        clash (subst (λ w. s.pairs (s.alias x) w ≡ true) (sym e) (h.keeps x y lx ly p))
+        (h.sound.irreflexive (s.alias x))
 
     differ_at_start : Differ precoloured
     differ_at_start x y a b lx ly p ca cb e =
@@ -148,7 +155,8 @@ module _ (g : Problem) (s : State) where
     differ_popped : (c : Colouring) (x0 : ℕ) → Differ c → Differ (pop g s c x0)
     differ_popped c x0 k x y a b lx ly p ca cb = by (eqb_tells (s.alias x) x0) (eqb_tells (s.alias y) x0)
       where
-        by : ((nat_eq (s.alias x) x0 ≡ true) × (s.alias x ≡ x0)) ⊎ ((nat_eq (s.alias x) x0 ≡ false) × (s.alias x ≢ x0)) →
+        by : ((nat_eq (s.alias x) x0 ≡ true) × (s.alias x ≡ x0)) ⊎
+            ((nat_eq (s.alias x) x0 ≡ false) × (s.alias x ≢ x0)) →
             ((nat_eq (s.alias y) x0 ≡ true) × (s.alias y ≡ x0)) ⊎ ((nat_eq (s.alias y) x0 ≡ false) × (s.alias y ≢ x0)) →
             a ≢ b
         by (inl e) (inl f) = absurd (two_classes x y lx ly p (e.1 ∙ sym f.1))
@@ -156,7 +164,7 @@ module _ (g : Problem) (s : State) where
             apart c x y a b lx ly p (found c x0 (s.alias x) a e.1 ca).0 (sym (other c x0 (s.alias y) f.1) ∙ cb)
         by (inr e) (inl f) =
             λ q. apart c y x b a ly lx (symmetric y x ∙ p) (found c x0 (s.alias y) b f.1 cb).0
-                (sym (other c x0 (s.alias x) e.1) ∙ ca) (sym q)
+            (sym (other c x0 (s.alias x) e.1) ∙ ca) (sym q)
         by (inr e) (inr f) =
             k x y a b lx ly p (sym (other c x0 (s.alias x) e.1) ∙ ca) (sym (other c x0 (s.alias y) f.1) ∙ cb)
 
@@ -182,7 +190,8 @@ pub registers_are_coloured : RegistersAreColoured
 registers_are_coloured g round graph nodes r x l t =
     answered g round r x l ∙ ap Some
     (ap (select g (end g round)).colour (holds.classes.remaining_is_own x l (holds.classes.register_remains x l t)) ∙
-    (kept g (end g round) precoloured (end g round).stack x (never (λ q. clash t (holds.classes.stacked_is_temporary x q))) ∙
+    (kept g (end g round) precoloured (end g round).stack x
+    (never (λ q. clash t (holds.classes.stacked_is_temporary x q))) ∙
     ap (λ b. if b then Some x else None) t))
   where
     holds : Holds g (end g round)

@@ -1,6 +1,7 @@
 -- Small rounds, computed, and steps that no run takes.
 use Rattle.std.proofs.Common.{◌≡◌, ℕ, false, true, List, [], ◌∷◌, ◌++◌, Option, Some, None, refl, ap, arith}
 use Rattle.std.specs.Prelude.{nat_lt, filter, not, ◌==◌, slice_get}
+use Rattle.std.specs.List.{range_with_len}
 use Rattle.tg_rounds.specs.declared.candidates.Candidate.{Candidate}
 use Rattle.tg_rounds.specs.declared.steps.Step.{Step}
 use Rattle.tg_rounds.specs.declared.steps.Step.TheVariants.{Simplify, Same, Constrain, Coalesce, Freeze, Spill}
@@ -220,6 +221,70 @@ woken_move_is = is_round (failing_move 2 1) _ refl refl refl
 woken_move_isn't_frozen : NeverTakes (failing_move 2 1) (Spill 26 ∷ []) (Freeze 25)
 woken_move_isn't_frozen =
     too_early (failing_move 2 1) (Spill 26 ∷ []) (Freeze 25) (Coalesce 0 24 25 false) (omega arith) refl
+
+-- Briggs's test counts the high neighbours of both ends: 24 let the move pass, and 25 don't.
+
+abbrev wide_move : (second : ℕ) → Problem
+wide_move second =
+    original 27 (with_each 25 (range_with_len 0 12) ++ with_each 26 (range_with_len 12 second)) (move 25 26 ∷ [])
+
+wide_move_is : IsRound (wide_move 12)
+    (round (wide_move 12) (Coalesce 0 25 26 true ∷ Simplify 25 ∷ []) (Coalesced ∷ []) (25 ∷ 25 ∷ [])
+    (Some 24 ∷ Some 24 ∷ []) [])
+wide_move_is = is_round (wide_move 12) _ refl refl refl
+
+too_wide_move_is : IsRound (wide_move 13)
+    (round (wide_move 13) (Freeze 25 ∷ Simplify 25 ∷ Simplify 26 ∷ []) (Frozen ∷ []) (25 ∷ 26 ∷ [])
+    (Some 12 ∷ Some 0 ∷ []) [])
+too_wide_move_is = is_round (wide_move 13) _ refl refl refl
+
+too_wide_move_isn't_merged : NeverTakes (wide_move 13) [] (Coalesce 0 25 26 true)
+too_wide_move_isn't_merged = impossible (wide_move 13) [] (Coalesce 0 25 26 true) refl
+
+-- A low neighbour doesn't count, though it can't be taken out yet.
+
+abbrev low_neighbour : Problem
+low_neighbour =
+    original 29 ((27, 28) ∷ (26, 27) ∷ (with_each 25 (range_with_len 0 12) ++ with_each 26 (range_with_len 12 12)))
+    (move 25 26 ∷ move 27 28 ∷ [])
+
+low_neighbour_is : IsRound low_neighbour
+    (round low_neighbour (Coalesce 0 25 26 true ∷ Constrain 1 ∷ Simplify 27 ∷ Simplify 25 ∷ Simplify 28 ∷ [])
+    (Coalesced ∷ Constrained ∷ []) (25 ∷ 25 ∷ 27 ∷ 28 ∷ []) (Some 24 ∷ Some 24 ∷ Some 1 ∷ Some 0 ∷ []) [])
+low_neighbour_is = is_round low_neighbour _ refl refl refl
+
+-- A neighbour of both ends counts as high where it is so before the merge.
+
+abbrev meeting_move : Problem
+meeting_move =
+    let ends = with_each 25 (27 ∷ range_with_len 0 12) ++ with_each 26 (27 ∷ range_with_len 12 12) in
+    original 28 (ends ++ with_each 27 (range_with_len 0 23)) (move 25 26 ∷ [])
+
+meeting_move_is : IsRound meeting_move
+    (round meeting_move (Freeze 26 ∷ Simplify 26 ∷ Simplify 25 ∷ Simplify 27 ∷ []) (Frozen ∷ []) (25 ∷ 26 ∷ 27 ∷ [])
+    (Some 12 ∷ Some 0 ∷ Some 23 ∷ []) [])
+meeting_move_is = is_round meeting_move _ refl refl refl
+
+meeting_move_isn't_merged : NeverTakes meeting_move [] (Coalesce 0 25 26 true)
+meeting_move_isn't_merged = impossible meeting_move [] (Coalesce 0 25 26 true) refl
+
+-- A neighbour that was spilled counts no longer.
+
+abbrev spilled_neighbour : Problem
+spilled_neighbour =
+    let ends = with_each 25 (27 ∷ range_with_len 0 24) ++ with_each 26 (27 ∷ range_with_len 0 24) in
+    record (original 28 (ends ++ with_each 27 registers) (move 25 26 ∷ [])) {
+      marks = marks_then (mark 2 false ∷ mark 2 false ∷ mark 1 false ∷ []);
+    }
+
+spilled_neighbour_is : IsRound spilled_neighbour
+    (round spilled_neighbour (Spill 27 ∷ Coalesce 0 26 25 true ∷ Simplify 26 ∷ []) (Coalesced ∷ []) (26 ∷ 26 ∷ 27 ∷ [])
+    (Some 24 ∷ Some 24 ∷ None ∷ []) (27 ∷ []))
+spilled_neighbour_is = is_round spilled_neighbour _ refl refl refl
+
+spilled_neighbour_isn't_frozen : NeverTakes spilled_neighbour (Spill 27 ∷ []) (Freeze 25)
+spilled_neighbour_isn't_frozen =
+    too_early spilled_neighbour (Spill 27 ∷ []) (Freeze 25) (Coalesce 0 25 26 true) (omega arith) refl
 
 -- Two registers are never one class, and a move between two ends of one class is the same.
 

@@ -12,7 +12,7 @@ use Rattle.tg_rounds.specs.declared.rounds.Round.{Round}
 use Rattle.tg_rounds.specs.Graphs.{count, IsGraph, IsGreedilyColourable, is_register}
 use Rattle.tg_rounds.specs.States.{Problem, State, start, remains, is_unsettled, to, from, mark_at}
 use Rattle.tg_rounds.specs.States.{all_made}
-use Rattle.tg_rounds.specs.Steps.{can, can_move, after, after_all, kind, IsTaken, AreTaken}
+use Rattle.tg_rounds.specs.Steps.{can, can_move, after, after_all, kind, IsTaken, AreTaken, is_over}
 use Rattle.tg_rounds.specs.Rounds.{IsRound}
 
 -- the ends of the moves are nodes
@@ -127,6 +127,15 @@ FirstAreTaken =
     (2 < kind g step → (x : ℕ) → IsFalse (can g s (Freeze x))) →
     IsTaken g s step
 
+-- a run goes on by a step that is taken where it came to
+abbrev pub RunsGoOn : Type 0
+RunsGoOn =
+    (g : Problem) (s : State) (steps : List Step) (step : Step) →
+    AreTaken g s steps →
+    IsTaken g (after_all g s steps) step →
+    AreTaken g s (steps ++ step ∷ []) ×
+    (after_all g s (steps ++ step ∷ []) ≡ after g (after_all g s steps) step)
+
 -- States.
 
 -- The pairs have no order, no node interferes with itself, and an unsettled move is between classes
@@ -152,6 +161,15 @@ StepsKeepSound =
     IsSound g s →
     IsTrue (can g s step) →
     IsSound g (after g s step)
+
+-- where no temporary remains and no move can be settled, the round is over
+abbrev pub NothingLeftIsOver : Type 0
+NothingLeftIsOver =
+    (g : Problem) (s : State) →
+    IsSound g s →
+    ((x : ℕ) → IsFalse (remains g s x)) →
+    ((i : ℕ) → IsFalse (can_move g s i)) →
+    IsTrue (is_over g s)
 
 -- the node was taken out
 abbrev pub is_stacked : State → ℕ → Bool

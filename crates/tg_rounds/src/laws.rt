@@ -6,6 +6,8 @@ ghost use Rattle.tg_rounds.specs.Laws.{
   ColoursAreRegisters,
   StepsShrink,
   FirstAreTaken,
+  RunsGoOn,
+  NothingLeftIsOver,
   StartIsSound,
   StepsKeepSound,
   StartHasClasses,
@@ -36,10 +38,13 @@ pub fn colours_are_proper()
     ensures below { ColoursAreRegisters }
 {}
 
-/// The laws of steps: that a round ends, and which steps are taken.
+/// The laws of steps: that a round ends, which steps are taken, how a run goes on, and where it is
+/// over.
 pub fn steps_are_taken()
     ensures shrink { StepsShrink }
     ensures first { FirstAreTaken }
+    ensures on { RunsGoOn }
+    ensures over { NothingLeftIsOver }
 {}
 
 /// The laws of the states of a round, which hold at its start and go on to hold.
