@@ -1,26 +1,13 @@
 -- What a round answers is what its end holds.
-use Rattle.std.proofs.Common.{◌≡◌, ℕ, ◌<◌, Bool, true, false, not, ◌&&◌, ◌||◌, ◌⊎◌, inl, inr, refl, sym, ap, subst, ◌∙◌}
-use Rattle.std.proofs.Common.{arith, ⊎_elim, List, [], ◌∷◌, length, Option, Some, zero-add}
-use Rattle.std.specs.Prelude.{nat_lt, ◌==◌, if◌then◌else◌, slice_get, option_map}
-use Rattle.std.specs.Bool.{beq}
+use Rattle.std.proofs.Common.{◌≡◌, ℕ, ◌<◌, sym, ap, ◌∙◌}
+use Rattle.std.proofs.Common.{arith, length, Option, Some, zero-add}
+use Rattle.std.specs.Prelude.{slice_get, option_map}
 use Rattle.std.specs.List.{range_with_len}
-use Rattle.std.proofs.lemmas.Bool.{lt-ltb}
-use Rattle.std.proofs.lemmas.Option.{slice_get-map, slice_get-get_or, slice_get_within, get_or_from_slice_get}
+use Rattle.std.proofs.lemmas.Option.{slice_get-map, slice_get-get_or}
 use Rattle.std.proofs.lemmas.List.FromFn.{length-range_with_len, get_or-range_with_len}
-use Rattle.tg_rounds.specs.declared.steps.Step.{Step}
-use Rattle.tg_rounds.specs.declared.steps.Step.TheVariants.{Simplify, Same, Constrain, Coalesce, Freeze, Spill}
-use Rattle.tg_rounds.specs.declared.moves.MoveState.{MoveState}
-use Rattle.tg_rounds.specs.declared.moves.MoveState.TheVariants.{Coalesced, Constrained, Frozen}
-use Rattle.tg_rounds.specs.Graphs.{is_register, some}
-use Rattle.tg_rounds.specs.States.{Problem, State, start, is_ready_or_waiting, remains, move_at, to, from, is_unsettled}
-use Rattle.tg_rounds.specs.States.{touches, mark_at, all_made}
-use Rattle.tg_rounds.specs.Steps.{passes, is_same, is_constrained, is_safe, stands_under, can, can_move, kind, settle}
-use Rattle.tg_rounds.specs.Steps.{freeze, after, after_all, IsTaken, AreTaken}
+use Rattle.tg_rounds.specs.States.{Problem}
 use Rattle.tg_rounds.specs.Selection.{select}
 use Rattle.tg_rounds.specs.Rounds.{listed, end, IsRound}
-use Rattle.tg_rounds.specs.Laws.{IsFrozenAtLast, MovesAreExplained}
-use Rattle.tg_rounds.proofs.Deciding.{clash, both, and_true, either, or_left, or_right, neither, tells, never, not_true}
-use Rattle.tg_rounds.proofs.Deciding.{from_false, and_false, same_node, same_test, some_is, every_is}
 use Rattle.tg_rounds.specs.declared.rounds.Round.{Round}
 
 -- Lists of a function's values.

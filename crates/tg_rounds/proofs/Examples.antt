@@ -100,7 +100,3 @@ impossible g steps step e later t = clash t.0.possible e
 pub too_early : (g : Problem) (steps : List Step) (step other : Step) → kind g other < kind g step →
     can g (after_all g (start g) steps) other ≡ true → NeverTakes g steps step
 too_early g steps step other l e later t = clash e (t.0.first other l)
-
--- a run that goes on behind these steps
-pub IsOver : Problem → List Step → Type 0
-IsOver g steps = is_over g (after_all g (start g) steps) ≡ true

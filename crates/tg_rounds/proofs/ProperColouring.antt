@@ -1,18 +1,16 @@
 -- Select gives two colours to nodes that interfere.
-use Rattle.std.proofs.Common.{◌≡◌, ◌≢◌, ℕ, zero, suc, ◌+◌, ◌<◌, ◌≤◌, Bool, true, false, not, ◌&&◌, ◌||◌, ◌⊎◌, inl, inr}
+use Rattle.std.proofs.Common.{◌≡◌, ◌≢◌, ℕ, zero, suc, ◌+◌, ◌<◌, ◌≤◌, true, false, ◌&&◌, ◌⊎◌, inl, inr}
 use Rattle.std.proofs.Common.{refl, sym, ap, subst, ◌∙◌, arith, ⊎_elim, List, [], ◌∷◌, Option, Some, None}
-use Rattle.std.specs.Prelude.{nat_lt, nat_eq, ◌==◌, if◌then◌else◌, filter, find, fold, slice_get}
+use Rattle.std.specs.Prelude.{nat_eq, ◌==◌, if◌then◌else◌, filter, find, fold}
 use Rattle.std.specs.List.{list_any, range_with_len}
-use Rattle.std.proofs.lemmas.Bool.{ltb-true, lt-ltb}
+use Rattle.std.proofs.lemmas.Bool.{lt-ltb}
 use Rattle.std.proofs.lemmas.Bool.Decides.{eqb_tells}
-use Rattle.tg_rounds.specs.declared.rounds.Round.{Round}
-use Rattle.tg_rounds.specs.Graphs.{colour_count, is_register, Set, some}
-use Rattle.tg_rounds.specs.States.{Problem, State, start, members}
-use Rattle.tg_rounds.specs.Steps.{after_all}
+use Rattle.tg_rounds.specs.Graphs.{colour_count, is_register, Set}
+use Rattle.tg_rounds.specs.States.{Problem, State, start}
 use Rattle.tg_rounds.specs.Selection.{Colouring, has_colour, precoloured, sees, is_free, pop, select}
-use Rattle.tg_rounds.specs.Rounds.{end, IsRound}
-use Rattle.tg_rounds.specs.Laws.{is_stacked, ColoursDiffer, RegistersAreColoured, ColoursAreRegisters}
-use Rattle.tg_rounds.proofs.Deciding.{clash, both, and_true, or_left, or_right, neither, tells, never, not_true}
+use Rattle.tg_rounds.specs.Rounds.{end}
+use Rattle.tg_rounds.specs.Laws.{ColoursDiffer, RegistersAreColoured, ColoursAreRegisters}
+use Rattle.tg_rounds.proofs.Deciding.{clash, and_true, or_left, or_right, neither, tells, never, not_true}
 use Rattle.tg_rounds.proofs.Deciding.{same_node, same_test, some_is}
 use Rattle.tg_rounds.proofs.Classes.{Holds, holds_at_start, holds_all}
 use Rattle.tg_rounds.proofs.Answering.{answered, is_coloured}

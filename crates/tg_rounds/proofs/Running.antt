@@ -1,13 +1,11 @@
 -- How a run goes on, and where it is over.
-use Rattle.std.proofs.Common.{◌≡◌, ℕ, ◌<◌, Bool, true, false, not, ◌&&◌, ◌||◌, ◌⊎◌, inl, inr, refl, ⊎_elim, List, [], ◌∷◌, length}
-use Rattle.std.specs.Prelude.{nat_lt}
+use Rattle.std.proofs.Common.{◌≡◌, ℕ, ◌<◌, true, false, ◌&&◌, ◌||◌, ◌⊎◌, inl, inr, refl, [], ◌∷◌, length}
 use Rattle.std.proofs.lemmas.Bool.{lt-ltb}
-use Rattle.tg_rounds.specs.declared.steps.Step.{Step}
-use Rattle.tg_rounds.specs.Graphs.{is_register, some}
+use Rattle.tg_rounds.specs.Graphs.{is_register}
 use Rattle.tg_rounds.specs.States.{Problem, State, remains, to, from, is_unsettled}
-use Rattle.tg_rounds.specs.Steps.{is_same, is_constrained, is_safe, can_move, after, IsTaken, AreTaken, after_all}
+use Rattle.tg_rounds.specs.Steps.{is_same, is_constrained, can_move, after}
 use Rattle.tg_rounds.specs.Laws.{IsSound, RunsGoOn, NothingLeftIsOver}
-use Rattle.tg_rounds.proofs.Deciding.{clash, and_true, or_left, or_right, tells, never, not_false, from_false, or_false, some_is}
+use Rattle.tg_rounds.proofs.Deciding.{clash, and_true, or_left, or_right, tells, never, from_false, or_false, some_is}
 
 pub runs_go_on : RunsGoOn
 runs_go_on g s [] step t l = ((l, tt), refl)

@@ -140,6 +140,17 @@ blocked_move_takes_first t = apart (ap (λ l. slice_get l 25) t.colours)
     apart : ◌≡◌ {A = Option (Option ℕ)} (Some (Some 1)) (Some (Some 0)) → ⊥
     apart e = cc
 
+-- A freeze leaves what is settled.
+
+abbrev half_settled : Problem
+half_settled = record blocked_move { moves = move 25 2 ∷ move 25 26 ∷ [] }
+
+half_settled_is : IsRound half_settled
+    (round half_settled (Constrain 1 ∷ Freeze 25 ∷ Simplify 25 ∷ Simplify 26 ∷ []) (Frozen ∷ Constrained ∷ [])
+    (25 ∷ 26 ∷ [])
+    (Some 0 ∷ Some 2 ∷ []) [])
+half_settled_is = is_round half_settled _ refl refl refl
+
 -- A made temporary and an original: the original is kept.
 
 abbrev half_made : Problem
@@ -150,6 +161,17 @@ half_made_is = is_round half_made (free_move_round 26 25) refl refl refl
 
 half_made_keeps_original : NeverTakes half_made [] (Coalesce 0 25 26 true)
 half_made_keeps_original = impossible half_made [] (Coalesce 0 25 26 true) refl
+
+-- Two made temporaries: either is kept.
+
+abbrev both_made : Problem
+both_made = record free_move { marks = marks_then (mark 2 true ∷ mark 2 true ∷ []) }
+
+both_made_is : IsRound both_made (free_move_round 25 26)
+both_made_is = is_round both_made (free_move_round 25 26) refl refl refl
+
+both_made_is_too : IsRound both_made (free_move_round 26 25)
+both_made_is_too = is_round both_made (free_move_round 26 25) refl refl refl
 
 -- Two temporaries that interfere with each other and with every register: the one that is used less
 -- is spilled first.
@@ -221,6 +243,29 @@ woken_move_is = is_round (failing_move 2 1) _ refl refl refl
 woken_move_isn't_frozen : NeverTakes (failing_move 2 1) (Spill 26 ∷ []) (Freeze 25)
 woken_move_isn't_frozen =
     too_early (failing_move 2 1) (Spill 26 ∷ []) (Freeze 25) (Coalesce 0 24 25 false) (omega arith) refl
+
+-- George's test lets a low neighbour pass, though it doesn't interfere with the register.
+
+abbrev low_beside : Problem
+low_beside = original 27 ((25, 26) ∷ []) (move 25 2 ∷ move 26 3 ∷ [])
+
+low_beside_is : IsRound low_beside
+    (round low_beside (Coalesce 0 2 25 false ∷ Coalesce 1 3 26 false ∷ []) (Coalesced ∷ Coalesced ∷ []) (2 ∷ 3 ∷ [])
+    (Some 2 ∷ Some 3 ∷ []) [])
+low_beside_is = is_round low_beside _ refl refl refl
+
+-- A node without moves is taken out before any move is tried.
+
+abbrev idle_node : Problem
+idle_node = original 28 [] (move 25 26 ∷ [])
+
+idle_node_is : IsRound idle_node
+    (round idle_node (Simplify 27 ∷ Coalesce 0 25 26 true ∷ Simplify 25 ∷ []) (Coalesced ∷ []) (25 ∷ 25 ∷ 27 ∷ [])
+    (Some 0 ∷ Some 0 ∷ Some 0 ∷ []) [])
+idle_node_is = is_round idle_node _ refl refl refl
+
+idle_node_goes_first : NeverTakes idle_node [] (Coalesce 0 25 26 true)
+idle_node_goes_first = too_early idle_node [] (Coalesce 0 25 26 true) (Simplify 27) (omega arith) refl
 
 -- Briggs's test counts the high neighbours of both ends: 24 let the move pass, and 25 don't.
 
@@ -300,12 +345,27 @@ further_moves_is = is_round further_moves _ refl refl refl
 registers_aren't_merged : NeverTakes further_moves [] (Coalesce 0 3 4 false)
 registers_aren't_merged = impossible further_moves [] (Coalesce 0 3 4 false) refl
 
+-- a move is settled once
+further_moves_aren't_same_again : NeverTakes further_moves (Constrain 0 ∷ Coalesce 1 25 26 true ∷ []) (Same 1)
+further_moves_aren't_same_again = impossible further_moves (Constrain 0 ∷ Coalesce 1 25 26 true ∷ []) (Same 1) refl
+
 further_moves_aren't_same : NeverTakes further_moves [] (Same 2)
 further_moves_aren't_same = impossible further_moves [] (Same 2) refl
 
 -- the whole class is tried before any of it is taken out
 further_moves_aren't_over : NeverTakes further_moves (Constrain 0 ∷ Coalesce 1 25 26 true ∷ []) (Simplify 25)
 further_moves_aren't_over = impossible further_moves (Constrain 0 ∷ Coalesce 1 25 26 true ∷ []) (Simplify 25) refl
+
+-- A round isn't over while a move is unsettled, though no temporary remains.
+
+abbrev registers_alone : Problem
+registers_alone = original 25 [] (move 3 4 ∷ [])
+
+registers_alone_is : IsRound registers_alone (round registers_alone (Constrain 0 ∷ []) (Constrained ∷ []) [] [] [])
+registers_alone_is = is_round registers_alone _ refl refl refl
+
+registers_alone_go_on : is_over registers_alone (start registers_alone) ≡ false
+registers_alone_go_on = refl
 
 -- A class that is merged into another takes its members along.
 
