@@ -15,6 +15,7 @@ pub mod Selecting
 pub mod ProperColouring
 pub mod Shrinking
 pub mod Running
+pub mod Degrees
 pub mod Examples
 pub mod SmallRounds
 pub mod LargerRounds

@@ -1,8 +1,8 @@
--- What holds of every round beside its steps (George and Appel 1996, section 4): a greedily colourable
--- graph loses nothing to memory, a move whose ends have two colours had to stay, nodes that interfere
--- have two colours, and a round ends.
-use Rattle.std.specs.Prelude.{◌≡◌, ◌≢◌, ◌+◌, ◌<◌, ◌⊎◌, ℕ, nat_lt, ◌==◌, Bool, true, false, IsTrue, IsFalse}
-use Rattle.std.specs.Prelude.{List, [], ◌∷◌, ◌++◌, length, All, Some, slice_get}
+-- What holds of every round beside its steps (George and Appel 1996, section 4): a greedily
+-- colourable graph loses nothing to memory, a move whose ends have two colours had to stay, nodes
+-- that interfere have two colours, and a round ends.
+use Rattle.std.specs.Prelude.{◌≡◌, ◌≢◌, ◌+◌, ◌<◌, ◌⊎◌, ℕ, nat_lt, ◌==◌}
+use Rattle.std.specs.Prelude.{Bool, true, false, IsTrue, IsFalse, List, [], ◌∷◌, ◌++◌, length, All, Some, slice_get}
 use Rattle.std.specs.List.{list_any}
 use Rattle.tg_rounds.specs.declared.moves.Move.{Move}
 use Rattle.tg_rounds.specs.declared.moves.MoveState.TheVariants.{Constrained, Frozen}
@@ -41,8 +41,8 @@ ColourableNeverSpills =
 
 -- Moves.
 
--- among these steps one froze the move when no Simplify was possible and every unsettled move failed
--- its test
+-- among these steps one froze the move when no Simplify was possible and every unsettled move
+-- failed its test
 pub record IsFrozenAtLast (g : Problem) (s : State) (steps : List Step) (i : ℕ) : Type 0 where
   pub earlier : List Step
   pub step : Step
@@ -175,8 +175,8 @@ NothingLeftIsOver =
 abbrev pub is_stacked : State → ℕ → Bool
 is_stacked s x = list_any (λ y. y == x) s.stack
 
--- A node that remains stands under itself, as a register always does; each node stands under one that
--- remains or was taken out; and only temporaries are taken out.
+-- A node that remains stands under itself, as a register always does; each node stands under one
+-- that remains or was taken out; and only temporaries are taken out.
 pub record HasClasses (g : Problem) (s : State) : Type 0 where
   pub remaining_is_own : (x : ℕ) → x < g.graph.nodes → IsTrue (s.remaining x) → s.alias x ≡ x
   pub register_remains :
@@ -232,7 +232,8 @@ StandsByMark =
     IsFalse (is_register x) →
     all_made g s x ≡ (mark_at g s x).made
 
--- The merged pairs are those of the start between classes: so colours may be chosen by either graph.
+-- The merged pairs are those of the start between classes: so colours may be chosen by either
+-- graph.
 pub record IsOfClasses (g : Problem) (s : State) : Type 0 where
   pub keeps :
       (y z : ℕ) →

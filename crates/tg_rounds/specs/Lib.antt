@@ -6,3 +6,4 @@ pub mod Selection
 pub mod Rounds
 pub mod Laws
 pub mod Waiting
+pub mod Degrees

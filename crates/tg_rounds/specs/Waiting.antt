@@ -1,5 +1,5 @@
--- Which waiting moves a step may let pass: why no other has to be tried again (George and Appel 1996,
--- EnableMoves).
+-- Which waiting moves a step may let pass: why no other has to be tried again (George and Appel
+-- 1996, EnableMoves).
 use Rattle.std.specs.Prelude.{◌≡◌, ℕ, ◌==◌, false, not, ◌&&◌, ◌||◌, IsTrue, IsFalse}
 use Rattle.tg_rounds.specs.declared.steps.Step.{Step}
 use Rattle.tg_rounds.specs.declared.steps.Step.TheVariants.{Simplify, Coalesce, Spill}

@@ -17,6 +17,7 @@ ghost use Rattle.tg_rounds.specs.Laws.{
   StandsByMark,
   PairsAreOfClasses,
 };
+ghost use Rattle.tg_rounds.specs.Degrees.{TakenOutIsLess, MergedIsLess, MergedIsMore};
 ghost use Rattle.tg_rounds.specs.Waiting.{WaitingFails, WokenAreDisturbed};
 
 /// The law that a round on a greedily colourable graph spills nothing (George and Appel 1996,
@@ -56,6 +57,13 @@ pub fn states_are_sound()
     ensures start_standing { StartStandsWell }
     ensures steps_standing { StepsKeepStanding }
     ensures by_mark { StandsByMark }
+{}
+
+/// The laws of how steps change the degrees of the nodes that remain.
+pub fn degrees_change()
+    ensures taken_out { TakenOutIsLess }
+    ensures merged { MergedIsLess }
+    ensures kept { MergedIsMore }
 {}
 
 /// The law that the merged pairs are those of the start between classes.
