@@ -1,0 +1,5 @@
+mod Reach
+mod Turned
+mod Operands
+mod Places
+mod Searched

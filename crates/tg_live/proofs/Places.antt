@@ -1,0 +1,144 @@
+-- The places of a code: where its instructions go on, and what they use.
+use Rattle.std.proofs.Common.{◌≡◌, ◌<◌, ◌≤◌, ◌+◌, ℕ, zero, suc, Bool, true, false, nat_eq, nat_lt, ◌&&◌, ◌||◌, cond, List, [], ◌∷◌, map, length, replicate, get_or, refl, sym, ap, ◌∙◌, subst, arith, ⊎_elim}
+use Rattle.std.specs.List.{list_any, list_all}
+use Rattle.std.proofs.lemmas.Bool.{cases_lt, lt-ltb, ltb-true, and_parts, and_from, false≢true, or_left, or_right, eq-eqb, or_cases, cases_Bool}
+use Rattle.std.proofs.lemmas.List.{get_or_past, length-replicate}
+use Rattle.tg_instr.specs.declared.instr.Instr.{Instr}
+use Rattle.tg_instr.specs.declared.instr.Instr.TheVariants.{Jump, Branch, Fault, Return}
+use Rattle.tg_instr.specs.declared.operands.Opnd.{Opnd}
+use Rattle.tg_instr.specs.Shapes.{shape}
+use Rattle.tg_instr.specs.Uses.{uses_of, defs_of}
+use Rattle.tg_instr.specs.Codes.{is_mark, leads_to_marks, is_end, ends_well, has_temps_below, is_below}
+use Rattle.tg_live.specs.Flow.{place_of, onward, onward_from, successors, goes_on}
+use Rattle.tg_live.specs.Live.{is_among, is_used, is_proper, number_of, operand_of}
+use Rattle.tg_live.specs.Tables.{Table, row, have_rows_below, IsBefore, numbers_of, numbers_used, add_from, AreSites}
+use Rattle.tg_live.proofs.Turned.{turned, length-add_from}
+use Rattle.tg_live.proofs.Operands.{number_among, among_proper, operand_number, among_all, number_below, numbers_below}
+
+length-onward_from : (all : List Instr) (at : ℕ) (list : List Instr) → length (onward_from all at list) ≡ length list
+length-onward_from all at [] = refl
+length-onward_from all at (one ∷ rest) = ap suc (length-onward_from all (suc at) rest)
+
+pub length-successors : (all : List Instr) → length (successors all) ≡ length all
+length-successors all = length-onward_from all 0 all
+
+-- only a place of the code goes on
+pub goes_within : (all : List Instr) (at next : ℕ) → goes_on all at next ≡ true → at < length all
+goes_within all at next g = ⊎_elim (λ l. l) past (cases_lt at (length all))
+  where
+    past : length all ≤ at → at < length all
+    past l =
+        let e : length (successors all) ≤ at = omega (arith, length-successors all) in
+        absurd (false≢true (sym (ap (list_any (nat_eq next)) (get_or_past (successors all) at [] e)) ∙ g))
+
+row_onward_from : (all : List Instr) (from : ℕ) (list : List Instr) (k at : ℕ) (d : Instr) → k < length list → at ≡ from + k →
+    row (onward_from all from list) k ≡ onward all at (shape (get_or list k d))
+row_onward_from all from [] k at d l e = absurd (omega arith)
+row_onward_from all from (one ∷ rest) zero at d l e =
+    let e0 : from ≡ at = omega arith in ap (λ n. onward all n (shape one)) e0
+row_onward_from all from (one ∷ rest) (suc k) at d l e = row_onward_from all (suc from) rest k at d (omega arith) (omega arith)
+
+-- where the instruction of a place goes on
+pub row_onward : (all : List Instr) (at : ℕ) (d : Instr) → at < length all → row (successors all) at ≡ onward all at (shape (get_or all at d))
+row_onward all at d l = row_onward_from all 0 all at at d l (omega arith)
+
+place_by : (b : Bool) (m : ℕ) (rest : List Instr) → (list_any (is_mark m) rest ≡ true → place_of m rest < length rest) →
+    (b || list_any (is_mark m) rest) ≡ true → cond b 0 (suc (place_of m rest)) < suc (length rest)
+place_by true m rest later h = omega arith
+place_by false m rest later h = let l = later h in omega arith
+
+pub place_within : (m : ℕ) (all : List Instr) → list_any (is_mark m) all ≡ true → place_of m all < length all
+place_within m [] h = absurd (false≢true h)
+place_within m (one ∷ rest) h = place_by (is_mark m one) m rest (λ e. place_within m rest e) h
+
+module _ (all : List Instr) where
+  end_below : (at : ℕ) (one : Instr) → is_end one ≡ true → leads_to_marks all one ≡ true → list_all (λ k. nat_lt k (length all)) (onward all at (shape one)) ≡ true
+  end_below at (Jump m) e h = and_from _ true (lt-ltb (place_of m all) (length all) (place_within m all h)) refl
+  end_below at (Fault n) e h = refl
+  end_below at Return e h = refl
+  end_below at _ e h = absurd (false≢true e)
+
+  onward_below : (at : ℕ) (one : Instr) → suc at < length all → leads_to_marks all one ≡ true → list_all (λ k. nat_lt k (length all)) (onward all at (shape one)) ≡ true
+  onward_below at (Jump m) l h = and_from _ true (lt-ltb (place_of m all) (length all) (place_within m all h)) refl
+  onward_below at (Branch test m) l h =
+      and_from _ _ (lt-ltb (place_of m all) (length all) (place_within m all h)) (and_from _ true (lt-ltb (suc at) (length all) l) refl)
+  onward_below at (Fault n) l h = refl
+  onward_below at Return l h = refl
+  onward_below at _ l h = and_from _ true (lt-ltb (suc at) (length all) l) refl
+
+  from_below : (at : ℕ) (list : List Instr) → at + length list ≡ length all → list_all (leads_to_marks all) list ≡ true → ends_well list ≡ true →
+      have_rows_below (length all) (onward_from all at list) ≡ true
+  from_below at [] e h w = absurd (false≢true w)
+  from_below at (one ∷ []) e h w =
+      let k = and_parts (leads_to_marks all one) true h in
+      and_from _ true (end_below at one w k.0) refl
+  from_below at (one ∷ two ∷ rest) e h w =
+      let k = and_parts (leads_to_marks all one) (list_all (leads_to_marks all) (two ∷ rest)) h in
+      let l : suc at < length all = omega arith in
+      and_from _ _ (onward_below at one l k.0) (from_below (suc at) (two ∷ rest) (omega arith) k.1 w)
+
+  pub successors_below : list_all (leads_to_marks all) all ≡ true → ends_well all ≡ true → have_rows_below (length all) (successors all) ≡ true
+  successors_below h w = from_below 0 all (omega arith) h w
+
+all_below : (n : ℕ) (ks : List ℕ) → ((p : ℕ) → list_any (nat_eq p) ks ≡ true → p < n) → list_all (λ k. nat_lt k n) ks ≡ true
+all_below n [] h = refl
+all_below n (k ∷ ks) h =
+    and_from _ _ (lt-ltb k n (h k (or_left (nat_eq k k) _ (eq-eqb k k refl)))) (all_below n ks (λ p e. h p (or_right (nat_eq p k) _ e)))
+
+rows_below : (n : ℕ) (t : Table) → ((q p : ℕ) → list_any (nat_eq p) (row t q) ≡ true → p < n) → have_rows_below n t ≡ true
+rows_below n [] h = refl
+rows_below n (ks ∷ t) h = and_from _ _ (all_below n ks (λ p e. h 0 p e)) (rows_below n t (λ q p e. h (suc q) p e))
+
+-- what stands before a place is a place of the code
+pub before_below : (all : List Instr) (before : Table) → IsBefore all before → have_rows_below (length all) before ≡ true
+before_below all before is = rows_below (length all) before (λ q p e. goes_within all p q (sym (is p q) ∙ e))
+
+pub row_below : (n : ℕ) (t : Table) (q : ℕ) → have_rows_below n t ≡ true → list_all (λ k. nat_lt k n) (row t q) ≡ true
+row_below n [] q h = refl
+row_below n (ks ∷ t) zero h = (and_parts (list_all (λ k. nat_lt k n) ks) (have_rows_below n t) h).0
+row_below n (ks ∷ t) (suc q) h = row_below n t q (and_parts (list_all (λ k. nat_lt k n) ks) (have_rows_below n t) h).1
+
+-- Uses.
+
+abbrev pub uses_are_proper : Instr → Bool
+uses_are_proper one = list_all is_proper (uses_of one)
+
+row_among : (i : ℕ) (all : List Instr) (at : ℕ) → list_all uses_are_proper all ≡ true →
+    list_any (nat_eq i) (row (numbers_used all) at) ≡ is_used all (operand_of i) at
+row_among i [] at p = refl
+row_among i (one ∷ all) zero p = number_among i (uses_of one) (and_parts (uses_are_proper one) (list_all uses_are_proper all) p).0
+row_among i (one ∷ all) (suc at) p = row_among i all at (and_parts (uses_are_proper one) (list_all uses_are_proper all) p).1
+
+used_proper : (x : Opnd) (all : List Instr) (at : ℕ) → list_all uses_are_proper all ≡ true → is_used all x at ≡ true → is_proper x ≡ true
+used_proper x [] at p u = absurd (false≢true u)
+used_proper x (one ∷ all) zero p u = among_proper x (uses_of one) (and_parts (uses_are_proper one) (list_all uses_are_proper all) p).0 u
+used_proper x (one ∷ all) (suc at) p u = used_proper x all at (and_parts (uses_are_proper one) (list_all uses_are_proper all) p).1 u
+
+used_below : (n : ℕ) (x : Opnd) (all : List Instr) (at : ℕ) → list_all (has_temps_below n) all ≡ true → is_used all x at ≡ true → is_below n x ≡ true
+used_below n x [] at b u = absurd (false≢true u)
+used_below n x (one ∷ all) zero b u =
+    let h = and_parts (has_temps_below n one) (list_all (has_temps_below n) all) b in
+    let k = and_parts (list_all (is_below n) (uses_of one)) (list_all (is_below n) (defs_of one)) h.0 in
+    among_all (is_below n) x (uses_of one) k.0 u
+used_below n x (one ∷ all) (suc at) b u = used_below n x all at (and_parts (has_temps_below n one) (list_all (has_temps_below n) all) b).1 u
+
+pub numbers_used_below : (n : ℕ) (all : List Instr) → list_all uses_are_proper all ≡ true → list_all (has_temps_below n) all ≡ true →
+    have_rows_below (32 + n) (numbers_used all) ≡ true
+numbers_used_below n [] p b = refl
+numbers_used_below n (one ∷ all) p b =
+    let q = and_parts (uses_are_proper one) (list_all uses_are_proper all) p in
+    let h = and_parts (has_temps_below n one) (list_all (has_temps_below n) all) b in
+    let k = and_parts (list_all (is_below n) (uses_of one)) (list_all (is_below n) (defs_of one)) h.0 in
+    and_from _ _ (numbers_below n (uses_of one) q.0 k.0) (numbers_used_below n all q.1 h.1)
+
+-- the table of the uses of a code
+pub sites_of : (n : ℕ) (all : List Instr) → list_all uses_are_proper all ≡ true → list_all (has_temps_below n) all ≡ true →
+    AreSites all (add_from 0 (numbers_used all) (replicate (32 + n) []))
+sites_of n all p b = record {
+  within = λ x at u.
+      let q = used_proper x all at p u in
+      let e = length-add_from 0 (numbers_used all) (replicate (32 + n) []) ∙ length-replicate (32 + n) [] in
+      let l = number_below n x q (used_below n x all at b u) in
+      (subst (λ (m : ℕ). number_of x < m) (sym e) l, operand_number x q);
+  same = λ i at. turned (numbers_used all) (32 + n) (numbers_used_below n all p b) at i ∙ row_among i all at p;
+}

@@ -1,0 +1,4 @@
+pub mod Flow
+pub mod Live
+pub mod Tables
+pub mod Search
