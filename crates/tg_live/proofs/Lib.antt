@@ -1,5 +1,7 @@
 mod Reach
 mod Turned
-mod Operands
+mod Numbers
 mod Places
+mod Marked
 mod Searched
+mod Gathered

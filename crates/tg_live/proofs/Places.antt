@@ -1,19 +1,21 @@
 -- The places of a code: where its instructions go on, and what they use.
-use Rattle.std.proofs.Common.{◌≡◌, ◌<◌, ◌≤◌, ◌+◌, ℕ, zero, suc, Bool, true, false, nat_eq, nat_lt, ◌&&◌, ◌||◌, cond, List, [], ◌∷◌, map, length, replicate, get_or, refl, sym, ap, ◌∙◌, subst, arith, ⊎_elim}
+use Rattle.std.proofs.Common.{◌≡◌, ◌<◌, ◌≤◌, ◌+◌, ℕ, zero, suc, Bool, true, false, nat_eq, nat_lt, ◌&&◌, ◌||◌, cond, List, [], ◌∷◌, map, length, replicate, get_or, take, drop, refl, sym, ap, ◌∙◌, subst, arith, ⊎_elim}
 use Rattle.std.specs.List.{list_any, list_all}
 use Rattle.std.proofs.lemmas.Bool.{cases_lt, lt-ltb, ltb-true, and_parts, and_from, false≢true, or_left, or_right, eq-eqb, or_cases, cases_Bool}
-use Rattle.std.proofs.lemmas.List.{get_or_past, length-replicate}
+use Rattle.std.proofs.lemmas.List.{get_or_past, length-replicate, get_or-map, drop_more}
+use Rattle.std.proofs.lemmas.List.Folds.{list_all_more}
 use Rattle.tg_instr.specs.declared.instr.Instr.{Instr}
+use Rattle.tg_instr.specs.declared.instr.Test.{Test}
 use Rattle.tg_instr.specs.declared.instr.Instr.TheVariants.{Jump, Branch, Fault, Return}
 use Rattle.tg_instr.specs.declared.operands.Opnd.{Opnd}
 use Rattle.tg_instr.specs.Shapes.{shape}
 use Rattle.tg_instr.specs.Uses.{uses_of, defs_of}
 use Rattle.tg_instr.specs.Codes.{is_mark, leads_to_marks, is_end, ends_well, has_temps_below, is_below}
 use Rattle.tg_live.specs.Flow.{place_of, onward, onward_from, successors, goes_on}
-use Rattle.tg_live.specs.Live.{is_among, is_used, is_proper, number_of, operand_of}
-use Rattle.tg_live.specs.Tables.{Table, row, have_rows_below, IsBefore, numbers_of, numbers_used, add_from, AreSites}
+use Rattle.tg_live.specs.Live.{is_among, is_used, uses_at, is_proper, number_of, operand_of}
+use Rattle.tg_live.specs.Tables.{Table, row, push_at, add_to, have_rows_below, IsBefore, numbers_of, numbers_used, add_from, AreSites}
 use Rattle.tg_live.proofs.Turned.{turned, length-add_from}
-use Rattle.tg_live.proofs.Operands.{number_among, among_proper, operand_number, among_all, number_below, numbers_below}
+use Rattle.tg_live.proofs.Numbers.{number_among, among_proper, operand_number, among_all, number_below, numbers_below}
 
 length-onward_from : (all : List Instr) (at : ℕ) (list : List Instr) → length (onward_from all at list) ≡ length list
 length-onward_from all at [] = refl
@@ -80,6 +82,52 @@ module _ (all : List Instr) where
   pub successors_below : list_all (leads_to_marks all) all ≡ true → ends_well all ≡ true → have_rows_below (length all) (successors all) ≡ true
   successors_below h w = from_below 0 all (omega arith) h w
 
+pub all_at : {A : Type 0} (p : A → Bool) (list : List A) (k : ℕ) (d : A) → k < length list → list_all p list ≡ true → p (get_or list k d) ≡ true
+all_at p [] k d l h = absurd (omega arith)
+all_at p (y ∷ list) zero d l h = (and_parts (p y) (list_all p list) h).0
+all_at p (y ∷ list) (suc k) d l h = all_at p list k d (omega arith) (and_parts (p y) (list_all p list) h).1
+
+pub row_below : (n : ℕ) (t : Table) (q : ℕ) → have_rows_below n t ≡ true → list_all (λ k. nat_lt k n) (row t q) ≡ true
+row_below n [] q h = refl
+row_below n (ks ∷ t) zero h = (and_parts (list_all (λ k. nat_lt k n) ks) (have_rows_below n t) h).0
+row_below n (ks ∷ t) (suc q) h = row_below n t q (and_parts (list_all (λ k. nat_lt k n) ks) (have_rows_below n t) h).1
+
+-- an instruction's edges
+pub edge_row : (all : List Instr) (at : ℕ) (one i : Instr) → at < length all → one ≡ get_or all at one → one ≡ i →
+    row (successors all) at ≡ onward all at (shape i)
+edge_row all at one i l e is = row_onward all at one l ∙ ap (λ k. onward all at (shape k)) (sym e ∙ is)
+
+pub next_row : (all : List Instr) (at : ℕ) (one : Instr) → at < length all → one ≡ get_or all at one →
+    ((m : ℕ) → one ≡ Jump m → ⊥) → ((test : Test) (m : ℕ) → one ≡ Branch test m → ⊥) → ((n : ℕ) → one ≡ Fault n → ⊥) → (one ≡ Return → ⊥) →
+    row (successors all) at ≡ suc at ∷ []
+next_row all at one l e j b f r = edge_row all at one one l e refl ∙ next one j b f r
+  where
+    next : (i : Instr) → ((m : ℕ) → i ≡ Jump m → ⊥) → ((test : Test) (m : ℕ) → i ≡ Branch test m → ⊥) → ((n : ℕ) → i ≡ Fault n → ⊥) → (i ≡ Return → ⊥) →
+        onward all at (shape i) ≡ suc at ∷ []
+    next (Jump m) j b f r = absurd (j m refl)
+    next (Branch test m) j b f r = absurd (b test m refl)
+    next (Fault n) j b f r = absurd (f n refl)
+    next Return j b f r = absurd (r refl)
+    next _ j b f r = refl
+
+-- the rows to which the edges of a place are added are rows of the table
+pub first_within : (n : ℕ) (lists : List (List ℕ)) (at k : ℕ) (ks : List ℕ) → have_rows_below n lists ≡ true → row lists at ≡ k ∷ ks → k < n
+first_within n lists at k ks h e =
+    let w = row_below n lists at h in
+    let v = subst (λ (u : List ℕ). list_all (λ j. nat_lt j n) u ≡ true) e w in
+    ltb-true k n (and_parts (nat_lt k n) (list_all (λ j. nat_lt j n) ks) v).0
+
+pub second_within : (n : ℕ) (lists : List (List ℕ)) (at j k : ℕ) (ks : List ℕ) → have_rows_below n lists ≡ true → row lists at ≡ j ∷ k ∷ ks → k < n
+second_within n lists at j k ks h e =
+    let w = row_below n lists at h in
+    let v = subst (λ (u : List ℕ). list_all (λ j. nat_lt j n) u ≡ true) e w in
+    let u = (and_parts (nat_lt j n) (nat_lt k n && list_all (λ j. nat_lt j n) ks) v).1 in
+    ltb-true k n (and_parts (nat_lt k n) (list_all (λ j. nat_lt j n) ks) u).0
+
+-- where an instruction leads there is a mark
+pub marks_at : (all : List Instr) (at : ℕ) (one : Instr) → at < length all → one ≡ get_or all at one → list_all (leads_to_marks all) all ≡ true → leads_to_marks all one ≡ true
+marks_at all at one l e h = ap (leads_to_marks all) e ∙ all_at (leads_to_marks all) all at one l h
+
 all_below : (n : ℕ) (ks : List ℕ) → ((p : ℕ) → list_any (nat_eq p) ks ≡ true → p < n) → list_all (λ k. nat_lt k n) ks ≡ true
 all_below n [] h = refl
 all_below n (k ∷ ks) h =
@@ -92,11 +140,6 @@ rows_below n (ks ∷ t) h = and_from _ _ (all_below n ks (λ p e. h 0 p e)) (row
 -- what stands before a place is a place of the code
 pub before_below : (all : List Instr) (before : Table) → IsBefore all before → have_rows_below (length all) before ≡ true
 before_below all before is = rows_below (length all) before (λ q p e. goes_within all p q (sym (is p q) ∙ e))
-
-pub row_below : (n : ℕ) (t : Table) (q : ℕ) → have_rows_below n t ≡ true → list_all (λ k. nat_lt k n) (row t q) ≡ true
-row_below n [] q h = refl
-row_below n (ks ∷ t) zero h = (and_parts (list_all (λ k. nat_lt k n) ks) (have_rows_below n t) h).0
-row_below n (ks ∷ t) (suc q) h = row_below n t q (and_parts (list_all (λ k. nat_lt k n) ks) (have_rows_below n t) h).1
 
 -- Uses.
 
@@ -142,3 +185,29 @@ sites_of n all p b = record {
       (subst (λ (m : ℕ). number_of x < m) (sym e) l, operand_number x q);
   same = λ i at. turned (numbers_used all) (32 + n) (numbers_used_below n all p b) at i ∙ row_among i all at p;
 }
+
+-- the uses of a place
+pub uses_at_is : (all : List Instr) (at : ℕ) (d : Instr) → at < length all → uses_at all at ≡ uses_of (get_or all at d)
+uses_at_is all at d l = get_or-map uses_of all at d [] l
+
+pub numbers_at : (all : List Instr) (at : ℕ) (d : Instr) → at < length all → row (numbers_used all) at ≡ numbers_of (uses_of (get_or all at d))
+numbers_at all at d l = get_or-map (λ one. numbers_of (uses_of one)) all at d [] l
+
+pub uses_below : (n : ℕ) (all : List Instr) (at : ℕ) (d : Instr) → at < length all → list_all (has_temps_below n) all ≡ true → list_all (is_below n) (uses_of (get_or all at d)) ≡ true
+uses_below n all at d l h =
+    (and_parts (list_all (is_below n) (uses_of (get_or all at d))) (list_all (is_below n) (defs_of (get_or all at d))) (all_at (has_temps_below n) all at d l h)).0
+
+pub uses_proper_more : (all : List Instr) (at : ℕ) (d : Instr) → at < length all → list_all uses_are_proper (take at all) ≡ true → list_all is_proper (uses_at all at) ≡ true →
+    list_all uses_are_proper (take (at + 1) all) ≡ true
+uses_proper_more all at d l h p =
+    list_all_more uses_are_proper all at d l ∙ and_from _ _ h (ap (list_all is_proper) (sym (uses_at_is all at d l)) ∙ p)
+
+pub proper_more : (list : List Opnd) (i : ℕ) (y : Opnd) → i < length list → y ≡ get_or list i y → list_all is_proper (take i list) ≡ true → is_proper y ≡ true →
+    list_all is_proper (take (i + 1) list) ≡ true
+proper_more list i y l e h p = list_all_more is_proper list i y l ∙ and_from _ _ h (ap is_proper (sym e) ∙ p)
+
+pub add_uses_more : (at : ℕ) (list : List Opnd) (i : ℕ) (y : Opnd) (t : Table) → i < length list → y ≡ get_or list i y →
+    add_to at (numbers_of (drop i list)) t ≡ add_to at (numbers_of (drop (i + 1) list)) (push_at t (number_of y) at)
+add_uses_more at list i y t l e =
+    ap (λ rest. add_to at (numbers_of rest) t) (drop_more list i y l)
+    ∙ ap (λ z. add_to at (numbers_of (z ∷ drop (i + 1) list)) t) (sym e)

@@ -11,7 +11,7 @@ use Rattle.tg_live.specs.Tables.{Table, row, push_at, IsBefore}
 use Rattle.tg_live.specs.Search.{Found, found, ends_in, enter, enter_all, enter_before, visit, AreSearched}
 use Rattle.tg_live.proofs.Reach.{live_before_use, live_before, least}
 use Rattle.tg_live.proofs.Turned.{has_push, row_same, row_other, length-push_at}
-use Rattle.tg_live.proofs.Operands.{ends_push}
+use Rattle.tg_live.proofs.Numbers.{ends_push}
 use Rattle.tg_live.proofs.Places.{goes_within}
 
 abbrev has : ℕ → List ℕ → Bool
@@ -203,6 +203,13 @@ module _ (all : List Instr) (x : Opnd) where
             (λ r. rest.marked q r) (or_cases (nat_eq q at) (has q rows) h);
       }
 
+  -- between two places that are visited
+  pub record IsSearching (old : Sets) (f : Found) (done : ℕ) : Type 0 where
+    pub is_found : IsFound old f
+    pub uses : (p : ℕ) → is_used all x p ≡ true → (q : ℕ) → goes_on all q p ≡ true → marks f q ≡ true
+    pub closed : (k : ℕ) → k < done → is_defined all x (get_or f.places k 0) ≡ false → (q : ℕ) → goes_on all q (get_or f.places k 0) ≡ true → marks f q ≡ true
+    pub within : done ≤ length f.places
+
   module _ (before : Table) (is_before : IsBefore all before) (old : Sets) (size : length old ≡ length all) where
     -- places before a place that the operand is live into
     row_fits : (p : ℕ) → ((q : ℕ) → goes_on all q p ≡ true → IsLiveOut all q x) → (q : ℕ) → has q (row before p) ≡ true → (q < length old) × IsLiveOut all q x
@@ -233,13 +240,6 @@ module _ (all : List Instr) (x : Opnd) where
               (λ k. rest.marked r k q go) (or_cases (nat_eq r p) (has r places) h);
         }
 
-    -- between two places that are visited
-    pub record IsSearching (f : Found) (done : ℕ) : Type 0 where
-      pub is_found : IsFound old f
-      pub uses : (p : ℕ) → is_used all x p ≡ true → (q : ℕ) → goes_on all q p ≡ true → marks f q ≡ true
-      pub closed : (k : ℕ) → k < done → is_defined all x (get_or f.places k 0) ≡ false → (q : ℕ) → goes_on all q (get_or f.places k 0) ≡ true → marks f q ≡ true
-      pub within : done ≤ length f.places
-
     -- the sets at the start, none of which ends in the operand
     pub fresh : ((q : ℕ) → ends_in x (set_at old q) ≡ false) → IsFound old (found old [])
     fresh none = record {
@@ -250,7 +250,7 @@ module _ (all : List Instr) (x : Opnd) where
     }
 
     pub begins : (sites : List ℕ) → ((q : ℕ) → ends_in x (set_at old q) ≡ false) → ((p : ℕ) → has p sites ≡ is_used all x p) →
-        IsSearching (enter_before x before sites (found old [])) 0
+        IsSearching old (enter_before x before sites (found old [])) 0
     begins sites none same =
         let b = are_before sites (found old []) (fresh none) (λ p h. sym (same p) ∙ h) in
         record {
@@ -279,8 +279,8 @@ module _ (all : List Instr) (x : Opnd) where
           marked = λ d q go. all_in.marked q (is_before q at ∙ go);
         }
 
-    pub goes_further : (f : Found) (done : ℕ) → IsSearching f done → done < length f.places →
-        IsSearching (visit all x before (get_or f.places done 0) f) (done + 1)
+    pub goes_further : (f : Found) (done : ℕ) → IsSearching old f done → done < length f.places →
+        IsSearching old (visit all x before (get_or f.places done 0) f) (done + 1)
     goes_further f done s l =
         let at = get_or f.places done 0 in
         let m : marks f at ≡ true = s.is_found.listed at ∙ has_at f.places done l in
@@ -299,7 +299,7 @@ module _ (all : List Instr) (x : Opnd) where
           within = let h = (v.extends.kept done l).0 in omega (arith, h);
         }
 
-    ends_by : (f : Found) (done : ℕ) → IsSearching f done → length f.places ≤ done → (q : ℕ) (b : Bool) → marks f q ≡ b →
+    ends_by : (f : Found) (done : ℕ) → IsSearching old f done → length f.places ≤ done → (q : ℕ) (b : Bool) → marks f q ≡ b →
         ((set_at f.sets q ≡ set_at old q ++ x ∷ []) × IsLiveOut all q x) ⊎ ((set_at f.sets q ≡ set_at old q) × (IsLiveOut all q x → ⊥))
     ends_by f done s l q true e =
         inl (s.is_found.grown q ∙ ap (λ b. cond b (set_at old q ++ x ∷ []) (set_at old q)) e, s.is_found.live q e)
@@ -313,5 +313,5 @@ module _ (all : List Instr) (x : Opnd) where
         (s.is_found.grown q ∙ ap (λ b. cond b (set_at old q ++ x ∷ []) (set_at old q)) e,
         λ live. both_ways _ e (least all x (marks f) (λ at next go u. s.uses next u at go) before_own q live))
 
-    pub ends : (f : Found) (done : ℕ) → IsSearching f done → length f.places ≤ done → AreSearched all x old f.sets
+    pub ends : (f : Found) (done : ℕ) → IsSearching old f done → length f.places ≤ done → AreSearched all x old f.sets
     ends f done s l = record { size = s.is_found.size; each = λ q. ends_by f done s l q (marks f q) refl }

@@ -1,5 +1,5 @@
 -- A list of lists turned round into a table, and the sets of pairs that both stand for.
-use Rattle.std.proofs.Common.{◌≡◌, ◌<◌, ◌≤◌, ◌+◌, ℕ, zero, suc, Bool, true, false, nat_eq, nat_lt, ◌&&◌, ◌||◌, List, [], ◌∷◌, ◌++◌, map, length, replicate, set, get_or, refl, sym, ap, ◌∙◌, subst, arith, ⊎_elim, inl, inr}
+use Rattle.std.proofs.Common.{◌≡◌, ◌<◌, ◌≤◌, ◌+◌, ℕ, zero, suc, Bool, true, false, nat_eq, nat_lt, ◌&&◌, ◌||◌, List, [], ◌∷◌, ◌++◌, map, length, replicate, set, drop, get_or, refl, sym, ap, ◌∙◌, subst, arith, ⊎_elim, inl, inr}
 use Rattle.std.specs.List.{list_any, list_all}
 use Rattle.std.specs.Ordering.{nat_cmp, eq_by_cmp, is_eq, ordering_then, on}
 use Rattle.std.specs.declared.cmp.Ordering.{Ordering}
@@ -9,7 +9,7 @@ use Rattle.std.specs.FinSet.{contains, from_list, contains-from_list, same_set, 
 use Rattle.std.proofs.lemmas.Cmp.{then_total}
 use Rattle.std.proofs.lemmas.Bool.{eq-eqb, ne_eqb, cases_eq, and_parts, ltb-true}
 use Rattle.std.proofs.lemmas.Bool.Decides.{eqb_tells}
-use Rattle.std.proofs.lemmas.List.{length-replicate, length-set, get_or-set_same, get_or-set_other}
+use Rattle.std.proofs.lemmas.List.{drop_more, map-set, get_or-map, length-replicate, length-set, get_or-set_same, get_or-set_other}
 use Rattle.std.proofs.lemmas.List.Folds.{list_any-append}
 use Rattle.tg_instr.specs.declared.instr.Instr.{Instr}
 use Rattle.tg_live.specs.Flow.{pair_cmp, Edges, successors, goes_on, edges_from, flow_of}
@@ -91,6 +91,19 @@ row_add v (n ∷ rows) t w p q =
     ∙ (ap (λ b. (nat_eq p v && has q rows) || b) (row_push t n v (ltb-true n (length t) h.0) p q)
     ∙ shuffle_add (nat_eq p v) (has q rows) (nat_eq q n) (has p (row t q)))
 
+pub add_from_more : (lists : List (List ℕ)) (at : ℕ) (t : Table) → at < length lists →
+    add_from at (drop at lists) t ≡ add_from (at + 1) (drop (at + 1) lists) (add_to at (row lists at) t)
+add_from_more lists at t l =
+    let e : suc at ≡ at + 1 = omega arith in
+    ap (λ rest. add_from at rest t) (drop_more lists at [] l)
+    ∙ ap (λ n. add_from n (drop (at + 1) lists) (add_to at (row lists at) t)) e
+
+pub push_row : {A T : Type 0} (f : A → List T) (rows : List A) (at : ℕ) (old new : A) (item : T) → at < length rows →
+    old ≡ get_or rows at old → f new ≡ f old ++ item ∷ [] → map f (set rows at new) ≡ push_at (map f rows) at item
+push_row f rows at old new item l is e =
+    map-set f rows at new
+    ∙ ap (λ u. set (map f rows) at u) (e ∙ ap (λ u. u ++ item ∷ []) (ap f is ∙ sym (get_or-map f rows at old [] l)))
+
 -- one of the lists, the first of which stands at a place, stands at p and has q
 holds : (at : ℕ) → List (List ℕ) → (p q : ℕ) → Bool
 holds at [] p q = false
@@ -127,7 +140,7 @@ holds_at at (list ∷ rest) zero p q e =
 holds_at at (list ∷ rest) (suc k) p q e =
     ap (λ b. (b && has q list) || holds (suc at) rest p q) (ne_eqb p at (omega arith)) ∙ holds_at (suc at) rest k p q (omega arith)
 
-row_none : {A : Type 0} (n q : ℕ) → row (replicate n (let e : List A = [] in e)) q ≡ []
+pub row_none : {A : Type 0} (n q : ℕ) → row (replicate n (let e : List A = [] in e)) q ≡ []
 row_none zero q = refl
 row_none (suc n) zero = refl
 row_none (suc n) (suc q) = row_none n q

@@ -2,3 +2,4 @@ pub mod Flow
 pub mod Live
 pub mod Tables
 pub mod Search
+pub mod Marks

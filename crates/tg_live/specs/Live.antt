@@ -12,11 +12,18 @@ use Rattle.tg_live.specs.Flow.{goes_on}
 abbrev pub is_among : Opnd → List Opnd → Bool
 is_among x list = list_any (is_same x) list
 
+-- what the instruction of a place uses and defines
+abbrev pub uses_at : List Instr → (at : ℕ) → List Opnd
+uses_at all at = slice_index_or (map uses_of all) at []
+
+abbrev pub defs_at : List Instr → (at : ℕ) → List Opnd
+defs_at all at = slice_index_or (map defs_of all) at []
+
 abbrev pub is_used : List Instr → Opnd → (at : ℕ) → Bool
-is_used all x at = is_among x (slice_index_or (map uses_of all) at [])
+is_used all x at = is_among x (uses_at all at)
 
 abbrev pub is_defined : List Instr → Opnd → (at : ℕ) → Bool
-is_defined all x at = is_among x (slice_index_or (map defs_of all) at [])
+is_defined all x at = is_among x (defs_at all at)
 
 -- from a place, whose instruction is still to be run, these places lead along the flow to a use of
 -- the operand, past no definition of it

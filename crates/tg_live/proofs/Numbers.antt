@@ -1,7 +1,8 @@
 -- Operands and their numbers.
-use Rattle.std.proofs.Common.{◌≡◌, ◌<◌, ◌≤◌, ◌+◌, ◌-◌, ℕ, suc, Bool, true, false, nat_eq, nat_lt, ◌&&◌, ◌||◌, cond, List, [], ◌∷◌, ◌++◌, refl, sym, ap, ◌∙◌, subst, arith, ⊎_elim}
+use Rattle.std.proofs.Common.{◌≡◌, ◌<◌, ◌≤◌, ◌+◌, ◌-◌, ℕ, suc, Bool, true, false, nat_eq, nat_lt, ◌&&◌, ◌||◌, cond, List, [], ◌∷◌, ◌++◌, Some, length, get_or, drop, slice_get, refl, sym, ap, ◌∙◌, subst, arith, ⊎_elim}
 use Rattle.std.specs.List.{list_any, list_all}
 use Rattle.std.proofs.lemmas.Bool.{eqb-true, eq-eqb, ne_eqb, cases_eq, cases_lt, lt-ltb, le-ltb, ltb-true, and_parts, and_from, or_cases, or_left, or_right, false_from_ne_true, false≢true, both_ways}
+use Rattle.std.proofs.lemmas.List.{drop_more}
 use Rattle.tg_instr.specs.declared.operands.Opnd.{Opnd}
 use Rattle.tg_instr.specs.declared.operands.Opnd.TheVariants.{Temp as TempOf, Reg}
 use Rattle.tg_instr.specs.Operands.{is_same}
@@ -79,6 +80,18 @@ numbers_below n (y ∷ list) p b =
     let h = and_parts (is_proper y) (list_all is_proper list) p in
     let k = and_parts (is_below n y) (list_all (is_below n) list) b in
     and_from _ _ (lt-ltb (number_of y) (32 + n) (number_below n y h.0 k.0)) (numbers_below n list h.1 k.1)
+
+pub ends_last : (x : Opnd) (list : List Opnd) (y : Opnd) → Some y ≡ slice_get list (length list - 1) → ends_in x list ≡ is_same x y
+ends_last x [] y e = absurd (cc)
+ends_last x (z ∷ []) y e = let same : z ≡ y = cc in ap (is_same x) same
+ends_last x (z ∷ u ∷ rest) y e =
+    let n : suc (suc (length rest)) - 1 ≡ suc (suc (length rest) - 1) = omega arith in
+    ends_last x (u ∷ rest) y (e ∙ ap (slice_get (z ∷ u ∷ rest)) n)
+
+pub among_more : (x : Opnd) (list : List Opnd) (i : ℕ) (y : Opnd) → i < length list → y ≡ get_or list i y →
+    is_among x (drop i list) ≡ (is_same x y || is_among x (drop (i + 1) list))
+among_more x list i y l e =
+    ap (is_among x) (drop_more list i y l) ∙ ap (λ z. is_same x z || is_among x (drop (i + 1) list)) (sym e)
 
 -- Lists with one more at the end.
 
