@@ -2,7 +2,7 @@
 use Rattle.std.proofs.Common.{◌≡◌, ◌<◌, ◌≤◌, ◌+◌, ℕ, zero, suc, Bool, true, false, nat_eq, nat_lt, ◌&&◌, ◌||◌, cond, List, [], ◌∷◌, map, length, replicate, get_or, take, drop, refl, sym, ap, ◌∙◌, subst, arith, ⊎_elim}
 use Rattle.std.specs.List.{list_any, list_all}
 use Rattle.std.proofs.lemmas.Bool.{cases_lt, lt-ltb, ltb-true, and_parts, and_from, false≢true, or_left, or_right, eq-eqb, or_cases, cases_Bool}
-use Rattle.std.proofs.lemmas.List.{get_or_past, length-replicate, get_or-map, drop_more}
+use Rattle.std.proofs.lemmas.List.{get_or_past, length-map, length-replicate, get_or-map, drop_more}
 use Rattle.std.proofs.lemmas.List.Folds.{list_all_more}
 use Rattle.tg_instr.specs.declared.instr.Instr.{Instr}
 use Rattle.tg_instr.specs.declared.instr.Test.{Test}
@@ -211,3 +211,10 @@ pub add_uses_more : (at : ℕ) (list : List Opnd) (i : ℕ) (y : Opnd) (t : Tabl
 add_uses_more at list i y t l e =
     ap (λ rest. add_to at (numbers_of rest) t) (drop_more list i y l)
     ∙ ap (λ z. add_to at (numbers_of (z ∷ drop (i + 1) list)) t) (sym e)
+
+pub length-numbers_used : (all : List Instr) → length (numbers_used all) ≡ length all
+length-numbers_used all = length-map all (λ one. numbers_of (uses_of one))
+
+-- the table of the edges of a code
+pub before_of : (all : List Instr) (t : Table) → have_rows_below (length all) (successors all) ≡ true → t ≡ add_from 0 (successors all) (replicate (length all) []) → IsBefore all t
+before_of all t w e at next = ap (λ u. list_any (nat_eq at) (row u next)) e ∙ turned (successors all) (length all) w at next

@@ -1,8 +1,8 @@
 -- What the search for the places of one operand keeps, and what it ends with.
-use Rattle.std.proofs.Common.{◌≡◌, ◌<◌, ◌≤◌, ◌+◌, ◌⊎◌, ℕ, zero, suc, Bool, true, false, nat_eq, nat_lt, ◌&&◌, ◌||◌, cond, List, [], ◌∷◌, ◌++◌, length, get_or, refl, sym, ap, ◌∙◌, subst, arith, ⊎_elim, inl, inr}
+use Rattle.std.proofs.Common.{◌≡◌, ◌<◌, ◌≤◌, ◌+◌, ◌⊎◌, ℕ, zero, suc, Bool, true, false, nat_eq, nat_lt, ◌&&◌, ◌||◌, cond, List, [], ◌∷◌, ◌++◌, length, get_or, drop, refl, sym, ap, ◌∙◌, subst, arith, ⊎_elim, inl, inr}
 use Rattle.std.specs.List.{list_any, list_all}
 use Rattle.std.proofs.lemmas.Bool.{cases_eq, cases_lt, cases_Bool, and_parts, false≢true, or_left, or_right, or_cases, eq-eqb, ne_eqb, eqb-true, ltb-true, both_ways}
-use Rattle.std.proofs.lemmas.List.{length_push, get_or_append_left}
+use Rattle.std.proofs.lemmas.List.{drop_more, length_push, get_or_append_left}
 use Rattle.tg_instr.specs.declared.instr.Instr.{Instr}
 use Rattle.tg_instr.specs.declared.operands.Opnd.{Opnd}
 use Rattle.tg_live.specs.Flow.{goes_on}
@@ -315,3 +315,14 @@ module _ (all : List Instr) (x : Opnd) where
 
     pub ends : (f : Found) (done : ℕ) → IsSearching old f done → length f.places ≤ done → AreSearched all x old f.sets
     ends f done s l = record { size = s.is_found.size; each = λ q. ends_by f done s l q (marks f q) refl }
+
+-- the place that is visited next is one of the code
+pub place_within : (all : List Instr) (x : Opnd) (old : Sets) (f : Found) (done : ℕ) → IsSearching all x old f done → done < length f.places →
+    get_or f.places done 0 < length all
+place_within all x old f done s l =
+    let live = s.is_found.live (get_or f.places done 0) (s.is_found.listed (get_or f.places done 0) ∙ has_at f.places done l) in
+    goes_within all (get_or f.places done 0) live.next live.goes
+
+pub enter_before_more : (x : Opnd) (before : Table) (places : List ℕ) (i : ℕ) (f : Found) → i < length places →
+    enter_before x before (drop i places) f ≡ enter_before x before (drop (i + 1) places) (enter_all x (row before (get_or places i 0)) f)
+enter_before_more x before places i f l = ap (λ rest. enter_before x before rest f) (drop_more places i 0 l)

@@ -9,7 +9,7 @@ use Rattle.std.specs.FinSet.{contains, from_list, contains-from_list, same_set, 
 use Rattle.std.proofs.lemmas.Cmp.{then_total}
 use Rattle.std.proofs.lemmas.Bool.{eq-eqb, ne_eqb, cases_eq, and_parts, ltb-true}
 use Rattle.std.proofs.lemmas.Bool.Decides.{eqb_tells}
-use Rattle.std.proofs.lemmas.List.{drop_more, map-set, get_or-map, length-replicate, length-set, get_or-set_same, get_or-set_other}
+use Rattle.std.proofs.lemmas.List.{drop_more, length-map, map-set, get_or-map, length-replicate, length-set, get_or-set_same, get_or-set_other}
 use Rattle.std.proofs.lemmas.List.Folds.{list_any-append}
 use Rattle.tg_instr.specs.declared.instr.Instr.{Instr}
 use Rattle.tg_live.specs.Flow.{pair_cmp, Edges, successors, goes_on, edges_from, flow_of}
@@ -98,11 +98,13 @@ add_from_more lists at t l =
     ap (λ rest. add_from at rest t) (drop_more lists at [] l)
     ∙ ap (λ n. add_from n (drop (at + 1) lists) (add_to at (row lists at) t)) e
 
-pub push_row : {A T : Type 0} (f : A → List T) (rows : List A) (at : ℕ) (old new : A) (item : T) → at < length rows →
-    old ≡ get_or rows at old → f new ≡ f old ++ item ∷ [] → map f (set rows at new) ≡ push_at (map f rows) at item
-push_row f rows at old new item l is e =
+pub push_row : {A T : Type 0} (f : A → List T) (rows : List A) (t : List (List T)) (at : ℕ) (old new : A) (item : T) →
+    map f rows ≡ t → at < length t → old ≡ get_or rows at old → f new ≡ f old ++ item ∷ [] → map f (set rows at new) ≡ push_at t at item
+push_row f rows t at old new item view w is e =
+    let l : at < length rows = omega (arith, w, ap (λ u. length u) view, length-map rows f) in
     map-set f rows at new
-    ∙ ap (λ u. set (map f rows) at u) (e ∙ ap (λ u. u ++ item ∷ []) (ap f is ∙ sym (get_or-map f rows at old [] l)))
+    ∙ (ap (λ u. set (map f rows) at u) (e ∙ ap (λ u. u ++ item ∷ []) (ap f is ∙ sym (get_or-map f rows at old [] l)))
+    ∙ ap (λ u. push_at u at item) view)
 
 -- one of the lists, the first of which stands at a place, stands at p and has q
 holds : (at : ℕ) → List (List ℕ) → (p q : ℕ) → Bool

@@ -14,7 +14,7 @@ use tg_instr::{Code, Instr};
 pub(crate) fn use_sites(alloc: Global, code: &Code) -> Result<Table<u32>, Memory>
     requires { length code.now.list < 2 ^ 32 }
     ensures sites { IfOk result (λ sites. AreSites code.now.list sites) }
-    ensures size { IfOk result (λ sites. length sites ≡ 32 + code.now.temps) }
+    ensures size { IfOk result (λ sites. length sites < 32 + 2 ^ 32) }
 {
     let list = code.list.as_slice();
     let mut sites = Table::with_rows(alloc, REGISTERS + code.temps as usize)?;
