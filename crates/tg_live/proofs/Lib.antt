@@ -5,3 +5,5 @@ mod Places
 mod Marked
 mod Searched
 mod Gathered
+mod Closed
+mod LiveExamples

@@ -3,3 +3,4 @@ pub mod Live
 pub mod Tables
 pub mod Search
 pub mod Marks
+pub mod Interference
