@@ -125,8 +125,9 @@ second_within n lists at j k ks h e =
     ltb-true k n (and_parts (nat_lt k n) (list_all (λ j. nat_lt j n) ks) u).0
 
 -- where an instruction leads there is a mark
-pub marks_at : (all : List Instr) (at : ℕ) (one : Instr) → at < length all → one ≡ get_or all at one → list_all (leads_to_marks all) all ≡ true → leads_to_marks all one ≡ true
-marks_at all at one l e h = ap (leads_to_marks all) e ∙ all_at (leads_to_marks all) all at one l h
+pub marks_at : (all : List Instr) (at : ℕ) (one i : Instr) → at < length all → one ≡ get_or all at one → one ≡ i → list_all (leads_to_marks all) all ≡ true →
+    leads_to_marks all i ≡ true
+marks_at all at one i l e is h = ap (leads_to_marks all) (sym is ∙ e) ∙ all_at (leads_to_marks all) all at one l h
 
 all_below : (n : ℕ) (ks : List ℕ) → ((p : ℕ) → list_any (nat_eq p) ks ≡ true → p < n) → list_all (λ k. nat_lt k n) ks ≡ true
 all_below n [] h = refl

@@ -4,3 +4,4 @@ pub mod Tables
 pub mod Search
 pub mod Marks
 pub mod Interference
+pub mod Laws

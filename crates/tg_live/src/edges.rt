@@ -1,8 +1,9 @@
-ghost use Rattle.std.specs.Prelude.{◌≡◌, ◌<◌, ◌^◌, [], length, replicate, IsTrue, OnOk, IfOk};
+ghost use Rattle.std.specs.Prelude.{◌≡◌, ◌<◌, ◌^◌, List, length, IsTrue, OnOk, IfOk};
 ghost use Rattle.std.specs.List.{list_any, list_all};
+ghost use Rattle.tg_instr.specs.declared.instr.Instr.{Instr as InstrOf};
 ghost use Rattle.tg_instr.specs.Codes.{is_mark, leads_to_marks};
 ghost use Rattle.tg_live.specs.Flow.{place_of, successors, flow_of};
-ghost use Rattle.tg_live.specs.Tables.{row, add_to, add_from, have_rows_below, IsBefore};
+ghost use Rattle.tg_live.specs.Tables.{row, add_to, add_from, have_rows_below};
 ghost use Rattle.tg_live.specs.Marks.{HavePlaces};
 
 use crate::flows::Flow;
@@ -28,6 +29,7 @@ pub fn flow(alloc: Global, code: &Code) -> Result<Flow, Memory>
     Ok(Flow::new(before))
 }
 
+// Each place in the rows of the places at which its instruction goes on.
 fn add_all_edges(
     list: &[Instr],
     places: &HashMap<u32, u32>,
@@ -45,6 +47,7 @@ fn add_all_edges(
     Ok(())
 }
 
+// A place in the rows of the places at which its instruction goes on.
 fn add_edges(
     list: &[Instr],
     at: usize,
@@ -60,9 +63,9 @@ fn add_edges(
 {
     let from = at as u32;
     match &list[at] {
-        Instr::Jump(mark) => before.push(place_of(list, places, *mark), from),
+        Instr::Jump(mark) => before.push(place_of(places, *mark), from),
         Instr::Branch(_, mark) => {
-            before.push(place_of(list, places, *mark), from)?;
+            before.push(place_of(places, *mark), from)?;
             before.push(at + 1, from)
         }
         Instr::Fault(_) => Ok(()),
@@ -71,10 +74,10 @@ fn add_edges(
     }
 }
 
-fn place_of(_list: &[Instr], places: &HashMap<u32, u32>, mark: u32) -> usize
-    requires places { HavePlaces _list.now places.now }
-    requires stands { IsTrue (list_any (is_mark mark) _list.now) }
-    ensures { result ≡ place_of mark _list.now }
+// The place of a mark that stands in the code.
+fn place_of(places: &HashMap<u32, u32>, mark: u32) -> usize
+    ensures { (list : List InstrOf) → HavePlaces list places.now →
+        IsTrue (list_any (is_mark mark) list) → result ≡ place_of mark list }
 {
     match places.get(&mark) {
         Some(place) => *place as usize,

@@ -5,6 +5,7 @@
 
 mod edges;
 mod flows;
+mod laws;
 mod liveness;
 mod marks;
 mod operands;
@@ -15,5 +16,6 @@ mod tables;
 
 pub use edges::flow;
 pub use flows::Flow;
+pub use laws::{flow_has_edges, liveness_is_least};
 pub use liveness::live;
 pub use sets::LiveSets;
