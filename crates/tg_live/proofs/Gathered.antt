@@ -1,13 +1,12 @@
 -- What the sets have once the operands of the first numbers are searched for.
-use Rattle.std.proofs.Common.{◌≡◌, ◌<◌, ◌≤◌, ◌+◌, ◌↔◌, ℕ, Bool, true, false, nat_eq, List, [], ◌∷◌, ◌++◌, length, replicate, refl, sym, ap, ◌∙◌, subst, arith, ⊎_elim}
-use Rattle.std.specs.List.{list_any}
+use Rattle.std.proofs.Common.{◌≡◌, ◌<◌, ◌+◌, ◌↔◌, ℕ, true, false, List, [], length, replicate, sym, ap, ◌∙◌, subst, arith, ⊎_elim}
 use Rattle.std.proofs.lemmas.Bool.{cases_eq, cases_Bool, false≢true, both_ways}
 use Rattle.std.proofs.lemmas.List.{length-replicate}
 use Rattle.tg_instr.specs.declared.instr.Instr.{Instr}
 use Rattle.tg_instr.specs.declared.operands.Opnd.{Opnd}
 use Rattle.tg_instr.specs.Operands.{is_same}
-use Rattle.tg_live.specs.Live.{Sets, set_at, is_among, is_used, is_rising, number_of, operand_of, IsLiveOut, AreLiveSets}
-use Rattle.tg_live.specs.Tables.{Table, row, AreSites}
+use Rattle.tg_live.specs.Live.{Sets, set_at, is_among, is_rising, number_of, operand_of, IsLiveOut, AreLiveSets}
+use Rattle.tg_live.specs.Tables.{Table, AreSites}
 use Rattle.tg_live.specs.Search.{ends_in, AreSearched}
 use Rattle.tg_live.proofs.Reach.{used_along}
 use Rattle.tg_live.proofs.Turned.{row_none}
@@ -34,8 +33,8 @@ gathered_none all n e = record {
 pub gathered_fresh : (all : List Instr) (n : ℕ) (sets : Sets) → AreGathered all n sets → (q : ℕ) → ends_in (operand_of n) (set_at sets q) ≡ false
 gathered_fresh all n sets s q =
     ⊎_elim (λ e.
-        let below = (s.below q (operand_of n) (ends_among (operand_of n) (set_at sets q) e)).0 in
-        absurd (omega (arith, below, number_operand n)))
+    let below = (s.below q (operand_of n) (ends_among (operand_of n) (set_at sets q) e)).0 in
+    absurd (omega (arith, below, number_operand n)))
     (λ e. e) (cases_Bool (ends_in (operand_of n) (set_at sets q)))
 
 others_differ : (i n : ℕ) → (i ≡ n → ⊥) → operand_of i ≡ operand_of n → ⊥
@@ -53,15 +52,20 @@ module _ (all : List Instr) (n : ℕ) (old new : Sets) (s : AreGathered all n ol
           let P : ℕ → Type 0 = λ j. (is_among (operand_of j) (set_at new q) ≡ true) ↔ IsLiveOut all q (operand_of j) in
           subst P (sym e)
           (⊎_elim (λ h. (λ _. h.1, λ _. ap (is_among x) h.0 ∙ among_push_itself x (set_at old q)))
-          (λ h. (λ a.
-              let below = (s.below q x (sym (ap (is_among x) h.0) ∙ a)).0 in
-              absurd (omega (arith, below, number_operand n)),
-          λ live. absurd (h.1 live))) (found.each q))
+          (λ h. (
+            λ a.
+                let below = (s.below q x (sym (ap (is_among x) h.0) ∙ a)).0 in
+                absurd (omega (arith, below, number_operand n)),
+            λ live. absurd (h.1 live),
+          )) (found.each q))
+
       before : (i ≡ n → ⊥) → (is_among (operand_of i) (set_at new q) ≡ true) ↔ IsLiveOut all q (operand_of i)
       before ne =
           let was = s.live i (omega arith) q in
-          ⊎_elim (λ h. (λ a. was.0 (among_push (operand_of i) (set_at old q) x (sym (ap (is_among (operand_of i)) h.0) ∙ a) (others_differ i n ne)),
-          λ live. ap (is_among (operand_of i)) h.0 ∙ among_push_left (operand_of i) (set_at old q) x (was.1 live)))
+          ⊎_elim (λ h. (
+            λ a. was.0 (among_push (operand_of i) (set_at old q) x (sym (ap (is_among (operand_of i)) h.0) ∙ a) (others_differ i n ne)),
+            λ live. ap (is_among (operand_of i)) h.0 ∙ among_push_left (operand_of i) (set_at old q) x (was.1 live),
+          ))
           (λ h. (λ a. was.0 (sym (ap (is_among (operand_of i)) h.0) ∙ a), λ live. ap (is_among (operand_of i)) h.0 ∙ was.1 live)) (found.each q)
 
   below_itself : (y : Opnd) → is_same y x ≡ true → (number_of y < n + 1) × (operand_of (number_of y) ≡ y)
@@ -75,6 +79,7 @@ module _ (all : List Instr) (n : ℕ) (old new : Sets) (s : AreGathered all n ol
     where
       was : is_among y (set_at old q) ≡ true → (number_of y < n + 1) × (operand_of (number_of y) ≡ y)
       was b = let h = s.below q y b in (omega (arith, h.0), h.1)
+
       other : is_same y x ≡ false → (number_of y < n + 1) × (operand_of (number_of y) ≡ y)
       other ne =
           ⊎_elim (λ h. was (among_push y (set_at old q) x (sym (ap (is_among y) h.0) ∙ a) (λ e. both_ways _ ne (ap (λ z. is_same z x) e ∙ same_itself x))))
@@ -97,17 +102,18 @@ module _ (all : List Instr) (n : ℕ) (old new : Sets) (s : AreGathered all n ol
 pub gathered_all : (all : List Instr) (n : ℕ) (sets : Sets) (sites : Table) → AreGathered all n sets → AreSites all sites → n ≡ length sites → AreLiveSets all sets
 gathered_all all n sets sites s t e = record {
   size = s.size;
-  live = λ at x.
-      (λ a.
-          let h = s.below at x a in
-          let P : Opnd → Type 0 = λ y. IsLiveOut all at y in
-          let Q : Opnd → Type 0 = λ y. is_among y (set_at sets at) ≡ true in
-          subst P h.1 ((s.live (number_of x) h.0 at).0 (subst Q (sym h.1) a)),
-      λ live.
-          let u = used_along all x live.path live.next live.leads in
-          let h = t.within x u.0 u.1 in
-          let P : Opnd → Type 0 = λ y. IsLiveOut all at y in
-          let Q : Opnd → Type 0 = λ y. is_among y (set_at sets at) ≡ true in
-          subst Q h.1 ((s.live (number_of x) (omega (arith, h.0, e)) at).1 (subst P (sym h.1) live)));
+  live = λ at x. (
+    λ a.
+        let h = s.below at x a in
+        let P : Opnd → Type 0 = λ y. IsLiveOut all at y in
+        let Q : Opnd → Type 0 = λ y. is_among y (set_at sets at) ≡ true in
+        subst P h.1 ((s.live (number_of x) h.0 at).0 (subst Q (sym h.1) a)),
+    λ live.
+        let u = used_along all x live.path live.next live.leads in
+        let h = t.within x u.0 u.1 in
+        let P : Opnd → Type 0 = λ y. IsLiveOut all at y in
+        let Q : Opnd → Type 0 = λ y. is_among y (set_at sets at) ≡ true in
+        subst Q h.1 ((s.live (number_of x) (omega (arith, h.0, e)) at).1 (subst P (sym h.1) live)),
+  );
   rising = s.rising;
 }

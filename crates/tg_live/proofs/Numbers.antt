@@ -1,7 +1,7 @@
 -- Operands and their numbers.
-use Rattle.std.proofs.Common.{◌≡◌, ◌<◌, ◌≤◌, ◌+◌, ◌-◌, ℕ, suc, Bool, true, false, nat_eq, nat_lt, ◌&&◌, ◌||◌, cond, List, [], ◌∷◌, ◌++◌, Some, length, get_or, drop, slice_get, refl, sym, ap, ◌∙◌, subst, arith, ⊎_elim}
+use Rattle.std.proofs.Common.{◌≡◌, ◌<◌, ◌≤◌, ◌+◌, ◌-◌, ℕ, suc, Bool, true, false, nat_eq, nat_lt, ◌||◌, cond, List, [], ◌∷◌, ◌++◌, Some, length, get_or, drop, slice_get, refl, sym, ap, ◌∙◌, arith, ⊎_elim}
 use Rattle.std.specs.List.{list_any, list_all}
-use Rattle.std.proofs.lemmas.Bool.{eqb-true, eq-eqb, ne_eqb, cases_eq, cases_lt, lt-ltb, le-ltb, ltb-true, and_parts, and_from, or_cases, or_left, or_right, false_from_ne_true, false≢true, both_ways}
+use Rattle.std.proofs.lemmas.Bool.{eqb-true, eq-eqb, ne_eqb, cases_eq, cases_lt, lt-ltb, le-ltb, ltb-true, and_parts, and_from, or_cases, or_left, or_right, false_from_ne_true, false≢true}
 use Rattle.std.proofs.lemmas.List.{drop_more}
 use Rattle.tg_instr.specs.declared.operands.Opnd.{Opnd}
 use Rattle.tg_instr.specs.declared.operands.Opnd.TheVariants.{Temp as TempOf, Reg}
@@ -26,6 +26,7 @@ number_operand n = ⊎_elim low high (cases_lt n 32)
   where
     low : n < 32 → number_of (operand_of n) ≡ n
     low l = ap (λ b. number_of (cond b (Reg n) (TempOf (record { 0 = n - 32 })))) (lt-ltb n 32 l)
+
     high : 32 ≤ n → number_of (operand_of n) ≡ n
     high l =
         let e : 32 + (n - 32) ≡ n = omega arith in
@@ -48,6 +49,7 @@ number_same i y p = ⊎_elim same other (cases_eq i (number_of y))
     same : i ≡ number_of y → nat_eq i (number_of y) ≡ is_same (operand_of i) y
     same e =
         eq-eqb i (number_of y) e ∙ sym (ap (λ n. is_same (operand_of n) y) e ∙ (ap (λ z. is_same z y) (operand_number y p) ∙ same_itself y))
+
     other : (i ≡ number_of y → ⊥) → nat_eq i (number_of y) ≡ is_same (operand_of i) y
     other ne =
         ne_eqb i (number_of y) ne

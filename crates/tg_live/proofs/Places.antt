@@ -1,7 +1,7 @@
 -- The places of a code: where its instructions go on, and what they use.
-use Rattle.std.proofs.Common.{◌≡◌, ◌<◌, ◌≤◌, ◌+◌, ℕ, zero, suc, Bool, true, false, nat_eq, nat_lt, ◌&&◌, ◌||◌, cond, List, [], ◌∷◌, map, length, replicate, get_or, take, drop, refl, sym, ap, ◌∙◌, subst, arith, ⊎_elim}
+use Rattle.std.proofs.Common.{◌≡◌, ◌<◌, ◌≤◌, ◌+◌, ℕ, zero, suc, Bool, true, false, nat_eq, nat_lt, ◌&&◌, ◌||◌, cond, List, [], ◌∷◌, length, replicate, get_or, take, drop, refl, sym, ap, ◌∙◌, subst, arith, ⊎_elim}
 use Rattle.std.specs.List.{list_any, list_all}
-use Rattle.std.proofs.lemmas.Bool.{cases_lt, lt-ltb, ltb-true, and_parts, and_from, false≢true, or_left, or_right, eq-eqb, or_cases, cases_Bool}
+use Rattle.std.proofs.lemmas.Bool.{cases_lt, lt-ltb, ltb-true, and_parts, and_from, false≢true, or_left, or_right, eq-eqb}
 use Rattle.std.proofs.lemmas.List.{get_or_past, length-map, length-replicate, get_or-map, drop_more}
 use Rattle.std.proofs.lemmas.List.Folds.{list_all_more}
 use Rattle.tg_instr.specs.declared.instr.Instr.{Instr}
@@ -12,7 +12,7 @@ use Rattle.tg_instr.specs.Shapes.{shape}
 use Rattle.tg_instr.specs.Uses.{uses_of, defs_of}
 use Rattle.tg_instr.specs.Codes.{is_mark, leads_to_marks, is_end, ends_well, has_temps_below, is_below}
 use Rattle.tg_live.specs.Flow.{place_of, onward, onward_from, successors, goes_on}
-use Rattle.tg_live.specs.Live.{is_among, is_used, uses_at, is_proper, number_of, operand_of}
+use Rattle.tg_live.specs.Live.{is_used, uses_at, is_proper, number_of, operand_of}
 use Rattle.tg_live.specs.Tables.{Table, row, push_at, add_to, have_rows_below, IsBefore, numbers_of, numbers_used, add_from, AreSites}
 use Rattle.tg_live.proofs.Turned.{turned, length-add_from}
 use Rattle.tg_live.proofs.Numbers.{number_among, among_proper, operand_number, among_all, number_below, numbers_below}

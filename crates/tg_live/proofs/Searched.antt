@@ -1,7 +1,7 @@
 -- What the search for the places of one operand keeps, and what it ends with.
-use Rattle.std.proofs.Common.{◌≡◌, ◌<◌, ◌≤◌, ◌+◌, ◌⊎◌, ℕ, zero, suc, Bool, true, false, nat_eq, nat_lt, ◌&&◌, ◌||◌, cond, List, [], ◌∷◌, ◌++◌, length, get_or, drop, refl, sym, ap, ◌∙◌, subst, arith, ⊎_elim, inl, inr}
+use Rattle.std.proofs.Common.{◌≡◌, ◌<◌, ◌≤◌, ◌+◌, ◌⊎◌, ℕ, zero, suc, Bool, true, false, nat_eq, nat_lt, ◌||◌, cond, List, [], ◌∷◌, ◌++◌, length, get_or, drop, refl, sym, ap, ◌∙◌, subst, arith, ⊎_elim, inl, inr}
 use Rattle.std.specs.List.{list_any, list_all}
-use Rattle.std.proofs.lemmas.Bool.{cases_eq, cases_lt, cases_Bool, and_parts, false≢true, or_left, or_right, or_cases, eq-eqb, ne_eqb, eqb-true, ltb-true, both_ways}
+use Rattle.std.proofs.lemmas.Bool.{cases_eq, and_parts, false≢true, or_left, or_right, or_cases, eq-eqb, ne_eqb, eqb-true, ltb-true, both_ways}
 use Rattle.std.proofs.lemmas.List.{drop_more, length_push, get_or_append_left}
 use Rattle.tg_instr.specs.declared.instr.Instr.{Instr}
 use Rattle.tg_instr.specs.declared.operands.Opnd.{Opnd}
@@ -235,8 +235,8 @@ module _ (all : List Instr) (x : Opnd) where
           extends = extends_both f g (enter_before x before places g) one.extends rest.extends;
           marked = λ r h q go.
               ⊎_elim (λ e.
-                  let e1 = eqb-true r p e in
-                  rest.extends.marked q (one.marked q (ap (λ k. has q (row before k)) (sym e1) ∙ (is_before q r ∙ go))))
+              let e1 = eqb-true r p e in
+              rest.extends.marked q (one.marked q (ap (λ k. has q (row before k)) (sym e1) ∙ (is_before q r ∙ go))))
               (λ k. rest.marked r k q go) (or_cases (nat_eq r p) (has r places) h);
         }
 
@@ -305,13 +305,14 @@ module _ (all : List Instr) (x : Opnd) where
         inl (s.is_found.grown q ∙ ap (λ b. cond b (set_at old q ++ x ∷ []) (set_at old q)) e, s.is_found.live q e)
     ends_by f done s l q false e =
         let before_own : (at next : ℕ) → goes_on all at next ≡ true → is_defined all x next ≡ false → marks f next ≡ true → marks f at ≡ true =
-            λ at next go d m.
-            let i = index_of next f.places (sym (s.is_found.listed next) ∙ m) in
-            let il : i.0 < done = omega (arith, i.1, l) in
-            s.closed i.0 il (ap (is_defined all x) i.2 ∙ d) at (ap (goes_on all at) i.2 ∙ go) in
-        inr
-        (s.is_found.grown q ∙ ap (λ b. cond b (set_at old q ++ x ∷ []) (set_at old q)) e,
-        λ live. both_ways _ e (least all x (marks f) (λ at next go u. s.uses next u at go) before_own q live))
+        λ at next go d m.
+        let i = index_of next f.places (sym (s.is_found.listed next) ∙ m) in
+        let il : i.0 < done = omega (arith, i.1, l) in
+        s.closed i.0 il (ap (is_defined all x) i.2 ∙ d) at (ap (goes_on all at) i.2 ∙ go) in
+        inr (
+          s.is_found.grown q ∙ ap (λ b. cond b (set_at old q ++ x ∷ []) (set_at old q)) e,
+          λ live. both_ways _ e (least all x (marks f) (λ at next go u. s.uses next u at go) before_own q live),
+        )
 
     pub ends : (f : Found) (done : ℕ) → IsSearching old f done → length f.places ≤ done → AreSearched all x old f.sets
     ends f done s l = record { size = s.is_found.size; each = λ q. ends_by f done s l q (marks f q) refl }

@@ -1,5 +1,5 @@
 -- A list of lists turned round into a table, and the sets of pairs that both stand for.
-use Rattle.std.proofs.Common.{◌≡◌, ◌<◌, ◌≤◌, ◌+◌, ℕ, zero, suc, Bool, true, false, nat_eq, nat_lt, ◌&&◌, ◌||◌, List, [], ◌∷◌, ◌++◌, map, length, replicate, set, drop, get_or, refl, sym, ap, ◌∙◌, subst, arith, ⊎_elim, inl, inr}
+use Rattle.std.proofs.Common.{◌≡◌, ◌<◌, ◌+◌, ℕ, zero, suc, Bool, true, false, nat_eq, nat_lt, ◌&&◌, ◌||◌, List, [], ◌∷◌, ◌++◌, map, length, replicate, set, drop, get_or, refl, sym, ap, ◌∙◌, subst, arith, ⊎_elim}
 use Rattle.std.specs.List.{list_any, list_all}
 use Rattle.std.specs.Ordering.{nat_cmp, eq_by_cmp, is_eq, ordering_then, on}
 use Rattle.std.specs.declared.cmp.Ordering.{Ordering}
@@ -8,11 +8,10 @@ use Rattle.std.specs.Cmp.{IsTotalOrder, nat_cmp_total, unsigned_tied}
 use Rattle.std.specs.FinSet.{contains, from_list, contains-from_list, same_set, IsAntisymmetric, nat_cmp-IsAntisymmetric}
 use Rattle.std.proofs.lemmas.Cmp.{then_total}
 use Rattle.std.proofs.lemmas.Bool.{eq-eqb, ne_eqb, cases_eq, and_parts, ltb-true}
-use Rattle.std.proofs.lemmas.Bool.Decides.{eqb_tells}
 use Rattle.std.proofs.lemmas.List.{drop_more, length-map, map-set, get_or-map, length-replicate, length-set, get_or-set_same, get_or-set_other}
 use Rattle.std.proofs.lemmas.List.Folds.{list_any-append}
 use Rattle.tg_instr.specs.declared.instr.Instr.{Instr}
-use Rattle.tg_live.specs.Flow.{pair_cmp, Edges, successors, goes_on, edges_from, flow_of}
+use Rattle.tg_live.specs.Flow.{pair_cmp, successors, goes_on, edges_from, flow_of}
 use Rattle.tg_live.specs.Tables.{Table, row, push_at, add_to, add_from, have_rows_below, edges_into, IsBefore}
 
 abbrev has : ℕ → List ℕ → Bool
@@ -54,6 +53,7 @@ row_push t n v l p q = ⊎_elim same other (cases_eq q n)
         let P : ℕ → Type 0 = λ k. has p (row (push_at t n v) k) ≡ ((nat_eq k n && nat_eq p v) || has p (row t k)) in
         subst P (sym e) (ap (has p) (row_same t n v l) ∙ (has_push p (row t n) v ∙ (or_swap (has p (row t n)) (nat_eq p v)
         ∙ ap (λ b. (b && nat_eq p v) || has p (row t n)) (sym (eq-eqb n n refl)))))
+
     other : (q ≡ n → ⊥) → has p (row (push_at t n v) q) ≡ ((nat_eq q n && nat_eq p v) || has p (row t q))
     other ne = ap (has p) (row_other t n v q ne) ∙ ap (λ b. (b && nat_eq p v) || has p (row t q)) (sym (ne_eqb q n ne))
 

@@ -30,5 +30,5 @@ LiveIsLeast =
     (all : List Instr) (x : Opnd) (has : ℕ → Bool) →
     ((at next : ℕ) → IsTrue (goes_on all at next) → IsTrue (is_used all x next) → IsTrue (has at)) →
     ((at next : ℕ) → IsTrue (goes_on all at next) → IsFalse (is_defined all x next) →
-        IsTrue (has next) → IsTrue (has at)) →
+    IsTrue (has next) → IsTrue (has at)) →
     (at : ℕ) → IsLiveOut all at x → IsTrue (has at)

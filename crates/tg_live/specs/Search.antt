@@ -1,6 +1,6 @@
 -- The search backwards along the flow for the places that one operand is live out of: it is entered
 -- at each place before a use, and at each place before one where it is entered and not defined.
-use Rattle.std.specs.Prelude.{◌≡◌, ◌⊎◌, ℕ, length, Bool, true, false, List, [], ◌∷◌, ◌++◌, slice_set, if◌then◌else◌}
+use Rattle.std.specs.Prelude.{◌≡◌, ◌⊎◌, ℕ, length, Bool, false, List, [], ◌∷◌, ◌++◌, if◌then◌else◌}
 use Rattle.tg_instr.specs.declared.instr.Instr.{Instr}
 use Rattle.tg_instr.specs.declared.operands.Opnd.{Opnd}
 use Rattle.tg_instr.specs.Operands.{is_same}

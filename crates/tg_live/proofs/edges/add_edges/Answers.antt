@@ -1,5 +1,5 @@
 -- Each kind of instruction adds its edges.
-use Rattle.std.proofs.Common.{◌≡◌, ◌<◌, ◌+◌, ℕ, suc, length, List, OnOk, sym, ap, ◌∙◌, subst, arith}
+use Rattle.std.proofs.Common.{◌≡◌, ◌+◌, suc, length, OnOk, sym, ap, ◌∙◌, subst, arith}
 use Rattle.tg_instr.specs.declared.instr.Instr.TheVariants.{Jump, Branch, Fault, Return}
 use Rattle.tg_live.specs.Flow.{successors}
 use Rattle.tg_live.specs.Tables.{Table, push_at, add_to}

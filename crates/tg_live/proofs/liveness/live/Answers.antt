@@ -1,8 +1,8 @@
-use Rattle.std.proofs.Common.{◌≡◌, ◌<◌, ◌+◌, ◌^◌, List, length, sym, ap, ◌∙◌, subst, arith}
+use Rattle.std.proofs.Common.{◌≡◌, List, length, sym, ap, ◌∙◌, subst, arith}
 use Rattle.tg_instr.specs.declared.instr.Instr.{Instr}
 use Rattle.tg_instr.specs.declared.operands.Opnd.{Opnd}
 use Rattle.tg_live.specs.Flow.{flow_of}
-use Rattle.tg_live.specs.Live.{Sets, set_at, operand_of, AreLiveSets}
+use Rattle.tg_live.specs.Live.{Sets, set_at, AreLiveSets}
 use Rattle.tg_live.specs.Search.{ends_in, AreSearched}
 use Rattle.tg_live.proofs.Turned.{table_of_flow}
 use Rattle.tg_live.proofs.Gathered.{AreGathered, gathered_fresh, gathered_more, gathered_all}

@@ -1,4 +1,4 @@
-use Rattle.std.proofs.Common.{ℕ, length, drop, get_or, sym, ap, ◌∙◌, ◌+◌, arith}
+use Rattle.std.proofs.Common.{length, drop, sym, ap, ◌∙◌, ◌+◌}
 use Rattle.tg_live.specs.Search.{Found, enter_all, enter_before}
 use Rattle.tg_live.proofs.Searched.{enter_before_more, length-enter_all}
 use Rattle.tg_live.proofs.searches.Search.enter_before.Goals as goal
