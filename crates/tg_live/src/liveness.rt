@@ -12,8 +12,9 @@ use tg_base::Memory;
 use tg_instr::Code;
 
 /// What is live out of each instruction of a code whose flow this is: for each operand in turn,
-/// backwards along the flow from its uses to its definitions (Appel, chapter 10). The time is that
-/// of the answer's size: each pair of a place and an operand that is live out of it is visited once.
+/// backwards along the flow from its uses to its definitions (Appel, chapter 10). Time and memory
+/// are in the size of the code and of the answer, since each pair of a place and an operand that is
+/// live out of it is visited once.
 pub fn live(alloc: Global, code: &Code, flow: &Flow) -> Result<LiveSets, Memory>
     requires { flow.now ≡ flow_of code.now.list }
     ensures { IfOk result (λ sets. AreLiveSets code.now.list sets) }

@@ -1,7 +1,4 @@
-ghost use Rattle.std.specs.Prelude.{◌≡◌, ◌<◌, ◌^◌, length, IsTrue, IfOk};
-ghost use Rattle.std.specs.List.{list_any};
-ghost use Rattle.tg_instr.specs.Codes.{is_mark};
-ghost use Rattle.tg_live.specs.Flow.{place_of};
+ghost use Rattle.std.specs.Prelude.{◌<◌, ◌^◌, length, IfOk};
 ghost use Rattle.tg_live.specs.Marks.{HavePlaces};
 
 use std::alloc::Global;

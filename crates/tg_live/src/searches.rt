@@ -1,4 +1,18 @@
-ghost use Rattle.std.specs.Prelude.{◌≡◌, ◌<◌, [], ℕ, false, length, replicate, slice_index, nat_lt, nat_eq, IsTrue, OnOk, IfOk};
+ghost use Rattle.std.specs.Prelude.{
+  ◌≡◌,
+  ◌<◌,
+  [],
+  ℕ,
+  false,
+  length,
+  replicate,
+  slice_index,
+  nat_lt,
+  nat_eq,
+  IsTrue,
+  OnOk,
+  IfOk,
+};
 ghost use Rattle.std.specs.List.{list_any, list_all};
 ghost use Rattle.tg_live.specs.Live.{set_at, is_used, is_defined};
 ghost use Rattle.tg_live.specs.Tables.{row, have_rows_below, IsBefore};
@@ -12,7 +26,10 @@ use std::marker::Model;
 use tg_base::Memory;
 use tg_instr::{Instr, Opnd};
 
-/// The sets, and the places at which the operand that is searched for was entered.
+/// The search for the places that an operand is live out of, backwards along the flow from its
+/// uses: the sets, and the places at which the operand was entered. Operands are searched for in
+/// rising order, so that a set ends in the operand where it has it, and stays in order. The places
+/// that were entered are also the list of those still to be visited.
 #[derive(Drop)]
 pub(crate) struct Search {
     sets: Table<Opnd>,

@@ -7,7 +7,8 @@ use std::marker::Model;
 use tg_instr::Opnd;
 
 /// What is live out of each instruction of a code, in rising order at each place: registers by
-/// their numbers, and then temporaries.
+/// their numbers, and then temporaries. Each place has a list and no row of bits, since a code may
+/// have as many temporaries as instructions, of which few are live at a time.
 #[derive(Drop)]
 pub struct LiveSets {
     sets: Table<Opnd>,
@@ -29,7 +30,7 @@ impl LiveSets {
         LiveSets { sets }
     }
 
-    /// Whether the operand is live out of the instruction at a place.
+    /// Whether the operand is live out of the instruction at a place, in the time of its set's size.
     pub fn out(&self, at: u32, one: Opnd) -> bool
         requires { at < length self.now }
         ensures { result ≡ is_among one (set_at self.now at) }

@@ -1,5 +1,5 @@
-ghost use Rattle.std.specs.Prelude.{◌≡◌, ◌<◌, ◌+◌, ◌^◌, [], length, replicate, IsTrue, OnOk, IfOk};
-ghost use Rattle.std.specs.List.{list_any, list_all};
+ghost use Rattle.std.specs.Prelude.{◌≡◌, ◌<◌, ◌+◌, ◌^◌, length, IsTrue, OnOk, IfOk};
+ghost use Rattle.std.specs.List.{list_all};
 ghost use Rattle.tg_instr.specs.Codes.{has_temps_below};
 ghost use Rattle.tg_live.specs.Tables.{row, add_to, numbers_used, AreSites};
 ghost use Rattle.tg_live.specs.Live.{uses_at, is_proper};
@@ -24,6 +24,7 @@ pub(crate) fn use_sites(alloc: Global, code: &Code) -> Result<Table<u32>, Memory
     Ok(sites)
 }
 
+// A place in the rows of what its instruction uses.
 fn add_uses(
     alloc: Global,
     list: &[Instr],
