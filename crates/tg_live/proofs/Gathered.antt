@@ -14,8 +14,10 @@ use Rattle.tg_live.proofs.Numbers.{same_itself, same_is, number_operand, ends_am
 
 pub record AreGathered (all : List Instr) (n : ℕ) (sets : Sets) : Type 0 where
   pub size : length sets ≡ length all
-  pub live : (i : ℕ) → i < n → (q : ℕ) → (is_among (operand_of i) (set_at sets q) ≡ true) ↔ IsLiveOut all q (operand_of i)
-  pub below : (q : ℕ) (y : Opnd) → is_among y (set_at sets q) ≡ true → (number_of y < n) × (operand_of (number_of y) ≡ y)
+  pub live : (i : ℕ) → i < n → (q : ℕ) →
+      (is_among (operand_of i) (set_at sets q) ≡ true) ↔ IsLiveOut all q (operand_of i)
+  pub below : (q : ℕ) (y : Opnd) → is_among y (set_at sets q) ≡ true →
+      (number_of y < n) × (operand_of (number_of y) ≡ y)
   pub rising : (q : ℕ) → is_rising (set_at sets q) ≡ true
 
 none_at : (n q : ℕ) → set_at (replicate n (let e : List Opnd = [] in e)) q ≡ []
@@ -30,7 +32,8 @@ gathered_none all n e = record {
 }
 
 -- no set has the next operand yet
-pub gathered_fresh : (all : List Instr) (n : ℕ) (sets : Sets) → AreGathered all n sets → (q : ℕ) → ends_in (operand_of n) (set_at sets q) ≡ false
+pub gathered_fresh : (all : List Instr) (n : ℕ) (sets : Sets) → AreGathered all n sets → (q : ℕ) →
+    ends_in (operand_of n) (set_at sets q) ≡ false
 gathered_fresh all n sets s q =
     ⊎_elim (λ e.
     let below = (s.below q (operand_of n) (ends_among (operand_of n) (set_at sets q) e)).0 in
@@ -40,11 +43,13 @@ gathered_fresh all n sets s q =
 others_differ : (i n : ℕ) → (i ≡ n → ⊥) → operand_of i ≡ operand_of n → ⊥
 others_differ i n ne e = ne (sym (number_operand i) ∙ (ap number_of e ∙ number_operand n))
 
-module _ (all : List Instr) (n : ℕ) (old new : Sets) (s : AreGathered all n old) (found : AreSearched all (operand_of n) old new) where
+module _ (all : List Instr) (n : ℕ) (old new : Sets) (s : AreGathered all n old) (found : AreSearched all
+    (operand_of n) old new) where
   abbrev x : Opnd
   x = operand_of n
 
-  live_more : (i : ℕ) → i < n + 1 → (q : ℕ) → (is_among (operand_of i) (set_at new q) ≡ true) ↔ IsLiveOut all q (operand_of i)
+  live_more : (i : ℕ) → i < n + 1 → (q : ℕ) →
+      (is_among (operand_of i) (set_at new q) ≡ true) ↔ IsLiveOut all q (operand_of i)
   live_more i l q = ⊎_elim here before (cases_eq i n)
     where
       here : i ≡ n → (is_among (operand_of i) (set_at new q) ≡ true) ↔ IsLiveOut all q (operand_of i)
@@ -63,10 +68,15 @@ module _ (all : List Instr) (n : ℕ) (old new : Sets) (s : AreGathered all n ol
       before ne =
           let was = s.live i (omega arith) q in
           ⊎_elim (λ h. (
-            λ a. was.0 (among_push (operand_of i) (set_at old q) x (sym (ap (is_among (operand_of i)) h.0) ∙ a) (others_differ i n ne)),
+            λ a. was.0 (among_push (operand_of i) (set_at old q) x (sym (ap (is_among (operand_of i)) h.0)
+                ∙ a) (others_differ i n ne)),
             λ live. ap (is_among (operand_of i)) h.0 ∙ among_push_left (operand_of i) (set_at old q) x (was.1 live),
           ))
-          (λ h. (λ a. was.0 (sym (ap (is_among (operand_of i)) h.0) ∙ a), λ live. ap (is_among (operand_of i)) h.0 ∙ was.1 live)) (found.each q)
+          (λ h. (
+            λ a. was.0 (sym (ap (is_among (operand_of i)) h.0) ∙ a),
+            λ live. ap (is_among (operand_of i)) h.0
+                ∙ was.1 live,
+          )) (found.each q)
 
   below_itself : (y : Opnd) → is_same y x ≡ true → (number_of y < n + 1) × (operand_of (number_of y) ≡ y)
   below_itself y e =
@@ -74,7 +84,8 @@ module _ (all : List Instr) (n : ℕ) (old new : Sets) (s : AreGathered all n ol
       let number = ap number_of same ∙ number_operand n in
       (omega (arith, number), ap operand_of number ∙ sym same)
 
-  below_more : (q : ℕ) (y : Opnd) → is_among y (set_at new q) ≡ true → (number_of y < n + 1) × (operand_of (number_of y) ≡ y)
+  below_more : (q : ℕ) (y : Opnd) → is_among y (set_at new q) ≡ true →
+      (number_of y < n + 1) × (operand_of (number_of y) ≡ y)
   below_more q y a = ⊎_elim (λ e. below_itself y e) other (cases_Bool (is_same y x))
     where
       was : is_among y (set_at old q) ≡ true → (number_of y < n + 1) × (operand_of (number_of y) ≡ y)
@@ -82,12 +93,15 @@ module _ (all : List Instr) (n : ℕ) (old new : Sets) (s : AreGathered all n ol
 
       other : is_same y x ≡ false → (number_of y < n + 1) × (operand_of (number_of y) ≡ y)
       other ne =
-          ⊎_elim (λ h. was (among_push y (set_at old q) x (sym (ap (is_among y) h.0) ∙ a) (λ e. both_ways _ ne (ap (λ z. is_same z x) e ∙ same_itself x))))
+          ⊎_elim (λ h. was (among_push y (set_at old q) x (sym (ap (is_among y) h.0) ∙ a)
+          (λ e. both_ways _ ne (ap (λ z. is_same z x) e ∙ same_itself x))))
           (λ h. was (sym (ap (is_among y) h.0) ∙ a)) (found.each q)
 
   rising_more : (q : ℕ) → is_rising (set_at new q) ≡ true
   rising_more q =
-      ⊎_elim (λ h. ap is_rising h.0 ∙ rising_push (set_at old q) x (s.rising q) (λ y a. let b = (s.below q y a).0 in omega (arith, b, number_operand n)))
+      ⊎_elim (λ h. ap is_rising h.0
+      ∙ rising_push (set_at old q) x (s.rising q) (λ y a. let b = (s.below q y a).0 in omega
+      (arith, b, number_operand n)))
       (λ h. ap is_rising h.0 ∙ s.rising q) (found.each q)
 
   pub gathered_more : AreGathered all (n + 1) new
@@ -99,7 +113,8 @@ module _ (all : List Instr) (n : ℕ) (old new : Sets) (s : AreGathered all n ol
   }
 
 -- all operands of the code are searched for
-pub gathered_all : (all : List Instr) (n : ℕ) (sets : Sets) (sites : Table) → AreGathered all n sets → AreSites all sites → n ≡ length sites → AreLiveSets all sets
+pub gathered_all : (all : List Instr) (n : ℕ) (sets : Sets) (sites : Table) → AreGathered all n sets →
+    AreSites all sites → n ≡ length sites → AreLiveSets all sets
 gathered_all all n sets sites s t e = record {
   size = s.size;
   live = λ at x. (

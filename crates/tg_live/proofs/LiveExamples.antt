@@ -17,7 +17,8 @@ temp n = TempOf (record { 0 = n })
 -- t0 <- $a0; t1 <- t0; t2 <- t0 + t1; $v0 <- t2; return
 abbrev copies : List Instr
 copies =
-    Move (temp 0) (Reg 4) ∷ Move (temp 1) (temp 0) ∷ Addu (temp 2) (temp 0) (temp 1) ∷ Move (Reg 2) (temp 2) ∷ Return ∷ []
+    Move (temp 0) (Reg 4) ∷ Move (temp 1) (temp 0) ∷ Addu (temp 2) (temp 0) (temp 1) ∷ Move (Reg 2) (temp
+    2) ∷ Return ∷ []
 
 copies_go_on : successors copies ≡ (1 ∷ []) ∷ (2 ∷ []) ∷ (3 ∷ []) ∷ (4 ∷ []) ∷ [] ∷ []
 copies_go_on = refl
@@ -72,7 +73,8 @@ not_defined_beside (suc (suc (suc (suc (suc at))))) = refl
 t1_beside_t0 : IsDefinedBeside copies (temp 1) (temp 0) → ⊥
 t1_beside_t0 h = both_ways _ (not_defined_beside h.at) h.defines
 
-t0_beside_t1_at : (at : ℕ) → defines_beside_at (slice_get copies at) (temp 0) (temp 1) ≡ true → IsLiveOut copies at (temp 1) → ⊥
+t0_beside_t1_at : (at : ℕ) → defines_beside_at (slice_get copies at) (temp 0) (temp 1) ≡ true →
+    IsLiveOut copies at (temp 1) → ⊥
 t0_beside_t1_at zero d live = t1_before_its_definition live
 t0_beside_t1_at (suc zero) d live = false≢true d
 t0_beside_t1_at (suc (suc zero)) d live = false≢true d

@@ -48,7 +48,8 @@ number_same i y p = ⊎_elim same other (cases_eq i (number_of y))
   where
     same : i ≡ number_of y → nat_eq i (number_of y) ≡ is_same (operand_of i) y
     same e =
-        eq-eqb i (number_of y) e ∙ sym (ap (λ n. is_same (operand_of n) y) e ∙ (ap (λ z. is_same z y) (operand_number y p) ∙ same_itself y))
+        eq-eqb i (number_of y) e
+        ∙ sym (ap (λ n. is_same (operand_of n) y) e ∙ (ap (λ z. is_same z y) (operand_number y p) ∙ same_itself y))
 
     other : (i ≡ number_of y → ⊥) → nat_eq i (number_of y) ≡ is_same (operand_of i) y
     other ne =
@@ -56,24 +57,29 @@ number_same i y p = ⊎_elim same other (cases_eq i (number_of y))
         ∙ sym (false_from_ne_true _ (λ s. ne (sym (number_operand i) ∙ ap number_of (same_is (operand_of i) y s))))
 
 -- a number is among those of a list where its operand is among the list
-pub number_among : (i : ℕ) (list : List Opnd) → list_all is_proper list ≡ true → list_any (nat_eq i) (numbers_of list) ≡ is_among (operand_of i) list
+pub number_among : (i : ℕ) (list : List Opnd) → list_all is_proper list ≡ true →
+    list_any (nat_eq i) (numbers_of list) ≡ is_among (operand_of i) list
 number_among i [] p = refl
 number_among i (y ∷ list) p =
     let h = and_parts (is_proper y) (list_all is_proper list) p in
     ap (λ b. b || list_any (nat_eq i) (numbers_of list)) (number_same i y h.0)
     ∙ ap (λ b. is_same (operand_of i) y || b) (number_among i list h.1)
 
-pub among_proper : (x : Opnd) (list : List Opnd) → list_all is_proper list ≡ true → is_among x list ≡ true → is_proper x ≡ true
+pub among_proper : (x : Opnd) (list : List Opnd) → list_all is_proper list ≡ true → is_among x list ≡ true →
+    is_proper x ≡ true
 among_proper x [] p a = absurd (false≢true a)
 among_proper x (y ∷ list) p a =
     let h = and_parts (is_proper y) (list_all is_proper list) p in
-    ⊎_elim (λ s. ap is_proper (same_is x y s) ∙ h.0) (λ r. among_proper x list h.1 r) (or_cases (is_same x y) (is_among x list) a)
+    ⊎_elim (λ s. ap is_proper (same_is x y s)
+    ∙ h.0) (λ r. among_proper x list h.1 r) (or_cases (is_same x y) (is_among x list) a)
 
-pub among_all : (p : Opnd → Bool) (x : Opnd) (list : List Opnd) → list_all p list ≡ true → is_among x list ≡ true → p x ≡ true
+pub among_all : (p : Opnd → Bool) (x : Opnd) (list : List Opnd) → list_all p list ≡ true → is_among x list ≡ true →
+    p x ≡ true
 among_all p x [] h a = absurd (false≢true a)
 among_all p x (y ∷ list) h a =
     let k = and_parts (p y) (list_all p list) h in
-    ⊎_elim (λ s. ap p (same_is x y s) ∙ k.0) (λ r. among_all p x list k.1 r) (or_cases (is_same x y) (is_among x list) a)
+    ⊎_elim (λ s. ap p (same_is x y s)
+    ∙ k.0) (λ r. among_all p x list k.1 r) (or_cases (is_same x y) (is_among x list) a)
 
 pub numbers_below : (n : ℕ) (list : List Opnd) → list_all is_proper list ≡ true → list_all (is_below n) list ≡ true →
     list_all (λ k. nat_lt k (32 + n)) (numbers_of list) ≡ true
@@ -83,7 +89,8 @@ numbers_below n (y ∷ list) p b =
     let k = and_parts (is_below n y) (list_all (is_below n) list) b in
     and_from _ _ (lt-ltb (number_of y) (32 + n) (number_below n y h.0 k.0)) (numbers_below n list h.1 k.1)
 
-pub ends_last : (x : Opnd) (list : List Opnd) (y : Opnd) → Some y ≡ slice_get list (length list - 1) → ends_in x list ≡ is_same x y
+pub ends_last : (x : Opnd) (list : List Opnd) (y : Opnd) → Some y ≡ slice_get list (length list - 1) →
+    ends_in x list ≡ is_same x y
 ends_last x [] y e = absurd (cc)
 ends_last x (z ∷ []) y e = let same : z ≡ y = cc in ap (is_same x) same
 ends_last x (z ∷ u ∷ rest) y e =
@@ -107,27 +114,32 @@ ends_among x [] e = absurd (false≢true e)
 ends_among x (y ∷ []) e = or_left (is_same x y) false e
 ends_among x (y ∷ z ∷ rest) e = or_right (is_same x y) (is_among x (z ∷ rest)) (ends_among x (z ∷ rest) e)
 
-pub among_push_left : (x : Opnd) (list : List Opnd) (y : Opnd) → is_among x list ≡ true → is_among x (list ++ y ∷ []) ≡ true
+pub among_push_left : (x : Opnd) (list : List Opnd) (y : Opnd) → is_among x list ≡ true →
+    is_among x (list ++ y ∷ []) ≡ true
 among_push_left x [] y a = absurd (false≢true a)
 among_push_left x (z ∷ list) y a =
-    ⊎_elim (λ s. or_left (is_same x z) (is_among x (list ++ y ∷ [])) s) (λ r. or_right (is_same x z) _ (among_push_left x list y r))
+    ⊎_elim (λ s. or_left (is_same x z) (is_among x (list ++ y ∷ [])) s) (λ r. or_right (is_same x z) _
+    (among_push_left x list y r))
     (or_cases (is_same x z) (is_among x list) a)
 
 pub among_push_itself : (x : Opnd) (list : List Opnd) → is_among x (list ++ x ∷ []) ≡ true
 among_push_itself x [] = or_left (is_same x x) false (same_itself x)
 among_push_itself x (z ∷ list) = or_right (is_same x z) _ (among_push_itself x list)
 
-pub among_push : (x : Opnd) (list : List Opnd) (y : Opnd) → is_among x (list ++ y ∷ []) ≡ true → (x ≡ y → ⊥) → is_among x list ≡ true
+pub among_push : (x : Opnd) (list : List Opnd) (y : Opnd) → is_among x (list ++ y ∷ []) ≡ true → (x ≡ y → ⊥) →
+    is_among x list ≡ true
 among_push x [] y a ne =
     ⊎_elim (λ s. absurd (ne (same_is x y s))) (λ r. absurd (false≢true r)) (or_cases (is_same x y) false a)
 among_push x (z ∷ list) y a ne =
     ⊎_elim (λ s. or_left (is_same x z) (is_among x list) s) (λ r. or_right (is_same x z) _ (among_push x list y r ne))
     (or_cases (is_same x z) (is_among x (list ++ y ∷ [])) a)
 
-pub rising_push : (list : List Opnd) (x : Opnd) → is_rising list ≡ true → ((y : Opnd) → is_among y list ≡ true → number_of y < number_of x) →
+pub rising_push : (list : List Opnd) (x : Opnd) → is_rising list ≡ true →
+    ((y : Opnd) → is_among y list ≡ true → number_of y < number_of x) →
     is_rising (list ++ x ∷ []) ≡ true
 rising_push [] x r l = refl
-rising_push (y ∷ []) x r l = and_from _ true (lt-ltb (number_of y) (number_of x) (l y (or_left (is_same y y) false (same_itself y)))) refl
+rising_push (y ∷ []) x r l = and_from _ true (lt-ltb (number_of y) (number_of x)
+    (l y (or_left (is_same y y) false (same_itself y)))) refl
 rising_push (y ∷ z ∷ rest) x r l =
     let h = and_parts (nat_lt (number_of y) (number_of z)) (is_rising (z ∷ rest)) r in
     and_from _ _ h.0 (rising_push (z ∷ rest) x h.1 (λ u a. l u (or_right (is_same u y) _ a)))

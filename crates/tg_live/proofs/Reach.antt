@@ -22,8 +22,10 @@ live_before all x at next g d l = record {
 
 module _ (all : List Instr) (x : Opnd) (has : ℕ → Bool)
     (before_use : (at next : ℕ) → goes_on all at next ≡ true → is_used all x next ≡ true → has at ≡ true)
-    (before_own : (at next : ℕ) → goes_on all at next ≡ true → is_defined all x next ≡ false → has next ≡ true → has at ≡ true) where
-  along : (path : List ℕ) (next : ℕ) → leads_to_use all x next path ≡ true → (at : ℕ) → goes_on all at next ≡ true → has at ≡ true
+    (before_own : (at next : ℕ) → goes_on all at next ≡ true → is_defined all x next ≡ false → has next ≡ true →
+    has at ≡ true) where
+  along : (path : List ℕ) (next : ℕ) → leads_to_use all x next path ≡ true → (at : ℕ) → goes_on all at next ≡ true →
+      has at ≡ true
   along [] next u at g = before_use at next g u
   along (further ∷ path) next l at g =
       let h = and_parts (not (is_defined all x next)) (goes_on all next further && leads_to_use all x further path) l in
@@ -35,7 +37,8 @@ module _ (all : List Instr) (x : Opnd) (has : ℕ → Bool)
   least at l = along l.path l.next l.leads at l.goes
 
 -- where an operand is live out of a place it is used at some place
-pub used_along : (all : List Instr) (x : Opnd) (path : List ℕ) (next : ℕ) → leads_to_use all x next path ≡ true → (at : ℕ) × (is_used all x at ≡ true)
+pub used_along : (all : List Instr) (x : Opnd) (path : List ℕ) (next : ℕ) → leads_to_use all x next path ≡ true →
+    (at : ℕ) × (is_used all x at ≡ true)
 used_along all x [] next u = (next, u)
 used_along all x (further ∷ path) next l =
     let h = and_parts (not (is_defined all x next)) (goes_on all next further && leads_to_use all x further path) l in

@@ -47,7 +47,8 @@ unmarked x (s ∷ rest) = one_unless (ends_in x s) + unmarked x rest
 abbrev pub room : Opnd → Found → ℕ
 room x f = unmarked x f.sets + length f.places
 
-unmarked_push : (x : Opnd) (sets : Sets) (at : ℕ) → at < length sets → ends_in x (set_at sets at) ≡ false → unmarked x (push_at sets at x) + 1 ≡ unmarked x sets
+unmarked_push : (x : Opnd) (sets : Sets) (at : ℕ) → at < length sets → ends_in x (set_at sets at) ≡ false →
+    unmarked x (push_at sets at x) + 1 ≡ unmarked x sets
 unmarked_push x [] at l e = absurd (omega arith)
 unmarked_push x (s ∷ rest) zero l e =
     let n = ap one_unless e in
@@ -60,7 +61,8 @@ unmarked_push x (s ∷ rest) (suc at) l e =
 room_enter : (x : Opnd) (at : ℕ) (f : Found) → at < length f.sets → room x (enter x at f) ≡ room x f
 room_enter x at f l = by (ends_in x (set_at f.sets at)) refl
   where
-    by : (b : Bool) → ends_in x (set_at f.sets at) ≡ b → room x (cond b f (found (push_at f.sets at x) (f.places ++ at ∷ []))) ≡ room x f
+    by : (b : Bool) → ends_in x (set_at f.sets at) ≡ b →
+        room x (cond b f (found (push_at f.sets at x) (f.places ++ at ∷ []))) ≡ room x f
     by true e = refl
     by false e = omega (arith, unmarked_push x f.sets at l e, length_push f.places at)
 
@@ -71,20 +73,24 @@ length-enter x at f = by (ends_in x (set_at f.sets at))
     by true = refl
     by false = length-push_at f.sets at x
 
-all_below_same : (m n : ℕ) (rows : List ℕ) → m ≡ n → list_all (λ k. nat_lt k n) rows ≡ true → list_all (λ k. nat_lt k m) rows ≡ true
+all_below_same : (m n : ℕ) (rows : List ℕ) → m ≡ n → list_all (λ k. nat_lt k n) rows ≡ true →
+    list_all (λ k. nat_lt k m) rows ≡ true
 all_below_same m n rows e h = let P : ℕ → Type 0 = λ i. list_all (λ k. nat_lt k i) rows ≡ true in subst P (sym e) h
 
 pub length-enter_all : (x : Opnd) (rows : List ℕ) (f : Found) → length (enter_all x rows f).sets ≡ length f.sets
 length-enter_all x [] f = refl
 length-enter_all x (at ∷ rows) f = length-enter_all x rows (enter x at f) ∙ length-enter x at f
 
-room_enter_all : (x : Opnd) (rows : List ℕ) (f : Found) → list_all (λ k. nat_lt k (length f.sets)) rows ≡ true → room x (enter_all x rows f) ≡ room x f
+room_enter_all : (x : Opnd) (rows : List ℕ) (f : Found) → list_all (λ k. nat_lt k (length f.sets)) rows ≡ true →
+    room x (enter_all x rows f) ≡ room x f
 room_enter_all x [] f h = refl
 room_enter_all x (at ∷ rows) f h =
     let k = and_parts (nat_lt at (length f.sets)) (list_all (λ k. nat_lt k (length f.sets)) rows) h in
-    room_enter_all x rows (enter x at f) (all_below_same _ _ rows (length-enter x at f) k.1) ∙ room_enter x at f (ltb-true at (length f.sets) k.0)
+    room_enter_all x rows (enter x at f) (all_below_same _ _ rows (length-enter x at f) k.1)
+    ∙ room_enter x at f (ltb-true at (length f.sets) k.0)
 
-pub room_visit : (all : List Instr) (x : Opnd) (before : Table) (at : ℕ) (f : Found) → list_all (λ k. nat_lt k (length f.sets)) (row before at) ≡ true →
+pub room_visit : (all : List Instr) (x : Opnd) (before : Table) (at : ℕ) (f : Found) →
+    list_all (λ k. nat_lt k (length f.sets)) (row before at) ≡ true →
     room x (visit all x before at f) ≡ room x f
 room_visit all x before at f h = by (is_defined all x at)
   where
@@ -92,7 +98,8 @@ room_visit all x before at f h = by (is_defined all x at)
     by true = refl
     by false = room_enter_all x (row before at) f h
 
-pub length-visit : (all : List Instr) (x : Opnd) (before : Table) (at : ℕ) (f : Found) → length (visit all x before at f).sets ≡ length f.sets
+pub length-visit : (all : List Instr) (x : Opnd) (before : Table) (at : ℕ) (f : Found) →
+    length (visit all x before at f).sets ≡ length f.sets
 length-visit all x before at f = by (is_defined all x at)
   where
     by : (b : Bool) → length (cond b f (enter_all x (row before at) f)).sets ≡ length f.sets
@@ -123,7 +130,8 @@ module _ (all : List Instr) (x : Opnd) where
     kept = λ k l. let u = a.kept k l in let v = b.kept k u.0 in (v.0, v.1 ∙ u.1);
   }
 
-  module _ (old : Sets) (f : Found) (s : IsFound old f) (at : ℕ) (l : at < length old) (live_at : IsLiveOut all at x) where
+  module _ (old : Sets) (f : Found) (s : IsFound old f) (at : ℕ) (l : at < length old) (live_at : IsLiveOut all at
+      x) where
     within : at < length f.sets
     within = subst (λ (n : ℕ). at < n) (sym s.size) l
 
@@ -148,7 +156,8 @@ module _ (all : List Instr) (x : Opnd) where
     grown_same : marks f at ≡ false → Grown (set_at g.sets at) (set_at old at)
     grown_same e =
         let was = s.grown at ∙ ap (λ b. cond b (set_at old at ++ x ∷ []) (set_at old at)) e in
-        set_same ∙ (ap (λ u. u ++ x ∷ []) was ∙ sym (ap (λ b. cond b (set_at old at ++ x ∷ []) (set_at old at)) mark_same))
+        set_same ∙ (ap (λ u. u ++ x ∷ []) was
+        ∙ sym (ap (λ b. cond b (set_at old at ++ x ∷ []) (set_at old at)) mark_same))
 
     new_found : marks f at ≡ false → IsFound old g
     new_found e = record {
@@ -157,8 +166,12 @@ module _ (all : List Instr) (x : Opnd) where
           ⊎_elim (λ same. subst (λ (k : ℕ). Grown (set_at g.sets k) (set_at old k)) (sym same) (grown_same e))
           (λ ne. subst (λ (u : List Opnd). Grown u (set_at old q)) (sym (set_other q ne)) (s.grown q)) (cases_eq q at);
       listed = λ q.
-          ⊎_elim (λ same. ap (marks g) same ∙ (mark_same ∙ sym (has_push q f.places at ∙ or_right (has q f.places) _ (eq-eqb q at same))))
-          (λ ne. mark_other q ne ∙ (s.listed q ∙ sym (has_push q f.places at ∙ (ap (λ b. has q f.places || b) (ne_eqb q at ne) ∙ or_false _)))) (cases_eq q at);
+          ⊎_elim (λ same. ap (marks g) same
+          ∙ (mark_same ∙ sym (has_push q f.places at ∙ or_right (has q f.places) _ (eq-eqb q at same))))
+          (λ ne. mark_other q ne
+          ∙ (s.listed q
+          ∙ sym (has_push q f.places at
+          ∙ (ap (λ b. has q f.places || b) (ne_eqb q at ne) ∙ or_false _)))) (cases_eq q at);
       live = λ q m.
           ⊎_elim (λ same. subst (λ (k : ℕ). IsLiveOut all k x) (sym same) live_at)
           (λ ne. s.live q (sym (mark_other q ne) ∙ m)) (cases_eq q at);
@@ -190,11 +203,17 @@ module _ (all : List Instr) (x : Opnd) where
 
   pub are_entered : (old : Sets) (rows : List ℕ) (f : Found) → IsFound old f →
       ((q : ℕ) → has q rows ≡ true → (q < length old) × IsLiveOut all q x) → AreEntered old f (enter_all x rows f) rows
-  are_entered old [] f s fit = record { is_found = s; extends = extends_itself f; marked = λ q h. absurd (false≢true h) }
+  are_entered old [] f s fit = record {
+    is_found = s;
+    extends = extends_itself f;
+    marked = λ q h. absurd
+        (false≢true h);
+  }
   are_entered old (at ∷ rows) f s fit =
       let here = fit at (or_left (nat_eq at at) (has at rows) (eq-eqb at at refl)) in
       let one = is_entered old f s at here.0 here.1 in
-      let rest = are_entered old rows (enter x at f) one.is_found (λ q h. fit q (or_right (nat_eq q at) (has q rows) h)) in
+      let rest =
+      are_entered old rows (enter x at f) one.is_found (λ q h. fit q (or_right (nat_eq q at) (has q rows) h)) in
       record {
         is_found = rest.is_found;
         extends = extends_both f (enter x at f) (enter_all x rows (enter x at f)) one.extends rest.extends;
@@ -207,12 +226,14 @@ module _ (all : List Instr) (x : Opnd) where
   pub record IsSearching (old : Sets) (f : Found) (done : ℕ) : Type 0 where
     pub is_found : IsFound old f
     pub uses : (p : ℕ) → is_used all x p ≡ true → (q : ℕ) → goes_on all q p ≡ true → marks f q ≡ true
-    pub closed : (k : ℕ) → k < done → is_defined all x (get_or f.places k 0) ≡ false → (q : ℕ) → goes_on all q (get_or f.places k 0) ≡ true → marks f q ≡ true
+    pub closed : (k : ℕ) → k < done → is_defined all x (get_or f.places k 0) ≡ false → (q : ℕ) →
+        goes_on all q (get_or f.places k 0) ≡ true → marks f q ≡ true
     pub within : done ≤ length f.places
 
   module _ (before : Table) (is_before : IsBefore all before) (old : Sets) (size : length old ≡ length all) where
     -- places before a place that the operand is live into
-    row_fits : (p : ℕ) → ((q : ℕ) → goes_on all q p ≡ true → IsLiveOut all q x) → (q : ℕ) → has q (row before p) ≡ true → (q < length old) × IsLiveOut all q x
+    row_fits : (p : ℕ) → ((q : ℕ) → goes_on all q p ≡ true → IsLiveOut all q x) → (q : ℕ) →
+        has q (row before p) ≡ true → (q < length old) × IsLiveOut all q x
     row_fits p live q h =
         let g = sym (is_before q p) ∙ h in
         (subst (λ (n : ℕ). q < n) (sym size) (goes_within all q p g), live q g)
@@ -222,7 +243,8 @@ module _ (all : List Instr) (x : Opnd) where
       pub extends : Extends f g
       pub marked : (p : ℕ) → has p places ≡ true → (q : ℕ) → goes_on all q p ≡ true → marks g q ≡ true
 
-    pub are_before : (places : List ℕ) (f : Found) → IsFound old f → ((p : ℕ) → has p places ≡ true → is_used all x p ≡ true) →
+    pub are_before : (places : List ℕ) (f : Found) → IsFound old f →
+        ((p : ℕ) → has p places ≡ true → is_used all x p ≡ true) →
         AreBefore f (enter_before x before places f) places
     are_before [] f s used = record { is_found = s; extends = extends_itself f; marked = λ p h. absurd (false≢true h) }
     are_before (p ∷ places) f s used =
@@ -249,7 +271,8 @@ module _ (all : List Instr) (x : Opnd) where
       live = λ q m. absurd (false≢true (sym (none q) ∙ m));
     }
 
-    pub begins : (sites : List ℕ) → ((q : ℕ) → ends_in x (set_at old q) ≡ false) → ((p : ℕ) → has p sites ≡ is_used all x p) →
+    pub begins : (sites : List ℕ) → ((q : ℕ) → ends_in x (set_at old q) ≡ false) →
+        ((p : ℕ) → has p sites ≡ is_used all x p) →
         IsSearching old (enter_before x before sites (found old [])) 0
     begins sites none same =
         let b = are_before sites (found old []) (fresh none) (λ p h. sym (same p) ∙ h) in
@@ -265,14 +288,16 @@ module _ (all : List Instr) (x : Opnd) where
       extends : Extends f g
       marked : is_defined all x at ≡ false → (q : ℕ) → goes_on all q at ≡ true → marks g q ≡ true
 
-    visited : (f : Found) (at : ℕ) → IsFound old f → marks f at ≡ true → (b : Bool) → is_defined all x at ≡ b → IsVisited f (cond b f (enter_all x (row before at) f)) at
+    visited : (f : Found) (at : ℕ) → IsFound old f → marks f at ≡ true → (b : Bool) → is_defined all x at ≡ b →
+        IsVisited f (cond b f (enter_all x (row before at) f)) at
     visited f at s m true e = record {
       is_found = s;
       extends = extends_itself f;
       marked = λ d. absurd (both_ways _ d e);
     }
     visited f at s m false e =
-        let all_in = are_entered old (row before at) f s (row_fits at (λ q go. live_before all x q at go e (s.live at m))) in
+        let all_in =
+        are_entered old (row before at) f s (row_fits at (λ q go. live_before all x q at go e (s.live at m))) in
         record {
           is_found = all_in.is_found;
           extends = all_in.extends;
@@ -292,19 +317,23 @@ module _ (all : List Instr) (x : Opnd) where
           closed = λ k w.
               let kl : k < length f.places = omega (arith, w, l, s.within) in
               let same = (v.extends.kept k kl).1 in
-              let P : ℕ → Type 0 = λ n. is_defined all x n ≡ false → (q : ℕ) → goes_on all q n ≡ true → marks g q ≡ true in
+              let P : ℕ → Type 0 =
+              λ n. is_defined all x n ≡ false → (q : ℕ) → goes_on all q n ≡ true → marks g q ≡ true in
               subst P (sym same)
               (⊎_elim (λ e. subst (λ (n : ℕ). P (get_or f.places n 0)) (sym e) v.marked)
               (λ ne. (λ d q go. v.extends.marked q (s.closed k (omega (arith, w, ne)) d q go))) (cases_eq k done));
           within = let h = (v.extends.kept done l).0 in omega (arith, h);
         }
 
-    ends_by : (f : Found) (done : ℕ) → IsSearching old f done → length f.places ≤ done → (q : ℕ) (b : Bool) → marks f q ≡ b →
-        ((set_at f.sets q ≡ set_at old q ++ x ∷ []) × IsLiveOut all q x) ⊎ ((set_at f.sets q ≡ set_at old q) × (IsLiveOut all q x → ⊥))
+    ends_by : (f : Found) (done : ℕ) → IsSearching old f done → length f.places ≤ done → (q : ℕ) (b : Bool) →
+        marks f q ≡ b →
+        ((set_at f.sets q ≡ set_at old q ++ x ∷ []) × IsLiveOut all q x) ⊎ ((set_at f.sets q ≡ set_at old q) ×
+        (IsLiveOut all q x → ⊥))
     ends_by f done s l q true e =
         inl (s.is_found.grown q ∙ ap (λ b. cond b (set_at old q ++ x ∷ []) (set_at old q)) e, s.is_found.live q e)
     ends_by f done s l q false e =
-        let before_own : (at next : ℕ) → goes_on all at next ≡ true → is_defined all x next ≡ false → marks f next ≡ true → marks f at ≡ true =
+        let before_own : (at next : ℕ) → goes_on all at next ≡ true → is_defined all x next ≡ false →
+        marks f next ≡ true → marks f at ≡ true =
         λ at next go d m.
         let i = index_of next f.places (sym (s.is_found.listed next) ∙ m) in
         let il : i.0 < done = omega (arith, i.1, l) in
@@ -318,12 +347,15 @@ module _ (all : List Instr) (x : Opnd) where
     ends f done s l = record { size = s.is_found.size; each = λ q. ends_by f done s l q (marks f q) refl }
 
 -- the place that is visited next is one of the code
-pub place_within : (all : List Instr) (x : Opnd) (old : Sets) (f : Found) (done : ℕ) → IsSearching all x old f done → done < length f.places →
+pub place_within : (all : List Instr) (x : Opnd) (old : Sets) (f : Found) (done : ℕ) → IsSearching all x old f done →
+    done < length f.places →
     get_or f.places done 0 < length all
 place_within all x old f done s l =
-    let live = s.is_found.live (get_or f.places done 0) (s.is_found.listed (get_or f.places done 0) ∙ has_at f.places done l) in
+    let live = s.is_found.live (get_or f.places done 0) (s.is_found.listed (get_or f.places done 0)
+    ∙ has_at f.places done l) in
     goes_within all (get_or f.places done 0) live.next live.goes
 
 pub enter_before_more : (x : Opnd) (before : Table) (places : List ℕ) (i : ℕ) (f : Found) → i < length places →
-    enter_before x before (drop i places) f ≡ enter_before x before (drop (i + 1) places) (enter_all x (row before (get_or places i 0)) f)
+    enter_before x before (drop i places) f ≡ enter_before x before (drop (i + 1) places) (enter_all x
+    (row before (get_or places i 0)) f)
 enter_before_more x before places i f l = ap (λ rest. enter_before x before rest f) (drop_more places i 0 l)

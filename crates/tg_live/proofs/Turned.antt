@@ -39,19 +39,22 @@ pub has_push : (p : ℕ) (ks : List ℕ) (v : ℕ) → has p (ks ++ v ∷ []) �
 has_push p [] v = or_false (nat_eq p v)
 has_push p (k ∷ ks) v = ap (λ b. nat_eq p k || b) (has_push p ks v) ∙ or_assoc (nat_eq p k) (has p ks) (nat_eq p v)
 
-pub row_same : {A : Type 0} (t : List (List A)) (n : ℕ) (v : A) → n < length t → row (push_at t n v) n ≡ row t n ++ v ∷ []
+pub row_same : {A : Type 0} (t : List (List A)) (n : ℕ) (v : A) → n < length t →
+    row (push_at t n v) n ≡ row t n ++ v ∷ []
 row_same t n v l = get_or-set_same t n (row t n ++ v ∷ []) [] l
 
 pub row_other : {A : Type 0} (t : List (List A)) (n : ℕ) (v : A) (q : ℕ) → (q ≡ n → ⊥) → row (push_at t n v) q ≡ row t q
 row_other t n v q ne = get_or-set_other t n q (row t n ++ v ∷ []) [] ne
 
-row_push : (t : Table) (n v : ℕ) → n < length t → (p q : ℕ) → has p (row (push_at t n v) q) ≡ ((nat_eq q n && nat_eq p v) || has p (row t q))
+row_push : (t : Table) (n v : ℕ) → n < length t → (p q : ℕ) →
+    has p (row (push_at t n v) q) ≡ ((nat_eq q n && nat_eq p v) || has p (row t q))
 row_push t n v l p q = ⊎_elim same other (cases_eq q n)
   where
     same : q ≡ n → has p (row (push_at t n v) q) ≡ ((nat_eq q n && nat_eq p v) || has p (row t q))
     same e =
         let P : ℕ → Type 0 = λ k. has p (row (push_at t n v) k) ≡ ((nat_eq k n && nat_eq p v) || has p (row t k)) in
-        subst P (sym e) (ap (has p) (row_same t n v l) ∙ (has_push p (row t n) v ∙ (or_swap (has p (row t n)) (nat_eq p v)
+        subst P (sym e) (ap (has p) (row_same t n v l)
+        ∙ (has_push p (row t n) v ∙ (or_swap (has p (row t n)) (nat_eq p v)
         ∙ ap (λ b. (b && nat_eq p v) || has p (row t n)) (sym (eq-eqb n n refl)))))
 
     other : (q ≡ n → ⊥) → has p (row (push_at t n v) q) ≡ ((nat_eq q n && nat_eq p v) || has p (row t q))
@@ -68,10 +71,12 @@ pub length-add_from : (at : ℕ) (lists : List (List ℕ)) (t : Table) → lengt
 length-add_from at [] t = refl
 length-add_from at (rows ∷ rest) t = length-add_from (suc at) rest (add_to at rows t) ∙ length-add_to at rows t
 
-below_same : (m n : ℕ) (rows : List ℕ) → m ≡ n → list_all (λ k. nat_lt k n) rows ≡ true → list_all (λ k. nat_lt k m) rows ≡ true
+below_same : (m n : ℕ) (rows : List ℕ) → m ≡ n → list_all (λ k. nat_lt k n) rows ≡ true →
+    list_all (λ k. nat_lt k m) rows ≡ true
 below_same m n rows e h = let P : ℕ → Type 0 = λ i. list_all (λ k. nat_lt k i) rows ≡ true in subst P (sym e) h
 
-rows_below_same : (m n : ℕ) (lists : List (List ℕ)) → m ≡ n → have_rows_below n lists ≡ true → have_rows_below m lists ≡ true
+rows_below_same : (m n : ℕ) (lists : List (List ℕ)) → m ≡ n → have_rows_below n lists ≡ true →
+    have_rows_below m lists ≡ true
 rows_below_same m n lists e h = let P : ℕ → Type 0 = λ i. have_rows_below i lists ≡ true in subst P (sym e) h
 
 shuffle_add : (a h e o : Bool) → ((a && h) || ((e && a) || o)) ≡ ((a && (e || h)) || o)
@@ -99,7 +104,8 @@ add_from_more lists at t l =
     ∙ ap (λ n. add_from n (drop (at + 1) lists) (add_to at (row lists at) t)) e
 
 pub push_row : {A T : Type 0} (f : A → List T) (rows : List A) (t : List (List T)) (at : ℕ) (old new : A) (item : T) →
-    map f rows ≡ t → at < length t → old ≡ get_or rows at old → f new ≡ f old ++ item ∷ [] → map f (set rows at new) ≡ push_at t at item
+    map f rows ≡ t → at < length t → old ≡ get_or rows at old → f new ≡ f old ++ item ∷ [] →
+    map f (set rows at new) ≡ push_at t at item
 push_row f rows t at old new item view w is e =
     let l : at < length rows = omega (arith, w, ap (λ u. length u) view, length-map rows f) in
     map-set f rows at new
@@ -131,7 +137,8 @@ holds_below : (at : ℕ) (lists : List (List ℕ)) (p q : ℕ) → p < at → ho
 unfolding holds
 holds_below at [] p q l = refl
 holds_below at (list ∷ rest) p q l =
-    ap (λ b. (b && has q list) || holds (suc at) rest p q) (ne_eqb p at (omega arith)) ∙ holds_below (suc at) rest p q (omega arith)
+    ap (λ b. (b && has q list) || holds (suc at) rest p q) (ne_eqb p at (omega arith))
+    ∙ holds_below (suc at) rest p q (omega arith)
 
 holds_at : (at : ℕ) (lists : List (List ℕ)) (k p q : ℕ) → p ≡ at + k → holds at lists p q ≡ has q (row lists k)
 unfolding holds
@@ -140,7 +147,8 @@ holds_at at (list ∷ rest) zero p q e =
     ap (λ b. (b && has q list) || holds (suc at) rest p q) (eq-eqb p at (omega arith))
     ∙ (ap (λ b. has q list || b) (holds_below (suc at) rest p q (omega arith)) ∙ or_false (has q list))
 holds_at at (list ∷ rest) (suc k) p q e =
-    ap (λ b. (b && has q list) || holds (suc at) rest p q) (ne_eqb p at (omega arith)) ∙ holds_at (suc at) rest k p q (omega arith)
+    ap (λ b. (b && has q list) || holds (suc at) rest p q) (ne_eqb p at (omega arith))
+    ∙ holds_at (suc at) rest k p q (omega arith)
 
 pub row_none : {A : Type 0} (n q : ℕ) → row (replicate n (let e : List A = [] in e)) q ≡ []
 row_none zero q = refl
@@ -184,7 +192,8 @@ then_equal Greater b = refl
 pair_same : (x y : ℕ × ℕ) → eq_by_cmp pair_cmp x y ≡ (nat_eq x.0 y.0 && nat_eq x.1 y.1)
 pair_same x y =
     then_equal (nat_cmp x.0 y.0) (nat_cmp x.1 y.1)
-    ∙ (ap (λ b. b && is_eq (nat_cmp x.1 y.1)) (unsigned_tied x.0 y.0) ∙ ap (λ b. nat_eq x.0 y.0 && b) (unsigned_tied x.1 y.1))
+    ∙ (ap (λ b. b && is_eq (nat_cmp x.1 y.1)) (unsigned_tied x.0 y.0)
+    ∙ ap (λ b. nat_eq x.0 y.0 && b) (unsigned_tied x.1 y.1))
 
 and_or : (a e h : Bool) → ((a && e) || (a && h)) ≡ (a && (e || h))
 and_or true e h = refl
@@ -196,19 +205,24 @@ and_or_back true false h = refl
 and_or_back false true h = refl
 and_or_back false false h = refl
 
-edges_out : (at : ℕ) (nexts : List ℕ) (x : ℕ × ℕ) → list_any (eq_by_cmp pair_cmp x) (map (λ next. (at, next)) nexts) ≡ (nat_eq x.0 at && has x.1 nexts)
+edges_out : (at : ℕ) (nexts : List ℕ) (x : ℕ × ℕ) →
+    list_any (eq_by_cmp pair_cmp x) (map (λ next. (at, next)) nexts) ≡ (nat_eq x.0 at && has x.1 nexts)
 edges_out at [] x = sym (and_false (nat_eq x.0 at))
 edges_out at (n ∷ nexts) x =
     ap (λ b. b || list_any (eq_by_cmp pair_cmp x) (map (λ next. (at, next)) nexts)) (pair_same x (at, n))
-    ∙ (ap (λ b. (nat_eq x.0 at && nat_eq x.1 n) || b) (edges_out at nexts x) ∙ and_or (nat_eq x.0 at) (nat_eq x.1 n) (has x.1 nexts))
+    ∙ (ap (λ b. (nat_eq x.0 at && nat_eq x.1 n) || b) (edges_out at nexts x)
+    ∙ and_or (nat_eq x.0 at) (nat_eq x.1 n) (has x.1 nexts))
 
-edges_in : (at : ℕ) (befores : List ℕ) (x : ℕ × ℕ) → list_any (eq_by_cmp pair_cmp x) (map (λ before. (before, at)) befores) ≡ (nat_eq x.1 at && has x.0 befores)
+edges_in : (at : ℕ) (befores : List ℕ) (x : ℕ × ℕ) →
+    list_any (eq_by_cmp pair_cmp x) (map (λ before. (before, at)) befores) ≡ (nat_eq x.1 at && has x.0 befores)
 edges_in at [] x = sym (and_false (nat_eq x.1 at))
 edges_in at (n ∷ befores) x =
     ap (λ b. b || list_any (eq_by_cmp pair_cmp x) (map (λ before. (before, at)) befores)) (pair_same x (n, at))
-    ∙ (ap (λ b. (nat_eq x.0 n && nat_eq x.1 at) || b) (edges_in at befores x) ∙ and_or_back (nat_eq x.1 at) (nat_eq x.0 n) (has x.0 befores))
+    ∙ (ap (λ b. (nat_eq x.0 n && nat_eq x.1 at) || b) (edges_in at befores x)
+    ∙ and_or_back (nat_eq x.1 at) (nat_eq x.0 n) (has x.0 befores))
 
-edges_from_hold : (at : ℕ) (lists : List (List ℕ)) (x : ℕ × ℕ) → list_any (eq_by_cmp pair_cmp x) (edges_from at lists) ≡ holds at lists x.0 x.1
+edges_from_hold : (at : ℕ) (lists : List (List ℕ)) (x : ℕ × ℕ) →
+    list_any (eq_by_cmp pair_cmp x) (edges_from at lists) ≡ holds at lists x.0 x.1
 unfolding holds
 edges_from_hold at [] x = refl
 edges_from_hold at (nexts ∷ rest) x =
@@ -216,7 +230,8 @@ edges_from_hold at (nexts ∷ rest) x =
     ∙ (ap (λ b. b || list_any (eq_by_cmp pair_cmp x) (edges_from (suc at) rest)) (edges_out at nexts x)
     ∙ ap (λ b. (nat_eq x.0 at && has x.1 nexts) || b) (edges_from_hold (suc at) rest x))
 
-edges_into_hold : (at : ℕ) (t : Table) (x : ℕ × ℕ) → list_any (eq_by_cmp pair_cmp x) (edges_into at t) ≡ holds at t x.1 x.0
+edges_into_hold : (at : ℕ) (t : Table) (x : ℕ × ℕ) →
+    list_any (eq_by_cmp pair_cmp x) (edges_into at t) ≡ holds at t x.1 x.0
 unfolding holds
 edges_into_hold at [] x = refl
 edges_into_hold at (befores ∷ rest) x =
@@ -224,19 +239,25 @@ edges_into_hold at (befores ∷ rest) x =
     ∙ (ap (λ b. b || list_any (eq_by_cmp pair_cmp x) (edges_into (suc at) rest)) (edges_in at befores x)
     ∙ ap (λ b. (nat_eq x.1 at && has x.0 befores) || b) (edges_into_hold (suc at) rest x))
 
-contains_out : (lists : List (List ℕ)) (p q : ℕ) → contains (from_list {R = pair_cmp} (edges_from 0 lists)) (p, q) ≡ has q (row lists p)
-contains_out lists p q = contains-from_list pair_total (edges_from 0 lists) (p, q) ∙ (edges_from_hold 0 lists (p, q) ∙ holds_at 0 lists p p q (omega arith))
+contains_out : (lists : List (List ℕ)) (p q : ℕ) →
+    contains (from_list {R = pair_cmp} (edges_from 0 lists)) (p, q) ≡ has q (row lists p)
+contains_out lists p q = contains-from_list pair_total (edges_from 0 lists) (p, q)
+    ∙ (edges_from_hold 0 lists (p, q) ∙ holds_at 0 lists p p q (omega arith))
 
 contains_in : (t : Table) (p q : ℕ) → contains (from_list {R = pair_cmp} (edges_into 0 t)) (p, q) ≡ has p (row t q)
-contains_in t p q = contains-from_list pair_total (edges_into 0 t) (p, q) ∙ (edges_into_hold 0 t (p, q) ∙ holds_at 0 t q q p (omega arith))
+contains_in t p q = contains-from_list pair_total (edges_into 0 t) (p, q)
+    ∙ (edges_into_hold 0 t (p, q) ∙ holds_at 0 t q q p (omega arith))
 
 -- the flow of a code has a pair exactly where the first goes on at the second
 pub flow_has : (all : List Instr) (p q : ℕ) → contains (flow_of all) (p, q) ≡ goes_on all p q
 flow_has all p q = contains_out (successors all) p q
 
-pub flow_of_table : (all : List Instr) (t : Table) → IsBefore all t → from_list {R = pair_cmp} (edges_into 0 t) ≡ flow_of all
+pub flow_of_table : (all : List Instr) (t : Table) → IsBefore all t →
+    from_list {R = pair_cmp} (edges_into 0 t) ≡ flow_of all
 flow_of_table all t before =
-    same_set pair_total pair_antisymmetric _ _ (λ x. contains_in t x.0 x.1 ∙ (before x.0 x.1 ∙ sym (flow_has all x.0 x.1)))
+    same_set pair_total pair_antisymmetric _ _ (λ x. contains_in t x.0 x.1
+    ∙ (before x.0 x.1 ∙ sym (flow_has all x.0 x.1)))
 
-pub table_of_flow : (all : List Instr) (t : Table) → from_list {R = pair_cmp} (edges_into 0 t) ≡ flow_of all → IsBefore all t
+pub table_of_flow : (all : List Instr) (t : Table) → from_list {R = pair_cmp} (edges_into 0 t) ≡ flow_of all →
+    IsBefore all t
 table_of_flow all t e p q = sym (contains_in t p q) ∙ (ap (λ s. contains s (p, q)) e ∙ flow_has all p q)

@@ -12,8 +12,10 @@ loop-at-preserved c =
     let at = c.loop-at.at in
     let l : at < length lists = omega (arith, length-successors c.args.list.now, c.loop-at-test.true) in
     record {
-      added = ap (add_from (at + 1) (drop (at + 1) lists)) c.in_ok-add_edges.ensures ∙ (sym (add_from_more lists at c.loop-at.before l) ∙ c.loop-at.invariant.added);
-      size = ap (λ (t : Table). length t) c.in_ok-add_edges.ensures ∙ (length-add_to at (row lists at) c.loop-at.before ∙ c.loop-at.invariant.size);
+      added = ap (add_from (at + 1) (drop (at + 1) lists)) c.in_ok-add_edges.ensures
+          ∙ (sym (add_from_more lists at c.loop-at.before l) ∙ c.loop-at.invariant.added);
+      size = ap (λ (t : Table). length t) c.in_ok-add_edges.ensures
+          ∙ (length-add_to at (row lists at) c.loop-at.before ∙ c.loop-at.invariant.size);
     }
 
 pub returns : goal.returns

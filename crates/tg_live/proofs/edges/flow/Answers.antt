@@ -11,10 +11,12 @@ pub add_all_edges-requires-clause-within : goal.add_all_edges-requires-clause-wi
 add_all_edges-requires-clause-within c =
     let code = c.args.code.now in
     let list = c.as_slice-list.result.now in
-    let size = ap (λ (t : Table). length t) c.in_ok-before.ensures ∙ (length-replicate (length list) [] ∙ ap (λ (l : List Instr). length l) c.as_slice-list.ensures) in
+    let size = ap (λ (t : Table). length t) c.in_ok-before.ensures
+    ∙ (length-replicate (length list) [] ∙ ap (λ (l : List Instr). length l) c.as_slice-list.ensures) in
     let P : ℕ → Type 0 = λ n. have_rows_below n (successors code.list) ≡ true in
     let Q : List Instr → Type 0 = λ l. have_rows_below (length c.in_ok-before.before) (successors l) ≡ true in
-    subst Q (sym c.as_slice-list.ensures) (subst P (sym size) (successors_below code.list code.marks_stand code.ends_well))
+    subst Q (sym c.as_slice-list.ensures) (subst P (sym size)
+    (successors_below code.list code.marks_stand code.ends_well))
 
 pub returns : goal.returns
 returns c =
@@ -24,4 +26,6 @@ returns c =
     c.in_ok-add_all_edges.ensures
     ∙ (ap (add_from 0 (successors c.as_slice-list.result.now)) c.in_ok-before.ensures
     ∙ ap (λ (l : List Instr). add_from 0 (successors l) (replicate (length l) [])) c.as_slice-list.ensures) in
-    c.new.ensures ∙ flow_of_table code.list table (before_of code.list table (successors_below code.list code.marks_stand code.ends_well) made)
+    c.new.ensures
+    ∙ flow_of_table code.list table (before_of code.list table
+    (successors_below code.list code.marks_stand code.ends_well) made)

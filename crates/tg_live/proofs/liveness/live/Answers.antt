@@ -14,12 +14,14 @@ operand_of-one-requires c = omega (arith, c.loop-number-test.true, c.len-number-
 pub run-requires-clause-before : goal.run-requires-clause-before
 run-requires-clause-before c =
     table_of_flow c.as_slice-list.result.now c.before-in-loop-number.result.now
-    (sym c.before-in-loop-number.ensures ∙ (c.requires ∙ ap (λ (l : List Instr). flow_of l) (sym c.as_slice-list.ensures)))
+    (sym c.before-in-loop-number.ensures
+    ∙ (c.requires ∙ ap (λ (l : List Instr). flow_of l) (sym c.as_slice-list.ensures)))
 
 pub run-requires-clause-fresh : goal.run-requires-clause-fresh
 run-requires-clause-fresh c = λ at.
     ap (λ (x : Opnd). ends_in x (set_at c.loop-number.search.sets at)) c.operand_of-one.ensures
-    ∙ gathered_fresh c.as_slice-list.result.now c.loop-number.number c.loop-number.search.sets c.loop-number.invariant at
+    ∙ gathered_fresh c.as_slice-list.result.now c.loop-number.number c.loop-number.search.sets
+    c.loop-number.invariant at
 
 pub loop-number-preserved : goal.loop-number-preserved
 loop-number-preserved c =
@@ -27,7 +29,8 @@ loop-number-preserved c =
     let old = c.loop-number.search.sets in
     let new = c.run.new.self.sets in
     let P : Opnd → Type 0 = λ x. AreSearched list x old new in
-    gathered_more list c.loop-number.number old new c.loop-number.invariant (subst P c.operand_of-one.ensures c.in_ok-run.ensures)
+    gathered_more list c.loop-number.number old new c.loop-number.invariant (subst P c.operand_of-one.ensures
+    c.in_ok-run.ensures)
 
 pub returns : goal.returns
 returns c =
@@ -37,6 +40,8 @@ returns c =
     let sites = c.in_ok-sites.sites in
     let P : List Instr → Type 0 = λ all. AreGathered all n sets in
     let Q : Sets → Type 0 = λ s. AreLiveSets code.list s in
-    let e : n ≡ length sites = omega (arith, c.loop-number-test.false, c.loop-number.auto.number-end, c.len-number-end.ensures) in
+    let e : n ≡ length sites =
+    omega (arith, c.loop-number-test.false, c.loop-number.auto.number-end, c.len-number-end.ensures) in
     subst Q (sym (c.new-2.ensures ∙ c.into_sets.ensures))
-    (gathered_all code.list n sets sites (subst P c.as_slice-list.ensures c.loop-number.invariant) c.in_ok-sites.ensures.sites e)
+    (gathered_all code.list n sets sites (subst P c.as_slice-list.ensures c.loop-number.invariant)
+    c.in_ok-sites.ensures.sites e)

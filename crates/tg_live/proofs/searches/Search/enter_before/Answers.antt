@@ -10,6 +10,8 @@ loop-place-preserved c =
     let e = c.in_ok-enter_all.ensures ∙ ap (λ rows. enter_all c.args.one.now rows c.loop-place.self) c.row.ensures in
     record {
       entered = ap (enter_before c.args.one.now c.args.before.now (drop (i + 1) places)) e
-          ∙ (sym (enter_before_more c.args.one.now c.args.before.now places i c.loop-place.self c.loop-place-test.true) ∙ c.loop-place.invariant.entered);
-      size = ap (λ (f : Found). length f.sets) c.in_ok-enter_all.ensures ∙ (length-enter_all c.args.one.now c.row.result.now c.loop-place.self ∙ c.loop-place.invariant.size);
+          ∙ (sym (enter_before_more c.args.one.now c.args.before.now places i c.loop-place.self
+          c.loop-place-test.true) ∙ c.loop-place.invariant.entered);
+      size = ap (λ (f : Found). length f.sets) c.in_ok-enter_all.ensures
+          ∙ (length-enter_all c.args.one.now c.row.result.now c.loop-place.self ∙ c.loop-place.invariant.size);
     }
