@@ -1,0 +1,13 @@
+pub mod Fine
+pub mod Counts
+pub mod Keeping
+pub mod Wanting
+pub mod Constructing
+pub mod Scoping
+pub mod Declaring
+pub mod Nesting
+pub mod Walking
+pub mod Shaped
+pub mod Typed
+pub mod Reaching
+pub mod Shaping
