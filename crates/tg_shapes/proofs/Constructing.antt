@@ -162,10 +162,12 @@ module _ (B T : Type 0) (escapes : ℕ → Bool) where
         (wanting.followed_good B T escapes n s before (store_field r k x) h (plus_good (Temp r) (4 * k) i, operand_good x j.0)) j.1
 
     record_good : (r : ℕ) (all : HeldAll) → (T → r < s.frame.temps) → GoodHeld n s all → GoodMade n s (record_of r all)
-    record_good r all i h =
-        (store_fields_good (followed all.before (Move r (call_for_record (length all.operands)))) r 0 all.operands i
-        (wanting.followed_good B T escapes n s all.before (Move r (call_for_record (length all.operands))) h.0
-        (i, (routine_below routine.MakeRecord, (tt, tt)))) h.1, i)
+    record_good r all i h = (
+      store_fields_good (followed all.before (Move r (call_for_record (length all.operands)))) r 0 all.operands i
+          (wanting.followed_good B T escapes n s all.before (Move r (call_for_record (length all.operands))) h.0
+          (i, (routine_below routine.MakeRecord, (tt, tt)))) h.1,
+      i,
+    )
 
     pub make_array_good : (size x : Tx) → GoodTx n s size → GoodTx n s x → GoodTx n s (make_array size x)
     make_array_good size x h k = (routine_below routine.MakeArray, (h, (k, tt)))
@@ -176,15 +178,19 @@ module _ (B T : Type 0) (escapes : ℕ → Bool) where
 
     product_good : (p : ℕ) (before : Stms) (l r : Tx) → (T → p < s.frame.temps) → GoodStms n s before → GoodTx n s l → GoodTx n s r →
         GoodMade n s (product_of p before l r)
-    product_good p before l r i h j k =
-        (wanting.followed_good B T escapes n s (followed before (Move p (Binary bin.Mul l r))) (product_check l r (Temp p))
-        (wanting.followed_good B T escapes n s before (Move p (Binary bin.Mul l r)) h (i, (j, k)))
-        (product_check_good l r (Temp p) j k i), i)
+    product_good p before l r i h j k = (
+      wanting.followed_good B T escapes n s (followed before (Move p (Binary bin.Mul l r))) (product_check l r (Temp p))
+          (wanting.followed_good B T escapes n s before (Move p (Binary bin.Mul l r)) h (i, (j, k)))
+          (product_check_good l r (Temp p) j k i),
+      i,
+    )
 
     quotient_good : (before : Stms) (l r : Tx) → GoodStms n s before → GoodTx n s l → GoodTx n s r → GoodMade n s (quotient_of before l r)
-    quotient_good before l r h j k =
-        (wanting.followed_good B T escapes n s (followed before (zero_check r)) (quotient_check l r)
-        (wanting.followed_good B T escapes n s before (zero_check r) h (zero_good r k)) (quotient_check_good l r j k), (j, k))
+    quotient_good before l r h j k = (
+      wanting.followed_good B T escapes n s (followed before (zero_check r)) (quotient_check l r)
+          (wanting.followed_good B T escapes n s before (zero_check r) h (zero_good r k)) (quotient_check_good l r j k),
+      (j, k),
+    )
 
     negated_good : (k : ℕ) (b : Bool) → GoodTx n s (if b then Binary bin.SubTrap (Const 0) (Const k) else Const (sub 0 k))
     negated_good k true = (tt, tt)
@@ -207,10 +213,14 @@ module _ (B T : Type 0) (escapes : ℕ → Bool) where
 
   turn_good : (n : ℕ) (s : State) (i : Access) (high : Operand) (x : Ts) → GoodAccess s i → GoodOperand s high → GoodTs (n + 1) s x →
       GoodTs (n + 1) s (turn_of i high x)
-  turn_good n s i high x h j k =
-      (assign_good (n + 1) s (own_place i) (Binary bin.Add (read (own_place i)) (Const 1)) (own_place_good (n + 1) s i h)
-      (read_good (n + 1) s (own_place i) (own_place_good (n + 1) s i h), tt), (k,
-      (((read_good (n + 1) s (own_place i) (own_place_good (n + 1) s i h), operand_good (n + 1) s high j), (λ b. omega arith), tt), tt)))
+  turn_good n s i high x h j k = (
+    assign_good (n + 1) s (own_place i) (Binary bin.Add (read (own_place i)) (Const 1)) (own_place_good (n + 1) s i h)
+        (read_good (n + 1) s (own_place i) (own_place_good (n + 1) s i h), tt),
+    (
+      k,
+      (((read_good (n + 1) s (own_place i) (own_place_good (n + 1) s i h), operand_good (n + 1) s high j), (λ b. omega arith), tt), tt),
+    ),
+  )
 
   turns_good : (n : ℕ) (s : State) (i : Access) (low high : Operand) (x : Ts) → GoodAccess s i → GoodOperand s low → GoodOperand s high → GoodTs (n + 1) s x →
       GoodTs n s (turns i low high x)
@@ -235,9 +245,11 @@ module _ (B T : Type 0) (escapes : ℕ → Bool) where
         keeping.bind B T escapes c s (λ t i. T → i < t.frame.temps) (HeldWell c.loops) (fresh s)
         (λ t. give (record { before = followed before (Move t x); operand = Kept (record { 0 = t }) }))
         (keeping.draws_temp B T escapes c s r)
-        (λ i t st r' j. keeping.given B T escapes c t (HeldWell c.loops) (record { before = followed before (Move i x); operand = Kept (record { 0 = i }) }) r'
-        (wanting.followed_good B T escapes c.loops t before (Move i x) (keeping.stms_on B T escapes c.kept s t st c.loops before h)
-        (j, keeping.tx_on B T escapes c.kept s t st c.loops x k), j))
+        (λ i t st r' j. keeping.given B T escapes c t (HeldWell c.loops) (record { before = followed before (Move i x); operand = Kept (record { 0 = i }) }) r' (
+          wanting.followed_good B T escapes c.loops t before (Move i x) (keeping.stms_on B T escapes c.kept s t st c.loops before h)
+              (j, keeping.tx_on B T escapes c.kept s t st c.loops x k),
+          j,
+        ))
 
     hold_yields : (s : State) (direct : Bool) (before : Stms) (x : Tx) → Ready c s → GoodStms c.loops s before → GoodTx c.loops s x →
         Yields c s (HeldWell c.loops) (hold direct before x s)

@@ -136,13 +136,13 @@ module _ (B T : Type 0) (findings : Findings) where
     functions = r.functions;
     owned = λ t x home k e.
         elim (named_cases x at (record { level = level; access = a }) home s.homes e) [
-          inl q ↦ subst (λ v. IsDrawn f.temps v.access) q.1 d
-        | inr q ↦ drawn_on s.frame.temps f.temps home.access h (r.owned t x home (behind_first at x c.own q.0 k) q.1)
+          | inl q ↦ subst (λ v. IsDrawn f.temps v.access) q.1 d
+          | inr q ↦ drawn_on s.frame.temps f.temps home.access h (r.owned t x home (behind_first at x c.own q.0 k) q.1)
         ];
     slots = λ t x home k e.
         elim (named_cases x at (record { level = level; access = a }) home s.homes e) [
-          inl q ↦ subst (λ v. IsTrue (is_slot v.access)) q.1 (sl (ap findings.escapes q.0 ∙ k))
-        | inr q ↦ r.slots t x home k q.1
+          | inl q ↦ subst (λ v. IsTrue (is_slot v.access)) q.1 (sl (ap findings.escapes q.0 ∙ k))
+          | inr q ↦ r.slots t x home k q.1
         ];
     link = λ t l e. let k = r.link t l e in omega (arith, k, h);
     loops = r.loops;
@@ -155,16 +155,20 @@ module _ (B T : Type 0) (findings : Findings) where
       Yields c s (Declares c at) (declare_variable b c.within.level at s)
   declared_as c s at true e r apart =
       let q : Ready (owning at c) (with_home at c.within.level (one_slot s.frame) (InFrame s.frame.slots) s) =
-        home_ready c s at c.within.level (one_slot s.frame) (InFrame s.frame.slots) (omega arith) tt (λ k. refl) r in
-      (home_step c.kept s at c.within.level (one_slot s.frame) (InFrame s.frame.slots) refl (omega arith) apart,
-      leave c (owning at c) s (with_home at c.within.level (one_slot s.frame) (InFrame s.frame.slots) s) (λ x k. more_contained at x c.own k)
-      (omega arith) r q, (tt, q))
+      home_ready c s at c.within.level (one_slot s.frame) (InFrame s.frame.slots) (omega arith) tt (λ k. refl) r in (
+        home_step c.kept s at c.within.level (one_slot s.frame) (InFrame s.frame.slots) refl (omega arith) apart,
+        leave c (owning at c) s (with_home at c.within.level (one_slot s.frame) (InFrame s.frame.slots) s) (λ x k. more_contained at x c.own k)
+            (omega arith) r q,
+        (tt, q),
+      )
   declared_as c s at false e r apart =
       let q : Ready (owning at c) (with_home at c.within.level (one_temp s.frame) (InTemp (record { 0 = s.frame.temps })) s) =
-        home_ready c s at c.within.level (one_temp s.frame) (InTemp (record { 0 = s.frame.temps })) (omega arith) (omega arith) (λ k. cc) r in
-      (home_step c.kept s at c.within.level (one_temp s.frame) (InTemp (record { 0 = s.frame.temps })) refl (omega arith) apart,
-      leave c (owning at c) s (with_home at c.within.level (one_temp s.frame) (InTemp (record { 0 = s.frame.temps })) s) (λ x k. more_contained at x c.own k)
-      (omega arith) r q, ((λ t. omega arith), q))
+      home_ready c s at c.within.level (one_temp s.frame) (InTemp (record { 0 = s.frame.temps })) (omega arith) (omega arith) (λ k. cc) r in (
+        home_step c.kept s at c.within.level (one_temp s.frame) (InTemp (record { 0 = s.frame.temps })) refl (omega arith) apart,
+        leave c (owning at c) s (with_home at c.within.level (one_temp s.frame) (InTemp (record { 0 = s.frame.temps })) s) (λ x k. more_contained at x c.own k)
+            (omega arith) r q,
+        ((λ t. omega arith), q),
+      )
 
   pub declare_yields : (c : Where) (s : State) (at : ℕ) → Ready c s → (T → AreApart (at ∷ []) c.kept) →
       Yields c s (Declares c at) (declare_variable (findings.escapes at) c.within.level at s)
@@ -199,8 +203,8 @@ module _ (B T : Type 0) (findings : Findings) where
     drawn = λ x k. drawn_there x k;
     slots = λ f. h.slots (λ x g k e.
         elim (named_cases x (at_of p.name) home g old e) [
-          inl q ↦ subst (λ v. IsTrue (is_slot v.access)) q.1 (sl (ap findings.escapes q.0 ∙ k))
-        | inr q ↦ f x g k q.1
+          | inl q ↦ subst (λ v. IsTrue (is_slot v.access)) q.1 (sl (ap findings.escapes q.0 ∙ k))
+          | inr q ↦ f x g k q.1
         ]);
   }
     where

@@ -143,13 +143,15 @@ module _ (B T : Type 0) (escapes : ℕ → Bool) where
   pub functions_on : (cs ls ds ms : List ℕ) → ((l : ℕ) → Contains cs l → Contains ds l) → ((l : ℕ) → Contains ls l → Contains ms l) →
       (fs : List (Function Ts)) → Each (FineFunction cs ls) fs → Each (FineFunction ds ms) fs
   functions_on cs ls ds ms f g [] h = tt
-  functions_on cs ls ds ms f g (one ∷ fs) h =
-      (record {
-        body =
-            widen_ts B (Knows cs ls one.temps) (Knows ds ms one.temps)
-            (know_more cs ls ds ms one.temps one.temps f g (omega arith)) 0 one.body h.0.body;
-        last = h.0.last;
-      }, functions_on cs ls ds ms f g fs h.1)
+  functions_on cs ls ds ms f g (one ∷ fs) h = (
+    record {
+      body =
+          widen_ts B (Knows cs ls one.temps) (Knows ds ms one.temps)
+          (know_more cs ls ds ms one.temps one.temps f g (omega arith)) 0 one.body h.0.body;
+      last = h.0.last;
+    },
+    functions_on cs ls ds ms f g fs h.1,
+  )
 
   abbrev pub GoodTx : ℕ → State → Tx → Type 0
   GoodTx n s x = FineTx B (KnowsAt s) n x

@@ -1,3 +1,4 @@
+mod Examples
 pub mod Fine
 pub mod Counts
 pub mod Keeping
@@ -10,4 +11,6 @@ pub mod Walking
 pub mod Shaped
 pub mod Typed
 pub mod Reaching
+pub mod Adding
+pub mod Slots
 pub mod Shaping

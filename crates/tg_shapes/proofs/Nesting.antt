@@ -247,30 +247,34 @@ module _ (B T : Type 0) (findings : Findings) where
       one_of l (suc k, i, e) = let h = r.callees l (k, omega arith, e) in (h.0, omega (arith, h.1), h.2)
 
   opened_more : (c : Where) (end at level : ℕ) (s : State) (d : Drawn (Unit {0})) → Opened c end (with_callee at level s) d → Opened c end s d
-  opened_more c end at level s (drawn u t) h =
-      (record {
-        from = let k = h.0.from in omega (arith, k);
-        label = h.0.label;
-        temps = h.0.temps;
-        name = h.0.name;
-        callees = λ l k. h.0.callees l (more_contained s.label l (callee_labels s) k);
-        literals = h.0.literals;
-        stays = h.0.stays;
-        homes = h.0.homes;
-      }, h.1)
+  opened_more c end at level s (drawn u t) h = (
+    record {
+      from = let k = h.0.from in omega (arith, k);
+      label = h.0.label;
+      temps = h.0.temps;
+      name = h.0.name;
+      callees = λ l k. h.0.callees l (more_contained s.label l (callee_labels s) k);
+      literals = h.0.literals;
+      stays = h.0.stays;
+      homes = h.0.homes;
+    },
+    h.1,
+  )
 
   pub declared_opens : (fs : FunDecs) (c : Where) (level : ℕ) (s : State) → Ready c s → Opened c (after_group fs s.label) s (declare_functions level fs s)
-  declared_opens no_functions c level s r =
-      (record {
-        from = omega arith;
-        label = refl;
-        temps = omega arith;
-        name = refl;
-        callees = λ l h. h;
-        literals = λ l h. h;
-        stays = λ n. refl;
-        homes = λ t at h. refl;
-      }, r)
+  declared_opens no_functions c level s r = (
+    record {
+      from = omega arith;
+      label = refl;
+      temps = omega arith;
+      name = refl;
+      callees = λ l h. h;
+      literals = λ l h. h;
+      stays = λ n. refl;
+      homes = λ t at h. refl;
+    },
+    r,
+  )
   declared_opens (function f ps result e rest) c level s r =
       opened_more c (after_group rest (s.label + 1)) (at_of f) level s (declare_functions level rest (with_callee (at_of f) level s))
       (declared_opens rest c level (with_callee (at_of f) level s) (callee_ready c s (at_of f) level r))

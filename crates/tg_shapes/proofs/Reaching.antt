@@ -108,13 +108,14 @@ distinct_behind (more z s) d = distinct_behind s d.1
 
 pub distinct_of : (xs : List ℕ) → ((i j : ℕ) (d : ℕ) → i < j → j < length xs → get_or xs i d ≢ get_or xs j d) → Distinct xs
 distinct_of [] h = tt
-distinct_of (x ∷ xs) h =
-    (λ c. h 0 (suc c.0) x (omega arith) (omega (arith, c.1)) (sym c.2),
-    distinct_of xs (λ i j d l m. h (suc i) (suc j) d (omega (arith, l)) (omega (arith, m))))
+distinct_of (x ∷ xs) h = (
+  λ c. h 0 (suc c.0) x (omega arith) (omega (arith, c.1)) (sym c.2),
+  distinct_of xs (λ i j d l m. h (suc i) (suc j) d (omega (arith, l)) (omega (arith, m))),
+)
 
 apart_one : (x : ℕ) (around before : List ℕ) → (Contains before x → ⊥) → In around before → AreApart (x ∷ []) around
-apart_one x around before no i at (zero, l, e) c = no (i x (subst (λ y. Contains around y) (sym e) c))
-apart_one x around before no i at (suc k, l, e) c = omega (arith, l)
+apart_one x around before absent i at (zero, l, e) c = absent (i x (subst (λ y. Contains around y) (sym e) c))
+apart_one x around before absent i at (suc k, l, e) c = omega (arith, l)
 
 params_in : (ps : List Param) (ys : List ℕ) → In (params_of ps) (param_beginnings ps ys)
 params_in [] ys y c = absurd (omega (arith, c.1))
@@ -170,17 +171,17 @@ stands_on scope h ys s k = record {
   around_in = λ y c. in_behind s y (k.around_in y c);
 }
 
-widened : (bindings : List (ℕ × Binding)) (seen : Seen) (level deeper : ℕ) (own more : List ℕ) → level ≤ deeper →
-    ((at : ℕ) → Contains own at → (level < deeper) ⊎ Contains more at) → Agrees bindings seen level own → Agrees bindings seen deeper more
-widened bindings seen level deeper own more l f h x at t loop e =
+widened : (bindings : List (ℕ × Binding)) (seen : Seen) (level deeper : ℕ) (own wider : List ℕ) → level ≤ deeper →
+    ((at : ℕ) → Contains own at → (level < deeper) ⊎ Contains wider at) → Agrees bindings seen level own → Agrees bindings seen deeper wider
+widened bindings seen level deeper own wider l f h x at t loop e =
     let k = h x at t loop e in
     record {
       declared = k.declared;
       as_one = k.as_one;
       outer = let m = k.outer in omega (arith, l, m);
       whose = elim k.whose [
-        inl m ↦ inl (omega (arith, l, m))
-      | inr c ↦ elim (f at c) [ inl m ↦ inl (let n = k.outer in omega (arith, m, n)) | inr d ↦ inr d ]
+        | inl m ↦ inl (omega (arith, l, m))
+        | inr c ↦ elim (f at c) [ inl m ↦ inl (let n = k.outer in omega (arith, m, n)) | inr d ↦ inr d ]
       ];
     }
 
@@ -188,20 +189,20 @@ with_one : (n at : ℕ) (t : Ty) (loop : Bool) (bindings : List (ℕ × Binding)
     Agrees bindings seen level own → Agrees ((n, variable_at at t loop) ∷ bindings) ((n, a_variable at level) ∷ seen) level own
 with_one n at t loop bindings seen level own c h x b u lo e =
     elim (named_cases x n (variable_at at t loop) (variable_at b u lo) bindings e) [
-      inl q ↦ (let same : at ≡ b = cc in
-      record {
-        declared = level;
-        as_one = same_name x n at b level seen q.0 same;
-        outer = omega arith;
-        whose = inr (subst (λ z. Contains own z) same c);
-      })
-    | inr q ↦ (let k = h x b u lo q.1 in
-      record {
-        declared = k.declared;
-        as_one = named_other x n (a_variable at level) seen q.0 ∙ k.as_one;
-        outer = k.outer;
-        whose = k.whose;
-      })
+      | inl q ↦ (let same : at ≡ b = cc in
+          record {
+            declared = level;
+            as_one = same_name x n at b level seen q.0 same;
+            outer = omega arith;
+            whose = inr (subst (λ z. Contains own z) same c);
+          })
+      | inr q ↦ (let k = h x b u lo q.1 in
+          record {
+            declared = k.declared;
+            as_one = named_other x n (a_variable at level) seen q.0 ∙ k.as_one;
+            outer = k.outer;
+            whose = k.whose;
+          })
     ]
   where
     same_test : (x n : ℕ) → n ≡ x → (n == x) ≡ true
@@ -215,14 +216,14 @@ with_function : (n at : ℕ) (s : Signature) (bindings : List (ℕ × Binding)) 
     Agrees bindings seen level own → Agrees ((n, function_at at s) ∷ bindings) ((n, a_function level) ∷ seen) level own
 with_function n at s bindings seen level own h x b u lo e =
     elim (named_cases x n (function_at at s) (variable_at b u lo) bindings e) [
-      inl q ↦ (let no : function_at at s ≡ variable_at b u lo = q.1 in cc)
-    | inr q ↦ (let k = h x b u lo q.1 in
-      record {
-        declared = k.declared;
-        as_one = named_other x n (a_function level) seen q.0 ∙ k.as_one;
-        outer = k.outer;
-        whose = k.whose;
-      })
+      | inl q ↦ (let differ : function_at at s ≡ variable_at b u lo = q.1 in cc)
+      | inr q ↦ (let k = h x b u lo q.1 in
+          record {
+            declared = k.declared;
+            as_one = named_other x n (a_function level) seen q.0 ∙ k.as_one;
+            outer = k.outer;
+            whose = k.whose;
+          })
     ]
 
 agree_params : (ps : List Param) (ts : List Ty) (scope : Scope) (seen : Seen) (level : ℕ) (own : List ℕ) → length ps ≡ length ts → In (params_of ps) own →
@@ -263,10 +264,10 @@ module _ (shapes : List (ℕ × Shape)) (notes : List Note) (findings : Findings
       AllEscape (used h.within (named x h.seen) after) → Contains h.own at ⊎ (findings.escapes at ≡ true)
   variable_reached at x h after k g =
       elim k.whose [
-        inl l ↦ (let escape : AllEscape (used h.within (Some (a_variable at k.declared)) after) =
-          subst (λ o. AllEscape (used h.within o after)) k.as_one g in
-        inr (outer_escapes at k.declared (length h.within) h.own (nat_lt k.declared (length h.within)) refl l escape.0))
-      | inr c ↦ inl c
+        | inl l ↦ (let escape : AllEscape (used h.within (Some (a_variable at k.declared)) after) =
+            subst (λ o. AllEscape (used h.within o after)) k.as_one g in
+            inr (outer_escapes at k.declared (length h.within) h.own (nat_lt k.declared (length h.within)) refl l escape.0))
+        | inr c ↦ inl c
       ]
 
   deeper : (within : List ℕ) (x : ℕ) → length within ≤ length (within ++ x ∷ [])
@@ -318,57 +319,69 @@ module _ (shapes : List (ℕ × Shape)) (notes : List Note) (findings : Findings
           all_reach args sig.params scope (later (f.span.from ∷ h.before) h) after hs (stands_on scope h (f.span.from ∷ h.before) (more _ here) s) d
           (unused h.within (named f.name.0 h.seen) (exps_uses args h.within h.seen after) u)
       reaches _ scope _ h after (Has.neg {a = a} k) s d u = reaches a scope int_type h after k s d u
-      reaches _ scope _ h after (Has.ints {at = at} {a = x} {b = y} i k l) s d u = two_reach x y at scope int_type int_type h after k l s d u
-      reaches _ scope _ h after (Has.strings {at = at} {a = x} {b = y} c i k l) s d u = two_reach x y at scope string_type string_type h after k l s d u
-      reaches _ scope _ h after (Has.same {at = at} {a = x} {b = y} {t = t} {u = v} c i j k l) s d u = two_reach x y at scope t v h after k l s d u
+      reaches _ scope _ h after (Has.ints {at = at} {a = x} {b = y} i k l) s d u =
+          let end = at ∷ beginnings x h.before in
+          let first = reaches x scope int_type h (uses y h.within h.seen after) k s (distinct_behind (behind y (more at here)) d) u in
+          let second = reaches y scope int_type (later end h) after l (stands_on scope h end (more at (behind x here)) s) d first.1 in
+          ((first.0, second.0), second.1)
+      reaches _ scope _ h after (Has.strings {at = at} {a = x} {b = y} c i k l) s d u =
+          let end = at ∷ beginnings x h.before in
+          let first = reaches x scope string_type h (uses y h.within h.seen after) k s (distinct_behind (behind y (more at here)) d) u in
+          let second = reaches y scope string_type (later end h) after l (stands_on scope h end (more at (behind x here)) s) d first.1 in
+          ((first.0, second.0), second.1)
+      reaches _ scope _ h after (Has.same {at = at} {a = x} {b = y} {t = t} {u = v} c i j k l) s d u =
+          let end = at ∷ beginnings x h.before in
+          let first = reaches x scope t h (uses y h.within h.seen after) k s (distinct_behind (behind y (more at here)) d) u in
+          let second = reaches y scope v (later end h) after l (stands_on scope h end (more at (behind x here)) s) d first.1 in
+          ((first.0, second.0), second.1)
       reaches _ scope _ h after (Has.make {x = x} {inits = inits} fs e hs) s d u =
           inits_reach inits fs scope (later (x.span.from ∷ h.before) h) after hs (stands_on scope h (x.span.from ∷ h.before) (more _ here) s) d u
       reaches _ scope _ h after (Has.fill {x = x} {size = size} {value = value} t v e k l fit) s d u =
           let start = x.span.from ∷ h.before in
           let first = reaches size scope int_type (later start h) (uses value h.within h.seen after) k (stands_on scope h start (more _ here) s)
-            (distinct_behind (behind value here) d) u in
+          (distinct_behind (behind value here) d) u in
           let second = reaches value scope v (later (beginnings size start) h) after l
-            (stands_on scope h (beginnings size start) (behind size (more _ here)) s) d first.1 in
+          (stands_on scope h (beginnings size start) (behind size (more _ here)) s) d first.1 in
           ((first.0, second.0), second.1)
       reaches _ scope _ h after (Has.assign {v = v} {e = e} {t = t} {u = w} k l fit) s d u =
           let first = place_reaches v scope t h (uses e h.within h.seen after) k s (distinct_behind (behind e here) d) u in
           let second = reaches e scope w (later (place_beginnings v h.before) h) after l
-            (stands_on scope h (place_beginnings v h.before) (behind_place v here) s) d first.1 in
+          (stands_on scope h (place_beginnings v h.before) (behind_place v here) s) d first.1 in
           ((first.0, second.0), second.1)
       reaches _ scope _ h after (Has.if_else {c = c} {a = x} {b = y} {t = t} {u = v} k l m f g) s d u =
           let b1 = beginnings c h.before in
           let b2 = beginnings x b1 in
           let first = reaches c scope int_type h (uses x h.within h.seen (uses y h.within h.seen after)) k s
-            (distinct_behind (behind y (behind x here)) d) u in
+          (distinct_behind (behind y (behind x here)) d) u in
           let second = reaches x scope t (later b1 h) (uses y h.within h.seen after) l (stands_on scope h b1 (behind c here) s)
-            (distinct_behind (behind y here) d) first.1 in
+          (distinct_behind (behind y here) d) first.1 in
           let third = reaches y scope v (later b2 h) after m (stands_on scope h b2 (behind x (behind c here)) s) d second.1 in
           ((first.0, second.0, third.0), third.1)
       reaches _ scope _ h after (Has.when {c = c} {a = a} k l) s d u =
           let first = reaches c scope int_type h (uses a h.within h.seen after) k s (distinct_behind (behind a here) d) u in
           let second = reaches a scope none_type (later (beginnings c h.before) h) after l
-            (stands_on scope h (beginnings c h.before) (behind c here) s) d first.1 in
+          (stands_on scope h (beginnings c h.before) (behind c here) s) d first.1 in
           ((first.0, second.0), second.1)
       reaches _ scope _ h after (Has.while {c = c} {a = a} k l) s d u =
           let first = reaches c scope int_type h (uses a h.within h.seen after) k s (distinct_behind (behind a here) d) u in
           let on = stands_on scope h (beginnings c h.before) (behind c here) s in
           let second = reaches a (in_a_loop scope) none_type (later (beginnings c h.before) h) after l
-            (record { agrees = on.agrees; own_in = on.own_in; around_in = on.around_in }) d first.1 in
+          (record { agrees = on.agrees; own_in = on.own_in; around_in = on.around_in }) d first.1 in
           ((first.0, second.0), second.1)
       reaches _ scope _ h after (Has.for {x = x} {l = low} {h = high} {a = a} p q r) s d u =
           let start = x.span.from ∷ h.before in
           let b1 = beginnings low start in
           let b2 = beginnings high b1 in
           let inner = declare_variable (length h.within) x h.seen in
-          let no = (distinct_behind (behind a (behind high (behind low here))) d).0 in
+          let absent = (distinct_behind (behind a (behind high (behind low here))) d).0 in
           let first = reaches low scope int_type (later start h) (uses high h.within h.seen (uses a h.within inner after)) p
-            (stands_on scope h start (more _ here) s) (distinct_behind (behind a (behind high here)) d) u in
+          (stands_on scope h start (more _ here) s) (distinct_behind (behind a (behind high here)) d) u in
           let second = reaches high scope int_type (later b1 h) (uses a h.within inner after) q (stands_on scope h b1 (behind low (more _ here)) s)
-            (distinct_behind (behind a here) d) first.1 in
+          (distinct_behind (behind a here) d) first.1 in
           let third = reaches a (in_a_loop (binding x (variable_at (at_of x) int_type true) scope)) none_type (with_variable x (later b2 h)) after r
-            (let k = one_stands x int_type true scope h b2 (behind high (behind low here)) s in
-            record { agrees = k.agrees; own_in = k.own_in; around_in = k.around_in }) d second.1 in
-          ((apart_one x.span.from h.around h.before no s.around_in, first.0, second.0, third.0), third.1)
+          (let k = one_stands x int_type true scope h b2 (behind high (behind low here)) s in
+          record { agrees = k.agrees; own_in = k.own_in; around_in = k.around_in }) d second.1 in
+          ((apart_one x.span.from h.around h.before absent s.around_in, first.0, second.0, third.0), third.1)
       reaches _ scope _ h after (Has.block {ds = ds} {es = es} {t = t} inner hs ls) s d u =
           let end = decs_beginnings ds h.before in
           let deep = declare_all (length h.within) ds h.seen in
@@ -377,26 +390,18 @@ module _ (shapes : List (ℕ × Shape)) (notes : List Note) (findings : Findings
           ((first.0, second.0), second.1)
       reaches _ scope _ h after (Has.seq {es = es} {t = t} ls) s d u = last_reaches none_type es scope t h after ls s d u
 
-      two_reach : (x y : Exp) (at : ℕ) (scope : Scope) (t v : Ty) (h : Here) (after : List Use) → Has.Has shapes notes x scope t → Has.Has shapes notes y scope v →
-          Stands scope h → Distinct (beginnings y (at ∷ beginnings x h.before)) → AllEscape (uses x h.within h.seen (uses y h.within h.seen after)) →
-          (Reaches findings h.own h.around x × Reaches findings h.own h.around y) × AllEscape after
-      two_reach x y at scope t v h after k l s d u =
-          let end = at ∷ beginnings x h.before in
-          let first = reaches x scope t h (uses y h.within h.seen after) k s (distinct_behind (behind y (more at here)) d) u in
-          let second = reaches y scope v (later end h) after l (stands_on scope h end (more at (behind x here)) s) d first.1 in
-          ((first.0, second.0), second.1)
-
       place_reaches : (v : Place) (scope : Scope) (t : Ty) (h : Here) (after : List Use) → Has.HasPlace shapes notes v scope t → Stands scope h →
           Distinct (place_beginnings v h.before) → AllEscape (place_uses v h.within h.seen after) → ReachesPlace findings h.own h.around v × AllEscape after
       place_reaches _ scope t h after (Has.simple {x = x} at loop e i) s d u =
-          let k = s.agrees x.name.0 at t loop e in
-          (subst (λ m. IsInReach findings h.own m) (sym (says (at_of x) (means.Variable at) i)) (variable_reached at x.name.0 h after k u),
-          unused h.within (named x.name.0 h.seen) after u)
+          let k = s.agrees x.name.0 at t loop e in (
+            subst (λ m. IsInReach findings h.own m) (sym (says (at_of x) (means.Variable at) i)) (variable_reached at x.name.0 h after k u),
+            unused h.within (named x.name.0 h.seen) after u,
+          )
       place_reaches _ scope _ h after (Has.field {v = v} {f = f} at fs n k e g p i) s d u = place_reaches v scope (record_type at) h after k s d.1 u
       place_reaches _ scope _ h after (Has.index {v = v} {e = e} at k i l) s d u =
           let first = place_reaches v scope (array_type at) h (uses e h.within h.seen after) k s (distinct_behind (behind e here) d) u in
           let second = reaches e scope int_type (later (place_beginnings v h.before) h) after l
-            (stands_on scope h (place_beginnings v h.before) (behind_place v here) s) d first.1 in
+          (stands_on scope h (place_beginnings v h.before) (behind_place v here) s) d first.1 in
           ((first.0, second.0), second.1)
 
       all_reach : (es : Exps) (ts : List Ty) (scope : Scope) (h : Here) (after : List Use) → Has.HasAll shapes notes es ts scope → Stands scope h →
@@ -405,7 +410,7 @@ module _ (shapes : List (ℕ × Shape)) (notes : List Note) (findings : Findings
       all_reach _ _ scope h after (Has.an_arg {e = e} {rest = rest} {ts = ts} v k fit hs) s d u =
           let first = reaches e scope v h (exps_uses rest h.within h.seen after) k s (distinct_behind (behind_exps rest here) d) u in
           let second = all_reach rest ts scope (later (beginnings e h.before) h) after hs
-            (stands_on scope h (beginnings e h.before) (behind e here) s) d first.1 in
+          (stands_on scope h (beginnings e h.before) (behind e here) s) d first.1 in
           ((first.0, second.0), second.1)
 
       inits_reach : (is : Inits) (fs : List (ℕ × Ty)) (scope : Scope) (h : Here) (after : List Use) → Has.HasInits shapes notes is fs scope → Stands scope h →
@@ -414,9 +419,9 @@ module _ (shapes : List (ℕ × Shape)) (notes : List Note) (findings : Findings
       inits_reach _ _ scope h after (Has.an_init {f = f} {e = e} {rest = rest} {fs = fs} v n k fit hs) s d u =
           let start = f.span.from ∷ h.before in
           let first = reaches e scope v (later start h) (inits_uses rest h.within h.seen after) k (stands_on scope h start (more _ here) s)
-            (distinct_behind (behind_inits rest here) d) u in
+          (distinct_behind (behind_inits rest here) d) u in
           let second = inits_reach rest fs scope (later (beginnings e start) h) after hs
-            (stands_on scope h (beginnings e start) (behind e (more _ here)) s) d first.1 in
+          (stands_on scope h (beginnings e start) (behind e (more _ here)) s) d first.1 in
           ((first.0, second.0), second.1)
 
       last_reaches : (v : Ty) (es : Exps) (scope : Scope) (t : Ty) (h : Here) (after : List Use) → Has.HasLast shapes notes v es scope t → Stands scope h →
@@ -425,7 +430,7 @@ module _ (shapes : List (ℕ × Shape)) (notes : List Note) (findings : Findings
       last_reaches _ _ scope t h after (Has.a_last {e = e} {rest = rest} v k hs) s d u =
           let first = reaches e scope v h (exps_uses rest h.within h.seen after) k s (distinct_behind (behind_exps rest here) d) u in
           let second = last_reaches v rest scope t (later (beginnings e h.before) h) after hs
-            (stands_on scope h (beginnings e h.before) (behind e here) s) d first.1 in
+          (stands_on scope h (beginnings e h.before) (behind e here) s) d first.1 in
           ((first.0, second.0), second.1)
 
       decs_reach : (ds : Decs) (scope inner : Scope) (h : Here) (after : List Use) → Has.HasDecs shapes notes ds scope inner → Stands scope h →
@@ -441,13 +446,13 @@ module _ (shapes : List (ℕ × Shape)) (notes : List Note) (findings : Findings
           let start = x.span.from ∷ h.before in
           let b1 = kind_beginnings kind start in
           let b2 = beginnings e b1 in
-          let no = (distinct_behind (behind_decs rest (behind e (behind_kind kind here))) d).0 in
+          let absent = (distinct_behind (behind_decs rest (behind e (behind_kind kind here))) d).0 in
           let wide : Here = record h { own = at_of x ∷ h.own; before = b1 } in
           let first = reaches e scope v wide (decs_uses rest h.within (declare_variable (length h.within) x h.seen) after) k
-            (owning_stands x scope h b1 (behind_kind kind here) s) (distinct_behind (behind_decs rest here) d) u in
+          (owning_stands x scope h b1 (behind_kind kind here) s) (distinct_behind (behind_decs rest here) d) u in
           let second = decs_reach rest (binding x (variable_at (at_of x) t false) scope) inner (with_variable x (later b2 h)) after hs
-            (one_stands x t false scope h b2 (behind e (behind_kind kind here)) s) d first.1 in
-          ((apart_one x.span.from h.around h.before no s.around_in, first.0, second.0), second.1, second.2)
+          (one_stands x t false scope h b2 (behind e (behind_kind kind here)) s) d first.1 in
+          ((apart_one x.span.from h.around h.before absent s.around_in, first.0, second.0), second.1, second.2)
       decs_reach _ scope inner h after (Has.group {fs = fs} {rest = rest} ss apart bs hs) s d u =
           let level = length h.within in
           let deep = declare_functions level fs h.seen in
@@ -455,13 +460,13 @@ module _ (shapes : List (ℕ × Shape)) (notes : List Note) (findings : Findings
           let mid = function_beginnings fs h.before in
           let agreed = agree_functions fs ss (in_no_loop wide) scope h.seen level h.own bs s.agrees in
           let first = bodies_reach fs ss (in_no_loop wide) (record h { seen = deep }) (decs_uses rest h.within deep after) bs
-            (record { agrees = agreed; own_in = s.own_in; around_in = s.around_in }) (distinct_behind (behind_decs rest here) d) u in
+          (record { agrees = agreed; own_in = s.own_in; around_in = s.around_in }) (distinct_behind (behind_decs rest here) d) u in
           let second = decs_reach rest wide inner (record h { seen = deep; before = mid }) after hs
-            (record {
-              agrees = agreed;
-              own_in = λ y c. in_behind (behind_bodies fs here) y (s.own_in y c);
-              around_in = λ y c. in_behind (behind_bodies fs here) y (s.around_in y c);
-            }) d first.1 in
+          (record {
+            agrees = agreed;
+            own_in = λ y c. in_behind (behind_bodies fs here) y (s.own_in y c);
+            around_in = λ y c. in_behind (behind_bodies fs here) y (s.around_in y c);
+          }) d first.1 in
           ((first.0, second.0), second.1, second.2)
 
       bodies_reach : (fs : FunDecs) (ss : List Signature) (scope : Scope) (h : Here) (after : List Use) → Has.HasBodies shapes notes fs ss scope → Stands scope h →
@@ -478,15 +483,21 @@ module _ (shapes : List (ℕ × Shape)) (notes : List Note) (findings : Findings
           let place : Here = record { seen = deep; within = inner; own = params_of ps; around = h.own ++ h.around; before = b2 } in
           let around_start = around_in_start h start (more _ here) scope s in
           let first = reaches body (with_params ps sig.params scope) v place (functions_uses rest h.within h.seen after) k
-            (record {
-              agrees =
-                  agree_params ps sig.params scope h.seen (length inner) (params_of ps) l (λ y c. c)
-                  (widened scope.bindings h.seen (length h.within) (length inner) h.own (params_of ps) (deeper h.within f.span.from)
-                  (λ at c. inl (strictly h.within f.span.from)) s.agrees);
-              own_in = λ y c. in_behind (behind_kind result here) y (params_in ps start y c);
-              around_in = λ y c. in_behind (behind_kind result (behind_params ps here)) y (around_start y c);
-            }) (distinct_behind (behind_bodies rest here) d) u in
+          (record {
+            agrees =
+                agree_params ps sig.params scope h.seen (length inner) (params_of ps) l (λ y c. c)
+                (widened scope.bindings h.seen (length h.within) (length inner) h.own (params_of ps) (deeper h.within f.span.from)
+                (λ at c. inl (strictly h.within f.span.from)) s.agrees);
+            own_in = λ y c. in_behind (behind_kind result here) y (params_in ps start y c);
+            around_in = λ y c. in_behind (behind_kind result (behind_params ps here)) y (around_start y c);
+          }) (distinct_behind (behind_bodies rest here) d) u in
           let second = bodies_reach rest ss scope (later b3 h) after hs
-            (stands_on scope h b3 (behind body (behind_kind result (behind_params ps (more _ here)))) s) d first.1 in
-          ((params_apart ps (h.own ++ h.around) start
-          (distinct_behind (behind_bodies rest (behind body (behind_kind result here))) d) around_start, first.0, second.0), second.1)
+          (stands_on scope h b3 (behind body (behind_kind result (behind_params ps (more _ here)))) s) d first.1 in (
+            (
+              params_apart ps (h.own ++ h.around) start
+                  (distinct_behind (behind_bodies rest (behind body (behind_kind result here))) d) around_start,
+              first.0,
+              second.0,
+            ),
+            second.1,
+          )

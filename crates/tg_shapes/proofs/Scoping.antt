@@ -62,8 +62,8 @@ named_callee : (at : ℕ) (callee : Callee) (xs : List (ℕ × Callee)) → name
 named_callee at callee [] e = cc
 named_callee at callee (entry ∷ rest) e =
     elim (named_cases at entry.0 entry.1 callee rest e) [
-      inl h ↦ subst (λ v. Contains (map (λ e. e.1.label.0) (entry ∷ rest)) v.label.0) h.1 (first_contained entry.1.label.0 (map (λ e. e.1.label.0) rest))
-    | inr h ↦ more_contained entry.1.label.0 callee.label.0 (map (λ e. e.1.label.0) rest) (named_callee at callee rest h.1)
+      | inl h ↦ subst (λ v. Contains (map (λ e. e.1.label.0) (entry ∷ rest)) v.label.0) h.1 (first_contained entry.1.label.0 (map (λ e. e.1.label.0) rest))
+      | inr h ↦ more_contained entry.1.label.0 callee.label.0 (map (λ e. e.1.label.0) rest) (named_callee at callee rest h.1)
     ]
 
 module _ (B T : Type 0) (findings : Findings) where
@@ -183,8 +183,10 @@ module _ (B T : Type 0) (findings : Findings) where
   }
 
   pub literal_yields : (c : Where) (s : State) (bytes : List ℕ) → Ready c s → Yields c s (λ t m. GoodMade c.loops t m) (literal bytes s)
-  literal_yields c s bytes r =
-      (literal_step c.kept s bytes, literal_ready c s bytes r,
-      counted_contains (λ k. k.label) (with_literal bytes s).literals s.label
-      (let h = times-append (λ k. k.label) s.label s.literals (record { label = s.label; text = string_text bytes } ∷ []) in
-      let k = counts.same_self s.label in omega (arith, h, k)))
+  literal_yields c s bytes r = (
+    literal_step c.kept s bytes,
+    literal_ready c s bytes r,
+    counted_contains (λ k. k.label) (with_literal bytes s).literals s.label
+        (let h = times-append (λ k. k.label) s.label s.literals (record { label = s.label; text = string_text bytes } ∷ []) in
+        let k = counts.same_self s.label in omega (arith, h, k)),
+  )

@@ -129,7 +129,7 @@ module _ (B T : Type 0) (findings : Findings) (e : Exp) where
     pub above : (n : ℕ) → Contains (function_labels names code ++ literal_labels names code) n → 32 ≤ n
     above n c =
         let i = contained_counts (λ l. l) (function_labels names code ++ literal_labels names code) n
-            (subst (λ xs. Contains xs n) (sym (map_self (function_labels names code ++ literal_labels names code))) c) in
+        (subst (λ xs. Contains xs n) (sym (map_self (function_labels names code ++ literal_labels names code))) c) in
         let j = times-append (λ l. l) n (function_labels names code) (literal_labels names code) in
         let k = times-map (λ f. f.label) code.functions n in
         let m = times-map (λ l. l.label) code.literals n in
@@ -162,7 +162,7 @@ module _ (B T : Type 0) (findings : Findings) (e : Exp) where
       routine_counts : (n : ℕ) → times (λ f. f.label) n routines ≡ below n 13
       routine_counts n =
           let i : times (λ f. f.label) n routines ≡ times (λ l. l) n (0 ∷ 1 ∷ 2 ∷ 3 ∷ 4 ∷ 5 ∷ 6 ∷ 7 ∷ 8 ∷ 9 ∷ 10 ∷ 11 ∷ 12 ∷ []) =
-            sym (times-map (λ f. f.label) routines n) ∙ ap (times (λ l. l) n) labels in
+          sym (times-map (λ f. f.label) routines n) ∙ ap (times (λ l. l) n) labels in
           let z = below_no n 0 (omega arith) in
           let a0 : below n 1 ≡ below n 0 + same 0 n = below-next n 0 in
           let a1 : below n 2 ≡ below n 1 + same 1 n = below-next n 1 in
@@ -205,8 +205,8 @@ module _ (B T : Type 0) (findings : Findings) (e : Exp) where
           fewer : (n : ℕ) → below n 13 ≤ below n 32
           fewer n =
               elim (cases_lt n 13) [
-                inl lt ↦ (let i = below_yes n 32 (omega (arith, lt)) in let j = below_one n 13 in omega (arith, i, j))
-              | inr le ↦ (let i = below_no n 13 le in omega (arith, i))
+                | inl lt ↦ (let i = below_yes n 32 (omega (arith, lt)) in let j = below_one n 13 in omega (arith, i, j))
+                | inr le ↦ (let i = below_no n 13 le in omega (arith, i))
               ]
 
       in_program : (l : ℕ) → Contains (map (λ f. f.label) code.functions) l → Contains (function_labels names whole) l

@@ -1,7 +1,8 @@
 -- The laws of the shapes of trees.
-use Rattle.std.proofs.Common.{◌≡◌, ◌≢◌, ◌<◌, ℕ, zero, suc, Bool, true, false, Option, Some, None, List, [], ◌∷◌, ◌++◌, length, map, refl, sym, ap, ◌∙◌, subst, arith, inl, inr}
+use Rattle.std.proofs.Common.{◌≡◌, ◌≢◌, ◌<◌, ℕ, zero, suc, Bool, true, false, Option, Some, None, List, [], ◌∷◌, ◌++◌, length, map, refl, sym, ap, ◌∙◌, subst, arith, inl, inr, ◌+◌, length-append}
 use Rattle.std.specs.Prelude.{◌&&◌, ◌||◌, IsTrue, nat_lt, nat_eq}
-use Rattle.std.specs.List.{Contains, list_all, list_any, flat_map}
+use Rattle.std.specs.Int.{to_le_bytes, w32}
+use Rattle.std.specs.List.{Contains, list_all, list_any, flat_map, sum_by}
 use Rattle.std.specs.FinSet.{FinSet, contains, from_list, contains-from_list_nat}
 use Rattle.std.specs.Ordering.{nat_cmp}
 use Rattle.std.proofs.lemmas.List.Elements.{Contains-append_left, Contains-append_right}
@@ -20,10 +21,13 @@ use Rattle.tg_types.specs.Laws.{CheckedHasType, NotesAreFound}
 use Rattle.tg_types.specs.Scopes.{Binding, variable_at, standard_one, standard_of, standard_bindings, entry, outermost}
 use Rattle.tg_runtime.specs.Laws.{IsRoutine, AreRoutines, is_own, LabelsInOrder, AllAreRoutines}
 use Rattle.tg_runtime.specs.Routines.{runtime}
+use Rattle.tg_translate.specs.Constructs.{string_text}
 use Rattle.tg_translate.specs.Scopes.{found}
 use Rattle.tg_translate.specs.Translate.{translated}
-use Rattle.tg_shapes.specs.Laws.{names, ProgramsAreLinked, LabelsAreAbove, BodiesAreClosed, CheckedBodiesAreClosed, TemporariesAreDrawn, CheckedReaches, CheckedTemporariesAreDrawn, findings_in}
+use Rattle.tg_shapes.specs.Laws.{names, ProgramsAreLinked, LabelsAreAbove, BodiesAreClosed, CheckedBodiesAreClosed, TemporariesAreDrawn, CheckedReaches, CheckedTemporariesAreDrawn, LiteralsAreStrings, LiteralsAreShort, findings_in}
 use Rattle.tg_shapes.proofs.Shaped.{has_shape, linked, above, closed_one, temps_one}
+use Rattle.tg_shapes.specs.Strings.{strings}
+use Rattle.tg_shapes.proofs.Adding.{literals_are}
 use Rattle.tg_shapes.proofs.Fine.{Each}
 use Rattle.tg_shapes.proofs.Scoping.{named_cases}
 use Rattle.tg_shapes.proofs.Typed.{breaks_stand}
@@ -90,8 +94,8 @@ no_standard : (x at : ℕ) (t : Ty) (loop : Bool) (n : ℕ) (o : Option Standard
 no_standard x at t loop n None rest h e = h e
 no_standard x at t loop n (Some f) rest h e =
     elim (named_cases x n (standard_one f) (variable_at at t loop) rest e) [
-      inl q ↦ (let no : standard_one f ≡ variable_at at t loop = q.1 in cc)
-    | inr q ↦ h q.1
+      | inl q ↦ (let differ : standard_one f ≡ variable_at at t loop = q.1 in cc)
+      | inr q ↦ h q.1
     ]
 
 no_variable : (x at : ℕ) (t : Ty) (loop : Bool) (n : ℕ) (names : List (List ℕ)) → named x (standard_bindings n names) ≡ Some (variable_at at t loop) → ⊥
@@ -120,9 +124,10 @@ any_is (y ∷ ys) x (suc k, l, e) = either_right (nat_eq y x) (list_any (λ z. n
 each_shown : (us : List Use) (P : ℕ → Type 0) → ((at : ℕ) → Contains (flat_map escapes_by us) at → P at) →
     Each (λ u. (at : ℕ) → Contains (escapes_by u) at → P at) us
 each_shown [] P h = tt
-each_shown (u ∷ us) P h =
-    (λ at c. h at (Contains-append_left (escapes_by u) (flat_map escapes_by us) at c),
-    each_shown us P (λ at c. h at (Contains-append_right (escapes_by u) (flat_map escapes_by us) at c)))
+each_shown (u ∷ us) P h = (
+  λ at c. h at (Contains-append_left (escapes_by u) (flat_map escapes_by us) at c),
+  each_shown us P (λ at c. h at (Contains-append_right (escapes_by u) (flat_map escapes_by us) at c)),
+)
 
 pub checked_reaches : CheckedHasType → NotesAreFound → CheckedReaches
 checked_reaches typed noted p links a =
@@ -142,3 +147,28 @@ checked_reaches typed noted p links a =
 pub checked_temporaries_are_drawn : CheckedHasType → NotesAreFound → CheckedTemporariesAreDrawn
 checked_temporaries_are_drawn typed noted p links f a =
     temporaries_are_drawn (findings_in p links) (plain p.program.body) f (checked_reaches typed noted p links a)
+
+pub literals_are_strings : LiteralsAreStrings
+literals_are_strings findings e = literals_are findings e
+
+-- Bytes of literals.
+
+sum_by-map : {X : Type 0} (f : X → List ℕ) (xs : List X) → sum_by length (map f xs) ≡ sum_by (λ x. length (f x)) xs
+sum_by-map f [] = refl
+sum_by-map f (x ∷ xs) = ap (λ n. length (f x) + n) (sum_by-map f xs)
+
+length_text : (bytes : List ℕ) → length (string_text bytes) ≡ 4 + length bytes
+length_text bytes =
+    let h : length (to_le_bytes w32 (length bytes)) ≡ 4 = refl in
+    let k = length-append (to_le_bytes w32 (length bytes)) bytes in
+    omega (arith, h, k)
+
+sum_of_texts : (xs : List (List ℕ)) → sum_by (λ bytes. length (string_text bytes)) xs ≡ sum_by (λ bytes. 4 + length bytes) xs
+sum_of_texts [] = refl
+sum_of_texts (x ∷ xs) =
+    ap (λ n. n + sum_by (λ bytes. length (string_text bytes)) xs) (length_text x) ∙ ap (λ n. 4 + length x + n) (sum_of_texts xs)
+
+pub literals_are_short : LiteralsAreShort
+literals_are_short findings e =
+    sym (sum_by-map (λ l. l.text) (translated findings e).literals)
+    ∙ (ap (sum_by length) (literals_are findings e) ∙ (sum_by-map string_text (strings e) ∙ sum_of_texts (strings e)))

@@ -41,9 +41,11 @@ module _ (shapes : List (ℕ × Shape)) (notes : List Note) where
     breaks_stand _ scope _ b i (Has.when {c = c} {a = a} h k) = (breaks_stand c scope int_type b i h, breaks_stand a scope none_type b i k)
     breaks_stand _ scope _ b i (Has.while {c = c} {a = a} h k) =
         (breaks_stand c scope int_type b i h, breaks_stand a (in_a_loop scope) none_type true refl k)
-    breaks_stand _ scope _ b i (Has.for {x = x} {l = low} {h = high} {a = a} p q r) =
-        (breaks_stand low scope int_type b i p, breaks_stand high scope int_type b i q,
-        breaks_stand a (in_a_loop (binding x (variable_at (at_of x) int_type true) scope)) none_type true refl r)
+    breaks_stand _ scope _ b i (Has.for {x = x} {l = low} {h = high} {a = a} p q r) = (
+      breaks_stand low scope int_type b i p,
+      breaks_stand high scope int_type b i q,
+      breaks_stand a (in_a_loop (binding x (variable_at (at_of x) int_type true) scope)) none_type true refl r,
+    )
     breaks_stand _ scope _ b i (Has.block {ds = ds} {es = es} {t = t} inner hs ls) =
         let d = decs_stand ds scope inner b i hs in (d.0, last_stands none_type es inner t b d.1 ls)
     breaks_stand _ scope _ b i (Has.seq {es = es} {t = t} ls) = last_stands none_type es scope t b i ls

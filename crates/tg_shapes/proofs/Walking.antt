@@ -251,10 +251,12 @@ module _ (B T : Type 0) (findings : Findings) where
         (wanting.arm_from_yields B T findings.escapes c z (expression findings y v c.within z) (walk y c z (λ a. (b a).2) (λ a. (q a).2) v rz gz) v gz)
         (λ y o so ro i.
         keeping.given B T findings.escapes c o (IsMade c) (deliver w v (tree.If d x y)) ro
-        (wanting.deliver_good B T findings.escapes c.loops o w v (tree.If d x y) (keeping.want_on B T findings.escapes c.kept z o so v gz)
-        (keeping.cond_on B T findings.escapes c.kept t o
-        (keeping.onward B T findings.escapes su (keeping.onward B T findings.escapes sz so)) c.loops d k,
-        keeping.ts_on B T findings.escapes c.kept z o so c.loops x j, i))))))
+        (wanting.deliver_good B T findings.escapes c.loops o w v (tree.If d x y) (keeping.want_on B T findings.escapes c.kept z o so v gz) (
+          keeping.cond_on B T findings.escapes c.kept t o
+              (keeping.onward B T findings.escapes su (keeping.onward B T findings.escapes sz so)) c.loops d k,
+          keeping.ts_on B T findings.escapes c.kept z o so c.loops x j,
+          i,
+        ))))))
     walk (When _ d x) c s b q w r g =
         keeping.bind B T findings.escapes c s (IsCondition c) (IsMade c) (after (expression findings d want.Test c.within s) (λ m. give (test_of m)))
         (λ d t. after (after (expression findings x want.Dropped c.within t) (λ m. give (dropped m))) (λ x. give (done (tree.If d x nothing))))

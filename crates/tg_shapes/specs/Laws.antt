@@ -1,6 +1,6 @@
 -- Laws of the trees that programs are translated to.
-use Rattle.std.specs.Prelude.{◌≤◌, ℕ, List, [], ◌++◌, false}
-use Rattle.std.specs.List.{Contains}
+use Rattle.std.specs.Prelude.{◌≡◌, ◌≤◌, ◌+◌, ℕ, List, [], ◌++◌, length, map, false}
+use Rattle.std.specs.List.{Contains, sum_by}
 use Rattle.std.specs.Ordering.{nat_cmp}
 use Rattle.std.specs.FinSet.{FinSet, from_list}
 use Rattle.tg_syntax.specs.Tree.{Exp}
@@ -18,9 +18,12 @@ use Rattle.tg_tree.specs.Named.{
   IsLinked,
 }
 use Rattle.tg_runtime.specs.Routines.{runtime}
+use Rattle.tg_translate.specs.Constructs.{string_text}
 use Rattle.tg_translate.specs.Scopes.{Findings, found}
 use Rattle.tg_translate.specs.Translate.{translated}
 use Rattle.tg_shapes.specs.Standing.{BreaksStand, Reaches}
+use Rattle.tg_shapes.specs.Strings.{strings}
+use Rattle.tg_shapes.specs.Escaped.{escaping}
 
 -- what a body names
 abbrev pub names : Ts → List Named
@@ -80,3 +83,22 @@ CheckedTemporariesAreDrawn =
     IsAccepted p →
     Contains (translated (findings_in p links) (plain p.program.body)).functions f →
     HasItsTemps names f
+
+-- One literal for each string of the text, in its order: its length as a word, and its bytes.
+abbrev pub LiteralsAreStrings : Type 0
+LiteralsAreStrings =
+    (findings : Findings) (e : Exp) →
+    map (λ l. l.text) (translated findings e).literals ≡ map string_text (strings e)
+
+abbrev pub LiteralsAreShort : Type 0
+LiteralsAreShort =
+    (findings : Findings) (e : Exp) →
+    sum_by (λ l. length l.text) (translated findings e).literals ≡
+    sum_by (λ bytes. 4 + length bytes) (strings e)
+
+-- The slots of a frame are at most the variables of the text that escape, and one more, for the
+-- static link.
+abbrev pub SlotsAreFew : Type 0
+SlotsAreFew =
+    (findings : Findings) (e : Exp) (f : Function Ts) →
+    Contains (translated findings e).functions f → f.slots ≤ escaping findings.escapes e + 1

@@ -4,7 +4,10 @@ ghost use Rattle.tg_shapes.specs.Laws.{
   CheckedReaches,
   CheckedTemporariesAreDrawn,
   LabelsAreAbove,
+  LiteralsAreShort,
+  LiteralsAreStrings,
   ProgramsAreLinked,
+  SlotsAreFew,
   TemporariesAreDrawn,
 };
 
@@ -42,3 +45,16 @@ pub fn temporaries_are_drawn()
     checked_has_type();
     notes_are_found();
 }
+
+/// Laws of literals: there is one for each string of the text, in its order, with its length as a
+/// word and its bytes; so literals have four bytes more than their strings.
+pub fn literals_are_strings()
+    ensures strings { LiteralsAreStrings }
+    ensures short { LiteralsAreShort }
+{}
+
+/// The law that a frame has at most one slot for each variable of the text that escapes, and one
+/// more for its static link.
+pub fn slots_are_few()
+    ensures { SlotsAreFew }
+{}
