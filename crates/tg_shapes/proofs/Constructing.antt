@@ -86,7 +86,8 @@ module _ (B T : Type 0) (escapes : ℕ → Bool) where
     own_link_good true h = (tt, tt)
     own_link_good false h = λ t. h t refl
 
-    pub frame_out_good : (kept : Bool) (hops : ℕ) → (T → 0 < hops → kept ≡ false → 0 < s.frame.temps) → GoodTx n s (frame_out kept hops)
+    pub frame_out_good : (kept : Bool) (hops : ℕ) → (T → 0 < hops → kept ≡ false → 0 < s.frame.temps) → GoodTx n s
+        (frame_out kept hops)
     frame_out_good kept zero h = tt
     frame_out_good kept (suc zero) h = own_link_good kept (λ t e. h t (omega arith) e)
     frame_out_good kept (suc (suc k)) h = (frame_out_good kept (suc k) (λ t l e. h t (omega arith) e), tt)
@@ -129,10 +130,16 @@ module _ (B T : Type 0) (escapes : ℕ → Bool) where
     quotient_check_good : (l r : Tx) → GoodTx n s l → GoodTx n s r → GoodTs n s (quotient_check l r)
     quotient_check_good l r h k = (((k, tt), (h, tt)), (tt, tt), tt)
 
-    field_good : (k : ℕ) (before : Stms) (r : Tx) → GoodStms n s before → GoodTx n s r → GoodPlace n s (field_of k before r)
-    field_good k before r h j = (wanting.followed_good B T escapes n s before (nil_check r) h (nil_good r j), plus_good r (4 * k) j)
+    field_good : (k : ℕ) (before : Stms) (r : Tx) → GoodStms n s before → GoodTx n s r → GoodPlace n s
+        (field_of k before r)
+    field_good k before r h j = (
+      wanting.followed_good B T escapes n s before (nil_check r) h (nil_good r j),
+      plus_good
+          r (4 * k) j,
+    )
 
-    element_good : (before : Stms) (a i : Tx) → GoodStms n s before → GoodTx n s a → GoodTx n s i → GoodPlace n s (element_of before a i)
+    element_good : (before : Stms) (a i : Tx) → GoodStms n s before → GoodTx n s a → GoodTx n s i → GoodPlace n s
+        (element_of before a i)
     element_good before a i h j k =
         (wanting.followed_good B T escapes n s before (index_check a i) h (index_good a i j k), (((k, tt), j), tt))
 
@@ -154,12 +161,14 @@ module _ (B T : Type 0) (escapes : ℕ → Bool) where
     pub routine_good : (one : Routine) (xs : Txs) → GoodTxs n s xs → GoodTx n s (call_routine one xs)
     routine_good one xs h = (routine_below one, h)
 
-    store_fields_good : (before : Stms) (r k : ℕ) (xs : List Operand) → (T → r < s.frame.temps) → GoodStms n s before → GoodOperands s xs →
+    store_fields_good : (before : Stms) (r k : ℕ) (xs : List Operand) → (T → r < s.frame.temps) → GoodStms n s before →
+        GoodOperands s xs →
         GoodStms n s (store_fields before r k xs)
     store_fields_good before r k [] i h j = h
     store_fields_good before r k (x ∷ xs) i h j =
         store_fields_good (followed before (store_field r k x)) r (suc k) xs i
-        (wanting.followed_good B T escapes n s before (store_field r k x) h (plus_good (Temp r) (4 * k) i, operand_good x j.0)) j.1
+        (wanting.followed_good B T escapes n s before (store_field r k x) h
+        (plus_good (Temp r) (4 * k) i, operand_good x j.0)) j.1
 
     record_good : (r : ℕ) (all : HeldAll) → (T → r < s.frame.temps) → GoodHeld n s all → GoodMade n s (record_of r all)
     record_good r all i h = (
@@ -172,11 +181,13 @@ module _ (B T : Type 0) (escapes : ℕ → Bool) where
     pub make_array_good : (size x : Tx) → GoodTx n s size → GoodTx n s x → GoodTx n s (make_array size x)
     make_array_good size x h k = (routine_below routine.MakeArray, (h, (k, tt)))
 
-    comparison_good : (o : Op) (strings : Bool) (x y : Tx) → GoodTx n s x → GoodTx n s y → GoodCond n s (comparison o strings x y)
+    comparison_good : (o : Op) (strings : Bool) (x y : Tx) → GoodTx n s x → GoodTx n s y → GoodCond n s
+        (comparison o strings x y)
     comparison_good o true x y h k = ((routine_below routine.Compare, (h, (k, tt))), tt)
     comparison_good o false x y h k = (h, k)
 
-    product_good : (p : ℕ) (before : Stms) (l r : Tx) → (T → p < s.frame.temps) → GoodStms n s before → GoodTx n s l → GoodTx n s r →
+    product_good : (p : ℕ) (before : Stms) (l r : Tx) → (T → p < s.frame.temps) → GoodStms n s before → GoodTx n s l →
+        GoodTx n s r →
         GoodMade n s (product_of p before l r)
     product_good p before l r i h j k = (
       wanting.followed_good B T escapes n s (followed before (Move p (Binary bin.Mul l r))) (product_check l r (Temp p))
@@ -185,14 +196,16 @@ module _ (B T : Type 0) (escapes : ℕ → Bool) where
       i,
     )
 
-    quotient_good : (before : Stms) (l r : Tx) → GoodStms n s before → GoodTx n s l → GoodTx n s r → GoodMade n s (quotient_of before l r)
+    quotient_good : (before : Stms) (l r : Tx) → GoodStms n s before → GoodTx n s l → GoodTx n s r → GoodMade n s
+        (quotient_of before l r)
     quotient_good before l r h j k = (
       wanting.followed_good B T escapes n s (followed before (zero_check r)) (quotient_check l r)
           (wanting.followed_good B T escapes n s before (zero_check r) h (zero_good r k)) (quotient_check_good l r j k),
       (j, k),
     )
 
-    negated_good : (k : ℕ) (b : Bool) → GoodTx n s (if b then Binary bin.SubTrap (Const 0) (Const k) else Const (sub 0 k))
+    negated_good : (k : ℕ) (b : Bool) → GoodTx n s (if b then Binary bin.SubTrap (Const 0) (Const k) else Const
+        (sub 0 k))
     negated_good k true = (tt, tt)
     negated_good k false = tt
 
@@ -208,33 +221,47 @@ module _ (B T : Type 0) (escapes : ℕ → Bool) where
     assign_good (in_temp t) x h k = (h, k)
     assign_good (at_address before a) x h k = store_good before a x h.0 h.1 k
 
-  pub repeat_good : (n : ℕ) (s : State) (d : Cond) (x : Ts) → GoodCond (n + 1) s d → GoodTs (n + 1) s x → GoodTs n s (repeat_while d x)
+  pub repeat_good : (n : ℕ) (s : State) (d : Cond) (x : Ts) → GoodCond (n + 1) s d → GoodTs (n + 1) s x → GoodTs n s
+      (repeat_while d x)
   repeat_good n s d x h k = (h, k, λ b. omega arith)
 
-  turn_good : (n : ℕ) (s : State) (i : Access) (high : Operand) (x : Ts) → GoodAccess s i → GoodOperand s high → GoodTs (n + 1) s x →
+  turn_good : (n : ℕ) (s : State) (i : Access) (high : Operand) (x : Ts) → GoodAccess s i → GoodOperand s high → GoodTs
+      (n + 1) s x →
       GoodTs (n + 1) s (turn_of i high x)
   turn_good n s i high x h j k = (
     assign_good (n + 1) s (own_place i) (Binary bin.Add (read (own_place i)) (Const 1)) (own_place_good (n + 1) s i h)
         (read_good (n + 1) s (own_place i) (own_place_good (n + 1) s i h), tt),
     (
       k,
-      (((read_good (n + 1) s (own_place i) (own_place_good (n + 1) s i h), operand_good (n + 1) s high j), (λ b. omega arith), tt), tt),
+      (
+        (
+          (read_good (n + 1) s (own_place i) (own_place_good (n + 1) s i h), operand_good (n + 1) s high j),
+          (λ b. omega arith),
+          tt,
+        ),
+        tt,
+      ),
     ),
   )
 
-  turns_good : (n : ℕ) (s : State) (i : Access) (low high : Operand) (x : Ts) → GoodAccess s i → GoodOperand s low → GoodOperand s high → GoodTs (n + 1) s x →
+  turns_good : (n : ℕ) (s : State) (i : Access) (low high : Operand) (x : Ts) → GoodAccess s i → GoodOperand s low →
+      GoodOperand s high → GoodTs (n + 1) s x →
       GoodTs n s (turns i low high x)
-  turns_good n s i low high x h l j k =
-      (assign_good n s (own_place i) (first_minus_one low) (own_place_good n s i h) (first_good n s low l), (turn_good n s i high x h j k, tt))
+  turns_good n s i low high x h l j k = (
+    assign_good n s (own_place i) (first_minus_one low) (own_place_good n s i h) (first_good n s low l),
+    (turn_good n s i high x h j k, tt),
+  )
 
   count_good : (n : ℕ) (s : State) (before : Stms) (i : Access) (low high : Operand) (x : Ts) →
       GoodStms n s before → GoodAccess s i → GoodOperand s low → GoodOperand s high → GoodTs (n + 1) s x →
       GoodTs n s (count_of before i low high x)
   count_good n s before i low high x b h l j k =
-      wanting.followed_good B T escapes n s before (when (Compare rel.GreaterEqual (operand high) (operand low)) (turns i low high x)) b
+      wanting.followed_good B T escapes n s before (when (Compare rel.GreaterEqual (operand high) (operand low))
+      (turns i low high x)) b
       ((operand_good n s high j, operand_good n s low l), turns_good n s i low high x h l j k, tt)
 
-  more_operands : (s : State) (xs : List Operand) (x : Operand) → GoodOperands s xs → GoodOperand s x → GoodOperands s (xs ++ x ∷ [])
+  more_operands : (s : State) (xs : List Operand) (x : Operand) → GoodOperands s xs → GoodOperand s x → GoodOperands s
+      (xs ++ x ∷ [])
   more_operands s [] x h k = (k, tt)
   more_operands s (y ∷ ys) x h k = (h.0, more_operands s ys x h.1 k)
 
@@ -245,35 +272,45 @@ module _ (B T : Type 0) (escapes : ℕ → Bool) where
         keeping.bind B T escapes c s (λ t i. T → i < t.frame.temps) (HeldWell c.loops) (fresh s)
         (λ t. give (record { before = followed before (Move t x); operand = Kept (record { 0 = t }) }))
         (keeping.draws_temp B T escapes c s r)
-        (λ i t st r' j. keeping.given B T escapes c t (HeldWell c.loops) (record { before = followed before (Move i x); operand = Kept (record { 0 = i }) }) r' (
-          wanting.followed_good B T escapes c.loops t before (Move i x) (keeping.stms_on B T escapes c.kept s t st c.loops before h)
+        (λ i t st r' j. keeping.given B T escapes c t (HeldWell c.loops)
+        (record { before = followed before (Move i x); operand = Kept (record { 0 = i }) }) r' (
+          wanting.followed_good B T escapes c.loops t before (Move i x)
+              (keeping.stms_on B T escapes c.kept s t st c.loops before h)
               (j, keeping.tx_on B T escapes c.kept s t st c.loops x k),
           j,
         ))
 
-    hold_yields : (s : State) (direct : Bool) (before : Stms) (x : Tx) → Ready c s → GoodStms c.loops s before → GoodTx c.loops s x →
+    hold_yields : (s : State) (direct : Bool) (before : Stms) (x : Tx) → Ready c s → GoodStms c.loops s before → GoodTx
+        c.loops s x →
         Yields c s (HeldWell c.loops) (hold direct before x s)
     hold_yields s direct before (Const n) r h k =
         keeping.given B T escapes c s (HeldWell c.loops) (record { before = before; operand = Number n }) r (h, tt)
     hold_yields s true before (Temp t) r h k =
-        keeping.given B T escapes c s (HeldWell c.loops) (record { before = before; operand = Kept (record { 0 = t }) }) r (h, k)
+        keeping.given B T escapes c s (HeldWell c.loops) (record { before = before; operand = Kept (record { 0 = t }) })
+        r (h, k)
     hold_yields s false before (Temp t) r h k = keep_yields s before (Temp t) r h k
     hold_yields s direct before x r h k = keep_yields s before x r h k
 
-    pub hold_next_yields : (s : State) (direct : Bool) (all : HeldAll) (x : Tx) → Ready c s → GoodHeld c.loops s all → GoodTx c.loops s x →
+    pub hold_next_yields : (s : State) (direct : Bool) (all : HeldAll) (x : Tx) → Ready c s → GoodHeld c.loops s all →
+        GoodTx c.loops s x →
         Yields c s (λ t held. GoodHeld c.loops t held) (hold_next direct all x s)
     hold_next_yields s direct all x r h k =
         keeping.bind B T escapes c s (HeldWell c.loops) (λ t held. GoodHeld c.loops t held) (hold direct all.before x s)
         (λ held. give (record { before = held.before; operands = all.operands ++ held.operand ∷ [] }))
         (hold_yields s direct all.before x r h.0 k)
         (λ held t st r' j.
-        keeping.given B T escapes c t (λ u held. GoodHeld c.loops u held) (record { before = held.before; operands = all.operands ++ held.operand ∷ [] }) r'
-        (j.0, more_operands t all.operands held.operand (keeping.operands_on B T escapes c.kept s t st all.operands h.1) j.1))
+        keeping.given B T escapes c t (λ u held. GoodHeld c.loops u held)
+        (record { before = held.before; operands = all.operands ++ held.operand ∷ [] }) r' (
+          j.0,
+          more_operands t all.operands held.operand (keeping.operands_on B T escapes c.kept s t st all.operands h.1)
+              j.1,
+        ))
 
     pub assign_yields : (s : State) (p : Place) (m : Made) → Ready c s → GoodPlace c.loops s p → GoodMade c.loops s m →
         Yields c s (λ t x. GoodTs c.loops t x) (assign p m s)
     assign_yields s (in_temp i) m r h k =
-        keeping.given B T escapes c s (λ t x. GoodTs c.loops t x) (put_in i m) r (wanting.put_good B T escapes c.loops s i m h k)
+        keeping.given B T escapes c s (λ t x. GoodTs c.loops t x) (put_in i m) r
+        (wanting.put_good B T escapes c.loops s i m h k)
     assign_yields s (at_address before a) m r h k =
         keeping.bind B T escapes c s (λ t x. GoodTx c.loops t x) (λ t x. GoodTs c.loops t x) (value_of m s)
         (λ x. give (store_at before a x)) (wanting.value_yields B T escapes c s m r k)
@@ -286,12 +323,14 @@ module _ (B T : Type 0) (escapes : ℕ → Bool) where
     field_yields s k x r h =
         keeping.bind B T escapes c s (HeldWell c.loops) (λ t p. GoodPlace c.loops t p) (hold true no_stms x s)
         (λ held. give (field_of k held.before (operand held.operand))) (hold_yields s true no_stms x r tt h)
-        (λ held t st r' j. keeping.given B T escapes c t (λ u p. GoodPlace c.loops u p) (field_of k held.before (operand held.operand)) r'
+        (λ held t st r' j. keeping.given B T escapes c t (λ u p. GoodPlace c.loops u p)
+        (field_of k held.before (operand held.operand)) r'
         (field_good c.loops t k held.before (operand held.operand) j.0 (operand_good c.loops t held.operand j.1)))
 
     -- two values are held, one behind the other
     module _ {A : Type 0} (W : State → A → Type 0) (direct also : Bool) (x y : Tx) (next : Held → Held → Acts A)
-        (made : (l h : Held) (t : State) → Ready c t → GoodOperand t l.operand → HeldWell c.loops t h → Yields c t W (next l h t)) where
+        (made : (l h : Held) (t : State) → Ready c t → GoodOperand t l.operand → HeldWell c.loops t h → Yields c t W
+        (next l h t)) where
       both_held : (s : State) → Ready c s → GoodTx c.loops s x → GoodTx c.loops s y →
           Yields c s W (after (hold direct no_stms x s) (λ l t. after (hold also l.before y t) (λ h. next l h)))
       both_held s r h k =
@@ -307,13 +346,17 @@ module _ (B T : Type 0) (escapes : ℕ → Bool) where
     element_yields s direct x y r h k =
         both_held (λ t p. GoodPlace c.loops t p) direct true x y
         (λ a i. give (element_of i.before (operand a.operand) (operand i.operand)))
-        (λ a i t r' j l. keeping.given B T escapes c t (λ u p. GoodPlace c.loops u p) (element_of i.before (operand a.operand) (operand i.operand)) r'
-        (element_good c.loops t i.before (operand a.operand) (operand i.operand) l.0 (operand_good c.loops t a.operand j)
+        (λ a i t r' j l. keeping.given B T escapes c t (λ u p. GoodPlace c.loops u p)
+        (element_of i.before (operand a.operand) (operand i.operand)) r'
+        (element_good c.loops t i.before (operand a.operand) (operand i.operand) l.0
+        (operand_good c.loops t a.operand j)
         (operand_good c.loops t i.operand l.1))) s r h k
 
-    pub record_yields : (s : State) (all : HeldAll) → Ready c s → GoodHeld c.loops s all → Yields c s (λ t m. GoodMade c.loops t m) (make_record all s)
+    pub record_yields : (s : State) (all : HeldAll) → Ready c s → GoodHeld c.loops s all → Yields c s
+        (λ t m. GoodMade c.loops t m) (make_record all s)
     record_yields s all r h =
-        keeping.bind B T escapes c s (λ t i. T → i < t.frame.temps) (λ t m. GoodMade c.loops t m) (fresh s) (λ i. give (record_of i all))
+        keeping.bind B T escapes c s (λ t i. T → i < t.frame.temps) (λ t m. GoodMade c.loops t m) (fresh s)
+        (λ i. give (record_of i all))
         (keeping.draws_temp B T escapes c s r)
         (λ i t st r' j. keeping.given B T escapes c t (λ u m. GoodMade c.loops u m) (record_of i all) r'
         (record_good c.loops t i all j (keeping.held_on B T escapes c.kept s t st c.loops all h)))
@@ -325,9 +368,12 @@ module _ (B T : Type 0) (escapes : ℕ → Bool) where
         (λ a b t. after (fresh t) (λ p. give (product_of p b.before (operand a.operand) (operand b.operand))))
         (λ a b t r' j l.
         keeping.bind B T escapes c t (λ u i. T → i < u.frame.temps) (λ u m. GoodMade c.loops u m) (fresh t)
-        (λ p. give (product_of p b.before (operand a.operand) (operand b.operand))) (keeping.draws_temp B T escapes c t r')
-        (λ p u st r'' i. keeping.given B T escapes c u (λ v m. GoodMade c.loops v m) (product_of p b.before (operand a.operand) (operand b.operand)) r''
-        (product_good c.loops u p b.before (operand a.operand) (operand b.operand) i (keeping.stms_on B T escapes c.kept t u st c.loops b.before l.0)
+        (λ p. give (product_of p b.before (operand a.operand) (operand b.operand)))
+        (keeping.draws_temp B T escapes c t r')
+        (λ p u st r'' i. keeping.given B T escapes c u (λ v m. GoodMade c.loops v m)
+        (product_of p b.before (operand a.operand) (operand b.operand)) r''
+        (product_good c.loops u p b.before (operand a.operand) (operand b.operand) i
+        (keeping.stms_on B T escapes c.kept t u st c.loops b.before l.0)
         (operand_good c.loops u a.operand (keeping.operand_on B T escapes c.kept t u st a.operand j))
         (operand_good c.loops u b.operand (keeping.operand_on B T escapes c.kept t u st b.operand l.1))))) s r h k
 
@@ -336,12 +382,15 @@ module _ (B T : Type 0) (escapes : ℕ → Bool) where
     checked_yields s direct x y r h k =
         both_held (λ t m. GoodMade c.loops t m) direct true x y
         (λ a b. give (quotient_of b.before (operand a.operand) (operand b.operand)))
-        (λ a b t r' j l. keeping.given B T escapes c t (λ u m. GoodMade c.loops u m) (quotient_of b.before (operand a.operand) (operand b.operand)) r'
-        (quotient_good c.loops t b.before (operand a.operand) (operand b.operand) l.0 (operand_good c.loops t a.operand j)
+        (λ a b t r' j l. keeping.given B T escapes c t (λ u m. GoodMade c.loops u m)
+        (quotient_of b.before (operand a.operand) (operand b.operand)) r'
+        (quotient_good c.loops t b.before (operand a.operand) (operand b.operand) l.0
+        (operand_good c.loops t a.operand j)
         (operand_good c.loops t b.operand l.1))) s r h k
 
     by_number_yields : (s : State) (direct : Bool) (x : Tx) (k : ℕ) (b : Bool) → Ready c s → GoodTx c.loops s x →
-        Yields c s (λ t m. GoodMade c.loops t m) ((if b then checked_quotient direct x (Const k) else give (value (Binary bin.Div x (Const k)))) s)
+        Yields c s (λ t m. GoodMade c.loops t m) ((if b then checked_quotient direct x (Const k) else give
+        (value (Binary bin.Div x (Const k)))) s)
     by_number_yields s direct x k true r h = checked_yields s direct x (Const k) r h tt
     by_number_yields s direct x k false r h =
         keeping.given B T escapes c s (λ t m. GoodMade c.loops t m) (value (Binary bin.Div x (Const k))) r (h, tt)
@@ -351,12 +400,15 @@ module _ (B T : Type 0) (escapes : ℕ → Bool) where
     quotient_yields s direct x (Const k) r h j = by_number_yields s direct x k (k == 0 || k == minus_one) r h
     quotient_yields s direct x y r h j = checked_yields s direct x y r h j
 
-    compared_yields : (s : State) (o : Op) (strings : Bool) (x y : Tx) → Ready c s → GoodTx c.loops s x → GoodTx c.loops s y →
+    compared_yields : (s : State) (o : Op) (strings : Bool) (x y : Tx) → Ready c s → GoodTx c.loops s x → GoodTx c.loops
+        s y →
         Yields c s (λ t m. GoodMade c.loops t m) (give (test (comparison o strings x y)) s)
     compared_yields s o strings x y r h k =
-        keeping.given B T escapes c s (λ t m. GoodMade c.loops t m) (test (comparison o strings x y)) r (comparison_good c.loops s o strings x y h k)
+        keeping.given B T escapes c s (λ t m. GoodMade c.loops t m) (test (comparison o strings x y)) r
+        (comparison_good c.loops s o strings x y h k)
 
-    pub operation_yields : (s : State) (o : Op) (strings direct : Bool) (x y : Tx) → Ready c s → GoodTx c.loops s x → GoodTx c.loops s y →
+    pub operation_yields : (s : State) (o : Op) (strings direct : Bool) (x y : Tx) → Ready c s → GoodTx c.loops s x →
+        GoodTx c.loops s y →
         Yields c s (λ t m. GoodMade c.loops t m) (operation o strings direct x y s)
     operation_yields s op.Plus strings direct x y r h k =
         keeping.given B T escapes c s (λ t m. GoodMade c.loops t m) (value (Binary bin.AddTrap x y)) r (h, k)
@@ -366,11 +418,13 @@ module _ (B T : Type 0) (escapes : ℕ → Bool) where
     operation_yields s op.Divide strings direct x y r h k = quotient_yields s direct x y r h k
     operation_yields s o strings direct x y r h k = compared_yields s o strings x y r h k
 
-    pub count_yields : (s : State) (i : Access) (x y : Tx) (turn : Ts) → Ready c s → GoodAccess s i → GoodTx c.loops s x → GoodTx c.loops s y →
+    pub count_yields : (s : State) (i : Access) (x y : Tx) (turn : Ts) → Ready c s → GoodAccess s i → GoodTx c.loops s
+        x → GoodTx c.loops s y →
         GoodTs (c.loops + 1) s turn → Yields c s (λ t m. GoodTs c.loops t m) (count i x y turn s)
     count_yields s i x y turn r a h k g =
         keeping.bind B T escapes c s (HeldWell c.loops) (λ t m. GoodTs c.loops t m) (hold false no_stms x s)
-        (λ l t. after (hold false l.before y t) (λ h. give (count_of h.before i l.operand h.operand turn))) (hold_yields s false no_stms x r tt h)
+        (λ l t. after (hold false l.before y t) (λ h. give (count_of h.before i l.operand h.operand turn)))
+        (hold_yields s false no_stms x r tt h)
         (λ l t st r' j.
         keeping.bind B T escapes c t (HeldWell c.loops) (λ u m. GoodTs c.loops u m) (hold false l.before y t)
         (λ h. give (count_of h.before i l.operand h.operand turn))
@@ -378,4 +432,5 @@ module _ (B T : Type 0) (escapes : ℕ → Bool) where
         (λ h u st' r'' q. let on = keeping.onward B T escapes st st' in
         keeping.given B T escapes c u (λ v m. GoodTs c.loops v m) (count_of h.before i l.operand h.operand turn) r''
         (count_good c.loops u h.before i l.operand h.operand turn q.0 (keeping.access_on B T escapes c.kept s u on i a)
-        (keeping.operand_on B T escapes c.kept t u st' l.operand j.1) q.1 (keeping.ts_on B T escapes c.kept s u on (c.loops + 1) turn g))))
+        (keeping.operand_on B T escapes c.kept t u st' l.operand j.1) q.1
+        (keeping.ts_on B T escapes c.kept s u on (c.loops + 1) turn g))))

@@ -16,7 +16,8 @@ abbrev pub times : {X : Type 0} → (label : X → ℕ) → (n : ℕ) → List X
 times label n [] = 0
 times label n (x ∷ xs) = same (label x) n + times label n xs
 
-pub times-append : {X : Type 0} (label : X → ℕ) (n : ℕ) (xs ys : List X) → times label n (xs ++ ys) ≡ times label n xs + times label n ys
+pub times-append : {X : Type 0} (label : X → ℕ) (n : ℕ) (xs ys : List X) → times label n (xs ++ ys) ≡ times label n xs +
+    times label n ys
 times-append label n [] ys = omega arith
 times-append label n (x ∷ xs) ys = let h = times-append label n xs ys in omega (arith, h)
 
@@ -42,10 +43,13 @@ pub same_is : (a b : ℕ) → 0 < same a b → a ≡ b
 same_is a b h = grind (arith, nat_tests)
 
 -- what stands in a list is counted there, and what is counted stands in it
-pub contained_counts : {X : Type 0} (label : X → ℕ) (xs : List X) (n : ℕ) → Contains (map label xs) n → 0 < times label n xs
+pub contained_counts : {X : Type 0} (label : X → ℕ) (xs : List X) (n : ℕ) → Contains (map label xs) n → 0 < times label
+    n xs
 contained_counts label [] n c = absurd (omega (arith, c.1))
-contained_counts label (x ∷ xs) n (zero, l, e) = let h : same (label x) n ≡ 1 = subst (λ y. same (label x) y ≡ 1) e (same_self (label x)) in omega (arith, h)
-contained_counts label (x ∷ xs) n (suc k, l, e) = let h = contained_counts label xs n (k, omega arith, e) in omega (arith, h)
+contained_counts label (x ∷ xs) n (zero, l, e) = let h : same (label x) n ≡ 1 = subst (λ y. same (label x) y ≡ 1) e
+    (same_self (label x)) in omega (arith, h)
+contained_counts label (x ∷ xs) n (suc k, l, e) = let h = contained_counts label xs n (k, omega arith, e) in omega
+    (arith, h)
 
 counted_either : {X : Type 0} (label : X → ℕ) (x : X) (xs : List X) (n : ℕ) (b : Bool) → (label x == n) ≡ b →
     (0 < times label n xs → Contains (map label xs) n) → 0 < times label n (x ∷ xs) → Contains (map label (x ∷ xs)) n
@@ -54,7 +58,8 @@ counted_either label x xs n false e more h =
     let c = more (let k : same (label x) n ≡ 0 = ap (λ v. if v then 1 else 0) e in omega (arith, h, k)) in
     (suc c.0, omega (arith, c.1), c.2)
 
-pub counted_contains : {X : Type 0} (label : X → ℕ) (xs : List X) (n : ℕ) → 0 < times label n xs → Contains (map label xs) n
+pub counted_contains : {X : Type 0} (label : X → ℕ) (xs : List X) (n : ℕ) → 0 < times label n xs → Contains
+    (map label xs) n
 counted_contains label [] n h = absurd (omega (arith, h))
 counted_contains label (x ∷ xs) n h = counted_either label x xs n (label x == n) refl (counted_contains label xs n) h
 
@@ -73,5 +78,6 @@ pub once_apart : (xs : List ℕ) → ((n : ℕ) → times (λ l. l) n xs ≤ 1) 
 once_apart [] h = λ i j d l m e. absurd (omega (arith, m))
 once_apart (x ∷ xs) h =
     AllPairs-cons (λ a b. a ≢ b) x xs
-    (λ k d l. let i : times (λ l. l) x xs ≡ 0 = let j = h x in let m = same_self x in omega (arith, j, m) in each_other x xs i k d l)
+    (λ k d l. let i : times (λ l. l) x xs ≡ 0 = let j = h x in let m = same_self x in omega (arith, j, m) in each_other
+    x xs i k d l)
     (once_apart xs (λ n. let i = h n in omega (arith, i)))

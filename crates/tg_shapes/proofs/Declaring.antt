@@ -56,7 +56,8 @@ module _ (B T : Type 0) (findings : Findings) where
   IsDrawn = keeping.IsDrawn B T findings.escapes
 
   -- a part is left, in which no fewer variables were the function's
-  pub leave : (c d : Where) (s t : State) → ((at : ℕ) → Contains c.own at → Contains d.own at) → s.frame.temps ≤ t.frame.temps →
+  pub leave : (c d : Where) (s t : State) → ((at : ℕ) → Contains c.own at → Contains d.own at) → s.frame.temps ≤
+      t.frame.temps →
       Ready c s → Ready d t → Ready c t
   leave c d s t f h r q = record {
     from = q.from;
@@ -70,7 +71,8 @@ module _ (B T : Type 0) (findings : Findings) where
   }
 
   pub leave_yields : {A : Type 0} (c d : Where) (s : State) (V : State → A → Type 0) (dr : Drawn A) →
-      d.kept ≡ c.kept → ((at : ℕ) → Contains c.own at → Contains d.own at) → Ready c s → Yields d s V dr → Yields c s V dr
+      d.kept ≡ c.kept → ((at : ℕ) → Contains c.own at → Contains d.own at) → Ready c s → Yields d s V dr → Yields c s V
+      dr
   leave_yields c d s V (drawn a t) e f r h =
       let st : Step c.kept s t = subst (λ k. Step k s t) e h.0 in (st, leave c d s t f st.temps r h.1, h.2)
 
@@ -109,7 +111,8 @@ module _ (B T : Type 0) (findings : Findings) where
   abbrev with_home : (at level : ℕ) → Frame → Access → State → State
   with_home at level f a s = record s { frame = f; homes = (at, record { level = level; access = a }) ∷ s.homes }
 
-  home_step : (kept : List ℕ) (s : State) (at level : ℕ) (f : Frame) (a : Access) → f.label ≡ s.frame.label → s.frame.temps ≤ f.temps →
+  home_step : (kept : List ℕ) (s : State) (at level : ℕ) (f : Frame) (a : Access) → f.label ≡ s.frame.label →
+      s.frame.temps ≤ f.temps →
       (T → AreApart (at ∷ []) kept) → Step kept s (with_home at level f a s)
   home_step kept s at level f a e h apart = record {
     label = omega arith;
@@ -127,7 +130,8 @@ module _ (B T : Type 0) (findings : Findings) where
   drawn_on n m (InTemp t) h k = omega (arith, h, k)
   drawn_on n m (InFrame j) h k = tt
 
-  home_ready : (c : Where) (s : State) (at level : ℕ) (f : Frame) (a : Access) → s.frame.temps ≤ f.temps → IsDrawn f.temps a →
+  home_ready : (c : Where) (s : State) (at level : ℕ) (f : Frame) (a : Access) → s.frame.temps ≤ f.temps → IsDrawn
+      f.temps a →
       (findings.escapes at ≡ true → IsTrue (is_slot a)) → Ready c s → Ready (owning at c) (with_home at level f a s)
   home_ready c s at level f a h d sl r = record {
     from = r.from;
@@ -151,21 +155,27 @@ module _ (B T : Type 0) (findings : Findings) where
   abbrev pub Declares : (c : Where) (at : ℕ) → State → Access → Type 0
   Declares c at t a = GoodAccess t a × Ready (owning at c) t
 
-  declared_as : (c : Where) (s : State) (at : ℕ) (b : Bool) → findings.escapes at ≡ b → Ready c s → (T → AreApart (at ∷ []) c.kept) →
+  declared_as : (c : Where) (s : State) (at : ℕ) (b : Bool) → findings.escapes at ≡ b → Ready c s →
+      (T → AreApart (at ∷ []) c.kept) →
       Yields c s (Declares c at) (declare_variable b c.within.level at s)
   declared_as c s at true e r apart =
       let q : Ready (owning at c) (with_home at c.within.level (one_slot s.frame) (InFrame s.frame.slots) s) =
       home_ready c s at c.within.level (one_slot s.frame) (InFrame s.frame.slots) (omega arith) tt (λ k. refl) r in (
         home_step c.kept s at c.within.level (one_slot s.frame) (InFrame s.frame.slots) refl (omega arith) apart,
-        leave c (owning at c) s (with_home at c.within.level (one_slot s.frame) (InFrame s.frame.slots) s) (λ x k. more_contained at x c.own k)
+        leave c (owning at c) s (with_home at c.within.level (one_slot s.frame) (InFrame s.frame.slots) s)
+            (λ x k. more_contained at x c.own k)
             (omega arith) r q,
         (tt, q),
       )
   declared_as c s at false e r apart =
-      let q : Ready (owning at c) (with_home at c.within.level (one_temp s.frame) (InTemp (record { 0 = s.frame.temps })) s) =
-      home_ready c s at c.within.level (one_temp s.frame) (InTemp (record { 0 = s.frame.temps })) (omega arith) (omega arith) (λ k. cc) r in (
-        home_step c.kept s at c.within.level (one_temp s.frame) (InTemp (record { 0 = s.frame.temps })) refl (omega arith) apart,
-        leave c (owning at c) s (with_home at c.within.level (one_temp s.frame) (InTemp (record { 0 = s.frame.temps })) s) (λ x k. more_contained at x c.own k)
+      let q : Ready (owning at c) (with_home at c.within.level (one_temp s.frame)
+      (InTemp (record { 0 = s.frame.temps })) s) =
+      home_ready c s at c.within.level (one_temp s.frame) (InTemp (record { 0 = s.frame.temps })) (omega arith)
+      (omega arith) (λ k. cc) r in (
+        home_step c.kept s at c.within.level (one_temp s.frame) (InTemp (record { 0 = s.frame.temps })) refl
+            (omega arith) apart,
+        leave c (owning at c) s (with_home at c.within.level (one_temp s.frame) (InTemp (record { 0 = s.frame.temps }))
+            s) (λ x k. more_contained at x c.own k)
             (omega arith) r q,
         ((λ t. omega arith), q),
       )
@@ -180,7 +190,8 @@ module _ (B T : Type 0) (findings : Findings) where
   AllDrawn n at homes = (home : Home) → named at homes ≡ Some home → IsDrawn n home.access
 
   abbrev pub AllSlots : List (ℕ × Home) → Type 0
-  AllSlots homes = (at : ℕ) (home : Home) → findings.escapes at ≡ true → named at homes ≡ Some home → IsTrue (is_slot home.access)
+  AllSlots homes = (at : ℕ) (home : Home) → findings.escapes at ≡ true → named at homes ≡ Some home → IsTrue
+      (is_slot home.access)
 
   pub record Homed (params : List Param) (temps : ℕ) (old new : List (ℕ × Home)) : Type 0 where
     pub others : (at : ℕ) → (Contains (params_of params) at → ⊥) → named at new ≡ named at old
@@ -188,17 +199,21 @@ module _ (B T : Type 0) (findings : Findings) where
     pub drawn : (at : ℕ) → Contains (params_of params) at → AllDrawn temps at new
     pub slots : AllSlots old → AllSlots new
 
-  homed_drawn : (n at x : ℕ) (home : Home) (old : List (ℕ × Home)) → IsDrawn n home.access → (at ≢ x → AllDrawn n x old) → AllDrawn n x ((at, home) ∷ old)
+  homed_drawn : (n at x : ℕ) (home : Home) (old : List (ℕ × Home)) → IsDrawn n home.access →
+      (at ≢ x → AllDrawn n x old) → AllDrawn n x ((at, home) ∷ old)
   homed_drawn n at x home old d f h e =
       elim (named_cases x at home h old e) [ inl q ↦ subst (λ v. IsDrawn n v.access) q.1 d | inr q ↦ f q.0 h q.1 ]
 
-  homed_more : (p : Param) (params : List Param) (n : ℕ) (home : Home) (old new : List (ℕ × Home)) → IsDrawn n home.access →
+  homed_more : (p : Param) (params : List Param) (n : ℕ) (home : Home) (old new : List (ℕ × Home)) → IsDrawn n
+      home.access →
       (findings.escapes (at_of p.name) ≡ true → IsTrue (is_slot home.access)) →
       Homed params n ((at_of p.name, home) ∷ old) new → Homed (p ∷ params) n old new
   homed_more p params n home old new d sl h = record {
     others = λ x f.
         h.others x (λ k. f (more_contained (at_of p.name) x (params_of params) k))
-        ∙ named_other x (at_of p.name) home old (λ e. f (subst (λ y. Contains (at_of p.name ∷ params_of params) y) e (first_contained (at_of p.name) (params_of params))));
+        ∙ named_other x (at_of p.name) home old (λ e. f
+        (subst (λ y. Contains (at_of p.name ∷ params_of params) y) e
+        (first_contained (at_of p.name) (params_of params))));
     stays = λ x f. h.stays x (homed_drawn n (at_of p.name) x home old d (λ ne. f));
     drawn = λ x k. drawn_there x k;
     slots = λ f. h.slots (λ x g k e.
@@ -222,14 +237,17 @@ module _ (B T : Type 0) (findings : Findings) where
       Homed (p ∷ params) n old (parameters level (p ∷ params) (homes_from slots temps (b ∷ escaping params)) old)
   param_homed level p params slots temps n old true more e h =
       let home : Home = record { level = level; access = InFrame slots } in
-      homed_more p params n home old (parameters level params (homes_from (slots + 1) temps (escaping params)) ((at_of p.name, home) ∷ old)) tt (λ k. refl)
+      homed_more p params n home old (parameters level params (homes_from (slots + 1) temps (escaping params))
+      ((at_of p.name, home) ∷ old)) tt (λ k. refl)
       (more (slots + 1) temps ((at_of p.name, home) ∷ old) h)
   param_homed level p params slots temps n old false more e h =
       let home : Home = record { level = level; access = InTemp (record { 0 = temps }) } in
-      homed_more p params n home old (parameters level params (homes_from slots (temps + 1) (escaping params)) ((at_of p.name, home) ∷ old)) (omega (arith, h)) (λ k. cc)
+      homed_more p params n home old (parameters level params (homes_from slots (temps + 1) (escaping params))
+      ((at_of p.name, home) ∷ old)) (omega (arith, h)) (λ k. cc)
       (more slots (temps + 1) ((at_of p.name, home) ∷ old) (omega (arith, h)))
 
-  params_homed : (level : ℕ) (params : List Param) (n slots temps : ℕ) (old : List (ℕ × Home)) → temps + temps_of (escaping params) ≤ n →
+  params_homed : (level : ℕ) (params : List Param) (n slots temps : ℕ) (old : List (ℕ × Home)) → temps + temps_of
+      (escaping params) ≤ n →
       Homed params n old (parameters level params (homes_from slots temps (escaping params)) old)
   params_homed level [] n slots temps old h = record {
     others = λ at f. refl;
@@ -238,13 +256,15 @@ module _ (B T : Type 0) (findings : Findings) where
     slots = λ f. f;
   }
   params_homed level (p ∷ params) n slots temps old h =
-      param_homed level p params slots temps n old (findings.escapes (at_of p.name)) (params_homed level params n) refl h
+      param_homed level p params slots temps n old (findings.escapes (at_of p.name)) (params_homed level params n) refl
+      h
 
   -- behind the static link
   abbrev homes_in : (kept : Bool) → List Param → List Access
   homes_in kept params = own_homes (homes_of (asked findings.escapes kept params))
 
   pub all_homed : (level : ℕ) (kept : Bool) (params : List Param) (old : List (ℕ × Home)) →
-      Homed params (temps_of (asked findings.escapes kept params)) old (parameters level params (homes_in kept params) old)
+      Homed params (temps_of (asked findings.escapes kept params)) old
+      (parameters level params (homes_in kept params) old)
   all_homed level true params old = params_homed level params (temps_of (escaping params)) 1 0 old (omega arith)
   all_homed level false params old = params_homed level params (temps_of (escaping params) + 1) 0 1 old (omega arith)

@@ -39,7 +39,8 @@ said =
     Let sp
     (functions
     (function (id 11) [] None
-    (Seq sp (exp (Call sp (id 30) (exp (Text sp (codes "a")) no_exps)) (exp (Call sp (id 30) (exp (Text sp (codes "b")) no_exps)) no_exps))) no_functions)
+    (Seq sp (exp (Call sp (id 30) (exp (Text sp (codes "a")) no_exps))
+    (exp (Call sp (id 30) (exp (Text sp (codes "b")) no_exps)) no_exps))) no_functions)
     no_decs)
     (exp (Call sp (id 11) no_exps) (exp (Call sp (id 30) (exp (Text sp (codes "c")) no_exps)) no_exps))
 
@@ -64,7 +65,8 @@ abbrev used : Exp
 used =
     Let sp
     (variable (id 1) None (Int sp 0)
-    (functions (function (id 11) [] None (Seq sp (exp (Read sp (Simple (id 1))) (exp (Seq sp no_exps) no_exps))) no_functions) no_decs))
+    (functions (function (id 11) [] None (Seq sp (exp (Read sp (Simple (id 1))) (exp (Seq sp no_exps) no_exps)))
+    no_functions) no_decs))
     (exp (Call sp (id 11) no_exps) no_exps)
 
 used_inside : Reaches (findings []) [] [] used → ⊥

@@ -110,7 +110,8 @@ module _ (B : Type 0) (A : Named → Type 0) where
     names_ts n (StoreByte x y) after h k = names_tx n x (named_tx y after) h.0 (names_tx n y after h.1 k)
     names_ts n (Do x) after h k = names_tx n x after h k
     names_ts n (If c s t) after h k =
-        names_cond n c (named_ts s (named_ts t after)) h.0 (names_ts n s (named_ts t after) h.1 (names_ts n t after h.2 k))
+        names_cond n c (named_ts s (named_ts t after)) h.0
+        (names_ts n s (named_ts t after) h.1 (names_ts n t after h.2 k))
     names_ts n (Loop s) after h k = names_ts (n + 1) s after h k
     names_ts n (Break _) after h k = k
     names_ts n (Fault _) after h k = (h, k)

@@ -76,7 +76,8 @@ module _ (B T : Type 0) (escapes : ℕ → Bool) where
     pub unused : (l : ℕ) → s.label ≤ l → times (λ k. k.label) l s.literals ≡ 0
     pub functions : Each (FineFunction (callee_labels s) (literal_labels s)) s.functions
     pub owned :
-        T → (at : ℕ) (home : Home) → Contains c.own at → named at s.homes ≡ Some home → IsDrawn s.frame.temps home.access
+        T → (at : ℕ) (home : Home) → Contains c.own at → named at s.homes ≡ Some home → IsDrawn s.frame.temps
+        home.access
     pub slots :
         T → (at : ℕ) (home : Home) → escapes at ≡ true → named at s.homes ≡ Some home → IsTrue (is_slot home.access)
     pub link : T → 0 < c.within.level → c.within.link_in_slot ≡ false → 0 < s.frame.temps
@@ -109,17 +110,20 @@ module _ (B T : Type 0) (escapes : ℕ → Bool) where
     homes = λ t at c. k.homes t at c ∙ h.homes t at c;
   }
 
-  lifted : {A : Type 0} (c : Where) (s t : State) (W : State → A → Type 0) (d : Drawn A) → Step c.kept s t → Yields c t W d → Yields c s W d
+  lifted : {A : Type 0} (c : Where) (s t : State) (W : State → A → Type 0) (d : Drawn A) → Step c.kept s t → Yields c t
+      W d → Yields c s W d
   lifted c s t W (drawn a u) h k = (onward h k.0, k.1, k.2)
 
   pub bind :
-      {A C : Type 0} (c : Where) (s : State) (V : State → A → Type 0) (W : State → C → Type 0) (d : Drawn A) (next : A → Acts C) →
+      {A C : Type 0} (c : Where) (s : State) (V : State → A → Type 0) (W : State → C → Type 0) (d : Drawn A)
+      (next : A → Acts C) →
       Yields c s V d →
       ((a : A) (t : State) → Step c.kept s t → Ready c t → V t a → Yields c t W (next a t)) →
       Yields c s W (after d next)
   bind c s V W (drawn a t) next h k = lifted c s t W (next a t) h.0 (k a t h.0 h.1 h.2)
 
-  pub given : {A : Type 0} (c : Where) (s : State) (V : State → A → Type 0) (a : A) → Ready c s → V s a → Yields c s V (give a s)
+  pub given : {A : Type 0} (c : Where) (s : State) (V : State → A → Type 0) (a : A) → Ready c s → V s a → Yields c s V
+      (give a s)
   given c s V a r v = (stay c.kept s, r, v)
 
   pub weaker :
@@ -129,7 +133,8 @@ module _ (B T : Type 0) (escapes : ℕ → Bool) where
 
   -- What is fine stays fine.
 
-  know_more : (cs ls ds ms : List ℕ) (n m : ℕ) → ((l : ℕ) → Contains cs l → Contains ds l) → ((l : ℕ) → Contains ls l → Contains ms l) → n ≤ m →
+  know_more : (cs ls ds ms : List ℕ) (n m : ℕ) → ((l : ℕ) → Contains cs l → Contains ds l) →
+      ((l : ℕ) → Contains ls l → Contains ms l) → n ≤ m →
       (x : Named) → Knows cs ls n x → Knows ds ms m x
   know_more cs ls ds ms n m f g h (function l) k = elim k [ inl e ↦ inl e | inr e ↦ inr (f l e) ]
   know_more cs ls ds ms n m f g h (literal l) k = g l k
@@ -138,9 +143,11 @@ module _ (B T : Type 0) (escapes : ℕ → Bool) where
 
   pub knows_on : (kept : List ℕ) (s t : State) → Step kept s t → (x : Named) → KnowsAt s x → KnowsAt t x
   knows_on kept s t h x k =
-      know_more (callee_labels s) (literal_labels s) (callee_labels t) (literal_labels t) s.frame.temps t.frame.temps h.callees h.literals h.temps x k
+      know_more (callee_labels s) (literal_labels s) (callee_labels t) (literal_labels t) s.frame.temps t.frame.temps
+      h.callees h.literals h.temps x k
 
-  pub functions_on : (cs ls ds ms : List ℕ) → ((l : ℕ) → Contains cs l → Contains ds l) → ((l : ℕ) → Contains ls l → Contains ms l) →
+  pub functions_on : (cs ls ds ms : List ℕ) → ((l : ℕ) → Contains cs l → Contains ds l) →
+      ((l : ℕ) → Contains ls l → Contains ms l) →
       (fs : List (Function Ts)) → Each (FineFunction cs ls) fs → Each (FineFunction ds ms) fs
   functions_on cs ls ds ms f g [] h = tt
   functions_on cs ls ds ms f g (one ∷ fs) h = (
@@ -251,7 +258,8 @@ module _ (B T : Type 0) (escapes : ℕ → Bool) where
   drawn_on n m (InTemp t) h k = omega (arith, h, k)
   drawn_on n m (InFrame j) h k = tt
 
-  pub framed : (kept : List ℕ) (s : State) (f : Frame) → f.label ≡ s.frame.label → s.frame.temps ≤ f.temps → Step kept s (with_frame f s)
+  pub framed : (kept : List ℕ) (s : State) (f : Frame) → f.label ≡ s.frame.label → s.frame.temps ≤ f.temps → Step kept s
+      (with_frame f s)
   framed kept s f e h = record {
     label = omega arith;
     temps = h;
@@ -262,7 +270,8 @@ module _ (B T : Type 0) (escapes : ℕ → Bool) where
     homes = λ t at k. refl;
   }
 
-  pub ready_framed : (c : Where) (s : State) (f : Frame) → s.frame.temps ≤ f.temps → Ready c s → Ready c (with_frame f s)
+  pub ready_framed : (c : Where) (s : State) (f : Frame) → s.frame.temps ≤ f.temps → Ready c s → Ready c
+      (with_frame f s)
   ready_framed c s f h r = record {
     from = r.from;
     callees = r.callees;
@@ -275,5 +284,9 @@ module _ (B T : Type 0) (escapes : ℕ → Bool) where
   }
 
   pub draws_temp : (c : Where) (s : State) → Ready c s → Yields c s (λ t i. T → i < t.frame.temps) (fresh s)
-  draws_temp c s r =
-      (framed c.kept s (one_temp s.frame) refl (omega arith), ready_framed c s (one_temp s.frame) (omega arith) r, λ t. omega arith)
+  draws_temp c s r = (
+    framed c.kept s (one_temp s.frame) refl (omega arith),
+    ready_framed c s (one_temp s.frame) (omega arith) r,
+    λ t.
+        omega arith,
+  )

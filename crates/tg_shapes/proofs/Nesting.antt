@@ -68,11 +68,13 @@ module _ (B T : Type 0) (findings : Findings) where
   pub closing_yields : (c : Where) (s : State) (has_result : Bool) (m : Made) → Ready c s → GoodMade c.loops s m →
       Yields c s (IsWhole c.loops) (closing has_result m s)
   closing_yields c s true m r h =
-      keeping.bind B T findings.escapes c s (λ t x. keeping.GoodTx B T findings.escapes c.loops t x) (IsWhole c.loops) (value_of m s) (λ x. give (Return x))
+      keeping.bind B T findings.escapes c s (λ t x. keeping.GoodTx B T findings.escapes c.loops t x) (IsWhole c.loops)
+      (value_of m s) (λ x. give (Return x))
       (wanting.value_yields B T findings.escapes c s m r h)
       (λ x t st r' k. keeping.given B T findings.escapes c t (IsWhole c.loops) (Return x) r' (k, tt))
   closing_yields c s false m r h =
-      keeping.given B T findings.escapes c s (IsWhole c.loops) (gives_nothing m) r ((wanting.dropped_good B T findings.escapes c.loops s m h, (tt, tt)), tt)
+      keeping.given B T findings.escapes c s (IsWhole c.loops) (gives_nothing m) r
+      ((wanting.dropped_good B T findings.escapes c.loops s m h, (tt, tt)), tt)
 
   -- from one state to a later one, where the labels from one on, up to another, are given away
   pub record Places (kept : List ℕ) (from to : ℕ) (s t : State) : Type 0 where
@@ -95,7 +97,8 @@ module _ (B T : Type 0) (findings : Findings) where
     homes = λ t at h. refl;
   }
 
-  pub places_more : (kept : List ℕ) (a b d : ℕ) (s t u : State) → Places kept a b s t → Places kept b d t u → Places kept a d s u
+  pub places_more : (kept : List ℕ) (a b d : ℕ) (s t u : State) → Places kept a b s t → Places kept b d t u → Places
+      kept a d s u
   places_more kept a b d s t u h k = record {
     label = omega (arith, h.label, k.label);
     temps = omega (arith, h.temps, k.temps);
@@ -137,7 +140,8 @@ module _ (B T : Type 0) (findings : Findings) where
 
   done_places : (c : Where) (s u : State) (label : ℕ) (kept : Bool) (params : List Param) (x : Ts) →
       (T → AreApart (params_of params) (c.own ++ c.kept)) →
-      Step (c.own ++ c.kept) (begun_state label kept params c s) u → Places (c.own ++ c.kept) label (label + 1) s (done s u x)
+      Step (c.own ++ c.kept) (begun_state label kept params c s) u → Places (c.own ++ c.kept) label (label + 1) s
+      (done s u x)
   done_places c s u label kept params x apart h =
       let one = with_body u.frame x in
       record {
@@ -154,12 +158,14 @@ module _ (B T : Type 0) (findings : Findings) where
             omega (arith, p, q, i, j);
         homes = λ t at k.
             h.homes t at k
-            ∙ (declaring.all_homed B T findings (c.within.level + 1) kept params s.homes).others at (λ q. apart t at q k);
+            ∙ (declaring.all_homed B T findings (c.within.level + 1) kept params s.homes).others at
+            (λ q. apart t at q k);
       }
 
   done_ready : (c : Where) (s u : State) (label : ℕ) (kept : Bool) (params : List Param) (x : Ts) →
       (T → AreApart (params_of params) (c.own ++ c.kept)) →
-      Step (c.own ++ c.kept) (begun_state label kept params c s) u → Ready c s → Ready (nested kept params c) u → IsWhole 0 u x →
+      Step (c.own ++ c.kept) (begun_state label kept params c s) u → Ready c s → Ready (nested kept params c) u →
+      IsWhole 0 u x →
       Ready c (done s u x)
   done_ready c s u label kept params x apart h r q w =
       let place = done_places c s u label kept params x apart h in
@@ -168,11 +174,14 @@ module _ (B T : Type 0) (findings : Findings) where
         callees = q.callees;
         unused = q.unused;
         functions =
-            each_append (FineFunction (callee_labels u) (literal_labels u)) s.functions (with_body u.frame x ∷ u.functions)
-            (keeping.functions_on B T findings.escapes (callee_labels s) (literal_labels s) (callee_labels u) (literal_labels u) h.callees h.literals
+            each_append (FineFunction (callee_labels u) (literal_labels u)) s.functions
+            (with_body u.frame x ∷ u.functions)
+            (keeping.functions_on B T findings.escapes (callee_labels s) (literal_labels s) (callee_labels u)
+            (literal_labels u) h.callees h.literals
             s.functions r.functions)
             (record { body = w.0; last = w.1 }, q.functions);
-        owned = λ t at home k e. r.owned t at home k (sym (place.homes t at (Contains-append_left c.own c.kept at k)) ∙ e);
+        owned = λ t at home k e. r.owned t at home k (sym (place.homes t at (Contains-append_left c.own c.kept at k)) ∙
+            e);
         slots = q.slots;
         link = r.link;
         loops = r.loops;
@@ -184,7 +193,8 @@ module _ (B T : Type 0) (findings : Findings) where
 
   finished_placed : (c : Where) (s : State) (label : ℕ) (kept : Bool) (params : List Param) (d : Drawn Ts) →
       (T → AreApart (params_of params) (c.own ++ c.kept)) → Ready c s →
-      Yields (nested kept params c) (begun_state label kept params c s) (IsWhole 0) d → Placed c label (label + 1) s (finish s d)
+      Yields (nested kept params c) (begun_state label kept params c s) (IsWhole 0) d → Placed c label (label + 1) s
+      (finish s d)
   finished_placed c s label kept params (drawn x u) apart r h =
       (done_places c s u label kept params x apart h.0, done_ready c s u label kept params x apart h.0 r h.1 h.2)
 
@@ -192,17 +202,23 @@ module _ (B T : Type 0) (findings : Findings) where
   result_good s true = tt
   result_good s false = tt
 
-  pub body_placed : (c : Where) (s : State) (label at : ℕ) (has_result : Bool) (params : List Param) (text : Want → Within → Acts Made) →
+  pub body_placed : (c : Where) (s : State) (label at : ℕ) (has_result : Bool) (params : List Param)
+      (text : Want → Within → Acts Made) →
       (T → AreApart (params_of params) (c.own ++ c.kept)) → Ready c s →
-      ((t : State) (w : Want) → Ready (nested (findings.keeps_link at) params c) t → keeping.GoodWant B T findings.escapes t w →
-      Yields (nested (findings.keeps_link at) params c) t (λ u m. GoodMade 0 u m) (text w (inside c.within (findings.keeps_link at)) t)) →
-      Placed c label (label + 1) s (body label findings.escapes findings.keeps_link at has_result params text c.within s)
+      ((t : State) (w : Want) → Ready (nested (findings.keeps_link at) params c) t → keeping.GoodWant B T
+      findings.escapes t w →
+      Yields (nested (findings.keeps_link at) params c) t (λ u m. GoodMade 0 u m)
+      (text w (inside c.within (findings.keeps_link at)) t)) →
+      Placed c label (label + 1) s (body label findings.escapes findings.keeps_link at has_result params text c.within
+      s)
   body_placed c s label at has_result params text apart r h =
       let kept = findings.keeps_link at in
       let d : Where = nested kept params c in
       let t : State = begun_state label kept params c s in
-      finished_placed c s label kept params (after (text (result_want has_result) (inside c.within kept) t) (closing has_result)) apart r
-      (keeping.bind B T findings.escapes d t (λ u m. GoodMade 0 u m) (IsWhole 0) (text (result_want has_result) (inside c.within kept) t) (closing has_result)
+      finished_placed c s label kept params (after (text (result_want has_result) (inside c.within kept) t)
+      (closing has_result)) apart r
+      (keeping.bind B T findings.escapes d t (λ u m. GoodMade 0 u m) (IsWhole 0)
+      (text (result_want has_result) (inside c.within kept) t) (closing has_result)
       (h t (result_want has_result) (begun_ready c s label kept params r) (result_good t has_result))
       (λ m u st r' k. closing_yields d u has_result m r' k))
 
@@ -226,7 +242,11 @@ module _ (B T : Type 0) (findings : Findings) where
   Opened c end s (drawn _ t) = Opens c.kept end s t × Ready c t
 
   abbrev with_callee : (at level : ℕ) → State → State
-  with_callee at level s = record s { label = s.label + 1; callees = (at, record { level = level; label = record { 0 = s.label } }) ∷ s.callees }
+  with_callee at level s = record s {
+    label = s.label + 1;
+    callees =
+        (at, record { level = level; label = record { 0 = s.label } }) ∷ s.callees;
+  }
 
   callee_ready : (c : Where) (s : State) (at level : ℕ) → Ready c s → Ready c (with_callee at level s)
   callee_ready c s at level r = record {
@@ -234,7 +254,8 @@ module _ (B T : Type 0) (findings : Findings) where
     callees = λ l k. one_of l k;
     unused = λ l h. r.unused l (omega (arith, h));
     functions =
-        keeping.functions_on B T findings.escapes (callee_labels s) (literal_labels s) (callee_labels (with_callee at level s)) (literal_labels s)
+        keeping.functions_on B T findings.escapes (callee_labels s) (literal_labels s)
+        (callee_labels (with_callee at level s)) (literal_labels s)
         (λ l h. more_contained s.label l (callee_labels s) h) (λ l h. h) s.functions r.functions;
     owned = r.owned;
     slots = r.slots;
@@ -242,11 +263,13 @@ module _ (B T : Type 0) (findings : Findings) where
     loops = r.loops;
   }
     where
-      one_of : (l : ℕ) → Contains (s.label ∷ callee_labels s) l → (33 ≤ l) × (l < s.label + 1) × (times (λ k. k.label) l s.literals ≡ 0)
+      one_of : (l : ℕ) → Contains (s.label ∷ callee_labels s) l → (33 ≤ l) × (l < s.label + 1) ×
+          (times (λ k. k.label) l s.literals ≡ 0)
       one_of l (zero, i, e) = (let k = r.from in omega (arith, e, k), omega (arith, e), r.unused l (omega (arith, e)))
       one_of l (suc k, i, e) = let h = r.callees l (k, omega arith, e) in (h.0, omega (arith, h.1), h.2)
 
-  opened_more : (c : Where) (end at level : ℕ) (s : State) (d : Drawn (Unit {0})) → Opened c end (with_callee at level s) d → Opened c end s d
+  opened_more : (c : Where) (end at level : ℕ) (s : State) (d : Drawn (Unit {0})) → Opened c end
+      (with_callee at level s) d → Opened c end s d
   opened_more c end at level s (drawn u t) h = (
     record {
       from = let k = h.0.from in omega (arith, k);
@@ -261,7 +284,8 @@ module _ (B T : Type 0) (findings : Findings) where
     h.1,
   )
 
-  pub declared_opens : (fs : FunDecs) (c : Where) (level : ℕ) (s : State) → Ready c s → Opened c (after_group fs s.label) s (declare_functions level fs s)
+  pub declared_opens : (fs : FunDecs) (c : Where) (level : ℕ) (s : State) → Ready c s → Opened c
+      (after_group fs s.label) s (declare_functions level fs s)
   declared_opens no_functions c level s r = (
     record {
       from = omega arith;
@@ -276,11 +300,13 @@ module _ (B T : Type 0) (findings : Findings) where
     r,
   )
   declared_opens (function f ps result e rest) c level s r =
-      opened_more c (after_group rest (s.label + 1)) (at_of f) level s (declare_functions level rest (with_callee (at_of f) level s))
+      opened_more c (after_group rest (s.label + 1)) (at_of f) level s
+      (declare_functions level rest (with_callee (at_of f) level s))
       (declared_opens rest c level (with_callee (at_of f) level s) (callee_ready c s (at_of f) level r))
 
   -- together, a group's labels and its bodies are a step
-  group_step : (c : Where) (end : ℕ) (s t u : State) → Opens c.kept end s t → Places (c.own ++ c.kept) s.label end t u → Step c.kept s u
+  group_step : (c : Where) (end : ℕ) (s t u : State) → Opens c.kept end s t → Places (c.own ++ c.kept) s.label end t u →
+      Step c.kept s u
   group_step c end s t u h k = record {
     label = omega (arith, h.from, k.label);
     temps = omega (arith, h.temps, k.temps);
@@ -295,17 +321,20 @@ module _ (B T : Type 0) (findings : Findings) where
     homes = λ q at j. k.homes q at (Contains-append_right c.own c.kept at j) ∙ h.homes q at j;
   }
 
-  placed_next : {A : Type 0} (c : Where) (end : ℕ) (s t : State) (V : State → A → Type 0) (d : Drawn (Unit {0})) (next : Acts A) →
+  placed_next : {A : Type 0} (c : Where) (end : ℕ) (s t : State) (V : State → A → Type 0) (d : Drawn (Unit {0}))
+      (next : Acts A) →
       Opens c.kept end s t → Placed c s.label end t d →
       ((u : State) → Step c.kept s u → Ready c u → Yields c u V (next u)) → Yields c s V (after d (λ _. next))
   placed_next c end s t V (drawn a u) next o h k =
       let st : Step c.kept s u = group_step c end s t u o h.0 in
-      keeping.bind B T findings.escapes c s (λ q b. Unit {0}) V (drawn a u) (λ _. next) (st, h.1, tt) (λ b q sq r v. lift_same b q sq r)
+      keeping.bind B T findings.escapes c s (λ q b. Unit {0}) V (drawn a u) (λ _. next) (st, h.1, tt)
+      (λ b q sq r v. lift_same b q sq r)
     where
       lift_same : (b : Unit {0}) (q : State) → Step c.kept s q → Ready c q → Yields c q V (next q)
       lift_same b q sq r = k q sq r
 
-  pub group_yields : {A : Type 0} (c : Where) (end : ℕ) (s : State) (V : State → A → Type 0) (d : Drawn (Unit {0})) (bodies : Acts (Unit {0})) (next : Acts A) →
+  pub group_yields : {A : Type 0} (c : Where) (end : ℕ) (s : State) (V : State → A → Type 0) (d : Drawn (Unit {0}))
+      (bodies : Acts (Unit {0})) (next : Acts A) →
       Opened c end s d → ((t : State) → Ready c t → Placed c s.label end t (bodies t)) →
       ((u : State) → Step c.kept s u → Ready c u → Yields c u V (next u)) →
       Yields c s V (after d (λ _ t. after (bodies t) (λ _. next)))

@@ -1,4 +1,5 @@
--- In a program that has a type, where the variables that nested functions use escape and no two parts begin at one byte,
+-- In a program that has a type, where the variables that nested functions use escape and no two parts begin at one
+-- byte,
 -- each variable that a text uses is in its reach.
 use Rattle.std.proofs.Common.{◌≡◌, ◌≢◌, ◌<◌, ◌≤◌, ◌+◌, ℕ, zero, suc, Bool, true, false, Option, Some, None, List, [], ◌∷◌, ◌++◌, length, get_or, refl, sym, ap, ◌∙◌, subst, arith, inl, inr, length-append}
 use Rattle.std.specs.Prelude.{◌⊎◌, ◌==◌, nat_lt, if◌then◌else◌}
@@ -89,7 +90,8 @@ mutual
 
   behind_bodies : (fs : FunDecs) {xs ys : List ℕ} → Behind xs ys → Behind xs (function_beginnings fs ys)
   behind_bodies no_functions s = s
-  behind_bodies (function f ps result body rest) s = behind_bodies rest (behind body (behind_kind result (behind_params ps (more _ s))))
+  behind_bodies (function f ps result body rest) s = behind_bodies rest
+      (behind body (behind_kind result (behind_params ps (more _ s))))
 
 abbrev In : (xs ys : List ℕ) → Type 0
 In xs ys = (y : ℕ) → Contains xs y → Contains ys y
@@ -106,7 +108,8 @@ distinct_behind : {xs ys : List ℕ} → Behind xs ys → Distinct ys → Distin
 distinct_behind here d = d
 distinct_behind (more z s) d = distinct_behind s d.1
 
-pub distinct_of : (xs : List ℕ) → ((i j : ℕ) (d : ℕ) → i < j → j < length xs → get_or xs i d ≢ get_or xs j d) → Distinct xs
+pub distinct_of : (xs : List ℕ) → ((i j : ℕ) (d : ℕ) → i < j → j < length xs → get_or xs i d ≢ get_or xs j d) → Distinct
+    xs
 distinct_of [] h = tt
 distinct_of (x ∷ xs) h = (
   λ c. h 0 (suc c.0) x (omega arith) (omega (arith, c.1)) (sym c.2),
@@ -125,13 +128,15 @@ params_in (p ∷ ps) ys y (zero, l, e) =
     (more_contained p.kind.span.from p.name.span.from (p.name.span.from ∷ ys) (first_contained p.name.span.from ys)))
 params_in (p ∷ ps) ys y (suc k, l, e) = params_in ps (p.kind.span.from ∷ p.name.span.from ∷ ys) y (k, omega arith, e)
 
-params_apart : (ps : List Param) (around ys : List ℕ) → Distinct (param_beginnings ps ys) → In around ys → AreApart (params_of ps) around
+params_apart : (ps : List Param) (around ys : List ℕ) → Distinct (param_beginnings ps ys) → In around ys → AreApart
+    (params_of ps) around
 params_apart [] around ys d i at c = λ k. omega (arith, c.1)
 params_apart (p ∷ ps) around ys d i at (zero, l, e) =
     λ k. (distinct_behind (behind_params ps here) d).1.0 (i p.name.span.from (subst (λ z. Contains around z) (sym e) k))
 params_apart (p ∷ ps) around ys d i at (suc k, l, e) =
     params_apart ps around (p.kind.span.from ∷ p.name.span.from ∷ ys) d
-    (λ y c. more_contained p.kind.span.from y (p.name.span.from ∷ ys) (more_contained p.name.span.from y ys (i y c))) at (k, omega arith, e)
+    (λ y c. more_contained p.kind.span.from y (p.name.span.from ∷ ys) (more_contained p.name.span.from y ys (i y c))) at
+    (k, omega arith, e)
 
 -- What a text sees: a variable is one of its function, or of one around it.
 
@@ -172,7 +177,8 @@ stands_on scope h ys s k = record {
 }
 
 widened : (bindings : List (ℕ × Binding)) (seen : Seen) (level deeper : ℕ) (own wider : List ℕ) → level ≤ deeper →
-    ((at : ℕ) → Contains own at → (level < deeper) ⊎ Contains wider at) → Agrees bindings seen level own → Agrees bindings seen deeper wider
+    ((at : ℕ) → Contains own at → (level < deeper) ⊎ Contains wider at) → Agrees bindings seen level own → Agrees
+    bindings seen deeper wider
 widened bindings seen level deeper own wider l f h x at t loop e =
     let k = h x at t loop e in
     record {
@@ -185,8 +191,10 @@ widened bindings seen level deeper own wider l f h x at t loop e =
       ];
     }
 
-with_one : (n at : ℕ) (t : Ty) (loop : Bool) (bindings : List (ℕ × Binding)) (seen : Seen) (level : ℕ) (own : List ℕ) → Contains own at →
-    Agrees bindings seen level own → Agrees ((n, variable_at at t loop) ∷ bindings) ((n, a_variable at level) ∷ seen) level own
+with_one : (n at : ℕ) (t : Ty) (loop : Bool) (bindings : List (ℕ × Binding)) (seen : Seen) (level : ℕ) (own : List ℕ) →
+    Contains own at →
+    Agrees bindings seen level own → Agrees ((n, variable_at at t loop) ∷ bindings) ((n, a_variable at level) ∷ seen)
+    level own
 with_one n at t loop bindings seen level own c h x b u lo e =
     elim (named_cases x n (variable_at at t loop) (variable_at b u lo) bindings e) [
       | inl q ↦ (let same : at ≡ b = cc in
@@ -208,9 +216,11 @@ with_one n at t loop bindings seen level own c h x b u lo e =
     same_test : (x n : ℕ) → n ≡ x → (n == x) ≡ true
     same_test x n e = grind (arith, nat_tests)
 
-    same_name : (x n at b level : ℕ) (seen : Seen) → n ≡ x → at ≡ b → named x ((n, a_variable at level) ∷ seen) ≡ Some (a_variable b level)
+    same_name : (x n at b level : ℕ) (seen : Seen) → n ≡ x → at ≡ b → named x ((n, a_variable at level) ∷ seen) ≡ Some
+        (a_variable b level)
     same_name x n at b level seen e i =
-        ap (λ v. if v then Some (a_variable at level) else named x seen) (same_test x n e) ∙ ap (λ z. Some (a_variable z level)) i
+        ap (λ v. if v then Some (a_variable at level) else named x seen) (same_test x n e) ∙ ap
+        (λ z. Some (a_variable z level)) i
 
 with_function : (n at : ℕ) (s : Signature) (bindings : List (ℕ × Binding)) (seen : Seen) (level : ℕ) (own : List ℕ) →
     Agrees bindings seen level own → Agrees ((n, function_at at s) ∷ bindings) ((n, a_function level) ∷ seen) level own
@@ -226,22 +236,28 @@ with_function n at s bindings seen level own h x b u lo e =
           })
     ]
 
-agree_params : (ps : List Param) (ts : List Ty) (scope : Scope) (seen : Seen) (level : ℕ) (own : List ℕ) → length ps ≡ length ts → In (params_of ps) own →
-    Agrees scope.bindings seen level own → Agrees (with_params ps ts scope).bindings (declare_params level ps seen) level own
+agree_params : (ps : List Param) (ts : List Ty) (scope : Scope) (seen : Seen) (level : ℕ) (own : List ℕ) → length ps ≡
+    length ts → In (params_of ps) own →
+    Agrees scope.bindings seen level own → Agrees (with_params ps ts scope).bindings (declare_params level ps seen)
+    level own
 agree_params [] ts scope seen level own e i h = h
 agree_params (p ∷ ps) [] scope seen level own e i h = absurd (omega (arith, e))
 agree_params (p ∷ ps) (t ∷ ts) scope seen level own e i h =
-    agree_params ps ts (binding p.name (variable_at (at_of p.name) t false) scope) (declare_variable level p.name seen) level own (omega (arith, e))
+    agree_params ps ts (binding p.name (variable_at (at_of p.name) t false) scope) (declare_variable level p.name seen)
+    level own (omega (arith, e))
     (λ y c. i y (more_contained (at_of p.name) y (params_of ps) c))
-    (with_one (name_of p.name) (at_of p.name) t false scope.bindings seen level own (i (at_of p.name) (first_contained (at_of p.name) (params_of ps))) h)
+    (with_one (name_of p.name) (at_of p.name) t false scope.bindings seen level own
+    (i (at_of p.name) (first_contained (at_of p.name) (params_of ps))) h)
 
 module _ (shapes : List (ℕ × Shape)) (notes : List Note) (findings : Findings) where
-  agree_functions : (fs : FunDecs) (ss : List Signature) (inner scope : Scope) (seen : Seen) (level : ℕ) (own : List ℕ) →
+  agree_functions : (fs : FunDecs) (ss : List Signature) (inner scope : Scope) (seen : Seen) (level : ℕ)
+      (own : List ℕ) →
       Has.HasBodies shapes notes fs ss inner → Agrees scope.bindings seen level own →
       Agrees (with_functions fs ss scope).bindings (declare_functions level fs seen) level own
   agree_functions _ _ inner scope seen level own Has.end_bodies h = h
   agree_functions _ _ inner scope seen level own (Has.a_body {f = f} {rest = rest} {s = s} {ss = ss} u l b fit hs) h =
-      agree_functions rest ss inner (binding f (function_at (at_of f) s) scope) ((name_of f, a_function level) ∷ seen) level own hs
+      agree_functions rest ss inner (binding f (function_at (at_of f) s) scope) ((name_of f, a_function level) ∷ seen)
+      level own hs
       (with_function (name_of f) (at_of f) s scope.bindings seen level own h)
 
   -- each use makes its variable escape, where it is of an outer function
@@ -251,7 +267,8 @@ module _ (shapes : List (ℕ × Shape)) (notes : List Note) (findings : Findings
   abbrev AllEscape : List Use → Type 0
   AllEscape us = Each Escapes us
 
-  unused : (within : List ℕ) (o : Option Declared) (after : List Use) → AllEscape (used within o after) → AllEscape after
+  unused : (within : List ℕ) (o : Option Declared) (after : List Use) → AllEscape (used within o after) → AllEscape
+      after
   unused within None after h = h
   unused within (Some d) after h = h.1
 
@@ -266,7 +283,8 @@ module _ (shapes : List (ℕ × Shape)) (notes : List Note) (findings : Findings
       elim k.whose [
         | inl l ↦ (let escape : AllEscape (used h.within (Some (a_variable at k.declared)) after) =
             subst (λ o. AllEscape (used h.within o after)) k.as_one g in
-            inr (outer_escapes at k.declared (length h.within) h.own (nat_lt k.declared (length h.within)) refl l escape.0))
+            inr (outer_escapes at k.declared (length h.within) h.own (nat_lt k.declared (length h.within)) refl l
+            escape.0))
         | inr c ↦ inl c
       ]
 
@@ -276,27 +294,35 @@ module _ (shapes : List (ℕ × Shape)) (notes : List Note) (findings : Findings
   strictly : (within : List ℕ) (x : ℕ) → length within < length (within ++ x ∷ [])
   strictly within x = omega (arith, length-append within (x ∷ []))
 
-  around_in_start : (h : Here) (ys : List ℕ) → Behind h.before ys → (scope : Scope) → Stands scope h → In (h.own ++ h.around) ys
+  around_in_start : (h : Here) (ys : List ℕ) → Behind h.before ys → (scope : Scope) → Stands scope h → In
+      (h.own ++ h.around) ys
   around_in_start h ys b scope s y c =
-      elim (Contains-append_cases h.own h.around y c) [ inl k ↦ in_behind b y (s.own_in y k) | inr k ↦ in_behind b y (s.around_in y k) ]
+      elim (Contains-append_cases h.own h.around y c) [
+        | inl k ↦ in_behind b y (s.own_in y k)
+        | inr k ↦ in_behind b y
+            (s.around_in y k)
+      ]
 
   own_more : (x : ℕ) (own before ys : List ℕ) → Behind (x ∷ before) ys → In own before → In (x ∷ own) ys
   own_more x own before ys b i y (zero, l, e) = subst (λ z. Contains ys z) e (in_behind b x (first_contained x before))
   own_more x own before ys b i y (suc k, l, e) = in_behind b y (more_contained x y before (i y (k, omega arith, e)))
 
   -- with a variable that is declared, seen and not yet seen
-  one_stands : (x : Ident) (t : Ty) (loop : Bool) (scope : Scope) (h : Here) (ys : List ℕ) → Behind (x.span.from ∷ h.before) ys → Stands scope h →
+  one_stands : (x : Ident) (t : Ty) (loop : Bool) (scope : Scope) (h : Here) (ys : List ℕ) → Behind
+      (x.span.from ∷ h.before) ys → Stands scope h →
       Stands (binding x (variable_at (at_of x) t loop) scope) (with_variable x (later ys h))
   one_stands x t loop scope h ys b s = record {
     agrees =
-        with_one (name_of x) (at_of x) t loop scope.bindings h.seen (length h.within) (at_of x ∷ h.own) (first_contained (at_of x) h.own)
+        with_one (name_of x) (at_of x) t loop scope.bindings h.seen (length h.within) (at_of x ∷ h.own)
+        (first_contained (at_of x) h.own)
         (widened scope.bindings h.seen (length h.within) (length h.within) h.own (at_of x ∷ h.own) (omega arith)
         (λ at c. inr (more_contained (at_of x) at h.own c)) s.agrees);
     own_in = own_more (at_of x) h.own h.before ys b s.own_in;
     around_in = λ y c. in_behind b y (more_contained x.span.from y h.before (s.around_in y c));
   }
 
-  owning_stands : (x : Ident) (scope : Scope) (h : Here) (ys : List ℕ) → Behind (x.span.from ∷ h.before) ys → Stands scope h →
+  owning_stands : (x : Ident) (scope : Scope) (h : Here) (ys : List ℕ) → Behind (x.span.from ∷ h.before) ys → Stands
+      scope h →
       Stands scope (record h { own = at_of x ∷ h.own; before = ys })
   owning_stands x scope h ys b s = record {
     agrees =
@@ -308,43 +334,55 @@ module _ (shapes : List (ℕ × Shape)) (notes : List Note) (findings : Findings
 
   module _ (says : (at : ℕ) (m : Means) → Has.Says notes at m → findings.meaning at ≡ Some m) where
     mutual
-      pub reaches : (e : Exp) (scope : Scope) (t : Ty) (h : Here) (after : List Use) → Has.Has shapes notes e scope t → Stands scope h →
-          Distinct (beginnings e h.before) → AllEscape (uses e h.within h.seen after) → Reaches findings h.own h.around e × AllEscape after
+      pub reaches : (e : Exp) (scope : Scope) (t : Ty) (h : Here) (after : List Use) → Has.Has shapes notes e scope t →
+          Stands scope h →
+          Distinct (beginnings e h.before) → AllEscape (uses e h.within h.seen after) → Reaches findings h.own h.around
+          e × AllEscape after
       reaches _ scope _ h after Has.nil s d u = (tt, u)
       reaches _ scope _ h after Has.int s d u = (tt, u)
       reaches _ scope _ h after Has.text s d u = (tt, u)
       reaches _ scope _ h after (Has.break i) s d u = (tt, u)
       reaches _ scope t h after (Has.read {v = v} k) s d u = place_reaches v scope t h after k s d u
       reaches _ scope _ h after (Has.call {f = f} {args = args} {sig = sig} c e k i hs) s d u =
-          all_reach args sig.params scope (later (f.span.from ∷ h.before) h) after hs (stands_on scope h (f.span.from ∷ h.before) (more _ here) s) d
+          all_reach args sig.params scope (later (f.span.from ∷ h.before) h) after hs
+          (stands_on scope h (f.span.from ∷ h.before) (more _ here) s) d
           (unused h.within (named f.name.0 h.seen) (exps_uses args h.within h.seen after) u)
       reaches _ scope _ h after (Has.neg {a = a} k) s d u = reaches a scope int_type h after k s d u
       reaches _ scope _ h after (Has.ints {at = at} {a = x} {b = y} i k l) s d u =
           let end = at ∷ beginnings x h.before in
-          let first = reaches x scope int_type h (uses y h.within h.seen after) k s (distinct_behind (behind y (more at here)) d) u in
-          let second = reaches y scope int_type (later end h) after l (stands_on scope h end (more at (behind x here)) s) d first.1 in
+          let first = reaches x scope int_type h (uses y h.within h.seen after) k s
+          (distinct_behind (behind y (more at here)) d) u in
+          let second = reaches y scope int_type (later end h) after l
+          (stands_on scope h end (more at (behind x here)) s) d first.1 in
           ((first.0, second.0), second.1)
       reaches _ scope _ h after (Has.strings {at = at} {a = x} {b = y} c i k l) s d u =
           let end = at ∷ beginnings x h.before in
-          let first = reaches x scope string_type h (uses y h.within h.seen after) k s (distinct_behind (behind y (more at here)) d) u in
-          let second = reaches y scope string_type (later end h) after l (stands_on scope h end (more at (behind x here)) s) d first.1 in
+          let first = reaches x scope string_type h (uses y h.within h.seen after) k s
+          (distinct_behind (behind y (more at here)) d) u in
+          let second = reaches y scope string_type (later end h) after l
+          (stands_on scope h end (more at (behind x here)) s) d first.1 in
           ((first.0, second.0), second.1)
       reaches _ scope _ h after (Has.same {at = at} {a = x} {b = y} {t = t} {u = v} c i j k l) s d u =
           let end = at ∷ beginnings x h.before in
-          let first = reaches x scope t h (uses y h.within h.seen after) k s (distinct_behind (behind y (more at here)) d) u in
-          let second = reaches y scope v (later end h) after l (stands_on scope h end (more at (behind x here)) s) d first.1 in
+          let first = reaches x scope t h (uses y h.within h.seen after) k s
+          (distinct_behind (behind y (more at here)) d) u in
+          let second = reaches y scope v (later end h) after l (stands_on scope h end (more at (behind x here)) s) d
+          first.1 in
           ((first.0, second.0), second.1)
       reaches _ scope _ h after (Has.make {x = x} {inits = inits} fs e hs) s d u =
-          inits_reach inits fs scope (later (x.span.from ∷ h.before) h) after hs (stands_on scope h (x.span.from ∷ h.before) (more _ here) s) d u
+          inits_reach inits fs scope (later (x.span.from ∷ h.before) h) after hs
+          (stands_on scope h (x.span.from ∷ h.before) (more _ here) s) d u
       reaches _ scope _ h after (Has.fill {x = x} {size = size} {value = value} t v e k l fit) s d u =
           let start = x.span.from ∷ h.before in
-          let first = reaches size scope int_type (later start h) (uses value h.within h.seen after) k (stands_on scope h start (more _ here) s)
+          let first = reaches size scope int_type (later start h) (uses value h.within h.seen after) k
+          (stands_on scope h start (more _ here) s)
           (distinct_behind (behind value here) d) u in
           let second = reaches value scope v (later (beginnings size start) h) after l
           (stands_on scope h (beginnings size start) (behind size (more _ here)) s) d first.1 in
           ((first.0, second.0), second.1)
       reaches _ scope _ h after (Has.assign {v = v} {e = e} {t = t} {u = w} k l fit) s d u =
-          let first = place_reaches v scope t h (uses e h.within h.seen after) k s (distinct_behind (behind e here) d) u in
+          let first = place_reaches v scope t h (uses e h.within h.seen after) k s (distinct_behind (behind e here) d) u
+          in
           let second = reaches e scope w (later (place_beginnings v h.before) h) after l
           (stands_on scope h (place_beginnings v h.before) (behind_place v here) s) d first.1 in
           ((first.0, second.0), second.1)
@@ -353,17 +391,21 @@ module _ (shapes : List (ℕ × Shape)) (notes : List Note) (findings : Findings
           let b2 = beginnings x b1 in
           let first = reaches c scope int_type h (uses x h.within h.seen (uses y h.within h.seen after)) k s
           (distinct_behind (behind y (behind x here)) d) u in
-          let second = reaches x scope t (later b1 h) (uses y h.within h.seen after) l (stands_on scope h b1 (behind c here) s)
+          let second = reaches x scope t (later b1 h) (uses y h.within h.seen after) l
+          (stands_on scope h b1 (behind c here) s)
           (distinct_behind (behind y here) d) first.1 in
-          let third = reaches y scope v (later b2 h) after m (stands_on scope h b2 (behind x (behind c here)) s) d second.1 in
+          let third = reaches y scope v (later b2 h) after m (stands_on scope h b2 (behind x (behind c here)) s) d
+          second.1 in
           ((first.0, second.0, third.0), third.1)
       reaches _ scope _ h after (Has.when {c = c} {a = a} k l) s d u =
-          let first = reaches c scope int_type h (uses a h.within h.seen after) k s (distinct_behind (behind a here) d) u in
+          let first = reaches c scope int_type h (uses a h.within h.seen after) k s (distinct_behind (behind a here) d)
+          u in
           let second = reaches a scope none_type (later (beginnings c h.before) h) after l
           (stands_on scope h (beginnings c h.before) (behind c here) s) d first.1 in
           ((first.0, second.0), second.1)
       reaches _ scope _ h after (Has.while {c = c} {a = a} k l) s d u =
-          let first = reaches c scope int_type h (uses a h.within h.seen after) k s (distinct_behind (behind a here) d) u in
+          let first = reaches c scope int_type h (uses a h.within h.seen after) k s (distinct_behind (behind a here) d)
+          u in
           let on = stands_on scope h (beginnings c h.before) (behind c here) s in
           let second = reaches a (in_a_loop scope) none_type (later (beginnings c h.before) h) after l
           (record { agrees = on.agrees; own_in = on.own_in; around_in = on.around_in }) d first.1 in
@@ -374,69 +416,95 @@ module _ (shapes : List (ℕ × Shape)) (notes : List Note) (findings : Findings
           let b2 = beginnings high b1 in
           let inner = declare_variable (length h.within) x h.seen in
           let absent = (distinct_behind (behind a (behind high (behind low here))) d).0 in
-          let first = reaches low scope int_type (later start h) (uses high h.within h.seen (uses a h.within inner after)) p
+          let first = reaches low scope int_type (later start h)
+          (uses high h.within h.seen (uses a h.within inner after)) p
           (stands_on scope h start (more _ here) s) (distinct_behind (behind a (behind high here)) d) u in
-          let second = reaches high scope int_type (later b1 h) (uses a h.within inner after) q (stands_on scope h b1 (behind low (more _ here)) s)
+          let second = reaches high scope int_type (later b1 h) (uses a h.within inner after) q
+          (stands_on scope h b1 (behind low (more _ here)) s)
           (distinct_behind (behind a here) d) first.1 in
-          let third = reaches a (in_a_loop (binding x (variable_at (at_of x) int_type true) scope)) none_type (with_variable x (later b2 h)) after r
+          let third = reaches a (in_a_loop (binding x (variable_at (at_of x) int_type true) scope)) none_type
+          (with_variable x (later b2 h)) after r
           (let k = one_stands x int_type true scope h b2 (behind high (behind low here)) s in
           record { agrees = k.agrees; own_in = k.own_in; around_in = k.around_in }) d second.1 in
           ((apart_one x.span.from h.around h.before absent s.around_in, first.0, second.0, third.0), third.1)
       reaches _ scope _ h after (Has.block {ds = ds} {es = es} {t = t} inner hs ls) s d u =
           let end = decs_beginnings ds h.before in
           let deep = declare_all (length h.within) ds h.seen in
-          let first = decs_reach ds scope inner h (exps_uses es h.within deep after) hs s (distinct_behind (behind_exps es here) d) u in
-          let second = last_reaches none_type es inner t (record h { seen = deep; own = owned_by ds h.own; before = end }) after ls first.2 d first.1 in
+          let first = decs_reach ds scope inner h (exps_uses es h.within deep after) hs s
+          (distinct_behind (behind_exps es here) d) u in
+          let second = last_reaches none_type es inner t
+          (record h { seen = deep; own = owned_by ds h.own; before = end }) after ls first.2 d first.1 in
           ((first.0, second.0), second.1)
-      reaches _ scope _ h after (Has.seq {es = es} {t = t} ls) s d u = last_reaches none_type es scope t h after ls s d u
+      reaches _ scope _ h after (Has.seq {es = es} {t = t} ls) s d u = last_reaches none_type es scope t h after ls s d
+          u
 
-      place_reaches : (v : Place) (scope : Scope) (t : Ty) (h : Here) (after : List Use) → Has.HasPlace shapes notes v scope t → Stands scope h →
-          Distinct (place_beginnings v h.before) → AllEscape (place_uses v h.within h.seen after) → ReachesPlace findings h.own h.around v × AllEscape after
+      place_reaches : (v : Place) (scope : Scope) (t : Ty) (h : Here) (after : List Use) → Has.HasPlace shapes notes v
+          scope t → Stands scope h →
+          Distinct (place_beginnings v h.before) → AllEscape (place_uses v h.within h.seen after) → ReachesPlace
+          findings h.own h.around v × AllEscape after
       place_reaches _ scope t h after (Has.simple {x = x} at loop e i) s d u =
           let k = s.agrees x.name.0 at t loop e in (
-            subst (λ m. IsInReach findings h.own m) (sym (says (at_of x) (means.Variable at) i)) (variable_reached at x.name.0 h after k u),
+            subst (λ m. IsInReach findings h.own m) (sym (says (at_of x) (means.Variable at) i))
+                (variable_reached at x.name.0 h after k u),
             unused h.within (named x.name.0 h.seen) after u,
           )
-      place_reaches _ scope _ h after (Has.field {v = v} {f = f} at fs n k e g p i) s d u = place_reaches v scope (record_type at) h after k s d.1 u
+      place_reaches _ scope _ h after (Has.field {v = v} {f = f} at fs n k e g p i) s d u = place_reaches v scope
+          (record_type at) h after k s d.1 u
       place_reaches _ scope _ h after (Has.index {v = v} {e = e} at k i l) s d u =
-          let first = place_reaches v scope (array_type at) h (uses e h.within h.seen after) k s (distinct_behind (behind e here) d) u in
+          let first = place_reaches v scope (array_type at) h (uses e h.within h.seen after) k s
+          (distinct_behind (behind e here) d) u in
           let second = reaches e scope int_type (later (place_beginnings v h.before) h) after l
           (stands_on scope h (place_beginnings v h.before) (behind_place v here) s) d first.1 in
           ((first.0, second.0), second.1)
 
-      all_reach : (es : Exps) (ts : List Ty) (scope : Scope) (h : Here) (after : List Use) → Has.HasAll shapes notes es ts scope → Stands scope h →
-          Distinct (exps_beginnings es h.before) → AllEscape (exps_uses es h.within h.seen after) → ReachesExps findings h.own h.around es × AllEscape after
+      all_reach : (es : Exps) (ts : List Ty) (scope : Scope) (h : Here) (after : List Use) → Has.HasAll shapes notes es
+          ts scope → Stands scope h →
+          Distinct (exps_beginnings es h.before) → AllEscape (exps_uses es h.within h.seen after) → ReachesExps findings
+          h.own h.around es × AllEscape after
       all_reach _ _ scope h after Has.end_args s d u = (tt, u)
       all_reach _ _ scope h after (Has.an_arg {e = e} {rest = rest} {ts = ts} v k fit hs) s d u =
-          let first = reaches e scope v h (exps_uses rest h.within h.seen after) k s (distinct_behind (behind_exps rest here) d) u in
+          let first = reaches e scope v h (exps_uses rest h.within h.seen after) k s
+          (distinct_behind (behind_exps rest here) d) u in
           let second = all_reach rest ts scope (later (beginnings e h.before) h) after hs
           (stands_on scope h (beginnings e h.before) (behind e here) s) d first.1 in
           ((first.0, second.0), second.1)
 
-      inits_reach : (is : Inits) (fs : List (ℕ × Ty)) (scope : Scope) (h : Here) (after : List Use) → Has.HasInits shapes notes is fs scope → Stands scope h →
-          Distinct (inits_beginnings is h.before) → AllEscape (inits_uses is h.within h.seen after) → ReachesInits findings h.own h.around is × AllEscape after
+      inits_reach : (is : Inits) (fs : List (ℕ × Ty)) (scope : Scope) (h : Here) (after : List Use) → Has.HasInits
+          shapes notes is fs scope → Stands scope h →
+          Distinct (inits_beginnings is h.before) → AllEscape (inits_uses is h.within h.seen after) → ReachesInits
+          findings h.own h.around is × AllEscape after
       inits_reach _ _ scope h after Has.end_inits s d u = (tt, u)
       inits_reach _ _ scope h after (Has.an_init {f = f} {e = e} {rest = rest} {fs = fs} v n k fit hs) s d u =
           let start = f.span.from ∷ h.before in
-          let first = reaches e scope v (later start h) (inits_uses rest h.within h.seen after) k (stands_on scope h start (more _ here) s)
+          let first = reaches e scope v (later start h) (inits_uses rest h.within h.seen after) k
+          (stands_on scope h start (more _ here) s)
           (distinct_behind (behind_inits rest here) d) u in
           let second = inits_reach rest fs scope (later (beginnings e start) h) after hs
           (stands_on scope h (beginnings e start) (behind e (more _ here)) s) d first.1 in
           ((first.0, second.0), second.1)
 
-      last_reaches : (v : Ty) (es : Exps) (scope : Scope) (t : Ty) (h : Here) (after : List Use) → Has.HasLast shapes notes v es scope t → Stands scope h →
-          Distinct (exps_beginnings es h.before) → AllEscape (exps_uses es h.within h.seen after) → ReachesExps findings h.own h.around es × AllEscape after
+      last_reaches : (v : Ty) (es : Exps) (scope : Scope) (t : Ty) (h : Here) (after : List Use) → Has.HasLast shapes
+          notes v es scope t → Stands scope h →
+          Distinct (exps_beginnings es h.before) → AllEscape (exps_uses es h.within h.seen after) → ReachesExps findings
+          h.own h.around es × AllEscape after
       last_reaches _ _ scope _ h after Has.end_lasts s d u = (tt, u)
       last_reaches _ _ scope t h after (Has.a_last {e = e} {rest = rest} v k hs) s d u =
-          let first = reaches e scope v h (exps_uses rest h.within h.seen after) k s (distinct_behind (behind_exps rest here) d) u in
+          let first = reaches e scope v h (exps_uses rest h.within h.seen after) k s
+          (distinct_behind (behind_exps rest here) d) u in
           let second = last_reaches v rest scope t (later (beginnings e h.before) h) after hs
           (stands_on scope h (beginnings e h.before) (behind e here) s) d first.1 in
           ((first.0, second.0), second.1)
 
-      decs_reach : (ds : Decs) (scope inner : Scope) (h : Here) (after : List Use) → Has.HasDecs shapes notes ds scope inner → Stands scope h →
+      decs_reach : (ds : Decs) (scope inner : Scope) (h : Here) (after : List Use) → Has.HasDecs shapes notes ds scope
+          inner → Stands scope h →
           Distinct (decs_beginnings ds h.before) → AllEscape (decs_uses ds h.within h.seen after) →
           ReachesDecs findings h.own h.around ds × AllEscape after ×
-          Stands inner (record h { seen = declare_all (length h.within) ds h.seen; own = owned_by ds h.own; before = decs_beginnings ds h.before })
+          Stands inner (record h {
+            seen = declare_all (length h.within) ds h.seen;
+            own = owned_by ds h.own;
+            before =
+                decs_beginnings ds h.before;
+          })
       decs_reach _ scope _ h after Has.end_decs s d u = (tt, u, s)
       decs_reach _ scope inner h after (Has.type_names {ds = ts} {rest = rest} names hs) s d u =
           let on = stands_on scope h (type_beginnings ts h.before) (behind_types ts here) s in
@@ -448,9 +516,11 @@ module _ (shapes : List (ℕ × Shape)) (notes : List Note) (findings : Findings
           let b2 = beginnings e b1 in
           let absent = (distinct_behind (behind_decs rest (behind e (behind_kind kind here))) d).0 in
           let wide : Here = record h { own = at_of x ∷ h.own; before = b1 } in
-          let first = reaches e scope v wide (decs_uses rest h.within (declare_variable (length h.within) x h.seen) after) k
+          let first = reaches e scope v wide (decs_uses rest h.within (declare_variable (length h.within) x h.seen)
+          after) k
           (owning_stands x scope h b1 (behind_kind kind here) s) (distinct_behind (behind_decs rest here) d) u in
-          let second = decs_reach rest (binding x (variable_at (at_of x) t false) scope) inner (with_variable x (later b2 h)) after hs
+          let second = decs_reach rest (binding x (variable_at (at_of x) t false) scope) inner
+          (with_variable x (later b2 h)) after hs
           (one_stands x t false scope h b2 (behind e (behind_kind kind here)) s) d first.1 in
           ((apart_one x.span.from h.around h.before absent s.around_in, first.0, second.0), second.1, second.2)
       decs_reach _ scope inner h after (Has.group {fs = fs} {rest = rest} ss apart bs hs) s d u =
@@ -459,8 +529,10 @@ module _ (shapes : List (ℕ × Shape)) (notes : List Note) (findings : Findings
           let wide = with_functions fs ss scope in
           let mid = function_beginnings fs h.before in
           let agreed = agree_functions fs ss (in_no_loop wide) scope h.seen level h.own bs s.agrees in
-          let first = bodies_reach fs ss (in_no_loop wide) (record h { seen = deep }) (decs_uses rest h.within deep after) bs
-          (record { agrees = agreed; own_in = s.own_in; around_in = s.around_in }) (distinct_behind (behind_decs rest here) d) u in
+          let first = bodies_reach fs ss (in_no_loop wide) (record h { seen = deep })
+          (decs_uses rest h.within deep after) bs
+          (record { agrees = agreed; own_in = s.own_in; around_in = s.around_in })
+          (distinct_behind (behind_decs rest here) d) u in
           let second = decs_reach rest wide inner (record h { seen = deep; before = mid }) after hs
           (record {
             agrees = agreed;
@@ -469,24 +541,34 @@ module _ (shapes : List (ℕ × Shape)) (notes : List Note) (findings : Findings
           }) d first.1 in
           ((first.0, second.0), second.1, second.2)
 
-      bodies_reach : (fs : FunDecs) (ss : List Signature) (scope : Scope) (h : Here) (after : List Use) → Has.HasBodies shapes notes fs ss scope → Stands scope h →
+      bodies_reach : (fs : FunDecs) (ss : List Signature) (scope : Scope) (h : Here) (after : List Use) → Has.HasBodies
+          shapes notes fs ss scope → Stands scope h →
           Distinct (function_beginnings fs h.before) → AllEscape (functions_uses fs h.within h.seen after) →
           ReachesBodies findings (h.own ++ h.around) fs × AllEscape after
       bodies_reach _ _ scope h after Has.end_bodies s d u = (tt, u)
-      bodies_reach _ _ scope h after (Has.a_body {f = f} {ps = ps} {r = result} {body = body} {rest = rest} {s = sig} {ss = ss} v l k fit hs) s d u =
+      bodies_reach _ _ scope h after (Has.a_body {f = f} {ps = ps} {r = result} {body = body} {rest = rest} {s = sig}
+          {ss = ss} v l k fit hs) s d u =
           let start = f.span.from ∷ h.before in
           let b1 = param_beginnings ps start in
           let b2 = kind_beginnings result b1 in
           let b3 = beginnings body b2 in
           let inner = h.within ++ f.span.from ∷ [] in
           let deep = declare_params (length inner) ps h.seen in
-          let place : Here = record { seen = deep; within = inner; own = params_of ps; around = h.own ++ h.around; before = b2 } in
+          let place : Here = record {
+            seen = deep;
+            within = inner;
+            own = params_of ps;
+            around = h.own ++ h.around;
+            before = b2;
+          } in
           let around_start = around_in_start h start (more _ here) scope s in
-          let first = reaches body (with_params ps sig.params scope) v place (functions_uses rest h.within h.seen after) k
+          let first = reaches body (with_params ps sig.params scope) v place (functions_uses rest h.within h.seen after)
+          k
           (record {
             agrees =
                 agree_params ps sig.params scope h.seen (length inner) (params_of ps) l (λ y c. c)
-                (widened scope.bindings h.seen (length h.within) (length inner) h.own (params_of ps) (deeper h.within f.span.from)
+                (widened scope.bindings h.seen (length h.within) (length inner) h.own (params_of ps)
+                (deeper h.within f.span.from)
                 (λ at c. inl (strictly h.within f.span.from)) s.agrees);
             own_in = λ y c. in_behind (behind_kind result here) y (params_in ps start y c);
             around_in = λ y c. in_behind (behind_kind result (behind_params ps here)) y (around_start y c);

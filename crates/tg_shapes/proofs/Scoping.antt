@@ -39,7 +39,8 @@ named_cases x at h v rest k = named_either x at h v rest (at == x) refl k
 other_test : (x at : ℕ) → at ≢ x → (at == x) ≡ false
 other_test x at h = grind (arith, nat_tests)
 
-pub named_other : {A : Type 0} (x at : ℕ) (h : A) (rest : List (ℕ × A)) → at ≢ x → named x ((at, h) ∷ rest) ≡ named x rest
+pub named_other : {A : Type 0} (x at : ℕ) (h : A) (rest : List (ℕ × A)) → at ≢ x → named x ((at, h) ∷ rest) ≡ named x
+    rest
 named_other x at h rest ne = ap (λ b. if b then Some h else named x rest) (other_test x at ne)
 
 pub more_contained : (x y : ℕ) (xs : List ℕ) → Contains xs y → Contains (x ∷ xs) y
@@ -52,18 +53,22 @@ pub behind_first : (x y : ℕ) (xs : List ℕ) → x ≢ y → Contains (x ∷ x
 behind_first x y xs ne (zero, l, e) = absurd (ne e)
 behind_first x y xs ne (suc k, l, e) = (k, omega arith, e)
 
-pub pushed_contained : {X : Type 0} (label : X → ℕ) (xs : List X) (x : X) (n : ℕ) → Contains (map label xs) n → Contains (map label (xs ++ x ∷ [])) n
+pub pushed_contained : {X : Type 0} (label : X → ℕ) (xs : List X) (x : X) (n : ℕ) → Contains (map label xs) n → Contains
+    (map label (xs ++ x ∷ [])) n
 pushed_contained label xs x n c =
     let h = contained_counts label xs n c in
     let k = times-append label n xs (x ∷ []) in
     counted_contains label (xs ++ x ∷ []) n (omega (arith, h, k))
 
-named_callee : (at : ℕ) (callee : Callee) (xs : List (ℕ × Callee)) → named at xs ≡ Some callee → Contains (map (λ e. e.1.label.0) xs) callee.label.0
+named_callee : (at : ℕ) (callee : Callee) (xs : List (ℕ × Callee)) → named at xs ≡ Some callee → Contains
+    (map (λ e. e.1.label.0) xs) callee.label.0
 named_callee at callee [] e = cc
 named_callee at callee (entry ∷ rest) e =
     elim (named_cases at entry.0 entry.1 callee rest e) [
-      | inl h ↦ subst (λ v. Contains (map (λ e. e.1.label.0) (entry ∷ rest)) v.label.0) h.1 (first_contained entry.1.label.0 (map (λ e. e.1.label.0) rest))
-      | inr h ↦ more_contained entry.1.label.0 callee.label.0 (map (λ e. e.1.label.0) rest) (named_callee at callee rest h.1)
+      | inl h ↦ subst (λ v. Contains (map (λ e. e.1.label.0) (entry ∷ rest)) v.label.0) h.1
+          (first_contained entry.1.label.0 (map (λ e. e.1.label.0) rest))
+      | inr h ↦ more_contained entry.1.label.0 callee.label.0 (map (λ e. e.1.label.0) rest)
+          (named_callee at callee rest h.1)
     ]
 
 module _ (B T : Type 0) (findings : Findings) where
@@ -103,29 +108,38 @@ module _ (B T : Type 0) (findings : Findings) where
   access_good s (InTemp i) h = λ t. elim (h t) [ inl d ↦ d | inr e ↦ cc ]
   access_good s (InFrame k) h = tt
 
-  reached : (c : Where) (s : State) (at : ℕ) (home : Home) → Ready c s → (T → Contains c.own at ⊎ (findings.escapes at ≡ true)) →
+  reached : (c : Where) (s : State) (at : ℕ) (home : Home) → Ready c s →
+      (T → Contains c.own at ⊎ (findings.escapes at ≡ true)) →
       named at s.homes ≡ Some home → T → IsDrawn s.frame.temps home.access ⊎ IsTrue (is_slot home.access)
   reached c s at home r h e t = elim (h t) [ inl o ↦ inl (r.owned t at home o e) | inr k ↦ inr (r.slots t at home k e) ]
 
-  home_good : (c : Where) (s : State) (at : ℕ) (found : Option Home) → Ready c s → (T → Contains c.own at ⊎ (findings.escapes at ≡ true)) →
+  home_good : (c : Where) (s : State) (at : ℕ) (found : Option Home) → Ready c s →
+      (T → Contains c.own at ⊎ (findings.escapes at ≡ true)) →
       named at s.homes ≡ found → GoodPlace c.loops s (home_place c.within found)
   home_good c s at None r h e = (tt, tt)
   home_good c s at (Some home) r h e =
-      constructing.place_in_good B T findings.escapes c.loops s (frame_at c.within home.level) home.access (frame_good c s home.level r)
+      constructing.place_in_good B T findings.escapes c.loops s (frame_at c.within home.level) home.access
+      (frame_good c s home.level r)
       (access_good s home.access (reached c s at home r h e))
 
-  pub variable_yields : (c : Where) (s : State) (meaning : Option Means) → Ready c s → (T → IsInReach findings c.own meaning) →
+  pub variable_yields : (c : Where) (s : State) (meaning : Option Means) → Ready c s →
+      (T → IsInReach findings c.own meaning) →
       Yields c s (λ t p. GoodPlace c.loops t p) (variable_place c.within meaning s)
-  variable_yields c s None r h = keeping.given B T findings.escapes c s (λ t p. GoodPlace c.loops t p) nowhere r (tt, tt)
+  variable_yields c s None r h = keeping.given B T findings.escapes c s (λ t p. GoodPlace c.loops t p) nowhere r
+      (tt, tt)
   variable_yields c s (Some (means.Variable at)) r h =
       keeping.given B T findings.escapes c s (λ t p. GoodPlace c.loops t p) (home_place c.within (named at s.homes)) r
       (home_good c s at (named at s.homes) r h refl)
-  variable_yields c s (Some other) r h = keeping.given B T findings.escapes c s (λ t p. GoodPlace c.loops t p) nowhere r (tt, tt)
+  variable_yields c s (Some other) r h = keeping.given B T findings.escapes c s (λ t p. GoodPlace c.loops t p) nowhere r
+      (tt, tt)
 
   callee_good : (c : Where) (s : State) (at : ℕ) (xs : Txs) (found : Option Callee) → Ready c s → GoodTxs c.loops s xs →
       named at s.callees ≡ found → GoodTx c.loops s (call_declared c.within xs found)
   callee_good c s at xs None r h e = tt
-  callee_good c s at xs (Some callee) r h e = (inr (named_callee at callee s.callees e), (frame_good c s callee.level r, h))
+  callee_good c s at xs (Some callee) r h e = (
+    inr (named_callee at callee s.callees e),
+    (frame_good c s callee.level r, h),
+  )
 
   pub call_yields : (c : Where) (s : State) (meaning : Option Means) (xs : Txs) → Ready c s → GoodTxs c.loops s xs →
       Yields c s (λ t x. GoodTx c.loops t x) (call c.within meaning xs s)
@@ -134,7 +148,8 @@ module _ (B T : Type 0) (findings : Findings) where
       keeping.given B T findings.escapes c s (λ t x. GoodTx c.loops t x) (constructs.call_routine (routine_of f) xs) r
       (constructing.routine_good B T findings.escapes c.loops s (routine_of f) xs h)
   call_yields c s (Some (means.Function at)) xs r h =
-      keeping.given B T findings.escapes c s (λ t x. GoodTx c.loops t x) (call_declared c.within xs (named at s.callees)) r
+      keeping.given B T findings.escapes c s (λ t x. GoodTx c.loops t x)
+      (call_declared c.within xs (named at s.callees)) r
       (callee_good c s at xs (named at s.callees) r h refl)
   call_yields c s (Some other) xs r h = keeping.given B T findings.escapes c s (λ t x. GoodTx c.loops t x) no_value r tt
 
@@ -152,7 +167,8 @@ module _ (B T : Type 0) (findings : Findings) where
     temps = omega arith;
     name = refl;
     callees = λ l h. h;
-    literals = λ l h. pushed_contained (λ k. k.label) s.literals (record { label = s.label; text = string_text bytes }) l h;
+    literals = λ l h. pushed_contained (λ k. k.label) s.literals (record { label = s.label; text = string_text bytes })
+        l h;
     balance = λ n.
         let h = times-append (λ k. k.label) n s.literals (record { label = s.label; text = string_text bytes } ∷ []) in
         let k = below-next n s.label in
@@ -174,19 +190,23 @@ module _ (B T : Type 0) (findings : Findings) where
         let n : same s.label l ≡ 0 = same_not s.label l (omega (arith, h)) in
         omega (arith, k, m, n);
     functions =
-        keeping.functions_on B T findings.escapes (callee_labels s) (literal_labels s) (callee_labels s) (literal_labels (with_literal bytes s))
-        (λ l h. h) (λ l h. pushed_contained (λ k. k.label) s.literals (record { label = s.label; text = string_text bytes }) l h) s.functions r.functions;
+        keeping.functions_on B T findings.escapes (callee_labels s) (literal_labels s) (callee_labels s)
+        (literal_labels (with_literal bytes s))
+        (λ l h. h) (λ l h. pushed_contained (λ k. k.label) s.literals
+        (record { label = s.label; text = string_text bytes }) l h) s.functions r.functions;
     owned = r.owned;
     slots = r.slots;
     link = r.link;
     loops = r.loops;
   }
 
-  pub literal_yields : (c : Where) (s : State) (bytes : List ℕ) → Ready c s → Yields c s (λ t m. GoodMade c.loops t m) (literal bytes s)
+  pub literal_yields : (c : Where) (s : State) (bytes : List ℕ) → Ready c s → Yields c s (λ t m. GoodMade c.loops t m)
+      (literal bytes s)
   literal_yields c s bytes r = (
     literal_step c.kept s bytes,
     literal_ready c s bytes r,
     counted_contains (λ k. k.label) (with_literal bytes s).literals s.label
-        (let h = times-append (λ k. k.label) s.label s.literals (record { label = s.label; text = string_text bytes } ∷ []) in
+        (let h = times-append (λ k. k.label) s.label s.literals
+        (record { label = s.label; text = string_text bytes } ∷ []) in
         let k = counts.same_self s.label in omega (arith, h, k)),
   )

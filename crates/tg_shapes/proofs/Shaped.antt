@@ -61,7 +61,8 @@ module _ (B T : Type 0) (findings : Findings) (e : Exp) where
     pub end : ℕ
     pub shaped : Shaped code callees end
 
-  shaped_of : (d : Drawn Ts) → keeping.Yields B T findings.escapes top first (nesting.IsWhole B T findings 0) d → HasShape (program d)
+  shaped_of : (d : Drawn Ts) → keeping.Yields B T findings.escapes top first (nesting.IsWhole B T findings 0) d →
+      HasShape (program d)
   shaped_of (drawn x t) h = record {
     callees = callee_labels t;
     end = t.label;
@@ -85,28 +86,34 @@ module _ (B T : Type 0) (findings : Findings) (e : Exp) where
   pub has_shape : (B → BreaksStand false e) → (T → Reaches findings [] [] e) → HasShape (translated findings e)
   has_shape b q =
       shaped_of (program_body findings e first)
-      (keeping.bind B T findings.escapes top first (λ t m. keeping.GoodMade B T findings.escapes 0 t m) (nesting.IsWhole B T findings 0)
+      (keeping.bind B T findings.escapes top first (λ t m. keeping.GoodMade B T findings.escapes 0 t m)
+      (nesting.IsWhole B T findings 0)
       (expression findings e want.Dropped outermost first) (closing false)
       (walked B T findings e top first want.Dropped b q top_ready tt)
       (λ m t st r k. nesting.closing_yields B T findings top t false m r k))
 
   module _ (code : Code Ts) (h : HasShape code) where
-    fine_one : (f : Function Ts) → Contains code.functions f → FineFunction h.callees (map (λ l. l.label) code.literals) f
+    fine_one : (f : Function Ts) → Contains code.functions f → FineFunction h.callees (map (λ l. l.label) code.literals)
+        f
     fine_one f c =
-        each_contained (FineFunction h.callees (map (λ l. l.label) code.literals)) (h.shaped.body ∷ h.shaped.rest) h.shaped.fine f
+        each_contained (FineFunction h.callees (map (λ l. l.label) code.literals)) (h.shaped.body ∷ h.shaped.rest)
+        h.shaped.fine f
         (subst (λ fs. Contains fs f) h.shaped.functions c)
 
     known_one : (f : Function Ts) → Contains code.functions f → (x : Named) → Contains (names f.body) x →
         keeping.Knows B T findings.escapes h.callees (map (λ l. l.label) code.literals) f.temps x
     known_one f c x k =
-        each_contained (keeping.Knows B T findings.escapes h.callees (map (λ l. l.label) code.literals) f.temps) (names f.body)
-        (names_ts B (keeping.Knows B T findings.escapes h.callees (map (λ l. l.label) code.literals) f.temps) 0 f.body [] (fine_one f c).body tt) x k
+        each_contained (keeping.Knows B T findings.escapes h.callees (map (λ l. l.label) code.literals) f.temps)
+        (names f.body)
+        (names_ts B (keeping.Knows B T findings.escapes h.callees (map (λ l. l.label) code.literals) f.temps) 0 f.body
+        [] (fine_one f c).body tt) x k
 
     pub closed_one : B → (f : Function Ts) → Contains code.functions f → IsClosed f.body
     closed_one b f c =
         let k = fine_one f c in
         record {
-          breaks = breaks_ts B (keeping.Knows B T findings.escapes h.callees (map (λ l. l.label) code.literals) f.temps) b 0 f.body k.body;
+          breaks = breaks_ts B (keeping.Knows B T findings.escapes h.callees (map (λ l. l.label) code.literals) f.temps)
+              b 0 f.body k.body;
           last = k.last;
         }
 
@@ -116,9 +123,11 @@ module _ (B T : Type 0) (findings : Findings) (e : Exp) where
     -- how often a label is one of the program
     count_of : (n : ℕ) → times (λ f. f.label) n code.functions ≡ same 32 n + times (λ f. f.label) n h.shaped.rest
     count_of n =
-        ap (times (λ f. f.label) n) h.shaped.functions ∙ ap (λ l. same l n + times (λ f. f.label) n h.shaped.rest) h.shaped.label
+        ap (times (λ f. f.label) n) h.shaped.functions ∙ ap (λ l. same l n + times (λ f. f.label) n h.shaped.rest)
+        h.shaped.label
 
-    pub all_once : (n : ℕ) → times (λ f. f.label) n code.functions + times (λ l. l.label) n code.literals + below n 32 ≤ 1
+    pub all_once : (n : ℕ) → times (λ f. f.label) n code.functions + times (λ l. l.label) n code.literals + below n 32 ≤
+        1
     all_once n =
         let i = count_of n in
         let j = h.shaped.counts n in
@@ -141,7 +150,11 @@ module _ (B T : Type 0) (findings : Findings) (e : Exp) where
         map_self (x ∷ xs) = ap (λ ys. x ∷ ys) (map_self xs)
 
         from_count : (n : ℕ) → below n 32 ≡ 0 → 32 ≤ n
-        from_count n i = elim (cases_lt n 32) [ inl lt ↦ absurd (let j = below_yes n 32 lt in omega (arith, i, j)) | inr le ↦ le ]
+        from_count n i = elim (cases_lt n 32) [
+          | inl lt ↦ absurd (let j = below_yes n 32 lt in omega (arith, i, j))
+          | inr
+              le ↦ le
+        ]
 
     pub body_there : Contains (map (λ f. f.label) code.functions) 32
     body_there =
@@ -151,7 +164,8 @@ module _ (B T : Type 0) (findings : Findings) (e : Exp) where
     called_there : (l : ℕ) → Contains h.callees l → Contains (map (λ f. f.label) code.functions) l
     called_there l c =
         counted_contains (λ f. f.label) code.functions l
-        (let i = count_of l in let j = contained_counts (λ f. f.label) h.shaped.rest l (h.shaped.called l c) in omega (arith, i, j))
+        (let i = count_of l in let j = contained_counts (λ f. f.label) h.shaped.rest l (h.shaped.called l c) in omega
+        (arith, i, j))
 
     -- With the runtime's functions behind them.
 
@@ -161,7 +175,8 @@ module _ (B T : Type 0) (findings : Findings) (e : Exp) where
         ((l : ℕ) → x ≢ function l) × ((l : ℕ) → x ≢ literal l) × ((k : ℕ) → x ≡ fault k → k < 1048576)) where
       routine_counts : (n : ℕ) → times (λ f. f.label) n routines ≡ below n 13
       routine_counts n =
-          let i : times (λ f. f.label) n routines ≡ times (λ l. l) n (0 ∷ 1 ∷ 2 ∷ 3 ∷ 4 ∷ 5 ∷ 6 ∷ 7 ∷ 8 ∷ 9 ∷ 10 ∷ 11 ∷ 12 ∷ []) =
+          let i : times (λ f. f.label) n routines ≡ times (λ l. l) n
+          (0 ∷ 1 ∷ 2 ∷ 3 ∷ 4 ∷ 5 ∷ 6 ∷ 7 ∷ 8 ∷ 9 ∷ 10 ∷ 11 ∷ 12 ∷ []) =
           sym (times-map (λ f. f.label) routines n) ∙ ap (times (λ l. l) n) labels in
           let z = below_no n 0 (omega arith) in
           let a0 : below n 1 ≡ below n 0 + same 0 n = below-next n 0 in
@@ -177,15 +192,19 @@ module _ (B T : Type 0) (findings : Findings) (e : Exp) where
           let b0 : below n 11 ≡ below n 10 + same 10 n = below-next n 10 in
           let b1 : below n 12 ≡ below n 11 + same 11 n = below-next n 11 in
           let b2 : below n 13 ≡ below n 12 + same 12 n = below-next n 12 in
-          i ∙ summed (same 0 n) (same 1 n) (same 2 n) (same 3 n) (same 4 n) (same 5 n) (same 6 n) (same 7 n) (same 8 n) (same 9 n) (same 10 n) (same 11 n) (same 12 n)
-          (below n 0) (below n 1) (below n 2) (below n 3) (below n 4) (below n 5) (below n 6) (below n 7) (below n 8) (below n 9) (below n 10) (below n 11) (below n 12) (below n 13)
+          i ∙ summed (same 0 n) (same 1 n) (same 2 n) (same 3 n) (same 4 n) (same 5 n) (same 6 n) (same 7 n) (same 8 n)
+          (same 9 n) (same 10 n) (same 11 n) (same 12 n)
+          (below n 0) (below n 1) (below n 2) (below n 3) (below n 4) (below n 5) (below n 6) (below n 7) (below n 8)
+          (below n 9) (below n 10) (below n 11) (below n 12) (below n 13)
           z a0 a1 a2 a3 a4 a5 a6 a7 a8 a9 b0 b1 b2
         where
           summed : (p0 p1 p2 p3 p4 p5 p6 p7 p8 p9 q0 q1 q2 s0 s1 s2 s3 s4 s5 s6 s7 s8 s9 t0 t1 t2 t3 : ℕ) →
-              s0 ≡ 0 → s1 ≡ s0 + p0 → s2 ≡ s1 + p1 → s3 ≡ s2 + p2 → s4 ≡ s3 + p3 → s5 ≡ s4 + p4 → s6 ≡ s5 + p5 → s7 ≡ s6 + p6 → s8 ≡ s7 + p7 →
+              s0 ≡ 0 → s1 ≡ s0 + p0 → s2 ≡ s1 + p1 → s3 ≡ s2 + p2 → s4 ≡ s3 + p3 → s5 ≡ s4 + p4 → s6 ≡ s5 + p5 → s7 ≡
+              s6 + p6 → s8 ≡ s7 + p7 →
               s9 ≡ s8 + p8 → t0 ≡ s9 + p9 → t1 ≡ t0 + q0 → t2 ≡ t1 + q1 → t3 ≡ t2 + q2 →
               p0 + (p1 + (p2 + (p3 + (p4 + (p5 + (p6 + (p7 + (p8 + (p9 + (q0 + (q1 + (q2 + 0)))))))))))) ≡ t3
-          summed p0 p1 p2 p3 p4 p5 p6 p7 p8 p9 q0 q1 q2 s0 s1 s2 s3 s4 s5 s6 s7 s8 s9 t0 t1 t2 t3 a b c d e f g i j k l m n o = omega arith
+          summed p0 p1 p2 p3 p4 p5 p6 p7 p8 p9 q0 q1 q2 s0 s1 s2 s3 s4 s5 s6 s7 s8 s9 t0 t1 t2 t3 a b c d e f g i j k l
+              m n o = omega arith
 
       abbrev whole : Code Ts
       whole = record { functions = code.functions ++ routines; literals = code.literals ++ [] }
@@ -222,19 +241,23 @@ module _ (B T : Type 0) (findings : Findings) (e : Exp) where
           let k = below_yes l 13 lt in
           omega (arith, i, j, k))
 
-      called : (f : Function Ts) (l : ℕ) → Contains code.functions f ⊎ Contains routines f → Contains (names f.body) (function l) →
+      called : (f : Function Ts) (l : ℕ) → Contains code.functions f ⊎ Contains routines f → Contains (names f.body)
+          (function l) →
           Contains (function_labels names whole) l
-      called f l (inl c) k = elim (known_one f c (function l) k) [ inl lt ↦ in_runtime l lt | inr m ↦ in_program l (called_there l m) ]
+      called f l (inl c) k = elim (known_one f c (function l) k)
+          [ inl lt ↦ in_runtime l lt | inr m ↦ in_program l (called_there l m) ]
       called f l (inr c) k = absurd ((own f c (function l) k).0 l refl)
 
-      addressed : (f : Function Ts) (l : ℕ) → Contains code.functions f ⊎ Contains routines f → Contains (names f.body) (literal l) →
+      addressed : (f : Function Ts) (l : ℕ) → Contains code.functions f ⊎ Contains routines f → Contains (names f.body)
+          (literal l) →
           Contains (literal_labels names whole) l
       addressed f l (inl c) k =
           subst (λ xs. Contains xs l) (sym (map-append (λ m. m.label) code.literals []))
           (Contains-append_left (map (λ m. m.label) code.literals) [] l (known_one f c (literal l) k))
       addressed f l (inr c) k = absurd ((own f c (literal l) k).1 l refl)
 
-      faulted : (f : Function Ts) (n : ℕ) → Contains code.functions f ⊎ Contains routines f → Contains (names f.body) (fault n) → n < 1048576
+      faulted : (f : Function Ts) (n : ℕ) → Contains code.functions f ⊎ Contains routines f → Contains (names f.body)
+          (fault n) → n < 1048576
       faulted f n (inl c) k = known_one f c (fault n) k
       faulted f n (inr c) k = (own f c (fault n) k).2 n refl
 

@@ -7,6 +7,7 @@ use Rattle.std.specs.FinSet.{FinSet, contains, from_list, contains-from_list_nat
 use Rattle.std.specs.Ordering.{nat_cmp}
 use Rattle.std.proofs.lemmas.List.Elements.{Contains-append_left, Contains-append_right}
 use Rattle.std.proofs.lemmas.Bool.Decides.{nat_tests}
+use Rattle.std.proofs.lemmas.List.Sums.{sum_by-append}
 use Rattle.tg_syntax.specs.Plain.{plain}
 use Rattle.tg_syntax.specs.Beginnings.{beginnings}
 use Rattle.tg_tree.specs.Tree.{Ts, Function}
@@ -59,23 +60,28 @@ own_is n (literal l) e = cc
 own_is n (fault j) e = (λ l i. cc, λ l i. cc, λ k i. let h : j ≡ k = cc in subst (λ m. m < 1048576) h (fault_below j e))
 own_is n (temporary j) e = (λ l i. cc, λ l i. cc, λ k i. cc)
 
-routines_own : (fs : List (Function Ts)) → AreRoutines fs → (f : Function Ts) → Contains fs f → (x : Named) → Contains (names f.body) x → NamesOwn x
+routines_own : (fs : List (Function Ts)) → AreRoutines fs → (f : Function Ts) → Contains fs f → (x : Named) → Contains
+    (names f.body) x → NamesOwn x
 routines_own [] h f c x k = absurd (omega (arith, c.1))
 routines_own (g ∷ gs) h f (zero, l, e) x k =
-    own_is f.temps x (passes (is_own f.temps) (names f.body) (subst (λ j. list_all (is_own j.temps) (names j.body) ≡ true) e h.0.own) x k)
+    own_is f.temps x (passes (is_own f.temps) (names f.body)
+    (subst (λ j. list_all (is_own j.temps) (names j.body) ≡ true) e h.0.own) x k)
 routines_own (g ∷ gs) h f (suc n, l, e) x k = routines_own gs h.1 f (n, omega arith, e) x k
 
 pub programs_are_linked : LabelsInOrder → AllAreRoutines → ProgramsAreLinked
 programs_are_linked labels routines findings e =
-    linked ⊥ ⊥ findings e (translated findings e) (has_shape ⊥ ⊥ findings e (λ b. absurd b) (λ t. absurd t)) runtime.functions labels
+    linked ⊥ ⊥ findings e (translated findings e) (has_shape ⊥ ⊥ findings e (λ b. absurd b) (λ t. absurd t))
+    runtime.functions labels
     (routines_own runtime.functions routines)
 
 pub labels_are_above : LabelsAreAbove
-labels_are_above findings e = above ⊥ ⊥ findings e (translated findings e) (has_shape ⊥ ⊥ findings e (λ b. absurd b) (λ t. absurd t))
+labels_are_above findings e = above ⊥ ⊥ findings e (translated findings e)
+    (has_shape ⊥ ⊥ findings e (λ b. absurd b) (λ t. absurd t))
 
 pub bodies_are_closed : BodiesAreClosed
 bodies_are_closed findings e f h =
-    closed_one (Unit {0}) ⊥ findings e (translated findings e) (has_shape (Unit {0}) ⊥ findings e (λ b. h) (λ t. absurd t)) tt f
+    closed_one (Unit {0}) ⊥ findings e (translated findings e)
+    (has_shape (Unit {0}) ⊥ findings e (λ b. h) (λ t. absurd t)) tt f
 
 pub checked_bodies_are_closed : CheckedHasType → CheckedBodiesAreClosed
 checked_bodies_are_closed typed p escapes links f a =
@@ -85,12 +91,14 @@ checked_bodies_are_closed typed p escapes links f a =
 
 pub temporaries_are_drawn : TemporariesAreDrawn
 temporaries_are_drawn findings e f h =
-    temps_one ⊥ (Unit {0}) findings e (translated findings e) (has_shape ⊥ (Unit {0}) findings e (λ b. absurd b) (λ t. h)) tt f
+    temps_one ⊥ (Unit {0}) findings e (translated findings e)
+    (has_shape ⊥ (Unit {0}) findings e (λ b. absurd b) (λ t. h)) tt f
 
 -- In the outermost scope no name is a variable's.
 
 no_standard : (x at : ℕ) (t : Ty) (loop : Bool) (n : ℕ) (o : Option Standard) (rest : List (ℕ × Binding)) →
-    (named x rest ≡ Some (variable_at at t loop) → ⊥) → named x (entry standard_one n o ++ rest) ≡ Some (variable_at at t loop) → ⊥
+    (named x rest ≡ Some (variable_at at t loop) → ⊥) → named x (entry standard_one n o ++ rest) ≡ Some
+    (variable_at at t loop) → ⊥
 no_standard x at t loop n None rest h e = h e
 no_standard x at t loop n (Some f) rest h e =
     elim (named_cases x n (standard_one f) (variable_at at t loop) rest e) [
@@ -98,10 +106,12 @@ no_standard x at t loop n (Some f) rest h e =
       | inr q ↦ h q.1
     ]
 
-no_variable : (x at : ℕ) (t : Ty) (loop : Bool) (n : ℕ) (names : List (List ℕ)) → named x (standard_bindings n names) ≡ Some (variable_at at t loop) → ⊥
+no_variable : (x at : ℕ) (t : Ty) (loop : Bool) (n : ℕ) (names : List (List ℕ)) → named x (standard_bindings n names) ≡
+    Some (variable_at at t loop) → ⊥
 no_variable x at t loop n [] e = cc
 no_variable x at t loop n (text ∷ names) e =
-    no_standard x at t loop n (standard_of text standards) (standard_bindings (suc n) names) (no_variable x at t loop (suc n) names) e
+    no_standard x at t loop n (standard_of text standards) (standard_bindings (suc n) names)
+    (no_variable x at t loop (suc n) names) e
 
 -- What the uses show is in the set that they make.
 
@@ -119,7 +129,8 @@ either_left false b e = cc
 any_is : (xs : List ℕ) (x : ℕ) → Contains xs x → list_any (λ y. nat_eq y x) xs ≡ true
 any_is [] x c = absurd (omega (arith, c.1))
 any_is (y ∷ ys) x (zero, l, e) = either_left (nat_eq y x) (list_any (λ z. nat_eq z x) ys) (same_number y x e)
-any_is (y ∷ ys) x (suc k, l, e) = either_right (nat_eq y x) (list_any (λ z. nat_eq z x) ys) (any_is ys x (k, omega arith, e))
+any_is (y ∷ ys) x (suc k, l, e) = either_right (nat_eq y x) (list_any (λ z. nat_eq z x) ys)
+    (any_is ys x (k, omega arith, e))
 
 each_shown : (us : List Use) (P : ℕ → Type 0) → ((at : ℕ) → Contains (flat_map escapes_by us) at → P at) →
     Each (λ u. (at : ℕ) → Contains (escapes_by u) at → P at) us
@@ -142,7 +153,8 @@ checked_reaches typed noted p links a =
       around_in = λ y c. c;
     })
     (distinct_of (beginnings body []) (λ i j k l m. a.apart i j k l m))
-    (each_shown (uses_of body) (λ at. contains set at ≡ true) (λ at c. contains-from_list_nat (escapes_of body) at ∙ any_is (escapes_of body) at c))).0
+    (each_shown (uses_of body) (λ at. contains set at ≡ true)
+    (λ at c. contains-from_list_nat (escapes_of body) at ∙ any_is (escapes_of body) at c))).0
 
 pub checked_temporaries_are_drawn : CheckedHasType → NotesAreFound → CheckedTemporariesAreDrawn
 checked_temporaries_are_drawn typed noted p links f a =
@@ -153,9 +165,14 @@ literals_are_strings findings e = literals_are findings e
 
 -- Bytes of literals.
 
+sum_by-next : {X : Type 0} (f : X → ℕ) (x : X) (xs : List X) → sum_by f (x ∷ xs) ≡ f x + sum_by f xs
+sum_by-next f x xs = let h = sum_by-append f (x ∷ []) xs in omega (arith, h)
+
 sum_by-map : {X : Type 0} (f : X → List ℕ) (xs : List X) → sum_by length (map f xs) ≡ sum_by (λ x. length (f x)) xs
 sum_by-map f [] = refl
-sum_by-map f (x ∷ xs) = ap (λ n. length (f x) + n) (sum_by-map f xs)
+sum_by-map f (x ∷ xs) =
+    sum_by-next length (f x) (map f xs)
+    ∙ (ap (λ n. length (f x) + n) (sum_by-map f xs) ∙ sym (sum_by-next (λ y. length (f y)) x xs))
 
 length_text : (bytes : List ℕ) → length (string_text bytes) ≡ 4 + length bytes
 length_text bytes =
@@ -163,10 +180,13 @@ length_text bytes =
     let k = length-append (to_le_bytes w32 (length bytes)) bytes in
     omega (arith, h, k)
 
-sum_of_texts : (xs : List (List ℕ)) → sum_by (λ bytes. length (string_text bytes)) xs ≡ sum_by (λ bytes. 4 + length bytes) xs
+sum_of_texts : (xs : List (List ℕ)) → sum_by (λ bytes. length (string_text bytes)) xs ≡ sum_by
+    (λ bytes. 4 + length bytes) xs
 sum_of_texts [] = refl
 sum_of_texts (x ∷ xs) =
-    ap (λ n. n + sum_by (λ bytes. length (string_text bytes)) xs) (length_text x) ∙ ap (λ n. 4 + length x + n) (sum_of_texts xs)
+    sum_by-next (λ bytes. length (string_text bytes)) x xs
+    ∙ (ap (λ n. n + sum_by (λ bytes. length (string_text bytes)) xs) (length_text x)
+    ∙ (ap (λ n. 4 + length x + n) (sum_of_texts xs) ∙ sym (sum_by-next (λ bytes. 4 + length bytes) x xs)))
 
 pub literals_are_short : LiteralsAreShort
 literals_are_short findings e =
