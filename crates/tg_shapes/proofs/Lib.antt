@@ -13,4 +13,6 @@ pub mod Typed
 pub mod Reaching
 pub mod Adding
 pub mod Slots
+pub mod Drawing
+pub mod Bounding
 pub mod Shaping

@@ -1,10 +1,11 @@
 -- Laws of the trees that programs are translated to.
-use Rattle.std.specs.Prelude.{◌≡◌, ◌≤◌, ◌+◌, ℕ, List, [], ◌++◌, length, map, false}
+use Rattle.std.specs.Prelude.{◌≡◌, ◌≤◌, ◌+◌, ◌*◌, ℕ, List, [], ◌++◌, length, map, false}
 use Rattle.std.specs.List.{Contains, sum_by}
 use Rattle.std.specs.Ordering.{nat_cmp}
 use Rattle.std.specs.FinSet.{FinSet, from_list}
 use Rattle.tg_syntax.specs.Tree.{Exp}
 use Rattle.tg_syntax.specs.Plain.{plain}
+use Rattle.tg_syntax.specs.Measures.{size, inner}
 use Rattle.tg_escape.specs.Escaping.{escapes_of}
 use Rattle.tg_types.specs.Programs.{CheckedProgram, IsAccepted}
 use Rattle.tg_tree.specs.Tree.{Ts, Function, Code}
@@ -102,3 +103,21 @@ abbrev pub SlotsAreFew : Type 0
 SlotsAreFew =
     (findings : Findings) (e : Exp) (f : Function Ts) →
     Contains (translated findings e).functions f → f.slots ≤ escaping findings.escapes e + 1
+
+-- And a frame has at most six temporaries for each node of the program, and one more.
+abbrev pub TemporariesAreFew : Type 0
+TemporariesAreFew =
+    (findings : Findings) (e : Exp) (f : Function Ts) →
+    Contains (translated findings e).functions f → f.temps ≤ 6 * (size e + inner e) + 1
+
+-- An accepted program has 32,768 nodes at most.
+pub record IsSmall (f : Function Ts) : Type 0 where
+  pub slots : f.slots ≤ 32769
+  pub temps : f.temps ≤ 196609
+
+abbrev pub CheckedFramesAreSmall : Type 0
+CheckedFramesAreSmall =
+    (p : CheckedProgram) (escapes links : FinSet nat_cmp) (f : Function Ts) →
+    IsAccepted p →
+    Contains (translated (found p.notes escapes links) (plain p.program.body)).functions f →
+    IsSmall f

@@ -1,6 +1,7 @@
 ghost use Rattle.tg_shapes.specs.Laws.{
   BodiesAreClosed,
   CheckedBodiesAreClosed,
+  CheckedFramesAreSmall,
   CheckedReaches,
   CheckedTemporariesAreDrawn,
   LabelsAreAbove,
@@ -9,6 +10,7 @@ ghost use Rattle.tg_shapes.specs.Laws.{
   ProgramsAreLinked,
   SlotsAreFew,
   TemporariesAreDrawn,
+  TemporariesAreFew,
 };
 
 use tg_runtime::routines_are_closed;
@@ -53,8 +55,13 @@ pub fn literals_are_strings()
     ensures short { LiteralsAreShort }
 {}
 
-/// The law that a frame has at most one slot for each variable of the text that escapes, and one
-/// more for its static link.
-pub fn slots_are_few()
-    ensures { SlotsAreFew }
-{}
+/// Laws of frames: each has at most one slot for each variable of the text that escapes, and one
+/// more for its static link; at most six temporaries for each node of the program, and one more.
+/// So in a program that the checker accepts it has at most 32,769 slots and 196,609 temporaries.
+pub fn frames_are_small()
+    ensures slots { SlotsAreFew }
+    ensures temps { TemporariesAreFew }
+    ensures checked { CheckedFramesAreSmall }
+{
+    checked_has_type();
+}

@@ -6,6 +6,6 @@
 mod laws;
 
 pub use laws::{
-    bodies_are_closed, literals_are_strings, programs_are_linked, slots_are_few,
+    bodies_are_closed, frames_are_small, literals_are_strings, programs_are_linked,
     temporaries_are_drawn,
 };
