@@ -1,5 +1,5 @@
 -- The literals that a translation adds are the strings of the text, one for each, in their order.
-use Rattle.std.proofs.Common.{◌≡◌, ◌≤◌, ◌+◌, ℕ, suc, zero, Bool, true, false, Option, Some, None, List, [], ◌∷◌, ◌++◌, length, map, refl, sym, ap, ◌∙◌, append_assoc, arith}
+use Rattle.std.proofs.Common.{◌≡◌, ◌+◌, ℕ, Bool, true, false, Option, Some, None, List, [], ◌∷◌, ◌++◌, map, refl, sym, ap, ◌∙◌, append_assoc}
 use Rattle.std.specs.Prelude.{is_some, ◌==◌, ◌||◌, if◌then◌else◌}
 use Rattle.std.proofs.lemmas.List.{map-append, append-nil}
 use Rattle.tg_syntax.specs.declared.trees.Op.{Op}
@@ -8,7 +8,7 @@ use Rattle.tg_syntax.specs.declared.trees.Param.{Param}
 use Rattle.tg_syntax.specs.Tree as source
 use Rattle.tg_syntax.specs.Tree.{Exp, Nil, Break, Int, Text, Read, Call, Neg, Binary, Make, Fill, Assign, If, When, While, For, Let, Seq, Simple, Field, Index, Exps, no_exps, exp, Inits, no_inits, init, Decs, no_decs, types, variable, functions, FunDecs, no_functions, function}
 use Rattle.tg_tree.specs.Tree as tree
-use Rattle.tg_tree.specs.Tree.{Tx, Const, Temp, Txs, no_txs, tx, Cond, Ts, Stms, no_stms, stm, Literal}
+use Rattle.tg_tree.specs.Tree.{Tx, Const, Temp, Txs, no_txs, tx, Cond, Ts, Stms, no_stms, stm}
 use Rattle.tg_tree.specs.Lists.{join_txs}
 use Rattle.tg_tree.specs.declared.operators.Bin.TheVariants as bin
 use Rattle.tg_frame.specs.declared.accesses.Access.{Access}
@@ -19,12 +19,12 @@ use Rattle.tg_translate.specs.declared.wants.Want.TheVariants as want
 use Rattle.tg_translate.specs.declared.homes.Within.{Within}
 use Rattle.tg_translate.specs.States.{State, Acts, Drawn, drawn, after, give, fresh}
 use Rattle.tg_translate.specs.Wants.{Made, value, done, test, value_of, test_of, dropped, as_statement, arms, deliver, followed, value_behind, behind_some, behind}
-use Rattle.tg_translate.specs.Constructs.{Place, in_temp, at_address, Held, hold, HeldAll, none_held, hold_next, own_place, read, store_at, want_for, assign, field_of, field_place, operand, element_of, element_place, record_of, make_record, make_array, product_of, product, quotient_of, checked_quotient, quotient, operation, comparison, minus_one, negation, repeat_while, in_body, in_test, count_of, count, string_text}
+use Rattle.tg_translate.specs.Constructs.{Place, in_temp, at_address, Held, hold, HeldAll, none_held, hold_next, own_place, read, store_at, want_for, assign, field_of, field_place, operand, element_of, element_place, make_record, make_array, product_of, quotient_of, checked_quotient, quotient, operation, minus_one, negation, repeat_while, in_body, in_test, count_of, count, string_text}
 use Rattle.tg_translate.specs.Choices.{left_want, tested, chosen}
 use Rattle.tg_translate.specs.Scopes.{Findings, variable_place, field_number, compares_strings, call, literal, declare_variable}
 use Rattle.tg_translate.specs.Purity.{assigns_nothing, inits_assign_nothing}
-use Rattle.tg_translate.specs.Functions.{at_of, asked, frame_for, opened, parameters, own_homes, declare_functions, finish, inside, result_want, gives_nothing, closing, body, outermost, beginning, program}
-use Rattle.tg_translate.specs.Translate.{connective, with_left, Begun, declaration_of, expression, locate, values, fields, sequence, declarations, bodies, program_body, translated}
+use Rattle.tg_translate.specs.Functions.{at_of, asked, frame_for, opened, parameters, own_homes, declare_functions, finish, inside, result_want, closing, body, outermost, beginning, program}
+use Rattle.tg_translate.specs.Translate.{connective, with_left, declaration_of, expression, locate, values, fields, sequence, declarations, bodies, program_body, translated}
 use Rattle.tg_shapes.specs.Strings.{strings, place_strings, exps_strings, inits_strings, decs_strings, bodies_strings}
 
 abbrev texts : State → List (List ℕ)

@@ -1,7 +1,7 @@
 -- Frames of accepted programs are small.
-use Rattle.std.proofs.Common.{◌≡◌, ◌≤◌, ◌+◌, ◌*◌, ℕ, Bool, true, false, Option, Some, None, List, [], ◌∷◌, ◌++◌, length, refl, sym, ap, ◌∙◌, subst, arith}
+use Rattle.std.proofs.Common.{◌≡◌, ◌≤◌, ◌+◌, ℕ, Bool, true, false, Option, Some, None, List, [], ◌∷◌, length, refl, sym, ap, ◌∙◌, subst, arith}
 use Rattle.std.specs.Prelude.{nat_lt, if◌then◌else◌}
-use Rattle.std.specs.List.{Contains, sum_by}
+use Rattle.std.specs.List.{sum_by}
 use Rattle.std.proofs.lemmas.Bool.Decides.{nat_tests}
 use Rattle.std.proofs.lemmas.List.Sums.{sum_by-append}
 use Rattle.tg_syntax.specs.declared.trees.Param.{Param}
@@ -78,7 +78,7 @@ module _ (escapes : ℕ → Bool) where
     few_escape_decs (types ts rest) = let h = few_escape_decs rest in omega (arith, h)
     few_escape_decs (variable y _ x rest) =
         let h = few_escaping x in let k = few_escape_decs rest in let m = one_at_most (escapes (at_of y)) in omega
-            (arith, h, k, m)
+        (arith, h, k, m)
     few_escape_decs (functions fs rest) = let h = few_escape_bodies fs in let k = few_escape_decs rest in omega
         (arith, h, k)
 
@@ -95,7 +95,7 @@ sum_by-next f x xs = let h = sum_by-append f (x ∷ []) xs in omega (arith, h)
 program_size_is : (e : Exp) → program_size e ≡ size e + inner e
 program_size_is e =
     sum_by-next (λ f. f.size) (measures (span_of e).from 0 [] [] e) (declared 0 [] e) ∙ ap (λ n. size e + n)
-        (sym (inner_is 0 [] e))
+    (sym (inner_is 0 [] e))
 
 within_limit : (b : Bool) (number : ℕ) (f : TypeRule × ℕ) (otherwise : Option (TypeRule × ℕ)) → nat_lt 32768 number ≡
     b →
@@ -107,7 +107,7 @@ pub few_nodes : (e : Exp) → limit_fault e ≡ None → size e + inner e ≤ 32
 few_nodes e h =
     subst (λ n. n ≤ 32768) (program_size_is e)
     (within_limit (nat_lt 32768 (program_size e)) (program_size e) (T22, (span_of e).from)
-        (first_above (program_functions e)) refl h)
+    (first_above (program_functions e)) refl h)
 
 pub checked_frames_are_small : CheckedHasType → CheckedFramesAreSmall
 checked_frames_are_small typed p escapes links f a c =

@@ -1,11 +1,11 @@
 -- What each construct becomes is fine, where what it is made of is.
-use Rattle.std.proofs.Common.{◌≡◌, ◌<◌, ◌≤◌, ◌+◌, ℕ, zero, suc, Bool, true, false, List, [], ◌∷◌, ◌++◌, length, refl, arith, inl, ◌*◌}
+use Rattle.std.proofs.Common.{◌≡◌, ◌<◌, ◌+◌, ℕ, zero, suc, Bool, true, false, List, [], ◌∷◌, ◌++◌, length, refl, arith, inl, ◌*◌}
 use Rattle.std.specs.Prelude.{◌==◌, ◌||◌, if◌then◌else◌}
 use Rattle.tg_frame.specs.declared.accesses.Access.{Access}
 use Rattle.tg_frame.specs.declared.accesses.Access.TheVariants.{InTemp, InFrame}
 use Rattle.tg_syntax.specs.declared.trees.Op.{Op}
 use Rattle.tg_syntax.specs.declared.trees.Op.TheVariants as op
-use Rattle.tg_tree.specs.Tree.{Tx, Const, Address, Temp, FrameAddress, Binary, Load, LoadByte, Call, Service, After, Txs, no_txs, tx, Cond, Compare, Not, Both, Either, Ts, Move, Store, Do, If, Loop, Break, Seq, Stms, no_stms, stm}
+use Rattle.tg_tree.specs.Tree.{Tx, Const, Temp, FrameAddress, Binary, Load, Txs, Cond, Compare, Not, Ts, Move, Store, Stms, no_stms, stm}
 use Rattle.tg_base.specs.Words.{sub}
 use Rattle.tg_tree.specs.Named as name
 use Rattle.tg_tree.specs.Forms.{when}
@@ -15,13 +15,11 @@ use Rattle.tg_runtime.specs.Labels.{label_of}
 use Rattle.tg_runtime.specs.declared.routines.Routine.{Routine}
 use Rattle.tg_runtime.specs.declared.routines.Routine.TheVariants as routine
 use Rattle.tg_translate.specs.declared.wants.Want.{Want}
-use Rattle.tg_translate.specs.declared.wants.Want.TheVariants as want
 use Rattle.tg_translate.specs.declared.operands.Operand.{Operand}
 use Rattle.tg_translate.specs.declared.operands.Operand.TheVariants.{Number, Kept}
-use Rattle.tg_translate.specs.States.{State, Acts, Drawn, drawn, after, give, fresh}
-use Rattle.tg_translate.specs.Wants.{Made, value, done, test, value_of, put_in, is_none, followed, value_behind}
-use Rattle.tg_translate.specs.Constructs.{minus_one, least_int, plus, operand, Held, keep, hold, HeldAll, hold_next, slot_address, own_link, frame_out, Place, in_temp, at_address, place_in, own_place, after_all, read, store_at, want_for, assign, nil_check, index_check, zero_check, product_check, quotient_check, field_of, field_place, element, element_of, element_place, call_routine, store_field, store_fields, call_for_record, record_of, make_record, make_array, comparison, product_of, product, quotient_of, checked_quotient, quotient, operation, negation, repeat_while, first_minus_one, assign_value, turn_of, turns, count_of, count}
-use Rattle.tg_shapes.proofs.Fine.{Each, FineTs, FineStms, FineTx, FineTxs, FineCond}
+use Rattle.tg_translate.specs.States.{State, Acts, Drawn, after, give, fresh}
+use Rattle.tg_translate.specs.Wants.{Made, value, test, value_of, put_in, followed}
+use Rattle.tg_translate.specs.Constructs.{minus_one, least_int, plus, operand, Held, keep, hold, HeldAll, hold_next, own_link, frame_out, Place, in_temp, at_address, place_in, own_place, after_all, read, store_at, want_for, assign, nil_check, index_check, zero_check, product_check, quotient_check, field_of, field_place, element_of, element_place, call_routine, store_field, store_fields, call_for_record, record_of, make_record, make_array, comparison, product_of, product, quotient_of, checked_quotient, quotient, operation, negation, repeat_while, first_minus_one, assign_value, turn_of, turns, count_of, count}
 use Rattle.tg_shapes.proofs.Keeping as keeping
 use Rattle.tg_shapes.proofs.Keeping.{Where}
 use Rattle.tg_shapes.proofs.Wanting as wanting

@@ -1,21 +1,19 @@
 -- Variables and parameters are declared; a part of a text has a context of its own, and leaves it.
-use Rattle.std.proofs.Common.{◌≡◌, ◌≢◌, ◌<◌, ◌≤◌, ◌+◌, ℕ, zero, suc, Bool, true, false, Option, Some, None, List, [], ◌∷◌, ◌++◌, length, map, refl, sym, ap, ◌∙◌, subst, arith, inl, inr}
-use Rattle.std.specs.Prelude.{◌==◌, ◌⊎◌, if◌then◌else◌, IsTrue}
+use Rattle.std.proofs.Common.{◌≡◌, ◌≢◌, ◌≤◌, ◌+◌, ℕ, zero, suc, Bool, true, false, Some, List, [], ◌∷◌, map, refl, ap, ◌∙◌, subst, arith, inl, inr}
+use Rattle.std.specs.Prelude.{IsTrue}
 use Rattle.std.specs.List.{Contains}
 use Rattle.tg_symbols.specs.Tables.{named}
 use Rattle.tg_syntax.specs.declared.trees.Param.{Param}
 use Rattle.tg_syntax.specs.Tree.{Decs, no_decs, types, variable, functions}
 use Rattle.tg_frame.specs.declared.accesses.Access.{Access}
 use Rattle.tg_frame.specs.declared.accesses.Access.TheVariants.{InTemp, InFrame}
-use Rattle.tg_frame.specs.Homes.{is_slot, next_home, homes_from, homes_of, temps_of, slots_of}
+use Rattle.tg_frame.specs.Homes.{is_slot, homes_from, homes_of, temps_of}
 use Rattle.tg_translate.specs.declared.homes.Home.{Home}
-use Rattle.tg_translate.specs.declared.homes.Within.{Within}
-use Rattle.tg_translate.specs.States.{State, Frame, Acts, Drawn, drawn, after, give, with_frame, one_temp, one_slot}
+use Rattle.tg_translate.specs.States.{State, Frame, Drawn, drawn, one_temp, one_slot}
 use Rattle.tg_translate.specs.Constructs.{in_body, in_test}
 use Rattle.tg_translate.specs.Scopes.{Findings, declare_variable}
-use Rattle.tg_translate.specs.Functions.{at_of, asked, parameters, own_homes, frame_for}
+use Rattle.tg_translate.specs.Functions.{at_of, asked, parameters, own_homes}
 use Rattle.tg_shapes.specs.Standing.{AreApart, params_of, owned_by}
-use Rattle.tg_shapes.proofs.Counts.{times, below}
 use Rattle.tg_shapes.proofs.Keeping as keeping
 use Rattle.tg_shapes.proofs.Keeping.{Where}
 use Rattle.tg_shapes.proofs.Scoping.{named_cases, named_other, more_contained, first_contained, behind_first}

@@ -1,5 +1,5 @@
 -- A translation draws at most six temporaries for each node of the text.
-use Rattle.std.proofs.Common.{◌≡◌, ◌≤◌, ◌+◌, ◌*◌, ℕ, suc, zero, Bool, true, false, Option, Some, None, List, [], ◌∷◌, ◌++◌, length, map, refl, sym, ap, ◌∙◌, subst, arith}
+use Rattle.std.proofs.Common.{◌≡◌, ◌≤◌, ◌+◌, ◌*◌, ℕ, Bool, true, false, Option, Some, None, List, [], ◌∷◌, ◌++◌, length, map, refl, sym, ◌∙◌, subst, arith}
 use Rattle.std.specs.Prelude.{is_some, ◌==◌, ◌||◌, if◌then◌else◌}
 use Rattle.std.specs.List.{Contains}
 use Rattle.tg_frame.specs.Homes.{temps_of}
@@ -21,12 +21,12 @@ use Rattle.tg_translate.specs.declared.wants.Want.TheVariants as want
 use Rattle.tg_translate.specs.declared.homes.Within.{Within}
 use Rattle.tg_translate.specs.States.{State, Acts, Drawn, drawn, after, give, fresh}
 use Rattle.tg_translate.specs.Wants.{Made, value, done, test, value_of, test_of, dropped, as_statement, arms, deliver, followed, value_behind, behind_some, behind}
-use Rattle.tg_translate.specs.Constructs.{Place, in_temp, at_address, Held, hold, HeldAll, none_held, hold_next, own_place, read, store_at, want_for, assign, field_of, field_place, operand, element_of, element_place, record_of, make_record, make_array, product_of, product, quotient_of, checked_quotient, quotient, operation, comparison, minus_one, negation, repeat_while, in_body, in_test, count_of, count}
+use Rattle.tg_translate.specs.Constructs.{Place, in_temp, at_address, Held, hold, HeldAll, none_held, hold_next, own_place, read, store_at, want_for, assign, field_of, field_place, operand, element_of, element_place, make_record, make_array, product_of, quotient_of, checked_quotient, quotient, operation, minus_one, negation, repeat_while, in_body, in_test, count_of, count}
 use Rattle.tg_translate.specs.Choices.{left_want, tested, chosen}
 use Rattle.tg_translate.specs.Scopes.{Findings, variable_place, field_number, compares_strings, call, literal, declare_variable}
 use Rattle.tg_translate.specs.Purity.{assigns_nothing, inits_assign_nothing}
-use Rattle.tg_translate.specs.Functions.{at_of, asked, frame_for, opened, parameters, own_homes, declare_functions, finish, with_body, inside, result_want, gives_nothing, closing, body, outermost, beginning, program}
-use Rattle.tg_translate.specs.Translate.{connective, with_left, Begun, declaration_of, expression, locate, values, fields, sequence, declarations, bodies, program_body, translated}
+use Rattle.tg_translate.specs.Functions.{at_of, asked, frame_for, opened, parameters, own_homes, declare_functions, finish, with_body, inside, result_want, closing, body, outermost, beginning, program}
+use Rattle.tg_translate.specs.Translate.{connective, with_left, declaration_of, expression, locate, values, fields, sequence, declarations, bodies, program_body, translated}
 use Rattle.tg_shapes.proofs.Fine.{Each, each_contained}
 
 -- an action draws at most so many temporaries of its frame, and so does each function that it finishes, but for one
@@ -121,7 +121,7 @@ hold_takes s direct before x = (omega arith, λ m l h. h)
 hold_next_takes : (s : State) (direct : Bool) (all : HeldAll) (x : Tx) → Takes 1 s (hold_next direct all x s)
 hold_next_takes s direct all x =
     then_quiet 1 s (hold direct all.before x s) (λ h. give
-        (record { before = h.before; operands = all.operands ++ h.operand ∷ [] }))
+    (record { before = h.before; operands = all.operands ++ h.operand ∷ [] }))
     (hold_takes s direct all.before x) (λ a t. (refl, refl))
 
 assign_takes : (s : State) (p : Place) (m : Made) → Takes 1 s (assign p m s)
@@ -132,25 +132,25 @@ assign_takes s (at_address before a) m = then_quiet 1 s (value_of m s) (λ x. gi
 field_takes : (s : State) (k : ℕ) (x : Tx) → Takes 1 s (field_place k x s)
 field_takes s k x =
     then_quiet 1 s (hold true no_stms x s) (λ r. give (field_of k r.before (operand r.operand)))
-        (hold_takes s true no_stms x) (λ a t. (refl, refl))
+    (hold_takes s true no_stms x) (λ a t. (refl, refl))
 
 two_take : {A : Type 0} (n : ℕ) (s : State) (direct also : Bool) (x y : Tx) (next : Held → Held → Acts A) →
     ((l h : Held) (t : State) → Takes n t (next l h t)) →
     Takes (1 + (1 + n)) s (after (hold direct no_stms x s) (λ l t. after (hold also l.before y t) (λ h. next l h)))
 two_take n s direct also x y next k =
     both 1 (1 + n) s (hold direct no_stms x s) (λ l t. after (hold also l.before y t) (λ h. next l h))
-        (hold_takes s direct no_stms x)
+    (hold_takes s direct no_stms x)
     (λ l t. both 1 n t (hold also l.before y t) (λ h. next l h) (hold_takes t also l.before y) (λ h u. k l h u))
 
 element_takes : (s : State) (direct : Bool) (x y : Tx) → Takes 2 s (element_place direct x y s)
 element_takes s direct x y =
     two_take 0 s direct true x y (λ a i. give (element_of i.before (operand a.operand) (operand i.operand)))
-        (λ l h t. takes_none t)
+    (λ l h t. takes_none t)
 
 checked_takes : (s : State) (direct : Bool) (x y : Tx) → Takes 2 s (checked_quotient direct x y s)
 checked_takes s direct x y =
     two_take 0 s direct true x y (λ l r. give (quotient_of r.before (operand l.operand) (operand r.operand)))
-        (λ l h t. takes_none t)
+    (λ l h t. takes_none t)
 
 by_number_takes : (s : State) (direct : Bool) (x : Tx) (k : ℕ) (b : Bool) →
     Takes 2 s ((if b then checked_quotient direct x (Const k) else give (value (tree.Binary bin.Div x (Const k)))) s)
@@ -167,7 +167,7 @@ operation_takes s op.Plus of_strings direct x y = (omega arith, λ m l h. h)
 operation_takes s op.Minus of_strings direct x y = (omega arith, λ m l h. h)
 operation_takes s op.Times of_strings direct x y =
     two_take 1 s direct true x y (λ l r t. after (fresh t)
-        (λ p. give (product_of p r.before (operand l.operand) (operand r.operand))))
+    (λ p. give (product_of p r.before (operand l.operand) (operand r.operand))))
     (λ l h t. (omega arith, λ m i g. g))
 operation_takes s op.Divide of_strings direct x y = at_most 2 3 s (quotient direct x y s) (omega arith)
     (quotient_takes s direct x y)
@@ -197,8 +197,11 @@ declared_quiet : (fs : FunDecs) (level : ℕ) (s : State) → Quiet s (declare_f
 declared_quiet no_functions level s = (refl, refl)
 declared_quiet (function f _ _ _ rest) level s =
     declared_quiet rest level
-    (record s { label = s.label + 1; callees = (at_of f, record { level = level; label = record { 0 = s.label } }) ∷
-        s.callees })
+    (record s {
+      label = s.label + 1;
+      callees = (at_of f, record { level = level; label = record { 0 = s.label } }) ∷
+          s.callees;
+    })
 
 literal_quiet : (s : State) (bytes : List ℕ) → Quiet s (literal bytes s)
 literal_quiet s bytes = (refl, refl)
@@ -224,10 +227,12 @@ module _ (escapes : ℕ → Bool) where
 -- a function's frame has those that its text draws beside those of its parameters
 finished_takes : (n k : ℕ) (s t : State) (d : Drawn Ts) → t.frame.temps ≤ k + 1 → t.functions ≡ [] → Takes n t d → Takes
     (k + n) s (finish s d)
-finished_takes n k s t (drawn x u) l e h =
-    (omega arith, λ m i g.
-    each_append (λ f. f.temps ≤ m) s.functions (with_body u.frame x ∷ u.functions) g
-    (omega (arith, h.0, l, i), h.1 m (omega (arith, i)) (subst (λ fs. Each (λ f. f.temps ≤ m) fs) (sym e) tt)))
+finished_takes n k s t (drawn x u) l e h = (
+  omega arith,
+  λ m i g.
+      each_append (λ f. f.temps ≤ m) s.functions (with_body u.frame x ∷ u.functions) g
+      (omega (arith, h.0, l, i), h.1 m (omega (arith, i)) (subst (λ fs. Each (λ f. f.temps ≤ m) fs) (sym e) tt)),
+)
 
 -- Where the right side of an operator draws so many, the whole draws five more at most.
 module _ (n : ℕ) (right : Want → Acts Made) (h : (w : Want) (t : State) → Takes n t (right w t)) where
@@ -247,13 +252,13 @@ module _ (n : ℕ) (right : Want → Acts Made) (h : (w : Want) (t : State) → 
 
   operator_takes : (o : Op) (of_strings direct : Bool) (left : Made) (s : State) →
       Takes (1 + (n + 1 + 3)) s (after (value_of left s)
-          (λ x t. after (after (right want.Value t) value_of) (λ y. operation o of_strings direct x y)))
+      (λ x t. after (after (right want.Value t) value_of) (λ y. operation o of_strings direct x y)))
   operator_takes o of_strings direct left s =
       both 1 (n + 1 + 3) s (value_of left s) (λ x t. after (after (right want.Value t) value_of)
-          (λ y. operation o of_strings direct x y)) (value_takes s left)
+      (λ y. operation o of_strings direct x y)) (value_takes s left)
       (λ x t. both (n + 1) 3 t (after (right want.Value t) value_of) (λ y. operation o of_strings direct x y)
       (both n 1 t (right want.Value t) value_of (h want.Value t) (λ m u. value_takes u m))
-          (λ y u. operation_takes u o of_strings direct x y))
+      (λ y u. operation_takes u o of_strings direct x y))
 
   connected_takes : (o : Op) (w : Want) (d : Cond) (s : State) → Takes (n + 5) s (connective o w d right s)
   connected_takes o w d s = at_most (1 + n) (n + 5) s (connective o w d right s) (omega arith)
@@ -261,11 +266,11 @@ module _ (n : ℕ) (right : Want → Acts Made) (h : (w : Want) (t : State) → 
 
   computed_takes : (o : Op) (of_strings direct : Bool) (left : Made) (s : State) →
       Takes (n + 5) s (after (value_of left s) (λ x t. after (after (right want.Value t) value_of)
-          (λ y. operation o of_strings direct x y)))
+      (λ y. operation o of_strings direct x y)))
   computed_takes o of_strings direct left s =
       at_most (1 + (n + 1 + 3)) (n + 5) s
       (after (value_of left s) (λ x t. after (after (right want.Value t) value_of)
-          (λ y. operation o of_strings direct x y))) (omega arith)
+      (λ y. operation o of_strings direct x y))) (omega arith)
       (operator_takes o of_strings direct left s)
 
   left_takes : (o : Op) (meaning : Option Means) (direct : Bool) (w : Want) (left : Made) (s : State) → Takes (n + 5) s
@@ -279,10 +284,10 @@ declaration_takes : (escapes : ℕ → Bool) (level at : ℕ) (n : ℕ) (e : Wan
     Takes (1 + (n + 1)) s (declaration_of escapes level at e s)
 declaration_takes escapes level at n e s h =
     both 1 (n + 1) s (declare_variable (escapes at) level at s)
-        (λ home t. after (e (want_for (own_place home)) t) (λ m. assign (own_place home) m))
+    (λ home t. after (e (want_for (own_place home)) t) (λ m. assign (own_place home) m))
     (declared_takes (escapes at) level at s)
     (λ home t. both n 1 t (e (want_for (own_place home)) t) (λ m. assign (own_place home) m)
-        (h (want_for (own_place home)) t)
+    (h (want_for (own_place home)) t)
     (λ m u. assign_takes u (own_place home) m))
 
 -- how many temporaries each part draws at most
@@ -395,23 +400,23 @@ module _ (findings : Findings) where
     takes (Text _ bytes) w c s = (omega arith, λ m l h. h)
     takes (Read p v) w c s =
         then_quiet (drawn_by_place v) s (locate findings v c s) (λ p. give (value (read p))) (place_takes v c s)
-            (λ p t. (refl, refl))
+        (λ p t. (refl, refl))
     takes (Call p f args) w c s =
         then_quiet (drawn_by_exps args) s (values findings args no_txs c s)
-            (λ xs t. after (call c (findings.meaning (at_of f)) xs t) (λ x. give (value x)))
+        (λ xs t. after (call c (findings.meaning (at_of f)) xs t) (λ x. give (value x)))
         (values_take args no_txs c s)
         (λ xs t. quiets t (call c (findings.meaning (at_of f)) xs t) (λ x. give (value x))
-            (call_quiet t c (findings.meaning (at_of f)) xs) (λ x u. (refl, refl)))
+        (call_quiet t c (findings.meaning (at_of f)) xs) (λ x u. (refl, refl)))
     takes (Neg p x) w c s =
         then_quiet (drawn_by x + 1) s (after (expression findings x want.Value c s) value_of)
-            (λ y. give (value (negation y)))
+        (λ y. give (value (negation y)))
         (of_value (drawn_by x) s (expression findings x want.Value c s) (takes x want.Value c s)) (λ y t. (refl, refl))
     takes (Binary p o at x y) w c s =
         both (drawn_by x) (drawn_by y + 5) s (expression findings x (left_want o) c s)
         (λ left. with_left o (findings.meaning at) (assigns_nothing y) w left (λ v. expression findings y v c))
-            (takes x (left_want o) c s)
+        (takes x (left_want o) c s)
         (λ left t. left_takes (drawn_by y) (λ v. expression findings y v c) (λ v u. takes y v c u) o
-            (findings.meaning at) (assigns_nothing y) w left t)
+        (findings.meaning at) (assigns_nothing y) w left t)
     takes (Make p x inits) w c s =
         both (drawn_by_inits inits) 1 s (fields findings inits (inits_assign_nothing inits) none_held c s) make_record
         (fields_take inits (inits_assign_nothing inits) none_held c s) (λ all t. (omega arith, λ m l h. h))
@@ -420,63 +425,63 @@ module _ (findings : Findings) where
         (λ p t. after (after (expression findings y want.Value c t) value_of) (λ q. give (value (make_array p q))))
         (of_value (drawn_by x) s (expression findings x want.Value c s) (takes x want.Value c s))
         (λ p t. then_quiet (drawn_by y + 1) t (after (expression findings y want.Value c t) value_of)
-            (λ q. give (value (make_array p q)))
+        (λ q. give (value (make_array p q)))
         (of_value (drawn_by y) t (expression findings y want.Value c t) (takes y want.Value c t)) (λ q u. (refl, refl)))
     takes (Assign z v x) w c s =
         both (drawn_by_place v) (drawn_by x + 1) s (locate findings v c s)
         (λ p t. after (expression findings x (want_for p) c t) (λ m u. after (assign p m u) (λ y. give (done y))))
-            (place_takes v c s)
+        (place_takes v c s)
         (λ p t. both (drawn_by x) 1 t (expression findings x (want_for p) c t)
-            (λ m u. after (assign p m u) (λ y. give (done y))) (takes x (want_for p) c t)
+        (λ m u. after (assign p m u) (λ y. give (done y))) (takes x (want_for p) c t)
         (λ m u. then_quiet 1 u (assign p m u) (λ y. give (done y)) (assign_takes u p m) (λ y z. (refl, refl))))
     takes (If k d x y) w c s =
         both (drawn_by d) (1 + (drawn_by x + drawn_by y)) s
-            (after (expression findings d want.Test c s) (λ m. give (test_of m)))
+        (after (expression findings d want.Test c s) (λ m. give (test_of m)))
         (λ d t. after (arms w t) (λ v u. after (after (expression findings x v c u) (λ m. give (as_statement v m)))
         (λ p z. after (after (expression findings y v c z) (λ m. give (as_statement v m)))
-            (λ q. give (deliver w v (tree.If d p q))))))
+        (λ q. give (deliver w v (tree.If d p q))))))
         (given_on (drawn_by d) s (expression findings d want.Test c s) test_of (takes d want.Test c s))
         (λ d t. both 1 (drawn_by x + drawn_by y) t (arms w t)
-            (λ v u. after (after (expression findings x v c u) (λ m. give (as_statement v m)))
+        (λ v u. after (after (expression findings x v c u) (λ m. give (as_statement v m)))
         (λ p z. after (after (expression findings y v c z) (λ m. give (as_statement v m)))
-            (λ q. give (deliver w v (tree.If d p q))))) (arms_take t w)
+        (λ q. give (deliver w v (tree.If d p q))))) (arms_take t w)
         (λ v u. both (drawn_by x) (drawn_by y) u (after (expression findings x v c u) (λ m. give (as_statement v m)))
         (λ p z. after (after (expression findings y v c z) (λ m. give (as_statement v m)))
-            (λ q. give (deliver w v (tree.If d p q))))
+        (λ q. give (deliver w v (tree.If d p q))))
         (given_on (drawn_by x) u (expression findings x v c u) (as_statement v) (takes x v c u))
         (λ p z. then_quiet (drawn_by y) z (after (expression findings y v c z) (λ m. give (as_statement v m)))
-            (λ q. give (deliver w v (tree.If d p q)))
+        (λ q. give (deliver w v (tree.If d p q)))
         (given_on (drawn_by y) z (expression findings y v c z) (as_statement v) (takes y v c z))
-            (λ q o. (refl, refl)))))
+        (λ q o. (refl, refl)))))
     takes (When k d x) w c s =
         both (drawn_by d) (drawn_by x) s (after (expression findings d want.Test c s) (λ m. give (test_of m)))
         (λ d t. after (after (expression findings x want.Dropped c t) (λ m. give (dropped m)))
-            (λ y. give (done (tree.If d y (tree.Seq no_stms)))))
+        (λ y. give (done (tree.If d y (tree.Seq no_stms)))))
         (given_on (drawn_by d) s (expression findings d want.Test c s) test_of (takes d want.Test c s))
         (λ d t. then_quiet (drawn_by x) t (after (expression findings x want.Dropped c t) (λ m. give (dropped m)))
-            (λ y. give (done (tree.If d y (tree.Seq no_stms))))
+        (λ y. give (done (tree.If d y (tree.Seq no_stms))))
         (given_on (drawn_by x) t (expression findings x want.Dropped c t) dropped (takes x want.Dropped c t))
-            (λ y u. (refl, refl)))
+        (λ y u. (refl, refl)))
     takes (While k d x) w c s =
         both (drawn_by d) (drawn_by x) s (after (expression findings d want.Test (in_test c) s) (λ m. give (test_of m)))
         (λ d t. after (after (expression findings x want.Dropped (in_body c) t) (λ m. give (dropped m)))
-            (λ y. give (done (repeat_while d y))))
+        (λ y. give (done (repeat_while d y))))
         (given_on (drawn_by d) s (expression findings d want.Test (in_test c) s) test_of
-            (takes d want.Test (in_test c) s))
+        (takes d want.Test (in_test c) s))
         (λ d t. then_quiet (drawn_by x) t (after (expression findings x want.Dropped (in_body c) t)
-            (λ m. give (dropped m))) (λ y. give (done (repeat_while d y)))
+        (λ m. give (dropped m))) (λ y. give (done (repeat_while d y)))
         (given_on (drawn_by x) t (expression findings x want.Dropped (in_body c) t) dropped
-            (takes x want.Dropped (in_body c) t)) (λ y u. (refl, refl)))
+        (takes x want.Dropped (in_body c) t)) (λ y u. (refl, refl)))
     takes (For p i low high a) w c s =
         both (drawn_by low + 1) (drawn_by high + 1 + (1 + (drawn_by a + 2))) s
-            (after (expression findings low want.Value c s) value_of)
+        (after (expression findings low want.Value c s) value_of)
         (λ x t. after (after (expression findings high want.Value c t) value_of)
         (λ y u. after (declare_variable (findings.escapes (at_of i)) c.level (at_of i) u)
         (λ home v. after (after (expression findings a want.Dropped (in_body c) v) (λ m. give (dropped m)))
         (λ turn z. after (count home x y turn z) (λ k. give (done k))))))
         (of_value (drawn_by low) s (expression findings low want.Value c s) (takes low want.Value c s))
         (λ x t. both (drawn_by high + 1) (1 + (drawn_by a + 2)) t
-            (after (expression findings high want.Value c t) value_of)
+        (after (expression findings high want.Value c t) value_of)
         (λ y u. after (declare_variable (findings.escapes (at_of i)) c.level (at_of i) u)
         (λ home v. after (after (expression findings a want.Dropped (in_body c) v) (λ m. give (dropped m)))
         (λ turn z. after (count home x y turn z) (λ k. give (done k)))))
@@ -484,20 +489,20 @@ module _ (findings : Findings) where
         (λ y u. both 1 (drawn_by a + 2) u (declare_variable (findings.escapes (at_of i)) c.level (at_of i) u)
         (λ home v. after (after (expression findings a want.Dropped (in_body c) v) (λ m. give (dropped m)))
         (λ turn z. after (count home x y turn z) (λ k. give (done k))))
-            (declared_takes (findings.escapes (at_of i)) c.level (at_of i) u)
+        (declared_takes (findings.escapes (at_of i)) c.level (at_of i) u)
         (λ home v. both (drawn_by a) 2 v (after (expression findings a want.Dropped (in_body c) v)
-            (λ m. give (dropped m)))
+        (λ m. give (dropped m)))
         (λ turn z. after (count home x y turn z) (λ k. give (done k)))
         (given_on (drawn_by a) v (expression findings a want.Dropped (in_body c) v) dropped
-            (takes a want.Dropped (in_body c) v))
+        (takes a want.Dropped (in_body c) v))
         (λ turn z. then_quiet 2 z (count home x y turn z) (λ k. give (done k)) (count_takes z home x y turn)
-            (λ k o. (refl, refl))))))
+        (λ k o. (refl, refl))))))
     takes (Let p ds es) w c s =
         both (drawn_by_decs ds) (drawn_by_exps es + 1) s (declarations findings ds no_stms c s)
         (λ before t. after (sequence findings es w before c t) (λ begun. behind w begun.before begun.last))
-            (decs_take ds no_stms c s)
+        (decs_take ds no_stms c s)
         (λ before t. both (drawn_by_exps es) 1 t (sequence findings es w before c t)
-            (λ begun. behind w begun.before begun.last)
+        (λ begun. behind w begun.before begun.last)
         (sequence_takes es w before c t) (λ begun u. behind_takes u w begun.before begun.last))
     takes (Seq p es) w c s =
         both (drawn_by_exps es) 1 s (sequence findings es w no_stms c s) (λ begun. behind w begun.before begun.last)
@@ -508,16 +513,16 @@ module _ (findings : Findings) where
         (place_quiet s c (findings.meaning (at_of x)))
     place_takes (Field v f) c s =
         both (drawn_by_place v) 1 s (locate findings v c s)
-            (λ p. field_place (field_number (findings.meaning (at_of f))) (read p)) (place_takes v c s)
+        (λ p. field_place (field_number (findings.meaning (at_of f))) (read p)) (place_takes v c s)
         (λ p t. field_takes t (field_number (findings.meaning (at_of f))) (read p))
     place_takes (Index v e) c s =
         both (drawn_by_place v) (drawn_by e + 1 + 2) s (locate findings v c s)
         (λ p t. after (after (expression findings e want.Value c t) value_of)
-            (λ y. element_place (assigns_nothing e) (read p) y)) (place_takes v c s)
+        (λ y. element_place (assigns_nothing e) (read p) y)) (place_takes v c s)
         (λ p t. both (drawn_by e + 1) 2 t (after (expression findings e want.Value c t) value_of)
-            (λ y. element_place (assigns_nothing e) (read p) y)
+        (λ y. element_place (assigns_nothing e) (read p) y)
         (of_value (drawn_by e) t (expression findings e want.Value c t) (takes e want.Value c t))
-            (λ y u. element_takes u (assigns_nothing e) (read p) y))
+        (λ y u. element_takes u (assigns_nothing e) (read p) y))
 
     values_take : (es : Exps) (before : Txs) (c : Within) (s : State) → Takes (drawn_by_exps es) s
         (values findings es before c s)
@@ -536,7 +541,7 @@ module _ (findings : Findings) where
         (λ x t. after (hold_next direct before x t) (λ more. fields findings rest direct more c))
         (of_value (drawn_by e) s (expression findings e want.Value c s) (takes e want.Value c s))
         (λ x t. both 1 (drawn_by_inits rest) t (hold_next direct before x t)
-            (λ more. fields findings rest direct more c)
+        (λ more. fields findings rest direct more c)
         (hold_next_takes t direct before x) (λ more u. fields_take rest direct more c u))
 
     sequence_takes : (es : Exps) (w : Want) (before : Stms) (c : Within) (s : State) → Takes (drawn_by_exps es) s
@@ -545,13 +550,13 @@ module _ (findings : Findings) where
     sequence_takes (exp e no_exps) w before c s =
         at_most (drawn_by e) (drawn_by e + 1 + 0) s (sequence findings (exp e no_exps) w before c s) (omega arith)
         (then_quiet (drawn_by e) s (expression findings e w c s) (λ m. give (record { before = before; last = m }))
-            (takes e w c s) (λ m t. (refl, refl)))
+        (takes e w c s) (λ m t. (refl, refl)))
     sequence_takes (exp e (exp f rest)) w before c s =
         at_most (drawn_by e + drawn_by_exps (exp f rest)) (drawn_by e + 1 + drawn_by_exps (exp f rest)) s
-            (sequence findings (exp e (exp f rest)) w before c s)
+        (sequence findings (exp e (exp f rest)) w before c s)
         (omega arith)
         (both (drawn_by e) (drawn_by_exps (exp f rest)) s
-            (after (expression findings e want.Dropped c s) (λ m. give (dropped m)))
+        (after (expression findings e want.Dropped c s) (λ m. give (dropped m)))
         (λ x. sequence findings (exp f rest) w (followed before x) c)
         (given_on (drawn_by e) s (expression findings e want.Dropped c s) dropped (takes e want.Dropped c s))
         (λ x t. sequence_takes (exp f rest) w (followed before x) c t))
@@ -562,17 +567,17 @@ module _ (findings : Findings) where
     decs_take (types _ rest) before c s = decs_take rest before c s
     decs_take (variable x _ e rest) before c s =
         both (1 + (drawn_by e + 1)) (drawn_by_decs rest) s
-            (declaration_of findings.escapes c.level (at_of x) (λ v. expression findings e v c) s)
+        (declaration_of findings.escapes c.level (at_of x) (λ v. expression findings e v c) s)
         (λ y. declarations findings rest (followed before y) c)
         (declaration_takes findings.escapes c.level (at_of x) (drawn_by e) (λ v. expression findings e v c) s
-            (λ v t. takes e v c t))
+        (λ v t. takes e v c t))
         (λ y t. decs_take rest (followed before y) c t)
     decs_take (functions fs rest) before c s =
         quiet_then (drawn_by_bodies fs + drawn_by_decs rest) s (declare_functions c.level fs s)
         (λ _ t. after (bodies findings fs s.label c t) (λ _. declarations findings rest before c))
-            (declared_quiet fs c.level s)
+        (declared_quiet fs c.level s)
         (λ u t. both (drawn_by_bodies fs) (drawn_by_decs rest) t (bodies findings fs s.label c t)
-            (λ _. declarations findings rest before c)
+        (λ _. declarations findings rest before c)
         (bodies_take fs s.label c t) (λ v z. decs_take rest before c z))
 
     bodies_take : (fs : FunDecs) (label : ℕ) (c : Within) (s : State) → Takes (drawn_by_bodies fs) s
@@ -584,7 +589,7 @@ module _ (findings : Findings) where
         let t : State = begun_at label kept params c s in
         both (length params + (drawn_by e + 1)) (drawn_by_bodies rest) s
         (body label findings.escapes findings.keeps_link (at_of f) has_result params (λ w v. expression findings e w v)
-            c s)
+        c s)
         (λ _. bodies findings rest (label + 1) c)
         (finished_takes (drawn_by e + 1) (length params) s t
         (after (expression findings e (result_want has_result) (inside c kept) t) (closing has_result))
@@ -605,7 +610,7 @@ module _ (findings : Findings) where
       each_contained (λ f. f.temps ≤ drawn_by e + 1 + 1) (translated findings e).functions
       (program_temps (drawn_by e + 1) s (program_body findings e s) refl refl
       (both (drawn_by e) 1 s (expression findings e want.Dropped outermost s) (closing false)
-          (takes e want.Dropped outermost s)
+      (takes e want.Dropped outermost s)
       (λ m t. closing_takes t false m))) f c
 
   pub temporaries_are_few : (e : Exp) (f : Function Ts) → Contains (translated findings e).functions f → f.temps ≤ 6 *

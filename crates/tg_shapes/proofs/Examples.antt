@@ -1,11 +1,10 @@
 -- Labels, strings and what the laws ask for, computed of small programs. Above each stands its text.
-use Rattle.std.proofs.Common.{◌≡◌, ℕ, List, [], ◌∷◌, Option, Some, None, Bool, true, false, refl, inl, inr, arith, map}
+use Rattle.std.proofs.Common.{◌≡◌, ℕ, List, [], ◌∷◌, None, false, refl, inl, inr, arith}
 use Rattle.std.specs.Prelude.{codes, nat_eq}
 use Rattle.std.specs.List.{list_any}
 use Rattle.tg_base.specs.declared.ids.Span.{Span}
 use Rattle.tg_symbols.specs.Tables.{named}
 use Rattle.tg_syntax.specs.declared.tokens.Ident.{Ident}
-use Rattle.tg_syntax.specs.declared.trees.Param.{Param}
 use Rattle.tg_syntax.specs.Tree.{Exp, Break, Int, Text, Read, Call, While, Let, Seq, Simple, no_exps, exp, no_decs, variable, functions, no_functions, function}
 use Rattle.tg_meaning.specs.declared.standards.Standard.TheVariants as standard
 use Rattle.tg_types.specs.declared.notes.Means.{Means}

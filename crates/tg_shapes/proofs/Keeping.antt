@@ -1,12 +1,12 @@
 -- What each action of the translation keeps of the state, and what is fine in the state that it gives.
-use Rattle.std.proofs.Common.{◌≡◌, ◌<◌, ◌≤◌, ◌+◌, ℕ, Bool, true, false, Option, Some, List, [], ◌∷◌, ◌++◌, map, refl, sym, ap, ◌∙◌, subst, inl, inr, arith}
+use Rattle.std.proofs.Common.{◌≡◌, ◌<◌, ◌≤◌, ◌+◌, ℕ, Bool, true, false, Some, List, [], ◌∷◌, map, refl, ◌∙◌, inl, inr, arith}
 use Rattle.std.specs.Prelude.{◌⊎◌, IsTrue}
 use Rattle.std.specs.List.{Contains}
 use Rattle.tg_symbols.specs.Tables.{named}
 use Rattle.tg_frame.specs.declared.accesses.Access.{Access}
 use Rattle.tg_frame.specs.declared.accesses.Access.TheVariants.{InTemp, InFrame}
 use Rattle.tg_frame.specs.Homes.{is_slot}
-use Rattle.tg_tree.specs.Tree.{Tx, Txs, Cond, Ts, Stms, Function, Literal}
+use Rattle.tg_tree.specs.Tree.{Tx, Txs, Cond, Ts, Stms, Function}
 use Rattle.tg_tree.specs.Named.{Named, function, literal, fault, temporary}
 use Rattle.tg_tree.specs.Shapes.{EndsFunction}
 use Rattle.tg_translate.specs.declared.homes.Home.{Home}

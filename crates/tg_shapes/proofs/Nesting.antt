@@ -1,24 +1,19 @@
 -- Functions: each has a frame of its own, and stands behind those that were done before it.
-use Rattle.std.proofs.Common.{◌≡◌, ◌≢◌, ◌<◌, ◌≤◌, ◌+◌, ℕ, zero, suc, Bool, true, false, Option, Some, None, List, [], ◌∷◌, ◌++◌, length, map, refl, sym, ap, ◌∙◌, subst, arith, inl, inr}
-use Rattle.std.specs.Prelude.{◌==◌, ◌⊎◌, if◌then◌else◌, IsTrue}
+use Rattle.std.proofs.Common.{◌≡◌, ◌<◌, ◌≤◌, ◌+◌, ℕ, zero, suc, Bool, true, false, List, [], ◌∷◌, ◌++◌, refl, sym, ap, ◌∙◌, arith}
 use Rattle.std.specs.List.{Contains}
 use Rattle.std.proofs.lemmas.List.Elements.{Contains-append_left, Contains-append_right}
 use Rattle.tg_symbols.specs.Tables.{named}
-use Rattle.tg_syntax.specs.declared.tokens.Ident.{Ident}
 use Rattle.tg_syntax.specs.declared.trees.Param.{Param}
 use Rattle.tg_syntax.specs.Tree.{FunDecs, no_functions, function}
 use Rattle.tg_frame.specs.Homes.{temps_of}
-use Rattle.tg_tree.specs.Tree.{Tx, Const, Ts, Return, Seq, Stms, no_stms, stm, Function}
+use Rattle.tg_tree.specs.Tree.{Ts, Return, Function}
 use Rattle.tg_tree.specs.Shapes.{EndsFunction}
-use Rattle.tg_translate.specs.declared.homes.Home.{Home}
-use Rattle.tg_translate.specs.declared.homes.Callee.{Callee}
 use Rattle.tg_translate.specs.declared.homes.Within.{Within}
 use Rattle.tg_translate.specs.declared.wants.Want.{Want}
-use Rattle.tg_translate.specs.declared.wants.Want.TheVariants as want
-use Rattle.tg_translate.specs.States.{State, Frame, Acts, Drawn, drawn, after, give, with_frame}
-use Rattle.tg_translate.specs.Wants.{Made, value_of, dropped}
+use Rattle.tg_translate.specs.States.{State, Acts, Drawn, drawn, after, give}
+use Rattle.tg_translate.specs.Wants.{Made, value_of}
 use Rattle.tg_translate.specs.Scopes.{Findings}
-use Rattle.tg_translate.specs.Functions.{at_of, asked, parameters, own_homes, frame_for, declare_params, declare_functions, with_body, finished, finish, opened, in_frame, result_want, inside, gives_nothing, closing, body_in, body}
+use Rattle.tg_translate.specs.Functions.{at_of, asked, parameters, own_homes, frame_for, declare_functions, with_body, finished, finish, opened, result_want, inside, gives_nothing, closing, body}
 use Rattle.tg_shapes.specs.Standing.{AreApart, params_of}
 use Rattle.tg_shapes.proofs.Fine.{Each}
 use Rattle.tg_shapes.proofs.Counts.{times, times-append, same, below, below-next}

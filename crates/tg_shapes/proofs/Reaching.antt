@@ -17,14 +17,13 @@ use Rattle.tg_types.specs.declared.notes.Note.{Note}
 use Rattle.tg_types.specs.declared.notes.Means.{Means}
 use Rattle.tg_types.specs.declared.notes.Means.TheVariants as means
 use Rattle.tg_types.specs.Types.{Ty, int_type, string_type, none_type, record_type, array_type, Shape}
-use Rattle.tg_types.specs.Scopes.{Signature, Binding, variable_at, function_at, standard_one, Scope, in_a_loop, in_no_loop, binding, name_of, at_of}
+use Rattle.tg_types.specs.Scopes.{Signature, Binding, variable_at, function_at, Scope, in_a_loop, in_no_loop, binding, name_of, at_of}
 use Rattle.tg_types.specs.Groups.{with_functions, with_params}
 use Rattle.tg_types.specs.Has as Has
 use Rattle.tg_translate.specs.Scopes.{Findings}
 use Rattle.tg_shapes.specs.Standing.{params_of, owned_by, AreApart, IsInReach, Reaches, ReachesPlace, ReachesExps, ReachesInits, ReachesDecs, ReachesBodies}
 use Rattle.tg_shapes.proofs.Fine.{Each}
-use Rattle.tg_shapes.proofs.Scoping.{named_cases, named_other, more_contained, first_contained, behind_first}
-use Rattle.tg_shapes.proofs.Declaring.{owned_more}
+use Rattle.tg_shapes.proofs.Scoping.{named_cases, named_other, more_contained, first_contained}
 
 -- Beginnings stand behind those before them, and differ.
 

@@ -1,28 +1,27 @@
 -- Variables, calls and literals are fine, and what is declared is.
-use Rattle.std.proofs.Common.{◌≡◌, ◌≢◌, ◌<◌, ◌≤◌, ◌+◌, ◌-◌, ℕ, zero, suc, Bool, true, false, Option, Some, None, List, [], ◌∷◌, ◌++◌, length, map, refl, sym, ap, ◌∙◌, subst, arith, inl, inr}
+use Rattle.std.proofs.Common.{◌≡◌, ◌≢◌, ◌+◌, ◌-◌, ℕ, zero, suc, Bool, true, false, Option, Some, None, List, [], ◌∷◌, ◌++◌, map, refl, ap, subst, arith, inl, inr}
 use Rattle.std.specs.Prelude.{◌==◌, ◌⊎◌, if◌then◌else◌, IsTrue}
 use Rattle.std.specs.List.{Contains}
 use Rattle.std.proofs.lemmas.Bool.Decides.{nat_tests}
 use Rattle.tg_symbols.specs.Tables.{named}
 use Rattle.tg_frame.specs.declared.accesses.Access.{Access}
 use Rattle.tg_frame.specs.declared.accesses.Access.TheVariants.{InTemp, InFrame}
-use Rattle.tg_frame.specs.Homes.{is_slot, next_home}
-use Rattle.tg_tree.specs.Tree.{Tx, Const, Address, Call, Txs, no_txs, tx, Ts, Stms, no_stms, Literal}
+use Rattle.tg_frame.specs.Homes.{is_slot}
+use Rattle.tg_tree.specs.Tree.{Tx, Txs}
 use Rattle.tg_types.specs.declared.notes.Means.{Means}
 use Rattle.tg_types.specs.declared.notes.Means.TheVariants as means
 use Rattle.tg_translate.specs.declared.homes.Home.{Home}
 use Rattle.tg_translate.specs.declared.homes.Callee.{Callee}
-use Rattle.tg_translate.specs.declared.homes.Within.{Within}
-use Rattle.tg_translate.specs.States.{State, Acts, Drawn, drawn, after, give, with_frame, one_temp, one_slot}
-use Rattle.tg_translate.specs.Wants.{Made, value}
-use Rattle.tg_translate.specs.Constructs.{Place, in_temp, at_address, string_text}
-use Rattle.tg_translate.specs.Scopes.{Findings, frame_at, nowhere, no_value, home_place, variable_place, routine_of, call_declared, call, literal, declare_variable}
-use Rattle.tg_shapes.specs.Standing.{IsInReach, AreApart}
-use Rattle.tg_shapes.proofs.Counts.{times, times-append, same, same_not, below, below-next, contained_counts, counted_contains}
+use Rattle.tg_translate.specs.States.{State, Drawn}
+use Rattle.tg_translate.specs.Wants.{Made}
+use Rattle.tg_translate.specs.Constructs.{Place, string_text}
+use Rattle.tg_translate.specs.Scopes.{Findings, frame_at, nowhere, no_value, home_place, variable_place, routine_of, call_declared, call, literal}
+use Rattle.tg_shapes.specs.Standing.{IsInReach}
+use Rattle.tg_shapes.proofs.Counts.{times-append, same, same_not, below-next, contained_counts, counted_contains}
 use Rattle.tg_translate.specs.Constructs as constructs
 use Rattle.tg_shapes.proofs.Counts as counts
 use Rattle.tg_shapes.proofs.Keeping as keeping
-use Rattle.tg_shapes.proofs.Keeping.{Where, callee_labels, literal_labels, stands}
+use Rattle.tg_shapes.proofs.Keeping.{Where, callee_labels, literal_labels}
 use Rattle.tg_shapes.proofs.Constructing as constructing
 
 -- What has a name in a table.

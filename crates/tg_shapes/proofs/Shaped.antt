@@ -1,25 +1,25 @@
 -- What the walk says of a whole program.
-use Rattle.std.proofs.Common.{◌≡◌, ◌≢◌, ◌<◌, ◌≤◌, ◌+◌, ℕ, zero, suc, Bool, true, false, List, [], ◌∷◌, ◌++◌, length, map, refl, sym, ap, ◌∙◌, subst, arith, inl, inr}
-use Rattle.std.specs.Prelude.{◌⊎◌, IsTrue}
-use Rattle.std.specs.List.{Contains, AllPairs}
+use Rattle.std.proofs.Common.{◌≡◌, ◌≢◌, ◌<◌, ◌≤◌, ◌+◌, ℕ, false, List, [], ◌∷◌, ◌++◌, map, refl, sym, ap, ◌∙◌, subst, arith, inl, inr}
+use Rattle.std.specs.Prelude.{◌⊎◌}
+use Rattle.std.specs.List.{Contains}
 use Rattle.std.proofs.lemmas.Bool.{cases_lt}
 use Rattle.std.proofs.lemmas.List.{map-append}
-use Rattle.std.proofs.lemmas.List.Elements.{Contains-append_left, Contains-append_right, Contains-append_cases}
+use Rattle.std.proofs.lemmas.List.Elements.{Contains-append_left, Contains-append_cases}
 use Rattle.tg_syntax.specs.Tree.{Exp}
-use Rattle.tg_tree.specs.Tree.{Ts, Function, Literal, Code}
-use Rattle.tg_tree.specs.Named.{Named, function, literal, fault, temporary, named_ts, function_labels, literal_labels, HasItsTemps, IsLinked}
+use Rattle.tg_tree.specs.Tree.{Ts, Function, Code}
+use Rattle.tg_tree.specs.Named.{Named, function, literal, fault, temporary, function_labels, literal_labels, HasItsTemps, IsLinked}
 use Rattle.tg_tree.specs.Shapes.{IsClosed}
 use Rattle.tg_translate.specs.declared.wants.Want.TheVariants as want
 use Rattle.tg_translate.specs.States.{State, Drawn, drawn}
 use Rattle.tg_translate.specs.Scopes.{Findings}
-use Rattle.tg_translate.specs.Functions.{with_body, beginning, frame_for, outermost, program_of, program, closing}
+use Rattle.tg_translate.specs.Functions.{with_body, beginning, frame_for, outermost, program, closing}
 use Rattle.tg_translate.specs.Translate.{expression, program_body, translated}
 use Rattle.tg_shapes.specs.Laws.{names}
 use Rattle.tg_shapes.specs.Standing.{BreaksStand, Reaches}
 use Rattle.tg_shapes.proofs.Fine.{Each, breaks_ts, names_ts, each_contained}
-use Rattle.tg_shapes.proofs.Counts.{times, times-append, times-map, same, same_self, same_not, below, below-next, below_yes, below_no, below_one, once_apart, contained_counts, counted_contains}
+use Rattle.tg_shapes.proofs.Counts.{times, times-append, times-map, same, same_self, below, below-next, below_yes, below_no, below_one, once_apart, contained_counts, counted_contains}
 use Rattle.tg_shapes.proofs.Keeping as keeping
-use Rattle.tg_shapes.proofs.Keeping.{Where, stands, callee_labels}
+use Rattle.tg_shapes.proofs.Keeping.{Where, callee_labels}
 use Rattle.tg_shapes.proofs.Nesting as nesting
 use Rattle.tg_shapes.proofs.Walking.{walked}
 

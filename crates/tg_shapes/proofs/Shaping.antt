@@ -1,6 +1,6 @@
 -- The laws of the shapes of trees.
 use Rattle.std.proofs.Common.{◌≡◌, ◌≢◌, ◌<◌, ℕ, zero, suc, Bool, true, false, Option, Some, None, List, [], ◌∷◌, ◌++◌, length, map, refl, sym, ap, ◌∙◌, subst, arith, inl, inr, ◌+◌, length-append}
-use Rattle.std.specs.Prelude.{◌&&◌, ◌||◌, IsTrue, nat_lt, nat_eq}
+use Rattle.std.specs.Prelude.{◌&&◌, ◌||◌, nat_lt, nat_eq}
 use Rattle.std.specs.Int.{to_le_bytes, w32}
 use Rattle.std.specs.List.{Contains, list_all, list_any, flat_map, sum_by}
 use Rattle.std.specs.FinSet.{FinSet, contains, from_list, contains-from_list_nat}
@@ -11,7 +11,7 @@ use Rattle.std.proofs.lemmas.List.Sums.{sum_by-append}
 use Rattle.tg_syntax.specs.Plain.{plain}
 use Rattle.tg_syntax.specs.Beginnings.{beginnings}
 use Rattle.tg_tree.specs.Tree.{Ts, Function}
-use Rattle.tg_tree.specs.Named.{Named, function, literal, fault, temporary, named_ts}
+use Rattle.tg_tree.specs.Named.{Named, function, literal, fault, temporary}
 use Rattle.tg_escape.specs.Uses.{Use, uses_of}
 use Rattle.tg_escape.specs.Escaping.{escapes_by, escapes_of}
 use Rattle.tg_meaning.specs.declared.standards.Standard.{Standard}
@@ -20,7 +20,7 @@ use Rattle.tg_symbols.specs.Tables.{named}
 use Rattle.tg_types.specs.Types.{Ty}
 use Rattle.tg_types.specs.Laws.{CheckedHasType, NotesAreFound}
 use Rattle.tg_types.specs.Scopes.{Binding, variable_at, standard_one, standard_of, standard_bindings, entry, outermost}
-use Rattle.tg_runtime.specs.Laws.{IsRoutine, AreRoutines, is_own, LabelsInOrder, AllAreRoutines}
+use Rattle.tg_runtime.specs.Laws.{AreRoutines, is_own, LabelsInOrder, AllAreRoutines}
 use Rattle.tg_runtime.specs.Routines.{runtime}
 use Rattle.tg_translate.specs.Constructs.{string_text}
 use Rattle.tg_translate.specs.Scopes.{found}

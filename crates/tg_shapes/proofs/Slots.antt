@@ -1,5 +1,5 @@
 -- The slots that a translation takes are at most the variables of the text that escape, and one more in each frame.
-use Rattle.std.proofs.Common.{◌≡◌, ◌≤◌, ◌+◌, ℕ, suc, zero, Bool, true, false, Option, Some, None, List, [], ◌∷◌, ◌++◌, length, map, refl, sym, ap, ◌∙◌, subst, arith}
+use Rattle.std.proofs.Common.{◌≡◌, ◌≤◌, ◌+◌, ℕ, Bool, true, false, Option, Some, None, List, [], ◌∷◌, ◌++◌, map, refl, sym, ◌∙◌, subst, arith}
 use Rattle.std.specs.Prelude.{is_some, ◌==◌, ◌||◌, if◌then◌else◌}
 use Rattle.std.specs.List.{Contains}
 use Rattle.tg_frame.specs.Homes.{slots_of}
@@ -20,12 +20,12 @@ use Rattle.tg_translate.specs.declared.wants.Want.TheVariants as want
 use Rattle.tg_translate.specs.declared.homes.Within.{Within}
 use Rattle.tg_translate.specs.States.{State, Acts, Drawn, drawn, after, give, fresh}
 use Rattle.tg_translate.specs.Wants.{Made, value, done, test, value_of, test_of, dropped, as_statement, arms, deliver, followed, value_behind, behind_some, behind}
-use Rattle.tg_translate.specs.Constructs.{Place, in_temp, at_address, Held, hold, HeldAll, none_held, hold_next, own_place, read, store_at, want_for, assign, field_of, field_place, operand, element_of, element_place, record_of, make_record, make_array, product_of, product, quotient_of, checked_quotient, quotient, operation, comparison, minus_one, negation, repeat_while, in_body, in_test, count_of, count}
+use Rattle.tg_translate.specs.Constructs.{Place, in_temp, at_address, Held, hold, HeldAll, none_held, hold_next, own_place, read, store_at, want_for, assign, field_of, field_place, operand, element_of, element_place, make_record, make_array, product_of, quotient_of, checked_quotient, quotient, operation, minus_one, negation, repeat_while, in_body, in_test, count_of, count}
 use Rattle.tg_translate.specs.Choices.{left_want, tested, chosen}
 use Rattle.tg_translate.specs.Scopes.{Findings, variable_place, field_number, compares_strings, call, literal, declare_variable}
 use Rattle.tg_translate.specs.Purity.{assigns_nothing, inits_assign_nothing}
-use Rattle.tg_translate.specs.Functions.{at_of, asked, frame_for, opened, parameters, own_homes, declare_functions, finish, with_body, inside, result_want, gives_nothing, closing, body, outermost, beginning, program}
-use Rattle.tg_translate.specs.Translate.{connective, with_left, Begun, declaration_of, expression, locate, values, fields, sequence, declarations, bodies, program_body, translated}
+use Rattle.tg_translate.specs.Functions.{at_of, asked, frame_for, opened, parameters, own_homes, declare_functions, finish, with_body, inside, result_want, closing, body, outermost, beginning, program}
+use Rattle.tg_translate.specs.Translate.{connective, with_left, declaration_of, expression, locate, values, fields, sequence, declarations, bodies, program_body, translated}
 use Rattle.tg_shapes.specs.Escaped.{one_of, params_escaping, escaping, place_escaping, exps_escaping, inits_escaping, decs_escaping, bodies_escaping}
 use Rattle.tg_shapes.proofs.Fine.{Each, each_contained}
 

@@ -1,30 +1,26 @@
 -- The walk over a program's text: each part is translated to what is fine, and keeps what stands.
-use Rattle.std.proofs.Common.{◌≡◌, ◌<◌, ◌≤◌, ◌+◌, ℕ, Bool, true, false, Option, Some, None, List, [], ◌∷◌, ◌++◌, refl}
-use Rattle.std.specs.Prelude.{is_some, IsTrue}
-use Rattle.std.specs.List.{Contains}
-use Rattle.tg_syntax.specs.declared.tokens.Ident.{Ident}
+use Rattle.std.proofs.Common.{◌+◌, ℕ, Bool, Option, List, [], ◌∷◌, ◌++◌, refl}
+use Rattle.std.specs.Prelude.{is_some}
 use Rattle.tg_syntax.specs.declared.trees.Op.{Op}
 use Rattle.tg_syntax.specs.declared.trees.Op.TheVariants.{And, Or}
 use Rattle.tg_syntax.specs.Tree as source
 use Rattle.tg_syntax.specs.Tree.{Exp, Nil, Break, Int, Text, Read, Call, Neg, Binary, Make, Fill, Assign, If, When, While, For, Let, Seq, Simple, Field, Index, Exps, no_exps, exp, Inits, no_inits, init, Decs, no_decs, types, variable, functions, FunDecs, no_functions, function}
 use Rattle.tg_tree.specs.Tree as tree
-use Rattle.tg_tree.specs.Tree.{Tx, Const, Txs, no_txs, tx, Cond, Both, Either, Ts, Stms, no_stms}
+use Rattle.tg_tree.specs.Tree.{Tx, Const, Txs, no_txs, tx, Cond, Ts, Stms, no_stms}
 use Rattle.tg_tree.specs.Forms.{nothing}
 use Rattle.tg_tree.specs.Lists.{join_txs}
-use Rattle.tg_frame.specs.declared.accesses.Access.{Access}
 use Rattle.tg_types.specs.declared.notes.Means.{Means}
 use Rattle.tg_translate.specs.declared.wants.Want.{Want}
 use Rattle.tg_translate.specs.declared.wants.Want.TheVariants as want
-use Rattle.tg_translate.specs.declared.homes.Within.{Within}
-use Rattle.tg_translate.specs.States.{State, Acts, Drawn, drawn, after, give}
-use Rattle.tg_translate.specs.Wants.{Made, value, done, test, test_of, value_of, dropped, as_statement, arms, deliver, followed, behind, value_from}
+use Rattle.tg_translate.specs.States.{State, Acts, Drawn, after, give}
+use Rattle.tg_translate.specs.Wants.{Made, value, done, test_of, value_of, dropped, as_statement, arms, deliver, followed, behind}
 use Rattle.tg_translate.specs.Constructs.{Place, HeldAll, none_held, hold_next, own_place, read, want_for, assign, field_place, element_place, make_record, make_array, operation, negation, repeat_while, in_body, in_test, count}
 use Rattle.tg_translate.specs.Choices.{left_want, connected, tested, chosen}
-use Rattle.tg_translate.specs.Scopes.{Findings, variable_place, field_number, compares_strings, call, declare_variable}
+use Rattle.tg_translate.specs.Scopes.{Findings, field_number, compares_strings, call, declare_variable}
 use Rattle.tg_translate.specs.Purity.{assigns_nothing, inits_assign_nothing}
 use Rattle.tg_translate.specs.Functions.{at_of, declare_functions, body}
 use Rattle.tg_translate.specs.Translate.{connective, with_left, Begun, declaration_of, expression, locate, values, fields, sequence, declarations, bodies}
-use Rattle.tg_shapes.specs.Standing.{BreaksStand, BreaksStandPlace, BreaksStandExps, BreaksStandInits, BreaksStandDecs, BreaksStandBodies, params_of, owned_by, AreApart, Reaches, ReachesPlace, ReachesExps, ReachesInits, ReachesDecs, ReachesBodies}
+use Rattle.tg_shapes.specs.Standing.{BreaksStand, BreaksStandPlace, BreaksStandExps, BreaksStandInits, BreaksStandDecs, BreaksStandBodies, owned_by, AreApart, Reaches, ReachesPlace, ReachesExps, ReachesInits, ReachesDecs, ReachesBodies}
 use Rattle.tg_shapes.proofs.Fine.{join_fine_txs}
 use Rattle.tg_shapes.proofs.Keeping as keeping
 use Rattle.tg_shapes.proofs.Keeping.{Where}

@@ -1,12 +1,11 @@
 -- What is made what its place wants is fine, where what it is made of is.
-use Rattle.std.proofs.Common.{◌≡◌, ◌<◌, ◌≤◌, ◌+◌, ℕ, Bool, true, false, List, [], ◌∷◌, ◌++◌, refl, arith}
-use Rattle.tg_tree.specs.Tree.{Tx, Const, Address, Temp, FrameAddress, Binary, Load, LoadByte, Call, Service, After, Txs, no_txs, tx, Cond, Compare, Not, Both, Either, Ts, Move, Store, Do, If, Loop, Break, Seq, Stms, no_stms, stm}
-use Rattle.tg_tree.specs.Lists.{join_stms}
+use Rattle.std.proofs.Common.{◌<◌, ℕ, Bool}
+use Rattle.tg_tree.specs.Tree.{Tx, Const, Temp, After, Cond, Ts, Stms, no_stms, stm}
 use Rattle.tg_translate.specs.declared.wants.Want.{Want}
 use Rattle.tg_translate.specs.declared.wants.Want.TheVariants as want
-use Rattle.tg_translate.specs.States.{State, Acts, Drawn, drawn, after, give, fresh}
-use Rattle.tg_translate.specs.Wants.{Made, value, done, test, truth_into, value_of, put_in, dropped, test_of, arms, as_statement, taken_from, deliver, followed, value_behind, done_behind, behind_some, behind, value_from, condition_from, arm_from, statement_from}
-use Rattle.tg_shapes.proofs.Fine.{Each, FineTs, FineStms, FineTx, FineTxs, FineCond, join_fine_stms}
+use Rattle.tg_translate.specs.States.{State, Drawn, after, give, fresh}
+use Rattle.tg_translate.specs.Wants.{Made, value, done, test, truth_into, value_of, put_in, dropped, test_of, arms, as_statement, taken_from, deliver, followed, value_behind, done_behind, behind_some, behind}
+use Rattle.tg_shapes.proofs.Fine.{join_fine_stms}
 use Rattle.tg_shapes.proofs.Keeping as keeping
 use Rattle.tg_shapes.proofs.Keeping.{Where}
 
