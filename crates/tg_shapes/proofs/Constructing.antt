@@ -5,7 +5,7 @@ use Rattle.tg_frame.specs.declared.accesses.Access.{Access}
 use Rattle.tg_frame.specs.declared.accesses.Access.TheVariants.{InTemp, InFrame}
 use Rattle.tg_syntax.specs.declared.trees.Op.{Op}
 use Rattle.tg_syntax.specs.declared.trees.Op.TheVariants as op
-use Rattle.tg_tree.specs.Tree.{Tx, Const, Temp, FrameAddress, Binary, Load, Txs, Cond, Compare, Not, Ts, Move, Store, Stms, no_stms, stm}
+use Rattle.tg_tree.specs.Tree.{Tx, Const, Temp, FrameAddress, Binary, Load, Txs, Cond, Compare, Ts, Move, Store, Stms, no_stms, stm}
 use Rattle.tg_base.specs.Words.{sub}
 use Rattle.tg_tree.specs.Named as name
 use Rattle.tg_tree.specs.Forms.{when}
