@@ -12,13 +12,13 @@ pub record Grows {A : Type 0} (m : Draws A) : Type 0 where
 stays_at : {A : Type 0} (a : A) → Grows (give a)
 stays_at a = record { at = λ k. omega arith }
 
-two : (k l n : ℕ) → k ≤ l → l ≤ n → k ≤ n
+pub two : (k l n : ℕ) → k ≤ l → l ≤ n → k ≤ n
 two k l n g h = omega arith
 
-next : {A B : Type 0} (m : Draws A) (f : A → Draws B) → Grows m → ((a : A) → Grows (f a)) → Grows (m >>= f)
+pub next : {A B : Type 0} (m : Draws A) (f : A → Draws B) → Grows m → ((a : A) → Grows (f a)) → Grows (m >>= f)
 next m f g h = record { at = λ k. two k (m k).next (f (m k).it (m k).next).next (g.at k) ((h (m k).it).at (m k).next) }
 
-made : {A B : Type 0} (m : Draws A) (f : A → B) → Grows m → Grows (m >>= (λ a. give (f a)))
+pub made : {A B : Type 0} (m : Draws A) (f : A → B) → Grows m → Grows (m >>= (λ a. give (f a)))
 made m f g = record { at = g.at }
 
 fresh_grows : Grows fresh
@@ -27,11 +27,11 @@ fresh_grows = record { at = λ k. omega arith }
 hold_grows : (x : Tx) → Grows (hold x)
 hold_grows x = record { at = λ k. omega arith }
 
-hold_side_grows : (b : Bool) (a : Lifted) → Grows (hold_side b a)
+pub hold_side_grows : (b : Bool) (a : Lifted) → Grows (hold_side b a)
 hold_side_grows true a = made (hold a.rest) (behind a.front) (hold_grows a.rest)
 hold_side_grows false a = stays_at a
 
-word_grows : (m : Draws Lifted) → Grows m → Grows (word m)
+pub word_grows : (m : Draws Lifted) → Grows m → Grows (word m)
 word_grows m g = next m (λ a. hold_side (is_side a.rest) a) g (λ a. hold_side_grows (is_side a.rest) a)
 
 hold_unless_grows : (b : Bool) (x : Tx) → Grows (hold_unless b x)
@@ -58,11 +58,11 @@ hold_before_grows : (b : Bool) (p : Part) (a : Lifted) → Grows (hold_before b 
 hold_before_grows true p a = stays_at a
 hold_before_grows false p a = made (hold_for p a.rest) (behind a.front) (hold_for_grows p a.rest)
 
-side_by_side_grows : (a b : Lifted) → Grows (side_by_side a b)
+pub side_by_side_grows : (a b : Lifted) → Grows (side_by_side a b)
 side_by_side_grows a b =
     made (in_front_of b.front a) (λ h. record { front = h.front before b.front; left = h.rest; right = b.rest }) (hold_before_grows (is_nothing b.front.statement) b.front a)
 
-argument_grows : (a : Lifted) (all : Arguments) → Grows (argument a all)
+pub argument_grows : (a : Lifted) (all : Arguments) → Grows (argument a all)
 argument_grows a all =
     made (in_front_of all.front a) (λ h. record { front = h.front before all.front; rest = tx h.rest all.rest }) (hold_before_grows (is_nothing all.front.statement) all.front a)
 
@@ -70,7 +70,7 @@ operands_grow : (m n : Draws Lifted) → Grows m → Grows n → Grows (word n >
 operands_grow m n g h =
     next (word n) (λ b. word m >>= λ a. side_by_side a b) (word_grows n h) (λ b. next (word m) (λ a. side_by_side a b) (word_grows m g) (λ a. side_by_side_grows a b))
 
-in_turn_grow : {A B C : Type 0} (m : Draws A) (n : Draws B) (f : A → B → C) → Grows m → Grows n → Grows (m >>= λ a. n >>= λ b. give (f a b))
+pub in_turn_grow : {A B C : Type 0} (m : Draws A) (n : Draws B) (f : A → B → C) → Grows m → Grows n → Grows (m >>= λ a. n >>= λ b. give (f a b))
 in_turn_grow m n f g h = next m (λ a. n >>= λ b. give (f a b)) g (λ a. made n (f a) h)
 
 three_grow : {A B C D : Type 0} (m : Draws A) (n : Draws B) (o : Draws C) (f : A → B → C → D) → Grows m → Grows n → Grows o → Grows (m >>= λ a. n >>= λ b. o >>= λ c. give (f a b c))
@@ -81,7 +81,7 @@ choose_grows true m n g h = g
 choose_grows false m n g h = h
 
 mutual
-  lift_grows : (out : ℕ → ℕ) (x : Tx) → Grows (lift out x)
+  pub lift_grows : (out : ℕ → ℕ) (x : Tx) → Grows (lift out x)
   lift_grows out (Const n) = stays_at (whole (Const n))
   lift_grows out (Address n) = stays_at (whole (Address n))
   lift_grows out (Temp i) = stays_at (whole (Temp i))
@@ -93,19 +93,19 @@ mutual
   lift_grows out (Service n x) = made (word (lift out x)) (over (Service n)) (word_grows (lift out x) (lift_grows out x))
   lift_grows out (After s x) = in_turn_grow (lift out x) (linear out s) (λ a p. behind p a) (lift_grows out x) (linear_grows out s)
 
-  lift_all_grows : (out : ℕ → ℕ) (xs : Txs) → Grows (lift_all out xs)
+  pub lift_all_grows : (out : ℕ → ℕ) (xs : Txs) → Grows (lift_all out xs)
   lift_all_grows out no_txs = stays_at no_arguments
   lift_all_grows out (tx x xs) =
       next (lift_all out xs) (λ all. word (lift out x) >>= λ a. argument a all) (lift_all_grows out xs)
       (λ all. next (word (lift out x)) (λ a. argument a all) (word_grows (lift out x) (lift_grows out x)) (λ a. argument_grows a all))
 
-  condition_grows : (out : ℕ → ℕ) (c : Cond) → Grows (condition out c)
+  pub condition_grows : (out : ℕ → ℕ) (c : Cond) → Grows (condition out c)
   condition_grows out (Compare rel x y) = made (operands out x y) (compared (Compare rel)) (operands_grow (lift out x) (lift out y) (lift_grows out x) (lift_grows out y))
   condition_grows out (Not c) = made (condition out c) opposite (condition_grows out c)
   condition_grows out (Both c d) = in_turn_grow (condition out d) (condition out c) (λ u t. joined Both t u) (condition_grows out d) (condition_grows out c)
   condition_grows out (Either c d) = in_turn_grow (condition out d) (condition out c) (λ u t. joined Either t u) (condition_grows out d) (condition_grows out c)
 
-  leave_grows : (out : ℕ → ℕ) (w : Bool) (n : ℕ) (c : Cond) → Grows (leave out w n c)
+  pub leave_grows : (out : ℕ → ℕ) (w : Bool) (n : ℕ) (c : Cond) → Grows (leave out w n c)
   leave_grows out w n (Compare rel x y) =
       made (operands out x y) (λ ab. exit_where w n (compared (Compare rel) ab)) (operands_grow (lift out x) (lift out y) (lift_grows out x) (lift_grows out y))
   leave_grows out w n (Not c) = leave_grows out (not w) n c
@@ -118,7 +118,7 @@ mutual
       in_turn_grow (leave (deeper 1 out) false (n + 1) d) (leave (deeper 1 out) true 0 c) (λ q p. block (p before q)) (leave_grows (deeper 1 out) false (n + 1) d)
       (leave_grows (deeper 1 out) true 0 c)
 
-  linear_grows : (out : ℕ → ℕ) (s : Ts) → Grows (linear out s)
+  pub linear_grows : (out : ℕ → ℕ) (s : Ts) → Grows (linear out s)
   linear_grows out (Move i x) = made (lift out x) (with_one (λ v. assigning i (Move i v))) (lift_grows out x)
   linear_grows out (Store x y) = made (operands out x y) (with_two Store) (operands_grow (lift out x) (lift out y) (lift_grows out x) (lift_grows out y))
   linear_grows out (StoreByte x y) = made (operands out x y) (with_two StoreByte) (operands_grow (lift out x) (lift out y) (lift_grows out x) (lift_grows out y))
@@ -135,9 +135,12 @@ mutual
   linear_grows out (Seq ss) = made (linear_all out ss) in_turn (linear_all_grows out ss)
   linear_grows out (Return x) = made (word (lift out x)) (with_one (λ v. still (Return v))) (word_grows (lift out x) (lift_grows out x))
 
-  linear_all_grows : (out : ℕ → ℕ) (ss : Stms) → Grows (linear_all out ss)
+  pub linear_all_grows : (out : ℕ → ℕ) (ss : Stms) → Grows (linear_all out ss)
   linear_all_grows out no_stms = stays_at no_parts
   linear_all_grows out (stm s ss) = in_turn_grow (linear_all out ss) (linear out s) (λ all p. in_front p all) (linear_all_grows out ss) (linear_grows out s)
 
 pub body_grows : (body : Ts) {k l : ℕ} {p : Part} → Gives (linear (λ k. k) body) k p l → k ≤ l
 body_grows body {k = k} g = subst (λ (d : Drawn Part). k ≤ d.next) g.is ((linear_grows (λ k. k) body).at k)
+
+pub linearized_grows : (body : Ts) (k : ℕ) → k ≤ (linearized body k).next
+linearized_grows body k = (linear_grows (λ i. i) body).at k

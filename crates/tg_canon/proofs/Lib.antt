@@ -9,3 +9,5 @@ pub mod Arms
 pub mod Walks
 pub mod Growing
 pub mod Cases
+pub mod Passing
+pub mod Naming

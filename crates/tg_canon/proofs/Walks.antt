@@ -1,5 +1,5 @@
 -- Lists of trees, walked from the right: what has come of those behind.
-use Rattle.std.proofs.Common.{◌≡◌, ℕ, List, [], ◌∷◌, ◌++◌, refl, sym, ap, ◌∙◌, append_assoc, subst}
+use Rattle.std.proofs.Common.{◌≡◌, ℕ, List, [], ◌∷◌, ◌++◌, refl, sym, ap, ◌∙◌, append_assoc, length, subst, arith}
 use Rattle.std.proofs.lemmas.List.{append-nil}
 use Rattle.tg_tree.specs.declared.trees.Tx.{Tx as CodeTx}
 use Rattle.tg_tree.specs.declared.trees.Ts.{Ts as CodeTs}
@@ -27,6 +27,10 @@ goes_on {left = left} x w e g = record {
   parts = w.parts ∙ (ap (λ xs. xs ++ w.done) e ∙ append_assoc left (x ∷ []) w.done);
   gives = g;
 }
+
+pub none_left : {Item : Type 0} (items : List Item) → length items ≡ 0 → items ≡ []
+none_left [] e = refl
+none_left (x ∷ xs) e = absurd (omega arith)
 
 -- all
 pub ends_with : {Item Tree All : Type 0} {of : List Item → Tree} {draw : Tree → Draws All} {whole left : List Item} {k l : ℕ} {all : All} → Walked of draw whole k left all l → left ≡ [] → Gives (draw (of whole)) k all l
