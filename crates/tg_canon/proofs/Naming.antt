@@ -65,7 +65,7 @@ module _ (allowed : Named → Bool) (from top : ℕ) (drawn : AllowsDrawn allowe
 
   hold_passes : (x : Tx) → TxPasses allowed x → Keeps LiftedPasses (hold x)
   hold_passes x h = record {
-    at = λ k low high. let it : Passes allowed (temporary k) = drawn k low (omega arith) in record { front = (it, h); rest = it };
+    at = λ k low high. let up : k + 1 ≤ top = high in let it : Passes allowed (temporary k) = drawn k low (omega arith) in record { front = (it, h); rest = it };
   }
 
   behind_passes : (p : Part) (a : Lifted) → TsPasses allowed p.statement → LiftedPasses a → LiftedPasses (behind p a)
