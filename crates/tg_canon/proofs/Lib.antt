@@ -5,3 +5,9 @@ pub mod Closings
 pub mod Steps
 pub mod Nothings
 pub mod Others
+pub mod Arms
+pub mod Walks
+pub mod Growing
+pub mod Cases
+pub mod Passing
+pub mod Naming

@@ -1,7 +1,9 @@
 -- What the pass promises of the statements that it gives.
-use Rattle.std.specs.Prelude.{ℕ}
+use Rattle.std.specs.Prelude.{◌<◌, ◌≤◌, ℕ, Bool, IsTrue, List, []}
+use Rattle.std.specs.List.{Contains}
 use Rattle.tg_tree.specs.Tree.{Ts}
 use Rattle.tg_tree.specs.Shapes.{AreCanonical, IsClosed, AreClosed}
+use Rattle.tg_tree.specs.Named.{Named, temporary, named_ts, named_stms}
 use Rattle.tg_canon.specs.Canon.{linearized}
 
 -- their expressions are flat, but for calls and services that are whole right sides
@@ -11,3 +13,37 @@ GivesCanonical = (body : Ts) (temps : ℕ) → AreCanonical (linearized body tem
 -- those of a closed body are closed
 abbrev pub GivesClosed : Type 0
 GivesClosed = (body : Ts) (temps : ℕ) → IsClosed body → AreClosed (linearized body temps).it
+
+-- the number of temporaries doesn't fall
+abbrev pub TempsGrow : Type 0
+TempsGrow = (body : Ts) (temps : ℕ) → temps ≤ (linearized body temps).next
+
+-- Tests of names: one that each of these passes, and one that the temporaries from a number up to
+-- another pass.
+abbrev pub AreAllowed : (allowed : Named → Bool) → List Named → Type 0
+AreAllowed allowed names = (x : Named) → Contains names x → IsTrue (allowed x)
+
+abbrev pub AllowsDrawn : (allowed : Named → Bool) → (before after : ℕ) → Type 0
+AllowsDrawn allowed before after =
+    (i : ℕ) → before ≤ i → i < after → IsTrue (allowed (temporary i))
+
+-- The statements name no function, literal, fault or temporary that the body doesn't name, but for
+-- the temporaries that are drawn: whatever test all these pass, their names pass.
+abbrev pub NamesStay : Type 0
+NamesStay =
+    (allowed : Named → Bool) (body : Ts) (temps : ℕ) →
+    AreAllowed allowed (named_ts body []) →
+    AllowsDrawn allowed temps (linearized body temps).next →
+    AreAllowed allowed (named_stms (linearized body temps).it [])
+
+-- each temporary among them is below a number
+abbrev pub AreTempsBelow : (temps : ℕ) → List Named → Type 0
+AreTempsBelow temps names = (i : ℕ) → Contains names (temporary i) → i < temps
+
+-- where those of the body are below the number that the first draw has, those of the statements are
+-- below the next one
+abbrev pub TempsStay : Type 0
+TempsStay =
+    (body : Ts) (temps : ℕ) →
+    AreTempsBelow temps (named_ts body []) →
+    AreTempsBelow (linearized body temps).next (named_stms (linearized body temps).it [])

@@ -1,4 +1,16 @@
-ghost use Rattle.std.specs.Prelude.{◌<◌, IfOk};
+ghost use Rattle.std.specs.Prelude.{◌≡◌, ◌<◌, IfOk};
+ghost use Rattle.tg_tree.specs.Plain.{plain_tx, plain_cond, plain_ts};
+ghost use Rattle.tg_tree.specs.Lists.{txs_of, stms_of};
+ghost use Rattle.tg_canon.specs.Canon as canon;
+ghost use Rattle.tg_canon.specs.Breaking.{leads};
+ghost use Rattle.tg_canon.specs.Drawing.{Gives};
+ghost use Rattle.tg_canon.specs.Views.{
+  plain_part,
+  plain_parts,
+  plain_lifted,
+  plain_arguments,
+  plain_tested,
+};
 
 use crate::breaks::{Breaks, more_loops, target};
 use crate::lifted::{
@@ -28,7 +40,10 @@ fn descend(height: u32) -> Result<u32, Memory>
 
 // What is lifted out of an expression, and what is left of it.
 #[cycle(canon)]
-fn lift(x: Tx, supply: &mut Supply, breaks: &Breaks, height: u32) -> Result<Lifted, Memory> {
+fn lift(x: Tx, supply: &mut Supply, breaks: &Breaks, height: u32) -> Result<Lifted, Memory>
+    ensures { IfOk result (λ a. Gives (canon.lift (leads breaks.now) (plain_tx x))
+        supply.old.next (plain_lifted a) supply.new.next) }
+{
     let lower = descend(height)?;
     match x {
         Tx::Const(n) => Ok(whole(supply.alloc, Tx::Const(n))),
@@ -67,7 +82,10 @@ fn lift(x: Tx, supply: &mut Supply, breaks: &Breaks, height: u32) -> Result<Lift
 
 // The same, as a word.
 #[cycle(canon)]
-fn lift_word(x: Tx, supply: &mut Supply, breaks: &Breaks, height: u32) -> Result<Lifted, Memory> {
+fn lift_word(x: Tx, supply: &mut Supply, breaks: &Breaks, height: u32) -> Result<Lifted, Memory>
+    ensures { IfOk result (λ a. Gives (canon.word (canon.lift (leads breaks.now) (plain_tx x)))
+        supply.old.next (plain_lifted a) supply.new.next) }
+{
     let lower = descend(height)?;
     let a = lift(x, supply, breaks, lower)?;
     Ok(word(supply, a)?)
@@ -80,7 +98,10 @@ fn lift_all(
     supply: &mut Supply,
     breaks: &Breaks,
     height: u32,
-) -> Result<Arguments, Memory> {
+) -> Result<Arguments, Memory>
+    ensures { IfOk result (λ all. Gives (canon.lift_all (leads breaks.now) (txs_of xs.items.items))
+        supply.old.next (plain_arguments all) supply.new.next) }
+{
     let lower = descend(height)?;
     let mut all = no_arguments(supply.alloc);
     while let Some(x) = xs.items.pop() {
@@ -97,7 +118,10 @@ fn condition(
     supply: &mut Supply,
     breaks: &Breaks,
     height: u32,
-) -> Result<Tested, Memory> {
+) -> Result<Tested, Memory>
+    ensures { IfOk result (λ t. Gives (canon.condition (leads breaks.now) (plain_cond test))
+        supply.old.next (plain_tested t) supply.new.next) }
+{
     let lower = descend(height)?;
     match test {
         Cond::Compare(rel, x, y) => {
@@ -132,7 +156,10 @@ fn leave(
     when: bool,
     loops: u32,
     height: u32,
-) -> Result<Part, Memory> {
+) -> Result<Part, Memory>
+    ensures { IfOk result (λ p. Gives (canon.leave (leads breaks.now) when loops (plain_cond test))
+        supply.old.next (plain_part p) supply.new.next) }
+{
     let lower = descend(height)?;
     match test {
         Cond::Compare(rel, x, y) => {
@@ -176,7 +203,10 @@ fn leave(
 
 // A statement in canonical form.
 #[cycle(canon)]
-fn linear(s: Ts, supply: &mut Supply, breaks: &Breaks, height: u32) -> Result<Part, Memory> {
+fn linear(s: Ts, supply: &mut Supply, breaks: &Breaks, height: u32) -> Result<Part, Memory>
+    ensures { IfOk result (λ p. Gives (canon.linear (leads breaks.now) (plain_ts s))
+        supply.old.next (plain_part p) supply.new.next) }
+{
     let lower = descend(height)?;
     match s {
         Ts::Move(temp, x) => {
@@ -244,7 +274,10 @@ fn linear_all(
     supply: &mut Supply,
     breaks: &Breaks,
     height: u32,
-) -> Result<Parts, Memory> {
+) -> Result<Parts, Memory>
+    ensures { IfOk result (λ all. Gives (canon.linear_all (leads breaks.now) (stms_of ss.items.items))
+        supply.old.next (plain_parts all) supply.new.next) }
+{
     let lower = descend(height)?;
     let mut all = Parts::new(supply.alloc);
     while let Some(s) = ss.items.pop() {
@@ -255,7 +288,10 @@ fn linear_all(
 }
 
 /// A body in canonical form: the statement that the pass makes of it.
-pub(crate) fn linear_body(body: Ts, supply: &mut Supply) -> Result<Part, Memory> {
+pub(crate) fn linear_body(body: Ts, supply: &mut Supply) -> Result<Part, Memory>
+    ensures { IfOk result (λ p. Gives (canon.linear (λ k. k) (plain_ts body))
+        supply.old.next (plain_part p) supply.new.next) }
+{
     let breaks = Breaks::Body;
     Ok(linear(body, supply, &breaks, MOST_NESTED)?)
 }

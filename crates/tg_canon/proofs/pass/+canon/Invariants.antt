@@ -1,5 +1,14 @@
 use Rattle.std.proofs.Common.{length}
+use Rattle.tg_canon.specs.Breaking.{leads}
+use Rattle.tg_canon.specs.Views.{plain_parts, plain_arguments}
+use Rattle.tg_canon.proofs.Walks.{StatementsWalked, ArgumentsWalked}
 use Rattle.tg_canon.proofs.pass.+canon.Given as goal
+
+abbrev pub invariant-lift_all-loop-x : goal.invariant-lift_all-loop-x
+invariant-lift_all-loop-x l = ArgumentsWalked (leads l.breaks) l.fn.xs.items.items l.fn.supply.next l.xs.items.items (plain_arguments l.all) l.supply.next
+
+abbrev pub invariant-linear_all-loop-s : goal.invariant-linear_all-loop-s
+invariant-linear_all-loop-s l = StatementsWalked (leads l.breaks) l.fn.ss.items.items l.fn.supply.next l.ss.items.items (plain_parts l.all) l.supply.next
 
 abbrev pub decreases-lift : goal.decreases-lift
 decreases-lift l = l.height
