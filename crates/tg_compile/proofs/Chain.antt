@@ -27,6 +27,8 @@ use Rattle.tg_instr.specs.declared.instr.Instr.{Instr}
 use Rattle.tg_munch.specs.Bodies.{munched, outs}
 use Rattle.tg_spill.specs.InFrame.{code_in_frame, homes_from}
 use Rattle.tg_spill.specs.declared.allocations.Allocation.{Allocation}
+use Rattle.tg_canon.specs.Drawing.{Drawn, Gives}
+use Rattle.tg_canon.specs.Canon.{linearized}
 use Rattle.tg_trace.specs.Block.{Block}
 use Rattle.tg_trace.specs.Cutting.{blocks_of}
 use Rattle.tg_trace.specs.Laying.{traced}
@@ -36,7 +38,7 @@ use Rattle.tg_image.specs.Programs.{IsProgram, AreTyped}
 use Rattle.tg_image.specs.Images.{program_written}
 use Rattle.tg_image.proofs.Soundness.{program_has_image}
 use Rattle.tg_compile.specs.declared.programs.Placement.{Placement}
-use Rattle.tg_compile.specs.Compiling.{with_runtime, fragments_of, FlattensTo, CompilesFunction, CompileFunctions, codes_of, HasImage, Compiles}
+use Rattle.tg_compile.specs.Compiling.{with_runtime, fragments_of, with_statements, flattened, chosen, CompilesFunction, CompileFunctions, codes_of, HasImage, Compiles}
 use Rattle.tg_compile.specs.Passes.{Chooses, allocation_of, CompileApart}
 
 -- a program's functions and literals, before the runtime is behind them
@@ -98,28 +100,43 @@ compiles_whole notes body functions literals codes ps all text tree apart joins 
     }
 
 -- canonical statements, blocks and traces give flat code
-pub flattens : (frame new : Frame) (body : Ts) (statements : Stms) (blocks : List Block) (flat : List Linear) → new.label ≡ frame.label →
-    new.params ≡ frame.params → new.slots ≡ frame.slots → blocks ≡ blocks_of statements → flat ≡ traced blocks →
-    FlattensTo (plain_function frame body) (plain_function new flat)
-flattens frame new body statements blocks flat label params slots cut laid =
-    record { statements = statements; label = ap (λ (l : Label). l.0) label; params = params; slots = slots; body = laid ∙ ap traced cut }
+pub flattens : (frame new : Frame) (body : Ts) (statements : Stms) (blocks : List Block) (flat : List Linear) → Gives (linearized body) frame.temps statements new.temps →
+    new.label ≡ frame.label → new.params ≡ frame.params → new.slots ≡ frame.slots → new.out ≡ frame.out → blocks ≡ blocks_of statements → flat ≡ traced blocks →
+    plain_function new flat ≡ flattened (plain_function frame body)
+unfolding flattened
+flattens frame new body statements blocks flat lifted label params slots out cut laid =
+    let one : Function (List Linear) = plain_function new flat in
+    let lines : flat ≡ traced (blocks_of statements) = laid ∙ ap traced cut in
+    let named : one ≡ with_statements (plain_function frame body) (record { it = statements; next = new.temps }) =
+    λ i. record { label = (label i).0; params = params i; slots = slots i; temps = new.temps; out = out i; body = lines i } in
+    named ∙ ap (λ (d : Drawn Stms). with_statements (plain_function frame body) d) (sym lifted.is)
+
+flat_label : (f : Function Ts) → (flattened f).label ≡ f.label
+unfolding flattened
+flat_label f = refl
+
+flat_params : (f : Function Ts) → (flattened f).params ≡ f.params
+unfolding flattened
+flat_params f = refl
+
+flat_slots : (f : Function Ts) → (flattened f).slots ≡ f.slots
+unfolding flattened
+flat_slots f = refl
 
 -- and the instructions that are chosen for it
-pub chooses : (f : Function Ts) (between new : Frame) (flat : List Linear) (code : Instructions) → FlattensTo f (plain_function between flat) →
+pub chooses : (f : Function Ts) (between new : Frame) (flat : List Linear) (code : Instructions) → plain_function between flat ≡ flattened f →
     new.label ≡ between.label → new.params ≡ between.params → new.slots ≡ between.slots → new.temps ≡ between.temps → new.out ≡ outs flat →
     code.list ≡ (munched (plain_function between flat)).code → code.temps ≡ (munched (plain_function between flat)).drawn.temp →
     Chooses f new code
-chooses f between new flat code flattened label params slots drawn out list temps =
+chooses f between new flat code is label params slots drawn out list temps =
     record {
-      flat = plain_function between flat;
-      flattens = flattened;
-      label = ap (λ (l : Label). l.0) label ∙ flattened.label;
-      params = params ∙ flattened.params;
-      slots = slots;
-      drawn = drawn;
-      out = out;
-      list = list;
-      temps = temps;
+      label = ap (λ (l : Label). l.0) label ∙ ap (λ (g : Function (List Linear)). g.label) is ∙ flat_label f;
+      params = params ∙ ap (λ (g : Function (List Linear)). g.params) is ∙ flat_params f;
+      slots = slots ∙ ap (λ (g : Function (List Linear)). g.slots) is ∙ flat_slots f;
+      drawn = drawn ∙ ap (λ (g : Function (List Linear)). g.temps) is;
+      out = out ∙ ap (λ (g : Function (List Linear)). outs g.body) is;
+      list = list ∙ ap (λ (g : Function (List Linear)). (munched g).code) is;
+      temps = temps ∙ ap (λ (g : Function (List Linear)). (munched g).drawn.temp) is;
     }
 
 -- and each of its temporaries gets a slot
@@ -129,17 +146,15 @@ pub compiles : (f : Function Ts) (frame : Frame) (code : Instructions) (a : Allo
     a.registers ≡ homes_from frame.slots code.temps → a.slots ≡ code.temps → IsTrue a.all_in_frame →
     CompilesFunction f a
 compiles f frame code a h label params slots temps out list homes added all =
-    let drawn : a.slots ≡ (munched h.flat).drawn.temp = added ∙ h.temps in
+    let drawn : a.slots ≡ (chosen f).drawn.temp = added ∙ h.temps in
     record {
-      flat = h.flat;
-      flattens = h.flattens;
       label = ap (λ (l : Label). l.0) label ∙ h.label;
       params = params ∙ h.params;
-      slots = slots ∙ ap (λ (n : ℕ). frame.slots + n) drawn ∙ ap (λ (n : ℕ). n + (munched h.flat).drawn.temp) h.slots;
+      slots = slots ∙ ap (λ (n : ℕ). frame.slots + n) drawn ∙ ap (λ (n : ℕ). n + (chosen f).drawn.temp) h.slots;
       temps = temps ∙ h.drawn;
       out = out ∙ h.out;
-      list = list ∙ ap (λ (n : ℕ). code_in_frame n code.list) h.slots ∙ ap (λ (l : List Instr). code_in_frame h.flat.slots l) h.list;
-      homes = homes ∙ ap (λ (n : ℕ). homes_from n code.temps) h.slots ∙ ap (λ (n : ℕ). homes_from h.flat.slots n) h.temps;
+      list = list ∙ ap (λ (n : ℕ). code_in_frame n code.list) h.slots ∙ ap (λ (l : List Instr). code_in_frame f.slots l) h.list;
+      homes = homes ∙ ap (λ (n : ℕ). homes_from n code.temps) h.slots ∙ ap (λ (n : ℕ). homes_from f.slots n) h.temps;
       added = drawn;
       all = all;
     }

@@ -11,10 +11,13 @@ use Rattle.tg_tree.specs.Plain.{plain_literal}
 use Rattle.tg_translate.specs.Scopes.{Findings, found}
 use Rattle.tg_translate.specs.Translate.{translated}
 use Rattle.tg_runtime.specs.Routines.{runtime}
+use Rattle.tg_canon.specs.Drawing.{Drawn}
+use Rattle.tg_canon.specs.Canon.{linearized}
 use Rattle.tg_trace.specs.Cutting.{blocks_of}
 use Rattle.tg_trace.specs.Laying.{traced}
 use Rattle.tg_isa.specs.Assembly.{Assembled, assembled}
 use Rattle.tg_instr.specs.declared.codes.Allocated.{Allocated}
+use Rattle.tg_munch.specs.Choosing.{Chosen}
 use Rattle.tg_munch.specs.Bodies.{munched, outs}
 use Rattle.tg_spill.specs.declared.allocations.Allocation.{Allocation}
 use Rattle.tg_spill.specs.InFrame.{code_in_frame, homes_from}
@@ -37,28 +40,35 @@ with_runtime program = record {
 abbrev pub fragments_of : List Note → Exp → Code Ts
 fragments_of notes program = with_runtime (translated (findings_of notes program) program)
 
--- Flat code of a function: canonical statements of it, cut into blocks that are laid in traces.
--- What the lifting of calls out of expressions makes of a body isn't said yet.
-pub record FlattensTo (f : Function Ts) (flat : Function (List Linear)) : Type 0 where
-  pub statements : Stms
-  pub label : flat.label ≡ f.label
-  pub params : flat.params ≡ f.params
-  pub slots : flat.slots ≡ f.slots
-  pub body : flat.body ≡ traced (blocks_of statements)
+-- the flat code of a function: its canonical statements, cut into blocks that are laid in traces
+abbrev pub with_statements : Function Ts → Drawn Stms → Function (List Linear)
+with_statements f lifted = record {
+  label = f.label;
+  params = f.params;
+  slots = f.slots;
+  temps = lifted.next;
+  out = f.out;
+  body = traced (blocks_of lifted.it);
+}
+
+unfoldable pub flattened : Function Ts → Function (List Linear)
+flattened f = with_statements f (linearized f.body f.temps)
+
+-- the instructions that are chosen for it, and what is drawn for them
+abbrev pub chosen : Function Ts → Chosen (Unit {0})
+chosen f = munched (flattened f)
 
 -- Code over registers that stands for a function: that of the chosen instructions, with each
 -- temporary in a slot of its own above those of the flat code.
 pub record CompilesFunction (f : Function Ts) (a : Allocation) : Type 0 where
-  pub flat : Function (List Linear)
-  pub flattens : FlattensTo f flat
   pub label : a.done.frame.label.0 ≡ f.label
   pub params : a.done.frame.params ≡ f.params
-  pub slots : a.done.frame.slots ≡ flat.slots + (munched flat).drawn.temp
-  pub temps : a.done.frame.temps ≡ flat.temps
-  pub out : a.done.frame.out ≡ outs flat.body
-  pub list : a.done.code.list ≡ code_in_frame flat.slots (munched flat).code
-  pub homes : a.registers ≡ homes_from flat.slots (munched flat).drawn.temp
-  pub added : a.slots ≡ (munched flat).drawn.temp
+  pub slots : a.done.frame.slots ≡ f.slots + (chosen f).drawn.temp
+  pub temps : a.done.frame.temps ≡ (flattened f).temps
+  pub out : a.done.frame.out ≡ outs (flattened f).body
+  pub list : a.done.code.list ≡ code_in_frame f.slots (chosen f).code
+  pub homes : a.registers ≡ homes_from f.slots (chosen f).drawn.temp
+  pub added : a.slots ≡ (chosen f).drawn.temp
   pub all : IsTrue a.all_in_frame
 
 -- each function has its allocation, in their order

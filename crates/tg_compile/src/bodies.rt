@@ -1,7 +1,7 @@
-ghost use Rattle.std.specs.Prelude.{IfOk};
+ghost use Rattle.std.specs.Prelude.{◌≡◌, IfOk};
 ghost use Rattle.tg_tree.specs.Lists.{code_of};
 ghost use Rattle.tg_tree.specs.Plain.{plain_fragment, plain_function, plain_ts};
-ghost use Rattle.tg_compile.specs.Compiling.{CompilesFunction, FlattensTo};
+ghost use Rattle.tg_compile.specs.Compiling.{CompilesFunction, flattened};
 ghost use Rattle.tg_compile.specs.Passes.{Chooses};
 
 use std::alloc::Global;
@@ -38,8 +38,8 @@ fn choose(alloc: Global, frame: &mut Frame, body: Ts) -> Result<Code, Memory>
 
 /// The flat code of a body: canonical statements, cut into blocks and laid in traces.
 fn flatten(alloc: Global, frame: &mut Frame, body: Ts) -> Result<Vec<Linear>, Memory>
-    ensures { IfOk result (λ flat. FlattensTo (plain_function frame.old (plain_ts body))
-        (plain_function frame.new (code_of flat.items))) }
+    ensures { IfOk result (λ flat. plain_function frame.new (code_of flat.items) ≡
+        flattened (plain_function frame.old (plain_ts body))) }
 {
     let statements = linearize(alloc, frame, body)?;
     let cut = blocks(alloc, statements)?;
