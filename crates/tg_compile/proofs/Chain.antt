@@ -88,7 +88,7 @@ pub compiles_whole : (notes : List Note) (body : Exp) (functions : List Fragment
     text ≡ text_of (assembly_of codes literals) → HasImage text → Compiles notes body all text
 compiles_whole notes body functions literals codes ps all text tree apart joins written image =
     let both = together (map plain_fragment functions) codes ps apart in
-    let P : List Allocation → Type 0 = λ as. CompileFunctions (map plain_fragment functions) as in
+    let P : List Allocation → Type 0 = λ xs. CompileFunctions (map plain_fragment functions) xs in
     let Q : List (Function Ts) → Type 0 = λ fs. CompileFunctions fs all in
     let same : codes ≡ codes_of all = sym (ap codes_of joins ∙ both.1) in
     record {

@@ -18,8 +18,8 @@ loop-one-preserved c =
     let a = c.in_ok-done.field-0 in
     let placed : Placement = record { registers = a.registers; all_in_frame = a.all_in_frame; slots = a.slots } in
     let more = compile_more before c.loop-one.codes.items c.loop-one.placements.items one a.done placed c.loop-one.invariant c.in_ok-done.ensures in
-    let P : List (Function Ts) → Type 0 = λ fs. CompileApart fs c.push.new.self.items c.push-2.new.self.items in
-    let Q : List Allocated → Type 0 = λ codes. CompileApart (before ++ one ∷ []) codes c.push-2.new.self.items in
+    let P : List (Function Ts) → Type 0 = λ fs. CompileApart fs c.push.new.self.items c.push-in-loop-one.new.self.items in
+    let Q : List Allocated → Type 0 = λ codes. CompileApart (before ++ one ∷ []) codes c.push-in-loop-one.new.self.items in
     let R : List Placement → Type 0 = λ ps. CompileApart (before ++ one ∷ []) (c.loop-one.codes.items ++ a.done ∷ []) ps in
     subst P (sym (map-append plain_fragment c.loop-one.yielded (c.in-Some.one ∷ [])))
     (subst Q (sym c.in_ok-push.ensures.items) (subst R (sym c.in_ok-push-2.ensures.items) more))

@@ -11,14 +11,14 @@ use Rattle.tg_compile.proofs.programs.write.Goals as goal
 pub text-requires : goal.text-requires
 text-requires c =
     let written = c.in_ok-assembly.ensures in
-    let whole = (c.in_ok-whole.ensures).0 c.if-whole.true in
+    let whole = (c.in_ok-whole.ensures).0 c.if-not-whole.false in
     let P : List Line → Type 0 = λ lines. IsTrue (list_all has_labels lines) in
     subst P (sym written.lines) (emitted_has_labels c.args.codes.now c.args.literals.now whole.emittable (record { functions = written.functions; literals = written.literals }))
 
 pub returns : goal.returns
 returns c =
     let written = c.in_ok-assembly.ensures in
-    let whole = (c.in_ok-whole.ensures).0 c.if-whole.true in
+    let whole = (c.in_ok-whole.ensures).0 c.if-not-whole.false in
     let same = c.in_ok-text.ensures ∙ ap text_of written.lines in
     record {
       text = same;
