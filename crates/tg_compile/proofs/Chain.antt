@@ -1,30 +1,51 @@
 -- Functions and literals behind one another, and what each is compiled to.
-use Rattle.std.proofs.Common.{◌≡◌, ◌+◌, ℕ, List, [], ◌∷◌, ◌++◌, ap, ◌∙◌}
-use Rattle.std.specs.Prelude.{map}
+use Rattle.std.proofs.Common.{◌≡◌, ◌+◌, ℕ, List, [], ◌∷◌, ◌++◌, refl, sym, ap, subst, ◌∙◌}
+use Rattle.std.specs.Prelude.{map, IsTrue}
+use Rattle.std.specs.List.{zip}
+use Rattle.std.specs.FinSet.{FinSet, from_list}
+use Rattle.std.specs.Ordering.{nat_cmp}
 use Rattle.std.proofs.lemmas.List.{map-append}
+use Rattle.tg_syntax.specs.Tree.{Exp}
+use Rattle.tg_types.specs.declared.notes.Note.{Note}
+use Rattle.tg_escape.specs.Escaping.{escapes_of}
+use Rattle.tg_escape.specs.Links.{links_of}
+use Rattle.tg_translate.specs.Scopes.{found}
+use Rattle.tg_translate.specs.Translate.{translated}
 use Rattle.tg_tree.specs.declared.fragments.Fragment.{Fragment}
 use Rattle.tg_tree.specs.declared.fragments.Literal.{Literal}
-use Rattle.tg_tree.specs.Tree.{Ts, Function, Code}
-use Rattle.tg_tree.specs.Plain.{plain_fragment, plain_literal}
+use Rattle.tg_tree.specs.Tree.{Ts, Function, Code, Linear, Stms}
+use Rattle.tg_tree.specs.Plain.{plain_fragment, plain_literal, plain_function}
 use Rattle.tg_runtime.specs.Routines.{runtime}
-use Rattle.tg_instr.specs.declared.codes.Allocated.{Allocated}
 use Rattle.tg_frame.specs.declared.frames.Frame.{Frame}
-use Rattle.tg_tree.specs.Tree.{Linear, Stms}
-use Rattle.tg_tree.specs.Plain.{plain_function}
 use Rattle.tg_base.specs.declared.ids.Label.{Label}
+use Rattle.tg_isa.specs.Assembly.{assembled}
+use Rattle.tg_isa.specs.Placement.{image_of}
+use Rattle.tg_isa.specs.Texts.{readings_of}
+use Rattle.tg_instr.specs.declared.codes.Allocated.{Allocated}
 use Rattle.tg_instr.specs.declared.codes.Code.{Code as Instructions}
+use Rattle.tg_instr.specs.declared.instr.Instr.{Instr}
 use Rattle.tg_munch.specs.Bodies.{munched, outs}
-use Rattle.tg_spill.specs.InFrame.{code_in_frame}
+use Rattle.tg_spill.specs.InFrame.{code_in_frame, homes_from}
+use Rattle.tg_spill.specs.declared.allocations.Allocation.{Allocation}
+use Rattle.tg_canon.specs.Drawing.{Drawn, Gives}
+use Rattle.tg_canon.specs.Canon.{linearized}
 use Rattle.tg_trace.specs.Block.{Block}
 use Rattle.tg_trace.specs.Cutting.{blocks_of}
 use Rattle.tg_trace.specs.Laying.{traced}
-use Rattle.tg_compile.specs.Compiling.{with_runtime, FlattensTo, Chooses, CompilesFunction, CompileFunctions}
+use Rattle.tg_emit.specs.Lines.{assembly_of}
+use Rattle.tg_emit.specs.Text.{text_of}
+use Rattle.tg_image.specs.Programs.{IsProgram, AreTyped}
+use Rattle.tg_image.specs.Images.{program_written}
+use Rattle.tg_image.proofs.Soundness.{program_has_image}
+use Rattle.tg_compile.specs.declared.programs.Placement.{Placement}
+use Rattle.tg_compile.specs.Compiling.{with_runtime, fragments_of, with_statements, flattened, chosen, CompilesFunction, CompileFunctions, codes_of, HasImage, Compiles}
+use Rattle.tg_compile.specs.Passes.{Chooses, allocation_of, CompileApart}
 
 -- a program's functions and literals, before the runtime is behind them
 abbrev pub tree_of : List Fragment → List Literal → Code Ts
 tree_of functions literals = record { functions = map plain_fragment functions; literals = map plain_literal literals }
 
-pub joined : (fs gs all : List Fragment) (ls ms every : List Literal) → all ≡ fs ++ gs → every ≡ ls ++ ms → tree_of gs ms ≡ runtime → tree_of all every ≡ with_runtime (tree_of fs ls)
+joined : (fs gs all : List Fragment) (ls ms every : List Literal) → all ≡ fs ++ gs → every ≡ ls ++ ms → tree_of gs ms ≡ runtime → tree_of all every ≡ with_runtime (tree_of fs ls)
 joined fs gs all ls ms every p q r =
     let functions : map plain_fragment all ≡ map plain_fragment fs ++ runtime.functions =
     ap (λ x. map plain_fragment x) p ∙ map-append plain_fragment fs gs ∙ ap (λ (c : Code Ts). map plain_fragment fs ++ c.functions) r in
@@ -32,49 +53,113 @@ joined fs gs all ls ms every p q r =
     ap (λ x. map plain_literal x) q ∙ map-append plain_literal ls ms ∙ ap (λ (c : Code Ts). map plain_literal ls ++ c.literals) r in
     λ i. record { functions = functions i; literals = literals i }
 
+-- a program's functions and literals are what it is translated to, and the runtime's stand behind them
+pub translated_whole : (notes : List Note) (body : Exp) (escaping : FinSet nat_cmp) (fs gs all : List Fragment) (ls ms every : List Literal) → escaping ≡ from_list (escapes_of body) →
+    tree_of fs ls ≡ translated (found notes escaping (from_list (links_of body))) body → all ≡ fs ++ gs → every ≡ ls ++ ms → tree_of gs ms ≡ runtime →
+    tree_of all every ≡ fragments_of notes body
+translated_whole notes body escaping fs gs all ls ms every e h p q r =
+    joined fs gs all ls ms every p q r ∙ ap with_runtime (h ∙ ap (λ (s : FinSet nat_cmp). translated (found notes s (from_list (links_of body))) body) e)
+
 -- one more function
-pub compile_more : (fs : List (Function Ts)) (codes : List Allocated) (f : Function Ts) (code : Allocated) → CompileFunctions fs codes → CompilesFunction f code → CompileFunctions (fs ++ f ∷ []) (codes ++ code ∷ [])
-compile_more [] [] f code h k = (k, tt)
-compile_more [] (c ∷ codes) f code h k = absurd h
-compile_more (g ∷ fs) [] f code h k = absurd h
-compile_more (g ∷ fs) (c ∷ codes) f code h k = (h.0, compile_more fs codes f code h.1 k)
+pub compile_more : (fs : List (Function Ts)) (codes : List Allocated) (ps : List Placement) (f : Function Ts) (code : Allocated) (p : Placement) → CompileApart fs codes ps → CompilesFunction f (allocation_of (code, p)) →
+    CompileApart (fs ++ f ∷ []) (codes ++ code ∷ []) (ps ++ p ∷ [])
+compile_more [] [] [] f code p h k = (k, tt)
+compile_more [] [] (q ∷ ps) f code p h k = absurd h
+compile_more [] (c ∷ codes) ps f code p h k = absurd h
+compile_more (g ∷ fs) [] ps f code p h k = absurd h
+compile_more (g ∷ fs) (c ∷ codes) [] f code p h k = absurd h
+compile_more (g ∷ fs) (c ∷ codes) (q ∷ ps) f code p h k = (h.0, compile_more fs codes ps f code p h.1 k)
+
+-- codes and placements that are brought together
+together : (fs : List (Function Ts)) (codes : List Allocated) (ps : List Placement) → CompileApart fs codes ps →
+    CompileFunctions fs (map allocation_of (zip codes ps)) × (codes_of (map allocation_of (zip codes ps)) ≡ codes)
+together [] [] [] h = (tt, refl)
+together [] [] (p ∷ ps) h = absurd h
+together [] (c ∷ codes) ps h = absurd h
+together (f ∷ fs) [] ps h = absurd h
+together (f ∷ fs) (c ∷ codes) [] h = absurd h
+together (f ∷ fs) (c ∷ codes) (p ∷ ps) h =
+    let rest = together fs codes ps h.1 in
+    ((h.0, rest.0), ap (λ (cs : List Allocated). c ∷ cs) rest.1)
+
+-- a program whose functions are compiled, and whose text is written
+pub compiles_whole : (notes : List Note) (body : Exp) (functions : List Fragment) (literals : List Literal) (codes : List Allocated) (ps : List Placement) (all : List Allocation) (text : List ℕ) →
+    tree_of functions literals ≡ fragments_of notes body → CompileApart (map plain_fragment functions) codes ps → all ≡ map allocation_of (zip codes ps) →
+    text ≡ text_of (assembly_of codes literals) → HasImage text → Compiles notes body all text
+compiles_whole notes body functions literals codes ps all text tree apart joins written image =
+    let both = together (map plain_fragment functions) codes ps apart in
+    let P : List Allocation → Type 0 = λ xs. CompileFunctions (map plain_fragment functions) xs in
+    let Q : List (Function Ts) → Type 0 = λ fs. CompileFunctions fs all in
+    let same : codes ≡ codes_of all = sym (ap codes_of joins ∙ both.1) in
+    record {
+      literals = literals;
+      functions_are = subst Q (ap (λ (c : Code Ts). c.functions) tree) (subst P (sym joins) both.0);
+      literals_are = ap (λ (c : Code Ts). c.literals) tree;
+      text_is = written ∙ ap (λ (cs : List Allocated). text_of (assembly_of cs literals)) same;
+      has_image = image;
+    }
 
 -- canonical statements, blocks and traces give flat code
-pub flattens : (frame new : Frame) (body : Ts) (statements : Stms) (blocks : List Block) (flat : List Linear) → new.label ≡ frame.label →
-    new.params ≡ frame.params → new.slots ≡ frame.slots → blocks ≡ blocks_of statements → flat ≡ traced blocks →
-    FlattensTo (plain_function frame body) (plain_function new flat)
-flattens frame new body statements blocks flat label params slots cut laid =
-    record { statements = statements; label = ap (λ (l : Label). l.0) label; params = params; slots = slots; body = laid ∙ ap traced cut }
+pub flattens : (frame new : Frame) (body : Ts) (statements : Stms) (blocks : List Block) (flat : List Linear) → Gives (linearized body) frame.temps statements new.temps →
+    new.label ≡ frame.label → new.params ≡ frame.params → new.slots ≡ frame.slots → new.out ≡ frame.out → blocks ≡ blocks_of statements → flat ≡ traced blocks →
+    plain_function new flat ≡ flattened (plain_function frame body)
+unfolding flattened
+flattens frame new body statements blocks flat lifted label params slots out cut laid =
+    let one : Function (List Linear) = plain_function new flat in
+    let lines : flat ≡ traced (blocks_of statements) = laid ∙ ap traced cut in
+    let named : one ≡ with_statements (plain_function frame body) (record { it = statements; next = new.temps }) =
+    λ i. record { label = (label i).0; params = params i; slots = slots i; temps = new.temps; out = out i; body = lines i } in
+    named ∙ ap (λ (d : Drawn Stms). with_statements (plain_function frame body) d) (sym lifted.is)
+
+flat_label : (f : Function Ts) → (flattened f).label ≡ f.label
+unfolding flattened
+flat_label f = refl
+
+flat_params : (f : Function Ts) → (flattened f).params ≡ f.params
+unfolding flattened
+flat_params f = refl
+
+flat_slots : (f : Function Ts) → (flattened f).slots ≡ f.slots
+unfolding flattened
+flat_slots f = refl
 
 -- and the instructions that are chosen for it
-pub chooses : (f : Function Ts) (between new : Frame) (flat : List Linear) (code : Instructions) → FlattensTo f (plain_function between flat) →
-    new.label ≡ between.label → new.params ≡ between.params → new.slots ≡ between.slots → new.out ≡ outs flat →
+pub chooses : (f : Function Ts) (between new : Frame) (flat : List Linear) (code : Instructions) → plain_function between flat ≡ flattened f →
+    new.label ≡ between.label → new.params ≡ between.params → new.slots ≡ between.slots → new.temps ≡ between.temps → new.out ≡ outs flat →
     code.list ≡ (munched (plain_function between flat)).code → code.temps ≡ (munched (plain_function between flat)).drawn.temp →
     Chooses f new code
-chooses f between new flat code flattened label params slots out list temps =
+chooses f between new flat code is label params slots drawn out list temps =
     record {
-      flat = plain_function between flat;
-      flattens = flattened;
-      label = ap (λ (l : Label). l.0) label ∙ flattened.label;
-      params = params ∙ flattened.params;
-      slots = slots;
-      out = out;
-      list = list;
-      temps = temps;
+      label = ap (λ (l : Label). l.0) label ∙ ap (λ (g : Function (List Linear)). g.label) is ∙ flat_label f;
+      params = params ∙ ap (λ (g : Function (List Linear)). g.params) is ∙ flat_params f;
+      slots = slots ∙ ap (λ (g : Function (List Linear)). g.slots) is ∙ flat_slots f;
+      drawn = drawn ∙ ap (λ (g : Function (List Linear)). g.temps) is;
+      out = out ∙ ap (λ (g : Function (List Linear)). outs g.body) is;
+      list = list ∙ ap (λ (g : Function (List Linear)). (munched g).code) is;
+      temps = temps ∙ ap (λ (g : Function (List Linear)). (munched g).drawn.temp) is;
     }
 
 -- and each of its temporaries gets a slot
-pub compiles : (f : Function Ts) (frame : Frame) (code : Instructions) (slots : ℕ) (done : Allocated) → Chooses f frame code →
-    done.frame.label ≡ frame.label → done.frame.params ≡ frame.params → done.frame.out ≡ frame.out →
-    done.frame.slots ≡ frame.slots + slots → slots ≡ code.temps → done.code.list ≡ code_in_frame frame.slots code.list →
-    CompilesFunction f done
-compiles f frame code slots done h label params out all drawn list =
+pub compiles : (f : Function Ts) (frame : Frame) (code : Instructions) (a : Allocation) → Chooses f frame code →
+    a.done.frame.label ≡ frame.label → a.done.frame.params ≡ frame.params → a.done.frame.slots ≡ frame.slots + a.slots →
+    a.done.frame.temps ≡ frame.temps → a.done.frame.out ≡ frame.out → a.done.code.list ≡ code_in_frame frame.slots code.list →
+    a.registers ≡ homes_from frame.slots code.temps → a.slots ≡ code.temps → IsTrue a.all_in_frame →
+    CompilesFunction f a
+compiles f frame code a h label params slots temps out list homes added all =
+    let drawn : a.slots ≡ (chosen f).drawn.temp = added ∙ h.temps in
     record {
-      flat = h.flat;
-      flattens = h.flattens;
       label = ap (λ (l : Label). l.0) label ∙ h.label;
       params = params ∙ h.params;
+      slots = slots ∙ ap (λ (n : ℕ). frame.slots + n) drawn ∙ ap (λ (n : ℕ). n + (chosen f).drawn.temp) h.slots;
+      temps = temps ∙ h.drawn;
       out = out ∙ h.out;
-      slots = all ∙ ap (λ n. frame.slots + n) (drawn ∙ h.temps) ∙ ap (λ n. n + (munched h.flat).drawn.temp) h.slots;
-      list = list ∙ ap (λ n. code_in_frame n code.list) h.slots ∙ ap (λ l. code_in_frame h.flat.slots l) h.list;
+      list = list ∙ ap (λ (n : ℕ). code_in_frame n code.list) h.slots ∙ ap (λ (l : List Instr). code_in_frame f.slots l) h.list;
+      homes = homes ∙ ap (λ (n : ℕ). homes_from n code.temps) h.slots ∙ ap (λ (n : ℕ). homes_from f.slots n) h.temps;
+      added = drawn;
+      all = all;
     }
+
+-- the text of a program is assembled to the image of its lines
+pub written_image : (codes : List Allocated) (literals : List Literal) (text : List ℕ) → text ≡ text_of (assembly_of codes literals) → IsProgram codes literals → AreTyped codes literals → HasImage text
+written_image codes literals text is whole typed =
+    record { image = image_of (readings_of (program_written codes literals)); assembles = ap assembled is ∙ program_has_image codes literals whole typed }

@@ -1,7 +1,8 @@
-ghost use Rattle.std.specs.Prelude.{IfOk};
+ghost use Rattle.std.specs.Prelude.{◌≡◌, IfOk};
 ghost use Rattle.tg_tree.specs.Lists.{code_of};
 ghost use Rattle.tg_tree.specs.Plain.{plain_fragment, plain_function, plain_ts};
-ghost use Rattle.tg_compile.specs.Compiling.{Chooses, CompilesFunction, FlattensTo};
+ghost use Rattle.tg_compile.specs.Compiling.{CompilesFunction, flattened};
+ghost use Rattle.tg_compile.specs.Passes.{Chooses};
 
 use std::alloc::Global;
 use tg_base::Memory;
@@ -16,7 +17,7 @@ use tg_tree::{Fragment, Linear, Ts};
 
 /// The code of a function over registers, with each temporary in its frame.
 pub(crate) fn compile_function(alloc: Global, one: Fragment) -> Result<Allocation, Memory>
-    ensures { IfOk result (λ a. CompilesFunction (plain_fragment one) a.done) }
+    ensures { IfOk result (λ a. CompilesFunction (plain_fragment one) a) }
 {
     let Fragment { frame, body } = one;
     let mut frame = frame;
@@ -37,8 +38,8 @@ fn choose(alloc: Global, frame: &mut Frame, body: Ts) -> Result<Code, Memory>
 
 /// The flat code of a body: canonical statements, cut into blocks and laid in traces.
 fn flatten(alloc: Global, frame: &mut Frame, body: Ts) -> Result<Vec<Linear>, Memory>
-    ensures { IfOk result (λ flat. FlattensTo (plain_function frame.old (plain_ts body))
-        (plain_function frame.new (code_of flat.items))) }
+    ensures { IfOk result (λ flat. plain_function frame.new (code_of flat.items) ≡
+        flattened (plain_function frame.old (plain_ts body))) }
 {
     let statements = linearize(alloc, frame, body)?;
     let cut = blocks(alloc, statements)?;

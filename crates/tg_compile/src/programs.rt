@@ -1,19 +1,20 @@
-ghost use Rattle.std.specs.Prelude.{◌≡◌, IfOk, map, IsTrue};
-ghost use Rattle.std.specs.List.{list_all};
+ghost use Rattle.std.specs.Prelude.{◌≡◌, IfOk, map};
+ghost use Rattle.std.specs.List.{zip};
 ghost use Rattle.tg_syntax.specs.Plain.{plain};
-ghost use Rattle.tg_tree.specs.Tree.{Code, Ts as PlainTs};
 ghost use Rattle.tg_tree.specs.Plain.{plain_fragment, plain_fragments};
 ghost use Rattle.tg_emit.specs.Lines.{assembly_of};
 ghost use Rattle.tg_emit.specs.Text.{text_of};
-ghost use Rattle.tg_compile.specs.Compiling.{CompileFunctions, Compiles, with_runtime};
+ghost use Rattle.tg_compile.specs.Compiling.{Compiles, HasImage, fragments_of};
+ghost use Rattle.tg_compile.specs.Passes.{CompileApart, allocation_of};
 
 use crate::bodies::compile_function;
 use crate::compiled::Compiled;
 use std::alloc::Global;
 use tg_base::Memory;
-use tg_conditions::{are_emittable, have_labels};
+use tg_conditions::are_emittable;
 use tg_emit::{emit, text};
 use tg_escape::escapes;
+use tg_image::is_program;
 use tg_instr::Allocated;
 use tg_runtime::runtime;
 use tg_spill::{Allocation, Homes};
@@ -38,7 +39,8 @@ struct Functions {
 
 /// Compiles a program that has no fault: its functions and the runtime's become assembly text.
 pub fn compile_checked(alloc: Global, checked: &Checked) -> Result<Compiled, Memory>
-    ensures { IfOk result (λ c. Compiles (plain checked.now.program.body) c.text.items) }
+    ensures { IfOk result (λ c. Compiles checked.now.notes (plain checked.now.program.body)
+        c.allocations.items c.text.items) }
 {
     let Fragments {
         functions: bodies,
@@ -54,7 +56,8 @@ pub fn compile_checked(alloc: Global, checked: &Checked) -> Result<Compiled, Mem
 
 /// The functions and literals of a program, and behind them the runtime's.
 fn fragments(alloc: Global, checked: &Checked) -> Result<Fragments, Memory>
-    ensures { IfOk result (λ f. (tree : Code PlainTs) × (plain_fragments f ≡ with_runtime tree)) }
+    ensures { IfOk result (λ f. plain_fragments f ≡
+        fragments_of checked.now.notes (plain checked.now.program.body)) }
 {
     let escaping = escapes(alloc, checked)?;
     let mut program = translate(alloc, checked, &escaping)?;
@@ -66,8 +69,8 @@ fn fragments(alloc: Global, checked: &Checked) -> Result<Fragments, Memory>
 
 /// Compiles functions one after another.
 fn compile_functions(alloc: Global, bodies: Vec<Fragment>) -> Result<Functions, Memory>
-    ensures { IfOk result
-        (λ f. CompileFunctions (map plain_fragment bodies.items) f.codes.items) }
+    ensures { IfOk result (λ f. CompileApart (map plain_fragment bodies.items)
+        f.codes.items f.placements.items) }
 {
     let mut codes = Vec::new(alloc);
     let mut placements = Vec::new(alloc);
@@ -90,34 +93,47 @@ fn compile_functions(alloc: Global, bodies: Vec<Fragment>) -> Result<Functions, 
 
 /// The assembly text of functions and literals.
 fn write(alloc: Global, codes: &[Allocated], literals: &[Literal]) -> Result<Vec<u8>, Memory>
-    ensures { IfOk result (λ t. t.items ≡ text_of (assembly_of codes.now literals.now)) }
+    ensures text { IfOk result (λ t. t.items ≡ text_of (assembly_of codes.now literals.now)) }
+    ensures image { IfOk result (λ t. HasImage t.items) }
 {
     if !are_emittable(codes) {
         return Err(Memory);
     }
     let assembly = emit(alloc, codes, literals)?;
-    if !have_labels(&assembly) {
+    let whole = is_program(alloc, codes, literals, &assembly)?;
+    if !whole {
         return Err(Memory);
     }
     Ok(text(alloc, &assembly)?)
 }
 
 /// The allocations of compiled functions.
-fn join(alloc: Global, functions: Functions) -> Result<Vec<Allocation>, Memory> {
+fn join(alloc: Global, functions: Functions) -> Result<Vec<Allocation>, Memory>
+    ensures { IfOk result (λ all. all.items ≡
+        map allocation_of (zip functions.codes.items functions.placements.items)) }
+{
     let Functions { codes, placements } = functions;
-    let mut all = Vec::new(alloc);
-    for (done, placement) in codes.into_iter().zip(placements) {
-        let Placement {
-            registers,
-            all_in_frame,
-            slots,
-        } = placement;
-        all.push(Allocation {
-            done,
-            registers,
-            all_in_frame,
-            slots,
-        })?;
-    }
+    let all = codes
+        .into_iter()
+        .zip(placements)
+        .map(|(done, placement)| allocation(done, placement))
+        .collect(alloc)?;
     Ok(all)
+}
+
+/// The allocation of a function.
+fn allocation(done: Allocated, placement: Placement) -> Allocation
+    ensures { result ≡ allocation_of (done, placement) }
+{
+    let Placement {
+        registers,
+        all_in_frame,
+        slots,
+    } = placement;
+    Allocation {
+        done,
+        registers,
+        all_in_frame,
+        slots,
+    }
 }

@@ -8,5 +8,4 @@ pub mod MarkLists
 pub mod Ending
 pub mod Deepest
 pub mod Told
-pub mod Lettering
 pub mod Knowing

@@ -10,7 +10,7 @@ pub no_fault : (text : List ℕ) (f : Fault) → IsFaultOf text f → IsSource t
 no_fault text f h s = source_excludes text f.rule h.at s.names s.tokens s.program h.has s.source
 
 pub built_source : (text assembly : List ℕ) → Builds text assembly → IsSource text
-built_source text assembly b = record { names = b.names; tokens = b.tokens; program = b.program; source = b.source }
+built_source text assembly b = let c = b.compiles in record { names = c.names; tokens = c.tokens; program = c.program; source = c.source }
 
 pub no_fault_of_built : (runs : RunRelation) (text : List ℕ) (heap stack steps : ℕ) (f : Fault) (end : RunEnd) → IsFaultOf text f → EndsBuilt runs text heap stack steps end → ⊥
 no_fault_of_built runs text heap stack steps f end h e = no_fault text f h (built_source text e.assembly e.builds)

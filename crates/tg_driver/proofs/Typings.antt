@@ -1,5 +1,6 @@
 -- Trees of a text are typed under the conditions that the checker asks for, and what it answers is the text's.
 use Rattle.std.proofs.Common.{ℕ, ◌≡◌, List, [], length, refl}
+use Rattle.std.specs.List.Sorted.{IsPermutation}
 use Rattle.tg_syntax.specs.Tree.{Exp}
 use Rattle.tg_syntax.specs.NamesWithin.{NamesWithin}
 use Rattle.tg_syntax.specs.Beginnings.{BeginsApart, beginnings}
@@ -11,13 +12,15 @@ use Rattle.tg_types.specs.declared.faults.TypeFault.{TypeFault}
 use Rattle.tg_types.specs.declared.faults.TypeFault.TheVariants.{Bad, Memory}
 use Rattle.tg_types.specs.declared.notes.Note.{Note}
 use Rattle.tg_types.specs.Accepted.{Finding, finding, accepted, at_fault}
-use Rattle.tg_types.specs.Answered.{Accepts, IsAt}
+use Rattle.tg_types.specs.Answered.{Accepts, AreRising, IsAt}
 use Rattle.tg_types.proofs.NeverStuck.{accepted_never_stuck}
-use Rattle.tg_compile.specs.Compiling.{Compiles}
+use Rattle.tg_spill.specs.declared.allocations.Allocation.{Allocation}
+use Rattle.tg_compile.specs.Compiling.{Compiles, HasImage}
 use Rattle.tg_driver.specs.Meanings.{SourcesAreNeverStuck}
-use Rattle.tg_driver.specs.Sources.{IsSource}
-use Rattle.tg_driver.specs.Builds.{Builds}
-use Rattle.tg_driver.specs.Readings.{HasNamedTree, IsNamedSource, IsTypeFaultOf}
+use Rattle.tg_driver.specs.Sources.{IsSource, IsSourceOf}
+use Rattle.tg_driver.specs.Builds.{CompilesTo, Builds}
+use Rattle.tg_driver.specs.Readings.{HasNamedTree, IsTypeFaultOf}
+use Rattle.tg_compile.proofs.NotesAlike.{compiles_alike}
 
 pub names_within : (text : List ℕ) (names : List (List ℕ)) (program : Exp) → HasNamedTree text names program → NamesWithin (length names) program
 names_within text names program t = all_named names text t.tokens program t.tree.has_tokens.lexed t.tree.parsed
@@ -25,29 +28,41 @@ names_within text names program t = all_named names text t.tokens program t.tree
 pub begins_apart : (text : List ℕ) (names : List (List ℕ)) (program : Exp) → HasNamedTree text names program → BeginsApart program
 begins_apart text names program t = apart (beginnings program []) (in_order t.tokens program (tokens_stand t.tree.has_tokens.lexed) t.tree.parsed)
 
-notes_of : (f : Finding) (sorted : List Note) → Accepts f sorted → (notes : List Note) × (f ≡ accepted notes)
-notes_of (accepted notes) sorted h = (notes, refl)
-notes_of (at_fault rule at) sorted h = absurd h
+-- the notes of a program that is accepted, in the order of the finding
+noted : (f : Finding) (sorted : List Note) → Accepts f sorted → (notes : List Note) × ((f ≡ accepted notes) × (IsPermutation notes sorted × AreRising sorted))
+noted (accepted notes) sorted h = (notes, (refl, h))
+noted (at_fault rule at) sorted h = absurd h
 
-pub typed_source : (text : List ℕ) (names : List (List ℕ)) (program : Exp) (sorted : List Note) → HasNamedTree text names program → Accepts (finding names program) sorted → IsNamedSource text names program
-typed_source text names program sorted t h =
-    let n = notes_of (finding names program) sorted h in
-    record { tokens = t.tokens; source = record { tree = t.tree; notes = n.0; well_typed = n.1 } }
+abbrev source_of : (text : List ℕ) (names : List (List ℕ)) (program : Exp) (t : HasNamedTree text names program) (notes : List Note) → finding names program ≡ accepted notes → IsSourceOf text names t.tokens program
+source_of text names program t notes e = record { tree = t.tree; notes = notes; well_typed = e }
 
 pub typed_fault : (text : List ℕ) (names : List (List ℕ)) (program : Exp) (fault : TypeFault) → HasNamedTree text names program → IsAt (finding names program) fault → IsTypeFaultOf text fault
 typed_fault text names program (Bad rule at) t h = record { names = names; tokens = t.tokens; program = program; tree = t.tree; fault = h }
 typed_fault text names program Memory t h = tt
 
--- a program that was compiled, and the text is built to its assembly text
-pub builds : (text : List ℕ) (names : List (List ℕ)) (program : Exp) (sorted : List Note) (assembly : List ℕ) → HasNamedTree text names program → Accepts (finding names program) sorted → Compiles program assembly → Builds text assembly
-builds text names program sorted assembly t h compiles =
-    let n = typed_source text names program sorted t h in
-    record { names = names; tokens = n.tokens; program = program; source = n.source; compiles = compiles }
+-- a program that was compiled, and what the text is compiled to
+pub compiles_to : (text : List ℕ) (names : List (List ℕ)) (program : Exp) (sorted : List Note) (allocations : List Allocation) (assembly : List ℕ) → HasNamedTree text names program → Accepts (finding names program) sorted → Compiles sorted program allocations assembly → CompilesTo text allocations assembly
+compiles_to text names program sorted allocations assembly t h compiles =
+    let n = noted (finding names program) sorted h in
+    record {
+      names = names;
+      tokens = t.tokens;
+      program = program;
+      source = source_of text names program t n.0 n.1.0;
+      compiles = compiles_alike n.0 sorted program allocations assembly n.1.1.0 n.1.1.1 compiles;
+    }
+
+-- so it is built to that, and the assembly text is assembled without a fault
+pub builds : (text : List ℕ) (allocations : List Allocation) (assembly : List ℕ) → CompilesTo text allocations assembly → Builds text assembly
+builds text allocations assembly h = record { allocations = allocations; compiles = h }
+
+pub has_image : (text : List ℕ) (allocations : List Allocation) (assembly : List ℕ) → CompilesTo text allocations assembly → HasImage assembly
+has_image text allocations assembly h = h.compiles.has_image
 
 pub is_source : (text : List ℕ) (names : List (List ℕ)) (program : Exp) (sorted : List Note) → HasNamedTree text names program → Accepts (finding names program) sorted → IsSource text
 is_source text names program sorted t h =
-    let n = typed_source text names program sorted t h in
-    record { names = names; tokens = n.tokens; program = program; source = n.source }
+    let n = noted (finding names program) sorted h in
+    record { names = names; tokens = t.tokens; program = program; source = source_of text names program t n.0 n.1.0 }
 
 -- so a source's evaluation is never stuck
 pub sources_are_never_stuck : SourcesAreNeverStuck

@@ -6,16 +6,24 @@ use Rattle.tg_isa.specs.Assembly.{assembled}
 use Rattle.tg_asm.specs.Images.{image_of}
 use Rattle.tg_syntax.specs.declared.tokens.Spanned.{Spanned}
 use Rattle.tg_syntax.specs.Tree.{Exp}
+use Rattle.tg_spill.specs.declared.allocations.Allocation.{Allocation}
 use Rattle.tg_compile.specs.Compiling.{Compiles}
 use Rattle.tg_driver.specs.Sources.{IsSourceOf}
 
--- The text is a source, and this is an assembly text that it is compiled to.
-pub record Builds (text assembly : List ℕ) : Type 0 where
+-- The text is a source, and this is what it is compiled to by the notes of its typing: allocations
+-- of its functions, and an assembly text.
+pub record CompilesTo (text : List ℕ)
+    (allocations : List Allocation) (assembly : List ℕ) : Type 0 where
   pub names : List (List ℕ)
   pub tokens : List Spanned
   pub program : Exp
   pub source : IsSourceOf text names tokens program
-  pub compiles : Compiles program assembly
+  pub compiles : Compiles source.notes program allocations assembly
+
+-- the text is a source, and this is an assembly text that it is compiled to
+pub record Builds (text assembly : List ℕ) : Type 0 where
+  pub allocations : List Allocation
+  pub compiles : CompilesTo text allocations assembly
 
 -- what may be said of a run of an image with these sizes and steps that ends so
 abbrev pub RunRelation : Type 1

@@ -19,8 +19,8 @@ use Rattle.tg_driver.specs.declared.refusals.Refusal.{Refusal}
 use Rattle.tg_driver.specs.declared.refusals.Refusal.TheVariants as refusal
 use Rattle.tg_driver.specs.declared.faults.Rule.TheVariants.{Lexical, Syntactic, Typed}
 use Rattle.tg_compile.specs.declared.compiled.Compiled.{Compiled}
-use Rattle.tg_driver.specs.Sources.{HasTokens, HasTree, IsSourceOf, HasFault}
-use Rattle.tg_driver.specs.Builds.{Builds}
+use Rattle.tg_driver.specs.Sources.{HasTokens, HasTree, HasFault}
+use Rattle.tg_driver.specs.Builds.{CompilesTo}
 
 -- the text's lexical fault; want of memory says nothing of the text
 abbrev pub IsLexFaultOf : List ℕ → LexFault → Type 0
@@ -66,12 +66,7 @@ abbrev pub IsParsed : List ℕ → Result NamedProgram Refusal → Type 0
 IsParsed text (Ok s) = HasNamedTree text s.names (plain s.program.body)
 IsParsed text (Err why) = IsRefusalOf text why
 
--- and it has no fault of types
-pub record IsNamedSource (text : List ℕ) (names : List (List ℕ)) (program : Exp) : Type 0 where
-  pub tokens : List Spanned
-  pub source : IsSourceOf text names tokens program
-
--- what compiling a text answers: an assembly text that it is built to, or its first fault
+-- what compiling a text answers: what it is compiled to, or its first fault
 abbrev pub IsCompiled : List ℕ → Result Compiled Refusal → Type 0
-IsCompiled text (Ok c) = Builds text c.text.items
+IsCompiled text (Ok c) = CompilesTo text c.allocations.items c.text.items
 IsCompiled text (Err why) = IsRefusalOf text why

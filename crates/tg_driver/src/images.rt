@@ -1,20 +1,23 @@
 ghost use Rattle.std.specs.Prelude.{◌≡◌, ◌≤◌, IfOk, length};
 ghost use Rattle.tg_isa.specs.Assembly.{assembled};
 ghost use Rattle.tg_asm.specs.Images as meant;
+ghost use Rattle.tg_compile.specs.Compiling.{HasImage};
 
 use std::alloc::Global;
-use tg_asm::assemble;
+use tg_asm::{AsmFault, assemble};
 use tg_base::Memory;
 use tg_isa::Image;
 
-/// The image of an assembly text that was made of a source.
+/// The image of an assembly text that has one, as that of a compiled source.
 pub(crate) fn image_of(alloc: Global, assembly: &[u8]) -> Result<Image, Memory>
+    requires { HasImage assembly.now }
     ensures image { IfOk result (λ i. assembled assembly.now ≡ Ok (meant.image_of i)) }
     ensures code { IfOk result (λ i. length i.code ≤ 66060288) }
     ensures statics { IfOk result (λ i. length i.statics ≤ 16711680) }
 {
     match assemble(alloc, assembly) {
         Ok(image) => Ok(image),
-        Err(_) => Err(Memory),
+        Err(AsmFault::Bad { rule: _, line: _ }) => unreachable!(),
+        Err(AsmFault::Memory) => Err(Memory),
     }
 }

@@ -1,5 +1,6 @@
 ghost use Rattle.std.specs.Prelude.{◌≡◌, ⊤};
 ghost use Rattle.tg_command.specs.Commands.{KeepsLimits, asked_of};
+ghost use Rattle.tg_compile.specs.Compiling.{HasImage};
 ghost use Rattle.tg_driver.specs.Calls.{shelf_of, stream_of, streams_of};
 ghost use Rattle.tg_driver.specs.OfFiles.{OfFile, OrMemory, UntouchedBeforeStart};
 ghost use Rattle.tg_driver.specs.RunMode.{EndsAssembled, IsRun};
@@ -63,15 +64,15 @@ fn run_text<I: Source, O: Sink>(
     }
 }
 
-/// Runs the image of an assembly text that was made of a source, with the sizes and the steps of a
-/// command.
+/// Runs the image of an assembly text that has one, with the sizes and the steps of a command.
 fn run_assembly<I: Source, O: Sink>(
     alloc: Global,
     command: &Command,
     assembly: &[u8],
     streams: Streams<I, O>,
 ) -> Answer
-    requires { KeepsLimits (asked_of command.now) }
+    requires limits { KeepsLimits (asked_of command.now) }
+    requires image { HasImage assembly.now }
     ensures runs { EndsAssembled (HasRun (streams_of
         (stream_of I.left I.faults streams.entry.input.now streams.exit.0.now)
         (stream_of O.taken O.faults streams.entry.out.now streams.exit.1.0.now)))

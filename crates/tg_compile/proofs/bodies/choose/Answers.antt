@@ -8,4 +8,4 @@ returns c =
     let e = c.in_ok-munch.ensures in
     let same = c.deref.ensures.value in
     chooses (plain_function c.args.frame.now (plain_ts c.args.body)) c.flatten.new.frame c.munch.new.frame (code_of c.in_ok-flat.flat.items)
-    c.in_ok-munch.field-0 c.in_ok-flat.ensures e.label e.params e.slots (rw same at e.out) (rw same at e.code) (rw same at e.temps)
+    c.in_ok-munch.field-0 c.in_ok-flat.ensures e.label e.params e.slots e.frame_temps (rw same at e.out) (rw same at e.code) (rw same at e.temps)

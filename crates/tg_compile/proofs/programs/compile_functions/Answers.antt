@@ -6,7 +6,8 @@ use Rattle.tg_tree.specs.declared.fragments.Fragment.{Fragment}
 use Rattle.tg_tree.specs.Tree.{Ts, Function}
 use Rattle.tg_tree.specs.Plain.{plain_fragment}
 use Rattle.tg_instr.specs.declared.codes.Allocated.{Allocated}
-use Rattle.tg_compile.specs.Compiling.{CompileFunctions}
+use Rattle.tg_compile.specs.declared.programs.Placement.{Placement}
+use Rattle.tg_compile.specs.Passes.{CompileApart}
 use Rattle.tg_compile.proofs.Chain.{compile_more}
 use Rattle.tg_compile.proofs.programs.compile_functions.Goals as goal
 
@@ -14,10 +15,14 @@ pub loop-one-preserved : goal.loop-one-preserved
 loop-one-preserved c =
     let before = map plain_fragment c.loop-one.yielded in
     let one = plain_fragment c.in-Some.one in
-    let more = compile_more before c.loop-one.codes.items one c.in_ok-done.field-0.done c.loop-one.invariant c.in_ok-done.ensures in
-    let P : List (Function Ts) → Type 0 = λ fs. CompileFunctions fs c.push.new.self.items in
-    let Q : List Allocated → Type 0 = λ codes. CompileFunctions (before ++ one ∷ []) codes in
-    subst P (sym (map-append plain_fragment c.loop-one.yielded (c.in-Some.one ∷ []))) (subst Q (sym c.in_ok-push.ensures.items) more)
+    let a = c.in_ok-done.field-0 in
+    let placed : Placement = record { registers = a.registers; all_in_frame = a.all_in_frame; slots = a.slots } in
+    let more = compile_more before c.loop-one.codes.items c.loop-one.placements.items one a.done placed c.loop-one.invariant c.in_ok-done.ensures in
+    let P : List (Function Ts) → Type 0 = λ fs. CompileApart fs c.push.new.self.items c.push-in-loop-one.new.self.items in
+    let Q : List Allocated → Type 0 = λ codes. CompileApart (before ++ one ∷ []) codes c.push-in-loop-one.new.self.items in
+    let R : List Placement → Type 0 = λ ps. CompileApart (before ++ one ∷ []) (c.loop-one.codes.items ++ a.done ∷ []) ps in
+    subst P (sym (map-append plain_fragment c.loop-one.yielded (c.in-Some.one ∷ [])))
+    (subst Q (sym c.in_ok-push.ensures.items) (subst R (sym c.in_ok-push-2.ensures.items) more))
 
 pub returns : goal.returns
 returns c =
@@ -25,5 +30,5 @@ returns c =
     let all : c.loop-one.yielded ≡ first.rest.items =
     All-taken first c.loop-one.yielded (c.next.new.self, (c.loop-one.one-iterator, c.loop-one.yielded_by, c.in-None.ensures.steps)) in
     let given : first.rest.items ≡ c.args.bodies.items = c.into_iter-one-iterator.ensures.into_iter_gives.0 in
-    let P : List Fragment → Type 0 = λ xs. CompileFunctions (map plain_fragment xs) c.loop-one.codes.items in
+    let P : List Fragment → Type 0 = λ xs. CompileApart (map plain_fragment xs) c.loop-one.codes.items c.loop-one.placements.items in
     subst P (all ∙ given) c.loop-one.invariant

@@ -1,12 +1,13 @@
 use Rattle.tg_driver.specs.Calls.{stream_of}
 use Rattle.tg_driver.proofs.AnswerLemmas.{built_of_refused, refused_stays, written, started_stays}
 use Rattle.std.proofs.Common.{refl}
+use Rattle.tg_driver.proofs.Typings.{builds}
 use Rattle.tg_driver.proofs.building.build_text.Goals as goal
 
 pub returns-in-Ok-clause-due : goal.returns-in-Ok-clause-due
 returns-in-Ok-clause-due g c =
     let out = stream_of g.O.Sink.taken g.O.Sink.faults c.args.out.now c.write_text.new.out in
-    written out _ _ c.write_text.result c.in-Ok.ensures (rw c.deref.ensures.value at c.write_text.ensures.takes) c.write_text.ensures.started
+    written out _ _ c.write_text.result (builds _ _ _ c.in-Ok.ensures) (rw c.deref.ensures.value at c.write_text.ensures.takes) c.write_text.ensures.started
 
 pub returns-in-Ok-clause-before_start : goal.returns-in-Ok-clause-before_start
 returns-in-Ok-clause-before_start g c =

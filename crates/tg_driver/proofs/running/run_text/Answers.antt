@@ -3,14 +3,18 @@ use Rattle.tg_command.specs.Commands.{asked_of}
 use Rattle.tg_driver.specs.Calls.{stream_of, streams_of}
 use Rattle.tg_driver.specs.Runs.{HasRun}
 use Rattle.tg_driver.proofs.AnswerLemmas.{run_of_refused, refused_untouched, ends_built}
+use Rattle.tg_driver.proofs.Typings.{builds, has_image}
 use Rattle.tg_driver.proofs.running.run_text.Goals as goal
+
+pub run_assembly-requires-clause-image : goal.run_assembly-requires-clause-image
+run_assembly-requires-clause-image g c = rw c.deref.ensures.value (has_image _ _ _ c.in-Ok.ensures)
 
 pub returns-in-Ok-clause-due : goal.returns-in-Ok-clause-due
 returns-in-Ok-clause-due g c =
     let streams = streams_of
     (stream_of g.I.Source.left g.I.Source.faults c.args.streams.input.now c.run_assembly.new.streams.0)
     (stream_of g.O.Sink.taken g.O.Sink.faults c.args.streams.out.now c.run_assembly.new.streams.1.0) in
-    ends_built (HasRun streams) (asked_of c.args.command.now) _ _ c.run_assembly.result c.in-Ok.ensures (rw c.deref.ensures.value at c.run_assembly.ensures.runs)
+    ends_built (HasRun streams) (asked_of c.args.command.now) _ _ c.run_assembly.result (builds _ _ _ c.in-Ok.ensures) (rw c.deref.ensures.value at c.run_assembly.ensures.runs)
 
 pub returns-in-Err-clause-due : goal.returns-in-Err-clause-due
 returns-in-Err-clause-due g c =

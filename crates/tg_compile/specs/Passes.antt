@@ -1,0 +1,36 @@
+-- What the parts of the compilation promise one another.
+use Rattle.std.specs.Prelude.{◌≡◌, List, [], ◌∷◌}
+use Rattle.tg_frame.specs.declared.frames.Frame.{Frame}
+use Rattle.tg_tree.specs.Tree.{Ts, Function}
+use Rattle.tg_instr.specs.declared.codes.Allocated.{Allocated}
+use Rattle.tg_instr.specs.declared.codes.Code.{Code as Instructions}
+use Rattle.tg_munch.specs.Bodies.{outs}
+use Rattle.tg_spill.specs.declared.allocations.Allocation.{Allocation}
+use Rattle.tg_compile.specs.declared.programs.Placement.{Placement}
+use Rattle.tg_compile.specs.Compiling.{flattened, chosen, CompilesFunction}
+
+-- the instructions that are chosen for the flat code of a function, and its frame then
+pub record Chooses (f : Function Ts) (frame : Frame) (code : Instructions) : Type 0 where
+  pub label : frame.label.0 ≡ f.label
+  pub params : frame.params ≡ f.params
+  pub slots : frame.slots ≡ f.slots
+  pub drawn : frame.temps ≡ (flattened f).temps
+  pub out : frame.out ≡ outs (flattened f).body
+  pub list : code.list ≡ (chosen f).code
+  pub temps : code.temps ≡ (chosen f).drawn.temp
+
+-- an allocation of its code and its placement
+abbrev pub allocation_of : Allocated × Placement → Allocation
+allocation_of (done, p) = record {
+  done = done;
+  registers = p.registers;
+  all_in_frame = p.all_in_frame;
+  slots = p.slots;
+}
+
+-- each function has its code and its placement, in their order
+abbrev pub CompileApart : List (Function Ts) → List Allocated → List Placement → Type 0
+CompileApart [] [] [] = Unit {0}
+CompileApart (f ∷ functions) (code ∷ codes) (p ∷ placements) =
+    CompilesFunction f (allocation_of (code, p)) × CompileApart functions codes placements
+CompileApart _ _ _ = ⊥
