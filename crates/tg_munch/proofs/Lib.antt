@@ -1,6 +1,8 @@
+pub mod Drawing
 mod Examples
 pub mod Kept
 pub mod Marks
+pub mod Scopes
 pub mod Walking
 pub mod Whole
 pub mod Writing
