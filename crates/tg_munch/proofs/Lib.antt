@@ -2,6 +2,7 @@ pub mod Drawing
 mod Examples
 pub mod Kept
 pub mod Marks
+pub mod Naming
 pub mod Scopes
 pub mod Walking
 pub mod Whole
