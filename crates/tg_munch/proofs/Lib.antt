@@ -3,6 +3,8 @@ mod Examples
 pub mod Kept
 pub mod Marks
 pub mod Naming
+pub mod NamingCode
+pub mod Passing
 pub mod Scopes
 pub mod Walking
 pub mod Whole

@@ -1,8 +1,8 @@
-use Rattle.tg_munch.proofs.Naming.{fits_statement}
+use Rattle.tg_munch.proofs.Passing.{pass_code}
 use Rattle.tg_munch.proofs.laws.code_names_its_own.Goals as goal
 
 pub returns-clause-registers : goal.returns-clause-registers
-returns-clause-registers c = let h = fits_statement in ?
+returns-clause-registers c = let h = pass_code in ?
 
 pub returns-clause-slots : goal.returns-clause-slots
 returns-clause-slots c = ?
