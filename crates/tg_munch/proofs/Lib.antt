@@ -4,6 +4,7 @@ pub mod Kept
 pub mod Marks
 pub mod Naming
 pub mod NamingCode
+pub mod NamingLaws
 pub mod Passing
 pub mod Scopes
 pub mod Walking
