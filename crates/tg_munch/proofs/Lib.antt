@@ -2,6 +2,7 @@ pub mod Drawing
 mod Examples
 pub mod Kept
 pub mod Marks
+pub mod MarkingLaws
 pub mod Naming
 pub mod NamingCode
 pub mod NamingLaws

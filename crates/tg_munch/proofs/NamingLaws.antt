@@ -86,7 +86,7 @@ registers_are_fixed f =
     (named_in f any_slot any_name (λ k h. refl) (λ x c. refl) (all_homes_pass w f.params (any_home f)))
 
 -- slots
-reached : (w : Scope) (d : Drawn) (one : Instr) → IsTrue (may_name w d one) → IsTrue (reaches w d one)
+pub reached : (w : Scope) (d : Drawn) (one : Instr) → IsTrue (may_name w d one) → IsTrue (reaches w d one)
 reached w d one h =
     let r = right_holds (is_option (is_target w d) (named one).to) _ h in
     let s = right_holds (is_option (is_known w d) (named one).first) _ r in
