@@ -1,7 +1,7 @@
 pub mod Drawing
 mod Examples
+pub mod Keeping
 pub mod Kept
-pub mod Marks
 pub mod MarkingLaws
 pub mod Naming
 pub mod NamingCode
