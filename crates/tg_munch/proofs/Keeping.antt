@@ -4,7 +4,7 @@ use Rattle.std.specs.Prelude.{IsTrue}
 use Rattle.std.specs.List.{list_all}
 use Rattle.tg_frame.proofs.Apart.{all_drawn}
 use Rattle.tg_frame.specs.declared.frames.Frame.{Frame}
-use Rattle.tg_tree.specs.Tree.{Linear, Function}
+use Rattle.tg_tree.specs.Tree.{Linear}
 use Rattle.tg_tree.specs.Named.{named_flat, HasItsTemps}
 use Rattle.tg_tree.specs.Plain.{plain_function}
 use Rattle.tg_tree.specs.Shapes.{IsWellMarked}

@@ -1,25 +1,23 @@
 -- Laws of the marks among the instructions of a function.
-use Rattle.std.proofs.Common.{ℕ, zero, suc, ◌≡◌, ◌≢◌, ◌<◌, ◌≤◌, ◌+◌, ◌⊎◌, inl, inr, List, [], ◌∷◌, Bool, true, false, nat_lt, refl, sym, ap, ◌∙◌, subst, arith, max, length}
+use Rattle.std.proofs.Common.{ℕ, zero, suc, ◌≡◌, ◌≢◌, ◌<◌, ◌≤◌, ◌+◌, ◌⊎◌, inl, inr, List, [], ◌∷◌, Bool, true, false, refl, sym, ap, subst, arith, max}
 use Rattle.std.proofs.lemmas.Bool.Decides.{nat_tests}
-use Rattle.std.specs.Prelude.{IsTrue, ◌&&◌, ◌||◌, not, nat_le, nat_eq}
+use Rattle.std.specs.Prelude.{IsTrue, ◌||◌, not, nat_le, nat_eq}
 use Rattle.std.specs.List.{Contains, AllPairs, list_all, list_any}
-use Rattle.std.proofs.lemmas.List.Elements.{Contains-append_left, Contains-append_right, Contains-append_cases}
+use Rattle.std.proofs.lemmas.List.Elements.{Contains-append_right, Contains-append_cases}
 use Rattle.tg_frame.specs.declared.accesses.Access.{Access}
 use Rattle.tg_frame.specs.declared.accesses.Access.TheVariants.{InTemp, InFrame}
 use Rattle.tg_tree.specs.Tree as tree
 use Rattle.tg_tree.specs.Tree.{Linear, Function}
-use Rattle.tg_tree.specs.Named.{Named}
-use Rattle.tg_tree.specs.Shapes.{IsWellMarked, marks, targets}
-use Rattle.tg_instr.proofs.Tests.{left_holds, right_holds, both_hold}
+use Rattle.tg_tree.specs.Shapes.{IsWellMarked, marks}
+use Rattle.tg_instr.proofs.Tests.{both_hold}
 use Rattle.tg_instr.specs.declared.instr.Instr.{Instr}
 use Rattle.tg_instr.specs.declared.instr.Instr.TheVariants.{Mark, Jump, Branch}
 use Rattle.tg_instr.specs.Codes.{is_mark, marks_differ, leads_to_marks}
-use Rattle.tg_munch.specs.Choosing.{Drawn}
 use Rattle.tg_munch.specs.Bodies.{body, mark_above, munched}
 use Rattle.tg_munch.proofs.Scopes.{Scope, is_place, reaches, may_name, counted, occurs, spanned}
-use Rattle.tg_munch.proofs.NamingCode.{Lays, standing, stands, HomePasses, lays_body}
+use Rattle.tg_munch.proofs.NamingCode.{Lays, stands, HomePasses, lays_body, at_least}
 use Rattle.tg_munch.proofs.Passing.{pass_code, all_homes_pass}
-use Rattle.tg_munch.proofs.NamingLaws.{all_imply, start, reached}
+use Rattle.tg_munch.proofs.NamingLaws.{all_imply, start, reached, any_slot, any_name}
 
 -- A mark that stands in flat code is one of its marks, and is below the first that is drawn.
 one_only : {X : Type 0} (e x : X) → Contains (e ∷ []) x → e ≡ x
@@ -116,12 +114,6 @@ differ_where_once (Mark n ∷ rest) h =
 differ_where_once (one ∷ rest) h = differ_where_once rest (λ m. behind_less (is_mark m one) (occurs m rest) (h m))
 
 -- the marks of a function's code: those of its flat code, and those that are drawn
-abbrev any_slot : ℕ → Bool
-any_slot k = true
-
-abbrev any_name : Named → Bool
-any_name x = true
-
 abbrev stands_in : List Linear → ℕ → Bool
 stands_in code m = nat_le 1 (stands m code)
 
@@ -139,9 +131,6 @@ marking f m = record {
 any_home : (f : Function (List Linear)) (m : ℕ) → (home : Access) → HomePasses (marking f m) home
 any_home f m (InTemp t) = refl
 any_home f m (InFrame k) = refl
-
-at_least : (m n : ℕ) → m ≤ n → IsTrue (nat_le m n)
-at_least m n h = grind (arith, nat_tests)
 
 laid : (f : Function (List Linear)) → IsWellMarked f.body → (m : ℕ) → Lays (marking f m) (stands m f.body) (body f) (start f)
 laid f h m =

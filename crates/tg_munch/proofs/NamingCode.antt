@@ -1,5 +1,5 @@
 -- What the instructions of branches, elements and a whole function name, and their marks.
-use Rattle.std.proofs.Common.{ℕ, ◌≡◌, ◌<◌, ◌≤◌, ◌+◌, ◌-◌, ◌*◌, List, [], ◌∷◌, ◌++◌, Option, Some, None, Bool, true, false, length, nat_lt, refl, sym, ◌∙◌, arith, zero-add}
+use Rattle.std.proofs.Common.{ℕ, ◌≡◌, ◌<◌, ◌≤◌, ◌+◌, List, [], ◌∷◌, ◌++◌, Option, Some, None, Bool, true, false, length, nat_lt, refl, sym, ◌∙◌, arith, zero-add}
 use Rattle.std.proofs.lemmas.Bool.Decides.{nat_tests}
 use Rattle.std.specs.Prelude.{IsTrue, nat_le, nat_eq, if◌then◌else◌}
 use Rattle.std.specs.List.{list_all}
@@ -19,40 +19,40 @@ use Rattle.tg_munch.specs.declared.orders.Order.{Order}
 use Rattle.tg_munch.specs.declared.orders.Short.{Short}
 use Rattle.tg_munch.specs.declared.orders.Short.TheVariants.{Zero, Field}
 use Rattle.tg_munch.specs.Choosing.{Drawn, Choice, ◌>>=◌, ◌>>◌, give, put}
-use Rattle.tg_munch.specs.Comparing.{on_flag, flag, field_flag, on_less, on_less_field, branch_on, against_zero, branch_short, against, short_side, is_turned, turned, order}
-use Rattle.tg_munch.specs.Munching.{temp, argument, kept_registers, expression, given_back, compared_with, compared, branch, returned, element, elements}
-use Rattle.tg_munch.specs.Bodies.{kept_register, kept, from_caller, parameter_in_temp, parameter_in_frame, parameter, parameters}
+use Rattle.tg_munch.specs.Comparing.{on_flag, flag, field_flag, on_less, on_less_field, branch_on, against_zero, against, short_side, is_turned, turned, order}
+use Rattle.tg_munch.specs.Munching.{temp, argument, kept_registers, expression, given_back, compared, branch, returned, element, elements}
+use Rattle.tg_munch.specs.Bodies.{kept_register, kept, from_caller, parameter, parameters}
 use Rattle.tg_munch.specs.Naming.{is_written, is_read}
-use Rattle.tg_munch.proofs.Scopes.{Scope, Grows, grows_on, is_known, is_target, may_name, may_put, D, W, or_left, or_right, below_on, known_on, target_on, known, all_on, counted, occurs, spanned, occurs_append, span_join}
-use Rattle.tg_munch.proofs.Drawing.{Fits, anything, fits_then, fits_give, fits_put, fits_fresh, fits_if, one_named, two_named, three_named, Part}
-use Rattle.tg_munch.proofs.Naming.{Passes, StatementPasses, temp_target, fits_expression, fits_statement}
+use Rattle.tg_munch.proofs.Scopes.{Scope, Grows, grows_on, is_readable, may_name, may_put, Readable, Writable, or_left, or_right, readable_on, writable_on, readable, all_on, counted, occurs, spanned, occurs_append, span_join}
+use Rattle.tg_munch.proofs.Drawing.{Fits, anything, fits_then, fits_give, fits_put, fits_fresh, fits_if, two_named, three_named}
+use Rattle.tg_munch.proofs.Naming.{Passes, StatementPasses, temp_writable, fits_expression, fits_statement}
 
 -- branches to a mark that may be led to
-flag_named : (w : Scope) (holds : Bool) (x : Opnd) (m : ℕ) (d : Drawn) → D w d x → IsTrue (w.is_target m) → IsTrue (may_put w d (on_flag holds x m))
+flag_named : (w : Scope) (holds : Bool) (x : Opnd) (m : ℕ) (d : Drawn) → Readable w d x → IsTrue (w.is_target m) → IsTrue (may_put w d (on_flag holds x m))
 flag_named w true x m d h t = both_hold _ _ h (or_left (w.is_target m) _ t)
 flag_named w false x m d h t = both_hold _ _ h (or_left (w.is_target m) _ t)
 
-less_named : (w : Scope) (signed : Bool) (t x y : Opnd) (d : Drawn) → W w d t → D w d x → D w d y → IsTrue (may_put w d (flag signed t x y))
+less_named : (w : Scope) (signed : Bool) (t x y : Opnd) (d : Drawn) → Writable w d t → Readable w d x → Readable w d y → IsTrue (may_put w d (flag signed t x y))
 less_named w true t x y d h k l = three_named _ _ _ h k l
 less_named w false t x y d h k l = three_named _ _ _ h k l
 
-field_named : (w : Scope) (signed : Bool) (t x : Opnd) (k : ℕ) (d : Drawn) → W w d t → D w d x → IsTrue (may_put w d (field_flag signed t x k))
+field_named : (w : Scope) (signed : Bool) (t x : Opnd) (k : ℕ) (d : Drawn) → Writable w d t → Readable w d x → IsTrue (may_put w d (field_flag signed t x k))
 field_named w true t x k d h l = two_named _ _ h l
 field_named w false t x k d h l = two_named _ _ h l
 
-fits_on_less : (w : Scope) (o : Order) (x y : Opnd) (m : ℕ) (d : Drawn) → D w d x → D w d y → IsTrue (w.is_target m) → Fits anything w (on_less o x y m) d
+fits_on_less : (w : Scope) (o : Order) (x y : Opnd) (m : ℕ) (d : Drawn) → Readable w d x → Readable w d y → IsTrue (w.is_target m) → Fits anything w (on_less o x y m) d
 fits_on_less w o x y m d h k l =
     fits_then _ (fits_fresh w d) (λ e t a b.
-    fits_then _ (fits_put w _ e (less_named w o.signed t x y e b (known_on w a x h) (known_on w a y k))) (λ f u a' b'.
-    fits_put w _ f (flag_named w o.holds t m f (known w f t (target_on w a' t b)) l)))
+    fits_then _ (fits_put w _ e (less_named w o.signed t x y e b (readable_on w a x h) (readable_on w a y k))) (λ f u a' b'.
+    fits_put w _ f (flag_named w o.holds t m f (readable w f t (writable_on w a' t b)) l)))
 
-fits_on_less_field : (w : Scope) (o : Order) (n : ℕ) (x : Opnd) (m : ℕ) (d : Drawn) → D w d x → IsTrue (w.is_target m) → Fits anything w (on_less_field o n x m) d
+fits_on_less_field : (w : Scope) (o : Order) (n : ℕ) (x : Opnd) (m : ℕ) (d : Drawn) → Readable w d x → IsTrue (w.is_target m) → Fits anything w (on_less_field o n x m) d
 fits_on_less_field w o n x m d h l =
     fits_then _ (fits_fresh w d) (λ e t a b.
-    fits_then _ (fits_put w _ e (field_named w o.signed t x n e b (known_on w a x h))) (λ f u a' b'.
-    fits_put w _ f (flag_named w o.holds t m f (known w f t (target_on w a' t b)) l)))
+    fits_then _ (fits_put w _ e (field_named w o.signed t x n e b (readable_on w a x h))) (λ f u a' b'.
+    fits_put w _ f (flag_named w o.holds t m f (readable w f t (writable_on w a' t b)) l)))
 
-fits_branch_on : (w : Scope) (rel : Rel) (x y : Opnd) (m : ℕ) (d : Drawn) → D w d x → D w d y → IsTrue (w.is_target m) → Fits anything w (branch_on rel x y m) d
+fits_branch_on : (w : Scope) (rel : Rel) (x y : Opnd) (m : ℕ) (d : Drawn) → Readable w d x → Readable w d y → IsTrue (w.is_target m) → Fits anything w (branch_on rel x y m) d
 fits_branch_on w Equal x y m d h k l = fits_put w _ d (both_hold _ _ h (both_hold _ _ k (or_left (w.is_target m) _ l)))
 fits_branch_on w NotEqual x y m d h k l = fits_put w _ d (both_hold _ _ h (both_hold _ _ k (or_left (w.is_target m) _ l)))
 fits_branch_on w Less x y m d h k l = fits_on_less w (order true true) x y m d h k l
@@ -62,16 +62,16 @@ fits_branch_on w LessEqual x y m d h k l = fits_on_less w (order true false) y x
 fits_branch_on w Below x y m d h k l = fits_on_less w (order false true) x y m d h k l
 fits_branch_on w NotBelow x y m d h k l = fits_on_less w (order false false) x y m d h k l
 
-fits_against_zero : (w : Scope) (rel : Rel) (x : Opnd) (m : ℕ) (d : Drawn) → D w d x → IsTrue (w.is_target m) → Fits anything w (against_zero rel x m) d
+fits_against_zero : (w : Scope) (rel : Rel) (x : Opnd) (m : ℕ) (d : Drawn) → Readable w d x → IsTrue (w.is_target m) → Fits anything w (against_zero rel x m) d
 fits_against_zero w Below x m d h l = fits_give anything w tt d refl
 fits_against_zero w NotBelow x m d h l = fits_put w _ d (or_left (w.is_target m) _ l)
 fits_against_zero w _ x m d h l = fits_put w _ d (both_hold _ _ h (or_left (w.is_target m) _ l))
 
-fits_against : (w : Scope) (rel : Rel) (short : Option Short) (x : Opnd) (right : Choice Opnd) (m : ℕ) (d : Drawn) → D w d x → IsTrue (w.is_target m) →
-    Fits (is_known w) w right d → Fits anything w (against rel short x right m) d
+fits_against : (w : Scope) (rel : Rel) (short : Option Short) (x : Opnd) (right : Choice Opnd) (m : ℕ) (d : Drawn) → Readable w d x → IsTrue (w.is_target m) →
+    Fits (is_readable w) w right d → Fits anything w (against rel short x right m) d
 fits_against w rel (Some Zero) x right m d h l r = fits_against_zero w rel x m d h l
 fits_against w rel (Some (Field o n)) x right m d h l r = fits_on_less_field w o n x m d h l
-fits_against w rel None x right m d h l r = fits_then _ r (λ e y a b. fits_branch_on w rel x y m e (known_on w a x h) b l)
+fits_against w rel None x right m d h l r = fits_then _ r (λ e y a b. fits_branch_on w rel x y m e (readable_on w a x h) b l)
 
 fits_compared : (w : Scope) (rel : Rel) (x y : Tx) (m : ℕ) → Passes w x → Passes w y → IsTrue (w.is_target m) → (d : Drawn) →
     Fits anything w (compared w.slots rel x y m) d
@@ -85,7 +85,7 @@ fits_branch w rel x y m p q l d =
     fits_if (is_turned rel x y) (fits_compared w (turned rel) y x m q p l d) (fits_compared w rel x y m p q l d)
 
 -- the registers that are given back
-drawn_temp : (w : Scope) (d : Drawn) (t : ℕ) → t < d.temp → D w d (temp t)
+drawn_temp : (w : Scope) (d : Drawn) (t : ℕ) → t < d.temp → Readable w d (temp t)
 drawn_temp w d t h = or_right (w.is_name (temporary t)) (nat_lt t d.temp) (below t d.temp h)
   where
     below : (t n : ℕ) → t < n → IsTrue (nat_lt t n)
@@ -210,7 +210,7 @@ fits_kept w (r ∷ rs) h d =
 abbrev have_kept : ℕ → Drawn → Unit {0} → Bool
 have_kept keeps e x = nat_le (keeps + 9) e.temp
 
-at_least : (m n : ℕ) → m ≤ n → IsTrue (nat_le m n)
+pub at_least : (m n : ℕ) → m ≤ n → IsTrue (nat_le m n)
 at_least m n h = grind (arith, nat_tests)
 
 at_most : (m n : ℕ) → IsTrue (nat_le m n) → m ≤ n
@@ -239,9 +239,9 @@ argument_read i e = grind (arith, nat_tests)
 
 fits_in_temp : (w : Scope) (i : ℕ) (t : Temp) → IsTrue (w.is_name (temporary t.0)) → (d : Drawn) → (b : Bool) → nat_lt i 4 ≡ b →
     Fits anything w (if b then put (Move (temp t.0) (argument i)) else (expression w.slots (from_caller i) (Some (temp t.0)) >> give tt)) d
-fits_in_temp w i t h d true e = fits_put w _ d (two_named _ _ (temp_target w d t.0 h) (argument_read i e))
+fits_in_temp w i t h d true e = fits_put w _ d (two_named _ _ (temp_writable w d t.0 h) (argument_read i e))
 fits_in_temp w i t h d false e =
-    fits_then _ (fits_expression w (from_caller i) (tt, tt) (Some (temp t.0)) d (temp_target w d t.0 h)) (λ f v a b. fits_give anything w tt f refl)
+    fits_then _ (fits_expression w (from_caller i) (tt, tt) (Some (temp t.0)) d (temp_writable w d t.0 h)) (λ f v a b. fits_give anything w tt f refl)
 
 fits_in_frame : (w : Scope) (i k : ℕ) → IsTrue (w.is_slot k) → (d : Drawn) → (b : Bool) → nat_lt i 4 ≡ b →
     Fits anything w (if b then put (FrameStore (argument i) k) else (expression w.slots (from_caller i) None >>= (λ v. put (FrameStore v k)))) d

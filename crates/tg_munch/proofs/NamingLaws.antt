@@ -1,5 +1,5 @@
 -- Laws of what the instructions of a function name.
-use Rattle.std.proofs.Common.{ℕ, ◌≡◌, ◌<◌, ◌≤◌, ◌+◌, List, [], ◌∷◌, Option, Some, None, Bool, true, false, nat_lt, refl, arith}
+use Rattle.std.proofs.Common.{ℕ, ◌≡◌, ◌<◌, ◌≤◌, List, [], ◌∷◌, Option, Some, None, Bool, true, false, nat_lt, refl, arith}
 use Rattle.std.proofs.lemmas.Bool.Decides.{nat_tests}
 use Rattle.std.specs.Prelude.{IsTrue, ◌&&◌, ◌||◌}
 use Rattle.std.specs.List.{Contains, list_all}
@@ -12,15 +12,15 @@ use Rattle.tg_instr.proofs.Tests.{left_holds, right_holds, both_hold}
 use Rattle.tg_instr.specs.declared.operands.Opnd.{Opnd}
 use Rattle.tg_instr.specs.declared.operands.Opnd.TheVariants.{Temp, Reg}
 use Rattle.tg_instr.specs.declared.instr.Instr.{Instr}
-use Rattle.tg_instr.specs.declared.instr.Instr.TheVariants.{Sll, Srl, Sra, Mfhi, Mflo, Mult, Div, Add, Sub, Addu, Subu, And, Or, Xor, Nor, Slt, Sltu, Addi, Addiu, Slti, Sltiu, Andi, Ori, Xori, Lui, Lb, Lbu, Lw, Sb, Sw, Move, FrameLoad, FrameStore, FrameAddress, Address, Mark, Jump, Branch, Call, Service, Fault, Return}
+use Rattle.tg_instr.specs.declared.instr.Instr.TheVariants.{Sll, Srl, Sra, Mfhi, Mflo, Mult, Div, Add, Sub, Addu, Subu, And, Or, Xor, Nor, Slt, Sltu, Addi, Addiu, Slti, Sltiu, Andi, Ori, Xori, Lui, Lb, Lbu, Lw, Sb, Sw, Move, FrameLoad, FrameStore, FrameAddress, Address, Branch, Call, Fault}
 use Rattle.tg_instr.specs.Codes.{is_below, has_temps_below, has_slots_below}
 use Rattle.tg_instr.specs.Renaming.{named}
 use Rattle.tg_munch.specs.Choosing.{Drawn}
 use Rattle.tg_munch.specs.Bodies.{mark_above, munched}
 use Rattle.tg_munch.specs.Naming.{is_written, is_read, has_register, names_registers, names_allowed, AreAllowed}
 use Rattle.tg_munch.specs.Laws.{HasHomes}
-use Rattle.tg_munch.proofs.Scopes.{Scope, is_known, is_target, is_option, is_temp, reaches, may_name, below_on}
-use Rattle.tg_munch.proofs.NamingCode.{Lays, stands, CodePasses, HomePasses, HomesPass, lays_body}
+use Rattle.tg_munch.proofs.Scopes.{Scope, is_readable, is_writable, is_option, is_temp, reaches, may_name, below_on}
+use Rattle.tg_munch.proofs.NamingCode.{HomePasses, HomesPass, lays_body}
 use Rattle.tg_munch.proofs.Passing.{pass_code, homes_pass, all_homes_pass}
 
 -- where each that passes one test passes another
@@ -44,10 +44,10 @@ scope f is_slot is_name has = record {
   has_slots = has;
 }
 
-abbrev any_slot : ℕ → Bool
+abbrev pub any_slot : ℕ → Bool
 any_slot k = true
 
-abbrev any_name : Named → Bool
+abbrev pub any_name : Named → Bool
 any_name x = true
 
 named_in : (f : Function (List Linear)) (is_slot : ℕ → Bool) (is_name : Named → Bool) (has : (k : ℕ) → IsTrue (nat_lt k f.slots) → IsTrue (is_slot k)) →
@@ -58,20 +58,20 @@ named_in f is_slot is_name has names homes =
     (lays_body w f.params f.body homes (pass_code w f.body names (λ m c. refl)) (start f)).code (omega arith)
 
 -- registers
-written : (w : Scope) (d : Drawn) (x : Option Opnd) → IsTrue (is_option (is_target w d) x) → IsTrue (has_register is_written x)
+written : (w : Scope) (d : Drawn) (x : Option Opnd) → IsTrue (is_option (is_writable w d) x) → IsTrue (has_register is_written x)
 written w d (Some (Temp t)) h = refl
 written w d (Some (Reg r)) h = h
 written w d None h = refl
 
-read : (w : Scope) (d : Drawn) (x : Option Opnd) → IsTrue (is_option (is_known w d) x) → IsTrue (has_register is_read x)
+read : (w : Scope) (d : Drawn) (x : Option Opnd) → IsTrue (is_option (is_readable w d) x) → IsTrue (has_register is_read x)
 read w d (Some (Temp t)) h = refl
 read w d (Some (Reg r)) h = h
 read w d None h = refl
 
 registers_named : (w : Scope) (d : Drawn) (one : Instr) → IsTrue (may_name w d one) → IsTrue (names_registers one)
 registers_named w d one h =
-    let r = right_holds (is_option (is_target w d) (named one).to) _ h in
-    let s = right_holds (is_option (is_known w d) (named one).first) _ r in
+    let r = right_holds (is_option (is_writable w d) (named one).to) _ h in
+    let s = right_holds (is_option (is_readable w d) (named one).first) _ r in
     both_hold _ _ (written w d (named one).to (left_holds _ _ h))
     (both_hold _ _ (read w d (named one).first (left_holds _ _ r)) (read w d (named one).second (left_holds _ (reaches w d one) s)))
 
@@ -88,9 +88,9 @@ registers_are_fixed f =
 -- slots
 pub reached : (w : Scope) (d : Drawn) (one : Instr) → IsTrue (may_name w d one) → IsTrue (reaches w d one)
 reached w d one h =
-    let r = right_holds (is_option (is_target w d) (named one).to) _ h in
-    let s = right_holds (is_option (is_known w d) (named one).first) _ r in
-    right_holds (is_option (is_known w d) (named one).second) (reaches w d one) s
+    let r = right_holds (is_option (is_writable w d) (named one).to) _ h in
+    let s = right_holds (is_option (is_readable w d) (named one).first) _ r in
+    right_holds (is_option (is_readable w d) (named one).second) (reaches w d one) s
 
 abbrev is_below_slots : ℕ → ℕ → Bool
 is_below_slots slots k = nat_lt k slots
@@ -158,13 +158,13 @@ module _ (w : Scope) (d : Drawn) (temps : ℕ) (same : (i : ℕ) → w.is_name (
   temp_below : (t : ℕ) → IsTrue (is_temp w d t) → IsTrue (nat_lt t d.temp)
   temp_below t h = either_below t temps d.temp grows (nat_lt t temps) refl (let e = same t in let g : (nat_lt t temps || nat_lt t d.temp) ≡ true = cc in g)
 
-  source : (x : Opnd) → IsTrue (is_known w d x) → IsTrue (is_below d.temp x)
-  source (Temp t) h = temp_below t.0 h
-  source (Reg r) h = refl
+  readable_below : (x : Opnd) → IsTrue (is_readable w d x) → IsTrue (is_below d.temp x)
+  readable_below (Temp t) h = temp_below t.0 h
+  readable_below (Reg r) h = refl
 
-  target : (x : Opnd) → IsTrue (is_target w d x) → IsTrue (is_below d.temp x)
-  target (Temp t) h = temp_below t.0 h
-  target (Reg r) h = refl
+  writable_below : (x : Opnd) → IsTrue (is_writable w d x) → IsTrue (is_below d.temp x)
+  writable_below (Temp t) h = temp_below t.0 h
+  writable_below (Reg r) h = refl
 
   alone : (a : Bool) → IsTrue a → IsTrue (a && true)
   alone a h = both_hold a true h refl
@@ -172,29 +172,29 @@ module _ (w : Scope) (d : Drawn) (temps : ℕ) (same : (i : ℕ) → w.is_name (
   both : (a b : Bool) → IsTrue a → IsTrue b → IsTrue (a && (b && true))
   both a b h k = both_hold a _ h (alone b k)
 
-  to_only : (to : Opnd) (b : Bool) → IsTrue (is_target w d to && b) → IsTrue (is_below d.temp to && true)
-  to_only to b h = alone _ (target to (left_holds _ b h))
+  to_only : (to : Opnd) (b : Bool) → IsTrue (is_writable w d to && b) → IsTrue (is_below d.temp to && true)
+  to_only to b h = alone _ (writable_below to (left_holds _ b h))
 
-  from_only : (x : Opnd) (b : Bool) → IsTrue (is_known w d x && b) → IsTrue ((is_below d.temp x && true) && true)
-  from_only x b h = alone _ (alone _ (source x (left_holds _ b h)))
+  from_only : (x : Opnd) (b : Bool) → IsTrue (is_readable w d x && b) → IsTrue ((is_below d.temp x && true) && true)
+  from_only x b h = alone _ (alone _ (readable_below x (left_holds _ b h)))
 
-  to_from : (to x : Opnd) → IsTrue (is_target w d to && (is_known w d x && true)) → IsTrue ((is_below d.temp x && true) && (is_below d.temp to && true))
+  to_from : (to x : Opnd) → IsTrue (is_writable w d to && (is_readable w d x && true)) → IsTrue ((is_below d.temp x && true) && (is_below d.temp to && true))
   to_from to x h =
-      let r = right_holds (is_target w d to) (is_known w d x && true) h in
-      both_hold _ _ (alone _ (source x (left_holds _ true r))) (alone _ (target to (left_holds _ (is_known w d x && true) h)))
+      let r = right_holds (is_writable w d to) (is_readable w d x && true) h in
+      both_hold _ _ (alone _ (readable_below x (left_holds _ true r))) (alone _ (writable_below to (left_holds _ (is_readable w d x && true) h)))
 
-  two : (x y : Opnd) (b : Bool) → IsTrue (is_known w d x && (is_known w d y && b)) → IsTrue ((is_below d.temp x && (is_below d.temp y && true)) && true)
+  two : (x y : Opnd) (b : Bool) → IsTrue (is_readable w d x && (is_readable w d y && b)) → IsTrue ((is_below d.temp x && (is_below d.temp y && true)) && true)
   two x y b h =
-      let r = right_holds (is_known w d x) (is_known w d y && b) h in
-      alone _ (both _ _ (source x (left_holds _ (is_known w d y && b) h)) (source y (left_holds _ b r)))
+      let r = right_holds (is_readable w d x) (is_readable w d y && b) h in
+      alone _ (both _ _ (readable_below x (left_holds _ (is_readable w d y && b) h)) (readable_below y (left_holds _ b r)))
 
-  to_two : (to x y : Opnd) → IsTrue (is_target w d to && (is_known w d x && (is_known w d y && true))) →
+  to_two : (to x y : Opnd) → IsTrue (is_writable w d to && (is_readable w d x && (is_readable w d y && true))) →
       IsTrue ((is_below d.temp x && (is_below d.temp y && true)) && (is_below d.temp to && true))
   to_two to x y h =
-      let r = right_holds (is_target w d to) (is_known w d x && (is_known w d y && true)) h in
-      let s = right_holds (is_known w d x) (is_known w d y && true) r in
-      both_hold _ _ (both _ _ (source x (left_holds _ (is_known w d y && true) r)) (source y (left_holds _ true s)))
-      (alone _ (target to (left_holds _ (is_known w d x && (is_known w d y && true)) h)))
+      let r = right_holds (is_writable w d to) (is_readable w d x && (is_readable w d y && true)) h in
+      let s = right_holds (is_readable w d x) (is_readable w d y && true) r in
+      both_hold _ _ (both _ _ (readable_below x (left_holds _ (is_readable w d y && true) r)) (readable_below y (left_holds _ true s)))
+      (alone _ (writable_below to (left_holds _ (is_readable w d x && (is_readable w d y && true)) h)))
 
   one_below : (one : Instr) → IsTrue (may_name w d one) → IsTrue (has_temps_below d.temp one)
   one_below (Sll rd rt n) h = to_from rd rt h

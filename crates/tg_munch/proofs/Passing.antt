@@ -1,19 +1,18 @@
 -- Names, marks and homes of a function that pass tests, one by one.
-use Rattle.std.proofs.Common.{ℕ, ◌≡◌, ◌<◌, List, [], ◌∷◌, Bool, length, refl, arith}
+use Rattle.std.proofs.Common.{ℕ, List, [], ◌∷◌, Bool, refl, arith}
 use Rattle.std.specs.Prelude.{IsTrue, All}
 use Rattle.std.specs.List.{Contains}
 use Rattle.std.proofs.lemmas.List.Elements.{Contains-append_right, All-head, All-tail}
 use Rattle.tg_frame.specs.declared.accesses.Access.{Access}
-use Rattle.tg_frame.specs.declared.accesses.Access.TheVariants.{InTemp, InFrame}
 use Rattle.tg_frame.specs.Homes.{IsDrawn}
 use Rattle.tg_tree.specs.Tree as tree
 use Rattle.tg_tree.specs.Tree.{Tx, Txs, no_txs, tx, Cond, Ts, Stms, no_stms, stm, Linear}
-use Rattle.tg_tree.specs.Named.{Named, temporary, named_tx, named_txs, named_cond, named_ts, named_stms, named_flat}
+use Rattle.tg_tree.specs.Named.{Named, named_tx, named_txs, named_cond, named_ts, named_stms, named_flat}
 use Rattle.tg_tree.specs.Shapes.{targets}
 use Rattle.tg_munch.specs.Naming.{AreAllowed}
 use Rattle.tg_munch.proofs.Scopes.{Scope}
 use Rattle.tg_munch.proofs.Naming.{Passes, AllPass, StatementPasses}
-use Rattle.tg_munch.proofs.NamingCode.{ElementPasses, CodePasses, HomePasses, HomesPass}
+use Rattle.tg_munch.proofs.NamingCode.{CodePasses, HomePasses, HomesPass}
 
 -- each of a list passes a test
 abbrev pub Each : {X : Type 0} → (X → Bool) → List X → Type 0

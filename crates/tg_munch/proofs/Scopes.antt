@@ -1,5 +1,5 @@
 -- What a code may name: operands, slots, labels, faults and marks that pass tests, and what is drawn.
-use Rattle.std.proofs.Common.{ℕ, ◌≡◌, ◌<◌, ◌≤◌, ◌+◌, List, [], ◌∷◌, ◌++◌, Option, Some, None, Bool, true, false, cond, nat_lt, refl, sym, ap, ◌∙◌, arith, zero-add, add_assoc}
+use Rattle.std.proofs.Common.{ℕ, ◌≡◌, ◌≤◌, ◌+◌, List, [], ◌∷◌, ◌++◌, Option, Some, None, Bool, true, false, cond, nat_lt, refl, sym, ap, ◌∙◌, arith, zero-add, add_assoc}
 use Rattle.std.proofs.lemmas.Bool.Decides.{nat_tests}
 use Rattle.std.specs.Prelude.{IsTrue, ◌&&◌, ◌||◌, not, nat_le, nat_eq}
 use Rattle.std.specs.List.{list_all}
@@ -38,14 +38,14 @@ grows_on a b = record { temp = omega (arith, a.temp, b.temp); mark = omega (arit
 abbrev pub is_temp : Scope → Drawn → ℕ → Bool
 is_temp w e t = w.is_name (temporary t) || nat_lt t e.temp
 
--- an operand that is read, and one that is written
-abbrev pub is_known : Scope → Drawn → Opnd → Bool
-is_known w e (Temp t) = is_temp w e t.0
-is_known w e (Reg r) = is_read r
+-- an operand that may be read, and one that may be written
+abbrev pub is_readable : Scope → Drawn → Opnd → Bool
+is_readable w e (Temp t) = is_temp w e t.0
+is_readable w e (Reg r) = is_read r
 
-abbrev pub is_target : Scope → Drawn → Opnd → Bool
-is_target w e (Temp t) = is_temp w e t.0
-is_target w e (Reg r) = is_written r
+abbrev pub is_writable : Scope → Drawn → Opnd → Bool
+is_writable w e (Temp t) = is_temp w e t.0
+is_writable w e (Reg r) = is_written r
 
 abbrev pub is_option : (Opnd → Bool) → Option Opnd → Bool
 is_option p (Some x) = p x
@@ -66,21 +66,21 @@ reaches w e _ = true
 
 abbrev pub may_name : Scope → Drawn → Instr → Bool
 may_name w e one =
-    is_option (is_target w e) (named one).to
-    && (is_option (is_known w e) (named one).first && (is_option (is_known w e) (named one).second && reaches w e one))
+    is_option (is_writable w e) (named one).to
+    && (is_option (is_readable w e) (named one).first && (is_option (is_readable w e) (named one).second && reaches w e one))
 
 -- an instruction that is no mark either
 abbrev pub may_put : Scope → Drawn → Instr → Bool
 may_put w e one = not (is_mark w.mark one) && may_name w e one
 
-abbrev pub D : Scope → Drawn → Opnd → Type 0
-D w e x = IsTrue (is_known w e x)
+abbrev pub Readable : Scope → Drawn → Opnd → Type 0
+Readable w e x = IsTrue (is_readable w e x)
 
-abbrev pub W : Scope → Drawn → Opnd → Type 0
-W w e x = IsTrue (is_target w e x)
+abbrev pub Writable : Scope → Drawn → Opnd → Type 0
+Writable w e x = IsTrue (is_writable w e x)
 
 abbrev pub Asked : Scope → Drawn → Option Opnd → Type 0
-Asked w e x = IsTrue (is_option (is_target w e) x)
+Asked w e x = IsTrue (is_option (is_writable w e) x)
 
 -- all that stays so where more is drawn
 or_on : (a b c : Bool) → (IsTrue b → IsTrue c) → IsTrue (a || b) → IsTrue (a || c)
@@ -111,25 +111,25 @@ place_on w {d} {e} g m h =
         (below_on d.mark e.mark m g.mark (right_holds (nat_le w.first_mark m) (nat_lt m d.mark) k)))
     h
 
-pub known_on : (w : Scope) {d e : Drawn} → Grows d e → (x : Opnd) → D w d x → D w e x
-known_on w g (Temp t) h = temp_on w g t.0 h
-known_on w g (Reg r) h = h
+pub readable_on : (w : Scope) {d e : Drawn} → Grows d e → (x : Opnd) → Readable w d x → Readable w e x
+readable_on w g (Temp t) h = temp_on w g t.0 h
+readable_on w g (Reg r) h = h
 
-pub target_on : (w : Scope) {d e : Drawn} → Grows d e → (x : Opnd) → W w d x → W w e x
-target_on w g (Temp t) h = temp_on w g t.0 h
-target_on w g (Reg r) h = h
+pub writable_on : (w : Scope) {d e : Drawn} → Grows d e → (x : Opnd) → Writable w d x → Writable w e x
+writable_on w g (Temp t) h = temp_on w g t.0 h
+writable_on w g (Reg r) h = h
 
 pub asked_on : (w : Scope) {d e : Drawn} → Grows d e → (x : Option Opnd) → Asked w d x → Asked w e x
-asked_on w g (Some x) h = target_on w g x h
+asked_on w g (Some x) h = writable_on w g x h
 asked_on w g None h = refl
 
--- what is written may be read
-pub known : (w : Scope) (d : Drawn) (x : Opnd) → W w d x → D w d x
-known w d (Temp t) h = h
-known w d (Reg r) h = or_right (nat_eq r 0) _ (or_right (nat_eq r 29) (is_written r) h)
+-- what may be written may be read
+pub readable : (w : Scope) (d : Drawn) (x : Opnd) → Writable w d x → Readable w d x
+readable w d (Temp t) h = h
+readable w d (Reg r) h = or_right (nat_eq r 0) _ (or_right (nat_eq r 29) (is_written r) h)
 
-source_on : (w : Scope) {d e : Drawn} → Grows d e → (x : Option Opnd) → IsTrue (is_option (is_known w d) x) → IsTrue (is_option (is_known w e) x)
-source_on w g (Some x) h = known_on w g x h
+source_on : (w : Scope) {d e : Drawn} → Grows d e → (x : Option Opnd) → IsTrue (is_option (is_readable w d) x) → IsTrue (is_option (is_readable w e) x)
+source_on w g (Some x) h = readable_on w g x h
 source_on w g None h = refl
 
 reaches_on : (w : Scope) {d e : Drawn} → Grows d e → (one : Instr) → IsTrue (reaches w d one) → IsTrue (reaches w e one)
@@ -139,12 +139,12 @@ reaches_on w g _ h = h
 
 one_on : (w : Scope) {d e : Drawn} → Grows d e → (one : Instr) → IsTrue (may_name w d one) → IsTrue (may_name w e one)
 one_on w {d} {e} g one h =
-    let a = left_holds (is_option (is_target w d) (named one).to) _ h in
-    let r = right_holds (is_option (is_target w d) (named one).to) _ h in
-    let b = left_holds (is_option (is_known w d) (named one).first) _ r in
-    let s = right_holds (is_option (is_known w d) (named one).first) _ r in
-    let c = left_holds (is_option (is_known w d) (named one).second) _ s in
-    let z = right_holds (is_option (is_known w d) (named one).second) (reaches w d one) s in
+    let a = left_holds (is_option (is_writable w d) (named one).to) _ h in
+    let r = right_holds (is_option (is_writable w d) (named one).to) _ h in
+    let b = left_holds (is_option (is_readable w d) (named one).first) _ r in
+    let s = right_holds (is_option (is_readable w d) (named one).first) _ r in
+    let c = left_holds (is_option (is_readable w d) (named one).second) _ s in
+    let z = right_holds (is_option (is_readable w d) (named one).second) (reaches w d one) s in
     both_hold _ _ (asked_on w g (named one).to a) (both_hold _ _ (source_on w g (named one).first b)
     (both_hold _ _ (source_on w g (named one).second c) (reaches_on w g one z)))
 

@@ -15,8 +15,9 @@ use tg_frame::Frame;
 use tg_instr::Code;
 use tg_tree::{Linear, Ts, Tx};
 
-/// The instructions of a function, by its flat code and its frame, of which `out` is set: the words
-/// at its low end for the arguments past the fourth of the calls that the code makes.
+/// The instructions of a function, by its flat code, whose temporaries its frame has drawn. Of the
+/// frame `out` is set: the words at its low end for the arguments past the fourth of the calls that
+/// the code makes.
 pub fn munch(alloc: Global, code: &[Linear], frame: &mut Frame) -> Result<Code, Memory>
     requires marked { IsWellMarked (code_of code.now) }
     requires drawn { HasItsTemps (λ e. named_flat e [])
