@@ -11,11 +11,7 @@ use tg_frame::Frame;
 use tg_tree::Linear;
 
 /// Whether flat code is what `munch` asks for.
-pub(crate) fn can_be_munched(
-    alloc: Global,
-    code: &[Linear],
-    frame: &Frame,
-) -> Result<bool, Memory>
+pub(crate) fn can_be_munched(alloc: Global, code: &[Linear], frame: &Frame) -> Result<bool, Memory>
     ensures marked { IfOk result (λ b. IsTrue b → IsWellMarked (code_of code.now)) }
     ensures drawn { IfOk result (λ b. IsTrue b →
         HasItsTemps (λ e. named_flat e []) (plain_function frame.now (code_of code.now))) }

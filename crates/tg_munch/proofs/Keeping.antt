@@ -2,7 +2,6 @@
 use Rattle.std.proofs.Common.{ℕ, ◌≡◌, List, [], sym, subst}
 use Rattle.std.specs.Prelude.{IsTrue}
 use Rattle.std.specs.List.{list_all}
-use Rattle.tg_frame.proofs.Apart.{all_drawn}
 use Rattle.tg_frame.specs.declared.frames.Frame.{Frame}
 use Rattle.tg_tree.specs.Tree.{Linear}
 use Rattle.tg_tree.specs.Named.{named_flat, HasItsTemps}
@@ -28,7 +27,7 @@ keeps_munched frame code marked drawn =
     record {
       marks_differ = marks_are_apart f marked;
       marks_stand = marks_are_there f marked;
-      temps_below = temps_are_below f (all_drawn frame.params frame.slots frame.temps frame.slots_below frame.temps_below) drawn;
+      temps_below = temps_are_below f frame.temps_below drawn;
       ends_well = code_ends f marked.last;
     }
 

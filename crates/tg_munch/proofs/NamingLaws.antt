@@ -5,7 +5,7 @@ use Rattle.std.specs.Prelude.{IsTrue, ◌&&◌, ◌||◌}
 use Rattle.std.specs.List.{Contains, list_all}
 use Rattle.tg_frame.specs.declared.accesses.Access.{Access}
 use Rattle.tg_frame.specs.declared.accesses.Access.TheVariants.{InTemp, InFrame}
-use Rattle.tg_frame.specs.Homes.{IsDrawn}
+use Rattle.tg_frame.specs.Homes.{slot_bound, temp_bound}
 use Rattle.tg_tree.specs.Tree.{Linear, Function}
 use Rattle.tg_tree.specs.Named.{Named, function, literal, fault, temporary, named_flat, HasItsTemps}
 use Rattle.tg_instr.proofs.Tests.{left_holds, right_holds, both_hold}
@@ -18,10 +18,9 @@ use Rattle.tg_instr.specs.Renaming.{named}
 use Rattle.tg_munch.specs.Choosing.{Drawn}
 use Rattle.tg_munch.specs.Bodies.{mark_above, munched}
 use Rattle.tg_munch.specs.Naming.{is_written, is_read, has_register, names_registers, names_allowed, AreAllowed}
-use Rattle.tg_munch.specs.Laws.{HasHomes}
 use Rattle.tg_munch.proofs.Scopes.{Scope, is_readable, is_writable, is_option, is_temp, reaches, may_name, below_on}
 use Rattle.tg_munch.proofs.NamingCode.{HomePasses, HomesPass, lays_body}
-use Rattle.tg_munch.proofs.Passing.{pass_code, homes_pass, all_homes_pass}
+use Rattle.tg_munch.proofs.Passing.{pass_code, slots_pass, temps_pass, all_homes_pass}
 
 -- where each that passes one test passes another
 pub all_imply : {X : Type 0} (p q : X → Bool) → ((x : X) → IsTrue (p x) → IsTrue (q x)) → (xs : List X) → IsTrue (list_all p xs) → IsTrue (list_all q xs)
@@ -104,16 +103,12 @@ slots_reached f d _ h = refl
 is_less : (m n : ℕ) → m < n → IsTrue (nat_lt m n)
 is_less m n h = grind (arith, nat_tests)
 
-slot_home : (f : Function (List Linear)) (home : Access) → IsDrawn f.slots f.temps home → HomePasses (scope f (is_below_slots f.slots) any_name (λ k h. h)) home
-slot_home f (InTemp t) h = refl
-slot_home f (InFrame k) h = is_less k f.slots h
-
-pub slots_are_below : (f : Function (List Linear)) → HasHomes f → IsTrue (list_all (has_slots_below f.slots) (munched f).code)
-slots_are_below f homes =
+pub slots_are_below : (f : Function (List Linear)) → slot_bound f.params ≤ f.slots → IsTrue (list_all (has_slots_below f.slots) (munched f).code)
+slots_are_below f le =
     let w = scope f (is_below_slots f.slots) any_name (λ k h. h) in
     let d = (munched f).drawn in
     all_imply (may_name w d) (has_slots_below f.slots) (λ one h. slots_reached f d one (reached w d one h)) (munched f).code
-    (named_in f (is_below_slots f.slots) any_name (λ k h. h) (λ x c. refl) (homes_pass w f.slots f.temps f.params (slot_home f) homes))
+    (named_in f (is_below_slots f.slots) any_name (λ k h. h) (λ x c. refl) (slots_pass w f.params f.slots (λ k h. is_less k f.slots h) (λ t. refl) le))
 
 -- functions, literals and faults
 abbrev labels_alone : (Named → Bool) → Named → Bool
@@ -235,23 +230,19 @@ module _ (w : Scope) (d : Drawn) (temps : ℕ) (same : (i : ℕ) → w.is_name (
   one_below (Branch test m) h = two test.left test.right _ h
   one_below _ h = refl
 
-temp_home : (f : Function (List Linear)) (home : Access) → IsDrawn f.slots f.temps home → HomePasses (scope f any_slot (temps_below f.temps) (λ k h. refl)) home
-temp_home f (InTemp t) h = is_less t.0 f.temps h
-temp_home f (InFrame k) h = refl
-
 temp_allowed : (temps : ℕ) (names : List Named) → ((i : ℕ) → Contains names (temporary i) → i < temps) → AreAllowed (temps_below temps) names
 temp_allowed temps names h (function label) c = refl
 temp_allowed temps names h (literal label) c = refl
 temp_allowed temps names h (fault n) c = refl
 temp_allowed temps names h (temporary i) c = is_less i temps (h i c)
 
-pub temps_are_below : (f : Function (List Linear)) → HasHomes f → HasItsTemps (λ body. named_flat body []) f →
+pub temps_are_below : (f : Function (List Linear)) → temp_bound f.params ≤ f.temps → HasItsTemps (λ body. named_flat body []) f →
     IsTrue (list_all (has_temps_below (munched f).drawn.temp) (munched f).code)
-temps_are_below f homes temps =
+temps_are_below f le temps =
     let w = scope f any_slot (temps_below f.temps) (λ k h. refl) in
     let d = (munched f).drawn in
     let names = temp_allowed f.temps (named_flat f.body []) temps in
-    let here = homes_pass w f.slots f.temps f.params (temp_home f) homes in
+    let here = temps_pass w f.params f.temps (λ t h. is_less t f.temps h) (λ k. refl) le in
     let grown = (lays_body w f.params f.body here (pass_code w f.body names (λ m c. refl)) (start f)).grows in
     all_imply (may_name w d) (has_temps_below d.temp) (one_below w d f.temps (λ i. refl) grown.temp) (munched f).code
     (named_in f any_slot (temps_below f.temps) (λ k h. refl) names here)

@@ -1,13 +1,14 @@
 -- Names, marks and homes of a function that pass tests, one by one.
-use Rattle.std.proofs.Common.{ℕ, List, [], ◌∷◌, Bool, refl, arith}
-use Rattle.std.specs.Prelude.{IsTrue, All}
+use Rattle.std.proofs.Common.{ℕ, ◌<◌, ◌≤◌, List, [], ◌∷◌, Bool, refl, arith}
+use Rattle.std.specs.Prelude.{IsTrue}
 use Rattle.std.specs.List.{Contains}
-use Rattle.std.proofs.lemmas.List.Elements.{Contains-append_right, All-head, All-tail}
+use Rattle.std.proofs.lemmas.List.Elements.{Contains-append_right}
 use Rattle.tg_frame.specs.declared.accesses.Access.{Access}
-use Rattle.tg_frame.specs.Homes.{IsDrawn}
+use Rattle.tg_frame.specs.declared.accesses.Access.TheVariants.{InTemp, InFrame}
+use Rattle.tg_frame.specs.Homes.{slot_bound, temp_bound}
 use Rattle.tg_tree.specs.Tree as tree
 use Rattle.tg_tree.specs.Tree.{Tx, Txs, no_txs, tx, Cond, Ts, Stms, no_stms, stm, Linear}
-use Rattle.tg_tree.specs.Named.{Named, named_tx, named_txs, named_cond, named_ts, named_stms, named_flat}
+use Rattle.tg_tree.specs.Named.{Named, temporary, named_tx, named_txs, named_cond, named_ts, named_stms, named_flat}
 use Rattle.tg_tree.specs.Shapes.{targets}
 use Rattle.tg_munch.specs.Naming.{AreAllowed}
 use Rattle.tg_munch.proofs.Scopes.{Scope}
@@ -91,11 +92,17 @@ module _ (w : Scope) where
       (front w.is_name _ (named_flat rest []) h, pass_code rest (behind w.is_name _ (named_flat rest []) h) t)
   pass_code (tree.Return' x ∷ rest) h t = let a = pass_tx x (named_flat rest []) h in (a.0, pass_code rest a.1 t)
 
-  pub homes_pass : (slots temps : ℕ) (homes : List Access) → ((home : Access) → IsDrawn slots temps home → HomePasses w home) →
-      All (IsDrawn slots temps) homes → HomesPass w homes
-  homes_pass slots temps [] f h = tt
-  homes_pass slots temps (home ∷ homes) f h =
-      (f home (All-head (IsDrawn slots temps) home homes h), homes_pass slots temps homes f (All-tail (IsDrawn slots temps) home homes h))
+  pub slots_pass : (homes : List Access) (slots : ℕ) → ((k : ℕ) → k < slots → IsTrue (w.is_slot k)) → ((t : ℕ) → IsTrue (w.is_name (temporary t))) →
+      slot_bound homes ≤ slots → HomesPass w homes
+  slots_pass [] slots f g le = tt
+  slots_pass (InTemp t ∷ homes) slots f g le = (g t.0, slots_pass homes slots f g le)
+  slots_pass (InFrame k ∷ homes) slots f g le = (f k (omega arith), slots_pass homes slots f g (omega arith))
+
+  pub temps_pass : (homes : List Access) (temps : ℕ) → ((t : ℕ) → t < temps → IsTrue (w.is_name (temporary t))) → ((k : ℕ) → IsTrue (w.is_slot k)) →
+      temp_bound homes ≤ temps → HomesPass w homes
+  temps_pass [] temps f g le = tt
+  temps_pass (InTemp t ∷ homes) temps f g le = (f t.0 (omega arith), temps_pass homes temps f g (omega arith))
+  temps_pass (InFrame k ∷ homes) temps f g le = (g k, temps_pass homes temps f g le)
 
   pub all_homes_pass : (homes : List Access) → ((home : Access) → HomePasses w home) → HomesPass w homes
   all_homes_pass [] f = tt

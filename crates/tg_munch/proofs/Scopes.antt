@@ -108,7 +108,7 @@ place_on : (w : Scope) {d e : Drawn} → Grows d e → (m : ℕ) → IsTrue (is_
 place_on w {d} {e} g m h =
     or_on (w.is_target m) (nat_le w.first_mark m && nat_lt m d.mark) (nat_le w.first_mark m && nat_lt m e.mark)
     (λ k. both_hold (nat_le w.first_mark m) (nat_lt m e.mark) (left_holds (nat_le w.first_mark m) (nat_lt m d.mark) k)
-        (below_on d.mark e.mark m g.mark (right_holds (nat_le w.first_mark m) (nat_lt m d.mark) k)))
+    (below_on d.mark e.mark m g.mark (right_holds (nat_le w.first_mark m) (nat_lt m d.mark) k)))
     h
 
 pub readable_on : (w : Scope) {d e : Drawn} → Grows d e → (x : Opnd) → Readable w d x → Readable w e x

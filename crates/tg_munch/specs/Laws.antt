@@ -1,7 +1,7 @@
 -- What the instructions of a function keep of its flat code.
-use Rattle.std.specs.Prelude.{ℕ, Bool, List, [], All, IsTrue}
+use Rattle.std.specs.Prelude.{ℕ, ◌≤◌, Bool, List, [], IsTrue}
 use Rattle.std.specs.List.{Contains, list_all}
-use Rattle.tg_frame.specs.Homes.{IsDrawn}
+use Rattle.tg_frame.specs.Homes.{slot_bound, temp_bound}
 use Rattle.tg_tree.specs.Shapes.{EndsCode, IsWellMarked}
 use Rattle.tg_tree.specs.Tree as tree
 use Rattle.tg_tree.specs.Tree.{Linear, Function}
@@ -30,21 +30,18 @@ abbrev pub RegistersAreFixed : Type 0
 RegistersAreFixed =
     (f : Function (List Linear)) → IsTrue (list_all names_registers (munched f).code)
 
--- the homes of a function's parameters are drawn in its frame
-abbrev pub HasHomes : Function (List Linear) → Type 0
-HasHomes f = All (IsDrawn f.slots f.temps) f.params
-
--- they go to slots of the frame alone
+-- they go to slots of the frame alone, where the parameters do
 abbrev pub SlotsAreBelow : Type 0
 SlotsAreBelow =
     (f : Function (List Linear)) →
-    HasHomes f → IsTrue (list_all (has_slots_below f.slots) (munched f).code)
+    slot_bound f.params ≤ f.slots →
+    IsTrue (list_all (has_slots_below f.slots) (munched f).code)
 
--- their temporaries are drawn
+-- their temporaries are drawn, where those of the parameters and of the flat code are
 abbrev pub TempsAreBelow : Type 0
 TempsAreBelow =
     (f : Function (List Linear)) →
-    HasHomes f → HasItsTemps (λ body. named_flat body []) f →
+    temp_bound f.params ≤ f.temps → HasItsTemps (λ body. named_flat body []) f →
     IsTrue (list_all (has_temps_below (munched f).drawn.temp) (munched f).code)
 
 -- They call no function, take no literal's address and have no fault that flat code doesn't name:
