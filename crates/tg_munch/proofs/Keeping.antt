@@ -20,7 +20,8 @@ pub record Keeps (list : List Instr) (temps : ℕ) : Type 0 where
   pub temps_below : IsTrue (list_all (has_temps_below temps) list)
   pub ends_well : IsTrue (ends_well list)
 
-keeps_munched : (frame : Frame) (code : List Linear) → IsWellMarked code → HasItsTemps (λ body. named_flat body []) (plain_function frame code) →
+keeps_munched : (frame : Frame) (code : List Linear) → IsWellMarked code →
+    HasItsTemps (λ body. named_flat body []) (plain_function frame code) →
     Keeps (munched (plain_function frame code)).code (munched (plain_function frame code)).drawn.temp
 keeps_munched frame code marked drawn =
     let f = plain_function frame code in
@@ -32,7 +33,8 @@ keeps_munched frame code marked drawn =
     }
 
 pub keeps : (frame : Frame) (code : List Linear) (list : List Instr) (temps : ℕ) → IsWellMarked code →
-    HasItsTemps (λ body. named_flat body []) (plain_function frame code) → list ≡ (munched (plain_function frame code)).code →
+    HasItsTemps (λ body. named_flat body []) (plain_function frame code) →
+    list ≡ (munched (plain_function frame code)).code →
     temps ≡ (munched (plain_function frame code)).drawn.temp → Keeps list temps
 keeps frame code list temps marked drawn e i =
     let f = plain_function frame code in

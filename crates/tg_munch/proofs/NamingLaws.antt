@@ -23,7 +23,8 @@ use Rattle.tg_munch.proofs.NamingCode.{HomePasses, HomesPass, lays_body}
 use Rattle.tg_munch.proofs.Passing.{pass_code, slots_pass, temps_pass, all_homes_pass}
 
 -- where each that passes one test passes another
-pub all_imply : {X : Type 0} (p q : X → Bool) → ((x : X) → IsTrue (p x) → IsTrue (q x)) → (xs : List X) → IsTrue (list_all p xs) → IsTrue (list_all q xs)
+pub all_imply : {X : Type 0} (p q : X → Bool) → ((x : X) → IsTrue (p x) → IsTrue (q x)) → (xs : List X) →
+    IsTrue (list_all p xs) → IsTrue (list_all q xs)
 all_imply p q f [] h = refl
 all_imply p q f (x ∷ xs) h = both_hold _ _ (f x (left_holds _ _ h)) (all_imply p q f xs (right_holds (p x) _ h))
 
@@ -32,7 +33,8 @@ abbrev pub start : Function (List Linear) → Drawn
 start f = record { temp = f.temps; mark = mark_above f.body }
 
 -- the tests of names and slots that are asked for, and marks that are led to in code
-abbrev pub scope : (f : Function (List Linear)) (is_slot : ℕ → Bool) (is_name : Named → Bool) → ((k : ℕ) → IsTrue (nat_lt k f.slots) → IsTrue (is_slot k)) → Scope
+abbrev pub scope : (f : Function (List Linear)) (is_slot : ℕ → Bool) (is_name : Named → Bool) →
+    ((k : ℕ) → IsTrue (nat_lt k f.slots) → IsTrue (is_slot k)) → Scope
 scope f is_slot is_name has = record {
   slots = f.slots;
   is_slot = is_slot;
@@ -49,7 +51,8 @@ any_slot k = true
 abbrev pub any_name : Named → Bool
 any_name x = true
 
-named_in : (f : Function (List Linear)) (is_slot : ℕ → Bool) (is_name : Named → Bool) (has : (k : ℕ) → IsTrue (nat_lt k f.slots) → IsTrue (is_slot k)) →
+named_in : (f : Function (List Linear)) (is_slot : ℕ → Bool) (is_name : Named → Bool)
+    (has : (k : ℕ) → IsTrue (nat_lt k f.slots) → IsTrue (is_slot k)) →
     AreAllowed is_name (named_flat f.body []) → HomesPass (scope f is_slot is_name has) f.params →
     IsTrue (list_all (may_name (scope f is_slot is_name has) (munched f).drawn) (munched f).code)
 named_in f is_slot is_name has names homes =
@@ -57,12 +60,14 @@ named_in f is_slot is_name has names homes =
     (lays_body w f.params f.body homes (pass_code w f.body names (λ m c. refl)) (start f)).code (omega arith)
 
 -- registers
-written : (w : Scope) (d : Drawn) (x : Option Opnd) → IsTrue (is_option (is_writable w d) x) → IsTrue (has_register is_written x)
+written : (w : Scope) (d : Drawn) (x : Option Opnd) → IsTrue (is_option (is_writable w d) x) →
+    IsTrue (has_register is_written x)
 written w d (Some (Temp t)) h = refl
 written w d (Some (Reg r)) h = h
 written w d None h = refl
 
-read : (w : Scope) (d : Drawn) (x : Option Opnd) → IsTrue (is_option (is_readable w d) x) → IsTrue (has_register is_read x)
+read : (w : Scope) (d : Drawn) (x : Option Opnd) → IsTrue (is_option (is_readable w d) x) →
+    IsTrue (has_register is_read x)
 read w d (Some (Temp t)) h = refl
 read w d (Some (Reg r)) h = h
 read w d None h = refl
@@ -72,7 +77,8 @@ registers_named w d one h =
     let r = right_holds (is_option (is_writable w d) (named one).to) _ h in
     let s = right_holds (is_option (is_readable w d) (named one).first) _ r in
     both_hold _ _ (written w d (named one).to (left_holds _ _ h))
-    (both_hold _ _ (read w d (named one).first (left_holds _ _ r)) (read w d (named one).second (left_holds _ (reaches w d one) s)))
+    (both_hold _ _ (read w d (named one).first (left_holds _ _ r))
+    (read w d (named one).second (left_holds _ (reaches w d one) s)))
 
 any_home : (f : Function (List Linear)) (home : Access) → HomePasses (scope f any_slot any_name (λ k h. refl)) home
 any_home f (InTemp t) = refl
@@ -103,12 +109,15 @@ slots_reached f d _ h = refl
 is_less : (m n : ℕ) → m < n → IsTrue (nat_lt m n)
 is_less m n h = grind (arith, nat_tests)
 
-pub slots_are_below : (f : Function (List Linear)) → slot_bound f.params ≤ f.slots → IsTrue (list_all (has_slots_below f.slots) (munched f).code)
+pub slots_are_below : (f : Function (List Linear)) → slot_bound f.params ≤ f.slots →
+    IsTrue (list_all (has_slots_below f.slots) (munched f).code)
 slots_are_below f le =
     let w = scope f (is_below_slots f.slots) any_name (λ k h. h) in
     let d = (munched f).drawn in
-    all_imply (may_name w d) (has_slots_below f.slots) (λ one h. slots_reached f d one (reached w d one h)) (munched f).code
-    (named_in f (is_below_slots f.slots) any_name (λ k h. h) (λ x c. refl) (slots_pass w f.params f.slots (λ k h. is_less k f.slots h) (λ t. refl) le))
+    all_imply (may_name w d) (has_slots_below f.slots) (λ one h. slots_reached f d one (reached w d one h))
+    (munched f).code
+    (named_in f (is_below_slots f.slots) any_name (λ k h. h) (λ x c. refl)
+    (slots_pass w f.params f.slots (λ k h. is_less k f.slots h) (λ t. refl) le))
 
 -- functions, literals and faults
 abbrev labels_alone : (Named → Bool) → Named → Bool
@@ -128,7 +137,8 @@ names_reached f allowed d (Address to label) h = h
 names_reached f allowed d (Fault n) h = h
 names_reached f allowed d _ h = refl
 
-name_home : (f : Function (List Linear)) (allowed : Named → Bool) (home : Access) → HomePasses (scope f any_slot (labels_alone allowed) (λ k h. refl)) home
+name_home : (f : Function (List Linear)) (allowed : Named → Bool) (home : Access) →
+    HomePasses (scope f any_slot (labels_alone allowed) (λ k h. refl)) home
 name_home f allowed (InTemp t) = refl
 name_home f allowed (InFrame k) = refl
 
@@ -137,8 +147,10 @@ pub names_stay : (allowed : Named → Bool) (f : Function (List Linear)) → Are
 names_stay allowed f names =
     let w = scope f any_slot (labels_alone allowed) (λ k h. refl) in
     let d = (munched f).drawn in
-    all_imply (may_name w d) (names_allowed allowed) (λ one h. names_reached f allowed d one (reached w d one h)) (munched f).code
-    (named_in f any_slot (labels_alone allowed) (λ k h. refl) (λ x c. label_allowed allowed x (names x c)) (all_homes_pass w f.params (name_home f allowed)))
+    all_imply (may_name w d) (names_allowed allowed) (λ one h. names_reached f allowed d one (reached w d one h))
+    (munched f).code
+    (named_in f any_slot (labels_alone allowed) (λ k h. refl) (λ x c. label_allowed allowed x (names x c))
+    (all_homes_pass w f.params (name_home f allowed)))
 
 -- temporaries
 abbrev temps_below : ℕ → Named → Bool
@@ -149,9 +161,13 @@ either_below : (t m n : ℕ) → m ≤ n → (b : Bool) → nat_lt t m ≡ b →
 either_below t m n le true e h = below_on m n t le e
 either_below t m n le false e h = h
 
-module _ (w : Scope) (d : Drawn) (temps : ℕ) (same : (i : ℕ) → w.is_name (temporary i) ≡ nat_lt i temps) (grows : temps ≤ d.temp) where
+module _ (w : Scope) (d : Drawn) (temps : ℕ)
+    (same : (i : ℕ) → w.is_name (temporary i) ≡ nat_lt i temps) (grows : temps ≤ d.temp) where
   temp_below : (t : ℕ) → IsTrue (is_temp w d t) → IsTrue (nat_lt t d.temp)
-  temp_below t h = either_below t temps d.temp grows (nat_lt t temps) refl (let e = same t in let g : (nat_lt t temps || nat_lt t d.temp) ≡ true = cc in g)
+  temp_below t h =
+      let e = same t in
+      let g : (nat_lt t temps || nat_lt t d.temp) ≡ true = cc in
+      either_below t temps d.temp grows (nat_lt t temps) refl g
 
   readable_below : (x : Opnd) → IsTrue (is_readable w d x) → IsTrue (is_below d.temp x)
   readable_below (Temp t) h = temp_below t.0 h
@@ -173,22 +189,27 @@ module _ (w : Scope) (d : Drawn) (temps : ℕ) (same : (i : ℕ) → w.is_name (
   from_only : (x : Opnd) (b : Bool) → IsTrue (is_readable w d x && b) → IsTrue ((is_below d.temp x && true) && true)
   from_only x b h = alone _ (alone _ (readable_below x (left_holds _ b h)))
 
-  to_from : (to x : Opnd) → IsTrue (is_writable w d to && (is_readable w d x && true)) → IsTrue ((is_below d.temp x && true) && (is_below d.temp to && true))
+  to_from : (to x : Opnd) → IsTrue (is_writable w d to && (is_readable w d x && true)) →
+      IsTrue ((is_below d.temp x && true) && (is_below d.temp to && true))
   to_from to x h =
       let r = right_holds (is_writable w d to) (is_readable w d x && true) h in
-      both_hold _ _ (alone _ (readable_below x (left_holds _ true r))) (alone _ (writable_below to (left_holds _ (is_readable w d x && true) h)))
+      both_hold _ _ (alone _ (readable_below x (left_holds _ true r)))
+      (alone _ (writable_below to (left_holds _ (is_readable w d x && true) h)))
 
-  two : (x y : Opnd) (b : Bool) → IsTrue (is_readable w d x && (is_readable w d y && b)) → IsTrue ((is_below d.temp x && (is_below d.temp y && true)) && true)
+  two : (x y : Opnd) (b : Bool) → IsTrue (is_readable w d x && (is_readable w d y && b)) →
+      IsTrue ((is_below d.temp x && (is_below d.temp y && true)) && true)
   two x y b h =
       let r = right_holds (is_readable w d x) (is_readable w d y && b) h in
-      alone _ (both _ _ (readable_below x (left_holds _ (is_readable w d y && b) h)) (readable_below y (left_holds _ b r)))
+      alone _ (both _ _ (readable_below x (left_holds _ (is_readable w d y && b) h))
+      (readable_below y (left_holds _ b r)))
 
   to_two : (to x y : Opnd) → IsTrue (is_writable w d to && (is_readable w d x && (is_readable w d y && true))) →
       IsTrue ((is_below d.temp x && (is_below d.temp y && true)) && (is_below d.temp to && true))
   to_two to x y h =
       let r = right_holds (is_writable w d to) (is_readable w d x && (is_readable w d y && true)) h in
       let s = right_holds (is_readable w d x) (is_readable w d y && true) r in
-      both_hold _ _ (both _ _ (readable_below x (left_holds _ (is_readable w d y && true) r)) (readable_below y (left_holds _ true s)))
+      both_hold _ _ (both _ _ (readable_below x (left_holds _ (is_readable w d y && true) r))
+      (readable_below y (left_holds _ true s)))
       (alone _ (writable_below to (left_holds _ (is_readable w d x && (is_readable w d y && true)) h)))
 
   one_below : (one : Instr) → IsTrue (may_name w d one) → IsTrue (has_temps_below d.temp one)
@@ -230,13 +251,15 @@ module _ (w : Scope) (d : Drawn) (temps : ℕ) (same : (i : ℕ) → w.is_name (
   one_below (Branch test m) h = two test.left test.right _ h
   one_below _ h = refl
 
-temp_allowed : (temps : ℕ) (names : List Named) → ((i : ℕ) → Contains names (temporary i) → i < temps) → AreAllowed (temps_below temps) names
+temp_allowed : (temps : ℕ) (names : List Named) → ((i : ℕ) → Contains names (temporary i) → i < temps) →
+    AreAllowed (temps_below temps) names
 temp_allowed temps names h (function label) c = refl
 temp_allowed temps names h (literal label) c = refl
 temp_allowed temps names h (fault n) c = refl
 temp_allowed temps names h (temporary i) c = is_less i temps (h i c)
 
-pub temps_are_below : (f : Function (List Linear)) → temp_bound f.params ≤ f.temps → HasItsTemps (λ body. named_flat body []) f →
+pub temps_are_below : (f : Function (List Linear)) → temp_bound f.params ≤ f.temps →
+    HasItsTemps (λ body. named_flat body []) f →
     IsTrue (list_all (has_temps_below (munched f).drawn.temp) (munched f).code)
 temps_are_below f le temps =
     let w = scope f any_slot (temps_below f.temps) (λ k h. refl) in

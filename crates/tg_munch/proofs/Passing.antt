@@ -40,7 +40,8 @@ module _ (w : Scope) where
     pass_tx (tree.Load x) after h = pass_tx x after h
     pass_tx (tree.LoadByte x) after h = pass_tx x after h
     pass_tx (tree.Call label xs) after h =
-        let a = pass_txs xs after (behind w.is_name _ (named_txs xs after) h) in ((front w.is_name _ (named_txs xs after) h, a.0), a.1)
+        let a = pass_txs xs after (behind w.is_name _ (named_txs xs after) h) in
+        ((front w.is_name _ (named_txs xs after) h, a.0), a.1)
     pass_tx (tree.Service n x) after h = pass_tx x after h
     pass_tx (tree.After s x) after h = pass_tx x after (rest_ts s (named_tx x after) h)
 
@@ -60,7 +61,8 @@ module _ (w : Scope) where
     rest_ts (tree.Store x y) after h = (pass_tx y after (pass_tx x (named_tx y after) h).1).1
     rest_ts (tree.StoreByte x y) after h = (pass_tx y after (pass_tx x (named_tx y after) h).1).1
     rest_ts (tree.Do x) after h = (pass_tx x after h).1
-    rest_ts (tree.If c s t) after h = rest_ts t after (rest_ts s (named_ts t after) (rest_cond c (named_ts s (named_ts t after)) h))
+    rest_ts (tree.If c s t) after h =
+        rest_ts t after (rest_ts s (named_ts t after) (rest_cond c (named_ts s (named_ts t after)) h))
     rest_ts (tree.Loop s) after h = rest_ts s after h
     rest_ts (tree.Break k) after h = h
     rest_ts (tree.Fault n) after h = behind w.is_name _ after h
@@ -82,8 +84,10 @@ module _ (w : Scope) where
   pub pass_code : (code : List Linear) → Pass (named_flat code []) → Each w.is_target (targets code) → CodePasses w code
   pass_code [] h t = tt
   pass_code (tree.Mark m ∷ rest) h t = (tt, pass_code rest h t)
-  pass_code (tree.Do' s ∷ rest) h t = (pass_statement s (named_flat rest []) h, pass_code rest (rest_ts s (named_flat rest []) h) t)
-  pass_code (tree.Jump m ∷ rest) h t = (front w.is_target m (targets rest) t, pass_code rest h (behind w.is_target m (targets rest) t))
+  pass_code (tree.Do' s ∷ rest) h t =
+      (pass_statement s (named_flat rest []) h, pass_code rest (rest_ts s (named_flat rest []) h) t)
+  pass_code (tree.Jump m ∷ rest) h t =
+      (front w.is_target m (targets rest) t, pass_code rest h (behind w.is_target m (targets rest) t))
   pass_code (tree.Branch rel x y m ∷ rest) h t =
       let a = pass_tx x (named_tx y (named_flat rest [])) h in
       let b = pass_tx y (named_flat rest []) a.1 in
@@ -92,13 +96,15 @@ module _ (w : Scope) where
       (front w.is_name _ (named_flat rest []) h, pass_code rest (behind w.is_name _ (named_flat rest []) h) t)
   pass_code (tree.Return' x ∷ rest) h t = let a = pass_tx x (named_flat rest []) h in (a.0, pass_code rest a.1 t)
 
-  pub slots_pass : (homes : List Access) (slots : ℕ) → ((k : ℕ) → k < slots → IsTrue (w.is_slot k)) → ((t : ℕ) → IsTrue (w.is_name (temporary t))) →
+  pub slots_pass : (homes : List Access) (slots : ℕ) → ((k : ℕ) → k < slots → IsTrue (w.is_slot k)) →
+      ((t : ℕ) → IsTrue (w.is_name (temporary t))) →
       slot_bound homes ≤ slots → HomesPass w homes
   slots_pass [] slots f g le = tt
   slots_pass (InTemp t ∷ homes) slots f g le = (g t.0, slots_pass homes slots f g le)
   slots_pass (InFrame k ∷ homes) slots f g le = (f k (omega arith), slots_pass homes slots f g (omega arith))
 
-  pub temps_pass : (homes : List Access) (temps : ℕ) → ((t : ℕ) → t < temps → IsTrue (w.is_name (temporary t))) → ((k : ℕ) → IsTrue (w.is_slot k)) →
+  pub temps_pass : (homes : List Access) (temps : ℕ) → ((t : ℕ) → t < temps → IsTrue (w.is_name (temporary t))) →
+      ((k : ℕ) → IsTrue (w.is_slot k)) →
       temp_bound homes ≤ temps → HomesPass w homes
   temps_pass [] temps f g le = tt
   temps_pass (InTemp t ∷ homes) temps f g le = (f t.0 (omega arith), temps_pass homes temps f g (omega arith))

@@ -67,7 +67,8 @@ reaches w e _ = true
 abbrev pub may_name : Scope → Drawn → Instr → Bool
 may_name w e one =
     is_option (is_writable w e) (named one).to
-    && (is_option (is_readable w e) (named one).first && (is_option (is_readable w e) (named one).second && reaches w e one))
+    && (is_option (is_readable w e) (named one).first
+    && (is_option (is_readable w e) (named one).second && reaches w e one))
 
 -- an instruction that is no mark either
 abbrev pub may_put : Scope → Drawn → Instr → Bool
@@ -102,7 +103,8 @@ pub below_on : (m n t : ℕ) → m ≤ n → IsTrue (nat_lt t m) → IsTrue (nat
 below_on m n t le h = grind (arith, nat_tests)
 
 temp_on : (w : Scope) {d e : Drawn} → Grows d e → (t : ℕ) → IsTrue (is_temp w d t) → IsTrue (is_temp w e t)
-temp_on w {d} {e} g t h = or_on (w.is_name (temporary t)) (nat_lt t d.temp) (nat_lt t e.temp) (below_on d.temp e.temp t g.temp) h
+temp_on w {d} {e} g t h = or_on (w.is_name (temporary t)) (nat_lt t d.temp) (nat_lt t e.temp)
+    (below_on d.temp e.temp t g.temp) h
 
 place_on : (w : Scope) {d e : Drawn} → Grows d e → (m : ℕ) → IsTrue (is_place w d m) → IsTrue (is_place w e m)
 place_on w {d} {e} g m h =
@@ -128,7 +130,8 @@ pub readable : (w : Scope) (d : Drawn) (x : Opnd) → Writable w d x → Readabl
 readable w d (Temp t) h = h
 readable w d (Reg r) h = or_right (nat_eq r 0) _ (or_right (nat_eq r 29) (is_written r) h)
 
-source_on : (w : Scope) {d e : Drawn} → Grows d e → (x : Option Opnd) → IsTrue (is_option (is_readable w d) x) → IsTrue (is_option (is_readable w e) x)
+source_on : (w : Scope) {d e : Drawn} → Grows d e → (x : Option Opnd) → IsTrue (is_option (is_readable w d) x) →
+    IsTrue (is_option (is_readable w e) x)
 source_on w g (Some x) h = readable_on w g x h
 source_on w g None h = refl
 
@@ -148,7 +151,8 @@ one_on w {d} {e} g one h =
     both_hold _ _ (asked_on w g (named one).to a) (both_hold _ _ (source_on w g (named one).first b)
     (both_hold _ _ (source_on w g (named one).second c) (reaches_on w g one z)))
 
-pub all_on : (w : Scope) {d e : Drawn} → Grows d e → (list : List Instr) → IsTrue (list_all (may_name w d) list) → IsTrue (list_all (may_name w e) list)
+pub all_on : (w : Scope) {d e : Drawn} → Grows d e → (list : List Instr) → IsTrue (list_all (may_name w d) list) →
+    IsTrue (list_all (may_name w e) list)
 all_on w g [] h = refl
 all_on w {d} g (one ∷ rest) h =
     both_hold _ _ (one_on w g one (left_holds _ _ h)) (all_on w g rest (right_holds (may_name w d one) _ h))
@@ -167,7 +171,8 @@ spanned first past m = counted (nat_le first m && nat_lt m past)
 pub occurs_append : (m : ℕ) (xs ys : List Instr) → occurs m (xs ++ ys) ≡ occurs m xs + occurs m ys
 occurs_append m [] ys = sym (zero-add (occurs m ys))
 occurs_append m (one ∷ xs) ys =
-    ap (λ n. counted (is_mark m one) + n) (occurs_append m xs ys) ∙ sym (add_assoc (counted (is_mark m one)) (occurs m xs) (occurs m ys))
+    ap (λ n. counted (is_mark m one) + n) (occurs_append m xs ys)
+    ∙ sym (add_assoc (counted (is_mark m one)) (occurs m xs) (occurs m ys))
 
 pub span_none : (n m : ℕ) → 0 ≡ spanned n n m
 span_none n m = grind (arith, nat_tests)
