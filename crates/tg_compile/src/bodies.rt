@@ -34,7 +34,8 @@ fn choose(alloc: Global, frame: &mut Frame, body: Ts) -> Result<Code, Memory>
 {
     let flat = flatten(alloc, frame, body)?;
     let code = flat.as_slice();
-    if !can_be_munched(alloc, code, frame)? {
+    let fits = can_be_munched(alloc, code, frame)?;
+    if !fits {
         return Err(Memory);
     }
     Ok(munch(alloc, code, frame)?)
