@@ -1,0 +1,9 @@
+mod Examples
+mod Places
+mod Changes
+mod Joining
+mod Runs
+mod Members
+mod Moves
+mod Vectors
+mod Partitions

@@ -1,0 +1,138 @@
+ghost use Rattle.std.specs.Prelude.{
+  ◌≡◌,
+  ◌≢◌,
+  ◌<◌,
+  ◌≤◌,
+  ◌||◌,
+  ℕ,
+  All,
+  IfOk,
+  OnErr,
+  OnOk,
+  nat_eq,
+};
+ghost use Rattle.std.specs.List.{IsDistinct};
+ghost use Rattle.tg_graph.specs.Interference as graph;
+ghost use Rattle.tg_graph.specs.Interference.{
+  are_ends,
+  bare,
+  colours,
+  is_among,
+  most_nodes,
+  with_edge,
+};
+
+use crate::bits::{has_bit, pair_place, set_bit, triangle};
+use crate::lists::{COLOURS, count_up, empty_lists, pop_neighbour, push_neighbour};
+use std::alloc::Global;
+use std::marker::Model;
+use tg_base::Memory;
+
+/// An interference graph: the registers that serve as colours, which all interfere with each
+/// other, and temporaries. It has a bit for each pair of nodes, and a counter and a list for each
+/// temporary (Appel, chapter 11: `adjSet`, `degree` and `adjList`).
+#[derive(Drop)]
+pub struct Graph {
+    nodes: u32,
+    pairs: Vec<u64>,
+    degrees: Vec<u32>,
+    adjacent: Vec<Vec<u32>>,
+}
+
+impl Model for Graph {
+    ghost use Rattle.tg_graph.specs.Interference.{Interference};
+    ghost use Rattle.tg_graph.specs.Keeping.{lists_of, IsKept};
+
+    ghost Value = { Interference };
+
+    ghost view = { λ g. record { nodes = g.nodes; adjacent = lists_of g.adjacent.items } };
+
+    ghost invariant = { λ g.
+        IsKept (record { nodes = g.nodes; adjacent = lists_of g.adjacent.items })
+        g.pairs.items g.degrees.items };
+}
+
+impl Graph {
+    /// A graph in which the registers alone interfere. For n nodes it takes n(n-1)/2 bits.
+    pub fn new(alloc: Global, nodes: u32) -> Result<Graph, Memory>
+        requires low { colours ≤ nodes }
+        requires high { nodes ≤ most_nodes }
+        ensures { IfOk result (λ g. g ≡ bare nodes) }
+    {
+        let words = triangle(nodes) / 64 + 1;
+        let temporaries = nodes - COLOURS;
+        Ok(Graph {
+            nodes,
+            pairs: vec![in alloc; 0u64; words]?,
+            degrees: vec![in alloc; 0u32; temporaries as usize]?,
+            adjacent: empty_lists(alloc, temporaries)?,
+        })
+    }
+
+    /// How many nodes it has, registers among them.
+    pub fn nodes(&self) -> u32
+        ensures value { result ≡ self.now.nodes }
+        ensures low { colours ≤ result }
+        ensures high { result ≤ most_nodes }
+    {
+        self.nodes
+    }
+
+    /// Joins two nodes. Where they interfere already nothing changes.
+    pub fn add_edge(&mut self, a: u32, b: u32) -> Result<(), Memory>
+        requires first { a < self.old.nodes }
+        requires second { b < self.old.nodes }
+        requires differ { a ≢ b }
+        ensures ok { OnOk result (self.new ≡ with_edge self.old a b) }
+        ensures pairs { OnOk result ((x y : ℕ) →
+            graph.interferes self.new x y ≡ (are_ends a b x y || graph.interferes self.old x y)) }
+        ensures err { OnErr result (self.new ≡ self.old) }
+    {
+        if self.interferes(a, b) {
+            return Ok(());
+        }
+        let at = pair_place(a.min(b), a.max(b));
+        push_neighbour(&mut self.adjacent, a, b)?;
+        if push_neighbour(&mut self.adjacent, b, a).is_err() {
+            pop_neighbour(&mut self.adjacent, a);
+            return Err(Memory);
+        }
+        count_up(&mut self.degrees, a);
+        count_up(&mut self.degrees, b);
+        set_bit(&mut self.pairs, at);
+        Ok(())
+    }
+
+    /// Whether two nodes interfere; none does with itself.
+    pub fn interferes(&self, a: u32, b: u32) -> bool
+        requires first { a < self.now.nodes }
+        requires second { b < self.now.nodes }
+        ensures { result ≡ graph.interferes self.now a b }
+    {
+        let _nodes = self.nodes;
+        let high = a.max(b);
+        a != b && (high < COLOURS || has_bit(&self.pairs, pair_place(a.min(b), high)))
+    }
+
+    /// How many neighbours a temporary has.
+    pub fn degree(&self, a: u32) -> u32
+        requires node { a < self.now.nodes }
+        requires temporary { colours ≤ a }
+        ensures value { result ≡ graph.degree self.now a }
+        ensures bound { result ≤ self.now.nodes }
+    {
+        self.degrees[(a - COLOURS) as usize]
+    }
+
+    /// The neighbours of a temporary, in the order in which they were joined to it.
+    pub fn neighbours(&self, a: u32) -> &[u32]
+        requires node { a < self.now.nodes }
+        requires temporary { colours ≤ a }
+        ensures value { result.now ≡ graph.neighbours self.now a }
+        ensures within { All (λ b. b < self.now.nodes) result.now }
+        ensures exact { (b : ℕ) → is_among b result.now ≡ graph.interferes self.now a b }
+        ensures distinct { IsDistinct nat_eq result.now }
+    {
+        self.adjacent[(a - COLOURS) as usize].as_slice()
+    }
+}

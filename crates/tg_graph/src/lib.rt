@@ -1,0 +1,16 @@
+//! Interference graphs and worklists of register allocation (Appel, chapter 11; George and Appel
+//! 1996). Promises the allocator exact pairs, degrees and neighbours, and that each node is in
+//! exactly one list.
+#![tactic(auto)]
+
+mod bits;
+mod graphs;
+mod laws;
+mod links;
+mod lists;
+mod worklists;
+
+pub use graphs::Graph;
+pub use laws::{lists_stay_apart, registers_interfere};
+pub use lists::COLOURS;
+pub use worklists::{Worklist, Worklists};

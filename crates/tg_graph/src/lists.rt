@@ -1,0 +1,77 @@
+ghost use Rattle.std.specs.Prelude.{
+  ◌≡◌,
+  ◌-◌,
+  ◌+◌,
+  ◌<◌,
+  ◌^◌,
+  ℕ,
+  List,
+  [],
+  length,
+  replicate,
+  slice_index,
+  IfOk,
+  OnOk,
+  OnErr,
+};
+ghost use Rattle.tg_graph.specs.Interference.{colours, with_neighbour};
+ghost use Rattle.tg_graph.specs.Keeping.{lists_of, counted_up};
+
+use std::alloc::Global;
+use tg_base::Memory;
+
+/// How many registers serve as colours; they are the first nodes, in the order of the colours.
+pub const COLOURS: u32 = 25;
+
+/// As many empty lists. They take no memory of their own.
+pub(crate) fn empty_lists(alloc: Global, count: u32) -> Result<Vec<Vec<u32>>, Memory>
+    ensures { IfOk result (λ v. lists_of v.items ≡ replicate count []) }
+{
+    let mut lists = Vec::with_capacity(alloc, count as usize)?;
+    for _ in 0..count {
+        lists.push(Vec::new(alloc))?;
+    }
+    Ok(lists)
+}
+
+/// Gives a node one more neighbour; a register keeps no list.
+pub(crate) fn push_neighbour(
+    lists: &mut Vec<Vec<u32>>,
+    node: u32,
+    neighbour: u32,
+) -> Result<(), Memory>
+    requires { node < colours + length lists.old.items }
+    ensures ok { OnOk result
+        (lists_of lists.new.items ≡ with_neighbour node neighbour (lists_of lists.old.items)) }
+    ensures err { OnErr result (lists_of lists.new.items ≡ lists_of lists.old.items) }
+{
+    if node >= COLOURS {
+        let list = &mut lists[(node - COLOURS) as usize];
+        list.push(neighbour)?;
+    }
+    Ok(())
+}
+
+/// Takes the last neighbour of a node away again.
+pub(crate) fn pop_neighbour(lists: &mut Vec<Vec<u32>>, node: u32)
+    requires { node < colours + length lists.old.items }
+    ensures { (before : List (List ℕ)) (y : ℕ) →
+        lists_of lists.old.items ≡ with_neighbour node y before →
+        lists_of lists.new.items ≡ before }
+{
+    if node >= COLOURS {
+        let list = &mut lists[(node - COLOURS) as usize];
+        list.pop();
+    }
+}
+
+/// Counts one more neighbour of a node; a register has no counter.
+pub(crate) fn count_up(degrees: &mut [u32], node: u32)
+    requires within { node < colours + length degrees.old }
+    requires few { slice_index degrees.old (node - colours) + 1 < 2 ^ 32 }
+    ensures { degrees.new ≡ counted_up node degrees.old }
+{
+    if node >= COLOURS {
+        degrees[(node - COLOURS) as usize] += 1;
+    }
+}
