@@ -1,0 +1,9 @@
+mod Reach
+mod Turned
+mod Numbers
+mod Places
+mod Marked
+mod Searched
+mod Gathered
+mod Closed
+mod LiveExamples

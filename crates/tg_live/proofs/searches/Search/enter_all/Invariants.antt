@@ -1,0 +1,9 @@
+use Rattle.std.proofs.Common.{◌≡◌, length, drop}
+use Rattle.tg_live.specs.Search.{enter_all}
+use Rattle.tg_live.proofs.searches.Search.enter_all.Given as goal
+
+abbrev pub invariant-loop-place : goal.invariant-loop-place
+invariant-loop-place l = record {
+  entered : enter_all l.one (drop l.place-index l.places) l.self ≡ enter_all l.one l.places l.fn.self;
+  size : length l.self.sets ≡ length l.fn.self.sets;
+}

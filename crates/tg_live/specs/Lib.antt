@@ -1,0 +1,7 @@
+pub mod Flow
+pub mod Live
+pub mod Tables
+pub mod Search
+pub mod Marks
+pub mod Interference
+pub mod Laws

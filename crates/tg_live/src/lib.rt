@@ -1,0 +1,21 @@
+//! The flow of a code, and what is live out of each instruction (Appel, chapter 10). Promises the
+//! edges exactly, and liveness exactly as paths along the flow have it. The definitions stand in
+//! `specs/Flow.antt` and `specs/Live.antt`.
+#![tactic(auto)]
+
+mod edges;
+mod flows;
+mod laws;
+mod liveness;
+mod marks;
+mod operands;
+mod searches;
+mod sets;
+mod sites;
+mod tables;
+
+pub use edges::flow;
+pub use flows::Flow;
+pub use laws::{flow_has_edges, liveness_is_least};
+pub use liveness::live;
+pub use sets::LiveSets;

@@ -1,0 +1,32 @@
+ghost use Rattle.std.specs.Prelude.{◌≡◌, IfOk};
+ghost use Rattle.tg_live.specs.Flow.{flow_of};
+ghost use Rattle.tg_live.specs.Live.{AreLiveSets};
+
+use crate::flows::Flow;
+use crate::operands::operand_of;
+use crate::searches::Search;
+use crate::sets::LiveSets;
+use crate::sites::use_sites;
+use std::alloc::Global;
+use tg_base::Memory;
+use tg_instr::Code;
+
+/// What is live out of each instruction of a code whose flow this is: for each operand in turn,
+/// backwards along the flow from its uses to its definitions (Appel, chapter 10). The time is that
+/// of the answer's size: each pair of a place and an operand that is live out of it is visited once.
+pub fn live(alloc: Global, code: &Code, flow: &Flow) -> Result<LiveSets, Memory>
+    requires { flow.now ≡ flow_of code.now.list }
+    ensures { IfOk result (λ sets. AreLiveSets code.now.list sets) }
+{
+    let list = code.list.as_slice();
+    if list.len() > u32::MAX as usize {
+        return Err(Memory);
+    }
+    let sites = use_sites(alloc, code)?;
+    let mut search = Search::new(alloc, list.len())?;
+    for number in 0..sites.len() {
+        let one = operand_of(number);
+        search.run(alloc, list, flow.before(), &one, sites.row(number))?;
+    }
+    Ok(LiveSets::new(search.into_sets()))
+}
