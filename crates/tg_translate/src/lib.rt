@@ -19,4 +19,7 @@ mod purity;
 mod states;
 mod wants;
 
+pub use homes::{Callee, Home, Within};
+pub use operands::Operand;
 pub use programs::translate;
+pub use wants::Want;

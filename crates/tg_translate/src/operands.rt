@@ -11,7 +11,7 @@ use tg_tree::{Ts, Tx};
 
 /// A value that is used several times: a number, or what stands in a temporary.
 #[derive(Clone, Copy)]
-pub(crate) enum Operand {
+pub enum Operand {
     Number(u32),
     Kept(Temp),
 }

@@ -13,7 +13,7 @@ use tg_tree::{Cond, Rel, Ts, Tx, after, compare, if_else, sequence};
 
 /// What the place of an expression wants of it.
 #[derive(Clone, Copy)]
-pub(crate) enum Want {
+pub enum Want {
     Value,
     /// Its value is put into a temporary.
     Into(Temp),

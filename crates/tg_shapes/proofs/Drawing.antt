@@ -1,0 +1,613 @@
+-- A translation draws at most six temporaries for each node of the text.
+use Rattle.std.proofs.Common.{◌≡◌, ◌≤◌, ◌+◌, ◌*◌, ℕ, suc, zero, Bool, true, false, Option, Some, None, List, [], ◌∷◌, ◌++◌, length, map, refl, sym, ap, ◌∙◌, subst, arith}
+use Rattle.std.specs.Prelude.{is_some, ◌==◌, ◌||◌, if◌then◌else◌}
+use Rattle.std.specs.List.{Contains}
+use Rattle.tg_frame.specs.Homes.{temps_of}
+use Rattle.tg_syntax.specs.Measures.{size, place_size, exps_size, inits_size, decs_size, functions_size, inner, inner_place, inner_exps, inner_inits, inner_decs, inner_functions}
+use Rattle.tg_syntax.specs.declared.trees.Op.{Op}
+use Rattle.tg_syntax.specs.declared.trees.Op.TheVariants as op
+use Rattle.tg_syntax.specs.declared.trees.Param.{Param}
+use Rattle.tg_syntax.specs.Tree as source
+use Rattle.tg_syntax.specs.Tree.{Exp, Nil, Break, Int, Text, Read, Call, Neg, Binary, Make, Fill, Assign, If, When, While, For, Let, Seq, Simple, Field, Index, Exps, no_exps, exp, Inits, no_inits, init, Decs, no_decs, types, variable, functions, FunDecs, no_functions, function}
+use Rattle.tg_tree.specs.Tree as tree
+use Rattle.tg_tree.specs.Tree.{Tx, Const, Temp, Txs, no_txs, tx, Cond, Ts, Stms, no_stms, stm, Function}
+use Rattle.tg_tree.specs.Lists.{join_txs}
+use Rattle.tg_tree.specs.declared.operators.Bin.TheVariants as bin
+use Rattle.tg_frame.specs.declared.accesses.Access.{Access}
+use Rattle.tg_types.specs.declared.notes.Means.{Means}
+use Rattle.tg_types.specs.declared.notes.Means.TheVariants as means
+use Rattle.tg_translate.specs.declared.wants.Want.{Want}
+use Rattle.tg_translate.specs.declared.wants.Want.TheVariants as want
+use Rattle.tg_translate.specs.declared.homes.Within.{Within}
+use Rattle.tg_translate.specs.States.{State, Acts, Drawn, drawn, after, give, fresh}
+use Rattle.tg_translate.specs.Wants.{Made, value, done, test, value_of, test_of, dropped, as_statement, arms, deliver, followed, value_behind, behind_some, behind}
+use Rattle.tg_translate.specs.Constructs.{Place, in_temp, at_address, Held, hold, HeldAll, none_held, hold_next, own_place, read, store_at, want_for, assign, field_of, field_place, operand, element_of, element_place, record_of, make_record, make_array, product_of, product, quotient_of, checked_quotient, quotient, operation, comparison, minus_one, negation, repeat_while, in_body, in_test, count_of, count}
+use Rattle.tg_translate.specs.Choices.{left_want, tested, chosen}
+use Rattle.tg_translate.specs.Scopes.{Findings, variable_place, field_number, compares_strings, call, literal, declare_variable}
+use Rattle.tg_translate.specs.Purity.{assigns_nothing, inits_assign_nothing}
+use Rattle.tg_translate.specs.Functions.{at_of, asked, frame_for, opened, parameters, own_homes, declare_functions, finish, with_body, inside, result_want, gives_nothing, closing, body, outermost, beginning, program}
+use Rattle.tg_translate.specs.Translate.{connective, with_left, Begun, declaration_of, expression, locate, values, fields, sequence, declarations, bodies, program_body, translated}
+use Rattle.tg_shapes.proofs.Fine.{Each, each_contained}
+
+-- an action draws at most so many temporaries of its frame, and so does each function that it finishes, but for one
+-- more; or none
+abbrev AllWithin : ℕ → State → Type 0
+AllWithin m s = Each (λ f. f.temps ≤ m) s.functions
+
+abbrev Takes : {A : Type 0} → ℕ → State → Drawn A → Type 0
+Takes n s (drawn a t) = (t.frame.temps ≤ s.frame.temps + n) × ((m : ℕ) → n + 1 ≤ m → AllWithin m s → AllWithin m t)
+
+abbrev Quiet : {A : Type 0} → State → Drawn A → Type 0
+Quiet s (drawn a t) = (t.frame.temps ≡ s.frame.temps) × (t.functions ≡ s.functions)
+
+all_of : (m : ℕ) (s t : State) → t.functions ≡ s.functions → AllWithin m s → AllWithin m t
+all_of m s t e h = subst (λ fs. Each (λ f. f.temps ≤ m) fs) (sym e) h
+
+takes_none : (s : State) → (s.frame.temps ≤ s.frame.temps + 0) × ((m : ℕ) → 0 + 1 ≤ m → AllWithin m s → AllWithin m s)
+takes_none s = (omega arith, λ m l h. h)
+
+none : {A : Type 0} (s : State) (d : Drawn A) → Quiet s d → Takes 0 s d
+none s (drawn a t) h = (omega (arith, h.0), λ m l g. all_of m s t h.1 g)
+
+quiets : {A B : Type 0} (s : State) (d : Drawn A) (next : A → Acts B) → Quiet s d →
+    ((a : A) (t : State) → Quiet t (next a t)) → Quiet s (after d next)
+quiets {B = B} s (drawn a t) next h k = on (next a t) (k a t)
+  where
+    on : (d : Drawn B) → Quiet t d → Quiet s d
+    on (drawn b u) g = (g.0 ∙ h.0, g.1 ∙ h.1)
+
+quiet_then : {A B : Type 0} (n : ℕ) (s : State) (d : Drawn A) (next : A → Acts B) → Quiet s d →
+    ((a : A) (t : State) → Takes n t (next a t)) →
+    Takes n s (after d next)
+quiet_then {B = B} n s (drawn a t) next h k = on (next a t) (k a t)
+  where
+    on : (d : Drawn B) → Takes n t d → Takes n s d
+    on (drawn b u) g = (omega (arith, g.0, h.0), λ m l i. g.1 m l (all_of m s t h.1 i))
+
+then_quiet : {A B : Type 0} (n : ℕ) (s : State) (d : Drawn A) (next : A → Acts B) → Takes n s d →
+    ((a : A) (t : State) → Quiet t (next a t)) →
+    Takes n s (after d next)
+then_quiet {B = B} n s (drawn a t) next h k = on (next a t) (k a t)
+  where
+    on : (d : Drawn B) → Quiet t d → Takes n s d
+    on (drawn b u) g = (omega (arith, g.0, h.0), λ m l i. all_of m t u g.1 (h.1 m l i))
+
+both : {A B : Type 0} (n k : ℕ) (s : State) (d : Drawn A) (next : A → Acts B) → Takes n s d →
+    ((a : A) (t : State) → Takes k t (next a t)) →
+    Takes (n + k) s (after d next)
+both {B = B} n k s (drawn a t) next h f = on (next a t) (f a t)
+  where
+    on : (d : Drawn B) → Takes k t d → Takes (n + k) s d
+    on (drawn b u) g = (omega (arith, g.0, h.0), λ m l i. g.1 m (omega (arith, l)) (h.1 m (omega (arith, l)) i))
+
+each_append : {X : Type 0} (P : X → Type 0) (xs ys : List X) → Each P xs → Each P ys → Each P (xs ++ ys)
+each_append P [] ys h k = k
+each_append P (x ∷ xs) ys h k = (h.0, each_append P xs ys h.1 k)
+
+at_most : {A : Type 0} (n k : ℕ) (s : State) (d : Drawn A) → n ≤ k → Takes n s d → Takes k s d
+at_most n k s (drawn a t) l h = (omega (arith, h.0, l), λ m i g. h.1 m (omega (arith, i, l)) g)
+
+-- What constructs draw.
+
+value_takes : (s : State) (m : Made) → Takes 1 s (value_of m s)
+value_takes s (value x) = (omega arith, λ m l h. h)
+value_takes s (done x) = (omega arith, λ m l h. h)
+value_takes s (test d) = (omega arith, λ m l h. h)
+
+arms_take : (s : State) (w : Want) → Takes 1 s (arms w s)
+arms_take s want.Value = (omega arith, λ m l h. h)
+arms_take s (want.Into i) = (omega arith, λ m l h. h)
+arms_take s want.Dropped = (omega arith, λ m l h. h)
+arms_take s want.Test = (omega arith, λ m l h. h)
+
+behind_some_takes : (s : State) (w : Want) (ss : Stms) (m : Made) → Takes 1 s (behind_some w ss m s)
+behind_some_takes s want.Value ss m = then_quiet 1 s (value_of m s) (λ x. give (value_behind ss x)) (value_takes s m)
+    (λ a t. (refl, refl))
+behind_some_takes s (want.Into i) ss m = (omega arith, λ m l h. h)
+behind_some_takes s want.Dropped ss m = (omega arith, λ m l h. h)
+behind_some_takes s want.Test ss m = then_quiet 1 s (value_of m s) (λ x. give (value_behind ss x)) (value_takes s m)
+    (λ a t. (refl, refl))
+
+behind_takes : (s : State) (w : Want) (ss : Stms) (m : Made) → Takes 1 s (behind w ss m s)
+behind_takes s w no_stms m = (omega arith, λ m l h. h)
+behind_takes s w (stm x ss) m = behind_some_takes s w (stm x ss) m
+
+hold_takes : (s : State) (direct : Bool) (before : Stms) (x : Tx) → Takes 1 s (hold direct before x s)
+hold_takes s direct before (Const n) = (omega arith, λ m l h. h)
+hold_takes s true before (Temp t) = (omega arith, λ m l h. h)
+hold_takes s false before (Temp t) = (omega arith, λ m l h. h)
+hold_takes s direct before x = (omega arith, λ m l h. h)
+
+hold_next_takes : (s : State) (direct : Bool) (all : HeldAll) (x : Tx) → Takes 1 s (hold_next direct all x s)
+hold_next_takes s direct all x =
+    then_quiet 1 s (hold direct all.before x s) (λ h. give
+        (record { before = h.before; operands = all.operands ++ h.operand ∷ [] }))
+    (hold_takes s direct all.before x) (λ a t. (refl, refl))
+
+assign_takes : (s : State) (p : Place) (m : Made) → Takes 1 s (assign p m s)
+assign_takes s (in_temp i) m = (omega arith, λ m l h. h)
+assign_takes s (at_address before a) m = then_quiet 1 s (value_of m s) (λ x. give (store_at before a x))
+    (value_takes s m) (λ x t. (refl, refl))
+
+field_takes : (s : State) (k : ℕ) (x : Tx) → Takes 1 s (field_place k x s)
+field_takes s k x =
+    then_quiet 1 s (hold true no_stms x s) (λ r. give (field_of k r.before (operand r.operand)))
+        (hold_takes s true no_stms x) (λ a t. (refl, refl))
+
+two_take : {A : Type 0} (n : ℕ) (s : State) (direct also : Bool) (x y : Tx) (next : Held → Held → Acts A) →
+    ((l h : Held) (t : State) → Takes n t (next l h t)) →
+    Takes (1 + (1 + n)) s (after (hold direct no_stms x s) (λ l t. after (hold also l.before y t) (λ h. next l h)))
+two_take n s direct also x y next k =
+    both 1 (1 + n) s (hold direct no_stms x s) (λ l t. after (hold also l.before y t) (λ h. next l h))
+        (hold_takes s direct no_stms x)
+    (λ l t. both 1 n t (hold also l.before y t) (λ h. next l h) (hold_takes t also l.before y) (λ h u. k l h u))
+
+element_takes : (s : State) (direct : Bool) (x y : Tx) → Takes 2 s (element_place direct x y s)
+element_takes s direct x y =
+    two_take 0 s direct true x y (λ a i. give (element_of i.before (operand a.operand) (operand i.operand)))
+        (λ l h t. takes_none t)
+
+checked_takes : (s : State) (direct : Bool) (x y : Tx) → Takes 2 s (checked_quotient direct x y s)
+checked_takes s direct x y =
+    two_take 0 s direct true x y (λ l r. give (quotient_of r.before (operand l.operand) (operand r.operand)))
+        (λ l h t. takes_none t)
+
+by_number_takes : (s : State) (direct : Bool) (x : Tx) (k : ℕ) (b : Bool) →
+    Takes 2 s ((if b then checked_quotient direct x (Const k) else give (value (tree.Binary bin.Div x (Const k)))) s)
+by_number_takes s direct x k true = checked_takes s direct x (Const k)
+by_number_takes s direct x k false = (omega arith, λ m l h. h)
+
+quotient_takes : (s : State) (direct : Bool) (x y : Tx) → Takes 2 s (quotient direct x y s)
+quotient_takes s direct x (Const k) = by_number_takes s direct x k (k == 0 || k == minus_one)
+quotient_takes s direct x y = checked_takes s direct x y
+
+operation_takes : (s : State) (o : Op) (of_strings direct : Bool) (x y : Tx) → Takes 3 s
+    (operation o of_strings direct x y s)
+operation_takes s op.Plus of_strings direct x y = (omega arith, λ m l h. h)
+operation_takes s op.Minus of_strings direct x y = (omega arith, λ m l h. h)
+operation_takes s op.Times of_strings direct x y =
+    two_take 1 s direct true x y (λ l r t. after (fresh t)
+        (λ p. give (product_of p r.before (operand l.operand) (operand r.operand))))
+    (λ l h t. (omega arith, λ m i g. g))
+operation_takes s op.Divide of_strings direct x y = at_most 2 3 s (quotient direct x y s) (omega arith)
+    (quotient_takes s direct x y)
+operation_takes s o of_strings direct x y = (omega arith, λ m l h. h)
+
+count_takes : (s : State) (i : Access) (x y : Tx) (turn : Ts) → Takes 2 s (count i x y turn s)
+count_takes s i x y turn = two_take 0 s false false x y (λ l h. give (count_of h.before i l.operand h.operand turn))
+    (λ l h t. takes_none t)
+
+place_quiet : (s : State) (within : Within) (meaning : Option Means) → Quiet s (variable_place within meaning s)
+place_quiet s within None = (refl, refl)
+place_quiet s within (Some (means.Variable at)) = (refl, refl)
+place_quiet s within (Some other) = (refl, refl)
+
+call_quiet : (s : State) (within : Within) (meaning : Option Means) (xs : Txs) → Quiet s (call within meaning xs s)
+call_quiet s within None xs = (refl, refl)
+call_quiet s within (Some (means.Standard f)) xs = (refl, refl)
+call_quiet s within (Some (means.Function at)) xs = (refl, refl)
+call_quiet s within (Some other) xs = (refl, refl)
+
+closing_takes : (s : State) (has_result : Bool) (m : Made) → Takes 1 s (closing has_result m s)
+closing_takes s true m = then_quiet 1 s (value_of m s) (λ x. give (tree.Return x)) (value_takes s m)
+    (λ x t. (refl, refl))
+closing_takes s false m = (omega arith, λ m l h. h)
+
+declared_quiet : (fs : FunDecs) (level : ℕ) (s : State) → Quiet s (declare_functions level fs s)
+declared_quiet no_functions level s = (refl, refl)
+declared_quiet (function f _ _ _ rest) level s =
+    declared_quiet rest level
+    (record s { label = s.label + 1; callees = (at_of f, record { level = level; label = record { 0 = s.label } }) ∷
+        s.callees })
+
+literal_quiet : (s : State) (bytes : List ℕ) → Quiet s (literal bytes s)
+literal_quiet s bytes = (refl, refl)
+
+declared_takes : (b : Bool) (level at : ℕ) (s : State) → Takes 1 s (declare_variable b level at s)
+declared_takes true level at s = (omega arith, λ m l h. h)
+declared_takes false level at s = (omega arith, λ m l h. h)
+
+module _ (escapes : ℕ → Bool) where
+  few_temps : (params : List Param) → temps_of (map (λ p. escapes (at_of p.name)) params) ≤ length params
+  few_temps [] = omega arith
+  few_temps (p ∷ params) = one (escapes (at_of p.name)) (few_temps params)
+    where
+      one : (b : Bool) → temps_of (map (λ p. escapes (at_of p.name)) params) ≤ length params →
+          temps_of (b ∷ map (λ p. escapes (at_of p.name)) params) ≤ length (p ∷ params)
+      one true e = omega (arith, e)
+      one false e = omega (arith, e)
+
+  frame_temps : (kept : Bool) (params : List Param) → temps_of (asked escapes kept params) ≤ length params + 1
+  frame_temps true params = omega (arith, few_temps params)
+  frame_temps false params = omega (arith, few_temps params)
+
+-- a function's frame has those that its text draws beside those of its parameters
+finished_takes : (n k : ℕ) (s t : State) (d : Drawn Ts) → t.frame.temps ≤ k + 1 → t.functions ≡ [] → Takes n t d → Takes
+    (k + n) s (finish s d)
+finished_takes n k s t (drawn x u) l e h =
+    (omega arith, λ m i g.
+    each_append (λ f. f.temps ≤ m) s.functions (with_body u.frame x ∷ u.functions) g
+    (omega (arith, h.0, l, i), h.1 m (omega (arith, i)) (subst (λ fs. Each (λ f. f.temps ≤ m) fs) (sym e) tt)))
+
+-- Where the right side of an operator draws so many, the whole draws five more at most.
+module _ (n : ℕ) (right : Want → Acts Made) (h : (w : Want) (t : State) → Takes n t (right w t)) where
+  into_takes : (o : Op) (w : Want) (d : Cond) (s : State) →
+      Takes (1 + n) s (after (arms w s) (λ a t. after (right a t) (λ m. give (deliver w a (chosen o a d m)))))
+  into_takes o w d s =
+      both 1 n s (arms w s) (λ a t. after (right a t) (λ m. give (deliver w a (chosen o a d m)))) (arms_take s w)
+      (λ a t. then_quiet n t (right a t) (λ m. give (deliver w a (chosen o a d m))) (h a t) (λ m u. (refl, refl)))
+
+  connective_takes : (o : Op) (w : Want) (d : Cond) (s : State) → Takes (1 + n) s (connective o w d right s)
+  connective_takes o want.Test d s =
+      at_most n (1 + n) s (connective o want.Test d right s) (omega arith)
+      (then_quiet n s (right want.Test s) (λ m. give (tested o d m)) (h want.Test s) (λ m t. (refl, refl)))
+  connective_takes o want.Value d s = into_takes o want.Value d s
+  connective_takes o (want.Into i) d s = into_takes o (want.Into i) d s
+  connective_takes o want.Dropped d s = into_takes o want.Dropped d s
+
+  operator_takes : (o : Op) (of_strings direct : Bool) (left : Made) (s : State) →
+      Takes (1 + (n + 1 + 3)) s (after (value_of left s)
+          (λ x t. after (after (right want.Value t) value_of) (λ y. operation o of_strings direct x y)))
+  operator_takes o of_strings direct left s =
+      both 1 (n + 1 + 3) s (value_of left s) (λ x t. after (after (right want.Value t) value_of)
+          (λ y. operation o of_strings direct x y)) (value_takes s left)
+      (λ x t. both (n + 1) 3 t (after (right want.Value t) value_of) (λ y. operation o of_strings direct x y)
+      (both n 1 t (right want.Value t) value_of (h want.Value t) (λ m u. value_takes u m))
+          (λ y u. operation_takes u o of_strings direct x y))
+
+  connected_takes : (o : Op) (w : Want) (d : Cond) (s : State) → Takes (n + 5) s (connective o w d right s)
+  connected_takes o w d s = at_most (1 + n) (n + 5) s (connective o w d right s) (omega arith)
+      (connective_takes o w d s)
+
+  computed_takes : (o : Op) (of_strings direct : Bool) (left : Made) (s : State) →
+      Takes (n + 5) s (after (value_of left s) (λ x t. after (after (right want.Value t) value_of)
+          (λ y. operation o of_strings direct x y)))
+  computed_takes o of_strings direct left s =
+      at_most (1 + (n + 1 + 3)) (n + 5) s
+      (after (value_of left s) (λ x t. after (after (right want.Value t) value_of)
+          (λ y. operation o of_strings direct x y))) (omega arith)
+      (operator_takes o of_strings direct left s)
+
+  left_takes : (o : Op) (meaning : Option Means) (direct : Bool) (w : Want) (left : Made) (s : State) → Takes (n + 5) s
+      (with_left o meaning direct w left right s)
+  left_takes op.And meaning direct w left s = connected_takes op.And w (test_of left) s
+  left_takes op.Or meaning direct w left s = connected_takes op.Or w (test_of left) s
+  left_takes o meaning direct w left s = computed_takes o (compares_strings meaning) direct left s
+
+declaration_takes : (escapes : ℕ → Bool) (level at : ℕ) (n : ℕ) (e : Want → Acts Made) (s : State) →
+    ((w : Want) (t : State) → Takes n t (e w t)) →
+    Takes (1 + (n + 1)) s (declaration_of escapes level at e s)
+declaration_takes escapes level at n e s h =
+    both 1 (n + 1) s (declare_variable (escapes at) level at s)
+        (λ home t. after (e (want_for (own_place home)) t) (λ m. assign (own_place home) m))
+    (declared_takes (escapes at) level at s)
+    (λ home t. both n 1 t (e (want_for (own_place home)) t) (λ m. assign (own_place home) m)
+        (h (want_for (own_place home)) t)
+    (λ m u. assign_takes u (own_place home) m))
+
+-- how many temporaries each part draws at most
+abbrev mutual
+  drawn_by : Exp → ℕ
+  drawn_by (Nil _) = 0
+  drawn_by (Int _ _) = 0
+  drawn_by (Break _) = 0
+  drawn_by (Text _ _) = 0
+  drawn_by (Read _ v) = drawn_by_place v
+  drawn_by (Call _ _ args) = drawn_by_exps args
+  drawn_by (Neg _ x) = drawn_by x + 1
+  drawn_by (Binary _ _ _ x y) = drawn_by x + (drawn_by y + 5)
+  drawn_by (Make _ _ inits) = drawn_by_inits inits + 1
+  drawn_by (Fill _ _ x y) = drawn_by x + 1 + (drawn_by y + 1)
+  drawn_by (Assign _ v x) = drawn_by_place v + (drawn_by x + 1)
+  drawn_by (If _ d x y) = drawn_by d + (1 + (drawn_by x + drawn_by y))
+  drawn_by (When _ d x) = drawn_by d + drawn_by x
+  drawn_by (While _ d x) = drawn_by d + drawn_by x
+  drawn_by (For _ _ low high x) = drawn_by low + 1 + (drawn_by high + 1 + (1 + (drawn_by x + 2)))
+  drawn_by (Let _ ds es) = drawn_by_decs ds + (drawn_by_exps es + 1)
+  drawn_by (Seq _ es) = drawn_by_exps es + 1
+
+  drawn_by_place : source.Place → ℕ
+  drawn_by_place (Simple _) = 0
+  drawn_by_place (Field v _) = drawn_by_place v + 1
+  drawn_by_place (Index v x) = drawn_by_place v + (drawn_by x + 1 + 2)
+
+  drawn_by_exps : Exps → ℕ
+  drawn_by_exps no_exps = 0
+  drawn_by_exps (exp x rest) = drawn_by x + 1 + drawn_by_exps rest
+
+  drawn_by_inits : Inits → ℕ
+  drawn_by_inits no_inits = 0
+  drawn_by_inits (init _ x rest) = drawn_by x + 1 + (1 + drawn_by_inits rest)
+
+  drawn_by_decs : Decs → ℕ
+  drawn_by_decs no_decs = 0
+  drawn_by_decs (types _ rest) = drawn_by_decs rest
+  drawn_by_decs (variable _ _ x rest) = 1 + (drawn_by x + 1) + drawn_by_decs rest
+  drawn_by_decs (functions fs rest) = drawn_by_bodies fs + drawn_by_decs rest
+
+  drawn_by_bodies : FunDecs → ℕ
+  drawn_by_bodies no_functions = 0
+  drawn_by_bodies (function _ params _ x rest) = length params + (drawn_by x + 1) + drawn_by_bodies rest
+
+-- Each node draws six at most.
+mutual
+  few_drawn : (e : Exp) → drawn_by e + 1 ≤ 6 * (size e + inner e)
+  few_drawn (Nil _) = omega arith
+  few_drawn (Int _ _) = omega arith
+  few_drawn (Break _) = omega arith
+  few_drawn (Text _ _) = omega arith
+  few_drawn (Read _ v) = let h = few_in_place v in omega (arith, h)
+  few_drawn (Call _ _ args) = let h = few_in_exps args in omega (arith, h)
+  few_drawn (Neg _ x) = let h = few_drawn x in omega (arith, h)
+  few_drawn (Binary _ _ _ x y) = let h = few_drawn x in let k = few_drawn y in omega (arith, h, k)
+  few_drawn (Make _ _ inits) = let h = few_in_inits inits in omega (arith, h)
+  few_drawn (Fill _ _ x y) = let h = few_drawn x in let k = few_drawn y in omega (arith, h, k)
+  few_drawn (Assign _ v x) = let h = few_in_place v in let k = few_drawn x in omega (arith, h, k)
+  few_drawn (If _ d x y) = let h = few_drawn d in let k = few_drawn x in let l = few_drawn y in omega (arith, h, k, l)
+  few_drawn (When _ d x) = let h = few_drawn d in let k = few_drawn x in omega (arith, h, k)
+  few_drawn (While _ d x) = let h = few_drawn d in let k = few_drawn x in omega (arith, h, k)
+  few_drawn (For _ _ low high x) = let h = few_drawn low in let k = few_drawn high in let l = few_drawn x in omega
+      (arith, h, k, l)
+  few_drawn (Let _ ds es) = let h = few_in_decs ds in let k = few_in_exps es in omega (arith, h, k)
+  few_drawn (Seq _ es) = let h = few_in_exps es in omega (arith, h)
+
+  few_in_place : (v : source.Place) → drawn_by_place v ≤ 6 * (place_size v + inner_place v)
+  few_in_place (Simple _) = omega arith
+  few_in_place (Field v _) = let h = few_in_place v in omega (arith, h)
+  few_in_place (Index v x) = let h = few_in_place v in let k = few_drawn x in omega (arith, h, k)
+
+  few_in_exps : (es : Exps) → drawn_by_exps es ≤ 6 * (exps_size es + inner_exps es)
+  few_in_exps no_exps = omega arith
+  few_in_exps (exp x rest) = let h = few_drawn x in let k = few_in_exps rest in omega (arith, h, k)
+
+  few_in_inits : (is : Inits) → drawn_by_inits is ≤ 6 * (inits_size is + inner_inits is)
+  few_in_inits no_inits = omega arith
+  few_in_inits (init _ x rest) = let h = few_drawn x in let k = few_in_inits rest in omega (arith, h, k)
+
+  few_in_decs : (ds : Decs) → drawn_by_decs ds ≤ 6 * (decs_size ds + inner_decs ds)
+  few_in_decs no_decs = omega arith
+  few_in_decs (types ts rest) = let h = few_in_decs rest in omega (arith, h)
+  few_in_decs (variable _ _ x rest) = let h = few_drawn x in let k = few_in_decs rest in omega (arith, h, k)
+  few_in_decs (functions fs rest) = let h = few_in_bodies fs in let k = few_in_decs rest in omega (arith, h, k)
+
+  few_in_bodies : (fs : FunDecs) → drawn_by_bodies fs ≤ 6 * (functions_size fs + inner_functions fs)
+  few_in_bodies no_functions = omega arith
+  few_in_bodies (function _ params _ x rest) = let h = few_drawn x in let k = few_in_bodies rest in omega (arith, h, k)
+
+module _ (findings : Findings) where
+  of_value : (n : ℕ) (s : State) (d : Drawn Made) → Takes n s d → Takes (n + 1) s (after d value_of)
+  of_value n s d h = both n 1 s d value_of h (λ m t. value_takes t m)
+
+  given_on : {A : Type 0} (n : ℕ) (s : State) (d : Drawn Made) (f : Made → A) → Takes n s d → Takes n s
+      (after d (λ m. give (f m)))
+  given_on n s d f h = then_quiet n s d (λ m. give (f m)) h (λ m t. (refl, refl))
+
+  abbrev begun_at : (label : ℕ) → (kept : Bool) → (params : List Param) → Within → State → State
+  begun_at label kept params c s =
+      let f = frame_for label (asked findings.escapes kept params) in
+      record (opened s f) { homes = parameters (c.level + 1) params (own_homes f.params) s.homes }
+
+  mutual
+    takes : (e : Exp) (w : Want) (c : Within) (s : State) → Takes (drawn_by e) s (expression findings e w c s)
+    takes (Nil _) w c s = (omega arith, λ m l h. h)
+    takes (Int _ n) w c s = (omega arith, λ m l h. h)
+    takes (Break _) w c s = (omega arith, λ m l h. h)
+    takes (Text _ bytes) w c s = (omega arith, λ m l h. h)
+    takes (Read p v) w c s =
+        then_quiet (drawn_by_place v) s (locate findings v c s) (λ p. give (value (read p))) (place_takes v c s)
+            (λ p t. (refl, refl))
+    takes (Call p f args) w c s =
+        then_quiet (drawn_by_exps args) s (values findings args no_txs c s)
+            (λ xs t. after (call c (findings.meaning (at_of f)) xs t) (λ x. give (value x)))
+        (values_take args no_txs c s)
+        (λ xs t. quiets t (call c (findings.meaning (at_of f)) xs t) (λ x. give (value x))
+            (call_quiet t c (findings.meaning (at_of f)) xs) (λ x u. (refl, refl)))
+    takes (Neg p x) w c s =
+        then_quiet (drawn_by x + 1) s (after (expression findings x want.Value c s) value_of)
+            (λ y. give (value (negation y)))
+        (of_value (drawn_by x) s (expression findings x want.Value c s) (takes x want.Value c s)) (λ y t. (refl, refl))
+    takes (Binary p o at x y) w c s =
+        both (drawn_by x) (drawn_by y + 5) s (expression findings x (left_want o) c s)
+        (λ left. with_left o (findings.meaning at) (assigns_nothing y) w left (λ v. expression findings y v c))
+            (takes x (left_want o) c s)
+        (λ left t. left_takes (drawn_by y) (λ v. expression findings y v c) (λ v u. takes y v c u) o
+            (findings.meaning at) (assigns_nothing y) w left t)
+    takes (Make p x inits) w c s =
+        both (drawn_by_inits inits) 1 s (fields findings inits (inits_assign_nothing inits) none_held c s) make_record
+        (fields_take inits (inits_assign_nothing inits) none_held c s) (λ all t. (omega arith, λ m l h. h))
+    takes (Fill p z x y) w c s =
+        both (drawn_by x + 1) (drawn_by y + 1) s (after (expression findings x want.Value c s) value_of)
+        (λ p t. after (after (expression findings y want.Value c t) value_of) (λ q. give (value (make_array p q))))
+        (of_value (drawn_by x) s (expression findings x want.Value c s) (takes x want.Value c s))
+        (λ p t. then_quiet (drawn_by y + 1) t (after (expression findings y want.Value c t) value_of)
+            (λ q. give (value (make_array p q)))
+        (of_value (drawn_by y) t (expression findings y want.Value c t) (takes y want.Value c t)) (λ q u. (refl, refl)))
+    takes (Assign z v x) w c s =
+        both (drawn_by_place v) (drawn_by x + 1) s (locate findings v c s)
+        (λ p t. after (expression findings x (want_for p) c t) (λ m u. after (assign p m u) (λ y. give (done y))))
+            (place_takes v c s)
+        (λ p t. both (drawn_by x) 1 t (expression findings x (want_for p) c t)
+            (λ m u. after (assign p m u) (λ y. give (done y))) (takes x (want_for p) c t)
+        (λ m u. then_quiet 1 u (assign p m u) (λ y. give (done y)) (assign_takes u p m) (λ y z. (refl, refl))))
+    takes (If k d x y) w c s =
+        both (drawn_by d) (1 + (drawn_by x + drawn_by y)) s
+            (after (expression findings d want.Test c s) (λ m. give (test_of m)))
+        (λ d t. after (arms w t) (λ v u. after (after (expression findings x v c u) (λ m. give (as_statement v m)))
+        (λ p z. after (after (expression findings y v c z) (λ m. give (as_statement v m)))
+            (λ q. give (deliver w v (tree.If d p q))))))
+        (given_on (drawn_by d) s (expression findings d want.Test c s) test_of (takes d want.Test c s))
+        (λ d t. both 1 (drawn_by x + drawn_by y) t (arms w t)
+            (λ v u. after (after (expression findings x v c u) (λ m. give (as_statement v m)))
+        (λ p z. after (after (expression findings y v c z) (λ m. give (as_statement v m)))
+            (λ q. give (deliver w v (tree.If d p q))))) (arms_take t w)
+        (λ v u. both (drawn_by x) (drawn_by y) u (after (expression findings x v c u) (λ m. give (as_statement v m)))
+        (λ p z. after (after (expression findings y v c z) (λ m. give (as_statement v m)))
+            (λ q. give (deliver w v (tree.If d p q))))
+        (given_on (drawn_by x) u (expression findings x v c u) (as_statement v) (takes x v c u))
+        (λ p z. then_quiet (drawn_by y) z (after (expression findings y v c z) (λ m. give (as_statement v m)))
+            (λ q. give (deliver w v (tree.If d p q)))
+        (given_on (drawn_by y) z (expression findings y v c z) (as_statement v) (takes y v c z))
+            (λ q o. (refl, refl)))))
+    takes (When k d x) w c s =
+        both (drawn_by d) (drawn_by x) s (after (expression findings d want.Test c s) (λ m. give (test_of m)))
+        (λ d t. after (after (expression findings x want.Dropped c t) (λ m. give (dropped m)))
+            (λ y. give (done (tree.If d y (tree.Seq no_stms)))))
+        (given_on (drawn_by d) s (expression findings d want.Test c s) test_of (takes d want.Test c s))
+        (λ d t. then_quiet (drawn_by x) t (after (expression findings x want.Dropped c t) (λ m. give (dropped m)))
+            (λ y. give (done (tree.If d y (tree.Seq no_stms))))
+        (given_on (drawn_by x) t (expression findings x want.Dropped c t) dropped (takes x want.Dropped c t))
+            (λ y u. (refl, refl)))
+    takes (While k d x) w c s =
+        both (drawn_by d) (drawn_by x) s (after (expression findings d want.Test (in_test c) s) (λ m. give (test_of m)))
+        (λ d t. after (after (expression findings x want.Dropped (in_body c) t) (λ m. give (dropped m)))
+            (λ y. give (done (repeat_while d y))))
+        (given_on (drawn_by d) s (expression findings d want.Test (in_test c) s) test_of
+            (takes d want.Test (in_test c) s))
+        (λ d t. then_quiet (drawn_by x) t (after (expression findings x want.Dropped (in_body c) t)
+            (λ m. give (dropped m))) (λ y. give (done (repeat_while d y)))
+        (given_on (drawn_by x) t (expression findings x want.Dropped (in_body c) t) dropped
+            (takes x want.Dropped (in_body c) t)) (λ y u. (refl, refl)))
+    takes (For p i low high a) w c s =
+        both (drawn_by low + 1) (drawn_by high + 1 + (1 + (drawn_by a + 2))) s
+            (after (expression findings low want.Value c s) value_of)
+        (λ x t. after (after (expression findings high want.Value c t) value_of)
+        (λ y u. after (declare_variable (findings.escapes (at_of i)) c.level (at_of i) u)
+        (λ home v. after (after (expression findings a want.Dropped (in_body c) v) (λ m. give (dropped m)))
+        (λ turn z. after (count home x y turn z) (λ k. give (done k))))))
+        (of_value (drawn_by low) s (expression findings low want.Value c s) (takes low want.Value c s))
+        (λ x t. both (drawn_by high + 1) (1 + (drawn_by a + 2)) t
+            (after (expression findings high want.Value c t) value_of)
+        (λ y u. after (declare_variable (findings.escapes (at_of i)) c.level (at_of i) u)
+        (λ home v. after (after (expression findings a want.Dropped (in_body c) v) (λ m. give (dropped m)))
+        (λ turn z. after (count home x y turn z) (λ k. give (done k)))))
+        (of_value (drawn_by high) t (expression findings high want.Value c t) (takes high want.Value c t))
+        (λ y u. both 1 (drawn_by a + 2) u (declare_variable (findings.escapes (at_of i)) c.level (at_of i) u)
+        (λ home v. after (after (expression findings a want.Dropped (in_body c) v) (λ m. give (dropped m)))
+        (λ turn z. after (count home x y turn z) (λ k. give (done k))))
+            (declared_takes (findings.escapes (at_of i)) c.level (at_of i) u)
+        (λ home v. both (drawn_by a) 2 v (after (expression findings a want.Dropped (in_body c) v)
+            (λ m. give (dropped m)))
+        (λ turn z. after (count home x y turn z) (λ k. give (done k)))
+        (given_on (drawn_by a) v (expression findings a want.Dropped (in_body c) v) dropped
+            (takes a want.Dropped (in_body c) v))
+        (λ turn z. then_quiet 2 z (count home x y turn z) (λ k. give (done k)) (count_takes z home x y turn)
+            (λ k o. (refl, refl))))))
+    takes (Let p ds es) w c s =
+        both (drawn_by_decs ds) (drawn_by_exps es + 1) s (declarations findings ds no_stms c s)
+        (λ before t. after (sequence findings es w before c t) (λ begun. behind w begun.before begun.last))
+            (decs_take ds no_stms c s)
+        (λ before t. both (drawn_by_exps es) 1 t (sequence findings es w before c t)
+            (λ begun. behind w begun.before begun.last)
+        (sequence_takes es w before c t) (λ begun u. behind_takes u w begun.before begun.last))
+    takes (Seq p es) w c s =
+        both (drawn_by_exps es) 1 s (sequence findings es w no_stms c s) (λ begun. behind w begun.before begun.last)
+        (sequence_takes es w no_stms c s) (λ begun u. behind_takes u w begun.before begun.last)
+
+    place_takes : (v : source.Place) (c : Within) (s : State) → Takes (drawn_by_place v) s (locate findings v c s)
+    place_takes (Simple x) c s = none s (variable_place c (findings.meaning (at_of x)) s)
+        (place_quiet s c (findings.meaning (at_of x)))
+    place_takes (Field v f) c s =
+        both (drawn_by_place v) 1 s (locate findings v c s)
+            (λ p. field_place (field_number (findings.meaning (at_of f))) (read p)) (place_takes v c s)
+        (λ p t. field_takes t (field_number (findings.meaning (at_of f))) (read p))
+    place_takes (Index v e) c s =
+        both (drawn_by_place v) (drawn_by e + 1 + 2) s (locate findings v c s)
+        (λ p t. after (after (expression findings e want.Value c t) value_of)
+            (λ y. element_place (assigns_nothing e) (read p) y)) (place_takes v c s)
+        (λ p t. both (drawn_by e + 1) 2 t (after (expression findings e want.Value c t) value_of)
+            (λ y. element_place (assigns_nothing e) (read p) y)
+        (of_value (drawn_by e) t (expression findings e want.Value c t) (takes e want.Value c t))
+            (λ y u. element_takes u (assigns_nothing e) (read p) y))
+
+    values_take : (es : Exps) (before : Txs) (c : Within) (s : State) → Takes (drawn_by_exps es) s
+        (values findings es before c s)
+    values_take no_exps before c s = takes_none s
+    values_take (exp e rest) before c s =
+        both (drawn_by e + 1) (drawn_by_exps rest) s (after (expression findings e want.Value c s) value_of)
+        (λ x. values findings rest (join_txs before (tx x no_txs)) c)
+        (of_value (drawn_by e) s (expression findings e want.Value c s) (takes e want.Value c s))
+        (λ x t. values_take rest (join_txs before (tx x no_txs)) c t)
+
+    fields_take : (is : Inits) (direct : Bool) (before : HeldAll) (c : Within) (s : State) → Takes (drawn_by_inits is) s
+        (fields findings is direct before c s)
+    fields_take no_inits direct before c s = takes_none s
+    fields_take (init _ e rest) direct before c s =
+        both (drawn_by e + 1) (1 + drawn_by_inits rest) s (after (expression findings e want.Value c s) value_of)
+        (λ x t. after (hold_next direct before x t) (λ more. fields findings rest direct more c))
+        (of_value (drawn_by e) s (expression findings e want.Value c s) (takes e want.Value c s))
+        (λ x t. both 1 (drawn_by_inits rest) t (hold_next direct before x t)
+            (λ more. fields findings rest direct more c)
+        (hold_next_takes t direct before x) (λ more u. fields_take rest direct more c u))
+
+    sequence_takes : (es : Exps) (w : Want) (before : Stms) (c : Within) (s : State) → Takes (drawn_by_exps es) s
+        (sequence findings es w before c s)
+    sequence_takes no_exps w before c s = takes_none s
+    sequence_takes (exp e no_exps) w before c s =
+        at_most (drawn_by e) (drawn_by e + 1 + 0) s (sequence findings (exp e no_exps) w before c s) (omega arith)
+        (then_quiet (drawn_by e) s (expression findings e w c s) (λ m. give (record { before = before; last = m }))
+            (takes e w c s) (λ m t. (refl, refl)))
+    sequence_takes (exp e (exp f rest)) w before c s =
+        at_most (drawn_by e + drawn_by_exps (exp f rest)) (drawn_by e + 1 + drawn_by_exps (exp f rest)) s
+            (sequence findings (exp e (exp f rest)) w before c s)
+        (omega arith)
+        (both (drawn_by e) (drawn_by_exps (exp f rest)) s
+            (after (expression findings e want.Dropped c s) (λ m. give (dropped m)))
+        (λ x. sequence findings (exp f rest) w (followed before x) c)
+        (given_on (drawn_by e) s (expression findings e want.Dropped c s) dropped (takes e want.Dropped c s))
+        (λ x t. sequence_takes (exp f rest) w (followed before x) c t))
+
+    decs_take : (ds : Decs) (before : Stms) (c : Within) (s : State) → Takes (drawn_by_decs ds) s
+        (declarations findings ds before c s)
+    decs_take no_decs before c s = takes_none s
+    decs_take (types _ rest) before c s = decs_take rest before c s
+    decs_take (variable x _ e rest) before c s =
+        both (1 + (drawn_by e + 1)) (drawn_by_decs rest) s
+            (declaration_of findings.escapes c.level (at_of x) (λ v. expression findings e v c) s)
+        (λ y. declarations findings rest (followed before y) c)
+        (declaration_takes findings.escapes c.level (at_of x) (drawn_by e) (λ v. expression findings e v c) s
+            (λ v t. takes e v c t))
+        (λ y t. decs_take rest (followed before y) c t)
+    decs_take (functions fs rest) before c s =
+        quiet_then (drawn_by_bodies fs + drawn_by_decs rest) s (declare_functions c.level fs s)
+        (λ _ t. after (bodies findings fs s.label c t) (λ _. declarations findings rest before c))
+            (declared_quiet fs c.level s)
+        (λ u t. both (drawn_by_bodies fs) (drawn_by_decs rest) t (bodies findings fs s.label c t)
+            (λ _. declarations findings rest before c)
+        (bodies_take fs s.label c t) (λ v z. decs_take rest before c z))
+
+    bodies_take : (fs : FunDecs) (label : ℕ) (c : Within) (s : State) → Takes (drawn_by_bodies fs) s
+        (bodies findings fs label c s)
+    bodies_take no_functions label c s = takes_none s
+    bodies_take (function f params result e rest) label c s =
+        let kept = findings.keeps_link (at_of f) in
+        let has_result = is_some result in
+        let t : State = begun_at label kept params c s in
+        both (length params + (drawn_by e + 1)) (drawn_by_bodies rest) s
+        (body label findings.escapes findings.keeps_link (at_of f) has_result params (λ w v. expression findings e w v)
+            c s)
+        (λ _. bodies findings rest (label + 1) c)
+        (finished_takes (drawn_by e + 1) (length params) s t
+        (after (expression findings e (result_want has_result) (inside c kept) t) (closing has_result))
+        (frame_temps findings.escapes kept params) refl
+        (both (drawn_by e) 1 t (expression findings e (result_want has_result) (inside c kept) t) (closing has_result)
+        (takes e (result_want has_result) (inside c kept) t) (λ m u. closing_takes u has_result m)))
+        (λ v u. bodies_take rest (label + 1) c u)
+
+  program_temps : (n : ℕ) (s : State) (d : Drawn Ts) → s.frame.temps ≡ 0 → s.functions ≡ [] → Takes n s d → Each
+      (λ f. f.temps ≤ n + 1) (program d).functions
+  program_temps n s (drawn x t) z e h =
+      (omega (arith, h.0, z), h.1 (n + 1) (omega arith) (subst (λ fs. Each (λ f. f.temps ≤ n + 1) fs) (sym e) tt))
+
+  drawn_temps : (e : Exp) (f : Function Ts) → Contains (translated findings e).functions f → f.temps ≤ drawn_by e + 1 +
+      1
+  drawn_temps e f c =
+      let s : State = beginning 33 (frame_for 32 []) in
+      each_contained (λ f. f.temps ≤ drawn_by e + 1 + 1) (translated findings e).functions
+      (program_temps (drawn_by e + 1) s (program_body findings e s) refl refl
+      (both (drawn_by e) 1 s (expression findings e want.Dropped outermost s) (closing false)
+          (takes e want.Dropped outermost s)
+      (λ m t. closing_takes t false m))) f c
+
+  pub temporaries_are_few : (e : Exp) (f : Function Ts) → Contains (translated findings e).functions f → f.temps ≤ 6 *
+      (size e + inner e) + 1
+  temporaries_are_few e f c = let h = drawn_temps e f c in let k = few_drawn e in omega (arith, h, k)

@@ -1,0 +1,73 @@
+-- Labels, strings and what the laws ask for, computed of small programs. Above each stands its text.
+use Rattle.std.proofs.Common.{◌≡◌, ℕ, List, [], ◌∷◌, Option, Some, None, Bool, true, false, refl, inl, inr, arith, map}
+use Rattle.std.specs.Prelude.{codes, nat_eq}
+use Rattle.std.specs.List.{list_any}
+use Rattle.tg_base.specs.declared.ids.Span.{Span}
+use Rattle.tg_symbols.specs.Tables.{named}
+use Rattle.tg_syntax.specs.declared.tokens.Ident.{Ident}
+use Rattle.tg_syntax.specs.declared.trees.Param.{Param}
+use Rattle.tg_syntax.specs.Tree.{Exp, Break, Int, Text, Read, Call, While, Let, Seq, Simple, no_exps, exp, no_decs, variable, functions, no_functions, function}
+use Rattle.tg_meaning.specs.declared.standards.Standard.TheVariants as standard
+use Rattle.tg_types.specs.declared.notes.Means.{Means}
+use Rattle.tg_types.specs.declared.notes.Means.TheVariants as means
+use Rattle.tg_tree.specs.Named.{function_labels, literal_labels}
+use Rattle.tg_translate.specs.Scopes.{Findings}
+use Rattle.tg_translate.specs.Translate.{translated}
+use Rattle.tg_shapes.specs.Standing.{BreaksStand, Reaches}
+use Rattle.tg_shapes.specs.Strings.{strings}
+use Rattle.tg_shapes.specs.Laws.{names}
+
+abbrev sp : Span
+sp = record { from = 0; to = 0 }
+
+abbrev id : ℕ → Ident
+id n = record { name = record { 0 = n }; span = record { from = n; to = n } }
+
+abbrev meanings : List (ℕ × Means)
+meanings = (1, means.Variable 1) ∷ (11, means.Function 11) ∷ (30, means.Standard standard.Print) ∷ []
+
+abbrev findings : (escaping : List ℕ) → Findings
+findings escaping = record {
+  meaning = λ at. named at meanings;
+  escapes = λ at. list_any (nat_eq at) escaping;
+  keeps_link = λ at. false;
+}
+
+-- let function f() = (print("a"); print("b")) in f(); print("c") end
+abbrev said : Exp
+said =
+    Let sp
+    (functions
+    (function (id 11) [] None
+    (Seq sp (exp (Call sp (id 30) (exp (Text sp (codes "a")) no_exps))
+    (exp (Call sp (id 30) (exp (Text sp (codes "b")) no_exps)) no_exps))) no_functions)
+    no_decs)
+    (exp (Call sp (id 11) no_exps) (exp (Call sp (id 30) (exp (Text sp (codes "c")) no_exps)) no_exps))
+
+said_functions : function_labels names (translated (findings []) said) ≡ 32 ∷ 33 ∷ []
+said_functions = refl
+
+said_literals : literal_labels names (translated (findings []) said) ≡ 34 ∷ 35 ∷ 36 ∷ []
+said_literals = refl
+
+said_strings : strings said ≡ codes "a" ∷ codes "b" ∷ codes "c" ∷ []
+said_strings = refl
+
+-- while 1 do break, and a break alone
+break_stands : BreaksStand false (While sp (Int sp 1) (Break sp))
+break_stands = (tt, refl)
+
+break_alone : BreaksStand false (Break sp) → ⊥
+break_alone e = cc
+
+-- let var x := 0 function f() = (x; ()) in f() end
+abbrev used : Exp
+used =
+    Let sp
+    (variable (id 1) None (Int sp 0)
+    (functions (function (id 11) [] None (Seq sp (exp (Read sp (Simple (id 1))) (exp (Seq sp no_exps) no_exps)))
+    no_functions) no_decs))
+    (exp (Call sp (id 11) no_exps) no_exps)
+
+used_inside : Reaches (findings []) [] [] used → ⊥
+used_inside h = elim h.0.2.0.1.0 [ inl c ↦ omega (arith, c.1) | inr e ↦ cc ]

@@ -1,0 +1,292 @@
+-- What each action of the translation keeps of the state, and what is fine in the state that it gives.
+use Rattle.std.proofs.Common.{◌≡◌, ◌<◌, ◌≤◌, ◌+◌, ℕ, Bool, true, false, Option, Some, List, [], ◌∷◌, ◌++◌, map, refl, sym, ap, ◌∙◌, subst, inl, inr, arith}
+use Rattle.std.specs.Prelude.{◌⊎◌, IsTrue}
+use Rattle.std.specs.List.{Contains}
+use Rattle.tg_symbols.specs.Tables.{named}
+use Rattle.tg_frame.specs.declared.accesses.Access.{Access}
+use Rattle.tg_frame.specs.declared.accesses.Access.TheVariants.{InTemp, InFrame}
+use Rattle.tg_frame.specs.Homes.{is_slot}
+use Rattle.tg_tree.specs.Tree.{Tx, Txs, Cond, Ts, Stms, Function, Literal}
+use Rattle.tg_tree.specs.Named.{Named, function, literal, fault, temporary}
+use Rattle.tg_tree.specs.Shapes.{EndsFunction}
+use Rattle.tg_translate.specs.declared.homes.Home.{Home}
+use Rattle.tg_translate.specs.declared.homes.Within.{Within}
+use Rattle.tg_translate.specs.declared.wants.Want.{Want}
+use Rattle.tg_translate.specs.declared.wants.Want.TheVariants as want
+use Rattle.tg_translate.specs.declared.operands.Operand.{Operand}
+use Rattle.tg_translate.specs.declared.operands.Operand.TheVariants.{Number, Kept}
+use Rattle.tg_translate.specs.States.{State, Frame, Acts, Drawn, drawn, after, give, with_frame, fresh, one_temp}
+use Rattle.tg_translate.specs.Wants.{Made, value, done, test}
+use Rattle.tg_translate.specs.Constructs.{Place, in_temp, at_address, HeldAll}
+use Rattle.tg_shapes.proofs.Fine.{Each, FineTs, FineStms, FineTx, FineTxs, FineCond, widen_ts, widen_stms, widen_tx, widen_txs, widen_cond}
+use Rattle.tg_shapes.proofs.Counts.{times, below}
+
+-- a part of a text: the loops around it, whether one of them is open for a break, the variables of its function, and
+-- those of the functions around
+pub record Where : Type 0 where
+  pub within : Within
+  pub loops : ℕ
+  pub in_loop : Bool
+  pub own : List ℕ
+  pub kept : List ℕ
+
+abbrev pub callee_labels : State → List ℕ
+callee_labels s = map (λ e. e.1.label.0) s.callees
+
+abbrev pub literal_labels : State → List ℕ
+literal_labels s = map (λ l. l.label) s.literals
+
+-- how often a label is one of a function or a literal that is there
+abbrev pub stands : ℕ → State → ℕ
+stands n s = times (λ f. f.label) n s.functions + times (λ l. l.label) n s.literals
+
+-- breaks are looked at where B is asked, and temporaries where T is
+module _ (B T : Type 0) (escapes : ℕ → Bool) where
+  abbrev pub Knows : (callees literals : List ℕ) → (temps : ℕ) → Named → Type 0
+  Knows cs ls n (function l) = (l < 13) ⊎ Contains cs l
+  Knows cs ls n (literal l) = Contains ls l
+  Knows cs ls n (fault k) = k < 1048576
+  Knows cs ls n (temporary i) = T → i < n
+
+  abbrev pub KnowsAt : State → Named → Type 0
+  KnowsAt s = Knows (callee_labels s) (literal_labels s) s.frame.temps
+
+  pub record FineFunction (cs ls : List ℕ) (f : Function Ts) : Type 0 where
+    pub body : FineTs B (Knows cs ls f.temps) 0 f.body
+    pub last : EndsFunction f.body
+
+  abbrev pub IsDrawn : (temps : ℕ) → Access → Type 0
+  IsDrawn n (InTemp t) = t.0 < n
+  IsDrawn n (InFrame k) = Unit {0}
+
+  -- from one state to a later one, with the homes of these variables kept
+  pub record Step (kept : List ℕ) (s t : State) : Type 0 where
+    pub label : s.label ≤ t.label
+    pub temps : s.frame.temps ≤ t.frame.temps
+    pub name : t.frame.label ≡ s.frame.label
+    pub callees : (l : ℕ) → Contains (callee_labels s) l → Contains (callee_labels t) l
+    pub literals : (l : ℕ) → Contains (literal_labels s) l → Contains (literal_labels t) l
+    pub balance : (n : ℕ) → stands n t + below n s.label ≡ stands n s + below n t.label
+    pub homes : T → (at : ℕ) → Contains kept at → named at t.homes ≡ named at s.homes
+
+  pub record Ready (c : Where) (s : State) : Type 0 where
+    pub from : 33 ≤ s.label
+    pub callees :
+        (l : ℕ) → Contains (callee_labels s) l → (33 ≤ l) × (l < s.label) × (times (λ k. k.label) l s.literals ≡ 0)
+    pub unused : (l : ℕ) → s.label ≤ l → times (λ k. k.label) l s.literals ≡ 0
+    pub functions : Each (FineFunction (callee_labels s) (literal_labels s)) s.functions
+    pub owned :
+        T → (at : ℕ) (home : Home) → Contains c.own at → named at s.homes ≡ Some home → IsDrawn s.frame.temps
+        home.access
+    pub slots :
+        T → (at : ℕ) (home : Home) → escapes at ≡ true → named at s.homes ≡ Some home → IsTrue (is_slot home.access)
+    pub link : T → 0 < c.within.level → c.within.link_in_slot ≡ false → 0 < s.frame.temps
+    pub loops : B → c.in_loop ≡ true → c.within.leave < c.loops
+
+  abbrev pub Yields : {A : Type 0} → Where → State → (State → A → Type 0) → Drawn A → Type 0
+  Yields c s V (drawn a t) = Step c.kept s t × Ready c t × V t a
+
+  -- Steps follow one another.
+
+  pub stay : (kept : List ℕ) (s : State) → Step kept s s
+  stay kept s = record {
+    label = omega arith;
+    temps = omega arith;
+    name = refl;
+    callees = λ l h. h;
+    literals = λ l h. h;
+    balance = λ n. refl;
+    homes = λ t at h. refl;
+  }
+
+  pub onward : {kept : List ℕ} {s t u : State} → Step kept s t → Step kept t u → Step kept s u
+  onward {s} {t} {u} h k = record {
+    label = omega (arith, h.label, k.label);
+    temps = omega (arith, h.temps, k.temps);
+    name = k.name ∙ h.name;
+    callees = λ l c. k.callees l (h.callees l c);
+    literals = λ l c. k.literals l (h.literals l c);
+    balance = λ n. let p = h.balance n in let q = k.balance n in omega (arith, p, q);
+    homes = λ t at c. k.homes t at c ∙ h.homes t at c;
+  }
+
+  lifted : {A : Type 0} (c : Where) (s t : State) (W : State → A → Type 0) (d : Drawn A) → Step c.kept s t → Yields c t
+      W d → Yields c s W d
+  lifted c s t W (drawn a u) h k = (onward h k.0, k.1, k.2)
+
+  pub bind :
+      {A C : Type 0} (c : Where) (s : State) (V : State → A → Type 0) (W : State → C → Type 0) (d : Drawn A)
+      (next : A → Acts C) →
+      Yields c s V d →
+      ((a : A) (t : State) → Step c.kept s t → Ready c t → V t a → Yields c t W (next a t)) →
+      Yields c s W (after d next)
+  bind c s V W (drawn a t) next h k = lifted c s t W (next a t) h.0 (k a t h.0 h.1 h.2)
+
+  pub given : {A : Type 0} (c : Where) (s : State) (V : State → A → Type 0) (a : A) → Ready c s → V s a → Yields c s V
+      (give a s)
+  given c s V a r v = (stay c.kept s, r, v)
+
+  pub weaker :
+      {A : Type 0} (c : Where) (s : State) (V W : State → A → Type 0) (d : Drawn A) →
+      ((t : State) (a : A) → V t a → W t a) → Yields c s V d → Yields c s W d
+  weaker c s V W (drawn a t) f h = (h.0, h.1, f t a h.2)
+
+  -- What is fine stays fine.
+
+  know_more : (cs ls ds ms : List ℕ) (n m : ℕ) → ((l : ℕ) → Contains cs l → Contains ds l) →
+      ((l : ℕ) → Contains ls l → Contains ms l) → n ≤ m →
+      (x : Named) → Knows cs ls n x → Knows ds ms m x
+  know_more cs ls ds ms n m f g h (function l) k = elim k [ inl e ↦ inl e | inr e ↦ inr (f l e) ]
+  know_more cs ls ds ms n m f g h (literal l) k = g l k
+  know_more cs ls ds ms n m f g h (fault j) k = k
+  know_more cs ls ds ms n m f g h (temporary i) k = λ t. let j = k t in omega (arith, j, h)
+
+  pub knows_on : (kept : List ℕ) (s t : State) → Step kept s t → (x : Named) → KnowsAt s x → KnowsAt t x
+  knows_on kept s t h x k =
+      know_more (callee_labels s) (literal_labels s) (callee_labels t) (literal_labels t) s.frame.temps t.frame.temps
+      h.callees h.literals h.temps x k
+
+  pub functions_on : (cs ls ds ms : List ℕ) → ((l : ℕ) → Contains cs l → Contains ds l) →
+      ((l : ℕ) → Contains ls l → Contains ms l) →
+      (fs : List (Function Ts)) → Each (FineFunction cs ls) fs → Each (FineFunction ds ms) fs
+  functions_on cs ls ds ms f g [] h = tt
+  functions_on cs ls ds ms f g (one ∷ fs) h = (
+    record {
+      body =
+          widen_ts B (Knows cs ls one.temps) (Knows ds ms one.temps)
+          (know_more cs ls ds ms one.temps one.temps f g (omega arith)) 0 one.body h.0.body;
+      last = h.0.last;
+    },
+    functions_on cs ls ds ms f g fs h.1,
+  )
+
+  abbrev pub GoodTx : ℕ → State → Tx → Type 0
+  GoodTx n s x = FineTx B (KnowsAt s) n x
+
+  abbrev pub GoodTxs : ℕ → State → Txs → Type 0
+  GoodTxs n s xs = FineTxs B (KnowsAt s) n xs
+
+  abbrev pub GoodTs : ℕ → State → Ts → Type 0
+  GoodTs n s x = FineTs B (KnowsAt s) n x
+
+  abbrev pub GoodStms : ℕ → State → Stms → Type 0
+  GoodStms n s ss = FineStms B (KnowsAt s) n ss
+
+  abbrev pub GoodCond : ℕ → State → Cond → Type 0
+  GoodCond n s c = FineCond B (KnowsAt s) n c
+
+  abbrev pub GoodMade : ℕ → State → Made → Type 0
+  GoodMade n s (value x) = FineTx B (KnowsAt s) n x
+  GoodMade n s (done x) = FineTs B (KnowsAt s) n x
+  GoodMade n s (test c) = FineCond B (KnowsAt s) n c
+
+  abbrev pub GoodPlace : ℕ → State → Place → Type 0
+  GoodPlace n s (in_temp i) = T → i < s.frame.temps
+  GoodPlace n s (at_address ss x) = FineStms B (KnowsAt s) n ss × FineTx B (KnowsAt s) n x
+
+  abbrev pub GoodOperand : State → Operand → Type 0
+  GoodOperand s (Number n) = Unit {0}
+  GoodOperand s (Kept t) = T → t.0 < s.frame.temps
+
+  abbrev pub GoodOperands : State → List Operand → Type 0
+  GoodOperands s [] = Unit {0}
+  GoodOperands s (x ∷ xs) = GoodOperand s x × GoodOperands s xs
+
+  abbrev pub GoodHeld : ℕ → State → HeldAll → Type 0
+  GoodHeld n s all = FineStms B (KnowsAt s) n all.before × GoodOperands s all.operands
+
+  abbrev pub GoodWant : State → Want → Type 0
+  GoodWant s (want.Into t) = T → t.0 < s.frame.temps
+  GoodWant s _ = Unit {0}
+
+  abbrev pub GoodAccess : State → Access → Type 0
+  GoodAccess s (InTemp t) = T → t.0 < s.frame.temps
+  GoodAccess s (InFrame k) = Unit {0}
+
+  module _ (kept : List ℕ) (s t : State) (h : Step kept s t) where
+    pub tx_on : (n : ℕ) (x : Tx) → GoodTx n s x → GoodTx n t x
+    tx_on n x k = widen_tx B (KnowsAt s) (KnowsAt t) (knows_on kept s t h) n x k
+
+    pub txs_on : (n : ℕ) (xs : Txs) → GoodTxs n s xs → GoodTxs n t xs
+    txs_on n x k = widen_txs B (KnowsAt s) (KnowsAt t) (knows_on kept s t h) n x k
+
+    pub ts_on : (n : ℕ) (x : Ts) → GoodTs n s x → GoodTs n t x
+    ts_on n x k = widen_ts B (KnowsAt s) (KnowsAt t) (knows_on kept s t h) n x k
+
+    pub stms_on : (n : ℕ) (ss : Stms) → GoodStms n s ss → GoodStms n t ss
+    stms_on n x k = widen_stms B (KnowsAt s) (KnowsAt t) (knows_on kept s t h) n x k
+
+    pub cond_on : (n : ℕ) (c : Cond) → GoodCond n s c → GoodCond n t c
+    cond_on n x k = widen_cond B (KnowsAt s) (KnowsAt t) (knows_on kept s t h) n x k
+
+    pub made_on : (n : ℕ) (m : Made) → GoodMade n s m → GoodMade n t m
+    made_on n (value x) k = tx_on n x k
+    made_on n (done x) k = ts_on n x k
+    made_on n (test c) k = cond_on n c k
+
+    pub temp_on : (i : ℕ) → (T → i < s.frame.temps) → T → i < t.frame.temps
+    temp_on i k asked = let j = k asked in omega (arith, j, h.temps)
+
+    pub place_on : (n : ℕ) (p : Place) → GoodPlace n s p → GoodPlace n t p
+    place_on n (in_temp i) k = temp_on i k
+    place_on n (at_address ss x) k = (stms_on n ss k.0, tx_on n x k.1)
+
+    pub operand_on : (x : Operand) → GoodOperand s x → GoodOperand t x
+    operand_on (Number n) k = tt
+    operand_on (Kept i) k = temp_on i.0 k
+
+    pub operands_on : (xs : List Operand) → GoodOperands s xs → GoodOperands t xs
+    operands_on [] k = tt
+    operands_on (x ∷ xs) k = (operand_on x k.0, operands_on xs k.1)
+
+    pub held_on : (n : ℕ) (all : HeldAll) → GoodHeld n s all → GoodHeld n t all
+    held_on n all k = (stms_on n all.before k.0, operands_on all.operands k.1)
+
+    pub want_on : (w : Want) → GoodWant s w → GoodWant t w
+    want_on want.Value k = tt
+    want_on (want.Into i) k = temp_on i.0 k
+    want_on want.Dropped k = tt
+    want_on want.Test k = tt
+
+    pub access_on : (a : Access) → GoodAccess s a → GoodAccess t a
+    access_on (InTemp i) k = temp_on i.0 k
+    access_on (InFrame j) k = tt
+
+  -- A frame may draw.
+
+  drawn_on : (n m : ℕ) (a : Access) → n ≤ m → IsDrawn n a → IsDrawn m a
+  drawn_on n m (InTemp t) h k = omega (arith, h, k)
+  drawn_on n m (InFrame j) h k = tt
+
+  pub framed : (kept : List ℕ) (s : State) (f : Frame) → f.label ≡ s.frame.label → s.frame.temps ≤ f.temps → Step kept s
+      (with_frame f s)
+  framed kept s f e h = record {
+    label = omega arith;
+    temps = h;
+    name = e;
+    callees = λ l k. k;
+    literals = λ l k. k;
+    balance = λ n. refl;
+    homes = λ t at k. refl;
+  }
+
+  pub ready_framed : (c : Where) (s : State) (f : Frame) → s.frame.temps ≤ f.temps → Ready c s → Ready c
+      (with_frame f s)
+  ready_framed c s f h r = record {
+    from = r.from;
+    callees = r.callees;
+    unused = r.unused;
+    functions = r.functions;
+    owned = λ t at home k e. drawn_on s.frame.temps f.temps home.access h (r.owned t at home k e);
+    slots = r.slots;
+    link = λ t l e. let k = r.link t l e in omega (arith, k, h);
+    loops = r.loops;
+  }
+
+  pub draws_temp : (c : Where) (s : State) → Ready c s → Yields c s (λ t i. T → i < t.frame.temps) (fresh s)
+  draws_temp c s r = (
+    framed c.kept s (one_temp s.frame) refl (omega arith),
+    ready_framed c s (one_temp s.frame) (omega arith) r,
+    λ t.
+        omega arith,
+  )

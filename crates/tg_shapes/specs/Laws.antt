@@ -1,0 +1,123 @@
+-- Laws of the trees that programs are translated to.
+use Rattle.std.specs.Prelude.{◌≡◌, ◌≤◌, ◌+◌, ◌*◌, ℕ, List, [], ◌++◌, length, map, false}
+use Rattle.std.specs.List.{Contains, sum_by}
+use Rattle.std.specs.Ordering.{nat_cmp}
+use Rattle.std.specs.FinSet.{FinSet, from_list}
+use Rattle.tg_syntax.specs.Tree.{Exp}
+use Rattle.tg_syntax.specs.Plain.{plain}
+use Rattle.tg_syntax.specs.Measures.{size, inner}
+use Rattle.tg_escape.specs.Escaping.{escapes_of}
+use Rattle.tg_types.specs.Programs.{CheckedProgram, IsAccepted}
+use Rattle.tg_tree.specs.Tree.{Ts, Function, Code}
+use Rattle.tg_tree.specs.Shapes.{IsClosed}
+use Rattle.tg_tree.specs.Named.{
+  Named,
+  named_ts,
+  function_labels,
+  literal_labels,
+  HasItsTemps,
+  IsLinked,
+}
+use Rattle.tg_runtime.specs.Routines.{runtime}
+use Rattle.tg_translate.specs.Constructs.{string_text}
+use Rattle.tg_translate.specs.Scopes.{Findings, found}
+use Rattle.tg_translate.specs.Translate.{translated}
+use Rattle.tg_shapes.specs.Standing.{BreaksStand, Reaches}
+use Rattle.tg_shapes.specs.Strings.{strings}
+use Rattle.tg_shapes.specs.Escaped.{escaping}
+
+-- what a body names
+abbrev pub names : Ts → List Named
+names body = named_ts body []
+
+-- the functions and literals of a program, and behind them the runtime's
+abbrev pub with_runtime : Code Ts → Code Ts
+with_runtime program = record {
+  functions = program.functions ++ runtime.functions;
+  literals = program.literals ++ runtime.literals;
+}
+
+-- Labels, for any program and whatever was found of it.
+abbrev pub ProgramsAreLinked : Type 0
+ProgramsAreLinked =
+    (findings : Findings) (e : Exp) → IsLinked names (with_runtime (translated findings e))
+
+abbrev pub LabelsAreAbove : Type 0
+LabelsAreAbove =
+    (findings : Findings) (e : Exp) (label : ℕ) →
+    Contains
+    (function_labels names (translated findings e) ++ literal_labels names (translated findings e))
+    label →
+    32 ≤ label
+
+-- a body is closed where each break of the text stands in a loop, which is so in a checked program
+abbrev pub BodiesAreClosed : Type 0
+BodiesAreClosed =
+    (findings : Findings) (e : Exp) (f : Function Ts) →
+    BreaksStand false e → Contains (translated findings e).functions f → IsClosed f.body
+
+abbrev pub CheckedBodiesAreClosed : Type 0
+CheckedBodiesAreClosed =
+    (p : CheckedProgram) (escapes links : FinSet nat_cmp) (f : Function Ts) →
+    IsAccepted p →
+    Contains (translated (found p.notes escapes links) (plain p.program.body)).functions f →
+    IsClosed f.body
+
+-- a body's temporaries are its frame's where each variable that a text uses is in its reach
+abbrev pub TemporariesAreDrawn : Type 0
+TemporariesAreDrawn =
+    (findings : Findings) (e : Exp) (f : Function Ts) →
+    Reaches findings [] [] e → Contains (translated findings e).functions f → HasItsTemps names f
+
+-- which is so in a checked program, with the variables that escape
+abbrev pub findings_in : CheckedProgram → (links : FinSet nat_cmp) → Findings
+findings_in p links = found p.notes (from_list (escapes_of (plain p.program.body))) links
+
+abbrev pub CheckedReaches : Type 0
+CheckedReaches =
+    (p : CheckedProgram) (links : FinSet nat_cmp) →
+    IsAccepted p → Reaches (findings_in p links) [] [] (plain p.program.body)
+
+abbrev pub CheckedTemporariesAreDrawn : Type 0
+CheckedTemporariesAreDrawn =
+    (p : CheckedProgram) (links : FinSet nat_cmp) (f : Function Ts) →
+    IsAccepted p →
+    Contains (translated (findings_in p links) (plain p.program.body)).functions f →
+    HasItsTemps names f
+
+-- One literal for each string of the text, in its order: its length as a word, and its bytes.
+abbrev pub LiteralsAreStrings : Type 0
+LiteralsAreStrings =
+    (findings : Findings) (e : Exp) →
+    map (λ l. l.text) (translated findings e).literals ≡ map string_text (strings e)
+
+abbrev pub LiteralsAreShort : Type 0
+LiteralsAreShort =
+    (findings : Findings) (e : Exp) →
+    sum_by (λ l. length l.text) (translated findings e).literals ≡
+    sum_by (λ bytes. 4 + length bytes) (strings e)
+
+-- The slots of a frame are at most the variables of the text that escape, and one more, for the
+-- static link.
+abbrev pub SlotsAreFew : Type 0
+SlotsAreFew =
+    (findings : Findings) (e : Exp) (f : Function Ts) →
+    Contains (translated findings e).functions f → f.slots ≤ escaping findings.escapes e + 1
+
+-- And a frame has at most six temporaries for each node of the program, and one more.
+abbrev pub TemporariesAreFew : Type 0
+TemporariesAreFew =
+    (findings : Findings) (e : Exp) (f : Function Ts) →
+    Contains (translated findings e).functions f → f.temps ≤ 6 * (size e + inner e) + 1
+
+-- An accepted program has 32,768 nodes at most.
+pub record IsSmall (f : Function Ts) : Type 0 where
+  pub slots : f.slots ≤ 32769
+  pub temps : f.temps ≤ 196609
+
+abbrev pub CheckedFramesAreSmall : Type 0
+CheckedFramesAreSmall =
+    (p : CheckedProgram) (escapes links : FinSet nat_cmp) (f : Function Ts) →
+    IsAccepted p →
+    Contains (translated (found p.notes escapes links) (plain p.program.body)).functions f →
+    IsSmall f

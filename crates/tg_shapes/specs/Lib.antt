@@ -1,0 +1,4 @@
+pub mod Standing
+pub mod Strings
+pub mod Escaped
+pub mod Laws

@@ -1,0 +1,67 @@
+ghost use Rattle.tg_shapes.specs.Laws.{
+  BodiesAreClosed,
+  CheckedBodiesAreClosed,
+  CheckedFramesAreSmall,
+  CheckedReaches,
+  CheckedTemporariesAreDrawn,
+  LabelsAreAbove,
+  LiteralsAreShort,
+  LiteralsAreStrings,
+  ProgramsAreLinked,
+  SlotsAreFew,
+  TemporariesAreDrawn,
+  TemporariesAreFew,
+};
+
+use tg_runtime::routines_are_closed;
+use tg_types::{checked_has_type, notes_are_found};
+
+/// Laws of the labels of every program, whatever it means: with the runtime behind it, all labels
+/// of functions and literals differ, the body's is 32, each function that is called and each
+/// literal whose address is taken stands there, and each fault has a number of at most 20 bits.
+/// The program's own labels are 32 and above.
+pub fn programs_are_linked()
+    ensures linked { ProgramsAreLinked }
+    ensures above { LabelsAreAbove }
+{
+    routines_are_closed();
+}
+
+/// Laws of the bodies of a program's functions: each is closed, where each break of the text stands
+/// in a loop of its function; and so it does in a program that the checker accepts.
+pub fn bodies_are_closed()
+    ensures text { BodiesAreClosed }
+    ensures checked { CheckedBodiesAreClosed }
+{
+    checked_has_type();
+}
+
+/// Laws of temporaries: each that a function's body names is one that its frame has drawn, where
+/// each variable that the text uses is one of its function or escapes; and so it does in a program
+/// that the checker accepts, with the variables that its nested functions use as those that escape.
+pub fn temporaries_are_drawn()
+    ensures text { TemporariesAreDrawn }
+    ensures reaches { CheckedReaches }
+    ensures checked { CheckedTemporariesAreDrawn }
+{
+    checked_has_type();
+    notes_are_found();
+}
+
+/// Laws of literals: there is one for each string of the text, in its order, with its length as a
+/// word and its bytes; so literals have four bytes more than their strings.
+pub fn literals_are_strings()
+    ensures strings { LiteralsAreStrings }
+    ensures short { LiteralsAreShort }
+{}
+
+/// Laws of frames: each has at most one slot for each variable of the text that escapes, and one
+/// more for its static link; at most six temporaries for each node of the program, and one more.
+/// So in a program that the checker accepts it has at most 32,769 slots and 196,609 temporaries.
+pub fn frames_are_small()
+    ensures slots { SlotsAreFew }
+    ensures temps { TemporariesAreFew }
+    ensures checked { CheckedFramesAreSmall }
+{
+    checked_has_type();
+}

@@ -1,0 +1,11 @@
+//! Laws of the trees that programs are translated to: which labels, temporaries and literals stand
+//! in them, how many slots frames have, and that bodies are closed. They are laws of the definition
+//! `translated`, so that the passes behind the translation need not test what they ask for.
+#![tactic(auto)]
+
+mod laws;
+
+pub use laws::{
+    bodies_are_closed, frames_are_small, literals_are_strings, programs_are_linked,
+    temporaries_are_drawn,
+};
