@@ -3,6 +3,7 @@ ghost use Rattle.tg_tree.specs.Lists.{code_of};
 ghost use Rattle.tg_tree.specs.Plain.{plain_fragment, plain_function, plain_ts};
 ghost use Rattle.tg_compile.specs.Compiling.{Chooses, CompilesFunction, FlattensTo};
 
+use crate::munchable::can_be_munched;
 use std::alloc::Global;
 use tg_base::Memory;
 use tg_canon::linearize;
@@ -32,7 +33,11 @@ fn choose(alloc: Global, frame: &mut Frame, body: Ts) -> Result<Code, Memory>
     ensures { IfOk result (Chooses (plain_function frame.old (plain_ts body)) frame.new) }
 {
     let flat = flatten(alloc, frame, body)?;
-    Ok(munch(alloc, &flat, frame)?)
+    let code = flat.as_slice();
+    if !can_be_munched(alloc, code, frame)? {
+        return Err(Memory);
+    }
+    Ok(munch(alloc, code, frame)?)
 }
 
 /// The flat code of a body: canonical statements, cut into blocks and laid in traces.

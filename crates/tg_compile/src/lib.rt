@@ -4,6 +4,7 @@
 
 mod bodies;
 mod compiled;
+mod munchable;
 mod programs;
 
 pub use compiled::Compiled;

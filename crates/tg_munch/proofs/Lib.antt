@@ -1,6 +1,13 @@
+pub mod Drawing
 mod Examples
+pub mod Keeping
 pub mod Kept
-pub mod Marks
+pub mod MarkingLaws
+pub mod Naming
+pub mod NamingCode
+pub mod NamingLaws
+pub mod Passing
+pub mod Scopes
 pub mod Walking
 pub mod Whole
 pub mod Writing

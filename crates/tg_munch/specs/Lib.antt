@@ -3,6 +3,6 @@ pub mod Choosing
 pub mod Comparing
 pub mod Drafts
 pub mod Laws
-pub mod Marking
 pub mod Munching
+pub mod Naming
 pub mod Tiles

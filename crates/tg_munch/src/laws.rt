@@ -1,8 +1,35 @@
-ghost use Rattle.tg_munch.specs.Laws.{MovesStay, CodeEndsWell};
+ghost use Rattle.tg_munch.specs.Laws.{
+  MovesStay,
+  CodeEndsWell,
+  RegistersAreFixed,
+  SlotsAreBelow,
+  TempsAreBelow,
+  NamesStay,
+  MarksDiffer,
+  MarksStand,
+};
 
 /// Laws of the chosen instructions: each move of one temporary to another in flat code is a move
 /// among them, and the last one goes on nowhere where the last element of the flat code doesn't.
 pub fn code_is_kept()
     ensures moves { MovesStay }
     ensures ends { CodeEndsWell }
+{}
+
+/// Laws of what the instructions name: registers that code names before allocation, of which
+/// neither `$zero` nor `$sp` is written, slots of the frame, temporaries that are drawn, and
+/// functions, literals and faults of the flat code alone.
+pub fn code_names_its_own()
+    ensures registers { RegistersAreFixed }
+    ensures slots { SlotsAreBelow }
+    ensures temps { TempsAreBelow }
+    ensures names { NamesStay }
+{}
+
+/// Laws of the marks among the instructions of flat code whose marks differ and that goes to none
+/// but its own: they differ, those that are drawn for shifts too, and each that is led to stands
+/// there.
+pub fn code_is_marked()
+    ensures differ { MarksDiffer }
+    ensures stand { MarksStand }
 {}

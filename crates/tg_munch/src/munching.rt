@@ -1,6 +1,8 @@
-ghost use Rattle.std.specs.Prelude.{◌≡◌, ◌<◌, ◌-◌, ◌^◌, OnErr, IfOk, length};
+ghost use Rattle.std.specs.Prelude.{◌≡◌, ◌<◌, ◌-◌, ◌^◌, OnErr, IfOk, [], length};
 ghost use Rattle.tg_tree.specs.Lists.{code_of};
+ghost use Rattle.tg_tree.specs.Named.{HasItsTemps, named_flat};
 ghost use Rattle.tg_tree.specs.Plain.{plain_linear, plain_function, plain_tx, plain_ts};
+ghost use Rattle.tg_tree.specs.Shapes.{IsWellMarked};
 ghost use Rattle.tg_munch.specs.Bodies as bodies;
 
 use crate::bodies::{KEPT, elements, keep, parameters};
@@ -13,9 +15,13 @@ use tg_frame::Frame;
 use tg_instr::Code;
 use tg_tree::{Linear, Ts, Tx};
 
-/// The instructions of a function, by its flat code and its frame, of which `out` is set: the words
-/// at its low end for the arguments past the fourth of the calls that the code makes.
+/// The instructions of a function, by its flat code, whose temporaries its frame has drawn. Of the
+/// frame `out` is set: the words at its low end for the arguments past the fourth of the calls that
+/// the code makes.
 pub fn munch(alloc: Global, code: &[Linear], frame: &mut Frame) -> Result<Code, Memory>
+    requires marked { IsWellMarked (code_of code.now) }
+    requires drawn { HasItsTemps (λ e. named_flat e [])
+        (plain_function frame.old (code_of code.now)) }
     ensures code { IfOk result (λ c. c.list ≡
         (bodies.munched (plain_function frame.old (code_of code.now))).code) }
     ensures temps { IfOk result (λ c. c.temps ≡
@@ -31,7 +37,7 @@ pub fn munch(alloc: Global, code: &[Linear], frame: &mut Frame) -> Result<Code, 
     let mark = mark_above(code)?;
     let out = out_words(code)?;
     let draft = body(alloc, code, frame, mark)?;
-    let made = finish(alloc, draft)?;
+    let made = finish(draft)?;
     frame.out = out;
     Ok(made)
 }

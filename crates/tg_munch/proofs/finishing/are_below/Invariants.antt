@@ -1,8 +1,0 @@
-use Rattle.std.proofs.Common.{take}
-use Rattle.std.specs.Prelude.{IsTrue}
-use Rattle.std.specs.List.{list_all}
-use Rattle.tg_instr.specs.Codes.{has_temps_below}
-use Rattle.tg_munch.proofs.finishing.are_below.Given as goal
-
-abbrev pub invariant-loop-one : goal.invariant-loop-one
-invariant-loop-one l = IsTrue (list_all (has_temps_below l.temps) (take l.one-index l.list))
