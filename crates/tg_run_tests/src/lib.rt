@@ -10,6 +10,8 @@ mod faults;
 #[cfg(test)]
 mod languages;
 #[cfg(test)]
+mod large;
+#[cfg(test)]
 mod programs;
 #[cfg(test)]
 mod runs;
