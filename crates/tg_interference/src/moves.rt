@@ -1,4 +1,4 @@
-ghost use Rattle.std.specs.Prelude.{◌≡◌, ◌≤◌, IfOk, IsTrue};
+ghost use Rattle.std.specs.Prelude.{◌≡◌, ◌≤◌, ◌∷◌, ◌++◌, [], IfOk, IsTrue, OnOk};
 ghost use Rattle.tg_instr.specs.Codes.{has_temps_below};
 ghost use Rattle.tg_instr.specs.Shapes.{shape};
 ghost use Rattle.tg_interference.specs.Nodes.{most_temps};
@@ -18,11 +18,23 @@ pub fn moves_of(alloc: Global, code: &Code) -> Result<Moves, Memory>
     let list = code.list.as_slice();
     let mut moves = Vec::new(alloc);
     for one in list {
-        if let Some(between) = move_of(one) {
-            moves.push(between)?;
-        }
+        push_move(one, &mut moves)?;
     }
     Ok(Moves::from_vec(moves))
+}
+
+// Puts the move of an instruction, where it has one, at the end of a list.
+fn push_move(one: &Instr, moves: &mut Vec<Move>) -> Result<(), Memory>
+    requires { IsTrue (has_temps_below most_temps one.now) }
+    ensures { OnOk result (moves.new.items ≡ moves.old.items ++ moves_of (one.now ∷ [])) }
+{
+    match move_of(one) {
+        Some(between) => {
+            moves.push(between)?;
+            Ok(())
+        }
+        None => Ok(()),
+    }
 }
 
 /// The move of a move instruction whose ends both have nodes.
