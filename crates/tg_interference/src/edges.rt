@@ -19,7 +19,7 @@ ghost use Rattle.tg_instr.specs.Shapes.{shape};
 ghost use Rattle.tg_instr.specs.Uses.{defs_of};
 ghost use Rattle.tg_graph.specs.Interference.{colours, most_nodes, interferes};
 ghost use Rattle.tg_live.specs.Live.{AreLiveSets};
-ghost use Rattle.tg_interference.specs.Nodes.{operand_at};
+ghost use Rattle.tg_interference.specs.Nodes.{most_temps, operand_at};
 ghost use Rattle.tg_interference.specs.Moves.{move_of};
 ghost use Rattle.tg_interference.specs.Pairs.{IsInterference, has, is_apart, joins_both};
 
@@ -37,7 +37,7 @@ use tg_rounds::Move;
 /// 11).
 pub fn interference(alloc: Global, code: &Code, live: &LiveSets) -> Result<Graph, Memory>
     requires live { AreLiveSets code.now.list live.now }
-    requires few { 25 + code.now.temps ≤ most_nodes }
+    requires few { code.now.temps ≤ most_temps }
     ensures { IfOk result (λ graph. IsInterference code.now.list code.now.temps graph) }
 {
     let list = code.list.as_slice();
@@ -70,34 +70,35 @@ fn join_definitions(
 {
     let moved = move_of(one);
     let defs = one.defs(alloc);
-    for d in defs.as_slice() {
-        join_definition(d, moved, live, graph)?;
+    for definition in defs.as_slice() {
+        join_definition(definition, moved, live, graph)?;
     }
     Ok(())
 }
 
 // Joins one of the definitions to what is live.
 fn join_definition(
-    d: &Opnd,
+    definition: &Opnd,
     moved: Option<Move>,
     live: &[Opnd],
     graph: &mut Graph,
 ) -> Result<(), Memory>
     requires low { colours ≤ graph.old.nodes }
     requires few { graph.old.nodes ≤ most_nodes }
-    requires temps { IsTrue (is_below (graph.old.nodes - colours) d.now) }
+    requires temps { IsTrue (is_below (graph.old.nodes - colours) definition.now) }
     requires live { IsTrue (list_all (is_below (graph.old.nodes - colours)) live.now) }
     ensures nodes { OnOk result (graph.new.nodes ≡ graph.old.nodes) }
     ensures pairs { OnOk result ((x y : ℕ) → interferes graph.new x y
-        ≡ (joins_both moved (λ n. is_same (operand_at n) d.now) (has live.now) x y
+        ≡ (joins_both moved (λ n. is_same (operand_at n) definition.now) (has live.now) x y
         || interferes graph.old x y)) }
 {
-    match node_of(d) {
+    match node_of(definition) {
         Some(node) => join_node(node, moved, live, graph),
         None => Ok(()),
     }
 }
 
+// Joins a node to what is live.
 fn join_node(
     node: u32,
     moved: Option<Move>,
@@ -118,6 +119,7 @@ fn join_node(
     Ok(())
 }
 
+// Joins a node to an operand that is live, where it has a node too.
 fn join_operand(
     node: u32,
     moved: Option<Move>,
@@ -139,6 +141,7 @@ fn join_operand(
     }
 }
 
+// Joins a definition to what is live behind it, unless a move keeps them apart.
 fn join_nodes(
     node: u32,
     moved: Option<Move>,
@@ -159,12 +162,12 @@ fn join_nodes(
     }
 }
 
-// Whether a definition is joined to what is live behind it.
-fn is_apart(moved: Option<Move>, d: u32, x: u32) -> bool
-    ensures { result ≡ is_apart moved d x }
+// Whether a definition is another node than one that is live, and no move of the other to it.
+fn is_apart(moved: Option<Move>, to: u32, other: u32) -> bool
+    ensures { result ≡ is_apart moved to other }
 {
     match moved {
-        Some(between) => d != x && !(d == between.to && x == between.from),
-        None => d != x,
+        Some(between) => to != other && !(to == between.to && other == between.from),
+        None => to != other,
     }
 }

@@ -17,7 +17,7 @@ ghost use Rattle.std.specs.Prelude.{
 ghost use Rattle.std.specs.List.{list_all};
 ghost use Rattle.tg_instr.specs.Codes.{has_temps_below, is_below};
 ghost use Rattle.tg_instr.specs.Operands.{is_same};
-ghost use Rattle.tg_graph.specs.Interference.{most_nodes};
+ghost use Rattle.tg_interference.specs.Nodes.{most_temps};
 ghost use Rattle.tg_interference.specs.Marks as marks;
 ghost use Rattle.tg_interference.specs.Marks.{
   AreCounts,
@@ -38,7 +38,7 @@ pub type Marks = ListOf<Mark>;
 /// How often each node of a code is used or defined, 0 for a register, and whether spilling has made
 /// it, as it has the temporaries whose numbers are `originals` or greater.
 pub fn marks_of(alloc: Global, code: &Code, originals: u32) -> Result<Marks, Memory>
-    requires few { 25 + code.now.temps ≤ most_nodes }
+    requires few { code.now.temps ≤ most_temps }
     requires short { length code.now.list * 48 < 2 ^ 32 }
     ensures { IfOk result (λ marks. marks ≡ marks_of code.now.list code.now.temps originals) }
 {

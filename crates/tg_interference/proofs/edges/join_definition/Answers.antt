@@ -11,19 +11,19 @@ pub join_node-requires-clause-node : goal.join_node-requires-clause-node
 join_node-requires-clause-node c =
     let n = c.args.graph.now.nodes in
     let l : c.in-Some.node < 25 + (n - 25) =
-    node_below (n - 25) c.args.d.now c.in-Some.node c.requires.temps (sym c.in-Some.ensures) in
+    node_below (n - 25) c.args.definition.now c.in-Some.node c.requires.temps (sym c.in-Some.ensures) in
     omega (arith, l, c.requires.low)
 
 pub returns-in-Some-clause-pairs : goal.returns-in-Some-clause-pairs
 returns-in-Some-clause-pairs c =
     on_ok c.join_node.result (λ h. λ x y. h x y
     ∙ ap (λ b. b || interferes c.args.graph.now x y)
-    (both_same c.args.moved (λ n. n == c.in-Some.node) (λ n. is_same (operand_at n) c.args.d.now) (has c.args.live.now)
-    (has c.args.live.now) (at_node c.args.d.now c.in-Some.node c.in-Some.ensures) (λ n. refl) x
+    (both_same c.args.moved (λ n. n == c.in-Some.node) (λ n. is_same (operand_at n) c.args.definition.now) (has c.args.live.now)
+    (has c.args.live.now) (at_node c.args.definition.now c.in-Some.node c.in-Some.ensures) (λ n. refl) x
     y)) c.join_node.ensures.pairs
 
 pub returns-in-None-clause-pairs : goal.returns-in-None-clause-pairs
 returns-in-None-clause-pairs c = λ x y.
     sym (ap (λ b. b || interferes c.args.graph.now x y)
-    (none_defined c.args.moved (λ n. is_same (operand_at n) c.args.d.now) (has c.args.live.now)
-    (at_no_node c.args.d.now c.in-None.ensures) x y))
+    (none_defined c.args.moved (λ n. is_same (operand_at n) c.args.definition.now) (has c.args.live.now)
+    (at_no_node c.args.definition.now c.in-None.ensures) x y))
