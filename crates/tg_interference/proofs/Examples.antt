@@ -1,7 +1,7 @@
 -- Nodes, and the pairs, the moves and the marks of a code, by computing.
-use Rattle.std.proofs.Common.{◌≡◌, ℕ, Bool, true, false, List, [], ◌∷◌, ◌++◌, Option, Some, None, map, refl, inl, inr}
+use Rattle.std.proofs.Common.{◌≡◌, ℕ, Bool, true, false, List, [], ◌∷◌, ◌++◌, Some, None, map, refl, inl, inr}
 use Rattle.std.specs.Prelude.{filter}
-use Rattle.std.specs.List.{range_with_len, flat_map}
+use Rattle.std.specs.List.{range_with_len}
 use Rattle.tg_instr.specs.declared.instr.Instr.{Instr}
 use Rattle.tg_instr.specs.declared.instr.Instr.TheVariants.{Move as MoveOf, Addu, Return}
 use Rattle.tg_instr.specs.declared.operands.Opnd.{Opnd}

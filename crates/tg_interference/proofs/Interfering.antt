@@ -9,7 +9,6 @@ use Rattle.tg_instr.specs.Uses.{defs, defs_of}
 use Rattle.tg_graph.specs.Interference.{Interference, interferes, is_register}
 use Rattle.tg_live.specs.Live.{Sets, set_at, is_among, AreLiveSets}
 use Rattle.tg_live.specs.Interference.{moves, defines_beside_at, are_two_colours, IsDefinedBeside, Interferes}
-use Rattle.tg_rounds.specs.declared.moves.Move.{Move}
 use Rattle.tg_interference.specs.Nodes.{operand_at, node_of}
 use Rattle.tg_interference.specs.Moves.{between, move_of}
 use Rattle.tg_interference.specs.Pairs.{IsInterference, has, is_move, is_apart, joins, joins_both}

@@ -1,9 +1,9 @@
 -- Moves in a loop, and how often operands occur.
-use Rattle.std.proofs.Common.{◌≡◌, ◌<◌, ◌≤◌, ◌+◌, ◌-◌, ◌*◌, ◌^◌, ℕ, Bool, true, false, cond, List, [], ◌∷◌, ◌++◌, Option, Some, None, length, get_or, take, map, sum_by, count_by, refl, sym, ap, ◌∙◌, arith, ⊎_elim}
+use Rattle.std.proofs.Common.{◌≡◌, ◌<◌, ◌≤◌, ◌+◌, ◌-◌, ◌*◌, ◌^◌, ℕ, Bool, false, cond, List, [], ◌∷◌, ◌++◌, Some, None, length, get_or, take, map, count_by, refl, sym, ap, ◌∙◌, arith, ⊎_elim}
 use Rattle.std.specs.Prelude.{All, nat_le, slice_index}
 use Rattle.std.specs.List.{cons_option, range_with_len}
 use Rattle.std.proofs.lemmas.List.FromFn.{map-range_with_len_more}
-use Rattle.std.proofs.lemmas.Bool.{cases_lt, lt-ltb, le-ltb}
+use Rattle.std.proofs.lemmas.Bool.{cases_lt, lt-ltb}
 use Rattle.std.proofs.lemmas.List.{take_more}
 use Rattle.std.proofs.lemmas.List.Elements.{filter_map-append}
 use Rattle.std.proofs.lemmas.List.Sums.{sum_by_more, sum_by_more_le_part, sum_by-le, count_by-le-length}
@@ -130,14 +130,23 @@ mark_same all temps originals counts n c l = ⊎_elim low high (cases_lt n 25)
   where
     low : n < 25 → mark_by (slice_index counts) originals n ≡ mark_of all originals n
     low m =
-        ap (λ b. cond b (record { uses = 0; made = false }) (record { uses = slice_index counts (n - 25); made = nat_le
-        originals (n - 25) })) (lt-ltb n 25 m)
-        ∙ sym (ap (λ b. cond b (record { uses = 0; made = false }) (record { uses = occurrences (temp (n - 25)) all; made = nat_le
-        originals (n - 25) })) (lt-ltb n 25 m))
+        ap (λ b. cond b (record { uses = 0; made = false }) (record {
+          uses = slice_index counts (n - 25);
+          made = nat_le
+              originals (n - 25);
+        })) (lt-ltb n 25 m)
+        ∙ sym (ap (λ b. cond b (record { uses = 0; made = false }) (record {
+          uses = occurrences (temp (n - 25)) all;
+          made = nat_le
+              originals (n - 25);
+        })) (lt-ltb n 25 m))
 
     high : 25 ≤ n → mark_by (slice_index counts) originals n ≡ mark_of all originals n
-    high m = ap (λ u. cond (is_register n) (record { uses = 0; made = false }) (record { uses = u; made = nat_le
-        originals (n - 25) })) (c.each (n - 25) (omega arith))
+    high m = ap (λ u. cond (is_register n) (record { uses = 0; made = false }) (record {
+      uses = u;
+      made = nat_le
+          originals (n - 25);
+    })) (c.each (n - 25) (omega arith))
 
 -- a list of marks goes on with the next node's
 pub with_mark : (all : List Instr) (originals node : ℕ) (marks : List Mark) (mark : Mark) →

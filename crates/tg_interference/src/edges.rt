@@ -99,12 +99,7 @@ fn join_definition(
 }
 
 // Joins a node to what is live.
-fn join_node(
-    node: u32,
-    moved: Option<Move>,
-    live: &[Opnd],
-    graph: &mut Graph,
-) -> Result<(), Memory>
+fn join_node(node: u32, moved: Option<Move>, live: &[Opnd], graph: &mut Graph) -> Result<(), Memory>
     requires low { colours ≤ graph.old.nodes }
     requires few { graph.old.nodes ≤ most_nodes }
     requires node { node < graph.old.nodes }
@@ -120,12 +115,7 @@ fn join_node(
 }
 
 // Joins a node to an operand that is live, where it has a node too.
-fn join_operand(
-    node: u32,
-    moved: Option<Move>,
-    one: &Opnd,
-    graph: &mut Graph,
-) -> Result<(), Memory>
+fn join_operand(node: u32, moved: Option<Move>, one: &Opnd, graph: &mut Graph) -> Result<(), Memory>
     requires low { colours ≤ graph.old.nodes }
     requires few { graph.old.nodes ≤ most_nodes }
     requires node { node < graph.old.nodes }
@@ -142,12 +132,7 @@ fn join_operand(
 }
 
 // Joins a definition to what is live behind it, unless a move keeps them apart.
-fn join_nodes(
-    node: u32,
-    moved: Option<Move>,
-    other: u32,
-    graph: &mut Graph,
-) -> Result<(), Memory>
+fn join_nodes(node: u32, moved: Option<Move>, other: u32, graph: &mut Graph) -> Result<(), Memory>
     requires node { node < graph.old.nodes }
     requires other { other < graph.old.nodes }
     ensures nodes { OnOk result (graph.new.nodes ≡ graph.old.nodes) }

@@ -1,6 +1,6 @@
 use Rattle.std.proofs.Common.{◌||◌, sym, ap, ◌∙◌}
 use Rattle.tg_graph.specs.Interference.{interferes}
-use Rattle.tg_interference.proofs.Joining.{ends_apart, none_apart, on_ok}
+use Rattle.tg_interference.proofs.Joining.{ends_apart, on_ok}
 use Rattle.tg_interference.proofs.edges.join_nodes.Goals as goal
 
 pub returns-then-is_apart-clause-pairs : goal.returns-then-is_apart-clause-pairs
