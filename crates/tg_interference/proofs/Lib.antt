@@ -1,0 +1,7 @@
+mod Operands
+mod Colours
+mod Joining
+mod Alive
+mod Interfering
+mod Occurring
+mod Examples

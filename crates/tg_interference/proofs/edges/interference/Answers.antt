@@ -1,0 +1,45 @@
+use Rattle.std.proofs.Common.{◌≡◌, ◌-◌, ◌||◌, List, length, ap, ◌∙◌, arith}
+use Rattle.std.specs.List.{list_all}
+use Rattle.tg_instr.specs.declared.instr.Instr.{Instr}
+use Rattle.tg_instr.specs.Codes.{has_temps_below, is_below}
+use Rattle.tg_interference.proofs.Operands.{all_read}
+use Rattle.tg_interference.proofs.Alive.{live_below}
+use Rattle.tg_interference.proofs.Joining.{joined_more}
+use Rattle.tg_interference.proofs.Interfering.{are_registers, joined_below, joined_step, interference_of}
+use Rattle.tg_interference.proofs.edges.interference.Goals as goal
+
+pub join_definitions-requires-clause-temps : goal.join_definitions-requires-clause-temps
+join_definitions-requires-clause-temps c =
+    let code = c.args.code.now in
+    let temps : c.loop-at.graph.nodes - 25 ≡ code.temps = omega (arith, c.loop-at.invariant.nodes) in
+    ap (λ n. has_temps_below n c.index-list-at.result) temps
+    ∙ all_read (has_temps_below code.temps) c.as_slice-list.result.now c.loop-at.at c.index-list-at.result
+    c.loop-at-test.true c.index-list-at.is
+    (ap (list_all (has_temps_below code.temps)) c.as_slice-list.ensures ∙ code.temps_below)
+
+pub join_definitions-requires-clause-live : goal.join_definitions-requires-clause-live
+join_definitions-requires-clause-live c =
+    let code = c.args.code.now in
+    let temps : c.loop-at.graph.nodes - 25 ≡ code.temps = omega (arith, c.loop-at.invariant.nodes) in
+    ap (λ n. list_all (is_below n) c.live_out.result.now) temps
+    ∙ (ap (list_all (is_below code.temps)) c.live_out.ensures
+    ∙ live_below code.temps code.list c.args.live.now c.requires.live code.temps_below c.loop-at.at)
+
+pub loop-at-preserved : goal.loop-at-preserved
+loop-at-preserved c = record {
+  nodes = c.in_ok-join_definitions.ensures.nodes ∙ c.loop-at.invariant.nodes;
+  pairs = λ x y. joined_more _ _ _ _ _ _ (c.in_ok-join_definitions.ensures.pairs x y) (c.loop-at.invariant.pairs x y)
+      (joined_step c.as_slice-list.result.now c.args.live.now c.loop-at.at c.index-list-at.result
+      c.live_out.result.now x y c.loop-at-test.true c.index-list-at.is c.live_out.ensures);
+}
+
+pub returns : goal.returns
+returns c =
+    let code = c.args.code.now in
+    let list = c.as_slice-list.result.now in
+    let live = c.args.live.now in
+    let at : c.loop-at.at ≡ length list = omega arith in
+    interference_of code.list live c.requires.live code.temps c.loop-at.graph c.loop-at.invariant.nodes
+    (λ x y. c.loop-at.invariant.pairs x y
+    ∙ (ap (λ n. joined_below list live n x y || are_registers x y) at
+    ∙ ap (λ (l : List Instr). joined_below l live (length l) x y || are_registers x y) c.as_slice-list.ensures))

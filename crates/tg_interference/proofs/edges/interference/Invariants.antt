@@ -1,0 +1,10 @@
+use Rattle.std.proofs.Common.{◌≡◌, ◌+◌, ◌||◌, ℕ}
+use Rattle.tg_graph.specs.Interference.{interferes}
+use Rattle.tg_interference.proofs.Interfering.{joined_below, are_registers}
+use Rattle.tg_interference.proofs.edges.interference.Given as goal
+
+abbrev pub invariant-loop-at : goal.invariant-loop-at
+invariant-loop-at l = record {
+  nodes : l.graph.nodes ≡ 25 + l.code.temps;
+  pairs : (x y : ℕ) → interferes l.graph x y ≡ (joined_below l.list l.live l.at x y || are_registers x y);
+}

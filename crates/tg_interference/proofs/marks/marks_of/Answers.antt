@@ -1,0 +1,16 @@
+use Rattle.std.proofs.Common.{◌≡◌, ℕ, List, ap, ◌∙◌, arith}
+use Rattle.std.specs.Prelude.{slice_index}
+use Rattle.tg_interference.specs.Marks.{mark_by, mark_of}
+use Rattle.tg_interference.proofs.Occurring.{mark_same, with_mark}
+use Rattle.tg_interference.proofs.marks.marks_of.Goals as goal
+
+pub loop-node-preserved : goal.loop-node-preserved
+loop-node-preserved c =
+    let code = c.args.code.now in
+    let node = c.loop-node.node in
+    let made : c.mark_of.result ≡ mark_of code.list c.args.originals node =
+    c.mark_of.ensures
+    ∙ (ap (λ (xs : List ℕ). mark_by (slice_index xs) c.args.originals node) c.as_slice.ensures.value
+    ∙ mark_same code.list code.temps c.args.originals c.in_ok-counts.counts.items node c.in_ok-counts.ensures (omega arith)) in
+    c.in_ok-push.ensures.items
+    ∙ with_mark code.list c.args.originals node c.loop-node.marks.items c.mark_of.result c.loop-node.invariant made

@@ -1,0 +1,4 @@
+pub mod Nodes
+pub mod Moves
+pub mod Pairs
+pub mod Marks

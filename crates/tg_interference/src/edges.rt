@@ -1,0 +1,158 @@
+ghost use Rattle.std.specs.Prelude.{
+  ◌≡◌,
+  ◌<◌,
+  ◌≤◌,
+  ◌+◌,
+  ◌-◌,
+  ◌==◌,
+  ◌||◌,
+  ℕ,
+  length,
+  IfOk,
+  OnOk,
+  IsTrue,
+};
+ghost use Rattle.std.specs.List.{list_all};
+ghost use Rattle.tg_instr.specs.Codes.{has_temps_below, is_below};
+ghost use Rattle.tg_instr.specs.Operands.{is_same};
+ghost use Rattle.tg_instr.specs.Shapes.{shape};
+ghost use Rattle.tg_instr.specs.Uses.{defs_of};
+ghost use Rattle.tg_graph.specs.Interference.{colours, most_nodes, interferes};
+ghost use Rattle.tg_live.specs.Live.{AreLiveSets};
+ghost use Rattle.tg_interference.specs.Nodes.{most_temps, operand_at};
+ghost use Rattle.tg_interference.specs.Moves.{move_of};
+ghost use Rattle.tg_interference.specs.Pairs.{IsInterference, has, is_apart, joins_both};
+
+use crate::moves::move_of;
+use crate::nodes::node_of;
+use std::alloc::Global;
+use tg_base::Memory;
+use tg_graph::{COLOURS, Graph, registers_interfere};
+use tg_instr::{Code, Instr, Opnd};
+use tg_live::LiveSets;
+use tg_rounds::Move;
+
+/// The interference graph of a code, given what is live out of each instruction: each definition is
+/// joined to what is live out of its instruction, but a move's not to what it moves (Appel, chapter
+/// 11).
+pub fn interference(alloc: Global, code: &Code, live: &LiveSets) -> Result<Graph, Memory>
+    requires live { AreLiveSets code.now.list live.now }
+    requires few { code.now.temps ≤ most_temps }
+    ensures { IfOk result (λ graph. IsInterference code.now.list code.now.temps graph) }
+{
+    let list = code.list.as_slice();
+    if list.len() > u32::MAX as usize {
+        return Err(Memory);
+    }
+    registers_interfere();
+    let mut graph = Graph::new(alloc, COLOURS + code.temps)?;
+    for at in 0..list.len() {
+        join_definitions(alloc, &list[at], live.live_out(at as u32), &mut graph)?;
+    }
+    Ok(graph)
+}
+
+// Joins what an instruction defines to what is live out of it.
+fn join_definitions(
+    alloc: Global,
+    one: &Instr,
+    live: &[Opnd],
+    graph: &mut Graph,
+) -> Result<(), Memory>
+    requires low { colours ≤ graph.old.nodes }
+    requires few { graph.old.nodes ≤ most_nodes }
+    requires temps { IsTrue (has_temps_below (graph.old.nodes - colours) one.now) }
+    requires live { IsTrue (list_all (is_below (graph.old.nodes - colours)) live.now) }
+    ensures nodes { OnOk result (graph.new.nodes ≡ graph.old.nodes) }
+    ensures pairs { OnOk result ((x y : ℕ) → interferes graph.new x y
+        ≡ (joins_both (move_of (shape one.now)) (has (defs_of one.now)) (has live.now) x y
+        || interferes graph.old x y)) }
+{
+    let moved = move_of(one);
+    let defs = one.defs(alloc);
+    for definition in defs.as_slice() {
+        join_definition(definition, moved, live, graph)?;
+    }
+    Ok(())
+}
+
+// Joins one of the definitions to what is live.
+fn join_definition(
+    definition: &Opnd,
+    moved: Option<Move>,
+    live: &[Opnd],
+    graph: &mut Graph,
+) -> Result<(), Memory>
+    requires low { colours ≤ graph.old.nodes }
+    requires few { graph.old.nodes ≤ most_nodes }
+    requires temps { IsTrue (is_below (graph.old.nodes - colours) definition.now) }
+    requires live { IsTrue (list_all (is_below (graph.old.nodes - colours)) live.now) }
+    ensures nodes { OnOk result (graph.new.nodes ≡ graph.old.nodes) }
+    ensures pairs { OnOk result ((x y : ℕ) → interferes graph.new x y
+        ≡ (joins_both moved (λ n. is_same (operand_at n) definition.now) (has live.now) x y
+        || interferes graph.old x y)) }
+{
+    match node_of(definition) {
+        Some(node) => join_node(node, moved, live, graph),
+        None => Ok(()),
+    }
+}
+
+// Joins a node to what is live.
+fn join_node(node: u32, moved: Option<Move>, live: &[Opnd], graph: &mut Graph) -> Result<(), Memory>
+    requires low { colours ≤ graph.old.nodes }
+    requires few { graph.old.nodes ≤ most_nodes }
+    requires node { node < graph.old.nodes }
+    requires live { IsTrue (list_all (is_below (graph.old.nodes - colours)) live.now) }
+    ensures nodes { OnOk result (graph.new.nodes ≡ graph.old.nodes) }
+    ensures pairs { OnOk result ((x y : ℕ) → interferes graph.new x y
+        ≡ (joins_both moved (λ n. n == node) (has live.now) x y || interferes graph.old x y)) }
+{
+    for one in live {
+        join_operand(node, moved, one, graph)?;
+    }
+    Ok(())
+}
+
+// Joins a node to an operand that is live, where it has a node too.
+fn join_operand(node: u32, moved: Option<Move>, one: &Opnd, graph: &mut Graph) -> Result<(), Memory>
+    requires low { colours ≤ graph.old.nodes }
+    requires few { graph.old.nodes ≤ most_nodes }
+    requires node { node < graph.old.nodes }
+    requires temps { IsTrue (is_below (graph.old.nodes - colours) one.now) }
+    ensures nodes { OnOk result (graph.new.nodes ≡ graph.old.nodes) }
+    ensures pairs { OnOk result ((x y : ℕ) → interferes graph.new x y
+        ≡ (joins_both moved (λ n. n == node) (λ n. is_same (operand_at n) one.now) x y
+        || interferes graph.old x y)) }
+{
+    match node_of(one) {
+        Some(other) => join_nodes(node, moved, other, graph),
+        None => Ok(()),
+    }
+}
+
+// Joins a definition to what is live behind it, unless a move keeps them apart.
+fn join_nodes(node: u32, moved: Option<Move>, other: u32, graph: &mut Graph) -> Result<(), Memory>
+    requires node { node < graph.old.nodes }
+    requires other { other < graph.old.nodes }
+    ensures nodes { OnOk result (graph.new.nodes ≡ graph.old.nodes) }
+    ensures pairs { OnOk result ((x y : ℕ) → interferes graph.new x y
+        ≡ (joins_both moved (λ n. n == node) (λ n. n == other) x y
+        || interferes graph.old x y)) }
+{
+    if is_apart(moved, node, other) {
+        graph.add_edge(node, other)
+    } else {
+        Ok(())
+    }
+}
+
+// Whether a definition is another node than one that is live, and no move of the other to it.
+fn is_apart(moved: Option<Move>, to: u32, other: u32) -> bool
+    ensures { result ≡ is_apart moved to other }
+{
+    match moved {
+        Some(between) => to != other && !(to == between.to && other == between.from),
+        None => to != other,
+    }
+}

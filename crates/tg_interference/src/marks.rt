@@ -1,0 +1,117 @@
+ghost use Rattle.std.specs.Prelude.{
+  ◌≡◌,
+  ◌<◌,
+  ◌≤◌,
+  ◌+◌,
+  ◌*◌,
+  ◌^◌,
+  ℕ,
+  [],
+  ◌∷◌,
+  length,
+  count_by,
+  slice_index,
+  IfOk,
+  IsTrue,
+};
+ghost use Rattle.std.specs.List.{list_all};
+ghost use Rattle.tg_instr.specs.Codes.{has_temps_below, is_below};
+ghost use Rattle.tg_instr.specs.Operands.{is_same};
+ghost use Rattle.tg_interference.specs.Nodes.{most_temps};
+ghost use Rattle.tg_interference.specs.Marks as marks;
+ghost use Rattle.tg_interference.specs.Marks.{
+  AreCounts,
+  mark_by,
+  marks_of,
+  occurrences_in,
+};
+
+use std::alloc::Global;
+use tg_base::{ListOf, Memory};
+use tg_graph::COLOURS;
+use tg_instr::{Code, Instr, Opnd};
+use tg_rounds::Mark;
+
+/// One mark for each node, in the order of nodes.
+pub type Marks = ListOf<Mark>;
+
+/// How often each node of a code is used or defined, 0 for a register, and whether spilling has made
+/// it, as it has the temporaries whose numbers are `originals` or greater.
+pub fn marks_of(alloc: Global, code: &Code, originals: u32) -> Result<Marks, Memory>
+    requires few { code.now.temps ≤ most_temps }
+    requires short { length code.now.list * 48 < 2 ^ 32 }
+    ensures { IfOk result (λ marks. marks ≡ marks_of code.now.list code.now.temps originals) }
+{
+    let counts = count_occurrences(alloc, code)?;
+    let mut marks = Vec::new(alloc);
+    for node in 0..COLOURS + code.temps {
+        marks.push(mark_of(node, counts.as_slice(), originals))?;
+    }
+    Ok(Marks::from_vec(marks))
+}
+
+fn mark_of(node: u32, counts: &[u32], originals: u32) -> Mark
+    requires { node < 25 + length counts.now }
+    ensures { result ≡ mark_by (slice_index counts.now) originals node }
+{
+    if node < COLOURS {
+        Mark {
+            uses: 0,
+            made: false,
+        }
+    } else {
+        let temp = node - COLOURS;
+        Mark {
+            uses: counts[temp as usize],
+            made: originals <= temp,
+        }
+    }
+}
+
+// How often each temporary of a code occurs.
+fn count_occurrences(alloc: Global, code: &Code) -> Result<Vec<u32>, Memory>
+    requires { length code.now.list * 48 < 2 ^ 32 }
+    ensures { IfOk result (λ v. AreCounts code.now.list code.now.temps v.items) }
+{
+    let list = code.list.as_slice();
+    let mut counts = vec![in alloc; 0u32; code.temps as usize]?;
+    for one in list {
+        count_instr(alloc, one, counts.as_mut_slice());
+    }
+    Ok(counts)
+}
+
+fn count_instr(alloc: Global, one: &Instr, counts: &mut [u32])
+    requires temps { IsTrue (has_temps_below (length counts.old) one.now) }
+    requires room { (t : ℕ) → t < length counts.old → slice_index counts.old t + 48 < 2 ^ 32 }
+    ensures { (t : ℕ) → t < length counts.old → slice_index counts.new t
+        ≡ slice_index counts.old t + occurrences_in (marks.temp t) one.now }
+{
+    let uses = one.uses(alloc);
+    count_operands(uses.as_slice(), counts);
+    let defs = one.defs(alloc);
+    count_operands(defs.as_slice(), counts);
+}
+
+fn count_operands(list: &[Opnd], counts: &mut [u32])
+    requires temps { IsTrue (list_all (is_below (length counts.old)) list.now) }
+    requires room { (t : ℕ) → t < length counts.old →
+        slice_index counts.old t + length list.now < 2 ^ 32 }
+    ensures { (t : ℕ) → t < length counts.old → slice_index counts.new t
+        ≡ slice_index counts.old t + count_by (is_same (marks.temp t)) list.now }
+{
+    for one in list {
+        count_operand(one, counts);
+    }
+}
+
+fn count_operand(one: &Opnd, counts: &mut [u32])
+    requires temps { IsTrue (is_below (length counts.old) one.now) }
+    requires room { (t : ℕ) → t < length counts.old → slice_index counts.old t + 1 < 2 ^ 32 }
+    ensures { (t : ℕ) → t < length counts.old → slice_index counts.new t
+        ≡ slice_index counts.old t + count_by (is_same (marks.temp t)) (one.now ∷ []) }
+{
+    if let Opnd::Temp(temp) = one {
+        counts[temp.0 as usize] += 1;
+    }
+}
