@@ -1,13 +1,30 @@
 -- What the parts of the compilation promise one another.
 use Rattle.std.specs.Prelude.{◌≡◌, List, [], ◌∷◌}
 use Rattle.tg_frame.specs.declared.frames.Frame.{Frame}
-use Rattle.tg_tree.specs.Tree.{Ts, Function}
+use Rattle.tg_tree.specs.Tree.{Ts, Linear, Function}
+use Rattle.tg_tree.specs.Named.{named_flat, HasItsTemps}
+use Rattle.tg_tree.specs.Shapes.{IsClosed, IsWellMarked}
+use Rattle.tg_shapes.specs.Laws.{names}
 use Rattle.tg_instr.specs.declared.codes.Allocated.{Allocated}
 use Rattle.tg_instr.specs.declared.codes.Code.{Code as Instructions}
 use Rattle.tg_munch.specs.Bodies.{outs}
 use Rattle.tg_spill.specs.declared.allocations.Allocation.{Allocation}
 use Rattle.tg_compile.specs.declared.programs.Placement.{Placement}
 use Rattle.tg_compile.specs.Compiling.{flattened, chosen, CompilesFunction}
+
+-- a function whose body is closed, and whose temporaries its frame has drawn
+pub record IsWellFormed (f : Function Ts) : Type 0 where
+  pub closed : IsClosed f.body
+  pub drawn : HasItsTemps names f
+
+-- a function whose flat code is well marked, and whose temporaries its frame has drawn
+pub record IsWellMarkedFunction (f : Function (List Linear)) : Type 0 where
+  pub marked : IsWellMarked f.body
+  pub drawn : HasItsTemps (λ e. named_flat e []) f
+
+-- the law that a function which is well formed has such flat code
+abbrev pub FlatCodeIsWellMarked : Type 0
+FlatCodeIsWellMarked = (f : Function Ts) → IsWellFormed f → IsWellMarkedFunction (flattened f)
 
 -- the instructions that are chosen for the flat code of a function, and its frame then
 pub record Chooses (f : Function Ts) (frame : Frame) (code : Instructions) : Type 0 where

@@ -2,9 +2,9 @@ ghost use Rattle.std.specs.Prelude.{◌≡◌, IfOk};
 ghost use Rattle.tg_tree.specs.Lists.{code_of};
 ghost use Rattle.tg_tree.specs.Plain.{plain_fragment, plain_function, plain_ts};
 ghost use Rattle.tg_compile.specs.Compiling.{CompilesFunction, flattened};
-ghost use Rattle.tg_compile.specs.Passes.{Chooses};
+ghost use Rattle.tg_compile.specs.Passes.{Chooses, IsWellFormed};
 
-use crate::munchable::can_be_munched;
+use crate::laws::flat_code_is_well_marked;
 use std::alloc::Global;
 use tg_base::Memory;
 use tg_canon::linearize;
@@ -18,6 +18,7 @@ use tg_tree::{Fragment, Linear, Ts};
 
 /// The code of a function over registers, with each temporary in its frame.
 pub(crate) fn compile_function(alloc: Global, one: Fragment) -> Result<Allocation, Memory>
+    requires { IsWellFormed (plain_fragment one) }
     ensures { IfOk result (λ a. CompilesFunction (plain_fragment one) a) }
 {
     let Fragment { frame, body } = one;
@@ -31,14 +32,12 @@ pub(crate) fn compile_function(alloc: Global, one: Fragment) -> Result<Allocatio
 
 /// The instructions of a body.
 fn choose(alloc: Global, frame: &mut Frame, body: Ts) -> Result<Code, Memory>
+    requires { IsWellFormed (plain_function frame.old (plain_ts body)) }
     ensures { IfOk result (Chooses (plain_function frame.old (plain_ts body)) frame.new) }
 {
     let flat = flatten(alloc, frame, body)?;
     let code = flat.as_slice();
-    let fits = can_be_munched(alloc, code, frame)?;
-    if !fits {
-        return Err(Memory);
-    }
+    flat_code_is_well_marked();
     Ok(munch(alloc, code, frame)?)
 }
 

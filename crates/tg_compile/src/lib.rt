@@ -4,7 +4,7 @@
 
 mod bodies;
 mod compiled;
-mod munchable;
+mod laws;
 mod programs;
 
 pub use compiled::Compiled;

@@ -1,14 +1,15 @@
-ghost use Rattle.std.specs.Prelude.{◌≡◌, IfOk, map};
+ghost use Rattle.std.specs.Prelude.{◌≡◌, All, IfOk, map};
 ghost use Rattle.std.specs.List.{zip};
 ghost use Rattle.tg_syntax.specs.Plain.{plain};
 ghost use Rattle.tg_tree.specs.Plain.{plain_fragment, plain_fragments};
 ghost use Rattle.tg_emit.specs.Lines.{assembly_of};
 ghost use Rattle.tg_emit.specs.Text.{text_of};
 ghost use Rattle.tg_compile.specs.Compiling.{Compiles, HasImage, fragments_of};
-ghost use Rattle.tg_compile.specs.Passes.{CompileApart, allocation_of};
+ghost use Rattle.tg_compile.specs.Passes.{CompileApart, IsWellFormed, allocation_of};
 
 use crate::bodies::compile_function;
 use crate::compiled::Compiled;
+use crate::laws::functions_are_well_formed;
 use std::alloc::Global;
 use tg_base::Memory;
 use tg_conditions::are_emittable;
@@ -56,9 +57,11 @@ pub fn compile_checked(alloc: Global, checked: &Checked) -> Result<Compiled, Mem
 
 /// The functions and literals of a program, and behind them the runtime's.
 fn fragments(alloc: Global, checked: &Checked) -> Result<Fragments, Memory>
-    ensures { IfOk result (λ f. plain_fragments f ≡
+    ensures fragments { IfOk result (λ f. plain_fragments f ≡
         fragments_of checked.now.notes (plain checked.now.program.body)) }
+    ensures formed { IfOk result (λ f. All IsWellFormed (plain_fragments f).functions) }
 {
+    functions_are_well_formed(checked);
     let escaping = escapes(alloc, checked)?;
     let mut program = translate(alloc, checked, &escaping)?;
     let mut below = runtime(alloc)?;
@@ -69,6 +72,7 @@ fn fragments(alloc: Global, checked: &Checked) -> Result<Fragments, Memory>
 
 /// Compiles functions one after another.
 fn compile_functions(alloc: Global, bodies: Vec<Fragment>) -> Result<Functions, Memory>
+    requires { All IsWellFormed (map plain_fragment bodies.items) }
     ensures { IfOk result (λ f. CompileApart (map plain_fragment bodies.items)
         f.codes.items f.placements.items) }
 {

@@ -1,0 +1,32 @@
+ghost use Rattle.std.specs.Prelude.{All};
+ghost use Rattle.tg_syntax.specs.Plain.{plain};
+ghost use Rattle.tg_compile.specs.Compiling.{fragments_of};
+ghost use Rattle.tg_compile.specs.Passes.{FlatCodeIsWellMarked, IsWellFormed};
+
+use tg_canon::canonical_statements;
+use tg_runtime::routines_are_closed;
+use tg_shapes::{bodies_are_closed, temporaries_are_drawn};
+use tg_trace::{blocks_are_well_formed, code_is_well_formed};
+use tg_types::Checked;
+
+/// Each function of a checked program, and of the runtime, is well formed.
+pub(crate) fn functions_are_well_formed(checked: &Checked)
+    ensures { All IsWellFormed
+        (fragments_of checked.now.notes (plain checked.now.program.body)).functions }
+{
+    let _ = &checked.notes;
+    bodies_are_closed();
+    temporaries_are_drawn();
+    routines_are_closed();
+}
+
+/// The flat code of a function that is well formed is what instructions are chosen for.
+pub(crate) fn flat_code_is_well_marked()
+    ensures { FlatCodeIsWellMarked }
+{
+    canonical_statements();
+    tg_canon::names_stay();
+    blocks_are_well_formed();
+    code_is_well_formed();
+    tg_trace::names_stay();
+}
