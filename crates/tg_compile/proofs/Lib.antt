@@ -1,3 +1,4 @@
 pub mod Chain
+pub mod Naming
 pub mod NotesAlike
 pub mod WellFormed

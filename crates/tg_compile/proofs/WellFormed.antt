@@ -18,7 +18,7 @@ use Rattle.tg_tree.specs.Shapes.{IsClosed, IsWellMarked}
 use Rattle.tg_translate.specs.Translate.{translated}
 use Rattle.tg_runtime.specs.Laws.{AreRoutines, is_own, AllAreRoutines}
 use Rattle.tg_runtime.specs.Routines.{runtime}
-use Rattle.tg_shapes.specs.Laws.{names, CheckedBodiesAreClosed, CheckedTemporariesAreDrawn}
+use Rattle.tg_shapes.specs.Laws.{names, CheckedBodiesAreClosed, CheckedTemporariesAreDrawn, CheckedFramesAreSmall}
 use Rattle.tg_canon.specs.Laws.{GivesClosed, AreTempsBelow, TempsStay}
 use Rattle.tg_canon.specs.Canon.{linearized}
 use Rattle.tg_trace.specs.Cutting.{blocks_of}
@@ -39,30 +39,39 @@ passes p [] e x c = absurd (omega (arith, c.1))
 passes p (y ∷ ys) e x (zero, l, i) = subst (λ z. p z ≡ true) i (both_left (p y) (list_all p ys) e)
 passes p (y ∷ ys) e x (suc k, l, i) = passes p ys (both_right (p y) (list_all p ys) e) x (k, omega arith, i)
 
--- a function of the runtime
-routine_is : (fs : List (Function Ts)) → AreRoutines fs → (f : Function Ts) → Contains fs f → IsWellFormed f
-routine_is [] h f c = absurd (omega (arith, c.1))
-routine_is (g ∷ gs) h f (zero, l, e) =
+-- a function of the runtime, which has no slot
+abbrev has_few : Function Ts → Bool
+has_few f = nat_lt f.slots 16777216
+
+routine_is : (fs : List (Function Ts)) → AreRoutines fs → list_all has_few fs ≡ true → (f : Function Ts) → Contains fs f → IsWellFormed f
+routine_is [] h few f c = absurd (omega (arith, c.1))
+routine_is (g ∷ gs) h few f (zero, l, e) =
     subst IsWellFormed e (record {
       closed = h.0.closed;
       drawn = λ i c. ltb-true i g.temps (passes (is_own g.temps) (names g.body) h.0.own (temporary i) c);
+      few = ltb-true g.slots 16777216 (both_left (has_few g) (list_all has_few gs) few);
     })
-routine_is (g ∷ gs) h f (suc n, l, e) = routine_is gs h.1 f (n, omega arith, e)
+routine_is (g ∷ gs) h few f (suc n, l, e) =
+    routine_is gs h.1 (both_right (has_few g) (list_all has_few gs) few) f (n, omega arith, e)
 
 each_is : (fs : List (Function Ts)) → ((f : Function Ts) → Contains fs f → IsWellFormed f) → All IsWellFormed fs
 each_is fs h = All-weaker (Contains fs) IsWellFormed h fs (All-contains_itself fs)
 
 -- the functions of an accepted program, and behind them the runtime's
-pub functions_are : (p : CheckedProgram) → IsAccepted p → CheckedBodiesAreClosed → CheckedTemporariesAreDrawn → AllAreRoutines →
+pub functions_are : (p : CheckedProgram) → IsAccepted p → CheckedBodiesAreClosed → CheckedTemporariesAreDrawn → CheckedFramesAreSmall → AllAreRoutines →
     All IsWellFormed (fragments_of p.notes (plain p.program.body)).functions
-functions_are p accepted closed drawn routines =
+functions_are p accepted closed drawn small routines =
     let body = plain p.program.body in
     let escapes = from_list (escapes_of body) in
     let links = from_list (links_of body) in
     let own = (translated (findings_of p.notes body) body).functions in
     All-append IsWellFormed own runtime.functions
-    (each_is own (λ f c. record { closed = closed p escapes links f accepted c; drawn = drawn p links f accepted c }))
-    (each_is runtime.functions (routine_is runtime.functions routines))
+    (each_is own (λ f c. record {
+      closed = closed p escapes links f accepted c;
+      drawn = drawn p links f accepted c;
+      few = let s = (small p escapes links f accepted c).slots in omega (arith, s);
+    }))
+    (each_is runtime.functions (routine_is runtime.functions routines refl))
 
 -- one of the functions that a list of bodies shows
 pub one_is : (bodies : List Fragment) (at : ℕ) (one : Fragment) → All IsWellFormed (map plain_fragment bodies) → at < length bodies → one ≡ get_or bodies at one → IsWellFormed (plain_fragment one)

@@ -1,21 +1,26 @@
 -- What the parts of the compilation promise one another.
-use Rattle.std.specs.Prelude.{◌≡◌, List, [], ◌∷◌}
+use Rattle.std.specs.Prelude.{◌≡◌, ◌<◌, ◌≤◌, List, [], ◌∷◌, IsTrue}
+use Rattle.std.specs.List.{list_all}
 use Rattle.tg_frame.specs.declared.frames.Frame.{Frame}
+use Rattle.tg_frame.specs.Homes.{slot_bound}
 use Rattle.tg_tree.specs.Tree.{Ts, Linear, Function}
 use Rattle.tg_tree.specs.Named.{named_flat, HasItsTemps}
 use Rattle.tg_tree.specs.Shapes.{IsClosed, IsWellMarked}
 use Rattle.tg_shapes.specs.Laws.{names}
+use Rattle.tg_instr.specs.Codes.{has_slots_below}
 use Rattle.tg_instr.specs.declared.codes.Allocated.{Allocated}
 use Rattle.tg_instr.specs.declared.codes.Code.{Code as Instructions}
 use Rattle.tg_munch.specs.Bodies.{outs}
+use Rattle.tg_spill.specs.Conditions.{is_fixed, names_registers}
 use Rattle.tg_spill.specs.declared.allocations.Allocation.{Allocation}
 use Rattle.tg_compile.specs.declared.programs.Placement.{Placement}
 use Rattle.tg_compile.specs.Compiling.{flattened, chosen, CompilesFunction}
 
--- a function whose body is closed, and whose temporaries its frame has drawn
+-- a function whose body is closed, whose temporaries its frame has drawn, and whose slots are few
 pub record IsWellFormed (f : Function Ts) : Type 0 where
   pub closed : IsClosed f.body
   pub drawn : HasItsTemps names f
+  pub few : f.slots < 16777216
 
 -- a function whose flat code is well marked, and whose temporaries its frame has drawn
 pub record IsWellMarkedFunction (f : Function (List Linear)) : Type 0 where
@@ -26,6 +31,16 @@ pub record IsWellMarkedFunction (f : Function (List Linear)) : Type 0 where
 abbrev pub FlatCodeIsWellMarked : Type 0
 FlatCodeIsWellMarked = (f : Function Ts) → IsWellFormed f → IsWellMarkedFunction (flattened f)
 
+-- a function whose instructions name registers that code names before allocation, and slots of
+-- their frame
+pub record NamesItsOwn (f : Function Ts) : Type 0 where
+  pub registers : IsTrue (list_all (names_registers is_fixed) (chosen f).code)
+  pub slots : IsTrue (list_all (has_slots_below f.slots) (chosen f).code)
+
+-- the law that the instructions of a function do, where its parameters have slots of its frame
+abbrev pub CodeNamesItsOwn : Type 0
+CodeNamesItsOwn = (f : Function Ts) → slot_bound f.params ≤ f.slots → NamesItsOwn f
+
 -- the instructions that are chosen for the flat code of a function, and its frame then
 pub record Chooses (f : Function Ts) (frame : Frame) (code : Instructions) : Type 0 where
   pub label : frame.label.0 ≡ f.label
@@ -35,6 +50,7 @@ pub record Chooses (f : Function Ts) (frame : Frame) (code : Instructions) : Typ
   pub out : frame.out ≡ outs (flattened f).body
   pub list : code.list ≡ (chosen f).code
   pub temps : code.temps ≡ (chosen f).drawn.temp
+  pub few : code.temps < 16777216
 
 -- an allocation of its code and its placement
 abbrev pub allocation_of : Allocated × Placement → Allocation

@@ -4,11 +4,10 @@ ghost use Rattle.tg_tree.specs.Plain.{plain_fragment, plain_function, plain_ts};
 ghost use Rattle.tg_compile.specs.Compiling.{CompilesFunction, flattened};
 ghost use Rattle.tg_compile.specs.Passes.{Chooses, IsWellFormed};
 
-use crate::laws::flat_code_is_well_marked;
+use crate::laws::{flat_code_is_well_marked, instructions_name_their_own};
 use std::alloc::Global;
 use tg_base::Memory;
 use tg_canon::linearize;
-use tg_conditions::can_stand_in_frame;
 use tg_frame::Frame;
 use tg_instr::Code;
 use tg_munch::munch;
@@ -24,9 +23,7 @@ pub(crate) fn compile_function(alloc: Global, one: Fragment) -> Result<Allocatio
     let Fragment { frame, body } = one;
     let mut frame = frame;
     let code = choose(alloc, &mut frame, body)?;
-    if !can_stand_in_frame(&code, &frame) {
-        return Err(Memory);
-    }
+    instructions_name_their_own();
     Ok(in_frame(alloc, &code, frame)?)
 }
 

@@ -1,11 +1,16 @@
 ghost use Rattle.std.specs.Prelude.{All};
 ghost use Rattle.tg_syntax.specs.Plain.{plain};
 ghost use Rattle.tg_compile.specs.Compiling.{fragments_of};
-ghost use Rattle.tg_compile.specs.Passes.{FlatCodeIsWellMarked, IsWellFormed};
+ghost use Rattle.tg_compile.specs.Passes.{
+  CodeNamesItsOwn,
+  FlatCodeIsWellMarked,
+  IsWellFormed,
+};
 
 use tg_canon::canonical_statements;
+use tg_munch::code_names_its_own;
 use tg_runtime::routines_are_closed;
-use tg_shapes::{bodies_are_closed, temporaries_are_drawn};
+use tg_shapes::{bodies_are_closed, frames_are_small, temporaries_are_drawn};
 use tg_trace::{blocks_are_well_formed, code_is_well_formed};
 use tg_types::Checked;
 
@@ -17,6 +22,7 @@ pub(crate) fn functions_are_well_formed(checked: &Checked)
     let _ = &checked.notes;
     bodies_are_closed();
     temporaries_are_drawn();
+    frames_are_small();
     routines_are_closed();
 }
 
@@ -29,4 +35,11 @@ pub(crate) fn flat_code_is_well_marked()
     blocks_are_well_formed();
     code_is_well_formed();
     tg_trace::names_stay();
+}
+
+/// The instructions of a function name registers and slots that they may name before allocation.
+pub(crate) fn instructions_name_their_own()
+    ensures { CodeNamesItsOwn }
+{
+    code_names_its_own();
 }
