@@ -18,7 +18,7 @@ pub compile_function-requires : goal.compile_function-requires
 compile_function-requires c =
     let first = c.into_iter-one-iterator.result in
     let given = c.into_iter-one-iterator.ensures.into_iter_gives.0 in
-    let turn = YieldsList-turn (YieldsList-from_vec first.rest.items refl first.rest.ok.0) c.loop-one.yielded _ c.loop-one.yielded_by _ _ c.in-Some.one c.in-Some.is c.next.ensures.steps in
+    let turn = YieldsList-turn (YieldsList-from_vec first.rest.items refl first.rest.ok.0) c.loop-one.yielded c.loop-one.one-iterator c.loop-one.yielded_by c.next.result c.next.new.self c.in-Some.one c.in-Some.is c.next.ensures.steps in
     let P : List Fragment → Type 0 = λ xs. All IsWellFormed (map plain_fragment xs) in
     one_is first.rest.items (length c.loop-one.yielded) c.in-Some.one (subst P (sym given) c.requires) turn.0 turn.1
 
