@@ -3,6 +3,7 @@ ghost use Rattle.tg_syntax.specs.Plain.{plain};
 ghost use Rattle.tg_compile.specs.Compiling.{fragments_of};
 ghost use Rattle.tg_compile.specs.Passes.{
   CodeNamesItsOwn,
+  CodeNamesNoMore,
   FlatCodeIsWellMarked,
   IsWellFormed,
 };
@@ -41,5 +42,15 @@ pub(crate) fn flat_code_is_well_marked()
 pub(crate) fn instructions_name_their_own()
     ensures { CodeNamesItsOwn }
 {
+    code_names_its_own();
+}
+
+/// The code over registers of a function names no function, literal or fault that its body doesn't
+/// name, but for a fault 0.
+pub(crate) fn code_names_no_more()
+    ensures { CodeNamesNoMore }
+{
+    tg_canon::names_stay();
+    tg_trace::names_stay();
     code_names_its_own();
 }
