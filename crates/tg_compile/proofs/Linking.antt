@@ -1,7 +1,7 @@
 -- What the instructions of a program name is there: the passes name no more than its trees do.
 use Rattle.std.proofs.Common.{◌≡◌, ◌≢◌, ◌<◌, ◌+◌, ℕ, zero, suc, Bool, true, false, List, [], ◌∷◌, ◌++◌, Option, Some, None, refl, sym, ap, subst, ◌∙◌, arith, eq-eqb, get_or, length, inl, inr, ◌≤◌}
-use Rattle.std.specs.Prelude.{◌&&◌, ◌||◌, ◌==◌, ◌^◌, nat_lt, nat_le, map, not, IsTrue}
-use Rattle.std.specs.List.{Contains, AllPairs, list_all, list_any}
+use Rattle.std.specs.Prelude.{◌&&◌, ◌||◌, ◌==◌, nat_lt, nat_le, map, not, IsTrue}
+use Rattle.std.specs.List.{Contains, AllPairs, list_all}
 use Rattle.std.proofs.lemmas.Bool.{lt-ltb, ltb-true}
 use Rattle.std.proofs.lemmas.Bool.Decides.{eqb_tells, nat_tests}
 use Rattle.tg_base.specs.State.{most_words, most_bytes}
@@ -29,8 +29,8 @@ use Rattle.tg_emit.specs.Lines.{words, functions_lines, literals_lines, is_long,
 use Rattle.tg_emit.proofs.Appending.{words_front}
 use Rattle.tg_image.specs.Programs.{IsProgram, bytes_of, function_labels, literal_labels, is_among, labels_differ, names_those, calls_those}
 use Rattle.tg_compile.specs.declared.programs.Placement.{Placement}
-use Rattle.tg_compile.specs.Compiling.{flattened, chosen, CompilesFunction}
-use Rattle.tg_compile.specs.Passes.{CompileApart, allocation_of, is_there, have_codes, has_small_frame, CodeNamesNoMore, AreLinked}
+use Rattle.tg_compile.specs.Compiling.{flattened, chosen}
+use Rattle.tg_compile.specs.Passes.{CompileApart, is_there, have_codes, has_small_frame, CodeNamesNoMore, AreLinked}
 
 both_left : (a b : Bool) → (a && b) ≡ true → a ≡ true
 both_left true b e = refl
@@ -52,25 +52,29 @@ or_right : (a b : Bool) → b ≡ true → (a || b) ≡ true
 or_right true b e = refl
 or_right false b e = e
 
-appended : (p : Instr → Bool) (xs ys : List Instr) → list_all p xs ≡ true → list_all p ys ≡ true → list_all p (xs ++ ys) ≡ true
+appended : (p : Instr → Bool) (xs ys : List Instr) → list_all p xs ≡ true → list_all p ys ≡ true →
+    list_all p (xs ++ ys) ≡ true
 appended p [] ys e d = d
 appended p (x ∷ xs) ys e d =
     both (p x) (list_all p (xs ++ ys)) (both_left (p x) (list_all p xs) e)
     (appended p xs ys (both_right (p x) (list_all p xs) e) d)
 
 -- loads and stores name nothing
-loaded_keeps : (p : Named → Bool) (base r : ℕ) (one : Option Opnd) → list_all (names_allowed p) (loaded base r one) ≡ true
+loaded_keeps : (p : Named → Bool) (base r : ℕ) (one : Option Opnd) →
+    list_all (names_allowed p) (loaded base r one) ≡ true
 loaded_keeps p base r (Some (Temp t)) = refl
 loaded_keeps p base r (Some (Reg q)) = refl
 loaded_keeps p base r None = refl
 
-stored_keeps : (p : Named → Bool) (base r : ℕ) (one : Option Opnd) → list_all (names_allowed p) (stored base r one) ≡ true
+stored_keeps : (p : Named → Bool) (base r : ℕ) (one : Option Opnd) →
+    list_all (names_allowed p) (stored base r one) ≡ true
 stored_keeps p base r (Some (Temp t)) = refl
 stored_keeps p base r (Some (Reg q)) = refl
 stored_keeps p base r None = refl
 
 -- other operands change no name
-renamed_keeps : (p : Named → Bool) (one : Instr) (x y z : Opnd) → names_allowed p (renamed one x y z) ≡ names_allowed p one
+renamed_keeps : (p : Named → Bool) (one : Instr) (x y z : Opnd) →
+    names_allowed p (renamed one x y z) ≡ names_allowed p one
 renamed_keeps p (Sll a b c) x y z = refl
 renamed_keeps p (Srl a b c) x y z = refl
 renamed_keeps p (Sra a b c) x y z = refl
@@ -114,7 +118,8 @@ renamed_keeps p Service x y z = refl
 renamed_keeps p (Fault a) x y z = refl
 renamed_keeps p Return x y z = refl
 
-through_keeps : (p : Named → Bool) (base : ℕ) (one : Instr) → names_allowed p one ≡ true → list_all (names_allowed p) (through_slots base one (named one)) ≡ true
+through_keeps : (p : Named → Bool) (base : ℕ) (one : Instr) → names_allowed p one ≡ true →
+    list_all (names_allowed p) (through_slots base one (named one)) ≡ true
 through_keeps p base one e =
     let n = named one in
     let kept = renamed one (through_named 8 n.to) (through_named 8 n.first) (through_named 9 n.second) in
@@ -125,7 +130,8 @@ through_keeps p base one e =
     appended (names_allowed p) (loaded base 8 n.first) (loaded base 9 n.second ++ (kept ∷ stored base 8 n.to)) (loaded_keeps p base 8 n.first)
     (appended (names_allowed p) (loaded base 9 n.second) (kept ∷ stored base 8 n.to) (loaded_keeps p base 9 n.second) behind)
 
-instruction_keeps : (p : Named → Bool) (base : ℕ) (one : Instr) → names_allowed p one ≡ true → list_all (names_allowed p) (instruction_in_frame base one) ≡ true
+instruction_keeps : (p : Named → Bool) (base : ℕ) (one : Instr) → names_allowed p one ≡ true →
+    list_all (names_allowed p) (instruction_in_frame base one) ≡ true
 instruction_keeps p base (Sll a b c) e = through_keeps p base (Sll a b c) e
 instruction_keeps p base (Srl a b c) e = through_keeps p base (Srl a b c) e
 instruction_keeps p base (Sra a b c) e = through_keeps p base (Sra a b c) e
@@ -172,7 +178,8 @@ instruction_keeps p base Service e = through_keeps p base Service e
 instruction_keeps p base (Fault a) e = through_keeps p base (Fault a) e
 instruction_keeps p base Return e = through_keeps p base Return e
 
-code_keeps : (p : Named → Bool) (base : ℕ) (code : List Instr) → list_all (names_allowed p) code ≡ true → list_all (names_allowed p) (code_in_frame base code) ≡ true
+code_keeps : (p : Named → Bool) (base : ℕ) (code : List Instr) → list_all (names_allowed p) code ≡ true →
+    list_all (names_allowed p) (code_in_frame base code) ≡ true
 code_keeps p base [] e = refl
 code_keeps p base (one ∷ rest) e =
     appended (names_allowed p) (instruction_in_frame base one) (code_in_frame base rest)
@@ -277,7 +284,8 @@ code_told fs ls Service e = refl
 code_told fs ls (Fault a) e = e
 code_told fs ls Return e = refl
 
-each_told : {X : Type 0} (p q : X → Bool) → ((one : X) → p one ≡ true → q one ≡ true) → (code : List X) → list_all p code ≡ true → list_all q code ≡ true
+each_told : {X : Type 0} (p q : X → Bool) → ((one : X) → p one ≡ true → q one ≡ true) → (code : List X) →
+    list_all p code ≡ true → list_all q code ≡ true
 each_told p q told [] e = refl
 each_told p q told (one ∷ rest) e =
     both (q one) (list_all q rest) (told one (both_left (p one) (list_all p rest) e)) (each_told p q told rest (both_right (p one) (list_all p rest) e))
@@ -295,7 +303,8 @@ neither : (a b : Bool) → a ≡ false → not b ≡ true → not (a || b) ≡ t
 neither true b e n = cc
 neither false b e n = n
 
-not_among : (label : ℕ) (labels : List ℕ) → ((k d : ℕ) → k < length labels → label ≢ get_or labels k d) → not (is_among labels label) ≡ true
+not_among : (label : ℕ) (labels : List ℕ) → ((k d : ℕ) → k < length labels → label ≢ get_or labels k d) →
+    not (is_among labels label) ≡ true
 not_among label [] h = refl
 not_among label (x ∷ xs) h =
     neither (label == x) (is_among xs label) (differ_from label x (h zero 0 (omega arith)))
@@ -328,7 +337,8 @@ last_differ [] ys e = e
 last_differ (x ∷ xs) ys e = last_differ xs ys (both_right (not (is_among (xs ++ ys) x)) (labels_differ (xs ++ ys)) e)
 
 -- codes of functions, one for each
-labels_are : (fs : List (Function Ts)) (codes : List Allocated) (ps : List Placement) → CompileApart fs codes ps → function_labels codes ≡ map (λ (f : Function Ts). f.label) fs
+labels_are : (fs : List (Function Ts)) (codes : List Allocated) (ps : List Placement) → CompileApart fs codes ps →
+    function_labels codes ≡ map (λ (f : Function Ts). f.label) fs
 labels_are [] [] [] h = refl
 labels_are [] [] (p ∷ ps) h = absurd h
 labels_are [] (c ∷ codes) ps h = absurd h
@@ -345,7 +355,8 @@ literals_are (l ∷ ls) = ap (λ (xs : List ℕ). l.label.0 ∷ xs) (literals_ar
 abbrev names_pass : (Named → Bool) → Allocated → Bool
 names_pass allowed a = list_all (names_allowed allowed) a.code.list
 
-codes_pass : (allowed : Named → Bool) (fs : List (Function Ts)) (codes : List Allocated) (ps : List Placement) → CompileApart fs codes ps →
+codes_pass : (allowed : Named → Bool) (fs : List (Function Ts)) (codes : List Allocated) (ps : List Placement) →
+    CompileApart fs codes ps →
     ((f : Function Ts) → Contains fs f → list_all (names_allowed allowed) (code_in_frame f.slots (chosen f).code) ≡ true) →
     list_all (names_pass allowed) codes ≡ true
 codes_pass allowed [] [] [] h each = refl
@@ -360,7 +371,8 @@ codes_pass allowed (f ∷ fs) (c ∷ codes) (p ∷ ps) h each =
     (codes_pass allowed fs codes ps h.1 (λ g m. each g (suc m.0, omega (arith, m.1), m.2)))
 
 -- what a function of a linked program names is there
-allowed_there : (program : Code Ts) → IsLinked names program → (f : Function Ts) → Contains program.functions f → (x : Named) → Contains (names f.body) x →
+allowed_there : (program : Code Ts) → IsLinked names program → (f : Function Ts) → Contains program.functions f →
+    (x : Named) → Contains (names f.body) x →
     is_there (map (λ (g : Function Ts). g.label) program.functions) (map (λ (l : tree.Literal). l.label) program.literals) x ≡ true
 allowed_there program linked f c (function label) k = among (map (λ (g : Function Ts). g.label) program.functions) label (linked.calls f label c k)
 allowed_there program linked f c (literal label) k = among (map (λ (l : tree.Literal). l.label) program.literals) label (linked.addresses f label c k)
@@ -368,7 +380,9 @@ allowed_there program linked f c (fault n) k = lt-ltb n 1048576 (linked.faults f
 allowed_there program linked f c (temporary i) k = refl
 
 -- so the code of a linked program is linked
-pub links : CodeNamesNoMore → (program : Code Ts) (codes : List Allocated) (ps : List Placement) (literals : List Literal) → IsLinked names program →
+pub links : CodeNamesNoMore →
+    (program : Code Ts) (codes : List Allocated) (ps : List Placement) (literals : List Literal) →
+    IsLinked names program →
     map plain_literal literals ≡ program.literals → CompileApart program.functions codes ps → AreLinked codes literals
 links law program codes ps literals linked same apart =
     let fs = map (λ (g : Function Ts). g.label) program.functions in
@@ -395,7 +409,8 @@ links law program codes ps literals linked same apart =
     }
 
 -- frames that are small, and faults that have codes
-pub emittable : (codes : List Allocated) → list_all has_small_frame codes ≡ true → list_all have_codes codes ≡ true → list_all is_emittable codes ≡ true
+pub emittable : (codes : List Allocated) → list_all has_small_frame codes ≡ true → list_all have_codes codes ≡ true →
+    list_all is_emittable codes ≡ true
 emittable [] e d = refl
 emittable (c ∷ codes) e d =
     both (is_emittable c) (list_all is_emittable codes)
@@ -409,7 +424,8 @@ within : (a b : ℕ) → nat_le a b ≡ true → a ≤ b
 within a b e = grind (arith, nat_tests, e)
 
 -- code and statics that fit their segments make a program of them
-pub whole_program : (codes : List Allocated) (literals : List Literal) (assembly : List Line) → AreLinked codes literals → list_all is_emittable codes ≡ true → assembly ≡ assembly_of codes literals →
+pub whole_program : (codes : List Allocated) (literals : List Literal) (assembly : List Line) →
+    AreLinked codes literals → list_all is_emittable codes ≡ true → assembly ≡ assembly_of codes literals →
     (nat_lt (words assembly) most_words && nat_le (bytes_of literals) most_bytes) ≡ true → IsProgram codes literals
 whole_program codes literals assembly linked fit is sizes =
     let short = both_left (nat_lt (words assembly) most_words) (nat_le (bytes_of literals) most_bytes) sizes in

@@ -1,9 +1,7 @@
 -- The instructions of a function name registers and slots that they may name before allocation.
-use Rattle.std.proofs.Common.{◌≡◌, ◌≤◌, ℕ, Bool, true, false, List, [], ◌∷◌, Option, Some, None, refl}
+use Rattle.std.proofs.Common.{◌≡◌, Bool, true, false, List, [], ◌∷◌, Option, Some, None, refl}
 use Rattle.std.specs.Prelude.{◌&&◌, ◌||◌, ◌==◌}
 use Rattle.std.specs.List.{list_all}
-use Rattle.tg_frame.specs.Homes.{slot_bound}
-use Rattle.tg_tree.specs.Tree.{Ts, Function}
 use Rattle.tg_instr.specs.declared.instr.Instr.{Instr}
 use Rattle.tg_instr.specs.declared.operands.Opnd.{Opnd}
 use Rattle.tg_instr.specs.declared.operands.Opnd.TheVariants.{Temp, Reg}
@@ -12,7 +10,7 @@ use Rattle.tg_munch.specs.Naming as munch
 use Rattle.tg_munch.specs.Laws.{RegistersAreFixed, SlotsAreBelow}
 use Rattle.tg_spill.specs.Conditions as spill
 use Rattle.tg_compile.specs.Compiling.{flattened, chosen}
-use Rattle.tg_compile.specs.Passes.{NamesItsOwn, CodeNamesItsOwn}
+use Rattle.tg_compile.specs.Passes.{CodeNamesItsOwn}
 
 both_left : (a b : Bool) → (a && b) ≡ true → a ≡ true
 both_left true b e = refl
@@ -31,12 +29,14 @@ or_right true b e = refl
 or_right false b e = e
 
 -- a register that is read, or written, is one that code names before allocation
-read_is : (one : Option Opnd) → munch.has_register munch.is_read one ≡ true → spill.has_register spill.is_fixed one ≡ true
+read_is : (one : Option Opnd) → munch.has_register munch.is_read one ≡ true →
+    spill.has_register spill.is_fixed one ≡ true
 read_is (Some (Reg r)) e = e
 read_is (Some (Temp t)) e = refl
 read_is None e = refl
 
-written_is : (one : Option Opnd) → munch.has_register munch.is_written one ≡ true → spill.has_register spill.is_fixed one ≡ true
+written_is : (one : Option Opnd) → munch.has_register munch.is_written one ≡ true →
+    spill.has_register spill.is_fixed one ≡ true
 written_is (Some (Reg r)) e =
     or_right (r == 0) (r == 29 || munch.is_written r) (or_right (r == 29) (munch.is_written r) e)
 written_is (Some (Temp t)) e = refl
@@ -54,7 +54,8 @@ one_is one e =
     (both (spill.has_register spill.is_fixed n.first) (spill.has_register spill.is_fixed n.second)
     (read_is n.first (both_left first second reads)) (read_is n.second (both_right first second reads)))
 
-all_are : (code : List Instr) → list_all munch.names_registers code ≡ true → list_all (spill.names_registers spill.is_fixed) code ≡ true
+all_are : (code : List Instr) → list_all munch.names_registers code ≡ true →
+    list_all (spill.names_registers spill.is_fixed) code ≡ true
 all_are [] e = refl
 all_are (one ∷ rest) e =
     both (spill.names_registers spill.is_fixed one) (list_all (spill.names_registers spill.is_fixed) rest)

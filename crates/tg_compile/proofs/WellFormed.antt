@@ -12,7 +12,7 @@ use Rattle.tg_escape.specs.Escaping.{escapes_of}
 use Rattle.tg_escape.specs.Links.{links_of}
 use Rattle.tg_tree.specs.declared.fragments.Fragment.{Fragment}
 use Rattle.tg_tree.specs.Plain.{plain_fragment}
-use Rattle.tg_tree.specs.Tree.{Ts, Linear, Function}
+use Rattle.tg_tree.specs.Tree.{Ts, Function}
 use Rattle.tg_tree.specs.Named.{Named, function, literal, fault, temporary, named_stms, named_flat, HasItsTemps}
 use Rattle.tg_tree.specs.Shapes.{IsClosed, IsWellMarked}
 use Rattle.tg_translate.specs.Translate.{translated}
@@ -24,7 +24,7 @@ use Rattle.tg_canon.specs.Canon.{linearized}
 use Rattle.tg_trace.specs.Cutting.{blocks_of}
 use Rattle.tg_trace.specs.Laws as trace
 use Rattle.tg_compile.specs.Compiling.{findings_of, fragments_of, flattened}
-use Rattle.tg_compile.specs.Passes.{IsWellFormed, IsWellMarkedFunction, FlatCodeIsWellMarked}
+use Rattle.tg_compile.specs.Passes.{IsWellFormed, FlatCodeIsWellMarked}
 
 both_left : (a b : Bool) → (a && b) ≡ true → a ≡ true
 both_left true b e = refl
@@ -43,7 +43,8 @@ passes p (y ∷ ys) e x (suc k, l, i) = passes p ys (both_right (p y) (list_all 
 abbrev has_few : Function Ts → Bool
 has_few f = nat_lt f.slots 16777216
 
-routine_is : (fs : List (Function Ts)) → AreRoutines fs → list_all has_few fs ≡ true → (f : Function Ts) → Contains fs f → IsWellFormed f
+routine_is : (fs : List (Function Ts)) → AreRoutines fs → list_all has_few fs ≡ true → (f : Function Ts) →
+    Contains fs f → IsWellFormed f
 routine_is [] h few f c = absurd (omega (arith, c.1))
 routine_is (g ∷ gs) h few f (zero, l, e) =
     subst IsWellFormed e (record {
@@ -58,7 +59,8 @@ each_is : (fs : List (Function Ts)) → ((f : Function Ts) → Contains fs f →
 each_is fs h = All-weaker (Contains fs) IsWellFormed h fs (All-contains_itself fs)
 
 -- the functions of an accepted program, and behind them the runtime's
-pub functions_are : (p : CheckedProgram) → IsAccepted p → CheckedBodiesAreClosed → CheckedTemporariesAreDrawn → CheckedFramesAreSmall → AllAreRoutines →
+pub functions_are : (p : CheckedProgram) → IsAccepted p → CheckedBodiesAreClosed → CheckedTemporariesAreDrawn →
+    CheckedFramesAreSmall → AllAreRoutines →
     All IsWellFormed (fragments_of p.notes (plain p.program.body)).functions
 functions_are p accepted closed drawn small routines =
     let body = plain p.program.body in
@@ -74,7 +76,8 @@ functions_are p accepted closed drawn small routines =
     (each_is runtime.functions (routine_is runtime.functions routines refl))
 
 -- one of the functions that a list of bodies shows
-pub one_is : (bodies : List Fragment) (at : ℕ) (one : Fragment) → All IsWellFormed (map plain_fragment bodies) → at < length bodies → one ≡ get_or bodies at one → IsWellFormed (plain_fragment one)
+pub one_is : (bodies : List Fragment) (at : ℕ) (one : Fragment) → All IsWellFormed (map plain_fragment bodies) →
+    at < length bodies → one ≡ get_or bodies at one → IsWellFormed (plain_fragment one)
 one_is bodies at one all inside is =
     let there : get_or (map plain_fragment bodies) at (plain_fragment one) ≡ plain_fragment one =
     get_or-map plain_fragment bodies at one (plain_fragment one) inside ∙ ap plain_fragment (sym is) in
@@ -93,19 +96,22 @@ all_below n xs h (literal label) c = refl
 all_below n xs h (fault k) c = refl
 all_below n xs h (temporary i) c = lt-ltb i n (h i c)
 
-flat_marked : GivesClosed → trace.BlocksAreWhole → trace.CodeIsWellMarked → (f : Function Ts) → IsClosed f.body → IsWellMarked (flattened f).body
+flat_marked : GivesClosed → trace.BlocksAreWhole → trace.CodeIsWellMarked → (f : Function Ts) → IsClosed f.body →
+    IsWellMarked (flattened f).body
 unfolding flattened
 flat_marked closed whole marked f h =
     let lifted = linearized f.body f.temps in
     marked (blocks_of lifted.it) (whole lifted.it (closed f.body f.temps h))
 
-flat_drawn : TempsStay → trace.NamesStay → (f : Function Ts) → HasItsTemps names f → HasItsTemps (λ e. named_flat e []) (flattened f)
+flat_drawn : TempsStay → trace.NamesStay → (f : Function Ts) → HasItsTemps names f →
+    HasItsTemps (λ e. named_flat e []) (flattened f)
 unfolding flattened
 flat_drawn stay kept f h i c =
     let lifted = linearized f.body f.temps in
     let below = all_below lifted.next (named_stms lifted.it []) (stay f.body f.temps h) in
     ltb-true i lifted.next (kept (is_below lifted.next) lifted.it refl below (temporary i) c)
 
-pub flat_code : GivesClosed → TempsStay → trace.BlocksAreWhole → trace.CodeIsWellMarked → trace.NamesStay → FlatCodeIsWellMarked
+pub flat_code : GivesClosed → TempsStay → trace.BlocksAreWhole → trace.CodeIsWellMarked → trace.NamesStay →
+    FlatCodeIsWellMarked
 flat_code closed stay whole marked kept f h =
     record { marked = flat_marked closed whole marked f h.closed; drawn = flat_drawn stay kept f h.drawn }

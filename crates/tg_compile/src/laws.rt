@@ -20,6 +20,7 @@ pub(crate) fn functions_are_well_formed(checked: &Checked)
     ensures { All IsWellFormed
         (fragments_of checked.now.notes (plain checked.now.program.body)).functions }
 {
+    // Who reads a field of what was checked knows that the program is accepted.
     let _ = &checked.notes;
     bodies_are_closed();
     temporaries_are_drawn();

@@ -1,12 +1,9 @@
 use Rattle.std.proofs.Common.{List, sym, ap, subst, ◌∙◌}
-use Rattle.std.specs.Prelude.{◌≡◌, ◌&&◌, IsTrue, nat_lt, nat_le, true}
+use Rattle.std.specs.Prelude.{IsTrue}
 use Rattle.std.specs.List.{list_all}
-use Rattle.tg_base.specs.State.{most_words, most_bytes}
 use Rattle.tg_emit.specs.declared.assembly.Line.{Line}
-use Rattle.tg_emit.specs.Conditions.{has_labels, is_emittable}
-use Rattle.tg_emit.specs.Lines.{words, assembly_of}
+use Rattle.tg_emit.specs.Conditions.{has_labels}
 use Rattle.tg_emit.specs.Text.{text_of}
-use Rattle.tg_image.specs.Programs.{IsProgram, bytes_of}
 use Rattle.tg_image.proofs.HasLabels.{emitted_has_labels}
 use Rattle.tg_compile.proofs.Chain.{written_image}
 use Rattle.tg_compile.proofs.Linking.{emittable, whole_program}
