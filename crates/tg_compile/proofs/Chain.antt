@@ -1,5 +1,5 @@
 -- Functions and literals behind one another, and what each is compiled to.
-use Rattle.std.proofs.Common.{◌≡◌, ◌+◌, ℕ, List, [], ◌∷◌, ◌++◌, refl, sym, ap, subst, ◌∙◌}
+use Rattle.std.proofs.Common.{◌≡◌, ◌+◌, ◌<◌, ℕ, List, [], ◌∷◌, ◌++◌, refl, sym, ap, subst, ◌∙◌}
 use Rattle.std.specs.Prelude.{map, IsTrue}
 use Rattle.std.specs.List.{zip}
 use Rattle.std.specs.FinSet.{FinSet, from_list}
@@ -126,9 +126,9 @@ flat_slots f = refl
 -- and the instructions that are chosen for it
 pub chooses : (f : Function Ts) (between new : Frame) (flat : List Linear) (code : Instructions) → plain_function between flat ≡ flattened f →
     new.label ≡ between.label → new.params ≡ between.params → new.slots ≡ between.slots → new.temps ≡ between.temps → new.out ≡ outs flat →
-    code.list ≡ (munched (plain_function between flat)).code → code.temps ≡ (munched (plain_function between flat)).drawn.temp →
+    code.list ≡ (munched (plain_function between flat)).code → code.temps ≡ (munched (plain_function between flat)).drawn.temp → code.temps < 16777216 →
     Chooses f new code
-chooses f between new flat code is label params slots drawn out list temps =
+chooses f between new flat code is label params slots drawn out list temps few =
     record {
       label = ap (λ (l : Label). l.0) label ∙ ap (λ (g : Function (List Linear)). g.label) is ∙ flat_label f;
       params = params ∙ ap (λ (g : Function (List Linear)). g.params) is ∙ flat_params f;
@@ -137,6 +137,7 @@ chooses f between new flat code is label params slots drawn out list temps =
       out = out ∙ ap (λ (g : Function (List Linear)). outs g.body) is;
       list = list ∙ ap (λ (g : Function (List Linear)). (munched g).code) is;
       temps = temps ∙ ap (λ (g : Function (List Linear)). (munched g).drawn.temp) is;
+      few = few;
     }
 
 -- and each of its temporaries gets a slot

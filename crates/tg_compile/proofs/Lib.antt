@@ -1,2 +1,5 @@
 pub mod Chain
+pub mod Linking
+pub mod Naming
 pub mod NotesAlike
+pub mod WellFormed

@@ -1,13 +1,91 @@
 -- What the parts of the compilation promise one another.
-use Rattle.std.specs.Prelude.{◌≡◌, List, [], ◌∷◌}
+use Rattle.std.specs.Prelude.{◌≡◌, ◌<◌, ◌≤◌, ◌^◌, ℕ, nat_lt, Bool, true, List, [], ◌∷◌, IsTrue}
+use Rattle.std.specs.List.{Contains, list_all}
 use Rattle.tg_frame.specs.declared.frames.Frame.{Frame}
-use Rattle.tg_tree.specs.Tree.{Ts, Function}
+use Rattle.tg_frame.specs.Homes.{slot_bound}
+use Rattle.tg_tree.specs.declared.fragments.Literal.{Literal}
+use Rattle.tg_tree.specs.Tree.{Ts, Linear, Function}
+use Rattle.tg_tree.specs.Named.{Named, function, literal, fault, temporary, named_flat, HasItsTemps}
+use Rattle.tg_tree.specs.Shapes.{IsClosed, IsWellMarked}
+use Rattle.tg_shapes.specs.Laws.{names}
+use Rattle.tg_instr.specs.Codes.{has_slots_below}
 use Rattle.tg_instr.specs.declared.codes.Allocated.{Allocated}
 use Rattle.tg_instr.specs.declared.codes.Code.{Code as Instructions}
 use Rattle.tg_munch.specs.Bodies.{outs}
+use Rattle.tg_munch.specs.Naming.{names_allowed}
+use Rattle.tg_spill.specs.Conditions.{is_fixed, names_registers}
+use Rattle.tg_spill.specs.InFrame.{code_in_frame}
 use Rattle.tg_spill.specs.declared.allocations.Allocation.{Allocation}
+use Rattle.tg_emit.specs.Conditions.{has_code}
+use Rattle.tg_emit.specs.Lines.{size_of}
+use Rattle.tg_image.specs.Programs.{
+  function_labels,
+  literal_labels,
+  is_among,
+  labels_differ,
+  calls_those,
+}
 use Rattle.tg_compile.specs.declared.programs.Placement.{Placement}
 use Rattle.tg_compile.specs.Compiling.{flattened, chosen, CompilesFunction}
+
+-- a function whose body is closed, whose temporaries its frame has drawn, and whose slots are few
+pub record IsWellFormed (f : Function Ts) : Type 0 where
+  pub closed : IsClosed f.body
+  pub drawn : HasItsTemps names f
+  pub few : f.slots < 16777216
+
+-- a function whose flat code is well marked, and whose temporaries its frame has drawn
+pub record IsWellMarkedFunction (f : Function (List Linear)) : Type 0 where
+  pub marked : IsWellMarked f.body
+  pub drawn : HasItsTemps (λ e. named_flat e []) f
+
+-- the law that a function which is well formed has such flat code
+abbrev pub FlatCodeIsWellMarked : Type 0
+FlatCodeIsWellMarked = (f : Function Ts) → IsWellFormed f → IsWellMarkedFunction (flattened f)
+
+-- a function whose instructions name registers that code names before allocation, and slots of
+-- their frame
+pub record NamesItsOwn (f : Function Ts) : Type 0 where
+  pub registers : IsTrue (list_all (names_registers is_fixed) (chosen f).code)
+  pub slots : IsTrue (list_all (has_slots_below f.slots) (chosen f).code)
+
+-- the law that the instructions of a function do, where its parameters have slots of its frame
+abbrev pub CodeNamesItsOwn : Type 0
+CodeNamesItsOwn = (f : Function Ts) → slot_bound f.params ≤ f.slots → NamesItsOwn f
+
+-- what a program may name: functions and literals that are there, and faults whose numbers have 20
+-- bits
+abbrev pub is_there : (functions literals : List ℕ) → Named → Bool
+is_there functions literals (function label) = is_among functions label
+is_there functions literals (literal label) = is_among literals label
+is_there functions literals (fault n) = nat_lt n (2 ^ 20)
+is_there functions literals (temporary i) = true
+
+-- The law that code over registers names no more than its function does: whatever test all names of
+-- the body pass, and each temporary and the fault 0, those of the code pass.
+abbrev pub CodeNamesNoMore : Type 0
+CodeNamesNoMore =
+    (allowed : Named → Bool) →
+    ((i : ℕ) → IsTrue (allowed (temporary i))) → IsTrue (allowed (fault 0)) →
+    (f : Function Ts) → ((x : Named) → Contains (names f.body) x → IsTrue (allowed x)) →
+    IsTrue (list_all (names_allowed allowed) (code_in_frame f.slots (chosen f).code))
+
+-- a frame below 2 ^ 29 bytes, and code whose faults have 20 bits
+abbrev pub has_small_frame : Allocated → Bool
+has_small_frame f = nat_lt (size_of f.frame) (2 ^ 29)
+
+abbrev pub have_codes : Allocated → Bool
+have_codes f = list_all has_code f.code.list
+
+-- Functions over registers and literals whose labels differ, with a body, and that name one another
+-- alone.
+pub record AreLinked (codes : List Allocated) (literals : List Literal) : Type 0 where
+  pub functions_differ : IsTrue (labels_differ (function_labels codes))
+  pub literals_differ : IsTrue (labels_differ (literal_labels literals))
+  pub has_body : IsTrue (is_among (function_labels codes) 32)
+  pub names :
+      IsTrue (list_all (calls_those (function_labels codes) (literal_labels literals)) codes)
+  pub faults : IsTrue (list_all have_codes codes)
 
 -- the instructions that are chosen for the flat code of a function, and its frame then
 pub record Chooses (f : Function Ts) (frame : Frame) (code : Instructions) : Type 0 where
@@ -18,6 +96,7 @@ pub record Chooses (f : Function Ts) (frame : Frame) (code : Instructions) : Typ
   pub out : frame.out ≡ outs (flattened f).body
   pub list : code.list ≡ (chosen f).code
   pub temps : code.temps ≡ (chosen f).drawn.temp
+  pub few : code.temps < 16777216
 
 -- an allocation of its code and its placement
 abbrev pub allocation_of : Allocated × Placement → Allocation

@@ -2,13 +2,12 @@ ghost use Rattle.std.specs.Prelude.{◌≡◌, IfOk};
 ghost use Rattle.tg_tree.specs.Lists.{code_of};
 ghost use Rattle.tg_tree.specs.Plain.{plain_fragment, plain_function, plain_ts};
 ghost use Rattle.tg_compile.specs.Compiling.{CompilesFunction, flattened};
-ghost use Rattle.tg_compile.specs.Passes.{Chooses};
+ghost use Rattle.tg_compile.specs.Passes.{Chooses, IsWellFormed};
 
-use crate::munchable::can_be_munched;
+use crate::laws::{flat_code_is_well_marked, instructions_name_their_own};
 use std::alloc::Global;
 use tg_base::Memory;
 use tg_canon::linearize;
-use tg_conditions::can_stand_in_frame;
 use tg_frame::Frame;
 use tg_instr::Code;
 use tg_munch::munch;
@@ -18,27 +17,24 @@ use tg_tree::{Fragment, Linear, Ts};
 
 /// The code of a function over registers, with each temporary in its frame.
 pub(crate) fn compile_function(alloc: Global, one: Fragment) -> Result<Allocation, Memory>
+    requires { IsWellFormed (plain_fragment one) }
     ensures { IfOk result (λ a. CompilesFunction (plain_fragment one) a) }
 {
     let Fragment { frame, body } = one;
     let mut frame = frame;
     let code = choose(alloc, &mut frame, body)?;
-    if !can_stand_in_frame(&code, &frame) {
-        return Err(Memory);
-    }
+    instructions_name_their_own();
     Ok(in_frame(alloc, &code, frame)?)
 }
 
 /// The instructions of a body.
 fn choose(alloc: Global, frame: &mut Frame, body: Ts) -> Result<Code, Memory>
+    requires { IsWellFormed (plain_function frame.old (plain_ts body)) }
     ensures { IfOk result (Chooses (plain_function frame.old (plain_ts body)) frame.new) }
 {
     let flat = flatten(alloc, frame, body)?;
     let code = flat.as_slice();
-    let fits = can_be_munched(alloc, code, frame)?;
-    if !fits {
-        return Err(Memory);
-    }
+    flat_code_is_well_marked();
     Ok(munch(alloc, code, frame)?)
 }
 

@@ -4,8 +4,9 @@
 
 mod bodies;
 mod compiled;
-mod munchable;
+mod laws;
 mod programs;
+mod sizes;
 
 pub use compiled::Compiled;
 pub use programs::compile_checked;

@@ -1,22 +1,25 @@
-ghost use Rattle.std.specs.Prelude.{◌≡◌, IfOk, map};
+ghost use Rattle.std.specs.Prelude.{◌≡◌, All, IfOk, map};
 ghost use Rattle.std.specs.List.{zip};
 ghost use Rattle.tg_syntax.specs.Plain.{plain};
 ghost use Rattle.tg_tree.specs.Plain.{plain_fragment, plain_fragments};
+ghost use Rattle.tg_tree.specs.Named.{IsLinked};
+ghost use Rattle.tg_shapes.specs.Laws.{names};
 ghost use Rattle.tg_emit.specs.Lines.{assembly_of};
 ghost use Rattle.tg_emit.specs.Text.{text_of};
 ghost use Rattle.tg_compile.specs.Compiling.{Compiles, HasImage, fragments_of};
-ghost use Rattle.tg_compile.specs.Passes.{CompileApart, allocation_of};
+ghost use Rattle.tg_compile.specs.Passes.{AreLinked, CompileApart, IsWellFormed, allocation_of};
 
 use crate::bodies::compile_function;
 use crate::compiled::Compiled;
+use crate::laws::{code_names_no_more, functions_are_well_formed};
+use crate::sizes::{fit_segments, have_small_frames};
 use std::alloc::Global;
 use tg_base::Memory;
-use tg_conditions::are_emittable;
 use tg_emit::{emit, text};
 use tg_escape::escapes;
-use tg_image::is_program;
 use tg_instr::Allocated;
 use tg_runtime::runtime;
+use tg_shapes::programs_are_linked;
 use tg_spill::{Allocation, Homes};
 use tg_translate::translate;
 use tg_tree::{Fragment, Fragments, Literal};
@@ -47,6 +50,7 @@ pub fn compile_checked(alloc: Global, checked: &Checked) -> Result<Compiled, Mem
         literals,
     } = fragments(alloc, checked)?;
     let functions = compile_functions(alloc, bodies)?;
+    code_names_no_more();
     let written = write(alloc, &functions.codes, &literals)?;
     Ok(Compiled {
         allocations: join(alloc, functions)?,
@@ -56,9 +60,13 @@ pub fn compile_checked(alloc: Global, checked: &Checked) -> Result<Compiled, Mem
 
 /// The functions and literals of a program, and behind them the runtime's.
 fn fragments(alloc: Global, checked: &Checked) -> Result<Fragments, Memory>
-    ensures { IfOk result (λ f. plain_fragments f ≡
+    ensures fragments { IfOk result (λ f. plain_fragments f ≡
         fragments_of checked.now.notes (plain checked.now.program.body)) }
+    ensures formed { IfOk result (λ f. All IsWellFormed (plain_fragments f).functions) }
+    ensures linked { IfOk result (λ f. IsLinked names (plain_fragments f)) }
 {
+    functions_are_well_formed(checked);
+    programs_are_linked();
     let escaping = escapes(alloc, checked)?;
     let mut program = translate(alloc, checked, &escaping)?;
     let mut below = runtime(alloc)?;
@@ -69,6 +77,7 @@ fn fragments(alloc: Global, checked: &Checked) -> Result<Fragments, Memory>
 
 /// Compiles functions one after another.
 fn compile_functions(alloc: Global, bodies: Vec<Fragment>) -> Result<Functions, Memory>
+    requires { All IsWellFormed (map plain_fragment bodies.items) }
     ensures { IfOk result (λ f. CompileApart (map plain_fragment bodies.items)
         f.codes.items f.placements.items) }
 {
@@ -93,15 +102,17 @@ fn compile_functions(alloc: Global, bodies: Vec<Fragment>) -> Result<Functions, 
 
 /// The assembly text of functions and literals.
 fn write(alloc: Global, codes: &[Allocated], literals: &[Literal]) -> Result<Vec<u8>, Memory>
+    requires { AreLinked codes.now literals.now }
     ensures text { IfOk result (λ t. t.items ≡ text_of (assembly_of codes.now literals.now)) }
     ensures image { IfOk result (λ t. HasImage t.items) }
 {
-    if !are_emittable(codes) {
+    let small = have_small_frames(codes);
+    if !small {
         return Err(Memory);
     }
     let assembly = emit(alloc, codes, literals)?;
-    let whole = is_program(alloc, codes, literals, &assembly)?;
-    if !whole {
+    let fits = fit_segments(&assembly, literals);
+    if !fits {
         return Err(Memory);
     }
     Ok(text(alloc, &assembly)?)

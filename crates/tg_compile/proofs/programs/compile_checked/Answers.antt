@@ -1,5 +1,7 @@
+use Rattle.std.proofs.Common.{refl}
 use Rattle.tg_syntax.specs.Plain.{plain}
-use Rattle.tg_compile.proofs.Chain.{compiles_whole}
+use Rattle.tg_compile.proofs.Chain.{tree_of, compiles_whole}
+use Rattle.tg_compile.proofs.Linking.{links}
 use Rattle.tg_compile.proofs.programs.compile_checked.Goals as goal
 
 pub returns : goal.returns
@@ -9,4 +11,12 @@ returns c =
     let functions = c.in_ok-functions.functions in
     let written = c.in_ok-written.ensures in
     compiles_whole checked.notes (plain checked.program.body) fragments.functions.items fragments.literals.items functions.codes.items functions.placements.items c.in_ok-join.field-0.items c.in_ok-written.written.items
-    c.in_ok-bodies.ensures c.in_ok-functions.ensures c.in_ok-join.ensures (rw c.deref.ensures.value at (rw c.deref-2.ensures.value at written.text)) written.image
+    c.in_ok-bodies.ensures.fragments c.in_ok-functions.ensures c.in_ok-join.ensures (rw c.deref.ensures.value at (rw c.deref-2.ensures.value at written.text)) written.image
+
+pub write-requires : goal.write-requires
+write-requires c =
+    let fragments = c.in_ok-bodies.field-0 in
+    let functions = c.in_ok-functions.functions in
+    rw (c.deref.ensures.value, c.deref-2.ensures.value)
+    (links c.code_names_no_more.ensures (tree_of fragments.functions.items fragments.literals.items) functions.codes.items functions.placements.items fragments.literals.items
+    c.in_ok-bodies.ensures.linked refl c.in_ok-functions.ensures)

@@ -1,0 +1,445 @@
+-- What the instructions of a program name is there: the passes name no more than its trees do.
+use Rattle.std.proofs.Common.{◌≡◌, ◌≢◌, ◌<◌, ◌+◌, ℕ, zero, suc, Bool, true, false, List, [], ◌∷◌, ◌++◌, Option, Some, None, refl, sym, ap, subst, ◌∙◌, arith, eq-eqb, get_or, length, inl, inr, ◌≤◌}
+use Rattle.std.specs.Prelude.{◌&&◌, ◌||◌, ◌==◌, nat_lt, nat_le, map, not, IsTrue}
+use Rattle.std.specs.List.{Contains, AllPairs, list_all}
+use Rattle.std.proofs.lemmas.Bool.{lt-ltb, ltb-true}
+use Rattle.std.proofs.lemmas.Bool.Decides.{eqb_tells, nat_tests}
+use Rattle.tg_base.specs.State.{most_words, most_bytes}
+use Rattle.tg_tree.specs.declared.fragments.Literal.{Literal}
+use Rattle.tg_tree.specs.Tree as tree
+use Rattle.tg_tree.specs.Tree.{Ts, Function, Code}
+use Rattle.tg_tree.specs.Plain.{plain_literal}
+use Rattle.tg_tree.specs.Named.{Named, function, literal, fault, temporary, IsLinked}
+use Rattle.tg_instr.specs.declared.operands.Opnd.{Opnd}
+use Rattle.tg_instr.specs.declared.operands.Opnd.TheVariants.{Temp, Reg}
+use Rattle.tg_instr.specs.declared.instr.Instr.{Instr}
+use Rattle.tg_instr.specs.declared.instr.Instr.TheVariants.{Sll, Srl, Sra, Mfhi, Mflo, Mult, Div, Add, Sub, Addu, Subu, And, Or, Xor, Nor, Slt, Sltu, Addi, Addiu, Slti, Sltiu, Andi, Ori, Xori, Lui, Lb, Lbu, Lw, Sb, Sw, Move, FrameLoad, FrameStore, FrameAddress, Address, Mark, Jump, Branch, Call, Service, Fault, Return}
+use Rattle.tg_instr.specs.declared.codes.Allocated.{Allocated}
+use Rattle.tg_instr.specs.Renaming.{named, renamed}
+use Rattle.tg_shapes.specs.Laws.{names}
+use Rattle.tg_canon.specs.Laws as canon
+use Rattle.tg_canon.specs.Canon.{linearized}
+use Rattle.tg_trace.specs.Laws as trace
+use Rattle.tg_munch.specs.Laws as munch
+use Rattle.tg_munch.specs.Naming.{names_allowed}
+use Rattle.tg_spill.specs.InFrame.{through_named, loaded, stored, through_slots, instruction_in_frame, code_in_frame}
+use Rattle.tg_emit.specs.Conditions.{has_code, is_emittable}
+use Rattle.tg_emit.specs.declared.assembly.Line.{Line}
+use Rattle.tg_emit.specs.Lines.{words, functions_lines, literals_lines, is_long, assembly_of}
+use Rattle.tg_emit.proofs.Appending.{words_front}
+use Rattle.tg_image.specs.Programs.{IsProgram, bytes_of, function_labels, literal_labels, is_among, labels_differ, names_those, calls_those}
+use Rattle.tg_compile.specs.declared.programs.Placement.{Placement}
+use Rattle.tg_compile.specs.Compiling.{flattened, chosen}
+use Rattle.tg_compile.specs.Passes.{CompileApart, is_there, have_codes, has_small_frame, CodeNamesNoMore, AreLinked}
+
+both_left : (a b : Bool) → (a && b) ≡ true → a ≡ true
+both_left true b e = refl
+both_left false b e = cc
+
+both_right : (a b : Bool) → (a && b) ≡ true → b ≡ true
+both_right true b e = e
+both_right false b e = cc
+
+both : (a b : Bool) → a ≡ true → b ≡ true → (a && b) ≡ true
+both true b e d = d
+both false b e d = cc
+
+or_left : (a b : Bool) → a ≡ true → (a || b) ≡ true
+or_left true b e = refl
+or_left false b e = cc
+
+or_right : (a b : Bool) → b ≡ true → (a || b) ≡ true
+or_right true b e = refl
+or_right false b e = e
+
+appended : (p : Instr → Bool) (xs ys : List Instr) → list_all p xs ≡ true → list_all p ys ≡ true →
+    list_all p (xs ++ ys) ≡ true
+appended p [] ys e d = d
+appended p (x ∷ xs) ys e d =
+    both (p x) (list_all p (xs ++ ys)) (both_left (p x) (list_all p xs) e)
+    (appended p xs ys (both_right (p x) (list_all p xs) e) d)
+
+-- loads and stores name nothing
+loaded_keeps : (p : Named → Bool) (base r : ℕ) (one : Option Opnd) →
+    list_all (names_allowed p) (loaded base r one) ≡ true
+loaded_keeps p base r (Some (Temp t)) = refl
+loaded_keeps p base r (Some (Reg q)) = refl
+loaded_keeps p base r None = refl
+
+stored_keeps : (p : Named → Bool) (base r : ℕ) (one : Option Opnd) →
+    list_all (names_allowed p) (stored base r one) ≡ true
+stored_keeps p base r (Some (Temp t)) = refl
+stored_keeps p base r (Some (Reg q)) = refl
+stored_keeps p base r None = refl
+
+-- other operands change no name
+renamed_keeps : (p : Named → Bool) (one : Instr) (x y z : Opnd) →
+    names_allowed p (renamed one x y z) ≡ names_allowed p one
+renamed_keeps p (Sll a b c) x y z = refl
+renamed_keeps p (Srl a b c) x y z = refl
+renamed_keeps p (Sra a b c) x y z = refl
+renamed_keeps p (Mfhi a) x y z = refl
+renamed_keeps p (Mflo a) x y z = refl
+renamed_keeps p (Mult a b) x y z = refl
+renamed_keeps p (Div a b) x y z = refl
+renamed_keeps p (Add a b c) x y z = refl
+renamed_keeps p (Sub a b c) x y z = refl
+renamed_keeps p (Addu a b c) x y z = refl
+renamed_keeps p (Subu a b c) x y z = refl
+renamed_keeps p (And a b c) x y z = refl
+renamed_keeps p (Or a b c) x y z = refl
+renamed_keeps p (Xor a b c) x y z = refl
+renamed_keeps p (Nor a b c) x y z = refl
+renamed_keeps p (Slt a b c) x y z = refl
+renamed_keeps p (Sltu a b c) x y z = refl
+renamed_keeps p (Addi a b c) x y z = refl
+renamed_keeps p (Addiu a b c) x y z = refl
+renamed_keeps p (Slti a b c) x y z = refl
+renamed_keeps p (Sltiu a b c) x y z = refl
+renamed_keeps p (Andi a b c) x y z = refl
+renamed_keeps p (Ori a b c) x y z = refl
+renamed_keeps p (Xori a b c) x y z = refl
+renamed_keeps p (Lui a b) x y z = refl
+renamed_keeps p (Lb a b c) x y z = refl
+renamed_keeps p (Lbu a b c) x y z = refl
+renamed_keeps p (Lw a b c) x y z = refl
+renamed_keeps p (Sb a b c) x y z = refl
+renamed_keeps p (Sw a b c) x y z = refl
+renamed_keeps p (Move a b) x y z = refl
+renamed_keeps p (FrameLoad a b) x y z = refl
+renamed_keeps p (FrameStore a b) x y z = refl
+renamed_keeps p (FrameAddress a) x y z = refl
+renamed_keeps p (Address a b) x y z = refl
+renamed_keeps p (Mark a) x y z = refl
+renamed_keeps p (Jump a) x y z = refl
+renamed_keeps p (Branch a b) x y z = refl
+renamed_keeps p (Call a) x y z = refl
+renamed_keeps p Service x y z = refl
+renamed_keeps p (Fault a) x y z = refl
+renamed_keeps p Return x y z = refl
+
+through_keeps : (p : Named → Bool) (base : ℕ) (one : Instr) → names_allowed p one ≡ true →
+    list_all (names_allowed p) (through_slots base one (named one)) ≡ true
+through_keeps p base one e =
+    let n = named one in
+    let kept = renamed one (through_named 8 n.to) (through_named 8 n.first) (through_named 9 n.second) in
+    let here : names_allowed p kept ≡ true =
+    renamed_keeps p one (through_named 8 n.to) (through_named 8 n.first) (through_named 9 n.second) ∙ e in
+    let behind : list_all (names_allowed p) (kept ∷ stored base 8 n.to) ≡ true =
+    both (names_allowed p kept) (list_all (names_allowed p) (stored base 8 n.to)) here (stored_keeps p base 8 n.to) in
+    appended (names_allowed p) (loaded base 8 n.first) (loaded base 9 n.second ++ (kept ∷ stored base 8 n.to)) (loaded_keeps p base 8 n.first)
+    (appended (names_allowed p) (loaded base 9 n.second) (kept ∷ stored base 8 n.to) (loaded_keeps p base 9 n.second) behind)
+
+instruction_keeps : (p : Named → Bool) (base : ℕ) (one : Instr) → names_allowed p one ≡ true →
+    list_all (names_allowed p) (instruction_in_frame base one) ≡ true
+instruction_keeps p base (Sll a b c) e = through_keeps p base (Sll a b c) e
+instruction_keeps p base (Srl a b c) e = through_keeps p base (Srl a b c) e
+instruction_keeps p base (Sra a b c) e = through_keeps p base (Sra a b c) e
+instruction_keeps p base (Mfhi a) e = through_keeps p base (Mfhi a) e
+instruction_keeps p base (Mflo a) e = through_keeps p base (Mflo a) e
+instruction_keeps p base (Mult a b) e = through_keeps p base (Mult a b) e
+instruction_keeps p base (Div a b) e = through_keeps p base (Div a b) e
+instruction_keeps p base (Add a b c) e = through_keeps p base (Add a b c) e
+instruction_keeps p base (Sub a b c) e = through_keeps p base (Sub a b c) e
+instruction_keeps p base (Addu a b c) e = through_keeps p base (Addu a b c) e
+instruction_keeps p base (Subu a b c) e = through_keeps p base (Subu a b c) e
+instruction_keeps p base (And a b c) e = through_keeps p base (And a b c) e
+instruction_keeps p base (Or a b c) e = through_keeps p base (Or a b c) e
+instruction_keeps p base (Xor a b c) e = through_keeps p base (Xor a b c) e
+instruction_keeps p base (Nor a b c) e = through_keeps p base (Nor a b c) e
+instruction_keeps p base (Slt a b c) e = through_keeps p base (Slt a b c) e
+instruction_keeps p base (Sltu a b c) e = through_keeps p base (Sltu a b c) e
+instruction_keeps p base (Addi a b c) e = through_keeps p base (Addi a b c) e
+instruction_keeps p base (Addiu a b c) e = through_keeps p base (Addiu a b c) e
+instruction_keeps p base (Slti a b c) e = through_keeps p base (Slti a b c) e
+instruction_keeps p base (Sltiu a b c) e = through_keeps p base (Sltiu a b c) e
+instruction_keeps p base (Andi a b c) e = through_keeps p base (Andi a b c) e
+instruction_keeps p base (Ori a b c) e = through_keeps p base (Ori a b c) e
+instruction_keeps p base (Xori a b c) e = through_keeps p base (Xori a b c) e
+instruction_keeps p base (Lui a b) e = through_keeps p base (Lui a b) e
+instruction_keeps p base (Lb a b c) e = through_keeps p base (Lb a b c) e
+instruction_keeps p base (Lbu a b c) e = through_keeps p base (Lbu a b c) e
+instruction_keeps p base (Lw a b c) e = through_keeps p base (Lw a b c) e
+instruction_keeps p base (Sb a b c) e = through_keeps p base (Sb a b c) e
+instruction_keeps p base (Sw a b c) e = through_keeps p base (Sw a b c) e
+instruction_keeps p base (Move (Temp a) (Temp b)) e = refl
+instruction_keeps p base (Move (Temp a) (Reg b)) e = refl
+instruction_keeps p base (Move (Reg a) (Temp b)) e = refl
+instruction_keeps p base (Move (Reg a) (Reg b)) e = refl
+instruction_keeps p base (FrameLoad a b) e = through_keeps p base (FrameLoad a b) e
+instruction_keeps p base (FrameStore a b) e = through_keeps p base (FrameStore a b) e
+instruction_keeps p base (FrameAddress a) e = through_keeps p base (FrameAddress a) e
+instruction_keeps p base (Address a b) e = through_keeps p base (Address a b) e
+instruction_keeps p base (Mark a) e = through_keeps p base (Mark a) e
+instruction_keeps p base (Jump a) e = through_keeps p base (Jump a) e
+instruction_keeps p base (Branch a b) e = through_keeps p base (Branch a b) e
+instruction_keeps p base (Call a) e = through_keeps p base (Call a) e
+instruction_keeps p base Service e = through_keeps p base Service e
+instruction_keeps p base (Fault a) e = through_keeps p base (Fault a) e
+instruction_keeps p base Return e = through_keeps p base Return e
+
+code_keeps : (p : Named → Bool) (base : ℕ) (code : List Instr) → list_all (names_allowed p) code ≡ true →
+    list_all (names_allowed p) (code_in_frame base code) ≡ true
+code_keeps p base [] e = refl
+code_keeps p base (one ∷ rest) e =
+    appended (names_allowed p) (instruction_in_frame base one) (code_in_frame base rest)
+    (instruction_keeps p base one (both_left (names_allowed p one) (list_all (names_allowed p) rest) e))
+    (code_keeps p base rest (both_right (names_allowed p one) (list_all (names_allowed p) rest) e))
+
+-- the law of all passes
+pub names_no_more : canon.NamesStay → trace.NamesStay → munch.NamesStay → CodeNamesNoMore
+unfolding flattened
+names_no_more lifts lays picks p temps zeros f h =
+    let lifted = linearized f.body f.temps in
+    let canonical = lifts p f.body f.temps h (λ i low high. temps i) in
+    let flat = lays p lifted.it zeros canonical in
+    code_keeps p f.slots (chosen f).code (picks p (flattened f) flat)
+
+-- what is there, as the test of a program tells it
+those_told : (fs ls : List ℕ) (one : Instr) → names_allowed (is_there fs ls) one ≡ true → names_those fs ls one ≡ true
+those_told fs ls (Sll a b c) e = refl
+those_told fs ls (Srl a b c) e = refl
+those_told fs ls (Sra a b c) e = refl
+those_told fs ls (Mfhi a) e = refl
+those_told fs ls (Mflo a) e = refl
+those_told fs ls (Mult a b) e = refl
+those_told fs ls (Div a b) e = refl
+those_told fs ls (Add a b c) e = refl
+those_told fs ls (Sub a b c) e = refl
+those_told fs ls (Addu a b c) e = refl
+those_told fs ls (Subu a b c) e = refl
+those_told fs ls (And a b c) e = refl
+those_told fs ls (Or a b c) e = refl
+those_told fs ls (Xor a b c) e = refl
+those_told fs ls (Nor a b c) e = refl
+those_told fs ls (Slt a b c) e = refl
+those_told fs ls (Sltu a b c) e = refl
+those_told fs ls (Addi a b c) e = refl
+those_told fs ls (Addiu a b c) e = refl
+those_told fs ls (Slti a b c) e = refl
+those_told fs ls (Sltiu a b c) e = refl
+those_told fs ls (Andi a b c) e = refl
+those_told fs ls (Ori a b c) e = refl
+those_told fs ls (Xori a b c) e = refl
+those_told fs ls (Lui a b) e = refl
+those_told fs ls (Lb a b c) e = refl
+those_told fs ls (Lbu a b c) e = refl
+those_told fs ls (Lw a b c) e = refl
+those_told fs ls (Sb a b c) e = refl
+those_told fs ls (Sw a b c) e = refl
+those_told fs ls (Move a b) e = refl
+those_told fs ls (FrameLoad a b) e = refl
+those_told fs ls (FrameStore a b) e = refl
+those_told fs ls (FrameAddress a) e = refl
+those_told fs ls (Address a b) e = e
+those_told fs ls (Mark a) e = refl
+those_told fs ls (Jump a) e = refl
+those_told fs ls (Branch a b) e = refl
+those_told fs ls (Call a) e = e
+those_told fs ls Service e = refl
+those_told fs ls (Fault a) e = refl
+those_told fs ls Return e = refl
+
+code_told : (fs ls : List ℕ) (one : Instr) → names_allowed (is_there fs ls) one ≡ true → has_code one ≡ true
+code_told fs ls (Sll a b c) e = refl
+code_told fs ls (Srl a b c) e = refl
+code_told fs ls (Sra a b c) e = refl
+code_told fs ls (Mfhi a) e = refl
+code_told fs ls (Mflo a) e = refl
+code_told fs ls (Mult a b) e = refl
+code_told fs ls (Div a b) e = refl
+code_told fs ls (Add a b c) e = refl
+code_told fs ls (Sub a b c) e = refl
+code_told fs ls (Addu a b c) e = refl
+code_told fs ls (Subu a b c) e = refl
+code_told fs ls (And a b c) e = refl
+code_told fs ls (Or a b c) e = refl
+code_told fs ls (Xor a b c) e = refl
+code_told fs ls (Nor a b c) e = refl
+code_told fs ls (Slt a b c) e = refl
+code_told fs ls (Sltu a b c) e = refl
+code_told fs ls (Addi a b c) e = refl
+code_told fs ls (Addiu a b c) e = refl
+code_told fs ls (Slti a b c) e = refl
+code_told fs ls (Sltiu a b c) e = refl
+code_told fs ls (Andi a b c) e = refl
+code_told fs ls (Ori a b c) e = refl
+code_told fs ls (Xori a b c) e = refl
+code_told fs ls (Lui a b) e = refl
+code_told fs ls (Lb a b c) e = refl
+code_told fs ls (Lbu a b c) e = refl
+code_told fs ls (Lw a b c) e = refl
+code_told fs ls (Sb a b c) e = refl
+code_told fs ls (Sw a b c) e = refl
+code_told fs ls (Move a b) e = refl
+code_told fs ls (FrameLoad a b) e = refl
+code_told fs ls (FrameStore a b) e = refl
+code_told fs ls (FrameAddress a) e = refl
+code_told fs ls (Address a b) e = refl
+code_told fs ls (Mark a) e = refl
+code_told fs ls (Jump a) e = refl
+code_told fs ls (Branch a b) e = refl
+code_told fs ls (Call a) e = refl
+code_told fs ls Service e = refl
+code_told fs ls (Fault a) e = e
+code_told fs ls Return e = refl
+
+each_told : {X : Type 0} (p q : X → Bool) → ((one : X) → p one ≡ true → q one ≡ true) → (code : List X) →
+    list_all p code ≡ true → list_all q code ≡ true
+each_told p q told [] e = refl
+each_told p q told (one ∷ rest) e =
+    both (q one) (list_all q rest) (told one (both_left (p one) (list_all p rest) e)) (each_told p q told rest (both_right (p one) (list_all p rest) e))
+
+among : (labels : List ℕ) (label : ℕ) → Contains labels label → is_among labels label ≡ true
+among [] label c = absurd (omega (arith, c.1))
+among (x ∷ xs) label (zero, l, e) = or_left (label == x) (is_among xs label) (eq-eqb label x (sym e))
+among (x ∷ xs) label (suc k, l, e) = or_right (label == x) (is_among xs label) (among xs label (k, omega arith, e))
+
+-- labels of which no two are one differ, and so do those of a part
+differ_from : (x y : ℕ) → (x ≢ y) → (x == y) ≡ false
+differ_from x y d = elim (eqb_tells x y) [ inl t ↦ absurd (d t.1) | inr f ↦ f.0 ]
+
+neither : (a b : Bool) → a ≡ false → not b ≡ true → not (a || b) ≡ true
+neither true b e n = cc
+neither false b e n = n
+
+not_among : (label : ℕ) (labels : List ℕ) → ((k d : ℕ) → k < length labels → label ≢ get_or labels k d) →
+    not (is_among labels label) ≡ true
+not_among label [] h = refl
+not_among label (x ∷ xs) h =
+    neither (label == x) (is_among xs label) (differ_from label x (h zero 0 (omega arith)))
+    (not_among label xs (λ k d l. h (suc k) d (omega (arith, l))))
+
+differ : (labels : List ℕ) → AllPairs (λ a b. a ≢ b) labels → labels_differ labels ≡ true
+differ [] h = refl
+differ (x ∷ xs) h =
+    both (not (is_among xs x)) (labels_differ xs)
+    (not_among x xs (λ k d l. h zero (suc k) d (omega arith) (omega (arith, l))))
+    (differ xs (λ i j d below inside. h (suc i) (suc j) d (omega (arith, below)) (omega (arith, inside))))
+
+fewer_tests : (a b c : Bool) → (not b ≡ true → not c ≡ true) → not (a || b) ≡ true → not (a || c) ≡ true
+fewer_tests true b c h e = e
+fewer_tests false b c h e = h e
+
+fewer : (label : ℕ) (xs ys : List ℕ) → not (is_among (xs ++ ys) label) ≡ true → not (is_among xs label) ≡ true
+fewer label [] ys e = refl
+fewer label (x ∷ xs) ys e = fewer_tests (label == x) (is_among (xs ++ ys) label) (is_among xs label) (fewer label xs ys) e
+
+first_differ : (xs ys : List ℕ) → labels_differ (xs ++ ys) ≡ true → labels_differ xs ≡ true
+first_differ [] ys e = refl
+first_differ (x ∷ xs) ys e =
+    both (not (is_among xs x)) (labels_differ xs)
+    (fewer x xs ys (both_left (not (is_among (xs ++ ys) x)) (labels_differ (xs ++ ys)) e))
+    (first_differ xs ys (both_right (not (is_among (xs ++ ys) x)) (labels_differ (xs ++ ys)) e))
+
+last_differ : (xs ys : List ℕ) → labels_differ (xs ++ ys) ≡ true → labels_differ ys ≡ true
+last_differ [] ys e = e
+last_differ (x ∷ xs) ys e = last_differ xs ys (both_right (not (is_among (xs ++ ys) x)) (labels_differ (xs ++ ys)) e)
+
+-- codes of functions, one for each
+labels_are : (fs : List (Function Ts)) (codes : List Allocated) (ps : List Placement) → CompileApart fs codes ps →
+    function_labels codes ≡ map (λ (f : Function Ts). f.label) fs
+labels_are [] [] [] h = refl
+labels_are [] [] (p ∷ ps) h = absurd h
+labels_are [] (c ∷ codes) ps h = absurd h
+labels_are (f ∷ fs) [] ps h = absurd h
+labels_are (f ∷ fs) (c ∷ codes) [] h = absurd h
+labels_are (f ∷ fs) (c ∷ codes) (p ∷ ps) h =
+    ap (λ (n : ℕ). n ∷ function_labels codes) h.0.label ∙ ap (λ (ns : List ℕ). f.label ∷ ns) (labels_are fs codes ps h.1)
+
+literals_are : (ls : List Literal) → literal_labels ls ≡ map (λ (l : tree.Literal). l.label) (map plain_literal ls)
+literals_are [] = refl
+literals_are (l ∷ ls) = ap (λ (xs : List ℕ). l.label.0 ∷ xs) (literals_are ls)
+
+-- the names of each code pass a test
+abbrev names_pass : (Named → Bool) → Allocated → Bool
+names_pass allowed a = list_all (names_allowed allowed) a.code.list
+
+codes_pass : (allowed : Named → Bool) (fs : List (Function Ts)) (codes : List Allocated) (ps : List Placement) →
+    CompileApart fs codes ps →
+    ((f : Function Ts) → Contains fs f → list_all (names_allowed allowed) (code_in_frame f.slots (chosen f).code) ≡ true) →
+    list_all (names_pass allowed) codes ≡ true
+codes_pass allowed [] [] [] h each = refl
+codes_pass allowed [] [] (p ∷ ps) h each = absurd h
+codes_pass allowed [] (c ∷ codes) ps h each = absurd h
+codes_pass allowed (f ∷ fs) [] ps h each = absurd h
+codes_pass allowed (f ∷ fs) (c ∷ codes) [] h each = absurd h
+codes_pass allowed (f ∷ fs) (c ∷ codes) (p ∷ ps) h each =
+    let P : List Instr → Type 0 = λ code. list_all (names_allowed allowed) code ≡ true in
+    both (names_pass allowed c) (list_all (names_pass allowed) codes)
+    (subst P (sym h.0.list) (each f (zero, omega arith, refl)))
+    (codes_pass allowed fs codes ps h.1 (λ g m. each g (suc m.0, omega (arith, m.1), m.2)))
+
+-- what a function of a linked program names is there
+allowed_there : (program : Code Ts) → IsLinked names program → (f : Function Ts) → Contains program.functions f →
+    (x : Named) → Contains (names f.body) x →
+    is_there (map (λ (g : Function Ts). g.label) program.functions) (map (λ (l : tree.Literal). l.label) program.literals) x ≡ true
+allowed_there program linked f c (function label) k = among (map (λ (g : Function Ts). g.label) program.functions) label (linked.calls f label c k)
+allowed_there program linked f c (literal label) k = among (map (λ (l : tree.Literal). l.label) program.literals) label (linked.addresses f label c k)
+allowed_there program linked f c (fault n) k = lt-ltb n 1048576 (linked.faults f n c k)
+allowed_there program linked f c (temporary i) k = refl
+
+-- so the code of a linked program is linked
+pub links : CodeNamesNoMore →
+    (program : Code Ts) (codes : List Allocated) (ps : List Placement) (literals : List Literal) →
+    IsLinked names program →
+    map plain_literal literals ≡ program.literals → CompileApart program.functions codes ps → AreLinked codes literals
+links law program codes ps literals linked same apart =
+    let fs = map (λ (g : Function Ts). g.label) program.functions in
+    let ls = map (λ (l : tree.Literal). l.label) program.literals in
+    let functions : function_labels codes ≡ fs = labels_are program.functions codes ps apart in
+    let theirs : literal_labels literals ≡ ls = literals_are literals ∙ ap (λ (xs : List tree.Literal). map (λ (l : tree.Literal). l.label) xs) same in
+    let all : labels_differ (fs ++ ls) ≡ true = differ (fs ++ ls) linked.apart in
+    let passed : list_all (names_pass (is_there fs ls)) codes ≡ true =
+    codes_pass (is_there fs ls) program.functions codes ps apart
+    (λ f c. law (is_there fs ls) (λ i. refl) refl f (allowed_there program linked f c)) in
+    let D : List ℕ → Type 0 = λ xs. IsTrue (labels_differ xs) in
+    let M : List ℕ → Type 0 = λ xs. IsTrue (is_among xs 32) in
+    let C : List ℕ → Type 0 = λ xs. IsTrue (list_all (calls_those xs ls) codes) in
+    let L : List ℕ → Type 0 = λ ys. IsTrue (list_all (calls_those (function_labels codes) ys) codes) in
+    record {
+      functions_differ = subst D (sym functions) (first_differ fs ls all);
+      literals_differ = subst D (sym theirs) (last_differ fs ls all);
+      has_body = subst M (sym functions) (among fs 32 linked.body);
+      names = subst L (sym theirs) (subst C (sym functions)
+          (each_told (names_pass (is_there fs ls)) (calls_those fs ls)
+          (λ a e. each_told (names_allowed (is_there fs ls)) (names_those fs ls) (those_told fs ls) a.code.list e) codes passed));
+      faults = each_told (names_pass (is_there fs ls)) have_codes
+          (λ a e. each_told (names_allowed (is_there fs ls)) has_code (code_told fs ls) a.code.list e) codes passed;
+    }
+
+-- frames that are small, and faults that have codes
+pub emittable : (codes : List Allocated) → list_all has_small_frame codes ≡ true → list_all have_codes codes ≡ true →
+    list_all is_emittable codes ≡ true
+emittable [] e d = refl
+emittable (c ∷ codes) e d =
+    both (is_emittable c) (list_all is_emittable codes)
+    (both (has_small_frame c) (have_codes c) (both_left (has_small_frame c) (list_all has_small_frame codes) e) (both_left (have_codes c) (list_all have_codes codes) d))
+    (emittable codes (both_right (has_small_frame c) (list_all has_small_frame codes) e) (both_right (have_codes c) (list_all have_codes codes) d))
+
+below : (a b : ℕ) → nat_lt a b ≡ true → a < b
+below a b e = ltb-true a b e
+
+within : (a b : ℕ) → nat_le a b ≡ true → a ≤ b
+within a b e = grind (arith, nat_tests, e)
+
+-- code and statics that fit their segments make a program of them
+pub whole_program : (codes : List Allocated) (literals : List Literal) (assembly : List Line) →
+    AreLinked codes literals → list_all is_emittable codes ≡ true → assembly ≡ assembly_of codes literals →
+    (nat_lt (words assembly) most_words && nat_le (bytes_of literals) most_bytes) ≡ true → IsProgram codes literals
+whole_program codes literals assembly linked fit is sizes =
+    let short = both_left (nat_lt (words assembly) most_words) (nat_le (bytes_of literals) most_bytes) sizes in
+    let few = both_right (nat_lt (words assembly) most_words) (nat_le (bytes_of literals) most_bytes) sizes in
+    let lines = functions_lines (is_long codes) codes in
+    let front : words lines ≤ words (assembly_of codes literals) = words_front lines (literals_lines literals) in
+    let same : words assembly ≡ words (assembly_of codes literals) = ap words is in
+    let all : words assembly < most_words = below (words assembly) most_words short in
+    record {
+      emittable = fit;
+      functions_differ = linked.functions_differ;
+      literals_differ = linked.literals_differ;
+      has_body = linked.has_body;
+      names = linked.names;
+      code_fits = omega (arith, front, same, all);
+      statics_fit = within (bytes_of literals) most_bytes few;
+    }

@@ -1,0 +1,117 @@
+-- Functions are well formed, and their flat code is well marked.
+use Rattle.std.proofs.Common.{◌≡◌, ◌<◌, ℕ, zero, suc, Bool, true, false, List, [], ◌∷◌, refl, sym, ap, ◌∙◌, subst, arith, get_or, length}
+use Rattle.std.specs.Prelude.{◌&&◌, nat_lt, IsTrue, All, map}
+use Rattle.std.specs.List.{Contains, list_all}
+use Rattle.std.specs.FinSet.{from_list}
+use Rattle.std.proofs.lemmas.List.{get_or-map, length-map}
+use Rattle.std.proofs.lemmas.Bool.{lt-ltb, ltb-true}
+use Rattle.std.proofs.lemmas.List.Elements.{All-append, All-weaker, All-contains_itself}
+use Rattle.tg_syntax.specs.Plain.{plain}
+use Rattle.tg_types.specs.Programs.{CheckedProgram, IsAccepted}
+use Rattle.tg_escape.specs.Escaping.{escapes_of}
+use Rattle.tg_escape.specs.Links.{links_of}
+use Rattle.tg_tree.specs.declared.fragments.Fragment.{Fragment}
+use Rattle.tg_tree.specs.Plain.{plain_fragment}
+use Rattle.tg_tree.specs.Tree.{Ts, Function}
+use Rattle.tg_tree.specs.Named.{Named, function, literal, fault, temporary, named_stms, named_flat, HasItsTemps}
+use Rattle.tg_tree.specs.Shapes.{IsClosed, IsWellMarked}
+use Rattle.tg_translate.specs.Translate.{translated}
+use Rattle.tg_runtime.specs.Laws.{AreRoutines, is_own, AllAreRoutines}
+use Rattle.tg_runtime.specs.Routines.{runtime}
+use Rattle.tg_shapes.specs.Laws.{names, CheckedBodiesAreClosed, CheckedTemporariesAreDrawn, CheckedFramesAreSmall}
+use Rattle.tg_canon.specs.Laws.{GivesClosed, AreTempsBelow, TempsStay}
+use Rattle.tg_canon.specs.Canon.{linearized}
+use Rattle.tg_trace.specs.Cutting.{blocks_of}
+use Rattle.tg_trace.specs.Laws as trace
+use Rattle.tg_compile.specs.Compiling.{findings_of, fragments_of, flattened}
+use Rattle.tg_compile.specs.Passes.{IsWellFormed, FlatCodeIsWellMarked}
+
+both_left : (a b : Bool) → (a && b) ≡ true → a ≡ true
+both_left true b e = refl
+both_left false b e = cc
+
+both_right : (a b : Bool) → (a && b) ≡ true → b ≡ true
+both_right true b e = e
+both_right false b e = cc
+
+passes : (p : Named → Bool) (xs : List Named) → list_all p xs ≡ true → (x : Named) → Contains xs x → p x ≡ true
+passes p [] e x c = absurd (omega (arith, c.1))
+passes p (y ∷ ys) e x (zero, l, i) = subst (λ z. p z ≡ true) i (both_left (p y) (list_all p ys) e)
+passes p (y ∷ ys) e x (suc k, l, i) = passes p ys (both_right (p y) (list_all p ys) e) x (k, omega arith, i)
+
+-- a function of the runtime, which has no slot
+abbrev has_few : Function Ts → Bool
+has_few f = nat_lt f.slots 16777216
+
+routine_is : (fs : List (Function Ts)) → AreRoutines fs → list_all has_few fs ≡ true → (f : Function Ts) →
+    Contains fs f → IsWellFormed f
+routine_is [] h few f c = absurd (omega (arith, c.1))
+routine_is (g ∷ gs) h few f (zero, l, e) =
+    subst IsWellFormed e (record {
+      closed = h.0.closed;
+      drawn = λ i c. ltb-true i g.temps (passes (is_own g.temps) (names g.body) h.0.own (temporary i) c);
+      few = ltb-true g.slots 16777216 (both_left (has_few g) (list_all has_few gs) few);
+    })
+routine_is (g ∷ gs) h few f (suc n, l, e) =
+    routine_is gs h.1 (both_right (has_few g) (list_all has_few gs) few) f (n, omega arith, e)
+
+each_is : (fs : List (Function Ts)) → ((f : Function Ts) → Contains fs f → IsWellFormed f) → All IsWellFormed fs
+each_is fs h = All-weaker (Contains fs) IsWellFormed h fs (All-contains_itself fs)
+
+-- the functions of an accepted program, and behind them the runtime's
+pub functions_are : (p : CheckedProgram) → IsAccepted p → CheckedBodiesAreClosed → CheckedTemporariesAreDrawn →
+    CheckedFramesAreSmall → AllAreRoutines →
+    All IsWellFormed (fragments_of p.notes (plain p.program.body)).functions
+functions_are p accepted closed drawn small routines =
+    let body = plain p.program.body in
+    let escapes = from_list (escapes_of body) in
+    let links = from_list (links_of body) in
+    let own = (translated (findings_of p.notes body) body).functions in
+    All-append IsWellFormed own runtime.functions
+    (each_is own (λ f c. record {
+      closed = closed p escapes links f accepted c;
+      drawn = drawn p links f accepted c;
+      few = let s = (small p escapes links f accepted c).slots in omega (arith, s);
+    }))
+    (each_is runtime.functions (routine_is runtime.functions routines refl))
+
+-- one of the functions that a list of bodies shows
+pub one_is : (bodies : List Fragment) (at : ℕ) (one : Fragment) → All IsWellFormed (map plain_fragment bodies) →
+    at < length bodies → one ≡ get_or bodies at one → IsWellFormed (plain_fragment one)
+one_is bodies at one all inside is =
+    let there : get_or (map plain_fragment bodies) at (plain_fragment one) ≡ plain_fragment one =
+    get_or-map plain_fragment bodies at one (plain_fragment one) inside ∙ ap plain_fragment (sym is) in
+    subst IsWellFormed there (all at (plain_fragment one) (omega (arith, inside, length-map bodies plain_fragment)))
+
+-- a temporary is below a number
+abbrev is_below : (n : ℕ) → Named → Bool
+is_below n (function label) = true
+is_below n (literal label) = true
+is_below n (fault k) = true
+is_below n (temporary i) = nat_lt i n
+
+all_below : (n : ℕ) (xs : List Named) → AreTempsBelow n xs → (x : Named) → Contains xs x → IsTrue (is_below n x)
+all_below n xs h (function label) c = refl
+all_below n xs h (literal label) c = refl
+all_below n xs h (fault k) c = refl
+all_below n xs h (temporary i) c = lt-ltb i n (h i c)
+
+flat_marked : GivesClosed → trace.BlocksAreWhole → trace.CodeIsWellMarked → (f : Function Ts) → IsClosed f.body →
+    IsWellMarked (flattened f).body
+unfolding flattened
+flat_marked closed whole marked f h =
+    let lifted = linearized f.body f.temps in
+    marked (blocks_of lifted.it) (whole lifted.it (closed f.body f.temps h))
+
+flat_drawn : TempsStay → trace.NamesStay → (f : Function Ts) → HasItsTemps names f →
+    HasItsTemps (λ e. named_flat e []) (flattened f)
+unfolding flattened
+flat_drawn stay kept f h i c =
+    let lifted = linearized f.body f.temps in
+    let below = all_below lifted.next (named_stms lifted.it []) (stay f.body f.temps h) in
+    ltb-true i lifted.next (kept (is_below lifted.next) lifted.it refl below (temporary i) c)
+
+pub flat_code : GivesClosed → TempsStay → trace.BlocksAreWhole → trace.CodeIsWellMarked → trace.NamesStay →
+    FlatCodeIsWellMarked
+flat_code closed stay whole marked kept f h =
+    record { marked = flat_marked closed whole marked f h.closed; drawn = flat_drawn stay kept f h.drawn }

@@ -1,0 +1,57 @@
+ghost use Rattle.std.specs.Prelude.{All};
+ghost use Rattle.tg_syntax.specs.Plain.{plain};
+ghost use Rattle.tg_compile.specs.Compiling.{fragments_of};
+ghost use Rattle.tg_compile.specs.Passes.{
+  CodeNamesItsOwn,
+  CodeNamesNoMore,
+  FlatCodeIsWellMarked,
+  IsWellFormed,
+};
+
+use tg_canon::canonical_statements;
+use tg_munch::code_names_its_own;
+use tg_runtime::routines_are_closed;
+use tg_shapes::{bodies_are_closed, frames_are_small, temporaries_are_drawn};
+use tg_trace::{blocks_are_well_formed, code_is_well_formed};
+use tg_types::Checked;
+
+/// Each function of a checked program, and of the runtime, is well formed.
+pub(crate) fn functions_are_well_formed(checked: &Checked)
+    ensures { All IsWellFormed
+        (fragments_of checked.now.notes (plain checked.now.program.body)).functions }
+{
+    // Who reads a field of what was checked knows that the program is accepted.
+    let _ = &checked.notes;
+    bodies_are_closed();
+    temporaries_are_drawn();
+    frames_are_small();
+    routines_are_closed();
+}
+
+/// The flat code of a function that is well formed is what instructions are chosen for.
+pub(crate) fn flat_code_is_well_marked()
+    ensures { FlatCodeIsWellMarked }
+{
+    canonical_statements();
+    tg_canon::names_stay();
+    blocks_are_well_formed();
+    code_is_well_formed();
+    tg_trace::names_stay();
+}
+
+/// The instructions of a function name registers and slots that they may name before allocation.
+pub(crate) fn instructions_name_their_own()
+    ensures { CodeNamesItsOwn }
+{
+    code_names_its_own();
+}
+
+/// The code over registers of a function names no function, literal or fault that its body doesn't
+/// name, but for a fault 0.
+pub(crate) fn code_names_no_more()
+    ensures { CodeNamesNoMore }
+{
+    tg_canon::names_stay();
+    tg_trace::names_stay();
+    code_names_its_own();
+}
