@@ -186,7 +186,8 @@ node_at n = ⊎_elim low high (cases_lt n 25)
   where
     low : n < 25 → is_node (operand_at n) ≡ true
     low l =
-        ap is_node (operand_low n l) ∙ row_at (λ k. is_colour (Reg (colour k))) 25 0 n colours_are_colours (omega arith) l
+        ap is_node (operand_low n l)
+        ∙ row_at (λ k. is_colour (Reg (colour k))) 25 0 n colours_are_colours (omega arith) l
 
     high : 25 ≤ n → is_node (operand_at n) ≡ true
     high l = ap is_node (operand_high n l)
