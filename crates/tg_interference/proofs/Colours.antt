@@ -1,7 +1,9 @@
 -- Nodes and their operands: the colours differ, and each node is that of its operand.
-use Rattle.std.proofs.Common.{◌≡◌, ◌<◌, ◌≤◌, ◌+◌, ◌-◌, ◌==◌, ℕ, zero, suc, Bool, true, false, not, nat_eq, ◌&&◌, cond, Option, Some, None, get_or, refl, sym, ap, ◌∙◌, arith, ⊎_elim}
-use Rattle.std.specs.List.{list_all, position, range_with_len}
-use Rattle.std.proofs.lemmas.Bool.{eqb-true, eq-eqb, ne_eqb, cases_eq, cases_lt, lt-ltb, le-ltb, ltb-true, and_parts, false_from_ne_true, false≢true}
+use Rattle.std.proofs.Common.{◌≡◌, ◌<◌, ◌≤◌, ◌+◌, ◌-◌, ◌==◌, ℕ, zero, suc, Bool, true, false, not, nat_eq, ◌&&◌, cond, List, [], ◌∷◌, length, Option, Some, None, get_or, refl, sym, ap, ◌∙◌, arith, ⊎_elim}
+use Rattle.std.specs.List.{list_any, list_all, position, range_with_len}
+use Rattle.std.proofs.lemmas.Bool.{eqb-true, eq-eqb, ne_eqb, cases_eq, cases_lt, lt-ltb, le-ltb, ltb-true, and_parts, or_cases, false_from_ne_true, false≢true}
+use Rattle.std.specs.Prelude.{is_some}
+use Rattle.std.proofs.lemmas.List.Folds.{list_any_at}
 use Rattle.std.proofs.lemmas.List.Quantifiers.{position-Some}
 use Rattle.tg_instr.specs.declared.operands.Opnd.{Opnd}
 use Rattle.tg_instr.specs.declared.operands.Opnd.TheVariants.{Temp as TempOf, Reg}
@@ -9,6 +11,7 @@ use Rattle.tg_instr.specs.Operands.{is_same}
 use Rattle.tg_instr.specs.Codes.{is_below}
 use Rattle.tg_graph.specs.Interference.{is_register}
 use Rattle.tg_live.specs.Interference.{colours, is_colour, is_node, are_two_colours}
+use Rattle.tg_interference.proofs.Operands.{same_is}
 use Rattle.tg_interference.specs.Nodes.{temp_at, operand_at, node_of}
 
 -- a node is the one given
@@ -183,7 +186,8 @@ node_at n = ⊎_elim low high (cases_lt n 25)
   where
     low : n < 25 → is_node (operand_at n) ≡ true
     low l =
-        ap is_node (operand_low n l) ∙ row_at (λ k. is_colour (Reg (colour k))) 25 0 n colours_are_colours (omega arith) l
+        ap is_node (operand_low n l)
+        ∙ row_at (λ k. is_colour (Reg (colour k))) 25 0 n colours_are_colours (omega arith) l
 
     high : 25 ≤ n → is_node (operand_at n) ≡ true
     high l = ap is_node (operand_high n l)
@@ -194,3 +198,42 @@ two_colours x y =
     ap (λ b. b && (is_colour (operand_at y) && not (is_same (operand_at x) (operand_at y)))) (colour_at x)
     ∙ (ap (λ b. is_register x && (b && not (is_same (operand_at x) (operand_at y)))) (colour_at y)
     ∙ ap (λ b. is_register x && (is_register y && not b)) (same_nodes x y))
+
+-- Laws.
+
+pub no_other : (x : Opnd) (n : ℕ) → node_of x ≡ Some n → operand_at n ≡ x
+no_other x n e = same_is (operand_at n) x (same_at n x ∙ (ap (λ o. is_at o n) e ∙ eq-eqb n n refl))
+
+found_at : (p : ℕ → Bool) (xs : List ℕ) → list_any p xs ≡ true → (k : ℕ) × (k < length xs) × (p (get_or xs k 0) ≡ true)
+found_at p [] h = absurd (false≢true h)
+found_at p (x ∷ xs) h =
+    ⊎_elim (λ e. (0, omega arith, e)) (λ r. let f = found_at p xs r in (suc f.0, omega arith, f.2))
+    (or_cases (p x) (list_any p xs) h)
+
+both : (s t : Bool) → (s ≡ true → t ≡ true) → (t ≡ true → s ≡ true) → s ≡ t
+both true t f g = sym (f refl)
+both false true f g = g refl
+both false false f g = refl
+
+place_exists : (r : ℕ) → is_some (place r) ≡ list_any (nat_eq r) colours
+place_exists r = both (is_some (place r)) (list_any (nat_eq r) colours) there back
+  where
+    at : (o : Option ℕ) → place r ≡ o → is_some o ≡ true → list_any (nat_eq r) colours ≡ true
+    at None e h = absurd (false≢true h)
+    at (Some n) e h =
+        let k = placed r n e in
+        list_any_at (nat_eq r) colours n 0 k.0 (eq-eqb r (colour n) (sym k.1))
+
+    there : is_some (place r) ≡ true → list_any (nat_eq r) colours ≡ true
+    there h = at (place r) refl h
+
+    back : list_any (nat_eq r) colours ≡ true → is_some (place r) ≡ true
+    back h =
+        let f = found_at (nat_eq r) colours h in
+        ap (λ q. is_some (place q)) (eqb-true r (colour f.0) f.2)
+        ∙ ap (λ (o : Option ℕ). is_some o) (colour_place f.0 f.1)
+
+pub node_exists : (x : Opnd) → is_some (node_of x) ≡ is_node x
+unfolding node_of
+node_exists (TempOf t) = refl
+node_exists (Reg r) = place_exists r

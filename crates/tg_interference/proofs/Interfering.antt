@@ -31,7 +31,8 @@ joined_below all sets zero x y = false
 joined_below all sets (suc n) x y =
     joined_below all sets n x y || joined_of (slice_get all n) (set_at sets n) x y
 
-got : (all : List Instr) (at : ℕ) (one : Instr) → at < length all → one ≡ get_or all at one → slice_get all at ≡ Some one
+got : (all : List Instr) (at : ℕ) (one : Instr) → at < length all → one ≡ get_or all at one →
+    slice_get all at ≡ Some one
 got [] at one l e = absurd (omega arith)
 got (y ∷ all) zero one l e = ap Some (sym e)
 got (y ∷ all) (suc at) one l e = got all at one (omega arith) e
@@ -125,9 +126,13 @@ module _ (all : List Instr) (sets : Sets) (lives : AreLiveSets all sets) where
       cause : (x y : ℕ) → (joined_below all sets (length all) x y ≡ true) ⊎ (are_registers x y ≡ true) →
           (are_two_colours (operand_at x) (operand_at y) ≡ true)
           ⊎ (IsDefinedBeside all (operand_at x) (operand_at y) ⊎ IsDefinedBeside all (operand_at y) (operand_at x))
-      cause x y c = ⊎_elim (λ j. let p = at_some_place (length all) x y j in inr (⊎_elim (λ k. inl (beside p.0 x y k)) (λ
-          k. inr (beside p.0 y x k)) (or_cases (joins_of (slice_get all p.0) (set_at sets p.0) x y) (joins_of (slice_get
-          all p.0) (set_at sets p.0) y x) p.1))) (λ r. inl (registers x y ∙ r)) c
+      cause x y c =
+          ⊎_elim
+          (λ j. let p = at_some_place (length all) x y j in
+          let one = joins_of (slice_get all p.0) (set_at sets p.0) x y in
+          let other = joins_of (slice_get all p.0) (set_at sets p.0) y x in
+          inr (⊎_elim (λ k. inl (beside p.0 x y k)) (λ k. inr (beside p.0 y x k)) (or_cases one other p.1)))
+          (λ r. inl (registers x y ∙ r)) c
 
       caused : (x y : ℕ) → interferes graph x y ≡ true → Interferes all (operand_at x) (operand_at y)
       caused x y i = record {
@@ -136,11 +141,13 @@ module _ (all : List Instr) (sets : Sets) (lives : AreLiveSets all sets) where
         cause = cause x y (or_cases (joined_below all sets (length all) x y) (are_registers x y) (sym (h x y) ∙ i));
       }
 
-      by_first : (x y : ℕ) → IsDefinedBeside all (operand_at x) (operand_at y) → joined_below all sets (length all) x y ≡ true
+      by_first : (x y : ℕ) → IsDefinedBeside all (operand_at x) (operand_at y) →
+          joined_below all sets (length all) x y ≡ true
       by_first x y b = from_place (length all) b.at x y (within all b.at (operand_at x) (operand_at y) b.defines)
           (or_left (joins_of (slice_get all b.at) (set_at sets b.at) x y) _ (joined x y b))
 
-      by_second : (x y : ℕ) → IsDefinedBeside all (operand_at y) (operand_at x) → joined_below all sets (length all) x y ≡ true
+      by_second : (x y : ℕ) → IsDefinedBeside all (operand_at y) (operand_at x) →
+          joined_below all sets (length all) x y ≡ true
       by_second x y b = from_place (length all) b.at x y (within all b.at (operand_at y) (operand_at x) b.defines)
           (or_right (joins_of (slice_get all b.at) (set_at sets b.at) x y) _ (joined y x b))
 

@@ -149,10 +149,11 @@ mark_same all temps originals counts n c l = ⊎_elim low high (cases_lt n 25)
     })) (c.each (n - 25) (omega arith))
 
 -- a list of marks goes on with the next node's
-pub with_mark : (all : List Instr) (originals node : ℕ) (marks : List Mark) (mark : Mark) →
-    marks ≡ map (mark_of all originals) (range_with_len 0 node) → mark ≡ mark_of all originals node →
-    marks ++ mark ∷ [] ≡ map (mark_of all originals) (range_with_len 0 (node + 1))
-with_mark all originals node marks mark h e =
-    ap (λ xs. xs ++ mark ∷ []) h
+pub with_mark : (all : List Instr) (originals node : ℕ) (marks more : List Mark) (mark : Mark) →
+    more ≡ marks ++ mark ∷ [] → marks ≡ map (mark_of all originals) (range_with_len 0 node) →
+    mark ≡ mark_of all originals node → more ≡ map (mark_of all originals) (range_with_len 0 (node + 1))
+with_mark all originals node marks more mark n h e =
+    n
+    ∙ (ap (λ xs. xs ++ mark ∷ []) h
     ∙ (ap (λ m. map (mark_of all originals) (range_with_len 0 node) ++ m ∷ []) e
-    ∙ sym (map-range_with_len_more (mark_of all originals) 0 node node (omega arith)))
+    ∙ sym (map-range_with_len_more (mark_of all originals) 0 node node (omega arith))))

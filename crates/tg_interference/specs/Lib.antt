@@ -2,3 +2,4 @@ pub mod Nodes
 pub mod Moves
 pub mod Pairs
 pub mod Marks
+pub mod Laws

@@ -8,7 +8,8 @@ use Rattle.tg_live.specs.Interference.{Interferes}
 use Rattle.tg_rounds.specs.declared.moves.Move.{Move}
 use Rattle.tg_interference.specs.Nodes.{operand_at}
 
--- a node for each colour and each temporary, and two nodes interfere exactly where their operands do
+-- it has a node for each colour and each temporary, and two nodes interfere exactly where their
+-- operands do
 pub record IsInterference (all : List Instr) (temps : ℕ) (graph : Interference) : Type 0 where
   pub nodes : graph.nodes ≡ 25 + temps
   pub pairs : (x y : ℕ) →

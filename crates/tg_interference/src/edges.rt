@@ -147,7 +147,7 @@ fn join_nodes(node: u32, moved: Option<Move>, other: u32, graph: &mut Graph) -> 
     }
 }
 
-// Whether a definition is another node than one that is live, and no move of the other to it.
+// Whether a definition may not share a register with a node that is live behind it.
 fn is_apart(moved: Option<Move>, to: u32, other: u32) -> bool
     ensures { result ≡ is_apart moved to other }
 {

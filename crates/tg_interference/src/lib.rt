@@ -1,14 +1,17 @@
 //! What a round of the register allocator is given of a code (Appel, chapter 11; George and Appel
 //! 1996): its interference graph, the moves between its nodes, and what is known of each node.
-//! Promises all three exactly. The definitions stand in `specs/`.
+//! Promises all three exactly, and laws of nodes. The definitions stand in
+//! `specs/`.
 #![tactic(auto)]
 
 mod edges;
+mod laws;
 mod marks;
 mod moves;
 mod nodes;
 
 pub use edges::interference;
+pub use laws::nodes_are_operands;
 pub use marks::{Marks, marks_of};
 pub use moves::moves_of;
 pub use nodes::node_of;

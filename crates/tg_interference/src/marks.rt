@@ -35,8 +35,8 @@ use tg_rounds::Mark;
 /// One mark for each node, in the order of nodes.
 pub type Marks = ListOf<Mark>;
 
-/// How often each node of a code is used or defined, 0 for a register, and whether spilling has made
-/// it, as it has the temporaries whose numbers are `originals` or greater.
+/// How often each node of a code is used or defined, 0 for a register, and whether spilling has
+/// made it, as it has the temporaries whose numbers are `originals` or greater.
 pub fn marks_of(alloc: Global, code: &Code, originals: u32) -> Result<Marks, Memory>
     requires few { code.now.temps ≤ most_temps }
     requires short { length code.now.list * 48 < 2 ^ 32 }

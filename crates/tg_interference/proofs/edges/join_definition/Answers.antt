@@ -18,9 +18,9 @@ pub returns-in-Some-clause-pairs : goal.returns-in-Some-clause-pairs
 returns-in-Some-clause-pairs c =
     on_ok c.join_node.result (λ h. λ x y. h x y
     ∙ ap (λ b. b || interferes c.args.graph.now x y)
-    (both_same c.args.moved (λ n. n == c.in-Some.node) (λ n. is_same (operand_at n) c.args.definition.now) (has c.args.live.now)
-    (has c.args.live.now) (at_node c.args.definition.now c.in-Some.node c.in-Some.ensures) (λ n. refl) x
-    y)) c.join_node.ensures.pairs
+    (both_same c.args.moved (λ n. n == c.in-Some.node) (λ n. is_same (operand_at n) c.args.definition.now) (has
+    c.args.live.now) (has c.args.live.now) (at_node c.args.definition.now c.in-Some.node c.in-Some.ensures) (λ n. refl)
+    x y)) c.join_node.ensures.pairs
 
 pub returns-in-None-clause-pairs : goal.returns-in-None-clause-pairs
 returns-in-None-clause-pairs c = λ x y.

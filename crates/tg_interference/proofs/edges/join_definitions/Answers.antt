@@ -26,8 +26,8 @@ join_definition-requires-clause-temps c =
     let below = and_parts (list_all (is_below (n - 25)) (uses_of one)) (list_all (is_below (n - 25)) (defs_of
     one)) c.requires.temps in
     ap (λ k. is_below (k - 25) c.definition-item.result) c.loop-definition.invariant.nodes
-    ∙ all_read (is_below (n - 25)) c.as_slice-definition-items.result.now c.loop-definition.definition-index c.definition-item.result
-    c.loop-definition-test.true c.definition-item.is
+    ∙ all_read (is_below (n - 25)) c.as_slice-definition-items.result.now c.loop-definition.definition-index
+    c.definition-item.result c.loop-definition-test.true c.definition-item.is
     (ap (list_all (is_below (n - 25))) (c.as_slice-definition-items.ensures ∙ c.defs-defs.ensures) ∙ below.1)
 
 pub loop-definition-preserved : goal.loop-definition-preserved
@@ -36,7 +36,8 @@ loop-definition-preserved c =
     let i = c.loop-definition.definition-index in
     record {
       nodes = c.in_ok-join_definition.ensures.nodes ∙ c.loop-definition.invariant.nodes;
-      pairs = λ x y. joined_more _ _ _ _ _ _ (c.in_ok-join_definition.ensures.pairs x y) (c.loop-definition.invariant.pairs x y)
+      pairs = λ x y. joined_more _ _ _ _ _ _ (c.in_ok-join_definition.ensures.pairs x y)
+          (c.loop-definition.invariant.pairs x y)
           (defined_more c.move_of-moved.result (has (take (i + 1) items)) (has (take i items))
           (λ n. is_same (operand_at n) c.definition-item.result) (has c.args.live.now)
           (has_more items i c.definition-item.result c.loop-definition-test.true c.definition-item.is) x y);
@@ -48,5 +49,6 @@ returns-clause-pairs c = λ x y.
     let old = interferes c.args.graph.now x y in
     c.loop-definition.invariant.pairs x y
     ∙ (ap (λ (list : List Opnd). joins_both c.move_of-moved.result (has list) (has c.args.live.now) x y || old)
-    (take_all c.loop-definition.definition-index items c.loop-definition-test.false ∙ (c.as_slice-definition-items.ensures ∙ c.defs-defs.ensures))
+    (take_all c.loop-definition.definition-index items c.loop-definition-test.false
+    ∙ (c.as_slice-definition-items.ensures ∙ c.defs-defs.ensures))
     ∙ ap (λ m. joins_both m (has (defs_of c.args.one.now)) (has c.args.live.now) x y || old) c.move_of-moved.ensures)

@@ -18,8 +18,8 @@ returns-in-Some-clause-pairs c =
     on_ok c.join_nodes.result (λ h. λ x y. h x y
     ∙ ap (λ b. b || interferes c.args.graph.now x y)
     (both_same c.args.moved (λ n. n == c.args.node) (λ n. n == c.args.node) (λ n. n == c.in-Some.other)
-    (λ n. is_same (operand_at n) c.args.one.now) (λ n. refl) (at_node c.args.one.now c.in-Some.other c.in-Some.ensures) x
-    y)) c.join_nodes.ensures.pairs
+    (λ n. is_same (operand_at n) c.args.one.now) (λ n. refl)
+    (at_node c.args.one.now c.in-Some.other c.in-Some.ensures) x y)) c.join_nodes.ensures.pairs
 
 pub returns-in-None-clause-pairs : goal.returns-in-None-clause-pairs
 returns-in-None-clause-pairs c = λ x y.

@@ -26,7 +26,8 @@ count_instr-requires-clause-room c = λ t l.
     ap (λ (xs : List ℕ). length xs) c.as_mut_slice.ensures.value ∙ c.loop-one.invariant.size in
     let same : slice_index c.as_mut_slice.result.now t ≡ occurrences (temp t) (take i list) =
     ap (λ (xs : List ℕ). slice_index xs t) c.as_mut_slice.ensures.value ∙ c.loop-one.invariant.each t (omega arith) in
-    let long : length list ≡ length c.args.code.now.list = ap (λ (xs : List Instr). length xs) c.as_slice-list.ensures in
+    let long : length list ≡ length c.args.code.now.list =
+    ap (λ (xs : List Instr). length xs) c.as_slice-list.ensures in
     let short : length list * 48 < 2 ^ 32 = omega (arith, c.requires) in
     let room = room_for (temp t) list i c.one-item.result c.loop-one-test.true short in
     omega (arith, room, same)

@@ -11,6 +11,7 @@ loop-node-preserved c =
     let made : c.mark_of.result ≡ mark_of code.list c.args.originals node =
     c.mark_of.ensures
     ∙ (ap (λ (xs : List ℕ). mark_by (slice_index xs) c.args.originals node) c.as_slice.ensures.value
-    ∙ mark_same code.list code.temps c.args.originals c.in_ok-counts.counts.items node c.in_ok-counts.ensures (omega arith)) in
-    c.in_ok-push.ensures.items
-    ∙ with_mark code.list c.args.originals node c.loop-node.marks.items c.mark_of.result c.loop-node.invariant made
+    ∙ mark_same code.list code.temps c.args.originals c.in_ok-counts.counts.items node c.in_ok-counts.ensures
+    (omega arith)) in
+    with_mark code.list c.args.originals node c.loop-node.marks.items _ c.mark_of.result c.in_ok-push.ensures.items
+    c.loop-node.invariant made
