@@ -104,7 +104,8 @@ notes =
     ∷ record { at = 127; means = Variable 36 } ∷ record { at = 136; means = Standard Exit }
     ∷ record { at = 141; means = Function 13 } ∷ []
 
--- the uses of variables that make them escape, and the function whose static link the uses of x in h go through
+-- the uses of variables that make them escape, and the function whose static link the uses of x
+-- in h go through
 abbrev pub escaping : List ℕ
 escaping = 36 ∷ 36 ∷ 52 ∷ []
 

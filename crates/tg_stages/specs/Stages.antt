@@ -1,6 +1,7 @@
 -- The forms of a program, each made of the one before by a pass (Appel, chapters 6 to 11), and what
 -- each does when it runs.
-use Rattle.std.specs.Prelude.{ℕ, ◌+◌, ◌-◌, ◌*◌, ◌==◌, max, List, [], ◌∷◌, ◌++◌, map, filter, codes}
+use Rattle.std.specs.Prelude.{ℕ, ◌+◌, ◌-◌, ◌*◌, ◌==◌, max, List, [], ◌∷◌, ◌++◌, map, filter}
+use Rattle.std.specs.Prelude.{codes}
 use Rattle.std.specs.Prelude.{false}
 use Rattle.std.specs.Prelude.{nat_eq}
 use Rattle.std.specs.List.{flat_map, list_any}
@@ -129,7 +130,8 @@ module _ (program : Exp) (found : Findings) where
   abbrev pub image : Assembled
   image =
       image_of (texts.readings_of
-      (texts.Enter segment.Code ∷ texts.Globl (codes "main") ∷ flat_map lines_of in_frames.functions))
+      (texts.Enter segment.Code ∷ texts.Globl (codes "main")
+      ∷ flat_map lines_of in_frames.functions))
 
   -- Runs with so much fuel, on no input, with 64 bytes of heap, in each form.
 

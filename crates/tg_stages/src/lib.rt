@@ -1,5 +1,5 @@
-//! One program in every form that it takes on its way, computed by the definitions of the passes and
-//! of the meanings of their forms: it does the same in each.
+//! One program in every form that it takes on its way, computed by the definitions of the passes
+//! and of the meanings of their forms: it does the same in each.
 #![tactic(auto)]
 
 ghost use Rattle.tg_stages.specs.Laws.{
