@@ -1,0 +1,9 @@
+pub mod Graphs
+pub mod Policies
+pub mod States
+pub mod Steps
+pub mod Selection
+pub mod Rounds
+pub mod Laws
+pub mod Waiting
+pub mod Degrees
