@@ -1,5 +1,22 @@
-use crate::lists::{numbers, pour, singletons};
+ghost use Rattle.std.specs.Prelude.{
+  ◌≡◌,
+  ◌<◌,
+  ◌+◌,
+  ◌^◌,
+  All,
+  IfOk,
+  OnOk,
+  length,
+  map,
+  slice_index,
+  sum,
+};
+ghost use Rattle.tg_coalesce.specs.Groupings.{apart, is_made, joined};
+ghost use Rattle.tg_coalesce.specs.Lists.{set_at_all};
+
+use crate::lists::{move_sum, numbers, pour, singletons};
 use std::alloc::Global;
+use std::marker::Model;
 use tg_base::Memory;
 use tg_rounds::Mark;
 
@@ -14,9 +31,34 @@ pub(crate) struct Classes {
     made: Vec<bool>,
 }
 
+impl Model for Classes {
+    ghost use Rattle.tg_graph.specs.Keeping.{lists_of};
+    ghost use Rattle.tg_coalesce.specs.Groupings.{Grouping, IsGrouping};
+
+    ghost Value = { Grouping };
+
+    ghost view = { λ c. record {
+      aliases = c.aliases.items;
+      members = lists_of c.members.items;
+      uses = c.uses.items;
+      made = c.made.items;
+    } };
+
+    ghost invariant = { λ c. IsGrouping (record {
+      aliases = c.aliases.items;
+      members = lists_of c.members.items;
+      uses = c.uses.items;
+      made = c.made.items;
+    }) };
+}
+
 impl Classes {
     /// Each node in a class of its own.
-    pub(crate) fn new(alloc: Global, marks: &[Mark]) -> Result<Classes, Memory> {
+    pub(crate) fn new(alloc: Global, marks: &[Mark]) -> Result<Classes, Memory>
+        requires count { length marks.now < 2 ^ 32 }
+        requires few { sum (map (λ m. m.uses) marks.now) < 2 ^ 32 }
+        ensures { IfOk result (λ c. c ≡ apart marks.now) }
+    {
         let nodes = marks.len() as u32;
         Ok(Classes {
             aliases: numbers(alloc, nodes)?,
@@ -27,22 +69,37 @@ impl Classes {
     }
 
     /// The node under which a node's class stands.
-    pub(crate) fn alias(&self, node: u32) -> u32 {
+    pub(crate) fn alias(&self, node: u32) -> u32
+        requires { node < length self.now.aliases }
+        ensures value { result ≡ slice_index self.now.aliases node }
+        ensures within { result < length self.now.aliases }
+    {
         self.aliases[node as usize]
     }
 
     /// The sum of the uses of a class's members.
-    pub(crate) fn uses(&self, class: u32) -> u32 {
+    pub(crate) fn uses(&self, class: u32) -> u32
+        requires { class < length self.now.aliases }
+        ensures { result ≡ slice_index self.now.uses class }
+    {
         self.uses[class as usize]
     }
 
     /// Whether spilling has made all members of a class.
-    pub(crate) fn is_made(&self, class: u32) -> bool {
+    pub(crate) fn is_made(&self, class: u32) -> bool
+        requires { class < length self.now.aliases }
+        ensures { result ≡ is_made self.now class }
+    {
         self.made[class as usize]
     }
 
     /// Makes two classes one, which stands under `kept`.
-    pub(crate) fn join(&mut self, kept: u32, gone: u32) -> Result<(), Memory> {
+    pub(crate) fn join(&mut self, kept: u32, gone: u32) -> Result<(), Memory>
+        requires kept { kept < length self.old.aliases }
+        requires gone { gone < length self.old.aliases }
+        ensures ok { OnOk result (self.new ≡ joined kept gone self.old) }
+        ensures sized { length self.new.aliases ≡ length self.old.aliases }
+    {
         relabel(&mut self.aliases, &self.members[gone as usize], kept);
         pour(&mut self.members, kept, gone)?;
         move_sum(&mut self.uses, kept, gone);
@@ -51,16 +108,24 @@ impl Classes {
     }
 
     /// The node under which each node's class stands.
-    pub(crate) fn into_aliases(self) -> Vec<u32> {
-        self.aliases
+    pub(crate) fn aliases(&self) -> &[u32]
+        ensures value { result.now ≡ self.now.aliases }
+        ensures within { All (λ x. x < length self.now.aliases) result.now }
+    {
+        self.aliases.as_slice()
     }
 
-    pub(crate) fn aliases(&self) -> &[u32] {
-        self.aliases.as_slice()
+    /// The same, as a vector.
+    pub(crate) fn into_aliases(self) -> Vec<u32>
+        ensures { result.items ≡ self.aliases }
+    {
+        self.aliases
     }
 }
 
-fn uses_of(alloc: Global, marks: &[Mark]) -> Result<Vec<u32>, Memory> {
+fn uses_of(alloc: Global, marks: &[Mark]) -> Result<Vec<u32>, Memory>
+    ensures { IfOk result (λ v. v.items ≡ map (λ m. m.uses) marks.now) }
+{
     let mut uses = Vec::with_capacity(alloc, marks.len())?;
     for mark in marks {
         uses.push(mark.uses)?;
@@ -68,7 +133,9 @@ fn uses_of(alloc: Global, marks: &[Mark]) -> Result<Vec<u32>, Memory> {
     Ok(uses)
 }
 
-fn made_of(alloc: Global, marks: &[Mark]) -> Result<Vec<bool>, Memory> {
+fn made_of(alloc: Global, marks: &[Mark]) -> Result<Vec<bool>, Memory>
+    ensures { IfOk result (λ v. v.items ≡ map (λ m. m.made) marks.now) }
+{
     let mut made = Vec::with_capacity(alloc, marks.len())?;
     for mark in marks {
         made.push(mark.made)?;
@@ -77,15 +144,11 @@ fn made_of(alloc: Global, marks: &[Mark]) -> Result<Vec<bool>, Memory> {
 }
 
 /// Gives each of the members another alias.
-fn relabel(aliases: &mut [u32], members: &[u32], alias: u32) {
+fn relabel(aliases: &mut [u32], members: &[u32], alias: u32)
+    requires { All (λ x. x < length aliases.old) members.now }
+    ensures { aliases.new ≡ set_at_all alias members.now aliases.old }
+{
     for member in members {
         aliases[*member as usize] = alias;
     }
-}
-
-/// Adds one number to another, and leaves 0 in its place.
-fn move_sum(sums: &mut [u32], to: u32, from: u32) {
-    let more = sums[from as usize];
-    sums[from as usize] = 0;
-    sums[to as usize] += more;
 }
