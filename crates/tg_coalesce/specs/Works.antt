@@ -1,15 +1,16 @@
 -- The work of a round as the code keeps it, and how its parts change (George and Appel 1996,
 -- section 4 and appendix).
-use Rattle.std.specs.Prelude.{ℕ, ◌+◌, ◌-◌, ◌==◌, nat_lt, Bool, not, ◌&&◌, ◌||◌, if◌then◌else◌}
+use Rattle.std.specs.Prelude.{ℕ, ◌+◌, ◌-◌, ◌==◌, nat_lt, Bool, true, false, not, ◌&&◌, ◌||◌, if◌then◌else◌}
 use Rattle.std.specs.Prelude.{List, [], ◌∷◌, ◌++◌, length, fold, map, replicate, slice_index, slice_set}
 use Rattle.std.specs.Prelude.{slice_index_or}
 use Rattle.std.specs.List.{range_with_len}
 use Rattle.tg_graph.specs.declared.worklists.Worklist.{Worklist}
-use Rattle.tg_graph.specs.declared.worklists.Worklist.TheVariants.{Simplify, Freeze, Spill, Stacked}
+use Rattle.tg_graph.specs.declared.worklists.Worklist.TheVariants.{Fixed, Simplify, Freeze}
+use Rattle.tg_graph.specs.declared.worklists.Worklist.TheVariants.{Spill, Stacked, Merged}
 use Rattle.tg_graph.specs.Interference.{Interference, colours, is_register, is_among, neighbours}
 use Rattle.tg_graph.specs.Interference.{degree}
 use Rattle.tg_graph.specs.Lists as lists
-use Rattle.tg_graph.specs.Lists.{Lists, nodes_in, moved}
+use Rattle.tg_graph.specs.Lists.{Lists, moved}
 use Rattle.tg_rounds.specs.declared.candidates.Mark.{Mark}
 use Rattle.tg_rounds.specs.declared.moves.Move.{Move}
 use Rattle.tg_rounds.specs.declared.moves.MoveState.{MoveState}
@@ -33,6 +34,18 @@ pub record Work : Type 0 where
 abbrev pub degree_at : Work → ℕ → ℕ
 degree_at w x = slice_index w.degrees x
 
+-- the nodes of a list remain
+abbrev pub holds_remaining : Worklist → Bool
+holds_remaining Stacked = false
+holds_remaining Merged = false
+holds_remaining _ = true
+
+-- they are registers or have as many neighbours as there are colours
+abbrev pub holds_high : Worklist → Bool
+holds_high Fixed = true
+holds_high Spill = true
+holds_high _ = false
+
 -- a node was neither taken out nor merged into another
 abbrev pub is_left : Lists → ℕ → Bool
 is_left l x = not (is_among x l.stacked || is_among x l.merged)
@@ -54,9 +67,7 @@ list_of w x =
 -- a temporary that remains put into its list
 unfoldable pub relisted : ℕ → Work → Work
 relisted x w =
-    if is_open w x && not (is_among x (nodes_in w.lists (list_of w x)))
-    then record w { lists = moved w.lists x (list_of w x) }
-    else w
+    if is_open w x then record w { lists = moved w.lists x (list_of w x) } else w
 
 -- The classes of a move's ends.
 

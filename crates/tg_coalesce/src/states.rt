@@ -118,10 +118,7 @@ impl Coalescer {
         requires { node < self.now.graph.nodes }
         ensures { result ≡ is_left self.now.lists node }
     {
-        !matches!(
-            self.lists.place_of(node),
-            Worklist::Stacked | Worklist::Merged
-        )
+        holds_remaining(self.lists.place_of(node))
     }
 
     /// Whether a node that remains is a register or has as many neighbours as there are colours.
@@ -129,7 +126,7 @@ impl Coalescer {
         requires { node < self.now.graph.nodes }
         ensures { result ≡ is_high self.now.lists node }
     {
-        matches!(self.lists.place_of(node), Worklist::Fixed | Worklist::Spill)
+        holds_high(self.lists.place_of(node))
     }
 
     /// The worklist of a temporary that remains, by its degree and its moves.
@@ -153,9 +150,7 @@ impl Coalescer {
     {
         if !is_register(node) && self.remains(node) {
             let list = self.list_of(node);
-            if self.lists.place_of(node) != list {
-                self.lists.move_to(node, list);
-            }
+            self.lists.move_to(node, list);
         }
     }
 
@@ -203,6 +198,34 @@ impl Coalescer {
             self.moves.wake(*other)?;
         }
         Ok(())
+    }
+}
+
+/// Whether the nodes of a list remain.
+fn holds_remaining(list: Worklist) -> bool
+    ensures { result ≡ works.holds_remaining list }
+{
+    match list {
+        Worklist::Fixed => true,
+        Worklist::Simplify => true,
+        Worklist::Freeze => true,
+        Worklist::Spill => true,
+        Worklist::Stacked => false,
+        Worklist::Merged => false,
+    }
+}
+
+/// Whether the nodes of a list are registers or have as many neighbours as there are colours.
+fn holds_high(list: Worklist) -> bool
+    ensures { result ≡ works.holds_high list }
+{
+    match list {
+        Worklist::Fixed => true,
+        Worklist::Simplify => false,
+        Worklist::Freeze => false,
+        Worklist::Spill => true,
+        Worklist::Stacked => false,
+        Worklist::Merged => false,
     }
 }
 

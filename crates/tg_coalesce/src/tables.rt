@@ -16,6 +16,7 @@ ghost use Rattle.std.specs.Prelude.{
 };
 ghost use Rattle.std.specs.List.{range_with_len};
 ghost use Rattle.tg_graph.specs.Keeping.{lists_of};
+ghost use Rattle.tg_rounds.specs.States as states;
 ghost use Rattle.tg_coalesce.specs.Lists.{list_at, lowered, moved_sum};
 ghost use Rattle.tg_coalesce.specs.Tables as tables;
 ghost use Rattle.tg_coalesce.specs.Tables.{
@@ -101,10 +102,7 @@ impl MoveTable {
         requires { index < length self.now.moves }
         ensures { result ≡ tables.is_unsettled self.now index }
     {
-        matches!(
-            self.states[index as usize],
-            MoveState::Ready | MoveState::Waiting
-        )
+        is_ready_or_waiting(self.states[index as usize])
     }
 
     /// Whether an unsettled move ends in a class.
@@ -168,7 +166,7 @@ impl MoveTable {
         ensures sized { length self.new.touching ≡ length self.old.touching }
     {
         for index in &self.touching[class as usize] {
-            if self.states[*index as usize] == MoveState::Waiting {
+            if is_waiting(self.states[*index as usize]) {
                 self.states[*index as usize] = MoveState::Ready;
                 self.ready.push_back(*index)?;
             }
@@ -194,6 +192,30 @@ impl MoveTable {
         ensures states { result.1.items ≡ self.states }
     {
         (self.moves, self.states)
+    }
+}
+
+fn is_ready_or_waiting(state: MoveState) -> bool
+    ensures { result ≡ states.is_ready_or_waiting state }
+{
+    match state {
+        MoveState::Ready => true,
+        MoveState::Waiting => true,
+        MoveState::Coalesced => false,
+        MoveState::Constrained => false,
+        MoveState::Frozen => false,
+    }
+}
+
+fn is_waiting(state: MoveState) -> bool
+    ensures { result ≡ tables.is_waiting state }
+{
+    match state {
+        MoveState::Ready => false,
+        MoveState::Waiting => true,
+        MoveState::Coalesced => false,
+        MoveState::Constrained => false,
+        MoveState::Frozen => false,
     }
 }
 
