@@ -1,3 +1,4 @@
 pub mod Vectors
 pub mod Places
 pub mod Keeping
+pub mod Examples

@@ -6,3 +6,4 @@ pub mod Passing
 pub mod Steps
 pub mod Selecting
 pub mod Standing
+pub mod Advancing

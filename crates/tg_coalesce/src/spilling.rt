@@ -34,7 +34,7 @@ impl Coalescer {
             × (at < length (steps.candidates self.old))
             × IsTrue (rule policy.old (steps.candidates self.old) at)
             × (self.new ≡
-            spilled (colours + (candidate_at (steps.candidates self.old) at).temp) self.old)) }
+            spilled ((candidate_at (steps.candidates self.old) at).temp + colours) self.old)) }
         ensures same { rule policy.new ≡ rule policy.old }
     {
         let candidates = self.candidates(alloc)?;
