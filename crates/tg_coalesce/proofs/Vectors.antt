@@ -1,11 +1,18 @@
 -- Vectors of lists, and lists of the numbers of a range.
-use Rattle.std.proofs.Common.{◌≡◌, ℕ, suc, ◌+◌, ◌<◌, List, [], ◌∷◌, ◌++◌, length, get_or, set, Vec, map, replicate, refl, sym, ap, ◌∙◌, arith}
+use Rattle.std.proofs.Common.{◌≡◌, ℕ, ◌+◌, ◌<◌, true, false, Result, Ok, Err, OnErr, is_err, List, [], ◌∷◌, ◌++◌, length, get_or, set, Vec, map, refl, sym, ap, ◌∙◌, arith}
 use Rattle.std.specs.declared.alloc.Global.{Global}
 use Rattle.std.specs.List.{range_with_len}
 use Rattle.std.proofs.lemmas.List.{map-set, get_or-map, set-get_or, set-set, map_push}
 use Rattle.std.proofs.lemmas.List.FromFn.{map-range_with_len_more}
 use Rattle.tg_graph.specs.Keeping.{lists_of}
 use Rattle.tg_coalesce.specs.Lists.{list_at, singletons}
+
+pub at_err : {T E P : Type 0} (r : Result T E) → true ≡ is_err r → OnErr r P → P
+at_err (Ok x) e h = absurd (no e)
+  where
+    no : true ≡ false → ⊥
+    no p = cc
+at_err (Err x) e h = h
 
 -- one number more
 pub range_more : (n : ℕ) → range_with_len 0 (n + 1) ≡ range_with_len 0 n ++ n ∷ []

@@ -9,11 +9,11 @@ use Rattle.tg_graph.specs.Laws.{ArePartition}
 use Rattle.tg_rounds.specs.declared.moves.MoveState.{MoveState}
 use Rattle.tg_rounds.specs.declared.moves.MoveState.TheVariants.{Ready, Waiting}
 use Rattle.tg_rounds.specs.declared.rounds.Round.{Round}
-use Rattle.tg_rounds.specs.Graphs.{Graph, bit}
+use Rattle.tg_rounds.specs.Graphs.{Graph, IsGraph, bit}
 use Rattle.tg_rounds.specs.States.{Problem, problem, State, start, remains, low, is_move_related}
 use Rattle.tg_rounds.specs.States.{members, mark_at, all_made, is_ready_or_waiting}
 use Rattle.tg_rounds.specs.Steps.{can_move, AreTaken, after_all}
-use Rattle.tg_rounds.specs.Laws.{is_stacked}
+use Rattle.tg_rounds.specs.Laws.{AreNodes, is_stacked}
 use Rattle.tg_rounds.specs.Degrees.{degree_of}
 use Rattle.tg_coalesce.specs.Lists.{list_at}
 use Rattle.tg_coalesce.specs.Groupings.{IsGrouping, is_made}
@@ -150,6 +150,8 @@ module _ (w : Work) where
 
 -- the work is that of a run of the problem from its start
 pub record IsRunOf (g : Problem) (w : Work) : Type 0 where
+  pub graph : IsGraph g.graph
+  pub ends : AreNodes g
   pub nodes : w.graph.nodes ≡ g.graph.nodes
   pub moves : w.moves.moves ≡ g.moves
   pub steps : AreTaken g (start g) w.steps
