@@ -1,19 +1,11 @@
 -- Sums of lists in which numbers are moved.
-use Rattle.std.proofs.Common.{◌≡◌, ℕ, ◌+◌, ◌<◌, ◌≤◌, List, [], ◌∷◌, length, get_or, set, ◌∙◌, arith}
-use Rattle.std.specs.Prelude.{fold, sum, sum_by}
+use Rattle.std.proofs.Common.{◌≡◌, ℕ, ◌+◌, ◌<◌, ◌≤◌, List, length, get_or, set, refl, arith}
+use Rattle.std.specs.Prelude.{sum, sum_by}
 use Rattle.std.proofs.lemmas.List.{length-set}
 use Rattle.std.proofs.lemmas.List.Sums.{sum_by-set, get_or-le-sum_by}
 
-sum_from : (a : ℕ) (xs : List ℕ) → a + sum_by (λ x. x) xs ≡ fold ◌+◌ a xs
-sum_from a [] = omega arith
-sum_from a (x ∷ xs) =
-    let moved : a + (x + sum_by (λ x. x) xs) ≡ (a + x) + sum_by (λ x. x) xs = omega arith in
-    moved ∙ sum_from (a + x) xs
-
 sum_is : (xs : List ℕ) → sum_by (λ x. x) xs ≡ sum xs
-sum_is xs =
-    let first : sum_by (λ x. x) xs ≡ 0 + sum_by (λ x. x) xs = omega arith in
-    first ∙ sum_from 0 xs
+sum_is xs = refl
 
 -- a number and another, which is taken as 0 first, are within the sum
 pub both_within : (xs : List ℕ) (i j : ℕ) → i < length xs → j < length xs →
