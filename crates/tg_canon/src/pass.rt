@@ -1,4 +1,4 @@
-ghost use Rattle.std.specs.Prelude.{◌≡◌, ◌<◌, IfOk};
+ghost use Rattle.std.specs.Prelude.{IfOk};
 ghost use Rattle.tg_tree.specs.Plain.{plain_tx, plain_cond, plain_ts};
 ghost use Rattle.tg_tree.specs.Lists.{txs_of, stms_of};
 ghost use Rattle.tg_canon.specs.Canon as canon;
@@ -24,57 +24,42 @@ use crate::tested::{Tested, choose_by_parts, compare_both, is_whole};
 use tg_base::Memory;
 use tg_tree::{Cond, Stms, Ts, Tx, Txs};
 
-/// So deep trees may be nested, counting each walk into a part as one.
-const MOST_NESTED: u32 = 100_000;
-
-// How much deeper a part may be nested.
-fn descend(height: u32) -> Result<u32, Memory>
-    ensures { IfOk result (λ lower. lower < height) }
-{
-    if height > 0 {
-        Ok(height - 1)
-    } else {
-        Err(Memory)
-    }
-}
-
 // What is lifted out of an expression, and what is left of it.
 #[cycle(canon)]
-fn lift(x: Tx, supply: &mut Supply, breaks: &Breaks, height: u32) -> Result<Lifted, Memory>
+fn lift(x: Tx, supply: &mut Supply, breaks: &Breaks) -> Result<Lifted, Memory>
     ensures { IfOk result (λ a. Gives (canon.lift (leads breaks.now) (plain_tx x))
         supply.old.next (plain_lifted a) supply.new.next) }
 {
-    let lower = descend(height)?;
     match x {
         Tx::Const(n) => Ok(whole(supply.alloc, Tx::Const(n))),
         Tx::Address(label) => Ok(whole(supply.alloc, Tx::Address(label))),
         Tx::Temp(temp) => Ok(whole(supply.alloc, Tx::Temp(temp))),
         Tx::FrameAddress => Ok(whole(supply.alloc, Tx::FrameAddress)),
         Tx::Binary(op, x, y) => {
-            let b = lift_word(Box::into_inner(y), supply, breaks, lower)?;
-            let a = lift_word(Box::into_inner(x), supply, breaks, lower)?;
+            let b = lift_word(Box::into_inner(y), supply, breaks)?;
+            let a = lift_word(Box::into_inner(x), supply, breaks)?;
             let both = side_by_side(supply, a, b)?;
             Ok(operate(supply.alloc, op, both)?)
         }
         Tx::Load(x) => {
-            let a = lift_word(Box::into_inner(x), supply, breaks, lower)?;
+            let a = lift_word(Box::into_inner(x), supply, breaks)?;
             Ok(load_from(supply.alloc, a)?)
         }
         Tx::LoadByte(x) => {
-            let a = lift_word(Box::into_inner(x), supply, breaks, lower)?;
+            let a = lift_word(Box::into_inner(x), supply, breaks)?;
             Ok(load_byte_from(supply.alloc, a)?)
         }
         Tx::Call(label, xs) => {
-            let all = lift_all(xs, supply, breaks, lower)?;
+            let all = lift_all(xs, supply, breaks)?;
             Ok(call_of(label, all))
         }
         Tx::Service(number, x) => {
-            let a = lift_word(Box::into_inner(x), supply, breaks, lower)?;
+            let a = lift_word(Box::into_inner(x), supply, breaks)?;
             Ok(serve(supply.alloc, number, a)?)
         }
         Tx::After(s, x) => {
-            let a = lift(Box::into_inner(x), supply, breaks, lower)?;
-            let p = linear(Box::into_inner(s), supply, breaks, lower)?;
+            let a = lift(Box::into_inner(x), supply, breaks)?;
+            let p = linear(Box::into_inner(s), supply, breaks)?;
             Ok(behind(supply.alloc, p, a)?)
         }
     }
@@ -82,30 +67,23 @@ fn lift(x: Tx, supply: &mut Supply, breaks: &Breaks, height: u32) -> Result<Lift
 
 // The same, as a word.
 #[cycle(canon)]
-fn lift_word(x: Tx, supply: &mut Supply, breaks: &Breaks, height: u32) -> Result<Lifted, Memory>
+fn lift_word(x: Tx, supply: &mut Supply, breaks: &Breaks) -> Result<Lifted, Memory>
     ensures { IfOk result (λ a. Gives (canon.word (canon.lift (leads breaks.now) (plain_tx x)))
         supply.old.next (plain_lifted a) supply.new.next) }
 {
-    let lower = descend(height)?;
-    let a = lift(x, supply, breaks, lower)?;
+    let a = lift(x, supply, breaks)?;
     Ok(word(supply, a)?)
 }
 
 // A call's arguments, from the last to the first.
 #[cycle(canon)]
-fn lift_all(
-    mut xs: Txs,
-    supply: &mut Supply,
-    breaks: &Breaks,
-    height: u32,
-) -> Result<Arguments, Memory>
+fn lift_all(mut xs: Txs, supply: &mut Supply, breaks: &Breaks) -> Result<Arguments, Memory>
     ensures { IfOk result (λ all. Gives (canon.lift_all (leads breaks.now) (txs_of xs.items.items))
         supply.old.next (plain_arguments all) supply.new.next) }
 {
-    let lower = descend(height)?;
     let mut all = no_arguments(supply.alloc);
     while let Some(x) = xs.items.pop() {
-        let a = lift_word(x, supply, breaks, lower)?;
+        let a = lift_word(x, supply, breaks)?;
         all = argument(supply, a, all)?;
     }
     Ok(all)
@@ -113,35 +91,29 @@ fn lift_all(
 
 // A condition that stays whole.
 #[cycle(canon)]
-fn condition(
-    test: Cond,
-    supply: &mut Supply,
-    breaks: &Breaks,
-    height: u32,
-) -> Result<Tested, Memory>
+fn condition(test: Cond, supply: &mut Supply, breaks: &Breaks) -> Result<Tested, Memory>
     ensures { IfOk result (λ t. Gives (canon.condition (leads breaks.now) (plain_cond test))
         supply.old.next (plain_tested t) supply.new.next) }
 {
-    let lower = descend(height)?;
     match test {
         Cond::Compare(rel, x, y) => {
-            let b = lift_word(Box::into_inner(y), supply, breaks, lower)?;
-            let a = lift_word(Box::into_inner(x), supply, breaks, lower)?;
+            let b = lift_word(Box::into_inner(y), supply, breaks)?;
+            let a = lift_word(Box::into_inner(x), supply, breaks)?;
             let both = side_by_side(supply, a, b)?;
             Ok(compare_both(supply.alloc, rel, both)?)
         }
         Cond::Not(c) => {
-            let t = condition(Box::into_inner(c), supply, breaks, lower)?;
+            let t = condition(Box::into_inner(c), supply, breaks)?;
             Ok(t.opposite(supply.alloc)?)
         }
         Cond::Both(c, d) => {
-            let u = condition(Box::into_inner(d), supply, breaks, lower)?;
-            let t = condition(Box::into_inner(c), supply, breaks, lower)?;
+            let u = condition(Box::into_inner(d), supply, breaks)?;
+            let t = condition(Box::into_inner(c), supply, breaks)?;
             Ok(t.and(supply.alloc, u)?)
         }
         Cond::Either(c, d) => {
-            let u = condition(Box::into_inner(d), supply, breaks, lower)?;
-            let t = condition(Box::into_inner(c), supply, breaks, lower)?;
+            let u = condition(Box::into_inner(d), supply, breaks)?;
+            let t = condition(Box::into_inner(c), supply, breaks)?;
             Ok(t.or(supply.alloc, u)?)
         }
     }
@@ -155,45 +127,43 @@ fn leave(
     breaks: &Breaks,
     when: bool,
     loops: u32,
-    height: u32,
 ) -> Result<Part, Memory>
     ensures { IfOk result (λ p. Gives (canon.leave (leads breaks.now) when loops (plain_cond test))
         supply.old.next (plain_part p) supply.new.next) }
 {
-    let lower = descend(height)?;
     match test {
         Cond::Compare(rel, x, y) => {
-            let b = lift_word(Box::into_inner(y), supply, breaks, lower)?;
-            let a = lift_word(Box::into_inner(x), supply, breaks, lower)?;
+            let b = lift_word(Box::into_inner(y), supply, breaks)?;
+            let a = lift_word(Box::into_inner(x), supply, breaks)?;
             let both = side_by_side(supply, a, b)?;
             let t = compare_both(supply.alloc, rel, both)?;
             Ok(t.exit_where(supply.alloc, when, loops)?)
         }
-        Cond::Not(c) => Ok(leave(Box::into_inner(c), supply, breaks, !when, loops, lower)?),
+        Cond::Not(c) => Ok(leave(Box::into_inner(c), supply, breaks, !when, loops)?),
         Cond::Both(c, d) => {
             if when {
                 let inner = Breaks::Deeper(1, breaks);
                 let further = more_loops(loops, 1)?;
-                let q = leave(Box::into_inner(d), supply, &inner, true, further, lower)?;
-                let p = leave(Box::into_inner(c), supply, &inner, false, 0, lower)?;
+                let q = leave(Box::into_inner(d), supply, &inner, true, further)?;
+                let p = leave(Box::into_inner(c), supply, &inner, false, 0)?;
                 let both = p.before(supply.alloc, q)?;
                 Ok(both.block(supply.alloc)?)
             } else {
-                let q = leave(Box::into_inner(d), supply, breaks, false, loops, lower)?;
-                let p = leave(Box::into_inner(c), supply, breaks, false, loops, lower)?;
+                let q = leave(Box::into_inner(d), supply, breaks, false, loops)?;
+                let p = leave(Box::into_inner(c), supply, breaks, false, loops)?;
                 Ok(p.before(supply.alloc, q)?)
             }
         }
         Cond::Either(c, d) => {
             if when {
-                let q = leave(Box::into_inner(d), supply, breaks, true, loops, lower)?;
-                let p = leave(Box::into_inner(c), supply, breaks, true, loops, lower)?;
+                let q = leave(Box::into_inner(d), supply, breaks, true, loops)?;
+                let p = leave(Box::into_inner(c), supply, breaks, true, loops)?;
                 Ok(p.before(supply.alloc, q)?)
             } else {
                 let inner = Breaks::Deeper(1, breaks);
                 let further = more_loops(loops, 1)?;
-                let q = leave(Box::into_inner(d), supply, &inner, false, further, lower)?;
-                let p = leave(Box::into_inner(c), supply, &inner, true, 0, lower)?;
+                let q = leave(Box::into_inner(d), supply, &inner, false, further)?;
+                let p = leave(Box::into_inner(c), supply, &inner, true, 0)?;
                 let both = p.before(supply.alloc, q)?;
                 Ok(both.block(supply.alloc)?)
             }
@@ -203,52 +173,51 @@ fn leave(
 
 // A statement in canonical form.
 #[cycle(canon)]
-fn linear(s: Ts, supply: &mut Supply, breaks: &Breaks, height: u32) -> Result<Part, Memory>
+fn linear(s: Ts, supply: &mut Supply, breaks: &Breaks) -> Result<Part, Memory>
     ensures { IfOk result (λ p. Gives (canon.linear (leads breaks.now) (plain_ts s))
         supply.old.next (plain_part p) supply.new.next) }
 {
-    let lower = descend(height)?;
     match s {
         Ts::Move(temp, x) => {
-            let a = lift(x, supply, breaks, lower)?;
+            let a = lift(x, supply, breaks)?;
             Ok(move_to(supply.alloc, temp, a)?)
         }
         Ts::Store(x, y) => {
-            let b = lift_word(y, supply, breaks, lower)?;
-            let a = lift_word(x, supply, breaks, lower)?;
+            let b = lift_word(y, supply, breaks)?;
+            let a = lift_word(x, supply, breaks)?;
             let both = side_by_side(supply, a, b)?;
             Ok(store(supply.alloc, both)?)
         }
         Ts::StoreByte(x, y) => {
-            let b = lift_word(y, supply, breaks, lower)?;
-            let a = lift_word(x, supply, breaks, lower)?;
+            let b = lift_word(y, supply, breaks)?;
+            let a = lift_word(x, supply, breaks)?;
             let both = side_by_side(supply, a, b)?;
             Ok(store_byte(supply.alloc, both)?)
         }
         Ts::Do(x) => {
-            let a = lift(x, supply, breaks, lower)?;
+            let a = lift(x, supply, breaks)?;
             Ok(drop_value(supply.alloc, a)?)
         }
         Ts::If(test, this, other) => {
             let this = Box::into_inner(this);
             let other = Box::into_inner(other);
             if is_whole(&test) {
-                let q = linear(other, supply, breaks, lower)?;
-                let p = linear(this, supply, breaks, lower)?;
-                let t = condition(test, supply, breaks, lower)?;
+                let q = linear(other, supply, breaks)?;
+                let p = linear(this, supply, breaks)?;
+                let t = condition(test, supply, breaks)?;
                 Ok(t.choose(supply.alloc, p, q)?)
             } else {
                 let once = Breaks::Deeper(1, breaks);
                 let twice = Breaks::Deeper(2, breaks);
-                let q = linear(other, supply, &once, lower)?;
-                let p = linear(this, supply, &twice, lower)?;
-                let t = leave(test, supply, &twice, false, 0, lower)?;
+                let q = linear(other, supply, &once)?;
+                let p = linear(this, supply, &twice)?;
+                let t = leave(test, supply, &twice, false, 0)?;
                 Ok(choose_by_parts(supply.alloc, t, p, q)?)
             }
         }
         Ts::Loop(s) => {
             let inner = Breaks::Inside(breaks);
-            let p = linear(Box::into_inner(s), supply, &inner, lower)?;
+            let p = linear(Box::into_inner(s), supply, &inner)?;
             Ok(p.repeated(supply.alloc)?)
         }
         Ts::Break(loops) => {
@@ -257,11 +226,11 @@ fn linear(s: Ts, supply: &mut Supply, breaks: &Breaks, height: u32) -> Result<Pa
         }
         Ts::Fault(number) => Ok(Part::still(Ts::Fault(number))),
         Ts::Seq(ss) => {
-            let all = linear_all(ss, supply, breaks, lower)?;
+            let all = linear_all(ss, supply, breaks)?;
             Ok(all.in_turn())
         }
         Ts::Return(x) => {
-            let a = lift_word(x, supply, breaks, lower)?;
+            let a = lift_word(x, supply, breaks)?;
             Ok(return_of(supply.alloc, a)?)
         }
     }
@@ -269,19 +238,13 @@ fn linear(s: Ts, supply: &mut Supply, breaks: &Breaks, height: u32) -> Result<Pa
 
 // Statements, from the last to the first.
 #[cycle(canon)]
-fn linear_all(
-    mut ss: Stms,
-    supply: &mut Supply,
-    breaks: &Breaks,
-    height: u32,
-) -> Result<Parts, Memory>
+fn linear_all(mut ss: Stms, supply: &mut Supply, breaks: &Breaks) -> Result<Parts, Memory>
     ensures { IfOk result (λ all. Gives (canon.linear_all (leads breaks.now) (stms_of ss.items.items))
         supply.old.next (plain_parts all) supply.new.next) }
 {
-    let lower = descend(height)?;
     let mut all = Parts::new(supply.alloc);
     while let Some(s) = ss.items.pop() {
-        let p = linear(s, supply, breaks, lower)?;
+        let p = linear(s, supply, breaks)?;
         all.put_in_front(p)?;
     }
     Ok(all)
@@ -293,5 +256,5 @@ pub(crate) fn linear_body(body: Ts, supply: &mut Supply) -> Result<Part, Memory>
         supply.old.next (plain_part p) supply.new.next) }
 {
     let breaks = Breaks::Body;
-    Ok(linear(body, supply, &breaks, MOST_NESTED)?)
+    Ok(linear(body, supply, &breaks)?)
 }

@@ -1,4 +1,4 @@
-use Rattle.std.proofs.Common.{not, sym, ap, ◌∙◌}
+use Rattle.std.proofs.Common.{not, sym, ap, ◌∙◌, rules}
 use Rattle.tg_tree.specs.Plain.{plain_tx, plain_cond, plain_ts}
 use Rattle.tg_tree.specs.Lists.{txs_of, stms_of}
 use Rattle.tg_canon.specs.Canon.{deeper, inside}
@@ -55,15 +55,15 @@ lift_word-returns t c =
 
 pub lift_all-loop-x-init : goal.lift_all-loop-x-init
 lift_all-loop-x-init t c =
-    arguments_begin (leads c.args.breaks.now) c.args.xs.items.items c.no_arguments-all.ensures
+    record { no_deeper = search rules; walked = arguments_begin (leads c.args.breaks.now) c.args.xs.items.items c.no_arguments-all.ensures }
 
 pub lift_all-loop-x-preserved : goal.lift_all-loop-x-preserved
 lift_all-loop-x-preserved t c =
-    argument_more (leads c.args.breaks.now) c.in-Some.x c.loop-x.invariant c.in-Some.ensures.items c.in_ok-a.ensures c.in_ok-all.ensures
+    record { no_deeper = search rules; walked = argument_more (leads c.args.breaks.now) c.in-Some.x c.loop-x.invariant.walked c.in-Some.ensures.items c.in_ok-a.ensures c.in_ok-all.ensures }
 
 pub lift_all-returns : goal.lift_all-returns
 lift_all-returns t c =
-    ends_with c.loop-x.invariant (none_left c.loop-x.xs.items.items (sym c.loop-x.xs.items.ok.0 ∙ c.in_default.ensures.cases.0))
+    ends_with c.loop-x.invariant.walked (none_left c.loop-x.xs.items.items (sym c.loop-x.xs.items.ok.0 ∙ c.in_default.ensures.cases.0))
 
 pub condition-returns-in_ok-compare_both-in-Compare : goal.condition-returns-in_ok-compare_both-in-Compare
 condition-returns-in_ok-compare_both-in-Compare t c =
@@ -139,12 +139,12 @@ linear-returns-in_ok-choose_by_parts-in-If t c =
 
 pub linear_all-loop-s-init : goal.linear_all-loop-s-init
 linear_all-loop-s-init t c =
-    statements_begin (leads c.args.breaks.now) c.args.ss.items.items c.new-all.ensures
+    record { no_deeper = search rules; walked = statements_begin (leads c.args.breaks.now) c.args.ss.items.items c.new-all.ensures }
 
 pub linear_all-loop-s-preserved : goal.linear_all-loop-s-preserved
 linear_all-loop-s-preserved t c =
-    statement_more (leads c.args.breaks.now) c.in-Some.s c.loop-s.invariant c.in-Some.ensures.items c.in_ok-p.ensures c.in_ok-put_in_front.ensures
+    record { no_deeper = search rules; walked = statement_more (leads c.args.breaks.now) c.in-Some.s c.loop-s.invariant.walked c.in-Some.ensures.items c.in_ok-p.ensures c.in_ok-put_in_front.ensures }
 
 pub linear_all-returns : goal.linear_all-returns
 linear_all-returns t c =
-    ends_with c.loop-s.invariant (none_left c.loop-s.ss.items.items (sym c.loop-s.ss.items.ok.0 ∙ c.in_default.ensures.cases.0))
+    ends_with c.loop-s.invariant.walked (none_left c.loop-s.ss.items.items (sym c.loop-s.ss.items.ok.0 ∙ c.in_default.ensures.cases.0))

@@ -5,31 +5,18 @@ use Rattle.tg_canon.proofs.Walks.{StatementsWalked, ArgumentsWalked}
 use Rattle.tg_canon.proofs.pass.+canon.Given as goal
 
 abbrev pub invariant-lift_all-loop-x : goal.invariant-lift_all-loop-x
-invariant-lift_all-loop-x l = ArgumentsWalked (leads l.breaks) l.fn.xs.items.items l.fn.supply.next l.xs.items.items (plain_arguments l.all) l.supply.next
+invariant-lift_all-loop-x l = record {
+  no_deeper : goal.no_deeper-lift_all-loop-x l;
+  walked :
+      ArgumentsWalked (leads l.breaks) l.fn.xs.items.items l.fn.supply.next l.xs.items.items (plain_arguments l.all) l.supply.next;
+}
 
 abbrev pub invariant-linear_all-loop-s : goal.invariant-linear_all-loop-s
-invariant-linear_all-loop-s l = StatementsWalked (leads l.breaks) l.fn.ss.items.items l.fn.supply.next l.ss.items.items (plain_parts l.all) l.supply.next
-
-abbrev pub decreases-lift : goal.decreases-lift
-decreases-lift l = l.height
-
-abbrev pub decreases-lift_word : goal.decreases-lift_word
-decreases-lift_word l = l.height
-
-abbrev pub decreases-lift_all : goal.decreases-lift_all
-decreases-lift_all l = l.height
-
-abbrev pub decreases-condition : goal.decreases-condition
-decreases-condition l = l.height
-
-abbrev pub decreases-leave : goal.decreases-leave
-decreases-leave l = l.height
-
-abbrev pub decreases-linear : goal.decreases-linear
-decreases-linear l = l.height
-
-abbrev pub decreases-linear_all : goal.decreases-linear_all
-decreases-linear_all l = l.height
+invariant-linear_all-loop-s l = record {
+  no_deeper : goal.no_deeper-linear_all-loop-s l;
+  walked :
+      StatementsWalked (leads l.breaks) l.fn.ss.items.items l.fn.supply.next l.ss.items.items (plain_parts l.all) l.supply.next;
+}
 
 abbrev pub decreases-lift_all-loop-x : goal.decreases-lift_all-loop-x
 decreases-lift_all-loop-x l = length l.xs.items.items
