@@ -11,8 +11,9 @@ pub mod Walking
 pub mod Shaped
 pub mod Typed
 pub mod Reaching
-pub mod Adding
-pub mod Slots
-pub mod Drawing
+pub mod Near
+pub mod Taking
+pub mod Charges
+pub mod Measured
 pub mod Bounding
 pub mod Shaping

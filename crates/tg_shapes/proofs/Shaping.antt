@@ -28,7 +28,7 @@ use Rattle.tg_translate.specs.Translate.{translated}
 use Rattle.tg_shapes.specs.Laws.{names, ProgramsAreLinked, LabelsAreAbove, BodiesAreClosed, CheckedBodiesAreClosed, TemporariesAreDrawn, CheckedReaches, CheckedTemporariesAreDrawn, LiteralsAreStrings, LiteralsAreShort, findings_in}
 use Rattle.tg_shapes.proofs.Shaped.{has_shape, linked, above, closed_one, temps_one}
 use Rattle.tg_shapes.specs.Strings.{strings}
-use Rattle.tg_shapes.proofs.Adding.{literals_are}
+use Rattle.tg_shapes.proofs.Measured.{literals_are}
 use Rattle.tg_shapes.proofs.Fine.{Each}
 use Rattle.tg_shapes.proofs.Scoping.{named_cases}
 use Rattle.tg_shapes.proofs.Typed.{breaks_stand}
