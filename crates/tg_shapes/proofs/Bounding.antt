@@ -1,5 +1,5 @@
 -- Functions of accepted programs are small.
-use Rattle.std.proofs.Common.{◌≡◌, ◌≤◌, ◌+◌, ℕ, suc, Bool, true, false, Option, Some, None, List, [], ◌∷◌, ◌++◌, length, refl, subst, arith}
+use Rattle.std.proofs.Common.{◌≡◌, ◌≤◌, ◌+◌, ℕ, suc, Bool, true, false, Option, Some, None, List, [], ◌∷◌, ◌++◌, refl, subst, arith}
 use Rattle.std.specs.Prelude.{nat_lt, if◌then◌else◌}
 use Rattle.std.specs.List.{AllZip}
 use Rattle.std.proofs.lemmas.Bool.Decides.{nat_tests}
@@ -14,7 +14,7 @@ use Rattle.tg_tree.specs.Tree.{Ts, Function}
 use Rattle.tg_types.specs.declared.faults.TypeRule.{TypeRule}
 use Rattle.tg_types.specs.declared.faults.TypeRule.TheVariants.{T20, T21, T22}
 use Rattle.tg_types.specs.Laws.{CheckedHasType}
-use Rattle.tg_types.specs.Limits.{above, limit_fault, first_above}
+use Rattle.tg_types.specs.Limits.{above, first_above}
 use Rattle.tg_translate.specs.Scopes.{found}
 use Rattle.tg_translate.specs.Translate.{translated}
 use Rattle.tg_shapes.specs.Laws.{IsWithin, IsSmall, CheckedFramesAreSmall}

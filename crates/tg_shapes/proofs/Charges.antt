@@ -1,5 +1,5 @@
 -- What each construct takes, of parts that go so far.
-use Rattle.std.proofs.Common.{◌≡◌, ◌≤◌, ◌+◌, ℕ, suc, Bool, true, false, Option, Some, None, List, [], ◌∷◌, ◌++◌, map, refl, append-nil, arith}
+use Rattle.std.proofs.Common.{◌≤◌, ◌+◌, ℕ, Bool, true, false, Option, Some, None, List, [], ◌∷◌, ◌++◌, refl, arith}
 use Rattle.std.specs.Prelude.{◌==◌, ◌||◌, if◌then◌else◌}
 use Rattle.std.proofs.lemmas.List.{map-append}
 use Rattle.tg_frame.specs.declared.accesses.Access.{Access}
@@ -10,12 +10,12 @@ use Rattle.tg_syntax.specs.Tree.{FunDecs, no_functions, function}
 use Rattle.tg_types.specs.declared.notes.Means.{Means}
 use Rattle.tg_types.specs.declared.notes.Means.TheVariants as means
 use Rattle.tg_tree.specs.declared.operators.Bin.TheVariants as bin
-use Rattle.tg_tree.specs.Tree.{Tx, Const, Address, Temp, Binary, After, Txs, Cond, Ts, Move, Return, Stms, no_stms, stm}
+use Rattle.tg_tree.specs.Tree.{Tx, Const, Temp, Binary, After, Txs, Cond, Ts, Move, Return, Stms, no_stms, stm}
 use Rattle.tg_translate.specs.declared.homes.Within.{Within}
 use Rattle.tg_translate.specs.declared.operands.Operand.TheVariants.{Number, Kept}
 use Rattle.tg_translate.specs.declared.wants.Want.{Want}
 use Rattle.tg_translate.specs.declared.wants.Want.TheVariants as want
-use Rattle.tg_translate.specs.States.{State, Acts, drawn, after, give}
+use Rattle.tg_translate.specs.States.{State, Acts, after, give}
 use Rattle.tg_translate.specs.Wants.{Made, value, done, test, truth_into, value_of, put_in, dropped, test_of, arms, deliver, followed, value_behind, done_behind, behind_some, behind}
 use Rattle.tg_translate.specs.Constructs.{Place, in_temp, at_address, operand, keep, hold, HeldAll, hold_next, own_place, store_at, want_for, assign, field_of, field_place, element_of, element_place, call_routine, record_of, make_record, product_of, quotient_of, checked_quotient, minus_one, quotient, comparison, operation, count_of, count, string_text}
 use Rattle.tg_translate.specs.Choices.{tested, chosen}

@@ -1,6 +1,6 @@
 -- The walk over a program's text for what its translation takes and adds: slots and temporaries of frames, literals, functions in their order, and how
 -- far trees go for what they read and write.
-use Rattle.std.proofs.Common.{◌≡◌, ◌≤◌, ◌+◌, ◌*◌, ℕ, suc, Bool, true, false, Option, List, [], ◌∷◌, ◌++◌, length, map, refl, sym, subst, arith}
+use Rattle.std.proofs.Common.{◌≡◌, ◌≤◌, ◌+◌, ◌*◌, ℕ, suc, Bool, true, false, List, [], ◌∷◌, length, map, refl, sym, subst, arith}
 use Rattle.std.specs.Prelude.{is_some}
 use Rattle.std.specs.List.{AllZip}
 use Rattle.tg_frame.specs.Homes.{slots_of, temps_of}
@@ -30,7 +30,7 @@ use Rattle.tg_shapes.specs.Escaped.{one_of, params_escaping, escaping, place_esc
 use Rattle.tg_shapes.specs.Strings.{strings, place_strings, exps_strings, inits_strings, decs_strings, bodies_strings}
 use Rattle.tg_shapes.specs.Laws.{IsWithin}
 use Rattle.tg_shapes.proofs.Near.{IsTx, AreTxs, IsCond, IsTs, AreStms, IsMade, IsPlace, join_txs_near, followed_near, dropped_near, test_near, statement_near, deliver_near, read_near, negation_near}
-use Rattle.tg_shapes.proofs.Taking.{Cost, adds, left, HasSlots, Takes, both, at_most, more, then_draws, then_quiet, draws_then, quiet_then, adds_then, gives, finished}
+use Rattle.tg_shapes.proofs.Taking.{Cost, adds, HasSlots, Takes, both, more, then_draws, then_quiet, draws_then, quiet_then, adds_then, gives, finished}
 use Rattle.tg_shapes.proofs.Charges.{arms_takes, declares, declares_functions, values_takes, behind_takes, hold_next_takes, assign_takes, field_takes, element_takes, count_takes, record_takes, place_takes, call_takes, closing_takes, literal_takes, declaration_takes, left_takes}
 
 -- how many temporaries each part draws at most, without the functions that it declares
