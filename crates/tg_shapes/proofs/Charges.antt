@@ -24,7 +24,8 @@ use Rattle.tg_translate.specs.Functions.{at_of, declare_functions, gives_nothing
 use Rattle.tg_translate.specs.Translate.{connective, with_left, declaration_of}
 use Rattle.tg_shapes.specs.Escaped.{one_of}
 use Rattle.tg_shapes.proofs.Near.{IsTx, AreTxs, IsCond, IsTs, AreStms, IsMade, IsPlace, followed_near, truth_near, put_near, dropped_near, test_near, deliver_near, tested_near, chosen_near, own_place_near, home_near, store_near, field_near, element_near, record_near, product_near, quotient_near, comparison_near, count_near, declared_near}
-use Rattle.tg_shapes.proofs.Taking.{Cost, draws, adds, left, Takes, adds_none, both, more, then_draws, then_quiet, draws_then, quiet_then, keeps, gives, draws_one}
+use Rattle.tg_shapes.proofs.Actions.{left}
+use Rattle.tg_shapes.proofs.Taking.{Cost, draws, adds, Takes, adds_none, both, more, then_draws, then_quiet, draws_then, quiet_then, keeps, gives, draws_one}
 
 pub arms_takes : (w : Want) (s : State) → Takes (draws 1) (λ a. Unit {0}) s (arms w s)
 arms_takes want.Value s = then_quiet (draws_one s) λ t s _. gives s (want.Into (record { 0 = t })) tt

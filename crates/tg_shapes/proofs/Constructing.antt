@@ -21,7 +21,7 @@ use Rattle.tg_translate.specs.States.{State, Acts, Drawn, after, give, fresh}
 use Rattle.tg_translate.specs.Wants.{Made, value, test, value_of, put_in, followed}
 use Rattle.tg_translate.specs.Constructs.{minus_one, least_int, plus, operand, Held, keep, hold, HeldAll, hold_next, own_link, frame_out, Place, in_temp, at_address, place_in, own_place, after_all, read, store_at, want_for, assign, nil_check, index_check, zero_check, product_check, quotient_check, field_of, field_place, element_of, element_place, call_routine, store_field, store_fields, call_for_record, record_of, make_record, make_array, comparison, product_of, product, quotient_of, checked_quotient, quotient, operation, negation, repeat_while, first_minus_one, assign_value, turn_of, turns, count_of, count}
 use Rattle.tg_shapes.proofs.Keeping as keeping
-use Rattle.tg_shapes.proofs.Keeping.{Where}
+use Rattle.tg_shapes.proofs.Keeping.{Where, access_on, bind, draws_temp, given, held_on, onward, operand_on, operands_on, stms_on, ts_on, tx_on}
 use Rattle.tg_shapes.proofs.Wanting as wanting
 
 module _ (B T : Type 0) (escapes : ℕ → Bool) where
@@ -267,14 +267,11 @@ module _ (B T : Type 0) (escapes : ℕ → Bool) where
     keep_yields : (s : State) (before : Stms) (x : Tx) → Ready c s → GoodStms c.loops s before → GoodTx c.loops s x →
         Yields c s (HeldWell c.loops) (keep before x s)
     keep_yields s before x r h k =
-        keeping.bind B T escapes c s (λ t i. T → i < t.frame.temps) (HeldWell c.loops) (fresh s)
-        (λ t. give (record { before = followed before (Move t x); operand = Kept (record { 0 = t }) }))
-        (keeping.draws_temp B T escapes c s r)
-        (λ i t st r' j. keeping.given B T escapes c t (HeldWell c.loops)
-        (record { before = followed before (Move i x); operand = Kept (record { 0 = i }) }) r' (
+        bind (draws_temp r)
+        (λ i t st r' j. given (record { before = followed before (Move i x); operand = Kept (record { 0 = i }) }) r' (
           wanting.followed_good B T escapes c.loops t before (Move i x)
-              (keeping.stms_on B T escapes c.kept s t st c.loops before h)
-              (j, keeping.tx_on B T escapes c.kept s t st c.loops x k),
+              (stms_on st c.loops before h)
+              (j, tx_on st c.loops x k),
           j,
         ))
 
@@ -282,9 +279,9 @@ module _ (B T : Type 0) (escapes : ℕ → Bool) where
         c.loops s x →
         Yields c s (HeldWell c.loops) (hold direct before x s)
     hold_yields s direct before (Const n) r h k =
-        keeping.given B T escapes c s (HeldWell c.loops) (record { before = before; operand = Number n }) r (h, tt)
+        given (record { before = before; operand = Number n }) r (h, tt)
     hold_yields s true before (Temp t) r h k =
-        keeping.given B T escapes c s (HeldWell c.loops) (record { before = before; operand = Kept (record { 0 = t }) })
+        given (record { before = before; operand = Kept (record { 0 = t }) })
         r (h, k)
     hold_yields s false before (Temp t) r h k = keep_yields s before (Temp t) r h k
     hold_yields s direct before x r h k = keep_yields s before x r h k
@@ -293,36 +290,30 @@ module _ (B T : Type 0) (escapes : ℕ → Bool) where
         GoodTx c.loops s x →
         Yields c s (λ t held. GoodHeld c.loops t held) (hold_next direct all x s)
     hold_next_yields s direct all x r h k =
-        keeping.bind B T escapes c s (HeldWell c.loops) (λ t held. GoodHeld c.loops t held) (hold direct all.before x s)
-        (λ held. give (record { before = held.before; operands = all.operands ++ held.operand ∷ [] }))
-        (hold_yields s direct all.before x r h.0 k)
+        bind (hold_yields s direct all.before x r h.0 k)
         (λ held t st r' j.
-        keeping.given B T escapes c t (λ u held. GoodHeld c.loops u held)
-        (record { before = held.before; operands = all.operands ++ held.operand ∷ [] }) r' (
+        given (record { before = held.before; operands = all.operands ++ held.operand ∷ [] }) r' (
           j.0,
-          more_operands t all.operands held.operand (keeping.operands_on B T escapes c.kept s t st all.operands h.1)
+          more_operands t all.operands held.operand (operands_on st all.operands h.1)
               j.1,
         ))
 
     pub assign_yields : (s : State) (p : Place) (m : Made) → Ready c s → GoodPlace c.loops s p → GoodMade c.loops s m →
         Yields c s (λ t x. GoodTs c.loops t x) (assign p m s)
     assign_yields s (in_temp i) m r h k =
-        keeping.given B T escapes c s (λ t x. GoodTs c.loops t x) (put_in i m) r
+        given (put_in i m) r
         (wanting.put_good B T escapes c.loops s i m h k)
     assign_yields s (at_address before a) m r h k =
-        keeping.bind B T escapes c s (λ t x. GoodTx c.loops t x) (λ t x. GoodTs c.loops t x) (value_of m s)
-        (λ x. give (store_at before a x)) (wanting.value_yields B T escapes c s m r k)
-        (λ x t st r' j. keeping.given B T escapes c t (λ u x. GoodTs c.loops u x) (store_at before a x) r'
-        (store_good c.loops t before a x (keeping.stms_on B T escapes c.kept s t st c.loops before h.0)
-        (keeping.tx_on B T escapes c.kept s t st c.loops a h.1) j))
+        bind (wanting.value_yields B T escapes c s m r k)
+        (λ x t st r' j. given (store_at before a x) r'
+        (store_good c.loops t before a x (stms_on st c.loops before h.0)
+        (tx_on st c.loops a h.1) j))
 
     pub field_yields : (s : State) (k : ℕ) (x : Tx) → Ready c s → GoodTx c.loops s x →
         Yields c s (λ t p. GoodPlace c.loops t p) (field_place k x s)
     field_yields s k x r h =
-        keeping.bind B T escapes c s (HeldWell c.loops) (λ t p. GoodPlace c.loops t p) (hold true no_stms x s)
-        (λ held. give (field_of k held.before (operand held.operand))) (hold_yields s true no_stms x r tt h)
-        (λ held t st r' j. keeping.given B T escapes c t (λ u p. GoodPlace c.loops u p)
-        (field_of k held.before (operand held.operand)) r'
+        bind (hold_yields s true no_stms x r tt h)
+        (λ held t st r' j. given (field_of k held.before (operand held.operand)) r'
         (field_good c.loops t k held.before (operand held.operand) j.0 (operand_good c.loops t held.operand j.1)))
 
     -- two values are held, one behind the other
@@ -332,20 +323,17 @@ module _ (B T : Type 0) (escapes : ℕ → Bool) where
       both_held : (s : State) → Ready c s → GoodTx c.loops s x → GoodTx c.loops s y →
           Yields c s W (after (hold direct no_stms x s) (λ l t. after (hold also l.before y t) (λ h. next l h)))
       both_held s r h k =
-          keeping.bind B T escapes c s (HeldWell c.loops) W (hold direct no_stms x s)
-          (λ l t. after (hold also l.before y t) (λ h. next l h)) (hold_yields s direct no_stms x r tt h)
+          bind (hold_yields s direct no_stms x r tt h)
           (λ l t st r' j.
-          keeping.bind B T escapes c t (HeldWell c.loops) W (hold also l.before y t) (λ h. next l h)
-          (hold_yields t also l.before y r' j.0 (keeping.tx_on B T escapes c.kept s t st c.loops y k))
-          (λ h u st' r'' i. made l h u r'' (keeping.operand_on B T escapes c.kept t u st' l.operand j.1) i))
+          bind (hold_yields t also l.before y r' j.0 (tx_on st c.loops y k))
+          (λ h u st' r'' i. made l h u r'' (operand_on st' l.operand j.1) i))
 
     pub element_yields : (s : State) (direct : Bool) (x y : Tx) → Ready c s → GoodTx c.loops s x → GoodTx c.loops s y →
         Yields c s (λ t p. GoodPlace c.loops t p) (element_place direct x y s)
     element_yields s direct x y r h k =
         both_held (λ t p. GoodPlace c.loops t p) direct true x y
         (λ a i. give (element_of i.before (operand a.operand) (operand i.operand)))
-        (λ a i t r' j l. keeping.given B T escapes c t (λ u p. GoodPlace c.loops u p)
-        (element_of i.before (operand a.operand) (operand i.operand)) r'
+        (λ a i t r' j l. given (element_of i.before (operand a.operand) (operand i.operand)) r'
         (element_good c.loops t i.before (operand a.operand) (operand i.operand) l.0
         (operand_good c.loops t a.operand j)
         (operand_good c.loops t i.operand l.1))) s r h k
@@ -353,11 +341,9 @@ module _ (B T : Type 0) (escapes : ℕ → Bool) where
     pub record_yields : (s : State) (all : HeldAll) → Ready c s → GoodHeld c.loops s all → Yields c s
         (λ t m. GoodMade c.loops t m) (make_record all s)
     record_yields s all r h =
-        keeping.bind B T escapes c s (λ t i. T → i < t.frame.temps) (λ t m. GoodMade c.loops t m) (fresh s)
-        (λ i. give (record_of i all))
-        (keeping.draws_temp B T escapes c s r)
-        (λ i t st r' j. keeping.given B T escapes c t (λ u m. GoodMade c.loops u m) (record_of i all) r'
-        (record_good c.loops t i all j (keeping.held_on B T escapes c.kept s t st c.loops all h)))
+        bind (draws_temp r)
+        (λ i t st r' j. given (record_of i all) r'
+        (record_good c.loops t i all j (held_on st c.loops all h)))
 
     product_yields : (s : State) (direct : Bool) (x y : Tx) → Ready c s → GoodTx c.loops s x → GoodTx c.loops s y →
         Yields c s (λ t m. GoodMade c.loops t m) (product direct x y s)
@@ -365,23 +351,19 @@ module _ (B T : Type 0) (escapes : ℕ → Bool) where
         both_held (λ t m. GoodMade c.loops t m) direct true x y
         (λ a b t. after (fresh t) (λ p. give (product_of p b.before (operand a.operand) (operand b.operand))))
         (λ a b t r' j l.
-        keeping.bind B T escapes c t (λ u i. T → i < u.frame.temps) (λ u m. GoodMade c.loops u m) (fresh t)
-        (λ p. give (product_of p b.before (operand a.operand) (operand b.operand)))
-        (keeping.draws_temp B T escapes c t r')
-        (λ p u st r'' i. keeping.given B T escapes c u (λ v m. GoodMade c.loops v m)
-        (product_of p b.before (operand a.operand) (operand b.operand)) r''
+        bind (draws_temp r')
+        (λ p u st r'' i. given (product_of p b.before (operand a.operand) (operand b.operand)) r''
         (product_good c.loops u p b.before (operand a.operand) (operand b.operand) i
-        (keeping.stms_on B T escapes c.kept t u st c.loops b.before l.0)
-        (operand_good c.loops u a.operand (keeping.operand_on B T escapes c.kept t u st a.operand j))
-        (operand_good c.loops u b.operand (keeping.operand_on B T escapes c.kept t u st b.operand l.1))))) s r h k
+        (stms_on st c.loops b.before l.0)
+        (operand_good c.loops u a.operand (operand_on st a.operand j))
+        (operand_good c.loops u b.operand (operand_on st b.operand l.1))))) s r h k
 
     checked_yields : (s : State) (direct : Bool) (x y : Tx) → Ready c s → GoodTx c.loops s x → GoodTx c.loops s y →
         Yields c s (λ t m. GoodMade c.loops t m) (checked_quotient direct x y s)
     checked_yields s direct x y r h k =
         both_held (λ t m. GoodMade c.loops t m) direct true x y
         (λ a b. give (quotient_of b.before (operand a.operand) (operand b.operand)))
-        (λ a b t r' j l. keeping.given B T escapes c t (λ u m. GoodMade c.loops u m)
-        (quotient_of b.before (operand a.operand) (operand b.operand)) r'
+        (λ a b t r' j l. given (quotient_of b.before (operand a.operand) (operand b.operand)) r'
         (quotient_good c.loops t b.before (operand a.operand) (operand b.operand) l.0
         (operand_good c.loops t a.operand j)
         (operand_good c.loops t b.operand l.1))) s r h k
@@ -391,7 +373,7 @@ module _ (B T : Type 0) (escapes : ℕ → Bool) where
         (value (Binary bin.Div x (Const k)))) s)
     by_number_yields s direct x k true r h = checked_yields s direct x (Const k) r h tt
     by_number_yields s direct x k false r h =
-        keeping.given B T escapes c s (λ t m. GoodMade c.loops t m) (value (Binary bin.Div x (Const k))) r (h, tt)
+        given (value (Binary bin.Div x (Const k))) r (h, tt)
 
     quotient_yields : (s : State) (direct : Bool) (x y : Tx) → Ready c s → GoodTx c.loops s x → GoodTx c.loops s y →
         Yields c s (λ t m. GoodMade c.loops t m) (quotient direct x y s)
@@ -402,16 +384,16 @@ module _ (B T : Type 0) (escapes : ℕ → Bool) where
         s y →
         Yields c s (λ t m. GoodMade c.loops t m) (give (test (comparison o strings x y)) s)
     compared_yields s o strings x y r h k =
-        keeping.given B T escapes c s (λ t m. GoodMade c.loops t m) (test (comparison o strings x y)) r
+        given (test (comparison o strings x y)) r
         (comparison_good c.loops s o strings x y h k)
 
     pub operation_yields : (s : State) (o : Op) (strings direct : Bool) (x y : Tx) → Ready c s → GoodTx c.loops s x →
         GoodTx c.loops s y →
         Yields c s (λ t m. GoodMade c.loops t m) (operation o strings direct x y s)
     operation_yields s op.Plus strings direct x y r h k =
-        keeping.given B T escapes c s (λ t m. GoodMade c.loops t m) (value (Binary bin.AddTrap x y)) r (h, k)
+        given (value (Binary bin.AddTrap x y)) r (h, k)
     operation_yields s op.Minus strings direct x y r h k =
-        keeping.given B T escapes c s (λ t m. GoodMade c.loops t m) (value (Binary bin.SubTrap x y)) r (h, k)
+        given (value (Binary bin.SubTrap x y)) r (h, k)
     operation_yields s op.Times strings direct x y r h k = product_yields s direct x y r h k
     operation_yields s op.Divide strings direct x y r h k = quotient_yields s direct x y r h k
     operation_yields s o strings direct x y r h k = compared_yields s o strings x y r h k
@@ -420,15 +402,11 @@ module _ (B T : Type 0) (escapes : ℕ → Bool) where
         x → GoodTx c.loops s y →
         GoodTs (c.loops + 1) s turn → Yields c s (λ t m. GoodTs c.loops t m) (count i x y turn s)
     count_yields s i x y turn r a h k g =
-        keeping.bind B T escapes c s (HeldWell c.loops) (λ t m. GoodTs c.loops t m) (hold false no_stms x s)
-        (λ l t. after (hold false l.before y t) (λ h. give (count_of h.before i l.operand h.operand turn)))
-        (hold_yields s false no_stms x r tt h)
+        bind (hold_yields s false no_stms x r tt h)
         (λ l t st r' j.
-        keeping.bind B T escapes c t (HeldWell c.loops) (λ u m. GoodTs c.loops u m) (hold false l.before y t)
-        (λ h. give (count_of h.before i l.operand h.operand turn))
-        (hold_yields t false l.before y r' j.0 (keeping.tx_on B T escapes c.kept s t st c.loops y k))
-        (λ h u st' r'' q. let on = keeping.onward B T escapes st st' in
-        keeping.given B T escapes c u (λ v m. GoodTs c.loops v m) (count_of h.before i l.operand h.operand turn) r''
-        (count_good c.loops u h.before i l.operand h.operand turn q.0 (keeping.access_on B T escapes c.kept s u on i a)
-        (keeping.operand_on B T escapes c.kept t u st' l.operand j.1) q.1
-        (keeping.ts_on B T escapes c.kept s u on (c.loops + 1) turn g))))
+        bind (hold_yields t false l.before y r' j.0 (tx_on st c.loops y k))
+        (λ h u st' r'' q. let on = onward st st' in
+        given (count_of h.before i l.operand h.operand turn) r''
+        (count_good c.loops u h.before i l.operand h.operand turn q.0 (access_on on i a)
+        (operand_on st' l.operand j.1) q.1
+        (ts_on on (c.loops + 1) turn g))))

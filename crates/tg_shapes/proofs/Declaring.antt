@@ -14,6 +14,7 @@ use Rattle.tg_translate.specs.Constructs.{in_body, in_test}
 use Rattle.tg_translate.specs.Scopes.{Findings, declare_variable}
 use Rattle.tg_translate.specs.Functions.{at_of, asked, parameters, own_homes}
 use Rattle.tg_shapes.specs.Standing.{AreApart, params_of, owned_by}
+use Rattle.tg_shapes.proofs.Actions.{left}
 use Rattle.tg_shapes.proofs.Keeping as keeping
 use Rattle.tg_shapes.proofs.Keeping.{Where}
 use Rattle.tg_shapes.proofs.Scoping.{named_cases, named_other, more_contained, first_contained, behind_first}
@@ -37,6 +38,58 @@ owned_more (types _ rest) own at h = owned_more rest own at h
 owned_more (variable x _ _ rest) own at h = owned_more rest (at_of x ∷ own) at (more_contained (at_of x) at own h)
 owned_more (functions _ rest) own at h = owned_more rest own at h
 
+-- Parts are entered and left.
+module _ {B T : Type 0} {escapes : ℕ → Bool} where
+  -- a part is left, in which no fewer variables were the function's
+  pub leave : {c d : Where} {s t : State} → ((at : ℕ) → Contains c.own at → Contains d.own at) → s.frame.temps ≤ t.frame.temps →
+      keeping.Ready B T escapes c s → keeping.Ready B T escapes d t → keeping.Ready B T escapes c t
+  leave f h r q = record {
+    from = q.from;
+    callees = q.callees;
+    unused = q.unused;
+    functions = q.functions;
+    owned = λ a at home k e. q.owned a at home (f at k) e;
+    slots = q.slots;
+    link = λ a l e. let k = r.link a l e in omega (arith, k, h);
+    loops = r.loops;
+  }
+
+  pub leave_with : {A : Type 0} {c d : Where} {s : State} {V : State → A → Type 0} {dr : Drawn A} → d.kept ≡ c.kept →
+      ((at : ℕ) → Contains c.own at → Contains d.own at) →
+      keeping.Ready B T escapes c s → keeping.Yields B T escapes d s V dr → keeping.Yields B T escapes c s (λ t a. V t a × keeping.Ready B T escapes d t) dr
+  leave_with {s = s} {dr = dr} e f r h =
+      let st = subst (λ k. keeping.Step B T escapes k s (left dr)) e h.step in
+      record { step = st; ready = leave f st.temps r h.ready; value = (h.value, h.ready) }
+
+  pub leave_yields : {A : Type 0} {c d : Where} {s : State} {V : State → A → Type 0} {dr : Drawn A} → d.kept ≡ c.kept →
+      ((at : ℕ) → Contains c.own at → Contains d.own at) →
+      keeping.Ready B T escapes c s → keeping.Yields B T escapes d s V dr → keeping.Yields B T escapes c s V dr
+  leave_yields e f r h = let k = leave_with e f r h in record { step = k.step; ready = k.ready; value = k.value.0 }
+
+  pub enter_turn : {c : Where} {s : State} → keeping.Ready B T escapes c s → keeping.Ready B T escapes (turning c) s
+  enter_turn r = record {
+    from = r.from;
+    callees = r.callees;
+    unused = r.unused;
+    functions = r.functions;
+    owned = r.owned;
+    slots = r.slots;
+    link = r.link;
+    loops = λ b e. omega arith;
+  }
+
+  pub enter_test : {c : Where} {s : State} → keeping.Ready B T escapes c s → keeping.Ready B T escapes (testing c) s
+  enter_test r = record {
+    from = r.from;
+    callees = r.callees;
+    unused = r.unused;
+    functions = r.functions;
+    owned = r.owned;
+    slots = r.slots;
+    link = r.link;
+    loops = λ b e. let h = r.loops b e in omega (arith, h);
+  }
+
 module _ (B T : Type 0) (findings : Findings) where
   abbrev Ready : Where → State → Type 0
   Ready = keeping.Ready B T findings.escapes
@@ -52,57 +105,6 @@ module _ (B T : Type 0) (findings : Findings) where
 
   abbrev IsDrawn : ℕ → Access → Type 0
   IsDrawn = keeping.IsDrawn B T findings.escapes
-
-  -- a part is left, in which no fewer variables were the function's
-  pub leave : (c d : Where) (s t : State) → ((at : ℕ) → Contains c.own at → Contains d.own at) → s.frame.temps ≤
-      t.frame.temps →
-      Ready c s → Ready d t → Ready c t
-  leave c d s t f h r q = record {
-    from = q.from;
-    callees = q.callees;
-    unused = q.unused;
-    functions = q.functions;
-    owned = λ a at home k e. q.owned a at home (f at k) e;
-    slots = q.slots;
-    link = λ a l e. let k = r.link a l e in omega (arith, k, h);
-    loops = r.loops;
-  }
-
-  pub leave_yields : {A : Type 0} (c d : Where) (s : State) (V : State → A → Type 0) (dr : Drawn A) →
-      d.kept ≡ c.kept → ((at : ℕ) → Contains c.own at → Contains d.own at) → Ready c s → Yields d s V dr → Yields c s V
-      dr
-  leave_yields c d s V (drawn a t) e f r h =
-      let st : Step c.kept s t = subst (λ k. Step k s t) e h.0 in (st, leave c d s t f st.temps r h.1, h.2)
-
-  pub leave_with : {A : Type 0} (c d : Where) (s : State) (V : State → A → Type 0) (dr : Drawn A) →
-      d.kept ≡ c.kept → ((at : ℕ) → Contains c.own at → Contains d.own at) → Ready c s → Yields d s V dr →
-      Yields c s (λ t a. V t a × Ready d t) dr
-  leave_with c d s V (drawn a t) e f r h =
-      let st : Step c.kept s t = subst (λ k. Step k s t) e h.0 in (st, leave c d s t f st.temps r h.1, (h.2, h.1))
-
-  pub enter_turn : (c : Where) (s : State) → Ready c s → Ready (turning c) s
-  enter_turn c s r = record {
-    from = r.from;
-    callees = r.callees;
-    unused = r.unused;
-    functions = r.functions;
-    owned = r.owned;
-    slots = r.slots;
-    link = r.link;
-    loops = λ b e. omega arith;
-  }
-
-  pub enter_test : (c : Where) (s : State) → Ready c s → Ready (testing c) s
-  enter_test c s r = record {
-    from = r.from;
-    callees = r.callees;
-    unused = r.unused;
-    functions = r.functions;
-    owned = r.owned;
-    slots = r.slots;
-    link = r.link;
-    loops = λ b e. let h = r.loops b e in omega (arith, h);
-  }
 
   -- A variable is declared.
 
@@ -153,30 +155,24 @@ module _ (B T : Type 0) (findings : Findings) where
   abbrev pub Declares : (c : Where) (at : ℕ) → State → Access → Type 0
   Declares c at t a = GoodAccess t a × Ready (owning at c) t
 
+  home_yields : (c : Where) (s : State) (at : ℕ) (f : Frame) (a : Access) → f.label ≡ s.frame.label → s.frame.temps ≤ f.temps →
+      GoodAccess (with_home at c.within.level f a s) a → IsDrawn f.temps a → (findings.escapes at ≡ true → IsTrue (is_slot a)) → Ready c s →
+      (T → AreApart (at ∷ []) c.kept) → Yields c s (Declares c at) (drawn a (with_home at c.within.level f a s))
+  home_yields c s at f a e h g d sl r apart =
+      let q = home_ready c s at c.within.level f a h d sl r in
+      record {
+        step = home_step c.kept s at c.within.level f a e h apart;
+        ready = leave (λ x k. more_contained at x c.own k) h r q;
+        value = (g, q);
+      }
+
   declared_as : (c : Where) (s : State) (at : ℕ) (b : Bool) → findings.escapes at ≡ b → Ready c s →
       (T → AreApart (at ∷ []) c.kept) →
       Yields c s (Declares c at) (declare_variable b c.within.level at s)
   declared_as c s at true e r apart =
-      let q : Ready (owning at c) (with_home at c.within.level (one_slot s.frame) (InFrame s.frame.slots) s) =
-      home_ready c s at c.within.level (one_slot s.frame) (InFrame s.frame.slots) (omega arith) tt (λ k. refl) r in (
-        home_step c.kept s at c.within.level (one_slot s.frame) (InFrame s.frame.slots) refl (omega arith) apart,
-        leave c (owning at c) s (with_home at c.within.level (one_slot s.frame) (InFrame s.frame.slots) s)
-            (λ x k. more_contained at x c.own k)
-            (omega arith) r q,
-        (tt, q),
-      )
+      home_yields c s at (one_slot s.frame) (InFrame s.frame.slots) refl (omega arith) tt tt (λ k. refl) r apart
   declared_as c s at false e r apart =
-      let q : Ready (owning at c) (with_home at c.within.level (one_temp s.frame)
-      (InTemp (record { 0 = s.frame.temps })) s) =
-      home_ready c s at c.within.level (one_temp s.frame) (InTemp (record { 0 = s.frame.temps })) (omega arith)
-      (omega arith) (λ k. cc) r in (
-        home_step c.kept s at c.within.level (one_temp s.frame) (InTemp (record { 0 = s.frame.temps })) refl
-            (omega arith) apart,
-        leave c (owning at c) s (with_home at c.within.level (one_temp s.frame) (InTemp (record { 0 = s.frame.temps }))
-            s) (λ x k. more_contained at x c.own k)
-            (omega arith) r q,
-        ((λ t. omega arith), q),
-      )
+      home_yields c s at (one_temp s.frame) (InTemp (record { 0 = s.frame.temps })) refl (omega arith) (λ t. omega arith) (omega arith) (λ k. cc) r apart
 
   pub declare_yields : (c : Where) (s : State) (at : ℕ) → Ready c s → (T → AreApart (at ∷ []) c.kept) →
       Yields c s (Declares c at) (declare_variable (findings.escapes at) c.within.level at s)

@@ -19,6 +19,7 @@ use Rattle.tg_translate.specs.States.{State, Frame, Acts, Drawn, drawn, after, g
 use Rattle.tg_translate.specs.Wants.{Made, value, done, test}
 use Rattle.tg_translate.specs.Constructs.{Place, in_temp, at_address, HeldAll}
 use Rattle.tg_shapes.proofs.Fine.{Each, FineTs, FineStms, FineTx, FineTxs, FineCond, widen_ts, widen_stms, widen_tx, widen_txs, widen_cond}
+use Rattle.tg_shapes.proofs.Actions.{answer, left}
 use Rattle.tg_shapes.proofs.Counts.{times, below}
 
 -- a part of a text: the loops around it, whether one of them is open for a break, the variables of its function, and
@@ -83,53 +84,11 @@ module _ (B T : Type 0) (escapes : ℕ → Bool) where
     pub link : T → 0 < c.within.level → c.within.link_in_slot ≡ false → 0 < s.frame.temps
     pub loops : B → c.in_loop ≡ true → c.within.leave < c.loops
 
-  abbrev pub Yields : {A : Type 0} → Where → State → (State → A → Type 0) → Drawn A → Type 0
-  Yields c s V (drawn a t) = Step c.kept s t × Ready c t × V t a
-
-  -- Steps follow one another.
-
-  pub stay : (kept : List ℕ) (s : State) → Step kept s s
-  stay kept s = record {
-    label = omega arith;
-    temps = omega arith;
-    name = refl;
-    callees = λ l h. h;
-    literals = λ l h. h;
-    balance = λ n. refl;
-    homes = λ t at h. refl;
-  }
-
-  pub onward : {kept : List ℕ} {s t u : State} → Step kept s t → Step kept t u → Step kept s u
-  onward {s} {t} {u} h k = record {
-    label = omega (arith, h.label, k.label);
-    temps = omega (arith, h.temps, k.temps);
-    name = k.name ∙ h.name;
-    callees = λ l c. k.callees l (h.callees l c);
-    literals = λ l c. k.literals l (h.literals l c);
-    balance = λ n. let p = h.balance n in let q = k.balance n in omega (arith, p, q);
-    homes = λ t at c. k.homes t at c ∙ h.homes t at c;
-  }
-
-  lifted : {A : Type 0} (c : Where) (s t : State) (W : State → A → Type 0) (d : Drawn A) → Step c.kept s t → Yields c t
-      W d → Yields c s W d
-  lifted c s t W (drawn a u) h k = (onward h k.0, k.1, k.2)
-
-  pub bind :
-      {A C : Type 0} (c : Where) (s : State) (V : State → A → Type 0) (W : State → C → Type 0) (d : Drawn A)
-      (next : A → Acts C) →
-      Yields c s V d →
-      ((a : A) (t : State) → Step c.kept s t → Ready c t → V t a → Yields c t W (next a t)) →
-      Yields c s W (after d next)
-  bind c s V W (drawn a t) next h k = lifted c s t W (next a t) h.0 (k a t h.0 h.1 h.2)
-
-  pub given : {A : Type 0} (c : Where) (s : State) (V : State → A → Type 0) (a : A) → Ready c s → V s a → Yields c s V
-      (give a s)
-  given c s V a r v = (stay c.kept s, r, v)
-
-  pub weaker :
-      {A : Type 0} (c : Where) (s : State) (V W : State → A → Type 0) (d : Drawn A) →
-      ((t : State) (a : A) → V t a → W t a) → Yields c s V d → Yields c s W d
-  weaker c s V W (drawn a t) f h = (h.0, h.1, f t a h.2)
+  -- an action takes a step, from where a part may go on, and what it gives is fine there
+  pub record Yields {A : Type 0} (c : Where) (s : State) (V : State → A → Type 0) (d : Drawn A) : Type 0 where
+    pub step : Step c.kept s (left d)
+    pub ready : Ready c (left d)
+    pub value : V (left d) (answer d)
 
   -- What is fine stays fine.
 
@@ -203,55 +162,6 @@ module _ (B T : Type 0) (escapes : ℕ → Bool) where
   GoodAccess s (InTemp t) = T → t.0 < s.frame.temps
   GoodAccess s (InFrame k) = Unit {0}
 
-  module _ (kept : List ℕ) (s t : State) (h : Step kept s t) where
-    pub tx_on : (n : ℕ) (x : Tx) → GoodTx n s x → GoodTx n t x
-    tx_on n x k = widen_tx B (KnowsAt s) (KnowsAt t) (knows_on kept s t h) n x k
-
-    pub txs_on : (n : ℕ) (xs : Txs) → GoodTxs n s xs → GoodTxs n t xs
-    txs_on n x k = widen_txs B (KnowsAt s) (KnowsAt t) (knows_on kept s t h) n x k
-
-    pub ts_on : (n : ℕ) (x : Ts) → GoodTs n s x → GoodTs n t x
-    ts_on n x k = widen_ts B (KnowsAt s) (KnowsAt t) (knows_on kept s t h) n x k
-
-    pub stms_on : (n : ℕ) (ss : Stms) → GoodStms n s ss → GoodStms n t ss
-    stms_on n x k = widen_stms B (KnowsAt s) (KnowsAt t) (knows_on kept s t h) n x k
-
-    pub cond_on : (n : ℕ) (c : Cond) → GoodCond n s c → GoodCond n t c
-    cond_on n x k = widen_cond B (KnowsAt s) (KnowsAt t) (knows_on kept s t h) n x k
-
-    pub made_on : (n : ℕ) (m : Made) → GoodMade n s m → GoodMade n t m
-    made_on n (value x) k = tx_on n x k
-    made_on n (done x) k = ts_on n x k
-    made_on n (test c) k = cond_on n c k
-
-    pub temp_on : (i : ℕ) → (T → i < s.frame.temps) → T → i < t.frame.temps
-    temp_on i k asked = let j = k asked in omega (arith, j, h.temps)
-
-    pub place_on : (n : ℕ) (p : Place) → GoodPlace n s p → GoodPlace n t p
-    place_on n (in_temp i) k = temp_on i k
-    place_on n (at_address ss x) k = (stms_on n ss k.0, tx_on n x k.1)
-
-    pub operand_on : (x : Operand) → GoodOperand s x → GoodOperand t x
-    operand_on (Number n) k = tt
-    operand_on (Kept i) k = temp_on i.0 k
-
-    pub operands_on : (xs : List Operand) → GoodOperands s xs → GoodOperands t xs
-    operands_on [] k = tt
-    operands_on (x ∷ xs) k = (operand_on x k.0, operands_on xs k.1)
-
-    pub held_on : (n : ℕ) (all : HeldAll) → GoodHeld n s all → GoodHeld n t all
-    held_on n all k = (stms_on n all.before k.0, operands_on all.operands k.1)
-
-    pub want_on : (w : Want) → GoodWant s w → GoodWant t w
-    want_on want.Value k = tt
-    want_on (want.Into i) k = temp_on i.0 k
-    want_on want.Dropped k = tt
-    want_on want.Test k = tt
-
-    pub access_on : (a : Access) → GoodAccess s a → GoodAccess t a
-    access_on (InTemp i) k = temp_on i.0 k
-    access_on (InFrame j) k = tt
-
   -- A frame may draw.
 
   drawn_on : (n m : ℕ) (a : Access) → n ≤ m → IsDrawn n a → IsDrawn m a
@@ -283,10 +193,95 @@ module _ (B T : Type 0) (escapes : ℕ → Bool) where
     loops = r.loops;
   }
 
-  pub draws_temp : (c : Where) (s : State) → Ready c s → Yields c s (λ t i. T → i < t.frame.temps) (fresh s)
-  draws_temp c s r = (
-    framed c.kept s (one_temp s.frame) refl (omega arith),
-    ready_framed c s (one_temp s.frame) (omega arith) r,
-    λ t.
-        omega arith,
-  )
+-- Whatever is asked about.
+module _ {B T : Type 0} {escapes : ℕ → Bool} where
+  -- Steps follow one another.
+
+  pub stay : {kept : List ℕ} {s : State} → Step B T escapes kept s s
+  stay = record {
+    label = omega arith;
+    temps = omega arith;
+    name = refl;
+    callees = λ l h. h;
+    literals = λ l h. h;
+    balance = λ n. refl;
+    homes = λ t at h. refl;
+  }
+
+  pub onward : {kept : List ℕ} {s t u : State} → Step B T escapes kept s t → Step B T escapes kept t u → Step B T escapes kept s u
+  onward h k = record {
+    label = omega (arith, h.label, k.label);
+    temps = omega (arith, h.temps, k.temps);
+    name = k.name ∙ h.name;
+    callees = λ l c. k.callees l (h.callees l c);
+    literals = λ l c. k.literals l (h.literals l c);
+    balance = λ n. let p = h.balance n in let q = k.balance n in omega (arith, p, q);
+    homes = λ t at c. k.homes t at c ∙ h.homes t at c;
+  }
+
+  pub bind : {A C : Type 0} {c : Where} {s : State} {V : State → A → Type 0} {W : State → C → Type 0} {d : Drawn A} {next : A → Acts C} →
+      Yields B T escapes c s V d → ((a : A) (t : State) → Step B T escapes c.kept s t → Ready B T escapes c t → V t a → Yields B T escapes c t W (next a t)) →
+      Yields B T escapes c s W (after d next)
+  bind {d = drawn a t} h k =
+      let g = k a t h.step h.ready h.value in record { step = onward h.step g.step; ready = g.ready; value = g.value }
+
+  pub given : {A : Type 0} {c : Where} {s : State} {V : State → A → Type 0} (a : A) → Ready B T escapes c s → V s a → Yields B T escapes c s V (give a s)
+  given a r v = record { step = stay; ready = r; value = v }
+
+  pub draws_temp : {c : Where} {s : State} → Ready B T escapes c s → Yields B T escapes c s (λ t i. T → i < t.frame.temps) (fresh s)
+  draws_temp {c} {s} r = record {
+    step = framed B T escapes c.kept s (one_temp s.frame) refl (omega arith);
+    ready = ready_framed B T escapes c s (one_temp s.frame) (omega arith) r;
+    value = λ t. omega arith;
+  }
+
+  -- What is fine is so in a later state.
+
+  module _ {kept : List ℕ} {s t : State} (h : Step B T escapes kept s t) where
+    pub tx_on : (n : ℕ) (x : Tx) → GoodTx B T escapes n s x → GoodTx B T escapes n t x
+    tx_on n x k = widen_tx B (KnowsAt B T escapes s) (KnowsAt B T escapes t) (knows_on B T escapes kept s t h) n x k
+
+    pub txs_on : (n : ℕ) (xs : Txs) → GoodTxs B T escapes n s xs → GoodTxs B T escapes n t xs
+    txs_on n x k = widen_txs B (KnowsAt B T escapes s) (KnowsAt B T escapes t) (knows_on B T escapes kept s t h) n x k
+
+    pub ts_on : (n : ℕ) (x : Ts) → GoodTs B T escapes n s x → GoodTs B T escapes n t x
+    ts_on n x k = widen_ts B (KnowsAt B T escapes s) (KnowsAt B T escapes t) (knows_on B T escapes kept s t h) n x k
+
+    pub stms_on : (n : ℕ) (ss : Stms) → GoodStms B T escapes n s ss → GoodStms B T escapes n t ss
+    stms_on n x k = widen_stms B (KnowsAt B T escapes s) (KnowsAt B T escapes t) (knows_on B T escapes kept s t h) n x k
+
+    pub cond_on : (n : ℕ) (c : Cond) → GoodCond B T escapes n s c → GoodCond B T escapes n t c
+    cond_on n x k = widen_cond B (KnowsAt B T escapes s) (KnowsAt B T escapes t) (knows_on B T escapes kept s t h) n x k
+
+    pub made_on : (n : ℕ) (m : Made) → GoodMade B T escapes n s m → GoodMade B T escapes n t m
+    made_on n (value x) k = tx_on n x k
+    made_on n (done x) k = ts_on n x k
+    made_on n (test c) k = cond_on n c k
+
+    pub temp_on : (i : ℕ) → (T → i < s.frame.temps) → T → i < t.frame.temps
+    temp_on i k asked = let j = k asked in omega (arith, j, h.temps)
+
+    pub place_on : (n : ℕ) (p : Place) → GoodPlace B T escapes n s p → GoodPlace B T escapes n t p
+    place_on n (in_temp i) k = temp_on i k
+    place_on n (at_address ss x) k = (stms_on n ss k.0, tx_on n x k.1)
+
+    pub operand_on : (x : Operand) → GoodOperand B T escapes s x → GoodOperand B T escapes t x
+    operand_on (Number n) k = tt
+    operand_on (Kept i) k = temp_on i.0 k
+
+    pub operands_on : (xs : List Operand) → GoodOperands B T escapes s xs → GoodOperands B T escapes t xs
+    operands_on [] k = tt
+    operands_on (x ∷ xs) k = (operand_on x k.0, operands_on xs k.1)
+
+    pub held_on : (n : ℕ) (all : HeldAll) → GoodHeld B T escapes n s all → GoodHeld B T escapes n t all
+    held_on n all k = (stms_on n all.before k.0, operands_on all.operands k.1)
+
+    pub want_on : (w : Want) → GoodWant B T escapes s w → GoodWant B T escapes t w
+    want_on want.Value k = tt
+    want_on (want.Into i) k = temp_on i.0 k
+    want_on want.Dropped k = tt
+    want_on want.Test k = tt
+
+    pub access_on : (a : Access) → GoodAccess B T escapes s a → GoodAccess B T escapes t a
+    access_on (InTemp i) k = temp_on i.0 k
+    access_on (InFrame j) k = tt

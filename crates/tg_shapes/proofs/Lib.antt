@@ -1,4 +1,5 @@
 mod Examples
+pub mod Actions
 pub mod Fine
 pub mod Counts
 pub mod Keeping

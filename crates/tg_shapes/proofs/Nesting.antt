@@ -15,17 +15,13 @@ use Rattle.tg_translate.specs.Wants.{Made, value_of}
 use Rattle.tg_translate.specs.Scopes.{Findings}
 use Rattle.tg_translate.specs.Functions.{at_of, asked, parameters, own_homes, frame_for, declare_functions, with_body, finished, finish, opened, result_want, inside, gives_nothing, closing, body}
 use Rattle.tg_shapes.specs.Standing.{AreApart, params_of}
-use Rattle.tg_shapes.proofs.Fine.{Each}
+use Rattle.tg_shapes.proofs.Fine.{each_append}
 use Rattle.tg_shapes.proofs.Counts.{times, times-append, same, below, below-next}
 use Rattle.tg_shapes.proofs.Keeping as keeping
-use Rattle.tg_shapes.proofs.Keeping.{Where, callee_labels, literal_labels, stands}
+use Rattle.tg_shapes.proofs.Keeping.{Where, callee_labels, literal_labels, stands, bind, given, onward}
 use Rattle.tg_shapes.proofs.Wanting as wanting
 use Rattle.tg_shapes.proofs.Scoping.{more_contained}
 use Rattle.tg_shapes.proofs.Declaring as declaring
-
-each_append : {X : Type 0} (P : X → Type 0) (xs ys : List X) → Each P xs → Each P ys → Each P (xs ++ ys)
-each_append P [] ys h k = k
-each_append P (x ∷ xs) ys h k = (h.0, each_append P xs ys h.1 k)
 
 -- a function's text, inside one that stands here
 abbrev pub nested : (kept : Bool) → List Param → Where → Where
@@ -63,12 +59,10 @@ module _ (B T : Type 0) (findings : Findings) where
   pub closing_yields : (c : Where) (s : State) (has_result : Bool) (m : Made) → Ready c s → GoodMade c.loops s m →
       Yields c s (IsWhole c.loops) (closing has_result m s)
   closing_yields c s true m r h =
-      keeping.bind B T findings.escapes c s (λ t x. keeping.GoodTx B T findings.escapes c.loops t x) (IsWhole c.loops)
-      (value_of m s) (λ x. give (Return x))
-      (wanting.value_yields B T findings.escapes c s m r h)
-      (λ x t st r' k. keeping.given B T findings.escapes c t (IsWhole c.loops) (Return x) r' (k, tt))
+      bind (wanting.value_yields B T findings.escapes c s m r h)
+      (λ x t st r' k. given (Return x) r' (k, tt))
   closing_yields c s false m r h =
-      keeping.given B T findings.escapes c s (IsWhole c.loops) (gives_nothing m) r
+      given (gives_nothing m) r
       ((wanting.dropped_good B T findings.escapes c.loops s m h, (tt, tt)), tt)
 
   -- from one state to a later one, where the labels from one on, up to another, are given away
@@ -191,7 +185,7 @@ module _ (B T : Type 0) (findings : Findings) where
       Yields (nested kept params c) (begun_state label kept params c s) (IsWhole 0) d → Placed c label (label + 1) s
       (finish s d)
   finished_placed c s label kept params (drawn x u) apart r h =
-      (done_places c s u label kept params x apart h.0, done_ready c s u label kept params x apart h.0 r h.1 h.2)
+      (done_places c s u label kept params x apart h.step, done_ready c s u label kept params x apart h.step r h.ready h.value)
 
   result_good : (s : State) (has_result : Bool) → keeping.GoodWant B T findings.escapes s (result_want has_result)
   result_good s true = tt
@@ -212,9 +206,7 @@ module _ (B T : Type 0) (findings : Findings) where
       let t : State = begun_state label kept params c s in
       finished_placed c s label kept params (after (text (result_want has_result) (inside c.within kept) t)
       (closing has_result)) apart r
-      (keeping.bind B T findings.escapes d t (λ u m. GoodMade 0 u m) (IsWhole 0)
-      (text (result_want has_result) (inside c.within kept) t) (closing has_result)
-      (h t (result_want has_result) (begun_ready c s label kept params r) (result_good t has_result))
+      (bind (h t (result_want has_result) (begun_ready c s label kept params r) (result_good t has_result))
       (λ m u st r' k. closing_yields d u has_result m r' k))
 
   -- The functions of a group are declared.
@@ -321,12 +313,9 @@ module _ (B T : Type 0) (findings : Findings) where
       Opens c.kept end s t → Placed c s.label end t d →
       ((u : State) → Step c.kept s u → Ready c u → Yields c u V (next u)) → Yields c s V (after d (λ _. next))
   placed_next c end s t V (drawn a u) next o h k =
-      let st : Step c.kept s u = group_step c end s t u o h.0 in
-      keeping.bind B T findings.escapes c s (λ q b. Unit {0}) V (drawn a u) (λ _. next) (st, h.1, tt)
-      (λ b q sq r v. lift_same b q sq r)
-    where
-      lift_same : (b : Unit {0}) (q : State) → Step c.kept s q → Ready c q → Yields c q V (next q)
-      lift_same b q sq r = k q sq r
+      let st = group_step c end s t u o h.0 in
+      let g = k u st h.1 in
+      record { step = onward st g.step; ready = g.ready; value = g.value }
 
   pub group_yields : {A : Type 0} (c : Where) (end : ℕ) (s : State) (V : State → A → Type 0) (d : Drawn (Unit {0}))
       (bodies : Acts (Unit {0})) (next : Acts A) →

@@ -21,7 +21,7 @@ use Rattle.tg_shapes.proofs.Counts.{times-append, same, same_not, below-next, co
 use Rattle.tg_translate.specs.Constructs as constructs
 use Rattle.tg_shapes.proofs.Counts as counts
 use Rattle.tg_shapes.proofs.Keeping as keeping
-use Rattle.tg_shapes.proofs.Keeping.{Where, callee_labels, literal_labels}
+use Rattle.tg_shapes.proofs.Keeping.{Where, callee_labels, literal_labels, given}
 use Rattle.tg_shapes.proofs.Constructing as constructing
 
 -- What has a name in a table.
@@ -124,12 +124,12 @@ module _ (B T : Type 0) (findings : Findings) where
   pub variable_yields : (c : Where) (s : State) (meaning : Option Means) → Ready c s →
       (T → IsInReach findings c.own meaning) →
       Yields c s (λ t p. GoodPlace c.loops t p) (variable_place c.within meaning s)
-  variable_yields c s None r h = keeping.given B T findings.escapes c s (λ t p. GoodPlace c.loops t p) nowhere r
+  variable_yields c s None r h = given nowhere r
       (tt, tt)
   variable_yields c s (Some (means.Variable at)) r h =
-      keeping.given B T findings.escapes c s (λ t p. GoodPlace c.loops t p) (home_place c.within (named at s.homes)) r
+      given (home_place c.within (named at s.homes)) r
       (home_good c s at (named at s.homes) r h refl)
-  variable_yields c s (Some other) r h = keeping.given B T findings.escapes c s (λ t p. GoodPlace c.loops t p) nowhere r
+  variable_yields c s (Some other) r h = given nowhere r
       (tt, tt)
 
   callee_good : (c : Where) (s : State) (at : ℕ) (xs : Txs) (found : Option Callee) → Ready c s → GoodTxs c.loops s xs →
@@ -142,15 +142,14 @@ module _ (B T : Type 0) (findings : Findings) where
 
   pub call_yields : (c : Where) (s : State) (meaning : Option Means) (xs : Txs) → Ready c s → GoodTxs c.loops s xs →
       Yields c s (λ t x. GoodTx c.loops t x) (call c.within meaning xs s)
-  call_yields c s None xs r h = keeping.given B T findings.escapes c s (λ t x. GoodTx c.loops t x) no_value r tt
+  call_yields c s None xs r h = given no_value r tt
   call_yields c s (Some (means.Standard f)) xs r h =
-      keeping.given B T findings.escapes c s (λ t x. GoodTx c.loops t x) (constructs.call_routine (routine_of f) xs) r
+      given (constructs.call_routine (routine_of f) xs) r
       (constructing.routine_good B T findings.escapes c.loops s (routine_of f) xs h)
   call_yields c s (Some (means.Function at)) xs r h =
-      keeping.given B T findings.escapes c s (λ t x. GoodTx c.loops t x)
-      (call_declared c.within xs (named at s.callees)) r
+      given (call_declared c.within xs (named at s.callees)) r
       (callee_good c s at xs (named at s.callees) r h refl)
-  call_yields c s (Some other) xs r h = keeping.given B T findings.escapes c s (λ t x. GoodTx c.loops t x) no_value r tt
+  call_yields c s (Some other) xs r h = given no_value r tt
 
   -- A literal draws its label.
 
@@ -201,11 +200,11 @@ module _ (B T : Type 0) (findings : Findings) where
 
   pub literal_yields : (c : Where) (s : State) (bytes : List ℕ) → Ready c s → Yields c s (λ t m. GoodMade c.loops t m)
       (literal bytes s)
-  literal_yields c s bytes r = (
-    literal_step c.kept s bytes,
-    literal_ready c s bytes r,
-    counted_contains (λ k. k.label) (with_literal bytes s).literals s.label
-        (let h = times-append (λ k. k.label) s.label s.literals
-        (record { label = s.label; text = string_text bytes } ∷ []) in
-        let k = counts.same_self s.label in omega (arith, h, k)),
-  )
+  literal_yields c s bytes r = record {
+    step = literal_step c.kept s bytes;
+    ready = literal_ready c s bytes r;
+    value =
+        counted_contains (λ k. k.label) (with_literal bytes s).literals s.label
+        (let h = times-append (λ k. k.label) s.label s.literals (record { label = s.label; text = string_text bytes } ∷ []) in
+        let k = counts.same_self s.label in omega (arith, h, k));
+  }

@@ -19,7 +19,7 @@ use Rattle.tg_shapes.specs.Standing.{BreaksStand, Reaches}
 use Rattle.tg_shapes.proofs.Fine.{Each, breaks_ts, names_ts, each_contained}
 use Rattle.tg_shapes.proofs.Counts.{times, times-append, times-map, same, same_self, below, below-next, below_yes, below_no, below_one, once_apart, contained_counts, counted_contains}
 use Rattle.tg_shapes.proofs.Keeping as keeping
-use Rattle.tg_shapes.proofs.Keeping.{Where, callee_labels}
+use Rattle.tg_shapes.proofs.Keeping.{Where, callee_labels, bind}
 use Rattle.tg_shapes.proofs.Nesting as nesting
 use Rattle.tg_shapes.proofs.Walking.{walked}
 
@@ -70,13 +70,13 @@ module _ (B T : Type 0) (findings : Findings) (e : Exp) where
       body = with_body t.frame x;
       rest = t.functions;
       functions = refl;
-      label = h.0.name;
-      fine = (record { body = h.2.0; last = h.2.1 }, h.1.functions);
-      from = h.1.from;
-      counts = λ n. let k = h.0.balance n in omega (arith, k);
+      label = h.step.name;
+      fine = (record { body = h.value.0; last = h.value.1 }, h.ready.functions);
+      from = h.ready.from;
+      counts = λ n. let k = h.step.balance n in omega (arith, k);
       called = λ l c.
-          let k = h.1.callees l c in
-          let m = h.0.balance l in
+          let k = h.ready.callees l c in
+          let m = h.step.balance l in
           let i = below_no l 33 k.0 in
           let j = below_yes l t.label k.1 in
           counted_contains (λ f. f.label) t.functions l (omega (arith, k.2, m, i, j));
@@ -86,10 +86,7 @@ module _ (B T : Type 0) (findings : Findings) (e : Exp) where
   pub has_shape : (B → BreaksStand false e) → (T → Reaches findings [] [] e) → HasShape (translated findings e)
   has_shape b q =
       shaped_of (program_body findings e first)
-      (keeping.bind B T findings.escapes top first (λ t m. keeping.GoodMade B T findings.escapes 0 t m)
-      (nesting.IsWhole B T findings 0)
-      (expression findings e want.Dropped outermost first) (closing false)
-      (walked B T findings e top first want.Dropped b q top_ready tt)
+      (bind (walked B T findings e top first want.Dropped b q top_ready tt)
       (λ m t st r k. nesting.closing_yields B T findings top t false m r k))
 
   module _ (code : Code Ts) (h : HasShape code) where

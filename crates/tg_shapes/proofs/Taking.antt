@@ -9,6 +9,7 @@ use Rattle.tg_translate.specs.States.{State, Drawn, drawn, Acts, after, give, fr
 use Rattle.tg_translate.specs.Functions.{with_body, finish}
 use Rattle.tg_shapes.specs.Accesses.{AccessesWithin}
 use Rattle.tg_shapes.specs.Laws.{IsWithin}
+use Rattle.tg_shapes.proofs.Actions.{answer, left}
 
 -- of a text: the slots and temporaries of its frame, its strings, and of the functions that it declares how many
 -- variables escape, and their measures
@@ -35,12 +36,6 @@ draws n = record { slots = 0; temps = n; texts = []; counts = []; functions = []
 abbrev pub adds : List (List ℕ) → List ℕ → List Measures → Cost
 adds texts counts functions = record { slots = 0; temps = 0; texts = texts; counts = counts; functions = functions }
 
-abbrev pub given : {A : Type 0} → Drawn A → A
-given (drawn a s) = a
-
-abbrev pub left : {A : Type 0} → Drawn A → State
-left (drawn a s) = s
-
 abbrev pub texts : State → List (List ℕ)
 texts s = map (λ l. l.text) s.literals
 
@@ -55,7 +50,7 @@ pub record Adds (counts : List ℕ) (ms : List Measures) (s t : State) : Type 0 
   pub within : AllZip IsWithin ms added
 
 pub record Takes {A : Type 0} (m : Cost) (V : A → Type 0) (s : State) (d : Drawn A) : Type 0 where
-  pub value : V (given d)
+  pub value : V (answer d)
   pub slots : (left d).frame.slots ≤ s.frame.slots + m.slots
   pub temps : (left d).frame.temps ≤ s.frame.temps + m.temps
   pub texts : texts (left d) ≡ texts s ++ map string_text m.texts

@@ -7,7 +7,7 @@ use Rattle.tg_translate.specs.States.{State, Drawn, after, give, fresh}
 use Rattle.tg_translate.specs.Wants.{Made, value, done, test, truth_into, value_of, put_in, dropped, test_of, arms, as_statement, taken_from, deliver, followed, value_behind, done_behind, behind_some, behind}
 use Rattle.tg_shapes.proofs.Fine.{join_fine_stms}
 use Rattle.tg_shapes.proofs.Keeping as keeping
-use Rattle.tg_shapes.proofs.Keeping.{Where}
+use Rattle.tg_shapes.proofs.Keeping.{Where, bind, cond_on, draws_temp, given, stms_on, want_on}
 
 module _ (B T : Type 0) (escapes : ℕ → Bool) where
   abbrev Ready : Where → State → Type 0
@@ -81,81 +81,74 @@ module _ (B T : Type 0) (escapes : ℕ → Bool) where
   module _ (c : Where) where
     pub value_yields : (s : State) (m : Made) → Ready c s → GoodMade c.loops s m → Yields c s
         (λ t x. GoodTx c.loops t x) (value_of m s)
-    value_yields s (value x) r k = keeping.given B T escapes c s (λ t x. GoodTx c.loops t x) x r k
-    value_yields s (done x) r k = keeping.given B T escapes c s (λ t x. GoodTx c.loops t x) (After x (Const 0)) r
+    value_yields s (value x) r k = given x r k
+    value_yields s (done x) r k = given (After x (Const 0)) r
         (k, tt)
     value_yields s (test d) r k =
-        keeping.bind B T escapes c s (λ t i. T → i < t.frame.temps) (λ t x. GoodTx c.loops t x) (fresh s)
-        (λ i. give (After (truth_into i d) (Temp i))) (keeping.draws_temp B T escapes c s r)
-        (λ i t st r' h. keeping.given B T escapes c t (λ u x. GoodTx c.loops u x) (After (truth_into i d) (Temp i)) r'
-        (truth_good c.loops t i d h (keeping.cond_on B T escapes c.kept s t st c.loops d k), h))
+        bind (draws_temp r)
+        (λ i t st r' h. given (After (truth_into i d) (Temp i)) r'
+        (truth_good c.loops t i d h (cond_on st c.loops d k), h))
 
     fresh_arms : (s : State) → Ready c s → Yields c s GoodWant
         (after (fresh s) (λ i. give (want.Into (record { 0 = i }))))
     fresh_arms s r =
-        keeping.bind B T escapes c s (λ t i. T → i < t.frame.temps) GoodWant (fresh s)
-        (λ i. give (want.Into (record { 0 = i })))
-        (keeping.draws_temp B T escapes c s r)
-        (λ i t st r' h. keeping.given B T escapes c t GoodWant (want.Into (record { 0 = i })) r' h)
+        bind (draws_temp r)
+        (λ i t st r' h. given (want.Into (record { 0 = i })) r' h)
 
     pub arms_yield : (s : State) (w : Want) → Ready c s → GoodWant s w → Yields c s GoodWant (arms w s)
     arms_yield s want.Value r h = fresh_arms s r
-    arms_yield s (want.Into i) r h = keeping.given B T escapes c s GoodWant (want.Into i) r h
-    arms_yield s want.Dropped r h = keeping.given B T escapes c s GoodWant want.Dropped r tt
+    arms_yield s (want.Into i) r h = given (want.Into i) r h
+    arms_yield s want.Dropped r h = given want.Dropped r tt
     arms_yield s want.Test r h = fresh_arms s r
 
     value_behind_yields : (s : State) (ss : Stms) (m : Made) → Ready c s → GoodStms c.loops s ss → GoodMade c.loops s
         m →
         Yields c s (λ t m. GoodMade c.loops t m) (after (value_of m s) (λ x. give (value_behind ss x)))
     value_behind_yields s ss m r h k =
-        keeping.bind B T escapes c s (λ t x. GoodTx c.loops t x) (λ t m. GoodMade c.loops t m) (value_of m s)
-        (λ x. give (value_behind ss x)) (value_yields s m r k)
-        (λ x t st r' g. keeping.given B T escapes c t (λ u m. GoodMade c.loops u m) (value_behind ss x) r'
-        (keeping.stms_on B T escapes c.kept s t st c.loops ss h, g))
+        bind (value_yields s m r k)
+        (λ x t st r' g. given (value_behind ss x) r'
+        (stms_on st c.loops ss h, g))
 
     behind_some_yields : (s : State) (w : Want) (ss : Stms) (m : Made) → Ready c s → GoodWant s w → GoodStms c.loops s
         ss → GoodMade c.loops s m →
         Yields c s (λ t m. GoodMade c.loops t m) (behind_some w ss m s)
     behind_some_yields s want.Value ss m r g h k = value_behind_yields s ss m r h k
     behind_some_yields s (want.Into i) ss m r g h k =
-        keeping.given B T escapes c s (λ t m. GoodMade c.loops t m) (done_behind (want.Into i) ss m) r
+        given (done_behind (want.Into i) ss m) r
         (followed_good c.loops s ss (put_in i.0 m) h (put_good c.loops s i.0 m g k))
     behind_some_yields s want.Dropped ss m r g h k =
-        keeping.given B T escapes c s (λ t m. GoodMade c.loops t m) (done_behind want.Dropped ss m) r
+        given (done_behind want.Dropped ss m) r
         (followed_good c.loops s ss (dropped m) h (dropped_good c.loops s m k))
     behind_some_yields s want.Test ss m r g h k = value_behind_yields s ss m r h k
 
     pub behind_yields : (s : State) (w : Want) (ss : Stms) (m : Made) → Ready c s → GoodWant s w → GoodStms c.loops s
         ss → GoodMade c.loops s m →
         Yields c s (λ t m. GoodMade c.loops t m) (behind w ss m s)
-    behind_yields s w no_stms m r g h k = keeping.given B T escapes c s (λ t m. GoodMade c.loops t m) m r k
+    behind_yields s w no_stms m r g h k = given m r k
     behind_yields s w (stm x ss) m r g h k = behind_some_yields s w (stm x ss) m r g h k
 
     -- what an expression's place makes of what it became
     module _ (s : State) (d : Drawn Made) (h : Yields c s (λ t m. GoodMade c.loops t m) d) where
       pub value_from_yields : Yields c s (λ t x. GoodTx c.loops t x) (after d value_of)
       value_from_yields =
-          keeping.bind B T escapes c s (λ t m. GoodMade c.loops t m) (λ t x. GoodTx c.loops t x) d value_of h
+          bind h
           (λ m t st r k. value_yields t m r k)
 
       pub condition_from_yields : Yields c s (λ t x. GoodCond c.loops t x) (after d (λ m. give (test_of m)))
       condition_from_yields =
-          keeping.bind B T escapes c s (λ t m. GoodMade c.loops t m) (λ t x. GoodCond c.loops t x) d
-          (λ m. give (test_of m)) h
-          (λ m t st r k. keeping.given B T escapes c t (λ u x. GoodCond c.loops u x) (test_of m) r
+          bind h
+          (λ m t st r k. given (test_of m) r
           (test_good c.loops t m k))
 
       pub statement_from_yields : Yields c s (λ t x. GoodTs c.loops t x) (after d (λ m. give (dropped m)))
       statement_from_yields =
-          keeping.bind B T escapes c s (λ t m. GoodMade c.loops t m) (λ t x. GoodTs c.loops t x) d
-          (λ m. give (dropped m)) h
-          (λ m t st r k. keeping.given B T escapes c t (λ u x. GoodTs c.loops u x) (dropped m) r
+          bind h
+          (λ m t st r k. given (dropped m) r
           (dropped_good c.loops t m k))
 
       pub arm_from_yields : (w : Want) → GoodWant s w → Yields c s (λ t x. GoodTs c.loops t x)
           (after d (λ m. give (as_statement w m)))
       arm_from_yields w g =
-          keeping.bind B T escapes c s (λ t m. GoodMade c.loops t m) (λ t x. GoodTs c.loops t x) d
-          (λ m. give (as_statement w m)) h
-          (λ m t st r k. keeping.given B T escapes c t (λ u x. GoodTs c.loops u x) (as_statement w m) r
-          (statement_good c.loops t w m (keeping.want_on B T escapes c.kept s t st w g) k))
+          bind h
+          (λ m t st r k. given (as_statement w m) r
+          (statement_good c.loops t w m (want_on st w g) k))

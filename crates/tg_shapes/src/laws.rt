@@ -4,13 +4,13 @@ ghost use Rattle.tg_shapes.specs.Laws.{
   CheckedFramesAreSmall,
   CheckedReaches,
   CheckedTemporariesAreDrawn,
+  FunctionsAreWithin,
   LabelsAreAbove,
   LiteralsAreShort,
   LiteralsAreStrings,
   ProgramsAreLinked,
   SlotsAreFew,
   TemporariesAreDrawn,
-  TemporariesAreFew,
 };
 
 use tg_runtime::routines_are_closed;
