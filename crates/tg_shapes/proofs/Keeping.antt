@@ -21,6 +21,16 @@ use Rattle.tg_translate.specs.Constructs.{Place, in_temp, at_address, HeldAll}
 use Rattle.tg_shapes.proofs.Fine.{Each, FineTs, FineStms, FineTx, FineTxs, FineCond, widen_ts, widen_stms, widen_tx, widen_txs, widen_cond}
 use Rattle.tg_shapes.proofs.Actions.{answer, left}
 use Rattle.tg_shapes.proofs.Counts.{times, below}
+use Rattle.tg_translate.specs.Scopes.{Findings}
+
+-- what is asked about of a program: whether its breaks are looked at, and its temporaries; and what was found of it
+pub record Asks : Type 1 where
+  pub breaks : Type 0
+  pub temps : Type 0
+  pub findings : Findings
+
+abbrev pub about : (breaks temps : Type 0) → Findings → Asks
+about breaks temps findings = record { breaks = breaks; temps = temps; findings = findings }
 
 -- a part of a text: the loops around it, whether one of them is open for a break, the variables of its function, and
 -- those of the functions around
@@ -41,19 +51,19 @@ literal_labels s = map (λ l. l.label) s.literals
 abbrev pub stands : ℕ → State → ℕ
 stands n s = times (λ f. f.label) n s.functions + times (λ l. l.label) n s.literals
 
--- breaks are looked at where B is asked, and temporaries where T is
-module _ (B T : Type 0) (escapes : ℕ → Bool) where
+-- breaks are looked at where asks.breaks is asked, and temporaries where asks.temps is
+module _ (asks : Asks) where
   abbrev pub Knows : (callees literals : List ℕ) → (temps : ℕ) → Named → Type 0
   Knows cs ls n (function l) = (l < 13) ⊎ Contains cs l
   Knows cs ls n (literal l) = Contains ls l
   Knows cs ls n (fault k) = k < 1048576
-  Knows cs ls n (temporary i) = T → i < n
+  Knows cs ls n (temporary i) = asks.temps → i < n
 
   abbrev pub KnowsAt : State → Named → Type 0
   KnowsAt s = Knows (callee_labels s) (literal_labels s) s.frame.temps
 
   pub record FineFunction (cs ls : List ℕ) (f : Function Ts) : Type 0 where
-    pub body : FineTs B (Knows cs ls f.temps) 0 f.body
+    pub body : FineTs asks.breaks (Knows cs ls f.temps) 0 f.body
     pub last : EndsFunction f.body
 
   abbrev pub IsDrawn : (temps : ℕ) → Access → Type 0
@@ -68,7 +78,7 @@ module _ (B T : Type 0) (escapes : ℕ → Bool) where
     pub callees : (l : ℕ) → Contains (callee_labels s) l → Contains (callee_labels t) l
     pub literals : (l : ℕ) → Contains (literal_labels s) l → Contains (literal_labels t) l
     pub balance : (n : ℕ) → stands n t + below n s.label ≡ stands n s + below n t.label
-    pub homes : T → (at : ℕ) → Contains kept at → named at t.homes ≡ named at s.homes
+    pub homes : asks.temps → (at : ℕ) → Contains kept at → named at t.homes ≡ named at s.homes
 
   pub record Ready (c : Where) (s : State) : Type 0 where
     pub from : 33 ≤ s.label
@@ -77,12 +87,12 @@ module _ (B T : Type 0) (escapes : ℕ → Bool) where
     pub unused : (l : ℕ) → s.label ≤ l → times (λ k. k.label) l s.literals ≡ 0
     pub functions : Each (FineFunction (callee_labels s) (literal_labels s)) s.functions
     pub owned :
-        T → (at : ℕ) (home : Home) → Contains c.own at → named at s.homes ≡ Some home → IsDrawn s.frame.temps
+        asks.temps → (at : ℕ) (home : Home) → Contains c.own at → named at s.homes ≡ Some home → IsDrawn s.frame.temps
         home.access
     pub slots :
-        T → (at : ℕ) (home : Home) → escapes at ≡ true → named at s.homes ≡ Some home → IsTrue (is_slot home.access)
-    pub link : T → 0 < c.within.level → c.within.link_in_slot ≡ false → 0 < s.frame.temps
-    pub loops : B → c.in_loop ≡ true → c.within.leave < c.loops
+        asks.temps → (at : ℕ) (home : Home) → asks.findings.escapes at ≡ true → named at s.homes ≡ Some home → IsTrue (is_slot home.access)
+    pub link : asks.temps → 0 < c.within.level → c.within.link_in_slot ≡ false → 0 < s.frame.temps
+    pub loops : asks.breaks → c.in_loop ≡ true → c.within.leave < c.loops
 
   -- an action takes a step, from where a part may go on, and what it gives is fine there
   pub record Yields {A : Type 0} (c : Where) (s : State) (V : State → A → Type 0) (d : Drawn A) : Type 0 where
@@ -112,7 +122,7 @@ module _ (B T : Type 0) (escapes : ℕ → Bool) where
   functions_on cs ls ds ms f g (one ∷ fs) h = (
     record {
       body =
-          widen_ts B (Knows cs ls one.temps) (Knows ds ms one.temps)
+          widen_ts asks.breaks (Knows cs ls one.temps) (Knows ds ms one.temps)
           (know_more cs ls ds ms one.temps one.temps f g (omega arith)) 0 one.body h.0.body;
       last = h.0.last;
     },
@@ -120,46 +130,46 @@ module _ (B T : Type 0) (escapes : ℕ → Bool) where
   )
 
   abbrev pub GoodTx : ℕ → State → Tx → Type 0
-  GoodTx n s x = FineTx B (KnowsAt s) n x
+  GoodTx n s x = FineTx asks.breaks (KnowsAt s) n x
 
   abbrev pub GoodTxs : ℕ → State → Txs → Type 0
-  GoodTxs n s xs = FineTxs B (KnowsAt s) n xs
+  GoodTxs n s xs = FineTxs asks.breaks (KnowsAt s) n xs
 
   abbrev pub GoodTs : ℕ → State → Ts → Type 0
-  GoodTs n s x = FineTs B (KnowsAt s) n x
+  GoodTs n s x = FineTs asks.breaks (KnowsAt s) n x
 
   abbrev pub GoodStms : ℕ → State → Stms → Type 0
-  GoodStms n s ss = FineStms B (KnowsAt s) n ss
+  GoodStms n s ss = FineStms asks.breaks (KnowsAt s) n ss
 
   abbrev pub GoodCond : ℕ → State → Cond → Type 0
-  GoodCond n s c = FineCond B (KnowsAt s) n c
+  GoodCond n s c = FineCond asks.breaks (KnowsAt s) n c
 
   abbrev pub GoodMade : ℕ → State → Made → Type 0
-  GoodMade n s (value x) = FineTx B (KnowsAt s) n x
-  GoodMade n s (done x) = FineTs B (KnowsAt s) n x
-  GoodMade n s (test c) = FineCond B (KnowsAt s) n c
+  GoodMade n s (value x) = FineTx asks.breaks (KnowsAt s) n x
+  GoodMade n s (done x) = FineTs asks.breaks (KnowsAt s) n x
+  GoodMade n s (test c) = FineCond asks.breaks (KnowsAt s) n c
 
   abbrev pub GoodPlace : ℕ → State → Place → Type 0
-  GoodPlace n s (in_temp i) = T → i < s.frame.temps
-  GoodPlace n s (at_address ss x) = FineStms B (KnowsAt s) n ss × FineTx B (KnowsAt s) n x
+  GoodPlace n s (in_temp i) = asks.temps → i < s.frame.temps
+  GoodPlace n s (at_address ss x) = FineStms asks.breaks (KnowsAt s) n ss × FineTx asks.breaks (KnowsAt s) n x
 
   abbrev pub GoodOperand : State → Operand → Type 0
   GoodOperand s (Number n) = Unit {0}
-  GoodOperand s (Kept t) = T → t.0 < s.frame.temps
+  GoodOperand s (Kept t) = asks.temps → t.0 < s.frame.temps
 
   abbrev pub GoodOperands : State → List Operand → Type 0
   GoodOperands s [] = Unit {0}
   GoodOperands s (x ∷ xs) = GoodOperand s x × GoodOperands s xs
 
   abbrev pub GoodHeld : ℕ → State → HeldAll → Type 0
-  GoodHeld n s all = FineStms B (KnowsAt s) n all.before × GoodOperands s all.operands
+  GoodHeld n s all = FineStms asks.breaks (KnowsAt s) n all.before × GoodOperands s all.operands
 
   abbrev pub GoodWant : State → Want → Type 0
-  GoodWant s (want.Into t) = T → t.0 < s.frame.temps
+  GoodWant s (want.Into t) = asks.temps → t.0 < s.frame.temps
   GoodWant s _ = Unit {0}
 
   abbrev pub GoodAccess : State → Access → Type 0
-  GoodAccess s (InTemp t) = T → t.0 < s.frame.temps
+  GoodAccess s (InTemp t) = asks.temps → t.0 < s.frame.temps
   GoodAccess s (InFrame k) = Unit {0}
 
   -- A frame may draw.
@@ -194,10 +204,10 @@ module _ (B T : Type 0) (escapes : ℕ → Bool) where
   }
 
 -- Whatever is asked about.
-module _ {B T : Type 0} {escapes : ℕ → Bool} where
+module _ {asks : Asks} where
   -- Steps follow one another.
 
-  pub stay : {kept : List ℕ} {s : State} → Step B T escapes kept s s
+  pub stay : {kept : List ℕ} {s : State} → Step asks kept s s
   stay = record {
     label = omega arith;
     temps = omega arith;
@@ -208,7 +218,7 @@ module _ {B T : Type 0} {escapes : ℕ → Bool} where
     homes = λ t at h. refl;
   }
 
-  pub onward : {kept : List ℕ} {s t u : State} → Step B T escapes kept s t → Step B T escapes kept t u → Step B T escapes kept s u
+  pub onward : {kept : List ℕ} {s t u : State} → Step asks kept s t → Step asks kept t u → Step asks kept s u
   onward h k = record {
     label = omega (arith, h.label, k.label);
     temps = omega (arith, h.temps, k.temps);
@@ -220,68 +230,68 @@ module _ {B T : Type 0} {escapes : ℕ → Bool} where
   }
 
   pub bind : {A C : Type 0} {c : Where} {s : State} {V : State → A → Type 0} {W : State → C → Type 0} {d : Drawn A} {next : A → Acts C} →
-      Yields B T escapes c s V d → ((a : A) (t : State) → Step B T escapes c.kept s t → Ready B T escapes c t → V t a → Yields B T escapes c t W (next a t)) →
-      Yields B T escapes c s W (after d next)
+      Yields asks c s V d → ((a : A) (t : State) → Step asks c.kept s t → Ready asks c t → V t a → Yields asks c t W (next a t)) →
+      Yields asks c s W (after d next)
   bind {d = drawn a t} h k =
       let g = k a t h.step h.ready h.value in record { step = onward h.step g.step; ready = g.ready; value = g.value }
 
-  pub given : {A : Type 0} {c : Where} {s : State} {V : State → A → Type 0} (a : A) → Ready B T escapes c s → V s a → Yields B T escapes c s V (give a s)
+  pub given : {A : Type 0} {c : Where} {s : State} {V : State → A → Type 0} (a : A) → Ready asks c s → V s a → Yields asks c s V (give a s)
   given a r v = record { step = stay; ready = r; value = v }
 
-  pub draws_temp : {c : Where} {s : State} → Ready B T escapes c s → Yields B T escapes c s (λ t i. T → i < t.frame.temps) (fresh s)
+  pub draws_temp : {c : Where} {s : State} → Ready asks c s → Yields asks c s (λ t i. asks.temps → i < t.frame.temps) (fresh s)
   draws_temp {c} {s} r = record {
-    step = framed B T escapes c.kept s (one_temp s.frame) refl (omega arith);
-    ready = ready_framed B T escapes c s (one_temp s.frame) (omega arith) r;
+    step = framed asks c.kept s (one_temp s.frame) refl (omega arith);
+    ready = ready_framed asks c s (one_temp s.frame) (omega arith) r;
     value = λ t. omega arith;
   }
 
   -- What is fine is so in a later state.
 
-  module _ {kept : List ℕ} {s t : State} (h : Step B T escapes kept s t) where
-    pub tx_on : (n : ℕ) (x : Tx) → GoodTx B T escapes n s x → GoodTx B T escapes n t x
-    tx_on n x k = widen_tx B (KnowsAt B T escapes s) (KnowsAt B T escapes t) (knows_on B T escapes kept s t h) n x k
+  module _ {kept : List ℕ} {s t : State} (h : Step asks kept s t) where
+    pub tx_on : (n : ℕ) (x : Tx) → GoodTx asks n s x → GoodTx asks n t x
+    tx_on n x k = widen_tx asks.breaks (KnowsAt asks s) (KnowsAt asks t) (knows_on asks kept s t h) n x k
 
-    pub txs_on : (n : ℕ) (xs : Txs) → GoodTxs B T escapes n s xs → GoodTxs B T escapes n t xs
-    txs_on n x k = widen_txs B (KnowsAt B T escapes s) (KnowsAt B T escapes t) (knows_on B T escapes kept s t h) n x k
+    pub txs_on : (n : ℕ) (xs : Txs) → GoodTxs asks n s xs → GoodTxs asks n t xs
+    txs_on n x k = widen_txs asks.breaks (KnowsAt asks s) (KnowsAt asks t) (knows_on asks kept s t h) n x k
 
-    pub ts_on : (n : ℕ) (x : Ts) → GoodTs B T escapes n s x → GoodTs B T escapes n t x
-    ts_on n x k = widen_ts B (KnowsAt B T escapes s) (KnowsAt B T escapes t) (knows_on B T escapes kept s t h) n x k
+    pub ts_on : (n : ℕ) (x : Ts) → GoodTs asks n s x → GoodTs asks n t x
+    ts_on n x k = widen_ts asks.breaks (KnowsAt asks s) (KnowsAt asks t) (knows_on asks kept s t h) n x k
 
-    pub stms_on : (n : ℕ) (ss : Stms) → GoodStms B T escapes n s ss → GoodStms B T escapes n t ss
-    stms_on n x k = widen_stms B (KnowsAt B T escapes s) (KnowsAt B T escapes t) (knows_on B T escapes kept s t h) n x k
+    pub stms_on : (n : ℕ) (ss : Stms) → GoodStms asks n s ss → GoodStms asks n t ss
+    stms_on n x k = widen_stms asks.breaks (KnowsAt asks s) (KnowsAt asks t) (knows_on asks kept s t h) n x k
 
-    pub cond_on : (n : ℕ) (c : Cond) → GoodCond B T escapes n s c → GoodCond B T escapes n t c
-    cond_on n x k = widen_cond B (KnowsAt B T escapes s) (KnowsAt B T escapes t) (knows_on B T escapes kept s t h) n x k
+    pub cond_on : (n : ℕ) (c : Cond) → GoodCond asks n s c → GoodCond asks n t c
+    cond_on n x k = widen_cond asks.breaks (KnowsAt asks s) (KnowsAt asks t) (knows_on asks kept s t h) n x k
 
-    pub made_on : (n : ℕ) (m : Made) → GoodMade B T escapes n s m → GoodMade B T escapes n t m
+    pub made_on : (n : ℕ) (m : Made) → GoodMade asks n s m → GoodMade asks n t m
     made_on n (value x) k = tx_on n x k
     made_on n (done x) k = ts_on n x k
     made_on n (test c) k = cond_on n c k
 
-    pub temp_on : (i : ℕ) → (T → i < s.frame.temps) → T → i < t.frame.temps
+    pub temp_on : (i : ℕ) → (asks.temps → i < s.frame.temps) → asks.temps → i < t.frame.temps
     temp_on i k asked = let j = k asked in omega (arith, j, h.temps)
 
-    pub place_on : (n : ℕ) (p : Place) → GoodPlace B T escapes n s p → GoodPlace B T escapes n t p
+    pub place_on : (n : ℕ) (p : Place) → GoodPlace asks n s p → GoodPlace asks n t p
     place_on n (in_temp i) k = temp_on i k
     place_on n (at_address ss x) k = (stms_on n ss k.0, tx_on n x k.1)
 
-    pub operand_on : (x : Operand) → GoodOperand B T escapes s x → GoodOperand B T escapes t x
+    pub operand_on : (x : Operand) → GoodOperand asks s x → GoodOperand asks t x
     operand_on (Number n) k = tt
     operand_on (Kept i) k = temp_on i.0 k
 
-    pub operands_on : (xs : List Operand) → GoodOperands B T escapes s xs → GoodOperands B T escapes t xs
+    pub operands_on : (xs : List Operand) → GoodOperands asks s xs → GoodOperands asks t xs
     operands_on [] k = tt
     operands_on (x ∷ xs) k = (operand_on x k.0, operands_on xs k.1)
 
-    pub held_on : (n : ℕ) (all : HeldAll) → GoodHeld B T escapes n s all → GoodHeld B T escapes n t all
+    pub held_on : (n : ℕ) (all : HeldAll) → GoodHeld asks n s all → GoodHeld asks n t all
     held_on n all k = (stms_on n all.before k.0, operands_on all.operands k.1)
 
-    pub want_on : (w : Want) → GoodWant B T escapes s w → GoodWant B T escapes t w
+    pub want_on : (w : Want) → GoodWant asks s w → GoodWant asks t w
     want_on want.Value k = tt
     want_on (want.Into i) k = temp_on i.0 k
     want_on want.Dropped k = tt
     want_on want.Test k = tt
 
-    pub access_on : (a : Access) → GoodAccess B T escapes s a → GoodAccess B T escapes t a
+    pub access_on : (a : Access) → GoodAccess asks s a → GoodAccess asks t a
     access_on (InTemp i) k = temp_on i.0 k
     access_on (InFrame j) k = tt
