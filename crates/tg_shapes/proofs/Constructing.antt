@@ -14,11 +14,10 @@ use Rattle.tg_tree.specs.declared.operators.Rel.TheVariants as rel
 use Rattle.tg_runtime.specs.Labels.{label_of}
 use Rattle.tg_runtime.specs.declared.routines.Routine.{Routine}
 use Rattle.tg_runtime.specs.declared.routines.Routine.TheVariants as routine
-use Rattle.tg_translate.specs.declared.wants.Want.{Want}
 use Rattle.tg_translate.specs.declared.operands.Operand.{Operand}
 use Rattle.tg_translate.specs.declared.operands.Operand.TheVariants.{Number, Kept}
-use Rattle.tg_translate.specs.States.{State, Acts, Drawn, after, give, fresh}
-use Rattle.tg_translate.specs.Wants.{Made, value, test, value_of, put_in, followed}
+use Rattle.tg_translate.specs.States.{State, Acts, after, give, fresh}
+use Rattle.tg_translate.specs.Wants.{Made, value, test, put_in, followed}
 use Rattle.tg_translate.specs.Constructs.{minus_one, least_int, plus, operand, Held, keep, hold, HeldAll, hold_next, own_link, frame_out, Place, in_temp, at_address, place_in, own_place, after_all, read, store_at, want_for, assign, nil_check, index_check, zero_check, product_check, quotient_check, field_of, field_place, element_of, element_place, call_routine, store_field, store_fields, call_for_record, record_of, make_record, make_array, comparison, product_of, product, quotient_of, checked_quotient, quotient, operation, negation, repeat_while, first_minus_one, assign_value, turn_of, turns, count_of, count}
 use Rattle.tg_shapes.proofs.Keeping.{Asks, Where, access_on, bind, draws_temp, given, held_on, onward, operand_on, operands_on, stms_on, ts_on, tx_on, Ready, Yields, GoodTx, GoodTxs, GoodTs, GoodStms, GoodCond, GoodMade, GoodPlace, GoodOperand, GoodOperands, GoodHeld, GoodWant, GoodAccess, KnowsAt}
 use Rattle.tg_shapes.proofs.Wanting as wanting

@@ -1,5 +1,5 @@
 -- Variables and parameters are declared; a part of a text has a context of its own, and leaves it.
-use Rattle.std.proofs.Common.{◌≡◌, ◌≢◌, ◌≤◌, ◌+◌, ℕ, zero, suc, Bool, true, false, Some, List, [], ◌∷◌, map, refl, ap, ◌∙◌, subst, arith, inl, inr}
+use Rattle.std.proofs.Common.{◌≡◌, ◌≢◌, ◌<◌, ◌≤◌, ◌+◌, ℕ, zero, suc, Bool, true, false, Some, List, [], ◌∷◌, map, refl, ap, ◌∙◌, subst, arith, inl, inr}
 use Rattle.std.specs.Prelude.{IsTrue}
 use Rattle.std.specs.List.{Contains}
 use Rattle.tg_symbols.specs.Tables.{named}
@@ -11,11 +11,11 @@ use Rattle.tg_frame.specs.Homes.{is_slot, homes_from, homes_of, temps_of}
 use Rattle.tg_translate.specs.declared.homes.Home.{Home}
 use Rattle.tg_translate.specs.States.{State, Frame, Drawn, drawn, one_temp, one_slot}
 use Rattle.tg_translate.specs.Constructs.{in_body, in_test}
-use Rattle.tg_translate.specs.Scopes.{Findings, declare_variable}
+use Rattle.tg_translate.specs.Scopes.{declare_variable}
 use Rattle.tg_translate.specs.Functions.{at_of, asked, parameters, own_homes}
 use Rattle.tg_shapes.specs.Standing.{AreApart, params_of, owned_by}
 use Rattle.tg_shapes.proofs.Actions.{left}
-use Rattle.tg_shapes.proofs.Keeping.{Asks, Where, Ready, Step, Yields, GoodAccess, IsDrawn}
+use Rattle.tg_shapes.proofs.Keeping.{Asks, Where, Ready, Step, Yields, GoodAccess, IsDrawn, drawn_on}
 use Rattle.tg_shapes.proofs.Scoping.{named_cases, named_other, more_contained, first_contained, behind_first}
 
 -- contexts: with a variable more, with more variables, in a loop's body, in a loop's test
@@ -65,8 +65,9 @@ module _ {asks : Asks} where
       Ready asks c s → Yields asks d s V dr → Yields asks c s V dr
   leave_yields e f r h = let k = leave_with e f r h in record { step = k.step; ready = k.ready; value = k.value.0 }
 
-  pub enter_turn : {c : Where} {s : State} → Ready asks c s → Ready asks (turning c) s
-  enter_turn r = record {
+  enter : {c : Where} {s : State} (leave loops : ℕ) (in_loop : Bool) → (asks.breaks → in_loop ≡ true → leave < loops) → Ready asks c s →
+      Ready asks (record c { within = record c.within { leave = leave }; loops = loops; in_loop = in_loop }) s
+  enter leave loops in_loop f r = record {
     from = r.from;
     callees = r.callees;
     unused = r.unused;
@@ -74,20 +75,14 @@ module _ {asks : Asks} where
     owned = r.owned;
     slots = r.slots;
     link = r.link;
-    loops = λ b e. omega arith;
+    loops = f;
   }
 
+  pub enter_turn : {c : Where} {s : State} → Ready asks c s → Ready asks (turning c) s
+  enter_turn {c} r = enter 0 (c.loops + 1) true (λ b e. omega arith) r
+
   pub enter_test : {c : Where} {s : State} → Ready asks c s → Ready asks (testing c) s
-  enter_test r = record {
-    from = r.from;
-    callees = r.callees;
-    unused = r.unused;
-    functions = r.functions;
-    owned = r.owned;
-    slots = r.slots;
-    link = r.link;
-    loops = λ b e. let h = r.loops b e in omega (arith, h);
-  }
+  enter_test {c} r = enter (c.within.leave + 1) (c.loops + 1) c.in_loop (λ b e. let h = r.loops b e in omega (arith, h)) r
 
 module _ (asks : Asks) where
   -- A variable is declared.
@@ -110,10 +105,6 @@ module _ (asks : Asks) where
         (λ q. apart t x (subst (λ y. Contains (at ∷ []) y) q (first_contained at [])) k);
   }
 
-  drawn_on : (n m : ℕ) (a : Access) → n ≤ m → IsDrawn asks n a → IsDrawn asks m a
-  drawn_on n m (InTemp t) h k = omega (arith, h, k)
-  drawn_on n m (InFrame j) h k = tt
-
   home_ready : (c : Where) (s : State) (at level : ℕ) (f : Frame) (a : Access) → s.frame.temps ≤ f.temps → IsDrawn asks
       f.temps a →
       (asks.findings.escapes at ≡ true → IsTrue (is_slot a)) → Ready asks c s → Ready asks (owning at c) (with_home at level f a s)
@@ -125,7 +116,7 @@ module _ (asks : Asks) where
     owned = λ t x home k e.
         elim (named_cases x at (record { level = level; access = a }) home s.homes e) [
           | inl q ↦ subst (λ v. IsDrawn asks f.temps v.access) q.1 d
-          | inr q ↦ drawn_on s.frame.temps f.temps home.access h (r.owned t x home (behind_first at x c.own q.0 k) q.1)
+          | inr q ↦ drawn_on asks s.frame.temps f.temps home.access h (r.owned t x home (behind_first at x c.own q.0 k) q.1)
         ];
     slots = λ t x home k e.
         elim (named_cases x at (record { level = level; access = a }) home s.homes e) [

@@ -174,7 +174,7 @@ module _ (asks : Asks) where
 
   -- A frame may draw.
 
-  drawn_on : (n m : ℕ) (a : Access) → n ≤ m → IsDrawn n a → IsDrawn m a
+  pub drawn_on : (n m : ℕ) (a : Access) → n ≤ m → IsDrawn n a → IsDrawn m a
   drawn_on n m (InTemp t) h k = omega (arith, h, k)
   drawn_on n m (InFrame j) h k = tt
 

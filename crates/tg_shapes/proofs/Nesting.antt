@@ -1,18 +1,17 @@
 -- Functions: each has a frame of its own, and stands behind those that were done before it.
-use Rattle.std.proofs.Common.{◌≡◌, ◌<◌, ◌≤◌, ◌+◌, ℕ, zero, suc, Bool, true, false, List, [], ◌∷◌, ◌++◌, refl, sym, ap, ◌∙◌, arith}
+use Rattle.std.proofs.Common.{◌≡◌, ◌<◌, ◌≤◌, ◌+◌, ℕ, zero, suc, Bool, true, false, List, ◌∷◌, ◌++◌, refl, sym, ap, ◌∙◌, arith}
 use Rattle.std.specs.List.{Contains}
 use Rattle.std.proofs.lemmas.List.Elements.{Contains-append_left, Contains-append_right}
 use Rattle.tg_symbols.specs.Tables.{named}
 use Rattle.tg_syntax.specs.declared.trees.Param.{Param}
 use Rattle.tg_syntax.specs.Tree.{FunDecs, no_functions, function}
 use Rattle.tg_frame.specs.Homes.{temps_of}
-use Rattle.tg_tree.specs.Tree.{Ts, Return, Function}
+use Rattle.tg_tree.specs.Tree.{Ts, Return}
 use Rattle.tg_tree.specs.Shapes.{EndsFunction}
 use Rattle.tg_translate.specs.declared.homes.Within.{Within}
 use Rattle.tg_translate.specs.declared.wants.Want.{Want}
-use Rattle.tg_translate.specs.States.{State, Acts, Drawn, drawn, after, give}
-use Rattle.tg_translate.specs.Wants.{Made, value_of}
-use Rattle.tg_translate.specs.Scopes.{Findings}
+use Rattle.tg_translate.specs.States.{State, Acts, Drawn, drawn, after}
+use Rattle.tg_translate.specs.Wants.{Made}
 use Rattle.tg_translate.specs.Functions.{at_of, asked, parameters, own_homes, frame_for, declare_functions, with_body, finished, finish, opened, result_want, inside, gives_nothing, closing, body}
 use Rattle.tg_shapes.specs.Standing.{AreApart, params_of}
 use Rattle.tg_shapes.proofs.Fine.{each_append}

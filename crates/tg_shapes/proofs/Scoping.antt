@@ -7,15 +7,14 @@ use Rattle.tg_symbols.specs.Tables.{named}
 use Rattle.tg_frame.specs.declared.accesses.Access.{Access}
 use Rattle.tg_frame.specs.declared.accesses.Access.TheVariants.{InTemp, InFrame}
 use Rattle.tg_frame.specs.Homes.{is_slot}
-use Rattle.tg_tree.specs.Tree.{Tx, Txs}
+use Rattle.tg_tree.specs.Tree.{Txs}
 use Rattle.tg_types.specs.declared.notes.Means.{Means}
 use Rattle.tg_types.specs.declared.notes.Means.TheVariants as means
 use Rattle.tg_translate.specs.declared.homes.Home.{Home}
 use Rattle.tg_translate.specs.declared.homes.Callee.{Callee}
-use Rattle.tg_translate.specs.States.{State, Drawn}
-use Rattle.tg_translate.specs.Wants.{Made}
+use Rattle.tg_translate.specs.States.{State}
 use Rattle.tg_translate.specs.Constructs.{Place, string_text}
-use Rattle.tg_translate.specs.Scopes.{Findings, frame_at, nowhere, no_value, home_place, variable_place, routine_of, call_declared, call, literal}
+use Rattle.tg_translate.specs.Scopes.{frame_at, nowhere, no_value, home_place, variable_place, routine_of, call_declared, call, literal}
 use Rattle.tg_shapes.specs.Standing.{IsInReach}
 use Rattle.tg_shapes.proofs.Counts.{times-append, same, same_not, below-next, contained_counts, counted_contains}
 use Rattle.tg_translate.specs.Constructs as constructs

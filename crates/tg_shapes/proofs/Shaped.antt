@@ -11,9 +11,8 @@ use Rattle.tg_tree.specs.Named.{Named, function, literal, fault, temporary, func
 use Rattle.tg_tree.specs.Shapes.{IsClosed}
 use Rattle.tg_translate.specs.declared.wants.Want.TheVariants as want
 use Rattle.tg_translate.specs.States.{State, Drawn, drawn}
-use Rattle.tg_translate.specs.Scopes.{Findings}
-use Rattle.tg_translate.specs.Functions.{with_body, beginning, frame_for, outermost, program, closing}
-use Rattle.tg_translate.specs.Translate.{expression, program_body, translated}
+use Rattle.tg_translate.specs.Functions.{with_body, beginning, frame_for, outermost, program}
+use Rattle.tg_translate.specs.Translate.{program_body, translated}
 use Rattle.tg_shapes.specs.Laws.{names}
 use Rattle.tg_shapes.specs.Standing.{BreaksStand, Reaches}
 use Rattle.tg_shapes.proofs.Fine.{Each, breaks_ts, names_ts, each_contained}

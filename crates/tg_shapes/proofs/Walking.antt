@@ -12,11 +12,11 @@ use Rattle.tg_tree.specs.Lists.{join_txs}
 use Rattle.tg_types.specs.declared.notes.Means.{Means}
 use Rattle.tg_translate.specs.declared.wants.Want.{Want}
 use Rattle.tg_translate.specs.declared.wants.Want.TheVariants as want
-use Rattle.tg_translate.specs.States.{State, Acts, Drawn, after, give}
-use Rattle.tg_translate.specs.Wants.{Made, value, done, test_of, value_of, dropped, as_statement, arms, deliver, followed, behind}
-use Rattle.tg_translate.specs.Constructs.{Place, HeldAll, none_held, hold_next, own_place, read, want_for, assign, field_place, element_place, make_record, make_array, operation, negation, repeat_while, in_body, in_test, count}
+use Rattle.tg_translate.specs.States.{State, Acts, after, give}
+use Rattle.tg_translate.specs.Wants.{Made, value, done, test_of, value_of, dropped, arms, deliver, followed}
+use Rattle.tg_translate.specs.Constructs.{Place, HeldAll, none_held, own_place, read, want_for, make_array, operation, negation, repeat_while, in_test}
 use Rattle.tg_translate.specs.Choices.{left_want, connected, tested, chosen}
-use Rattle.tg_translate.specs.Scopes.{Findings, field_number, compares_strings, call, declare_variable}
+use Rattle.tg_translate.specs.Scopes.{field_number, compares_strings}
 use Rattle.tg_translate.specs.Purity.{assigns_nothing, inits_assign_nothing}
 use Rattle.tg_translate.specs.Functions.{at_of, declare_functions, body}
 use Rattle.tg_translate.specs.Translate.{connective, with_left, Begun, declaration_of, expression, locate, values, fields, sequence, declarations, bodies}

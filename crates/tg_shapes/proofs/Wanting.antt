@@ -1,6 +1,6 @@
 -- What is made what its place wants is fine, where what it is made of is.
-use Rattle.std.proofs.Common.{◌<◌, ℕ, Bool}
-use Rattle.tg_tree.specs.Tree.{Tx, Const, Temp, After, Cond, Ts, Stms, no_stms, stm}
+use Rattle.std.proofs.Common.{◌<◌, ℕ}
+use Rattle.tg_tree.specs.Tree.{Const, Temp, After, Cond, Ts, Stms, no_stms, stm}
 use Rattle.tg_translate.specs.declared.wants.Want.{Want}
 use Rattle.tg_translate.specs.declared.wants.Want.TheVariants as want
 use Rattle.tg_translate.specs.States.{State, Drawn, after, give, fresh}

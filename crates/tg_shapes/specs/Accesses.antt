@@ -1,41 +1,10 @@
 -- How far a tree goes for what it reads and writes: its accesses of memory, one within another. A
 -- frame further out is found by a load of each static link on the way.
 use Rattle.std.specs.Prelude.{ℕ, zero, suc}
-use Rattle.tg_tree.specs.Tree.{
-  Tx,
-  Const,
-  Address,
-  Temp,
-  FrameAddress,
-  Binary,
-  Load,
-  LoadByte,
-  Call,
-  Service,
-  After,
-  Txs,
-  no_txs,
-  tx,
-  Cond,
-  Compare,
-  Not,
-  Both,
-  Either,
-  Ts,
-  Move,
-  Store,
-  StoreByte,
-  Do,
-  If,
-  Loop,
-  Break,
-  Fault,
-  Seq,
-  Return,
-  Stms,
-  no_stms,
-  stm,
-}
+use Rattle.tg_tree.specs.Tree.{Tx, Const, Address, Temp, FrameAddress, Binary, Load, LoadByte, Call}
+use Rattle.tg_tree.specs.Tree.{Service, After, Txs, no_txs, tx, Cond, Compare, Not, Both, Either}
+use Rattle.tg_tree.specs.Tree.{Ts, Move, Store, StoreByte, Do, If, Loop, Break, Fault, Seq, Return}
+use Rattle.tg_tree.specs.Tree.{Stms, no_stms, stm}
 
 -- an access, whose address has one less
 abbrev pub Accessed : (most : ℕ) → (address : ℕ → Type 0) → Type 0

@@ -2,44 +2,10 @@
 -- text declares, and those of its loops. The functions nested in it have counts of their own.
 use Rattle.std.specs.Prelude.{ℕ, ◌+◌, List, [], ◌∷◌, ◌++◌, Bool, true, false}
 use Rattle.tg_syntax.specs.declared.trees.Param.{Param}
-use Rattle.tg_syntax.specs.Tree.{
-  Exp,
-  Nil,
-  Break,
-  Int,
-  Text,
-  Read,
-  Call,
-  Neg,
-  Binary,
-  Make,
-  Fill,
-  Assign,
-  If,
-  When,
-  While,
-  For,
-  Let,
-  Seq,
-  Place,
-  Simple,
-  Field,
-  Index,
-  Exps,
-  no_exps,
-  exp,
-  Inits,
-  no_inits,
-  init,
-  Decs,
-  no_decs,
-  types,
-  variable,
-  functions,
-  FunDecs,
-  no_functions,
-  function,
-}
+use Rattle.tg_syntax.specs.Tree.{Exp, Nil, Break, Int, Text, Read, Call, Neg, Binary, Make, Fill}
+use Rattle.tg_syntax.specs.Tree.{Assign, If, When, While, For, Let, Seq, Place, Simple, Field}
+use Rattle.tg_syntax.specs.Tree.{Index, Exps, no_exps, exp, Inits, no_inits, init, Decs, no_decs}
+use Rattle.tg_syntax.specs.Tree.{types, variable, functions, FunDecs, no_functions, function}
 use Rattle.tg_translate.specs.Functions.{at_of}
 
 -- one for a byte that escapes
