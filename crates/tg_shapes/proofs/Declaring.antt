@@ -58,7 +58,7 @@ module _ {asks : Asks} where
       Ready asks c s → Yields asks d s V dr → Yields asks c s (λ t a. V t a × Ready asks d t) dr
   leave_with {s = s} {dr = dr} e f r h =
       let st = subst (λ k. Step asks k s (left dr)) e h.step in
-      record { step = st; ready = leave f st.temps r h.ready; value = (h.value, h.ready) }
+      record { step = st; ready = leave f st.grows.temps r h.ready; value = (h.value, h.ready) }
 
   pub leave_yields : {A : Type 0} {c d : Where} {s : State} {V : State → A → Type 0} {dr : Drawn A} → d.kept ≡ c.kept →
       ((at : ℕ) → Contains c.own at → Contains d.own at) →
@@ -94,15 +94,18 @@ module _ (asks : Asks) where
       s.frame.temps ≤ f.temps →
       (asks.temps → AreApart (at ∷ []) kept) → Step asks kept s (with_home at level f a s)
   home_step kept s at level f a e h apart = record {
-    label = omega arith;
-    temps = h;
-    name = e;
-    callees = λ l k. k;
-    literals = λ l k. k;
+    grows =
+        record {
+          label = omega arith;
+          temps = h;
+          name = e;
+          callees = λ l k. k;
+          literals = λ l k. k;
+          homes = λ t x k.
+              named_other x at (record { level = level; access = a }) s.homes
+              (λ q. apart t x (subst (λ y. Contains (at ∷ []) y) q (first_contained at [])) k);
+        };
     balance = λ n. refl;
-    homes = λ t x k.
-        named_other x at (record { level = level; access = a }) s.homes
-        (λ q. apart t x (subst (λ y. Contains (at ∷ []) y) q (first_contained at [])) k);
   }
 
   home_ready : (c : Where) (s : State) (at level : ℕ) (f : Frame) (a : Access) → s.frame.temps ≤ f.temps → IsDrawn asks

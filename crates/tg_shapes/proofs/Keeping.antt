@@ -71,14 +71,18 @@ module _ (asks : Asks) where
   IsDrawn n (InFrame k) = Unit {0}
 
   -- from one state to a later one, with the homes of these variables kept
-  pub record Step (kept : List ℕ) (s t : State) : Type 0 where
+  pub record Grows (kept : List ℕ) (s t : State) : Type 0 where
     pub label : s.label ≤ t.label
     pub temps : s.frame.temps ≤ t.frame.temps
     pub name : t.frame.label ≡ s.frame.label
     pub callees : (l : ℕ) → Contains (callee_labels s) l → Contains (callee_labels t) l
     pub literals : (l : ℕ) → Contains (literal_labels s) l → Contains (literal_labels t) l
-    pub balance : (n : ℕ) → stands n t + below n s.label ≡ stands n s + below n t.label
     pub homes : asks.temps → (at : ℕ) → Contains kept at → named at t.homes ≡ named at s.homes
+
+  -- where each label that was drawn between stands once more
+  pub record Step (kept : List ℕ) (s t : State) : Type 0 where
+    pub grows : Grows kept s t
+    pub balance : (n : ℕ) → stands n t + below n s.label ≡ stands n s + below n t.label
 
   pub record Ready (c : Where) (s : State) : Type 0 where
     pub from : 33 ≤ s.label
@@ -113,7 +117,7 @@ module _ (asks : Asks) where
   pub knows_on : (kept : List ℕ) (s t : State) → Step kept s t → (x : Named) → KnowsAt s x → KnowsAt t x
   knows_on kept s t h x k =
       know_more (callee_labels s) (literal_labels s) (callee_labels t) (literal_labels t) s.frame.temps t.frame.temps
-      h.callees h.literals h.temps x k
+      h.grows.callees h.grows.literals h.grows.temps x k
 
   pub functions_on : (cs ls ds ms : List ℕ) → ((l : ℕ) → Contains cs l → Contains ds l) →
       ((l : ℕ) → Contains ls l → Contains ms l) →
@@ -181,13 +185,16 @@ module _ (asks : Asks) where
   pub framed : (kept : List ℕ) (s : State) (f : Frame) → f.label ≡ s.frame.label → s.frame.temps ≤ f.temps → Step kept s
       (with_frame f s)
   framed kept s f e h = record {
-    label = omega arith;
-    temps = h;
-    name = e;
-    callees = λ l k. k;
-    literals = λ l k. k;
+    grows =
+        record {
+          label = omega arith;
+          temps = h;
+          name = e;
+          callees = λ l k. k;
+          literals = λ l k. k;
+          homes = λ t at k. refl;
+        };
     balance = λ n. refl;
-    homes = λ t at k. refl;
   }
 
   pub ready_framed : (c : Where) (s : State) (f : Frame) → s.frame.temps ≤ f.temps → Ready c s → Ready c
@@ -207,26 +214,43 @@ module _ (asks : Asks) where
 module _ {asks : Asks} where
   -- Steps follow one another.
 
-  pub stay : {kept : List ℕ} {s : State} → Step asks kept s s
-  stay = record {
+  pub grows_none : {kept : List ℕ} {s : State} → Grows asks kept s s
+  grows_none = record {
     label = omega arith;
     temps = omega arith;
     name = refl;
     callees = λ l h. h;
     literals = λ l h. h;
-    balance = λ n. refl;
     homes = λ t at h. refl;
   }
 
-  pub onward : {kept : List ℕ} {s t u : State} → Step asks kept s t → Step asks kept t u → Step asks kept s u
-  onward h k = record {
+  pub grows_on : {kept : List ℕ} {s t u : State} → Grows asks kept s t → Grows asks kept t u → Grows asks kept s u
+  grows_on h k = record {
     label = omega (arith, h.label, k.label);
     temps = omega (arith, h.temps, k.temps);
     name = k.name ∙ h.name;
     callees = λ l c. k.callees l (h.callees l c);
     literals = λ l c. k.literals l (h.literals l c);
-    balance = λ n. let p = h.balance n in let q = k.balance n in omega (arith, p, q);
     homes = λ t at c. k.homes t at c ∙ h.homes t at c;
+  }
+
+  pub grows_for : {kept more : List ℕ} {s t : State} → ((at : ℕ) → Contains kept at → Contains more at) → Grows asks more s t → Grows asks kept s t
+  grows_for f h = record {
+    label = h.label;
+    temps = h.temps;
+    name = h.name;
+    callees = h.callees;
+    literals = h.literals;
+    homes = λ t at c. h.homes t at (f at c);
+  }
+
+  pub stay : {kept : List ℕ} {s : State} → Step asks kept s s
+  stay = record { grows = grows_none; balance = λ n. refl }
+
+  pub onward : {kept : List ℕ} {s t u : State} → Step asks kept s t → Step asks kept t u → Step asks kept s u
+  onward h k = record {
+    grows = grows_on h.grows k.grows;
+    balance = λ n. let p = h.balance n in let q = k.balance n in omega (arith, p, q);
   }
 
   pub bind : {A C : Type 0} {c : Where} {s : State} {V : State → A → Type 0} {W : State → C → Type 0} {d : Drawn A} {next : A → Acts C} →
@@ -269,7 +293,7 @@ module _ {asks : Asks} where
     made_on n (test c) k = cond_on n c k
 
     pub temp_on : (i : ℕ) → (asks.temps → i < s.frame.temps) → asks.temps → i < t.frame.temps
-    temp_on i k asked = let j = k asked in omega (arith, j, h.temps)
+    temp_on i k asked = let j = k asked in omega (arith, j, h.grows.temps)
 
     pub place_on : (n : ℕ) (p : Place) → GoodPlace asks n s p → GoodPlace asks n t p
     place_on n (in_temp i) k = temp_on i k

@@ -16,7 +16,7 @@ use Rattle.tg_translate.specs.Functions.{at_of, asked, parameters, own_homes, fr
 use Rattle.tg_shapes.specs.Standing.{AreApart, params_of}
 use Rattle.tg_shapes.proofs.Fine.{each_append}
 use Rattle.tg_shapes.proofs.Counts.{times, times-append, same, below, below-next}
-use Rattle.tg_shapes.proofs.Keeping.{Asks, Where, callee_labels, literal_labels, stands, bind, given, onward, Ready, Step, Yields, GoodTs, GoodMade, FineFunction, GoodWant, functions_on}
+use Rattle.tg_shapes.proofs.Keeping.{Asks, Where, callee_labels, literal_labels, stands, bind, given, onward, Ready, Step, Yields, GoodTs, GoodMade, FineFunction, GoodWant, functions_on, Grows, grows_none, grows_on, grows_for}
 use Rattle.tg_shapes.proofs.Wanting as wanting
 use Rattle.tg_shapes.proofs.Scoping.{more_contained}
 use Rattle.tg_shapes.proofs.Declaring as declaring
@@ -47,35 +47,16 @@ module _ (asks : Asks) where
 
   -- from one state to a later one, where the labels from one on, up to another, are given away
   pub record Places (kept : List ℕ) (from to : ℕ) (s t : State) : Type 0 where
-    pub label : s.label ≤ t.label
-    pub temps : s.frame.temps ≤ t.frame.temps
-    pub name : t.frame.label ≡ s.frame.label
-    pub callees : (l : ℕ) → Contains (callee_labels s) l → Contains (callee_labels t) l
-    pub literals : (l : ℕ) → Contains (literal_labels s) l → Contains (literal_labels t) l
+    pub grows : Grows asks kept s t
     pub balance : (n : ℕ) → stands n t + below n s.label + below n from ≡ stands n s + below n t.label + below n to
-    pub homes : asks.temps → (at : ℕ) → Contains kept at → named at t.homes ≡ named at s.homes
 
   pub places_none : (kept : List ℕ) (n : ℕ) (s : State) → Places kept n n s s
-  places_none kept n s = record {
-    label = omega arith;
-    temps = omega arith;
-    name = refl;
-    callees = λ l h. h;
-    literals = λ l h. h;
-    balance = λ k. refl;
-    homes = λ t at h. refl;
-  }
+  places_none kept n s = record { grows = grows_none; balance = λ k. refl }
 
-  pub places_more : (kept : List ℕ) (a b d : ℕ) (s t u : State) → Places kept a b s t → Places kept b d t u → Places
-      kept a d s u
+  pub places_more : (kept : List ℕ) (a b d : ℕ) (s t u : State) → Places kept a b s t → Places kept b d t u → Places kept a d s u
   places_more kept a b d s t u h k = record {
-    label = omega (arith, h.label, k.label);
-    temps = omega (arith, h.temps, k.temps);
-    name = k.name ∙ h.name;
-    callees = λ l c. k.callees l (h.callees l c);
-    literals = λ l c. k.literals l (h.literals l c);
+    grows = grows_on h.grows k.grows;
     balance = λ n. let p = h.balance n in let q = k.balance n in omega (arith, p, q);
-    homes = λ t at c. k.homes t at c ∙ h.homes t at c;
   }
 
   -- A function's text is begun, and done.
@@ -114,21 +95,23 @@ module _ (asks : Asks) where
   done_places c s u label kept params x apart h =
       let one = with_body u.frame x in
       record {
-        label = h.label;
-        temps = omega arith;
-        name = refl;
-        callees = h.callees;
-        literals = h.literals;
+        grows =
+            record {
+              label = h.grows.label;
+              temps = omega arith;
+              name = refl;
+              callees = h.grows.callees;
+              literals = h.grows.literals;
+              homes = λ t at k.
+                  h.grows.homes t at k
+                  ∙ (declaring.all_homed asks (c.within.level + 1) kept params s.homes).others at (λ q. apart t at q k);
+            };
         balance = λ n.
             let p = h.balance n in
             let q = times-append (λ f. f.label) n s.functions (one ∷ u.functions) in
-            let i : same one.label n ≡ same label n = ap (λ l. same l n) h.name in
+            let i : same one.label n ≡ same label n = ap (λ l. same l n) h.grows.name in
             let j = below-next n label in
             omega (arith, p, q, i, j);
-        homes = λ t at k.
-            h.homes t at k
-            ∙ (declaring.all_homed asks (c.within.level + 1) kept params s.homes).others at
-            (λ q. apart t at q k);
       }
 
   done_ready : (c : Where) (s u : State) (label : ℕ) (kept : Bool) (params : List Param) (x : Ts) →
@@ -146,10 +129,10 @@ module _ (asks : Asks) where
             each_append (FineFunction asks (callee_labels u) (literal_labels u)) s.functions
             (with_body u.frame x ∷ u.functions)
             (functions_on asks (callee_labels s) (literal_labels s) (callee_labels u)
-            (literal_labels u) h.callees h.literals
+            (literal_labels u) h.grows.callees h.grows.literals
             s.functions r.functions)
             (record { body = w.0; last = w.1 }, q.functions);
-        owned = λ t at home k e. r.owned t at home k (sym (place.homes t at (Contains-append_left c.own c.kept at k)) ∙
+        owned = λ t at home k e. r.owned t at home k (sym (place.grows.homes t at (Contains-append_left c.own c.kept at k)) ∙
             e);
         slots = q.slots;
         link = r.link;
@@ -195,14 +178,9 @@ module _ (asks : Asks) where
   after_group (function _ _ _ _ rest) l = after_group rest (l + 1)
 
   pub record Opens (kept : List ℕ) (end : ℕ) (s t : State) : Type 0 where
-    pub from : s.label ≤ t.label
+    pub grows : Grows asks kept s t
     pub label : t.label ≡ end
-    pub temps : s.frame.temps ≤ t.frame.temps
-    pub name : t.frame.label ≡ s.frame.label
-    pub callees : (l : ℕ) → Contains (callee_labels s) l → Contains (callee_labels t) l
-    pub literals : (l : ℕ) → Contains (literal_labels s) l → Contains (literal_labels t) l
     pub stays : (n : ℕ) → stands n t ≡ stands n s
-    pub homes : asks.temps → (at : ℕ) → Contains kept at → named at t.homes ≡ named at s.homes
 
   abbrev pub Opened : (c : Where) → (end : ℕ) → State → Drawn (Unit {0}) → Type 0
   Opened c end s (drawn _ t) = Opens c.kept end s t × Ready asks c t
@@ -234,37 +212,24 @@ module _ (asks : Asks) where
       one_of l (zero, i, e) = (let k = r.from in omega (arith, e, k), omega (arith, e), r.unused l (omega (arith, e)))
       one_of l (suc k, i, e) = let h = r.callees l (k, omega arith, e) in (h.0, omega (arith, h.1), h.2)
 
+  callee_grows : (kept : List ℕ) (s : State) (at level : ℕ) → Grows asks kept s (with_callee at level s)
+  callee_grows kept s at level = record {
+    label = omega arith;
+    temps = omega arith;
+    name = refl;
+    callees = λ l k. more_contained s.label l (callee_labels s) k;
+    literals = λ l k. k;
+    homes = λ t x k. refl;
+  }
+
   opened_more : (c : Where) (end at level : ℕ) (s : State) (d : Drawn (Unit {0})) → Opened c end
       (with_callee at level s) d → Opened c end s d
-  opened_more c end at level s (drawn u t) h = (
-    record {
-      from = let k = h.0.from in omega (arith, k);
-      label = h.0.label;
-      temps = h.0.temps;
-      name = h.0.name;
-      callees = λ l k. h.0.callees l (more_contained s.label l (callee_labels s) k);
-      literals = h.0.literals;
-      stays = h.0.stays;
-      homes = h.0.homes;
-    },
-    h.1,
-  )
+  opened_more c end at level s (drawn u t) h =
+      (record { grows = grows_on (callee_grows c.kept s at level) h.0.grows; label = h.0.label; stays = h.0.stays }, h.1)
 
   pub declared_opens : (fs : FunDecs) (c : Where) (level : ℕ) (s : State) → Ready asks c s → Opened c
       (after_group fs s.label) s (declare_functions level fs s)
-  declared_opens no_functions c level s r = (
-    record {
-      from = omega arith;
-      label = refl;
-      temps = omega arith;
-      name = refl;
-      callees = λ l h. h;
-      literals = λ l h. h;
-      stays = λ n. refl;
-      homes = λ t at h. refl;
-    },
-    r,
-  )
+  declared_opens no_functions c level s r = (record { grows = grows_none; label = refl; stays = λ n. refl }, r)
   declared_opens (function f ps result e rest) c level s r =
       opened_more c (after_group rest (s.label + 1)) (at_of f) level s
       (declare_functions level rest (with_callee (at_of f) level s))
@@ -274,17 +239,12 @@ module _ (asks : Asks) where
   group_step : (c : Where) (end : ℕ) (s t u : State) → Opens c.kept end s t → Places (c.own ++ c.kept) s.label end t u →
       Step asks c.kept s u
   group_step c end s t u h k = record {
-    label = omega (arith, h.from, k.label);
-    temps = omega (arith, h.temps, k.temps);
-    name = k.name ∙ h.name;
-    callees = λ l j. k.callees l (h.callees l j);
-    literals = λ l j. k.literals l (h.literals l j);
+    grows = grows_on h.grows (grows_for (λ at j. Contains-append_right c.own c.kept at j) k.grows);
     balance = λ n.
         let p = h.stays n in
         let q = k.balance n in
         let i : below n t.label ≡ below n end = ap (below n) h.label in
         omega (arith, p, q, i);
-    homes = λ q at j. k.homes q at (Contains-append_right c.own c.kept at j) ∙ h.homes q at j;
   }
 
   placed_next : {A : Type 0} (c : Where) (end : ℕ) (s t : State) (V : State → A → Type 0) (d : Drawn (Unit {0}))

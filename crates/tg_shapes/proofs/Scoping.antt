@@ -132,17 +132,19 @@ module _ (asks : Asks) where
 
   literal_step : (kept : List ℕ) (s : State) (bytes : List ℕ) → Step asks kept s (with_literal bytes s)
   literal_step kept s bytes = record {
-    label = omega arith;
-    temps = omega arith;
-    name = refl;
-    callees = λ l h. h;
-    literals = λ l h. pushed_contained (λ k. k.label) s.literals (record { label = s.label; text = string_text bytes })
-        l h;
+    grows =
+        record {
+          label = omega arith;
+          temps = omega arith;
+          name = refl;
+          callees = λ l h. h;
+          literals = λ l h. pushed_contained (λ k. k.label) s.literals (record { label = s.label; text = string_text bytes }) l h;
+          homes = λ t at h. refl;
+        };
     balance = λ n.
         let h = times-append (λ k. k.label) n s.literals (record { label = s.label; text = string_text bytes } ∷ []) in
         let k = below-next n s.label in
         omega (arith, h, k);
-    homes = λ t at h. refl;
   }
 
   literal_ready : (c : Where) (s : State) (bytes : List ℕ) → Ready asks c s → Ready asks c (with_literal bytes s)

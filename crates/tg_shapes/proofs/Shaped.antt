@@ -65,7 +65,7 @@ module _ (asks : Asks) (e : Exp) where
       body = with_body t.frame x;
       rest = t.functions;
       functions = refl;
-      label = h.step.name;
+      label = h.step.grows.name;
       fine = (record { body = h.value.0; last = h.value.1 }, h.ready.functions);
       from = h.ready.from;
       counts = λ n. let k = h.step.balance n in omega (arith, k);
