@@ -219,150 +219,151 @@ module _ (asks : Asks) where
   more_operands s [] x h k = (k, tt)
   more_operands s (y ∷ ys) x h k = (h.0, more_operands s ys x h.1 k)
 
-  module _ (c : Where) where
-    keep_yields : (s : State) (before : Stms) (x : Tx) → Ready asks c s → GoodStms asks c.loops s before → GoodTx asks c.loops s x →
-        Yields asks c s (HeldWell c.loops) (keep before x s)
-    keep_yields s before x r h k =
-        bind (draws_temp r)
-        (λ i t st r' j. given (record { before = followed before (Move i x); operand = Kept (record { 0 = i }) }) r' (
-          wanting.followed_good asks c.loops t before (Move i x)
-              (stms_on st c.loops before h)
-              (j, tx_on st c.loops x k),
-          j,
-        ))
+-- What actions yield.
+module _ {asks : Asks} {c : Where} where
+  keep_yields : {s : State} (before : Stms) (x : Tx) → Ready asks c s → GoodStms asks c.loops s before → GoodTx asks c.loops s x →
+      Yields asks c s (HeldWell asks c.loops) (keep before x s)
+  keep_yields before x r h k =
+      bind (draws_temp r)
+      (λ i t st r' j. given (record { before = followed before (Move i x); operand = Kept (record { 0 = i }) }) r' (
+        wanting.followed_good asks c.loops t before (Move i x)
+            (stms_on st c.loops before h)
+            (j, tx_on st c.loops x k),
+        j,
+      ))
 
-    hold_yields : (s : State) (direct : Bool) (before : Stms) (x : Tx) → Ready asks c s → GoodStms asks c.loops s before → GoodTx asks
-        c.loops s x →
-        Yields asks c s (HeldWell c.loops) (hold direct before x s)
-    hold_yields s direct before (Const n) r h k =
-        given (record { before = before; operand = Number n }) r (h, tt)
-    hold_yields s true before (Temp t) r h k =
-        given (record { before = before; operand = Kept (record { 0 = t }) })
-        r (h, k)
-    hold_yields s false before (Temp t) r h k = keep_yields s before (Temp t) r h k
-    hold_yields s direct before x r h k = keep_yields s before x r h k
+  hold_yields : {s : State} (direct : Bool) (before : Stms) (x : Tx) → Ready asks c s → GoodStms asks c.loops s before → GoodTx asks
+      c.loops s x →
+      Yields asks c s (HeldWell asks c.loops) (hold direct before x s)
+  hold_yields direct before (Const n) r h k =
+      given (record { before = before; operand = Number n }) r (h, tt)
+  hold_yields true before (Temp t) r h k =
+      given (record { before = before; operand = Kept (record { 0 = t }) })
+      r (h, k)
+  hold_yields false before (Temp t) r h k = keep_yields before (Temp t) r h k
+  hold_yields direct before x r h k = keep_yields before x r h k
 
-    pub hold_next_yields : (s : State) (direct : Bool) (all : HeldAll) (x : Tx) → Ready asks c s → GoodHeld asks c.loops s all →
-        GoodTx asks c.loops s x →
-        Yields asks c s (λ t held. GoodHeld asks c.loops t held) (hold_next direct all x s)
-    hold_next_yields s direct all x r h k =
-        bind (hold_yields s direct all.before x r h.0 k)
-        (λ held t st r' j.
-        given (record { before = held.before; operands = all.operands ++ held.operand ∷ [] }) r' (
-          j.0,
-          more_operands t all.operands held.operand (operands_on st all.operands h.1)
-              j.1,
-        ))
+  pub hold_next_yields : {s : State} (direct : Bool) (all : HeldAll) (x : Tx) → Ready asks c s → GoodHeld asks c.loops s all →
+      GoodTx asks c.loops s x →
+      Yields asks c s (λ t held. GoodHeld asks c.loops t held) (hold_next direct all x s)
+  hold_next_yields direct all x r h k =
+      bind (hold_yields direct all.before x r h.0 k)
+      (λ held t st r' j.
+      given (record { before = held.before; operands = all.operands ++ held.operand ∷ [] }) r' (
+        j.0,
+        more_operands asks t all.operands held.operand (operands_on st all.operands h.1)
+            j.1,
+      ))
 
-    pub assign_yields : (s : State) (p : Place) (m : Made) → Ready asks c s → GoodPlace asks c.loops s p → GoodMade asks c.loops s m →
-        Yields asks c s (λ t x. GoodTs asks c.loops t x) (assign p m s)
-    assign_yields s (in_temp i) m r h k =
-        given (put_in i m) r
-        (wanting.put_good asks c.loops s i m h k)
-    assign_yields s (at_address before a) m r h k =
-        bind (wanting.value_yields asks c s m r k)
-        (λ x t st r' j. given (store_at before a x) r'
-        (store_good c.loops t before a x (stms_on st c.loops before h.0)
-        (tx_on st c.loops a h.1) j))
+  pub assign_yields : {s : State} (p : Place) (m : Made) → Ready asks c s → GoodPlace asks c.loops s p → GoodMade asks c.loops s m →
+      Yields asks c s (λ t x. GoodTs asks c.loops t x) (assign p m s)
+  assign_yields {s} (in_temp i) m r h k =
+      given (put_in i m) r
+      (wanting.put_good asks c.loops s i m h k)
+  assign_yields (at_address before a) m r h k =
+      bind (wanting.value_yields m r k)
+      (λ x t st r' j. given (store_at before a x) r'
+      (store_good asks c.loops t before a x (stms_on st c.loops before h.0)
+      (tx_on st c.loops a h.1) j))
 
-    pub field_yields : (s : State) (k : ℕ) (x : Tx) → Ready asks c s → GoodTx asks c.loops s x →
-        Yields asks c s (λ t p. GoodPlace asks c.loops t p) (field_place k x s)
-    field_yields s k x r h =
-        bind (hold_yields s true no_stms x r tt h)
-        (λ held t st r' j. given (field_of k held.before (operand held.operand)) r'
-        (field_good c.loops t k held.before (operand held.operand) j.0 (operand_good c.loops t held.operand j.1)))
+  pub field_yields : {s : State} (k : ℕ) (x : Tx) → Ready asks c s → GoodTx asks c.loops s x →
+      Yields asks c s (λ t p. GoodPlace asks c.loops t p) (field_place k x s)
+  field_yields k x r h =
+      bind (hold_yields true no_stms x r tt h)
+      (λ held t st r' j. given (field_of k held.before (operand held.operand)) r'
+      (field_good asks c.loops t k held.before (operand held.operand) j.0 (operand_good asks c.loops t held.operand j.1)))
 
-    -- two values are held, one behind the other
-    module _ {A : Type 0} (W : State → A → Type 0) (direct also : Bool) (x y : Tx) (next : Held → Held → Acts A)
-        (made : (l h : Held) (t : State) → Ready asks c t → GoodOperand asks t l.operand → HeldWell c.loops t h → Yields asks c t W
-        (next l h t)) where
-      both_held : (s : State) → Ready asks c s → GoodTx asks c.loops s x → GoodTx asks c.loops s y →
-          Yields asks c s W (after (hold direct no_stms x s) (λ l t. after (hold also l.before y t) (λ h. next l h)))
-      both_held s r h k =
-          bind (hold_yields s direct no_stms x r tt h)
-          (λ l t st r' j.
-          bind (hold_yields t also l.before y r' j.0 (tx_on st c.loops y k))
-          (λ h u st' r'' i. made l h u r'' (operand_on st' l.operand j.1) i))
-
-    pub element_yields : (s : State) (direct : Bool) (x y : Tx) → Ready asks c s → GoodTx asks c.loops s x → GoodTx asks c.loops s y →
-        Yields asks c s (λ t p. GoodPlace asks c.loops t p) (element_place direct x y s)
-    element_yields s direct x y r h k =
-        both_held (λ t p. GoodPlace asks c.loops t p) direct true x y
-        (λ a i. give (element_of i.before (operand a.operand) (operand i.operand)))
-        (λ a i t r' j l. given (element_of i.before (operand a.operand) (operand i.operand)) r'
-        (element_good c.loops t i.before (operand a.operand) (operand i.operand) l.0
-        (operand_good c.loops t a.operand j)
-        (operand_good c.loops t i.operand l.1))) s r h k
-
-    pub record_yields : (s : State) (all : HeldAll) → Ready asks c s → GoodHeld asks c.loops s all → Yields asks c s
-        (λ t m. GoodMade asks c.loops t m) (make_record all s)
-    record_yields s all r h =
-        bind (draws_temp r)
-        (λ i t st r' j. given (record_of i all) r'
-        (record_good c.loops t i all j (held_on st c.loops all h)))
-
-    product_yields : (s : State) (direct : Bool) (x y : Tx) → Ready asks c s → GoodTx asks c.loops s x → GoodTx asks c.loops s y →
-        Yields asks c s (λ t m. GoodMade asks c.loops t m) (product direct x y s)
-    product_yields s direct x y r h k =
-        both_held (λ t m. GoodMade asks c.loops t m) direct true x y
-        (λ a b t. after (fresh t) (λ p. give (product_of p b.before (operand a.operand) (operand b.operand))))
-        (λ a b t r' j l.
-        bind (draws_temp r')
-        (λ p u st r'' i. given (product_of p b.before (operand a.operand) (operand b.operand)) r''
-        (product_good c.loops u p b.before (operand a.operand) (operand b.operand) i
-        (stms_on st c.loops b.before l.0)
-        (operand_good c.loops u a.operand (operand_on st a.operand j))
-        (operand_good c.loops u b.operand (operand_on st b.operand l.1))))) s r h k
-
-    checked_yields : (s : State) (direct : Bool) (x y : Tx) → Ready asks c s → GoodTx asks c.loops s x → GoodTx asks c.loops s y →
-        Yields asks c s (λ t m. GoodMade asks c.loops t m) (checked_quotient direct x y s)
-    checked_yields s direct x y r h k =
-        both_held (λ t m. GoodMade asks c.loops t m) direct true x y
-        (λ a b. give (quotient_of b.before (operand a.operand) (operand b.operand)))
-        (λ a b t r' j l. given (quotient_of b.before (operand a.operand) (operand b.operand)) r'
-        (quotient_good c.loops t b.before (operand a.operand) (operand b.operand) l.0
-        (operand_good c.loops t a.operand j)
-        (operand_good c.loops t b.operand l.1))) s r h k
-
-    by_number_yields : (s : State) (direct : Bool) (x : Tx) (k : ℕ) (b : Bool) → Ready asks c s → GoodTx asks c.loops s x →
-        Yields asks c s (λ t m. GoodMade asks c.loops t m) ((if b then checked_quotient direct x (Const k) else give
-        (value (Binary bin.Div x (Const k)))) s)
-    by_number_yields s direct x k true r h = checked_yields s direct x (Const k) r h tt
-    by_number_yields s direct x k false r h =
-        given (value (Binary bin.Div x (Const k))) r (h, tt)
-
-    quotient_yields : (s : State) (direct : Bool) (x y : Tx) → Ready asks c s → GoodTx asks c.loops s x → GoodTx asks c.loops s y →
-        Yields asks c s (λ t m. GoodMade asks c.loops t m) (quotient direct x y s)
-    quotient_yields s direct x (Const k) r h j = by_number_yields s direct x k (k == 0 || k == minus_one) r h
-    quotient_yields s direct x y r h j = checked_yields s direct x y r h j
-
-    compared_yields : (s : State) (o : Op) (strings : Bool) (x y : Tx) → Ready asks c s → GoodTx asks c.loops s x → GoodTx asks c.loops
-        s y →
-        Yields asks c s (λ t m. GoodMade asks c.loops t m) (give (test (comparison o strings x y)) s)
-    compared_yields s o strings x y r h k =
-        given (test (comparison o strings x y)) r
-        (comparison_good c.loops s o strings x y h k)
-
-    pub operation_yields : (s : State) (o : Op) (strings direct : Bool) (x y : Tx) → Ready asks c s → GoodTx asks c.loops s x →
-        GoodTx asks c.loops s y →
-        Yields asks c s (λ t m. GoodMade asks c.loops t m) (operation o strings direct x y s)
-    operation_yields s op.Plus strings direct x y r h k =
-        given (value (Binary bin.AddTrap x y)) r (h, k)
-    operation_yields s op.Minus strings direct x y r h k =
-        given (value (Binary bin.SubTrap x y)) r (h, k)
-    operation_yields s op.Times strings direct x y r h k = product_yields s direct x y r h k
-    operation_yields s op.Divide strings direct x y r h k = quotient_yields s direct x y r h k
-    operation_yields s o strings direct x y r h k = compared_yields s o strings x y r h k
-
-    pub count_yields : (s : State) (i : Access) (x y : Tx) (turn : Ts) → Ready asks c s → GoodAccess asks s i → GoodTx asks c.loops s
-        x → GoodTx asks c.loops s y →
-        GoodTs asks (c.loops + 1) s turn → Yields asks c s (λ t m. GoodTs asks c.loops t m) (count i x y turn s)
-    count_yields s i x y turn r a h k g =
-        bind (hold_yields s false no_stms x r tt h)
+  -- two values are held, one behind the other
+  module _ {A : Type 0} (W : State → A → Type 0) (direct also : Bool) (x y : Tx) (next : Held → Held → Acts A)
+      (made : (l h : Held) (t : State) → Ready asks c t → GoodOperand asks t l.operand → HeldWell asks c.loops t h → Yields asks c t W
+      (next l h t)) where
+    both_held : {s : State} → Ready asks c s → GoodTx asks c.loops s x → GoodTx asks c.loops s y →
+        Yields asks c s W (after (hold direct no_stms x s) (λ l t. after (hold also l.before y t) (λ h. next l h)))
+    both_held r h k =
+        bind (hold_yields direct no_stms x r tt h)
         (λ l t st r' j.
-        bind (hold_yields t false l.before y r' j.0 (tx_on st c.loops y k))
-        (λ h u st' r'' q. let on = onward st st' in
-        given (count_of h.before i l.operand h.operand turn) r''
-        (count_good c.loops u h.before i l.operand h.operand turn q.0 (access_on on i a)
-        (operand_on st' l.operand j.1) q.1
-        (ts_on on (c.loops + 1) turn g))))
+        bind (hold_yields also l.before y r' j.0 (tx_on st c.loops y k))
+        (λ h u st' r'' i. made l h u r'' (operand_on st' l.operand j.1) i))
+
+  pub element_yields : {s : State} (direct : Bool) (x y : Tx) → Ready asks c s → GoodTx asks c.loops s x → GoodTx asks c.loops s y →
+      Yields asks c s (λ t p. GoodPlace asks c.loops t p) (element_place direct x y s)
+  element_yields direct x y r h k =
+      both_held (λ t p. GoodPlace asks c.loops t p) direct true x y
+      (λ a i. give (element_of i.before (operand a.operand) (operand i.operand)))
+      (λ a i t r' j l. given (element_of i.before (operand a.operand) (operand i.operand)) r'
+      (element_good asks c.loops t i.before (operand a.operand) (operand i.operand) l.0
+      (operand_good asks c.loops t a.operand j)
+      (operand_good asks c.loops t i.operand l.1))) r h k
+
+  pub record_yields : {s : State} (all : HeldAll) → Ready asks c s → GoodHeld asks c.loops s all → Yields asks c s
+      (λ t m. GoodMade asks c.loops t m) (make_record all s)
+  record_yields all r h =
+      bind (draws_temp r)
+      (λ i t st r' j. given (record_of i all) r'
+      (record_good asks c.loops t i all j (held_on st c.loops all h)))
+
+  product_yields : {s : State} (direct : Bool) (x y : Tx) → Ready asks c s → GoodTx asks c.loops s x → GoodTx asks c.loops s y →
+      Yields asks c s (λ t m. GoodMade asks c.loops t m) (product direct x y s)
+  product_yields direct x y r h k =
+      both_held (λ t m. GoodMade asks c.loops t m) direct true x y
+      (λ a b t. after (fresh t) (λ p. give (product_of p b.before (operand a.operand) (operand b.operand))))
+      (λ a b t r' j l.
+      bind (draws_temp r')
+      (λ p u st r'' i. given (product_of p b.before (operand a.operand) (operand b.operand)) r''
+      (product_good asks c.loops u p b.before (operand a.operand) (operand b.operand) i
+      (stms_on st c.loops b.before l.0)
+      (operand_good asks c.loops u a.operand (operand_on st a.operand j))
+      (operand_good asks c.loops u b.operand (operand_on st b.operand l.1))))) r h k
+
+  checked_yields : {s : State} (direct : Bool) (x y : Tx) → Ready asks c s → GoodTx asks c.loops s x → GoodTx asks c.loops s y →
+      Yields asks c s (λ t m. GoodMade asks c.loops t m) (checked_quotient direct x y s)
+  checked_yields direct x y r h k =
+      both_held (λ t m. GoodMade asks c.loops t m) direct true x y
+      (λ a b. give (quotient_of b.before (operand a.operand) (operand b.operand)))
+      (λ a b t r' j l. given (quotient_of b.before (operand a.operand) (operand b.operand)) r'
+      (quotient_good asks c.loops t b.before (operand a.operand) (operand b.operand) l.0
+      (operand_good asks c.loops t a.operand j)
+      (operand_good asks c.loops t b.operand l.1))) r h k
+
+  by_number_yields : {s : State} (direct : Bool) (x : Tx) (k : ℕ) (b : Bool) → Ready asks c s → GoodTx asks c.loops s x →
+      Yields asks c s (λ t m. GoodMade asks c.loops t m) ((if b then checked_quotient direct x (Const k) else give
+      (value (Binary bin.Div x (Const k)))) s)
+  by_number_yields direct x k true r h = checked_yields direct x (Const k) r h tt
+  by_number_yields direct x k false r h =
+      given (value (Binary bin.Div x (Const k))) r (h, tt)
+
+  quotient_yields : {s : State} (direct : Bool) (x y : Tx) → Ready asks c s → GoodTx asks c.loops s x → GoodTx asks c.loops s y →
+      Yields asks c s (λ t m. GoodMade asks c.loops t m) (quotient direct x y s)
+  quotient_yields direct x (Const k) r h j = by_number_yields direct x k (k == 0 || k == minus_one) r h
+  quotient_yields direct x y r h j = checked_yields direct x y r h j
+
+  compared_yields : {s : State} (o : Op) (strings : Bool) (x y : Tx) → Ready asks c s → GoodTx asks c.loops s x → GoodTx asks c.loops
+      s y →
+      Yields asks c s (λ t m. GoodMade asks c.loops t m) (give (test (comparison o strings x y)) s)
+  compared_yields {s} o strings x y r h k =
+      given (test (comparison o strings x y)) r
+      (comparison_good asks c.loops s o strings x y h k)
+
+  pub operation_yields : {s : State} (o : Op) (strings direct : Bool) (x y : Tx) → Ready asks c s → GoodTx asks c.loops s x →
+      GoodTx asks c.loops s y →
+      Yields asks c s (λ t m. GoodMade asks c.loops t m) (operation o strings direct x y s)
+  operation_yields op.Plus strings direct x y r h k =
+      given (value (Binary bin.AddTrap x y)) r (h, k)
+  operation_yields op.Minus strings direct x y r h k =
+      given (value (Binary bin.SubTrap x y)) r (h, k)
+  operation_yields op.Times strings direct x y r h k = product_yields direct x y r h k
+  operation_yields op.Divide strings direct x y r h k = quotient_yields direct x y r h k
+  operation_yields o strings direct x y r h k = compared_yields o strings x y r h k
+
+  pub count_yields : {s : State} (i : Access) (x y : Tx) (turn : Ts) → Ready asks c s → GoodAccess asks s i → GoodTx asks c.loops s
+      x → GoodTx asks c.loops s y →
+      GoodTs asks (c.loops + 1) s turn → Yields asks c s (λ t m. GoodTs asks c.loops t m) (count i x y turn s)
+  count_yields i x y turn r a h k g =
+      bind (hold_yields false no_stms x r tt h)
+      (λ l t st r' j.
+      bind (hold_yields false l.before y r' j.0 (tx_on st c.loops y k))
+      (λ h u st' r'' q. let on = onward st st' in
+      given (count_of h.before i l.operand h.operand turn) r''
+      (count_good asks c.loops u h.before i l.operand h.operand turn q.0 (access_on on i a)
+      (operand_on st' l.operand j.1) q.1
+      (ts_on on (c.loops + 1) turn g))))

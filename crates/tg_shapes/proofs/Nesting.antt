@@ -2,7 +2,6 @@
 use Rattle.std.proofs.Common.{◌≡◌, ◌<◌, ◌≤◌, ◌+◌, ℕ, zero, suc, Bool, true, false, List, ◌∷◌, ◌++◌, refl, sym, ap, ◌∙◌, arith}
 use Rattle.std.specs.List.{Contains}
 use Rattle.std.proofs.lemmas.List.Elements.{Contains-append_left, Contains-append_right}
-use Rattle.tg_symbols.specs.Tables.{named}
 use Rattle.tg_syntax.specs.declared.trees.Param.{Param}
 use Rattle.tg_syntax.specs.Tree.{FunDecs, no_functions, function}
 use Rattle.tg_frame.specs.Homes.{temps_of}
@@ -39,7 +38,7 @@ module _ (asks : Asks) where
   pub closing_yields : (c : Where) (s : State) (has_result : Bool) (m : Made) → Ready asks c s → GoodMade asks c.loops s m →
       Yields asks c s (IsWhole c.loops) (closing has_result m s)
   closing_yields c s true m r h =
-      bind (wanting.value_yields asks c s m r h)
+      bind (wanting.value_yields m r h)
       (λ x t st r' k. given (Return x) r' (k, tt))
   closing_yields c s false m r h =
       given (gives_nothing m) r

@@ -14,7 +14,7 @@ use Rattle.tg_translate.specs.declared.wants.Want.{Want}
 use Rattle.tg_translate.specs.declared.wants.Want.TheVariants as want
 use Rattle.tg_translate.specs.States.{State, Acts, after, give}
 use Rattle.tg_translate.specs.Wants.{Made, value, done, test_of, value_of, dropped, arms, deliver, followed}
-use Rattle.tg_translate.specs.Constructs.{Place, HeldAll, none_held, own_place, read, want_for, make_array, operation, negation, repeat_while, in_test}
+use Rattle.tg_translate.specs.Constructs.{Place, HeldAll, none_held, own_place, read, want_for, make_array, operation, negation, repeat_while}
 use Rattle.tg_translate.specs.Choices.{left_want, connected, tested, chosen}
 use Rattle.tg_translate.specs.Scopes.{field_number, compares_strings}
 use Rattle.tg_translate.specs.Purity.{assigns_nothing, inits_assign_nothing}
@@ -93,7 +93,7 @@ module _ (asks : Asks) where
     into_arms : (o : Op) (w : Want) (d : Cond) → Ready asks c s → GoodWant asks s w → IsCondition c s d →
         Yields asks c s (IsMade c) (after (arms w s) (λ a t. after (right a t) (λ m. give (deliver w a (chosen o a d m)))))
     into_arms o w d r g h =
-        bind (wanting.arms_yield asks c s w r g)
+        bind (wanting.arms_yield w r g)
         (λ a t st rt ga.
         bind (then_right t a st rt ga)
         (λ m u su ru k.
@@ -119,10 +119,10 @@ module _ (asks : Asks) where
         Yields asks c s (IsMade c) (after (value_of left s) (λ x t. after (after (right want.Value t) value_of)
         (λ y. operation o strings direct x y)))
     operator_yields o strings direct left r h =
-        bind (wanting.value_yields asks c s left r h)
+        bind (wanting.value_yields left r h)
         (λ x t st rt k.
-        bind (wanting.value_from_yields asks c t (right want.Value t) (then_right t want.Value st rt tt))
-        (λ y u su ru j. constructing.operation_yields asks c u o strings direct x y ru
+        bind (wanting.value_from_yields (then_right t want.Value st rt tt))
+        (λ y u su ru j. constructing.operation_yields o strings direct x y ru
         (tx_on su c.loops x k) j))
 
     left_yields : (o : Op) (meaning : Option Means) (direct : Bool) (w : Want) (left : Made) → Ready asks c s → GoodWant asks s
@@ -152,7 +152,7 @@ module _ (asks : Asks) where
       leave_with refl (λ x k. more_contained at x c.own k) rt
       (bind (more t (want_for (own_place home)) h.1 (constructing.want_for_good asks c.loops t
       (own_place home) p))
-      (λ m u su ru k. constructing.assign_yields asks (owning at c) u (own_place home) m ru
+      (λ m u su ru k. constructing.assign_yields (own_place home) m ru
       (place_on su c.loops (own_place home) p) k)))
 
   abbrev Walks : Where → State → (Want → Acts Made) → Type 0
@@ -160,13 +160,12 @@ module _ (asks : Asks) where
 
   of_value : (e : Exp) (c : Where) (s : State) → Yields asks c s (IsMade c) (expression asks.findings e want.Value c.within s) →
       Yields asks c s (IsValue c) (after (expression asks.findings e want.Value c.within s) value_of)
-  of_value e c s h = wanting.value_from_yields asks c s (expression asks.findings e want.Value c.within s) h
+  of_value e c s h = wanting.value_from_yields h
 
   of_statement : (e : Exp) (c : Where) (s : State) → Yields asks c s (IsMade c)
       (expression asks.findings e want.Dropped c.within s) →
       Yields asks c s (IsStatement c) (after (expression asks.findings e want.Dropped c.within s) (λ m. give (dropped m)))
-  of_statement e c s h = wanting.statement_from_yields asks c s
-      (expression asks.findings e want.Dropped c.within s) h
+  of_statement e c s h = wanting.statement_from_yields h
 
   mutual
     walk : (e : Exp) (c : Where) (s : State) → (asks.breaks → BreaksStand c.in_loop e) → (asks.temps → Reaches asks.findings c.own c.kept e) →
@@ -198,7 +197,7 @@ module _ (asks : Asks) where
         k)
     walk (Make _ _ inits) c s b q w r g =
         bind (walk_fields inits (inits_assign_nothing inits) none_held c s b q r (tt, tt))
-        (λ all t st rt k. constructing.record_yields asks c t all rt k)
+        (λ all t st rt k. constructing.record_yields all rt k)
     walk (Fill _ _ x y) c s b q w r g =
         bind (of_value x c s (walk x c s (λ a. (b a).0) (λ a. (q a).0) want.Value r tt))
         (λ x t st rt k.
@@ -212,20 +211,20 @@ module _ (asks : Asks) where
         bind (walk e c t (λ a. (b a).1) (λ a. (q a).1) (want_for p) rt
         (constructing.want_for_good asks c.loops t p k))
         (λ m u su ru j.
-        bind (constructing.assign_yields asks c u p m ru
+        bind (constructing.assign_yields p m ru
         (place_on su c.loops p k) j)
         (λ x v sv rv i. given (done x) rv i)))
     walk (If _ d x y) c s b q w r g =
-        bind (wanting.condition_from_yields asks c s (expression asks.findings d want.Test c.within s)
+        bind (wanting.condition_from_yields
         (walk d c s (λ a. (b a).0) (λ a. (q a).0) want.Test r tt))
         (λ d t st rt k.
-        bind (wanting.arms_yield asks c t w rt (want_on st w g))
+        bind (wanting.arms_yield w rt (want_on st w g))
         (λ v u su ru gv.
-        bind (wanting.arm_from_yields asks c u (expression asks.findings x v c.within u)
+        bind (wanting.arm_from_yields
         (walk x c u (λ a. (b a).1) (λ a. (q a).1) v ru gv) v gv)
         (λ x z sz rz j.
         let gz = want_on sz v gv in
-        bind (wanting.arm_from_yields asks c z (expression asks.findings y v c.within z)
+        bind (wanting.arm_from_yields
         (walk y c z (λ a. (b a).2) (λ a. (q a).2) v rz gz) v gz)
         (λ y o so ro i.
         given (deliver w v (tree.If d x y)) ro
@@ -236,7 +235,7 @@ module _ (asks : Asks) where
           i,
         ))))))
     walk (When _ d x) c s b q w r g =
-        bind (wanting.condition_from_yields asks c s (expression asks.findings d want.Test c.within s)
+        bind (wanting.condition_from_yields
         (walk d c s (λ a. (b a).0) (λ a. (q a).0) want.Test r tt))
         (λ d t st rt k.
         bind (of_statement x c t
@@ -245,8 +244,7 @@ module _ (asks : Asks) where
         (cond_on su c.loops d k, j, tt)))
     walk (While _ d x) c s b q w r g =
         bind (leave_yields refl (λ at k. k) r
-        (wanting.condition_from_yields asks (testing c) s
-        (expression asks.findings d want.Test (in_test c.within) s)
+        (wanting.condition_from_yields
         (walk d (testing c) s (λ a. (b a).0) (λ a. (q a).0) want.Test (enter_test r) tt)))
         (λ d t st rt k.
         bind (leave_yields refl (λ at k. k) rt (of_statement x (turning c) t
@@ -269,7 +267,7 @@ module _ (asks : Asks) where
         (λ turn z sz rz n.
         let from_t = onward su (onward sv sz) in
         let from_u = onward sv sz in
-        bind (constructing.count_yields asks c z home x y turn rz
+        bind (constructing.count_yields home x y turn rz
         (access_on sz home h.0)
         (tx_on from_t c.loops x k)
         (tx_on from_u c.loops y j) n)
@@ -282,11 +280,11 @@ module _ (asks : Asks) where
         bind (leave_yields refl
         (owned_more ds c.own) rt
         (walk_sequence es w before d t (λ a. (b a).1) (λ a. (q a).1) k.1 gt k.0))
-        (λ begun u su ru j. wanting.behind_yields asks c u w begun.before begun.last ru
+        (λ begun u su ru j. wanting.behind_yields w begun.before begun.last ru
         (want_on su w gt) j.0 j.1))
     walk (Seq _ es) c s b q w r g =
         bind (walk_sequence es w no_stms c s b q r g tt)
-        (λ begun t st rt k. wanting.behind_yields asks c t w begun.before begun.last rt
+        (λ begun t st rt k. wanting.behind_yields w begun.before begun.last rt
         (want_on st w g) k.0 k.1)
 
     walk_place : (v : source.Place) (c : Where) (s : State) → (asks.breaks → BreaksStandPlace c.in_loop v) →
@@ -295,14 +293,14 @@ module _ (asks : Asks) where
     walk_place (Simple x) c s b q r = scoping.variable_yields asks c s (asks.findings.meaning (at_of x)) r q
     walk_place (Field v f) c s b q r =
         bind (walk_place v c s b q r)
-        (λ p t st rt k. constructing.field_yields asks c t (field_number (asks.findings.meaning (at_of f)))
+        (λ p t st rt k. constructing.field_yields (field_number (asks.findings.meaning (at_of f)))
         (read p) rt
         (constructing.read_good asks c.loops t p k))
     walk_place (Index v e) c s b q r =
         bind (walk_place v c s (λ a. (b a).0) (λ a. (q a).0) r)
         (λ p t st rt k.
         bind (of_value e c t (walk e c t (λ a. (b a).1) (λ a. (q a).1) want.Value rt tt))
-        (λ y u su ru j. constructing.element_yields asks c u (assigns_nothing e) (read p) y ru
+        (λ y u su ru j. constructing.element_yields (assigns_nothing e) (read p) y ru
         (tx_on su c.loops (read p)
         (constructing.read_good asks c.loops t p k)) j))
 
@@ -324,7 +322,7 @@ module _ (asks : Asks) where
     walk_fields (init _ e rest) direct before c s b q r h =
         bind (of_value e c s (walk e c s (λ a. (b a).0) (λ a. (q a).0) want.Value r tt))
         (λ x t st rt k.
-        bind (constructing.hold_next_yields asks c t direct before x rt
+        bind (constructing.hold_next_yields direct before x rt
         (held_on st c.loops before h) k)
         (λ more u su ru j. walk_fields rest direct more c u (λ a. (b a).1) (λ a. (q a).1) ru j))
 

@@ -53,77 +53,78 @@ module _ (asks : Asks) where
       (followed ss x)
   followed_good n s ss x h k = join_fine_stms asks.breaks (KnowsAt asks s) n ss (stm x no_stms) h (k, tt)
 
-  module _ (c : Where) where
-    pub value_yields : (s : State) (m : Made) → Ready asks c s → GoodMade asks c.loops s m → Yields asks c s
-        (λ t x. GoodTx asks c.loops t x) (value_of m s)
-    value_yields s (value x) r k = given x r k
-    value_yields s (done x) r k = given (After x (Const 0)) r
-        (k, tt)
-    value_yields s (test d) r k =
-        bind (draws_temp r)
-        (λ i t st r' h. given (After (truth_into i d) (Temp i)) r'
-        (truth_good c.loops t i d h (cond_on st c.loops d k), h))
+-- What actions yield.
+module _ {asks : Asks} {c : Where} where
+  pub value_yields : {s : State} (m : Made) → Ready asks c s → GoodMade asks c.loops s m → Yields asks c s
+      (λ t x. GoodTx asks c.loops t x) (value_of m s)
+  value_yields (value x) r k = given x r k
+  value_yields (done x) r k = given (After x (Const 0)) r
+      (k, tt)
+  value_yields (test d) r k =
+      bind (draws_temp r)
+      (λ i t st r' h. given (After (truth_into i d) (Temp i)) r'
+      (truth_good asks c.loops t i d h (cond_on st c.loops d k), h))
 
-    fresh_arms : (s : State) → Ready asks c s → Yields asks c s (GoodWant asks)
-        (after (fresh s) (λ i. give (want.Into (record { 0 = i }))))
-    fresh_arms s r =
-        bind (draws_temp r)
-        (λ i t st r' h. given (want.Into (record { 0 = i })) r' h)
+  fresh_arms : {s : State} → Ready asks c s → Yields asks c s (GoodWant asks)
+      (after (fresh s) (λ i. give (want.Into (record { 0 = i }))))
+  fresh_arms r =
+      bind (draws_temp r)
+      (λ i t st r' h. given (want.Into (record { 0 = i })) r' h)
 
-    pub arms_yield : (s : State) (w : Want) → Ready asks c s → GoodWant asks s w → Yields asks c s (GoodWant asks) (arms w s)
-    arms_yield s want.Value r h = fresh_arms s r
-    arms_yield s (want.Into i) r h = given (want.Into i) r h
-    arms_yield s want.Dropped r h = given want.Dropped r tt
-    arms_yield s want.Test r h = fresh_arms s r
+  pub arms_yield : {s : State} (w : Want) → Ready asks c s → GoodWant asks s w → Yields asks c s (GoodWant asks) (arms w s)
+  arms_yield want.Value r h = fresh_arms r
+  arms_yield (want.Into i) r h = given (want.Into i) r h
+  arms_yield want.Dropped r h = given want.Dropped r tt
+  arms_yield want.Test r h = fresh_arms r
 
-    value_behind_yields : (s : State) (ss : Stms) (m : Made) → Ready asks c s → GoodStms asks c.loops s ss → GoodMade asks c.loops s
-        m →
-        Yields asks c s (λ t m. GoodMade asks c.loops t m) (after (value_of m s) (λ x. give (value_behind ss x)))
-    value_behind_yields s ss m r h k =
-        bind (value_yields s m r k)
-        (λ x t st r' g. given (value_behind ss x) r'
-        (stms_on st c.loops ss h, g))
+  value_behind_yields : {s : State} (ss : Stms) (m : Made) → Ready asks c s → GoodStms asks c.loops s ss → GoodMade asks c.loops s
+      m →
+      Yields asks c s (λ t m. GoodMade asks c.loops t m) (after (value_of m s) (λ x. give (value_behind ss x)))
+  value_behind_yields ss m r h k =
+      bind (value_yields m r k)
+      (λ x t st r' g. given (value_behind ss x) r'
+      (stms_on st c.loops ss h, g))
 
-    behind_some_yields : (s : State) (w : Want) (ss : Stms) (m : Made) → Ready asks c s → GoodWant asks s w → GoodStms asks c.loops s
-        ss → GoodMade asks c.loops s m →
-        Yields asks c s (λ t m. GoodMade asks c.loops t m) (behind_some w ss m s)
-    behind_some_yields s want.Value ss m r g h k = value_behind_yields s ss m r h k
-    behind_some_yields s (want.Into i) ss m r g h k =
-        given (done_behind (want.Into i) ss m) r
-        (followed_good c.loops s ss (put_in i.0 m) h (put_good c.loops s i.0 m g k))
-    behind_some_yields s want.Dropped ss m r g h k =
-        given (done_behind want.Dropped ss m) r
-        (followed_good c.loops s ss (dropped m) h (dropped_good c.loops s m k))
-    behind_some_yields s want.Test ss m r g h k = value_behind_yields s ss m r h k
+  behind_some_yields : {s : State} (w : Want) (ss : Stms) (m : Made) → Ready asks c s → GoodWant asks s w → GoodStms asks c.loops s
+      ss → GoodMade asks c.loops s m →
+      Yields asks c s (λ t m. GoodMade asks c.loops t m) (behind_some w ss m s)
+  behind_some_yields want.Value ss m r g h k = value_behind_yields ss m r h k
+  behind_some_yields {s} (want.Into i) ss m r g h k =
+      given (done_behind (want.Into i) ss m) r
+      (followed_good asks c.loops s ss (put_in i.0 m) h (put_good asks c.loops s i.0 m g k))
+  behind_some_yields {s} want.Dropped ss m r g h k =
+      given (done_behind want.Dropped ss m) r
+      (followed_good asks c.loops s ss (dropped m) h (dropped_good asks c.loops s m k))
+  behind_some_yields want.Test ss m r g h k = value_behind_yields ss m r h k
 
-    pub behind_yields : (s : State) (w : Want) (ss : Stms) (m : Made) → Ready asks c s → GoodWant asks s w → GoodStms asks c.loops s
-        ss → GoodMade asks c.loops s m →
-        Yields asks c s (λ t m. GoodMade asks c.loops t m) (behind w ss m s)
-    behind_yields s w no_stms m r g h k = given m r k
-    behind_yields s w (stm x ss) m r g h k = behind_some_yields s w (stm x ss) m r g h k
+  pub behind_yields : {s : State} (w : Want) (ss : Stms) (m : Made) → Ready asks c s → GoodWant asks s w → GoodStms asks c.loops s
+      ss → GoodMade asks c.loops s m →
+      Yields asks c s (λ t m. GoodMade asks c.loops t m) (behind w ss m s)
+  behind_yields w no_stms m r g h k = given m r k
+  behind_yields w (stm x ss) m r g h k = behind_some_yields w (stm x ss) m r g h k
 
-    -- what an expression's place makes of what it became
-    module _ (s : State) (d : Drawn Made) (h : Yields asks c s (λ t m. GoodMade asks c.loops t m) d) where
-      pub value_from_yields : Yields asks c s (λ t x. GoodTx asks c.loops t x) (after d value_of)
-      value_from_yields =
-          bind h
-          (λ m t st r k. value_yields t m r k)
+  -- what an expression's place makes of what it became
+  module _ {s : State} {d : Drawn Made} (h : Yields asks c s (λ t m. GoodMade asks c.loops t m) d) where
+    pub value_from_yields : Yields asks c s (λ t x. GoodTx asks c.loops t x) (after d value_of)
+    value_from_yields =
+        bind h
+        (λ m t st r k. value_yields m r k)
 
-      pub condition_from_yields : Yields asks c s (λ t x. GoodCond asks c.loops t x) (after d (λ m. give (test_of m)))
-      condition_from_yields =
-          bind h
-          (λ m t st r k. given (test_of m) r
-          (test_good c.loops t m k))
+    pub condition_from_yields : Yields asks c s (λ t x. GoodCond asks c.loops t x) (after d (λ m. give (test_of m)))
+    condition_from_yields =
+        bind h
+        (λ m t st r k. given (test_of m) r
+        (test_good asks c.loops t m k))
 
-      pub statement_from_yields : Yields asks c s (λ t x. GoodTs asks c.loops t x) (after d (λ m. give (dropped m)))
-      statement_from_yields =
-          bind h
-          (λ m t st r k. given (dropped m) r
-          (dropped_good c.loops t m k))
+    pub statement_from_yields : Yields asks c s (λ t x. GoodTs asks c.loops t x) (after d (λ m. give (dropped m)))
+    statement_from_yields =
+        bind h
+        (λ m t st r k. given (dropped m) r
+        (dropped_good asks c.loops t m k))
 
-      pub arm_from_yields : (w : Want) → GoodWant asks s w → Yields asks c s (λ t x. GoodTs asks c.loops t x)
-          (after d (λ m. give (as_statement w m)))
-      arm_from_yields w g =
-          bind h
-          (λ m t st r k. given (as_statement w m) r
-          (statement_good c.loops t w m (want_on st w g) k))
+    pub arm_from_yields : (w : Want) → GoodWant asks s w → Yields asks c s (λ t x. GoodTs asks c.loops t x)
+        (after d (λ m. give (as_statement w m)))
+    arm_from_yields w g =
+        bind h
+        (λ m t st r k. given (as_statement w m) r
+        (statement_good asks c.loops t w m (want_on st w g) k))
