@@ -14,134 +14,90 @@ use Rattle.tg_tree.specs.declared.operators.Rel.TheVariants as rel
 use Rattle.tg_runtime.specs.Labels.{label_of}
 use Rattle.tg_runtime.specs.declared.routines.Routine.{Routine}
 use Rattle.tg_runtime.specs.declared.routines.Routine.TheVariants as routine
-use Rattle.tg_translate.specs.declared.wants.Want.{Want}
 use Rattle.tg_translate.specs.declared.operands.Operand.{Operand}
 use Rattle.tg_translate.specs.declared.operands.Operand.TheVariants.{Number, Kept}
-use Rattle.tg_translate.specs.States.{State, Acts, Drawn, after, give, fresh}
-use Rattle.tg_translate.specs.Wants.{Made, value, test, value_of, put_in, followed}
+use Rattle.tg_translate.specs.States.{State, Acts, after, give, fresh}
+use Rattle.tg_translate.specs.Wants.{Made, value, test, put_in, followed}
 use Rattle.tg_translate.specs.Constructs.{minus_one, least_int, plus, operand, Held, keep, hold, HeldAll, hold_next, own_link, frame_out, Place, in_temp, at_address, place_in, own_place, after_all, read, store_at, want_for, assign, nil_check, index_check, zero_check, product_check, quotient_check, field_of, field_place, element_of, element_place, call_routine, store_field, store_fields, call_for_record, record_of, make_record, make_array, comparison, product_of, product, quotient_of, checked_quotient, quotient, operation, negation, repeat_while, first_minus_one, assign_value, turn_of, turns, count_of, count}
-use Rattle.tg_shapes.proofs.Keeping as keeping
-use Rattle.tg_shapes.proofs.Keeping.{Where}
+use Rattle.tg_shapes.proofs.Keeping.{Asks, Where, access_on, bind, draws_temp, given, held_on, onward, operand_on, operands_on, stms_on, ts_on, tx_on, Ready, Yields, GoodTx, GoodTxs, GoodTs, GoodStms, GoodCond, GoodMade, GoodPlace, GoodOperand, GoodOperands, GoodHeld, GoodWant, GoodAccess, KnowsAt}
 use Rattle.tg_shapes.proofs.Wanting as wanting
 
-module _ (B T : Type 0) (escapes : ℕ → Bool) where
-  abbrev Ready : Where → State → Type 0
-  Ready = keeping.Ready B T escapes
-
-  abbrev Yields : {A : Type 0} → Where → State → (State → A → Type 0) → Drawn A → Type 0
-  Yields = keeping.Yields B T escapes
-
-  abbrev GoodTx : ℕ → State → Tx → Type 0
-  GoodTx = keeping.GoodTx B T escapes
-
-  abbrev GoodTxs : ℕ → State → Txs → Type 0
-  GoodTxs = keeping.GoodTxs B T escapes
-
-  abbrev GoodTs : ℕ → State → Ts → Type 0
-  GoodTs = keeping.GoodTs B T escapes
-
-  abbrev GoodStms : ℕ → State → Stms → Type 0
-  GoodStms = keeping.GoodStms B T escapes
-
-  abbrev GoodCond : ℕ → State → Cond → Type 0
-  GoodCond = keeping.GoodCond B T escapes
-
-  abbrev GoodMade : ℕ → State → Made → Type 0
-  GoodMade = keeping.GoodMade B T escapes
-
-  abbrev GoodPlace : ℕ → State → Place → Type 0
-  GoodPlace = keeping.GoodPlace B T escapes
-
-  abbrev GoodOperand : State → Operand → Type 0
-  GoodOperand = keeping.GoodOperand B T escapes
-
-  abbrev GoodOperands : State → List Operand → Type 0
-  GoodOperands = keeping.GoodOperands B T escapes
-
-  abbrev GoodHeld : ℕ → State → HeldAll → Type 0
-  GoodHeld = keeping.GoodHeld B T escapes
-
-  abbrev GoodWant : State → Want → Type 0
-  GoodWant = keeping.GoodWant B T escapes
-
-  abbrev GoodAccess : State → Access → Type 0
-  GoodAccess = keeping.GoodAccess B T escapes
-
+module _ (asks : Asks) where
   -- statements that end in an operand
   abbrev pub HeldWell : ℕ → State → Held → Type 0
-  HeldWell n s h = GoodStms n s h.before × GoodOperand s h.operand
+  HeldWell n s h = GoodStms asks n s h.before × GoodOperand asks s h.operand
 
   module _ (n : ℕ) (s : State) where
-    plus_good : (x : Tx) (k : ℕ) → GoodTx n s x → GoodTx n s (plus x k)
+    plus_good : (x : Tx) (k : ℕ) → GoodTx asks n s x → GoodTx asks n s (plus x k)
     plus_good x zero h = h
     plus_good x (suc k) h = (h, tt)
 
-    operand_good : (x : Operand) → GoodOperand s x → GoodTx n s (operand x)
+    operand_good : (x : Operand) → GoodOperand asks s x → GoodTx asks n s (operand x)
     operand_good (Number k) h = tt
     operand_good (Kept t) h = h
 
-    own_link_good : (kept : Bool) → (T → kept ≡ false → 0 < s.frame.temps) → GoodTx n s (own_link kept)
+    own_link_good : (kept : Bool) → (asks.temps → kept ≡ false → 0 < s.frame.temps) → GoodTx asks n s (own_link kept)
     own_link_good true h = (tt, tt)
     own_link_good false h = λ t. h t refl
 
-    pub frame_out_good : (kept : Bool) (hops : ℕ) → (T → 0 < hops → kept ≡ false → 0 < s.frame.temps) → GoodTx n s
+    pub frame_out_good : (kept : Bool) (hops : ℕ) → (asks.temps → 0 < hops → kept ≡ false → 0 < s.frame.temps) → GoodTx asks n s
         (frame_out kept hops)
     frame_out_good kept zero h = tt
     frame_out_good kept (suc zero) h = own_link_good kept (λ t e. h t (omega arith) e)
     frame_out_good kept (suc (suc k)) h = (frame_out_good kept (suc k) (λ t l e. h t (omega arith) e), tt)
 
-    pub place_in_good : (frame : Tx) (a : Access) → GoodTx n s frame → GoodAccess s a → GoodPlace n s (place_in frame a)
+    pub place_in_good : (frame : Tx) (a : Access) → GoodTx asks n s frame → GoodAccess asks s a → GoodPlace asks n s (place_in frame a)
     place_in_good frame (InTemp t) h k = k
     place_in_good frame (InFrame j) h k = (tt, (h, tt))
 
-    pub own_place_good : (a : Access) → GoodAccess s a → GoodPlace n s (own_place a)
+    pub own_place_good : (a : Access) → GoodAccess asks s a → GoodPlace asks n s (own_place a)
     own_place_good a k = place_in_good FrameAddress a tt k
 
-    after_all_good : (ss : Stms) (x : Tx) → GoodStms n s ss → GoodTx n s x → GoodTx n s (after_all ss x)
+    after_all_good : (ss : Stms) (x : Tx) → GoodStms asks n s ss → GoodTx asks n s x → GoodTx asks n s (after_all ss x)
     after_all_good no_stms x h k = k
     after_all_good (stm y ss) x h k = (h, k)
 
-    pub read_good : (p : Place) → GoodPlace n s p → GoodTx n s (read p)
+    pub read_good : (p : Place) → GoodPlace asks n s p → GoodTx asks n s (read p)
     read_good (in_temp t) h = h
     read_good (at_address before a) h = after_all_good before (Load a) h.0 h.1
 
-    store_good : (ss : Stms) (a x : Tx) → GoodStms n s ss → GoodTx n s a → GoodTx n s x → GoodTs n s (store_at ss a x)
+    store_good : (ss : Stms) (a x : Tx) → GoodStms asks n s ss → GoodTx asks n s a → GoodTx asks n s x → GoodTs asks n s (store_at ss a x)
     store_good no_stms a x h k l = (k, l)
-    store_good (stm y ss) a x h k l = wanting.followed_good B T escapes n s (stm y ss) (Store a x) h (k, l)
+    store_good (stm y ss) a x h k l = wanting.followed_good asks n s (stm y ss) (Store a x) h (k, l)
 
-    pub want_for_good : (p : Place) → GoodPlace n s p → GoodWant s (want_for p)
+    pub want_for_good : (p : Place) → GoodPlace asks n s p → GoodWant asks s (want_for p)
     want_for_good (in_temp t) h = h
     want_for_good (at_address before a) h = tt
 
-    nil_good : (x : Tx) → GoodTx n s x → GoodTs n s (nil_check x)
+    nil_good : (x : Tx) → GoodTx asks n s x → GoodTs asks n s (nil_check x)
     nil_good x h = ((h, tt), omega arith, tt)
 
-    index_good : (a i : Tx) → GoodTx n s a → GoodTx n s i → GoodTs n s (index_check a i)
+    index_good : (a i : Tx) → GoodTx asks n s a → GoodTx asks n s i → GoodTs asks n s (index_check a i)
     index_good a i h k = ((k, h), omega arith, tt)
 
-    zero_good : (x : Tx) → GoodTx n s x → GoodTs n s (zero_check x)
+    zero_good : (x : Tx) → GoodTx asks n s x → GoodTs asks n s (zero_check x)
     zero_good x h = ((h, tt), omega arith, tt)
 
-    product_check_good : (l r p : Tx) → GoodTx n s l → GoodTx n s r → GoodTx n s p → GoodTs n s (product_check l r p)
+    product_check_good : (l r p : Tx) → GoodTx asks n s l → GoodTx asks n s r → GoodTx asks n s p → GoodTs asks n s (product_check l r p)
     product_check_good l r p h k j = (((h, k), (j, tt)), (tt, tt), tt)
 
-    quotient_check_good : (l r : Tx) → GoodTx n s l → GoodTx n s r → GoodTs n s (quotient_check l r)
+    quotient_check_good : (l r : Tx) → GoodTx asks n s l → GoodTx asks n s r → GoodTs asks n s (quotient_check l r)
     quotient_check_good l r h k = (((k, tt), (h, tt)), (tt, tt), tt)
 
-    field_good : (k : ℕ) (before : Stms) (r : Tx) → GoodStms n s before → GoodTx n s r → GoodPlace n s
+    field_good : (k : ℕ) (before : Stms) (r : Tx) → GoodStms asks n s before → GoodTx asks n s r → GoodPlace asks n s
         (field_of k before r)
     field_good k before r h j = (
-      wanting.followed_good B T escapes n s before (nil_check r) h (nil_good r j),
+      wanting.followed_good asks n s before (nil_check r) h (nil_good r j),
       plus_good
           r (4 * k) j,
     )
 
-    element_good : (before : Stms) (a i : Tx) → GoodStms n s before → GoodTx n s a → GoodTx n s i → GoodPlace n s
+    element_good : (before : Stms) (a i : Tx) → GoodStms asks n s before → GoodTx asks n s a → GoodTx asks n s i → GoodPlace asks n s
         (element_of before a i)
     element_good before a i h j k =
-        (wanting.followed_good B T escapes n s before (index_check a i) h (index_good a i j k), (((k, tt), j), tt))
+        (wanting.followed_good asks n s before (index_check a i) h (index_good a i j k), (((k, tt), j), tt))
 
-    routine_below : (one : Routine) → keeping.KnowsAt B T escapes s (name.function (label_of one))
+    routine_below : (one : Routine) → KnowsAt asks s (name.function (label_of one))
     routine_below routine.MakeRecord = inl (omega arith)
     routine_below routine.MakeArray = inl (omega arith)
     routine_below routine.Compare = inl (omega arith)
@@ -156,76 +112,76 @@ module _ (B T : Type 0) (escapes : ℕ → Bool) where
     routine_below routine.Not = inl (omega arith)
     routine_below routine.Exit = inl (omega arith)
 
-    pub routine_good : (one : Routine) (xs : Txs) → GoodTxs n s xs → GoodTx n s (call_routine one xs)
+    pub routine_good : (one : Routine) (xs : Txs) → GoodTxs asks n s xs → GoodTx asks n s (call_routine one xs)
     routine_good one xs h = (routine_below one, h)
 
-    store_fields_good : (before : Stms) (r k : ℕ) (xs : List Operand) → (T → r < s.frame.temps) → GoodStms n s before →
-        GoodOperands s xs →
-        GoodStms n s (store_fields before r k xs)
+    store_fields_good : (before : Stms) (r k : ℕ) (xs : List Operand) → (asks.temps → r < s.frame.temps) → GoodStms asks n s before →
+        GoodOperands asks s xs →
+        GoodStms asks n s (store_fields before r k xs)
     store_fields_good before r k [] i h j = h
     store_fields_good before r k (x ∷ xs) i h j =
         store_fields_good (followed before (store_field r k x)) r (suc k) xs i
-        (wanting.followed_good B T escapes n s before (store_field r k x) h
+        (wanting.followed_good asks n s before (store_field r k x) h
         (plus_good (Temp r) (4 * k) i, operand_good x j.0)) j.1
 
-    record_good : (r : ℕ) (all : HeldAll) → (T → r < s.frame.temps) → GoodHeld n s all → GoodMade n s (record_of r all)
+    record_good : (r : ℕ) (all : HeldAll) → (asks.temps → r < s.frame.temps) → GoodHeld asks n s all → GoodMade asks n s (record_of r all)
     record_good r all i h = (
       store_fields_good (followed all.before (Move r (call_for_record (length all.operands)))) r 0 all.operands i
-          (wanting.followed_good B T escapes n s all.before (Move r (call_for_record (length all.operands))) h.0
+          (wanting.followed_good asks n s all.before (Move r (call_for_record (length all.operands))) h.0
           (i, (routine_below routine.MakeRecord, (tt, tt)))) h.1,
       i,
     )
 
-    pub make_array_good : (size x : Tx) → GoodTx n s size → GoodTx n s x → GoodTx n s (make_array size x)
+    pub make_array_good : (size x : Tx) → GoodTx asks n s size → GoodTx asks n s x → GoodTx asks n s (make_array size x)
     make_array_good size x h k = (routine_below routine.MakeArray, (h, (k, tt)))
 
-    comparison_good : (o : Op) (strings : Bool) (x y : Tx) → GoodTx n s x → GoodTx n s y → GoodCond n s
+    comparison_good : (o : Op) (strings : Bool) (x y : Tx) → GoodTx asks n s x → GoodTx asks n s y → GoodCond asks n s
         (comparison o strings x y)
     comparison_good o true x y h k = ((routine_below routine.Compare, (h, (k, tt))), tt)
     comparison_good o false x y h k = (h, k)
 
-    product_good : (p : ℕ) (before : Stms) (l r : Tx) → (T → p < s.frame.temps) → GoodStms n s before → GoodTx n s l →
-        GoodTx n s r →
-        GoodMade n s (product_of p before l r)
+    product_good : (p : ℕ) (before : Stms) (l r : Tx) → (asks.temps → p < s.frame.temps) → GoodStms asks n s before → GoodTx asks n s l →
+        GoodTx asks n s r →
+        GoodMade asks n s (product_of p before l r)
     product_good p before l r i h j k = (
-      wanting.followed_good B T escapes n s (followed before (Move p (Binary bin.Mul l r))) (product_check l r (Temp p))
-          (wanting.followed_good B T escapes n s before (Move p (Binary bin.Mul l r)) h (i, (j, k)))
+      wanting.followed_good asks n s (followed before (Move p (Binary bin.Mul l r))) (product_check l r (Temp p))
+          (wanting.followed_good asks n s before (Move p (Binary bin.Mul l r)) h (i, (j, k)))
           (product_check_good l r (Temp p) j k i),
       i,
     )
 
-    quotient_good : (before : Stms) (l r : Tx) → GoodStms n s before → GoodTx n s l → GoodTx n s r → GoodMade n s
+    quotient_good : (before : Stms) (l r : Tx) → GoodStms asks n s before → GoodTx asks n s l → GoodTx asks n s r → GoodMade asks n s
         (quotient_of before l r)
     quotient_good before l r h j k = (
-      wanting.followed_good B T escapes n s (followed before (zero_check r)) (quotient_check l r)
-          (wanting.followed_good B T escapes n s before (zero_check r) h (zero_good r k)) (quotient_check_good l r j k),
+      wanting.followed_good asks n s (followed before (zero_check r)) (quotient_check l r)
+          (wanting.followed_good asks n s before (zero_check r) h (zero_good r k)) (quotient_check_good l r j k),
       (j, k),
     )
 
-    negated_good : (k : ℕ) (b : Bool) → GoodTx n s (if b then Binary bin.SubTrap (Const 0) (Const k) else Const
+    negated_good : (k : ℕ) (b : Bool) → GoodTx asks n s (if b then Binary bin.SubTrap (Const 0) (Const k) else Const
         (sub 0 k))
     negated_good k true = (tt, tt)
     negated_good k false = tt
 
-    pub negation_good : (x : Tx) → GoodTx n s x → GoodTx n s (negation x)
+    pub negation_good : (x : Tx) → GoodTx asks n s x → GoodTx asks n s (negation x)
     negation_good (Const k) h = negated_good k (k == least_int)
     negation_good x h = (tt, h)
 
-    first_good : (x : Operand) → GoodOperand s x → GoodTx n s (first_minus_one x)
+    first_good : (x : Operand) → GoodOperand asks s x → GoodTx asks n s (first_minus_one x)
     first_good (Number k) h = tt
     first_good (Kept t) h = (h, tt)
 
-    assign_good : (p : Place) (x : Tx) → GoodPlace n s p → GoodTx n s x → GoodTs n s (assign_value p x)
+    assign_good : (p : Place) (x : Tx) → GoodPlace asks n s p → GoodTx asks n s x → GoodTs asks n s (assign_value p x)
     assign_good (in_temp t) x h k = (h, k)
     assign_good (at_address before a) x h k = store_good before a x h.0 h.1 k
 
-  pub repeat_good : (n : ℕ) (s : State) (d : Cond) (x : Ts) → GoodCond (n + 1) s d → GoodTs (n + 1) s x → GoodTs n s
+  pub repeat_good : (n : ℕ) (s : State) (d : Cond) (x : Ts) → GoodCond asks (n + 1) s d → GoodTs asks (n + 1) s x → GoodTs asks n s
       (repeat_while d x)
   repeat_good n s d x h k = (h, k, λ b. omega arith)
 
-  turn_good : (n : ℕ) (s : State) (i : Access) (high : Operand) (x : Ts) → GoodAccess s i → GoodOperand s high → GoodTs
+  turn_good : (n : ℕ) (s : State) (i : Access) (high : Operand) (x : Ts) → GoodAccess asks s i → GoodOperand asks s high → GoodTs asks
       (n + 1) s x →
-      GoodTs (n + 1) s (turn_of i high x)
+      GoodTs asks (n + 1) s (turn_of i high x)
   turn_good n s i high x h j k = (
     assign_good (n + 1) s (own_place i) (Binary bin.Add (read (own_place i)) (Const 1)) (own_place_good (n + 1) s i h)
         (read_good (n + 1) s (own_place i) (own_place_good (n + 1) s i h), tt),
@@ -242,193 +198,172 @@ module _ (B T : Type 0) (escapes : ℕ → Bool) where
     ),
   )
 
-  turns_good : (n : ℕ) (s : State) (i : Access) (low high : Operand) (x : Ts) → GoodAccess s i → GoodOperand s low →
-      GoodOperand s high → GoodTs (n + 1) s x →
-      GoodTs n s (turns i low high x)
+  turns_good : (n : ℕ) (s : State) (i : Access) (low high : Operand) (x : Ts) → GoodAccess asks s i → GoodOperand asks s low →
+      GoodOperand asks s high → GoodTs asks (n + 1) s x →
+      GoodTs asks n s (turns i low high x)
   turns_good n s i low high x h l j k = (
     assign_good n s (own_place i) (first_minus_one low) (own_place_good n s i h) (first_good n s low l),
     (turn_good n s i high x h j k, tt),
   )
 
   count_good : (n : ℕ) (s : State) (before : Stms) (i : Access) (low high : Operand) (x : Ts) →
-      GoodStms n s before → GoodAccess s i → GoodOperand s low → GoodOperand s high → GoodTs (n + 1) s x →
-      GoodTs n s (count_of before i low high x)
+      GoodStms asks n s before → GoodAccess asks s i → GoodOperand asks s low → GoodOperand asks s high → GoodTs asks (n + 1) s x →
+      GoodTs asks n s (count_of before i low high x)
   count_good n s before i low high x b h l j k =
-      wanting.followed_good B T escapes n s before (when (Compare rel.GreaterEqual (operand high) (operand low))
+      wanting.followed_good asks n s before (when (Compare rel.GreaterEqual (operand high) (operand low))
       (turns i low high x)) b
       ((operand_good n s high j, operand_good n s low l), turns_good n s i low high x h l j k, tt)
 
-  more_operands : (s : State) (xs : List Operand) (x : Operand) → GoodOperands s xs → GoodOperand s x → GoodOperands s
+  more_operands : (s : State) (xs : List Operand) (x : Operand) → GoodOperands asks s xs → GoodOperand asks s x → GoodOperands asks s
       (xs ++ x ∷ [])
   more_operands s [] x h k = (k, tt)
   more_operands s (y ∷ ys) x h k = (h.0, more_operands s ys x h.1 k)
 
-  module _ (c : Where) where
-    keep_yields : (s : State) (before : Stms) (x : Tx) → Ready c s → GoodStms c.loops s before → GoodTx c.loops s x →
-        Yields c s (HeldWell c.loops) (keep before x s)
-    keep_yields s before x r h k =
-        keeping.bind B T escapes c s (λ t i. T → i < t.frame.temps) (HeldWell c.loops) (fresh s)
-        (λ t. give (record { before = followed before (Move t x); operand = Kept (record { 0 = t }) }))
-        (keeping.draws_temp B T escapes c s r)
-        (λ i t st r' j. keeping.given B T escapes c t (HeldWell c.loops)
-        (record { before = followed before (Move i x); operand = Kept (record { 0 = i }) }) r' (
-          wanting.followed_good B T escapes c.loops t before (Move i x)
-              (keeping.stms_on B T escapes c.kept s t st c.loops before h)
-              (j, keeping.tx_on B T escapes c.kept s t st c.loops x k),
-          j,
-        ))
+-- What actions yield.
+module _ {asks : Asks} {c : Where} where
+  keep_yields : {s : State} (before : Stms) (x : Tx) → Ready asks c s → GoodStms asks c.loops s before → GoodTx asks c.loops s x →
+      Yields asks c s (HeldWell asks c.loops) (keep before x s)
+  keep_yields before x r h k =
+      bind (draws_temp r)
+      (λ i t st r' j. given (record { before = followed before (Move i x); operand = Kept (record { 0 = i }) }) r' (
+        wanting.followed_good asks c.loops t before (Move i x)
+            (stms_on st c.loops before h)
+            (j, tx_on st c.loops x k),
+        j,
+      ))
 
-    hold_yields : (s : State) (direct : Bool) (before : Stms) (x : Tx) → Ready c s → GoodStms c.loops s before → GoodTx
-        c.loops s x →
-        Yields c s (HeldWell c.loops) (hold direct before x s)
-    hold_yields s direct before (Const n) r h k =
-        keeping.given B T escapes c s (HeldWell c.loops) (record { before = before; operand = Number n }) r (h, tt)
-    hold_yields s true before (Temp t) r h k =
-        keeping.given B T escapes c s (HeldWell c.loops) (record { before = before; operand = Kept (record { 0 = t }) })
-        r (h, k)
-    hold_yields s false before (Temp t) r h k = keep_yields s before (Temp t) r h k
-    hold_yields s direct before x r h k = keep_yields s before x r h k
+  hold_yields : {s : State} (direct : Bool) (before : Stms) (x : Tx) → Ready asks c s → GoodStms asks c.loops s before → GoodTx asks
+      c.loops s x →
+      Yields asks c s (HeldWell asks c.loops) (hold direct before x s)
+  hold_yields direct before (Const n) r h k =
+      given (record { before = before; operand = Number n }) r (h, tt)
+  hold_yields true before (Temp t) r h k =
+      given (record { before = before; operand = Kept (record { 0 = t }) })
+      r (h, k)
+  hold_yields false before (Temp t) r h k = keep_yields before (Temp t) r h k
+  hold_yields direct before x r h k = keep_yields before x r h k
 
-    pub hold_next_yields : (s : State) (direct : Bool) (all : HeldAll) (x : Tx) → Ready c s → GoodHeld c.loops s all →
-        GoodTx c.loops s x →
-        Yields c s (λ t held. GoodHeld c.loops t held) (hold_next direct all x s)
-    hold_next_yields s direct all x r h k =
-        keeping.bind B T escapes c s (HeldWell c.loops) (λ t held. GoodHeld c.loops t held) (hold direct all.before x s)
-        (λ held. give (record { before = held.before; operands = all.operands ++ held.operand ∷ [] }))
-        (hold_yields s direct all.before x r h.0 k)
-        (λ held t st r' j.
-        keeping.given B T escapes c t (λ u held. GoodHeld c.loops u held)
-        (record { before = held.before; operands = all.operands ++ held.operand ∷ [] }) r' (
-          j.0,
-          more_operands t all.operands held.operand (keeping.operands_on B T escapes c.kept s t st all.operands h.1)
-              j.1,
-        ))
+  pub hold_next_yields : {s : State} (direct : Bool) (all : HeldAll) (x : Tx) → Ready asks c s → GoodHeld asks c.loops s all →
+      GoodTx asks c.loops s x →
+      Yields asks c s (λ t held. GoodHeld asks c.loops t held) (hold_next direct all x s)
+  hold_next_yields direct all x r h k =
+      bind (hold_yields direct all.before x r h.0 k)
+      (λ held t st r' j.
+      given (record { before = held.before; operands = all.operands ++ held.operand ∷ [] }) r' (
+        j.0,
+        more_operands asks t all.operands held.operand (operands_on st all.operands h.1)
+            j.1,
+      ))
 
-    pub assign_yields : (s : State) (p : Place) (m : Made) → Ready c s → GoodPlace c.loops s p → GoodMade c.loops s m →
-        Yields c s (λ t x. GoodTs c.loops t x) (assign p m s)
-    assign_yields s (in_temp i) m r h k =
-        keeping.given B T escapes c s (λ t x. GoodTs c.loops t x) (put_in i m) r
-        (wanting.put_good B T escapes c.loops s i m h k)
-    assign_yields s (at_address before a) m r h k =
-        keeping.bind B T escapes c s (λ t x. GoodTx c.loops t x) (λ t x. GoodTs c.loops t x) (value_of m s)
-        (λ x. give (store_at before a x)) (wanting.value_yields B T escapes c s m r k)
-        (λ x t st r' j. keeping.given B T escapes c t (λ u x. GoodTs c.loops u x) (store_at before a x) r'
-        (store_good c.loops t before a x (keeping.stms_on B T escapes c.kept s t st c.loops before h.0)
-        (keeping.tx_on B T escapes c.kept s t st c.loops a h.1) j))
+  pub assign_yields : {s : State} (p : Place) (m : Made) → Ready asks c s → GoodPlace asks c.loops s p → GoodMade asks c.loops s m →
+      Yields asks c s (λ t x. GoodTs asks c.loops t x) (assign p m s)
+  assign_yields {s} (in_temp i) m r h k =
+      given (put_in i m) r
+      (wanting.put_good asks c.loops s i m h k)
+  assign_yields (at_address before a) m r h k =
+      bind (wanting.value_yields m r k)
+      (λ x t st r' j. given (store_at before a x) r'
+      (store_good asks c.loops t before a x (stms_on st c.loops before h.0)
+      (tx_on st c.loops a h.1) j))
 
-    pub field_yields : (s : State) (k : ℕ) (x : Tx) → Ready c s → GoodTx c.loops s x →
-        Yields c s (λ t p. GoodPlace c.loops t p) (field_place k x s)
-    field_yields s k x r h =
-        keeping.bind B T escapes c s (HeldWell c.loops) (λ t p. GoodPlace c.loops t p) (hold true no_stms x s)
-        (λ held. give (field_of k held.before (operand held.operand))) (hold_yields s true no_stms x r tt h)
-        (λ held t st r' j. keeping.given B T escapes c t (λ u p. GoodPlace c.loops u p)
-        (field_of k held.before (operand held.operand)) r'
-        (field_good c.loops t k held.before (operand held.operand) j.0 (operand_good c.loops t held.operand j.1)))
+  pub field_yields : {s : State} (k : ℕ) (x : Tx) → Ready asks c s → GoodTx asks c.loops s x →
+      Yields asks c s (λ t p. GoodPlace asks c.loops t p) (field_place k x s)
+  field_yields k x r h =
+      bind (hold_yields true no_stms x r tt h)
+      (λ held t st r' j. given (field_of k held.before (operand held.operand)) r'
+      (field_good asks c.loops t k held.before (operand held.operand) j.0 (operand_good asks c.loops t held.operand j.1)))
 
-    -- two values are held, one behind the other
-    module _ {A : Type 0} (W : State → A → Type 0) (direct also : Bool) (x y : Tx) (next : Held → Held → Acts A)
-        (made : (l h : Held) (t : State) → Ready c t → GoodOperand t l.operand → HeldWell c.loops t h → Yields c t W
-        (next l h t)) where
-      both_held : (s : State) → Ready c s → GoodTx c.loops s x → GoodTx c.loops s y →
-          Yields c s W (after (hold direct no_stms x s) (λ l t. after (hold also l.before y t) (λ h. next l h)))
-      both_held s r h k =
-          keeping.bind B T escapes c s (HeldWell c.loops) W (hold direct no_stms x s)
-          (λ l t. after (hold also l.before y t) (λ h. next l h)) (hold_yields s direct no_stms x r tt h)
-          (λ l t st r' j.
-          keeping.bind B T escapes c t (HeldWell c.loops) W (hold also l.before y t) (λ h. next l h)
-          (hold_yields t also l.before y r' j.0 (keeping.tx_on B T escapes c.kept s t st c.loops y k))
-          (λ h u st' r'' i. made l h u r'' (keeping.operand_on B T escapes c.kept t u st' l.operand j.1) i))
-
-    pub element_yields : (s : State) (direct : Bool) (x y : Tx) → Ready c s → GoodTx c.loops s x → GoodTx c.loops s y →
-        Yields c s (λ t p. GoodPlace c.loops t p) (element_place direct x y s)
-    element_yields s direct x y r h k =
-        both_held (λ t p. GoodPlace c.loops t p) direct true x y
-        (λ a i. give (element_of i.before (operand a.operand) (operand i.operand)))
-        (λ a i t r' j l. keeping.given B T escapes c t (λ u p. GoodPlace c.loops u p)
-        (element_of i.before (operand a.operand) (operand i.operand)) r'
-        (element_good c.loops t i.before (operand a.operand) (operand i.operand) l.0
-        (operand_good c.loops t a.operand j)
-        (operand_good c.loops t i.operand l.1))) s r h k
-
-    pub record_yields : (s : State) (all : HeldAll) → Ready c s → GoodHeld c.loops s all → Yields c s
-        (λ t m. GoodMade c.loops t m) (make_record all s)
-    record_yields s all r h =
-        keeping.bind B T escapes c s (λ t i. T → i < t.frame.temps) (λ t m. GoodMade c.loops t m) (fresh s)
-        (λ i. give (record_of i all))
-        (keeping.draws_temp B T escapes c s r)
-        (λ i t st r' j. keeping.given B T escapes c t (λ u m. GoodMade c.loops u m) (record_of i all) r'
-        (record_good c.loops t i all j (keeping.held_on B T escapes c.kept s t st c.loops all h)))
-
-    product_yields : (s : State) (direct : Bool) (x y : Tx) → Ready c s → GoodTx c.loops s x → GoodTx c.loops s y →
-        Yields c s (λ t m. GoodMade c.loops t m) (product direct x y s)
-    product_yields s direct x y r h k =
-        both_held (λ t m. GoodMade c.loops t m) direct true x y
-        (λ a b t. after (fresh t) (λ p. give (product_of p b.before (operand a.operand) (operand b.operand))))
-        (λ a b t r' j l.
-        keeping.bind B T escapes c t (λ u i. T → i < u.frame.temps) (λ u m. GoodMade c.loops u m) (fresh t)
-        (λ p. give (product_of p b.before (operand a.operand) (operand b.operand)))
-        (keeping.draws_temp B T escapes c t r')
-        (λ p u st r'' i. keeping.given B T escapes c u (λ v m. GoodMade c.loops v m)
-        (product_of p b.before (operand a.operand) (operand b.operand)) r''
-        (product_good c.loops u p b.before (operand a.operand) (operand b.operand) i
-        (keeping.stms_on B T escapes c.kept t u st c.loops b.before l.0)
-        (operand_good c.loops u a.operand (keeping.operand_on B T escapes c.kept t u st a.operand j))
-        (operand_good c.loops u b.operand (keeping.operand_on B T escapes c.kept t u st b.operand l.1))))) s r h k
-
-    checked_yields : (s : State) (direct : Bool) (x y : Tx) → Ready c s → GoodTx c.loops s x → GoodTx c.loops s y →
-        Yields c s (λ t m. GoodMade c.loops t m) (checked_quotient direct x y s)
-    checked_yields s direct x y r h k =
-        both_held (λ t m. GoodMade c.loops t m) direct true x y
-        (λ a b. give (quotient_of b.before (operand a.operand) (operand b.operand)))
-        (λ a b t r' j l. keeping.given B T escapes c t (λ u m. GoodMade c.loops u m)
-        (quotient_of b.before (operand a.operand) (operand b.operand)) r'
-        (quotient_good c.loops t b.before (operand a.operand) (operand b.operand) l.0
-        (operand_good c.loops t a.operand j)
-        (operand_good c.loops t b.operand l.1))) s r h k
-
-    by_number_yields : (s : State) (direct : Bool) (x : Tx) (k : ℕ) (b : Bool) → Ready c s → GoodTx c.loops s x →
-        Yields c s (λ t m. GoodMade c.loops t m) ((if b then checked_quotient direct x (Const k) else give
-        (value (Binary bin.Div x (Const k)))) s)
-    by_number_yields s direct x k true r h = checked_yields s direct x (Const k) r h tt
-    by_number_yields s direct x k false r h =
-        keeping.given B T escapes c s (λ t m. GoodMade c.loops t m) (value (Binary bin.Div x (Const k))) r (h, tt)
-
-    quotient_yields : (s : State) (direct : Bool) (x y : Tx) → Ready c s → GoodTx c.loops s x → GoodTx c.loops s y →
-        Yields c s (λ t m. GoodMade c.loops t m) (quotient direct x y s)
-    quotient_yields s direct x (Const k) r h j = by_number_yields s direct x k (k == 0 || k == minus_one) r h
-    quotient_yields s direct x y r h j = checked_yields s direct x y r h j
-
-    compared_yields : (s : State) (o : Op) (strings : Bool) (x y : Tx) → Ready c s → GoodTx c.loops s x → GoodTx c.loops
-        s y →
-        Yields c s (λ t m. GoodMade c.loops t m) (give (test (comparison o strings x y)) s)
-    compared_yields s o strings x y r h k =
-        keeping.given B T escapes c s (λ t m. GoodMade c.loops t m) (test (comparison o strings x y)) r
-        (comparison_good c.loops s o strings x y h k)
-
-    pub operation_yields : (s : State) (o : Op) (strings direct : Bool) (x y : Tx) → Ready c s → GoodTx c.loops s x →
-        GoodTx c.loops s y →
-        Yields c s (λ t m. GoodMade c.loops t m) (operation o strings direct x y s)
-    operation_yields s op.Plus strings direct x y r h k =
-        keeping.given B T escapes c s (λ t m. GoodMade c.loops t m) (value (Binary bin.AddTrap x y)) r (h, k)
-    operation_yields s op.Minus strings direct x y r h k =
-        keeping.given B T escapes c s (λ t m. GoodMade c.loops t m) (value (Binary bin.SubTrap x y)) r (h, k)
-    operation_yields s op.Times strings direct x y r h k = product_yields s direct x y r h k
-    operation_yields s op.Divide strings direct x y r h k = quotient_yields s direct x y r h k
-    operation_yields s o strings direct x y r h k = compared_yields s o strings x y r h k
-
-    pub count_yields : (s : State) (i : Access) (x y : Tx) (turn : Ts) → Ready c s → GoodAccess s i → GoodTx c.loops s
-        x → GoodTx c.loops s y →
-        GoodTs (c.loops + 1) s turn → Yields c s (λ t m. GoodTs c.loops t m) (count i x y turn s)
-    count_yields s i x y turn r a h k g =
-        keeping.bind B T escapes c s (HeldWell c.loops) (λ t m. GoodTs c.loops t m) (hold false no_stms x s)
-        (λ l t. after (hold false l.before y t) (λ h. give (count_of h.before i l.operand h.operand turn)))
-        (hold_yields s false no_stms x r tt h)
+  -- two values are held, one behind the other
+  module _ {A : Type 0} (W : State → A → Type 0) (direct also : Bool) (x y : Tx) (next : Held → Held → Acts A)
+      (made : (l h : Held) (t : State) → Ready asks c t → GoodOperand asks t l.operand → HeldWell asks c.loops t h → Yields asks c t W
+      (next l h t)) where
+    both_held : {s : State} → Ready asks c s → GoodTx asks c.loops s x → GoodTx asks c.loops s y →
+        Yields asks c s W (after (hold direct no_stms x s) (λ l t. after (hold also l.before y t) (λ h. next l h)))
+    both_held r h k =
+        bind (hold_yields direct no_stms x r tt h)
         (λ l t st r' j.
-        keeping.bind B T escapes c t (HeldWell c.loops) (λ u m. GoodTs c.loops u m) (hold false l.before y t)
-        (λ h. give (count_of h.before i l.operand h.operand turn))
-        (hold_yields t false l.before y r' j.0 (keeping.tx_on B T escapes c.kept s t st c.loops y k))
-        (λ h u st' r'' q. let on = keeping.onward B T escapes st st' in
-        keeping.given B T escapes c u (λ v m. GoodTs c.loops v m) (count_of h.before i l.operand h.operand turn) r''
-        (count_good c.loops u h.before i l.operand h.operand turn q.0 (keeping.access_on B T escapes c.kept s u on i a)
-        (keeping.operand_on B T escapes c.kept t u st' l.operand j.1) q.1
-        (keeping.ts_on B T escapes c.kept s u on (c.loops + 1) turn g))))
+        bind (hold_yields also l.before y r' j.0 (tx_on st c.loops y k))
+        (λ h u st' r'' i. made l h u r'' (operand_on st' l.operand j.1) i))
+
+  pub element_yields : {s : State} (direct : Bool) (x y : Tx) → Ready asks c s → GoodTx asks c.loops s x → GoodTx asks c.loops s y →
+      Yields asks c s (λ t p. GoodPlace asks c.loops t p) (element_place direct x y s)
+  element_yields direct x y r h k =
+      both_held (λ t p. GoodPlace asks c.loops t p) direct true x y
+      (λ a i. give (element_of i.before (operand a.operand) (operand i.operand)))
+      (λ a i t r' j l. given (element_of i.before (operand a.operand) (operand i.operand)) r'
+      (element_good asks c.loops t i.before (operand a.operand) (operand i.operand) l.0
+      (operand_good asks c.loops t a.operand j)
+      (operand_good asks c.loops t i.operand l.1))) r h k
+
+  pub record_yields : {s : State} (all : HeldAll) → Ready asks c s → GoodHeld asks c.loops s all → Yields asks c s
+      (λ t m. GoodMade asks c.loops t m) (make_record all s)
+  record_yields all r h =
+      bind (draws_temp r)
+      (λ i t st r' j. given (record_of i all) r'
+      (record_good asks c.loops t i all j (held_on st c.loops all h)))
+
+  product_yields : {s : State} (direct : Bool) (x y : Tx) → Ready asks c s → GoodTx asks c.loops s x → GoodTx asks c.loops s y →
+      Yields asks c s (λ t m. GoodMade asks c.loops t m) (product direct x y s)
+  product_yields direct x y r h k =
+      both_held (λ t m. GoodMade asks c.loops t m) direct true x y
+      (λ a b t. after (fresh t) (λ p. give (product_of p b.before (operand a.operand) (operand b.operand))))
+      (λ a b t r' j l.
+      bind (draws_temp r')
+      (λ p u st r'' i. given (product_of p b.before (operand a.operand) (operand b.operand)) r''
+      (product_good asks c.loops u p b.before (operand a.operand) (operand b.operand) i
+      (stms_on st c.loops b.before l.0)
+      (operand_good asks c.loops u a.operand (operand_on st a.operand j))
+      (operand_good asks c.loops u b.operand (operand_on st b.operand l.1))))) r h k
+
+  checked_yields : {s : State} (direct : Bool) (x y : Tx) → Ready asks c s → GoodTx asks c.loops s x → GoodTx asks c.loops s y →
+      Yields asks c s (λ t m. GoodMade asks c.loops t m) (checked_quotient direct x y s)
+  checked_yields direct x y r h k =
+      both_held (λ t m. GoodMade asks c.loops t m) direct true x y
+      (λ a b. give (quotient_of b.before (operand a.operand) (operand b.operand)))
+      (λ a b t r' j l. given (quotient_of b.before (operand a.operand) (operand b.operand)) r'
+      (quotient_good asks c.loops t b.before (operand a.operand) (operand b.operand) l.0
+      (operand_good asks c.loops t a.operand j)
+      (operand_good asks c.loops t b.operand l.1))) r h k
+
+  by_number_yields : {s : State} (direct : Bool) (x : Tx) (k : ℕ) (b : Bool) → Ready asks c s → GoodTx asks c.loops s x →
+      Yields asks c s (λ t m. GoodMade asks c.loops t m) ((if b then checked_quotient direct x (Const k) else give
+      (value (Binary bin.Div x (Const k)))) s)
+  by_number_yields direct x k true r h = checked_yields direct x (Const k) r h tt
+  by_number_yields direct x k false r h =
+      given (value (Binary bin.Div x (Const k))) r (h, tt)
+
+  quotient_yields : {s : State} (direct : Bool) (x y : Tx) → Ready asks c s → GoodTx asks c.loops s x → GoodTx asks c.loops s y →
+      Yields asks c s (λ t m. GoodMade asks c.loops t m) (quotient direct x y s)
+  quotient_yields direct x (Const k) r h j = by_number_yields direct x k (k == 0 || k == minus_one) r h
+  quotient_yields direct x y r h j = checked_yields direct x y r h j
+
+  compared_yields : {s : State} (o : Op) (strings : Bool) (x y : Tx) → Ready asks c s → GoodTx asks c.loops s x → GoodTx asks c.loops
+      s y →
+      Yields asks c s (λ t m. GoodMade asks c.loops t m) (give (test (comparison o strings x y)) s)
+  compared_yields {s} o strings x y r h k =
+      given (test (comparison o strings x y)) r
+      (comparison_good asks c.loops s o strings x y h k)
+
+  pub operation_yields : {s : State} (o : Op) (strings direct : Bool) (x y : Tx) → Ready asks c s → GoodTx asks c.loops s x →
+      GoodTx asks c.loops s y →
+      Yields asks c s (λ t m. GoodMade asks c.loops t m) (operation o strings direct x y s)
+  operation_yields op.Plus strings direct x y r h k =
+      given (value (Binary bin.AddTrap x y)) r (h, k)
+  operation_yields op.Minus strings direct x y r h k =
+      given (value (Binary bin.SubTrap x y)) r (h, k)
+  operation_yields op.Times strings direct x y r h k = product_yields direct x y r h k
+  operation_yields op.Divide strings direct x y r h k = quotient_yields direct x y r h k
+  operation_yields o strings direct x y r h k = compared_yields o strings x y r h k
+
+  pub count_yields : {s : State} (i : Access) (x y : Tx) (turn : Ts) → Ready asks c s → GoodAccess asks s i → GoodTx asks c.loops s
+      x → GoodTx asks c.loops s y →
+      GoodTs asks (c.loops + 1) s turn → Yields asks c s (λ t m. GoodTs asks c.loops t m) (count i x y turn s)
+  count_yields i x y turn r a h k g =
+      bind (hold_yields false no_stms x r tt h)
+      (λ l t st r' j.
+      bind (hold_yields false l.before y r' j.0 (tx_on st c.loops y k))
+      (λ h u st' r'' q. let on = onward st st' in
+      given (count_of h.before i l.operand h.operand turn) r''
+      (count_good asks c.loops u h.before i l.operand h.operand turn q.0 (access_on on i a)
+      (operand_on st' l.operand j.1) q.1
+      (ts_on on (c.loops + 1) turn g))))

@@ -1,5 +1,5 @@
 -- Variables and parameters are declared; a part of a text has a context of its own, and leaves it.
-use Rattle.std.proofs.Common.{◌≡◌, ◌≢◌, ◌≤◌, ◌+◌, ℕ, zero, suc, Bool, true, false, Some, List, [], ◌∷◌, map, refl, ap, ◌∙◌, subst, arith, inl, inr}
+use Rattle.std.proofs.Common.{◌≡◌, ◌≢◌, ◌<◌, ◌≤◌, ◌+◌, ℕ, zero, suc, Bool, true, false, Some, List, [], ◌∷◌, map, refl, ap, ◌∙◌, subst, arith, inl, inr}
 use Rattle.std.specs.Prelude.{IsTrue}
 use Rattle.std.specs.List.{Contains}
 use Rattle.tg_symbols.specs.Tables.{named}
@@ -11,11 +11,11 @@ use Rattle.tg_frame.specs.Homes.{is_slot, homes_from, homes_of, temps_of}
 use Rattle.tg_translate.specs.declared.homes.Home.{Home}
 use Rattle.tg_translate.specs.States.{State, Frame, Drawn, drawn, one_temp, one_slot}
 use Rattle.tg_translate.specs.Constructs.{in_body, in_test}
-use Rattle.tg_translate.specs.Scopes.{Findings, declare_variable}
+use Rattle.tg_translate.specs.Scopes.{declare_variable}
 use Rattle.tg_translate.specs.Functions.{at_of, asked, parameters, own_homes}
 use Rattle.tg_shapes.specs.Standing.{AreApart, params_of, owned_by}
-use Rattle.tg_shapes.proofs.Keeping as keeping
-use Rattle.tg_shapes.proofs.Keeping.{Where}
+use Rattle.tg_shapes.proofs.Actions.{left}
+use Rattle.tg_shapes.proofs.Keeping.{Asks, Where, Ready, Step, Yields, GoodAccess, IsDrawn, drawn_on}
 use Rattle.tg_shapes.proofs.Scoping.{named_cases, named_other, more_contained, first_contained, behind_first}
 
 -- contexts: with a variable more, with more variables, in a loop's body, in a loop's test
@@ -37,27 +37,12 @@ owned_more (types _ rest) own at h = owned_more rest own at h
 owned_more (variable x _ _ rest) own at h = owned_more rest (at_of x ∷ own) at (more_contained (at_of x) at own h)
 owned_more (functions _ rest) own at h = owned_more rest own at h
 
-module _ (B T : Type 0) (findings : Findings) where
-  abbrev Ready : Where → State → Type 0
-  Ready = keeping.Ready B T findings.escapes
-
-  abbrev Step : List ℕ → State → State → Type 0
-  Step = keeping.Step B T findings.escapes
-
-  abbrev Yields : {A : Type 0} → Where → State → (State → A → Type 0) → Drawn A → Type 0
-  Yields = keeping.Yields B T findings.escapes
-
-  abbrev GoodAccess : State → Access → Type 0
-  GoodAccess = keeping.GoodAccess B T findings.escapes
-
-  abbrev IsDrawn : ℕ → Access → Type 0
-  IsDrawn = keeping.IsDrawn B T findings.escapes
-
+-- Parts are entered and left.
+module _ {asks : Asks} where
   -- a part is left, in which no fewer variables were the function's
-  pub leave : (c d : Where) (s t : State) → ((at : ℕ) → Contains c.own at → Contains d.own at) → s.frame.temps ≤
-      t.frame.temps →
-      Ready c s → Ready d t → Ready c t
-  leave c d s t f h r q = record {
+  pub leave : {c d : Where} {s t : State} → ((at : ℕ) → Contains c.own at → Contains d.own at) → s.frame.temps ≤ t.frame.temps →
+      Ready asks c s → Ready asks d t → Ready asks c t
+  leave f h r q = record {
     from = q.from;
     callees = q.callees;
     unused = q.unused;
@@ -68,20 +53,21 @@ module _ (B T : Type 0) (findings : Findings) where
     loops = r.loops;
   }
 
-  pub leave_yields : {A : Type 0} (c d : Where) (s : State) (V : State → A → Type 0) (dr : Drawn A) →
-      d.kept ≡ c.kept → ((at : ℕ) → Contains c.own at → Contains d.own at) → Ready c s → Yields d s V dr → Yields c s V
-      dr
-  leave_yields c d s V (drawn a t) e f r h =
-      let st : Step c.kept s t = subst (λ k. Step k s t) e h.0 in (st, leave c d s t f st.temps r h.1, h.2)
+  pub leave_with : {A : Type 0} {c d : Where} {s : State} {V : State → A → Type 0} {dr : Drawn A} → d.kept ≡ c.kept →
+      ((at : ℕ) → Contains c.own at → Contains d.own at) →
+      Ready asks c s → Yields asks d s V dr → Yields asks c s (λ t a. V t a × Ready asks d t) dr
+  leave_with {s = s} {dr = dr} e f r h =
+      let st = subst (λ k. Step asks k s (left dr)) e h.step in
+      record { step = st; ready = leave f st.grows.temps r h.ready; value = (h.value, h.ready) }
 
-  pub leave_with : {A : Type 0} (c d : Where) (s : State) (V : State → A → Type 0) (dr : Drawn A) →
-      d.kept ≡ c.kept → ((at : ℕ) → Contains c.own at → Contains d.own at) → Ready c s → Yields d s V dr →
-      Yields c s (λ t a. V t a × Ready d t) dr
-  leave_with c d s V (drawn a t) e f r h =
-      let st : Step c.kept s t = subst (λ k. Step k s t) e h.0 in (st, leave c d s t f st.temps r h.1, (h.2, h.1))
+  pub leave_yields : {A : Type 0} {c d : Where} {s : State} {V : State → A → Type 0} {dr : Drawn A} → d.kept ≡ c.kept →
+      ((at : ℕ) → Contains c.own at → Contains d.own at) →
+      Ready asks c s → Yields asks d s V dr → Yields asks c s V dr
+  leave_yields e f r h = let k = leave_with e f r h in record { step = k.step; ready = k.ready; value = k.value.0 }
 
-  pub enter_turn : (c : Where) (s : State) → Ready c s → Ready (turning c) s
-  enter_turn c s r = record {
+  enter : {c : Where} {s : State} (leave loops : ℕ) (in_loop : Bool) → (asks.breaks → in_loop ≡ true → leave < loops) → Ready asks c s →
+      Ready asks (record c { within = record c.within { leave = leave }; loops = loops; in_loop = in_loop }) s
+  enter leave loops in_loop f r = record {
     from = r.from;
     callees = r.callees;
     unused = r.unused;
@@ -89,21 +75,16 @@ module _ (B T : Type 0) (findings : Findings) where
     owned = r.owned;
     slots = r.slots;
     link = r.link;
-    loops = λ b e. omega arith;
+    loops = f;
   }
 
-  pub enter_test : (c : Where) (s : State) → Ready c s → Ready (testing c) s
-  enter_test c s r = record {
-    from = r.from;
-    callees = r.callees;
-    unused = r.unused;
-    functions = r.functions;
-    owned = r.owned;
-    slots = r.slots;
-    link = r.link;
-    loops = λ b e. let h = r.loops b e in omega (arith, h);
-  }
+  pub enter_turn : {c : Where} {s : State} → Ready asks c s → Ready asks (turning c) s
+  enter_turn {c} r = enter 0 (c.loops + 1) true (λ b e. omega arith) r
 
+  pub enter_test : {c : Where} {s : State} → Ready asks c s → Ready asks (testing c) s
+  enter_test {c} r = enter (c.within.leave + 1) (c.loops + 1) c.in_loop (λ b e. let h = r.loops b e in omega (arith, h)) r
+
+module _ (asks : Asks) where
   -- A variable is declared.
 
   abbrev with_home : (at level : ℕ) → Frame → Access → State → State
@@ -111,26 +92,25 @@ module _ (B T : Type 0) (findings : Findings) where
 
   home_step : (kept : List ℕ) (s : State) (at level : ℕ) (f : Frame) (a : Access) → f.label ≡ s.frame.label →
       s.frame.temps ≤ f.temps →
-      (T → AreApart (at ∷ []) kept) → Step kept s (with_home at level f a s)
+      (asks.temps → AreApart (at ∷ []) kept) → Step asks kept s (with_home at level f a s)
   home_step kept s at level f a e h apart = record {
-    label = omega arith;
-    temps = h;
-    name = e;
-    callees = λ l k. k;
-    literals = λ l k. k;
+    grows =
+        record {
+          label = omega arith;
+          temps = h;
+          name = e;
+          callees = λ l k. k;
+          literals = λ l k. k;
+          homes = λ t x k.
+              named_other x at (record { level = level; access = a }) s.homes
+              (λ q. apart t x (subst (λ y. Contains (at ∷ []) y) q (first_contained at [])) k);
+        };
     balance = λ n. refl;
-    homes = λ t x k.
-        named_other x at (record { level = level; access = a }) s.homes
-        (λ q. apart t x (subst (λ y. Contains (at ∷ []) y) q (first_contained at [])) k);
   }
 
-  drawn_on : (n m : ℕ) (a : Access) → n ≤ m → IsDrawn n a → IsDrawn m a
-  drawn_on n m (InTemp t) h k = omega (arith, h, k)
-  drawn_on n m (InFrame j) h k = tt
-
-  home_ready : (c : Where) (s : State) (at level : ℕ) (f : Frame) (a : Access) → s.frame.temps ≤ f.temps → IsDrawn
+  home_ready : (c : Where) (s : State) (at level : ℕ) (f : Frame) (a : Access) → s.frame.temps ≤ f.temps → IsDrawn asks
       f.temps a →
-      (findings.escapes at ≡ true → IsTrue (is_slot a)) → Ready c s → Ready (owning at c) (with_home at level f a s)
+      (asks.findings.escapes at ≡ true → IsTrue (is_slot a)) → Ready asks c s → Ready asks (owning at c) (with_home at level f a s)
   home_ready c s at level f a h d sl r = record {
     from = r.from;
     callees = r.callees;
@@ -138,12 +118,12 @@ module _ (B T : Type 0) (findings : Findings) where
     functions = r.functions;
     owned = λ t x home k e.
         elim (named_cases x at (record { level = level; access = a }) home s.homes e) [
-          | inl q ↦ subst (λ v. IsDrawn f.temps v.access) q.1 d
-          | inr q ↦ drawn_on s.frame.temps f.temps home.access h (r.owned t x home (behind_first at x c.own q.0 k) q.1)
+          | inl q ↦ subst (λ v. IsDrawn asks f.temps v.access) q.1 d
+          | inr q ↦ drawn_on asks s.frame.temps f.temps home.access h (r.owned t x home (behind_first at x c.own q.0 k) q.1)
         ];
     slots = λ t x home k e.
         elim (named_cases x at (record { level = level; access = a }) home s.homes e) [
-          | inl q ↦ subst (λ v. IsTrue (is_slot v.access)) q.1 (sl (ap findings.escapes q.0 ∙ k))
+          | inl q ↦ subst (λ v. IsTrue (is_slot v.access)) q.1 (sl (ap asks.findings.escapes q.0 ∙ k))
           | inr q ↦ r.slots t x home k q.1
         ];
     link = λ t l e. let k = r.link t l e in omega (arith, k, h);
@@ -151,44 +131,38 @@ module _ (B T : Type 0) (findings : Findings) where
   }
 
   abbrev pub Declares : (c : Where) (at : ℕ) → State → Access → Type 0
-  Declares c at t a = GoodAccess t a × Ready (owning at c) t
+  Declares c at t a = GoodAccess asks t a × Ready asks (owning at c) t
 
-  declared_as : (c : Where) (s : State) (at : ℕ) (b : Bool) → findings.escapes at ≡ b → Ready c s →
-      (T → AreApart (at ∷ []) c.kept) →
-      Yields c s (Declares c at) (declare_variable b c.within.level at s)
+  home_yields : (c : Where) (s : State) (at : ℕ) (f : Frame) (a : Access) → f.label ≡ s.frame.label → s.frame.temps ≤ f.temps →
+      GoodAccess asks (with_home at c.within.level f a s) a → IsDrawn asks f.temps a → (asks.findings.escapes at ≡ true → IsTrue (is_slot a)) → Ready asks c s →
+      (asks.temps → AreApart (at ∷ []) c.kept) → Yields asks c s (Declares c at) (drawn a (with_home at c.within.level f a s))
+  home_yields c s at f a e h g d sl r apart =
+      let q = home_ready c s at c.within.level f a h d sl r in
+      record {
+        step = home_step c.kept s at c.within.level f a e h apart;
+        ready = leave (λ x k. more_contained at x c.own k) h r q;
+        value = (g, q);
+      }
+
+  declared_as : (c : Where) (s : State) (at : ℕ) (b : Bool) → asks.findings.escapes at ≡ b → Ready asks c s →
+      (asks.temps → AreApart (at ∷ []) c.kept) →
+      Yields asks c s (Declares c at) (declare_variable b c.within.level at s)
   declared_as c s at true e r apart =
-      let q : Ready (owning at c) (with_home at c.within.level (one_slot s.frame) (InFrame s.frame.slots) s) =
-      home_ready c s at c.within.level (one_slot s.frame) (InFrame s.frame.slots) (omega arith) tt (λ k. refl) r in (
-        home_step c.kept s at c.within.level (one_slot s.frame) (InFrame s.frame.slots) refl (omega arith) apart,
-        leave c (owning at c) s (with_home at c.within.level (one_slot s.frame) (InFrame s.frame.slots) s)
-            (λ x k. more_contained at x c.own k)
-            (omega arith) r q,
-        (tt, q),
-      )
+      home_yields c s at (one_slot s.frame) (InFrame s.frame.slots) refl (omega arith) tt tt (λ k. refl) r apart
   declared_as c s at false e r apart =
-      let q : Ready (owning at c) (with_home at c.within.level (one_temp s.frame)
-      (InTemp (record { 0 = s.frame.temps })) s) =
-      home_ready c s at c.within.level (one_temp s.frame) (InTemp (record { 0 = s.frame.temps })) (omega arith)
-      (omega arith) (λ k. cc) r in (
-        home_step c.kept s at c.within.level (one_temp s.frame) (InTemp (record { 0 = s.frame.temps })) refl
-            (omega arith) apart,
-        leave c (owning at c) s (with_home at c.within.level (one_temp s.frame) (InTemp (record { 0 = s.frame.temps }))
-            s) (λ x k. more_contained at x c.own k)
-            (omega arith) r q,
-        ((λ t. omega arith), q),
-      )
+      home_yields c s at (one_temp s.frame) (InTemp (record { 0 = s.frame.temps })) refl (omega arith) (λ t. omega arith) (omega arith) (λ k. cc) r apart
 
-  pub declare_yields : (c : Where) (s : State) (at : ℕ) → Ready c s → (T → AreApart (at ∷ []) c.kept) →
-      Yields c s (Declares c at) (declare_variable (findings.escapes at) c.within.level at s)
-  declare_yields c s at r apart = declared_as c s at (findings.escapes at) refl r apart
+  pub declare_yields : (c : Where) (s : State) (at : ℕ) → Ready asks c s → (asks.temps → AreApart (at ∷ []) c.kept) →
+      Yields asks c s (Declares c at) (declare_variable (asks.findings.escapes at) c.within.level at s)
+  declare_yields c s at r apart = declared_as c s at (asks.findings.escapes at) refl r apart
 
   -- Parameters are declared.
 
   abbrev pub AllDrawn : (temps at : ℕ) → List (ℕ × Home) → Type 0
-  AllDrawn n at homes = (home : Home) → named at homes ≡ Some home → IsDrawn n home.access
+  AllDrawn n at homes = (home : Home) → named at homes ≡ Some home → IsDrawn asks n home.access
 
   abbrev pub AllSlots : List (ℕ × Home) → Type 0
-  AllSlots homes = (at : ℕ) (home : Home) → findings.escapes at ≡ true → named at homes ≡ Some home → IsTrue
+  AllSlots homes = (at : ℕ) (home : Home) → asks.findings.escapes at ≡ true → named at homes ≡ Some home → IsTrue
       (is_slot home.access)
 
   pub record Homed (params : List Param) (temps : ℕ) (old new : List (ℕ × Home)) : Type 0 where
@@ -197,14 +171,14 @@ module _ (B T : Type 0) (findings : Findings) where
     pub drawn : (at : ℕ) → Contains (params_of params) at → AllDrawn temps at new
     pub slots : AllSlots old → AllSlots new
 
-  homed_drawn : (n at x : ℕ) (home : Home) (old : List (ℕ × Home)) → IsDrawn n home.access →
+  homed_drawn : (n at x : ℕ) (home : Home) (old : List (ℕ × Home)) → IsDrawn asks n home.access →
       (at ≢ x → AllDrawn n x old) → AllDrawn n x ((at, home) ∷ old)
   homed_drawn n at x home old d f h e =
-      elim (named_cases x at home h old e) [ inl q ↦ subst (λ v. IsDrawn n v.access) q.1 d | inr q ↦ f q.0 h q.1 ]
+      elim (named_cases x at home h old e) [ inl q ↦ subst (λ v. IsDrawn asks n v.access) q.1 d | inr q ↦ f q.0 h q.1 ]
 
-  homed_more : (p : Param) (params : List Param) (n : ℕ) (home : Home) (old new : List (ℕ × Home)) → IsDrawn n
+  homed_more : (p : Param) (params : List Param) (n : ℕ) (home : Home) (old new : List (ℕ × Home)) → IsDrawn asks n
       home.access →
-      (findings.escapes (at_of p.name) ≡ true → IsTrue (is_slot home.access)) →
+      (asks.findings.escapes (at_of p.name) ≡ true → IsTrue (is_slot home.access)) →
       Homed params n ((at_of p.name, home) ∷ old) new → Homed (p ∷ params) n old new
   homed_more p params n home old new d sl h = record {
     others = λ x f.
@@ -216,7 +190,7 @@ module _ (B T : Type 0) (findings : Findings) where
     drawn = λ x k. drawn_there x k;
     slots = λ f. h.slots (λ x g k e.
         elim (named_cases x (at_of p.name) home g old e) [
-          | inl q ↦ subst (λ v. IsTrue (is_slot v.access)) q.1 (sl (ap findings.escapes q.0 ∙ k))
+          | inl q ↦ subst (λ v. IsTrue (is_slot v.access)) q.1 (sl (ap asks.findings.escapes q.0 ∙ k))
           | inr q ↦ f x g k q.1
         ]);
   }
@@ -226,12 +200,12 @@ module _ (B T : Type 0) (findings : Findings) where
       drawn_there x (suc k, l, e) = h.drawn x (k, omega arith, e)
 
   abbrev escaping : List Param → List Bool
-  escaping params = map (λ p. findings.escapes (at_of p.name)) params
+  escaping params = map (λ p. asks.findings.escapes (at_of p.name)) params
 
   param_homed : (level : ℕ) (p : Param) (params : List Param) (slots temps n : ℕ) (old : List (ℕ × Home)) (b : Bool) →
       ((slots temps : ℕ) (old : List (ℕ × Home)) → temps + temps_of (escaping params) ≤ n →
       Homed params n old (parameters level params (homes_from slots temps (escaping params)) old)) →
-      findings.escapes (at_of p.name) ≡ b → temps + temps_of (b ∷ escaping params) ≤ n →
+      asks.findings.escapes (at_of p.name) ≡ b → temps + temps_of (b ∷ escaping params) ≤ n →
       Homed (p ∷ params) n old (parameters level (p ∷ params) (homes_from slots temps (b ∷ escaping params)) old)
   param_homed level p params slots temps n old true more e h =
       let home : Home = record { level = level; access = InFrame slots } in
@@ -254,15 +228,15 @@ module _ (B T : Type 0) (findings : Findings) where
     slots = λ f. f;
   }
   params_homed level (p ∷ params) n slots temps old h =
-      param_homed level p params slots temps n old (findings.escapes (at_of p.name)) (params_homed level params n) refl
+      param_homed level p params slots temps n old (asks.findings.escapes (at_of p.name)) (params_homed level params n) refl
       h
 
   -- behind the static link
   abbrev homes_in : (kept : Bool) → List Param → List Access
-  homes_in kept params = own_homes (homes_of (asked findings.escapes kept params))
+  homes_in kept params = own_homes (homes_of (asked asks.findings.escapes kept params))
 
   pub all_homed : (level : ℕ) (kept : Bool) (params : List Param) (old : List (ℕ × Home)) →
-      Homed params (temps_of (asked findings.escapes kept params)) old
+      Homed params (temps_of (asked asks.findings.escapes kept params)) old
       (parameters level params (homes_in kept params) old)
   all_homed level true params old = params_homed level params (temps_of (escaping params)) 1 0 old (omega arith)
   all_homed level false params old = params_homed level params (temps_of (escaping params) + 1) 0 1 old (omega arith)

@@ -1,17 +1,23 @@
 -- Labels, strings and what the laws ask for, computed of small programs. Above each stands its text.
-use Rattle.std.proofs.Common.{◌≡◌, ℕ, List, [], ◌∷◌, None, false, refl, inl, inr, arith}
+use Rattle.std.proofs.Common.{◌≡◌, ℕ, List, [], ◌∷◌, map, None, true, false, refl, inl, inr, arith}
 use Rattle.std.specs.Prelude.{codes, nat_eq}
 use Rattle.std.specs.List.{list_any}
 use Rattle.tg_base.specs.declared.ids.Span.{Span}
 use Rattle.tg_symbols.specs.Tables.{named}
 use Rattle.tg_syntax.specs.declared.tokens.Ident.{Ident}
-use Rattle.tg_syntax.specs.Tree.{Exp, Break, Int, Text, Read, Call, While, Let, Seq, Simple, no_exps, exp, no_decs, variable, functions, no_functions, function}
+use Rattle.tg_syntax.specs.declared.trees.Op.TheVariants as op
+use Rattle.tg_syntax.specs.Functions.{program_functions}
+use Rattle.tg_syntax.specs.Tree.{Exp, Break, Int, Text, Read, Call, Binary, Assign, While, Let, Seq, Simple, no_exps, exp, no_decs, variable, functions, no_functions, function}
 use Rattle.tg_meaning.specs.declared.standards.Standard.TheVariants as standard
 use Rattle.tg_types.specs.declared.notes.Means.{Means}
 use Rattle.tg_types.specs.declared.notes.Means.TheVariants as means
+use Rattle.tg_tree.specs.Tree.{Tx, Load}
 use Rattle.tg_tree.specs.Named.{function_labels, literal_labels}
+use Rattle.tg_translate.specs.Constructs.{slot_address, frame_out}
 use Rattle.tg_translate.specs.Scopes.{Findings}
 use Rattle.tg_translate.specs.Translate.{translated}
+use Rattle.tg_shapes.specs.Accesses.{AccessesWithinTx}
+use Rattle.tg_shapes.specs.Escaped.{program_escaping}
 use Rattle.tg_shapes.specs.Standing.{BreaksStand, Reaches}
 use Rattle.tg_shapes.specs.Strings.{strings}
 use Rattle.tg_shapes.specs.Laws.{names}
@@ -31,6 +37,49 @@ findings escaping = record {
   escapes = λ at. list_any (nat_eq at) escaping;
   keeps_link = λ at. false;
 }
+
+-- let var x := 0 function f(k: int) = let function g() = x := x + k in g() end in f(1) end, where x and k escape and f
+-- keeps its static link
+abbrev nested_findings : Findings
+nested_findings = record {
+  meaning = λ at. named at ((2, means.Variable 2) ∷ (12, means.Function 12) ∷ meanings);
+  escapes = λ at. list_any (nat_eq at) (1 ∷ 2 ∷ []);
+  keeps_link = λ at. list_any (nat_eq at) (11 ∷ []);
+}
+
+abbrev nested : Exp
+nested =
+    Let sp
+    (variable (id 1) None (Int sp 0)
+    (functions
+    (function (id 11) (record { name = id 2; kind = id 0 } ∷ []) None
+    (Let sp
+    (functions
+    (function (id 12) [] None
+    (Assign sp (Simple (id 1)) (Binary sp op.Plus 0 (Read sp (Simple (id 1))) (Read sp (Simple (id 2))))) no_functions)
+    no_decs)
+    (exp (Call sp (id 12) no_exps) no_exps)) no_functions)
+    no_decs))
+    (exp (Call sp (id 11) (exp (Int sp 1) no_exps)) no_exps)
+
+nested_levels : map (λ m. m.level) (program_functions nested) ≡ 0 ∷ 1 ∷ 2 ∷ []
+nested_levels = refl
+
+nested_escaping : program_escaping nested_findings.escapes nested ≡ 1 ∷ 1 ∷ 0 ∷ []
+nested_escaping = refl
+
+nested_slots : map (λ f. f.slots) (translated nested_findings nested).functions ≡ 1 ∷ 2 ∷ 0 ∷ []
+nested_slots = refl
+
+-- the variable of a slot two functions outwards: two links, and the variable
+abbrev two_outwards : Tx
+two_outwards = Load (slot_address (frame_out true 2) 0)
+
+three_accesses : AccessesWithinTx 3 two_outwards
+three_accesses = (((tt, tt), tt), tt)
+
+no_two_accesses : AccessesWithinTx 2 two_outwards → ⊥
+no_two_accesses h = h.0.0
 
 -- let function f() = (print("a"); print("b")) in f(); print("c") end
 abbrev said : Exp

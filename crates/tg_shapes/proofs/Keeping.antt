@@ -19,7 +19,18 @@ use Rattle.tg_translate.specs.States.{State, Frame, Acts, Drawn, drawn, after, g
 use Rattle.tg_translate.specs.Wants.{Made, value, done, test}
 use Rattle.tg_translate.specs.Constructs.{Place, in_temp, at_address, HeldAll}
 use Rattle.tg_shapes.proofs.Fine.{Each, FineTs, FineStms, FineTx, FineTxs, FineCond, widen_ts, widen_stms, widen_tx, widen_txs, widen_cond}
+use Rattle.tg_shapes.proofs.Actions.{answer, left}
 use Rattle.tg_shapes.proofs.Counts.{times, below}
+use Rattle.tg_translate.specs.Scopes.{Findings}
+
+-- what is asked about of a program: whether its breaks are looked at, and its temporaries; and what was found of it
+pub record Asks : Type 1 where
+  pub breaks : Type 0
+  pub temps : Type 0
+  pub findings : Findings
+
+abbrev pub about : (breaks temps : Type 0) → Findings → Asks
+about breaks temps findings = record { breaks = breaks; temps = temps; findings = findings }
 
 -- a part of a text: the loops around it, whether one of them is open for a break, the variables of its function, and
 -- those of the functions around
@@ -40,19 +51,19 @@ literal_labels s = map (λ l. l.label) s.literals
 abbrev pub stands : ℕ → State → ℕ
 stands n s = times (λ f. f.label) n s.functions + times (λ l. l.label) n s.literals
 
--- breaks are looked at where B is asked, and temporaries where T is
-module _ (B T : Type 0) (escapes : ℕ → Bool) where
+-- breaks are looked at where asks.breaks is asked, and temporaries where asks.temps is
+module _ (asks : Asks) where
   abbrev pub Knows : (callees literals : List ℕ) → (temps : ℕ) → Named → Type 0
   Knows cs ls n (function l) = (l < 13) ⊎ Contains cs l
   Knows cs ls n (literal l) = Contains ls l
   Knows cs ls n (fault k) = k < 1048576
-  Knows cs ls n (temporary i) = T → i < n
+  Knows cs ls n (temporary i) = asks.temps → i < n
 
   abbrev pub KnowsAt : State → Named → Type 0
   KnowsAt s = Knows (callee_labels s) (literal_labels s) s.frame.temps
 
   pub record FineFunction (cs ls : List ℕ) (f : Function Ts) : Type 0 where
-    pub body : FineTs B (Knows cs ls f.temps) 0 f.body
+    pub body : FineTs asks.breaks (Knows cs ls f.temps) 0 f.body
     pub last : EndsFunction f.body
 
   abbrev pub IsDrawn : (temps : ℕ) → Access → Type 0
@@ -60,14 +71,18 @@ module _ (B T : Type 0) (escapes : ℕ → Bool) where
   IsDrawn n (InFrame k) = Unit {0}
 
   -- from one state to a later one, with the homes of these variables kept
-  pub record Step (kept : List ℕ) (s t : State) : Type 0 where
+  pub record Grows (kept : List ℕ) (s t : State) : Type 0 where
     pub label : s.label ≤ t.label
     pub temps : s.frame.temps ≤ t.frame.temps
     pub name : t.frame.label ≡ s.frame.label
     pub callees : (l : ℕ) → Contains (callee_labels s) l → Contains (callee_labels t) l
     pub literals : (l : ℕ) → Contains (literal_labels s) l → Contains (literal_labels t) l
+    pub homes : asks.temps → (at : ℕ) → Contains kept at → named at t.homes ≡ named at s.homes
+
+  -- where each label that was drawn between stands once more
+  pub record Step (kept : List ℕ) (s t : State) : Type 0 where
+    pub grows : Grows kept s t
     pub balance : (n : ℕ) → stands n t + below n s.label ≡ stands n s + below n t.label
-    pub homes : T → (at : ℕ) → Contains kept at → named at t.homes ≡ named at s.homes
 
   pub record Ready (c : Where) (s : State) : Type 0 where
     pub from : 33 ≤ s.label
@@ -76,60 +91,18 @@ module _ (B T : Type 0) (escapes : ℕ → Bool) where
     pub unused : (l : ℕ) → s.label ≤ l → times (λ k. k.label) l s.literals ≡ 0
     pub functions : Each (FineFunction (callee_labels s) (literal_labels s)) s.functions
     pub owned :
-        T → (at : ℕ) (home : Home) → Contains c.own at → named at s.homes ≡ Some home → IsDrawn s.frame.temps
+        asks.temps → (at : ℕ) (home : Home) → Contains c.own at → named at s.homes ≡ Some home → IsDrawn s.frame.temps
         home.access
     pub slots :
-        T → (at : ℕ) (home : Home) → escapes at ≡ true → named at s.homes ≡ Some home → IsTrue (is_slot home.access)
-    pub link : T → 0 < c.within.level → c.within.link_in_slot ≡ false → 0 < s.frame.temps
-    pub loops : B → c.in_loop ≡ true → c.within.leave < c.loops
+        asks.temps → (at : ℕ) (home : Home) → asks.findings.escapes at ≡ true → named at s.homes ≡ Some home → IsTrue (is_slot home.access)
+    pub link : asks.temps → 0 < c.within.level → c.within.link_in_slot ≡ false → 0 < s.frame.temps
+    pub loops : asks.breaks → c.in_loop ≡ true → c.within.leave < c.loops
 
-  abbrev pub Yields : {A : Type 0} → Where → State → (State → A → Type 0) → Drawn A → Type 0
-  Yields c s V (drawn a t) = Step c.kept s t × Ready c t × V t a
-
-  -- Steps follow one another.
-
-  pub stay : (kept : List ℕ) (s : State) → Step kept s s
-  stay kept s = record {
-    label = omega arith;
-    temps = omega arith;
-    name = refl;
-    callees = λ l h. h;
-    literals = λ l h. h;
-    balance = λ n. refl;
-    homes = λ t at h. refl;
-  }
-
-  pub onward : {kept : List ℕ} {s t u : State} → Step kept s t → Step kept t u → Step kept s u
-  onward {s} {t} {u} h k = record {
-    label = omega (arith, h.label, k.label);
-    temps = omega (arith, h.temps, k.temps);
-    name = k.name ∙ h.name;
-    callees = λ l c. k.callees l (h.callees l c);
-    literals = λ l c. k.literals l (h.literals l c);
-    balance = λ n. let p = h.balance n in let q = k.balance n in omega (arith, p, q);
-    homes = λ t at c. k.homes t at c ∙ h.homes t at c;
-  }
-
-  lifted : {A : Type 0} (c : Where) (s t : State) (W : State → A → Type 0) (d : Drawn A) → Step c.kept s t → Yields c t
-      W d → Yields c s W d
-  lifted c s t W (drawn a u) h k = (onward h k.0, k.1, k.2)
-
-  pub bind :
-      {A C : Type 0} (c : Where) (s : State) (V : State → A → Type 0) (W : State → C → Type 0) (d : Drawn A)
-      (next : A → Acts C) →
-      Yields c s V d →
-      ((a : A) (t : State) → Step c.kept s t → Ready c t → V t a → Yields c t W (next a t)) →
-      Yields c s W (after d next)
-  bind c s V W (drawn a t) next h k = lifted c s t W (next a t) h.0 (k a t h.0 h.1 h.2)
-
-  pub given : {A : Type 0} (c : Where) (s : State) (V : State → A → Type 0) (a : A) → Ready c s → V s a → Yields c s V
-      (give a s)
-  given c s V a r v = (stay c.kept s, r, v)
-
-  pub weaker :
-      {A : Type 0} (c : Where) (s : State) (V W : State → A → Type 0) (d : Drawn A) →
-      ((t : State) (a : A) → V t a → W t a) → Yields c s V d → Yields c s W d
-  weaker c s V W (drawn a t) f h = (h.0, h.1, f t a h.2)
+  -- an action takes a step, from where a part may go on, and what it gives is fine there
+  pub record Yields {A : Type 0} (c : Where) (s : State) (V : State → A → Type 0) (d : Drawn A) : Type 0 where
+    pub step : Step c.kept s (left d)
+    pub ready : Ready c (left d)
+    pub value : V (left d) (answer d)
 
   -- What is fine stays fine.
 
@@ -144,7 +117,7 @@ module _ (B T : Type 0) (escapes : ℕ → Bool) where
   pub knows_on : (kept : List ℕ) (s t : State) → Step kept s t → (x : Named) → KnowsAt s x → KnowsAt t x
   knows_on kept s t h x k =
       know_more (callee_labels s) (literal_labels s) (callee_labels t) (literal_labels t) s.frame.temps t.frame.temps
-      h.callees h.literals h.temps x k
+      h.grows.callees h.grows.literals h.grows.temps x k
 
   pub functions_on : (cs ls ds ms : List ℕ) → ((l : ℕ) → Contains cs l → Contains ds l) →
       ((l : ℕ) → Contains ls l → Contains ms l) →
@@ -153,7 +126,7 @@ module _ (B T : Type 0) (escapes : ℕ → Bool) where
   functions_on cs ls ds ms f g (one ∷ fs) h = (
     record {
       body =
-          widen_ts B (Knows cs ls one.temps) (Knows ds ms one.temps)
+          widen_ts asks.breaks (Knows cs ls one.temps) (Knows ds ms one.temps)
           (know_more cs ls ds ms one.temps one.temps f g (omega arith)) 0 one.body h.0.body;
       last = h.0.last;
     },
@@ -161,113 +134,67 @@ module _ (B T : Type 0) (escapes : ℕ → Bool) where
   )
 
   abbrev pub GoodTx : ℕ → State → Tx → Type 0
-  GoodTx n s x = FineTx B (KnowsAt s) n x
+  GoodTx n s x = FineTx asks.breaks (KnowsAt s) n x
 
   abbrev pub GoodTxs : ℕ → State → Txs → Type 0
-  GoodTxs n s xs = FineTxs B (KnowsAt s) n xs
+  GoodTxs n s xs = FineTxs asks.breaks (KnowsAt s) n xs
 
   abbrev pub GoodTs : ℕ → State → Ts → Type 0
-  GoodTs n s x = FineTs B (KnowsAt s) n x
+  GoodTs n s x = FineTs asks.breaks (KnowsAt s) n x
 
   abbrev pub GoodStms : ℕ → State → Stms → Type 0
-  GoodStms n s ss = FineStms B (KnowsAt s) n ss
+  GoodStms n s ss = FineStms asks.breaks (KnowsAt s) n ss
 
   abbrev pub GoodCond : ℕ → State → Cond → Type 0
-  GoodCond n s c = FineCond B (KnowsAt s) n c
+  GoodCond n s c = FineCond asks.breaks (KnowsAt s) n c
 
   abbrev pub GoodMade : ℕ → State → Made → Type 0
-  GoodMade n s (value x) = FineTx B (KnowsAt s) n x
-  GoodMade n s (done x) = FineTs B (KnowsAt s) n x
-  GoodMade n s (test c) = FineCond B (KnowsAt s) n c
+  GoodMade n s (value x) = FineTx asks.breaks (KnowsAt s) n x
+  GoodMade n s (done x) = FineTs asks.breaks (KnowsAt s) n x
+  GoodMade n s (test c) = FineCond asks.breaks (KnowsAt s) n c
 
   abbrev pub GoodPlace : ℕ → State → Place → Type 0
-  GoodPlace n s (in_temp i) = T → i < s.frame.temps
-  GoodPlace n s (at_address ss x) = FineStms B (KnowsAt s) n ss × FineTx B (KnowsAt s) n x
+  GoodPlace n s (in_temp i) = asks.temps → i < s.frame.temps
+  GoodPlace n s (at_address ss x) = FineStms asks.breaks (KnowsAt s) n ss × FineTx asks.breaks (KnowsAt s) n x
 
   abbrev pub GoodOperand : State → Operand → Type 0
   GoodOperand s (Number n) = Unit {0}
-  GoodOperand s (Kept t) = T → t.0 < s.frame.temps
+  GoodOperand s (Kept t) = asks.temps → t.0 < s.frame.temps
 
   abbrev pub GoodOperands : State → List Operand → Type 0
   GoodOperands s [] = Unit {0}
   GoodOperands s (x ∷ xs) = GoodOperand s x × GoodOperands s xs
 
   abbrev pub GoodHeld : ℕ → State → HeldAll → Type 0
-  GoodHeld n s all = FineStms B (KnowsAt s) n all.before × GoodOperands s all.operands
+  GoodHeld n s all = FineStms asks.breaks (KnowsAt s) n all.before × GoodOperands s all.operands
 
   abbrev pub GoodWant : State → Want → Type 0
-  GoodWant s (want.Into t) = T → t.0 < s.frame.temps
+  GoodWant s (want.Into t) = asks.temps → t.0 < s.frame.temps
   GoodWant s _ = Unit {0}
 
   abbrev pub GoodAccess : State → Access → Type 0
-  GoodAccess s (InTemp t) = T → t.0 < s.frame.temps
+  GoodAccess s (InTemp t) = asks.temps → t.0 < s.frame.temps
   GoodAccess s (InFrame k) = Unit {0}
-
-  module _ (kept : List ℕ) (s t : State) (h : Step kept s t) where
-    pub tx_on : (n : ℕ) (x : Tx) → GoodTx n s x → GoodTx n t x
-    tx_on n x k = widen_tx B (KnowsAt s) (KnowsAt t) (knows_on kept s t h) n x k
-
-    pub txs_on : (n : ℕ) (xs : Txs) → GoodTxs n s xs → GoodTxs n t xs
-    txs_on n x k = widen_txs B (KnowsAt s) (KnowsAt t) (knows_on kept s t h) n x k
-
-    pub ts_on : (n : ℕ) (x : Ts) → GoodTs n s x → GoodTs n t x
-    ts_on n x k = widen_ts B (KnowsAt s) (KnowsAt t) (knows_on kept s t h) n x k
-
-    pub stms_on : (n : ℕ) (ss : Stms) → GoodStms n s ss → GoodStms n t ss
-    stms_on n x k = widen_stms B (KnowsAt s) (KnowsAt t) (knows_on kept s t h) n x k
-
-    pub cond_on : (n : ℕ) (c : Cond) → GoodCond n s c → GoodCond n t c
-    cond_on n x k = widen_cond B (KnowsAt s) (KnowsAt t) (knows_on kept s t h) n x k
-
-    pub made_on : (n : ℕ) (m : Made) → GoodMade n s m → GoodMade n t m
-    made_on n (value x) k = tx_on n x k
-    made_on n (done x) k = ts_on n x k
-    made_on n (test c) k = cond_on n c k
-
-    pub temp_on : (i : ℕ) → (T → i < s.frame.temps) → T → i < t.frame.temps
-    temp_on i k asked = let j = k asked in omega (arith, j, h.temps)
-
-    pub place_on : (n : ℕ) (p : Place) → GoodPlace n s p → GoodPlace n t p
-    place_on n (in_temp i) k = temp_on i k
-    place_on n (at_address ss x) k = (stms_on n ss k.0, tx_on n x k.1)
-
-    pub operand_on : (x : Operand) → GoodOperand s x → GoodOperand t x
-    operand_on (Number n) k = tt
-    operand_on (Kept i) k = temp_on i.0 k
-
-    pub operands_on : (xs : List Operand) → GoodOperands s xs → GoodOperands t xs
-    operands_on [] k = tt
-    operands_on (x ∷ xs) k = (operand_on x k.0, operands_on xs k.1)
-
-    pub held_on : (n : ℕ) (all : HeldAll) → GoodHeld n s all → GoodHeld n t all
-    held_on n all k = (stms_on n all.before k.0, operands_on all.operands k.1)
-
-    pub want_on : (w : Want) → GoodWant s w → GoodWant t w
-    want_on want.Value k = tt
-    want_on (want.Into i) k = temp_on i.0 k
-    want_on want.Dropped k = tt
-    want_on want.Test k = tt
-
-    pub access_on : (a : Access) → GoodAccess s a → GoodAccess t a
-    access_on (InTemp i) k = temp_on i.0 k
-    access_on (InFrame j) k = tt
 
   -- A frame may draw.
 
-  drawn_on : (n m : ℕ) (a : Access) → n ≤ m → IsDrawn n a → IsDrawn m a
+  pub drawn_on : (n m : ℕ) (a : Access) → n ≤ m → IsDrawn n a → IsDrawn m a
   drawn_on n m (InTemp t) h k = omega (arith, h, k)
   drawn_on n m (InFrame j) h k = tt
 
   pub framed : (kept : List ℕ) (s : State) (f : Frame) → f.label ≡ s.frame.label → s.frame.temps ≤ f.temps → Step kept s
       (with_frame f s)
   framed kept s f e h = record {
-    label = omega arith;
-    temps = h;
-    name = e;
-    callees = λ l k. k;
-    literals = λ l k. k;
+    grows =
+        record {
+          label = omega arith;
+          temps = h;
+          name = e;
+          callees = λ l k. k;
+          literals = λ l k. k;
+          homes = λ t at k. refl;
+        };
     balance = λ n. refl;
-    homes = λ t at k. refl;
   }
 
   pub ready_framed : (c : Where) (s : State) (f : Frame) → s.frame.temps ≤ f.temps → Ready c s → Ready c
@@ -283,10 +210,112 @@ module _ (B T : Type 0) (escapes : ℕ → Bool) where
     loops = r.loops;
   }
 
-  pub draws_temp : (c : Where) (s : State) → Ready c s → Yields c s (λ t i. T → i < t.frame.temps) (fresh s)
-  draws_temp c s r = (
-    framed c.kept s (one_temp s.frame) refl (omega arith),
-    ready_framed c s (one_temp s.frame) (omega arith) r,
-    λ t.
-        omega arith,
-  )
+-- Whatever is asked about.
+module _ {asks : Asks} where
+  -- Steps follow one another.
+
+  pub grows_none : {kept : List ℕ} {s : State} → Grows asks kept s s
+  grows_none = record {
+    label = omega arith;
+    temps = omega arith;
+    name = refl;
+    callees = λ l h. h;
+    literals = λ l h. h;
+    homes = λ t at h. refl;
+  }
+
+  pub grows_on : {kept : List ℕ} {s t u : State} → Grows asks kept s t → Grows asks kept t u → Grows asks kept s u
+  grows_on h k = record {
+    label = omega (arith, h.label, k.label);
+    temps = omega (arith, h.temps, k.temps);
+    name = k.name ∙ h.name;
+    callees = λ l c. k.callees l (h.callees l c);
+    literals = λ l c. k.literals l (h.literals l c);
+    homes = λ t at c. k.homes t at c ∙ h.homes t at c;
+  }
+
+  pub grows_for : {kept more : List ℕ} {s t : State} → ((at : ℕ) → Contains kept at → Contains more at) → Grows asks more s t → Grows asks kept s t
+  grows_for f h = record {
+    label = h.label;
+    temps = h.temps;
+    name = h.name;
+    callees = h.callees;
+    literals = h.literals;
+    homes = λ t at c. h.homes t at (f at c);
+  }
+
+  pub stay : {kept : List ℕ} {s : State} → Step asks kept s s
+  stay = record { grows = grows_none; balance = λ n. refl }
+
+  pub onward : {kept : List ℕ} {s t u : State} → Step asks kept s t → Step asks kept t u → Step asks kept s u
+  onward h k = record {
+    grows = grows_on h.grows k.grows;
+    balance = λ n. let p = h.balance n in let q = k.balance n in omega (arith, p, q);
+  }
+
+  pub bind : {A C : Type 0} {c : Where} {s : State} {V : State → A → Type 0} {W : State → C → Type 0} {d : Drawn A} {next : A → Acts C} →
+      Yields asks c s V d → ((a : A) (t : State) → Step asks c.kept s t → Ready asks c t → V t a → Yields asks c t W (next a t)) →
+      Yields asks c s W (after d next)
+  bind {d = drawn a t} h k =
+      let g = k a t h.step h.ready h.value in record { step = onward h.step g.step; ready = g.ready; value = g.value }
+
+  pub given : {A : Type 0} {c : Where} {s : State} {V : State → A → Type 0} (a : A) → Ready asks c s → V s a → Yields asks c s V (give a s)
+  given a r v = record { step = stay; ready = r; value = v }
+
+  pub draws_temp : {c : Where} {s : State} → Ready asks c s → Yields asks c s (λ t i. asks.temps → i < t.frame.temps) (fresh s)
+  draws_temp {c} {s} r = record {
+    step = framed asks c.kept s (one_temp s.frame) refl (omega arith);
+    ready = ready_framed asks c s (one_temp s.frame) (omega arith) r;
+    value = λ t. omega arith;
+  }
+
+  -- What is fine is so in a later state.
+
+  module _ {kept : List ℕ} {s t : State} (h : Step asks kept s t) where
+    pub tx_on : (n : ℕ) (x : Tx) → GoodTx asks n s x → GoodTx asks n t x
+    tx_on n x k = widen_tx asks.breaks (KnowsAt asks s) (KnowsAt asks t) (knows_on asks kept s t h) n x k
+
+    pub txs_on : (n : ℕ) (xs : Txs) → GoodTxs asks n s xs → GoodTxs asks n t xs
+    txs_on n x k = widen_txs asks.breaks (KnowsAt asks s) (KnowsAt asks t) (knows_on asks kept s t h) n x k
+
+    pub ts_on : (n : ℕ) (x : Ts) → GoodTs asks n s x → GoodTs asks n t x
+    ts_on n x k = widen_ts asks.breaks (KnowsAt asks s) (KnowsAt asks t) (knows_on asks kept s t h) n x k
+
+    pub stms_on : (n : ℕ) (ss : Stms) → GoodStms asks n s ss → GoodStms asks n t ss
+    stms_on n x k = widen_stms asks.breaks (KnowsAt asks s) (KnowsAt asks t) (knows_on asks kept s t h) n x k
+
+    pub cond_on : (n : ℕ) (c : Cond) → GoodCond asks n s c → GoodCond asks n t c
+    cond_on n x k = widen_cond asks.breaks (KnowsAt asks s) (KnowsAt asks t) (knows_on asks kept s t h) n x k
+
+    pub made_on : (n : ℕ) (m : Made) → GoodMade asks n s m → GoodMade asks n t m
+    made_on n (value x) k = tx_on n x k
+    made_on n (done x) k = ts_on n x k
+    made_on n (test c) k = cond_on n c k
+
+    pub temp_on : (i : ℕ) → (asks.temps → i < s.frame.temps) → asks.temps → i < t.frame.temps
+    temp_on i k asked = let j = k asked in omega (arith, j, h.grows.temps)
+
+    pub place_on : (n : ℕ) (p : Place) → GoodPlace asks n s p → GoodPlace asks n t p
+    place_on n (in_temp i) k = temp_on i k
+    place_on n (at_address ss x) k = (stms_on n ss k.0, tx_on n x k.1)
+
+    pub operand_on : (x : Operand) → GoodOperand asks s x → GoodOperand asks t x
+    operand_on (Number n) k = tt
+    operand_on (Kept i) k = temp_on i.0 k
+
+    pub operands_on : (xs : List Operand) → GoodOperands asks s xs → GoodOperands asks t xs
+    operands_on [] k = tt
+    operands_on (x ∷ xs) k = (operand_on x k.0, operands_on xs k.1)
+
+    pub held_on : (n : ℕ) (all : HeldAll) → GoodHeld asks n s all → GoodHeld asks n t all
+    held_on n all k = (stms_on n all.before k.0, operands_on all.operands k.1)
+
+    pub want_on : (w : Want) → GoodWant asks s w → GoodWant asks t w
+    want_on want.Value k = tt
+    want_on (want.Into i) k = temp_on i.0 k
+    want_on want.Dropped k = tt
+    want_on want.Test k = tt
+
+    pub access_on : (a : Access) → GoodAccess asks s a → GoodAccess asks t a
+    access_on (InTemp i) k = temp_on i.0 k
+    access_on (InFrame j) k = tt

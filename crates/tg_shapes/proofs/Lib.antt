@@ -1,4 +1,5 @@
 mod Examples
+pub mod Actions
 pub mod Fine
 pub mod Counts
 pub mod Keeping
@@ -11,8 +12,9 @@ pub mod Walking
 pub mod Shaped
 pub mod Typed
 pub mod Reaching
-pub mod Adding
-pub mod Slots
-pub mod Drawing
+pub mod Near
+pub mod Taking
+pub mod Charges
+pub mod Measured
 pub mod Bounding
 pub mod Shaping

@@ -1,31 +1,24 @@
 -- Functions: each has a frame of its own, and stands behind those that were done before it.
-use Rattle.std.proofs.Common.{◌≡◌, ◌<◌, ◌≤◌, ◌+◌, ℕ, zero, suc, Bool, true, false, List, [], ◌∷◌, ◌++◌, refl, sym, ap, ◌∙◌, arith}
+use Rattle.std.proofs.Common.{◌≡◌, ◌<◌, ◌≤◌, ◌+◌, ℕ, zero, suc, Bool, true, false, List, ◌∷◌, ◌++◌, refl, sym, ap, ◌∙◌, arith}
 use Rattle.std.specs.List.{Contains}
 use Rattle.std.proofs.lemmas.List.Elements.{Contains-append_left, Contains-append_right}
-use Rattle.tg_symbols.specs.Tables.{named}
 use Rattle.tg_syntax.specs.declared.trees.Param.{Param}
 use Rattle.tg_syntax.specs.Tree.{FunDecs, no_functions, function}
 use Rattle.tg_frame.specs.Homes.{temps_of}
-use Rattle.tg_tree.specs.Tree.{Ts, Return, Function}
+use Rattle.tg_tree.specs.Tree.{Ts, Return}
 use Rattle.tg_tree.specs.Shapes.{EndsFunction}
 use Rattle.tg_translate.specs.declared.homes.Within.{Within}
 use Rattle.tg_translate.specs.declared.wants.Want.{Want}
-use Rattle.tg_translate.specs.States.{State, Acts, Drawn, drawn, after, give}
-use Rattle.tg_translate.specs.Wants.{Made, value_of}
-use Rattle.tg_translate.specs.Scopes.{Findings}
+use Rattle.tg_translate.specs.States.{State, Acts, Drawn, drawn, after}
+use Rattle.tg_translate.specs.Wants.{Made}
 use Rattle.tg_translate.specs.Functions.{at_of, asked, parameters, own_homes, frame_for, declare_functions, with_body, finished, finish, opened, result_want, inside, gives_nothing, closing, body}
 use Rattle.tg_shapes.specs.Standing.{AreApart, params_of}
-use Rattle.tg_shapes.proofs.Fine.{Each}
+use Rattle.tg_shapes.proofs.Fine.{each_append}
 use Rattle.tg_shapes.proofs.Counts.{times, times-append, same, below, below-next}
-use Rattle.tg_shapes.proofs.Keeping as keeping
-use Rattle.tg_shapes.proofs.Keeping.{Where, callee_labels, literal_labels, stands}
+use Rattle.tg_shapes.proofs.Keeping.{Asks, Where, callee_labels, literal_labels, stands, bind, given, onward, Ready, Step, Yields, GoodTs, GoodMade, FineFunction, GoodWant, functions_on, Grows, grows_none, grows_on, grows_for}
 use Rattle.tg_shapes.proofs.Wanting as wanting
 use Rattle.tg_shapes.proofs.Scoping.{more_contained}
 use Rattle.tg_shapes.proofs.Declaring as declaring
-
-each_append : {X : Type 0} (P : X → Type 0) (xs ys : List X) → Each P xs → Each P ys → Each P (xs ++ ys)
-each_append P [] ys h k = k
-each_append P (x ∷ xs) ys h k = (h.0, each_append P xs ys h.1 k)
 
 -- a function's text, inside one that stands here
 abbrev pub nested : (kept : Bool) → List Param → Where → Where
@@ -37,88 +30,49 @@ nested kept params c = record {
   kept = c.own ++ c.kept;
 }
 
-module _ (B T : Type 0) (findings : Findings) where
-  abbrev Ready : Where → State → Type 0
-  Ready = keeping.Ready B T findings.escapes
-
-  abbrev Step : List ℕ → State → State → Type 0
-  Step = keeping.Step B T findings.escapes
-
-  abbrev Yields : {A : Type 0} → Where → State → (State → A → Type 0) → Drawn A → Type 0
-  Yields = keeping.Yields B T findings.escapes
-
-  abbrev GoodTs : ℕ → State → Ts → Type 0
-  GoodTs = keeping.GoodTs B T findings.escapes
-
-  abbrev GoodMade : ℕ → State → Made → Type 0
-  GoodMade = keeping.GoodMade B T findings.escapes
-
-  abbrev FineFunction : (cs ls : List ℕ) → Function Ts → Type 0
-  FineFunction = keeping.FineFunction B T findings.escapes
-
+module _ (asks : Asks) where
   -- a body that is closed
   abbrev pub IsWhole : ℕ → State → Ts → Type 0
-  IsWhole n s x = GoodTs n s x × EndsFunction x
+  IsWhole n s x = GoodTs asks n s x × EndsFunction x
 
-  pub closing_yields : (c : Where) (s : State) (has_result : Bool) (m : Made) → Ready c s → GoodMade c.loops s m →
-      Yields c s (IsWhole c.loops) (closing has_result m s)
+  pub closing_yields : (c : Where) (s : State) (has_result : Bool) (m : Made) → Ready asks c s → GoodMade asks c.loops s m →
+      Yields asks c s (IsWhole c.loops) (closing has_result m s)
   closing_yields c s true m r h =
-      keeping.bind B T findings.escapes c s (λ t x. keeping.GoodTx B T findings.escapes c.loops t x) (IsWhole c.loops)
-      (value_of m s) (λ x. give (Return x))
-      (wanting.value_yields B T findings.escapes c s m r h)
-      (λ x t st r' k. keeping.given B T findings.escapes c t (IsWhole c.loops) (Return x) r' (k, tt))
+      bind (wanting.value_yields m r h)
+      (λ x t st r' k. given (Return x) r' (k, tt))
   closing_yields c s false m r h =
-      keeping.given B T findings.escapes c s (IsWhole c.loops) (gives_nothing m) r
-      ((wanting.dropped_good B T findings.escapes c.loops s m h, (tt, tt)), tt)
+      given (gives_nothing m) r
+      ((wanting.dropped_good asks c.loops s m h, (tt, tt)), tt)
 
   -- from one state to a later one, where the labels from one on, up to another, are given away
   pub record Places (kept : List ℕ) (from to : ℕ) (s t : State) : Type 0 where
-    pub label : s.label ≤ t.label
-    pub temps : s.frame.temps ≤ t.frame.temps
-    pub name : t.frame.label ≡ s.frame.label
-    pub callees : (l : ℕ) → Contains (callee_labels s) l → Contains (callee_labels t) l
-    pub literals : (l : ℕ) → Contains (literal_labels s) l → Contains (literal_labels t) l
+    pub grows : Grows asks kept s t
     pub balance : (n : ℕ) → stands n t + below n s.label + below n from ≡ stands n s + below n t.label + below n to
-    pub homes : T → (at : ℕ) → Contains kept at → named at t.homes ≡ named at s.homes
 
   pub places_none : (kept : List ℕ) (n : ℕ) (s : State) → Places kept n n s s
-  places_none kept n s = record {
-    label = omega arith;
-    temps = omega arith;
-    name = refl;
-    callees = λ l h. h;
-    literals = λ l h. h;
-    balance = λ k. refl;
-    homes = λ t at h. refl;
-  }
+  places_none kept n s = record { grows = grows_none; balance = λ k. refl }
 
-  pub places_more : (kept : List ℕ) (a b d : ℕ) (s t u : State) → Places kept a b s t → Places kept b d t u → Places
-      kept a d s u
+  pub places_more : (kept : List ℕ) (a b d : ℕ) (s t u : State) → Places kept a b s t → Places kept b d t u → Places kept a d s u
   places_more kept a b d s t u h k = record {
-    label = omega (arith, h.label, k.label);
-    temps = omega (arith, h.temps, k.temps);
-    name = k.name ∙ h.name;
-    callees = λ l c. k.callees l (h.callees l c);
-    literals = λ l c. k.literals l (h.literals l c);
+    grows = grows_on h.grows k.grows;
     balance = λ n. let p = h.balance n in let q = k.balance n in omega (arith, p, q);
-    homes = λ t at c. k.homes t at c ∙ h.homes t at c;
   }
 
   -- A function's text is begun, and done.
 
   abbrev begun_state : (label : ℕ) → (kept : Bool) → (params : List Param) → Where → State → State
   begun_state label kept params c s =
-      let f = frame_for label (asked findings.escapes kept params) in
+      let f = frame_for label (asked asks.findings.escapes kept params) in
       record (opened s f) { homes = parameters (c.within.level + 1) params (own_homes f.params) s.homes }
 
-  link_kept : (kept : Bool) (params : List Param) → kept ≡ false → 0 < temps_of (asked findings.escapes kept params)
+  link_kept : (kept : Bool) (params : List Param) → kept ≡ false → 0 < temps_of (asked asks.findings.escapes kept params)
   link_kept true params e = cc
   link_kept false params e = omega arith
 
-  begun_ready : (c : Where) (s : State) (label : ℕ) (kept : Bool) (params : List Param) → Ready c s →
-      Ready (nested kept params c) (begun_state label kept params c s)
+  begun_ready : (c : Where) (s : State) (label : ℕ) (kept : Bool) (params : List Param) → Ready asks c s →
+      Ready asks (nested kept params c) (begun_state label kept params c s)
   begun_ready c s label kept params r =
-      let h = declaring.all_homed B T findings (c.within.level + 1) kept params s.homes in
+      let h = declaring.all_homed asks (c.within.level + 1) kept params s.homes in
       record {
         from = r.from;
         callees = r.callees;
@@ -134,34 +88,36 @@ module _ (B T : Type 0) (findings : Findings) where
   done s u x = finished s.functions s.frame u x
 
   done_places : (c : Where) (s u : State) (label : ℕ) (kept : Bool) (params : List Param) (x : Ts) →
-      (T → AreApart (params_of params) (c.own ++ c.kept)) →
-      Step (c.own ++ c.kept) (begun_state label kept params c s) u → Places (c.own ++ c.kept) label (label + 1) s
+      (asks.temps → AreApart (params_of params) (c.own ++ c.kept)) →
+      Step asks (c.own ++ c.kept) (begun_state label kept params c s) u → Places (c.own ++ c.kept) label (label + 1) s
       (done s u x)
   done_places c s u label kept params x apart h =
       let one = with_body u.frame x in
       record {
-        label = h.label;
-        temps = omega arith;
-        name = refl;
-        callees = h.callees;
-        literals = h.literals;
+        grows =
+            record {
+              label = h.grows.label;
+              temps = omega arith;
+              name = refl;
+              callees = h.grows.callees;
+              literals = h.grows.literals;
+              homes = λ t at k.
+                  h.grows.homes t at k
+                  ∙ (declaring.all_homed asks (c.within.level + 1) kept params s.homes).others at (λ q. apart t at q k);
+            };
         balance = λ n.
             let p = h.balance n in
             let q = times-append (λ f. f.label) n s.functions (one ∷ u.functions) in
-            let i : same one.label n ≡ same label n = ap (λ l. same l n) h.name in
+            let i : same one.label n ≡ same label n = ap (λ l. same l n) h.grows.name in
             let j = below-next n label in
             omega (arith, p, q, i, j);
-        homes = λ t at k.
-            h.homes t at k
-            ∙ (declaring.all_homed B T findings (c.within.level + 1) kept params s.homes).others at
-            (λ q. apart t at q k);
       }
 
   done_ready : (c : Where) (s u : State) (label : ℕ) (kept : Bool) (params : List Param) (x : Ts) →
-      (T → AreApart (params_of params) (c.own ++ c.kept)) →
-      Step (c.own ++ c.kept) (begun_state label kept params c s) u → Ready c s → Ready (nested kept params c) u →
+      (asks.temps → AreApart (params_of params) (c.own ++ c.kept)) →
+      Step asks (c.own ++ c.kept) (begun_state label kept params c s) u → Ready asks c s → Ready asks (nested kept params c) u →
       IsWhole 0 u x →
-      Ready c (done s u x)
+      Ready asks c (done s u x)
   done_ready c s u label kept params x apart h r q w =
       let place = done_places c s u label kept params x apart h in
       record {
@@ -169,13 +125,13 @@ module _ (B T : Type 0) (findings : Findings) where
         callees = q.callees;
         unused = q.unused;
         functions =
-            each_append (FineFunction (callee_labels u) (literal_labels u)) s.functions
+            each_append (FineFunction asks (callee_labels u) (literal_labels u)) s.functions
             (with_body u.frame x ∷ u.functions)
-            (keeping.functions_on B T findings.escapes (callee_labels s) (literal_labels s) (callee_labels u)
-            (literal_labels u) h.callees h.literals
+            (functions_on asks (callee_labels s) (literal_labels s) (callee_labels u)
+            (literal_labels u) h.grows.callees h.grows.literals
             s.functions r.functions)
             (record { body = w.0; last = w.1 }, q.functions);
-        owned = λ t at home k e. r.owned t at home k (sym (place.homes t at (Contains-append_left c.own c.kept at k)) ∙
+        owned = λ t at home k e. r.owned t at home k (sym (place.grows.homes t at (Contains-append_left c.own c.kept at k)) ∙
             e);
         slots = q.slots;
         link = r.link;
@@ -184,37 +140,34 @@ module _ (B T : Type 0) (findings : Findings) where
 
   -- what a body of a group leaves
   abbrev pub Placed : (c : Where) → (from to : ℕ) → State → Drawn (Unit {0}) → Type 0
-  Placed c from to s (drawn _ t) = Places (c.own ++ c.kept) from to s t × Ready c t
+  Placed c from to s (drawn _ t) = Places (c.own ++ c.kept) from to s t × Ready asks c t
 
   finished_placed : (c : Where) (s : State) (label : ℕ) (kept : Bool) (params : List Param) (d : Drawn Ts) →
-      (T → AreApart (params_of params) (c.own ++ c.kept)) → Ready c s →
-      Yields (nested kept params c) (begun_state label kept params c s) (IsWhole 0) d → Placed c label (label + 1) s
+      (asks.temps → AreApart (params_of params) (c.own ++ c.kept)) → Ready asks c s →
+      Yields asks (nested kept params c) (begun_state label kept params c s) (IsWhole 0) d → Placed c label (label + 1) s
       (finish s d)
   finished_placed c s label kept params (drawn x u) apart r h =
-      (done_places c s u label kept params x apart h.0, done_ready c s u label kept params x apart h.0 r h.1 h.2)
+      (done_places c s u label kept params x apart h.step, done_ready c s u label kept params x apart h.step r h.ready h.value)
 
-  result_good : (s : State) (has_result : Bool) → keeping.GoodWant B T findings.escapes s (result_want has_result)
+  result_good : (s : State) (has_result : Bool) → GoodWant asks s (result_want has_result)
   result_good s true = tt
   result_good s false = tt
 
   pub body_placed : (c : Where) (s : State) (label at : ℕ) (has_result : Bool) (params : List Param)
       (text : Want → Within → Acts Made) →
-      (T → AreApart (params_of params) (c.own ++ c.kept)) → Ready c s →
-      ((t : State) (w : Want) → Ready (nested (findings.keeps_link at) params c) t → keeping.GoodWant B T
-      findings.escapes t w →
-      Yields (nested (findings.keeps_link at) params c) t (λ u m. GoodMade 0 u m)
-      (text w (inside c.within (findings.keeps_link at)) t)) →
-      Placed c label (label + 1) s (body label findings.escapes findings.keeps_link at has_result params text c.within
+      (asks.temps → AreApart (params_of params) (c.own ++ c.kept)) → Ready asks c s →
+      ((t : State) (w : Want) → Ready asks (nested (asks.findings.keeps_link at) params c) t → GoodWant asks t w →
+      Yields asks (nested (asks.findings.keeps_link at) params c) t (λ u m. GoodMade asks 0 u m)
+      (text w (inside c.within (asks.findings.keeps_link at)) t)) →
+      Placed c label (label + 1) s (body label asks.findings.escapes asks.findings.keeps_link at has_result params text c.within
       s)
   body_placed c s label at has_result params text apart r h =
-      let kept = findings.keeps_link at in
+      let kept = asks.findings.keeps_link at in
       let d : Where = nested kept params c in
       let t : State = begun_state label kept params c s in
       finished_placed c s label kept params (after (text (result_want has_result) (inside c.within kept) t)
       (closing has_result)) apart r
-      (keeping.bind B T findings.escapes d t (λ u m. GoodMade 0 u m) (IsWhole 0)
-      (text (result_want has_result) (inside c.within kept) t) (closing has_result)
-      (h t (result_want has_result) (begun_ready c s label kept params r) (result_good t has_result))
+      (bind (h t (result_want has_result) (begun_ready c s label kept params r) (result_good t has_result))
       (λ m u st r' k. closing_yields d u has_result m r' k))
 
   -- The functions of a group are declared.
@@ -224,17 +177,12 @@ module _ (B T : Type 0) (findings : Findings) where
   after_group (function _ _ _ _ rest) l = after_group rest (l + 1)
 
   pub record Opens (kept : List ℕ) (end : ℕ) (s t : State) : Type 0 where
-    pub from : s.label ≤ t.label
+    pub grows : Grows asks kept s t
     pub label : t.label ≡ end
-    pub temps : s.frame.temps ≤ t.frame.temps
-    pub name : t.frame.label ≡ s.frame.label
-    pub callees : (l : ℕ) → Contains (callee_labels s) l → Contains (callee_labels t) l
-    pub literals : (l : ℕ) → Contains (literal_labels s) l → Contains (literal_labels t) l
     pub stays : (n : ℕ) → stands n t ≡ stands n s
-    pub homes : T → (at : ℕ) → Contains kept at → named at t.homes ≡ named at s.homes
 
   abbrev pub Opened : (c : Where) → (end : ℕ) → State → Drawn (Unit {0}) → Type 0
-  Opened c end s (drawn _ t) = Opens c.kept end s t × Ready c t
+  Opened c end s (drawn _ t) = Opens c.kept end s t × Ready asks c t
 
   abbrev with_callee : (at level : ℕ) → State → State
   with_callee at level s = record s {
@@ -243,13 +191,13 @@ module _ (B T : Type 0) (findings : Findings) where
         (at, record { level = level; label = record { 0 = s.label } }) ∷ s.callees;
   }
 
-  callee_ready : (c : Where) (s : State) (at level : ℕ) → Ready c s → Ready c (with_callee at level s)
+  callee_ready : (c : Where) (s : State) (at level : ℕ) → Ready asks c s → Ready asks c (with_callee at level s)
   callee_ready c s at level r = record {
     from = let k = r.from in omega (arith, k);
     callees = λ l k. one_of l k;
     unused = λ l h. r.unused l (omega (arith, h));
     functions =
-        keeping.functions_on B T findings.escapes (callee_labels s) (literal_labels s)
+        functions_on asks (callee_labels s) (literal_labels s)
         (callee_labels (with_callee at level s)) (literal_labels s)
         (λ l h. more_contained s.label l (callee_labels s) h) (λ l h. h) s.functions r.functions;
     owned = r.owned;
@@ -263,37 +211,24 @@ module _ (B T : Type 0) (findings : Findings) where
       one_of l (zero, i, e) = (let k = r.from in omega (arith, e, k), omega (arith, e), r.unused l (omega (arith, e)))
       one_of l (suc k, i, e) = let h = r.callees l (k, omega arith, e) in (h.0, omega (arith, h.1), h.2)
 
+  callee_grows : (kept : List ℕ) (s : State) (at level : ℕ) → Grows asks kept s (with_callee at level s)
+  callee_grows kept s at level = record {
+    label = omega arith;
+    temps = omega arith;
+    name = refl;
+    callees = λ l k. more_contained s.label l (callee_labels s) k;
+    literals = λ l k. k;
+    homes = λ t x k. refl;
+  }
+
   opened_more : (c : Where) (end at level : ℕ) (s : State) (d : Drawn (Unit {0})) → Opened c end
       (with_callee at level s) d → Opened c end s d
-  opened_more c end at level s (drawn u t) h = (
-    record {
-      from = let k = h.0.from in omega (arith, k);
-      label = h.0.label;
-      temps = h.0.temps;
-      name = h.0.name;
-      callees = λ l k. h.0.callees l (more_contained s.label l (callee_labels s) k);
-      literals = h.0.literals;
-      stays = h.0.stays;
-      homes = h.0.homes;
-    },
-    h.1,
-  )
+  opened_more c end at level s (drawn u t) h =
+      (record { grows = grows_on (callee_grows c.kept s at level) h.0.grows; label = h.0.label; stays = h.0.stays }, h.1)
 
-  pub declared_opens : (fs : FunDecs) (c : Where) (level : ℕ) (s : State) → Ready c s → Opened c
+  pub declared_opens : (fs : FunDecs) (c : Where) (level : ℕ) (s : State) → Ready asks c s → Opened c
       (after_group fs s.label) s (declare_functions level fs s)
-  declared_opens no_functions c level s r = (
-    record {
-      from = omega arith;
-      label = refl;
-      temps = omega arith;
-      name = refl;
-      callees = λ l h. h;
-      literals = λ l h. h;
-      stays = λ n. refl;
-      homes = λ t at h. refl;
-    },
-    r,
-  )
+  declared_opens no_functions c level s r = (record { grows = grows_none; label = refl; stays = λ n. refl }, r)
   declared_opens (function f ps result e rest) c level s r =
       opened_more c (after_group rest (s.label + 1)) (at_of f) level s
       (declare_functions level rest (with_callee (at_of f) level s))
@@ -301,42 +236,34 @@ module _ (B T : Type 0) (findings : Findings) where
 
   -- together, a group's labels and its bodies are a step
   group_step : (c : Where) (end : ℕ) (s t u : State) → Opens c.kept end s t → Places (c.own ++ c.kept) s.label end t u →
-      Step c.kept s u
+      Step asks c.kept s u
   group_step c end s t u h k = record {
-    label = omega (arith, h.from, k.label);
-    temps = omega (arith, h.temps, k.temps);
-    name = k.name ∙ h.name;
-    callees = λ l j. k.callees l (h.callees l j);
-    literals = λ l j. k.literals l (h.literals l j);
+    grows = grows_on h.grows (grows_for (λ at j. Contains-append_right c.own c.kept at j) k.grows);
     balance = λ n.
         let p = h.stays n in
         let q = k.balance n in
         let i : below n t.label ≡ below n end = ap (below n) h.label in
         omega (arith, p, q, i);
-    homes = λ q at j. k.homes q at (Contains-append_right c.own c.kept at j) ∙ h.homes q at j;
   }
 
   placed_next : {A : Type 0} (c : Where) (end : ℕ) (s t : State) (V : State → A → Type 0) (d : Drawn (Unit {0}))
       (next : Acts A) →
       Opens c.kept end s t → Placed c s.label end t d →
-      ((u : State) → Step c.kept s u → Ready c u → Yields c u V (next u)) → Yields c s V (after d (λ _. next))
+      ((u : State) → Step asks c.kept s u → Ready asks c u → Yields asks c u V (next u)) → Yields asks c s V (after d (λ _. next))
   placed_next c end s t V (drawn a u) next o h k =
-      let st : Step c.kept s u = group_step c end s t u o h.0 in
-      keeping.bind B T findings.escapes c s (λ q b. Unit {0}) V (drawn a u) (λ _. next) (st, h.1, tt)
-      (λ b q sq r v. lift_same b q sq r)
-    where
-      lift_same : (b : Unit {0}) (q : State) → Step c.kept s q → Ready c q → Yields c q V (next q)
-      lift_same b q sq r = k q sq r
+      let st = group_step c end s t u o h.0 in
+      let g = k u st h.1 in
+      record { step = onward st g.step; ready = g.ready; value = g.value }
 
   pub group_yields : {A : Type 0} (c : Where) (end : ℕ) (s : State) (V : State → A → Type 0) (d : Drawn (Unit {0}))
       (bodies : Acts (Unit {0})) (next : Acts A) →
-      Opened c end s d → ((t : State) → Ready c t → Placed c s.label end t (bodies t)) →
-      ((u : State) → Step c.kept s u → Ready c u → Yields c u V (next u)) →
-      Yields c s V (after d (λ _ t. after (bodies t) (λ _. next)))
+      Opened c end s d → ((t : State) → Ready asks c t → Placed c s.label end t (bodies t)) →
+      ((u : State) → Step asks c.kept s u → Ready asks c u → Yields asks c u V (next u)) →
+      Yields asks c s V (after d (λ _ t. after (bodies t) (λ _. next)))
   group_yields c end s V (drawn a t) bodies next o f k = placed_next c end s t V (bodies t) next o.0 (f t o.1) k
 
   pub placed_then : (c : Where) (a b end : ℕ) (s : State) (d : Drawn (Unit {0})) (next : Acts (Unit {0})) →
-      Placed c a b s d → ((t : State) → Ready c t → Placed c b end t (next t)) → Placed c a end s (after d (λ _. next))
+      Placed c a b s d → ((t : State) → Ready asks c t → Placed c b end t (next t)) → Placed c a end s (after d (λ _. next))
   placed_then c a b end s (drawn u t) next h k = placed_on (next t) (k t h.1)
     where
       placed_on : (d : Drawn (Unit {0})) → Placed c b end t d → Placed c a end s d

@@ -7,21 +7,19 @@ use Rattle.tg_symbols.specs.Tables.{named}
 use Rattle.tg_frame.specs.declared.accesses.Access.{Access}
 use Rattle.tg_frame.specs.declared.accesses.Access.TheVariants.{InTemp, InFrame}
 use Rattle.tg_frame.specs.Homes.{is_slot}
-use Rattle.tg_tree.specs.Tree.{Tx, Txs}
+use Rattle.tg_tree.specs.Tree.{Txs}
 use Rattle.tg_types.specs.declared.notes.Means.{Means}
 use Rattle.tg_types.specs.declared.notes.Means.TheVariants as means
 use Rattle.tg_translate.specs.declared.homes.Home.{Home}
 use Rattle.tg_translate.specs.declared.homes.Callee.{Callee}
-use Rattle.tg_translate.specs.States.{State, Drawn}
-use Rattle.tg_translate.specs.Wants.{Made}
+use Rattle.tg_translate.specs.States.{State}
 use Rattle.tg_translate.specs.Constructs.{Place, string_text}
-use Rattle.tg_translate.specs.Scopes.{Findings, frame_at, nowhere, no_value, home_place, variable_place, routine_of, call_declared, call, literal}
+use Rattle.tg_translate.specs.Scopes.{frame_at, nowhere, no_value, home_place, variable_place, routine_of, call_declared, call, literal}
 use Rattle.tg_shapes.specs.Standing.{IsInReach}
 use Rattle.tg_shapes.proofs.Counts.{times-append, same, same_not, below-next, contained_counts, counted_contains}
 use Rattle.tg_translate.specs.Constructs as constructs
 use Rattle.tg_shapes.proofs.Counts as counts
-use Rattle.tg_shapes.proofs.Keeping as keeping
-use Rattle.tg_shapes.proofs.Keeping.{Where, callee_labels, literal_labels}
+use Rattle.tg_shapes.proofs.Keeping.{Asks, Where, callee_labels, literal_labels, given, Ready, Step, Yields, GoodTx, GoodTxs, GoodMade, GoodPlace, GoodAccess, IsDrawn, functions_on}
 use Rattle.tg_shapes.proofs.Constructing as constructing
 
 -- What has a name in a table.
@@ -70,87 +68,59 @@ named_callee at callee (entry ∷ rest) e =
           (named_callee at callee rest h.1)
     ]
 
-module _ (B T : Type 0) (findings : Findings) where
-  abbrev Ready : Where → State → Type 0
-  Ready = keeping.Ready B T findings.escapes
-
-  abbrev Step : List ℕ → State → State → Type 0
-  Step = keeping.Step B T findings.escapes
-
-  abbrev Yields : {A : Type 0} → Where → State → (State → A → Type 0) → Drawn A → Type 0
-  Yields = keeping.Yields B T findings.escapes
-
-  abbrev GoodTx : ℕ → State → Tx → Type 0
-  GoodTx = keeping.GoodTx B T findings.escapes
-
-  abbrev GoodTxs : ℕ → State → Txs → Type 0
-  GoodTxs = keeping.GoodTxs B T findings.escapes
-
-  abbrev GoodMade : ℕ → State → Made → Type 0
-  GoodMade = keeping.GoodMade B T findings.escapes
-
-  abbrev GoodPlace : ℕ → State → Place → Type 0
-  GoodPlace = keeping.GoodPlace B T findings.escapes
-
-  abbrev GoodAccess : State → Access → Type 0
-  GoodAccess = keeping.GoodAccess B T findings.escapes
-
-  abbrev IsDrawn : ℕ → Access → Type 0
-  IsDrawn = keeping.IsDrawn B T findings.escapes
-
-  frame_good : (c : Where) (s : State) (level : ℕ) → Ready c s → GoodTx c.loops s (frame_at c.within level)
+module _ (asks : Asks) where
+  frame_good : (c : Where) (s : State) (level : ℕ) → Ready asks c s → GoodTx asks c.loops s (frame_at c.within level)
   frame_good c s level r =
-      constructing.frame_out_good B T findings.escapes c.loops s c.within.link_in_slot (c.within.level - level)
+      constructing.frame_out_good asks c.loops s c.within.link_in_slot (c.within.level - level)
       (λ t l e. r.link t (omega (arith, l)) e)
 
-  access_good : (s : State) (a : Access) → (T → IsDrawn s.frame.temps a ⊎ IsTrue (is_slot a)) → GoodAccess s a
+  access_good : (s : State) (a : Access) → (asks.temps → IsDrawn asks s.frame.temps a ⊎ IsTrue (is_slot a)) → GoodAccess asks s a
   access_good s (InTemp i) h = λ t. elim (h t) [ inl d ↦ d | inr e ↦ cc ]
   access_good s (InFrame k) h = tt
 
-  reached : (c : Where) (s : State) (at : ℕ) (home : Home) → Ready c s →
-      (T → Contains c.own at ⊎ (findings.escapes at ≡ true)) →
-      named at s.homes ≡ Some home → T → IsDrawn s.frame.temps home.access ⊎ IsTrue (is_slot home.access)
+  reached : (c : Where) (s : State) (at : ℕ) (home : Home) → Ready asks c s →
+      (asks.temps → Contains c.own at ⊎ (asks.findings.escapes at ≡ true)) →
+      named at s.homes ≡ Some home → asks.temps → IsDrawn asks s.frame.temps home.access ⊎ IsTrue (is_slot home.access)
   reached c s at home r h e t = elim (h t) [ inl o ↦ inl (r.owned t at home o e) | inr k ↦ inr (r.slots t at home k e) ]
 
-  home_good : (c : Where) (s : State) (at : ℕ) (found : Option Home) → Ready c s →
-      (T → Contains c.own at ⊎ (findings.escapes at ≡ true)) →
-      named at s.homes ≡ found → GoodPlace c.loops s (home_place c.within found)
+  home_good : (c : Where) (s : State) (at : ℕ) (found : Option Home) → Ready asks c s →
+      (asks.temps → Contains c.own at ⊎ (asks.findings.escapes at ≡ true)) →
+      named at s.homes ≡ found → GoodPlace asks c.loops s (home_place c.within found)
   home_good c s at None r h e = (tt, tt)
   home_good c s at (Some home) r h e =
-      constructing.place_in_good B T findings.escapes c.loops s (frame_at c.within home.level) home.access
+      constructing.place_in_good asks c.loops s (frame_at c.within home.level) home.access
       (frame_good c s home.level r)
       (access_good s home.access (reached c s at home r h e))
 
-  pub variable_yields : (c : Where) (s : State) (meaning : Option Means) → Ready c s →
-      (T → IsInReach findings c.own meaning) →
-      Yields c s (λ t p. GoodPlace c.loops t p) (variable_place c.within meaning s)
-  variable_yields c s None r h = keeping.given B T findings.escapes c s (λ t p. GoodPlace c.loops t p) nowhere r
+  pub variable_yields : (c : Where) (s : State) (meaning : Option Means) → Ready asks c s →
+      (asks.temps → IsInReach asks.findings c.own meaning) →
+      Yields asks c s (λ t p. GoodPlace asks c.loops t p) (variable_place c.within meaning s)
+  variable_yields c s None r h = given nowhere r
       (tt, tt)
   variable_yields c s (Some (means.Variable at)) r h =
-      keeping.given B T findings.escapes c s (λ t p. GoodPlace c.loops t p) (home_place c.within (named at s.homes)) r
+      given (home_place c.within (named at s.homes)) r
       (home_good c s at (named at s.homes) r h refl)
-  variable_yields c s (Some other) r h = keeping.given B T findings.escapes c s (λ t p. GoodPlace c.loops t p) nowhere r
+  variable_yields c s (Some other) r h = given nowhere r
       (tt, tt)
 
-  callee_good : (c : Where) (s : State) (at : ℕ) (xs : Txs) (found : Option Callee) → Ready c s → GoodTxs c.loops s xs →
-      named at s.callees ≡ found → GoodTx c.loops s (call_declared c.within xs found)
+  callee_good : (c : Where) (s : State) (at : ℕ) (xs : Txs) (found : Option Callee) → Ready asks c s → GoodTxs asks c.loops s xs →
+      named at s.callees ≡ found → GoodTx asks c.loops s (call_declared c.within xs found)
   callee_good c s at xs None r h e = tt
   callee_good c s at xs (Some callee) r h e = (
     inr (named_callee at callee s.callees e),
     (frame_good c s callee.level r, h),
   )
 
-  pub call_yields : (c : Where) (s : State) (meaning : Option Means) (xs : Txs) → Ready c s → GoodTxs c.loops s xs →
-      Yields c s (λ t x. GoodTx c.loops t x) (call c.within meaning xs s)
-  call_yields c s None xs r h = keeping.given B T findings.escapes c s (λ t x. GoodTx c.loops t x) no_value r tt
+  pub call_yields : (c : Where) (s : State) (meaning : Option Means) (xs : Txs) → Ready asks c s → GoodTxs asks c.loops s xs →
+      Yields asks c s (λ t x. GoodTx asks c.loops t x) (call c.within meaning xs s)
+  call_yields c s None xs r h = given no_value r tt
   call_yields c s (Some (means.Standard f)) xs r h =
-      keeping.given B T findings.escapes c s (λ t x. GoodTx c.loops t x) (constructs.call_routine (routine_of f) xs) r
-      (constructing.routine_good B T findings.escapes c.loops s (routine_of f) xs h)
+      given (constructs.call_routine (routine_of f) xs) r
+      (constructing.routine_good asks c.loops s (routine_of f) xs h)
   call_yields c s (Some (means.Function at)) xs r h =
-      keeping.given B T findings.escapes c s (λ t x. GoodTx c.loops t x)
-      (call_declared c.within xs (named at s.callees)) r
+      given (call_declared c.within xs (named at s.callees)) r
       (callee_good c s at xs (named at s.callees) r h refl)
-  call_yields c s (Some other) xs r h = keeping.given B T findings.escapes c s (λ t x. GoodTx c.loops t x) no_value r tt
+  call_yields c s (Some other) xs r h = given no_value r tt
 
   -- A literal draws its label.
 
@@ -160,22 +130,24 @@ module _ (B T : Type 0) (findings : Findings) where
     literals = s.literals ++ record { label = s.label; text = string_text bytes } ∷ [];
   }
 
-  literal_step : (kept : List ℕ) (s : State) (bytes : List ℕ) → Step kept s (with_literal bytes s)
+  literal_step : (kept : List ℕ) (s : State) (bytes : List ℕ) → Step asks kept s (with_literal bytes s)
   literal_step kept s bytes = record {
-    label = omega arith;
-    temps = omega arith;
-    name = refl;
-    callees = λ l h. h;
-    literals = λ l h. pushed_contained (λ k. k.label) s.literals (record { label = s.label; text = string_text bytes })
-        l h;
+    grows =
+        record {
+          label = omega arith;
+          temps = omega arith;
+          name = refl;
+          callees = λ l h. h;
+          literals = λ l h. pushed_contained (λ k. k.label) s.literals (record { label = s.label; text = string_text bytes }) l h;
+          homes = λ t at h. refl;
+        };
     balance = λ n.
         let h = times-append (λ k. k.label) n s.literals (record { label = s.label; text = string_text bytes } ∷ []) in
         let k = below-next n s.label in
         omega (arith, h, k);
-    homes = λ t at h. refl;
   }
 
-  literal_ready : (c : Where) (s : State) (bytes : List ℕ) → Ready c s → Ready c (with_literal bytes s)
+  literal_ready : (c : Where) (s : State) (bytes : List ℕ) → Ready asks c s → Ready asks c (with_literal bytes s)
   literal_ready c s bytes r = record {
     from = let k = r.from in omega (arith, k);
     callees = λ l h.
@@ -189,7 +161,7 @@ module _ (B T : Type 0) (findings : Findings) where
         let n : same s.label l ≡ 0 = same_not s.label l (omega (arith, h)) in
         omega (arith, k, m, n);
     functions =
-        keeping.functions_on B T findings.escapes (callee_labels s) (literal_labels s) (callee_labels s)
+        functions_on asks (callee_labels s) (literal_labels s) (callee_labels s)
         (literal_labels (with_literal bytes s))
         (λ l h. h) (λ l h. pushed_contained (λ k. k.label) s.literals
         (record { label = s.label; text = string_text bytes }) l h) s.functions r.functions;
@@ -199,13 +171,13 @@ module _ (B T : Type 0) (findings : Findings) where
     loops = r.loops;
   }
 
-  pub literal_yields : (c : Where) (s : State) (bytes : List ℕ) → Ready c s → Yields c s (λ t m. GoodMade c.loops t m)
+  pub literal_yields : (c : Where) (s : State) (bytes : List ℕ) → Ready asks c s → Yields asks c s (λ t m. GoodMade asks c.loops t m)
       (literal bytes s)
-  literal_yields c s bytes r = (
-    literal_step c.kept s bytes,
-    literal_ready c s bytes r,
-    counted_contains (λ k. k.label) (with_literal bytes s).literals s.label
-        (let h = times-append (λ k. k.label) s.label s.literals
-        (record { label = s.label; text = string_text bytes } ∷ []) in
-        let k = counts.same_self s.label in omega (arith, h, k)),
-  )
+  literal_yields c s bytes r = record {
+    step = literal_step c.kept s bytes;
+    ready = literal_ready c s bytes r;
+    value =
+        counted_contains (λ k. k.label) (with_literal bytes s).literals s.label
+        (let h = times-append (λ k. k.label) s.label s.literals (record { label = s.label; text = string_text bytes } ∷ []) in
+        let k = counts.same_self s.label in omega (arith, h, k));
+  }

@@ -11,15 +11,13 @@ use Rattle.tg_tree.specs.Named.{Named, function, literal, fault, temporary, func
 use Rattle.tg_tree.specs.Shapes.{IsClosed}
 use Rattle.tg_translate.specs.declared.wants.Want.TheVariants as want
 use Rattle.tg_translate.specs.States.{State, Drawn, drawn}
-use Rattle.tg_translate.specs.Scopes.{Findings}
-use Rattle.tg_translate.specs.Functions.{with_body, beginning, frame_for, outermost, program, closing}
-use Rattle.tg_translate.specs.Translate.{expression, program_body, translated}
+use Rattle.tg_translate.specs.Functions.{with_body, beginning, frame_for, outermost, program}
+use Rattle.tg_translate.specs.Translate.{program_body, translated}
 use Rattle.tg_shapes.specs.Laws.{names}
 use Rattle.tg_shapes.specs.Standing.{BreaksStand, Reaches}
 use Rattle.tg_shapes.proofs.Fine.{Each, breaks_ts, names_ts, each_contained}
 use Rattle.tg_shapes.proofs.Counts.{times, times-append, times-map, same, same_self, below, below-next, below_yes, below_no, below_one, once_apart, contained_counts, counted_contains}
-use Rattle.tg_shapes.proofs.Keeping as keeping
-use Rattle.tg_shapes.proofs.Keeping.{Where, callee_labels}
+use Rattle.tg_shapes.proofs.Keeping.{Asks, Where, callee_labels, bind, FineFunction, Knows, Ready, Yields}
 use Rattle.tg_shapes.proofs.Nesting as nesting
 use Rattle.tg_shapes.proofs.Walking.{walked}
 
@@ -29,11 +27,8 @@ first = beginning 33 (frame_for 32 [])
 abbrev top : Where
 top = record { within = outermost; loops = 0; in_loop = false; own = []; kept = [] }
 
-module _ (B T : Type 0) (findings : Findings) (e : Exp) where
-  abbrev FineFunction : (cs ls : List ℕ) → Function Ts → Type 0
-  FineFunction = keeping.FineFunction B T findings.escapes
-
-  top_ready : keeping.Ready B T findings.escapes top first
+module _ (asks : Asks) (e : Exp) where
+  top_ready : Ready asks top first
   top_ready = record {
     from = omega arith;
     callees = λ l h. absurd (omega (arith, h.1));
@@ -51,7 +46,7 @@ module _ (B T : Type 0) (findings : Findings) (e : Exp) where
     pub rest : List (Function Ts)
     pub functions : code.functions ≡ body ∷ rest
     pub label : body.label ≡ 32
-    pub fine : Each (FineFunction callees (map (λ l. l.label) code.literals)) (body ∷ rest)
+    pub fine : Each (FineFunction asks callees (map (λ l. l.label) code.literals)) (body ∷ rest)
     pub from : 33 ≤ end
     pub counts : (n : ℕ) → times (λ f. f.label) n rest + times (λ l. l.label) n code.literals + below n 33 ≡ below n end
     pub called : (l : ℕ) → Contains callees l → Contains (map (λ f. f.label) rest) l
@@ -61,7 +56,7 @@ module _ (B T : Type 0) (findings : Findings) (e : Exp) where
     pub end : ℕ
     pub shaped : Shaped code callees end
 
-  shaped_of : (d : Drawn Ts) → keeping.Yields B T findings.escapes top first (nesting.IsWhole B T findings 0) d →
+  shaped_of : (d : Drawn Ts) → Yields asks top first (nesting.IsWhole asks 0) d →
       HasShape (program d)
   shaped_of (drawn x t) h = record {
     callees = callee_labels t;
@@ -70,54 +65,51 @@ module _ (B T : Type 0) (findings : Findings) (e : Exp) where
       body = with_body t.frame x;
       rest = t.functions;
       functions = refl;
-      label = h.0.name;
-      fine = (record { body = h.2.0; last = h.2.1 }, h.1.functions);
-      from = h.1.from;
-      counts = λ n. let k = h.0.balance n in omega (arith, k);
+      label = h.step.grows.name;
+      fine = (record { body = h.value.0; last = h.value.1 }, h.ready.functions);
+      from = h.ready.from;
+      counts = λ n. let k = h.step.balance n in omega (arith, k);
       called = λ l c.
-          let k = h.1.callees l c in
-          let m = h.0.balance l in
+          let k = h.ready.callees l c in
+          let m = h.step.balance l in
           let i = below_no l 33 k.0 in
           let j = below_yes l t.label k.1 in
           counted_contains (λ f. f.label) t.functions l (omega (arith, k.2, m, i, j));
     };
   }
 
-  pub has_shape : (B → BreaksStand false e) → (T → Reaches findings [] [] e) → HasShape (translated findings e)
+  pub has_shape : (asks.breaks → BreaksStand false e) → (asks.temps → Reaches asks.findings [] [] e) → HasShape (translated asks.findings e)
   has_shape b q =
-      shaped_of (program_body findings e first)
-      (keeping.bind B T findings.escapes top first (λ t m. keeping.GoodMade B T findings.escapes 0 t m)
-      (nesting.IsWhole B T findings 0)
-      (expression findings e want.Dropped outermost first) (closing false)
-      (walked B T findings e top first want.Dropped b q top_ready tt)
-      (λ m t st r k. nesting.closing_yields B T findings top t false m r k))
+      shaped_of (program_body asks.findings e first)
+      (bind (walked asks e top first want.Dropped b q top_ready tt)
+      (λ m t st r k. nesting.closing_yields asks top t false m r k))
 
   module _ (code : Code Ts) (h : HasShape code) where
-    fine_one : (f : Function Ts) → Contains code.functions f → FineFunction h.callees (map (λ l. l.label) code.literals)
+    fine_one : (f : Function Ts) → Contains code.functions f → FineFunction asks h.callees (map (λ l. l.label) code.literals)
         f
     fine_one f c =
-        each_contained (FineFunction h.callees (map (λ l. l.label) code.literals)) (h.shaped.body ∷ h.shaped.rest)
+        each_contained (FineFunction asks h.callees (map (λ l. l.label) code.literals)) (h.shaped.body ∷ h.shaped.rest)
         h.shaped.fine f
         (subst (λ fs. Contains fs f) h.shaped.functions c)
 
     known_one : (f : Function Ts) → Contains code.functions f → (x : Named) → Contains (names f.body) x →
-        keeping.Knows B T findings.escapes h.callees (map (λ l. l.label) code.literals) f.temps x
+        Knows asks h.callees (map (λ l. l.label) code.literals) f.temps x
     known_one f c x k =
-        each_contained (keeping.Knows B T findings.escapes h.callees (map (λ l. l.label) code.literals) f.temps)
+        each_contained (Knows asks h.callees (map (λ l. l.label) code.literals) f.temps)
         (names f.body)
-        (names_ts B (keeping.Knows B T findings.escapes h.callees (map (λ l. l.label) code.literals) f.temps) 0 f.body
+        (names_ts asks.breaks (Knows asks h.callees (map (λ l. l.label) code.literals) f.temps) 0 f.body
         [] (fine_one f c).body tt) x k
 
-    pub closed_one : B → (f : Function Ts) → Contains code.functions f → IsClosed f.body
+    pub closed_one : asks.breaks → (f : Function Ts) → Contains code.functions f → IsClosed f.body
     closed_one b f c =
         let k = fine_one f c in
         record {
-          breaks = breaks_ts B (keeping.Knows B T findings.escapes h.callees (map (λ l. l.label) code.literals) f.temps)
+          breaks = breaks_ts asks.breaks (Knows asks h.callees (map (λ l. l.label) code.literals) f.temps)
               b 0 f.body k.body;
           last = k.last;
         }
 
-    pub temps_one : T → (f : Function Ts) → Contains code.functions f → HasItsTemps names f
+    pub temps_one : asks.temps → (f : Function Ts) → Contains code.functions f → HasItsTemps names f
     temps_one t f c = λ i k. known_one f c (temporary i) k t
 
     -- how often a label is one of the program

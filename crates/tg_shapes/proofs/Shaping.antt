@@ -28,8 +28,9 @@ use Rattle.tg_translate.specs.Translate.{translated}
 use Rattle.tg_shapes.specs.Laws.{names, ProgramsAreLinked, LabelsAreAbove, BodiesAreClosed, CheckedBodiesAreClosed, TemporariesAreDrawn, CheckedReaches, CheckedTemporariesAreDrawn, LiteralsAreStrings, LiteralsAreShort, findings_in}
 use Rattle.tg_shapes.proofs.Shaped.{has_shape, linked, above, closed_one, temps_one}
 use Rattle.tg_shapes.specs.Strings.{strings}
-use Rattle.tg_shapes.proofs.Adding.{literals_are}
+use Rattle.tg_shapes.proofs.Measured.{literals_are}
 use Rattle.tg_shapes.proofs.Fine.{Each}
+use Rattle.tg_shapes.proofs.Keeping.{about}
 use Rattle.tg_shapes.proofs.Scoping.{named_cases}
 use Rattle.tg_shapes.proofs.Typed.{breaks_stand}
 use Rattle.tg_shapes.proofs.Reaching.{reaches, distinct_of}
@@ -70,18 +71,18 @@ routines_own (g ∷ gs) h f (suc n, l, e) x k = routines_own gs h.1 f (n, omega 
 
 pub programs_are_linked : LabelsInOrder → AllAreRoutines → ProgramsAreLinked
 programs_are_linked labels routines findings e =
-    linked ⊥ ⊥ findings e (translated findings e) (has_shape ⊥ ⊥ findings e (λ b. absurd b) (λ t. absurd t))
+    linked (about ⊥ ⊥ findings) e (translated findings e) (has_shape (about ⊥ ⊥ findings) e (λ b. absurd b) (λ t. absurd t))
     runtime.functions labels
     (routines_own runtime.functions routines)
 
 pub labels_are_above : LabelsAreAbove
-labels_are_above findings e = above ⊥ ⊥ findings e (translated findings e)
-    (has_shape ⊥ ⊥ findings e (λ b. absurd b) (λ t. absurd t))
+labels_are_above findings e = above (about ⊥ ⊥ findings) e (translated findings e)
+    (has_shape (about ⊥ ⊥ findings) e (λ b. absurd b) (λ t. absurd t))
 
 pub bodies_are_closed : BodiesAreClosed
 bodies_are_closed findings e f h =
-    closed_one (Unit {0}) ⊥ findings e (translated findings e)
-    (has_shape (Unit {0}) ⊥ findings e (λ b. h) (λ t. absurd t)) tt f
+    closed_one (about (Unit {0}) ⊥ findings) e (translated findings e)
+    (has_shape (about (Unit {0}) ⊥ findings) e (λ b. h) (λ t. absurd t)) tt f
 
 pub checked_bodies_are_closed : CheckedHasType → CheckedBodiesAreClosed
 checked_bodies_are_closed typed p escapes links f a =
@@ -91,8 +92,8 @@ checked_bodies_are_closed typed p escapes links f a =
 
 pub temporaries_are_drawn : TemporariesAreDrawn
 temporaries_are_drawn findings e f h =
-    temps_one ⊥ (Unit {0}) findings e (translated findings e)
-    (has_shape ⊥ (Unit {0}) findings e (λ b. absurd b) (λ t. h)) tt f
+    temps_one (about ⊥ (Unit {0}) findings) e (translated findings e)
+    (has_shape (about ⊥ (Unit {0}) findings) e (λ b. absurd b) (λ t. h)) tt f
 
 -- In the outermost scope no name is a variable's.
 

@@ -12,524 +12,378 @@ use Rattle.tg_tree.specs.Lists.{join_txs}
 use Rattle.tg_types.specs.declared.notes.Means.{Means}
 use Rattle.tg_translate.specs.declared.wants.Want.{Want}
 use Rattle.tg_translate.specs.declared.wants.Want.TheVariants as want
-use Rattle.tg_translate.specs.States.{State, Acts, Drawn, after, give}
-use Rattle.tg_translate.specs.Wants.{Made, value, done, test_of, value_of, dropped, as_statement, arms, deliver, followed, behind}
-use Rattle.tg_translate.specs.Constructs.{Place, HeldAll, none_held, hold_next, own_place, read, want_for, assign, field_place, element_place, make_record, make_array, operation, negation, repeat_while, in_body, in_test, count}
+use Rattle.tg_translate.specs.States.{State, Acts, after, give}
+use Rattle.tg_translate.specs.Wants.{Made, value, done, test_of, value_of, dropped, arms, deliver, followed}
+use Rattle.tg_translate.specs.Constructs.{Place, HeldAll, none_held, own_place, read, want_for, make_array, operation, negation, repeat_while}
 use Rattle.tg_translate.specs.Choices.{left_want, connected, tested, chosen}
-use Rattle.tg_translate.specs.Scopes.{Findings, field_number, compares_strings, call, declare_variable}
+use Rattle.tg_translate.specs.Scopes.{field_number, compares_strings}
 use Rattle.tg_translate.specs.Purity.{assigns_nothing, inits_assign_nothing}
 use Rattle.tg_translate.specs.Functions.{at_of, declare_functions, body}
 use Rattle.tg_translate.specs.Translate.{connective, with_left, Begun, declaration_of, expression, locate, values, fields, sequence, declarations, bodies}
 use Rattle.tg_shapes.specs.Standing.{BreaksStand, BreaksStandPlace, BreaksStandExps, BreaksStandInits, BreaksStandDecs, BreaksStandBodies, owned_by, AreApart, Reaches, ReachesPlace, ReachesExps, ReachesInits, ReachesDecs, ReachesBodies}
 use Rattle.tg_shapes.proofs.Fine.{join_fine_txs}
-use Rattle.tg_shapes.proofs.Keeping as keeping
-use Rattle.tg_shapes.proofs.Keeping.{Where}
+use Rattle.tg_shapes.proofs.Keeping.{Asks, Where, access_on, bind, cond_on, given, held_on, onward, place_on, stay, stms_on, ts_on, tx_on, txs_on, want_on, Ready, Step, Yields, GoodWant, GoodCond, GoodHeld, GoodMade, GoodPlace, GoodStms, GoodTs, GoodTx, GoodTxs, KnowsAt}
 use Rattle.tg_shapes.proofs.Wanting as wanting
 use Rattle.tg_shapes.proofs.Constructing as constructing
 use Rattle.tg_shapes.proofs.Scoping as scoping
 use Rattle.tg_shapes.proofs.Scoping.{more_contained}
 use Rattle.tg_shapes.proofs.Declaring as declaring
-use Rattle.tg_shapes.proofs.Declaring.{owning, with_own, turning, testing, owned_more}
+use Rattle.tg_shapes.proofs.Declaring.{owning, with_own, turning, testing, owned_more, leave_with, leave_yields, enter_turn, enter_test}
 use Rattle.tg_shapes.proofs.Nesting as nesting
 use Rattle.tg_shapes.proofs.Nesting.{nested}
 
-module _ (B T : Type 0) (findings : Findings) where
-  abbrev Ready : Where → State → Type 0
-  Ready = keeping.Ready B T findings.escapes
-
-  abbrev Step : List ℕ → State → State → Type 0
-  Step = keeping.Step B T findings.escapes
-
-  abbrev Yields : {A : Type 0} → Where → State → (State → A → Type 0) → Drawn A → Type 0
-  Yields = keeping.Yields B T findings.escapes
-
-  abbrev GoodWant : State → Want → Type 0
-  GoodWant = keeping.GoodWant B T findings.escapes
-
+module _ (asks : Asks) where
   abbrev IsMade : Where → State → Made → Type 0
-  IsMade c t m = keeping.GoodMade B T findings.escapes c.loops t m
+  IsMade c t m = GoodMade asks c.loops t m
 
   abbrev IsValue : Where → State → Tx → Type 0
-  IsValue c t x = keeping.GoodTx B T findings.escapes c.loops t x
+  IsValue c t x = GoodTx asks c.loops t x
 
   abbrev AreValues : Where → State → Txs → Type 0
-  AreValues c t xs = keeping.GoodTxs B T findings.escapes c.loops t xs
+  AreValues c t xs = GoodTxs asks c.loops t xs
 
   abbrev IsCondition : Where → State → Cond → Type 0
-  IsCondition c t d = keeping.GoodCond B T findings.escapes c.loops t d
+  IsCondition c t d = GoodCond asks c.loops t d
 
   abbrev IsStatement : Where → State → Ts → Type 0
-  IsStatement c t x = keeping.GoodTs B T findings.escapes c.loops t x
+  IsStatement c t x = GoodTs asks c.loops t x
 
   abbrev AreStatements : Where → State → Stms → Type 0
-  AreStatements c t ss = keeping.GoodStms B T findings.escapes c.loops t ss
+  AreStatements c t ss = GoodStms asks c.loops t ss
 
   abbrev IsPlace : Where → State → Place → Type 0
-  IsPlace c t p = keeping.GoodPlace B T findings.escapes c.loops t p
+  IsPlace c t p = GoodPlace asks c.loops t p
 
   abbrev IsHeld : Where → State → HeldAll → Type 0
-  IsHeld c t all = keeping.GoodHeld B T findings.escapes c.loops t all
+  IsHeld c t all = GoodHeld asks c.loops t all
 
   abbrev IsBegun : Where → State → Begun → Type 0
   IsBegun c t b = AreStatements c t b.before × IsMade c t b.last
 
   abbrev DeclaredIn : Where → List ℕ → State → Stms → Type 0
-  DeclaredIn c own t ss = AreStatements c t ss × Ready (with_own own c) t
+  DeclaredIn c own t ss = AreStatements c t ss × Ready asks (with_own own c) t
 
   -- Connectives and operators, where the right side is translated to what is fine.
 
-  connected_good : (o : Op) (n : ℕ) (s : State) (x y : Cond) → keeping.GoodCond B T findings.escapes n s x →
-      keeping.GoodCond B T findings.escapes n s y →
-      keeping.GoodCond B T findings.escapes n s (connected o x y)
+  connected_good : (o : Op) (n : ℕ) (s : State) (x y : Cond) → GoodCond asks n s x →
+      GoodCond asks n s y →
+      GoodCond asks n s (connected o x y)
   connected_good And n s x y h k = (h, k)
   connected_good o n s x y h k = (h, k)
 
-  chosen_good : (o : Op) (n : ℕ) (s : State) (w : Want) (d : Cond) (m : Made) → GoodWant s w → keeping.GoodCond B T
-      findings.escapes n s d →
-      keeping.GoodMade B T findings.escapes n s m → keeping.GoodTs B T findings.escapes n s (chosen o w d m)
+  chosen_good : (o : Op) (n : ℕ) (s : State) (w : Want) (d : Cond) (m : Made) → GoodWant asks s w → GoodCond asks n s d →
+      GoodMade asks n s m → GoodTs asks n s (chosen o w d m)
   chosen_good And n s w d m g h k = (
     h,
-    wanting.statement_good B T findings.escapes n s w m g k,
-    wanting.statement_good B T findings.escapes n s w
+    wanting.statement_good asks n s w m g k,
+    wanting.statement_good asks n s w
         (value (Const 0)) g tt,
   )
   chosen_good o n s w d m g h k = (
     h,
-    wanting.statement_good B T findings.escapes n s w (value (Const 1)) g tt,
-    wanting.statement_good B T
-        findings.escapes n s w m g k,
+    wanting.statement_good asks n s w (value (Const 1)) g tt,
+    wanting.statement_good asks n s w m g k,
   )
 
   abbrev RightYields : Where → State → (Want → Acts Made) → Type 0
-  RightYields c s right = (t : State) (w : Want) → Step c.kept s t → Ready c t → GoodWant t w → Yields c t (IsMade c)
+  RightYields c s right = (t : State) (w : Want) → Step asks c.kept s t → Ready asks c t → GoodWant asks t w → Yields asks c t (IsMade c)
       (right w t)
 
   module _ (c : Where) (s : State) (right : Want → Acts Made) (then_right : RightYields c s right) where
-    into_arms : (o : Op) (w : Want) (d : Cond) → Ready c s → GoodWant s w → IsCondition c s d →
-        Yields c s (IsMade c) (after (arms w s) (λ a t. after (right a t) (λ m. give (deliver w a (chosen o a d m)))))
+    into_arms : (o : Op) (w : Want) (d : Cond) → Ready asks c s → GoodWant asks s w → IsCondition c s d →
+        Yields asks c s (IsMade c) (after (arms w s) (λ a t. after (right a t) (λ m. give (deliver w a (chosen o a d m)))))
     into_arms o w d r g h =
-        keeping.bind B T findings.escapes c s GoodWant (IsMade c) (arms w s)
-        (λ a t. after (right a t) (λ m. give (deliver w a (chosen o a d m))))
-        (wanting.arms_yield B T findings.escapes c s w r g)
+        bind (wanting.arms_yield w r g)
         (λ a t st rt ga.
-        keeping.bind B T findings.escapes c t (IsMade c) (IsMade c) (right a t)
-        (λ m. give (deliver w a (chosen o a d m))) (then_right t a st rt ga)
+        bind (then_right t a st rt ga)
         (λ m u su ru k.
-        let gu = keeping.want_on B T findings.escapes c.kept t u su a ga in
-        let hu = keeping.cond_on B T findings.escapes c.kept s u (keeping.onward B T findings.escapes st su) c.loops d h
+        let gu = want_on su a ga in
+        let hu = cond_on (onward st su) c.loops d h
         in
-        keeping.given B T findings.escapes c u (IsMade c) (deliver w a (chosen o a d m)) ru
-        (wanting.deliver_good B T findings.escapes c.loops u w a (chosen o a d m) gu
+        given (deliver w a (chosen o a d m)) ru
+        (wanting.deliver_good asks c.loops u w a (chosen o a d m) gu
         (chosen_good o c.loops u a d m gu hu k))))
 
-    connective_yields : (o : Op) (w : Want) (d : Cond) → Ready c s → GoodWant s w → IsCondition c s d → Yields c s
+    connective_yields : (o : Op) (w : Want) (d : Cond) → Ready asks c s → GoodWant asks s w → IsCondition c s d → Yields asks c s
         (IsMade c) (connective o w d right s)
     connective_yields o want.Test d r g h =
-        keeping.bind B T findings.escapes c s (IsMade c) (IsMade c) (right want.Test s) (λ m. give (tested o d m))
-        (then_right s want.Test (keeping.stay B T findings.escapes c.kept s) r tt)
-        (λ m t st rt k. keeping.given B T findings.escapes c t (IsMade c) (tested o d m) rt
-        (connected_good o c.loops t d (test_of m) (keeping.cond_on B T findings.escapes c.kept s t st c.loops d h)
-        (wanting.test_good B T findings.escapes c.loops t m k)))
+        bind (then_right s want.Test stay r tt)
+        (λ m t st rt k. given (tested o d m) rt
+        (connected_good o c.loops t d (test_of m) (cond_on st c.loops d h)
+        (wanting.test_good asks c.loops t m k)))
     connective_yields o want.Value d r g h = into_arms o want.Value d r g h
     connective_yields o (want.Into i) d r g h = into_arms o (want.Into i) d r g h
     connective_yields o want.Dropped d r g h = into_arms o want.Dropped d r g h
 
-    operator_yields : (o : Op) (strings direct : Bool) (left : Made) → Ready c s → IsMade c s left →
-        Yields c s (IsMade c) (after (value_of left s) (λ x t. after (after (right want.Value t) value_of)
+    operator_yields : (o : Op) (strings direct : Bool) (left : Made) → Ready asks c s → IsMade c s left →
+        Yields asks c s (IsMade c) (after (value_of left s) (λ x t. after (after (right want.Value t) value_of)
         (λ y. operation o strings direct x y)))
     operator_yields o strings direct left r h =
-        keeping.bind B T findings.escapes c s (IsValue c) (IsMade c) (value_of left s)
-        (λ x t. after (after (right want.Value t) value_of) (λ y. operation o strings direct x y))
-        (wanting.value_yields B T findings.escapes c s left r h)
+        bind (wanting.value_yields left r h)
         (λ x t st rt k.
-        keeping.bind B T findings.escapes c t (IsValue c) (IsMade c) (after (right want.Value t) value_of)
-        (λ y. operation o strings direct x y)
-        (wanting.value_from_yields B T findings.escapes c t (right want.Value t) (then_right t want.Value st rt tt))
-        (λ y u su ru j. constructing.operation_yields B T findings.escapes c u o strings direct x y ru
-        (keeping.tx_on B T findings.escapes c.kept t u su c.loops x k) j))
+        bind (wanting.value_from_yields (then_right t want.Value st rt tt))
+        (λ y u su ru j. constructing.operation_yields o strings direct x y ru
+        (tx_on su c.loops x k) j))
 
-    left_yields : (o : Op) (meaning : Option Means) (direct : Bool) (w : Want) (left : Made) → Ready c s → GoodWant s
+    left_yields : (o : Op) (meaning : Option Means) (direct : Bool) (w : Want) (left : Made) → Ready asks c s → GoodWant asks s
         w → IsMade c s left →
-        Yields c s (IsMade c) (with_left o meaning direct w left right s)
+        Yields asks c s (IsMade c) (with_left o meaning direct w left right s)
     left_yields And meaning direct w left r g h = connective_yields And w (test_of left) r g
-        (wanting.test_good B T findings.escapes c.loops s left h)
+        (wanting.test_good asks c.loops s left h)
     left_yields Or meaning direct w left r g h = connective_yields Or w (test_of left) r g
-        (wanting.test_good B T findings.escapes c.loops s left h)
+        (wanting.test_good asks c.loops s left h)
     left_yields o meaning direct w left r g h = operator_yields o (compares_strings meaning) direct left r h
 
-  left_want_good : (s : State) (o : Op) → GoodWant s (left_want o)
+  left_want_good : (s : State) (o : Op) → GoodWant asks s (left_want o)
   left_want_good s And = tt
   left_want_good s Or = tt
   left_want_good s o = tt
 
   -- a declaration, where its value is translated to what is fine
-  declaration_yields : (c : Where) (s : State) (at : ℕ) (e : Want → Acts Made) → Ready c s →
-      (T → AreApart (at ∷ []) c.kept) →
-      ((t : State) (w : Want) → Ready (owning at c) t → GoodWant t w → Yields (owning at c) t (IsMade c) (e w t)) →
-      Yields c s (λ t x. IsStatement c t x × Ready (owning at c) t)
-      (declaration_of findings.escapes c.within.level at e s)
+  declaration_yields : (c : Where) (s : State) (at : ℕ) (e : Want → Acts Made) → Ready asks c s →
+      (asks.temps → AreApart (at ∷ []) c.kept) →
+      ((t : State) (w : Want) → Ready asks (owning at c) t → GoodWant asks t w → Yields asks (owning at c) t (IsMade c) (e w t)) →
+      Yields asks c s (λ t x. IsStatement c t x × Ready asks (owning at c) t)
+      (declaration_of asks.findings.escapes c.within.level at e s)
   declaration_yields c s at e r apart more =
-      keeping.bind B T findings.escapes c s (declaring.Declares B T findings c at)
-      (λ t x. IsStatement c t x × Ready (owning at c) t)
-      (declare_variable (findings.escapes at) c.within.level at s)
-      (λ home t. after (e (want_for (own_place home)) t) (λ m. assign (own_place home) m))
-      (declaring.declare_yields B T findings c s at r apart)
+      bind (declaring.declare_yields asks c s at r apart)
       (λ home t st rt h.
-      let p = constructing.own_place_good B T findings.escapes c.loops t home h.0 in
-      declaring.leave_with B T findings c (owning at c) t (IsStatement c)
-      (after (e (want_for (own_place home)) t) (λ m. assign (own_place home) m))
-      refl (λ x k. more_contained at x c.own k) rt
-      (keeping.bind B T findings.escapes (owning at c) t (IsMade c) (IsStatement c) (e (want_for (own_place home)) t)
-      (λ m. assign (own_place home) m)
-      (more t (want_for (own_place home)) h.1 (constructing.want_for_good B T findings.escapes c.loops t
+      let p = constructing.own_place_good asks c.loops t home h.0 in
+      leave_with refl (λ x k. more_contained at x c.own k) rt
+      (bind (more t (want_for (own_place home)) h.1 (constructing.want_for_good asks c.loops t
       (own_place home) p))
-      (λ m u su ru k. constructing.assign_yields B T findings.escapes (owning at c) u (own_place home) m ru
-      (keeping.place_on B T findings.escapes c.kept t u su c.loops (own_place home) p) k)))
+      (λ m u su ru k. constructing.assign_yields (own_place home) m ru
+      (place_on su c.loops (own_place home) p) k)))
 
   abbrev Walks : Where → State → (Want → Acts Made) → Type 0
-  Walks c s e = (w : Want) → Ready c s → GoodWant s w → Yields c s (IsMade c) (e w s)
+  Walks c s e = (w : Want) → Ready asks c s → GoodWant asks s w → Yields asks c s (IsMade c) (e w s)
 
-  of_value : (e : Exp) (c : Where) (s : State) → Yields c s (IsMade c) (expression findings e want.Value c.within s) →
-      Yields c s (IsValue c) (after (expression findings e want.Value c.within s) value_of)
-  of_value e c s h = wanting.value_from_yields B T findings.escapes c s (expression findings e want.Value c.within s) h
+  of_value : (e : Exp) (c : Where) (s : State) → Yields asks c s (IsMade c) (expression asks.findings e want.Value c.within s) →
+      Yields asks c s (IsValue c) (after (expression asks.findings e want.Value c.within s) value_of)
+  of_value e c s h = wanting.value_from_yields h
 
-  of_statement : (e : Exp) (c : Where) (s : State) → Yields c s (IsMade c)
-      (expression findings e want.Dropped c.within s) →
-      Yields c s (IsStatement c) (after (expression findings e want.Dropped c.within s) (λ m. give (dropped m)))
-  of_statement e c s h = wanting.statement_from_yields B T findings.escapes c s
-      (expression findings e want.Dropped c.within s) h
+  of_statement : (e : Exp) (c : Where) (s : State) → Yields asks c s (IsMade c)
+      (expression asks.findings e want.Dropped c.within s) →
+      Yields asks c s (IsStatement c) (after (expression asks.findings e want.Dropped c.within s) (λ m. give (dropped m)))
+  of_statement e c s h = wanting.statement_from_yields h
 
   mutual
-    walk : (e : Exp) (c : Where) (s : State) → (B → BreaksStand c.in_loop e) → (T → Reaches findings c.own c.kept e) →
-        Walks c s (λ w. expression findings e w c.within)
-    walk (Nil _) c s b q w r g = keeping.given B T findings.escapes c s (IsMade c) (value (Const 0)) r tt
-    walk (Int _ n) c s b q w r g = keeping.given B T findings.escapes c s (IsMade c) (value (Const n)) r tt
+    walk : (e : Exp) (c : Where) (s : State) → (asks.breaks → BreaksStand c.in_loop e) → (asks.temps → Reaches asks.findings c.own c.kept e) →
+        Walks c s (λ w. expression asks.findings e w c.within)
+    walk (Nil _) c s b q w r g = given (value (Const 0)) r tt
+    walk (Int _ n) c s b q w r g = given (value (Const n)) r tt
     walk (Break _) c s b q w r g =
-        keeping.given B T findings.escapes c s (IsMade c) (done (tree.Break c.within.leave)) r (λ a. r.loops a (b a))
-    walk (Text _ bytes) c s b q w r g = scoping.literal_yields B T findings c s bytes r
+        given (done (tree.Break c.within.leave)) r (λ a. r.loops a (b a))
+    walk (Text _ bytes) c s b q w r g = scoping.literal_yields asks c s bytes r
     walk (Read _ v) c s b q w r g =
-        keeping.bind B T findings.escapes c s (IsPlace c) (IsMade c) (locate findings v c.within s)
-        (λ p. give (value (read p)))
-        (walk_place v c s b q r)
-        (λ p t st rt k. keeping.given B T findings.escapes c t (IsMade c) (value (read p)) rt
-        (constructing.read_good B T findings.escapes c.loops t p k))
+        bind (walk_place v c s b q r)
+        (λ p t st rt k. given (value (read p)) rt
+        (constructing.read_good asks c.loops t p k))
     walk (Call _ f args) c s b q w r g =
-        keeping.bind B T findings.escapes c s (AreValues c) (IsMade c) (values findings args no_txs c.within s)
-        (λ xs t. after (call c.within (findings.meaning (at_of f)) xs t) (λ x. give (value x)))
-        (walk_values args no_txs c s b q r tt)
+        bind (walk_values args no_txs c s b q r tt)
         (λ xs t st rt k.
-        keeping.bind B T findings.escapes c t (IsValue c) (IsMade c) (call c.within (findings.meaning (at_of f)) xs t)
-        (λ x. give (value x))
-        (scoping.call_yields B T findings c t (findings.meaning (at_of f)) xs rt k)
-        (λ x u su ru j. keeping.given B T findings.escapes c u (IsMade c) (value x) ru j))
+        bind (scoping.call_yields asks c t (asks.findings.meaning (at_of f)) xs rt k)
+        (λ x u su ru j. given (value x) ru j))
     walk (Neg _ a) c s b q w r g =
-        keeping.bind B T findings.escapes c s (IsValue c) (IsMade c)
-        (after (expression findings a want.Value c.within s) value_of) (λ x. give (value (negation x)))
-        (of_value a c s (walk a c s b q want.Value r tt))
-        (λ x t st rt k. keeping.given B T findings.escapes c t (IsMade c) (value (negation x)) rt
-        (constructing.negation_good B T findings.escapes c.loops t x k))
+        bind (of_value a c s (walk a c s b q want.Value r tt))
+        (λ x t st rt k. given (value (negation x)) rt
+        (constructing.negation_good asks c.loops t x k))
     walk (Binary _ o at x y) c s b q w r g =
-        keeping.bind B T findings.escapes c s (IsMade c) (IsMade c) (expression findings x (left_want o) c.within s)
-        (λ left. with_left o (findings.meaning at) (assigns_nothing y) w left (λ v. expression findings y v c.within))
-        (walk x c s (λ a. (b a).0) (λ a. (q a).0) (left_want o) r (left_want_good s o))
+        bind (walk x c s (λ a. (b a).0) (λ a. (q a).0) (left_want o) r (left_want_good s o))
         (λ left t st rt k.
-        left_yields c t (λ v. expression findings y v c.within)
+        left_yields c t (λ v. expression asks.findings y v c.within)
         (λ u v su ru gu. walk y c u (λ a. (b a).1) (λ a. (q a).1) v ru gu)
-        o (findings.meaning at) (assigns_nothing y) w left rt (keeping.want_on B T findings.escapes c.kept s t st w g)
+        o (asks.findings.meaning at) (assigns_nothing y) w left rt (want_on st w g)
         k)
     walk (Make _ _ inits) c s b q w r g =
-        keeping.bind B T findings.escapes c s (IsHeld c) (IsMade c)
-        (fields findings inits (inits_assign_nothing inits) none_held c.within s) make_record
-        (walk_fields inits (inits_assign_nothing inits) none_held c s b q r (tt, tt))
-        (λ all t st rt k. constructing.record_yields B T findings.escapes c t all rt k)
+        bind (walk_fields inits (inits_assign_nothing inits) none_held c s b q r (tt, tt))
+        (λ all t st rt k. constructing.record_yields all rt k)
     walk (Fill _ _ x y) c s b q w r g =
-        keeping.bind B T findings.escapes c s (IsValue c) (IsMade c)
-        (after (expression findings x want.Value c.within s) value_of)
-        (λ x t. after (after (expression findings y want.Value c.within t) value_of)
-        (λ y. give (value (make_array x y))))
-        (of_value x c s (walk x c s (λ a. (b a).0) (λ a. (q a).0) want.Value r tt))
+        bind (of_value x c s (walk x c s (λ a. (b a).0) (λ a. (q a).0) want.Value r tt))
         (λ x t st rt k.
-        keeping.bind B T findings.escapes c t (IsValue c) (IsMade c)
-        (after (expression findings y want.Value c.within t) value_of) (λ y. give (value (make_array x y)))
-        (of_value y c t (walk y c t (λ a. (b a).1) (λ a. (q a).1) want.Value rt tt))
-        (λ y u su ru j. keeping.given B T findings.escapes c u (IsMade c) (value (make_array x y)) ru
-        (constructing.make_array_good B T findings.escapes c.loops u x y
-        (keeping.tx_on B T findings.escapes c.kept t u su c.loops x k) j)))
+        bind (of_value y c t (walk y c t (λ a. (b a).1) (λ a. (q a).1) want.Value rt tt))
+        (λ y u su ru j. given (value (make_array x y)) ru
+        (constructing.make_array_good asks c.loops u x y
+        (tx_on su c.loops x k) j)))
     walk (Assign _ v e) c s b q w r g =
-        keeping.bind B T findings.escapes c s (IsPlace c) (IsMade c) (locate findings v c.within s)
-        (λ p t. after (expression findings e (want_for p) c.within t)
-        (λ m u. after (assign p m u) (λ x. give (done x))))
-        (walk_place v c s (λ a. (b a).0) (λ a. (q a).0) r)
+        bind (walk_place v c s (λ a. (b a).0) (λ a. (q a).0) r)
         (λ p t st rt k.
-        keeping.bind B T findings.escapes c t (IsMade c) (IsMade c) (expression findings e (want_for p) c.within t)
-        (λ m u. after (assign p m u) (λ x. give (done x)))
-        (walk e c t (λ a. (b a).1) (λ a. (q a).1) (want_for p) rt
-        (constructing.want_for_good B T findings.escapes c.loops t p k))
+        bind (walk e c t (λ a. (b a).1) (λ a. (q a).1) (want_for p) rt
+        (constructing.want_for_good asks c.loops t p k))
         (λ m u su ru j.
-        keeping.bind B T findings.escapes c u (IsStatement c) (IsMade c) (assign p m u) (λ x. give (done x))
-        (constructing.assign_yields B T findings.escapes c u p m ru
-        (keeping.place_on B T findings.escapes c.kept t u su c.loops p k) j)
-        (λ x v sv rv i. keeping.given B T findings.escapes c v (IsMade c) (done x) rv i)))
+        bind (constructing.assign_yields p m ru
+        (place_on su c.loops p k) j)
+        (λ x v sv rv i. given (done x) rv i)))
     walk (If _ d x y) c s b q w r g =
-        keeping.bind B T findings.escapes c s (IsCondition c) (IsMade c)
-        (after (expression findings d want.Test c.within s) (λ m. give (test_of m)))
-        (λ d t. after (arms w t) (λ v u. after (after (expression findings x v c.within u)
-        (λ m. give (as_statement v m)))
-        (λ x z. after (after (expression findings y v c.within z) (λ m. give (as_statement v m)))
-        (λ y. give (deliver w v (tree.If d x y))))))
-        (wanting.condition_from_yields B T findings.escapes c s (expression findings d want.Test c.within s)
+        bind (wanting.condition_from_yields
         (walk d c s (λ a. (b a).0) (λ a. (q a).0) want.Test r tt))
         (λ d t st rt k.
-        keeping.bind B T findings.escapes c t GoodWant (IsMade c) (arms w t)
-        (λ v u. after (after (expression findings x v c.within u) (λ m. give (as_statement v m)))
-        (λ x z. after (after (expression findings y v c.within z) (λ m. give (as_statement v m)))
-        (λ y. give (deliver w v (tree.If d x y)))))
-        (wanting.arms_yield B T findings.escapes c t w rt (keeping.want_on B T findings.escapes c.kept s t st w g))
+        bind (wanting.arms_yield w rt (want_on st w g))
         (λ v u su ru gv.
-        keeping.bind B T findings.escapes c u (IsStatement c) (IsMade c)
-        (after (expression findings x v c.within u) (λ m. give (as_statement v m)))
-        (λ x z. after (after (expression findings y v c.within z) (λ m. give (as_statement v m)))
-        (λ y. give (deliver w v (tree.If d x y))))
-        (wanting.arm_from_yields B T findings.escapes c u (expression findings x v c.within u)
+        bind (wanting.arm_from_yields
         (walk x c u (λ a. (b a).1) (λ a. (q a).1) v ru gv) v gv)
         (λ x z sz rz j.
-        let gz = keeping.want_on B T findings.escapes c.kept u z sz v gv in
-        keeping.bind B T findings.escapes c z (IsStatement c) (IsMade c)
-        (after (expression findings y v c.within z) (λ m. give (as_statement v m)))
-        (λ y. give (deliver w v (tree.If d x y)))
-        (wanting.arm_from_yields B T findings.escapes c z (expression findings y v c.within z)
+        let gz = want_on sz v gv in
+        bind (wanting.arm_from_yields
         (walk y c z (λ a. (b a).2) (λ a. (q a).2) v rz gz) v gz)
         (λ y o so ro i.
-        keeping.given B T findings.escapes c o (IsMade c) (deliver w v (tree.If d x y)) ro
-        (wanting.deliver_good B T findings.escapes c.loops o w v (tree.If d x y)
-        (keeping.want_on B T findings.escapes c.kept z o so v gz) (
-          keeping.cond_on B T findings.escapes c.kept t o
-              (keeping.onward B T findings.escapes su (keeping.onward B T findings.escapes sz so)) c.loops d k,
-          keeping.ts_on B T findings.escapes c.kept z o so c.loops x j,
+        given (deliver w v (tree.If d x y)) ro
+        (wanting.deliver_good asks c.loops o w v (tree.If d x y)
+        (want_on so v gz) (
+          cond_on (onward su (onward sz so)) c.loops d k,
+          ts_on so c.loops x j,
           i,
         ))))))
     walk (When _ d x) c s b q w r g =
-        keeping.bind B T findings.escapes c s (IsCondition c) (IsMade c)
-        (after (expression findings d want.Test c.within s) (λ m. give (test_of m)))
-        (λ d t. after (after (expression findings x want.Dropped c.within t) (λ m. give (dropped m)))
-        (λ x. give (done (tree.If d x nothing))))
-        (wanting.condition_from_yields B T findings.escapes c s (expression findings d want.Test c.within s)
+        bind (wanting.condition_from_yields
         (walk d c s (λ a. (b a).0) (λ a. (q a).0) want.Test r tt))
         (λ d t st rt k.
-        keeping.bind B T findings.escapes c t (IsStatement c) (IsMade c)
-        (after (expression findings x want.Dropped c.within t) (λ m. give (dropped m)))
-        (λ x. give (done (tree.If d x nothing))) (of_statement x c t
+        bind (of_statement x c t
         (walk x c t (λ a. (b a).1) (λ a. (q a).1) want.Dropped rt tt))
-        (λ x u su ru j. keeping.given B T findings.escapes c u (IsMade c) (done (tree.If d x nothing)) ru
-        (keeping.cond_on B T findings.escapes c.kept t u su c.loops d k, j, tt)))
+        (λ x u su ru j. given (done (tree.If d x nothing)) ru
+        (cond_on su c.loops d k, j, tt)))
     walk (While _ d x) c s b q w r g =
-        keeping.bind B T findings.escapes c s (IsCondition (testing c)) (IsMade c)
-        (after (expression findings d want.Test (in_test c.within) s) (λ m. give (test_of m)))
-        (λ d t. after (after (expression findings x want.Dropped (in_body c.within) t) (λ m. give (dropped m)))
-        (λ x. give (done (repeat_while d x))))
-        (declaring.leave_yields B T findings c (testing c) s (IsCondition (testing c))
-        (after (expression findings d want.Test (in_test c.within) s) (λ m. give (test_of m)))
-        refl (λ at k. k) r
-        (wanting.condition_from_yields B T findings.escapes (testing c) s
-        (expression findings d want.Test (in_test c.within) s)
-        (walk d (testing c) s (λ a. (b a).0) (λ a. (q a).0) want.Test (declaring.enter_test B T findings c s r) tt)))
+        bind (leave_yields refl (λ at k. k) r
+        (wanting.condition_from_yields
+        (walk d (testing c) s (λ a. (b a).0) (λ a. (q a).0) want.Test (enter_test r) tt)))
         (λ d t st rt k.
-        keeping.bind B T findings.escapes c t (IsStatement (turning c)) (IsMade c)
-        (after (expression findings x want.Dropped (in_body c.within) t) (λ m. give (dropped m)))
-        (λ x. give (done (repeat_while d x)))
-        (declaring.leave_yields B T findings c (turning c) t (IsStatement (turning c))
-        (after (expression findings x want.Dropped (in_body c.within) t) (λ m. give (dropped m)))
-        refl (λ at k. k) rt (of_statement x (turning c) t
-        (walk x (turning c) t (λ a. (b a).1) (λ a. (q a).1) want.Dropped (declaring.enter_turn B T findings c t rt)
+        bind (leave_yields refl (λ at k. k) rt (of_statement x (turning c) t
+        (walk x (turning c) t (λ a. (b a).1) (λ a. (q a).1) want.Dropped (enter_turn rt)
         tt)))
-        (λ x u su ru j. keeping.given B T findings.escapes c u (IsMade c) (done (repeat_while d x)) ru
-        (constructing.repeat_good B T findings.escapes c.loops u d x
-        (keeping.cond_on B T findings.escapes c.kept t u su (c.loops + 1) d k) j)))
+        (λ x u su ru j. given (done (repeat_while d x)) ru
+        (constructing.repeat_good asks c.loops u d x
+        (cond_on su (c.loops + 1) d k) j)))
     walk (For _ i low high a) c s b q w r g =
-        keeping.bind B T findings.escapes c s (IsValue c) (IsMade c)
-        (after (expression findings low want.Value c.within s) value_of)
-        (λ x t. after (after (expression findings high want.Value c.within t) value_of)
-        (λ y u. after (declare_variable (findings.escapes (at_of i)) c.within.level (at_of i) u)
-        (λ home v. after (after (expression findings a want.Dropped (in_body c.within) v) (λ m. give (dropped m)))
-        (λ turn z. after (count home x y turn z) (λ x. give (done x))))))
-        (of_value low c s (walk low c s (λ a. (b a).0) (λ a. (q a).1) want.Value r tt))
+        bind (of_value low c s (walk low c s (λ a. (b a).0) (λ a. (q a).1) want.Value r tt))
         (λ x t st rt k.
-        keeping.bind B T findings.escapes c t (IsValue c) (IsMade c)
-        (after (expression findings high want.Value c.within t) value_of)
-        (λ y u. after (declare_variable (findings.escapes (at_of i)) c.within.level (at_of i) u)
-        (λ home v. after (after (expression findings a want.Dropped (in_body c.within) v) (λ m. give (dropped m)))
-        (λ turn z. after (count home x y turn z) (λ x. give (done x)))))
-        (of_value high c t (walk high c t (λ a. (b a).1) (λ a. (q a).2) want.Value rt tt))
+        bind (of_value high c t (walk high c t (λ a. (b a).1) (λ a. (q a).2) want.Value rt tt))
         (λ y u su ru j.
-        keeping.bind B T findings.escapes c u (declaring.Declares B T findings c (at_of i)) (IsMade c)
-        (declare_variable (findings.escapes (at_of i)) c.within.level (at_of i) u)
-        (λ home v. after (after (expression findings a want.Dropped (in_body c.within) v) (λ m. give (dropped m)))
-        (λ turn z. after (count home x y turn z) (λ x. give (done x))))
-        (declaring.declare_yields B T findings c u (at_of i) ru (λ a. (q a).0))
+        bind (declaring.declare_yields asks c u (at_of i) ru (λ a. (q a).0))
         (λ home v sv rv h.
         let d : Where = turning (owning (at_of i) c) in
-        keeping.bind B T findings.escapes c v (IsStatement d) (IsMade c)
-        (after (expression findings a want.Dropped (in_body c.within) v) (λ m. give (dropped m)))
-        (λ turn z. after (count home x y turn z) (λ x. give (done x)))
-        (declaring.leave_yields B T findings c d v (IsStatement d)
-        (after (expression findings a want.Dropped (in_body c.within) v) (λ m. give (dropped m)))
-        refl (λ at k. more_contained (at_of i) at c.own k) rv
+        bind (leave_yields refl (λ at k. more_contained (at_of i) at c.own k) rv
         (of_statement a d v (walk a d v (λ a. (b a).2) (λ a. (q a).3) want.Dropped
-        (declaring.enter_turn B T findings (owning (at_of i) c) v h.1) tt)))
+        (enter_turn h.1) tt)))
         (λ turn z sz rz n.
-        let from_t = keeping.onward B T findings.escapes su (keeping.onward B T findings.escapes sv sz) in
-        let from_u = keeping.onward B T findings.escapes sv sz in
-        keeping.bind B T findings.escapes c z (IsStatement c) (IsMade c) (count home x y turn z) (λ x. give (done x))
-        (constructing.count_yields B T findings.escapes c z home x y turn rz
-        (keeping.access_on B T findings.escapes c.kept v z sz home h.0)
-        (keeping.tx_on B T findings.escapes c.kept t z from_t c.loops x k)
-        (keeping.tx_on B T findings.escapes c.kept u z from_u c.loops y j) n)
-        (λ x o so ro p. keeping.given B T findings.escapes c o (IsMade c) (done x) ro p)))))
+        let from_t = onward su (onward sv sz) in
+        let from_u = onward sv sz in
+        bind (constructing.count_yields home x y turn rz
+        (access_on sz home h.0)
+        (tx_on from_t c.loops x k)
+        (tx_on from_u c.loops y j) n)
+        (λ x o so ro p. given (done x) ro p)))))
     walk (Let _ ds es) c s b q w r g =
         let d : Where = with_own (owned_by ds c.own) c in
-        keeping.bind B T findings.escapes c s (DeclaredIn c (owned_by ds c.own)) (IsMade c)
-        (declarations findings ds no_stms c.within s)
-        (λ before t. after (sequence findings es w before c.within t) (λ begun. behind w begun.before begun.last))
-        (walk_decs ds no_stms c s (λ a. (b a).0) (λ a. (q a).0) r tt)
+        bind (walk_decs ds no_stms c s (λ a. (b a).0) (λ a. (q a).0) r tt)
         (λ before t st rt k.
-        let gt = keeping.want_on B T findings.escapes c.kept s t st w g in
-        keeping.bind B T findings.escapes c t (IsBegun c) (IsMade c) (sequence findings es w before c.within t)
-        (λ begun. behind w begun.before begun.last)
-        (declaring.leave_yields B T findings c d t (IsBegun c) (sequence findings es w before c.within t) refl
+        let gt = want_on st w g in
+        bind (leave_yields refl
         (owned_more ds c.own) rt
         (walk_sequence es w before d t (λ a. (b a).1) (λ a. (q a).1) k.1 gt k.0))
-        (λ begun u su ru j. wanting.behind_yields B T findings.escapes c u w begun.before begun.last ru
-        (keeping.want_on B T findings.escapes c.kept t u su w gt) j.0 j.1))
+        (λ begun u su ru j. wanting.behind_yields w begun.before begun.last ru
+        (want_on su w gt) j.0 j.1))
     walk (Seq _ es) c s b q w r g =
-        keeping.bind B T findings.escapes c s (IsBegun c) (IsMade c) (sequence findings es w no_stms c.within s)
-        (λ begun. behind w begun.before begun.last)
-        (walk_sequence es w no_stms c s b q r g tt)
-        (λ begun t st rt k. wanting.behind_yields B T findings.escapes c t w begun.before begun.last rt
-        (keeping.want_on B T findings.escapes c.kept s t st w g) k.0 k.1)
+        bind (walk_sequence es w no_stms c s b q r g tt)
+        (λ begun t st rt k. wanting.behind_yields w begun.before begun.last rt
+        (want_on st w g) k.0 k.1)
 
-    walk_place : (v : source.Place) (c : Where) (s : State) → (B → BreaksStandPlace c.in_loop v) →
-        (T → ReachesPlace findings c.own c.kept v) → Ready c s →
-        Yields c s (IsPlace c) (locate findings v c.within s)
-    walk_place (Simple x) c s b q r = scoping.variable_yields B T findings c s (findings.meaning (at_of x)) r q
+    walk_place : (v : source.Place) (c : Where) (s : State) → (asks.breaks → BreaksStandPlace c.in_loop v) →
+        (asks.temps → ReachesPlace asks.findings c.own c.kept v) → Ready asks c s →
+        Yields asks c s (IsPlace c) (locate asks.findings v c.within s)
+    walk_place (Simple x) c s b q r = scoping.variable_yields asks c s (asks.findings.meaning (at_of x)) r q
     walk_place (Field v f) c s b q r =
-        keeping.bind B T findings.escapes c s (IsPlace c) (IsPlace c) (locate findings v c.within s)
-        (λ p. field_place (field_number (findings.meaning (at_of f))) (read p)) (walk_place v c s b q r)
-        (λ p t st rt k. constructing.field_yields B T findings.escapes c t (field_number (findings.meaning (at_of f)))
+        bind (walk_place v c s b q r)
+        (λ p t st rt k. constructing.field_yields (field_number (asks.findings.meaning (at_of f)))
         (read p) rt
-        (constructing.read_good B T findings.escapes c.loops t p k))
+        (constructing.read_good asks c.loops t p k))
     walk_place (Index v e) c s b q r =
-        keeping.bind B T findings.escapes c s (IsPlace c) (IsPlace c) (locate findings v c.within s)
-        (λ p t. after (after (expression findings e want.Value c.within t) value_of)
-        (λ y. element_place (assigns_nothing e) (read p) y))
-        (walk_place v c s (λ a. (b a).0) (λ a. (q a).0) r)
+        bind (walk_place v c s (λ a. (b a).0) (λ a. (q a).0) r)
         (λ p t st rt k.
-        keeping.bind B T findings.escapes c t (IsValue c) (IsPlace c)
-        (after (expression findings e want.Value c.within t) value_of)
-        (λ y. element_place (assigns_nothing e) (read p) y)
-        (of_value e c t (walk e c t (λ a. (b a).1) (λ a. (q a).1) want.Value rt tt))
-        (λ y u su ru j. constructing.element_yields B T findings.escapes c u (assigns_nothing e) (read p) y ru
-        (keeping.tx_on B T findings.escapes c.kept t u su c.loops (read p)
-        (constructing.read_good B T findings.escapes c.loops t p k)) j))
+        bind (of_value e c t (walk e c t (λ a. (b a).1) (λ a. (q a).1) want.Value rt tt))
+        (λ y u su ru j. constructing.element_yields (assigns_nothing e) (read p) y ru
+        (tx_on su c.loops (read p)
+        (constructing.read_good asks c.loops t p k)) j))
 
-    walk_values : (es : Exps) (before : Txs) (c : Where) (s : State) → (B → BreaksStandExps c.in_loop es) →
-        (T → ReachesExps findings c.own c.kept es) →
-        Ready c s → AreValues c s before → Yields c s (AreValues c) (values findings es before c.within s)
-    walk_values no_exps before c s b q r h = keeping.given B T findings.escapes c s (AreValues c) before r h
+    walk_values : (es : Exps) (before : Txs) (c : Where) (s : State) → (asks.breaks → BreaksStandExps c.in_loop es) →
+        (asks.temps → ReachesExps asks.findings c.own c.kept es) →
+        Ready asks c s → AreValues c s before → Yields asks c s (AreValues c) (values asks.findings es before c.within s)
+    walk_values no_exps before c s b q r h = given before r h
     walk_values (exp e rest) before c s b q r h =
-        keeping.bind B T findings.escapes c s (IsValue c) (AreValues c)
-        (after (expression findings e want.Value c.within s) value_of)
-        (λ x. values findings rest (join_txs before (tx x no_txs)) c.within)
-        (of_value e c s (walk e c s (λ a. (b a).0) (λ a. (q a).0) want.Value r tt))
+        bind (of_value e c s (walk e c s (λ a. (b a).0) (λ a. (q a).0) want.Value r tt))
         (λ x t st rt k. walk_values rest (join_txs before (tx x no_txs)) c t (λ a. (b a).1) (λ a. (q a).1) rt
-        (join_fine_txs B (keeping.KnowsAt B T findings.escapes t) c.loops before (tx x no_txs)
-        (keeping.txs_on B T findings.escapes c.kept s t st c.loops before h) (k, tt)))
+        (join_fine_txs asks.breaks (KnowsAt asks t) c.loops before (tx x no_txs)
+        (txs_on st c.loops before h) (k, tt)))
 
     walk_fields : (is : Inits) (direct : Bool) (before : HeldAll) (c : Where) (s : State) →
-        (B → BreaksStandInits c.in_loop is) →
-        (T → ReachesInits findings c.own c.kept is) → Ready c s → IsHeld c s before → Yields c s (IsHeld c)
-        (fields findings is direct before c.within s)
-    walk_fields no_inits direct before c s b q r h = keeping.given B T findings.escapes c s (IsHeld c) before r h
+        (asks.breaks → BreaksStandInits c.in_loop is) →
+        (asks.temps → ReachesInits asks.findings c.own c.kept is) → Ready asks c s → IsHeld c s before → Yields asks c s (IsHeld c)
+        (fields asks.findings is direct before c.within s)
+    walk_fields no_inits direct before c s b q r h = given before r h
     walk_fields (init _ e rest) direct before c s b q r h =
-        keeping.bind B T findings.escapes c s (IsValue c) (IsHeld c)
-        (after (expression findings e want.Value c.within s) value_of)
-        (λ x t. after (hold_next direct before x t) (λ more. fields findings rest direct more c.within))
-        (of_value e c s (walk e c s (λ a. (b a).0) (λ a. (q a).0) want.Value r tt))
+        bind (of_value e c s (walk e c s (λ a. (b a).0) (λ a. (q a).0) want.Value r tt))
         (λ x t st rt k.
-        keeping.bind B T findings.escapes c t (IsHeld c) (IsHeld c) (hold_next direct before x t)
-        (λ more. fields findings rest direct more c.within)
-        (constructing.hold_next_yields B T findings.escapes c t direct before x rt
-        (keeping.held_on B T findings.escapes c.kept s t st c.loops before h) k)
+        bind (constructing.hold_next_yields direct before x rt
+        (held_on st c.loops before h) k)
         (λ more u su ru j. walk_fields rest direct more c u (λ a. (b a).1) (λ a. (q a).1) ru j))
 
     walk_sequence : (es : Exps) (w : Want) (before : Stms) (c : Where) (s : State) →
-        (B → BreaksStandExps c.in_loop es) →
-        (T → ReachesExps findings c.own c.kept es) → Ready c s → GoodWant s w → AreStatements c s before →
-        Yields c s (IsBegun c) (sequence findings es w before c.within s)
+        (asks.breaks → BreaksStandExps c.in_loop es) →
+        (asks.temps → ReachesExps asks.findings c.own c.kept es) → Ready asks c s → GoodWant asks s w → AreStatements c s before →
+        Yields asks c s (IsBegun c) (sequence asks.findings es w before c.within s)
     walk_sequence no_exps w before c s b q r g h =
-        keeping.given B T findings.escapes c s (IsBegun c) (record { before = before; last = value (Const 0) }) r
+        given (record { before = before; last = value (Const 0) }) r
         (h, tt)
     walk_sequence (exp e no_exps) w before c s b q r g h =
-        keeping.bind B T findings.escapes c s (IsMade c) (IsBegun c) (expression findings e w c.within s)
-        (λ m. give (record { before = before; last = m }))
-        (walk e c s (λ a. (b a).0) (λ a. (q a).0) w r g)
-        (λ m t st rt k. keeping.given B T findings.escapes c t (IsBegun c) (record { before = before; last = m }) rt
-        (keeping.stms_on B T findings.escapes c.kept s t st c.loops before h, k))
+        bind (walk e c s (λ a. (b a).0) (λ a. (q a).0) w r g)
+        (λ m t st rt k. given (record { before = before; last = m }) rt
+        (stms_on st c.loops before h, k))
     walk_sequence (exp e (exp f rest)) w before c s b q r g h =
-        keeping.bind B T findings.escapes c s (IsStatement c) (IsBegun c)
-        (after (expression findings e want.Dropped c.within s) (λ m. give (dropped m)))
-        (λ x. sequence findings (exp f rest) w (followed before x) c.within)
-        (of_statement e c s (walk e c s (λ a. (b a).0) (λ a. (q a).0) want.Dropped r tt))
+        bind (of_statement e c s (walk e c s (λ a. (b a).0) (λ a. (q a).0) want.Dropped r tt))
         (λ x t st rt k. walk_sequence (exp f rest) w (followed before x) c t (λ a. (b a).1) (λ a. (q a).1) rt
-        (keeping.want_on B T findings.escapes c.kept s t st w g)
-        (wanting.followed_good B T findings.escapes c.loops t before x
-        (keeping.stms_on B T findings.escapes c.kept s t st c.loops before h) k))
+        (want_on st w g)
+        (wanting.followed_good asks c.loops t before x
+        (stms_on st c.loops before h) k))
 
-    walk_decs : (ds : Decs) (before : Stms) (c : Where) (s : State) → (B → BreaksStandDecs c.in_loop ds) →
-        (T → ReachesDecs findings c.own c.kept ds) →
-        Ready c s → AreStatements c s before → Yields c s (DeclaredIn c (owned_by ds c.own))
-        (declarations findings ds before c.within s)
-    walk_decs no_decs before c s b q r h = keeping.given B T findings.escapes c s (DeclaredIn c c.own) before r (h, r)
+    walk_decs : (ds : Decs) (before : Stms) (c : Where) (s : State) → (asks.breaks → BreaksStandDecs c.in_loop ds) →
+        (asks.temps → ReachesDecs asks.findings c.own c.kept ds) →
+        Ready asks c s → AreStatements c s before → Yields asks c s (DeclaredIn c (owned_by ds c.own))
+        (declarations asks.findings ds before c.within s)
+    walk_decs no_decs before c s b q r h = given before r (h, r)
     walk_decs (types _ rest) before c s b q r h = walk_decs rest before c s b q r h
     walk_decs (variable x _ e rest) before c s b q r h =
         let d : Where = owning (at_of x) c in
-        keeping.bind B T findings.escapes c s (λ t y. IsStatement c t y × Ready d t)
-        (DeclaredIn c (owned_by rest (at_of x ∷ c.own)))
-        (declaration_of findings.escapes c.within.level (at_of x) (λ v. expression findings e v c.within) s)
-        (λ y. declarations findings rest (followed before y) c.within)
-        (declaration_yields c s (at_of x) (λ v. expression findings e v c.within) r (λ a. (q a).0)
+        bind (declaration_yields c s (at_of x) (λ v. expression asks.findings e v c.within) r (λ a. (q a).0)
         (λ t w rt g. walk e d t (λ a. (b a).0) (λ a. (q a).1) w rt g))
         (λ y t st rt k.
-        declaring.leave_yields B T findings c d t (DeclaredIn c (owned_by rest (at_of x ∷ c.own)))
-        (declarations findings rest (followed before y) c.within t)
-        refl (λ at j. more_contained (at_of x) at c.own j) rt
+        leave_yields refl (λ at j. more_contained (at_of x) at c.own j) rt
         (walk_decs rest (followed before y) d t (λ a. (b a).1) (λ a. (q a).2) k.1
-        (wanting.followed_good B T findings.escapes c.loops t before y
-        (keeping.stms_on B T findings.escapes c.kept s t st c.loops before h) k.0)))
+        (wanting.followed_good asks c.loops t before y
+        (stms_on st c.loops before h) k.0)))
     walk_decs (functions fs rest) before c s b q r h =
-        nesting.group_yields B T findings c (nesting.after_group B T findings fs s.label) s
+        nesting.group_yields asks c (nesting.after_group asks fs s.label) s
         (DeclaredIn c (owned_by rest c.own)) (declare_functions c.within.level fs s)
-        (bodies findings fs s.label c.within) (declarations findings rest before c.within)
-        (nesting.declared_opens B T findings fs c c.within.level s r)
+        (bodies asks.findings fs s.label c.within) (declarations asks.findings rest before c.within)
+        (nesting.declared_opens asks fs c c.within.level s r)
         (λ t rt. walk_bodies fs s.label c t (λ a. (b a).0) (λ a. (q a).0) rt)
         (λ u su ru. walk_decs rest before c u (λ a. (b a).1) (λ a. (q a).1) ru
-        (keeping.stms_on B T findings.escapes c.kept s u su c.loops before h))
+        (stms_on su c.loops before h))
 
-    walk_bodies : (fs : FunDecs) (label : ℕ) (c : Where) (s : State) → (B → BreaksStandBodies fs) →
-        (T → ReachesBodies findings (c.own ++ c.kept) fs) →
-        Ready c s → nesting.Placed B T findings c label (nesting.after_group B T findings fs label) s
-        (bodies findings fs label c.within s)
-    walk_bodies no_functions label c s b q r = (nesting.places_none B T findings (c.own ++ c.kept) label s, r)
+    walk_bodies : (fs : FunDecs) (label : ℕ) (c : Where) (s : State) → (asks.breaks → BreaksStandBodies fs) →
+        (asks.temps → ReachesBodies asks.findings (c.own ++ c.kept) fs) →
+        Ready asks c s → nesting.Placed asks c label (nesting.after_group asks fs label) s
+        (bodies asks.findings fs label c.within s)
+    walk_bodies no_functions label c s b q r = (nesting.places_none asks (c.own ++ c.kept) label s, r)
     walk_bodies (function f params result e rest) label c s b q r =
-        nesting.placed_then B T findings c label (label + 1) (nesting.after_group B T findings rest (label + 1)) s
-        (body label findings.escapes findings.keeps_link (at_of f) (is_some result) params
-        (λ w v. expression findings e w v) c.within s)
-        (bodies findings rest (label + 1) c.within)
-        (nesting.body_placed B T findings c s label (at_of f) (is_some result) params (λ w v. expression findings e w v)
+        nesting.placed_then asks c label (label + 1) (nesting.after_group asks rest (label + 1)) s
+        (body label asks.findings.escapes asks.findings.keeps_link (at_of f) (is_some result) params
+        (λ w v. expression asks.findings e w v) c.within s)
+        (bodies asks.findings rest (label + 1) c.within)
+        (nesting.body_placed asks c s label (at_of f) (is_some result) params (λ w v. expression asks.findings e w v)
         (λ a. (q a).0) r
-        (λ t w rt g. walk e (nested (findings.keeps_link (at_of f)) params c) t (λ a. (b a).0) (λ a. (q a).1) w rt g))
+        (λ t w rt g. walk e (nested (asks.findings.keeps_link (at_of f)) params c) t (λ a. (b a).0) (λ a. (q a).1) w rt g))
         (λ t rt. walk_bodies rest (label + 1) c t (λ a. (b a).1) (λ a. (q a).2) rt)
 
-  pub walked : (e : Exp) (c : Where) (s : State) (w : Want) → (B → BreaksStand c.in_loop e) →
-      (T → Reaches findings c.own c.kept e) →
-      Ready c s → GoodWant s w → Yields c s (IsMade c) (expression findings e w c.within s)
+  pub walked : (e : Exp) (c : Where) (s : State) (w : Want) → (asks.breaks → BreaksStand c.in_loop e) →
+      (asks.temps → Reaches asks.findings c.own c.kept e) →
+      Ready asks c s → GoodWant asks s w → Yields asks c s (IsMade c) (expression asks.findings e w c.within s)
   walked e c s w b q r g = walk e c s b q w r g

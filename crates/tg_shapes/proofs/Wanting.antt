@@ -1,161 +1,130 @@
 -- What is made what its place wants is fine, where what it is made of is.
-use Rattle.std.proofs.Common.{◌<◌, ℕ, Bool}
-use Rattle.tg_tree.specs.Tree.{Tx, Const, Temp, After, Cond, Ts, Stms, no_stms, stm}
+use Rattle.std.proofs.Common.{◌<◌, ℕ}
+use Rattle.tg_tree.specs.Tree.{Const, Temp, After, Cond, Ts, Stms, no_stms, stm}
 use Rattle.tg_translate.specs.declared.wants.Want.{Want}
 use Rattle.tg_translate.specs.declared.wants.Want.TheVariants as want
 use Rattle.tg_translate.specs.States.{State, Drawn, after, give, fresh}
 use Rattle.tg_translate.specs.Wants.{Made, value, done, test, truth_into, value_of, put_in, dropped, test_of, arms, as_statement, taken_from, deliver, followed, value_behind, done_behind, behind_some, behind}
 use Rattle.tg_shapes.proofs.Fine.{join_fine_stms}
-use Rattle.tg_shapes.proofs.Keeping as keeping
-use Rattle.tg_shapes.proofs.Keeping.{Where}
+use Rattle.tg_shapes.proofs.Keeping.{Asks, Where, bind, cond_on, draws_temp, given, stms_on, want_on, Ready, Yields, GoodTx, GoodTs, GoodStms, GoodCond, GoodMade, GoodWant, KnowsAt}
 
-module _ (B T : Type 0) (escapes : ℕ → Bool) where
-  abbrev Ready : Where → State → Type 0
-  Ready = keeping.Ready B T escapes
-
-  abbrev Yields : {A : Type 0} → Where → State → (State → A → Type 0) → Drawn A → Type 0
-  Yields = keeping.Yields B T escapes
-
-  abbrev GoodTx : ℕ → State → Tx → Type 0
-  GoodTx = keeping.GoodTx B T escapes
-
-  abbrev GoodTs : ℕ → State → Ts → Type 0
-  GoodTs = keeping.GoodTs B T escapes
-
-  abbrev GoodStms : ℕ → State → Stms → Type 0
-  GoodStms = keeping.GoodStms B T escapes
-
-  abbrev GoodCond : ℕ → State → Cond → Type 0
-  GoodCond = keeping.GoodCond B T escapes
-
-  abbrev GoodMade : ℕ → State → Made → Type 0
-  GoodMade = keeping.GoodMade B T escapes
-
-  abbrev GoodWant : State → Want → Type 0
-  GoodWant = keeping.GoodWant B T escapes
-
-  truth_good : (n : ℕ) (s : State) (i : ℕ) (d : Cond) → (T → i < s.frame.temps) → GoodCond n s d → GoodTs n s
+module _ (asks : Asks) where
+  truth_good : (n : ℕ) (s : State) (i : ℕ) (d : Cond) → (asks.temps → i < s.frame.temps) → GoodCond asks n s d → GoodTs asks n s
       (truth_into i d)
   truth_good n s i d h k = (k, (h, tt), (h, tt))
 
-  pub put_good : (n : ℕ) (s : State) (i : ℕ) (m : Made) → (T → i < s.frame.temps) → GoodMade n s m → GoodTs n s
+  pub put_good : (n : ℕ) (s : State) (i : ℕ) (m : Made) → (asks.temps → i < s.frame.temps) → GoodMade asks n s m → GoodTs asks n s
       (put_in i m)
   put_good n s i (value x) h k = (h, k)
   put_good n s i (done x) h k = k
   put_good n s i (test d) h k = truth_good n s i d h k
 
-  pub dropped_good : (n : ℕ) (s : State) (m : Made) → GoodMade n s m → GoodTs n s (dropped m)
+  pub dropped_good : (n : ℕ) (s : State) (m : Made) → GoodMade asks n s m → GoodTs asks n s (dropped m)
   dropped_good n s (value x) k = k
   dropped_good n s (done x) k = k
   dropped_good n s (test d) k = (k, tt, tt)
 
-  pub test_good : (n : ℕ) (s : State) (m : Made) → GoodMade n s m → GoodCond n s (test_of m)
+  pub test_good : (n : ℕ) (s : State) (m : Made) → GoodMade asks n s m → GoodCond asks n s (test_of m)
   test_good n s (value x) k = (k, tt)
   test_good n s (done x) k = ((k, tt), tt)
   test_good n s (test d) k = k
 
-  pub statement_good : (n : ℕ) (s : State) (w : Want) (m : Made) → GoodWant s w → GoodMade n s m → GoodTs n s
+  pub statement_good : (n : ℕ) (s : State) (w : Want) (m : Made) → GoodWant asks s w → GoodMade asks n s m → GoodTs asks n s
       (as_statement w m)
   statement_good n s want.Value m h k = dropped_good n s m k
   statement_good n s (want.Into i) m h k = put_good n s i.0 m h k
   statement_good n s want.Dropped m h k = dropped_good n s m k
   statement_good n s want.Test m h k = dropped_good n s m k
 
-  taken_good : (n : ℕ) (s : State) (a : Want) (x : Ts) → GoodWant s a → GoodTs n s x → GoodMade n s (taken_from a x)
+  taken_good : (n : ℕ) (s : State) (a : Want) (x : Ts) → GoodWant asks s a → GoodTs asks n s x → GoodMade asks n s (taken_from a x)
   taken_good n s want.Value x h k = k
   taken_good n s (want.Into i) x h k = (k, h)
   taken_good n s want.Dropped x h k = k
   taken_good n s want.Test x h k = k
 
-  pub deliver_good : (n : ℕ) (s : State) (w a : Want) (x : Ts) → GoodWant s a → GoodTs n s x → GoodMade n s
+  pub deliver_good : (n : ℕ) (s : State) (w a : Want) (x : Ts) → GoodWant asks s a → GoodTs asks n s x → GoodMade asks n s
       (deliver w a x)
   deliver_good n s want.Value a x h k = taken_good n s a x h k
   deliver_good n s (want.Into i) a x h k = k
   deliver_good n s want.Dropped a x h k = k
   deliver_good n s want.Test a x h k = taken_good n s a x h k
 
-  pub followed_good : (n : ℕ) (s : State) (ss : Stms) (x : Ts) → GoodStms n s ss → GoodTs n s x → GoodStms n s
+  pub followed_good : (n : ℕ) (s : State) (ss : Stms) (x : Ts) → GoodStms asks n s ss → GoodTs asks n s x → GoodStms asks n s
       (followed ss x)
-  followed_good n s ss x h k = join_fine_stms B (keeping.KnowsAt B T escapes s) n ss (stm x no_stms) h (k, tt)
+  followed_good n s ss x h k = join_fine_stms asks.breaks (KnowsAt asks s) n ss (stm x no_stms) h (k, tt)
 
-  module _ (c : Where) where
-    pub value_yields : (s : State) (m : Made) → Ready c s → GoodMade c.loops s m → Yields c s
-        (λ t x. GoodTx c.loops t x) (value_of m s)
-    value_yields s (value x) r k = keeping.given B T escapes c s (λ t x. GoodTx c.loops t x) x r k
-    value_yields s (done x) r k = keeping.given B T escapes c s (λ t x. GoodTx c.loops t x) (After x (Const 0)) r
-        (k, tt)
-    value_yields s (test d) r k =
-        keeping.bind B T escapes c s (λ t i. T → i < t.frame.temps) (λ t x. GoodTx c.loops t x) (fresh s)
-        (λ i. give (After (truth_into i d) (Temp i))) (keeping.draws_temp B T escapes c s r)
-        (λ i t st r' h. keeping.given B T escapes c t (λ u x. GoodTx c.loops u x) (After (truth_into i d) (Temp i)) r'
-        (truth_good c.loops t i d h (keeping.cond_on B T escapes c.kept s t st c.loops d k), h))
+-- What actions yield.
+module _ {asks : Asks} {c : Where} where
+  pub value_yields : {s : State} (m : Made) → Ready asks c s → GoodMade asks c.loops s m → Yields asks c s
+      (λ t x. GoodTx asks c.loops t x) (value_of m s)
+  value_yields (value x) r k = given x r k
+  value_yields (done x) r k = given (After x (Const 0)) r
+      (k, tt)
+  value_yields (test d) r k =
+      bind (draws_temp r)
+      (λ i t st r' h. given (After (truth_into i d) (Temp i)) r'
+      (truth_good asks c.loops t i d h (cond_on st c.loops d k), h))
 
-    fresh_arms : (s : State) → Ready c s → Yields c s GoodWant
-        (after (fresh s) (λ i. give (want.Into (record { 0 = i }))))
-    fresh_arms s r =
-        keeping.bind B T escapes c s (λ t i. T → i < t.frame.temps) GoodWant (fresh s)
-        (λ i. give (want.Into (record { 0 = i })))
-        (keeping.draws_temp B T escapes c s r)
-        (λ i t st r' h. keeping.given B T escapes c t GoodWant (want.Into (record { 0 = i })) r' h)
+  fresh_arms : {s : State} → Ready asks c s → Yields asks c s (GoodWant asks)
+      (after (fresh s) (λ i. give (want.Into (record { 0 = i }))))
+  fresh_arms r =
+      bind (draws_temp r)
+      (λ i t st r' h. given (want.Into (record { 0 = i })) r' h)
 
-    pub arms_yield : (s : State) (w : Want) → Ready c s → GoodWant s w → Yields c s GoodWant (arms w s)
-    arms_yield s want.Value r h = fresh_arms s r
-    arms_yield s (want.Into i) r h = keeping.given B T escapes c s GoodWant (want.Into i) r h
-    arms_yield s want.Dropped r h = keeping.given B T escapes c s GoodWant want.Dropped r tt
-    arms_yield s want.Test r h = fresh_arms s r
+  pub arms_yield : {s : State} (w : Want) → Ready asks c s → GoodWant asks s w → Yields asks c s (GoodWant asks) (arms w s)
+  arms_yield want.Value r h = fresh_arms r
+  arms_yield (want.Into i) r h = given (want.Into i) r h
+  arms_yield want.Dropped r h = given want.Dropped r tt
+  arms_yield want.Test r h = fresh_arms r
 
-    value_behind_yields : (s : State) (ss : Stms) (m : Made) → Ready c s → GoodStms c.loops s ss → GoodMade c.loops s
-        m →
-        Yields c s (λ t m. GoodMade c.loops t m) (after (value_of m s) (λ x. give (value_behind ss x)))
-    value_behind_yields s ss m r h k =
-        keeping.bind B T escapes c s (λ t x. GoodTx c.loops t x) (λ t m. GoodMade c.loops t m) (value_of m s)
-        (λ x. give (value_behind ss x)) (value_yields s m r k)
-        (λ x t st r' g. keeping.given B T escapes c t (λ u m. GoodMade c.loops u m) (value_behind ss x) r'
-        (keeping.stms_on B T escapes c.kept s t st c.loops ss h, g))
+  value_behind_yields : {s : State} (ss : Stms) (m : Made) → Ready asks c s → GoodStms asks c.loops s ss → GoodMade asks c.loops s
+      m →
+      Yields asks c s (λ t m. GoodMade asks c.loops t m) (after (value_of m s) (λ x. give (value_behind ss x)))
+  value_behind_yields ss m r h k =
+      bind (value_yields m r k)
+      (λ x t st r' g. given (value_behind ss x) r'
+      (stms_on st c.loops ss h, g))
 
-    behind_some_yields : (s : State) (w : Want) (ss : Stms) (m : Made) → Ready c s → GoodWant s w → GoodStms c.loops s
-        ss → GoodMade c.loops s m →
-        Yields c s (λ t m. GoodMade c.loops t m) (behind_some w ss m s)
-    behind_some_yields s want.Value ss m r g h k = value_behind_yields s ss m r h k
-    behind_some_yields s (want.Into i) ss m r g h k =
-        keeping.given B T escapes c s (λ t m. GoodMade c.loops t m) (done_behind (want.Into i) ss m) r
-        (followed_good c.loops s ss (put_in i.0 m) h (put_good c.loops s i.0 m g k))
-    behind_some_yields s want.Dropped ss m r g h k =
-        keeping.given B T escapes c s (λ t m. GoodMade c.loops t m) (done_behind want.Dropped ss m) r
-        (followed_good c.loops s ss (dropped m) h (dropped_good c.loops s m k))
-    behind_some_yields s want.Test ss m r g h k = value_behind_yields s ss m r h k
+  behind_some_yields : {s : State} (w : Want) (ss : Stms) (m : Made) → Ready asks c s → GoodWant asks s w → GoodStms asks c.loops s
+      ss → GoodMade asks c.loops s m →
+      Yields asks c s (λ t m. GoodMade asks c.loops t m) (behind_some w ss m s)
+  behind_some_yields want.Value ss m r g h k = value_behind_yields ss m r h k
+  behind_some_yields {s} (want.Into i) ss m r g h k =
+      given (done_behind (want.Into i) ss m) r
+      (followed_good asks c.loops s ss (put_in i.0 m) h (put_good asks c.loops s i.0 m g k))
+  behind_some_yields {s} want.Dropped ss m r g h k =
+      given (done_behind want.Dropped ss m) r
+      (followed_good asks c.loops s ss (dropped m) h (dropped_good asks c.loops s m k))
+  behind_some_yields want.Test ss m r g h k = value_behind_yields ss m r h k
 
-    pub behind_yields : (s : State) (w : Want) (ss : Stms) (m : Made) → Ready c s → GoodWant s w → GoodStms c.loops s
-        ss → GoodMade c.loops s m →
-        Yields c s (λ t m. GoodMade c.loops t m) (behind w ss m s)
-    behind_yields s w no_stms m r g h k = keeping.given B T escapes c s (λ t m. GoodMade c.loops t m) m r k
-    behind_yields s w (stm x ss) m r g h k = behind_some_yields s w (stm x ss) m r g h k
+  pub behind_yields : {s : State} (w : Want) (ss : Stms) (m : Made) → Ready asks c s → GoodWant asks s w → GoodStms asks c.loops s
+      ss → GoodMade asks c.loops s m →
+      Yields asks c s (λ t m. GoodMade asks c.loops t m) (behind w ss m s)
+  behind_yields w no_stms m r g h k = given m r k
+  behind_yields w (stm x ss) m r g h k = behind_some_yields w (stm x ss) m r g h k
 
-    -- what an expression's place makes of what it became
-    module _ (s : State) (d : Drawn Made) (h : Yields c s (λ t m. GoodMade c.loops t m) d) where
-      pub value_from_yields : Yields c s (λ t x. GoodTx c.loops t x) (after d value_of)
-      value_from_yields =
-          keeping.bind B T escapes c s (λ t m. GoodMade c.loops t m) (λ t x. GoodTx c.loops t x) d value_of h
-          (λ m t st r k. value_yields t m r k)
+  -- what an expression's place makes of what it became
+  module _ {s : State} {d : Drawn Made} (h : Yields asks c s (λ t m. GoodMade asks c.loops t m) d) where
+    pub value_from_yields : Yields asks c s (λ t x. GoodTx asks c.loops t x) (after d value_of)
+    value_from_yields =
+        bind h
+        (λ m t st r k. value_yields m r k)
 
-      pub condition_from_yields : Yields c s (λ t x. GoodCond c.loops t x) (after d (λ m. give (test_of m)))
-      condition_from_yields =
-          keeping.bind B T escapes c s (λ t m. GoodMade c.loops t m) (λ t x. GoodCond c.loops t x) d
-          (λ m. give (test_of m)) h
-          (λ m t st r k. keeping.given B T escapes c t (λ u x. GoodCond c.loops u x) (test_of m) r
-          (test_good c.loops t m k))
+    pub condition_from_yields : Yields asks c s (λ t x. GoodCond asks c.loops t x) (after d (λ m. give (test_of m)))
+    condition_from_yields =
+        bind h
+        (λ m t st r k. given (test_of m) r
+        (test_good asks c.loops t m k))
 
-      pub statement_from_yields : Yields c s (λ t x. GoodTs c.loops t x) (after d (λ m. give (dropped m)))
-      statement_from_yields =
-          keeping.bind B T escapes c s (λ t m. GoodMade c.loops t m) (λ t x. GoodTs c.loops t x) d
-          (λ m. give (dropped m)) h
-          (λ m t st r k. keeping.given B T escapes c t (λ u x. GoodTs c.loops u x) (dropped m) r
-          (dropped_good c.loops t m k))
+    pub statement_from_yields : Yields asks c s (λ t x. GoodTs asks c.loops t x) (after d (λ m. give (dropped m)))
+    statement_from_yields =
+        bind h
+        (λ m t st r k. given (dropped m) r
+        (dropped_good asks c.loops t m k))
 
-      pub arm_from_yields : (w : Want) → GoodWant s w → Yields c s (λ t x. GoodTs c.loops t x)
-          (after d (λ m. give (as_statement w m)))
-      arm_from_yields w g =
-          keeping.bind B T escapes c s (λ t m. GoodMade c.loops t m) (λ t x. GoodTs c.loops t x) d
-          (λ m. give (as_statement w m)) h
-          (λ m t st r k. keeping.given B T escapes c t (λ u x. GoodTs c.loops u x) (as_statement w m) r
-          (statement_good c.loops t w m (keeping.want_on B T escapes c.kept s t st w g) k))
+    pub arm_from_yields : (w : Want) → GoodWant asks s w → Yields asks c s (λ t x. GoodTs asks c.loops t x)
+        (after d (λ m. give (as_statement w m)))
+    arm_from_yields w g =
+        bind h
+        (λ m t st r k. given (as_statement w m) r
+        (statement_good asks c.loops t w m (want_on st w g) k))

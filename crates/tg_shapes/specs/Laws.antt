@@ -1,11 +1,11 @@
 -- Laws of the trees that programs are translated to.
-use Rattle.std.specs.Prelude.{◌≡◌, ◌≤◌, ◌+◌, ◌*◌, ℕ, List, [], ◌++◌, length, map, false}
-use Rattle.std.specs.List.{Contains, sum_by}
+use Rattle.std.specs.Prelude.{◌≡◌, ◌≤◌, ◌+◌, ◌*◌, ℕ, suc, List, [], ◌++◌, length, map, false}
+use Rattle.std.specs.List.{AllZip, Contains, sum_by}
 use Rattle.std.specs.Ordering.{nat_cmp}
 use Rattle.std.specs.FinSet.{FinSet, from_list}
 use Rattle.tg_syntax.specs.Tree.{Exp}
 use Rattle.tg_syntax.specs.Plain.{plain}
-use Rattle.tg_syntax.specs.Measures.{size, inner}
+use Rattle.tg_syntax.specs.Functions.{Measures, program_functions}
 use Rattle.tg_escape.specs.Escaping.{escapes_of}
 use Rattle.tg_types.specs.Programs.{CheckedProgram, IsAccepted}
 use Rattle.tg_tree.specs.Tree.{Ts, Function, Code}
@@ -24,7 +24,8 @@ use Rattle.tg_translate.specs.Scopes.{Findings, found}
 use Rattle.tg_translate.specs.Translate.{translated}
 use Rattle.tg_shapes.specs.Standing.{BreaksStand, Reaches}
 use Rattle.tg_shapes.specs.Strings.{strings}
-use Rattle.tg_shapes.specs.Escaped.{escaping}
+use Rattle.tg_shapes.specs.Accesses.{AccessesWithin}
+use Rattle.tg_shapes.specs.Escaped.{program_escaping}
 
 -- what a body names
 abbrev pub names : Ts → List Named
@@ -97,23 +98,34 @@ LiteralsAreShort =
     sum_by (λ l. length l.text) (translated findings e).literals ≡
     sum_by (λ bytes. 4 + length bytes) (strings e)
 
--- The slots of a frame are at most the variables of the text that escape, and one more, for the
--- static link.
+-- Function by function, the program's body first and then those that it declares, in the order of
+-- the text. The slots of a function's frame are at most its variables that escape, and one more,
+-- for the static link.
 abbrev pub SlotsAreFew : Type 0
 SlotsAreFew =
-    (findings : Findings) (e : Exp) (f : Function Ts) →
-    Contains (translated findings e).functions f → f.slots ≤ escaping findings.escapes e + 1
+    (findings : Findings) (e : Exp) →
+    AllZip (λ n f. f.slots ≤ n + 1) (program_escaping findings.escapes e)
+    (translated findings e).functions
 
--- And a frame has at most six temporaries for each node of the program, and one more.
-abbrev pub TemporariesAreFew : Type 0
-TemporariesAreFew =
-    (findings : Findings) (e : Exp) (f : Function Ts) →
-    Contains (translated findings e).functions f → f.temps ≤ 6 * (size e + inner e) + 1
+-- What the frame of a function has, and how far its body goes, by the nodes and the level of the
+-- text: at most six temporaries a node, and one more; and for a variable or a callee of a function
+-- further out at most one static link a level, so at most as many accesses of memory stand one
+-- within another, and one more, for the variable itself.
+pub record IsWithin (m : Measures) (f : Function Ts) : Type 0 where
+  pub slots : f.slots ≤ m.nodes + 1
+  pub temps : f.temps ≤ 6 * m.nodes + 1
+  pub accesses : AccessesWithin (suc m.level) f.body
 
--- An accepted program has 32,768 nodes at most.
+abbrev pub FunctionsAreWithin : Type 0
+FunctionsAreWithin =
+    (findings : Findings) (e : Exp) →
+    AllZip IsWithin (program_functions e) (translated findings e).functions
+
+-- An accepted program has 32,768 nodes and 32 levels at most.
 pub record IsSmall (f : Function Ts) : Type 0 where
   pub slots : f.slots ≤ 32769
   pub temps : f.temps ≤ 196609
+  pub accesses : AccessesWithin 33 f.body
 
 abbrev pub CheckedFramesAreSmall : Type 0
 CheckedFramesAreSmall =

@@ -1,4 +1,5 @@
 pub mod Standing
 pub mod Strings
 pub mod Escaped
+pub mod Accesses
 pub mod Laws

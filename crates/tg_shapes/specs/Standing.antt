@@ -1,46 +1,13 @@
 -- What a program's text has, of which the shapes of its trees come: each break stands in a loop of
 -- its function, and each variable that a text uses is one of its function or escapes.
-use Rattle.std.specs.Prelude.{◌≡◌, ◌⊎◌, ℕ, Bool, true, false, IsTrue, List, [], ◌∷◌, ◌++◌, map, Option, Some}
+use Rattle.std.specs.Prelude.{◌≡◌, ◌⊎◌, ℕ, Bool, true, false, IsTrue, List, [], ◌∷◌, ◌++◌, map}
+use Rattle.std.specs.Prelude.{Option, Some}
 use Rattle.std.specs.List.{Contains}
 use Rattle.tg_syntax.specs.declared.trees.Param.{Param}
-use Rattle.tg_syntax.specs.Tree.{
-  Exp,
-  Nil,
-  Break,
-  Int,
-  Text,
-  Read,
-  Call,
-  Neg,
-  Binary,
-  Make,
-  Fill,
-  Assign,
-  If,
-  When,
-  While,
-  For,
-  Let,
-  Seq,
-  Place,
-  Simple,
-  Field,
-  Index,
-  Exps,
-  no_exps,
-  exp,
-  Inits,
-  no_inits,
-  init,
-  Decs,
-  no_decs,
-  types,
-  variable,
-  functions,
-  FunDecs,
-  no_functions,
-  function,
-}
+use Rattle.tg_syntax.specs.Tree.{Exp, Nil, Break, Int, Text, Read, Call, Neg, Binary, Make, Fill}
+use Rattle.tg_syntax.specs.Tree.{Assign, If, When, While, For, Let, Seq, Place, Simple, Field}
+use Rattle.tg_syntax.specs.Tree.{Index, Exps, no_exps, exp, Inits, no_inits, init, Decs, no_decs}
+use Rattle.tg_syntax.specs.Tree.{types, variable, functions, FunDecs, no_functions, function}
 use Rattle.tg_types.specs.declared.notes.Means.{Means}
 use Rattle.tg_types.specs.declared.notes.Means.TheVariants as means
 use Rattle.tg_translate.specs.Scopes.{Findings}

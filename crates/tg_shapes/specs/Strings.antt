@@ -1,43 +1,9 @@
 -- The strings of a program's text, in the order of the text.
 use Rattle.std.specs.Prelude.{ℕ, List, [], ◌∷◌, ◌++◌}
-use Rattle.tg_syntax.specs.Tree.{
-  Exp,
-  Nil,
-  Break,
-  Int,
-  Text,
-  Read,
-  Call,
-  Neg,
-  Binary,
-  Make,
-  Fill,
-  Assign,
-  If,
-  When,
-  While,
-  For,
-  Let,
-  Seq,
-  Place,
-  Simple,
-  Field,
-  Index,
-  Exps,
-  no_exps,
-  exp,
-  Inits,
-  no_inits,
-  init,
-  Decs,
-  no_decs,
-  types,
-  variable,
-  functions,
-  FunDecs,
-  no_functions,
-  function,
-}
+use Rattle.tg_syntax.specs.Tree.{Exp, Nil, Break, Int, Text, Read, Call, Neg, Binary, Make, Fill}
+use Rattle.tg_syntax.specs.Tree.{Assign, If, When, While, For, Let, Seq, Place, Simple, Field}
+use Rattle.tg_syntax.specs.Tree.{Index, Exps, no_exps, exp, Inits, no_inits, init, Decs, no_decs}
+use Rattle.tg_syntax.specs.Tree.{types, variable, functions, FunDecs, no_functions, function}
 
 abbrev mutual
   pub strings : Exp → List (List ℕ)

@@ -4,13 +4,13 @@ ghost use Rattle.tg_shapes.specs.Laws.{
   CheckedFramesAreSmall,
   CheckedReaches,
   CheckedTemporariesAreDrawn,
+  FunctionsAreWithin,
   LabelsAreAbove,
   LiteralsAreShort,
   LiteralsAreStrings,
   ProgramsAreLinked,
   SlotsAreFew,
   TemporariesAreDrawn,
-  TemporariesAreFew,
 };
 
 use tg_runtime::routines_are_closed;
@@ -55,12 +55,15 @@ pub fn literals_are_strings()
     ensures short { LiteralsAreShort }
 {}
 
-/// Laws of frames: each has at most one slot for each variable of the text that escapes, and one
-/// more for its static link; at most six temporaries for each node of the program, and one more.
-/// So in a program that the checker accepts it has at most 32,769 slots and 196,609 temporaries.
+/// Laws of frames, function by function in the order of the text: each has at most one slot for
+/// each variable of its function that escapes, and one more for its static link; at most six
+/// temporaries for each node of its function, and one more; and its body follows at most one static
+/// link for each level on the way to a variable or a callee. So in a program that the checker
+/// accepts it has at most 32,769 slots and 196,609 temporaries, and at most 33 accesses of memory
+/// one within another.
 pub fn frames_are_small()
     ensures slots { SlotsAreFew }
-    ensures temps { TemporariesAreFew }
+    ensures within { FunctionsAreWithin }
     ensures checked { CheckedFramesAreSmall }
 {
     checked_has_type();

@@ -1,0 +1,8 @@
+-- What an action of the translation leaves: an answer and a state.
+use Rattle.tg_translate.specs.States.{State, Drawn, drawn}
+
+abbrev pub answer : {A : Type 0} → Drawn A → A
+answer (drawn a s) = a
+
+abbrev pub left : {A : Type 0} → Drawn A → State
+left (drawn a s) = s
