@@ -1,4 +1,5 @@
 mod CanonExamples
+pub mod RunExamples
 pub mod Always
 pub mod Canonicals
 pub mod Closings
