@@ -58,6 +58,9 @@ hold_before_grows : (b : Bool) (p : Part) (a : Lifted) → Grows (hold_before b 
 hold_before_grows true p a = stays_at a
 hold_before_grows false p a = made (hold_for p a.rest) (behind a.front) (hold_for_grows p a.rest)
 
+pub in_front_grows : (p : Part) (a : Lifted) → Grows (in_front_of p a)
+in_front_grows p a = hold_before_grows (is_nothing p.statement) p a
+
 pub side_by_side_grows : (a b : Lifted) → Grows (side_by_side a b)
 side_by_side_grows a b =
     made (in_front_of b.front a) (λ h. record { front = h.front before b.front; left = h.rest; right = b.rest }) (hold_before_grows (is_nothing b.front.statement) b.front a)

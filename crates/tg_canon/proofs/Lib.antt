@@ -1,5 +1,15 @@
 mod CanonExamples
 pub mod RunExamples
+pub mod Paying
+pub mod Fixed
+pub mod Steady
+pub mod Splits
+pub mod Helds
+pub mod Words
+pub mod Dones
+pub mod Tests
+pub mod Carried
+pub mod Bodies
 pub mod Always
 pub mod Canonicals
 pub mod Closings
