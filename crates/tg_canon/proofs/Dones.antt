@@ -124,7 +124,7 @@ module _ (z : Scene) (out : ℕ → ℕ) where
       (λ J r act o o' b b' next next' kept outs backs nexts v w w1 t t' near. backs v w1)
 
   -- Two words are stored.
-  module _ (x y : Tx) (from : ℕ) (h b : Lifted) (to u v : ℕ) (pairs : PairIs z out x (tree_value z y) (mixed_value z b.rest) b.front u v from h to) (flat : IsFlat b.rest) where
+  module _ (x y : Tx) (from middle : ℕ) (h b : Lifted) (to u v : ℕ) (pairs : PairIs z out x (tree_value z y) (mixed_value z b.rest) b.front u v from middle h to) (flat : IsFlat b.rest) where
     abbrev both_then : Acts (Go (ℕ × ℕ))
     both_then e go w t = charged v (then_value z h.rest e (λ p w1 t1. then_value z b.rest e (λ q w2 t2. go (p, q) w2 t2) w1 t1) w t)
 
@@ -139,7 +139,7 @@ module _ (z : Scene) (out : ℕ → ℕ) where
     stored J r next next' w1 t t' nexts None = simulates_stopping 1 r z.fuel w1.input Wrong
     stored J r next next' w1 t t' nexts (Some m) = nexts (record w1 { memory = m })
 
-    stores_done : (put : Memory → ℕ → ℕ → Option Memory) (last : Ts) → is_nothing last ≡ false →
+    pub stores_done : (put : Memory → ℕ → ℕ → Option Memory) (last : Ts) → is_nothing last ≡ false →
         ((e : Around) (next : Next) (w : World) (t : Temps) → then_does z last e next w t ≡ both_then e (λ q w1 t1. with_memory (put w1.memory q.0 q.1) w1 (λ w2. next w2 t1)) w t) →
         IsDone z out (λ e next w t. both_before z u x (tree_value z y) e (λ q w1 t1. with_memory (put w1.memory q.0 q.1) w1 (λ w2. next w2 t1)) w t) (h.front before b.front before still last) from to
     stores_done put last some is =

@@ -1,6 +1,6 @@
 -- Right sides behind the pass, and words that are held or stay.
 use Rattle.std.proofs.Common.{◌≡◌, ◌⊎◌, ⊎_elim, inl, inr, ℕ, zero, suc, ◌+◌, ◌-◌, ◌<◌, ◌≤◌, min, max, Bool, true, false, not, ◌&&◌, nat_le, List, refl, sym, ap, ◌∙◌, subst, arith}
-use Rattle.std.proofs.lemmas.Bool.{le-leb}
+use Rattle.std.proofs.lemmas.Bool.{le-leb, lt-leb}
 use Rattle.std.proofs.lemmas.Bool.Decides.{leb_tells}
 use Rattle.tg_runs.specs.Runs.{Run}
 use Rattle.tg_runs.specs.Ran.{Ran, Stop, Wrong}
@@ -9,6 +9,7 @@ use Rattle.tg_tree.specs.declared.operators.Bin.{Bin}
 use Rattle.tg_tree.specs.Tree.{Tx, Const, Address, Temp, FrameAddress, Binary, Load, LoadByte, Call, Service, After, Move}
 use Rattle.tg_tree.specs.Operators.{operate}
 use Rattle.tg_tree.specs.Units.{Canonical, expression_units}
+use Rattle.tg_tree.specs.Sizes.{expression_length, expression_room, in_canonical}
 use Rattle.tg_tree.specs.Shapes.{IsFlat, IsFlatSide}
 use Rattle.tg_tree.specs.Actions.{World, Temps, set_temp, Activation, Around, Acts, Go, Next, Out, Back, over, wrong, charged, with_word, with_given, service}
 use Rattle.tg_tree.specs.Meaning.{Point}
@@ -17,6 +18,7 @@ use Rattle.tg_tree.proofs.Relating as relating
 use Rattle.tg_tree.proofs.Going.{IsOne, one, OneWorld, OneTemps, KeepsRuns, keeps_one}
 use Rattle.tg_canon.specs.Drawing.{Drawn, give}
 use Rattle.tg_canon.specs.Canon.{Part, still, nothing, Lifted, whole, hold, is_constant, is_sum, stays, hold_unless, hold_but_offset, hold_for}
+use Rattle.tg_canon.proofs.Sizing.{size, takes, holdable, holdable_most, own_holdable}
 use Rattle.tg_canon.proofs.Paying.{Sim, trade, pays, worked, unpaid, untraded, credit, along, free}
 use Rattle.tg_canon.proofs.Fixed.{Scene, around, mixed_value, mixed_values, then_value, then_values, then_does, IsFixed, gives, stops, fixed_value, fixed_values}
 use Rattle.tg_canon.proofs.Steady.{Occurs, IsSteady}
@@ -91,6 +93,12 @@ not_assigned least greatest i e le = ⊎_elim (λ h. absurd (by h.0)) (λ h. h.1
     by : nat_le i greatest ≡ true → ⊥
     by h = let k : not (nat_le least i && nat_le i greatest) ≡ false = rw (le-leb least i le, h) refl in let l : false ≡ true = sym k ∙ e in cc
 
+unassigned : (least greatest i : ℕ) → (least ≤ i → greatest < i) → not (nat_le least i && nat_le i greatest) ≡ true
+unassigned least greatest i h = ⊎_elim (λ e. rw (e.0, lt-leb i greatest (h e.1)) refl) (λ e. rw e.0 refl) (leb_tells least i)
+
+below_or : (own i : ℕ) → ((nat_le own i ≡ false) × (i < own)) ⊎ ((nat_le own i ≡ true) × (own ≤ i))
+below_or own i = ⊎_elim (λ e. inr e) (λ e. inl e) (leb_tells own i)
+
 stays_apart : (p : Part) (x : Tx) → stays p x ≡ true → (i : ℕ) → Occurs i x → p.least ≤ i → p.greatest < i
 stays_apart p (Const _) e i o le = absurd o
 stays_apart p (Address _) e i o le = absurd o
@@ -102,6 +110,25 @@ stays_apart p (LoadByte _) e i o le = cc
 stays_apart p (Call _ _) e i o le = cc
 stays_apart p (Service _ _) e i o le = cc
 stays_apart p (After _ _) e i o le = cc
+
+-- what doesn't stay is no temporary that is drawn
+held_once : (own : ℕ) (p : Part) → IsOwned own p.least p.greatest → (x : Tx) → stays p x ≡ false → holdable own x ≡ 1
+held_once own p h (Const _) e = refl
+held_once own p h (Address _) e = refl
+held_once own p h (Temp i) e = ⊎_elim (λ f. own_holdable own i f.1) (λ f. absurd (by f.1)) (below_or own i)
+  where
+    by : own ≤ i → ⊥
+    by le =
+        let apart : p.least ≤ i → p.greatest < i = λ lo. apart_from own p.least p.greatest i h.strict h.zero le lo in
+        let g : stays p (Temp i) ≡ true = unassigned p.least p.greatest i apart in
+        let f : false ≡ true = sym e ∙ g in cc
+held_once own p h FrameAddress e = refl
+held_once own p h (Binary _ _ _) e = refl
+held_once own p h (Load _) e = refl
+held_once own p h (LoadByte _) e = refl
+held_once own p h (Call _ _) e = refl
+held_once own p h (Service _ _) e = refl
+held_once own p h (After _ _) e = refl
 
 module _ (z : Scene) where
   -- runs from one world, of which the second does what the first does
@@ -191,19 +218,23 @@ module _ (z : Scene) where
     pub apart : (i : ℕ) → Occurs i h.rest → p.least ≤ i → p.greatest < i
     pub reads : (i : ℕ) → Occurs i h.rest → IsIn z.own low to i
     pub owned : IsOwned z.own h.front.least h.front.greatest
+    pub length : size h.front.statement + expression_length Canonical h.rest ≤ expression_length Canonical x + 2
+    pub room : takes h.front.statement + expression_room in_canonical h.rest + to ≤ expression_room in_canonical x + holdable z.own x + from
     pub grows : from ≤ to
 
   module _ (p : Part) (owned : IsOwned z.own p.least p.greatest) (low from : ℕ) (above : z.own ≤ low) (later : low ≤ from) where
     abbrev Held : Tx → Drawn Lifted → Type 1
     Held x d = IsHeld p x low from d.it d.next
 
-    hold_held : (x : Tx) → IsFlatSide x → Held x (hold x from)
-    hold_held x f = record {
+    hold_held : (x : Tx) → IsFlatSide x → holdable z.own x ≡ 1 → Held x (hold x from)
+    hold_held x f once = record {
       runs = λ J r a o o' b b' go next kept hyp. move_runs x from f (omega arith) J r a o o' b b' go next kept hyp;
       steady = tt;
       apart = λ i e le. apart_from z.own p.least p.greatest i owned.strict owned.zero (omega (arith, e)) le;
       reads = λ i e. record { low = λ lo. omega (arith, e); high = λ lo. omega (arith, e) };
       owned = owned_none z.own;
+      length = omega arith;
+      room = let e = once in omega arith;
       grows = omega arith;
     }
 
@@ -215,15 +246,17 @@ module _ (z : Scene) where
       apart = apart;
       reads = reads;
       owned = owned_none z.own;
+      length = omega arith;
+      room = omega arith;
       grows = omega arith;
     }
 
-    unless_held : (b : Bool) (x : Tx) → IsFlat x → (b ≡ true → IsSteady x) → (b ≡ true → (i : ℕ) → Occurs i x → p.least ≤ i → p.greatest < i) → ((i : ℕ) → Occurs i x → IsIn z.own low from i) → Held x (hold_unless b x from)
-    unless_held true x f steady apart reads = whole_held x (steady refl) (apart refl) reads
-    unless_held false x f steady apart reads = hold_held x (flat_side x f)
+    unless_held : (b : Bool) (x : Tx) → IsFlat x → (b ≡ true → IsSteady x) → (b ≡ true → (i : ℕ) → Occurs i x → p.least ≤ i → p.greatest < i) → (b ≡ false → holdable z.own x ≡ 1) → ((i : ℕ) → Occurs i x → IsIn z.own low from i) → Held x (hold_unless b x from)
+    unless_held true x f steady apart once reads = whole_held x (steady refl) (apart refl) reads
+    unless_held false x f steady apart once reads = hold_held x (flat_side x f) (once refl)
 
     stays_held : (x : Tx) → IsFlat x → ((i : ℕ) → Occurs i x → IsIn z.own low from i) → Held x (hold_unless (stays p x) x from)
-    stays_held x f reads = unless_held (stays p x) x f (stays_steady p x) (stays_apart p x) reads
+    stays_held x f reads = unless_held (stays p x) x f (stays_steady p x) (stays_apart p x) (held_once z.own p owned x) reads
 
     -- a sum with an offset, of which the left side is held
     offset_held : (op : Bin) (x y : Tx) → is_sum op ≡ true → is_constant y ≡ true → (d : Drawn Lifted) → Held x d →
@@ -238,6 +271,8 @@ module _ (z : Scene) where
       apart = λ i o le. ⊎_elim (λ a. h.apart i a le) (λ a. absurd a) o;
       reads = λ i o. ⊎_elim (λ a. h.reads i a) (λ a. absurd a) o;
       owned = h.owned;
+      length = let l = h.length in omega arith;
+      room = let l = h.room in let m = holdable_most z.own x in omega arith;
       grows = h.grows;
     }
     offset_held op x (Address _) e q d h = cc
@@ -254,7 +289,7 @@ module _ (z : Scene) where
     but_offset_held true op x y e f g reads =
         let q = both_true (is_sum op) (is_constant y) e in
         offset_held op x y q.0 q.1 (hold_unless (stays p x) x from) (stays_held x f reads)
-    but_offset_held false op x y e f g reads = hold_held (Binary op x y) (f, g)
+    but_offset_held false op x y e f g reads = hold_held (Binary op x y) (f, g) refl
 
     pub held : (x : Tx) → IsFlat x → ((i : ℕ) → Occurs i x → IsIn z.own low from i) → Held x (hold_for p x from)
     held (Binary op x y) f reads = but_offset_held (is_sum op && is_constant y) op x y refl f.0 f.1 (λ i o. reads i (inl o))

@@ -1,5 +1,6 @@
 mod CanonExamples
 pub mod RunExamples
+pub mod Sizing
 pub mod Paying
 pub mod Fixed
 pub mod Steady
@@ -9,7 +10,8 @@ pub mod Words
 pub mod Dones
 pub mod Tests
 pub mod Carried
-pub mod Bodies
+pub mod Sized
+pub mod Programs
 pub mod Always
 pub mod Canonicals
 pub mod Closings

@@ -5,15 +5,17 @@ use Rattle.tg_runs.specs.Ran.{Ran}
 use Rattle.tg_tree.specs.declared.operators.Rel.{Rel}
 use Rattle.tg_tree.specs.Tree.{Tx, Cond, Compare, Not, Both, Either, Ts, If, Loop, Break}
 use Rattle.tg_tree.specs.Operators.{holds}
-use Rattle.tg_tree.specs.Units.{Trees, lifted_units, joined_units}
+use Rattle.tg_tree.specs.Units.{Trees, Canonical, lifted_units, joined_units}
+use Rattle.tg_tree.specs.Sizes.{condition_length, condition_room, in_trees, in_canonical}
 use Rattle.tg_tree.specs.Shapes.{IsFlat, IsFlatCond, is_flat, is_flat_condition}
 use Rattle.tg_tree.specs.Actions.{World, Temps, Activation, Around, Acts, Go, Next, Out, Back, give, over, charged, leaving}
 use Rattle.tg_canon.specs.Canon.{Part, still, is_nothing, nothing, first_then, ◌before◌, loop_of, block, as_part, Lifted, is_whole, Tested, compared, opposite, joined, choice, exit_where, wide_choice, deeper}
+use Rattle.tg_canon.proofs.Sizing.{size, takes, in_turn_counts}
 use Rattle.tg_canon.proofs.Paying.{Sim, trade, pays, worked, reworked, unpaid, credit, along, free, charged_add}
 use Rattle.tg_canon.proofs.Fixed.{Scene, around, tree_value, tree_test, tree_does, mixed_value, mixed_test, then_test, then_does, IsFixed, gives, stops, fixed_test}
 use Rattle.tg_canon.proofs.Splits.{Known, Beside, StaysKnown, KeptBy, kept_within, kept_first, kept_second, Only, only, OutsAre, BacksAre, outs_more, outs_only, backs_more, IsSplit, IsDone, does_nothing, does_in_turn}
 use Rattle.tg_canon.proofs.Helds.{IsOwned, owned_both, owned_none, fixed_runs}
-use Rattle.tg_canon.proofs.Words.{PairIs, both_nothing}
+use Rattle.tg_canon.proofs.Words.{WordIs, PairIs, both_nothing}
 use Rattle.tg_canon.proofs.Dones.{leaving_more}
 
 both_true : (a b : Bool) → (a && b) ≡ true → (a ≡ true) × (b ≡ true)
@@ -32,6 +34,8 @@ module _ (z : Scene) (out : ℕ → ℕ) where
     pub flat : IsFlatCond t.condition
     pub none : is_flat_condition c ≡ true → is_nothing t.front.statement ≡ true
     pub owned : IsOwned z.own t.front.least t.front.greatest
+    pub length : size t.front.statement + condition_length Canonical t.condition ≤ condition_length Trees c
+    pub room : takes t.front.statement + condition_room in_canonical t.condition + to ≤ condition_room in_trees c + from
     pub grows : from ≤ to
 
   pub not_is : (c : Cond) (from : ℕ) (t : Tested) (to : ℕ) → TestIs c from t to → TestIs (Not c) from (opposite t) to
@@ -44,6 +48,8 @@ module _ (z : Scene) (out : ℕ → ℕ) where
     flat = h.flat;
     none = h.none;
     owned = h.owned;
+    length = let n = h.length in omega arith;
+    room = let n = h.room in omega arith;
     grows = h.grows;
   }
 
@@ -100,6 +106,8 @@ module _ (z : Scene) (out : ℕ → ℕ) where
     flat = (h.flat, k.flat);
     none = λ f. both_nothing t.front.statement s.front.statement (h.none (both_true (is_flat_condition c) (is_flat_condition d) f).0) (k.none e);
     owned = owned_both z.own t.front.least t.front.greatest s.front.least s.front.greatest h.owned k.owned;
+    length = let n = h.length in let n' = k.length in let q = (in_turn_counts t.front.statement s.front.statement).0 in omega arith;
+    room = let n = h.room in let n' = k.room in let q = (in_turn_counts t.front.statement s.front.statement).1 in omega arith;
     grows = let g = h.grows in let g' = k.grows in omega arith;
   }
     where
@@ -113,6 +121,8 @@ module _ (z : Scene) (out : ℕ → ℕ) where
     flat = (h.flat, k.flat);
     none = λ f. both_nothing t.front.statement s.front.statement (h.none (both_true (is_flat_condition c) (is_flat_condition d) f).0) (k.none e);
     owned = owned_both z.own t.front.least t.front.greatest s.front.least s.front.greatest h.owned k.owned;
+    length = let n = h.length in let n' = k.length in let q = (in_turn_counts t.front.statement s.front.statement).0 in omega arith;
+    room = let n = h.room in let n' = k.room in let q = (in_turn_counts t.front.statement s.front.statement).1 in omega arith;
     grows = let g = h.grows in let g' = k.grows in omega arith;
   }
     where
@@ -120,48 +130,54 @@ module _ (z : Scene) (out : ℕ → ℕ) where
       turn true = stays true
       turn false = goes_on
 
-  pub compare_is : (rel : Rel) (x y : Tx) (b h : Lifted) (first to : ℕ) → PairIs z out x (tree_value z y) (mixed_value z b.rest) b.front (4 + lifted_units Trees (is_flat y)) 4 first h to → IsFlat b.rest → (is_flat y ≡ true → is_nothing b.front.statement ≡ true) →
+  pub compare_is : (rel : Rel) (x y : Tx) (b h : Lifted) (first from to : ℕ) → PairIs z out x (tree_value z y) (mixed_value z b.rest) b.front (4 + lifted_units Trees (is_flat y)) 4 first from h to → WordIs z out y first b from →
       TestIs (Compare rel x y) first (record { front = h.front before b.front; condition = Compare rel h.rest b.rest }) to
-  compare_is rel x y b h first to pairs flat none = record {
+  compare_is rel x y b h first from to pairs right = record {
     split = record {
       runs = λ J r a o o' c c' go next kept outs backs hyp. pairs.split.runs J r a o o' c c' (λ q w1 t1. go (holds rel q.0 q.1) w1 t1) next kept outs backs hyp;
     };
-    flat = (pairs.flat, flat);
-    none = λ f. let g = both_true (is_flat x) (is_flat y) f in pairs.none g.0 (none g.1);
+    flat = (pairs.flat, right.flat);
+    none = λ f. let g = both_true (is_flat x) (is_flat y) f in pairs.none g.0 (right.none g.1);
     owned = pairs.owned;
+    length = let n = pairs.length in let n' = right.length in let c = (in_turn_counts h.front.statement b.front.statement).0 in omega arith;
+    room = let n = pairs.room in let n' = right.room in let c = (in_turn_counts h.front.statement b.front.statement).1 in omega arith;
     grows = pairs.grows;
   }
 
--- What the joins of a condition count where it is tested part by part: 14 each, and 14 more for one whose right side isn't flat.
+-- What the joins of a condition count where it is tested part by part: 14 each, and 17 more for one whose right side isn't flat.
 pub record JoinsPay : Type 0 where
   pub flat : 14 ≤ joined_units Trees true
-  pub lifted : 28 ≤ joined_units Trees false
+  pub lifted : 31 ≤ joined_units Trees false
 
 -- what is left over of a condition that isn't whole
 abbrev pub extra : Cond → ℕ
 extra (Compare _ _ _) = 0
 extra (Not c) = extra c
-extra (Both c d) = if is_flat_condition d then extra c else 14
-extra (Either c d) = if is_flat_condition d then extra c else 14
+extra (Both c d) = if is_flat_condition d then extra c else 17
+extra (Either c d) = if is_flat_condition d then extra c else 17
 
 not_both : (a b : Bool) → (a && b) ≡ false → b ≡ true → a ≡ false
 not_both true b e f = let g : true ≡ false = sym f ∙ e in cc
 not_both false b e f = refl
 
-extra_joined : (b : Bool) (c : Cond) (n : ℕ) → (b ≡ true → extra c ≡ 14) → (if b then extra c else 14) ≡ 14
+extra_joined : (b : Bool) (c : Cond) (n : ℕ) → (b ≡ true → extra c ≡ 17) → (if b then extra c else 17) ≡ 17
 extra_joined true c n h = h refl
 extra_joined false c n h = refl
 
-pub extra_there : (c : Cond) → is_whole c ≡ false → extra c ≡ 14
+pub extra_there : (c : Cond) → is_whole c ≡ false → extra c ≡ 17
 extra_there (Compare rel x y) e = cc
 extra_there (Not c) e = extra_there c e
 extra_there (Both c d) e = extra_joined (is_flat_condition d) c 0 (λ f. extra_there c (not_both (is_whole c) (is_flat_condition d) e f))
 extra_there (Either c d) e = extra_joined (is_flat_condition d) c 0 (λ f. extra_there c (not_both (is_whole c) (is_flat_condition d) e f))
 
 -- what of it the left side has, and what this join pays
-joins_pay : JoinsPay → (c : Cond) (b : Bool) (m : ℕ) → m ≤ (if b then extra c else 14) → (k : ℕ) × (l : ℕ) × (k ≤ extra c) × (m ≤ k + l) × (14 + l ≤ joined_units Trees b)
+joins_pay : JoinsPay → (c : Cond) (b : Bool) (m : ℕ) → m ≤ (if b then extra c else 17) → (k : ℕ) × (l : ℕ) × (k ≤ extra c) × (m ≤ k + l) × (14 + l ≤ joined_units Trees b)
 joins_pay pay c true m le = (m, 0, le, omega arith, pay.flat)
 joins_pay pay c false m le = (0, m, omega arith, omega arith, let h = pay.lifted in omega arith)
+
+joins_last : JoinsPay → (c : Cond) (b : Bool) → (if b then extra c else 17) + 14 ≤ extra c + joined_units Trees b
+joins_last pay c true = let h = pay.flat in omega arith
+joins_last pay c false = let h = pay.lifted in omega arith
 
 -- Breaks out of one loop more, and of two.
 pub outs_deeper : (z : Scene) (out : ℕ → ℕ) (J : Known) (r : ℕ) (o o' : Out) (next : Next) → OutsAre z J r out o o' → OutsAre z J r (deeper 1 out) o (leaving next o')
@@ -184,6 +200,8 @@ module _ (z : Scene) where
         (m : ℕ) → m ≤ extra c → (w : World) (t t' : Temps) → Beside z.own J w t t' →
         Sim (r + 7) z.fuel (tree_test z c (around a o b) go w t) (charged m (then_does z p.statement (around a o' b') next w t'))
     pub owned : IsOwned z.own p.least p.greatest
+    pub length : size p.statement + extra c ≤ condition_length Trees c + 7
+    pub room : takes p.statement + to ≤ condition_room in_trees c + from
     pub grows : from ≤ to
 
   -- a comparison
@@ -207,11 +225,19 @@ module _ (z : Scene) where
     part_owned : (s : Ts) → IsOwned z.own (min test.front.least (min 4294967295 4294967295)) (max test.front.greatest (max 0 0))
     part_owned s = owned_both z.own test.front.least test.front.greatest (min 4294967295 4294967295) (max 0 0) h.owned (owned_both z.own 4294967295 0 4294967295 0 (owned_none z.own) (owned_none z.own))
 
+    part_length : (p q : Ts) → size p + size q ≤ 3 → size (first_then test.front.statement (If test.condition p q)) + extra c ≤ condition_length Trees c + 7
+    part_length p q le = let n = h.length in let c1 = (in_turn_counts test.front.statement (If test.condition p q)).0 in let e = none in omega arith
+
+    part_room : (p q : Ts) → takes p ≡ 0 → takes q ≡ 0 → takes (first_then test.front.statement (If test.condition p q)) + to ≤ condition_room in_trees c + from
+    part_room p q e f = let n = h.room in let c1 = (in_turn_counts test.front.statement (If test.condition p q)).1 in omega (arith, e, f)
+
     pub exit_left : (when : Bool) (k : ℕ) → LeftIs out when k c from (exit_where when k test) to
     exit_left true k = record {
       runs = λ J r a o o' b b' go next kept outs backs exits on.
           exits_by (Break k) nothing J r a o o' b b' go next kept outs backs (λ d w t t' near. by J r a o' b' go next exits on d w t t' near);
       owned = part_owned nothing;
+      length = part_length (Break k) nothing (omega arith);
+      room = part_room (Break k) nothing refl refl;
       grows = h.grows;
     }
       where
@@ -223,6 +249,8 @@ module _ (z : Scene) where
       runs = λ J r a o o' b b' go next kept outs backs exits on.
           exits_by nothing (Break k) J r a o o' b b' go next kept outs backs (λ d w t t' near. by J r a o' b' go next exits on d w t t' near);
       owned = part_owned nothing;
+      length = part_length nothing (Break k) (omega arith);
+      room = part_room nothing (Break k) refl refl;
       grows = h.grows;
     }
       where
@@ -234,10 +262,16 @@ module _ (z : Scene) where
   -- Two conditions that are joined.
   module _ (pay : JoinsPay) (out : ℕ → ℕ) (c d j : Cond) (F : Bool → Acts (Go Bool))
       (is : (e : Around) (go : Go Bool) (w : World) (t : Temps) → tree_test z j e go w t ≡ charged (joined_units Trees (is_flat_condition d)) (tree_test z c e (λ q w1 t1. F q e go w1 t1) w t))
-      (extra_is : extra j ≡ (if is_flat_condition d then extra c else 14))
+      (extra_is : extra j ≡ (if is_flat_condition d then extra c else 17))
+      (length_is : condition_length Trees j ≡ joined_units Trees (is_flat_condition d) + (condition_length Trees c + condition_length Trees d))
+      (room_is : condition_room in_trees j ≡ 6 + (condition_room in_trees c + condition_room in_trees d))
       (when : Bool) (k first from to : ℕ) (p q : Part) where
     abbrev J' : ℕ
     J' = joined_units Trees (is_flat_condition d)
+
+    -- what lengths ask of a join
+    length_pays : extra j + 14 ≤ extra c + J'
+    length_pays = subst (λ n. n + 14 ≤ extra c + J') (sym extra_is) (joins_last pay c (is_flat_condition d))
 
     -- both leave where they come out so
     pub chain_left : F when ≡ give when → F (not when) ≡ tree_test z d → LeftIs out when k c from p to → LeftIs out when k d first q from → LeftIs out when k j first (p before q) to
@@ -258,6 +292,8 @@ module _ (z : Scene) where
           (l.runs J r a o o' b b' go next (kept_second J p q first to first from (omega arith) h.grows kept) outs backs exits on 0 (omega arith) w1 t1 u1 near1))
           x.0 x.2 w t t' near))));
       owned = owned_both z.own p.least p.greatest q.least q.greatest h.owned l.owned;
+      length = let n = h.length in let n' = l.length in let q' = (in_turn_counts p.statement q.statement).0 in let m = length_pays in let e = length_is in omega arith;
+      room = let n = h.room in let n' = l.room in let q' = (in_turn_counts p.statement q.statement).1 in let e = room_is in omega arith;
       grows = let f = h.grows in let g = l.grows in omega arith;
     }
 
@@ -289,6 +325,8 @@ module _ (z : Scene) where
           0 (omega arith) w1 t1 u1 near1)))
           x.0 x.2 w t t' near))));
       owned = owned_both z.own p.least p.greatest q.least q.greatest h.owned l.owned;
+      length = let n = h.length in let n' = l.length in let q' = (in_turn_counts p.statement q.statement).0 in let m = length_pays in let e = length_is in omega arith;
+      room = let n = h.room in let n' = l.room in let q' = (in_turn_counts p.statement q.statement).1 in let e = room_is in omega arith;
       grows = let f = h.grows in let g = l.grows in omega arith;
     }
 
@@ -297,17 +335,21 @@ module _ (z : Scene) where
     runs = λ J r a o o' b b' go next kept outs backs exits on m le w t t' near.
         pays z.fuel (r + 7) (r + 7) 0 _ _ (omega arith) (h.runs J r a o o' b b' (λ v w1 t1. go (not v) w1 t1) next kept outs backs exits on m le w t t' near);
     owned = h.owned;
+    length = let n = h.length in omega arith;
+    room = let n = h.room in omega arith;
     grows = h.grows;
   }
   left_opposite out false k c from p to h = record {
     runs = λ J r a o o' b b' go next kept outs backs exits on m le w t t' near.
         pays z.fuel (r + 7) (r + 7) 0 _ _ (omega arith) (h.runs J r a o o' b b' (λ v w1 t1. go (not v) w1 t1) next kept outs backs exits on m le w t t' near);
     owned = h.owned;
+    length = let n = h.length in omega arith;
+    room = let n = h.room in omega arith;
     grows = h.grows;
   }
 
   -- A statement behind a condition that is tested part by part, and the other one.
-  pub wide_done : (out : ℕ → ℕ) (c : Cond) (s t : Ts) (test p q : Part) (first k l to : ℕ) → extra c ≡ 14 → LeftIs (deeper 2 out) false 0 c l test to → IsDone z (deeper 2 out) (tree_does z s) p k l → IsDone z (deeper 1 out) (tree_does z t) q first k → first ≤ k → k ≤ l →
+  pub wide_done : (out : ℕ → ℕ) (c : Cond) (s t : Ts) (test p q : Part) (first k l to : ℕ) → extra c ≡ 17 → LeftIs (deeper 2 out) false 0 c l test to → IsDone z (deeper 2 out) (tree_does z s) p k l → IsDone z (deeper 1 out) (tree_does z t) q first k → first ≤ k → k ≤ l →
       IsDone z out (tree_does z (If c s t)) (wide_choice test p q) first to
   wide_done out c s t test p q first k l to more h this other lo mid = record {
     runs = λ J r a o o' b b' next next' kept outs backs nexts w u u' near.

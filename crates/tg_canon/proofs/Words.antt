@@ -6,12 +6,14 @@ use Rattle.tg_runs.proofs.Simulations.{simulates_wrong}
 use Rattle.tg_tree.specs.declared.operators.Bin.{Bin}
 use Rattle.tg_tree.specs.declared.operators.Bin.TheVariants.{Add, Sub, Mul, Div, And, Or, Xor, ShiftLeft, ShiftRight, ShiftSigned, AddTrap, SubTrap, MulHigh}
 use Rattle.tg_tree.specs.Tree.{Tx, Const, Address, Temp, FrameAddress, Binary, Load, LoadByte, Call, Service, After, Ts, Move}
-use Rattle.tg_tree.specs.Units.{shift_units, operator_units}
+use Rattle.tg_tree.specs.Units.{Trees, Canonical, shift_units, operator_units}
+use Rattle.tg_tree.specs.Sizes.{expression_length, expression_room, in_trees, in_canonical}
 use Rattle.tg_tree.specs.Shapes.{IsFlat, IsFlatSide, is_flat}
 use Rattle.tg_tree.specs.Actions.{World, Temps, Activation, Around, Acts, Go, Next, Out, Back, over, charged}
 use Rattle.tg_tree.proofs.Flatness.{tested_flat}
 use Rattle.tg_canon.specs.Drawing.{Drawn, give}
 use Rattle.tg_canon.specs.Canon.{Part, still, is_nothing, nothing, pair, first_then, ◌before◌, Lifted, behind, is_constant, is_side, hold_side, hold_for, hold_before, in_front_of}
+use Rattle.tg_canon.proofs.Sizing.{size, takes, holdable, holdable_most, drawn_held, in_turn_counts}
 use Rattle.tg_canon.proofs.Paying.{Sim, pays, unpaid, credit, along}
 use Rattle.tg_canon.proofs.Fixed.{Scene, around, tree_value, mixed_value, then_value, then_does, IsFixed, gives, stops, fixed_value}
 use Rattle.tg_canon.proofs.Steady.{Occurs, IsSteady, ComesTo, one_word, no_word, steady_comes}
@@ -132,6 +134,8 @@ module _ (z : Scene) where
     pub units : (op : Bin) → operator_units op a.rest ≤ operator_units op x
     pub owned : IsOwned z.own a.front.least a.front.greatest
     pub reads : (i : ℕ) → Occurs i a.rest → IsIn z.own from to i
+    pub length : size a.front.statement + expression_length Canonical a.rest + spare a.rest ≤ expression_length Trees x
+    pub room : takes a.front.statement + expression_room in_canonical a.rest + 1 + to ≤ expression_room in_trees x + from
     pub grows : from ≤ to
 
   pub record WordIs (out : ℕ → ℕ) (x : Tx) (from : ℕ) (a : Lifted) (to : ℕ) : Type 1 where
@@ -141,6 +145,8 @@ module _ (z : Scene) where
     pub units : (op : Bin) → operator_units op a.rest ≤ operator_units op x
     pub owned : IsOwned z.own a.front.least a.front.greatest
     pub reads : (i : ℕ) → Occurs i a.rest → IsIn z.own from to i
+    pub length : size a.front.statement + expression_length Canonical a.rest ≤ expression_length Trees x
+    pub room : takes a.front.statement + expression_room in_canonical a.rest + holdable z.own a.rest + to ≤ expression_room in_trees x + from
     pub grows : from ≤ to
 
   module _ (out : ℕ → ℕ) (x : Tx) (from : ℕ) (a : Lifted) (to : ℕ) (above : z.own ≤ from) (l : LiftIs out x from a to) where
@@ -155,6 +161,8 @@ module _ (z : Scene) where
       units = l.units;
       owned = l.owned;
       reads = l.reads;
+      length = let n = l.length in omega arith;
+      room = let n = l.room in let m = holdable_most z.own a.rest in omega arith;
       grows = l.grows;
     }
     side_word d true e p = record {
@@ -174,6 +182,8 @@ module _ (z : Scene) where
       units = λ op. units_most op x (Temp to) (not_constant x (λ f. let p = l.plain f in let q : true ≡ false = sym e ∙ p in cc));
       owned = owned_both z.own a.front.least a.front.greatest 4294967295 0 l.owned (owned_none z.own);
       reads = λ i o. record { low = λ lo. let g = l.grows in omega (arith, o); high = λ lo. omega (arith, o) };
+      length = let n = l.length in let q = spare_side a.rest e in let c = (in_turn_counts a.front.statement (Move to a.rest)).0 in omega arith;
+      room = let n = l.room in let c = (in_turn_counts a.front.statement (Move to a.rest)).1 in let d = drawn_held z.own to (let g = l.grows in omega arith) in omega arith;
       grows = let g = l.grows in omega arith;
     }
 
@@ -188,12 +198,14 @@ abbrev pub both_rest : (z : Scene) {B : Type 0} (u : ℕ) (x : Tx) (rest : Acts 
 both_rest z u x rest e go w t = charged u (mixed_value z x e (λ p w1 t1. rest e (λ q w2 t2. go (p, q) w2 t2) w1 t1) w t)
 
 module _ (z : Scene) {B : Type 0} (out : ℕ → ℕ) (x : Tx) (entire rest : Acts (Go B)) (part : Part) (u v : ℕ) (first : ℕ) where
-  pub record PairIs (h : Lifted) (to : ℕ) : Type 1 where
+  pub record PairIs (from : ℕ) (h : Lifted) (to : ℕ) : Type 1 where
     pub split : IsSplit z out (both_before z u x entire) 0 (h.front before part) (both_rest z v h.rest rest) first to
     pub flat : IsFlat h.rest
     pub none : is_flat x ≡ true → is_nothing part.statement ≡ true → is_nothing (first_then h.front.statement part.statement) ≡ true
     pub owned : IsOwned z.own (min h.front.least part.least) (max h.front.greatest part.greatest)
     pub reads : (i : ℕ) → Occurs i h.rest → IsIn z.own first to i
+    pub length : v + (size h.front.statement + expression_length Canonical h.rest) ≤ u + expression_length Trees x
+    pub room : takes h.front.statement + expression_room in_canonical h.rest + to ≤ expression_room in_trees x + from
     pub grows : first ≤ to
 
   module _ (from : ℕ) (a : Lifted) (to : ℕ) (word : WordIs z out x from a to) (other : IsSplit z out entire 0 part rest first from) (owned : IsOwned z.own part.least part.greatest) (above : z.own ≤ first) (grows : first ≤ from) where
@@ -227,7 +239,7 @@ module _ (z : Scene) {B : Type 0} (out : ℕ → ℕ) (x : Tx) (entire rest : Ac
             (along z.fuel (r + 0 + v) _ _ (next w t') _ (sym (g rests)) refl
             (unpaid z.fuel (r + 0) (r + 0 + v) v _ (next w t') (omega arith) hyp)))
 
-      placed_pair : PairIs a to
+      placed_pair : PairIs from a to
       placed_pair = record {
         split = record {
           runs = λ J r act o o' b b' go next kept outs backs hyp w t t' near.
@@ -242,6 +254,8 @@ module _ (z : Scene) {B : Type 0} (out : ℕ → ℕ) (x : Tx) (entire rest : Ac
         none = λ f g. both_nothing a.front.statement part.statement (word.none f) g;
         owned = owned_both z.own a.front.least a.front.greatest part.least part.greatest word.owned owned;
         reads = λ i o. let h = word.reads i o in record { low = λ lo. let k = h.low lo in omega arith; high = h.high };
+        length = let n = word.length in omega arith;
+        room = let n = word.room in omega arith;
         grows = let g = word.grows in omega arith;
       }
 
@@ -278,7 +292,7 @@ module _ (z : Scene) {B : Type 0} (out : ℕ → ℕ) (x : Tx) (entire rest : Ac
             (unpaid z.fuel (r + 0) (r + 0 + v) v _ (next w1 u1) (omega arith) (hyp w1 t1 u1 (beside_less z.own J (Then J t') w1 t1 u1 (λ q. q.0) near1)))))
             w t t' (record { agree = near.agree; holds = (near.holds, λ i q. refl) })))
 
-      held_pair : PairIs (behind a.front d.it) d.next
+      held_pair : PairIs from (behind a.front d.it) d.next
       held_pair = record {
         split = record {
           runs = λ J r act o o' b b' go next kept outs backs hyp w t t' near.
@@ -302,13 +316,15 @@ module _ (z : Scene) {B : Type 0} (out : ℕ → ℕ) (x : Tx) (entire rest : Ac
         owned = owned_both z.own (min a.front.least d.it.front.least) (max a.front.greatest d.it.front.greatest) part.least part.greatest
             (owned_both z.own a.front.least a.front.greatest d.it.front.least d.it.front.greatest word.owned h.owned) owned;
         reads = λ i o. let k = h.reads i o in record { low = λ lo. let l = k.low lo in omega arith; high = k.high };
+        length = let n = word.length in let n' = h.length in let c = (in_turn_counts a.front.statement d.it.front.statement).0 in omega arith;
+        room = let n = word.room in let n' = h.room in let c = (in_turn_counts a.front.statement d.it.front.statement).1 in omega arith;
         grows = let g = word.grows in let g' = h.grows in omega arith;
       }
 
-    pair_by : (b : Bool) → is_nothing part.statement ≡ b → (b ≡ true → v ≤ u) → (b ≡ false → v + 2 ≤ u) → PairIs (hold_before b part a to).it (hold_before b part a to).next
+    pair_by : (b : Bool) → is_nothing part.statement ≡ b → (b ≡ true → v ≤ u) → (b ≡ false → v + 2 ≤ u) → PairIs from (hold_before b part a to).it (hold_before b part a to).next
     pair_by true e f g = placed_pair e (f refl)
     pair_by false e f g =
         held_pair e (g refl) (hold_for part a.rest to) (held z part owned from to (let k = grows in omega arith) word.grows a.rest word.flat word.reads)
 
-    pub pair_is : (is_nothing part.statement ≡ true → v ≤ u) → (is_nothing part.statement ≡ false → v + 2 ≤ u) → PairIs (in_front_of part a to).it (in_front_of part a to).next
+    pub pair_is : (is_nothing part.statement ≡ true → v ≤ u) → (is_nothing part.statement ≡ false → v + 2 ≤ u) → PairIs from (in_front_of part a to).it (in_front_of part a to).next
     pair_is f g = pair_by (is_nothing part.statement) refl f g

@@ -85,7 +85,9 @@ abbrev pub added_room : ℕ
 added_room = 0
 
 abbrev pub LengthStays : Type 0
-LengthStays = (f : Function Ts) → canonical_length (canonical f) ≤ tree_length f + added_length
+LengthStays =
+    (f : Function Ts) →
+    HasOwnTemps f → canonical_length (canonical f) ≤ tree_length f + added_length
 
 abbrev pub RoomStays : Type 0
 RoomStays =

@@ -8,7 +8,8 @@ use Rattle.tg_canon.proofs.Words.{pair_is}
 use Rattle.tg_canon.proofs.Dones.{closes}
 use Rattle.tg_canon.proofs.Tests.{wide_done}
 use Rattle.tg_canon.proofs.Carried.{linear_at}
-use Rattle.tg_canon.proofs.Bodies.{bodies_carried}
+use Rattle.tg_canon.proofs.Programs.{bodies_carried}
+use Rattle.tg_canon.proofs.Sized.{length_stays}
 use Rattle.tg_canon.proofs.laws.scratch.Goals as goal
 
 pub returns : goal.returns
