@@ -115,6 +115,23 @@ module _ (z : Scene) (out : ℕ → ℕ) where
     room : statements_room in_canonical all.list + to ≤ statements_room in_trees ss + from
     grows : from ≤ to
 
+  -- two words are stored
+  stored : (s : Ts) (x y : Tx) (last : Ts) (first from : ℕ) (b h : Lifted) (to : ℕ) → WordIs z out y first b from →
+      PairIs z out x (tree_value z y) (mixed_value z b.rest) b.front (1 + lifted_units Trees (is_flat y)) 1 first from h to → IsDone z out (tree_does z s) (h.front before b.front before still last) first to →
+      size last ≡ 1 + (expression_length Canonical h.rest + expression_length Canonical b.rest) → takes last ≡ expression_room in_canonical h.rest + expression_room in_canonical b.rest →
+      statement_length Trees s ≡ 1 + lifted_units Trees (is_flat y) + (expression_length Trees x + expression_length Trees y) → statement_room in_trees s ≡ expression_room in_trees x + expression_room in_trees y →
+      PartIs s first (h.front before b.front before still last) to
+  stored s x y last first from b h to right pairs done l l' m m' =
+      let c = in_turn_counts (first_then h.front.statement b.front.statement) last in
+      let d = in_turn_counts h.front.statement b.front.statement in
+      record {
+        done = done;
+        owned = owned_both z.own (min h.front.least b.front.least) (max h.front.greatest b.front.greatest) 4294967295 0 pairs.owned (owned_none z.own);
+        length = let n = pairs.length in let n' = right.length in omega (arith, c.0, d.0);
+        room = let n = pairs.room in let n' = right.room in omega (arith, c.1, d.1);
+        grows = pairs.grows;
+      }
+
   binary_lift : (op : Bin) (x y : Tx) (first from : ℕ) (b h : Lifted) (to : ℕ) → WordIs z out y first b from → from ≤ to →
       PairIs z out x (tree_value z y) (mixed_value z b.rest) b.front (operator_units op y + lifted_units Trees (is_flat y)) (operator_units op b.rest + 0) first from h to →
       LiftIs z out (Binary op x y) first (record { front = h.front before b.front; rest = Binary op h.rest b.rest }) to
@@ -241,39 +258,6 @@ module _ (z : Scene) (pay : JoinsPay) (again : (out : ℕ → ℕ) (s : Ts) (k :
   word_at : (out : ℕ → ℕ) (x : Tx) (k : ℕ) → z.own ≤ k → LiftedAt out x k → WordAt out x k
   word_at out x k le h = word_is z out x k (lift out x k).it (lift out x k).next le h
 
-  -- two words, side by side, where the second is drawn first
-  module _ (out : ℕ → ℕ) (x y : Tx) (k : ℕ) (le : z.own ≤ k) (hy : WordAt out y k) (hx : WordAt out x (word (lift out y) k).next) (u v : ℕ) where
-    abbrev second : Drawn Lifted
-    second = word (lift out y) k
-
-    abbrev first : Drawn Lifted
-    first = word (lift out x) second.next
-
-    abbrev beside : Drawn Lifted
-    beside = in_front_of second.it.front first.it first.next
-
-    pair_grows : second.next ≤ beside.next
-    pair_grows = let f = hx.grows in let g = (in_front_grows second.it.front first.it).at first.next in omega arith
-
-    two_words : v ≤ u → (lifted_units Trees (is_flat y) ≡ 2 → v + 2 ≤ u) → PairIs z out x (tree_value z y) (mixed_value z second.it.rest) second.it.front u v k second.next beside.it beside.next
-    two_words f g =
-        pair_is z out x (tree_value z y) (mixed_value z second.it.rest) second.it.front u v k second.next first.it first.next hx hy.split hy.owned le hy.grows (λ e. f)
-        (λ e. g (lifted_counts (is_nothing second.it.front.statement) (is_flat y) hy.none e))
-
-  binary_at : (out : ℕ → ℕ) (op : Bin) (x y : Tx) (k : ℕ) → z.own ≤ k → LiftedAt out y k → ((j : ℕ) → z.own ≤ j → LiftedAt out x j) → LiftedAt out (Binary op x y) k
-  binary_at out op x y k le ly lx =
-      let hy = word_at out y k le ly in
-      let m = (word (lift out y) k).next in
-      let up : z.own ≤ m = (let g = hy.grows in omega arith) in
-      let hx = word_at out x m up (lx m up) in
-      let b = word (lift out y) k in
-      let d = beside out x y k le hy hx (operator_units op y + lifted_units Trees (is_flat y)) (operator_units op b.it.rest + 0) in
-      let pairs = two_words out x y k le hy hx (operator_units op y + lifted_units Trees (is_flat y)) (operator_units op b.it.rest + 0) (let n = hy.units op in omega arith) (λ e. let n = hy.units op in omega arith) in
-      binary_lift z out op x y k m b.it d.it d.next hy (pair_grows out x y k le hy hx 0 0) pairs
-
-  call_at : (out : ℕ → ℕ) (label : ℕ) (xs : Txs) (k : ℕ) → ArgumentsAre z out xs k (lift_all out xs k).it (lift_all out xs k).next → LiftedAt out (Call label xs) k
-  call_at out label xs k h = call_lift z out label xs k (lift_all out xs k).it (lift_all out xs k).next h
-
   abbrev ArgumentsAt : (out : ℕ → ℕ) → Txs → ℕ → Type 1
   ArgumentsAt out xs k = ArgumentsAre z out xs k (lift_all out xs k).it (lift_all out xs k).next
 
@@ -288,6 +272,61 @@ module _ (z : Scene) (pay : JoinsPay) (again : (out : ℕ → ℕ) (s : Ts) (k :
 
   abbrev LeftAt : (out : ℕ → ℕ) → (when : Bool) → (loops : ℕ) → Cond → ℕ → Type 1
   LeftAt out when n c k = LeftIs z out when n c k (leave out when n c k).it (leave out when n c k).next
+
+  -- two words, side by side, where the second is drawn first
+  module _ (out : ℕ → ℕ) (x y : Tx) (k : ℕ) (le : z.own ≤ k) (ly : LiftedAt out y k) (lx : (j : ℕ) → z.own ≤ j → LiftedAt out x j) where
+    abbrev second : Drawn Lifted
+    second = word (lift out y) k
+
+    abbrev first : Drawn Lifted
+    first = word (lift out x) second.next
+
+    abbrev beside : Drawn Lifted
+    beside = in_front_of second.it.front first.it first.next
+
+    second_is : WordAt out y k
+    second_is = word_at out y k le ly
+
+    first_is : WordAt out x second.next
+    first_is = let up : z.own ≤ second.next = (let h = second_is in let g = h.grows in omega arith) in word_at out x second.next up (lx second.next up)
+
+    pairs_grow : second.next ≤ beside.next
+    pairs_grow = let h = first_is in let f = h.grows in let g = (in_front_grows second.it.front first.it).at first.next in omega arith
+
+    pair_at : (u v : ℕ) → v ≤ u → (lifted_units Trees (is_flat y) ≡ 2 → v + 2 ≤ u) → PairIs z out x (tree_value z y) (mixed_value z second.it.rest) second.it.front u v k second.next beside.it beside.next
+    pair_at u v f g =
+        let h = second_is in
+        pair_is z out x (tree_value z y) (mixed_value z second.it.rest) second.it.front u v k second.next first.it first.next first_is h.split h.owned le h.grows (λ e. f)
+        (λ e. g (lifted_counts (is_nothing second.it.front.statement) (is_flat y) h.none e))
+
+    binary_at : (op : Bin) → LiftedAt out (Binary op x y) k
+    binary_at op =
+        let h = second_is in
+        let n = h.units op in
+        binary_lift z out op x y k second.next second.it beside.it beside.next h pairs_grow
+        (pair_at (operator_units op y + lifted_units Trees (is_flat y)) (operator_units op second.it.rest + 0) (omega arith) (λ e. omega arith))
+
+    compare_at : (rel : Rel) → TestAt out (Compare rel x y) k
+    compare_at rel =
+        compare_is z out rel x y second.it beside.it k second.next beside.next (pair_at (4 + lifted_units Trees (is_flat y)) 4 (omega arith) (λ e. omega arith)) second_is
+
+    stored_pair : PairIs z out x (tree_value z y) (mixed_value z second.it.rest) second.it.front (1 + lifted_units Trees (is_flat y)) 1 k second.next beside.it beside.next
+    stored_pair = pair_at (1 + lifted_units Trees (is_flat y)) 1 (omega arith) (λ e. omega arith)
+
+    store_at : PartAt out (Store x y) k
+    store_at =
+        let h = second_is in
+        stored z out (Store x y) x y (Store beside.it.rest second.it.rest) k second.next second.it beside.it beside.next h stored_pair
+        (stores_done z out x y k second.next beside.it second.it beside.next (1 + lifted_units Trees (is_flat y)) 1 stored_pair h.flat store (Store beside.it.rest second.it.rest) refl (λ e next w t. refl)) refl refl refl refl
+
+    store_byte_at : PartAt out (StoreByte x y) k
+    store_byte_at =
+        let h = second_is in
+        stored z out (StoreByte x y) x y (StoreByte beside.it.rest second.it.rest) k second.next second.it beside.it beside.next h stored_pair
+        (stores_done z out x y k second.next beside.it second.it beside.next (1 + lifted_units Trees (is_flat y)) 1 stored_pair h.flat store_byte (StoreByte beside.it.rest second.it.rest) refl (λ e next w t. refl)) refl refl refl refl
+
+  call_at : (out : ℕ → ℕ) (label : ℕ) (xs : Txs) (k : ℕ) → ArgumentsAre z out xs k (lift_all out xs k).it (lift_all out xs k).next → LiftedAt out (Call label xs) k
+  call_at out label xs k h = call_lift z out label xs k (lift_all out xs k).it (lift_all out xs k).next h
 
   arguments_at : (out : ℕ → ℕ) (x : Tx) (xs : Txs) (k : ℕ) → z.own ≤ k → ArgumentsAt out xs k → ((j : ℕ) → z.own ≤ j → LiftedAt out x j) → ArgumentsAt out (tx x xs) k
   arguments_at out x xs k le rest lx =
@@ -312,16 +351,6 @@ module _ (z : Scene) (pay : JoinsPay) (again : (out : ℕ → ℕ) (s : Ts) (k :
       let all = linear_all out ss k in
       record { done = sequence_done z out ss all.it k all.next h.done; owned = h.owned; length = let n = h.length in omega arith; room = let n = h.room in omega arith; grows = h.grows }
 
-  -- a comparison
-  compare_at : (out : ℕ → ℕ) (rel : Rel) (x y : Tx) (k : ℕ) → z.own ≤ k → LiftedAt out y k → ((j : ℕ) → z.own ≤ j → LiftedAt out x j) → TestAt out (Compare rel x y) k
-  compare_at out rel x y k le ly lx =
-      let hy = word_at out y k le ly in
-      let b = word (lift out y) k in
-      let up : z.own ≤ b.next = (let g = hy.grows in omega arith) in
-      let hx = word_at out x b.next up (lx b.next up) in
-      let d = beside out x y k le hy hx (4 + lifted_units Trees (is_flat y)) 4 in
-      compare_is z out rel x y b.it d.it k b.next d.next (two_words out x y k le hy hx (4 + lifted_units Trees (is_flat y)) 4 (omega arith) (λ e. omega arith)) hy
-
   -- statements
   move_at : (out : ℕ → ℕ) (i : ℕ) (x : Tx) (k : ℕ) → i < z.own → LiftedAt out x k → PartAt out (Move i x) k
   move_at out i x k lt l =
@@ -342,42 +371,6 @@ module _ (z : Scene) (pay : JoinsPay) (again : (out : ℕ → ℕ) (s : Ts) (k :
       let a = word (lift out x) k in
       record { done = return_done z out x k a.it a.next l; owned = owned_both z.own a.it.front.least a.it.front.greatest 4294967295 0 l.owned (owned_none z.own);
         length = let n = l.length in let c = (in_turn_counts a.it.front.statement (Return a.it.rest)).0 in omega arith; room = let n = l.room in let c = (in_turn_counts a.it.front.statement (Return a.it.rest)).1 in omega arith; grows = l.grows }
-
-  store_at : (out : ℕ → ℕ) (x y : Tx) (k : ℕ) → z.own ≤ k → LiftedAt out y k → ((j : ℕ) → z.own ≤ j → LiftedAt out x j) → PartAt out (Store x y) k
-  store_at out x y k le ly lx =
-      let hy = word_at out y k le ly in
-      let b = word (lift out y) k in
-      let up : z.own ≤ b.next = (let g = hy.grows in omega arith) in
-      let hx = word_at out x b.next up (lx b.next up) in
-      let d = beside out x y k le hy hx (1 + lifted_units Trees (is_flat y)) 1 in
-      let pairs = two_words out x y k le hy hx (1 + lifted_units Trees (is_flat y)) 1 (omega arith) (λ e. omega arith) in
-      record {
-        done = stores_done z out x y k b.next d.it b.it d.next (1 + lifted_units Trees (is_flat y)) 1 pairs hy.flat store (Store d.it.rest b.it.rest) refl (λ e next w t. refl);
-        owned = owned_both z.own (min d.it.front.least b.it.front.least) (max d.it.front.greatest b.it.front.greatest) 4294967295 0 pairs.owned (owned_none z.own);
-        length = let n = pairs.length in let n' = hy.length in
-            let c = (in_turn_counts (first_then d.it.front.statement b.it.front.statement) (Store d.it.rest b.it.rest)).0 in let c' = (in_turn_counts d.it.front.statement b.it.front.statement).0 in omega arith;
-        room = let n = pairs.room in let n' = hy.room in
-            let c = (in_turn_counts (first_then d.it.front.statement b.it.front.statement) (Store d.it.rest b.it.rest)).1 in let c' = (in_turn_counts d.it.front.statement b.it.front.statement).1 in omega arith;
-        grows = pairs.grows;
-      }
-
-  store_byte_at : (out : ℕ → ℕ) (x y : Tx) (k : ℕ) → z.own ≤ k → LiftedAt out y k → ((j : ℕ) → z.own ≤ j → LiftedAt out x j) → PartAt out (StoreByte x y) k
-  store_byte_at out x y k le ly lx =
-      let hy = word_at out y k le ly in
-      let b = word (lift out y) k in
-      let up : z.own ≤ b.next = (let g = hy.grows in omega arith) in
-      let hx = word_at out x b.next up (lx b.next up) in
-      let d = beside out x y k le hy hx (1 + lifted_units Trees (is_flat y)) 1 in
-      let pairs = two_words out x y k le hy hx (1 + lifted_units Trees (is_flat y)) 1 (omega arith) (λ e. omega arith) in
-      record {
-        done = stores_done z out x y k b.next d.it b.it d.next (1 + lifted_units Trees (is_flat y)) 1 pairs hy.flat store_byte (StoreByte d.it.rest b.it.rest) refl (λ e next w t. refl);
-        owned = owned_both z.own (min d.it.front.least b.it.front.least) (max d.it.front.greatest b.it.front.greatest) 4294967295 0 pairs.owned (owned_none z.own);
-        length = let n = pairs.length in let n' = hy.length in
-            let c = (in_turn_counts (first_then d.it.front.statement b.it.front.statement) (StoreByte d.it.rest b.it.rest)).0 in let c' = (in_turn_counts d.it.front.statement b.it.front.statement).0 in omega arith;
-        room = let n = pairs.room in let n' = hy.room in
-            let c = (in_turn_counts (first_then d.it.front.statement b.it.front.statement) (StoreByte d.it.rest b.it.rest)).1 in let c' = (in_turn_counts d.it.front.statement b.it.front.statement).1 in omega arith;
-        grows = pairs.grows;
-      }
 
   abbrev whole_draws : (out : ℕ → ℕ) → Cond → Ts → Ts → Draws Part
   whole_draws out c s t = linear out t >>= λ q. linear out s >>= λ p. condition out c >>= λ test. give (choice test p q)
@@ -505,7 +498,7 @@ module _ (z : Scene) (pay : JoinsPay) (again : (out : ℕ → ℕ) (s : Ts) (k :
         let lt : j < z.own = ltb-true j z.own h in
         leaf z out (Temp j) k tt refl refl (λ i o. omega (arith, o)) (λ e go w t t' a. ap (λ o. charged 0 (with_word o w (λ v. go v w t))) (sym (a j lt))) (omega arith) (omega arith)
     lift_at FrameAddress out k h le = leaf z out FrameAddress k tt refl refl (λ i o. absurd o) (λ e go w t t' a. refl) (omega arith) (omega arith)
-    lift_at (Binary op x y) out k h le = binary_at out op x y k le (lift_at y out k h.1 le) (λ j lj. lift_at x out j h.0 lj)
+    lift_at (Binary op x y) out k h le = binary_at out x y k le (lift_at y out k h.1 le) (λ j lj. lift_at x out j h.0 lj) op
     lift_at (Load x) out k h le = load_lift z out x k (word (lift out x) k).it (word (lift out x) k).next (word_at out x k le (lift_at x out k h le))
     lift_at (LoadByte x) out k h le = load_byte_lift z out x k (word (lift out x) k).it (word (lift out x) k).next (word_at out x k le (lift_at x out k h le))
     lift_at (Call label xs) out k h le = call_at out label xs k (lift_all_at xs out k h.1 le)
@@ -517,7 +510,7 @@ module _ (z : Scene) (pay : JoinsPay) (again : (out : ℕ → ℕ) (s : Ts) (k :
     lift_all_at (tx x xs) out k h le = arguments_at out x xs k le (lift_all_at xs out k h.1 le) (λ j lj. lift_at x out j h.0 lj)
 
     condition_at : (c : Cond) (out : ℕ → ℕ) (k : ℕ) → CondPasses (below z.own) c → is_whole c ≡ true → z.own ≤ k → TestAt out c k
-    condition_at (Compare rel x y) out k h e le = compare_at out rel x y k le (lift_at y out k h.1 le) (λ j lj. lift_at x out j h.0 lj)
+    condition_at (Compare rel x y) out k h e le = compare_at out x y k le (lift_at y out k h.1 le) (λ j lj. lift_at x out j h.0 lj) rel
     condition_at (Not c) out k h e le = not_is z out c k (condition out c k).it (condition out c k).next (condition_at c out k h e le)
     condition_at (Both c d) out k h e le =
         let f = both_true (is_whole c) (is_flat_condition d) e in
@@ -527,7 +520,7 @@ module _ (z : Scene) (pay : JoinsPay) (again : (out : ℕ → ℕ) (s : Ts) (k :
         or_at out c d k le f.1 (condition_at d out k h.1 (flat_whole d f.1) le) (λ j lj. condition_at c out j h.0 f.0 lj)
 
     leave_at : (c : Cond) (when : Bool) (out : ℕ → ℕ) (n k : ℕ) → CondPasses (below z.own) c → z.own ≤ k → LeftAt out when n c k
-    leave_at (Compare rel x y) when out n k h le = exit_at out when n rel x y k (compare_at out rel x y k le (lift_at y out k h.1 le) (λ j lj. lift_at x out j h.0 lj))
+    leave_at (Compare rel x y) when out n k h le = exit_at out when n rel x y k (compare_at out x y k le (lift_at y out k h.1 le) (λ j lj. lift_at x out j h.0 lj) rel)
     leave_at (Not c) when out n k h le = left_opposite z out when n c k (leave out (not when) n c k).it (leave out (not when) n c k).next (leave_at c (not when) out n k h le)
     leave_at (Both c d) false out n k h le = and_chain out c d n k le (leave_at d false out n k h.1 le) (λ j lj. leave_at c false out n j h.0 lj)
     leave_at (Both c d) true out n k h le = and_block out c d n k le (leave_at d true (deeper 1 out) (n + 1) k h.1 le) (λ j lj. leave_at c false (deeper 1 out) 0 j h.0 lj)

@@ -118,9 +118,11 @@ module _ (functions functions' : List (Function Ts)) (literals : List Literal) (
     -- a return to a loop's head, with less fuel
     again_next : (n : ℕ) (calls : Calls n) → ((m : ℕ) → m < n → (c : Calls m) → Again m c) → Again n calls
     again_next n calls below_n out s k passes le J r a o o' b b' next next' kept outs backs nexts w t t' near =
-        simulates_turn 1 r n w.input _ _ (λ m lt.
+        let from : Point = record { statement = Loop s; around = around a o b; next = next; world = w; temps = t } in
+        let to : Point = record { statement = Loop (linear (inside out) s k).it.statement; around = around a o' b'; next = next'; world = w; temps = t' } in
+        simulates_turn 1 r n w.input (goes from) (goes' to) (λ m lt.
         let c = calls_less m n (omega arith) calls in
-        along m r _ _ _ _ (λ i j. trees_step Trees code size floor room _ j i) (λ i j. trees_step Canonical code' size floor room _ j i)
+        along m r (step Trees code size floor room goes from) (goes from) (step Canonical code' size floor room goes' to) (goes' to) (λ i j. trees_step Trees code size floor room from j i) (λ i j. trees_step Canonical code' size floor room to j i)
         ((linear_at (scene own m c) pay (below_n m lt c) (Loop s) out k passes le).done.runs J r a o o' b b' next next' kept
         (λ q w1 t1 u1 near1. simulates_less 1 r m n _ _ (omega arith) (outs q w1 t1 u1 near1)) (λ v w1. simulates_less 1 r m n _ _ (omega arith) (backs v w1))
         (λ w1 t1 u1 near1. simulates_less 1 r m n _ _ (omega arith) (nexts w1 t1 u1 near1)) w t t' near))

@@ -16,7 +16,7 @@ use Rattle.tg_canon.proofs.Fixed.{Scene}
 use Rattle.tg_canon.proofs.Tests.{JoinsPay}
 use Rattle.tg_canon.proofs.Carried.{PartIs, linear_at}
 
-idle : ℕ → Scene
+abbrev idle : ℕ → Scene
 idle own = record {
   fuel = 0;
   room = 0;
