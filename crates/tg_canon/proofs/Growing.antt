@@ -43,20 +43,23 @@ hold_but_offset_grows true p op x y = made (hold_unless (stays p x) x) (λ a. re
 hold_but_offset_grows false p op x y = hold_grows (Binary op x y)
 
 hold_for_grows : (p : Part) (x : Tx) → Grows (hold_for p x)
-hold_for_grows p (Const n) = hold_unless_grows true (Const n)
-hold_for_grows p (Address n) = hold_unless_grows true (Address n)
+hold_for_grows p (Const n) = hold_unless_grows (stays p (Const n)) (Const n)
+hold_for_grows p (Address n) = hold_unless_grows (stays p (Address n)) (Address n)
 hold_for_grows p (Temp i) = hold_unless_grows (stays p (Temp i)) (Temp i)
-hold_for_grows p FrameAddress = hold_unless_grows true FrameAddress
+hold_for_grows p FrameAddress = hold_unless_grows (stays p FrameAddress) FrameAddress
 hold_for_grows p (Binary op x y) = hold_but_offset_grows (is_sum op && is_constant y) p op x y
-hold_for_grows p (Load x) = hold_grows (Load x)
-hold_for_grows p (LoadByte x) = hold_grows (LoadByte x)
-hold_for_grows p (Call f xs) = hold_grows (Call f xs)
-hold_for_grows p (Service n x) = hold_grows (Service n x)
-hold_for_grows p (After s x) = hold_grows (After s x)
+hold_for_grows p (Load x) = hold_unless_grows (stays p (Load x)) (Load x)
+hold_for_grows p (LoadByte x) = hold_unless_grows (stays p (LoadByte x)) (LoadByte x)
+hold_for_grows p (Call f xs) = hold_unless_grows (stays p (Call f xs)) (Call f xs)
+hold_for_grows p (Service n x) = hold_unless_grows (stays p (Service n x)) (Service n x)
+hold_for_grows p (After s x) = hold_unless_grows (stays p (After s x)) (After s x)
 
 hold_before_grows : (b : Bool) (p : Part) (a : Lifted) → Grows (hold_before b p a)
 hold_before_grows true p a = stays_at a
 hold_before_grows false p a = made (hold_for p a.rest) (behind a.front) (hold_for_grows p a.rest)
+
+pub in_front_grows : (p : Part) (a : Lifted) → Grows (in_front_of p a)
+in_front_grows p a = hold_before_grows (is_nothing p.statement) p a
 
 pub side_by_side_grows : (a b : Lifted) → Grows (side_by_side a b)
 side_by_side_grows a b =

@@ -1,4 +1,17 @@
 mod CanonExamples
+pub mod RunExamples
+pub mod Sizing
+pub mod Paying
+pub mod Fixed
+pub mod Steady
+pub mod Splits
+pub mod Helds
+pub mod Words
+pub mod Dones
+pub mod Tests
+pub mod Carried
+pub mod Sized
+pub mod Programs
 pub mod Always
 pub mod Canonicals
 pub mod Closings

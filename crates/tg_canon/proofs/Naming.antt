@@ -244,13 +244,13 @@ linearized_names allowed body temps h drawn =
     statements_allowed allowed (linearized body temps).it (statements_keep allowed temps (linearized body temps).next drawn body (body_passes allowed body h) (omega arith))
 
 -- a test of temporaries alone
-abbrev below : ℕ → Named → Bool
+abbrev pub below : ℕ → Named → Bool
 below n (temporary i) = ltb i n
 below n (function label) = true
 below n (literal label) = true
 below n (fault i) = true
 
-below_more : (m n : ℕ) (names : List Named) → m ≤ n → AreTempsBelow m names → AreAllowed (below n) names
+pub below_more : (m n : ℕ) (names : List Named) → m ≤ n → AreTempsBelow m names → AreAllowed (below n) names
 below_more m n names le h (temporary j) d = let lt : j < m = h j d in lt-ltb j n (omega arith)
 below_more m n names le h (function label) d = refl
 below_more m n names le h (literal label) d = refl

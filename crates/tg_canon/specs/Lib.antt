@@ -3,3 +3,4 @@ pub mod Canon
 pub mod Laws
 pub mod Breaking
 pub mod Views
+pub mod Meaning

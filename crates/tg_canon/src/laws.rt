@@ -5,6 +5,13 @@ ghost use Rattle.tg_canon.specs.Laws.{
   TempsGrow,
   TempsStay,
 };
+ghost use Rattle.tg_canon.specs.Meaning.{
+  BodiesAreCarried,
+  CallsAreCarried,
+  LengthStays,
+  ProgramsArePreserved,
+  RoomStays,
+};
 
 /// The laws of shapes that the pass's function obeys.
 pub fn canonical_statements()
@@ -19,4 +26,19 @@ pub fn names_stay()
     ensures names { NamesStay }
     ensures temps { TempsStay }
     ensures grow { TempsGrow }
+{}
+
+/// The laws of runs: each body's statements do what the body did, with no more work, wherever calls
+/// do what they did. So calls of the functions of a code do, and programs.
+pub fn meaning_stays()
+    ensures bodies { BodiesAreCarried }
+    ensures calls { CallsAreCarried }
+    ensures programs { ProgramsArePreserved }
+{}
+
+/// The laws of sizes: a function in canonical form is no longer than its tree, and has no more room
+/// with what is drawn for it.
+pub fn sizes_stay()
+    ensures length { LengthStays }
+    ensures room { RoomStays }
 {}
