@@ -3,4 +3,5 @@ pub mod Cutting
 pub mod Laying
 pub mod Plains
 pub mod Shapes
+pub mod Meaning
 pub mod Laws
