@@ -1,6 +1,7 @@
 mod Examples
 mod BlockExamples
 pub mod Backs
+pub mod Turns
 pub mod Rests
 pub mod Depths
 pub mod Places
@@ -10,3 +11,8 @@ pub mod Wholes
 pub mod Costs
 pub mod Measures
 pub mod Names
+pub mod BlocksRuns
+pub mod BlocksFlat
+pub mod BlocksPlaces
+pub mod BlocksKept
+pub mod BlocksLess

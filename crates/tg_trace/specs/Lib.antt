@@ -4,4 +4,5 @@ pub mod Laying
 pub mod Plains
 pub mod Shapes
 pub mod Meaning
+pub mod Carried
 pub mod Laws

@@ -1,3 +1,4 @@
+ghost use Rattle.tg_trace.specs.Carried.{BlocksStep, BlocksStayOver, BlocksOnlyGoOn};
 ghost use Rattle.tg_trace.specs.Laws.{
   BlocksAreFlat,
   BlocksAreWhole,
@@ -34,4 +35,12 @@ pub fn sizes_stay()
 /// temporary is brought in.
 pub fn names_stay()
     ensures { NamesStay }
+{}
+
+/// The laws of runs of blocks: each is its own step, one that is over stays so with more fuel, and
+/// any other goes on.
+pub fn blocks_run()
+    ensures step { BlocksStep }
+    ensures over { BlocksStayOver }
+    ensures on { BlocksOnlyGoOn }
 {}
