@@ -16,3 +16,4 @@ pub mod BlocksFlat
 pub mod BlocksPlaces
 pub mod BlocksKept
 pub mod BlocksLess
+pub mod BlocksCarried

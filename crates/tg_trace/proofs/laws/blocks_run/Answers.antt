@@ -3,6 +3,7 @@ use Rattle.tg_trace.proofs.BlocksFlat.{pays_less}
 use Rattle.tg_trace.proofs.BlocksPlaces.{first_is}
 use Rattle.tg_trace.proofs.BlocksKept.{fits_turn}
 use Rattle.tg_trace.proofs.BlocksLess.{enters_less}
+use Rattle.tg_trace.proofs.BlocksCarried.{lighter}
 use Rattle.tg_trace.proofs.laws.blocks_run.Goals as goal
 
 pub returns-clause-step : goal.returns-clause-step
