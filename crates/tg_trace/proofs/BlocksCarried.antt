@@ -33,17 +33,17 @@ lighter a r n k c d h i le s =
     let w = x.2.work in
     (x.0, x.1, record { output = x.2.output; input = x.2.input; stop = x.2.stop; work = omega (arith, w) })
 
-paying : (k r s n : ℕ) (c d : Run Ran) → s ≤ r + k → Simulates 1 s n c d → Simulates 1 r n (charged k c) d
+pub paying : (k r s n : ℕ) (c d : Run Ran) → s ≤ r + k → Simulates 1 s n c d → Simulates 1 r n (charged k c) d
 paying k r s n c d le h = simulates_paying 1 r n k c d (simulates_with_credit 1 s (r + 1 * k) n c d (omega (arith, le)) h)
 
-working : (k r s n : ℕ) (c d : Run Ran) → r + k ≤ s → Simulates 1 r n c d → Simulates 1 s n c (charged k d)
+pub working : (k r s n : ℕ) (c d : Run Ran) → r + k ≤ s → Simulates 1 r n c d → Simulates 1 s n c (charged k d)
 working k r s n c d le h = simulates_with_credit 1 (r + k) s n c (charged k d) le (simulates_working 1 r n k c d h)
 
 false_true : {A : Type 0} → false ≡ true → A
 false_true e = cc
 
 -- only a jump without statements leads on
-leads_only : (body : Stms) (z : End) (m : ℕ) → leads body z ≡ Some m → (body ≡ no_stms) × (z ≡ Jump m)
+pub leads_only : (body : Stms) (z : End) (m : ℕ) → leads body z ≡ Some m → (body ≡ no_stms) × (z ≡ Jump m)
 leads_only no_stms (Jump k) m e = (refl, ap Jump (some_is e))
   where
     some_is : {k m : ℕ} → Some k ≡ Some m → k ≡ m

@@ -17,3 +17,4 @@ pub mod BlocksPlaces
 pub mod BlocksKept
 pub mod BlocksLess
 pub mod BlocksCarried
+pub mod BlocksBodies

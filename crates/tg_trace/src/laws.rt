@@ -1,4 +1,10 @@
-ghost use Rattle.tg_trace.specs.Carried.{BlocksStep, BlocksStayOver, BlocksOnlyGoOn};
+ghost use Rattle.tg_trace.specs.Carried.{
+  BlocksStep,
+  BlocksStayOver,
+  BlocksOnlyGoOn,
+  BlocksCarryBodies,
+  BlocksKeepPrograms,
+};
 ghost use Rattle.tg_trace.specs.Laws.{
   BlocksAreFlat,
   BlocksAreWhole,
@@ -43,4 +49,12 @@ pub fn blocks_run()
     ensures step { BlocksStep }
     ensures over { BlocksStayOver }
     ensures on { BlocksOnlyGoOn }
+{}
+
+/// The laws that statements which are cut into blocks do what they did: so does the body of each
+/// function if calls do, with a unit of work more at most, and so does a program from its first
+/// activation on.
+pub fn blocks_keep_meaning()
+    ensures bodies { BlocksCarryBodies }
+    ensures programs { BlocksKeepPrograms }
 {}
