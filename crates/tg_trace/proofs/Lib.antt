@@ -11,6 +11,7 @@ pub mod Wholes
 pub mod Costs
 pub mod Measures
 pub mod Names
+pub mod CallsLess
 pub mod BlocksRuns
 pub mod BlocksFlat
 pub mod BlocksPlaces
