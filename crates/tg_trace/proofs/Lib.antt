@@ -9,3 +9,7 @@ pub mod Wholes
 pub mod Costs
 pub mod Measures
 pub mod Names
+pub mod TracesCode
+pub mod TracesOrders
+pub mod TracesLed
+pub mod TracesShapes

@@ -4,3 +4,4 @@ pub mod Laying
 pub mod Plains
 pub mod Shapes
 pub mod Laws
+pub mod Heads

@@ -1,3 +1,4 @@
+ghost use Rattle.tg_trace.specs.Heads.{FalseSideFollows, JumpsAreBack};
 ghost use Rattle.tg_trace.specs.Laws.{
   BlocksAreFlat,
   BlocksAreWhole,
@@ -34,4 +35,11 @@ pub fn sizes_stay()
 /// temporary is brought in.
 pub fn names_stay()
     ensures { NamesStay }
+{}
+
+/// Laws of the order in which blocks are laid: what follows a branch is its false side or a jump to
+/// it, and each jump goes to a mark that stands earlier.
+pub fn traces_go_on()
+    ensures branches { FalseSideFollows }
+    ensures jumps { JumpsAreBack }
 {}
