@@ -1,4 +1,5 @@
 mod Examples
+mod BlockExamples
 pub mod Backs
 pub mod Rests
 pub mod Depths
