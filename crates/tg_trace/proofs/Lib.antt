@@ -10,6 +10,7 @@ pub mod Wholes
 pub mod Costs
 pub mod Measures
 pub mod Names
+pub mod BlockSteps
 pub mod TracesCode
 pub mod TracesOrders
 pub mod TracesLed

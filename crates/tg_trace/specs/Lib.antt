@@ -6,3 +6,4 @@ pub mod Shapes
 pub mod Meaning
 pub mod Laws
 pub mod Heads
+pub mod Traced

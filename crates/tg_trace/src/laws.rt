@@ -1,4 +1,5 @@
 ghost use Rattle.tg_trace.specs.Heads.{FalseSideFollows, JumpsAreBack};
+ghost use Rattle.tg_trace.specs.Traced.{BlocksAreCarried, BlocksArePreserved};
 ghost use Rattle.tg_trace.specs.Laws.{
   BlocksAreFlat,
   BlocksAreWhole,
@@ -42,4 +43,11 @@ pub fn names_stay()
 pub fn traces_go_on()
     ensures branches { FalseSideFollows }
     ensures jumps { JumpsAreBack }
+{}
+
+/// The laws that flat code does what the blocks do that are laid in it, where loops are entered at
+/// their heads alone: each body if calls do, and so each program.
+pub fn laying_keeps_the_meaning()
+    ensures bodies { BlocksAreCarried }
+    ensures programs { BlocksArePreserved }
 {}
