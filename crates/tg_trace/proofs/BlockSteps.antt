@@ -1,10 +1,10 @@
--- A run of blocks is its own step.
+-- A run of blocks is its own step, and what the steps keep holds of it.
 use Rattle.std.proofs.Common.{◌≡◌, ℕ, zero, suc, ◌+◌, ◌-◌, ◌<◌, ◌≤◌, List, [], ◌∷◌, length, arith}
 use Rattle.std.specs.Prelude.{nat_lt}
 use Rattle.tg_base.specs.declared.ends.RunEnd.TheVariants.{Break}
-use Rattle.tg_runs.specs.Runs.{Run}
+use Rattle.tg_runs.specs.Runs.{Run, IsSameTo}
 use Rattle.tg_runs.specs.Ran.{Ran, Ended, WantsFuel, Wrong, stops}
-use Rattle.tg_runs.proofs.Fixpoint.{again_is}
+use Rattle.tg_runs.proofs.Fixpoint.{again_is, runs_relate}
 use Rattle.tg_tree.specs.Tree.{Mark, Code}
 use Rattle.tg_tree.specs.Operators.{holds}
 use Rattle.tg_tree.specs.Units.{Canonical, element_units, entry_units}
@@ -13,8 +13,9 @@ use Rattle.tg_tree.specs.Meaning.{Point}
 use Rattle.tg_tree.specs.Running.{function_of}
 use Rattle.tg_tree.specs.Flat.{Last}
 use Rattle.tg_tree.proofs.Relating.{Related, RelatedWorlds, RelatedTemps, Keeps, AlikeBack, AlikeAround, around_down, Alike, alike, keep_choice, keep_back, keep_entered, keep_value, keep_all}
-use Rattle.tg_tree.proofs.Going.{one, OneWorld, OneTemps, Same, same_keeps}
+use Rattle.tg_tree.proofs.Going.{IsOne, one, OneWorld, OneTemps, Same, same_keeps}
 use Rattle.tg_tree.proofs.TreeRuns.{same_around}
+use Rattle.tg_trace.proofs.CallsLess.{IsLocal}
 use Rattle.tg_trace.specs.Block.{End, Jump, Branch, Fault, Return, Block}
 use Rattle.tg_trace.specs.Meaning.{end_units, BlockPoint, enter_blocks, finish, return_to, run_from, block_step, block_going}
 
@@ -78,3 +79,17 @@ module _ (code : Code (List Block)) (size : ℕ → ℕ) (floor room : ℕ) wher
         down = λ m k x y le h. blocks_down Same OneWorld OneTemps same_keeps m k x y le h;
       })
       (λ k c d h x y r. keep_block_step Same OneWorld OneTemps same_keeps code size floor room k c d h x y r)
+
+  -- what the steps keep holds of the runs from points that are alike
+  pub blocks_relate : (R : Related) (W : RelatedWorlds) (T : RelatedTemps) → Keeps R W T → (n : ℕ) (x y : BlockPoint) → AlikeBlocks R W T n x y → R n x.world (going x) (going y)
+  blocks_relate R W T keeps n x y r =
+      runs_relate (AlikeBlocks R W T) (λ m v z c d. R m v.world c d) (block_step code size floor room) (block_step code size floor room)
+      (λ k c d h v z q. keep_block_step R W T keeps code size floor room k c d h v z q) going going blocks_step blocks_step n x y r
+
+  pub block_calls_are_local : (m : ℕ) → IsLocal m (enter_blocks code size floor room going)
+  block_calls_are_local m label vs top back back' w h =
+      keep_enter_blocks Same OneWorld OneTemps same_keeps code size floor room m going going
+      (λ k lt x y r. blocks_relate Same OneWorld OneTemps same_keeps k x y r) label vs top back back' w w (one w) (λ v x y r. by v x y r)
+    where
+      by : (v : ℕ) (x y : World) → OneWorld x y → IsSameTo m (back v x) (back' v y)
+      by v x y (one z) = h v z

@@ -10,8 +10,11 @@ pub mod Wholes
 pub mod Costs
 pub mod Measures
 pub mod Names
+pub mod CallsLess
 pub mod BlockSteps
 pub mod TracesCode
 pub mod TracesOrders
 pub mod TracesLed
+pub mod TracesStands
+pub mod TracesRuns
 pub mod TracesShapes

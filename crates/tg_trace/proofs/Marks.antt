@@ -64,7 +64,7 @@ pub code_is_flat : (bs : List Block) → AreFlatBlocks bs → IsFlatCode (traced
 code_is_flat bs h = flat_code (traces (length bs) bs).places bs (each IsFlatBlock (tt, tt) bs h)
 
 -- Its marks are the order.
-marks_behind_body : (ss : Stms) (rest : List Linear) → marks (body_code ss ++ rest) ≡ marks rest
+pub marks_behind_body : (ss : Stms) (rest : List Linear) → marks (body_code ss ++ rest) ≡ marks rest
 marks_behind_body no_stms rest = refl
 marks_behind_body (stm s ss) rest = marks_behind_body ss rest
 
@@ -76,7 +76,7 @@ marks_behind_branch : (b : Bool) (next : Option ℕ) (rel : _) (x y : tree.Tx) (
 marks_behind_branch true next rel x y p q rest = refl
 marks_behind_branch false next rel x y p q rest = marks_behind_jump (is_next next q) q rest
 
-marks_behind_end : (next : Option ℕ) (e : End) (rest : List Linear) → marks (end_code next e ++ rest) ≡ marks rest
+pub marks_behind_end : (next : Option ℕ) (e : End) (rest : List Linear) → marks (end_code next e ++ rest) ≡ marks rest
 marks_behind_end next (Jump p) rest = marks_behind_jump (is_next next p) p rest
 marks_behind_end next (Branch rel x y p q) rest = marks_behind_branch (is_next next p) next rel x y p q rest
 marks_behind_end next (Fault n) rest = refl
