@@ -17,4 +17,5 @@ pub mod TracesOrders
 pub mod TracesLed
 pub mod TracesStands
 pub mod TracesRuns
+pub mod TracesCarried
 pub mod TracesShapes

@@ -31,7 +31,7 @@ use Rattle.tg_trace.proofs.BlockSteps.{blocks_step}
 use Rattle.tg_trace.proofs.TracesStands.{Falls, Stands}
 
 -- Both do the same, and the code behind the pass no more work.
-abbrev SameWork : (r : ℕ) → Related
+abbrev pub SameWork : (r : ℕ) → Related
 SameWork r n w c d = Simulates 1 r n c d
 
 both_pay : (r n j k : ℕ) (c d : Run Ran) → k ≤ j → Simulates 1 (r + (j - k)) n c d → Simulates 1 r n (charged j c) (charged k d)
@@ -160,7 +160,7 @@ module _
 
   module _ (e e' : Around) where
     -- from a place on the code does what the blocks do
-    abbrev Does : (r n q : ℕ) → Type 0
+    abbrev pub Does : (r n q : ℕ) → Type 0
     Does r n q = (rest : List Linear) → behind q whole ≡ Some rest → (w : World) (t : Temps) → Simulates 1 r n (from bs 0 q e tt w t) (code (Mark q ∷ rest) e' tt w t)
 
     module _ (r n : ℕ) (below : (m : ℕ) → m < n → (q : ℕ) → q < length bs → Does r m q) where
@@ -280,7 +280,7 @@ module _
           ]
 
       -- by how many places there are from one on
-      places_do : (d p : ℕ) → length bs ≤ p + d → p < length bs → Does e e' r n p
+      pub places_do : (d p : ℕ) → length bs ≤ p + d → p < length bs → Does e e' r n p
       places_do zero p le h rest stands w t = absurd (omega arith)
       places_do (suc d) p le h rest stands w t =
           let s = stand p h in
