@@ -92,3 +92,13 @@ nowhere = refl
 -- a way back to its own block takes fuel, and so does one to a block in front
 own_place : does (fun 32 [] (block (Jump 0) (print (Const 6) ∷ []) ∷ []) ∷ []) 2 ≡ (6 ∷ 6 ∷ 6 ∷ [], WantsFuel)
 own_place = refl
+
+-- a loop at the front of a loop at the front of a loop, which is left by two: what is in the second is never come to
+abbrev three_loops : List Ts
+three_loops = print (Const 5) ∷ Loop (sequence (Loop (sequence (Loop (Break 1) ∷ print (Const 8) ∷ [])) ∷ print (Const 1) ∷ [])) ∷ done ∷ []
+
+three_before : before three_loops 2 ≡ (5 ∷ 1 ∷ 1 ∷ 1 ∷ [], WantsFuel)
+three_before = refl
+
+three_behind : behind three_loops 2 ≡ (5 ∷ 1 ∷ 1 ∷ 1 ∷ [], WantsFuel)
+three_behind = refl

@@ -47,7 +47,7 @@ module _ (R : Related) (W : RelatedWorlds) (T : RelatedTemps) where
 
         keep_finish :
             (at at' : ℕ → Acts Last) → ((q : ℕ) (w x : World) (t u : Temps) → W w x → T t u → R n w (at q e tt w t) (at' q e' tt x u)) →
-            (end : End) (w x : World) (t u : Temps) → W w x → T t u → R n w (finish code size floor room c whole at end e tt w t) (finish code size floor room d whole at' end e' tt x u)
+            (end : End) (w x : World) (t u : Temps) → W w x → T t u → R n w (finish code size floor room c at end e tt w t) (finish code size floor room d at' end e' tt x u)
         keep_finish at at' h (Jump q) w x t u r s = keeps.work n (end_units (Jump q)) w _ _ (h q w x t u r s)
         keep_finish at at' h (Branch rel p q i j) w x t u r s =
             keeps.work n (end_units (Branch rel p q i j)) w _ _ (keep_value R W T keeps n Canonical room code.literals _ _ _ _ keep_enter_blocks no_loop p e e' _ _ he (λ a w1 x1 t1 u1 r1 s1.

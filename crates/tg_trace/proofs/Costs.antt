@@ -6,7 +6,7 @@ use Rattle.std.proofs.lemmas.List.{reverse-append}
 use Rattle.tg_tree.specs.Tree as tree
 use Rattle.tg_tree.specs.Tree.{Tx, Cond, Compare, Not, Both, Either, Ts, Move, Store, StoreByte, Do, If, Loop, Break, Seq, Stms, no_stms, stm, Linear, Mark, Do'}
 use Rattle.tg_trace.specs.Block.{End, Jump, Branch, Fault, Return, Block}
-use Rattle.tg_trace.specs.Cutting.{Cut, open_at, in_front, draw, stand, lay, leads, seal_by, next_mark, seal, branch, elsewhere, head_by, exit_of, leaves, cut, cut_all, start, entered_by, entered, placed_end, placed, placed_all, blocks_by, blocks_of}
+use Rattle.tg_trace.specs.Cutting.{Cut, open_at, in_front, draw, stand, lay, leads, seal_by, next_mark, seal, branch, head, exit_of, leaves, cut, cut_all, start, entered_by, entered, placed_end, placed, placed_all, blocks_by, blocks_of}
 use Rattle.tg_trace.specs.Laying.{no_block, block_at, is_next, jump_unless, branch_by, end_code, body_code, block_code, code_in, traces, traced}
 use Rattle.tg_trace.proofs.Places.{IsOrder, traces_keep, same_or_not}
 use Rattle.tg_trace.proofs.TracesCode.{other_block, in_rest, first_apart, rest_apart}
@@ -89,9 +89,8 @@ module _ (m j : ℕ) (s : Ts → ℕ) (b : Tx → Tx → ℕ) (r : Tx → ℕ) (
       let l = branch_cost d yes' (next_mark second) (seal second) in
       omega (arith, h, k, l)
 
-  head_by_cost : (v : Bool) (mark : ℕ) (c : Cut) → cut_cost (head_by v mark c) ≤ cut_cost c + (m + j)
-  head_by_cost true mark c = omega arith
-  head_by_cost false mark c = let h = lay_cost mark (stand mark (length c.laid) c) in omega (arith, h)
+  head_cost : (mark : ℕ) (c : Cut) → cut_cost (head mark c) ≤ cut_cost c + (m + j)
+  head_cost mark c = let h = lay_cost mark (stand mark (length c.laid) c) in omega (arith, h)
 
   sides_cost :
       (exits : List ℕ) (d : Cond) (t u : Ts) (c : Cut) →
@@ -122,7 +121,7 @@ module _ (m j : ℕ) (s : Ts → ℕ) (b : Tx → Tx → ℕ) (r : Tx → ℕ) (
       let c3 = cut (exits ++ next_mark c ∷ []) t c2 in
       let h1 = seal_cost c in
       let h2 = cost_t c2 in
-      let h3 = head_by_cost (elsewhere mark (leads c3.body c3.end)) mark c3 in
+      let h3 = head_cost mark c3 in
       omega (arith, h1, h2, h3)
 
   either_cost : (v : Bool) (c d : Cut) (n : ℕ) → cut_cost d ≤ cut_cost c + n → cut_cost (if v then c else d) ≤ cut_cost c + n

@@ -200,14 +200,14 @@ module _
       -- an expression, and the statements of a body, before what does the same
       words_do :
           (x : Tx) (go go' : Go ℕ) → ((u : ℕ) (w : World) (t : Temps) → Simulates 1 r n (go u w t) (go' u w t)) → (w : World) (t : Temps) →
-          Simulates 1 r n (word_of before size floor room blocks_go bs x e go w t) (value Canonical room literals (enter_flat after size floor room flat_goes) (λ q. wrong q.world) x e' go' w t)
+          Simulates 1 r n (word_of before size floor room blocks_go x e go w t) (value Canonical room literals (enter_flat after size floor room flat_goes) (λ q. wrong q.world) x e' go' w t)
       words_do x go go' h w t =
           keep_value (SameWork r) OneWorld OneTemps (same_work r) n Canonical room literals _ _ _ _ (enters r) (no_loop r) x e e' go go' he
           (λ v y z s u. from_one (go v) (go' v) (h v) y z s u) w w t t (one w) (one t)
 
       bodies_do :
           (ss : Stms) (tail : List Linear) (next : Next) → ((w : World) (t : Temps) → Simulates 1 r n (next w t) (code tail e' tt w t)) → (w : World) (t : Temps) →
-          Simulates 1 r n (run_within before size floor room blocks_go bs ss e next w t) (code (body_code ss ++ tail) e' tt w t)
+          Simulates 1 r n (run_within before size floor room blocks_go ss e next w t) (code (body_code ss ++ tail) e' tt w t)
       bodies_do no_stms tail next h w t = h w t
       bodies_do (stm s ss) tail next h w t =
           simulates_with_credit 1 (r + 0) r n _ _ (omega arith)
@@ -236,7 +236,7 @@ module _
         leads_branch :
             (b : Bool) (rel : Rel) (x y : Tx) (i j : ℕ) → is_next next i ≡ b → LeadsTo (block_at bs p).end i → LeadsTo (block_at bs p).end j → i < length bs → j < length bs →
             (w : World) (t : Temps) →
-            Simulates 1 r n (finish before size floor room blocks_go bs (choice p) (Branch rel x y i j) e tt w t) (code (branch_by b next rel x y i j ++ more) e' tt w t)
+            Simulates 1 r n (finish before size floor room blocks_go (choice p) (Branch rel x y i j) e tt w t) (code (branch_by b next rel x y i j ++ more) e' tt w t)
         leads_branch true rel x y i j is li lj hi hj w t =
             let more_he = more_around r e e' he in
             both_pay r n 3 2 _ _ (omega arith)
@@ -254,7 +254,7 @@ module _
 
         ends_do :
             (end : End) → ((q : ℕ) → LeadsTo end q → LeadsTo (block_at bs p).end q) → EndsBelow (length bs) end → (w : World) (t : Temps) →
-            Simulates 1 r n (finish before size floor room blocks_go bs (choice p) end e tt w t) (code (end_code next end ++ more) e' tt w t)
+            Simulates 1 r n (finish before size floor room blocks_go (choice p) end e tt w t) (code (end_code next end ++ more) e' tt w t)
         ends_do (Jump q) leads h w t = jump_or_fall (is_next next q) q refl (leads q refl) h w t
         ends_do (Branch rel x y i j) leads h w t = leads_branch (is_next next i) rel x y i j refl (leads i (inl refl)) (leads j (inr refl)) h.0 h.1 w t
         ends_do (Fault k) leads h w t = (same_work r).work n 1 w _ _ ((same_work r).stop n (Ended (Break k)) w w (one w))

@@ -39,7 +39,7 @@ module _ (code : Code (List Block)) (size : ℕ → ℕ) (floor room : ℕ) wher
   abbrev pub enter_blocks : (BlockPoint → Run Ran) → Enter
   enter_blocks later = call_in entry_units size floor (run_block_body later) code.functions
 
-  module _ (later : BlockPoint → Run Ran) (whole : List Block) where
+  module _ (later : BlockPoint → Run Ran) where
     -- no loop stands in a block
     abbrev pub word_of : Tx → Acts (Go ℕ)
     word_of x = value Canonical room code.literals (enter_blocks later) (λ p. wrong p.world) x
@@ -65,19 +65,20 @@ module _ (code : Code (List Block)) (size : ℕ → ℕ) (floor room : ℕ) wher
       v ← word_of x
       go_back v
 
-    abbrev pub return_to : (place : ℕ) → Acts Last
-    return_to p e last w temps =
-        with_fuel w
-        (later (record { whole = whole; place = p; around = e; world = w; temps = temps }))
+    module _ (whole : List Block) where
+      abbrev pub return_to : (place : ℕ) → Acts Last
+      return_to p e last w temps =
+          with_fuel w
+          (later (record { whole = whole; place = p; around = e; world = w; temps = temps }))
 
-    -- the blocks that stand from a place on, behind so many of them that are passed by
-    abbrev pub run_from : List Block → (place passed : ℕ) → Acts Last
-    run_from [] p k = stop Wrong
-    run_from (b ∷ bs) p (suc k) = run_from bs (p + 1) k
-    run_from (b ∷ bs) p zero = do
-      pay (element_units (Mark p))
-      run_within b.body
-      finish
+      -- the blocks that stand from a place on, behind so many of them that are passed by
+      abbrev pub run_from : List Block → (place passed : ℕ) → Acts Last
+      run_from [] p k = stop Wrong
+      run_from (b ∷ bs) p (suc k) = run_from bs (p + 1) k
+      run_from (b ∷ bs) p zero = do
+        pay (element_units (Mark p))
+        run_within b.body
+        finish
           (λ q. if nat_lt p q then run_from bs (p + 1) (q - (p + 1)) else return_to q)
           b.end
 
