@@ -18,4 +18,5 @@ pub mod TracesLed
 pub mod TracesStands
 pub mod TracesRuns
 pub mod TracesCarried
+pub mod TracesNested
 pub mod TracesShapes

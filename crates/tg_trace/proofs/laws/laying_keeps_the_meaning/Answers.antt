@@ -1,3 +1,4 @@
+use Rattle.tg_trace.proofs.TracesNested.{lay_nested}
 use Rattle.tg_trace.proofs.TracesCarried.{blocks_carried, programs_are_preserved}
 use Rattle.tg_trace.proofs.laws.laying_keeps_the_meaning.Goals as goal
 
