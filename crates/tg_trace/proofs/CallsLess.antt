@@ -36,8 +36,8 @@ cut_simulates a r m n back back' h v w i le s =
           (x.0, x.1, subst (λ p. DoesTheSame a r p (back' v w x.0)) (sym same) x.2)
     ]
 
-pub enters_less : (a e m n : ℕ) (enter enter' : Enter) → m ≤ n → IsLocal m enter → EntersSimulate a e n enter enter' → EntersSimulate a e m enter enter'
-enters_less a e m n enter enter' mn local h label vs top back back' w r backs i le s =
+pub calls_less : (a e m n : ℕ) (enter enter' : Enter) → m ≤ n → IsLocal m enter → EntersSimulate a e n enter enter' → EntersSimulate a e m enter enter'
+calls_less a e m n enter enter' mn local h label vs top back back' w r backs i le s =
     let cut = cut_off m back in
     let same : enter label vs top back w i ≡ enter label vs top cut w i = local label vs top back cut w (λ v x j lj. sym (within m back v x j lj)) i le in
     let x = h label vs top cut back' w r (cut_simulates a r m n back back' backs) i (omega arith) (λ z. s (ap (λ (p : Ran). p.stop) same ∙ z)) in

@@ -1,6 +1,7 @@
 mod Examples
 mod BlockExamples
 pub mod Backs
+pub mod Turns
 pub mod Rests
 pub mod Depths
 pub mod Places
@@ -11,7 +12,6 @@ pub mod Costs
 pub mod Measures
 pub mod Names
 pub mod CallsLess
-pub mod BlockSteps
 pub mod TracesCode
 pub mod TracesOrders
 pub mod TracesLed
@@ -20,3 +20,8 @@ pub mod TracesRuns
 pub mod TracesCarried
 pub mod TracesNested
 pub mod TracesShapes
+pub mod BlocksRuns
+pub mod BlocksFlat
+pub mod BlocksPlaces
+pub mod BlocksKept
+pub mod BlocksLess

@@ -4,6 +4,7 @@ use Rattle.std.specs.Prelude.{Option, Some, None, slice_get, slice_set, replicat
 use Rattle.std.specs.List.{AllByRecursion}
 use Rattle.tg_base.specs.declared.ends.RunEnd.TheVariants.{Exit}
 use Rattle.tg_base.specs.State.{stack_top}
+use Rattle.tg_runs.specs.Runs.{IsSameTo}
 use Rattle.tg_runs.specs.Ran.{Ended}
 use Rattle.tg_runs.specs.Preserving.{Preserves}
 use Rattle.tg_runs.specs.Simulating.{Simulates}
@@ -17,7 +18,7 @@ use Rattle.tg_tree.specs.Carrying.{BacksSimulate, CallsSimulate, BodyCarried, Al
 use Rattle.tg_tree.specs.Flat.{behind, run_flat, flat_going, flat_run}
 use Rattle.tg_tree.proofs.Linking.{programs_carried}
 use Rattle.tg_tree.proofs.Relating.{AlikeAround, around, around_down}
-use Rattle.tg_tree.proofs.Going.{IsOne, one as one_of, OneWorld, OneTemps}
+use Rattle.tg_tree.proofs.Going.{IsOne, one as one_of, OneWorld, OneTemps, Same, same_keeps}
 use Rattle.tg_tree.proofs.FlatRuns.{flat_code_steps}
 use Rattle.tg_trace.specs.Block.{Block}
 use Rattle.tg_trace.specs.Laying.{Order, put, block_at, onward, follow, traces, traced}
@@ -25,11 +26,12 @@ use Rattle.tg_trace.specs.Shapes.{LeadsBelow, AreWhole}
 use Rattle.tg_trace.specs.Meaning.{run_from, block_going, block_run, enter_blocks}
 use Rattle.tg_trace.specs.Traced.{MayBeLaid, laid, laid_all, block_runner, flat_runner}
 use Rattle.tg_trace.proofs.Marks.{each}
-use Rattle.tg_trace.proofs.CallsLess.{enters_less}
-use Rattle.tg_trace.proofs.BlockSteps.{blocks_step, block_calls_are_local}
+use Rattle.tg_trace.proofs.CallsLess.{IsLocal, calls_less}
+use Rattle.tg_trace.proofs.BlocksRuns.{blocks_step, blocks_relate, keep_enter}
+use Rattle.tg_trace.proofs.BlocksFlat.{keeps_simulating}
 use Rattle.tg_trace.proofs.TracesCode.{laid_code, traced_is}
 use Rattle.tg_trace.proofs.TracesStands.{Stands, all_stand}
-use Rattle.tg_trace.proofs.TracesRuns.{SameWork, same_work, Does, places_do}
+use Rattle.tg_trace.proofs.TracesRuns.{SameWork, Does, places_do}
 
 -- The first block is laid first.
 abbrev Begins : Order → Type 0
@@ -69,8 +71,16 @@ module _
   abbrev Calls : ℕ → Type 0
   Calls n = CallsSimulate 1 0 size floor entry_units entry_units (block_runner size floor room before) (flat_runner size floor room after) functions flat n
 
-  calls_less : (m n : ℕ) → m ≤ n → Calls n → Calls m
-  calls_less m n le calls = enters_less 1 0 m n _ _ le (block_calls_are_local before size floor room m) calls
+  calls_are_local : (m : ℕ) → IsLocal m (enter_blocks before size floor room (block_going before size floor room))
+  calls_are_local m label vs top back back' w h =
+      keep_enter Same OneWorld OneTemps same_keeps before size floor room m _ _
+      (λ k lt x y r. blocks_relate before size floor room Same OneWorld OneTemps same_keeps k x y r) label vs top back back' w w (one_of w) by
+    where
+      by : (v : ℕ) (x y : World) → OneWorld x y → IsSameTo m (back v x) (back' v y)
+      by v x y (one_of z) = h v z
+
+  with_less : (m n : ℕ) → m ≤ n → Calls n → Calls m
+  with_less m n le calls = calls_less 1 0 m n _ _ le (calls_are_local m) calls
 
   module _ (bs : List Block) (may : MayBeLaid bs) where
     abbrev Carries : (e e' : Around) (r n p : ℕ) → Type 0
@@ -81,11 +91,11 @@ module _
     all_do (suc k) n lt calls r e e' he p h =
         places_do functions flat literals size floor room bs (traced bs) n calls r e e' he (all_stand bs may.entered)
         (each (LeadsBelow (length bs)) tt bs may.whole.within)
-        (λ m mn q hq. all_do k m (omega arith) (calls_less m n (omega arith) calls) r e e' (around_down (SameWork r) OneWorld OneTemps (same_work r) m n e e' (omega arith) he) q hq)
+        (λ m mn q hq. all_do k m (omega arith) (with_less m n (omega arith) calls) r e e' (around_down (SameWork r) OneWorld OneTemps (keeps_simulating r) m n e e' (omega arith) he) q hq)
         (length bs) p (omega arith) h
 
     outermost_alike : (r n : ℕ) (a : Activation) (back back' : Back) → BacksSimulate 1 r n back back' → AlikeAround (SameWork r) OneWorld OneTemps n (outermost a back) (outermost a back')
-    outermost_alike r n a back back' h = around a _ _ back back' (λ v w x t u o q. (same_work r).stop n _ w x o) (λ v w x o. by v w x o)
+    outermost_alike r n a back back' h = around a _ _ back back' (λ v w x t u o q. (keeps_simulating r).stop n _ w x o) (λ v w x o. by v w x o)
       where
         by : (v : ℕ) (w x : World) → OneWorld w x → Simulates 1 r n (back v w) (back' v x)
         by v w x (one_of y) = h v y

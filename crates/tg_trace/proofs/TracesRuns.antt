@@ -27,7 +27,8 @@ use Rattle.tg_trace.specs.Shapes.{EndsBelow, LeadsBelow}
 use Rattle.tg_trace.specs.Heads.{LeadsTo}
 use Rattle.tg_trace.specs.Meaning.{end_units, BlockPoint, enter_blocks, word_of, run_within, finish, return_to, run_from, block_step, block_going}
 use Rattle.tg_trace.specs.Traced.{block_runner, flat_runner}
-use Rattle.tg_trace.proofs.BlockSteps.{blocks_step}
+use Rattle.tg_trace.proofs.BlocksRuns.{blocks_step}
+use Rattle.tg_trace.proofs.BlocksFlat.{pays_less, keeps_simulating}
 use Rattle.tg_trace.proofs.TracesStands.{Falls, Stands}
 
 -- Both do the same, and the code behind the pass no more work.
@@ -38,9 +39,6 @@ both_pay : (r n j k : ℕ) (c d : Run Ran) → k ≤ j → Simulates 1 (r + (j -
 both_pay r n j k c d le h =
     simulates_paying 1 r n j c (charged k d)
     (simulates_with_credit 1 (r + (j - k) + k) (r + 1 * j) n c (charged k d) (omega arith) (simulates_working 1 (r + (j - k)) n k c d h))
-
-pays_more : (r n j k : ℕ) (c d : Run Ran) → k ≤ j → Simulates 1 r n c d → Simulates 1 r n (charged j c) (charged k d)
-pays_more r n j k c d le h = both_pay r n j k c d le (simulates_with_credit 1 r (r + (j - k)) n c d (omega arith) h)
 
 pays_alone : (r n j : ℕ) (c d : Run Ran) → Simulates 1 r n c d → Simulates 1 r n (charged j c) d
 pays_alone r n j c d h = simulates_paying 1 r n j c d (simulates_with_credit 1 r (r + 1 * j) n c d (omega arith) h)
@@ -60,18 +58,6 @@ unpaid r n k c d h i le s =
 
 more_credit : (r k n : ℕ) (c d : Run Ran) → Simulates 1 r n c d → Simulates 1 (r + k) n c d
 more_credit r k n c d h = simulates_with_credit 1 r (r + k) n c d (omega arith) h
-
-pub same_work : (r : ℕ) → Keeps (SameWork r) OneWorld OneTemps
-same_work r =
-    keeps_one (SameWork r)
-    (record {
-      stop = λ n s w. simulates_stopping 1 r n w.input s;
-      write = λ n bytes w c d h. simulates_writing 1 r n bytes c d h;
-      work = λ n k w c d h. pays_more r n k k c d (omega arith) h;
-      fuel = λ n w c d h. simulates_turn 1 r n w.input c d h;
-      down = λ m n w c d le h. simulates_less 1 r m n c d le h;
-      later = λ n w v c d l h. h;
-    })
 
 -- a branch that is turned round goes the other way
 not_not : (b : Bool) → b ≡ not (not b)
@@ -187,7 +173,7 @@ module _
     enters r label vs top back back' w x (one v) h = simulates_with_credit 1 (r + 0) r n _ _ (omega arith) (calls label vs top back back' v r (λ u y. h u y y (one y)))
 
     no_loop : (r : ℕ) (x y : Point) → Alike (SameWork r) OneWorld OneTemps n x y → Simulates 1 r n (wrong x.world) (wrong y.world)
-    no_loop r x y (alike s e e' g g' w v t u h l o q) = (same_work r).stop n Wrong w v o
+    no_loop r x y (alike s e e' g g' w v t u h l o q) = (keeps_simulating r).stop n Wrong w v o
 
     more_around : (r : ℕ) (e e' : Around) → AlikeAround (SameWork r) OneWorld OneTemps n e e' → AlikeAround (SameWork (r + 1)) OneWorld OneTemps n e e'
     more_around r e e' (around a out out' back back' h k) =
@@ -202,7 +188,7 @@ module _
           (x : Tx) (go go' : Go ℕ) → ((u : ℕ) (w : World) (t : Temps) → Simulates 1 r n (go u w t) (go' u w t)) → (w : World) (t : Temps) →
           Simulates 1 r n (word_of before size floor room blocks_go x e go w t) (value Canonical room literals (enter_flat after size floor room flat_goes) (λ q. wrong q.world) x e' go' w t)
       words_do x go go' h w t =
-          keep_value (SameWork r) OneWorld OneTemps (same_work r) n Canonical room literals _ _ _ _ (enters r) (no_loop r) x e e' go go' he
+          keep_value (SameWork r) OneWorld OneTemps (keeps_simulating r) n Canonical room literals _ _ _ _ (enters r) (no_loop r) x e e' go go' he
           (λ v y z s u. from_one (go v) (go' v) (h v) y z s u) w w t t (one w) (one t)
 
       bodies_do :
@@ -212,7 +198,7 @@ module _
       bodies_do (stm s ss) tail next h w t =
           simulates_with_credit 1 (r + 0) r n _ _ (omega arith)
           (simulates_working 1 r n 0 _ _
-          (keep_run (SameWork r) OneWorld OneTemps (same_work r) n Canonical room literals _ _ _ _ (enters r) (no_loop r) s e e' _ _ he
+          (keep_run (SameWork r) OneWorld OneTemps (keeps_simulating r) n Canonical room literals _ _ _ _ (enters r) (no_loop r) s e e' _ _ he
           (λ y z t1 u1. from_one _ _ (λ w1 t2. bodies_do ss tail next h w1 t2) y z t1 u1) w w t t (one w) (one t)))
 
     -- The end of the block at a place, before what stands behind it.
@@ -231,7 +217,7 @@ module _
             (b : Bool) (q : ℕ) → is_next next q ≡ b → LeadsTo (block_at bs p).end q → q < length bs → (w : World) (t : Temps) →
             Simulates 1 r n (charged 1 (choice p q e tt w t)) (code (jump_unless b q ++ more) e' tt w t)
         jump_or_fall true q is leads h w t = pays_alone r n 1 _ _ (fall q (next_is next q is) leads h w t)
-        jump_or_fall false q is leads h w t = pays_more r n 1 1 _ _ (omega arith) (jumps q h w t)
+        jump_or_fall false q is leads h w t = pays_less r n 1 1 _ _ (omega arith) (jumps q h w t)
 
         leads_branch :
             (b : Bool) (rel : Rel) (x y : Tx) (i j : ℕ) → is_next next i ≡ b → LeadsTo (block_at bs p).end i → LeadsTo (block_at bs p).end j → i < length bs → j < length bs →
@@ -243,13 +229,13 @@ module _
             (words_do (r + 1) e e' more_he x _ _ (λ u w1 t1. words_do (r + 1) e e' more_he y _ _ (λ v w2 t2.
             simulates_along 1 (r + 1) n _ _ _ _ (λ k. refl)
             (λ k. ap (λ (c : Run Ran). c k) (turned_round (holds (opposite rel) u v) (holds rel u v) (jump_to after size floor room flat_goes whole (behind j whole)) (code more) e' tt w2 t2 (opposite_holds rel u v)))
-            (keep_choice (SameWork (r + 1)) OneWorld OneTemps (same_work (r + 1)) n (holds rel u v) _ _ _ _ e e' tt tt w2 w2 t2 t2
+            (keep_choice (SameWork (r + 1)) OneWorld OneTemps (keeps_simulating (r + 1)) n (holds rel u v) _ _ _ _ e e' tt tt w2 w2 t2 t2
             (more_credit r 1 n _ _ (fall i (next_is next i is) li hi w2 t2)) (more_credit r 1 n _ _ (jumps j hj w2 t2)))) w1 t1) w t)
         leads_branch false rel x y i j is li lj hi hj w t =
             let more_he = more_around r e e' he in
             both_pay r n 3 2 _ _ (omega arith)
             (words_do (r + 1) e e' more_he x _ _ (λ u w1 t1. words_do (r + 1) e e' more_he y _ _ (λ v w2 t2.
-            keep_choice (SameWork (r + 1)) OneWorld OneTemps (same_work (r + 1)) n (holds rel u v) _ _ _ _ e e' tt tt w2 w2 t2 t2
+            keep_choice (SameWork (r + 1)) OneWorld OneTemps (keeps_simulating (r + 1)) n (holds rel u v) _ _ _ _ e e' tt tt w2 w2 t2 t2
             (more_credit r 1 n _ _ (jumps i hi w2 t2)) (unpaid r n 1 _ _ (jump_or_fall (is_next next j) j refl lj hj w2 t2))) w1 t1) w t)
 
         ends_do :
@@ -257,10 +243,10 @@ module _
             Simulates 1 r n (finish before size floor room blocks_go (choice p) end e tt w t) (code (end_code next end ++ more) e' tt w t)
         ends_do (Jump q) leads h w t = jump_or_fall (is_next next q) q refl (leads q refl) h w t
         ends_do (Branch rel x y i j) leads h w t = leads_branch (is_next next i) rel x y i j refl (leads i (inl refl)) (leads j (inr refl)) h.0 h.1 w t
-        ends_do (Fault k) leads h w t = (same_work r).work n 1 w _ _ ((same_work r).stop n (Ended (Break k)) w w (one w))
+        ends_do (Fault k) leads h w t = (keeps_simulating r).work n 1 w _ _ ((keeps_simulating r).stop n (Ended (Break k)) w w (one w))
         ends_do (Return x) leads h w t =
-            (same_work r).work n (end_units (Return x)) w _ _
-            (words_do r e e' he x _ _ (λ v w1 t1. keep_back (SameWork r) OneWorld OneTemps (same_work r) n v e e' he w1 w1 (one w1)) w t)
+            (keeps_simulating r).work n (end_units (Return x)) w _ _
+            (words_do r e e' he x _ _ (λ v w1 t1. keep_back (SameWork r) OneWorld OneTemps (keeps_simulating r) n v e e' he w1 w1 (one w1)) w t)
 
     module _
         (r : ℕ) (e e' : Around) (he : AlikeAround (SameWork r) OneWorld OneTemps n e e') (stand : (q : ℕ) → q < length bs → Stands bs whole q)
@@ -288,6 +274,6 @@ module _
           let further = λ (q : ℕ) (lt : p < q) (hq : q < length bs). places_do d q (omega arith) hq in
           let same : rest ≡ body_code b.body ++ (end_code s.next b.end ++ s.more) = some_code _ _ (sym stands ∙ s.stands) in
           simulates_along 1 r n _ _ _ _ (λ i. ap (λ (a : Acts Last). a e tt w t i) (stands_at p h)) (λ i. ap (λ xs. code (Mark p ∷ xs) e' tt w t i) same)
-          (pays_more r n 1 1 _ _ (omega arith)
+          (pays_less r n 1 1 _ _ (omega arith)
           (bodies_do r e e' he b.body (end_code s.next b.end ++ s.more) _
           (λ w1 t1. ends_do r e e' he p s.next s.more s.falls further (λ q hq. jumps_do p q hq (λ lt. further q lt hq)) b.end (λ q l. l) (within p) w1 t1) w t))

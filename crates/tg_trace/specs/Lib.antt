@@ -4,6 +4,7 @@ pub mod Laying
 pub mod Plains
 pub mod Shapes
 pub mod Meaning
+pub mod Carried
 pub mod Laws
 pub mod Heads
 pub mod Traced

@@ -1,5 +1,6 @@
 ghost use Rattle.tg_trace.specs.Heads.{FalseSideFollows, JumpsAreBack};
 ghost use Rattle.tg_trace.specs.Traced.{BlocksAreCarried, BlocksArePreserved};
+ghost use Rattle.tg_trace.specs.Carried.{BlocksStep, BlocksStayOver, BlocksOnlyGoOn};
 ghost use Rattle.tg_trace.specs.Laws.{
   BlocksAreFlat,
   BlocksAreWhole,
@@ -50,4 +51,12 @@ pub fn traces_go_on()
 pub fn laying_keeps_the_meaning()
     ensures bodies { BlocksAreCarried }
     ensures programs { BlocksArePreserved }
+{}
+
+/// The laws of runs of blocks: each is its own step, one that is over stays so with more fuel, and
+/// any other goes on.
+pub fn blocks_run()
+    ensures step { BlocksStep }
+    ensures over { BlocksStayOver }
+    ensures on { BlocksOnlyGoOn }
 {}
