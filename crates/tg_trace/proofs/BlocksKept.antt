@@ -8,21 +8,21 @@ use Rattle.tg_tree.specs.Tree.{Cond, Compare, Not, Both, Either, Ts, Move, Store
 use Rattle.tg_trace.specs.Block.{End, Jump, Branch, Fault, Return, Block}
 use Rattle.tg_trace.specs.Cutting.{Cut, open_at, in_front, draw, stand, lay, leads, seal_by, next_mark, seal, branch, head, exit_of, leaves, cut, cut_all}
 
-get_front : {A : Type 0} (xs ys : List A) (i : ℕ) → i < length xs → slice_get (xs ++ ys) i ≡ slice_get xs i
+pub get_front : {A : Type 0} (xs ys : List A) (i : ℕ) → i < length xs → slice_get (xs ++ ys) i ≡ slice_get xs i
 get_front [] ys i h = absurd (omega arith)
 get_front (x ∷ xs) ys zero h = refl
 get_front (x ∷ xs) ys (suc i) h = get_front xs ys i (omega arith)
 
-get_seam : {A : Type 0} (xs : List A) (y : A) → slice_get (xs ++ y ∷ []) (length xs) ≡ Some y
+pub get_seam : {A : Type 0} (xs : List A) (y : A) → slice_get (xs ++ y ∷ []) (length xs) ≡ Some y
 get_seam [] y = refl
 get_seam (x ∷ xs) y = get_seam xs y
 
-set_own : {A : Type 0} (xs : List A) (i : ℕ) (y : A) → i < length xs → slice_get (slice_set xs i y) i ≡ Some y
+pub set_own : {A : Type 0} (xs : List A) (i : ℕ) (y : A) → i < length xs → slice_get (slice_set xs i y) i ≡ Some y
 set_own [] i y h = absurd (omega arith)
 set_own (x ∷ xs) zero y h = refl
 set_own (x ∷ xs) (suc i) y h = set_own xs i y (omega arith)
 
-set_other : {A : Type 0} (xs : List A) (i k : ℕ) (y : A) → i ≢ k → slice_get (slice_set xs i y) k ≡ slice_get xs k
+pub set_other : {A : Type 0} (xs : List A) (i k : ℕ) (y : A) → i ≢ k → slice_get (slice_set xs i y) k ≡ slice_get xs k
 set_other [] i k y n = refl
 set_other (x ∷ xs) zero zero y n = absurd (n refl)
 set_other (x ∷ xs) zero (suc k) y n = refl
@@ -71,7 +71,7 @@ lay_keeps mark c =
       marks = λ m h. refl;
     }
 
-seal_by_keeps : (o : Option ℕ) (c : Cut) → Keeps c (seal_by o c)
+pub seal_by_keeps : (o : Option ℕ) (c : Cut) → Keeps c (seal_by o c)
 seal_by_keeps (Some mark) c = keeps_itself c
 seal_by_keeps None c =
     let d = draw (length c.laid) c in

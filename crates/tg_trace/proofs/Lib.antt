@@ -19,6 +19,9 @@ pub mod TracesStands
 pub mod TracesRuns
 pub mod TracesCarried
 pub mod TracesNested
+pub mod TracesLoops
+pub mod TracesEntered
+pub mod TracesHeads
 pub mod TracesShapes
 pub mod BlocksRuns
 pub mod BlocksFlat

@@ -47,7 +47,7 @@ module _
   usable_on m (free pm mq f) = free pm (omega arith) (free_on m pm mq f)
 
 -- one of so many, or the next
-one_more : (i n : ℕ) → i < suc n → (i < n) ⊎ (i ≡ n)
+pub one_more : (i n : ℕ) → i < suc n → (i < n) ⊎ (i ≡ n)
 one_more i n h = elim (cases_lt i n) [ inl lt ↦ inl lt | inr ge ↦ inr (omega arith) ]
 
 drawn_since : (P q : ℕ) (Out : ℕ → Type 0) (m : ℕ) → P ≤ m → ((m < P) × Out m) ⊎ ((P ≤ m) × (m < q)) → m < q

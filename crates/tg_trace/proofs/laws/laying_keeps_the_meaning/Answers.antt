@@ -1,4 +1,4 @@
-use Rattle.tg_trace.proofs.TracesNested.{lay_nested}
+use Rattle.tg_trace.proofs.TracesHeads.{blocks_may_be_laid}
 use Rattle.tg_trace.proofs.TracesCarried.{blocks_carried, programs_are_preserved}
 use Rattle.tg_trace.proofs.laws.laying_keeps_the_meaning.Goals as goal
 
