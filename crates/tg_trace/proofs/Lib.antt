@@ -28,3 +28,5 @@ pub mod BlocksFlat
 pub mod BlocksPlaces
 pub mod BlocksKept
 pub mod BlocksLess
+pub mod BlocksCarried
+pub mod BlocksBodies

@@ -3,8 +3,10 @@
 use Rattle.std.specs.Prelude.{ℕ, ◌≡◌, ◌≢◌, ◌≤◌, ◌<◌, ◌⊎◌, List, [], ◌∷◌, ◌++◌}
 use Rattle.std.specs.List.{Contains}
 use Rattle.tg_tree.specs.Tree as tree
-use Rattle.tg_tree.specs.Tree.{Linear, Mark}
+use Rattle.tg_tree.specs.Tree.{Stms, Linear, Mark}
+use Rattle.tg_tree.specs.Shapes.{AreClosed}
 use Rattle.tg_trace.specs.Block.{End, Jump, Branch, Fault, Return, Block}
+use Rattle.tg_trace.specs.Cutting.{blocks_of}
 use Rattle.tg_trace.specs.Laying.{block_at, traced}
 use Rattle.tg_trace.specs.Shapes.{AreWhole}
 
@@ -31,6 +33,10 @@ abbrev pub AreEnteredAtHeads : List Block → Type 0
 AreEnteredAtHeads bs =
     (from p head : ℕ) →
     LeadsTo (block_at bs p).end head → head ≤ p → from < head → PassesBy bs head from p → ⊥
+
+-- as are the blocks of a closed body
+abbrev pub BlocksAreEntered : Type 0
+BlocksAreEntered = (ss : Stms) → AreClosed ss → AreEnteredAtHeads (blocks_of ss)
 
 -- each jump goes to a mark that stands earlier
 abbrev pub JumpsGoBack : (earlier : List ℕ) → List Linear → Type 0

@@ -47,8 +47,8 @@ abbrev pub laying_work : ℕ
 laying_work = 0
 
 -- the code of a body does what its blocks do, if calls do
-abbrev pub BlocksAreCarried : Type 0
-BlocksAreCarried =
+abbrev pub TracesCarryBodies : Type 0
+TracesCarryBodies =
     (size : ℕ → ℕ) (floor room : ℕ) (literals : List Literal)
     (functions : List (Function (List Block))) (flat : List (Function (List Linear)))
     (bs : List Block) →
@@ -59,8 +59,8 @@ BlocksAreCarried =
     functions flat bs (traced bs)
 
 -- so a program does: no run that doesn't go wrong takes more work than its blocks, or less fuel
-abbrev pub BlocksArePreserved : Type 0
-BlocksArePreserved =
+abbrev pub TracesKeepPrograms : Type 0
+TracesKeepPrograms =
     (code : Code (List Block)) (size : ℕ → ℕ) (floor room body : ℕ) (input : List ℕ) →
     AllByRecursion (λ f. MayBeLaid f.body) code.functions →
     Preserves 1 laying_work

@@ -1,6 +1,5 @@
-use Rattle.tg_trace.proofs.TracesHeads.{blocks_may_be_laid}
 use Rattle.tg_trace.proofs.TracesCarried.{blocks_carried, programs_are_preserved}
-use Rattle.tg_trace.proofs.laws.laying_keeps_the_meaning.Goals as goal
+use Rattle.tg_trace.proofs.laws.traces_keep_meaning.Goals as goal
 
 pub returns : goal.returns
 returns c = record {
