@@ -52,7 +52,7 @@ done = tree.Return (Const 0)
 abbrev counts : List Ts
 counts = Move 0 (Const 0) ∷ Loop (If (below 3) (sequence (print (Temp 0) ∷ up ∷ [])) (Break 0)) ∷ done ∷ []
 
-pub loop_counts : behind counts 3 ≡ finished (0 ∷ 1 ∷ 2 ∷ [])
+loop_counts : behind counts 3 ≡ finished (0 ∷ 1 ∷ 2 ∷ [])
 loop_counts = refl
 
 wants_one_more : behind counts 2 ≡ (0 ∷ 1 ∷ 2 ∷ [], WantsFuel)

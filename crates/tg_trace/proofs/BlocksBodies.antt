@@ -1,13 +1,11 @@
 -- Bodies of canonical statements are carried to their blocks, and so are whole programs.
-use Rattle.std.proofs.Common.{◌≡◌, ℕ, zero, suc, ◌+◌, ◌-◌, ◌*◌, ◌<◌, ◌≤◌, List, [], ◌∷◌, ◌++◌, length, take, map, Bool, true, false, refl, sym, ap, ◌∙◌, subst, arith, length-append}
-use Rattle.std.specs.Prelude.{Option, Some, None, slice_get, slice_set, slice_index, pos, if◌then◌else◌}
+use Rattle.std.proofs.Common.{◌≡◌, ℕ, ◌+◌, ◌*◌, ◌≤◌, List, [], ◌∷◌, ◌++◌, length, map, Bool, true, false, refl, sym, ap, ◌∙◌, subst, arith, length-append}
+use Rattle.std.specs.Prelude.{Option, Some, None, slice_set, slice_index, pos, if◌then◌else◌}
 use Rattle.std.specs.List.{AllByRecursion}
-use Rattle.std.proofs.Math.ListN.{length-set}
 use Rattle.std.proofs.lemmas.Option.{get_or_from_slice_get}
 use Rattle.tg_base.specs.declared.ends.RunEnd.TheVariants.{Exit}
 use Rattle.tg_base.specs.State.{stack_top}
-use Rattle.tg_runs.specs.Runs.{Run}
-use Rattle.tg_runs.specs.Ran.{Ran, Ended, Wrong}
+use Rattle.tg_runs.specs.Ran.{Ended}
 use Rattle.tg_runs.specs.Preserving.{Preserves}
 use Rattle.tg_runs.specs.Simulating.{Simulates}
 use Rattle.tg_runs.proofs.Simulations.{simulates_wrong, simulates_stopping, simulates_along, simulates_with_credit, simulation_preserves}
@@ -16,19 +14,19 @@ use Rattle.tg_tree.specs.Tree.{Cond, Compare, Not, Both, Either, Ts, Move, Store
 use Rattle.tg_tree.specs.Shapes.{BreaksWithin, BreaksWithinStms, AreCanonical, AreClosed}
 use Rattle.tg_tree.specs.Units.{Canonical, marked_entry_units, entry_units}
 use Rattle.tg_tree.specs.Memory.{begin}
-use Rattle.tg_tree.specs.Actions.{World, Temps, Activation, Next, Out, Back, over, wrong}
+use Rattle.tg_tree.specs.Actions.{World, Temps, Activation, Next, Out, Back, wrong}
 use Rattle.tg_tree.specs.Meaning.{run_all}
 use Rattle.tg_tree.specs.Running.{Runner, with_fuel, enter, outermost, run_body, body_point, going, in_sequence, canonical_run}
-use Rattle.tg_tree.specs.Carrying.{BacksSimulate, EntersSimulate, CallsSimulate, BodyCarried, AllCarried, none, one, ProgramsCarried}
+use Rattle.tg_tree.specs.Carrying.{BacksSimulate, CallsSimulate, AllCarried, none, one, ProgramsCarried}
 use Rattle.tg_tree.proofs.TreeRuns.{trees_step}
 use Rattle.tg_tree.proofs.Linking.{programs_carried}
-use Rattle.tg_trace.specs.Block.{End, Jump, Branch, Fault, Return, Block}
-use Rattle.tg_trace.specs.Cutting.{Cut, open_at, draw, leads, next_mark, seal, branch, leaves, cut, cut_all, start, entered_by, placed_all, blocks_of}
+use Rattle.tg_trace.specs.Block.{Block}
+use Rattle.tg_trace.specs.Cutting.{Cut, draw, leads, next_mark, seal, branch, leaves, cut, cut_all, start, entered_by, placed_all, blocks_of}
 use Rattle.tg_trace.specs.Meaning.{run_block_body, block_going, block_run}
 use Rattle.tg_trace.specs.Carried.{added_work, in_blocks, code_in_blocks, IsCanonicalFunction, BlocksCarryBodies, BlocksKeepPrograms}
 use Rattle.tg_trace.proofs.Rests.{take_all}
 use Rattle.tg_trace.proofs.BlocksPlaces.{opens, first, first_is, ahead, leads_to, from_place}
-use Rattle.tg_trace.proofs.BlocksKept.{Keeps, keeps_on, draw_keeps, seal_keeps, turn, turn_keeps, cut_keeps, get_front, get_seam, set_own, Fits}
+use Rattle.tg_trace.proofs.BlocksKept.{Keeps, turn, turn_keeps, cut_keeps, get_front, get_seam, set_own, Fits}
 use Rattle.tg_trace.proofs.BlocksLess.{enters_less}
 use Rattle.tg_trace.proofs.BlocksCarried.{lighter, paying, working, leads_only, Scene, all_carry}
 

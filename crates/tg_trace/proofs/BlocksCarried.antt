@@ -21,10 +21,10 @@ use Rattle.tg_tree.specs.Carrying.{BacksSimulate, EntersSimulate}
 use Rattle.tg_tree.proofs.TreeRuns.{trees_step}
 use Rattle.tg_trace.specs.Block.{End, Jump, Branch, Fault, Return, Block}
 use Rattle.tg_trace.specs.Cutting.{Cut, open_at, in_front, draw, leads, mark_by, seal_by, next_mark, seal, branch, head, exit_of, leaves, cut, cut_all, place_of}
-use Rattle.tg_trace.specs.Meaning.{BlockPoint, enter_blocks, block_going}
+use Rattle.tg_trace.specs.Meaning.{enter_blocks, block_going}
 use Rattle.tg_trace.proofs.BlocksFlat.{pays_less, no_later, word_simulates, statement_simulates}
 use Rattle.tg_trace.proofs.BlocksPlaces.{at, leads_to, opens, first, first_is, ahead, back as back_at}
-use Rattle.tg_trace.proofs.BlocksKept.{Keeps, keeps_itself, keeps_on, opened_keeps, draw_keeps, seal_keeps, branch_keeps, head_keeps, side, turn, side_keeps, turn_keeps, cut_keeps, all_keeps, Fits, fits_first, fits_rest, Stands, sealed_stands, head_stands, fits_turn}
+use Rattle.tg_trace.proofs.BlocksKept.{Keeps, keeps_itself, keeps_on, opened_keeps, draw_keeps, seal_keeps, branch_keeps, head_keeps, side, turn, side_keeps, cut_keeps, all_keeps, Fits, fits_first, fits_rest, Stands, sealed_stands, head_stands, fits_turn}
 
 -- less work behind, and work that is paid before
 pub lighter : (a r n k : ℕ) (c d : Run Ran) → Simulates a r n c (charged k d) → Simulates a r n c d

@@ -1,7 +1,7 @@
 -- Flat statements and expressions do what they did where what comes next does: they look at no loop and no way out of one.
-use Rattle.std.proofs.Common.{◌≡◌, ℕ, ◌+◌, ◌*◌, ◌<◌, ◌≤◌, List, [], ◌∷◌, refl, sym, ap, ◌∙◌, subst, arith}
+use Rattle.std.proofs.Common.{◌≡◌, ℕ, ◌+◌, ◌*◌, ◌≤◌, List, ◌∷◌, refl, sym, ◌∙◌, subst, arith}
 use Rattle.tg_runs.specs.Runs.{Run}
-use Rattle.tg_runs.specs.Ran.{Ran, Stop, Wrong}
+use Rattle.tg_runs.specs.Ran.{Ran, Wrong}
 use Rattle.tg_runs.specs.Simulating.{Simulates}
 use Rattle.tg_runs.proofs.Simulations.{simulates_stopping, simulates_writing, simulates_paying, simulates_working, simulates_with_credit, simulates_turn, simulates_less}
 use Rattle.tg_tree.specs.Tree.{Tx, Const, Address, Temp, FrameAddress, Binary, Load, LoadByte, Call, Service, After, Txs, no_txs, tx, Ts, Move, Store, StoreByte, Do, If, Loop, Break, Fault, Seq, Return, Literal}
@@ -10,7 +10,7 @@ use Rattle.tg_tree.specs.Memory.{store, store_byte}
 use Rattle.tg_tree.specs.Units.{Canonical, expression_units, argument_units, statement_units}
 use Rattle.tg_tree.specs.Actions.{World, Temps, Activation, Around, Go, Next, Out, Back, wrong, charged, set_temp, with_memory, service}
 use Rattle.tg_tree.specs.Meaning.{Enter, Point, value, values, run, enter_function}
-use Rattle.tg_tree.specs.Running.{with_fuel, outermost}
+use Rattle.tg_tree.specs.Running.{outermost}
 use Rattle.tg_tree.specs.Carrying.{BacksSimulate, EntersSimulate}
 use Rattle.tg_tree.proofs.FlatValues.{flat_runs}
 use Rattle.tg_tree.proofs.Relating.{Keeps, AlikeBack, AlikeAround, around, Alike, alike, keep_value, keep_run}

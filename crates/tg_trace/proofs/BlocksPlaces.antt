@@ -1,6 +1,6 @@
 -- Where blocks go on, by how many blocks are laid behind their own: the one at a mark is ahead, or is come to behind a unit of fuel.
-use Rattle.std.proofs.Common.{◌≡◌, ℕ, zero, suc, ◌+◌, ◌-◌, ◌<◌, ◌≤◌, List, [], ◌∷◌, ◌++◌, length, take, get_or, map, Bool, true, false, refl, sym, ap, ◌∙◌, subst, arith, add-one}
-use Rattle.std.specs.Prelude.{Option, Some, None, reverse, slice_get, slice_index, nat_lt, if◌then◌else◌}
+use Rattle.std.proofs.Common.{◌≡◌, ℕ, zero, suc, ◌+◌, ◌-◌, ◌<◌, ◌≤◌, List, [], ◌∷◌, ◌++◌, length, take, get_or, map, Bool, true, false, refl, sym, ap, ◌∙◌, arith}
+use Rattle.std.specs.Prelude.{Some, None, reverse, slice_get, slice_index, nat_lt, if◌then◌else◌}
 use Rattle.std.proofs.lemmas.Bool.{ltb-true, ltb-false, lt-ltb, le-ltb}
 use Rattle.std.proofs.lemmas.Option.{slice_get-get_or}
 use Rattle.tg_runs.specs.Runs.{Run}
@@ -12,7 +12,7 @@ use Rattle.tg_tree.specs.Flat.{Last}
 use Rattle.tg_trace.specs.Block.{End, Block}
 use Rattle.tg_trace.specs.Cutting.{place_of, placed_end, placed, placed_all}
 use Rattle.tg_trace.specs.Laying.{no_block}
-use Rattle.tg_trace.specs.Meaning.{BlockPoint, run_within, finish, return_to, run_from, block_step, block_going}
+use Rattle.tg_trace.specs.Meaning.{BlockPoint, run_within, finish, return_to, run_from, block_going}
 use Rattle.tg_trace.proofs.Rests.{reverse_last, take_all}
 use Rattle.tg_trace.proofs.BlocksRuns.{blocks_step}
 
@@ -99,25 +99,26 @@ module _ (code : Code (List Block)) (size : ℕ → ℕ) (floor room : ℕ) (pla
       (ap (λ bs. run_from code size floor room goes whole bs (length laid - (j + 1)) (suc k)) (behind_one j b (slice_get-get_or laid j no_block (omega arith))) ∙
       (ap (λ p. from j p k) less ∙ passed k i (omega arith)))
 
+  passed_to : (i j k : ℕ) → j ≡ i + 1 + k → j ≤ length laid → from j (length laid - j) k ≡ from (i + 1) (length laid - (i + 1)) 0
+  passed_to i j k e h = ap (λ x. from x (length laid - x) k) e ∙ passed k i (omega (arith, e, h))
+
+  at_ahead : (i j k q : ℕ) → length laid - j ≤ q → q - (length laid - j) ≡ k → j ≡ i + 1 + k → j ≤ length laid → at j q ≡ from (i + 1) (length laid - (i + 1)) 0
+  at_ahead i j k q past apart there le =
+      ap (λ v. if v then return_to code size floor room goes whole q else from j (length laid - j) (q - (length laid - j))) (le-ltb q (length laid - j) past) ∙
+      (ap (λ x. from j (length laid - j) x) apart ∙ passed_to i j k there le)
+
   -- a mark in front of which a block was laid is ahead
   pub ahead : (j i m : ℕ) → slice_index places m ≡ i → i < j → j ≤ length laid → leads_to j m ≡ first i
   ahead j i m is lt le =
-      let n = length laid in
-      let q : ℕ = n - 1 - i in
-      let k : ℕ = j - (i + 1) in
-      let apart : q - (n - j) ≡ k = omega arith in
-      let there : j ≡ i + 1 + k = omega arith in
-      let on : at j q ≡ from (i + 1) (n - (i + 1)) 0 =
-      ap (λ v. if v then return_to code size floor room goes whole q else from j (n - j) (q - (n - j))) (le-ltb q (n - j) (omega arith)) ∙
-      (ap (λ x. from j (n - j) x) apart ∙ (ap (λ x. from x (n - x) k) there ∙ passed k i (omega arith))) in
-      ap (λ x. λ w t. at j (n - 1 - x) e tt w t) is ∙ ap (λ f. λ w t. f e tt w t) on
+      ap (λ x. λ w t. at j (length laid - 1 - x) e tt w t) is ∙
+      ap (λ f. λ w t. f e tt w t) (at_ahead i j (j - (i + 1)) (length laid - 1 - i) (omega arith) (omega arith) (omega arith) le)
 
   -- a run from a place of the whole
   pub from_place : (i q : ℕ) → i + 1 + q ≡ length laid → (w : World) (t : Temps) (n : ℕ) → goes (record { whole = whole; place = q; around = e; world = w; temps = t }) n ≡ first i w t n
   from_place i q h w t n =
       let all : whole ≡ behind (length laid) = ap (λ bs. map (placed places (length laid - 1)) (reverse bs)) (sym (take_all (length laid) laid (omega arith))) in
       let none : 0 ≡ length laid - length laid = omega arith in
-      let f : from (length laid) (length laid - length laid) q ≡ from (i + 1) (length laid - (i + 1)) 0 = ap (λ x. from x (length laid - x) q) (sym h) ∙ passed q i (omega arith) in
+      let f : from (length laid) (length laid - length laid) q ≡ from (i + 1) (length laid - (i + 1)) 0 = passed_to i (length laid) q (sym h) (omega arith) in
       blocks_step code size floor room (record { whole = whole; place = q; around = e; world = w; temps = t }) n ∙
       (ap (λ bs. run_from code size floor room goes whole bs 0 q e tt w t n) all ∙
       (ap (λ p. from (length laid) p q e tt w t n) none ∙ ap (λ g. g e tt w t n) f))

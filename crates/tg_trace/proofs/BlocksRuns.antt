@@ -1,12 +1,11 @@
 -- Runs of blocks: each is its own step, and goes on with more fuel alone.
-use Rattle.std.proofs.Common.{◌≡◌, ℕ, zero, suc, ◌+◌, ◌-◌, ◌<◌, ◌≤◌, List, [], ◌∷◌, length, Bool, true, false, refl, arith}
+use Rattle.std.proofs.Common.{◌≡◌, ℕ, zero, suc, ◌+◌, ◌-◌, ◌<◌, ◌≤◌, List, [], ◌∷◌, length, Bool, true, false, arith}
 use Rattle.std.specs.Prelude.{nat_lt, pos, if◌then◌else◌}
 use Rattle.tg_base.specs.declared.ends.RunEnd.TheVariants.{Exit, Break}
 use Rattle.tg_base.specs.State.{stack_top}
 use Rattle.tg_runs.specs.Runs.{Run}
 use Rattle.tg_runs.specs.Ran.{Ran, Ended, WantsFuel, Wrong, stops, IsOver, GoesOn}
 use Rattle.tg_runs.proofs.Fixpoint.{again_is, runs_relate}
-use Rattle.tg_tree.specs.Tree as tree
 use Rattle.tg_tree.specs.Tree.{Mark, Code}
 use Rattle.tg_tree.specs.Operators.{holds}
 use Rattle.tg_tree.specs.Memory.{begin}

@@ -1,5 +1,5 @@
 -- Canonical statements are cut into flat blocks.
-use Rattle.std.proofs.Common.{◌≡◌, ℕ, zero, suc, ◌+◌, ◌-◌, Bool, true, false, List, [], ◌∷◌, ◌++◌, length, take, map, sym, subst}
+use Rattle.std.proofs.Common.{ℕ, zero, suc, ◌-◌, Bool, true, false, List, [], ◌∷◌, ◌++◌, length, take, map, sym, subst}
 use Rattle.std.specs.Prelude.{Option, Some, None, reverse, if◌then◌else◌}
 use Rattle.std.specs.List.{AllByRecursion}
 use Rattle.std.proofs.lemmas.List.{reverse-append}
@@ -7,7 +7,7 @@ use Rattle.tg_tree.specs.Tree as tree
 use Rattle.tg_tree.specs.Tree.{Cond, Compare, Not, Both, Either, Ts, Move, Store, StoreByte, Do, If, Loop, Break, Seq, Stms, no_stms, stm}
 use Rattle.tg_tree.specs.Shapes.{IsFlatStatement, IsFlatCond, IsCanonical, AreCanonical}
 use Rattle.tg_trace.specs.Block.{End, Jump, Branch, Fault, Return, Block}
-use Rattle.tg_trace.specs.Cutting.{Cut, open_at, in_front, draw, stand, lay, leads, mark_by, seal_by, next_mark, seal, branch, head, exit_of, leaves, before_join, turned, cut, cut_all, start, entered_by, entered, placed_end, placed, placed_all, blocks_by, blocks_of}
+use Rattle.tg_trace.specs.Cutting.{Cut, open_at, in_front, draw, stand, lay, leads, seal_by, next_mark, seal, branch, head, exit_of, leaves, cut, cut_all, start, entered_by, entered, placed_end, placed, blocks_of}
 use Rattle.tg_trace.specs.Shapes.{AreFlatStatements, IsFlatEnd, IsFlatBlock, AreFlatBlocks}
 
 -- Facts of each element.

@@ -1,5 +1,5 @@
 -- The blocks of a closed body lead to one another, and there is a first one.
-use Rattle.std.proofs.Common.{◌≡◌, ◌≤◌, ◌<◌, ℕ, zero, suc, ◌+◌, ◌-◌, Bool, true, false, List, [], ◌∷◌, ◌++◌, length, take, map, refl, sym, ◌∙◌, subst, arith, length-append}
+use Rattle.std.proofs.Common.{◌≡◌, ◌≤◌, ◌<◌, ℕ, ◌+◌, ◌-◌, Bool, true, false, List, [], ◌∷◌, ◌++◌, length, map, refl, sym, ◌∙◌, subst, arith, length-append}
 use Rattle.std.specs.Prelude.{Option, Some, None, reverse, slice_index, if◌then◌else◌}
 use Rattle.std.specs.List.{AllByRecursion}
 use Rattle.std.proofs.lemmas.List.{length-take, length-map, length-reverse}
@@ -7,7 +7,7 @@ use Rattle.tg_tree.specs.Tree as tree
 use Rattle.tg_tree.specs.Tree.{Cond, Compare, Not, Both, Either, Ts, Move, Store, StoreByte, Do, If, Loop, Break, Seq, Stms, no_stms, stm}
 use Rattle.tg_tree.specs.Shapes.{BreaksWithin, BreaksWithinStms, AreClosed}
 use Rattle.tg_trace.specs.Block.{End, Jump, Branch, Fault, Return, Block}
-use Rattle.tg_trace.specs.Cutting.{Cut, open_at, in_front, draw, stand, lay, leads, seal_by, next_mark, seal, branch, head, exit_of, leaves, cut, cut_all, start, entered_by, entered, placed_end, placed, placed_all, blocks_of}
+use Rattle.tg_trace.specs.Cutting.{Cut, open_at, draw, stand, lay, leads, seal_by, next_mark, seal, branch, head, leaves, cut, cut_all, start, entered_by, entered, placed_end, placed, placed_all, blocks_of}
 use Rattle.tg_trace.specs.Shapes.{EndsBelow, LeadsBelow, AreWhole}
 
 -- No block that is laid is lost.

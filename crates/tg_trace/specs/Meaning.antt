@@ -79,8 +79,8 @@ module _ (code : Code (List Block)) (size : ℕ → ℕ) (floor room : ℕ) wher
         pay (element_units (Mark p))
         run_within b.body
         finish
-          (λ q. if nat_lt p q then run_from bs (p + 1) (q - (p + 1)) else return_to q)
-          b.end
+            (λ q. if nat_lt p q then run_from bs (p + 1) (q - (p + 1)) else return_to q)
+            b.end
 
   abbrev pub block_step : (BlockPoint → Run Ran) → BlockPoint → Run Ran
   block_step later p = run_from later p.whole p.whole 0 p.place p.around tt p.world p.temps
