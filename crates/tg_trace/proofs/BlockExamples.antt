@@ -8,11 +8,11 @@ use Rattle.tg_frame.specs.declared.accesses.Access.TheVariants.{InTemp}
 use Rattle.tg_runs.specs.Ran.{Ran, Stop, Ended, WantsFuel, Wrong}
 use Rattle.tg_tree.specs.declared.operators.Bin.TheVariants.{Add}
 use Rattle.tg_tree.specs.declared.operators.Rel.TheVariants.{Less}
-use Rattle.tg_tree.specs.Forms.{txs, stms, sequence, nothing, when}
+use Rattle.tg_tree.specs.Forms.{txs, stms, sequence, nothing}
 use Rattle.tg_tree.specs.Tree as tree
 use Rattle.tg_tree.specs.Tree.{Tx, Const, Temp, Binary, Call, Service, Cond, Compare, Ts, Move, Do, If, Loop, Break, Function, Code}
 use Rattle.tg_tree.specs.Running.{canonical_run}
-use Rattle.tg_trace.specs.Block.{End, Jump, Branch, Fault, Return, Block}
+use Rattle.tg_trace.specs.Block.{End, Jump, Return, Block}
 use Rattle.tg_trace.specs.Cutting.{blocks_of}
 use Rattle.tg_trace.specs.Meaning.{block_run}
 

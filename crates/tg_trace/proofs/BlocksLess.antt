@@ -1,9 +1,9 @@
 -- Calls of trees that are simulated as far as so much fuel are so as far as less.
-use Rattle.std.proofs.Common.{ℕ, ◌≤◌, List}
+use Rattle.std.proofs.Common.{ℕ, ◌≤◌}
 use Rattle.tg_runs.specs.Runs.{IsSameTo}
 use Rattle.tg_tree.specs.Tree.{Ts, Code}
 use Rattle.tg_tree.specs.Units.{Stage}
-use Rattle.tg_tree.specs.Actions.{World, Back}
+use Rattle.tg_tree.specs.Actions.{World}
 use Rattle.tg_tree.specs.Meaning.{Enter}
 use Rattle.tg_tree.specs.Running.{enter, going}
 use Rattle.tg_tree.specs.Carrying.{EntersSimulate}

@@ -1,6 +1,5 @@
 -- Blocks and flat code, each computed by the definition itself.
 use Rattle.std.proofs.Common.{◌≡◌, ℕ, List, [], ◌∷◌, refl}
-use Rattle.tg_tree.specs.declared.operators.Rel.{Rel}
 use Rattle.tg_tree.specs.declared.operators.Rel.TheVariants.{Less, GreaterEqual, Equal, NotEqual}
 use Rattle.tg_tree.specs.Forms.{stms, sequence, nothing, when}
 use Rattle.tg_tree.specs.Tree as tree

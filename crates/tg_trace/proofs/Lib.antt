@@ -1,5 +1,6 @@
 mod Examples
 mod BlockExamples
+mod TracesExamples
 pub mod Backs
 pub mod Turns
 pub mod Rests

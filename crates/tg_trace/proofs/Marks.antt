@@ -1,12 +1,12 @@
 -- Marks, targets, flatness and the end of the code in which blocks are laid.
-use Rattle.std.proofs.Common.{◌≡◌, ◌≢◌, ◌≤◌, ◌<◌, ℕ, zero, suc, ◌+◌, inl, inr, Bool, true, false, List, [], ◌∷◌, ◌++◌, length, refl, ap, sym, ◌∙◌, subst, arith, append_assoc, append-nil}
+use Rattle.std.proofs.Common.{◌≡◌, ◌≢◌, ◌<◌, ℕ, zero, suc, Bool, true, false, List, [], ◌∷◌, ◌++◌, length, refl, ap, sym, ◌∙◌, subst, arith, append_assoc, append-nil}
 use Rattle.std.specs.Prelude.{Option, Some, None, slice_get, slice_set}
 use Rattle.std.specs.List.{Contains, AllPairs, AllByRecursion}
 use Rattle.tg_tree.specs.Tree as tree
 use Rattle.tg_tree.specs.Tree.{Stms, no_stms, stm, Linear, Mark, Do'}
 use Rattle.tg_tree.specs.Shapes.{IsFlatCode, IsWellMarked, EndsCode, marks, targets}
 use Rattle.tg_trace.specs.Block.{End, Jump, Branch, Fault, Return, Block}
-use Rattle.tg_trace.specs.Laying.{Order, no_block, block_at, traces, is_next, jump_unless, branch_by, end_code, body_code, block_code, code_in, traced}
+use Rattle.tg_trace.specs.Laying.{no_block, block_at, traces, is_next, jump_unless, branch_by, end_code, body_code, block_code, code_in, traced}
 use Rattle.tg_trace.specs.Shapes.{AreFlatStatements, IsFlatEnd, IsFlatBlock, AreFlatBlocks, EndsBelow, LeadsBelow, AreWhole}
 use Rattle.tg_trace.proofs.Places.{traces_keep, all_there}
 

@@ -1,6 +1,6 @@
 -- Each body of blocks is carried to its code, and so is each program.
-use Rattle.std.proofs.Common.{◌≡◌, ◌≤◌, ◌<◌, ℕ, zero, suc, ◌+◌, ◌*◌, List, [], ◌∷◌, ◌++◌, length, map, Bool, true, false, refl, ap, ◌∙◌, subst, arith, eq-eqb}
-use Rattle.std.specs.Prelude.{Option, Some, None, slice_get, slice_set, replicate, pos, if◌then◌else◌}
+use Rattle.std.proofs.Common.{◌≡◌, ◌≤◌, ◌<◌, ℕ, zero, suc, ◌+◌, List, [], ◌∷◌, ◌++◌, length, map, true, refl, ap, ◌∙◌, arith}
+use Rattle.std.specs.Prelude.{Option, Some, None, slice_set, pos}
 use Rattle.std.specs.List.{AllByRecursion}
 use Rattle.tg_base.specs.declared.ends.RunEnd.TheVariants.{Exit}
 use Rattle.tg_base.specs.State.{stack_top}
@@ -12,25 +12,25 @@ use Rattle.tg_runs.proofs.Simulations.{simulation_preserves, simulates_stopping,
 use Rattle.tg_tree.specs.Tree.{Linear, Mark, Function, Literal, Code}
 use Rattle.tg_tree.specs.Memory.{begin}
 use Rattle.tg_tree.specs.Units.{entry_units}
-use Rattle.tg_tree.specs.Actions.{World, Temps, Activation, Around, Back, over}
+use Rattle.tg_tree.specs.Actions.{World, Activation, Around, Back}
 use Rattle.tg_tree.specs.Running.{outermost}
-use Rattle.tg_tree.specs.Carrying.{BacksSimulate, CallsSimulate, BodyCarried, AllCarried, none, one, EntriesPay}
+use Rattle.tg_tree.specs.Carrying.{BacksSimulate, CallsSimulate, BodyCarried, AllCarried, none, one}
 use Rattle.tg_tree.specs.Flat.{behind, run_flat, flat_going, flat_run}
 use Rattle.tg_tree.proofs.Linking.{programs_carried}
 use Rattle.tg_tree.proofs.Relating.{AlikeAround, around, around_down}
-use Rattle.tg_tree.proofs.Going.{IsOne, one as one_of, OneWorld, OneTemps, Same, same_keeps}
+use Rattle.tg_tree.proofs.Going.{one as one_of, OneWorld, OneTemps, Same, same_keeps}
 use Rattle.tg_tree.proofs.FlatRuns.{flat_code_steps}
 use Rattle.tg_trace.specs.Block.{Block}
 use Rattle.tg_trace.specs.Laying.{Order, put, block_at, onward, follow, traces, traced}
-use Rattle.tg_trace.specs.Shapes.{LeadsBelow, AreWhole}
-use Rattle.tg_trace.specs.Meaning.{run_from, block_going, block_run, enter_blocks}
+use Rattle.tg_trace.specs.Shapes.{LeadsBelow}
+use Rattle.tg_trace.specs.Meaning.{block_going, block_run, enter_blocks}
 use Rattle.tg_trace.specs.Traced.{MayBeLaid, laid, laid_all, block_runner, flat_runner}
 use Rattle.tg_trace.proofs.Marks.{each}
 use Rattle.tg_trace.proofs.CallsLess.{IsLocal, calls_less}
 use Rattle.tg_trace.proofs.BlocksRuns.{blocks_step, blocks_relate, keep_enter}
 use Rattle.tg_trace.proofs.BlocksFlat.{keeps_simulating}
 use Rattle.tg_trace.proofs.TracesCode.{laid_code, traced_is}
-use Rattle.tg_trace.proofs.TracesStands.{Stands, all_stand}
+use Rattle.tg_trace.proofs.TracesStands.{all_stand}
 use Rattle.tg_trace.proofs.TracesRuns.{SameWork, Does, places_do}
 
 -- The first block is laid first.

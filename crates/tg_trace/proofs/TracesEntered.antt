@@ -1,16 +1,15 @@
 -- Loops of blocks that statements are cut into are entered at their heads alone.
-use Rattle.std.proofs.Common.{◌≡◌, ◌≢◌, ◌≤◌, ◌<◌, ℕ, zero, suc, ◌+◌, ◌-◌, ◌⊎◌, inl, inr, Bool, true, false, List, [], ◌∷◌, ◌++◌, length, refl, ap, sym, ◌∙◌, subst, arith, length-append}
-use Rattle.std.specs.Prelude.{Option, Some, None, slice_get, slice_set, slice_index, slice_index_or, if◌then◌else◌}
+use Rattle.std.proofs.Common.{◌≡◌, ◌<◌, ℕ, suc, ◌+◌, ◌-◌, inl, inr, Bool, true, false, List, [], ◌∷◌, ◌++◌, length, refl, ap, sym, ◌∙◌, subst, arith, length-append}
+use Rattle.std.specs.Prelude.{slice_get, slice_index, if◌then◌else◌}
 use Rattle.std.proofs.lemmas.Bool.{cases_lt}
 use Rattle.std.proofs.lemmas.Option.{get_or_from_slice_get}
 use Rattle.tg_tree.specs.Tree as tree
 use Rattle.tg_tree.specs.Tree.{Cond, Compare, Not, Both, Either, Ts, Move, Store, StoreByte, Do, If, Loop, Break, Seq, Stms, no_stms, stm}
 use Rattle.tg_tree.specs.Shapes.{BreaksWithin, BreaksWithinStms}
-use Rattle.tg_trace.specs.Block.{End, Jump, Branch, Fault, Return, Block}
+use Rattle.tg_trace.specs.Block.{Jump, Branch, Fault, Return}
 use Rattle.tg_trace.specs.Heads.{LeadsTo}
-use Rattle.tg_trace.specs.Cutting.{Cut, open_at, draw, leads, next_mark, seal, branch, exit_of, leaves, cut, cut_all}
+use Rattle.tg_trace.specs.Cutting.{Cut, open_at, leads, next_mark, seal, branch, exit_of, leaves, cut, cut_all}
 use Rattle.tg_trace.proofs.BlocksKept.{get_front, get_seam, side, turn}
-use Rattle.tg_trace.proofs.TracesNested.{Usable, outer, free}
 use Rattle.tg_trace.proofs.TracesLoops.{same_index, UsableIn, State, Step, step_usable, step_on, stays, opens, fronts, Sealed, seals, begun, begun_starts, FromOutside, begun_state, from_outside, turns}
 
 -- the marks behind the loops around

@@ -1,19 +1,19 @@
 -- The blocks of a closed body may be laid: they lead to one another, and their loops are entered at their heads alone.
-use Rattle.std.proofs.Common.{◌≡◌, ◌≢◌, ◌≤◌, ◌<◌, ℕ, zero, suc, ◌+◌, ◌-◌, ◌⊎◌, inl, inr, List, [], ◌∷◌, ◌++◌, length, take, map, refl, ap, sym, ◌∙◌, subst, arith, length-append}
-use Rattle.std.specs.Prelude.{Option, Some, None, reverse, slice_index, slice_index_or}
+use Rattle.std.proofs.Common.{◌≡◌, ◌≤◌, ◌<◌, ℕ, suc, ◌+◌, ◌-◌, ◌⊎◌, inl, inr, List, [], ◌∷◌, ◌++◌, length, take, refl, ap, sym, ◌∙◌, subst, arith}
+use Rattle.std.specs.Prelude.{Option, Some, None, reverse, slice_index}
 use Rattle.std.proofs.Math.ListN.{get_or-eq_default}
-use Rattle.std.proofs.lemmas.Bool.{cases_lt, cases_order}
+use Rattle.std.proofs.lemmas.Bool.{cases_lt}
 use Rattle.std.proofs.lemmas.List.{length-map, length-reverse, length-take, get_or-reverse, get_or-take, get_or-map}
-use Rattle.tg_tree.specs.Tree.{Stms, no_stms}
+use Rattle.tg_tree.specs.Tree.{Stms}
 use Rattle.tg_tree.specs.Shapes.{AreClosed}
 use Rattle.tg_trace.specs.Block.{End, Jump, Branch, Fault, Return, Block}
 use Rattle.tg_trace.specs.Laying.{no_block, block_at}
 use Rattle.tg_trace.specs.Heads.{LeadsTo, PassesBy, begins, goes_on, AreEnteredAtHeads}
 use Rattle.tg_trace.specs.Traced.{MayBeLaid}
-use Rattle.tg_trace.specs.Cutting.{Cut, leads, cut_all, start, entered_by, entered, place_of, placed_end, placed, placed_all, blocks_of}
+use Rattle.tg_trace.specs.Cutting.{Cut, leads, cut_all, start, entered_by, place_of, placed_end, placed, placed_all, blocks_of}
 use Rattle.tg_trace.proofs.Wholes.{blocks_are_whole}
-use Rattle.tg_trace.proofs.TracesNested.{Usable, outer, free, Nested, Known}
-use Rattle.tg_trace.proofs.TracesLoops.{UsableIn, State, Step, LeadsOf, laid_leads, one_laid, leads_there}
+use Rattle.tg_trace.proofs.TracesNested.{outer, free, Known}
+use Rattle.tg_trace.proofs.TracesLoops.{UsableIn, State, LeadsOf, laid_leads, one_laid, leads_there}
 use Rattle.tg_trace.proofs.TracesEntered.{all_step}
 
 -- Of blocks as they were laid: where they lead there are blocks, and each way back is one of a loop that is entered at its head.
@@ -50,9 +50,10 @@ module _ (places : List ℕ) (all : List Block) where
   from_place : (p r : ℕ) → LeadsTo (block_at bs p).end r → (p < length all) × ((m : ℕ) × LeadsTo (block_at all (length all - 1 - p)).end m × (r ≡ place_of places (length all - 1) m))
   from_place p r l =
       elim (cases_lt p (length all)) [
-        | inl lt ↦
-            (lt,
-            led_by places (length all - 1) (block_at all (length all - 1 - p)).end r (subst (λ (b : Block). LeadsTo b.end r) (at_place p lt) l))
+        | inl lt ↦ (
+          lt,
+          led_by places (length all - 1) (block_at all (length all - 1 - p)).end r (subst (λ (b : Block). LeadsTo b.end r) (at_place p lt) l),
+        )
         | inr ge ↦ absurd (nowhere p r ge l)
       ]
 
@@ -170,7 +171,7 @@ module _ (c : Cut) (starts : List ℕ) (state : State 0 0 Nothing starts c) wher
     first_loops = record {
       within = λ i m h l. no_further i m h (as_laid i m h l);
       closed = λ i k j m h l g n a b.
-      state.nested.closed i k m (omega arith) (in_laid i h) (as_laid i k h l) (omega arith) (omega arith) (laid_drawn j m (in_laid j g) (as_laid j m g n)).0 a b;
+          state.nested.closed i k m (omega arith) (in_laid i h) (as_laid i k h l) (omega arith) (omega arith) (laid_drawn j m (in_laid j g) (as_laid j m g n)).0 a b;
       back = λ i m h l le. state.nested.back i m (omega arith) (in_laid i h) (as_laid i m h l) (omega arith) le;
     }
 

@@ -1,5 +1,5 @@
 -- As statements are cut, loops are nested, and each mark that control may still go to is usable.
-use Rattle.std.proofs.Common.{◌≡◌, ◌≢◌, ◌≤◌, ◌<◌, ℕ, zero, suc, ◌+◌, ◌⊎◌, inl, inr, Bool, true, false, List, [], ◌∷◌, ◌++◌, length, refl, ap, sym, ◌∙◌, subst, arith, length-append}
+use Rattle.std.proofs.Common.{◌≡◌, ◌≤◌, ◌<◌, ℕ, zero, suc, ◌⊎◌, inl, inr, List, [], ◌∷◌, ◌++◌, length, refl, ap, sym, ◌∙◌, subst, arith, length-append}
 use Rattle.std.specs.Prelude.{Option, Some, None, slice_get, slice_set, slice_index, slice_index_or}
 use Rattle.std.proofs.Math.ListN.{length-set}
 use Rattle.std.proofs.lemmas.Bool.{cases_lt}
@@ -8,7 +8,7 @@ use Rattle.tg_tree.specs.Tree.{Ts, Stms, no_stms, stm}
 use Rattle.tg_trace.specs.Block.{End, Jump, Branch, Fault, Return, Block}
 use Rattle.tg_trace.specs.Laying.{no_block, block_at}
 use Rattle.tg_trace.specs.Heads.{LeadsTo}
-use Rattle.tg_trace.specs.Cutting.{Cut, open_at, in_front, draw, stand, lay, leads, mark_by, seal_by, head}
+use Rattle.tg_trace.specs.Cutting.{Cut, open_at, in_front, draw, lay, leads, mark_by, seal_by, head}
 use Rattle.tg_trace.proofs.BlocksKept.{get_front, get_seam, set_own, set_other, Keeps, keeps_itself, keeps_on, opened_keeps, front_keeps, draw_keeps, seal_by_keeps, head_keeps}
 use Rattle.tg_trace.proofs.TracesNested.{Usable, outer, free, Nested, usable_on, one_more, lay_nested, lay_usable, loop_nested, head_usable, starts_since}
 
@@ -180,9 +180,9 @@ module _ (L P : ℕ) (Out : ℕ → Type 0) where
         keeps = seal_by_keeps None c;
         same_start = starts_keep;
         new_start = λ h le lt.
-        let e : h ≡ length c.places = omega (arith, le, lt, one_drawn) in
-        let s = ap (slice_index more_starts) e in
-        omega (arith, s, start_of_it);
+            let e : h ≡ length c.places = omega (arith, le, lt, one_drawn) in
+            let s = ap (slice_index more_starts) e in
+            omega (arith, s, start_of_it);
       };
       usable = laid_usable;
     }
@@ -296,12 +296,12 @@ module _ (L P : ℕ) (Out : ℕ → Type 0) (starts : List ℕ) (c : Cut) (state
         count = length-set turn.starts' mark (length c.laid) ∙ (turn.state.count ∙ all_drawn);
         nested = nested_of L P Out (suc (length d.laid)) (length turned.laid) (length d.places) (length turned.places) _ _ (LeadsOf turned) all_laid all_drawn turned_nested;
         end' = λ m e. subst (UsableIn L P Out its_starts turned) e
-        (usable_of L P Out (suc (length d.laid)) (length turned.laid) (length d.places) (length turned.places) _ _ mark all_laid all_drawn turned_usable);
+            (usable_of L P Out (suc (length d.laid)) (length turned.laid) (length d.places) (length turned.places) _ _ mark all_laid all_drawn turned_usable);
       };
       keeps = kept;
       same_start = starts_keep';
       new_start = λ h le lt.
-      starts_since L P Out (length c.laid) mark _ _ (LeadsOf c) state.nested (length d.laid) (length d.places) _ _ (LeadsOf d) turn.state.nested (LeadsTo d.end) turn.state.end'
-      _ _ (LeadsOf turned) places_before starts_before places_within starts_within place_of_head start_of_head (λ i m j l. same_leads c turned i m (kept.blocks i j) l) new_leads
-      h le (omega (arith, lt, all_drawn));
+          starts_since L P Out (length c.laid) mark _ _ (LeadsOf c) state.nested (length d.laid) (length d.places) _ _ (LeadsOf d) turn.state.nested (LeadsTo d.end) turn.state.end'
+          _ _ (LeadsOf turned) places_before starts_before places_within starts_within place_of_head start_of_head (λ i m j l. same_leads c turned i m (kept.blocks i j) l) new_leads
+          h le (omega (arith, lt, all_drawn));
     }

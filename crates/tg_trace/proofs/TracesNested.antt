@@ -1,7 +1,7 @@
 -- Loops that are nested: of blocks that are laid from the last of a body on, by numbers alone. A mark that is drawn has a place and a start, which
 -- is its place but for the head of a loop, whose blocks are those from its start to its place. Known from outside are marks that were drawn before.
-use Rattle.std.proofs.Common.{◌≡◌, ◌≢◌, ◌≤◌, ◌<◌, ℕ, suc, ◌+◌, ◌⊎◌, inl, inr, refl, ap, sym, ◌∙◌, subst, arith}
-use Rattle.std.proofs.lemmas.Bool.{cases_lt, cases_order}
+use Rattle.std.proofs.Common.{◌≡◌, ◌≤◌, ◌<◌, ℕ, suc, ◌⊎◌, inl, inr, ap, sym, ◌∙◌, arith}
+use Rattle.std.proofs.lemmas.Bool.{cases_lt}
 
 -- A mark is known from outside or drawn since; and none that control may still go to is inside a loop.
 module _ (L P : ℕ) (Out : ℕ → Type 0) (n q : ℕ) (place start : ℕ → ℕ) where

@@ -1,31 +1,29 @@
 -- The code of blocks does what they do: at each place, by induction on the fuel, and on how many blocks stand from there on.
-use Rattle.std.proofs.Common.{◌≡◌, ◌≤◌, ◌<◌, ℕ, zero, suc, ◌+◌, ◌-◌, ◌*◌, ◌⊎◌, inl, inr, Bool, true, false, List, [], ◌∷◌, ◌++◌, length, drop, refl, ap, sym, ◌∙◌, subst, arith, drop-cons, append_assoc}
-use Rattle.std.specs.Prelude.{◌==◌, not, nat_lt, Option, Some, None, if◌then◌else◌}
+use Rattle.std.proofs.Common.{◌≡◌, ◌≤◌, ◌<◌, ℕ, zero, suc, ◌+◌, ◌-◌, ◌*◌, inl, inr, Bool, true, false, List, [], ◌∷◌, ◌++◌, length, drop, refl, ap, sym, ◌∙◌, arith, drop-cons}
+use Rattle.std.specs.Prelude.{not, nat_lt, Option, Some, None, if◌then◌else◌}
 use Rattle.std.proofs.lemmas.Bool.{cases_lt, lt-ltb, le-ltb, eqb-true}
 use Rattle.tg_base.specs.declared.ends.RunEnd.TheVariants.{Break}
 use Rattle.tg_runs.specs.Runs.{Run}
-use Rattle.tg_runs.specs.Ran.{Ran, Ended, WantsFuel, Wrong, stops, works}
+use Rattle.tg_runs.specs.Ran.{Ran, Ended, WantsFuel, Wrong, stops}
 use Rattle.tg_runs.specs.Simulating.{Simulates}
-use Rattle.tg_runs.proofs.Simulations.{simulates_stopping, simulates_writing, simulates_turn, simulates_turn_behind, simulates_paying, simulates_working, simulates_less, simulates_with_credit, simulates_along}
+use Rattle.tg_runs.proofs.Simulations.{simulates_turn, simulates_turn_behind, simulates_paying, simulates_working, simulates_with_credit, simulates_along}
 use Rattle.tg_tree.specs.declared.operators.Rel.{Rel}
 use Rattle.tg_tree.specs.declared.operators.Rel.TheVariants.{Equal, NotEqual, Less, LessEqual, Greater, GreaterEqual, Below, NotBelow}
-use Rattle.tg_tree.specs.Tree as tree
-use Rattle.tg_tree.specs.Tree.{Tx, Stms, no_stms, stm, Linear, Mark, Do', Function, Literal, Code}
+use Rattle.tg_tree.specs.Tree.{Tx, Stms, no_stms, stm, Linear, Mark, Function, Literal, Code}
 use Rattle.tg_tree.specs.Operators.{holds}
-use Rattle.tg_tree.specs.Units.{Canonical, element_units, entry_units}
-use Rattle.tg_tree.specs.Actions.{World, Temps, Activation, Around, Back, Next, Acts, Go, charged, wrong}
+use Rattle.tg_tree.specs.Units.{Canonical, entry_units}
+use Rattle.tg_tree.specs.Actions.{World, Temps, Around, Back, Next, Acts, Go, charged, wrong}
 use Rattle.tg_tree.specs.Meaning.{Point, value}
-use Rattle.tg_tree.specs.Running.{outermost, with_fuel}
-use Rattle.tg_tree.specs.Carrying.{BacksSimulate, CallsSimulate}
+use Rattle.tg_tree.specs.Carrying.{CallsSimulate}
 use Rattle.tg_tree.specs.Flat.{Last, behind, FlatPoint, enter_flat, jump_to, run_flat, flat_going}
-use Rattle.tg_tree.proofs.Relating.{Related, Keeps, AlikeAround, around, Alike, alike, keep_choice, keep_back, keep_value, keep_run}
-use Rattle.tg_tree.proofs.Going.{IsOne, one, OneWorld, OneTemps, KeepsRuns, keeps_one}
+use Rattle.tg_tree.proofs.Relating.{Related, AlikeAround, around, Alike, alike, keep_choice, keep_back, keep_value, keep_run}
+use Rattle.tg_tree.proofs.Going.{one, OneWorld, OneTemps}
 use Rattle.tg_tree.proofs.FlatRuns.{flat_code_steps}
 use Rattle.tg_trace.specs.Block.{End, Jump, Branch, Fault, Return, Block}
-use Rattle.tg_trace.specs.Laying.{no_block, block_at, opposite, is_next, jump_unless, branch_by, end_code, body_code, traced}
+use Rattle.tg_trace.specs.Laying.{no_block, block_at, opposite, is_next, jump_unless, branch_by, end_code, body_code}
 use Rattle.tg_trace.specs.Shapes.{EndsBelow, LeadsBelow}
 use Rattle.tg_trace.specs.Heads.{LeadsTo}
-use Rattle.tg_trace.specs.Meaning.{end_units, BlockPoint, enter_blocks, word_of, run_within, finish, return_to, run_from, block_step, block_going}
+use Rattle.tg_trace.specs.Meaning.{end_units, BlockPoint, enter_blocks, word_of, run_within, finish, return_to, run_from, block_going}
 use Rattle.tg_trace.specs.Traced.{block_runner, flat_runner}
 use Rattle.tg_trace.proofs.BlocksRuns.{blocks_step}
 use Rattle.tg_trace.proofs.BlocksFlat.{pays_less, keeps_simulating}

@@ -1,16 +1,16 @@
 -- Where the code of a block stands in the code of an order: behind its mark, and before the mark of the next.
-use Rattle.std.proofs.Common.{◌≡◌, ◌≢◌, ◌≤◌, ◌<◌, ℕ, zero, suc, ◌+◌, ◌⊎◌, inl, inr, Bool, true, false, List, [], ◌∷◌, ◌++◌, length, get_or, refl, ap, sym, ◌∙◌, subst, arith, append_assoc, append-nil, length-append}
-use Rattle.std.specs.Prelude.{◌==◌, Option, Some, None, slice_get, if◌then◌else◌}
+use Rattle.std.proofs.Common.{◌≡◌, ◌≢◌, ◌<◌, ℕ, zero, suc, inl, inr, Bool, List, [], ◌∷◌, ◌++◌, length, refl, ap, sym, ◌∙◌, subst, arith, append_assoc, append-nil, length-append}
+use Rattle.std.specs.Prelude.{Option, Some, slice_get, if◌then◌else◌}
 use Rattle.std.specs.List.{Contains, AllPairs}
 use Rattle.std.proofs.lemmas.Bool.{cases_lt, ne_eqb, eq-eqb}
-use Rattle.std.proofs.lemmas.List.Elements.{Contains-append_left, Contains-append_right, Contains-push}
+use Rattle.std.proofs.lemmas.List.Elements.{Contains-append_right}
 use Rattle.std.proofs.Math.Seq.{get_or-append_seam}
 use Rattle.std.proofs.Math.ListN.{get_or-append}
 use Rattle.tg_tree.specs.Tree as tree
 use Rattle.tg_tree.specs.Tree.{Linear, Mark, Do'}
 use Rattle.tg_tree.specs.Shapes.{marks}
 use Rattle.tg_tree.specs.Flat.{behind}
-use Rattle.tg_trace.specs.Block.{End, Jump, Branch, Fault, Return, Block}
+use Rattle.tg_trace.specs.Block.{Block}
 use Rattle.tg_trace.specs.Laying.{block_at, end_code, body_code, block_code, traces, traced}
 use Rattle.tg_trace.specs.Heads.{LeadsTo, AreEnteredAtHeads}
 use Rattle.tg_trace.proofs.Places.{traces_keep, all_there}
@@ -41,9 +41,10 @@ not_before before p ps apart (k, l, e) =
 
 all_apart : (before order : List ℕ) → AllPairs (λ x y. x ≢ y) (before ++ order) → Each NotBefore before order
 all_apart before [] apart = tt
-all_apart before (p ∷ ps) apart =
-    (not_before before p ps apart,
-    all_apart (before ++ p ∷ []) ps (subst (AllPairs (λ x y. x ≢ y)) (sym (append_assoc before (p ∷ []) ps)) apart))
+all_apart before (p ∷ ps) apart = (
+  not_before before p ps apart,
+  all_apart (before ++ p ∷ []) ps (subst (AllPairs (λ x y. x ≢ y)) (sym (append_assoc before (p ∷ []) ps)) apart),
+)
 
 -- the marks of code and of a block's behind it
 block_marks : (xs : List Linear) (p : ℕ) (next : Option ℕ) (b : Block) → marks (xs ++ block_code p next b) ≡ marks xs ++ p ∷ []

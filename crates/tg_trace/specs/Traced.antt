@@ -1,14 +1,12 @@
 -- Blocks are laid as flat code that does what they do.
 use Rattle.std.specs.Prelude.{ℕ, List, map}
 use Rattle.std.specs.List.{AllByRecursion}
-use Rattle.tg_runs.specs.Runs.{Run}
-use Rattle.tg_runs.specs.Ran.{Ran}
 use Rattle.tg_runs.specs.Preserving.{Preserves}
 use Rattle.tg_tree.specs.Tree.{Linear, Function, Literal, Code}
 use Rattle.tg_tree.specs.Units.{entry_units}
-use Rattle.tg_tree.specs.Carrying.{BodyCarried, AllCarried}
+use Rattle.tg_tree.specs.Carrying.{BodyCarried}
 use Rattle.tg_tree.specs.Running.{Runner}
-use Rattle.tg_tree.specs.Flat.{FlatPoint, run_flat_body, flat_going, flat_run}
+use Rattle.tg_tree.specs.Flat.{run_flat_body, flat_going, flat_run}
 use Rattle.tg_trace.specs.Block.{Block}
 use Rattle.tg_trace.specs.Laying.{traced}
 use Rattle.tg_trace.specs.Shapes.{AreWhole}

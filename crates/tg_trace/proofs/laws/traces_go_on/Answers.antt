@@ -1,5 +1,4 @@
 use Rattle.tg_trace.proofs.TracesShapes.{false_side_follows}
-use Rattle.tg_trace.proofs.TracesOrders.{traces_heads}
 use Rattle.tg_trace.proofs.TracesLed.{jumps_are_back}
 use Rattle.tg_trace.proofs.laws.traces_go_on.Goals as goal
 
