@@ -22,7 +22,7 @@ set_own [] i y h = absurd (omega arith)
 set_own (x ∷ xs) zero y h = refl
 set_own (x ∷ xs) (suc i) y h = set_own xs i y (omega arith)
 
-set_other : {A : Type 0} (xs : List A) (i k : ℕ) (y : A) → i ≢ k → slice_get (slice_set xs i y) k ≡ slice_get xs k
+pub set_other : {A : Type 0} (xs : List A) (i k : ℕ) (y : A) → i ≢ k → slice_get (slice_set xs i y) k ≡ slice_get xs k
 set_other [] i k y n = refl
 set_other (x ∷ xs) zero zero y n = absurd (n refl)
 set_other (x ∷ xs) zero (suc k) y n = refl
@@ -71,7 +71,7 @@ lay_keeps mark c =
       marks = λ m h. refl;
     }
 
-seal_by_keeps : (o : Option ℕ) (c : Cut) → Keeps c (seal_by o c)
+pub seal_by_keeps : (o : Option ℕ) (c : Cut) → Keeps c (seal_by o c)
 seal_by_keeps (Some mark) c = keeps_itself c
 seal_by_keeps None c =
     let d = draw (length c.laid) c in

@@ -35,7 +35,7 @@ module _ (R : Related) (W : RelatedWorlds) (T : RelatedTemps) where
     module _
         (code : Code (List Block)) (size : ℕ → ℕ) (floor room n : ℕ) (c d : BlockPoint → Run Ran)
         (later : (m : ℕ) → m < n → (x y : BlockPoint) → AlikeBlocks m x y → R m x.world (c x) (d y)) where
-      keep_enter :
+      pub keep_enter :
           (label : ℕ) (vs : List ℕ) (top : ℕ) (back back' : Back) (w x : World) → W w x → AlikeBack R W T n back back' →
           R n w (enter_blocks code size floor room c label vs top back w) (enter_blocks code size floor room d label vs top back' x)
       keep_enter label vs top back back' w x r h =
@@ -100,7 +100,7 @@ module _ (code : Code (List Block)) (size : ℕ → ℕ) (floor room : ℕ) wher
       (λ k c d h x y r. keep_block_step Same OneWorld OneTemps same_keeps code size floor room k c d h x y r)
 
   -- what the steps keep holds of the runs from points that are alike
-  blocks_relate :
+  pub blocks_relate :
       (R : Related) (W : RelatedWorlds) (T : RelatedTemps) → Keeps R W T → (n : ℕ) (x y : BlockPoint) → AlikeBlocks R W T n x y →
       R n x.world (goes x) (goes y)
   blocks_relate R W T keeps n x y r =

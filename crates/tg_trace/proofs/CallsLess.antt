@@ -1,8 +1,8 @@
 -- Calls that are simulated as far as so much fuel are so as far as less, where what comes after a return isn't asked with more fuel than is left.
-use Rattle.std.proofs.Common.{◌≡◌, ◌≤◌, ℕ, suc, ◌+◌, Bool, true, false, List, inl, inr, ◌⊎◌, refl, ap, sym, ◌∙◌, subst, arith}
+use Rattle.std.proofs.Common.{◌≡◌, ◌≤◌, ℕ, suc, ◌+◌, Bool, List, inl, inr, ap, sym, ◌∙◌, subst, arith}
 use Rattle.std.specs.Prelude.{nat_lt, if◌then◌else◌}
 use Rattle.std.proofs.lemmas.Bool.{cases_lt, lt-ltb, le-ltb}
-use Rattle.tg_runs.specs.Runs.{Run, IsSameTo}
+use Rattle.tg_runs.specs.Runs.{IsSameTo}
 use Rattle.tg_runs.specs.Ran.{Ran, Wrong, stops}
 use Rattle.tg_runs.specs.Preserving.{DoesTheSame}
 use Rattle.tg_tree.specs.Actions.{World, Back}

@@ -6,3 +6,5 @@ pub mod Shapes
 pub mod Meaning
 pub mod Carried
 pub mod Laws
+pub mod Heads
+pub mod Traced

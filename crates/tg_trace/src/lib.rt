@@ -17,6 +17,6 @@ pub use cutting::blocks;
 pub use flows::{Block, Blocks, End};
 pub use laws::{
     blocks_are_well_formed, blocks_keep_meaning, blocks_run, code_is_well_formed, names_stay,
-    sizes_stay,
+    sizes_stay, traces_go_on, traces_keep_meaning,
 };
 pub use traces::trace;
