@@ -1,14 +1,15 @@
 -- What blocks and their code count, for any weights of their parts. A mark and a jump count m and j, a flat statement s, a branch b, a return r and a fault f.
-use Rattle.std.proofs.Common.{◌≡◌, ◌≢◌, ◌≤◌, ◌<◌, ℕ, zero, suc, ◌+◌, ◌-◌, Bool, true, false, List, [], ◌∷◌, ◌++◌, length, take, map, get_or, refl, ap, sym, ◌∙◌, subst, arith}
+use Rattle.std.proofs.Common.{◌≡◌, ◌≢◌, ◌≤◌, ◌<◌, ℕ, zero, suc, ◌+◌, ◌-◌, Bool, true, false, List, [], ◌∷◌, ◌++◌, length, take, map, get_or, refl, ap, sym, subst, arith}
 use Rattle.std.specs.Prelude.{Option, Some, None, reverse, slice_get, slice_set, slice_index, if◌then◌else◌}
 use Rattle.std.specs.List.{Contains, AllPairs}
 use Rattle.std.proofs.lemmas.List.{reverse-append}
 use Rattle.tg_tree.specs.Tree as tree
 use Rattle.tg_tree.specs.Tree.{Tx, Cond, Compare, Not, Both, Either, Ts, Move, Store, StoreByte, Do, If, Loop, Break, Seq, Stms, no_stms, stm, Linear, Mark, Do'}
 use Rattle.tg_trace.specs.Block.{End, Jump, Branch, Fault, Return, Block}
-use Rattle.tg_trace.specs.Cutting.{Cut, open_at, in_front, draw, stand, lay, leads, seal_by, next_mark, seal, branch, elsewhere, head_by, exit_of, leaves, cut, cut_all, start, entered_by, entered, placed_end, placed, placed_all, blocks_by, blocks_of}
+use Rattle.tg_trace.specs.Cutting.{Cut, open_at, draw, stand, lay, leads, seal_by, next_mark, seal, branch, head, leaves, cut, cut_all, start, entered_by, entered, placed_end, placed, blocks_of}
 use Rattle.tg_trace.specs.Laying.{no_block, block_at, is_next, jump_unless, branch_by, end_code, body_code, block_code, code_in, traces, traced}
-use Rattle.tg_trace.proofs.Places.{IsOrder, traces_keep, same_or_not}
+use Rattle.tg_trace.proofs.Places.{traces_keep}
+use Rattle.tg_trace.proofs.TracesCode.{other_block, in_rest, first_apart, rest_apart}
 
 module _ (m j : ℕ) (s : Ts → ℕ) (b : Tx → Tx → ℕ) (r : Tx → ℕ) (f : ℕ → ℕ) where
   abbrev pub body_cost : Stms → ℕ
@@ -88,9 +89,8 @@ module _ (m j : ℕ) (s : Ts → ℕ) (b : Tx → Tx → ℕ) (r : Tx → ℕ) (
       let l = branch_cost d yes' (next_mark second) (seal second) in
       omega (arith, h, k, l)
 
-  head_by_cost : (v : Bool) (mark : ℕ) (c : Cut) → cut_cost (head_by v mark c) ≤ cut_cost c + (m + j)
-  head_by_cost true mark c = omega arith
-  head_by_cost false mark c = let h = lay_cost mark (stand mark (length c.laid) c) in omega (arith, h)
+  head_cost : (mark : ℕ) (c : Cut) → cut_cost (head mark c) ≤ cut_cost c + (m + j)
+  head_cost mark c = let h = lay_cost mark (stand mark (length c.laid) c) in omega (arith, h)
 
   sides_cost :
       (exits : List ℕ) (d : Cond) (t u : Ts) (c : Cut) →
@@ -121,7 +121,7 @@ module _ (m j : ℕ) (s : Ts → ℕ) (b : Tx → Tx → ℕ) (r : Tx → ℕ) (
       let c3 = cut (exits ++ next_mark c ∷ []) t c2 in
       let h1 = seal_cost c in
       let h2 = cost_t c2 in
-      let h3 = head_by_cost (elsewhere mark (leads c3.body c3.end)) mark c3 in
+      let h3 = head_cost mark c3 in
       omega (arith, h1, h2, h3)
 
   either_cost : (v : Bool) (c d : Cut) (n : ℕ) → cut_cost d ≤ cut_cost c + n → cut_cost (if v then c else d) ≤ cut_cost c + n
@@ -249,28 +249,12 @@ module _ (m j : ℕ) (s : Ts → ℕ) (b : Tx → Tx → ℕ) (r : Tx → ℕ) (
   taken_out (w ∷ ws) zero = omega arith
   taken_out (w ∷ ws) (suc p) = let h = taken_out ws p in omega (arith, h)
 
-  other_block : (bs : List Block) (p q : ℕ) → p ≢ q → block_at (slice_set bs p no_block) q ≡ block_at bs q
-  other_block [] p q n = refl
-  other_block (x ∷ xs) zero zero n = absurd (n refl)
-  other_block (x ∷ xs) zero (suc q) n = refl
-  other_block (x ∷ xs) (suc p) zero n = refl
-  other_block (x ∷ xs) (suc p) (suc q) n = other_block xs p q (λ e. n (ap suc e))
-
   other_cost : (ws : List ℕ) (p q : ℕ) → p ≢ q → get_or (slice_set ws p 0) q 0 ≡ get_or ws q 0
   other_cost [] p q n = refl
   other_cost (x ∷ xs) zero zero n = absurd (n refl)
   other_cost (x ∷ xs) zero (suc q) n = refl
   other_cost (x ∷ xs) (suc p) zero n = refl
   other_cost (x ∷ xs) (suc p) (suc q) n = other_cost xs p q (λ e. n (ap suc e))
-
-  in_rest : (p : ℕ) (ps : List ℕ) (q : ℕ) → Contains ps q → Contains (p ∷ ps) q
-  in_rest p ps q (k, l, e) = (suc k, omega arith, e)
-
-  first_apart : (p : ℕ) (ps : List ℕ) → AllPairs (λ x y. x ≢ y) (p ∷ ps) → (q : ℕ) → Contains ps q → p ≢ q
-  first_apart p ps h q (k, l, e) = λ same. h 0 (suc k) q (omega arith) (omega arith) (same ∙ sym e)
-
-  rest_apart : (p : ℕ) (ps : List ℕ) → AllPairs (λ x y. x ≢ y) (p ∷ ps) → AllPairs (λ x y. x ≢ y) ps
-  rest_apart p ps h = λ i k d l n. h (suc i) (suc k) d (omega arith) (omega arith)
 
   code_in_cost :
       (order : List ℕ) (bs : List Block) (ws : List ℕ) → AllPairs (λ x y. x ≢ y) order →

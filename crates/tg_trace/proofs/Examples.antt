@@ -1,6 +1,5 @@
 -- Blocks and flat code, each computed by the definition itself.
 use Rattle.std.proofs.Common.{◌≡◌, ℕ, List, [], ◌∷◌, refl}
-use Rattle.tg_tree.specs.declared.operators.Rel.{Rel}
 use Rattle.tg_tree.specs.declared.operators.Rel.TheVariants.{Less, GreaterEqual, Equal, NotEqual}
 use Rattle.tg_tree.specs.Forms.{stms, sequence, nothing, when}
 use Rattle.tg_tree.specs.Tree as tree
@@ -45,15 +44,15 @@ loop_code = refl
 choice_in_loop : blocks_of (stms (Loop (If less (when equal set) (Break 0)) ∷ done ∷ [])) ≡ block (on_less 1 3) [] ∷ block (on_equal 2 0) [] ∷ block (Jump 0) (set ∷ []) ∷ block (Return (Const 0)) [] ∷ []
 choice_in_loop = refl
 
--- a break out of two loops, whose heads are one
+-- a break out of two loops: the outer one's head only jumps
 abbrev two_loops : List Block
 two_loops = blocks_of (stms (set ∷ Loop (Loop (sequence (when less (Break 1) ∷ set ∷ when equal (Break 0) ∷ []))) ∷ done ∷ []))
 
-two_loops_blocks : two_loops ≡ block (Jump 1) (set ∷ []) ∷ block (on_less 3 2) [] ∷ block (on_equal 1 1) (set ∷ []) ∷ block (Return (Const 0)) [] ∷ []
+two_loops_blocks : two_loops ≡ block (Jump 1) (set ∷ []) ∷ block (Jump 2) [] ∷ block (on_less 4 3) [] ∷ block (on_equal 1 2) (set ∷ []) ∷ block (Return (Const 0)) [] ∷ []
 two_loops_blocks = refl
 
 two_loops_code :
-    traced two_loops ≡ Mark 0 ∷ Do' set ∷ Mark 1 ∷ tree.Branch GreaterEqual (Temp 0) (Const 3) 2 ∷ Mark 3 ∷ tree.Return' (Const 0) ∷ Mark 2 ∷ Do' set ∷ tree.Branch Equal (Temp 0) (Const 4) 1 ∷ tree.Jump 1 ∷ []
+    traced two_loops ≡ Mark 0 ∷ Do' set ∷ Mark 1 ∷ Mark 2 ∷ tree.Branch GreaterEqual (Temp 0) (Const 3) 3 ∷ Mark 4 ∷ tree.Return' (Const 0) ∷ Mark 3 ∷ Do' set ∷ tree.Branch Equal (Temp 0) (Const 4) 1 ∷ tree.Jump 2 ∷ []
 two_loops_code = refl
 
 -- a choice with two empty sides is a branch whose sides are one
@@ -64,11 +63,11 @@ one_side = refl
 parts : blocks_of (stms (If (Both less (Not (Either less equal))) (tree.Fault 2) nothing ∷ done ∷ [])) ≡ block (on_less 1 4) [] ∷ block (on_less 4 2) [] ∷ block (on_equal 4 3) [] ∷ block (Fault 2) [] ∷ block (Return (Const 0)) [] ∷ []
 parts = refl
 
--- only a block that jumps to itself is no more than a jump
+-- a loop of nothing goes round
 empty_loop : blocks_of (stms (set ∷ Loop nothing ∷ done ∷ [])) ≡ block (Jump 1) (set ∷ []) ∷ block (Jump 1) [] ∷ block (Return (Const 0)) [] ∷ []
 empty_loop = refl
 
-left_at_once : blocks_of (stms (Loop (Break 0) ∷ done ∷ [])) ≡ block (Return (Const 0)) [] ∷ []
+left_at_once : blocks_of (stms (Loop (Break 0) ∷ done ∷ [])) ≡ block (Jump 1) [] ∷ block (Return (Const 0)) [] ∷ []
 left_at_once = refl
 
 -- what follows a break is dropped

@@ -1,5 +1,5 @@
 -- Canonical statements are cut into flat blocks.
-use Rattle.std.proofs.Common.{◌≡◌, ℕ, zero, suc, ◌+◌, ◌-◌, Bool, true, false, List, [], ◌∷◌, ◌++◌, length, take, map, sym, subst}
+use Rattle.std.proofs.Common.{ℕ, zero, suc, ◌-◌, Bool, true, false, List, [], ◌∷◌, ◌++◌, length, take, map, sym, subst}
 use Rattle.std.specs.Prelude.{Option, Some, None, reverse, if◌then◌else◌}
 use Rattle.std.specs.List.{AllByRecursion}
 use Rattle.std.proofs.lemmas.List.{reverse-append}
@@ -7,7 +7,7 @@ use Rattle.tg_tree.specs.Tree as tree
 use Rattle.tg_tree.specs.Tree.{Cond, Compare, Not, Both, Either, Ts, Move, Store, StoreByte, Do, If, Loop, Break, Seq, Stms, no_stms, stm}
 use Rattle.tg_tree.specs.Shapes.{IsFlatStatement, IsFlatCond, IsCanonical, AreCanonical}
 use Rattle.tg_trace.specs.Block.{End, Jump, Branch, Fault, Return, Block}
-use Rattle.tg_trace.specs.Cutting.{Cut, open_at, in_front, draw, stand, lay, leads, mark_by, seal_by, next_mark, seal, branch, elsewhere, head_by, head, exit_of, leaves, before_join, turned, cut, cut_all, start, entered_by, entered, placed_end, placed, placed_all, blocks_by, blocks_of}
+use Rattle.tg_trace.specs.Cutting.{Cut, open_at, in_front, draw, stand, lay, leads, seal_by, next_mark, seal, branch, head, exit_of, leaves, cut, cut_all, start, entered_by, entered, placed_end, placed, blocks_of}
 use Rattle.tg_trace.specs.Shapes.{AreFlatStatements, IsFlatEnd, IsFlatBlock, AreFlatBlocks}
 
 -- Facts of each element.
@@ -67,9 +67,8 @@ branch_flat (Either d e) yes' no' c h f =
     let second = branch e yes' no' c in
     branch_flat d yes' (next_mark second) (seal second) h.0 (seal_flat second (branch_flat e yes' no' c h.1 f))
 
-head_by_flat : (b : Bool) (mark : ℕ) (c : Cut) → IsFlatCut c → IsFlatCut (head_by b mark c)
-head_by_flat true mark c f = stand_flat mark (length c.laid - 1) c f
-head_by_flat false mark c f = lay_flat mark (stand mark (length c.laid) c) (stand_flat mark (length c.laid) c f)
+head_flat : (mark : ℕ) (c : Cut) → IsFlatCut c → IsFlatCut (head mark c)
+head_flat mark c f = lay_flat mark (stand mark (length c.laid) c) (stand_flat mark (length c.laid) c f)
 
 either_flat : (b : Bool) (c d : Cut) → IsFlatCut c → IsFlatCut d → IsFlatCut (if b then c else d)
 either_flat true c d f g = f
@@ -94,7 +93,7 @@ mutual
       let mark = length c1.places in
       let c2 = open_at (Jump mark) (draw 0 c1) in
       let c3 = cut (exits ++ next_mark c ∷ []) s c2 in
-      head_by_flat (elsewhere mark (leads c3.body c3.end)) mark c3
+      head_flat mark c3
       (cut_flat (exits ++ next_mark c ∷ []) s c2 h (open_flat (Jump mark) (draw 0 c1) tt (draw_flat 0 c1 (seal_flat c f))))
   cut_flat exits (Break k) c h f = open_flat (Jump (exit_of exits k)) c tt f
   cut_flat exits (tree.Fault n) c h f = open_flat (Fault n) c tt f

@@ -1,12 +1,12 @@
 -- Marks, targets, flatness and the end of the code in which blocks are laid.
-use Rattle.std.proofs.Common.{◌≡◌, ◌≢◌, ◌≤◌, ◌<◌, ℕ, zero, suc, ◌+◌, inl, inr, Bool, true, false, List, [], ◌∷◌, ◌++◌, length, refl, ap, sym, ◌∙◌, subst, arith, append_assoc, append-nil}
+use Rattle.std.proofs.Common.{◌≡◌, ◌≢◌, ◌<◌, ℕ, zero, suc, Bool, true, false, List, [], ◌∷◌, ◌++◌, length, refl, ap, sym, ◌∙◌, subst, arith, append_assoc, append-nil}
 use Rattle.std.specs.Prelude.{Option, Some, None, slice_get, slice_set}
 use Rattle.std.specs.List.{Contains, AllPairs, AllByRecursion}
 use Rattle.tg_tree.specs.Tree as tree
 use Rattle.tg_tree.specs.Tree.{Stms, no_stms, stm, Linear, Mark, Do'}
 use Rattle.tg_tree.specs.Shapes.{IsFlatCode, IsWellMarked, EndsCode, marks, targets}
 use Rattle.tg_trace.specs.Block.{End, Jump, Branch, Fault, Return, Block}
-use Rattle.tg_trace.specs.Laying.{Order, no_block, block_at, traces, is_next, jump_unless, branch_by, end_code, body_code, block_code, code_in, traced}
+use Rattle.tg_trace.specs.Laying.{no_block, block_at, traces, is_next, jump_unless, branch_by, end_code, body_code, block_code, code_in, traced}
 use Rattle.tg_trace.specs.Shapes.{AreFlatStatements, IsFlatEnd, IsFlatBlock, AreFlatBlocks, EndsBelow, LeadsBelow, AreWhole}
 use Rattle.tg_trace.proofs.Places.{traces_keep, all_there}
 
@@ -64,7 +64,7 @@ pub code_is_flat : (bs : List Block) → AreFlatBlocks bs → IsFlatCode (traced
 code_is_flat bs h = flat_code (traces (length bs) bs).places bs (each IsFlatBlock (tt, tt) bs h)
 
 -- Its marks are the order.
-marks_behind_body : (ss : Stms) (rest : List Linear) → marks (body_code ss ++ rest) ≡ marks rest
+pub marks_behind_body : (ss : Stms) (rest : List Linear) → marks (body_code ss ++ rest) ≡ marks rest
 marks_behind_body no_stms rest = refl
 marks_behind_body (stm s ss) rest = marks_behind_body ss rest
 
@@ -76,7 +76,7 @@ marks_behind_branch : (b : Bool) (next : Option ℕ) (rel : _) (x y : tree.Tx) (
 marks_behind_branch true next rel x y p q rest = refl
 marks_behind_branch false next rel x y p q rest = marks_behind_jump (is_next next q) q rest
 
-marks_behind_end : (next : Option ℕ) (e : End) (rest : List Linear) → marks (end_code next e ++ rest) ≡ marks rest
+pub marks_behind_end : (next : Option ℕ) (e : End) (rest : List Linear) → marks (end_code next e ++ rest) ≡ marks rest
 marks_behind_end next (Jump p) rest = marks_behind_jump (is_next next p) p rest
 marks_behind_end next (Branch rel x y p q) rest = marks_behind_branch (is_next next p) next rel x y p q rest
 marks_behind_end next (Fault n) rest = refl

@@ -1,5 +1,5 @@
 -- Each place of blocks stands once in the order in which they are laid.
-use Rattle.std.proofs.Common.{◌≡◌, ◌≢◌, ◌≤◌, ◌<◌, ℕ, zero, suc, ◌+◌, ◌⊎◌, inl, inr, Bool, true, false, List, [], ◌∷◌, ◌++◌, length, get_or, refl, ap, sym, ◌∙◌, subst, arith, length-append}
+use Rattle.std.proofs.Common.{◌≡◌, ◌≢◌, ◌≤◌, ◌<◌, ℕ, zero, suc, ◌⊎◌, inl, inr, Bool, true, false, List, [], ◌∷◌, ◌++◌, length, refl, ap, sym, ◌∙◌, subst, arith}
 use Rattle.std.specs.Prelude.{Option, Some, None, slice_get, slice_set, replicate}
 use Rattle.std.specs.List.{Contains, AllPairs}
 use Rattle.std.proofs.Math.ListN.{length-set}
@@ -8,7 +8,7 @@ use Rattle.std.proofs.lemmas.Option.{slice_get_within}
 use Rattle.std.proofs.lemmas.List.Elements.{Contains-get_or, Contains-append_left, Contains-append_right, Contains-append_cases}
 use Rattle.std.proofs.lemmas.List.Quantifiers.{all_pairs_push}
 use Rattle.tg_trace.specs.Block.{End, Jump, Branch, Fault, Return, Block}
-use Rattle.tg_trace.specs.Laying.{Order, put, unless, unless_laid, onward, block_at, follow, trace_from, traces}
+use Rattle.tg_trace.specs.Laying.{Order, put, unless, unless_laid, onward, block_at, follow, traces}
 
 pub same_or_not : (a b : ℕ) → (a ≡ b) ⊎ (a ≢ b)
 same_or_not zero zero = inl refl
@@ -83,7 +83,7 @@ unless_free laid p other None e h = h
 unless_free laid p other (Some true) e h = h
 unless_free laid p other (Some false) e h = e
 
-free_or : (laid : List Bool) (p : ℕ) (other : Option ℕ) → IsFree laid other → IsFree laid (unless_laid laid p other)
+pub free_or : (laid : List Bool) (p : ℕ) (other : Option ℕ) → IsFree laid other → IsFree laid (unless_laid laid p other)
 free_or laid p other h = unless_free laid p other (slice_get laid p) refl h
 
 pub onward_free : (laid : List Bool) (e : End) → IsFree laid (onward laid e)
@@ -126,7 +126,7 @@ follow_stays (suc k) blocks None o q h = h
 follow_stays (suc k) blocks (Some p) o q h =
     follow_stays k blocks (onward (slice_set o.laid p true) (block_at blocks p).end) (put p o) q (put_stays o.laid p q (same_or_not p q) h)
 
-None_past : (l : List Bool) (k : ℕ) → slice_get l k ≡ None → length l ≤ k
+pub None_past : (l : List Bool) (k : ℕ) → slice_get l k ≡ None → length l ≤ k
 None_past [] k h = omega arith
 None_past (x ∷ l) zero h = absurd (some_not_none (h))
 None_past (x ∷ l) (suc k) h = let m : length l ≤ k = None_past l k h in omega arith

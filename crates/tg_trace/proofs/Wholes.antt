@@ -1,5 +1,5 @@
 -- The blocks of a closed body lead to one another, and there is a first one.
-use Rattle.std.proofs.Common.{◌≡◌, ◌≤◌, ◌<◌, ℕ, zero, suc, ◌+◌, ◌-◌, Bool, true, false, List, [], ◌∷◌, ◌++◌, length, take, map, refl, sym, ◌∙◌, subst, arith, length-append}
+use Rattle.std.proofs.Common.{◌≡◌, ◌≤◌, ◌<◌, ℕ, ◌+◌, ◌-◌, Bool, true, false, List, [], ◌∷◌, ◌++◌, length, map, refl, sym, ◌∙◌, subst, arith, length-append}
 use Rattle.std.specs.Prelude.{Option, Some, None, reverse, slice_index, if◌then◌else◌}
 use Rattle.std.specs.List.{AllByRecursion}
 use Rattle.std.proofs.lemmas.List.{length-take, length-map, length-reverse}
@@ -7,7 +7,7 @@ use Rattle.tg_tree.specs.Tree as tree
 use Rattle.tg_tree.specs.Tree.{Cond, Compare, Not, Both, Either, Ts, Move, Store, StoreByte, Do, If, Loop, Break, Seq, Stms, no_stms, stm}
 use Rattle.tg_tree.specs.Shapes.{BreaksWithin, BreaksWithinStms, AreClosed}
 use Rattle.tg_trace.specs.Block.{End, Jump, Branch, Fault, Return, Block}
-use Rattle.tg_trace.specs.Cutting.{Cut, open_at, in_front, draw, stand, lay, leads, seal_by, next_mark, seal, branch, elsewhere, head_by, exit_of, leaves, cut, cut_all, start, entered_by, entered, placed_end, placed, placed_all, blocks_of}
+use Rattle.tg_trace.specs.Cutting.{Cut, open_at, draw, stand, lay, leads, seal_by, next_mark, seal, branch, head, leaves, cut, cut_all, start, entered_by, entered, placed_end, placed, placed_all, blocks_of}
 use Rattle.tg_trace.specs.Shapes.{EndsBelow, LeadsBelow, AreWhole}
 
 -- No block that is laid is lost.
@@ -40,9 +40,8 @@ branch_grows (Either d e) yes' no' c =
     let l : Grows (seal second) (branch d yes' (next_mark second) (seal second)) = branch_grows d yes' (next_mark second) (seal second) in
     omega (arith, h, k, l)
 
-head_by_grows : (b : Bool) (mark : ℕ) (c : Cut) → Grows c (head_by b mark c)
-head_by_grows true mark c = omega arith
-head_by_grows false mark c = let h = lay_grows mark (stand mark (length c.laid) c) in omega (arith, h)
+head_grows : (mark : ℕ) (c : Cut) → Grows c (head mark c)
+head_grows mark c = let h = lay_grows mark (stand mark (length c.laid) c) in omega (arith, h)
 
 either_grows : (b : Bool) (c d : Cut) → Grows c d → Grows c (if b then c else d)
 either_grows true c d h = omega arith
@@ -72,7 +71,7 @@ turn_grows exits s c grow_s =
     let mark = length c1.places in
     let c2 = open_at (Jump mark) (draw 0 c1) in
     let c3 = cut (exits ++ next_mark c ∷ []) s c2 in
-    onto c1 c3 (cut exits (Loop s) c) (grow_s c2) (head_by_grows (elsewhere mark (leads c3.body c3.end)) mark c3)
+    onto c1 c3 (cut exits (Loop s) c) (grow_s c2) (head_grows mark c3)
 
 mutual
   cut_grows : (exits : List ℕ) (s : Ts) (c : Cut) → Grows c (cut exits s c)

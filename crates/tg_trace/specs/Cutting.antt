@@ -5,7 +5,6 @@ use Rattle.std.specs.Prelude.{
   ℕ,
   ◌+◌,
   ◌-◌,
-  ◌==◌,
   Bool,
   true,
   false,
@@ -118,18 +117,10 @@ branch (Not d) yes' no' c = branch d no' yes' c
 branch (Both d e) yes' no' c = sealed (branch e yes' no' c) (λ m c1. branch d m no' c1)
 branch (Either d e) yes' no' c = sealed (branch e yes' no' c) (λ m c1. branch d yes' m c1)
 
--- A loop's head stands at the open block, which is laid. Where that only jumps elsewhere it stands
--- where that leads: at the block that was laid last, or nothing leads to it.
-abbrev pub elsewhere : (mark : ℕ) → Option ℕ → Bool
-elsewhere mark (Some m) = if m == mark then false else true
-elsewhere mark None = false
-
-abbrev pub head_by : Bool → (mark : ℕ) → Cut → Cut
-head_by true mark c = stand mark (length c.laid - 1) c
-head_by false mark c = lay mark (stand mark (length c.laid) c)
-
+-- A loop's head stands at the open block, which is laid even where it only jumps: the way back to
+-- it is the one that takes fuel.
 abbrev pub head : (mark : ℕ) → Cut → Cut
-head mark c = head_by (elsewhere mark (leads c.body c.end)) mark c
+head mark c = lay mark (stand mark (length c.laid) c)
 
 -- where a break leads, of the marks behind the loops that are around it, the outermost first
 abbrev pub exit_of : (exits : List ℕ) → (loops : ℕ) → ℕ

@@ -3,4 +3,8 @@ pub mod Cutting
 pub mod Laying
 pub mod Plains
 pub mod Shapes
+pub mod Meaning
+pub mod Carried
 pub mod Laws
+pub mod Heads
+pub mod Traced

@@ -1,4 +1,4 @@
-ghost use Rattle.std.specs.Prelude.{◌≡◌, ◌-◌, [], reverse, length, slice_set, IfOk, OnOk};
+ghost use Rattle.std.specs.Prelude.{◌≡◌, [], reverse, length, slice_set, IfOk, OnOk};
 ghost use Rattle.tg_tree.specs.Plain.{plain_ts};
 ghost use Rattle.tg_tree.specs.Lists.{stms_of};
 ghost use Rattle.tg_tree.specs.Tree.{no_stms};
@@ -141,25 +141,11 @@ fn stand(places: &mut [u32], mark: u32, place: u32)
     }
 }
 
-/// Whether a block only jumps, to another mark.
-fn is_elsewhere(mark: u32, leads: Option<u32>) -> bool
-    ensures { result ≡ cutting.elsewhere mark leads }
-{
-    match leads {
-        Some(other) => other != mark,
-        None => false,
-    }
-}
-
-/// Lets a loop's head stand at the open block, which is laid, or where that leads.
+/// Lets a loop's head stand at the open block, which is laid.
 pub(crate) fn put_head(alloc: Global, cut: &mut Cut, mark: u32) -> Result<(), Memory>
     ensures { OnOk result (Cuts cut.old cut.new (cutting.head mark)) }
 {
     let place = number(cut.laid.len())?;
-    if is_elsewhere(mark, leads(&cut.body, &cut.end)) {
-        stand(&mut cut.places, mark, place.saturating_sub(1));
-        return Ok(());
-    }
     stand(&mut cut.places, mark, place);
     lay(alloc, cut, mark)?;
     Ok(())

@@ -1,3 +1,11 @@
+ghost use Rattle.tg_trace.specs.Carried.{
+  BlocksStep,
+  BlocksStayOver,
+  BlocksOnlyGoOn,
+  BlocksCarryBodies,
+  BlocksKeepPrograms,
+};
+ghost use Rattle.tg_trace.specs.Heads.{BlocksAreEntered, FalseSideFollows, JumpsAreBack};
 ghost use Rattle.tg_trace.specs.Laws.{
   BlocksAreFlat,
   BlocksAreWhole,
@@ -7,12 +15,14 @@ ghost use Rattle.tg_trace.specs.Laws.{
   NamesStay,
   RoomStays,
 };
+ghost use Rattle.tg_trace.specs.Traced.{TracesCarryBodies, TracesKeepPrograms};
 
 /// Laws of the blocks into which statements are cut: those of canonical statements are flat, and
-/// those of a closed body lead to one another alone.
+/// those of a closed body lead to one another alone, with loops that are entered at their heads.
 pub fn blocks_are_well_formed()
     ensures flat { BlocksAreFlat }
     ensures whole { BlocksAreWhole }
+    ensures entered { BlocksAreEntered }
 {}
 
 /// Laws of the code in which blocks are laid: that of flat blocks is flat. Where blocks lead to one
@@ -34,4 +44,34 @@ pub fn sizes_stay()
 /// temporary is brought in.
 pub fn names_stay()
     ensures { NamesStay }
+{}
+
+/// Laws of the order in which blocks are laid: what follows a branch is its false side or a jump to
+/// it, and each jump goes to a mark that stands earlier.
+pub fn traces_go_on()
+    ensures branches { FalseSideFollows }
+    ensures jumps { JumpsAreBack }
+{}
+
+/// The laws that flat code does what the blocks do that are laid in it, where loops are entered at
+/// their heads alone: each body if calls do, and so each program.
+pub fn traces_keep_meaning()
+    ensures bodies { TracesCarryBodies }
+    ensures programs { TracesKeepPrograms }
+{}
+
+/// The laws of runs of blocks: each is its own step, one that is over stays so with more fuel, and
+/// any other goes on.
+pub fn blocks_run()
+    ensures step { BlocksStep }
+    ensures over { BlocksStayOver }
+    ensures on { BlocksOnlyGoOn }
+{}
+
+/// The laws that statements which are cut into blocks do what they did: so does the body of each
+/// function if calls do, with a unit of work more at most, and so does a program from its first
+/// activation on.
+pub fn blocks_keep_meaning()
+    ensures bodies { BlocksCarryBodies }
+    ensures programs { BlocksKeepPrograms }
 {}

@@ -1,4 +1,4 @@
-use Rattle.std.proofs.Common.{◌<◌, ◌≤◌, ap, sym, ◌∙◌, subst, arith, take, length}
+use Rattle.std.proofs.Common.{◌≡◌, ◌<◌, ◌≤◌, [], ◌∷◌, ◌++◌, ap, sym, ◌∙◌, subst, arith, take, length}
 use Rattle.std.specs.Prelude.{OnOk}
 use Rattle.tg_tree.specs.declared.trees.Stms.{roll-Stms}
 use Rattle.tg_tree.specs.Plain.{plain_ts}
@@ -7,12 +7,28 @@ use Rattle.tg_trace.specs.Cutting as cutting
 use Rattle.tg_trace.specs.Plains.{plain_cut, Cuts, come_to}
 use Rattle.tg_trace.proofs.Depths.{no_deeper}
 use Rattle.tg_trace.proofs.Backs.{back, cut_all_is, back_in, back_out, back_none}
+use Rattle.tg_trace.proofs.Turns.{turned_is, popped}
 use Rattle.tg_trace.proofs.cutting.+cutting.Goals as goal
 
 pub cut-returns-in-Seq : goal.cut-returns-in-Seq
 cut-returns-in-Seq t c =
     subst (λ s. OnOk c.cut_all.result (Cuts c.args.before.now c.cut_all.new.before (cutting.cut c.args.before.now.exits.items s)))
     (sym (ap plain_ts c.in-Seq.is ∙ plain_ts-Seq c.in-Seq.all)) c.cut_all.ensures
+
+pub cut_loop-returns : goal.cut_loop-returns
+cut_loop-returns t c =
+    let exits = c.args.before.now.exits.items in
+    let exit = c.in_ok-exit.exit in
+    let opened = plain_cut c.open_at.new.cut in
+    let pushed : c.open_at.new.cut.exits.items ≡ exits ++ exit ∷ [] =
+    c.open_at.ensures.exits ∙ (c.in_ok-push.ensures.items ∙ ap (λ es. es ++ exit ∷ []) (c.in_ok-head.ensures.cut.exits ∙ c.in_ok-exit.ensures.cut.exits)) in
+    record {
+      exits = c.in_ok-put_head.ensures.exits ∙ popped _ _ _ exits exit c.pop.ensures.rest c.cut.new.before.exits.ok.0 (c.in_ok-cut.ensures.exits ∙ pushed);
+      cut =
+          turned_is exits (plain_ts c.args.turn) (plain_cut c.args.before.now) (plain_cut c.seal.new.cut) (plain_cut c.draw.new.cut) opened _ _ exit c.in_ok-head.head
+          c.in_ok-exit.ensures.mark c.in_ok-exit.ensures.cut.cut c.in_ok-head.ensures.mark c.in_ok-head.ensures.cut.cut c.open_at.ensures.cut
+          (c.in_ok-cut.ensures.cut ∙ ap (λ es. cutting.cut es (plain_ts c.args.turn) opened) pushed) c.in_ok-put_head.ensures.cut;
+    }
 
 pub cut_all-loop-statement-preserved-in-Continue-1 : goal.cut_all-loop-statement-preserved-in-Continue-1
 cut_all-loop-statement-preserved-in-Continue-1 t c =
