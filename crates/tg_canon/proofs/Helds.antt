@@ -146,21 +146,26 @@ module _ (z : Scene) where
   }
 
   module _ (r : ℕ) (a : Activation) (o o' : Out) (b b' : Back) (w : World) (t : Temps) where
-    pub fixed_runs : {B : Type 0} (m m' : Acts (Go B)) (g g' : Go B) → IsFixed m m' (around a o b) (around a o' b') w t → ((v : B) → Sim r z.fuel (g v w t) (g' v w t)) → Sim r z.fuel (m (around a o b) g w t) (m' (around a o' b') g' w t)
+    pub fixed_runs : {B : Type 0} (m m' : Acts (Go B)) (g g' : Go B) → IsFixed m m' (around a o b) (around a o' b') w t →
+        ((v : B) → Sim r z.fuel (g v w t) (g' v w t)) → Sim r z.fuel (m (around a o b) g w t) (m' (around a o' b') g' w t)
     fixed_runs m m' g g' (gives s v p q) h =
         along z.fuel r (charged s (g v w t)) _ (charged s (g' v w t)) _ (p g) (q g') (trade z.fuel r r s s (g v w t) (g' v w t) (omega arith) (h v))
     fixed_runs m m' g g' (stops s how p q) h =
-        along z.fuel r (charged s (over how w)) _ (charged s (over how w)) _ (p g) (q g') (trade z.fuel r r s s (over how w) (over how w) (omega arith) (simulates_stopping 1 r z.fuel w.input how))
+        along z.fuel r (charged s (over how w)) _ (charged s (over how w)) _ (p g) (q g')
+        (trade z.fuel r r s s (over how w) (over how w) (omega arith) (simulates_stopping 1 r z.fuel w.input how))
 
-  module _ (r : ℕ) (a : Activation) (o o' : Out) (b b' : Back) (w : World) (t : Temps) (go go' : Go ℕ) (goes : (v : ℕ) (w1 : World) → Sim r z.fuel (go v w1 t) (go' v w1 t)) where
+  module _ (r : ℕ) (a : Activation) (o o' : Out) (b b' : Back) (w : World) (t : Temps) (go go' : Go ℕ) (goes : (v : ℕ) (w1 : World) →
+      Sim r z.fuel (go v w1 t) (go' v w1 t)) where
     -- a service is the same on both sides: that of a constant is taken from the law of runs that are kept
     service_runs : (n u : ℕ) → Sim r z.fuel (service z.room n u w (λ v w1. go v w1 t)) (service z.room n u w (λ v w1. go' v w1 t))
     service_runs n u =
         untraded z.fuel r r 2 2 _ _ (omega arith)
         (untraded z.fuel r r 5 5 _ _ (omega arith)
-        (keep_value (Does r) OneWorld OneTemps keeps z.fuel Canonical z.room z.literals (λ label vs top back w0. wrong w0) (λ label vs top back w0. wrong w0) (λ p. wrong p.world) (λ p. wrong p.world)
+        (keep_value (Does r) OneWorld OneTemps keeps z.fuel Canonical z.room z.literals (λ label vs top back w0. wrong w0) (λ label vs top back w0. wrong w0)
+        (λ p. wrong p.world) (λ p. wrong p.world)
         (λ label vs top back back' w0 w1 e h. keeps.stop z.fuel Wrong w0 w1 e) (λ x y e. stray x y e)
-        (Service n (Const u)) alone alone (λ v w1 t1. go v w1 t) (λ v w1 t1. go' v w1 t) (relating.around a _ _ _ _ (λ k w0 w1 t0 t1 e f. keeps.stop z.fuel Wrong w0 w1 e) (λ v w0 w1 e. keeps.stop z.fuel Wrong w0 w1 e))
+        (Service n (Const u)) alone alone (λ v w1 t1. go v w1 t) (λ v w1 t1. go' v w1 t)
+        (relating.around a _ _ _ _ (λ k w0 w1 t0 t1 e f. keeps.stop z.fuel Wrong w0 w1 e) (λ v w0 w1 e. keeps.stop z.fuel Wrong w0 w1 e))
         (λ v w0 w1 t0 t1 e f. by v w0 w1 e) w w t t (one w) (one t)))
       where
         keeps : Keeps (Does r) OneWorld OneTemps
@@ -189,23 +194,29 @@ module _ (z : Scene) where
     side_runs (LoadByte x) f = flat_runs (LoadByte x) f
     side_runs (Call label xs) f =
         trade z.fuel r r 2 2 _ _ (omega arith)
-        (fixed_runs r a o o' b b' w t (mixed_values z xs) (then_values z xs) (λ vs w1 t1. z.enter label vs (a.base - a.size) (λ v w2. go v w2 t1) w1) (λ vs w1 t1. z.enter' label vs (a.base - a.size) (λ v w2. go' v w2 t1) w1) (fixed_values z a o o' b b' w t xs f)
+        (fixed_runs r a o o' b b' w t (mixed_values z xs) (then_values z xs) (λ vs w1 t1. z.enter label vs (a.base - a.size) (λ v w2. go v w2 t1) w1)
+        (λ vs w1 t1. z.enter' label vs (a.base - a.size) (λ v w2. go' v w2 t1) w1) (fixed_values z a o o' b b' w t xs f)
         (λ vs. credit z.fuel (r + 0) r _ _ (omega arith) (z.calls label vs (a.base - a.size) (λ v w2. go v w2 t) (λ v w2. go' v w2 t) w r (λ v w2. goes v w2))))
     side_runs (Service n x) f =
         trade z.fuel r r 5 5 _ _ (omega arith)
-        (fixed_runs r a o o' b b' w t (mixed_value z x) (then_value z x) (λ u w1 t1. service z.room n u w1 (λ v w2. go v w2 t1)) (λ u w1 t1. service z.room n u w1 (λ v w2. go' v w2 t1)) (fixed_value z a o o' b b' w t x f) (λ u. service_runs n u))
+        (fixed_runs r a o o' b b' w t (mixed_value z x) (then_value z x) (λ u w1 t1. service z.room n u w1 (λ v w2. go v w2 t1))
+        (λ u w1 t1. service z.room n u w1 (λ v w2. go' v w2 t1)) (fixed_value z a o o' b b' w t x f) (λ u. service_runs n u))
     side_runs (After s x) f = absurd f
 
   -- A right side is moved to a temporary that is drawn for it, whose word is what it gives.
-  pub move_runs : (x : Tx) (l : ℕ) → IsFlatSide x → z.own ≤ l → (J : Known) (r : ℕ) (a : Activation) (o o' : Out) (b b' : Back) (go : Go ℕ) (next : Next) → KeptBy J (still (Move l x)) l (l + 1) →
+  pub move_runs : (x : Tx) (l : ℕ) → IsFlatSide x → z.own ≤ l → (J : Known) (r : ℕ) (a : Activation) (o o' : Out) (b b' : Back) (go : Go ℕ) (next : Next) →
+      KeptBy J (still (Move l x)) l (l + 1) →
       ((w : World) (t t' : Temps) → Beside z.own J w t t' → Sim r z.fuel (mixed_value z (Temp l) (around a o b) (λ v w1 t1. go v w1 t) w t') (next w t')) →
-      (w : World) (t t' : Temps) → Beside z.own J w t t' → Sim (r + 2) z.fuel (mixed_value z x (around a o b) (λ v w1 t1. go v w1 t) w t') (then_does z (Move l x) (around a o' b') next w t')
+      (w : World) (t t' : Temps) → Beside z.own J w t t' → Sim (r + 2) z.fuel (mixed_value z x (around a o b) (λ v w1 t1. go v w1 t) w t')
+      (then_does z (Move l x) (around a o' b') next w t')
   move_runs x l f le J r a o o' b b' go next kept hyp w t t' near =
       worked z.fuel (r + 2) r 2 _ (then_value z x (around a o' b') (λ v w1 t1. next w1 (set_temp l v t1)) w t') (omega arith)
       (side_runs r a o o' b b' w t' (λ v w1 t1. go v w1 t) (λ v w1 t1. next w1 (set_temp l v t1)) (λ v w1.
-      along z.fuel r (mixed_value z (Temp l) (around a o b) (λ u w2 t2. go u w2 t) w1 (set_temp l v t')) (go v w1 t) (next w1 (set_temp l v t')) (next w1 (set_temp l v t'))
+      along z.fuel r (mixed_value z (Temp l) (around a o b) (λ u w2 t2. go u w2 t) w1 (set_temp l v t')) (go v w1 t) (next w1 (set_temp l v t'))
+      (next w1 (set_temp l v t'))
       (sym (ap (λ d. charged 0 (with_word d w1 (λ u. go u w1 t))) (set_same l v t') ∙ free (go v w1 t))) refl
-      (hyp w1 t (set_temp l v t') (beside_drawn z.own J l v w1 t t' 4294967295 0 l (l + 1) (kept refl) le (omega arith) (omega arith) (beside_world z.own J w w1 t t' 4294967295 0 l (l + 1) (kept refl) near)))) x f)
+      (hyp w1 t (set_temp l v t') (beside_drawn z.own J l v w1 t t' 4294967295 0 l (l + 1) (kept refl) le (omega arith) (omega arith)
+      (beside_world z.own J w w1 t t' 4294967295 0 l (l + 1) (kept refl) near)))) x f)
 
   -- What becomes of a flat expression in front of a part: a front, and an expression that gives the same word behind the part.
   pub record IsHeld (p : Part) (x : Tx) (low from : ℕ) (h : Lifted) (to : ℕ) : Type 1 where
@@ -213,7 +224,8 @@ module _ (z : Scene) where
         (J : Known) (r : ℕ) (a : Activation) (o o' : Out) (b b' : Back) (go : Go ℕ) (next : Next) →
         KeptBy J h.front from to →
         ((w : World) (t t' : Temps) → Beside z.own J w t t' → Sim r z.fuel (mixed_value z h.rest (around a o b) (λ v w1 t1. go v w1 t) w t') (next w t')) →
-        (w : World) (t t' : Temps) → Beside z.own J w t t' → Sim (r + 2) z.fuel (mixed_value z x (around a o b) (λ v w1 t1. go v w1 t) w t') (then_does z h.front.statement (around a o' b') next w t')
+        (w : World) (t t' : Temps) → Beside z.own J w t t' → Sim (r + 2) z.fuel (mixed_value z x (around a o b) (λ v w1 t1. go v w1 t) w t')
+        (then_does z h.front.statement (around a o' b') next w t')
     pub steady : IsSteady h.rest
     pub apart : (i : ℕ) → Occurs i h.rest → p.least ≤ i → p.greatest < i
     pub reads : (i : ℕ) → Occurs i h.rest → IsIn z.own low to i
@@ -238,10 +250,12 @@ module _ (z : Scene) where
       grows = omega arith;
     }
 
-    whole_held : (x : Tx) → IsSteady x → ((i : ℕ) → Occurs i x → p.least ≤ i → p.greatest < i) → ((i : ℕ) → Occurs i x → IsIn z.own low from i) → Held x (give (whole x) from)
+    whole_held : (x : Tx) → IsSteady x → ((i : ℕ) → Occurs i x → p.least ≤ i → p.greatest < i) → ((i : ℕ) → Occurs i x → IsIn z.own low from i) →
+        Held x (give (whole x) from)
     whole_held x f apart reads = record {
       runs = λ J r a o o' b b' go next kept hyp w t t' near.
-          along z.fuel (r + 2) _ _ (next w t') _ refl (does_nothing z nothing (around a o' b') next w t' refl) (credit z.fuel r (r + 2) _ (next w t') (omega arith) (hyp w t t' near));
+          along z.fuel (r + 2) _ _ (next w t') _ refl (does_nothing z nothing (around a o' b') next w t' refl)
+          (credit z.fuel r (r + 2) _ (next w t') (omega arith) (hyp w t t' near));
       steady = f;
       apart = apart;
       reads = reads;
@@ -251,7 +265,8 @@ module _ (z : Scene) where
       grows = omega arith;
     }
 
-    unless_held : (b : Bool) (x : Tx) → IsFlat x → (b ≡ true → IsSteady x) → (b ≡ true → (i : ℕ) → Occurs i x → p.least ≤ i → p.greatest < i) → (b ≡ false → holdable z.own x ≡ 1) → ((i : ℕ) → Occurs i x → IsIn z.own low from i) → Held x (hold_unless b x from)
+    unless_held : (b : Bool) (x : Tx) → IsFlat x → (b ≡ true → IsSteady x) → (b ≡ true → (i : ℕ) → Occurs i x → p.least ≤ i → p.greatest < i) →
+        (b ≡ false → holdable z.own x ≡ 1) → ((i : ℕ) → Occurs i x → IsIn z.own low from i) → Held x (hold_unless b x from)
     unless_held true x f steady apart once reads = whole_held x (steady refl) (apart refl) reads
     unless_held false x f steady apart once reads = hold_held x (flat_side x f) (once refl)
 
@@ -285,7 +300,8 @@ module _ (z : Scene) where
     offset_held op x (Service _ _) e q d h = cc
     offset_held op x (After _ _) e q d h = cc
 
-    but_offset_held : (b : Bool) (op : Bin) (x y : Tx) → (is_sum op && is_constant y) ≡ b → IsFlat x → IsFlat y → ((i : ℕ) → Occurs i x → IsIn z.own low from i) → Held (Binary op x y) (hold_but_offset b p op x y from)
+    but_offset_held : (b : Bool) (op : Bin) (x y : Tx) → (is_sum op && is_constant y) ≡ b → IsFlat x → IsFlat y →
+        ((i : ℕ) → Occurs i x → IsIn z.own low from i) → Held (Binary op x y) (hold_but_offset b p op x y from)
     but_offset_held true op x y e f g reads =
         let q = both_true (is_sum op) (is_constant y) e in
         offset_held op x y q.0 q.1 (hold_unless (stays p x) x from) (stays_held x f reads)

@@ -1,5 +1,5 @@
 mod CanonExamples
-pub mod RunExamples
+mod RunExamples
 pub mod Sizing
 pub mod Paying
 pub mod Fixed

@@ -36,7 +36,8 @@ use Rattle.tg_canon.proofs.Dones.{GoesOn}
 use Rattle.tg_canon.proofs.Tests.{JoinsPay}
 use Rattle.tg_canon.proofs.Carried.{linear_at}
 
-statements_run : (z : Scene) (s : Ts) (e : Around) (next : Next) (w : World) (t : Temps) → then_does z (Seq (statements_of s)) e next w t ≡ then_does z s e next w t
+statements_run : (z : Scene) (s : Ts) (e : Around) (next : Next) (w : World) (t : Temps) →
+    then_does z (Seq (statements_of s)) e next w t ≡ then_does z s e next w t
 statements_run z (Seq ss) e next w t = refl
 statements_run z (Move i x) e next w t = free (then_does z (Move i x) e next w t)
 statements_run z (Store x y) e next w t = free (then_does z (Store x y) e next w t)
@@ -78,20 +79,25 @@ module _ (functions functions' : List (Function Ts)) (literals : List Literal) (
   goes' = going Canonical code' size floor room
 
   abbrev Calls : ℕ → Type 0
-  Calls n = CallsSimulate 1 added_work size floor marked_entry_units marked_entry_units (runner Trees functions literals size floor room) (runner Canonical functions' literals size floor room) functions functions' n
+  Calls n = CallsSimulate 1 added_work size floor marked_entry_units marked_entry_units (runner Trees functions literals size floor room)
+      (runner Canonical functions' literals size floor room) functions functions' n
 
   -- what comes after a return matters up to the fuel that there is
-  enters_same : (m label : ℕ) (vs : List ℕ) (top : ℕ) (back back' : Back) (w : World) → AlikeBack Same OneWorld OneTemps m back back' → IsSameTo m (enter Trees code size floor room goes label vs top back w) (enter Trees code size floor room goes label vs top back' w)
+  enters_same : (m label : ℕ) (vs : List ℕ) (top : ℕ) (back back' : Back) (w : World) → AlikeBack Same OneWorld OneTemps m back back' →
+      IsSameTo m (enter Trees code size floor room goes label vs top back w) (enter Trees code size floor room goes label vs top back' w)
   enters_same m label vs top back back' w h =
       same_keeps.work m (marked_entry_units (length vs)) w _ _
       (keep_entered Same OneWorld OneTemps same_keeps m size floor _ _
-      (λ s e e' w1 x t u he r q. same_keeps.fuel m w1 x _ _ r (λ k lt. keep_body Same OneWorld OneTemps same_keeps Trees code size floor room k goes goes (λ v y g. trees_relate Trees code size floor room Same OneWorld OneTemps same_keeps k v y g) s e e' w1 x t u (around_down Same OneWorld OneTemps same_keeps k m e e' (omega arith) he) r q))
+      (λ s e e' w1 x t u he r q. same_keeps.fuel m w1 x _ _ r
+      (λ k lt. keep_body Same OneWorld OneTemps same_keeps Trees code size floor room k goes goes
+      (λ v y g. trees_relate Trees code size floor room Same OneWorld OneTemps same_keeps k v y g) s e e' w1 x t u
+      (around_down Same OneWorld OneTemps same_keeps k m e e' (omega arith) he) r q))
       (function_of label functions) vs top back back' w w (same.one w) h)
 
   calls_less : (m n : ℕ) → m ≤ n → Calls n → Calls m
   calls_less m n le h label vs top back back' w r backs i li ne =
       let e : enter Trees code size floor room goes label vs top (cut_back m back) w i ≡ enter Trees code size floor room goes label vs top back w i =
-          enters_same m label vs top (cut_back m back) back w (λ v w1 w2 o. by v w1 w2 o) i li in
+      enters_same m label vs top (cut_back m back) back w (λ v w1 w2 o. by v w1 w2 o) i li in
       subst (λ p. (j : ℕ) × (i ≤ j) × DoesTheSame 1 (r + 0) p (enter Canonical code' size floor room goes' label vs top back' w j)) e
       (h label vs top (cut_back m back) back' w r (cut_simulates r m n back back' backs) i (omega arith) (λ f. ne (ap (λ p. p.stop) (sym e) ∙ f)))
     where
@@ -113,7 +119,8 @@ module _ (functions functions' : List (Function Ts)) (literals : List Literal) (
 
   module _ (pay : JoinsPay) (own : ℕ) where
     abbrev Again : (n : ℕ) → Calls n → Type 1
-    Again n calls = (out : ℕ → ℕ) (s : Ts) (k : ℕ) → TsPasses (below own) s → own ≤ k → GoesOn (scene own n calls) out s (linear (inside out) s k).it k (linear (inside out) s k).next
+    Again n calls = (out : ℕ → ℕ) (s : Ts) (k : ℕ) → TsPasses (below own) s → own ≤ k → GoesOn (scene own n calls) out s (linear (inside out) s k).it k
+        (linear (inside out) s k).next
 
     -- a return to a loop's head, with less fuel
     again_next : (n : ℕ) (calls : Calls n) → ((m : ℕ) → m < n → (c : Calls m) → Again m c) → Again n calls
@@ -122,7 +129,8 @@ module _ (functions functions' : List (Function Ts)) (literals : List Literal) (
         let to : Point = record { statement = Loop (linear (inside out) s k).it.statement; around = around a o' b'; next = next'; world = w; temps = t' } in
         simulates_turn 1 r n w.input (goes from) (goes' to) (λ m lt.
         let c = calls_less m n (omega arith) calls in
-        along m r (step Trees code size floor room goes from) (goes from) (step Canonical code' size floor room goes' to) (goes' to) (λ i j. trees_step Trees code size floor room from j i) (λ i j. trees_step Canonical code' size floor room to j i)
+        along m r (step Trees code size floor room goes from) (goes from) (step Canonical code' size floor room goes' to) (goes' to)
+        (λ i j. trees_step Trees code size floor room from j i) (λ i j. trees_step Canonical code' size floor room to j i)
         ((linear_at (scene own m c) pay (below_n m lt c) (Loop s) out k passes le).done.runs J r a o o' b b' next next' kept
         (λ q w1 t1 u1 near1. simulates_less 1 r m n _ _ (omega arith) (outs q w1 t1 u1 near1)) (λ v w1. simulates_less 1 r m n _ _ (omega arith) (backs v w1))
         (λ w1 t1 u1 near1. simulates_less 1 r m n _ _ (omega arith) (nexts w1 t1 u1 near1)) w t t' near))
@@ -134,18 +142,24 @@ module _ (functions functions' : List (Function Ts)) (literals : List Literal) (
     again_at : (n : ℕ) (calls : Calls n) → Again n calls
     again_at n calls = again_next n calls (λ m lt c. again_below n m lt c)
 
-  pub bodies_carried : JoinsPay → (body : Ts) (temps : ℕ) → AreTempsBelow temps (named_ts body []) → BodyCarried 1 added_work size floor marked_entry_units marked_entry_units (runner Trees functions literals size floor room) (runner Canonical functions' literals size floor room) functions functions' body (Seq (linearized body temps).it)
+  pub bodies_carried : JoinsPay → (body : Ts) (temps : ℕ) → AreTempsBelow temps (named_ts body []) →
+      BodyCarried 1 added_work size floor marked_entry_units marked_entry_units (runner Trees functions literals size floor room)
+      (runner Canonical functions' literals size floor room) functions functions' body (Seq (linearized body temps).it)
   bodies_carried pay body temps own n r act back back' w t calls backs =
       let z = scene temps n calls in
       let passes = body_passes (below temps) body (below_more temps temps (named_ts body []) (omega arith) own) in
       let part = linear (λ k. k) body temps in
       along n (r + 0) _ _ (then_does z (Seq (statements_of part.it.statement)) (outermost act back') (λ w1 t1. wrong w1) w t) _
-      (λ i j. trees_step Trees code size floor room (body_point body (outermost act back) w t) j i) (λ i j. trees_step Canonical code' size floor room (body_point (Seq (linearized body temps).it) (outermost act back') w t) j i)
-      (along n (r + 0) _ _ (then_does z part.it.statement (outermost act back') (λ w1 t1. wrong w1) w t) _ refl (statements_run z part.it.statement (outermost act back') (λ w1 t1. wrong w1) w t)
+      (λ i j. trees_step Trees code size floor room (body_point body (outermost act back) w t) j i)
+      (λ i j. trees_step Canonical code' size floor room (body_point (Seq (linearized body temps).it) (outermost act back') w t) j i)
+      (along n (r + 0) _ _ (then_does z part.it.statement (outermost act back') (λ w1 t1. wrong w1) w t) _ refl
+      (statements_run z part.it.statement (outermost act back') (λ w1 t1. wrong w1) w t)
       (credit n r (r + 0) _ _ (omega arith)
-      ((linear_at z pay (again_at pay temps n calls) body (λ k. k) temps passes (omega arith)).done.runs (λ w1 t1 u1. Unit {0}) r act (λ k w1 t1. wrong w1) (λ k w1 t1. wrong w1) back back' (λ w1 t1. wrong w1) (λ w1 t1. wrong w1)
+      ((linear_at z pay (again_at pay temps n calls) body (λ k. k) temps passes (omega arith)).done.runs (λ w1 t1 u1. Unit {0}) r act (λ k w1 t1. wrong w1)
+      (λ k w1 t1. wrong w1) back back' (λ w1 t1. wrong w1) (λ w1 t1. wrong w1)
       (λ e. record { world = λ w1 x t1 u1 h. tt; assigned = λ i v w1 t1 u1 lo hi h. tt; drawn = λ i v w1 t1 u1 lo hi h. tt })
-      (λ k w1 t1 u1 h. simulates_stopping 1 r n w1.input Wrong) backs (λ w1 t1 u1 h. simulates_stopping 1 r n w1.input Wrong) w t t (record { agree = λ i lt. refl; holds = tt }))))
+      (λ k w1 t1 u1 h. simulates_stopping 1 r n w1.input Wrong) backs (λ w1 t1 u1 h. simulates_stopping 1 r n w1.input Wrong) w t t
+      (record { agree = λ i lt. refl; holds = tt }))))
 
 in_rest : (x : Function Ts) (xs : List (Function Ts)) (y : Function Ts) → Contains xs y → Contains (x ∷ xs) y
 in_rest x xs y (k, l, e) = (suc k, omega arith, e)
@@ -155,21 +169,30 @@ module _ (pay : JoinsPay) (code : Code Ts) (size : ℕ → ℕ) (floor room : �
   behind = map in_sequence (canonical_code code).functions
 
   all_carried : (fs : List (Function Ts)) → ((f : Function Ts) → Contains fs f → HasOwnTemps f) →
-      AllCarried 1 added_work size floor marked_entry_units marked_entry_units (runner Trees code.functions code.literals size floor room) (runner Canonical behind code.literals size floor room) code.functions behind fs (map in_sequence (map canonical fs))
+      AllCarried 1 added_work size floor marked_entry_units marked_entry_units (runner Trees code.functions code.literals size floor room)
+      (runner Canonical behind code.literals size floor room) code.functions behind fs (map in_sequence (map canonical fs))
   all_carried [] h = none
   all_carried (f ∷ fs) h =
       one f.label f.params f.slots f.temps (canonical f).temps f.out f.out f.body (Seq (canonical f).body) fs (map in_sequence (map canonical fs))
-      (bodies_carried code.functions behind code.literals size floor room pay f.body f.temps (h f (0, omega arith, refl))) (all_carried fs (λ g c. h g (in_rest f fs g c)))
+      (bodies_carried code.functions behind code.literals size floor room pay f.body f.temps (h f (0, omega arith, refl)))
+      (all_carried fs (λ g c. h g (in_rest f fs g c)))
 
-  entries_pay : EntriesPay 1 added_work size floor marked_entry_units marked_entry_units (runner Trees code.functions code.literals size floor room) (runner Canonical behind code.literals size floor room) code.functions behind
+  entries_pay :
+      EntriesPay 1 added_work size floor marked_entry_units marked_entry_units
+      (runner Trees code.functions code.literals size floor room) (runner Canonical behind code.literals size floor room) code.functions behind
   entries_pay k = omega arith
 
-  pub calls_are_carried : (n : ℕ) → ((f : Function Ts) → Contains code.functions f → HasOwnTemps f) → CallsSimulate 1 added_work size floor marked_entry_units marked_entry_units (runner Trees code.functions code.literals size floor room) (runner Canonical behind code.literals size floor room) code.functions behind n
+  pub calls_are_carried : (n : ℕ) → ((f : Function Ts) → Contains code.functions f → HasOwnTemps f) →
+      CallsSimulate 1 added_work size floor marked_entry_units marked_entry_units (runner Trees code.functions code.literals size floor room)
+      (runner Canonical behind code.literals size floor room) code.functions behind n
   calls_are_carried n h =
-      calls_carried 1 added_work size floor marked_entry_units marked_entry_units (runner Trees code.functions code.literals size floor room) (runner Canonical behind code.literals size floor room) code.functions behind entries_pay (all_carried code.functions h) n
+      calls_carried 1 added_work size floor marked_entry_units marked_entry_units (runner Trees code.functions code.literals size floor room)
+      (runner Canonical behind code.literals size floor room) code.functions behind entries_pay (all_carried code.functions h) n
 
-  pub programs_are_preserved : (body : ℕ) (input : List ℕ) → ((f : Function Ts) → Contains code.functions f → HasOwnTemps f) → Preserves 1 added_work (tree_run Trees code size floor room body input) (canonical_run (canonical_code code) size floor room body input)
+  pub programs_are_preserved : (body : ℕ) (input : List ℕ) → ((f : Function Ts) → Contains code.functions f → HasOwnTemps f) →
+      Preserves 1 added_work (tree_run Trees code size floor room body input) (canonical_run (canonical_code code) size floor room body input)
   programs_are_preserved body input h =
       simulation_preserves 1 added_work _ _ (λ n.
-      programs_carried 1 added_work size floor marked_entry_units marked_entry_units (runner Trees code.functions code.literals size floor room) (runner Canonical behind code.literals size floor room) code.functions behind entries_pay (all_carried code.functions h) n
+      programs_carried 1 added_work size floor marked_entry_units marked_entry_units (runner Trees code.functions code.literals size floor room)
+      (runner Canonical behind code.literals size floor room) code.functions behind entries_pay (all_carried code.functions h) n
       body [] stack_top _ _ (record { memory = begin code.literals; input = input }) 0 (λ v w. simulates_stopping 1 0 n w.input (Ended (Exit (pos 0)))))

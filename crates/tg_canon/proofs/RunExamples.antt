@@ -48,7 +48,7 @@ writes_one : before read_and_call 1 ≡ (1 ∷ [], Ended (Exit (pos 0)))
 writes_one = refl
 
 -- behind the pass it does the same: what is read is kept before the call
-pub kept_before_the_call : behind (canonical_code read_and_call) 1 ≡ before read_and_call 1
+kept_before_the_call : behind (canonical_code read_and_call) 1 ≡ before read_and_call 1
 kept_before_the_call = refl
 
 -- where the call is moved before the read that it changes, it doesn't

@@ -44,7 +44,8 @@ pub record StaysKnown (J : Known) (least greatest from to : ℕ) : Type 0 where
 abbrev pub KeptBy : Known → Part → (from to : ℕ) → Type 0
 KeptBy J p from to = is_nothing p.statement ≡ false → StaysKnown J p.least p.greatest from to
 
-pub kept_within : (J : Known) (p q : Part) (from to k l : ℕ) → (is_nothing p.statement ≡ false → is_nothing q.statement ≡ false) → q.least ≤ p.least → p.greatest ≤ q.greatest → from ≤ k → l ≤ to → KeptBy J q from to → KeptBy J p k l
+pub kept_within : (J : Known) (p q : Part) (from to k l : ℕ) → (is_nothing p.statement ≡ false → is_nothing q.statement ≡ false) → q.least ≤ p.least →
+    p.greatest ≤ q.greatest → from ≤ k → l ≤ to → KeptBy J q from to → KeptBy J p k l
 kept_within J p q from to k l some low high lo hi h e =
     let s = h (some e) in
     record {
@@ -77,11 +78,13 @@ module _ (own : ℕ) (J : Known) where
   pub beside_world : (w x : World) (t t' : Temps) (least greatest from to : ℕ) → StaysKnown J least greatest from to → Beside own J w t t' → Beside own J x t t'
   beside_world w x t t' least greatest from to s h = record { agree = h.agree; holds = s.world w x t t' h.holds }
 
-  pub beside_assigned : (i v : ℕ) (w : World) (t t' : Temps) (least greatest from to : ℕ) → StaysKnown J least greatest from to → least ≤ i → i ≤ greatest → Beside own J w t t' → Beside own J w (set_temp i v t) (set_temp i v t')
+  pub beside_assigned : (i v : ℕ) (w : World) (t t' : Temps) (least greatest from to : ℕ) → StaysKnown J least greatest from to → least ≤ i → i ≤ greatest →
+      Beside own J w t t' → Beside own J w (set_temp i v t) (set_temp i v t')
   beside_assigned i v w t t' least greatest from to s lo hi h =
       record { agree = λ j lt. set_both i v t t' j (h.agree j lt); holds = s.assigned i v w t t' lo hi h.holds }
 
-  pub beside_drawn : (i v : ℕ) (w : World) (t t' : Temps) (least greatest from to : ℕ) → StaysKnown J least greatest from to → own ≤ i → from ≤ i → i < to → Beside own J w t t' → Beside own J w t (set_temp i v t')
+  pub beside_drawn : (i v : ℕ) (w : World) (t t' : Temps) (least greatest from to : ℕ) → StaysKnown J least greatest from to → own ≤ i → from ≤ i → i < to →
+      Beside own J w t t' → Beside own J w t (set_temp i v t')
   beside_drawn i v w t t' least greatest from to s le lo hi h =
       record { agree = λ j lt. set_other i v t' j (λ e. omega (arith, e)) ∙ h.agree j lt; holds = s.drawn i v w t t' lo hi h.holds }
 
@@ -103,10 +106,12 @@ module _ (z : Scene) where
   pub outs_more : (J : Known) (r s : ℕ) (out : ℕ → ℕ) (o o' : Out) → r ≤ s → OutsAre J r out o o' → OutsAre J s out o o'
   outs_more J r s out o o' le h k w t t' x = credit z.fuel r s (o k w t) (o' (out k) w t') le (h k w t t' x)
 
-  pub outs_less : (J K : Known) (r : ℕ) (out : ℕ → ℕ) (o o' : Out) → ((w : World) (t t' : Temps) → K w t t' → J w t t') → OutsAre J r out o o' → OutsAre K r out o o'
+  pub outs_less : (J K : Known) (r : ℕ) (out : ℕ → ℕ) (o o' : Out) → ((w : World) (t t' : Temps) → K w t t' → J w t t') → OutsAre J r out o o' →
+      OutsAre K r out o o'
   outs_less J K r out o o' f h k w t t' x = h k w t t' (beside_less z.own J K w t t' (f w t t') x)
 
-  pub outs_only : (J : Known) (r : ℕ) (out : ℕ → ℕ) (o o' : Out) (w : World) (t t' : Temps) → Beside z.own J w t t' → OutsAre J r out o o' → OutsAre (Only w t t') r out o o'
+  pub outs_only : (J : Known) (r : ℕ) (out : ℕ → ℕ) (o o' : Out) (w : World) (t t' : Temps) → Beside z.own J w t t' → OutsAre J r out o o' →
+      OutsAre (Only w t t') r out o o'
   outs_only J r out o o' w t t' x h k w1 t1 u1 y = by w1 t1 u1 y.holds
     where
       by : (w1 : World) (t1 u1 : Temps) → Only w t t' w1 t1 u1 → Sim r z.fuel (o k w1 t1) (o' (out k) w1 u1)
@@ -122,7 +127,8 @@ module _ (z : Scene) where
         (J : Known) (r : ℕ) (a : Activation) (o o' : Out) (b b' : Back) (go : Go B) (next : Next) →
         KeptBy J front from to → OutsAre J r out o o' → BacksAre r b b' →
         ((w : World) (t t' : Temps) → Beside z.own J w t t' → Sim (r + spare) z.fuel (rest (around a o b) (λ v w1 t1. go v w1 t) w t') (next w t')) →
-        (w : World) (t t' : Temps) → Beside z.own J w t t' → Sim r z.fuel (entire (around a o b) go w t) (then_does z front.statement (around a o' b') next w t')
+        (w : World) (t t' : Temps) → Beside z.own J w t t' →
+        Sim r z.fuel (entire (around a o b) go w t) (then_does z front.statement (around a o' b') next w t')
 
   -- a statement is done by a part
   pub record IsDone (out : ℕ → ℕ) (entire : Acts Next) (part : Part) (from to : ℕ) : Type 1 where
@@ -130,7 +136,8 @@ module _ (z : Scene) where
         (J : Known) (r : ℕ) (a : Activation) (o o' : Out) (b b' : Back) (next next' : Next) →
         KeptBy J part from to → OutsAre J r out o o' → BacksAre r b b' →
         ((w : World) (t t' : Temps) → Beside z.own J w t t' → Sim r z.fuel (next w t) (next' w t')) →
-        (w : World) (t t' : Temps) → Beside z.own J w t t' → Sim r z.fuel (entire (around a o b) next w t) (then_does z part.statement (around a o' b') next' w t')
+        (w : World) (t t' : Temps) → Beside z.own J w t t' →
+        Sim r z.fuel (entire (around a o b) next w t) (then_does z part.statement (around a o' b') next' w t')
 
   -- Statements behind the pass, put together.
   pub does_nothing : (s : Ts) (e : Around) (next : Next) (w : World) (t : Temps) → is_nothing s ≡ true → then_does z s e next w t ≡ next w t
@@ -146,10 +153,12 @@ module _ (z : Scene) where
   does_nothing (Fault k) e next w t p = cc
   does_nothing (Return x) e next w t p = cc
 
-  pub does_in_turn : (s t : Ts) (e : Around) (next : Next) (w : World) (u : Temps) → then_does z (first_then s t) e next w u ≡ then_does z s e (λ w1 u1. then_does z t e next w1 u1) w u
+  pub does_in_turn : (s t : Ts) (e : Around) (next : Next) (w : World) (u : Temps) →
+      then_does z (first_then s t) e next w u ≡ then_does z s e (λ w1 u1. then_does z t e next w1 u1) w u
   does_in_turn s t e next w u = by (is_nothing s) (is_nothing t) refl refl
     where
-      by : (a b : Bool) → is_nothing s ≡ a → is_nothing t ≡ b → then_does z (if a then t else if b then s else pair s t) e next w u ≡ then_does z s e (λ w1 u1. then_does z t e next w1 u1) w u
+      by : (a b : Bool) → is_nothing s ≡ a → is_nothing t ≡ b →
+          then_does z (if a then t else if b then s else pair s t) e next w u ≡ then_does z s e (λ w1 u1. then_does z t e next w1 u1) w u
       by true b p q = sym (does_nothing s e (λ w1 u1. then_does z t e next w1 u1) w u p)
       by false true p q = sym (λ i. then_does z s e (λ w1 u1. does_nothing t e next w1 u1 q i) w u)
       by false false p q = free (then_does z s e (λ w1 u1. then_does z t e next w1 u1) w u)

@@ -112,7 +112,8 @@ no_trap Sub u v e = inl (_, refl)
 no_trap Mul u v e = inl (_, refl)
 no_trap Div u v e = by (v == 0)
   where
-    by : (b : Bool) → ((r : ℕ) × ((if b then stops_by Wrong else word (quot u v)) ≡ word r)) ⊎ ((if b then stops_by Wrong else word (quot u v)) ≡ stops_by Wrong)
+    by : (b : Bool) →
+        ((r : ℕ) × ((if b then stops_by Wrong else word (quot u v)) ≡ word r)) ⊎ ((if b then stops_by Wrong else word (quot u v)) ≡ stops_by Wrong)
     by true = inr refl
     by false = inl (_, refl)
 no_trap And u v e = inl (_, refl)
@@ -178,7 +179,8 @@ module _ (z : Scene) (e : Around) (w : World) (t : Temps) where
   quiet_value (Load x) f p =
       quiet_pay 1 _ (quiet_bind (mixed_value z x) (λ u. read_memory (λ m. load m u)) (quiet_value x f p) (λ u. quiet_word_of (λ w0 t0. load w0.memory u)))
   quiet_value (LoadByte x) f p =
-      quiet_pay 1 _ (quiet_bind (mixed_value z x) (λ u. read_memory (λ m. load_byte m u)) (quiet_value x f p) (λ u. quiet_word_of (λ w0 t0. load_byte w0.memory u)))
+      quiet_pay 1 _ (quiet_bind (mixed_value z x) (λ u. read_memory (λ m. load_byte m u)) (quiet_value x f p)
+      (λ u. quiet_word_of (λ w0 t0. load_byte w0.memory u)))
   quiet_value (Call label xs) f p = absurd f
   quiet_value (Service k x) f p = absurd f
   quiet_value (After s x) f p = absurd f

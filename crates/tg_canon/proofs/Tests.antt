@@ -43,7 +43,8 @@ module _ (z : Scene) (out : ℕ → ℕ) where
     split = record {
       runs = λ J r a o o' b b' go next kept outs backs hyp w u u' near.
           pays z.fuel r r 0 _ _ (omega arith)
-          (h.split.runs J r a o o' b b' (λ q w1 t1. go (not q) w1 t1) next kept outs backs (λ w1 t1 u1 near1. unpaid z.fuel (r + 0) (r + 0) 0 _ (next w1 u1) (omega arith) (hyp w1 t1 u1 near1)) w u u' near);
+          (h.split.runs J r a o o' b b' (λ q w1 t1. go (not q) w1 t1) next kept outs backs
+          (λ w1 t1 u1 near1. unpaid z.fuel (r + 0) (r + 0) 0 _ (next w1 u1) (omega arith) (hyp w1 t1 u1 near1)) w u u' near);
     };
     flat = h.flat;
     none = h.none;
@@ -64,7 +65,8 @@ module _ (z : Scene) (out : ℕ → ℕ) where
 
     module _ (r : ℕ) (a : Activation) (o o' : Out) (b b' : Back) (go : Go Bool) (next : Next) (w : World) (s s' : Temps)
         (J : Known) (outs : OutsAre z J r out o o') (backs : BacksAre z r b b') (near : Beside z.own J w s s') where
-      after_it : (k : ℕ) (G GR : Acts (Go Bool)) → Turns D DR G GR → r ≤ k → Sim k z.fuel (GR (around a o b) (λ v w1 t1. go v w1 s) w s') (next w s') → Sim k z.fuel (G (around a o b) go w s) (then_does z part.statement (around a o' b') next w s')
+      after_it : (k : ℕ) (G GR : Acts (Go Bool)) → Turns D DR G GR → r ≤ k → Sim k z.fuel (GR (around a o b) (λ v w1 t1. go v w1 s) w s') (next w s') →
+          Sim k z.fuel (G (around a o b) go w s) (then_does z part.statement (around a o' b') next w s')
       after_it k G GR goes_on le h =
           right.runs (Only w s s') k a o o' b b' go next (λ f. let q : true ≡ false = sym e ∙ f in cc)
           (outs_more z (Only w s s') r k out o o' le (outs_only z J r out o o' w s s' near outs)) (backs_more z r k b b' le backs)
@@ -74,8 +76,10 @@ module _ (z : Scene) (out : ℕ → ℕ) where
           by w1 t1 u1 only = credit z.fuel k (k + 0) _ (next w s') (omega arith) h
       after_it k G GR (stays v) le h = along z.fuel k (go v w s) _ (next w s') _ refl (does_nothing z part.statement (around a o' b') next w s' e) h
 
-      at_once : Sim (r + 0) z.fuel (joins_rest (around a o b) (λ v w1 t1. go v w1 s) w s') (next w s') → IsFixed (mixed_test z t.condition) (then_test z t.condition) (around a o b) (around a o b) w s' →
-          Sim (r + u + 0) z.fuel (mixed_test z t.condition (around a o b) (λ q w1 t1. F q (around a o b) go w1 s) w s') (then_does z part.statement (around a o' b') next w s')
+      at_once : Sim (r + 0) z.fuel (joins_rest (around a o b) (λ v w1 t1. go v w1 s) w s') (next w s') →
+          IsFixed (mixed_test z t.condition) (then_test z t.condition) (around a o b) (around a o b) w s' →
+          Sim (r + u + 0) z.fuel (mixed_test z t.condition (around a o b) (λ q w1 t1. F q (around a o b) go w1 s) w s')
+          (then_does z part.statement (around a o' b') next w s')
       at_once hyp (gives k q g g') =
           let rests : Go Bool = λ q w1 t2. FR q (around a o b) (λ v w2 t3. go v w2 s) w1 t2 in
           along z.fuel (r + u + 0) (charged k (F q (around a o b) go w s)) _ _ _ (g (λ q w1 t1. F q (around a o b) go w1 s)) refl
@@ -85,7 +89,8 @@ module _ (z : Scene) (out : ℕ → ℕ) where
           (along z.fuel (r + 0) _ _ (next w s') _ (sym (g rests)) refl (unpaid z.fuel (r + 0) (r + 0) 0 _ (next w s') (omega arith) hyp)))))
       at_once hyp (stops k how g g') =
           let rests : Go Bool = λ q w1 t2. FR q (around a o b) (λ v w2 t3. go v w2 s) w1 t2 in
-          along z.fuel (r + u + 0) (charged k (over how w)) _ (next w s') _ (g (λ q w1 t1. F q (around a o b) go w1 s)) (does_nothing z part.statement (around a o' b') next w s' e)
+          along z.fuel (r + u + 0) (charged k (over how w)) _ (next w s') _ (g (λ q w1 t1. F q (around a o b) go w1 s))
+          (does_nothing z part.statement (around a o' b') next w s' e)
           (credit z.fuel (r + 0) (r + u + 0) _ (next w s') (omega arith)
           (along z.fuel (r + 0) _ _ (next w s') _ (sym (g rests)) refl (unpaid z.fuel (r + 0) (r + 0) 0 _ (next w s') (omega arith) hyp)))
 
@@ -93,16 +98,22 @@ module _ (z : Scene) (out : ℕ → ℕ) where
     joined_split = record {
       runs = λ J r a o o' b b' go next kept outs backs hyp w s s' near.
           pays z.fuel r (r + u) u _ _ (omega arith)
-          (along z.fuel (r + u) _ _ (then_does z t.front.statement (around a o' b') (λ w1 u1. then_does z part.statement (around a o' b') next w1 u1) w s') _ refl
+          (along z.fuel (r + u) _ _ (then_does z t.front.statement (around a o' b')
+          (λ w1 u1. then_does z part.statement (around a o' b') next w1 u1) w s') _ refl
           (does_in_turn z t.front.statement part.statement (around a o' b') next w s')
           (test.split.runs J (r + u) a o o' b b' (λ q w1 t1. F q (around a o b) go w1 t1) (λ w1 u1. then_does z part.statement (around a o' b') next w1 u1)
-          (kept_first J t.front part first to from to grows (omega arith) kept) (outs_more z J r (r + u) out o o' (omega arith) outs) (backs_more z r (r + u) b b' (omega arith) backs)
-          (λ w1 t1 u1 near1. at_once r a o o' b b' go next w1 t1 u1 J outs backs near1 (hyp w1 t1 u1 near1) (fixed_test z a o o b b w1 u1 t.condition test.flat)) w s s' near));
+          (kept_first J t.front part first to from to grows (omega arith) kept) (outs_more z J r (r + u) out o o' (omega arith) outs)
+          (backs_more z r (r + u) b b' (omega arith) backs)
+          (λ w1 t1 u1 near1. at_once r a o o' b b' go next w1 t1 u1 J outs backs near1 (hyp w1 t1 u1 near1)
+          (fixed_test z a o o b b w1 u1 t.condition test.flat)) w s s' near));
     }
 
-  pub and_is : (c d : Cond) (first from to : ℕ) (t s : Tested) → is_flat_condition d ≡ true → TestIs c from t to → TestIs d first s from → TestIs (Both c d) first (joined Both t s) to
+  pub and_is : (c d : Cond) (first from to : ℕ) (t s : Tested) → is_flat_condition d ≡ true → TestIs c from t to → TestIs d first s from →
+      TestIs (Both c d) first (joined Both t s) to
   and_is c d first from to t s e h k = record {
-    split = joined_split c from t to h (tree_test z d) (mixed_test z s.condition) s.front first k.split (k.none e) (λ q. if q then tree_test z d else give false) (λ q. if q then mixed_test z s.condition else give false) turn (joined_units Trees (is_flat_condition d)) k.grows;
+    split = joined_split c from t to h (tree_test z d) (mixed_test z s.condition) s.front first k.split (k.none e)
+        (λ q. if q then tree_test z d else give false) (λ q. if q then mixed_test z s.condition else give false) turn
+        (joined_units Trees (is_flat_condition d)) k.grows;
     flat = (h.flat, k.flat);
     none = λ f. both_nothing t.front.statement s.front.statement (h.none (both_true (is_flat_condition c) (is_flat_condition d) f).0) (k.none e);
     owned = owned_both z.own t.front.least t.front.greatest s.front.least s.front.greatest h.owned k.owned;
@@ -111,13 +122,17 @@ module _ (z : Scene) (out : ℕ → ℕ) where
     grows = let g = h.grows in let g' = k.grows in omega arith;
   }
     where
-      turn : (q : Bool) → Turns (tree_test z d) (mixed_test z s.condition) (if q then tree_test z d else give false) (if q then mixed_test z s.condition else give false)
+      turn : (q : Bool) →
+          Turns (tree_test z d) (mixed_test z s.condition) (if q then tree_test z d else give false) (if q then mixed_test z s.condition else give false)
       turn true = goes_on
       turn false = stays false
 
-  pub or_is : (c d : Cond) (first from to : ℕ) (t s : Tested) → is_flat_condition d ≡ true → TestIs c from t to → TestIs d first s from → TestIs (Either c d) first (joined Either t s) to
+  pub or_is : (c d : Cond) (first from to : ℕ) (t s : Tested) → is_flat_condition d ≡ true → TestIs c from t to → TestIs d first s from →
+      TestIs (Either c d) first (joined Either t s) to
   or_is c d first from to t s e h k = record {
-    split = joined_split c from t to h (tree_test z d) (mixed_test z s.condition) s.front first k.split (k.none e) (λ q. if q then give true else tree_test z d) (λ q. if q then give true else mixed_test z s.condition) turn (joined_units Trees (is_flat_condition d)) k.grows;
+    split = joined_split c from t to h (tree_test z d) (mixed_test z s.condition) s.front first k.split (k.none e)
+        (λ q. if q then give true else tree_test z d) (λ q. if q then give true else mixed_test z s.condition) turn
+        (joined_units Trees (is_flat_condition d)) k.grows;
     flat = (h.flat, k.flat);
     none = λ f. both_nothing t.front.statement s.front.statement (h.none (both_true (is_flat_condition c) (is_flat_condition d) f).0) (k.none e);
     owned = owned_both z.own t.front.least t.front.greatest s.front.least s.front.greatest h.owned k.owned;
@@ -126,11 +141,13 @@ module _ (z : Scene) (out : ℕ → ℕ) where
     grows = let g = h.grows in let g' = k.grows in omega arith;
   }
     where
-      turn : (q : Bool) → Turns (tree_test z d) (mixed_test z s.condition) (if q then give true else tree_test z d) (if q then give true else mixed_test z s.condition)
+      turn : (q : Bool) →
+          Turns (tree_test z d) (mixed_test z s.condition) (if q then give true else tree_test z d) (if q then give true else mixed_test z s.condition)
       turn true = stays true
       turn false = goes_on
 
-  pub compare_is : (rel : Rel) (x y : Tx) (b h : Lifted) (first from to : ℕ) → PairIs z out x (tree_value z y) (mixed_value z b.rest) b.front (4 + lifted_units Trees (is_flat y)) 4 first from h to → WordIs z out y first b from →
+  pub compare_is : (rel : Rel) (x y : Tx) (b h : Lifted) (first from to : ℕ) →
+      PairIs z out x (tree_value z y) (mixed_value z b.rest) b.front (4 + lifted_units Trees (is_flat y)) 4 first from h to → WordIs z out y first b from →
       TestIs (Compare rel x y) first (record { front = h.front before b.front; condition = Compare rel h.rest b.rest }) to
   compare_is rel x y b h first from to pairs right = record {
     split = record {
@@ -148,6 +165,9 @@ module _ (z : Scene) (out : ℕ → ℕ) where
 pub record JoinsPay : Type 0 where
   pub flat : 14 ≤ joined_units Trees true
   pub lifted : 31 ≤ joined_units Trees false
+
+pub joins_are_paid : JoinsPay
+joins_are_paid = record { flat = omega arith; lifted = omega arith }
 
 -- what is left over of a condition that isn't whole
 abbrev pub extra : Cond → ℕ
@@ -171,7 +191,8 @@ extra_there (Both c d) e = extra_joined (is_flat_condition d) c 0 (λ f. extra_t
 extra_there (Either c d) e = extra_joined (is_flat_condition d) c 0 (λ f. extra_there c (not_both (is_whole c) (is_flat_condition d) e f))
 
 -- what of it the left side has, and what this join pays
-joins_pay : JoinsPay → (c : Cond) (b : Bool) (m : ℕ) → m ≤ (if b then extra c else 17) → (k : ℕ) × (l : ℕ) × (k ≤ extra c) × (m ≤ k + l) × (14 + l ≤ joined_units Trees b)
+joins_pay : JoinsPay → (c : Cond) (b : Bool) (m : ℕ) → m ≤ (if b then extra c else 17) →
+    (k : ℕ) × (l : ℕ) × (k ≤ extra c) × (m ≤ k + l) × (14 + l ≤ joined_units Trees b)
 joins_pay pay c true m le = (m, 0, le, omega arith, pay.flat)
 joins_pay pay c false m le = (0, m, omega arith, omega arith, let h = pay.lifted in omega arith)
 
@@ -180,11 +201,13 @@ joins_last pay c true = let h = pay.flat in omega arith
 joins_last pay c false = let h = pay.lifted in omega arith
 
 -- Breaks out of one loop more, and of two.
-pub outs_deeper : (z : Scene) (out : ℕ → ℕ) (J : Known) (r : ℕ) (o o' : Out) (next : Next) → OutsAre z J r out o o' → OutsAre z J r (deeper 1 out) o (leaving next o')
+pub outs_deeper : (z : Scene) (out : ℕ → ℕ) (J : Known) (r : ℕ) (o o' : Out) (next : Next) → OutsAre z J r out o o' →
+    OutsAre z J r (deeper 1 out) o (leaving next o')
 outs_deeper z out J r o o' next outs k w t t' near =
     along z.fuel r (o k w t) _ (o' (out k) w t') _ refl (ap (λ (n : Next). n w t') (leaving_more next o' (out k))) (outs k w t t' near)
 
-pub outs_deeper_two : (z : Scene) (out : ℕ → ℕ) (J : Known) (r : ℕ) (o o' : Out) (next next1 : Next) → OutsAre z J r out o o' → OutsAre z J r (deeper 2 out) o (leaving next1 (leaving next o'))
+pub outs_deeper_two : (z : Scene) (out : ℕ → ℕ) (J : Known) (r : ℕ) (o o' : Out) (next next1 : Next) → OutsAre z J r out o o' →
+    OutsAre z J r (deeper 2 out) o (leaving next1 (leaving next o'))
 outs_deeper_two z out J r o o' next next1 outs k w t t' near =
     let e : out k + 2 ≡ suc (suc (out k)) = omega arith in
     along z.fuel r (o k w t) _ (o' (out k) w t') _ refl (ap (λ n. leaving next1 (leaving next o') n w t') e) (outs k w t t' near)
@@ -208,22 +231,27 @@ module _ (z : Scene) where
   module _ (out : ℕ → ℕ) (c : Cond) (from : ℕ) (test : Tested) (to : ℕ) (none : extra c ≡ 0) (h : TestIs z out c from test to) where
     exits_by : (p q : Ts) (J : Known) (r : ℕ) (a : Activation) (o o' : Out) (b b' : Back) (go : Go Bool) (next : Next) →
         KeptBy J (test.front before as_part (still p) (still q) (If test.condition p q)) from to → OutsAre z J r out o o' → BacksAre z r b b' →
-        ((d : Bool) (w : World) (t t' : Temps) → Beside z.own J w t t' → Sim (r + 3) z.fuel (go d w t) ((if d then then_does z p else then_does z q) (around a o' b') next w t')) →
+        ((d : Bool) (w : World) (t t' : Temps) → Beside z.own J w t t' →
+        Sim (r + 3) z.fuel (go d w t) ((if d then then_does z p else then_does z q) (around a o' b') next w t')) →
         (m : ℕ) → m ≤ extra c → (w : World) (t t' : Temps) → Beside z.own J w t t' →
-        Sim (r + 7) z.fuel (tree_test z c (around a o b) go w t) (charged m (then_does z (first_then test.front.statement (If test.condition p q)) (around a o' b') next w t'))
+        Sim (r + 7) z.fuel (tree_test z c (around a o b) go w t)
+        (charged m (then_does z (first_then test.front.statement (If test.condition p q)) (around a o' b') next w t'))
     exits_by p q J r a o o' b b' go next kept outs backs leads m le w t t' near =
         let e1 = around a o' b' in
         worked z.fuel (r + 7) (r + 7) m _ _ (let n = none in omega arith)
         (along z.fuel (r + 7) _ _ (then_does z test.front.statement e1 (λ w1 u1. then_does z (If test.condition p q) e1 next w1 u1) w t') _ refl
         (does_in_turn z test.front.statement (If test.condition p q) e1 next w t')
         (h.split.runs J (r + 7) a o o' b b' go (λ w1 u1. then_does z (If test.condition p q) e1 next w1 u1)
-        (kept_first J test.front (as_part (still p) (still q) (If test.condition p q)) from to from to (omega arith) (omega arith) kept) (outs_more z J r (r + 7) out o o' (omega arith) outs) (backs_more z r (r + 7) b b' (omega arith) backs)
+        (kept_first J test.front (as_part (still p) (still q) (If test.condition p q)) from to from to (omega arith) (omega arith) kept)
+        (outs_more z J r (r + 7) out o o' (omega arith) outs) (backs_more z r (r + 7) b b' (omega arith) backs)
         (λ w1 t1 u1 near1. worked z.fuel (r + 7 + 0) (r + 3) 4 _ _ (omega arith)
-        (fixed_runs z (r + 3) a o o' b b' w1 u1 (mixed_test z test.condition) (then_test z test.condition) (λ d w2 t2. go d w2 t1) (λ d w2 t2. (if d then then_does z p else then_does z q) e1 next w2 t2)
+        (fixed_runs z (r + 3) a o o' b b' w1 u1 (mixed_test z test.condition) (then_test z test.condition) (λ d w2 t2. go d w2 t1)
+        (λ d w2 t2. (if d then then_does z p else then_does z q) e1 next w2 t2)
         (fixed_test z a o o' b b' w1 u1 test.condition h.flat) (λ d. leads d w1 t1 u1 near1))) w t t' near))
 
     part_owned : (s : Ts) → IsOwned z.own (min test.front.least (min 4294967295 4294967295)) (max test.front.greatest (max 0 0))
-    part_owned s = owned_both z.own test.front.least test.front.greatest (min 4294967295 4294967295) (max 0 0) h.owned (owned_both z.own 4294967295 0 4294967295 0 (owned_none z.own) (owned_none z.own))
+    part_owned s = owned_both z.own test.front.least test.front.greatest (min 4294967295 4294967295) (max 0 0) h.owned
+        (owned_both z.own 4294967295 0 4294967295 0 (owned_none z.own) (owned_none z.own))
 
     part_length : (p q : Ts) → size p + size q ≤ 3 → size (first_then test.front.statement (If test.condition p q)) + extra c ≤ condition_length Trees c + 7
     part_length p q le = let n = h.length in let c1 = (in_turn_counts test.front.statement (If test.condition p q)).0 in let e = none in omega arith
@@ -241,8 +269,11 @@ module _ (z : Scene) where
       grows = h.grows;
     }
       where
-        by : (J : Known) (r : ℕ) (a : Activation) (o' : Out) (b' : Back) (go : Go Bool) (next : Next) → ((w : World) (t t' : Temps) → Beside z.own J w t t' → Sim r z.fuel (go true w t) (o' k w t')) → ((w : World) (t t' : Temps) → Beside z.own J w t t' → Sim r z.fuel (go false w t) (next w t')) →
-            (d : Bool) (w : World) (t t' : Temps) → Beside z.own J w t t' → Sim (r + 3) z.fuel (go d w t) ((if d then then_does z (Break k) else then_does z nothing) (around a o' b') next w t')
+        by : (J : Known) (r : ℕ) (a : Activation) (o' : Out) (b' : Back) (go : Go Bool) (next : Next) →
+            ((w : World) (t t' : Temps) → Beside z.own J w t t' → Sim r z.fuel (go true w t) (o' k w t')) →
+            ((w : World) (t t' : Temps) → Beside z.own J w t t' → Sim r z.fuel (go false w t) (next w t')) →
+            (d : Bool) (w : World) (t t' : Temps) → Beside z.own J w t t' →
+            Sim (r + 3) z.fuel (go d w t) ((if d then then_does z (Break k) else then_does z nothing) (around a o' b') next w t')
         by J r a o' b' go next exits on true w t t' near = worked z.fuel (r + 3) r 3 _ _ (omega arith) (exits w t t' near)
         by J r a o' b' go next exits on false w t t' near = worked z.fuel (r + 3) r 0 _ _ (omega arith) (on w t t' near)
     exit_left false k = record {
@@ -254,14 +285,18 @@ module _ (z : Scene) where
       grows = h.grows;
     }
       where
-        by : (J : Known) (r : ℕ) (a : Activation) (o' : Out) (b' : Back) (go : Go Bool) (next : Next) → ((w : World) (t t' : Temps) → Beside z.own J w t t' → Sim r z.fuel (go false w t) (o' k w t')) → ((w : World) (t t' : Temps) → Beside z.own J w t t' → Sim r z.fuel (go true w t) (next w t')) →
-            (d : Bool) (w : World) (t t' : Temps) → Beside z.own J w t t' → Sim (r + 3) z.fuel (go d w t) ((if d then then_does z nothing else then_does z (Break k)) (around a o' b') next w t')
+        by : (J : Known) (r : ℕ) (a : Activation) (o' : Out) (b' : Back) (go : Go Bool) (next : Next) →
+            ((w : World) (t t' : Temps) → Beside z.own J w t t' → Sim r z.fuel (go false w t) (o' k w t')) →
+            ((w : World) (t t' : Temps) → Beside z.own J w t t' → Sim r z.fuel (go true w t) (next w t')) →
+            (d : Bool) (w : World) (t t' : Temps) → Beside z.own J w t t' →
+            Sim (r + 3) z.fuel (go d w t) ((if d then then_does z nothing else then_does z (Break k)) (around a o' b') next w t')
         by J r a o' b' go next exits on true w t t' near = worked z.fuel (r + 3) r 0 _ _ (omega arith) (on w t t' near)
         by J r a o' b' go next exits on false w t t' near = worked z.fuel (r + 3) r 3 _ _ (omega arith) (exits w t t' near)
 
   -- Two conditions that are joined.
   module _ (pay : JoinsPay) (out : ℕ → ℕ) (c d j : Cond) (F : Bool → Acts (Go Bool))
-      (is : (e : Around) (go : Go Bool) (w : World) (t : Temps) → tree_test z j e go w t ≡ charged (joined_units Trees (is_flat_condition d)) (tree_test z c e (λ q w1 t1. F q e go w1 t1) w t))
+      (is : (e : Around) (go : Go Bool) (w : World) (t : Temps) → tree_test z j e go w t ≡ charged (joined_units Trees (is_flat_condition d))
+      (tree_test z c e (λ q w1 t1. F q e go w1 t1) w t))
       (extra_is : extra j ≡ (if is_flat_condition d then extra c else 17))
       (length_is : condition_length Trees j ≡ joined_units Trees (is_flat_condition d) + (condition_length Trees c + condition_length Trees d))
       (room_is : condition_room in_trees j ≡ 6 + (condition_room in_trees c + condition_room in_trees d))
@@ -274,7 +309,8 @@ module _ (z : Scene) where
     length_pays = subst (λ n. n + 14 ≤ extra c + J') (sym extra_is) (joins_last pay c (is_flat_condition d))
 
     -- both leave where they come out so
-    pub chain_left : F when ≡ give when → F (not when) ≡ tree_test z d → LeftIs out when k c from p to → LeftIs out when k d first q from → LeftIs out when k j first (p before q) to
+    pub chain_left : F when ≡ give when → F (not when) ≡ tree_test z d → LeftIs out when k c from p to → LeftIs out when k d first q from →
+        LeftIs out when k j first (p before q) to
     chain_left ends goes h l = record {
       runs = λ J r a o o' b b' go next kept outs backs exits on m le w t t' near.
           let e0 = around a o b in
@@ -285,20 +321,26 @@ module _ (z : Scene) where
           (reworked z.fuel (r + 7 + J') (r + 7 + 7) x.0 m _ _ (let f = x.3 in let g = x.4 in omega arith)
           (along z.fuel (r + 7 + 7) _ _ (charged x.0 (then_does z p.statement e1 (λ w1 u1. then_does z q.statement e1 next w1 u1) w t')) _ refl
           (ap (charged x.0) (does_in_turn z p.statement q.statement e1 next w t'))
-          (h.runs J (r + 7) a o o' b b' (λ v w1 t1. F v e0 go w1 t1) (λ w1 u1. then_does z q.statement e1 next w1 u1) (kept_first J p q first to from to l.grows (omega arith) kept)
+          (h.runs J (r + 7) a o o' b b' (λ v w1 t1. F v e0 go w1 t1) (λ w1 u1. then_does z q.statement e1 next w1 u1)
+          (kept_first J p q first to from to l.grows (omega arith) kept)
           (outs_more z J r (r + 7) out o o' (omega arith) outs) (backs_more z r (r + 7) b b' (omega arith) backs)
-          (λ w1 t1 u1 near1. along z.fuel (r + 7) (go when w1 t1) _ (o' k w1 u1) _ (ap (λ (f : Acts (Go Bool)). f e0 go w1 t1) ends) refl (credit z.fuel r (r + 7) (go when w1 t1) (o' k w1 u1) (omega arith) (exits w1 t1 u1 near1)))
-          (λ w1 t1 u1 near1. along z.fuel (r + 7) (tree_test z d e0 go w1 t1) _ (charged 0 (then_does z q.statement e1 next w1 u1)) _ (ap (λ (f : Acts (Go Bool)). f e0 go w1 t1) goes) (sym (free (then_does z q.statement e1 next w1 u1)))
-          (l.runs J r a o o' b b' go next (kept_second J p q first to first from (omega arith) h.grows kept) outs backs exits on 0 (omega arith) w1 t1 u1 near1))
+          (λ w1 t1 u1 near1. along z.fuel (r + 7) (go when w1 t1) _ (o' k w1 u1) _ (ap (λ (f : Acts (Go Bool)). f e0 go w1 t1) ends) refl
+          (credit z.fuel r (r + 7) (go when w1 t1) (o' k w1 u1) (omega arith) (exits w1 t1 u1 near1)))
+          (λ w1 t1 u1 near1. along z.fuel (r + 7) (tree_test z d e0 go w1 t1) _ (charged 0 (then_does z q.statement e1 next w1 u1)) _
+          (ap (λ (f : Acts (Go Bool)). f e0 go w1 t1) goes) (sym (free (then_does z q.statement e1 next w1 u1)))
+          (l.runs J r a o o' b b' go next (kept_second J p q first to first from (omega arith) h.grows kept) outs backs exits on 0
+          (omega arith) w1 t1 u1 near1))
           x.0 x.2 w t t' near))));
       owned = owned_both z.own p.least p.greatest q.least q.greatest h.owned l.owned;
-      length = let n = h.length in let n' = l.length in let q' = (in_turn_counts p.statement q.statement).0 in let m = length_pays in let e = length_is in omega arith;
+      length = let n = h.length in let n' = l.length in let q' = (in_turn_counts p.statement q.statement).0 in let m = length_pays in let e = length_is in
+          omega arith;
       room = let n = h.room in let n' = l.room in let q' = (in_turn_counts p.statement q.statement).1 in let e = room_is in omega arith;
       grows = let f = h.grows in let g = l.grows in omega arith;
     }
 
     -- the first goes on where it leaves a loop of its own
-    pub block_left : F (not when) ≡ give (not when) → F (not (not when)) ≡ tree_test z d → LeftIs (deeper 1 out) (not when) 0 c from p to → LeftIs (deeper 1 out) when (k + 1) d first q from → LeftIs out when k j first (block (p before q)) to
+    pub block_left : F (not when) ≡ give (not when) → F (not (not when)) ≡ tree_test z d → LeftIs (deeper 1 out) (not when) 0 c from p to →
+        LeftIs (deeper 1 out) when (k + 1) d first q from → LeftIs out when k j first (block (p before q)) to
     block_left ends goes h l = record {
       runs = λ J r a o o' b b' go next kept outs backs exits on m le w t t' near.
           let e0 = around a o b in
@@ -315,22 +357,28 @@ module _ (z : Scene) where
           (h.runs J (r + 10) a o o2 b b' (λ v w1 t1. F v e0 go w1 t1) (λ w1 u1. then_does z q.statement e2 next3 w1 u1)
           (kept_within J p (block (p before q)) first to from to (λ f. refl) (omega arith) (omega arith) l.grows (omega arith) kept)
           (outs_deeper z out J (r + 10) o o' next (outs_more z J r (r + 10) out o o' (omega arith) outs)) (backs_more z r (r + 10) b b' (omega arith) backs)
-          (λ w1 t1 u1 near1. along z.fuel (r + 10) (go (not when) w1 t1) _ (next w1 u1) _ (ap (λ (f : Acts (Go Bool)). f e0 go w1 t1) ends) refl (credit z.fuel r (r + 10) (go (not when) w1 t1) (next w1 u1) (omega arith) (on w1 t1 u1 near1)))
-          (λ w1 t1 u1 near1. along z.fuel (r + 10) (tree_test z d e0 go w1 t1) _ (charged 0 (then_does z q.statement e2 next3 w1 u1)) _ (ap (λ (f : Acts (Go Bool)). f e0 go w1 t1) goes) (sym (free (then_does z q.statement e2 next3 w1 u1)))
+          (λ w1 t1 u1 near1. along z.fuel (r + 10) (go (not when) w1 t1) _ (next w1 u1) _ (ap (λ (f : Acts (Go Bool)). f e0 go w1 t1) ends) refl
+          (credit z.fuel r (r + 10) (go (not when) w1 t1) (next w1 u1) (omega arith) (on w1 t1 u1 near1)))
+          (λ w1 t1 u1 near1. along z.fuel (r + 10) (tree_test z d e0 go w1 t1) _ (charged 0 (then_does z q.statement e2 next3 w1 u1)) _
+          (ap (λ (f : Acts (Go Bool)). f e0 go w1 t1) goes) (sym (free (then_does z q.statement e2 next3 w1 u1)))
           (credit z.fuel (r + 3 + 7) (r + 10) _ _ (omega arith)
-          (l.runs J (r + 3) a o o2 b b' go next3 (kept_within J q (block (p before q)) first to first from (λ f. refl) (omega arith) (omega arith) (omega arith) h.grows kept)
+          (l.runs J (r + 3) a o o2 b b' go next3 (kept_within J q (block (p before q)) first to first from (λ f. refl) (omega arith) (omega arith)
+          (omega arith) h.grows kept)
           (outs_deeper z out J (r + 3) o o' next (outs_more z J r (r + 3) out o o' (omega arith) outs)) (backs_more z r (r + 3) b b' (omega arith) backs)
-          (λ w2 t2 u2 near2. along z.fuel (r + 3) (go when w2 t2) _ (o' k w2 u2) _ refl (ap (λ (n : Next). n w2 u2) (leaving_more next o' k)) (credit z.fuel r (r + 3) (go when w2 t2) (o' k w2 u2) (omega arith) (exits w2 t2 u2 near2)))
+          (λ w2 t2 u2 near2. along z.fuel (r + 3) (go when w2 t2) _ (o' k w2 u2) _ refl (ap (λ (n : Next). n w2 u2) (leaving_more next o' k))
+          (credit z.fuel r (r + 3) (go when w2 t2) (o' k w2 u2) (omega arith) (exits w2 t2 u2 near2)))
           (λ w2 t2 u2 near2. worked z.fuel (r + 3) r 3 _ (next w2 u2) (omega arith) (on w2 t2 u2 near2))
           0 (omega arith) w1 t1 u1 near1)))
           x.0 x.2 w t t' near))));
       owned = owned_both z.own p.least p.greatest q.least q.greatest h.owned l.owned;
-      length = let n = h.length in let n' = l.length in let q' = (in_turn_counts p.statement q.statement).0 in let m = length_pays in let e = length_is in omega arith;
+      length = let n = h.length in let n' = l.length in let q' = (in_turn_counts p.statement q.statement).0 in let m = length_pays in let e = length_is in
+          omega arith;
       room = let n = h.room in let n' = l.room in let q' = (in_turn_counts p.statement q.statement).1 in let e = room_is in omega arith;
       grows = let f = h.grows in let g = l.grows in omega arith;
     }
 
-  pub left_opposite : (out : ℕ → ℕ) (when : Bool) (k : ℕ) (c : Cond) (from : ℕ) (p : Part) (to : ℕ) → LeftIs out (not when) k c from p to → LeftIs out when k (Not c) from p to
+  pub left_opposite : (out : ℕ → ℕ) (when : Bool) (k : ℕ) (c : Cond) (from : ℕ) (p : Part) (to : ℕ) → LeftIs out (not when) k c from p to →
+      LeftIs out when k (Not c) from p to
   left_opposite out true k c from p to h = record {
     runs = λ J r a o o' b b' go next kept outs backs exits on m le w t t' near.
         pays z.fuel (r + 7) (r + 7) 0 _ _ (omega arith) (h.runs J r a o o' b b' (λ v w1 t1. go (not v) w1 t1) next kept outs backs exits on m le w t t' near);
@@ -349,7 +397,8 @@ module _ (z : Scene) where
   }
 
   -- A statement behind a condition that is tested part by part, and the other one.
-  pub wide_done : (out : ℕ → ℕ) (c : Cond) (s t : Ts) (test p q : Part) (first k l to : ℕ) → extra c ≡ 17 → LeftIs (deeper 2 out) false 0 c l test to → IsDone z (deeper 2 out) (tree_does z s) p k l → IsDone z (deeper 1 out) (tree_does z t) q first k → first ≤ k → k ≤ l →
+  pub wide_done : (out : ℕ → ℕ) (c : Cond) (s t : Ts) (test p q : Part) (first k l to : ℕ) → extra c ≡ 17 → LeftIs (deeper 2 out) false 0 c l test to →
+      IsDone z (deeper 2 out) (tree_does z s) p k l → IsDone z (deeper 1 out) (tree_does z t) q first k → first ≤ k → k ≤ l →
       IsDone z out (tree_does z (If c s t)) (wide_choice test p q) first to
   wide_done out c s t test p q first k l to more h this other lo mid = record {
     runs = λ J r a o o' b b' next next' kept outs backs nexts w u u' near.
@@ -366,18 +415,21 @@ module _ (z : Scene) where
         (worked z.fuel r r 0 _ _ (omega arith)
         (along z.fuel r _ _ (charged 4 (then_does z test.statement e3 within w u')) _ refl
         (does_in_turn z (Loop inner) q.statement e2 next3 w u' ∙
-        ap (charged 4) (does_in_turn z (first_then test.statement p.statement) (Break 1) e3 again w u' ∙ does_in_turn z test.statement p.statement e3 next3 w u'))
+        ap (charged 4) (does_in_turn z (first_then test.statement p.statement) (Break 1) e3 again w u' ∙
+        does_in_turn z test.statement p.statement e3 next3 w u'))
         (reworked z.fuel r (r + 3 + 7) 14 4 _ _ (omega arith)
         (h.runs J (r + 3) a o (leaving behind o2) b b' (λ d w1 t1. (if d then tree_does z s else tree_does z t) e0 next w1 t1) within
         (kept_within J test (wide_choice test p q) first to l to (λ f. refl) (omega arith) (omega arith) (omega arith) (omega arith) kept)
-        (outs_deeper_two z out J (r + 3) o o' next' behind (outs_more z J r (r + 3) out o o' (omega arith) outs)) (backs_more z r (r + 3) b b' (omega arith) backs)
+        (outs_deeper_two z out J (r + 3) o o' next' behind (outs_more z J r (r + 3) out o o' (omega arith) outs))
+        (backs_more z r (r + 3) b b' (omega arith) backs)
         (λ w1 t1 u1 near1. other.runs J (r + 3) a o o2 b b' next next3
         (kept_within J q (wide_choice test p q) first to first k (λ f. refl) (omega arith) (omega arith) (omega arith) (let g = h.grows in omega arith) kept)
         (outs_deeper z out J (r + 3) o o' next' (outs_more z J r (r + 3) out o o' (omega arith) outs)) (backs_more z r (r + 3) b b' (omega arith) backs)
         (λ w2 t2 u2 near2. worked z.fuel (r + 3) r 3 _ (next' w2 u2) (omega arith) (nexts w2 t2 u2 near2)) w1 t1 u1 near1)
         (λ w1 t1 u1 near1. this.runs J (r + 3) a o (leaving behind o2) b b' next next3
         (kept_within J p (wide_choice test p q) first to k l (λ f. refl) (omega arith) (omega arith) lo h.grows kept)
-        (outs_deeper_two z out J (r + 3) o o' next' behind (outs_more z J r (r + 3) out o o' (omega arith) outs)) (backs_more z r (r + 3) b b' (omega arith) backs)
+        (outs_deeper_two z out J (r + 3) o o' next' behind (outs_more z J r (r + 3) out o o' (omega arith) outs))
+        (backs_more z r (r + 3) b b' (omega arith) backs)
         (λ w2 t2 u2 near2. worked z.fuel (r + 3) r 3 _ (next' w2 u2) (omega arith) (nexts w2 t2 u2 near2)) w1 t1 u1 near1)
         14 (let e = more in omega arith) w u u' near))));
   }

@@ -154,7 +154,8 @@ module _ (z : Scene) where
     side_word d false e p = record {
       split = record {
         runs = λ J r act o o' b b' go next kept outs backs hyp.
-            l.split.runs J r act o o' b b' go next kept outs backs (λ w t t' near. credit z.fuel (r + 0) (r + spare a.rest) _ (next w t') (omega arith) (hyp w t t' near));
+            l.split.runs J r act o o' b b' go next kept outs backs
+            (λ w t t' near. credit z.fuel (r + 0) (r + spare a.rest) _ (next w t') (omega arith) (hyp w t t' near));
       };
       flat = side_flat a.rest e l.side;
       none = l.none;
@@ -168,7 +169,8 @@ module _ (z : Scene) where
     side_word d true e p = record {
       split = record {
         runs = λ J r act o o' b b' go next kept outs backs hyp w t t' near.
-            along z.fuel r _ _ (then_does z a.front.statement (around act o' b') (λ w1 u1. then_does z (Move to a.rest) (around act o' b') next w1 u1) w t') _ refl
+            along z.fuel r _ _ (then_does z a.front.statement (around act o' b')
+            (λ w1 u1. then_does z (Move to a.rest) (around act o' b') next w1 u1) w t') _ refl
             (does_in_turn z a.front.statement (Move to a.rest) (around act o' b') next w t')
             (l.split.runs J r act o o' b b' go (λ w1 u1. then_does z (Move to a.rest) (around act o' b') next w1 u1)
             (kept_first J a.front (still (Move to a.rest)) from (to + 1) from to (omega arith) (omega arith) kept) outs backs
@@ -183,7 +185,8 @@ module _ (z : Scene) where
       owned = owned_both z.own a.front.least a.front.greatest 4294967295 0 l.owned (owned_none z.own);
       reads = λ i o. record { low = λ lo. let g = l.grows in omega (arith, o); high = λ lo. omega (arith, o) };
       length = let n = l.length in let q = spare_side a.rest e in let c = (in_turn_counts a.front.statement (Move to a.rest)).0 in omega arith;
-      room = let n = l.room in let c = (in_turn_counts a.front.statement (Move to a.rest)).1 in let d = drawn_held z.own to (let g = l.grows in omega arith) in omega arith;
+      room = let n = l.room in let c = (in_turn_counts a.front.statement (Move to a.rest)).1 in
+          let d = drawn_held z.own to (let g = l.grows in omega arith) in omega arith;
       grows = let g = l.grows in omega arith;
     }
 
@@ -208,24 +211,28 @@ module _ (z : Scene) {B : Type 0} (out : ℕ → ℕ) (x : Tx) (entire rest : Ac
     pub room : takes h.front.statement + expression_room in_canonical h.rest + to ≤ expression_room in_trees x + from
     pub grows : first ≤ to
 
-  module _ (from : ℕ) (a : Lifted) (to : ℕ) (word : WordIs z out x from a to) (other : IsSplit z out entire 0 part rest first from) (owned : IsOwned z.own part.least part.greatest) (above : z.own ≤ first) (grows : first ≤ from) where
+  module _ (from : ℕ) (a : Lifted) (to : ℕ) (word : WordIs z out x from a to) (other : IsSplit z out entire 0 part rest first from)
+      (owned : IsOwned z.own part.least part.greatest) (above : z.own ≤ first) (grows : first ≤ from) where
     -- where nothing is in front of the other part, the word stands in place
     module _ (e : is_nothing part.statement ≡ true) (enough : v ≤ u) where
       module _ (r : ℕ) (act : Activation) (o o' : Out) (b b' : Back) (go : Go (ℕ × B)) (next : Next) (w : World) (t t' : Temps)
           (J : Known) (outs : OutsAre z J r out o o') (backs : BacksAre z r b b') (near : Beside z.own J w t t')
           (hyp : Sim (r + 0) z.fuel (both_rest z v a.rest rest (around act o b) (λ q w1 t1. go q w1 t) w t') (next w t')) where
         in_place : IsFixed (mixed_value z a.rest) (then_value z a.rest) (around act o b) (around act o b) w t' →
-            Sim (r + u + 0) z.fuel (mixed_value z a.rest (around act o b) (λ p w1 t1. entire (around act o b) (λ q w2 t2. go (p, q) w2 t2) w1 t) w t') (then_does z part.statement (around act o' b') next w t')
+            Sim (r + u + 0) z.fuel (mixed_value z a.rest (around act o b) (λ p w1 t1. entire (around act o b) (λ q w2 t2. go (p, q) w2 t2) w1 t) w t')
+            (then_does z part.statement (around act o' b') next w t')
         in_place (gives s p g g') =
             let after : Go ℕ = λ p w1 t1. entire (around act o b) (λ q w2 t2. go (p, q) w2 t2) w1 t in
             let rests : Go ℕ = λ p w1 t1. rest (around act o b) (λ q w2 t2. go (p, q) w2 t) w1 t1 in
             along z.fuel (r + u + 0) (charged s (after p w t')) _ _ _ (g after) refl
             (pays z.fuel (r + u + 0) (r + u + s) s (after p w t') _ (omega arith)
             (other.runs (Only w t t') (r + u + s) act o o' b b' (λ q w2 t2. go (p, q) w2 t2) next (λ f. let q : true ≡ false = sym e ∙ f in cc)
-            (outs_more z (Only w t t') r (r + u + s) out o o' (omega arith) (outs_only z J r out o o' w t t' near outs)) (backs_more z r (r + u + s) b b' (omega arith) backs)
+            (outs_more z (Only w t t') r (r + u + s) out o o' (omega arith) (outs_only z J r out o o' w t t' near outs))
+            (backs_more z r (r + u + s) b b' (omega arith) backs)
             (λ w1 t1 u1 near1. by w1 t1 u1 near1.holds) w t t' (record { agree = near.agree; holds = only })))
           where
-            by : (w1 : World) (t1 u1 : Temps) → Only w t t' w1 t1 u1 → Sim (r + u + s + 0) z.fuel (rest (around act o b) (λ q w2 t2. go (p, q) w2 t1) w1 u1) (next w1 u1)
+            by : (w1 : World) (t1 u1 : Temps) → Only w t t' w1 t1 u1 →
+                Sim (r + u + s + 0) z.fuel (rest (around act o b) (λ q w2 t2. go (p, q) w2 t1) w1 u1) (next w1 u1)
             by w1 t1 u1 only =
                 let rests : Go ℕ = λ p w1 t1. rest (around act o b) (λ q w2 t2. go (p, q) w2 t) w1 t1 in
                 unpaid z.fuel (r + 0 + v) (r + u + s + 0) s (rests p w t') (next w t') (omega arith)
@@ -244,11 +251,15 @@ module _ (z : Scene) {B : Type 0} (out : ℕ → ℕ) (x : Tx) (entire rest : Ac
         split = record {
           runs = λ J r act o o' b b' go next kept outs backs hyp w t t' near.
               pays z.fuel r (r + u) u _ _ (omega arith)
-              (along z.fuel (r + u) _ _ (then_does z a.front.statement (around act o' b') (λ w1 u1. then_does z part.statement (around act o' b') next w1 u1) w t') _ refl
+              (along z.fuel (r + u) _ _ (then_does z a.front.statement (around act o' b')
+              (λ w1 u1. then_does z part.statement (around act o' b') next w1 u1) w t') _ refl
               (does_in_turn z a.front.statement part.statement (around act o' b') next w t')
-              (word.split.runs J (r + u) act o o' b b' (λ p w1 t1. entire (around act o b) (λ q w2 t2. go (p, q) w2 t2) w1 t1) (λ w1 u1. then_does z part.statement (around act o' b') next w1 u1)
-              (kept_first J a.front part first to from to grows (omega arith) kept) (outs_more z J r (r + u) out o o' (omega arith) outs) (backs_more z r (r + u) b b' (omega arith) backs)
-              (λ w1 t1 u1 near1. in_place r act o o' b b' go next w1 t1 u1 J outs backs near1 (hyp w1 t1 u1 near1) (fixed_value z act o o b b w1 u1 a.rest word.flat)) w t t' near));
+              (word.split.runs J (r + u) act o o' b b' (λ p w1 t1. entire (around act o b) (λ q w2 t2. go (p, q) w2 t2) w1 t1)
+              (λ w1 u1. then_does z part.statement (around act o' b') next w1 u1)
+              (kept_first J a.front part first to from to grows (omega arith) kept) (outs_more z J r (r + u) out o o' (omega arith) outs)
+              (backs_more z r (r + u) b b' (omega arith) backs)
+              (λ w1 t1 u1 near1. in_place r act o o' b b' go next w1 t1 u1 J outs backs near1 (hyp w1 t1 u1 near1)
+              (fixed_value z act o o b b w1 u1 a.rest word.flat)) w t t' near));
         };
         flat = word.flat;
         none = λ f g. both_nothing a.front.statement part.statement (word.none f) g;
@@ -268,15 +279,25 @@ module _ (z : Scene) {B : Type 0} (out : ℕ → ℕ) (x : Tx) (entire rest : Ac
       then_kept : (J : Known) (t' : Temps) → StaysKnown J part.least part.greatest first from → KeptBy (Then J t') part first from
       then_kept J t' s f = record {
         world = λ w x t1 u1 k. (s.world w x t1 u1 k.0, k.1);
-        assigned = λ i n w t1 u1 lo hi k. (s.assigned i n w t1 u1 lo hi k.0, λ j o. set_other i n u1 j (λ q. let l = h.apart j o (omega arith) in omega arith) ∙ k.1 j o);
-        drawn = λ i n w t1 u1 lo hi k. (s.drawn i n w t1 u1 lo hi k.0, λ j o. set_other i n u1 j (λ q. let l = (h.reads j o).low (omega arith) in omega arith) ∙ k.1 j o);
+        assigned = λ i n w t1 u1 lo hi k. (
+          s.assigned i n w t1 u1 lo hi k.0,
+          λ j o. set_other i n u1 j
+              (λ q. let l = h.apart j o (omega arith) in omega arith) ∙ k.1 j o,
+        );
+        drawn = λ i n w t1 u1 lo hi k. (
+          s.drawn i n w t1 u1 lo hi k.0,
+          λ j o. set_other i n u1 j
+              (λ q. let l = (h.reads j o).low (omega arith) in omega arith) ∙ k.1 j o,
+        );
       }
 
       module _ (r : ℕ) (act : Activation) (o o' : Out) (b b' : Back) (go : Go (ℕ × B)) (next : Next) (J : Known)
           (kept : KeptBy J part first from) (outs : OutsAre z J r out o o') (backs : BacksAre z r b b')
-          (hyp : (w : World) (t t' : Temps) → Beside z.own J w t t' → Sim (r + 0) z.fuel (both_rest z v d.it.rest rest (around act o b) (λ q w1 t1. go q w1 t) w t') (next w t')) where
+          (hyp : (w : World) (t t' : Temps) → Beside z.own J w t t' → Sim (r + 0) z.fuel
+          (both_rest z v d.it.rest rest (around act o b) (λ q w1 t1. go q w1 t) w t') (next w t')) where
         behind_it : (w : World) (t t' : Temps) → Beside z.own J w t t' → ComesTo z (around act o b) t' d.it.rest (mixed_value z d.it.rest) w →
-            Sim (r + v) z.fuel (mixed_value z d.it.rest (around act o b) (λ p w1 t1. entire (around act o b) (λ q w2 t2. go (p, q) w2 t2) w1 t) w t') (then_does z part.statement (around act o' b') next w t')
+            Sim (r + v) z.fuel (mixed_value z d.it.rest (around act o b) (λ p w1 t1. entire (around act o b) (λ q w2 t2. go (p, q) w2 t2) w1 t) w t')
+            (then_does z part.statement (around act o' b') next w t')
         behind_it w t t' near (no_word w0 k) =
             simulates_wrong 1 (r + v) z.fuel _ _ (λ n. k (λ p w1 t1. entire (around act o b) (λ q w2 t2. go (p, q) w2 t2) w1 t) n)
         behind_it w t t' near (one_word w0 s p k) =
@@ -284,7 +305,8 @@ module _ (z : Scene) {B : Type 0} (out : ℕ → ℕ) (x : Tx) (entire rest : Ac
             along z.fuel (r + v) (charged s (after p w t')) _ _ _ (k w t' (λ i q. refl) after) refl
             (pays z.fuel (r + v) (r + v + s) s (after p w t') _ (omega arith)
             (other.runs (Then J t') (r + v + s) act o o' b b' (λ q w2 t2. go (p, q) w2 t2) next (then_kept J t' (kept e))
-            (outs_more z (Then J t') r (r + v + s) out o o' (omega arith) (outs_less z J (Then J t') r out o o' (λ w1 t1 u1 q. q.0) outs)) (backs_more z r (r + v + s) b b' (omega arith) backs)
+            (outs_more z (Then J t') r (r + v + s) out o o' (omega arith) (outs_less z J (Then J t') r out o o' (λ w1 t1 u1 q. q.0) outs))
+            (backs_more z r (r + v + s) b b' (omega arith) backs)
             (λ w1 t1 u1 near1.
             let rests : Go ℕ = λ p w2 t2. rest (around act o b) (λ q w3 t3. go (p, q) w3 t1) w2 t2 in
             unpaid z.fuel (r + 0 + v) (r + v + s + 0) s (rests p w1 u1) (next w1 u1) (omega arith)
@@ -298,17 +320,23 @@ module _ (z : Scene) {B : Type 0} (out : ℕ → ℕ) (x : Tx) (entire rest : Ac
           runs = λ J r act o o' b b' go next kept outs backs hyp w t t' near.
               let e0 = around act o b in
               let e1 = around act o' b' in
-              let all : KeptBy J (a.front before d.it.front) from d.next = kept_first J (a.front before d.it.front) part first d.next from d.next grows (omega arith) kept in
+              let all : KeptBy J (a.front before d.it.front) from d.next =
+              kept_first J (a.front before d.it.front) part first d.next from d.next grows (omega arith) kept in
               pays z.fuel r (r + u) u _ _ (omega arith)
-              (along z.fuel (r + u) _ _ (then_does z a.front.statement e1 (λ w1 u1. then_does z d.it.front.statement e1 (λ w2 u2. then_does z part.statement e1 next w2 u2) w1 u1) w t') _ refl
+              (along z.fuel (r + u) _ _ (then_does z a.front.statement e1
+              (λ w1 u1. then_does z d.it.front.statement e1 (λ w2 u2. then_does z part.statement e1 next w2 u2) w1 u1) w t') _ refl
               (does_in_turn z (first_then a.front.statement d.it.front.statement) part.statement e1 next w t' ∙
               does_in_turn z a.front.statement d.it.front.statement e1 (λ w2 u2. then_does z part.statement e1 next w2 u2) w t')
-              (word.split.runs J (r + u) act o o' b b' (λ p w1 t1. entire e0 (λ q w2 t2. go (p, q) w2 t2) w1 t1) (λ w1 u1. then_does z d.it.front.statement e1 (λ w2 u2. then_does z part.statement e1 next w2 u2) w1 u1)
-              (kept_first J a.front d.it.front from d.next from to (omega arith) h.grows all) (outs_more z J r (r + u) out o o' (omega arith) outs) (backs_more z r (r + u) b b' (omega arith) backs)
+              (word.split.runs J (r + u) act o o' b b' (λ p w1 t1. entire e0 (λ q w2 t2. go (p, q) w2 t2) w1 t1)
+              (λ w1 u1. then_does z d.it.front.statement e1 (λ w2 u2. then_does z part.statement e1 next w2 u2) w1 u1)
+              (kept_first J a.front d.it.front from d.next from to (omega arith) h.grows all) (outs_more z J r (r + u) out o o' (omega arith) outs)
+              (backs_more z r (r + u) b b' (omega arith) backs)
               (λ w1 t1 u1 near1. credit z.fuel (r + v + 2) (r + u + 0) _ _ (omega arith)
               (h.runs J (r + v) act o o' b b' (λ p w1 t1. entire e0 (λ q w2 t2. go (p, q) w2 t2) w1 t1) (λ w2 u2. then_does z part.statement e1 next w2 u2)
               (kept_second J a.front d.it.front from d.next to d.next word.grows (omega arith) all)
-              (λ w2 t2 u2 near2. behind_it r act o o' b b' go next J (kept_second J (a.front before d.it.front) part first d.next first from (omega arith) (let g = word.grows in let g' = h.grows in omega arith) kept) outs backs hyp
+              (λ w2 t2 u2 near2. behind_it r act o o' b b' go next J
+              (kept_second J (a.front before d.it.front) part first d.next first from (omega arith)
+              (let g = word.grows in let g' = h.grows in omega arith) kept) outs backs hyp
               w2 t2 u2 near2 (steady_comes z e0 w2 u2 d.it.rest h.steady)) w1 t1 u1 near1)) w t t' near));
         };
         flat = steady_flat d.it.rest h.steady;
@@ -321,10 +349,12 @@ module _ (z : Scene) {B : Type 0} (out : ℕ → ℕ) (x : Tx) (entire rest : Ac
         grows = let g = word.grows in let g' = h.grows in omega arith;
       }
 
-    pair_by : (b : Bool) → is_nothing part.statement ≡ b → (b ≡ true → v ≤ u) → (b ≡ false → v + 2 ≤ u) → PairIs from (hold_before b part a to).it (hold_before b part a to).next
+    pair_by : (b : Bool) → is_nothing part.statement ≡ b → (b ≡ true → v ≤ u) → (b ≡ false → v + 2 ≤ u) →
+        PairIs from (hold_before b part a to).it (hold_before b part a to).next
     pair_by true e f g = placed_pair e (f refl)
     pair_by false e f g =
         held_pair e (g refl) (hold_for part a.rest to) (held z part owned from to (let k = grows in omega arith) word.grows a.rest word.flat word.reads)
 
-    pub pair_is : (is_nothing part.statement ≡ true → v ≤ u) → (is_nothing part.statement ≡ false → v + 2 ≤ u) → PairIs from (in_front_of part a to).it (in_front_of part a to).next
+    pub pair_is : (is_nothing part.statement ≡ true → v ≤ u) → (is_nothing part.statement ≡ false → v + 2 ≤ u) →
+        PairIs from (in_front_of part a to).it (in_front_of part a to).next
     pair_is f g = pair_by (is_nothing part.statement) refl f g

@@ -62,7 +62,7 @@ lifted = Call 34 no_txs
 abbrev holds : Cond
 holds = Compare Equal (Temp 0) lifted
 
-conditions_alone : map (condition_units Trees) (Compare Equal lifted (Temp 0) ∷ holds ∷ Not holds ∷ Both holds holds ∷ Either holds holds ∷ []) ≡ 4 ∷ 6 ∷ 0 ∷ 22 ∷ 22 ∷ []
+conditions_alone : map (condition_units Trees) (Compare Equal lifted (Temp 0) ∷ holds ∷ Not holds ∷ Both holds holds ∷ Either holds holds ∷ []) ≡ 4 ∷ 6 ∷ 0 ∷ 31 ∷ 31 ∷ []
 conditions_alone = refl
 
 statements_alone : map (statement_units Trees) (Move 0 lifted ∷ Store (Temp 0) lifted ∷ StoreByte (Temp 0) lifted ∷ Do lifted ∷ If holds nothing nothing ∷ Loop nothing ∷ Break 0 ∷ Fault 1 ∷ nothing ∷ Return lifted ∷ []) ≡
@@ -102,11 +102,11 @@ abbrev quotient : Tx
 quotient =
     After (sequence (If (Compare Equal (Temp 1) (Const 0)) (Fault 7) nothing ∷ If (Both (Compare Equal (Temp 0) (Const 2147483648)) (Compare Equal (Temp 1) (Const 4294967295))) (Do (Binary AddTrap (Const 2147483648) (Const 2147483648))) nothing ∷ [])) (Binary Div (Temp 0) (Temp 1))
 
-quotient_with_its_tests : expression_length Trees quotient ≡ 36
+quotient_with_its_tests : expression_length Trees quotient ≡ 50
 quotient_with_its_tests = refl
 
--- a value of a condition whose right side isn't flat
-lifts_a_condition : condition_length Trees (Both (Compare NotEqual (Temp 0) (Const 0)) (Compare NotEqual (Call 34 no_txs) (Const 0))) ≡ 22 + (4 + 2) + (4 + 4 + 2)
+-- two conditions, of which the right one isn't flat
+lifts_a_condition : condition_length Trees (Both (Compare NotEqual (Temp 0) (Const 0)) (Compare NotEqual (Call 34 no_txs) (Const 0))) ≡ 31 + (4 + 2) + (4 + 4 + 2)
 lifts_a_condition = refl
 
 -- for t0 in a slot: the bounds, the test before the loop, the loop with its test and step

@@ -51,9 +51,12 @@ abbrev pub lifted_units : Stage → (flat : Bool) → ℕ
 lifted_units Trees flat = if flat then 0 else 2
 lifted_units Canonical flat = 0
 
--- a right condition that is lifted: its value in a temporary, set twice, and the tests of both
+-- Two conditions that are joined. Where a right one has something lifted in front of it, they are
+-- tested part by part: each part leaves loops by a test and a break, and a join may be a loop of its
+-- own, with a break at its end. A right side that isn't flat pays for the two loops around both
+-- statements, with their breaks, as well.
 abbrev pub joined_units : Stage → (flat : Bool) → ℕ
-joined_units Trees flat = if flat then 0 else 22
+joined_units Trees flat = if flat then 14 else 31
 joined_units Canonical flat = 0
 
 -- the word that a call or service gives, kept in a temporary
