@@ -1,17 +1,16 @@
 -- How much of a text the literals of its program take.
-use Rattle.std.proofs.Common.{ℕ, ◌+◌, ◌-◌, ◌*◌, ◌%◌, ◌≡◌, ◌≤◌, List, [], ◌∷◌, ◌++◌, length, map, replicate, refl, sym, ap, ◌∙◌, arith, length-append, append-nil}
+use Rattle.std.proofs.Common.{ℕ, ◌+◌, ◌-◌, ◌*◌, ◌%◌, ◌≡◌, ◌≤◌, List, [], ◌∷◌, length, map, refl, sym, ap, ◌∙◌, arith, length-append, append-nil}
 use Rattle.std.specs.Int.{to_le_bytes, w32}
 use Rattle.std.specs.List.{sum_by}
 use Rattle.std.proofs.lemmas.List.{length-map, length-replicate}
 use Rattle.std.proofs.lemmas.List.Sums.{sum_by-cons}
-use Rattle.tg_base.specs.State.{most_bytes, padded}
+use Rattle.tg_base.specs.State.{padded}
 use Rattle.tg_syntax.specs.Tree.{Exp}
-use Rattle.tg_tree.specs.Tree.{Literal}
 use Rattle.tg_translate.specs.Constructs.{string_text}
 use Rattle.tg_translate.specs.Scopes.{Findings}
 use Rattle.tg_translate.specs.Translate.{translated}
 use Rattle.tg_shapes.specs.Strings.{strings}
-use Rattle.tg_shapes.specs.Laws.{LiteralsAreStrings, LiteralsAreShort, with_runtime}
+use Rattle.tg_shapes.specs.Laws.{LiteralsAreStrings, LiteralsAreShort}
 use Rattle.tg_texts.specs.TokenStrings.{spaced_length}
 use Rattle.tg_texts.specs.Laws.{LiteralsAreFew, LiteralsFitText, StaticsFitText, StaticsFitSegment, statics_length}
 use Rattle.tg_texts.proofs.Fitting.{each_more, strings_fit}
