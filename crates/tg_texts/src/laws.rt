@@ -23,10 +23,9 @@ pub fn strings_fit_text()
     ensures short { StringsAreShort }
 {}
 
-/// Laws of the literals that the program of a text is translated to: there is at most one for every
-/// three bytes of the text; together they are at most a byte for each, and one more, longer than
-/// the text; and in the statics they take at most twice the bytes of the text, and two more, so
-/// that those of a source fit their segment.
+/// Laws of the literals that the program of a text of n bytes is translated to: there are at most
+/// (n + 1) / 3; together they are at most a byte for each, and one more, longer than the text; and
+/// in the statics they take at most 2 n + 2 bytes, so that those of a source fit their segment.
 pub fn literals_fit_text()
     ensures few { LiteralsAreFew }
     ensures fit { LiteralsFitText }
