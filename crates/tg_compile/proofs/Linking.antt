@@ -1,5 +1,5 @@
 -- What the instructions of a program name is there: the passes name no more than its trees do.
-use Rattle.std.proofs.Common.{◌≡◌, ◌≢◌, ◌<◌, ◌+◌, ℕ, zero, suc, Bool, true, false, List, [], ◌∷◌, ◌++◌, Option, Some, None, refl, sym, ap, subst, ◌∙◌, arith, eq-eqb, get_or, length, inl, inr, ◌≤◌}
+use Rattle.std.proofs.Common.{◌≡◌, ◌≢◌, ◌<◌, ℕ, zero, suc, Bool, true, false, List, [], ◌∷◌, ◌++◌, Option, Some, None, refl, sym, ap, subst, ◌∙◌, arith, eq-eqb, get_or, length, inl, inr, ◌≤◌}
 use Rattle.std.specs.Prelude.{◌&&◌, ◌||◌, ◌==◌, nat_lt, nat_le, map, not, IsTrue}
 use Rattle.std.specs.List.{Contains, AllPairs, list_all}
 use Rattle.std.proofs.lemmas.Bool.{lt-ltb, ltb-true}

@@ -12,11 +12,12 @@ ghost use Rattle.tg_compile.specs.Passes.{AreLinked, CompileApart, IsWellFormed,
 use crate::bodies::compile_function;
 use crate::compiled::Compiled;
 use crate::laws::{code_names_no_more, functions_are_well_formed};
-use crate::sizes::{fit_segments, have_small_frames};
+use crate::sizes::have_small_frames;
 use std::alloc::Global;
 use tg_base::Memory;
 use tg_emit::{emit, text};
 use tg_escape::escapes;
+use tg_image::fit_segments;
 use tg_instr::Allocated;
 use tg_runtime::runtime;
 use tg_shapes::programs_are_linked;

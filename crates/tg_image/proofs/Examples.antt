@@ -1,12 +1,11 @@
 -- A small program and its image, computed.
-use Rattle.std.proofs.Common.{ℕ, ◌≡◌, List, [], ◌∷◌, ◌++◌, map, Bool, true, false, refl}
-use Rattle.std.specs.Prelude.{codes, Ok}
+use Rattle.std.proofs.Common.{◌≡◌, List, [], ◌∷◌, ◌++◌, map, Bool, true, false, refl}
+use Rattle.std.specs.Prelude.{codes}
 use Rattle.std.specs.Fmt.{digits}
-use Rattle.tg_isa.specs.declared.mips.Mips.TheVariants as row
 use Rattle.tg_isa.specs.Assembly.{Assembled}
 use Rattle.tg_isa.specs.Placement.{image_of}
 use Rattle.tg_isa.specs.Texts as texts
-use Rattle.tg_isa.specs.declared.keywords.Segment.TheVariants.{Code, Statics as InStatics}
+use Rattle.tg_isa.specs.declared.keywords.Segment.TheVariants.{Code}
 use Rattle.tg_tree.specs.declared.operators.Rel.TheVariants.{LessEqual}
 use Rattle.tg_instr.specs.declared.operands.Opnd.TheVariants.{Reg}
 use Rattle.tg_instr.specs.declared.instr.Instr.{Instr}

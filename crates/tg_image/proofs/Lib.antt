@@ -11,4 +11,4 @@ pub mod WrittenTexts
 pub mod HasLabels
 pub mod Soundness
 mod Examples
-pub mod Testing
+mod StaticsBytes

@@ -1,5 +1,5 @@
 -- The lines of a program in the words of the assembler, and the image that they are.
-use Rattle.std.specs.Prelude.{ℕ, ◌+◌, ◌*◌, ◌≡◌, ◌==◌, Bool, List, [], ◌∷◌, ◌++◌, map, length, codes}
+use Rattle.std.specs.Prelude.{ℕ, ◌+◌, ◌*◌, ◌≡◌, ◌==◌, Bool, List, [], ◌∷◌, ◌++◌, map, codes}
 use Rattle.std.specs.Prelude.{Ok, IsTrue, if◌then◌else◌}
 use Rattle.std.specs.List.{list_all}
 use Rattle.tg_base.specs.State.{padded, code_base}

@@ -1,6 +1,6 @@
 use Rattle.std.proofs.Common.{take, ◌≡◌, ◌+◌}
 use Rattle.tg_image.specs.Programs.{bytes_of}
-use Rattle.tg_compile.proofs.sizes.are_few.Given as goal
+use Rattle.tg_image.proofs.sizes.are_few.Given as goal
 
 abbrev pub invariant-loop-one : goal.invariant-loop-one
 invariant-loop-one l = l.left + bytes_of (take l.one-index l.literals) ≡ 16711680

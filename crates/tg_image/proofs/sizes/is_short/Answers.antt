@@ -1,9 +1,9 @@
-use Rattle.std.proofs.Common.{◌+◌, ◌<◌, ◌≤◌, arith}
+use Rattle.std.proofs.Common.{◌+◌, ◌≤◌, arith}
 use Rattle.std.proofs.lemmas.Bool.Decides.{nat_tests}
 use Rattle.tg_base.specs.State.{most_words}
 use Rattle.tg_emit.specs.Lines.{words}
 use Rattle.tg_emit.proofs.Appending.{words_at, words_below}
-use Rattle.tg_image.proofs.programs.is_short.Goals as goal
+use Rattle.tg_image.proofs.sizes.is_short.Goals as goal
 
 pub returns-then-left-words : goal.returns-then-left-words
 returns-then-left-words c =

@@ -2,8 +2,8 @@ use Rattle.std.proofs.Common.{◌+◌, ◌<◌, ap, ◌∙◌, length, arith}
 use Rattle.std.proofs.lemmas.Bool.Decides.{nat_tests}
 use Rattle.tg_base.specs.State.{most_bytes, padded}
 use Rattle.tg_image.specs.Programs.{bytes_of}
-use Rattle.tg_image.proofs.Testing.{bytes_at, bytes_below}
-use Rattle.tg_image.proofs.programs.are_few.Goals as goal
+use Rattle.tg_image.proofs.StaticsBytes.{bytes_at, bytes_below}
+use Rattle.tg_image.proofs.sizes.are_few.Goals as goal
 
 pub returns-then-left-bytes : goal.returns-then-left-bytes
 returns-then-left-bytes c =

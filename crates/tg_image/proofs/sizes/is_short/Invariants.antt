@@ -1,6 +1,6 @@
 use Rattle.std.proofs.Common.{take, ◌≡◌, ◌+◌, ◌<◌}
 use Rattle.tg_emit.specs.Lines.{words}
-use Rattle.tg_compile.proofs.sizes.is_short.Given as goal
+use Rattle.tg_image.proofs.sizes.is_short.Given as goal
 
 abbrev pub invariant-loop-line : goal.invariant-loop-line
 invariant-loop-line l = record {

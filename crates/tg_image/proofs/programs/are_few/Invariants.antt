@@ -1,6 +1,0 @@
-use Rattle.std.proofs.Common.{take, ◌≡◌, ◌+◌}
-use Rattle.tg_image.specs.Programs.{bytes_of}
-use Rattle.tg_image.proofs.programs.are_few.Given as goal
-
-abbrev pub invariant-loop-one : goal.invariant-loop-one
-invariant-loop-one l = l.left + bytes_of (take l.one-index l.literals) ≡ 16711680

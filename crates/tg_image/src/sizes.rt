@@ -1,0 +1,70 @@
+ghost use Rattle.std.specs.Prelude.{◌≡◌, ◌&&◌, length, nat_le, nat_lt};
+ghost use Rattle.tg_base.specs.State.{most_bytes, most_words, padded};
+ghost use Rattle.tg_emit.specs.Lines.{words, words_of as words_of_line};
+ghost use Rattle.tg_image.specs.Programs.{bytes_of};
+
+use tg_emit::{Assembly, Line};
+use tg_tree::Literal;
+
+/// The words below which the code of a program has to be.
+const WORDS: usize = 66060288;
+
+/// The greatest number of bytes of the statics.
+const BYTES: usize = 16711680;
+
+/// Whether the code of an assembly and the statics of literals fit their segments. The test takes
+/// time in proportion to the code.
+pub fn fit_segments(assembly: &Assembly, literals: &[Literal]) -> bool
+    ensures { result ≡ (nat_lt (words assembly.now) most_words
+        && nat_le (bytes_of literals.now) most_bytes) }
+{
+    is_short(assembly.as_slice()) && are_few(literals)
+}
+
+/// Whether lines are less code than the code segment holds.
+fn is_short(lines: &[Line]) -> bool
+    ensures { result ≡ nat_lt (words lines.now) most_words }
+{
+    let mut left = WORDS;
+    for line in lines.iter() {
+        let words = words_of(line);
+        if left <= words {
+            return false;
+        }
+        left -= words;
+    }
+    true
+}
+
+/// The words of code that a line is.
+fn words_of(line: &Line) -> usize
+    ensures { result ≡ words_of_line line.now }
+{
+    match line {
+        Line::One(_, _) => 1,
+        Line::La(_, _) => 2,
+        _ => 0,
+    }
+}
+
+/// Whether literals are no more bytes than the statics hold.
+fn are_few(literals: &[Literal]) -> bool
+    ensures { result ≡ nat_le (bytes_of literals.now) most_bytes }
+{
+    let mut left = BYTES;
+    for one in literals.iter() {
+        let bytes = padded_length(one.text.as_slice());
+        if left < bytes {
+            return false;
+        }
+        left -= bytes;
+    }
+    true
+}
+
+/// The bytes of a literal with its padding.
+fn padded_length(text: &[u8]) -> usize
+    ensures { result ≡ length (padded text.now) }
+{
+    text.len() + (4 - text.len() % 4) % 4
+}

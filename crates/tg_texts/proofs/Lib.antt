@@ -1,0 +1,5 @@
+mod Reading
+mod Spelling
+mod Fitting
+mod Literals
+mod Examples

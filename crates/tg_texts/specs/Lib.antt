@@ -1,0 +1,2 @@
+pub mod TokenStrings
+pub mod Laws
