@@ -92,7 +92,9 @@ module _ (functions : List (Function Ts)) (functions' : List (Function (List Blo
       CallsSimulate 1 added_work size floor marked_entry_units entry_units (run_body Canonical code size floor room (going Canonical code size floor room))
       (run_block_body code' size floor room (block_going code' size floor room)) functions functions' n
 
-  module _ (ss : Stms) (can : AreCanonical ss) (closed : AreClosed ss) (n r : ℕ) (activation : Activation) (back back' : Back) (calls : Calls n) (returns : BacksSimulate 1 r n back back') where
+  module _
+      (ss : Stms) (can : AreCanonical ss) (closed : AreClosed ss) (n r : ℕ) (activation : Activation) (back back' : Back) (calls : Calls n)
+      (returns : BacksSimulate 1 r n back back') where
     abbrev c : Cut
     c = cut_all [] ss start
 
@@ -103,18 +105,26 @@ module _ (functions : List (Function Ts)) (functions' : List (Function (List Blo
     last w t = wrong w
 
     abbrev runs : Next
-    runs w t = run_all Canonical room ls (enter Canonical code size floor room (going Canonical code size floor room)) (λ q. with_fuel q.world (going Canonical code size floor room q)) ss (outermost activation back) last w t
+    runs w t =
+        run_all Canonical room ls (enter Canonical code size floor room (going Canonical code size floor room))
+        (λ q. with_fuel q.world (going Canonical code size floor room q)) ss (outermost activation back) last w t
 
     -- what is open in the end does what the statements do, whatever final blocks have what was laid
-    done : (laid : List Block) → Fits c.places laid start c → (j : ℕ) → length c.laid ≤ j → j ≤ length laid → (w : World) (t : Temps) → Simulates 1 r n (runs w t) (opens code' size floor room c.places laid (outermost activation back') j c.body c.end w t)
+    done :
+        (laid : List Block) → Fits c.places laid start c → (j : ℕ) → length c.laid ≤ j → j ≤ length laid → (w : World) (t : Temps) →
+        Simulates 1 r n (runs w t) (opens code' size floor room c.places laid (outermost activation back') j c.body c.end w t)
     done laid f =
-        let scene : Scene functions functions' ls size floor room c.places laid activation back back' n r (λ m le. enters_less Canonical code size floor room 1 0 m n _ le calls) returns n r 0 (length laid) [] no_out =
+        let scene : Scene functions functions' ls size floor room c.places laid activation back back' n r
+        (λ m le. enters_less Canonical code size floor room 1 0 m n _ le calls) returns n r 0 (length laid) [] no_out =
         record { fuel = omega arith; owed = omega arith; within = omega arith; ways = λ k lt. absurd (omega arith) } in
-        all_carry functions functions' ls size floor room c.places laid activation back back' n r (λ m le. enters_less Canonical code size floor room 1 0 m n _ le calls) returns ss can n r (length laid) [] no_out last start closed.breaks scene
+        all_carry functions functions' ls size floor room c.places laid activation back back' n r
+        (λ m le. enters_less Canonical code size floor room 1 0 m n _ le calls) returns ss can n r (length laid) [] no_out last start closed.breaks scene
         (λ j a b w t. simulates_wrong 1 r n _ _ (λ i. refl)) f
 
     -- the first block does, with its mark
-    entry : (laid : List Block) (i : ℕ) → i + 1 ≡ length laid → (w : World) (t : Temps) → Simulates 1 (r + 1) n (runs w t) (first code' size floor room c.places laid (outermost activation back') i w t) →
+    entry :
+        (laid : List Block) (i : ℕ) → i + 1 ≡ length laid → (w : World) (t : Temps) →
+        Simulates 1 (r + 1) n (runs w t) (first code' size floor room c.places laid (outermost activation back') i w t) →
         Simulates 1 (r + 1) n (run_body Canonical code size floor room (going Canonical code size floor room) (Seq ss) (outermost activation back) w t)
         (run_block_body code' size floor room (block_going code' size floor room) (placed_all c.places laid) (outermost activation back') w t)
     entry laid i h w t k =
@@ -137,7 +147,8 @@ module _ (functions : List (Function Ts)) (functions' : List (Function (List Blo
         let f : Fits c.places laid start c = record { blocks = λ i h l. get_front c.laid (b ∷ []) i l; marks = λ m h l. refl } in
         let here = length c.laid in
         entry laid here (omega (arith, more)) w t
-        (subst (λ d. Simulates 1 (r + 1) n (runs w t) d) (sym (first_is code' size floor room c.places laid (outermost activation back') here b (omega (arith, more)) (get_seam c.laid b) w t))
+        (subst (λ d. Simulates 1 (r + 1) n (runs w t) d)
+        (sym (first_is code' size floor room c.places laid (outermost activation back') here b (omega (arith, more)) (get_seam c.laid b) w t))
         (working 1 r (r + 1) n _ _ (omega arith) (done laid f here (omega arith) (omega (arith, more)) w t)))
 
     -- where it only jumps to the block that was laid last
@@ -147,11 +158,15 @@ module _ (functions : List (Function Ts)) (functions' : List (Function (List Blo
         let i = slice_index c.places m in
         let only = leads_only c.body c.end m e in
         let open_does = done c.laid f (length c.laid) (omega arith) (omega arith) w t in
-        let jump_does = subst (λ x. Simulates 1 r n (runs w t) (opens code' size floor room c.places c.laid (outermost activation back') (length c.laid) no_stms x w t)) only.1
-        (subst (λ x. Simulates 1 r n (runs w t) (opens code' size floor room c.places c.laid (outermost activation back') (length c.laid) x c.end w t)) only.0 open_does) in
+        let jump_does = subst (λ x. Simulates 1 r n (runs w t)
+        (opens code' size floor room c.places c.laid (outermost activation back') (length c.laid) no_stms x w t)) only.1
+        (subst (λ x. Simulates 1 r n (runs w t) (opens code' size floor room c.places c.laid (outermost activation back')
+        (length c.laid) x c.end w t)) only.0 open_does) in
         entry c.laid i is_last w t
-        (subst (λ g. Simulates 1 (r + 1) n (runs w t) (g w t)) (ahead code' size floor room c.places c.laid (outermost activation back') (length c.laid) i m refl (omega (arith, is_last)) (omega arith))
-        (simulates_with_credit 1 r (r + 1) n _ _ (omega arith) (lighter 1 r n 1 (runs w t) (leads_to code' size floor room c.places c.laid (outermost activation back') (length c.laid) m w t) jump_does)))
+        (subst (λ g. Simulates 1 (r + 1) n (runs w t) (g w t))
+        (ahead code' size floor room c.places c.laid (outermost activation back') (length c.laid) i m refl (omega (arith, is_last)) (omega arith))
+        (simulates_with_credit 1 r (r + 1) n _ _ (omega arith)
+        (lighter 1 r n 1 (runs w t) (leads_to code' size floor room c.places c.laid (outermost activation back') (length c.laid) m w t) jump_does)))
 
     entered_does : (o : Option ℕ) → leads c.body c.end ≡ o → BodyDoes (entered_by o c)
     entered_does None e = laid_does
@@ -185,19 +200,27 @@ module _ (code : Code Stms) (size : ℕ → ℕ) (floor room : ℕ) where
   abbrev runner' : Runner (List Block)
   runner' = run_block_body blocks size floor room (block_going blocks size floor room)
 
-  all_carried : (fs : List (Function Stms)) → AllByRecursion IsCanonicalFunction fs → AllCarried 1 added_work size floor marked_entry_units entry_units runner runner' trees.functions blocks.functions (map in_sequence fs) (map in_blocks fs)
+  all_carried :
+      (fs : List (Function Stms)) → AllByRecursion IsCanonicalFunction fs →
+      AllCarried 1 added_work size floor marked_entry_units entry_units runner runner' trees.functions blocks.functions (map in_sequence fs)
+      (map in_blocks fs)
   all_carried [] h = none
   all_carried (f ∷ fs) h =
       one f.label f.params f.slots f.temps f.temps f.out f.out (Seq f.body) (blocks_of f.body) (map in_sequence fs) (map in_blocks fs)
       (bodies_carried trees.functions blocks.functions code.literals size floor room f.body h.0.0 h.0.1) (all_carried fs h.1)
 
-  begins_carried : AllByRecursion IsCanonicalFunction code.functions → ProgramsCarried 1 added_work size floor marked_entry_units entry_units runner runner' trees.functions blocks.functions
+  begins_carried :
+      AllByRecursion IsCanonicalFunction code.functions →
+      ProgramsCarried 1 added_work size floor marked_entry_units entry_units runner runner' trees.functions blocks.functions
   begins_carried h = programs_carried 1 added_work size floor marked_entry_units entry_units runner runner' trees.functions blocks.functions
 
-  pub programs_kept : AllByRecursion IsCanonicalFunction code.functions → (body : ℕ) (input : List ℕ) → Preserves 1 added_work (canonical_run code size floor room body input) (block_run blocks size floor room body input)
+  pub programs_kept :
+      AllByRecursion IsCanonicalFunction code.functions → (body : ℕ) (input : List ℕ) →
+      Preserves 1 added_work (canonical_run code size floor room body input) (block_run blocks size floor room body input)
   programs_kept h body input =
       simulation_preserves 1 added_work _ _ (λ n.
-      begins_carried h entries_pay (all_carried code.functions h) n body [] stack_top _ _ (record { memory = begin code.literals; input = input }) 0 (λ v w. simulates_stopping 1 0 n w.input (Ended (Exit (pos 0)))))
+      begins_carried h entries_pay (all_carried code.functions h) n body [] stack_top _ _ (record { memory = begin code.literals; input = input }) 0
+      (λ v w. simulates_stopping 1 0 n w.input (Ended (Exit (pos 0)))))
 
 pub blocks_keep_programs : BlocksKeepPrograms
 blocks_keep_programs code size floor room body input h = programs_kept code size floor room h body input

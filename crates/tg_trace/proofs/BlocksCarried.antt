@@ -14,9 +14,10 @@ use Rattle.tg_tree.specs.Tree.{Tx, Cond, Compare, Not, Both, Either, Ts, Move, S
 use Rattle.tg_tree.specs.Operators.{holds}
 use Rattle.tg_tree.specs.Shapes.{BreaksWithin, BreaksWithinStms, IsFlat, IsFlatStatement, IsFlatCond, IsCanonical, AreCanonical}
 use Rattle.tg_tree.specs.Units.{Canonical}
-use Rattle.tg_tree.specs.Actions.{World, Temps, Activation, Around, Go, Next, Out, Back, leaving, charged}
+use Rattle.tg_tree.specs.Actions.{World, Temps, Activation, Around, Acts, Go, Next, Out, Back, leaving, charged}
 use Rattle.tg_tree.specs.Meaning.{Enter, Point, value, test, run, run_all}
 use Rattle.tg_tree.specs.Running.{with_fuel, outermost, enter, going}
+use Rattle.tg_tree.specs.Flat.{Last}
 use Rattle.tg_tree.specs.Carrying.{BacksSimulate, EntersSimulate}
 use Rattle.tg_tree.proofs.TreeRuns.{trees_step}
 use Rattle.tg_trace.specs.Block.{End, Jump, Branch, Fault, Return, Block}
@@ -124,14 +125,19 @@ module _
   abbrev Exits : (n r least most : ℕ) → List ℕ → Out → Type 0
   Exits n r least most exits out = (k : ℕ) → k < length exits → Leads n (r + 2) least most (exit_of exits k) (out k)
 
-  leads_on : (n k r s least least' most most' m : ℕ) (next : Next) → k ≤ n → r ≤ s → least ≤ least' → most' ≤ most → Leads n r least most m next → Leads k s least' most' m next
+  leads_on :
+      (n k r s least least' most most' m : ℕ) (next : Next) → k ≤ n → r ≤ s → least ≤ least' → most' ≤ most → Leads n r least most m next →
+      Leads k s least' most' m next
   leads_on n k r s least least' most most' m next le lr ll lm h j a b w t =
       simulates_less 1 s k n _ _ le (simulates_with_credit 1 r s n _ _ lr (h j (omega (arith, ll, a)) (omega (arith, b, lm)) w t))
 
   opens_on : (n k r s most most' : ℕ) (c : Cut) (next : Next) → k ≤ n → r ≤ s → most' ≤ most → Opens n r most c next → Opens k s most' c next
-  opens_on n k r s most most' c next le lr lm h j a b w t = simulates_less 1 s k n _ _ le (simulates_with_credit 1 r s n _ _ lr (h j a (omega (arith, b, lm)) w t))
+  opens_on n k r s most most' c next le lr lm h j a b w t =
+      simulates_less 1 s k n _ _ le (simulates_with_credit 1 r s n _ _ lr (h j a (omega (arith, b, lm)) w t))
 
-  exits_on : (n k r s least least' most most' : ℕ) (exits : List ℕ) (out : Out) → k ≤ n → r ≤ s → least ≤ least' → most' ≤ most → Exits n r least most exits out → Exits k s least' most' exits out
+  exits_on :
+      (n k r s least least' most most' : ℕ) (exits : List ℕ) (out : Out) → k ≤ n → r ≤ s → least ≤ least' → most' ≤ most → Exits n r least most exits out →
+      Exits k s least' most' exits out
   exits_on n k r s least least' most most' exits out le lr ll lm h i lt =
       leads_on n k (r + 2) (s + 2) least least' most most' (exit_of exits i) (out i) le (omega (arith, lr)) ll lm (h i lt)
 
@@ -139,27 +145,36 @@ module _
   jump_opens n r s most m c next le h j a b w t = working 1 r s n _ _ le (h j a b w t)
 
   -- what is sealed, where its mark leads
-  laid_leads : (n r most i m : ℕ) (body : Stms) (z : End) (next : Next) → most ≤ length laid → Stands places laid m i body z → Does n r next (opening i body z) → Leads n (r + 1) (i + 1) most m next
+  laid_leads :
+      (n r most i m : ℕ) (body : Stms) (z : End) (next : Next) → most ≤ length laid → Stands places laid m i body z → Does n r next (opening i body z) →
+      Leads n (r + 1) (i + 1) most m next
   laid_leads n r most i m body z next within st h j a b w t =
       let lt : i < length laid = slice_get_within laid i (record { body = body; end = z }) st.block in
       let one = working 1 r (r + 1) n _ _ (omega arith) (h w t) in
-      subst (λ g. Simulates 1 (r + 1) n (next w t) (g w t)) (sym (ahead code' size floor room places laid behind j i m st.at (omega (arith, a)) (omega (arith, b, within))))
-      (subst (λ d. Simulates 1 (r + 1) n (next w t) d) (sym (first_is code' size floor room places laid behind i (record { body = body; end = z }) lt st.block w t)) one)
+      subst (λ g. Simulates 1 (r + 1) n (next w t) (g w t))
+      (sym (ahead code' size floor room places laid behind j i m st.at (omega (arith, a)) (omega (arith, b, within))))
+      (subst (λ d. Simulates 1 (r + 1) n (next w t) d)
+      (sym (first_is code' size floor room places laid behind i (record { body = body; end = z }) lt st.block w t)) one)
 
   seal_by_leads :
-      (o : Option ℕ) (n r most : ℕ) (c : Cut) (next : Next) → leads c.body c.end ≡ o → most ≤ length laid → Opens n r most c next → Fits places laid c (seal_by o c) →
+      (o : Option ℕ) (n r most : ℕ) (c : Cut) (next : Next) → leads c.body c.end ≡ o → most ≤ length laid → Opens n r most c next → Fits places laid c
+      (seal_by o c) →
       Leads n (r + 1) (length (seal_by o c).laid) most (mark_by o c) next
   seal_by_leads (Some m) n r most c next e within h f j a b w t =
       let only = leads_only c.body c.end m e in
       simulates_with_credit 1 r (r + 1) n _ _ (omega arith)
-      (lighter 1 r n 1 _ _ (subst (λ x. Simulates 1 r n (next w t) (opening j no_stms x w t)) only.1 (subst (λ x. Simulates 1 r n (next w t) (opening j x c.end w t)) only.0 (h j a b w t))))
+      (lighter 1 r n 1 _ _ (subst (λ x. Simulates 1 r n (next w t) (opening j no_stms x w t)) only.1
+      (subst (λ x. Simulates 1 r n (next w t) (opening j x c.end w t)) only.0 (h j a b w t))))
   seal_by_leads None n r most c next e within h f j a b w t =
       let i = length c.laid in
       let b' : Block = record { body = c.body; end = c.end } in
       let more = length-append c.laid (b' ∷ []) in
-      laid_leads n r most i (length c.places) c.body c.end next within (sealed_stands places laid c f) (λ w1 t1. h i (omega arith) (omega (arith, more, a, b)) w1 t1) j (omega (arith, more, a)) b w t
+      laid_leads n r most i (length c.places) c.body c.end next within (sealed_stands places laid c f)
+      (λ w1 t1. h i (omega arith) (omega (arith, more, a, b)) w1 t1) j (omega (arith, more, a)) b w t
 
-  seal_leads : (n r most : ℕ) (c : Cut) (next : Next) → most ≤ length laid → Opens n r most c next → Fits places laid c (seal c) → Leads n (r + 1) (length (seal c).laid) most (next_mark c) next
+  seal_leads :
+      (n r most : ℕ) (c : Cut) (next : Next) → most ≤ length laid → Opens n r most c next → Fits places laid c (seal c) →
+      Leads n (r + 1) (length (seal c).laid) most (next_mark c) next
   seal_leads n r most c next within h f = seal_by_leads (leads c.body c.end) n r most c next refl within h f
 
   -- Where calls do what they did, and what comes after returns does.
@@ -167,8 +182,11 @@ module _
     returns_at : (n r : ℕ) → n ≤ limit → debt ≤ r → BacksSimulate 1 r n back back'
     returns_at n r le lo v w = simulates_with_credit 1 debt r n _ _ lo (simulates_less 1 debt n limit _ _ le (returns v w))
 
-    words : (n r : ℕ) → n ≤ limit → debt ≤ r → (x : Tx) → IsFlat x → (out : Out) (go go' : Go ℕ) → ((v : ℕ) → Does n r (go v) (go' v)) → Does n r (λ w t. value Canonical room ls enters later x (around_with out) go w t) (λ w t. value Canonical room ls enters' no_later x behind go' w t)
-    words n r le lo x f out go go' h w t = word_simulates room ls enters enters' n r (calls n le) activation back back' (returns_at n r le lo) later out x f go go' (λ v w1 t1. h v w1 t1) w t
+    words :
+        (n r : ℕ) → n ≤ limit → debt ≤ r → (x : Tx) → IsFlat x → (out : Out) (go go' : Go ℕ) → ((v : ℕ) → Does n r (go v) (go' v)) →
+        Does n r (λ w t. value Canonical room ls enters later x (around_with out) go w t) (λ w t. value Canonical room ls enters' no_later x behind go' w t)
+    words n r le lo x f out go go' h w t =
+        word_simulates room ls enters enters' n r (calls n le) activation back back' (returns_at n r le lo) later out x f go go' (λ v w1 t1. h v w1 t1) w t
 
     -- what is around statements that are cut: how much fuel and credit there is, and where breaks lead
     pub record Scene (n r least most : ℕ) (exits : List ℕ) (out : Out) : Type 0 where
@@ -177,7 +195,8 @@ module _
       pub within : most ≤ length laid
       pub ways : Exits n r least most exits out
 
-    scene_on : (n r s least least' most : ℕ) (exits : List ℕ) (out : Out) → r ≤ s → least ≤ least' → Scene n r least most exits out → Scene n s least' most exits out
+    scene_on :
+        (n r s least least' most : ℕ) (exits : List ℕ) (out : Out) → r ≤ s → least ≤ least' → Scene n r least most exits out → Scene n s least' most exits out
     scene_on n r s least least' most exits out lr ll sc = record {
       fuel = sc.fuel;
       owed = omega (arith, sc.owed, lr);
@@ -186,7 +205,12 @@ module _
     }
 
     -- one of two sides
-    either_leads : (b : Bool) (n s j yes' no' : ℕ) (go : Go Bool) → Does n s (go true) (lead j yes') → Does n s (go false) (lead j no') → (w : World) (t : Temps) → Simulates 1 s n (go b w t) ((if b then at code' size floor room places laid behind j (place_of places (length laid - 1) yes') else at code' size floor room places laid behind j (place_of places (length laid - 1) no')) behind tt w t)
+    abbrev at_mark : ℕ → (mark : ℕ) → Acts Last
+    at_mark j m = at code' size floor room places laid behind j (place_of places (length laid - 1) m)
+
+    either_leads :
+        (b : Bool) (n s j yes' no' : ℕ) (go : Go Bool) → Does n s (go true) (lead j yes') → Does n s (go false) (lead j no') → (w : World) (t : Temps) →
+        Simulates 1 s n (go b w t) ((if b then at_mark j yes' else at_mark j no') behind tt w t)
     either_leads true n s j yes' no' go h k w t = h w t
     either_leads false n s j yes' no' go h k w t = k w t
 
@@ -209,10 +233,14 @@ module _
         let k2 : Keeps second (seal second) = seal_keeps second in
         let k3 : Keeps (seal second) all = branch_keeps d m no' (seal second) in
         let k12 : Keeps c (seal second) = keeps_on c second (seal second) k1 k2 in
-        let opened = branch_opens e flat.1 n r most le lo lw yes' no' c out go h k (fits_first places laid c second all (keeps_on second (seal second) all k2 k3) f) in
-        let on = seal_leads n r most second (tests e out go) lw opened (fits_first places laid second (seal second) all k3 (fits_rest places laid c second all k1 f)) in
+        let opened = branch_opens e flat.1 n r most le lo lw yes' no' c out go h k
+        (fits_first places laid c second all (keeps_on second (seal second) all k2 k3) f) in
+        let on = seal_leads n r most second (tests e out go) lw opened
+        (fits_first places laid second (seal second) all k3 (fits_rest places laid c second all k1 f)) in
         paying 0 r r n _ _ (omega arith)
-        (branch_opens d flat.0 n r most le lo lw m no' (seal second) out _ on (leads_on n n (r + 1) (r + 1) (length c.laid) (length (seal second).laid) most most no' (go false) (omega arith) (omega arith) k12.laid (omega arith) k)
+        (branch_opens d flat.0 n r most le lo lw m no' (seal second) out _ on
+        (leads_on n n (r + 1) (r + 1) (length c.laid) (length (seal second).laid) most most no' (go false) (omega arith) (omega arith) k12.laid
+        (omega arith) k)
         (fits_rest places laid c (seal second) all k12 f) j a b w t)
     branch_opens (Either d e) flat n r most le lo lw yes' no' c out go h k f j a b w t =
         let second = branch e yes' no' c in
@@ -222,24 +250,35 @@ module _
         let k2 : Keeps second (seal second) = seal_keeps second in
         let k3 : Keeps (seal second) all = branch_keeps d yes' m (seal second) in
         let k12 : Keeps c (seal second) = keeps_on c second (seal second) k1 k2 in
-        let opened = branch_opens e flat.1 n r most le lo lw yes' no' c out go h k (fits_first places laid c second all (keeps_on second (seal second) all k2 k3) f) in
-        let on = seal_leads n r most second (tests e out go) lw opened (fits_first places laid second (seal second) all k3 (fits_rest places laid c second all k1 f)) in
+        let opened = branch_opens e flat.1 n r most le lo lw yes' no' c out go h k
+        (fits_first places laid c second all (keeps_on second (seal second) all k2 k3) f) in
+        let on = seal_leads n r most second (tests e out go) lw opened
+        (fits_first places laid second (seal second) all k3 (fits_rest places laid c second all k1 f)) in
         paying 0 r r n _ _ (omega arith)
-        (branch_opens d flat.0 n r most le lo lw yes' m (seal second) out _ (leads_on n n (r + 1) (r + 1) (length c.laid) (length (seal second).laid) most most yes' (go true) (omega arith) (omega arith) k12.laid (omega arith) h) on
+        (branch_opens d flat.0 n r most le lo lw yes' m (seal second) out _
+        (leads_on n n (r + 1) (r + 1) (length c.laid) (length (seal second).laid) most most yes' (go true) (omega arith) (omega arith) k12.laid
+        (omega arith) h) on
         (fits_rest places laid c (seal second) all k12 f) j a b w t)
 
     -- statements that leave don't come to what is open behind them
-    break_opens : (n r least most k : ℕ) (exits : List ℕ) (out : Out) (next : Next) (c : Cut) → k < length exits → Scene n r (length c.laid) most exits out → Opens n r most (open_at (Jump (exit_of exits k)) c) (runs (Break k) out next)
+    break_opens :
+        (n r least most k : ℕ) (exits : List ℕ) (out : Out) (next : Next) (c : Cut) → k < length exits → Scene n r (length c.laid) most exits out →
+        Opens n r most (open_at (Jump (exit_of exits k)) c) (runs (Break k) out next)
     break_opens n r least most k exits out next c lt sc j a b w t =
         paying 3 r (r + 3) n _ _ (omega arith) (jump_opens n (r + 2) (r + 3) most (exit_of exits k) c (out k) (omega arith) (sc.ways k lt) j a b w t)
 
-    return_opens : (n r least most : ℕ) (x : Tx) (exits : List ℕ) (out : Out) (next : Next) (c : Cut) → IsFlat x → Scene n r least most exits out → Opens n r most (open_at (Return x) c) (runs (tree.Return x) out next)
+    return_opens :
+        (n r least most : ℕ) (x : Tx) (exits : List ℕ) (out : Out) (next : Next) (c : Cut) → IsFlat x → Scene n r least most exits out →
+        Opens n r most (open_at (Return x) c) (runs (tree.Return x) out next)
     return_opens n r least most x exits out next c flat sc j a b w t =
         pays_less r n 16 14 _ _ (omega arith) (words n r sc.fuel sc.owed x flat out _ _ (λ v w1 t1. returns_at n r sc.fuel sc.owed v w1) w t)
 
-    leaving_opens : (s : Ts) → leaves s ≡ true → IsCanonical s → (n r most : ℕ) (exits : List ℕ) (out : Out) (next : Next) (c : Cut) → BreaksWithin (length exits) s → Scene n r (length c.laid) most exits out → Opens n r most (cut exits s c) (runs s out next)
+    leaving_opens :
+        (s : Ts) → leaves s ≡ true → IsCanonical s → (n r most : ℕ) (exits : List ℕ) (out : Out) (next : Next) (c : Cut) → BreaksWithin (length exits) s →
+        Scene n r (length c.laid) most exits out → Opens n r most (cut exits s c) (runs s out next)
     leaving_opens (Break k) e can n r most exits out next c b sc = break_opens n r (length c.laid) most k exits out next c b sc
-    leaving_opens (tree.Fault k) e can n r most exits out next c b sc = λ j a l w t. pays_less r n 3 1 _ _ (omega arith) (simulates_stopping 1 r n w.input (Ended (Broken k)))
+    leaving_opens (tree.Fault k) e can n r most exits out next c b sc =
+        λ j a l w t. pays_less r n 3 1 _ _ (omega arith) (simulates_stopping 1 r n w.input (Ended (Broken k)))
     leaving_opens (tree.Return x) e can n r most exits out next c b sc = return_opens n r (length c.laid) most x exits out next c can sc
     leaving_opens (Move k x) e can n r most exits out next c b sc = false_true e
     leaving_opens (Store x y) e can n r most exits out next c b sc = false_true e
@@ -260,13 +299,17 @@ module _
         (n r most : ℕ) (exits : List ℕ) (out : Out) (next : Next) (c : Cut) → BreaksWithinStms (length exits) ss → Scene n r (length c.laid) most exits out →
         Opens n r most c next → Fits places laid c (cut_all exits ss c) → Opens n r most (cut_all exits ss c) (runs_all ss out next)
 
-    front_opens : (s : Ts) → IsFlatStatement s → (n r most : ℕ) (exits : List ℕ) (out : Out) (next : Next) (c : Cut) → Scene n r (length c.laid) most exits out → Opens n r most c next → Opens n r most (in_front s c) (runs s out next)
+    front_opens :
+        (s : Ts) → IsFlatStatement s → (n r most : ℕ) (exits : List ℕ) (out : Out) (next : Next) (c : Cut) → Scene n r (length c.laid) most exits out →
+        Opens n r most c next → Opens n r most (in_front s c) (runs s out next)
     front_opens s flat n r most exits out next c sc h j a b w t =
-        statement_simulates room ls enters enters' n r (calls n sc.fuel) activation back back' (returns_at n r sc.fuel sc.owed) later out s flat next (opening j c.body c.end) (λ w1 t1. h j a b w1 t1) w t
+        statement_simulates room ls enters enters' n r (calls n sc.fuel) activation back back' (returns_at n r sc.fuel sc.owed) later out s flat next
+        (opening j c.body c.end) (λ w1 t1. h j a b w1 t1) w t
 
     -- a side of a choice, in front of a join
     side_leads :
-        (s : Ts) → Carried s → (n r most join : ℕ) (exits : List ℕ) (out : Out) (next : Next) (c : Cut) → BreaksWithin (length exits) s → Scene n (r + 2) (length c.laid) most exits out →
+        (s : Ts) → Carried s → (n r most join : ℕ) (exits : List ℕ) (out : Out) (next : Next) (c : Cut) → BreaksWithin (length exits) s → Scene n (r + 2)
+        (length c.laid) most exits out →
         Leads n (r + 1) (length c.laid) most join next → Fits places laid c (seal (side exits join s c)) →
         Leads n (r + 3) (length (seal (side exits join s c)).laid) most (next_mark (side exits join s c)) (runs s out next)
     side_leads s carried n r most join exits out next c b sc h f =
@@ -276,8 +319,10 @@ module _
         let kd : Keeps o d = cut_keeps s exits o in
         let fo : Fits places laid o (seal d) = fits_rest places laid c o (seal d) ko f in
         let opened : Opens n (r + 2) most d (runs s out next) =
-        carried n (r + 2) most exits out next o b sc (jump_opens n (r + 1) (r + 2) most join c next (omega arith) h) (fits_first places laid o d (seal d) (seal_keeps d) fo) in
-        leads_on n n (r + 2 + 1) (r + 3) (length (seal d).laid) (length (seal d).laid) most most (next_mark d) (runs s out next) (omega arith) (omega arith) (omega arith) (omega arith)
+        carried n (r + 2) most exits out next o b sc (jump_opens n (r + 1) (r + 2) most join c next (omega arith) h)
+        (fits_first places laid o d (seal d) (seal_keeps d) fo) in
+        leads_on n n (r + 2 + 1) (r + 3) (length (seal d).laid) (length (seal d).laid) most most (next_mark d) (runs s out next) (omega arith) (omega arith)
+        (omega arith) (omega arith)
         (seal_leads n (r + 2) most d (runs s out next) sc.within opened (fits_rest places laid o d (seal d) kd fo))
 
     if_carried : (d : Cond) (s t : Ts) → IsFlatCond d → Carried s → Carried t → Carried (If d s t)
@@ -297,8 +342,10 @@ module _
         let f2 : Fits places laid c2 all = fits_rest places laid c1 c2 all k2 f1 in
         let join_leads : Leads n (r + 1) (length c1.laid) most join next =
         seal_leads n r most c next sc.within h (fits_first places laid c c1 all (keeps_on c1 c2 all k2 (keeps_on c2 c3 all k3 k4)) f) in
-        let sc1 : Scene n (r + 2) (length c1.laid) most exits out = scene_on n r (r + 2) (length c.laid) (length c1.laid) most exits out (omega arith) k1.laid sc in
-        let sc2 : Scene n (r + 2) (length c2.laid) most exits out = scene_on n (r + 2) (r + 2) (length c1.laid) (length c2.laid) most exits out (omega arith) k2.laid sc1 in
+        let sc1 : Scene n (r + 2) (length c1.laid) most exits out = scene_on n r (r + 2) (length c.laid) (length c1.laid) most exits out
+        (omega arith) k1.laid sc in
+        let sc2 : Scene n (r + 2) (length c2.laid) most exits out = scene_on n (r + 2) (r + 2) (length c1.laid) (length c2.laid) most exits out
+        (omega arith) k2.laid sc1 in
         let no_leads : Leads n (r + 3) (length c2.laid) most (next_mark d2) (runs t out next) =
         side_leads t carried_t n r most join exits out next c1 b.2 sc1 join_leads (fits_first places laid c1 c2 all (keeps_on c2 c3 all k3 k4) f1) in
         let yes_leads : Leads n (r + 3) (length c3.laid) most (next_mark d3) (runs s out next) =
@@ -307,13 +354,19 @@ module _
         (fits_first places laid c2 c3 all k4 f2) in
         paying 4 r (r + 2) n _ _ (omega arith)
         (branch_opens d flat n (r + 2) most sc.fuel (omega (arith, sc.owed)) sc.within (next_mark d3) (next_mark d2) c3 out _
-        (leads_on n n (r + 3) (r + 2 + 1) (length c3.laid) (length c3.laid) most most (next_mark d3) (runs s out next) (omega arith) (omega arith) (omega arith) (omega arith) yes_leads)
-        (leads_on n n (r + 3) (r + 2 + 1) (length c2.laid) (length c3.laid) most most (next_mark d2) (runs t out next) (omega arith) (omega arith) k3.laid (omega arith) no_leads)
+        (leads_on n n (r + 3) (r + 2 + 1) (length c3.laid) (length c3.laid) most most (next_mark d3) (runs s out next) (omega arith) (omega arith)
+        (omega arith) (omega arith) yes_leads)
+        (leads_on n n (r + 3) (r + 2 + 1) (length c2.laid) (length c3.laid) most most (next_mark d2) (runs t out next) (omega arith) (omega arith) k3.laid
+        (omega arith) no_leads)
         (fits_rest places laid c2 c3 all k3 f2) j a l w u)
 
     -- one statement in front of others
-    stm_carried : (s : Ts) (ss : Stms) (v : Bool) → leaves s ≡ v → IsCanonical s → Carried s → AllCarried ss → (n r most : ℕ) (exits : List ℕ) (out : Out) (next : Next) (c : Cut) → BreaksWithin (length exits) s → BreaksWithinStms (length exits) ss → Scene n r (length c.laid) most exits out →
-        Opens n r most c next → Fits places laid c (cut exits s (if v then c else cut_all exits ss c)) → Opens n r most (cut exits s (if v then c else cut_all exits ss c)) (runs s out (runs_all ss out next))
+    stm_carried :
+        (s : Ts) (ss : Stms) (v : Bool) → leaves s ≡ v → IsCanonical s → Carried s → AllCarried ss →
+        (n r most : ℕ) (exits : List ℕ) (out : Out) (next : Next) (c : Cut) → BreaksWithin (length exits) s → BreaksWithinStms (length exits) ss →
+        Scene n r (length c.laid) most exits out →
+        Opens n r most c next → Fits places laid c (cut exits s (if v then c else cut_all exits ss c)) → Opens n r most
+        (cut exits s (if v then c else cut_all exits ss c)) (runs s out (runs_all ss out next))
     stm_carried s ss true e can carried all n r most exits out next c b bs sc h f = leaving_opens s e can n r most exits out (runs_all ss out next) c b sc
     stm_carried s ss false e can carried all n r most exits out next c b bs sc h f =
         let d = cut_all exits ss c in
@@ -324,7 +377,8 @@ module _
 
     -- A loop, by its turn. The way back to its head takes fuel on both sides.
     module _
-        (s : Ts) (carried : Carried s) (n r most : ℕ) (exits : List ℕ) (out : Out) (next : Next) (c : Cut) (b : BreaksWithin (length exits) (Loop s)) (sc : Scene n r (length c.laid) most exits out)
+        (s : Ts) (carried : Carried s) (n r most : ℕ) (exits : List ℕ) (out : Out) (next : Next) (c : Cut) (b : BreaksWithin (length exits) (Loop s))
+        (sc : Scene n r (length c.laid) most exits out)
         (h : Opens n r most c next) (f : Fits places laid c (cut exits (Loop s) c)) where
       abbrev c1 : Cut
       c1 = seal c
@@ -377,8 +431,11 @@ module _
       abbrev round : Next
       round = runs s (leaving next out) again
 
-      own : (w : World) (t : Temps) → goes (record { statement = Loop s; around = around_with out; next = next; world = w; temps = t }) ≡ runs (Loop s) out next w t
-      own w t = λ i k. trees_step Canonical code size floor room (record { statement = Loop s; around = around_with out; next = next; world = w; temps = t }) k i
+      own :
+          (w : World) (t : Temps) →
+          goes (record { statement = Loop s; around = around_with out; next = next; world = w; temps = t }) ≡ runs (Loop s) out next w t
+      own w t =
+          λ i k. trees_step Canonical code size floor room (record { statement = Loop s; around = around_with out; next = next; world = w; temps = t }) k i
 
       round_ways : (m : ℕ) → m ≤ n → here ≤ most → Exits m (r + 2) (length c2.laid) here (exits ++ next_mark c ∷ []) (leaving next out)
       round_ways m le lm zero lt =
@@ -401,7 +458,8 @@ module _
       again_opens : (m : ℕ) → ((k : ℕ) → k < m → Rounds k) → Opens m (r + 2) here c2 again
       again_opens m less j a l w t =
           working 1 r (r + 2) m _ _ (omega arith)
-          (subst (λ g. Simulates 1 r m (again w t) g) (sym (back_at code' size floor room places laid behind j here mark stands.at l below w t)) (again_does m less w t))
+          (subst (λ g. Simulates 1 r m (again w t) g) (sym (back_at code' size floor room places laid behind j here mark stands.at l below w t))
+          (again_does m less w t))
 
       within_one : BreaksWithin (length (exits ++ next_mark c ∷ [])) s
       within_one = subst (λ k. BreaksWithin k s) (sym (length-append exits (next_mark c ∷ []))) b
@@ -413,7 +471,8 @@ module _
           let opened : Opens m (r + 2) here c3 round =
           carried m (r + 2) here (exits ++ next_mark c ∷ []) (leaving next out) again c2 within_one scene (again_opens m less)
           (fits_turn places laid mark c c2 c3 (keeps_on c c1 c2 k1 k2) (omega (arith, drawn)) f) in
-          subst (λ d. Simulates 1 (r + 3) m (round w t) d) (sym (first_is code' size floor room places laid behind here (record { body = c3.body; end = c3.end }) below stands.block w t))
+          subst (λ d. Simulates 1 (r + 3) m (round w t) d)
+          (sym (first_is code' size floor room places laid behind here (record { body = c3.body; end = c3.end }) below stands.block w t))
           (working 1 (r + 2) (r + 3) m _ _ (omega arith) (opened here (omega arith) (omega arith) w t))
 
       rounds_below : here ≤ most → (m k : ℕ) → m ≤ n → k < m → Rounds k
@@ -428,7 +487,8 @@ module _
           let lt : here < j = omega (arith, a, length-append c3.laid (record { body = c3.body; end = c3.end } ∷ [])) in
           paying 4 r (r + 3 + 1) n _ _ (omega arith)
           (simulates_working 1 (r + 3) n 1 _ _
-          (subst (λ g. Simulates 1 (r + 3) n (round w t) (g w t)) (sym (ahead code' size floor room places laid behind j here mark stands.at lt (omega (arith, l, sc.within)))) (rounds (omega (arith, lt, l)) w t)))
+          (subst (λ g. Simulates 1 (r + 3) n (round w t) (g w t))
+          (sym (ahead code' size floor room places laid behind j here mark stands.at lt (omega (arith, l, sc.within)))) (rounds (omega (arith, lt, l)) w t)))
 
     mutual
       pub carries : (s : Ts) → IsCanonical s → Carried s
@@ -440,9 +500,12 @@ module _
       carries (Loop s) can = λ n r most exits out next c b sc h f. loop_opens s (carries s can) n r most exits out next c b sc h f
       carries (Break k) can = λ n r most exits out next c b sc h f. leaving_opens (Break k) refl can n r most exits out next c b sc
       carries (tree.Fault k) can = λ n r most exits out next c b sc h f. leaving_opens (tree.Fault k) refl can n r most exits out next c b sc
-      carries (Seq ss) can = λ n r most exits out next c b sc h f j a l w t. paying 0 r r n _ _ (omega arith) (all_carry ss can n r most exits out next c b sc h f j a l w t)
+      carries (Seq ss) can =
+          λ n r most exits out next c b sc h f j a l w t. paying 0 r r n _ _ (omega arith) (all_carry ss can n r most exits out next c b sc h f j a l w t)
       carries (tree.Return x) can = λ n r most exits out next c b sc h f. leaving_opens (tree.Return x) refl can n r most exits out next c b sc
 
       pub all_carry : (ss : Stms) → AreCanonical ss → AllCarried ss
       all_carry no_stms can = λ n r most exits out next c b sc h f. h
-      all_carry (stm s ss) can = λ n r most exits out next c b sc h f. stm_carried s ss (leaves s) refl can.0 (carries s can.0) (all_carry ss can.1) n r most exits out next c b.0 b.1 sc h f
+      all_carry (stm s ss) can =
+          λ n r most exits out next c b sc h f. stm_carried s ss (leaves s) refl can.0 (carries s can.0)
+          (all_carry ss can.1) n r most exits out next c b.0 b.1 sc h f

@@ -184,15 +184,21 @@ module _ (places : List ℕ) (laid : List Block) where
   sealed_stands c f =
       let b : Block = record { body = c.body; end = c.end } in
       record {
-        at = get_or_from_slice_get places (length c.places) (length c.laid) 0 (f.marks (length c.places) (omega arith) (omega (arith, length-append c.places (length c.laid ∷ []))) ∙ get_seam c.places (length c.laid));
+        at =
+            get_or_from_slice_get places (length c.places) (length c.laid) 0
+            (f.marks (length c.places) (omega arith) (omega (arith, length-append c.places (length c.laid ∷ []))) ∙ get_seam c.places (length c.laid));
         block = f.blocks (length c.laid) (omega arith) (omega (arith, length-append c.laid (b ∷ []))) ∙ get_seam c.laid b;
       }
 
-  pub head_stands : (mark : ℕ) (c d : Cut) → length c.places ≤ mark → mark < length d.places → length c.laid ≤ length d.laid → Fits c (head mark d) → Stands mark (length d.laid) d.body d.end
+  pub head_stands :
+      (mark : ℕ) (c d : Cut) → length c.places ≤ mark → mark < length d.places → length c.laid ≤ length d.laid → Fits c (head mark d) →
+      Stands mark (length d.laid) d.body d.end
   head_stands mark c d h l g f =
       let b : Block = record { body = d.body; end = d.end } in
       record {
-        at = get_or_from_slice_get places mark (length d.laid) 0 (f.marks mark h (omega (arith, l, length-set d.places mark (length d.laid))) ∙ set_own d.places mark (length d.laid) l);
+        at =
+            get_or_from_slice_get places mark (length d.laid) 0
+            (f.marks mark h (omega (arith, l, length-set d.places mark (length d.laid))) ∙ set_own d.places mark (length d.laid) l);
         block = f.blocks (length d.laid) g (omega (arith, length-append d.laid (b ∷ []))) ∙ get_seam d.laid b;
       }
 
@@ -202,5 +208,7 @@ module _ (places : List ℕ) (laid : List Block) where
       let e : Block = record { body = d.body; end = d.end } in
       record {
         blocks = λ i h g. f.blocks i (omega (arith, k.laid, h)) (omega (arith, g, length-append d.laid (e ∷ []))) ∙ get_front d.laid (e ∷ []) i g;
-        marks = λ m h g. f.marks m (omega (arith, k.drawn, h)) (omega (arith, g, length-set d.places mark (length d.laid))) ∙ set_other d.places mark m (length d.laid) (λ same. omega (arith, same, h, l));
+        marks =
+            λ m h g. f.marks m (omega (arith, k.drawn, h)) (omega (arith, g, length-set d.places mark (length d.laid))) ∙ set_other d.places mark m
+            (length d.laid) (λ same. omega (arith, same, h, l));
       }

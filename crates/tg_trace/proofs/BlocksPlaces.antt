@@ -64,7 +64,9 @@ module _ (code : Code (List Block)) (size : ℕ → ℕ) (floor room : ℕ) (pla
 
   -- what a block's own place tells it is what tells the blocks behind it
   abbrev from_own : ℕ → ℕ → Acts Last
-  from_own i q = if nat_lt (length laid - (i + 1)) q then from i (length laid - (i + 1) + 1) (q - (length laid - (i + 1) + 1)) else return_to code size floor room goes whole q
+  from_own i q =
+      if nat_lt (length laid - (i + 1)) q then from i (length laid - (i + 1) + 1)
+      (q - (length laid - (i + 1) + 1)) else return_to code size floor room goes whole q
 
   one_of : {A : Type 0} (b c : Bool) (x y z : A) → b ≡ false → c ≡ true → (if b then x else y) ≡ (if c then y else z)
   one_of b c x y z e f = ap (λ v. if v then x else y) e ∙ sym (ap (λ v. if v then y else z) f)
@@ -79,13 +81,16 @@ module _ (code : Code (List Block)) (size : ℕ → ℕ) (floor room : ℕ) (pla
   same_test false i q h e =
       let le = ltb-false q (length laid - i) e in
       let k : length laid - (i + 1) + 1 ≡ length laid - i = omega arith in
-      other_of (nat_lt (length laid - (i + 1)) q) (nat_lt q (length laid - i)) _ _ _ (lt-ltb (length laid - (i + 1)) q (omega (arith, le))) e (ap (λ p. from i p (q - p)) k)
+      other_of (nat_lt (length laid - (i + 1)) q) (nat_lt q (length laid - i)) _ _ _ (lt-ltb (length laid - (i + 1)) q (omega (arith, le))) e
+      (ap (λ p. from i p (q - p)) k)
 
-  pub first_is : (i : ℕ) (b : Block) → i < length laid → slice_get laid i ≡ Some b → (w : World) (t : Temps) → first i w t ≡ charged 1 (opens i b.body b.end w t)
+  pub first_is :
+      (i : ℕ) (b : Block) → i < length laid → slice_get laid i ≡ Some b → (w : World) (t : Temps) → first i w t ≡ charged 1 (opens i b.body b.end w t)
   first_is i b h s w t =
       let z = placed_end places (length laid - 1) b.end in
       ap (λ bs. run_from code size floor room goes whole bs (length laid - (i + 1)) 0 e tt w t) (behind_one i b s) ∙
-      (λ j. charged 1 ((run_within code size floor room goes b.body >> finish code size floor room goes (λ q. same_test (nat_lt q (length laid - i)) i q h refl j) z) e tt w t))
+      (λ j. charged 1 ((run_within code size floor room goes b.body >> finish code size floor room goes
+      (λ q. same_test (nat_lt q (length laid - i)) i q h refl j) z) e tt w t))
 
   -- as many blocks are passed by as stand in between
   passed : (k i : ℕ) → i + 1 + k ≤ length laid → from (i + 1 + k) (length laid - (i + 1 + k)) k ≡ from (i + 1) (length laid - (i + 1)) 0
@@ -96,7 +101,8 @@ module _ (code : Code (List Block)) (size : ℕ → ℕ) (floor room : ℕ) (pla
       let b = get_or laid j no_block in
       let less : length laid - (j + 1) + 1 ≡ length laid - j = omega arith in
       ap (λ n. from n (length laid - n) (suc k)) more ∙
-      (ap (λ bs. run_from code size floor room goes whole bs (length laid - (j + 1)) (suc k)) (behind_one j b (slice_get-get_or laid j no_block (omega arith))) ∙
+      (ap (λ bs. run_from code size floor room goes whole bs (length laid - (j + 1)) (suc k))
+      (behind_one j b (slice_get-get_or laid j no_block (omega arith))) ∙
       (ap (λ p. from j p k) less ∙ passed k i (omega arith)))
 
   passed_to : (i j k : ℕ) → j ≡ i + 1 + k → j ≤ length laid → from j (length laid - j) k ≡ from (i + 1) (length laid - (i + 1)) 0
@@ -114,9 +120,12 @@ module _ (code : Code (List Block)) (size : ℕ → ℕ) (floor room : ℕ) (pla
       ap (λ f. λ w t. f e tt w t) (at_ahead i j (j - (i + 1)) (length laid - 1 - i) (omega arith) (omega arith) (omega arith) le)
 
   -- a run from a place of the whole
-  pub from_place : (i q : ℕ) → i + 1 + q ≡ length laid → (w : World) (t : Temps) (n : ℕ) → goes (record { whole = whole; place = q; around = e; world = w; temps = t }) n ≡ first i w t n
+  pub from_place :
+      (i q : ℕ) → i + 1 + q ≡ length laid → (w : World) (t : Temps) (n : ℕ) →
+      goes (record { whole = whole; place = q; around = e; world = w; temps = t }) n ≡ first i w t n
   from_place i q h w t n =
-      let all : whole ≡ behind (length laid) = ap (λ bs. map (placed places (length laid - 1)) (reverse bs)) (sym (take_all (length laid) laid (omega arith))) in
+      let all : whole ≡ behind (length laid) = ap (λ bs. map (placed places (length laid - 1)) (reverse bs))
+      (sym (take_all (length laid) laid (omega arith))) in
       let none : 0 ≡ length laid - length laid = omega arith in
       let f : from (length laid) (length laid - length laid) q ≡ from (i + 1) (length laid - (i + 1)) 0 = passed_to i (length laid) q (sym h) (omega arith) in
       blocks_step code size floor room (record { whole = whole; place = q; around = e; world = w; temps = t }) n ∙

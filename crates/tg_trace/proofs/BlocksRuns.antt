@@ -25,17 +25,23 @@ module _ (R : Related) (W : RelatedWorlds) (T : RelatedTemps) where
   pub data AlikeBlocks (n : ℕ) : BlockPoint → BlockPoint → Type 0 where
     alike_blocks :
         (whole : List Block) (place : ℕ) (e e' : Around) (w x : World) (t u : Temps) → AlikeAround R W T n e e' → W w x → T t u →
-        AlikeBlocks n (record { whole = whole; place = place; around = e; world = w; temps = t }) (record { whole = whole; place = place; around = e'; world = x; temps = u })
+        AlikeBlocks n (record { whole = whole; place = place; around = e; world = w; temps = t })
+        (record { whole = whole; place = place; around = e'; world = x; temps = u })
 
   module _ (keeps : Keeps R W T) where
     pub blocks_down : (m n : ℕ) (x y : BlockPoint) → m ≤ n → AlikeBlocks n x y → AlikeBlocks m x y
     blocks_down m n x y le (alike_blocks whole p e e' w z t u h r s) = alike_blocks whole p e e' w z t u (around_down R W T keeps m n e e' le h) r s
 
-    module _ (code : Code (List Block)) (size : ℕ → ℕ) (floor room n : ℕ) (c d : BlockPoint → Run Ran) (later : (m : ℕ) → m < n → (x y : BlockPoint) → AlikeBlocks m x y → R m x.world (c x) (d y)) where
-      pub keep_enter : (label : ℕ) (vs : List ℕ) (top : ℕ) (back back' : Back) (w x : World) → W w x → AlikeBack R W T n back back' → R n w (enter_blocks code size floor room c label vs top back w) (enter_blocks code size floor room d label vs top back' x)
+    module _
+        (code : Code (List Block)) (size : ℕ → ℕ) (floor room n : ℕ) (c d : BlockPoint → Run Ran)
+        (later : (m : ℕ) → m < n → (x y : BlockPoint) → AlikeBlocks m x y → R m x.world (c x) (d y)) where
+      pub keep_enter :
+          (label : ℕ) (vs : List ℕ) (top : ℕ) (back back' : Back) (w x : World) → W w x → AlikeBack R W T n back back' →
+          R n w (enter_blocks code size floor room c label vs top back w) (enter_blocks code size floor room d label vs top back' x)
       keep_enter label vs top back back' w x r h =
           keeps.work n (entry_units (length vs)) w _ _ (keep_entered R W T keeps n size floor _ _
-          (λ all e e' w1 x1 t1 u1 he r1 s1. keeps.fuel n w1 x1 _ _ r1 (λ m lt. later m lt _ _ (alike_blocks all 0 e e' w1 x1 t1 u1 (around_down R W T keeps m n e e' (omega arith) he) r1 s1)))
+          (λ all e e' w1 x1 t1 u1 he r1 s1. keeps.fuel n w1 x1 _ _ r1
+          (λ m lt. later m lt _ _ (alike_blocks all 0 e e' w1 x1 t1 u1 (around_down R W T keeps m n e e' (omega arith) he) r1 s1)))
           (function_of label code.functions) vs top back back' w x r h)
 
       no_loop : (x y : Point) → Alike R W T n x y → R n x.world (wrong x.world) (wrong y.world)
@@ -49,15 +55,21 @@ module _ (R : Related) (W : RelatedWorlds) (T : RelatedTemps) where
         keep_return whole p w x t u r s =
             keeps.fuel n w x _ _ r (λ m lt. later m lt _ _ (alike_blocks whole p e e' w x t u (around_down R W T keeps m n e e' (omega arith) he) r s))
 
-        keep_finish : (at at' : ℕ → Acts Last) → ((p : ℕ) → KeepsLast (at p) (at' p)) → (z : End) → KeepsLast (finish code size floor room c at z) (finish code size floor room d at' z)
+        keep_finish :
+            (at at' : ℕ → Acts Last) → ((p : ℕ) → KeepsLast (at p) (at' p)) → (z : End) →
+            KeepsLast (finish code size floor room c at z) (finish code size floor room d at' z)
         keep_finish at at' h (Jump p) w x t u r s = keeps.work n (end_units (Jump p)) w _ _ (h p w x t u r s)
         keep_finish at at' h (Branch rel a b p q) w x t u r s =
-            keeps.work n (end_units (Branch rel a b p q)) w _ _ (keep_value R W T keeps n Canonical room code.literals _ _ _ _ keep_enter no_loop a e e' _ _ he (λ i w1 x1 t1 u1 r1 s1.
+            keeps.work n (end_units (Branch rel a b p q)) w _ _
+            (keep_value R W T keeps n Canonical room code.literals _ _ _ _ keep_enter no_loop a e e' _ _ he (λ i w1 x1 t1 u1 r1 s1.
             keep_value R W T keeps n Canonical room code.literals _ _ _ _ keep_enter no_loop b e e' _ _ he (λ j w2 x2 t2 u2 r2 s2.
-            keep_choice R W T keeps n (holds rel i j) _ _ _ _ e e' tt tt w2 x2 t2 u2 (h p w2 x2 t2 u2 r2 s2) (h q w2 x2 t2 u2 r2 s2)) w1 x1 t1 u1 r1 s1) w x t u r s)
+            keep_choice R W T keeps n (holds rel i j) _ _ _ _ e e' tt tt w2 x2 t2 u2 (h p w2 x2 t2 u2 r2 s2)
+            (h q w2 x2 t2 u2 r2 s2)) w1 x1 t1 u1 r1 s1) w x t u r s)
         keep_finish at at' h (Fault k) w x t u r s = keeps.work n (end_units (Fault k)) w _ _ (keeps.stop n (Ended (Break k)) w x r)
         keep_finish at at' h (Return a) w x t u r s =
-            keeps.work n (end_units (Return a)) w _ _ (keep_value R W T keeps n Canonical room code.literals _ _ _ _ keep_enter no_loop a e e' _ _ he (λ v w1 x1 t1 u1 r1 s1. keep_back R W T keeps n v e e' he w1 x1 r1) w x t u r s)
+            keeps.work n (end_units (Return a)) w _ _
+            (keep_value R W T keeps n Canonical room code.literals _ _ _ _ keep_enter no_loop a e e' _ _ he
+            (λ v w1 x1 t1 u1 r1 s1. keep_back R W T keeps n v e e' he w1 x1 r1) w x t u r s)
 
         keep_either : (b : Bool) (f f' g g' : Acts Last) → KeepsLast f f' → KeepsLast g g' → KeepsLast (if b then f else g) (if b then f' else g')
         keep_either true f f' g g' h k = h
@@ -68,7 +80,8 @@ module _ (R : Related) (W : RelatedWorlds) (T : RelatedTemps) where
         keep_from whole (b ∷ bs) p (suc k) w x t u r s = keep_from whole bs (p + 1) k w x t u r s
         keep_from whole (b ∷ bs) p zero w x t u r s =
             keeps.work n (element_units (Mark p)) w _ _ (keep_all R W T keeps n Canonical room code.literals _ _ _ _ keep_enter no_loop b.body e e' _ _ he
-            (λ w1 x1 t1 u1 r1 s1. keep_finish _ _ (λ q. keep_either (nat_lt p q) _ _ _ _ (keep_from whole bs (p + 1) (q - (p + 1))) (keep_return whole q)) b.end w1 x1 t1 u1 r1 s1) w x t u r s)
+            (λ w1 x1 t1 u1 r1 s1. keep_finish _ _ (λ q. keep_either (nat_lt p q) _ _ _ _ (keep_from whole bs (p + 1) (q - (p + 1)))
+            (keep_return whole q)) b.end w1 x1 t1 u1 r1 s1) w x t u r s)
 
       pub keep_block_step : (x y : BlockPoint) → AlikeBlocks n x y → R n x.world (block_step code size floor room c x) (block_step code size floor room d y)
       keep_block_step x y (alike_blocks whole p e e' w z t u h r s) = keep_from e e' h whole whole 0 p w z t u r s
@@ -87,19 +100,27 @@ module _ (code : Code (List Block)) (size : ℕ → ℕ) (floor room : ℕ) wher
       (λ k c d h x y r. keep_block_step Same OneWorld OneTemps same_keeps code size floor room k c d h x y r)
 
   -- what the steps keep holds of the runs from points that are alike
-  pub blocks_relate : (R : Related) (W : RelatedWorlds) (T : RelatedTemps) → Keeps R W T → (n : ℕ) (x y : BlockPoint) → AlikeBlocks R W T n x y → R n x.world (goes x) (goes y)
+  pub blocks_relate :
+      (R : Related) (W : RelatedWorlds) (T : RelatedTemps) → Keeps R W T → (n : ℕ) (x y : BlockPoint) → AlikeBlocks R W T n x y →
+      R n x.world (goes x) (goes y)
   blocks_relate R W T keeps n x y r =
       runs_relate (AlikeBlocks R W T) (λ m v z c d. R m v.world c d) (block_step code size floor room) (block_step code size floor room)
       (λ k c d h v z q. keep_block_step R W T keeps code size floor room k c d h v z q) goes goes blocks_step blocks_step n x y r
 
-  blocks_onward : (body : ℕ) (input : List ℕ) (i j : ℕ) → i ≤ j → IsOnward (record { memory = begin code.literals; input = input }) (block_run code size floor room body input i) (block_run code size floor room body input j)
+  blocks_onward :
+      (body : ℕ) (input : List ℕ) (i j : ℕ) → i ≤ j → IsOnward (record { memory = begin code.literals; input = input })
+      (block_run code size floor room body input i) (block_run code size floor room body input j)
   blocks_onward body input i j le =
       keep_entered Onward OneWorld OneTemps onward_keeps j size floor _ _
       (λ all e e' w x t u he r q. blocks_relate Onward OneWorld OneTemps onward_keeps j _ _ (alike_blocks all 0 e e' w x t u he r q))
-      (function_of body code.functions) [] stack_top _ _ (record { memory = begin code.literals; input = input }) _ (one _) (λ v w x r. onward_keeps.stop j (Ended (Exit (pos 0))) w x r) j i (omega arith) le
+      (function_of body code.functions) [] stack_top _ _ (record { memory = begin code.literals; input = input }) _ (one _)
+      (λ v w x r. onward_keeps.stop j (Ended (Exit (pos 0))) w x r) j i (omega arith) le
 
-  pub blocks_stay_over : (body : ℕ) (input : List ℕ) (i j : ℕ) → i ≤ j → IsOver (block_run code size floor room body input i).stop → block_run code size floor room body input j ≡ block_run code size floor room body input i
+  pub blocks_stay_over :
+      (body : ℕ) (input : List ℕ) (i j : ℕ) → i ≤ j → IsOver (block_run code size floor room body input i).stop →
+      block_run code size floor room body input j ≡ block_run code size floor room body input i
   blocks_stay_over body input i j le o = (blocks_onward body input i j le).over o
 
-  pub blocks_only_go_on : (body : ℕ) (input : List ℕ) (i j : ℕ) → i ≤ j → GoesOn (block_run code size floor room body input i) (block_run code size floor room body input j)
+  pub blocks_only_go_on :
+      (body : ℕ) (input : List ℕ) (i j : ℕ) → i ≤ j → GoesOn (block_run code size floor room body input i) (block_run code size floor room body input j)
   blocks_only_go_on body input i j le = (blocks_onward body input i j le).on

@@ -8,7 +8,8 @@ use Rattle.tg_trace.proofs.Rests.{take_all}
 
 pub turned_is :
     (exits : List ℕ) (s : Ts) (c c1 c2 c3 c4 c5 : Cut) (exit mark : ℕ) →
-    exit ≡ next_mark c → c1 ≡ seal c → mark ≡ length c1.places → c2 ≡ draw 0 c1 → c3 ≡ open_at (Jump mark) c2 → c4 ≡ cut (exits ++ exit ∷ []) s c3 → c5 ≡ head mark c4 →
+    exit ≡ next_mark c → c1 ≡ seal c → mark ≡ length c1.places → c2 ≡ draw 0 c1 → c3 ≡ open_at (Jump mark) c2 → c4 ≡ cut
+    (exits ++ exit ∷ []) s c3 → c5 ≡ head mark c4 →
     c5 ≡ cut exits (Loop s) c
 turned_is exits s c c1 c2 c3 c4 c5 exit mark exit_is sealed mark_is drawn opened turned headed =
     let d = draw 0 (seal c) in

@@ -1,5 +1,5 @@
--- Runs of blocks. A call takes a unit of fuel, and so does an end that goes on at a place that isn't
--- above its own block's.
+-- Runs of blocks. A call takes a unit of fuel, and so does an end that goes on at a place that
+-- isn't above its own block's.
 use Rattle.std.specs.Prelude.{ℕ, zero, suc, ◌+◌, ◌-◌, List, [], ◌∷◌, nat_lt, if◌then◌else◌}
 use Rattle.tg_base.specs.declared.ends.RunEnd.TheVariants.{Break}
 use Rattle.tg_runs.specs.Runs.{Run, again}
@@ -45,7 +45,8 @@ module _ (code : Code (List Block)) (size : ℕ → ℕ) (floor room : ℕ) wher
     word_of x = value Canonical room code.literals (enter_blocks later) (λ p. wrong p.world) x
 
     abbrev pub run_within : Stms → Acts Next
-    run_within ss = run_all Canonical room code.literals (enter_blocks later) (λ p. wrong p.world) ss
+    run_within ss =
+        run_all Canonical room code.literals (enter_blocks later) (λ p. wrong p.world) ss
 
     -- an end, by what it is to go on at a place
     abbrev pub finish : (at : ℕ → Acts Last) → End → Acts Last
