@@ -27,7 +27,8 @@ all_of : {A : Type 0} (P : A → Type 0) (xs : List A) → ((x : A) → Contains
 all_of P [] h = tt
 all_of P (x ∷ xs) h = (h x (0, omega arith, refl), all_of P xs (λ y c. h y (Contains-append_right (x ∷ []) xs y c)))
 
-all_become : {A B : Type 0} (P : A → Type 0) (Q : B → Type 0) (f : A → B) (gives : (x : A) → P x → Q (f x)) (xs : List A) → AllByRecursion P xs → AllByRecursion Q (map f xs)
+all_become : {A B : Type 0} (P : A → Type 0) (Q : B → Type 0) (f : A → B) (gives : (x : A) → P x → Q (f x)) (xs : List A) → AllByRecursion P xs →
+    AllByRecursion Q (map f xs)
 all_become P Q f gives [] h = tt
 all_become P Q f gives (x ∷ xs) h = (gives x h.0, all_become P Q f gives xs h.1)
 
@@ -41,9 +42,11 @@ trees_preserved linearize gives_canonical gives_closed cut whole entered lay cod
     let blocks = code_in_blocks statements in
     let taken = all_of MayBeFlattened code.functions may in
     let cuttable : AllByRecursion IsCanonicalFunction statements.functions =
-    all_become MayBeFlattened IsCanonicalFunction canonical (λ f m. (gives_canonical f.body f.temps, gives_closed f.body f.temps m.closed)) code.functions taken in
+    all_become MayBeFlattened IsCanonicalFunction canonical (λ f m.
+        (gives_canonical f.body f.temps, gives_closed f.body f.temps m.closed)) code.functions taken in
     let layable : AllByRecursion HasLayableBlocks blocks.functions =
-    all_become IsCanonicalFunction HasLayableBlocks in_blocks (λ f c. record { whole = whole f.body c.1; entered = entered f.body c.1 }) statements.functions cuttable in
+    all_become IsCanonicalFunction HasLayableBlocks in_blocks
+        (λ f c. record { whole = whole f.body c.1; entered = entered f.body c.1 }) statements.functions cuttable in
     passes_compose 1 1 1 0 _ _ _
     (passes_compose 1 0 1 1 _ _ _ (linearize code size floor room body input (λ f c. (may f c).temps)) (cut statements size floor room body input cuttable))
     (lay blocks size floor room body input layable)

@@ -100,7 +100,7 @@ counting = code_of (
       Loop (Loop (sequence (
         Move 0 (Binary Add (Load word) (Binary Add (Call 40 (txs [])) (Load word))) ∷
         Do (Call 41 (txs (Temp 0 ∷ []))) ∷
-        when (Both (Not (less 0 20)) (Either (equal 0 20) (equal 0 23))) (Break 1) ∷
+        when (Both (Not (less 0 20)) (Either (equal 0 20) (equal 0 25))) (Break 1) ∷
         when (less 0 17) (Break 0) ∷ []))) ∷
       Return (Const 0) ∷ []) ∷
     function 40 [] 1 (

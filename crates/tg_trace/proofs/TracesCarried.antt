@@ -86,21 +86,25 @@ module _
     abbrev Carries : (e e' : Around) (r n p : ℕ) → Type 0
     Carries e e' r n p = Does functions flat literals size floor room bs (traced bs) e e' r n p
 
-    all_do : (k n : ℕ) → n < k → Calls n → (r : ℕ) (e e' : Around) → AlikeAround (SameWork r) OneWorld OneTemps n e e' → (p : ℕ) → p < length bs → Carries e e' r n p
+    all_do : (k n : ℕ) → n < k → Calls n → (r : ℕ) (e e' : Around) → AlikeAround (SameWork r) OneWorld OneTemps n e e' → (p : ℕ) → p < length bs →
+        Carries e e' r n p
     all_do zero n lt calls r e e' he p h = absurd (omega arith)
     all_do (suc k) n lt calls r e e' he p h =
         places_do functions flat literals size floor room bs (traced bs) n calls r e e' he (all_stand bs may.entered)
         (each (LeadsBelow (length bs)) tt bs may.whole.within)
-        (λ m mn q hq. all_do k m (omega arith) (with_less m n (omega arith) calls) r e e' (around_down (SameWork r) OneWorld OneTemps (keeps_simulating r) m n e e' (omega arith) he) q hq)
+        (λ m mn q hq. all_do k m (omega arith) (with_less m n (omega arith) calls) r e e'
+        (around_down (SameWork r) OneWorld OneTemps (keeps_simulating r) m n e e' (omega arith) he) q hq)
         (length bs) p (omega arith) h
 
-    outermost_alike : (r n : ℕ) (a : Activation) (back back' : Back) → BacksSimulate 1 r n back back' → AlikeAround (SameWork r) OneWorld OneTemps n (outermost a back) (outermost a back')
+    outermost_alike : (r n : ℕ) (a : Activation) (back back' : Back) → BacksSimulate 1 r n back back' → AlikeAround (SameWork r) OneWorld OneTemps n
+        (outermost a back) (outermost a back')
     outermost_alike r n a back back' h = around a _ _ back back' (λ v w x t u o q. (keeps_simulating r).stop n _ w x o) (λ v w x o. by v w x o)
       where
         by : (v : ℕ) (w x : World) → OneWorld w x → Simulates 1 r n (back v w) (back' v x)
         by v w x (one_of y) = h v y
 
-    pub blocks_carried : BodyCarried 1 0 size floor entry_units entry_units (block_runner size floor room before) (flat_runner size floor room after) functions flat bs (traced bs)
+    pub blocks_carried : BodyCarried 1 0 size floor entry_units entry_units (block_runner size floor room before)
+        (flat_runner size floor room after) functions flat bs (traced bs)
     blocks_carried n r a back back' w t calls backs =
         let e = outermost a back in
         let e' = outermost a back' in
@@ -116,7 +120,8 @@ module _
 module _ (code : Code (List Block)) (size : ℕ → ℕ) (floor room : ℕ) where
   abbrev Carried : List (Function (List Block)) → List (Function (List Linear)) → Type 0
   Carried fs gs =
-      AllCarried 1 0 size floor entry_units entry_units (block_runner size floor room code) (flat_runner size floor room (laid_all code)) code.functions (map laid code.functions) fs gs
+      AllCarried 1 0 size floor entry_units entry_units (block_runner size floor room code) (flat_runner size floor room (laid_all code)) code.functions
+      (map laid code.functions) fs gs
 
   all_carried : (fs : List (Function (List Block))) → AllByRecursion (λ f. MayBeLaid f.body) fs → Carried fs (map laid fs)
   all_carried [] h = none
@@ -124,9 +129,11 @@ module _ (code : Code (List Block)) (size : ℕ → ℕ) (floor room : ℕ) wher
       one f.label f.params f.slots f.temps f.temps f.out f.out f.body (traced f.body) fs (map laid fs)
       (blocks_carried size floor room code.literals code.functions (map laid code.functions) f.body h.0) (all_carried fs h.1)
 
-  pub programs_are_preserved : (body : ℕ) (input : List ℕ) → AllByRecursion (λ f. MayBeLaid f.body) code.functions → Preserves 1 0 (block_run code size floor room body input) (flat_run (laid_all code) size floor room body input)
+  pub programs_are_preserved : (body : ℕ) (input : List ℕ) → AllByRecursion (λ f. MayBeLaid f.body) code.functions → Preserves 1 0
+      (block_run code size floor room body input) (flat_run (laid_all code) size floor room body input)
   programs_are_preserved body input h =
       simulation_preserves 1 0 _ _ (λ n.
-      programs_carried 1 0 size floor entry_units entry_units (block_runner size floor room code) (flat_runner size floor room (laid_all code)) code.functions (map laid code.functions)
+      programs_carried 1 0 size floor entry_units entry_units (block_runner size floor room code)
+      (flat_runner size floor room (laid_all code)) code.functions (map laid code.functions)
       (λ k. omega arith) (all_carried code.functions h) n body [] stack_top _ _ (record { memory = begin code.literals; input = input }) 0
       (λ v w. simulates_stopping 1 0 n w.input (Ended (Exit (pos 0)))))

@@ -35,9 +35,14 @@ module _ (L P : ℕ) (Out : ℕ → Type 0) where
   jump_to : (starts : List ℕ) (c : Cut) (p : ℕ) → UsableIn L P Out starts c p → (m : ℕ) → LeadsTo (Jump p) m → UsableIn L P Out starts c m
   jump_to starts c p u m e = subst (UsableIn L P Out starts c) e u
 
-  branch_step : (d : Cond) (yes' no' : ℕ) (starts : List ℕ) (c : Cut) → Here starts c → UsableIn L P Out starts c yes' → UsableIn L P Out starts c no' → Goes starts c (branch d yes' no' c)
+  branch_step : (d : Cond) (yes' no' : ℕ) (starts : List ℕ) (c : Cut) → Here starts c → UsableIn L P Out starts c yes' → UsableIn L P Out starts c no' →
+      Goes starts c (branch d yes' no' c)
   branch_step (Compare rel x y) yes' no' starts c h u v =
-      opens L P Out starts (Branch rel x y yes' no') c h (λ m l. elim l [ inl e ↦ subst (UsableIn L P Out starts c) e u | inr e ↦ subst (UsableIn L P Out starts c) e v ])
+      opens L P Out starts (Branch rel x y yes' no') c h (λ m l. elim l [
+        | inl e ↦ subst (UsableIn L P Out starts c) e u
+        | inr e ↦ subst
+            (UsableIn L P Out starts c) e v
+      ])
   branch_step (Not d) yes' no' starts c h u v = branch_step d no' yes' starts c h v u
   branch_step (Both d e) yes' no' starts c h u v =
       let second = branch e yes' no' c in
@@ -54,7 +59,8 @@ module _ (L P : ℕ) (Out : ℕ → Type 0) where
   either_step true starts c d h s = stays L P Out starts c h
   either_step false starts c d h s = s
 
-  exits_on : (starts : List ℕ) (c d : Cut) (exits : List ℕ) → Here starts c → (s : Goes starts c d) → Exits L P Out starts c exits → Exits L P Out s.starts' d exits
+  exits_on : (starts : List ℕ) (c d : Cut) (exits : List ℕ) → Here starts c → (s : Goes starts c d) → Exits L P Out starts c exits →
+      Exits L P Out s.starts' d exits
   exits_on starts c d exits h s x k l = step_usable L P Out starts c d h s (slice_index exits k) (x k l)
 
   -- a side of a choice in front of a join
@@ -64,11 +70,13 @@ module _ (L P : ℕ) (Out : ℕ → Type 0) where
       Ready starts c (seal (side exits join s c)) (next_mark (side exits join s c))
   side_step exits join s starts c h u cuts x =
       let o = opens L P Out starts (Jump join) c h (jump_to starts c join u) in
-      then_seal starts c (side exits join s c) (step_on L P Out starts c (open_at (Jump join) c) (side exits join s c) o (cuts (open_at (Jump join) c) o.state x))
+      then_seal starts c (side exits join s c) (step_on L P Out starts c (open_at (Jump join) c) (side exits join s c) o
+      (cuts (open_at (Jump join) c) o.state x))
 
 -- the exits around a loop's turn, and its own
 turn_exits :
-    (L P : ℕ) (Out : ℕ → Type 0) (starts : List ℕ) (c : Cut) (exits : List ℕ) (exit : ℕ) → ((k : ℕ) → k < length exits → UsableIn L P Out starts c (slice_index exits k)) → UsableIn L P Out starts c exit →
+    (L P : ℕ) (Out : ℕ → Type 0) (starts : List ℕ) (c : Cut) (exits : List ℕ) (exit : ℕ) →
+    ((k : ℕ) → k < length exits → UsableIn L P Out starts c (slice_index exits k)) → UsableIn L P Out starts c exit →
     (k : ℕ) → k < length (exits ++ exit ∷ []) → UsableIn L P Out starts c (slice_index (exits ++ exit ∷ []) k)
 turn_exits L P Out starts c exits exit x u k h =
     let all = exits ++ exit ∷ [] in
@@ -81,7 +89,8 @@ turn_exits L P Out starts c exits exit x u k h =
 
 mutual
   pub cut_step :
-      (s : Ts) (L P : ℕ) (Out : ℕ → Type 0) (exits starts : List ℕ) (c : Cut) → State L P Out starts c → Exits L P Out starts c exits → BreaksWithin (length exits) s →
+      (s : Ts) (L P : ℕ) (Out : ℕ → Type 0) (exits starts : List ℕ) (c : Cut) → State L P Out starts c → Exits L P Out starts c exits → BreaksWithin
+      (length exits) s →
       Step L P Out starts c (cut exits s c)
   cut_step (Move i x) L P Out exits starts c h xs b = fronts L P Out starts (Move i x) c h
   cut_step (Store x y) L P Out exits starts c h xs b = fronts L P Out starts (Store x y) c h
@@ -103,7 +112,8 @@ mutual
       let u3 = step_usable L P Out s2.step.starts' c2 c3 s2.step.state s3.step (next_mark other) s2.usable in
       step_on L P Out starts c c1 _ s1.step
       (step_on L P Out s1.step.starts' c1 c2 _ s2.step
-      (step_on L P Out s2.step.starts' c2 c3 _ s3.step (branch_step L P Out d (next_mark this) (next_mark other) s3.step.starts' c3 s3.step.state s3.usable u3)))
+      (step_on L P Out s2.step.starts' c2 c3 _ s3.step (branch_step L P Out d (next_mark this)
+      (next_mark other) s3.step.starts' c3 s3.step.state s3.usable u3)))
   cut_step (Loop s) L P Out exits starts c h xs b =
       let exit = next_mark c in
       let c1 = seal c in
@@ -113,7 +123,8 @@ mutual
       let deeper : length exits + 1 ≡ length (exits ++ exit ∷ []) = omega (arith, length-append exits (exit ∷ [])) in
       step_on L P Out starts c c1 _ s1.step
       (turns L P Out starts1 c1 s1.step.state (turn exits s c)
-      (cut_step s (length c1.laid) (suc (length c1.places)) (FromOutside L P Out starts1 c1 s1.step.state) (exits ++ exit ∷ []) (begun_starts L P Out starts1 c1 s1.step.state)
+      (cut_step s (length c1.laid) (suc (length c1.places)) (FromOutside L P Out starts1 c1 s1.step.state) (exits ++ exit ∷ [])
+      (begun_starts L P Out starts1 c1 s1.step.state)
       (begun L P Out starts1 c1 s1.step.state) (begun_state L P Out starts1 c1 s1.step.state)
       (λ k l. from_outside L P Out starts1 c1 s1.step.state (slice_index (exits ++ exit ∷ []) k) (x1 k l)) (subst (λ n. BreaksWithin n s) deeper b)))
   cut_step (Break k) L P Out exits starts c h xs b =
@@ -124,7 +135,8 @@ mutual
   cut_step (tree.Return x) L P Out exits starts c h xs b = opens L P Out starts (Return x) c h (λ m l. absurd l)
 
   pub all_step :
-      (ss : Stms) (L P : ℕ) (Out : ℕ → Type 0) (exits starts : List ℕ) (c : Cut) → State L P Out starts c → Exits L P Out starts c exits → BreaksWithinStms (length exits) ss →
+      (ss : Stms) (L P : ℕ) (Out : ℕ → Type 0) (exits starts : List ℕ) (c : Cut) → State L P Out starts c → Exits L P Out starts c exits → BreaksWithinStms
+      (length exits) ss →
       Step L P Out starts c (cut_all exits ss c)
   all_step no_stms L P Out exits starts c h xs b = stays L P Out starts c h
   all_step (stm s ss) L P Out exits starts c h xs b =

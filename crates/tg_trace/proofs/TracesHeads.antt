@@ -20,7 +20,8 @@ use Rattle.tg_trace.proofs.TracesEntered.{all_step}
 pub record Loops (all : List Block) (place start : ℕ → ℕ) : Type 0 where
   pub within : (i m : ℕ) → i < length all → LeadsTo (block_at all i).end m → place m < length all
   pub closed :
-      (i k j m : ℕ) → i < length all → LeadsTo (block_at all i).end k → j < length all → LeadsTo (block_at all j).end m → start m ≤ place k → place k < place m →
+      (i k j m : ℕ) → i < length all → LeadsTo (block_at all i).end k → j < length all → LeadsTo (block_at all j).end m → start m ≤ place k →
+      place k < place m →
       (start m ≤ i) × (i ≤ place m)
   pub back : (i m : ℕ) → i < length all → LeadsTo (block_at all i).end m → i ≤ place m → start m ≤ i
 
@@ -47,7 +48,8 @@ module _ (places : List ℕ) (all : List Block) where
       ap (placed places (length all - 1)) (get_or-reverse all p no_block h)
 
   -- where control goes from a place, by the marks of the block there
-  from_place : (p r : ℕ) → LeadsTo (block_at bs p).end r → (p < length all) × ((m : ℕ) × LeadsTo (block_at all (length all - 1 - p)).end m × (r ≡ place_of places (length all - 1) m))
+  from_place : (p r : ℕ) → LeadsTo (block_at bs p).end r → (p < length all) ×
+      ((m : ℕ) × LeadsTo (block_at all (length all - 1 - p)).end m × (r ≡ place_of places (length all - 1) m))
   from_place p r l =
       elim (cases_lt p (length all)) [
         | inl lt ↦ (
@@ -104,7 +106,8 @@ module _ (c : Cut) (starts : List ℕ) (state : State 0 0 Nothing starts c) wher
   laid_drawn i m h l = known_drawn m (state.nested.known i m (omega arith) h l)
 
   -- a usable mark isn't inside a loop
-  outside : (m h : ℕ) → UsableIn 0 0 Nothing starts c m → h < length c.places → slice_index starts h ≤ slice_index c.places m → slice_index c.places m < slice_index c.places h → ⊥
+  outside : (m h : ℕ) → UsableIn 0 0 Nothing starts c m → h < length c.places → slice_index starts h ≤ slice_index c.places m →
+      slice_index c.places m < slice_index c.places h → ⊥
   outside m h (outer g o) hq a b = o
   outside m h (free g k f) hq a b = f h (omega arith) hq a b
 
@@ -125,7 +128,8 @@ module _ (c : Cut) (starts : List ℕ) (state : State 0 0 Nothing starts c) wher
   from_drawn i m (inl x) = laid_drawn i m x.0 x.1
   from_drawn i m (inr x) = usable_drawn m (state.end' m x.1)
 
-  from_closed : (i k m : ℕ) → From i k → m < length c.places → slice_index starts m ≤ slice_index c.places k → slice_index c.places k < slice_index c.places m → (slice_index starts m ≤ i) × (i ≤ slice_index c.places m)
+  from_closed : (i k m : ℕ) → From i k → m < length c.places → slice_index starts m ≤ slice_index c.places k →
+      slice_index c.places k < slice_index c.places m → (slice_index starts m ≤ i) × (i ≤ slice_index c.places m)
   from_closed i k m (inl x) mq a b = state.nested.closed i k m (omega arith) x.0 x.1 (omega arith) (omega arith) mq a b
   from_closed i k m (inr x) mq a b = absurd (outside k m (state.end' k x.1) mq a b)
 
@@ -171,13 +175,15 @@ module _ (c : Cut) (starts : List ℕ) (state : State 0 0 Nothing starts c) wher
     first_loops = record {
       within = λ i m h l. no_further i m h (as_laid i m h l);
       closed = λ i k j m h l g n a b.
-          state.nested.closed i k m (omega arith) (in_laid i h) (as_laid i k h l) (omega arith) (omega arith) (laid_drawn j m (in_laid j g) (as_laid j m g n)).0 a b;
+          state.nested.closed i k m (omega arith) (in_laid i h) (as_laid i k h l) (omega arith) (omega arith)
+          (laid_drawn j m (in_laid j g) (as_laid j m g n)).0 a b;
       back = λ i m h l le. state.nested.back i m (omega arith) (in_laid i h) (as_laid i m h l) (omega arith) le;
     }
 
   either_entered : (o : Option ℕ) → leads c.body c.end ≡ o → AreEnteredAtHeads (placed_all c.places (entered_by o c))
   either_entered None e = entered_at_heads c.places all_blocks (λ m. slice_index starts m) open_loops
-  either_entered (Some mark) e = entered_at_heads c.places (take (slice_index c.places mark + 1) c.laid) (λ m. slice_index starts m) (first_loops mark (state.end' mark (leads_there 0 0 Nothing c.body c.end mark e)))
+  either_entered (Some mark) e = entered_at_heads c.places (take (slice_index c.places mark + 1) c.laid) (λ m. slice_index starts m)
+      (first_loops mark (state.end' mark (leads_there 0 0 Nothing c.body c.end mark e)))
 
 start_state : State 0 0 Nothing [] start
 start_state = record {

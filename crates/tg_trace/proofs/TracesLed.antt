@@ -129,7 +129,8 @@ module _ (bs : List Block) where
   jumps_behind_body earlier no_stms rest h = h
   jumps_behind_body earlier (stm s ss) rest h = jumps_behind_body earlier ss rest h
 
-  jump_back : (earlier : List ℕ) (b : Bool) (p : ℕ) (rest : List Linear) → (b ≡ false → Contains earlier p) → JumpsGoBack earlier rest → JumpsGoBack earlier (jump_unless b p ++ rest)
+  jump_back : (earlier : List ℕ) (b : Bool) (p : ℕ) (rest : List Linear) → (b ≡ false → Contains earlier p) → JumpsGoBack earlier rest → JumpsGoBack earlier
+      (jump_unless b p ++ rest)
   jump_back earlier true p rest c h = h
   jump_back earlier false p rest c h = (c refl, h)
 
@@ -139,7 +140,8 @@ module _ (bs : List Block) where
   branch_back earlier true next rel x y p q rest c h = h
   branch_back earlier false next rel x y p q rest c h = jump_back earlier (is_next next q) q rest (c refl) h
 
-  end_back : (earlier : List ℕ) (next : Option ℕ) (e : End) (rest : List Linear) → LedTo earlier next e → JumpsGoBack earlier rest → JumpsGoBack earlier (end_code next e ++ rest)
+  end_back : (earlier : List ℕ) (next : Option ℕ) (e : End) (rest : List Linear) → LedTo earlier next e → JumpsGoBack earlier rest → JumpsGoBack earlier
+      (end_code next e ++ rest)
   end_back earlier next (Jump p) rest c h = jump_back earlier (is_next next p) p rest c h
   end_back earlier next (Branch rel x y p q) rest c h = branch_back earlier (is_next next p) next rel x y p q rest c h
   end_back earlier next (Fault n) rest c h = h
@@ -158,4 +160,5 @@ module _ (bs : List Block) where
 
   pub jumps_are_back : AreWhole bs → JumpsGoBack [] (traced bs)
   jumps_are_back w =
-      subst (JumpsGoBack []) (sym (traced_is bs)) (jumps_back [] (traces (length bs) bs).places (traces_led (each (LeadsBelow (length bs)) tt bs w.within) (length bs)))
+      subst (JumpsGoBack []) (sym (traced_is bs)) (jumps_back [] (traces (length bs) bs).places
+      (traces_led (each (LeadsBelow (length bs)) tt bs w.within) (length bs)))

@@ -113,7 +113,8 @@ module _ (L P : ℕ) (Out : ℕ → Type 0) where
   pub usable_of : (n n' q q' : ℕ) (place start : ℕ → ℕ) (m : ℕ) → n ≡ n' → q ≡ q' → Usable L P Out n q place start m → Usable L P Out n' q' place start m
   usable_of n n' q q' place start m e f u = subst (λ k. Usable L P Out k q' place start m) e (subst (λ k. Usable L P Out n k place start m) f u)
 
-  pub nested_of : (n n' q q' : ℕ) (place start : ℕ → ℕ) (Leads : ℕ → ℕ → Type 0) → n ≡ n' → q ≡ q' → Nested L P Out n q place start Leads → Nested L P Out n' q' place start Leads
+  pub nested_of : (n n' q q' : ℕ) (place start : ℕ → ℕ) (Leads : ℕ → ℕ → Type 0) → n ≡ n' → q ≡ q' → Nested L P Out n q place start Leads →
+      Nested L P Out n' q' place start Leads
   nested_of n n' q q' place start Leads e f h = subst (λ k. Nested L P Out k q' place start Leads) e (subst (λ k. Nested L P Out n k place start Leads) f h)
 
   -- The open block is laid, and its mark drawn.
@@ -133,19 +134,25 @@ module _ (L P : ℕ) (Out : ℕ → Type 0) where
     one_drawn : suc (length c.places) ≡ length laid_cut.places
     one_drawn = omega (arith, length-append c.places (length c.laid ∷ []))
 
-    pub laid_leads : (i m : ℕ) → i < suc (length c.laid) → LeadsOf laid_cut i m → ((i < length c.laid) × LeadsOf c i m) ⊎ ((i ≡ length c.laid) × LeadsTo c.end m)
+    pub laid_leads : (i m : ℕ) → i < suc (length c.laid) → LeadsOf laid_cut i m → ((i < length c.laid) × LeadsOf c i m) ⊎
+        ((i ≡ length c.laid) × LeadsTo c.end m)
     laid_leads i m h l =
         elim (one_more i (length c.laid) h) [
           | inl lt ↦ inl (lt, same_leads c laid_cut i m (get_front c.laid (its_block ∷ []) i lt) l)
           | inr e ↦
-              inr (e, subst (λ (b : Block). LeadsTo b.end m) (get_or_from_slice_get laid_cut.laid i its_block no_block (ap (slice_get laid_cut.laid) e ∙ get_seam c.laid its_block)) l)
+              inr (
+                e,
+                subst (λ (b : Block). LeadsTo b.end m) (get_or_from_slice_get laid_cut.laid i its_block no_block
+                    (ap (slice_get laid_cut.laid) e ∙ get_seam c.laid its_block)) l,
+              )
         ]
 
     starts_keep : (m : ℕ) → m < length c.places → slice_get more_starts m ≡ slice_get starts m
     starts_keep m h = get_front starts (length c.laid ∷ []) m (omega (arith, h, state.count))
 
     start_of_it : slice_index more_starts (length c.places) ≡ length c.laid
-    start_of_it = get_or_from_slice_get more_starts (length c.places) (length c.laid) 0 (ap (slice_get more_starts) (sym state.count) ∙ get_seam starts (length c.laid))
+    start_of_it = get_or_from_slice_get more_starts (length c.places) (length c.laid) 0
+        (ap (slice_get more_starts) (sym state.count) ∙ get_seam starts (length c.laid))
 
     place_of_it : slice_index laid_cut.places (length c.places) ≡ length c.laid
     place_of_it = get_or_from_slice_get laid_cut.places (length c.places) (length c.laid) 0 (get_seam c.places (length c.laid))
@@ -160,13 +167,15 @@ module _ (L P : ℕ) (Out : ℕ → Type 0) where
     laid_usable =
         usable_of (suc (length c.laid)) (length laid_cut.laid) (suc (length c.places)) (length laid_cut.places)
         (λ k. slice_index laid_cut.places k) (λ k. slice_index more_starts k) (length c.places) one_laid one_drawn
-        (lay_usable L P Out (length c.laid) (length c.places) _ _ (LeadsOf c) state.nested (LeadsTo c.end) state.end' _ _ (LeadsOf laid_cut) old_place old_start place_of_it start_of_it laid_leads)
+        (lay_usable L P Out (length c.laid) (length c.places) _ _ (LeadsOf c) state.nested (LeadsTo c.end) state.end' _ _
+        (LeadsOf laid_cut) old_place old_start place_of_it start_of_it laid_leads)
 
     laid_nested : NestedIn more_starts laid_cut
     laid_nested =
         nested_of (suc (length c.laid)) (length laid_cut.laid) (suc (length c.places)) (length laid_cut.places)
         (λ k. slice_index laid_cut.places k) (λ k. slice_index more_starts k) (LeadsOf laid_cut) one_laid one_drawn
-        (lay_nested L P Out (length c.laid) (length c.places) _ _ (LeadsOf c) state.nested (LeadsTo c.end) state.end' _ _ (LeadsOf laid_cut) old_place old_start place_of_it start_of_it laid_leads)
+        (lay_nested L P Out (length c.laid) (length c.places) _ _ (LeadsOf c) state.nested (LeadsTo c.end) state.end' _ _
+        (LeadsOf laid_cut) old_place old_start place_of_it start_of_it laid_leads)
 
     lays : Sealed starts c laid_cut (length c.places)
     lays = record {
@@ -253,19 +262,25 @@ module _ (L P : ℕ) (Out : ℕ → Type 0) (starts : List ℕ) (c : Cut) (state
         set_other turn.starts' mark m (length c.laid) (λ e. omega (arith, e, h)) ∙
         (turn.same_start m (omega (arith, h, one_begun)) ∙ get_front starts (0 ∷ []) m (omega (arith, h, state.count)))
 
-    new_leads : (i m : ℕ) → length c.laid ≤ i → i < suc (length d.laid) → LeadsOf turned i m → ((i < length d.laid) × LeadsOf d i m) ⊎ ((i ≡ length d.laid) × LeadsTo d.end m)
+    new_leads : (i m : ℕ) → length c.laid ≤ i → i < suc (length d.laid) → LeadsOf turned i m → ((i < length d.laid) × LeadsOf d i m) ⊎
+        ((i ≡ length d.laid) × LeadsTo d.end m)
     new_leads i m ge h l =
         elim (one_more i (length d.laid) h) [
           | inl lt ↦ inl (lt, same_leads d turned i m (get_front d.laid (head_block ∷ []) i lt) l)
           | inr e ↦
-              inr (e, subst (λ (b : Block). LeadsTo b.end m) (get_or_from_slice_get turned.laid i head_block no_block (ap (slice_get turned.laid) e ∙ get_seam d.laid head_block)) l)
+              inr (
+                e,
+                subst (λ (b : Block). LeadsTo b.end m) (get_or_from_slice_get turned.laid i head_block no_block
+                    (ap (slice_get turned.laid) e ∙ get_seam d.laid head_block)) l,
+              )
         ]
 
     place_of_head : slice_index turned.places mark ≡ length d.laid
     place_of_head = get_or_from_slice_get turned.places mark (length d.laid) 0 (set_own d.places mark (length d.laid) marked)
 
     start_of_head : slice_index its_starts mark ≡ length c.laid
-    start_of_head = get_or_from_slice_get its_starts mark (length c.laid) 0 (set_own turn.starts' mark (length c.laid) (omega (arith, marked, turn.state.count)))
+    start_of_head = get_or_from_slice_get its_starts mark (length c.laid) 0
+        (set_own turn.starts' mark (length c.laid) (omega (arith, marked, turn.state.count)))
 
     places_before : (m : ℕ) → m < mark → slice_index turned.places m ≡ slice_index c.places m
     places_before m h = same_index turned.places c.places m 0 (kept.marks m h)
@@ -281,27 +296,34 @@ module _ (L P : ℕ) (Out : ℕ → Type 0) (starts : List ℕ) (c : Cut) (state
 
     turned_nested : Nested L P Out (suc (length d.laid)) (length d.places) (λ k. slice_index turned.places k) (λ k. slice_index its_starts k) (LeadsOf turned)
     turned_nested =
-        loop_nested L P Out (length c.laid) mark _ _ (LeadsOf c) state.nested (length d.laid) (length d.places) _ _ (LeadsOf d) turn.state.nested (LeadsTo d.end) turn.state.end'
-        _ _ (LeadsOf turned) places_before starts_before places_within starts_within place_of_head start_of_head (λ i m h l. same_leads c turned i m (kept.blocks i h) l) new_leads
+        loop_nested L P Out (length c.laid) mark _ _ (LeadsOf c) state.nested (length d.laid) (length d.places) _ _ (LeadsOf d) turn.state.nested
+        (LeadsTo d.end) turn.state.end'
+        _ _ (LeadsOf turned) places_before starts_before places_within starts_within place_of_head start_of_head
+        (λ i m h l. same_leads c turned i m (kept.blocks i h) l) new_leads
 
     turned_usable : Usable L P Out (suc (length d.laid)) (length d.places) (λ k. slice_index turned.places k) (λ k. slice_index its_starts k) mark
     turned_usable =
-        head_usable L P Out (length c.laid) mark _ _ (LeadsOf c) state.nested (length d.laid) (length d.places) _ _ (LeadsOf d) turn.state.nested (LeadsTo d.end) turn.state.end'
-        _ _ (LeadsOf turned) places_before starts_before places_within starts_within place_of_head start_of_head (λ i m h l. same_leads c turned i m (kept.blocks i h) l) new_leads
+        head_usable L P Out (length c.laid) mark _ _ (LeadsOf c) state.nested (length d.laid) (length d.places) _ _ (LeadsOf d) turn.state.nested
+        (LeadsTo d.end) turn.state.end'
+        _ _ (LeadsOf turned) places_before starts_before places_within starts_within place_of_head start_of_head
+        (λ i m h l. same_leads c turned i m (kept.blocks i h) l) new_leads
 
     pub turns : Step L P Out starts c turned
     turns = record {
       starts' = its_starts;
       state = record {
         count = length-set turn.starts' mark (length c.laid) ∙ (turn.state.count ∙ all_drawn);
-        nested = nested_of L P Out (suc (length d.laid)) (length turned.laid) (length d.places) (length turned.places) _ _ (LeadsOf turned) all_laid all_drawn turned_nested;
+        nested = nested_of L P Out (suc (length d.laid)) (length turned.laid) (length d.places) (length turned.places) _ _
+            (LeadsOf turned) all_laid all_drawn turned_nested;
         end' = λ m e. subst (UsableIn L P Out its_starts turned) e
             (usable_of L P Out (suc (length d.laid)) (length turned.laid) (length d.places) (length turned.places) _ _ mark all_laid all_drawn turned_usable);
       };
       keeps = kept;
       same_start = starts_keep';
       new_start = λ h le lt.
-          starts_since L P Out (length c.laid) mark _ _ (LeadsOf c) state.nested (length d.laid) (length d.places) _ _ (LeadsOf d) turn.state.nested (LeadsTo d.end) turn.state.end'
-          _ _ (LeadsOf turned) places_before starts_before places_within starts_within place_of_head start_of_head (λ i m j l. same_leads c turned i m (kept.blocks i j) l) new_leads
+          starts_since L P Out (length c.laid) mark _ _ (LeadsOf c) state.nested (length d.laid) (length d.places) _ _ (LeadsOf d) turn.state.nested
+          (LeadsTo d.end) turn.state.end'
+          _ _ (LeadsOf turned) places_before starts_before places_within starts_within place_of_head start_of_head
+          (λ i m j l. same_leads c turned i m (kept.blocks i j) l) new_leads
           h le (omega (arith, lt, all_drawn));
     }

@@ -59,7 +59,8 @@ module _
     (L P : ℕ) (Out : ℕ → Type 0) (n q : ℕ) (place start : ℕ → ℕ) (Leads : ℕ → ℕ → Type 0) (nested : Nested L P Out n q place start Leads)
     (New : ℕ → Type 0) (news : (m : ℕ) → New m → Usable L P Out n q place start m)
     (place' start' : ℕ → ℕ) (Leads' : ℕ → ℕ → Type 0)
-    (same_place : (m : ℕ) → m < q → place' m ≡ place m) (same_start : (m : ℕ) → m < q → start' m ≡ start m) (its_place : place' q ≡ n) (its_start : start' q ≡ n)
+    (same_place : (m : ℕ) → m < q → place' m ≡ place m) (same_start : (m : ℕ) → m < q → start' m ≡ start m) (its_place : place' q ≡ n)
+    (its_start : start' q ≡ n)
     (leads : (i m : ℕ) → i < suc n → Leads' i m → ((i < n) × Leads i m) ⊎ ((i ≡ n) × New m)) where
   -- the place of a mark to which a block leads
   abbrev Of : (i k : ℕ) → Type 0
@@ -171,7 +172,8 @@ module _
   from_new i m e (outer h o) = let l = within.laid in from_outside i m (omega (arith, l, e)) (omega (arith, e)) o
   from_new i m e (free h k f) = last e (omega arith) k f
 
-  from_within : (i m : ℕ) → n1 ≤ i → i < n3 → Leads3 i m → Known n1 (suc q1) (λ k. Usable L P Out n1 q1 place1 start1 k ⊎ (k ≡ q1)) n3 q3 place3 start3 m → Going i m
+  from_within : (i m : ℕ) → n1 ≤ i → i < n3 → Leads3 i m → Known n1 (suc q1) (λ k. Usable L P Out n1 q1 place1 start1 k ⊎ (k ≡ q1)) n3 q3 place3 start3 m →
+      Going i m
   from_within i m ni lt l (inl k) = from_outside i m ni (omega arith) k.1
   from_within i m ni lt l (inr k) = inside ni lt l (omega (arith, k.0)) k.1
 

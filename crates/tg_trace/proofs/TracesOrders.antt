@@ -99,7 +99,8 @@ module _ (bs : List Block) where
         | inl e ↦ subst (λ x. Contains (o.places ++ p ∷ []) x) (sym e) (Contains-push o.places p)
         | inr c ↦ Contains-append_left o.places (p ∷ []) first c
       ]);
-      along = λ q m n. goes_on first p r (t.along q (λ c. m (Contains-append_left o.places (p ∷ []) q c)) (λ e. m (subst (λ x. Contains (o.places ++ p ∷ []) x) e (Contains-push o.places p)))) leads n;
+      along = λ q m n. goes_on first p r (t.along q (λ c. m (Contains-append_left o.places (p ∷ []) q c))
+          (λ e. m (subst (λ x. Contains (o.places ++ p ∷ []) x) e (Contains-push o.places p)))) leads n;
     }
 
     follow_heads :

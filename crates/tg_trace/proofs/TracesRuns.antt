@@ -73,7 +73,8 @@ opposite_holds Below u v = refl
 opposite_holds NotBelow u v = not_not (holds Below u v)
 
 turned_round :
-    {K : Type 0} (b c : Bool) (p q : Acts K) (e : Around) (k : K) (w : World) (t : Temps) → b ≡ not c → (if b then p else q) e k w t ≡ (if c then q else p) e k w t
+    {K : Type 0} (b c : Bool) (p q : Acts K) (e : Around) (k : K) (w : World) (t : Temps) → b ≡ not c → (if b then p else q) e k w t ≡
+    (if c then q else p) e k w t
 turned_round b true p q e k w t h = ap (λ (z : Bool). (if z then p else q) e k w t) h
 turned_round b false p q e k w t h = ap (λ (z : Bool). (if z then p else q) e k w t) h
 
@@ -145,17 +146,21 @@ module _
   module _ (e e' : Around) where
     -- from a place on the code does what the blocks do
     abbrev pub Does : (r n q : ℕ) → Type 0
-    Does r n q = (rest : List Linear) → behind q whole ≡ Some rest → (w : World) (t : Temps) → Simulates 1 r n (from bs 0 q e tt w t) (code (Mark q ∷ rest) e' tt w t)
+    Does r n q = (rest : List Linear) → behind q whole ≡ Some rest → (w : World) (t : Temps) → Simulates 1 r n (from bs 0 q e tt w t)
+        (code (Mark q ∷ rest) e' tt w t)
 
     module _ (r n : ℕ) (below : (m : ℕ) → m < n → (q : ℕ) → q < length bs → Does r m q) where
-      jumps_ahead : (q : ℕ) (rest : List Linear) → behind q whole ≡ Some rest → Does r n q → (w : World) (t : Temps) → Simulates 1 r n (from bs 0 q e tt w t) (jump_to after size floor room flat_goes whole (behind q whole) e' tt w t)
+      jumps_ahead : (q : ℕ) (rest : List Linear) → behind q whole ≡ Some rest → Does r n q → (w : World) (t : Temps) → Simulates 1 r n (from bs 0 q e tt w t)
+          (jump_to after size floor room flat_goes whole (behind q whole) e' tt w t)
       jumps_ahead q rest stands does w t =
           simulates_along 1 r n _ _ _ _ (λ i. refl) (λ i. ap (λ o. jump_to after size floor room flat_goes whole o e' tt w t i) stands)
           (simulates_turn_behind 1 r n (stops w.input WantsFuel) _ _
-          (simulates_along 1 r n _ _ _ _ (λ i. refl) (flat_code_steps after size floor room (record { whole = whole; rest = rest; around = e'; world = w; temps = t }))
+          (simulates_along 1 r n _ _ _ _ (λ i. refl) (flat_code_steps after size floor room
+          (record { whole = whole; rest = rest; around = e'; world = w; temps = t }))
           (works_less r n 1 _ _ (does rest stands w t))))
 
-      jumps_back : (q : ℕ) (rest : List Linear) → behind q whole ≡ Some rest → q < length bs → (w : World) (t : Temps) → Simulates 1 r n (return_to before size floor room blocks_go bs q e tt w t) (jump_to after size floor room flat_goes whole (behind q whole) e' tt w t)
+      jumps_back : (q : ℕ) (rest : List Linear) → behind q whole ≡ Some rest → q < length bs → (w : World) (t : Temps) → Simulates 1 r n
+          (return_to before size floor room blocks_go bs q e tt w t) (jump_to after size floor room flat_goes whole (behind q whole) e' tt w t)
       jumps_back q rest stands h w t =
           simulates_along 1 r n _ _ _ _ (λ i. refl) (λ i. ap (λ o. jump_to after size floor room flat_goes whole o e' tt w t i) stands)
           (simulates_turn 1 r n w.input _ _
@@ -164,11 +169,14 @@ module _
           (flat_code_steps after size floor room (record { whole = whole; rest = rest; around = e'; world = w; temps = t }))
           (works_less r m 1 _ _ (below m lt q h rest stands w t))))
 
-  module _ (n : ℕ) (calls : CallsSimulate 1 0 size floor entry_units entry_units (block_runner size floor room before) (flat_runner size floor room after) functions flat n) where
+  module _ (n : ℕ) (calls : CallsSimulate 1 0 size floor entry_units entry_units (block_runner size floor room before)
+      (flat_runner size floor room after) functions flat n) where
     enters :
-        (r label : ℕ) (vs : List ℕ) (top : ℕ) (back back' : Back) (w x : World) → OneWorld w x → ((v : ℕ) (y z : World) → OneWorld y z → Simulates 1 r n (back v y) (back' v z)) →
+        (r label : ℕ) (vs : List ℕ) (top : ℕ) (back back' : Back) (w x : World) → OneWorld w x →
+        ((v : ℕ) (y z : World) → OneWorld y z → Simulates 1 r n (back v y) (back' v z)) →
         Simulates 1 r n (enter_blocks before size floor room blocks_go label vs top back w) (enter_flat after size floor room flat_goes label vs top back' x)
-    enters r label vs top back back' w x (one v) h = simulates_with_credit 1 (r + 0) r n _ _ (omega arith) (calls label vs top back back' v r (λ u y. h u y y (one y)))
+    enters r label vs top back back' w x (one v) h = simulates_with_credit 1 (r + 0) r n _ _ (omega arith)
+        (calls label vs top back back' v r (λ u y. h u y y (one y)))
 
     no_loop : (r : ℕ) (x y : Point) → Alike (SameWork r) OneWorld OneTemps n x y → Simulates 1 r n (wrong x.world) (wrong y.world)
     no_loop r x y (alike s e e' g g' w v t u h l o q) = (keeps_simulating r).stop n Wrong w v o
@@ -178,19 +186,22 @@ module _
         around a out out' back back' (λ v w x t u o q. more_credit r 1 n _ _ (h v w x t u o q)) (λ v w x o. more_credit r 1 n _ _ (k v w x o))
 
     module _ (r : ℕ) (e e' : Around) (he : AlikeAround (SameWork r) OneWorld OneTemps n e e') where
-      from_one : (p q : Next) → ((w : World) (t : Temps) → Simulates 1 r n (p w t) (q w t)) → (w x : World) (t u : Temps) → OneWorld w x → OneTemps t u → Simulates 1 r n (p w t) (q x u)
+      from_one : (p q : Next) → ((w : World) (t : Temps) → Simulates 1 r n (p w t) (q w t)) → (w x : World) (t u : Temps) → OneWorld w x → OneTemps t u →
+          Simulates 1 r n (p w t) (q x u)
       from_one p q h w x t u (one v) (one s) = h v s
 
       -- an expression, and the statements of a body, before what does the same
       words_do :
           (x : Tx) (go go' : Go ℕ) → ((u : ℕ) (w : World) (t : Temps) → Simulates 1 r n (go u w t) (go' u w t)) → (w : World) (t : Temps) →
-          Simulates 1 r n (word_of before size floor room blocks_go x e go w t) (value Canonical room literals (enter_flat after size floor room flat_goes) (λ q. wrong q.world) x e' go' w t)
+          Simulates 1 r n (word_of before size floor room blocks_go x e go w t)
+          (value Canonical room literals (enter_flat after size floor room flat_goes) (λ q. wrong q.world) x e' go' w t)
       words_do x go go' h w t =
           keep_value (SameWork r) OneWorld OneTemps (keeps_simulating r) n Canonical room literals _ _ _ _ (enters r) (no_loop r) x e e' go go' he
           (λ v y z s u. from_one (go v) (go' v) (h v) y z s u) w w t t (one w) (one t)
 
       bodies_do :
-          (ss : Stms) (tail : List Linear) (next : Next) → ((w : World) (t : Temps) → Simulates 1 r n (next w t) (code tail e' tt w t)) → (w : World) (t : Temps) →
+          (ss : Stms) (tail : List Linear) (next : Next) → ((w : World) (t : Temps) → Simulates 1 r n (next w t) (code tail e' tt w t)) → (w : World)
+          (t : Temps) →
           Simulates 1 r n (run_within before size floor room blocks_go ss e next w t) (code (body_code ss ++ tail) e' tt w t)
       bodies_do no_stms tail next h w t = h w t
       bodies_do (stm s ss) tail next h w t =
@@ -204,12 +215,15 @@ module _
       module _
           (p : ℕ) (next : Option ℕ) (more : List Linear) (falls : (q : ℕ) → next ≡ Some q → Falls bs whole p more q)
           (ahead : (q : ℕ) → p < q → q < length bs → Does e e' r n q)
-          (jumps : (q : ℕ) → q < length bs → (w : World) (t : Temps) → Simulates 1 r n (choice p q e tt w t) (jump_to after size floor room flat_goes whole (behind q whole) e' tt w t)) where
-        fall : (q : ℕ) → next ≡ Some q → LeadsTo (block_at bs p).end q → q < length bs → (w : World) (t : Temps) → Simulates 1 r n (choice p q e tt w t) (code more e' tt w t)
+          (jumps : (q : ℕ) → q < length bs → (w : World) (t : Temps) → Simulates 1 r n (choice p q e tt w t)
+          (jump_to after size floor room flat_goes whole (behind q whole) e' tt w t)) where
+        fall : (q : ℕ) → next ≡ Some q → LeadsTo (block_at bs p).end q → q < length bs → (w : World) (t : Temps) → Simulates 1 r n (choice p q e tt w t)
+            (code more e' tt w t)
         fall q is leads h w t =
             let f = falls q is in
             let lt = f.ahead leads in
-            simulates_along 1 r n _ _ _ _ (λ i. ap (λ (a : Acts Last). a e tt w t i) (goes_ahead p q lt)) (λ i. ap (λ xs. code xs e' tt w t i) f.is) (ahead q lt h f.rest f.stands w t)
+            simulates_along 1 r n _ _ _ _ (λ i. ap (λ (a : Acts Last). a e tt w t i) (goes_ahead p q lt)) (λ i. ap (λ xs. code xs e' tt w t i) f.is)
+            (ahead q lt h f.rest f.stands w t)
 
         jump_or_fall :
             (b : Bool) (q : ℕ) → is_next next q ≡ b → LeadsTo (block_at bs p).end q → q < length bs → (w : World) (t : Temps) →
@@ -218,15 +232,18 @@ module _
         jump_or_fall false q is leads h w t = pays_less r n 1 1 _ _ (omega arith) (jumps q h w t)
 
         leads_branch :
-            (b : Bool) (rel : Rel) (x y : Tx) (i j : ℕ) → is_next next i ≡ b → LeadsTo (block_at bs p).end i → LeadsTo (block_at bs p).end j → i < length bs → j < length bs →
+            (b : Bool) (rel : Rel) (x y : Tx) (i j : ℕ) → is_next next i ≡ b → LeadsTo (block_at bs p).end i → LeadsTo (block_at bs p).end j →
+            i < length bs → j < length bs →
             (w : World) (t : Temps) →
-            Simulates 1 r n (finish before size floor room blocks_go (choice p) (Branch rel x y i j) e tt w t) (code (branch_by b next rel x y i j ++ more) e' tt w t)
+            Simulates 1 r n (finish before size floor room blocks_go (choice p) (Branch rel x y i j) e tt w t)
+            (code (branch_by b next rel x y i j ++ more) e' tt w t)
         leads_branch true rel x y i j is li lj hi hj w t =
             let more_he = more_around r e e' he in
             both_pay r n 3 2 _ _ (omega arith)
             (words_do (r + 1) e e' more_he x _ _ (λ u w1 t1. words_do (r + 1) e e' more_he y _ _ (λ v w2 t2.
             simulates_along 1 (r + 1) n _ _ _ _ (λ k. refl)
-            (λ k. ap (λ (c : Run Ran). c k) (turned_round (holds (opposite rel) u v) (holds rel u v) (jump_to after size floor room flat_goes whole (behind j whole)) (code more) e' tt w2 t2 (opposite_holds rel u v)))
+            (λ k. ap (λ (c : Run Ran). c k) (turned_round (holds (opposite rel) u v) (holds rel u v)
+            (jump_to after size floor room flat_goes whole (behind j whole)) (code more) e' tt w2 t2 (opposite_holds rel u v)))
             (keep_choice (SameWork (r + 1)) OneWorld OneTemps (keeps_simulating (r + 1)) n (holds rel u v) _ _ _ _ e e' tt tt w2 w2 t2 t2
             (more_credit r 1 n _ _ (fall i (next_is next i is) li hi w2 t2)) (more_credit r 1 n _ _ (jumps j hj w2 t2)))) w1 t1) w t)
         leads_branch false rel x y i j is li lj hi hj w t =
