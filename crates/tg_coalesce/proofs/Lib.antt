@@ -3,3 +3,5 @@ pub mod Sums
 pub mod Places
 pub mod Keeping
 pub mod Examples
+pub mod Listing
+pub mod Tabling
