@@ -5,3 +5,6 @@ pub mod Keeping
 pub mod Examples
 pub mod Listing
 pub mod Tabling
+pub mod Neighbouring
+pub mod Classing
+pub mod Selecting
