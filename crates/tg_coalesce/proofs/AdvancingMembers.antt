@@ -24,7 +24,7 @@ cond_bit : (b : Bool) → cond b 1 0 ≡ bit b
 cond_bit true = refl
 cond_bit false = refl
 
-pub count_cons : (p : ℕ → Bool) (x : ℕ) (xs : List ℕ) → count_by p (x ∷ xs) ≡ bit (p x) + count_by p xs
+pub count_cons : {A : Type 0} (p : A → Bool) (x : A) (xs : List A) → count_by p (x ∷ xs) ≡ bit (p x) + count_by p xs
 count_cons p x xs =
     let one = sum_by-cons (λ y. cond (p y) 1 0) x xs in
     let b = cond_bit (p x) in
