@@ -1,5 +1,5 @@
 -- What is kept of each grouping of nodes is so at the start, and a merge keeps it.
-use Rattle.std.proofs.Common.{◌≡◌, ℕ, ◌+◌, ◌<◌, ◌≤◌, ◌^◌, List, [], ◌∷◌, length, get_or, set, map, refl, sym, ap, ◌∙◌, subst, ⊎_elim, arith}
+use Rattle.std.proofs.Common.{◌≡◌, ℕ, ◌+◌, ◌<◌, ◌≤◌, ◌^◌, Bool, List, [], ◌∷◌, length, get_or, set, map, refl, sym, ap, ◌∙◌, subst, ⊎_elim, arith}
 use Rattle.std.specs.Prelude.{sum, fold}
 use Rattle.std.specs.List.{All, range_with_len}
 use Rattle.std.proofs.lemmas.Bool.{cases_lt}
@@ -85,3 +85,12 @@ module _ (c : Grouping) (k : IsGrouping c) (kept gone : ℕ) where
             let same = sum_moved kept gone c.uses (omega (arith, l, k.uses_sized)) (omega (arith, m, k.uses_sized)) in
             omega (arith, same, k.few);
       }
+
+-- the parts of a grouping, where they are these
+pub same_grouping : (c : Grouping) → IsGrouping c → (aliases : List ℕ) (members : List (List ℕ)) (uses : List ℕ)
+    (made : List Bool) → aliases ≡ c.aliases → members ≡ c.members → uses ≡ c.uses → made ≡ c.made →
+    IsGrouping (record { aliases = aliases; members = members; uses = uses; made = made })
+same_grouping c k aliases members uses made p q r s = subst IsGrouping (sym same) k
+  where
+    same : record { aliases = aliases; members = members; uses = uses; made = made } ≡ c
+    same = λ i. record { aliases = p i; members = q i; uses = r i; made = s i }

@@ -263,3 +263,13 @@ module _ (t u : Table) (xs : List ℕ) (n i : ℕ) (l : n < length xs) (at : i �
       sym (cond-false (is_waiting (state_at u i)) (record u { states = set u.states i Ready; ready = u.ready ++ i ∷ [] }) u w)
       ∙ (ap (tried_again u) at
       ∙ (ap (λ (v : Table). tried_again v (get_or xs n 0)) so_far ∙ sym (fold_more tried_again t xs n 0 l)))
+
+-- the parts of a table, where they are these
+pub same_table : (t : Table) → IsTable t → (moves : List Move) (states : List MoveState) (ready : List ℕ)
+    (touching : List (List ℕ)) (unsettled : List ℕ) → moves ≡ t.moves → states ≡ t.states → ready ≡ t.ready →
+    touching ≡ t.touching → unsettled ≡ t.unsettled →
+    IsTable (record { moves = moves; states = states; ready = ready; touching = touching; unsettled = unsettled })
+same_table t k moves states ready touching unsettled a b c d e = subst IsTable (sym same) k
+  where
+    same : record { moves = moves; states = states; ready = ready; touching = touching; unsettled = unsettled } ≡ t
+    same = λ i. record { moves = a i; states = b i; ready = c i; touching = d i; unsettled = e i }

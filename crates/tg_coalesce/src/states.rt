@@ -11,10 +11,9 @@ ghost use Rattle.std.specs.Prelude.{
   slice_index,
   sum,
 };
-ghost use Rattle.tg_graph.specs.Interference.{colours, most_nodes};
+ghost use Rattle.tg_graph.specs.Interference.{colours, IsGraph, most_nodes};
 ghost use Rattle.tg_graph.specs.Interference as graphs;
 ghost use Rattle.tg_coalesce.specs.Lists.{lowered};
-ghost use Rattle.tg_coalesce.specs.Standing.{HasNeighbours};
 ghost use Rattle.tg_coalesce.specs.Works as works;
 ghost use Rattle.tg_coalesce.specs.Works.{
   awake_around,
@@ -99,7 +98,7 @@ impl Coalescer {
         ensures value { IfOk result (λ w. w ≡ started graph moves.now marks.now) }
         ensures low { colours ≤ graph.nodes }
         ensures few { graph.nodes ≤ most_nodes }
-        ensures neighbours { OnOk result (HasNeighbours graph) }
+        ensures graph { IsGraph graph }
     {
         let nodes = graph.nodes();
         let mut work = Coalescer {
@@ -233,14 +232,13 @@ fn holds_high(list: Worklist) -> bool
     }
 }
 
-/// The degree of each temporary, and 0 for each register. On the way it reads all neighbours.
+/// The degree of each temporary, and 0 for each register.
 fn degrees_of(alloc: Global, graph: &Graph) -> Result<Vec<u32>, Memory>
-    ensures value { IfOk result (λ v. v.items ≡ works.first_degrees graph.now) }
-    ensures neighbours { OnOk result (HasNeighbours graph.now) }
+    ensures { IfOk result (λ v. v.items ≡ works.first_degrees graph.now) }
 {
     let mut degrees = vec![in alloc; 0u32; COLOURS as usize]?;
     for node in COLOURS..graph.nodes() {
-        degrees.push(graph.neighbours(node).len() as u32)?;
+        degrees.push(graph.degree(node))?;
     }
     Ok(degrees)
 }
