@@ -65,7 +65,7 @@ module _ (w : Work) (h : IsOrderly w) (x : ℕ) (l : x < w.graph.nodes) (o : is_
       let q = still_left z p.1 in
       (q.0, and_true p.0 q.1)
 
-  out_fixed : (z : ℕ) → z < w.graph.nodes → is_among z out.lists.fixed ≡ is_register z
+  pub out_fixed : (z : ℕ) → z < w.graph.nodes → is_among z out.lists.fixed ≡ is_register z
   out_fixed z k =
       ⊎_elim
       (λ (p : z ≡ x). subst (λ y. is_among y out.lists.fixed ≡ is_register y) (sym p)
