@@ -112,10 +112,10 @@ module _ (w : Work) (k : IsKept w) (i : ℕ) (l : i < length w.moves.moves) (u :
   abbrev pub built : Lists → Work
   built lists = record w { lists = lists; moves = table_after }
 
-  here : state_at table_after i ≡ state
+  pub here : state_at table_after i ≡ state
   here = get_or-set_same w.moves.states i state Ready (subst (λ n. i < n) (sym k.table.states_sized) l)
 
-  there : (j : ℕ) → j ≢ i → state_at table_after j ≡ state_at w.moves j
+  pub there : (j : ℕ) → j ≢ i → state_at table_after j ≡ state_at w.moves j
   there j d = get_or-set_other w.moves.states i j state Ready d
 
   pub told_after : (j : ℕ) → as_told (state_at table_after j) ≡ (if j == i then state else as_told (state_at w.moves j))
