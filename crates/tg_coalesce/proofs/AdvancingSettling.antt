@@ -74,7 +74,7 @@ count_split p q r h (x ∷ xs) =
 
 -- Last states.
 
-told_last : (s : MoveState) → is_ready_or_waiting s ≡ false → as_told s ≡ s
+pub told_last : (s : MoveState) → is_ready_or_waiting s ≡ false → as_told s ≡ s
 told_last Ready e = cc
 told_last Waiting e = cc
 told_last Coalesced e = refl
