@@ -39,9 +39,10 @@ listed_is n xs f sized each =
     same_lists xs (map f (range_with_len 0 n))
     (sized ∙ sym (length-map (range_with_len 0 n) f ∙ length-range_with_len 0 n))
     (λ k d l. let b = subst (λ m. k < m) sized l in
+    let from_zero : 0 + k ≡ k = omega arith in
     each k d b
     ∙ sym (get_or-map f (range_with_len 0 n) k 0 d (subst (λ m. k < m) (sym (length-range_with_len 0 n)) b)
-    ∙ ap f (get_or-range_with_len 0 n k 0 b)))
+    ∙ ap f (get_or-range_with_len 0 n k 0 b ∙ from_zero)))
 
 is_nil : (xs : List ℕ) → is_empty xs ≡ true → xs ≡ []
 is_nil xs e = nil_from_length xs (same_node (length xs) 0 e)

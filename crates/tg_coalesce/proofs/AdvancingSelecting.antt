@@ -1,5 +1,5 @@
 -- The colours that the code selects over the merged graph are those of the definition.
-use Rattle.std.proofs.Common.{◌≡◌, ◌≢◌, ℕ, ◌+◌, ◌<◌, ◌≤◌, Bool, true, false, not, ◌&&◌, ◌||◌, ◌⊎◌, List, [], ◌∷◌, ◌++◌, length, map, get_or, set, All, Option, Some, None, reverse, cond, refl, sym, ap, subst, ◌∙◌, arith, ⊎_elim}
+use Rattle.std.proofs.Common.{◌≡◌, ◌≢◌, ℕ, ◌+◌, ◌-◌, ◌<◌, ◌≤◌, Bool, true, false, not, ◌&&◌, ◌||◌, ◌⊎◌, List, [], ◌∷◌, ◌++◌, length, map, get_or, set, All, Option, Some, None, reverse, cond, refl, sym, ap, subst, ◌∙◌, arith, ⊎_elim}
 use Rattle.std.specs.Prelude.{◌==◌, nat_eq, nat_lt, filter, find, fold, is_none, if◌then◌else◌}
 use Rattle.std.specs.List.{list_any, range_with_len}
 use Rattle.std.proofs.lemmas.Bool.{cases_eq, cases_lt, cond-true, cond-false}
@@ -54,14 +54,17 @@ module _ (g : Problem) (w : Work) (h : IsOrderly w) (run : IsRunOf g w) where
     colours = λ x l.
         get_or-map own_colour (range_with_len 0 w.graph.nodes) x 0 None
         (subst (λ n. x < n) (sym (length-range_with_len 0 w.graph.nodes)) l)
-        ∙ ap own_colour (get_or-range_with_len 0 w.graph.nodes x 0 l);
+        ∙ ap own_colour (get_or-range_with_len 0 w.graph.nodes x 0 l ∙ from_zero x);
     spilled = refl;
-    own = λ x k l e. by x l (tells (is_register x)) e;
+    own = λ x k l e. by x k l (tells (is_register x)) e;
   }
     where
-      by : (x : ℕ) → x < w.graph.nodes → (is_register x ≡ true) ⊎ (is_register x ≡ false) → {k : ℕ} →
+      from_zero : (x : ℕ) → 0 + x ≡ x
+      from_zero x = omega arith
+
+      by : (x k : ℕ) → x < w.graph.nodes → (is_register x ≡ true) ⊎ (is_register x ≡ false) →
           has_colour (if is_register x then Some x else None) k ≡ true → s.alias x ≡ x
-      by x l t {k} e =
+      by x k l t e =
           ⊎_elim
           (λ (r : is_register x ≡ true). (holds g w run).classes.remaining_is_own x (in_problem x l)
           ((holds g w run).classes.register_remains x (in_problem x l) r))
