@@ -130,7 +130,7 @@ module _ (w : Work) (h : IsOrderly w) where
   ready_few = length-le_from_distinct_below w.moves.ready (length w.moves.moves) h.ready.distinct
       (λ i e. all_among (λ j. j < length w.moves.moves) i w.moves.ready h.table.ready_below e)
 
-  left_is : left_to_do w ≡
+  pub left_is : left_to_do w ≡
       work_left (shown w) (state_of w) * (length w.moves.moves + 1) + length w.moves.ready
   left_is =
       ap (λ n. (n + count_by is_ready_or_waiting w.moves.states) * (length w.moves.moves + 1) + length w.moves.ready)
