@@ -130,7 +130,7 @@ module _ (w : Work) (h : IsOrderly w) where
   ready_few = length-le_from_distinct_below w.moves.ready (length w.moves.moves) h.ready.distinct
       (λ i e. all_among (λ j. j < length w.moves.moves) i w.moves.ready h.table.ready_below e)
 
-  left_is : left_to_do w ≡
+  pub left_is : left_to_do w ≡
       work_left (shown w) (state_of w) * (length w.moves.moves + 1) + length w.moves.ready
   left_is =
       ap (λ n. (n + count_by is_ready_or_waiting w.moves.states) * (length w.moves.moves + 1) + length w.moves.ready)
@@ -141,22 +141,31 @@ module _ (w : Work) (h : IsOrderly w) where
 smaller : (a b m r q : ℕ) → a < b → r ≤ m → a * (m + 1) + r < b * (m + 1) + q
 smaller a b m r q l k = grind arith
 
--- each step leaves less to do
+-- less is left of the round, so of the work
+pub less_left : (w v : Work) → IsOrderly w → IsOrderly v → v.graph.nodes ≡ w.graph.nodes →
+    v.moves.moves ≡ w.moves.moves → work_left (shown w) (state_of v) < work_left (shown w) (state_of w) →
+    left_to_do v < left_to_do w
+less_left w v h k nodes moves less =
+    let same : work_left (shown v) (state_of v) ≡ work_left (shown w) (state_of v) =
+    ap (λ n. count (λ x. nat_lt x n && (state_of v).remaining x && not (is_register x)) n
+    + count (states.is_unsettled (shown v) (state_of v)) (length v.moves.moves)) nodes
+    ∙ ap (λ (ms : List Move). count (λ x. nat_lt x w.graph.nodes && (state_of v).remaining x && not (is_register x))
+    w.graph.nodes + count (λ i. nat_lt i (length ms) && is_ready_or_waiting ((state_of v).states i)) (length ms)) moves
+    in
+    let few : length v.moves.ready ≤ length w.moves.moves = omega (arith, ready_few v k, ap length moves) in
+    let small = smaller (work_left (shown v) (state_of v)) (work_left (shown w) (state_of w)) (length w.moves.moves)
+    (length v.moves.ready) (length w.moves.ready) (omega (arith, less, same)) few in
+    subst (λ n. n < left_to_do w)
+    (sym (left_is v k ∙ ap (λ (ms : List Move). work_left (shown v) (state_of v) * (length ms + 1)
+    + length v.moves.ready) moves))
+    (subst (λ n. work_left (shown v) (state_of v) * (length w.moves.moves + 1) + length v.moves.ready < n)
+    (sym (left_is w h)) small)
+
+-- as after each step
 pub goes_less : (w v : Work) (step : Step) → IsOrderly w → IsOrderly v → v.graph.nodes ≡ w.graph.nodes →
     v.moves.moves ≡ w.moves.moves → can (shown w) (state_of w) step ≡ true →
     state_of v ≡ after (shown w) (state_of w) step → left_to_do v < left_to_do w
 goes_less w v step h k nodes moves c e =
-    let less = steps_shrink (shown w) (state_of w) step c in
-    let same : work_left (shown v) (state_of v) ≡ work_left (shown w) (after (shown w) (state_of w) step) =
-    ap (λ n. count (λ x. nat_lt x n && (state_of v).remaining x && not (is_register x)) n
-    + count (states.is_unsettled (shown v) (state_of v)) (length v.moves.moves)) nodes
-    ∙ (ap (λ (ms : List Move). count (λ x. nat_lt x w.graph.nodes && (state_of v).remaining x && not (is_register x))
-    w.graph.nodes + count (λ i. nat_lt i (length ms) && is_ready_or_waiting ((state_of v).states i)) (length ms)) moves
-    ∙ ap (work_left (shown w)) e) in
-    let fewer : work_left (shown v) (state_of v) < work_left (shown w) (state_of w) = omega (arith, less, same) in
-    let few : length v.moves.ready ≤ length w.moves.moves = omega (arith, ready_few v k, ap length moves) in
-    let small = smaller (work_left (shown v) (state_of v)) (work_left (shown w) (state_of w)) (length w.moves.moves)
-    (length v.moves.ready) (length w.moves.ready) fewer few in
-    subst (λ n. n < left_to_do w) (sym (left_is v k ∙ ap (λ (ms : List Move). work_left (shown v) (state_of v) * (length ms + 1) + length v.moves.ready) moves))
-    (subst (λ n. work_left (shown v) (state_of v) * (length w.moves.moves + 1) + length v.moves.ready < n)
-    (sym (left_is w h)) small)
+    less_left w v h k nodes moves
+    (subst (λ s. work_left (shown w) s < work_left (shown w) (state_of w)) (sym e)
+    (steps_shrink (shown w) (state_of w) step c))

@@ -1,6 +1,6 @@
 -- Simplify.
 use Rattle.std.proofs.Common.{◌≡◌, ◌≢◌, ℕ, ◌+◌, ◌<◌, ◌≤◌, Bool, true, false, not, ◌&&◌, ◌||◌, List, length, refl, sym, ap, subst, ◌∙◌, arith}
-use Rattle.std.specs.Prelude.{◌==◌, nat_lt, fold, IsFalse}
+use Rattle.std.specs.Prelude.{◌==◌, nat_lt, IsFalse}
 use Rattle.tg_rounds.specs.declared.moves.MoveState.{MoveState}
 use Rattle.tg_rounds.specs.declared.steps.Step.TheVariants.{Simplify}
 use Rattle.tg_rounds.specs.States.{Problem}
@@ -12,47 +12,22 @@ use Rattle.tg_rounds.proofs.Waiting.{waiting_fails}
 use Rattle.tg_graph.specs.declared.worklists.Worklist.TheVariants as worklists
 use Rattle.tg_graph.specs.Interference.{is_among, is_register, neighbours}
 use Rattle.tg_graph.specs.Lists.{Lists, number}
-use Rattle.tg_graph.proofs.Joining.{either_way, stays_below}
+use Rattle.tg_graph.proofs.Joining.{either_way}
 use Rattle.tg_coalesce.specs.Lists.{list_at}
 use Rattle.tg_coalesce.specs.Tables.{state_at, is_waiting, is_related}
 use Rattle.tg_coalesce.specs.Works.{Work, degree_at, is_open, list_of, stepped, to, from}
-use Rattle.tg_coalesce.specs.Steps.{bereft, taken_out, simplified}
+use Rattle.tg_coalesce.specs.Steps.{simplified}
 use Rattle.tg_coalesce.specs.Standing.{shown, state_of, IsOrderly, IsRunOf}
 use Rattle.tg_coalesce.specs.Advancing.{Advances, SimplifyAdvances}
 use Rattle.tg_coalesce.proofs.AdvancingMembers.{among_first}
-use Rattle.tg_coalesce.proofs.AdvancingLosing.{IsBereft, changed, bereft_all}
+use Rattle.tg_coalesce.proofs.AdvancingLosing.{IsBereft}
 use Rattle.tg_coalesce.proofs.AdvancingOrder.{to_below, from_below, to_same, from_same, listed_ends}
 use Rattle.tg_coalesce.proofs.AdvancingPossible.{moves_of, IsIn, in_list, for_simplify, is_simplify, simplify_told, with_parts, at_problem}
 use Rattle.tg_coalesce.proofs.AdvancingMeasure.{goes_less}
 use Rattle.tg_coalesce.proofs.AdvancingRuns.{goes_on}
-use Rattle.tg_coalesce.proofs.AdvancingTaking.{out, built, temporary, out_fixed, state_taken, orderly_taken, none_turned}
+use Rattle.tg_coalesce.proofs.AdvancingTaking.{out, built, state_taken, orderly_taken, none_turned}
+use Rattle.tg_coalesce.proofs.AdvancingRemoving.{built_same, built_bereft}
 use Rattle.tg_coalesce.proofs.AdvancingSteps.{orderly_stepped, taken}
-
--- the neighbours of a node that is taken out have one less
-module _ (w : Work) (h : IsOrderly w) (x : ℕ) (l : x < w.graph.nodes) (o : is_open w x ≡ true)
-    (alone : is_related w.moves x ≡ false) where
-  abbrev after_all : Work
-  after_all = fold bereft (out w h x l o alone) (neighbours w.graph x)
-
-  all : IsBereft (out w h x l o alone) after_all (λ z. is_among z (neighbours w.graph x))
-  all =
-      bereft_all (out w h x l o alone) (neighbours w.graph x) (h.graph.distinct x)
-      (λ y e. let k = stays_below w.graph x y h.graph (temporary w h x l o alone) l
-      (sym (h.graph.exact x y (temporary w h x l o alone)) ∙ e) in
-      (subst (λ n. y < n) (sym h.sized.lists) k, out_fixed w h x l o alone y k))
-
-  abbrev pub built_after : Work
-  built_after =
-      built w h x l o alone after_all.lists after_all.degrees after_all.moves.states after_all.moves.ready
-
-  pub built_same : taken_out x w ≡ built_after
-  unfolding taken_out
-  built_same = all.same ∙ ap (changed (out w h x l o alone) after_all.lists after_all.degrees) all.moves.same
-
-  pub built_bereft : IsBereft (out w h x l o alone) built_after (λ z. is_among z (neighbours w.graph x))
-  built_bereft =
-      subst (λ v. IsBereft (out w h x l o alone) v (λ z. is_among z (neighbours w.graph x)))
-      (all.same ∙ ap (changed (out w h x l o alone) after_all.lists after_all.degrees) all.moves.same) all
 
 module _ (x : ℕ) (w : Work) (h : IsOrderly w) (l : x < w.graph.nodes) (o : is_open w x ≡ true)
     (place : (1 == number (list_of w x)) ≡ true) where

@@ -6,7 +6,7 @@ use Rattle.std.proofs.lemmas.List.{reverse-append}
 use Rattle.std.proofs.lemmas.List.Elements.{All-push}
 use Rattle.tg_rounds.specs.declared.moves.MoveState.{MoveState}
 use Rattle.tg_rounds.specs.Graphs.{bit, some, without}
-use Rattle.tg_rounds.specs.States.{State, remains, low, is_ready_or_waiting}
+use Rattle.tg_rounds.specs.States.{State, remains, low}
 use Rattle.tg_rounds.specs.Steps.{take_out, can_move}
 use Rattle.tg_rounds.specs.Laws.{is_stacked}
 use Rattle.tg_rounds.specs.Degrees.{degree_of}
@@ -24,7 +24,7 @@ use Rattle.tg_coalesce.specs.Works.{Work, degree_at, is_left, is_open, list_of}
 use Rattle.tg_coalesce.specs.Tables as tables
 use Rattle.tg_coalesce.specs.Standing.{as_told, shown, state_of, IsOrderly, HasDegrees, IsPlaced, HasEnds, HasReady}
 use Rattle.tg_coalesce.proofs.AdvancingMembers.{is_bit}
-use Rattle.tg_coalesce.proofs.AdvancingWaking.{IsQueue, requeued, told_open}
+use Rattle.tg_coalesce.proofs.AdvancingWaking.{IsQueue, requeued, woken_unsettled}
 use Rattle.tg_coalesce.proofs.AdvancingListing.{IsListed, moved_it, moved_other, shifted_left}
 use Rattle.tg_coalesce.proofs.AdvancingLosing.{IsBereft, changed}
 use Rattle.tg_coalesce.proofs.AdvancingOrder.{open_remains, remains_open, left_remains}
@@ -65,7 +65,7 @@ module _ (w : Work) (h : IsOrderly w) (x : ℕ) (l : x < w.graph.nodes) (o : is_
       let q = still_left z p.1 in
       (q.0, and_true p.0 q.1)
 
-  out_fixed : (z : ℕ) → z < w.graph.nodes → is_among z out.lists.fixed ≡ is_register z
+  pub out_fixed : (z : ℕ) → z < w.graph.nodes → is_among z out.lists.fixed ≡ is_register z
   out_fixed z k =
       ⊎_elim
       (λ (p : z ≡ x). subst (λ y. is_among y out.lists.fixed ≡ is_register y) (sym p)
@@ -167,16 +167,11 @@ module _ (w : Work) (h : IsOrderly w) (x : ℕ) (l : x < w.graph.nodes) (o : is_
       listed = λ z k e list. b.listed z (out_listed z k) e list;
     }
 
-    unsettled_told : (j : ℕ) → is_unsettled v.moves j ≡ is_unsettled w.moves j
-    unsettled_told j =
-        sym (told_open (state_at v.moves j))
-        ∙ (ap is_ready_or_waiting (b.moves.told j) ∙ told_open (state_at w.moves j))
-
     ends_taken : HasEnds v
     ends_taken = record {
       listed = h.ends.listed;
       counted = λ z k. h.ends.counted z k ∙ sym (ap (λ f. count_by f (list_at w.moves.touching z))
-          (λ i j. unsettled_told j i));
+          (λ i j. woken_unsettled w.moves v.moves b.moves j i));
       left = λ z k r.
           left_out z
           ∙ (out_there z (λ p. clash (subst (λ y. tables.is_related w.moves y ≡ true) p r) alone) ∙ h.ends.left z k r);

@@ -23,3 +23,13 @@ pub mod StartingEnds
 pub mod Starting
 pub mod StartingRun
 pub mod Stepping
+pub mod AdvancingKept
+pub mod AdvancingRemoving
+pub mod AdvancingSettling
+pub mod AdvancingFreezing
+pub mod AdvancingFreeze
+pub mod AdvancingRousing
+pub mod AdvancingChoosing
+pub mod AdvancingSpill
+pub mod AdvancingSelecting
+pub mod AdvancingDone
