@@ -273,3 +273,7 @@ same_table t k moves states ready touching unsettled a b c d e = subst IsTable (
   where
     same : record { moves = moves; states = states; ready = ready; touching = touching; unsettled = unsettled } ≡ t
     same = λ i. record { moves = a i; states = b i; ready = c i; touching = d i; unsettled = e i }
+
+pub all_woken_touching : (xs : List ℕ) (t : Table) → (fold (λ u y. woken y u) t xs).touching ≡ t.touching
+all_woken_touching [] t = refl
+all_woken_touching (y ∷ xs) t = all_woken_touching xs (woken y t) ∙ all_again_touching (list_at t.touching y) t

@@ -20,6 +20,7 @@ ghost use Rattle.tg_coalesce.specs.Works.{
   from,
   is_high,
   is_left,
+  is_open,
   list_of,
   relisted,
   settled,
@@ -124,6 +125,14 @@ impl Coalescer {
         holds_remaining(self.lists.place_of(node))
     }
 
+    /// Whether a node is a temporary that remains.
+    pub(crate) fn is_open(&self, node: u32) -> bool
+        requires { node < self.now.graph.nodes }
+        ensures { result ≡ is_open self.now node }
+    {
+        !is_register(node) && self.remains(node)
+    }
+
     /// Whether a node that remains is a register or has as many neighbours as there are colours.
     pub(crate) fn is_high(&self, node: u32) -> bool
         requires { node < self.now.graph.nodes }
@@ -151,7 +160,7 @@ impl Coalescer {
         requires { node < self.old.graph.nodes }
         ensures { self.new ≡ relisted node self.old }
     {
-        if !is_register(node) && self.remains(node) {
+        if self.is_open(node) {
             let list = self.list_of(node);
             self.lists.move_to(node, list);
         }
@@ -197,8 +206,9 @@ impl Coalescer {
         requires temporary { colours ≤ node }
         ensures { OnOk result (self.new ≡ awake_around node self.old) }
     {
-        for other in self.graph.neighbours(node) {
-            self.moves.wake(*other)?;
+        for place in 0..self.graph.degree(node) {
+            let other = self.graph.neighbours(node)[place as usize];
+            self.moves.wake(other)?;
         }
         Ok(())
     }

@@ -1,7 +1,4 @@
-use Rattle.std.proofs.Common.{◌≡◌, ◌<◌, length, All, sym, ap, subst, ◌∙◌, arith}
-use Rattle.std.proofs.lemmas.List.{length-map}
-use Rattle.tg_graph.specs.Keeping.{lists_of}
-use Rattle.tg_coalesce.specs.Lists.{list_at}
+use Rattle.std.proofs.Common.{ℕ, List, length, get_or, sym, ap, ◌∙◌, arith}
 use Rattle.tg_coalesce.specs.Tables.{Table}
 use Rattle.tg_coalesce.proofs.Vectors.{list_read, lists_sized}
 use Rattle.tg_coalesce.proofs.tables.MoveTable.touching.Goals as goal
@@ -13,4 +10,5 @@ returns-clause-within c =
     let few = ap (λ (t : Table). length t.moves) c.self.view_is in
     let read = list_read inside.touching.items c.args.class c.index.result.now (omega (arith, size, c.requires))
     c.index.ensures ∙ sym c.as_slice.ensures.value in
-    λ k d l. let below = c.self.invariant.touching_below c.args.class k d (omega (arith, ap length read, l)) in ?
+    λ k d l. let below = c.self.invariant.touching_below c.args.class k d (omega (arith, ap length read, l)) in
+    let same = ap (λ (xs : List ℕ). get_or xs k d) read in omega (arith, same, below, few)
