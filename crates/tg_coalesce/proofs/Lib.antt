@@ -3,3 +3,10 @@ pub mod Sums
 pub mod Places
 pub mod Keeping
 pub mod Examples
+pub mod Folds
+pub mod Left
+pub mod Stepping
+pub mod Edges
+pub mod Ends
+pub mod Counters
+pub mod Candidates
