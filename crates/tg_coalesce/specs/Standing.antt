@@ -3,14 +3,17 @@ use Rattle.std.specs.Prelude.{◌≡◌, ℕ, ◌+◌, ◌*◌, ◌<◌, ◌≤�
 use Rattle.std.specs.Prelude.{IsTrue, IsFalse, List, [], length, map, reverse, count_by, sum_by}
 use Rattle.std.specs.Prelude.{slice_index, slice_index_or}
 use Rattle.std.specs.List.{IsDistinct}
+use Rattle.tg_graph.specs.declared.worklists.Worklist.{Worklist}
+use Rattle.tg_graph.specs.Interference as graphs
 use Rattle.tg_graph.specs.Interference.{Interference, colours, is_register, is_among}
 use Rattle.tg_graph.specs.Interference.{interferes, most_nodes, neighbours}
+use Rattle.tg_graph.specs.Lists.{nodes_in, number}
 use Rattle.tg_graph.specs.Laws.{ArePartition}
 use Rattle.tg_rounds.specs.declared.moves.MoveState.{MoveState}
 use Rattle.tg_rounds.specs.declared.moves.MoveState.TheVariants.{Ready, Waiting}
 use Rattle.tg_rounds.specs.declared.rounds.Round.{Round}
 use Rattle.tg_rounds.specs.Graphs.{Graph, IsGraph, bit}
-use Rattle.tg_rounds.specs.States.{Problem, problem, State, start, remains, low, is_move_related}
+use Rattle.tg_rounds.specs.States.{Problem, problem, State, start, remains}
 use Rattle.tg_rounds.specs.States.{members, mark_at, all_made, is_ready_or_waiting}
 use Rattle.tg_rounds.specs.Steps.{can_move, AreTaken, after_all}
 use Rattle.tg_rounds.specs.Laws.{AreNodes, is_stacked}
@@ -18,7 +21,7 @@ use Rattle.tg_rounds.specs.Degrees.{degree_of}
 use Rattle.tg_coalesce.specs.Lists.{list_at}
 use Rattle.tg_coalesce.specs.Groupings.{IsGrouping, is_made}
 use Rattle.tg_coalesce.specs.Tables.{IsTable, state_at, is_unsettled, is_related, is_waiting}
-use Rattle.tg_coalesce.specs.Works.{Work, degree_at, alias_of, is_left, to, from}
+use Rattle.tg_coalesce.specs.Works.{Work, degree_at, alias_of, is_left, is_open, list_of, to, from}
 use Rattle.tg_coalesce.specs.Selecting.{Picks, colour_at, selected}
 
 -- the graph as a round sees it
@@ -67,27 +70,19 @@ module _ (w : Work) where
         IsTrue (remains (shown w) (state_of w) x) →
         degree_at w x ≡ degree_of (shown w) (state_of w) x
 
-  -- each node is in the list where it belongs
+  -- each node is in the list where it belongs, a temporary that remains by its degree and its moves
   pub record IsPlaced : Type 0 where
     pub partition : ArePartition w.lists
     pub fixed : (x : ℕ) → x < w.graph.nodes → is_among x w.lists.fixed ≡ is_register x
     pub stack_below : All (λ x. (colours ≤ x) × (x < w.graph.nodes)) w.stack
     pub stacked :
         (x : ℕ) → x < w.graph.nodes → is_among x w.lists.stacked ≡ is_stacked (state_of w) x
-    pub simplify :
+    pub listed :
         (x : ℕ) →
-        IsTrue (remains (shown w) (state_of w) x) →
-        is_among x w.lists.simplify ≡
-        (low (shown w) (state_of w) x && not (is_move_related (shown w) (state_of w) x))
-    pub freeze :
-        (x : ℕ) →
-        IsTrue (remains (shown w) (state_of w) x) →
-        is_among x w.lists.freeze ≡
-        (low (shown w) (state_of w) x && is_move_related (shown w) (state_of w) x)
-    pub spill :
-        (x : ℕ) →
-        IsTrue (remains (shown w) (state_of w) x) →
-        is_among x w.lists.spill ≡ not (low (shown w) (state_of w) x)
+        x < w.graph.nodes →
+        IsTrue (is_open w x) →
+        (l : Worklist) →
+        is_among x (nodes_in w.lists l) ≡ (number l == number (list_of w x))
 
   -- the members listed of a class are those that stand under it, each once
   pub record HasMembers : Type 0 where
@@ -134,7 +129,7 @@ module _ (w : Work) where
     pub sized : IsSized w
     pub grouping : IsGrouping w.classes
     pub table : IsTable w.moves
-    pub neighbours : HasNeighbours w.graph
+    pub graph : graphs.IsGraph w.graph
     pub degrees : HasDegrees
     pub placed : IsPlaced
     pub members : HasMembers
