@@ -1,35 +1,28 @@
 -- Counters of degrees that are not 0.
-use Rattle.std.proofs.Common.{◌≡◌, ℕ, ◌<◌, ◌≤◌, Bool, true, not, ◌&&◌, List, [], ◌∷◌, sym, ◌∙◌, subst, ⊎_elim, arith}
-use Rattle.std.specs.Prelude.{nat_eq, nat_lt, All}
-use Rattle.std.proofs.lemmas.Bool.{and_from, and_parts, eqb-true, false≢true, lt-ltb, or_cases}
-use Rattle.std.proofs.lemmas.List.Elements.{All-head, All-tail}
-use Rattle.tg_graph.specs.Interference.{colours, interferes, is_among, is_register, neighbours}
+use Rattle.std.proofs.Common.{◌≡◌, ℕ, ◌<◌, ◌≤◌, Bool, true, not, ◌&&◌, sym, ◌∙◌, arith}
+use Rattle.std.specs.Prelude.{nat_lt}
+use Rattle.std.proofs.lemmas.Bool.{and_from, and_parts, lt-ltb}
+use Rattle.tg_graph.specs.Interference.{IsGraph, colours, interferes, is_among, is_register, neighbours}
+use Rattle.tg_graph.proofs.Joining.{stays_below}
 use Rattle.tg_rounds.proofs.Counting.{count_out}
 use Rattle.tg_coalesce.specs.Works.{Work, degree_at, is_left, is_open}
-use Rattle.tg_coalesce.specs.Standing.{HasDegrees, HasNeighbours}
+use Rattle.tg_coalesce.specs.Standing.{HasDegrees}
 use Rattle.tg_coalesce.proofs.Edges.{interferes_either_way}
-
--- a node below a bound by those of a list
-pub below_by : (z n : ℕ) (xs : List ℕ) → All (λ y. y < n) xs → is_among z xs ≡ true → z < n
-below_by z n [] h p = absurd (false≢true p)
-below_by z n (x ∷ xs) h p =
-    ⊎_elim (λ e. subst (λ y. y < n) (sym (eqb-true z x e)) (All-head (λ y. y < n) x xs h))
-    (λ e. below_by z n xs (All-tail (λ y. y < n) x xs h) e)
-    (or_cases (nat_eq z x) (is_among z xs) p)
 
 all_true : (a b c : Bool) → a ≡ true → b ≡ true → c ≡ true → (a && (a && b) && c) ≡ true
 all_true a b c p q r = rw (p, q, r)
 
 -- a temporary that remains has a neighbour where it is next to a node that is left
-pub has_neighbour : (w : Work) (x z : ℕ) → HasNeighbours w.graph → HasDegrees w → colours ≤ x → x < w.graph.nodes →
+pub has_neighbour : (w : Work) (x z : ℕ) → IsGraph w.graph → HasDegrees w → colours ≤ x → x < w.graph.nodes →
     is_left w.lists x ≡ true → is_among z (neighbours w.graph x) ≡ true → is_open w z ≡ true →
     0 < degree_at w z
 has_neighbour w x z n d t h left among open =
     let parts = and_parts (not (is_register z)) (is_left w.lists z) open in
-    let node : z < w.graph.nodes = below_by z w.graph.nodes (neighbours w.graph x) (n.within x t h) among in
+    let near : interferes w.graph x z ≡ true = sym (n.exact x z t) ∙ among in
+    let node : z < w.graph.nodes = stays_below w.graph x z n t h near in
     let remaining = all_true (nat_lt z w.graph.nodes) (is_left w.lists z) (not (is_register z))
     (lt-ltb z w.graph.nodes node) parts.1 parts.0 in
-    let pair : interferes w.graph z x ≡ true = interferes_either_way w.graph z x ∙ (sym (n.exact x z t h) ∙ among) in
+    let pair : interferes w.graph z x ≡ true = interferes_either_way w.graph z x ∙ near in
     let there : ((nat_lt x w.graph.nodes && is_left w.lists x) && interferes w.graph z x) ≡ true =
     and_from (nat_lt x w.graph.nodes && is_left w.lists x) (interferes w.graph z x)
     (and_from (nat_lt x w.graph.nodes) (is_left w.lists x) (lt-ltb x w.graph.nodes h) left) pair in
