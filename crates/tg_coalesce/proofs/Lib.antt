@@ -10,3 +10,5 @@ pub mod Edges
 pub mod Ends
 pub mod Counters
 pub mod Candidates
+pub mod Listing
+pub mod Tabling
