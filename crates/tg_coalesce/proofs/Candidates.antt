@@ -1,11 +1,12 @@
 -- The candidates are temporaries that are left.
-use Rattle.std.proofs.Common.{◌≡◌, ℕ, ◌+◌, ◌-◌, ◌<◌, ◌≤◌, true, List, [], ◌∷◌, ◌++◌, length, get_or, map, cond, refl, sym, ap, ◌∙◌, subst, arith}
+use Rattle.std.proofs.Common.{◌≡◌, ℕ, suc, ◌+◌, ◌-◌, ◌<◌, ◌≤◌, Bool, true, false, List, [], ◌∷◌, ◌++◌, length, get_or, map, cond, refl, sym, ap, ◌∙◌, subst, arith}
 use Rattle.std.specs.Prelude.{All, filter}
 use Rattle.std.specs.List.{range_with_len}
-use Rattle.std.proofs.lemmas.List.{get_or-map, length-map}
-use Rattle.std.proofs.lemmas.List.Elements.{All-filter, All-from_get_or, All-get_or, filter_passes}
+use Rattle.std.proofs.lemmas.List.{append-nil, get_or-map, length-map, map-append}
+use Rattle.std.proofs.lemmas.List.Elements.{All-filter, All-from_get_or, All-get_or, filter-append, filter_passes}
 use Rattle.std.proofs.lemmas.List.FromFn.{get_or-range_with_len, length-range_with_len}
 use Rattle.tg_graph.specs.Interference.{colours}
+use Rattle.tg_graph.proofs.Runs.{range_more}
 use Rattle.tg_rounds.specs.declared.candidates.Candidate.{Candidate}
 use Rattle.tg_rounds.specs.Policies.{candidate_at}
 use Rattle.tg_coalesce.specs.Works.{Work, is_left}
@@ -44,3 +45,45 @@ candidate_here w place l =
     ap (λ (c : Candidate). c.temp + 25) read ∙ omega (arith, between) in
     subst (IsCandidate w) (sym node)
     (record { temporary = between.0; node = omega (arith, between); left = passes })
+
+-- the candidates among so many temporaries
+abbrev pub candidates_to : Work → ℕ → List Candidate
+candidates_to w n = map (candidate w) (filter (is_left w.lists) (range_with_len 25 n))
+
+candidates_more : (w : Work) (n : ℕ) →
+    candidates_to w (n + 1) ≡ candidates_to w n ++ map (candidate w) (filter (is_left w.lists) ((25 + n) ∷ []))
+candidates_more w n =
+    let e : n + 1 ≡ suc n = omega arith in
+    ap (λ xs. map (candidate w) (filter (is_left w.lists) xs)) (ap (range_with_len 25) e ∙ range_more 25 n)
+    ∙ (ap (map (candidate w)) (filter-append (is_left w.lists) (range_with_len 25 n) ((25 + n) ∷ []))
+    ∙ map-append (candidate w) (filter (is_left w.lists) (range_with_len 25 n)) (filter (is_left w.lists) ((25 + n) ∷ [])))
+
+-- one more, where it is left
+module _ (w : Work) (x : ℕ) (h : colours ≤ x) where
+  place_of : 25 + (x - 25) ≡ x
+  place_of = omega (arith, h)
+
+  last : (b : Bool) → is_left w.lists (25 + (x - 25)) ≡ b →
+      map (candidate w) (filter (is_left w.lists) ((25 + (x - 25)) ∷ [])) ≡ cond b (candidate w x ∷ []) []
+  last b e = ap (λ t. map (candidate w) (cond t ((25 + (x - 25)) ∷ []) [])) e ∙ by b
+    where
+      by : (t : Bool) → map (candidate w) (cond t ((25 + (x - 25)) ∷ []) []) ≡ cond t (candidate w x ∷ []) []
+      by true = ap (λ y. candidate w y ∷ []) place_of
+      by false = refl
+
+  next : candidates_to w (x + 1 - 25) ≡ candidates_to w (x - 25 + 1)
+  next = let e : x + 1 - 25 ≡ x - 25 + 1 = omega (arith, h) in ap (candidates_to w) e
+
+  pub candidate_left : is_left w.lists x ≡ true →
+      candidates_to w (x + 1 - 25) ≡ candidates_to w (x - 25) ++ candidate w x ∷ []
+  candidate_left e =
+      next
+      ∙ (candidates_more w (x - 25)
+      ∙ ap (λ cs. candidates_to w (x - 25) ++ cs) (last true (ap (is_left w.lists) place_of ∙ e)))
+
+  pub candidate_gone : is_left w.lists x ≡ false → candidates_to w (x + 1 - 25) ≡ candidates_to w (x - 25)
+  candidate_gone e =
+      next
+      ∙ (candidates_more w (x - 25)
+      ∙ (ap (λ cs. candidates_to w (x - 25) ++ cs) (last false (ap (is_left w.lists) place_of ∙ e))
+      ∙ append-nil (candidates_to w (x - 25))))

@@ -16,11 +16,11 @@ all_true a b c p q r = rw (p, q, r)
 pub has_neighbour : (w : Work) (x z : ℕ) → IsGraph w.graph → HasDegrees w → colours ≤ x → x < w.graph.nodes →
     is_left w.lists x ≡ true → is_among z (neighbours w.graph x) ≡ true → is_open w z ≡ true →
     0 < degree_at w z
-has_neighbour w x z n d t h left among open =
-    let parts = and_parts (not (is_register z)) (is_left w.lists z) open in
+has_neighbour w x z n d t h left among remains =
+    let parts = and_parts (not (is_register z)) (is_left w.lists z) remains in
     let near : interferes w.graph x z ≡ true = sym (n.exact x z t) ∙ among in
     let node : z < w.graph.nodes = stays_below w.graph x z n t h near in
-    let remaining = all_true (nat_lt z w.graph.nodes) (is_left w.lists z) (not (is_register z))
+    let all = all_true (nat_lt z w.graph.nodes) (is_left w.lists z) (not (is_register z))
     (lt-ltb z w.graph.nodes node) parts.1 parts.0 in
     let pair : interferes w.graph z x ≡ true = interferes_either_way w.graph z x ∙ near in
     let there : ((nat_lt x w.graph.nodes && is_left w.lists x) && interferes w.graph z x) ≡ true =
@@ -28,6 +28,6 @@ has_neighbour w x z n d t h left among open =
     (and_from (nat_lt x w.graph.nodes) (is_left w.lists x) (lt-ltb x w.graph.nodes h) left) pair in
     omega (
       arith,
-      d.exact z remaining,
+      d.exact z all,
       count_out (λ y. (nat_lt y w.graph.nodes && is_left w.lists y) && interferes w.graph z y) x w.graph.nodes h there,
     )

@@ -4,7 +4,6 @@ use Rattle.std.specs.Prelude.{◌==◌, nat_eq, All, count_by, fold}
 use Rattle.std.proofs.lemmas.Bool.{cases_eq, cond_both, eq-eqb, lt-ltb, ltb-true, ne_eqb}
 use Rattle.std.proofs.lemmas.List.{get_or-set_other, get_or-set_same, length-set}
 use Rattle.std.proofs.lemmas.List.Elements.{All-get_or, All-head, All-tail}
-use Rattle.std.proofs.lemmas.List.Sums.{sum_by-cons}
 use Rattle.tg_rounds.specs.declared.moves.Move.{Move}
 use Rattle.tg_rounds.specs.declared.moves.MoveState.{MoveState}
 use Rattle.tg_rounds.specs.declared.moves.MoveState.TheVariants.{Frozen, Ready}
@@ -17,18 +16,12 @@ use Rattle.tg_coalesce.specs.Tables.{IsTable, Table, is_related, is_unsettled, m
 use Rattle.tg_coalesce.specs.Works.{Work, alias_of, from, is_left, settled, to}
 use Rattle.tg_coalesce.specs.Standing.{HasEnds, IsSized}
 use Rattle.tg_coalesce.specs.Steps.{freeze_one}
+use Rattle.tg_coalesce.proofs.AdvancingMembers.{count_cons}
 use Rattle.tg_coalesce.proofs.Folds.{fold_keeps}
 use Rattle.tg_coalesce.proofs.Keeping.{either}
 use Rattle.tg_coalesce.proofs.Stepping.{settled_classes, settled_graph, settled_left, settled_moves}
 
 -- Counts.
-
-count_cons : (p : ℕ → Bool) (x : ℕ) (xs : List ℕ) → count_by p (x ∷ xs) ≡ bit (p x) + count_by p xs
-count_cons p x xs = sum_by-cons (λ y. cond (p y) 1 0) x xs ∙ ap (λ n. n + count_by p xs) (by (p x))
-  where
-    by : (b : Bool) → cond b 1 0 ≡ bit b
-    by true = refl
-    by false = refl
 
 -- where a test no longer takes one number, it takes those of a list but for that number
 count_without : (i : ℕ) (p q : ℕ → Bool) → p i ≡ true → q i ≡ false → ((j : ℕ) → j ≢ i → q j ≡ p j) → (xs : List ℕ) →
@@ -137,6 +130,20 @@ module _ (w : Work) (i : ℕ) (c : CanSettle w) (l : i < length w.moves.moves) (
         enough away h.1,
         lowered_at toward away w.moves.unsettled (omega (arith, h.0, c.unsettled)),
       )
+
+  left_by : (x : ℕ) → x < w.graph.nodes → 1 ≤ bit (toward == x) + bit (away == x) → is_left w.lists x ≡ true
+  left_by x h b =
+      c.ends.left x h (lt-ltb 0 (get_or w.moves.unsettled x 0) (omega (arith, b, enough x h)))
+
+  pub toward_left : is_left w.lists toward ≡ true
+  toward_left =
+      let b : bit (toward == toward) ≡ 1 = ap bit (eq-eqb toward toward refl) in
+      left_by toward (c.within i l).0 (omega (arith, b))
+
+  pub away_left : is_left w.lists away ≡ true
+  away_left =
+      let b : bit (away == away) ≡ 1 = ap bit (eq-eqb away away refl) in
+      left_by away (c.within i l).1 (omega (arith, b))
 
   module _ (state : MoveState) (f : is_ready_or_waiting state ≡ false) where
     abbrev after : Table

@@ -1,8 +1,10 @@
 -- What a fold keeps where each of its steps does, and numbers that stand in a list once.
-use Rattle.std.proofs.Common.{◌≡◌, ◌≢◌, ℕ, zero, suc, ◌<◌, false, List, [], ◌∷◌, length, get_or, take, refl, sym, ◌∙◌, arith}
+use Rattle.std.proofs.Common.{◌≡◌, ◌≢◌, ℕ, zero, suc, ◌+◌, ◌<◌, ◌≤◌, false, List, [], ◌∷◌, length, get_or, take, refl, sym, ap, ◌∙◌, arith}
 use Rattle.std.specs.Prelude.{fold, nat_eq}
 use Rattle.std.specs.List.{IsDistinct, AllByRecursion}
 use Rattle.std.proofs.lemmas.Bool.{eqb-false, ne_eqb, or_from, or_parts}
+use Rattle.std.proofs.lemmas.List.{take_all}
+use Rattle.std.proofs.lemmas.List.Sums.{fold_more}
 use Rattle.tg_graph.specs.Interference.{is_among}
 
 pub fold_keeps : {W A V : Type 0} (f : W → A → W) (see : W → V) → ((w : W) (a : A) → see (f w a) ≡ see w) → (w : W)
@@ -19,6 +21,27 @@ fold_keeps_off f see z h w [] p = refl
 fold_keeps_off f see z h w (x ∷ xs) p =
     let parts = or_parts (nat_eq z x) (is_among z xs) p in
     fold_keeps_off f see z h (f w x) xs parts.1 ∙ h w x (eqb-false z x parts.0)
+
+-- one step more of a loop, and its end
+module _ {W A : Type 0} (f : W → A → W) (w : W) (xs : List A) where
+  pub fold_next : (k : ℕ) (d : A) (u v : W) (x : A) → k < length xs → x ≡ get_or xs k d → u ≡ fold f w (take k xs) →
+      v ≡ f u x →
+      v ≡ fold f w (take (k + 1) xs)
+  fold_next k d u v x l at so_far step =
+      step
+      ∙ (ap (λ y. f y x) so_far
+      ∙ (ap (λ y. f (fold f w (take k xs)) y) at ∙ sym (fold_more f w xs k d l)))
+
+  pub fold_end : (k : ℕ) (u : W) → length xs ≤ k → u ≡ fold f w (take k xs) → u ≡ fold f w xs
+  fold_end k u l so_far = so_far ∙ ap (fold f w) (take_all k xs l)
+
+pub among_take : (z : ℕ) (xs : List ℕ) (k : ℕ) → is_among z xs ≡ false → is_among z (take k xs) ≡ false
+among_take z [] zero p = refl
+among_take z [] (suc k) p = refl
+among_take z (x ∷ xs) zero p = refl
+among_take z (x ∷ xs) (suc k) p =
+    let parts = or_parts (nat_eq z x) (is_among z xs) p in
+    or_from (nat_eq z x) (is_among z (take k xs)) parts.0 (among_take z xs k parts.1)
 
 differs_at : (x : ℕ) (xs : List ℕ) (k d : ℕ) → k < length xs → AllByRecursion (λ y. nat_eq x y ≡ false) xs →
     get_or xs k d ≢ x

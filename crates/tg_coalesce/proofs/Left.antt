@@ -25,6 +25,16 @@ left_moved l x z list =
     by true = remaining_by list
     by false = refl
 
+-- what is left after a node was taken out or merged was left before
+pub left_then : (l : Lists) (x z : ℕ) (list : Worklist) → holds_remaining list ≡ false →
+    is_left (moved l x list) z ≡ true →
+    is_left l z ≡ true
+left_then l x z list g e = by (z == x) (sym (left_moved l x z list) ∙ e)
+  where
+    by : (b : Bool) → (if b then holds_remaining list else is_left l z) ≡ true → is_left l z ≡ true
+    by true h = cc
+    by false h = h
+
 remaining_list : (low related : Bool) →
     holds_remaining (if low then (if related then Freeze else Simplify) else Spill) ≡ true
 remaining_list true true = refl

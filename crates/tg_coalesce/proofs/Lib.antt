@@ -12,3 +12,11 @@ pub mod Counters
 pub mod Candidates
 pub mod Listing
 pub mod Tabling
+pub mod TakingOut
+pub mod Uniting
+pub mod AdvancingMembers
+pub mod AdvancingWaking
+pub mod AdvancingListing
+pub mod AdvancingOrder
+pub mod AdvancingLosing
+pub mod Trying
