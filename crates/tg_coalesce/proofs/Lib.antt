@@ -3,6 +3,13 @@ pub mod Sums
 pub mod Places
 pub mod Keeping
 pub mod Examples
+pub mod Folds
+pub mod Left
+pub mod Stepping
+pub mod Edges
+pub mod Ends
+pub mod Counters
+pub mod Candidates
 pub mod Listing
 pub mod Tabling
 pub mod FirstDegrees
@@ -22,7 +29,6 @@ pub mod AdvancingWaking
 pub mod StartingEnds
 pub mod Starting
 pub mod StartingRun
-pub mod Stepping
 pub mod AdvancingKept
 pub mod AdvancingRemoving
 pub mod AdvancingSettling
@@ -33,3 +39,11 @@ pub mod AdvancingChoosing
 pub mod AdvancingSpill
 pub mod AdvancingSelecting
 pub mod AdvancingDone
+pub mod TakingOut
+pub mod Uniting
+pub mod Trying
+pub mod AdvancingJoining
+pub mod AdvancingParking
+pub mod AdvancingPassing
+pub mod AdvancingTrying
+pub mod Conditions

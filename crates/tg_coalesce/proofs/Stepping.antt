@@ -1,68 +1,109 @@
--- What a step of orderly work asks for, by the lists from which it is taken.
-use Rattle.std.proofs.Common.{◌≡◌, ℕ, ◌+◌, ◌-◌, ◌<◌, ◌≤◌, Bool, true, false, not, ◌&&◌, List, [], ◌∷◌, length, map, Option, Some, None, slice_get, refl, sym, ap, ◌∙◌, subst, ⊎_elim, arith}
-use Rattle.std.specs.Prelude.{◌==◌, count_by, filter, nat_lt}
-use Rattle.std.specs.List.{range_with_len}
-use Rattle.std.proofs.lemmas.Bool.{cases_lt, lt-ltb}
-use Rattle.std.proofs.lemmas.List.{length-map}
-use Rattle.std.proofs.lemmas.List.Sums.{length-filter}
-use Rattle.tg_graph.specs.declared.worklists.Worklist.{Worklist}
-use Rattle.tg_graph.specs.declared.worklists.Worklist.TheVariants as worklists
-use Rattle.tg_graph.specs.Interference.{colours, interferes, is_among, is_register, neighbours}
-use Rattle.tg_graph.proofs.Joining.{either_way, stays_below}
-use Rattle.tg_graph.proofs.Members.{among_within}
-use Rattle.tg_rounds.specs.Graphs.{count}
-use Rattle.tg_rounds.proofs.Counting.{count_out}
-use Rattle.tg_rounds.proofs.Deciding.{and_true, both, clash, not_true}
-use Rattle.tg_coalesce.specs.Works.{Work, degree_at, is_left, is_open}
-use Rattle.tg_coalesce.specs.Steps.{candidate, candidates}
-use Rattle.tg_coalesce.specs.Standing.{shown, state_of, is_done, is_empty, IsOrderly}
-use Rattle.tg_coalesce.proofs.AdvancingMembers.{among_first, count_some}
-use Rattle.tg_coalesce.proofs.AdvancingOrder.{left_remains, open_remains}
-use Rattle.tg_coalesce.proofs.AdvancingPossible.{in_list, for_simplify, for_freeze, for_spill}
+-- What the parts of a step leave as it was: the graph, the nodes that are left, and degrees.
+use Rattle.std.proofs.Common.{◌≡◌, ◌≢◌, ℕ, ◌+◌, ◌-◌, ◌<◌, ◌≤◌, Bool, true, false, not, ◌&&◌, List, length, get_or, set, refl, sym, ap, ◌∙◌, arith}
+use Rattle.std.specs.Prelude.{◌==◌, if◌then◌else◌, fold}
+use Rattle.std.proofs.lemmas.List.{get_or-set_other}
+use Rattle.tg_graph.specs.Interference.{Interference, colours, interferes, is_among, is_register, neighbours, with_edge}
+use Rattle.tg_rounds.specs.declared.moves.MoveState.{MoveState}
+use Rattle.tg_coalesce.specs.Lists.{list_at, lowered, raised}
+use Rattle.tg_coalesce.specs.Groupings.{Grouping}
+use Rattle.tg_coalesce.specs.Tables as tables
+use Rattle.tg_coalesce.specs.Tables.{Table}
+use Rattle.tg_coalesce.specs.Works.{Work, awake_around, degree_at, from, is_left, is_open, relisted, settled, to}
+use Rattle.tg_coalesce.specs.Steps.{bereft, freeze_one, given_up, passed_edge, passed_on, taken_out}
+use Rattle.tg_coalesce.proofs.Folds.{fold_keeps, fold_keeps_off}
+use Rattle.tg_coalesce.proofs.Keeping.{either, relisted_classes, relisted_degrees, relisted_graph, relisted_moves}
+use Rattle.tg_coalesce.proofs.Left.{relisted_left}
 
-pub temporary_of : (w : Work) (x : ℕ) → is_open w x ≡ true → colours ≤ x
-temporary_of w x o =
-    ⊎_elim (λ (k : x < 25). absurd (clash (lt-ltb x 25 k) (not_true (both (not (is_register x)) _ o).0))) (λ (k : 25 ≤ x). k)
-    (cases_lt x 25)
+-- A move is settled.
 
--- a list of which the first is none
-pub none_first : (xs : List ℕ) → None ≡ slice_get xs 0 → xs ≡ []
-none_first [] e = refl
-none_first (x ∷ xs) e = cc
+module _ (i : ℕ) (state : MoveState) (w : Work) where
+  abbrev told : Work
+  told = record w { moves = tables.settled i state (to w i) (from w i) w.moves }
 
-module _ (w : Work) (h : IsOrderly w) where
-  -- a temporary that remains and has a neighbour that does has a counter above 0
-  pub neighbours_counted : (x : ℕ) → x < w.graph.nodes → is_open w x ≡ true → (z : ℕ) →
-      is_among z (neighbours w.graph x) ≡ true → is_open w z ≡ true → 0 < degree_at w z
-  neighbours_counted x l o z e k =
-      let low = temporary_of w x o in
-      let joined = sym (h.graph.exact x z low) ∙ e in
-      let below = stays_below w.graph x z h.graph low l joined in
-      let left = left_remains w x l (both (not (is_register x)) (is_left w.lists x) o).1 in
-      let one = count_out (λ y. (state_of w).remaining y && interferes w.graph z y) x w.graph.nodes l
-      (and_true left (either_way w.graph z x ∙ joined)) in
-      let same = h.degrees.exact z (open_remains w z below k) in
-      omega (arith, same, one)
+  pub settled_graph : (settled i state w).graph ≡ w.graph
+  unfolding settled
+  settled_graph = relisted_graph (from w i) (relisted (to w i) told) ∙ relisted_graph (to w i) told
 
-  pub first_simplify : (x : ℕ) → slice_get w.lists.simplify 0 ≡ Some x → (x < w.graph.nodes) × (is_open w x ≡ true)
-  first_simplify x e =
-      let at = in_list w h x worklists.Simplify for_simplify (among_first w.lists.simplify x e) in (at.node, at.remains)
+  pub settled_degrees : (settled i state w).degrees ≡ w.degrees
+  unfolding settled
+  settled_degrees = relisted_degrees (from w i) (relisted (to w i) told) ∙ relisted_degrees (to w i) told
 
-  pub first_freeze : (x : ℕ) → slice_get w.lists.freeze 0 ≡ Some x → (x < w.graph.nodes) × (is_open w x ≡ true)
-  first_freeze x e =
-      let at = in_list w h x worklists.Freeze for_freeze (among_first w.lists.freeze x e) in (at.node, at.remains)
+  pub settled_classes : (settled i state w).classes ≡ w.classes
+  unfolding settled
+  settled_classes = relisted_classes (from w i) (relisted (to w i) told) ∙ relisted_classes (to w i) told
 
-  -- where a temporary may be spilled there is a candidate
-  pub some_candidate : (x : ℕ) → slice_get w.lists.spill 0 ≡ Some x → 0 < length (candidates w)
-  some_candidate x e =
-      let at = in_list w h x worklists.Spill for_spill (among_first w.lists.spill x e) in
-      let low = temporary_of w x at.remains in
-      let range = range_with_len colours (w.graph.nodes - colours) in
-      let there = among_within x colours (w.graph.nodes - colours) low (omega (arith, at.node, low)) in
-      let some = count_some (is_left w.lists) x range there (both (not (is_register x)) (is_left w.lists x) at.remains).1 in
-      omega (arith, length-map (filter (is_left w.lists) range) (candidate w), length-filter (is_left w.lists) range, some)
+  pub settled_moves : (settled i state w).moves ≡ tables.settled i state (to w i) (from w i) w.moves
+  unfolding settled
+  settled_moves = relisted_moves (from w i) (relisted (to w i) told) ∙ relisted_moves (to w i) told
 
-pub nothing_left : (w : Work) → w.lists.simplify ≡ [] → w.moves.ready ≡ [] → w.lists.freeze ≡ [] → w.lists.spill ≡ [] →
-    is_done w ≡ true
-nothing_left w a b c d =
-    and_true (and_true (and_true (ap is_empty a) (ap is_empty b)) (ap is_empty c)) (ap is_empty d)
+  pub settled_left : (z : ℕ) → is_left (settled i state w).lists z ≡ is_left w.lists z
+  unfolding settled
+  settled_left z = relisted_left (from w i) (relisted (to w i) told) z ∙ relisted_left (to w i) told z
+
+-- The moves of a class are given up.
+
+module _ (x : ℕ) (w : Work) where
+  pub given_up_graph : (given_up x w).graph ≡ w.graph
+  unfolding given_up
+  given_up_graph =
+      fold_keeps freeze_one (λ v. v.graph)
+      (λ v i. either (λ u. u.graph) (tables.is_unsettled v.moves i) _ v v.graph (settled_graph i _ v) refl) w
+      (list_at w.moves.touching x)
+
+  pub given_up_degrees : (given_up x w).degrees ≡ w.degrees
+  unfolding given_up
+  given_up_degrees =
+      fold_keeps freeze_one (λ v. v.degrees)
+      (λ v i. either (λ u. u.degrees) (tables.is_unsettled v.moves i) _ v v.degrees (settled_degrees i _ v) refl) w
+      (list_at w.moves.touching x)
+
+  pub given_up_left : (z : ℕ) → is_left (given_up x w).lists z ≡ is_left w.lists z
+  unfolding given_up
+  given_up_left z =
+      fold_keeps freeze_one (λ v. is_left v.lists z)
+      (λ v i. either (λ u. is_left u.lists z) (tables.is_unsettled v.moves i) _ v (is_left v.lists z)
+      (settled_left i _ v z) refl)
+      w (list_at w.moves.touching x)
+
+-- A node has a neighbour less.
+
+lowered_other : (x z : ℕ) (ds : List ℕ) → z ≢ x → get_or (lowered x ds) z 0 ≡ get_or ds z 0
+lowered_other x z ds d = get_or-set_other ds x z (get_or ds x 0 - 1) 0 d
+
+pub raised_other : (x z : ℕ) (ds : List ℕ) → z ≢ x → get_or (raised x ds) z 0 ≡ get_or ds z 0
+raised_other x z ds d = get_or-set_other ds x z (get_or ds x 0 + 1) 0 d
+
+module _ (w : Work) (x : ℕ) where
+  abbrev less : Work
+  less = record w { degrees = lowered x w.degrees }
+
+  -- what is seen alike of the node's list and moves is seen alike of all
+  bereft_sees : {V : Type 0} (see : Work → V) → see (awake_around x (relisted x less)) ≡ see w → see less ≡ see w →
+      see (bereft w x) ≡ see w
+  unfolding bereft
+  bereft_sees see p q =
+      either see (not (is_open w x)) w _ (see w) refl
+      (either see (degree_at less x == 24) (awake_around x (relisted x less)) less (see w) p q)
+
+  pub bereft_graph : (bereft w x).graph ≡ w.graph
+  bereft_graph = bereft_sees (λ v. v.graph) (relisted_graph x less) refl
+
+  pub bereft_left : (z : ℕ) → is_left (bereft w x).lists z ≡ is_left w.lists z
+  bereft_left z = bereft_sees (λ v. is_left v.lists z) (relisted_left x less z) refl
+
+  pub bereft_degree : (z : ℕ) → z ≢ x → degree_at (bereft w x) z ≡ degree_at w z
+  bereft_degree z d =
+      bereft_sees (λ v. degree_at v z)
+      (ap (λ ds. get_or ds z 0) (relisted_degrees x less) ∙ lowered_other x z w.degrees d)
+      (lowered_other x z w.degrees d)
+
+pub all_bereft_graph : (w : Work) (xs : List ℕ) → (fold bereft w xs).graph ≡ w.graph
+all_bereft_graph w xs = fold_keeps bereft (λ v. v.graph) bereft_graph w xs
+
+pub all_bereft_left : (w : Work) (xs : List ℕ) (z : ℕ) → is_left (fold bereft w xs).lists z ≡ is_left w.lists z
+all_bereft_left w xs z = fold_keeps bereft (λ v. is_left v.lists z) (λ v x. bereft_left v x z) w xs
+
+pub all_bereft_degree : (w : Work) (xs : List ℕ) (z : ℕ) → is_among z xs ≡ false →
+    degree_at (fold bereft w xs) z ≡ degree_at w z
+all_bereft_degree w xs z p =
+    fold_keeps_off bereft (λ v. degree_at v z) z (λ v x d. bereft_degree v x z d) w xs p

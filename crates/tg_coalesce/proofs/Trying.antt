@@ -1,0 +1,143 @@
+-- A move that is tried: what holds of its ends, and what becomes of it.
+use Rattle.std.proofs.Common.{◌≡◌, ◌≢◌, ℕ, ◌<◌, ◌≤◌, Bool, true, false, not, ◌&&◌, ◌||◌, ◌⊎◌, inl, inr, List, length, get_or, refl, sym, ap, ◌∙◌, subst, ⊎_elim, arith}
+use Rattle.std.specs.Prelude.{◌==◌, nat_lt, if◌then◌else◌, Some, slice_get}
+use Rattle.std.proofs.lemmas.Bool.{and_parts, cases_lt, cond-false, cond-true, lt-ltb, le-ltb, or_left, or_right}
+use Rattle.tg_graph.specs.Interference.{Interference, colours, interferes, is_among, is_register, most_nodes, neighbours}
+use Rattle.tg_rounds.specs.declared.moves.MoveState.TheVariants.{Coalesced, Constrained}
+use Rattle.tg_rounds.specs.declared.steps.Step.TheVariants.{Same, Constrain}
+use Rattle.tg_coalesce.specs.Lists.{lowered}
+use Rattle.tg_coalesce.specs.Tables as tables
+use Rattle.tg_coalesce.specs.Tables.{is_unsettled, is_waiting, state_at}
+use Rattle.tg_coalesce.specs.Works.{Work, degree_at, from, is_left, is_open, settled, stepped, to}
+use Rattle.tg_coalesce.specs.Passing.{passes, stands_under}
+use Rattle.tg_coalesce.specs.Steps.{CanLose, coalesced, tried_out}
+use Rattle.tg_coalesce.specs.Standing.{IsOrderly}
+use Rattle.tg_coalesce.proofs.AdvancingMembers.{among_first}
+use Rattle.tg_coalesce.proofs.Counters.{has_neighbour}
+use Rattle.tg_coalesce.proofs.Edges.{registers_apart}
+use Rattle.tg_coalesce.proofs.Ends.{CanSettle, can_settle, from_counted, to_counted, toward_left, away_left}
+use Rattle.tg_coalesce.proofs.Stepping.{settled_degrees, settled_graph, settled_left}
+
+-- the work as the first move to be tried is taken
+abbrev pub taken : Work → Work
+taken w = record w { moves = tables.first_taken w.moves }
+
+-- What becomes of it.
+
+module _ (i : ℕ) (w : Work) where
+  abbrev toward : ℕ
+  toward = to w i
+
+  abbrev away : ℕ
+  away = from w i
+
+  pub tries_same : (toward == away) ≡ true → tried_out i w ≡ stepped (Same i) (settled i Coalesced w)
+  tries_same e = cond-true (toward == away) _ _ e
+
+  module _ (d : (toward == away) ≡ false) where
+    pub tries_constrained : interferes w.graph toward away ≡ true →
+        tried_out i w ≡ stepped (Constrain i) (settled i Constrained w)
+    tries_constrained e = cond-false (toward == away) _ _ d ∙ cond-true (interferes w.graph toward away) _ _ e
+
+    module _ (a : interferes w.graph toward away ≡ false) where
+      pub tries_unsafe : passes w toward away ≡ false → tried_out i w ≡ record w { moves = tables.parked i w.moves }
+      tries_unsafe e =
+          cond-false (toward == away) _ _ d
+          ∙ (cond-false (interferes w.graph toward away) _ _ a
+          ∙ cond-true (not (passes w toward away)) _ _ (ap not e))
+
+      module _ (p : passes w toward away ≡ true) where
+        last_two : tried_out i w ≡
+            (if stands_under w toward away then coalesced i toward away w else coalesced i away toward w)
+        last_two =
+            cond-false (toward == away) _ _ d
+            ∙ (cond-false (interferes w.graph toward away) _ _ a
+            ∙ cond-false (not (passes w toward away)) _ _ (ap not p))
+
+        pub tries_under : stands_under w toward away ≡ true → tried_out i w ≡ coalesced i toward away w
+        tries_under e = last_two ∙ cond-true (stands_under w toward away) _ _ e
+
+        pub tries_over : stands_under w toward away ≡ false → tried_out i w ≡ coalesced i away toward w
+        tries_over e = last_two ∙ cond-false (stands_under w toward away) _ _ e
+
+-- Registers among its ends.
+
+module _ (g : Interference) (x y : ℕ) (d : x ≢ y) (a : interferes g x y ≡ false) where
+  clash : (b : Bool) → b ≡ true → b ≡ false → ⊥
+  clash b p q = cc
+
+  pub one_temporary : (colours ≤ x) ⊎ (colours ≤ y)
+  one_temporary =
+      ⊎_elim
+      (λ (h : x < 25).
+      ⊎_elim (λ (k : y < 25). absurd (clash (interferes g x y) (registers_apart g x y h k d) a)) (λ (k : 25 ≤ y). inr k)
+      (cases_lt y 25))
+      (λ (h : 25 ≤ x). inl h)
+      (cases_lt x 25)
+
+-- the end that goes is a temporary
+pub under_temporary : (w : Work) (x y : ℕ) → x ≢ y → interferes w.graph x y ≡ false →
+    stands_under w x y ≡ true →
+    colours ≤ y
+under_temporary w x y d a s =
+    ⊎_elim
+    (λ (k : y < 25).
+    let stands : is_register x ≡ true =
+    sym (cond-true (is_register x || is_register y) (is_register x) _ (or_right (is_register x) (is_register y)
+    (lt-ltb y 25 k))) ∙ s in
+    absurd (both (is_register x) stands (⊎_elim (λ (h : 25 ≤ x). le-ltb x 25 h) (λ (h : 25 ≤ y). absurd (omega (arith, h, k)))
+    (one_temporary w.graph x y d a))))
+    (λ (k : 25 ≤ y). k)
+    (cases_lt y 25)
+  where
+    both : (b : Bool) → b ≡ true → b ≡ false → ⊥
+    both b p q = cc
+
+pub over_temporary : (w : Work) (x y : ℕ) → stands_under w x y ≡ false → colours ≤ x
+over_temporary w x y s =
+    ⊎_elim
+    (λ (h : x < 25).
+    let register : is_register x ≡ true = lt-ltb x 25 h in
+    let stands = cond-true (is_register x || is_register y) (is_register x) _ (or_left (is_register x) (is_register y)
+    register) in
+    absurd (both (is_register x) register (sym stands ∙ s)))
+    (λ (h : 25 ≤ x). h)
+    (cases_lt x 25)
+  where
+    both : (b : Bool) → b ≡ true → b ≡ false → ⊥
+    both b p q = cc
+
+-- The move is one that can be settled.
+
+module _ (i : ℕ) (w : Work) (o : IsOrderly w) (l : i < length w.moves.moves) (first : slice_get w.moves.ready 0 ≡ Some i) where
+  unsettled : is_unsettled w.moves i ≡ true
+  unsettled =
+      (and_parts (is_unsettled w.moves i) (not (is_waiting (state_at w.moves i)))
+      (sym (o.ready.exact i l) ∙ among_first w.moves.ready i first)).0
+
+  settles : CanSettle w
+  settles = can_settle w o.sized o.grouping o.table o.ends
+
+  pub first_to_counted : 0 < get_or w.moves.unsettled (to w i) 0
+  first_to_counted = to_counted w i settles l unsettled
+
+  pub first_from_counted : 0 < get_or (lowered (to w i) w.moves.unsettled) (from w i) 0
+  first_from_counted = from_counted w i settles l unsettled
+
+  -- so its ends are left, and their neighbours have one to lose
+  loses : (x : ℕ) → colours ≤ x → x < w.graph.nodes → is_left w.lists x ≡ true → CanLose w x
+  loses x t h left = λ z. has_neighbour w x z o.graph o.degrees t h left
+
+  pub to_loses : colours ≤ to w i → CanLose w (to w i)
+  to_loses t = loses (to w i) t (settles.within i l).0 (toward_left w i settles l unsettled)
+
+  pub from_loses : colours ≤ from w i → CanLose w (from w i)
+  from_loses t = loses (from w i) t (settles.within i l).1 (away_left w i settles l unsettled)
+
+-- where a move is settled neighbours have as many to lose
+pub settled_loses : (i x : ℕ) (w : Work) → CanLose w x → CanLose (settled i Coalesced w) x
+settled_loses i x w c = λ z among o.
+    let s = settled i Coalesced w in
+    let was = ap (λ (g : Interference). is_among z (neighbours g x)) (settled_graph i Coalesced w) in
+    let same = ap (λ b. not (is_register z) && b) (settled_left i Coalesced w z) in
+    subst (λ ds. 0 < get_or ds z 0) (sym (settled_degrees i Coalesced w)) (c z (sym was ∙ among) (sym same ∙ o))
