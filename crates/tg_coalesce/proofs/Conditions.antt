@@ -14,8 +14,13 @@ use Rattle.tg_rounds.specs.Graphs.{count}
 use Rattle.tg_rounds.proofs.Counting.{count_out}
 use Rattle.tg_rounds.proofs.Deciding.{and_true, both, clash, not_true}
 use Rattle.tg_coalesce.specs.Works.{Work, degree_at, is_left, is_open}
-use Rattle.tg_coalesce.specs.Steps.{candidate, candidates}
-use Rattle.tg_coalesce.specs.Standing.{shown, state_of, is_done, is_empty, IsOrderly}
+use Rattle.tg_rounds.specs.Policies.{Rule, candidate_at}
+use Rattle.tg_coalesce.specs.Advancing.{Advances, Progresses, Spills, TryAdvances}
+use Rattle.tg_coalesce.specs.Steps.{candidate, candidates, simplified, tried, frozen, spilled}
+use Rattle.tg_coalesce.specs.Standing.{state_of, is_done, is_empty, IsOrderly}
+use Rattle.tg_coalesce.proofs.AdvancingFreeze.{freeze_advances}
+use Rattle.tg_coalesce.proofs.AdvancingSimplify.{simplify_advances}
+use Rattle.tg_coalesce.proofs.AdvancingSpill.{spill_advances}
 use Rattle.tg_coalesce.proofs.AdvancingMembers.{among_first, count_some}
 use Rattle.tg_coalesce.proofs.AdvancingOrder.{left_remains, open_remains}
 use Rattle.tg_coalesce.proofs.AdvancingPossible.{in_list, for_simplify, for_freeze, for_spill}
@@ -66,3 +71,34 @@ pub nothing_left : (w : Work) → w.lists.simplify ≡ [] → w.moves.ready ≡ 
     is_done w ≡ true
 nothing_left w a b c d =
     and_true (and_true (and_true (ap is_empty a) (ap is_empty b)) (ap is_empty c)) (ap is_empty d)
+
+-- What is done of each kind is progress under every rule.
+module _ (rule : Rule) (w v : Work) where
+  advance_progresses : Advances w v → Progresses rule w v
+  advance_progresses a = record { on = a.on; run = λ g e r. a.run g r }
+
+  module _ (h : IsOrderly w) where
+    pub simplify_progresses : (x : ℕ) → slice_get w.lists.simplify 0 ≡ Some x → v ≡ simplified x w → Progresses rule w v
+    simplify_progresses x f e =
+        advance_progresses (subst (Advances w) (sym e) (simplify_advances x w h f))
+
+    pub try_progresses : TryAdvances → w.lists.simplify ≡ [] → (i : ℕ) → slice_get w.moves.ready 0 ≡ Some i →
+        v ≡ tried i w →
+        Progresses rule w v
+    try_progresses advances a i f e = advance_progresses (subst (Advances w) (sym e) (advances i w h a f))
+
+    pub freeze_progresses : w.lists.simplify ≡ [] → w.moves.ready ≡ [] → (x : ℕ) →
+        slice_get w.lists.freeze 0 ≡ Some x → v ≡ frozen x w →
+        Progresses rule w v
+    freeze_progresses a b x f e = advance_progresses (subst (Advances w) (sym e) (freeze_advances x w h a b f))
+
+    pub spill_progresses : w.lists.simplify ≡ [] → w.moves.ready ≡ [] → w.lists.freeze ≡ [] → (at : ℕ) →
+        at < length (candidates w) → rule (candidates w) at ≡ true →
+        v ≡ spilled ((candidate_at (candidates w) at).temp + colours) w →
+        Progresses rule w v
+    spill_progresses a b c at l allowed e =
+        let s = subst (λ (u : Work). Spills w u at) (sym e) (spill_advances at w h a b c l) in
+        record {
+          on = s.on;
+          run = λ g same r. s.run g (ap (λ (q : Rule). q (candidates w) at) same ∙ allowed) r;
+        }

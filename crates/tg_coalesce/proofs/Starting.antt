@@ -112,12 +112,12 @@ module _ (g : Interference) (moves : List Move) (marks : List Mark) (given : IsG
     sized = record {
       lists = shifted.nodes;
       degrees = length_first g given.some;
-      classes = length-range_with_len 0 (length marks) ∙ given.marks;
+      classes = length-range_with_len 0 (length marks) ∙ given.sized;
       touching = length_listed moves g.nodes (length moves);
     }
 
     alias_is : (x d : ℕ) → x < g.nodes → get_or (range_with_len 0 (length marks)) x d ≡ x
-    alias_is x d k = place_in (length marks) x d (omega (arith, k, given.marks))
+    alias_is x d k = place_in (length marks) x d (omega (arith, k, given.sized))
 
     degrees_exact : (x : ℕ) → colours ≤ x → x < g.nodes →
         degree g x ≡ count (λ y. (nat_lt y g.nodes && is_left l y) && interferes g x y) g.nodes
@@ -161,7 +161,7 @@ module _ (g : Interference) (moves : List Move) (marks : List Mark) (given : IsG
 
     members : HasMembers w
     members = record {
-      exact = λ x y k. ap (is_among y) (singleton_at (length marks) x (omega (arith, k, given.marks)))
+      exact = λ x y k. ap (is_among y) (singleton_at (length marks) x (omega (arith, k, given.sized)))
           ∙ (or_none (y == x) ∙ ⊎_elim
           (λ (m : y < g.nodes).
           sym (ap (λ b. b && (alias_of w y == x)) (lt-ltb y g.nodes m) ∙ ap (λ z. z == x) (alias_is y 0 m)))

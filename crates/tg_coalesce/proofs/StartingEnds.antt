@@ -113,11 +113,11 @@ module _ (moves : List Move) (nodes : ℕ) (ends : All (λ m. (m.to < nodes) × 
       (omega (arith, sized, length_pushed one.to m lists, e.1)) in
       subst (λ (n : ℕ). get_or (ends_counted moves nodes n) x 0 ≡ length (list_at (ends_listed moves nodes n) x)) same
       (ap (λ cs. get_or cs x 0) (counted_more moves nodes m)
-      ∙ (sums second first third fourth (counted_lengths m (omega (arith, h)))
+      ∙ (sums _ _ _ _ _ _ (bit (one.from == x)) (bit (one.to == x)) second first third fourth (counted_lengths m (omega (arith, h)))
       ∙ sym (ap (λ ls. length (list_at ls x)) (listed_more moves nodes m))))
     where
-      sums : {a b c d f g p q : ℕ} → a ≡ b + p → b ≡ c + q → d ≡ f + q → g ≡ d + p → c ≡ f → a ≡ g
-      sums s t u v r = omega (arith, s, t, u, v, r)
+      sums : (a b c d f g p q : ℕ) → a ≡ b + p → b ≡ c + q → d ≡ f + q → g ≡ d + p → c ≡ f → a ≡ g
+      sums a b c d f g p q s t u v r = omega (arith, s, t, u, v, r)
 
   -- a move is listed at a class once for each of its ends there, once it has come, and not before
   pub listed_ends_of : (m k : ℕ) → m ≤ length moves →

@@ -92,13 +92,13 @@ module _ (g : Interference) (moves : List Move) (marks : List Mark) (rule : Rule
     uses x k =
         let one = ap (sum_by (λ y. (mark_at p (state_of w) y).uses)) (members_one x k) in
         let read = get_or-map (λ (m : Mark). m.uses) marks x (record { uses = 0; made = false }) 0
-        (omega (arith, k, given.marks)) in
+        (omega (arith, k, given.sized)) in
         omega (arith, one, read)
 
     made : (x : ℕ) → x < g.nodes → is_made w.classes x ≡ all_made p (state_of w) x
     made x k =
         let S = λ (y : ℕ). not (get_or (range_with_len 0 (length marks)) y y == x) || (mark_at p (state_of w) y).made in
-        get_or-map (λ (m : Mark). m.made) marks x (record { uses = 0; made = false }) false (omega (arith, k, given.marks))
+        get_or-map (λ (m : Mark). m.made) marks x (record { uses = 0; made = false }) false (omega (arith, k, given.sized))
         ∙ same (mark_at p (state_of w) x).made (every S g.nodes)
         (λ e. (every_is S g.nodes).1 (λ y m. ⊎_elim
         (λ (q : y ≡ x). or_right _ _ (ap (λ z. (mark_at p (state_of w) z).made) q ∙ e))

@@ -74,7 +74,7 @@ pub record IsGiven (g : Interference) (moves : List Move) (marks : List Mark) : 
   pub some : colours ≤ g.nodes
   pub few : g.nodes ≤ most_nodes
   pub graph : IsGraph g
-  pub marks : length marks ≡ g.nodes
+  pub sized : length marks ≡ g.nodes
   pub ends : All (λ m. (m.to < g.nodes) × (m.from < g.nodes)) moves
   pub few_moves : length moves < 2 ^ 32
   pub few_uses : sum (map (λ m. m.uses) marks) < 2 ^ 32
