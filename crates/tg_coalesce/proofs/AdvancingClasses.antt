@@ -45,7 +45,7 @@ module _ (w : Work) (h : IsOrderly w) (kept gone : ℕ) (l : kept < w.graph.node
   gone_inside : gone < length w.classes.members
   gone_inside = subst (λ k. gone < k) (sym members_length) m
 
-  aliases_length : length classes_after.aliases ≡ length w.classes.aliases
+  pub aliases_length : length classes_after.aliases ≡ length w.classes.aliases
   aliases_length = length_all kept (list_at w.classes.members gone) w.classes.aliases
 
   member_gone : (z : ℕ) → z < n → is_among z (list_at w.classes.members gone) ≡ (alias_of w z == gone)
