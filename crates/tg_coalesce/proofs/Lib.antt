@@ -24,3 +24,17 @@ pub mod AdvancingChoosing
 pub mod AdvancingSpill
 pub mod AdvancingSelecting
 pub mod AdvancingDone
+pub mod AdvancingClasses
+pub mod AdvancingCoalesced
+pub mod AdvancingCoalescing
+pub mod AdvancingEnds
+pub mod AdvancingJoining
+pub mod AdvancingMerged
+pub mod AdvancingMerging
+pub mod AdvancingParking
+pub mod AdvancingPassing
+pub mod AdvancingPassingOn
+pub mod AdvancingPassingOne
+pub mod AdvancingStanding
+pub mod AdvancingTry
+pub mod AdvancingTrying
