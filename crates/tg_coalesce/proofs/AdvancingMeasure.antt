@@ -30,7 +30,7 @@ count_first : (S : Set) (n : ℕ) → count S (suc n) ≡ bit (S 0) + count (λ 
 count_first S zero = refl
 count_first S (suc n) = let r = count_first S n in omega (arith, r)
 
-count_same : (S T : Set) (n : ℕ) → ((x : ℕ) → x < n → S x ≡ T x) → count S n ≡ count T n
+pub count_same : (S T : Set) (n : ℕ) → ((x : ℕ) → x < n → S x ≡ T x) → count S n ≡ count T n
 count_same S T zero h = refl
 count_same S T (suc n) h =
     let here = ap bit (h n (omega arith)) in

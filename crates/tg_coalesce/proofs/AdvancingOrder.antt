@@ -73,7 +73,7 @@ module _ (w : Work) (h : HasMoves w) where
     class_same = get_or_default w.classes.aliases (end (move_at w.moves.moves i)) (end (move_at w.moves.moves i)) 0 inside
 
   module _ (i : ℕ) (l : i < length w.moves.moves) where
-    inside_both : ((move_at w.moves.moves i).to < length w.classes.aliases) ×
+    pub inside_both : ((move_at w.moves.moves i).to < length w.classes.aliases) ×
         ((move_at w.moves.moves i).from < length w.classes.aliases)
     inside_both =
         let both_below = h.table.ends_below i (record { to = 0; from = 0 }) l in

@@ -81,7 +81,7 @@ told_last Coalesced e = refl
 told_last Constrained e = refl
 told_last Frozen e = refl
 
-last_rests : (s : MoveState) → is_ready_or_waiting s ≡ false → is_waiting s ≡ false
+pub last_rests : (s : MoveState) → is_ready_or_waiting s ≡ false → is_waiting s ≡ false
 last_rests Ready e = cc
 last_rests Waiting e = cc
 last_rests Coalesced e = refl
