@@ -20,3 +20,4 @@ pub mod AdvancingListing
 pub mod AdvancingOrder
 pub mod AdvancingLosing
 pub mod Trying
+pub mod GivingUp

@@ -25,6 +25,10 @@ returns-else-not-is_register c =
     let w = c.args.self.now in
     let x = c.args.node in
     elim c.else-not-is_register.branch [
-      else-not-is_register-via-then-not-is_register+else-remains v ↦ ?
-    | else-not-is_register-via-else-not-is_register v ↦ ?
+      else-not-is_register-via-then-not-is_register+else-remains v ↦
+        sym (relisted_not x w (and_right (not (is_register x)) (is_left w.lists x) (sym v.if-remains.ensures)))
+    | else-not-is_register-via-else-not-is_register v ↦
+        sym
+        (relisted_not x w
+        (and_left (not (is_register x)) (is_left w.lists x) (ap not (sym v.if-not-is_register.ensures))))
     ]
