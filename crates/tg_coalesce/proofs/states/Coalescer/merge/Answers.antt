@@ -1,6 +1,6 @@
 use Rattle.std.proofs.Common.{◌≡◌, ◌<◌, length, get_or, sym, ap, ◌∙◌, subst, arith}
 use Rattle.tg_graph.specs.Interference.{Interference, neighbours}
-use Rattle.tg_coalesce.specs.Works.{Work, awake}
+use Rattle.tg_coalesce.specs.Works.{Work, awake, relisted}
 use Rattle.tg_coalesce.specs.Steps.{merged, passed_on}
 use Rattle.tg_coalesce.proofs.Edges.{passed_nodes}
 use Rattle.tg_coalesce.proofs.Folds.{fold_end, fold_next}
@@ -98,11 +98,25 @@ loop-place-preserved c =
     }
 
 pub wake-requires-2 : goal.wake-requires-2
-wake-requires-2 c = ?
+wake-requires-2 c =
+    let same = nodes_there c.args.kept c.args.gone c.args.self.now c.loop-place.invariant.merges c.loop-place.place _
+    (c.self-2.view_is ∙ c.loop-place.invariant.so_far) in
+    omega (arith, same, c.self-2.invariant.touching, c.requires.kept)
 
 pub relist-requires : goal.relist-requires
-relist-requires c = ?
+relist-requires c =
+    let same = nodes_there c.args.kept c.args.gone c.args.self.now c.loop-place.invariant.merges c.loop-place.place _
+    (c.self-2.view_is ∙ c.loop-place.invariant.so_far) in
+    omega (arith, same, c.requires.kept)
 
 pub returns : goal.returns
 unfolding merged
-returns c = ?
+returns c =
+    let kept = c.args.kept in
+    let w = c.args.self.now in
+    let all = fold_end (passed_on kept) (as_one kept c.args.gone w) (neighbours w.graph c.args.gone) c.loop-place.place
+    c.loop-place.self (omega (arith, c.loop-place.invariant.size, c.loop-place-test.false)) c.loop-place.invariant.so_far in
+    c.relist.ensures
+    ∙ ap (λ (v : Work). relisted kept v)
+    (awake_as _ c.loop-place.self c.wake-2.new.self kept c.self-2.view_is c.in_ok-wake-2.ensures.ok
+    ∙ ap (λ (v : Work). awake kept v) all)
