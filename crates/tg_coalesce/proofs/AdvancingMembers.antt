@@ -1,7 +1,7 @@
 -- What is in lists of numbers without repeats, and how many of it pass a test.
 use Rattle.std.proofs.Common.{◌≡◌, ◌≢◌, ℕ, zero, suc, ◌+◌, ◌<◌, ◌≤◌, Bool, true, false, ◌&&◌, ◌||◌, ◌⊎◌, inl, inr, List, [], ◌∷◌, length, get_or, All, Some, cond, refl, sym, ap, subst, ◌∙◌, arith, ⊎_elim}
 use Rattle.std.specs.Prelude.{nat_eq, ◌==◌, count_by, sum_by, slice_get}
-use Rattle.std.specs.List.{IsDistinct, AllByRecursion}
+use Rattle.std.specs.List.{IsDistinct, AllByRecursion, list_any}
 use Rattle.std.proofs.lemmas.List.Sums.{sum_by-cons}
 use Rattle.std.proofs.lemmas.List.Folds.{list_any_at}
 use Rattle.std.proofs.lemmas.Bool.Decides.{eqb_tells}
@@ -24,7 +24,7 @@ cond_bit : (b : Bool) → cond b 1 0 ≡ bit b
 cond_bit true = refl
 cond_bit false = refl
 
-pub count_cons : (p : ℕ → Bool) (x : ℕ) (xs : List ℕ) → count_by p (x ∷ xs) ≡ bit (p x) + count_by p xs
+pub count_cons : {A : Type 0} (p : A → Bool) (x : A) (xs : List A) → count_by p (x ∷ xs) ≡ bit (p x) + count_by p xs
 count_cons p x xs =
     let one = sum_by-cons (λ y. cond (p y) 1 0) x xs in
     let b = cond_bit (p x) in
@@ -52,6 +52,21 @@ all_among P x (y ∷ ys) h e =
 
 pub all_from_among : (P : ℕ → Type 0) (xs : List ℕ) → ((x : ℕ) → is_among x xs ≡ true → P x) → All P xs
 all_from_among P xs h = λ k d l. h (get_or xs k d) (among_at xs k d l)
+
+-- what passes of a list
+pub any_among : (p : ℕ → Bool) (x : ℕ) (xs : List ℕ) → is_among x xs ≡ true → p x ≡ true → list_any p xs ≡ true
+any_among p x [] e t = cc
+any_among p x (y ∷ ys) e t =
+    ⊎_elim (λ s. or_left (p y) (list_any p ys) (subst (λ z. p z ≡ true) (same_node x y s) t))
+    (λ s. or_right (p y) (list_any p ys) (any_among p x ys s t))
+    (either (x == y) (is_among x ys) e)
+
+pub any_found : (p : ℕ → Bool) (xs : List ℕ) → list_any p xs ≡ true → (x : ℕ) × (is_among x xs ≡ true) × (p x ≡ true)
+any_found p [] e = cc
+any_found p (y ∷ ys) e =
+    ⊎_elim (λ s. (y, or_left (y == y) (is_among y ys) (same_test y y refl), s))
+    (λ s. let found = any_found p ys s in (found.0, or_right (found.0 == y) (is_among found.0 ys) found.1, found.2))
+    (either (p y) (list_any p ys) e)
 
 -- a list without repeats
 pub not_again : (x : ℕ) (xs : List ℕ) → IsDistinct nat_eq (x ∷ xs) → is_among x xs ≡ false

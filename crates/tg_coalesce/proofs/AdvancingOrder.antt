@@ -1,7 +1,7 @@
 -- What is known of work in order: which nodes remain, which moves end where, what is in each worklist.
 use Rattle.std.proofs.Common.{◌≡◌, ◌≢◌, ℕ, ◌+◌, ◌<◌, ◌≤◌, Bool, true, false, not, ◌&&◌, ◌||◌, ◌⊎◌, inl, inr, List, [], length, get_or, All, refl, sym, ap, subst, ◌∙◌, arith, ⊎_elim}
 use Rattle.std.specs.Prelude.{◌==◌, nat_eq, nat_lt, count_by, IsFalse}
-use Rattle.std.proofs.lemmas.Bool.{ltb-true, lt-ltb, same_from_decides}
+use Rattle.std.proofs.lemmas.Bool.{ltb-true, lt-ltb}
 use Rattle.std.proofs.lemmas.List.{get_or_default}
 use Rattle.std.proofs.lemmas.List.Elements.{All-get_or}
 use Rattle.tg_rounds.specs.declared.moves.Move.{Move}

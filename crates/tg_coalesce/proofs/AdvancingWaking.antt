@@ -57,6 +57,10 @@ told_open Coalesced = refl
 told_open Constrained = refl
 told_open Frozen = refl
 
+pub woken_unsettled : (t u : Table) → IsWoken t u → (i : ℕ) → is_unsettled u i ≡ is_unsettled t i
+woken_unsettled t u k i =
+    sym (told_open (state_at u i)) ∙ (ap is_ready_or_waiting (k.told i) ∙ told_open (state_at t i))
+
 -- one move is tried again
 module _ (t : Table) (i : ℕ) where
   abbrev again : Table

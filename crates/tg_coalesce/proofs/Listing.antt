@@ -3,9 +3,9 @@ use Rattle.std.proofs.Common.{◌≡◌, ◌≢◌, ℕ, zero, suc, ◌+◌, ◌
 use Rattle.std.specs.Prelude.{sum, sum_by, fold}
 use Rattle.std.specs.List.{All, range_with_len}
 use Rattle.std.proofs.lemmas.Bool.{cases_eq, cases_lt}
-use Rattle.std.proofs.lemmas.List.{length-set, get_or-set_same, get_or-set_other, set_past}
+use Rattle.std.proofs.lemmas.List.{length-set, get_or-set_same, get_or-set_other, set_past, get_or_default}
 use Rattle.std.proofs.lemmas.List.Elements.{All-append, All-nil, All-push, All-cons, All-weaker}
-use Rattle.std.proofs.lemmas.List.Sums.{sum_by-set}
+use Rattle.std.proofs.lemmas.List.Sums.{sum_by-set, get_or-le-sum_by}
 use Rattle.tg_coalesce.specs.Lists.{list_at, pushed, poured, moved_sum, raised, lowered, set_at_all}
 
 -- what holds of each list holds of each after one was replaced by another of which it holds
@@ -89,3 +89,15 @@ pub length_set_at_all : (number : ℕ) (places list : List ℕ) → length (set_
 length_set_at_all number [] list = refl
 length_set_at_all number (at ∷ places) list =
     length_set_at_all number places (set list at number) ∙ length-set list at number
+
+-- what was read of a list of numbers is within its sum
+pub read_within : (xs : List ℕ) (i v bound : ℕ) → i < length xs → v ≡ get_or xs i v → sum xs ≤ bound → v ≤ bound
+read_within xs i v bound l e h =
+    let here : get_or xs i v ≤ sum_by (λ x. x) xs = get_or-le-sum_by (λ x. x) xs i v l in
+    omega (arith, here, e, h)
+
+pub raised_read : (xs : List ℕ) (i v : ℕ) → i < length xs → v ≡ get_or xs i v → set xs i (v + 1) ≡ raised i xs
+raised_read xs i v l e = ap (λ n. set xs i (n + 1)) (e ∙ get_or_default xs i v 0 l)
+
+pub lowered_read : (xs : List ℕ) (i v : ℕ) → i < length xs → v ≡ get_or xs i v → set xs i (v - 1) ≡ lowered i xs
+lowered_read xs i v l e = ap (λ n. set xs i (n - 1)) (e ∙ get_or_default xs i v 0 l)
