@@ -14,7 +14,7 @@ use Rattle.tg_coalesce.specs.Passing.{passes, stands_under}
 use Rattle.tg_coalesce.specs.Steps.{CanLose, coalesced, tried, tried_out}
 use Rattle.tg_coalesce.specs.Standing.{IsOrderly}
 use Rattle.tg_coalesce.proofs.AdvancingMembers.{among_first}
-use Rattle.tg_coalesce.proofs.Counters.{has_neighbour}
+use Rattle.tg_coalesce.proofs.Counters.{has_neighbour, loses_alike}
 use Rattle.tg_coalesce.proofs.Edges.{registers_apart}
 use Rattle.tg_coalesce.proofs.Ends.{CanSettle, can_settle, from_counted, to_counted, toward_left, away_left}
 use Rattle.tg_coalesce.proofs.Stepping.{settled_degrees, settled_graph, settled_left}
@@ -137,11 +137,9 @@ module _ (i : ℕ) (w : Work) (o : IsOrderly w) (l : i < length w.moves.moves) (
 
 -- where a move is settled neighbours have as many to lose
 pub settled_loses : (i x : ℕ) (w : Work) → CanLose w x → CanLose (settled i Coalesced w) x
-settled_loses i x w c = λ z among o.
-    let s = settled i Coalesced w in
-    let was = ap (λ (g : Interference). is_among z (neighbours g x)) (settled_graph i Coalesced w) in
-    let same = ap (λ b. not (is_register z) && b) (settled_left i Coalesced w z) in
-    subst (λ ds. 0 < get_or ds z 0) (sym (settled_degrees i Coalesced w)) (c z (sym was ∙ among) (sym same ∙ o))
+settled_loses i x w c =
+    loses_alike x w (settled i Coalesced w) (settled_graph i Coalesced w) (settled_degrees i Coalesced w)
+    (settled_left i Coalesced w) c
 
 -- one step more of any work that is alike
 stepped_as : (v s : Work) (steps : List Step) (step : Step) → v ≡ s → steps ≡ v.steps ++ step ∷ [] →
