@@ -1,11 +1,12 @@
 -- Counters of degrees that are not 0.
-use Rattle.std.proofs.Common.{◌≡◌, ℕ, ◌<◌, ◌≤◌, Bool, true, not, ◌&&◌, sym, ◌∙◌, arith}
+use Rattle.std.proofs.Common.{◌≡◌, ℕ, ◌<◌, ◌≤◌, Bool, true, not, ◌&&◌, get_or, sym, ap, ◌∙◌, subst, arith}
 use Rattle.std.specs.Prelude.{nat_lt}
 use Rattle.std.proofs.lemmas.Bool.{and_from, and_parts, lt-ltb}
 use Rattle.tg_graph.specs.Interference.{IsGraph, colours, interferes, is_among, is_register, neighbours}
 use Rattle.tg_graph.proofs.Joining.{stays_below}
 use Rattle.tg_rounds.proofs.Counting.{count_out}
 use Rattle.tg_coalesce.specs.Works.{Work, degree_at, is_left, is_open}
+use Rattle.tg_coalesce.specs.Steps.{CanLose}
 use Rattle.tg_coalesce.specs.Standing.{HasDegrees}
 use Rattle.tg_coalesce.proofs.Edges.{interferes_either_way}
 
@@ -31,3 +32,11 @@ has_neighbour w x z n d t h left among remains =
       d.exact z all,
       count_out (λ y. (nat_lt y w.graph.nodes && is_left w.lists y) && interferes w.graph z y) x w.graph.nodes h there,
     )
+
+-- and so it has in work with the same graph and counters, in which the same nodes are left
+pub loses_alike : (x : ℕ) (w v : Work) → v.graph ≡ w.graph → v.degrees ≡ w.degrees →
+    ((z : ℕ) → is_left v.lists z ≡ is_left w.lists z) → CanLose w x →
+    CanLose v x
+loses_alike x w v g d l c = λ z among o.
+    subst (λ ds. 0 < get_or ds z 0) (sym d)
+    (c z (sym (ap (λ h. is_among z (neighbours h x)) g) ∙ among) (sym (ap (λ b. not (is_register z) && b) (l z)) ∙ o))

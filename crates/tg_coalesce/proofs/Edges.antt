@@ -1,8 +1,8 @@
 -- What the kept node of a merge leaves as it was, as it takes the neighbours of the one that goes.
 use Rattle.std.proofs.Common.{◌≡◌, ◌≢◌, ℕ, zero, suc, ◌+◌, ◌-◌, ◌<◌, ◌≤◌, Bool, true, false, not, ◌&&◌, ◌||◌, List, [], ◌∷◌, ◌++◌, length, get_or, set, take, refl, sym, ap, ◌∙◌, subst, arith}
 use Rattle.std.specs.Prelude.{◌==◌, nat_eq, nat_lt, if◌then◌else◌, fold}
-use Rattle.std.proofs.lemmas.Bool.{cond_both, le-ltb, lt-ltb, ltb-false, eqb-false, or_from, or_parts, and_left}
-use Rattle.std.proofs.lemmas.List.{get_or-set_other, get_or-set_same, get_or_past, length-set}
+use Rattle.std.proofs.lemmas.Bool.{and_from, cond-false, cond-true, cond_both, le-ltb, lt-ltb, ltb-false, eqb-false, or_from, or_parts, and_left}
+use Rattle.std.proofs.lemmas.List.{get_or-set_other, get_or-set_same, get_or_past, get_or_read, length-set}
 use Rattle.std.proofs.Math.Bool.{or_comm}
 use Rattle.tg_graph.specs.Interference.{Interference, are_joined, colours, interferes, is_among, is_register, neighbours, with_edge, with_neighbour}
 use Rattle.tg_coalesce.specs.Lists.{raised}
@@ -94,6 +94,38 @@ module _ (kept : ℕ) (w : Work) (z : ℕ) where
       cond_both (is_left w.lists z && not (is_register kept)) (raised kept w.degrees) w.degrees
       (λ (ds : List ℕ). get_or ds kept 0 ≤ degree_at w kept + 1) (λ f. raised_at_most kept w.degrees)
       (λ f. omega arith))
+
+-- It is done in place.
+
+pub passed_near : (kept : ℕ) (w : Work) (z : ℕ) → interferes w.graph kept z ≡ true → passed_edge kept w z ≡ bereft w z
+unfolding passed_edge
+passed_near kept w z e = cond-true (interferes w.graph kept z) (bereft w z) _ e
+
+passed_far : (kept : ℕ) (w : Work) (z : ℕ) → interferes w.graph kept z ≡ false → passed_edge kept w z ≡ joined kept w z
+unfolding passed_edge
+passed_far kept w z e = cond-false (interferes w.graph kept z) _ (joined kept w z) e
+
+module _ (kept : ℕ) (v w : Work) (z : ℕ) (same : v ≡ w) (a : interferes v.graph kept z ≡ false) (g : Interference)
+    (f : g ≡ with_edge v.graph kept z) where
+  as_passed : (ds : List ℕ) → (if is_left v.lists z && not (is_register kept) then raised kept v.degrees else v.degrees) ≡ ds →
+      record v { graph = g; degrees = ds } ≡ passed_edge kept w z
+  as_passed ds e =
+      ap (λ h. record v { graph = h; degrees = ds }) f
+      ∙ (ap (λ es. record v { graph = with_edge v.graph kept z; degrees = es }) (sym e)
+      ∙ (sym (passed_far kept v z a) ∙ ap (λ (u : Work). passed_edge kept u z) same))
+
+  pub raised_done : is_left v.lists z ≡ true → is_register kept ≡ false → (d : ℕ) → kept < length v.degrees →
+      d ≡ get_or v.degrees kept d →
+      record v { graph = g; degrees = set v.degrees kept (d + 1) } ≡ passed_edge kept w z
+  raised_done t r d l read =
+      as_passed (set v.degrees kept (d + 1))
+      (cond-true (is_left v.lists z && not (is_register kept)) (raised kept v.degrees) v.degrees
+      (and_from (is_left v.lists z) (not (is_register kept)) t (ap not r))
+      ∙ ap (λ n. set v.degrees kept (n + 1)) (sym (get_or_read v.degrees kept d l read 0)))
+
+  pub unraised_done : (is_left v.lists z && not (is_register kept)) ≡ false → record v { graph = g } ≡ passed_edge kept w z
+  unraised_done t =
+      as_passed v.degrees (cond-false (is_left v.lists z && not (is_register kept)) (raised kept v.degrees) v.degrees t)
 
 -- It takes several.
 

@@ -42,6 +42,7 @@ pub mod AdvancingDone
 pub mod TakingOut
 pub mod Uniting
 pub mod Trying
+pub mod GivingUp
 pub mod AdvancingJoining
 pub mod AdvancingParking
 pub mod AdvancingPassing

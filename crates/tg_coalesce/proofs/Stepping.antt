@@ -1,7 +1,8 @@
 -- What the parts of a step leave as it was: the graph, the nodes that are left, and degrees.
-use Rattle.std.proofs.Common.{◌≡◌, ◌≢◌, ℕ, ◌+◌, ◌-◌, ◌<◌, ◌≤◌, Bool, true, false, not, ◌&&◌, List, length, get_or, set, refl, sym, ap, ◌∙◌, arith}
+use Rattle.std.proofs.Common.{◌≡◌, ◌≢◌, ℕ, ◌+◌, ◌-◌, ◌<◌, ◌≤◌, Bool, true, false, not, ◌&&◌, List, length, get_or, set, refl, sym, ap, ◌∙◌, subst, arith}
 use Rattle.std.specs.Prelude.{◌==◌, if◌then◌else◌, fold}
-use Rattle.std.proofs.lemmas.List.{get_or-set_other}
+use Rattle.std.proofs.lemmas.Bool.{cond-false, cond-true, eq-eqb, ne_eqb}
+use Rattle.std.proofs.lemmas.List.{get_or-set_other, get_or_read, length-set}
 use Rattle.tg_graph.specs.Interference.{Interference, colours, interferes, is_among, is_register, neighbours, with_edge}
 use Rattle.tg_rounds.specs.declared.moves.MoveState.{MoveState}
 use Rattle.tg_coalesce.specs.Lists.{list_at, lowered, raised}
@@ -74,7 +75,7 @@ pub raised_other : (x z : ℕ) (ds : List ℕ) → z ≢ x → get_or (raised x 
 raised_other x z ds d = get_or-set_other ds x z (get_or ds x 0 + 1) 0 d
 
 module _ (w : Work) (x : ℕ) where
-  abbrev less : Work
+  abbrev pub less : Work
   less = record w { degrees = lowered x w.degrees }
 
   -- what is seen alike of the node's list and moves is seen alike of all
@@ -84,6 +85,21 @@ module _ (w : Work) (x : ℕ) where
   bereft_sees see p q =
       either see (not (is_open w x)) w _ (see w) refl
       (either see (degree_at less x == 24) (awake_around x (relisted x less)) less (see w) p q)
+
+  pub bereft_not : is_open w x ≡ false → bereft w x ≡ w
+  unfolding bereft
+  bereft_not o = cond-true (not (is_open w x)) w _ (ap not o)
+
+  module _ (o : is_open w x ≡ true) where
+    pub bereft_turned : degree_at less x ≡ 24 → bereft w x ≡ awake_around x (relisted x less)
+    unfolding bereft
+    bereft_turned e =
+        cond-false (not (is_open w x)) w _ (ap not o) ∙ cond-true (degree_at less x == 24) _ less (eq-eqb (degree_at less x) 24 e)
+
+    pub bereft_lower : degree_at less x ≢ 24 → bereft w x ≡ less
+    unfolding bereft
+    bereft_lower d =
+        cond-false (not (is_open w x)) w _ (ap not o) ∙ cond-false (degree_at less x == 24) _ less (ne_eqb (degree_at less x) 24 d)
 
   pub bereft_graph : (bereft w x).graph ≡ w.graph
   bereft_graph = bereft_sees (λ v. v.graph) (relisted_graph x less) refl
@@ -96,6 +112,36 @@ module _ (w : Work) (x : ℕ) where
       bereft_sees (λ v. degree_at v z)
       (ap (λ ds. get_or ds z 0) (relisted_degrees x less) ∙ lowered_other x z w.degrees d)
       (lowered_other x z w.degrees d)
+
+-- Of work whose counter is lowered in place.
+module _ (v w : Work) (x d : ℕ) (same : v ≡ w) (l : x < length v.degrees) (read : d ≡ get_or v.degrees x d) where
+  abbrev lower : Work
+  lower = record v { degrees = set v.degrees x (d - 1) }
+
+  lower_is : lower ≡ less w x
+  lower_is =
+      ap (λ n. record v { degrees = set v.degrees x (n - 1) }) (get_or_read v.degrees x d l read 0)
+      ∙ ap (λ (u : Work). record u { degrees = lowered x u.degrees }) same
+
+  module _ (o : is_open w x ≡ true) (e : ℕ) (there : e ≡ get_or (set v.degrees x (d - 1)) x e) where
+    degree_there : degree_at (less w x) x ≡ e
+    degree_there =
+        sym (ap (λ (u : Work). degree_at u x) lower_is)
+        ∙ sym (get_or_read (set v.degrees x (d - 1)) x e (omega (arith, l, length-set v.degrees x (d - 1))) there 0)
+
+    pub turned_done : e ≡ 24 → (r a : Work) → r ≡ relisted x lower → a ≡ awake_around x r → a ≡ bereft w x
+    turned_done t r a f g =
+        g
+        ∙ (ap (awake_around x) (f ∙ ap (relisted x) lower_is) ∙ sym (bereft_turned w x o (degree_there ∙ t)))
+
+    pub lower_done : e ≢ 24 → lower ≡ bereft w x
+    lower_done t = lower_is ∙ sym (bereft_lower w x o (λ p. t (sym degree_there ∙ p)))
+
+-- a node stays one where a temporary is put into its list
+pub relisted_below : (x : ℕ) (u v w : Work) → v ≡ relisted x u → u.graph ≡ w.graph → x < w.graph.nodes →
+    x < v.graph.nodes
+relisted_below x u v w e f l =
+    subst (λ (g : Interference). x < g.nodes) (sym (ap (λ (t : Work). t.graph) e ∙ (relisted_graph x u ∙ f))) l
 
 pub all_bereft_graph : (w : Work) (xs : List ℕ) → (fold bereft w xs).graph ≡ w.graph
 all_bereft_graph w xs = fold_keeps bereft (λ v. v.graph) bereft_graph w xs

@@ -1,5 +1,5 @@
 -- How a temporary is taken out, by its neighbours so far.
-use Rattle.std.proofs.Common.{◌≡◌, ℕ, ◌<◌, ◌≤◌, true, not, ◌&&◌, List, [], ◌∷◌, ◌++◌, length, get_or, take, refl, sym, ap, ◌∙◌, arith}
+use Rattle.std.proofs.Common.{◌≡◌, ℕ, ◌<◌, ◌≤◌, true, not, ◌&&◌, List, [], ◌∷◌, ◌++◌, length, get_or, take, refl, sym, ap, ◌∙◌, subst, arith}
 use Rattle.std.specs.Prelude.{fold, nat_eq}
 use Rattle.std.specs.List.{IsDistinct}
 use Rattle.std.proofs.lemmas.Bool.{and_from, and_parts}
@@ -43,3 +43,17 @@ module _ (x : ℕ) (w : Work) where
       let new = ap (λ y. is_among y (take k around)) e ∙ none_before around k 0 d l in
       let same : degree_at (out_to k) z ≡ degree_at w z = all_bereft_degree (out x w) (take k around) z new in
       omega (arith, same, c z among (open_before k z o))
+
+  -- of any work that is as it is then
+  module _ (k : ℕ) (v : Work) (so_far : v ≡ out_to k) where
+    pub graph_there : v.graph ≡ w.graph
+    graph_there = ap (λ (u : Work). u.graph) so_far ∙ out_graph k
+
+    pub list_there : (ys : List ℕ) → ys ≡ neighbours v.graph x → ys ≡ around
+    list_there ys e = e ∙ ap (λ g. neighbours g x) graph_there
+
+    pub counted_there : (z : ℕ) → CanLose w x → IsDistinct nat_eq around → k < length around → z ≡ get_or around k 0 →
+        is_open v z ≡ true →
+        0 < degree_at v z
+    counted_there z c d l e =
+        subst (λ (u : Work). is_open u z ≡ true → 0 < degree_at u z) (sym so_far) (out_counted k z c d l e)

@@ -1,19 +1,20 @@
 -- A move that is tried: what holds of its ends, and what becomes of it.
-use Rattle.std.proofs.Common.{◌≡◌, ◌≢◌, ℕ, ◌<◌, ◌≤◌, Bool, true, false, not, ◌&&◌, ◌||◌, ◌⊎◌, inl, inr, List, length, get_or, refl, sym, ap, ◌∙◌, subst, ⊎_elim, arith}
+use Rattle.std.proofs.Common.{◌≡◌, ◌≢◌, ℕ, ◌<◌, ◌≤◌, Bool, true, false, not, ◌&&◌, ◌||◌, ◌⊎◌, inl, inr, List, [], ◌∷◌, ◌++◌, length, get_or, refl, sym, ap, ◌∙◌, subst, ⊎_elim, arith}
 use Rattle.std.specs.Prelude.{◌==◌, nat_lt, if◌then◌else◌, Some, slice_get}
-use Rattle.std.proofs.lemmas.Bool.{and_parts, cases_lt, cond-false, cond-true, lt-ltb, le-ltb, or_left, or_right}
+use Rattle.std.proofs.lemmas.Bool.{and_parts, cases_lt, cond-false, cond-true, eq-eqb, le-ltb, lt-ltb, ne_eqb, or_left, or_right}
 use Rattle.tg_graph.specs.Interference.{Interference, colours, interferes, is_among, is_register, most_nodes, neighbours}
 use Rattle.tg_rounds.specs.declared.moves.MoveState.TheVariants.{Coalesced, Constrained}
+use Rattle.tg_rounds.specs.declared.steps.Step.{Step}
 use Rattle.tg_rounds.specs.declared.steps.Step.TheVariants.{Same, Constrain}
 use Rattle.tg_coalesce.specs.Lists.{lowered}
 use Rattle.tg_coalesce.specs.Tables as tables
-use Rattle.tg_coalesce.specs.Tables.{is_unsettled, is_waiting, state_at}
+use Rattle.tg_coalesce.specs.Tables.{Table, is_unsettled, is_waiting, state_at}
 use Rattle.tg_coalesce.specs.Works.{Work, degree_at, from, is_left, is_open, settled, stepped, to}
 use Rattle.tg_coalesce.specs.Passing.{passes, stands_under}
-use Rattle.tg_coalesce.specs.Steps.{CanLose, coalesced, tried_out}
+use Rattle.tg_coalesce.specs.Steps.{CanLose, coalesced, tried, tried_out}
 use Rattle.tg_coalesce.specs.Standing.{IsOrderly}
 use Rattle.tg_coalesce.proofs.AdvancingMembers.{among_first}
-use Rattle.tg_coalesce.proofs.Counters.{has_neighbour}
+use Rattle.tg_coalesce.proofs.Counters.{has_neighbour, loses_alike}
 use Rattle.tg_coalesce.proofs.Edges.{registers_apart}
 use Rattle.tg_coalesce.proofs.Ends.{CanSettle, can_settle, from_counted, to_counted, toward_left, away_left}
 use Rattle.tg_coalesce.proofs.Stepping.{settled_degrees, settled_graph, settled_left}
@@ -136,8 +137,97 @@ module _ (i : ℕ) (w : Work) (o : IsOrderly w) (l : i < length w.moves.moves) (
 
 -- where a move is settled neighbours have as many to lose
 pub settled_loses : (i x : ℕ) (w : Work) → CanLose w x → CanLose (settled i Coalesced w) x
-settled_loses i x w c = λ z among o.
-    let s = settled i Coalesced w in
-    let was = ap (λ (g : Interference). is_among z (neighbours g x)) (settled_graph i Coalesced w) in
-    let same = ap (λ b. not (is_register z) && b) (settled_left i Coalesced w z) in
-    subst (λ ds. 0 < get_or ds z 0) (sym (settled_degrees i Coalesced w)) (c z (sym was ∙ among) (sym same ∙ o))
+settled_loses i x w c =
+    loses_alike x w (settled i Coalesced w) (settled_graph i Coalesced w) (settled_degrees i Coalesced w)
+    (settled_left i Coalesced w) c
+
+-- one step more of any work that is alike
+stepped_as : (v s : Work) (steps : List Step) (step : Step) → v ≡ s → steps ≡ v.steps ++ step ∷ [] →
+    record v { steps = steps } ≡ stepped step s
+stepped_as v s steps step e f =
+    ap (λ l. record v { steps = l }) f ∙ ap (stepped step) e
+
+pub is_taken : (v w : Work) (t : Table) → v ≡ w → t ≡ tables.first_taken v.moves → record v { moves = t } ≡ taken w
+is_taken v w t e f =
+    ap (λ (u : Work). record u { moves = t }) e
+    ∙ ap (λ s. record w { moves = s }) (f ∙ ap (λ (u : Work). tables.first_taken u.moves) e)
+
+-- Of work in which the first move is taken, and the two ends of the move.
+module _ (i : ℕ) (w u : Work) (e : u ≡ taken w) (x y : ℕ) (p : x ≡ to u i) (q : y ≡ from u i) where
+  at_ends : {V : Type 0} (f : ℕ → ℕ → V) → f (to u i) (from u i) ≡ f x y
+  at_ends f = ap (λ a. f a (from u i)) (sym p) ∙ ap (λ b. f x b) (sym q)
+
+  as_tried : tried_out i u ≡ tried i w
+  unfolding tried
+  as_tried = ap (λ (v : Work). tried_out i v) e
+
+  pub same_done : x ≡ y → (s v : Work) (steps : List Step) → s ≡ settled i Coalesced u → v ≡ s →
+      steps ≡ v.steps ++ Same i ∷ [] →
+      record v { steps = steps } ≡ tried i w
+  same_done d s v steps f g h =
+      stepped_as v s steps (Same i) g h
+      ∙ (ap (stepped (Same i)) f ∙ (sym (tries_same i u (at_ends (λ a b. a == b) ∙ eq-eqb x y d)) ∙ as_tried))
+
+  module _ (d : x ≢ y) where
+    differ : (to u i == from u i) ≡ false
+    differ = at_ends (λ a b. a == b) ∙ ne_eqb x y d
+
+    pub constrained_done : interferes u.graph x y ≡ true → (s v : Work) (steps : List Step) →
+        s ≡ settled i Constrained u → v ≡ s → steps ≡ v.steps ++ Constrain i ∷ [] →
+        record v { steps = steps } ≡ tried i w
+    constrained_done a s v steps f g h =
+        stepped_as v s steps (Constrain i) g h
+        ∙ (ap (stepped (Constrain i)) f ∙ (sym (tries_constrained i u differ (at_ends (interferes u.graph) ∙ a)) ∙ as_tried))
+
+    module _ (a : interferes u.graph x y ≡ false) where
+      apart : interferes u.graph (to u i) (from u i) ≡ false
+      apart = at_ends (interferes u.graph) ∙ a
+
+      pub parked_done : passes u x y ≡ false → (t : Table) → t ≡ tables.parked i u.moves →
+          record u { moves = t } ≡ tried i w
+      parked_done b t f =
+          ap (λ s. record u { moves = s }) f
+          ∙ (sym (tries_unsafe i u differ apart (at_ends (passes u) ∙ b)) ∙ as_tried)
+
+      pub under_done : passes u x y ≡ true → stands_under u x y ≡ true → (v : Work) → v ≡ coalesced i x y u →
+          v ≡ tried i w
+      under_done b s v f =
+          f
+          ∙ (sym (at_ends (λ m n. coalesced i m n u))
+          ∙ (sym (tries_under i u differ apart (at_ends (passes u) ∙ b) (at_ends (stands_under u) ∙ s)) ∙ as_tried))
+
+      pub over_done : passes u x y ≡ true → stands_under u x y ≡ false → (v : Work) → v ≡ coalesced i y x u →
+          v ≡ tried i w
+      over_done b s v f =
+          f
+          ∙ (sym (at_ends (λ m n. coalesced i n m u))
+          ∙ (sym (tries_over i u differ apart (at_ends (passes u) ∙ b) (at_ends (stands_under u) ∙ s)) ∙ as_tried))
+
+      module _ (o : IsOrderly w) (l : i < length w.moves.moves) (first : slice_get w.moves.ready 0 ≡ Some i) where
+        pub under_loses : stands_under u x y ≡ true → CanLose u y
+        under_loses s =
+            let t : colours ≤ from u i = subst (λ z. 25 ≤ z) q (under_temporary u x y d a s) in
+            subst (λ z. CanLose u z) (sym q)
+            (subst (λ (v : Work). 25 ≤ from v i → CanLose v (from v i)) (sym e) (from_loses i w o l first) t)
+
+        pub over_loses : stands_under u x y ≡ false → CanLose u x
+        over_loses s =
+            let t : colours ≤ to u i = subst (λ z. 25 ≤ z) p (over_temporary u x y s) in
+            subst (λ z. CanLose u z) (sym p)
+            (subst (λ (v : Work). 25 ≤ to v i → CanLose v (to v i)) (sym e) (to_loses i w o l first) t)
+
+-- what it takes to settle it, and the room of its ends
+module _ (i : ℕ) (w : Work) (o : IsOrderly w) (l : i < length w.moves.moves) (first : slice_get w.moves.ready 0 ≡ Some i)
+    (u : Work) (e : u ≡ taken w) where
+  pub to_counted_there : 0 < get_or u.moves.unsettled (to u i) 0
+  to_counted_there =
+      subst (λ (v : Work). 0 < get_or v.moves.unsettled (to v i) 0) (sym e) (first_to_counted i w o l first)
+
+  pub from_counted_there : 0 < get_or (lowered (to u i) u.moves.unsettled) (from u i) 0
+  from_counted_there =
+      subst (λ (v : Work). 0 < get_or (lowered (to v i) v.moves.unsettled) (from v i) 0) (sym e)
+      (first_from_counted i w o l first)
+
+  pub room_there : (x : ℕ) → x < u.graph.nodes → degree_at u x ≤ u.graph.nodes
+  room_there x =
+      subst (λ (v : Work). x < v.graph.nodes → degree_at v x ≤ v.graph.nodes) (sym e) (o.degrees.bound x)

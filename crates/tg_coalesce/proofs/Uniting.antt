@@ -9,7 +9,8 @@ use Rattle.tg_graph.specs.Lists.{moved}
 use Rattle.tg_graph.proofs.Joining.{few_neighbours}
 use Rattle.tg_coalesce.specs.Groupings as groupings
 use Rattle.tg_coalesce.specs.Tables as tables
-use Rattle.tg_coalesce.specs.Works.{Work, degree_at, is_left, is_open}
+use Rattle.tg_coalesce.specs.Tables.{Table, woken}
+use Rattle.tg_coalesce.specs.Works.{Work, awake, degree_at, is_left, is_open}
 use Rattle.tg_coalesce.specs.Steps.{CanLose, passed_on}
 use Rattle.tg_coalesce.proofs.AdvancingMembers.{among_at}
 use Rattle.tg_coalesce.proofs.Folds.{among_take, none_before}
@@ -23,6 +24,10 @@ as_one kept gone w = record w {
   classes = groupings.joined kept gone w.classes;
   moves = tables.joined kept gone w.moves;
 }
+
+-- after so many are
+abbrev pub one_to : (kept gone : ℕ) → Work → ℕ → Work
+one_to kept gone w k = fold (passed_on kept) (as_one kept gone w) (take k (neighbours w.graph gone))
 
 -- what merges ask of the graph and the two nodes
 pub record CanMerge (kept gone : ℕ) (w : Work) : Type 0 where
@@ -42,11 +47,10 @@ module _ (kept gone : ℕ) (w : Work) (c : CanMerge kept gone w) where
   abbrev one : Work
   one = as_one kept gone w
 
-  -- after so many are
-  abbrev pub one_to : ℕ → Work
-  one_to k = fold (passed_on kept) one (take k around)
+  abbrev upto : ℕ → Work
+  upto k = one_to kept gone w k
 
-  pub one_nodes : (k : ℕ) → (one_to k).graph.nodes ≡ w.graph.nodes
+  pub one_nodes : (k : ℕ) → (upto k).graph.nodes ≡ w.graph.nodes
   one_nodes k = all_passed_nodes kept one (take k around)
 
   gone_not_around : is_among gone around ≡ false
@@ -56,7 +60,7 @@ module _ (kept gone : ℕ) (w : Work) (c : CanMerge kept gone w) where
   kept_not_around =
       c.graph.exact gone kept c.temporary ∙ (interferes_either_way w.graph gone kept ∙ c.apart)
 
-  pub one_neighbours : (k : ℕ) → neighbours (one_to k).graph gone ≡ around
+  pub one_neighbours : (k : ℕ) → neighbours (upto k).graph gone ≡ around
   one_neighbours k =
       all_passed_neighbours kept one (take k around) gone c.temporary (λ e. c.differ (sym e))
       (among_take gone around k gone_not_around)
@@ -70,23 +74,23 @@ module _ (kept gone : ℕ) (w : Work) (c : CanMerge kept gone w) where
       both : (b : Bool) → b ≡ true → b ≡ false → ⊥
       both b q r = cc
 
-  open_before : (k z : ℕ) → is_open (one_to k) z ≡ true → is_open w z ≡ true
+  open_before : (k z : ℕ) → is_open (upto k) z ≡ true → is_open w z ≡ true
   open_before k z o =
-      let parts = and_parts (not (is_register z)) (is_left (one_to k).lists z) o in
+      let parts = and_parts (not (is_register z)) (is_left (upto k).lists z) o in
       and_from (not (is_register z)) (is_left w.lists z) parts.0
       (left_then w.lists gone z Merged refl (sym (all_passed_left kept one (take k around) z) ∙ parts.1))
 
   -- the next one has a neighbour to lose, and the kept node has room for it
-  pub one_counted : (k z : ℕ) → k < length around → z ≡ get_or around k 0 → is_open (one_to k) z ≡ true →
-      0 < degree_at (one_to k) z
+  pub one_counted : (k z : ℕ) → k < length around → z ≡ get_or around k 0 → is_open (upto k) z ≡ true →
+      0 < degree_at (upto k) z
   one_counted k z l e o =
       let among : is_among z around ≡ true = ap (λ y. is_among y around) e ∙ among_at around k 0 l in
       let new = ap (λ y. is_among y (take k around)) e ∙ none_before around k 0 (c.graph.distinct gone) l in
-      let same : degree_at (one_to k) z ≡ degree_at w z =
+      let same : degree_at (upto k) z ≡ degree_at w z =
       all_passed_degree kept one (take k around) z (λ p. others_differ k z l e (sym p)) new in
       omega (arith, same, c.counted z among (open_before k z o))
 
-  pub one_room : (k : ℕ) → k < length around → degree_at (one_to k) kept + 1 < 4294967296
+  pub one_room : (k : ℕ) → k < length around → degree_at (upto k) kept + 1 < 4294967296
   one_room k l =
       omega (
         arith,
@@ -96,3 +100,38 @@ module _ (kept gone : ℕ) (w : Work) (c : CanMerge kept gone w) where
         c.room,
         c.few,
       )
+
+  -- of any work that is as it is then
+  module _ (k : ℕ) (v : Work) (so_far : v ≡ upto k) where
+    pub nodes_there : v.graph.nodes ≡ w.graph.nodes
+    nodes_there = ap (λ (u : Work). u.graph.nodes) so_far ∙ one_nodes k
+
+    pub list_there : (ys : List ℕ) → ys ≡ neighbours v.graph gone → ys ≡ around
+    list_there ys e = e ∙ (ap (λ (u : Work). neighbours u.graph gone) so_far ∙ one_neighbours k)
+
+    pub counted_there : (z : ℕ) → k < length around → z ≡ get_or around k 0 → is_open v z ≡ true → 0 < degree_at v z
+    counted_there z l e =
+        subst (λ (u : Work). is_open u z ≡ true → 0 < degree_at u z) (sym so_far) (one_counted k z l e)
+
+    pub room_there : k < length around → degree_at v kept + 1 < 4294967296
+    room_there l = subst (λ (u : Work). degree_at u kept + 1 < 4294967296) (sym so_far) (one_room k l)
+
+-- moves near a node are tried again in place
+pub awake_as : (u v : Work) (t : Table) (z : ℕ) → u ≡ v → t ≡ woken z u.moves → record u { moves = t } ≡ awake z v
+awake_as u v t z e f = ap (λ s. record u { moves = s }) f ∙ ap (λ (s : Work). awake z s) e
+
+-- what a merge asks, by work that is the same and a number that is that of its nodes
+pub can_merge : (kept gone : ℕ) (w v : Work) (n : ℕ) → v ≡ w → IsGraph v.graph → n ≡ v.graph.nodes → n ≤ most_nodes →
+    gone < w.graph.nodes → colours ≤ gone → interferes w.graph kept gone ≡ false → kept ≢ gone → CanLose w gone →
+    degree_at w kept ≤ w.graph.nodes →
+    CanMerge kept gone w
+can_merge kept gone w v n e s f few node temporary apart differ counted room = record {
+  graph = subst (λ (u : Work). IsGraph u.graph) e s;
+  few = omega (arith, f, few, ap (λ (u : Work). u.graph.nodes) e);
+  node = node;
+  temporary = temporary;
+  apart = apart;
+  differ = differ;
+  counted = counted;
+  room = room;
+}
