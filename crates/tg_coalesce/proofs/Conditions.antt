@@ -2,6 +2,7 @@
 use Rattle.std.proofs.Common.{◌≡◌, ℕ, ◌+◌, ◌-◌, ◌<◌, ◌≤◌, Bool, true, false, not, ◌&&◌, List, [], ◌∷◌, length, map, Option, Some, None, slice_get, refl, sym, ap, ◌∙◌, subst, ⊎_elim, arith}
 use Rattle.std.specs.Prelude.{◌==◌, count_by, filter, nat_lt}
 use Rattle.std.specs.List.{range_with_len}
+use Rattle.std.specs.Option.{is_some}
 use Rattle.std.proofs.lemmas.Bool.{cases_lt, lt-ltb}
 use Rattle.std.proofs.lemmas.List.{length-map}
 use Rattle.std.proofs.lemmas.List.Sums.{length-filter}
@@ -15,12 +16,13 @@ use Rattle.tg_rounds.proofs.Counting.{count_out}
 use Rattle.tg_rounds.proofs.Deciding.{and_true, both, clash, not_true}
 use Rattle.tg_coalesce.specs.Works.{Work, degree_at, is_left, is_open}
 use Rattle.tg_rounds.specs.Policies.{Rule, candidate_at}
-use Rattle.tg_coalesce.specs.Advancing.{Advances, Progresses, Spills, TryAdvances}
+use Rattle.tg_coalesce.specs.Advancing.{Advances, Progresses, Spills}
 use Rattle.tg_coalesce.specs.Steps.{candidate, candidates, simplified, tried, frozen, spilled}
 use Rattle.tg_coalesce.specs.Standing.{state_of, is_done, is_empty, IsOrderly}
 use Rattle.tg_coalesce.proofs.AdvancingFreeze.{freeze_advances}
 use Rattle.tg_coalesce.proofs.AdvancingSimplify.{simplify_advances}
 use Rattle.tg_coalesce.proofs.AdvancingSpill.{spill_advances}
+use Rattle.tg_coalesce.proofs.AdvancingTry.{try_advances}
 use Rattle.tg_coalesce.proofs.AdvancingMembers.{among_first, count_some}
 use Rattle.tg_coalesce.proofs.AdvancingOrder.{left_remains, open_remains}
 use Rattle.tg_coalesce.proofs.AdvancingPossible.{in_list, for_simplify, for_freeze, for_spill}
@@ -58,7 +60,7 @@ module _ (w : Work) (h : IsOrderly w) where
       let at = in_list w h x worklists.Freeze for_freeze (among_first w.lists.freeze x e) in (at.node, at.remains)
 
   -- where a temporary may be spilled there is a candidate
-  pub some_candidate : (x : ℕ) → slice_get w.lists.spill 0 ≡ Some x → 0 < length (candidates w)
+  some_candidate : (x : ℕ) → slice_get w.lists.spill 0 ≡ Some x → 0 < length (candidates w)
   some_candidate x e =
       let at = in_list w h x worklists.Spill for_spill (among_first w.lists.spill x e) in
       let low = temporary_of w x at.remains in
@@ -66,6 +68,14 @@ module _ (w : Work) (h : IsOrderly w) where
       let there = among_within x colours (w.graph.nodes - colours) low (omega (arith, at.node, low)) in
       let some = count_some (is_left w.lists) x range there (both (not (is_register x)) (is_left w.lists x) at.remains).1 in
       omega (arith, length-map (filter (is_left w.lists) range) (candidate w), length-filter (is_left w.lists) range, some)
+
+  pub spill_candidate : (o : Option ℕ) → o ≡ slice_get w.lists.spill 0 → true ≡ is_some o → 0 < length (candidates w)
+  spill_candidate None e t = cc
+  spill_candidate (Some x) e t = some_candidate x (sym e)
+
+pub no_spill : (o : Option ℕ) (xs : List ℕ) → o ≡ slice_get xs 0 → false ≡ is_some o → xs ≡ []
+no_spill None xs e t = none_first xs e
+no_spill (Some x) xs e t = cc
 
 pub nothing_left : (w : Work) → w.lists.simplify ≡ [] → w.moves.ready ≡ [] → w.lists.freeze ≡ [] → w.lists.spill ≡ [] →
     is_done w ≡ true
@@ -82,10 +92,10 @@ module _ (rule : Rule) (w v : Work) where
     simplify_progresses x f e =
         advance_progresses (subst (Advances w) (sym e) (simplify_advances x w h f))
 
-    pub try_progresses : TryAdvances → w.lists.simplify ≡ [] → (i : ℕ) → slice_get w.moves.ready 0 ≡ Some i →
+    pub try_progresses : w.lists.simplify ≡ [] → (i : ℕ) → slice_get w.moves.ready 0 ≡ Some i →
         v ≡ tried i w →
         Progresses rule w v
-    try_progresses advances a i f e = advance_progresses (subst (Advances w) (sym e) (advances i w h a f))
+    try_progresses a i f e = advance_progresses (subst (Advances w) (sym e) (try_advances i w h a f))
 
     pub freeze_progresses : w.lists.simplify ≡ [] → w.moves.ready ≡ [] → (x : ℕ) →
         slice_get w.lists.freeze 0 ≡ Some x → v ≡ frozen x w →

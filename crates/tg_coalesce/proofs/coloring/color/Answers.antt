@@ -5,7 +5,9 @@ use Rattle.tg_graph.specs.Interference.{colours}
 use Rattle.tg_rounds.specs.declared.rounds.Round.{Round}
 use Rattle.tg_rounds.specs.Rounds.{IsRound}
 use Rattle.tg_coalesce.specs.Advancing.{IsGiven}
-use Rattle.tg_coalesce.specs.Standing.{IsOrderly, IsRunOf, answer_of}
+use Rattle.tg_coalesce.specs.Standing.{IsOrderly, IsRunOf, answer_of, graph_of}
+use Rattle.tg_rounds.specs.States.{problem}
+use Rattle.tg_coalesce.proofs.AdvancingDone.{done_is_round}
 use Rattle.tg_coalesce.proofs.Starting.{start_orderly}
 use Rattle.tg_coalesce.proofs.StartingRun.{start_run}
 use Rattle.tg_coalesce.proofs.coloring.color.Goals as goal
@@ -36,4 +38,24 @@ answer-requires-clause-temporaries g c =
     c.in_ok-take_steps.ensures.orderly.placed.stack_below
 
 pub returns-clause-round : goal.returns-clause-round
-returns-clause-round g c = ?
+returns-clause-round g c =
+    let given : IsGiven c.args.graph c.args.moves.now c.args.marks.now = record {
+      some = c.in_ok-work.ensures.low;
+      few = c.in_ok-work.ensures.few;
+      graph = c.in_ok-work.ensures.graph;
+      sized = c.requires.marks;
+      ends = c.requires.ends;
+      few_moves = c.requires.few_moves;
+      few_uses = c.requires.few_uses;
+    } in
+    let rule = (goal.SpillPolicy-dyn g c.args.policy.now).SpillPolicy.rule c.args.policy.now.1 in
+    let p = problem (graph_of c.args.graph) c.args.moves.now c.args.marks.now rule in
+    let w = c.take_steps.new.self in
+    let begins : IsRunOf p c.in_ok-work.work =
+    subst (IsRunOf p) (sym c.in_ok-work.ensures.value)
+    (start_run c.args.graph c.args.moves.now c.args.marks.now rule given) in
+    let ends : IsRunOf p w = c.in_ok-take_steps.ensures.run p refl begins in
+    IfOk-weaker c.answer.result (λ (round : Round). round ≡ answer_of w) (IsRound p)
+    (λ round e. subst (IsRound p) (sym e)
+    (done_is_round p w c.in_ok-take_steps.ensures.orderly ends c.in_ok-take_steps.ensures.done))
+    c.answer.ensures
