@@ -48,7 +48,7 @@ returns-clause-round g c =
       few_moves = c.requires.few_moves;
       few_uses = c.requires.few_uses;
     } in
-    let rule = (goal.SpillPolicy-dyn g c.args.policy.now).SpillPolicy.rule c.args.policy.now.1 in
+    let rule = (goal.SpillPolicy-dyn g c.args.policy.now).rule c.args.policy.now.1 in
     let p = problem (graph_of c.args.graph) c.args.moves.now c.args.marks.now rule in
     let w = c.take_steps.new.self in
     let begins : IsRunOf p c.in_ok-work.work =

@@ -6,10 +6,10 @@ use Rattle.tg_coalesce.proofs.states.Coalescer.take_steps.Given as goal
 abbrev pub invariant-loop : goal.invariant-loop
 invariant-loop g l = record {
   orderly : IsOrderly l.self;
-  run : (p : Problem) → p.rule ≡ (goal.SpillPolicy-dyn g l.fn.policy.now).SpillPolicy.rule l.fn.policy.now.1 →
+  run : (p : Problem) → p.rule ≡ (goal.SpillPolicy-dyn g l.fn.policy.now).rule l.fn.policy.now.1 →
       IsRunOf p l.fn.self → IsRunOf p l.self;
-  same : (goal.SpillPolicy-dyn g l.policy).SpillPolicy.rule l.policy.1
-      ≡ (goal.SpillPolicy-dyn g l.fn.policy.now).SpillPolicy.rule l.fn.policy.now.1;
+  same : (goal.SpillPolicy-dyn g l.policy).rule l.policy.1
+      ≡ (goal.SpillPolicy-dyn g l.fn.policy.now).rule l.fn.policy.now.1;
 }
 
 abbrev pub decreases-loop : goal.decreases-loop
