@@ -64,6 +64,11 @@ SpillAdvances =
     place < length (candidates w) →
     Spills w (spilled ((candidate_at (candidates w) place).temp + colours) w) place
 
+-- what each of these makes of the work, and of every run by this rule that it is of
+pub record Progresses (rule : Rule) (w v : Work) : Type 0 where
+  pub on : GoesOn w v
+  pub run : (g : Problem) → g.rule ≡ rule → IsRunOf g w → IsRunOf g v
+
 -- what a round is given: a graph, moves between its nodes, and a mark for each node
 pub record IsGiven (g : Interference) (moves : List Move) (marks : List Mark) : Type 0 where
   pub some : colours ≤ g.nodes

@@ -11,13 +11,29 @@ use Rattle.tg_coalesce.proofs.StartingRun.{start_run}
 use Rattle.tg_coalesce.proofs.coloring.color.Goals as goal
 
 pub take_steps-requires : goal.take_steps-requires
-take_steps-requires c = ?
+take_steps-requires c =
+    let given : IsGiven c.args.graph c.args.moves.now c.args.marks.now = record {
+      some = c.in_ok-work.ensures.low;
+      few = c.in_ok-work.ensures.few;
+      graph = c.in_ok-work.ensures.graph;
+      marks = c.requires.marks;
+      ends = c.requires.ends;
+      few_moves = c.requires.few_moves;
+      few_uses = c.requires.few_uses;
+    } in
+    subst IsOrderly (sym c.in_ok-work.ensures.value) (start_orderly c.args.graph c.args.moves.now c.args.marks.now given)
 
 pub answer-requires-clause-below : goal.answer-requires-clause-below
-answer-requires-clause-below c = ?
+answer-requires-clause-below c =
+    let w = c.take_steps.new.self in
+    All-weaker (λ (x : ℕ). (colours ≤ x) × (x < w.graph.nodes)) (λ (x : ℕ). x < w.graph.nodes) (λ x p. p.1) w.stack
+    c.in_ok-take_steps.ensures.orderly.placed.stack_below
 
 pub answer-requires-clause-temporaries : goal.answer-requires-clause-temporaries
-answer-requires-clause-temporaries c = ?
+answer-requires-clause-temporaries c =
+    let w = c.take_steps.new.self in
+    All-weaker (λ (x : ℕ). (colours ≤ x) × (x < w.graph.nodes)) (λ (x : ℕ). colours ≤ x) (λ x p. p.0) w.stack
+    c.in_ok-take_steps.ensures.orderly.placed.stack_below
 
 pub returns-clause-round : goal.returns-clause-round
 returns-clause-round c = ?
