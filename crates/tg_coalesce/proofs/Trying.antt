@@ -1,15 +1,15 @@
 -- A move that is tried: what holds of its ends, and what becomes of it.
-use Rattle.std.proofs.Common.{◌≡◌, ◌≢◌, ℕ, ◌<◌, ◌≤◌, Bool, true, false, not, ◌&&◌, ◌||◌, ◌⊎◌, inl, inr, List, [], ◌∷◌, ◌++◌, length, get_or, refl, sym, ap, ◌∙◌, subst, ⊎_elim, arith}
-use Rattle.std.specs.Prelude.{◌==◌, nat_lt, if◌then◌else◌, Some, slice_get}
+use Rattle.std.proofs.Common.{◌≡◌, ◌≢◌, ℕ, ◌<◌, ◌≤◌, Bool, true, false, not, ◌||◌, ◌⊎◌, inl, inr, List, [], ◌∷◌, ◌++◌, length, get_or, sym, ap, ◌∙◌, subst, ⊎_elim, arith}
+use Rattle.std.specs.Prelude.{◌==◌, if◌then◌else◌, Some, slice_get}
 use Rattle.std.proofs.lemmas.Bool.{and_parts, cases_lt, cond-false, cond-true, eq-eqb, le-ltb, lt-ltb, ne_eqb, or_left, or_right}
-use Rattle.tg_graph.specs.Interference.{Interference, colours, interferes, is_among, is_register, most_nodes, neighbours}
+use Rattle.tg_graph.specs.Interference.{Interference, colours, interferes, is_register}
 use Rattle.tg_rounds.specs.declared.moves.MoveState.TheVariants.{Coalesced, Constrained}
 use Rattle.tg_rounds.specs.declared.steps.Step.{Step}
 use Rattle.tg_rounds.specs.declared.steps.Step.TheVariants.{Same, Constrain}
 use Rattle.tg_coalesce.specs.Lists.{lowered}
 use Rattle.tg_coalesce.specs.Tables as tables
 use Rattle.tg_coalesce.specs.Tables.{Table, is_unsettled, is_waiting, state_at}
-use Rattle.tg_coalesce.specs.Works.{Work, degree_at, from, is_left, is_open, settled, stepped, to}
+use Rattle.tg_coalesce.specs.Works.{Work, degree_at, from, is_left, settled, stepped, to}
 use Rattle.tg_coalesce.specs.Passing.{passes, stands_under}
 use Rattle.tg_coalesce.specs.Steps.{CanLose, coalesced, tried, tried_out}
 use Rattle.tg_coalesce.specs.Standing.{IsOrderly}

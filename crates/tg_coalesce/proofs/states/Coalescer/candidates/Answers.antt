@@ -1,4 +1,4 @@
-use Rattle.std.proofs.Common.{◌≡◌, sym, ◌∙◌}
+use Rattle.std.proofs.Common.{sym, ◌∙◌}
 use Rattle.tg_coalesce.proofs.Candidates.{candidate_gone, candidate_left}
 use Rattle.tg_coalesce.proofs.states.Coalescer.candidates.Goals as goal
 use Rattle.tg_coalesce.proofs.states.Coalescer.candidates.Goals.{then-remains+in_ok-push, else-remains}

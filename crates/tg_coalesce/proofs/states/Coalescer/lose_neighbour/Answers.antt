@@ -1,4 +1,4 @@
-use Rattle.std.proofs.Common.{◌≡◌, ◌<◌, true, length, sym, ap, ◌∙◌, arith}
+use Rattle.std.proofs.Common.{◌≡◌, true, sym, ap, ◌∙◌, arith}
 use Rattle.tg_coalesce.specs.Works.{Work, is_open}
 use Rattle.tg_coalesce.proofs.Stepping.{bereft_not, lower_done, relisted_below, turned_done}
 use Rattle.tg_coalesce.proofs.states.Coalescer.lose_neighbour.Goals as goal
