@@ -1,5 +1,6 @@
 -- The candidates are temporaries that are left.
-use Rattle.std.proofs.Common.{◌≡◌, ℕ, suc, ◌+◌, ◌-◌, ◌<◌, ◌≤◌, Bool, true, false, List, [], ◌∷◌, ◌++◌, length, get_or, map, cond, refl, sym, ap, ◌∙◌, subst, arith}
+use Rattle.std.proofs.Common.{◌≡◌, ℕ, suc, ◌+◌, ◌-◌, ◌<◌, ◌≤◌, Bool, true, false, List, []}
+use Rattle.std.proofs.Common.{◌∷◌, ◌++◌, length, get_or, map, cond, refl, sym, ap, ◌∙◌, subst, arith}
 use Rattle.std.specs.Prelude.{All, filter}
 use Rattle.std.specs.List.{range_with_len}
 use Rattle.std.proofs.lemmas.List.{append-nil, get_or-map, get_or_read, length-map, map-append}
@@ -29,7 +30,7 @@ pub record IsCandidate (w : Work) (x : ℕ) : Type 0 where
   pub node : x < w.graph.nodes
   pub left : is_left w.lists x ≡ true
 
-pub candidate_here : (w : Work) (place : ℕ) → place < length (candidates w) →
+candidate_here : (w : Work) (place : ℕ) → place < length (candidates w) →
     IsCandidate w ((candidate_at (candidates w) place).temp + 25)
 candidate_here w place l =
     let xs = nodes_left w in

@@ -231,7 +231,7 @@ module _ (w : Work) (i : ℕ) (c : CanSettle w) (l : i < length w.moves.moves) (
             ap (λ t. alias_of v (move_at t.moves j).from) m
             ∙ ap (λ h. get_or h.aliases (move_at w.moves.moves j).from 0) k
 
-    pub can_settle_more : CanSettle (settled i state w)
+    can_settle_more : CanSettle (settled i state w)
     can_settle_more =
         settled_as (settled i state w) (settled_graph i state w) (settled_classes i state w) (settled_moves i state w)
         (settled_left i state w)
@@ -255,9 +255,6 @@ can_freeze_all w (i ∷ is) c h =
     can_freeze_all (freeze_one w i) is (can_freeze_more w i c (All-head (λ j. j < length w.moves.moves) i is h))
     (subst (λ (ms : List Move). All (λ j. j < length ms) is) (sym (same_moves w i))
     (All-tail (λ j. j < length w.moves.moves) i is h))
-
-pub frozen_moves : (w : Work) (is : List ℕ) → (fold freeze_one w is).moves.moves ≡ w.moves.moves
-frozen_moves w is = fold_keeps freeze_one (λ v. v.moves.moves) same_moves w is
 
 pub frozen_touching : (w : Work) (is : List ℕ) → (fold freeze_one w is).moves.touching ≡ w.moves.touching
 frozen_touching w is =
