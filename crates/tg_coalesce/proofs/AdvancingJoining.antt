@@ -1,5 +1,6 @@
 -- What it makes of lists that two of their places become one.
-use Rattle.std.proofs.Common.{◌≡◌, ◌≢◌, ℕ, ◌+◌, ◌<◌, ◌≤◌, Bool, true, false, ◌&&◌, ◌||◌, ◌⊎◌, List, [], ◌∷◌, ◌++◌, length, get_or, set, sum, cond, refl, sym, ap, subst, ◌∙◌, arith, ⊎_elim}
+use Rattle.std.proofs.Common.{◌≡◌, ◌≢◌, ℕ, ◌+◌, ◌<◌, ◌≤◌, Bool, true, false, ◌&&◌, ◌||◌, ◌⊎◌, List, [], ◌∷◌, ◌++◌}
+use Rattle.std.proofs.Common.{length, get_or, set, sum, cond, refl, sym, ap, subst, ◌∙◌, arith, ⊎_elim}
 use Rattle.std.specs.Prelude.{nat_eq, ◌==◌, sum_by, fold, if◌then◌else◌}
 use Rattle.std.specs.List.{IsDistinct, AllByRecursion}
 use Rattle.std.proofs.lemmas.Bool.{cases_eq}
@@ -13,12 +14,13 @@ use Rattle.tg_coalesce.proofs.AdvancingMembers.{not_again, distinct_rest}
 -- two lists without repeats that share nothing
 all_from : (x : ℕ) (xs : List ℕ) → is_among x xs ≡ false → AllByRecursion (λ y. nat_eq x y ≡ false) xs
 all_from x [] e = tt
-all_from x (y ∷ ys) e = by (tells (x == y))
+all_from x (y ∷ ys) e = by (x == y) refl e (λ f. all_from x ys f)
   where
-    by : ((x == y) ≡ true) ⊎ ((x == y) ≡ false) → AllByRecursion (λ y. nat_eq x y ≡ false) (y ∷ ys)
-    by t =
-        ⊎_elim (λ (s : (x == y) ≡ true). absurd (clash (or_left (x == y) (is_among x ys) s) e))
-        (λ (s : (x == y) ≡ false). (s, all_from x ys (sym (ap (λ b. b || is_among x ys) s) ∙ e))) t
+    by : (b : Bool) → (x == y) ≡ b → (b || is_among x ys) ≡ false →
+        (is_among x ys ≡ false → AllByRecursion (λ z. nat_eq x z ≡ false) ys) →
+        AllByRecursion (λ z. nat_eq x z ≡ false) (y ∷ ys)
+    by true q f r = cc
+    by false q f r = (q, r f)
 
 pub distinct_joined : (xs ys : List ℕ) → IsDistinct nat_eq xs → IsDistinct nat_eq ys →
     ((x : ℕ) → is_among x xs ≡ true → is_among x ys ≡ false) → IsDistinct nat_eq (xs ++ ys)

@@ -1,5 +1,6 @@
 -- How much is left to do, by what is left of a round.
-use Rattle.std.proofs.Common.{◌≡◌, ◌≢◌, ℕ, zero, suc, ◌+◌, ◌*◌, ◌<◌, ◌≤◌, Bool, true, false, not, ◌&&◌, ◌||◌, List, [], ◌∷◌, length, get_or, refl, sym, ap, subst, ◌∙◌, arith}
+use Rattle.std.proofs.Common.{◌≡◌, ◌≢◌, ℕ, zero, suc, ◌+◌, ◌*◌, ◌<◌, ◌≤◌, Bool, true, false, not, ◌&&◌, ◌||◌, List}
+use Rattle.std.proofs.Common.{[], ◌∷◌, length, get_or, refl, sym, ap, subst, ◌∙◌, arith}
 use Rattle.std.specs.Prelude.{◌==◌, nat_lt, nat_eq, count_by}
 use Rattle.std.specs.List.{IsDistinct}
 use Rattle.std.proofs.lemmas.Bool.{ltb-true, lt-ltb}
@@ -30,7 +31,7 @@ count_first : (S : Set) (n : ℕ) → count S (suc n) ≡ bit (S 0) + count (λ 
 count_first S zero = refl
 count_first S (suc n) = let r = count_first S n in omega (arith, r)
 
-count_same : (S T : Set) (n : ℕ) → ((x : ℕ) → x < n → S x ≡ T x) → count S n ≡ count T n
+pub count_same : (S T : Set) (n : ℕ) → ((x : ℕ) → x < n → S x ≡ T x) → count S n ≡ count T n
 count_same S T zero h = refl
 count_same S T (suc n) h =
     let here = ap bit (h n (omega arith)) in

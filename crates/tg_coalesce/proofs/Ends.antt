@@ -207,9 +207,10 @@ module _ (w : Work) (i : ℕ) (c : CanSettle w) (l : i < length w.moves.moves) (
           ∙ (length-set w.moves.unsettled toward (get_or w.moves.unsettled toward 0 - 1)
           ∙ (c.unsettled ∙ sym (ap (λ h. h.nodes) g))));
       within = λ j b.
-          let h = c.within j (place j b) in
-          (subst (λ y. y < v.graph.nodes) (sym (same_to j)) (back (to w j) h.0),
-          subst (λ y. y < v.graph.nodes) (sym (same_from j)) (back (from w j) h.1));
+          let h = c.within j (place j b) in (
+            subst (λ y. y < v.graph.nodes) (sym (same_to j)) (back (to w j) h.0),
+            subst (λ y. y < v.graph.nodes) (sym (same_from j)) (back (from w j) h.1),
+          );
     }
       where
         node : (x : ℕ) → x < v.graph.nodes → x < w.graph.nodes

@@ -48,3 +48,13 @@ pub mod AdvancingParking
 pub mod AdvancingPassing
 pub mod AdvancingTrying
 pub mod Conditions
+pub mod AdvancingClasses
+pub mod AdvancingCoalesced
+pub mod AdvancingCoalescing
+pub mod AdvancingEnds
+pub mod AdvancingMerged
+pub mod AdvancingMerging
+pub mod AdvancingPassingOn
+pub mod AdvancingPassingOne
+pub mod AdvancingStanding
+pub mod AdvancingTry
