@@ -38,3 +38,5 @@ pub mod AdvancingPassingOne
 pub mod AdvancingStanding
 pub mod AdvancingTry
 pub mod AdvancingTrying
+pub mod AdvancingSafe
+pub mod AdvancingStates
