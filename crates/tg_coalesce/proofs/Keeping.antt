@@ -6,7 +6,7 @@ use Rattle.tg_coalesce.specs.Standing.{IsSized}
 use Rattle.tg_coalesce.specs.Works.{Work, is_open, list_of, relisted}
 
 -- a choice of two values has what both have
-either : {A B : Type 0} (f : A → B) (b : Bool) (x y : A) (v : B) → f x ≡ v → f y ≡ v → f (if b then x else y) ≡ v
+pub either : {A B : Type 0} (f : A → B) (b : Bool) (x y : A) (v : B) → f x ≡ v → f y ≡ v → f (if b then x else y) ≡ v
 either f true x y v p q = p
 either f false x y v p q = q
 

@@ -1,8 +1,10 @@
 -- Vectors of lists, and lists of the numbers of a range.
-use Rattle.std.proofs.Common.{◌≡◌, ℕ, ◌+◌, ◌<◌, true, false, Result, Ok, Err, OnErr, is_err, List, [], ◌∷◌, ◌++◌, length, get_or, set, Vec, map, refl, sym, ap, ◌∙◌, arith}
+use Rattle.std.proofs.Common.{◌≡◌, ℕ, ◌+◌, ◌-◌, ◌<◌, ◌≤◌, true, false, Result, Ok, Err, OnErr, is_err, List, [], ◌∷◌, ◌++◌, length, take, drop, get_or, set, Vec, map, refl, sym, ap, ◌∙◌, arith}
 use Rattle.std.specs.declared.alloc.Global.{Global}
 use Rattle.std.specs.List.{range_with_len}
-use Rattle.std.proofs.lemmas.List.{map-set, get_or-map, set-get_or, set-set, map_push}
+use Rattle.std.proofs.lemmas.List.{map-set, get_or-map, set-get_or, set-set, map_push, length-map, take_at, map-id}
+use Rattle.std.proofs.lemmas.List.Sums.{fold_push}
+use Rattle.std.specs.Prelude.{fold}
 use Rattle.std.proofs.lemmas.List.FromFn.{map-range_with_len_more}
 use Rattle.tg_graph.specs.Keeping.{lists_of}
 use Rattle.tg_coalesce.specs.Lists.{list_at, singletons}
@@ -69,3 +71,24 @@ lists_back vs ws i v left e f =
     ∙ (ap (λ ls. set ls i v.items) e
     ∙ (set-set (lists_of vs) i left v.items
     ∙ (ap (λ xs. set (lists_of vs) i xs) f ∙ set-get_or (lists_of vs) i [])))
+
+pub lists_sized : (vs : List (Vec ℕ Global)) (ls : List (List ℕ)) → lists_of vs ≡ ls → length vs ≡ length ls
+lists_sized vs ls e = sym (length-map vs (λ (v : Vec ℕ Global). v.items)) ∙ ap length e
+
+-- all of a vector written through a slice
+pub all_written : (xs ys : List ℕ) (n : ℕ) → length ys ≡ n → take n (ys ++ drop (length ys) xs) ≡ ys
+all_written xs ys n e = take_at ys (drop (length ys) xs) n e
+
+-- a fold over a range that begins anywhere, one number further
+pub fold_range_more : {A : Type 0} (f : A → ℕ → A) (a : A) (from n : ℕ) → from ≤ n →
+    f (fold f a (range_with_len from (n - from))) n ≡ fold f a (range_with_len from (n + 1 - from))
+fold_range_more f a from n h =
+    let at : from + (n - from) ≡ n = omega (arith, h) in
+    let one : n - from + 1 ≡ n + 1 - from = omega (arith, h) in
+    sym (fold_push f a (range_with_len from (n - from)) n)
+    ∙ (ap (fold f a) (sym (range_from_more from (n - from) n at)) ∙ ap (λ k. fold f a (range_with_len from k)) one)
+  where
+    range_from_more : (b k j : ℕ) → b + k ≡ j → range_with_len b (k + 1) ≡ range_with_len b k ++ j ∷ []
+    range_from_more b k j e =
+        sym (map-id (range_with_len b (k + 1)))
+        ∙ (map-range_with_len_more (λ i. i) b k j e ∙ ap (λ l. l ++ j ∷ []) (map-id (range_with_len b k)))

@@ -6,7 +6,7 @@ use Rattle.std.specs.List.{IsDistinct}
 use Rattle.tg_graph.specs.declared.worklists.Worklist.{Worklist}
 use Rattle.tg_graph.specs.Interference as graphs
 use Rattle.tg_graph.specs.Interference.{Interference, colours, is_register, is_among}
-use Rattle.tg_graph.specs.Interference.{interferes, most_nodes, neighbours}
+use Rattle.tg_graph.specs.Interference.{interferes, most_nodes}
 use Rattle.tg_graph.specs.Lists.{nodes_in, number}
 use Rattle.tg_graph.specs.Laws.{ArePartition}
 use Rattle.tg_rounds.specs.declared.moves.MoveState.{MoveState}
@@ -52,14 +52,6 @@ pub record IsSized (w : Work) : Type 0 where
   pub degrees : length w.degrees ≡ w.graph.nodes
   pub classes : length w.classes.aliases ≡ w.graph.nodes
   pub touching : length w.moves.touching ≡ w.graph.nodes
-
--- the neighbours of each temporary are those that interfere with it, each once
-pub record HasNeighbours (g : Interference) : Type 0 where
-  pub within :
-      (x : ℕ) → colours ≤ x → x < g.nodes → All (λ y. y < g.nodes) (neighbours g x)
-  pub exact :
-      (x y : ℕ) → colours ≤ x → x < g.nodes → is_among y (neighbours g x) ≡ interferes g x y
-  pub distinct : (x : ℕ) → colours ≤ x → x < g.nodes → IsDistinct nat_eq (neighbours g x)
 
 module _ (w : Work) where
   -- each counter is the degree among the nodes that remain

@@ -1,9 +1,10 @@
 -- The steps of a round as the code takes them, each a function of the work before it.
-use Rattle.std.specs.Prelude.{ℕ, ◌+◌, ◌-◌, ◌==◌, Bool, not, ◌&&◌, ◌||◌, if◌then◌else◌}
+use Rattle.std.specs.Prelude.{ℕ, ◌+◌, ◌-◌, ◌<◌, ◌==◌, IsTrue, Bool, not, ◌&&◌, ◌||◌, if◌then◌else◌}
 use Rattle.std.specs.Prelude.{List, [], ◌∷◌, ◌++◌, fold, map, filter, slice_index, slice_set}
 use Rattle.std.specs.List.{range_with_len}
 use Rattle.tg_graph.specs.declared.worklists.Worklist.TheVariants.{Stacked, Merged}
-use Rattle.tg_graph.specs.Interference.{colours, is_register, interferes, neighbours, with_edge}
+use Rattle.tg_graph.specs.Interference.{colours, is_among, is_register, interferes, neighbours}
+use Rattle.tg_graph.specs.Interference.{with_edge}
 use Rattle.tg_graph.specs.Lists.{moved}
 use Rattle.tg_rounds.specs.declared.candidates.Candidate.{Candidate}
 use Rattle.tg_rounds.specs.declared.steps.Step.TheVariants.{Simplify, Same, Constrain, Coalesce}
@@ -24,6 +25,14 @@ bereft w x =
     if not (is_open w x) then w
     else if degree_at less x == colours - 1 then awake_around x (relisted x less)
     else less
+
+-- each temporary next to a node has a neighbour to lose
+abbrev pub CanLose : Work → ℕ → Type 0
+CanLose w x =
+    (z : ℕ) →
+    IsTrue (is_among z (neighbours w.graph x)) →
+    IsTrue (is_open w z) →
+    0 < degree_at w z
 
 -- a temporary is taken out
 unfoldable pub taken_out : ℕ → Work → Work

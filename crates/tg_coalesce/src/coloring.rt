@@ -5,6 +5,7 @@ ghost use Rattle.std.specs.Prelude.{
   ◌^◌,
   All,
   IfOk,
+  IsFalse,
   IsTrue,
   OnOk,
   length,
@@ -14,6 +15,7 @@ ghost use Rattle.std.specs.Prelude.{
 ghost use Rattle.tg_graph.specs.Interference.{colours};
 ghost use Rattle.tg_rounds.specs.Rounds.{IsRound};
 ghost use Rattle.tg_rounds.specs.States.{Problem, problem};
+ghost use Rattle.tg_coalesce.specs.Advancing.{Progresses};
 ghost use Rattle.tg_coalesce.specs.Standing.{
   answer_of,
   graph_of,
@@ -61,19 +63,37 @@ impl Coalescer {
             g.rule ≡ rule policy.old → IsRunOf g self.old → IsRunOf g self.new) }
         ensures same { rule policy.new ≡ rule policy.old }
     {
-        loop {
-            if let Some(node) = self.lists.first(Worklist::Simplify) {
-                self.simplify(node)?;
-            } else if let Some(index) = self.moves.first_ready() {
-                self.try_move(index)?;
-            } else if let Some(node) = self.lists.first(Worklist::Freeze) {
-                self.freeze(node)?;
-            } else if self.lists.first(Worklist::Spill).is_some() {
-                self.spill(alloc, policy)?;
-            } else {
-                return Ok(());
-            }
+        while self.take_step(alloc, policy)? {}
+        Ok(())
+    }
+
+    /// Takes a step of the first kind that is possible, or tries a move that then waits. Tells
+    /// whether there was anything left to do.
+    fn take_step(&mut self, alloc: Global, policy: &mut dyn SpillPolicy) -> Result<bool, Memory>
+        requires { IsOrderly self.old }
+        ensures more { IfOk result (λ more.
+            IsTrue more → Progresses (rule policy.old) self.old self.new) }
+        ensures done { IfOk result (λ more.
+            IsFalse more → (self.new ≡ self.old) × IsTrue (is_done self.old)) }
+        ensures same { rule policy.new ≡ rule policy.old }
+    {
+        if let Some(node) = self.lists.first(Worklist::Simplify) {
+            self.simplify(node)?;
+            return Ok(true);
         }
+        if let Some(index) = self.moves.first_ready() {
+            self.try_move(index)?;
+            return Ok(true);
+        }
+        if let Some(node) = self.lists.first(Worklist::Freeze) {
+            self.freeze(node)?;
+            return Ok(true);
+        }
+        if self.lists.first(Worklist::Spill).is_some() {
+            self.spill(alloc, policy)?;
+            return Ok(true);
+        }
+        Ok(false)
     }
 
     /// What a round that is over answers.

@@ -1,5 +1,5 @@
 ghost use Rattle.std.specs.Prelude.{◌≡◌, ◌<◌, OnOk};
-ghost use Rattle.tg_coalesce.specs.Standing.{HasEnds};
+ghost use Rattle.tg_coalesce.specs.Standing.{IsOrderly};
 ghost use Rattle.tg_coalesce.specs.Steps.{frozen, given_up};
 
 use crate::states::Coalescer;
@@ -10,7 +10,7 @@ impl Coalescer {
     /// The step Freeze.
     pub(crate) fn freeze(&mut self, node: u32) -> Result<(), Memory>
         requires node { node < self.old.graph.nodes }
-        requires ends { HasEnds self.old }
+        requires orderly { IsOrderly self.old }
         ensures { OnOk result (self.new ≡ frozen node self.old) }
     {
         self.freeze_moves(node);
@@ -21,7 +21,7 @@ impl Coalescer {
     /// Gives up the unsettled moves that end in a class.
     pub(crate) fn freeze_moves(&mut self, class: u32)
         requires class { class < self.old.graph.nodes }
-        requires ends { HasEnds self.old }
+        requires orderly { IsOrderly self.old }
         ensures { self.new ≡ given_up class self.old }
     {
         for place in 0..self.moves.touching(class).len() {

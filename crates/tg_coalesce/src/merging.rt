@@ -1,13 +1,22 @@
-ghost use Rattle.std.specs.Prelude.{◌≡◌, ◌≢◌, ◌<◌, ◌≤◌, ◌+◌, ◌^◌, ℕ, IsFalse, IsTrue, OnOk, Some, length, slice_get};
-ghost use Rattle.tg_graph.specs.Interference.{
-  colours,
-  interferes,
-  is_among,
-  neighbours,
+ghost use Rattle.std.specs.Prelude.{
+  ◌≡◌,
+  ◌≢◌,
+  ◌<◌,
+  ◌≤◌,
+  ◌+◌,
+  ◌^◌,
+  IsFalse,
+  IsTrue,
+  OnOk,
+  Some,
+  length,
+  slice_get,
+  slice_index,
 };
-ghost use Rattle.tg_coalesce.specs.Standing.{HasDegrees, HasEnds, IsOrderly};
-ghost use Rattle.tg_coalesce.specs.Steps.{coalesced, merged, passed_edge, tried};
-ghost use Rattle.tg_coalesce.specs.Tables.{is_unsettled};
+ghost use Rattle.tg_graph.specs.Interference.{colours, interferes};
+ghost use Rattle.tg_coalesce.specs.Lists.{lowered};
+ghost use Rattle.tg_coalesce.specs.Standing.{IsOrderly};
+ghost use Rattle.tg_coalesce.specs.Steps.{CanLose, coalesced, merged, passed_edge, tried};
 ghost use Rattle.tg_coalesce.specs.Works.{degree_at, from, is_open, to};
 
 use crate::states::{Coalescer, is_register};
@@ -46,14 +55,17 @@ impl Coalescer {
     /// The step Coalesce, of a move between two classes, of which `gone` is a temporary.
     fn coalesce(&mut self, index: u32, kept: u32, gone: u32) -> Result<(), Memory>
         requires index { index < length self.old.moves.moves }
-        requires unsettled { IsTrue (is_unsettled self.old.moves index) }
         requires kept { kept < self.old.graph.nodes }
         requires gone { gone < self.old.graph.nodes }
         requires temporary { colours ≤ gone }
         requires apart { IsFalse (interferes self.old.graph kept gone) }
         requires differ { kept ≢ gone }
-        requires ends { HasEnds self.old }
-        requires degrees { HasDegrees self.old }
+        requires to_counted { 0 < slice_index self.old.moves.unsettled (to self.old index) }
+        requires from_counted { 0 <
+            slice_index (lowered (to self.old index) self.old.moves.unsettled)
+            (from self.old index) }
+        requires counted { CanLose self.old gone }
+        requires room { degree_at self.old kept ≤ self.old.graph.nodes }
         ensures { OnOk result (self.new ≡ coalesced index kept gone self.old) }
     {
         self.settle(index, MoveState::Coalesced);
@@ -74,12 +86,11 @@ impl Coalescer {
         requires temporary { colours ≤ gone }
         requires apart { IsFalse (interferes self.old.graph kept gone) }
         requires differ { kept ≢ gone }
-        requires counted { (z : ℕ) →
-            IsTrue (is_among z (neighbours self.old.graph gone)) → IsTrue (is_open self.old z) →
-            0 < degree_at self.old z }
-        requires room { degree_at self.old kept + length (neighbours self.old.graph gone) < 2 ^ 32 }
+        requires counted { CanLose self.old gone }
+        requires room { degree_at self.old kept ≤ self.old.graph.nodes }
         ensures { OnOk result (self.new ≡ merged kept gone self.old) }
     {
+        let _nodes = self.graph.nodes();
         self.lists.move_to(gone, Worklist::Merged);
         self.classes.join(kept, gone)?;
         self.moves.join(kept, gone)?;

@@ -1,6 +1,6 @@
-ghost use Rattle.std.specs.Prelude.{◌≡◌, ◌<◌, ◌≤◌, ℕ, IsTrue, OnOk};
-ghost use Rattle.tg_graph.specs.Interference.{colours, is_among, neighbours};
-ghost use Rattle.tg_coalesce.specs.Steps.{bereft, simplified, taken_out};
+ghost use Rattle.std.specs.Prelude.{◌≡◌, ◌<◌, ◌≤◌, IsTrue, OnOk};
+ghost use Rattle.tg_graph.specs.Interference.{colours};
+ghost use Rattle.tg_coalesce.specs.Steps.{CanLose, bereft, simplified, taken_out};
 ghost use Rattle.tg_coalesce.specs.Works.{degree_at, is_open};
 
 use crate::states::{Coalescer, is_register};
@@ -13,9 +13,7 @@ impl Coalescer {
     pub(crate) fn simplify(&mut self, node: u32) -> Result<(), Memory>
         requires node { node < self.old.graph.nodes }
         requires temporary { colours ≤ node }
-        requires counted { (z : ℕ) →
-            IsTrue (is_among z (neighbours self.old.graph node)) → IsTrue (is_open self.old z) →
-            0 < degree_at self.old z }
+        requires counted { CanLose self.old node }
         ensures { OnOk result (self.new ≡ simplified node self.old) }
     {
         self.take_out(node)?;
@@ -27,9 +25,7 @@ impl Coalescer {
     pub(crate) fn take_out(&mut self, node: u32) -> Result<(), Memory>
         requires node { node < self.old.graph.nodes }
         requires temporary { colours ≤ node }
-        requires counted { (z : ℕ) →
-            IsTrue (is_among z (neighbours self.old.graph node)) → IsTrue (is_open self.old z) →
-            0 < degree_at self.old z }
+        requires counted { CanLose self.old node }
         ensures { OnOk result (self.new ≡ taken_out node self.old) }
     {
         self.lists.move_to(node, Worklist::Stacked);

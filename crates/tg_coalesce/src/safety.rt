@@ -49,6 +49,7 @@ impl Coalescer {
         requires second { colours ≤ other }
         ensures { result ≡ passes_briggs self.now one other }
     {
+        let _nodes = self.graph.nodes();
         self.high_around(one) + self.high_apart(other, one) < COLOURS
     }
 

@@ -57,8 +57,8 @@ pub(crate) fn select(alloc: Global, graph: &Graph, stack: &[u32]) -> Result<Sele
         colours: precoloured(alloc, graph.nodes())?,
         spilled: Vec::new(alloc),
     };
-    for node in stack.iter().rev() {
-        selection.pop(graph, *node)?;
+    for place in 0..stack.len() {
+        selection.pop(graph, stack[stack.len() - 1 - place])?;
     }
     Ok(selection)
 }
@@ -113,8 +113,9 @@ fn taken_around(graph: &Graph, colours: &[Option<u8>], node: u32) -> [bool; COLO
 {
     let mut taken = [false; COLOURS as usize];
     for other in graph.neighbours(node) {
-        if let Some(colour) = colours[*other as usize] {
-            taken[colour as usize] = true;
+        match colours[*other as usize] {
+            Some(colour) => taken[colour as usize] = true,
+            None => {}
         }
     }
     taken

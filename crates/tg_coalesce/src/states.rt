@@ -11,16 +11,16 @@ ghost use Rattle.std.specs.Prelude.{
   slice_index,
   sum,
 };
-ghost use Rattle.tg_graph.specs.Interference.{colours, most_nodes};
+ghost use Rattle.tg_graph.specs.Interference.{colours, IsGraph, most_nodes};
 ghost use Rattle.tg_graph.specs.Interference as graphs;
 ghost use Rattle.tg_coalesce.specs.Lists.{lowered};
-ghost use Rattle.tg_coalesce.specs.Standing.{HasNeighbours};
 ghost use Rattle.tg_coalesce.specs.Works as works;
 ghost use Rattle.tg_coalesce.specs.Works.{
   awake_around,
   from,
   is_high,
   is_left,
+  is_open,
   list_of,
   relisted,
   settled,
@@ -99,7 +99,7 @@ impl Coalescer {
         ensures value { IfOk result (λ w. w ≡ started graph moves.now marks.now) }
         ensures low { colours ≤ graph.nodes }
         ensures few { graph.nodes ≤ most_nodes }
-        ensures neighbours { OnOk result (HasNeighbours graph) }
+        ensures graph { IsGraph graph }
     {
         let nodes = graph.nodes();
         let mut work = Coalescer {
@@ -123,6 +123,14 @@ impl Coalescer {
         ensures { result ≡ is_left self.now.lists node }
     {
         holds_remaining(self.lists.place_of(node))
+    }
+
+    /// Whether a node is a temporary that remains.
+    pub(crate) fn is_open(&self, node: u32) -> bool
+        requires { node < self.now.graph.nodes }
+        ensures { result ≡ is_open self.now node }
+    {
+        !is_register(node) && self.remains(node)
     }
 
     /// Whether a node that remains is a register or has as many neighbours as there are colours.
@@ -152,7 +160,7 @@ impl Coalescer {
         requires { node < self.old.graph.nodes }
         ensures { self.new ≡ relisted node self.old }
     {
-        if !is_register(node) && self.remains(node) {
+        if self.is_open(node) {
             let list = self.list_of(node);
             self.lists.move_to(node, list);
         }
@@ -198,8 +206,9 @@ impl Coalescer {
         requires temporary { colours ≤ node }
         ensures { OnOk result (self.new ≡ awake_around node self.old) }
     {
-        for other in self.graph.neighbours(node) {
-            self.moves.wake(*other)?;
+        for place in 0..self.graph.degree(node) {
+            let other = self.graph.neighbours(node)[place as usize];
+            self.moves.wake(other)?;
         }
         Ok(())
     }
@@ -233,14 +242,13 @@ fn holds_high(list: Worklist) -> bool
     }
 }
 
-/// The degree of each temporary, and 0 for each register. On the way it reads all neighbours.
+/// The degree of each temporary, and 0 for each register.
 fn degrees_of(alloc: Global, graph: &Graph) -> Result<Vec<u32>, Memory>
-    ensures value { IfOk result (λ v. v.items ≡ works.first_degrees graph.now) }
-    ensures neighbours { OnOk result (HasNeighbours graph.now) }
+    ensures { IfOk result (λ v. v.items ≡ works.first_degrees graph.now) }
 {
     let mut degrees = vec![in alloc; 0u32; COLOURS as usize]?;
     for node in COLOURS..graph.nodes() {
-        degrees.push(graph.neighbours(node).len() as u32)?;
+        degrees.push(graph.degree(node))?;
     }
     Ok(degrees)
 }

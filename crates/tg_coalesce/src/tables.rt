@@ -8,6 +8,7 @@ ghost use Rattle.std.specs.Prelude.{
   All,
   IfOk,
   IfSome,
+  OnErr,
   OnOk,
   length,
   slice_get,
@@ -28,6 +29,7 @@ ghost use Rattle.tg_coalesce.specs.Tables.{
   parked,
   settled,
   started,
+  tried_again,
   woken,
 };
 
@@ -165,11 +167,22 @@ impl MoveTable {
         ensures ok { OnOk result (self.new ≡ woken class self.old) }
         ensures sized { length self.new.touching ≡ length self.old.touching }
     {
-        for index in &self.touching[class as usize] {
-            if is_waiting(self.states[*index as usize]) {
-                self.states[*index as usize] = MoveState::Ready;
-                self.ready.push_back(*index)?;
-            }
+        for place in 0..self.touching(class).len() {
+            let index = self.touching(class)[place];
+            self.try_again(index)?;
+        }
+        Ok(())
+    }
+
+    /// Makes a move ready, if it waits.
+    fn try_again(&mut self, index: u32) -> Result<(), Memory>
+        requires { index < length self.old.moves }
+        ensures ok { OnOk result (self.new ≡ tried_again self.old index) }
+        ensures err { OnErr result (self.new ≡ self.old) }
+    {
+        if is_waiting(self.states[index as usize]) {
+            self.ready.push_back(index)?;
+            self.states[index as usize] = MoveState::Ready;
         }
         Ok(())
     }
