@@ -4,24 +4,24 @@ use Rattle.std.proofs.Common.{inr, List, [], ◌∷◌, length, map, get_or, con
 use Rattle.std.specs.Prelude.{◌==◌, nat_lt, filter}
 use Rattle.std.specs.List.{range_with_len}
 use Rattle.std.proofs.lemmas.Bool.{cases_lt, lt-ltb, le-ltb, ltb-false}
-use Rattle.std.proofs.lemmas.List.{get_or-map, get_or_default, length-map}
+use Rattle.std.proofs.lemmas.List.{get_or-map, length-map}
 use Rattle.tg_rounds.specs.declared.candidates.Candidate.{Candidate}
 use Rattle.tg_rounds.specs.declared.steps.Step.TheVariants.{Spill}
 use Rattle.tg_rounds.specs.Graphs.{Set, degree, is_register, some}
 use Rattle.tg_rounds.specs.Policies.{candidate_at}
-use Rattle.tg_rounds.specs.States.{Problem, State, problem, remains}
+use Rattle.tg_rounds.specs.States.{Problem, problem, remains}
 use Rattle.tg_rounds.specs.Steps as steps
 use Rattle.tg_rounds.specs.Steps.{can, is_allowed}
 use Rattle.tg_rounds.proofs.Deciding.{clash, both, and_true, either, or_left, or_right, tells, same_node, same_test, some_is, not_true}
 use Rattle.tg_graph.specs.Interference.{is_among}
 use Rattle.tg_graph.proofs.Members.{among_below, among_above}
-use Rattle.tg_coalesce.specs.Works.{Work, degree_at, is_left, is_open, alias_of}
+use Rattle.tg_coalesce.specs.Works.{Work, degree_at, is_left, is_open}
 use Rattle.tg_coalesce.specs.Steps.{candidate, candidates}
 use Rattle.tg_coalesce.specs.Standing.{graph_of, state_of, shown, IsOrderly, IsRunOf}
 use Rattle.tg_coalesce.proofs.AdvancingMembers.{among_at}
-use Rattle.tg_coalesce.proofs.AdvancingOrder.{open_remains, left_remains}
+use Rattle.tg_coalesce.proofs.AdvancingOrder.{open_remains}
 use Rattle.tg_coalesce.proofs.AdvancingPossible.{with_parts, at_problem}
-use Rattle.tg_coalesce.proofs.AdvancingRuns.{holds}
+use Rattle.tg_coalesce.proofs.AdvancingRuns.{own_class}
 
 -- Filters of ranges.
 
@@ -182,11 +182,6 @@ module _ (w : Work) (h : IsOrderly w) where
 
     -- what the code tells of a class is what a round does
     module _ (g : Problem) (run : IsRunOf g w) where
-      own : (z : ℕ) → z < w.graph.nodes → is_left w.lists z ≡ true → alias_of w z ≡ z
-      own z b e =
-          get_or_default w.classes.aliases z 0 z (subst (λ n. z < n) (sym h.sized.classes) b)
-          ∙ (holds g w run).classes.remaining_is_own z (subst (λ n. z < n) run.nodes b) (left_remains w z b e)
-
       same_candidate : (z : ℕ) → is_among z open_nodes ≡ true → candidate w z ≡ steps.candidate g (state_of w) z
       same_candidate z e =
           let n = node_in z e in
@@ -194,7 +189,7 @@ module _ (w : Work) (h : IsOrderly w) where
           h.degrees.exact z (open_remains w z n.0 n.1)
           ∙ ap (λ m. degree m (state_of w).remaining (state_of w).pairs z) run.nodes in
           let q = run.uses z n.0 in
-          let r = run.made z n.0 (own z n.0 (both (not (is_register z)) (is_left w.lists z) n.1).1) in
+          let r = run.made z n.0 (own_class g w run h.sized z n.0 (both (not (is_register z)) (is_left w.lists z) n.1).1) in
           λ i. record { temp = z - 25; degree = p i; uses = q i; made = r i }
 
       pub same_candidates : candidates w ≡ steps.candidates g (state_of w)

@@ -1,15 +1,15 @@
 -- Two classes become one.
-use Rattle.std.proofs.Common.{◌≡◌, ◌≢◌, ℕ, ◌+◌, ◌^◌, ◌<◌, ◌≤◌, Bool, true, false, not, ◌&&◌, ◌||◌, ◌⊎◌, List, [], ◌∷◌}
-use Rattle.std.proofs.Common.{◌++◌, length, get_or, set, All, refl, sym, ap, subst, ◌∙◌, arith, ⊎_elim}
+use Rattle.std.proofs.Common.{◌≡◌, ◌≢◌, ℕ, ◌^◌, ◌<◌, ◌≤◌, Bool, true, false, ◌&&◌, ◌||◌, List, [], ◌∷◌}
+use Rattle.std.proofs.Common.{length, get_or, set, All, refl, sym, ap, subst, ◌∙◌, ⊎_elim}
 use Rattle.std.specs.Prelude.{◌==◌, nat_eq, nat_lt, if◌then◌else◌}
 use Rattle.std.specs.List.{IsDistinct}
 use Rattle.std.proofs.lemmas.Bool.{cases_eq, cases_lt, lt-ltb, le-ltb}
 use Rattle.std.proofs.lemmas.List.{length-set}
 use Rattle.std.proofs.lemmas.List.Elements.{All-append, All-nil, All-set}
 use Rattle.std.proofs.lemmas.List.Folds.{list_any-append}
-use Rattle.tg_rounds.proofs.Deciding.{clash, both, tells, never, same_node, same_test}
+use Rattle.tg_rounds.proofs.Deciding.{both, never, same_node, same_test}
 use Rattle.tg_graph.specs.Interference.{is_among}
-use Rattle.tg_coalesce.specs.Lists.{list_at, poured, set_at_all}
+use Rattle.tg_coalesce.specs.Lists.{list_at, set_at_all}
 use Rattle.tg_coalesce.specs.Groupings.{Grouping, IsGrouping}
 use Rattle.tg_coalesce.specs.Groupings as groupings
 use Rattle.tg_coalesce.specs.Works.{Work, alias_of}

@@ -1,21 +1,20 @@
 -- Uses and marks of the classes after a merge.
-use Rattle.std.proofs.Common.{◌≡◌, ◌≢◌, ℕ, zero, suc, ◌+◌, ◌<◌, ◌≤◌, Bool, true, false, not, ◌&&◌, ◌||◌, ◌⊎◌, List}
-use Rattle.std.proofs.Common.{[], ◌∷◌, length, get_or, cond, refl, sym, ap, subst, ◌∙◌, arith, ⊎_elim}
+use Rattle.std.proofs.Common.{◌≡◌, ◌≢◌, ℕ, zero, suc, ◌+◌, ◌<◌, Bool, true, false, not, ◌&&◌, ◌||◌, List}
+use Rattle.std.proofs.Common.{[], ◌∷◌, length, get_or, cond, refl, sym, ap, subst, ◌∙◌, arith}
 use Rattle.std.specs.Prelude.{◌==◌, sum_by, filter, if◌then◌else◌}
 use Rattle.std.specs.List.{range_with_len}
-use Rattle.std.proofs.lemmas.Bool.{cases_eq, cond-true}
-use Rattle.std.proofs.lemmas.List.{get_or_default, get_or-set_same, get_or-set_other}
+use Rattle.std.proofs.lemmas.Bool.{cond-true}
+use Rattle.std.proofs.lemmas.List.{get_or-set_same, get_or-set_other}
 use Rattle.std.proofs.lemmas.List.Elements.{filter_agree}
 use Rattle.std.proofs.lemmas.List.Sums.{sum_by-cons}
 use Rattle.tg_rounds.specs.Graphs.{Set, every}
-use Rattle.tg_rounds.specs.States.{Problem, State, mark_at, members, all_made}
+use Rattle.tg_rounds.specs.States.{Problem, State, mark_at, all_made}
 use Rattle.tg_rounds.proofs.Deciding.{clash, never, same_node, same_test}
 use Rattle.tg_coalesce.specs.Groupings.{is_made}
 use Rattle.tg_coalesce.specs.Works.{Work, is_left, alias_of}
 use Rattle.tg_coalesce.specs.Standing.{state_of, IsOrderly, IsRunOf}
-use Rattle.tg_coalesce.proofs.AdvancingOrder.{left_remains}
-use Rattle.tg_coalesce.proofs.AdvancingRuns.{holds}
-use Rattle.tg_coalesce.proofs.AdvancingJoining.{sum_kept, sum_gone, sum_other}
+use Rattle.tg_coalesce.proofs.AdvancingRuns.{own_class}
+use Rattle.tg_coalesce.proofs.AdvancingJoining.{by_place, sum_kept, sum_gone, sum_other}
 use Rattle.tg_coalesce.proofs.AdvancingClasses.{classes_after, alias_after, renamed, named_kept, named_gone, named_other}
 
 -- two sets that share nothing
@@ -60,18 +59,6 @@ module _ (g : Problem) (w : Work) (h : IsOrderly w) (run : IsRunOf g w) (kept go
   abbrev pub alias_then : ℕ → ℕ
   alias_then y = renamed kept gone (s.alias y)
 
-  own : (z : ℕ) → z < w.graph.nodes → is_left w.lists z ≡ true → alias_of w z ≡ z
-  own z b e =
-      get_or_default w.classes.aliases z 0 z (subst (λ n. z < n) (sym h.sized.classes) b)
-      ∙ (holds g w run).classes.remaining_is_own z (subst (λ n. z < n) run.nodes b) (left_remains w z b e)
-
-  by_place : (P : ℕ → Type 0) → P kept → P gone → ((z : ℕ) → z ≢ kept → z ≢ gone → P z) → (z : ℕ) → P z
-  by_place P a b c z =
-      ⊎_elim (λ (p : z ≡ kept). subst P (sym p) a)
-      (λ (e : z ≢ kept).
-      ⊎_elim (λ (p : z ≡ gone). subst P (sym p) b) (λ (f : z ≢ gone). c z e f) (cases_eq z gone))
-      (cases_eq z kept)
-
   -- Uses.
 
   uses_inside : (z : ℕ) → z < w.graph.nodes → z < length w.classes.uses
@@ -114,7 +101,7 @@ module _ (g : Problem) (w : Work) (h : IsOrderly w) (run : IsRunOf g w) (kept go
   pub uses_after : (x : ℕ) → x < w.graph.nodes → get_or (classes_after w h kept gone l m d).uses x 0 ≡
       uses_of (filter (λ y. alias_then y == x) (range_with_len 0 g.graph.nodes))
   unfolding Used
-  uses_after x b = by_place Used used_kept used_gone used_other x b
+  uses_after x b = by_place kept gone Used used_kept used_gone used_other x b
 
   -- Marks.
 
@@ -139,8 +126,8 @@ module _ (g : Problem) (w : Work) (h : IsOrderly w) (run : IsRunOf g w) (kept go
   made_kept b own_now =
       get_or-set_same w.classes.made kept (is_made w.classes kept && is_made w.classes gone) false
       (subst (λ j. kept < j) (sym (h.grouping.made_sized ∙ h.sized.classes)) l)
-      ∙ (ap (λ c. c && is_made w.classes gone) (run.made kept l (own kept l kept_left))
-      ∙ (ap (λ c. all_made g s kept && c) (run.made gone m (own gone m gone_left))
+      ∙ (ap (λ c. c && is_made w.classes gone) (run.made kept l (own_class g w run h.sized kept l kept_left))
+      ∙ (ap (λ c. all_made g s kept && c) (run.made gone m (own_class g w run h.sized gone m gone_left))
       ∙ (sym (every_both (λ y. not (s.alias y == kept) || (mark_at g s y).made)
       (λ y. not (s.alias y == gone) || (mark_at g s y).made) g.graph.nodes)
       ∙ ap (λ S. every S g.graph.nodes)
@@ -151,7 +138,7 @@ module _ (g : Problem) (w : Work) (h : IsOrderly w) (run : IsRunOf g w) (kept go
   unfolding Made
   made_gone b own_now =
       absurd (d (sym (alias_after w h kept gone l m d gone 0 m
-      ∙ cond-true _ _ _ (same_test (alias_of w gone) gone (own gone m gone_left))) ∙ own_now))
+      ∙ cond-true _ _ _ (same_test (alias_of w gone) gone (own_class g w run h.sized gone m gone_left))) ∙ own_now))
 
   made_other : (z : ℕ) → z ≢ kept → z ≢ gone → Made z
   unfolding Made
@@ -168,4 +155,4 @@ module _ (g : Problem) (w : Work) (h : IsOrderly w) (run : IsRunOf g w) (kept go
   pub made_after : (x : ℕ) → x < w.graph.nodes → get_or (classes_after w h kept gone l m d).aliases x 0 ≡ x →
       is_made (classes_after w h kept gone l m d) x ≡ made_then x
   unfolding Made
-  made_after x b e = by_place Made made_kept made_gone made_other x b e
+  made_after x b e = by_place kept gone Made made_kept made_gone made_other x b e

@@ -1,395 +1,249 @@
 -- The step Coalesce keeps the work in order.
-use Rattle.std.proofs.Common.{◌≡◌, ◌≢◌, ℕ, ◌+◌, ◌<◌, ◌≤◌, Bool, true, false, not, ◌&&◌, ◌||◌, ◌⊎◌, inl, inr, List, []}
-use Rattle.std.proofs.Common.{length, get_or, Some, refl, sym, ap, subst, ◌∙◌, arith, ⊎_elim}
-use Rattle.std.specs.Prelude.{◌==◌, nat_lt, nat_eq, count_by, slice_get, if◌then◌else◌, IsFalse}
-use Rattle.std.specs.Bool.{beq}
-use Rattle.std.proofs.lemmas.Bool.{cases_eq, ltb-true, ltb-false, lt-ltb}
+use Rattle.std.proofs.Common.{◌≡◌, ◌≢◌, ℕ, ◌+◌, ◌<◌, ◌≤◌, Bool, true, false, not, ◌&&◌, ◌⊎◌, inl, inr, List, []}
+use Rattle.std.proofs.Common.{length, Some, refl, sym, ap, subst, ◌∙◌, arith, ⊎_elim}
+use Rattle.std.specs.Prelude.{◌==◌, nat_lt, nat_eq, slice_get, if◌then◌else◌, IsFalse}
+use Rattle.std.proofs.lemmas.Bool.{cases_eq, ltb-true, ltb-false}
 use Rattle.tg_rounds.specs.declared.moves.MoveState.{MoveState}
 use Rattle.tg_rounds.specs.declared.moves.MoveState.TheVariants.{Coalesced}
-use Rattle.tg_rounds.specs.declared.steps.Step.{Step}
-use Rattle.tg_rounds.specs.declared.steps.Step.TheVariants.{Coalesce}
-use Rattle.tg_rounds.specs.Graphs.{bit, count, some, without}
+use Rattle.tg_rounds.specs.Graphs.{bit, count, without}
 use Rattle.tg_rounds.specs.States.{Problem, State, problem, low}
 use Rattle.tg_rounds.specs.States as states
-use Rattle.tg_rounds.specs.Steps.{can, can_move, after, settle, merge, is_safe, stands_under}
-use Rattle.tg_rounds.specs.Steps as steps
+use Rattle.tg_rounds.specs.Steps.{can_move, after, settle, merge}
 use Rattle.tg_rounds.specs.Degrees.{degree_of}
 use Rattle.tg_rounds.specs.Waiting.{is_woken}
-use Rattle.tg_rounds.proofs.Deciding.{clash, both, and_true, either, or_left, or_right, or_false, tells, never}
+use Rattle.tg_rounds.proofs.Deciding.{clash, both, and_true, or_false, never}
 use Rattle.tg_rounds.proofs.Deciding.{not_true, from_false, same_node, same_test, some_is}
 use Rattle.tg_rounds.proofs.Degrees.{merged_is_less, merged_is_more}
 use Rattle.tg_rounds.proofs.Waiting.{waiting_fails}
-use Rattle.tg_graph.specs.Interference.{Interference, is_among, is_register, interferes, neighbours}
+use Rattle.tg_graph.specs.Interference.{Interference, is_among, is_register, interferes}
 use Rattle.tg_graph.specs.Lists.{Lists}
 use Rattle.tg_graph.proofs.Joining.{either_way}
 use Rattle.tg_coalesce.specs.Lists.{list_at}
-use Rattle.tg_coalesce.specs.Tables.{Table, state_at, is_waiting, move_at}
-use Rattle.tg_coalesce.specs.Works.{Work, degree_at, is_left, is_open, settled, stepped, to, from}
-use Rattle.tg_coalesce.specs.Passing.{passes}
-use Rattle.tg_coalesce.specs.Steps.{merged}
+use Rattle.tg_coalesce.specs.Tables.{state_at, is_waiting}
+use Rattle.tg_coalesce.specs.Works.{Work, is_left, is_open, to, from}
 use Rattle.tg_coalesce.specs.Standing.{shown, state_of, IsOrderly}
 use Rattle.tg_coalesce.proofs.AdvancingMembers.{count_found, one_bit, is_bit}
 use Rattle.tg_coalesce.proofs.AdvancingWaking.{requeued}
 use Rattle.tg_coalesce.proofs.AdvancingListing.{IsShifted, shifted_left, IsListed}
 use Rattle.tg_coalesce.proofs.AdvancingOrder.{sound, to_below, from_below, to_same, from_same}
 use Rattle.tg_coalesce.proofs.AdvancingPossible.{moves_of}
-use Rattle.tg_coalesce.proofs.AdvancingPassing.{passes_told}
 use Rattle.tg_coalesce.proofs.AdvancingPassingOn.{remade}
-use Rattle.tg_coalesce.proofs.AdvancingSettling.{built, here, there, state_settled, orderly_settled, last_rests}
-use Rattle.tg_coalesce.proofs.AdvancingTrying.{index, unsettled, begun, begun_kept, begun_ready, told_unsettled, at_ends}
+use Rattle.tg_coalesce.proofs.AdvancingSettling.{built, here, there, state_settled, orderly_settled}
+use Rattle.tg_coalesce.proofs.AdvancingTrying.{index, unsettled, begun, begun_kept, begun_ready}
 use Rattle.tg_coalesce.proofs.AdvancingClasses.{renamed}
 use Rattle.tg_coalesce.proofs.AdvancingEnds.{listed_after}
 use Rattle.tg_coalesce.proofs.AdvancingMerging.{MayMerge, IsMerged, one, one_there, temporary}
-use Rattle.tg_coalesce.proofs.AdvancingMerged.{ChangesDegrees, v, state_merged, degree_other, orderly_merged}
-
--- what is known of the ends of a move that is coalesced
-pub record Coalesces (w : Work) (i kept gone : ℕ) : Type 0 where
-  pub ends : (((to w i == kept) && (from w i == gone)) || ((to w i == gone) && (from w i == kept))) ≡ true
-  pub apart : (to w i == from w i) ≡ false
-  pub no_pair : interferes w.graph (to w i) (from w i) ≡ false
-  pub temporary : is_register gone ≡ false
-  pub test : passes w (to w i) (from w i) ≡ true
+use Rattle.tg_coalesce.proofs.AdvancingMerged.{ChangesDegrees, state_merged, degree_other, orderly_merged}
+use Rattle.tg_coalesce.proofs.AdvancingSafe.{Coalesces, step, are_ends, kept_below, gone_below, kept_remains, gone_remains, kept_gone}
+use Rattle.tg_coalesce.proofs.AdvancingSafe.{possible}
 
 module _ (i : ℕ) (w : Work) (h : IsOrderly w) (first : slice_get w.moves.ready 0 ≡ Some i) (kept gone : ℕ)
     (c : Coalesces w i kept gone) where
-  abbrev pub step : Step
-  step = Coalesce i kept gone (not (is_register kept))
-
   abbrev s : State
   s = state_of w
 
-  abbrev l : i < length w.moves.moves
-  l = index i w h first
-
-  -- the ends are the two classes, in one order or the other
-  ends_are : (P : ℕ → ℕ → Type 0) → P (to w i) (from w i) → ((a b : ℕ) → P a b → P b a) → P kept gone
-  ends_are P p turn =
-      ⊎_elim
-      (λ (e : ((to w i == kept) && (from w i == gone)) ≡ true).
-      let q = both (to w i == kept) (from w i == gone) e in
-      subst (λ a. P a gone) (same_node (to w i) kept q.0)
-      (subst (λ b. P (to w i) b) (same_node (from w i) gone q.1) p))
-      (λ (e : ((to w i == gone) && (from w i == kept)) ≡ true).
-      let q = both (to w i == gone) (from w i == kept) e in
-      turn gone kept (subst (λ a. P a kept) (same_node (to w i) gone q.0)
-      (subst (λ b. P (to w i) b) (same_node (from w i) kept q.1) p)))
-      (either ((to w i == kept) && (from w i == gone)) ((to w i == gone) && (from w i == kept)) c.ends)
-
-  to_node : to w i < w.graph.nodes
-  to_node = to_below w (moves_of w h) i (index i w h first)
-
-  from_node : from w i < w.graph.nodes
-  from_node = from_below w (moves_of w h) i (index i w h first)
-
-  to_left : is_left w.lists (to w i) ≡ true
-  to_left =
-      let r = (sound w (moves_of w h)).to_remains i (told_unsettled i w h first) in
-      subst (λ x. is_left w.lists x ≡ true) (to_same w (moves_of w h) i (index i w h first))
-      (both (nat_lt (states.to (shown w) s i) w.graph.nodes) (is_left w.lists (states.to (shown w) s i)) r.1).1
-
-  from_left : is_left w.lists (from w i) ≡ true
-  from_left =
-      let r = (sound w (moves_of w h)).from_remains i (told_unsettled i w h first) in
-      subst (λ x. is_left w.lists x ≡ true) (from_same w (moves_of w h) i (index i w h first))
-      (both (nat_lt (states.from (shown w) s i) w.graph.nodes) (is_left w.lists (states.from (shown w) s i)) r.1).1
-
-  record AreEnds (a b : ℕ) : Type 0 where
-    a_node : a < w.graph.nodes
-    b_node : b < w.graph.nodes
-    a_left : is_left w.lists a ≡ true
-    b_left : is_left w.lists b ≡ true
-    differ : a ≢ b
-    no_pair : interferes w.graph a b ≡ false
-
-  are_ends : AreEnds kept gone
-  are_ends =
-      ends_are AreEnds
-      (record {
-        a_node = to_node;
-        b_node = from_node;
-        a_left = to_left;
-        b_left = from_left;
-        differ = λ e. clash (same_test (to w i) (from w i) e) c.apart;
-        no_pair = c.no_pair;
-      })
-      (λ a b e. record {
-        a_node = e.b_node;
-        b_node = e.a_node;
-        a_left = e.b_left;
-        b_left = e.a_left;
-        differ = λ q. e.differ (sym q);
-        no_pair = either_way w.graph b a ∙ e.no_pair;
-      })
-
-  pub kept_below : kept < w.graph.nodes
-  kept_below = are_ends.a_node
-
-  pub gone_below : gone < w.graph.nodes
-  gone_below = are_ends.b_node
-
-  pub kept_remains : is_left w.lists kept ≡ true
-  kept_remains = are_ends.a_left
-
-  pub gone_remains : is_left w.lists gone ≡ true
-  gone_remains = are_ends.b_left
-
-  pub kept_gone : kept ≢ gone
-  kept_gone = are_ends.differ
-
-  -- not both are registers
-  not_both : (is_register (to w i) && is_register (from w i)) ≡ false
-  not_both =
-      never (λ r.
-      let rs = both (is_register (to w i)) (is_register (from w i)) r in
-      ⊎_elim
-      (λ (e : ((to w i == kept) && (from w i == gone)) ≡ true).
-      clash (subst (λ x. is_register x ≡ true) (same_node (from w i) gone (both (to w i == kept) (from w i == gone) e).1)
-      rs.1) c.temporary)
-      (λ (e : ((to w i == gone) && (from w i == kept)) ≡ true).
-      clash (subst (λ x. is_register x ≡ true) (same_node (to w i) gone (both (to w i == gone) (from w i == kept) e).0)
-      rs.0) c.temporary)
-      (either ((to w i == kept) && (from w i == gone)) ((to w i == gone) && (from w i == kept)) c.ends))
-
-  -- the move is safe, and these are its ends
-  pub safe : (states.is_unsettled (shown w) s i && is_safe (shown w) s i &&
-      ((states.to (shown w) s i == kept && states.from (shown w) s i == gone) ||
-      (states.to (shown w) s i == gone && states.from (shown w) s i == kept))) ≡ true
-  safe =
-      and_true
-      (and_true (told_unsettled i w h first)
-      (at_ends i w h first
-      (λ a b. (not (a == b) && not (not (a == b) && (interferes w.graph a b || (is_register a && is_register b))) &&
-      steps.passes (shown w) s a b) ≡ true)
-      (by c.apart c.no_pair not_both
-      (sym (passes_told w h (to w i) (from w i) to_node from_node not_both) ∙ c.test))))
-      (at_ends i w h first (λ a b. (((a == kept) && (b == gone)) || ((a == gone) && (b == kept))) ≡ true) c.ends)
-    where
-      by : {e p r q : Bool} → e ≡ false → p ≡ false → r ≡ false → q ≡ true →
-          (not e && not (not e && (p || r)) && q) ≡ true
-      by {e = true} a b f g = cc
-      by {e = false} {p = true} a b f g = cc
-      by {e = false} {p = false} {r = true} a b f g = cc
-      by {e = false} {p = false} {r = false} a b f g = g
-
-  -- the test was that of Briggs where neither is a register
-  pub by_briggs : beq (not (is_register kept)) (not (is_register kept || is_register gone)) ≡ true
-  by_briggs = by (is_register kept) c.temporary
-    where
-      by : (a : Bool) {b : Bool} → b ≡ false → beq (not a) (not (a || b)) ≡ true
-      by a {b = true} e = cc
-      by true {b = false} e = refl
-      by false {b = false} e = refl
-
-  pub possible : can (shown w) s step ≡ true
-  possible = and_true (and_true safe (stands (is_register kept) c.temporary)) by_briggs
-    where
-      stands : (a : Bool) {b : Bool} → b ≡ false → (a || (not b && true)) ≡ true
-      stands a {b = true} e = cc
-      stands true {b = false} e = refl
-      stands false {b = false} e = refl
-
   module _ (lists : Lists) (shifts : IsShifted w.lists lists)
       (listed : (z : ℕ) → z < w.graph.nodes →
-      IsListed (built (begun i w h first) (begun_kept i w h first) i l (unsettled i w h first) Coalesced refl lists) z)
-      where
-    abbrev pub once : Work
-    once = built (begun i w h first) (begun_kept i w h first) i l (unsettled i w h first) Coalesced refl lists
+      IsListed (built (begun i w h first) (begun_kept i w h first) i (index i w h first) (unsettled i w h first) Coalesced refl lists) z)
+    where
+      abbrev pub once : Work
+      once = built (begun i w h first) (begun_kept i w h first) i (index i w h first) (unsettled i w h first) Coalesced refl lists
 
-    pub orderly_once : IsOrderly once
-    orderly_once =
-        orderly_settled (begun i w h first) (begun_kept i w h first) i l (unsettled i w h first) Coalesced refl lists
-        shifts listed (begun_ready i w h first)
+      pub orderly_once : IsOrderly once
+      orderly_once =
+          orderly_settled (begun i w h first) (begun_kept i w h first) i (index i w h first) (unsettled i w h first) Coalesced refl lists
+          shifts listed (begun_ready i w h first)
 
-    state_once : state_of once ≡ settle (shown w) s i Coalesced
-    state_once =
-        state_settled (begun i w h first) (begun_kept i w h first) i l (unsettled i w h first) Coalesced refl lists
-        shifts listed
+      state_once : state_of once ≡ settle (shown w) s i Coalesced
+      state_once =
+          state_settled (begun i w h first) (begun_kept i w h first) i (index i w h first) (unsettled i w h first) Coalesced refl lists
+          shifts listed
 
-    pub may : MayMerge once kept gone
-    may = record {
-      kept_node = kept_below;
-      kept_left = shifted_left w.lists lists shifts kept ∙ kept_remains;
-      gone_node = gone_below;
-      gone_open = and_true (from_false c.temporary) (shifted_left w.lists lists shifts gone ∙ gone_remains);
-      differ = kept_gone;
-      no_pair = are_ends.no_pair;
-    }
+      pub may : MayMerge once kept gone
+      may = record {
+        kept_node = (kept_below i w h first kept gone c);
+        kept_left = shifted_left w.lists lists shifts kept ∙ (kept_remains i w h first kept gone c);
+        gone_node = (gone_below i w h first kept gone c);
+        gone_open = and_true (from_false c.temporary) (shifted_left w.lists lists shifts gone ∙ (gone_remains i w h first kept gone c));
+        differ = (kept_gone i w h first kept gone c);
+        no_pair = (are_ends i w h first kept gone c).no_pair;
+      }
 
-    pub changes : ChangesDegrees once orderly_once kept gone may
-    changes = record {
-      less = λ y d.
-          ap (λ t. degree_of (shown w) t y) state_once
-          ∙ (merged_is_less (shown w) s i kept gone (not (is_register kept)) y (sound w (moves_of w h)) possible d
-          ∙ sym (ap (λ t. degree_of (shown w) (merge (shown w) t kept gone) y +
-          bit (interferes w.graph y kept && interferes w.graph y gone)) state_once));
-      more =
-          ap (λ t. degree_of (shown w) (merge (shown w) t kept gone) kept) state_once
-          ∙ (merged_is_more (shown w) s i kept gone (not (is_register kept)) (sound w (moves_of w h)) possible
-          ∙ sym (ap (λ (t : State). degree_of (shown w) t kept +
-          count (λ z. t.remaining z && interferes w.graph gone z && not (interferes w.graph kept z)) w.graph.nodes)
-          state_once));
-    }
+      pub changes : ChangesDegrees once orderly_once kept gone may
+      changes = record {
+        less = λ y d.
+            ap (λ t. degree_of (shown w) t y) state_once
+            ∙ (merged_is_less (shown w) s i kept gone (not (is_register kept)) y (sound w (moves_of w h)) (possible i w h first kept gone c) d
+            ∙ sym (ap (λ t. degree_of (shown w) (merge (shown w) t kept gone) y +
+            bit (interferes w.graph y kept && interferes w.graph y gone)) state_once));
+        more =
+            ap (λ t. degree_of (shown w) (merge (shown w) t kept gone) kept) state_once
+            ∙ (merged_is_more (shown w) s i kept gone (not (is_register kept)) (sound w (moves_of w h)) (possible i w h first kept gone c)
+            ∙ sym (ap (λ (t : State). degree_of (shown w) t kept +
+            count (λ z. t.remaining z && interferes w.graph gone z && not (interferes w.graph kept z)) w.graph.nodes)
+            state_once));
+      }
 
-    abbrev pub whole : Work
-    whole = one once orderly_once kept gone may
+      abbrev pub whole : Work
+      whole = one once orderly_once kept gone may
 
-    module _ (g : Interference) (left : Lists) (degrees : List ℕ) (all_states : List MoveState) (ready : List ℕ)
-        (b : IsMerged once orderly_once kept gone may
-        (remade whole g left degrees (requeued all_states ready whole.moves))) where
-      abbrev pub last : Work
-      last = remade whole g left degrees (requeued all_states ready whole.moves)
+      module _ (g : Interference) (left : Lists) (degrees : List ℕ) (all_states : List MoveState) (ready : List ℕ)
+          (b : IsMerged once orderly_once kept gone may
+          (remade whole g left degrees (requeued all_states ready whole.moves))) where
+        abbrev pub last : Work
+        last = remade whole g left degrees (requeued all_states ready whole.moves)
 
-      pub state_last : state_of last ≡ after (shown w) s step
-      state_last =
-          state_merged once orderly_once kept gone may g left degrees all_states ready b changes
-          ∙ ap (λ t. merge (shown w) t kept gone) state_once
+        pub state_last : state_of last ≡ after (shown w) s (step i w h first kept gone c)
+        state_last =
+            state_merged once orderly_once kept gone may g left degrees all_states ready b changes
+            ∙ ap (λ t. merge (shown w) t kept gone) state_once
 
-      -- a move that waits now did before
-      waited : (j : ℕ) → is_waiting (state_at last.moves j) ≡ true → is_waiting (state_at w.moves j) ≡ true
-      waited j waits =
-          let e = b.moves.waiting j waits in
-          ⊎_elim
-          (λ (p : j ≡ i).
-          absurd (clash (subst (λ k. is_waiting (state_at once.moves k) ≡ true) p e)
-          (ap is_waiting (here (begun i w h first) (begun_kept i w h first) i l (unsettled i w h first) Coalesced refl))))
-          (λ (d : j ≢ i).
-          sym (ap is_waiting
-          (there (begun i w h first) (begun_kept i w h first) i l (unsettled i w h first) Coalesced refl j d)) ∙ e)
-          (cases_eq j i)
+        -- a move that waits now did before
+        waited : (j : ℕ) → is_waiting (state_at last.moves j) ≡ true → is_waiting (state_at w.moves j) ≡ true
+        waited j waits =
+            let e = b.moves.waiting j waits in
+            ⊎_elim
+            (λ (p : j ≡ i).
+            absurd (clash (subst (λ k. is_waiting (state_at once.moves k) ≡ true) p e)
+            (ap is_waiting (here (begun i w h first) (begun_kept i w h first) i (index i w h first) (unsettled i w h first) Coalesced refl))))
+            (λ (d : j ≢ i).
+            sym (ap is_waiting
+            (there (begun i w h first) (begun_kept i w h first) i (index i w h first) (unsettled i w h first) Coalesced refl j d)) ∙ e)
+            (cases_eq j i)
 
-      -- it is listed at its ends
-      listed_end : (j y : ℕ) → y < w.graph.nodes → j < length w.moves.moves →
-          ((renamed kept gone (to w j) ≡ y) ⊎ (renamed kept gone (from w j) ≡ y)) →
-          is_among j (list_at whole.moves.touching y) ≡ true
-      listed_end j y o k e =
-          let counted = listed_after once orderly_once kept gone kept_below gone_below kept_gone y j o k in
-          let found = count_found (nat_eq j) (list_at whole.moves.touching y) (more e counted) in
-          subst (λ x. is_among x (list_at whole.moves.touching y) ≡ true) (sym (same_node j found.0 found.2)) found.1
-        where
-          more : {n : ℕ} → ((renamed kept gone (to w j) ≡ y) ⊎ (renamed kept gone (from w j) ≡ y)) →
-              n ≡ bit (renamed kept gone (to w j) == y) + bit (renamed kept gone (from w j) == y) → 0 < n
-          more e q =
-              ⊎_elim (λ (p : renamed kept gone (to w j) ≡ y). let o = one_bit (same_test _ y p) in omega (arith, q, o))
-              (λ (p : renamed kept gone (from w j) ≡ y). let o = one_bit (same_test _ y p) in omega (arith, q, o)) e
+        -- it is listed at its ends
+        listed_end : (j y : ℕ) → y < w.graph.nodes → j < length w.moves.moves →
+            ((renamed kept gone (to w j) ≡ y) ⊎ (renamed kept gone (from w j) ≡ y)) →
+            is_among j (list_at whole.moves.touching y) ≡ true
+        listed_end j y o k e =
+            let counted = listed_after once orderly_once kept gone (kept_below i w h first kept gone c) (gone_below i w h first kept gone c) (kept_gone i w h first kept gone c) y j o k in
+            let found = count_found (nat_eq j) (list_at whole.moves.touching y) (more e counted) in
+            subst (λ x. is_among x (list_at whole.moves.touching y) ≡ true) (sym (same_node j found.0 found.2)) found.1
+          where
+            more : {n : ℕ} → ((renamed kept gone (to w j) ≡ y) ⊎ (renamed kept gone (from w j) ≡ y)) →
+                n ≡ bit (renamed kept gone (to w j) == y) + bit (renamed kept gone (from w j) == y) → 0 < n
+            more e q =
+                ⊎_elim (λ (p : renamed kept gone (to w j) ≡ y). let o = one_bit (same_test _ y p) in omega (arith, q, o))
+                (λ (p : renamed kept gone (from w j) ≡ y). let o = one_bit (same_test _ y p) in omega (arith, q, o)) e
 
-      renamed_below : (x : ℕ) → x < w.graph.nodes → renamed kept gone x < w.graph.nodes
-      renamed_below x k = by (x == gone)
-        where
-          by : (a : Bool) → (if a then kept else x) < w.graph.nodes
-          by true = kept_below
-          by false = k
+        renamed_below : (x : ℕ) → x < w.graph.nodes → renamed kept gone x < w.graph.nodes
+        renamed_below x k = by (x == gone)
+          where
+            by : (a : Bool) → (if a then kept else x) < w.graph.nodes
+            by true = (kept_below i w h first kept gone c)
+            by false = k
 
-      -- a node that turns low has the moves of its neighbours tried again
-      turned : (z y j : ℕ) → z ≢ gone → s.remaining z ≡ true → low (shown w) s z ≡ false →
-          low (shown w) (after (shown w) s step) z ≡ true → interferes w.graph z y ≡ true →
-          is_among j (list_at whole.moves.touching y) ≡ true → is_waiting (state_at last.moves j) ≡ false
-      turned z y j d r high now pair ends =
-          ⊎_elim
-          (λ (p : z ≡ kept). absurd (kept_grows p))
-          (λ (e : z ≢ kept).
-          let counts = gone_both e in
-          b.roused z e opened
-          (h.graph.exact gone z (temporary once orderly_once kept gone may)
-          ∙ (either_way w.graph gone z ∙ counts.2))
-          (either_way w.graph kept z ∙ counts.1)
-          (degree_other once orderly_once kept gone may g left degrees all_states ready b changes z e inside opened_last
-          ∙ (ap (λ t. degree_of (shown w) (merge (shown w) t kept gone) z) state_once ∙ counts.0))
-          y j (h.graph.exact z y (ltb-false z 25 (not_true parts.0)) ∙ pair) ends)
-          (cases_eq z kept)
-        where
-          parts : (not (is_register z) ≡ true) ×
-              (nat_lt (degree_of (shown w) (after (shown w) s step) z) 25 ≡ true)
-          parts = both (not (is_register z)) _ now
+        -- a node that turns low has the moves of its neighbours tried again
+        turned : (z y j : ℕ) → z ≢ gone → s.remaining z ≡ true → low (shown w) s z ≡ false →
+            low (shown w) (after (shown w) s (step i w h first kept gone c)) z ≡ true → interferes w.graph z y ≡ true →
+            is_among j (list_at whole.moves.touching y) ≡ true → is_waiting (state_at last.moves j) ≡ false
+        turned z y j d r high now pair ends =
+            ⊎_elim
+            (λ (p : z ≡ kept). absurd (kept_grows p))
+            (λ (e : z ≢ kept).
+            let counts = gone_both e in
+            b.roused z e opened
+            (h.graph.exact gone z (temporary once orderly_once kept gone may)
+            ∙ (either_way w.graph gone z ∙ counts.2))
+            (either_way w.graph kept z ∙ counts.1)
+            (degree_other once orderly_once kept gone may g left degrees all_states ready b changes z e inside opened_last
+            ∙ (ap (λ t. degree_of (shown w) (merge (shown w) t kept gone) z) state_once ∙ counts.0))
+            y j (h.graph.exact z y (ltb-false z 25 (not_true parts.0)) ∙ pair) ends)
+            (cases_eq z kept)
+          where
+            parts : (not (is_register z) ≡ true) ×
+                (nat_lt (degree_of (shown w) (after (shown w) s (step i w h first kept gone c)) z) 25 ≡ true)
+            parts = both (not (is_register z)) _ now
 
-          was : (nat_lt z w.graph.nodes ≡ true) × (is_left w.lists z ≡ true)
-          was = both (nat_lt z w.graph.nodes) (is_left w.lists z) r
+            was : (nat_lt z w.graph.nodes ≡ true) × (is_left w.lists z ≡ true)
+            was = both (nat_lt z w.graph.nodes) (is_left w.lists z) r
 
-          inside : z < w.graph.nodes
-          inside = ltb-true z w.graph.nodes was.0
+            inside : z < w.graph.nodes
+            inside = ltb-true z w.graph.nodes was.0
 
-          opened : is_open whole z ≡ true
-          opened =
-              and_true parts.0 (one_there once orderly_once kept gone may z d
-              ∙ (shifted_left w.lists lists shifts z ∙ was.1))
+            opened : is_open whole z ≡ true
+            opened =
+                and_true parts.0 (one_there once orderly_once kept gone may z d
+                ∙ (shifted_left w.lists lists shifts z ∙ was.1))
 
-          opened_last : is_open last z ≡ true
-          opened_last = ap (λ a. not (is_register z) && a) (shifted_left whole.lists left b.lists z) ∙ opened
+            opened_last : is_open last z ≡ true
+            opened_last = ap (λ a. not (is_register z) && a) (shifted_left whole.lists left b.lists z) ∙ opened
 
-          was_high : nat_lt (degree_of (shown w) s z) 25 ≡ false
-          was_high = by (is_register z) parts.0 high
-            where
-              by : (a : Bool) {e : Bool} → not a ≡ true → (not a && e) ≡ false → e ≡ false
-              by true p q = cc
-              by false p q = q
+            was_high : nat_lt (degree_of (shown w) s z) 25 ≡ false
+            was_high = by (is_register z) parts.0 high
+              where
+                by : (a : Bool) {e : Bool} → not a ≡ true → (not a && e) ≡ false → e ≡ false
+                by true p q = cc
+                by false p q = q
 
-          kept_grows : z ≡ kept → ⊥
-          kept_grows p =
-              let more = merged_is_more (shown w) s i kept gone (not (is_register kept)) (sound w (moves_of w h))
-              possible in
-              let a = ltb-false _ 25 (subst (λ x. nat_lt (degree_of (shown w) s x) 25 ≡ false) p was_high) in
-              let e = ltb-true _ 25
-              (subst (λ x. nat_lt (degree_of (shown w) (after (shown w) s step) x) 25 ≡ true) p parts.1) in
-              omega (arith, more, a, e)
+            kept_grows : z ≡ kept → ⊥
+            kept_grows p =
+                let more = merged_is_more (shown w) s i kept gone (not (is_register kept)) (sound w (moves_of w h))
+                (possible i w h first kept gone c) in
+                let a = ltb-false _ 25 (subst (λ x. nat_lt (degree_of (shown w) s x) 25 ≡ false) p was_high) in
+                let e = ltb-true _ 25
+                (subst (λ x. nat_lt (degree_of (shown w) (after (shown w) s (step i w h first kept gone c)) x) 25 ≡ true) p parts.1) in
+                omega (arith, more, a, e)
 
-          gone_both : z ≢ kept → (degree_of (shown w) (after (shown w) s step) z ≡ 24) ×
-              (interferes w.graph z kept ≡ true) × (interferes w.graph z gone ≡ true)
-          gone_both e =
-              let less = merged_is_less (shown w) s i kept gone (not (is_register kept)) z (sound w (moves_of w h))
-              possible e in
-              let a = ltb-false _ 25 was_high in
-              let f = ltb-true _ 25 parts.1 in
-              let small = bit_le (interferes w.graph z kept && interferes w.graph z gone) in
-              let pairs = both (interferes w.graph z kept) (interferes w.graph z gone)
-              (is_bit (omega (arith, less, a, f, small))) in
-              (omega (arith, less, a, f, small), pairs.0, pairs.1)
-            where
-              bit_le : (a : Bool) → bit a ≤ 1
-              bit_le true = omega arith
-              bit_le false = omega arith
+            gone_both : z ≢ kept → (degree_of (shown w) (after (shown w) s (step i w h first kept gone c)) z ≡ 24) ×
+                (interferes w.graph z kept ≡ true) × (interferes w.graph z gone ≡ true)
+            gone_both e =
+                let less = merged_is_less (shown w) s i kept gone (not (is_register kept)) z (sound w (moves_of w h))
+                (possible i w h first kept gone c) e in
+                let a = ltb-false _ 25 was_high in
+                let f = ltb-true _ 25 parts.1 in
+                let small = bit_le (interferes w.graph z kept && interferes w.graph z gone) in
+                let pairs = both (interferes w.graph z kept) (interferes w.graph z gone)
+                (is_bit (omega (arith, less, a, f, small))) in
+                (omega (arith, less, a, f, small), pairs.0, pairs.1)
+              where
+                bit_le : (a : Bool) → bit a ≤ 1
+                bit_le true = omega arith
+                bit_le false = omega arith
 
-      -- so no end of a waiting move is woken
-      not_woken : (j y : ℕ) → is_among j (list_at whole.moves.touching y) ≡ true →
-          is_waiting (state_at last.moves j) ≡ true → IsFalse (is_woken (shown w) s step y)
-      not_woken j y ends waits =
-          or_false
-          (or_false
-          (never (λ e. clash waits
-          (b.awake_kept j (subst (λ x. is_among j (list_at whole.moves.touching x) ≡ true) (same_node y kept e) ends))))
-          (never (λ p. clash waits
-          (b.awake_at y j (h.graph.exact gone y (temporary once orderly_once kept gone may) ∙ p) ends))))
-          (never (λ t.
-          let found = (some_is (λ z. (s.remaining z && (after (shown w) s step).remaining z &&
-          not (low (shown w) s z) && low (shown w) (after (shown w) s step) z) && interferes w.graph z y)
-          w.graph.nodes).0 t in
-          let z = found.0 in
-          let p = both _ (interferes w.graph z y) found.2 in
-          let q = both _ (low (shown w) (after (shown w) s step) z) p.0 in
-          let r = both _ (not (low (shown w) s z)) q.0 in
-          let k = both (s.remaining z) (without gone s.remaining z) r.0 in
-          clash waits (turned z y j
-          (λ e. clash (same_test z gone e) (not_true (both (not (z == gone)) _ k.1).0))
-          k.0 (not_true r.1) q.1 p.1 ends)))
+        -- so no end of a waiting move is woken
+        not_woken : (j y : ℕ) → is_among j (list_at whole.moves.touching y) ≡ true →
+            is_waiting (state_at last.moves j) ≡ true → IsFalse (is_woken (shown w) s (step i w h first kept gone c) y)
+        not_woken j y ends waits =
+            or_false
+            (or_false
+            (never (λ e. clash waits
+            (b.awake_kept j (subst (λ x. is_among j (list_at whole.moves.touching x) ≡ true) (same_node y kept e) ends))))
+            (never (λ p. clash waits
+            (b.awake_at y j (h.graph.exact gone y (temporary once orderly_once kept gone may) ∙ p) ends))))
+            (never (λ t.
+            let found = (some_is (λ z. (s.remaining z && (after (shown w) s (step i w h first kept gone c)).remaining z &&
+            not (low (shown w) s z) && low (shown w) (after (shown w) s (step i w h first kept gone c)) z) && interferes w.graph z y)
+            w.graph.nodes).0 t in
+            let z = found.0 in
+            let p = both _ (interferes w.graph z y) found.2 in
+            let q = both _ (low (shown w) (after (shown w) s (step i w h first kept gone c)) z) p.0 in
+            let r = both _ (not (low (shown w) s z)) q.0 in
+            let k = both (s.remaining z) (without gone s.remaining z) r.0 in
+            clash waits (turned z y j
+            (λ e. clash (same_test z gone e) (not_true (both (not (z == gone)) _ k.1).0))
+            k.0 (not_true r.1) q.1 p.1 ends)))
 
-      still_waits : (j : ℕ) → j < length w.moves.moves → is_waiting (state_at last.moves j) ≡ true →
-          can_move (shown last) (state_of last) j ≡ false
-      still_waits j k waits =
-          subst (λ n. can_move (problem (record { nodes = n; pairs = interferes g }) w.moves.moves [] (λ cs p. false))
-          (state_of last) j ≡ false) (sym b.size)
-          (subst (λ t. can_move (shown w) t j ≡ false) (sym state_last)
-          (waiting_fails (shown w) s step j (either_way w.graph) possible (h.ready.waiting j k (waited j waits))
-          (not_woken_at (states.to (shown w) s j) (to w j) (to_same w (moves_of w h) j k)
-          (to_below w (moves_of w h) j k) (inl refl))
-          (not_woken_at (states.from (shown w) s j) (from w j) (from_same w (moves_of w h) j k)
-          (from_below w (moves_of w h) j k) (inr refl))))
-        where
-          not_woken_at : (e x : ℕ) → e ≡ x → x < w.graph.nodes →
-              ((renamed kept gone (to w j) ≡ renamed kept gone x) ⊎ (renamed kept gone (from w j) ≡ renamed kept gone x)) →
-              IsFalse (is_woken (shown w) s step (if e == gone then kept else e))
-          not_woken_at e x p o q =
-              subst (λ a. IsFalse (is_woken (shown w) s step (if a == gone then kept else a))) (sym p)
-              (not_woken j (renamed kept gone x)
-              (listed_end j (renamed kept gone x) (renamed_below x o) k q) waits)
+        still_waits : (j : ℕ) → j < length w.moves.moves → is_waiting (state_at last.moves j) ≡ true →
+            can_move (shown last) (state_of last) j ≡ false
+        still_waits j k waits =
+            subst (λ n. can_move (problem (record { nodes = n; pairs = interferes g }) w.moves.moves [] (λ cs p. false))
+            (state_of last) j ≡ false) (sym b.size)
+            (subst (λ t. can_move (shown w) t j ≡ false) (sym state_last)
+            (waiting_fails (shown w) s (step i w h first kept gone c) j (either_way w.graph) (possible i w h first kept gone c) (h.ready.waiting j k (waited j waits))
+            (not_woken_at (states.to (shown w) s j) (to w j) (to_same w (moves_of w h) j k)
+            (to_below w (moves_of w h) j k) (inl refl))
+            (not_woken_at (states.from (shown w) s j) (from w j) (from_same w (moves_of w h) j k)
+            (from_below w (moves_of w h) j k) (inr refl))))
+          where
+            not_woken_at : (e x : ℕ) → e ≡ x → x < w.graph.nodes →
+                ((renamed kept gone (to w j) ≡ renamed kept gone x) ⊎ (renamed kept gone (from w j) ≡ renamed kept gone x)) →
+                IsFalse (is_woken (shown w) s (step i w h first kept gone c) (if e == gone then kept else e))
+            not_woken_at e x p o q =
+                subst (λ a. IsFalse (is_woken (shown w) s (step i w h first kept gone c) (if a == gone then kept else a))) (sym p)
+                (not_woken j (renamed kept gone x)
+                (listed_end j (renamed kept gone x) (renamed_below x o) k q) waits)
 
-      pub orderly_last : IsOrderly last
-      orderly_last =
-          orderly_merged once orderly_once kept gone may g left degrees all_states ready b changes still_waits
+        pub orderly_last : IsOrderly last
+        orderly_last =
+            orderly_merged once orderly_once kept gone may g left degrees all_states ready b changes still_waits

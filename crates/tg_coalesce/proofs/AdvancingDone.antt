@@ -1,25 +1,23 @@
 -- What is left in order at the end is a round.
-use Rattle.std.proofs.Common.{◌≡◌, ℕ, ◌+◌, ◌<◌, ◌≤◌, Bool, true, false, not, ◌&&◌, ◌||◌, List, [], length, map}
+use Rattle.std.proofs.Common.{◌≡◌, ℕ, ◌+◌, ◌<◌, Bool, true, false, ◌&&◌, List, [], length, map}
 use Rattle.std.proofs.Common.{get_or, refl, sym, ap, subst, ◌∙◌, arith}
-use Rattle.std.specs.Prelude.{◌==◌, nat_lt, if◌then◌else◌, IsFalse}
+use Rattle.std.specs.Prelude.{nat_lt, IsFalse}
 use Rattle.std.specs.List.{range_with_len}
 use Rattle.std.proofs.lemmas.Bool.{lt-ltb}
 use Rattle.std.proofs.lemmas.List.{get_or-map, get_or_default, same_lists, length-map, nil_from_length}
-use Rattle.std.proofs.lemmas.List.Elements.{All-get_or}
 use Rattle.std.proofs.lemmas.List.FromFn.{length-range_with_len, get_or-range_with_len}
 use Rattle.tg_rounds.specs.declared.moves.MoveState.{MoveState}
 use Rattle.tg_rounds.specs.declared.moves.MoveState.TheVariants.{Ready}
 use Rattle.tg_rounds.specs.Graphs.{some}
 use Rattle.tg_rounds.specs.States.{Problem, State, start, remains, is_ready_or_waiting}
 use Rattle.tg_rounds.specs.States as states
-use Rattle.tg_rounds.specs.Steps.{can_move, after_all, is_over}
+use Rattle.tg_rounds.specs.Steps.{can_move, is_over}
 use Rattle.tg_rounds.specs.Selection.{select}
 use Rattle.tg_rounds.specs.Rounds.{listed, IsRound}
 use Rattle.tg_rounds.proofs.Deciding.{clash, both, and_true, never, neither, not_true, same_node, same_test, some_is}
 use Rattle.tg_rounds.proofs.Running.{nothing_left_is_over}
-use Rattle.tg_graph.specs.declared.worklists.Worklist.{Worklist}
 use Rattle.tg_graph.specs.Interference.{is_among}
-use Rattle.tg_graph.specs.Lists.{Lists, nodes_in, number}
+use Rattle.tg_graph.specs.Lists.{nodes_in, number}
 use Rattle.tg_coalesce.specs.Tables.{state_at, is_related}
 use Rattle.tg_coalesce.specs.Works.{Work, degree_at, list_of}
 use Rattle.tg_coalesce.specs.Selecting.{colour_at, selected}
@@ -29,7 +27,7 @@ use Rattle.tg_coalesce.proofs.AdvancingWaking.{told_open}
 use Rattle.tg_coalesce.proofs.AdvancingListing.{by_tests}
 use Rattle.tg_coalesce.proofs.AdvancingOrder.{remains_open}
 use Rattle.tg_coalesce.proofs.AdvancingPossible.{no_move, with_parts, at_problem}
-use Rattle.tg_coalesce.proofs.AdvancingSettling.{told_last}
+use Rattle.tg_coalesce.proofs.AdvancingStates.{told_last}
 use Rattle.tg_coalesce.proofs.AdvancingRuns.{holds}
 use Rattle.tg_coalesce.proofs.AdvancingSelecting.{colours_same, spilled_same}
 

@@ -1,21 +1,21 @@
 -- One class has the moves of another.
-use Rattle.std.proofs.Common.{◌≡◌, ◌≢◌, ℕ, ◌+◌, ◌*◌, ◌<◌, ◌≤◌, Bool, true, false, not, ◌&&◌, ◌||◌, ◌⊎◌, inl, inr}
-use Rattle.std.proofs.Common.{List, [], ◌++◌, length, get_or, All, cond, refl, sym, ap, subst, ◌∙◌, arith, ⊎_elim}
-use Rattle.std.specs.Prelude.{◌==◌, nat_eq, nat_lt, count_by, if◌then◌else◌}
-use Rattle.std.proofs.lemmas.Bool.{cases_eq, ltb-true, lt-ltb}
+use Rattle.std.proofs.Common.{◌≡◌, ◌≢◌, ℕ, ◌+◌, ◌*◌, ◌<◌, ◌≤◌, Bool, true, false, ◌||◌, ◌⊎◌, inl, inr}
+use Rattle.std.proofs.Common.{[], ◌++◌, length, get_or, All, cond, refl, sym, ap, subst, ◌∙◌, arith, ⊎_elim}
+use Rattle.std.specs.Prelude.{◌==◌, nat_eq, nat_lt, count_by}
+use Rattle.std.proofs.lemmas.Bool.{cases_eq, ltb-true}
 use Rattle.std.proofs.lemmas.List.Elements.{All-append, All-nil}
 use Rattle.std.proofs.lemmas.List.Sums.{sum_by-append}
 use Rattle.tg_rounds.specs.Graphs.{bit}
-use Rattle.tg_rounds.proofs.Deciding.{clash, tells, never, same_node, same_test}
-use Rattle.tg_coalesce.specs.Lists.{list_at, poured}
+use Rattle.tg_rounds.proofs.Deciding.{clash, same_node}
+use Rattle.tg_coalesce.specs.Lists.{list_at}
 use Rattle.tg_coalesce.specs.Tables.{Table, IsTable, move_at, is_unsettled, is_related}
 use Rattle.tg_coalesce.specs.Tables as tables
-use Rattle.tg_coalesce.specs.Works.{Work, alias_of, to, from}
+use Rattle.tg_coalesce.specs.Works.{Work, to, from}
 use Rattle.tg_coalesce.specs.Standing.{IsOrderly}
-use Rattle.tg_coalesce.proofs.AdvancingMembers.{one_bit, no_bit}
+use Rattle.tg_coalesce.proofs.AdvancingMembers.{no_bit}
 use Rattle.tg_coalesce.proofs.AdvancingOrder.{inside_both}
 use Rattle.tg_coalesce.proofs.AdvancingPossible.{moves_of}
-use Rattle.tg_coalesce.proofs.AdvancingJoining.{poured_kept, poured_gone, poured_other, length_poured, sum_kept}
+use Rattle.tg_coalesce.proofs.AdvancingJoining.{by_place, poured_kept, poured_gone, poured_other, length_poured, sum_kept}
 use Rattle.tg_coalesce.proofs.AdvancingJoining.{sum_gone, sum_other, sum_same, length_moved}
 use Rattle.tg_coalesce.proofs.AdvancingClasses.{classes_after, alias_after, renamed, named_kept, named_gone, named_other}
 
@@ -52,14 +52,6 @@ module _ (w : Work) (h : IsOrderly w) (kept gone : ℕ) (l : kept < w.graph.node
   pub touching_length : length moves_after.touching ≡ n
   touching_length = length_poured w.moves.touching kept gone ∙ h.sized.touching
 
-  -- by places: the kept one, the one that goes, and any other
-  by_place : (P : ℕ → Type 0) → P kept → P gone → ((z : ℕ) → z ≢ kept → z ≢ gone → P z) → (z : ℕ) → P z
-  by_place P a b c z =
-      ⊎_elim (λ (p : z ≡ kept). subst P (sym p) a)
-      (λ (e : z ≢ kept).
-      ⊎_elim (λ (p : z ≡ gone). subst P (sym p) b) (λ (f : z ≢ gone). c z e f) (cases_eq z gone))
-      (cases_eq z kept)
-
   pub table_after : IsTable moves_after
   table_after = record {
     few = h.table.few;
@@ -69,7 +61,7 @@ module _ (w : Work) (h : IsOrderly w) (kept gone : ℕ) (l : kept < w.graph.node
     ends_below = subst (λ k. All (λ e. (e.to < k) × (e.from < k)) w.moves.moves)
         (sym (length_poured w.moves.touching kept gone)) h.table.ends_below;
     ready_below = h.table.ready_below;
-    touching_below = by_place (λ z. All (λ i. i < length w.moves.moves) (list_at moves_after.touching z))
+    touching_below = by_place kept gone (λ z. All (λ i. i < length w.moves.moves) (list_at moves_after.touching z))
         (subst (λ xs. All (λ i. i < length w.moves.moves) xs) (sym touching_kept)
         (All-append (λ i. i < length w.moves.moves) (list_at w.moves.touching kept) (list_at w.moves.touching gone)
         (h.table.touching_below kept) (h.table.touching_below gone)))
@@ -116,7 +108,7 @@ module _ (w : Work) (h : IsOrderly w) (kept gone : ℕ) (l : kept < w.graph.node
       count_by (nat_eq i) (list_at moves_after.touching x) ≡
       bit (renamed kept gone (to w i) == x) + bit (renamed kept gone (from w i) == x)
   listed_after x i o k =
-      by_place
+      by_place kept gone
       (λ z. z < n → count_by (nat_eq i) (list_at moves_after.touching z) ≡
       bit (renamed kept gone (to w i) == z) + bit (renamed kept gone (from w i) == z))
       (λ b. let both = count_kept (nat_eq i) in
@@ -135,7 +127,7 @@ module _ (w : Work) (h : IsOrderly w) (kept gone : ℕ) (l : kept < w.graph.node
   pub counted_after : (x : ℕ) → x < n →
       get_or moves_after.unsettled x 0 ≡ count_by (is_unsettled w.moves) (list_at moves_after.touching x)
   counted_after x o =
-      by_place
+      by_place kept gone
       (λ z. z < n → get_or moves_after.unsettled z 0 ≡
       count_by (is_unsettled w.moves) (list_at moves_after.touching z))
       (λ b. let both = count_kept (is_unsettled w.moves) in
@@ -154,12 +146,13 @@ module _ (w : Work) (h : IsOrderly w) (kept gone : ℕ) (l : kept < w.graph.node
   -- what has moves is the kept node or remained
   pub related_after : (z : ℕ) → z < n → is_related moves_after z ≡ true →
       (z ≢ gone) × ((z ≡ kept) ⊎ (is_related w.moves z ≡ true))
-  related_after z b r =
-      ( λ p. let zero = sum_gone w.moves.unsettled kept gone kept_counted gone_counted d in
+  related_after z b r = (
+    λ p. let zero = sum_gone w.moves.unsettled kept gone kept_counted gone_counted d in
         let more = ltb-true 0 (get_or moves_after.unsettled z 0) r in
         let at = ap (λ y. get_or moves_after.unsettled y 0) p in
-        omega (arith, zero, more, at)
-      , by (cases_eq z kept) (cases_eq z gone))
+        omega (arith, zero, more, at),
+    by (cases_eq z kept) (cases_eq z gone),
+  )
     where
       zero : is_related moves_after gone ≡ false
       zero = ap (λ k. nat_lt 0 k) (sum_gone w.moves.unsettled kept gone kept_counted gone_counted d)

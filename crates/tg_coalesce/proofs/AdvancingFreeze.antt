@@ -1,18 +1,16 @@
 -- Freeze.
-use Rattle.std.proofs.Common.{◌≡◌, ℕ, ◌<◌, ◌≤◌, true, List, [], length, refl, sym, ap, subst, ◌∙◌, arith}
+use Rattle.std.proofs.Common.{◌≡◌, ℕ, ◌<◌, true, List, [], refl, sym, subst, ◌∙◌, arith}
 use Rattle.std.specs.Prelude.{◌==◌}
 use Rattle.tg_rounds.specs.declared.moves.MoveState.{MoveState}
 use Rattle.tg_rounds.specs.declared.steps.Step.TheVariants.{Freeze}
-use Rattle.tg_rounds.specs.States.{Problem}
 use Rattle.tg_rounds.specs.Steps.{can, freeze}
 use Rattle.tg_graph.specs.declared.worklists.Worklist.TheVariants as worklists
 use Rattle.tg_graph.specs.Lists.{Lists, number}
 use Rattle.tg_coalesce.specs.Works.{Work, is_open, list_of, stepped}
-use Rattle.tg_coalesce.specs.Steps.{given_up, frozen}
-use Rattle.tg_coalesce.specs.Standing.{shown, state_of, IsOrderly, IsRunOf}
+use Rattle.tg_coalesce.specs.Standing.{shown, state_of, IsOrderly}
 use Rattle.tg_coalesce.specs.Advancing.{Advances, FreezeAdvances}
 use Rattle.tg_coalesce.proofs.AdvancingMembers.{among_first}
-use Rattle.tg_coalesce.proofs.AdvancingPossible.{moves_of, IsIn, in_list, for_freeze, freeze_told, with_parts, at_problem}
+use Rattle.tg_coalesce.proofs.AdvancingPossible.{moves_of, in_list, for_freeze, freeze_told, with_parts, at_problem}
 use Rattle.tg_coalesce.proofs.AdvancingMeasure.{goes_less}
 use Rattle.tg_coalesce.proofs.AdvancingRuns.{goes_on}
 use Rattle.tg_coalesce.proofs.AdvancingSteps.{orderly_stepped, taken}

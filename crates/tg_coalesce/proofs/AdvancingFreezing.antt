@@ -1,5 +1,5 @@
 -- The unsettled moves of a class are given up, where none is to be tried.
-use Rattle.std.proofs.Common.{◌≡◌, ◌≢◌, ℕ, ◌+◌, ◌<◌, ◌≤◌, Bool, true, false, not, ◌&&◌, ◌||◌, ◌⊎◌, inl, inr, List, []}
+use Rattle.std.proofs.Common.{◌≡◌, ◌≢◌, ℕ, ◌<◌, ◌≤◌, Bool, true, false, ◌&&◌, ◌||◌, List, []}
 use Rattle.std.proofs.Common.{◌∷◌, length, refl, sym, ap, subst, ◌∙◌, arith, ⊎_elim}
 use Rattle.std.specs.Prelude.{◌==◌, nat_lt, fold, if◌then◌else◌}
 use Rattle.std.proofs.lemmas.Bool.{cases_eq, cases_lt, le-ltb, cond-true, cond-false}
@@ -9,7 +9,7 @@ use Rattle.tg_rounds.specs.Graphs.{Set}
 use Rattle.tg_rounds.specs.States.{touches, is_ready_or_waiting}
 use Rattle.tg_rounds.specs.States as states
 use Rattle.tg_rounds.specs.Steps.{freeze}
-use Rattle.tg_rounds.proofs.Deciding.{clash, both, and_true, or_left, or_right, tells, never, same_node, same_test}
+use Rattle.tg_rounds.proofs.Deciding.{clash, both, and_true, or_left, or_right, never, same_node, same_test}
 use Rattle.tg_graph.specs.Interference.{is_among, interferes}
 use Rattle.tg_graph.specs.Lists.{Lists}
 use Rattle.tg_coalesce.specs.Lists.{list_at}
@@ -17,11 +17,11 @@ use Rattle.tg_coalesce.specs.Tables.{Table, state_at, is_unsettled}
 use Rattle.tg_coalesce.specs.Works.{Work, settled, to, from}
 use Rattle.tg_coalesce.specs.Steps.{freeze_one, given_up}
 use Rattle.tg_coalesce.specs.Standing.{as_told, shown, state_of, IsOrderly}
-use Rattle.tg_coalesce.proofs.AdvancingMembers.{all_among}
+use Rattle.tg_coalesce.proofs.AdvancingMembers.{same_tests, all_among}
 use Rattle.tg_coalesce.proofs.AdvancingListing.{IsShifted, shifted_none, shifted_then, shifted_left}
 use Rattle.tg_coalesce.proofs.AdvancingOrder.{listed_ends, ends_listed, to_same, from_same, unsettled_told}
 use Rattle.tg_coalesce.proofs.AdvancingPossible.{moves_of}
-use Rattle.tg_coalesce.proofs.AdvancingKept.{IsKept, kept_of, HasReadyBut}
+use Rattle.tg_coalesce.proofs.AdvancingKept.{kept_of, HasReadyBut}
 use Rattle.tg_coalesce.proofs.AdvancingSettling.{table_after, settled_same, settled_shifts, settled_listed, orderly_settled, here, there}
 
 abbrev pub with_states : Work → Lists → List MoveState → List ℕ → Work
@@ -157,11 +157,6 @@ module _ (w : Work) (h : IsOrderly w) (none : w.moves.ready ≡ []) (x : ℕ) (l
   touched : (j : ℕ) → touches (shown w) (state_of w) x j ≡ (is_unsettled w.moves j && of_class j)
   touched j = ⊎_elim inside outside (cases_lt j (length w.moves.moves))
     where
-      same : (a b : Bool) → (a ≡ true → b ≡ true) → (b ≡ true → a ≡ true) → a ≡ b
-      same true b f g = sym (f refl)
-      same false true f g = g refl
-      same false false f g = refl
-
       inside : j < length w.moves.moves → touches (shown w) (state_of w) x j ≡ (is_unsettled w.moves j && of_class j)
       inside k =
           ap (λ c. c && (states.to (shown w) (state_of w) j == x || states.from (shown w) (state_of w) j == x))
@@ -170,7 +165,7 @@ module _ (w : Work) (h : IsOrderly w) (none : w.moves.ready ≡ []) (x : ℕ) (l
           (to_same w (moves_of w h) j k)
           ∙ (ap (λ c. is_unsettled w.moves j && (to w j == x || c == x)) (from_same w (moves_of w h) j k)
           ∙ ap (λ c. is_unsettled w.moves j && c)
-          (same (to w j == x || from w j == x) (of_class j) (listed_ends w (moves_of w h) j k x l)
+          (same_tests (to w j == x || from w j == x) (of_class j) (listed_ends w (moves_of w h) j k x l)
           (ends_listed w (moves_of w h) j k x l))))
 
       no : (a : Bool) {b : Bool} → b ≡ false → (a && b) ≡ false

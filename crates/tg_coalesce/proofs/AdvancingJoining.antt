@@ -1,12 +1,12 @@
 -- What it makes of lists that two of their places become one.
-use Rattle.std.proofs.Common.{◌≡◌, ◌≢◌, ℕ, ◌+◌, ◌<◌, ◌≤◌, Bool, true, false, ◌&&◌, ◌||◌, ◌⊎◌, List, [], ◌∷◌, ◌++◌}
-use Rattle.std.proofs.Common.{length, get_or, set, sum, cond, refl, sym, ap, subst, ◌∙◌, arith, ⊎_elim}
-use Rattle.std.specs.Prelude.{nat_eq, ◌==◌, sum_by, fold, if◌then◌else◌}
+use Rattle.std.proofs.Common.{◌≡◌, ◌≢◌, ℕ, ◌+◌, ◌<◌, Bool, true, false, ◌||◌, List, [], ◌∷◌, ◌++◌}
+use Rattle.std.proofs.Common.{length, get_or, set, sum, refl, sym, ap, subst, ◌∙◌, arith, ⊎_elim}
+use Rattle.std.specs.Prelude.{nat_eq, ◌==◌, if◌then◌else◌}
 use Rattle.std.specs.List.{IsDistinct, AllByRecursion}
 use Rattle.std.proofs.lemmas.Bool.{cases_eq}
 use Rattle.std.proofs.lemmas.List.{get_or-set_same, get_or-set_other, length-set}
 use Rattle.std.proofs.lemmas.List.Sums.{sum_by-set}
-use Rattle.tg_rounds.proofs.Deciding.{clash, either, or_left, or_right, tells, never, same_node, same_test}
+use Rattle.tg_rounds.proofs.Deciding.{or_left, or_right, never, same_node, same_test}
 use Rattle.tg_graph.specs.Interference.{is_among}
 use Rattle.tg_coalesce.specs.Lists.{list_at, poured, moved_sum, set_at_all}
 use Rattle.tg_coalesce.proofs.AdvancingMembers.{not_again, distinct_rest}
@@ -26,9 +26,10 @@ pub distinct_joined : (xs ys : List ℕ) → IsDistinct nat_eq xs → IsDistinct
     ((x : ℕ) → is_among x xs ≡ true → is_among x ys ≡ false) → IsDistinct nat_eq (xs ++ ys)
 unfolding IsDistinct
 distinct_joined [] ys h k apart = k
-distinct_joined (x ∷ xs) ys h k apart =
-    (all_from x (xs ++ ys) (none xs (not_again x xs h) (apart x (or_left (x == x) (is_among x xs) (same_test x x refl)))),
-    distinct_joined xs ys (distinct_rest x xs h) k (λ z e. apart z (or_right (z == x) (is_among z xs) e)))
+distinct_joined (x ∷ xs) ys h k apart = (
+  all_from x (xs ++ ys) (none xs (not_again x xs h) (apart x (or_left (x == x) (is_among x xs) (same_test x x refl)))),
+  distinct_joined xs ys (distinct_rest x xs h) k (λ z e. apart z (or_right (z == x) (is_among z xs) e)),
+)
   where
     none : (zs : List ℕ) → is_among x zs ≡ false → is_among x ys ≡ false → is_among x (zs ++ ys) ≡ false
     none [] e f = f
@@ -38,6 +39,15 @@ distinct_joined (x ∷ xs) ys h k apart =
             (a || is_among x (zs ++ ys)) ≡ false
         by true b e r = cc
         by false b e r = r e
+
+-- what holds at two places and at each other
+pub by_place : (kept gone : ℕ) (P : ℕ → Type 0) → P kept → P gone → ((z : ℕ) → z ≢ kept → z ≢ gone → P z) → (z : ℕ) →
+    P z
+by_place kept gone P a b c z =
+    ⊎_elim (λ (p : z ≡ kept). subst P (sym p) a)
+    (λ (e : z ≢ kept).
+    ⊎_elim (λ (p : z ≡ gone). subst P (sym p) b) (λ (f : z ≢ gone). c z e f) (cases_eq z gone))
+    (cases_eq z kept)
 
 -- the list at one place is put behind that at another
 module _ (lists : List (List ℕ)) (kept gone : ℕ) (l : kept < length lists) (m : gone < length lists)

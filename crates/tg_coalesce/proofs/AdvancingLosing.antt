@@ -1,20 +1,20 @@
 -- What it makes of the work that nodes have a neighbour less.
-use Rattle.std.proofs.Common.{◌≡◌, ◌≢◌, ℕ, ◌+◌, ◌-◌, ◌<◌, ◌≤◌, Bool, true, false, not, ◌&&◌, ◌||◌, ◌⊎◌, inl, inr}
+use Rattle.std.proofs.Common.{◌≡◌, ◌≢◌, ℕ, ◌-◌, ◌<◌, ◌≤◌, Bool, true, false, not, ◌&&◌, ◌||◌}
 use Rattle.std.proofs.Common.{List, [], ◌∷◌, length, get_or, set, refl, sym, ap, subst, ◌∙◌, arith, ⊎_elim}
 use Rattle.std.specs.Prelude.{◌==◌, nat_eq, nat_lt, fold, if◌then◌else◌}
 use Rattle.std.specs.List.{IsDistinct}
 use Rattle.std.proofs.lemmas.Bool.{cases_eq, cases_lt, lt-ltb, le-ltb}
 use Rattle.std.proofs.lemmas.List.{get_or_past, get_or-set_same, get_or-set_other, length-set}
 use Rattle.tg_rounds.specs.Graphs.{Set, bit}
-use Rattle.tg_rounds.proofs.Deciding.{clash, both, either, or_left, or_right, tells, never, same_node, same_test}
+use Rattle.tg_rounds.proofs.Deciding.{clash, either, or_left, or_right, never, same_node, same_test}
 use Rattle.tg_graph.specs.Interference.{Interference, is_among, is_register, neighbours}
-use Rattle.tg_graph.specs.Lists.{Lists, nodes_in, number}
+use Rattle.tg_graph.specs.Lists.{Lists, number}
 use Rattle.tg_coalesce.specs.Lists.{list_at, lowered}
 use Rattle.tg_coalesce.specs.Tables.{Table, state_at, is_waiting, is_related}
-use Rattle.tg_coalesce.specs.Works.{Work, degree_at, is_left, is_open, list_of, relisted, awake_around}
+use Rattle.tg_coalesce.specs.Works.{Work, degree_at, is_open, relisted, awake_around}
 use Rattle.tg_coalesce.specs.Steps.{bereft}
 use Rattle.tg_coalesce.proofs.AdvancingMembers.{not_again, distinct_rest}
-use Rattle.tg_coalesce.proofs.AdvancingWaking.{IsWoken, woken_none, woken_then, stays_awake, woken_each, woken_classes, wakes_classes}
+use Rattle.tg_coalesce.proofs.AdvancingWaking.{IsWoken, woken_none, woken_then, stays_awake, woken_classes, wakes_classes}
 use Rattle.tg_coalesce.proofs.AdvancingListing.{IsShifted, shifted_none, shifted_then, shifted_left, IsListed}
 use Rattle.tg_coalesce.proofs.AdvancingListing.{by_tests, relisted_same, relisted_shifts, lists_it, lists_other}
 

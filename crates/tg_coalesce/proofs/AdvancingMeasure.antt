@@ -1,9 +1,9 @@
 -- How much is left to do, by what is left of a round.
-use Rattle.std.proofs.Common.{◌≡◌, ◌≢◌, ℕ, zero, suc, ◌+◌, ◌*◌, ◌<◌, ◌≤◌, Bool, true, false, not, ◌&&◌, ◌||◌, List}
+use Rattle.std.proofs.Common.{◌≡◌, ℕ, zero, suc, ◌+◌, ◌*◌, ◌<◌, ◌≤◌, Bool, true, false, not, ◌&&◌, ◌||◌, List}
 use Rattle.std.proofs.Common.{[], ◌∷◌, length, get_or, refl, sym, ap, subst, ◌∙◌, arith}
 use Rattle.std.specs.Prelude.{◌==◌, nat_lt, nat_eq, count_by}
 use Rattle.std.specs.List.{IsDistinct}
-use Rattle.std.proofs.lemmas.Bool.{ltb-true, lt-ltb}
+use Rattle.std.proofs.lemmas.Bool.{lt-ltb}
 use Rattle.std.proofs.lemmas.Map.Steps.{length-le_from_distinct_below}
 use Rattle.tg_rounds.specs.declared.moves.Move.{Move}
 use Rattle.tg_rounds.specs.declared.moves.MoveState.{MoveState}
@@ -14,15 +14,14 @@ use Rattle.tg_rounds.specs.States.{State, remains, is_ready_or_waiting}
 use Rattle.tg_rounds.specs.States as states
 use Rattle.tg_rounds.specs.Steps.{can, after}
 use Rattle.tg_rounds.specs.Laws.{work_left}
-use Rattle.tg_rounds.proofs.Counting.{count_le}
 use Rattle.tg_rounds.proofs.Shrinking.{steps_shrink}
 use Rattle.tg_graph.specs.declared.worklists.Worklist.{Worklist}
 use Rattle.tg_graph.specs.declared.worklists.Worklist.TheVariants as worklists
 use Rattle.tg_graph.specs.Interference.{is_among, is_register}
 use Rattle.tg_graph.specs.Lists.{nodes_in, number}
-use Rattle.tg_coalesce.specs.Tables.{Table, state_at, is_unsettled}
-use Rattle.tg_coalesce.specs.Works.{Work, is_left, is_open}
-use Rattle.tg_coalesce.specs.Standing.{shown, state_of, as_told, IsOrderly, left_to_do}
+use Rattle.tg_coalesce.specs.Tables.{is_unsettled}
+use Rattle.tg_coalesce.specs.Works.{Work, is_left}
+use Rattle.tg_coalesce.specs.Standing.{shown, state_of, IsOrderly, left_to_do}
 use Rattle.tg_coalesce.proofs.AdvancingMembers.{count_of_list, count_cons, all_among}
 use Rattle.tg_coalesce.proofs.AdvancingOrder.{unsettled_told}
 use Rattle.tg_coalesce.proofs.AdvancingPossible.{moves_of}
@@ -37,6 +36,14 @@ count_same S T (suc n) h =
     let here = ap bit (h n (omega arith)) in
     let rest = count_same S T n (λ x l. h x (omega arith)) in
     omega (arith, here, rest)
+
+pub count_most : (S : Set) (n : ℕ) → count S n ≤ n
+count_most S zero = omega arith
+count_most S (suc n) = let r = count_most S n in let b = by (S n) in omega (arith, r, b)
+  where
+    by : (b : Bool) → bit b ≤ 1
+    by true = omega arith
+    by false = omega arith
 
 -- how many states of a list pass, by their places
 count_places : (p : MoveState → Bool) (states : List MoveState) →

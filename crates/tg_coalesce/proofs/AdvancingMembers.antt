@@ -1,15 +1,14 @@
 -- What is in lists of numbers without repeats, and how many of it pass a test.
-use Rattle.std.proofs.Common.{◌≡◌, ◌≢◌, ℕ, zero, suc, ◌+◌, ◌<◌, ◌≤◌, Bool, true, false, ◌&&◌, ◌||◌, ◌⊎◌, inl, inr}
+use Rattle.std.proofs.Common.{◌≡◌, ◌≢◌, ℕ, zero, suc, ◌+◌, ◌<◌, Bool, true, false, ◌&&◌, ◌||◌, ◌⊎◌, inl, inr}
 use Rattle.std.proofs.Common.{List, [], ◌∷◌, length, get_or, All, Some, cond, refl, sym, ap, subst, ◌∙◌, arith}
 use Rattle.std.proofs.Common.{⊎_elim}
-use Rattle.std.specs.Prelude.{nat_eq, ◌==◌, count_by, sum_by, slice_get}
+use Rattle.std.specs.Prelude.{nat_eq, ◌==◌, count_by, slice_get}
 use Rattle.std.specs.List.{IsDistinct, AllByRecursion, list_any}
 use Rattle.std.proofs.lemmas.List.Sums.{sum_by-cons}
 use Rattle.std.proofs.lemmas.List.Folds.{list_any_at}
-use Rattle.std.proofs.lemmas.Bool.Decides.{eqb_tells}
 use Rattle.tg_graph.specs.Interference.{is_among}
 use Rattle.tg_rounds.specs.Graphs.{Set, bit, count, without}
-use Rattle.tg_rounds.proofs.Deciding.{clash, both, and_true, either, or_left, or_right, tells, never, same_node, same_test}
+use Rattle.tg_rounds.proofs.Deciding.{clash, both, and_true, either, or_left, or_right, tells, same_node, same_test}
 use Rattle.tg_rounds.proofs.Counting.{count_le, count_out, stays_in, was_in}
 
 pub one_bit : {b : Bool} → b ≡ true → bit b ≡ 1
@@ -17,6 +16,12 @@ one_bit e = ap bit e
 
 pub no_bit : {b : Bool} → b ≡ false → bit b ≡ 0
 no_bit e = ap bit e
+
+-- two tests that follow from each other
+pub same_tests : (a b : Bool) → (a ≡ true → b ≡ true) → (b ≡ true → a ≡ true) → a ≡ b
+same_tests true b f h = sym (f refl)
+same_tests false true f h = h refl
+same_tests false false f h = refl
 
 pub is_bit : {b : Bool} → bit b ≡ 1 → b ≡ true
 is_bit {b = true} e = refl

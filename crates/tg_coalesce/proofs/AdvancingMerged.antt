@@ -1,8 +1,8 @@
 -- The work after a merge is in order again.
-use Rattle.std.proofs.Common.{◌≡◌, ◌≢◌, ℕ, zero, suc, ◌+◌, ◌-◌, ◌<◌, ◌≤◌, Bool, true, false, not, ◌&&◌, ◌||◌, ◌⊎◌}
-use Rattle.std.proofs.Common.{inl, inr, List, length, get_or, All, refl, sym, ap, subst, ◌∙◌, arith, ⊎_elim}
+use Rattle.std.proofs.Common.{◌≡◌, ◌≢◌, ℕ, ◌+◌, ◌<◌, ◌≤◌, Bool, true, false, not, ◌&&◌, ◌||◌}
+use Rattle.std.proofs.Common.{List, length, All, refl, sym, ap, subst, ◌∙◌, arith, ⊎_elim}
 use Rattle.std.specs.Prelude.{◌==◌, nat_lt, count_by, if◌then◌else◌}
-use Rattle.std.proofs.lemmas.Bool.{cases_eq, cases_lt, lt-ltb, ltb-true}
+use Rattle.std.proofs.lemmas.Bool.{cases_eq, cases_lt, lt-ltb}
 use Rattle.std.proofs.lemmas.List.{get_or_past, get_or_default}
 use Rattle.tg_rounds.specs.declared.moves.MoveState.{MoveState}
 use Rattle.tg_rounds.specs.Graphs.{Set, bit, count, degree, without}
@@ -11,36 +11,28 @@ use Rattle.tg_rounds.specs.States.{State}
 use Rattle.tg_rounds.specs.Steps.{merge, can_move}
 use Rattle.tg_rounds.specs.Laws.{is_stacked}
 use Rattle.tg_rounds.specs.Degrees.{degree_of}
-use Rattle.tg_rounds.proofs.Deciding.{clash, both, and_true, or_false, neither, never, not_true, same_node, same_test}
+use Rattle.tg_rounds.proofs.Deciding.{clash, both, and_true, neither, never, not_true, same_node, same_test}
 use Rattle.tg_graph.specs.declared.worklists.Worklist.TheVariants as worklists
 use Rattle.tg_graph.specs.Interference.{Interference, is_among, is_register, interferes, neighbours, most_nodes}
-use Rattle.tg_graph.specs.Lists.{Lists, number}
+use Rattle.tg_graph.specs.Lists.{Lists}
 use Rattle.tg_graph.proofs.Joining.{either_way, not_itself}
 use Rattle.tg_graph.proofs.Partitions.{moved_parts}
 use Rattle.tg_coalesce.specs.Lists.{list_at}
 use Rattle.tg_coalesce.specs.Tables.{state_at, is_waiting, is_related, move_at}
-use Rattle.tg_coalesce.specs.Works.{Work, degree_at, is_left, is_open, alias_of, to, from}
+use Rattle.tg_coalesce.specs.Works.{Work, degree_at, is_left, is_open, alias_of, to}
 use Rattle.tg_coalesce.specs.Standing.{shown, state_of, IsOrderly, HasDegrees, IsPlaced, HasEnds}
 use Rattle.tg_coalesce.proofs.AdvancingMembers.{count_of_list}
 use Rattle.tg_coalesce.proofs.AdvancingWaking.{IsQueue, requeued, woken_unsettled}
-use Rattle.tg_coalesce.proofs.AdvancingListing.{IsListed, by_tests, moved_it, moved_other, shifted_left}
-use Rattle.tg_coalesce.proofs.AdvancingOrder.{open_remains, remains_open, left_remains}
-use Rattle.tg_coalesce.proofs.AdvancingMeasure.{count_same}
+use Rattle.tg_coalesce.proofs.AdvancingListing.{moved_it, moved_other, shifted_left}
+use Rattle.tg_coalesce.proofs.AdvancingOrder.{open_remains, remains_open}
+use Rattle.tg_coalesce.proofs.AdvancingMeasure.{count_same, count_most}
 use Rattle.tg_coalesce.proofs.AdvancingPassingOn.{remade}
 use Rattle.tg_coalesce.proofs.AdvancingPassingOne.{brought}
 use Rattle.tg_coalesce.proofs.AdvancingClasses.{aliases_length, alias_after, grouping_after, members_after, renamed}
 use Rattle.tg_coalesce.proofs.AdvancingEnds.{table_after, touching_length, listed_after, counted_after, to_after}
-use Rattle.tg_coalesce.proofs.AdvancingEnds.{from_after, related_other, related_after}
-use Rattle.tg_coalesce.proofs.AdvancingMerging.{MayMerge, IsMerged, one, gone_low, gone_left, temporary, one_here}
+use Rattle.tg_coalesce.proofs.AdvancingEnds.{from_after, related_after}
+use Rattle.tg_coalesce.proofs.AdvancingMerging.{MayMerge, IsMerged, one, one_listed, gone_left, temporary, one_here}
 use Rattle.tg_coalesce.proofs.AdvancingMerging.{one_there, still_left, one_fixed, neighbour_below}
-
-count_most : (S : Set) (n : ℕ) → count S n ≤ n
-count_most S zero = omega arith
-count_most S (suc n) = let r = count_most S n in let b = by (S n) in omega (arith, r, b)
-  where
-    by : (b : Bool) → bit b ≤ 1
-    by true = omega arith
-    by false = omega arith
 
 module _ (w : Work) (h : IsOrderly w) (kept gone : ℕ) (may : MayMerge w kept gone) where
   abbrev s : State
@@ -55,15 +47,6 @@ module _ (w : Work) (h : IsOrderly w) (kept gone : ℕ) (may : MayMerge w kept g
         degree_of (shown w) after y + bit (interferes w.graph y kept && interferes w.graph y gone)
     pub more : degree_of (shown w) after kept ≡ degree_of (shown w) s kept +
         count (λ z. s.remaining z && interferes w.graph gone z && not (interferes w.graph kept z)) w.graph.nodes
-
-  one_listed : (z : ℕ) → z < w.graph.nodes → z ≢ kept → IsListed (one w h kept gone may) z
-  one_listed z k e o list =
-      let p = both (not (is_register z)) (is_left (one w h kept gone may).lists z) o in
-      let q = still_left w h kept gone may z p.1 in
-      moved_other w.lists gone z worklists.Merged list q.0
-      ∙ (h.placed.listed z k (and_true p.0 q.1) list
-      ∙ sym (ap (λ b. number list == number (by_tests (nat_lt (degree_at w z) 25) b))
-      (related_other w h kept gone may.kept_node may.gone_node may.differ z e q.0)))
 
   module _ (g : Interference) (lists : Lists) (degrees : List ℕ) (states : List MoveState) (ready : List ℕ)
       (b : IsMerged w h kept gone may
@@ -262,7 +245,7 @@ module _ (w : Work) (h : IsOrderly w) (kept gone : ℕ) (may : MayMerge w kept g
       fixed = λ z k. b.lists.fixed z ∙ one_fixed w h kept gone may z (in_work z k);
       stack_below = subst (λ n. All (λ x. (25 ≤ x) × (x < n)) w.stack) (sym b.size) h.placed.stack_below;
       stacked = λ z k. stacked_told z (in_work z k);
-      listed = λ z k e list. b.listed z (one_listed z (in_work z k)) e list;
+      listed = λ z k e list. b.listed z (one_listed w h kept gone may z (in_work z k)) e list;
     }
 
     ends_merged : HasEnds v

@@ -1,10 +1,10 @@
 -- Two classes of work in order become one: what the code computes has the parts of which its laws speak.
-use Rattle.std.proofs.Common.{◌≡◌, ◌≢◌, ℕ, ◌+◌, ◌-◌, ◌<◌, ◌≤◌, Bool, true, false, not, ◌&&◌, ◌||◌, ◌⊎◌, List, length}
-use Rattle.std.proofs.Common.{get_or, refl, sym, ap, subst, ◌∙◌, arith, ⊎_elim}
-use Rattle.std.specs.Prelude.{◌==◌, nat_lt, count_by, fold, if◌then◌else◌}
+use Rattle.std.proofs.Common.{◌≡◌, ◌≢◌, ℕ, ◌+◌, ◌-◌, ◌<◌, ◌≤◌, Bool, true, false, not, ◌&&◌, ◌||◌, List, length}
+use Rattle.std.proofs.Common.{get_or, refl, sym, ap, subst, ◌∙◌, ⊎_elim}
+use Rattle.std.specs.Prelude.{◌==◌, nat_lt, count_by, fold}
 use Rattle.std.proofs.lemmas.Bool.{cases_eq, ltb-false}
 use Rattle.tg_rounds.specs.Graphs.{bit}
-use Rattle.tg_rounds.proofs.Deciding.{clash, both, and_true, not_true, never, same_node}
+use Rattle.tg_rounds.proofs.Deciding.{clash, both, and_true, not_true}
 use Rattle.tg_graph.specs.declared.worklists.Worklist.TheVariants as worklists
 use Rattle.tg_graph.specs.Interference.{IsGraph, is_among, is_register, interferes, neighbours}
 use Rattle.tg_graph.specs.Lists.{number, moved}
@@ -15,13 +15,13 @@ use Rattle.tg_coalesce.specs.Works.{Work, degree_at, is_left, is_open, relisted,
 use Rattle.tg_coalesce.specs.Steps.{passed_on, merged}
 use Rattle.tg_coalesce.specs.Standing.{IsOrderly}
 use Rattle.tg_coalesce.proofs.AdvancingWaking.{IsWoken, woken_then, woken_class, wakes_class, stays_awake}
-use Rattle.tg_coalesce.proofs.AdvancingListing.{IsShifted, shifted_then, shifted_left, IsListed, by_tests, moved_it}
+use Rattle.tg_coalesce.proofs.AdvancingListing.{IsShifted, shifted_then, IsListed, by_tests, moved_it}
 use Rattle.tg_coalesce.proofs.AdvancingListing.{moved_other, relisted_same, relisted_shifts, lists_it, lists_other}
 use Rattle.tg_coalesce.proofs.AdvancingLosing.{IsRoused}
 use Rattle.tg_coalesce.proofs.AdvancingPassingOn.{IsPassed, remade}
 use Rattle.tg_coalesce.proofs.AdvancingPassingOne.{IsBeside, brought, passed_all}
 use Rattle.tg_coalesce.proofs.AdvancingClasses.{classes_after}
-use Rattle.tg_coalesce.proofs.AdvancingEnds.{moves_after}
+use Rattle.tg_coalesce.proofs.AdvancingEnds.{moves_after, related_other}
 
 -- two classes that may become one
 pub record MayMerge (w : Work) (kept gone : ℕ) : Type 0 where
@@ -76,6 +76,16 @@ module _ (w : Work) (h : IsOrderly w) (kept gone : ℕ) (may : MayMerge w kept g
       (moved_it w.lists gone worklists.Merged worklists.Fixed ∙ sym gone_low))
       (λ (d : z ≢ gone). moved_other w.lists gone z worklists.Merged worklists.Fixed d ∙ h.placed.fixed z k)
       (cases_eq z gone)
+
+  -- each other temporary stays where it belongs
+  pub one_listed : (z : ℕ) → z < w.graph.nodes → z ≢ kept → IsListed one z
+  one_listed z k e o list =
+      let p = both (not (is_register z)) (is_left one.lists z) o in
+      let q = still_left z p.1 in
+      moved_other w.lists gone z worklists.Merged list q.0
+      ∙ (h.placed.listed z k (and_true p.0 q.1) list
+      ∙ sym (ap (λ b. number list == number (by_tests (nat_lt (degree_at w z) 25) b))
+      (related_other w h kept gone may.kept_node may.gone_node may.differ z e q.0)))
 
   pub neighbour_below : (y : ℕ) → is_among y (neighbours w.graph gone) ≡ true → y < w.graph.nodes
   neighbour_below y e =

@@ -1,34 +1,25 @@
 -- What is known of work in order: which nodes remain, which moves end where, what is in each worklist.
-use Rattle.std.proofs.Common.{◌≡◌, ◌≢◌, ℕ, ◌+◌, ◌<◌, ◌≤◌, Bool, true, false, not, ◌&&◌, ◌||◌, ◌⊎◌, inl, inr, List, []}
-use Rattle.std.proofs.Common.{length, get_or, All, refl, sym, ap, subst, ◌∙◌, arith, ⊎_elim}
-use Rattle.std.specs.Prelude.{◌==◌, nat_eq, nat_lt, count_by, IsFalse}
+use Rattle.std.proofs.Common.{◌≡◌, ℕ, ◌+◌, ◌<◌, Bool, true, false, not, ◌&&◌, ◌||◌, ◌⊎◌, inl, inr}
+use Rattle.std.proofs.Common.{length, get_or, refl, sym, ap, subst, ◌∙◌, arith}
+use Rattle.std.specs.Prelude.{◌==◌, nat_eq, nat_lt}
 use Rattle.std.proofs.lemmas.Bool.{ltb-true, lt-ltb}
 use Rattle.std.proofs.lemmas.List.{get_or_default}
-use Rattle.std.proofs.lemmas.List.Elements.{All-get_or}
 use Rattle.tg_rounds.specs.declared.moves.Move.{Move}
-use Rattle.tg_rounds.specs.declared.steps.Step.TheVariants.{Simplify, Freeze}
-use Rattle.tg_rounds.specs.Graphs.{bit, some}
+use Rattle.tg_rounds.specs.Graphs.{bit}
 use Rattle.tg_rounds.specs.States.{Problem, State, remains, is_move_related, touches, is_ready_or_waiting, low}
 use Rattle.tg_rounds.specs.States as states
-use Rattle.tg_rounds.specs.Steps.{can, can_move}
 use Rattle.tg_rounds.specs.Laws.{IsSound}
-use Rattle.tg_rounds.specs.Degrees.{degree_of}
-use Rattle.tg_rounds.proofs.Deciding.{clash, both, and_true, either, or_left, or_right, tells, never, not_true}
-use Rattle.tg_rounds.proofs.Deciding.{from_false, or_false, neither, same_node, same_test, some_is}
-use Rattle.tg_graph.specs.declared.worklists.Worklist.{Worklist}
-use Rattle.tg_graph.specs.declared.worklists.Worklist.TheVariants as worklists
-use Rattle.tg_graph.specs.Interference.{is_among, is_register, interferes}
-use Rattle.tg_graph.specs.Lists.{Lists, nodes_in, number}
-use Rattle.tg_graph.specs.Laws.{ArePartition}
+use Rattle.tg_rounds.proofs.Deciding.{both, and_true, either, or_left, or_right}
+use Rattle.tg_rounds.proofs.Deciding.{same_node, same_test, some_is}
+use Rattle.tg_graph.specs.Interference.{is_among, is_register}
 use Rattle.tg_graph.proofs.Joining.{either_way, not_itself}
 use Rattle.tg_coalesce.specs.Lists.{list_at}
 use Rattle.tg_coalesce.specs.Groupings.{IsGrouping}
-use Rattle.tg_coalesce.specs.Tables.{Table, IsTable, move_at, state_at, is_waiting, is_unsettled, is_related}
-use Rattle.tg_coalesce.specs.Works.{Work, degree_at, is_left, is_open, list_of, to, from}
-use Rattle.tg_coalesce.specs.Standing.{as_told, shown, state_of, IsSized, HasEnds, IsOrderly}
-use Rattle.tg_coalesce.proofs.AdvancingMembers.{one_bit, no_bit, all_among, count_some, count_found}
+use Rattle.tg_coalesce.specs.Tables.{IsTable, move_at, state_at, is_unsettled, is_related}
+use Rattle.tg_coalesce.specs.Works.{Work, is_left, is_open, to, from}
+use Rattle.tg_coalesce.specs.Standing.{as_told, shown, state_of, IsSized, HasEnds}
+use Rattle.tg_coalesce.proofs.AdvancingMembers.{same_tests, one_bit, all_among, count_some, count_found}
 use Rattle.tg_coalesce.proofs.AdvancingWaking.{told_open}
-use Rattle.tg_coalesce.proofs.AdvancingListing.{by_tests, IsListed}
 
 -- a temporary that remains, as the code and as a round see it
 module _ (w : Work) where
@@ -140,10 +131,13 @@ module _ (w : Work) (h : HasMoves w) where
       let i = found.0 in
       let l = all_among (λ j. j < length w.moves.moves) i (list_at w.moves.touching x) (h.table.touching_below x) found.1
       in
-      (some_is (touches (shown w) (state_of w) x) (length w.moves.moves)).1 (i, l,
-      and_true (unsettled_told i l ∙ found.2)
-      (ap (λ c. (c == x) || (states.from (shown w) (state_of w) i == x)) (to_same i l)
-      ∙ (ap (λ c. (to w i == x) || (c == x)) (from_same i l) ∙ ends_listed i l x k found.1)))
+      (some_is (touches (shown w) (state_of w) x) (length w.moves.moves)).1 (
+        i,
+        l,
+        and_true (unsettled_told i l ∙ found.2)
+            (ap (λ c. (c == x) || (states.from (shown w) (state_of w) i == x)) (to_same i l)
+            ∙ (ap (λ c. (to w i == x) || (c == x)) (from_same i l) ∙ ends_listed i l x k found.1)),
+      )
 
   related_by : (x i : ℕ) → x < w.graph.nodes → i < length w.moves.moves → is_unsettled w.moves i ≡ true →
       (to w i == x || from w i == x) ≡ true → is_related w.moves x ≡ true
@@ -154,22 +148,18 @@ module _ (w : Work) (h : HasMoves w) where
   touching_at : (x i : ℕ) → i < length w.moves.moves → touches (shown w) (state_of w) x i ≡ true →
       (is_unsettled w.moves i ≡ true) × ((to w i == x || from w i == x) ≡ true)
   touching_at x i l t =
-      let p = both (states.is_unsettled (shown w) (state_of w) i) _ t in
-      (sym (unsettled_told i l) ∙ p.0,
-      ap (λ c. (c == x) || (from w i == x)) (sym (to_same i l))
-      ∙ (ap (λ c. (states.to (shown w) (state_of w) i == x) || (c == x)) (sym (from_same i l)) ∙ p.1))
+      let p = both (states.is_unsettled (shown w) (state_of w) i) _ t in (
+        sym (unsettled_told i l) ∙ p.0,
+        ap (λ c. (c == x) || (from w i == x)) (sym (to_same i l))
+            ∙ (ap (λ c. (states.to (shown w) (state_of w) i == x) || (c == x)) (sym (from_same i l)) ∙ p.1),
+      )
 
   pub related_told : (x : ℕ) → x < w.graph.nodes →
       is_related w.moves x ≡ is_move_related (shown w) (state_of w) x
-  related_told x k = same (is_related w.moves x) (is_move_related (shown w) (state_of w) x) (related_found x k)
+  related_told x k = same_tests (is_related w.moves x) (is_move_related (shown w) (state_of w) x) (related_found x k)
       (λ e. let found = (some_is (touches (shown w) (state_of w) x) (length w.moves.moves)).0 e in
       let parts = touching_at x found.0 found.1 found.2 in
       related_by x found.0 k found.1 parts.0 parts.1)
-    where
-      same : (a b : Bool) → (a ≡ true → b ≡ true) → (b ≡ true → a ≡ true) → a ≡ b
-      same true b f g = sym (f refl)
-      same false true f g = g refl
-      same false false f g = refl
 
   -- the ends of an unsettled move remain
   end_left : (x i : ℕ) → x < w.graph.nodes → i < length w.moves.moves → is_unsettled w.moves i ≡ true →
@@ -182,13 +172,17 @@ module _ (w : Work) (h : HasMoves w) where
     irreflexive = λ x. not_itself w.graph x x refl;
     to_remains = λ i u.
         let l = unsettled_below i u in
-        subst (λ x. (x < w.graph.nodes) × ((state_of w).remaining x ≡ true)) (sym (to_same i l))
-        (to_below i l, left_remains w (to w i) (to_below i l)
-        (end_left (to w i) i (to_below i l) l (sym (unsettled_told i l) ∙ u) (or_left _ _ (same_test (to w i) _ refl))));
+        subst (λ x. (x < w.graph.nodes) × ((state_of w).remaining x ≡ true)) (sym (to_same i l)) (
+          to_below i l,
+          left_remains w (to w i) (to_below i l)
+              (end_left (to w i) i (to_below i l) l (sym (unsettled_told i l) ∙ u) (or_left _ _ (same_test (to w i) _ refl))),
+        );
     from_remains = λ i u.
         let l = unsettled_below i u in
-        subst (λ x. (x < w.graph.nodes) × ((state_of w).remaining x ≡ true)) (sym (from_same i l))
-        (from_below i l, left_remains w (from w i) (from_below i l)
-        (end_left (from w i) i (from_below i l) l (sym (unsettled_told i l) ∙ u)
-        (or_right (to w i == from w i) _ (same_test (from w i) _ refl))));
+        subst (λ x. (x < w.graph.nodes) × ((state_of w).remaining x ≡ true)) (sym (from_same i l)) (
+          from_below i l,
+          left_remains w (from w i) (from_below i l)
+              (end_left (from w i) i (from_below i l) l (sym (unsettled_told i l) ∙ u)
+              (or_right (to w i == from w i) _ (same_test (from w i) _ refl))),
+        );
   }

@@ -1,10 +1,9 @@
 -- A move that fails its test waits.
-use Rattle.std.proofs.Common.{◌≡◌, ◌≢◌, ℕ, suc, ◌+◌, ◌*◌, ◌<◌, ◌≤◌, Bool, true, false, not, ◌&&◌, ◌||◌, ◌⊎◌, List, []}
-use Rattle.std.proofs.Common.{◌∷◌, length, drop, set, Some, refl, sym, ap, subst, ◌∙◌, arith, ⊎_elim}
-use Rattle.std.specs.Prelude.{◌==◌, count_by, slice_get}
+use Rattle.std.proofs.Common.{◌≡◌, ◌≢◌, ℕ, suc, ◌+◌, ◌*◌, ◌<◌, Bool, true, false, not, ◌&&◌, ◌||◌}
+use Rattle.std.proofs.Common.{length, drop, Some, refl, sym, ap, subst, ◌∙◌, arith, ⊎_elim}
+use Rattle.std.specs.Prelude.{◌==◌, slice_get}
 use Rattle.std.proofs.lemmas.Bool.{cases_eq}
 use Rattle.std.proofs.lemmas.List.{get_or-set_same, get_or-set_other, length-set}
-use Rattle.tg_rounds.specs.declared.moves.MoveState.{MoveState}
 use Rattle.tg_rounds.specs.declared.moves.MoveState.TheVariants.{Ready, Waiting}
 use Rattle.tg_rounds.specs.Graphs.{is_register}
 use Rattle.tg_rounds.specs.States.{is_ready_or_waiting}
@@ -12,10 +11,9 @@ use Rattle.tg_rounds.specs.States as states
 use Rattle.tg_rounds.specs.Steps.{can_move}
 use Rattle.tg_rounds.specs.Steps as steps
 use Rattle.tg_rounds.specs.Laws.{work_left}
-use Rattle.tg_rounds.proofs.Deciding.{clash, both, never, same_node, same_test}
+use Rattle.tg_rounds.proofs.Deciding.{clash, both, never, same_test}
 use Rattle.tg_graph.specs.Interference.{is_among, interferes}
-use Rattle.tg_coalesce.specs.Lists.{list_at}
-use Rattle.tg_coalesce.specs.Tables.{Table, IsTable, state_at, is_waiting, is_unsettled, first_taken, parked}
+use Rattle.tg_coalesce.specs.Tables.{IsTable, state_at, is_waiting, is_unsettled, first_taken, parked}
 use Rattle.tg_coalesce.specs.Works.{Work, to, from}
 use Rattle.tg_coalesce.specs.Passing.{passes}
 use Rattle.tg_coalesce.specs.Standing.{as_told, shown, state_of, IsOrderly, left_to_do}
@@ -24,8 +22,9 @@ use Rattle.tg_coalesce.proofs.AdvancingWaking.{told_open}
 use Rattle.tg_coalesce.proofs.AdvancingOrder.{to_below, from_below}
 use Rattle.tg_coalesce.proofs.AdvancingPossible.{moves_of}
 use Rattle.tg_coalesce.proofs.AdvancingMeasure.{left_is}
+use Rattle.tg_coalesce.proofs.AdvancingKept.{kept_of, kept_restated, orderly_of}
 use Rattle.tg_coalesce.proofs.AdvancingPassing.{passes_told}
-use Rattle.tg_coalesce.proofs.AdvancingTrying.{ready, index, is_ready, unsettled, begun, begun_kept, begun_ready, registers_interfere, at_ends}
+use Rattle.tg_coalesce.proofs.AdvancingTrying.{ready, index, is_ready, begun_kept, begun_ready, registers_interfere, at_ends}
 
 module _ (i : ℕ) (w : Work) (h : IsOrderly w) (first : slice_get w.moves.ready 0 ≡ Some i) where
   -- between two classes that don't interfere and fail the test it can't be settled
@@ -121,39 +120,14 @@ module _ (i : ℕ) (w : Work) (h : IsOrderly w) (first : slice_get w.moves.ready
         (cases_eq j i))
 
     orderly_waiting : IsOrderly waiting
-    orderly_waiting = record {
-      some = h.some;
-      few = h.few;
-      sized = record {
-        lists = h.sized.lists;
-        degrees = h.sized.degrees;
-        classes = h.sized.classes;
-        touching = h.sized.touching;
-      };
-      grouping = h.grouping;
-      table = table_waiting;
-      graph = h.graph;
-      degrees = record { bound = h.degrees.bound; exact = h.degrees.exact };
-      placed = record {
-        partition = h.placed.partition;
-        fixed = h.placed.fixed;
-        stack_below = h.placed.stack_below;
-        stacked = h.placed.stacked;
-        listed = h.placed.listed;
-      };
-      members = record { exact = h.members.exact; distinct = h.members.distinct };
-      ends = record {
-        listed = h.ends.listed;
-        counted = λ x l. h.ends.counted x l
-            ∙ sym (ap (λ f. count_by f (list_at w.moves.touching x)) (λ d j. open_told j d));
-        left = h.ends.left;
-      };
-      ready = record {
-        exact = exact_waiting;
-        distinct = (begun_ready i w h first).distinct;
-        waiting = still_waits;
-      };
-    }
+    orderly_waiting =
+        orderly_of waiting
+        (kept_restated w (kept_of w h) waiting.moves.states waiting.moves.ready w.steps table_waiting open_told)
+        (record {
+          exact = exact_waiting;
+          distinct = (begun_ready i w h first).distinct;
+          waiting = still_waits;
+        })
 
     less_waiting : left_to_do waiting < left_to_do w
     less_waiting =

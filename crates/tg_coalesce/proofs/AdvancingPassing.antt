@@ -1,15 +1,15 @@
 -- The tests of a move by lists of neighbours say what those of the definition do.
-use Rattle.std.proofs.Common.{◌≡◌, ◌≢◌, ℕ, zero, suc, ◌+◌, ◌<◌, ◌≤◌, Bool, true, false, not, ◌&&◌, ◌||◌, ◌⊎◌, inl}
-use Rattle.std.proofs.Common.{inr, List, refl, sym, ap, subst, ◌∙◌, arith, ⊎_elim}
-use Rattle.std.specs.Prelude.{◌==◌, nat_lt, count_by, if◌then◌else◌}
+use Rattle.std.proofs.Common.{◌≡◌, ℕ, zero, suc, ◌+◌, ◌<◌, ◌≤◌, Bool, true, false, not, ◌&&◌, ◌||◌}
+use Rattle.std.proofs.Common.{refl, sym, ap, subst, ◌∙◌, arith, ⊎_elim}
+use Rattle.std.specs.Prelude.{◌==◌, nat_lt, if◌then◌else◌}
 use Rattle.std.proofs.lemmas.Bool.{lt-ltb, ltb-false}
-use Rattle.tg_rounds.specs.Graphs.{Set, bit, count, is_register, some, every}
+use Rattle.tg_rounds.specs.Graphs.{Set, bit, count, is_register}
 use Rattle.tg_rounds.specs.States.{State, low}
 use Rattle.tg_rounds.specs.Degrees.{degree_of}
 use Rattle.tg_rounds.specs.Steps.{allows, george, briggs, high_neighbours}
 use Rattle.tg_rounds.specs.Steps as steps
-use Rattle.tg_rounds.proofs.Deciding.{clash, both, and_true, either, or_left, or_right, tells, never, not_true}
-use Rattle.tg_rounds.proofs.Deciding.{from_false, from_true, not_false, neither, or_false, same_node, same_test}
+use Rattle.tg_rounds.proofs.Deciding.{both, and_true, either, or_left, tells, not_true}
+use Rattle.tg_rounds.proofs.Deciding.{from_false, not_false, or_false, same_node, same_test}
 use Rattle.tg_rounds.proofs.Deciding.{every_is}
 use Rattle.tg_graph.specs.declared.worklists.Worklist.{Worklist}
 use Rattle.tg_graph.specs.declared.worklists.Worklist.TheVariants as worklists
@@ -17,10 +17,10 @@ use Rattle.tg_graph.specs.Interference.{is_among, interferes, neighbours}
 use Rattle.tg_graph.specs.Lists.{nodes_in, number}
 use Rattle.tg_graph.proofs.Joining.{stays_below}
 use Rattle.tg_coalesce.specs.Tables.{is_related}
-use Rattle.tg_coalesce.specs.Works.{Work, degree_at, is_left, is_open, is_high, list_of}
+use Rattle.tg_coalesce.specs.Works.{Work, degree_at, is_left, is_open, is_high}
 use Rattle.tg_coalesce.specs.Passing.{high_around, high_apart, passes_george, passes_briggs, passes}
 use Rattle.tg_coalesce.specs.Standing.{shown, state_of, IsOrderly}
-use Rattle.tg_coalesce.proofs.AdvancingMembers.{count_of_list, count_some, count_found}
+use Rattle.tg_coalesce.proofs.AdvancingMembers.{same_tests, count_of_list, count_some, count_found}
 use Rattle.tg_coalesce.proofs.AdvancingOrder.{left_remains}
 use Rattle.tg_coalesce.proofs.AdvancingListing.{by_tests}
 use Rattle.tg_coalesce.proofs.AdvancingPossible.{moves_of, low_told}
@@ -90,11 +90,6 @@ module _ (w : Work) (h : IsOrderly w) where
         (tells (is_left w.lists z)))
         (tells (is_register z))
 
-  same : (a b : Bool) → (a ≡ true → b ≡ true) → (b ≡ true → a ≡ true) → a ≡ b
-  same true b f k = sym (f refl)
-  same false true f k = k refl
-  same false false f k = refl
-
   below : (x z : ℕ) → 25 ≤ x → x < w.graph.nodes → is_among z (neighbours w.graph x) ≡ true → z < w.graph.nodes
   below x z t l e = stays_below w.graph x z h.graph t l (sym (h.graph.exact x z t) ∙ e)
 
@@ -152,7 +147,7 @@ module _ (w : Work) (h : IsOrderly w) where
 
     pub george_told : passes_george w r t ≡ george (shown w) s r t
     george_told =
-        same (passes_george w r t) (george (shown w) s r t)
+        same_tests (passes_george w r t) (george (shown w) s r t)
         (λ e. (every_is (allows (shown w) s r t) w.graph.nodes).1 (none_blocks e)) all_allow
 
   -- Briggs's test

@@ -1,24 +1,18 @@
 -- The kept node gets the neighbours of the one that goes, and their waiting moves are to be tried again.
-use Rattle.std.proofs.Common.{◌≡◌, ◌≢◌, ℕ, ◌+◌, ◌-◌, ◌<◌, ◌≤◌, Bool, true, false, not, ◌&&◌, ◌||◌, ◌⊎◌, List, [], ◌∷◌}
-use Rattle.std.proofs.Common.{length, get_or, set, refl, sym, ap, subst, ◌∙◌, arith, ⊎_elim}
-use Rattle.std.specs.Prelude.{◌==◌, nat_eq, nat_lt, count_by, fold, if◌then◌else◌}
-use Rattle.std.specs.List.{IsDistinct}
-use Rattle.std.proofs.lemmas.Bool.{cases_eq}
-use Rattle.std.proofs.lemmas.List.{get_or-set_same, get_or-set_other, length-set}
+use Rattle.std.proofs.Common.{◌≡◌, ◌≢◌, ℕ, ◌+◌, ◌-◌, ◌≤◌, Bool, true, false, not, ◌&&◌, ◌||◌, List}
+use Rattle.std.proofs.Common.{length, refl, sym, ap, subst, ◌∙◌, arith, ⊎_elim}
+use Rattle.std.specs.Prelude.{◌==◌}
 use Rattle.tg_rounds.specs.Graphs.{Set, bit}
-use Rattle.tg_rounds.proofs.Deciding.{clash, both, and_true, either, or_left, or_right, tells, never, not_true, same_node, same_test}
+use Rattle.tg_rounds.proofs.Deciding.{both, or_left, tells, never, not_true, same_node}
 use Rattle.std.proofs.lemmas.Bool.{ltb-false}
-use Rattle.tg_graph.specs.Interference.{Interference, IsGraph, is_among, is_register, interferes, neighbours, with_edge, are_ends}
-use Rattle.tg_graph.specs.Lists.{Lists, number}
-use Rattle.tg_graph.proofs.Joining.{CanJoin, joined, interferes_joined, graph_joined}
-use Rattle.tg_coalesce.specs.Lists.{list_at, raised}
-use Rattle.tg_coalesce.specs.Tables.{Table, state_at, is_waiting, is_related, woken}
-use Rattle.tg_coalesce.specs.Works.{Work, degree_at, is_left, is_open, awake}
-use Rattle.tg_coalesce.specs.Steps.{bereft, passed_edge, passed_on}
-use Rattle.tg_coalesce.proofs.AdvancingMembers.{count_cons, not_again, distinct_rest, no_bit, one_bit}
-use Rattle.tg_coalesce.proofs.AdvancingWaking.{IsWoken, woken_none, woken_then, woken_class, wakes_class, stays_awake}
-use Rattle.tg_coalesce.proofs.AdvancingListing.{IsShifted, shifted_none, shifted_then, shifted_left, IsListed, by_tests}
-use Rattle.tg_coalesce.proofs.AdvancingLosing.{IsBereft, IsRoused, bereft_one, changed}
+use Rattle.tg_graph.specs.Interference.{Interference, IsGraph, is_among, is_register, interferes}
+use Rattle.tg_graph.specs.Lists.{Lists}
+use Rattle.tg_coalesce.specs.Lists.{list_at}
+use Rattle.tg_coalesce.specs.Tables.{Table, state_at, is_waiting}
+use Rattle.tg_coalesce.specs.Works.{Work, degree_at, is_left, is_open}
+use Rattle.tg_coalesce.proofs.AdvancingWaking.{IsWoken, woken_none, woken_then, stays_awake}
+use Rattle.tg_coalesce.proofs.AdvancingListing.{IsShifted, shifted_none, shifted_then, shifted_left, IsListed}
+use Rattle.tg_coalesce.proofs.AdvancingLosing.{IsRoused}
 
 abbrev pub remade : Work → Interference → Lists → List ℕ → Table → Work
 remade w g lists degrees moves = record w { graph = g; lists = lists; degrees = degrees; moves = moves }

@@ -1,22 +1,22 @@
 -- The kept node gets one neighbour of the one that goes.
-use Rattle.std.proofs.Common.{◌≡◌, ◌≢◌, ℕ, ◌+◌, ◌-◌, ◌<◌, ◌≤◌, Bool, true, false, not, ◌&&◌, ◌||◌, ◌⊎◌, List, [], ◌∷◌}
-use Rattle.std.proofs.Common.{length, get_or, set, refl, sym, ap, subst, ◌∙◌, arith, ⊎_elim}
+use Rattle.std.proofs.Common.{◌≡◌, ◌≢◌, ℕ, ◌+◌, ◌-◌, ◌<◌, ◌≤◌, Bool, true, false, not, ◌&&◌, ◌||◌, List, [], ◌∷◌}
+use Rattle.std.proofs.Common.{length, get_or, refl, sym, ap, subst, ◌∙◌, arith}
 use Rattle.std.specs.Prelude.{◌==◌, nat_eq, nat_lt, count_by, fold, if◌then◌else◌}
 use Rattle.std.specs.List.{IsDistinct}
 use Rattle.std.proofs.lemmas.List.{get_or-set_same, get_or-set_other, length-set}
-use Rattle.tg_rounds.specs.Graphs.{Set, bit}
-use Rattle.tg_rounds.proofs.Deciding.{clash, both, or_left, or_right, tells, never, same_node, same_test}
-use Rattle.tg_graph.specs.Interference.{Interference, IsGraph, is_among, is_register, interferes, with_edge}
+use Rattle.tg_rounds.specs.Graphs.{bit}
+use Rattle.tg_rounds.proofs.Deciding.{clash, both, or_left, or_right, never, same_node, same_test}
+use Rattle.tg_graph.specs.Interference.{IsGraph, is_among, is_register, interferes}
 use Rattle.tg_graph.specs.Lists.{number}
 use Rattle.tg_graph.proofs.Joining.{CanJoin, either_way, joined, interferes_joined, graph_joined}
 use Rattle.tg_coalesce.specs.Lists.{list_at, raised}
-use Rattle.tg_coalesce.specs.Tables.{Table, state_at, is_waiting, woken}
+use Rattle.tg_coalesce.specs.Tables.{Table, woken}
 use Rattle.tg_coalesce.specs.Works.{Work, degree_at, is_left, is_open, awake}
 use Rattle.tg_coalesce.specs.Steps.{bereft, passed_edge, passed_on}
 use Rattle.tg_coalesce.proofs.AdvancingMembers.{count_cons, not_again, distinct_rest}
-use Rattle.tg_coalesce.proofs.AdvancingWaking.{IsWoken, woken_then, woken_class, wakes_class, stays_awake}
-use Rattle.tg_coalesce.proofs.AdvancingListing.{IsShifted, shifted_none, shifted_left, IsListed, by_tests}
-use Rattle.tg_coalesce.proofs.AdvancingLosing.{IsBereft, bereft_one, changed}
+use Rattle.tg_coalesce.proofs.AdvancingWaking.{woken_then, woken_class, wakes_class, stays_awake}
+use Rattle.tg_coalesce.proofs.AdvancingListing.{shifted_none, shifted_left, by_tests}
+use Rattle.tg_coalesce.proofs.AdvancingLosing.{IsBereft, bereft_one}
 use Rattle.tg_coalesce.proofs.AdvancingPassingOn.{IsPassed, remade, passed_none, passed_then, pairs_kept}
 
 module _ (kept : ℕ) where

@@ -1,14 +1,13 @@
 -- Which steps are possible where the work is in order, by its worklists.
-use Rattle.std.proofs.Common.{◌≡◌, ◌≢◌, ℕ, ◌+◌, ◌<◌, ◌≤◌, Bool, true, false, not, ◌&&◌, ◌||◌, ◌⊎◌, List, [], length, refl, sym, ap, subst, ◌∙◌, arith}
+use Rattle.std.proofs.Common.{◌≡◌, ℕ, ◌<◌, Bool, true, false, not, ◌&&◌, List, [], length, refl, sym, ap, subst, ◌∙◌, arith}
 use Rattle.std.specs.Prelude.{◌==◌, nat_lt, IsFalse}
 use Rattle.tg_rounds.specs.declared.steps.Step.TheVariants.{Simplify, Freeze}
-use Rattle.tg_rounds.specs.Graphs.{Graph}
 use Rattle.tg_rounds.specs.declared.moves.Move.{Move}
 use Rattle.tg_rounds.specs.States.{Problem, State, problem, remains, is_move_related, low}
 use Rattle.tg_rounds.specs.States as states
 use Rattle.tg_rounds.specs.Steps.{can, can_move}
 use Rattle.tg_rounds.specs.Degrees.{degree_of}
-use Rattle.tg_rounds.proofs.Deciding.{clash, both, and_true, tells, never, not_true, from_false, or_false, same_node}
+use Rattle.tg_rounds.proofs.Deciding.{clash, both, and_true, never, from_false, or_false, same_node}
 use Rattle.tg_graph.specs.declared.worklists.Worklist.{Worklist}
 use Rattle.tg_graph.specs.declared.worklists.Worklist.TheVariants as worklists
 use Rattle.tg_graph.specs.Interference.{is_among, is_register}
@@ -31,28 +30,28 @@ is_freeze false c = refl
 
 -- a step at a temporary that remains is possible as its list says
 module _ (w : Work) (h : HasMoves w) (degrees : HasDegrees w) (x : ℕ) (l : x < w.graph.nodes) (o : is_open w x ≡ true)
-    where
-  remains_here : remains (shown w) (state_of w) x ≡ true
-  remains_here = open_remains w x l o
+  where
+    remains_here : remains (shown w) (state_of w) x ≡ true
+    remains_here = open_remains w x l o
 
-  pub low_told : low (shown w) (state_of w) x ≡ nat_lt (degree_at w x) 25
-  low_told =
-      ap (λ b. b && nat_lt (degree_of (shown w) (state_of w) x) 25) (both (not (is_register x)) (is_left w.lists x) o).0
-      ∙ ap (λ n. nat_lt n 25) (sym (degrees.exact x remains_here))
+    pub low_told : low (shown w) (state_of w) x ≡ nat_lt (degree_at w x) 25
+    low_told =
+        ap (λ b. b && nat_lt (degree_of (shown w) (state_of w) x) 25) (both (not (is_register x)) (is_left w.lists x) o).0
+        ∙ ap (λ n. nat_lt n 25) (sym (degrees.exact x remains_here))
 
-  pub simplify_told : can (shown w) (state_of w) (Simplify x) ≡ (1 == number (list_of w x))
-  simplify_told =
-      ap (λ b. b && low (shown w) (state_of w) x && not (is_move_related (shown w) (state_of w) x)) remains_here
-      ∙ (ap (λ b. b && not (is_move_related (shown w) (state_of w) x)) low_told
-      ∙ (ap (λ b. nat_lt (degree_at w x) 25 && not b) (sym (related_told w h x l))
-      ∙ sym (is_simplify (nat_lt (degree_at w x) 25) (is_related w.moves x))))
+    pub simplify_told : can (shown w) (state_of w) (Simplify x) ≡ (1 == number (list_of w x))
+    simplify_told =
+        ap (λ b. b && low (shown w) (state_of w) x && not (is_move_related (shown w) (state_of w) x)) remains_here
+        ∙ (ap (λ b. b && not (is_move_related (shown w) (state_of w) x)) low_told
+        ∙ (ap (λ b. nat_lt (degree_at w x) 25 && not b) (sym (related_told w h x l))
+        ∙ sym (is_simplify (nat_lt (degree_at w x) 25) (is_related w.moves x))))
 
-  pub freeze_told : can (shown w) (state_of w) (Freeze x) ≡ (2 == number (list_of w x))
-  freeze_told =
-      ap (λ b. b && low (shown w) (state_of w) x && is_move_related (shown w) (state_of w) x) remains_here
-      ∙ (ap (λ b. b && is_move_related (shown w) (state_of w) x) low_told
-      ∙ (ap (λ b. nat_lt (degree_at w x) 25 && b) (sym (related_told w h x l))
-      ∙ sym (is_freeze (nat_lt (degree_at w x) 25) (is_related w.moves x))))
+    pub freeze_told : can (shown w) (state_of w) (Freeze x) ≡ (2 == number (list_of w x))
+    freeze_told =
+        ap (λ b. b && low (shown w) (state_of w) x && is_move_related (shown w) (state_of w) x) remains_here
+        ∙ (ap (λ b. b && is_move_related (shown w) (state_of w) x) low_told
+        ∙ (ap (λ b. nat_lt (degree_at w x) 25 && b) (sym (related_told w h x l))
+        ∙ sym (is_freeze (nat_lt (degree_at w x) 25) (is_related w.moves x))))
 
 -- a list for temporaries that remain
 pub record IsForOpen (list : Worklist) : Type 0 where

@@ -1,20 +1,31 @@
 -- How a run goes on where the work does.
-use Rattle.std.proofs.Common.{◌≡◌, ℕ, ◌<◌, List, [], ◌∷◌, ◌++◌, get_or, refl, sym, ap, subst, ◌∙◌}
+use Rattle.std.proofs.Common.{◌≡◌, ℕ, ◌<◌, true, [], ◌∷◌, ◌++◌, get_or, sym, ap, subst, ◌∙◌}
 use Rattle.std.specs.Prelude.{sum_by}
+use Rattle.std.proofs.lemmas.List.{get_or_default}
 use Rattle.tg_rounds.specs.declared.steps.Step.{Step}
 use Rattle.tg_rounds.specs.States.{Problem, State, start, members, mark_at, all_made}
 use Rattle.tg_rounds.specs.Steps.{after, after_all, IsTaken, AreTaken}
 use Rattle.tg_rounds.proofs.Classes.{Holds, holds_at_start, holds_all}
 use Rattle.tg_rounds.proofs.Running.{runs_go_on}
 use Rattle.tg_coalesce.specs.Groupings.{Grouping, is_made}
-use Rattle.tg_coalesce.specs.Works.{Work, alias_of}
-use Rattle.tg_coalesce.specs.Standing.{state_of, IsRunOf}
+use Rattle.tg_coalesce.specs.Works.{Work, alias_of, is_left}
+use Rattle.tg_coalesce.specs.Standing.{state_of, IsSized, IsRunOf}
+use Rattle.tg_coalesce.proofs.AdvancingOrder.{left_remains}
 
 module _ (g : Problem) (w : Work) (run : IsRunOf g w) where
   pub holds : Holds g (state_of w)
   holds =
       subst (λ s. Holds g s) (sym run.state)
       (holds_all g (start g) w.steps (holds_at_start g run.graph run.ends) run.steps)
+
+  -- a node that remains stands under itself
+  pub own_alias : (z : ℕ) → z < w.graph.nodes → is_left w.lists z ≡ true → (state_of w).alias z ≡ z
+  own_alias z b e =
+      holds.classes.remaining_is_own z (subst (λ n. z < n) run.nodes b) (left_remains w z b e)
+
+  pub own_class : IsSized w → (z : ℕ) → z < w.graph.nodes → is_left w.lists z ≡ true → alias_of w z ≡ z
+  own_class sized z b e =
+      get_or_default w.classes.aliases z 0 z (subst (λ n. z < n) (sym sized.classes) b) ∙ own_alias z b e
 
   -- one step more is taken
   module _ (v : Work) (step : Step) (taken : IsTaken g (state_of w) step) (steps : v.steps ≡ w.steps ++ step ∷ [])

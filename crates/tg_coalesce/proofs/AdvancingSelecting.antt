@@ -1,18 +1,18 @@
 -- The colours that the code selects over the merged graph are those of the definition.
-use Rattle.std.proofs.Common.{◌≡◌, ◌≢◌, ℕ, ◌+◌, ◌-◌, ◌<◌, ◌≤◌, Bool, true, false, not, ◌&&◌, ◌||◌, ◌⊎◌, List, [], ◌∷◌}
-use Rattle.std.proofs.Common.{◌++◌, length, map, get_or, set, All, Option, Some, None, reverse, cond, refl, sym, ap}
+use Rattle.std.proofs.Common.{◌≡◌, ◌≢◌, ℕ, ◌+◌, ◌-◌, ◌<◌, ◌≤◌, true, false, not, ◌&&◌, ◌⊎◌, List, [], ◌∷◌}
+use Rattle.std.proofs.Common.{◌++◌, length, get_or, set, All, Option, Some, None, reverse, refl, sym, ap}
 use Rattle.std.proofs.Common.{subst, ◌∙◌, arith, ⊎_elim}
-use Rattle.std.specs.Prelude.{◌==◌, nat_eq, nat_lt, filter, find, fold, is_none, if◌then◌else◌}
+use Rattle.std.specs.Prelude.{◌==◌, find, fold, is_none, if◌then◌else◌}
 use Rattle.std.specs.List.{list_any, range_with_len}
 use Rattle.std.proofs.lemmas.Bool.{cases_eq, cases_lt, cond-true, cond-false}
-use Rattle.std.proofs.lemmas.List.{get_or-map, get_or_default, get_or-set_same, get_or-set_other, length-set}
+use Rattle.std.proofs.lemmas.List.{get_or-map, get_or-set_same, get_or-set_other, length-set}
 use Rattle.std.proofs.lemmas.List.{length-map, length-reverse, get_or-reverse}
 use Rattle.std.proofs.lemmas.List.FromFn.{length-range_with_len, get_or-range_with_len}
-use Rattle.tg_rounds.specs.Graphs.{Set, is_register}
-use Rattle.tg_rounds.specs.States.{Problem, State, start, members}
+use Rattle.tg_rounds.specs.Graphs.{is_register}
+use Rattle.tg_rounds.specs.States.{Problem, State, members}
 use Rattle.tg_rounds.specs.Selection.{Colouring, has_colour, sees, is_free, pop, select}
 use Rattle.tg_rounds.specs.Selection as rounds
-use Rattle.tg_rounds.specs.Laws.{IsOfClasses, is_stacked}
+use Rattle.tg_rounds.specs.Laws.{IsOfClasses}
 use Rattle.tg_rounds.proofs.Deciding.{clash, both, and_true, or_left, or_right, tells, never, same_node, same_test, some_is}
 use Rattle.tg_rounds.proofs.Classes.{pairs_are_of_classes}
 use Rattle.tg_graph.specs.Interference.{is_among, neighbours}
@@ -21,7 +21,7 @@ use Rattle.tg_graph.proofs.Members.{among_within, among_above}
 use Rattle.tg_coalesce.specs.Works.{Work}
 use Rattle.tg_coalesce.specs.Selecting.{Picks, colour_at, own_colour, precoloured, is_taken, first_free, popped, selected}
 use Rattle.tg_coalesce.specs.Standing.{state_of, IsOrderly, IsRunOf}
-use Rattle.tg_coalesce.proofs.AdvancingMembers.{among_at, all_among, any_among, any_found}
+use Rattle.tg_coalesce.proofs.AdvancingMembers.{same_tests, all_among, any_among, any_found}
 use Rattle.tg_coalesce.proofs.AdvancingChoosing.{among_filter, filter_among}
 use Rattle.tg_coalesce.proofs.AdvancingRuns.{holds}
 
@@ -84,9 +84,11 @@ module _ (g : Problem) (w : Work) (h : IsOrderly w) (run : IsRunOf g w) where
         (filter_among (λ a. s.alias a == x) pair.0 (range_with_len 0 g.graph.nodes)
         (same_test (s.alias pair.0) x (pair.4 ∙ own_x))
         (let b = pair.2 in among_within pair.0 0 g.graph.nodes (omega arith) (omega (arith, b))))
-        ((some_is (λ a. g.graph.pairs pair.0 a && has_colour (c.colour (s.alias a)) k) g.graph.nodes).1
-        (pair.1, pair.3,
-        and_true pair.6 (subst (λ a. has_colour (c.colour a) k ≡ true) (sym (pair.5 ∙ own_z)) seen)))
+        ((some_is (λ a. g.graph.pairs pair.0 a && has_colour (c.colour (s.alias a)) k) g.graph.nodes).1 (
+          pair.1,
+          pair.3,
+          and_true pair.6 (subst (λ a. has_colour (c.colour a) k ≡ true) (sym (pair.5 ∙ own_z)) seen),
+        ))
       where
         found : (z : ℕ) × (is_among z (neighbours w.graph x) ≡ true) × (has_colour (colour_at p.colours z) k ≡ true)
         found = any_found (λ z. has_colour (colour_at p.colours z) k) (neighbours w.graph x) e
@@ -141,11 +143,6 @@ module _ (g : Problem) (w : Work) (h : IsOrderly w) (run : IsRunOf g w) where
         below : s.alias other.0 < w.graph.nodes
         below = in_work (s.alias other.0) ((holds g w run).classes.alias_is_node other.0 other.1)
 
-    same : (a b : Bool) → (a ≡ true → b ≡ true) → (b ≡ true → a ≡ true) → a ≡ b
-    same true b f k = sym (f refl)
-    same false true f k = k refl
-    same false false f k = refl
-
     first : Option ℕ
     first = find (is_free g s c x) (range_with_len 0 25)
 
@@ -153,7 +150,7 @@ module _ (g : Problem) (w : Work) (h : IsOrderly w) (run : IsRunOf g w) where
     unfolding first
     free_same =
         ap (λ test. find test (range_with_len 0 25))
-        (λ i k. not (same (is_taken w.graph p.colours x k) (list_any (sees g s c k) (members g s x)) (to_seen k)
+        (λ i k. not (same_tests (is_taken w.graph p.colours x k) (list_any (sees g s c k) (members g s x)) (to_seen k)
         (from_seen k) i))
 
     here : (z : ℕ) → z ≡ x → colour_at (popped w.graph p x).colours z ≡ (pop g s c x).colour z
@@ -198,9 +195,12 @@ module _ (g : Problem) (w : Work) (h : IsOrderly w) (run : IsRunOf g w) where
   on_stack : (x : ℕ) → is_among x (reverse w.stack) ≡ true → (x < w.graph.nodes) × (25 ≤ x) × (s.alias x ≡ x)
   on_stack x e =
       let at = all_among (λ y. (25 ≤ y) × (y < w.graph.nodes)) x (reverse w.stack)
-      (all_reverse (λ y. (25 ≤ y) × (y < w.graph.nodes)) w.stack h.placed.stack_below) e in
-      (at.1, at.0, (holds g w run).classes.stacked_is_own x
-      (any_among (λ y. y == x) x (reverse w.stack) e (same_test x x refl)))
+      (all_reverse (λ y. (25 ≤ y) × (y < w.graph.nodes)) w.stack h.placed.stack_below) e in (
+        at.1,
+        at.0,
+        (holds g w run).classes.stacked_is_own x
+            (any_among (λ y. y == x) x (reverse w.stack) e (same_test x x refl)),
+      )
 
   selected_alike : AreAlike (selected w.graph w.stack) (select g s)
   unfolding selected

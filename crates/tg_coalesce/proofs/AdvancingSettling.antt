@@ -1,110 +1,30 @@
 -- A move of work in order has its last state.
-use Rattle.std.proofs.Common.{◌≡◌, ◌≢◌, ℕ, ◌+◌, ◌-◌, ◌*◌, ◌<◌, ◌≤◌, Bool, true, false, not, ◌&&◌, ◌||◌, ◌⊎◌, inl, inr}
-use Rattle.std.proofs.Common.{List, [], ◌∷◌, length, get_or, set, sum, refl, sym, ap, subst, ◌∙◌, arith, ⊎_elim}
-use Rattle.std.specs.Prelude.{◌==◌, nat_eq, nat_lt, count_by, sum_by, if◌then◌else◌}
-use Rattle.std.specs.List.{IsDistinct}
-use Rattle.std.proofs.lemmas.Bool.{cases_eq, cases_lt, ltb-true, lt-ltb, cond-true, cond-false}
-use Rattle.std.proofs.lemmas.List.{get_or_past, get_or-set_same, get_or-set_other, length-set, set_past}
-use Rattle.std.proofs.lemmas.List.Sums.{sum_by-set}
+use Rattle.std.proofs.Common.{◌≡◌, ◌≢◌, ℕ, ◌+◌, ◌-◌, ◌<◌, true, false, not, ◌&&◌}
+use Rattle.std.proofs.Common.{length, get_or, refl, sym, ap, subst, ◌∙◌, arith, ⊎_elim}
+use Rattle.std.specs.Prelude.{◌==◌, nat_eq, nat_lt, count_by, if◌then◌else◌}
+use Rattle.std.proofs.lemmas.Bool.{cases_eq, ltb-true, lt-ltb, cond-true, cond-false}
+use Rattle.std.proofs.lemmas.List.{get_or-set_same, get_or-set_other, length-set}
 use Rattle.tg_rounds.specs.declared.moves.MoveState.{MoveState}
-use Rattle.tg_rounds.specs.declared.moves.MoveState.TheVariants.{Ready, Waiting, Coalesced, Constrained, Frozen}
+use Rattle.tg_rounds.specs.declared.moves.MoveState.TheVariants.{Ready}
 use Rattle.tg_rounds.specs.Graphs.{bit}
-use Rattle.tg_rounds.specs.States.{Problem, State, is_ready_or_waiting}
-use Rattle.tg_rounds.specs.States as states
+use Rattle.tg_rounds.specs.States.{is_ready_or_waiting}
 use Rattle.tg_rounds.specs.Steps.{can_move, settle}
 use Rattle.tg_rounds.specs.Degrees.{degree_of}
-use Rattle.tg_rounds.proofs.Deciding.{clash, both, and_true, and_false, tells, never, same_node, same_test, from_false}
-use Rattle.tg_graph.specs.declared.worklists.Worklist.{Worklist}
+use Rattle.tg_rounds.proofs.Deciding.{clash, and_true, never, same_node, same_test}
 use Rattle.tg_graph.specs.Interference.{is_among, is_register, interferes}
-use Rattle.tg_graph.specs.Lists.{Lists, nodes_in, number}
+use Rattle.tg_graph.specs.Lists.{Lists, number}
 use Rattle.tg_coalesce.specs.Lists.{list_at, lowered}
-use Rattle.tg_coalesce.specs.Groupings.{IsGrouping}
 use Rattle.tg_coalesce.specs.Tables.{Table, IsTable, state_at, is_waiting, is_unsettled, is_related}
 use Rattle.tg_coalesce.specs.Tables as tables
-use Rattle.tg_coalesce.specs.Works.{Work, degree_at, is_left, is_open, list_of, relisted, settled, to, from}
-use Rattle.tg_coalesce.specs.Standing.{as_told, shown, state_of, IsOrderly, HasDegrees, IsPlaced, HasEnds, HasReady}
-use Rattle.tg_coalesce.proofs.AdvancingMembers.{count_cons, one_bit, no_bit}
+use Rattle.tg_coalesce.specs.Works.{Work, degree_at, relisted, settled, to, from}
+use Rattle.tg_coalesce.specs.Standing.{as_told, shown, state_of, IsOrderly, HasDegrees, IsPlaced, HasEnds}
+use Rattle.tg_coalesce.proofs.AdvancingMembers.{one_bit, no_bit}
 use Rattle.tg_coalesce.proofs.AdvancingWaking.{waiting_is}
 use Rattle.tg_coalesce.proofs.AdvancingListing.{IsShifted, shifted_then, shifted_left, IsListed, by_tests}
 use Rattle.tg_coalesce.proofs.AdvancingListing.{relisted_same, relisted_shifts, lists_it, lists_other}
-use Rattle.tg_coalesce.proofs.AdvancingOrder.{HasMoves, to_below, from_below, open_remains, remains_open}
+use Rattle.tg_coalesce.proofs.AdvancingOrder.{to_below, from_below, open_remains, remains_open}
 use Rattle.tg_coalesce.proofs.AdvancingKept.{IsKept, moves_kept, orderly_of, HasReadyBut}
-
--- Counters that are lowered.
-
-pub lowered_at : (p z : ℕ) (us : List ℕ) → get_or (lowered p us) z 0 ≡ get_or us z 0 - bit (p == z)
-lowered_at p z us =
-    ⊎_elim
-    (λ (q : p ≡ z). let b : bit (p == z) ≡ 1 = one_bit (same_test p z q) in
-    ⊎_elim
-    (λ (l : z < length us).
-    let it : get_or (lowered p us) z 0 ≡ get_or us z 0 - 1 =
-    subst (λ y. get_or (set us y (get_or us y 0 - 1)) z 0 ≡ get_or us z 0 - 1) (sym q)
-    (get_or-set_same us z (get_or us z 0 - 1) 0 l) in
-    omega (arith, b, it))
-    (λ (l : length us ≤ z).
-    let past : get_or us z 0 ≡ 0 = get_or_past us z 0 l in
-    let it : get_or (lowered p us) z 0 ≡ 0 =
-    get_or_past (lowered p us) z 0 (omega (arith, l, length-set us p (get_or us p 0 - 1))) in
-    omega (arith, b, past, it))
-    (cases_lt z (length us)))
-    (λ (d : p ≢ z).
-    let b : bit (p == z) ≡ 0 = no_bit (never (λ e. d (same_node p z e))) in
-    let it : get_or (lowered p us) z 0 ≡ get_or us z 0 =
-    get_or-set_other us p z (get_or us p 0 - 1) 0 (λ e. d (sym e)) in
-    omega (arith, b, it))
-    (cases_eq p z)
-
-sum_lowered : (p : ℕ) (us : List ℕ) → sum (lowered p us) ≤ sum us
-sum_lowered p us =
-    ⊎_elim
-    (λ (l : p < length us).
-    let s : sum (lowered p us) + get_or us p 0 ≡ sum us + (get_or us p 0 - 1) =
-    sum_by-set (λ x. x) us p (get_or us p 0 - 1) 0 l in
-    omega (arith, s))
-    (λ (l : length us ≤ p). let s : sum (lowered p us) ≡ sum us = ap sum (set_past us p (get_or us p 0 - 1) l) in
-    omega (arith, s))
-    (cases_lt p (length us))
-
-count_split : (p q r : ℕ → Bool) → ((x : ℕ) → bit (p x) ≡ bit (q x) + bit (r x)) → (xs : List ℕ) →
-    count_by p xs ≡ count_by q xs + count_by r xs
-count_split p q r h [] = refl
-count_split p q r h (x ∷ xs) =
-    let here = h x in
-    let rest = count_split p q r h xs in
-    omega (arith, here, rest, count_cons p x xs, count_cons q x xs, count_cons r x xs)
-
--- Last states.
-
-pub told_last : (s : MoveState) → is_ready_or_waiting s ≡ false → as_told s ≡ s
-told_last Ready e = cc
-told_last Waiting e = cc
-told_last Coalesced e = refl
-told_last Constrained e = refl
-told_last Frozen e = refl
-
-pub last_rests : (s : MoveState) → is_ready_or_waiting s ≡ false → is_waiting s ≡ false
-last_rests Ready e = cc
-last_rests Waiting e = cc
-last_rests Coalesced e = refl
-last_rests Constrained e = refl
-last_rests Frozen e = refl
-
-pub waiting_open : (s : MoveState) → is_waiting s ≡ true → is_ready_or_waiting s ≡ true
-waiting_open Ready e = cc
-waiting_open Waiting e = refl
-waiting_open Coalesced e = cc
-waiting_open Constrained e = cc
-waiting_open Frozen e = cc
-
--- a move that can't be settled can't where some states are others
-pub unmoved : (g : Problem) (s : State) (f : ℕ → MoveState) (i : ℕ) → states.is_unsettled g s i ≡ true →
-    can_move g s i ≡ false → can_move g (record s { states = f }) i ≡ false
-unmoved g s f i u e = and_so (states.is_unsettled g (record s { states = f }) i) (and_false _ _ e u)
-  where
-    and_so : (a : Bool) {b : Bool} → b ≡ false → (a && b) ≡ false
-    and_so true p = p
-    and_so false p = refl
+use Rattle.tg_coalesce.proofs.AdvancingStates.{lowered_at, sum_lowered, count_split, told_last, last_rests, unmoved}
 
 module _ (w : Work) (k : IsKept w) (i : ℕ) (l : i < length w.moves.moves) (u : is_unsettled w.moves i ≡ true)
     (state : MoveState) (last : is_ready_or_waiting state ≡ false) where

@@ -1,28 +1,26 @@
 -- Simplify.
-use Rattle.std.proofs.Common.{◌≡◌, ◌≢◌, ℕ, ◌+◌, ◌<◌, ◌≤◌, Bool, true, false, not, ◌&&◌, ◌||◌, List, length, refl, sym, ap, subst, ◌∙◌, arith}
+use Rattle.std.proofs.Common.{◌≡◌, ℕ, ◌<◌, true, false, not, List, length, refl, sym, subst, ◌∙◌, arith}
 use Rattle.std.specs.Prelude.{◌==◌, nat_lt, IsFalse}
 use Rattle.tg_rounds.specs.declared.moves.MoveState.{MoveState}
 use Rattle.tg_rounds.specs.declared.steps.Step.TheVariants.{Simplify}
 use Rattle.tg_rounds.specs.States.{Problem}
-use Rattle.tg_rounds.specs.States as states
 use Rattle.tg_rounds.specs.Steps.{can, can_move, take_out}
 use Rattle.tg_rounds.specs.Waiting.{is_woken}
 use Rattle.tg_rounds.proofs.Deciding.{both, or_left, or_right, not_true, same_test}
 use Rattle.tg_rounds.proofs.Waiting.{waiting_fails}
 use Rattle.tg_graph.specs.declared.worklists.Worklist.TheVariants as worklists
-use Rattle.tg_graph.specs.Interference.{is_among, is_register, neighbours}
+use Rattle.tg_graph.specs.Interference.{is_among, neighbours}
 use Rattle.tg_graph.specs.Lists.{Lists, number}
 use Rattle.tg_graph.proofs.Joining.{either_way}
 use Rattle.tg_coalesce.specs.Lists.{list_at}
 use Rattle.tg_coalesce.specs.Tables.{state_at, is_waiting, is_related}
 use Rattle.tg_coalesce.specs.Works.{Work, degree_at, is_open, list_of, stepped, to, from}
-use Rattle.tg_coalesce.specs.Steps.{simplified}
 use Rattle.tg_coalesce.specs.Standing.{shown, state_of, IsOrderly, IsRunOf}
 use Rattle.tg_coalesce.specs.Advancing.{Advances, SimplifyAdvances}
 use Rattle.tg_coalesce.proofs.AdvancingMembers.{among_first}
 use Rattle.tg_coalesce.proofs.AdvancingLosing.{IsBereft}
 use Rattle.tg_coalesce.proofs.AdvancingOrder.{to_below, from_below, to_same, from_same, listed_ends}
-use Rattle.tg_coalesce.proofs.AdvancingPossible.{moves_of, IsIn, in_list, for_simplify, is_simplify, simplify_told, with_parts, at_problem}
+use Rattle.tg_coalesce.proofs.AdvancingPossible.{moves_of, in_list, for_simplify, is_simplify, simplify_told, with_parts, at_problem}
 use Rattle.tg_coalesce.proofs.AdvancingMeasure.{goes_less}
 use Rattle.tg_coalesce.proofs.AdvancingRuns.{goes_on}
 use Rattle.tg_coalesce.proofs.AdvancingTaking.{out, built, state_taken, orderly_taken, none_turned}

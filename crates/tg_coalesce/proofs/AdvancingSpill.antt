@@ -1,6 +1,6 @@
 -- Spill.
-use Rattle.std.proofs.Common.{◌≡◌, ℕ, ◌+◌, ◌<◌, ◌≤◌, Bool, true, false, not, ◌&&◌, ◌||◌, List, [], length, get_or, refl, sym, ap, subst, ◌∙◌, arith}
-use Rattle.std.specs.Prelude.{◌==◌, nat_lt, IsFalse, if◌then◌else◌}
+use Rattle.std.proofs.Common.{◌≡◌, ℕ, ◌+◌, ◌<◌, ◌≤◌, Bool, true, false, not, ◌&&◌, List, [], length, get_or, refl, sym, ap, subst, ◌∙◌, arith}
+use Rattle.std.specs.Prelude.{◌==◌, IsFalse, if◌then◌else◌}
 use Rattle.std.proofs.lemmas.Bool.{ltb-true}
 use Rattle.tg_rounds.specs.declared.moves.MoveState.{MoveState}
 use Rattle.tg_rounds.specs.declared.moves.MoveState.TheVariants.{Frozen}
@@ -11,10 +11,10 @@ use Rattle.tg_rounds.specs.States.{State, low, is_ready_or_waiting}
 use Rattle.tg_rounds.specs.Steps.{can, can_move, freeze, take_out}
 use Rattle.tg_rounds.specs.Laws.{work_left}
 use Rattle.tg_rounds.specs.Waiting.{is_woken}
-use Rattle.tg_rounds.proofs.Deciding.{clash, both, and_false, or_left, or_right, or_false, never, same_test}
+use Rattle.tg_rounds.proofs.Deciding.{clash, or_left, or_right, or_false, never, same_test}
 use Rattle.tg_rounds.proofs.Shrinking.{steps_shrink}
 use Rattle.tg_rounds.proofs.Waiting.{waiting_fails}
-use Rattle.tg_graph.specs.Interference.{is_among, is_register, interferes, neighbours}
+use Rattle.tg_graph.specs.Interference.{is_among, is_register, neighbours}
 use Rattle.tg_graph.specs.Lists.{Lists}
 use Rattle.tg_graph.proofs.Joining.{either_way}
 use Rattle.tg_coalesce.specs.Lists.{list_at}

@@ -1,9 +1,8 @@
 -- The class of two stands where the code puts it as the definition asks.
-use Rattle.std.proofs.Common.{◌≡◌, ℕ, ◌<◌, ◌≤◌, Bool, true, false, not, ◌&&◌, ◌||◌, ◌⊎◌, inl, inr, List, [], ◌∷◌}
-use Rattle.std.proofs.Common.{get_or, refl, sym, ap, subst, ◌∙◌, ⊎_elim}
-use Rattle.std.specs.Prelude.{nat_lt, if◌then◌else◌}
+use Rattle.std.proofs.Common.{◌≡◌, ℕ, ◌<◌, Bool, true, false, not, ◌&&◌, ◌||◌, ◌⊎◌, inl, inr, List, [], ◌∷◌}
+use Rattle.std.proofs.Common.{refl, sym, subst, ◌∙◌, ⊎_elim}
+use Rattle.std.specs.Prelude.{if◌then◌else◌}
 use Rattle.std.specs.Bool.{beq}
-use Rattle.std.proofs.lemmas.List.{get_or_default}
 use Rattle.tg_rounds.specs.declared.steps.Step.{Step}
 use Rattle.tg_rounds.specs.Graphs.{is_register}
 use Rattle.tg_rounds.specs.States.{Problem, State, start, mark_at, all_made}
@@ -12,10 +11,9 @@ use Rattle.tg_rounds.specs.Laws.{StandsWell}
 use Rattle.tg_rounds.proofs.Deciding.{clash, and_true, or_left, or_right, from_false, tells}
 use Rattle.tg_rounds.proofs.Standing.{stands_at_start, stands_after, stands_by_mark}
 use Rattle.tg_coalesce.specs.Groupings.{is_made}
-use Rattle.tg_coalesce.specs.Works.{Work, is_left, alias_of}
+use Rattle.tg_coalesce.specs.Works.{Work, is_left}
 use Rattle.tg_coalesce.specs.Standing.{state_of, IsOrderly, IsRunOf}
-use Rattle.tg_coalesce.proofs.AdvancingOrder.{left_remains}
-use Rattle.tg_coalesce.proofs.AdvancingRuns.{holds}
+use Rattle.tg_coalesce.proofs.AdvancingRuns.{own_alias, own_class}
 
 stands_all : (g : Problem) (s : State) (steps : List Step) → StandsWell g s → AreTaken g s steps →
     StandsWell g (after_all g s steps)
@@ -49,14 +47,10 @@ second_leads false false mx false less a e = (refl, inr (inl refl))
 
 module _ (g : Problem) (w : Work) (h : IsOrderly w) (run : IsRunOf g w) (kept gone : ℕ) (l : kept < w.graph.nodes)
     (m : gone < w.graph.nodes) (kept_left : is_left w.lists kept ≡ true) (gone_left : is_left w.lists gone ≡ true) where
-  own : (z : ℕ) → z < w.graph.nodes → is_left w.lists z ≡ true → (state_of w).alias z ≡ z
-  own z b e = (holds g w run).classes.remaining_is_own z (subst (λ n. z < n) run.nodes b) (left_remains w z b e)
-
   made_told : (z : ℕ) → z < w.graph.nodes → is_left w.lists z ≡ true →
       is_made w.classes z ≡ all_made g (state_of w) z
   made_told z b e =
-      run.made z b
-      (get_or_default w.classes.aliases z 0 z (subst (λ n. z < n) (sym h.sized.classes) b) ∙ own z b e)
+      run.made z b (own_class g w run h.sized z b e)
 
   well : StandsWell g (state_of w)
   well = subst (λ t. StandsWell g t) (sym run.state)
@@ -64,7 +58,7 @@ module _ (g : Problem) (w : Work) (h : IsOrderly w) (run : IsRunOf g w) (kept go
 
   mark_told : is_register kept ≡ false → all_made g (state_of w) kept ≡ (mark_at g (state_of w) kept).made
   mark_told r =
-      stands_by_mark g (state_of w) well kept (subst (λ n. kept < n) run.nodes l) (own kept l kept_left) r
+      stands_by_mark g (state_of w) well kept (subst (λ n. kept < n) run.nodes l) (own_alias g w run kept l kept_left) r
 
   pub stands_told : is_register gone ≡ false → Leads (is_register kept) (is_made w.classes kept) (is_made w.classes gone) →
       stands_under g (state_of w) kept gone ≡ true

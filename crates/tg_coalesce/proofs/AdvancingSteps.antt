@@ -1,5 +1,5 @@
 -- A step more in the list of steps changes nothing else, and where nothing is listed earlier a step is taken.
-use Rattle.std.proofs.Common.{◌≡◌, ℕ, ◌<◌, ◌≤◌, List, [], true, arith}
+use Rattle.std.proofs.Common.{◌≡◌, ◌<◌, [], ◌∷◌, ◌++◌, true, refl}
 use Rattle.tg_rounds.specs.declared.steps.Step.{Step}
 use Rattle.tg_rounds.specs.declared.steps.Step.TheVariants.{Simplify, Freeze}
 use Rattle.std.specs.Prelude.{IsFalse}
@@ -7,34 +7,15 @@ use Rattle.tg_rounds.specs.States.{Problem}
 use Rattle.tg_rounds.specs.Steps.{can, can_move, kind, IsTaken}
 use Rattle.tg_rounds.proofs.Taking.{first_are_taken}
 use Rattle.tg_coalesce.specs.Works.{Work, stepped}
-use Rattle.tg_coalesce.specs.Standing.{shown, state_of, IsOrderly, IsRunOf}
+use Rattle.tg_coalesce.specs.Standing.{state_of, IsOrderly, IsRunOf}
+use Rattle.tg_coalesce.proofs.AdvancingKept.{kept_of, kept_restated, orderly_of}
 use Rattle.tg_coalesce.proofs.AdvancingPossible.{with_parts, at_problem, no_simplify, no_freeze, no_move}
 
 pub orderly_stepped : (step : Step) (w : Work) → IsOrderly w → IsOrderly (stepped step w)
-orderly_stepped step w h = record {
-  some = h.some;
-  few = h.few;
-  sized = record {
-    lists = h.sized.lists;
-    degrees = h.sized.degrees;
-    classes = h.sized.classes;
-    touching = h.sized.touching;
-  };
-  grouping = h.grouping;
-  table = h.table;
-  graph = h.graph;
-  degrees = record { bound = h.degrees.bound; exact = h.degrees.exact };
-  placed = record {
-    partition = h.placed.partition;
-    fixed = h.placed.fixed;
-    stack_below = h.placed.stack_below;
-    stacked = h.placed.stacked;
-    listed = h.placed.listed;
-  };
-  members = record { exact = h.members.exact; distinct = h.members.distinct };
-  ends = record { listed = h.ends.listed; counted = h.ends.counted; left = h.ends.left };
-  ready = record { exact = h.ready.exact; distinct = h.ready.distinct; waiting = h.ready.waiting };
-}
+orderly_stepped step w h =
+    orderly_of (stepped step w)
+    (kept_restated w (kept_of w h) w.moves.states w.moves.ready (w.steps ++ step ∷ []) h.table (λ i. refl))
+    (record { exact = h.ready.exact; distinct = h.ready.distinct; waiting = h.ready.waiting })
 
 -- a step of a run that is possible and before which nothing is listed
 module _ (g : Problem) (w : Work) (h : IsOrderly w) (run : IsRunOf g w) (step : Step)

@@ -1,29 +1,28 @@
 -- A temporary with no unsettled move is taken out of work in order.
-use Rattle.std.proofs.Common.{◌≡◌, ◌≢◌, ℕ, ◌+◌, ◌-◌, ◌<◌, ◌≤◌, Bool, true, false, not, ◌&&◌, ◌||◌, ◌⊎◌, inl, inr}
-use Rattle.std.proofs.Common.{List, [], ◌∷◌, ◌++◌, length, reverse, refl, sym, ap, subst, ◌∙◌, arith, ⊎_elim}
-use Rattle.std.specs.Prelude.{◌==◌, nat_lt, count_by, fold}
-use Rattle.std.proofs.lemmas.Bool.{cases_eq, cases_lt, ltb-true, ltb-false, lt-ltb}
+use Rattle.std.proofs.Common.{◌≡◌, ◌≢◌, ℕ, ◌<◌, ◌≤◌, Bool, true, false, not, ◌&&◌, ◌||◌}
+use Rattle.std.proofs.Common.{List, [], ◌∷◌, ◌++◌, length, refl, sym, ap, subst, ◌∙◌, arith, ⊎_elim}
+use Rattle.std.specs.Prelude.{◌==◌, nat_lt, count_by}
+use Rattle.std.proofs.lemmas.Bool.{cases_eq, ltb-true, ltb-false}
 use Rattle.std.proofs.lemmas.List.{reverse-append}
 use Rattle.std.proofs.lemmas.List.Elements.{All-push}
 use Rattle.tg_rounds.specs.declared.moves.MoveState.{MoveState}
 use Rattle.tg_rounds.specs.Graphs.{bit, some, without}
-use Rattle.tg_rounds.specs.States.{State, remains, low}
+use Rattle.tg_rounds.specs.States.{low}
 use Rattle.tg_rounds.specs.Steps.{take_out, can_move}
 use Rattle.tg_rounds.specs.Laws.{is_stacked}
 use Rattle.tg_rounds.specs.Degrees.{degree_of}
-use Rattle.tg_rounds.proofs.Deciding.{clash, both, and_true, or_left, or_right, tells, never, not_true, from_false, same_node, same_test, some_is}
+use Rattle.tg_rounds.proofs.Deciding.{clash, both, and_true, or_left, never, not_true, same_node, same_test, some_is}
 use Rattle.tg_rounds.proofs.Degrees.{taken_out_is_less}
-use Rattle.tg_graph.specs.declared.worklists.Worklist.{Worklist}
 use Rattle.tg_graph.specs.declared.worklists.Worklist.TheVariants as worklists
 use Rattle.tg_graph.specs.Interference.{is_among, is_register, interferes, neighbours}
-use Rattle.tg_graph.specs.Lists.{Lists, nodes_in, number, moved}
+use Rattle.tg_graph.specs.Lists.{Lists, moved}
 use Rattle.tg_graph.proofs.Joining.{either_way}
 use Rattle.tg_graph.proofs.Partitions.{moved_parts}
 use Rattle.tg_coalesce.specs.Lists.{list_at}
 use Rattle.tg_coalesce.specs.Tables.{Table, state_at, is_waiting, is_unsettled}
-use Rattle.tg_coalesce.specs.Works.{Work, degree_at, is_left, is_open, list_of}
+use Rattle.tg_coalesce.specs.Works.{Work, degree_at, is_left, is_open}
 use Rattle.tg_coalesce.specs.Tables as tables
-use Rattle.tg_coalesce.specs.Standing.{as_told, shown, state_of, IsOrderly, HasDegrees, IsPlaced, HasEnds, HasReady}
+use Rattle.tg_coalesce.specs.Standing.{shown, state_of, IsOrderly, HasDegrees, IsPlaced, HasEnds}
 use Rattle.tg_coalesce.proofs.AdvancingMembers.{is_bit}
 use Rattle.tg_coalesce.proofs.AdvancingWaking.{IsQueue, requeued, woken_unsettled}
 use Rattle.tg_coalesce.proofs.AdvancingListing.{IsListed, moved_it, moved_other, shifted_left}

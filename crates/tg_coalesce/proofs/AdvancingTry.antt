@@ -1,8 +1,7 @@
 -- The first move to be tried: what it leads to.
-use Rattle.std.proofs.Common.{◌≡◌, ◌≢◌, ℕ, ◌+◌, ◌<◌, ◌≤◌, Bool, true, false, not, ◌&&◌, ◌||◌, ◌⊎◌, List, [], length}
-use Rattle.std.proofs.Common.{get_or, Some, refl, sym, ap, subst, ◌∙◌, arith, ⊎_elim}
-use Rattle.std.specs.Prelude.{◌==◌, nat_lt, slice_get, sum_by, filter, if◌then◌else◌}
-use Rattle.std.specs.List.{range_with_len}
+use Rattle.std.proofs.Common.{◌≡◌, ◌≢◌, ℕ, ◌<◌, Bool, true, false, not, ◌&&◌, ◌||◌, List, []}
+use Rattle.std.proofs.Common.{Some, refl, sym, ap, subst, ◌∙◌, arith}
+use Rattle.std.specs.Prelude.{◌==◌, nat_lt, slice_get, sum_by, if◌then◌else◌}
 use Rattle.tg_rounds.specs.declared.moves.MoveState.{MoveState}
 use Rattle.tg_rounds.specs.declared.moves.MoveState.TheVariants.{Coalesced, Constrained}
 use Rattle.tg_rounds.specs.declared.steps.Step.{Step}
@@ -10,7 +9,7 @@ use Rattle.tg_rounds.specs.declared.steps.Step.TheVariants.{Same, Constrain}
 use Rattle.tg_rounds.specs.States.{Problem, State, members, mark_at, all_made}
 use Rattle.tg_rounds.specs.States as states
 use Rattle.tg_rounds.specs.Steps.{can, after, is_safe, stands_under, IsTaken}
-use Rattle.tg_rounds.proofs.Deciding.{clash, and_true, both, never, or_left, or_right, same_node, same_test}
+use Rattle.tg_rounds.proofs.Deciding.{clash, and_true, both, never, or_left, or_right, same_test}
 use Rattle.tg_graph.specs.Interference.{Interference, is_register, interferes}
 use Rattle.tg_graph.specs.Lists.{Lists}
 use Rattle.tg_coalesce.specs.Groupings.{is_made}
@@ -32,10 +31,10 @@ use Rattle.tg_coalesce.proofs.AdvancingParking.{not_moving, park_advances}
 use Rattle.tg_coalesce.proofs.AdvancingWaking.{requeued}
 use Rattle.tg_coalesce.proofs.AdvancingPassingOn.{remade}
 use Rattle.tg_coalesce.proofs.AdvancingMerging.{MayMerge, IsMerged, merged_merged}
-use Rattle.tg_coalesce.proofs.AdvancingStanding.{Leads, first_leads, second_leads, stands_told}
-use Rattle.tg_coalesce.proofs.AdvancingCoalescing.{Coalesces, step, kept_below, gone_below, kept_remains}
-use Rattle.tg_coalesce.proofs.AdvancingCoalescing.{gone_remains, kept_gone, safe, by_briggs, possible, once}
-use Rattle.tg_coalesce.proofs.AdvancingCoalescing.{orderly_once, may, whole, last, state_last, orderly_last}
+use Rattle.tg_coalesce.proofs.AdvancingStanding.{first_leads, second_leads, stands_told}
+use Rattle.tg_coalesce.proofs.AdvancingSafe.{Coalesces, step, kept_below, gone_below, kept_remains, gone_remains, kept_gone}
+use Rattle.tg_coalesce.proofs.AdvancingSafe.{safe, by_briggs, possible}
+use Rattle.tg_coalesce.proofs.AdvancingCoalescing.{once, orderly_once, may, whole, last, state_last, orderly_last}
 use Rattle.tg_coalesce.proofs.AdvancingCoalesced.{uses_after, made_after}
 
 -- Two classes become one.

@@ -1,10 +1,9 @@
 -- The first move to be tried: its steps Same and Constrain, and that it waits where it fails its test.
-use Rattle.std.proofs.Common.{◌≡◌, ◌≢◌, ℕ, ◌+◌, ◌*◌, ◌<◌, ◌≤◌, Bool, true, false, not, ◌&&◌, ◌||◌, ◌⊎◌, List, [], ◌∷◌}
-use Rattle.std.proofs.Common.{length, drop, set, Some, refl, sym, ap, subst, ◌∙◌, arith, ⊎_elim}
-use Rattle.std.specs.Prelude.{◌==◌, nat_eq, count_by, slice_get}
+use Rattle.std.proofs.Common.{◌≡◌, ◌≢◌, ℕ, ◌<◌, true, false, not, ◌&&◌, ◌||◌, List, [], ◌∷◌}
+use Rattle.std.proofs.Common.{length, drop, Some, refl, sym, ap, subst, ◌∙◌, arith, ⊎_elim}
+use Rattle.std.specs.Prelude.{◌==◌, nat_eq, slice_get}
 use Rattle.std.specs.List.{IsDistinct}
-use Rattle.std.proofs.lemmas.Bool.{cases_eq, cases_order, ltb-true, lt-ltb}
-use Rattle.std.proofs.lemmas.List.{get_or-set_same, get_or-set_other, length-set}
+use Rattle.std.proofs.lemmas.Bool.{cases_order, ltb-true}
 use Rattle.std.proofs.lemmas.List.Elements.{All-drop}
 use Rattle.tg_rounds.specs.declared.moves.MoveState.{MoveState}
 use Rattle.tg_rounds.specs.declared.moves.MoveState.TheVariants.{Ready, Waiting, Coalesced, Constrained, Frozen}
@@ -13,24 +12,20 @@ use Rattle.tg_rounds.specs.declared.steps.Step.TheVariants.{Same, Constrain}
 use Rattle.tg_rounds.specs.Graphs.{is_register}
 use Rattle.tg_rounds.specs.States.{Problem, State, is_ready_or_waiting}
 use Rattle.tg_rounds.specs.States as states
-use Rattle.tg_rounds.specs.Steps.{can, can_move, kind, after, settle, is_same, is_constrained, is_safe}
-use Rattle.tg_rounds.specs.Steps as steps
-use Rattle.tg_rounds.specs.Laws.{work_left}
-use Rattle.tg_rounds.proofs.Deciding.{clash, both, and_true, or_left, or_right, tells, never, not_true, from_false, same_node, same_test}
+use Rattle.tg_rounds.specs.Steps.{can, kind, after, settle}
+use Rattle.tg_rounds.proofs.Deciding.{and_true, or_left, never, from_false, same_node}
 use Rattle.tg_graph.specs.Interference.{Interference, is_among, interferes}
 use Rattle.tg_graph.specs.Lists.{Lists}
 use Rattle.tg_graph.proofs.Joining.{below, above, registers_joined}
-use Rattle.tg_coalesce.specs.Lists.{list_at}
-use Rattle.tg_coalesce.specs.Tables.{Table, state_at, is_waiting, is_unsettled, first_taken, parked}
+use Rattle.tg_coalesce.specs.Tables.{state_at, is_waiting, is_unsettled, first_taken}
 use Rattle.tg_coalesce.specs.Works.{Work, settled, stepped, to, from}
-use Rattle.tg_coalesce.specs.Passing.{passes}
-use Rattle.tg_coalesce.specs.Standing.{as_told, shown, state_of, IsOrderly, IsRunOf, left_to_do}
-use Rattle.tg_coalesce.specs.Advancing.{GoesOn, Advances}
+use Rattle.tg_coalesce.specs.Standing.{shown, state_of, IsOrderly, IsRunOf}
+use Rattle.tg_coalesce.specs.Advancing.{Advances}
 use Rattle.tg_coalesce.proofs.AdvancingMembers.{all_among, among_first, not_again, distinct_rest}
 use Rattle.tg_coalesce.proofs.AdvancingListing.{IsShifted, IsListed}
-use Rattle.tg_coalesce.proofs.AdvancingOrder.{to_below, from_below, to_same, from_same, unsettled_told}
+use Rattle.tg_coalesce.proofs.AdvancingOrder.{to_same, from_same, unsettled_told}
 use Rattle.tg_coalesce.proofs.AdvancingPossible.{moves_of, with_parts, at_problem}
-use Rattle.tg_coalesce.proofs.AdvancingKept.{IsKept, HasReadyBut, orderly_of}
+use Rattle.tg_coalesce.proofs.AdvancingKept.{IsKept, HasReadyBut, kept_of, kept_restated}
 use Rattle.tg_coalesce.proofs.AdvancingMeasure.{goes_less}
 use Rattle.tg_coalesce.proofs.AdvancingRuns.{goes_on}
 use Rattle.tg_coalesce.proofs.AdvancingSteps.{orderly_stepped, taken}
@@ -81,37 +76,18 @@ module _ (i : ℕ) (w : Work) (h : IsOrderly w) (first : slice_get w.moves.ready
   unsettled = ap is_ready_or_waiting is_ready
 
   pub begun_kept : IsKept begun
-  begun_kept = record {
-    some = h.some;
-    few = h.few;
-    sized = record {
-      lists = h.sized.lists;
-      degrees = h.sized.degrees;
-      classes = h.sized.classes;
-      touching = h.sized.touching;
-    };
-    grouping = h.grouping;
-    table = record {
-      few = h.table.few;
-      states_sized = h.table.states_sized;
-      unsettled_sized = h.table.unsettled_sized;
-      ends_below = h.table.ends_below;
-      ready_below = All-drop (λ j. j < length w.moves.moves) 1 w.moves.ready h.table.ready_below;
-      touching_below = h.table.touching_below;
-      few_unsettled = h.table.few_unsettled;
-    };
-    graph = h.graph;
-    degrees = record { bound = h.degrees.bound; exact = h.degrees.exact };
-    placed = record {
-      partition = h.placed.partition;
-      fixed = h.placed.fixed;
-      stack_below = h.placed.stack_below;
-      stacked = h.placed.stacked;
-      listed = h.placed.listed;
-    };
-    members = record { exact = h.members.exact; distinct = h.members.distinct };
-    ends = record { listed = h.ends.listed; counted = h.ends.counted; left = h.ends.left };
-  }
+  begun_kept =
+      kept_restated w (kept_of w h) w.moves.states (drop 1 w.moves.ready) w.steps
+      (record {
+        few = h.table.few;
+        states_sized = h.table.states_sized;
+        unsettled_sized = h.table.unsettled_sized;
+        ends_below = h.table.ends_below;
+        ready_below = All-drop (λ j. j < length w.moves.moves) 1 w.moves.ready h.table.ready_below;
+        touching_below = h.table.touching_below;
+        few_unsettled = h.table.few_unsettled;
+      })
+      (λ j. refl)
 
   pub begun_ready : HasReadyBut begun i
   begun_ready = record {

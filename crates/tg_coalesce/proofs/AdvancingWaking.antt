@@ -1,6 +1,6 @@
 -- What it makes of a table that waiting moves are to be tried again.
-use Rattle.std.proofs.Common.{◌≡◌, ◌≢◌, ℕ, ◌+◌, ◌*◌, ◌<◌, ◌≤◌, Bool, true, false, not, ◌&&◌, ◌||◌, ◌⊎◌, inl, inr}
-use Rattle.std.proofs.Common.{List, [], ◌∷◌, ◌++◌, length, get_or, set, All, refl, sym, ap, subst, ◌∙◌, arith, ⊎_elim}
+use Rattle.std.proofs.Common.{◌≡◌, ◌≢◌, ℕ, ◌<◌, ◌≤◌, Bool, true, false, not, ◌&&◌, ◌||◌}
+use Rattle.std.proofs.Common.{List, [], ◌∷◌, ◌++◌, length, set, refl, sym, ap, subst, ◌∙◌, arith, ⊎_elim}
 use Rattle.std.specs.Prelude.{nat_eq, ◌==◌, fold, if◌then◌else◌}
 use Rattle.std.specs.List.{IsDistinct}
 use Rattle.std.proofs.lemmas.Bool.{cases_eq, cases_lt}
@@ -9,7 +9,7 @@ use Rattle.std.proofs.lemmas.List.Elements.{All-push}
 use Rattle.tg_rounds.specs.declared.moves.MoveState.{MoveState}
 use Rattle.tg_rounds.specs.declared.moves.MoveState.TheVariants.{Ready, Waiting, Coalesced, Constrained, Frozen}
 use Rattle.tg_rounds.specs.States.{is_ready_or_waiting}
-use Rattle.tg_rounds.proofs.Deciding.{clash, either, or_left, tells, never, same_node, same_test, and_true, from_false, from_true}
+use Rattle.tg_rounds.proofs.Deciding.{clash, either, or_left, never, same_node, same_test}
 use Rattle.tg_graph.specs.Interference.{is_among}
 use Rattle.tg_graph.proofs.Changes.{among_push, distinct_push}
 use Rattle.tg_coalesce.specs.Lists.{list_at}

@@ -58,3 +58,5 @@ pub mod AdvancingPassingOn
 pub mod AdvancingPassingOne
 pub mod AdvancingStanding
 pub mod AdvancingTry
+pub mod AdvancingSafe
+pub mod AdvancingStates
