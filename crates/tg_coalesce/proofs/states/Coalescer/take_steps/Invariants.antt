@@ -8,7 +8,7 @@ invariant-loop g l = record {
   orderly : IsOrderly l.self;
   run : (p : Problem) → p.rule ≡ (goal.SpillPolicy-dyn g l.fn.policy.now).rule l.fn.policy.now.1 →
       IsRunOf p l.fn.self → IsRunOf p l.self;
-  same : (goal.SpillPolicy-dyn g l.policy).rule l.policy.1
+  same : (goal.SpillPolicy-dyn g l.policy.now).rule l.policy.now.1
       ≡ (goal.SpillPolicy-dyn g l.fn.policy.now).rule l.fn.policy.now.1;
 }
 
