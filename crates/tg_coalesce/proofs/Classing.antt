@@ -1,11 +1,11 @@
 -- What is kept of each grouping of nodes is so at the start, and a merge keeps it.
-use Rattle.std.proofs.Common.{◌≡◌, ℕ, ◌+◌, ◌<◌, ◌≤◌, ◌^◌, Bool, List, [], ◌∷◌, length, get_or, set, map, refl, sym, ap, ◌∙◌, subst, ⊎_elim, arith}
-use Rattle.std.specs.Prelude.{sum, fold}
+use Rattle.std.proofs.Common.{◌≡◌, ℕ, ◌+◌, ◌<◌, ◌≤◌, ◌^◌, Bool, List, [], ◌∷◌, length, set, map, sym, ap, ◌∙◌, subst, ⊎_elim, arith}
+use Rattle.std.specs.Prelude.{sum}
 use Rattle.std.specs.List.{All, range_with_len}
 use Rattle.std.proofs.lemmas.Bool.{cases_lt}
 use Rattle.std.proofs.lemmas.List.{length-set, length-map, get_or-map, get_or_past}
 use Rattle.std.proofs.lemmas.List.FromFn.{length-range_with_len, get_or-range_with_len}
-use Rattle.std.proofs.lemmas.List.Elements.{All-nil, All-cons, All-set, All-head, All-tail}
+use Rattle.std.proofs.lemmas.List.Elements.{All-nil, All-cons, All-set}
 use Rattle.tg_rounds.specs.declared.candidates.Mark.{Mark}
 use Rattle.tg_coalesce.specs.Lists.{list_at, singletons, set_at_all}
 use Rattle.tg_coalesce.specs.Groupings.{Grouping, IsGrouping, apart, joined}

@@ -1,17 +1,15 @@
 -- What a step of orderly work asks for, by the lists from which it is taken.
-use Rattle.std.proofs.Common.{◌≡◌, ℕ, ◌+◌, ◌-◌, ◌<◌, ◌≤◌, Bool, true, false, not, ◌&&◌, List, [], ◌∷◌, length, map, Option, Some, None, slice_get, refl, sym, ap, ◌∙◌, subst, ⊎_elim, arith}
-use Rattle.std.specs.Prelude.{◌==◌, count_by, filter, nat_lt}
+use Rattle.std.proofs.Common.{◌≡◌, ℕ, ◌+◌, ◌-◌, ◌<◌, ◌≤◌, true, false, not, ◌&&◌, List, [], ◌∷◌, length, Option, Some, None, slice_get, refl, sym, ap, ◌∙◌, subst, ⊎_elim, arith}
+use Rattle.std.specs.Prelude.{filter}
 use Rattle.std.specs.List.{range_with_len}
 use Rattle.std.specs.Option.{is_some}
 use Rattle.std.proofs.lemmas.Bool.{cases_lt, lt-ltb}
 use Rattle.std.proofs.lemmas.List.{length-map}
 use Rattle.std.proofs.lemmas.List.Sums.{length-filter}
-use Rattle.tg_graph.specs.declared.worklists.Worklist.{Worklist}
 use Rattle.tg_graph.specs.declared.worklists.Worklist.TheVariants as worklists
 use Rattle.tg_graph.specs.Interference.{colours, interferes, is_among, is_register, neighbours}
 use Rattle.tg_graph.proofs.Joining.{either_way, stays_below}
 use Rattle.tg_graph.proofs.Members.{among_within}
-use Rattle.tg_rounds.specs.Graphs.{count}
 use Rattle.tg_rounds.proofs.Counting.{count_out}
 use Rattle.tg_rounds.proofs.Deciding.{and_true, both, clash, not_true}
 use Rattle.tg_coalesce.specs.Works.{Work, degree_at, is_left, is_open}

@@ -1,10 +1,10 @@
 -- Lists of lists and sums that are changed at one place: what holds of each list, sizes and sums.
-use Rattle.std.proofs.Common.{◌≡◌, ◌≢◌, ℕ, zero, suc, ◌+◌, ◌-◌, ◌<◌, ◌≤◌, List, [], ◌∷◌, ◌++◌, length, get_or, set, refl, sym, ap, ◌∙◌, subst, ⊎_elim, arith}
-use Rattle.std.specs.Prelude.{sum, sum_by, fold}
+use Rattle.std.proofs.Common.{◌≡◌, ◌≢◌, ℕ, zero, suc, ◌+◌, ◌-◌, ◌<◌, ◌≤◌, List, [], ◌∷◌, length, get_or, set, refl, sym, ap, ◌∙◌, subst, ⊎_elim, arith}
+use Rattle.std.specs.Prelude.{sum, sum_by}
 use Rattle.std.specs.List.{All, range_with_len}
 use Rattle.std.proofs.lemmas.Bool.{cases_eq, cases_lt}
 use Rattle.std.proofs.lemmas.List.{length-set, get_or-set_same, get_or-set_other, set_past, get_or_default}
-use Rattle.std.proofs.lemmas.List.Elements.{All-append, All-nil, All-push, All-cons, All-weaker}
+use Rattle.std.proofs.lemmas.List.Elements.{All-append, All-nil, All-push, All-cons}
 use Rattle.std.proofs.lemmas.List.Sums.{sum_by-set, get_or-le-sum_by}
 use Rattle.tg_coalesce.specs.Lists.{list_at, pushed, poured, moved_sum, raised, lowered, set_at_all}
 

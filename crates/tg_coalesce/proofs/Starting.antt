@@ -1,37 +1,34 @@
 -- The work begins in order, as that of a run that has taken no step.
-use Rattle.std.proofs.Common.{◌≡◌, ◌≢◌, ℕ, zero, suc, ◌+◌, ◌-◌, ◌<◌, ◌≤◌, ◌^◌, Bool, true, false, not, ◌&&◌, ◌||◌, List, [], ◌∷◌, ◌++◌, length, get_or, map, replicate, All, refl, sym, ap, ◌∙◌, subst, ⊎_elim, arith}
-use Rattle.std.specs.Prelude.{◌==◌, nat_eq, nat_lt, count_by, filter, fold, sum_by}
+use Rattle.std.proofs.Common.{◌≡◌, ◌≢◌, ℕ, zero, suc, ◌+◌, ◌-◌, ◌<◌, ◌≤◌, Bool, true, false, not, ◌&&◌, ◌||◌, List, [], ◌∷◌, length, get_or, refl, sym, ap, ◌∙◌, subst, ⊎_elim, arith}
+use Rattle.std.specs.Prelude.{◌==◌, nat_eq, nat_lt, fold}
 use Rattle.std.specs.List.{range_with_len, IsDistinct}
-use Rattle.std.proofs.lemmas.Bool.{cases_eq, cases_lt, eq-eqb, ne_eqb, lt-ltb, le-ltb, ltb-true}
-use Rattle.std.proofs.lemmas.List.{get_or-map, get_or-replicate, get_or_default, get_or_past, length-map}
+use Rattle.std.proofs.lemmas.Bool.{cases_eq, cases_lt, ne_eqb, lt-ltb, le-ltb}
+use Rattle.std.proofs.lemmas.List.{get_or-replicate}
 use Rattle.std.proofs.lemmas.List.FromFn.{length-range_with_len, get_or-range_with_len}
 use Rattle.std.proofs.lemmas.List.Elements.{All-nil}
 use Rattle.std.proofs.lemmas.Map.Keys.{IsDistinct-from_apart}
-use Rattle.tg_graph.specs.declared.worklists.Worklist.{Worklist}
-use Rattle.tg_graph.specs.declared.worklists.Worklist.TheVariants.{Fixed, Stacked, Merged}
-use Rattle.tg_graph.specs.Interference.{Interference, IsGraph, colours, degree, interferes, is_among, is_register, neighbours}
+use Rattle.tg_graph.specs.declared.worklists.Worklist.TheVariants.{Fixed}
+use Rattle.tg_graph.specs.Interference.{Interference, colours, degree, interferes, is_among, is_register, neighbours}
 use Rattle.tg_graph.specs.Lists as lists
 use Rattle.tg_graph.specs.Lists.{Lists, nodes_in, number}
 use Rattle.tg_graph.proofs.Joining.{few_neighbours, stays_below}
 use Rattle.tg_graph.proofs.Members.{among_within}
-use Rattle.tg_graph.proofs.Moves.{nodes_by, told_fixed, told_spill}
+use Rattle.tg_graph.proofs.Moves.{told_fixed, told_spill}
 use Rattle.tg_graph.proofs.Partitions.{start_parts}
 use Rattle.tg_rounds.specs.declared.candidates.Mark.{Mark}
 use Rattle.tg_rounds.specs.declared.moves.Move.{Move}
-use Rattle.tg_rounds.specs.declared.moves.MoveState.{MoveState}
 use Rattle.tg_rounds.specs.declared.moves.MoveState.TheVariants.{Ready}
 use Rattle.tg_rounds.specs.Graphs.{bit, count}
 use Rattle.tg_rounds.specs.States.{is_ready_or_waiting}
 use Rattle.tg_rounds.proofs.Counting.{count_le}
-use Rattle.tg_rounds.proofs.Deciding.{and_true, both, clash, never, not_true}
+use Rattle.tg_rounds.proofs.Deciding.{and_true, both, clash, not_true}
 use Rattle.tg_coalesce.specs.Advancing.{IsGiven}
-use Rattle.tg_coalesce.specs.Lists.{list_at, singletons}
-use Rattle.tg_coalesce.specs.Groupings.{apart}
-use Rattle.tg_coalesce.specs.Tables.{move_at, state_at, is_waiting, is_unsettled, ends_listed}
-use Rattle.tg_coalesce.specs.Works.{Work, alias_of, degree_at, first_degrees, is_left, is_open, list_of, relisted, started, to, from, unlisted}
-use Rattle.tg_coalesce.specs.Standing.{shown, state_of, IsSized, HasDegrees, IsPlaced, HasMembers, HasEnds, HasReady, IsOrderly}
+use Rattle.tg_coalesce.specs.Lists.{list_at}
+use Rattle.tg_coalesce.specs.Tables.{move_at, state_at, is_waiting, is_unsettled}
+use Rattle.tg_coalesce.specs.Works.{Work, alias_of, is_left, relisted, started, to, unlisted}
+use Rattle.tg_coalesce.specs.Standing.{IsSized, HasDegrees, IsPlaced, HasMembers, HasEnds, HasReady, IsOrderly}
 use Rattle.tg_coalesce.proofs.AdvancingListing.{IsShifted, IsListed, shifted_none, shifted_then, shifted_left, relisted_shifts, relisted_same, lists_it, lists_other}
-use Rattle.tg_coalesce.proofs.AdvancingMembers.{all_among, count_of_list}
+use Rattle.tg_coalesce.proofs.AdvancingMembers.{count_of_list}
 use Rattle.tg_coalesce.proofs.AdvancingOrder.{remains_open}
 use Rattle.tg_coalesce.proofs.Classing.{apart_grouping, singleton_at, no_singleton}
 use Rattle.tg_coalesce.proofs.FirstDegrees.{length_first, first_register, first_temporary}

@@ -1,6 +1,6 @@
 -- The ends of moves as they are listed and counted at the start.
-use Rattle.std.proofs.Common.{◌≡◌, ◌≢◌, ℕ, zero, suc, ◌+◌, ◌<◌, ◌≤◌, Bool, true, false, cond, ◌&&◌, List, [], ◌∷◌, ◌++◌, length, get_or, set, replicate, All, refl, sym, ap, ◌∙◌, subst, ⊎_elim, arith}
-use Rattle.std.specs.Prelude.{◌==◌, nat_eq, count_by, sum_by}
+use Rattle.std.proofs.Common.{◌≡◌, ◌≢◌, ℕ, zero, suc, ◌+◌, ◌<◌, ◌≤◌, Bool, true, false, cond, ◌&&◌, List, [], ◌∷◌, ◌++◌, length, get_or, replicate, All, refl, sym, ap, ◌∙◌, subst, ⊎_elim, arith}
+use Rattle.std.specs.Prelude.{◌==◌, nat_eq, count_by}
 use Rattle.std.proofs.lemmas.Bool.{cases_eq, cases_lt, eq-eqb, ne_eqb}
 use Rattle.std.proofs.lemmas.List.{get_or-set_same, get_or-set_other, get_or-replicate, get_or_past, length-replicate, length-set, length_push}
 use Rattle.std.proofs.lemmas.List.Elements.{All-head, All-tail}
@@ -9,7 +9,7 @@ use Rattle.tg_rounds.specs.declared.moves.Move.{Move}
 use Rattle.tg_rounds.specs.Graphs.{bit}
 use Rattle.tg_coalesce.specs.Lists.{list_at, pushed, raised}
 use Rattle.tg_coalesce.specs.Tables.{move_at, ends_listed, ends_counted}
-use Rattle.tg_coalesce.proofs.AdvancingMembers.{count_cons, one_bit, no_bit}
+use Rattle.tg_coalesce.proofs.AdvancingMembers.{count_cons, one_bit}
 use Rattle.tg_coalesce.proofs.Listing.{length_pushed}
 use Rattle.tg_coalesce.proofs.Tabling.{listed_more, counted_more, length_listed, length_counted, end_of}
 

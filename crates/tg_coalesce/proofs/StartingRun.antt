@@ -3,7 +3,7 @@ use Rattle.std.proofs.Common.{◌≡◌, ◌≢◌, ℕ, zero, suc, ◌+◌, ◌
 use Rattle.std.specs.Prelude.{◌==◌, nat_lt, filter, sum_by}
 use Rattle.std.specs.List.{range_with_len}
 use Rattle.std.proofs.lemmas.Bool.{cases_eq, cases_lt, eq-eqb, ne_eqb, cond-true, cond-false}
-use Rattle.std.proofs.lemmas.List.{get_or-map, get_or-replicate, get_or_past, length-map, length-replicate}
+use Rattle.std.proofs.lemmas.List.{get_or-map, get_or-replicate, get_or_past, length-replicate}
 use Rattle.std.proofs.lemmas.List.FromFn.{length-range_with_len}
 use Rattle.std.proofs.lemmas.List.Elements.{filter_agree}
 use Rattle.tg_graph.specs.Interference.{Interference, interferes}
@@ -15,7 +15,7 @@ use Rattle.tg_rounds.specs.declared.moves.MoveState.TheVariants.{Ready}
 use Rattle.tg_rounds.specs.Graphs.{every}
 use Rattle.tg_rounds.specs.Policies.{Rule}
 use Rattle.tg_rounds.specs.States.{Problem, problem, start, members, mark_at, all_made}
-use Rattle.tg_rounds.proofs.Deciding.{both, clash, either, every_is, not_true, or_left, or_right, from_false, never, same_node, same_test}
+use Rattle.tg_rounds.proofs.Deciding.{clash, either, every_is, not_true, or_left, or_right, from_false, same_test}
 use Rattle.tg_coalesce.specs.Advancing.{IsGiven}
 use Rattle.tg_coalesce.specs.Groupings.{is_made}
 use Rattle.tg_coalesce.specs.Works.{Work, is_left, started}

@@ -1,17 +1,17 @@
 -- What is kept of each table of moves is so at the start, and every change keeps it.
 use Rattle.std.proofs.Common.{◌≡◌, ℕ, zero, suc, ◌+◌, ◌*◌, ◌<◌, ◌≤◌, ◌^◌, true, false, Bool, List, [], ◌∷◌, ◌++◌, length, get_or, set, take, replicate, refl, sym, ap, ◌∙◌, subst, ⊎_elim, arith}
-use Rattle.std.specs.Prelude.{sum, sum_by, fold, if◌then◌else◌}
+use Rattle.std.specs.Prelude.{sum, fold, if◌then◌else◌}
 use Rattle.std.specs.List.{All, range_with_len}
 use Rattle.std.proofs.lemmas.Bool.{cases_lt, cond-true, cond-false}
 use Rattle.std.proofs.lemmas.List.{length-set, length-replicate, get_or-replicate, get_or_past}
-use Rattle.std.proofs.lemmas.List.Elements.{All-nil, All-push, All-weaker, All-drop, All-get_or, All-head, All-tail}
+use Rattle.std.proofs.lemmas.List.Elements.{All-nil, All-push, All-drop, All-get_or, All-head, All-tail}
 use Rattle.std.proofs.lemmas.List.Sums.{fold_push, fold_more}
 use Rattle.std.proofs.lemmas.List.Folds.{sum_by-replicate}
 use Rattle.tg_rounds.specs.declared.moves.Move.{Move}
 use Rattle.tg_rounds.specs.declared.moves.MoveState.{MoveState}
 use Rattle.tg_rounds.specs.declared.moves.MoveState.TheVariants.{Ready}
 use Rattle.tg_coalesce.specs.Lists.{list_at, pushed, poured, moved_sum, raised, lowered}
-use Rattle.tg_coalesce.specs.Tables.{Table, IsTable, move_at, state_at, is_waiting, ends_listed, ends_counted, started, first_taken, parked, settled, tried_again, woken, joined}
+use Rattle.tg_coalesce.specs.Tables.{Table, IsTable, move_at, state_at, is_waiting, ends_listed, ends_counted, started, first_taken, settled, tried_again, woken, joined}
 use Rattle.tg_coalesce.proofs.Keeping.{either}
 use Rattle.tg_coalesce.proofs.Vectors.{range_more}
 use Rattle.tg_coalesce.proofs.Listing.{each_pushed, each_poured, length_pushed, length_poured, length_moved_sum, sum_moved, sum_lowered, sum_raised, range_below, read_within, raised_read}

@@ -1,5 +1,5 @@
 -- The work of the code as a state of a round, and what holds of it between steps.
-use Rattle.std.specs.Prelude.{◌≡◌, ℕ, ◌+◌, ◌*◌, ◌<◌, ◌≤◌, ◌==◌, nat_eq, All, nat_lt, Bool, true, false, not, ◌&&◌}
+use Rattle.std.specs.Prelude.{◌≡◌, ℕ, ◌+◌, ◌*◌, ◌<◌, ◌≤◌, ◌==◌, nat_eq, All, nat_lt, Bool, false, not, ◌&&◌}
 use Rattle.std.specs.Prelude.{IsTrue, IsFalse, List, [], length, map, reverse, count_by, sum_by}
 use Rattle.std.specs.Prelude.{slice_index, slice_index_or}
 use Rattle.std.specs.List.{IsDistinct}
@@ -22,7 +22,7 @@ use Rattle.tg_coalesce.specs.Lists.{list_at}
 use Rattle.tg_coalesce.specs.Groupings.{IsGrouping, is_made}
 use Rattle.tg_coalesce.specs.Tables.{IsTable, state_at, is_unsettled, is_related, is_waiting}
 use Rattle.tg_coalesce.specs.Works.{Work, degree_at, alias_of, is_left, is_open, list_of, to, from}
-use Rattle.tg_coalesce.specs.Selecting.{Picks, colour_at, selected}
+use Rattle.tg_coalesce.specs.Selecting.{colour_at, selected}
 
 -- the graph as a round sees it
 abbrev pub graph_of : Interference → Graph

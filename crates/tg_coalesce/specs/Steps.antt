@@ -1,6 +1,6 @@
 -- The steps of a round as the code takes them, each a function of the work before it.
-use Rattle.std.specs.Prelude.{ℕ, ◌+◌, ◌-◌, ◌<◌, ◌==◌, IsTrue, Bool, not, ◌&&◌, ◌||◌, if◌then◌else◌}
-use Rattle.std.specs.Prelude.{List, [], ◌∷◌, ◌++◌, fold, map, filter, slice_index, slice_set}
+use Rattle.std.specs.Prelude.{ℕ, ◌-◌, ◌<◌, ◌==◌, IsTrue, not, ◌&&◌, if◌then◌else◌}
+use Rattle.std.specs.Prelude.{List, [], ◌∷◌, ◌++◌, fold, map, filter, slice_index}
 use Rattle.std.specs.List.{range_with_len}
 use Rattle.tg_graph.specs.declared.worklists.Worklist.TheVariants.{Stacked, Merged}
 use Rattle.tg_graph.specs.Interference.{colours, is_among, is_register, interferes, neighbours}

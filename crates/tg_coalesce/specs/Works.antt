@@ -1,8 +1,7 @@
 -- The work of a round as the code keeps it, and how its parts change (George and Appel 1996,
 -- section 4 and appendix).
-use Rattle.std.specs.Prelude.{ℕ, ◌+◌, ◌-◌, ◌==◌, nat_lt, Bool, true, false, not, ◌&&◌, ◌||◌, if◌then◌else◌}
-use Rattle.std.specs.Prelude.{List, [], ◌∷◌, ◌++◌, length, fold, map, replicate, slice_index, slice_set}
-use Rattle.std.specs.Prelude.{slice_index_or}
+use Rattle.std.specs.Prelude.{ℕ, ◌-◌, nat_lt, Bool, true, false, not, ◌&&◌, ◌||◌, if◌then◌else◌}
+use Rattle.std.specs.Prelude.{List, [], ◌∷◌, ◌++◌, fold, map, replicate, slice_index}
 use Rattle.std.specs.List.{range_with_len}
 use Rattle.tg_graph.specs.declared.worklists.Worklist.{Worklist}
 use Rattle.tg_graph.specs.declared.worklists.Worklist.TheVariants.{Fixed, Simplify, Freeze}
@@ -15,7 +14,6 @@ use Rattle.tg_rounds.specs.declared.candidates.Mark.{Mark}
 use Rattle.tg_rounds.specs.declared.moves.Move.{Move}
 use Rattle.tg_rounds.specs.declared.moves.MoveState.{MoveState}
 use Rattle.tg_rounds.specs.declared.steps.Step.{Step}
-use Rattle.tg_coalesce.specs.Lists.{list_at, lowered}
 use Rattle.tg_coalesce.specs.Groupings.{Grouping, apart}
 use Rattle.tg_coalesce.specs.Tables as tables
 use Rattle.tg_coalesce.specs.Tables.{Table, move_at, is_related, woken}

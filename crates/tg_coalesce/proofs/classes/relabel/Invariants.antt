@@ -1,4 +1,4 @@
-use Rattle.std.proofs.Common.{◌≡◌, length, take}
+use Rattle.std.proofs.Common.{◌≡◌, take}
 use Rattle.tg_coalesce.specs.Lists.{set_at_all}
 use Rattle.tg_coalesce.proofs.classes.relabel.Given as goal
 

@@ -1,4 +1,4 @@
-use Rattle.std.proofs.Common.{◌≡◌, ◌<◌, ◌-◌, ℕ, [], length, get_or, reverse, take, sym, ap, subst, ◌∙◌, arith}
+use Rattle.std.proofs.Common.{[], length, get_or, reverse, sym, ap, subst, ◌∙◌, arith}
 use Rattle.std.specs.Prelude.{fold}
 use Rattle.std.proofs.lemmas.List.{get_or-reverse, length-reverse, take_all}
 use Rattle.std.proofs.lemmas.List.FromFn.{length-map-range_with_len}

@@ -1,5 +1,4 @@
 use Rattle.std.proofs.Common.{◌∙◌, sym, ap, arith}
-use Rattle.tg_graph.specs.Keeping.{lists_of}
 use Rattle.tg_coalesce.specs.Lists.{pushed}
 use Rattle.tg_coalesce.specs.Tables.{move_at, ends_listed}
 use Rattle.tg_coalesce.proofs.Listing.{length_pushed}

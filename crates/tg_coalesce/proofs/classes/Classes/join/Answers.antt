@@ -1,8 +1,8 @@
-use Rattle.std.proofs.Common.{◌≡◌, ◌<◌, ℕ, List, length, get_or, refl, sym, ap, ◌∙◌, arith}
+use Rattle.std.proofs.Common.{◌≡◌, ℕ, List, length, get_or, refl, sym, ap, ◌∙◌, arith}
 use Rattle.std.proofs.lemmas.List.{length-set}
 use Rattle.tg_graph.specs.Keeping.{lists_of}
 use Rattle.tg_coalesce.specs.Groupings.{Grouping, joined}
-use Rattle.tg_coalesce.specs.Lists.{list_at, moved_sum, set_at_all}
+use Rattle.tg_coalesce.specs.Lists.{moved_sum, set_at_all}
 use Rattle.tg_coalesce.proofs.Classing.{joined_grouping, made_grouping, relabelled_grouping, same_grouping}
 use Rattle.tg_coalesce.proofs.Listing.{length_moved_sum, length_set_at_all}
 use Rattle.tg_coalesce.proofs.Vectors.{all_written, list_read, lists_sized}

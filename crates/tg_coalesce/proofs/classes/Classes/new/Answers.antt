@@ -1,5 +1,3 @@
-use Rattle.std.proofs.Common.{◌≡◌, ℕ, List, Bool, length, subst, sym}
-use Rattle.tg_graph.specs.Keeping.{lists_of}
 use Rattle.tg_coalesce.specs.Groupings.{apart}
 use Rattle.tg_coalesce.proofs.Classing.{apart_grouping, same_grouping}
 use Rattle.tg_coalesce.proofs.classes.Classes.new.Goals as goal

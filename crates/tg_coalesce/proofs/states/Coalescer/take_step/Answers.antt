@@ -1,4 +1,4 @@
-use Rattle.std.proofs.Common.{◌≡◌, true, false, [], None, slice_get, refl, sym, ap, ◌∙◌, rules, arith}
+use Rattle.std.proofs.Common.{◌≡◌, true, false, None, slice_get, refl, sym, ap, ◌∙◌, rules, arith}
 use Rattle.std.specs.Option.{is_some}
 use Rattle.tg_coalesce.specs.Works.{Work}
 use Rattle.tg_coalesce.proofs.Conditions.{first_simplify, freeze_progresses, neighbours_counted, no_spill, none_first, nothing_left, simplify_progresses, spill_candidate, spill_progresses, temporary_of, try_progresses}

@@ -1,7 +1,6 @@
-use Rattle.std.proofs.Common.{◌≡◌, List, length, replicate, sym, ap, subst, rules, arith}
-use Rattle.tg_graph.specs.Keeping.{lists_of}
+use Rattle.std.proofs.Common.{◌≡◌, length, replicate, rules}
 use Rattle.tg_rounds.specs.declared.moves.MoveState.TheVariants.{Ready}
-use Rattle.tg_coalesce.specs.Tables.{IsTable, Table, started}
+use Rattle.tg_coalesce.specs.Tables.{started}
 use Rattle.tg_coalesce.proofs.Tabling.{started_table, same_table}
 use Rattle.tg_coalesce.proofs.tables.MoveTable.new.Goals as goal
 
