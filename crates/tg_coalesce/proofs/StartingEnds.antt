@@ -136,12 +136,13 @@ module _ (moves : List Move) (nodes : ℕ) (ends : All (λ m. (m.to < nodes) × 
       let l : m < length moves = omega (arith, h) in
       let same : m + 1 ≡ suc m = omega arith in
       let step = ap (λ n. count_by (nat_eq k) (list_at (ends_listed moves nodes n) x)) (sym same) ∙ listed_step m k l in
-      let before = listed_ends_of m k (omega (arith, h)) in
-      (λ j. ⊎_elim
-      (λ (e : k ≡ m). step ∙ here e (before.1 (omega (arith, e))))
-      (λ (d : k ≢ m). step ∙ there d (before.0 (omega (arith, j, d))))
-      (cases_eq k m),
-      λ j. step ∙ there (λ e. omega (arith, e, j)) (before.1 (omega (arith, j))))
+      let before = listed_ends_of m k (omega (arith, h)) in (
+        λ j. ⊎_elim
+            (λ (e : k ≡ m). step ∙ here e (before.1 (omega (arith, e))))
+            (λ (d : k ≢ m). step ∙ there d (before.0 (omega (arith, j, d))))
+            (cases_eq k m),
+        λ j. step ∙ there (λ e. omega (arith, e, j)) (before.1 (omega (arith, j))),
+      )
     where
       and_true : (b c : Bool) → c ≡ true → bit (b && c) ≡ bit b
       and_true true c e = ap bit e

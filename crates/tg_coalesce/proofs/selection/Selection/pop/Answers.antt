@@ -12,7 +12,7 @@ invariant_of-self-2 c =
     let P = λ (o : Option ℕ). IfSome o (λ colour. colour < colours) in
     let same : c.if-is_none.self-inside.colours.items ≡ c.self.inside.colours.items =
     elim c.if-is_none.branch [
-      then-is_none+in_ok-push w ↦ ap (λ (s : Inside). s.colours.items) w.self-inside-is
+      | then-is_none+in_ok-push w ↦ ap (λ (s : Inside). s.colours.items) w.self-inside-is
       | else-is_none w ↦ ap (λ (s : Inside). s.colours.items) w.self-inside-is
     ] in
     let free : P c.first_free-free.result =
