@@ -14,7 +14,7 @@ use Rattle.tg_graph.proofs.Changes.{among_with, distinct_with, counted_with, len
 
 -- Interference by the order of two nodes.
 
-below : (g : Interference) (x y : ℕ) → x < y → interferes g x y ≡ are_joined g x y
+pub below : (g : Interference) (x y : ℕ) → x < y → interferes g x y ≡ are_joined g x y
 below g x y h =
     ap (λ b. (b && are_joined g x y) || (nat_lt y x && are_joined g y x)) (lt-ltb x y h)
     ∙ (ap (λ b. (true && are_joined g x y) || (b && are_joined g y x)) (le-ltb y x (omega (arith, h)))
@@ -24,7 +24,7 @@ below g x y h =
     only true = refl
     only false = refl
 
-above : (g : Interference) (x y : ℕ) → y < x → interferes g x y ≡ are_joined g y x
+pub above : (g : Interference) (x y : ℕ) → y < x → interferes g x y ≡ are_joined g y x
 above g x y h =
     ap (λ b. (b && are_joined g x y) || (nat_lt y x && are_joined g y x)) (le-ltb x y (omega (arith, h)))
     ∙ ap (λ b. false || (b && are_joined g y x)) (lt-ltb y x h)
@@ -34,17 +34,17 @@ not_itself g x y p =
     ap (λ b. (b && are_joined g x y) || (nat_lt y x && are_joined g y x)) (le-ltb x y (omega (arith, p)))
     ∙ ap (λ b. false || (b && are_joined g y x)) (le-ltb y x (omega (arith, p)))
 
-either_way : (g : Interference) (x y : ℕ) → interferes g x y ≡ interferes g y x
+pub either_way : (g : Interference) (x y : ℕ) → interferes g x y ≡ interferes g y x
 either_way g x y =
     ⊎_elim (λ (p : x ≡ y). not_itself g x y p ∙ sym (not_itself g y x (sym p)))
     (λ o. ⊎_elim (λ (p : x < y). below g x y p ∙ sym (above g y x p)) (λ (p : y < x). above g x y p
     ∙ sym (below g y x p)) o)
     (cases_order x y)
 
-registers_joined : (g : Interference) (x y : ℕ) → y < colours → are_joined g x y ≡ true
+pub registers_joined : (g : Interference) (x y : ℕ) → y < colours → are_joined g x y ≡ true
 registers_joined g x y h = ap (λ b. b || is_among x (neighbours g y)) (lt-ltb y 25 h)
 
-temporary_joined : (g : Interference) (x y : ℕ) → colours ≤ y → are_joined g x y ≡ is_among x (neighbours g y)
+pub temporary_joined : (g : Interference) (x y : ℕ) → colours ≤ y → are_joined g x y ≡ is_among x (neighbours g y)
 temporary_joined g x y h = ap (λ b. b || is_among x (neighbours g y)) (le-ltb y 25 h)
 
 -- what interferes with a node is a node

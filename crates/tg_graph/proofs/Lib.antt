@@ -1,9 +1,9 @@
 mod Examples
 mod Places
-mod Changes
-mod Joining
-mod Runs
-mod Members
-mod Moves
+pub mod Changes
+pub mod Joining
+pub mod Runs
+pub mod Members
+pub mod Moves
 mod Vectors
-mod Partitions
+pub mod Partitions

@@ -18,6 +18,7 @@ ghost use Rattle.tg_graph.specs.Interference.{
   bare,
   colours,
   is_among,
+  IsGraph,
   most_nodes,
   with_edge,
 };
@@ -74,6 +75,7 @@ impl Graph {
         ensures value { result ≡ self.now.nodes }
         ensures low { colours ≤ result }
         ensures high { result ≤ most_nodes }
+        ensures graph { IsGraph self.now }
     {
         self.nodes
     }

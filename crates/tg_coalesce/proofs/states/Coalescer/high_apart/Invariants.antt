@@ -1,0 +1,11 @@
+use Rattle.std.proofs.Common.{◌≡◌, ◌&&◌, not, take}
+use Rattle.std.specs.Prelude.{count_by}
+use Rattle.tg_graph.specs.Interference.{interferes, neighbours}
+use Rattle.tg_coalesce.specs.Works.{is_high}
+use Rattle.tg_coalesce.proofs.states.Coalescer.high_apart.Given as goal
+
+abbrev pub invariant-loop-place : goal.invariant-loop-place
+invariant-loop-place l =
+    l.count ≡
+    count_by (λ z. is_high l.self.lists z && not (interferes l.self.graph l.apart z))
+    (take l.place (neighbours l.self.graph l.node))

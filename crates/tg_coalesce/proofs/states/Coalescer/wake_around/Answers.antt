@@ -1,0 +1,63 @@
+use Rattle.std.proofs.Common.{◌≡◌, ℕ, List, length, take, sym, ap, subst, ◌∙◌, arith}
+use Rattle.std.specs.Prelude.{fold}
+use Rattle.tg_graph.specs.Interference.{Interference, neighbours}
+use Rattle.tg_coalesce.specs.declared.states.Coalescer.TheInside.{Inside}
+use Rattle.tg_coalesce.specs.Standing.{IsSized}
+use Rattle.tg_coalesce.specs.Tables.{Table, woken}
+use Rattle.tg_coalesce.specs.Works.{Work}
+use Rattle.tg_coalesce.proofs.Tabling.{all_woken_touching}
+use Rattle.tg_coalesce.proofs.states.Coalescer.wake_around.Goals as goal
+
+abbrev view : Inside → Work
+view i = record {
+  graph = i.graph;
+  lists = i.lists;
+  degrees = i.degrees.items;
+  classes = i.classes;
+  moves = i.moves;
+  stack = i.stack.items;
+  steps = i.steps.items;
+}
+
+-- what woken moves leave as it was
+woken_from : (i j : Inside) (n : ℕ) (xs : List ℕ) →
+    j ≡ record i { moves = fold (λ t y. woken y t) i.moves (take n xs) } →
+    j.moves.touching ≡ i.moves.touching
+woken_from i j n xs e = ap (λ (s : Inside). s.moves.touching) e ∙ all_woken_touching (take n xs) i.moves
+
+-- other moves of as many classes
+sized_at : (i j : Inside) (t u : Table) → j ≡ record i { moves = u } → IsSized (view i) →
+    length t.touching ≡ length i.moves.touching →
+    IsSized (record (view j) { moves = t })
+sized_at i j t u e k h = subst (λ (s : Inside). IsSized (record (view s) { moves = t })) (sym e) (record {
+  lists = k.lists;
+  degrees = k.degrees;
+  classes = k.classes;
+  touching = h ∙ k.touching;
+})
+
+pub invariant_of-self : goal.invariant_of-self
+invariant_of-self c =
+    let i = c.self.inside in
+    let e = c.loop-place.invariant in
+    let same = woken_from i c.loop-place.self-inside c.loop-place.place (neighbours i.graph c.args.node) e in
+    sized_at i c.loop-place.self-inside c.loop-place.self-inside.moves _ e c.self.invariant (ap length same)
+
+pub wake-requires : goal.wake-requires
+wake-requires c =
+    let i = c.self.inside in
+    let e = c.loop-place.invariant in
+    let same = ap length (woken_from i c.loop-place.self-inside c.loop-place.place (neighbours i.graph c.args.node) e) in
+    let graph = ap (λ (s : Inside). s.graph) e in
+    let nodes = ap (λ (g : Interference). g.nodes) graph in
+    let long = ap length (c.neighbours.ensures.value ∙ ap (λ (g : Interference). neighbours g c.args.node) graph) in
+    let below = c.neighbours.ensures.within c.loop-place.place 0
+    (omega (arith, long, c.loop-place-test.true, c.degree-place-end.ensures.value)) in
+    omega (arith, below, same, nodes, c.self.invariant.touching)
+
+pub invariant_of-self-in_err-wake : goal.invariant_of-self-in_err-wake
+invariant_of-self-in_err-wake c =
+    let i = c.self.inside in
+    let e = c.loop-place.invariant in
+    let same = woken_from i c.loop-place.self-inside c.loop-place.place (neighbours i.graph c.args.node) e in
+    sized_at i c.loop-place.self-inside c.wake.new.self _ e c.self.invariant (c.in_err-wake.ensures.sized ∙ ap length same)
