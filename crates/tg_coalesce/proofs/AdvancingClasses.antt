@@ -1,5 +1,6 @@
 -- Two classes become one.
-use Rattle.std.proofs.Common.{◌≡◌, ◌≢◌, ℕ, ◌+◌, ◌^◌, ◌<◌, ◌≤◌, Bool, true, false, not, ◌&&◌, ◌||◌, ◌⊎◌, List, [], ◌∷◌, ◌++◌, length, get_or, set, All, refl, sym, ap, subst, ◌∙◌, arith, ⊎_elim}
+use Rattle.std.proofs.Common.{◌≡◌, ◌≢◌, ℕ, ◌+◌, ◌^◌, ◌<◌, ◌≤◌, Bool, true, false, not, ◌&&◌, ◌||◌, ◌⊎◌, List, [], ◌∷◌}
+use Rattle.std.proofs.Common.{◌++◌, length, get_or, set, All, refl, sym, ap, subst, ◌∙◌, arith, ⊎_elim}
 use Rattle.std.specs.Prelude.{◌==◌, nat_eq, nat_lt, if◌then◌else◌}
 use Rattle.std.specs.List.{IsDistinct}
 use Rattle.std.proofs.lemmas.Bool.{cases_eq, cases_lt, lt-ltb, le-ltb}
@@ -13,7 +14,8 @@ use Rattle.tg_coalesce.specs.Groupings.{Grouping, IsGrouping}
 use Rattle.tg_coalesce.specs.Groupings as groupings
 use Rattle.tg_coalesce.specs.Works.{Work, alias_of}
 use Rattle.tg_coalesce.specs.Standing.{IsOrderly, HasMembers}
-use Rattle.tg_coalesce.proofs.AdvancingJoining.{distinct_joined, poured_kept, poured_gone, poured_other, length_poured, sum_same, length_moved, length_all, set_all}
+use Rattle.tg_coalesce.proofs.AdvancingJoining.{distinct_joined, poured_kept, poured_gone, poured_other}
+use Rattle.tg_coalesce.proofs.AdvancingJoining.{length_poured, sum_same, length_moved, length_all, set_all}
 
 all_set : (P : ℕ → Type 0) (number : ℕ) (places list : List ℕ) → P number → All P list →
     All P (set_at_all number places list)

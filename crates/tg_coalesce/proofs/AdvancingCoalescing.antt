@@ -1,5 +1,6 @@
 -- The step Coalesce keeps the work in order.
-use Rattle.std.proofs.Common.{◌≡◌, ◌≢◌, ℕ, ◌+◌, ◌<◌, ◌≤◌, Bool, true, false, not, ◌&&◌, ◌||◌, ◌⊎◌, inl, inr, List, [], length, get_or, Some, refl, sym, ap, subst, ◌∙◌, arith, ⊎_elim}
+use Rattle.std.proofs.Common.{◌≡◌, ◌≢◌, ℕ, ◌+◌, ◌<◌, ◌≤◌, Bool, true, false, not, ◌&&◌, ◌||◌, ◌⊎◌, inl, inr, List, []}
+use Rattle.std.proofs.Common.{length, get_or, Some, refl, sym, ap, subst, ◌∙◌, arith, ⊎_elim}
 use Rattle.std.specs.Prelude.{◌==◌, nat_lt, nat_eq, count_by, slice_get, if◌then◌else◌, IsFalse}
 use Rattle.std.specs.Bool.{beq}
 use Rattle.std.proofs.lemmas.Bool.{cases_eq, ltb-true, ltb-false, lt-ltb}
@@ -14,7 +15,8 @@ use Rattle.tg_rounds.specs.Steps.{can, can_move, after, settle, merge, is_safe, 
 use Rattle.tg_rounds.specs.Steps as steps
 use Rattle.tg_rounds.specs.Degrees.{degree_of}
 use Rattle.tg_rounds.specs.Waiting.{is_woken}
-use Rattle.tg_rounds.proofs.Deciding.{clash, both, and_true, either, or_left, or_right, or_false, tells, never, not_true, from_false, same_node, same_test, some_is}
+use Rattle.tg_rounds.proofs.Deciding.{clash, both, and_true, either, or_left, or_right, or_false, tells, never}
+use Rattle.tg_rounds.proofs.Deciding.{not_true, from_false, same_node, same_test, some_is}
 use Rattle.tg_rounds.proofs.Degrees.{merged_is_less, merged_is_more}
 use Rattle.tg_rounds.proofs.Waiting.{waiting_fails}
 use Rattle.tg_graph.specs.Interference.{Interference, is_among, is_register, interferes, neighbours}

@@ -1,5 +1,6 @@
 -- One class has the moves of another.
-use Rattle.std.proofs.Common.{◌≡◌, ◌≢◌, ℕ, ◌+◌, ◌*◌, ◌<◌, ◌≤◌, Bool, true, false, not, ◌&&◌, ◌||◌, ◌⊎◌, inl, inr, List, [], ◌++◌, length, get_or, All, cond, refl, sym, ap, subst, ◌∙◌, arith, ⊎_elim}
+use Rattle.std.proofs.Common.{◌≡◌, ◌≢◌, ℕ, ◌+◌, ◌*◌, ◌<◌, ◌≤◌, Bool, true, false, not, ◌&&◌, ◌||◌, ◌⊎◌, inl, inr}
+use Rattle.std.proofs.Common.{List, [], ◌++◌, length, get_or, All, cond, refl, sym, ap, subst, ◌∙◌, arith, ⊎_elim}
 use Rattle.std.specs.Prelude.{◌==◌, nat_eq, nat_lt, count_by, if◌then◌else◌}
 use Rattle.std.proofs.lemmas.Bool.{cases_eq, ltb-true, lt-ltb}
 use Rattle.std.proofs.lemmas.List.Elements.{All-append, All-nil}
@@ -14,7 +15,8 @@ use Rattle.tg_coalesce.specs.Standing.{IsOrderly}
 use Rattle.tg_coalesce.proofs.AdvancingMembers.{one_bit, no_bit}
 use Rattle.tg_coalesce.proofs.AdvancingOrder.{inside_both}
 use Rattle.tg_coalesce.proofs.AdvancingPossible.{moves_of}
-use Rattle.tg_coalesce.proofs.AdvancingJoining.{poured_kept, poured_gone, poured_other, length_poured, sum_kept, sum_gone, sum_other, sum_same, length_moved}
+use Rattle.tg_coalesce.proofs.AdvancingJoining.{poured_kept, poured_gone, poured_other, length_poured, sum_kept}
+use Rattle.tg_coalesce.proofs.AdvancingJoining.{sum_gone, sum_other, sum_same, length_moved}
 use Rattle.tg_coalesce.proofs.AdvancingClasses.{classes_after, alias_after, renamed, named_kept, named_gone, named_other}
 
 module _ (w : Work) (h : IsOrderly w) (kept gone : ℕ) (l : kept < w.graph.nodes) (m : gone < w.graph.nodes)

@@ -1,5 +1,6 @@
 -- What it makes of the work that nodes have a neighbour less.
-use Rattle.std.proofs.Common.{◌≡◌, ◌≢◌, ℕ, ◌+◌, ◌-◌, ◌<◌, ◌≤◌, Bool, true, false, not, ◌&&◌, ◌||◌, ◌⊎◌, inl, inr, List, [], ◌∷◌, length, get_or, set, refl, sym, ap, subst, ◌∙◌, arith, ⊎_elim}
+use Rattle.std.proofs.Common.{◌≡◌, ◌≢◌, ℕ, ◌+◌, ◌-◌, ◌<◌, ◌≤◌, Bool, true, false, not, ◌&&◌, ◌||◌, ◌⊎◌, inl, inr}
+use Rattle.std.proofs.Common.{List, [], ◌∷◌, length, get_or, set, refl, sym, ap, subst, ◌∙◌, arith, ⊎_elim}
 use Rattle.std.specs.Prelude.{◌==◌, nat_eq, nat_lt, fold, if◌then◌else◌}
 use Rattle.std.specs.List.{IsDistinct}
 use Rattle.std.proofs.lemmas.Bool.{cases_eq, cases_lt, lt-ltb, le-ltb}
@@ -14,7 +15,8 @@ use Rattle.tg_coalesce.specs.Works.{Work, degree_at, is_left, is_open, list_of, 
 use Rattle.tg_coalesce.specs.Steps.{bereft}
 use Rattle.tg_coalesce.proofs.AdvancingMembers.{not_again, distinct_rest}
 use Rattle.tg_coalesce.proofs.AdvancingWaking.{IsWoken, woken_none, woken_then, stays_awake, woken_each, woken_classes, wakes_classes}
-use Rattle.tg_coalesce.proofs.AdvancingListing.{IsShifted, shifted_none, shifted_then, shifted_left, IsListed, by_tests, relisted_same, relisted_shifts, lists_it, lists_other}
+use Rattle.tg_coalesce.proofs.AdvancingListing.{IsShifted, shifted_none, shifted_then, shifted_left, IsListed}
+use Rattle.tg_coalesce.proofs.AdvancingListing.{by_tests, relisted_same, relisted_shifts, lists_it, lists_other}
 
 abbrev pub changed : Work → Lists → List ℕ → Table → Work
 changed w lists degrees moves = record w { lists = lists; degrees = degrees; moves = moves }

@@ -1,5 +1,6 @@
 -- The work after a merge is in order again.
-use Rattle.std.proofs.Common.{◌≡◌, ◌≢◌, ℕ, zero, suc, ◌+◌, ◌-◌, ◌<◌, ◌≤◌, Bool, true, false, not, ◌&&◌, ◌||◌, ◌⊎◌, inl, inr, List, length, get_or, All, refl, sym, ap, subst, ◌∙◌, arith, ⊎_elim}
+use Rattle.std.proofs.Common.{◌≡◌, ◌≢◌, ℕ, zero, suc, ◌+◌, ◌-◌, ◌<◌, ◌≤◌, Bool, true, false, not, ◌&&◌, ◌||◌, ◌⊎◌}
+use Rattle.std.proofs.Common.{inl, inr, List, length, get_or, All, refl, sym, ap, subst, ◌∙◌, arith, ⊎_elim}
 use Rattle.std.specs.Prelude.{◌==◌, nat_lt, count_by, if◌then◌else◌}
 use Rattle.std.proofs.lemmas.Bool.{cases_eq, cases_lt, lt-ltb, ltb-true}
 use Rattle.std.proofs.lemmas.List.{get_or_past, get_or_default}
@@ -28,8 +29,10 @@ use Rattle.tg_coalesce.proofs.AdvancingMeasure.{count_same}
 use Rattle.tg_coalesce.proofs.AdvancingPassingOn.{remade}
 use Rattle.tg_coalesce.proofs.AdvancingPassingOne.{brought}
 use Rattle.tg_coalesce.proofs.AdvancingClasses.{aliases_length, alias_after, grouping_after, members_after, renamed}
-use Rattle.tg_coalesce.proofs.AdvancingEnds.{table_after, touching_length, listed_after, counted_after, to_after, from_after, related_other, related_after}
-use Rattle.tg_coalesce.proofs.AdvancingMerging.{MayMerge, IsMerged, one, gone_low, gone_left, temporary, one_here, one_there, still_left, one_fixed, neighbour_below}
+use Rattle.tg_coalesce.proofs.AdvancingEnds.{table_after, touching_length, listed_after, counted_after, to_after}
+use Rattle.tg_coalesce.proofs.AdvancingEnds.{from_after, related_other, related_after}
+use Rattle.tg_coalesce.proofs.AdvancingMerging.{MayMerge, IsMerged, one, gone_low, gone_left, temporary, one_here}
+use Rattle.tg_coalesce.proofs.AdvancingMerging.{one_there, still_left, one_fixed, neighbour_below}
 
 count_most : (S : Set) (n : ℕ) → count S n ≤ n
 count_most S zero = omega arith

@@ -1,5 +1,6 @@
 -- Two classes of work in order become one: what the code computes has the parts of which its laws speak.
-use Rattle.std.proofs.Common.{◌≡◌, ◌≢◌, ℕ, ◌+◌, ◌-◌, ◌<◌, ◌≤◌, Bool, true, false, not, ◌&&◌, ◌||◌, ◌⊎◌, List, length, get_or, refl, sym, ap, subst, ◌∙◌, arith, ⊎_elim}
+use Rattle.std.proofs.Common.{◌≡◌, ◌≢◌, ℕ, ◌+◌, ◌-◌, ◌<◌, ◌≤◌, Bool, true, false, not, ◌&&◌, ◌||◌, ◌⊎◌, List, length}
+use Rattle.std.proofs.Common.{get_or, refl, sym, ap, subst, ◌∙◌, arith, ⊎_elim}
 use Rattle.std.specs.Prelude.{◌==◌, nat_lt, count_by, fold, if◌then◌else◌}
 use Rattle.std.proofs.lemmas.Bool.{cases_eq, ltb-false}
 use Rattle.tg_rounds.specs.Graphs.{bit}
@@ -14,7 +15,8 @@ use Rattle.tg_coalesce.specs.Works.{Work, degree_at, is_left, is_open, relisted,
 use Rattle.tg_coalesce.specs.Steps.{passed_on, merged}
 use Rattle.tg_coalesce.specs.Standing.{IsOrderly}
 use Rattle.tg_coalesce.proofs.AdvancingWaking.{IsWoken, woken_then, woken_class, wakes_class, stays_awake}
-use Rattle.tg_coalesce.proofs.AdvancingListing.{IsShifted, shifted_then, shifted_left, IsListed, by_tests, moved_it, moved_other, relisted_same, relisted_shifts, lists_it, lists_other}
+use Rattle.tg_coalesce.proofs.AdvancingListing.{IsShifted, shifted_then, shifted_left, IsListed, by_tests, moved_it}
+use Rattle.tg_coalesce.proofs.AdvancingListing.{moved_other, relisted_same, relisted_shifts, lists_it, lists_other}
 use Rattle.tg_coalesce.proofs.AdvancingLosing.{IsRoused}
 use Rattle.tg_coalesce.proofs.AdvancingPassingOn.{IsPassed, remade}
 use Rattle.tg_coalesce.proofs.AdvancingPassingOne.{IsBeside, brought, passed_all}

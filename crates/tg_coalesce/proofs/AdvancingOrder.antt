@@ -1,5 +1,6 @@
 -- What is known of work in order: which nodes remain, which moves end where, what is in each worklist.
-use Rattle.std.proofs.Common.{◌≡◌, ◌≢◌, ℕ, ◌+◌, ◌<◌, ◌≤◌, Bool, true, false, not, ◌&&◌, ◌||◌, ◌⊎◌, inl, inr, List, [], length, get_or, All, refl, sym, ap, subst, ◌∙◌, arith, ⊎_elim}
+use Rattle.std.proofs.Common.{◌≡◌, ◌≢◌, ℕ, ◌+◌, ◌<◌, ◌≤◌, Bool, true, false, not, ◌&&◌, ◌||◌, ◌⊎◌, inl, inr, List, []}
+use Rattle.std.proofs.Common.{length, get_or, All, refl, sym, ap, subst, ◌∙◌, arith, ⊎_elim}
 use Rattle.std.specs.Prelude.{◌==◌, nat_eq, nat_lt, count_by, IsFalse}
 use Rattle.std.proofs.lemmas.Bool.{ltb-true, lt-ltb}
 use Rattle.std.proofs.lemmas.List.{get_or_default}
@@ -12,7 +13,8 @@ use Rattle.tg_rounds.specs.States as states
 use Rattle.tg_rounds.specs.Steps.{can, can_move}
 use Rattle.tg_rounds.specs.Laws.{IsSound}
 use Rattle.tg_rounds.specs.Degrees.{degree_of}
-use Rattle.tg_rounds.proofs.Deciding.{clash, both, and_true, either, or_left, or_right, tells, never, not_true, from_false, or_false, neither, same_node, same_test, some_is}
+use Rattle.tg_rounds.proofs.Deciding.{clash, both, and_true, either, or_left, or_right, tells, never, not_true}
+use Rattle.tg_rounds.proofs.Deciding.{from_false, or_false, neither, same_node, same_test, some_is}
 use Rattle.tg_graph.specs.declared.worklists.Worklist.{Worklist}
 use Rattle.tg_graph.specs.declared.worklists.Worklist.TheVariants as worklists
 use Rattle.tg_graph.specs.Interference.{is_among, is_register, interferes}

@@ -1,5 +1,6 @@
 -- The tests of a move by lists of neighbours say what those of the definition do.
-use Rattle.std.proofs.Common.{◌≡◌, ◌≢◌, ℕ, zero, suc, ◌+◌, ◌<◌, ◌≤◌, Bool, true, false, not, ◌&&◌, ◌||◌, ◌⊎◌, inl, inr, List, refl, sym, ap, subst, ◌∙◌, arith, ⊎_elim}
+use Rattle.std.proofs.Common.{◌≡◌, ◌≢◌, ℕ, zero, suc, ◌+◌, ◌<◌, ◌≤◌, Bool, true, false, not, ◌&&◌, ◌||◌, ◌⊎◌, inl}
+use Rattle.std.proofs.Common.{inr, List, refl, sym, ap, subst, ◌∙◌, arith, ⊎_elim}
 use Rattle.std.specs.Prelude.{◌==◌, nat_lt, count_by, if◌then◌else◌}
 use Rattle.std.proofs.lemmas.Bool.{lt-ltb, ltb-false}
 use Rattle.tg_rounds.specs.Graphs.{Set, bit, count, is_register, some, every}
@@ -7,7 +8,9 @@ use Rattle.tg_rounds.specs.States.{State, low}
 use Rattle.tg_rounds.specs.Degrees.{degree_of}
 use Rattle.tg_rounds.specs.Steps.{allows, george, briggs, high_neighbours}
 use Rattle.tg_rounds.specs.Steps as steps
-use Rattle.tg_rounds.proofs.Deciding.{clash, both, and_true, either, or_left, or_right, tells, never, not_true, from_false, from_true, not_false, neither, or_false, same_node, same_test, every_is}
+use Rattle.tg_rounds.proofs.Deciding.{clash, both, and_true, either, or_left, or_right, tells, never, not_true}
+use Rattle.tg_rounds.proofs.Deciding.{from_false, from_true, not_false, neither, or_false, same_node, same_test}
+use Rattle.tg_rounds.proofs.Deciding.{every_is}
 use Rattle.tg_graph.specs.declared.worklists.Worklist.{Worklist}
 use Rattle.tg_graph.specs.declared.worklists.Worklist.TheVariants as worklists
 use Rattle.tg_graph.specs.Interference.{is_among, interferes, neighbours}

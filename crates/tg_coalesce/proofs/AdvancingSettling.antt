@@ -1,5 +1,6 @@
 -- A move of work in order has its last state.
-use Rattle.std.proofs.Common.{◌≡◌, ◌≢◌, ℕ, ◌+◌, ◌-◌, ◌*◌, ◌<◌, ◌≤◌, Bool, true, false, not, ◌&&◌, ◌||◌, ◌⊎◌, inl, inr, List, [], ◌∷◌, length, get_or, set, sum, refl, sym, ap, subst, ◌∙◌, arith, ⊎_elim}
+use Rattle.std.proofs.Common.{◌≡◌, ◌≢◌, ℕ, ◌+◌, ◌-◌, ◌*◌, ◌<◌, ◌≤◌, Bool, true, false, not, ◌&&◌, ◌||◌, ◌⊎◌, inl, inr}
+use Rattle.std.proofs.Common.{List, [], ◌∷◌, length, get_or, set, sum, refl, sym, ap, subst, ◌∙◌, arith, ⊎_elim}
 use Rattle.std.specs.Prelude.{◌==◌, nat_eq, nat_lt, count_by, sum_by, if◌then◌else◌}
 use Rattle.std.specs.List.{IsDistinct}
 use Rattle.std.proofs.lemmas.Bool.{cases_eq, cases_lt, ltb-true, lt-ltb, cond-true, cond-false}
@@ -24,7 +25,8 @@ use Rattle.tg_coalesce.specs.Works.{Work, degree_at, is_left, is_open, list_of, 
 use Rattle.tg_coalesce.specs.Standing.{as_told, shown, state_of, IsOrderly, HasDegrees, IsPlaced, HasEnds, HasReady}
 use Rattle.tg_coalesce.proofs.AdvancingMembers.{count_cons, one_bit, no_bit}
 use Rattle.tg_coalesce.proofs.AdvancingWaking.{waiting_is}
-use Rattle.tg_coalesce.proofs.AdvancingListing.{IsShifted, shifted_then, shifted_left, IsListed, by_tests, relisted_same, relisted_shifts, lists_it, lists_other}
+use Rattle.tg_coalesce.proofs.AdvancingListing.{IsShifted, shifted_then, shifted_left, IsListed, by_tests}
+use Rattle.tg_coalesce.proofs.AdvancingListing.{relisted_same, relisted_shifts, lists_it, lists_other}
 use Rattle.tg_coalesce.proofs.AdvancingOrder.{HasMoves, to_below, from_below, open_remains, remains_open}
 use Rattle.tg_coalesce.proofs.AdvancingKept.{IsKept, moves_kept, orderly_of, HasReadyBut}
 

@@ -1,5 +1,6 @@
 -- The first move to be tried: what it leads to.
-use Rattle.std.proofs.Common.{◌≡◌, ◌≢◌, ℕ, ◌+◌, ◌<◌, ◌≤◌, Bool, true, false, not, ◌&&◌, ◌||◌, ◌⊎◌, List, [], length, get_or, Some, refl, sym, ap, subst, ◌∙◌, arith, ⊎_elim}
+use Rattle.std.proofs.Common.{◌≡◌, ◌≢◌, ℕ, ◌+◌, ◌<◌, ◌≤◌, Bool, true, false, not, ◌&&◌, ◌||◌, ◌⊎◌, List, [], length}
+use Rattle.std.proofs.Common.{get_or, Some, refl, sym, ap, subst, ◌∙◌, arith, ⊎_elim}
 use Rattle.std.specs.Prelude.{◌==◌, nat_lt, slice_get, sum_by, filter, if◌then◌else◌}
 use Rattle.std.specs.List.{range_with_len}
 use Rattle.tg_rounds.specs.declared.moves.MoveState.{MoveState}
@@ -32,7 +33,9 @@ use Rattle.tg_coalesce.proofs.AdvancingWaking.{requeued}
 use Rattle.tg_coalesce.proofs.AdvancingPassingOn.{remade}
 use Rattle.tg_coalesce.proofs.AdvancingMerging.{MayMerge, IsMerged, merged_merged}
 use Rattle.tg_coalesce.proofs.AdvancingStanding.{Leads, first_leads, second_leads, stands_told}
-use Rattle.tg_coalesce.proofs.AdvancingCoalescing.{Coalesces, step, kept_below, gone_below, kept_remains, gone_remains, kept_gone, safe, by_briggs, possible, once, orderly_once, may, whole, last, state_last, orderly_last}
+use Rattle.tg_coalesce.proofs.AdvancingCoalescing.{Coalesces, step, kept_below, gone_below, kept_remains}
+use Rattle.tg_coalesce.proofs.AdvancingCoalescing.{gone_remains, kept_gone, safe, by_briggs, possible, once}
+use Rattle.tg_coalesce.proofs.AdvancingCoalescing.{orderly_once, may, whole, last, state_last, orderly_last}
 use Rattle.tg_coalesce.proofs.AdvancingCoalesced.{uses_after, made_after}
 
 -- Two classes become one.

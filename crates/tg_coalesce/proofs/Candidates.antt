@@ -1,8 +1,9 @@
 -- The candidates are temporaries that are left.
-use Rattle.std.proofs.Common.{◌≡◌, ℕ, suc, ◌+◌, ◌-◌, ◌<◌, ◌≤◌, Bool, true, false, List, [], ◌∷◌, ◌++◌, length, get_or, map, cond, refl, sym, ap, ◌∙◌, subst, arith}
+use Rattle.std.proofs.Common.{◌≡◌, ℕ, suc, ◌+◌, ◌-◌, ◌<◌, ◌≤◌, Bool, true, false, List, []}
+use Rattle.std.proofs.Common.{◌∷◌, ◌++◌, length, get_or, map, cond, refl, sym, ap, ◌∙◌, subst, arith}
 use Rattle.std.specs.Prelude.{All, filter}
 use Rattle.std.specs.List.{range_with_len}
-use Rattle.std.proofs.lemmas.List.{append-nil, get_or-map, length-map, map-append}
+use Rattle.std.proofs.lemmas.List.{append-nil, get_or-map, get_or_read, length-map, map-append}
 use Rattle.std.proofs.lemmas.List.Elements.{All-filter, All-from_get_or, All-get_or, filter-append, filter_passes}
 use Rattle.std.proofs.lemmas.List.FromFn.{get_or-range_with_len, length-range_with_len}
 use Rattle.tg_graph.specs.Interference.{colours}
@@ -29,7 +30,7 @@ pub record IsCandidate (w : Work) (x : ℕ) : Type 0 where
   pub node : x < w.graph.nodes
   pub left : is_left w.lists x ≡ true
 
-pub candidate_here : (w : Work) (place : ℕ) → place < length (candidates w) →
+candidate_here : (w : Work) (place : ℕ) → place < length (candidates w) →
     IsCandidate w ((candidate_at (candidates w) place).temp + 25)
 candidate_here w place l =
     let xs = nodes_left w in
@@ -45,6 +46,16 @@ candidate_here w place l =
     ap (λ (c : Candidate). c.temp + 25) read ∙ omega (arith, between) in
     subst (IsCandidate w) (sym node)
     (record { temporary = between.0; node = omega (arith, between); left = passes })
+
+-- one that was read there
+pub candidate_read : (w : Work) (cs : List Candidate) (place : ℕ) (c : Candidate) → cs ≡ candidates w →
+    place < length cs → c ≡ get_or cs place c →
+    IsCandidate w (c.temp + 25)
+candidate_read w cs place c e l there =
+    let read : c ≡ candidate_at (candidates w) place =
+    get_or_read cs place c l there _ ∙ ap (λ (ds : List Candidate). candidate_at ds place) e in
+    subst (λ (d : Candidate). IsCandidate w (d.temp + 25)) (sym read)
+    (candidate_here w place (omega (arith, ap length e, l)))
 
 -- the candidates among so many temporaries
 abbrev pub candidates_to : Work → ℕ → List Candidate

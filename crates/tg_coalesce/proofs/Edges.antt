@@ -1,6 +1,6 @@
 -- What the kept node of a merge leaves as it was, as it takes the neighbours of the one that goes.
-use Rattle.std.proofs.Common.{◌≡◌, ◌≢◌, ℕ, zero, suc, ◌+◌, ◌-◌, ◌<◌, ◌≤◌, Bool, true, false, not, ◌&&◌, ◌||◌, List, [], ◌∷◌, ◌++◌, length, get_or, set, take, refl, sym, ap, ◌∙◌, subst, arith}
-use Rattle.std.specs.Prelude.{◌==◌, nat_eq, nat_lt, if◌then◌else◌, fold}
+use Rattle.std.proofs.Common.{◌≡◌, ◌≢◌, ℕ, ◌+◌, ◌-◌, ◌<◌, ◌≤◌, true, false, not, ◌&&◌, List, [], ◌∷◌, ◌++◌, length, get_or, set, refl, sym, ap, ◌∙◌, arith}
+use Rattle.std.specs.Prelude.{nat_eq, nat_lt, if◌then◌else◌, fold}
 use Rattle.std.proofs.lemmas.Bool.{and_from, cond-false, cond-true, cond_both, le-ltb, lt-ltb, ltb-false, eqb-false, or_from, or_parts, and_left}
 use Rattle.std.proofs.lemmas.List.{get_or-set_other, get_or-set_same, get_or_past, get_or_read, length-set}
 use Rattle.std.proofs.Math.Bool.{or_comm}
@@ -38,7 +38,7 @@ other_list node number y lists h d =
     get_or-set_other lists (node - 25) (y - 25) (get_or lists (node - 25) [] ++ number ∷ []) []
     (λ p. d (omega (arith, ltb-false node 25 e))))
 
-pub other_neighbours : (g : Interference) (a b y : ℕ) → colours ≤ y → y ≢ a → y ≢ b →
+other_neighbours : (g : Interference) (a b y : ℕ) → colours ≤ y → y ≢ a → y ≢ b →
     neighbours (with_edge g a b) y ≡ neighbours g y
 other_neighbours g a b y h d e =
     either (λ (f : Interference). neighbours f y) (interferes g a b) g _ (neighbours g y) refl
@@ -60,7 +60,7 @@ module _ (kept : ℕ) (w : Work) (z : ℕ) where
       (ap (λ (g : Interference). g.nodes) (bereft_graph w z))
       (either (λ (g : Interference). g.nodes) (interferes w.graph kept z) w.graph _ w.graph.nodes refl refl)
 
-  pub passed_neighbours : (y : ℕ) → colours ≤ y → y ≢ kept → y ≢ z →
+  passed_neighbours : (y : ℕ) → colours ≤ y → y ≢ kept → y ≢ z →
       neighbours (passed_edge kept w z).graph y ≡ neighbours w.graph y
   unfolding passed_edge
   passed_neighbours y h d e =
@@ -68,13 +68,13 @@ module _ (kept : ℕ) (w : Work) (z : ℕ) where
       (ap (λ (g : Interference). neighbours g y) (bereft_graph w z))
       (other_neighbours w.graph kept z y h d e)
 
-  pub passed_left : (y : ℕ) → is_left (passed_edge kept w z).lists y ≡ is_left w.lists y
+  passed_left : (y : ℕ) → is_left (passed_edge kept w z).lists y ≡ is_left w.lists y
   unfolding passed_edge
   passed_left y =
       either (λ (v : Work). is_left v.lists y) (interferes w.graph kept z) (bereft w z) joined (is_left w.lists y)
       (bereft_left w z y) refl
 
-  pub passed_degree : (y : ℕ) → y ≢ kept → y ≢ z → degree_at (passed_edge kept w z) y ≡ degree_at w y
+  passed_degree : (y : ℕ) → y ≢ kept → y ≢ z → degree_at (passed_edge kept w z) y ≡ degree_at w y
   unfolding passed_edge
   passed_degree y d e =
       either (λ (v : Work). degree_at v y) (interferes w.graph kept z) (bereft w z) joined (degree_at w y)
@@ -85,7 +85,7 @@ module _ (kept : ℕ) (w : Work) (z : ℕ) where
   raised_at_most : (x : ℕ) (ds : List ℕ) → get_or (raised x ds) x 0 ≤ get_or ds x 0 + 1
   raised_at_most x ds = grind (arith, get_or-set_same {A = ℕ}, get_or_past {X = ℕ}, length-set {A = ℕ})
 
-  pub passed_kept : kept ≢ z → degree_at (passed_edge kept w z) kept ≤ degree_at w kept + 1
+  passed_kept : kept ≢ z → degree_at (passed_edge kept w z) kept ≤ degree_at w kept + 1
   unfolding passed_edge
   passed_kept d =
       cond_both (interferes w.graph kept z) (bereft w z) joined (λ (v : Work). degree_at v kept ≤ degree_at w kept + 1)

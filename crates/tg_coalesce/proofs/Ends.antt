@@ -1,5 +1,5 @@
 -- What is counted of the ends of unsettled moves stays so as moves are settled, and is enough to settle one.
-use Rattle.std.proofs.Common.{◌≡◌, ◌≢◌, ℕ, zero, suc, ◌+◌, ◌-◌, ◌<◌, ◌≤◌, Bool, true, false, ◌&&◌, ◌||◌, List, [], ◌∷◌, length, get_or, set, refl, sym, ap, ◌∙◌, subst, cond, ⊎_elim, arith}
+use Rattle.std.proofs.Common.{◌≡◌, ◌≢◌, ℕ, ◌+◌, ◌-◌, ◌<◌, ◌≤◌, Bool, true, false, List, [], ◌∷◌, length, get_or, refl, sym, ap, ◌∙◌, subst, ⊎_elim, arith}
 use Rattle.std.specs.Prelude.{◌==◌, nat_eq, All, count_by, fold}
 use Rattle.std.proofs.lemmas.Bool.{cases_eq, cond_both, eq-eqb, lt-ltb, ltb-true, ne_eqb}
 use Rattle.std.proofs.lemmas.List.{get_or-set_other, get_or-set_same, length-set}
@@ -207,9 +207,10 @@ module _ (w : Work) (i : ℕ) (c : CanSettle w) (l : i < length w.moves.moves) (
           ∙ (length-set w.moves.unsettled toward (get_or w.moves.unsettled toward 0 - 1)
           ∙ (c.unsettled ∙ sym (ap (λ h. h.nodes) g))));
       within = λ j b.
-          let h = c.within j (place j b) in
-          (subst (λ y. y < v.graph.nodes) (sym (same_to j)) (back (to w j) h.0),
-          subst (λ y. y < v.graph.nodes) (sym (same_from j)) (back (from w j) h.1));
+          let h = c.within j (place j b) in (
+            subst (λ y. y < v.graph.nodes) (sym (same_to j)) (back (to w j) h.0),
+            subst (λ y. y < v.graph.nodes) (sym (same_from j)) (back (from w j) h.1),
+          );
     }
       where
         node : (x : ℕ) → x < v.graph.nodes → x < w.graph.nodes
@@ -231,7 +232,7 @@ module _ (w : Work) (i : ℕ) (c : CanSettle w) (l : i < length w.moves.moves) (
             ap (λ t. alias_of v (move_at t.moves j).from) m
             ∙ ap (λ h. get_or h.aliases (move_at w.moves.moves j).from 0) k
 
-    pub can_settle_more : CanSettle (settled i state w)
+    can_settle_more : CanSettle (settled i state w)
     can_settle_more =
         settled_as (settled i state w) (settled_graph i state w) (settled_classes i state w) (settled_moves i state w)
         (settled_left i state w)
@@ -255,9 +256,6 @@ can_freeze_all w (i ∷ is) c h =
     can_freeze_all (freeze_one w i) is (can_freeze_more w i c (All-head (λ j. j < length w.moves.moves) i is h))
     (subst (λ (ms : List Move). All (λ j. j < length ms) is) (sym (same_moves w i))
     (All-tail (λ j. j < length w.moves.moves) i is h))
-
-pub frozen_moves : (w : Work) (is : List ℕ) → (fold freeze_one w is).moves.moves ≡ w.moves.moves
-frozen_moves w is = fold_keeps freeze_one (λ v. v.moves.moves) same_moves w is
 
 pub frozen_touching : (w : Work) (is : List ℕ) → (fold freeze_one w is).moves.touching ≡ w.moves.touching
 frozen_touching w is =

@@ -1,12 +1,12 @@
 -- How the moves of a class are given up, by those so far.
 use Rattle.std.proofs.Common.{◌≡◌, ℕ, ◌<◌, List, length, take, sym, ap, ◌∙◌, subst, arith}
-use Rattle.std.specs.Prelude.{All, fold}
+use Rattle.std.specs.Prelude.{fold}
 use Rattle.std.proofs.lemmas.List.Elements.{All-take}
 use Rattle.tg_coalesce.specs.Lists.{list_at}
 use Rattle.tg_coalesce.specs.Works.{Work}
 use Rattle.tg_coalesce.specs.Steps.{freeze_one}
 use Rattle.tg_coalesce.specs.Standing.{IsOrderly}
-use Rattle.tg_coalesce.proofs.Ends.{CanSettle, can_freeze_all, can_settle, frozen_moves, frozen_touching}
+use Rattle.tg_coalesce.proofs.Ends.{CanSettle, can_freeze_all, can_settle, frozen_touching}
 
 module _ (x : ℕ) (w : Work) where
   abbrev pub listed : List ℕ

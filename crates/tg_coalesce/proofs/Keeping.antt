@@ -1,8 +1,7 @@
 -- What the changes of the work leave as it was.
-use Rattle.std.proofs.Common.{◌≡◌, ℕ, Bool, true, false, List, [], ◌∷◌, refl, ◌∙◌}
-use Rattle.std.specs.Prelude.{if◌then◌else◌, fold}
+use Rattle.std.proofs.Common.{◌≡◌, ℕ, Bool, true, false, refl}
+use Rattle.std.specs.Prelude.{if◌then◌else◌}
 use Rattle.tg_graph.specs.Lists.{moved}
-use Rattle.tg_coalesce.specs.Standing.{IsSized}
 use Rattle.tg_coalesce.specs.Works.{Work, is_open, list_of, relisted}
 
 -- a choice of two values has what both have

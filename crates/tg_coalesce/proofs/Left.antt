@@ -10,7 +10,7 @@ use Rattle.tg_graph.proofs.Partitions.{moved_tells}
 use Rattle.tg_coalesce.specs.Works.{Work, holds_remaining, is_left, is_open, list_of, relisted}
 use Rattle.tg_coalesce.proofs.Places.{remaining_by}
 
-pub left_moved : (l : Lists) (x z : ℕ) (list : Worklist) →
+left_moved : (l : Lists) (x z : ℕ) (list : Worklist) →
     is_left (moved l x list) z ≡ (if z == x then holds_remaining list else is_left l z)
 left_moved l x z list =
     ap (λ b. not (b || is_among z (moved l x list).merged)) (moved_tells l x list Stacked z)

@@ -1,16 +1,15 @@
 -- What the parts of a step leave as it was: the graph, the nodes that are left, and degrees.
-use Rattle.std.proofs.Common.{◌≡◌, ◌≢◌, ℕ, ◌+◌, ◌-◌, ◌<◌, ◌≤◌, Bool, true, false, not, ◌&&◌, List, length, get_or, set, refl, sym, ap, ◌∙◌, subst, arith}
-use Rattle.std.specs.Prelude.{◌==◌, if◌then◌else◌, fold}
+use Rattle.std.proofs.Common.{◌≡◌, ◌≢◌, ℕ, ◌+◌, ◌-◌, ◌<◌, true, false, not, List, length, get_or, set, refl, sym, ap, ◌∙◌, subst, arith}
+use Rattle.std.specs.Prelude.{◌==◌, fold}
 use Rattle.std.proofs.lemmas.Bool.{cond-false, cond-true, eq-eqb, ne_eqb}
 use Rattle.std.proofs.lemmas.List.{get_or-set_other, get_or_read, length-set}
-use Rattle.tg_graph.specs.Interference.{Interference, colours, interferes, is_among, is_register, neighbours, with_edge}
+use Rattle.tg_graph.specs.Interference.{Interference, is_among}
 use Rattle.tg_rounds.specs.declared.moves.MoveState.{MoveState}
 use Rattle.tg_coalesce.specs.Lists.{list_at, lowered, raised}
-use Rattle.tg_coalesce.specs.Groupings.{Grouping}
 use Rattle.tg_coalesce.specs.Tables as tables
 use Rattle.tg_coalesce.specs.Tables.{Table}
 use Rattle.tg_coalesce.specs.Works.{Work, awake_around, degree_at, from, is_left, is_open, relisted, settled, to}
-use Rattle.tg_coalesce.specs.Steps.{bereft, freeze_one, given_up, passed_edge, passed_on, taken_out}
+use Rattle.tg_coalesce.specs.Steps.{bereft, freeze_one, given_up}
 use Rattle.tg_coalesce.proofs.Folds.{fold_keeps, fold_keeps_off}
 use Rattle.tg_coalesce.proofs.Keeping.{either, relisted_classes, relisted_degrees, relisted_graph, relisted_moves}
 use Rattle.tg_coalesce.proofs.Left.{relisted_left}

@@ -1,5 +1,5 @@
 -- How a temporary is taken out, by its neighbours so far.
-use Rattle.std.proofs.Common.{◌≡◌, ℕ, ◌<◌, ◌≤◌, true, not, ◌&&◌, List, [], ◌∷◌, ◌++◌, length, get_or, take, refl, sym, ap, ◌∙◌, subst, arith}
+use Rattle.std.proofs.Common.{◌≡◌, ℕ, ◌<◌, true, not, List, [], ◌∷◌, ◌++◌, length, get_or, take, refl, sym, ap, ◌∙◌, subst, arith}
 use Rattle.std.specs.Prelude.{fold, nat_eq}
 use Rattle.std.specs.List.{IsDistinct}
 use Rattle.std.proofs.lemmas.Bool.{and_from, and_parts}
@@ -25,7 +25,7 @@ module _ (x : ℕ) (w : Work) where
   abbrev pub out_to : ℕ → Work
   out_to k = fold bereft (out x w) (take k around)
 
-  pub out_graph : (k : ℕ) → (out_to k).graph ≡ w.graph
+  out_graph : (k : ℕ) → (out_to k).graph ≡ w.graph
   out_graph k = all_bereft_graph (out x w) (take k around)
 
   open_before : (k z : ℕ) → is_open (out_to k) z ≡ true → is_open w z ≡ true
@@ -35,7 +35,7 @@ module _ (x : ℕ) (w : Work) where
       (left_then w.lists x z Stacked refl (sym (all_bereft_left (out x w) (take k around) z) ∙ parts.1))
 
   -- the next one has a neighbour to lose
-  pub out_counted : (k z : ℕ) → CanLose w x → IsDistinct nat_eq around → k < length around → z ≡ get_or around k 0 →
+  out_counted : (k z : ℕ) → CanLose w x → IsDistinct nat_eq around → k < length around → z ≡ get_or around k 0 →
       is_open (out_to k) z ≡ true →
       0 < degree_at (out_to k) z
   out_counted k z c d l e o =

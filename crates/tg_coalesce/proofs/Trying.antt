@@ -1,15 +1,16 @@
 -- A move that is tried: what holds of its ends, and what becomes of it.
-use Rattle.std.proofs.Common.{◌≡◌, ◌≢◌, ℕ, ◌<◌, ◌≤◌, Bool, true, false, not, ◌&&◌, ◌||◌, ◌⊎◌, inl, inr, List, [], ◌∷◌, ◌++◌, length, get_or, refl, sym, ap, ◌∙◌, subst, ⊎_elim, arith}
-use Rattle.std.specs.Prelude.{◌==◌, nat_lt, if◌then◌else◌, Some, slice_get}
+use Rattle.std.proofs.Common.{◌≡◌, ◌≢◌, ℕ, ◌<◌, ◌≤◌, Bool, true, false, not, ◌||◌, ◌⊎◌, inl}
+use Rattle.std.proofs.Common.{inr, List, [], ◌∷◌, ◌++◌, length, get_or, sym, ap, ◌∙◌, subst, ⊎_elim, arith}
+use Rattle.std.specs.Prelude.{◌==◌, if◌then◌else◌, Some, slice_get}
 use Rattle.std.proofs.lemmas.Bool.{and_parts, cases_lt, cond-false, cond-true, eq-eqb, le-ltb, lt-ltb, ne_eqb, or_left, or_right}
-use Rattle.tg_graph.specs.Interference.{Interference, colours, interferes, is_among, is_register, most_nodes, neighbours}
+use Rattle.tg_graph.specs.Interference.{Interference, colours, interferes, is_register}
 use Rattle.tg_rounds.specs.declared.moves.MoveState.TheVariants.{Coalesced, Constrained}
 use Rattle.tg_rounds.specs.declared.steps.Step.{Step}
 use Rattle.tg_rounds.specs.declared.steps.Step.TheVariants.{Same, Constrain}
 use Rattle.tg_coalesce.specs.Lists.{lowered}
 use Rattle.tg_coalesce.specs.Tables as tables
 use Rattle.tg_coalesce.specs.Tables.{Table, is_unsettled, is_waiting, state_at}
-use Rattle.tg_coalesce.specs.Works.{Work, degree_at, from, is_left, is_open, settled, stepped, to}
+use Rattle.tg_coalesce.specs.Works.{Work, degree_at, from, is_left, settled, stepped, to}
 use Rattle.tg_coalesce.specs.Passing.{passes, stands_under}
 use Rattle.tg_coalesce.specs.Steps.{CanLose, coalesced, tried, tried_out}
 use Rattle.tg_coalesce.specs.Standing.{IsOrderly}
@@ -32,16 +33,16 @@ module _ (i : ℕ) (w : Work) where
   abbrev away : ℕ
   away = from w i
 
-  pub tries_same : (toward == away) ≡ true → tried_out i w ≡ stepped (Same i) (settled i Coalesced w)
+  tries_same : (toward == away) ≡ true → tried_out i w ≡ stepped (Same i) (settled i Coalesced w)
   tries_same e = cond-true (toward == away) _ _ e
 
   module _ (d : (toward == away) ≡ false) where
-    pub tries_constrained : interferes w.graph toward away ≡ true →
+    tries_constrained : interferes w.graph toward away ≡ true →
         tried_out i w ≡ stepped (Constrain i) (settled i Constrained w)
     tries_constrained e = cond-false (toward == away) _ _ d ∙ cond-true (interferes w.graph toward away) _ _ e
 
     module _ (a : interferes w.graph toward away ≡ false) where
-      pub tries_unsafe : passes w toward away ≡ false → tried_out i w ≡ record w { moves = tables.parked i w.moves }
+      tries_unsafe : passes w toward away ≡ false → tried_out i w ≡ record w { moves = tables.parked i w.moves }
       tries_unsafe e =
           cond-false (toward == away) _ _ d
           ∙ (cond-false (interferes w.graph toward away) _ _ a
@@ -55,10 +56,10 @@ module _ (i : ℕ) (w : Work) where
             ∙ (cond-false (interferes w.graph toward away) _ _ a
             ∙ cond-false (not (passes w toward away)) _ _ (ap not p))
 
-        pub tries_under : stands_under w toward away ≡ true → tried_out i w ≡ coalesced i toward away w
+        tries_under : stands_under w toward away ≡ true → tried_out i w ≡ coalesced i toward away w
         tries_under e = last_two ∙ cond-true (stands_under w toward away) _ _ e
 
-        pub tries_over : stands_under w toward away ≡ false → tried_out i w ≡ coalesced i away toward w
+        tries_over : stands_under w toward away ≡ false → tried_out i w ≡ coalesced i away toward w
         tries_over e = last_two ∙ cond-false (stands_under w toward away) _ _ e
 
 -- Registers among its ends.
@@ -67,7 +68,7 @@ module _ (g : Interference) (x y : ℕ) (d : x ≢ y) (a : interferes g x y ≡ 
   clash : (b : Bool) → b ≡ true → b ≡ false → ⊥
   clash b p q = cc
 
-  pub one_temporary : (colours ≤ x) ⊎ (colours ≤ y)
+  one_temporary : (colours ≤ x) ⊎ (colours ≤ y)
   one_temporary =
       ⊎_elim
       (λ (h : x < 25).
@@ -77,7 +78,7 @@ module _ (g : Interference) (x y : ℕ) (d : x ≢ y) (a : interferes g x y ≡ 
       (cases_lt x 25)
 
 -- the end that goes is a temporary
-pub under_temporary : (w : Work) (x y : ℕ) → x ≢ y → interferes w.graph x y ≡ false →
+under_temporary : (w : Work) (x y : ℕ) → x ≢ y → interferes w.graph x y ≡ false →
     stands_under w x y ≡ true →
     colours ≤ y
 under_temporary w x y d a s =
@@ -94,7 +95,7 @@ under_temporary w x y d a s =
     both : (b : Bool) → b ≡ true → b ≡ false → ⊥
     both b p q = cc
 
-pub over_temporary : (w : Work) (x y : ℕ) → stands_under w x y ≡ false → colours ≤ x
+over_temporary : (w : Work) (x y : ℕ) → stands_under w x y ≡ false → colours ≤ x
 over_temporary w x y s =
     ⊎_elim
     (λ (h : x < 25).
@@ -119,20 +120,20 @@ module _ (i : ℕ) (w : Work) (o : IsOrderly w) (l : i < length w.moves.moves) (
   settles : CanSettle w
   settles = can_settle w o.sized o.grouping o.table o.ends
 
-  pub first_to_counted : 0 < get_or w.moves.unsettled (to w i) 0
+  first_to_counted : 0 < get_or w.moves.unsettled (to w i) 0
   first_to_counted = to_counted w i settles l unsettled
 
-  pub first_from_counted : 0 < get_or (lowered (to w i) w.moves.unsettled) (from w i) 0
+  first_from_counted : 0 < get_or (lowered (to w i) w.moves.unsettled) (from w i) 0
   first_from_counted = from_counted w i settles l unsettled
 
   -- so its ends are left, and their neighbours have one to lose
   loses : (x : ℕ) → colours ≤ x → x < w.graph.nodes → is_left w.lists x ≡ true → CanLose w x
   loses x t h left = λ z. has_neighbour w x z o.graph o.degrees t h left
 
-  pub to_loses : colours ≤ to w i → CanLose w (to w i)
+  to_loses : colours ≤ to w i → CanLose w (to w i)
   to_loses t = loses (to w i) t (settles.within i l).0 (toward_left w i settles l unsettled)
 
-  pub from_loses : colours ≤ from w i → CanLose w (from w i)
+  from_loses : colours ≤ from w i → CanLose w (from w i)
   from_loses t = loses (from w i) t (settles.within i l).1 (away_left w i settles l unsettled)
 
 -- where a move is settled neighbours have as many to lose

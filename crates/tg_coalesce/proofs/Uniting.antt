@@ -1,6 +1,6 @@
 -- How two classes are merged, by the neighbours passed on so far.
-use Rattle.std.proofs.Common.{◌≡◌, ◌≢◌, ℕ, ◌+◌, ◌<◌, ◌≤◌, Bool, true, false, not, ◌&&◌, List, [], ◌∷◌, ◌++◌, length, get_or, take, refl, sym, ap, ◌∙◌, subst, arith}
-use Rattle.std.specs.Prelude.{fold, nat_eq}
+use Rattle.std.proofs.Common.{◌≡◌, ◌≢◌, ℕ, ◌+◌, ◌<◌, ◌≤◌, Bool, true, false, not, List, length, get_or, take, refl, sym, ap, ◌∙◌, subst, arith}
+use Rattle.std.specs.Prelude.{fold}
 use Rattle.std.proofs.lemmas.Bool.{and_from, and_parts}
 use Rattle.std.proofs.lemmas.List.{length-take}
 use Rattle.tg_graph.specs.declared.worklists.Worklist.TheVariants.{Merged}
@@ -15,7 +15,8 @@ use Rattle.tg_coalesce.specs.Steps.{CanLose, passed_on}
 use Rattle.tg_coalesce.proofs.AdvancingMembers.{among_at}
 use Rattle.tg_coalesce.proofs.Folds.{among_take, none_before}
 use Rattle.tg_coalesce.proofs.Left.{left_then}
-use Rattle.tg_coalesce.proofs.Edges.{all_passed_degree, all_passed_kept, all_passed_left, all_passed_neighbours, all_passed_nodes, interferes_either_way, interferes_not_itself}
+use Rattle.tg_coalesce.proofs.Edges.{all_passed_degree, all_passed_kept, all_passed_left}
+use Rattle.tg_coalesce.proofs.Edges.{all_passed_neighbours, all_passed_nodes, interferes_either_way, interferes_not_itself}
 
 -- before neighbours are passed on
 abbrev pub as_one : (kept gone : ℕ) → Work → Work
@@ -50,7 +51,7 @@ module _ (kept gone : ℕ) (w : Work) (c : CanMerge kept gone w) where
   abbrev upto : ℕ → Work
   upto k = one_to kept gone w k
 
-  pub one_nodes : (k : ℕ) → (upto k).graph.nodes ≡ w.graph.nodes
+  one_nodes : (k : ℕ) → (upto k).graph.nodes ≡ w.graph.nodes
   one_nodes k = all_passed_nodes kept one (take k around)
 
   gone_not_around : is_among gone around ≡ false
@@ -60,7 +61,7 @@ module _ (kept gone : ℕ) (w : Work) (c : CanMerge kept gone w) where
   kept_not_around =
       c.graph.exact gone kept c.temporary ∙ (interferes_either_way w.graph gone kept ∙ c.apart)
 
-  pub one_neighbours : (k : ℕ) → neighbours (upto k).graph gone ≡ around
+  one_neighbours : (k : ℕ) → neighbours (upto k).graph gone ≡ around
   one_neighbours k =
       all_passed_neighbours kept one (take k around) gone c.temporary (λ e. c.differ (sym e))
       (among_take gone around k gone_not_around)
@@ -81,7 +82,7 @@ module _ (kept gone : ℕ) (w : Work) (c : CanMerge kept gone w) where
       (left_then w.lists gone z Merged refl (sym (all_passed_left kept one (take k around) z) ∙ parts.1))
 
   -- the next one has a neighbour to lose, and the kept node has room for it
-  pub one_counted : (k z : ℕ) → k < length around → z ≡ get_or around k 0 → is_open (upto k) z ≡ true →
+  one_counted : (k z : ℕ) → k < length around → z ≡ get_or around k 0 → is_open (upto k) z ≡ true →
       0 < degree_at (upto k) z
   one_counted k z l e o =
       let among : is_among z around ≡ true = ap (λ y. is_among y around) e ∙ among_at around k 0 l in
@@ -90,7 +91,7 @@ module _ (kept gone : ℕ) (w : Work) (c : CanMerge kept gone w) where
       all_passed_degree kept one (take k around) z (λ p. others_differ k z l e (sym p)) new in
       omega (arith, same, c.counted z among (open_before k z o))
 
-  pub one_room : (k : ℕ) → k < length around → degree_at (upto k) kept + 1 < 4294967296
+  one_room : (k : ℕ) → k < length around → degree_at (upto k) kept + 1 < 4294967296
   one_room k l =
       omega (
         arith,
@@ -119,19 +120,3 @@ module _ (kept gone : ℕ) (w : Work) (c : CanMerge kept gone w) where
 -- moves near a node are tried again in place
 pub awake_as : (u v : Work) (t : Table) (z : ℕ) → u ≡ v → t ≡ woken z u.moves → record u { moves = t } ≡ awake z v
 awake_as u v t z e f = ap (λ s. record u { moves = s }) f ∙ ap (λ (s : Work). awake z s) e
-
--- what a merge asks, by work that is the same and a number that is that of its nodes
-pub can_merge : (kept gone : ℕ) (w v : Work) (n : ℕ) → v ≡ w → IsGraph v.graph → n ≡ v.graph.nodes → n ≤ most_nodes →
-    gone < w.graph.nodes → colours ≤ gone → interferes w.graph kept gone ≡ false → kept ≢ gone → CanLose w gone →
-    degree_at w kept ≤ w.graph.nodes →
-    CanMerge kept gone w
-can_merge kept gone w v n e s f few node temporary apart differ counted room = record {
-  graph = subst (λ (u : Work). IsGraph u.graph) e s;
-  few = omega (arith, f, few, ap (λ (u : Work). u.graph.nodes) e);
-  node = node;
-  temporary = temporary;
-  apart = apart;
-  differ = differ;
-  counted = counted;
-  room = room;
-}

@@ -25,8 +25,8 @@ use tg_graph::Worklist;
 use tg_rounds::{MoveState, Step};
 
 impl Coalescer {
-    /// Tries the first of the ready moves: it is settled by the step Same, Constrain or Coalesce, or
-    /// waits, which is no step.
+    /// Tries the first of the ready moves: it is settled by the step Same, Constrain or Coalesce,
+    /// or waits, which is no step.
     pub(crate) fn try_move(&mut self, index: u32) -> Result<(), Memory>
         requires index { index < length self.old.moves.moves }
         requires first { slice_get self.old.moves.ready 0 ≡ Some index }

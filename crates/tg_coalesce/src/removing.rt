@@ -3,7 +3,7 @@ ghost use Rattle.tg_graph.specs.Interference.{colours};
 ghost use Rattle.tg_coalesce.specs.Steps.{CanLose, bereft, simplified, taken_out};
 ghost use Rattle.tg_coalesce.specs.Works.{degree_at, is_open};
 
-use crate::states::{Coalescer, is_register};
+use crate::states::Coalescer;
 use tg_base::Memory;
 use tg_graph::{COLOURS, Worklist};
 use tg_rounds::Step;
@@ -44,7 +44,7 @@ impl Coalescer {
         requires counted { IsTrue (is_open self.old node) → 0 < degree_at self.old node }
         ensures { OnOk result (self.new ≡ bereft self.old node) }
     {
-        if is_register(node) || !self.remains(node) {
+        if !self.is_open(node) {
             return Ok(());
         }
         self.degrees[node as usize] -= 1;

@@ -1,5 +1,5 @@
-ghost use Rattle.std.specs.Prelude.{◌≡◌, ◌≢◌, ◌<◌, ◌≤◌, ◌⊎◌};
-ghost use Rattle.tg_graph.specs.Interference.{colours, degree};
+ghost use Rattle.std.specs.Prelude.{◌≡◌, ◌<◌, ◌≤◌, ◌⊎◌};
+ghost use Rattle.tg_graph.specs.Interference.{colours};
 ghost use Rattle.tg_coalesce.specs.Passing.{
   high_apart,
   high_around,

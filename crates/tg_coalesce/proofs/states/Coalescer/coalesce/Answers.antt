@@ -1,4 +1,4 @@
-use Rattle.std.proofs.Common.{◌≡◌, ◌≤◌, get_or, sym, ap, ◌∙◌, subst, arith}
+use Rattle.std.proofs.Common.{◌≡◌, get_or, sym, ap, ◌∙◌, subst, arith}
 use Rattle.tg_graph.specs.Interference.{Interference, interferes}
 use Rattle.tg_rounds.specs.declared.moves.MoveState.TheVariants.{Coalesced}
 use Rattle.tg_coalesce.specs.Works.{Work, degree_at}

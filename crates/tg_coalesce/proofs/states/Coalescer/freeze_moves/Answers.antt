@@ -1,4 +1,4 @@
-use Rattle.std.proofs.Common.{◌≡◌, ◌<◌, ◌≤◌, true, length, get_or, sym, ap, ◌∙◌, arith}
+use Rattle.std.proofs.Common.{◌≡◌, true, length, get_or, sym, ap, ◌∙◌, arith}
 use Rattle.std.proofs.lemmas.Bool.{cond-false, cond-true}
 use Rattle.tg_rounds.specs.declared.moves.MoveState.TheVariants.{Frozen}
 use Rattle.tg_coalesce.specs.Lists.{list_at}
@@ -75,11 +75,11 @@ loop-place-preserved c =
     let told : c.is_unsettled.result ≡ is_unsettled v.moves i =
     c.is_unsettled.ensures ∙ ap (λ (u : Work). is_unsettled u.moves i) c.self-in-loop-place.view_is in
     let step : c.if-is_unsettled.self ≡ freeze_one v i = elim c.if-is_unsettled.branch [
-      then-is_unsettled b ↦
-        b.self-is ∙ (b.settle.ensures ∙ sym (cond-true (is_unsettled v.moves i) (settled i Frozen v) v (sym told
-        ∙ b.if-is_unsettled.true)))
-    | else-is_unsettled b ↦
-        b.self-is ∙ sym (cond-false (is_unsettled v.moves i) (settled i Frozen v) v (sym told ∙ b.if-is_unsettled.false))
+      | then-is_unsettled b ↦
+          b.self-is ∙ (b.settle.ensures ∙ sym (cond-true (is_unsettled v.moves i) (settled i Frozen v) v (sym told
+          ∙ b.if-is_unsettled.true)))
+      | else-is_unsettled b ↦
+          b.self-is ∙ sym (cond-false (is_unsettled v.moves i) (settled i Frozen v) v (sym told ∙ b.if-is_unsettled.false))
     ] in
     fold_next freeze_one w (listed x w) k 0 v c.if-is_unsettled.self i
     (omega (arith, ap length all, c.loop-place-test.true)) (ap (λ is. get_or is k 0) here) c.loop-place.invariant step

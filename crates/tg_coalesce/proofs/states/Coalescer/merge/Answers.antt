@@ -1,10 +1,10 @@
-use Rattle.std.proofs.Common.{◌≡◌, ◌<◌, length, get_or, sym, ap, ◌∙◌, subst, arith}
-use Rattle.tg_graph.specs.Interference.{Interference, neighbours}
+use Rattle.std.proofs.Common.{◌≡◌, ◌<◌, length, get_or, ap, ◌∙◌, arith}
+use Rattle.tg_graph.specs.Interference.{neighbours}
 use Rattle.tg_coalesce.specs.Works.{Work, awake, relisted}
 use Rattle.tg_coalesce.specs.Steps.{merged, passed_on}
 use Rattle.tg_coalesce.proofs.Edges.{passed_nodes}
 use Rattle.tg_coalesce.proofs.Folds.{fold_end, fold_next}
-use Rattle.tg_coalesce.proofs.Uniting.{as_one, awake_as, can_merge, counted_there, list_there, nodes_there, others_differ, room_there}
+use Rattle.tg_coalesce.proofs.Uniting.{as_one, awake_as, counted_there, list_there, nodes_there, others_differ, room_there}
 use Rattle.tg_coalesce.proofs.states.Coalescer.merge.Goals as goal
 
 pub neighbours-requires-clause-node : goal.neighbours-requires-clause-node

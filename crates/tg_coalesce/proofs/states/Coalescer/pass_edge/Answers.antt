@@ -1,4 +1,4 @@
-use Rattle.std.proofs.Common.{◌≡◌, ◌<◌, true, not, length, sym, ap, ◌∙◌, arith}
+use Rattle.std.proofs.Common.{◌≡◌, true, not, sym, ap, ◌∙◌, arith}
 use Rattle.std.proofs.lemmas.Bool.{and_left, and_right}
 use Rattle.std.proofs.lemmas.Result.{on_ok_weaker}
 use Rattle.tg_graph.specs.Interference.{interferes, is_register}
@@ -30,15 +30,15 @@ returns-else-remains c =
     let kept = c.args.kept in
     let z = c.args.other in
     elim c.else-remains.branch [
-      else-remains-via-then-remains+else-not-is_register b ↦
-        b.self-is
-        ∙ unraised_done kept _ c.args.self.now z c.self.view_is (sym c.interferes.ensures ∙ c.if-interferes.false)
-        c.add_edge.new.self c.in_ok-add_edge.ensures.ok
-        (and_right (is_left c.self.inside.lists z) (not (is_register kept))
-        (ap not (sym b.is_register.ensures ∙ b.if-not-is_register.false)))
-    | else-remains-via-else-remains b ↦
-        b.self-is
-        ∙ unraised_done kept _ c.args.self.now z c.self.view_is (sym c.interferes.ensures ∙ c.if-interferes.false)
-        c.add_edge.new.self c.in_ok-add_edge.ensures.ok
-        (and_left (is_left c.self.inside.lists z) (not (is_register kept)) (sym c.remains.ensures ∙ b.if-remains.false))
+      | else-remains-via-then-remains+else-not-is_register b ↦
+          b.self-is
+          ∙ unraised_done kept _ c.args.self.now z c.self.view_is (sym c.interferes.ensures ∙ c.if-interferes.false)
+          c.add_edge.new.self c.in_ok-add_edge.ensures.ok
+          (and_right (is_left c.self.inside.lists z) (not (is_register kept))
+          (ap not (sym b.is_register.ensures ∙ b.if-not-is_register.false)))
+      | else-remains-via-else-remains b ↦
+          b.self-is
+          ∙ unraised_done kept _ c.args.self.now z c.self.view_is (sym c.interferes.ensures ∙ c.if-interferes.false)
+          c.add_edge.new.self c.in_ok-add_edge.ensures.ok
+          (and_left (is_left c.self.inside.lists z) (not (is_register kept)) (sym c.remains.ensures ∙ b.if-remains.false))
     ]

@@ -16,14 +16,16 @@ neighbours-requires-clause-node c =
 
 pub bounds-neighbours-place : goal.bounds-neighbours-place
 bounds-neighbours-place c =
-    let here : c.neighbours.result.now ≡ neighbours c.args.self.now.graph c.args.node = list_there c.args.node c.args.self.now c.loop-place.place _ (c.self-in-loop-place.view_is
+    let here : c.neighbours.result.now ≡ neighbours c.args.self.now.graph c.args.node =
+    list_there c.args.node c.args.self.now c.loop-place.place _ (c.self-in-loop-place.view_is
     ∙ c.loop-place.invariant.so_far) c.neighbours.result.now c.neighbours.ensures.value in
     omega (arith, ap length here, c.loop-place.invariant.size, c.loop-place-test.true)
 
 pub lose_neighbour-requires-clause-node : goal.lose_neighbour-requires-clause-node
 lose_neighbour-requires-clause-node c =
     let k = c.loop-place.place in
-    let here : c.neighbours.result.now ≡ neighbours c.args.self.now.graph c.args.node = list_there c.args.node c.args.self.now c.loop-place.place _ (c.self-in-loop-place.view_is
+    let here : c.neighbours.result.now ≡ neighbours c.args.self.now.graph c.args.node =
+    list_there c.args.node c.args.self.now c.loop-place.place _ (c.self-in-loop-place.view_is
     ∙ c.loop-place.invariant.so_far) c.neighbours.result.now c.neighbours.ensures.value in
     let below : get_or c.neighbours.result.now k 0 < c.self-in-loop-place.inside.graph.nodes =
     c.neighbours.ensures.within k 0 (omega (arith, ap length here, c.loop-place.invariant.size, c.loop-place-test.true)) in
@@ -34,7 +36,8 @@ lose_neighbour-requires-clause-counted c =
     let w = c.args.self.now in
     let x = c.args.node in
     let k = c.loop-place.place in
-    let here : c.neighbours.result.now ≡ neighbours w.graph x = list_there c.args.node c.args.self.now c.loop-place.place _ (c.self-in-loop-place.view_is
+    let here : c.neighbours.result.now ≡ neighbours w.graph x =
+    list_there c.args.node c.args.self.now c.loop-place.place _ (c.self-in-loop-place.view_is
     ∙ c.loop-place.invariant.so_far) c.neighbours.result.now c.neighbours.ensures.value in
     counted_there x w k c.loop-place.self c.loop-place.invariant.so_far (get_or c.neighbours.result.now k 0)
     c.requires.counted (subst (IsDistinct nat_eq) here c.neighbours.ensures.distinct)
@@ -45,7 +48,8 @@ loop-place-preserved c =
     let w = c.args.self.now in
     let x = c.args.node in
     let k = c.loop-place.place in
-    let here : c.neighbours.result.now ≡ neighbours w.graph x = list_there c.args.node c.args.self.now c.loop-place.place _ (c.self-in-loop-place.view_is
+    let here : c.neighbours.result.now ≡ neighbours w.graph x =
+    list_there c.args.node c.args.self.now c.loop-place.place _ (c.self-in-loop-place.view_is
     ∙ c.loop-place.invariant.so_far) c.neighbours.result.now c.neighbours.ensures.value in
     record {
       size = c.loop-place.invariant.size;

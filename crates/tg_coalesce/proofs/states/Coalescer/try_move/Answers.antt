@@ -1,5 +1,6 @@
-use Rattle.std.proofs.Common.{◌≡◌, sym, ap, ◌∙◌}
-use Rattle.tg_coalesce.proofs.Trying.{constrained_done, from_counted_there, is_taken, over_done, over_loses, parked_done, room_there, same_done, to_counted_there, under_done, under_loses}
+use Rattle.std.proofs.Common.{sym, ◌∙◌}
+use Rattle.tg_coalesce.proofs.Trying.{constrained_done, from_counted_there, is_taken, over_done, over_loses}
+use Rattle.tg_coalesce.proofs.Trying.{parked_done, room_there, same_done, to_counted_there, under_done, under_loses}
 use Rattle.tg_coalesce.proofs.states.Coalescer.try_move.Goals as goal
 
 pub settle-requires-clause-to_counted : goal.settle-requires-clause-to_counted
