@@ -43,10 +43,10 @@ trees_preserved linearize gives_canonical gives_closed cut whole entered lay cod
     let taken = all_of MayBeFlattened code.functions may in
     let cuttable : AllByRecursion IsCanonicalFunction statements.functions =
     all_become MayBeFlattened IsCanonicalFunction canonical (λ f m.
-        (gives_canonical f.body f.temps, gives_closed f.body f.temps m.closed)) code.functions taken in
+    (gives_canonical f.body f.temps, gives_closed f.body f.temps m.closed)) code.functions taken in
     let layable : AllByRecursion HasLayableBlocks blocks.functions =
     all_become IsCanonicalFunction HasLayableBlocks in_blocks
-        (λ f c. record { whole = whole f.body c.1; entered = entered f.body c.1 }) statements.functions cuttable in
+    (λ f c. record { whole = whole f.body c.1; entered = entered f.body c.1 }) statements.functions cuttable in
     passes_compose 1 1 1 0 _ _ _
     (passes_compose 1 0 1 1 _ _ _ (linearize code size floor room body input (λ f c. (may f c).temps)) (cut statements size floor room body input cuttable))
     (lay blocks size floor room body input layable)

@@ -73,18 +73,18 @@ code_of functions = record { functions = functions; literals = [] }
 abbrev pub adding : Code Ts
 adding = code_of (
     function 32 [] 1 (
-      Move 0 (Const 0) ∷
-      Loop (If (less 0 3)
-        (sequence (
-          write (Binary Add (Call 40 (txs (Temp 0 ∷ []))) (Call 41 (txs []))) ∷ up 0 ∷ []))
-        (Break 0)) ∷
-      Return (Const 0) ∷ []) ∷
+    Move 0 (Const 0) ∷
+    Loop (If (less 0 3)
+    (sequence (
+    write (Binary Add (Call 40 (txs (Temp 0 ∷ []))) (Call 41 (txs []))) ∷ up 0 ∷ []))
+    (Break 0)) ∷
+    Return (Const 0) ∷ []) ∷
     function 40 (in_temp 0 ∷ []) 1 (
-      when (equal 0 1) (Return (Const 65)) ∷ Return (Const 97) ∷ []) ∷
+    when (equal 0 1) (Return (Const 65)) ∷ Return (Const 97) ∷ []) ∷
     function 41 [] 1 (
-      Move 0 (Const 0) ∷
-      Loop (sequence (up 0 ∷ If (less 0 2) nothing (Break 0) ∷ [])) ∷
-      Return (Temp 0) ∷ []) ∷ [])
+    Move 0 (Const 0) ∷
+    Loop (sequence (up 0 ∷ If (less 0 2) nothing (Break 0) ∷ [])) ∷
+    Return (Temp 0) ∷ []) ∷ [])
 
 -- The first word of the heap counts up with each call of a function, which gives what it was; the
 -- body reads it before and behind a call in one expression, and leaves two loops from the inner one
@@ -95,18 +95,18 @@ word = Const 285212672
 abbrev pub counting : Code Ts
 counting = code_of (
     function 32 [] 1 (
-      Do (Service 9 (Const 4)) ∷
-      Store word (Const 5) ∷
-      Loop (Loop (sequence (
-        Move 0 (Binary Add (Load word) (Binary Add (Call 40 (txs [])) (Load word))) ∷
-        Do (Call 41 (txs (Temp 0 ∷ []))) ∷
-        when (Both (Not (less 0 20)) (Either (equal 0 20) (equal 0 25))) (Break 1) ∷
-        when (less 0 17) (Break 0) ∷ []))) ∷
-      Return (Const 0) ∷ []) ∷
+    Do (Service 9 (Const 4)) ∷
+    Store word (Const 5) ∷
+    Loop (Loop (sequence (
+    Move 0 (Binary Add (Load word) (Binary Add (Call 40 (txs [])) (Load word))) ∷
+    Do (Call 41 (txs (Temp 0 ∷ []))) ∷
+    when (Both (Not (less 0 20)) (Either (equal 0 20) (equal 0 25))) (Break 1) ∷
+    when (less 0 17) (Break 0) ∷ []))) ∷
+    Return (Const 0) ∷ []) ∷
     function 40 [] 1 (
-      Move 0 (Load word) ∷
-      Store word (Binary Add (Temp 0) (Const 1)) ∷
-      Return (Temp 0) ∷ []) ∷
+    Move 0 (Load word) ∷
+    Store word (Binary Add (Temp 0) (Const 1)) ∷
+    Return (Temp 0) ∷ []) ∷
     function 41 (in_temp 0 ∷ []) 1 (write (Temp 0) ∷ Return (Const 0) ∷ []) ∷ [])
 
 -- what a run writes, and how it stops
