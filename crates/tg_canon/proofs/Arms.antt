@@ -1,10 +1,10 @@
 -- What each case of the pass draws, from what its parts draw.
-use Rattle.std.proofs.Common.{◌≡◌, ℕ, ◌+◌, Bool, true, false, not, refl, sym, ap, ◌∙◌}
+use Rattle.std.proofs.Common.{◌≡◌, ℕ, ◌+◌, Bool, true, false, not, sym, ap, ◌∙◌}
 use Rattle.tg_tree.specs.declared.operators.Bin.{Bin}
 use Rattle.tg_tree.specs.declared.operators.Rel.{Rel}
 use Rattle.tg_tree.specs.Tree.{Tx, Const, Address, Temp, FrameAddress, Binary, Load, LoadByte, Call, Service, After, Txs, Cond, Compare, Not, Both, Either, Ts, Move, Store, StoreByte, Do, If, Loop, Break, Fault, Seq, Return, Stms}
 use Rattle.tg_canon.specs.Drawing.{Draws, give, ◌>>=◌, Gives}
-use Rattle.tg_canon.specs.Canon.{Part, still, assigning, nothing, ◌before◌, loop_of, block, Parts, in_turn, Lifted, Two, Arguments, whole, behind, hold, is_side, hold_side, word, stays, hold_unless, hold_but_offset, hold_for, in_front_of, side_by_side, argument, over, over_two, over_all, with_one, with_two, dropped, is_whole, Tested, compared, opposite, joined, choice, exit_where, wide_choice, deeper, inside, choose, lift, lift_all, condition, leave, linear, linear_all, operands}
+use Rattle.tg_canon.specs.Canon.{Part, still, assigning, ◌before◌, loop_of, block, Parts, in_turn, Lifted, Two, Arguments, whole, behind, is_side, hold_side, word, side_by_side, over, over_two, over_all, with_one, with_two, dropped, is_whole, Tested, compared, opposite, joined, choice, exit_where, wide_choice, deeper, inside, choose, lift, lift_all, condition, leave, linear, linear_all, operands}
 use Rattle.tg_canon.proofs.Steps.{given, on, ends, same}
 
 -- expressions

@@ -1,20 +1,19 @@
 -- Statements that are done by parts, construct by construct.
-use Rattle.std.proofs.Common.{◌≡◌, ℕ, zero, suc, ◌+◌, ◌<◌, ◌≤◌, min, max, Bool, true, false, Option, Some, None, if◌then◌else◌, refl, sym, ap, ◌∙◌, arith}
+use Rattle.std.proofs.Common.{◌≡◌, ℕ, zero, suc, ◌+◌, ◌≤◌, Bool, true, false, Option, Some, None, if◌then◌else◌, refl, sym, ap, ◌∙◌, arith}
 use Rattle.tg_base.specs.declared.ends.RunEnd.TheVariants.{Break as Broken}
-use Rattle.tg_runs.specs.Runs.{Run}
-use Rattle.tg_runs.specs.Ran.{Ran, Ended, Wrong}
+use Rattle.tg_runs.specs.Ran.{Ended, Wrong}
 use Rattle.tg_runs.proofs.Simulations.{simulates_stopping, simulates_wrong}
-use Rattle.tg_tree.specs.Tree.{Tx, Const, Address, Temp, FrameAddress, Binary, Load, LoadByte, Call, Service, After, Cond, Ts, Move, Store, StoreByte, Do, If, Loop, Break, Fault, Seq, Return, Stms, no_stms, stm}
-use Rattle.tg_tree.specs.Memory.{Memory, store, store_byte}
+use Rattle.tg_tree.specs.Tree.{Tx, Const, Address, Temp, FrameAddress, Binary, Load, LoadByte, Call, Service, After, Cond, Ts, Move, Do, If, Loop, Break, Fault, Seq, Return, Stms, no_stms, stm}
+use Rattle.tg_tree.specs.Memory.{Memory}
 use Rattle.tg_tree.specs.Units.{Trees, Canonical}
-use Rattle.tg_tree.specs.Shapes.{IsFlat, IsFlatSide, IsFlatCond}
+use Rattle.tg_tree.specs.Shapes.{IsFlat, IsFlatCond}
 use Rattle.tg_tree.specs.Actions.{World, Temps, set_temp, Activation, Around, Acts, Go, Next, Out, Back, ◌>>◌, charged, pay, with_memory, leaving}
-use Rattle.tg_tree.specs.Meaning.{Point, run_all}
-use Rattle.tg_canon.specs.Canon.{Part, still, assigning, is_nothing, nothing, first_then, as_part, ◌before◌, loop_of, Parts, no_parts, in_front, in_turn, Lifted, is_side, acts, dropped, Tested, choice, inside}
-use Rattle.tg_canon.proofs.Paying.{Sim, trade, pays, worked, unpaid, credit, along, free}
-use Rattle.tg_canon.proofs.Fixed.{Scene, around, tree_value, tree_test, tree_does, mixed_value, mixed_test, then_value, then_test, then_does, IsFixed, fixed_value, fixed_test}
+use Rattle.tg_tree.specs.Meaning.{run_all}
+use Rattle.tg_canon.specs.Canon.{Part, still, assigning, is_nothing, nothing, as_part, ◌before◌, loop_of, Parts, no_parts, in_front, in_turn, Lifted, is_side, acts, dropped, Tested, choice, inside}
+use Rattle.tg_canon.proofs.Paying.{Sim, trade, pays, worked, unpaid, credit, along}
+use Rattle.tg_canon.proofs.Fixed.{Scene, around, tree_value, tree_test, tree_does, mixed_value, mixed_test, then_value, then_test, then_does, fixed_value, fixed_test}
 use Rattle.tg_canon.proofs.Steady.{IsQuiet, quiet_word, quiet_wrong, quiet_value}
-use Rattle.tg_canon.proofs.Splits.{Known, Beside, StaysKnown, KeptBy, kept_within, kept_first, kept_second, beside_world, beside_assigned, OutsAre, BacksAre, outs_more, backs_more, IsSplit, IsDone, does_nothing, does_in_turn}
+use Rattle.tg_canon.proofs.Splits.{Known, Beside, KeptBy, kept_within, kept_first, kept_second, beside_world, beside_assigned, OutsAre, BacksAre, outs_more, backs_more, IsSplit, IsDone, does_nothing, does_in_turn}
 use Rattle.tg_canon.proofs.Helds.{fixed_runs, side_runs, flat_side}
 use Rattle.tg_canon.proofs.Words.{spare, LiftIs, WordIs, both_before, both_rest, PairIs, side_flat}
 

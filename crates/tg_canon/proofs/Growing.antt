@@ -1,10 +1,9 @@
 -- The next number to draw never falls.
-use Rattle.std.proofs.Common.{◌≡◌, ℕ, zero, suc, ◌+◌, ◌≤◌, ◌&&◌, Bool, true, false, not, arith, subst}
+use Rattle.std.proofs.Common.{ℕ, ◌+◌, ◌≤◌, ◌&&◌, Bool, true, false, not, arith, subst}
 use Rattle.tg_tree.specs.declared.operators.Bin.{Bin}
-use Rattle.tg_tree.specs.declared.operators.Rel.{Rel}
 use Rattle.tg_tree.specs.Tree.{Tx, Const, Address, Temp, FrameAddress, Binary, Load, LoadByte, Call, Service, After, Txs, no_txs, tx, Cond, Compare, Not, Both, Either, Ts, Move, Store, StoreByte, Do, If, Loop, Break, Fault, Seq, Return, Stms, no_stms, stm}
 use Rattle.tg_canon.specs.Drawing.{Draws, Drawn, give, fresh, ◌>>=◌, Gives}
-use Rattle.tg_canon.specs.Canon.{Part, still, assigning, nothing, is_nothing, ◌before◌, loop_of, block, Parts, no_parts, in_front, in_turn, Lifted, Two, Arguments, no_arguments, whole, behind, hold, is_side, hold_side, word, stays, hold_unless, is_constant, is_sum, hold_but_offset, hold_for, hold_before, in_front_of, side_by_side, argument, over, over_two, over_all, with_one, with_two, dropped, is_whole, Tested, compared, opposite, joined, choice, exit_where, wide_choice, deeper, inside, choose, lift, lift_all, condition, leave, linear, linear_all, operands, statements_of, linearized}
+use Rattle.tg_canon.specs.Canon.{Part, still, assigning, is_nothing, ◌before◌, loop_of, block, no_parts, in_front, in_turn, Lifted, Arguments, no_arguments, whole, behind, hold, is_side, hold_side, word, stays, hold_unless, is_constant, is_sum, hold_but_offset, hold_for, hold_before, in_front_of, side_by_side, argument, over, over_two, over_all, with_one, with_two, dropped, is_whole, compared, opposite, joined, choice, exit_where, wide_choice, deeper, inside, choose, lift, lift_all, condition, leave, linear, linear_all, operands, linearized}
 
 pub record Grows {A : Type 0} (m : Draws A) : Type 0 where
   pub at : (k : ℕ) → k ≤ (m k).next

@@ -1,9 +1,8 @@
 -- Right sides behind the pass, and words that are held or stay.
-use Rattle.std.proofs.Common.{◌≡◌, ◌⊎◌, ⊎_elim, inl, inr, ℕ, zero, suc, ◌+◌, ◌-◌, ◌<◌, ◌≤◌, min, max, Bool, true, false, not, ◌&&◌, nat_le, List, refl, sym, ap, ◌∙◌, subst, arith}
+use Rattle.std.proofs.Common.{◌≡◌, ◌⊎◌, ⊎_elim, inl, inr, ℕ, zero, suc, ◌+◌, ◌-◌, ◌<◌, ◌≤◌, min, max, Bool, true, false, not, ◌&&◌, nat_le, refl, sym, ap, ◌∙◌, subst, arith}
 use Rattle.std.proofs.lemmas.Bool.{le-leb, lt-leb}
 use Rattle.std.proofs.lemmas.Bool.Decides.{leb_tells}
-use Rattle.tg_runs.specs.Runs.{Run}
-use Rattle.tg_runs.specs.Ran.{Ran, Stop, Wrong}
+use Rattle.tg_runs.specs.Ran.{Wrong}
 use Rattle.tg_runs.proofs.Simulations.{simulates_stopping, simulates_writing, simulates_turn, simulates_less}
 use Rattle.tg_tree.specs.declared.operators.Bin.{Bin}
 use Rattle.tg_tree.specs.Tree.{Tx, Const, Address, Temp, FrameAddress, Binary, Load, LoadByte, Call, Service, After, Move}
@@ -15,14 +14,14 @@ use Rattle.tg_tree.specs.Actions.{World, Temps, set_temp, Activation, Around, Ac
 use Rattle.tg_tree.specs.Meaning.{Point}
 use Rattle.tg_tree.proofs.Relating.{Related, Keeps, Alike, alike, keep_value}
 use Rattle.tg_tree.proofs.Relating as relating
-use Rattle.tg_tree.proofs.Going.{IsOne, one, OneWorld, OneTemps, KeepsRuns, keeps_one}
+use Rattle.tg_tree.proofs.Going.{one, OneWorld, OneTemps, KeepsRuns, keeps_one}
 use Rattle.tg_canon.specs.Drawing.{Drawn, give}
 use Rattle.tg_canon.specs.Canon.{Part, still, nothing, Lifted, whole, hold, is_constant, is_sum, stays, hold_unless, hold_but_offset, hold_for}
 use Rattle.tg_canon.proofs.Sizing.{size, takes, holdable, holdable_most, own_holdable}
 use Rattle.tg_canon.proofs.Paying.{Sim, trade, pays, worked, unpaid, untraded, credit, along, free}
 use Rattle.tg_canon.proofs.Fixed.{Scene, around, mixed_value, mixed_values, then_value, then_values, then_does, IsFixed, gives, stops, fixed_value, fixed_values}
 use Rattle.tg_canon.proofs.Steady.{Occurs, IsSteady}
-use Rattle.tg_canon.proofs.Splits.{set_same, Known, Beside, StaysKnown, KeptBy, beside_world, beside_drawn, does_nothing}
+use Rattle.tg_canon.proofs.Splits.{set_same, Known, Beside, KeptBy, beside_world, beside_drawn, does_nothing}
 
 -- a temporary of the body's own, or one of those drawn from a number up to another
 pub record IsIn (own from to i : ℕ) : Type 0 where

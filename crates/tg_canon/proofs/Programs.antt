@@ -1,5 +1,5 @@
 -- Bodies are carried, and with them calls and programs.
-use Rattle.std.proofs.Common.{◌≡◌, ℕ, zero, suc, ◌+◌, ◌*◌, ◌<◌, ◌≤◌, List, [], ◌∷◌, length, map, Bool, true, false, nat_le, if◌then◌else◌, refl, sym, ap, ◌∙◌, subst, arith, ⊎_elim}
+use Rattle.std.proofs.Common.{◌≡◌, ℕ, zero, suc, ◌+◌, ◌<◌, ◌≤◌, List, [], ◌∷◌, length, map, nat_le, if◌then◌else◌, refl, sym, ap, ◌∙◌, subst, arith, ⊎_elim}
 use Rattle.std.specs.List.{Contains}
 use Rattle.std.specs.Prelude.{pos}
 use Rattle.std.proofs.lemmas.Bool.{le-leb}
@@ -9,17 +9,16 @@ use Rattle.tg_base.specs.State.{stack_top}
 use Rattle.tg_runs.specs.Runs.{Run, IsSameTo}
 use Rattle.tg_runs.specs.Ran.{Ran, Ended, Wrong, stops}
 use Rattle.tg_runs.specs.Preserving.{DoesTheSame, Preserves}
-use Rattle.tg_runs.specs.Simulating.{Simulates}
-use Rattle.tg_runs.proofs.Simulations.{simulation_preserves, simulates_stopping, simulates_turn, simulates_wrong, simulates_less}
-use Rattle.tg_tree.specs.Tree.{Tx, Ts, Move, Store, StoreByte, Do, If, Loop, Break, Fault, Seq, Return, Stms, Function, Literal, Code}
+use Rattle.tg_runs.proofs.Simulations.{simulation_preserves, simulates_stopping, simulates_turn, simulates_less}
+use Rattle.tg_tree.specs.Tree.{Ts, Move, Store, StoreByte, Do, If, Loop, Break, Fault, Seq, Return, Function, Literal, Code}
 use Rattle.tg_tree.specs.Memory.{begin}
-use Rattle.tg_tree.specs.Units.{Stage, Trees, Canonical, marked_entry_units}
-use Rattle.tg_tree.specs.Actions.{World, Temps, Activation, Around, Next, Out, Back, wrong}
+use Rattle.tg_tree.specs.Units.{Trees, Canonical, marked_entry_units}
+use Rattle.tg_tree.specs.Actions.{World, Temps, Around, Next, Back, wrong}
 use Rattle.tg_tree.specs.Meaning.{Point}
-use Rattle.tg_tree.specs.Running.{function_of, with_fuel, fuelled, outermost, body_point, enter, step, going, in_sequence, tree_run, canonical_run}
+use Rattle.tg_tree.specs.Running.{function_of, with_fuel, outermost, body_point, enter, step, going, in_sequence, tree_run, canonical_run}
 use Rattle.tg_tree.specs.Carrying.{BacksSimulate, CallsSimulate, EntriesPay, BodyCarried, AllCarried, none, one}
 use Rattle.tg_tree.specs.Named.{named_ts}
-use Rattle.tg_tree.proofs.Relating.{AlikeBack, AlikeAround, around_down, keep_entered}
+use Rattle.tg_tree.proofs.Relating.{AlikeBack, around_down, keep_entered}
 use Rattle.tg_tree.proofs.Going as same
 use Rattle.tg_tree.proofs.Going.{OneWorld, OneTemps, Same, same_keeps}
 use Rattle.tg_tree.proofs.TreeRuns.{keep_body, trees_step, trees_relate}
@@ -29,9 +28,8 @@ use Rattle.tg_canon.specs.Laws.{AreTempsBelow}
 use Rattle.tg_canon.specs.Meaning.{canonical, canonical_code, HasOwnTemps, runner, added_work}
 use Rattle.tg_canon.proofs.Passing.{TsPasses, body_passes}
 use Rattle.tg_canon.proofs.Naming.{below, below_more}
-use Rattle.tg_canon.proofs.Paying.{Sim, credit, along, free}
-use Rattle.tg_canon.proofs.Fixed.{Scene, around, tree_does, then_does}
-use Rattle.tg_canon.proofs.Splits.{Known, Beside, KeptBy, OutsAre, BacksAre}
+use Rattle.tg_canon.proofs.Paying.{credit, along, free}
+use Rattle.tg_canon.proofs.Fixed.{Scene, around, then_does}
 use Rattle.tg_canon.proofs.Dones.{GoesOn}
 use Rattle.tg_canon.proofs.Tests.{JoinsPay}
 use Rattle.tg_canon.proofs.Carried.{linear_at}

@@ -1,5 +1,5 @@
 -- A function in canonical form is no longer, and what is drawn for it has room in its tree: where the induction over trees is at rest.
-use Rattle.std.proofs.Common.{◌≡◌, ℕ, ◌+◌, ◌*◌, ◌≤◌, List, [], length, arith}
+use Rattle.std.proofs.Common.{ℕ, ◌+◌, ◌≤◌, [], arith}
 use Rattle.tg_runs.specs.Ran.{Wrong}
 use Rattle.tg_runs.proofs.Simulations.{simulates_stopping}
 use Rattle.tg_tree.specs.Tree.{Ts, Move, Store, StoreByte, Do, If, Loop, Break, Fault, Seq, Return, Function}

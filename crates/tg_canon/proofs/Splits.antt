@@ -1,13 +1,11 @@
 -- What it is that a part is carried: what lies in front of its rest, and then the rest, do what the part did.
-use Rattle.std.proofs.Common.{◌≡◌, ℕ, ◌+◌, ◌<◌, ◌≤◌, min, max, List, Bool, true, false, if◌then◌else◌, refl, sym, ap, ◌∙◌, subst, arith, ⊎_elim}
-use Rattle.std.specs.Prelude.{◌==◌, Option, Some}
+use Rattle.std.proofs.Common.{◌≡◌, ℕ, ◌+◌, ◌<◌, ◌≤◌, Bool, true, false, if◌then◌else◌, refl, sym, ap, ◌∙◌, arith, ⊎_elim}
+use Rattle.std.specs.Prelude.{Some}
 use Rattle.std.proofs.lemmas.Bool.Decides.{eqb_tells}
-use Rattle.tg_runs.specs.Runs.{Run}
-use Rattle.tg_runs.specs.Ran.{Ran}
-use Rattle.tg_tree.specs.Tree.{Ts, Seq, Stms, no_stms, stm, Move, Store, StoreByte, Do, If, Loop, Break, Fault, Return}
-use Rattle.tg_tree.specs.Actions.{World, Temps, set_temp, Activation, Around, Acts, Go, Next, Out, Back, charged}
+use Rattle.tg_tree.specs.Tree.{Ts, Seq, no_stms, stm, Move, Store, StoreByte, Do, If, Loop, Break, Fault, Return}
+use Rattle.tg_tree.specs.Actions.{World, Temps, set_temp, Activation, Around, Acts, Go, Next, Out, Back}
 use Rattle.tg_tree.specs.Carrying.{BacksSimulate}
-use Rattle.tg_canon.specs.Canon.{Part, still, is_nothing, nothing, pair, first_then, ◌before◌}
+use Rattle.tg_canon.specs.Canon.{Part, is_nothing, pair, first_then, ◌before◌}
 use Rattle.tg_canon.proofs.Paying.{Sim, credit, free}
 use Rattle.tg_canon.proofs.Fixed.{Scene, around, then_does}
 

@@ -1,20 +1,20 @@
 -- What an expression that may stay behind a statement comes to: one word whatever world and temporaries there are, if those that occur in
 -- it are the same. And what one that only gives a word comes to.
-use Rattle.std.proofs.Common.{◌≡◌, ◌⊎◌, inl, inr, ℕ, ◌+◌, Bool, true, false, ◌&&◌, ◌||◌, Option, Some, None, refl, sym, ap, ◌∙◌}
+use Rattle.std.proofs.Common.{◌≡◌, ◌⊎◌, inl, inr, ℕ, ◌+◌, Bool, true, false, ◌||◌, Option, Some, None, refl, sym, ap, ◌∙◌}
 use Rattle.std.specs.Prelude.{◌==◌, if◌then◌else◌}
 use Rattle.tg_base.specs.Words.{quot}
-use Rattle.tg_runs.specs.Ran.{Ran, Stop, Wrong}
+use Rattle.tg_runs.specs.Ran.{Wrong}
 use Rattle.tg_tree.specs.declared.operators.Bin.{Bin}
 use Rattle.tg_tree.specs.declared.operators.Bin.TheVariants.{Add, Sub, Mul, Div, And, Or, Xor, ShiftLeft, ShiftRight, ShiftSigned, AddTrap, SubTrap, MulHigh}
 use Rattle.tg_tree.specs.Tree.{Tx, Const, Address, Temp, FrameAddress, Binary, Load, LoadByte, Call, Service, After}
-use Rattle.tg_tree.specs.Operators.{Given, word, stops_by, operate}
+use Rattle.tg_tree.specs.Operators.{word, stops_by, operate}
 use Rattle.tg_tree.specs.Memory.{load, load_byte, literal_address}
 use Rattle.tg_tree.specs.Units.{Canonical, expression_units}
-use Rattle.tg_tree.specs.Actions.{World, Temps, Activation, Around, Acts, Go, Out, Back, ◌>>=◌, ◌>>◌, charged, with_word, with_given, pay, known, read_temp, read_memory, given}
+use Rattle.tg_tree.specs.Actions.{World, Temps, Around, Acts, Go, ◌>>=◌, ◌>>◌, charged, with_word, with_given, pay, read_memory, given}
 use Rattle.tg_tree.specs.Shapes.{IsFlat}
 use Rattle.tg_canon.specs.Canon.{is_constant, is_sum, is_trapping, acts}
 use Rattle.tg_canon.proofs.Paying.{free, charged_add}
-use Rattle.tg_canon.proofs.Fixed.{Scene, around, mixed_value}
+use Rattle.tg_canon.proofs.Fixed.{Scene, mixed_value}
 
 -- which temporaries occur in a flat expression
 abbrev pub Occurs : (temp : ℕ) → Tx → Type 0

@@ -7,7 +7,7 @@ use Rattle.tg_tree.specs.Units.{Stage, Trees, Canonical, marked_entry_units}
 use Rattle.tg_tree.specs.Running.{Runner, run_body, going, tree_run, in_sequence, canonical_run}
 use Rattle.tg_tree.specs.Sizes.{tree_length, tree_room, canonical_length, canonical_room}
 use Rattle.tg_tree.specs.Carrying.{BodyCarried, CallsSimulate}
-use Rattle.tg_tree.specs.Named.{Named, named_ts, HasItsTemps}
+use Rattle.tg_tree.specs.Named.{named_ts, HasItsTemps}
 use Rattle.tg_canon.specs.Canon.{linearized}
 use Rattle.tg_canon.specs.Laws.{AreTempsBelow}
 

@@ -1,9 +1,9 @@
-use Rattle.std.proofs.Common.{not, sym, ap, ◌∙◌}
+use Rattle.std.proofs.Common.{not, sym, ◌∙◌}
 use Rattle.tg_tree.specs.Plain.{plain_tx, plain_cond, plain_ts}
 use Rattle.tg_tree.specs.Lists.{txs_of, stms_of}
 use Rattle.tg_canon.specs.Canon.{deeper, inside}
 use Rattle.tg_canon.specs.Breaking.{leads}
-use Rattle.tg_canon.proofs.Arms.{constant_lifts, address_lifts, temporary_lifts, frame_lifts, binary_lifts, load_lifts, byte_lifts, call_lifts, service_lifts, after_lifts, word_lifts, operands_lift, compare_tests, not_tests, both_tests, either_tests, compare_leaves, not_leaves, both_fails, either_holds, both_holds, either_fails, move_goes, store_goes, store_byte_goes, do_goes, if_goes, if_goes_by_parts, loop_goes, break_goes, fault_goes, sequence_goes, return_goes}
+use Rattle.tg_canon.proofs.Arms.{constant_lifts, address_lifts, temporary_lifts, frame_lifts, binary_lifts, load_lifts, byte_lifts, call_lifts, service_lifts, after_lifts, word_lifts, operands_lift, compare_tests, not_tests, both_tests, either_tests, compare_leaves, not_leaves, move_goes, store_goes, store_byte_goes, do_goes, if_goes, if_goes_by_parts, loop_goes, break_goes, fault_goes, sequence_goes, return_goes}
 use Rattle.tg_canon.proofs.Cases.{lifts_as, word_as, tests_as, leaves_as, goes_as, call_as, sequence_as}
 use Rattle.tg_canon.proofs.Walks.{statements_begin, statement_more, arguments_begin, argument_more, ends_with, none_left}
 use Rattle.tg_canon.proofs.pass.+canon.Goals as goal
