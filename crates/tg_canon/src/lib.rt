@@ -14,4 +14,4 @@ mod supply;
 mod tested;
 
 pub use bodies::linearize;
-pub use laws::{canonical_statements, names_stay};
+pub use laws::{canonical_statements, meaning_stays, names_stay, sizes_stay};
