@@ -1,3 +1,5 @@
+ghost use Rattle.std.specs.Prelude.{◌≡◌, ◌∷◌, ◌++◌, [], false, IfOk, replicate};
+
 use crate::drawing::{join_registers, originals};
 use std::alloc::Global;
 use std::test::Fail;
@@ -134,7 +136,12 @@ fn an_original_is_kept(rt: HostRuntime) -> Result<(), Fail> {
 }
 
 /// Two high temporaries and a move that fails its test at the second.
-fn failing(alloc: Global, uses: u32) -> Result<(Graph, Vec<Mark>), Memory> {
+fn failing(alloc: Global, uses: u32) -> Result<(Graph, Vec<Mark>), Memory>
+    ensures nodes { IfOk result (λ it. it.0.nodes ≡ 27) }
+    ensures marks { IfOk result (λ it. it.1.items
+        ≡ replicate 25 (record { uses = 2; made = false })
+        ++ record { uses = 2; made = false } ∷ record { uses = uses; made = false } ∷ []) }
+{
     let mut graph = Graph::new(alloc, 27)?;
     graph.add_edge(25, 26)?;
     join_registers(&mut graph, 25, 0, 24)?;
