@@ -1,0 +1,5 @@
+pub mod Vectors
+pub mod Sums
+pub mod Places
+pub mod Keeping
+pub mod Examples

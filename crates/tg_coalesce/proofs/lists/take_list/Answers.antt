@@ -1,0 +1,9 @@
+use Rattle.std.proofs.Common.{ℕ, List, set, ap, ◌∙◌}
+use Rattle.tg_graph.specs.Keeping.{lists_of}
+use Rattle.tg_coalesce.proofs.Vectors.{lists_set}
+use Rattle.tg_coalesce.proofs.lists.take_list.Goals as goal
+
+pub returns-clause-left : goal.returns-clause-left
+returns-clause-left c =
+    lists_set c.args.lists.now.items c.args.at c.try_take.new.dest
+    ∙ ap (λ (xs : List ℕ). set (lists_of c.args.lists.now.items) c.args.at xs) c.in_ok-try_take.ensures.after.0

@@ -1,0 +1,17 @@
+//! One round of iterated register coalescing (George and Appel 1996): graph, moves and a policy in,
+//! steps, classes and colours out.
+#![tactic(auto)]
+
+mod classes;
+mod coloring;
+mod freezing;
+mod lists;
+mod merging;
+mod removing;
+mod safety;
+mod selection;
+mod spilling;
+mod states;
+mod tables;
+
+pub use coloring::color;

@@ -1,0 +1,133 @@
+ghost use Rattle.std.specs.Prelude.{
+  ◌≡◌,
+  ◌<◌,
+  ◌+◌,
+  ◌^◌,
+  ◌∷◌,
+  [],
+  ◌++◌,
+  List,
+  IfOk,
+  OnErr,
+  OnOk,
+  length,
+  replicate,
+  slice_index_or,
+  slice_set,
+  sum,
+};
+ghost use Rattle.std.specs.List.{range_with_len};
+ghost use Rattle.tg_graph.specs.Keeping.{lists_of};
+ghost use Rattle.tg_coalesce.specs.Lists as lists_by;
+ghost use Rattle.tg_coalesce.specs.Lists.{list_at, poured, pushed};
+
+use std::alloc::Global;
+use std::mem;
+use tg_base::Memory;
+
+/// The numbers below a number, in rising order.
+pub(crate) fn numbers(alloc: Global, count: u32) -> Result<Vec<u32>, Memory>
+    ensures { IfOk result (λ v. v.items ≡ range_with_len 0 count) }
+{
+    let mut list = Vec::with_capacity(alloc, count as usize)?;
+    for number in 0..count {
+        list.push(number)?;
+    }
+    Ok(list)
+}
+
+/// As many empty lists. They take no memory of their own.
+pub(crate) fn empty_lists(alloc: Global, count: u32) -> Result<Vec<Vec<u32>>, Memory>
+    ensures { IfOk result (λ v. lists_of v.items ≡ replicate count []) }
+{
+    let mut lists = Vec::with_capacity(alloc, count as usize)?;
+    for _ in 0..count {
+        lists.push(Vec::new(alloc))?;
+    }
+    Ok(lists)
+}
+
+/// For each number below a number a list of it alone.
+pub(crate) fn singletons(alloc: Global, count: u32) -> Result<Vec<Vec<u32>>, Memory>
+    ensures { IfOk result (λ v. lists_of v.items ≡ lists_by.singletons count) }
+{
+    let mut lists = Vec::with_capacity(alloc, count as usize)?;
+    for number in 0..count {
+        lists.push(singleton(alloc, number)?)?;
+    }
+    Ok(lists)
+}
+
+fn singleton(alloc: Global, number: u32) -> Result<Vec<u32>, Memory>
+    ensures { IfOk result (λ v. v.items ≡ number ∷ []) }
+{
+    let mut list = Vec::with_capacity(alloc, 1)?;
+    list.push(number)?;
+    Ok(list)
+}
+
+/// Puts a number last in one of the lists.
+pub(crate) fn push_to(lists: &mut Vec<Vec<u32>>, at: u32, number: u32) -> Result<(), Memory>
+    requires { at < length lists.old.items }
+    ensures ok { OnOk result
+        (lists_of lists.new.items ≡ pushed at number (lists_of lists.old.items)) }
+    ensures err { OnErr result (lists_of lists.new.items ≡ lists_of lists.old.items) }
+{
+    let list = &mut lists[at as usize];
+    list.push(number)?;
+    Ok(())
+}
+
+/// Puts all numbers of the list at `from` behind those of the list at `to`, and leaves none there.
+pub(crate) fn pour(lists: &mut Vec<Vec<u32>>, to: u32, from: u32) -> Result<(), Memory>
+    requires first { to < length lists.old.items }
+    requires second { from < length lists.old.items }
+    ensures ok { OnOk result
+        (lists_of lists.new.items ≡ poured to from (lists_of lists.old.items)) }
+    ensures err { OnErr result (lists_of lists.new.items ≡ lists_of lists.old.items) }
+{
+    let moved = take_list(lists, from)?;
+    if extend_list(lists, to, &moved).is_err() {
+        lists[from as usize] = moved;
+        return Err(Memory);
+    }
+    Ok(())
+}
+
+/// Takes one of the lists out, and leaves an empty one in its place.
+fn take_list(lists: &mut Vec<Vec<u32>>, at: u32) -> Result<Vec<u32>, Memory>
+    requires { at < length lists.old.items }
+    ensures taken { IfOk result (λ v. v.items ≡ list_at (lists_of lists.old.items) at) }
+    ensures left { OnOk result
+        (lists_of lists.new.items ≡ slice_set (lists_of lists.old.items) at []) }
+    ensures err { OnErr result (lists_of lists.new.items ≡ lists_of lists.old.items) }
+{
+    let list = &mut lists[at as usize];
+    Ok(mem::try_take(list)?)
+}
+
+/// Puts numbers behind those of one of the lists.
+fn extend_list(lists: &mut Vec<Vec<u32>>, at: u32, more: &[u32]) -> Result<(), Memory>
+    requires { at < length lists.old.items }
+    ensures ok { OnOk result
+        (lists_of lists.new.items ≡
+        (let lists = lists_of lists.old.items in
+        slice_set lists at (list_at lists at ++ more.now))) }
+    ensures err { OnErr result (lists_of lists.new.items ≡ lists_of lists.old.items) }
+{
+    let list = &mut lists[at as usize];
+    list.extend_from_slice(more)?;
+    Ok(())
+}
+
+/// Adds the number at one place to that at another, and leaves 0 there.
+pub(crate) fn move_sum(sums: &mut [u32], to: u32, from: u32)
+    requires first { to < length sums.old }
+    requires second { from < length sums.old }
+    requires few { sum sums.old < 2 ^ 32 }
+    ensures { sums.new ≡ lists_by.moved_sum to from sums.old }
+{
+    let more = sums[from as usize];
+    sums[from as usize] = 0;
+    sums[to as usize] += more;
+}

@@ -1,0 +1,61 @@
+ghost use Rattle.std.specs.Prelude.{◌≡◌, ◌<◌, ◌≤◌, ℕ, IsTrue, OnOk};
+ghost use Rattle.tg_graph.specs.Interference.{colours, is_among, neighbours};
+ghost use Rattle.tg_coalesce.specs.Steps.{bereft, simplified, taken_out};
+ghost use Rattle.tg_coalesce.specs.Works.{degree_at, is_open};
+
+use crate::states::{Coalescer, is_register};
+use tg_base::Memory;
+use tg_graph::{COLOURS, Worklist};
+use tg_rounds::Step;
+
+impl Coalescer {
+    /// The step Simplify.
+    pub(crate) fn simplify(&mut self, node: u32) -> Result<(), Memory>
+        requires node { node < self.old.graph.nodes }
+        requires temporary { colours ≤ node }
+        requires counted { (z : ℕ) →
+            IsTrue (is_among z (neighbours self.old.graph node)) → IsTrue (is_open self.old z) →
+            0 < degree_at self.old z }
+        ensures { OnOk result (self.new ≡ simplified node self.old) }
+    {
+        self.take_out(node)?;
+        self.steps.push(Step::Simplify(node))?;
+        Ok(())
+    }
+
+    /// Takes a temporary out of the graph.
+    pub(crate) fn take_out(&mut self, node: u32) -> Result<(), Memory>
+        requires node { node < self.old.graph.nodes }
+        requires temporary { colours ≤ node }
+        requires counted { (z : ℕ) →
+            IsTrue (is_among z (neighbours self.old.graph node)) → IsTrue (is_open self.old z) →
+            0 < degree_at self.old z }
+        ensures { OnOk result (self.new ≡ taken_out node self.old) }
+    {
+        self.lists.move_to(node, Worklist::Stacked);
+        self.stack.push(node)?;
+        for place in 0..self.graph.degree(node) {
+            let other = self.graph.neighbours(node)[place as usize];
+            self.lose_neighbour(other)?;
+        }
+        Ok(())
+    }
+
+    /// Counts one neighbour less of a node, if it is a temporary that remains. Where that makes it
+    /// low, the moves of its neighbours are tried again (`EnableMoves`, for these alone).
+    pub(crate) fn lose_neighbour(&mut self, node: u32) -> Result<(), Memory>
+        requires node { node < self.old.graph.nodes }
+        requires counted { IsTrue (is_open self.old node) → 0 < degree_at self.old node }
+        ensures { OnOk result (self.new ≡ bereft self.old node) }
+    {
+        if is_register(node) || !self.remains(node) {
+            return Ok(());
+        }
+        self.degrees[node as usize] -= 1;
+        if self.degrees[node as usize] == COLOURS - 1 {
+            self.relist(node);
+            self.wake_around(node)?;
+        }
+        Ok(())
+    }
+}
