@@ -16,4 +16,5 @@ mod stages;
 pub use allocating::allocate;
 pub use allocations::{Allocation, Home, Homes, Rounds};
 pub use frames::in_frame;
+pub use painting::register_of;
 pub use laws::code_stays_short;
