@@ -14,6 +14,7 @@ use tg_instr::{Allocated, Code, Instrs};
 use tg_rounds::{Round, SpillPolicy};
 
 /// The code by now, with the slot of each original temporary that has one.
+#[derive(Drop)]
 struct Stage {
     code: Code,
     homes: Vec<Option<u32>>,
