@@ -4,3 +4,4 @@ pub mod InFrame
 pub mod Rewriting
 pub mod Painting
 pub mod Rounds
+pub mod Allocations

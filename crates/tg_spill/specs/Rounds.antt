@@ -62,3 +62,16 @@ module _ (rule : Rule) (originals : ℕ) where
     None ↦ home_by (slots + length (slotted originals round)) (round' ∷ rounds) t,
     Some k ↦ Slot k
   ]
+
+-- the last of some rounds; of none, a round of nothing
+abbrev pub last_round : List Round → Round
+last_round [] = record {
+  moves = [];
+  steps = [];
+  states = [];
+  aliases = [];
+  colours = [];
+  spilled = [];
+}
+last_round (round ∷ []) = round
+last_round (round ∷ round' ∷ rounds) = last_round (round' ∷ rounds)
