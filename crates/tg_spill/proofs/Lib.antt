@@ -4,3 +4,5 @@ mod Keeping
 mod Making
 mod Naming
 mod Registers
+mod Replacing
+mod Rewritten

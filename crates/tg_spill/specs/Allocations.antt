@@ -42,6 +42,6 @@ module _ (rule : Rule) (code : Code) (frame : Frame) (a : Allocation) where
   pub record IsAllocation : Type 0 where
     pub end : Stage
     pub rounds : AreRounds rule code.temps (first_stage code frame) a.rounds end
-    pub frame : HasFrame frame a
+    pub has_frame : HasFrame frame a
     pub coloured : IsFalse a.all_in_frame → IsColoured end
     pub in_frame : IsTrue a.all_in_frame → IsAllInFrame

@@ -26,6 +26,11 @@ colour_in colours t = colour_or_first (slice_index_or colours t None)
 abbrev pub register_of : (colour : ℕ) → ℕ
 register_of c = slice_index_or colours c 0
 
+-- a move from a register to itself
+abbrev pub is_idle : Instr → Bool
+is_idle (Move (Reg r) (Reg q)) = r == q
+is_idle _ = false
+
 -- The colour of each temporary.
 module _ (colour : ℕ → ℕ) where
   abbrev pub painted : Opnd → Opnd
@@ -40,11 +45,6 @@ module _ (colour : ℕ → ℕ) where
   instruction_painted one =
       renamed one (painted_named (named one).to) (painted_named (named one).first)
       (painted_named (named one).second)
-
-  -- a move from a register to itself
-  abbrev pub is_idle : Instr → Bool
-  is_idle (Move (Reg r) (Reg q)) = r == q
-  is_idle _ = false
 
   abbrev pub code_painted : List Instr → List Instr
   code_painted list = filter (λ one. not (is_idle one)) (map instruction_painted list)

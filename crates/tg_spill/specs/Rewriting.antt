@@ -1,7 +1,7 @@
 -- The code behind a round that spills (George and Appel 1996, section 4; Appel, chapter 11): what
 -- uses a temporary that went to a slot loads it before into a temporary of its own, and what defines
 -- one stores it behind from a temporary of its own.
-use Rattle.std.specs.Prelude.{ℕ, ◌+◌, ◌≡◌, nat_eq, nat_lt, Option, Some, None, List, [], ◌∷◌, ◌++◌}
+use Rattle.std.specs.Prelude.{ℕ, ◌+◌, ◌≡◌, nat_eq, nat_lt, Bool, Option, Some, None, List, [], ◌∷◌, ◌++◌}
 use Rattle.std.specs.Prelude.{filter, length, slice_index_or}
 use Rattle.std.specs.List.{position}
 use Rattle.std.specs.Option.{option_map}
@@ -43,14 +43,21 @@ abbrev pub in_slot : (temp : ℕ) → Opnd → Option ℕ → Placed
 in_slot temp x None = staying x
 in_slot temp x (Some k) = record { operand = Temp (record { 0 = temp }); slot = Some k }
 
-abbrev pub loads : Placed → List Instr
-loads p = elim p.slot [ None ↦ [], Some k ↦ FrameLoad p.operand k ∷ [] ]
+abbrev pub loads : Opnd → (slot : Option ℕ) → List Instr
+loads x None = []
+loads x (Some k) = FrameLoad x k ∷ []
 
-abbrev pub stores : Placed → List Instr
-stores p = elim p.slot [ None ↦ [], Some k ↦ FrameStore p.operand k ∷ [] ]
+abbrev pub stores : Opnd → (slot : Option ℕ) → List Instr
+stores x None = []
+stores x (Some k) = FrameStore x k ∷ []
+
+-- the temporaries that are made for it
+abbrev pub drawn_for : (slot : Option ℕ) → ℕ
+drawn_for None = 0
+drawn_for (Some k) = 1
 
 abbrev pub drawn : Placed → ℕ
-drawn p = elim p.slot [ None ↦ 0, Some k ↦ 1 ]
+drawn p = drawn_for p.slot
 
 -- The slot of each temporary that has one, and the number of the next temporary to be made: they
 -- are numbered in the order of the text and, within one instruction, of its operands.
@@ -79,8 +86,8 @@ module _ (slot_of : ℕ → Option ℕ) where
       let to = target one next in
       let first = first_use one next in
       let second = second_use one next in
-      loads first ++ (loads second ++
-      (renamed one to.operand first.operand second.operand ∷ stores to))
+      loads first.operand first.slot ++ (loads second.operand second.slot ++
+      (renamed one to.operand first.operand second.operand ∷ stores to.operand to.slot))
 
   abbrev pub code_rewritten : List Instr → ℕ → List Instr
   code_rewritten [] next = []

@@ -28,7 +28,7 @@ module _ (rule : Rule) (originals : ℕ) where
   pub record IsRoundOf (s : Stage) (round : Round) : Type 0 where
     pub graph : Interference
     pub exact : IsInterference s.list s.temps graph
-    pub round : IsRound
+    pub run : IsRound
         (problem (graph_of graph) (moves_of s.list) (marks_of s.list s.temps originals) rule) round
 
   abbrev pub slots_of : Stage → Round → ℕ → Option ℕ
@@ -59,7 +59,7 @@ module _ (rule : Rule) (originals : ℕ) where
   home_by slots [] t = Colour 0
   home_by slots (round ∷ []) t = Colour (colour_of round t)
   home_by slots (round ∷ round' ∷ rounds) t = elim (slot_after originals slots round t) [
-    None ↦ home_by (slots + length (slotted originals round)) (round' ∷ rounds) t,
+    None ↦ home_by (slots + length (slotted originals round)) (round' ∷ rounds) t |
     Some k ↦ Slot k
   ]
 

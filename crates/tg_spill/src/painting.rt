@@ -1,9 +1,10 @@
 ghost use Rattle.std.specs.Prelude.{◌≡◌, ◌<◌, ◌≤◌, ◌++◌, ◌∷◌, [], IfOk, IsTrue, OnOk, length, cond};
-ghost use Rattle.tg_instr.specs.Codes.{has_temps_below};
+ghost use Rattle.tg_instr.specs.Codes.{has_temps_below, is_below};
 ghost use Rattle.tg_spill.specs.Below.{is_option_below};
 ghost use Rattle.tg_spill.specs.Painting.{
   code_painted,
   colour_in,
+  colour_or_first,
   instruction_painted,
   is_idle,
   painted,
@@ -78,9 +79,18 @@ fn paint_named(colours: &[Option<u8>], one: Option<Opnd>) -> Opnd
     ensures { result ≡ painted_named (colour_in colours.now) one }
 {
     match one {
-        Some(Opnd::Temp(temp)) => Opnd::Reg(register_of(colour_or_first(colours[temp.0 as usize]))),
-        Some(Opnd::Reg(reg)) => Opnd::Reg(reg),
+        Some(one) => paint_operand(colours, one),
         None => Opnd::Reg(Reg::ZERO),
+    }
+}
+
+fn paint_operand(colours: &[Option<u8>], one: Opnd) -> Opnd
+    requires { IsTrue (is_below (length colours.now) one) }
+    ensures { result ≡ painted (colour_in colours.now) one }
+{
+    match one {
+        Opnd::Temp(temp) => Opnd::Reg(register_of(colour_or_first(colours[temp.0 as usize]))),
+        Opnd::Reg(_) => one,
     }
 }
 

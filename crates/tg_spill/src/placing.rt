@@ -1,5 +1,6 @@
 ghost use Rattle.std.specs.Prelude.{◌≡◌, ◌<◌, ◌+◌, ◌++◌, ◌^◌, IsTrue, OnOk, length};
 ghost use Rattle.tg_instr.specs.declared.operands.Opnd.TheVariants.{Temp as TempOf};
+ghost use Rattle.tg_instr.specs.Codes.{is_below};
 ghost use Rattle.tg_spill.specs.Below.{is_option_below};
 ghost use Rattle.tg_spill.specs.Rewriting.{drawn, in_slot, loads, placed, slot_in, staying, stores};
 
@@ -28,7 +29,7 @@ impl Placed {
 
     /// Puts the load before the instruction, where the operand has a slot.
     pub fn put_load(self, list: &mut Vec<Instr>) -> Result<(), Memory>
-        ensures { OnOk result (list.new.items ≡ list.old.items ++ loads self) }
+        ensures { OnOk result (list.new.items ≡ list.old.items ++ loads self.operand self.slot) }
     {
         match self.slot {
             Some(slot) => push_instr(list, Instr::FrameLoad(self.operand, slot)),
@@ -38,7 +39,7 @@ impl Placed {
 
     /// Puts the store behind the instruction, where the operand has a slot.
     pub fn put_store(self, list: &mut Vec<Instr>) -> Result<(), Memory>
-        ensures { OnOk result (list.new.items ≡ list.old.items ++ stores self) }
+        ensures { OnOk result (list.new.items ≡ list.old.items ++ stores self.operand self.slot) }
     {
         match self.slot {
             Some(slot) => push_instr(list, Instr::FrameStore(self.operand, slot)),
@@ -56,9 +57,20 @@ pub fn place(slots: &[Option<u32>], one: Option<Opnd>, next: &mut u32) -> Placed
     ensures next { next.new ≡ next.old + drawn result }
 {
     match one {
-        Some(Opnd::Temp(temp)) => place_temp(temp, slots[temp.0 as usize], next),
-        Some(Opnd::Reg(reg)) => Placed::staying(Opnd::Reg(reg)),
+        Some(one) => place_operand(slots, one, next),
         None => Placed::staying(Opnd::Reg(Reg::ZERO)),
+    }
+}
+
+fn place_operand(slots: &[Option<u32>], one: Opnd, next: &mut u32) -> Placed
+    requires below { IsTrue (is_below (length slots.now) one) }
+    requires room { next.old + 1 < 2 ^ 32 }
+    ensures placed { result ≡ placed (slot_in slots.now) (Some one) next.old }
+    ensures next { next.new ≡ next.old + drawn result }
+{
+    match one {
+        Opnd::Temp(temp) => place_temp(temp, slots[temp.0 as usize], next),
+        Opnd::Reg(_) => Placed::staying(one),
     }
 }
 
