@@ -53,16 +53,6 @@ module _ (rule : Rule) (originals : ℕ) where
         AreRounds (next_stage s round) rounds t →
         AreRounds s (round ∷ rounds) t
 
-  -- The home of an original: the slot of the first round that spilled its class, else its colour in
-  -- the last.
-  abbrev pub home_by : (slots : ℕ) → List Round → (temp : ℕ) → Home
-  home_by slots [] t = Colour 0
-  home_by slots (round ∷ []) t = Colour (colour_of round t)
-  home_by slots (round ∷ round' ∷ rounds) t = elim (slot_after originals slots round t) [
-    None ↦ home_by (slots + length (slotted originals round)) (round' ∷ rounds) t |
-    Some k ↦ Slot k
-  ]
-
 -- the last of some rounds; of none, a round of nothing
 abbrev pub last_round : List Round → Round
 last_round [] = record {
@@ -75,3 +65,14 @@ last_round [] = record {
 }
 last_round (round ∷ []) = round
 last_round (round ∷ round' ∷ rounds) = last_round (round' ∷ rounds)
+
+-- The home of an original: the slot of the first round that spilled its class, else its colour in
+-- the last.
+abbrev pub home_by : (originals slots : ℕ) → List Round → (temp : ℕ) → Home
+home_by originals slots [] t = Colour 0
+home_by originals slots (round ∷ []) t = Colour (colour_of round t)
+home_by originals slots (round ∷ round' ∷ rounds) t =
+    elim (slot_after originals slots round t) [
+      None ↦ home_by originals (slots + length (slotted originals round)) (round' ∷ rounds) t |
+      Some k ↦ Slot k
+    ]
