@@ -3,6 +3,7 @@ mod Examples
 mod Keeping
 mod Making
 mod Naming
+mod Painted
 mod Registers
 mod Replacing
 mod Rewritten

@@ -86,7 +86,7 @@ impl Stage {
         rounds: Vec<Round>,
     ) -> Result<Allocation, Memory> {
         let colours = &round.colours.as_slice()[COLOURS as usize..];
-        let list = paint(alloc, &self.code, colours)?;
+        let list = paint(alloc, self.code.list.as_slice(), colours)?;
         let registers = homes_of(alloc, &self.homes, colours)?;
         let slots = self.slots - frame.slots;
         let mut frame = frame;

@@ -1,4 +1,5 @@
 ghost use Rattle.std.specs.Prelude.{◌≡◌, ◌<◌, ◌≤◌, ◌++◌, ◌∷◌, [], IfOk, IsTrue, OnOk, length, cond};
+ghost use Rattle.std.specs.List.{list_all};
 ghost use Rattle.tg_instr.specs.Codes.{has_temps_below, is_below};
 ghost use Rattle.tg_spill.specs.Below.{is_option_below};
 ghost use Rattle.tg_spill.specs.Painting.{
@@ -14,7 +15,7 @@ ghost use Rattle.tg_spill.specs.Painting.{
 
 use std::alloc::Global;
 use tg_base::Memory;
-use tg_instr::{Code, Instr, Opnd, push_instr};
+use tg_instr::{Instr, Opnd, push_instr};
 use tg_isa::Reg;
 
 /// The register of a colour, by its place in the order `$v0 $v1`, `$a0` to `$a3`, `$t0` to `$t9`,
@@ -31,15 +32,14 @@ pub fn register_of(colour: u8) -> Reg
     }
 }
 
-/// The instructions of a code with the register of its colour in the place of each temporary,
-/// without moves from a register to itself. `colours` has one for each temporary.
-pub fn paint(alloc: Global, code: &Code, colours: &[Option<u8>]) -> Result<Vec<Instr>, Memory>
-    requires { length colours.now ≡ code.now.temps }
-    ensures { IfOk result (λ list.
-        list.items ≡ code_painted (colour_in colours.now) code.now.list) }
+/// Instructions with the register of its colour in the place of each temporary, without moves from
+/// a register to itself. `colours` has one for each temporary.
+pub fn paint(alloc: Global, code: &[Instr], colours: &[Option<u8>]) -> Result<Vec<Instr>, Memory>
+    requires { IsTrue (list_all (has_temps_below (length colours.now)) code.now) }
+    ensures { IfOk result (λ list. list.items ≡ code_painted (colour_in colours.now) code.now) }
 {
     let mut list = Vec::new(alloc);
-    for one in code.list.as_slice() {
+    for one in code.iter() {
         put_painted(&mut list, colours, one)?;
     }
     Ok(list)

@@ -10,6 +10,7 @@ ghost use Rattle.std.specs.Prelude.{
   OnOk,
   length,
 };
+ghost use Rattle.std.specs.List.{list_all};
 ghost use Rattle.tg_instr.specs.Codes.{has_temps_below};
 ghost use Rattle.tg_spill.specs.Rewriting.{
   code_rewritten,
@@ -33,15 +34,31 @@ pub fn rewrite(alloc: Global, code: &Code, slots: &[Option<u32>]) -> Result<Code
     ensures temps { IfOk result (λ next.
         next.temps ≡ temps_after (slot_in slots.now) code.now.list code.now.temps) }
 {
-    let mut list = Vec::new(alloc);
     let mut next = code.temps;
-    for one in code.list.as_slice() {
-        put_rewritten(&mut list, slots, &mut next, one)?;
-    }
+    let list = instructions(alloc, code.list.as_slice(), slots, &mut next)?;
     Ok(Code {
         list: Instrs::from_vec(list),
         temps: next,
     })
+}
+
+fn instructions(
+    alloc: Global,
+    code: &[Instr],
+    slots: &[Option<u32>],
+    next: &mut u32,
+) -> Result<Vec<Instr>, Memory>
+    requires below { IsTrue (list_all (has_temps_below (length slots.now)) code.now) }
+    requires room { next.old + 3 * length code.now < 2 ^ 32 }
+    ensures list { IfOk result (λ list.
+        list.items ≡ code_rewritten (slot_in slots.now) code.now next.old) }
+    ensures next { OnOk result (next.new ≡ temps_after (slot_in slots.now) code.now next.old) }
+{
+    let mut list = Vec::new(alloc);
+    for one in code.iter() {
+        put_rewritten(&mut list, slots, next, one)?;
+    }
+    Ok(list)
 }
 
 /// Puts an instruction with its loads and stores at the end of a list.
@@ -61,8 +78,9 @@ fn put_rewritten(
     let to = place(slots, named.to, next);
     let first = place(slots, named.first, next);
     let second = place(slots, named.second, next);
+    let (target, left, right) = (to.operand, first.operand, second.operand);
     first.put_load(list)?;
     second.put_load(list)?;
-    push_instr(list, one.renamed(to.operand, first.operand, second.operand))?;
+    push_instr(list, one.renamed(target, left, right))?;
     to.put_store(list)
 }
