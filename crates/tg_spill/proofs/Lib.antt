@@ -7,3 +7,5 @@ mod Painted
 mod Registers
 mod Replacing
 mod Rewritten
+mod RewrittenBelow
+mod Slots

@@ -9,7 +9,7 @@ use Rattle.tg_rounds.specs.Policies.{Rule}
 use Rattle.tg_spill.specs.declared.allocations.Allocation.{Allocation}
 use Rattle.tg_spill.specs.InFrame.{code_in_frame, homes_from}
 use Rattle.tg_spill.specs.Painting.{code_painted, colour_of}
-use Rattle.tg_spill.specs.Rounds.{Stage, AreRounds, home_by, last_round}
+use Rattle.tg_spill.specs.Rounds.{Stage, stage_of, AreRounds, home_by, last_round}
 
 -- the frame that was handed in, with slots added
 pub record HasFrame (frame : Frame) (a : Allocation) : Type 0 where
@@ -18,9 +18,6 @@ pub record HasFrame (frame : Frame) (a : Allocation) : Type 0 where
   pub params : a.done.frame.params ≡ frame.params
   pub temps : a.done.frame.temps ≡ frame.temps
   pub out : a.done.frame.out ≡ frame.out
-
-abbrev pub first_stage : Code → Frame → Stage
-first_stage code frame = record { list = code.list; temps = code.temps; slots = frame.slots }
 
 module _ (rule : Rule) (code : Code) (frame : Frame) (a : Allocation) where
   -- every temporary that is left has a colour
@@ -41,7 +38,7 @@ module _ (rule : Rule) (code : Code) (frame : Frame) (a : Allocation) where
 
   pub record IsAllocation : Type 0 where
     pub end : Stage
-    pub rounds : AreRounds rule code.temps (first_stage code frame) a.rounds end
+    pub rounds : AreRounds rule code.temps (stage_of code frame.slots) a.rounds end
     pub has_frame : HasFrame frame a
     pub coloured : IsFalse a.all_in_frame → IsColoured end
     pub in_frame : IsTrue a.all_in_frame → IsAllInFrame

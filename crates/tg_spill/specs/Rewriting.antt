@@ -24,11 +24,14 @@ is_original originals x = nat_lt x (25 + originals)
 abbrev pub slotted : (originals : ℕ) → Round → List ℕ
 slotted originals round = filter (is_original originals) round.spilled
 
--- the slots are taken in that order, from `base` on, by all members of a class alike
+-- the slot of a class among those that take slots in their order, from `base` on
+abbrev pub slot_by : (classes : List ℕ) → (base class : ℕ) → Option ℕ
+slot_by classes base x = option_map (λ k. base + k) (position (nat_eq x) classes)
+
+-- the slots are taken in that order by all members of a class alike
 abbrev pub slot_after : (originals base : ℕ) → Round → (temp : ℕ) → Option ℕ
 slot_after originals base round t =
-    option_map (λ k. base + k)
-    (position (nat_eq (slice_index_or round.aliases (25 + t) 0)) (slotted originals round))
+    slot_by (slotted originals round) base (slice_index_or round.aliases (25 + t) 0)
 
 -- the slot of a temporary, by a list of them
 abbrev pub slot_in : List (Option ℕ) → (temp : ℕ) → Option ℕ

@@ -3,6 +3,7 @@
 -- code loads and stores.
 use Rattle.std.specs.Prelude.{◌≡◌, ◌≢◌, ℕ, ◌+◌, Bool, List, [], ◌∷◌, length, Option, Some, None}
 use Rattle.tg_instr.specs.declared.instr.Instr.{Instr}
+use Rattle.tg_instr.specs.declared.codes.Code.{Code}
 use Rattle.tg_graph.specs.Interference.{Interference}
 use Rattle.tg_rounds.specs.declared.rounds.Round.{Round}
 use Rattle.tg_rounds.specs.Policies.{Rule}
@@ -22,6 +23,9 @@ pub record Stage : Type 0 where
   pub list : List Instr
   pub temps : ℕ
   pub slots : ℕ
+
+abbrev pub stage_of : Code → (slots : ℕ) → Stage
+stage_of code slots = record { list = code.list; temps = code.temps; slots = slots }
 
 -- by a policy's rule, with so many temporaries in the code that was handed in
 module _ (rule : Rule) (originals : ℕ) where

@@ -66,7 +66,9 @@ impl Stage {
 
     /// Behind a round that gives slots to these classes.
     fn spill(self, alloc: Global, round: &Round, classes: &[u32]) -> Result<Stage, Memory> {
-        let slots = slots_of(alloc, self.slots, round, classes)?;
+        let aliases = round.aliases.as_slice();
+        let temps = &aliases[COLOURS as usize..];
+        let slots = slots_of(alloc, self.slots, aliases.len(), temps, classes)?;
         let code = rewrite(alloc, &self.code, &slots)?;
         let mut homes = self.homes;
         fill_homes(&mut homes, &slots);

@@ -1,14 +1,26 @@
-ghost use Rattle.std.specs.Prelude.{◌≡◌, ◌<◌, ◌≤◌, ◌+◌, ◌*◌, ◌^◌, IfOk, length, map};
-ghost use Rattle.std.specs.List.{range_with_len};
-ghost use Rattle.tg_interference.specs.Nodes.{most_temps};
-ghost use Rattle.tg_spill.specs.Rewriting.{slot_after, slotted};
+ghost use Rattle.std.specs.Prelude.{
+  ◌≡◌,
+  ◌<◌,
+  ◌≤◌,
+  ◌+◌,
+  ◌^◌,
+  ℕ,
+  All,
+  IfOk,
+  filter,
+  length,
+  map,
+  nat_lt,
+  slice_index_or,
+};
+ghost use Rattle.tg_spill.specs.Rewriting.{slot_by, slotted};
+ghost use Rattle.tg_spill.specs.Rounds.{IsRoundOf, stage_of};
 
-use crate::rewriting::rewrite;
 use std::alloc::Global;
 use tg_base::Memory;
 use tg_coalesce::color;
 use tg_graph::COLOURS;
-use tg_instr::{Code, Instrs};
+use tg_instr::Code;
 use tg_interference::{interference, marks_of, moves_of};
 use tg_live::{flow, live};
 use tg_rounds::{Round, SpillPolicy};
@@ -27,6 +39,9 @@ pub fn color_code(
     originals: u32,
     policy: &mut dyn SpillPolicy,
 ) -> Result<Round, Memory>
+    ensures round { IfOk result (λ round.
+        IsRoundOf (rule policy.old) originals (stage_of code.now 0) round) }
+    ensures same { rule policy.new ≡ rule policy.old }
 {
     let list = code.list.as_slice();
     if code.temps > MOST_TEMPS || list.len() > MOST_INSTRUCTIONS {
@@ -42,30 +57,43 @@ pub fn color_code(
 
 /// The spilled classes that hold an original, by the nodes under which they stand.
 pub fn slotted(alloc: Global, originals: u32, round: &Round) -> Result<Vec<u32>, Memory>
+    requires { originals < 2 ^ 31 }
+    ensures { IfOk result (λ classes. classes.items ≡ slotted originals round.now) }
 {
-    let mut classes = Vec::new(alloc);
-    for node in round.spilled.as_slice() {
-        if *node < COLOURS + originals {
-            classes.push(*node)?;
-        }
-    }
-    Ok(classes)
+    originals_of(alloc, COLOURS + originals, round.spilled.as_slice())
 }
 
-/// The slot of each temporary whose class went to one: the classes take slots in their order, from
-/// `base` on.
+/// The nodes below a number.
+fn originals_of(alloc: Global, end: u32, nodes: &[u32]) -> Result<Vec<u32>, Memory>
+    ensures { IfOk result (λ some. some.items ≡ filter (λ x. nat_lt x end) nodes.now) }
+{
+    let mut some = Vec::new(alloc);
+    for node in nodes.iter() {
+        if *node < end {
+            some.push(*node)?;
+        }
+    }
+    Ok(some)
+}
+
+/// The slot of each temporary whose class went to one, by the nodes under which the temporaries'
+/// classes stand: the classes take slots in their order, from `base` on.
 pub fn slots_of(
     alloc: Global,
     base: u32,
-    round: &Round,
+    nodes: usize,
+    aliases: &[u32],
     classes: &[u32],
 ) -> Result<Vec<Option<u32>>, Memory>
+    requires aliases { All (λ x. x < nodes) aliases.now }
+    requires classes { All (λ x. x < nodes) classes.now }
+    requires room { base + length classes.now < 2 ^ 32 }
+    ensures { IfOk result (λ slots. slots.items ≡ map (slot_by classes.now base) aliases.now) }
 {
-    let aliases = round.aliases.as_slice();
-    let table = class_slots(alloc, base, aliases.len(), classes)?;
+    let table = class_slots(alloc, base, nodes, classes)?;
     let mut slots = Vec::new(alloc);
-    for node in COLOURS as usize..aliases.len() {
-        slots.push(table[aliases[node] as usize])?;
+    for class in aliases.iter() {
+        slots.push(table[*class as usize])?;
     }
     Ok(slots)
 }
@@ -77,6 +105,11 @@ fn class_slots(
     nodes: usize,
     classes: &[u32],
 ) -> Result<Vec<Option<u32>>, Memory>
+    requires classes { All (λ x. x < nodes) classes.now }
+    requires room { base + length classes.now < 2 ^ 32 }
+    ensures size { IfOk result (λ table. length table.items ≡ nodes) }
+    ensures each { IfOk result (λ table. (x : ℕ) → x < nodes →
+        slice_index_or table.items x None ≡ slot_by classes.now base x) }
 {
     let mut table = vec![in alloc; None; nodes]?;
     for at in (0..classes.len()).rev() {
