@@ -8,4 +8,6 @@ mod Registers
 mod Replacing
 mod Rewritten
 mod RewrittenBelow
+mod RoundsOf
+mod Sizes
 mod Slots

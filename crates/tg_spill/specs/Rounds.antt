@@ -1,7 +1,8 @@
 -- The rounds of an allocation (George and Appel 1996, section 4): each is a round on the
 -- interference graph of its code, and each but the last spills originals, to whose slots the next
 -- code loads and stores.
-use Rattle.std.specs.Prelude.{◌≡◌, ◌≢◌, ℕ, ◌+◌, Bool, List, [], ◌∷◌, length, Option, Some, None}
+use Rattle.std.specs.Prelude.{◌≡◌, ◌≢◌, ℕ, ◌+◌, Bool, List, [], ◌∷◌, length, map, Option, Some, None}
+use Rattle.std.specs.List.{range_with_len}
 use Rattle.tg_instr.specs.declared.instr.Instr.{Instr}
 use Rattle.tg_instr.specs.declared.codes.Code.{Code}
 use Rattle.tg_graph.specs.Interference.{Interference}
@@ -15,8 +16,8 @@ use Rattle.tg_interference.specs.Marks.{marks_of}
 use Rattle.tg_coalesce.specs.Standing.{graph_of}
 use Rattle.tg_spill.specs.declared.allocations.Home.{Home}
 use Rattle.tg_spill.specs.declared.allocations.Home.TheVariants.{Colour, Slot}
-use Rattle.tg_spill.specs.Rewriting.{slotted, slot_after, code_rewritten, temps_after}
-use Rattle.tg_spill.specs.Painting.{colour_of}
+use Rattle.tg_spill.specs.Rewriting.{slotted, slot_after, slot_in, code_rewritten, temps_after}
+use Rattle.tg_spill.specs.Painting.{colour_of, colour_in}
 
 -- a code between rounds: its instructions and temporaries, and the frame's next slot
 pub record Stage : Type 0 where
@@ -69,6 +70,16 @@ last_round [] = record {
 }
 last_round (round ∷ []) = round
 last_round (round ∷ round' ∷ rounds) = last_round (round' ∷ rounds)
+
+-- in a slot, or else in a colour
+abbrev pub home_in : Option ℕ → (colour : ℕ) → Home
+home_in None c = Colour c
+home_in (Some k) c = Slot k
+
+-- by a list of slots and one of colours
+abbrev pub homes_in : List (Option ℕ) → List (Option ℕ) → List Home
+homes_in slots colours =
+    map (λ t. home_in (slot_in slots t) (colour_in colours t)) (range_with_len 0 (length slots))
 
 -- The home of an original: the slot of the first round that spilled its class, else its colour in
 -- the last.

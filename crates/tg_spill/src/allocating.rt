@@ -1,5 +1,12 @@
-ghost use Rattle.std.specs.Prelude.{◌≡◌, ◌<◌, ◌+◌, ◌*◌, ◌^◌, IsTrue, IfOk};
+ghost use Rattle.std.specs.Prelude.{[], ◌≡◌, ◌<◌, ◌≤◌, ◌++◌, ◌∷◌, ℕ, IsTrue, IfOk, length};
 ghost use Rattle.std.specs.List.{list_all};
+ghost use Rattle.std.specs.Option.{option_or};
+ghost use Rattle.tg_instr.specs.Codes.{has_slots_below};
+ghost use Rattle.tg_spill.specs.Allocations.{HasFrame};
+ghost use Rattle.tg_spill.specs.Conditions.{is_fixed, names_registers};
+ghost use Rattle.tg_spill.specs.InFrame.{code_in_frame, homes_from};
+ghost use Rattle.tg_spill.specs.Rewriting.{slot_in};
+ghost use Rattle.tg_spill.specs.Rounds.{homes_in};
 
 use crate::allocations::{Allocation, Home, Homes, Rounds};
 use crate::frames::in_frame;
@@ -119,6 +126,16 @@ fn all_in_frame(
     round: Round,
     rounds: Vec<Round>,
 ) -> Result<Allocation, Memory>
+    requires slots { frame.slots < 16777216 }
+    requires temps { code.now.temps < 16777216 }
+    requires registers { IsTrue (list_all (names_registers is_fixed) code.now.list) }
+    requires slots_below { IsTrue (list_all (has_slots_below frame.slots) code.now.list) }
+    ensures code { IfOk result (λ a. a.done.code.list ≡ code_in_frame frame.slots code.now.list) }
+    ensures frame { IfOk result (λ a. HasFrame frame a) }
+    ensures homes { IfOk result (λ a. a.registers ≡ homes_from frame.slots code.now.temps) }
+    ensures slots { IfOk result (λ a. a.slots ≡ code.now.temps) }
+    ensures rounds { IfOk result (λ a. a.rounds ≡ rounds.items ++ round ∷ []) }
+    ensures all { IfOk result (λ a. IsTrue a.all_in_frame) }
 {
     let mut rounds = rounds;
     rounds.push(round)?;
@@ -129,6 +146,9 @@ fn all_in_frame(
 
 /// Gives each original that has no slot yet the one that it has now.
 fn fill_homes(homes: &mut [Option<u32>], slots: &[Option<u32>])
+    requires { length homes.old ≤ length slots.now }
+    ensures { (t : ℕ) → t < length homes.old →
+        slot_in homes.new t ≡ option_or (slot_in homes.old t) (slot_in slots.now t) }
 {
     for at in 0..homes.len() {
         if homes[at].is_none() {
@@ -139,6 +159,8 @@ fn fill_homes(homes: &mut [Option<u32>], slots: &[Option<u32>])
 
 /// The home of each original: its slot, or else its colour.
 fn homes_of(alloc: Global, slots: &[Option<u32>], colours: &[Option<u8>]) -> Result<Homes, Memory>
+    requires { length slots.now ≤ length colours.now }
+    ensures { IfOk result (λ homes. homes ≡ homes_in slots.now colours.now) }
 {
     let mut homes = Vec::new(alloc);
     for at in 0..slots.len() {
