@@ -6,7 +6,8 @@ ghost use Rattle.tg_spill.specs.Allocations.{HasFrame};
 ghost use Rattle.tg_spill.specs.Conditions.{is_fixed, names_registers};
 ghost use Rattle.tg_spill.specs.InFrame.{code_in_frame, homes_from};
 ghost use Rattle.tg_spill.specs.Rewriting.{slot_in};
-ghost use Rattle.tg_spill.specs.Rounds.{homes_in};
+ghost use Rattle.tg_spill.specs.Painting.{colour_or_first as colour_or_first_of};
+ghost use Rattle.tg_spill.specs.Rounds.{home_in, homes_in};
 
 use crate::allocations::{Allocation, Home, Homes, Rounds};
 use crate::frames::in_frame;
@@ -164,10 +165,16 @@ fn homes_of(alloc: Global, slots: &[Option<u32>], colours: &[Option<u8>]) -> Res
 {
     let mut homes = Vec::new(alloc);
     for at in 0..slots.len() {
-        homes.push(match slots[at] {
-            Some(slot) => Home::Slot(slot),
-            None => Home::Colour(colour_or_first(colours[at])),
-        })?;
+        homes.push(home_of(slots[at], colours[at]))?;
     }
     Ok(Homes::from_vec(homes))
+}
+
+fn home_of(slot: Option<u32>, colour: Option<u8>) -> Home
+    ensures { result ≡ home_in slot (colour_or_first_of colour) }
+{
+    match slot {
+        Some(slot) => Home::Slot(slot),
+        None => Home::Colour(colour_or_first(colour)),
+    }
 }
