@@ -1,6 +1,6 @@
 mod Counts
 mod Examples
-mod Keeping
+mod Framed
 mod Making
 mod Naming
 mod Painted

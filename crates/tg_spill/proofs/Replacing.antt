@@ -150,3 +150,13 @@ around one x y z before after h k e =
           (both_hold (leads_to_marks into (renamed one x y z)) _ (leads_renamed all into same one x y z l) (accesses_lead into after k));
       end = e;
     }
+
+-- accesses alone stand for a move
+pub by_accesses : (to from : Opnd) (xs : List Instr) → IsTrue (list_all is_access xs) → Replaces (Move to from) xs
+by_accesses to from xs h =
+    record {
+      marks = λ m. marks_of_accesses m xs h;
+      differ = λ rest. differ_behind_accesses xs rest h;
+      leads = λ all into same l. accesses_lead into xs h;
+      end = λ e. cc;
+    }
