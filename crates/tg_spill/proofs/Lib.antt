@@ -8,6 +8,7 @@ mod Registers
 mod Replacing
 mod Rewritten
 mod RewrittenBelow
+mod RoundExamples
 mod RoundsOf
 mod Sizes
 mod Slots
