@@ -1,3 +1,4 @@
+mod Alike
 mod Counts
 mod Examples
 mod Framed
