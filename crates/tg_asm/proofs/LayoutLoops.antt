@@ -4,7 +4,7 @@ use Rattle.std.specs.Borrow.{Bor}
 use Rattle.std.proofs.lemmas.List.{drop_all}
 use Rattle.tg_isa.specs.declared.keywords.AsmRule.{AsmRule}
 use Rattle.tg_isa.specs.Items as items
-use Rattle.tg_isa.specs.Assembly.{Layout, Spot, spot_of, add_label, add_new, add_one, add_labels}
+use Rattle.tg_isa.specs.Assembly.{Layout, LabelTarget, spot_of, add_label, add_new, add_one, add_labels}
 use Rattle.tg_asm.specs.Layouts.{IsSmall}
 use Rattle.tg_asm.specs.Cuts.{texts}
 use Rattle.tg_asm.specs.Means.{datum_of}
@@ -50,7 +50,7 @@ ok_inside : (l m : Layout) → ◌≡◌ {A = Result Layout AsmRule} (Ok l) (Ok 
 ok_inside l m e = ap (layout_in l) e
 
 -- labels take no room of the segments
-new_small : (l m : Layout) (name : List ℕ) (s : Option Spot) → add_new l name s ≡ Ok m → IsSmall l → IsSmall m
+new_small : (l m : Layout) (name : List ℕ) (s : Option LabelTarget) → add_new l name s ≡ Ok m → IsSmall l → IsSmall m
 new_small l m name (Some s) e k = cc
 new_small l m name None e k = subst IsSmall (ok_inside (add_label l name) m e) k
 

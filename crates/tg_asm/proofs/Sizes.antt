@@ -4,9 +4,9 @@ use Rattle.std.specs.Prelude.{nat_le}
 use Rattle.std.proofs.lemmas.List.{length-replicate}
 use Rattle.tg_isa.specs.declared.keywords.AsmRule.{AsmRule}
 use Rattle.tg_isa.specs.Lines.{lines}
-use Rattle.tg_isa.specs.Items.{Item, Nothing, Section, Words, Data', Coded, Datum, Value, Place, Single, Bytes, Zeros, width, widths}
+use Rattle.tg_isa.specs.Items.{Item, Nothing, Section, Words, Data', Coded, Datum, Value, AddressOfLabel, Single, Bytes, Zeros, width, widths}
 use Rattle.tg_base.specs.State.{most_words, most_bytes}
-use Rattle.tg_isa.specs.Assembly.{Layout, Spot, Reading, Made, blank, unmade, spot_of, add_label, add_new, add_one, add_labels, add_words, add_data, add_item, add_reading, add_line, layout, round_up, word, make_words, address_of, datum_bytes, place_bytes, make_data, pad, make_item, make_reading, make_line, make, reading}
+use Rattle.tg_isa.specs.Assembly.{Layout, LabelTarget, Reading, Made, blank, unmade, spot_of, add_label, add_new, add_one, add_labels, add_words, add_data, add_item, add_reading, add_line, layout, round_up, word, make_words, address_of, datum_bytes, place_bytes, make_data, pad, make_item, make_reading, make_line, make, reading}
 
 -- the segment is the same, and there are as many words and bytes
 pub record Even (l : Layout) (m : Made) : Type 0 where
@@ -20,7 +20,7 @@ pub record Alike (l k : Layout) : Type 0 where
   pub words : l.words ≡ k.words
   pub size : l.size ≡ k.size
 
-new_alike : (l k : Layout) (name : List ℕ) (s : Option Spot) → add_new l name s ≡ Ok k → Alike l k
+new_alike : (l k : Layout) (name : List ℕ) (s : Option LabelTarget) → add_new l name s ≡ Ok k → Alike l k
 new_alike l k name (Some s) e = cc
 new_alike l k name None e =
     let same : add_label l name ≡ k = cc in
@@ -78,7 +78,7 @@ place_wide (Err q) b e = cc
 
 datum_wide : (l : Layout) (d : Datum) (b : List ℕ) → datum_bytes l d ≡ Ok b → length b ≡ width d
 datum_wide l (Value n) b e = same_bytes _ b e
-datum_wide l (Place label) b e = place_wide (address_of l (spot_of l label)) b e
+datum_wide l (AddressOfLabel label) b e = place_wide (address_of l (spot_of l label)) b e
 datum_wide l (Single n) b e = same_bytes _ b e
 datum_wide l (Bytes bytes) b e = same_bytes _ b e
 datum_wide l (Zeros n) b e = same_bytes _ b e ∙ length-replicate n 0

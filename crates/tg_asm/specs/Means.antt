@@ -12,7 +12,8 @@ use Rattle.tg_asm.specs.declared.items.Coded.TheVariants.{Fixed, Branch, Jump, U
 use Rattle.tg_asm.specs.declared.items.Words.{Words}
 use Rattle.tg_asm.specs.declared.items.Words.TheVariants.{One, Two}
 use Rattle.tg_asm.specs.declared.items.Datum.{Datum}
-use Rattle.tg_asm.specs.declared.items.Datum.TheVariants.{Value, Place, Single, Bytes, Zeros}
+use Rattle.tg_asm.specs.declared.items.Datum.TheVariants.{Value, AddressOfLabel, Single, Bytes}
+use Rattle.tg_asm.specs.declared.items.Datum.TheVariants.{Zeros}
 use Rattle.tg_asm.specs.declared.items.Align.{Align}
 use Rattle.tg_asm.specs.declared.items.Align.TheVariants as one
 use Rattle.tg_asm.specs.declared.items.Item.{Item}
@@ -31,7 +32,7 @@ words_of (Two c d) = coded_of c ∷ coded_of d ∷ []
 
 abbrev pub datum_of : Datum → items.Datum
 datum_of (Value n) = items.Value (signed_of n)
-datum_of (Place label) = items.Place label.now
+datum_of (AddressOfLabel label) = items.AddressOfLabel label.now
 datum_of (Single n) = items.Single (signed_of n)
 datum_of (Bytes bytes) = items.Bytes bytes.items
 datum_of (Zeros n) = items.Zeros n

@@ -8,7 +8,7 @@ use crate::faults::AsmFault;
 use crate::layouts::{Layout, lay_out};
 use crate::makers::address;
 use crate::making::make;
-use crate::spots::Spot;
+use crate::spots::LabelTarget;
 use std::alloc::Global;
 use tg_base::{Bytes, Words};
 use tg_isa::{AsmRule, Image};
@@ -18,7 +18,10 @@ fn entry(layout: &Layout) -> Option<u32>
     ensures { result ≡ assembly.entry (layout_of layout.now) }
 {
     match layout.labels.find(b"main") {
-        Some(Spot::InCode(at)) if at < layout.words => Some(address(layout, Spot::InCode(at))),
+        Some(LabelTarget::InCode(at)) if at < layout.words => Some(address(
+            layout,
+            LabelTarget::InCode(at),
+        )),
         _ => None,
     }
 }

@@ -70,7 +70,7 @@ pub(crate) enum Datum<'a> {
     /// A number in four bytes.
     Value(Signed),
     /// A label's place in four bytes.
-    Place(&'a [u8]),
+    AddressOfLabel(&'a [u8]),
     /// A number in one byte.
     Single(Signed),
     /// Bytes.
@@ -184,7 +184,7 @@ fn read_datum<'a>(keyword: Keyword, operand: Operand<'a>) -> Option<Datum<'a>>
         (_, Some(number)) => Some(Datum::Value(number)),
         (_, None) => {
             if is_label(text) {
-                Some(Datum::Place(text))
+                Some(Datum::AddressOfLabel(text))
             } else {
                 None
             }

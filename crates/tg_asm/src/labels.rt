@@ -2,7 +2,7 @@ ghost use Rattle.std.specs.Prelude.{◌≡◌, ◌++◌, ◌∷◌, [], None, On
 ghost use Rattle.tg_isa.specs.Assembly.{spot_among};
 ghost use Rattle.tg_asm.specs.Spots.{found_spot, spot_of};
 
-use crate::spots::Spot;
+use crate::spots::LabelTarget;
 use indexmap::IndexMap;
 use std::alloc::Global;
 use std::marker::Model;
@@ -12,7 +12,7 @@ use tg_base::Memory;
 /// the text.
 #[derive(Drop)]
 pub(crate) struct Labels {
-    spots: IndexMap<Vec<u8>, Spot>,
+    spots: IndexMap<Vec<u8>, LabelTarget>,
 }
 
 impl Model for Labels {
@@ -20,7 +20,7 @@ impl Model for Labels {
     ghost use Rattle.tg_isa.specs.Assembly as assembly;
     ghost use Rattle.tg_asm.specs.Entries.{entries_of};
 
-    ghost Value = { List (List ℕ × assembly.Spot) };
+    ghost Value = { List (List ℕ × assembly.LabelTarget) };
 
     ghost view = { λ l. entries_of l.spots.entries };
 }
@@ -36,14 +36,14 @@ impl Labels {
     }
 
     /// The spot of a label.
-    pub(crate) fn find(&self, name: &[u8]) -> Option<Spot>
+    pub(crate) fn find(&self, name: &[u8]) -> Option<LabelTarget>
         ensures { found_spot result ≡ spot_among self.now name.now }
     {
         self.spots.get(name).copied()
     }
 
     /// Adds a label that isn't there yet.
-    pub(crate) fn add(&mut self, name: &[u8], spot: Spot) -> Result<(), Memory>
+    pub(crate) fn add(&mut self, name: &[u8], spot: LabelTarget) -> Result<(), Memory>
         requires { spot_among self.old name.now ≡ None }
         ensures { OnOk result (self.new ≡ self.old ++ (name.now, spot_of spot) ∷ []) }
     {

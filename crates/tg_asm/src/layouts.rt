@@ -14,7 +14,7 @@ use crate::faults::{AsmFault, Refused};
 use crate::items::{Align, Datum, Item, Words};
 use crate::labels::Labels;
 use crate::readings::{Reading, read_line};
-use crate::spots::Spot;
+use crate::spots::LabelTarget;
 use std::alloc::Global;
 use tg_base::{MOST_BYTES, MOST_WORDS};
 use tg_isa::{AsmRule, Segment};
@@ -40,7 +40,7 @@ fn width(datum: &Datum<'_>) -> u64
 {
     match datum {
         Datum::Value(_) => 4,
-        Datum::Place(_) => 4,
+        Datum::AddressOfLabel(_) => 4,
         Datum::Single(_) => 1,
         Datum::Bytes(bytes) => bytes.len() as u64,
         Datum::Zeros(count) => u64::from(*count),
@@ -83,13 +83,13 @@ impl Layout {
     }
 
     /// The place of the next item of the segment in force.
-    fn next_spot(&self) -> Spot
+    fn next_spot(&self) -> LabelTarget
         ensures { spot_of result
             ≡ assembly.next_spot (layout_of self.now) self.now.segment }
     {
         match self.segment {
-            Segment::Code => Spot::InCode(self.words),
-            Segment::Statics => Spot::InStatics(self.starts.len()),
+            Segment::Code => LabelTarget::InCode(self.words),
+            Segment::Statics => LabelTarget::InStatics(self.starts.len()),
         }
     }
 

@@ -7,17 +7,17 @@ ghost use Rattle.tg_asm.specs.Spots.{found_spot, spot_of};
 
 use crate::items::Coded;
 use crate::layouts::Layout;
-use crate::spots::Spot;
+use crate::spots::LabelTarget;
 use tg_base::{CODE_BASE, STATICS_BASE, add, mul};
 use tg_isa::{AsmRule, Bits, Mips, Reg, encode};
 
 /// The place of a spot.
-pub(crate) fn address(layout: &Layout, spot: Spot) -> u32
+pub(crate) fn address(layout: &Layout, spot: LabelTarget) -> u32
     ensures { result ≡ assembly.address (layout_of layout.now) (spot_of spot) }
 {
     match spot {
-        Spot::InCode(at) => add(CODE_BASE, mul(4, at)),
-        Spot::InStatics(at) => {
+        LabelTarget::InCode(at) => add(CODE_BASE, mul(4, at)),
+        LabelTarget::InStatics(at) => {
             if at < layout.starts.len() {
                 add(STATICS_BASE, layout.starts[at])
             } else {
@@ -90,8 +90,8 @@ fn branch_to(layout: &Layout, one: Mips, at: usize, label: &[u8]) -> Result<u32,
         (assembly.spot_of (layout_of layout.now) label.now) }
 {
     match layout.labels.find(label) {
-        Some(Spot::InCode(to)) => branch_word(one, at, to),
-        Some(Spot::InStatics(_)) => Err(AsmRule::A6),
+        Some(LabelTarget::InCode(to)) => branch_word(one, at, to),
+        Some(LabelTarget::InStatics(_)) => Err(AsmRule::A6),
         None => Err(AsmRule::A5),
     }
 }
@@ -102,14 +102,14 @@ fn jump_to(layout: &Layout, one: Mips, label: &[u8]) -> Result<u32, AsmRule>
         (assembly.spot_of (layout_of layout.now) label.now) }
 {
     match layout.labels.find(label) {
-        Some(Spot::InCode(to)) => {
+        Some(LabelTarget::InCode(to)) => {
             if to < layout.words {
                 Ok(encode(&with_target(one, Bits::new(1048576 + to))))
             } else {
                 Err(AsmRule::A6)
             }
         }
-        Some(Spot::InStatics(_)) => Err(AsmRule::A6),
+        Some(LabelTarget::InStatics(_)) => Err(AsmRule::A6),
         None => Err(AsmRule::A5),
     }
 }

@@ -95,7 +95,7 @@ impl Made {
     {
         match datum {
             Datum::Value(number) => self.add_bytes(&word_bytes(number.field32())),
-            Datum::Place(label) => match place_of(layout, *label) {
+            Datum::AddressOfLabel(label) => match place_of(layout, *label) {
                 Ok(place) => self.add_bytes(&word_bytes(place)),
                 Err(rule) => Err(Refused::Rule(rule)),
             },

@@ -6,23 +6,23 @@ use Rattle.tg_base.specs.declared.ends.RunEnd.{RunEnd}
 use Rattle.tg_base.specs.declared.ends.RunEnd.TheVariants.{Exit, HeapFull, BadAddress, BadService}
 use Rattle.tg_base.specs.Words.{signed}
 use Rattle.std.specs.Fmt.{signed_decimal}
-use Rattle.tg_base.specs.State.{State, heap_base, register, set_register, load_byte}
+use Rattle.tg_base.specs.State.{MachineState, heap_base, register, set_register, load_byte}
 
 -- What one step does: it goes on in a state, ends, asks for a byte of input and goes on in a state
 -- with the answer,
 -- or writes bytes and then goes on in a state.
 pub data Step : Type 0 where
-  Goes : State → Step
+  Goes : MachineState → Step
   Ends : RunEnd → Step
-  Reads : State → Step
-  Writes : List ℕ → State → Step
+  Reads : MachineState → Step
+  Writes : List ℕ → MachineState → Step
 
 -- a number of bytes, rounded up to words
 abbrev pub whole_words : ℕ → ℕ
 whole_words n = (n + 3) / 4 * 4
 
 -- service 9: more bytes of heap
-abbrev pub take_heap : State → ℕ → Step
+abbrev pub take_heap : MachineState → ℕ → Step
 take_heap s n =
     if nat_lt s.room (length s.heap + n) then Ends HeapFull else
     Goes (set_register (record s { heap = s.heap ++ replicate n 0 }) 2 (heap_base + length s.heap))
@@ -34,7 +34,7 @@ before b (Err e) = Err e
 
 -- service 4: the bytes from an address on, up to a 0 byte, at most so many; or how the first load
 -- that isn't served ends
-abbrev pub text_from : ℕ → State → ℕ → Result (List ℕ) RunEnd
+abbrev pub text_from : ℕ → MachineState → ℕ → Result (List ℕ) RunEnd
 text_from zero s a = Err (BadAddress a)
 text_from (suc n) s a =
     elim (load_byte s a) as (λ _. Result (List ℕ) RunEnd) [
@@ -46,15 +46,15 @@ text_from (suc n) s a =
     ]
 
 -- no text is longer than the memory
-abbrev pub text_at : State → ℕ → Result (List ℕ) RunEnd
+abbrev pub text_at : MachineState → ℕ → Result (List ℕ) RunEnd
 text_at s a = text_from (length s.statics + length s.heap + length s.stack + 1) s a
 
-abbrev pub write_text : State → Result (List ℕ) RunEnd → Step
+abbrev pub write_text : MachineState → Result (List ℕ) RunEnd → Step
 write_text s (Ok bytes) = Writes bytes s
 write_text s (Err e) = Ends e
 
 -- the service that $v0 names, with its argument in $a0, in a state whose place is the next one
-abbrev pub service : State → Step
+abbrev pub service : MachineState → Step
 service s =
     let asked = register s 2 in
     let argument = register s 4 in
@@ -68,6 +68,6 @@ service s =
     Ends (BadService asked)
 
 -- service 12: $v0 gets the byte that was read, or -1 at the end of input
-abbrev pub answered : State → Option ℕ → State
+abbrev pub answered : MachineState → Option ℕ → MachineState
 answered s (Some b) = set_register s 2 b
 answered s None = set_register s 2 4294967295

@@ -133,8 +133,8 @@ in_turn all = record { statement = Seq all.list; least = all.least; greatest = a
 
 -- Expressions.
 
--- what is left of an expression, a flat one or a call or service of flat ones, behind what is lifted
--- out of it
+-- what is left of an expression, a flat one or a call or service of flat ones, behind what is
+-- lifted out of it
 pub record Lifted : Type 0 where
   pub front : Part
   pub rest : Tx
@@ -180,8 +180,8 @@ word m = do
   a ← m
   hold_side (is_side a.rest) a
 
--- whether an expression gives the same word behind a part: it reads no memory, and no temporary that
--- the part assigns
+-- whether an expression gives the same word behind a part: it reads no memory, and no temporary
+-- that the part assigns
 abbrev pub stays : Part → Tx → Bool
 stays p (Const _) = true
 stays p (Address _) = true
@@ -299,8 +299,8 @@ abbrev pub exit_where : (when : Bool) → (loops : ℕ) → Tested → Part
 exit_where true k t = choice t (still (Break k)) (still nothing)
 exit_where false k t = choice t (still nothing) (still (Break k))
 
--- Where a condition is tested part by part: the first statement stands in two loops behind the test,
--- which leaves the inner one where it fails, and the second in the outer one behind that.
+-- Where a condition is tested part by part: the first statement stands in two loops behind the
+-- test, which leaves the inner one where it fails, and the second in the outer one behind that.
 abbrev pub wide_choice : Part → (this other : Part) → Part
 wide_choice test p q = block (loop_of (test before p before still (Break 1)) before q)
 

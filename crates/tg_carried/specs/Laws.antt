@@ -29,8 +29,8 @@ added_room = canon.added_room
 abbrev pub most_added_room : ℕ
 most_added_room = 256
 
--- Flat code does what the trees did: each run of them that doesn't go wrong is one of the code, with
--- at least as much fuel, the same output, input left and end, and hardly more work.
+-- Flat code does what the trees did: each run of them that doesn't go wrong is one of the code,
+-- with at least as much fuel, the same output, input left and end, and hardly more work.
 abbrev pub TreesArePreserved : Type 0
 TreesArePreserved =
     (code : Code Ts) (size : ℕ → ℕ) (floor room body : ℕ) (input : List ℕ) →

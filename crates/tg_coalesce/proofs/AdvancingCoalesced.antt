@@ -8,7 +8,7 @@ use Rattle.std.proofs.lemmas.List.{get_or-set_same, get_or-set_other}
 use Rattle.std.proofs.lemmas.List.Elements.{filter_agree}
 use Rattle.std.proofs.lemmas.List.Sums.{sum_by-cons}
 use Rattle.tg_rounds.specs.Graphs.{Set, every}
-use Rattle.tg_rounds.specs.States.{Problem, State, mark_at, all_made}
+use Rattle.tg_rounds.specs.States.{Problem, RoundState, mark_at, all_made}
 use Rattle.tg_rounds.proofs.Deciding.{clash, never, same_node, same_test}
 use Rattle.tg_coalesce.specs.Groupings.{is_made}
 use Rattle.tg_coalesce.specs.Works.{Work, is_left, alias_of}
@@ -53,7 +53,7 @@ every_both S T (suc n) =
 module _ (g : Problem) (w : Work) (h : IsOrderly w) (run : IsRunOf g w) (kept gone : ℕ) (l : kept < w.graph.nodes)
     (m : gone < w.graph.nodes) (d : kept ≢ gone) (kept_left : is_left w.lists kept ≡ true)
     (gone_left : is_left w.lists gone ≡ true) where
-  abbrev s : State
+  abbrev s : RoundState
   s = state_of w
 
   abbrev pub alias_then : ℕ → ℕ

@@ -6,7 +6,7 @@ use Rattle.std.proofs.lemmas.Bool.{cases_eq, ltb-true, ltb-false}
 use Rattle.tg_rounds.specs.declared.moves.MoveState.{MoveState}
 use Rattle.tg_rounds.specs.declared.moves.MoveState.TheVariants.{Coalesced}
 use Rattle.tg_rounds.specs.Graphs.{bit, count, without}
-use Rattle.tg_rounds.specs.States.{Problem, State, problem, low}
+use Rattle.tg_rounds.specs.States.{Problem, RoundState, problem, low}
 use Rattle.tg_rounds.specs.States as states
 use Rattle.tg_rounds.specs.Steps.{can_move, after, settle, merge}
 use Rattle.tg_rounds.specs.Degrees.{degree_of}
@@ -39,7 +39,7 @@ use Rattle.tg_coalesce.proofs.AdvancingSafe.{possible}
 
 module _ (i : ℕ) (w : Work) (h : IsOrderly w) (first : slice_get w.moves.ready 0 ≡ Some i) (kept gone : ℕ)
     (c : Coalesces w i kept gone) where
-  abbrev s : State
+  abbrev s : RoundState
   s = state_of w
 
   module _ (lists : Lists) (shifts : IsShifted w.lists lists)
@@ -79,7 +79,7 @@ module _ (i : ℕ) (w : Work) (h : IsOrderly w) (first : slice_get w.moves.ready
         more =
             ap (λ t. degree_of (shown w) (merge (shown w) t kept gone) kept) state_once
             ∙ (merged_is_more (shown w) s i kept gone (not (is_register kept)) (sound w (moves_of w h)) (possible i w h first kept gone c)
-            ∙ sym (ap (λ (t : State). degree_of (shown w) t kept +
+            ∙ sym (ap (λ (t : RoundState). degree_of (shown w) t kept +
             count (λ z. t.remaining z && interferes w.graph gone z && not (interferes w.graph kept z)) w.graph.nodes)
             state_once));
       }

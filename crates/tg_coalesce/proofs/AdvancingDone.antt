@@ -9,7 +9,7 @@ use Rattle.std.proofs.lemmas.List.FromFn.{length-range_with_len, get_or-range_wi
 use Rattle.tg_rounds.specs.declared.moves.MoveState.{MoveState}
 use Rattle.tg_rounds.specs.declared.moves.MoveState.TheVariants.{Ready}
 use Rattle.tg_rounds.specs.Graphs.{some}
-use Rattle.tg_rounds.specs.States.{Problem, State, start, remains, is_ready_or_waiting}
+use Rattle.tg_rounds.specs.States.{Problem, RoundState, start, remains, is_ready_or_waiting}
 use Rattle.tg_rounds.specs.States as states
 use Rattle.tg_rounds.specs.Steps.{can_move, is_over}
 use Rattle.tg_rounds.specs.Selection.{select}
@@ -47,7 +47,7 @@ is_nil : (xs : List ℕ) → is_empty xs ≡ true → xs ≡ []
 is_nil xs e = nil_from_length xs (same_node (length xs) 0 e)
 
 module _ (g : Problem) (w : Work) (h : IsOrderly w) (run : IsRunOf g w) (done : is_done w ≡ true) where
-  abbrev s : State
+  abbrev s : RoundState
   s = state_of w
 
   empty : (w.lists.simplify ≡ []) × (w.moves.ready ≡ []) × (w.lists.freeze ≡ []) × (w.lists.spill ≡ [])
@@ -119,11 +119,11 @@ module _ (g : Problem) (w : Work) (h : IsOrderly w) (run : IsRunOf g w) (done : 
     moves = run.moves;
     steps = run.steps;
     over = subst (λ t. is_over g t ≡ true) run.state over;
-    states = states_told ∙ ap (λ (t : State). listed (length g.moves) t.states) run.state;
-    aliases = aliases_told ∙ ap (λ (t : State). listed g.graph.nodes t.alias) run.state;
+    states = states_told ∙ ap (λ (t : RoundState). listed (length g.moves) t.states) run.state;
+    aliases = aliases_told ∙ ap (λ (t : RoundState). listed g.graph.nodes t.alias) run.state;
     colours = colours_told
-        ∙ ap (λ (t : State). listed g.graph.nodes (λ x. (select g t).colour (t.alias x))) run.state;
-    spilled = spilled_same g w h run ∙ ap (λ (t : State). (select g t).spilled) run.state;
+        ∙ ap (λ (t : RoundState). listed g.graph.nodes (λ x. (select g t).colour (t.alias x))) run.state;
+    spilled = spilled_same g w h run ∙ ap (λ (t : RoundState). (select g t).spilled) run.state;
   }
 
 pub done_is_round : DoneIsRound

@@ -10,7 +10,7 @@ use Rattle.tg_rounds.specs.declared.moves.MoveState.{MoveState}
 use Rattle.tg_rounds.specs.declared.moves.MoveState.TheVariants.{Ready}
 use Rattle.tg_rounds.specs.declared.steps.Step.{Step}
 use Rattle.tg_rounds.specs.Graphs.{Set, bit, count}
-use Rattle.tg_rounds.specs.States.{State, remains, is_ready_or_waiting}
+use Rattle.tg_rounds.specs.States.{RoundState, remains, is_ready_or_waiting}
 use Rattle.tg_rounds.specs.States as states
 use Rattle.tg_rounds.specs.Steps.{can, after}
 use Rattle.tg_rounds.specs.Laws.{work_left}

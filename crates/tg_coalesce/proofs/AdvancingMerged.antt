@@ -7,7 +7,7 @@ use Rattle.std.proofs.lemmas.List.{get_or_past, get_or_default}
 use Rattle.tg_rounds.specs.declared.moves.MoveState.{MoveState}
 use Rattle.tg_rounds.specs.Graphs.{Set, bit, count, degree, without}
 use Rattle.tg_rounds.specs.Graphs as graphs
-use Rattle.tg_rounds.specs.States.{State}
+use Rattle.tg_rounds.specs.States.{RoundState}
 use Rattle.tg_rounds.specs.Steps.{merge, can_move}
 use Rattle.tg_rounds.specs.Laws.{is_stacked}
 use Rattle.tg_rounds.specs.Degrees.{degree_of}
@@ -35,10 +35,10 @@ use Rattle.tg_coalesce.proofs.AdvancingMerging.{MayMerge, IsMerged, one, one_lis
 use Rattle.tg_coalesce.proofs.AdvancingMerging.{one_there, still_left, one_fixed, neighbour_below}
 
 module _ (w : Work) (h : IsOrderly w) (kept gone : ℕ) (may : MayMerge w kept gone) where
-  abbrev s : State
+  abbrev s : RoundState
   s = state_of w
 
-  abbrev after : State
+  abbrev after : RoundState
   after = merge (shown w) s kept gone
 
   -- how the definition changes degrees

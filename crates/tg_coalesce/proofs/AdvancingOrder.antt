@@ -6,7 +6,7 @@ use Rattle.std.proofs.lemmas.Bool.{ltb-true, lt-ltb}
 use Rattle.std.proofs.lemmas.List.{get_or_default}
 use Rattle.tg_rounds.specs.declared.moves.Move.{Move}
 use Rattle.tg_rounds.specs.Graphs.{bit}
-use Rattle.tg_rounds.specs.States.{Problem, State, remains, is_move_related, touches, is_ready_or_waiting, low}
+use Rattle.tg_rounds.specs.States.{Problem, RoundState, remains, is_move_related, touches, is_ready_or_waiting, low}
 use Rattle.tg_rounds.specs.States as states
 use Rattle.tg_rounds.specs.Laws.{IsSound}
 use Rattle.tg_rounds.proofs.Deciding.{both, and_true, either, or_left, or_right}

@@ -4,7 +4,7 @@ use Rattle.std.proofs.Common.{refl, sym, ap, subst, ◌∙◌, arith, ⊎_elim}
 use Rattle.std.specs.Prelude.{◌==◌, nat_lt, if◌then◌else◌}
 use Rattle.std.proofs.lemmas.Bool.{lt-ltb, ltb-false}
 use Rattle.tg_rounds.specs.Graphs.{Set, bit, count, is_register}
-use Rattle.tg_rounds.specs.States.{State, low}
+use Rattle.tg_rounds.specs.States.{RoundState, low}
 use Rattle.tg_rounds.specs.Degrees.{degree_of}
 use Rattle.tg_rounds.specs.Steps.{allows, george, briggs, high_neighbours}
 use Rattle.tg_rounds.specs.Steps as steps
@@ -39,7 +39,7 @@ is_spill true false = refl
 is_spill false c = refl
 
 module _ (w : Work) (h : IsOrderly w) where
-  abbrev s : State
+  abbrev s : RoundState
   s = state_of w
 
   -- a node that remains and is high

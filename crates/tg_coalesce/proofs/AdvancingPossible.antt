@@ -3,7 +3,7 @@ use Rattle.std.proofs.Common.{◌≡◌, ℕ, ◌<◌, Bool, true, false, not, �
 use Rattle.std.specs.Prelude.{◌==◌, nat_lt, IsFalse}
 use Rattle.tg_rounds.specs.declared.steps.Step.TheVariants.{Simplify, Freeze}
 use Rattle.tg_rounds.specs.declared.moves.Move.{Move}
-use Rattle.tg_rounds.specs.States.{Problem, State, problem, remains, is_move_related, low}
+use Rattle.tg_rounds.specs.States.{Problem, RoundState, problem, remains, is_move_related, low}
 use Rattle.tg_rounds.specs.States as states
 use Rattle.tg_rounds.specs.Steps.{can, can_move}
 use Rattle.tg_rounds.specs.Degrees.{degree_of}

@@ -3,7 +3,7 @@ use Rattle.std.proofs.Common.{◌≡◌, ℕ, ◌<◌, true, [], ◌∷◌, ◌+
 use Rattle.std.specs.Prelude.{sum_by}
 use Rattle.std.proofs.lemmas.List.{get_or_default}
 use Rattle.tg_rounds.specs.declared.steps.Step.{Step}
-use Rattle.tg_rounds.specs.States.{Problem, State, start, members, mark_at, all_made}
+use Rattle.tg_rounds.specs.States.{Problem, RoundState, start, members, mark_at, all_made}
 use Rattle.tg_rounds.specs.Steps.{after, after_all, IsTaken, AreTaken}
 use Rattle.tg_rounds.proofs.Classes.{Holds, holds_at_start, holds_all}
 use Rattle.tg_rounds.proofs.Running.{runs_go_on}
@@ -55,7 +55,7 @@ module _ (g : Problem) (w : Work) (run : IsRunOf g w) where
       made = λ x l. subst (Made x) (sym classes) (run.made x (subst (λ n. x < n) nodes l));
     }
       where
-        with_classes : Grouping → State
+        with_classes : Grouping → RoundState
         with_classes c = record (state_of w) { alias = λ y. get_or c.aliases y y }
 
         Used : ℕ → Grouping → Type 0

@@ -5,7 +5,7 @@ use Rattle.std.specs.Prelude.{◌==◌, nat_lt, slice_get}
 use Rattle.std.specs.Bool.{beq}
 use Rattle.tg_rounds.specs.declared.steps.Step.{Step}
 use Rattle.tg_rounds.specs.declared.steps.Step.TheVariants.{Coalesce}
-use Rattle.tg_rounds.specs.States.{Problem, State, problem, low}
+use Rattle.tg_rounds.specs.States.{Problem, RoundState, problem, low}
 use Rattle.tg_rounds.specs.States as states
 use Rattle.tg_rounds.specs.Steps.{can, can_move, after, settle, merge, is_safe, stands_under}
 use Rattle.tg_rounds.specs.Steps as steps
@@ -34,7 +34,7 @@ module _ (i : ℕ) (w : Work) (h : IsOrderly w) (first : slice_get w.moves.ready
   abbrev pub step : Step
   step = Coalesce i kept gone (not (is_register kept))
 
-  abbrev s : State
+  abbrev s : RoundState
   s = state_of w
 
   abbrev l : i < length w.moves.moves

@@ -9,7 +9,7 @@ use Rattle.std.proofs.lemmas.List.{get_or-map, get_or-set_same, get_or-set_other
 use Rattle.std.proofs.lemmas.List.{length-map, length-reverse, get_or-reverse}
 use Rattle.std.proofs.lemmas.List.FromFn.{length-range_with_len, get_or-range_with_len}
 use Rattle.tg_rounds.specs.Graphs.{is_register}
-use Rattle.tg_rounds.specs.States.{Problem, State, members}
+use Rattle.tg_rounds.specs.States.{Problem, RoundState, members}
 use Rattle.tg_rounds.specs.Selection.{Colouring, has_colour, sees, is_free, pop, select}
 use Rattle.tg_rounds.specs.Selection as rounds
 use Rattle.tg_rounds.specs.Laws.{IsOfClasses}
@@ -31,7 +31,7 @@ all_reverse P xs h = λ k d l.
     subst P (sym (get_or-reverse xs k d m)) (h (length xs - 1 - k) d (omega (arith, m)))
 
 module _ (g : Problem) (w : Work) (h : IsOrderly w) (run : IsRunOf g w) where
-  abbrev s : State
+  abbrev s : RoundState
   s = state_of w
 
   of_classes : IsOfClasses g s

@@ -7,7 +7,7 @@ use Rattle.tg_rounds.specs.declared.moves.MoveState.TheVariants.{Frozen}
 use Rattle.tg_rounds.specs.declared.steps.Step.TheVariants.{Spill}
 use Rattle.tg_rounds.specs.Graphs.{some}
 use Rattle.tg_rounds.specs.Policies.{candidate_at}
-use Rattle.tg_rounds.specs.States.{State, low, is_ready_or_waiting}
+use Rattle.tg_rounds.specs.States.{RoundState, low, is_ready_or_waiting}
 use Rattle.tg_rounds.specs.Steps.{can, can_move, freeze, take_out}
 use Rattle.tg_rounds.specs.Laws.{work_left}
 use Rattle.tg_rounds.specs.Waiting.{is_woken}
@@ -125,7 +125,7 @@ module _ (place : ℕ) (w : Work) (h : IsOrderly w) (simplify : w.lists.simplify
         waits_before (is_unsettled w.moves i && is_among i (list_at w.moves.touching x)) (state_at w.moves i)
         (ap is_waiting (sym (b.states i)) ∙ rouses.waiting i waits)
 
-    abbrev turned : State → ℕ → Bool
+    abbrev turned : RoundState → ℕ → Bool
     turned s y =
         some (λ z. (s.remaining z && (take_out (shown w) s x).remaining z && not (low (shown w) s z) &&
         low (shown w) (take_out (shown w) s x) z) && s.pairs z y) w.graph.nodes

@@ -5,7 +5,7 @@ use Rattle.std.specs.Prelude.{if◌then◌else◌}
 use Rattle.std.specs.Bool.{beq}
 use Rattle.tg_rounds.specs.declared.steps.Step.{Step}
 use Rattle.tg_rounds.specs.Graphs.{is_register}
-use Rattle.tg_rounds.specs.States.{Problem, State, start, mark_at, all_made}
+use Rattle.tg_rounds.specs.States.{Problem, RoundState, start, mark_at, all_made}
 use Rattle.tg_rounds.specs.Steps.{after, after_all, AreTaken, stands_under}
 use Rattle.tg_rounds.specs.Laws.{StandsWell}
 use Rattle.tg_rounds.proofs.Deciding.{clash, and_true, or_left, or_right, from_false, tells}
@@ -15,7 +15,7 @@ use Rattle.tg_coalesce.specs.Works.{Work, is_left}
 use Rattle.tg_coalesce.specs.Standing.{state_of, IsOrderly, IsRunOf}
 use Rattle.tg_coalesce.proofs.AdvancingRuns.{own_alias, own_class}
 
-stands_all : (g : Problem) (s : State) (steps : List Step) → StandsWell g s → AreTaken g s steps →
+stands_all : (g : Problem) (s : RoundState) (steps : List Step) → StandsWell g s → AreTaken g s steps →
     StandsWell g (after_all g s steps)
 stands_all g s [] h t = h
 stands_all g s (step ∷ steps) h t = stands_all g (after g s step) steps (stands_after g s step h t.0.possible) t.1

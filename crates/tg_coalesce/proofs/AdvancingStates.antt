@@ -8,7 +8,7 @@ use Rattle.std.proofs.lemmas.List.Sums.{sum_by-set}
 use Rattle.tg_rounds.specs.declared.moves.MoveState.{MoveState}
 use Rattle.tg_rounds.specs.declared.moves.MoveState.TheVariants.{Ready, Waiting, Coalesced, Constrained, Frozen}
 use Rattle.tg_rounds.specs.Graphs.{bit}
-use Rattle.tg_rounds.specs.States.{Problem, State, is_ready_or_waiting}
+use Rattle.tg_rounds.specs.States.{Problem, RoundState, is_ready_or_waiting}
 use Rattle.tg_rounds.specs.States as states
 use Rattle.tg_rounds.specs.Steps.{can_move}
 use Rattle.tg_rounds.proofs.Deciding.{and_false, never, same_node, same_test}
@@ -78,7 +78,7 @@ last_rests Constrained e = refl
 last_rests Frozen e = refl
 
 -- a move that can't be settled can't where some states are others
-pub unmoved : (g : Problem) (s : State) (f : ℕ → MoveState) (i : ℕ) → states.is_unsettled g s i ≡ true →
+pub unmoved : (g : Problem) (s : RoundState) (f : ℕ → MoveState) (i : ℕ) → states.is_unsettled g s i ≡ true →
     can_move g s i ≡ false → can_move g (record s { states = f }) i ≡ false
 unmoved g s f i u e = and_so (states.is_unsettled g (record s { states = f }) i) (and_false _ _ e u)
   where

@@ -10,7 +10,7 @@ use Rattle.tg_rounds.specs.declared.moves.MoveState.TheVariants.{Ready, Waiting,
 use Rattle.tg_rounds.specs.declared.steps.Step.{Step}
 use Rattle.tg_rounds.specs.declared.steps.Step.TheVariants.{Same, Constrain}
 use Rattle.tg_rounds.specs.Graphs.{is_register}
-use Rattle.tg_rounds.specs.States.{Problem, State, is_ready_or_waiting}
+use Rattle.tg_rounds.specs.States.{Problem, RoundState, is_ready_or_waiting}
 use Rattle.tg_rounds.specs.States as states
 use Rattle.tg_rounds.specs.Steps.{can, kind, after, settle}
 use Rattle.tg_rounds.proofs.Deciding.{and_true, or_left, never, from_false, same_node}

@@ -1,6 +1,7 @@
 -- That each step of the code is one of the definition, where it is taken: what the loop over steps
 -- rests on.
-use Rattle.std.specs.Prelude.{◌≡◌, ℕ, ◌+◌, ◌<◌, ◌≤◌, ◌^◌, All, IsTrue, List, [], length, map, sum, Some}
+use Rattle.std.specs.Prelude.{◌≡◌, ℕ, ◌+◌, ◌<◌, ◌≤◌, ◌^◌, All, IsTrue, List, [], length, map, sum}
+use Rattle.std.specs.Prelude.{Some}
 use Rattle.std.specs.Prelude.{slice_get}
 use Rattle.tg_graph.specs.Interference.{Interference, IsGraph, colours, most_nodes}
 use Rattle.tg_rounds.specs.declared.candidates.Mark.{Mark}

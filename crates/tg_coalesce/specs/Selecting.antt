@@ -1,6 +1,8 @@
 -- Select over the merged graph (George and Appel 1996, section 2).
-use Rattle.std.specs.Prelude.{ℕ, ◌<◌, All, IfSome, Bool, not, if◌then◌else◌, Option, Some, None, is_none}
-use Rattle.std.specs.Prelude.{List, [], ◌∷◌, ◌++◌, fold, find, map, reverse, slice_index_or, slice_set}
+use Rattle.std.specs.Prelude.{ℕ, ◌<◌, All, IfSome, Bool, not, if◌then◌else◌, Option, Some, None}
+use Rattle.std.specs.Prelude.{is_none}
+use Rattle.std.specs.Prelude.{List, [], ◌∷◌, ◌++◌, fold, find, map, reverse, slice_index_or}
+use Rattle.std.specs.Prelude.{slice_set}
 use Rattle.std.specs.List.{list_any, range_with_len}
 use Rattle.tg_graph.specs.Interference.{Interference, colours, is_register, neighbours}
 use Rattle.tg_rounds.specs.Selection.{has_colour}

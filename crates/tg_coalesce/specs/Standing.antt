@@ -1,5 +1,6 @@
 -- The work of the code as a state of a round, and what holds of it between steps.
-use Rattle.std.specs.Prelude.{◌≡◌, ℕ, ◌+◌, ◌*◌, ◌<◌, ◌≤◌, ◌==◌, nat_eq, All, nat_lt, Bool, false, not, ◌&&◌}
+use Rattle.std.specs.Prelude.{◌≡◌, ℕ, ◌+◌, ◌*◌, ◌<◌, ◌≤◌, ◌==◌, nat_eq, All, nat_lt, Bool, false}
+use Rattle.std.specs.Prelude.{not, ◌&&◌}
 use Rattle.std.specs.Prelude.{IsTrue, IsFalse, List, [], length, map, reverse, count_by, sum_by}
 use Rattle.std.specs.Prelude.{slice_index, slice_index_or}
 use Rattle.std.specs.List.{IsDistinct}
@@ -13,7 +14,7 @@ use Rattle.tg_rounds.specs.declared.moves.MoveState.{MoveState}
 use Rattle.tg_rounds.specs.declared.moves.MoveState.TheVariants.{Ready, Waiting}
 use Rattle.tg_rounds.specs.declared.rounds.Round.{Round}
 use Rattle.tg_rounds.specs.Graphs.{Graph, IsGraph, bit}
-use Rattle.tg_rounds.specs.States.{Problem, problem, State, start, remains}
+use Rattle.tg_rounds.specs.States.{Problem, problem, RoundState, start, remains}
 use Rattle.tg_rounds.specs.States.{members, mark_at, all_made, is_ready_or_waiting}
 use Rattle.tg_rounds.specs.Steps.{can_move, AreTaken, after_all}
 use Rattle.tg_rounds.specs.Laws.{AreNodes, is_stacked}
@@ -33,7 +34,7 @@ abbrev pub as_told : MoveState → MoveState
 as_told Waiting = Ready
 as_told state = state
 
-abbrev pub state_of : Work → State
+abbrev pub state_of : Work → RoundState
 state_of w = record {
   remaining = λ x. nat_lt x w.graph.nodes && is_left w.lists x;
   pairs = interferes w.graph;

@@ -1,6 +1,7 @@
 -- What the words of a command line ask for.
 use Rattle.std.specs.Prelude.{◌≡◌, ℕ, List, Some, codes, string_bytes}
-use Rattle.tg_command.specs.Counts.{GivesCount, GivesNumber, IsWithin, function_limits, heap_limits, stack_limits, step_limits}
+use Rattle.tg_command.specs.Counts.{GivesCount, GivesNumber, IsWithin, function_limits, heap_limits}
+use Rattle.tg_command.specs.Counts.{stack_limits, step_limits}
 use Rattle.tg_command.specs.Modes.{name_of}
 use Rattle.tg_command.specs.Simple.{IsTaken, value_of}
 use Rattle.tg_command.specs.declared.Command.{Command}
@@ -9,8 +10,8 @@ use Rattle.tg_command.specs.declared.CommandFault.TheVariants.{Usage, Memory}
 use Rattle.tg_command.specs.declared.modes.Mode.{Mode}
 use Rattle.tg_command.specs.declared.modes.Mode.TheVariants.{Gen}
 
--- what a command line can ask for: a mode, a file by its name, the number of functions in `gen`, the
--- bytes of heap and of stack, and the steps
+-- what a command line can ask for: a mode, a file by its name, the number of functions in `gen`,
+-- the bytes of heap and of stack, and the steps
 pub record Asked : Type 0 where
   pub mode : Mode
   pub file : List ℕ

@@ -1,7 +1,8 @@
 -- The simple command `MODE FILE [--heap BYTES] [--stack BYTES] [--steps COUNT]`, as the command
 -- line's parser knows it.
 use Rattle.std.specs.Prelude.{◌≡◌, ◌≤◌, List, [], Option, Some, None, codes, true, false, is_some}
-use Rattle.clap.specs.Words.{App, Rule, Text, new_app, new_rule, rule_of, with_rule, fault_of, first_of, matches_of, first_value, found_of, IsParsedFrom, IsPlainArg}
+use Rattle.clap.specs.Words.{App, Rule, Text, new_app, new_rule, rule_of, with_rule, fault_of}
+use Rattle.clap.specs.Words.{first_of, matches_of, first_value, found_of, IsParsedFrom, IsPlainArg}
 use Rattle.clap.specs.Facts.{least_values}
 use Rattle.clap.specs.declared.builder.arg.Arg.{Arg}
 use Rattle.clap.specs.declared.builder.ArgAction.TheVariants.{Set}

@@ -5,7 +5,7 @@ use Rattle.tg_base.specs.declared.ends.RunEnd.{RunEnd}
 use Rattle.tg_base.specs.declared.ends.RunEnd.TheVariants.{Exit, Break, Overflow, HeapFull, StackFull, StepLimit, BadAddress, Unaligned, BadWord, BadService, ReadFault, WriteFault}
 use Rattle.tg_base.specs.InMemory.{PlainBytes}
 use Rattle.tg_machine.specs.Machines.{Simulated, loaded}
-use Rattle.tg_machine.specs.Ran.{Ran}
+use Rattle.tg_machine.specs.Ran.{IsSimulation}
 use Rattle.tg_base.specs.declared.outside.ShelfFault.{ShelfFault}
 use Rattle.tg_base.specs.declared.outside.ShelfFault.TheVariants.{Failed, Memory}
 use Rattle.tg_base.specs.Files.{IsFrontOf}
@@ -106,10 +106,10 @@ or_memory due OutOfMemory h = tt
 or_memory due _ h = h
 
 -- a machine that was loaded ran on no input, and its summary was written
-pub ran_and_summed : {O : Type 0} (told : O → Option (List ℕ)) (faults : O → ℕ) (before between after : O) (functions source steps : ℕ) (machine new : Simulated) (input input' : PlainBytes) (image : Image) (heap stack : ℕ) (end : RunEnd) (answer : Answer) → machine ≡ loaded image heap stack → input ≡ record { left = []; calls = 0 } → (machine.end ≡ None → Ran (λ s. Some s.left) (λ _. 0) told faults steps machine new input input' before between end) → TakesSummary (stream_of told faults between after) functions source new.written end answer → SumsUpRun (stream_of told faults before after) functions source image heap stack steps answer
+pub ran_and_summed : {O : Type 0} (told : O → Option (List ℕ)) (faults : O → ℕ) (before between after : O) (functions source steps : ℕ) (machine new : Simulated) (input input' : PlainBytes) (image : Image) (heap stack : ℕ) (end : RunEnd) (answer : Answer) → machine ≡ loaded image heap stack → input ≡ record { left = []; calls = 0 } → (machine.end ≡ None → IsSimulation (λ s. Some s.left) (λ _. 0) told faults steps machine new input input' before between end) → TakesSummary (stream_of told faults between after) functions source new.written end answer → SumsUpRun (stream_of told faults before after) functions source image heap stack steps answer
 ran_and_summed told faults before between after functions source steps machine new input input' image heap stack end answer is empty ran takes =
-    let P : Simulated → Type 0 = λ m. Ran (λ s. Some s.left) (λ _. 0) told faults steps m new input input' before between end in
-    let Q : PlainBytes → Type 0 = λ i. Ran (λ s. Some s.left) (λ _. 0) told faults steps (loaded image heap stack) new i input' before between end in
+    let P : Simulated → Type 0 = λ m. IsSimulation (λ s. Some s.left) (λ _. 0) told faults steps m new input input' before between end in
+    let Q : PlainBytes → Type 0 = λ i. IsSimulation (λ s. Some s.left) (λ _. 0) told faults steps (loaded image heap stack) new i input' before between end in
     record {
       end = end;
       sums_up = record {

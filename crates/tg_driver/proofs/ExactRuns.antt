@@ -5,19 +5,19 @@ use Rattle.tg_base.specs.declared.ends.RunEnd.{RunEnd}
 use Rattle.tg_base.specs.declared.ends.RunEnd.TheVariants.{ReadFault, WriteFault}
 use Rattle.tg_base.specs.State.{start}
 use Rattle.tg_isa.specs.declared.images.Image.{Image}
-use Rattle.tg_isa.specs.Runs.{World, run, begun, answers}
+use Rattle.tg_isa.specs.Runs.{Execution, run, begun, answers}
 use Rattle.tg_machine.specs.Ran.{Stops, still, ended, read_failed, write_failed, Tells}
 use Rattle.tg_driver.specs.Calls.{Streams, HasFailed}
 use Rattle.tg_driver.specs.Runs.{HasRun, end_in, world_in, IsExact}
 use Rattle.tg_driver.specs.Laws.{IsFaultless, EndsAsTold}
 
 -- the outcome, by its parts
-record Comes (n : ℕ) (w : World) (e : RunEnd) (last : World) (front : List ℕ) : Type 0 where
+record Comes (n : ℕ) (w : Execution) (e : RunEnd) (last : Execution) (front : List ℕ) : Type 0 where
   end_is : e ≡ end_in (run n w)
   last_is : last ≡ world_in (run n w)
   no_front : front ≡ []
 
-comes : (n : ℕ) (w : World) (e : RunEnd) (last : World) (front : List ℕ) → (e ≡ ReadFault → ⊥) → (e ≡ WriteFault → ⊥) → Stops n w e last front → Comes n w e last front
+comes : (n : ℕ) (w : Execution) (e : RunEnd) (last : Execution) (front : List ℕ) → (e ≡ ReadFault → ⊥) → (e ≡ WriteFault → ⊥) → Stops n w e last front → Comes n w e last front
 comes n w e last front r s (still q p f) = record { end_is = p ∙ sym (ap end_in q); last_is = sym (ap world_in q); no_front = f }
 comes n w e last front r s (ended q f) = record { end_is = sym (ap end_in q); last_is = sym (ap world_in q); no_front = f }
 comes n w e last front r s (read_failed i l q p d f) = absurd (r d)
@@ -34,7 +34,7 @@ exact_run s image heap stack steps end bytes h f =
     let S : List (Option ℕ) → Type 0 = λ i. Stops steps (begun (start image.code image.statics image.entry heap stack) i) end r.last r.front in
     let c = comes steps _ end r.last r.front (λ d. f.all_read (r.read_cause d)) (λ d. f.all_written (r.write_cause d)) (subst S same r.stops) in
     let W : List ℕ → Type 0 = λ w. Appends (s.out.told s.out.before) (s.out.told s.out.after) w in
-    let R : World → Type 0 = λ w. Tells (s.input.told s.input.after) w.input in
+    let R : Execution → Type 0 = λ w. Tells (s.input.told s.input.after) w.input in
     record {
       ends = c.end_is;
       writes = subst W (whole r.last.output r.front c.no_front ∙ ap (λ w. w.output) c.last_is) r.writes;

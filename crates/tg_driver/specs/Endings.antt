@@ -1,8 +1,12 @@
 -- The status and the line of each end of a run.
-use Rattle.std.specs.Prelude.{ℕ, ◌+◌, ◌/◌, ◌%◌, ◌==◌, List, [], ◌∷◌, ◌++◌, codes, nat_lt, if◌then◌else◌}
+use Rattle.std.specs.Prelude.{ℕ, ◌+◌, ◌/◌, ◌%◌, ◌==◌, List, [], ◌∷◌, ◌++◌, codes, nat_lt}
+use Rattle.std.specs.Prelude.{if◌then◌else◌}
 use Rattle.std.specs.Fmt.{decimal}
 use Rattle.tg_base.specs.declared.ends.RunEnd.{RunEnd}
-use Rattle.tg_base.specs.declared.ends.RunEnd.TheVariants.{Exit, Break, Overflow, HeapFull, StackFull, StepLimit, BadAddress, Unaligned, BadWord, BadService, ReadFault, WriteFault}
+use Rattle.tg_base.specs.declared.ends.RunEnd.TheVariants.{Exit, Break, Overflow, HeapFull}
+use Rattle.tg_base.specs.declared.ends.RunEnd.TheVariants.{StackFull, StepLimit, BadAddress}
+use Rattle.tg_base.specs.declared.ends.RunEnd.TheVariants.{Unaligned, BadWord, BadService}
+use Rattle.tg_base.specs.declared.ends.RunEnd.TheVariants.{ReadFault, WriteFault}
 use Rattle.tg_base.specs.Words.{unsigned}
 
 -- by the code of `break`: what a compiled program tests for, and any other

@@ -40,8 +40,8 @@ TakesSummary out functions source written WriteFault answer =
 TakesSummary out functions source written end answer =
     Takes out (summary functions source written (end_status end)) (Finished end) Unwritten answer
 
--- the image ran on an empty input with these sizes and steps, with its output to the sink, and ended
--- so; then the summary was written
+-- the image ran on an empty input with these sizes and steps, with its output to the sink, and
+-- ended so; then the summary was written
 pub record SumsUp {O : Type 0} (out : Stream O) (functions source : ℕ) (answer : Answer)
     (image : Image) (heap stack steps : ℕ) (end : RunEnd) : Type 0 where
   pub input : PlainBytes

@@ -4,7 +4,8 @@ use Rattle.tg_base.specs.declared.outside.ShelfFault.{ShelfFault}
 use Rattle.tg_base.specs.declared.outside.ShelfFault.TheVariants.{Failed, Memory}
 use Rattle.tg_base.specs.Files.{IsFrontOf}
 use Rattle.tg_driver.specs.declared.answers.Answer.{Answer}
-use Rattle.tg_driver.specs.declared.answers.Answer.TheVariants.{Unreadable, OutOfMemory, Built, Unwritten, Finished}
+use Rattle.tg_driver.specs.declared.answers.Answer.TheVariants.{Unreadable, OutOfMemory, Built}
+use Rattle.tg_driver.specs.declared.answers.Answer.TheVariants.{Unwritten, Finished}
 use Rattle.tg_driver.specs.Calls.{Stream, Stays, Shelved, IsUnread, Streams, Untouched}
 
 -- The file can't be read; or the shelf gave so many of its first bytes, or all where it is shorter,

@@ -5,9 +5,9 @@ use Rattle.tg_base.specs.declared.ends.RunEnd.{RunEnd}
 use Rattle.tg_base.specs.declared.ends.RunEnd.TheVariants.{StepLimit}
 use Rattle.tg_base.specs.State.{start}
 use Rattle.tg_isa.specs.declared.images.Image.{Image}
-use Rattle.tg_isa.specs.Runs.{World, Outcome, Running, Ended, run, begun, answers}
+use Rattle.tg_isa.specs.Runs.{Execution, Progress, Running, Ended, run, begun, answers}
 use Rattle.tg_machine.specs.Machines.{Simulated, loaded}
-use Rattle.tg_machine.specs.Ran.{Ran, Tells}
+use Rattle.tg_machine.specs.Ran.{IsSimulation, Tells}
 use Rattle.tg_driver.specs.declared.answers.Answer.{Answer}
 use Rattle.tg_driver.specs.declared.answers.Answer.TheVariants.{OutOfMemory, Finished}
 use Rattle.tg_driver.specs.Calls.{Streams, Untouched}
@@ -17,7 +17,8 @@ pub record HasRun {I O : Type 0} (s : Streams I O)
     (image : Image) (heap stack steps : ℕ) (end : RunEnd) : Type 0 where
   pub after : Simulated
   pub ran :
-      Ran s.input.told s.input.faults s.out.told s.out.faults steps (loaded image heap stack) after
+      IsSimulation s.input.told s.input.faults s.out.told s.out.faults steps
+          (loaded image heap stack) after
       s.input.before s.input.after s.out.before s.out.after end
 
 -- the answer is the end of such a run; or memory was wanting for it, and nothing was touched
@@ -28,16 +29,16 @@ IsRunOrMemory s image heap stack steps OutOfMemory = Untouched s
 IsRunOrMemory s image heap stack steps _ = ⊥
 
 -- the end of an outcome, and its world: the steps are used up where the machine still runs
-abbrev pub end_in : Outcome → RunEnd
+abbrev pub end_in : Progress → RunEnd
 end_in (Running w) = StepLimit
 end_in (Ended e w) = e
 
-abbrev pub world_in : Outcome → World
+abbrev pub world_in : Progress → Execution
 world_in (Running w) = w
 world_in (Ended e w) = w
 
 -- what comes of an image with these sizes and steps on an input of these bytes
-abbrev pub outcome_on : Image → (heap stack steps : ℕ) (bytes : List ℕ) → Outcome
+abbrev pub outcome_on : Image → (heap stack steps : ℕ) (bytes : List ℕ) → Progress
 outcome_on image heap stack steps bytes =
     run steps (begun (start image.code image.statics image.entry heap stack) (answers bytes))
 

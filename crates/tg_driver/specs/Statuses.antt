@@ -6,12 +6,16 @@ use Rattle.tg_isa.specs.declared.keywords.AsmRule.TheVariants.{A1, A2, A3, A4, A
 use Rattle.tg_syntax.specs.declared.faults.LexRule.TheVariants.{L1, L2, L3, L4, L5, L6, L7}
 use Rattle.tg_parser.specs.declared.faults.SyntaxRule.TheVariants.{S1, S2}
 use Rattle.tg_types.specs.declared.faults.TypeRule.{TypeRule}
-use Rattle.tg_types.specs.declared.faults.TypeRule.TheVariants.{T1, T2, T3, T4, T5, T6, T7, T8, T9, T10, T11, T12, T13, T14, T15, T16, T17, T18, T19, T20, T21, T22}
+use Rattle.tg_types.specs.declared.faults.TypeRule.TheVariants.{T1, T2, T3, T4, T5, T6, T7, T8, T9}
+use Rattle.tg_types.specs.declared.faults.TypeRule.TheVariants.{T10, T11, T12, T13, T14, T15, T16}
+use Rattle.tg_types.specs.declared.faults.TypeRule.TheVariants.{T17, T18, T19, T20, T21, T22}
 use Rattle.tg_driver.specs.declared.faults.Rule.{Rule}
 use Rattle.tg_driver.specs.declared.faults.Rule.TheVariants.{Lexical, Syntactic, Typed}
 use Rattle.tg_driver.specs.declared.faults.Fault.{Fault}
 use Rattle.tg_driver.specs.declared.answers.Answer.{Answer}
-use Rattle.tg_driver.specs.declared.answers.Answer.TheVariants.{Usage, Unreadable, Faulty, BadLine, TooLong, Accepted, Built, Unwritten, OutOfMemory, Finished}
+use Rattle.tg_driver.specs.declared.answers.Answer.TheVariants.{Usage, Unreadable, Faulty, BadLine}
+use Rattle.tg_driver.specs.declared.answers.Answer.TheVariants.{TooLong, Accepted, Built, Unwritten}
+use Rattle.tg_driver.specs.declared.answers.Answer.TheVariants.{OutOfMemory, Finished}
 use Rattle.tg_driver.specs.Endings.{ended, end_status, end_line}
 
 abbrev pub status_of : Answer → ℕ

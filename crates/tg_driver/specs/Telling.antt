@@ -1,7 +1,8 @@
 -- How an answer is reported.
 use Rattle.std.specs.Prelude.{ℕ}
 use Rattle.tg_driver.specs.declared.answers.Answer.{Answer}
-use Rattle.tg_driver.specs.declared.answers.Answer.TheVariants.{Faulty, BadLine, Built, Unwritten, Finished, OutOfMemory}
+use Rattle.tg_driver.specs.declared.answers.Answer.TheVariants.{Faulty, BadLine, Built, Unwritten}
+use Rattle.tg_driver.specs.declared.answers.Answer.TheVariants.{Finished, OutOfMemory}
 use Rattle.tg_driver.specs.Calls.{Stream, Takes}
 use Rattle.tg_driver.specs.Statuses.{line_of, status_of}
 

@@ -1,8 +1,8 @@
 -- The uses of a text stand before those that come after it.
 use Rattle.std.proofs.Common.{◌≡◌, ℕ, List, [], ◌∷◌, ◌++◌, length, Option, Some, None, refl, sym, ap, ◌∙◌, append_assoc}
 use Rattle.tg_symbols.specs.Tables.{named}
-use Rattle.tg_syntax.specs.Tree.{Nil, Break, Int, Text, Read, Call, Neg, Binary, Make, Fill, Assign, If, When, While, For, Let, Seq, Place, Simple, Field, Index, Exps, no_exps, exp, Inits, no_inits, init, Decs, no_decs, types, variable, functions, FunDecs, no_functions, function}
-use Rattle.tg_escape.specs.Uses.{Declared, Seen, Use, declare_variable, declare_params, declare_functions, declare_all, used, uses, place_uses, exps_uses, inits_uses, decs_uses, functions_uses}
+use Rattle.tg_syntax.specs.Tree.{Nil, Break, Int, Text, Read, Call, Neg, Binary, Make, Fill, Assign, If, When, While, For, Let, Seq, LValue, Simple, Field, Index, Exps, no_exps, exp, Inits, no_inits, init, Decs, no_decs, types, variable, functions, FunDecs, no_functions, function}
+use Rattle.tg_escape.specs.Uses.{DeclaredAs, Seen, Use, declare_variable, declare_params, declare_functions, declare_all, used, uses, place_uses, exps_uses, inits_uses, decs_uses, functions_uses}
 use Rattle.tg_escape.specs.Laws.{UsesJoin}
 
 -- what stands before a list stands before it alone
@@ -16,7 +16,7 @@ two f g j k after =
 three : (f g h : List Use → List Use) → Joins f → Joins g → Joins h → Joins (λ after. f (g (h after)))
 three f g h j k l = two f (λ after. g (h after)) j (two g h k l)
 
-use_joins : (within : List ℕ) (o : Option Declared) → Joins (used within o)
+use_joins : (within : List ℕ) (o : Option DeclaredAs) → Joins (used within o)
 use_joins within None after = refl
 use_joins within (Some d) after = refl
 
@@ -46,7 +46,7 @@ mutual
       two (decs_uses ds n s) (exps_uses es n inner) (decs_join ds n s) (exps_join es n inner) after
   uses_join (Seq _ es) n s after = exps_join es n s after
 
-  place_joins : (v : Place) (n : List ℕ) (s : Seen) → Joins (place_uses v n s)
+  place_joins : (v : LValue) (n : List ℕ) (s : Seen) → Joins (place_uses v n s)
   place_joins (Simple x) n s after = use_joins n (named x.name.0 s) after
   place_joins (Field v _) n s after = place_joins v n s after
   place_joins (Index v e) n s after = two (place_uses v n s) (uses e n s) (place_joins v n s) (uses_join e n s) after

@@ -3,11 +3,11 @@
 use Rattle.std.specs.Prelude.{ℕ, nat_lt, List, [], ◌∷◌, length, if◌then◌else◌}
 use Rattle.std.specs.List.{flat_map}
 use Rattle.tg_syntax.specs.Tree.{Exp}
-use Rattle.tg_escape.specs.Uses.{Declared, a_variable, a_function, Use, uses_of}
+use Rattle.tg_escape.specs.Uses.{DeclaredAs, a_variable, a_function, Use, uses_of}
 
 -- a use of a name in a text of this level: the variable escapes where its own function is an outer
 -- one
-abbrev pub escaping : (level : ℕ) → Declared → List ℕ
+abbrev pub escaping : (level : ℕ) → DeclaredAs → List ℕ
 escaping level (a_variable at own) = if nat_lt own level then at ∷ [] else []
 escaping level (a_function own) = []
 

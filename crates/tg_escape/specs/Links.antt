@@ -5,10 +5,10 @@
 use Rattle.std.specs.Prelude.{ℕ, ◌-◌, List, length, slice_range}
 use Rattle.std.specs.List.{flat_map}
 use Rattle.tg_syntax.specs.Tree.{Exp}
-use Rattle.tg_escape.specs.Uses.{Declared, a_variable, a_function, Use, uses_of}
+use Rattle.tg_escape.specs.Uses.{DeclaredAs, a_variable, a_function, Use, uses_of}
 
 -- the level of the text that declares a name
-abbrev pub level_of : Declared → ℕ
+abbrev pub level_of : DeclaredAs → ℕ
 level_of (a_variable at own) = own
 level_of (a_function own) = own
 

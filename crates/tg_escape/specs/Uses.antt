@@ -7,21 +7,21 @@ use Rattle.tg_symbols.specs.Tables.{named}
 use Rattle.tg_syntax.specs.declared.tokens.Ident.{Ident}
 use Rattle.tg_syntax.specs.declared.trees.Param.{Param}
 use Rattle.tg_syntax.specs.Tree.{Exp, Nil, Break, Int, Text, Read, Call, Neg, Binary, Make, Fill}
-use Rattle.tg_syntax.specs.Tree.{Assign, If, When, While, For, Let, Seq, Place, Simple, Field}
+use Rattle.tg_syntax.specs.Tree.{Assign, If, When, While, For, Let, Seq, LValue, Simple, Field}
 use Rattle.tg_syntax.specs.Tree.{Index, Exps, no_exps, exp, Inits, no_inits, init, Decs, no_decs}
 use Rattle.tg_syntax.specs.Tree.{types, variable, functions, FunDecs, no_functions, function}
 
 -- what a name is declared to be: a variable, with its byte, or a function; each with the level of
 -- the text that declares it
-pub data Declared : Type 0 where
-  a_variable : (at level : ℕ) → Declared
-  a_function : (level : ℕ) → Declared
+pub data DeclaredAs : Type 0 where
+  a_variable : (at level : ℕ) → DeclaredAs
+  a_function : (level : ℕ) → DeclaredAs
 
 -- names with what they are declared to be, the innermost first
 abbrev pub Seen : Type 0
-Seen = List (ℕ × Declared)
+Seen = List (ℕ × DeclaredAs)
 
-abbrev pub declare : Ident → Declared → Seen → Seen
+abbrev pub declare : Ident → DeclaredAs → Seen → Seen
 declare x d seen = (x.name.0, d) ∷ seen
 
 abbrev pub declare_variable : (level : ℕ) → Ident → Seen → Seen
@@ -47,11 +47,11 @@ declare_all level (functions fs rest) seen =
 -- a use of a declared name: what the name is declared to be, and the bytes of the functions that
 -- the use lies in, the outermost first
 pub record Use : Type 0 where
-  pub of : Declared
+  pub of : DeclaredAs
   pub within : List ℕ
 
 -- a use of a name, before the uses that come after it; a standard function's name isn't declared
-abbrev pub used : (within : List ℕ) → Option Declared → List Use → List Use
+abbrev pub used : (within : List ℕ) → Option DeclaredAs → List Use → List Use
 used within (Some d) after = record { of = d; within = within } ∷ after
 used within None after = after
 
@@ -83,7 +83,7 @@ abbrev mutual
       (exps_uses es within (declare_all (length within) ds seen) after)
   uses (Seq _ es) within seen after = exps_uses es within seen after
 
-  pub place_uses : Place → (within : List ℕ) → Seen → List Use → List Use
+  pub place_uses : LValue → (within : List ℕ) → Seen → List Use → List Use
   place_uses (Simple x) within seen after = used within (named x.name.0 seen) after
   place_uses (Field v _) within seen after = place_uses v within seen after
   place_uses (Index v e) within seen after =

@@ -20,9 +20,9 @@ pub(crate) struct Declaration {
 }
 
 impl Model for Declaration {
-    ghost use Rattle.tg_escape.specs.Uses.{Declared};
+    ghost use Rattle.tg_escape.specs.Uses.{DeclaredAs};
 
-    ghost Value = { Declared };
+    ghost Value = { DeclaredAs };
 
     ghost use Rattle.tg_escape.specs.Declarations.{declared_as};
 

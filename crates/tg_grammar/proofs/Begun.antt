@@ -8,7 +8,7 @@ use Rattle.tg_syntax.specs.declared.tokens.Spanned.{Spanned}
 use Rattle.tg_syntax.specs.declared.tokens.Ident.{Ident}
 use Rattle.tg_syntax.specs.declared.trees.Param.{Param}
 use Rattle.tg_syntax.specs.declared.trees.Op.{Op}
-use Rattle.tg_syntax.specs.Tree.{Form, TypeDec, Exp, Place, Exps, no_exps, exp, Inits, no_inits, init, Decs, no_decs, types, variable, functions, FunDecs, no_functions, function}
+use Rattle.tg_syntax.specs.Tree.{Form, TypeDec, Exp, LValue, Exps, no_exps, exp, Inits, no_inits, init, Decs, no_decs, types, variable, functions, FunDecs, no_functions, function}
 use Rattle.tg_syntax.specs.Groups.{snoc, snoc_init, Dec, one_type, one_variable, one_function, snoc_function, snoc_dec}
 use Rattle.tg_syntax.specs.Grammar.{Level, or_op, and_op, rel_op, sum_op, term_op, IsIdent, AreFields, one_field, more_fields, AreAnyFields, no_fields, some_fields, IsForm, alias, fields, array, IsAnnotation, not_annotated, annotated, Reads, whole_assign, whole_up, or_up, or_more, and_up, and_more, cmp_up, cmp_two, sum_up, sum_more, term_up, term_more, unary_minus, unary_primary, unary_tail, primary_place, primary_nil, primary_int, primary_text, primary_break, primary_sequence, primary_call, primary_record, primary_let, tail_then, tail_else, tail_while, tail_for, tail_fill, IsPlace, place_simple, place_field, place_index, AreMany, many_one, many_more, AreAny, any_none, any_many, AreInits, one_init, more_inits, AreAnyInits, any_no_inits, any_inits, IsDec, dec_type, dec_variable, dec_function, AreDecs, decs_none, decs_more, IsProgram, program}
 use Rattle.tg_syntax.specs.Beginnings.{param_beginnings, form_beginnings, type_beginnings, kind_beginnings, beginnings, place_beginnings, exps_beginnings, inits_beginnings, decs_beginnings, function_beginnings, BeginsInOrder}
@@ -143,7 +143,7 @@ mutual
   of_exp (tail_for t i g u w h j k l m n o x) b = other t (ident i j (other g (both (of_exp l _) (other u (both (of_exp n _) (other w (of_exp x _)))))))
   of_exp (tail_fill t l r o i j n k m x) b = ident t i (other l (both (of_exp n _) (other r (other o (of_exp x _)))))
 
-  of_place : {a : List Spanned} {s : Span} {v : Place} → IsPlace a s v → (b : List ℕ) → Adds a b (place_beginnings v b)
+  of_place : {a : List Spanned} {s : Span} {v : LValue} → IsPlace a s v → (b : List ℕ) → Adds a b (place_beginnings v b)
   of_place (place_simple t i) b = ident t i none
   of_place (place_field d t p i j) b = both (of_place p b) (other d (ident t j none))
   of_place (place_index l r p i e j) b = both (of_place p b) (other l (both (of_exp e _) (other r none)))

@@ -13,7 +13,7 @@ use Rattle.tg_syntax.specs.declared.tokens.Spanned.{Spanned}
 use Rattle.tg_syntax.specs.declared.tokens.Ident.{Ident}
 use Rattle.tg_syntax.specs.declared.trees.Param.{Param}
 use Rattle.tg_syntax.specs.declared.trees.Op.{Op}
-use Rattle.tg_syntax.specs.Tree.{Form, Fields, Exp, Nil, Break, Int, Text, Read, Call, Neg, Make, Fill, Assign, If, When, While, For, Let, Seq, Place, Simple, Field, Index, Exps, no_exps, exp, Inits, no_inits, init, Decs, no_decs}
+use Rattle.tg_syntax.specs.Tree.{Form, Fields, Exp, Nil, Break, Int, Text, Read, Call, Neg, Make, Fill, Assign, If, When, While, For, Let, Seq, LValue, Simple, Field, Index, Exps, no_exps, exp, Inits, no_inits, init, Decs, no_decs}
 use Rattle.tg_syntax.specs.Spans.{span_of, joined}
 use Rattle.tg_syntax.specs.Tails.{ends_tail, is_short}
 use Rattle.tg_syntax.specs.Groups.{snoc, snoc_init, one_type, one_variable, one_function, snoc_dec}
@@ -189,11 +189,11 @@ pub ends_mark : (e : Exp) (t w : Token) → t ≡ w → strength w < 1 → (w �
 ends_mark e t w q h d = let s : strength t ≡ strength w = ap strength q in record { weak = omega arith; tail = λ _. omega arith; no_else = λ _ z. d (sym q ∙ z) }
 
 -- an l-value's token that may follow, where it isn't a part of it
-abbrev limit : Place → ℕ
+abbrev limit : LValue → ℕ
 limit (Simple x) = 8
 limit _ = 9
 
-small : (v : Place) → 8 ≤ limit v
+small : (v : LValue) → 8 ≤ limit v
 small (Simple x) = omega arith
 small _ = omega arith
 
@@ -400,26 +400,26 @@ free_is t w q h d = let s : strength t ≡ strength w = ap strength q in record 
 ends_free : (e : Exp) (t : Token) → Free t → Ends Whole e t
 ends_free e t f = let w = f.weak in record { weak = w; tail = λ _. w; no_else = λ _. f.no_else }
 
-naming_other : (x : Ident) (t : Spanned) (ts : List Spanned) (e : Span × Place) (z : List Spanned) → strength t.token ≤ 8 → Does (Suffix x.span (Simple x)) (suffixes x.span (Simple x)) (t ∷ ts) (Got e z) → Does (At Unary) (naming x) (t ∷ ts) (Got (reading e) z)
+naming_other : (x : Ident) (t : Spanned) (ts : List Spanned) (e : Span × LValue) (z : List Spanned) → strength t.token ≤ 8 → Does (Suffix x.span (Simple x)) (suffixes x.span (Simple x)) (t ∷ ts) (Got e z) → Does (At Unary) (naming x) (t ∷ ts) (Got (reading e) z)
 naming_other x t ts e z h d =
     split_no (At Unary) (weaker t.token (token.Sign LeftParen) (omega arith)) (split_no (At Unary) (weaker t.token (token.Sign LeftBrace) (omega arith)) (split_no (At Unary) (weaker t.token (token.Sign LeftBracket) (omega arith))
     (call_got (At Unary) (Suffix x.span (Simple x)) d (give_got (At Unary)))))
 
-suffix_stop : (s : Span) (v : Place) (t : Spanned) (ts : List Spanned) → strength t.token < 8 → Does (Suffix s v) (suffixes s v) (t ∷ ts) (Got (s, v) (t ∷ ts))
+suffix_stop : (s : Span) (v : LValue) (t : Spanned) (ts : List Spanned) → strength t.token < 8 → Does (Suffix s v) (suffixes s v) (t ∷ ts) (Got (s, v) (t ∷ ts))
 suffix_stop s v t ts h = split_no (Suffix s v) (weaker t.token (token.Sign Dot) h) (split_no (Suffix s v) (weaker t.token (token.Sign LeftBracket) (omega arith)) (give_got (Suffix s v)))
 
 -- behind a name and `[`
-bracketed : (x : Ident) (l r : Spanned) (w : List Spanned) (e : Exp) (t : Spanned) (ts : List Spanned) (p : Span × Place) (z : List Spanned) → IsSign l LeftBracket → IsSign r RightBracket → Reaches Whole w e (r ∷ t ∷ ts) → strength t.token ≤ 9 → Does (Suffix (joined x.span r.span) (Index (Simple x) e)) (suffixes (joined x.span r.span) (Index (Simple x) e)) (t ∷ ts) (Got p z) → Does (At Unary) (naming x) (l ∷ w) (Got (reading p) z)
+bracketed : (x : Ident) (l r : Spanned) (w : List Spanned) (e : Exp) (t : Spanned) (ts : List Spanned) (p : Span × LValue) (z : List Spanned) → IsSign l LeftBracket → IsSign r RightBracket → Reaches Whole w e (r ∷ t ∷ ts) → strength t.token ≤ 9 → Does (Suffix (joined x.span r.span) (Index (Simple x) e)) (suffixes (joined x.span r.span) (Index (Simple x) e)) (t ∷ ts) (Got p z) → Does (At Unary) (naming x) (l ∷ w) (Got (reading p) z)
 bracketed x l r w e t ts p z dl dr h n d =
     split_no (At Unary) (is_sign_not dl (λ q. cc)) (split_no (At Unary) (is_sign_not dl (λ q. cc)) (split_yes (At Unary) dl
     (call_got (At Unary) (At Whole) h (want_got (At Unary) dr (split_no (At Unary) (weaker t.token (token.Word WOf) (omega arith)) (call_got (At Unary) (Suffix (joined x.span r.span) (Index (Simple x) e)) d (give_got (At Unary))))))))
 
-simple_is : {a : List Spanned} {s : Span} {v : Place} {C : Type 0} (x : Ident) → IsPlace a s v → v ≡ Simple x → ((t : Spanned) → IsIdent t x → a ≡ t ∷ [] → s ≡ x.span → C) → C
+simple_is : {a : List Spanned} {s : Span} {v : LValue} {C : Type 0} (x : Ident) → IsPlace a s v → v ≡ Simple x → ((t : Spanned) → IsIdent t x → a ≡ t ∷ [] → s ≡ x.span → C) → C
 simple_is x (place_simple t {x = y} h) e k = let d : y ≡ x = cc in k t (subst (λ w. IsIdent t w) d h) refl (h.span ∙ ap (λ w. w.span) d)
 simple_is x (place_field d t h g i) e k = absurd (cc)
 simple_is x (place_index l r h g i j) e k = absurd (cc)
 
-place_or_name : {C : Type 0} (v : Place) → ((x : Ident) → v ≡ Simple x → C) → (limit v ≡ 9 → C) → C
+place_or_name : {C : Type 0} (v : LValue) → ((x : Ident) → v ≡ Simple x → C) → (limit v ≡ 9 → C) → C
 place_or_name (Simple x) f g = f x refl
 place_or_name (Field w x) f g = g refl
 place_or_name (Index w e) f g = g refl
@@ -537,7 +537,7 @@ mutual
       (more Term l r s o (b ++ t ∷ rest) (t ∷ rest) e z n q (complete g t rest (ends_right Unary Unary (binary o s.span.from l r) r t.token (omega arith) refl refl m)) d))
   reaches _ c t rest n e z d = absurd c
 
-  place_reaches : {u : List Spanned} {s : Span} {v : Place} → IsPlace u s v → (t : Spanned) (rest : List Spanned) → strength t.token ≤ limit v → (e : Span × Place) (z : List Spanned) → Does (Suffix s v) (suffixes s v) (t ∷ rest) (Got e z) → Reaches Unary (u ++ t ∷ rest) (reading e) z
+  place_reaches : {u : List Spanned} {s : Span} {v : LValue} → IsPlace u s v → (t : Spanned) (rest : List Spanned) → strength t.token ≤ limit v → (e : Span × LValue) (z : List Spanned) → Does (Suffix s v) (suffixes s v) (t ∷ rest) (Got e z) → Reaches Unary (u ++ t ∷ rest) (reading e) z
   place_reaches (place_simple q {x = x} h) t rest n e z d = by_name q x (t ∷ rest) (Got (reading e) z) h (naming_other x t rest e z n (subst (λ s. Does (Suffix s (Simple x)) (suffixes s (Simple x)) (t ∷ rest) (Got e z)) h.span d))
   place_reaches (place_field {a = a} {s = s} {v = v} q i {x = x} h f g) t rest n e z d =
       moved a q (i ∷ []) (t ∷ rest)

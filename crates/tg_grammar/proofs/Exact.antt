@@ -4,7 +4,7 @@ use Rattle.tg_syntax.specs.declared.tokens.Token.TheVariants.{End}
 use Rattle.tg_syntax.specs.declared.tokens.Spanned.{Spanned}
 use Rattle.tg_syntax.specs.Tree.{Exp}
 use Rattle.tg_syntax.specs.Grammar.{IsProgram, program}
-use Rattle.tg_syntax.specs.SyntaxFaults.{Begins, HasNoEnd, EndsOnce}
+use Rattle.tg_syntax.specs.SyntaxFaults.{BeginsProgram, HasNoEnd, EndsOnce}
 use Rattle.tg_grammar.specs.Steps.{Got, Bad, Out, Whole_program}
 use Rattle.tg_grammar.specs.Reading.{whole_program, Does}
 use Rattle.tg_grammar.specs.Laws.{IsUnexpected}
@@ -54,9 +54,9 @@ bad_at ts t us (fine_bad u d l c) =
 pub bad_is : (ts : List Spanned) (t : Spanned) (us : List Spanned) → Does Whole_program whole_program ts (Bad t us) → IsUnexpected ts t us
 bad_is ts t us h = bad_at ts t us (fine all_valid h IsProgram (valid Whole_program))
 
-out_at : (ts : List Spanned) → Fine Whole_program IsProgram whole_program ts Out → Begins ts
+out_at : (ts : List Spanned) → Fine Whole_program IsProgram whole_program ts Out → BeginsProgram ts
 out_at ts (fine_out l) = record { rest = l.rest; tree = l.tree; is = l.is }
 
 -- where more is wanted a program begins so
-pub out_is : (ts : List Spanned) → Does Whole_program whole_program ts Out → Begins ts
+pub out_is : (ts : List Spanned) → Does Whole_program whole_program ts Out → BeginsProgram ts
 out_is ts h = out_at ts (fine all_valid h IsProgram (valid Whole_program))

@@ -9,7 +9,7 @@ use Rattle.tg_syntax.specs.declared.trees.Param.{Param}
 use Rattle.tg_syntax.specs.declared.trees.Op.{Op}
 use Rattle.tg_base.specs.declared.ids.Span.{Span}
 use Rattle.tg_base.specs.declared.ids.Name.{Name}
-use Rattle.tg_syntax.specs.Tree.{Form, Exp, Place, Exps, Inits, Decs}
+use Rattle.tg_syntax.specs.Tree.{Form, Exp, LValue, Exps, Inits, Decs}
 use Rattle.tg_syntax.specs.Groups.{Dec}
 use Rattle.tg_syntax.specs.Grammar.{Level, or_op, and_op, rel_op, sum_op, term_op, IsIdent, AreFields, one_field, more_fields, AreAnyFields, no_fields, some_fields, IsForm, alias, fields, array, IsAnnotation, not_annotated, annotated, Reads, whole_assign, whole_up, or_up, or_more, and_up, and_more, cmp_up, cmp_two, sum_up, sum_more, term_up, term_more, unary_minus, unary_primary, unary_tail, primary_place, primary_nil, primary_int, primary_text, primary_break, primary_sequence, primary_call, primary_record, primary_let, tail_then, tail_else, tail_while, tail_for, tail_fill, IsPlace, place_simple, place_field, place_index, AreMany, many_one, many_more, AreAny, any_none, any_many, AreInits, one_init, more_inits, AreAnyInits, any_no_inits, any_inits, IsDec, dec_type, dec_variable, dec_function, AreDecs, decs_none, decs_more, IsProgram, program}
 use Rattle.tg_syntax.specs.SyntaxFaults.{HasNoEnd, EndsOnce}
@@ -90,7 +90,7 @@ mutual
   no_end (tail_for {a = a} {b = b} {d = p} q i m u w d j f h g k n l) = (other d (λ e. cc), (ident_other j, (other f (λ e. cc), between a u (b ++ w ∷ p) (no_end h) (other g (λ e. cc)) (between b w p (no_end k) (other n (λ e. cc)) (no_end l)))))
   no_end (tail_fill {a = a} {b = b} q l r o i d h f w g) = (ident_other i, (other d (λ e. cc), between a r (o ∷ b) (no_end h) (other f (λ e. cc)) (other w (λ e. cc), no_end g)))
 
-  no_end_place : {u : List Spanned} {s : Span} {v : Place} → IsPlace u s v → HasNoEnd u
+  no_end_place : {u : List Spanned} {s : Span} {v : LValue} → IsPlace u s v → HasNoEnd u
   no_end_place (place_simple t h) = (ident_other h, tt)
   no_end_place (place_field {a = a} d t h f g) = between a d (t ∷ []) (no_end_place h) (other f (λ e. cc)) (ident_other g, tt)
   no_end_place (place_index {a = a} {b = b} l r h f g k) = between a l (b ++ r ∷ []) (no_end_place h) (other f (λ e. cc)) (between b r [] (no_end g) (other k (λ e. cc)) tt)

@@ -7,7 +7,7 @@ use Rattle.tg_syntax.specs.declared.tokens.Spanned.{Spanned}
 use Rattle.tg_syntax.specs.declared.tokens.Ident.{Ident}
 use Rattle.tg_syntax.specs.declared.trees.Param.{Param}
 use Rattle.tg_syntax.specs.Spans.{span_of}
-use Rattle.tg_syntax.specs.Tree.{Form, TypeDec, Exp, Nil, Break, Int, Text, Read, Call, Neg, Binary, Make, Fill, Assign, If, When, While, For, Let, Seq, Place, Exps, no_exps, exp, Inits, no_inits, init, Decs, no_decs, types, variable, functions, FunDecs, no_functions, function}
+use Rattle.tg_syntax.specs.Tree.{Form, TypeDec, Exp, Nil, Break, Int, Text, Read, Call, Neg, Binary, Make, Fill, Assign, If, When, While, For, Let, Seq, LValue, Exps, no_exps, exp, Inits, no_inits, init, Decs, no_decs, types, variable, functions, FunDecs, no_functions, function}
 use Rattle.tg_syntax.specs.Groups.{snoc, snoc_init, Dec, one_type, one_variable, one_function, snoc_function, snoc_dec}
 use Rattle.tg_syntax.specs.Grammar.{Level, IsIdent, AreFields, one_field, more_fields, AreAnyFields, no_fields, some_fields, IsForm, alias, fields, array, IsAnnotation, not_annotated, annotated, Reads, whole_assign, whole_up, or_up, or_more, and_up, and_more, cmp_up, cmp_two, sum_up, sum_more, term_up, term_more, unary_minus, unary_primary, unary_tail, primary_place, primary_nil, primary_int, primary_text, primary_break, primary_sequence, primary_call, primary_record, primary_let, tail_then, tail_else, tail_while, tail_for, tail_fill, IsPlace, place_simple, place_field, place_index, AreMany, many_one, many_more, AreAny, any_none, any_many, AreInits, one_init, more_inits, AreAnyInits, any_no_inits, any_inits, IsDec, dec_type, dec_variable, dec_function, AreDecs, decs_none, decs_more, IsProgram, program}
 use Rattle.tg_syntax.specs.Throughout.{ThroughParams, ThroughForm, ThroughTypes, ThroughKind, Throughout, ThroughPlace, ThroughExps, ThroughInits, ThroughDecs, ThroughFunctions}
@@ -97,7 +97,7 @@ module _ (OfIdent : Ident → Type 0) (OfByte : (at : ℕ) → Type 0) where
   ident t i k = k.0 _ i
 
   -- where an l-value begins
-  place_start : {a : List Spanned} {s : Span} {v : Place} → IsPlace a s v → AllGive a → OfByte s.from
+  place_start : {a : List Spanned} {s : Span} {v : LValue} → IsPlace a s v → AllGive a → OfByte s.from
   place_start (place_simple t i) k = k.0.1
   place_start (place_field {a} d t p i j) k = place_start p (left a (d ∷ t ∷ []) k)
   place_start (place_index {a} {b} l r p i e j) k = place_start p (left a (l ∷ (b ++ r ∷ [])) k)
@@ -174,7 +174,7 @@ module _ (OfIdent : Ident → Type 0) (OfByte : (at : ℕ) → Type 0) where
     of_exp (tail_fill {a} {b} t l r o i j size m q x) k =
         (k.0.1, ident t i k.0, of_exp size (left a (r ∷ o ∷ b) k.1.1), of_exp x (right a (r ∷ o ∷ b) k.1.1).1.1)
 
-    of_place : {a : List Spanned} {s : Span} {v : Place} → IsPlace a s v → AllGive a → ThroughPlace OfIdent OfByte v
+    of_place : {a : List Spanned} {s : Span} {v : LValue} → IsPlace a s v → AllGive a → ThroughPlace OfIdent OfByte v
     of_place (place_simple t i) k = ident t i k.0
     of_place (place_field {a} d t p i j) k = (of_place p (left a (d ∷ t ∷ []) k), ident t j (right a (d ∷ t ∷ []) k).1.0)
     of_place (place_index {a} {b} l r p i e j) k =

@@ -10,7 +10,7 @@ use Rattle.tg_syntax.specs.declared.tokens.Spanned.{Spanned}
 use Rattle.tg_syntax.specs.declared.tokens.Ident.{Ident}
 use Rattle.tg_syntax.specs.declared.trees.Param.{Param}
 use Rattle.tg_syntax.specs.declared.trees.Op.{Op}
-use Rattle.tg_syntax.specs.Tree.{Alias, Fields, Exp, Int, Read, Call, Neg, Make, Fill, Assign, If, When, While, For, Let, Seq, Place, Simple, Field, Index, Exps, no_exps, Inits, no_inits, init, Decs}
+use Rattle.tg_syntax.specs.Tree.{Alias, Fields, Exp, Int, Read, Call, Neg, Make, Fill, Assign, If, When, While, For, Let, Seq, LValue, Simple, Field, Index, Exps, no_exps, Inits, no_inits, init, Decs}
 use Rattle.tg_syntax.specs.Spans.{span_of, joined}
 use Rattle.tg_syntax.specs.Tails.{ends_tail}
 use Rattle.tg_syntax.specs.Groups.{snoc, snoc_init, Dec, one_type, one_variable, one_function, snoc_dec}
@@ -103,7 +103,7 @@ v_after k l = (
   ),
 )
 
-place_or : {u : List Spanned} {s : Span} {v : Place} → Reads Disjunction u (Read s v) → IsPlace u s v
+place_or : {u : List Spanned} {s : Span} {v : LValue} → Reads Disjunction u (Read s v) → IsPlace u s v
 place_or (or_up (and_up (cmp_up (sum_up (term_up (unary_primary (primary_place h))))))) = h
 place_or (or_up (and_up (cmp_up (sum_up (term_up (unary_tail h)))))) = elim h [ ]
 

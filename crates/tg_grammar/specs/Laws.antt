@@ -5,7 +5,7 @@ use Rattle.tg_syntax.specs.declared.tokens.Spanned.{Spanned}
 use Rattle.tg_syntax.specs.Tree.{Exp, Decs}
 use Rattle.tg_syntax.specs.Groups.{AreLongest}
 use Rattle.tg_syntax.specs.Grammar.{AreDecs, IsProgram}
-use Rattle.tg_syntax.specs.SyntaxFaults.{Begins, EndsOnce}
+use Rattle.tg_syntax.specs.SyntaxFaults.{BeginsProgram, EndsOnce}
 use Rattle.tg_grammar.specs.Steps.{Got, Bad, Out, Whole_program}
 use Rattle.tg_grammar.specs.Reading.{whole_program, Does}
 
@@ -30,11 +30,12 @@ ReadsPrograms =
     EndsOnce tokens → Does Whole_program whole_program tokens (Got e rest) → IsProgram tokens e
 
 -- after the tokens before it some program could go on, and with it none can
-pub record IsUnexpected (tokens : List Spanned) (one : Spanned) (after : List Spanned) : Type 0 where
+pub record IsUnexpected (tokens : List Spanned) (one : Spanned)
+    (after : List Spanned) : Type 0 where
   pub front : List Spanned
   pub whole : tokens ≡ front ++ one ∷ after
-  pub could : Begins front
-  pub cannot : Begins (front ++ one ∷ []) → ⊥
+  pub could : BeginsProgram front
+  pub cannot : BeginsProgram (front ++ one ∷ []) → ⊥
 
 -- the token that is refused is the first with which no program can go on
 abbrev pub RefusesFirst : Type 0
@@ -44,7 +45,8 @@ RefusesFirst =
 
 -- where more is wanted, some program begins so
 abbrev pub WantsMore : Type 0
-WantsMore = (tokens : List Spanned) → Does Whole_program whole_program tokens Out → Begins tokens
+WantsMore = (tokens : List Spanned) → Does Whole_program whole_program tokens Out →
+    BeginsProgram tokens
 
 -- and never behind the one end of a list
 abbrev pub EndsAlways : Type 0

@@ -3,7 +3,7 @@ use Rattle.std.specs.Prelude.{ℕ, ◌≡◌, ◌≢◌, ◌<◌, ◌≤◌, Lis
 use Rattle.tg_base.specs.declared.ids.Span.{Span}
 use Rattle.tg_syntax.specs.declared.tokens.Token.TheVariants.{End}
 use Rattle.tg_syntax.specs.declared.tokens.Spanned.{Spanned}
-use Rattle.tg_syntax.specs.Tree.{Exp, Place}
+use Rattle.tg_syntax.specs.Tree.{Exp, LValue}
 use Rattle.tg_syntax.specs.Spans.{span_of}
 use Rattle.tg_syntax.specs.Lexing.{Lexes}
 use Rattle.tg_syntax.specs.Grammar.{Level, Reads, IsPlace, IsProgram}
@@ -30,13 +30,14 @@ SpansExpressions =
 -- and an l-value's
 abbrev pub SpansPlaces : Type 0
 SpansPlaces =
-    (tokens : List Spanned) (s : Span) (v : Place) → IsPlace tokens s v → IsSpanOf s tokens
+    (tokens : List Spanned) (s : Span) (v : LValue) → IsPlace tokens s v → IsSpanOf s tokens
 
 -- from this byte on each token begins where the one before it ends, or later, and none but the end
 -- is empty
 abbrev pub StandFrom : (at : ℕ) → List Spanned → Type 0
 StandFrom at [] = Unit {0}
-StandFrom at (t ∷ ts) = (at ≤ t.span.from) × (t.span.from ≤ t.span.to) × (t.token ≢ End → t.span.from < t.span.to) × StandFrom t.span.to ts
+StandFrom at (t ∷ ts) = (at ≤ t.span.from) × (t.span.from ≤ t.span.to) ×
+    (t.token ≢ End → t.span.from < t.span.to) × StandFrom t.span.to ts
 
 -- so do the tokens of a text
 abbrev pub TokensStand : Type 0

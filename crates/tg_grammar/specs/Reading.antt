@@ -18,7 +18,7 @@ use Rattle.tg_syntax.specs.declared.trees.Param.{Param}
 use Rattle.tg_syntax.specs.declared.trees.Op.{Op}
 use Rattle.tg_syntax.specs.Tree.{Form, Alias, Fields, Array, Exp, Nil, Break, Int, Text, Read, Call}
 use Rattle.tg_syntax.specs.Tree.{Neg, Binary, Make, Fill, Assign, If, When, While, For, Let, Seq}
-use Rattle.tg_syntax.specs.Tree.{Place, Simple, Field, Index, Exps, no_exps, exp, Inits, no_inits}
+use Rattle.tg_syntax.specs.Tree.{LValue, Simple, Field, Index, Exps, no_exps, exp, Inits, no_inits}
 use Rattle.tg_syntax.specs.Tree.{init, Decs, no_decs}
 use Rattle.tg_syntax.specs.Spans.{span_of, joined}
 use Rattle.tg_syntax.specs.Tails.{ends_tail, is_short}
@@ -52,7 +52,8 @@ binary o at l r = Binary (joined (span_of l) (span_of r)) o at l r
 
 abbrev pub assigning : Exp → Steps Exp
 assigning (Read s v) =
-    split (OfSign sign.Assign) (λ _. call (At Whole) (λ e. give (Assign (joined s (span_of e)) v e))) (give (Read s v))
+    split (OfSign sign.Assign)
+        (λ _. call (At Whole) (λ e. give (Assign (joined s (span_of e)) v e))) (give (Read s v))
 assigning e = give e
 
 abbrev pub operators : Level → Exp → Steps Exp
@@ -76,7 +77,7 @@ atom_of _ s = None
 abbrev pub atom : Spanned → Option Exp
 atom t = atom_of t.token t.span
 
-abbrev pub reading : Span × Place → Exp
+abbrev pub reading : Span × LValue → Exp
 reading p = Read p.0 p.1
 
 abbrev pub indexing : Ident → Steps Exp
@@ -87,7 +88,8 @@ indexing x =
 
 abbrev pub naming : Ident → Steps Exp
 naming x =
-    split (OfSign LeftParen) (λ _. call (Listed Comma (OfSign RightParen)) (λ y. give (Call (joined x.span y.1) x y.0)))
+    split (OfSign LeftParen)
+        (λ _. call (Listed Comma (OfSign RightParen)) (λ y. give (Call (joined x.span y.1) x y.0)))
     (split (OfSign LeftBrace) (λ _. call ListedInits (λ y. give (Make (joined x.span y.1) x y.0)))
     (split (OfSign LeftBracket) (λ _. indexing x)
     (call (Suffix x.span (Simple x)) (λ p. give (reading p)))))
@@ -99,7 +101,8 @@ elsing s c x =
     (give (When (joined s (span_of x)) c x)))
 
 abbrev pub choosing : Steps Exp
-choosing = want (OfWord WIf) (λ s. call (At Whole) (λ c. want (OfWord WThen) (λ _. call (At Whole) (λ x. elsing s c x))))
+choosing = want (OfWord WIf)
+    (λ s. call (At Whole) (λ c. want (OfWord WThen) (λ _. call (At Whole) (λ x. elsing s c x))))
 
 abbrev pub looping : Steps Exp
 looping =
@@ -110,7 +113,8 @@ abbrev pub counting : Steps Exp
 counting =
     want (OfWord WFor) (λ s. name (λ v. want (OfSign sign.Assign) (λ _. call (At Whole) (λ low.
     want (OfWord WTo) (λ _. call (At Whole) (λ high.
-    want (OfWord WDo) (λ _. call (At Whole) (λ x. give (For (joined s (span_of x)) v low high x)))))))))
+    want (OfWord WDo) (λ _. call (At Whole)
+        (λ x. give (For (joined s (span_of x)) v low high x)))))))))
 
 abbrev pub declaring : Steps Exp
 declaring =
@@ -123,7 +127,8 @@ negating =
 
 abbrev pub grouping : Steps Exp
 grouping =
-    want (OfSign LeftParen) (λ s. call (Listed Semicolon (OfSign RightParen)) (λ y. give (Seq (joined s y.1) y.0)))
+    want (OfSign LeftParen)
+        (λ s. call (Listed Semicolon (OfSign RightParen)) (λ y. give (Seq (joined s y.1) y.0)))
 
 -- what binds more tightly than the operators, by its first token
 abbrev pub unary : Token → Steps Exp
@@ -145,10 +150,12 @@ level Sum = call (At Term) (λ l. last (After Sum l))
 level Term = call (At Unary) (λ l. last (After Term l))
 level _ = leaf atom (look unary)
 
-abbrev pub suffixes : Span → Place → Steps (Span × Place)
+abbrev pub suffixes : Span → LValue → Steps (Span × LValue)
 suffixes s v =
     split (OfSign Dot) (λ _. name (λ x. last (Suffix (joined s x.span) (Field v x))))
-    (split (OfSign LeftBracket) (λ _. call (At Whole) (λ e. want (OfSign RightBracket) (λ r. last (Suffix (joined s r) (Index v e)))))
+    (split (OfSign LeftBracket)
+        (λ _. call (At Whole)
+            (λ e. want (OfSign RightBracket) (λ r. last (Suffix (joined s r) (Index v e)))))
     (give (s, v)))
 
 abbrev pub listed : Sign → Mark → Steps (Exps × Span)
@@ -165,10 +172,12 @@ one_init = name (λ x. want (OfSign Equal) (λ _. call (At Whole) (λ e. give (x
 abbrev pub listed_inits : Steps (Inits × Span)
 listed_inits =
     split (OfSign RightBrace) (λ r. give (no_inits, r))
-    (call OneInit (λ i. call (MoreInits (init i.0 i.1 no_inits)) (λ is. want (OfSign RightBrace) (λ r. give (is, r)))))
+    (call OneInit (λ i. call (MoreInits (init i.0 i.1 no_inits))
+        (λ is. want (OfSign RightBrace) (λ r. give (is, r)))))
 
 abbrev pub more_inits : Inits → Steps Inits
-more_inits is = split (OfSign Comma) (λ _. call OneInit (λ i. last (MoreInits (snoc_init is i.0 i.1)))) (give is)
+more_inits is = split (OfSign Comma)
+    (λ _. call OneInit (λ i. last (MoreInits (snoc_init is i.0 i.1)))) (give is)
 
 abbrev pub one_param : Steps Param
 one_param = name (λ x. want (OfSign Colon) (λ _. name (λ k. give (record { name = x; kind = k }))))
@@ -192,15 +201,18 @@ abbrev pub annotation : Steps (Option Ident)
 annotation = split (OfSign Colon) (λ _. name (λ k. give (Some k))) (give None)
 
 abbrev pub type_dec : Steps Dec
-type_dec = name (λ x. want (OfSign Equal) (λ _. call OneForm (λ f. give (one_type (record { name = x; form = f })))))
+type_dec = name (λ x. want (OfSign Equal)
+    (λ _. call OneForm (λ f. give (one_type (record { name = x; form = f })))))
 
 abbrev pub var_dec : Steps Dec
 var_dec =
-    name (λ x. call Annotation (λ k. want (OfSign sign.Assign) (λ _. call (At Whole) (λ e. give (one_variable x k e)))))
+    name (λ x. call Annotation
+        (λ k. want (OfSign sign.Assign) (λ _. call (At Whole) (λ e. give (one_variable x k e)))))
 
 abbrev pub fun_dec : Steps Dec
 fun_dec =
-    name (λ f. want (OfSign LeftParen) (λ _. call (ListedParams (OfSign RightParen)) (λ ps. call Annotation (λ k.
+    name (λ f. want (OfSign LeftParen)
+        (λ _. call (ListedParams (OfSign RightParen)) (λ ps. call Annotation (λ k.
     want (OfSign Equal) (λ _. call (At Whole) (λ e. give (one_function f ps k e)))))))
 
 abbrev pub more_decs : Decs → Steps Decs

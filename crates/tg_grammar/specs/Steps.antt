@@ -8,7 +8,7 @@ use Rattle.tg_syntax.specs.declared.tokens.Spanned.{Spanned}
 use Rattle.tg_syntax.specs.declared.tokens.Ident.{Ident}
 use Rattle.tg_syntax.specs.declared.trees.Param.{Param}
 use Rattle.tg_syntax.specs.declared.trees.Op.{Op}
-use Rattle.tg_syntax.specs.Tree.{Form, Exp, Place, Exps, Inits, Decs}
+use Rattle.tg_syntax.specs.Tree.{Form, Exp, LValue, Exps, Inits, Decs}
 use Rattle.tg_syntax.specs.Groups.{Dec}
 use Rattle.tg_syntax.specs.Grammar.{Level, Disjunction, Conjunction, Comparison, Sum, Term, or_op}
 use Rattle.tg_syntax.specs.Grammar.{and_op, rel_op, sum_op, term_op}
@@ -46,7 +46,7 @@ pub data Job : Type 0 where
   At : Level → Job
   After : Level → Exp → Job
   -- what follows an l-value
-  Suffix : Span → Place → Job
+  Suffix : Span → LValue → Job
   -- expressions up to a mark, and more of them
   Listed : Sign → Mark → Job
   Items : Sign → Exps → Job
@@ -73,7 +73,7 @@ Of OneSpan = Span
 Of OneName = Ident
 Of (At k) = Exp
 Of (After k l) = Exp
-Of (Suffix s v) = Span × Place
+Of (Suffix s v) = Span × LValue
 Of (Listed m c) = Exps × Span
 Of (Items m es) = Exps
 Of OneInit = Ident × Exp

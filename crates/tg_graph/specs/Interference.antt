@@ -1,7 +1,9 @@
 -- Interference graphs (Appel, chapter 11; George and Appel 1996, section 2): which nodes may not
 -- share a colour. Nodes 0 to 24 are the registers, in the order of the colours; temporary t is
 -- node 25 + t.
-use Rattle.std.specs.Prelude.{◌≡◌, ℕ, ◌-◌, ◌≤◌, ◌==◌, nat_eq, nat_lt, Bool, ◌&&◌, ◌||◌, List, [], ◌∷◌, ◌++◌, length, replicate, slice_index_or, slice_set, if◌then◌else◌}
+use Rattle.std.specs.Prelude.{◌≡◌, ℕ, ◌-◌, ◌≤◌, ◌==◌, nat_eq, nat_lt, Bool, ◌&&◌, ◌||◌, List, []}
+use Rattle.std.specs.Prelude.{◌∷◌, ◌++◌, length, replicate, slice_index_or, slice_set}
+use Rattle.std.specs.Prelude.{if◌then◌else◌}
 use Rattle.std.specs.List.{list_any, IsDistinct}
 
 abbrev pub colours : ℕ

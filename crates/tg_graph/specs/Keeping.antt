@@ -1,8 +1,10 @@
 -- How a graph is kept: a bit for each pair of nodes, a counter and a list for each temporary.
-use Rattle.std.specs.Prelude.{◌≡◌, ℕ, ◌-◌, ◌+◌, ◌*◌, ◌<◌, ◌≤◌, List, Vec, length, map, slice_index, slice_set, if◌then◌else◌}
+use Rattle.std.specs.Prelude.{◌≡◌, ℕ, ◌-◌, ◌+◌, ◌*◌, ◌<◌, ◌≤◌, List, Vec, length, map, slice_index}
+use Rattle.std.specs.Prelude.{slice_set, if◌then◌else◌}
 use Rattle.std.specs.declared.alloc.Global.{Global}
 use Rattle.tg_graph.specs.Bits.{bit, triangle, pair_place}
-use Rattle.tg_graph.specs.Interference.{Interference, IsGraph, colours, most_nodes, is_register, is_among, neighbours}
+use Rattle.tg_graph.specs.Interference.{Interference, IsGraph, colours, most_nodes, is_register}
+use Rattle.tg_graph.specs.Interference.{is_among, neighbours}
 
 -- the lists of vectors
 abbrev pub lists_of : List (Vec ℕ Global) → List (List ℕ)

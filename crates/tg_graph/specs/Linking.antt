@@ -1,5 +1,6 @@
 -- How worklists are kept: the end of each stands behind the nodes, by the list's number.
-use Rattle.std.specs.Prelude.{◌≡◌, ℕ, ◌+◌, ◌<◌, ◌≤◌, ◌==◌, List, length, slice_index, slice_index_or}
+use Rattle.std.specs.Prelude.{◌≡◌, ℕ, ◌+◌, ◌<◌, ◌≤◌, ◌==◌, List, length, slice_index}
+use Rattle.std.specs.Prelude.{slice_index_or}
 use Rattle.tg_graph.specs.declared.worklists.Worklist.{Worklist}
 use Rattle.tg_graph.specs.declared.worklists.Worklist.TheVariants.{Fixed}
 use Rattle.tg_graph.specs.Interference.{colours, most_nodes, is_among}

@@ -1,8 +1,10 @@
 -- The worklists of a round (George and Appel 1996, section 4): each node is in exactly one.
-use Rattle.std.specs.Prelude.{ℕ, ◌-◌, ◌==◌, not, List, [], ◌∷◌, ◌++◌, filter, slice_get, Option, None, if◌then◌else◌}
+use Rattle.std.specs.Prelude.{ℕ, ◌-◌, ◌==◌, not, List, [], ◌∷◌, ◌++◌, filter, slice_get, Option}
+use Rattle.std.specs.Prelude.{None, if◌then◌else◌}
 use Rattle.std.specs.List.{range_with_len}
 use Rattle.tg_graph.specs.declared.worklists.Worklist.{Worklist}
-use Rattle.tg_graph.specs.declared.worklists.Worklist.TheVariants.{Fixed, Simplify, Freeze, Spill, Stacked, Merged}
+use Rattle.tg_graph.specs.declared.worklists.Worklist.TheVariants.{Fixed, Simplify, Freeze, Spill}
+use Rattle.tg_graph.specs.declared.worklists.Worklist.TheVariants.{Stacked, Merged}
 use Rattle.tg_graph.specs.Interference.{colours}
 
 -- the number of nodes, and the nodes of each list, in order

@@ -4,7 +4,8 @@ use Rattle.std.specs.List.{list_any, list_all}
 use Rattle.tg_instr.specs.declared.operands.Opnd.{Opnd}
 use Rattle.tg_instr.specs.declared.operands.Opnd.TheVariants.{Temp, Reg}
 use Rattle.tg_instr.specs.declared.instr.Instr.{Instr}
-use Rattle.tg_instr.specs.declared.instr.Instr.TheVariants.{Mark, Jump, Branch, Fault, Return, FrameLoad, FrameStore}
+use Rattle.tg_instr.specs.declared.instr.Instr.TheVariants.{Mark, Jump, Branch, Fault, Return}
+use Rattle.tg_instr.specs.declared.instr.Instr.TheVariants.{FrameLoad, FrameStore}
 use Rattle.tg_instr.specs.Uses.{uses_of, defs_of}
 
 abbrev pub is_mark : ℕ → Instr → Bool

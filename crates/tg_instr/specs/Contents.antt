@@ -1,6 +1,7 @@
 -- What operands hold in a run of instructions. What a function finds in $s0 to $s7 and $ra at its
 -- entry it must give back: it may move it and keep it in a slot, and has no other use of it.
-use Rattle.std.specs.Prelude.{ℕ, ◌-◌, ◌==◌, ◌&&◌, ◌||◌, Bool, true, false, List, [], ◌∷◌, ◌++◌, map, if◌then◌else◌}
+use Rattle.std.specs.Prelude.{ℕ, ◌-◌, ◌==◌, ◌&&◌, ◌||◌, Bool, true, false, List, [], ◌∷◌, ◌++◌, map}
+use Rattle.std.specs.Prelude.{if◌then◌else◌}
 use Rattle.tg_instr.specs.declared.operands.Opnd.TheVariants.{Reg}
 use Rattle.tg_instr.specs.Operands.{is_same, registers}
 use Rattle.tg_instr.specs.Shapes.{Holder, Operand, Hi, Lo}

@@ -1,7 +1,8 @@
 -- How many words of code an instruction is at most (MIPS I manual; large offsets go through $at).
 use Rattle.std.specs.Prelude.{ℕ, List, sum_by}
 use Rattle.tg_instr.specs.declared.instr.Instr.{Instr}
-use Rattle.tg_instr.specs.declared.instr.Instr.TheVariants.{FrameLoad, FrameStore, FrameAddress, Address, Mark, Branch, Return}
+use Rattle.tg_instr.specs.declared.instr.Instr.TheVariants.{FrameLoad, FrameStore, FrameAddress}
+use Rattle.tg_instr.specs.declared.instr.Instr.TheVariants.{Address, Mark, Branch, Return}
 
 abbrev pub words_of : Instr → ℕ
 words_of (FrameLoad _ _) = 3

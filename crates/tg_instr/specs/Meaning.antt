@@ -1,20 +1,24 @@
--- What an instruction does, by its shape, given what comes next: at the next instruction, at a mark,
--- and after the function's return (Appel, chapter 9; MIPS I and SPIM manuals).
+-- What an instruction does, by its shape, given what comes next: at the next instruction, at a
+-- mark, and after the function's return (Appel, chapter 9; MIPS I and SPIM manuals).
 use Rattle.std.specs.Prelude.{ℕ, ◌-◌, List, Option, nat_lt, if◌then◌else◌}
 use Rattle.tg_base.specs.declared.ends.RunEnd.TheVariants.{Break}
 use Rattle.tg_base.specs.Words.{add}
 use Rattle.tg_runs.specs.Runs.{Run}
 use Rattle.tg_runs.specs.Ran.{Ran, Stop, Ended}
-use Rattle.tg_tree.specs.Actions.{World, Activation, over, wrong, with_word, with_given, with_memory, service}
+use Rattle.tg_tree.specs.Actions.{World, Activation, over, wrong, with_word, with_given}
+use Rattle.tg_tree.specs.Actions.{with_memory, service}
 use Rattle.tg_tree.specs.Memory.{Memory, put, slot, literal_address}
 use Rattle.tg_tree.specs.Operators.{Given, holds}
 use Rattle.tg_tree.specs.Tree.{Literal}
 use Rattle.tg_instr.specs.declared.operands.Opnd.{Opnd}
 use Rattle.tg_instr.specs.declared.operands.Opnd.TheVariants.{Reg}
 use Rattle.tg_instr.specs.Operands.{is_same}
-use Rattle.tg_instr.specs.Shapes.{Holder, Operand, Hi, Lo, Shape, From0, From1, From2, Halves, Copy, Loads, Stores, FromSlot, ToSlot, Base, AddressOf, Here, Goes, Tests, Calls, Asks, Fails, Returns}
+use Rattle.tg_instr.specs.Shapes.{Holder, Operand, Hi, Lo, Shape, From0, From1, From2, Halves, Copy}
+use Rattle.tg_instr.specs.Shapes.{Loads, Stores, FromSlot, ToSlot, Base, AddressOf, Here, Goes}
+use Rattle.tg_instr.specs.Shapes.{Tests, Calls, Asks, Fails, Returns}
 use Rattle.tg_instr.specs.Uses.{given_back}
-use Rattle.tg_instr.specs.Contents.{Content, Nothing, Word, Contents, set, held, handed, at_entry, after_call, gives_back, cell_of, content_of}
+use Rattle.tg_instr.specs.Contents.{Content, Nothing, Word, Contents, set, held, handed, at_entry}
+use Rattle.tg_instr.specs.Contents.{after_call, gives_back, cell_of, content_of}
 
 -- what comes after an instruction, after a value, at a mark, after a return
 abbrev pub Next : Type 0
@@ -29,8 +33,8 @@ Jumps = (mark : ℕ) → World → Contents → Run Ran
 abbrev pub Back : Type 0
 Back = Content → World → Run Ran
 
--- a function is entered by its label, with what its registers have, its frame address and what comes
--- after its return
+-- a function is entered by its label, with what its registers have, its frame address and what
+-- comes after its return
 abbrev pub Enter : Type 0
 Enter = (label : ℕ) → Contents → (top : ℕ) → Back → World → Run Ran
 

@@ -1,14 +1,23 @@
 -- What an instruction does, in a few shapes: every law of instructions has a case a shape and not a
 -- case an instruction.
-use Rattle.std.specs.Prelude.{ℕ, ◌*◌, ◌==◌, if◌then◌else◌, nat_lt, Option, Some, None, bit_and, bit_or, bit_xor}
-use Rattle.tg_base.specs.Words.{add, sub, less, quot, rem, exact_sum, exact_difference, product_high, product_low, extended, extended_byte, shift_left, shift_right, shift_signed, neither, flag}
+use Rattle.std.specs.Prelude.{ℕ, ◌*◌, ◌==◌, if◌then◌else◌, nat_lt, Option, Some, None, bit_and}
+use Rattle.std.specs.Prelude.{bit_or, bit_xor}
+use Rattle.tg_base.specs.Words.{add, sub, less, quot, rem, exact_sum, exact_difference}
+use Rattle.tg_base.specs.Words.{product_high, product_low, extended, extended_byte, shift_left}
+use Rattle.tg_base.specs.Words.{shift_right, shift_signed, neither, flag}
 use Rattle.tg_runs.specs.Ran.{Wrong}
 use Rattle.tg_tree.specs.declared.operators.Rel.{Rel}
 use Rattle.tg_tree.specs.Memory.{Memory, load, load_byte, store, store_byte}
 use Rattle.tg_tree.specs.Operators.{Given, word, stops_by, exactly}
 use Rattle.tg_instr.specs.declared.operands.Opnd.{Opnd}
 use Rattle.tg_instr.specs.declared.instr.Instr.{Instr}
-use Rattle.tg_instr.specs.declared.instr.Instr.TheVariants.{Sll, Srl, Sra, Mfhi, Mflo, Mult, Div, Add, Sub, Addu, Subu, And, Or, Xor, Nor, Slt, Sltu, Addi, Addiu, Slti, Sltiu, Andi, Ori, Xori, Lui, Lb, Lbu, Lw, Sb, Sw, Move, FrameLoad, FrameStore, FrameAddress, Address, Mark, Jump, Branch, Call, Service, Fault, Return}
+use Rattle.tg_instr.specs.declared.instr.Instr.TheVariants.{Sll, Srl, Sra, Mfhi, Mflo, Mult, Div}
+use Rattle.tg_instr.specs.declared.instr.Instr.TheVariants.{Add, Sub, Addu, Subu, And, Or, Xor, Nor}
+use Rattle.tg_instr.specs.declared.instr.Instr.TheVariants.{Slt, Sltu, Addi, Addiu, Slti, Sltiu}
+use Rattle.tg_instr.specs.declared.instr.Instr.TheVariants.{Andi, Ori, Xori, Lui, Lb, Lbu, Lw, Sb}
+use Rattle.tg_instr.specs.declared.instr.Instr.TheVariants.{Sw, Move, FrameLoad, FrameStore}
+use Rattle.tg_instr.specs.declared.instr.Instr.TheVariants.{FrameAddress, Address, Mark, Jump}
+use Rattle.tg_instr.specs.declared.instr.Instr.TheVariants.{Branch, Call, Service, Fault, Return}
 
 -- what holds a value in an activation: an operand, or one of the two halves of a product
 pub data Holder : Type 0 where

@@ -1,5 +1,6 @@
 -- The interference graph of a code (Appel, chapter 11), and what each instruction adds to it.
-use Rattle.std.specs.Prelude.{◌≡◌, ◌↔◌, ◌+◌, ◌==◌, ℕ, Bool, false, not, ◌&&◌, ◌||◌, List, Option, Some, None, IsTrue}
+use Rattle.std.specs.Prelude.{◌≡◌, ◌↔◌, ◌+◌, ◌==◌, ℕ, Bool, false, not, ◌&&◌, ◌||◌, List, Option}
+use Rattle.std.specs.Prelude.{Some, None, IsTrue}
 use Rattle.tg_instr.specs.declared.instr.Instr.{Instr}
 use Rattle.tg_instr.specs.declared.operands.Opnd.{Opnd}
 use Rattle.tg_graph.specs.Interference.{Interference, interferes}

@@ -11,7 +11,7 @@ use Rattle.tg_isa.specs.declared.keywords.Segment.{Segment}
 use Rattle.tg_isa.specs.declared.keywords.Segment.TheVariants.{Code, Statics}
 use Rattle.tg_isa.specs.declared.keywords.AsmRule.{AsmRule}
 use Rattle.tg_isa.specs.Items.{Item, Nothing, Section, Words, Data', widths}
-use Rattle.tg_isa.specs.Assembly.{Reading, Spot, InCode, InStatics, Layout, next_spot, spot_among, spot_of, add_label, add_labels, round_up, add_item, labelled_item, add_reading, add_line, Fault, layout}
+use Rattle.tg_isa.specs.Assembly.{Reading, LabelTarget, InCode, InStatics, Layout, next_spot, spot_among, spot_of, add_label, add_labels, round_up, add_item, labelled_item, add_reading, add_line, Fault, layout}
 use Rattle.tg_isa.specs.Placement.{segment_behind, Reads, item_words, code_in, byte_behind, last_byte, labels_in}
 
 -- the items of the statics among readings: how many, and where each begins
@@ -23,14 +23,14 @@ abbrev pub starts_from : ℕ → List Reading → List ℕ
 starts_from byte [] = []
 starts_from byte (r ∷ rs) = item_starts byte r.item ++ starts_from (byte_behind byte r.item) rs
 
-abbrev pub spot_next : Segment → (words items : ℕ) → Spot
+abbrev pub spot_next : Segment → (words items : ℕ) → LabelTarget
 spot_next Code words items = InCode words
 spot_next Statics words items = InStatics items
 
 abbrev pub Entries : Type 0
-Entries = List (List ℕ × Spot)
+Entries = List (List ℕ × LabelTarget)
 
-abbrev pub named_so : Spot → List (List ℕ) → Entries
+abbrev pub named_so : LabelTarget → List (List ℕ) → Entries
 named_so s names = map (λ name. (name, s)) names
 
 abbrev pub spots_from : Segment → (words items : ℕ) → List Reading → Entries
@@ -101,12 +101,12 @@ others_before front more name h k d lt =
     subst (λ x. x ≢ name) a (subst (λ x. get_or (front ++ name ∷ more) k d ≢ x) b p)
 
 -- labels that differ are all added
-names-named_so : (s : Spot) (names : List (List ℕ)) → names_of (named_so s names) ≡ names
+names-named_so : (s : LabelTarget) (names : List (List ℕ)) → names_of (named_so s names) ≡ names
 names-named_so s [] = refl
 names-named_so s (name ∷ names) = ap (λ l. name ∷ l) (names-named_so s names)
 
-names-append : (es : Entries) (s : Spot) (names : List (List ℕ)) → names_of (es ++ named_so s names) ≡ names_of es ++ names
-names-append es s names = map-append (λ (e : List ℕ × Spot). e.0) es (named_so s names) ∙ ap (λ l. names_of es ++ l) (names-named_so s names)
+names-append : (es : Entries) (s : LabelTarget) (names : List (List ℕ)) → names_of (es ++ named_so s names) ≡ names_of es ++ names
+names-append es s names = map-append (λ (e : List ℕ × LabelTarget). e.0) es (named_so s names) ∙ ap (λ l. names_of es ++ l) (names-named_so s names)
 
 spot_same : (l : Layout) (es : Entries) (segment : Segment) → next_spot (record l { labels = es }) segment ≡ next_spot l segment
 spot_same l es Code = refl

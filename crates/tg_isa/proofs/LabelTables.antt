@@ -7,19 +7,19 @@ use Rattle.tg_base.specs.State.{most_words, most_bytes}
 use Rattle.tg_isa.specs.declared.keywords.Segment.{Segment}
 use Rattle.tg_isa.specs.declared.keywords.Segment.TheVariants.{Code, Statics}
 use Rattle.tg_isa.specs.Items.{Item, Nothing, Section, Words, Data', widths}
-use Rattle.tg_isa.specs.Assembly.{Reading, Spot, InCode, InStatics, Layout, spot_among, spot_of, address, address_of, round_up}
+use Rattle.tg_isa.specs.Assembly.{Reading, LabelTarget, InCode, InStatics, Layout, spot_among, spot_of, address, address_of, round_up}
 use Rattle.tg_isa.specs.Placement.{segment_behind, item_words, code_in, byte_behind, last_byte, begins_at, next_byte, Position, AtWord, AtByte, address_at, next_position, Positions, positions_from, position_of, found_address}
 use Rattle.tg_isa.proofs.FirstPass.{item_starts, starts_from, spot_next, Entries, named_so, spots_from, starts_alike, bytes_grow}
 
 -- the position of a spot
-abbrev pub resolved : (starts : List ℕ) (size : ℕ) → Spot → Position
+abbrev pub resolved : (starts : List ℕ) (size : ℕ) → LabelTarget → Position
 resolved starts size (InCode n) = AtWord n
 resolved starts size (InStatics k) = AtByte (get_or starts k size)
 
 abbrev pub resolved_all : (starts : List ℕ) (size : ℕ) → Entries → Positions
 resolved_all starts size es = map (λ e. (e.0, resolved starts size e.1)) es
 
-abbrev pub found_so : (starts : List ℕ) (size : ℕ) → Option Spot → Option Position
+abbrev pub found_so : (starts : List ℕ) (size : ℕ) → Option LabelTarget → Option Position
 found_so starts size (Some s) = Some (resolved starts size s)
 found_so starts size None = None
 
@@ -52,7 +52,7 @@ next_resolved : (segment : Segment) (w : ℕ) (front : List ℕ) (rs : List Read
 next_resolved Code w front rs b = refl
 next_resolved Statics w front rs b = ap AtByte (next_start front rs b)
 
-named_resolved : (starts : List ℕ) (size : ℕ) (s : Spot) (names : List (List ℕ)) → resolved_all starts size (named_so s names) ≡ map (λ name. (name, resolved starts size s)) names
+named_resolved : (starts : List ℕ) (size : ℕ) (s : LabelTarget) (names : List (List ℕ)) → resolved_all starts size (named_so s names) ≡ map (λ name. (name, resolved starts size s)) names
 named_resolved starts size s [] = refl
 named_resolved starts size s (name ∷ names) = ap (λ l. (name, resolved starts size s) ∷ l) (named_resolved starts size s names)
 
@@ -78,7 +78,7 @@ resolves (r ∷ rs) segment w front b =
     ap (λ n. resolved_all starts size (spots_from s w' n rs)) k
     ∙ ap (λ t. resolved_all t size (spots_from s w' (length front') rs)) same
     ∙ resolves rs s w' front' b' in
-    map-append (λ (e : List ℕ × Spot). (e.0, resolved starts size e.1)) (named_so (spot_next segment w (length front)) r.labels) (spots_from s w' (length front + length (item_starts 0 r.item)) rs)
+    map-append (λ (e : List ℕ × LabelTarget). (e.0, resolved starts size e.1)) (named_so (spot_next segment w (length front)) r.labels) (spots_from s w' (length front + length (item_starts 0 r.item)) rs)
     ∙ appended _ _ _ _ here there
 
 -- every position is within the segments
@@ -128,13 +128,13 @@ pub record Knows (l : Layout) (ps : Positions) : Type 0 where
 pub is_within : (rs : List Reading) (name : List ℕ) (p : Position) → length (code_in rs) ≤ most_words → last_byte 0 rs ≤ most_bytes → position_of (positions_from Code 0 0 rs) name ≡ Some p → Within most_words most_bytes p
 is_within rs name p h k e = subst (FoundWithin most_words most_bytes) e (found_within rs Code 0 0 most_words most_bytes name (omega (arith, h)) k)
 
-address_same : (l : Layout) (s : Spot) → Within most_words most_bytes (resolved l.starts l.size s) → address l s ≡ address_at (resolved l.starts l.size s)
+address_same : (l : Layout) (s : LabelTarget) → Within most_words most_bytes (resolved l.starts l.size s) → address l s ≡ address_at (resolved l.starts l.size s)
 address_same l (InCode n) h = omega (arith, h)
 address_same l (InStatics k) h = omega (arith, h)
 
 pub address_known : (l : Layout) (ps : Positions) (name : List ℕ) → Knows l ps → IsSome (position_of ps name) → address_of l (spot_of l name) ≡ Ok (found_address (position_of ps name))
 address_known l ps name k h = by (spot_of l name) (k.spots name)
   where
-    by : (o : Option Spot) → position_of ps name ≡ found_so l.starts l.size o → address_of l o ≡ Ok (found_address (position_of ps name))
+    by : (o : Option LabelTarget) → position_of ps name ≡ found_so l.starts l.size o → address_of l o ≡ Ok (found_address (position_of ps name))
     by (Some s) e = ap Ok (address_same l s (k.within name (resolved l.starts l.size s) e)) ∙ ap (λ o. Ok (found_address o)) (sym e)
     by None e = let n = rw e at h in cc

@@ -4,7 +4,7 @@ use Rattle.std.proofs.Common.{◌≡◌, ◌<◌, ◌≤◌, ℕ, true, List, []
 use Rattle.tg_base.specs.State.{most_words}
 use Rattle.tg_isa.specs.declared.keywords.Segment.TheVariants.{Code}
 use Rattle.tg_isa.specs.Lines.{lines}
-use Rattle.tg_isa.specs.Assembly.{Reading, Spot, InCode, InStatics, Layout, blank, spot_of, address, entry_at, entry, unmade, make, layout, enter, finish, fill_in, assembled}
+use Rattle.tg_isa.specs.Assembly.{Reading, LabelTarget, InCode, InStatics, Layout, blank, spot_of, address, entry_at, entry, unmade, make, layout, enter, finish, fill_in, assembled}
 use Rattle.tg_isa.specs.Placement.{AtWord, address_at, Reads, code_in, last_byte, Positions, positions, position_of, found_address, placed_words, placed_bytes, image_of, JumpReaches, WordsReach, IsSound}
 use Rattle.tg_isa.specs.Laws.{ReadingsHaveImage}
 use Rattle.tg_isa.proofs.FirstPass.{segment_end, laid, starts_from, spots_from, lays}
@@ -20,7 +20,7 @@ known rs s = record {
 entered : (l : Layout) (ps : Positions) → Knows l ps → JumpReaches l.words (position_of ps (codes "main")) → entry l ≡ Some (found_address (position_of ps (codes "main")))
 entered l ps k h = by (spot_of l (codes "main")) (k.spots (codes "main"))
   where
-    by : (o : Option Spot) → position_of ps (codes "main") ≡ found_so l.starts l.size o → entry_at l o ≡ Some (found_address (position_of ps (codes "main")))
+    by : (o : Option LabelTarget) → position_of ps (codes "main") ≡ found_so l.starts l.size o → entry_at l o ≡ Some (found_address (position_of ps (codes "main")))
     by (Some (InCode i)) e =
         let r : i < l.words = subst (JumpReaches l.words) e h in
         let t : nat_lt i l.words ≡ true = lt-ltb i l.words r in

@@ -7,8 +7,8 @@ use Rattle.tg_isa.specs.declared.mips.Mips.{Mips}
 use Rattle.tg_isa.specs.declared.keywords.Segment.{Segment}
 use Rattle.tg_isa.specs.declared.keywords.AsmRule.{AsmRule}
 use Rattle.tg_isa.specs.Table.{word_of}
-use Rattle.tg_isa.specs.Items.{Item, Nothing, Section, Words, Data', Coded, Fixed, Branch, Jump, Upper, Lower, Datum, Value, Place, Single, Bytes, Zeros, width, widths}
-use Rattle.tg_isa.specs.Assembly.{Reading, Spot, InCode, InStatics, Layout, spot_of, with_offset, with_target, branch_word, branch_to, jump_to, upper, lower, word, place_bytes, datum_bytes, Made, make_words, make_data, pad, round_up, make_item, make_reading, make_line, make}
+use Rattle.tg_isa.specs.Items.{Item, Nothing, Section, Words, Data', Coded, Fixed, Branch, Jump, Upper, Lower, Datum, Value, AddressOfLabel, Single, Bytes, Zeros, width, widths}
+use Rattle.tg_isa.specs.Assembly.{Reading, LabelTarget, InCode, InStatics, Layout, spot_of, with_offset, with_target, branch_word, branch_to, jump_to, upper, lower, word, place_bytes, datum_bytes, Made, make_words, make_data, pad, round_up, make_item, make_reading, make_line, make}
 use Rattle.tg_isa.specs.Placement.{segment_behind, Reads, item_words, code_in, byte_behind, Positions, found_word, offset_to, placed_word, placed_words, placed_datum, placed_data, placed_item, placed_bytes, BranchReaches, JumpReaches, WordReaches, WordsReach, DatumStands, DataStand, ItemStands, ItemsStand}
 use Rattle.tg_isa.proofs.FirstPass.{segment_end}
 use Rattle.tg_isa.proofs.LabelTables.{found_so, Knows, address_known}
@@ -29,12 +29,12 @@ branch_near one at to h k = by (nat_lt at to) refl
         let o : 2 ^ 16 - (at + 1 - to) ≡ offset_to at to = omega (arith, l, k) in
         rw (e, t) (ap (λ n. Ok (word_of (with_offset one n))) o)
 
-branch_found : (one : Mips) (at : ℕ) (starts : List ℕ) (size : ℕ) (o : Option Spot) → BranchReaches at (found_so starts size o) → branch_to one at o ≡ Ok (word_of (with_offset one (offset_to at (found_word (found_so starts size o)))))
+branch_found : (one : Mips) (at : ℕ) (starts : List ℕ) (size : ℕ) (o : Option LabelTarget) → BranchReaches at (found_so starts size o) → branch_to one at o ≡ Ok (word_of (with_offset one (offset_to at (found_word (found_so starts size o)))))
 branch_found one at starts size (Some (InCode to)) h = branch_near one at to h.0 h.1
 branch_found one at starts size (Some (InStatics k)) h = absurd h
 branch_found one at starts size None h = absurd h
 
-jump_found : (l : Layout) (one : Mips) (starts : List ℕ) (size : ℕ) (o : Option Spot) → JumpReaches l.words (found_so starts size o) → jump_to l one o ≡ Ok (word_of (with_target one (code_base / 4 + found_word (found_so starts size o))))
+jump_found : (l : Layout) (one : Mips) (starts : List ℕ) (size : ℕ) (o : Option LabelTarget) → JumpReaches l.words (found_so starts size o) → jump_to l one o ≡ Ok (word_of (with_target one (code_base / 4 + found_word (found_so starts size o))))
 jump_found l one starts size (Some (InCode to)) h = let t : nat_lt to l.words ≡ true = lt-ltb to l.words h in rw t refl
 jump_found l one starts size (Some (InStatics k)) h = absurd h
 jump_found l one starts size None h = absurd h
@@ -81,14 +81,14 @@ words_made l ps (c ∷ cs) m k h =
 -- data
 datum_made : (l : Layout) (ps : Positions) (d : Datum) → Knows l ps → DatumStands ps d → datum_bytes l d ≡ Ok (placed_datum ps d)
 datum_made l ps (Value n) k h = refl
-datum_made l ps (Place label) k h = ap place_bytes (address_known l ps label k h)
+datum_made l ps (AddressOfLabel label) k h = ap place_bytes (address_known l ps label k h)
 datum_made l ps (Single n) k h = refl
 datum_made l ps (Bytes bytes) k h = refl
 datum_made l ps (Zeros n) k h = refl
 
 length-placed_datum : (ps : Positions) (d : Datum) → length (placed_datum ps d) ≡ width d
 length-placed_datum ps (Value n) = refl
-length-placed_datum ps (Place label) = refl
+length-placed_datum ps (AddressOfLabel label) = refl
 length-placed_datum ps (Single n) = refl
 length-placed_datum ps (Bytes bytes) = refl
 length-placed_datum ps (Zeros n) = length-replicate n 0

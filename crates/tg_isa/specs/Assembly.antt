@@ -17,7 +17,8 @@ use Rattle.tg_isa.specs.Table.{word_of}
 use Rattle.tg_isa.specs.Lines.{lines, Cut, cut, Operand}
 use Rattle.tg_isa.specs.Operands.{field}
 use Rattle.tg_isa.specs.Items.{keyword, stands_in, Item, Nothing, Section, Words, Data', item}
-use Rattle.tg_isa.specs.Items.{Coded, Fixed, Branch, Jump, Upper, Lower, Datum, Value, Place}
+use Rattle.tg_isa.specs.Items.{Coded, Fixed, Branch, Jump, Upper, Lower, Datum, Value}
+use Rattle.tg_isa.specs.Items.{AddressOfLabel}
 use Rattle.tg_isa.specs.Items.{Single, Bytes, Zeros, widths}
 
 -- Lines to items: the labels and the item of a line that stands in a segment, or the first fault of
@@ -49,9 +50,9 @@ reading segment line = read_cut segment (cut line)
 
 -- Items to places. A label stands for a word of the code, or for an item of the statics, by its
 -- number.
-pub data Spot : Type 0 where
-  InCode : ℕ → Spot
-  InStatics : ℕ → Spot
+pub data LabelTarget : Type 0 where
+  InCode : ℕ → LabelTarget
+  InStatics : ℕ → LabelTarget
 
 -- The segment in force, the words of code so far, where each item of the statics begins and where
 -- they end so far,
@@ -61,28 +62,28 @@ pub record Layout : Type 0 where
   pub words : ℕ
   pub starts : List ℕ
   pub size : ℕ
-  pub labels : List (List ℕ × Spot)
+  pub labels : List (List ℕ × LabelTarget)
 
 abbrev pub blank : Layout
 blank = record { segment = Code; words = 0; starts = []; size = 0; labels = [] }
 
 -- the place of the next item of the segment in force
-abbrev pub next_spot : Layout → Segment → Spot
+abbrev pub next_spot : Layout → Segment → LabelTarget
 next_spot l Code = InCode l.words
 next_spot l Statics = InStatics (length l.starts)
 
 -- labels to places: the spot of a label
-abbrev pub spot_among : List (List ℕ × Spot) → List ℕ → Option Spot
+abbrev pub spot_among : List (List ℕ × LabelTarget) → List ℕ → Option LabelTarget
 spot_among [] name = None
 spot_among (e ∷ es) name = if bytes_eq name e.0 then Some e.1 else spot_among es name
 
-abbrev pub spot_of : Layout → List ℕ → Option Spot
+abbrev pub spot_of : Layout → List ℕ → Option LabelTarget
 spot_of l name = spot_among l.labels name
 
 abbrev pub add_label : Layout → List ℕ → Layout
 add_label l name = record l { labels = l.labels ++ (name, next_spot l l.segment) ∷ [] }
 
-abbrev pub add_new : Layout → List ℕ → Option Spot → Result Layout AsmRule
+abbrev pub add_new : Layout → List ℕ → Option LabelTarget → Result Layout AsmRule
 add_new l name (Some s) = Err A4
 add_new l name None = Ok (add_label l name)
 
@@ -143,11 +144,11 @@ layout n l (line ∷ more) =
     ]
 
 -- Places to words, by the layout of the whole text.
-abbrev pub address : Layout → Spot → ℕ
+abbrev pub address : Layout → LabelTarget → ℕ
 address l (InCode i) = add code_base (mul 4 i)
 address l (InStatics k) = add statics_base (slice_index_or l.starts k l.size)
 
-abbrev pub address_of : Layout → Option Spot → Result ℕ AsmRule
+abbrev pub address_of : Layout → Option LabelTarget → Result ℕ AsmRule
 address_of l (Some s) = Ok (address l s)
 address_of l None = Err A5
 
@@ -178,13 +179,13 @@ branch_word one at to =
     then Ok (word_of (with_offset one (2 ^ 16 - (at + 1 - to))))
     else Err A6
 
-abbrev pub branch_to : Mips → (at : ℕ) → Option Spot → Result ℕ AsmRule
+abbrev pub branch_to : Mips → (at : ℕ) → Option LabelTarget → Result ℕ AsmRule
 branch_to one at (Some (InCode to)) = branch_word one at to
 branch_to one at (Some (InStatics k)) = Err A6
 branch_to one at None = Err A5
 
 -- a jump, but not to the code's end
-abbrev pub jump_to : Layout → Mips → Option Spot → Result ℕ AsmRule
+abbrev pub jump_to : Layout → Mips → Option LabelTarget → Result ℕ AsmRule
 jump_to l one (Some (InCode to)) =
     if nat_lt to l.words then Ok (word_of (with_target one (code_base / 4 + to))) else Err A6
 jump_to l one (Some (InStatics k)) = Err A6
@@ -215,7 +216,7 @@ place_bytes (Err e) = Err e
 
 abbrev pub datum_bytes : Layout → Datum → Result (List ℕ) AsmRule
 datum_bytes l (Value n) = Ok (word_bytes (field 32 n))
-datum_bytes l (Place label) = place_bytes (address_of l (spot_of l label))
+datum_bytes l (AddressOfLabel label) = place_bytes (address_of l (spot_of l label))
 datum_bytes l (Single n) = Ok (field 8 n ∷ [])
 datum_bytes l (Bytes bytes) = Ok bytes
 datum_bytes l (Zeros n) = Ok (replicate n 0)
@@ -290,7 +291,7 @@ last_line [] = 1
 last_line (c ∷ text) = count_line c text (last_line text)
 
 -- the entry is the place of `main`, which is in the code and not at its end
-abbrev pub entry_at : Layout → Option Spot → Option ℕ
+abbrev pub entry_at : Layout → Option LabelTarget → Option ℕ
 entry_at l (Some (InCode i)) = if nat_lt i l.words then Some (address l (InCode i)) else None
 entry_at l (Some (InStatics k)) = None
 entry_at l None = None

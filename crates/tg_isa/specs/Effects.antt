@@ -18,27 +18,28 @@ use Rattle.tg_base.specs.declared.ends.RunEnd.TheVariants.{BadWord}
 use Rattle.tg_base.specs.Words.{add, sub, less, quot, rem, exact_sum, exact_difference}
 use Rattle.tg_base.specs.Words.{product_high, product_low, extended, extended_byte, shift_left}
 use Rattle.tg_base.specs.Words.{shift_right, shift_signed, neither, flag}
-use Rattle.tg_base.specs.State.{State, code_base, register, set_register, go, offset, load_byte}
+use Rattle.tg_base.specs.State.{MachineState, code_base, register, set_register, go, offset}
+use Rattle.tg_base.specs.State.{load_byte}
 use Rattle.tg_base.specs.State.{load_word, store_byte, store_word}
 use Rattle.tg_base.specs.Services.{Step, Goes, Ends, service}
 
 -- a register gets a word, or the access ends
-abbrev pub put : State → ℕ → Result ℕ RunEnd → Step
+abbrev pub put : MachineState → ℕ → Result ℕ RunEnd → Step
 put s r (Ok v) = Goes (set_register s r v)
 put s r (Err e) = Ends e
 
 -- a register gets an exact result, or the word of it is not there
-abbrev pub put_exact : State → ℕ → Option ℕ → Step
+abbrev pub put_exact : MachineState → ℕ → Option ℕ → Step
 put_exact s r (Some v) = Goes (set_register s r v)
 put_exact s r None = Ends Overflow
 
 -- memory was stored to, or the access ends
-abbrev pub stored : Result State RunEnd → Step
+abbrev pub stored : Result MachineState RunEnd → Step
 stored (Ok s) = Goes s
 stored (Err e) = Ends e
 
 -- the address of a load or a store
-abbrev pub address : State → ℕ → ℕ → ℕ
+abbrev pub address : MachineState → ℕ → ℕ → ℕ
 address s base number = add (register s base) (extended number)
 
 -- a load of a byte, as a word with its sign
@@ -47,26 +48,26 @@ extended_load (Ok b) = Ok (extended_byte b)
 extended_load (Err e) = Err e
 
 -- the place of a branch, in a state whose place is the next one: so many words further on
-abbrev pub branch : State → ℕ → State
+abbrev pub branch : MachineState → ℕ → MachineState
 branch s number = go s (add s.place (4 * extended number % 2 ^ 32))
 
 -- a branch where a test holds
-abbrev pub branch_if : Bool → State → ℕ → Step
+abbrev pub branch_if : Bool → MachineState → ℕ → Step
 branch_if b s number = if b then Goes (branch s number) else Goes s
 
-abbrev pub branch_unless : Bool → State → ℕ → Step
+abbrev pub branch_unless : Bool → MachineState → ℕ → Step
 branch_unless b s number = if b then Goes s else Goes (branch s number)
 
 -- the place of a jump: the upper 4 bits of the next place, then the target, then 00
-abbrev pub jump : State → ℕ → ℕ
+abbrev pub jump : MachineState → ℕ → ℕ
 jump s target = s.place / 2 ^ 28 * 2 ^ 28 + 4 * target
 
 -- the quotient and the remainder, where the divisor is not 0
-abbrev pub divide : State → ℕ → ℕ → State
+abbrev pub divide : MachineState → ℕ → ℕ → MachineState
 divide s a b = if b == 0 then s else record s { hi = rem a b; lo = quot a b }
 
 -- the effect of an instruction, in a state whose place is the next one
-abbrev pub effect : Mips → State → Step
+abbrev pub effect : Mips → MachineState → Step
 effect (Sll rd rt shamt) s = Goes (set_register s rd (shift_left (register s rt) shamt))
 effect (Srl rd rt shamt) s = Goes (set_register s rd (shift_right (register s rt) shamt))
 effect (Sra rd rt shamt) s = Goes (set_register s rd (shift_signed (register s rt) shamt))
@@ -121,20 +122,20 @@ abbrev pub decoded : ℕ → Option Mips → Result Mips RunEnd
 decoded w (Some one) = Ok one
 decoded w None = Err (BadWord w)
 
-abbrev pub fetched : State → Option ℕ → Result Mips RunEnd
+abbrev pub fetched : MachineState → Option ℕ → Result Mips RunEnd
 fetched s (Some i) = decoded (slice_index s.code (i / 4)) (decode_of (slice_index s.code (i / 4)))
 fetched s None = Err (BadAddress s.place)
 
-abbrev pub fetch : State → Result Mips RunEnd
+abbrev pub fetch : MachineState → Result Mips RunEnd
 fetch s =
     if s.place == 0 then Err (Exit (pos 0)) else
     if s.place % 4 == 0 then fetched s (offset s.place code_base (4 * length s.code)) else
     Err (Unaligned s.place)
 
 -- one step: the fetch, and then the effect
-abbrev pub performed : State → Result Mips RunEnd → Step
+abbrev pub performed : MachineState → Result Mips RunEnd → Step
 performed s (Ok one) = effect one (go s (add s.place 4))
 performed s (Err e) = Ends e
 
-abbrev pub step : State → Step
+abbrev pub step : MachineState → Step
 step s = performed s (fetch s)

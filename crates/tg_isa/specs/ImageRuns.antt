@@ -1,14 +1,14 @@
 -- The machine's run of an image as a run by fuel: a step takes a unit of fuel, and is a unit of
 -- work.
 use Rattle.std.specs.Prelude.{ℕ, zero, suc, ◌≡◌, ◌≤◌, List, [], ◌∷◌, Option, Some, None}
-use Rattle.tg_base.specs.State.{State, start}
+use Rattle.tg_base.specs.State.{MachineState, start}
 use Rattle.tg_base.specs.Services.{Goes, Ends, Reads, Writes, answered}
 use Rattle.tg_runs.specs.Runs.{Run}
 use Rattle.tg_runs.specs.Ran as ran
 use Rattle.tg_runs.specs.Ran.{Ran, stops, writes, works, StaysOver, OnlyGoesOn}
 use Rattle.tg_isa.specs.declared.images.Image.{Image}
 use Rattle.tg_isa.specs.Effects.{step}
-use Rattle.tg_isa.specs.Runs.{Outcome, Running, Ended, run, begun, answers}
+use Rattle.tg_isa.specs.Runs.{Progress, Running, Ended, run, begun, answers}
 
 abbrev pub first_byte : List ℕ → Option ℕ
 first_byte [] = None
@@ -19,7 +19,7 @@ later_bytes [] = []
 later_bytes (b ∷ rest) = rest
 
 -- what comes of a machine from a state on
-abbrev pub machine_run : State → (input : List ℕ) → Run Ran
+abbrev pub machine_run : MachineState → (input : List ℕ) → Run Ran
 machine_run s input zero = stops input ran.WantsFuel
 machine_run s input (suc n) = works 1 (elim (step s) as (λ _. Ran) [
   | Goes t ↦ machine_run t input n
@@ -33,7 +33,7 @@ image_run image input heap stack =
     machine_run (start image.code image.statics image.entry heap stack) input
 
 -- it is what at most so many steps come to, on an input that is these bytes
-abbrev pub IsRunOf : (n : ℕ) → Outcome → Ran → Type 0
+abbrev pub IsRunOf : (n : ℕ) → Progress → Ran → Type 0
 IsRunOf n (Running w) r =
     (r.output ≡ w.output) × (w.input ≡ answers r.input) × (r.stop ≡ ran.WantsFuel) × (r.work ≡ n)
 IsRunOf n (Ended e w) r =
@@ -41,12 +41,12 @@ IsRunOf n (Ended e w) r =
 
 abbrev pub RunsByFuel : Type 0
 RunsByFuel =
-    (n : ℕ) (s : State) (input : List ℕ) →
+    (n : ℕ) (s : MachineState) (input : List ℕ) →
     IsRunOf n (run n (begun s (answers input))) (machine_run s input n)
 
 -- what has ended stays so with more fuel, and with more fuel a run goes on
 abbrev pub MachineStaysOver : Type 0
-MachineStaysOver = (s : State) (input : List ℕ) → StaysOver (machine_run s input)
+MachineStaysOver = (s : MachineState) (input : List ℕ) → StaysOver (machine_run s input)
 
 abbrev pub MachineGoesOn : Type 0
-MachineGoesOn = (s : State) (input : List ℕ) → OnlyGoesOn (machine_run s input)
+MachineGoesOn = (s : MachineState) (input : List ℕ) → OnlyGoesOn (machine_run s input)

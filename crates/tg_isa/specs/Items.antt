@@ -271,14 +271,14 @@ coded k f = Fixed (row_of k f) ∷ []
 -- many zeros.
 pub data Datum : Type 0 where
   Value : Signed → Datum
-  Place : List ℕ → Datum
+  AddressOfLabel : List ℕ → Datum
   Single : Signed → Datum
   Bytes : List ℕ → Datum
   Zeros : ℕ → Datum
 
 abbrev pub width : Datum → ℕ
 width (Value n) = 4
-width (Place label) = 4
+width (AddressOfLabel label) = 4
 width (Single n) = 1
 width (Bytes bytes) = length bytes
 width (Zeros n) = n
@@ -307,7 +307,7 @@ instruction k os = filled k (fill_all (slots k (length os)) os unfilled)
 -- an operand of `.word` or `.byte`
 abbrev pub or_place : Option Signed → List ℕ → Option Datum
 or_place (Some n) text = Some (Value n)
-or_place None text = if is_label text then Some (Place text) else None
+or_place None text = if is_label text then Some (AddressOfLabel text) else None
 
 abbrev pub as_single : Option Signed → Option Datum
 as_single (Some n) = Some (Single n)

@@ -11,7 +11,7 @@ use Rattle.tg_isa.specs.declared.keywords.Segment.TheVariants.{Code, Statics}
 use Rattle.tg_isa.specs.Table.{word_of}
 use Rattle.tg_isa.specs.Operands.{field}
 use Rattle.tg_isa.specs.Items.{Item, Section, Words, Data', Coded, Fixed, Branch, Jump, Upper}
-use Rattle.tg_isa.specs.Items.{Lower, Datum, Value, Place, Single, Bytes, Zeros, widths}
+use Rattle.tg_isa.specs.Items.{Lower, Datum, Value, AddressOfLabel, Single, Bytes, Zeros, widths}
 use Rattle.tg_isa.specs.Assembly.{Reading, reading, Assembled, round_up, with_offset, with_target}
 use Rattle.tg_isa.specs.Assembly.{word_bytes}
 
@@ -124,7 +124,7 @@ placed_words ps at (c ∷ cs) = placed_word ps at c ∷ placed_words ps (at + 1)
 -- the bytes of the statics: those of each item, behind its padding
 abbrev pub placed_datum : Positions → Datum → List ℕ
 placed_datum ps (Value n) = word_bytes (field 32 n)
-placed_datum ps (Place label) = word_bytes (found_address (position_of ps label))
+placed_datum ps (AddressOfLabel label) = word_bytes (found_address (position_of ps label))
 placed_datum ps (Single n) = field 8 n ∷ []
 placed_datum ps (Bytes bytes) = bytes
 placed_datum ps (Zeros n) = replicate n 0
@@ -176,7 +176,7 @@ WordsReach ps words at (c ∷ cs) = WordReaches ps words at c × WordsReach ps w
 
 -- the labels that data name stand
 abbrev pub DatumStands : Positions → Datum → Type 0
-DatumStands ps (Place label) = IsSome (position_of ps label)
+DatumStands ps (AddressOfLabel label) = IsSome (position_of ps label)
 DatumStands ps d = ⊤
 
 abbrev pub DataStand : Positions → List Datum → Type 0

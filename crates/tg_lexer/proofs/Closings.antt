@@ -1,12 +1,12 @@
 -- Comments: what closes them, and that nothing else does.
 use Rattle.std.proofs.Common.{ℕ, zero, suc, ◌+◌, ◌≡◌, ◌≢◌, ◌-◌, ◌≤◌, ◌<◌, get_or, List, [], ◌∷◌, ◌++◌, length, take, drop, refl, sym, ap, subst, ◌∙◌, arith, append_assoc}
 use Rattle.std.proofs.lemmas.List.{drop_all, drop_more, append_cancel_right}
-use Rattle.tg_syntax.specs.Lexing.{Begins, OpensComment, ClosesComment, Closes, done, closes, opens, byte}
+use Rattle.tg_syntax.specs.Lexing.{BeginsWithPair, OpensComment, ClosesComment, Closes, done, closes, opens, byte}
 use Rattle.tg_lexer.specs.Fronts.{NeverCloses}
 use Rattle.tg_lexer.proofs.Basics.{head_is, tail_is, not_cons, differ, drop_piece, take_piece, within_piece}
 
 -- what closes something isn't empty
-begins_first : {depth : ℕ} {more : List ℕ} → Closes (suc depth) more → (a b : ℕ) (rest after : List ℕ) → more ++ rest ≡ b ∷ after → Begins a b (a ∷ more)
+begins_first : {depth : ℕ} {more : List ℕ} → Closes (suc depth) more → (a b : ℕ) (rest after : List ℕ) → more ++ rest ≡ b ∷ after → BeginsWithPair a b (a ∷ more)
 begins_first (closes c) a b rest after e = (refl, head_is e)
 begins_first (opens c) a b rest after e = (refl, head_is e)
 begins_first (byte x unopening unclosing c) a b rest after e = (refl, head_is e)
@@ -39,7 +39,7 @@ left_closes depth tail rest h = by h.closes h.tail_whole
         let f : more ++ rest ≡ 47 ∷ tail = sym (tail_is e) in
         absurd (unclosing (subst (λ x. ClosesComment (x ∷ more)) same (begins_first c 42 47 rest tail f)))
 
-pub begins_is : (a c b : ℕ) (tail rest : List ℕ) → b ≡ a → tail ≡ c ∷ rest → Begins a c (b ∷ tail)
+pub begins_is : (a c b : ℕ) (tail rest : List ℕ) → b ≡ a → tail ≡ c ∷ rest → BeginsWithPair a c (b ∷ tail)
 begins_is a c b [] rest e f = absurd (not_cons f)
 begins_is a c b (x ∷ tail) rest e f = (e, head_is f)
 
@@ -76,7 +76,7 @@ open_first text =
     }
 
 -- the first two bytes of a text
-pub two_bytes : (a b : ℕ) (text : List ℕ) → Begins a b text → text ≡ a ∷ b ∷ drop 2 text
+pub two_bytes : (a b : ℕ) (text : List ℕ) → BeginsWithPair a b text → text ≡ a ∷ b ∷ drop 2 text
 two_bytes a b [] h = absurd h
 two_bytes a b (x ∷ []) h = absurd h
 two_bytes a b (x ∷ y ∷ text) h = let e = h.0 in let f = h.1 in cc
@@ -113,7 +113,7 @@ open_closes text (suc depth) at h o ne =
           rw (n, drop_piece at text piece (drop 2 (drop at text)) e) l;
     }
 
-begins_longer : (a b x : ℕ) (more rest : List ℕ) → Begins a b (x ∷ more) → Begins a b (x ∷ more ++ rest)
+begins_longer : (a b x : ℕ) (more rest : List ℕ) → BeginsWithPair a b (x ∷ more) → BeginsWithPair a b (x ∷ more ++ rest)
 begins_longer a b x [] rest h = absurd h
 begins_longer a b x (y ∷ more) rest h = h
 
@@ -155,7 +155,7 @@ open_ended text (suc depth) at h le inside rest w c =
     by (opens c) e = not_cons e
     by (byte b unopening unclosing c) e = not_cons e
 
-begins_shorter : {depth : ℕ} {more : List ℕ} → Closes (suc depth) more → (a b x : ℕ) (rest : List ℕ) → Begins a b (x ∷ more ++ rest) → Begins a b (x ∷ more)
+begins_shorter : {depth : ℕ} {more : List ℕ} → Closes (suc depth) more → (a b x : ℕ) (rest : List ℕ) → BeginsWithPair a b (x ∷ more ++ rest) → BeginsWithPair a b (x ∷ more)
 begins_shorter (closes c) a b x rest h = h
 begins_shorter (opens c) a b x rest h = h
 begins_shorter (byte y unopening unclosing c) a b x rest h = h

@@ -1,6 +1,7 @@
 -- Which operands may not stand in one register (Appel, chapter 11): a definition interferes with
 -- each other operand that is live out of its instruction, but for a move's with what it moves.
-use Rattle.std.specs.Prelude.{◌⊎◌, ℕ, Bool, true, false, not, nat_eq, ◌&&◌, List, [], ◌∷◌, Option, Some, None, IsTrue, slice_get}
+use Rattle.std.specs.Prelude.{◌⊎◌, ℕ, Bool, true, false, not, nat_eq, ◌&&◌, List, [], ◌∷◌, Option}
+use Rattle.std.specs.Prelude.{Some, None, IsTrue, slice_get}
 use Rattle.std.specs.List.{list_any}
 use Rattle.tg_instr.specs.declared.instr.Instr.{Instr}
 use Rattle.tg_instr.specs.declared.operands.Opnd.{Opnd}

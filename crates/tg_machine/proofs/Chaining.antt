@@ -3,53 +3,53 @@ use Rattle.std.proofs.Common.{◌≡◌, ◌<◌, ◌≤◌, ◌⊎◌, inl, inr
 use Rattle.std.specs.Io.KnownBytes.{Appends}
 use Rattle.std.proofs.KnownBytes.{Appends-trans}
 use Rattle.tg_base.specs.declared.ends.RunEnd.{RunEnd}
-use Rattle.tg_base.specs.State.{State}
+use Rattle.tg_base.specs.State.{MachineState}
 use Rattle.tg_base.specs.Services.{Step, Goes, Ends, Reads, Writes, answered}
 use Rattle.tg_isa.specs.Effects.{step}
-use Rattle.tg_isa.specs.Runs.{World, Outcome, Running, Ended, proceed, run, begun, first_answer, later_answers}
-use Rattle.tg_machine.specs.Ran.{Tells, StillTells, IsReading, IsWriting, ComesToRead, ComesToWrite, Stops, still, ended, read_failed, write_failed, counted}
+use Rattle.tg_isa.specs.Runs.{Execution, Progress, Running, Ended, proceed, run, begun, first_answer, later_answers}
+use Rattle.tg_machine.specs.Ran.{Tells, StillTells, IsReading, IsWriting, ComesToRead, ComesToWrite, Stops, still, ended, read_failed, write_failed, saturating_sum}
 use Rattle.tg_machine.specs.Laws.{CallsChain}
 use Rattle.tg_machine.proofs.Runs.{go_on, run_suc, run_add, running_same}
-use Rattle.tg_machine.proofs.Reached.{counted-add, rose_later}
+use Rattle.tg_machine.proofs.Reached.{saturating_sum-add, rose_later}
 
-abbrev world : State → List (Option ℕ) → List ℕ → World
+abbrev world : MachineState → List (Option ℕ) → List ℕ → Execution
 world s input output = record { machine = s; input = input; output = output }
 
 -- the same with an output in front, and with other answers
-abbrev behind : List ℕ → World → World
+abbrev behind : List ℕ → Execution → Execution
 behind front w = world w.machine w.input (front ++ w.output)
 
-abbrev all_behind : List ℕ → Outcome → Outcome
+abbrev all_behind : List ℕ → Progress → Progress
 all_behind front (Running w) = Running (behind front w)
 all_behind front (Ended e w) = Ended e (behind front w)
 
-proceed-behind : (front : List ℕ) (w : World) (d : Step) → proceed (behind front w) d ≡ all_behind front (proceed w d)
+proceed-behind : (front : List ℕ) (w : Execution) (d : Step) → proceed (behind front w) d ≡ all_behind front (proceed w d)
 proceed-behind front w (Goes s) = refl
 proceed-behind front w (Ends e) = refl
 proceed-behind front w (Reads s) = refl
 proceed-behind front w (Writes bytes s) = ap (λ o. Running (world s w.input o)) (append_assoc front w.output bytes)
 
 -- output in front changes nothing else
-run-behind : (n : ℕ) (front : List ℕ) (w : World) → run n (behind front w) ≡ all_behind front (run n w)
+run-behind : (n : ℕ) (front : List ℕ) (w : Execution) → run n (behind front w) ≡ all_behind front (run n w)
 run-behind zero front w = refl
 run-behind (suc n) front w =
     run_suc n (behind front w) ∙ ap (go_on n) (proceed-behind front w (step w.machine))
     ∙ on (proceed w (step w.machine)) (λ v. run-behind n front v) ∙ sym (ap (all_behind front) (run_suc n w))
   where
-    on : (o : Outcome) → ((v : World) → run n (behind front v) ≡ all_behind front (run n v)) → go_on n (all_behind front o) ≡ all_behind front (go_on n o)
+    on : (o : Progress) → ((v : Execution) → run n (behind front v) ≡ all_behind front (run n v)) → go_on n (all_behind front o) ≡ all_behind front (go_on n o)
     on (Running v) ih = ih v
     on (Ended e v) ih = refl
 
 -- A run does the same on the answers that it reads, whatever follows them.
-abbrev given : World → List (Option ℕ) → World
+abbrev given : Execution → List (Option ℕ) → Execution
 given w input = world w.machine input w.output
 
-record Replayed (k : ℕ) (w last : World) : Type 0 where
+record Replayed (k : ℕ) (w last : Execution) : Type 0 where
   read : List (Option ℕ)
   comes : (rest : List (Option ℕ)) → run k (given w (read ++ rest)) ≡ Running (given last rest)
-  along : (rest : List (Option ℕ)) (i : ℕ) (v : World) → i < k → run i w ≡ Running v → (u : World) × (run i (given w (read ++ rest)) ≡ Running u) × (u.machine ≡ v.machine)
+  along : (rest : List (Option ℕ)) (i : ℕ) (v : Execution) → i < k → run i w ≡ Running v → (u : Execution) × (run i (given w (read ++ rest)) ≡ Running u) × (u.machine ≡ v.machine)
 
-replayed_on : (k : ℕ) (w v last : World) (front : List (Option ℕ)) → ((x : List (Option ℕ)) → proceed (given w (front ++ x)) (step w.machine) ≡ Running (given v x)) → proceed w (step w.machine) ≡ Running v → Replayed k v last → Replayed (suc k) w last
+replayed_on : (k : ℕ) (w v last : Execution) (front : List (Option ℕ)) → ((x : List (Option ℕ)) → proceed (given w (front ++ x)) (step w.machine) ≡ Running (given v x)) → proceed w (step w.machine) ≡ Running v → Replayed k v last → Replayed (suc k) w last
 replayed_on k w v last front to from r = record {
   read = front ++ r.read;
   comes = λ rest. next rest k ∙ r.comes rest;
@@ -61,15 +61,15 @@ replayed_on k w v last front to from r = record {
         ap (λ x. run (suc j) (given w x)) (append_assoc front r.read rest)
         ∙ run_suc j (given w (front ++ (r.read ++ rest))) ∙ ap (go_on j) (to (r.read ++ rest))
 
-    along : (rest : List (Option ℕ)) (i : ℕ) (u : World) → i < suc k → run i w ≡ Running u → (t : World) × (run i (given w ((front ++ r.read) ++ rest)) ≡ Running t) × (t.machine ≡ u.machine)
-    along rest zero u lt h = (given w ((front ++ r.read) ++ rest), refl, ap (λ (x : World). x.machine) (running_same w u h))
+    along : (rest : List (Option ℕ)) (i : ℕ) (u : Execution) → i < suc k → run i w ≡ Running u → (t : Execution) × (run i (given w ((front ++ r.read) ++ rest)) ≡ Running t) × (t.machine ≡ u.machine)
+    along rest zero u lt h = (given w ((front ++ r.read) ++ rest), refl, ap (λ (x : Execution). x.machine) (running_same w u h))
     along rest (suc i) u lt h =
         let below : i < k = omega (arith, lt) in
         let there : run i v ≡ Running u = sym (run_suc i w ∙ ap (go_on i) from) ∙ h in
         let a = r.along rest i u below there in
         (a.0, next rest i ∙ a.1, a.2)
 
-replay : (k : ℕ) (w last : World) → run k w ≡ Running last → Replayed k w last
+replay : (k : ℕ) (w last : Execution) → run k w ≡ Running last → Replayed k w last
 replay zero w last h = record {
   read = [];
   comes = λ rest. ap (λ x. Running (given x rest)) (running_same w last h);
@@ -77,10 +77,10 @@ replay zero w last h = record {
 }
 replay (suc k) w last h = by (step w.machine) refl (λ v. replay k v last)
   where
-    going : (d : Step) (v : World) → step w.machine ≡ d → proceed w d ≡ Running v → run k v ≡ Running last
+    going : (d : Step) (v : Execution) → step w.machine ≡ d → proceed w d ≡ Running v → run k v ≡ Running last
     going d v e p = sym (run_suc k w ∙ ap (λ x. go_on k (proceed w x)) e ∙ ap (go_on k) p) ∙ h
 
-    by : (d : Step) → step w.machine ≡ d → ((v : World) → run k v ≡ Running last → Replayed k v last) → Replayed (suc k) w last
+    by : (d : Step) → step w.machine ≡ d → ((v : Execution) → run k v ≡ Running last → Replayed k v last) → Replayed (suc k) w last
     by (Goes s) e ih =
         let v = world s w.input w.output in
         replayed_on k w v last [] (λ x. ap (proceed (given w x)) e) (ap (proceed w) e) (ih v (going (Goes s) v e refl))
@@ -96,17 +96,17 @@ replay (suc k) w last h = by (step w.machine) refl (λ v. replay k v last)
         cc
 
 -- the answers on which both calls run
-record Joined (k : ℕ) (left : Option (List ℕ)) (old mid : State) (first second : List (Option ℕ)) (output : List ℕ) : Type 0 where
+record Joined (k : ℕ) (left : Option (List ℕ)) (old mid : MachineState) (first second : List (Option ℕ)) (output : List ℕ) : Type 0 where
   input : List (Option ℕ)
   told : Tells left input
   comes : run k (begun old input) ≡ Running (world mid second output)
   reads : ComesToRead k (begun old first) → ComesToRead k (begun old input)
   writes : ComesToWrite k (begun old first) → ComesToWrite k (begun old input)
 
-same_world : (s s' : State) (l l' : List (Option ℕ)) (output : List ℕ) → s ≡ s' → l ≡ l' → Running (world s l output) ≡ Running (world s' l' output)
+same_world : (s s' : MachineState) (l l' : List (Option ℕ)) (output : List ℕ) → s ≡ s' → l ≡ l' → Running (world s l output) ≡ Running (world s' l' output)
 same_world s s' l l' output e f = rw (e, f) refl
 
-joined : (k : ℕ) (left left' : Option (List ℕ)) (old mid : State) (first second : List (Option ℕ)) (last : World) →
+joined : (k : ℕ) (left left' : Option (List ℕ)) (old mid : MachineState) (first second : List (Option ℕ)) (last : Execution) →
     run k (begun old first) ≡ Running last → mid ≡ last.machine → Tells left first → Tells left' last.input → StillTells left left' → Tells left' second →
     Joined k left old mid first second last.output
 joined k (Some bytes) (Some bytes') old mid first second last h m t t' s u = record {
@@ -132,13 +132,13 @@ joined k None left' old mid first second last h m t t' s u =
     }
 
 -- behind so many steps a run goes on as from its start, with the output so far in front
-comes_on : (k i : ℕ) (old mid : State) (input second : List (Option ℕ)) (output : List ℕ) → run k (begun old input) ≡ Running (world mid second output) → run (k + i) (begun old input) ≡ all_behind output (run i (begun mid second))
+comes_on : (k i : ℕ) (old mid : MachineState) (input second : List (Option ℕ)) (output : List ℕ) → run k (begun old input) ≡ Running (world mid second output) → run (k + i) (begun old input) ≡ all_behind output (run i (begun mid second))
 comes_on k i old mid input second output h =
     run_add k i (world mid second output) (begun old input) h
     ∙ ap (λ o. run i (world mid second o)) (sym (append-nil output))
     ∙ run-behind i output (begun mid second)
 
-stops_on : (k n : ℕ) (old mid : State) (input second : List (Option ℕ)) (output : List ℕ) (e : RunEnd) (last : World) (front : List ℕ) → run k (begun old input) ≡ Running (world mid second output) → Stops n (begun mid second) e last front → Stops (k + n) (begun old input) e (behind output last) front
+stops_on : (k n : ℕ) (old mid : MachineState) (input second : List (Option ℕ)) (output : List ℕ) (e : RunEnd) (last : Execution) (front : List ℕ) → run k (begun old input) ≡ Running (world mid second output) → Stops n (begun mid second) e last front → Stops (k + n) (begun old input) e (behind output last) front
 stops_on k n old mid input second output e last front h (still r p f) = still (comes_on k n old mid input second output h ∙ ap (all_behind output) r) p f
 stops_on k n old mid input second output e last front h (ended r f) = ended (comes_on k n old mid input second output h ∙ ap (all_behind output) r) f
 stops_on k n old mid input second output e last front h (read_failed i lt r d p f) =
@@ -154,22 +154,22 @@ touched A B C x y z (inr a) q f g = inr (f a)
 touched A B C x y z (inl p) (inr b) f g = inr (g b)
 touched A B C x y z (inl p) (inl q) f g = inl (q ∙ p)
 
-more_reads : (k n : ℕ) (w : World) → ComesToRead k w → ComesToRead (k + n) w
+more_reads : (k n : ℕ) (w : Execution) → ComesToRead k w → ComesToRead (k + n) w
 more_reads k n w c =
     let within : c.steps < k + n = omega (arith, c.within) in
     record { steps = c.steps; world = c.world; within = within; comes = c.comes; reading = c.reading }
 
-more_writes : (k n : ℕ) (w : World) → ComesToWrite k w → ComesToWrite (k + n) w
+more_writes : (k n : ℕ) (w : Execution) → ComesToWrite k w → ComesToWrite (k + n) w
 more_writes k n w c =
     let within : c.steps < k + n = omega (arith, c.within) in
     record { steps = c.steps; world = c.world; bytes = c.bytes; within = within; comes = c.comes; writing = c.writing }
 
-reads_on : (k n : ℕ) (old mid : State) (input second : List (Option ℕ)) (output : List ℕ) → run k (begun old input) ≡ Running (world mid second output) → ComesToRead n (begun mid second) → ComesToRead (k + n) (begun old input)
+reads_on : (k n : ℕ) (old mid : MachineState) (input second : List (Option ℕ)) (output : List ℕ) → run k (begun old input) ≡ Running (world mid second output) → ComesToRead n (begun mid second) → ComesToRead (k + n) (begun old input)
 reads_on k n old mid input second output h c =
     let within : k + c.steps < k + n = omega (arith, c.within) in
     record { steps = k + c.steps; world = behind output c.world; within = within; comes = comes_on k c.steps old mid input second output h ∙ ap (all_behind output) c.comes; reading = c.reading }
 
-writes_on : (k n : ℕ) (old mid : State) (input second : List (Option ℕ)) (output : List ℕ) → run k (begun old input) ≡ Running (world mid second output) → ComesToWrite n (begun mid second) → ComesToWrite (k + n) (begun old input)
+writes_on : (k n : ℕ) (old mid : MachineState) (input second : List (Option ℕ)) (output : List ℕ) → run k (begun old input) ≡ Running (world mid second output) → ComesToWrite n (begun mid second) → ComesToWrite (k + n) (begun old input)
 writes_on k n old mid input second output h c =
     let within : k + c.steps < k + n = omega (arith, c.within) in
     record { steps = k + c.steps; world = behind output c.world; bytes = c.bytes; within = within; comes = comes_on k c.steps old mid input second output h ∙ ap (all_behind output) c.comes; writing = c.writing }
@@ -201,5 +201,5 @@ calls_chain left read_faults taken write_faults k n old mid new first input inpu
       write_cause = λ h. rose_later _ _ _ a.writes_later (b.write_cause h);
       goes_on = λ h. let d = b.goes_on h in record { running = comes_on k n old.state mid.state j.input b.input_before output j.comes ∙ ap (all_behind output) d.running; end = d.end; state = d.state; whole = d.whole };
       keeps = b.keeps;
-      written = b.written ∙ ap (λ w. counted w (length b.last.output)) a.written ∙ counted-add old.written (length output) (length b.last.output) ∙ ap (counted old.written) (sym size);
+      written = b.written ∙ ap (λ w. saturating_sum w (length b.last.output)) a.written ∙ saturating_sum-add old.written (length output) (length b.last.output) ∙ ap (saturating_sum old.written) (sym size);
     }

@@ -6,13 +6,13 @@ use Rattle.tg_base.specs.declared.ends.RunEnd.{RunEnd}
 use Rattle.tg_base.specs.declared.ends.RunEnd.TheVariants.{StepLimit, ReadFault, WriteFault}
 use Rattle.tg_base.specs.Causes.{Rose}
 use Rattle.tg_base.specs.Writes.{TakesFront}
-use Rattle.tg_base.specs.State.{State}
+use Rattle.tg_base.specs.State.{MachineState}
 use Rattle.tg_base.specs.Services.{Step, Goes, Ends, Reads, Writes, answered}
 use Rattle.tg_isa.specs.Effects.{step}
-use Rattle.tg_isa.specs.Runs.{World, Running, run, begun, answers, first_answer, later_answers}
+use Rattle.tg_isa.specs.Runs.{Execution, Running, run, begun, answers, first_answer, later_answers}
 use Rattle.tg_machine.specs.Machines.{simulated}
 use Rattle.tg_machine.specs.Moves.{IsOwn, Answers, Moved}
-use Rattle.tg_machine.specs.Ran.{Ran, Tells, StillTells, ComesToRead, ComesToWrite, counted, still, ended, read_failed, write_failed}
+use Rattle.tg_machine.specs.Ran.{IsSimulation, Tells, StillTells, ComesToRead, ComesToWrite, saturating_sum, still, ended, read_failed, write_failed}
 use Rattle.tg_machine.proofs.Runs.{run_more, run_over}
 
 -- some answers that a source tells or may give
@@ -68,7 +68,7 @@ keep_tells (Some xs) None h k = absurd h
 -- after so many steps
 pub record Reached {I O : Type 0}
     (left : I → Option (List ℕ)) (read_faults : I → ℕ) (taken : O → Option (List ℕ)) (write_faults : O → ℕ)
-    (n : ℕ) (old new : State) (input input' : I) (out out' : O) (written written' : ℕ) : Type 0 where
+    (n : ℕ) (old new : MachineState) (input input' : I) (out out' : O) (written written' : ℕ) : Type 0 where
   pub read : List (Option ℕ)
   pub output : List ℕ
   pub told : (rest : List (Option ℕ)) → Tells (left input') rest → Tells (left input) (read ++ rest)
@@ -79,10 +79,10 @@ pub record Reached {I O : Type 0}
   pub unwritten : (out' ≡ out) ⊎ ((rest : List (Option ℕ)) → Tells (left input') rest → ComesToWrite n (begun old (read ++ rest)))
   pub reads_later : read_faults input ≤ read_faults input'
   pub writes_later : write_faults out ≤ write_faults out'
-  pub counts : written' ≡ counted written (length output)
+  pub counts : written' ≡ saturating_sum written (length output)
 
 pub reached_none : {I O : Type 0} (left : I → Option (List ℕ)) (read_faults : I → ℕ) (taken : O → Option (List ℕ)) (write_faults : O → ℕ)
-    (s : State) (input : I) (out : O) (written : ℕ) → written < 2 ^ 64 → Reached left read_faults taken write_faults 0 s s input input out out written written
+    (s : MachineState) (input : I) (out : O) (written : ℕ) → written < 2 ^ 64 → Reached left read_faults taken write_faults 0 s s input input out out written written
 reached_none left read_faults taken write_faults s input out written fits = record {
   read = [];
   output = [];
@@ -97,15 +97,15 @@ reached_none left read_faults taken write_faults s input out written fits = reco
   counts = omega (arith, fits);
 }
 
-pub counted-add : (w a b : ℕ) → counted (counted w a) b ≡ counted w (a + b)
-counted-add w a b = omega arith
+pub saturating_sum-add : (w a b : ℕ) → saturating_sum (saturating_sum w a) b ≡ saturating_sum w (a + b)
+saturating_sum-add w a b = omega arith
 
-later_read : (n : ℕ) (w : World) → ComesToRead n w → ComesToRead (n + 1) w
+later_read : (n : ℕ) (w : Execution) → ComesToRead n w → ComesToRead (n + 1) w
 later_read n w c =
     let within : c.steps < n + 1 = omega (arith, c.within) in
     record { steps = c.steps; world = c.world; within = within; comes = c.comes; reading = c.reading }
 
-later_write : (n : ℕ) (w : World) → ComesToWrite n w → ComesToWrite (n + 1) w
+later_write : (n : ℕ) (w : Execution) → ComesToWrite n w → ComesToWrite (n + 1) w
 later_write n w c =
     let within : c.steps < n + 1 = omega (arith, c.within) in
     record { steps = c.steps; world = c.world; bytes = c.bytes; within = within; comes = c.comes; writing = c.writing }
@@ -126,12 +126,12 @@ onto_same : {A : Type 0} (left : Option (List ℕ)) (read : List (Option ℕ)) (
 onto_same left read P Q weaker (inl a) = inl a
 onto_same left read P Q weaker (inr f) = inr (λ rest t. weaker (read ++ rest) (f rest t))
 
-same_world : (s s' : State) (l l' : List (Option ℕ)) (output : List ℕ) → s ≡ s' → l ≡ l' →
+same_world : (s s' : MachineState) (l l' : List (Option ℕ)) (output : List ℕ) → s ≡ s' → l ≡ l' →
     Running (record { machine = s; input = l; output = output }) ≡ Running (record { machine = s'; input = l'; output = output })
 same_world s s' l l' output e f = rw (e, f) refl
 
 reached_goes : {I O : Type 0} (left : I → Option (List ℕ)) (read_faults : I → ℕ) (taken : O → Option (List ℕ)) (write_faults : O → ℕ)
-    (n : ℕ) (old mid new : State) (first input : I) (start out : O) (before written : ℕ) →
+    (n : ℕ) (old mid new : MachineState) (first input : I) (start out : O) (before written : ℕ) →
     Reached left read_faults taken write_faults n old mid first input start out before written →
     step mid ≡ Goes new →
     Reached left read_faults taken write_faults (n + 1) old new first input start out before written
@@ -150,7 +150,7 @@ reached_goes left read_faults taken write_faults n old mid new first input start
 }
 
 reached_reads : {I O : Type 0} (left : I → Option (List ℕ)) (read_faults : I → ℕ) (taken : O → Option (List ℕ)) (write_faults : O → ℕ)
-    (n : ℕ) (old mid after new : State) (first input input' : I) (start out : O) (before written : ℕ) (answer : Option ℕ) →
+    (n : ℕ) (old mid after new : MachineState) (first input input' : I) (start out : O) (before written : ℕ) (answer : Option ℕ) →
     Reached left read_faults taken write_faults n old mid first input start out before written →
     step mid ≡ Reads after → Answers (left input) (left input') answer → new ≡ answered after answer → read_faults input ≤ read_faults input' →
     Reached left read_faults taken write_faults (n + 1) old new first input' start out before written
@@ -174,16 +174,16 @@ reached_reads left read_faults taken write_faults n old mid after new first inpu
       counts = r.counts;
     }
   where
-    at_read : (old mid after : State) (n : ℕ) (read rest : List (Option ℕ)) (output : List ℕ) (left : List (Option ℕ)) →
+    at_read : (old mid after : MachineState) (n : ℕ) (read rest : List (Option ℕ)) (output : List ℕ) (left : List (Option ℕ)) →
         run n (begun old (read ++ rest)) ≡ Running (record { machine = mid; input = left; output = output }) → step mid ≡ Reads after → ComesToRead (n + 1) (begun old (read ++ rest))
     at_read old mid after n read rest output left h s =
         let within : n < n + 1 = omega arith in
         record { steps = n; world = record { machine = mid; input = left; output = output }; within = within; comes = h; reading = (after, s) }
 
 reached_writes : {I O : Type 0} (left : I → Option (List ℕ)) (read_faults : I → ℕ) (taken : O → Option (List ℕ)) (write_faults : O → ℕ)
-    (n : ℕ) (old mid new : State) (first input : I) (start out out' : O) (before written written' : ℕ) (bytes : List ℕ) →
+    (n : ℕ) (old mid new : MachineState) (first input : I) (start out out' : O) (before written written' : ℕ) (bytes : List ℕ) →
     Reached left read_faults taken write_faults n old mid first input start out before written →
-    step mid ≡ Writes bytes new → Appends (taken out) (taken out') bytes → written' ≡ counted written (length bytes) → write_faults out ≤ write_faults out' →
+    step mid ≡ Writes bytes new → Appends (taken out) (taken out') bytes → written' ≡ saturating_sum written (length bytes) → write_faults out ≤ write_faults out' →
     Reached left read_faults taken write_faults (n + 1) old new first input start out' before written'
 reached_writes left read_faults taken write_faults n old mid new first input start out out' before written written' bytes r s a is le =
     let later : write_faults start ≤ write_faults out' = omega (arith, r.writes_later, le) in
@@ -199,10 +199,10 @@ reached_writes left read_faults taken write_faults n old mid new first input sta
       unwritten = inr (λ rest t. at_write old mid new n (r.read ++ rest) rest r.output bytes (r.comes rest t) s);
       reads_later = r.reads_later;
       writes_later = later;
-      counts = is ∙ ap (λ w. counted w (length bytes)) r.counts ∙ counted-add before (length r.output) (length bytes) ∙ ap (counted before) (sym size);
+      counts = is ∙ ap (λ w. saturating_sum w (length bytes)) r.counts ∙ saturating_sum-add before (length r.output) (length bytes) ∙ ap (saturating_sum before) (sym size);
     }
   where
-    at_write : (old mid new : State) (n : ℕ) (given rest : List (Option ℕ)) (output bytes : List ℕ) →
+    at_write : (old mid new : MachineState) (n : ℕ) (given rest : List (Option ℕ)) (output bytes : List ℕ) →
         run n (begun old given) ≡ Running (record { machine = mid; input = rest; output = output }) → step mid ≡ Writes bytes new → ComesToWrite (n + 1) (begun old given)
     at_write old mid new n given rest output bytes h s =
         let within : n < n + 1 = omega arith in
@@ -210,7 +210,7 @@ reached_writes left read_faults taken write_faults n old mid new first input sta
 
 -- one step more
 pub reached_more : {T I O : Type 0} (left : I → Option (List ℕ)) (read_faults : I → ℕ) (taken : O → Option (List ℕ)) (write_faults : O → ℕ)
-    (n : ℕ) (old mid new : State) (first input input' : I) (start out out' : O) (before written written' : ℕ) (d : Step) (done : T) →
+    (n : ℕ) (old mid new : MachineState) (first input input' : I) (start out out' : O) (before written written' : ℕ) (d : Step) (done : T) →
     Reached left read_faults taken write_faults n old mid first input start out before written →
     step mid ≡ d → Moved left read_faults taken write_faults d (Ok done) new input input' out out' written written' →
     Reached left read_faults taken write_faults (n + 1) old new first input' start out' before written'
@@ -228,13 +228,13 @@ given : {A : Type 0} (left : Option (List ℕ)) (read rest : List (Option ℕ)) 
 given left read rest P t (inl a) = inl a
 given left read rest P t (inr f) = inr (f rest t)
 
-touched_read : {A : Type 0} (n m : ℕ) (w : World) → n ≤ m → A ⊎ ComesToRead n w → A ⊎ ComesToRead m w
+touched_read : {A : Type 0} (n m : ℕ) (w : Execution) → n ≤ m → A ⊎ ComesToRead n w → A ⊎ ComesToRead m w
 touched_read n m w le (inl a) = inl a
 touched_read n m w le (inr c) =
     let within : c.steps < m = omega (arith, c.within) in
     inr (record { steps = c.steps; world = c.world; within = within; comes = c.comes; reading = c.reading })
 
-touched_write : {A : Type 0} (n m : ℕ) (w : World) → n ≤ m → A ⊎ ComesToWrite n w → A ⊎ ComesToWrite m w
+touched_write : {A : Type 0} (n m : ℕ) (w : Execution) → n ≤ m → A ⊎ ComesToWrite n w → A ⊎ ComesToWrite m w
 touched_write n m w le (inl a) = inl a
 touched_write n m w le (inr c) =
     let within : c.steps < m = omega (arith, c.within) in
@@ -251,9 +251,9 @@ own_write e own h = subst IsOwn h own
 
 -- all steps were made
 pub ran_all : {I O : Type 0} (left : I → Option (List ℕ)) (read_faults : I → ℕ) (taken : O → Option (List ℕ)) (write_faults : O → ℕ)
-    (n : ℕ) (old new : State) (input input' : I) (out out' : O) (written written' : ℕ) →
+    (n : ℕ) (old new : MachineState) (input input' : I) (out out' : O) (written written' : ℕ) →
     Reached left read_faults taken write_faults n old new input input' out out' written written' →
-    Ran left read_faults taken write_faults n (simulated old None written) (simulated new None written') input input' out out' StepLimit
+    IsSimulation left read_faults taken write_faults n (simulated old None written) (simulated new None written') input input' out out' StepLimit
 ran_all left read_faults taken write_faults n old new input input' out out' written written' r =
     let rest = (some_rest (left input')).0 in
     let t = (some_rest (left input')).1 in
@@ -278,10 +278,10 @@ ran_all left read_faults taken write_faults n old new input input' out out' writ
     }
 
 ran_ended : {I O : Type 0} (left : I → Option (List ℕ)) (read_faults : I → ℕ) (taken : O → Option (List ℕ)) (write_faults : O → ℕ)
-    (steps n : ℕ) (old mid new : State) (input input' : I) (out out' : O) (written written' : ℕ) (e : RunEnd) → n < steps →
+    (steps n : ℕ) (old mid new : MachineState) (input input' : I) (out out' : O) (written written' : ℕ) (e : RunEnd) → n < steps →
     Reached left read_faults taken write_faults n old mid input input' out out' written written' →
     step mid ≡ Ends e → IsOwn e →
-    Ran left read_faults taken write_faults steps (simulated old None written) (simulated new (Some e) written') input input' out out' e
+    IsSimulation left read_faults taken write_faults steps (simulated old None written) (simulated new (Some e) written') input input' out out' e
 ran_ended left read_faults taken write_faults steps n old mid new input input' out out' written written' e lt r s own =
     let rest = (some_rest (left input')).0 in
     let t = (some_rest (left input')).1 in
@@ -310,10 +310,10 @@ pub rose_later : (a b c : ℕ) → a ≤ b → Rose b c → Rose a c
 rose_later a b c le h = omega arith
 
 ran_unread : {I O : Type 0} (left : I → Option (List ℕ)) (read_faults : I → ℕ) (taken : O → Option (List ℕ)) (write_faults : O → ℕ)
-    (steps n : ℕ) (old mid new after : State) (first input input' : I) (start out : O) (before written : ℕ) → n < steps →
+    (steps n : ℕ) (old mid new after : MachineState) (first input input' : I) (start out : O) (before written : ℕ) → n < steps →
     Reached left read_faults taken write_faults n old mid first input start out before written →
     step mid ≡ Reads after → Keeps (left input) (left input') → Rose (read_faults input) (read_faults input') → read_faults input ≤ read_faults input' →
-    Ran left read_faults taken write_faults steps (simulated old None before) (simulated new (Some ReadFault) written) first input' start out ReadFault
+    IsSimulation left read_faults taken write_faults steps (simulated old None before) (simulated new (Some ReadFault) written) first input' start out ReadFault
 ran_unread left read_faults taken write_faults steps n old mid new after first input input' start out before written lt r s keeps rose later =
     let rest = (some_rest (left input')).0 in
     let t' = (some_rest (left input')).1 in
@@ -341,10 +341,10 @@ ran_unread left read_faults taken write_faults steps n old mid new after first i
     }
 
 ran_unwritten : {I O : Type 0} (left : I → Option (List ℕ)) (read_faults : I → ℕ) (taken : O → Option (List ℕ)) (write_faults : O → ℕ)
-    (steps n : ℕ) (old mid new after : State) (first input : I) (start out out' : O) (before written : ℕ) (bytes : List ℕ) → n < steps →
+    (steps n : ℕ) (old mid new after : MachineState) (first input : I) (start out out' : O) (before written : ℕ) (bytes : List ℕ) → n < steps →
     Reached left read_faults taken write_faults n old mid first input start out before written →
     step mid ≡ Writes bytes after → TakesFront (taken out) (taken out') bytes → Rose (write_faults out) (write_faults out') → write_faults out ≤ write_faults out' →
-    Ran left read_faults taken write_faults steps (simulated old None before) (simulated new (Some WriteFault) written) first input start out' WriteFault
+    IsSimulation left read_faults taken write_faults steps (simulated old None before) (simulated new (Some WriteFault) written) first input start out' WriteFault
 ran_unwritten left read_faults taken write_faults steps n old mid new after first input start out out' before written bytes lt r s takes rose later =
     let rest = (some_rest (left input)).0 in
     let t = (some_rest (left input)).1 in
@@ -372,10 +372,10 @@ ran_unwritten left read_faults taken write_faults steps n old mid new after firs
 
 -- a step ended the run
 pub ran_out : {T I O : Type 0} (left : I → Option (List ℕ)) (read_faults : I → ℕ) (taken : O → Option (List ℕ)) (write_faults : O → ℕ)
-    (steps n : ℕ) (old mid new : State) (first input input' : I) (start out out' : O) (before written written' : ℕ) (d : Step) (result : Result T RunEnd) (e : RunEnd) → n < steps →
+    (steps n : ℕ) (old mid new : MachineState) (first input input' : I) (start out out' : O) (before written written' : ℕ) (d : Step) (result : Result T RunEnd) (e : RunEnd) → n < steps →
     Reached left read_faults taken write_faults n old mid first input start out before written →
     step mid ≡ d → result ≡ Err e → Moved left read_faults taken write_faults d result new input input' out out' written written' →
-    Ran left read_faults taken write_faults steps (simulated old None before) (simulated new (Some e) written') first input' start out' e
+    IsSimulation left read_faults taken write_faults steps (simulated old None before) (simulated new (Some e) written') first input' start out' e
 ran_out left read_faults taken write_faults steps n old mid new first input input' start out out' before written written' d (Ok done) e lt r is was m = cc
 ran_out left read_faults taken write_faults steps n old mid new first input input' start out out' before written written' (Goes s) (Err f) e lt r is was m = absurd m.0
 ran_out left read_faults taken write_faults steps n old mid new first input input' start out out' before written written' (Ends g) (Err f) e lt r is was m =
@@ -391,7 +391,7 @@ ran_out left read_faults taken write_faults steps n old mid new first input inpu
 
 -- no step ends by the limit of steps
 pub moved_apart : {T I O : Type 0} (left : I → Option (List ℕ)) (read_faults : I → ℕ) (taken : O → Option (List ℕ)) (write_faults : O → ℕ)
-    (new : State) (input input' : I) (out out' : O) (written written' : ℕ) (d : Step) (result : Result T RunEnd) (e : RunEnd) →
+    (new : MachineState) (input input' : I) (out out' : O) (written written' : ℕ) (d : Step) (result : Result T RunEnd) (e : RunEnd) →
     result ≡ Err e → Moved left read_faults taken write_faults d result new input input' out out' written written' → e ≡ StepLimit → ⊥
 moved_apart left read_faults taken write_faults new input input' out out' written written' d (Ok done) e was m h = cc
 moved_apart left read_faults taken write_faults new input input' out out' written written' (Goes s) (Err f) e was m h = absurd m.0

@@ -3,7 +3,7 @@ use Rattle.std.specs.Prelude.{ℕ, ◌+◌, List, Option}
 use Rattle.tg_base.specs.declared.ends.RunEnd.{RunEnd}
 use Rattle.tg_base.specs.declared.ends.RunEnd.TheVariants.{StepLimit}
 use Rattle.tg_machine.specs.Machines.{Simulated}
-use Rattle.tg_machine.specs.Ran.{Ran}
+use Rattle.tg_machine.specs.Ran.{IsSimulation}
 
 -- Calls can be chained: so many steps, all made, and then so many more, are a call of as many steps
 -- together.
@@ -12,6 +12,6 @@ CallsChain I O =
     (left : I → Option (List ℕ)) (read_faults : I → ℕ)
     (taken : O → Option (List ℕ)) (write_faults : O → ℕ)
     (k n : ℕ) (old mid new : Simulated) (first input input' : I) (start out out' : O) (e : RunEnd) →
-    Ran left read_faults taken write_faults k old mid first input start out StepLimit →
-    Ran left read_faults taken write_faults n mid new input input' out out' e →
-    Ran left read_faults taken write_faults (k + n) old new first input' start out' e
+    IsSimulation left read_faults taken write_faults k old mid first input start out StepLimit →
+    IsSimulation left read_faults taken write_faults n mid new input input' out out' e →
+    IsSimulation left read_faults taken write_faults (k + n) old new first input' start out' e

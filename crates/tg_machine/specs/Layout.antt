@@ -1,11 +1,11 @@
 -- What the fields of a core keep.
 use Rattle.std.specs.Prelude.{◌%◌, ◌≤◌, ◌≡◌, length, vec_capacity, map}
-use Rattle.tg_base.specs.State.{State, most_words, most_bytes, most_room}
+use Rattle.tg_base.specs.State.{MachineState, most_words, most_bytes, most_room}
 use Rattle.tg_isa.specs.Table.{decode_of}
 use Rattle.tg_machine.specs.declared.cores.Core.TheInside.{Inside}
 
 -- the state that the fields are
-abbrev pub state_of : Inside → State
+abbrev pub state_of : Inside → MachineState
 state_of m = record {
   registers = m.registers;
   hi = m.hi;

@@ -2,19 +2,19 @@
 use Rattle.std.specs.Prelude.{ℕ, ◌≡◌, Option, Some, None}
 use Rattle.tg_base.specs.declared.ends.RunEnd.{RunEnd}
 use Rattle.tg_base.specs.declared.ends.RunEnd.TheVariants.{StepLimit}
-use Rattle.tg_base.specs.State.{State, start}
+use Rattle.tg_base.specs.State.{MachineState, start}
 use Rattle.tg_isa.specs.declared.images.Image.{Image}
 use Rattle.tg_machine.specs.declared.status.Status.{Status}
 use Rattle.tg_machine.specs.declared.status.Status.TheVariants.{Running, Ended}
 
 -- a machine's state, how it ended if it has, and how many bytes its services have written
 pub record Simulated : Type 0 where
-  pub state : State
+  pub state : MachineState
   pub end : Option RunEnd
   pub written : ℕ
 
 -- a machine of a state, an end and a count
-abbrev pub simulated : State → Option RunEnd → ℕ → Simulated
+abbrev pub simulated : MachineState → Option RunEnd → ℕ → Simulated
 simulated s end written = record { state = s; end = end; written = written }
 
 -- the end that a machine keeps after a step

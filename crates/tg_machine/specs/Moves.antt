@@ -6,9 +6,9 @@ use Rattle.tg_base.specs.declared.ends.RunEnd.{RunEnd}
 use Rattle.tg_base.specs.declared.ends.RunEnd.TheVariants.{StepLimit, ReadFault, WriteFault}
 use Rattle.tg_base.specs.Causes.{Rose}
 use Rattle.tg_base.specs.Writes.{TakesFront}
-use Rattle.tg_base.specs.State.{State, load_byte, stack_top}
+use Rattle.tg_base.specs.State.{MachineState, load_byte, stack_top}
 use Rattle.tg_base.specs.Services.{Step, Goes, Ends, Reads, Writes, answered, text_at}
-use Rattle.tg_machine.specs.Ran.{counted}
+use Rattle.tg_machine.specs.Ran.{saturating_sum}
 
 -- an end that the machine comes to itself, with no limit of steps and no fault of a source or a
 -- sink
@@ -19,7 +19,7 @@ IsOwn WriteFault = ⊥
 IsOwn _ = Unit {0}
 
 -- a call that neither reads nor writes left this state, or ended so
-abbrev pub IsDone : {T : Type 0} → Step → Result T RunEnd → State → Type 0
+abbrev pub IsDone : {T : Type 0} → Step → Result T RunEnd → MachineState → Type 0
 IsDone (Goes s) (Ok done) new = new ≡ s
 IsDone (Goes s) (Err f) new = ⊥
 IsDone (Ends e) (Ok done) new = ⊥
@@ -34,19 +34,19 @@ Answers old new None = Keeps old new × IsAtEnd new
 
 -- a read was answered, and the core goes on with the answer; or it failed
 abbrev pub HasRead : {T : Type 0} →
-    (after new : State) (old_left new_left : Option (List ℕ)) (old_faults new_faults : ℕ) →
+    (after new : MachineState) (old_left new_left : Option (List ℕ)) (old_faults new_faults : ℕ) →
     Result T RunEnd → Type 0
 HasRead after new old_left new_left old_faults new_faults (Ok done) =
     (answer : Option ℕ) × Answers old_left new_left answer × (new ≡ answered after answer)
 HasRead after new old_left new_left old_faults new_faults (Err e) =
     (e ≡ ReadFault) × Keeps old_left new_left × Rose old_faults new_faults
 
--- a write was whole, and is counted; or it failed
+-- a write was whole, and is saturating_sum; or it failed
 abbrev pub HasWritten : {T : Type 0} → List ℕ →
     (old_taken new_taken : Option (List ℕ)) (old_faults new_faults old_written new_written : ℕ) →
     Result T RunEnd → Type 0
 HasWritten bytes old_taken new_taken old_faults new_faults old_written new_written (Ok done) =
-    Appends old_taken new_taken bytes × (new_written ≡ counted old_written (length bytes))
+    Appends old_taken new_taken bytes × (new_written ≡ saturating_sum old_written (length bytes))
 HasWritten bytes old_taken new_taken old_faults new_faults old_written new_written (Err e) =
     (e ≡ WriteFault) × TakesFront old_taken new_taken bytes × Rose old_faults new_faults
     × (new_written ≡ old_written)
@@ -57,7 +57,7 @@ abbrev pub Moved : {T I O : Type 0} →
     (left : I → Option (List ℕ)) (read_faults : I → ℕ)
     (taken : O → Option (List ℕ)) (write_faults : O → ℕ) →
     Step → Result T RunEnd →
-    (new : State) (input input' : I) (out out' : O) (written written' : ℕ) → Type 0
+    (new : MachineState) (input input' : I) (out out' : O) (written written' : ℕ) → Type 0
 Moved left read_faults taken write_faults (Goes s)
     result new input input' out out' written written' =
     IsDone (Goes s) result new × (input' ≡ input) × (out' ≡ out) × (written' ≡ written)
@@ -76,14 +76,14 @@ Moved left read_faults taken write_faults (Writes bytes s)
 
 -- these so many bytes are the text at an address, each is loaded, and the 0 behind them is below
 -- the top of the stack
-pub record IsText (s : State) (a n : ℕ) (text : List ℕ) : Type 0 where
+pub record IsText (s : MachineState) (a n : ℕ) (text : List ℕ) : Type 0 where
   pub found : text_at s a ≡ Ok text
   pub size : length text ≡ n
   pub low : a + n < stack_top
   pub loads : (k : ℕ) → k < n → load_byte s (a + k) ≡ Ok (slice_index text k)
 
 -- the text at an address has so many bytes
-abbrev pub HasText : State → (a n : ℕ) → Type 0
+abbrev pub HasText : MachineState → (a n : ℕ) → Type 0
 HasText s a n = (text : List ℕ) × IsText s a n text
 
 -- a call that writes the text at an address wrote it whole, or failed; or ended as the text's load

@@ -6,10 +6,10 @@ use Rattle.std.specs.Io.KnownBytes.{Appends}
 use Rattle.tg_base.specs.declared.ends.RunEnd.{RunEnd}
 use Rattle.tg_base.specs.declared.ends.RunEnd.TheVariants.{StepLimit, ReadFault, WriteFault}
 use Rattle.tg_base.specs.Causes.{Rose}
-use Rattle.tg_base.specs.State.{State}
+use Rattle.tg_base.specs.State.{MachineState}
 use Rattle.tg_base.specs.Services.{Reads, Writes}
 use Rattle.tg_isa.specs.Effects.{step}
-use Rattle.tg_isa.specs.Runs.{World, Running, Ended, run, begun, answers}
+use Rattle.tg_isa.specs.Runs.{Execution, Running, Ended, run, begun, answers}
 use Rattle.tg_machine.specs.Machines.{Simulated}
 
 -- these are the answers of a source that tells its bytes
@@ -22,23 +22,23 @@ abbrev pub StillTells : Option (List ℕ) → Option (List ℕ) → Type 0
 StillTells old new = IsSome old → IsSome new
 
 -- the machine is at a service that reads; or at one that writes these bytes
-abbrev pub IsReading : State → Type 0
-IsReading s = (after : State) × (step s ≡ Reads after)
+abbrev pub IsReading : MachineState → Type 0
+IsReading s = (after : MachineState) × (step s ≡ Reads after)
 
-abbrev pub IsWriting : State → List ℕ → Type 0
-IsWriting s bytes = (after : State) × (step s ≡ Writes bytes after)
+abbrev pub IsWriting : MachineState → List ℕ → Type 0
+IsWriting s bytes = (after : MachineState) × (step s ≡ Writes bytes after)
 
 -- within so many steps the run comes to a service that reads; or to one that writes
-pub record ComesToRead (n : ℕ) (w : World) : Type 0 where
+pub record ComesToRead (n : ℕ) (w : Execution) : Type 0 where
   pub steps : ℕ
-  pub world : World
+  pub world : Execution
   pub within : steps < n
   pub comes : run steps w ≡ Running world
   pub reading : IsReading world.machine
 
-pub record ComesToWrite (n : ℕ) (w : World) : Type 0 where
+pub record ComesToWrite (n : ℕ) (w : Execution) : Type 0 where
   pub steps : ℕ
-  pub world : World
+  pub world : Execution
   pub bytes : List ℕ
   pub within : steps < n
   pub comes : run steps w ≡ Running world
@@ -47,7 +47,8 @@ pub record ComesToWrite (n : ℕ) (w : World) : Type 0 where
 -- How such a call ends at the last world of the run, after which it wrote `front` of a write that
 -- failed:
 -- as the run of the definition does, or at a read or a write that failed.
-pub data Stops (n : ℕ) (w : World) (e : RunEnd) (last : World) (front : List ℕ) : Type 0 where
+pub data Stops (n : ℕ) (w : Execution) (e : RunEnd) (last : Execution)
+    (front : List ℕ) : Type 0 where
   still : run n w ≡ Running last → e ≡ StepLimit → front ≡ [] → Stops n w e last front
   ended : run n w ≡ Ended e last → front ≡ [] → Stops n w e last front
   read_failed : (i : ℕ) → i < n → run i w ≡ Running last → IsReading last.machine →
@@ -56,11 +57,11 @@ pub data Stops (n : ℕ) (w : World) (e : RunEnd) (last : World) (front : List �
       IsWriting last.machine (front ++ rest) → e ≡ WriteFault → Stops n w e last front
 
 -- a sum that stops at the greatest u64
-abbrev pub counted : ℕ → ℕ → ℕ
-counted n more = min (n + more) (2 ^ 64 - 1)
+abbrev pub saturating_sum : ℕ → ℕ → ℕ
+saturating_sum n more = min (n + more) (2 ^ 64 - 1)
 
 -- all steps were made, and the machine goes on from the last world
-pub record GoesOn (n : ℕ) (w last : World) (new : Simulated) (front : List ℕ) : Type 0 where
+pub record GoesOn (n : ℕ) (w last : Execution) (new : Simulated) (front : List ℕ) : Type 0 where
   pub running : run n w ≡ Running last
   pub end : new.end ≡ None
   pub state : new.state ≡ last.machine
@@ -68,12 +69,12 @@ pub record GoesOn (n : ℕ) (w last : World) (new : Simulated) (front : List ℕ
 
 -- The call runs the machine on what the reads of the source answer, and writes to the sink what the
 -- run writes.
-pub record Ran {I O : Type 0}
+pub record IsSimulation {I O : Type 0}
     (left : I → Option (List ℕ)) (read_faults : I → ℕ)
     (taken : O → Option (List ℕ)) (write_faults : O → ℕ)
     (n : ℕ) (old new : Simulated) (input input' : I) (out out' : O) (e : RunEnd) : Type 0 where
   pub input_before : List (Option ℕ)
-  pub last : World
+  pub last : Execution
   pub front : List ℕ
   pub stops : Stops n (begun old.state input_before) e last front
   -- the source's bytes before and after, where it tells them, and the sink's
@@ -92,4 +93,4 @@ pub record Ran {I O : Type 0}
   -- the machine goes on from the last world, or keeps its end
   pub goes_on : e ≡ StepLimit → GoesOn n (begun old.state input_before) last new front
   pub keeps : e ≢ StepLimit → new.end ≡ Some e
-  pub written : new.written ≡ counted old.written (length last.output)
+  pub written : new.written ≡ saturating_sum old.written (length last.output)

@@ -28,9 +28,9 @@ pub struct Core {
 }
 
 impl Model for Core {
-    ghost use Rattle.tg_base.specs.State.{State};
+    ghost use Rattle.tg_base.specs.State.{MachineState};
 
-    ghost Value = { State };
+    ghost Value = { MachineState };
 
     ghost use Rattle.tg_machine.specs.Layout.{IsLaidOut, state_of};
 

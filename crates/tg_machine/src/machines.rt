@@ -1,6 +1,6 @@
 ghost use Rattle.std.specs.Prelude.{◌≡◌, ◌≢◌, ◌<◌, None, IfSome};
 ghost use Rattle.tg_machine.specs.Machines.{HasEnded, end_of};
-ghost use Rattle.tg_machine.specs.Ran.{Ran};
+ghost use Rattle.tg_machine.specs.Ran.{IsSimulation};
 
 use crate::cores::Core;
 use crate::status::Status;
@@ -40,7 +40,7 @@ impl Machine {
     pub fn step<I: Source, O: Sink>(&mut self, input: &mut I, out: &mut O) -> Status
         ensures apart { self.old.end ≡ None → result ≢ Status.Ended RunEnd.StepLimit }
         ensures step { self.old.end ≡ None →
-            Ran I.left I.faults O.taken O.faults 1 self.old self.new
+            IsSimulation I.left I.faults O.taken O.faults 1 self.old self.new
             input.old input.new out.old out.new (end_of result) }
         ensures again { IfSome self.old.end (λ e. (result ≡ Status.Ended e)
             × HasEnded self.old self.new input.old input.new out.old out.new) }
@@ -53,7 +53,7 @@ impl Machine {
     pub fn run<I: Source, O: Sink>(&mut self, input: &mut I, out: &mut O, steps: u64) -> RunEnd
         requires { 0 < steps }
         ensures run { self.old.end ≡ None →
-            Ran I.left I.faults O.taken O.faults steps self.old self.new
+            IsSimulation I.left I.faults O.taken O.faults steps self.old self.new
             input.old input.new out.old out.new result }
         ensures again { IfSome self.old.end (λ e. (result ≡ e)
             × HasEnded self.old self.new input.old input.new out.old out.new) }
@@ -69,7 +69,7 @@ impl Machine {
     fn advance<I: Source, O: Sink>(&mut self, input: &mut I, out: &mut O, steps: u64) -> Status
         ensures apart { self.old.end ≡ None → result ≢ Status.Ended RunEnd.StepLimit }
         ensures run { self.old.end ≡ None →
-            Ran I.left I.faults O.taken O.faults steps self.old self.new
+            IsSimulation I.left I.faults O.taken O.faults steps self.old self.new
             input.old input.new out.old out.new (end_of result) }
         ensures again { IfSome self.old.end (λ e. (result ≡ Status.Ended e)
             × HasEnded self.old self.new input.old input.new out.old out.new) }

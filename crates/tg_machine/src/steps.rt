@@ -2,7 +2,7 @@ ghost use Rattle.std.specs.Prelude.{◌<◌, ◌^◌, ◌≢◌, None};
 ghost use Rattle.tg_isa.specs.Effects.{step};
 ghost use Rattle.tg_machine.specs.Machines.{end_of, kept, simulated};
 ghost use Rattle.tg_machine.specs.Moves.{Moved};
-ghost use Rattle.tg_machine.specs.Ran.{Ran};
+ghost use Rattle.tg_machine.specs.Ran.{IsSimulation};
 
 use crate::cores::Core;
 use crate::status::Status;
@@ -39,7 +39,7 @@ impl Core {
     ) -> Status
         requires { written.old < 2 ^ 64 }
         ensures apart { result ≢ Status.Ended RunEnd.StepLimit }
-        ensures ran { Ran I.left I.faults O.taken O.faults steps
+        ensures ran { IsSimulation I.left I.faults O.taken O.faults steps
             (simulated self.old None written.old) (simulated self.new (kept result) written.new)
             input.old input.new out.old out.new (end_of result) }
     {

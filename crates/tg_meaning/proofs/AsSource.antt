@@ -4,7 +4,7 @@ use Rattle.std.specs.Prelude.{◌≢◌}
 use Rattle.tg_base.specs.declared.ends.RunEnd.TheVariants.{StackFull}
 use Rattle.tg_runs.specs.Outcomes.{End, ended, out_of_fuel, stuck, map_end}
 use Rattle.tg_meaning.specs.Values.{Ending, normal, by_nil, by_index, by_division, by_chr, by_substring, by_size, by_heap, by_overflow, by_exit}
-use Rattle.tg_meaning.specs.Meant.{machine_end, TurnsAsSource}
+use Rattle.tg_meaning.specs.MachineEnds.{machine_end, TurnsAsSource}
 
 pub turns_as_source : TurnsAsSource
 turns_as_source rest w zero = refl

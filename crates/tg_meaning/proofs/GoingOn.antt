@@ -6,7 +6,7 @@ use Rattle.std.proofs.lemmas.List.{append-nil, take-append-drop}
 use Rattle.tg_runs.specs.Outcomes.{End, ended, Outcome}
 use Rattle.tg_meaning.specs.Values.{Value, by_heap, add_heap, add_weight, go_deeper, Ending}
 use Rattle.tg_meaning.specs.Evaluation.{eval, meaning, Job}
-use Rattle.tg_meaning.specs.Direct.{State, Result, gives, breaks, is_over, Direct, after, after_body, returned, fuelled, found, changed, first_past, past_limit}
+use Rattle.tg_meaning.specs.Direct.{RunState, Result, gives, breaks, is_over, Direct, after, after_body, returned, fuelled, found, changed, first_past, past_limit}
 use Rattle.tg_meaning.specs.Direct.{direct, told, outcome}
 use Rattle.tg_meaning.specs.Laws.{GoesOn, so_far, NothingIsTakenBack}
 use Rattle.tg_meaning.proofs.Related.{Related, eval_same, meaning_same}
@@ -32,7 +32,7 @@ goes_on_on a b c g h = record {
 }
 
 -- the end doesn't matter
-pub whatever_end : (e e' : End Ending) (s s' : State) → GoesOn (so_far s) (so_far s') → GoesOn (told e s) (told e' s')
+pub whatever_end : (e e' : End Ending) (s s' : RunState) → GoesOn (so_far s) (so_far s') → GoesOn (told e s) (told e' s')
 whatever_end e e' s s' g = record {
   output = g.output;
   input = g.input;
@@ -42,7 +42,7 @@ whatever_end e e' s s' g = record {
   deepest = g.deepest;
 }
 
-abbrev pub state_of : {A : Type 0} → Result A → State
+abbrev pub state_of : {A : Type 0} → Result A → RunState
 state_of (gives a s) = s
 state_of (breaks s) = s
 state_of (is_over e s) = s
@@ -51,7 +51,7 @@ abbrev pub now : {A : Type 0} → Result A → Outcome Ending
 now r = so_far (state_of r)
 
 abbrev pub Keeps : (A : Type 0) → Direct A → Type 0
-Keeps A m = (s : State) → GoesOn (so_far s) (now (m s))
+Keeps A m = (s : RunState) → GoesOn (so_far s) (now (m s))
 
 abbrev pub Keep : (A : Type 0) → Direct A → Direct A → Type 0
 Keep A m m' = Keeps A m
@@ -72,15 +72,15 @@ returned_keeps o (gives v s) g = g
 returned_keeps o (breaks s) g = g
 returned_keeps o (is_over e s) g = g
 
-found_keeps : {A : Type 0} (o : Option A) (s : State) → GoesOn (so_far s) (now (found o s))
+found_keeps : {A : Type 0} (o : Option A) (s : RunState) → GoesOn (so_far s) (now (found o s))
 found_keeps (Some a) s = goes_on (so_far s)
 found_keeps None s = goes_on (so_far s)
 
-pub fuelled_keeps : (n : ℕ) (s : State) (m : Direct Value) → Keeps Value m → GoesOn (so_far s) (now (fuelled n s m))
+pub fuelled_keeps : (n : ℕ) (s : RunState) (m : Direct Value) → Keeps Value m → GoesOn (so_far s) (now (fuelled n s m))
 fuelled_keeps zero s m g = goes_on (so_far s)
 fuelled_keeps (suc n) s m g = g (record s { fuel = n })
 
-take_keeps : (full : Bool) (bytes : ℕ) (s : State) →
+take_keeps : (full : Bool) (bytes : ℕ) (s : RunState) →
     GoesOn (so_far s) (now {A = Unit {0}} (if full then is_over (ended by_heap) s else changed tt (add_heap bytes) s))
 take_keeps true bytes s = goes_on (so_far s)
 take_keeps false bytes s = record {
@@ -92,7 +92,7 @@ take_keeps false bytes s = record {
   deepest = omega arith;
 }
 
-read_keeps : (s : State) → GoesOn (so_far s) (so_far (record s { world = record s.world { input = drop 1 s.world.input } }))
+read_keeps : (s : RunState) → GoesOn (so_far s) (so_far (record s { world = record s.world { input = drop 1 s.world.input } }))
 read_keeps s = record {
   output = ([], sym (append-nil s.trace.output));
   input = (take 1 s.world.input, sym (take-append-drop 1 s.world.input));
@@ -102,7 +102,7 @@ read_keeps s = record {
   deepest = omega arith;
 }
 
-write_keeps : (bytes : List ℕ) (s : State) → GoesOn (so_far s) (so_far (record s { trace = record s.trace { output = s.trace.output ++ bytes } }))
+write_keeps : (bytes : List ℕ) (s : RunState) → GoesOn (so_far s) (so_far (record s { trace = record s.trace { output = s.trace.output ++ bytes } }))
 write_keeps bytes s = record {
   output = (bytes, refl);
   input = ([], refl);
@@ -112,7 +112,7 @@ write_keeps bytes s = record {
   deepest = omega arith;
 }
 
-spend_keeps : (k : ℕ) (s : State) → GoesOn (so_far s) (so_far (record s { trace = record s.trace { cost = s.trace.cost + k } }))
+spend_keeps : (k : ℕ) (s : RunState) → GoesOn (so_far s) (so_far (record s { trace = record s.trace { cost = s.trace.cost + k } }))
 spend_keeps k s = record {
   output = ([], sym (append-nil s.trace.output));
   input = ([], refl);
@@ -126,7 +126,7 @@ first_stays : (p : Option (List ℕ)) (above : Bool) (output past : List ℕ) �
 first_stays (Some q) above output past e = e
 first_stays None above output past e = cc
 
-weigh_keeps : (k : ℕ) (above : Bool) (s : State) → GoesOn (so_far s) (so_far (record s { world = add_weight k s.world; trace = past_limit above s.trace }))
+weigh_keeps : (k : ℕ) (above : Bool) (s : RunState) → GoesOn (so_far s) (so_far (record s { world = add_weight k s.world; trace = past_limit above s.trace }))
 weigh_keeps k above s = record {
   output = ([], sym (append-nil s.trace.output));
   input = ([], refl);
@@ -136,7 +136,7 @@ weigh_keeps k above s = record {
   deepest = omega arith;
 }
 
-descend_keeps : (s : State) →
+descend_keeps : (s : RunState) →
     GoesOn (so_far s) (so_far (record s { world = go_deeper s.world; trace = record s.trace { deepest = max s.trace.deepest (s.world.depth + 1) } }))
 descend_keeps s = record {
   output = ([], sym (append-nil s.trace.output));

@@ -8,14 +8,14 @@ use Rattle.tg_runs.specs.Outcomes.{End, ended, out_of_fuel, stuck, Outcome}
 use Rattle.tg_meaning.specs.Values.{Value, Entry, normal, by_heap, add_heap, Ending}
 use Rattle.tg_meaning.specs.Environments.{outermost}
 use Rattle.tg_meaning.specs.Evaluation.{meaning, program, Job}
-use Rattle.tg_meaning.specs.Direct.{State, Result, gives, breaks, is_over, Direct, after, after_body, returned, fuelled, found, changed, direct, begin, told}
+use Rattle.tg_meaning.specs.Direct.{RunState, Result, gives, breaks, is_over, Direct, after, after_body, returned, fuelled, found, changed, direct, begin, told}
 use Rattle.tg_meaning.specs.Direct.{outcome, evaluate}
 use Rattle.tg_meaning.specs.Laws.{GoesOn, so_far, MoreFuelIsIdle, MoreFuelGoesOn, HasOneOutcome}
 use Rattle.tg_meaning.proofs.Related.{Related, run_same, run_program_same}
 use Rattle.tg_meaning.proofs.GoingOn.{goes_on, whatever_end, now, Keeps, after_keeps, loop_keeps, returned_keeps, fuelled_keeps, all_keep, meaning_keeps}
 
 -- the same state with d more units of fuel
-abbrev more : ℕ → State → State
+abbrev more : ℕ → RunState → RunState
 more d s = record s { fuel = s.fuel + d }
 
 -- where a run with at most n units of fuel has the first result, the one with d more has the second
@@ -28,7 +28,7 @@ Longer d n (is_over out_of_fuel s) r = GoesOn (so_far s) (now r)
 
 -- with at most k units of fuel the second, given d more, goes on as the first; and it takes nothing back
 abbrev Longers : (d k : ℕ) → (A : Type 0) → Direct A → Direct A → Type 0
-Longers d k A m m' = ((s : State) → s.fuel ≤ k → Longer d s.fuel (m s) (m' (more d s))) × Keeps A m'
+Longers d k A m m' = ((s : RunState) → s.fuel ≤ k → Longer d s.fuel (m s) (m' (more d s))) × Keeps A m'
 
 less_fuel : {A : Type 0} (d n n' : ℕ) (r r' : Result A) → n ≤ n' → Longer d n r r' → Longer d n' r r'
 less_fuel d n n' (gives a s) r' le g = (g.0, le_trans g.1 le)
@@ -62,16 +62,16 @@ returned_longer d n (is_over (ended e) s) r' g = ap returned g
 returned_longer d n (is_over stuck s) r' g = ap returned g
 returned_longer d n (is_over out_of_fuel s) r' g = returned_keeps (so_far s) r' g
 
-over_longer : (A : Type 0) (d n : ℕ) (e : End Ending) (s : State) → Longer {A = A} d n (is_over e s) (is_over e (more d s))
+over_longer : (A : Type 0) (d n : ℕ) (e : End Ending) (s : RunState) → Longer {A = A} d n (is_over e s) (is_over e (more d s))
 over_longer A d n (ended e) s = refl
 over_longer A d n stuck s = refl
 over_longer A d n out_of_fuel s = goes_on (so_far s)
 
-found_longer : {A : Type 0} (d : ℕ) (o : Option A) (s : State) → Longer d s.fuel (found o s) (found o (more d s))
+found_longer : {A : Type 0} (d : ℕ) (o : Option A) (s : RunState) → Longer d s.fuel (found o s) (found o (more d s))
 found_longer d (Some a) s = (refl, omega arith)
 found_longer d None s = refl
 
-take_longer : (d : ℕ) (full : Bool) (bytes : ℕ) (s : State) → Longer {A = Unit {0}} d s.fuel
+take_longer : (d : ℕ) (full : Bool) (bytes : ℕ) (s : RunState) → Longer {A = Unit {0}} d s.fuel
     (if full then is_over (ended by_heap) s else changed tt (add_heap bytes) s)
     (if full then is_over (ended by_heap) (more d s) else changed tt (add_heap bytes) (more d s))
 take_longer d true bytes s = refl
@@ -103,15 +103,15 @@ module _ (heap stack d k : ℕ) where
         ascends = (λ s le. (refl, omega arith), K.ascends);
       }
 
-none_left : (d n : ℕ) (s : State) (m m' : Direct Value) → n ≤ zero → Keeps Value m' → Longer d n (fuelled n s m) (fuelled (n + d) (more d s) m')
+none_left : (d n : ℕ) (s : RunState) (m m' : Direct Value) → n ≤ zero → Keeps Value m' → Longer d n (fuelled n s m) (fuelled (n + d) (more d s) m')
 none_left d zero s m m' le g = fuelled_keeps (0 + d) (more d s) m' g
 none_left d (suc n) s m m' le g = absurd (omega arith)
 
 -- a unit that is wanted and not there, and one that is used
-fuelled_longer : (d k n : ℕ) (s : State) (m m' : Direct Value) → n ≤ suc k → Longers d k Value m m' → Longer d n (fuelled n s m) (fuelled (n + d) (more d s) m')
+fuelled_longer : (d k n : ℕ) (s : RunState) (m m' : Direct Value) → n ≤ suc k → Longers d k Value m m' → Longer d n (fuelled n s m) (fuelled (n + d) (more d s) m')
 fuelled_longer d k zero s m m' le g = fuelled_keeps (0 + d) (more d s) m' g.1
 fuelled_longer d k (suc n) s m m' le g =
-    let s' : State = record s { fuel = n } in
+    let s' : RunState = record s { fuel = n } in
     let e : suc n + d ≡ suc (n + d) = omega arith in
     subst (λ x. Longer d (suc n) (m s') (fuelled x (more d s) m')) (sym e) (less_fuel d n (suc n) (m s') (m' (more d s')) (omega arith) (g.0 s' (omega arith)))
 
@@ -119,7 +119,7 @@ module _ (heap stack d : ℕ) where
   abbrev at : ℕ → Job → Direct Value
   at n = λ job. meaning Direct (direct heap stack) n job
 
-  turn_longer : (k n m : ℕ) → k ≤ n → k + d ≤ m → (job : Job) → (s : State) → s.fuel ≤ k →
+  turn_longer : (k n m : ℕ) → k ≤ n → k + d ≤ m → (job : Job) → (s : RunState) → s.fuel ≤ k →
       Longer d s.fuel (fuelled s.fuel s (at n job)) (fuelled (s.fuel + d) (more d s) (at m job))
   turn_longer zero n m p q job s le =
       none_left d s.fuel s (at n job) (at m job) le (meaning_keeps heap stack m job)
@@ -130,7 +130,7 @@ module _ (heap stack d : ℕ) where
       (run_same Direct Direct (direct heap stack) (direct heap stack) (Longers d k) (all_longer heap stack d k) (at n) (at m)
       (λ j. (turn_longer k n m (omega arith) (omega arith) j, λ t. fuelled_keeps t.fuel t (at m j) (meaning_keeps heap stack m j))) job)
 
-  program_longer : (body : Exp) (entries : List Entry) (n : ℕ) (s : State) → s.fuel ≤ n →
+  program_longer : (body : Exp) (entries : List Entry) (n : ℕ) (s : RunState) → s.fuel ≤ n →
       Longer d s.fuel (program Direct (direct heap stack) body entries n s) (program Direct (direct heap stack) body entries (n + d) (more d s))
   program_longer body entries n s le =
       (run_program_same Direct Direct (direct heap stack) (direct heap stack) (Longers d s.fuel) (all_longer heap stack d s.fuel) (at n) (at (n + d))
@@ -147,7 +147,7 @@ outcome_idle d n (is_over (ended e) s) r' g h = ap outcome g
 outcome_idle d n (is_over stuck s) r' g h = ap outcome g
 outcome_idle d n (is_over out_of_fuel s) r' g h = absurd (h refl)
 
-outcome_now : (e : End Ending) (s : State) (r : Result Value) → GoesOn (so_far s) (now r) → GoesOn (told e s) (outcome r)
+outcome_now : (e : End Ending) (s : RunState) (r : Result Value) → GoesOn (so_far s) (now r) → GoesOn (told e s) (outcome r)
 outcome_now e s (gives v s') g = whatever_end e (ended normal) s s' g
 outcome_now e s (breaks s') g = whatever_end e stuck s s' g
 outcome_now e s (is_over e' s') g = whatever_end e e' s s' g

@@ -4,7 +4,7 @@ use Rattle.std.proofs.Common.{ℕ}
 use Rattle.tg_runs.specs.Runs.{Run}
 use Rattle.tg_runs.specs.Outcomes.{Outcome}
 use Rattle.tg_runs.proofs.Fixpoint.{IsOwnStep}
-use Rattle.tg_meaning.specs.Values.{Value, Ending, World}
+use Rattle.tg_meaning.specs.Values.{Value, Ending, SourceWorld}
 use Rattle.tg_meaning.specs.Evaluation.{Job, run}
 use Rattle.tg_meaning.specs.Passing.{Rest, Passing, passing}
 use Rattle.tg_meaning.specs.Laws.{behind}
@@ -14,7 +14,7 @@ pub record Point : Type 0 where
   pub job : Job
   pub go : Value → Rest
   pub out : Rest
-  pub world : World
+  pub world : SourceWorld
 
 module _ (heap stack : ℕ) where
   abbrev pub step : (Point → Run (Outcome Ending)) → Point → Run (Outcome Ending)

@@ -4,16 +4,16 @@ use Rattle.std.proofs.Common.{◌≡◌, ℕ, refl}
 use Rattle.tg_base.specs.declared.ids.Span.{Span}
 use Rattle.tg_syntax.specs.declared.tokens.Ident.{Ident}
 use Rattle.tg_syntax.specs.declared.trees.Op.{Op}
-use Rattle.tg_syntax.specs.Tree.{Exp, Break, Int, Call, Neg, Binary, If, While, Let, Place, Exps, Decs, Assign}
+use Rattle.tg_syntax.specs.Tree.{Exp, Break, Int, Call, Neg, Binary, If, While, Let, LValue, Exps, Decs, Assign}
 use Rattle.tg_syntax.specs.declared.trees.Op.TheVariants.{Minus}
 use Rattle.tg_runs.specs.Outcomes.{costs}
-use Rattle.tg_meaning.specs.Values.{Value, int, nothing, Env, World}
+use Rattle.tg_meaning.specs.Values.{Value, int, nothing, Env, SourceWorld}
 use Rattle.tg_meaning.specs.Environments.{name_of, find, levels_out}
 use Rattle.tg_meaning.specs.Passing.{Rest, Passing, with_turn, with_found, passing}
 use Rattle.tg_meaning.specs.Evaluation as E
 use Rattle.tg_meaning.specs.Evaluation.{Job, repeat_while}
 
-module _ (heap stack : ℕ) (after : Job → Passing Value) (go : Value → Rest) (out : Rest) (w : World) (n : ℕ) where
+module _ (heap stack : ℕ) (after : Job → Passing Value) (go : Value → Rest) (out : Rest) (w : SourceWorld) (n : ℕ) where
   abbrev eval : Exp → Env → Passing Value
   eval e env = E.eval Passing (passing heap stack) after e env
 
@@ -50,7 +50,7 @@ module _ (heap stack : ℕ) (after : Job → Passing Value) (go : Value → Rest
       (E.eval_all Passing (passing heap stack) after args env (λ values. E.call Passing (passing heap stack) after callee values go out) out w n)) w n)
   call_is s f args env = refl
 
-  assign_is : (s : Span) (v : Place) (e : Exp) (env : Env) → eval (Assign s v e) env go out w n ≡ costs 1
+  assign_is : (s : Span) (v : LValue) (e : Exp) (env : Env) → eval (Assign s v e) env go out w n ≡ costs 1
       (E.locate Passing (passing heap stack) after v env (λ l. eval e env
       (λ x. E.write_location Passing (passing heap stack) l x (λ _. go nothing) out) out) out w n)
   assign_is s v e env = refl

@@ -6,12 +6,12 @@ use Rattle.tg_syntax.specs.declared.tokens.Ident.{Ident}
 use Rattle.tg_syntax.specs.declared.trees.Param.{Param}
 use Rattle.tg_syntax.specs.declared.trees.Op.{Op}
 use Rattle.tg_syntax.specs.declared.trees.Op.TheVariants.{Plus, Minus, Times, Divide, And, Or}
-use Rattle.tg_syntax.specs.Tree.{Exp, Nil, Break, Int, Text, Read, Call, Neg, Binary, Make, Fill, Assign, If, When, While, For, Let, Seq, Place, Simple, Field}
+use Rattle.tg_syntax.specs.Tree.{Exp, Nil, Break, Int, Text, Read, Call, Neg, Binary, Make, Fill, Assign, If, When, While, For, Let, Seq, LValue, Simple, Field}
 use Rattle.tg_syntax.specs.Tree.{Index, Exps, no_exps, exp, Inits, no_inits, init, Decs, no_decs, types, variable as variable_dec, functions}
 use Rattle.tg_runs.specs.Outcomes.{End, ended, stuck}
 use Rattle.tg_meaning.specs.declared.standards.Standard.{Standard}
 use Rattle.tg_meaning.specs.declared.standards.Standard.TheVariants.{Print, Flush, Getchar, Ord, Chr, Size, Substring, Concat, Not, Exit}
-use Rattle.tg_meaning.specs.Values.{Value, int, string, nil, reference, nothing, Object, fields, elements, Entry, Env, by_chr, World, Ending}
+use Rattle.tg_meaning.specs.Values.{Value, int, string, nil, reference, nothing, Object, fields, elements, Entry, Env, by_chr, SourceWorld, Ending}
 use Rattle.tg_meaning.specs.Actions.{Actions}
 use Rattle.tg_meaning.specs.Environments.{Bound, to_variable, to_function, to_standard}
 use Rattle.tg_meaning.specs.Operators.{exact_quotient, is_below, comparison, identity}
@@ -28,7 +28,7 @@ module _ (Action Action' : Type 0 → Type 0) (M : Actions Action) (M' : Actions
     pub overs : (A : Type 0) (e : End Ending) → R A (M.over e) (M'.over e)
     pub loops : (m k : Action Value) (m' k' : Action' Value) → R Value m m' → R Value k k' → R Value (M.in_loop m k) (M'.in_loop m' k')
     pub bodies : (m : Action Value) (m' : Action' Value) → R Value m m' → R Value (M.in_function m) (M'.in_function m')
-    pub looks : (A : Type 0) (f : World → Option A) → R A (M.look f) (M'.look f)
+    pub looks : (A : Type 0) (f : SourceWorld → Option A) → R A (M.look f) (M'.look f)
     pub news : (v : Value) → R ℕ (M.new_variable v) (M'.new_variable v)
     pub sets : (place : ℕ) (v : Value) → R (Unit {0}) (M.set_variable place v) (M'.set_variable place v)
     pub makes : (o : Object) → R ℕ (M.new_object o) (M'.new_object o)
@@ -205,7 +205,7 @@ module _ (Action Action' : Type 0 → Type 0) (M : Actions Action) (M' : Actions
         eval_same (Let _ decs body) env = binds (L.spends 1) λ _. binds (declare_same decs env) λ inner. eval_last_same nothing body inner
         eval_same (Seq _ es) env = binds (L.spends 1) λ _. eval_last_same nothing es env
 
-        pub locate_same : (p : Place) (env : Env) → R Location (E.locate Action M after p env) (E.locate Action' M' after' p env)
+        pub locate_same : (p : LValue) (env : Env) → R Location (E.locate Action M after p env) (E.locate Action' M' after' p env)
         locate_same (Simple x) env = binds (L.spends 1) λ _. binds (look_up_same x env) λ b. locate_variable_same b
         locate_same (Field p f) env =
             binds (L.spends 1) λ _. binds (locate_same p env) λ l. binds (read_location_same l) λ v. locate_field_same v _

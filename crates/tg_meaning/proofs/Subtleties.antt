@@ -6,7 +6,7 @@ use Rattle.tg_syntax.specs.Tree.{Exp, no_decs}
 use Rattle.tg_runs.specs.Outcomes.{End, ended, stuck}
 use Rattle.tg_meaning.specs.Values.{int, nothing, elements, Ending, normal, by_index, by_chr, by_substring, by_size, by_heap, by_exit, add_object}
 use Rattle.tg_meaning.specs.Evaluation.{in_element, write_location}
-use Rattle.tg_meaning.specs.Direct.{State, Direct, gives, after, direct, begin, told, outcome, evaluate}
+use Rattle.tg_meaning.specs.Direct.{RunState, Direct, gives, after, direct, begin, told, outcome, evaluate}
 use Rattle.tg_meaning.proofs.Trees.{nil, break, num, text, bytes, simple, field, index, read, var, call, neg, ◌+'◌, ◌-'◌, ◌='◌, ◌<>'◌, ◌<'◌, ◌<='◌, ◌>'◌, ◌&'◌}
 use Rattle.tg_meaning.proofs.Trees.{◌or'◌, set, when, while, for, seq, array, make, fun, let_var, block, evaluated, does, on_heap, names}
 
@@ -168,7 +168,7 @@ store_to_no_record : does (block (let_var "a" (array (num 1) (num 0)) no_decs) (
 store_to_no_record = refl
 
 -- the same past the end of an array, which no l-value whose checks are made comes to
-abbrev with_array : State
+abbrev with_array : RunState
 with_array =
     let s = begin [] 0 in
     record s { world = add_object (elements (int 0 ∷ [])) s.world }

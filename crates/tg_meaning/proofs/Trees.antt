@@ -10,7 +10,7 @@ use Rattle.tg_syntax.specs.declared.trees.Param.{Param}
 use Rattle.tg_syntax.specs.declared.trees.Op.{Op}
 use Rattle.tg_syntax.specs.declared.trees.Op.TheVariants as op
 use Rattle.tg_syntax.specs.Tree as tree
-use Rattle.tg_syntax.specs.Tree.{Exp, Place, Exps, no_exps, exp, Inits, no_inits, init, Decs, no_functions}
+use Rattle.tg_syntax.specs.Tree.{Exp, LValue, Exps, no_exps, exp, Inits, no_inits, init, Decs, no_functions}
 use Rattle.tg_runs.specs.Outcomes.{End, Outcome}
 use Rattle.tg_meaning.specs.Values.{Ending}
 use Rattle.tg_meaning.specs.Direct.{evaluate}
@@ -47,13 +47,13 @@ bytes those = tree.Text here those
 abbrev pub text : String → Exp
 text chars = bytes (codes chars)
 
-abbrev pub read : Place → Exp
+abbrev pub read : LValue → Exp
 read place = tree.Read here place
 
-abbrev pub simple : String → Place
+abbrev pub simple : String → LValue
 simple name = tree.Simple (id name)
 
-abbrev pub field : Place → String → Place
+abbrev pub field : LValue → String → LValue
 field place name = tree.Field place (id name)
 
 abbrev pub var : String → Exp
@@ -116,7 +116,7 @@ abbrev pub ◌&'◌ : Exp → Exp → Exp
 abbrev pub ◌or'◌ : Exp → Exp → Exp
 ◌or'◌ e e' = binary op.Or e e'
 
-abbrev pub set : Place → Exp → Exp
+abbrev pub set : LValue → Exp → Exp
 set place e = tree.Assign here place e
 
 abbrev pub when : Exp → Exp → Exp
@@ -167,7 +167,7 @@ seen o = (o.end, o.output)
 abbrev pub does : Exp → ℕ → End Ending × List ℕ
 does e fuel = seen (evaluated e fuel)
 
-abbrev pub index : Place → Exp → Place
+abbrev pub index : LValue → Exp → LValue
 index place e = tree.Index place e
 
 abbrev pub on_heap : ℕ → List ℕ → Exp → ℕ → End Ending × List ℕ

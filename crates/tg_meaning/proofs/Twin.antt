@@ -8,7 +8,7 @@ use Rattle.tg_runs.specs.Outcomes.{End, ended, stuck, Outcome, first_written, wr
 use Rattle.tg_meaning.specs.Values.{Value, normal, by_heap, add_heap, Ending}
 use Rattle.tg_meaning.specs.Environments.{outermost}
 use Rattle.tg_meaning.specs.Evaluation.{program}
-use Rattle.tg_meaning.specs.Direct.{Trace, State, Result, gives, breaks, is_over, Direct, after, after_body, returned, fuelled, found, changed, first_past}
+use Rattle.tg_meaning.specs.Direct.{Trace, RunState, Result, gives, breaks, is_over, Direct, after, after_body, returned, fuelled, found, changed, first_past}
 use Rattle.tg_meaning.specs.Direct.{past_limit, direct, begin, told, outcome, evaluate}
 use Rattle.tg_meaning.specs.Passing.{Rest, Passing, over_in, ends, with_turn, with_found, passing, evaluate_passing}
 use Rattle.tg_meaning.proofs.Related.{Related, program_same}
@@ -36,7 +36,7 @@ finished (breaks s) go out = since s.trace (out s.world s.fuel)
 finished (is_over e s) go out = since s.trace (over_in s.world e)
 
 abbrev Same : (A : Type 0) → Direct A → Passing A → Type 0
-Same A m m' = (go : A → Rest) (out : Rest) (s : State) → finished (m s) go out ≡ since s.trace (m' go out s.world s.fuel)
+Same A m m' = (go : A → Rest) (out : Rest) (s : RunState) → finished (m s) go out ≡ since s.trace (m' go out s.world s.fuel)
 
 after_same : {A B : Type 0} (r : Result A) (f : A → Direct B) (f' : A → Passing B) (go : B → Rest) (out : Rest) → ((a : A) → Same B (f a) (f' a)) →
     finished (after r f) go out ≡ finished r (λ a. f' a go out) out
@@ -55,11 +55,11 @@ returned_same (gives v s) go out = refl
 returned_same (breaks s) go out = refl
 returned_same (is_over e s) go out = refl
 
-found_same : {A : Type 0} (o : Option A) (s : State) (go : A → Rest) (out : Rest) → finished (found o s) go out ≡ since s.trace (with_found o go s.world s.fuel)
+found_same : {A : Type 0} (o : Option A) (s : RunState) (go : A → Rest) (out : Rest) → finished (found o s) go out ≡ since s.trace (with_found o go s.world s.fuel)
 found_same (Some a) s go out = refl
 found_same None s go out = refl
 
-take_same : (full : Bool) (bytes : ℕ) (s : State) (go : Unit {0} → Rest) (out : Rest) →
+take_same : (full : Bool) (bytes : ℕ) (s : RunState) (go : Unit {0} → Rest) (out : Rest) →
     finished (if full then is_over (ended by_heap) s else changed tt (add_heap bytes) s) go out ≡
     since s.trace ((if full then ends (ended by_heap) s.world else go tt (add_heap bytes s.world)) s.fuel)
 take_same true bytes s go out = refl
@@ -129,7 +129,7 @@ weigh_same t above o =
     })
     (earlier_past t.output_past_limit above t.output o.output_past_limit)
 
-turn_same : (n : ℕ) (s : State) (m : Direct Value) (m' : Passing Value) (go : Value → Rest) (out : Rest) → Same Value m m' →
+turn_same : (n : ℕ) (s : RunState) (m : Direct Value) (m' : Passing Value) (go : Value → Rest) (out : Rest) → Same Value m m' →
     finished (fuelled n s m) go out ≡ since s.trace (with_turn (m' go out) s.world n)
 turn_same zero s m m' go out h = refl
 turn_same (suc n) s m m' go out h = h go out (record s { fuel = n })
@@ -167,7 +167,7 @@ earlier_none : (past : Option (List ℕ)) (output : List ℕ) → past ≡ earli
 earlier_none (Some p) output = refl
 earlier_none None output = refl
 
-told_same : (e : End Ending) (s : State) → told e s ≡ since s.trace (over_in s.world e)
+told_same : (e : End Ending) (s : RunState) → told e s ≡ since s.trace (over_in s.world e)
 told_same e s =
     let c : s.trace.cost ≡ s.trace.cost + 0 = omega arith in
     let d : s.trace.deepest ≡ max s.trace.deepest 0 = omega arith in

@@ -2,7 +2,7 @@
 use Rattle.std.proofs.Common.{◌≡◌, ℕ, zero, suc, ◌+◌, ◌≤◌, Option, Some, None, Bool, true, false, nat_lt, refl, ap, arith, le_trans}
 use Rattle.std.specs.Prelude.{if◌then◌else◌}
 use Rattle.tg_runs.specs.Outcomes.{ended, stuck, writes, costs, passes_limit, reaches}
-use Rattle.tg_meaning.specs.Values.{Value, normal, by_heap, World, start, add_heap}
+use Rattle.tg_meaning.specs.Values.{Value, normal, by_heap, SourceWorld, start, add_heap}
 use Rattle.tg_meaning.specs.Environments.{outermost}
 use Rattle.tg_meaning.specs.Evaluation.{meaning, Job}
 use Rattle.tg_meaning.specs.Passing.{Rest, Passing, ends, with_turn, with_found, passing}
@@ -11,7 +11,7 @@ use Rattle.tg_meaning.proofs.Related.{Related, run_same, run_program_same}
 
 -- two runs that agree with at most k units of fuel
 abbrev pub Rests : ℕ → Rest → Rest → Type 0
-Rests k r r' = (w : World) (n : ℕ) → n ≤ k → r w n ≡ r' w n
+Rests k r r' = (w : SourceWorld) (n : ℕ) → n ≤ k → r w n ≡ r' w n
 
 abbrev pub Agree : ℕ → (A : Type 0) → Passing A → Passing A → Type 0
 Agree k A m m' =
@@ -21,7 +21,7 @@ found_agree : {A : Type 0} (k : ℕ) (o : Option A) (go go' : A → Rest) → ((
 found_agree k (Some a) go go' h = h a
 found_agree k None go go' h = λ w n le. refl
 
-take_agree : (k : ℕ) (full : Bool) (w w' : World) (go go' : Rest) (n : ℕ) → n ≤ k → Rests k go go' →
+take_agree : (k : ℕ) (full : Bool) (w w' : SourceWorld) (go go' : Rest) (n : ℕ) → n ≤ k → Rests k go go' →
     (if full then ends (ended by_heap) w else go w') n ≡ (if full then ends (ended by_heap) w else go' w') n
 take_agree k true w w' go go' n le h = refl
 take_agree k false w w' go go' n le h = h w' n le

@@ -4,7 +4,7 @@
 -- as translated code behaves.
 use Rattle.std.specs.Prelude.{ℕ, List, Option}
 use Rattle.tg_runs.specs.Outcomes.{End}
-use Rattle.tg_meaning.specs.Values.{Value, Object, World, Ending}
+use Rattle.tg_meaning.specs.Values.{Value, Object, SourceWorld, Ending}
 
 pub record Actions (Action : Type 0 → Type 0) : Type 1 where
   -- gives this; does one action, and then the next with what it gave
@@ -20,7 +20,7 @@ pub record Actions (Action : Type 0 → Type 0) : Type 1 where
   -- uses a unit of fuel, or is out of fuel
   pub turn : Action Value → Action Value
   -- what is found in the world; the run is stuck where it isn't there
-  pub look : {A : Type 0} → (World → Option A) → Action A
+  pub look : {A : Type 0} → (SourceWorld → Option A) → Action A
   -- variables and objects, by their places
   pub new_variable : Value → Action ℕ
   pub set_variable : ℕ → Value → Action (Unit {0})

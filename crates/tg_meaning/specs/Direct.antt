@@ -4,7 +4,7 @@ use Rattle.std.specs.Prelude.{ℕ, zero, suc, ◌+◌, max, List, [], ◌++◌, 
 use Rattle.std.specs.Prelude.{None, Bool, nat_lt, if◌then◌else◌}
 use Rattle.tg_syntax.specs.Tree.{Exp}
 use Rattle.tg_runs.specs.Outcomes.{End, ended, out_of_fuel, stuck, Outcome}
-use Rattle.tg_meaning.specs.Values.{Value, normal, by_heap, World, start, add_variable}
+use Rattle.tg_meaning.specs.Values.{Value, normal, by_heap, SourceWorld, start, add_variable}
 use Rattle.tg_meaning.specs.Values.{put_variable, add_object, put_object, add_heap, drop_byte}
 use Rattle.tg_meaning.specs.Values.{add_weight, drop_weight, go_deeper, go_back, Ending}
 use Rattle.tg_meaning.specs.Actions.{Actions}
@@ -19,19 +19,19 @@ pub record Trace : Type 0 where
   pub deepest : ℕ
 
 -- the fuel that is left, what the run has, and what it has done
-pub record State : Type 0 where
+pub record RunState : Type 0 where
   pub fuel : ℕ
-  pub world : World
+  pub world : SourceWorld
   pub trace : Trace
 
 -- what an action comes to
 pub data Result (A : Type 0) : Type 0 where
-  gives : A → State → Result A
-  breaks : State → Result A
-  is_over : End Ending → State → Result A
+  gives : A → RunState → Result A
+  breaks : RunState → Result A
+  is_over : End Ending → RunState → Result A
 
 abbrev pub Direct : Type 0 → Type 0
-Direct A = State → Result A
+Direct A = RunState → Result A
 
 -- one action, and then the next with what it gave
 abbrev pub after : {A B : Type 0} → Result A → (A → Direct B) → Result B
@@ -52,21 +52,21 @@ returned (breaks s) = is_over stuck s
 returned (is_over e s) = is_over e s
 
 -- with a unit of fuel, if one is left
-abbrev pub fuelled : ℕ → State → Direct Value → Result Value
+abbrev pub fuelled : ℕ → RunState → Direct Value → Result Value
 fuelled zero s m = is_over out_of_fuel s
 fuelled (suc n) s m = m (record s { fuel = n })
 
 -- a thing that has to be there
-abbrev pub found : {A : Type 0} → Option A → State → Result A
+abbrev pub found : {A : Type 0} → Option A → RunState → Result A
 found (Some a) s = gives a s
 found None s = is_over stuck s
 
 -- the world is changed
-abbrev pub changed : {A : Type 0} → A → (World → World) → State → Result A
+abbrev pub changed : {A : Type 0} → A → (SourceWorld → SourceWorld) → RunState → Result A
 changed a change s = gives a (record s { world = change s.world })
 
 -- a thing is noted
-abbrev pub noted : (Trace → Trace) → State → Result (Unit {0})
+abbrev pub noted : (Trace → Trace) → RunState → Result (Unit {0})
 noted note s = gives tt (record s { trace = note s.trace })
 
 abbrev pub first_past : Option (List ℕ) → Bool → List ℕ → Option (List ℕ)
@@ -109,7 +109,7 @@ direct heap stack = record {
 }
 
 -- how a run begins
-abbrev pub begin : List ℕ → (fuel : ℕ) → State
+abbrev pub begin : List ℕ → (fuel : ℕ) → RunState
 begin input fuel = record {
   fuel = fuel;
   world = start input;
@@ -117,7 +117,7 @@ begin input fuel = record {
 }
 
 -- what has come of a run that is over so
-abbrev pub told : End Ending → State → Outcome Ending
+abbrev pub told : End Ending → RunState → Outcome Ending
 told e s = record {
   end = e;
   output = s.trace.output;

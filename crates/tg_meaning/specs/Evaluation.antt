@@ -12,7 +12,7 @@ use Rattle.tg_syntax.specs.declared.trees.Param.{Param}
 use Rattle.tg_syntax.specs.declared.trees.Op.{Op}
 use Rattle.tg_syntax.specs.declared.trees.Op.TheVariants.{Plus, Minus, Times, Divide, And, Or}
 use Rattle.tg_syntax.specs.Tree.{Exp, Nil, Break, Int, Text, Read, Call, Neg, Binary, Make, Fill}
-use Rattle.tg_syntax.specs.Tree.{Assign, If, When, While, For, Let, Seq, Place, Simple, Field}
+use Rattle.tg_syntax.specs.Tree.{Assign, If, When, While, For, Let, Seq, LValue, Simple, Field}
 use Rattle.tg_syntax.specs.Tree.{Index, Exps, no_exps, exp, Inits, no_inits, init, Decs, no_decs}
 use Rattle.tg_syntax.specs.Tree.{types, variable as variable_dec, functions, FunDecs, no_functions}
 use Rattle.tg_syntax.specs.Tree.{function}
@@ -336,7 +336,7 @@ module _ (Action : Type 0 → Type 0) (M : Actions Action) where
       eval (Seq _ es) env = spend 1 >> eval_last nothing es env
 
       -- an l-value, its parts from the left
-      pub locate : Place → Env → Action Location
+      pub locate : LValue → Env → Action Location
       locate (Simple x) env = do
         spend 1
         bound ← look_up x env

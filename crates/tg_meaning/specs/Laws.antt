@@ -5,7 +5,7 @@ use Rattle.tg_runs.specs.Outcomes.{ended, out_of_fuel, stuck, Outcome}
 use Rattle.tg_meaning.specs.Values.{Value, Env, Ending, normal, start}
 use Rattle.tg_meaning.specs.Environments.{outermost}
 use Rattle.tg_meaning.specs.Evaluation.{Job, eval, run, run_program, meaning}
-use Rattle.tg_meaning.specs.Direct.{State, Direct, direct, told, outcome, evaluate}
+use Rattle.tg_meaning.specs.Direct.{RunState, Direct, direct, told, outcome, evaluate}
 use Rattle.tg_meaning.specs.Passing.{Rest, Passing, passing, ends, evaluate_passing}
 
 -- evaluation by results and evaluation that passes along what comes next have one outcome
@@ -28,12 +28,12 @@ pub record GoesOn (o o' : Outcome Ending) : Type 0 where
   pub deepest : o.deepest ≤ o'.deepest
 
 -- each expression goes on from what was so far
-abbrev pub so_far : State → Outcome Ending
+abbrev pub so_far : RunState → Outcome Ending
 so_far s = told out_of_fuel s
 
 abbrev pub NothingIsTakenBack : Type 0
 NothingIsTakenBack =
-    (heap stack bound : ℕ) (e : Exp) (env : Env) (s : State) →
+    (heap stack bound : ℕ) (e : Exp) (env : Env) (s : RunState) →
     let after_turn : Job → Direct Value = λ job. meaning Direct (direct heap stack) bound job in
     GoesOn (so_far s) (outcome (eval Direct (direct heap stack) after_turn e env s))
 

@@ -6,5 +6,5 @@ pub mod Actions
 pub mod Evaluation
 pub mod Direct
 pub mod Passing
-pub mod Meant
+pub mod MachineEnds
 pub mod Laws

@@ -7,7 +7,7 @@ use Rattle.tg_syntax.specs.Tree.{Exp}
 use Rattle.tg_runs.specs.Runs.{Run, turn}
 use Rattle.tg_runs.specs.Outcomes.{End, ended, out_of_fuel, stuck, Outcome, writes, costs}
 use Rattle.tg_runs.specs.Outcomes.{passes_limit, reaches}
-use Rattle.tg_meaning.specs.Values.{Value, normal, by_heap, World, start, add_variable}
+use Rattle.tg_meaning.specs.Values.{Value, normal, by_heap, SourceWorld, start, add_variable}
 use Rattle.tg_meaning.specs.Values.{put_variable, add_object, put_object, add_heap, drop_byte}
 use Rattle.tg_meaning.specs.Values.{add_weight, drop_weight, go_deeper, go_back, Ending}
 use Rattle.tg_meaning.specs.Actions.{Actions}
@@ -16,14 +16,14 @@ use Rattle.tg_meaning.specs.Evaluation.{program}
 
 -- what comes from a world on, by the fuel that is left
 abbrev pub Rest : Type 0
-Rest = World → Run (Outcome Ending)
+Rest = SourceWorld → Run (Outcome Ending)
 
 -- an action, by what comes after its value, and what comes after a `break`
 abbrev pub Passing : Type 0 → Type 0
 Passing A = (go : A → Rest) → (out : Rest) → Rest
 
 -- a run that is over in this world
-abbrev pub over_in : World → End Ending → Outcome Ending
+abbrev pub over_in : SourceWorld → End Ending → Outcome Ending
 over_in w end = record {
   end = end;
   output = [];

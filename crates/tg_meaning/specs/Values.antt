@@ -42,7 +42,7 @@ pub data Ending : Type 0 where
 -- What a run has at a moment: variables and objects, of which none goes (records and arrays have
 -- infinite extent, appendix A.3), the input that is left, the bytes of heap that are taken, the
 -- weight of what is open, and the number of open activations of declared functions.
-pub record World : Type 0 where
+pub record SourceWorld : Type 0 where
   pub variables : List Value
   pub objects : List Object
   pub input : List ℕ
@@ -50,7 +50,7 @@ pub record World : Type 0 where
   pub weight : ℕ
   pub depth : ℕ
 
-abbrev pub start : List ℕ → World
+abbrev pub start : List ℕ → SourceWorld
 start input = record {
   variables = [];
   objects = [];
@@ -62,32 +62,32 @@ start input = record {
 
 -- How each of these changes.
 
-abbrev pub add_variable : Value → World → World
+abbrev pub add_variable : Value → SourceWorld → SourceWorld
 add_variable v w = record w { variables = w.variables ++ v ∷ [] }
 
-abbrev pub put_variable : ℕ → Value → World → World
+abbrev pub put_variable : ℕ → Value → SourceWorld → SourceWorld
 put_variable place v w = record w { variables = slice_set w.variables place v }
 
-abbrev pub add_object : Object → World → World
+abbrev pub add_object : Object → SourceWorld → SourceWorld
 add_object o w = record w { objects = w.objects ++ o ∷ [] }
 
-abbrev pub put_object : ℕ → Object → World → World
+abbrev pub put_object : ℕ → Object → SourceWorld → SourceWorld
 put_object place o w = record w { objects = slice_set w.objects place o }
 
-abbrev pub add_heap : ℕ → World → World
+abbrev pub add_heap : ℕ → SourceWorld → SourceWorld
 add_heap bytes w = record w { heap = w.heap + bytes }
 
-abbrev pub drop_byte : World → World
+abbrev pub drop_byte : SourceWorld → SourceWorld
 drop_byte w = record w { input = drop 1 w.input }
 
-abbrev pub add_weight : ℕ → World → World
+abbrev pub add_weight : ℕ → SourceWorld → SourceWorld
 add_weight k w = record w { weight = w.weight + k }
 
-abbrev pub drop_weight : ℕ → World → World
+abbrev pub drop_weight : ℕ → SourceWorld → SourceWorld
 drop_weight k w = record w { weight = w.weight - k }
 
-abbrev pub go_deeper : World → World
+abbrev pub go_deeper : SourceWorld → SourceWorld
 go_deeper w = record w { depth = w.depth + 1 }
 
-abbrev pub go_back : World → World
+abbrev pub go_back : SourceWorld → SourceWorld
 go_back w = record w { depth = w.depth - 1 }

@@ -1,4 +1,4 @@
-ghost use Rattle.tg_meaning.specs.Meant.{TurnsAsSource, NoEndingIsFull, OnlyStuckIsStuck};
+ghost use Rattle.tg_meaning.specs.MachineEnds.{TurnsAsSource, NoEndingIsFull, OnlyStuckIsStuck};
 ghost use Rattle.tg_meaning.specs.Laws.{
   FormsAgree,
   NothingIsTakenBack,

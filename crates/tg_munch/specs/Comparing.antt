@@ -1,7 +1,9 @@
 -- Branches on a comparison (Appel, chapter 9; MIPS I manual, branches and set on less than).
-use Rattle.std.specs.Prelude.{ℕ, ◌+◌, ◌%◌, ◌==◌, ◌&&◌, not, Bool, true, false, Option, Some, None, refl, if◌then◌else◌}
+use Rattle.std.specs.Prelude.{ℕ, ◌+◌, ◌%◌, ◌==◌, ◌&&◌, not, Bool, true, false, Option, Some, None}
+use Rattle.std.specs.Prelude.{refl, if◌then◌else◌}
 use Rattle.tg_tree.specs.declared.operators.Rel.{Rel}
-use Rattle.tg_tree.specs.declared.operators.Rel.TheVariants.{Equal, NotEqual, Less, LessEqual, Greater, GreaterEqual, Below, NotBelow}
+use Rattle.tg_tree.specs.declared.operators.Rel.TheVariants.{Equal, NotEqual, Less, LessEqual}
+use Rattle.tg_tree.specs.declared.operators.Rel.TheVariants.{Greater, GreaterEqual, Below, NotBelow}
 use Rattle.tg_tree.specs.Tree.{Tx, Const}
 use Rattle.tg_instr.specs.declared.operands.Opnd.{Opnd}
 use Rattle.tg_instr.specs.declared.instr.Instr.{Instr}

@@ -6,7 +6,8 @@ use Rattle.tg_tree.specs.Shapes.{EndsCode, IsWellMarked}
 use Rattle.tg_tree.specs.Tree as tree
 use Rattle.tg_tree.specs.Tree.{Linear, Function}
 use Rattle.tg_tree.specs.Named.{Named, named_flat, HasItsTemps}
-use Rattle.tg_instr.specs.Codes.{marks_differ, leads_to_marks, ends_well, has_temps_below, has_slots_below}
+use Rattle.tg_instr.specs.Codes.{marks_differ, leads_to_marks, ends_well, has_temps_below}
+use Rattle.tg_instr.specs.Codes.{has_slots_below}
 use Rattle.tg_instr.specs.declared.instr.Instr.TheVariants.{Move}
 use Rattle.tg_munch.specs.Munching.{temp}
 use Rattle.tg_munch.specs.Bodies.{munched}

@@ -1,16 +1,20 @@
 -- Maximal munch: the instructions of expressions, statements and elements of flat code (Appel,
 -- chapter 9).
-use Rattle.std.specs.Prelude.{ℕ, ◌+◌, ◌-◌, ◌*◌, ◌==◌, nat_lt, List, [], ◌∷◌, Option, Some, None, if◌then◌else◌}
+use Rattle.std.specs.Prelude.{ℕ, ◌+◌, ◌-◌, ◌*◌, ◌==◌, nat_lt, List, [], ◌∷◌, Option, Some, None}
+use Rattle.std.specs.Prelude.{if◌then◌else◌}
 use Rattle.tg_tree.specs.declared.operators.Rel.{Rel}
 use Rattle.tg_base.specs.declared.ids.Label.{Label}
 use Rattle.tg_tree.specs.Tree as tree
 use Rattle.tg_tree.specs.Tree.{Tx, Txs, Ts, Linear, no_txs, tx}
 use Rattle.tg_instr.specs.declared.operands.Opnd.{Opnd}
 use Rattle.tg_instr.specs.declared.operands.Opnd.TheVariants.{Temp, Reg}
-use Rattle.tg_instr.specs.declared.instr.Instr.TheVariants.{Addu, Sw, Sb, Move, FrameStore, FrameAddress, Address, Mark, Jump, Call, Service, Fault, Return}
+use Rattle.tg_instr.specs.declared.instr.Instr.TheVariants.{Addu, Sw, Sb, Move, FrameStore}
+use Rattle.tg_instr.specs.declared.instr.Instr.TheVariants.{FrameAddress, Address, Mark, Jump, Call}
+use Rattle.tg_instr.specs.declared.instr.Instr.TheVariants.{Service, Fault, Return}
 use Rattle.tg_munch.specs.Choosing.{Choice, ◌>>=◌, ◌>>◌, give, put, fresh, choose, defining}
 use Rattle.tg_munch.specs.declared.tiles.Base.{Base}
-use Rattle.tg_munch.specs.Tiles.{nothing, constant, slot, offset, offset_by, based, loaded, loaded_byte, tile, tiled, moved}
+use Rattle.tg_munch.specs.Tiles.{nothing, constant, slot, offset, offset_by, based, loaded}
+use Rattle.tg_munch.specs.Tiles.{loaded_byte, tile, tiled, moved}
 use Rattle.tg_munch.specs.Comparing.{short_side, against, is_turned, turned}
 
 -- what a function gives back: $s0 to $s7 and $ra

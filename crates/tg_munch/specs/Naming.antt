@@ -1,5 +1,6 @@
 -- What the instructions of a code name: registers, temporaries, slots, labels and faults.
-use Rattle.std.specs.Prelude.{ℕ, ◌&&◌, ◌||◌, ◌==◌, nat_lt, nat_le, Bool, true, IsTrue, Option, Some, None, List}
+use Rattle.std.specs.Prelude.{ℕ, ◌&&◌, ◌||◌, ◌==◌, nat_lt, nat_le, Bool, true, IsTrue, Option, Some}
+use Rattle.std.specs.Prelude.{None, List}
 use Rattle.std.specs.List.{Contains}
 use Rattle.tg_tree.specs.Named.{Named, function, literal, fault}
 use Rattle.tg_instr.specs.declared.operands.Opnd.{Opnd}

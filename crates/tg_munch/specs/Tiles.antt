@@ -1,6 +1,7 @@
 -- Tiles: which parts of a tree one instruction stands for (Appel, chapter 9; MIPS I manual, the
 -- fields of instructions).
-use Rattle.std.specs.Prelude.{ℕ, ◌-◌, ◌*◌, ◌/◌, ◌%◌, ◌==◌, ◌&&◌, ◌||◌, nat_lt, nat_le, Bool, true, false, Option, Some, None, refl, if◌then◌else◌}
+use Rattle.std.specs.Prelude.{ℕ, ◌-◌, ◌*◌, ◌/◌, ◌%◌, ◌==◌, ◌&&◌, ◌||◌, nat_lt, nat_le, Bool, true}
+use Rattle.std.specs.Prelude.{false, Option, Some, None, refl, if◌then◌else◌}
 use Rattle.tg_tree.specs.declared.operators.Bin.{Bin}
 use Rattle.tg_tree.specs.declared.operators.Bin.TheVariants as bin
 use Rattle.tg_tree.specs.declared.operators.Rel.TheVariants.{Equal, NotEqual}
@@ -9,13 +10,17 @@ use Rattle.tg_tree.specs.Tree.{Tx}
 use Rattle.tg_instr.specs.declared.operands.Opnd.{Opnd}
 use Rattle.tg_instr.specs.declared.operands.Opnd.TheVariants.{Reg}
 use Rattle.tg_instr.specs.declared.instr.Instr.{Instr}
-use Rattle.tg_instr.specs.declared.instr.Instr.TheVariants.{Sll, Srl, Sra, Mfhi, Mflo, Mult, Div, Add, Sub, Addu, Subu, And, Or, Xor, Addi, Addiu, Andi, Ori, Xori, Lui, Lbu, Lw, Move, FrameLoad, Mark, Branch}
+use Rattle.tg_instr.specs.declared.instr.Instr.TheVariants.{Sll, Srl, Sra, Mfhi, Mflo, Mult, Div}
+use Rattle.tg_instr.specs.declared.instr.Instr.TheVariants.{Add, Sub, Addu, Subu, And, Or, Xor}
+use Rattle.tg_instr.specs.declared.instr.Instr.TheVariants.{Addi, Addiu, Andi, Ori, Xori, Lui, Lbu}
+use Rattle.tg_instr.specs.declared.instr.Instr.TheVariants.{Lw, Move, FrameLoad, Mark, Branch}
 use Rattle.tg_munch.specs.declared.tiles.Base.{Base}
 use Rattle.tg_munch.specs.declared.tiles.Immediate.{Immediate}
 use Rattle.tg_munch.specs.declared.tiles.Immediate.TheVariants as in_field
 use Rattle.tg_munch.specs.declared.tiles.Tile.{Tile}
 use Rattle.tg_munch.specs.declared.tiles.Tile.TheVariants.{Right, Left, ByWord, Operands}
-use Rattle.tg_munch.specs.Choosing.{Choice, ◌>>=◌, ◌>>◌, give, put, fresh, fresh_mark, choose, defining}
+use Rattle.tg_munch.specs.Choosing.{Choice, ◌>>=◌, ◌>>◌, give, put, fresh, fresh_mark, choose}
+use Rattle.tg_munch.specs.Choosing.{defining}
 
 abbrev pub nothing : Opnd
 nothing = Reg 0

@@ -6,13 +6,13 @@ use Rattle.tg_syntax.specs.declared.tokens.Spanned.{Spanned}
 use Rattle.tg_syntax.specs.declared.tokens.Token.{Token}
 use Rattle.tg_syntax.specs.declared.tokens.Word.TheVariants.{WElse}
 use Rattle.tg_syntax.specs.declared.trees.Op.{Op}
-use Rattle.tg_syntax.specs.Tree.{Exp, Place, Decs}
+use Rattle.tg_syntax.specs.Tree.{Exp, LValue, Decs}
 use Rattle.tg_syntax.specs.Groups.{snoc_dec}
 use Rattle.tg_syntax.specs.Tails.{ends_tail, is_short}
 use Rattle.tg_syntax.specs.Grammar.{Level}
 use Rattle.tg_parser.specs.declared.faults.Stop.{Stop}
 use Rattle.tg_parser.specs.declared.faults.Stop.TheVariants.{Wrong, More}
-use Rattle.tg_parser.specs.declared.heads.Declared.{Declared}
+use Rattle.tg_parser.specs.declared.heads.DeclarationKind.{DeclarationKind}
 use Rattle.tg_parser.specs.Given.{Refuses, refuses, wants, Gives}
 use Rattle.tg_parser.specs.Opens.{Leads, Skips, Operates, Elses}
 use Rattle.tg_parser.specs.Heads.{one_of, Declares}
@@ -38,13 +38,13 @@ level_refuses {ts = ts} {e = e} p d = subst (λ k. Refuses e (At k) (job (At k))
 pub after_same : {X : Type 0} (r : Result X Stop) (k : Level) (m : Exp) (l n : Exp) (value : X → Exp) (rest : X → List Spanned) (ts : List Spanned) → l ≡ n → Gives (After k l) value rest r (job (After k l)) ts → Gives (After k m) value rest r (last (After k n)) ts
 after_same r k m l n value rest ts e h = subst (λ x. Gives (After k m) value rest r (last (After k x)) ts) e (last_after r k m k l value rest ts h)
 
-pub suffix_does : {s z : Span} {v w : Place} {x : Span × Place} {ts rest : List Spanned} → s ≡ z → v ≡ w → Does (Suffix s v) (job (Suffix s v)) ts (Got x rest) → Does (Suffix z w) (job (Suffix z w)) ts (Got x rest)
+pub suffix_does : {s z : Span} {v w : LValue} {x : Span × LValue} {ts rest : List Spanned} → s ≡ z → v ≡ w → Does (Suffix s v) (job (Suffix s v)) ts (Got x rest) → Does (Suffix z w) (job (Suffix z w)) ts (Got x rest)
 suffix_does {s} {z} {v} {w} {x} {ts} {rest} e h d = subst (λ a. Does (Suffix a w) (job (Suffix a w)) ts (Got x rest)) e (subst (λ b. Does (Suffix s b) (job (Suffix s b)) ts (Got x rest)) h d)
 
-pub suffix_refuses : {s z : Span} {v w : Place} {ts : List Spanned} {e : Stop} → s ≡ z → v ≡ w → Refuses e (Suffix s v) (job (Suffix s v)) ts → Refuses e (Suffix z w) (job (Suffix z w)) ts
+pub suffix_refuses : {s z : Span} {v w : LValue} {ts : List Spanned} {e : Stop} → s ≡ z → v ≡ w → Refuses e (Suffix s v) (job (Suffix s v)) ts → Refuses e (Suffix z w) (job (Suffix z w)) ts
 suffix_refuses {s} {z} {v} {w} {ts} {e} p h d = subst (λ a. Refuses e (Suffix a w) (job (Suffix a w)) ts) p (subst (λ b. Refuses e (Suffix s b) (job (Suffix s b)) ts) h d)
 
-pub suffix_same : {X : Type 0} (r : Result X Stop) (s : Span) (v : Place) (z a : Span) (w b : Place) (value : X → Span × Place) (rest : X → List Spanned) (ts : List Spanned) → z ≡ a → w ≡ b → Gives (Suffix z w) value rest r (job (Suffix z w)) ts → Gives (Suffix s v) value rest r (last (Suffix a b)) ts
+pub suffix_same : {X : Type 0} (r : Result X Stop) (s : Span) (v : LValue) (z a : Span) (w b : LValue) (value : X → Span × LValue) (rest : X → List Spanned) (ts : List Spanned) → z ≡ a → w ≡ b → Gives (Suffix z w) value rest r (job (Suffix z w)) ts → Gives (Suffix s v) value rest r (last (Suffix a b)) ts
 suffix_same r s v z a w b value rest ts e h d =
     subst (λ x. Gives (Suffix s v) value rest r (last (Suffix x b)) ts) e
     (subst (λ y. Gives (Suffix s v) value rest r (last (Suffix z y)) ts) h (last_suffix r s v z w value rest ts d))
@@ -64,10 +64,10 @@ pub none_operates : {X : Type 0} (op : X → Op) (at : X → ℕ) (rest : X → 
 none_operates op at rest l {k = k} {ts = ts} h e = subst (λ w. Operates op at rest (Ok w) k l ts) e h
 
 -- a declaration that may stand
-pub some_declares : {X : Type 0} (kind : X → Declared) (rest : X → List Spanned) {o : Option X} {x : X} {ts : List Spanned} → Declares kind rest (Ok o) ts → o ≡ Some x → (ds : Decs) → Leads (MoreDecs ds) (more_decs ds) ts (one_of (kind x) (MoreDecs ds) (λ d. last (MoreDecs (snoc_dec ds d)))) (rest x)
+pub some_declares : {X : Type 0} (kind : X → DeclarationKind) (rest : X → List Spanned) {o : Option X} {x : X} {ts : List Spanned} → Declares kind rest (Ok o) ts → o ≡ Some x → (ds : Decs) → Leads (MoreDecs ds) (more_decs ds) ts (one_of (kind x) (MoreDecs ds) (λ d. last (MoreDecs (snoc_dec ds d)))) (rest x)
 some_declares kind rest {ts = ts} h e = subst (λ w. Declares kind rest (Ok w) ts) e h
 
-pub none_declares : {X : Type 0} (kind : X → Declared) (rest : X → List Spanned) {o : Option X} {ts : List Spanned} → Declares kind rest (Ok o) ts → o ≡ None → (ds : Decs) → Leads (MoreDecs ds) (more_decs ds) ts (give ds) ts
+pub none_declares : {X : Type 0} (kind : X → DeclarationKind) (rest : X → List Spanned) {o : Option X} {ts : List Spanned} → Declares kind rest (Ok o) ts → o ≡ None → (ds : Decs) → Leads (MoreDecs ds) (more_decs ds) ts (give ds) ts
 none_declares kind rest {ts = ts} h e = subst (λ w. Declares kind rest (Ok w) ts) e h
 
 -- what holds of a value that is there

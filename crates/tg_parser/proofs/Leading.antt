@@ -7,14 +7,14 @@ use Rattle.tg_syntax.specs.declared.tokens.Spanned.{Spanned}
 use Rattle.tg_syntax.specs.declared.tokens.Ident.{Ident}
 use Rattle.tg_syntax.specs.declared.tokens.Word.TheVariants.{WElse}
 use Rattle.tg_syntax.specs.declared.trees.Op.{Op}
-use Rattle.tg_syntax.specs.Tree.{Exp, Place}
+use Rattle.tg_syntax.specs.Tree.{Exp, LValue}
 use Rattle.tg_syntax.specs.Tails.{ends_tail, is_short}
 use Rattle.tg_syntax.specs.Grammar.{Level}
 use Rattle.tg_parser.specs.declared.faults.Stop.{Stop}
 use Rattle.tg_parser.specs.declared.faults.Stop.TheVariants.{More}
-use Rattle.tg_parser.specs.declared.heads.Declared.{Declared}
+use Rattle.tg_parser.specs.declared.heads.DeclarationKind.{DeclarationKind}
 use Rattle.tg_parser.specs.Given.{Refuses, refuses, wants, no_memory, Gives}
-use Rattle.tg_parser.specs.Opens.{Leads, Begins, BeginsTwo, Skips, Operates, Elses}
+use Rattle.tg_parser.specs.Opens.{Leads, BeginsJob, BeginsTwo, Skips, Operates, Elses}
 use Rattle.tg_parser.specs.Heads.{Declares}
 use Rattle.tg_parser.proofs.Chains.{want_on, name_on, call_stops, no_truth}
 use Rattle.tg_grammar.specs.declared.marks.Mark.{Mark}
@@ -57,7 +57,7 @@ pub last_after : {X : Type 0} (r : Result X Stop) (k : Level) (m : Exp) (i : Lev
 last_after (Ok x) k m i l value rest ts h = call_got (After k m) (After i l) h (give_got (After k m))
 last_after (Err e) k m i l value rest ts h = call_stops (After k m) (After i l) h
 
-pub last_suffix : {X : Type 0} (r : Result X Stop) (s : Span) (v : Place) (z : Span) (w : Place) (value : X → Span × Place) (rest : X → List Spanned) (ts : List Spanned) → Gives (Suffix z w) value rest r (job (Suffix z w)) ts → Gives (Suffix s v) value rest r (last (Suffix z w)) ts
+pub last_suffix : {X : Type 0} (r : Result X Stop) (s : Span) (v : LValue) (z : Span) (w : LValue) (value : X → Span × LValue) (rest : X → List Spanned) (ts : List Spanned) → Gives (Suffix z w) value rest r (job (Suffix z w)) ts → Gives (Suffix s v) value rest r (last (Suffix z w)) ts
 last_suffix (Ok x) s v z w value rest ts h = call_got (Suffix s v) (Suffix z w) h (give_got (Suffix s v))
 last_suffix (Err e) s v z w value rest ts h = call_stops (Suffix s v) (Suffix z w) h
 
@@ -90,7 +90,7 @@ pub oper_none : (j : Job) {k : Level} {f : Op → ℕ → Steps (Of j)} {z : Ste
 oper_none j {k} {f} {z} {ts} {e} p = subst (λ x. Refuses x j (oper k f z) ts) (sym p.0) (subst (λ w. Refuses More j (oper k f z) w) (sym p.1) (wants (oper_out j)))
 
 -- at an exit by a question mark
-pub begins_ended : {X A : Type 0} (value : X → A) (rest : X → List Spanned) (r : Result X Stop) {s : (j : Job) → (A → Steps (Of j)) → Steps (Of j)} {ts : List Spanned} {e : Stop} → IsErr r × IsErrAnd r (λ x. x ≡ e) → ((j : Job) (f : A → Steps (Of j)) → Refuses e j (s j f) ts) → Begins value rest r s ts
+pub begins_ended : {X A : Type 0} (value : X → A) (rest : X → List Spanned) (r : Result X Stop) {s : (j : Job) → (A → Steps (Of j)) → Steps (Of j)} {ts : List Spanned} {e : Stop} → IsErr r × IsErrAnd r (λ x. x ≡ e) → ((j : Job) (f : A → Steps (Of j)) → Refuses e j (s j f) ts) → BeginsJob value rest r s ts
 begins_ended value rest (Ok x) h d = absurd (no_truth h.0)
 begins_ended value rest (Err x) {s = s} {ts = ts} h d = λ j f. subst (λ y. Refuses y j (s j f) ts) (sym h.1) (d j f)
 
@@ -118,6 +118,6 @@ pub elses_is : (b : Bool) (x : Exp) {t : Spanned} {ts rest : List Spanned} → i
 elses_is true x {t} {ts} {rest} n e h = λ j f z. then (test_not j n) (record { goes = λ r d. subst (λ w. Does j (split (OfWord WElse) f z) w r) (sym e) (wanted j (h.0 refl) (subst (λ w. Does j (want (OfWord WElse) f) w r) e d)) })
 elses_is false x n e h = λ j f z. then (test_not j n) (split_not j e h refl)
 
-pub declares_ended : {X : Type 0} (kind : X → Declared) (rest : X → List Spanned) (r : Result (Option X) Stop) {ts : List Spanned} {e : Stop} → IsErr r × IsErrAnd r (λ x. x ≡ e) → (e ≡ More) × (ts ≡ []) → Declares kind rest r ts
+pub declares_ended : {X : Type 0} (kind : X → DeclarationKind) (rest : X → List Spanned) (r : Result (Option X) Stop) {ts : List Spanned} {e : Stop} → IsErr r × IsErrAnd r (λ x. x ≡ e) → (e ≡ More) × (ts ≡ []) → Declares kind rest r ts
 declares_ended kind rest (Ok x) h p = absurd (no_truth h.0)
 declares_ended kind rest (Err x) {ts = ts} h p = λ ds. subst (λ y. Refuses y (MoreDecs ds) (more_decs ds) ts) (sym (h.1 ∙ p.0)) (subst (λ w. Refuses More (MoreDecs ds) (more_decs ds) w) (sym p.1) (wants (split_out (MoreDecs ds))))

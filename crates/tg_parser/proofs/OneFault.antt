@@ -3,7 +3,7 @@ use Rattle.std.proofs.Common.{ℕ, ◌≡◌, List, [], ◌∷◌, ◌++◌, ref
 use Rattle.tg_syntax.specs.declared.tokens.Spanned.{Spanned}
 use Rattle.tg_syntax.specs.Tree.{Exp}
 use Rattle.tg_syntax.specs.Grammar.{IsProgram}
-use Rattle.tg_syntax.specs.SyntaxFaults.{Begins, IsShallow, HasUnexpected, HasTooDeep}
+use Rattle.tg_syntax.specs.SyntaxFaults.{BeginsProgram, IsShallow, HasUnexpected, HasTooDeep}
 use Rattle.tg_parser.specs.declared.faults.SyntaxRule.{SyntaxRule}
 use Rattle.tg_parser.specs.declared.faults.SyntaxRule.TheVariants.{S1, S2}
 use Rattle.tg_parser.specs.Answers.{HasSyntaxFault}
@@ -11,15 +11,15 @@ use Rattle.tg_parser.proofs.ParseSteps.{head_is, rest_is, shallow_front}
 
 -- some program begins so, and the nesting stays within 256
 record IsFine (tokens : List Spanned) : Type 0 where
-  begins : Begins tokens
+  begins : BeginsProgram tokens
   shallow : IsShallow tokens
 
-begins_front : (a b : List Spanned) → Begins (a ++ b) → Begins a
+begins_front : (a b : List Spanned) → BeginsProgram (a ++ b) → BeginsProgram a
 begins_front a b h = record { rest = b ++ h.rest; tree = h.tree; is = subst (λ w. IsProgram w h.tree) (append_assoc a b h.rest) h.is }
 
 fine_front : (a b tokens : List Spanned) → tokens ≡ a ++ b → IsFine tokens → IsFine a
 fine_front a b tokens e h = record {
-  begins = begins_front a b (subst (λ w. Begins w) e h.begins);
+  begins = begins_front a b (subst (λ w. BeginsProgram w) e h.begins);
   shallow = shallow_front (0 ∷ []) a b (subst (λ w. IsShallow w) e h.shallow);
 }
 
@@ -78,7 +78,7 @@ too_deep_breaks tokens at h = record {
 same_place : {a b : List Spanned} {t u : Spanned} {at to : ℕ} → at ≡ t.span.from → to ≡ u.span.from → IsSame a t b u → at ≡ to
 same_place p q is_same = p ∙ sym q
 
-not_both : {a b : List Spanned} {t u : Spanned} → (Begins (a ++ t ∷ []) → ⊥) → Begins (b ++ u ∷ []) → IsSame a t b u → ⊥
+not_both : {a b : List Spanned} {t u : Spanned} → (BeginsProgram (a ++ t ∷ []) → ⊥) → BeginsProgram (b ++ u ∷ []) → IsSame a t b u → ⊥
 not_both h k is_same = h k
 
 pub faults_once : (tokens : List Spanned) (rule other : SyntaxRule) (at to : ℕ) → HasSyntaxFault tokens rule at → HasSyntaxFault tokens other to → (rule ≡ other) × (at ≡ to)

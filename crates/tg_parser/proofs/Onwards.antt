@@ -16,7 +16,7 @@ use Rattle.tg_grammar.specs.declared.marks.Mark.TheVariants.{OfSign}
 use Rattle.tg_grammar.specs.Steps.{Answer, Got, Bad, Out, Job, Of, At, Items, OneInit, MoreInits, MoreDecs, Steps, split}
 use Rattle.tg_grammar.specs.Reading.{Does, job, last, items, more_inits, more_decs, give_got, call_got, call_bad, call_out}
 use Rattle.tg_parser.specs.declared.faults.Stop.{Stop}
-use Rattle.tg_parser.specs.declared.heads.Declared.{Declared}
+use Rattle.tg_parser.specs.declared.heads.DeclarationKind.{DeclarationKind}
 use Rattle.tg_parser.specs.Given.{Refuses, refuses, wants, no_memory}
 use Rattle.tg_parser.specs.Opens.{Leads}
 use Rattle.tg_parser.specs.Heads.{one_of}
@@ -102,7 +102,7 @@ last_decs ds more tokens (Got x rest) d = call_got (MoreDecs ds) (MoreDecs more)
 last_decs ds more tokens (Bad t rest) d = call_bad (MoreDecs ds) (MoreDecs more) d
 last_decs ds more tokens Out d = call_out (MoreDecs ds) (MoreDecs more) d
 
-pub decs_more : {first ds new : Decs} {tokens rest after behind : List Spanned} (k : Declared) → DecsOn first tokens ds rest → Leads (MoreDecs ds) (more_decs ds) rest (one_of k (MoreDecs ds) (λ d. last (MoreDecs (snoc_dec ds d)))) after → Leads (MoreDecs ds) (one_of k (MoreDecs ds) (λ d. last (MoreDecs (snoc_dec ds d)))) after (last (MoreDecs new)) behind → DecsOn first tokens new behind
+pub decs_more : {first ds new : Decs} {tokens rest after behind : List Spanned} (k : DeclarationKind) → DecsOn first tokens ds rest → Leads (MoreDecs ds) (more_decs ds) rest (one_of k (MoreDecs ds) (λ d. last (MoreDecs (snoc_dec ds d)))) after → Leads (MoreDecs ds) (one_of k (MoreDecs ds) (λ d. last (MoreDecs (snoc_dec ds d)))) after (last (MoreDecs new)) behind → DecsOn first tokens new behind
 decs_more {first} {ds} {new} {tokens} {rest} {after} {behind} k h l m = record {
   reaches = λ r w. h.reaches r (l.goes r (m.goes r (last_decs ds new behind r w)));
 }

@@ -10,9 +10,10 @@ use Rattle.tg_parser.specs.declared.heads.Start.{Start}
 use Rattle.tg_parser.specs.declared.heads.Start.TheVariants.{Minus, Parenthesis, If, While, For}
 use Rattle.tg_parser.specs.declared.heads.Start.TheVariants.{Let, Name, Nothing}
 use Rattle.tg_parser.specs.declared.heads.Target.{Target}
-use Rattle.tg_parser.specs.declared.heads.Target.TheVariants.{Place, Other}
-use Rattle.tg_parser.specs.declared.heads.Declared.{Declared}
-use Rattle.tg_parser.specs.declared.heads.Declared.TheVariants.{OneType, OneVariable, OneFunction}
+use Rattle.tg_parser.specs.declared.heads.Target.TheVariants.{LValue, Other}
+use Rattle.tg_parser.specs.declared.heads.DeclarationKind.{DeclarationKind}
+use Rattle.tg_parser.specs.declared.heads.DeclarationKind.TheVariants.{OneType, OneVariable}
+use Rattle.tg_parser.specs.declared.heads.DeclarationKind.TheVariants.{OneFunction}
 use Rattle.tg_parser.specs.Given.{Refuses}
 use Rattle.tg_parser.specs.Opens.{Leads}
 use Rattle.tg_grammar.specs.Steps.{Job, Of, Steps, TypeDec, VarDec, FunDec, MoreDecs, give, refuse}
@@ -38,11 +39,11 @@ plain_of None = None
 
 -- by what may stand before `:=`
 abbrev pub assigning_to : Target → Steps Exp
-assigning_to (Place s v) = assigning (Read s (plain_place v))
+assigning_to (LValue s v) = assigning (Read s (plain_place v))
 assigning_to (Other e) = give (plain e)
 
 -- a declaration, by its first word
-abbrev pub one_of : Declared → (j : Job) → (Dec → Steps (Of j)) → Steps (Of j)
+abbrev pub one_of : DeclarationKind → (j : Job) → (Dec → Steps (Of j)) → Steps (Of j)
 one_of OneType j f = call TypeDec f
 one_of OneVariable j f = call VarDec f
 one_of OneFunction j f = call FunDec f
@@ -51,10 +52,11 @@ one_of OneFunction j f = call FunDec f
 -- have read all
 abbrev pub Declares :
     {X : Type 0} →
-    (X → Declared) → (X → List Spanned) → Result (Option X) Stop → List Spanned →
+    (X → DeclarationKind) → (X → List Spanned) → Result (Option X) Stop → List Spanned →
     Type 0
 Declares kind rest (Ok (Some x)) ts =
     (ds : Decs) →
-    Leads (MoreDecs ds) (more_decs ds) ts (one_of (kind x) (MoreDecs ds) (λ d. last (MoreDecs (snoc_dec ds d)))) (rest x)
+    Leads (MoreDecs ds) (more_decs ds) ts
+        (one_of (kind x) (MoreDecs ds) (λ d. last (MoreDecs (snoc_dec ds d)))) (rest x)
 Declares kind rest (Ok None) ts = (ds : Decs) → Leads (MoreDecs ds) (more_decs ds) ts (give ds) ts
 Declares kind rest (Err e) ts = (ds : Decs) → Refuses e (MoreDecs ds) (more_decs ds) ts

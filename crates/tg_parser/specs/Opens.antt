@@ -15,20 +15,22 @@ use Rattle.tg_grammar.specs.Steps.{Job, Of, At, Steps, Answer, Got, split, want,
 use Rattle.tg_grammar.specs.Reading.{Does, job}
 
 -- a program, at some tokens, does what another one does at others
-pub record Leads (j : Job) (s : Steps (Of j)) (ts : List Spanned) (z : Steps (Of j)) (rest : List Spanned) : Type 0 where
+pub record Leads (j : Job) (s : Steps (Of j)) (ts : List Spanned) (z : Steps (Of j))
+    (rest : List Spanned) : Type 0 where
   pub goes : (r : Answer (Of j)) → Does j z rest r → Does j s ts r
 
 -- what a result says of the programs that begin so and go on with a value, or with two, that were
 -- read
-abbrev pub Begins :
+abbrev pub BeginsJob :
     {X A : Type 0} →
     (X → A) → (X → List Spanned) → Result X Stop → ((j : Job) → (A → Steps (Of j)) → Steps (Of j)) →
     List Spanned →
     Type 0
-Begins {A =
+BeginsJob {A =
     A} value rest (Ok x) s ts = (j : Job) (f : A →
     Steps (Of j)) → Leads j (s j f) ts (f (value x)) (rest x)
-Begins {A = A} value rest (Err e) s ts = (j : Job) (f : A → Steps (Of j)) → Refuses e j (s j f) ts
+BeginsJob {A = A} value rest (Err e) s ts =
+    (j : Job) (f : A → Steps (Of j)) → Refuses e j (s j f) ts
 
 abbrev pub BeginsTwo :
     {X A B : Type 0} →

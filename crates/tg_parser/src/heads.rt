@@ -10,7 +10,7 @@ ghost use Rattle.tg_grammar.specs.Reading.{
   assigning,
 };
 ghost use Rattle.tg_parser.specs.Ranks.{level_of};
-ghost use Rattle.tg_parser.specs.Opens.{Begins, BeginsTwo, Skips, Operates, Elses, Passes};
+ghost use Rattle.tg_parser.specs.Opens.{BeginsJob, BeginsTwo, Skips, Operates, Elses, Passes};
 ghost use Rattle.tg_parser.specs.Heads.{unary_of, plain_of, assigning_to, Declares};
 
 use crate::ends::{ends_tail, is_short};
@@ -73,7 +73,7 @@ pub(crate) fn atom(alloc: Global, one: &Spanned) -> Result<Option<Exp>, Memory>
 /// What may stand before `:=`: an l-value, or none.
 #[derive(Drop)]
 pub(crate) enum Target {
-    Place(Span, Var),
+    LValue(Span, Var),
     Other(Exp),
 }
 
@@ -83,7 +83,7 @@ pub(crate) fn target_of(e: Exp) -> Target
 {
     let span = e.span;
     match e.kind {
-        Kind::Read(place) => Target::Place(span, place),
+        Kind::Read(place) => Target::LValue(span, place),
         kind => Target::Other(Exp { span, kind }),
     }
 }
@@ -185,7 +185,7 @@ pub(crate) struct FunctionHead {
 
 /// What follows `function`, up to the body.
 pub(crate) fn function_head(alloc: Global, tokens: &[Spanned]) -> Reading<FunctionHead>
-    ensures given { Begins (λ x. x.0) (λ x. x.1.now) result
+    ensures given { BeginsJob (λ x. x.0) (λ x. x.1.now) result
         (λ j f. name (λ x. want (OfSign LeftParen) (λ _.
         call (ListedParams (OfSign RightParen)) (λ ps. call Annotation (λ k.
         f (record { name = x; params = ps; result = k })))))) tokens.now }
@@ -218,26 +218,28 @@ pub(crate) fn counter(tokens: &[Spanned]) -> Result<(Span, Ident, &[Spanned]), S
 
 /// A declaration, by its first word.
 #[derive(Clone, Copy)]
-pub(crate) enum Declared {
+pub(crate) enum DeclarationKind {
     OneType,
     OneVariable,
     OneFunction,
 }
 
 /// The declaration that begins here, and the tokens behind its first word.
-pub(crate) fn declared_next(tokens: &[Spanned]) -> Result<Option<(Declared, &[Spanned])>, Stop>
+pub(crate) fn declared_next(
+    tokens: &[Spanned],
+) -> Result<Option<(DeclarationKind, &[Spanned])>, Stop>
     ensures given { Declares (λ x. x.0) (λ x. x.1.now) result tokens.now }
     ensures shorter { IfOk result (λ o. IfSome o (λ x. length x.1.now < length tokens.now)) }
 {
     let (token, after) = next(tokens)?;
     if is(Mark::OfWord(Word::WType), token) {
-        return Ok(Some((Declared::OneType, after)));
+        return Ok(Some((DeclarationKind::OneType, after)));
     }
     if is(Mark::OfWord(Word::WVar), token) {
-        return Ok(Some((Declared::OneVariable, after)));
+        return Ok(Some((DeclarationKind::OneVariable, after)));
     }
     if is(Mark::OfWord(Word::WFunction), token) {
-        return Ok(Some((Declared::OneFunction, after)));
+        return Ok(Some((DeclarationKind::OneFunction, after)));
     }
     Ok(None)
 }

@@ -43,7 +43,7 @@ ghost use Rattle.tg_grammar.specs.Reading.{
 };
 ghost use Rattle.tg_parser.specs.Given.{Gives};
 ghost use Rattle.tg_parser.specs.Ranks.{level_of};
-ghost use Rattle.tg_parser.specs.Opens.{Begins, BeginsTwo, Completes};
+ghost use Rattle.tg_parser.specs.Opens.{BeginsJob, BeginsTwo, Completes};
 ghost use Rattle.tg_parser.specs.Heads.{one_of};
 
 use crate::built::{
@@ -54,7 +54,7 @@ use crate::faults::Stop;
 use crate::forms::type_dec;
 use crate::groups::{push_function, push_type, push_variable};
 use crate::heads::{
-    Declared, Start, Target, atom, begins, counter, declared_next, function_head, is_over,
+    DeclarationKind, Start, Target, atom, begins, counter, declared_next, function_head, is_over,
     operator_behind, skip, target_of, variable_head, wants_else,
 };
 use crate::ranks::{Rank, below};
@@ -113,7 +113,7 @@ fn whole(alloc: Global, tokens: &[Spanned]) -> Reading<Exp>
     let (left, rest) = at(alloc, Rank::Disjunction, tokens)?;
     match target_of(left) {
         Target::Other(e) => Ok((e, rest)),
-        Target::Place(span, place) => assignment(alloc, span, place, rest),
+        Target::LValue(span, place) => assignment(alloc, span, place, rest),
     }
 }
 
@@ -475,20 +475,25 @@ fn declarations(alloc: Global, tokens: &[Spanned]) -> Reading<Vec<Dec>>
 
 /// One more declaration, behind its first word.
 #[cycle(descent)]
-fn one_more(alloc: Global, kind: Declared, decs: Vec<Dec>, tokens: &[Spanned]) -> Reading<Vec<Dec>>
-    ensures given { Begins (λ x. decs_of x.0.items) (λ x. x.1.now) result
+fn one_more(
+    alloc: Global,
+    kind: DeclarationKind,
+    decs: Vec<Dec>,
+    tokens: &[Spanned],
+) -> Reading<Vec<Dec>>
+    ensures given { BeginsJob (λ x. decs_of x.0.items) (λ x. x.1.now) result
         (λ j f. one_of kind j (λ d. f (snoc_dec (decs_of decs.items) d))) tokens.now }
     ensures shorter { IfOk result (λ x. length x.1.now < length tokens.now) }
 {
     match kind {
-        Declared::OneType => with_type(alloc, decs, tokens),
-        Declared::OneVariable => with_variable(alloc, decs, tokens),
-        Declared::OneFunction => with_function(alloc, decs, tokens),
+        DeclarationKind::OneType => with_type(alloc, decs, tokens),
+        DeclarationKind::OneVariable => with_variable(alloc, decs, tokens),
+        DeclarationKind::OneFunction => with_function(alloc, decs, tokens),
     }
 }
 
 fn with_type(alloc: Global, mut decs: Vec<Dec>, tokens: &[Spanned]) -> Reading<Vec<Dec>>
-    ensures given { Begins (λ x. decs_of x.0.items) (λ x. x.1.now) result
+    ensures given { BeginsJob (λ x. decs_of x.0.items) (λ x. x.1.now) result
         (λ j f. call TypeDecJob (λ d. f (snoc_dec (decs_of decs.items) d))) tokens.now }
     ensures shorter { IfOk result (λ x. length x.1.now < length tokens.now) }
 {
@@ -499,7 +504,7 @@ fn with_type(alloc: Global, mut decs: Vec<Dec>, tokens: &[Spanned]) -> Reading<V
 
 #[cycle(descent)]
 fn with_variable(alloc: Global, mut decs: Vec<Dec>, tokens: &[Spanned]) -> Reading<Vec<Dec>>
-    ensures given { Begins (λ x. decs_of x.0.items) (λ x. x.1.now) result
+    ensures given { BeginsJob (λ x. decs_of x.0.items) (λ x. x.1.now) result
         (λ j f. call VarDec (λ d. f (snoc_dec (decs_of decs.items) d))) tokens.now }
     ensures shorter { IfOk result (λ x. length x.1.now < length tokens.now) }
 {
@@ -511,7 +516,7 @@ fn with_variable(alloc: Global, mut decs: Vec<Dec>, tokens: &[Spanned]) -> Readi
 
 #[cycle(descent)]
 fn with_function(alloc: Global, mut decs: Vec<Dec>, tokens: &[Spanned]) -> Reading<Vec<Dec>>
-    ensures given { Begins (λ x. decs_of x.0.items) (λ x. x.1.now) result
+    ensures given { BeginsJob (λ x. decs_of x.0.items) (λ x. x.1.now) result
         (λ j f. call FunDecJob (λ d. f (snoc_dec (decs_of decs.items) d))) tokens.now }
     ensures shorter { IfOk result (λ x. length x.1.now < length tokens.now) }
 {

@@ -9,7 +9,7 @@ use Rattle.tg_rounds.specs.declared.steps.Step.TheVariants.{Simplify, Same, Cons
 use Rattle.tg_rounds.specs.declared.moves.MoveState.{MoveState}
 use Rattle.tg_rounds.specs.declared.moves.MoveState.TheVariants.{Coalesced, Constrained}
 use Rattle.tg_rounds.specs.Graphs.{IsGraph, is_register, Pairs, without, merged}
-use Rattle.tg_rounds.specs.States.{Problem, State, start, low, remains}
+use Rattle.tg_rounds.specs.States.{Problem, RoundState, start, low, remains}
 use Rattle.tg_rounds.specs.Steps.{can, settle, freeze, take_out, after, after_all, AreTaken}
 use Rattle.tg_rounds.specs.Laws.{AreNodes, IsSound, HasClasses, is_stacked, PairsAreOfClasses}
 use Rattle.tg_rounds.proofs.Deciding.{clash, both, and_true, either, or_left, or_right, tells, never, not_true}
@@ -30,7 +30,7 @@ module _ (g : Problem) where
     stacked_is_own = λ d h. refl;
   }
 
-  classes_taken : (s : State) (x : ℕ) → HasClasses g s → remains g s x ≡ true → HasClasses g (take_out g s x)
+  classes_taken : (s : RoundState) (x : ℕ) → HasClasses g s → remains g s x ≡ true → HasClasses g (take_out g s x)
   classes_taken s x k r = record {
     remaining_is_own = λ y l h. k.remaining_is_own y l (was_in x y s.remaining h).1;
     register_remains = λ y l h. stays_in x y s.remaining (λ d. clash (subst (λ w. is_register w ≡ true) d h) temp)
@@ -60,7 +60,7 @@ module _ (g : Problem) where
       here : (x < g.graph.nodes) × (s.remaining x ≡ true)
       here = let o = both (nat_lt x g.graph.nodes) (s.remaining x) parts.0 in (ltb-true x g.graph.nodes o.0, o.1)
 
-  module _ (s : State) (kept gone : ℕ) (sound : IsSound g s) (k : HasClasses g s) (m : Merges g s kept gone) where
+  module _ (s : RoundState) (kept gone : ℕ) (sound : IsSound g s) (k : HasClasses g s) (m : Merges g s kept gone) where
     into : ℕ → ℕ
     into c = if c == gone then kept else c
 
@@ -132,7 +132,7 @@ module _ (g : Problem) where
     }
 
   -- nothing of this rests on the moves
-  with_states : (s : State) (states : ℕ → MoveState) → HasClasses g s → HasClasses g (record s { states = states })
+  with_states : (s : RoundState) (states : ℕ → MoveState) → HasClasses g s → HasClasses g (record s { states = states })
   with_states s states k = record {
     remaining_is_own = k.remaining_is_own;
     register_remains = k.register_remains;
@@ -144,7 +144,7 @@ module _ (g : Problem) where
     stacked_is_own = k.stacked_is_own;
   }
 
-  pub classes_after : (s : State) (step : Step) → IsSound g s → HasClasses g s → can g s step ≡ true →
+  pub classes_after : (s : RoundState) (step : Step) → IsSound g s → HasClasses g s → can g s step ≡ true →
       HasClasses g (after g s step)
   classes_after s (Simplify x) d k c = classes_taken s x k
       (both (remains g s x) _ (both (remains g s x && low g s x) _ c).0).0
@@ -156,7 +156,7 @@ module _ (g : Problem) where
   classes_after s (Freeze x) d k c = with_states s (freeze g s x).states k
 
   -- a node that was taken out gets no member more
-  pub no_more : (s : State) (step : Step) (x y : ℕ) → IsSound g s → can g s step ≡ true → s.remaining x ≡ false →
+  pub no_more : (s : RoundState) (step : Step) (x y : ℕ) → IsSound g s → can g s step ≡ true → s.remaining x ≡ false →
       (after g s step).alias y ≡ x → (s.alias y ≡ x) × ((after g s step).remaining x ≡ false)
   no_more s (Simplify z) x y d c r e = (e, never (λ t. clash (was_in z x s.remaining t).1 r))
   no_more s (Spill z) x y d c r e = (e, never (λ t. clash (was_in z x s.remaining t).1 r))
@@ -173,7 +173,7 @@ module _ (g : Problem) where
           (subst (λ w. s.remaining w ≡ false) (sym (subst (λ t. (if t then kept else s.alias y) ≡ x) q e)) r))
       by m (inr q) = subst (λ t. (if t then kept else s.alias y) ≡ x) q e
 
-  pub none_joins : (s : State) (steps : List Step) (x y : ℕ) → IsSound g s → AreTaken g s steps →
+  pub none_joins : (s : RoundState) (steps : List Step) (x y : ℕ) → IsSound g s → AreTaken g s steps →
       s.remaining x ≡ false → (after_all g s steps).alias y ≡ x → s.alias y ≡ x
   none_joins s [] x y d t r e = e
   none_joins s (step ∷ steps) x y d t r e =
@@ -181,7 +181,7 @@ module _ (g : Problem) where
       (no_more s step x y d t.0.possible r
       (none_joins (after g s step) steps x y (sound_after g s step d t.0.possible) t.1 out e)).0
     where
-      stays_out : (s : State) (step : Step) (x : ℕ) → s.remaining x ≡ false → (after g s step).remaining x ≡ false
+      stays_out : (s : RoundState) (step : Step) (x : ℕ) → s.remaining x ≡ false → (after g s step).remaining x ≡ false
       stays_out s (Simplify z) x r = never (λ t. clash (was_in z x s.remaining t).1 r)
       stays_out s (Spill z) x r = never (λ t. clash (was_in z x s.remaining t).1 r)
       stays_out s (Coalesce j kept gone b) x r = never (λ t. clash (was_in gone x s.remaining t).1 r)
@@ -190,7 +190,7 @@ module _ (g : Problem) where
       stays_out s (Freeze z) x r = r
 
   -- what is stacked stays so
-  stays_stacked : (s : State) (step : Step) (x : ℕ) → is_stacked s x ≡ true → is_stacked (after g s step) x ≡ true
+  stays_stacked : (s : RoundState) (step : Step) (x : ℕ) → is_stacked s x ≡ true → is_stacked (after g s step) x ≡ true
   stays_stacked s (Simplify z) x h = or_right (z == x) _ h
   stays_stacked s (Spill z) x h = or_right (z == x) _ h
   stays_stacked s (Coalesce j kept gone b) x h = h
@@ -198,18 +198,18 @@ module _ (g : Problem) where
   stays_stacked s (Constrain j) x h = h
   stays_stacked s (Freeze z) x h = h
 
-  pub stacked_to_end : (s : State) (steps : List Step) (x : ℕ) → is_stacked s x ≡ true →
+  pub stacked_to_end : (s : RoundState) (steps : List Step) (x : ℕ) → is_stacked s x ≡ true →
       is_stacked (after_all g s steps) x ≡ true
   stacked_to_end s [] x h = h
   stacked_to_end s (step ∷ steps) x h = stacked_to_end (after g s step) steps x (stays_stacked s step x h)
 
   -- two nodes that interfere at the start are of classes that do
-  abbrev Keeps : State → Type 0
+  abbrev Keeps : RoundState → Type 0
   Keeps s =
       (y z : ℕ) → y < g.graph.nodes → z < g.graph.nodes → g.graph.pairs y z ≡ true →
       s.pairs (s.alias y) (s.alias z) ≡ true
 
-  keeps_after : (s : State) (step : Step) → IsSound g s → HasClasses g s → can g s step ≡ true → Keeps s →
+  keeps_after : (s : RoundState) (step : Step) → IsSound g s → HasClasses g s → can g s step ≡ true → Keeps s →
       Keeps (after g s step)
   unfolding into
   keeps_after s (Coalesce j kept gone b) d k c keeps = merged_keeps
@@ -226,7 +226,7 @@ module _ (g : Problem) where
   keeps_after s (Freeze x) d k c keeps = keeps
 
   -- all this together
-  pub record Holds (s : State) : Type 0 where
+  pub record Holds (s : RoundState) : Type 0 where
     pub sound : IsSound g s
     pub classes : HasClasses g s
     pub keeps : Keeps s
@@ -235,23 +235,23 @@ module _ (g : Problem) where
   holds_at_start graph nodes =
       record { sound = sound_at_start g graph nodes; classes = classes_at_start; keeps = λ y z ly lz h. h }
 
-  pub holds_after : (s : State) (step : Step) → Holds s → can g s step ≡ true → Holds (after g s step)
+  pub holds_after : (s : RoundState) (step : Step) → Holds s → can g s step ≡ true → Holds (after g s step)
   holds_after s step h c = record {
     sound = sound_after g s step h.sound c;
     classes = classes_after s step h.sound h.classes c;
     keeps = keeps_after s step h.sound h.classes c h.keeps;
   }
 
-  pub holds_all : (s : State) (steps : List Step) → Holds s → AreTaken g s steps → Holds (after_all g s steps)
+  pub holds_all : (s : RoundState) (steps : List Step) → Holds s → AreTaken g s steps → Holds (after_all g s steps)
   holds_all s [] h t = h
   holds_all s (step ∷ steps) h t = holds_all (after g s step) steps (holds_after s step h t.0.possible) t.1
 
   -- a pair of the merged graph comes from a pair of the start
-  record IsExact (s : State) : Type 0 where
+  record IsExact (s : RoundState) : Type 0 where
     comes : (a b : ℕ) → a < g.graph.nodes → b < g.graph.nodes → s.pairs a b ≡ true → (y z : ℕ) × (y < g.graph.nodes) ×
         (z < g.graph.nodes) × (s.alias y ≡ s.alias a) × (s.alias z ≡ s.alias b) × (g.graph.pairs y z ≡ true)
 
-  exact_merged : (s : State) (j kept gone : ℕ) (b : Bool) → HasClasses g s → Merges g s kept gone → IsExact s →
+  exact_merged : (s : RoundState) (j kept gone : ℕ) (b : Bool) → HasClasses g s → Merges g s kept gone → IsExact s →
       IsExact (after g s (Coalesce j kept gone b))
   exact_merged s j kept gone b k m e = record { comes = comes }
     where
@@ -290,7 +290,7 @@ module _ (g : Problem) where
           ))
           (either (s.pairs a c || (a == kept && s.pairs gone c)) (c == kept && s.pairs a gone) h)
 
-  exact_after : (s : State) (step : Step) → Holds s → can g s step ≡ true → IsExact s → IsExact (after g s step)
+  exact_after : (s : RoundState) (step : Step) → Holds s → can g s step ≡ true → IsExact s → IsExact (after g s step)
   exact_after s (Coalesce j kept gone b) h c e =
       exact_merged s j kept gone b h.classes (merges g s j kept gone b h.sound c) e
   exact_after s (Simplify x) h c e = record { comes = e.comes }
@@ -299,7 +299,7 @@ module _ (g : Problem) where
   exact_after s (Constrain j) h c e = record { comes = e.comes }
   exact_after s (Freeze x) h c e = record { comes = e.comes }
 
-  exact_all : (s : State) (steps : List Step) → Holds s → AreTaken g s steps → IsExact s → IsExact (after_all g s steps)
+  exact_all : (s : RoundState) (steps : List Step) → Holds s → AreTaken g s steps → IsExact s → IsExact (after_all g s steps)
   exact_all s [] h t e = e
   exact_all s (step ∷ steps) h t e =
       exact_all (after g s step) steps (holds_after s step h t.0.possible) t.1 (exact_after s step h t.0.possible e)

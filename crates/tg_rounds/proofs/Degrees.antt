@@ -4,7 +4,7 @@ use Rattle.std.proofs.Common.{sym}
 use Rattle.std.proofs.Common.{ap, subst, arith, ⊎_elim}
 use Rattle.std.specs.Prelude.{◌==◌}
 use Rattle.tg_rounds.specs.Graphs.{Set, bit, count, without, merged}
-use Rattle.tg_rounds.specs.States.{Problem, State}
+use Rattle.tg_rounds.specs.States.{Problem, RoundState}
 use Rattle.tg_rounds.specs.Degrees.{TakenOutIsLess, MergedIsLess, MergedIsMore}
 use Rattle.tg_rounds.proofs.Deciding.{clash, both, and_true, either, or_left, or_right, tells, never}
 use Rattle.tg_rounds.proofs.Deciding.{same_node, same_test}
@@ -65,7 +65,7 @@ taken_out_is_less g s x y l r = by (tells (s.pairs y x))
         let b : bit (s.pairs y x) ≡ 0 = no_bit e in
         omega arith
 
-module _ (g : Problem) (s : State) (kept gone : ℕ) (m : Merges g s kept gone) where
+module _ (g : Problem) (s : RoundState) (kept gone : ℕ) (m : Merges g s kept gone) where
   abbrev old : ℕ → Set
   old y z = s.remaining z && s.pairs y z
 

@@ -10,7 +10,7 @@ use Rattle.tg_rounds.specs.declared.steps.Step.TheVariants.{Simplify, Same, Cons
 use Rattle.tg_rounds.specs.declared.moves.MoveState.{MoveState}
 use Rattle.tg_rounds.specs.declared.moves.MoveState.TheVariants.{Coalesced, Constrained, Frozen}
 use Rattle.tg_rounds.specs.Graphs.{is_register, some}
-use Rattle.tg_rounds.specs.States.{Problem, State, start, is_ready_or_waiting, remains, move_at, to, from, is_unsettled}
+use Rattle.tg_rounds.specs.States.{Problem, RoundState, start, is_ready_or_waiting, remains, move_at, to, from, is_unsettled}
 use Rattle.tg_rounds.specs.States.{touches}
 use Rattle.tg_rounds.specs.Steps.{passes, is_same, is_constrained, is_safe, can, can_move, kind, settle}
 use Rattle.tg_rounds.specs.Steps.{freeze, after, after_all, IsTaken, AreTaken}
@@ -24,7 +24,7 @@ use Rattle.tg_rounds.proofs.Answering.{the_same, is_coloured, state_of}
 
 module _ (g : Problem) where
   -- a step that settles the move, where one is possible
-  record Settles (s : State) : Type 0 where
+  record Settles (s : RoundState) : Type 0 where
     step : Step
     of_kind : kind g step ≡ 1
     possible : can g s step ≡ true
@@ -33,7 +33,7 @@ module _ (g : Problem) where
   flag true = refl
   flag false = refl
 
-  some_move : (s : State) → StandsWell g s → (i : ℕ) → can_move g s i ≡ true → Settles s
+  some_move : (s : RoundState) → StandsWell g s → (i : ℕ) → can_move g s i ≡ true → Settles s
   some_move s w i h = by (both (is_unsettled g s i) _ h)
     where
       fixed : Bool
@@ -73,13 +73,13 @@ module _ (g : Problem) where
           (λ e. merging p.0 e) (either _ _ p.1)
 
   -- at a Freeze or a Spill no move passes its test
-  none_moves : (s : State) (step : Step) → StandsWell g s → IsTaken g s step → 1 < kind g step → (i : ℕ) →
+  none_moves : (s : RoundState) (step : Step) → StandsWell g s → IsTaken g s step → 1 < kind g step → (i : ℕ) →
       can_move g s i ≡ false
   none_moves s step w t l i =
       never (λ h. let m = some_move s w i h in let k = m.of_kind in clash m.possible (t.first m.step (omega arith)))
 
   -- which move a step settles
-  settled_which : (s : State) (j i : ℕ) (state : MoveState) → is_unsettled g s i ≡ true →
+  settled_which : (s : RoundState) (j i : ℕ) (state : MoveState) → is_unsettled g s i ≡ true →
       is_unsettled g (settle g s j state) i ≡ false → i ≡ j
   settled_which s j i state u v =
       by (tells (i == j))
@@ -94,10 +94,10 @@ module _ (g : Problem) where
           (subst (λ t. is_ready_or_waiting (if t then state else s.states i) ≡ true) (sym e)
           (both (nat_lt i (length g.moves)) (is_ready_or_waiting (s.states i)) u).1)) v)
 
-  settled_as : (s : State) (j i : ℕ) (state : MoveState) → i ≡ j → (settle g s j state).states i ≡ state
+  settled_as : (s : RoundState) (j i : ℕ) (state : MoveState) → i ≡ j → (settle g s j state).states i ≡ state
   settled_as s j i state e = ap (λ t. if t then state else s.states i) (same_test i j e)
 
-  frozen_which : (s : State) (x i : ℕ) → is_unsettled g s i ≡ true → is_unsettled g (freeze g s x) i ≡ false →
+  frozen_which : (s : RoundState) (x i : ℕ) → is_unsettled g s i ≡ true → is_unsettled g (freeze g s x) i ≡ false →
       (freeze g s x).states i ≡ Frozen
   frozen_which s x i u v = by (tells (touches g s x i))
     where
@@ -110,7 +110,7 @@ module _ (g : Problem) where
           absurd (clash (and_true p.0
           (subst (λ t. is_ready_or_waiting (if t then Frozen else s.states i) ≡ true) (sym e) p.1)) v)
 
-  data Settled (s : State) (step : Step) (i : ℕ) : Type 0 where
+  data Settled (s : RoundState) (step : Step) (i : ℕ) : Type 0 where
     as_same : to g (after g s step) i ≡ from g (after g s step) i → Settled s step i
     as_constrained : (after g s step).states i ≡ Constrained → Settled s step i
     as_frozen : (after g s step).states i ≡ Frozen → 1 < kind g step → Settled s step i
@@ -132,7 +132,7 @@ module _ (g : Problem) where
           by true = refl
           by false = e
 
-  settled_by : (s : State) (step : Step) (i : ℕ) → can g s step ≡ true → is_unsettled g s i ≡ true →
+  settled_by : (s : RoundState) (step : Step) (i : ℕ) → can g s step ≡ true → is_unsettled g s i ≡ true →
       is_unsettled g (after g s step) i ≡ false → Settled s step i
   settled_by s (Simplify x) i c u v = absurd (clash u v)
   settled_by s (Same j) i c u v =
@@ -150,20 +150,20 @@ module _ (g : Problem) where
   settled_by s (Spill x) i c u v = as_frozen (frozen_which s x i u v) (omega arith)
 
   -- what is settled stays so, and what is of one class stays so
-  not_settled : (s : State) (j i : ℕ) (state : MoveState) → is_unsettled g s j ≡ true →
+  not_settled : (s : RoundState) (j i : ℕ) (state : MoveState) → is_unsettled g s j ≡ true →
       is_ready_or_waiting (s.states i) ≡ false → (settle g s j state).states i ≡ s.states i
   not_settled s j i state u h =
       ap (λ t. if t then state else s.states i)
       (never (λ e. clash (subst (λ k. is_ready_or_waiting (s.states k) ≡ true) (sym (same_node i j e))
       (both (nat_lt j (length g.moves)) _ u).1) h))
 
-  not_frozen : (s : State) (x i : ℕ) → is_ready_or_waiting (s.states i) ≡ false → (freeze g s x).states i ≡ s.states i
+  not_frozen : (s : RoundState) (x i : ℕ) → is_ready_or_waiting (s.states i) ≡ false → (freeze g s x).states i ≡ s.states i
   not_frozen s x i h =
       ap (λ t. if t then Frozen else s.states i)
       (never (λ e. clash (both (nat_lt i (length g.moves)) (is_ready_or_waiting (s.states i))
       (both (is_unsettled g s i) _ e).0).1 h))
 
-  stays_settled : (s : State) (step : Step) (i : ℕ) → can g s step ≡ true → is_ready_or_waiting (s.states i) ≡ false →
+  stays_settled : (s : RoundState) (step : Step) (i : ℕ) → can g s step ≡ true → is_ready_or_waiting (s.states i) ≡ false →
       (after g s step).states i ≡ s.states i
   stays_settled s (Simplify x) i c h = refl
   stays_settled s (Same j) i c h = not_settled s j i Coalesced (both (is_unsettled g s j) _ c).0 h
@@ -173,7 +173,7 @@ module _ (g : Problem) where
   stays_settled s (Freeze x) i c h = not_frozen s x i h
   stays_settled s (Spill x) i c h = not_frozen s x i h
 
-  stays_same : (s : State) (step : Step) (x y : ℕ) → s.alias x ≡ s.alias y →
+  stays_same : (s : RoundState) (step : Step) (x y : ℕ) → s.alias x ≡ s.alias y →
       (after g s step).alias x ≡ (after g s step).alias y
   stays_same s (Coalesce j kept gone b) x y e = ap (λ c. if c == gone then kept else c) e
   stays_same s (Simplify z) x y e = e
@@ -182,26 +182,26 @@ module _ (g : Problem) where
   stays_same s (Freeze z) x y e = e
   stays_same s (Spill z) x y e = e
 
-  settled_to_end : (s : State) (steps : List Step) (i : ℕ) → AreTaken g s steps →
+  settled_to_end : (s : RoundState) (steps : List Step) (i : ℕ) → AreTaken g s steps →
       is_ready_or_waiting (s.states i) ≡ false → (after_all g s steps).states i ≡ s.states i
   settled_to_end s [] i t h = refl
   settled_to_end s (step ∷ steps) i t h =
       let e = stays_settled s step i t.0.possible h in
       settled_to_end (after g s step) steps i t.1 (subst (λ m. is_ready_or_waiting m ≡ false) (sym e) h) ∙ e
 
-  pub same_to_end : (s : State) (steps : List Step) (x y : ℕ) → s.alias x ≡ s.alias y →
+  pub same_to_end : (s : RoundState) (steps : List Step) (x y : ℕ) → s.alias x ≡ s.alias y →
       (after_all g s steps).alias x ≡ (after_all g s steps).alias y
   same_to_end s [] x y e = e
   same_to_end s (step ∷ steps) x y e = same_to_end (after g s step) steps x y (stays_same s step x y e)
 
   -- what becomes of an unsettled move
-  data Fate (s : State) (steps : List Step) (i : ℕ) : Type 0 where
+  data Fate (s : RoundState) (steps : List Step) (i : ℕ) : Type 0 where
     left_open : is_unsettled g (after_all g s steps) i ≡ true → Fate s steps i
     one_class : to g (after_all g s steps) i ≡ from g (after_all g s steps) i → Fate s steps i
     constrained : (after_all g s steps).states i ≡ Constrained → Fate s steps i
     frozen : IsFrozenAtLast g s steps i → Fate s steps i
 
-  later : (s : State) (step : Step) (steps : List Step) (i : ℕ) → Fate (after g s step) steps i →
+  later : (s : RoundState) (step : Step) (steps : List Step) (i : ℕ) → Fate (after g s step) steps i →
       Fate s (step ∷ steps) i
   later s step steps i (left_open h) = left_open h
   later s step steps i (one_class h) = one_class h
@@ -218,7 +218,7 @@ module _ (g : Problem) where
         no_move = f.no_move;
       })
 
-  fate : (s : State) (steps : List Step) (i : ℕ) → StandsWell g s → AreTaken g s steps → is_unsettled g s i ≡ true →
+  fate : (s : RoundState) (steps : List Step) (i : ℕ) → StandsWell g s → AreTaken g s steps → is_unsettled g s i ≡ true →
       Fate s steps i
   fate s [] i w t u = left_open u
   fate s (step ∷ steps) i w t u =
@@ -253,7 +253,7 @@ pub moves_are_explained : MovesAreExplained
 moves_are_explained g round nodes r i a b m at ca cb differ =
     by (fate g (start g) round.steps i (stands_at_start g) r.steps (and_true (lt-ltb i (length g.moves) inside) refl))
   where
-    end : State
+    end : RoundState
     end = after_all g (start g) round.steps
 
     inside : i < length g.moves

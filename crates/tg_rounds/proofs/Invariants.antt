@@ -7,7 +7,7 @@ use Rattle.tg_rounds.specs.declared.steps.Step.{Step}
 use Rattle.tg_rounds.specs.declared.steps.Step.TheVariants.{Simplify, Same, Constrain, Coalesce, Freeze, Spill}
 use Rattle.tg_rounds.specs.declared.moves.MoveState.TheVariants.{Coalesced, Constrained}
 use Rattle.tg_rounds.specs.Graphs.{colour_count, is_register, Pairs, count, without, merged, IsGraph}
-use Rattle.tg_rounds.specs.States.{Problem, State, start, low, remains, to, from, is_unsettled, touches}
+use Rattle.tg_rounds.specs.States.{Problem, RoundState, start, low, remains, to, from, is_unsettled, touches}
 use Rattle.tg_rounds.specs.Steps.{briggs, george, passes, is_same, is_constrained, is_safe, stands_under, can, after}
 use Rattle.tg_rounds.specs.Laws.{AreNodes, IsSound}
 use Rattle.tg_rounds.proofs.Deciding.{clash, both, and_true, either, or_left, or_right, or_swap, neither, tells, never}
@@ -28,7 +28,7 @@ module _ (g : Problem) where
       inside i u = ltb-true i (length g.moves) (both (nat_lt i (length g.moves)) _ u).0
 
   -- what a Coalesce step is known to merge
-  pub record Merges (s : State) (kept gone : ℕ) : Type 0 where
+  pub record Merges (s : RoundState) (kept gone : ℕ) : Type 0 where
     pub kept_node : kept < g.graph.nodes
     pub kept_in : s.remaining kept ≡ true
     pub gone_node : gone < g.graph.nodes
@@ -38,7 +38,7 @@ module _ (g : Problem) where
     pub gone_temporary : is_register gone ≡ false
     pub test : passes g s kept gone ≡ true
 
-  swapped_briggs : (s : State) (x y : ℕ) → briggs g s x y ≡ true → briggs g s y x ≡ true
+  swapped_briggs : (s : RoundState) (x y : ℕ) → briggs g s x y ≡ true → briggs g s y x ≡ true
   swapped_briggs s x y h =
       let l = ltb-true _ colour_count h in
       let c = count_le (λ z. s.remaining z && (s.pairs y z || s.pairs x z) && not (low g s z))
@@ -49,7 +49,7 @@ module _ (g : Problem) where
       lt-ltb (count (λ z. s.remaining z && (s.pairs y z || s.pairs x z) && not (low g s z)) g.graph.nodes) colour_count
       (omega arith)
 
-  swapped_test : (s : State) (x y : ℕ) → (is_register x && is_register y) ≡ false → passes g s x y ≡ true →
+  swapped_test : (s : RoundState) (x y : ℕ) → (is_register x && is_register y) ≡ false → passes g s x y ≡ true →
       passes g s y x ≡ true
   swapped_test s x y apart h = by (is_register x) (is_register y) apart h
     where
@@ -61,7 +61,7 @@ module _ (g : Problem) where
       by false true e h = h
       by false false e h = swapped_briggs s x y h
 
-  pub merges : (s : State) (j kept gone : ℕ) (b : Bool) → IsSound g s → can g s (Coalesce j kept gone b) ≡ true →
+  pub merges : (s : RoundState) (j kept gone : ℕ) (b : Bool) → IsSound g s → can g s (Coalesce j kept gone b) ≡ true →
       Merges s kept gone
   merges s j kept gone b sound c =
       by (⊎_elim (λ p. let q = both (to g s j == kept) (from g s j == gone) p in
@@ -163,7 +163,7 @@ module _ (g : Problem) where
   same_tests false true f h = h refl
   same_tests false false f h = refl
 
-  sound_merged : (s : State) (j kept gone : ℕ) (b : Bool) → IsSound g s → Merges s kept gone →
+  sound_merged : (s : RoundState) (j kept gone : ℕ) (b : Bool) → IsSound g s → Merges s kept gone →
       IsSound g (after g s (Coalesce j kept gone b))
   sound_merged s j kept gone b sound m = record {
     symmetric = λ x y. same_tests _ _ (merged_symmetric kept gone s.pairs sound.symmetric x y)
@@ -195,11 +195,11 @@ module _ (g : Problem) where
               subst (λ t. ((if t then kept else c) < g.graph.nodes) ×
               (without gone s.remaining (if t then kept else c) ≡ true)) (sym e) (h.0, and_true (from_false e) h.1)
 
-  keeps_ends : (s : State) (x c : ℕ) → c ≢ x → (c < g.graph.nodes) × (s.remaining c ≡ true) → (c < g.graph.nodes) ×
+  keeps_ends : (s : RoundState) (x c : ℕ) → c ≢ x → (c < g.graph.nodes) × (s.remaining c ≡ true) → (c < g.graph.nodes) ×
       (without x s.remaining c ≡ true)
   keeps_ends s x c d h = (h.0, stays_in x c s.remaining d h.1)
 
-  pub sound_after : (s : State) (step : Step) → IsSound g s → can g s step ≡ true → IsSound g (after g s step)
+  pub sound_after : (s : RoundState) (step : Step) → IsSound g s → can g s step ≡ true → IsSound g (after g s step)
   sound_after s (Simplify x) k c =
       let alone : (i : ℕ) → touches g s x i ≡ false = λ i. unrelated g s x i
       (not_true (both (remains g s x && low g s x) _ c).1) in

@@ -7,7 +7,7 @@ use Rattle.std.proofs.lemmas.Bool.{ltb-true, lt-ltb}
 use Rattle.tg_rounds.specs.declared.steps.Step.{Step}
 use Rattle.tg_rounds.specs.declared.steps.Step.TheVariants.{Simplify, Same, Constrain, Coalesce, Freeze, Spill}
 use Rattle.tg_rounds.specs.Graphs.{colour_count, is_register, without, IsGreedilyColourable}
-use Rattle.tg_rounds.specs.States.{Problem, State, low, remains, is_move_related}
+use Rattle.tg_rounds.specs.States.{Problem, RoundState, low, remains, is_move_related}
 use Rattle.tg_rounds.specs.Steps.{briggs, george, can, after, IsTaken, AreTaken}
 use Rattle.tg_rounds.specs.Laws.{is_spill, IsSound}
 use Rattle.tg_rounds.proofs.Deciding.{clash, both, and_true, either, tells, never, not_true, from_false, or_false}
@@ -18,10 +18,10 @@ use Rattle.tg_rounds.proofs.GreedyColouring.{part, stuck, by_george, by_briggs}
 
 module _ (g : Problem) where
   -- a state whose graph is greedily colourable
-  abbrev pub IsColourable : State → Type 0
+  abbrev pub IsColourable : RoundState → Type 0
   IsColourable s = IsGreedilyColourable g.graph.nodes s.pairs s.remaining
 
-  colourable_merged : (s : State) (j kept gone : ℕ) (b : Bool) → IsSound g s → IsColourable s → Merges g s kept gone →
+  colourable_merged : (s : RoundState) (j kept gone : ℕ) (b : Bool) → IsSound g s → IsColourable s → Merges g s kept gone →
       IsColourable (after g s (Coalesce j kept gone b))
   colourable_merged s j kept gone b k r m = by (is_register kept) refl (is_register gone) m.gone_temporary m.test
     where
@@ -43,7 +43,7 @@ module _ (g : Problem) where
           by_briggs g.graph.nodes s.pairs s.remaining r kept gone k.symmetric m.kept_in m.gone_in m.kept_node
           m.gone_node m.differ (k.irreflexive kept) m.no_pair e (ltb-true _ colour_count h)
 
-  colourable_after : (s : State) (step : Step) → IsSound g s → IsColourable s → can g s step ≡ true →
+  colourable_after : (s : RoundState) (step : Step) → IsSound g s → IsColourable s → can g s step ≡ true →
       IsColourable (after g s step)
   colourable_after s (Simplify x) k r c =
       part g.graph.nodes s.pairs s.pairs (without x s.remaining) s.remaining r (λ y l t. (was_in x y s.remaining t).1)
@@ -58,7 +58,7 @@ module _ (g : Problem) where
   colourable_after s (Freeze x) k r c = r
 
   -- where a spill is taken no temporary is low, so the graph isn't colourable
-  no_spill : (s : State) (x : ℕ) → IsColourable s → IsTaken g s (Spill x) → ⊥
+  no_spill : (s : RoundState) (x : ℕ) → IsColourable s → IsTaken g s (Spill x) → ⊥
   no_spill s x r t =
       let p = (both (remains g s x) _ t.possible).0 in
       let q = both (nat_lt x g.graph.nodes && s.remaining x) (not (is_register x)) p in
@@ -73,7 +73,7 @@ module _ (g : Problem) where
           (λ m. clash (and_true (and_true y_remains h) (from_false m)) (t.first (Simplify y) (omega arith)))
           (tells (is_move_related g s y)))
 
-  pub none_spilled : (s : State) (steps : List Step) → IsSound g s → IsColourable s → AreTaken g s steps →
+  pub none_spilled : (s : RoundState) (steps : List Step) → IsSound g s → IsColourable s → AreTaken g s steps →
       list_any is_spill steps ≡ false
   none_spilled s [] k r t = refl
   none_spilled s (step ∷ steps) k r t =

@@ -6,7 +6,7 @@ use Rattle.std.specs.List.{list_any, range_with_len}
 use Rattle.std.proofs.lemmas.Bool.{lt-ltb}
 use Rattle.std.proofs.lemmas.Bool.Decides.{eqb_tells}
 use Rattle.tg_rounds.specs.Graphs.{colour_count, is_register, Set}
-use Rattle.tg_rounds.specs.States.{Problem, State, start}
+use Rattle.tg_rounds.specs.States.{Problem, RoundState, start}
 use Rattle.tg_rounds.specs.Selection.{Colouring, has_colour, precoloured, sees, is_free, pop, select}
 use Rattle.tg_rounds.specs.Rounds.{end}
 use Rattle.tg_rounds.specs.Laws.{ColoursDiffer, RegistersAreColoured, ColoursAreRegisters}
@@ -83,7 +83,7 @@ own x a e = by (tells (is_register x))
         (same, subst (λ w. is_register w ≡ true) same t)
     by (inr f) = absurd (nothing (subst (λ b. (if b then Some x else None) ≡ Some a) f e))
 
-module _ (g : Problem) (s : State) where
+module _ (g : Problem) (s : RoundState) where
   module _ (c : Colouring) (x0 : ℕ) where
     first : Option ℕ
     first = find (is_free g s c x0) (range_with_len 0 colour_count)

@@ -2,7 +2,7 @@
 use Rattle.std.proofs.Common.{◌≡◌, ℕ, ◌<◌, true, false, ◌&&◌, ◌||◌, ◌⊎◌, inl, inr, refl, [], ◌∷◌, length}
 use Rattle.std.proofs.lemmas.Bool.{lt-ltb}
 use Rattle.tg_rounds.specs.Graphs.{is_register}
-use Rattle.tg_rounds.specs.States.{Problem, State, remains, to, from, is_unsettled}
+use Rattle.tg_rounds.specs.States.{Problem, RoundState, remains, to, from, is_unsettled}
 use Rattle.tg_rounds.specs.Steps.{is_same, is_constrained, can_move, after}
 use Rattle.tg_rounds.specs.Laws.{IsSound, RunsGoOn, NothingLeftIsOver}
 use Rattle.tg_rounds.proofs.Deciding.{clash, and_true, or_left, or_right, tells, never, from_false, or_false, some_is}
@@ -13,7 +13,7 @@ runs_go_on g s (step1 ∷ steps) step t l =
     let more = runs_go_on g (after g s step1) steps step t.1 l in
     ((t.0, more.0), more.1)
 
-module _ (g : Problem) (s : State) (sound : IsSound g s) (none : (x : ℕ) → remains g s x ≡ false) where
+module _ (g : Problem) (s : RoundState) (sound : IsSound g s) (none : (x : ℕ) → remains g s x ≡ false) where
   -- what remains is a register
   register : (x : ℕ) → (x < g.graph.nodes) × (s.remaining x ≡ true) → is_register x ≡ true
   register x r = by (tells (is_register x))

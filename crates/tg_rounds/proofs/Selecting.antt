@@ -8,7 +8,7 @@ use Rattle.std.proofs.lemmas.Bool.Decides.{eqb_tells}
 use Rattle.tg_rounds.specs.declared.steps.Step.{Step}
 use Rattle.tg_rounds.specs.declared.steps.Step.TheVariants.{Simplify, Same, Constrain, Coalesce, Freeze, Spill}
 use Rattle.tg_rounds.specs.Graphs.{colour_count, is_register, Set, some, neighbours, degree}
-use Rattle.tg_rounds.specs.States.{Problem, State, start, low, remains}
+use Rattle.tg_rounds.specs.States.{Problem, RoundState, start, low, remains}
 use Rattle.tg_rounds.specs.Steps.{can, after, after_all, IsTaken, AreTaken}
 use Rattle.tg_rounds.specs.Selection.{Colouring, has_colour, precoloured, is_free, pop}
 use Rattle.tg_rounds.specs.Laws.{is_spill, is_stacked, ColourableNeverSpills}
@@ -68,7 +68,7 @@ module _ (g : Problem) where
   none_has o k e = ap (λ w. has_colour w k) e
 
   -- a class that was low when it was taken out finds a colour
-  finds_colour : (s : State) (x : ℕ) (steps : List Step) (c : Colouring) → Holds g s → can g s (Simplify x) ≡ true →
+  finds_colour : (s : RoundState) (x : ℕ) (steps : List Step) (c : Colouring) → Holds g s → can g s (Simplify x) ≡ true →
       AreTaken g (after g s (Simplify x)) steps → ((d : ℕ) → is_stacked s d ≡ true → c.colour d ≡ None) →
       is_none (find (is_free g (after_all g (after g s (Simplify x)) steps) c x) (range_with_len 0 colour_count)) ≡
       false
@@ -78,10 +78,10 @@ module _ (g : Problem) where
       let l = found.1 in
       finds (is_free g end c x) 0 colour_count found.0 (omega arith) (omega arith) (free found.0 found.2)
     where
-      s1 : State
+      s1 : RoundState
       s1 = after g s (Simplify x)
 
-      end : State
+      end : RoundState
       end = after_all g (after g s (Simplify x)) steps
 
       parts : (remains g s x ≡ true) × (low g s x ≡ true)
@@ -132,11 +132,11 @@ module _ (g : Problem) where
           taken j y b.0 none (omega arith) b.1 (member y a.2) q.0 q.1))
 
   -- from this state's stack on, with what isn't on it coloured at will, nothing is spilled
-  record AllFind (end s : State) : Type 0 where
+  record AllFind (end s : RoundState) : Type 0 where
     find_all : (c : Colouring) → c.spilled ≡ [] → ((d : ℕ) → is_stacked s d ≡ true → c.colour d ≡ None) →
         (fold (pop g end) c s.stack).spilled ≡ []
 
-  still_find : (s : State) (step : Step) (steps : List Step) → Holds g s → IsTaken g s step → is_spill step ≡ false →
+  still_find : (s : RoundState) (step : Step) (steps : List Step) → Holds g s → IsTaken g s step → is_spill step ≡ false →
       AreTaken g (after g s step) steps → AllFind (after_all g (after g s step) steps) s →
       AllFind (after_all g (after g s step) steps) (after g s step)
   still_find s (Spill x) steps d t e t' f = cc
@@ -150,7 +150,7 @@ module _ (g : Problem) where
             (λ y h. others c y h (uncoloured y (or_right (x == y) _ h)));
       }
     where
-      end : State
+      end : RoundState
       end = after_all g (after g s (Simplify x)) steps
 
       first : Colouring → Option ℕ
@@ -171,7 +171,7 @@ module _ (g : Problem) where
           (never (λ q. clash r.1
           (subst (λ w. s.remaining w ≡ false) (same_node y x q) (d.classes.stacked_is_gone y h)))) ∙ e
 
-  all_find : (s : State) (steps : List Step) → Holds g s → AreTaken g s steps → list_any is_spill steps ≡ false →
+  all_find : (s : RoundState) (steps : List Step) → Holds g s → AreTaken g s steps → list_any is_spill steps ≡ false →
       AllFind (after_all g s steps) s → AllFind (after_all g s steps) (after_all g s steps)
   all_find s [] d t n f = f
   all_find s (step ∷ steps) d t n f =
@@ -189,7 +189,7 @@ colourable_never_spills g round graph nodes colourable r =
     no_spills : list_any is_spill round.steps ≡ false
     no_spills = none_spilled g (start g) round.steps first_holds.sound colourable r.steps
 
-    end : State
+    end : RoundState
     end = after_all g (start g) round.steps
 
     all : AllFind g end end

@@ -7,14 +7,14 @@ use Rattle.tg_rounds.specs.declared.steps.Step.TheVariants.{Simplify, Same, Cons
 use Rattle.tg_rounds.specs.declared.moves.MoveState.{MoveState}
 use Rattle.tg_rounds.specs.declared.moves.MoveState.TheVariants.{Coalesced, Constrained, Frozen}
 use Rattle.tg_rounds.specs.Graphs.{is_register, count, without}
-use Rattle.tg_rounds.specs.States.{Problem, State, is_ready_or_waiting, low, remains, is_unsettled, touches}
+use Rattle.tg_rounds.specs.States.{Problem, RoundState, is_ready_or_waiting, low, remains, is_unsettled, touches}
 use Rattle.tg_rounds.specs.States.{is_move_related}
 use Rattle.tg_rounds.specs.Steps.{is_safe, can, settle, freeze, take_out, after}
 use Rattle.tg_rounds.specs.Laws.{work_left, StepsShrink}
 use Rattle.tg_rounds.proofs.Deciding.{clash, both, and_true, never, same_test, some_is}
 use Rattle.tg_rounds.proofs.Counting.{count_le, was_in, count_less}
 
-module _ (g : Problem) (s : State) where
+module _ (g : Problem) (s : RoundState) where
   fewer_remain : (x : ℕ) → remains g s x ≡ true → count (remains g (take_out g s x)) g.graph.nodes < count
       (remains g s) g.graph.nodes
   fewer_remain x r =

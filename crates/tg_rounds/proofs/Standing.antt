@@ -5,7 +5,7 @@ use Rattle.std.specs.Prelude.{◌==◌, if◌then◌else◌}
 use Rattle.tg_rounds.specs.declared.steps.Step.{Step}
 use Rattle.tg_rounds.specs.declared.steps.Step.TheVariants.{Simplify, Same, Constrain, Coalesce, Freeze, Spill}
 use Rattle.tg_rounds.specs.Graphs.{is_register}
-use Rattle.tg_rounds.specs.States.{Problem, State, start}
+use Rattle.tg_rounds.specs.States.{Problem, RoundState, start}
 use Rattle.tg_rounds.specs.States.{mark_at, all_made}
 use Rattle.tg_rounds.specs.Steps.{stands_under, can}
 use Rattle.tg_rounds.specs.Steps.{after}
@@ -20,12 +20,12 @@ module _ (g : Problem) where
   pub stands_at_start : StandsWell g (start g)
   stands_at_start = record { well = λ y l r h. h }
 
-  all_made_is : (s : State) (x y : ℕ) → all_made g s x ≡ true → y < g.graph.nodes → s.alias y ≡ x → made y ≡ true
+  all_made_is : (s : RoundState) (x y : ℕ) → all_made g s x ≡ true → y < g.graph.nodes → s.alias y ≡ x → made y ≡ true
   all_made_is s x y h l e =
       ⊎_elim (λ p. absurd (clash (same_test _ _ e) (not_true p))) (λ p. p)
       (either _ _ ((every_is (λ y. not (s.alias y == x) || made y) g.graph.nodes).0 h y l))
 
-  of_stands : (s : State) → StandsWell g s → (x : ℕ) → is_register x ≡ false → made x ≡ true → all_made g s x ≡ true
+  of_stands : (s : RoundState) → StandsWell g s → (x : ℕ) → is_register x ≡ false → made x ≡ true → all_made g s x ≡ true
   of_stands s w x r m =
       (every_is (λ y. not (s.alias y == x) || made y) g.graph.nodes).1 (λ y l. by y l (tells (s.alias y == x)))
     where
@@ -37,7 +37,7 @@ module _ (g : Problem) where
           (subst (λ z. made z ≡ true) (sym d) m))
       by y l (inr e) = or_left _ _ (from_false e)
 
-  stands_merged : (s : State) (i kept gone : ℕ) (b : Bool) → StandsWell g s → stands_under g s kept gone ≡ true →
+  stands_merged : (s : RoundState) (i kept gone : ℕ) (b : Bool) → StandsWell g s → stands_under g s kept gone ≡ true →
       StandsWell g (after g s (Coalesce i kept gone b))
   stands_merged s i kept gone b w u = record { well = λ y l r h. by y l (tells (s.alias y == gone)) r h }
     where
@@ -61,7 +61,7 @@ module _ (g : Problem) where
           w.well y l (subst (λ t. is_register (if t then kept else s.alias y) ≡ false) e r)
           (subst (λ t. made (if t then kept else s.alias y) ≡ true) e h)
 
-  pub stands_after : (s : State) (step : Step) → StandsWell g s → can g s step ≡ true → StandsWell g (after g s step)
+  pub stands_after : (s : RoundState) (step : Step) → StandsWell g s → can g s step ≡ true → StandsWell g (after g s step)
   stands_after s (Coalesce i kept gone b) w c = stands_merged s i kept gone b w (both _ _ (both _ _ c).0).1
   stands_after s (Simplify x) w c = record { well = w.well }
   stands_after s (Same i) w c = record { well = w.well }
@@ -69,7 +69,7 @@ module _ (g : Problem) where
   stands_after s (Freeze x) w c = record { well = w.well }
   stands_after s (Spill x) w c = record { well = w.well }
 
-  all_made_by_mark : (s : State) → StandsWell g s → (x : ℕ) → x < g.graph.nodes → s.alias x ≡ x →
+  all_made_by_mark : (s : RoundState) → StandsWell g s → (x : ℕ) → x < g.graph.nodes → s.alias x ≡ x →
       is_register x ≡ false → all_made g s x ≡ made x
   all_made_by_mark s w x l own r = by (tells (made x))
     where
@@ -78,7 +78,7 @@ module _ (g : Problem) where
       by (inr e) = never (λ h. clash (all_made_is s x x h l own) e) ∙ sym e
 
   -- one of two classes that aren't both registers may be kept
-  pub stands_either : (s : State) → StandsWell g s → (x y : ℕ) → (is_register x && is_register y) ≡ false →
+  pub stands_either : (s : RoundState) → StandsWell g s → (x y : ℕ) → (is_register x && is_register y) ≡ false →
       (stands_under g s x y ≡ true) ⊎ (stands_under g s y x ≡ true)
   stands_either s w x y h = by (tells (is_register x)) (tells (is_register y)) (tells (made x)) (tells (made y))
     where

@@ -5,13 +5,13 @@ use Rattle.std.specs.Prelude.{nat_lt, IsFalse}
 use Rattle.tg_rounds.specs.declared.steps.Step.{Step}
 use Rattle.tg_rounds.specs.declared.steps.Step.TheVariants.{Simplify, Same, Constrain, Coalesce, Freeze, Spill}
 use Rattle.tg_rounds.specs.Graphs.{some}
-use Rattle.tg_rounds.specs.States.{Problem, State, remains, is_unsettled}
+use Rattle.tg_rounds.specs.States.{Problem, RoundState, remains, is_unsettled}
 use Rattle.tg_rounds.specs.Steps.{can, can_move, kind, after, IsTaken, AreTaken, is_same, is_constrained, is_safe}
 use Rattle.tg_rounds.specs.Laws.{FirstAreTaken}
 use Rattle.tg_rounds.proofs.Deciding.{both, and_true, or_left, or_right, clash, never, not_true, none}
 
 module _ (g : Problem) where
-  module _ (s : State) where
+  module _ (s : RoundState) where
     -- a step of each kind is possible
     abbrev pub can_simplify : Bool
     can_simplify = some (λ x. can g s (Simplify x)) g.graph.nodes
@@ -115,11 +115,11 @@ module _ (g : Problem) where
               (λ l. no_freeze (no_freeze_before (kind g step) b.1 l));
         }
 
-  abbrev pub are_taken : State → List Step → Bool
+  abbrev pub are_taken : RoundState → List Step → Bool
   are_taken s [] = true
   are_taken s (step ∷ steps) = is_taken s step && are_taken (after g s step) steps
 
-  pub all_taken : (s : State) (steps : List Step) → are_taken s steps ≡ true → AreTaken g s steps
+  pub all_taken : (s : RoundState) (steps : List Step) → are_taken s steps ≡ true → AreTaken g s steps
   all_taken s [] e = tt
   all_taken s (step ∷ steps) e = let b = both (is_taken s step) _ e in
       (taken s step b.0, all_taken (after g s step) steps b.1)

@@ -8,7 +8,7 @@ use Rattle.tg_rounds.specs.declared.steps.Step.TheVariants.{Simplify, Same, Cons
 use Rattle.tg_rounds.specs.declared.moves.MoveState.TheVariants.{Coalesced, Constrained}
 use Rattle.tg_rounds.specs.Graphs.{colour_count, is_register, Set, Pairs, count, every, without, neighbours, degree}
 use Rattle.tg_rounds.specs.Graphs.{is_low, merged}
-use Rattle.tg_rounds.specs.States.{Problem, State, low, to, from, is_unsettled, remains}
+use Rattle.tg_rounds.specs.States.{Problem, RoundState, low, to, from, is_unsettled, remains}
 use Rattle.tg_rounds.specs.Steps.{briggs, george, passes, can, can_move, after}
 use Rattle.tg_rounds.specs.Waiting.{IsSymmetric, turns_low, is_by_turned, is_woken, is_near, is_disturbed, WaitingFails}
 use Rattle.tg_rounds.specs.Waiting.{WokenAreDisturbed}
@@ -77,15 +77,15 @@ module _ (n : ℕ) (before_nodes after_nodes : Set) (before_pairs after_pairs : 
       (never (λ q. clash (new z at.1 near.0 near.1 q) b.1))) (not_true (k.high z at.1 near.0 near.1 h)))
 
 module _ (g : Problem) where
-  abbrev Keeps : State → State → ℕ → Type 0
+  abbrev Keeps : RoundState → RoundState → ℕ → Type 0
   Keeps s s' u = KeepsHigh g.graph.nodes s.remaining s'.remaining s.pairs s'.pairs u
 
   -- no high neighbour of the temporary comes to interfere with the register
-  abbrev NoneNew : State → State → (r t : ℕ) → Type 0
+  abbrev NoneNew : RoundState → RoundState → (r t : ℕ) → Type 0
   NoneNew s s' r t = (z : ℕ) → z < g.graph.nodes → s.remaining z ≡ true → s.pairs t z ≡ true → s'.pairs r z ≡ true →
       s.pairs r z ≡ true
 
-  still_fails : (s s' : State) (u v : ℕ) → Keeps s s' u → Keeps s s' v → NoneNew s s' u v → NoneNew s s' v u →
+  still_fails : (s s' : RoundState) (u v : ℕ) → Keeps s s' u → Keeps s s' v → NoneNew s s' u v → NoneNew s s' v u →
       passes g s u v ≡ false → passes g s' u v ≡ false
   still_fails s s' u v ku kv nu nv e = by (is_register u) (is_register v) e
     where
@@ -96,30 +96,30 @@ module _ (g : Problem) where
       by false false e = still_many g.graph.nodes s.remaining s'.remaining s.pairs s'.pairs u v ku kv e
 
   -- what is known of a move's classes in a state of which no step of it is possible
-  record Fails (s : State) (u v : ℕ) : Type 0 where
+  record Fails (s : RoundState) (u v : ℕ) : Type 0 where
     differ : (u == v) ≡ false
     apart : (s.pairs u v || (is_register u && is_register v)) ≡ false
     test : passes g s u v ≡ false
 
-  abbrev possible : State → ℕ → ℕ → Bool
+  abbrev possible : RoundState → ℕ → ℕ → Bool
   possible s u v =
       (u == v) || (not (u == v) && (s.pairs u v || (is_register u && is_register v))) ||
       (not (u == v) && not (not (u == v) && (s.pairs u v || (is_register u && is_register v))) && passes g s u v)
 
-  fails_of : (s : State) (u v : ℕ) → possible s u v ≡ false → Fails s u v
+  fails_of : (s : RoundState) (u v : ℕ) → possible s u v ≡ false → Fails s u v
   fails_of s u v e =
       let a = neither _ _ e in
       let b = neither _ _ a.0 in
       let d = from_false b.0 in
       record { differ = b.0; apart = and_false _ _ b.1 d; test = and_false _ _ a.1 (and_true d (from_false b.1)) }
 
-  of_fails : (s : State) (u v : ℕ) → Fails s u v → possible s u v ≡ false
+  of_fails : (s : RoundState) (u v : ℕ) → Fails s u v → possible s u v ≡ false
   of_fails s u v f =
       or_false (or_false f.differ (never (λ h. clash (both _ _ h).1 f.apart)))
       (never (λ h. clash (both _ _ h).1 f.test))
 
   -- a move whose classes are the same after a step
-  still : (s s' : State) (i : ℕ) → (is_unsettled g s' i ≡ true → is_unsettled g s i ≡ true) → to g s' i ≡ to g s i →
+  still : (s s' : RoundState) (i : ℕ) → (is_unsettled g s' i ≡ true → is_unsettled g s i ≡ true) → to g s' i ≡ to g s i →
       from g s' i ≡ from g s i → (Fails s (to g s i) (from g s i) → Fails s' (to g s i) (from g s i)) →
       can_move g s i ≡ false → can_move g s' i ≡ false
   still s s' i was_open a b f e =
@@ -127,7 +127,7 @@ module _ (g : Problem) where
       clash (subst (λ v. possible s' (to g s i) v ≡ true) b (subst (λ u. possible s' u (from g s' i) ≡ true) a p.1))
       (of_fails s' _ _ (f (fails_of s _ _ (and_false _ _ e (was_open p.0))))))
 
-  module _ (s : State) (symmetric : IsSymmetric s.pairs) where
+  module _ (s : RoundState) (symmetric : IsSymmetric s.pairs) where
     swapped : (x y : ℕ) → s.pairs x y ≡ true → s.pairs y x ≡ true
     swapped x y h = symmetric y x ∙ h
 
@@ -257,7 +257,7 @@ pub waiting_fails : WaitingFails
 waiting_fails g s step i symmetric c e u v = by_step g s symmetric step i c e u v
 
 -- What is woken is disturbed.
-module _ (g : Problem) (s : State) (symmetric : IsSymmetric s.pairs) where
+module _ (g : Problem) (s : RoundState) (symmetric : IsSymmetric s.pairs) where
   -- a step by which nodes lose no neighbour but this one
   record LosesOnly (step : Step) (x : ℕ) : Type 0 where
     rest : (z w : ℕ) → w ≢ x → s.remaining w ≡ true → s.pairs z w ≡ true →

@@ -2,7 +2,8 @@
 -- colourable graph loses nothing to memory, a move whose ends have two colours had to stay, nodes
 -- that interfere have two colours, and a round ends.
 use Rattle.std.specs.Prelude.{◌≡◌, ◌≢◌, ◌+◌, ◌<◌, ◌⊎◌, ℕ, nat_lt, ◌==◌}
-use Rattle.std.specs.Prelude.{Bool, true, false, IsTrue, IsFalse, List, [], ◌∷◌, ◌++◌, length, All, Some, slice_get}
+use Rattle.std.specs.Prelude.{Bool, true, false, IsTrue, IsFalse, List, [], ◌∷◌, ◌++◌, length, All}
+use Rattle.std.specs.Prelude.{Some, slice_get}
 use Rattle.std.specs.List.{list_any}
 use Rattle.tg_rounds.specs.declared.moves.Move.{Move}
 use Rattle.tg_rounds.specs.declared.moves.MoveState.TheVariants.{Constrained, Frozen}
@@ -10,7 +11,8 @@ use Rattle.tg_rounds.specs.declared.steps.Step.{Step}
 use Rattle.tg_rounds.specs.declared.steps.Step.TheVariants.{Simplify, Freeze, Spill}
 use Rattle.tg_rounds.specs.declared.rounds.Round.{Round}
 use Rattle.tg_rounds.specs.Graphs.{count, IsGraph, IsGreedilyColourable, is_register}
-use Rattle.tg_rounds.specs.States.{Problem, State, start, remains, is_unsettled, to, from, mark_at}
+use Rattle.tg_rounds.specs.States.{Problem, RoundState, start, remains, is_unsettled, to, from}
+use Rattle.tg_rounds.specs.States.{mark_at}
 use Rattle.tg_rounds.specs.States.{all_made}
 use Rattle.tg_rounds.specs.Steps.{can, can_move, after, after_all, kind, IsTaken, AreTaken, is_over}
 use Rattle.tg_rounds.specs.Rounds.{IsRound}
@@ -43,7 +45,7 @@ ColourableNeverSpills =
 
 -- among these steps one froze the move when no Simplify was possible and every unsettled move
 -- failed its test
-pub record IsFrozenAtLast (g : Problem) (s : State) (steps : List Step) (i : ℕ) : Type 0 where
+pub record IsFrozenAtLast (g : Problem) (s : RoundState) (steps : List Step) (i : ℕ) : Type 0 where
   pub earlier : List Step
   pub step : Step
   pub later : List Step
@@ -107,20 +109,20 @@ ColoursAreRegisters =
 -- Steps.
 
 -- the temporaries that remain and the unsettled moves
-abbrev pub work_left : Problem → State → ℕ
+abbrev pub work_left : Problem → RoundState → ℕ
 work_left g s = count (remains g s) g.graph.nodes + count (is_unsettled g s) (length g.moves)
 
 -- each step leaves less to do, so a round ends
 abbrev pub StepsShrink : Type 0
 StepsShrink =
-    (g : Problem) (s : State) (step : Step) →
+    (g : Problem) (s : RoundState) (step : Step) →
     IsTrue (can g s step) →
     work_left g (after g s step) < work_left g s
 
 -- a step that is possible is taken where no node, no move and no node again offers an earlier one
 abbrev pub FirstAreTaken : Type 0
 FirstAreTaken =
-    (g : Problem) (s : State) (step : Step) →
+    (g : Problem) (s : RoundState) (step : Step) →
     IsTrue (can g s step) →
     (0 < kind g step → (x : ℕ) → IsFalse (can g s (Simplify x))) →
     (1 < kind g step → (i : ℕ) → IsFalse (can_move g s i)) →
@@ -130,7 +132,7 @@ FirstAreTaken =
 -- a run goes on by a step that is taken where it came to
 abbrev pub RunsGoOn : Type 0
 RunsGoOn =
-    (g : Problem) (s : State) (steps : List Step) (step : Step) →
+    (g : Problem) (s : RoundState) (steps : List Step) (step : Step) →
     AreTaken g s steps →
     IsTaken g (after_all g s steps) step →
     AreTaken g s (steps ++ step ∷ []) ×
@@ -140,7 +142,7 @@ RunsGoOn =
 
 -- The pairs have no order, no node interferes with itself, and an unsettled move is between classes
 -- that remain.
-pub record IsSound (g : Problem) (s : State) : Type 0 where
+pub record IsSound (g : Problem) (s : RoundState) : Type 0 where
   pub symmetric : (x y : ℕ) → s.pairs x y ≡ s.pairs y x
   pub irreflexive : (x : ℕ) → IsFalse (s.pairs x x)
   pub to_remains :
@@ -157,7 +159,7 @@ StartIsSound = (g : Problem) → IsGraph g.graph → AreNodes g → IsSound g (s
 
 abbrev pub StepsKeepSound : Type 0
 StepsKeepSound =
-    (g : Problem) (s : State) (step : Step) →
+    (g : Problem) (s : RoundState) (step : Step) →
     IsSound g s →
     IsTrue (can g s step) →
     IsSound g (after g s step)
@@ -165,19 +167,19 @@ StepsKeepSound =
 -- where no temporary remains and no move can be settled, the round is over
 abbrev pub NothingLeftIsOver : Type 0
 NothingLeftIsOver =
-    (g : Problem) (s : State) →
+    (g : Problem) (s : RoundState) →
     IsSound g s →
     ((x : ℕ) → IsFalse (remains g s x)) →
     ((i : ℕ) → IsFalse (can_move g s i)) →
     IsTrue (is_over g s)
 
 -- the node was taken out
-abbrev pub is_stacked : State → ℕ → Bool
+abbrev pub is_stacked : RoundState → ℕ → Bool
 is_stacked s x = list_any (λ y. y == x) s.stack
 
 -- A node that remains stands under itself, as a register always does; each node stands under one
 -- that remains or was taken out; and only temporaries are taken out.
-pub record HasClasses (g : Problem) (s : State) : Type 0 where
+pub record HasClasses (g : Problem) (s : RoundState) : Type 0 where
   pub remaining_is_own : (x : ℕ) → x < g.graph.nodes → IsTrue (s.remaining x) → s.alias x ≡ x
   pub register_remains :
       (x : ℕ) → x < g.graph.nodes → IsTrue (is_register x) → IsTrue (s.remaining x)
@@ -196,14 +198,14 @@ StartHasClasses = (g : Problem) → HasClasses g (start g)
 
 abbrev pub StepsKeepClasses : Type 0
 StepsKeepClasses =
-    (g : Problem) (s : State) (step : Step) →
+    (g : Problem) (s : RoundState) (step : Step) →
     IsSound g s →
     HasClasses g s →
     IsTrue (can g s step) →
     HasClasses g (after g s step)
 
 -- spilling made the temporary under which a class stands only where it made all members
-pub record StandsWell (g : Problem) (s : State) : Type 0 where
+pub record StandsWell (g : Problem) (s : RoundState) : Type 0 where
   pub well :
       (x : ℕ) →
       x < g.graph.nodes →
@@ -216,7 +218,7 @@ StartStandsWell = (g : Problem) → StandsWell g (start g)
 
 abbrev pub StepsKeepStanding : Type 0
 StepsKeepStanding =
-    (g : Problem) (s : State) (step : Step) →
+    (g : Problem) (s : RoundState) (step : Step) →
     StandsWell g s →
     IsTrue (can g s step) →
     StandsWell g (after g s step)
@@ -224,7 +226,7 @@ StepsKeepStanding =
 -- so the mark of that temporary says whether it made all
 abbrev pub StandsByMark : Type 0
 StandsByMark =
-    (g : Problem) (s : State) →
+    (g : Problem) (s : RoundState) →
     StandsWell g s →
     (x : ℕ) →
     x < g.graph.nodes →
@@ -234,7 +236,7 @@ StandsByMark =
 
 -- The merged pairs are those of the start between classes: so colours may be chosen by either
 -- graph.
-pub record IsOfClasses (g : Problem) (s : State) : Type 0 where
+pub record IsOfClasses (g : Problem) (s : RoundState) : Type 0 where
   pub keeps :
       (y z : ℕ) →
       y < g.graph.nodes →

@@ -3,7 +3,7 @@
 use Rattle.std.specs.Prelude.{◌≡◌, ℕ, IsTrue, List, length, map}
 use Rattle.std.specs.List.{range_with_len}
 use Rattle.tg_rounds.specs.declared.rounds.Round.{Round}
-use Rattle.tg_rounds.specs.States.{Problem, State, start}
+use Rattle.tg_rounds.specs.States.{Problem, RoundState, start}
 use Rattle.tg_rounds.specs.Steps.{AreTaken, after_all, is_over}
 use Rattle.tg_rounds.specs.Selection.{select}
 
@@ -12,7 +12,7 @@ abbrev pub listed : {A : Type 0} → ℕ → (ℕ → A) → List A
 listed n f = map f (range_with_len 0 n)
 
 module _ (g : Problem) (round : Round) where
-  abbrev pub end : State
+  abbrev pub end : RoundState
   end = after_all g (start g) round.steps
 
   pub record IsRound : Type 0 where

@@ -4,7 +4,7 @@ use Rattle.std.specs.Prelude.{ℕ, ◌==◌, Bool, false, not, ◌&&◌, if◌th
 use Rattle.std.specs.Prelude.{List, [], ◌∷◌, ◌++◌, fold, find, Option, Some, None, is_none}
 use Rattle.std.specs.List.{list_any, range_with_len}
 use Rattle.tg_rounds.specs.Graphs.{colour_count, is_register, some}
-use Rattle.tg_rounds.specs.States.{Problem, State, members}
+use Rattle.tg_rounds.specs.States.{Problem, RoundState, members}
 
 -- the colour of each class that has one by now, and the classes that found none, in the order in
 -- which they were popped
@@ -20,7 +20,7 @@ has_colour (Some c) colour = c == colour
 abbrev pub precoloured : Colouring
 precoloured = record { colour = λ x. if is_register x then Some x else None; spilled = [] }
 
-module _ (g : Problem) (s : State) where
+module _ (g : Problem) (s : RoundState) where
   -- the node interferes at the start with a class that has the colour by now
   abbrev pub sees : Colouring → (colour y : ℕ) → Bool
   sees c colour y =

@@ -24,7 +24,7 @@ problem graph moves marks rule =
 -- The nodes that remain, and their pairs by now; the node under which each node's class stands; the
 -- state of each move; and the nodes that were taken out, the last one first. Whether an unsettled
 -- move is ready or waiting is told apart by the code alone.
-pub record State : Type 0 where
+pub record RoundState : Type 0 where
   pub remaining : Set
   pub pairs : Pairs
   pub alias : ℕ → ℕ
@@ -38,7 +38,7 @@ is_ready_or_waiting _ = false
 
 module _ (g : Problem) where
   -- every node remains, each is a class of its own, and every move is unsettled
-  abbrev pub start : State
+  abbrev pub start : RoundState
   start = record {
     remaining = λ x. nat_lt x g.graph.nodes;
     pairs = g.graph.pairs;
@@ -47,7 +47,7 @@ module _ (g : Problem) where
     stack = [];
   }
 
-  module _ (s : State) where
+  module _ (s : RoundState) where
     -- a temporary that remains, and whether it is of low degree
     abbrev pub remains : ℕ → Bool
     remains x = nat_lt x g.graph.nodes && s.remaining x && not (is_register x)

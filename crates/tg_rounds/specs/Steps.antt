@@ -14,11 +14,12 @@ use Rattle.tg_rounds.specs.declared.moves.MoveState.TheVariants.{Coalesced, Cons
 use Rattle.tg_rounds.specs.Graphs.{colour_count, is_register, degree, without, merged}
 use Rattle.tg_rounds.specs.Graphs.{Set, count, some, every}
 use Rattle.tg_rounds.specs.Policies.{candidate_at}
-use Rattle.tg_rounds.specs.States.{Problem, State, remains, low, to, from, is_unsettled, touches}
+use Rattle.tg_rounds.specs.States.{Problem, RoundState, remains, low, to, from, is_unsettled}
+use Rattle.tg_rounds.specs.States.{touches}
 use Rattle.tg_rounds.specs.States.{is_move_related, members, mark_at, all_made}
 
 module _ (g : Problem) where
-  module _ (s : State) where
+  module _ (s : RoundState) where
     -- Whether a move may be coalesced.
 
     -- the high neighbours of one node or of both
@@ -98,23 +99,23 @@ module _ (g : Problem) where
 
     -- What steps make of the state.
 
-    abbrev pub settle : ℕ → MoveState → State
+    abbrev pub settle : ℕ → MoveState → RoundState
     settle i state = record s { states = λ j. if j == i then state else s.states j }
 
-    abbrev pub freeze : ℕ → State
+    abbrev pub freeze : ℕ → RoundState
     freeze x = record s { states = λ i. if touches g s x i then Frozen else s.states i }
 
-    abbrev pub merge : (kept gone : ℕ) → State
+    abbrev pub merge : (kept gone : ℕ) → RoundState
     merge kept gone = record s {
       remaining = without gone s.remaining;
       pairs = merged kept gone s.pairs;
       alias = λ x. if s.alias x == gone then kept else s.alias x;
     }
 
-    abbrev pub take_out : ℕ → State
+    abbrev pub take_out : ℕ → RoundState
     take_out x = record s { remaining = without x s.remaining; stack = x ∷ s.stack }
 
-  abbrev pub after : State → Step → State
+  abbrev pub after : RoundState → Step → RoundState
   after s (Simplify x) = take_out s x
   after s (Same i) = settle s i Coalesced
   after s (Constrain i) = settle s i Constrained
@@ -132,18 +133,18 @@ module _ (g : Problem) where
   kind (Spill _) = 3
 
   -- a step is taken only where no step of an earlier kind is possible
-  pub record IsTaken (s : State) (step : Step) : Type 0 where
+  pub record IsTaken (s : RoundState) (step : Step) : Type 0 where
     pub possible : IsTrue (can s step)
     pub first : (other : Step) → kind other < kind step → IsFalse (can s other)
 
-  abbrev pub AreTaken : State → List Step → Type 0
+  abbrev pub AreTaken : RoundState → List Step → Type 0
   AreTaken s [] = Unit {0}
   AreTaken s (step ∷ steps) = IsTaken s step × AreTaken (after s step) steps
 
-  abbrev pub after_all : State → List Step → State
+  abbrev pub after_all : RoundState → List Step → RoundState
   after_all s steps = fold after s steps
 
   -- no temporary remains and no move is unsettled
-  abbrev pub is_over : State → Bool
+  abbrev pub is_over : RoundState → Bool
   is_over s =
       not (some (remains g s) g.graph.nodes || some (is_unsettled g s) (length g.moves))

@@ -4,13 +4,13 @@ use Rattle.std.specs.Prelude.{◌≡◌, ℕ, ◌==◌, false, not, ◌&&◌, �
 use Rattle.tg_rounds.specs.declared.steps.Step.{Step}
 use Rattle.tg_rounds.specs.declared.steps.Step.TheVariants.{Simplify, Coalesce, Spill}
 use Rattle.tg_rounds.specs.Graphs.{is_register, Set, Pairs, some}
-use Rattle.tg_rounds.specs.States.{Problem, State, low, to, from}
+use Rattle.tg_rounds.specs.States.{Problem, RoundState, low, to, from}
 use Rattle.tg_rounds.specs.Steps.{can, can_move, after}
 
 abbrev pub IsSymmetric : Pairs → Type 0
 IsSymmetric pairs = (x y : ℕ) → pairs x y ≡ pairs y x
 
-module _ (g : Problem) (s : State) where
+module _ (g : Problem) (s : RoundState) where
   -- a node that the step lets turn from high to low
   abbrev pub turns_low : Step → Set
   turns_low step z =
@@ -46,7 +46,7 @@ module _ (g : Problem) (s : State) where
 -- a move of which no step is possible stays so, unless one of its ends is woken
 abbrev pub WaitingFails : Type 0
 WaitingFails =
-    (g : Problem) (s : State) (step : Step) (i : ℕ) →
+    (g : Problem) (s : RoundState) (step : Step) (i : ℕ) →
     IsSymmetric s.pairs →
     IsTrue (can g s step) →
     IsFalse (can_move g s i) →
@@ -57,7 +57,7 @@ WaitingFails =
 -- what is woken is disturbed, so the rule tries enough again
 abbrev pub WokenAreDisturbed : Type 0
 WokenAreDisturbed =
-    (g : Problem) (s : State) (step : Step) (y : ℕ) →
+    (g : Problem) (s : RoundState) (step : Step) (y : ℕ) →
     IsSymmetric s.pairs →
     IsTrue (can g s step) →
     IsTrue (is_woken g s step y) →

@@ -1,8 +1,8 @@
 -- What an action of the translation leaves: an answer and a state.
-use Rattle.tg_translate.specs.States.{State, Drawn, drawn}
+use Rattle.tg_translate.specs.States.{TranslationState, Drawn, drawn}
 
 abbrev pub answer : {A : Type 0} → Drawn A → A
 answer (drawn a s) = a
 
-abbrev pub left : {A : Type 0} → Drawn A → State
+abbrev pub left : {A : Type 0} → Drawn A → TranslationState
 left (drawn a s) = s

@@ -53,7 +53,7 @@ module _ (most : ℕ) where
     few_nodes n seen (Let _ ds es) l = together _ _ (few_in_decs n seen ds (omega (arith, l))) (few_in_exps n (own_decs n ds seen) es (omega (arith, l)))
     few_nodes n seen (Seq _ es) l = few_in_exps n seen es (omega (arith, l))
 
-    few_in_place : (n : ℕ) (seen : Levels) (v : source.Place) → place_size v + inner_place v ≤ most → Each Few (declared_place n seen v)
+    few_in_place : (n : ℕ) (seen : Levels) (v : source.LValue) → place_size v + inner_place v ≤ most → Each Few (declared_place n seen v)
     few_in_place n seen (Simple _) l = tt
     few_in_place n seen (Field v _) l = few_in_place n seen v (omega (arith, l))
     few_in_place n seen (Index v x) l = together _ _ (few_in_place n seen v (omega (arith, l))) (few_nodes n seen x (omega (arith, l)))

@@ -16,18 +16,18 @@ use Rattle.tg_runtime.specs.declared.routines.Routine.{Routine}
 use Rattle.tg_runtime.specs.declared.routines.Routine.TheVariants as routine
 use Rattle.tg_translate.specs.declared.operands.Operand.{Operand}
 use Rattle.tg_translate.specs.declared.operands.Operand.TheVariants.{Number, Kept}
-use Rattle.tg_translate.specs.States.{State, Acts, after, give, fresh}
+use Rattle.tg_translate.specs.States.{TranslationState, Acts, after, give, fresh}
 use Rattle.tg_translate.specs.Wants.{Made, value, test, put_in, followed}
-use Rattle.tg_translate.specs.Constructs.{minus_one, least_int, plus, operand, Held, keep, hold, HeldAll, hold_next, own_link, frame_out, Place, in_temp, at_address, place_in, own_place, after_all, read, store_at, want_for, assign, nil_check, index_check, zero_check, product_check, quotient_check, field_of, field_place, element_of, element_place, call_routine, store_field, store_fields, call_for_record, record_of, make_record, make_array, comparison, product_of, product, quotient_of, checked_quotient, quotient, operation, negation, repeat_while, first_minus_one, assign_value, turn_of, turns, count_of, count}
+use Rattle.tg_translate.specs.Constructs.{minus_one, least_int, plus, operand, Held, keep, hold, HeldAll, hold_next, own_link, frame_out, Storage, in_temp, at_address, place_in, own_place, after_all, read, store_at, want_for, assign, nil_check, index_check, zero_check, product_check, quotient_check, field_of, field_place, element_of, element_place, call_routine, store_field, store_fields, call_for_record, record_of, make_record, make_array, comparison, product_of, product, quotient_of, checked_quotient, quotient, operation, negation, repeat_while, first_minus_one, assign_value, turn_of, turns, count_of, count}
 use Rattle.tg_shapes.proofs.Keeping.{Asks, Where, access_on, bind, draws_temp, given, held_on, onward, operand_on, operands_on, stms_on, ts_on, tx_on, Ready, Yields, GoodTx, GoodTxs, GoodTs, GoodStms, GoodCond, GoodMade, GoodPlace, GoodOperand, GoodOperands, GoodHeld, GoodWant, GoodAccess, KnowsAt}
 use Rattle.tg_shapes.proofs.Wanting as wanting
 
 module _ (asks : Asks) where
   -- statements that end in an operand
-  abbrev pub HeldWell : ℕ → State → Held → Type 0
+  abbrev pub HeldWell : ℕ → TranslationState → Held → Type 0
   HeldWell n s h = GoodStms asks n s h.before × GoodOperand asks s h.operand
 
-  module _ (n : ℕ) (s : State) where
+  module _ (n : ℕ) (s : TranslationState) where
     plus_good : (x : Tx) (k : ℕ) → GoodTx asks n s x → GoodTx asks n s (plus x k)
     plus_good x zero h = h
     plus_good x (suc k) h = (h, tt)
@@ -57,7 +57,7 @@ module _ (asks : Asks) where
     after_all_good no_stms x h k = k
     after_all_good (stm y ss) x h k = (h, k)
 
-    pub read_good : (p : Place) → GoodPlace asks n s p → GoodTx asks n s (read p)
+    pub read_good : (p : Storage) → GoodPlace asks n s p → GoodTx asks n s (read p)
     read_good (in_temp t) h = h
     read_good (at_address before a) h = after_all_good before (Load a) h.0 h.1
 
@@ -65,7 +65,7 @@ module _ (asks : Asks) where
     store_good no_stms a x h k l = (k, l)
     store_good (stm y ss) a x h k l = wanting.followed_good asks n s (stm y ss) (Store a x) h (k, l)
 
-    pub want_for_good : (p : Place) → GoodPlace asks n s p → GoodWant asks s (want_for p)
+    pub want_for_good : (p : Storage) → GoodPlace asks n s p → GoodWant asks s (want_for p)
     want_for_good (in_temp t) h = h
     want_for_good (at_address before a) h = tt
 
@@ -171,15 +171,15 @@ module _ (asks : Asks) where
     first_good (Number k) h = tt
     first_good (Kept t) h = (h, tt)
 
-    assign_good : (p : Place) (x : Tx) → GoodPlace asks n s p → GoodTx asks n s x → GoodTs asks n s (assign_value p x)
+    assign_good : (p : Storage) (x : Tx) → GoodPlace asks n s p → GoodTx asks n s x → GoodTs asks n s (assign_value p x)
     assign_good (in_temp t) x h k = (h, k)
     assign_good (at_address before a) x h k = store_good before a x h.0 h.1 k
 
-  pub repeat_good : (n : ℕ) (s : State) (d : Cond) (x : Ts) → GoodCond asks (n + 1) s d → GoodTs asks (n + 1) s x → GoodTs asks n s
+  pub repeat_good : (n : ℕ) (s : TranslationState) (d : Cond) (x : Ts) → GoodCond asks (n + 1) s d → GoodTs asks (n + 1) s x → GoodTs asks n s
       (repeat_while d x)
   repeat_good n s d x h k = (h, k, λ b. omega arith)
 
-  turn_good : (n : ℕ) (s : State) (i : Access) (high : Operand) (x : Ts) → GoodAccess asks s i → GoodOperand asks s high → GoodTs asks
+  turn_good : (n : ℕ) (s : TranslationState) (i : Access) (high : Operand) (x : Ts) → GoodAccess asks s i → GoodOperand asks s high → GoodTs asks
       (n + 1) s x →
       GoodTs asks (n + 1) s (turn_of i high x)
   turn_good n s i high x h j k = (
@@ -198,7 +198,7 @@ module _ (asks : Asks) where
     ),
   )
 
-  turns_good : (n : ℕ) (s : State) (i : Access) (low high : Operand) (x : Ts) → GoodAccess asks s i → GoodOperand asks s low →
+  turns_good : (n : ℕ) (s : TranslationState) (i : Access) (low high : Operand) (x : Ts) → GoodAccess asks s i → GoodOperand asks s low →
       GoodOperand asks s high → GoodTs asks (n + 1) s x →
       GoodTs asks n s (turns i low high x)
   turns_good n s i low high x h l j k = (
@@ -206,7 +206,7 @@ module _ (asks : Asks) where
     (turn_good n s i high x h j k, tt),
   )
 
-  count_good : (n : ℕ) (s : State) (before : Stms) (i : Access) (low high : Operand) (x : Ts) →
+  count_good : (n : ℕ) (s : TranslationState) (before : Stms) (i : Access) (low high : Operand) (x : Ts) →
       GoodStms asks n s before → GoodAccess asks s i → GoodOperand asks s low → GoodOperand asks s high → GoodTs asks (n + 1) s x →
       GoodTs asks n s (count_of before i low high x)
   count_good n s before i low high x b h l j k =
@@ -214,14 +214,14 @@ module _ (asks : Asks) where
       (turns i low high x)) b
       ((operand_good n s high j, operand_good n s low l), turns_good n s i low high x h l j k, tt)
 
-  more_operands : (s : State) (xs : List Operand) (x : Operand) → GoodOperands asks s xs → GoodOperand asks s x → GoodOperands asks s
+  more_operands : (s : TranslationState) (xs : List Operand) (x : Operand) → GoodOperands asks s xs → GoodOperand asks s x → GoodOperands asks s
       (xs ++ x ∷ [])
   more_operands s [] x h k = (k, tt)
   more_operands s (y ∷ ys) x h k = (h.0, more_operands s ys x h.1 k)
 
 -- What actions yield.
 module _ {asks : Asks} {c : Where} where
-  keep_yields : {s : State} (before : Stms) (x : Tx) → Ready asks c s → GoodStms asks c.loops s before → GoodTx asks c.loops s x →
+  keep_yields : {s : TranslationState} (before : Stms) (x : Tx) → Ready asks c s → GoodStms asks c.loops s before → GoodTx asks c.loops s x →
       Yields asks c s (HeldWell asks c.loops) (keep before x s)
   keep_yields before x r h k =
       bind (draws_temp r)
@@ -232,7 +232,7 @@ module _ {asks : Asks} {c : Where} where
         j,
       ))
 
-  hold_yields : {s : State} (direct : Bool) (before : Stms) (x : Tx) → Ready asks c s → GoodStms asks c.loops s before → GoodTx asks
+  hold_yields : {s : TranslationState} (direct : Bool) (before : Stms) (x : Tx) → Ready asks c s → GoodStms asks c.loops s before → GoodTx asks
       c.loops s x →
       Yields asks c s (HeldWell asks c.loops) (hold direct before x s)
   hold_yields direct before (Const n) r h k =
@@ -243,7 +243,7 @@ module _ {asks : Asks} {c : Where} where
   hold_yields false before (Temp t) r h k = keep_yields before (Temp t) r h k
   hold_yields direct before x r h k = keep_yields before x r h k
 
-  pub hold_next_yields : {s : State} (direct : Bool) (all : HeldAll) (x : Tx) → Ready asks c s → GoodHeld asks c.loops s all →
+  pub hold_next_yields : {s : TranslationState} (direct : Bool) (all : HeldAll) (x : Tx) → Ready asks c s → GoodHeld asks c.loops s all →
       GoodTx asks c.loops s x →
       Yields asks c s (λ t held. GoodHeld asks c.loops t held) (hold_next direct all x s)
   hold_next_yields direct all x r h k =
@@ -255,7 +255,7 @@ module _ {asks : Asks} {c : Where} where
             j.1,
       ))
 
-  pub assign_yields : {s : State} (p : Place) (m : Made) → Ready asks c s → GoodPlace asks c.loops s p → GoodMade asks c.loops s m →
+  pub assign_yields : {s : TranslationState} (p : Storage) (m : Made) → Ready asks c s → GoodPlace asks c.loops s p → GoodMade asks c.loops s m →
       Yields asks c s (λ t x. GoodTs asks c.loops t x) (assign p m s)
   assign_yields {s} (in_temp i) m r h k =
       given (put_in i m) r
@@ -266,7 +266,7 @@ module _ {asks : Asks} {c : Where} where
       (store_good asks c.loops t before a x (stms_on st c.loops before h.0)
       (tx_on st c.loops a h.1) j))
 
-  pub field_yields : {s : State} (k : ℕ) (x : Tx) → Ready asks c s → GoodTx asks c.loops s x →
+  pub field_yields : {s : TranslationState} (k : ℕ) (x : Tx) → Ready asks c s → GoodTx asks c.loops s x →
       Yields asks c s (λ t p. GoodPlace asks c.loops t p) (field_place k x s)
   field_yields k x r h =
       bind (hold_yields true no_stms x r tt h)
@@ -274,10 +274,10 @@ module _ {asks : Asks} {c : Where} where
       (field_good asks c.loops t k held.before (operand held.operand) j.0 (operand_good asks c.loops t held.operand j.1)))
 
   -- two values are held, one behind the other
-  module _ {A : Type 0} (W : State → A → Type 0) (direct also : Bool) (x y : Tx) (next : Held → Held → Acts A)
-      (made : (l h : Held) (t : State) → Ready asks c t → GoodOperand asks t l.operand → HeldWell asks c.loops t h → Yields asks c t W
+  module _ {A : Type 0} (W : TranslationState → A → Type 0) (direct also : Bool) (x y : Tx) (next : Held → Held → Acts A)
+      (made : (l h : Held) (t : TranslationState) → Ready asks c t → GoodOperand asks t l.operand → HeldWell asks c.loops t h → Yields asks c t W
       (next l h t)) where
-    both_held : {s : State} → Ready asks c s → GoodTx asks c.loops s x → GoodTx asks c.loops s y →
+    both_held : {s : TranslationState} → Ready asks c s → GoodTx asks c.loops s x → GoodTx asks c.loops s y →
         Yields asks c s W (after (hold direct no_stms x s) (λ l t. after (hold also l.before y t) (λ h. next l h)))
     both_held r h k =
         bind (hold_yields direct no_stms x r tt h)
@@ -285,7 +285,7 @@ module _ {asks : Asks} {c : Where} where
         bind (hold_yields also l.before y r' j.0 (tx_on st c.loops y k))
         (λ h u st' r'' i. made l h u r'' (operand_on st' l.operand j.1) i))
 
-  pub element_yields : {s : State} (direct : Bool) (x y : Tx) → Ready asks c s → GoodTx asks c.loops s x → GoodTx asks c.loops s y →
+  pub element_yields : {s : TranslationState} (direct : Bool) (x y : Tx) → Ready asks c s → GoodTx asks c.loops s x → GoodTx asks c.loops s y →
       Yields asks c s (λ t p. GoodPlace asks c.loops t p) (element_place direct x y s)
   element_yields direct x y r h k =
       both_held (λ t p. GoodPlace asks c.loops t p) direct true x y
@@ -295,14 +295,14 @@ module _ {asks : Asks} {c : Where} where
       (operand_good asks c.loops t a.operand j)
       (operand_good asks c.loops t i.operand l.1))) r h k
 
-  pub record_yields : {s : State} (all : HeldAll) → Ready asks c s → GoodHeld asks c.loops s all → Yields asks c s
+  pub record_yields : {s : TranslationState} (all : HeldAll) → Ready asks c s → GoodHeld asks c.loops s all → Yields asks c s
       (λ t m. GoodMade asks c.loops t m) (make_record all s)
   record_yields all r h =
       bind (draws_temp r)
       (λ i t st r' j. given (record_of i all) r'
       (record_good asks c.loops t i all j (held_on st c.loops all h)))
 
-  product_yields : {s : State} (direct : Bool) (x y : Tx) → Ready asks c s → GoodTx asks c.loops s x → GoodTx asks c.loops s y →
+  product_yields : {s : TranslationState} (direct : Bool) (x y : Tx) → Ready asks c s → GoodTx asks c.loops s x → GoodTx asks c.loops s y →
       Yields asks c s (λ t m. GoodMade asks c.loops t m) (product direct x y s)
   product_yields direct x y r h k =
       both_held (λ t m. GoodMade asks c.loops t m) direct true x y
@@ -315,7 +315,7 @@ module _ {asks : Asks} {c : Where} where
       (operand_good asks c.loops u a.operand (operand_on st a.operand j))
       (operand_good asks c.loops u b.operand (operand_on st b.operand l.1))))) r h k
 
-  checked_yields : {s : State} (direct : Bool) (x y : Tx) → Ready asks c s → GoodTx asks c.loops s x → GoodTx asks c.loops s y →
+  checked_yields : {s : TranslationState} (direct : Bool) (x y : Tx) → Ready asks c s → GoodTx asks c.loops s x → GoodTx asks c.loops s y →
       Yields asks c s (λ t m. GoodMade asks c.loops t m) (checked_quotient direct x y s)
   checked_yields direct x y r h k =
       both_held (λ t m. GoodMade asks c.loops t m) direct true x y
@@ -325,26 +325,26 @@ module _ {asks : Asks} {c : Where} where
       (operand_good asks c.loops t a.operand j)
       (operand_good asks c.loops t b.operand l.1))) r h k
 
-  by_number_yields : {s : State} (direct : Bool) (x : Tx) (k : ℕ) (b : Bool) → Ready asks c s → GoodTx asks c.loops s x →
+  by_number_yields : {s : TranslationState} (direct : Bool) (x : Tx) (k : ℕ) (b : Bool) → Ready asks c s → GoodTx asks c.loops s x →
       Yields asks c s (λ t m. GoodMade asks c.loops t m) ((if b then checked_quotient direct x (Const k) else give
       (value (Binary bin.Div x (Const k)))) s)
   by_number_yields direct x k true r h = checked_yields direct x (Const k) r h tt
   by_number_yields direct x k false r h =
       given (value (Binary bin.Div x (Const k))) r (h, tt)
 
-  quotient_yields : {s : State} (direct : Bool) (x y : Tx) → Ready asks c s → GoodTx asks c.loops s x → GoodTx asks c.loops s y →
+  quotient_yields : {s : TranslationState} (direct : Bool) (x y : Tx) → Ready asks c s → GoodTx asks c.loops s x → GoodTx asks c.loops s y →
       Yields asks c s (λ t m. GoodMade asks c.loops t m) (quotient direct x y s)
   quotient_yields direct x (Const k) r h j = by_number_yields direct x k (k == 0 || k == minus_one) r h
   quotient_yields direct x y r h j = checked_yields direct x y r h j
 
-  compared_yields : {s : State} (o : Op) (strings : Bool) (x y : Tx) → Ready asks c s → GoodTx asks c.loops s x → GoodTx asks c.loops
+  compared_yields : {s : TranslationState} (o : Op) (strings : Bool) (x y : Tx) → Ready asks c s → GoodTx asks c.loops s x → GoodTx asks c.loops
       s y →
       Yields asks c s (λ t m. GoodMade asks c.loops t m) (give (test (comparison o strings x y)) s)
   compared_yields {s} o strings x y r h k =
       given (test (comparison o strings x y)) r
       (comparison_good asks c.loops s o strings x y h k)
 
-  pub operation_yields : {s : State} (o : Op) (strings direct : Bool) (x y : Tx) → Ready asks c s → GoodTx asks c.loops s x →
+  pub operation_yields : {s : TranslationState} (o : Op) (strings direct : Bool) (x y : Tx) → Ready asks c s → GoodTx asks c.loops s x →
       GoodTx asks c.loops s y →
       Yields asks c s (λ t m. GoodMade asks c.loops t m) (operation o strings direct x y s)
   operation_yields op.Plus strings direct x y r h k =
@@ -355,7 +355,7 @@ module _ {asks : Asks} {c : Where} where
   operation_yields op.Divide strings direct x y r h k = quotient_yields direct x y r h k
   operation_yields o strings direct x y r h k = compared_yields o strings x y r h k
 
-  pub count_yields : {s : State} (i : Access) (x y : Tx) (turn : Ts) → Ready asks c s → GoodAccess asks s i → GoodTx asks c.loops s
+  pub count_yields : {s : TranslationState} (i : Access) (x y : Tx) (turn : Ts) → Ready asks c s → GoodAccess asks s i → GoodTx asks c.loops s
       x → GoodTx asks c.loops s y →
       GoodTs asks (c.loops + 1) s turn → Yields asks c s (λ t m. GoodTs asks c.loops t m) (count i x y turn s)
   count_yields i x y turn r a h k g =

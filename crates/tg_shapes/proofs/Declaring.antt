@@ -9,7 +9,7 @@ use Rattle.tg_frame.specs.declared.accesses.Access.{Access}
 use Rattle.tg_frame.specs.declared.accesses.Access.TheVariants.{InTemp, InFrame}
 use Rattle.tg_frame.specs.Homes.{is_slot, homes_from, homes_of, temps_of}
 use Rattle.tg_translate.specs.declared.homes.Home.{Home}
-use Rattle.tg_translate.specs.States.{State, Frame, Drawn, drawn, one_temp, one_slot}
+use Rattle.tg_translate.specs.States.{TranslationState, Frame, Drawn, drawn, one_temp, one_slot}
 use Rattle.tg_translate.specs.Constructs.{in_body, in_test}
 use Rattle.tg_translate.specs.Scopes.{declare_variable}
 use Rattle.tg_translate.specs.Functions.{at_of, asked, parameters, own_homes}
@@ -40,7 +40,7 @@ owned_more (functions _ rest) own at h = owned_more rest own at h
 -- Parts are entered and left.
 module _ {asks : Asks} where
   -- a part is left, in which no fewer variables were the function's
-  pub leave : {c d : Where} {s t : State} → ((at : ℕ) → Contains c.own at → Contains d.own at) → s.frame.temps ≤ t.frame.temps →
+  pub leave : {c d : Where} {s t : TranslationState} → ((at : ℕ) → Contains c.own at → Contains d.own at) → s.frame.temps ≤ t.frame.temps →
       Ready asks c s → Ready asks d t → Ready asks c t
   leave f h r q = record {
     from = q.from;
@@ -53,19 +53,19 @@ module _ {asks : Asks} where
     loops = r.loops;
   }
 
-  pub leave_with : {A : Type 0} {c d : Where} {s : State} {V : State → A → Type 0} {dr : Drawn A} → d.kept ≡ c.kept →
+  pub leave_with : {A : Type 0} {c d : Where} {s : TranslationState} {V : TranslationState → A → Type 0} {dr : Drawn A} → d.kept ≡ c.kept →
       ((at : ℕ) → Contains c.own at → Contains d.own at) →
       Ready asks c s → Yields asks d s V dr → Yields asks c s (λ t a. V t a × Ready asks d t) dr
   leave_with {s = s} {dr = dr} e f r h =
       let st = subst (λ k. Step asks k s (left dr)) e h.step in
       record { step = st; ready = leave f st.grows.temps r h.ready; value = (h.value, h.ready) }
 
-  pub leave_yields : {A : Type 0} {c d : Where} {s : State} {V : State → A → Type 0} {dr : Drawn A} → d.kept ≡ c.kept →
+  pub leave_yields : {A : Type 0} {c d : Where} {s : TranslationState} {V : TranslationState → A → Type 0} {dr : Drawn A} → d.kept ≡ c.kept →
       ((at : ℕ) → Contains c.own at → Contains d.own at) →
       Ready asks c s → Yields asks d s V dr → Yields asks c s V dr
   leave_yields e f r h = let k = leave_with e f r h in record { step = k.step; ready = k.ready; value = k.value.0 }
 
-  enter : {c : Where} {s : State} (leave loops : ℕ) (in_loop : Bool) → (asks.breaks → in_loop ≡ true → leave < loops) → Ready asks c s →
+  enter : {c : Where} {s : TranslationState} (leave loops : ℕ) (in_loop : Bool) → (asks.breaks → in_loop ≡ true → leave < loops) → Ready asks c s →
       Ready asks (record c { within = record c.within { leave = leave }; loops = loops; in_loop = in_loop }) s
   enter leave loops in_loop f r = record {
     from = r.from;
@@ -78,19 +78,19 @@ module _ {asks : Asks} where
     loops = f;
   }
 
-  pub enter_turn : {c : Where} {s : State} → Ready asks c s → Ready asks (turning c) s
+  pub enter_turn : {c : Where} {s : TranslationState} → Ready asks c s → Ready asks (turning c) s
   enter_turn {c} r = enter 0 (c.loops + 1) true (λ b e. omega arith) r
 
-  pub enter_test : {c : Where} {s : State} → Ready asks c s → Ready asks (testing c) s
+  pub enter_test : {c : Where} {s : TranslationState} → Ready asks c s → Ready asks (testing c) s
   enter_test {c} r = enter (c.within.leave + 1) (c.loops + 1) c.in_loop (λ b e. let h = r.loops b e in omega (arith, h)) r
 
 module _ (asks : Asks) where
   -- A variable is declared.
 
-  abbrev with_home : (at level : ℕ) → Frame → Access → State → State
+  abbrev with_home : (at level : ℕ) → Frame → Access → TranslationState → TranslationState
   with_home at level f a s = record s { frame = f; homes = (at, record { level = level; access = a }) ∷ s.homes }
 
-  home_step : (kept : List ℕ) (s : State) (at level : ℕ) (f : Frame) (a : Access) → f.label ≡ s.frame.label →
+  home_step : (kept : List ℕ) (s : TranslationState) (at level : ℕ) (f : Frame) (a : Access) → f.label ≡ s.frame.label →
       s.frame.temps ≤ f.temps →
       (asks.temps → AreApart (at ∷ []) kept) → Step asks kept s (with_home at level f a s)
   home_step kept s at level f a e h apart = record {
@@ -108,7 +108,7 @@ module _ (asks : Asks) where
     balance = λ n. refl;
   }
 
-  home_ready : (c : Where) (s : State) (at level : ℕ) (f : Frame) (a : Access) → s.frame.temps ≤ f.temps → IsDrawn asks
+  home_ready : (c : Where) (s : TranslationState) (at level : ℕ) (f : Frame) (a : Access) → s.frame.temps ≤ f.temps → IsDrawn asks
       f.temps a →
       (asks.findings.escapes at ≡ true → IsTrue (is_slot a)) → Ready asks c s → Ready asks (owning at c) (with_home at level f a s)
   home_ready c s at level f a h d sl r = record {
@@ -130,10 +130,10 @@ module _ (asks : Asks) where
     loops = r.loops;
   }
 
-  abbrev pub Declares : (c : Where) (at : ℕ) → State → Access → Type 0
+  abbrev pub Declares : (c : Where) (at : ℕ) → TranslationState → Access → Type 0
   Declares c at t a = GoodAccess asks t a × Ready asks (owning at c) t
 
-  home_yields : (c : Where) (s : State) (at : ℕ) (f : Frame) (a : Access) → f.label ≡ s.frame.label → s.frame.temps ≤ f.temps →
+  home_yields : (c : Where) (s : TranslationState) (at : ℕ) (f : Frame) (a : Access) → f.label ≡ s.frame.label → s.frame.temps ≤ f.temps →
       GoodAccess asks (with_home at c.within.level f a s) a → IsDrawn asks f.temps a → (asks.findings.escapes at ≡ true → IsTrue (is_slot a)) → Ready asks c s →
       (asks.temps → AreApart (at ∷ []) c.kept) → Yields asks c s (Declares c at) (drawn a (with_home at c.within.level f a s))
   home_yields c s at f a e h g d sl r apart =
@@ -144,7 +144,7 @@ module _ (asks : Asks) where
         value = (g, q);
       }
 
-  declared_as : (c : Where) (s : State) (at : ℕ) (b : Bool) → asks.findings.escapes at ≡ b → Ready asks c s →
+  declared_as : (c : Where) (s : TranslationState) (at : ℕ) (b : Bool) → asks.findings.escapes at ≡ b → Ready asks c s →
       (asks.temps → AreApart (at ∷ []) c.kept) →
       Yields asks c s (Declares c at) (declare_variable b c.within.level at s)
   declared_as c s at true e r apart =
@@ -152,7 +152,7 @@ module _ (asks : Asks) where
   declared_as c s at false e r apart =
       home_yields c s at (one_temp s.frame) (InTemp (record { 0 = s.frame.temps })) refl (omega arith) (λ t. omega arith) (omega arith) (λ k. cc) r apart
 
-  pub declare_yields : (c : Where) (s : State) (at : ℕ) → Ready asks c s → (asks.temps → AreApart (at ∷ []) c.kept) →
+  pub declare_yields : (c : Where) (s : TranslationState) (at : ℕ) → Ready asks c s → (asks.temps → AreApart (at ∷ []) c.kept) →
       Yields asks c s (Declares c at) (declare_variable (asks.findings.escapes at) c.within.level at s)
   declare_yields c s at r apart = declared_as c s at (asks.findings.escapes at) refl r apart
 

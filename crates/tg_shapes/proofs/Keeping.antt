@@ -15,9 +15,9 @@ use Rattle.tg_translate.specs.declared.wants.Want.{Want}
 use Rattle.tg_translate.specs.declared.wants.Want.TheVariants as want
 use Rattle.tg_translate.specs.declared.operands.Operand.{Operand}
 use Rattle.tg_translate.specs.declared.operands.Operand.TheVariants.{Number, Kept}
-use Rattle.tg_translate.specs.States.{State, Frame, Acts, Drawn, drawn, after, give, with_frame, fresh, one_temp}
+use Rattle.tg_translate.specs.States.{TranslationState, Frame, Acts, Drawn, drawn, after, give, with_frame, fresh, one_temp}
 use Rattle.tg_translate.specs.Wants.{Made, value, done, test}
-use Rattle.tg_translate.specs.Constructs.{Place, in_temp, at_address, HeldAll}
+use Rattle.tg_translate.specs.Constructs.{Storage, in_temp, at_address, HeldAll}
 use Rattle.tg_shapes.proofs.Fine.{Each, FineTs, FineStms, FineTx, FineTxs, FineCond, widen_ts, widen_stms, widen_tx, widen_txs, widen_cond}
 use Rattle.tg_shapes.proofs.Actions.{answer, left}
 use Rattle.tg_shapes.proofs.Counts.{times, below}
@@ -41,14 +41,14 @@ pub record Where : Type 0 where
   pub own : List ℕ
   pub kept : List ℕ
 
-abbrev pub callee_labels : State → List ℕ
+abbrev pub callee_labels : TranslationState → List ℕ
 callee_labels s = map (λ e. e.1.label.0) s.callees
 
-abbrev pub literal_labels : State → List ℕ
+abbrev pub literal_labels : TranslationState → List ℕ
 literal_labels s = map (λ l. l.label) s.literals
 
 -- how often a label is one of a function or a literal that is there
-abbrev pub stands : ℕ → State → ℕ
+abbrev pub stands : ℕ → TranslationState → ℕ
 stands n s = times (λ f. f.label) n s.functions + times (λ l. l.label) n s.literals
 
 -- breaks are looked at where asks.breaks is asked, and temporaries where asks.temps is
@@ -59,7 +59,7 @@ module _ (asks : Asks) where
   Knows cs ls n (fault k) = k < 1048576
   Knows cs ls n (temporary i) = asks.temps → i < n
 
-  abbrev pub KnowsAt : State → Named → Type 0
+  abbrev pub KnowsAt : TranslationState → Named → Type 0
   KnowsAt s = Knows (callee_labels s) (literal_labels s) s.frame.temps
 
   pub record FineFunction (cs ls : List ℕ) (f : Function Ts) : Type 0 where
@@ -71,7 +71,7 @@ module _ (asks : Asks) where
   IsDrawn n (InFrame k) = Unit {0}
 
   -- from one state to a later one, with the homes of these variables kept
-  pub record Grows (kept : List ℕ) (s t : State) : Type 0 where
+  pub record Grows (kept : List ℕ) (s t : TranslationState) : Type 0 where
     pub label : s.label ≤ t.label
     pub temps : s.frame.temps ≤ t.frame.temps
     pub name : t.frame.label ≡ s.frame.label
@@ -80,11 +80,11 @@ module _ (asks : Asks) where
     pub homes : asks.temps → (at : ℕ) → Contains kept at → named at t.homes ≡ named at s.homes
 
   -- where each label that was drawn between stands once more
-  pub record Step (kept : List ℕ) (s t : State) : Type 0 where
+  pub record Step (kept : List ℕ) (s t : TranslationState) : Type 0 where
     pub grows : Grows kept s t
     pub balance : (n : ℕ) → stands n t + below n s.label ≡ stands n s + below n t.label
 
-  pub record Ready (c : Where) (s : State) : Type 0 where
+  pub record Ready (c : Where) (s : TranslationState) : Type 0 where
     pub from : 33 ≤ s.label
     pub callees :
         (l : ℕ) → Contains (callee_labels s) l → (33 ≤ l) × (l < s.label) × (times (λ k. k.label) l s.literals ≡ 0)
@@ -99,7 +99,7 @@ module _ (asks : Asks) where
     pub loops : asks.breaks → c.in_loop ≡ true → c.within.leave < c.loops
 
   -- an action takes a step, from where a part may go on, and what it gives is fine there
-  pub record Yields {A : Type 0} (c : Where) (s : State) (V : State → A → Type 0) (d : Drawn A) : Type 0 where
+  pub record Yields {A : Type 0} (c : Where) (s : TranslationState) (V : TranslationState → A → Type 0) (d : Drawn A) : Type 0 where
     pub step : Step c.kept s (left d)
     pub ready : Ready c (left d)
     pub value : V (left d) (answer d)
@@ -114,7 +114,7 @@ module _ (asks : Asks) where
   know_more cs ls ds ms n m f g h (fault j) k = k
   know_more cs ls ds ms n m f g h (temporary i) k = λ t. let j = k t in omega (arith, j, h)
 
-  pub knows_on : (kept : List ℕ) (s t : State) → Step kept s t → (x : Named) → KnowsAt s x → KnowsAt t x
+  pub knows_on : (kept : List ℕ) (s t : TranslationState) → Step kept s t → (x : Named) → KnowsAt s x → KnowsAt t x
   knows_on kept s t h x k =
       know_more (callee_labels s) (literal_labels s) (callee_labels t) (literal_labels t) s.frame.temps t.frame.temps
       h.grows.callees h.grows.literals h.grows.temps x k
@@ -133,46 +133,46 @@ module _ (asks : Asks) where
     functions_on cs ls ds ms f g fs h.1,
   )
 
-  abbrev pub GoodTx : ℕ → State → Tx → Type 0
+  abbrev pub GoodTx : ℕ → TranslationState → Tx → Type 0
   GoodTx n s x = FineTx asks.breaks (KnowsAt s) n x
 
-  abbrev pub GoodTxs : ℕ → State → Txs → Type 0
+  abbrev pub GoodTxs : ℕ → TranslationState → Txs → Type 0
   GoodTxs n s xs = FineTxs asks.breaks (KnowsAt s) n xs
 
-  abbrev pub GoodTs : ℕ → State → Ts → Type 0
+  abbrev pub GoodTs : ℕ → TranslationState → Ts → Type 0
   GoodTs n s x = FineTs asks.breaks (KnowsAt s) n x
 
-  abbrev pub GoodStms : ℕ → State → Stms → Type 0
+  abbrev pub GoodStms : ℕ → TranslationState → Stms → Type 0
   GoodStms n s ss = FineStms asks.breaks (KnowsAt s) n ss
 
-  abbrev pub GoodCond : ℕ → State → Cond → Type 0
+  abbrev pub GoodCond : ℕ → TranslationState → Cond → Type 0
   GoodCond n s c = FineCond asks.breaks (KnowsAt s) n c
 
-  abbrev pub GoodMade : ℕ → State → Made → Type 0
+  abbrev pub GoodMade : ℕ → TranslationState → Made → Type 0
   GoodMade n s (value x) = FineTx asks.breaks (KnowsAt s) n x
   GoodMade n s (done x) = FineTs asks.breaks (KnowsAt s) n x
   GoodMade n s (test c) = FineCond asks.breaks (KnowsAt s) n c
 
-  abbrev pub GoodPlace : ℕ → State → Place → Type 0
+  abbrev pub GoodPlace : ℕ → TranslationState → Storage → Type 0
   GoodPlace n s (in_temp i) = asks.temps → i < s.frame.temps
   GoodPlace n s (at_address ss x) = FineStms asks.breaks (KnowsAt s) n ss × FineTx asks.breaks (KnowsAt s) n x
 
-  abbrev pub GoodOperand : State → Operand → Type 0
+  abbrev pub GoodOperand : TranslationState → Operand → Type 0
   GoodOperand s (Number n) = Unit {0}
   GoodOperand s (Kept t) = asks.temps → t.0 < s.frame.temps
 
-  abbrev pub GoodOperands : State → List Operand → Type 0
+  abbrev pub GoodOperands : TranslationState → List Operand → Type 0
   GoodOperands s [] = Unit {0}
   GoodOperands s (x ∷ xs) = GoodOperand s x × GoodOperands s xs
 
-  abbrev pub GoodHeld : ℕ → State → HeldAll → Type 0
+  abbrev pub GoodHeld : ℕ → TranslationState → HeldAll → Type 0
   GoodHeld n s all = FineStms asks.breaks (KnowsAt s) n all.before × GoodOperands s all.operands
 
-  abbrev pub GoodWant : State → Want → Type 0
+  abbrev pub GoodWant : TranslationState → Want → Type 0
   GoodWant s (want.Into t) = asks.temps → t.0 < s.frame.temps
   GoodWant s _ = Unit {0}
 
-  abbrev pub GoodAccess : State → Access → Type 0
+  abbrev pub GoodAccess : TranslationState → Access → Type 0
   GoodAccess s (InTemp t) = asks.temps → t.0 < s.frame.temps
   GoodAccess s (InFrame k) = Unit {0}
 
@@ -182,7 +182,7 @@ module _ (asks : Asks) where
   drawn_on n m (InTemp t) h k = omega (arith, h, k)
   drawn_on n m (InFrame j) h k = tt
 
-  pub framed : (kept : List ℕ) (s : State) (f : Frame) → f.label ≡ s.frame.label → s.frame.temps ≤ f.temps → Step kept s
+  pub framed : (kept : List ℕ) (s : TranslationState) (f : Frame) → f.label ≡ s.frame.label → s.frame.temps ≤ f.temps → Step kept s
       (with_frame f s)
   framed kept s f e h = record {
     grows =
@@ -197,7 +197,7 @@ module _ (asks : Asks) where
     balance = λ n. refl;
   }
 
-  pub ready_framed : (c : Where) (s : State) (f : Frame) → s.frame.temps ≤ f.temps → Ready c s → Ready c
+  pub ready_framed : (c : Where) (s : TranslationState) (f : Frame) → s.frame.temps ≤ f.temps → Ready c s → Ready c
       (with_frame f s)
   ready_framed c s f h r = record {
     from = r.from;
@@ -214,7 +214,7 @@ module _ (asks : Asks) where
 module _ {asks : Asks} where
   -- Steps follow one another.
 
-  pub grows_none : {kept : List ℕ} {s : State} → Grows asks kept s s
+  pub grows_none : {kept : List ℕ} {s : TranslationState} → Grows asks kept s s
   grows_none = record {
     label = omega arith;
     temps = omega arith;
@@ -224,7 +224,7 @@ module _ {asks : Asks} where
     homes = λ t at h. refl;
   }
 
-  pub grows_on : {kept : List ℕ} {s t u : State} → Grows asks kept s t → Grows asks kept t u → Grows asks kept s u
+  pub grows_on : {kept : List ℕ} {s t u : TranslationState} → Grows asks kept s t → Grows asks kept t u → Grows asks kept s u
   grows_on h k = record {
     label = omega (arith, h.label, k.label);
     temps = omega (arith, h.temps, k.temps);
@@ -234,7 +234,7 @@ module _ {asks : Asks} where
     homes = λ t at c. k.homes t at c ∙ h.homes t at c;
   }
 
-  pub grows_for : {kept more : List ℕ} {s t : State} → ((at : ℕ) → Contains kept at → Contains more at) → Grows asks more s t → Grows asks kept s t
+  pub grows_for : {kept more : List ℕ} {s t : TranslationState} → ((at : ℕ) → Contains kept at → Contains more at) → Grows asks more s t → Grows asks kept s t
   grows_for f h = record {
     label = h.label;
     temps = h.temps;
@@ -244,25 +244,25 @@ module _ {asks : Asks} where
     homes = λ t at c. h.homes t at (f at c);
   }
 
-  pub stay : {kept : List ℕ} {s : State} → Step asks kept s s
+  pub stay : {kept : List ℕ} {s : TranslationState} → Step asks kept s s
   stay = record { grows = grows_none; balance = λ n. refl }
 
-  pub onward : {kept : List ℕ} {s t u : State} → Step asks kept s t → Step asks kept t u → Step asks kept s u
+  pub onward : {kept : List ℕ} {s t u : TranslationState} → Step asks kept s t → Step asks kept t u → Step asks kept s u
   onward h k = record {
     grows = grows_on h.grows k.grows;
     balance = λ n. let p = h.balance n in let q = k.balance n in omega (arith, p, q);
   }
 
-  pub bind : {A C : Type 0} {c : Where} {s : State} {V : State → A → Type 0} {W : State → C → Type 0} {d : Drawn A} {next : A → Acts C} →
-      Yields asks c s V d → ((a : A) (t : State) → Step asks c.kept s t → Ready asks c t → V t a → Yields asks c t W (next a t)) →
+  pub bind : {A C : Type 0} {c : Where} {s : TranslationState} {V : TranslationState → A → Type 0} {W : TranslationState → C → Type 0} {d : Drawn A} {next : A → Acts C} →
+      Yields asks c s V d → ((a : A) (t : TranslationState) → Step asks c.kept s t → Ready asks c t → V t a → Yields asks c t W (next a t)) →
       Yields asks c s W (after d next)
   bind {d = drawn a t} h k =
       let g = k a t h.step h.ready h.value in record { step = onward h.step g.step; ready = g.ready; value = g.value }
 
-  pub given : {A : Type 0} {c : Where} {s : State} {V : State → A → Type 0} (a : A) → Ready asks c s → V s a → Yields asks c s V (give a s)
+  pub given : {A : Type 0} {c : Where} {s : TranslationState} {V : TranslationState → A → Type 0} (a : A) → Ready asks c s → V s a → Yields asks c s V (give a s)
   given a r v = record { step = stay; ready = r; value = v }
 
-  pub draws_temp : {c : Where} {s : State} → Ready asks c s → Yields asks c s (λ t i. asks.temps → i < t.frame.temps) (fresh s)
+  pub draws_temp : {c : Where} {s : TranslationState} → Ready asks c s → Yields asks c s (λ t i. asks.temps → i < t.frame.temps) (fresh s)
   draws_temp {c} {s} r = record {
     step = framed asks c.kept s (one_temp s.frame) refl (omega arith);
     ready = ready_framed asks c s (one_temp s.frame) (omega arith) r;
@@ -271,7 +271,7 @@ module _ {asks : Asks} where
 
   -- What is fine is so in a later state.
 
-  module _ {kept : List ℕ} {s t : State} (h : Step asks kept s t) where
+  module _ {kept : List ℕ} {s t : TranslationState} (h : Step asks kept s t) where
     pub tx_on : (n : ℕ) (x : Tx) → GoodTx asks n s x → GoodTx asks n t x
     tx_on n x k = widen_tx asks.breaks (KnowsAt asks s) (KnowsAt asks t) (knows_on asks kept s t h) n x k
 
@@ -295,7 +295,7 @@ module _ {asks : Asks} where
     pub temp_on : (i : ℕ) → (asks.temps → i < s.frame.temps) → asks.temps → i < t.frame.temps
     temp_on i k asked = let j = k asked in omega (arith, j, h.grows.temps)
 
-    pub place_on : (n : ℕ) (p : Place) → GoodPlace asks n s p → GoodPlace asks n t p
+    pub place_on : (n : ℕ) (p : Storage) → GoodPlace asks n s p → GoodPlace asks n t p
     place_on n (in_temp i) k = temp_on i k
     place_on n (at_address ss x) k = (stms_on n ss k.0, tx_on n x k.1)
 

@@ -17,7 +17,7 @@ use Rattle.tg_tree.specs.Lists.{join_txs}
 use Rattle.tg_translate.specs.declared.wants.Want.{Want}
 use Rattle.tg_translate.specs.declared.wants.Want.TheVariants as want
 use Rattle.tg_translate.specs.declared.homes.Within.{Within}
-use Rattle.tg_translate.specs.States.{State, Drawn, drawn, after, give}
+use Rattle.tg_translate.specs.States.{TranslationState, Drawn, drawn, after, give}
 use Rattle.tg_translate.specs.Wants.{Made, value, done, value_of, test_of, dropped, as_statement, deliver, followed}
 use Rattle.tg_translate.specs.Constructs.{HeldAll, none_held, read, want_for, make_array, negation, repeat_while, in_body, in_test, string_text}
 use Rattle.tg_translate.specs.Choices.{left_want}
@@ -54,7 +54,7 @@ abbrev mutual
   drawn_by (Let _ ds es) = drawn_by_decs ds + (drawn_by_exps es + 1)
   drawn_by (Seq _ es) = drawn_by_exps es + 1
 
-  drawn_by_place : source.Place → ℕ
+  drawn_by_place : source.LValue → ℕ
   drawn_by_place (Simple _) = 0
   drawn_by_place (Field v _) = drawn_by_place v + 1
   drawn_by_place (Index v x) = drawn_by_place v + (drawn_by x + 1 + 2)
@@ -94,7 +94,7 @@ mutual
   few_drawn (Let _ ds es) = let h = few_in_decs ds in let k = few_in_exps es in omega (arith, h, k)
   few_drawn (Seq _ es) = let h = few_in_exps es in omega (arith, h)
 
-  few_in_place : (v : source.Place) → drawn_by_place v ≤ 6 * place_size v
+  few_in_place : (v : source.LValue) → drawn_by_place v ≤ 6 * place_size v
   few_in_place (Simple _) = omega arith
   few_in_place (Field v _) = let h = few_in_place v in omega (arith, h)
   few_in_place (Index v x) = let h = few_in_place v in let k = few_drawn x in omega (arith, h, k)
@@ -144,7 +144,7 @@ module _ (escapes : ℕ → Bool) where
     few_escaping (Let _ ds es) = let h = few_escape_decs ds in let k = few_escape_exps es in omega (arith, h, k)
     few_escaping (Seq _ es) = let h = few_escape_exps es in omega (arith, h)
 
-    few_escape_place : (v : source.Place) → place_escaping escapes v ≤ place_size v
+    few_escape_place : (v : source.LValue) → place_escaping escapes v ≤ place_size v
     few_escape_place (Simple _) = omega arith
     few_escape_place (Field v _) = let h = few_escape_place v in omega (arith, h)
     few_escape_place (Index v x) = let h = few_escape_place v in let k = few_escaping x in omega (arith, h, k)
@@ -203,7 +203,7 @@ module _ (findings : Findings) where
     functions = declared n seen e;
   }
 
-  abbrev of_place : (n : ℕ) → Levels → source.Place → Cost
+  abbrev of_place : (n : ℕ) → Levels → source.LValue → Cost
   of_place n seen v = record {
     slots = place_escaping findings.escapes v;
     temps = drawn_by_place v;
@@ -242,7 +242,7 @@ module _ (findings : Findings) where
   abbrev of_functions : (n : ℕ) → Levels → FunDecs → Cost
   of_functions n seen fs = adds (bodies_strings fs) (functions_escaping findings.escapes fs) (declared_functions n seen fs)
 
-  module _ {m : Cost} (n : ℕ) {s : State} {d : Drawn Made} (h : Takes m (IsMade n) s d) where
+  module _ {m : Cost} (n : ℕ) {s : TranslationState} {d : Drawn Made} (h : Takes m (IsMade n) s d) where
     of_value : Takes (record m { temps = m.temps + 1 }) (IsTx n) s (after d value_of)
     of_value = then_draws h λ x s k. values_takes n x s k
 
@@ -259,7 +259,7 @@ module _ (findings : Findings) where
   IsBegun n b = AreStms n b.before × IsMade n b.last
 
   mutual
-    walk : (e : Exp) (w : Want) (c : Within) (n : ℕ) (seen : Levels) (s : State) → c.level ≤ n →
+    walk : (e : Exp) (w : Want) (c : Within) (n : ℕ) (seen : Levels) (s : TranslationState) → c.level ≤ n →
         Takes (of_exp n seen e) (IsMade n) s (expression findings e w c s)
     walk (Nil _) w c n seen s l = gives s (value (Const 0)) tt
     walk (Int _ k) w c n seen s l = gives s (value (Const k)) tt
@@ -301,7 +301,7 @@ module _ (findings : Findings) where
         behind_takes n w b.before b.last s k.0 k.1
     walk (Seq _ es) w c n seen s l = then_draws (walk_sequence es w no_stms c n seen s l tt) λ b s k. behind_takes n w b.before b.last s k.0 k.1
 
-    walk_place : (v : source.Place) (c : Within) (n : ℕ) (seen : Levels) (s : State) → c.level ≤ n →
+    walk_place : (v : source.LValue) (c : Within) (n : ℕ) (seen : Levels) (s : TranslationState) → c.level ≤ n →
         Takes (of_place n seen v) (IsPlace n) s (locate findings v c s)
     walk_place (Simple x) c n seen s l = place_takes n c (findings.meaning (at_of x)) s l
     walk_place (Field v f) c n seen s l =
@@ -310,20 +310,20 @@ module _ (findings : Findings) where
         both (walk_place v c n seen s l) λ p s h. then_draws (of_value n (walk e want.Value c n seen s l)) λ y s k.
         element_takes n (assigns_nothing e) (read p) y s (read_near n p h) k
 
-    walk_values : (es : Exps) (before : Txs) (c : Within) (n : ℕ) (seen : Levels) (s : State) → c.level ≤ n → AreTxs n before →
+    walk_values : (es : Exps) (before : Txs) (c : Within) (n : ℕ) (seen : Levels) (s : TranslationState) → c.level ≤ n → AreTxs n before →
         Takes (of_exps n seen es) (AreTxs n) s (values findings es before c s)
     walk_values no_exps before c n seen s l h = gives s before h
     walk_values (exp e rest) before c n seen s l h =
         both (of_value n (walk e want.Value c n seen s l)) λ x s k. walk_values rest (join_txs before (tx x no_txs)) c n seen s l (join_txs_near n before x h k)
 
-    walk_fields : (is : Inits) (direct : Bool) (all : HeldAll) (c : Within) (n : ℕ) (seen : Levels) (s : State) → c.level ≤ n → AreStms n all.before →
+    walk_fields : (is : Inits) (direct : Bool) (all : HeldAll) (c : Within) (n : ℕ) (seen : Levels) (s : TranslationState) → c.level ≤ n → AreStms n all.before →
         Takes (of_inits n seen is) (λ all. AreStms n all.before) s (fields findings is direct all c s)
     walk_fields no_inits direct all c n seen s l h = gives s all h
     walk_fields (init _ e rest) direct all c n seen s l h =
         both (of_value n (walk e want.Value c n seen s l)) λ x s k. draws_then (hold_next_takes n direct all x s h k) λ next s g.
         walk_fields rest direct next c n seen s l g
 
-    walk_sequence : (es : Exps) (w : Want) (before : Stms) (c : Within) (n : ℕ) (seen : Levels) (s : State) → c.level ≤ n → AreStms n before →
+    walk_sequence : (es : Exps) (w : Want) (before : Stms) (c : Within) (n : ℕ) (seen : Levels) (s : TranslationState) → c.level ≤ n → AreStms n before →
         Takes (of_exps n seen es) (IsBegun n) s (sequence findings es w before c s)
     walk_sequence no_exps w before c n seen s l h = gives s (record { before = before; last = value (Const 0) }) (h, tt)
     walk_sequence (exp e no_exps) w before c n seen s l h =
@@ -333,7 +333,7 @@ module _ (findings : Findings) where
         (both (of_statement n (walk e want.Dropped c n seen s l)) λ x s k.
         walk_sequence (exp f rest) w (followed before x) c n seen s l (followed_near n before x h k))
 
-    walk_decs : (ds : Decs) (before : Stms) (c : Within) (n : ℕ) (seen : Levels) (s : State) → c.level ≤ n → AreStms n before →
+    walk_decs : (ds : Decs) (before : Stms) (c : Within) (n : ℕ) (seen : Levels) (s : TranslationState) → c.level ≤ n → AreStms n before →
         Takes (of_decs n seen ds) (AreStms n) s (declarations findings ds before c s)
     walk_decs no_decs before c n seen s l h = gives s before h
     walk_decs (types _ rest) before c n seen s l h = walk_decs rest before c n seen s l h
@@ -345,12 +345,12 @@ module _ (findings : Findings) where
         quiet_then (declares_functions fs c.level s) λ _ t _. adds_then (walk_functions fs s.label c n inside_seen t l) λ _ u _.
         walk_decs rest before c n inside_seen u l h
 
-    walk_functions : (fs : FunDecs) (label : ℕ) (c : Within) (n : ℕ) (seen : Levels) (s : State) → c.level ≤ n →
+    walk_functions : (fs : FunDecs) (label : ℕ) (c : Within) (n : ℕ) (seen : Levels) (s : TranslationState) → c.level ≤ n →
         Takes (of_functions n seen fs) (λ x. Unit {0}) s (bodies findings fs label c s)
     walk_functions no_functions label c n seen s l = gives {A = Unit {0}} s tt tt
     walk_functions (function f params result e rest) label c n seen s l =
         let kept = findings.keeps_link (at_of f) in
-        let t : State = begun findings.escapes label kept (c.level + 1) params s in
+        let t : TranslationState = begun findings.escapes label kept (c.level + 1) params s in
         let drawn = few_drawn e in
         let temps = frame_temps findings.escapes kept params in
         let few = few_escaping findings.escapes e in
@@ -365,7 +365,7 @@ module _ (findings : Findings) where
 
   -- The program's body stands first.
 
-  abbrev start : State
+  abbrev start : TranslationState
   start = beginning 33 (frame_for 32 [])
 
   walked : (e : Exp) → Takes (record (of_exp 0 [] e) { temps = drawn_by e + 1 }) (IsTs 0) start (program_body findings e start)

@@ -20,7 +20,7 @@ use Rattle.tg_translate.specs.declared.operands.Operand.TheVariants.{Number, Kep
 use Rattle.tg_translate.specs.declared.wants.Want.{Want}
 use Rattle.tg_translate.specs.declared.wants.Want.TheVariants as want
 use Rattle.tg_translate.specs.Wants.{Made, value, done, test, truth_into, put_in, dropped, test_of, as_statement, taken_from, deliver, followed}
-use Rattle.tg_translate.specs.Constructs.{Place, in_temp, at_address, operand, HeldAll, frame_out, place_in, own_place, read, store_at, plus, nil_check, field_of, index_check, element_of, store_field, store_fields, call_for_record, record_of, product_check, product_of, zero_check, quotient_check, quotient_of, least_int, negation, assign_value, first_minus_one, turn_of, turns, count_of, comparison}
+use Rattle.tg_translate.specs.Constructs.{Storage, in_temp, at_address, operand, HeldAll, frame_out, place_in, own_place, read, store_at, plus, nil_check, field_of, index_check, element_of, store_field, store_fields, call_for_record, record_of, product_check, product_of, zero_check, quotient_check, quotient_of, least_int, negation, assign_value, first_minus_one, turn_of, turns, count_of, comparison}
 use Rattle.tg_translate.specs.Choices.{connected, tested, chosen}
 use Rattle.tg_translate.specs.Scopes.{frame_at, home_place, call_declared}
 use Rattle.tg_shapes.specs.Accesses.{Accessed, AccessesWithin, AccessesWithinStms, AccessesWithinTx, AccessesWithinTxs, AccessesWithinCond}
@@ -75,7 +75,7 @@ module _ (n : ℕ) where
   IsMade (done s) = IsTs s
   IsMade (test c) = IsCond c
 
-  abbrev pub IsPlace : Place → Type 0
+  abbrev pub IsPlace : Storage → Type 0
   IsPlace (in_temp t) = Unit {0}
   IsPlace (at_address ss a) = AreStms ss × AccessesWithinTx n a
 
@@ -148,7 +148,7 @@ module _ (n : ℕ) where
   home_near c (Some home) l = place_in_near (frame_at c home.level) home.access (frame_at_near n c home.level l)
   home_near c None l = (tt, tt)
 
-  pub read_near : (p : Place) → IsPlace p → IsTx (read p)
+  pub read_near : (p : Storage) → IsPlace p → IsTx (read p)
   read_near (in_temp t) h = tt
   read_near (at_address no_stms a) h = h.1
   read_near (at_address (stm s ss) a) h = (h.0, h.1)
@@ -157,7 +157,7 @@ module _ (n : ℕ) where
   store_near no_stms a x h k g = (k, g)
   store_near (stm s ss) a x h k g = followed_near (stm s ss) (Store a x) h (k, g)
 
-  pub assigned_near : (p : Place) (x : Tx) → IsPlace p → IsTx x → IsTs (assign_value p x)
+  pub assigned_near : (p : Storage) (x : Tx) → IsPlace p → IsTx x → IsTs (assign_value p x)
   assigned_near (in_temp t) x h k = k
   assigned_near (at_address ss a) x h k = store_near ss a x h.0 h.1 k
 

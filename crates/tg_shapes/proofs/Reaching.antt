@@ -9,9 +9,9 @@ use Rattle.std.proofs.lemmas.List.Elements.{Contains-append_cases}
 use Rattle.tg_symbols.specs.Tables.{named}
 use Rattle.tg_syntax.specs.declared.tokens.Ident.{Ident}
 use Rattle.tg_syntax.specs.declared.trees.Param.{Param}
-use Rattle.tg_syntax.specs.Tree.{Form, Alias, Fields, Array, TypeDec, Exp, Nil, Break, Int, Text, Read, Call, Neg, Binary, Make, Fill, Assign, If, When, While, For, Let, Seq, Place, Simple, Field, Index, Exps, no_exps, exp, Inits, no_inits, init, Decs, no_decs, types, variable, functions, FunDecs, no_functions, function}
+use Rattle.tg_syntax.specs.Tree.{Form, Alias, Fields, Array, TypeDec, Exp, Nil, Break, Int, Text, Read, Call, Neg, Binary, Make, Fill, Assign, If, When, While, For, Let, Seq, LValue, Simple, Field, Index, Exps, no_exps, exp, Inits, no_inits, init, Decs, no_decs, types, variable, functions, FunDecs, no_functions, function}
 use Rattle.tg_syntax.specs.Beginnings.{param_beginnings, form_beginnings, type_beginnings, kind_beginnings, beginnings, place_beginnings, exps_beginnings, inits_beginnings, decs_beginnings, function_beginnings}
-use Rattle.tg_escape.specs.Uses.{Declared, a_variable, a_function, Seen, Use, used, uses, place_uses, exps_uses, inits_uses, decs_uses, functions_uses, declare_variable, declare_params, declare_functions, declare_all}
+use Rattle.tg_escape.specs.Uses.{DeclaredAs, a_variable, a_function, Seen, Use, used, uses, place_uses, exps_uses, inits_uses, decs_uses, functions_uses, declare_variable, declare_params, declare_functions, declare_all}
 use Rattle.tg_escape.specs.Escaping.{escapes_by}
 use Rattle.tg_types.specs.declared.notes.Note.{Note}
 use Rattle.tg_types.specs.declared.notes.Means.{Means}
@@ -68,7 +68,7 @@ mutual
   behind (Let _ ds es) s = behind_exps es (behind_decs ds s)
   behind (Seq _ es) s = behind_exps es s
 
-  behind_place : (v : Place) {xs ys : List ℕ} → Behind xs ys → Behind xs (place_beginnings v ys)
+  behind_place : (v : LValue) {xs ys : List ℕ} → Behind xs ys → Behind xs (place_beginnings v ys)
   behind_place (Simple x) s = more _ s
   behind_place (Field v f) s = more _ (behind_place v s)
   behind_place (Index v e) s = behind e (behind_place v s)
@@ -266,7 +266,7 @@ module _ (shapes : List (ℕ × Shape)) (notes : List Note) (findings : Findings
   abbrev AllEscape : List Use → Type 0
   AllEscape us = Each Escapes us
 
-  unused : (within : List ℕ) (o : Option Declared) (after : List Use) → AllEscape (used within o after) → AllEscape
+  unused : (within : List ℕ) (o : Option DeclaredAs) (after : List Use) → AllEscape (used within o after) → AllEscape
       after
   unused within None after h = h
   unused within (Some d) after h = h.1
@@ -437,7 +437,7 @@ module _ (shapes : List (ℕ × Shape)) (notes : List Note) (findings : Findings
       reaches _ scope _ h after (Has.seq {es = es} {t = t} ls) s d u = last_reaches none_type es scope t h after ls s d
           u
 
-      place_reaches : (v : Place) (scope : Scope) (t : Ty) (h : Here) (after : List Use) → Has.HasPlace shapes notes v
+      place_reaches : (v : LValue) (scope : Scope) (t : Ty) (h : Here) (after : List Use) → Has.HasPlace shapes notes v
           scope t → Stands scope h →
           Distinct (place_beginnings v h.before) → AllEscape (place_uses v h.within h.seen after) → ReachesPlace
           findings h.own h.around v × AllEscape after

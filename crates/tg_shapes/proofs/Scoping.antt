@@ -12,8 +12,8 @@ use Rattle.tg_types.specs.declared.notes.Means.{Means}
 use Rattle.tg_types.specs.declared.notes.Means.TheVariants as means
 use Rattle.tg_translate.specs.declared.homes.Home.{Home}
 use Rattle.tg_translate.specs.declared.homes.Callee.{Callee}
-use Rattle.tg_translate.specs.States.{State}
-use Rattle.tg_translate.specs.Constructs.{Place, string_text}
+use Rattle.tg_translate.specs.States.{TranslationState}
+use Rattle.tg_translate.specs.Constructs.{Storage, string_text}
 use Rattle.tg_translate.specs.Scopes.{frame_at, nowhere, no_value, home_place, variable_place, routine_of, call_declared, call, literal}
 use Rattle.tg_shapes.specs.Standing.{IsInReach}
 use Rattle.tg_shapes.proofs.Counts.{times-append, same, same_not, below-next, contained_counts, counted_contains}
@@ -69,21 +69,21 @@ named_callee at callee (entry ∷ rest) e =
     ]
 
 module _ (asks : Asks) where
-  frame_good : (c : Where) (s : State) (level : ℕ) → Ready asks c s → GoodTx asks c.loops s (frame_at c.within level)
+  frame_good : (c : Where) (s : TranslationState) (level : ℕ) → Ready asks c s → GoodTx asks c.loops s (frame_at c.within level)
   frame_good c s level r =
       constructing.frame_out_good asks c.loops s c.within.link_in_slot (c.within.level - level)
       (λ t l e. r.link t (omega (arith, l)) e)
 
-  access_good : (s : State) (a : Access) → (asks.temps → IsDrawn asks s.frame.temps a ⊎ IsTrue (is_slot a)) → GoodAccess asks s a
+  access_good : (s : TranslationState) (a : Access) → (asks.temps → IsDrawn asks s.frame.temps a ⊎ IsTrue (is_slot a)) → GoodAccess asks s a
   access_good s (InTemp i) h = λ t. elim (h t) [ inl d ↦ d | inr e ↦ cc ]
   access_good s (InFrame k) h = tt
 
-  reached : (c : Where) (s : State) (at : ℕ) (home : Home) → Ready asks c s →
+  reached : (c : Where) (s : TranslationState) (at : ℕ) (home : Home) → Ready asks c s →
       (asks.temps → Contains c.own at ⊎ (asks.findings.escapes at ≡ true)) →
       named at s.homes ≡ Some home → asks.temps → IsDrawn asks s.frame.temps home.access ⊎ IsTrue (is_slot home.access)
   reached c s at home r h e t = elim (h t) [ inl o ↦ inl (r.owned t at home o e) | inr k ↦ inr (r.slots t at home k e) ]
 
-  home_good : (c : Where) (s : State) (at : ℕ) (found : Option Home) → Ready asks c s →
+  home_good : (c : Where) (s : TranslationState) (at : ℕ) (found : Option Home) → Ready asks c s →
       (asks.temps → Contains c.own at ⊎ (asks.findings.escapes at ≡ true)) →
       named at s.homes ≡ found → GoodPlace asks c.loops s (home_place c.within found)
   home_good c s at None r h e = (tt, tt)
@@ -92,7 +92,7 @@ module _ (asks : Asks) where
       (frame_good c s home.level r)
       (access_good s home.access (reached c s at home r h e))
 
-  pub variable_yields : (c : Where) (s : State) (meaning : Option Means) → Ready asks c s →
+  pub variable_yields : (c : Where) (s : TranslationState) (meaning : Option Means) → Ready asks c s →
       (asks.temps → IsInReach asks.findings c.own meaning) →
       Yields asks c s (λ t p. GoodPlace asks c.loops t p) (variable_place c.within meaning s)
   variable_yields c s None r h = given nowhere r
@@ -103,7 +103,7 @@ module _ (asks : Asks) where
   variable_yields c s (Some other) r h = given nowhere r
       (tt, tt)
 
-  callee_good : (c : Where) (s : State) (at : ℕ) (xs : Txs) (found : Option Callee) → Ready asks c s → GoodTxs asks c.loops s xs →
+  callee_good : (c : Where) (s : TranslationState) (at : ℕ) (xs : Txs) (found : Option Callee) → Ready asks c s → GoodTxs asks c.loops s xs →
       named at s.callees ≡ found → GoodTx asks c.loops s (call_declared c.within xs found)
   callee_good c s at xs None r h e = tt
   callee_good c s at xs (Some callee) r h e = (
@@ -111,7 +111,7 @@ module _ (asks : Asks) where
     (frame_good c s callee.level r, h),
   )
 
-  pub call_yields : (c : Where) (s : State) (meaning : Option Means) (xs : Txs) → Ready asks c s → GoodTxs asks c.loops s xs →
+  pub call_yields : (c : Where) (s : TranslationState) (meaning : Option Means) (xs : Txs) → Ready asks c s → GoodTxs asks c.loops s xs →
       Yields asks c s (λ t x. GoodTx asks c.loops t x) (call c.within meaning xs s)
   call_yields c s None xs r h = given no_value r tt
   call_yields c s (Some (means.Standard f)) xs r h =
@@ -124,13 +124,13 @@ module _ (asks : Asks) where
 
   -- A literal draws its label.
 
-  abbrev with_literal : List ℕ → State → State
+  abbrev with_literal : List ℕ → TranslationState → TranslationState
   with_literal bytes s = record s {
     label = s.label + 1;
     literals = s.literals ++ record { label = s.label; text = string_text bytes } ∷ [];
   }
 
-  literal_step : (kept : List ℕ) (s : State) (bytes : List ℕ) → Step asks kept s (with_literal bytes s)
+  literal_step : (kept : List ℕ) (s : TranslationState) (bytes : List ℕ) → Step asks kept s (with_literal bytes s)
   literal_step kept s bytes = record {
     grows =
         record {
@@ -147,7 +147,7 @@ module _ (asks : Asks) where
         omega (arith, h, k);
   }
 
-  literal_ready : (c : Where) (s : State) (bytes : List ℕ) → Ready asks c s → Ready asks c (with_literal bytes s)
+  literal_ready : (c : Where) (s : TranslationState) (bytes : List ℕ) → Ready asks c s → Ready asks c (with_literal bytes s)
   literal_ready c s bytes r = record {
     from = let k = r.from in omega (arith, k);
     callees = λ l h.
@@ -171,7 +171,7 @@ module _ (asks : Asks) where
     loops = r.loops;
   }
 
-  pub literal_yields : (c : Where) (s : State) (bytes : List ℕ) → Ready asks c s → Yields asks c s (λ t m. GoodMade asks c.loops t m)
+  pub literal_yields : (c : Where) (s : TranslationState) (bytes : List ℕ) → Ready asks c s → Yields asks c s (λ t m. GoodMade asks c.loops t m)
       (literal bytes s)
   literal_yields c s bytes r = record {
     step = literal_step c.kept s bytes;

@@ -10,7 +10,7 @@ use Rattle.tg_tree.specs.Tree.{Ts, Function, Code}
 use Rattle.tg_tree.specs.Named.{Named, function, literal, fault, temporary, function_labels, literal_labels, HasItsTemps, IsLinked}
 use Rattle.tg_tree.specs.Shapes.{IsClosed}
 use Rattle.tg_translate.specs.declared.wants.Want.TheVariants as want
-use Rattle.tg_translate.specs.States.{State, Drawn, drawn}
+use Rattle.tg_translate.specs.States.{TranslationState, Drawn, drawn}
 use Rattle.tg_translate.specs.Functions.{with_body, beginning, frame_for, outermost, program}
 use Rattle.tg_translate.specs.Translate.{program_body, translated}
 use Rattle.tg_shapes.specs.Laws.{names}
@@ -21,7 +21,7 @@ use Rattle.tg_shapes.proofs.Keeping.{Asks, Where, callee_labels, bind, FineFunct
 use Rattle.tg_shapes.proofs.Nesting as nesting
 use Rattle.tg_shapes.proofs.Walking.{walked}
 
-abbrev first : State
+abbrev first : TranslationState
 first = beginning 33 (frame_for 32 [])
 
 abbrev top : Where

@@ -5,7 +5,7 @@ use Rattle.std.proofs.lemmas.List.{map-append}
 use Rattle.tg_syntax.specs.Functions.{Measures}
 use Rattle.tg_tree.specs.Tree.{Ts, Function}
 use Rattle.tg_translate.specs.Constructs.{string_text}
-use Rattle.tg_translate.specs.States.{State, Drawn, drawn, Acts, after, give, fresh}
+use Rattle.tg_translate.specs.States.{TranslationState, Drawn, drawn, Acts, after, give, fresh}
 use Rattle.tg_translate.specs.Functions.{with_body, finish}
 use Rattle.tg_shapes.specs.Accesses.{AccessesWithin}
 use Rattle.tg_shapes.specs.Laws.{IsWithin}
@@ -36,20 +36,20 @@ draws n = record { slots = 0; temps = n; texts = []; counts = []; functions = []
 abbrev pub adds : List (List ℕ) → List ℕ → List Measures → Cost
 adds texts counts functions = record { slots = 0; temps = 0; texts = texts; counts = counts; functions = functions }
 
-abbrev pub texts : State → List (List ℕ)
+abbrev pub texts : TranslationState → List (List ℕ)
 texts s = map (λ l. l.text) s.literals
 
 abbrev pub HasSlots : ℕ → Function Ts → Type 0
 HasSlots n f = f.slots ≤ n + 1
 
 -- functions are added, function by function within what their texts allow
-pub record Adds (counts : List ℕ) (ms : List Measures) (s t : State) : Type 0 where
+pub record Adds (counts : List ℕ) (ms : List Measures) (s t : TranslationState) : Type 0 where
   pub added : List (Function Ts)
   pub behind : t.functions ≡ s.functions ++ added
   pub slots : AllZip HasSlots counts added
   pub within : AllZip IsWithin ms added
 
-pub record Takes {A : Type 0} (m : Cost) (V : A → Type 0) (s : State) (d : Drawn A) : Type 0 where
+pub record Takes {A : Type 0} (m : Cost) (V : A → Type 0) (s : TranslationState) (d : Drawn A) : Type 0 where
   pub value : V (answer d)
   pub slots : (left d).frame.slots ≤ s.frame.slots + m.slots
   pub temps : (left d).frame.temps ≤ s.frame.temps + m.temps
@@ -69,7 +69,7 @@ texts_on : (xs ys zs : List (List ℕ)) (a b : List (List ℕ)) → ys ≡ xs ++
 texts_on xs ys zs a b e h =
     h ∙ (ap (λ l. l ++ map string_text b) e ∙ (append_assoc xs (map string_text a) (map string_text b) ∙ ap (λ l. xs ++ l) (sym (map-append string_text a b))))
 
-adds_on : (s t u : State) (xs ys : List ℕ) (ms ns : List Measures) → Adds xs ms s t → Adds ys ns t u → Adds (xs ++ ys) (ms ++ ns) s u
+adds_on : (s t u : TranslationState) (xs ys : List ℕ) (ms ns : List Measures) → Adds xs ms s t → Adds ys ns t u → Adds (xs ++ ys) (ms ++ ns) s u
 adds_on s t u xs ys ms ns h k = record {
   added = h.added ++ k.added;
   behind = k.behind ∙ (ap (λ fs. fs ++ k.added) h.behind ∙ append_assoc s.functions h.added k.added);
@@ -77,16 +77,16 @@ adds_on s t u xs ys ms ns h k = record {
   within = zip_append IsWithin ms ns h.added k.added h.within k.within;
 }
 
-pub adds_none : (s t : State) → t.functions ≡ s.functions → Adds [] [] s t
+pub adds_none : (s t : TranslationState) → t.functions ≡ s.functions → Adds [] [] s t
 adds_none s t e = record { added = []; behind = e ∙ sym (append-nil s.functions); slots = tt; within = tt }
 
 -- Actions follow one another.
 
-pub both : {A B : Type 0} {m k : Cost} {V : A → Type 0} {W : B → Type 0} {s : State} {d : Drawn A} {next : A → Acts B} → Takes m V s d →
-    ((a : A) (t : State) → V a → Takes k W t (next a t)) → Takes (and m k) W s (after d next)
+pub both : {A B : Type 0} {m k : Cost} {V : A → Type 0} {W : B → Type 0} {s : TranslationState} {d : Drawn A} {next : A → Acts B} → Takes m V s d →
+    ((a : A) (t : TranslationState) → V a → Takes k W t (next a t)) → Takes (and m k) W s (after d next)
 both {m = m} {k = k} {s = s} {d = drawn a t} {next = next} h f =
     let g = f a t h.value in
-    let u : State = left (next a t) in
+    let u : TranslationState = left (next a t) in
     record {
       value = g.value;
       slots = let x = h.slots in let y = g.slots in omega (arith, x, y);
@@ -96,10 +96,10 @@ both {m = m} {k = k} {s = s} {d = drawn a t} {next = next} h f =
     }
 
 -- What costs as much, or less.
-pub at_most : {A : Type 0} {V : A → Type 0} {s : State} {d : Drawn A} (m k : Cost) → m.slots ≤ k.slots → m.temps ≤ k.temps →
+pub at_most : {A : Type 0} {V : A → Type 0} {s : TranslationState} {d : Drawn A} (m k : Cost) → m.slots ≤ k.slots → m.temps ≤ k.temps →
     m.texts ≡ k.texts → m.counts ≡ k.counts → m.functions ≡ k.functions → Takes m V s d → Takes k V s d
 at_most {s = s} {d = d} m k l i e c f h =
-    let u : State = left d in
+    let u : TranslationState = left d in
     record {
       value = h.value;
       slots = let x = h.slots in omega (arith, x, l);
@@ -108,30 +108,30 @@ at_most {s = s} {d = d} m k l i e c f h =
       functions = subst (λ xs. Adds xs k.functions s u) c (subst (λ ms. Adds m.counts ms s u) f h.functions);
     }
 
-pub more : {A : Type 0} {m : Cost} {k : ℕ} {V : A → Type 0} {s : State} {d : Drawn A} → m.temps ≤ k → Takes m V s d → Takes (record m { temps = k }) V s d
+pub more : {A : Type 0} {m : Cost} {k : ℕ} {V : A → Type 0} {s : TranslationState} {d : Drawn A} → m.temps ≤ k → Takes m V s d → Takes (record m { temps = k }) V s d
 more {m = m} {k = k} l h = at_most m (record m { temps = k }) (omega arith) l refl refl refl h
 
-pub then_draws : {A B : Type 0} {m : Cost} {k : ℕ} {V : A → Type 0} {W : B → Type 0} {s : State} {d : Drawn A} {next : A → Acts B} → Takes m V s d →
-    ((a : A) (t : State) → V a → Takes (draws k) W t (next a t)) → Takes (record m { temps = m.temps + k }) W s (after d next)
+pub then_draws : {A B : Type 0} {m : Cost} {k : ℕ} {V : A → Type 0} {W : B → Type 0} {s : TranslationState} {d : Drawn A} {next : A → Acts B} → Takes m V s d →
+    ((a : A) (t : TranslationState) → V a → Takes (draws k) W t (next a t)) → Takes (record m { temps = m.temps + k }) W s (after d next)
 then_draws {m = m} {k = k} h f =
     at_most (and m (draws k)) (record m { temps = m.temps + k })
     (omega arith) (omega arith) (append-nil m.texts) (append-nil m.counts) (append-nil m.functions) (both h f)
 
-pub then_quiet : {A B : Type 0} {m : Cost} {V : A → Type 0} {W : B → Type 0} {s : State} {d : Drawn A} {next : A → Acts B} → Takes m V s d →
-    ((a : A) (t : State) → V a → Takes (draws 0) W t (next a t)) → Takes m W s (after d next)
+pub then_quiet : {A B : Type 0} {m : Cost} {V : A → Type 0} {W : B → Type 0} {s : TranslationState} {d : Drawn A} {next : A → Acts B} → Takes m V s d →
+    ((a : A) (t : TranslationState) → V a → Takes (draws 0) W t (next a t)) → Takes m W s (after d next)
 then_quiet {m = m} h f = at_most (record m { temps = m.temps + 0 }) m (omega arith) (omega arith) refl refl refl (then_draws h f)
 
-pub draws_then : {A B : Type 0} {m : Cost} {k : ℕ} {V : A → Type 0} {W : B → Type 0} {s : State} {d : Drawn A} {next : A → Acts B} → Takes (draws k) V s d →
-    ((a : A) (t : State) → V a → Takes m W t (next a t)) → Takes (record m { temps = k + m.temps }) W s (after d next)
+pub draws_then : {A B : Type 0} {m : Cost} {k : ℕ} {V : A → Type 0} {W : B → Type 0} {s : TranslationState} {d : Drawn A} {next : A → Acts B} → Takes (draws k) V s d →
+    ((a : A) (t : TranslationState) → V a → Takes m W t (next a t)) → Takes (record m { temps = k + m.temps }) W s (after d next)
 draws_then {m = m} {k = k} h f = at_most (and (draws k) m) (record m { temps = k + m.temps }) (omega arith) (omega arith) refl refl refl (both h f)
 
-pub quiet_then : {A B : Type 0} {m : Cost} {V : A → Type 0} {W : B → Type 0} {s : State} {d : Drawn A} {next : A → Acts B} → Takes (draws 0) V s d →
-    ((a : A) (t : State) → V a → Takes m W t (next a t)) → Takes m W s (after d next)
+pub quiet_then : {A B : Type 0} {m : Cost} {V : A → Type 0} {W : B → Type 0} {s : TranslationState} {d : Drawn A} {next : A → Acts B} → Takes (draws 0) V s d →
+    ((a : A) (t : TranslationState) → V a → Takes m W t (next a t)) → Takes m W s (after d next)
 quiet_then {m = m} h f = at_most (record m { temps = 0 + m.temps }) m (omega arith) (omega arith) refl refl refl (draws_then h f)
 
-pub adds_then : {A B : Type 0} {m : Cost} {texts : List (List ℕ)} {counts : List ℕ} {functions : List Measures} {V : A → Type 0} {W : B → Type 0} {s : State}
+pub adds_then : {A B : Type 0} {m : Cost} {texts : List (List ℕ)} {counts : List ℕ} {functions : List Measures} {V : A → Type 0} {W : B → Type 0} {s : TranslationState}
     {d : Drawn A} {next : A → Acts B} → Takes (adds texts counts functions) V s d →
-    ((a : A) (t : State) → V a → Takes m W t (next a t)) →
+    ((a : A) (t : TranslationState) → V a → Takes m W t (next a t)) →
     Takes (record m { texts = texts ++ m.texts; counts = counts ++ m.counts; functions = functions ++ m.functions }) W s (after d next)
 adds_then {m = m} {texts = texts} {counts = counts} {functions = functions} h f =
     at_most (and (adds texts counts functions) m) (record m { texts = texts ++ m.texts; counts = counts ++ m.counts; functions = functions ++ m.functions })
@@ -140,7 +140,7 @@ adds_then {m = m} {texts = texts} {counts = counts} {functions = functions} h f 
 -- Single actions.
 
 -- what leaves all but the frame as it is, and draws so much of that
-pub keeps : {A : Type 0} {V : A → Type 0} (a : A) (slots temps : ℕ) (s t : State) → V a →
+pub keeps : {A : Type 0} {V : A → Type 0} (a : A) (slots temps : ℕ) (s t : TranslationState) → V a →
     t.frame.slots ≤ s.frame.slots + slots → t.frame.temps ≤ s.frame.temps + temps →
     t.literals ≡ s.literals → t.functions ≡ s.functions → Takes (record (draws temps) { slots = slots }) V s (drawn a t)
 keeps a slots temps s t v l k e f = record {
@@ -151,10 +151,10 @@ keeps a slots temps s t v l k e f = record {
   functions = adds_none s t f;
 }
 
-pub gives : {A : Type 0} {V : A → Type 0} (s : State) (a : A) → V a → Takes (draws 0) V s (give a s)
+pub gives : {A : Type 0} {V : A → Type 0} (s : TranslationState) (a : A) → V a → Takes (draws 0) V s (give a s)
 gives s a v = keeps a 0 0 s s v (omega arith) (omega arith) refl refl
 
-pub draws_one : (s : State) → Takes (draws 1) (λ t. Unit {0}) s (fresh s)
+pub draws_one : (s : TranslationState) → Takes (draws 1) (λ t. Unit {0}) s (fresh s)
 draws_one s = keeps s.frame.temps 0 1 s (left (fresh s)) tt (omega arith) (omega arith) refl refl
 
 -- A function stands before those that its text adds.
@@ -163,7 +163,7 @@ draws_one s = keeps s.frame.temps 0 1 s (left (fresh s)) tt (omega arith) (omega
 abbrev pub enclosed : (count : ℕ) → Measures → Cost → Cost
 enclosed count i m = adds m.texts (count ∷ m.counts) (i ∷ m.functions)
 
-added_first : (s t u : State) (x : Ts) (counts : List ℕ) (ms : List Measures) (count : ℕ) (i : Measures) → t.functions ≡ [] → u.frame.slots ≤ count + 1 →
+added_first : (s t u : TranslationState) (x : Ts) (counts : List ℕ) (ms : List Measures) (count : ℕ) (i : Measures) → t.functions ≡ [] → u.frame.slots ≤ count + 1 →
     IsWithin i (with_body u.frame x) → Adds counts ms t u → Adds (count ∷ counts) (i ∷ ms) s (left (finish s (drawn x u)))
 added_first s t u x counts ms count i e l w h =
     let f : Function Ts = with_body u.frame x in
@@ -174,7 +174,7 @@ added_first s t u x counts ms count i e l w h =
       within = (w, h.within);
     }
 
-pub finished : {m : Cost} (s t : State) {d : Drawn Ts} (own : ℕ) (i : Measures) → t.functions ≡ [] → t.literals ≡ s.literals → t.frame.slots ≤ own + 1 →
+pub finished : {m : Cost} (s t : TranslationState) {d : Drawn Ts} (own : ℕ) (i : Measures) → t.functions ≡ [] → t.literals ≡ s.literals → t.frame.slots ≤ own + 1 →
     own + m.slots ≤ i.nodes → t.frame.temps + m.temps ≤ 6 * i.nodes + 1 →
     Takes m (AccessesWithin (suc i.level)) t d → Takes (enclosed (own + m.slots) i m) (λ x. Unit {0}) s (finish s d)
 finished {m = m} s t {d = drawn x u} own i e q l k j h =

@@ -1,7 +1,7 @@
 -- In a program that has a type, each break stands in a loop of its function.
 use Rattle.std.proofs.Common.{◌≡◌, ℕ, Bool, true, false, List, [], ◌∷◌, refl, sym, ◌∙◌}
 use Rattle.tg_syntax.specs.declared.trees.Param.{Param}
-use Rattle.tg_syntax.specs.Tree.{Exp, Place, Exps, Inits, Decs, FunDecs, no_functions, function}
+use Rattle.tg_syntax.specs.Tree.{Exp, LValue, Exps, Inits, Decs, FunDecs, no_functions, function}
 use Rattle.tg_types.specs.declared.notes.Note.{Note}
 use Rattle.tg_types.specs.Types.{Ty, int_type, string_type, none_type, record_type, array_type, Shape}
 use Rattle.tg_types.specs.Scopes.{Signature, Scope, in_a_loop, in_no_loop, binding, variable_at, function_at, at_of}
@@ -59,7 +59,7 @@ module _ (shapes : List (ℕ × Shape)) (notes : List Note) where
         let d = decs_stand ds scope inner b i hs in (d.0, last_stands none_type es inner t b d.1 ls)
     breaks_stand _ scope _ b i (Has.seq {es = es} {t = t} ls) = last_stands none_type es scope t b i ls
 
-    place_stands : (v : Place) (scope : Scope) (t : Ty) (b : Bool) → scope.in_loop ≡ b → Has.HasPlace shapes notes v
+    place_stands : (v : LValue) (scope : Scope) (t : Ty) (b : Bool) → scope.in_loop ≡ b → Has.HasPlace shapes notes v
         scope t → BreaksStandPlace b v
     place_stands _ scope _ b i (Has.simple at loop e says) = tt
     place_stands _ scope _ b i (Has.field {v = v} at fs k h e f g says) = place_stands v scope (record_type at) b i h

@@ -12,9 +12,9 @@ use Rattle.tg_tree.specs.Lists.{join_txs}
 use Rattle.tg_types.specs.declared.notes.Means.{Means}
 use Rattle.tg_translate.specs.declared.wants.Want.{Want}
 use Rattle.tg_translate.specs.declared.wants.Want.TheVariants as want
-use Rattle.tg_translate.specs.States.{State, Acts, after, give}
+use Rattle.tg_translate.specs.States.{TranslationState, Acts, after, give}
 use Rattle.tg_translate.specs.Wants.{Made, value, done, test_of, value_of, dropped, arms, deliver, followed}
-use Rattle.tg_translate.specs.Constructs.{Place, HeldAll, none_held, own_place, read, want_for, make_array, operation, negation, repeat_while}
+use Rattle.tg_translate.specs.Constructs.{Storage, HeldAll, none_held, own_place, read, want_for, make_array, operation, negation, repeat_while}
 use Rattle.tg_translate.specs.Choices.{left_want, connected, tested, chosen}
 use Rattle.tg_translate.specs.Scopes.{field_number, compares_strings}
 use Rattle.tg_translate.specs.Purity.{assigns_nothing, inits_assign_nothing}
@@ -33,45 +33,45 @@ use Rattle.tg_shapes.proofs.Nesting as nesting
 use Rattle.tg_shapes.proofs.Nesting.{nested}
 
 module _ (asks : Asks) where
-  abbrev IsMade : Where → State → Made → Type 0
+  abbrev IsMade : Where → TranslationState → Made → Type 0
   IsMade c t m = GoodMade asks c.loops t m
 
-  abbrev IsValue : Where → State → Tx → Type 0
+  abbrev IsValue : Where → TranslationState → Tx → Type 0
   IsValue c t x = GoodTx asks c.loops t x
 
-  abbrev AreValues : Where → State → Txs → Type 0
+  abbrev AreValues : Where → TranslationState → Txs → Type 0
   AreValues c t xs = GoodTxs asks c.loops t xs
 
-  abbrev IsCondition : Where → State → Cond → Type 0
+  abbrev IsCondition : Where → TranslationState → Cond → Type 0
   IsCondition c t d = GoodCond asks c.loops t d
 
-  abbrev IsStatement : Where → State → Ts → Type 0
+  abbrev IsStatement : Where → TranslationState → Ts → Type 0
   IsStatement c t x = GoodTs asks c.loops t x
 
-  abbrev AreStatements : Where → State → Stms → Type 0
+  abbrev AreStatements : Where → TranslationState → Stms → Type 0
   AreStatements c t ss = GoodStms asks c.loops t ss
 
-  abbrev IsPlace : Where → State → Place → Type 0
+  abbrev IsPlace : Where → TranslationState → Storage → Type 0
   IsPlace c t p = GoodPlace asks c.loops t p
 
-  abbrev IsHeld : Where → State → HeldAll → Type 0
+  abbrev IsHeld : Where → TranslationState → HeldAll → Type 0
   IsHeld c t all = GoodHeld asks c.loops t all
 
-  abbrev IsBegun : Where → State → Begun → Type 0
+  abbrev IsBegun : Where → TranslationState → Begun → Type 0
   IsBegun c t b = AreStatements c t b.before × IsMade c t b.last
 
-  abbrev DeclaredIn : Where → List ℕ → State → Stms → Type 0
+  abbrev DeclaredIn : Where → List ℕ → TranslationState → Stms → Type 0
   DeclaredIn c own t ss = AreStatements c t ss × Ready asks (with_own own c) t
 
   -- Connectives and operators, where the right side is translated to what is fine.
 
-  connected_good : (o : Op) (n : ℕ) (s : State) (x y : Cond) → GoodCond asks n s x →
+  connected_good : (o : Op) (n : ℕ) (s : TranslationState) (x y : Cond) → GoodCond asks n s x →
       GoodCond asks n s y →
       GoodCond asks n s (connected o x y)
   connected_good And n s x y h k = (h, k)
   connected_good o n s x y h k = (h, k)
 
-  chosen_good : (o : Op) (n : ℕ) (s : State) (w : Want) (d : Cond) (m : Made) → GoodWant asks s w → GoodCond asks n s d →
+  chosen_good : (o : Op) (n : ℕ) (s : TranslationState) (w : Want) (d : Cond) (m : Made) → GoodWant asks s w → GoodCond asks n s d →
       GoodMade asks n s m → GoodTs asks n s (chosen o w d m)
   chosen_good And n s w d m g h k = (
     h,
@@ -85,11 +85,11 @@ module _ (asks : Asks) where
     wanting.statement_good asks n s w m g k,
   )
 
-  abbrev RightYields : Where → State → (Want → Acts Made) → Type 0
-  RightYields c s right = (t : State) (w : Want) → Step asks c.kept s t → Ready asks c t → GoodWant asks t w → Yields asks c t (IsMade c)
+  abbrev RightYields : Where → TranslationState → (Want → Acts Made) → Type 0
+  RightYields c s right = (t : TranslationState) (w : Want) → Step asks c.kept s t → Ready asks c t → GoodWant asks t w → Yields asks c t (IsMade c)
       (right w t)
 
-  module _ (c : Where) (s : State) (right : Want → Acts Made) (then_right : RightYields c s right) where
+  module _ (c : Where) (s : TranslationState) (right : Want → Acts Made) (then_right : RightYields c s right) where
     into_arms : (o : Op) (w : Want) (d : Cond) → Ready asks c s → GoodWant asks s w → IsCondition c s d →
         Yields asks c s (IsMade c) (after (arms w s) (λ a t. after (right a t) (λ m. give (deliver w a (chosen o a d m)))))
     into_arms o w d r g h =
@@ -134,15 +134,15 @@ module _ (asks : Asks) where
         (wanting.test_good asks c.loops s left h)
     left_yields o meaning direct w left r g h = operator_yields o (compares_strings meaning) direct left r h
 
-  left_want_good : (s : State) (o : Op) → GoodWant asks s (left_want o)
+  left_want_good : (s : TranslationState) (o : Op) → GoodWant asks s (left_want o)
   left_want_good s And = tt
   left_want_good s Or = tt
   left_want_good s o = tt
 
   -- a declaration, where its value is translated to what is fine
-  declaration_yields : (c : Where) (s : State) (at : ℕ) (e : Want → Acts Made) → Ready asks c s →
+  declaration_yields : (c : Where) (s : TranslationState) (at : ℕ) (e : Want → Acts Made) → Ready asks c s →
       (asks.temps → AreApart (at ∷ []) c.kept) →
-      ((t : State) (w : Want) → Ready asks (owning at c) t → GoodWant asks t w → Yields asks (owning at c) t (IsMade c) (e w t)) →
+      ((t : TranslationState) (w : Want) → Ready asks (owning at c) t → GoodWant asks t w → Yields asks (owning at c) t (IsMade c) (e w t)) →
       Yields asks c s (λ t x. IsStatement c t x × Ready asks (owning at c) t)
       (declaration_of asks.findings.escapes c.within.level at e s)
   declaration_yields c s at e r apart more =
@@ -155,20 +155,20 @@ module _ (asks : Asks) where
       (λ m u su ru k. constructing.assign_yields (own_place home) m ru
       (place_on su c.loops (own_place home) p) k)))
 
-  abbrev Walks : Where → State → (Want → Acts Made) → Type 0
+  abbrev Walks : Where → TranslationState → (Want → Acts Made) → Type 0
   Walks c s e = (w : Want) → Ready asks c s → GoodWant asks s w → Yields asks c s (IsMade c) (e w s)
 
-  of_value : (e : Exp) (c : Where) (s : State) → Yields asks c s (IsMade c) (expression asks.findings e want.Value c.within s) →
+  of_value : (e : Exp) (c : Where) (s : TranslationState) → Yields asks c s (IsMade c) (expression asks.findings e want.Value c.within s) →
       Yields asks c s (IsValue c) (after (expression asks.findings e want.Value c.within s) value_of)
   of_value e c s h = wanting.value_from_yields h
 
-  of_statement : (e : Exp) (c : Where) (s : State) → Yields asks c s (IsMade c)
+  of_statement : (e : Exp) (c : Where) (s : TranslationState) → Yields asks c s (IsMade c)
       (expression asks.findings e want.Dropped c.within s) →
       Yields asks c s (IsStatement c) (after (expression asks.findings e want.Dropped c.within s) (λ m. give (dropped m)))
   of_statement e c s h = wanting.statement_from_yields h
 
   mutual
-    walk : (e : Exp) (c : Where) (s : State) → (asks.breaks → BreaksStand c.in_loop e) → (asks.temps → Reaches asks.findings c.own c.kept e) →
+    walk : (e : Exp) (c : Where) (s : TranslationState) → (asks.breaks → BreaksStand c.in_loop e) → (asks.temps → Reaches asks.findings c.own c.kept e) →
         Walks c s (λ w. expression asks.findings e w c.within)
     walk (Nil _) c s b q w r g = given (value (Const 0)) r tt
     walk (Int _ n) c s b q w r g = given (value (Const n)) r tt
@@ -287,7 +287,7 @@ module _ (asks : Asks) where
         (λ begun t st rt k. wanting.behind_yields w begun.before begun.last rt
         (want_on st w g) k.0 k.1)
 
-    walk_place : (v : source.Place) (c : Where) (s : State) → (asks.breaks → BreaksStandPlace c.in_loop v) →
+    walk_place : (v : source.LValue) (c : Where) (s : TranslationState) → (asks.breaks → BreaksStandPlace c.in_loop v) →
         (asks.temps → ReachesPlace asks.findings c.own c.kept v) → Ready asks c s →
         Yields asks c s (IsPlace c) (locate asks.findings v c.within s)
     walk_place (Simple x) c s b q r = scoping.variable_yields asks c s (asks.findings.meaning (at_of x)) r q
@@ -304,7 +304,7 @@ module _ (asks : Asks) where
         (tx_on su c.loops (read p)
         (constructing.read_good asks c.loops t p k)) j))
 
-    walk_values : (es : Exps) (before : Txs) (c : Where) (s : State) → (asks.breaks → BreaksStandExps c.in_loop es) →
+    walk_values : (es : Exps) (before : Txs) (c : Where) (s : TranslationState) → (asks.breaks → BreaksStandExps c.in_loop es) →
         (asks.temps → ReachesExps asks.findings c.own c.kept es) →
         Ready asks c s → AreValues c s before → Yields asks c s (AreValues c) (values asks.findings es before c.within s)
     walk_values no_exps before c s b q r h = given before r h
@@ -314,7 +314,7 @@ module _ (asks : Asks) where
         (join_fine_txs asks.breaks (KnowsAt asks t) c.loops before (tx x no_txs)
         (txs_on st c.loops before h) (k, tt)))
 
-    walk_fields : (is : Inits) (direct : Bool) (before : HeldAll) (c : Where) (s : State) →
+    walk_fields : (is : Inits) (direct : Bool) (before : HeldAll) (c : Where) (s : TranslationState) →
         (asks.breaks → BreaksStandInits c.in_loop is) →
         (asks.temps → ReachesInits asks.findings c.own c.kept is) → Ready asks c s → IsHeld c s before → Yields asks c s (IsHeld c)
         (fields asks.findings is direct before c.within s)
@@ -326,7 +326,7 @@ module _ (asks : Asks) where
         (held_on st c.loops before h) k)
         (λ more u su ru j. walk_fields rest direct more c u (λ a. (b a).1) (λ a. (q a).1) ru j))
 
-    walk_sequence : (es : Exps) (w : Want) (before : Stms) (c : Where) (s : State) →
+    walk_sequence : (es : Exps) (w : Want) (before : Stms) (c : Where) (s : TranslationState) →
         (asks.breaks → BreaksStandExps c.in_loop es) →
         (asks.temps → ReachesExps asks.findings c.own c.kept es) → Ready asks c s → GoodWant asks s w → AreStatements c s before →
         Yields asks c s (IsBegun c) (sequence asks.findings es w before c.within s)
@@ -344,7 +344,7 @@ module _ (asks : Asks) where
         (wanting.followed_good asks c.loops t before x
         (stms_on st c.loops before h) k))
 
-    walk_decs : (ds : Decs) (before : Stms) (c : Where) (s : State) → (asks.breaks → BreaksStandDecs c.in_loop ds) →
+    walk_decs : (ds : Decs) (before : Stms) (c : Where) (s : TranslationState) → (asks.breaks → BreaksStandDecs c.in_loop ds) →
         (asks.temps → ReachesDecs asks.findings c.own c.kept ds) →
         Ready asks c s → AreStatements c s before → Yields asks c s (DeclaredIn c (owned_by ds c.own))
         (declarations asks.findings ds before c.within s)
@@ -368,7 +368,7 @@ module _ (asks : Asks) where
         (λ u su ru. walk_decs rest before c u (λ a. (b a).1) (λ a. (q a).1) ru
         (stms_on su c.loops before h))
 
-    walk_bodies : (fs : FunDecs) (label : ℕ) (c : Where) (s : State) → (asks.breaks → BreaksStandBodies fs) →
+    walk_bodies : (fs : FunDecs) (label : ℕ) (c : Where) (s : TranslationState) → (asks.breaks → BreaksStandBodies fs) →
         (asks.temps → ReachesBodies asks.findings (c.own ++ c.kept) fs) →
         Ready asks c s → nesting.Placed asks c label (nesting.after_group asks fs label) s
         (bodies asks.findings fs label c.within s)
@@ -383,7 +383,7 @@ module _ (asks : Asks) where
         (λ t w rt g. walk e (nested (asks.findings.keeps_link (at_of f)) params c) t (λ a. (b a).0) (λ a. (q a).1) w rt g))
         (λ t rt. walk_bodies rest (label + 1) c t (λ a. (b a).1) (λ a. (q a).2) rt)
 
-  pub walked : (e : Exp) (c : Where) (s : State) (w : Want) → (asks.breaks → BreaksStand c.in_loop e) →
+  pub walked : (e : Exp) (c : Where) (s : TranslationState) (w : Want) → (asks.breaks → BreaksStand c.in_loop e) →
       (asks.temps → Reaches asks.findings c.own c.kept e) →
       Ready asks c s → GoodWant asks s w → Yields asks c s (IsMade c) (expression asks.findings e w c.within s)
   walked e c s w b q r g = walk e c s b q w r g

@@ -3,7 +3,7 @@
 use Rattle.std.specs.Prelude.{ℕ, ◌+◌, List, [], ◌∷◌, ◌++◌, Bool, true, false}
 use Rattle.tg_syntax.specs.declared.trees.Param.{Param}
 use Rattle.tg_syntax.specs.Tree.{Exp, Nil, Break, Int, Text, Read, Call, Neg, Binary, Make, Fill}
-use Rattle.tg_syntax.specs.Tree.{Assign, If, When, While, For, Let, Seq, Place, Simple, Field}
+use Rattle.tg_syntax.specs.Tree.{Assign, If, When, While, For, Let, Seq, LValue, Simple, Field}
 use Rattle.tg_syntax.specs.Tree.{Index, Exps, no_exps, exp, Inits, no_inits, init, Decs, no_decs}
 use Rattle.tg_syntax.specs.Tree.{types, variable, functions, FunDecs, no_functions, function}
 use Rattle.tg_translate.specs.Functions.{at_of}
@@ -40,7 +40,7 @@ module _ (escapes : (at : ℕ) → Bool) where
     escaping (Let _ ds es) = decs_escaping ds + exps_escaping es
     escaping (Seq _ es) = exps_escaping es
 
-    pub place_escaping : Place → ℕ
+    pub place_escaping : LValue → ℕ
     place_escaping (Simple _) = 0
     place_escaping (Field v _) = place_escaping v
     place_escaping (Index v x) = place_escaping v + escaping x
@@ -82,7 +82,7 @@ module _ (escapes : (at : ℕ) → Bool) where
     escaping_inside (Let _ ds es) = decs_escaping_inside ds ++ exps_escaping_inside es
     escaping_inside (Seq _ es) = exps_escaping_inside es
 
-    pub place_escaping_inside : Place → List ℕ
+    pub place_escaping_inside : LValue → List ℕ
     place_escaping_inside (Simple _) = []
     place_escaping_inside (Field v _) = place_escaping_inside v
     place_escaping_inside (Index v x) = place_escaping_inside v ++ escaping_inside x

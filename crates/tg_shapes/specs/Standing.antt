@@ -5,7 +5,7 @@ use Rattle.std.specs.Prelude.{Option, Some}
 use Rattle.std.specs.List.{Contains}
 use Rattle.tg_syntax.specs.declared.trees.Param.{Param}
 use Rattle.tg_syntax.specs.Tree.{Exp, Nil, Break, Int, Text, Read, Call, Neg, Binary, Make, Fill}
-use Rattle.tg_syntax.specs.Tree.{Assign, If, When, While, For, Let, Seq, Place, Simple, Field}
+use Rattle.tg_syntax.specs.Tree.{Assign, If, When, While, For, Let, Seq, LValue, Simple, Field}
 use Rattle.tg_syntax.specs.Tree.{Index, Exps, no_exps, exp, Inits, no_inits, init, Decs, no_decs}
 use Rattle.tg_syntax.specs.Tree.{types, variable, functions, FunDecs, no_functions, function}
 use Rattle.tg_types.specs.declared.notes.Means.{Means}
@@ -34,7 +34,7 @@ abbrev mutual
   BreaksStand b (Let _ ds es) = BreaksStandDecs b ds × BreaksStandExps b es
   BreaksStand b (Seq _ es) = BreaksStandExps b es
 
-  pub BreaksStandPlace : (in_loop : Bool) → Place → Type 0
+  pub BreaksStandPlace : (in_loop : Bool) → LValue → Type 0
   BreaksStandPlace b (Simple _) = Unit {0}
   BreaksStandPlace b (Field v _) = BreaksStandPlace b v
   BreaksStandPlace b (Index v x) = BreaksStandPlace b v × BreaksStand b x
@@ -102,7 +102,7 @@ module _ (findings : Findings) where
         ReachesDecs own around ds × ReachesExps (owned_by ds own) around es
     Reaches own around (Seq _ es) = ReachesExps own around es
 
-    pub ReachesPlace : (own around : List ℕ) → Place → Type 0
+    pub ReachesPlace : (own around : List ℕ) → LValue → Type 0
     ReachesPlace own around (Simple x) = IsInReach own (findings.meaning (at_of x))
     ReachesPlace own around (Field v _) = ReachesPlace own around v
     ReachesPlace own around (Index v x) = ReachesPlace own around v × Reaches own around x

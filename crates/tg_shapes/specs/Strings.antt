@@ -1,7 +1,7 @@
 -- The strings of a program's text, in the order of the text.
 use Rattle.std.specs.Prelude.{ℕ, List, [], ◌∷◌, ◌++◌}
 use Rattle.tg_syntax.specs.Tree.{Exp, Nil, Break, Int, Text, Read, Call, Neg, Binary, Make, Fill}
-use Rattle.tg_syntax.specs.Tree.{Assign, If, When, While, For, Let, Seq, Place, Simple, Field}
+use Rattle.tg_syntax.specs.Tree.{Assign, If, When, While, For, Let, Seq, LValue, Simple, Field}
 use Rattle.tg_syntax.specs.Tree.{Index, Exps, no_exps, exp, Inits, no_inits, init, Decs, no_decs}
 use Rattle.tg_syntax.specs.Tree.{types, variable, functions, FunDecs, no_functions, function}
 
@@ -25,7 +25,7 @@ abbrev mutual
   strings (Let _ ds es) = decs_strings ds ++ exps_strings es
   strings (Seq _ es) = exps_strings es
 
-  pub place_strings : Place → List (List ℕ)
+  pub place_strings : LValue → List (List ℕ)
   place_strings (Simple _) = []
   place_strings (Field v _) = place_strings v
   place_strings (Index v x) = place_strings v ++ strings x

@@ -30,14 +30,14 @@ IsFound =
 abbrev found : Findings
 found = findings notes escaping linking
 
-abbrev pub IsMeant : Outcome Ending → Type 0
-IsMeant o = (o.end ≡ ended (by_exit 16)) × (o.output ≡ [])
+abbrev pub ExitsBySixteen : Outcome Ending → Type 0
+ExitsBySixteen o = (o.end ≡ ended (by_exit 16)) × (o.output ≡ [])
 
 abbrev pub IsSo : Ran → Type 0
 IsSo r = (r.stop ≡ Ended (Exit (pos 16))) × (r.output ≡ [])
 
 abbrev pub SourceEnds : Type 0
-SourceEnds = IsMeant (evaluate names program [] 64 65536 20)
+SourceEnds = ExitsBySixteen (evaluate names program [] 64 65536 20)
 
 abbrev pub TreesEnd : Type 0
 TreesEnd = IsSo (as_trees program found 20)

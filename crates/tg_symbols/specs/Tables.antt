@@ -1,6 +1,7 @@
 -- Scoped symbol tables (Appel, chapter 5): names with what they have, the newest first; and how the
 -- entries of one name are linked.
-use Rattle.std.specs.Prelude.{◌≡◌, ◌≤◌, ℕ, suc, ◌==◌, nat_eq, List, [], ◌∷◌, length, map, reverse, Option, Some, None, if◌then◌else◌}
+use Rattle.std.specs.Prelude.{◌≡◌, ◌≤◌, ℕ, suc, ◌==◌, nat_eq, List, [], ◌∷◌, length, map, reverse}
+use Rattle.std.specs.Prelude.{Option, Some, None, if◌then◌else◌}
 use Rattle.std.specs.HashMap.{get}
 use Rattle.std.specs.HashMap.{HashMap}
 use Rattle.tg_symbols.specs.declared.tables.Entry.{Entry}

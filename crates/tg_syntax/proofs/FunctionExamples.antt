@@ -9,7 +9,7 @@ use Rattle.tg_syntax.specs.declared.tokens.Ident.{Ident}
 use Rattle.tg_syntax.specs.declared.trees.Param.{Param}
 use Rattle.tg_syntax.specs.declared.trees.Op.TheVariants as op
 use Rattle.tg_syntax.specs.Tree as tree
-use Rattle.tg_syntax.specs.Tree.{Exp, Place, Exps, no_exps, exp, no_inits, init, Decs, no_decs, FunDecs, no_functions}
+use Rattle.tg_syntax.specs.Tree.{Exp, LValue, Exps, no_exps, exp, no_inits, init, Decs, no_decs, FunDecs, no_functions}
 use Rattle.tg_syntax.specs.Functions.{Measures, program_functions, program_size}
 
 abbrev names : List (List ℕ)
@@ -30,7 +30,7 @@ exps (e ∷ es) = exp e (exps es)
 abbrev num : ℕ → Exp
 num n = tree.Int here n
 
-abbrev simple : String → Place
+abbrev simple : String → LValue
 simple x = tree.Simple (id x 0)
 
 abbrev var : String → Exp

@@ -5,7 +5,7 @@ use Rattle.std.proofs.lemmas.List.{map-append}
 use Rattle.std.proofs.lemmas.List.Sums.{sum_by-append, sum_by-cons}
 use Rattle.tg_syntax.specs.Measures.{size, inner, inner_place, inner_exps, inner_inits, inner_decs, inner_functions}
 use Rattle.tg_syntax.specs.Functions.{Measures, Levels, measures, own, own_params, own_functions, own_decs, declared, declared_place, declared_exps, declared_inits, declared_decs, declared_functions, program_size}
-use Rattle.tg_syntax.specs.Tree.{Exp, Nil, Break, Int, Text, Read, Call, Neg, Binary, Make, Fill, Assign, If, When, While, For, Let, Seq, Place, Simple, Field, Index, Exps, no_exps, exp, Inits, no_inits, init, Decs, no_decs, types, variable, functions, FunDecs, no_functions, function}
+use Rattle.tg_syntax.specs.Tree.{Exp, Nil, Break, Int, Text, Read, Call, Neg, Binary, Make, Fill, Assign, If, When, While, For, Let, Seq, LValue, Simple, Field, Index, Exps, no_exps, exp, Inits, no_inits, init, Decs, no_decs, types, variable, functions, FunDecs, no_functions, function}
 
 abbrev pub sizes_in : List Measures → ℕ
 sizes_in fs = sum_by (λ f. f.size) fs
@@ -42,7 +42,7 @@ mutual
       two _ _ (declared_decs n seen ds) (declared_exps n (own_decs n ds seen) es) (inner_decs_is n seen ds) (inner_exps_is n (own_decs n ds seen) es)
   inner_is n seen (Seq _ es) = inner_exps_is n seen es
 
-  pub inner_place_is : (n : ℕ) (seen : Levels) (v : Place) → inner_place v ≡ sizes_in (declared_place n seen v)
+  pub inner_place_is : (n : ℕ) (seen : Levels) (v : LValue) → inner_place v ≡ sizes_in (declared_place n seen v)
   inner_place_is n seen (Simple _) = refl
   inner_place_is n seen (Field v _) = inner_place_is n seen v
   inner_place_is n seen (Index v e) = two _ _ (declared_place n seen v) (declared n seen e) (inner_place_is n seen v) (inner_is n seen e)
@@ -106,7 +106,7 @@ mutual
   same_texts n s t (Let _ ds es) = joins _ _ _ _ (same_decs_texts n s t ds) (same_exps_texts n (own_decs n ds s) (own_decs n ds t) es)
   same_texts n s t (Seq _ es) = same_exps_texts n s t es
 
-  pub same_place_texts : (n : ℕ) (s t : Levels) (v : Place) → texts (declared_place n s v) ≡ texts (declared_place n t v)
+  pub same_place_texts : (n : ℕ) (s t : Levels) (v : LValue) → texts (declared_place n s v) ≡ texts (declared_place n t v)
   same_place_texts n s t (Simple _) = refl
   same_place_texts n s t (Field v _) = same_place_texts n s t v
   same_place_texts n s t (Index v e) = joins _ _ _ _ (same_place_texts n s t v) (same_texts n s t e)

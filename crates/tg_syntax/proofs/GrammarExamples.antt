@@ -11,7 +11,7 @@ use Rattle.tg_syntax.specs.declared.tokens.Ident.{Ident}
 use Rattle.tg_syntax.specs.declared.tokens.Word.{Word}
 use Rattle.tg_syntax.specs.declared.trees.Op.{Op}
 use Rattle.tg_syntax.specs.declared.trees.Op.TheVariants as op
-use Rattle.tg_syntax.specs.Tree.{Form, TypeDec, Exp, Place, no_exps, exp, no_decs, types}
+use Rattle.tg_syntax.specs.Tree.{Form, TypeDec, Exp, LValue, no_exps, exp, no_decs, types}
 use Rattle.tg_syntax.specs.Lexing.{spanned}
 use Rattle.tg_syntax.specs.Tails.{ends_tail, is_short}
 use Rattle.tg_syntax.specs.Nesting.{after_token, nesting_of}
@@ -41,7 +41,7 @@ abbrev span : ℕ → ℕ → Span
 span from to = record { from = from; to = to }
 
 abbrev read : ℕ → ℕ → Exp
-read n from = Exp.Read (span from (from + 1)) (Place.Simple (record { name = record { 0 = n }; span = span from (from + 1) }))
+read n from = Exp.Read (span from (from + 1)) (LValue.Simple (record { name = record { 0 = n }; span = span from (from + 1) }))
 
 abbrev int : ℕ → ℕ → Exp
 int n from = Exp.Int (span from (from + 1)) n
@@ -136,7 +136,7 @@ not_outer (tail_else t u v i h j k short l m) = true_false short
 
 -- tails stand at the right end of what they end, and are short where their last expression is
 abbrev assigned : Exp → Exp
-assigned e = Exp.Assign (span 0 9) (Place.Simple (record { name = record { 0 = 0 }; span = span 0 1 })) e
+assigned e = Exp.Assign (span 0 9) (LValue.Simple (record { name = record { 0 = 0 }; span = span 0 1 })) e
 
 abbrev without_else : Exp → Exp
 without_else e = Exp.When (span 0 9) (int 1 3) e

@@ -6,7 +6,7 @@ use Rattle.tg_syntax.specs.declared.tokens.Ident.{Ident}
 use Rattle.tg_syntax.specs.declared.trees.Param.{Param}
 use Rattle.tg_syntax.specs.Tree.{Form, Alias, Fields, Array, TypeDec, Exp, Nil, Break, Int, Text}
 use Rattle.tg_syntax.specs.Tree.{Read, Call, Neg, Binary, Make, Fill, Assign, If, When, While, For}
-use Rattle.tg_syntax.specs.Tree.{Let, Seq, Place, Simple, Field, Index, Exps, no_exps, exp, Inits}
+use Rattle.tg_syntax.specs.Tree.{Let, Seq, LValue, Simple, Field, Index, Exps, no_exps, exp, Inits}
 use Rattle.tg_syntax.specs.Tree.{no_inits, init, Decs, no_decs, types, variable, functions, FunDecs}
 use Rattle.tg_syntax.specs.Tree.{no_functions, function}
 
@@ -54,7 +54,7 @@ abbrev mutual
   beginnings (Let _ ds es) before = exps_beginnings es (decs_beginnings ds before)
   beginnings (Seq _ es) before = exps_beginnings es before
 
-  pub place_beginnings : Place → (before : List ℕ) → List ℕ
+  pub place_beginnings : LValue → (before : List ℕ) → List ℕ
   place_beginnings (Simple x) before = x.span.from ∷ before
   place_beginnings (Field v f) before = f.span.from ∷ place_beginnings v before
   place_beginnings (Index v e) before = beginnings e (place_beginnings v before)

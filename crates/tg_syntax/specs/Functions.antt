@@ -5,7 +5,7 @@ use Rattle.std.specs.Prelude.{if◌then◌else◌}
 use Rattle.tg_syntax.specs.declared.tokens.Ident.{Ident}
 use Rattle.tg_syntax.specs.declared.trees.Param.{Param}
 use Rattle.tg_syntax.specs.Tree.{Exp, Nil, Break, Int, Text, Read, Call, Neg, Binary, Make, Fill}
-use Rattle.tg_syntax.specs.Tree.{Assign, If, When, While, For, Let, Seq, Place, Simple, Field}
+use Rattle.tg_syntax.specs.Tree.{Assign, If, When, While, For, Let, Seq, LValue, Simple, Field}
 use Rattle.tg_syntax.specs.Tree.{Index, Exps, no_exps, exp, Inits, no_inits, init, Decs, no_decs}
 use Rattle.tg_syntax.specs.Tree.{types, variable, functions, FunDecs, no_functions, function}
 use Rattle.tg_syntax.specs.Spans.{span_of}
@@ -65,7 +65,7 @@ abbrev mutual
   hops n seen (Let _ ds es) = decs_hops n seen ds + exps_hops n (own_decs n ds seen) es
   hops n seen (Seq _ es) = exps_hops n seen es
 
-  pub place_hops : (here : ℕ) → Levels → Place → ℕ
+  pub place_hops : (here : ℕ) → Levels → LValue → ℕ
   place_hops n seen (Simple x) = crossed n seen x
   place_hops n seen (Field v _) = place_hops n seen v
   place_hops n seen (Index v e) = place_hops n seen v + hops n seen e
@@ -133,7 +133,7 @@ abbrev mutual
   declared n seen (Let _ ds es) = declared_decs n seen ds ++ declared_exps n (own_decs n ds seen) es
   declared n seen (Seq _ es) = declared_exps n seen es
 
-  pub declared_place : (here : ℕ) → Levels → Place → List Measures
+  pub declared_place : (here : ℕ) → Levels → LValue → List Measures
   declared_place n seen (Simple _) = []
   declared_place n seen (Field v _) = declared_place n seen v
   declared_place n seen (Index v e) = declared_place n seen v ++ declared n seen e

@@ -20,7 +20,7 @@ use Rattle.tg_syntax.specs.declared.trees.Op.{Op}
 use Rattle.tg_syntax.specs.declared.trees.Op.TheVariants as op
 use Rattle.tg_syntax.specs.Tree.{Form, Alias, Fields, Array, Exp, Nil, Break, Int, Text, Read, Call}
 use Rattle.tg_syntax.specs.Tree.{Neg, Binary, Make, Fill, Assign, If, When, While, For, Let, Seq}
-use Rattle.tg_syntax.specs.Tree.{Place, Simple, Field, Index, Exps, no_exps, exp, Inits, no_inits}
+use Rattle.tg_syntax.specs.Tree.{LValue, Simple, Field, Index, Exps, no_exps, exp, Inits, no_inits}
 use Rattle.tg_syntax.specs.Tree.{init, Decs, no_decs}
 use Rattle.tg_syntax.specs.Spans.{span_of, joined}
 use Rattle.tg_syntax.specs.Tails.{ends_tail, is_short}
@@ -111,7 +111,7 @@ mutual
   pub data Reads : Level → List Spanned → Exp → Type 0 where
     -- exp = lvalue ":=" exp | or
     whole_assign :
-        {a b : List Spanned} {s : Span} {v : Place} {e : Exp} (t : Spanned) →
+        {a b : List Spanned} {s : Span} {v : LValue} {e : Exp} (t : Spanned) →
         IsPlace a s v → IsSign t sign.Assign → Reads Whole b e →
         Reads Whole (a ++ t ∷ b) (Assign (joined s (span_of e)) v e)
     whole_up : {a : List Spanned} {e : Exp} → Reads Disjunction a e → Reads Whole a e
@@ -156,7 +156,7 @@ mutual
     unary_tail : {a : List Spanned} {e : Exp} → Reads Tail a e → Reads Unary a e
     -- primary = lvalue | "nil" | int | string | "break"
     primary_place :
-        {a : List Spanned} {s : Span} {v : Place} →
+        {a : List Spanned} {s : Span} {v : LValue} →
         IsPlace a s v →
         Reads Primary a (Read s v)
     primary_nil : (t : Spanned) → IsWord t WNil → Reads Primary (t ∷ []) (Nil t.span)
@@ -219,14 +219,14 @@ mutual
         Reads Tail (t ∷ l ∷ (a ++ r ∷ o ∷ b)) (Fill (joined t.span (span_of x)) k n x)
 
   -- lvalue = id | lvalue "." id | lvalue "[" exp "]", with its span
-  pub data IsPlace : List Spanned → Span → Place → Type 0 where
+  pub data IsPlace : List Spanned → Span → LValue → Type 0 where
     place_simple : (t : Spanned) {x : Ident} → IsIdent t x → IsPlace (t ∷ []) t.span (Simple x)
     place_field :
-        {a : List Spanned} {s : Span} {v : Place} (d t : Spanned) {x : Ident} →
+        {a : List Spanned} {s : Span} {v : LValue} (d t : Spanned) {x : Ident} →
         IsPlace a s v → IsSign d Dot → IsIdent t x →
         IsPlace (a ++ d ∷ t ∷ []) (joined s t.span) (Field v x)
     place_index :
-        {a b : List Spanned} {s : Span} {v : Place} {e : Exp} (l r : Spanned) →
+        {a b : List Spanned} {s : Span} {v : LValue} {e : Exp} (l r : Spanned) →
         IsPlace a s v → IsSign l LeftBracket → Reads Whole b e → IsSign r RightBracket →
         IsPlace (a ++ l ∷ (b ++ r ∷ [])) (joined s r.span) (Index v e)
 

@@ -6,15 +6,15 @@ use Rattle.tg_syntax.specs.declared.tokens.Spanned.{Spanned}
 use Rattle.tg_syntax.specs.Spellings.{Spells, HasTokenForm, is_blank}
 
 -- the text begins with these two bytes
-abbrev pub Begins : ℕ → ℕ → List ℕ → Type 0
-Begins a b (x ∷ y ∷ rest) = (x ≡ a) × (y ≡ b)
-Begins a b _ = ⊥
+abbrev pub BeginsWithPair : ℕ → ℕ → List ℕ → Type 0
+BeginsWithPair a b (x ∷ y ∷ rest) = (x ≡ a) × (y ≡ b)
+BeginsWithPair a b _ = ⊥
 
 abbrev pub OpensComment : List ℕ → Type 0
-OpensComment text = Begins 47 42 text
+OpensComment text = BeginsWithPair 47 42 text
 
 abbrev pub ClosesComment : List ℕ → Type 0
-ClosesComment text = Begins 42 47 text
+ClosesComment text = BeginsWithPair 42 47 text
 
 -- with its last bytes the text closes so many comments that are open, and before them it leaves
 -- none closed; comments nest

@@ -2,7 +2,7 @@
 use Rattle.std.specs.Prelude.{ℕ, ◌+◌, min, length, sum_by}
 use Rattle.tg_syntax.specs.Tree.{Form, Alias, Fields, Array, TypeDec, Exp, Nil, Break, Int, Text}
 use Rattle.tg_syntax.specs.Tree.{Read, Call, Neg, Binary, Make, Fill, Assign, If, When, While, For}
-use Rattle.tg_syntax.specs.Tree.{Let, Seq, Place, Simple, Field, Index, Exps, no_exps, exp, Inits}
+use Rattle.tg_syntax.specs.Tree.{Let, Seq, LValue, Simple, Field, Index, Exps, no_exps, exp, Inits}
 use Rattle.tg_syntax.specs.Tree.{no_inits, init, Decs, no_decs, types, variable, functions, FunDecs}
 use Rattle.tg_syntax.specs.Tree.{no_functions, function}
 
@@ -39,7 +39,7 @@ abbrev mutual
   size (Let _ ds es) = 1 + decs_size ds + exps_size es
   size (Seq _ es) = 1 + exps_size es
 
-  pub place_size : Place → ℕ
+  pub place_size : LValue → ℕ
   place_size (Simple _) = 1
   place_size (Field v _) = 1 + place_size v
   place_size (Index v e) = 1 + place_size v + size e
@@ -79,7 +79,7 @@ abbrev mutual
   inner (Let _ ds es) = inner_decs ds + inner_exps es
   inner (Seq _ es) = inner_exps es
 
-  pub inner_place : Place → ℕ
+  pub inner_place : LValue → ℕ
   inner_place (Simple _) = 0
   inner_place (Field v _) = inner_place v
   inner_place (Index v e) = inner_place v + inner e

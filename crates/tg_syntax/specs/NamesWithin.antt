@@ -2,7 +2,7 @@
 use Rattle.std.specs.Prelude.{ℕ, ◌<◌, List, Option}
 use Rattle.tg_syntax.specs.declared.tokens.Ident.{Ident}
 use Rattle.tg_syntax.specs.declared.trees.Param.{Param}
-use Rattle.tg_syntax.specs.Tree.{Form, TypeDec, Exp, Place, Exps, Inits, Decs, FunDecs}
+use Rattle.tg_syntax.specs.Tree.{Form, TypeDec, Exp, LValue, Exps, Inits, Decs, FunDecs}
 use Rattle.tg_syntax.specs.Throughout.{ThroughParams, ThroughForm, ThroughTypes, ThroughKind}
 use Rattle.tg_syntax.specs.Throughout.{Throughout, ThroughPlace, ThroughExps, ThroughInits}
 use Rattle.tg_syntax.specs.Throughout.{ThroughDecs, ThroughFunctions}
@@ -30,7 +30,7 @@ TypesWithin n ds = ThroughTypes (IsWithin n) AnyByte ds
 abbrev pub KindWithin : (length : ℕ) → Option Ident → Type 0
 KindWithin n kind = ThroughKind (IsWithin n) AnyByte kind
 
-abbrev pub PlaceWithin : (length : ℕ) → Place → Type 0
+abbrev pub PlaceWithin : (length : ℕ) → LValue → Type 0
 PlaceWithin n v = ThroughPlace (IsWithin n) AnyByte v
 
 abbrev pub ExpsWithin : (length : ℕ) → Exps → Type 0

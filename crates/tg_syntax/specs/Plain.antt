@@ -17,7 +17,7 @@ use Rattle.tg_syntax.specs.declared.trees.FunDecs.{end_of-FunDec, more_of-FunDec
 use Rattle.tg_syntax.specs.declared.trees.TypeDec.{TypeDec as CodeTypeDec}
 use Rattle.tg_syntax.specs.declared.trees.Form.{Form as CodeForm}
 use Rattle.tg_syntax.specs.declared.trees.Form.TheVariants.{Alias, Fields, Array}
-use Rattle.tg_syntax.specs.Tree.{Form, TypeDec, Exp, Place, Exps, no_exps, exp, Inits, no_inits}
+use Rattle.tg_syntax.specs.Tree.{Form, TypeDec, Exp, LValue, Exps, no_exps, exp, Inits, no_inits}
 use Rattle.tg_syntax.specs.Tree.{init, Decs, no_decs, types, variable, functions, FunDecs}
 use Rattle.tg_syntax.specs.Tree.{no_functions, function}
 
@@ -52,10 +52,10 @@ abbrev mutual
   plain_kind (Let' _ ds es) s = Exp.Let s (plain_decs ds) (plain_exps es)
   plain_kind (Seq es) s = Exp.Seq s (plain_exps es)
 
-  pub plain_place : Var → Place
-  plain_place (Simple x) = Place.Simple x
-  plain_place (Field' _ v f) = Place.Field (plain_place v) f
-  plain_place (Index' _ v _ s e) = Place.Index (plain_place v) (plain_kind e s)
+  pub plain_place : Var → LValue
+  plain_place (Simple x) = LValue.Simple x
+  plain_place (Field' _ v f) = LValue.Field (plain_place v) f
+  plain_place (Index' _ v _ s e) = LValue.Index (plain_place v) (plain_kind e s)
 
   pub plain_exps : CodeExps → Exps
   plain_exps (Exps' _ row) = plain_exp_row row

@@ -8,7 +8,7 @@ use Rattle.tg_syntax.specs.Grammar.{IsProgram}
 use Rattle.tg_syntax.specs.Nesting.{NestsWithin}
 
 -- some program begins so
-pub record Begins (front : List Spanned) : Type 0 where
+pub record BeginsProgram (front : List Spanned) : Type 0 where
   pub rest : List Spanned
   pub tree : Exp
   pub is : IsProgram (front ++ rest) tree
@@ -29,8 +29,8 @@ pub record HasUnexpected (tokens : List Spanned) (at : ℕ) : Type 0 where
   pub front : List Spanned
   pub one : Spanned
   pub is_at : IsAt tokens front one at
-  pub could : Begins front
-  pub cannot : Begins (front ++ one ∷ []) → ⊥
+  pub could : BeginsProgram front
+  pub cannot : BeginsProgram (front ++ one ∷ []) → ⊥
   pub shallow : IsShallow front
 
 -- S2 comes first, and stands at this byte: after this token the nesting is above 256, and some
@@ -39,7 +39,7 @@ pub record HasTooDeep (tokens : List Spanned) (at : ℕ) : Type 0 where
   pub front : List Spanned
   pub one : Spanned
   pub is_at : IsAt tokens front one at
-  pub could : Begins (front ++ one ∷ [])
+  pub could : BeginsProgram (front ++ one ∷ [])
   pub shallow : IsShallow front
   pub deep : IsShallow (front ++ one ∷ []) → ⊥
 

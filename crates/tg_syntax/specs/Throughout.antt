@@ -5,7 +5,7 @@ use Rattle.tg_syntax.specs.declared.tokens.Ident.{Ident}
 use Rattle.tg_syntax.specs.declared.trees.Param.{Param}
 use Rattle.tg_syntax.specs.Tree.{Form, Alias, Fields, Array, TypeDec, Exp, Nil, Break, Int, Text}
 use Rattle.tg_syntax.specs.Tree.{Read, Call, Neg, Binary, Make, Fill, Assign, If, When, While, For}
-use Rattle.tg_syntax.specs.Tree.{Let, Seq, Place, Simple, Field, Index, Exps, no_exps, exp, Inits}
+use Rattle.tg_syntax.specs.Tree.{Let, Seq, LValue, Simple, Field, Index, Exps, no_exps, exp, Inits}
 use Rattle.tg_syntax.specs.Tree.{no_inits, init, Decs, no_decs, types, variable, functions, FunDecs}
 use Rattle.tg_syntax.specs.Tree.{no_functions, function}
 
@@ -49,7 +49,7 @@ module _ (OfIdent : Ident → Type 0) (OfByte : (at : ℕ) → Type 0) where
     Throughout (Let s ds es) = OfByte s.from × ThroughDecs ds × ThroughExps es
     Throughout (Seq s es) = OfByte s.from × ThroughExps es
 
-    pub ThroughPlace : Place → Type 0
+    pub ThroughPlace : LValue → Type 0
     ThroughPlace (Simple x) = OfIdent x
     ThroughPlace (Field v f) = ThroughPlace v × OfIdent f
     ThroughPlace (Index v e) = ThroughPlace v × Throughout e

@@ -21,13 +21,13 @@ mutual
     Break : Span → Exp
     Int : Span → ℕ → Exp
     Text : Span → List ℕ → Exp
-    Read : Span → Place → Exp
+    Read : Span → LValue → Exp
     Call : Span → Ident → Exps → Exp
     Neg : Span → Exp → Exp
     Binary : Span → Op → (at : ℕ) → (left right : Exp) → Exp
     Make : Span → Ident → Inits → Exp
     Fill : Span → Ident → (size value : Exp) → Exp
-    Assign : Span → Place → Exp → Exp
+    Assign : Span → LValue → Exp → Exp
     If : Span → (test this other : Exp) → Exp
     When : Span → (test this : Exp) → Exp
     While : Span → (test body : Exp) → Exp
@@ -36,10 +36,10 @@ mutual
     Seq : Span → Exps → Exp
 
   -- an l-value
-  pub data Place : Type 0 where
-    Simple : Ident → Place
-    Field : Place → Ident → Place
-    Index : Place → Exp → Place
+  pub data LValue : Type 0 where
+    Simple : Ident → LValue
+    Field : LValue → Ident → LValue
+    Index : LValue → Exp → LValue
 
   pub data Exps : Type 0 where
     no_exps : Exps

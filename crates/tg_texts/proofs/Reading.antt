@@ -13,7 +13,7 @@ use Rattle.tg_syntax.specs.declared.tokens.Spanned.{Spanned}
 use Rattle.tg_syntax.specs.declared.tokens.Ident.{Ident}
 use Rattle.tg_syntax.specs.declared.trees.Param.{Param}
 use Rattle.tg_syntax.specs.declared.trees.Op.{Op}
-use Rattle.tg_syntax.specs.Tree.{Form, Exp, Place, Exps, no_exps, exp, Inits, no_inits, init, Decs, no_decs, types, variable, functions, FunDecs, no_functions, function}
+use Rattle.tg_syntax.specs.Tree.{Form, Exp, LValue, Exps, no_exps, exp, Inits, no_inits, init, Decs, no_decs, types, variable, functions, FunDecs, no_functions, function}
 use Rattle.tg_syntax.specs.Groups.{snoc, snoc_init, Dec, one_type, one_variable, one_function, alone, snoc_function, behind_functions, snoc_dec}
 use Rattle.tg_syntax.specs.Grammar.{Level, or_op, and_op, rel_op, sum_op, term_op, IsSign, IsWord, IsIdent, AreFields, one_field, more_fields, AreAnyFields, no_fields, some_fields, IsForm, alias, fields, array, IsAnnotation, not_annotated, annotated, Reads, whole_assign, whole_up, or_up, or_more, and_up, and_more, cmp_up, cmp_two, sum_up, sum_more, term_up, term_more, unary_minus, unary_primary, unary_tail, primary_place, primary_nil, primary_int, primary_text, primary_break, primary_sequence, primary_call, primary_record, primary_let, tail_then, tail_else, tail_while, tail_for, tail_fill, IsPlace, place_simple, place_field, place_index, AreMany, many_one, many_more, AreAny, any_none, any_many, AreInits, one_init, more_inits, AreAnyInits, any_no_inits, any_inits, IsDec, dec_type, dec_variable, dec_function, AreDecs, decs_none, decs_more, IsProgram, program}
 use Rattle.tg_shapes.specs.Strings.{strings, place_strings, exps_strings, inits_strings, decs_strings, bodies_strings}
@@ -211,7 +211,7 @@ mutual
   of_exp (tail_fill t l r o i j size m q x) =
       behind (ident t i) (behind (sign l j) (around (of_exp size) (sign r m) (behind (word o q) (of_exp x))))
 
-  of_place : {a : List Spanned} {s : Span} {v : Place} → IsPlace a s v → HaveStrings 1 a (place_strings v)
+  of_place : {a : List Spanned} {s : Span} {v : LValue} → IsPlace a s v → HaveStrings 1 a (place_strings v)
   of_place (place_simple t i) = behind (ident t i) none
   of_place (place_field {v} d t p i j) = equal (sym (append-nil (place_strings v))) (around (of_place p) (sign d i) (behind (ident t j) none))
   of_place (place_index l r p i e j) = around (of_place p) (sign l i) (before (of_exp e) (sign r j))

@@ -34,18 +34,18 @@ use Rattle.tg_trace.proofs.TracesStands.{all_stand}
 use Rattle.tg_trace.proofs.TracesRuns.{SameWork, Does, places_do}
 
 -- The first block is laid first.
-abbrev Begins : Order → Type 0
-Begins o = (ps : List ℕ) × (o.places ≡ 0 ∷ ps)
+abbrev BeginsAtZero : Order → Type 0
+BeginsAtZero o = (ps : List ℕ) × (o.places ≡ 0 ∷ ps)
 
-put_begins : (p : ℕ) (o : Order) → Begins o → Begins (put p o)
+put_begins : (p : ℕ) (o : Order) → BeginsAtZero o → BeginsAtZero (put p o)
 put_begins p o (ps, e) = (ps ++ p ∷ [], ap (λ xs. xs ++ p ∷ []) e)
 
-follow_begins : (k : ℕ) (bs : List Block) (next : Option ℕ) (o : Order) → Begins o → Begins (follow k bs next o)
+follow_begins : (k : ℕ) (bs : List Block) (next : Option ℕ) (o : Order) → BeginsAtZero o → BeginsAtZero (follow k bs next o)
 follow_begins zero bs next o b = b
 follow_begins (suc k) bs None o b = b
 follow_begins (suc k) bs (Some p) o b = follow_begins k bs (onward (slice_set o.laid p true) (block_at bs p).end) (put p o) (put_begins p o b)
 
-order_begins : (k : ℕ) (b : Block) (bs : List Block) → Begins (traces (suc k) (b ∷ bs))
+order_begins : (k : ℕ) (b : Block) (bs : List Block) → BeginsAtZero (traces (suc k) (b ∷ bs))
 order_begins zero b bs = follow_begins (length bs) (b ∷ bs) _ _ ([], refl)
 order_begins (suc k) b bs = follow_begins (suc (length bs)) (b ∷ bs) _ (traces (suc k) (b ∷ bs)) (order_begins k b bs)
 

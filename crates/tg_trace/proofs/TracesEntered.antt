@@ -10,7 +10,7 @@ use Rattle.tg_trace.specs.Block.{Jump, Branch, Fault, Return}
 use Rattle.tg_trace.specs.Heads.{LeadsTo}
 use Rattle.tg_trace.specs.Cutting.{Cut, open_at, leads, next_mark, seal, branch, exit_of, leaves, cut, cut_all}
 use Rattle.tg_trace.proofs.BlocksKept.{get_front, get_seam, side, turn}
-use Rattle.tg_trace.proofs.TracesLoops.{same_index, UsableIn, State, Step, step_usable, step_on, stays, opens, fronts, Sealed, seals, begun, begun_starts, FromOutside, begun_state, from_outside, turns}
+use Rattle.tg_trace.proofs.TracesLoops.{same_index, UsableIn, CutState, Step, step_usable, step_on, stays, opens, fronts, Sealed, seals, begun, begun_starts, FromOutside, begun_state, from_outside, turns}
 
 -- the marks behind the loops around
 abbrev Exits : (L P : ℕ) (Out : ℕ → Type 0) (starts : List ℕ) (c : Cut) (exits : List ℕ) → Type 0
@@ -18,7 +18,7 @@ Exits L P Out starts c exits = (k : ℕ) → k < length exits → UsableIn L P O
 
 module _ (L P : ℕ) (Out : ℕ → Type 0) where
   abbrev Here : List ℕ → Cut → Type 0
-  Here starts c = State L P Out starts c
+  Here starts c = CutState L P Out starts c
 
   abbrev Goes : List ℕ → Cut → Cut → Type 0
   Goes starts c d = Step L P Out starts c d
@@ -89,7 +89,7 @@ turn_exits L P Out starts c exits exit x u k h =
 
 mutual
   pub cut_step :
-      (s : Ts) (L P : ℕ) (Out : ℕ → Type 0) (exits starts : List ℕ) (c : Cut) → State L P Out starts c → Exits L P Out starts c exits → BreaksWithin
+      (s : Ts) (L P : ℕ) (Out : ℕ → Type 0) (exits starts : List ℕ) (c : Cut) → CutState L P Out starts c → Exits L P Out starts c exits → BreaksWithin
       (length exits) s →
       Step L P Out starts c (cut exits s c)
   cut_step (Move i x) L P Out exits starts c h xs b = fronts L P Out starts (Move i x) c h
@@ -135,7 +135,7 @@ mutual
   cut_step (tree.Return x) L P Out exits starts c h xs b = opens L P Out starts (Return x) c h (λ m l. absurd l)
 
   pub all_step :
-      (ss : Stms) (L P : ℕ) (Out : ℕ → Type 0) (exits starts : List ℕ) (c : Cut) → State L P Out starts c → Exits L P Out starts c exits → BreaksWithinStms
+      (ss : Stms) (L P : ℕ) (Out : ℕ → Type 0) (exits starts : List ℕ) (c : Cut) → CutState L P Out starts c → Exits L P Out starts c exits → BreaksWithinStms
       (length exits) ss →
       Step L P Out starts c (cut_all exits ss c)
   all_step no_stms L P Out exits starts c h xs b = stays L P Out starts c h

@@ -13,7 +13,7 @@ use Rattle.tg_trace.specs.Traced.{MayBeLaid}
 use Rattle.tg_trace.specs.Cutting.{Cut, leads, cut_all, start, entered_by, place_of, placed_end, placed, placed_all, blocks_of}
 use Rattle.tg_trace.proofs.Wholes.{blocks_are_whole}
 use Rattle.tg_trace.proofs.TracesNested.{outer, free, Known}
-use Rattle.tg_trace.proofs.TracesLoops.{UsableIn, State, LeadsOf, laid_leads, one_laid, leads_there}
+use Rattle.tg_trace.proofs.TracesLoops.{UsableIn, CutState, LeadsOf, laid_leads, one_laid, leads_there}
 use Rattle.tg_trace.proofs.TracesEntered.{all_step}
 
 -- Of blocks as they were laid: where they lead there are blocks, and each way back is one of a loop that is entered at its head.
@@ -90,7 +90,7 @@ module _ (places : List ℕ) (all : List Block) where
 abbrev Nothing : ℕ → Type 0
 Nothing m = ⊥
 
-module _ (c : Cut) (starts : List ℕ) (state : State 0 0 Nothing starts c) where
+module _ (c : Cut) (starts : List ℕ) (state : CutState 0 0 Nothing starts c) where
   abbrev IsDrawn : ℕ → Type 0
   IsDrawn m = (m < length c.places) × (slice_index c.places m < length c.laid)
 
@@ -185,7 +185,7 @@ module _ (c : Cut) (starts : List ℕ) (state : State 0 0 Nothing starts c) wher
   either_entered (Some mark) e = entered_at_heads c.places (take (slice_index c.places mark + 1) c.laid) (λ m. slice_index starts m)
       (first_loops mark (state.end' mark (leads_there 0 0 Nothing c.body c.end mark e)))
 
-start_state : State 0 0 Nothing [] start
+start_state : CutState 0 0 Nothing [] start
 start_state = record {
   count = refl;
   nested = record {

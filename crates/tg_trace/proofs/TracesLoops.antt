@@ -36,7 +36,7 @@ module _ (L P : ℕ) (Out : ℕ → Type 0) where
   NestedIn starts c = Nested L P Out (length c.laid) (length c.places) (λ k. slice_index c.places k) (λ k. slice_index starts k) (LeadsOf c)
 
   -- with the starts of the marks that are drawn
-  pub record State (starts : List ℕ) (c : Cut) : Type 0 where
+  pub record CutState (starts : List ℕ) (c : Cut) : Type 0 where
     pub count : length starts ≡ length c.places
     pub nested : NestedIn starts c
     pub end' : (m : ℕ) → LeadsTo c.end m → UsableIn starts c m
@@ -44,12 +44,12 @@ module _ (L P : ℕ) (Out : ℕ → Type 0) where
   -- from one cut to another
   pub record Step (starts : List ℕ) (c d : Cut) : Type 0 where
     pub starts' : List ℕ
-    pub state : State starts' d
+    pub state : CutState starts' d
     pub keeps : Keeps c d
     pub same_start : (m : ℕ) → m < length c.places → slice_get starts' m ≡ slice_get starts m
     pub new_start : (h : ℕ) → length c.places ≤ h → h < length d.places → length c.laid ≤ slice_index starts' h
 
-  pub step_usable : (starts : List ℕ) (c d : Cut) → State starts c → (s : Step starts c d) → (m : ℕ) → UsableIn starts c m → UsableIn s.starts' d m
+  pub step_usable : (starts : List ℕ) (c d : Cut) → CutState starts c → (s : Step starts c d) → (m : ℕ) → UsableIn starts c m → UsableIn s.starts' d m
   step_usable starts c d state s =
       usable_on L P Out (length c.laid) (length c.places) _ _ (LeadsOf c) state.nested (length d.laid) (length d.places) _ _ s.keeps.drawn
       (λ m h. same_index d.places c.places m 0 (s.keeps.marks m h)) (λ m h. same_index s.starts' starts m 0 (s.same_start m h)) s.new_start
@@ -70,7 +70,7 @@ module _ (L P : ℕ) (Out : ℕ → Type 0) where
           omega (arith, same, n)
       later h le lt (inr k) = let n = t.new_start h k lt in omega (arith, n, s.keeps.laid)
 
-  abbrev pub stays : (starts : List ℕ) (c : Cut) → State starts c → Step starts c c
+  abbrev pub stays : (starts : List ℕ) (c : Cut) → CutState starts c → Step starts c c
   stays starts c state = record {
     starts' = starts;
     state = state;
@@ -79,7 +79,7 @@ module _ (L P : ℕ) (Out : ℕ → Type 0) where
     new_start = λ h le lt. absurd (omega arith);
   }
 
-  abbrev pub opens : (starts : List ℕ) (e : End) (c : Cut) → State starts c → ((m : ℕ) → LeadsTo e m → UsableIn starts c m) → Step starts c (open_at e c)
+  abbrev pub opens : (starts : List ℕ) (e : End) (c : Cut) → CutState starts c → ((m : ℕ) → LeadsTo e m → UsableIn starts c m) → Step starts c (open_at e c)
   opens starts e c state h = record {
     starts' = starts;
     state = record { count = state.count; nested = state.nested; end' = h };
@@ -88,7 +88,7 @@ module _ (L P : ℕ) (Out : ℕ → Type 0) where
     new_start = λ h le lt. absurd (omega arith);
   }
 
-  abbrev pub fronts : (starts : List ℕ) (s : Ts) (c : Cut) → State starts c → Step starts c (in_front s c)
+  abbrev pub fronts : (starts : List ℕ) (s : Ts) (c : Cut) → CutState starts c → Step starts c (in_front s c)
   fronts starts s c state = record {
     starts' = starts;
     state = record { count = state.count; nested = state.nested; end' = state.end' };
@@ -118,7 +118,7 @@ module _ (L P : ℕ) (Out : ℕ → Type 0) where
   nested_of n n' q q' place start Leads e f h = subst (λ k. Nested L P Out k q' place start Leads) e (subst (λ k. Nested L P Out n k place start Leads) f h)
 
   -- The open block is laid, and its mark drawn.
-  module _ (starts : List ℕ) (c : Cut) (state : State starts c) where
+  module _ (starts : List ℕ) (c : Cut) (state : CutState starts c) where
     abbrev pub laid_cut : Cut
     laid_cut = lay (length c.places) (draw (length c.laid) c)
 
@@ -201,7 +201,7 @@ module _ (L P : ℕ) (Out : ℕ → Type 0) where
     seals None e = lays
 
 -- A loop's turn begins with the mark of its head, and what was usable is known from outside.
-module _ (L P : ℕ) (Out : ℕ → Type 0) (starts : List ℕ) (c : Cut) (state : State L P Out starts c) where
+module _ (L P : ℕ) (Out : ℕ → Type 0) (starts : List ℕ) (c : Cut) (state : CutState L P Out starts c) where
   abbrev mark : ℕ
   mark = length c.places
 
@@ -217,7 +217,7 @@ module _ (L P : ℕ) (Out : ℕ → Type 0) (starts : List ℕ) (c : Cut) (state
   one_begun : suc mark ≡ length begun.places
   one_begun = omega (arith, length-append c.places (0 ∷ []))
 
-  pub begun_state : State (length c.laid) (suc mark) FromOutside begun_starts begun
+  pub begun_state : CutState (length c.laid) (suc mark) FromOutside begun_starts begun
   begun_state = record {
     count = omega (arith, length-append starts (0 ∷ []), one_begun, state.count);
     nested = record {

@@ -4,7 +4,8 @@ use Rattle.std.specs.List.{Contains}
 use Rattle.tg_tree.specs.Tree.{Stms}
 use Rattle.tg_tree.specs.Shapes.{AreCanonical, AreClosed, IsFlatCode, IsWellMarked}
 use Rattle.tg_tree.specs.Units.{Canonical}
-use Rattle.tg_tree.specs.Sizes.{in_canonical, statements_length, code_length, statements_room, code_room}
+use Rattle.tg_tree.specs.Sizes.{in_canonical, statements_length, code_length, statements_room}
+use Rattle.tg_tree.specs.Sizes.{code_room}
 use Rattle.tg_tree.specs.Named.{Named, fault, named_stms, named_flat}
 use Rattle.tg_trace.specs.Block.{Block}
 use Rattle.tg_trace.specs.Cutting.{blocks_of}

@@ -22,7 +22,8 @@ use Rattle.std.specs.Prelude.{
   None,
 }
 use Rattle.tg_tree.specs.declared.operators.Rel.{Rel}
-use Rattle.tg_tree.specs.declared.operators.Rel.TheVariants.{Equal, NotEqual, Less, LessEqual, Greater, GreaterEqual, Below, NotBelow}
+use Rattle.tg_tree.specs.declared.operators.Rel.TheVariants.{Equal, NotEqual, Less, LessEqual}
+use Rattle.tg_tree.specs.declared.operators.Rel.TheVariants.{Greater, GreaterEqual, Below, NotBelow}
 use Rattle.tg_tree.specs.Tree as tree
 use Rattle.tg_tree.specs.Tree.{Stms, no_stms, stm, Linear, Mark, Do'}
 use Rattle.tg_trace.specs.Block.{End, Jump, Branch, Fault, Return, Block}

@@ -8,7 +8,8 @@ use Rattle.tg_tree.specs.Tree as tree
 use Rattle.tg_tree.specs.Tree.{Tx, Stms, Mark, Code}
 use Rattle.tg_tree.specs.Operators.{holds}
 use Rattle.tg_tree.specs.Units.{Canonical, element_units, entry_units}
-use Rattle.tg_tree.specs.Actions.{World, Temps, Around, Go, Next, Acts, ◌>>=◌, ◌>>◌, pay, stop, go_back, wrong}
+use Rattle.tg_tree.specs.Actions.{World, Temps, Around, Go, Next, Acts, ◌>>=◌, ◌>>◌, pay, stop}
+use Rattle.tg_tree.specs.Actions.{go_back, wrong}
 use Rattle.tg_tree.specs.Meaning.{Enter, value, run_all}
 use Rattle.tg_tree.specs.Running.{Runner, with_fuel, call_in, program}
 use Rattle.tg_tree.specs.Flat.{Last}

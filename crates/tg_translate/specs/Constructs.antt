@@ -72,8 +72,8 @@ use Rattle.tg_tree.specs.Tree.{
 use Rattle.tg_tree.specs.Forms.{when}
 use Rattle.tg_tree.specs.Plain.{plain_tx}
 use Rattle.tg_tree.specs.Lists.{stms_of}
-use Rattle.tg_translate.specs.declared.places.Place.{Place as CodePlace}
-use Rattle.tg_translate.specs.declared.places.Place.TheVariants as code
+use Rattle.tg_translate.specs.declared.places.Storage.{Storage as CodePlace}
+use Rattle.tg_translate.specs.declared.places.Storage.TheVariants as code
 use Rattle.tg_translate.specs.declared.operands.Operand.{Operand}
 use Rattle.tg_translate.specs.declared.operands.Operand.TheVariants.{Number, Kept}
 use Rattle.tg_translate.specs.declared.wants.Want.{Want}
@@ -159,26 +159,26 @@ frame_out kept (suc (suc n)) = link_of (frame_out kept (suc n))
 
 -- Places: where an l-value's value stands, behind the statements that check it.
 
-pub data Place : Type 0 where
-  in_temp : ℕ → Place
-  at_address : Stms → Tx → Place
+pub data Storage : Type 0 where
+  in_temp : ℕ → Storage
+  at_address : Stms → Tx → Storage
 
-abbrev pub plain_place : CodePlace → Place
+abbrev pub plain_place : CodePlace → Storage
 plain_place (code.InTemp t) = in_temp t.0
 plain_place (code.AtAddress before a) = at_address (stms_of before.items) (plain_tx a)
 
-abbrev pub place_in : (frame : Tx) → Access → Place
+abbrev pub place_in : (frame : Tx) → Access → Storage
 place_in frame (InTemp t) = in_temp t.0
 place_in frame (InFrame k) = at_address no_stms (slot_address frame k)
 
 -- a home in the activation at work
-abbrev pub own_place : Access → Place
+abbrev pub own_place : Access → Storage
 own_place home = place_in FrameAddress home
 
 abbrev pub after_all : Stms → Tx → Tx
 after_all ss x = if is_none ss then x else After (Seq ss) x
 
-abbrev pub read : Place → Tx
+abbrev pub read : Storage → Tx
 read (in_temp t) = Temp t
 read (at_address before a) = after_all before (Load a)
 
@@ -186,12 +186,12 @@ abbrev pub store_at : Stms → (address value : Tx) → Ts
 store_at ss a x = if is_none ss then Store a x else Seq (followed ss (Store a x))
 
 -- what an assignment wants of its right side, and a declaration of its value
-abbrev pub want_for : Place → Want
+abbrev pub want_for : Storage → Want
 want_for (in_temp t) = want.Into (record { 0 = t })
 want_for (at_address before a) = want.Value
 
 -- what was made is assigned; a statement has put it there already where the place is a temporary
-abbrev pub assign : Place → Made → Acts Ts
+abbrev pub assign : Storage → Made → Acts Ts
 assign (in_temp t) m = give (put_in t m)
 assign (at_address before a) m = do
   x ← value_of m
@@ -227,10 +227,10 @@ quotient_check left right =
 -- Records and arrays: field k is the word 4·k bytes behind the record's address, an array's length
 -- comes first.
 
-abbrev pub field_of : (field : ℕ) → Stms → (record_ : Tx) → Place
+abbrev pub field_of : (field : ℕ) → Stms → (record_ : Tx) → Storage
 field_of k before r = at_address (followed before (nil_check r)) (plus r (4 * k))
 
-abbrev pub field_place : (field : ℕ) → (record_ : Tx) → Acts Place
+abbrev pub field_place : (field : ℕ) → (record_ : Tx) → Acts Storage
 field_place k x = do
   r ← hold true no_stms x
   give (field_of k r.before (operand r.operand))
@@ -239,10 +239,10 @@ abbrev pub element : (array index : Tx) → Tx
 element array index =
     Binary Add (Binary Add (Binary ShiftLeft index (Const 2)) array) (Const 4)
 
-abbrev pub element_of : Stms → (array index : Tx) → Place
+abbrev pub element_of : Stms → (array index : Tx) → Storage
 element_of before a i = at_address (followed before (index_check a i)) (element a i)
 
-abbrev pub element_place : (direct : Bool) → (array index : Tx) → Acts Place
+abbrev pub element_place : (direct : Bool) → (array index : Tx) → Acts Storage
 element_place direct x y = do
   a ← hold direct no_stms x
   i ← hold true a.before y
@@ -301,7 +301,8 @@ relation _ = rel.GreaterEqual
 
 -- strings are compared by the runtime, which answers their order as an int
 abbrev pub comparison : Op → (of_strings : Bool) → (left right : Tx) → Cond
-comparison op true x y = Compare (relation op) (call_routine routine.Compare (two_txs x y)) (Const 0)
+comparison op true x y = Compare (relation op) (call_routine routine.Compare (two_txs x y))
+    (Const 0)
 comparison op false x y = Compare (relation op) x y
 
 abbrev pub product_of : (product : ℕ) → Stms → (left right : Tx) → Made
@@ -365,7 +366,7 @@ abbrev pub first_minus_one : Operand → Tx
 first_minus_one (Number n) = Const (sub n 1)
 first_minus_one (Kept t) = Binary Sub (Temp t.0) (Const 1)
 
-abbrev pub assign_value : Place → Tx → Ts
+abbrev pub assign_value : Storage → Tx → Ts
 assign_value (in_temp t) x = Move t x
 assign_value (at_address before a) x = store_at before a x
 

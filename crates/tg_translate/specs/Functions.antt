@@ -11,7 +11,7 @@ use Rattle.tg_translate.specs.declared.homes.Within.{Within}
 use Rattle.tg_translate.specs.declared.wants.Want.{Want}
 use Rattle.tg_translate.specs.declared.wants.Want.TheVariants as want
 use Rattle.tg_translate.specs.States.{
-  State,
+  TranslationState,
   Frame,
   Acts,
   Drawn,
@@ -67,13 +67,14 @@ with_body f body = record {
 }
 
 -- a function stands behind those that were done before it, and before those that are found in it
-abbrev pub finished : List (Function Ts) → (outer : Frame) → (inner : State) → Ts → State
+abbrev pub finished : List (Function Ts) → (outer : Frame) → (inner : TranslationState) → Ts →
+    TranslationState
 finished before outer inner body = record inner {
   functions = before ++ with_body inner.frame body ∷ inner.functions;
   frame = outer;
 }
 
-abbrev pub finish : State → Drawn Ts → Drawn (Unit {0})
+abbrev pub finish : TranslationState → Drawn Ts → Drawn (Unit {0})
 finish outer (drawn body inner) =
     drawn tt (finished outer.functions outer.frame inner body)
 
@@ -87,7 +88,7 @@ frame_for label params = record {
   body = tt;
 }
 
-abbrev pub opened : State → Frame → State
+abbrev pub opened : TranslationState → Frame → TranslationState
 opened s f = record s { functions = []; frame = f }
 
 -- a function's text is translated with a frame of its own
@@ -96,7 +97,8 @@ in_frame f body = λ s. finish s (body (opened s f))
 
 -- a function's text begins: with a frame of its own, and with its parameters declared
 abbrev pub begun :
-    (escapes : ℕ → Bool) → (label : ℕ) → (kept : Bool) → (level : ℕ) → List Param → State → State
+    (escapes : ℕ → Bool) → (label : ℕ) → (kept : Bool) → (level : ℕ) → List Param →
+        TranslationState → TranslationState
 begun escapes label kept level params s =
     let f = frame_for label (asked escapes kept params) in
     record (opened s f) { homes = parameters level params (own_homes f.params) s.homes }
@@ -135,7 +137,7 @@ body label escapes keeps_link at has_result params text within =
 
 -- The program's body has the label 32, and the labels of declared functions and literals follow.
 
-abbrev pub beginning : (label : ℕ) → Frame → State
+abbrev pub beginning : (label : ℕ) → Frame → TranslationState
 beginning label f = record {
   label = label;
   literals = [];
@@ -149,7 +151,7 @@ abbrev pub outermost : Within
 outermost = record { level = 0; link_in_slot = false; leave = 0 }
 
 -- the program's body stands before its functions
-abbrev pub program_of : State → Ts → Code Ts
+abbrev pub program_of : TranslationState → Ts → Code Ts
 program_of s body = record {
   functions = with_body s.frame body ∷ s.functions;
   literals = s.literals;

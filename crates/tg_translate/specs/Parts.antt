@@ -22,7 +22,7 @@ use Rattle.tg_translate.specs.Wants.{
   behind,
 }
 use Rattle.tg_translate.specs.Constructs.{
-  Place,
+  Storage,
   none_held,
   want_for,
   assign,
@@ -83,7 +83,7 @@ module _ (findings : Findings) where
     y ← value_in item within
     give (value (make_array size y))
 
-  abbrev pub assigned : Place → Exp → Within → Acts Made
+  abbrev pub assigned : Storage → Exp → Within → Acts Made
   assigned place e within = do
     m ← expression findings e (want_for place) within
     s ← assign place m
@@ -106,7 +106,7 @@ module _ (findings : Findings) where
     s ← count home x y turn
     give (done s)
 
-  abbrev pub indexed : (array : Tx) → Exp → Within → Acts Place
+  abbrev pub indexed : (array : Tx) → Exp → Within → Acts Storage
   indexed array e within = do
     y ← value_in e within
     element_place (assigns_nothing e) array y

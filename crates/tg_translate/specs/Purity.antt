@@ -15,7 +15,7 @@ use Rattle.tg_syntax.specs.Tree.{
   Fill,
   If,
   Seq,
-  Place,
+  LValue,
   Simple,
   Field,
   Index,
@@ -42,7 +42,7 @@ abbrev mutual
   assigns_nothing (Seq _ es) = all_assign_nothing es
   assigns_nothing _ = false
 
-  pub place_assigns_nothing : Place → Bool
+  pub place_assigns_nothing : LValue → Bool
   place_assigns_nothing (Simple _) = true
   place_assigns_nothing (Field v _) = place_assigns_nothing v
   place_assigns_nothing (Index v e) = place_assigns_nothing v && assigns_nothing e

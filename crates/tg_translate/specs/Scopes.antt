@@ -31,7 +31,7 @@ use Rattle.tg_translate.specs.States.{
 }
 use Rattle.tg_translate.specs.Wants.{Made, value}
 use Rattle.tg_translate.specs.Constructs.{
-  Place,
+  Storage,
   at_address,
   place_in,
   frame_out,
@@ -64,14 +64,14 @@ frame_at within level = frame_out within.link_in_slot (within.level - level)
 abbrev pub no_value : Tx
 no_value = Const 0
 
-abbrev pub nowhere : Place
+abbrev pub nowhere : Storage
 nowhere = at_address no_stms no_value
 
-abbrev pub home_place : Within → Option Home → Place
+abbrev pub home_place : Within → Option Home → Storage
 home_place within (Some home) = place_in (frame_at within home.level) home.access
 home_place within None = nowhere
 
-abbrev pub variable_place : Within → Option Means → Acts Place
+abbrev pub variable_place : Within → Option Means → Acts Storage
 variable_place within (Some (means.Variable at)) = do
   home ← home_at at
   give (home_place within home)

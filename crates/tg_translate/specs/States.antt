@@ -7,7 +7,7 @@ use Rattle.tg_frame.specs.Homes.{next_home}
 use Rattle.tg_symbols.specs.Tables.{named}
 use Rattle.tg_tree.specs.Tree.{Ts, Function, Literal}
 use Rattle.tg_tree.specs.Plain.{plain_function, plain_fragment, plain_literal}
-use Rattle.tg_translate.specs.declared.states.State.{State as CodeState}
+use Rattle.tg_translate.specs.declared.states.TranslationState.{TranslationState as CodeState}
 use Rattle.tg_translate.specs.declared.homes.Home.{Home}
 use Rattle.tg_translate.specs.declared.homes.Callee.{Callee}
 
@@ -17,7 +17,7 @@ Frame = Function (Unit {0})
 
 -- `label` is the next one; homes and callees stand by the byte of their declaring identifier, the
 -- newest first, and none is taken back, since no two are declared at one byte
-pub record State : Type 0 where
+pub record TranslationState : Type 0 where
   pub label : ℕ
   pub literals : List Literal
   pub functions : List (Function Ts)
@@ -25,7 +25,7 @@ pub record State : Type 0 where
   pub callees : List (ℕ × Callee)
   pub frame : Frame
 
-abbrev pub state_of : CodeState → State
+abbrev pub state_of : CodeState → TranslationState
 state_of s = record {
   label = s.label;
   literals = map plain_literal s.literals.items;
@@ -36,10 +36,10 @@ state_of s = record {
 }
 
 pub data Drawn (A : Type 0) : Type 0 where
-  drawn : A → State → Drawn A
+  drawn : A → TranslationState → Drawn A
 
 abbrev pub Acts : Type 0 → Type 0
-Acts A = State → Drawn A
+Acts A = TranslationState → Drawn A
 
 abbrev pub after : {A B : Type 0} → Drawn A → (A → Acts B) → Drawn B
 after (drawn a s) next = next a s
@@ -55,7 +55,7 @@ abbrev pub ◌>>◌ : {A B : Type 0} → Acts A → Acts B → Acts B
 abbrev pub give : {A : Type 0} → A → Acts A
 give a = λ s. drawn a s
 
-abbrev pub with_frame : Frame → State → State
+abbrev pub with_frame : Frame → TranslationState → TranslationState
 with_frame f s = record s { frame = f }
 
 abbrev pub one_temp : Frame → Frame

@@ -67,7 +67,7 @@ use Rattle.tg_translate.specs.Wants.{
   behind,
 }
 use Rattle.tg_translate.specs.Constructs.{
-  Place,
+  Storage,
   HeldAll,
   none_held,
   hold_next,
@@ -199,7 +199,7 @@ module _ (findings : Findings) where
       begun ← sequence es w no_stms within
       behind w begun.before begun.last
 
-    pub locate : source.Place → Within → Acts Place
+    pub locate : source.LValue → Within → Acts Storage
     locate (Simple x) within = variable_place within (findings.meaning (at_of x))
     locate (Field v f) within = do
       place ← locate v within

@@ -8,7 +8,7 @@ ghost use Rattle.tg_translate.specs.Scopes as scopes;
 
 use crate::homes::{Callee, Within};
 use crate::places::frame_at;
-use crate::states::State;
+use crate::states::TranslationState;
 use crate::wants::Made;
 use std::alloc::Global;
 use tg_base::{Bytes, Memory};
@@ -35,7 +35,7 @@ fn routine_of(standard: Standard) -> Routine
 
 /// A call, by what it means. Its arguments are handed in behind room for the static link.
 pub(crate) fn call_by(
-    state: &State,
+    state: &TranslationState,
     within: Within,
     meaning: Option<Means>,
     arguments: Vec<Tx>,
@@ -75,7 +75,7 @@ fn call_declared(
 }
 
 /// A string that stands in the program: a word of length and the bytes.
-pub(crate) fn literal(state: &mut State, bytes: &Bytes) -> Result<Made, Memory>
+pub(crate) fn literal(state: &mut TranslationState, bytes: &Bytes) -> Result<Made, Memory>
     ensures { IfOk result (λ m. scopes.literal bytes.now (state_of state.old) ≡
         drawn (plain_made m) (state_of state.new)) }
 {

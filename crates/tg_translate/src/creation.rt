@@ -7,7 +7,7 @@ ghost use Rattle.tg_translate.specs.Constructs as constructs;
 
 use crate::constructs::{bytes_of, call_with_one, plus};
 use crate::operands::Operand;
-use crate::states::{State, next};
+use crate::states::{TranslationState, next};
 use crate::wants::{Made, push, value_behind};
 use std::alloc::Global;
 use tg_base::{Memory, Temp};
@@ -24,7 +24,7 @@ fn record_bytes(fields: usize) -> Result<u32, Memory>
 
 /// A record whose fields' values are kept.
 pub(crate) fn make_record(
-    state: &mut State,
+    state: &mut TranslationState,
     before: Vec<Ts>,
     operands: &[Operand],
 ) -> Result<Made, Memory>

@@ -29,11 +29,11 @@ use crate::loops::{count, in_body, in_test, repeat_while};
 use crate::operands::{Operand, hold};
 use crate::operators::{chosen, compares_strings, left_want, negation, operation, tested};
 use crate::places::{
-    Place, assign, declare_variable, element_place, field_number, field_place, own_place, read,
+    Storage, assign, declare_variable, element_place, field_number, field_place, own_place, read,
     variable_place, want_for,
 };
 use crate::purity::{assigns_nothing, inits_assign_nothing};
-use crate::states::{State, next};
+use crate::states::{TranslationState, next};
 use crate::wants::{
     Made, Want, arms, as_statement, behind, deliver, dropped, nothing, push, test_of, value_of,
 };
@@ -46,7 +46,7 @@ use tg_tree::{Cond, Ts, Tx, if_else};
 #[cycle(translation)]
 pub(crate) fn expression(
     findings: &Findings,
-    state: &mut State,
+    state: &mut TranslationState,
     e: &Exp,
     want: Want,
     within: Within,
@@ -116,7 +116,12 @@ pub(crate) fn expression(
 
 // The value of an expression.
 #[cycle(translation)]
-fn value(findings: &Findings, state: &mut State, e: &Exp, within: Within) -> Result<Tx, Memory>
+fn value(
+    findings: &Findings,
+    state: &mut TranslationState,
+    e: &Exp,
+    within: Within,
+) -> Result<Tx, Memory>
     ensures { IfOk result (λ x.
         parts.value_in (findings_of findings.now) (plain e.now) within
         (state_of state.old) ≡ drawn (plain_tx x) (state_of state.new)) }
@@ -129,7 +134,7 @@ fn value(findings: &Findings, state: &mut State, e: &Exp, within: Within) -> Res
 #[cycle(translation)]
 fn condition(
     findings: &Findings,
-    state: &mut State,
+    state: &mut TranslationState,
     e: &Exp,
     within: Within,
 ) -> Result<Cond, Memory>
@@ -143,7 +148,12 @@ fn condition(
 
 // The statement that does an expression, without its value.
 #[cycle(translation)]
-fn statement(findings: &Findings, state: &mut State, e: &Exp, within: Within) -> Result<Ts, Memory>
+fn statement(
+    findings: &Findings,
+    state: &mut TranslationState,
+    e: &Exp,
+    within: Within,
+) -> Result<Ts, Memory>
     ensures { IfOk result (λ x.
         parts.statement_in (findings_of findings.now) (plain e.now) within
         (state_of state.old) ≡ drawn (plain_ts x) (state_of state.new)) }
@@ -156,7 +166,7 @@ fn statement(findings: &Findings, state: &mut State, e: &Exp, within: Within) ->
 #[cycle(translation)]
 fn arm(
     findings: &Findings,
-    state: &mut State,
+    state: &mut TranslationState,
     e: &Exp,
     arms: Want,
     within: Within,
@@ -172,7 +182,7 @@ fn arm(
 #[cycle(translation)]
 fn called(
     findings: &Findings,
-    state: &mut State,
+    state: &mut TranslationState,
     f: Ident,
     arguments: &Exps,
     within: Within,
@@ -190,7 +200,7 @@ fn called(
 #[cycle(translation)]
 fn with_left(
     findings: &Findings,
-    state: &mut State,
+    state: &mut TranslationState,
     b: &Exp,
     op: Op,
     at: u32,
@@ -221,7 +231,7 @@ fn with_left(
 #[cycle(translation)]
 fn connective(
     findings: &Findings,
-    state: &mut State,
+    state: &mut TranslationState,
     b: &Exp,
     op: Op,
     left: Cond,
@@ -250,7 +260,7 @@ fn connective(
 #[cycle(translation)]
 fn made_record(
     findings: &Findings,
-    state: &mut State,
+    state: &mut TranslationState,
     inits: &Inits,
     within: Within,
 ) -> Result<Made, Memory>
@@ -268,7 +278,7 @@ fn made_record(
 #[cycle(translation)]
 fn filled(
     findings: &Findings,
-    state: &mut State,
+    state: &mut TranslationState,
     item: &Exp,
     size: Tx,
     within: Within,
@@ -286,9 +296,9 @@ fn filled(
 #[cycle(translation)]
 fn assigned(
     findings: &Findings,
-    state: &mut State,
+    state: &mut TranslationState,
     e: &Exp,
-    place: Place,
+    place: Storage,
     within: Within,
 ) -> Result<Made, Memory>
     ensures { IfOk result (λ m.
@@ -302,7 +312,7 @@ fn assigned(
 #[cycle(translation)]
 fn when_true(
     findings: &Findings,
-    state: &mut State,
+    state: &mut TranslationState,
     this: &Exp,
     test: Cond,
     within: Within,
@@ -319,7 +329,7 @@ fn when_true(
 #[cycle(translation)]
 fn turned(
     findings: &Findings,
-    state: &mut State,
+    state: &mut TranslationState,
     body: &Exp,
     test: Cond,
     within: Within,
@@ -335,7 +345,7 @@ fn turned(
 #[cycle(translation)]
 fn counted(
     findings: &Findings,
-    state: &mut State,
+    state: &mut TranslationState,
     body: &Exp,
     x: Ident,
     low: Tx,
@@ -355,10 +365,10 @@ fn counted(
 #[cycle(translation)]
 fn locate(
     findings: &Findings,
-    state: &mut State,
+    state: &mut TranslationState,
     place: &Var,
     within: Within,
-) -> Result<Place, Memory>
+) -> Result<Storage, Memory>
     ensures { IfOk result (λ p.
         translation.locate (findings_of findings.now) (plain_var place.now) within
         (state_of state.old) ≡ drawn (plain_place p) (state_of state.new)) }
@@ -383,11 +393,11 @@ fn locate(
 #[cycle(translation)]
 fn indexed(
     findings: &Findings,
-    state: &mut State,
+    state: &mut TranslationState,
     index: &Exp,
     array: Tx,
     within: Within,
-) -> Result<Place, Memory>
+) -> Result<Storage, Memory>
     ensures { IfOk result (λ p.
         parts.indexed (findings_of findings.now) (plain_tx array) (plain index.now) within
         (state_of state.old) ≡ drawn (plain_place p) (state_of state.new)) }
@@ -400,7 +410,7 @@ fn indexed(
 #[cycle(translation)]
 fn values(
     findings: &Findings,
-    state: &mut State,
+    state: &mut TranslationState,
     exps: &Exps,
     within: Within,
 ) -> Result<Vec<Tx>, Memory>
@@ -420,7 +430,7 @@ fn values(
 #[cycle(translation)]
 fn fields(
     findings: &Findings,
-    state: &mut State,
+    state: &mut TranslationState,
     inits: &Inits,
     before: &mut Vec<Ts>,
     direct: bool,
@@ -445,7 +455,7 @@ fn fields(
 #[cycle(translation)]
 fn sequence(
     findings: &Findings,
-    state: &mut State,
+    state: &mut TranslationState,
     exps: &Exps,
     mut before: Vec<Ts>,
     want: Want,
@@ -472,7 +482,7 @@ fn sequence(
 #[cycle(translation)]
 fn declarations(
     findings: &Findings,
-    state: &mut State,
+    state: &mut TranslationState,
     decs: &Decs,
     within: Within,
 ) -> Result<Vec<Ts>, Memory>
@@ -491,7 +501,7 @@ fn declarations(
 #[cycle(translation)]
 fn declaration(
     findings: &Findings,
-    state: &mut State,
+    state: &mut TranslationState,
     dec: &Dec,
     before: &mut Vec<Ts>,
     within: Within,
@@ -519,7 +529,7 @@ fn declaration(
 #[cycle(translation)]
 fn variable(
     findings: &Findings,
-    state: &mut State,
+    state: &mut TranslationState,
     x: Ident,
     e: &Exp,
     within: Within,
@@ -538,7 +548,7 @@ fn variable(
 #[cycle(translation)]
 fn bodies(
     findings: &Findings,
-    state: &mut State,
+    state: &mut TranslationState,
     group: &FunDecs,
     first: u32,
     within: Within,
@@ -559,7 +569,7 @@ fn bodies(
 #[cycle(translation)]
 fn body(
     findings: &Findings,
-    state: &mut State,
+    state: &mut TranslationState,
     function: &FunDec,
     label: Label,
     within: Within,

@@ -8,7 +8,7 @@ ghost use Rattle.tg_translate.specs.Functions as functions;
 
 use crate::findings::Findings;
 use crate::homes::{Callee, Home, Within};
-use crate::states::{Outer, State, frame_of, next};
+use crate::states::{Outer, TranslationState, frame_of, next};
 use crate::wants::{Made, Want, dropped, value_of};
 use std::alloc::Global;
 use tg_base::{Label, Memory};
@@ -38,7 +38,7 @@ fn asked(
 /// A function's text begins: with a frame of its own, and with its parameters declared.
 pub(crate) fn begin(
     findings: &Findings,
-    state: &mut State,
+    state: &mut TranslationState,
     label: Label,
     link_in_slot: bool,
     params: &[Param],
@@ -80,7 +80,7 @@ fn declare_params(
 /// The functions of a group may call each other. Each draws a label, and the group's functions are
 /// declared in a function of this level.
 pub(crate) fn declare_functions(
-    state: &mut State,
+    state: &mut TranslationState,
     level: u32,
     group: &FunDecs,
 ) -> Result<(), Memory>
@@ -120,7 +120,11 @@ pub(crate) fn result_want(has_result: bool) -> Want
 
 /// The statement of a function's body: what has a result gives it back, and anything else gives 0
 /// back.
-pub(crate) fn closing(state: &mut State, has_result: bool, made: Made) -> Result<Ts, Memory>
+pub(crate) fn closing(
+    state: &mut TranslationState,
+    has_result: bool,
+    made: Made,
+) -> Result<Ts, Memory>
     ensures { IfOk result (λ s.
         functions.closing has_result (plain_made made) (state_of state.old) ≡
         drawn (plain_ts s) (state_of state.new)) }

@@ -8,7 +8,7 @@ use crate::constructs::equals;
 use crate::homes::Within;
 use crate::operands::{Operand, hold};
 use crate::places::{assign_value, own_place, read};
-use crate::states::{State, next};
+use crate::states::{TranslationState, next};
 use crate::wants::push;
 use std::alloc::Global;
 use tg_base::{Memory, sub};
@@ -103,7 +103,7 @@ fn turn_of(alloc: Global, variable: Access, high: Operand, turn: Ts) -> Result<T
 
 /// A loop that counts from one value to another.
 pub(crate) fn count(
-    state: &mut State,
+    state: &mut TranslationState,
     variable: Access,
     low: Tx,
     high: Tx,

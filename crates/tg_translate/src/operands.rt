@@ -4,7 +4,7 @@ ghost use Rattle.tg_tree.specs.Lists.{stms_of};
 ghost use Rattle.tg_translate.specs.States.{drawn, state_of};
 ghost use Rattle.tg_translate.specs.Constructs as constructs;
 
-use crate::states::State;
+use crate::states::TranslationState;
 use crate::wants::push;
 use tg_base::{Memory, Temp};
 use tg_tree::{Ts, Tx};
@@ -31,7 +31,7 @@ impl Operand {
 /// A value is kept for its uses. A variable's temporary may be used itself where nothing assigns it
 /// meanwhile, which `direct` says.
 pub(crate) fn hold(
-    state: &mut State,
+    state: &mut TranslationState,
     direct: bool,
     before: &mut Vec<Ts>,
     value: Tx,
@@ -47,7 +47,7 @@ pub(crate) fn hold(
     }
 }
 
-fn keep(state: &mut State, before: &mut Vec<Ts>, value: Tx) -> Result<Operand, Memory>
+fn keep(state: &mut TranslationState, before: &mut Vec<Ts>, value: Tx) -> Result<Operand, Memory>
     ensures { IfOk result (λ o.
         constructs.keep (stms_of before.old.items) (plain_tx value) (state_of state.old) ≡
         drawn (record { before = stms_of before.new.items; operand = o }) (state_of state.new)) }

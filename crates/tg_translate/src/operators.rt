@@ -12,7 +12,7 @@ use crate::constructs::{
     LEAST_INT, MINUS_ONE, call_with_two, product_check, quotient_check, zero_check,
 };
 use crate::operands::{Operand, hold};
-use crate::states::State;
+use crate::states::TranslationState;
 use crate::wants::{Made, Want, as_statement, push, test_of, value_behind};
 use std::alloc::Global;
 use tg_base::{Memory, Temp, sub};
@@ -110,7 +110,7 @@ fn comparison(alloc: Global, op: Op, of_strings: bool, left: Tx, right: Tx) -> R
 }
 
 /// A product, which ends the program where it overflows.
-fn product(state: &mut State, direct: bool, left: Tx, right: Tx) -> Result<Made, Memory>
+fn product(state: &mut TranslationState, direct: bool, left: Tx, right: Tx) -> Result<Made, Memory>
     ensures { IfOk result (λ m.
         constructs.product direct (plain_tx left) (plain_tx right) (state_of state.old) ≡
         drawn (plain_made m) (state_of state.new)) }
@@ -141,7 +141,12 @@ fn product_of(
 }
 
 /// A quotient, which ends the program where the divisor is 0 and where it overflows.
-fn checked_quotient(state: &mut State, direct: bool, left: Tx, right: Tx) -> Result<Made, Memory>
+fn checked_quotient(
+    state: &mut TranslationState,
+    direct: bool,
+    left: Tx,
+    right: Tx,
+) -> Result<Made, Memory>
     ensures { IfOk result (λ m.
         constructs.checked_quotient direct (plain_tx left) (plain_tx right) (state_of state.old) ≡
         drawn (plain_made m) (state_of state.new)) }
@@ -169,7 +174,7 @@ fn quotient_of(
 }
 
 /// A quotient. A number other than 0 and -1 divides without a check.
-fn quotient(state: &mut State, direct: bool, left: Tx, right: Tx) -> Result<Made, Memory>
+fn quotient(state: &mut TranslationState, direct: bool, left: Tx, right: Tx) -> Result<Made, Memory>
     ensures { IfOk result (λ m.
         constructs.quotient direct (plain_tx left) (plain_tx right) (state_of state.old) ≡
         drawn (plain_made m) (state_of state.new)) }
@@ -186,7 +191,7 @@ fn quotient(state: &mut State, direct: bool, left: Tx, right: Tx) -> Result<Made
 /// An operator between two values. The left side's temporary may be used itself where the right
 /// side assigns nothing, which `direct` says.
 pub(crate) fn operation(
-    state: &mut State,
+    state: &mut TranslationState,
     op: Op,
     of_strings: bool,
     direct: bool,

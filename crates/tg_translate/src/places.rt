@@ -13,7 +13,7 @@ use crate::constructs::{bytes_of, element, frame_out, index_check, nil_check, pl
 use crate::findings::Findings;
 use crate::homes::{Home, Within};
 use crate::operands::{Operand, hold};
-use crate::states::State;
+use crate::states::TranslationState;
 use crate::wants::{Made, Want, is_none, push, put_in, value_of};
 use std::alloc::Global;
 use tg_base::{Memory, Temp};
@@ -24,20 +24,20 @@ use tg_types::Means;
 /// Where an l-value's value stands: in a temporary, or at an address behind statements that check
 /// it.
 #[derive(Drop)]
-pub(crate) enum Place {
+pub(crate) enum Storage {
     InTemp(Temp),
     AtAddress(Vec<Ts>, Tx),
 }
 
 /// A home in the activation with this frame address.
-fn place_in(alloc: Global, frame: Tx, access: Access) -> Result<Place, Memory>
+fn place_in(alloc: Global, frame: Tx, access: Access) -> Result<Storage, Memory>
     ensures { IfOk result (λ p. plain_place p ≡ constructs.place_in (plain_tx frame) access) }
 {
     match access {
-        Access::InTemp(temp) => Ok(Place::InTemp(temp)),
+        Access::InTemp(temp) => Ok(Storage::InTemp(temp)),
         Access::InFrame(slot) => {
             let address = slot_address(alloc, frame, slot)?;
-            Ok(Place::AtAddress(Vec::new(alloc), address))
+            Ok(Storage::AtAddress(Vec::new(alloc), address))
         }
     }
 }
@@ -54,7 +54,7 @@ pub(crate) fn frame_at(alloc: Global, within: Within, level: u32) -> Result<Tx, 
     Ok(frame_out(alloc, within.link_in_slot, hops)?)
 }
 
-fn home_place(alloc: Global, within: Within, home: Option<Home>) -> Result<Place, Memory>
+fn home_place(alloc: Global, within: Within, home: Option<Home>) -> Result<Storage, Memory>
     ensures { IfOk result (λ p. plain_place p ≡ scopes.home_place within home) }
 {
     match home {
@@ -67,18 +67,18 @@ fn home_place(alloc: Global, within: Within, home: Option<Home>) -> Result<Place
 }
 
 /// The place of what isn't declared, of which an accepted program has nothing.
-fn nowhere(alloc: Global) -> Place
+fn nowhere(alloc: Global) -> Storage
     ensures { plain_place result ≡ scopes.nowhere }
 {
-    Place::AtAddress(Vec::new(alloc), Tx::Const(0))
+    Storage::AtAddress(Vec::new(alloc), Tx::Const(0))
 }
 
 /// The place of a variable, by what its use means.
 pub(crate) fn variable_place(
-    state: &State,
+    state: &TranslationState,
     within: Within,
     meaning: Option<Means>,
-) -> Result<Place, Memory>
+) -> Result<Storage, Memory>
     ensures { IfOk result (λ p. scopes.variable_place within meaning (state_of state.now) ≡
         drawn (plain_place p) (state_of state.now)) }
 {
@@ -94,7 +94,7 @@ pub(crate) fn variable_place(
 /// A new variable of the function at work.
 pub(crate) fn declare_variable(
     findings: &Findings,
-    state: &mut State,
+    state: &mut TranslationState,
     level: u32,
     at: u32,
 ) -> Result<Access, Memory>
@@ -108,19 +108,19 @@ pub(crate) fn declare_variable(
 }
 
 /// A home in the activation at work.
-pub(crate) fn own_place(alloc: Global, access: Access) -> Result<Place, Memory>
+pub(crate) fn own_place(alloc: Global, access: Access) -> Result<Storage, Memory>
     ensures { IfOk result (λ p. plain_place p ≡ constructs.own_place access) }
 {
     Ok(place_in(alloc, Tx::FrameAddress, access)?)
 }
 
 /// The value that stands in a place.
-pub(crate) fn read(alloc: Global, place: Place) -> Result<Tx, Memory>
+pub(crate) fn read(alloc: Global, place: Storage) -> Result<Tx, Memory>
     ensures { IfOk result (λ x. plain_tx x ≡ constructs.read (plain_place place)) }
 {
     match place {
-        Place::InTemp(temp) => Ok(Tx::Temp(temp)),
-        Place::AtAddress(before, address) => Ok(after_all(alloc, before, load(alloc, address)?)?),
+        Storage::InTemp(temp) => Ok(Tx::Temp(temp)),
+        Storage::AtAddress(before, address) => Ok(after_all(alloc, before, load(alloc, address)?)?),
     }
 }
 
@@ -148,26 +148,26 @@ fn store_at(before: Vec<Ts>, address: Tx, value: Tx) -> Result<Ts, Memory>
 }
 
 /// A value is put into a place.
-pub(crate) fn assign_value(place: Place, value: Tx) -> Result<Ts, Memory>
+pub(crate) fn assign_value(place: Storage, value: Tx) -> Result<Ts, Memory>
     ensures { IfOk result (λ s. plain_ts s ≡
         constructs.assign_value (plain_place place) (plain_tx value)) }
 {
     match place {
-        Place::InTemp(temp) => Ok(Ts::Move(temp, value)),
-        Place::AtAddress(before, address) => Ok(store_at(before, address, value)?),
+        Storage::InTemp(temp) => Ok(Ts::Move(temp, value)),
+        Storage::AtAddress(before, address) => Ok(store_at(before, address, value)?),
     }
 }
 
 /// What was made is put into a place; a statement has put it there already where the place is a
 /// temporary.
-pub(crate) fn assign(state: &mut State, place: Place, made: Made) -> Result<Ts, Memory>
+pub(crate) fn assign(state: &mut TranslationState, place: Storage, made: Made) -> Result<Ts, Memory>
     ensures { IfOk result (λ s.
         constructs.assign (plain_place place) (plain_made made) (state_of state.old) ≡
         drawn (plain_ts s) (state_of state.new)) }
 {
     match place {
-        Place::InTemp(temp) => Ok(put_in(state.alloc, temp, made)?),
-        Place::AtAddress(before, address) => {
+        Storage::InTemp(temp) => Ok(put_in(state.alloc, temp, made)?),
+        Storage::AtAddress(before, address) => {
             let value = value_of(state, made)?;
             Ok(store_at(before, address, value)?)
         }
@@ -175,12 +175,12 @@ pub(crate) fn assign(state: &mut State, place: Place, made: Made) -> Result<Ts, 
 }
 
 /// What a place wants of the value that is put into it.
-pub(crate) fn want_for(place: &Place) -> Want
+pub(crate) fn want_for(place: &Storage) -> Want
     ensures { result ≡ constructs.want_for (plain_place place.now) }
 {
     match place {
-        Place::InTemp(temp) => Want::Into(*temp),
-        Place::AtAddress(_, _) => Want::Value,
+        Storage::InTemp(temp) => Want::Into(*temp),
+        Storage::AtAddress(_, _) => Want::Value,
     }
 }
 
@@ -195,7 +195,11 @@ pub(crate) fn field_number(meaning: Option<Means>) -> u32
 }
 
 /// The place of a field of a record: field k is the word 4·k bytes behind its address.
-pub(crate) fn field_place(state: &mut State, field: u32, record_: Tx) -> Result<Place, Memory>
+pub(crate) fn field_place(
+    state: &mut TranslationState,
+    field: u32,
+    record_: Tx,
+) -> Result<Storage, Memory>
     ensures { IfOk result (λ p.
         constructs.field_place field (plain_tx record_) (state_of state.old) ≡
         drawn (plain_place p) (state_of state.new)) }
@@ -205,23 +209,28 @@ pub(crate) fn field_place(state: &mut State, field: u32, record_: Tx) -> Result<
     Ok(field_of(state.alloc, field, before, held)?)
 }
 
-fn field_of(alloc: Global, field: u32, mut before: Vec<Ts>, held: Operand) -> Result<Place, Memory>
+fn field_of(
+    alloc: Global,
+    field: u32,
+    mut before: Vec<Ts>,
+    held: Operand,
+) -> Result<Storage, Memory>
     ensures { IfOk result (λ p. plain_place p ≡
         constructs.field_of field (stms_of before.items) (constructs.operand held)) }
 {
     push(&mut before, nil_check(alloc, held.tree())?)?;
     let address = plus(alloc, held.tree(), bytes_of(field)?)?;
-    Ok(Place::AtAddress(before, address))
+    Ok(Storage::AtAddress(before, address))
 }
 
 /// The place of an element of an array. The array's temporary may be used itself where the index
 /// assigns nothing, which `direct` says.
 pub(crate) fn element_place(
-    state: &mut State,
+    state: &mut TranslationState,
     direct: bool,
     array: Tx,
     index: Tx,
-) -> Result<Place, Memory>
+) -> Result<Storage, Memory>
     ensures { IfOk result (λ p.
         constructs.element_place direct (plain_tx array) (plain_tx index) (state_of state.old) ≡
         drawn (plain_place p) (state_of state.new)) }
@@ -237,12 +246,12 @@ fn element_of(
     mut before: Vec<Ts>,
     array: Operand,
     index: Operand,
-) -> Result<Place, Memory>
+) -> Result<Storage, Memory>
     ensures { IfOk result (λ p. plain_place p ≡
         constructs.element_of (stms_of before.items) (constructs.operand array)
         (constructs.operand index)) }
 {
     push(&mut before, index_check(alloc, array.tree(), index.tree())?)?;
     let address = element(alloc, array.tree(), index.tree())?;
-    Ok(Place::AtAddress(before, address))
+    Ok(Storage::AtAddress(before, address))
 }

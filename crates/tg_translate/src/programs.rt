@@ -10,7 +10,7 @@ use crate::expressions::expression;
 use crate::findings::Findings;
 use crate::functions::closing;
 use crate::homes::Within;
-use crate::states::{State, frame_of};
+use crate::states::{TranslationState, frame_of};
 use crate::wants::Want;
 use std::alloc::Global;
 use tg_base::{Label, Memory};
@@ -38,7 +38,7 @@ pub fn translate(alloc: Global, checked: &Checked, escapes: &Escapes) -> Result<
         links: &links,
     };
     let frame = frame_of(alloc, Label(BODY), &[])?;
-    let mut state = State::new(alloc, BODY + 1, frame);
+    let mut state = TranslationState::new(alloc, BODY + 1, frame);
     let outermost = Within {
         level: 0,
         link_in_slot: false,

@@ -18,7 +18,7 @@ const MOST_HOMES: u32 = 4194304;
 /// What a translation draws: labels, literals, the functions that are done, and homes; and the
 /// frame of the function at work.
 #[derive(Drop)]
-pub(crate) struct State {
+pub(crate) struct TranslationState {
     pub(crate) alloc: Global,
     pub(crate) label: u32,
     pub(crate) literals: Vec<Literal>,
@@ -36,12 +36,12 @@ pub(crate) struct Outer {
     frame: Frame,
 }
 
-impl State {
+impl TranslationState {
     /// Nothing is drawn, and the frame is that of the program's body.
-    pub(crate) fn new(alloc: Global, first: u32, frame: Frame) -> State
+    pub(crate) fn new(alloc: Global, first: u32, frame: Frame) -> TranslationState
         ensures { state_of result ≡ functions.beginning first (plain_function frame tt) }
     {
-        State {
+        TranslationState {
             alloc,
             label: first,
             literals: Vec::new(alloc),
@@ -122,7 +122,7 @@ impl State {
         ensures { IfOk result (λ f. plain_fragments f ≡
             functions.program_of (state_of self) (plain_ts body)) }
     {
-        let State {
+        let TranslationState {
             alloc,
             label: _,
             literals,

@@ -6,7 +6,7 @@ ghost use Rattle.tg_translate.specs.States.{drawn, state_of};
 ghost use Rattle.tg_translate.specs.Wants as wants;
 ghost use Rattle.tg_translate.specs.Wants.{plain_made};
 
-use crate::states::State;
+use crate::states::TranslationState;
 use std::alloc::Global;
 use tg_base::{Memory, Temp};
 use tg_tree::{Cond, Rel, Ts, Tx, after, compare, if_else, sequence};
@@ -46,7 +46,7 @@ pub(crate) fn nothing(alloc: Global) -> Ts
 }
 
 /// The value of what was made.
-pub(crate) fn value_of(state: &mut State, made: Made) -> Result<Tx, Memory>
+pub(crate) fn value_of(state: &mut TranslationState, made: Made) -> Result<Tx, Memory>
     ensures { IfOk result (λ x. wants.value_of (plain_made made) (state_of state.old) ≡
         drawn (plain_tx x) (state_of state.new)) }
 {
@@ -102,7 +102,7 @@ pub(crate) fn test_of(alloc: Global, made: Made) -> Result<Cond, Memory>
 }
 
 /// Where the values of arms go of which one is taken: into a temporary, or nowhere.
-pub(crate) fn arms(state: &mut State, want: Want) -> Result<Want, Memory>
+pub(crate) fn arms(state: &mut TranslationState, want: Want) -> Result<Want, Memory>
     ensures { IfOk result
         (λ w. wants.arms want (state_of state.old) ≡ drawn w (state_of state.new)) }
 {
@@ -169,7 +169,7 @@ pub(crate) fn push(statements: &mut Vec<Ts>, last: Ts) -> Result<(), Memory>
 
 /// What was made, behind statements.
 pub(crate) fn behind(
-    state: &mut State,
+    state: &mut TranslationState,
     want: Want,
     before: Vec<Ts>,
     made: Made,
@@ -184,7 +184,12 @@ pub(crate) fn behind(
     Ok(behind_some(state, want, before, made)?)
 }
 
-fn behind_some(state: &mut State, want: Want, before: Vec<Ts>, made: Made) -> Result<Made, Memory>
+fn behind_some(
+    state: &mut TranslationState,
+    want: Want,
+    before: Vec<Ts>,
+    made: Made,
+) -> Result<Made, Memory>
     ensures { IfOk result (λ m.
         wants.behind_some want (stms_of before.items) (plain_made made) (state_of state.old) ≡
         drawn (plain_made m) (state_of state.new)) }

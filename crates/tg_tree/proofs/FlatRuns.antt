@@ -14,7 +14,7 @@ use Rattle.tg_tree.specs.Actions.{World, Temps, Around, Back, wrong}
 use Rattle.tg_tree.specs.Meaning.{Point}
 use Rattle.tg_tree.specs.Running.{function_of}
 use Rattle.tg_tree.specs.Flat.{behind, FlatPoint, enter_flat, jump_to, run_flat, flat_step, flat_going, flat_run}
-use Rattle.tg_tree.specs.Holding.{TempsHoldToo, WorldHoldsToo, UnlessWrong, AroundReadsNoMore}
+use Rattle.tg_tree.specs.Holding.{TempsHoldAtLeast, WorldHoldsAtLeast, UnlessWrong, AroundReadsNoMore}
 use Rattle.tg_tree.proofs.Relating.{Related, RelatedWorlds, RelatedTemps, Keeps, AlikeBack, AlikeAround, around, around_down, Alike, alike, keep_choice, keep_back, keep_entered, keep_value, keep_run}
 use Rattle.tg_tree.proofs.Going.{one, OneWorld, OneTemps, Same, same_keeps, IsOnward, Onward, onward_keeps}
 use Rattle.tg_tree.proofs.Filled.{Filled, filled_keeps}
@@ -95,8 +95,8 @@ module _ (code : Code (List Linear)) (size : ℕ → ℕ) (floor room : ℕ) whe
   pub flat_code_only_goes_on : (body : ℕ) (input : List ℕ) (i j : ℕ) → i ≤ j → GoesOn (flat_run code size floor room body input i) (flat_run code size floor room body input j)
   flat_code_only_goes_on body input i j le = (flat_onward body input i j le).on
 
-  pub flat_code_reads_no_more : (p : FlatPoint) (x : World) (u : Temps) → AroundReadsNoMore p.around → WorldHoldsToo p.world x → TempsHoldToo p.temps u → UnlessWrong (goes p) (goes (record p { world = x; temps = u }))
+  pub flat_code_reads_no_more : (p : FlatPoint) (x : World) (u : Temps) → AroundReadsNoMore p.around → WorldHoldsAtLeast p.world x → TempsHoldAtLeast p.temps u → UnlessWrong (goes p) (goes (record p { world = x; temps = u }))
   flat_code_reads_no_more p x u h hw ht n ne =
-      flat_relate Filled WorldHoldsToo TempsHoldToo filled_keeps n p (record p { world = x; temps = u })
+      flat_relate Filled WorldHoldsAtLeast TempsHoldAtLeast filled_keeps n p (record p { world = x; temps = u })
       (alike_flat p.whole p.rest p.around p.around p.world x p.temps u (around p.around.activation p.around.out p.around.out p.around.back p.around.back (λ k w y t s r q i le. h.out k w y t s r q i) (λ v w y r i le. h.back v w y r i)) hw ht)
       n (omega arith) ne

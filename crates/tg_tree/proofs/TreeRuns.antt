@@ -13,7 +13,7 @@ use Rattle.tg_tree.specs.Units.{Stage, marked_entry_units}
 use Rattle.tg_tree.specs.Actions.{World, Temps, Around, Next, Back}
 use Rattle.tg_tree.specs.Meaning.{Point}
 use Rattle.tg_tree.specs.Running.{Runner, function_of, with_fuel, entered, run_body, body_point, enter, step, going, tree_run}
-use Rattle.tg_tree.specs.Holding.{TempsHoldToo, WorldHoldsToo, UnlessWrong, NextReadsNoMore, AroundReadsNoMore}
+use Rattle.tg_tree.specs.Holding.{TempsHoldAtLeast, WorldHoldsAtLeast, UnlessWrong, NextReadsNoMore, AroundReadsNoMore}
 use Rattle.tg_tree.proofs.Relating.{Related, RelatedWorlds, RelatedTemps, Keeps, AlikeBack, AlikeAround, around, around_down, Alike, alike, alike_down, keep_entered, keep_run}
 use Rattle.tg_tree.proofs.Going.{one, OneWorld, OneTemps, Same, same_keeps, IsOnward, Onward, onward_keeps}
 use Rattle.tg_tree.proofs.Filled.{Filled, filled_keeps}
@@ -83,13 +83,13 @@ module _ (stage : Stage) (code : Code Ts) (size : ℕ → ℕ) (floor room : ℕ
   pub trees_only_go_on : (body : ℕ) (input : List ℕ) (i j : ℕ) → i ≤ j → GoesOn (tree_run stage code size floor room body input i) (tree_run stage code size floor room body input j)
   trees_only_go_on body input i j le = (trees_onward body input i j le).on
 
-  pub trees_read_no_more : (p : Point) (x : World) (u : Temps) → AroundReadsNoMore p.around → NextReadsNoMore p.next → WorldHoldsToo p.world x → TempsHoldToo p.temps u → UnlessWrong (goes p) (goes (record p { world = x; temps = u }))
+  pub trees_read_no_more : (p : Point) (x : World) (u : Temps) → AroundReadsNoMore p.around → NextReadsNoMore p.next → WorldHoldsAtLeast p.world x → TempsHoldAtLeast p.temps u → UnlessWrong (goes p) (goes (record p { world = x; temps = u }))
   trees_read_no_more p x u h l hw ht n ne =
-      trees_relate Filled WorldHoldsToo TempsHoldToo filled_keeps n p (record p { world = x; temps = u })
+      trees_relate Filled WorldHoldsAtLeast TempsHoldAtLeast filled_keeps n p (record p { world = x; temps = u })
       (alike p.statement p.around p.around p.next p.next p.world x p.temps u (filled_around n p.around h) (λ w y t s r q i le. l w y t s r q i) hw ht)
       n (omega arith) ne
     where
-      filled_around : (n : ℕ) (e : Around) → AroundReadsNoMore e → AlikeAround Filled WorldHoldsToo TempsHoldToo n e e
+      filled_around : (n : ℕ) (e : Around) → AroundReadsNoMore e → AlikeAround Filled WorldHoldsAtLeast TempsHoldAtLeast n e e
       filled_around n e h = around e.activation e.out e.out e.back e.back (λ k w y t s r q i le. h.out k w y t s r q i) (λ v w y r i le. h.back v w y r i)
 
 -- a function whose frame reaches below the floor

@@ -1,6 +1,8 @@
 -- What the parts of a body act on, and their actions, each of which is passed what comes next: an
 -- outcome is what happens from that moment on.
-use Rattle.std.specs.Prelude.{ℕ, zero, suc, ◌+◌, ◌^◌, ◌%◌, ◌==◌, List, [], ◌∷◌, ◌++◌, length, replicate, Option, Some, None, true, false, nat_lt, if◌then◌else◌, pos}
+use Rattle.std.specs.Prelude.{ℕ, zero, suc, ◌+◌, ◌^◌, ◌%◌, ◌==◌, List, [], ◌∷◌, ◌++◌, length}
+use Rattle.std.specs.Prelude.{replicate, Option, Some, None, true, false, nat_lt, if◌then◌else◌}
+use Rattle.std.specs.Prelude.{pos}
 use Rattle.std.specs.Fmt.{signed_decimal}
 use Rattle.tg_base.specs.declared.ends.RunEnd.TheVariants.{Exit, HeapFull, BadService}
 use Rattle.tg_base.specs.Words.{signed}

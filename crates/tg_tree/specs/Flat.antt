@@ -7,7 +7,8 @@ use Rattle.tg_runs.specs.Ran.{Ran, Ended, WantsFuel, Wrong, stops}
 use Rattle.tg_tree.specs.Tree.{Linear, Mark, Do', Jump, Branch, Fault', Return', Code}
 use Rattle.tg_tree.specs.Operators.{holds}
 use Rattle.tg_tree.specs.Units.{Canonical, element_units, entry_units}
-use Rattle.tg_tree.specs.Actions.{World, Temps, Around, Acts, ◌>>=◌, ◌>>◌, pay, stop, go_back, wrong}
+use Rattle.tg_tree.specs.Actions.{World, Temps, Around, Acts, ◌>>=◌, ◌>>◌, pay, stop, go_back}
+use Rattle.tg_tree.specs.Actions.{wrong}
 use Rattle.tg_tree.specs.Meaning.{Enter, value, run}
 use Rattle.tg_tree.specs.Running.{Runner, with_fuel, call_in, program}
 

@@ -2,7 +2,8 @@
 use Rattle.std.specs.Prelude.{ℕ, ◌+◌, ◌≡◌, ◌≤◌, List, Option, Some, None}
 use Rattle.tg_runs.specs.Runs.{Run}
 use Rattle.tg_runs.specs.Ran.{Ran, Wrong}
-use Rattle.tg_tree.specs.Tree.{Tx, Const, Address, Temp, FrameAddress, Binary, Load, LoadByte, Literal}
+use Rattle.tg_tree.specs.Tree.{Tx, Const, Address, Temp, FrameAddress, Binary, Load, LoadByte}
+use Rattle.tg_tree.specs.Tree.{Literal}
 use Rattle.tg_tree.specs.Operators.{Given, word, stops_by, operate}
 use Rattle.tg_tree.specs.Memory.{Memory, load, load_byte, literal_address}
 use Rattle.tg_tree.specs.Units.{Stage, expression_units}

@@ -7,28 +7,28 @@ use Rattle.tg_tree.specs.Memory.{Cell, Closed, Unset, Has, Kept}
 use Rattle.tg_tree.specs.Actions.{World, Temps, Next, Back, Around}
 
 -- where the first holds a word, the second holds the same
-pub data HoldsToo : Option ℕ → Option ℕ → Type 0 where
-  unset : (o : Option ℕ) → HoldsToo None o
-  set : (v : ℕ) → HoldsToo (Some v) (Some v)
+pub data HoldsAtLeast : Option ℕ → Option ℕ → Type 0 where
+  unset : (o : Option ℕ) → HoldsAtLeast None o
+  set : (v : ℕ) → HoldsAtLeast (Some v) (Some v)
 
 -- a slot of an open activation is one in the second too, with the word that was stored to it;
 -- anything may stand elsewhere
-pub data CellHoldsToo : Cell → Cell → Type 0 where
-  elsewhere : (c : Cell) → CellHoldsToo Closed c
-  not_stored : CellHoldsToo Unset Unset
-  stored_to : (v : ℕ) → CellHoldsToo Unset (Has v)
-  stored : (v : ℕ) → CellHoldsToo (Has v) (Has v)
-  kept : (register : ℕ) → CellHoldsToo (Kept register) (Kept register)
+pub data CellHoldsAtLeast : Cell → Cell → Type 0 where
+  elsewhere : (c : Cell) → CellHoldsAtLeast Closed c
+  not_stored : CellHoldsAtLeast Unset Unset
+  stored_to : (v : ℕ) → CellHoldsAtLeast Unset (Has v)
+  stored : (v : ℕ) → CellHoldsAtLeast (Has v) (Has v)
+  kept : (register : ℕ) → CellHoldsAtLeast (Kept register) (Kept register)
 
-abbrev pub TempsHoldToo : Temps → Temps → Type 0
-TempsHoldToo t u = (i : ℕ) → HoldsToo (t i) (u i)
+abbrev pub TempsHoldAtLeast : Temps → Temps → Type 0
+TempsHoldAtLeast t u = (i : ℕ) → HoldsAtLeast (t i) (u i)
 
 -- two worlds with the same statics, heap and input
-pub data WorldHoldsToo : World → World → Type 0 where
+pub data WorldHoldsAtLeast : World → World → Type 0 where
   in_stack :
       (statics heap input : List ℕ) (cells cells' : ℕ → Cell) →
-      ((a : ℕ) → CellHoldsToo (cells a) (cells' a)) →
-      WorldHoldsToo
+      ((a : ℕ) → CellHoldsAtLeast (cells a) (cells' a)) →
+      WorldHoldsAtLeast
       (record { memory = record { statics = statics; heap = heap; stack = cells }; input = input })
       (record { memory = record { statics = statics; heap = heap; stack = cells' }; input = input })
 
@@ -38,12 +38,13 @@ UnlessWrong c d = (n : ℕ) → (c n).stop ≢ Wrong → d n ≡ c n
 
 -- what comes next reads nothing else either
 abbrev pub BackReadsNoMore : Back → Type 0
-BackReadsNoMore back = (v : ℕ) (w x : World) → WorldHoldsToo w x → UnlessWrong (back v w) (back v x)
+BackReadsNoMore back =
+    (v : ℕ) (w x : World) → WorldHoldsAtLeast w x → UnlessWrong (back v w) (back v x)
 
 abbrev pub NextReadsNoMore : Next → Type 0
 NextReadsNoMore next =
     (w x : World) (t u : Temps) →
-    WorldHoldsToo w x → TempsHoldToo t u → UnlessWrong (next w t) (next x u)
+    WorldHoldsAtLeast w x → TempsHoldAtLeast t u → UnlessWrong (next w t) (next x u)
 
 pub record AroundReadsNoMore (e : Around) : Type 0 where
   pub out : (k : ℕ) → NextReadsNoMore (e.out k)

@@ -8,7 +8,8 @@ use Rattle.tg_tree.specs.Actions.{World, Temps, Back}
 use Rattle.tg_tree.specs.Meaning.{Point}
 use Rattle.tg_tree.specs.Running.{Runner, entered, step, going, tree_run}
 use Rattle.tg_tree.specs.Flat.{FlatPoint, flat_step, flat_going, flat_run}
-use Rattle.tg_tree.specs.Holding.{TempsHoldToo, WorldHoldsToo, UnlessWrong, NextReadsNoMore, AroundReadsNoMore}
+use Rattle.tg_tree.specs.Holding.{TempsHoldAtLeast, WorldHoldsAtLeast, UnlessWrong, NextReadsNoMore}
+use Rattle.tg_tree.specs.Holding.{AroundReadsNoMore}
 
 -- a run is its own step: what comes of a point is a step from it, and then what comes of the points
 -- behind it
@@ -54,7 +55,7 @@ TreesReadNoMore =
     (stage : Stage) (code : Code Ts) (size : ℕ → ℕ) (floor room : ℕ)
     (p : Point) (x : World) (u : Temps) →
     AroundReadsNoMore p.around → NextReadsNoMore p.next →
-    WorldHoldsToo p.world x → TempsHoldToo p.temps u →
+    WorldHoldsAtLeast p.world x → TempsHoldAtLeast p.temps u →
     UnlessWrong (going stage code size floor room p)
     (going stage code size floor room (record p { world = x; temps = u }))
 
@@ -62,7 +63,7 @@ abbrev pub FlatCodeReadsNoMore : Type 0
 FlatCodeReadsNoMore =
     (code : Code (List Linear)) (size : ℕ → ℕ) (floor room : ℕ)
     (p : FlatPoint) (x : World) (u : Temps) →
-    AroundReadsNoMore p.around → WorldHoldsToo p.world x → TempsHoldToo p.temps u →
+    AroundReadsNoMore p.around → WorldHoldsAtLeast p.world x → TempsHoldAtLeast p.temps u →
     UnlessWrong (flat_going code size floor room p)
     (flat_going code size floor room (record p { world = x; temps = u }))
 

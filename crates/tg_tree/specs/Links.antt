@@ -1,7 +1,8 @@
 -- Static links (Appel, chapter 6). The first argument of a call of a declared function is the frame
 -- address of the current activation of the function around it in the text. A run that goes wrong at
 -- any other first argument is the run, where the links are right.
-use Rattle.std.specs.Prelude.{ℕ, ◌-◌, ◌≡◌, ◌==◌, List, [], ◌∷◌, length, drop, Bool, false, nat_lt, if◌then◌else◌}
+use Rattle.std.specs.Prelude.{ℕ, ◌-◌, ◌≡◌, ◌==◌, List, [], ◌∷◌, length, drop, Bool, false, nat_lt}
+use Rattle.std.specs.Prelude.{if◌then◌else◌}
 use Rattle.tg_runs.specs.Runs.{Run, again}
 use Rattle.tg_runs.specs.Ran.{Ran, WantsFuel, stops}
 use Rattle.tg_tree.specs.Tree.{Ts, Code}

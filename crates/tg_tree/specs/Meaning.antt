@@ -7,8 +7,11 @@ use Rattle.tg_tree.specs.Tree as tree
 use Rattle.tg_tree.specs.Tree.{Tx, Txs, Cond, Ts, Stms, Literal}
 use Rattle.tg_tree.specs.Operators.{operate, holds}
 use Rattle.tg_tree.specs.Memory.{load, load_byte, store, store_byte, literal_address}
-use Rattle.tg_tree.specs.Units.{Stage, expression_units, argument_units, condition_units, statement_units}
-use Rattle.tg_tree.specs.Actions.{World, Temps, Go, Next, Back, Around, Acts, ◌>>=◌, ◌>>◌, give, skip, pay, stop, known, read_temp, write_temp, read_memory, write_memory, given, frame_address, leave, leaving, go_back, ask}
+use Rattle.tg_tree.specs.Units.{Stage, expression_units, argument_units, condition_units}
+use Rattle.tg_tree.specs.Units.{statement_units}
+use Rattle.tg_tree.specs.Actions.{World, Temps, Go, Next, Back, Around, Acts, ◌>>=◌, ◌>>◌, give}
+use Rattle.tg_tree.specs.Actions.{skip, pay, stop, known, read_temp, write_temp, read_memory}
+use Rattle.tg_tree.specs.Actions.{write_memory, given, frame_address, leave, leaving, go_back, ask}
 
 -- a statement that is to be run, with all that comes next
 pub record Point : Type 0 where

@@ -1,6 +1,7 @@
 -- The memory of a run of trees: the regions of the machine, where the stack is seen by the slots of
 -- open activations.
-use Rattle.std.specs.Prelude.{ℕ, zero, suc, ◌+◌, ◌-◌, ◌*◌, ◌/◌, ◌%◌, ◌^◌, ◌==◌, List, [], ◌∷◌, ◌++◌, length, slice_index, slice_set, Option, Some, None, if◌then◌else◌}
+use Rattle.std.specs.Prelude.{ℕ, zero, suc, ◌+◌, ◌-◌, ◌*◌, ◌/◌, ◌%◌, ◌^◌, ◌==◌, List, [], ◌∷◌, ◌++◌}
+use Rattle.std.specs.Prelude.{length, slice_index, slice_set, Option, Some, None, if◌then◌else◌}
 use Rattle.tg_base.specs.State.{offset, word_at, set_word, padded, statics_base, heap_base}
 use Rattle.tg_tree.specs.Tree.{Literal}
 

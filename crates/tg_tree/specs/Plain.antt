@@ -1,8 +1,11 @@
 -- The plain tree of the code's tree.
 use Rattle.std.specs.Prelude.{map}
 use Rattle.tg_frame.specs.declared.frames.Frame.{Frame}
-use Rattle.tg_tree.specs.declared.trees.Tx.{Tx, Const, Address, Temp, FrameAddress, Binary', Load', LoadByte', Call', Service', After', Row_of-Tx, end_of-Tx, more_of-Tx}
-use Rattle.tg_tree.specs.declared.trees.Ts.{Ts, Move, Store, StoreByte, Do, If', Loop', Break, Fault, Seq', Return, Row_of-Ts, end_of-Ts, more_of-Ts}
+use Rattle.tg_tree.specs.declared.trees.Tx.{Tx, Const, Address, Temp, FrameAddress, Binary', Load'}
+use Rattle.tg_tree.specs.declared.trees.Tx.{LoadByte', Call', Service', After', Row_of-Tx}
+use Rattle.tg_tree.specs.declared.trees.Tx.{end_of-Tx, more_of-Tx}
+use Rattle.tg_tree.specs.declared.trees.Ts.{Ts, Move, Store, StoreByte, Do, If', Loop', Break}
+use Rattle.tg_tree.specs.declared.trees.Ts.{Fault, Seq', Return, Row_of-Ts, end_of-Ts, more_of-Ts}
 use Rattle.tg_tree.specs.declared.trees.Cond.{Cond, Compare', Not', Both', Either'}
 use Rattle.tg_tree.specs.declared.linear.Linear.{Linear}
 use Rattle.tg_tree.specs.declared.linear.Linear.TheVariants as linear

@@ -1,6 +1,7 @@
 -- Runs of trees. A return to the head of a loop and a call take a unit of fuel each, and the first
 -- activation of a program takes none.
-use Rattle.std.specs.Prelude.{ℕ, ◌+◌, ◌==◌, List, [], ◌∷◌, Option, Some, None, length, map, nat_lt, if◌then◌else◌, pos}
+use Rattle.std.specs.Prelude.{ℕ, ◌+◌, ◌==◌, List, [], ◌∷◌, Option, Some, None, length, map, nat_lt}
+use Rattle.std.specs.Prelude.{if◌then◌else◌, pos}
 use Rattle.tg_base.specs.declared.ends.RunEnd.TheVariants.{Exit, StackFull}
 use Rattle.tg_base.specs.State.{stack_top}
 use Rattle.tg_frame.specs.declared.accesses.Access.{Access}
@@ -10,7 +11,8 @@ use Rattle.tg_runs.specs.Ran.{Ran, Ended, WantsFuel, stops}
 use Rattle.tg_tree.specs.Tree.{Ts, Stms, Seq, Function, Code}
 use Rattle.tg_tree.specs.Units.{Stage, Canonical, marked_entry_units}
 use Rattle.tg_tree.specs.Memory.{Unset, Closed, Has, put, slot, lay, begin}
-use Rattle.tg_tree.specs.Actions.{World, Temps, set_temp, Activation, Back, Next, Around, over, wrong, charged}
+use Rattle.tg_tree.specs.Actions.{World, Temps, set_temp, Activation, Back, Next, Around, over}
+use Rattle.tg_tree.specs.Actions.{wrong, charged}
 use Rattle.tg_tree.specs.Meaning.{Enter, Point, run}
 
 abbrev pub function_of : {Body : Type 0} → ℕ → List (Function Body) → Option (Function Body)

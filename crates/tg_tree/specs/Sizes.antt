@@ -5,7 +5,10 @@
 use Rattle.std.specs.Prelude.{ℕ, ◌+◌, ◌*◌, List, [], ◌∷◌, length}
 use Rattle.tg_tree.specs.declared.operators.Bin.{Bin}
 use Rattle.tg_tree.specs.declared.operators.Bin.TheVariants.{ShiftLeft, ShiftRight, ShiftSigned}
-use Rattle.tg_tree.specs.Tree.{Tx, Temp, Binary, Load, LoadByte, Call, Service, After, Txs, no_txs, tx, Cond, Compare, Not, Both, Either, Ts, Move, Store, StoreByte, Do, If, Loop, Seq, Return, Stms, no_stms, stm, Linear, Do', Branch, Return', Function}
+use Rattle.tg_tree.specs.Tree.{Tx, Temp, Binary, Load, LoadByte, Call, Service, After, Txs, no_txs}
+use Rattle.tg_tree.specs.Tree.{tx, Cond, Compare, Not, Both, Either, Ts, Move, Store, StoreByte, Do}
+use Rattle.tg_tree.specs.Tree.{If, Loop, Seq, Return, Stms, no_stms, stm, Linear, Do', Branch}
+use Rattle.tg_tree.specs.Tree.{Return', Function}
 use Rattle.tg_tree.specs.Units.{
   Stage,
   Trees,

@@ -4,7 +4,8 @@
 -- later passes may write for it, so that a pass adds no more than a constant to either number.
 use Rattle.std.specs.Prelude.{ℕ, ◌+◌, ◌*◌, Bool, if◌then◌else◌}
 use Rattle.tg_tree.specs.declared.operators.Bin.{Bin}
-use Rattle.tg_tree.specs.declared.operators.Bin.TheVariants.{Mul, Div, MulHigh, ShiftLeft, ShiftRight, ShiftSigned}
+use Rattle.tg_tree.specs.declared.operators.Bin.TheVariants.{Mul, Div, MulHigh, ShiftLeft}
+use Rattle.tg_tree.specs.declared.operators.Bin.TheVariants.{ShiftRight, ShiftSigned}
 use Rattle.tg_tree.specs.Tree.{
   Tx,
   Const,
@@ -52,8 +53,8 @@ lifted_units Trees flat = if flat then 0 else 2
 lifted_units Canonical flat = 0
 
 -- Two conditions that are joined. Where a right one has something lifted in front of it, they are
--- tested part by part: each part leaves loops by a test and a break, and a join may be a loop of its
--- own, with a break at its end. A right side that isn't flat pays for the two loops around both
+-- tested part by part: each part leaves loops by a test and a break, and a join may be a loop of
+-- its own, with a break at its end. A right side that isn't flat pays for the two loops around both
 -- statements, with their breaks, as well.
 abbrev pub joined_units : Stage → (flat : Bool) → ℕ
 joined_units Trees flat = if flat then 14 else 31

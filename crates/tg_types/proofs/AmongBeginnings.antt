@@ -4,7 +4,7 @@ use Rattle.std.specs.Prelude.{slice_index_or}
 use Rattle.std.specs.List.{AllPairs}
 use Rattle.tg_syntax.specs.declared.tokens.Ident.{Ident}
 use Rattle.tg_syntax.specs.declared.trees.Param.{Param}
-use Rattle.tg_syntax.specs.Tree.{Form, Alias, Fields, Array, TypeDec, Exp, Nil, Break, Int, Text, Read, Call, Neg, Binary, Make, Fill, Assign, If, When, While, For, Let, Seq, Place, Simple, Field, Index, Exps, no_exps, exp, Inits, no_inits, init, Decs, no_decs, types, variable, functions, FunDecs, no_functions, function}
+use Rattle.tg_syntax.specs.Tree.{Form, Alias, Fields, Array, TypeDec, Exp, Nil, Break, Int, Text, Read, Call, Neg, Binary, Make, Fill, Assign, If, When, While, For, Let, Seq, LValue, Simple, Field, Index, Exps, no_exps, exp, Inits, no_inits, init, Decs, no_decs, types, variable, functions, FunDecs, no_functions, function}
 use Rattle.tg_syntax.specs.Beginnings.{param_beginnings, form_beginnings, type_beginnings, kind_beginnings, beginnings, place_beginnings, exps_beginnings, inits_beginnings, decs_beginnings, function_beginnings, BeginsApart}
 use Rattle.tg_types.proofs.TypeBytes.{with_form, with_group, bytes_in, bytes_in_place, bytes_in_exps, bytes_in_inits, bytes_in_decs, bytes_in_bodies, type_bytes}
 
@@ -51,7 +51,7 @@ mutual
   among (Let _ ds es) s = among_exps es (among_decs ds s)
   among (Seq _ es) s = among_exps es s
 
-  among_place : (v : Place) {xs ys : List ℕ} → Some_of xs ys → Some_of (bytes_in_place v xs) (place_beginnings v ys)
+  among_place : (v : LValue) {xs ys : List ℕ} → Some_of xs ys → Some_of (bytes_in_place v xs) (place_beginnings v ys)
   among_place (Simple x) s = skip _ s
   among_place (Field v f) s = skip _ (among_place v s)
   among_place (Index v e) s = among e (among_place v s)

@@ -3,7 +3,7 @@ use Rattle.std.proofs.Common.{◌≡◌, ◌≢◌, ℕ, zero, suc, ◌<◌, Lis
 use Rattle.std.specs.Prelude.{map, ◌==◌, if◌then◌else◌, slice_index_or}
 use Rattle.std.specs.List.{AllPairs}
 use Rattle.std.proofs.lemmas.Bool.{eqb-true}
-use Rattle.tg_syntax.specs.Tree.{Form, Alias, Fields, Array, TypeDec, Exp, Nil, Break, Int, Text, Read, Call, Neg, Binary, Make, Fill, Assign, If, When, While, For, Let, Seq, Place, Simple, Field, Index, Exps, no_exps, exp, Inits, no_inits, init, Decs, no_decs, types, variable, functions, FunDecs, no_functions, function}
+use Rattle.tg_syntax.specs.Tree.{Form, Alias, Fields, Array, TypeDec, Exp, Nil, Break, Int, Text, Read, Call, Neg, Binary, Make, Fill, Assign, If, When, While, For, Let, Seq, LValue, Simple, Field, Index, Exps, no_exps, exp, Inits, no_inits, init, Decs, no_decs, types, variable, functions, FunDecs, no_functions, function}
 use Rattle.tg_types.specs.Types.{Ty, int_type, none_type, Shape}
 use Rattle.tg_symbols.specs.Tables.{named}
 use Rattle.tg_types.specs.Checks.{Noted, fine}
@@ -171,7 +171,7 @@ mutual
       gathered_last none_type es p.value t p.between h p.onward ∙ ap (λ y. bytes_in_exps es y) (gathered_decs ds scope p.value g p.between p.first)
   gathered (Seq s es) scope t g h e = gathered_last none_type es scope t g h e
 
-  pub gathered_place : (v : Place) (scope : Scope) (t : Ty) (g h : Noted) → typed_place v scope g ≡ fine t h → bytes_of h ≡ bytes_in_place v (bytes_of g)
+  pub gathered_place : (v : LValue) (scope : Scope) (t : Ty) (g h : Noted) → typed_place v scope g ≡ fine t h → bytes_of h ≡ bytes_in_place v (bytes_of g)
   gathered_place (Simple y) scope t g h e = still_shapes g h (variable_got y _ t g h e).3
   gathered_place (Field v f) scope t g h e =
       let p = steps e in

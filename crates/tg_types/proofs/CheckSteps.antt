@@ -9,9 +9,9 @@ use Rattle.tg_types.specs.declared.faults.TypeRule.{TypeRule}
 use Rattle.tg_types.specs.declared.faults.TypeFault.{TypeFault}
 use Rattle.tg_types.specs.declared.limits.Limit.{Limit}
 use Rattle.tg_types.specs.declared.notes.Note.{Note}
-use Rattle.tg_types.specs.declared.states.State.{State}
+use Rattle.tg_types.specs.declared.states.CheckingState.{CheckingState}
 use Rattle.tg_types.specs.Types.{Ty}
-use Rattle.tg_types.specs.Checks.{Noted, Checked, fine}
+use Rattle.tg_types.specs.Checks.{Noted, CheckResult, fine}
 use Rattle.tg_types.specs.Scopes.{Scope, Binding, standard_bindings, standard_types, outermost}
 use Rattle.tg_types.specs.States.{Fails, bad, no_memory, scope_of, noted_of}
 use Rattle.tg_types.specs.Typing.{typed}
@@ -28,7 +28,7 @@ abbrev opened : (names : List (List ℕ)) → List (ℕ × Binding) → List (�
 opened names bs ts = record { bindings = bs ++ standard_bindings 0 names; types = ts ++ standard_types 0 names; in_loop = false }
 
 -- what is typed where nothing is open yet
-pub at_first : (names : List (List ℕ)) (body : Exp) (s : State) (P : Checked Ty → Type 0) → s.bindings ≡ [] → s.types ≡ [] → noted_of s ≡ begin →
+pub at_first : (names : List (List ℕ)) (body : Exp) (s : CheckingState) (P : CheckResult Ty → Type 0) → s.bindings ≡ [] → s.types ≡ [] → noted_of s ≡ begin →
     ((scope : Scope) → scope ≡ scope_of names s false → P (typed body scope (noted_of s))) → P (typed body (outermost names) begin)
 at_first names body s P b t n given =
     subst (λ g. P (typed body (outermost names) g)) n (given (outermost names) (ap₂ (λ x y. opened names x y) (sym b) (sym t)))

@@ -8,7 +8,7 @@ use Rattle.tg_syntax.specs.Plain.{plain}
 use Rattle.tg_types.specs.declared.faults.TypeRule.{TypeRule}
 use Rattle.tg_types.specs.declared.notes.Note.{Note}
 use Rattle.tg_types.specs.Types.{Ty}
-use Rattle.tg_types.specs.Checks.{Checked, fine, fault, Noted}
+use Rattle.tg_types.specs.Checks.{CheckResult, fine, fault, Noted}
 use Rattle.tg_types.specs.Scopes.{outermost}
 use Rattle.tg_types.specs.Typing.{typed}
 use Rattle.tg_types.specs.Limits.{limit_fault}
@@ -34,7 +34,7 @@ by_limits : (few notes : List Note) (o : Option (TypeRule × ℕ)) → AcceptsAm
 by_limits few notes None a = (refl, a)
 by_limits few notes (Some f) a = absurd a
 
-by_checks : (names : List (List ℕ)) (body : Exp) (notes : List Note) (c : Checked Ty) → typed body (outermost names) begin ≡ c →
+by_checks : (names : List (List ℕ)) (body : Exp) (notes : List Note) (c : CheckResult Ty) → typed body (outermost names) begin ≡ c →
     AcceptsAmong (finding_of body c) notes → AllPairs (λ a b. a ≢ b) (type_bytes body) → Derivation names body notes
 by_checks names body notes (fault rule at) is e a = absurd e
 by_checks names body notes (fine t noted) is e a =

@@ -6,7 +6,7 @@ use Rattle.tg_syntax.specs.declared.tokens.Ident.{Ident}
 use Rattle.tg_syntax.specs.declared.trees.Param.{Param}
 use Rattle.tg_syntax.specs.declared.trees.Op.{Op}
 use Rattle.tg_base.specs.declared.ids.Span.{Span}
-use Rattle.tg_syntax.specs.Tree.{Form, Alias, Fields, Array, TypeDec, Exp, Nil, Break, Int, Text, Read, Call, Neg, Binary, Make, Fill, Assign, If, When, While, For, Let, Seq, Place, Simple, Field, Index, Exps, no_exps, exp, Inits, no_inits, init, Decs, no_decs, types, variable, functions, FunDecs, no_functions, function}
+use Rattle.tg_syntax.specs.Tree.{Form, Alias, Fields, Array, TypeDec, Exp, Nil, Break, Int, Text, Read, Call, Neg, Binary, Make, Fill, Assign, If, When, While, For, Let, Seq, LValue, Simple, Field, Index, Exps, no_exps, exp, Inits, no_inits, init, Decs, no_decs, types, variable, functions, FunDecs, no_functions, function}
 use Rattle.tg_meaning.specs.Environments.{function_named}
 use Rattle.tg_types.specs.declared.faults.TypeRule.{TypeRule}
 use Rattle.tg_types.specs.Types.{Ty, int_type, none_type, Shape}
@@ -163,7 +163,7 @@ body_got None result got at x g h n e =
     (subst (λ y. Fits got y) (p.0 ∙ sym (n refl)) the_same, p.1)
 body_got (Some y) result got at x g h n e = expected result got at x g h e
 
-pub assignable_keep : (v : Place) (scope : Scope) (x : Unit {0}) (g h : Noted) → assignable v scope g ≡ fine x h → g ≡ h
+pub assignable_keep : (v : LValue) (scope : Scope) (x : Unit {0}) (g h : Noted) → assignable v scope g ≡ fine x h → g ≡ h
 assignable_keep (Simple y) scope x g h e = (kept _ _ _ _ _ _ e).1
 assignable_keep (Field v f) scope x g h e = (given _ _ _ _ e).1
 assignable_keep (Index v i) scope x g h e = (given _ _ _ _ e).1
@@ -399,7 +399,7 @@ module _ (shapes : List (ℕ × Shape)) (notes : List Note) (apart : AreApart sh
         (Has.block p.value l.0 k.0, l.1)
     derived (Seq s es) scope t g h e x = let k = derived_last none_type es scope t g h e x in (Has.seq k.0, k.1)
 
-    pub derived_place : (v : Place) (scope : Scope) (t : Ty) (g h : Noted) → typed_place v scope g ≡ fine t h → Ends h →
+    pub derived_place : (v : LValue) (scope : Scope) (t : Ty) (g h : Noted) → typed_place v scope g ≡ fine t h → Ends h →
         Has.HasPlace shapes notes v scope t × Ends g
     derived_place (Simple y) scope t g h e x =
         let p = variable_got y _ t g h e in

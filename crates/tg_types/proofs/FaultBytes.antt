@@ -6,14 +6,14 @@ use Rattle.tg_syntax.specs.declared.tokens.Ident.{Ident}
 use Rattle.tg_syntax.specs.declared.trees.Param.{Param}
 use Rattle.tg_syntax.specs.declared.trees.Op.{Op}
 use Rattle.tg_syntax.specs.declared.trees.Op.TheVariants.{Plus, Minus, Times, Divide, Equal, NotEqual, Less, LessEqual, Greater, GreaterEqual, And, Or}
-use Rattle.tg_syntax.specs.Tree.{Form, Alias, Fields, Array, TypeDec, Exp, Nil, Break, Int, Text, Read, Call, Neg, Binary, Make, Fill, Assign, If, When, While, For, Let, Seq, Place, Simple, Field, Index, Exps, no_exps, exp, Inits, no_inits, init, Decs, no_decs, types, variable, functions, FunDecs, no_functions, function}
+use Rattle.tg_syntax.specs.Tree.{Form, Alias, Fields, Array, TypeDec, Exp, Nil, Break, Int, Text, Read, Call, Neg, Binary, Make, Fill, Assign, If, When, While, For, Let, Seq, LValue, Simple, Field, Index, Exps, no_exps, exp, Inits, no_inits, init, Decs, no_decs, types, variable, functions, FunDecs, no_functions, function}
 use Rattle.tg_syntax.specs.Measures.{size}
 use Rattle.tg_types.specs.declared.faults.TypeRule.{TypeRule}
 use Rattle.tg_types.specs.declared.faults.TypeRule.TheVariants.{T16, T17, T20, T21, T22}
 use Rattle.tg_types.specs.declared.notes.Means.{Means}
 use Rattle.tg_types.specs.declared.notes.Note.{Note}
 use Rattle.tg_types.specs.Types.{Ty, int_type, string_type, nil_type, none_type, record_type, array_type, Shape, record_shape, array_shape}
-use Rattle.tg_types.specs.Checks.{Noted, Checked, fine, fault, Check, on_fine, ◌>>=◌, give, refuse, keep, present, note, shape_at, add_shape}
+use Rattle.tg_types.specs.Checks.{Noted, CheckResult, fine, fault, Check, on_fine, ◌>>=◌, give, refuse, keep, present, note, shape_at, add_shape}
 use Rattle.tg_types.specs.Scopes.{Signature, Binding, variable_at, function_at, standard_one, Scope, at_of, bound as bound_in, binding, in_a_loop, in_no_loop, outermost}
 use Rattle.tg_types.specs.Groups.{no_repeats, names_of, known_fields, known_form, known_forms, chains_end, with_group, add_form, add_forms, declare_types, function_names, param_types, result_type, headers, with_functions, with_params}
 use Rattle.tg_types.specs.Typing.{start_of, place_start, expect, variable_of, function_of, assignable, fields_in, fields_of, element_in, element_of, select, ordered, equated, left_side, equal_sides, right_side, own_type, body_fits, typed, typed_place, expect_all, expect_fields, typed_last, declare, bodies}
@@ -36,7 +36,7 @@ record LimitWithin (here : ℕ → Bool) (o : Option (TypeRule × ℕ)) : Type 0
 
 module _ (here : ℕ → Bool) where
   in_parts : {A B : Type 0} (m : Check A) (next : A → Check B) → FaultsWithin here m → ((a : A) → FaultsWithin here (next a)) →
-      (n : Noted) (rule : TypeRule) (at : ℕ) (o : Checked A) → m n ≡ o → on_fine o next ≡ fault rule at → IsTrue (here at)
+      (n : Noted) (rule : TypeRule) (at : ℕ) (o : CheckResult A) → m n ≡ o → on_fine o next ≡ fault rule at → IsTrue (here at)
   in_parts m next f g n rule at (fine a noted) is e = (g a).within noted rule at e
   in_parts m next f g n rule at (fault r b) is e =
       let same : b ≡ at = cc in
@@ -92,7 +92,7 @@ module _ (here : ℕ → Bool) where
   of_function f (Some (function_at at s)) h = bind (noted _ _) (λ _. given _)
   of_function f (Some (standard_one g)) h = bind (noted _ _) (λ _. given _)
 
-  of_assignable : (v : Place) (scope : Scope) → PlaceBegins here v → FaultsWithin here (assignable v scope)
+  of_assignable : (v : LValue) (scope : Scope) → PlaceBegins here v → FaultsWithin here (assignable v scope)
   of_assignable (Simple x) scope h = kept _ _ _ h
   of_assignable (Field v f) scope h = given _
   of_assignable (Index v e) scope h = given _
@@ -267,7 +267,7 @@ module _ (here : ℕ → Bool) where
   start (Let s ds es) h = h.0
   start (Seq s es) h = h.0
 
-  start_of_place : (v : Place) → PlaceBegins here v → IsTrue (here (place_start v))
+  start_of_place : (v : LValue) → PlaceBegins here v → IsTrue (here (place_start v))
   start_of_place (Simple x) h = h
   start_of_place (Field v f) h = start_of_place v h.0
   start_of_place (Index v e) h = start_of_place v h.0
@@ -334,7 +334,7 @@ module _ (here : ℕ → Bool) where
     of_exp (Let s ds es) scope h = bind (of_decs ds scope h.1) (λ inner. of_last none_type es inner h.2)
     of_exp (Seq s es) scope h = of_last none_type es scope h.1
 
-    of_place : (v : Place) (scope : Scope) → PlaceBegins here v → FaultsWithin here (typed_place v scope)
+    of_place : (v : LValue) (scope : Scope) → PlaceBegins here v → FaultsWithin here (typed_place v scope)
     of_place (Simple x) scope h = of_variable x (bound_in x scope) h
     of_place (Field v f) scope h =
         bind (of_place v scope h.0) (λ t.
@@ -420,7 +420,7 @@ module _ (here : ℕ → Bool) where
     declared_within k seen (Let s ds es) h = both _ _ (in_decs k seen ds h.1) (in_exps k (own_decs k ds seen) es h.2)
     declared_within k seen (Seq s es) h = in_exps k seen es h.1
 
-    in_place : (k : ℕ) (seen : Levels) (v : Place) → PlaceBegins here v → AreWithin (declared_place k seen v)
+    in_place : (k : ℕ) (seen : Levels) (v : LValue) → PlaceBegins here v → AreWithin (declared_place k seen v)
     in_place k seen (Simple x) h = tt
     in_place k seen (Field v f) h = in_place k seen v h.0
     in_place k seen (Index v e) h = both _ _ (in_place k seen v h.0) (declared_within k seen e h.1)
@@ -470,7 +470,7 @@ module _ (here : ℕ → Bool) where
       let same : f.1 ≡ at = cc in
       subst (λ k. IsTrue (here k)) same h.within
 
-  found_within : (body : Exp) (n : Noted) (o : Checked Ty) (scope : Scope) (rule : TypeRule) (at : ℕ) → BeginsWithin here body → typed body scope n ≡ o →
+  found_within : (body : Exp) (n : Noted) (o : CheckResult Ty) (scope : Scope) (rule : TypeRule) (at : ℕ) → BeginsWithin here body → typed body scope n ≡ o →
       finding_of body o ≡ at_fault rule at → IsTrue (here at)
   found_within body n (fine t noted) scope rule at h is e = beyond_limits noted.notes (limit_fault body) rule at (limit_within body h) e
   found_within body n (fault r b) scope rule at h is e =

@@ -26,7 +26,7 @@ use Rattle.tg_types.specs.Types.{Ty, Shape}
 use Rattle.tg_types.specs.Groups as groups
 use Rattle.tg_types.specs.Groups.{stands_in, no_repeats, names_of, known, known_form, known_forms, known_fields, endless, ends_at, chain_of, has_end, chains_end, type_at_end, with_group, add_form, add_forms}
 use Rattle.tg_types.specs.Declaring.{HasPlaces, HasNames, place_in, AreDifferent, chain_from, ChainWithin, named_types}
-use Rattle.tg_types.specs.declared.states.State.{State}
+use Rattle.tg_types.specs.declared.states.CheckingState.{CheckingState}
 use Rattle.tg_types.specs.declared.chains.Chain.{Chain as CodeChain}
 use Rattle.tg_types.specs.declared.chains.Chain.TheVariants.{Outside, EndsAt, Onward}
 use Rattle.tg_types.proofs.ChainSteps.{there}
@@ -246,13 +246,13 @@ field_within n [] k h l = absurd (omega (arith, l))
 field_within n (p ∷ ps) zero h l = h.1
 field_within n (p ∷ ps) (suc k) h l = field_within n ps k h.2 (omega (arith, l))
 
-pub record FieldsOn {S T : Type 0} (names : List (List ℕ)) (s : State) (places : HashMap ℕ ℕ S) (seen : HashSet ℕ T) (ps : List Param) (k : ℕ) : Type 0 where
+pub record FieldsOn {S T : Type 0} (names : List (List ℕ)) (s : CheckingState) (places : HashMap ℕ ℕ S) (seen : HashSet ℕ T) (ps : List Param) (k : ℕ) : Type 0 where
   pub earlier : List Ident
   pub has : HasNames seen earlier
   pub onward : (whole : List TypeDec) (scope : Scope) (in_loop : Bool) → HasPlaces places whole → scope ≡ scope_of names s in_loop → (n : Noted) →
       known_fields whole scope [] ps n ≡ known_fields whole scope earlier (drop k ps) n
 
-pub fields_none : {S : Type 0} {T : Type 0} {names : List (List ℕ)} {s : State} {places : HashMap ℕ ℕ S} {seen : HashSet ℕ T} {ps : List Param} →
+pub fields_none : {S : Type 0} {T : Type 0} {names : List (List ℕ)} {s : CheckingState} {places : HashMap ℕ ℕ S} {seen : HashSet ℕ T} {ps : List Param} →
     HasNames seen [] → FieldsOn names s places seen ps 0
 fields_none h = record { earlier = []; has = h; onward = λ whole scope in_loop p e n. refl }
 
@@ -260,7 +260,7 @@ fields_here : (whole : List TypeDec) (scope : Scope) (earlier : List Ident) (ps 
     known_fields whole scope earlier (drop k ps) n ≡ known_fields whole scope earlier (field_at ps k ∷ drop (k + 1) ps) n
 fields_here whole scope earlier ps k n l = ap (λ x. known_fields whole scope earlier x n) (from_here ps k (field_at ps k) l (field_is ps k l))
 
-pub fields_one : {S : Type 0} {T : Type 0} {names : List (List ℕ)} {s : State} {places : HashMap ℕ ℕ S} {seen : HashSet ℕ T} {next : HashSet ℕ T}
+pub fields_one : {S : Type 0} {T : Type 0} {names : List (List ℕ)} {s : CheckingState} {places : HashMap ℕ ℕ S} {seen : HashSet ℕ T} {next : HashSet ℕ T}
     {ps : List Param} {k : ℕ} (a : FieldsOn names s places seen ps k) → k < length ps →
     ((n : Noted) → keep T18 (field_at ps k).name.span.from (not (stands_in (field_at ps k).name.name.0 a.earlier)) n ≡ fine tt n) →
     ((whole : List TypeDec) (scope : Scope) (in_loop : Bool) → HasPlaces places whole → scope ≡ scope_of names s in_loop → (n : Noted) →
@@ -273,7 +273,7 @@ fields_one {ps = ps} {k = k} a l g f h = record {
       ∙ (fields_here whole scope a.earlier ps k n l ∙ step _ _ (g n) (step _ _ (f whole scope in_loop p e n) refl));
 }
 
-pub fields_repeat : {S : Type 0} {T : Type 0} {names : List (List ℕ)} {s : State} {places : HashMap ℕ ℕ S} {seen : HashSet ℕ T} {ps : List Param} {k : ℕ}
+pub fields_repeat : {S : Type 0} {T : Type 0} {names : List (List ℕ)} {s : CheckingState} {places : HashMap ℕ ℕ S} {seen : HashSet ℕ T} {ps : List Param} {k : ℕ}
     {e : TypeFault} (a : FieldsOn names s places seen ps k) → k < length ps →
     ((n : Noted) → Fails e (keep T18 (field_at ps k).name.span.from (not (stands_in (field_at ps k).name.name.0 a.earlier)) n)) →
     (whole : List TypeDec) (scope : Scope) (in_loop : Bool) → HasPlaces places whole → scope ≡ scope_of names s in_loop → (n : Noted) →
@@ -281,7 +281,7 @@ pub fields_repeat : {S : Type 0} {T : Type 0} {names : List (List ℕ)} {s : Sta
 fields_repeat {ps = ps} {k = k} a l g whole scope in_loop p e n =
     last_fails (a.onward whole scope in_loop p e n ∙ fields_here whole scope a.earlier ps k n l) (fails_first _ _ (g n))
 
-pub fields_unknown : {S : Type 0} {T : Type 0} {names : List (List ℕ)} {s : State} {places : HashMap ℕ ℕ S} {seen : HashSet ℕ T} {ps : List Param} {k : ℕ}
+pub fields_unknown : {S : Type 0} {T : Type 0} {names : List (List ℕ)} {s : CheckingState} {places : HashMap ℕ ℕ S} {seen : HashSet ℕ T} {ps : List Param} {k : ℕ}
     {e : TypeFault} (a : FieldsOn names s places seen ps k) → k < length ps →
     ((n : Noted) → keep T18 (field_at ps k).name.span.from (not (stands_in (field_at ps k).name.name.0 a.earlier)) n ≡ fine tt n) →
     ((whole : List TypeDec) (scope : Scope) (in_loop : Bool) → HasPlaces places whole → scope ≡ scope_of names s in_loop → (n : Noted) →
@@ -291,7 +291,7 @@ fields_unknown {ps = ps} {k = k} a l g f whole scope in_loop p e n =
     last_fails (a.onward whole scope in_loop p e n ∙ fields_here whole scope a.earlier ps k n l)
     (fails_then _ _ (g n) (fails_first _ _ (f whole scope in_loop p e n)))
 
-pub fields_all : {S : Type 0} {T : Type 0} {names : List (List ℕ)} {s : State} {places : HashMap ℕ ℕ S} {seen : HashSet ℕ T} {ps : List Param} {k : ℕ}
+pub fields_all : {S : Type 0} {T : Type 0} {names : List (List ℕ)} {s : CheckingState} {places : HashMap ℕ ℕ S} {seen : HashSet ℕ T} {ps : List Param} {k : ℕ}
     (a : FieldsOn names s places seen ps k) → k ≡ length ps → (whole : List TypeDec) (scope : Scope) (in_loop : Bool) → HasPlaces places whole →
     scope ≡ scope_of names s in_loop → (n : Noted) → known_fields whole scope [] ps n ≡ fine tt n
 unfolding give
@@ -299,18 +299,18 @@ fields_all {ps = ps} {k = k} a l whole scope in_loop p e n =
     a.onward whole scope in_loop p e n ∙ ap (λ x. known_fields whole scope a.earlier x n) (none_left ps k l)
 
 -- forms, one after another
-pub record FormsOn {S : Type 0} (names : List (List ℕ)) (s : State) (places : HashMap ℕ ℕ S) (ds : List TypeDec) (k : ℕ) : Type 0 where
+pub record FormsOn {S : Type 0} (names : List (List ℕ)) (s : CheckingState) (places : HashMap ℕ ℕ S) (ds : List TypeDec) (k : ℕ) : Type 0 where
   pub onward : (whole : List TypeDec) (scope : Scope) (in_loop : Bool) → HasPlaces places whole → scope ≡ scope_of names s in_loop → (n : Noted) →
       known_forms whole ds scope n ≡ known_forms whole (drop k ds) scope n
 
-pub forms_one : {S : Type 0} {names : List (List ℕ)} {s : State} {places : HashMap ℕ ℕ S} (group : List CodeTypeDec) {k : ℕ} (d : CodeTypeDec) →
+pub forms_one : {S : Type 0} {names : List (List ℕ)} {s : CheckingState} {places : HashMap ℕ ℕ S} (group : List CodeTypeDec) {k : ℕ} (d : CodeTypeDec) →
     FormsOn names s places (map plain_type group) k → k < length group → d ≡ get_or group k d →
     ((whole : List TypeDec) (scope : Scope) (in_loop : Bool) → HasPlaces places whole → scope ≡ scope_of names s in_loop → (n : Noted) →
     known_form whole scope (plain_form d.form) n ≡ fine tt n) → FormsOn names s places (map plain_type group) (k + 1)
 forms_one group {k = k} d a l i f =
     record { onward = λ whole scope in_loop p e n. a.onward whole scope in_loop p e n ∙ (ap (λ x. known_forms whole x scope n) (plain_here group k d l i) ∙ step _ _ (f whole scope in_loop p e n) refl) }
 
-pub forms_fail : {S : Type 0} {names : List (List ℕ)} {s : State} {places : HashMap ℕ ℕ S} (group : List CodeTypeDec) {k : ℕ}
+pub forms_fail : {S : Type 0} {names : List (List ℕ)} {s : CheckingState} {places : HashMap ℕ ℕ S} (group : List CodeTypeDec) {k : ℕ}
     (d : CodeTypeDec) {e : TypeFault} → FormsOn names s places (map plain_type group) k → k < length group → d ≡ get_or group k d →
     ((whole : List TypeDec) (scope : Scope) (in_loop : Bool) → HasPlaces places whole → scope ≡ scope_of names s in_loop → (n : Noted) →
     Fails e (known_form whole scope (plain_form d.form) n)) → (whole : List TypeDec) (scope : Scope) (in_loop : Bool) → HasPlaces places whole →
@@ -319,7 +319,7 @@ forms_fail group {k = k} d a l i f whole scope in_loop p e n =
     last_fails (a.onward whole scope in_loop p e n ∙ ap (λ x. known_forms whole x scope n) (plain_here group k d l i))
     (fails_first _ _ (f whole scope in_loop p e n))
 
-pub forms_all : {S : Type 0} {names : List (List ℕ)} {s : State} {places : HashMap ℕ ℕ S} (group : List CodeTypeDec) {k : ℕ} →
+pub forms_all : {S : Type 0} {names : List (List ℕ)} {s : CheckingState} {places : HashMap ℕ ℕ S} (group : List CodeTypeDec) {k : ℕ} →
     FormsOn names s places (map plain_type group) k → k ≡ length group → (whole : List TypeDec) (scope : Scope) (in_loop : Bool) → HasPlaces places whole →
     scope ≡ scope_of names s in_loop → (n : Noted) → known_forms whole (map plain_type group) scope n ≡ fine tt n
 unfolding give
@@ -406,12 +406,12 @@ fields_back f ps at table p l h =
 
 -- ---- shapes of the forms, one after another
 
-pub record AddedOn (names : List (List ℕ)) (first now : State) (ds : List TypeDec) (k : ℕ) : Type 0 where
+pub record AddedOn (names : List (List ℕ)) (first now : CheckingState) (ds : List TypeDec) (k : ℕ) : Type 0 where
   pub keeps : Keeps first now
   pub onward : (scope : Scope) (in_loop : Bool) → scope ≡ scope_of names first in_loop →
       add_forms scope ds (noted_of first) ≡ add_forms scope (drop k ds) (noted_of now)
 
-pub added_one : {names : List (List ℕ)} {first : State} {now : State} {next : State} (group : List CodeTypeDec) {k : ℕ} (d : CodeTypeDec) →
+pub added_one : {names : List (List ℕ)} {first : CheckingState} {now : CheckingState} {next : CheckingState} (group : List CodeTypeDec) {k : ℕ} (d : CodeTypeDec) →
     AddedOn names first now (map plain_type group) k → k < length group → d ≡ get_or group k d → Keeps now next →
     ((scope : Scope) (in_loop : Bool) → scope ≡ scope_of names now in_loop →
     add_form scope d.name.span.from (plain_form d.form) (noted_of now) ≡ fine tt (noted_of next)) → AddedOn names first next (map plain_type group) (k + 1)
@@ -422,7 +422,7 @@ added_one {names = names} {now = now} group {k = k} d a l i kept f = record {
       (f scope in_loop (same_scope names a.keeps h)) refl);
 }
 
-pub added_fail : {names : List (List ℕ)} {first : State} {now : State} (group : List CodeTypeDec) {k : ℕ} (d : CodeTypeDec) {e : TypeFault} →
+pub added_fail : {names : List (List ℕ)} {first : CheckingState} {now : CheckingState} (group : List CodeTypeDec) {k : ℕ} (d : CodeTypeDec) {e : TypeFault} →
     AddedOn names first now (map plain_type group) k → k < length group → d ≡ get_or group k d →
     ((scope : Scope) (in_loop : Bool) → scope ≡ scope_of names now in_loop → Fails e (add_form scope d.name.span.from (plain_form d.form) (noted_of now))) →
     (scope : Scope) (in_loop : Bool) → scope ≡ scope_of names first in_loop → Fails e (add_forms scope (map plain_type group) (noted_of first))
@@ -430,7 +430,7 @@ added_fail {names = names} {now = now} group {k = k} d a l i f scope in_loop h =
     last_fails (a.onward scope in_loop h ∙ ap (λ x. add_forms scope x (noted_of now)) (plain_here group k d l i))
     (fails_first _ _ (f scope in_loop (same_scope names a.keeps h)))
 
-pub added_all : {names : List (List ℕ)} {first : State} {now : State} (group : List CodeTypeDec) {k : ℕ} → AddedOn names first now (map plain_type group) k →
+pub added_all : {names : List (List ℕ)} {first : CheckingState} {now : CheckingState} (group : List CodeTypeDec) {k : ℕ} → AddedOn names first now (map plain_type group) k →
     k ≡ length group → (scope : Scope) (in_loop : Bool) → scope ≡ scope_of names first in_loop →
     add_forms scope (map plain_type group) (noted_of first) ≡ fine tt (noted_of now)
 unfolding give
@@ -464,7 +464,7 @@ with_named whole (d ∷ group) (t ∷ ts) outer inner before rest e h =
     tails : {A : Type 0} {x y : A} {xs ys : List A} → x ∷ xs ≡ y ∷ ys → xs ≡ ys
     tails e = cc
 
-pub group_scope : (names : List (List ℕ)) (in_loop : Bool) (old new : State) (group : List CodeTypeDec) (ts : List Ty) (scope : Scope) →
+pub group_scope : (names : List (List ℕ)) (in_loop : Bool) (old new : CheckingState) (group : List CodeTypeDec) (ts : List Ty) (scope : Scope) →
     scope ≡ scope_of names old in_loop → ts ≡ map (λ d. type_at_end (chain_of (map plain_type group) d.name) scope) (map plain_type group) →
     new.types ≡ named_types group ts old.types → new.bindings ≡ old.bindings →
     with_group (map plain_type group) (map plain_type group) scope scope ≡ scope_of names new in_loop
@@ -482,7 +482,7 @@ named_front (d ∷ group) (t ∷ ts) before =
     let r = named_front group ts ((name_of d.name, t) ∷ before) in
     (r.0 ++ (name_of d.name, t) ∷ [], r.1 ∙ sym (append_assoc r.0 ((name_of d.name, t) ∷ []) before))
 
-pub opens_types : (old new : State) (group : List CodeTypeDec) (ts : List Ty) → new.types ≡ named_types group ts old.types → new.bindings ≡ old.bindings →
+pub opens_types : (old new : CheckingState) (group : List CodeTypeDec) (ts : List Ty) → new.types ≡ named_types group ts old.types → new.bindings ≡ old.bindings →
     Opens old new
 opens_types old new group ts t b =
     let r = named_front group ts old.types in
@@ -494,12 +494,12 @@ unfolding add_shape
 shape_is at shape old e = ap (λ (x : List (ℕ × Shape)). fine tt (record old { shapes = x })) (sym e)
 
 -- behind the last check, the scope is given
-pub scope_after : (r : Result (Unit {0}) TypeFault) (names : List (List ℕ)) (in_loop : Bool) (mid new : State) (inner : Scope) (m : Check (Unit {0}))
+pub scope_after : (r : Result (Unit {0}) TypeFault) (names : List (List ℕ)) (in_loop : Bool) (mid new : CheckingState) (inner : Scope) (m : Check (Unit {0}))
     (n : Noted) → inner ≡ scope_of names mid in_loop → OnOk r (Keeps mid new) → Gives r (λ _. tt) (noted_of new) (m n) →
     Gives r (λ _. scope_of names new in_loop) (noted_of new) ((m >>= λ _. give inner) n)
 scope_after (Ok x) names in_loop mid new inner m n h k g = step _ _ g (given_is (sym (same_scope names k h)))
 scope_after (Err e) names in_loop mid new inner m n h k g = fails_first _ _ g
 
-pub opens_after : (r : Result (Unit {0}) TypeFault) (old mid new : State) → Opens old mid → OnOk r (Keeps mid new) → OnOk r (Opens old new)
+pub opens_after : (r : Result (Unit {0}) TypeFault) (old mid new : CheckingState) → Opens old mid → OnOk r (Keeps mid new) → OnOk r (Opens old new)
 opens_after (Ok x) old mid new o k = opens_both o (opens_keep k)
 opens_after (Err e) old mid new o k = tt

@@ -17,9 +17,9 @@ use Rattle.tg_syntax.proofs.ListLaws.{plain_functions-items}
 use Rattle.tg_types.specs.declared.faults.TypeRule.{TypeRule}
 use Rattle.tg_types.specs.declared.faults.TypeRule.TheVariants.{T18}
 use Rattle.tg_types.specs.declared.faults.TypeFault.{TypeFault}
-use Rattle.tg_types.specs.declared.states.State.{State}
+use Rattle.tg_types.specs.declared.states.CheckingState.{CheckingState}
 use Rattle.tg_types.specs.Types.{Ty}
-use Rattle.tg_types.specs.Checks.{Check, Checked, Noted, fine, fault, on_fine, keep, give, ◌>>=◌}
+use Rattle.tg_types.specs.Checks.{Check, CheckResult, Noted, fine, fault, on_fine, keep, give, ◌>>=◌}
 use Rattle.tg_types.specs.Scopes.{Scope, Signature}
 use Rattle.tg_types.specs.Groups.{stands_in, no_repeats, function_names, type_named, param_types, result_type, headers}
 use Rattle.tg_types.specs.Selections.{header_of}
@@ -73,7 +73,7 @@ unfolding give
 fresh_all {rule = rule} {fs = fs} {k = k} a e n = a.onward n ∙ ap (λ x. no_repeats rule a.earlier (function_names (functions_of x)) n) (none_left fs k e)
 
 -- types of parameters: what is left, and what it makes of the whole
-pub record TypesOn {S : Type 0} (names : List (List ℕ)) (s : State) (seen : HashSet ℕ S) (ps : List Param) (ts : List Ty) (k : ℕ) : Type 0 where
+pub record TypesOn {S : Type 0} (names : List (List ℕ)) (s : CheckingState) (seen : HashSet ℕ S) (ps : List Param) (ts : List Ty) (k : ℕ) : Type 0 where
   pub earlier : List Ident
   pub has : HasNames seen earlier
   pub gives : (scope : Scope) (in_loop : Bool) → scope ≡ scope_of names s in_loop → (n : Noted) (more : List Ty) →
@@ -81,10 +81,10 @@ pub record TypesOn {S : Type 0} (names : List (List ℕ)) (s : State) (seen : Ha
   pub fails : (scope : Scope) (in_loop : Bool) → scope ≡ scope_of names s in_loop → (n : Noted) (e : TypeFault) →
       Fails e (param_types scope earlier (drop k ps) n) → Fails e (param_types scope [] ps n)
 
-pub types_none : {S : Type 0} {names : List (List ℕ)} {s : State} {seen : HashSet ℕ S} {ps : List Param} → HasNames seen [] → TypesOn names s seen ps [] 0
+pub types_none : {S : Type 0} {names : List (List ℕ)} {s : CheckingState} {seen : HashSet ℕ S} {ps : List Param} → HasNames seen [] → TypesOn names s seen ps [] 0
 types_none h = record { earlier = []; has = h; gives = λ scope in_loop d n more e. e; fails = λ scope in_loop d n e f. f }
 
-pub types_one : {S : Type 0} {names : List (List ℕ)} {s : State} {seen : HashSet ℕ S} {next : HashSet ℕ S} {ps : List Param} {ts : List Ty} {us : List Ty}
+pub types_one : {S : Type 0} {names : List (List ℕ)} {s : CheckingState} {seen : HashSet ℕ S} {next : HashSet ℕ S} {ps : List Param} {ts : List Ty} {us : List Ty}
     {k : ℕ} (p : Param) (t : Ty) (a : TypesOn names s seen ps ts k) → k < length ps → p ≡ get_or ps k p →
     ((n : Noted) → keep T18 p.name.span.from (not (stands_in p.name.name.0 a.earlier)) n ≡ fine tt n) →
     ((scope : Scope) (in_loop : Bool) → scope ≡ scope_of names s in_loop → (n : Noted) → type_named p.kind scope n ≡ fine t n) →
@@ -101,14 +101,14 @@ types_one {ps = ps} {ts = ts} {k = k} p t a l i g h has u = record {
 }
 
 -- a name that is repeated, and a type that isn't known
-pub types_repeat : {S : Type 0} {names : List (List ℕ)} {s : State} {seen : HashSet ℕ S} {ps : List Param} {ts : List Ty} {k : ℕ} (p : Param) {e : TypeFault}
+pub types_repeat : {S : Type 0} {names : List (List ℕ)} {s : CheckingState} {seen : HashSet ℕ S} {ps : List Param} {ts : List Ty} {k : ℕ} (p : Param) {e : TypeFault}
     (a : TypesOn names s seen ps ts k) → k < length ps → p ≡ get_or ps k p →
     ((n : Noted) → Fails e (keep T18 p.name.span.from (not (stands_in p.name.name.0 a.earlier)) n)) → (scope : Scope) (in_loop : Bool) →
     scope ≡ scope_of names s in_loop → (n : Noted) → Fails e (param_types scope [] ps n)
 types_repeat {ps = ps} {k = k} p a l i g scope in_loop d n =
     a.fails scope in_loop d n _ (last_fails (ap (λ x. param_types scope a.earlier x n) (from_here ps k p l i)) (fails_first _ _ (g n)))
 
-pub types_unknown : {S : Type 0} {names : List (List ℕ)} {s : State} {seen : HashSet ℕ S} {ps : List Param} {ts : List Ty} {k : ℕ} (p : Param) {e : TypeFault}
+pub types_unknown : {S : Type 0} {names : List (List ℕ)} {s : CheckingState} {seen : HashSet ℕ S} {ps : List Param} {ts : List Ty} {k : ℕ} (p : Param) {e : TypeFault}
     (a : TypesOn names s seen ps ts k) → k < length ps → p ≡ get_or ps k p →
     ((n : Noted) → keep T18 p.name.span.from (not (stands_in p.name.name.0 a.earlier)) n ≡ fine tt n) →
     ((scope : Scope) (in_loop : Bool) → scope ≡ scope_of names s in_loop → (n : Noted) → Fails e (type_named p.kind scope n)) →
@@ -117,7 +117,7 @@ types_unknown {ps = ps} {k = k} p a l i g h scope in_loop d n =
     a.fails scope in_loop d n _ (last_fails (ap (λ x. param_types scope a.earlier x n) (from_here ps k p l i))
     (fails_then _ _ (g n) (fails_first _ _ (h scope in_loop d n))))
 
-pub types_all : {S : Type 0} {names : List (List ℕ)} {s : State} {seen : HashSet ℕ S} {ps : List Param} {ts : List Ty} {k : ℕ} →
+pub types_all : {S : Type 0} {names : List (List ℕ)} {s : CheckingState} {seen : HashSet ℕ S} {ps : List Param} {ts : List Ty} {k : ℕ} →
     TypesOn names s seen ps ts k → k ≡ length ps → (scope : Scope) (in_loop : Bool) → scope ≡ scope_of names s in_loop → (n : Noted) →
     param_types scope [] ps n ≡ fine ts n
 unfolding give
@@ -130,12 +130,12 @@ kind_below n (x ∷ ps) zero p h l i = subst (λ y. IsWithin n y.kind) (sym i) h
 kind_below n (x ∷ ps) (suc k) p h l i = kind_below n ps k p h.2 (omega (arith, l)) i
 
 -- a header, and those behind it
-after_result : {B C D : Type 0} (y : Checked B) (f : B → C) (g : C → Check D) → on_fine y (λ b. g (f b)) ≡ on_fine (on_fine y (λ b. give (f b))) g
+after_result : {B C D : Type 0} (y : CheckResult B) (f : B → C) (g : C → Check D) → on_fine y (λ b. g (f b)) ≡ on_fine (on_fine y (λ b. give (f b))) g
 unfolding give
 after_result (fine b n) f g = refl
 after_result (fault rule at) f g = refl
 
-after_params : {A B C D : Type 0} (x : Checked A) (r : Check B) (f : A → B → C) (g : C → Check D) →
+after_params : {A B C D : Type 0} (x : CheckResult A) (r : Check B) (f : A → B → C) (g : C → Check D) →
     on_fine x (λ a. r >>= λ b. g (f a b)) ≡ on_fine (on_fine x (λ a. r >>= λ b. give (f a b))) g
 unfolding ◌>>=◌
 after_params (fine a n) r f g = after_result (r n) (f a) g
@@ -149,17 +149,17 @@ header_first f ps r body rest scope n =
     (λ s. headers rest scope >>= λ more. give (s ∷ more))
 
 -- headers: what is left, and what it makes of the whole
-pub record HeadersOn (names : List (List ℕ)) (s : State) (fs : List CodeFunDec) (ss : List Signature) (k : ℕ) : Type 0 where
+pub record HeadersOn (names : List (List ℕ)) (s : CheckingState) (fs : List CodeFunDec) (ss : List Signature) (k : ℕ) : Type 0 where
   pub count : k ≡ length ss
   pub gives : (scope : Scope) (in_loop : Bool) → scope ≡ scope_of names s in_loop → (n : Noted) (more : List Signature) →
       headers (functions_of (drop k fs)) scope n ≡ fine more n → headers (functions_of fs) scope n ≡ fine (ss ++ more) n
   pub fails : (scope : Scope) (in_loop : Bool) → scope ≡ scope_of names s in_loop → (n : Noted) (e : TypeFault) →
       Fails e (headers (functions_of (drop k fs)) scope n) → Fails e (headers (functions_of fs) scope n)
 
-pub headers_none : {names : List (List ℕ)} {s : State} {fs : List CodeFunDec} → HeadersOn names s fs [] 0
+pub headers_none : {names : List (List ℕ)} {s : CheckingState} {fs : List CodeFunDec} → HeadersOn names s fs [] 0
 headers_none = record { count = refl; gives = λ scope in_loop d n more e. e; fails = λ scope in_loop d n e f. f }
 
-pub headers_one : {names : List (List ℕ)} {s : State} {fs : List CodeFunDec} {ss : List Signature} {us : List Signature} {k : ℕ} (f : CodeFunDec)
+pub headers_one : {names : List (List ℕ)} {s : CheckingState} {fs : List CodeFunDec} {ss : List Signature} {us : List Signature} {k : ℕ} (f : CodeFunDec)
     (h : Signature) (a : HeadersOn names s fs ss k) → k < length fs → f ≡ get_or fs k f →
     ((scope : Scope) (in_loop : Bool) → scope ≡ scope_of names s in_loop → (n : Noted) → header_of f.params f.result scope n ≡ fine h n) → us ≡ ss ++ h ∷ [] →
     HeadersOn names s fs us (k + 1)
@@ -174,7 +174,7 @@ headers_one {fs = fs} {ss = ss} {k = k} f h a l i g u = record {
       (plain f.body) (functions_of (drop (k + 1) fs)) scope n) (fails_then _ _ (g scope in_loop d n) (fails_first _ _ b)));
 }
 
-pub headers_fail : {names : List (List ℕ)} {s : State} {fs : List CodeFunDec} {ss : List Signature} {k : ℕ} (f : CodeFunDec) {e : TypeFault}
+pub headers_fail : {names : List (List ℕ)} {s : CheckingState} {fs : List CodeFunDec} {ss : List Signature} {k : ℕ} (f : CodeFunDec) {e : TypeFault}
     (a : HeadersOn names s fs ss k) → k < length fs → f ≡ get_or fs k f →
     ((scope : Scope) (in_loop : Bool) → scope ≡ scope_of names s in_loop → (n : Noted) → Fails e (header_of f.params f.result scope n)) →
     (scope : Scope) (in_loop : Bool) → scope ≡ scope_of names s in_loop → (n : Noted) → Fails e (headers (functions_of fs) scope n)
@@ -182,7 +182,7 @@ headers_fail {fs = fs} {k = k} f a l i g scope in_loop d n =
     a.fails scope in_loop d n _ (last_fails (ap (λ x. headers (functions_of x) scope n) (from_here fs k f l i) ∙ header_first f.name f.params f.result
     (plain f.body) (functions_of (drop (k + 1) fs)) scope n) (fails_first _ _ (g scope in_loop d n)))
 
-pub headers_all : {names : List (List ℕ)} {s : State} {fs : List CodeFunDec} {ss : List Signature} {k : ℕ} → HeadersOn names s fs ss k → k ≡ length fs →
+pub headers_all : {names : List (List ℕ)} {s : CheckingState} {fs : List CodeFunDec} {ss : List Signature} {k : ℕ} → HeadersOn names s fs ss k → k ≡ length fs →
     (scope : Scope) (in_loop : Bool) → scope ≡ scope_of names s in_loop → (n : Noted) → headers (functions_of fs) scope n ≡ fine ss n
 unfolding give
 headers_all {fs = fs} {ss = ss} {k = k} a e scope in_loop d n =

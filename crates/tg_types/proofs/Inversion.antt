@@ -10,7 +10,7 @@ use Rattle.tg_types.specs.declared.notes.Means.TheVariants as means
 use Rattle.tg_types.specs.declared.notes.Note.{Note}
 use Rattle.tg_types.specs.Types.{Ty, int_type, string_type, nil_type, none_type, record_type, array_type, Shape, record_shape, array_shape, are_nil, has_order, same, is_nil_for, fits, alike, joined}
 use Rattle.tg_symbols.specs.Tables.{named}
-use Rattle.tg_types.specs.Checks.{Noted, Checked, fine, fault, Check, on_fine, ◌>>=◌, give, refuse, keep, present, note, shape_at, add_shape}
+use Rattle.tg_types.specs.Checks.{Noted, CheckResult, fine, fault, Check, on_fine, ◌>>=◌, give, refuse, keep, present, note, shape_at, add_shape}
 use Rattle.tg_types.specs.Scopes.{Signature, Binding, variable_at, function_at, standard_one, name_of, at_of}
 use Rattle.tg_types.specs.Typing.{expect, expect_none, variable_of, function_of, fields_in, fields_of, element_in, element_of, placed, select, compares, ordered, equated, left_side, equal_sides, right_side}
 use Rattle.std.proofs.lemmas.Bool.{eqb-true}
@@ -26,7 +26,7 @@ pub record Steps {A B : Type 0} (m : Check A) (next : A → Check B) (b : B) (st
   pub first : m start ≡ fine value between
   pub onward : next value between ≡ fine b end
 
-steps_of : {A B : Type 0} (m : Check A) (next : A → Check B) (b : B) (start end : Noted) (o : Checked A) → m start ≡ o → on_fine o next ≡ fine b end →
+steps_of : {A B : Type 0} (m : Check A) (next : A → Check B) (b : B) (start end : Noted) (o : CheckResult A) → m start ≡ o → on_fine o next ≡ fine b end →
     Steps m next b start end
 steps_of m next b start end (fine a noted) is e = record { value = a; between = noted; first = is; onward = e }
 steps_of m next b start end (fault rule at) is e = cc

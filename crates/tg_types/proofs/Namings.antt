@@ -12,7 +12,7 @@ use Rattle.tg_types.specs.declared.faults.TypeFault.TheVariants.{Bad}
 use Rattle.tg_types.specs.declared.notes.Means.TheVariants as means
 use Rattle.tg_types.specs.Types.{Ty}
 use Rattle.tg_symbols.specs.Tables.{named}
-use Rattle.tg_types.specs.Checks.{Noted, Checked, fine, fault, present, note, give, refuse}
+use Rattle.tg_types.specs.Checks.{Noted, CheckResult, fine, fault, present, note, give, refuse}
 use Rattle.tg_types.specs.Scopes.{Scope, Binding, Signature, variable_at, function_at, standard_one, signature, bound, name_of, at_of, entry, standard_of, type_of_text, standard_bindings, standard_types}
 use Rattle.tg_types.specs.Groups.{type_named}
 use Rattle.tg_types.specs.Typing.{variable_of, function_of, is_loop_variable}
@@ -105,7 +105,7 @@ pub type_unknown : (x : Ident) (scope : Scope) {types : List (ℕ × Ty)} (n : N
 unfolding refuse
 type_unknown x _ n h e = ap (λ ts. present T3 (at_of x) (named (name_of x) ts) n) h ∙ ap (λ o. present T3 (at_of x) o n) (sym e)
 
-pub bad_is : {A : Type 0} {rule : TypeRule} {at : ℕ} {e : TypeFault} {c : Checked A} → e ≡ Bad rule at → c ≡ fault rule at → Fails e c
+pub bad_is : {A : Type 0} {rule : TypeRule} {at : ℕ} {e : TypeFault} {c : CheckResult A} → e ≡ Bad rule at → c ≡ fault rule at → Fails e c
 bad_is {c = c} h d = subst (λ e. Fails e c) (sym h) (bad d)
 
 -- bindings by their names

@@ -6,7 +6,7 @@ use Rattle.std.proofs.lemmas.List.{map-append, reverse-append}
 use Rattle.tg_syntax.specs.declared.tokens.Ident.{Ident}
 use Rattle.tg_syntax.specs.declared.trees.Op.{Op}
 use Rattle.tg_syntax.specs.declared.trees.Op.TheVariants.{Equal, NotEqual, Less, LessEqual, Greater, GreaterEqual}
-use Rattle.tg_syntax.specs.Tree.{Form, Alias, Fields, Array, TypeDec, Exp, Nil, Break, Int, Text, Read, Call, Neg, Binary, Make, Fill, Assign, If, When, While, For, Let, Seq, Place, Simple, Field, Index, Exps, no_exps, exp, Inits, no_inits, init, Decs, no_decs, types, variable, functions, FunDecs, no_functions, function}
+use Rattle.tg_syntax.specs.Tree.{Form, Alias, Fields, Array, TypeDec, Exp, Nil, Break, Int, Text, Read, Call, Neg, Binary, Make, Fill, Assign, If, When, While, For, Let, Seq, LValue, Simple, Field, Index, Exps, no_exps, exp, Inits, no_inits, init, Decs, no_decs, types, variable, functions, FunDecs, no_functions, function}
 use Rattle.tg_syntax.specs.Beginnings.{form_beginnings, type_beginnings, beginnings, place_beginnings, exps_beginnings, inits_beginnings, decs_beginnings, function_beginnings}
 use Rattle.tg_types.specs.declared.notes.Note.{Note}
 use Rattle.tg_types.specs.declared.notes.Means.{Means}
@@ -247,7 +247,7 @@ mutual
       last_notes none_type es p.value t p.between h p.onward (decs_notes ds scope p.value g p.between p.first s)
   note_bytes (Seq z es) scope t g h e s = last_notes none_type es scope t g h e s
 
-  place_notes : (v : Place) (scope : Scope) (t : Ty) (g h : Noted) {ys : List ℕ} → typed_place v scope g ≡ fine t h → Some_of (marks g) ys →
+  place_notes : (v : LValue) (scope : Scope) (t : Ty) (g h : Noted) {ys : List ℕ} → typed_place v scope g ≡ fine t h → Some_of (marks g) ys →
       Some_of (marks h) (place_beginnings v ys)
   place_notes (Simple y) scope t g h e s = one_more (at_of y) g h (variable_noted y _ t g h e) s
   place_notes (Field v f) scope t g h e s =

@@ -7,7 +7,7 @@ use Rattle.tg_syntax.specs.declared.tokens.Ident.{Ident}
 use Rattle.tg_syntax.specs.declared.trees.Param.{Param}
 use Rattle.tg_syntax.specs.declared.trees.Op.{Op}
 use Rattle.tg_syntax.specs.declared.trees.Op.TheVariants.{Plus, Minus, Times, Divide, Equal, NotEqual, Less, LessEqual, Greater, GreaterEqual, And, Or}
-use Rattle.tg_syntax.specs.Tree.{Exp, Place, Exps, Inits, Decs, FunDecs, no_functions, function}
+use Rattle.tg_syntax.specs.Tree.{Exp, LValue, Exps, Inits, Decs, FunDecs, no_functions, function}
 use Rattle.tg_runs.specs.Outcomes.{End, ended, stuck}
 use Rattle.tg_meaning.specs.declared.standards.Standard.{Standard}
 use Rattle.tg_meaning.specs.declared.standards.Standard.TheVariants.{Print, Flush, Getchar, Ord, Chr, Size, Substring, Concat, Not, Exit}
@@ -448,7 +448,7 @@ module _ (shapes : List (ℕ × Shape)) (notes : List Note) where
               paid λ w g. eval_last_kept none_type nothing es env scope t w h
               (Worlds.sees_on shapes notes s w env.entries scope.bindings g v) Worlds.is_nothing
 
-          pub locate_kept : (p : Place) (env : Env) (scope : Scope) (t : Ty) (s : Worlds.Stores) → Has.HasPlace shapes notes p scope t →
+          pub locate_kept : (p : LValue) (env : Env) (scope : Scope) (t : Ty) (s : Worlds.Stores) → Has.HasPlace shapes notes p scope t →
               Worlds.Sees shapes notes s.vars env.entries scope.bindings →
               S s scope.in_loop Location (λ w l. IsLocation w l t) (E.locate Action M after p env)
           locate_kept _ env scope t s (Has.simple {x = x} at loop e says) v =

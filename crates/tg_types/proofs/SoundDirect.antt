@@ -8,7 +8,7 @@ use Rattle.tg_meaning.specs.declared.standards.Standard.{Standard}
 use Rattle.tg_meaning.specs.Values.{Value, Entry, standard, by_heap, add_heap, Ending}
 use Rattle.tg_meaning.specs.Environments.{standard_text, standards, standards_of, outermost_from}
 use Rattle.tg_meaning.specs.Evaluation.{Job, meaning, program}
-use Rattle.tg_meaning.specs.Direct.{State, Result, gives, breaks, is_over, Direct, after, after_body, returned, fuelled, found, changed, direct, begin, outcome}
+use Rattle.tg_meaning.specs.Direct.{RunState, Result, gives, breaks, is_over, Direct, after, after_body, returned, fuelled, found, changed, direct, begin, outcome}
 use Rattle.tg_types.specs.Types.{Ty, none_type, Shape}
 use Rattle.tg_types.specs.Scopes.{Binding, standard_one, Scope, standard_of, entry, standard_bindings}
 use Rattle.tg_types.specs.declared.notes.Note.{Note}
@@ -19,12 +19,12 @@ use Rattle.tg_types.proofs.Sound.{Known, a_value, whatever}
 
 module _ (shapes : List (ℕ × Shape)) (notes : List Note) where
   pub data Fine {A : Type 0} (s : Worlds.Stores) (b : Bool) (P : Known A) : Result A → Type 0 where
-    gives_fine : {a : A} {st : State} (w : Worlds.Stores) → Worlds.GrowsTo s w → Worlds.IsWorld shapes w st.world → P w a → Fine s b P (gives a st)
-    breaks_fine : {st : State} (w : Worlds.Stores) → b ≡ true → Worlds.GrowsTo s w → Worlds.IsWorld shapes w st.world → Fine s b P (breaks st)
-    over_fine : {e : End Ending} {st : State} → e ≢ stuck → Fine s b P (is_over e st)
+    gives_fine : {a : A} {st : RunState} (w : Worlds.Stores) → Worlds.GrowsTo s w → Worlds.IsWorld shapes w st.world → P w a → Fine s b P (gives a st)
+    breaks_fine : {st : RunState} (w : Worlds.Stores) → b ≡ true → Worlds.GrowsTo s w → Worlds.IsWorld shapes w st.world → Fine s b P (breaks st)
+    over_fine : {e : End Ending} {st : RunState} → e ≢ stuck → Fine s b P (is_over e st)
 
   abbrev pub Keeps : Worlds.Stores → Bool → (A : Type 0) → Known A → Direct A → Type 0
-  Keeps s b A P m = (st : State) → Worlds.IsWorld shapes s st.world → Fine s b P (m st)
+  Keeps s b A P m = (st : RunState) → Worlds.IsWorld shapes s st.world → Fine s b P (m st)
 
   from_grown : {A : Type 0} (s w : Worlds.Stores) (b : Bool) (P : Known A) (r : Result A) → Worlds.GrowsTo s w → Fine w b P r → Fine s b P r
   from_grown s w b P _ g (gives_fine {a = a} {st = st} v h i p) = gives_fine v (Worlds.grows_on s w v g h) i p
@@ -54,17 +54,17 @@ module _ (shapes : List (ℕ × Shape)) (notes : List Note) where
   weaker_fine s b P Q _ (breaks_fine w e g i) h = breaks_fine w e g i
   weaker_fine s b P Q _ (over_fine n) h = over_fine n
 
-  known_fine : {A : Type 0} (s : Worlds.Stores) (b : Bool) (P : Known A) (o : Option A) (a : A) (st : State) → o ≡ Some a → P s a →
+  known_fine : {A : Type 0} (s : Worlds.Stores) (b : Bool) (P : Known A) (o : Option A) (a : A) (st : RunState) → o ≡ Some a → P s a →
       Worlds.IsWorld shapes s st.world → Fine s b P (found o st)
   known_fine s b P o a st e p i =
       subst (λ x. Fine s b P (found x st)) (sym e) (gives_fine s (Worlds.grows_same s) i p)
 
-  kept : (s : Worlds.Stores) (b : Bool) (A : Type 0) (P : Known A) (a : A) (st st' : State) → P s a → Worlds.IsWorld shapes s st.world →
+  kept : (s : Worlds.Stores) (b : Bool) (A : Type 0) (P : Known A) (a : A) (st st' : RunState) → P s a → Worlds.IsWorld shapes s st.world →
       st.world.variables ≡ st'.world.variables → st.world.objects ≡ st'.world.objects → Fine s b P (gives a st')
   kept s b A P a st st' p i e f =
       gives_fine s (Worlds.grows_same s) (Worlds.same_stores shapes s st.world st'.world i e f) p
 
-  take_fine : (s : Worlds.Stores) (b full : Bool) (bytes : ℕ) (st : State) → Worlds.IsWorld shapes s st.world →
+  take_fine : (s : Worlds.Stores) (b full : Bool) (bytes : ℕ) (st : RunState) → Worlds.IsWorld shapes s st.world →
       Fine s b (whatever (Unit {0})) (if full then is_over (ended by_heap) st else changed tt (add_heap bytes) st)
   take_fine s b true bytes st i = over_fine (λ e. cc)
   take_fine s b false bytes st i = kept s b (Unit {0}) (whatever (Unit {0})) tt st _ tt i refl refl
@@ -104,7 +104,7 @@ module _ (shapes : List (ℕ × Shape)) (notes : List Note) where
       ascends = λ s b st i. kept s b (Unit {0}) (whatever (Unit {0})) tt st _ tt i refl refl;
     }
 
-    fuelled_fine : (s : Worlds.Stores) (b : Bool) (P : Known Value) (n : ℕ) (st : State) (m : Direct Value) → Keeps s b Value P m →
+    fuelled_fine : (s : Worlds.Stores) (b : Bool) (P : Known Value) (n : ℕ) (st : RunState) (m : Direct Value) → Keeps s b Value P m →
         Worlds.IsWorld shapes s st.world → Fine s b P (fuelled n st m)
     fuelled_fine s b P zero st m h i = over_fine (λ e. cc)
     fuelled_fine s b P (suc n) st m h i = h (record st { fuel = n }) i

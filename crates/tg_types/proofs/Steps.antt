@@ -5,11 +5,11 @@ use Rattle.std.proofs.Common.{◌≡◌, ℕ, List, [], ◌∷◌, ◌++◌, Boo
 use Rattle.tg_syntax.specs.declared.tokens.Ident.{Ident}
 use Rattle.tg_types.specs.declared.faults.TypeRule.{TypeRule}
 use Rattle.tg_types.specs.declared.faults.TypeFault.{TypeFault}
-use Rattle.tg_types.specs.declared.states.State.{State}
+use Rattle.tg_types.specs.declared.states.CheckingState.{CheckingState}
 use Rattle.tg_types.specs.declared.notes.Note.{Note}
 use Rattle.tg_types.specs.declared.notes.Means.{Means}
 use Rattle.tg_types.specs.Types.{Ty, Shape}
-use Rattle.tg_types.specs.Checks.{Check, Noted, Checked, fine, fault, on_fine, keep, give, refuse, note, ◌>>=◌}
+use Rattle.tg_types.specs.Checks.{Check, Noted, CheckResult, fine, fault, on_fine, keep, give, refuse, note, ◌>>=◌}
 use Rattle.tg_types.specs.Scopes.{Scope, Binding, binding, standard_bindings, standard_types, in_no_loop}
 use Rattle.tg_types.specs.States.{Fails, bad, no_memory, Gives, Leads, Keeps, Opens, scope_of}
 
@@ -17,18 +17,18 @@ no_truth : IsTrue false → ⊥
 no_truth h = cc
 
 -- one check gave this, and the next goes on
-pub step : {A : Type 0} {B : Type 0} (m : Check A) (next : A → Check B) {n : Noted} {n' : Noted} {a : A} {c : Checked B} → m n ≡ fine a n' → next a n' ≡ c →
+pub step : {A : Type 0} {B : Type 0} (m : Check A) (next : A → Check B) {n : Noted} {n' : Noted} {a : A} {c : CheckResult B} → m n ≡ fine a n' → next a n' ≡ c →
     (m >>= next) n ≡ c
 unfolding ◌>>=◌
 step _ next e d = ap (λ x. on_fine x next) e ∙ d
 
-pub grouped : {A B C : Type 0} (x : Checked A) (f : A → Check B) (g : B → Check C) → on_fine x (λ a. f a >>= g) ≡ on_fine (on_fine x f) g
+pub grouped : {A B C : Type 0} (x : CheckResult A) (f : A → Check B) (g : B → Check C) → on_fine x (λ a. f a >>= g) ≡ on_fine (on_fine x f) g
 unfolding ◌>>=◌
 grouped (fine a n) f g = refl
 grouped (fault rule at) f g = refl
 
 -- the same where the check is the front of a longer one
-pub two_steps : {A : Type 0} {B : Type 0} {C : Type 0} (m : Check A) (f : A → Check B) (g : B → Check C) (n : Noted) {n' : Noted} {b : B} {c : Checked C} →
+pub two_steps : {A : Type 0} {B : Type 0} {C : Type 0} (m : Check A) (f : A → Check B) (g : B → Check C) (n : Noted) {n' : Noted} {b : B} {c : CheckResult C} →
     (m >>= f) n ≡ fine b n' → g b n' ≡ c → (m >>= λ a. f a >>= g) n ≡ c
 unfolding ◌>>=◌
 two_steps m f g n e d = grouped (m n) f g ∙ (ap (λ x. on_fine x g) e ∙ d)
@@ -61,41 +61,41 @@ unfolding ◌>>=◌
 two_fail_then m f g n {e = e} d h = subst (λ x. Fails e x) (sym (grouped (m n) f g)) (subst (λ x. Fails e (on_fine x g)) (sym d) h)
 
 -- what a `?` returns
-pub ended : {X A : Type 0} (r : Result X TypeFault) (value : X → A) (after : Noted) {c : Checked A} {e : TypeFault} → IsErr r × IsErrAnd r (λ x. x ≡ e) →
+pub ended : {X A : Type 0} (r : Result X TypeFault) (value : X → A) (after : Noted) {c : CheckResult A} {e : TypeFault} → IsErr r × IsErrAnd r (λ x. x ≡ e) →
     Fails e c → Gives r value after c
 ended (Ok x) value after h f = absurd (no_truth h.0)
 ended (Err x) value after {c = c} h f = subst (λ y. Fails y c) (sym h.1) f
 
 pub leads_ended : {X A : Type 0} (r : Result X TypeFault) (scope : Scope) (after : Noted)
-    (onward : Scope → Noted → Checked A) {c : Checked A} {e : TypeFault} → IsErr r × IsErrAnd r (λ x. x ≡ e) → Fails e c → Leads r scope after onward c
+    (onward : Scope → Noted → CheckResult A) {c : CheckResult A} {e : TypeFault} → IsErr r × IsErrAnd r (λ x. x ≡ e) → Fails e c → Leads r scope after onward c
 leads_ended (Ok x) scope after onward h f = absurd (no_truth h.0)
 leads_ended (Err x) scope after onward {c = c} h f = subst (λ y. Fails y c) (sym h.1) f
 
 -- an answer that is handed on
-pub carry : {X A : Type 0} (r : Result X TypeFault) (value : X → A) (after : Noted) {c c' : Checked A} → c ≡ c' → Gives r value after c' →
+pub carry : {X A : Type 0} (r : Result X TypeFault) (value : X → A) (after : Noted) {c c' : CheckResult A} → c ≡ c' → Gives r value after c' →
     Gives r value after c
 carry r value after d g = subst (λ c. Gives r value after c) (sym d) g
 
-pub last_fails : {A : Type 0} {c c' : Checked A} {e : TypeFault} → c ≡ c' → Fails e c' → Fails e c
+pub last_fails : {A : Type 0} {c c' : CheckResult A} {e : TypeFault} → c ≡ c' → Fails e c' → Fails e c
 last_fails {e = e} d f = subst (λ c. Fails e c) (sym d) f
 
 -- the scope of a state whose open names are the same
-pub same_scope : {old : State} {new : State} (names : List (List ℕ)) {in_loop : Bool} {scope : Scope} → Keeps old new → scope ≡ scope_of names old in_loop →
+pub same_scope : {old : CheckingState} {new : CheckingState} (names : List (List ℕ)) {in_loop : Bool} {scope : Scope} → Keeps old new → scope ≡ scope_of names old in_loop →
     scope ≡ scope_of names new in_loop
 same_scope {old = old} {new = new} names {in_loop = in_loop} k h =
     h ∙ (ap (λ b. record { bindings = b ++ standard_bindings 0 names; types = old.types ++ standard_types 0 names; in_loop = in_loop }) (sym k.bindings) ∙ ap
     (λ t. record { bindings = new.bindings ++ standard_bindings 0 names; types = t ++ standard_types 0 names; in_loop = in_loop }) (sym k.types))
 
-pub keeps_both : {a b c : State} → Keeps a b → Keeps b c → Keeps a c
+pub keeps_both : {a b c : CheckingState} → Keeps a b → Keeps b c → Keeps a c
 keeps_both k l = record { bindings = l.bindings ∙ k.bindings; types = l.types ∙ k.types }
 
-pub keeps_same : {a : State} → Keeps a a
+pub keeps_same : {a : CheckingState} → Keeps a a
 keeps_same = record { bindings = refl; types = refl }
 
-pub opens_keep : {a b : State} → Keeps a b → Opens a b
+pub opens_keep : {a b : CheckingState} → Keeps a b → Opens a b
 opens_keep k = record { more_bindings = []; bindings = k.bindings; more_types = []; types = k.types }
 
-pub opens_both : {a b c : State} → Opens a b → Opens b c → Opens a c
+pub opens_both : {a b c : CheckingState} → Opens a b → Opens b c → Opens a c
 opens_both k l = record {
   more_bindings = l.more_bindings ++ k.more_bindings;
   bindings = l.bindings ∙ (ap (λ x. l.more_bindings ++ x) k.bindings ∙ sym (append_assoc l.more_bindings k.more_bindings _));
@@ -117,7 +117,7 @@ pub noted : (at : ℕ) (means : Means) {shapes : List (ℕ × Shape)} (old : Lis
 unfolding note
 noted _ _ {shapes = shapes} _ e = ap (λ ns. fine tt (record { shapes = shapes; notes = ns })) (sym e)
 
-pub no_loop_scope : (s : State) (names : List (List ℕ)) {in_loop : Bool} {scope : Scope} → scope ≡ scope_of names s in_loop →
+pub no_loop_scope : (s : CheckingState) (names : List (List ℕ)) {in_loop : Bool} {scope : Scope} → scope ≡ scope_of names s in_loop →
     in_no_loop scope ≡ scope_of names s false
 no_loop_scope _ _ h = ap in_no_loop h
 
@@ -138,18 +138,18 @@ unfolding give
 given_is {n = n} e = ap (λ x. fine x n) (sym e)
 
 -- a check whose value is kept by a rule, and then given
-kept_inner : {A B : Type 0} (y : Checked (Unit {0})) (a : A) (g : A → Check B) → on_fine y (λ _. g a) ≡ on_fine (on_fine y (λ _. give a)) g
+kept_inner : {A B : Type 0} (y : CheckResult (Unit {0})) (a : A) (g : A → Check B) → on_fine y (λ _. g a) ≡ on_fine (on_fine y (λ _. give a)) g
 unfolding give
 kept_inner (fine u n) a g = refl
 kept_inner (fault rule at) a g = refl
 
-kept_grouped : {A B : Type 0} (x : Checked A) (k : A → Check (Unit {0})) (g : A → Check B) →
+kept_grouped : {A B : Type 0} (x : CheckResult A) (k : A → Check (Unit {0})) (g : A → Check B) →
     on_fine x (λ a. k a >>= λ _. g a) ≡ on_fine (on_fine x (λ a. k a >>= λ _. give a)) g
 unfolding ◌>>=◌
 kept_grouped (fault rule at) k g = refl
 kept_grouped (fine a n) k g = kept_inner (k a n) a g
 
-pub kept_steps : {A : Type 0} {B : Type 0} (m : Check A) (k : A → Check (Unit {0})) (g : A → Check B) (n : Noted) {n' : Noted} {a : A} {c : Checked B} →
+pub kept_steps : {A : Type 0} {B : Type 0} (m : Check A) (k : A → Check (Unit {0})) (g : A → Check B) (n : Noted) {n' : Noted} {a : A} {c : CheckResult B} →
     (m >>= λ a. k a >>= λ _. give a) n ≡ fine a n' → g a n' ≡ c → (m >>= λ a. k a >>= λ _. g a) n ≡ c
 unfolding ◌>>=◌
 kept_steps m k g n e d = kept_grouped (m n) k g ∙ (ap (λ x. on_fine x g) e ∙ d)
@@ -178,7 +178,7 @@ pub opened : (x : Ident) {b : Binding} {old : List (ℕ × Binding)} {new : List
 opened x {b = b} types outer rest {in_loop = in_loop} e h =
     ap (λ s. binding x b s) h ∙ ap (λ bs. record { bindings = bs ++ rest; types = types ++ outer; in_loop = in_loop }) (sym e)
 
-pub opened_state : (x : Ident) (b : Binding) (names : List (List ℕ)) (in_loop : Bool) (old new : State) {scope : Scope} →
+pub opened_state : (x : Ident) (b : Binding) (names : List (List ℕ)) (in_loop : Bool) (old new : CheckingState) {scope : Scope} →
     new.bindings ≡ (x.name.0, b) ∷ old.bindings → new.types ≡ old.types → scope ≡ scope_of names old in_loop → binding x b scope ≡ scope_of names new in_loop
 opened_state x b names in_loop old new e t h =
     ap (λ s. binding x b s) h ∙ (ap (λ bs. record { bindings = bs ++ standard_bindings 0 names; types = old.types ++ standard_types 0 names; in_loop = in_loop }) (sym e) ∙ ap (λ ts. record { bindings = new.bindings ++ standard_bindings 0 names; types = ts ++ standard_types 0 names; in_loop = in_loop }) (sym t))

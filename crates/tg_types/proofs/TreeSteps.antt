@@ -20,9 +20,9 @@ use Rattle.tg_syntax.specs.Plain.{plain, plain_kind, plain_exps, plain_inits, pl
 use Rattle.tg_syntax.specs.Lists.{exps_of, inits_of, decs_of, functions_of}
 use Rattle.tg_syntax.proofs.ListLaws.{plain_kind-Let, plain_exps-items, plain_inits-items, plain_functions-items}
 use Rattle.tg_types.specs.declared.faults.TypeFault.{TypeFault}
-use Rattle.tg_types.specs.declared.states.State.{State}
+use Rattle.tg_types.specs.declared.states.CheckingState.{CheckingState}
 use Rattle.tg_types.specs.Types.{Ty, int_type, none_type}
-use Rattle.tg_types.specs.Checks.{Check, Noted, Checked, fine, give, on_fine, ◌>>=◌}
+use Rattle.tg_types.specs.Checks.{Check, Noted, CheckResult, fine, give, on_fine, ◌>>=◌}
 use Rattle.tg_types.specs.Scopes.{Scope, Signature}
 use Rattle.tg_types.specs.Typing.{start_of, count, expect_all, expect_fields, typed, typed_last, declare, bodies}
 use Rattle.tg_types.specs.Selections.{init_count, function_count}
@@ -104,15 +104,15 @@ pub none_left : {A : Type 0} (xs : List A) (k : ℕ) → k ≡ length xs → dro
 none_left xs k e = ap (λ j. drop j xs) e ∙ drop-length xs
 
 -- arguments, each of its type
-pub record ArgumentsOn (names : List (List ℕ)) (in_loop : Bool) (first now : State) (es : List CodeExp) (ts : List Ty) (k : ℕ) : Type 0 where
+pub record ArgumentsOn (names : List (List ℕ)) (in_loop : Bool) (first now : CheckingState) (es : List CodeExp) (ts : List Ty) (k : ℕ) : Type 0 where
   pub kept : Keeps first now
   pub onward : (scope : Scope) → scope ≡ scope_of names first in_loop →
       expect_all (exps_of es) ts scope (noted_of first) ≡ expect_all (exps_of (drop k es)) (drop k ts) scope (noted_of now)
 
-pub arguments_none : {names : List (List ℕ)} {in_loop : Bool} {s : State} {es : List CodeExp} {ts : List Ty} → ArgumentsOn names in_loop s s es ts 0
+pub arguments_none : {names : List (List ℕ)} {in_loop : Bool} {s : CheckingState} {es : List CodeExp} {ts : List Ty} → ArgumentsOn names in_loop s s es ts 0
 arguments_none = record { kept = keeps_same; onward = λ scope h. refl }
 
-pub arguments_one : {names : List (List ℕ)} {in_loop : Bool} {first now next : State} {es : List CodeExp} {ts : List Ty} {k : ℕ} (e : CodeExp) (t : Ty) →
+pub arguments_one : {names : List (List ℕ)} {in_loop : Bool} {first now next : CheckingState} {es : List CodeExp} {ts : List Ty} {k : ℕ} (e : CodeExp) (t : Ty) →
     ArgumentsOn names in_loop first now es ts k → k < length es → length es ≡ length ts → e ≡ get_or es k e → t ≡ get_or ts k t →
     ((scope : Scope) → scope ≡ scope_of names now in_loop → fitting (plain e) t scope (noted_of now) ≡ fine tt (noted_of next)) → Keeps now next →
     ArgumentsOn names in_loop first next es ts (k + 1)
@@ -124,7 +124,7 @@ arguments_one {names = names} {now = now} {es = es} {ts = ts} {k = k} e t a l m 
       (g scope (same_scope names a.kept h)) refl));
 }
 
-pub arguments_fail : {names : List (List ℕ)} {in_loop : Bool} {first now : State} {es : List CodeExp} {ts : List Ty} {k : ℕ} (e : CodeExp)
+pub arguments_fail : {names : List (List ℕ)} {in_loop : Bool} {first now : CheckingState} {es : List CodeExp} {ts : List Ty} {k : ℕ} (e : CodeExp)
     (t : Ty) {f : TypeFault} → ArgumentsOn names in_loop first now es ts k → k < length es → length es ≡ length ts → e ≡ get_or es k e → t ≡ get_or ts k t →
     ((scope : Scope) → scope ≡ scope_of names now in_loop → Fails f (fitting (plain e) t scope (noted_of now))) → (scope : Scope) →
     scope ≡ scope_of names first in_loop → Fails f (expect_all (exps_of es) ts scope (noted_of first))
@@ -133,7 +133,7 @@ arguments_fail {names = names} {now = now} {es = es} {ts = ts} {k = k} e t a l m
     (λ y. expect_all (exps_of (e ∷ drop (k + 1) es)) y scope (noted_of now)) (from_here ts k t (omega (arith, l, m)) j)))
     (two_fail_first _ _ _ _ (g scope (same_scope names a.kept h)))
 
-pub arguments_all : {names : List (List ℕ)} {in_loop : Bool} {first now : State} {es : List CodeExp} {ts : List Ty} {k : ℕ} →
+pub arguments_all : {names : List (List ℕ)} {in_loop : Bool} {first now : CheckingState} {es : List CodeExp} {ts : List Ty} {k : ℕ} →
     ArgumentsOn names in_loop first now es ts k → k ≡ length es → (scope : Scope) → scope ≡ scope_of names first in_loop →
     expect_all (exps_of es) ts scope (noted_of first) ≡ fine tt (noted_of now)
 unfolding give
@@ -141,15 +141,15 @@ arguments_all {now = now} {es = es} {ts = ts} {k = k} a e scope h =
     a.onward scope h ∙ ap (λ x. expect_all (exps_of x) (drop k ts) scope (noted_of now)) (none_left es k e)
 
 -- fields' values, each of its type
-pub record FieldsOn (names : List (List ℕ)) (in_loop : Bool) (first now : State) (es : List CodeInit) (ts : List (ℕ × Ty)) (k : ℕ) : Type 0 where
+pub record FieldsOn (names : List (List ℕ)) (in_loop : Bool) (first now : CheckingState) (es : List CodeInit) (ts : List (ℕ × Ty)) (k : ℕ) : Type 0 where
   pub kept : Keeps first now
   pub onward : (scope : Scope) → scope ≡ scope_of names first in_loop →
       expect_fields (inits_of es) ts scope (noted_of first) ≡ expect_fields (inits_of (drop k es)) (drop k ts) scope (noted_of now)
 
-pub fields_none : {names : List (List ℕ)} {in_loop : Bool} {s : State} {es : List CodeInit} {ts : List (ℕ × Ty)} → FieldsOn names in_loop s s es ts 0
+pub fields_none : {names : List (List ℕ)} {in_loop : Bool} {s : CheckingState} {es : List CodeInit} {ts : List (ℕ × Ty)} → FieldsOn names in_loop s s es ts 0
 fields_none = record { kept = keeps_same; onward = λ scope h. refl }
 
-pub fields_one : {names : List (List ℕ)} {in_loop : Bool} {first now next : State} {es : List CodeInit} {ts : List (ℕ × Ty)} {k : ℕ} (e : CodeInit)
+pub fields_one : {names : List (List ℕ)} {in_loop : Bool} {first now next : CheckingState} {es : List CodeInit} {ts : List (ℕ × Ty)} {k : ℕ} (e : CodeInit)
     (t : ℕ × Ty) → FieldsOn names in_loop first now es ts k → k < length es → length es ≡ length ts → e ≡ get_or es k e → t ≡ get_or ts k t →
     ((scope : Scope) → scope ≡ scope_of names now in_loop → fitting (plain e.value) t.1 scope (noted_of now) ≡ fine tt (noted_of next)) → Keeps now next →
     FieldsOn names in_loop first next es ts (k + 1)
@@ -161,7 +161,7 @@ fields_one {names = names} {now = now} {es = es} {ts = ts} {k = k} e t a l m i j
       (g scope (same_scope names a.kept h)) refl));
 }
 
-pub fields_fail : {names : List (List ℕ)} {in_loop : Bool} {first now : State} {es : List CodeInit} {ts : List (ℕ × Ty)} {k : ℕ} (e : CodeInit)
+pub fields_fail : {names : List (List ℕ)} {in_loop : Bool} {first now : CheckingState} {es : List CodeInit} {ts : List (ℕ × Ty)} {k : ℕ} (e : CodeInit)
     (t : ℕ × Ty) {f : TypeFault} → FieldsOn names in_loop first now es ts k → k < length es → length es ≡ length ts → e ≡ get_or es k e → t ≡ get_or ts k t →
     ((scope : Scope) → scope ≡ scope_of names now in_loop → Fails f (fitting (plain e.value) t.1 scope (noted_of now))) → (scope : Scope) →
     scope ≡ scope_of names first in_loop → Fails f (expect_fields (inits_of es) ts scope (noted_of first))
@@ -170,7 +170,7 @@ fields_fail {names = names} {now = now} {es = es} {ts = ts} {k = k} e t a l m i 
     (λ y. expect_fields (inits_of (e ∷ drop (k + 1) es)) y scope (noted_of now)) (from_here ts k t (omega (arith, l, m)) j)))
     (two_fail_first _ _ _ _ (g scope (same_scope names a.kept h)))
 
-pub fields_all : {names : List (List ℕ)} {in_loop : Bool} {first now : State} {es : List CodeInit} {ts : List (ℕ × Ty)} {k : ℕ} →
+pub fields_all : {names : List (List ℕ)} {in_loop : Bool} {first now : CheckingState} {es : List CodeInit} {ts : List (ℕ × Ty)} {k : ℕ} →
     FieldsOn names in_loop first now es ts k → k ≡ length es → (scope : Scope) → scope ≡ scope_of names first in_loop →
     expect_fields (inits_of es) ts scope (noted_of first) ≡ fine tt (noted_of now)
 unfolding give
@@ -178,15 +178,15 @@ fields_all {now = now} {es = es} {ts = ts} {k = k} a e scope h =
     a.onward scope h ∙ ap (λ x. expect_fields (inits_of x) (drop k ts) scope (noted_of now)) (none_left es k e)
 
 -- expressions in order
-pub record InOrder (names : List (List ℕ)) (in_loop : Bool) (first now : State) (es : List CodeExp) (t : Ty) (k : ℕ) : Type 0 where
+pub record InOrder (names : List (List ℕ)) (in_loop : Bool) (first now : CheckingState) (es : List CodeExp) (t : Ty) (k : ℕ) : Type 0 where
   pub kept : Keeps first now
   pub onward : (scope : Scope) → scope ≡ scope_of names first in_loop →
       typed_last none_type (exps_of es) scope (noted_of first) ≡ typed_last t (exps_of (drop k es)) scope (noted_of now)
 
-pub order_none : {names : List (List ℕ)} {in_loop : Bool} {s : State} {es : List CodeExp} {t : Ty} → t ≡ none_type → InOrder names in_loop s s es t 0
+pub order_none : {names : List (List ℕ)} {in_loop : Bool} {s : CheckingState} {es : List CodeExp} {t : Ty} → t ≡ none_type → InOrder names in_loop s s es t 0
 order_none {s = s} {es = es} e = record { kept = keeps_same; onward = λ scope h. ap (λ t. typed_last t (exps_of es) scope (noted_of s)) (sym e) }
 
-pub order_one : {names : List (List ℕ)} {in_loop : Bool} {first now next : State} {es : List CodeExp} {t u : Ty} {k : ℕ} (e : CodeExp) →
+pub order_one : {names : List (List ℕ)} {in_loop : Bool} {first now next : CheckingState} {es : List CodeExp} {t u : Ty} {k : ℕ} (e : CodeExp) →
     InOrder names in_loop first now es t k → k < length es → e ≡ get_or es k e →
     ((scope : Scope) → scope ≡ scope_of names now in_loop → typed (plain e) scope (noted_of now) ≡ fine u (noted_of next)) → Keeps now next →
     InOrder names in_loop first next es u (k + 1)
@@ -197,7 +197,7 @@ order_one {names = names} {now = now} {es = es} {t = t} {k = k} e a l i g p = re
       (g scope (same_scope names a.kept h)) refl);
 }
 
-pub order_fails : {names : List (List ℕ)} {in_loop : Bool} {first now : State} {es : List CodeExp} {t : Ty} {k : ℕ} (e : CodeExp) {f : TypeFault} →
+pub order_fails : {names : List (List ℕ)} {in_loop : Bool} {first now : CheckingState} {es : List CodeExp} {t : Ty} {k : ℕ} (e : CodeExp) {f : TypeFault} →
     InOrder names in_loop first now es t k → k < length es → e ≡ get_or es k e →
     ((scope : Scope) → scope ≡ scope_of names now in_loop → Fails f (typed (plain e) scope (noted_of now))) → (scope : Scope) →
     scope ≡ scope_of names first in_loop → Fails f (typed_last none_type (exps_of es) scope (noted_of first))
@@ -205,7 +205,7 @@ order_fails {names = names} {now = now} {es = es} {t = t} {k = k} e a l i g scop
     last_fails (a.onward scope h ∙ ap (λ x. typed_last t (exps_of x) scope (noted_of now)) (from_here es k e l i))
     (fails_first _ _ (g scope (same_scope names a.kept h)))
 
-pub order_all : {names : List (List ℕ)} {in_loop : Bool} {first now : State} {es : List CodeExp} {t : Ty} {k : ℕ} → InOrder names in_loop first now es t k →
+pub order_all : {names : List (List ℕ)} {in_loop : Bool} {first now : CheckingState} {es : List CodeExp} {t : Ty} {k : ℕ} → InOrder names in_loop first now es t k →
     k ≡ length es → (scope : Scope) → scope ≡ scope_of names first in_loop → typed_last none_type (exps_of es) scope (noted_of first) ≡ fine t (noted_of now)
 unfolding give
 order_all {now = now} {es = es} {t = t} {k = k} a e scope h = a.onward scope h ∙ ap (λ x. typed_last t (exps_of x) scope (noted_of now)) (none_left es k e)
@@ -222,15 +222,15 @@ dec_below n [] k d h l i = absurd (omega (arith, l))
 dec_below n (x ∷ ds) zero d h l i = subst (λ y. DecsWithin n (plain_dec y no_decs)) (sym i) (dec_apart n x (decs_of ds) h).0
 dec_below n (x ∷ ds) (suc k) d h l i = dec_below n ds k d (dec_apart n x (decs_of ds) h).1 (omega (arith, l)) i
 
-pub record DeclarationsOn (names : List (List ℕ)) (in_loop : Bool) (first now : State) (ds : List CodeDec) (k : ℕ) : Type 0 where
+pub record DeclarationsOn (names : List (List ℕ)) (in_loop : Bool) (first now : CheckingState) (ds : List CodeDec) (k : ℕ) : Type 0 where
   pub opens : Opens first now
   pub onward : (scope : Scope) → scope ≡ scope_of names first in_loop →
       declare (decs_of ds) scope (noted_of first) ≡ declare (decs_of (drop k ds)) (scope_of names now in_loop) (noted_of now)
 
-pub decs_none : {names : List (List ℕ)} {in_loop : Bool} {s : State} {ds : List CodeDec} → DeclarationsOn names in_loop s s ds 0
+pub decs_none : {names : List (List ℕ)} {in_loop : Bool} {s : CheckingState} {ds : List CodeDec} → DeclarationsOn names in_loop s s ds 0
 decs_none {s = s} {ds = ds} = record { opens = opens_keep keeps_same; onward = λ scope h. ap (λ x. declare (decs_of ds) x (noted_of s)) h }
 
-pub decs_one : {names : List (List ℕ)} {in_loop : Bool} {first now next : State} {ds : List CodeDec} {k : ℕ} (d : CodeDec) →
+pub decs_one : {names : List (List ℕ)} {in_loop : Bool} {first now next : CheckingState} {ds : List CodeDec} {k : ℕ} (d : CodeDec) →
     DeclarationsOn names in_loop first now ds k → k < length ds → d ≡ get_or ds k d →
     ((rest : Decs) (scope : Scope) → scope ≡ scope_of names now in_loop →
     declare (plain_dec d rest) scope (noted_of now) ≡ declare rest (scope_of names next in_loop) (noted_of next)) → Opens now next →
@@ -242,7 +242,7 @@ decs_one {names = names} {in_loop = in_loop} {now = now} {ds = ds} {k = k} d a l
       (decs_of (drop (k + 1) ds)) (scope_of names now in_loop) refl);
 }
 
-pub decs_fail : {names : List (List ℕ)} {in_loop : Bool} {first now : State} {ds : List CodeDec} {k : ℕ} (d : CodeDec) {f : TypeFault} →
+pub decs_fail : {names : List (List ℕ)} {in_loop : Bool} {first now : CheckingState} {ds : List CodeDec} {k : ℕ} (d : CodeDec) {f : TypeFault} →
     DeclarationsOn names in_loop first now ds k → k < length ds → d ≡ get_or ds k d →
     ((rest : Decs) (scope : Scope) → scope ≡ scope_of names now in_loop → Fails f (declare (plain_dec d rest) scope (noted_of now))) → (scope : Scope) →
     scope ≡ scope_of names first in_loop → Fails f (declare (decs_of ds) scope (noted_of first))
@@ -250,7 +250,7 @@ decs_fail {names = names} {in_loop = in_loop} {now = now} {ds = ds} {k = k} d a 
     last_fails (a.onward scope h ∙ ap (λ x. declare (decs_of x) (scope_of names now in_loop) (noted_of now)) (from_here ds k d l i))
     (g (decs_of (drop (k + 1) ds)) (scope_of names now in_loop) refl)
 
-pub decs_all : {names : List (List ℕ)} {in_loop : Bool} {first now : State} {ds : List CodeDec} {k : ℕ} → DeclarationsOn names in_loop first now ds k →
+pub decs_all : {names : List (List ℕ)} {in_loop : Bool} {first now : CheckingState} {ds : List CodeDec} {k : ℕ} → DeclarationsOn names in_loop first now ds k →
     k ≡ length ds → (scope : Scope) → scope ≡ scope_of names first in_loop →
     declare (decs_of ds) scope (noted_of first) ≡ fine (scope_of names now in_loop) (noted_of now)
 unfolding give
@@ -268,15 +268,15 @@ pub function_below : (n : ℕ) (fs : CodeFunDecs) (k : ℕ) (f : CodeFunDec) →
     f ≡ get_or (out-FunDecs fs).items.items k f → NamesWithin n (plain f.body)
 function_below n fs k f h l i = functions_below n (out-FunDecs fs).items.items k f (subst (λ x. FunctionsWithin n x) (plain_functions-items fs) h) l i
 
-pub record BodiesOn (names : List (List ℕ)) (first now : State) (fs : List CodeFunDec) (ss : List Signature) (k : ℕ) : Type 0 where
+pub record BodiesOn (names : List (List ℕ)) (first now : CheckingState) (fs : List CodeFunDec) (ss : List Signature) (k : ℕ) : Type 0 where
   pub kept : Keeps first now
   pub onward : (scope : Scope) → scope ≡ scope_of names first false →
       bodies (functions_of fs) ss scope (noted_of first) ≡ bodies (functions_of (drop k fs)) (drop k ss) scope (noted_of now)
 
-pub bodies_none : {names : List (List ℕ)} {s : State} {fs : List CodeFunDec} {ss : List Signature} → BodiesOn names s s fs ss 0
+pub bodies_none : {names : List (List ℕ)} {s : CheckingState} {fs : List CodeFunDec} {ss : List Signature} → BodiesOn names s s fs ss 0
 bodies_none = record { kept = keeps_same; onward = λ scope h. refl }
 
-pub bodies_one : {names : List (List ℕ)} {first now next : State} {fs : List CodeFunDec} {ss : List Signature} {k : ℕ} (f : CodeFunDec) (s : Signature) →
+pub bodies_one : {names : List (List ℕ)} {first now next : CheckingState} {fs : List CodeFunDec} {ss : List Signature} {k : ℕ} (f : CodeFunDec) (s : Signature) →
     BodiesOn names first now fs ss k → k < length fs → length fs ≡ length ss → f ≡ get_or fs k f → s ≡ get_or ss k s →
     ((scope : Scope) → scope ≡ scope_of names now false → one_body f.params f.result (plain f.body) s scope (noted_of now) ≡ fine tt (noted_of next)) →
     Keeps now next → BodiesOn names first next fs ss (k + 1)
@@ -288,7 +288,7 @@ bodies_one {names = names} {now = now} {fs = fs} {ss = ss} {k = k} f s a l m i j
       (g scope (same_scope names a.kept h)) refl));
 }
 
-pub bodies_fail : {names : List (List ℕ)} {first now : State} {fs : List CodeFunDec} {ss : List Signature} {k : ℕ} (f : CodeFunDec)
+pub bodies_fail : {names : List (List ℕ)} {first now : CheckingState} {fs : List CodeFunDec} {ss : List Signature} {k : ℕ} (f : CodeFunDec)
     (s : Signature) {e : TypeFault} → BodiesOn names first now fs ss k → k < length fs → length fs ≡ length ss → f ≡ get_or fs k f → s ≡ get_or ss k s →
     ((scope : Scope) → scope ≡ scope_of names now false → Fails e (one_body f.params f.result (plain f.body) s scope (noted_of now))) → (scope : Scope) →
     scope ≡ scope_of names first false → Fails e (bodies (functions_of fs) ss scope (noted_of first))
@@ -297,14 +297,14 @@ bodies_fail {names = names} {now = now} {fs = fs} {ss = ss} {k = k} f s a l m i 
     (λ y. bodies (functions_of (f ∷ drop (k + 1) fs)) y scope (noted_of now)) (from_here ss k s (omega (arith, l, m)) j)))
     (two_fail_first _ _ _ _ (g scope (same_scope names a.kept h)))
 
-pub bodies_all : {names : List (List ℕ)} {first now : State} {fs : List CodeFunDec} {ss : List Signature} {k : ℕ} → BodiesOn names first now fs ss k →
+pub bodies_all : {names : List (List ℕ)} {first now : CheckingState} {fs : List CodeFunDec} {ss : List Signature} {k : ℕ} → BodiesOn names first now fs ss k →
     k ≡ length fs → (scope : Scope) → scope ≡ scope_of names first false → bodies (functions_of fs) ss scope (noted_of first) ≡ fine tt (noted_of now)
 unfolding give
 bodies_all {now = now} {fs = fs} {ss = ss} {k = k} a e scope h =
     a.onward scope h ∙ ap (λ x. bodies (functions_of x) (drop k ss) scope (noted_of now)) (none_left fs k e)
 
 -- a check goes on behind an answer
-pub leads_carry : {X A : Type 0} (r : Result X TypeFault) (scope : Scope) (after : Noted) (onward : Scope → Noted → Checked A) {c c' : Checked A} → c ≡ c' →
+pub leads_carry : {X A : Type 0} (r : Result X TypeFault) (scope : Scope) (after : Noted) (onward : Scope → Noted → CheckResult A) {c c' : CheckResult A} → c ≡ c' →
     Leads r scope after onward c' → Leads r scope after onward c
 leads_carry r scope after onward d g = subst (λ c. Leads r scope after onward c) (sym d) g
 
@@ -314,7 +314,7 @@ unfolding ◌>>=◌
 leads_on (Ok x) scope after m onward n g = ap (λ y. on_fine y onward) g
 leads_on (Err e) scope after m onward n g = fails_first m onward g
 
-pub leads_kept : {X A : Type 0} (r : Result X TypeFault) (names : List (List ℕ)) (in_loop : Bool) (old new : State) (m : Check (Unit {0}))
+pub leads_kept : {X A : Type 0} (r : Result X TypeFault) (names : List (List ℕ)) (in_loop : Bool) (old new : CheckingState) (m : Check (Unit {0}))
     (onward : Scope → Check A) (n : Noted) (inner : Scope) → inner ≡ scope_of names old in_loop → OnOk r (Keeps old new) →
     Gives r (λ _. tt) (noted_of new) (m n) → Leads r (scope_of names new in_loop) (noted_of new) onward ((m >>= λ _. onward inner) n)
 unfolding ◌>>=◌

@@ -1,6 +1,6 @@
 -- The bytes at which a text declares record and array types, each by its name, the last first.
 use Rattle.std.specs.Prelude.{ℕ, List, [], ◌∷◌}
-use Rattle.tg_syntax.specs.Tree.{Form, Alias, Fields, Array, TypeDec, Exp, Nil, Break, Int, Text, Read, Call, Neg, Binary, Make, Fill, Assign, If, When, While, For, Let, Seq, Place, Simple, Field, Index, Exps, no_exps, exp, Inits, no_inits, init, Decs, no_decs, types, variable, functions, FunDecs, no_functions, function}
+use Rattle.tg_syntax.specs.Tree.{Form, Alias, Fields, Array, TypeDec, Exp, Nil, Break, Int, Text, Read, Call, Neg, Binary, Make, Fill, Assign, If, When, While, For, Let, Seq, LValue, Simple, Field, Index, Exps, no_exps, exp, Inits, no_inits, init, Decs, no_decs, types, variable, functions, FunDecs, no_functions, function}
 
 -- an alias declares no type of its own
 abbrev pub with_form : (at : ℕ) → Form → List ℕ → List ℕ
@@ -33,7 +33,7 @@ abbrev mutual
   bytes_in (Let _ ds es) before = bytes_in_exps es (bytes_in_decs ds before)
   bytes_in (Seq _ es) before = bytes_in_exps es before
 
-  pub bytes_in_place : Place → (before : List ℕ) → List ℕ
+  pub bytes_in_place : LValue → (before : List ℕ) → List ℕ
   bytes_in_place (Simple _) before = before
   bytes_in_place (Field v _) before = bytes_in_place v before
   bytes_in_place (Index v e) before = bytes_in e (bytes_in_place v before)

@@ -3,7 +3,7 @@ use Rattle.std.proofs.Common.{◌≡◌, ℕ, zero, suc, ◌<◌, List, [], ◌�
 use Rattle.std.specs.Prelude.{slice_get, slice_set, ◌==◌, if◌then◌else◌}
 use Rattle.std.proofs.lemmas.Bool.{eqb-true}
 use Rattle.tg_syntax.specs.Tree.{FunDecs, function}
-use Rattle.tg_meaning.specs.Values.{Value, int, string, nil, reference, nothing, Object, fields, elements, Entry, variable, group, standard, World, start, add_variable, put_variable, add_object, put_object}
+use Rattle.tg_meaning.specs.Values.{Value, int, string, nil, reference, nothing, Object, fields, elements, Entry, variable, group, standard, SourceWorld, start, add_variable, put_variable, add_object, put_object}
 use Rattle.tg_meaning.specs.Operators.{get_field, set_field, field_in, element_in, with_field, with_element}
 use Rattle.tg_meaning.specs.Environments.{Function, Bound, to_variable, to_function, to_standard, function_named, or_beyond, find}
 use Rattle.tg_types.specs.Types.{Ty, int_type, string_type, nil_type, none_type, record_type, array_type, Shape, record_shape, array_shape}
@@ -217,7 +217,7 @@ module _ (shapes : List (ℕ × Shape)) where
   array_made objs at n t v e p = as_array t e (replicate_length n v) (all_replicate objs t n v p)
 
   -- the variables and objects of a world are of these types
-  pub record IsWorld (s : Stores) (w : World) : Type 0 where
+  pub record IsWorld (s : Stores) (w : SourceWorld) : Type 0 where
     pub vars : Each (IsValue s.objs) w.variables s.vars
     pub objs : Each (IsObject s.objs) w.objects s.objs
 
@@ -226,35 +226,35 @@ module _ (shapes : List (ℕ × Shape)) where
   nothing_stored input = record { vars = no_items; objs = no_items }
 
   -- nothing is known of input, heap, weight and depth
-  pub same_stores : (s : Stores) (v w : World) → IsWorld s v → v.variables ≡ w.variables → v.objects ≡ w.objects → IsWorld s w
+  pub same_stores : (s : Stores) (v w : SourceWorld) → IsWorld s v → v.variables ≡ w.variables → v.objects ≡ w.objects → IsWorld s w
   same_stores s v w i e f =
       record { vars = subst (λ x. Each (IsValue s.objs) x s.vars) e i.vars; objs = subst (λ x. Each (IsObject s.objs) x s.objs) f i.objs }
 
   -- a variable that is there
-  pub variable_there : (s : Stores) (w : World) (place : ℕ) (t : Ty) → IsWorld s w → slice_get s.vars place ≡ Some t →
+  pub variable_there : (s : Stores) (w : SourceWorld) (place : ℕ) (t : Ty) → IsWorld s w → slice_get s.vars place ≡ Some t →
       (v : Value) × (slice_get w.variables place ≡ Some v) × IsValue s.objs v t
   variable_there s w place t i e = each_get (IsValue s.objs) w.variables s.vars place t i.vars e
 
   -- an object that is there
-  pub object_there : (s : Stores) (w : World) (r : ℕ) (k : Made) → IsWorld s w → slice_get s.objs r ≡ Some k →
+  pub object_there : (s : Stores) (w : SourceWorld) (r : ℕ) (k : Made) → IsWorld s w → slice_get s.objs r ≡ Some k →
       (o : Object) × (slice_get w.objects r ≡ Some o) × IsObject s.objs o k
   object_there s w r k i e = each_get (IsObject s.objs) w.objects s.objs r k i.objs e
 
   -- a new variable
-  pub variable_added : (s : Stores) (w : World) (v : Value) (t : Ty) → IsWorld s w → IsValue s.objs v t → IsWorld (with_variable t s) (add_variable v w)
+  pub variable_added : (s : Stores) (w : SourceWorld) (v : Value) (t : Ty) → IsWorld s w → IsValue s.objs v t → IsWorld (with_variable t s) (add_variable v w)
   variable_added s w v t i p = record { vars = each_add (IsValue s.objs) w.variables s.vars v t i.vars p; objs = i.objs }
 
-  pub new_variable_there : (s : Stores) (w : World) (t : Ty) → IsWorld s w → slice_get (with_variable t s).vars (length w.variables) ≡ Some t
+  pub new_variable_there : (s : Stores) (w : SourceWorld) (t : Ty) → IsWorld s w → slice_get (with_variable t s).vars (length w.variables) ≡ Some t
   new_variable_there s w t i =
       subst (λ x. slice_get (s.vars ++ t ∷ []) x ≡ Some t) (sym (each_length (IsValue s.objs) w.variables s.vars i.vars)) (get_last s.vars t)
 
   -- a store to a variable
-  pub variable_put : (s : Stores) (w : World) (place : ℕ) (v : Value) (t : Ty) → IsWorld s w → slice_get s.vars place ≡ Some t → IsValue s.objs v t →
+  pub variable_put : (s : Stores) (w : SourceWorld) (place : ℕ) (v : Value) (t : Ty) → IsWorld s w → slice_get s.vars place ≡ Some t → IsValue s.objs v t →
       IsWorld s (put_variable place v w)
   variable_put s w place v t i e p = record { vars = each_set (IsValue s.objs) w.variables s.vars place v t i.vars e p; objs = i.objs }
 
   -- a new object
-  pub object_added : (s : Stores) (w : World) (o : Object) (k : Made) → IsWorld s w → IsObject s.objs o k → IsWorld (with_object k s) (add_object o w)
+  pub object_added : (s : Stores) (w : SourceWorld) (o : Object) (k : Made) → IsWorld s w → IsObject s.objs o k → IsWorld (with_object k s) (add_object o w)
   object_added s w o k i p =
       let v : Stores = with_object k s in
       let g : GrowsTo s v = grows_by_object s k in
@@ -265,12 +265,12 @@ module _ (shapes : List (ℕ × Shape)) where
             (each_map (IsObject s.objs) (IsObject v.objs) w.objects s.objs (λ a t q. object_on s v g a t q) i.objs) (object_on s v g o k p);
       }
 
-  pub new_object_there : (s : Stores) (w : World) (k : Made) → IsWorld s w → slice_get (with_object k s).objs (length w.objects) ≡ Some k
+  pub new_object_there : (s : Stores) (w : SourceWorld) (k : Made) → IsWorld s w → slice_get (with_object k s).objs (length w.objects) ≡ Some k
   new_object_there s w k i =
       subst (λ x. slice_get (s.objs ++ k ∷ []) x ≡ Some k) (sym (each_length (IsObject s.objs) w.objects s.objs i.objs)) (get_last s.objs k)
 
   -- a store to an object
-  pub object_put : (s : Stores) (w : World) (r : ℕ) (o : Object) (k : Made) → IsWorld s w → slice_get s.objs r ≡ Some k → IsObject s.objs o k →
+  pub object_put : (s : Stores) (w : SourceWorld) (r : ℕ) (o : Object) (k : Made) → IsWorld s w → slice_get s.objs r ≡ Some k → IsObject s.objs o k →
       IsWorld s (put_object r o w)
   object_put s w r o k i e p = record { vars = i.vars; objs = each_set (IsObject s.objs) w.objects s.objs r o k i.objs e p }
 

@@ -4,7 +4,7 @@ use Rattle.tg_syntax.specs.Tree.{Exp}
 use Rattle.tg_types.specs.declared.faults.TypeRule.{TypeRule}
 use Rattle.tg_types.specs.declared.notes.Note.{Note}
 use Rattle.tg_types.specs.Types.{Ty}
-use Rattle.tg_types.specs.Checks.{Checked, fine, fault}
+use Rattle.tg_types.specs.Checks.{CheckResult, fine, fault}
 use Rattle.tg_types.specs.Scopes.{outermost}
 use Rattle.tg_types.specs.Typing.{typed}
 use Rattle.tg_types.specs.Limits.{limit_fault}
@@ -17,7 +17,7 @@ abbrev pub within_limits : List Note → Option (TypeRule × ℕ) → Finding
 within_limits notes None = accepted notes
 within_limits notes (Some f) = at_fault f.0 f.1
 
-abbrev pub finding_of : Exp → Checked Ty → Finding
+abbrev pub finding_of : Exp → CheckResult Ty → Finding
 finding_of body (fine t noted) = within_limits noted.notes (limit_fault body)
 finding_of body (fault rule at) = at_fault rule at
 

@@ -3,7 +3,7 @@
 use Rattle.std.specs.Prelude.{ℕ, List, Option, Bool, IsTrue}
 use Rattle.tg_syntax.specs.declared.tokens.Ident.{Ident}
 use Rattle.tg_syntax.specs.declared.trees.Param.{Param}
-use Rattle.tg_syntax.specs.Tree.{Form, TypeDec, Exp, Place, Exps, Inits, Decs, FunDecs}
+use Rattle.tg_syntax.specs.Tree.{Form, TypeDec, Exp, LValue, Exps, Inits, Decs, FunDecs}
 use Rattle.tg_syntax.specs.Throughout.{ThroughParams, ThroughForm, ThroughTypes, ThroughKind}
 use Rattle.tg_syntax.specs.Throughout.{Throughout, ThroughPlace, ThroughExps, ThroughInits}
 use Rattle.tg_syntax.specs.Throughout.{ThroughDecs, ThroughFunctions}
@@ -30,7 +30,7 @@ TypesBegin here ds = ThroughTypes (IdentBegins here) (IsHere here) ds
 abbrev pub KindBegins : (here : ℕ → Bool) → Option Ident → Type 0
 KindBegins here kind = ThroughKind (IdentBegins here) (IsHere here) kind
 
-abbrev pub PlaceBegins : (here : ℕ → Bool) → Place → Type 0
+abbrev pub PlaceBegins : (here : ℕ → Bool) → LValue → Type 0
 PlaceBegins here v = ThroughPlace (IdentBegins here) (IsHere here) v
 
 abbrev pub ExpsBegin : (here : ℕ → Bool) → Exps → Type 0

@@ -11,14 +11,14 @@ pub record Noted : Type 0 where
   pub shapes : List (ℕ × Shape)
   pub notes : List Note
 
-pub data Checked (A : Type 0) : Type 0 where
-  fine : A → Noted → Checked A
-  fault : TypeRule → (at : ℕ) → Checked A
+pub data CheckResult (A : Type 0) : Type 0 where
+  fine : A → Noted → CheckResult A
+  fault : TypeRule → (at : ℕ) → CheckResult A
 
 abbrev pub Check : Type 0 → Type 0
-Check A = Noted → Checked A
+Check A = Noted → CheckResult A
 
-abbrev pub on_fine : {A B : Type 0} → Checked A → (A → Check B) → Checked B
+abbrev pub on_fine : {A B : Type 0} → CheckResult A → (A → Check B) → CheckResult B
 on_fine (fine a noted) next = next a noted
 on_fine (fault rule at) next = fault rule at
 

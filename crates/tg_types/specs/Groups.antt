@@ -1,14 +1,17 @@
 -- Consecutive type declarations, and the headers of consecutive function declarations.
-use Rattle.std.specs.Prelude.{ℕ, zero, suc, ◌==◌, ◌||◌, List, [], ◌∷◌, length, map, Option, Some, None, Bool, true, false, not, if◌then◌else◌}
+use Rattle.std.specs.Prelude.{ℕ, zero, suc, ◌==◌, ◌||◌, List, [], ◌∷◌, length, map, Option, Some}
+use Rattle.std.specs.Prelude.{None, Bool, true, false, not, if◌then◌else◌}
 use Rattle.tg_syntax.specs.declared.tokens.Ident.{Ident}
 use Rattle.tg_syntax.specs.declared.trees.Param.{Param}
-use Rattle.tg_syntax.specs.Tree.{Form, Alias, Fields, Array, TypeDec, FunDecs, no_functions, function}
+use Rattle.tg_syntax.specs.Tree.{Form, Alias, Fields, Array, TypeDec, FunDecs, no_functions}
+use Rattle.tg_syntax.specs.Tree.{function}
 use Rattle.tg_types.specs.declared.faults.TypeRule.{TypeRule}
 use Rattle.tg_types.specs.declared.faults.TypeRule.TheVariants.{T3, T16, T18, T19}
 use Rattle.tg_types.specs.Types.{Ty, none_type, record_type, array_type, record_shape, array_shape}
 use Rattle.tg_symbols.specs.Tables.{named}
 use Rattle.tg_types.specs.Checks.{Check, give, keep, present, add_shape, ◌>>=◌, ◌>>◌}
-use Rattle.tg_types.specs.Scopes.{Signature, variable_at, function_at, Scope, name_of, at_of, binding}
+use Rattle.tg_types.specs.Scopes.{Signature, variable_at, function_at, Scope, name_of, at_of}
+use Rattle.tg_types.specs.Scopes.{binding}
 
 abbrev pub stands_in : ℕ → List Ident → Bool
 stands_in x [] = false

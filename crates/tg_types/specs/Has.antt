@@ -5,17 +5,24 @@ use Rattle.std.specs.List.{Contains}
 use Rattle.tg_base.specs.declared.ids.Span.{Span}
 use Rattle.tg_syntax.specs.declared.tokens.Ident.{Ident}
 use Rattle.tg_syntax.specs.declared.trees.Op.{Op}
-use Rattle.tg_syntax.specs.declared.trees.Op.TheVariants.{Equal, NotEqual, Less, LessEqual, Greater, GreaterEqual}
+use Rattle.tg_syntax.specs.declared.trees.Op.TheVariants.{Equal, NotEqual, Less, LessEqual, Greater}
+use Rattle.tg_syntax.specs.declared.trees.Op.TheVariants.{GreaterEqual}
 use Rattle.tg_syntax.specs.declared.trees.Param.{Param}
-use Rattle.tg_syntax.specs.Tree.{TypeDec, Exp, Nil, Break, Int, Text, Read, Call, Neg, Binary, Make, Fill, Assign, If, When, While, For, Let, Seq, Place, Simple, Field, Index, Exps, no_exps, exp, Inits, no_inits, init, Decs, no_decs, types, variable, functions, FunDecs, no_functions, function}
+use Rattle.tg_syntax.specs.Tree.{TypeDec, Exp, Nil, Break, Int, Text, Read, Call, Neg, Binary, Make}
+use Rattle.tg_syntax.specs.Tree.{Fill, Assign, If, When, While, For, Let, Seq, LValue, Simple}
+use Rattle.tg_syntax.specs.Tree.{Field, Index, Exps, no_exps, exp, Inits, no_inits, init, Decs}
+use Rattle.tg_syntax.specs.Tree.{no_decs, types, variable, functions, FunDecs, no_functions}
+use Rattle.tg_syntax.specs.Tree.{function}
 use Rattle.tg_meaning.specs.Operators.{comparison, identity}
 use Rattle.tg_meaning.specs.Environments.{function_named}
 use Rattle.tg_types.specs.declared.notes.Note.{Note}
 use Rattle.tg_types.specs.declared.notes.Means.{Means}
 use Rattle.tg_types.specs.declared.notes.Means.TheVariants as means
-use Rattle.tg_types.specs.Types.{Ty, int_type, string_type, nil_type, none_type, record_type, array_type, Shape, record_shape, array_shape}
+use Rattle.tg_types.specs.Types.{Ty, int_type, string_type, nil_type, none_type, record_type}
+use Rattle.tg_types.specs.Types.{array_type, Shape, record_shape, array_shape}
 use Rattle.tg_symbols.specs.Tables.{named}
-use Rattle.tg_types.specs.Scopes.{Signature, Binding, variable_at, function_at, standard_one, Scope, name_of, at_of, bound, binding, in_a_loop, in_no_loop, signature}
+use Rattle.tg_types.specs.Scopes.{Signature, Binding, variable_at, function_at, standard_one, Scope}
+use Rattle.tg_types.specs.Scopes.{name_of, at_of, bound, binding, in_a_loop, in_no_loop, signature}
 use Rattle.tg_types.specs.Groups.{with_functions, with_params}
 use Rattle.tg_types.specs.Typing.{placed}
 
@@ -82,7 +89,7 @@ module _ (shapes : List (ℕ × Shape)) (notes : List Note) where
       text : {s : Span} {bytes : List ℕ} {scope : Scope} → Has (Text s bytes) scope string_type
       break : {s : Span} {scope : Scope} → scope.in_loop ≡ true → Has (Break s) scope none_type
       read :
-          {s : Span} {v : Place} {scope : Scope} {t : Ty} →
+          {s : Span} {v : LValue} {scope : Scope} {t : Ty} →
           HasPlace v scope t →
           Has (Read s v) scope t
       call :
@@ -130,7 +137,7 @@ module _ (shapes : List (ℕ × Shape)) (notes : List Note) where
           Fits u t →
           Has (Fill s x size value) scope (array_type at)
       assign :
-          {s : Span} {v : Place} {e : Exp} {scope : Scope} {t u : Ty} →
+          {s : Span} {v : LValue} {e : Exp} {scope : Scope} {t u : Ty} →
           HasPlace v scope t →
           Has e scope u →
           Fits u t →
@@ -169,14 +176,14 @@ module _ (shapes : List (ℕ × Shape)) (notes : List Note) where
           HasLast none_type es scope t →
           Has (Seq s es) scope t
 
-    pub data HasPlace : Place → Scope → Ty → Type 0 where
+    pub data HasPlace : LValue → Scope → Ty → Type 0 where
       simple :
           {x : Ident} {scope : Scope} {t : Ty} (at : ℕ) (loop : Bool) →
           bound x scope ≡ Some (variable_at at t loop) →
           Says notes (at_of x) (means.Variable at) →
           HasPlace (Simple x) scope t
       field :
-          {v : Place} {f : Ident} {scope : Scope} {t : Ty} (at : ℕ) (fs : List (ℕ × Ty)) (k : ℕ) →
+          {v : LValue} {f : Ident} {scope : Scope} {t : Ty} (at : ℕ) (fs : List (ℕ × Ty)) (k : ℕ) →
           HasPlace v scope (record_type at) →
           named at shapes ≡ Some (record_shape fs) →
           named (name_of f) fs ≡ Some t →
@@ -184,7 +191,7 @@ module _ (shapes : List (ℕ × Shape)) (notes : List Note) where
           Says notes (at_of f) (means.Field k) →
           HasPlace (Field v f) scope t
       index :
-          {v : Place} {e : Exp} {scope : Scope} {t : Ty} (at : ℕ) →
+          {v : LValue} {e : Exp} {scope : Scope} {t : Ty} (at : ℕ) →
           HasPlace v scope (array_type at) →
           named at shapes ≡ Some (array_shape t) →
           Has e scope int_type →

@@ -4,7 +4,8 @@ use Rattle.std.proofs.Common.{refl, ap}
 use Rattle.tg_types.specs.declared.kinds.Kind.{Kind}
 use Rattle.tg_types.specs.declared.kinds.Kind.TheVariants.{Int, Text, Nil, Nothing, Record, Array}
 use Rattle.tg_types.specs.declared.kinds.Ty.TheInside.{Inside}
-use Rattle.tg_types.specs.Types.{Ty, int_type, string_type, nil_type, none_type, record_type, array_type}
+use Rattle.tg_types.specs.Types.{Ty, int_type, string_type, nil_type, none_type, record_type}
+use Rattle.tg_types.specs.Types.{array_type}
 
 abbrev pub type_of : Kind → Ty
 type_of Int = int_type

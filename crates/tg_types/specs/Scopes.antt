@@ -1,10 +1,13 @@
 -- What a place of the text sees. Types have one name space; variables and functions share the
 -- other. An inner declaration hides an outer one.
-use Rattle.std.specs.Prelude.{ℕ, suc, List, [], ◌∷◌, ◌++◌, Option, Some, None, Bool, true, false, if◌then◌else◌, codes}
+use Rattle.std.specs.Prelude.{ℕ, suc, List, [], ◌∷◌, ◌++◌, Option, Some, None, Bool, true, false}
+use Rattle.std.specs.Prelude.{if◌then◌else◌, codes}
 use Rattle.std.specs.Str.{bytes_eq}
 use Rattle.tg_syntax.specs.declared.tokens.Ident.{Ident}
 use Rattle.tg_meaning.specs.declared.standards.Standard.{Standard}
-use Rattle.tg_meaning.specs.declared.standards.Standard.TheVariants.{Print, Flush, Getchar, Ord, Chr, Size, Substring, Concat, Not, Exit}
+use Rattle.tg_meaning.specs.declared.standards.Standard.TheVariants.{Print, Flush, Getchar, Ord}
+use Rattle.tg_meaning.specs.declared.standards.Standard.TheVariants.{Chr, Size, Substring, Concat}
+use Rattle.tg_meaning.specs.declared.standards.Standard.TheVariants.{Not, Exit}
 use Rattle.tg_meaning.specs.Environments.{standard_text, standards}
 use Rattle.tg_types.specs.Types.{Ty, int_type, string_type, none_type}
 use Rattle.tg_symbols.specs.Tables.{named}

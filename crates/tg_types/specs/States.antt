@@ -3,46 +3,46 @@ use Rattle.std.specs.Prelude.{◌≡◌, ℕ, List, ◌++◌, Result, Ok, Err, B
 use Rattle.tg_types.specs.declared.faults.TypeRule.{TypeRule}
 use Rattle.tg_types.specs.declared.faults.TypeFault.{TypeFault}
 use Rattle.tg_types.specs.declared.faults.TypeFault.TheVariants.{Bad, Memory}
-use Rattle.tg_types.specs.declared.states.State.{State}
+use Rattle.tg_types.specs.declared.states.CheckingState.{CheckingState}
 use Rattle.tg_types.specs.Types.{Ty}
-use Rattle.tg_types.specs.Checks.{Noted, Checked, fine, fault}
+use Rattle.tg_types.specs.Checks.{Noted, CheckResult, fine, fault}
 use Rattle.tg_types.specs.Scopes.{Scope, Binding, standard_bindings, standard_types}
 
 -- the scope of a state: what it holds, before what the names mean outside
-abbrev pub scope_of : (names : List (List ℕ)) → State → (in_loop : Bool) → Scope
+abbrev pub scope_of : (names : List (List ℕ)) → CheckingState → (in_loop : Bool) → Scope
 scope_of names s in_loop = record {
   bindings = s.bindings ++ standard_bindings 0 names;
   types = s.types ++ standard_types 0 names;
   in_loop = in_loop;
 }
 
-abbrev pub noted_of : State → Noted
+abbrev pub noted_of : CheckingState → Noted
 noted_of s = record { shapes = s.shapes; notes = s.notes.items }
 
 -- a fault that is answered is a check's; want of memory says nothing
-pub data Fails {A : Type 0} : TypeFault → Checked A → Type 0 where
-  bad : {rule : TypeRule} {at : ℕ} {c : Checked A} → c ≡ fault rule at → Fails (Bad rule at) c
-  no_memory : {c : Checked A} → Fails Memory c
+pub data Fails {A : Type 0} : TypeFault → CheckResult A → Type 0 where
+  bad : {rule : TypeRule} {at : ℕ} {c : CheckResult A} → c ≡ fault rule at → Fails (Bad rule at) c
+  no_memory : {c : CheckResult A} → Fails Memory c
 
 -- an answer is what a check gives, with what is noted after it
-abbrev pub Gives : {X A : Type 0} → Result X TypeFault → (X → A) → (after : Noted) → Checked A →
+abbrev pub Gives : {X A : Type 0} → Result X TypeFault → (X → A) → (after : Noted) → CheckResult A →
     Type 0
 Gives (Ok x) value after c = c ≡ fine (value x) after
 Gives (Err e) value after c = Fails e c
 
 -- an answer is that a check goes on behind a scope, or its fault
 abbrev pub Leads : {X A : Type 0} → Result X TypeFault → Scope → (after : Noted) →
-    (Scope → Noted → Checked A) → Checked A → Type 0
+    (Scope → Noted → CheckResult A) → CheckResult A → Type 0
 Leads (Ok x) scope after onward c = c ≡ onward scope after
 Leads (Err e) scope after onward c = Fails e c
 
 -- the same names are open
-pub record Keeps (old new : State) : Type 0 where
+pub record Keeps (old new : CheckingState) : Type 0 where
   pub bindings : new.bindings ≡ old.bindings
   pub types : new.types ≡ old.types
 
 -- more names are open, and those of before behind them
-pub record Opens (old new : State) : Type 0 where
+pub record Opens (old new : CheckingState) : Type 0 where
   pub more_bindings : List (ℕ × Binding)
   pub bindings : new.bindings ≡ more_bindings ++ old.bindings
   pub more_types : List (ℕ × Ty)

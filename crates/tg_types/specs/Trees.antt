@@ -10,7 +10,8 @@ use Rattle.tg_types.specs.Types.{Ty, int_type, none_type, alike, joined}
 use Rattle.tg_types.specs.Checks.{Check, give, keep, ◌>>=◌, ◌>>◌}
 use Rattle.tg_types.specs.Scopes.{Scope, Signature, variable_at, at_of, binding, in_a_loop}
 use Rattle.tg_types.specs.Groups.{with_params}
-use Rattle.tg_types.specs.Typing.{typed, start_of, expect, expect_none, left_side, right_side, body_fits}
+use Rattle.tg_types.specs.Typing.{typed, start_of, expect, expect_none, left_side, right_side}
+use Rattle.tg_types.specs.Typing.{body_fits}
 
 -- where a part stands that no rule asks for its place
 abbrev pub nowhere : Span

@@ -1,21 +1,31 @@
 -- Typing: the type of each part, or the first fault in the order in which the checks are made.
-use Rattle.std.specs.Prelude.{ℕ, suc, ◌==◌, ◌&&◌, List, [], ◌∷◌, length, Option, Some, None, Bool, true, false, not, if◌then◌else◌}
+use Rattle.std.specs.Prelude.{ℕ, suc, ◌==◌, ◌&&◌, List, [], ◌∷◌, length, Option, Some, None, Bool}
+use Rattle.std.specs.Prelude.{true, false, not, if◌then◌else◌}
 use Rattle.tg_syntax.specs.declared.tokens.Ident.{Ident}
 use Rattle.tg_syntax.specs.declared.trees.Op.{Op}
-use Rattle.tg_syntax.specs.declared.trees.Op.TheVariants.{Equal, NotEqual, Less, LessEqual, Greater, GreaterEqual}
+use Rattle.tg_syntax.specs.declared.trees.Op.TheVariants.{Equal, NotEqual, Less, LessEqual, Greater}
+use Rattle.tg_syntax.specs.declared.trees.Op.TheVariants.{GreaterEqual}
 use Rattle.tg_syntax.specs.Spans.{span_of}
-use Rattle.tg_syntax.specs.Tree.{Exp, Nil, Break, Int, Text, Read, Call, Neg, Binary, Make, Fill, Assign, If, When, While, For, Let, Seq, Place, Simple, Field, Index, Exps, no_exps, exp, Inits, no_inits, init, Decs, no_decs, types, variable, functions, FunDecs, function}
-use Rattle.tg_types.specs.declared.faults.TypeRule.TheVariants.{T1, T2, T4, T5, T6, T7, T8, T9, T10, T11, T12, T13, T14, T15, T17}
+use Rattle.tg_syntax.specs.Tree.{Exp, Nil, Break, Int, Text, Read, Call, Neg, Binary, Make, Fill}
+use Rattle.tg_syntax.specs.Tree.{Assign, If, When, While, For, Let, Seq, LValue, Simple, Field}
+use Rattle.tg_syntax.specs.Tree.{Index, Exps, no_exps, exp, Inits, no_inits, init, Decs, no_decs}
+use Rattle.tg_syntax.specs.Tree.{types, variable, functions, FunDecs, function}
+use Rattle.tg_types.specs.declared.faults.TypeRule.TheVariants.{T1, T2, T4, T5, T6, T7, T8, T9, T10}
+use Rattle.tg_types.specs.declared.faults.TypeRule.TheVariants.{T11, T12, T13, T14, T15, T17}
 use Rattle.tg_types.specs.declared.notes.Means.TheVariants as means
-use Rattle.tg_types.specs.Types.{Ty, int_type, string_type, nil_type, none_type, record_type, array_type, Shape, record_shape, array_shape, same, fits, alike, joined, are_nil, has_order}
+use Rattle.tg_types.specs.Types.{Ty, int_type, string_type, nil_type, none_type, record_type}
+use Rattle.tg_types.specs.Types.{array_type, Shape, record_shape, array_shape, same, fits, alike}
+use Rattle.tg_types.specs.Types.{joined, are_nil, has_order}
 use Rattle.tg_types.specs.Checks.{Check, give, refuse, keep, present, note, shape_at, ◌>>=◌, ◌>>◌}
-use Rattle.tg_types.specs.Scopes.{Signature, Binding, variable_at, function_at, standard_one, Scope, name_of, at_of, bound, binding, in_a_loop, in_no_loop, signature}
-use Rattle.tg_types.specs.Groups.{no_repeats, type_named, declare_types, function_names, headers, with_functions, with_params}
+use Rattle.tg_types.specs.Scopes.{Signature, Binding, variable_at, function_at, standard_one, Scope}
+use Rattle.tg_types.specs.Scopes.{name_of, at_of, bound, binding, in_a_loop, in_no_loop, signature}
+use Rattle.tg_types.specs.Groups.{no_repeats, type_named, declare_types, function_names, headers}
+use Rattle.tg_types.specs.Groups.{with_functions, with_params}
 
 abbrev pub start_of : Exp → ℕ
 start_of e = (span_of e).from
 
-abbrev pub place_start : Place → ℕ
+abbrev pub place_start : LValue → ℕ
 place_start (Simple x) = at_of x
 place_start (Field v f) = place_start v
 place_start (Index v e) = place_start v
@@ -51,7 +61,7 @@ is_loop_variable (Some (variable_at at t loop)) = loop
 is_loop_variable _ = false
 
 -- a loop variable isn't assigned; its fields and elements don't exist, since it is an int
-abbrev pub assignable : Place → Scope → Check (Unit {0})
+abbrev pub assignable : LValue → Scope → Check (Unit {0})
 assignable (Simple x) scope = keep T15 (at_of x) (not (is_loop_variable (bound x scope)))
 assignable _ scope = give tt
 
@@ -230,7 +240,7 @@ abbrev mutual
     typed_last none_type es inner
   typed (Seq _ es) scope = typed_last none_type es scope
 
-  pub typed_place : Place → Scope → Check Ty
+  pub typed_place : LValue → Scope → Check Ty
   typed_place (Simple x) scope = variable_of x (bound x scope)
   typed_place (Field v f) scope = do
     t ← typed_place v scope

@@ -8,7 +8,7 @@ ghost use Rattle.tg_types.specs.Answered.{Accepts, AreRising, IsAt, meaning_at};
 use crate::faults::TypeFault;
 use crate::limits::first_limit;
 use crate::notes::{Means, Note};
-use crate::states::State;
+use crate::states::CheckingState;
 use crate::trees::typed;
 use std::alloc::Global;
 use std::marker::Model;
@@ -115,7 +115,7 @@ pub fn check<'a>(
     ensures names { IfOk result (λ c. c.names ≡ names.now) }
     ensures err { IfErr result (λ e. IsAt (finding names.now (plain program.now.body)) e) }
 {
-    let mut state = State::new(alloc);
+    let mut state = CheckingState::new(alloc);
     typed(names, &mut state, &program.body, false)?;
     if let Some(limit) = first_limit(program) {
         return Err(TypeFault::Bad {

@@ -16,7 +16,7 @@ use crate::kinds::Ty;
 use crate::lookups::type_of;
 use crate::rules::kept;
 use crate::shapes::Shape;
-use crate::states::State;
+use crate::states::CheckingState;
 use std::alloc::Global;
 use std::collections::{HashMap, HashSet};
 use tg_base::{Memory, Names};
@@ -26,7 +26,7 @@ use tg_syntax::{Form, Ident, Param, TypeDec};
 /// Consecutive types, whose names the rest of the scope sees.
 pub(crate) fn declare_types(
     names: &Names,
-    state: &mut State,
+    state: &mut CheckingState,
     group: &[TypeDec],
 ) -> Result<(), TypeFault>
     requires { TypesWithin (length names.now) (map plain_type group.now) }
@@ -65,7 +65,7 @@ fn places_of(alloc: Global, group: &[TypeDec]) -> Result<HashMap<u32, usize>, Ty
 // A name of the group, or one that is known outside.
 fn known(
     names: &Names,
-    state: &State,
+    state: &CheckingState,
     places: &HashMap<u32, usize>,
     x: Ident,
 ) -> Result<(), TypeFault>
@@ -80,7 +80,7 @@ fn known(
 
 fn known_forms(
     names: &Names,
-    state: &State,
+    state: &CheckingState,
     places: &HashMap<u32, usize>,
     group: &[TypeDec],
 ) -> Result<(), TypeFault>
@@ -97,7 +97,7 @@ fn known_forms(
 
 fn known_form(
     names: &Names,
-    state: &State,
+    state: &CheckingState,
     places: &HashMap<u32, usize>,
     form: &Form,
 ) -> Result<(), TypeFault>
@@ -115,7 +115,7 @@ fn known_form(
 
 fn known_fields(
     names: &Names,
-    state: &State,
+    state: &CheckingState,
     places: &HashMap<u32, usize>,
     fields: &[Param],
 ) -> Result<(), TypeFault>
@@ -169,7 +169,7 @@ fn has_end(chain: Chain) -> bool
 // The types at the ends of the chains.
 fn types_of(
     names: &Names,
-    state: &State,
+    state: &CheckingState,
     ends: &[Chain],
     group: &[TypeDec],
 ) -> Result<Vec<Ty>, Memory>
@@ -184,7 +184,7 @@ fn types_of(
     Ok(types)
 }
 
-fn type_at_end(names: &Names, state: &State, end: Chain, group: &[TypeDec]) -> Ty
+fn type_at_end(names: &Names, state: &CheckingState, end: Chain, group: &[TypeDec]) -> Ty
     requires { ChainWithin (length names.now) (map plain_type group.now) end }
     ensures { (scope : Scope) (in_loop : Bool) → scope ≡ scope_of names.now state.now in_loop →
         result ≡ groups.type_at_end (chain_from (map plain_type group.now) end) scope }
@@ -206,7 +206,7 @@ fn declared(dec: &TypeDec) -> Ty
     }
 }
 
-fn open_types(state: &mut State, types: &[Ty], group: &[TypeDec]) -> Result<(), Memory>
+fn open_types(state: &mut CheckingState, types: &[Ty], group: &[TypeDec]) -> Result<(), Memory>
     requires { length types.now ≡ length group.now }
     ensures types { OnOk result (state.new.types ≡ named_types group.now types.now state.old.types) }
     ensures bindings { state.new.bindings ≡ state.old.bindings }
@@ -220,7 +220,7 @@ fn open_types(state: &mut State, types: &[Ty], group: &[TypeDec]) -> Result<(), 
     Ok(())
 }
 
-fn add_forms(names: &Names, state: &mut State, group: &[TypeDec]) -> Result<(), TypeFault>
+fn add_forms(names: &Names, state: &mut CheckingState, group: &[TypeDec]) -> Result<(), TypeFault>
     requires { TypesWithin (length names.now) (map plain_type group.now) }
     ensures given { (scope : Scope) (in_loop : Bool) → scope ≡ scope_of names.now state.old in_loop →
         Gives result (λ _. tt) (noted_of state.new) (groups.add_forms scope (map plain_type group.now) (noted_of state.old)) }
@@ -232,7 +232,7 @@ fn add_forms(names: &Names, state: &mut State, group: &[TypeDec]) -> Result<(), 
     Ok(())
 }
 
-fn add_form(names: &Names, state: &mut State, dec: &TypeDec) -> Result<(), TypeFault>
+fn add_form(names: &Names, state: &mut CheckingState, dec: &TypeDec) -> Result<(), TypeFault>
     requires { FormWithin (length names.now) (plain_form dec.now.form) }
     ensures given { (scope : Scope) (in_loop : Bool) → scope ≡ scope_of names.now state.old in_loop →
         Gives result (λ _. tt) (noted_of state.new) (groups.add_form scope dec.now.name.span.from (plain_form dec.now.form) (noted_of state.old)) }
@@ -251,7 +251,7 @@ fn add_form(names: &Names, state: &mut State, dec: &TypeDec) -> Result<(), TypeF
     }
 }
 
-fn add_shape(state: &mut State, at: u32, shape: Shape) -> Result<(), TypeFault>
+fn add_shape(state: &mut CheckingState, at: u32, shape: Shape) -> Result<(), TypeFault>
     ensures given { Gives result (λ _. tt) (noted_of state.new) (add_shape at shape (noted_of state.old)) }
     ensures kept { OnOk result (Keeps state.old state.new) }
 {
@@ -259,7 +259,7 @@ fn add_shape(state: &mut State, at: u32, shape: Shape) -> Result<(), TypeFault>
     Ok(())
 }
 
-fn fields_of(names: &Names, state: &State, fields: &[Param]) -> Result<Table<Ty>, Memory>
+fn fields_of(names: &Names, state: &CheckingState, fields: &[Param]) -> Result<Table<Ty>, Memory>
     requires { ParamsWithin (length names.now) fields.now }
     ensures { (scope : Scope) (in_loop : Bool) → scope ≡ scope_of names.now state.now in_loop →
         IfOk result (λ t. t ≡ map (λ p. (p.name.name.0, groups.known_type scope p.kind)) fields.now) }
@@ -274,7 +274,7 @@ fn fields_of(names: &Names, state: &State, fields: &[Param]) -> Result<Table<Ty>
     Ok(table)
 }
 
-fn known_type(names: &Names, state: &State, x: Ident) -> Ty
+fn known_type(names: &Names, state: &CheckingState, x: Ident) -> Ty
     requires { IsWithin (length names.now) x }
     ensures { (scope : Scope) (in_loop : Bool) → scope ≡ scope_of names.now state.now in_loop → result ≡ groups.known_type scope x }
 {

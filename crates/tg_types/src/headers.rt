@@ -13,13 +13,13 @@ use crate::faults::{TypeFault, TypeRule};
 use crate::groups::fresh;
 use crate::kinds::Ty;
 use crate::lookups::type_named;
-use crate::states::State;
+use crate::states::CheckingState;
 use std::collections::HashSet;
 use tg_base::{Memory, Names};
 use tg_syntax::{FunDec, FunDecs, Ident, Param};
 
 /// The functions of a group have different names.
-pub(crate) fn all_fresh(state: &State, functions: &FunDecs) -> Result<(), TypeFault>
+pub(crate) fn all_fresh(state: &CheckingState, functions: &FunDecs) -> Result<(), TypeFault>
     ensures { (n : Noted) → Gives result (λ _. tt) n (groups.no_repeats T17 [] (groups.function_names (plain_functions functions.now)) n) }
 {
     let mut earlier = HashSet::new(state.alloc);
@@ -32,7 +32,7 @@ pub(crate) fn all_fresh(state: &State, functions: &FunDecs) -> Result<(), TypeFa
 /// The signatures of a group of functions.
 pub(crate) fn headers(
     names: &Names,
-    state: &State,
+    state: &CheckingState,
     functions: &FunDecs,
 ) -> Result<Vec<Signature>, TypeFault>
     requires { FunctionsWithin (length names.now) (plain_functions functions.now) }
@@ -47,7 +47,7 @@ pub(crate) fn headers(
     Ok(signatures)
 }
 
-fn header(names: &Names, state: &State, function: &FunDec) -> Result<Signature, TypeFault>
+fn header(names: &Names, state: &CheckingState, function: &FunDec) -> Result<Signature, TypeFault>
     requires params { ParamsWithin (length names.now) function.now.params }
     requires kind { KindWithin (length names.now) function.now.result }
     ensures { (scope : Scope) (in_loop : Bool) → scope ≡ scope_of names.now state.now in_loop →
@@ -58,7 +58,7 @@ fn header(names: &Names, state: &State, function: &FunDec) -> Result<Signature, 
     Ok(Signature::new(params, outcome))
 }
 
-fn result_type(names: &Names, state: &State, kind: Option<Ident>) -> Result<Ty, TypeFault>
+fn result_type(names: &Names, state: &CheckingState, kind: Option<Ident>) -> Result<Ty, TypeFault>
     requires { KindWithin (length names.now) kind }
     ensures { (scope : Scope) (in_loop : Bool) → scope ≡ scope_of names.now state.now in_loop →
         (n : Noted) → Gives result (λ t. t) n (groups.result_type scope kind n) }
@@ -69,7 +69,7 @@ fn result_type(names: &Names, state: &State, kind: Option<Ident>) -> Result<Ty, 
     }
 }
 
-fn param_types(names: &Names, state: &State, params: &[Param]) -> Result<Vec<Ty>, TypeFault>
+fn param_types(names: &Names, state: &CheckingState, params: &[Param]) -> Result<Vec<Ty>, TypeFault>
     requires { ParamsWithin (length names.now) params.now }
     ensures given { (scope : Scope) (in_loop : Bool) → scope ≡ scope_of names.now state.now in_loop →
         (n : Noted) → Gives result (λ v. v.items) n (groups.param_types scope [] params.now n) }
@@ -85,7 +85,7 @@ fn param_types(names: &Names, state: &State, params: &[Param]) -> Result<Vec<Ty>
 
 /// Opens the functions of a group.
 pub(crate) fn open_functions(
-    state: &mut State,
+    state: &mut CheckingState,
     functions: &FunDecs,
     signatures: &[Signature],
 ) -> Result<(), Memory>
@@ -106,7 +106,11 @@ pub(crate) fn open_functions(
 }
 
 /// Opens the parameters of a function.
-pub(crate) fn open_params(state: &mut State, params: &[Param], types: &[Ty]) -> Result<(), Memory>
+pub(crate) fn open_params(
+    state: &mut CheckingState,
+    params: &[Param],
+    types: &[Ty],
+) -> Result<(), Memory>
     ensures given { (names : List (List ℕ)) (in_loop : Bool) (scope : Scope) → scope ≡ scope_of names state.old in_loop →
         OnOk result (groups.with_params params.now types.now scope ≡ scope_of names state.new in_loop) }
     ensures opens { OnOk result (Opens state.old state.new) }

@@ -12,12 +12,12 @@ use crate::faults::{TypeFault, TypeRule};
 use crate::kinds::Ty;
 use crate::notes::Means;
 use crate::standards::{signature_of, standard_of, standard_type};
-use crate::states::State;
+use crate::states::CheckingState;
 use tg_base::Names;
 use tg_syntax::Ident;
 
 /// The type that a name has at a place of the text.
-pub(crate) fn type_of(names: &Names, state: &State, x: Ident) -> Option<Ty>
+pub(crate) fn type_of(names: &Names, state: &CheckingState, x: Ident) -> Option<Ty>
     requires { x.name.0 < length names.now }
     ensures { result ≡ named x.name.0 (state.now.types ++ standard_types 0 names.now) }
 {
@@ -28,7 +28,7 @@ pub(crate) fn type_of(names: &Names, state: &State, x: Ident) -> Option<Ty>
 }
 
 /// A type's name.
-pub(crate) fn type_named(names: &Names, state: &State, x: Ident) -> Result<Ty, TypeFault>
+pub(crate) fn type_named(names: &Names, state: &CheckingState, x: Ident) -> Result<Ty, TypeFault>
     requires { x.name.0 < length names.now }
     ensures { (scope : Scope) (in_loop : Bool) → scope ≡ scope_of names.now state.now in_loop →
         (n : Noted) → Gives result (λ t. t) n (groups.type_named x scope n) }
@@ -40,7 +40,7 @@ pub(crate) fn type_named(names: &Names, state: &State, x: Ident) -> Result<Ty, T
 }
 
 /// A variable that is used.
-pub(crate) fn variable(names: &Names, state: &mut State, x: Ident) -> Result<Ty, TypeFault>
+pub(crate) fn variable(names: &Names, state: &mut CheckingState, x: Ident) -> Result<Ty, TypeFault>
     requires { x.name.0 < length names.now }
     ensures given { (scope : Scope) (in_loop : Bool) → scope ≡ scope_of names.now state.old in_loop →
         Gives result (λ t. t) (noted_of state.new) (typing.variable_of x (bound x scope) (noted_of state.old)) }
@@ -62,7 +62,11 @@ pub(crate) fn variable(names: &Names, state: &mut State, x: Ident) -> Result<Ty,
 }
 
 /// A function that is called.
-pub(crate) fn function(names: &Names, state: &mut State, f: Ident) -> Result<Signature, TypeFault>
+pub(crate) fn function(
+    names: &Names,
+    state: &mut CheckingState,
+    f: Ident,
+) -> Result<Signature, TypeFault>
     requires { f.name.0 < length names.now }
     ensures given { (scope : Scope) (in_loop : Bool) → scope ≡ scope_of names.now state.old in_loop →
         Gives result (λ s. s) (noted_of state.new) (typing.function_of f (bound f scope) (noted_of state.old)) }
@@ -88,7 +92,7 @@ pub(crate) fn function(names: &Names, state: &mut State, f: Ident) -> Result<Sig
 }
 
 /// Whether a name is a loop's variable.
-pub(crate) fn is_loop_variable(names: &Names, state: &State, x: Ident) -> bool
+pub(crate) fn is_loop_variable(names: &Names, state: &CheckingState, x: Ident) -> bool
     requires { x.name.0 < length names.now }
     ensures { (scope : Scope) (in_loop : Bool) → scope ≡ scope_of names.now state.now in_loop → result ≡ typing.is_loop_variable (bound x scope) }
 {

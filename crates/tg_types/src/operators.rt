@@ -7,11 +7,11 @@ use crate::faults::{TypeFault, TypeRule};
 use crate::kinds::Ty;
 use crate::notes::Means;
 use crate::rules::{expected, kept, value_needed};
-use crate::states::State;
+use crate::states::CheckingState;
 use tg_syntax::Op;
 
 // Notes whether strings or anything else are compared.
-fn compares(state: &mut State, at: u32, ty: Ty) -> Result<(), TypeFault>
+fn compares(state: &mut CheckingState, at: u32, ty: Ty) -> Result<(), TypeFault>
     ensures given { Gives result (λ _. tt) (noted_of state.new) (typing.compares at ty (noted_of state.old)) }
     ensures kept { Keeps state.old state.new }
 {
@@ -23,7 +23,7 @@ fn compares(state: &mut State, at: u32, ty: Ty) -> Result<(), TypeFault>
     state.note(at, means)
 }
 
-fn ordered(state: &mut State, left: Ty, at: u32, left_at: u32) -> Result<Ty, TypeFault>
+fn ordered(state: &mut CheckingState, left: Ty, at: u32, left_at: u32) -> Result<Ty, TypeFault>
     ensures given { Gives result (λ t. t) (noted_of state.new) (typing.ordered left at left_at (noted_of state.old)) }
     ensures kept { Keeps state.old state.new }
 {
@@ -33,7 +33,7 @@ fn ordered(state: &mut State, left: Ty, at: u32, left_at: u32) -> Result<Ty, Typ
     Ok(left)
 }
 
-fn equated(state: &mut State, left: Ty, at: u32, left_at: u32) -> Result<Ty, TypeFault>
+fn equated(state: &mut CheckingState, left: Ty, at: u32, left_at: u32) -> Result<Ty, TypeFault>
     ensures given { Gives result (λ t. t) (noted_of state.new) (typing.equated left at left_at (noted_of state.old)) }
     ensures kept { Keeps state.old state.new }
 {
@@ -51,7 +51,7 @@ fn counted(left: Ty, left_at: u32) -> Result<Ty, TypeFault>
 
 /// What an operator asks of its left side, before the right one is looked at.
 pub(crate) fn left_side(
-    state: &mut State,
+    state: &mut CheckingState,
     op: Op,
     left: Ty,
     at: u32,

@@ -8,12 +8,12 @@ use crate::faults::{TypeFault, TypeRule};
 use crate::kinds::Ty;
 use crate::notes::Means;
 use crate::rules::kept;
-use crate::states::State;
+use crate::states::CheckingState;
 use tg_symbols::Table;
 use tg_syntax::{Ident, Inits};
 
 /// The fields of a type, which is that of the part at a byte.
-fn fields_of(state: &State, ty: Ty, at: u32) -> Result<&Table<Ty>, TypeFault>
+fn fields_of(state: &CheckingState, ty: Ty, at: u32) -> Result<&Table<Ty>, TypeFault>
     ensures { Gives result (λ t. t.now) (noted_of state.now) (typing.fields_of ty at (noted_of state.now)) }
 {
     let fault = TypeFault::Bad {
@@ -33,7 +33,7 @@ fn fields_of(state: &State, ty: Ty, at: u32) -> Result<&Table<Ty>, TypeFault>
 }
 
 /// The type of the elements of a type, which is that of the part at a byte.
-pub(crate) fn element_of(state: &State, ty: Ty, at: u32) -> Result<Ty, TypeFault>
+pub(crate) fn element_of(state: &CheckingState, ty: Ty, at: u32) -> Result<Ty, TypeFault>
     ensures { Gives result (λ t. t) (noted_of state.now) (typing.element_of ty at (noted_of state.now)) }
 {
     let fault = TypeFault::Bad {
@@ -53,7 +53,12 @@ pub(crate) fn element_of(state: &State, ty: Ty, at: u32) -> Result<Ty, TypeFault
 }
 
 /// A field of what has a type and begins at a byte.
-pub(crate) fn selected(state: &mut State, ty: Ty, at: u32, field: Ident) -> Result<Ty, TypeFault>
+pub(crate) fn selected(
+    state: &mut CheckingState,
+    ty: Ty,
+    at: u32,
+    field: Ident,
+) -> Result<Ty, TypeFault>
     ensures given { Gives result (λ t. t) (noted_of state.new)
         (selected_of ty at field (noted_of state.old)) }
     ensures kept { Keeps state.old state.new }
@@ -64,7 +69,7 @@ pub(crate) fn selected(state: &mut State, ty: Ty, at: u32, field: Ident) -> Resu
 }
 
 // The place and the type of a field.
-fn placed(state: &State, ty: Ty, at: u32, field: Ident) -> Result<(u32, Ty), TypeFault>
+fn placed(state: &CheckingState, ty: Ty, at: u32, field: Ident) -> Result<(u32, Ty), TypeFault>
     ensures { Gives result (λ p. p) (noted_of state.now)
         (placed_of ty at field (noted_of state.now)) }
 {
@@ -84,7 +89,7 @@ fn placed(state: &State, ty: Ty, at: u32, field: Ident) -> Result<(u32, Ty), Typ
 
 /// The fields of a record type, where these are they.
 pub(crate) fn made(
-    state: &State,
+    state: &CheckingState,
     ty: Ty,
     at: u32,
     inits: &Inits,

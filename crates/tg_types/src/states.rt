@@ -12,7 +12,7 @@ use tg_symbols::Table;
 
 /// What is open at a place of the text, the shapes of types so far, and the notes so far.
 #[derive(Drop)]
-pub(crate) struct State {
+pub(crate) struct CheckingState {
     pub(crate) alloc: Global,
     pub(crate) bindings: Table<Binding>,
     pub(crate) types: Table<Ty>,
@@ -20,14 +20,14 @@ pub(crate) struct State {
     pub(crate) notes: Vec<Note>,
 }
 
-impl State {
+impl CheckingState {
     /// Nothing is open, and nothing noted.
-    pub(crate) fn new(alloc: Global) -> State
+    pub(crate) fn new(alloc: Global) -> CheckingState
         ensures bindings { result.bindings ≡ [] }
         ensures types { result.types ≡ [] }
         ensures noted { noted_of result ≡ record { shapes = []; notes = [] } }
     {
-        State {
+        CheckingState {
             alloc,
             bindings: Table::new(alloc),
             types: Table::new(alloc),

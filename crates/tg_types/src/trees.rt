@@ -25,7 +25,7 @@ use crate::lookups::{function, is_loop_variable, type_named, variable};
 use crate::operators::{left_side, right_side};
 use crate::records::{element_of, made, selected};
 use crate::rules::{body_fits, expected, kept, nothing_expected, own_type};
-use crate::states::State;
+use crate::states::CheckingState;
 use tg_base::{Memory, Names};
 use tg_syntax::{Dec, Decs, Exp, Exps, FunDec, FunDecs, Ident, Init, Inits, Kind, Op, Var};
 
@@ -33,7 +33,7 @@ use tg_syntax::{Dec, Decs, Exp, Exps, FunDec, FunDecs, Ident, Init, Inits, Kind,
 #[cycle(typing)]
 pub(crate) fn typed(
     names: &Names,
-    state: &mut State,
+    state: &mut CheckingState,
     e: &Exp,
     in_loop: bool,
 ) -> Result<Ty, TypeFault>
@@ -112,7 +112,7 @@ fn broken(at: u32, in_loop: bool) -> Result<Ty, TypeFault>
 #[cycle(typing)]
 fn fitting(
     names: &Names,
-    state: &mut State,
+    state: &mut CheckingState,
     e: &Exp,
     wanted: Ty,
     in_loop: bool,
@@ -128,7 +128,12 @@ fn fitting(
 
 // An int.
 #[cycle(typing)]
-fn fitting_int(names: &Names, state: &mut State, e: &Exp, in_loop: bool) -> Result<(), TypeFault>
+fn fitting_int(
+    names: &Names,
+    state: &mut CheckingState,
+    e: &Exp,
+    in_loop: bool,
+) -> Result<(), TypeFault>
     requires { NamesWithin (length names.now) (plain e.now) }
     ensures given { (scope : Scope) → scope ≡ scope_of names.now state.old in_loop →
         Gives result (λ _. tt) (noted_of state.new) (fitting (plain e.now) int_type scope (noted_of state.old)) }
@@ -139,7 +144,12 @@ fn fitting_int(names: &Names, state: &mut State, e: &Exp, in_loop: bool) -> Resu
 
 // What has no value.
 #[cycle(typing)]
-fn without_value(names: &Names, state: &mut State, e: &Exp, in_loop: bool) -> Result<(), TypeFault>
+fn without_value(
+    names: &Names,
+    state: &mut CheckingState,
+    e: &Exp,
+    in_loop: bool,
+) -> Result<(), TypeFault>
     requires { NamesWithin (length names.now) (plain e.now) }
     ensures given { (scope : Scope) → scope ≡ scope_of names.now state.old in_loop →
         Gives result (λ _. tt) (noted_of state.new) (without_value (plain e.now) scope (noted_of state.old)) }
@@ -152,7 +162,7 @@ fn without_value(names: &Names, state: &mut State, e: &Exp, in_loop: bool) -> Re
 #[cycle(typing)]
 fn typed_place(
     names: &Names,
-    state: &mut State,
+    state: &mut CheckingState,
     place: &Var,
     in_loop: bool,
 ) -> Result<Ty, TypeFault>
@@ -189,7 +199,7 @@ fn start_of(place: &Var) -> u32
 #[cycle(typing)]
 fn called(
     names: &Names,
-    state: &mut State,
+    state: &mut CheckingState,
     f: Ident,
     arguments: &Exps,
     in_loop: bool,
@@ -217,7 +227,7 @@ fn are_as_many(arguments: &Exps, params: &[Ty]) -> bool
 #[cycle(typing)]
 fn typed_all(
     names: &Names,
-    state: &mut State,
+    state: &mut CheckingState,
     arguments: &Exps,
     params: &[Ty],
     in_loop: bool,
@@ -238,7 +248,12 @@ fn typed_all(
 }
 
 #[cycle(typing)]
-fn negated(names: &Names, state: &mut State, a: &Exp, in_loop: bool) -> Result<Ty, TypeFault>
+fn negated(
+    names: &Names,
+    state: &mut CheckingState,
+    a: &Exp,
+    in_loop: bool,
+) -> Result<Ty, TypeFault>
     requires { NamesWithin (length names.now) (plain a.now) }
     ensures given { (scope : Scope) → scope ≡ scope_of names.now state.old in_loop →
         Gives result (λ t. t) (noted_of state.new) (typing.typed (tree.Neg nowhere (plain a.now)) scope (noted_of state.old)) }
@@ -252,7 +267,7 @@ fn negated(names: &Names, state: &mut State, a: &Exp, in_loop: bool) -> Result<T
 #[cycle(typing)]
 fn left_operand(
     names: &Names,
-    state: &mut State,
+    state: &mut CheckingState,
     op: Op,
     at: u32,
     a: &Exp,
@@ -271,7 +286,7 @@ fn left_operand(
 #[cycle(typing)]
 fn right_operand(
     names: &Names,
-    state: &mut State,
+    state: &mut CheckingState,
     op: Op,
     left: Ty,
     b: &Exp,
@@ -292,7 +307,7 @@ fn right_operand(
 #[cycle(typing)]
 fn filled(
     names: &Names,
-    state: &mut State,
+    state: &mut CheckingState,
     whole: Ty,
     wanted: Ty,
     value: &Exp,
@@ -311,7 +326,7 @@ fn filled(
 #[cycle(typing)]
 fn joined(
     names: &Names,
-    state: &mut State,
+    state: &mut CheckingState,
     ty: Ty,
     other: &Exp,
     in_loop: bool,
@@ -328,7 +343,7 @@ fn joined(
 
 // What has no value, and neither has the whole.
 #[cycle(typing)]
-fn idle(names: &Names, state: &mut State, e: &Exp, in_loop: bool) -> Result<Ty, TypeFault>
+fn idle(names: &Names, state: &mut CheckingState, e: &Exp, in_loop: bool) -> Result<Ty, TypeFault>
     requires { NamesWithin (length names.now) (plain e.now) }
     ensures given { (scope : Scope) → scope ≡ scope_of names.now state.old in_loop →
         Gives result (λ t. t) (noted_of state.new) (idle (plain e.now) scope (noted_of state.old)) }
@@ -342,7 +357,7 @@ fn idle(names: &Names, state: &mut State, e: &Exp, in_loop: bool) -> Result<Ty, 
 #[cycle(typing)]
 fn counted(
     names: &Names,
-    state: &mut State,
+    state: &mut CheckingState,
     x: Ident,
     body: &Exp,
     in_loop: bool,
@@ -362,7 +377,7 @@ fn counted(
 #[cycle(typing)]
 fn made_record(
     names: &Names,
-    state: &mut State,
+    state: &mut CheckingState,
     x: Ident,
     inits: &Inits,
     in_loop: bool,
@@ -383,7 +398,7 @@ fn made_record(
 #[cycle(typing)]
 fn typed_fields(
     names: &Names,
-    state: &mut State,
+    state: &mut CheckingState,
     inits: &Inits,
     fields: &[(u32, Ty)],
     in_loop: bool,
@@ -405,7 +420,7 @@ fn typed_fields(
 }
 
 // A loop's variable isn't assigned.
-fn assignable(names: &Names, state: &State, place: &Var) -> Result<(), TypeFault>
+fn assignable(names: &Names, state: &CheckingState, place: &Var) -> Result<(), TypeFault>
     requires { PlaceWithin (length names.now) (plain_place place.now) }
     ensures { (scope : Scope) (in_loop : Bool) → scope ≡ scope_of names.now state.now in_loop →
         (n : Noted) → Gives result (λ _. tt) n (typing.assignable (plain_place place.now) scope n) }
@@ -425,7 +440,7 @@ fn assignable(names: &Names, state: &State, place: &Var) -> Result<(), TypeFault
 #[cycle(typing)]
 fn typed_last(
     names: &Names,
-    state: &mut State,
+    state: &mut CheckingState,
     items: &Exps,
     in_loop: bool,
 ) -> Result<Ty, TypeFault>
@@ -444,7 +459,12 @@ fn typed_last(
 
 // The declarations of a `let`, which the rest of it sees.
 #[cycle(typing)]
-fn declared(names: &Names, state: &mut State, decs: &Decs, in_loop: bool) -> Result<(), TypeFault>
+fn declared(
+    names: &Names,
+    state: &mut CheckingState,
+    decs: &Decs,
+    in_loop: bool,
+) -> Result<(), TypeFault>
     requires { DecsWithin (length names.now) (decs_of decs.now.items.items) }
     ensures given { (scope : Scope) → scope ≡ scope_of names.now state.old in_loop →
         Gives result (λ _. scope_of names.now state.new in_loop) (noted_of state.new) (typing.declare (decs_of decs.now.items.items) scope (noted_of state.old)) }
@@ -458,7 +478,12 @@ fn declared(names: &Names, state: &mut State, decs: &Decs, in_loop: bool) -> Res
 }
 
 #[cycle(typing)]
-fn declaration(names: &Names, state: &mut State, dec: &Dec, in_loop: bool) -> Result<(), TypeFault>
+fn declaration(
+    names: &Names,
+    state: &mut CheckingState,
+    dec: &Dec,
+    in_loop: bool,
+) -> Result<(), TypeFault>
     requires { DecsWithin (length names.now) (plain_dec dec.now tree.no_decs) }
     ensures given { (rest : tree.Decs) (scope : Scope) → scope ≡ scope_of names.now state.old in_loop →
         Leads result (scope_of names.now state.new in_loop) (noted_of state.new) (typing.declare rest) (typing.declare (plain_dec dec.now rest) scope (noted_of state.old)) }
@@ -478,7 +503,7 @@ fn declaration(names: &Names, state: &mut State, dec: &Dec, in_loop: bool) -> Re
 #[cycle(typing)]
 fn own_variable(
     names: &Names,
-    state: &mut State,
+    state: &mut CheckingState,
     x: Ident,
     value: &Exp,
     in_loop: bool,
@@ -499,7 +524,7 @@ fn own_variable(
 #[cycle(typing)]
 fn typed_variable(
     names: &Names,
-    state: &mut State,
+    state: &mut CheckingState,
     x: Ident,
     kind: Ident,
     value: &Exp,
@@ -519,7 +544,7 @@ fn typed_variable(
 }
 
 // A loop's variable.
-fn open_counter(state: &mut State, x: Ident) -> Result<(), Memory>
+fn open_counter(state: &mut CheckingState, x: Ident) -> Result<(), Memory>
     ensures bindings { OnOk result (state.new.bindings ≡ (x.name.0, variable_at x.span.from int_type true) ∷ state.old.bindings) }
     ensures types { state.new.types ≡ state.old.types }
     ensures noted { noted_of state.new ≡ noted_of state.old }
@@ -528,7 +553,7 @@ fn open_counter(state: &mut State, x: Ident) -> Result<(), Memory>
     state.bindings.push(x.name.0, binding)
 }
 
-fn open_variable(state: &mut State, x: Ident, ty: Ty) -> Result<(), Memory>
+fn open_variable(state: &mut CheckingState, x: Ident, ty: Ty) -> Result<(), Memory>
     ensures bindings { OnOk result (state.new.bindings ≡ (x.name.0, variable_at x.span.from ty false) ∷ state.old.bindings) }
     ensures types { state.new.types ≡ state.old.types }
     ensures noted { noted_of state.new ≡ noted_of state.old }
@@ -540,7 +565,11 @@ fn open_variable(state: &mut State, x: Ident, ty: Ty) -> Result<(), Memory>
 
 // Consecutive functions, whose names the rest of the scope sees.
 #[cycle(typing)]
-fn declare_functions(names: &Names, state: &mut State, group: &FunDecs) -> Result<(), TypeFault>
+fn declare_functions(
+    names: &Names,
+    state: &mut CheckingState,
+    group: &FunDecs,
+) -> Result<(), TypeFault>
     requires { FunctionsWithin (length names.now) (plain_functions group.now) }
     ensures given { (rest : tree.Decs) (in_loop : Bool) (scope : Scope) → scope ≡ scope_of names.now state.old in_loop →
         Leads result (scope_of names.now state.new in_loop) (noted_of state.new) (typing.declare rest)
@@ -556,7 +585,7 @@ fn declare_functions(names: &Names, state: &mut State, group: &FunDecs) -> Resul
 #[cycle(typing)]
 fn bodies(
     names: &Names,
-    state: &mut State,
+    state: &mut CheckingState,
     group: &FunDecs,
     signatures: &[Signature],
 ) -> Result<(), TypeFault>
@@ -578,7 +607,7 @@ fn bodies(
 #[cycle(typing)]
 fn body(
     names: &Names,
-    state: &mut State,
+    state: &mut CheckingState,
     function: &FunDec,
     signature: &Signature,
 ) -> Result<(), TypeFault>

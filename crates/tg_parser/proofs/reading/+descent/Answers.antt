@@ -25,8 +25,8 @@ whole-returns-in_err-left-clause-given t c = ended _ _ _ _ _ _ c.from_residual.e
 pub whole-returns-in-Other-clause-given : goal.whole-returns-in-Other-clause-given
 whole-returns-in-Other-clause-given t c = gives (then (call_leads (At Whole) (At Disjunction) c.in_ok-left.ensures.given) (same_leads (At Whole) c.in-Other.ensures))
 
-pub whole-returns-in-Place-clause-given : goal.whole-returns-in-Place-clause-given
-whole-returns-in-Place-clause-given t c = carry c.assignment.result _ _ (then (call_leads (At Whole) (At Disjunction) c.in_ok-left.ensures.given) (same_leads (At Whole) c.in-Place.ensures)) c.assignment.ensures.given
+pub whole-returns-in-LValue-clause-given : goal.whole-returns-in-LValue-clause-given
+whole-returns-in-LValue-clause-given t c = carry c.assignment.result _ _ (then (call_leads (At Whole) (At Disjunction) c.in_ok-left.ensures.given) (same_leads (At Whole) c.in-LValue.ensures)) c.assignment.ensures.given
 
 pub assignment-returns-in_default-clause-given : goal.assignment-returns-in_default-clause-given
 assignment-returns-in_default-clause-given t c = got_is (At Whole) c.read.ensures (gives (none_leads _ _ c.in_ok-after.ensures.given c.in_default.is (At Whole) _ _))

@@ -9,7 +9,8 @@ use Rattle.tg_runs.specs.Runs.{Run, turn}
 use Rattle.tg_runs.specs.Outcomes.{ended, out_of_fuel, stuck, Outcome, map_ending}
 use Rattle.tg_runs.specs.Agreement.{Source}
 use Rattle.tg_meaning.specs.Values.{Ending, normal, by_nil, by_index, by_division, by_chr}
-use Rattle.tg_meaning.specs.Values.{by_substring, by_size, by_heap, by_overflow, by_exit, World}
+use Rattle.tg_meaning.specs.Values.{by_substring, by_size, by_heap, by_overflow, by_exit}
+use Rattle.tg_meaning.specs.Values.{SourceWorld}
 use Rattle.tg_meaning.specs.Passing.{Rest, over_in, with_turn, evaluate_passing}
 
 -- the end of the machine that stands for an ending: a fault that the book leaves open stops it by a
@@ -31,7 +32,7 @@ abbrev pub as_source : Outcome Ending → Source
 as_source o = map_ending machine_end o
 
 -- what comes from a world on
-abbrev pub rest_run : Rest → World → Run Source
+abbrev pub rest_run : Rest → SourceWorld → Run Source
 rest_run rest w n = as_source (rest w n)
 
 -- a program's run on an input
@@ -43,7 +44,7 @@ program_run names body input heap stack n =
 -- a unit of fuel is used there as here
 abbrev pub TurnsAsSource : Type 0
 TurnsAsSource =
-    (rest : Rest) (w : World) (n : ℕ) →
+    (rest : Rest) (w : SourceWorld) (n : ℕ) →
     rest_run (with_turn rest) w n ≡ turn (as_source (over_in w out_of_fuel)) (rest_run rest w) n
 
 -- no ending stands for a full stack, and only a run that is stuck is taken for one

@@ -1,6 +1,6 @@
 use Rattle.tg_types.specs.States.{no_memory}
 use Rattle.tg_types.proofs.Steps.{ended, noted}
-use Rattle.tg_types.proofs.states.State.note.Goals as goal
+use Rattle.tg_types.proofs.states.CheckingState.note.Goals as goal
 
 pub returns-in_err-push-clause-given : goal.returns-in_err-push-clause-given
 returns-in_err-push-clause-given c = ended _ _ _ c.from_residual.ensures no_memory
