@@ -81,7 +81,7 @@ merged kept gone w =
 abbrev pub coalesced : (i kept gone : ℕ) → Work → Work
 coalesced i kept gone w =
     stepped (Coalesce i kept gone (not (is_register kept)))
-        (merged kept gone (settled i Coalesced w))
+    (merged kept gone (settled i Coalesced w))
 
 -- the move that is the first to be tried is tried
 abbrev pub tried_out : ℕ → Work → Work

@@ -18,7 +18,7 @@ pub record HasRun {I O : Type 0} (s : Streams I O)
   pub after : Simulated
   pub ran :
       IsSimulation s.input.told s.input.faults s.out.told s.out.faults steps
-          (loaded image heap stack) after
+      (loaded image heap stack) after
       s.input.before s.input.after s.out.before s.out.after end
 
 -- the answer is the end of such a run; or memory was wanting for it, and nothing was touched

@@ -53,7 +53,7 @@ binary o at l r = Binary (joined (span_of l) (span_of r)) o at l r
 abbrev pub assigning : Exp → Steps Exp
 assigning (Read s v) =
     split (OfSign sign.Assign)
-        (λ _. call (At Whole) (λ e. give (Assign (joined s (span_of e)) v e))) (give (Read s v))
+    (λ _. call (At Whole) (λ e. give (Assign (joined s (span_of e)) v e))) (give (Read s v))
 assigning e = give e
 
 abbrev pub operators : Level → Exp → Steps Exp
@@ -89,7 +89,7 @@ indexing x =
 abbrev pub naming : Ident → Steps Exp
 naming x =
     split (OfSign LeftParen)
-        (λ _. call (Listed Comma (OfSign RightParen)) (λ y. give (Call (joined x.span y.1) x y.0)))
+    (λ _. call (Listed Comma (OfSign RightParen)) (λ y. give (Call (joined x.span y.1) x y.0)))
     (split (OfSign LeftBrace) (λ _. call ListedInits (λ y. give (Make (joined x.span y.1) x y.0)))
     (split (OfSign LeftBracket) (λ _. indexing x)
     (call (Suffix x.span (Simple x)) (λ p. give (reading p)))))
@@ -114,7 +114,7 @@ counting =
     want (OfWord WFor) (λ s. name (λ v. want (OfSign sign.Assign) (λ _. call (At Whole) (λ low.
     want (OfWord WTo) (λ _. call (At Whole) (λ high.
     want (OfWord WDo) (λ _. call (At Whole)
-        (λ x. give (For (joined s (span_of x)) v low high x)))))))))
+    (λ x. give (For (joined s (span_of x)) v low high x)))))))))
 
 abbrev pub declaring : Steps Exp
 declaring =
@@ -128,7 +128,7 @@ negating =
 abbrev pub grouping : Steps Exp
 grouping =
     want (OfSign LeftParen)
-        (λ s. call (Listed Semicolon (OfSign RightParen)) (λ y. give (Seq (joined s y.1) y.0)))
+    (λ s. call (Listed Semicolon (OfSign RightParen)) (λ y. give (Seq (joined s y.1) y.0)))
 
 -- what binds more tightly than the operators, by its first token
 abbrev pub unary : Token → Steps Exp
@@ -154,8 +154,8 @@ abbrev pub suffixes : Span → LValue → Steps (Span × LValue)
 suffixes s v =
     split (OfSign Dot) (λ _. name (λ x. last (Suffix (joined s x.span) (Field v x))))
     (split (OfSign LeftBracket)
-        (λ _. call (At Whole)
-            (λ e. want (OfSign RightBracket) (λ r. last (Suffix (joined s r) (Index v e)))))
+    (λ _. call (At Whole)
+    (λ e. want (OfSign RightBracket) (λ r. last (Suffix (joined s r) (Index v e)))))
     (give (s, v)))
 
 abbrev pub listed : Sign → Mark → Steps (Exps × Span)
@@ -173,7 +173,7 @@ abbrev pub listed_inits : Steps (Inits × Span)
 listed_inits =
     split (OfSign RightBrace) (λ r. give (no_inits, r))
     (call OneInit (λ i. call (MoreInits (init i.0 i.1 no_inits))
-        (λ is. want (OfSign RightBrace) (λ r. give (is, r)))))
+    (λ is. want (OfSign RightBrace) (λ r. give (is, r)))))
 
 abbrev pub more_inits : Inits → Steps Inits
 more_inits is = split (OfSign Comma)
@@ -207,12 +207,12 @@ type_dec = name (λ x. want (OfSign Equal)
 abbrev pub var_dec : Steps Dec
 var_dec =
     name (λ x. call Annotation
-        (λ k. want (OfSign sign.Assign) (λ _. call (At Whole) (λ e. give (one_variable x k e)))))
+    (λ k. want (OfSign sign.Assign) (λ _. call (At Whole) (λ e. give (one_variable x k e)))))
 
 abbrev pub fun_dec : Steps Dec
 fun_dec =
     name (λ f. want (OfSign LeftParen)
-        (λ _. call (ListedParams (OfSign RightParen)) (λ ps. call Annotation (λ k.
+    (λ _. call (ListedParams (OfSign RightParen)) (λ ps. call Annotation (λ k.
     want (OfSign Equal) (λ _. call (At Whole) (λ e. give (one_function f ps k e)))))))
 
 abbrev pub more_decs : Decs → Steps Decs

@@ -145,45 +145,45 @@ code_field w = w / 2 ^ 6 % 2 ^ 20
 abbrev pub decode_register_form : ℕ → Option Mips
 decode_register_form w =
     if funct_field w == 0x00 && rs_field w == 0
-      then Some (Sll (rd_field w) (rt_field w) (shamt_field w)) else
+    then Some (Sll (rd_field w) (rt_field w) (shamt_field w)) else
     if funct_field w == 0x02 && rs_field w == 0
-      then Some (Srl (rd_field w) (rt_field w) (shamt_field w)) else
+    then Some (Srl (rd_field w) (rt_field w) (shamt_field w)) else
     if funct_field w == 0x03 && rs_field w == 0
-      then Some (Sra (rd_field w) (rt_field w) (shamt_field w)) else
+    then Some (Sra (rd_field w) (rt_field w) (shamt_field w)) else
     if funct_field w == 0x08 && (rt_field w == 0 && (rd_field w == 0 && shamt_field w == 0))
-      then Some (Jr (rs_field w)) else
+    then Some (Jr (rs_field w)) else
     if funct_field w == 0x09 && (rt_field w == 0 && shamt_field w == 0)
-      then Some (Jalr (rd_field w) (rs_field w)) else
+    then Some (Jalr (rd_field w) (rs_field w)) else
     if funct_field w == 0x0C && w / 2 ^ 6 == 0 then Some Syscall else
     if funct_field w == 0x0D then Some (Break (code_field w)) else
     if funct_field w == 0x10 && (w / 2 ^ 16 == 0 && shamt_field w == 0)
-      then Some (Mfhi (rd_field w)) else
+    then Some (Mfhi (rd_field w)) else
     if funct_field w == 0x12 && (w / 2 ^ 16 == 0 && shamt_field w == 0)
-      then Some (Mflo (rd_field w)) else
+    then Some (Mflo (rd_field w)) else
     if funct_field w == 0x18 && (rd_field w == 0 && shamt_field w == 0)
-      then Some (Mult (rs_field w) (rt_field w)) else
+    then Some (Mult (rs_field w) (rt_field w)) else
     if funct_field w == 0x1A && (rd_field w == 0 && shamt_field w == 0)
-      then Some (Div (rs_field w) (rt_field w)) else
+    then Some (Div (rs_field w) (rt_field w)) else
     if funct_field w == 0x20 && shamt_field w == 0
-      then Some (Add (rd_field w) (rs_field w) (rt_field w)) else
+    then Some (Add (rd_field w) (rs_field w) (rt_field w)) else
     if funct_field w == 0x22 && shamt_field w == 0
-      then Some (Sub (rd_field w) (rs_field w) (rt_field w)) else
+    then Some (Sub (rd_field w) (rs_field w) (rt_field w)) else
     if funct_field w == 0x21 && shamt_field w == 0
-      then Some (Addu (rd_field w) (rs_field w) (rt_field w)) else
+    then Some (Addu (rd_field w) (rs_field w) (rt_field w)) else
     if funct_field w == 0x23 && shamt_field w == 0
-      then Some (Subu (rd_field w) (rs_field w) (rt_field w)) else
+    then Some (Subu (rd_field w) (rs_field w) (rt_field w)) else
     if funct_field w == 0x24 && shamt_field w == 0
-      then Some (And (rd_field w) (rs_field w) (rt_field w)) else
+    then Some (And (rd_field w) (rs_field w) (rt_field w)) else
     if funct_field w == 0x25 && shamt_field w == 0
-      then Some (Or (rd_field w) (rs_field w) (rt_field w)) else
+    then Some (Or (rd_field w) (rs_field w) (rt_field w)) else
     if funct_field w == 0x26 && shamt_field w == 0
-      then Some (Xor (rd_field w) (rs_field w) (rt_field w)) else
+    then Some (Xor (rd_field w) (rs_field w) (rt_field w)) else
     if funct_field w == 0x27 && shamt_field w == 0
-      then Some (Nor (rd_field w) (rs_field w) (rt_field w)) else
+    then Some (Nor (rd_field w) (rs_field w) (rt_field w)) else
     if funct_field w == 0x2A && shamt_field w == 0
-      then Some (Slt (rd_field w) (rs_field w) (rt_field w)) else
+    then Some (Slt (rd_field w) (rs_field w) (rt_field w)) else
     if funct_field w == 0x2B && shamt_field w == 0
-      then Some (Sltu (rd_field w) (rs_field w) (rt_field w)) else
+    then Some (Sltu (rd_field w) (rs_field w) (rt_field w)) else
     None
 
 -- the row of a word with opcode 1
@@ -204,9 +204,9 @@ decode_of w =
     if opcode_field w == 0x04 then Some (Beq (rs_field w) (rt_field w) (immediate_field w)) else
     if opcode_field w == 0x05 then Some (Bne (rs_field w) (rt_field w) (immediate_field w)) else
     if opcode_field w == 0x06 && rt_field w == 0
-      then Some (Blez (rs_field w) (immediate_field w)) else
+    then Some (Blez (rs_field w) (immediate_field w)) else
     if opcode_field w == 0x07 && rt_field w == 0
-      then Some (Bgtz (rs_field w) (immediate_field w)) else
+    then Some (Bgtz (rs_field w) (immediate_field w)) else
     if opcode_field w == 0x08 then Some (Addi (rt_field w) (rs_field w) (immediate_field w)) else
     if opcode_field w == 0x09 then Some (Addiu (rt_field w) (rs_field w) (immediate_field w)) else
     if opcode_field w == 0x0A then Some (Slti (rt_field w) (rs_field w) (immediate_field w)) else
@@ -215,7 +215,7 @@ decode_of w =
     if opcode_field w == 0x0D then Some (Ori (rt_field w) (rs_field w) (immediate_field w)) else
     if opcode_field w == 0x0E then Some (Xori (rt_field w) (rs_field w) (immediate_field w)) else
     if opcode_field w == 0x0F && rs_field w == 0
-      then Some (Lui (rt_field w) (immediate_field w)) else
+    then Some (Lui (rt_field w) (immediate_field w)) else
     if opcode_field w == 0x20 then Some (Lb (rt_field w) (immediate_field w) (rs_field w)) else
     if opcode_field w == 0x24 then Some (Lbu (rt_field w) (immediate_field w) (rs_field w)) else
     if opcode_field w == 0x23 then Some (Lw (rt_field w) (immediate_field w) (rs_field w)) else

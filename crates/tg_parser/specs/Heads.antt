@@ -57,6 +57,6 @@ abbrev pub Declares :
 Declares kind rest (Ok (Some x)) ts =
     (ds : Decs) →
     Leads (MoreDecs ds) (more_decs ds) ts
-        (one_of (kind x) (MoreDecs ds) (λ d. last (MoreDecs (snoc_dec ds d)))) (rest x)
+    (one_of (kind x) (MoreDecs ds) (λ d. last (MoreDecs (snoc_dec ds d)))) (rest x)
 Declares kind rest (Ok None) ts = (ds : Decs) → Leads (MoreDecs ds) (more_decs ds) ts (give ds) ts
 Declares kind rest (Err e) ts = (ds : Decs) → Refuses e (MoreDecs ds) (more_decs ds) ts

@@ -27,7 +27,7 @@ MergedIsLess =
     y ≢ kept →
     degree_of g s y ≡
     degree_of g (after g s (Coalesce i kept gone by_briggs)) y +
-        bit (s.pairs y kept && s.pairs y gone)
+    bit (s.pairs y kept && s.pairs y gone)
 
 -- and brings the kept node those neighbours of the other that it lacked
 abbrev pub MergedIsMore : Type 0

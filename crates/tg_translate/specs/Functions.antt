@@ -98,7 +98,7 @@ in_frame f body = λ s. finish s (body (opened s f))
 -- a function's text begins: with a frame of its own, and with its parameters declared
 abbrev pub begun :
     (escapes : ℕ → Bool) → (label : ℕ) → (kept : Bool) → (level : ℕ) → List Param →
-        TranslationState → TranslationState
+    TranslationState → TranslationState
 begun escapes label kept level params s =
     let f = frame_for label (asked escapes kept params) in
     record (opened s f) { homes = parameters level params (own_homes f.params) s.homes }
