@@ -1,6 +1,15 @@
+mod Alike
 mod Counts
 mod Examples
-mod Keeping
+mod Framed
 mod Making
 mod Naming
+mod Painted
 mod Registers
+mod Replacing
+mod Rewritten
+mod RewrittenBelow
+mod RoundExamples
+mod RoundsOf
+mod Sizes
+mod Slots

@@ -3,11 +3,18 @@
 //! of all temporaries.
 #![tactic(auto)]
 
+mod allocating;
 mod allocations;
 mod frames;
 mod laws;
 mod loading;
+mod painting;
+mod placing;
+mod rewriting;
+mod stages;
 
-pub use allocations::{Allocation, Home, Homes};
+pub use allocating::allocate;
+pub use allocations::{Allocation, Home, Homes, Rounds};
 pub use frames::in_frame;
 pub use laws::code_stays_short;
+pub use painting::register_of;
