@@ -9,6 +9,7 @@ pub mod Classes
 pub mod GreedyColouring
 pub mod NoSpill
 pub mod Answering
+pub mod AmongNodes
 pub mod Standing
 pub mod Explaining
 pub mod Selecting

@@ -16,6 +16,7 @@ ghost use Rattle.tg_rounds.specs.Laws.{
   StepsKeepStanding,
   StandsByMark,
   PairsAreOfClasses,
+  RoundsAreOfNodes,
 };
 ghost use Rattle.tg_rounds.specs.Degrees.{TakenOutIsLess, MergedIsLess, MergedIsMore};
 ghost use Rattle.tg_rounds.specs.Waiting.{WaitingFails, WokenAreDisturbed};
@@ -76,4 +77,10 @@ pub fn pairs_are_of_classes()
 pub fn waiting_fails()
     ensures fails { WaitingFails }
     ensures woken { WokenAreDisturbed }
+{}
+
+/// The law that a round answers an alias and a colour of each node, and that the aliases are nodes
+/// and what is spilled are nodes of temporaries.
+pub fn rounds_are_of_nodes()
+    ensures { RoundsAreOfNodes }
 {}

@@ -13,7 +13,7 @@ mod steps;
 pub use candidates::{Candidate, Mark};
 pub use laws::{
     colourable_never_spills, colours_are_proper, degrees_change, moves_are_explained,
-    pairs_are_of_classes, states_are_sound, steps_are_taken, waiting_fails,
+    pairs_are_of_classes, rounds_are_of_nodes, states_are_sound, steps_are_taken, waiting_fails,
 };
 pub use moves::{Move, MoveState};
 pub use policies::{LeastUse, SpillPolicy};
