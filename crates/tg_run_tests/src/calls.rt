@@ -3,7 +3,8 @@ use std::collections::BTreeMap;
 use std::process::Abort;
 use std::test::Fail;
 use tg_base::{ListSource, MapShelf, RoomSink};
-use tg_driver::tiger;
+use tg_driver::{Tools, tiger};
+use tg_rounds::{LeastUse, SpillPolicy};
 
 /// What a call is made on: the text of the one file FILE, the room of the output, and the calls
 /// that fail.
@@ -63,8 +64,18 @@ fn sink(alloc: Global, room: usize, fails: &[u64]) -> Result<RoomSink, Fail> {
     }
 }
 
-/// The program on the words of a line.
+/// The program on the words of a line, with the policy `LeastUse`.
 pub(crate) fn call(alloc: Global, line: &str, outside: Outside) -> Result<Seen, Fail> {
+    call_with(alloc, line, outside, Box::new(alloc, LeastUse)?)
+}
+
+/// The program on the words of a line, with a policy.
+pub(crate) fn call_with(
+    alloc: Global,
+    line: &str,
+    outside: Outside,
+    policy: Box<dyn SpillPolicy>,
+) -> Result<Seen, Fail> {
     let mut files = BTreeMap::new(alloc);
     files.insert(
         String::from_str(alloc, "FILE")?,
@@ -78,7 +89,15 @@ pub(crate) fn call(alloc: Global, line: &str, outside: Outside) -> Result<Seen, 
     let mut out = sink(alloc, outside.room, outside.write_fails)?;
     let mut err = sink(alloc, 128, outside.err_fails)?;
     let words = words_of(alloc, line)?;
-    let status = tiger(alloc, &words, &mut shelf, &mut input, &mut out, &mut err);
+    let status = tiger(
+        alloc,
+        &words,
+        &mut shelf,
+        &mut input,
+        &mut out,
+        &mut err,
+        Tools { policy },
+    );
     Ok(Seen {
         status,
         error: err.taken().to_vec(alloc)?,
