@@ -1,8 +1,8 @@
 ghost use Rattle.std.specs.Prelude.{◌≡◌, IfOk};
 ghost use Rattle.tg_tree.specs.Lists.{code_of};
 ghost use Rattle.tg_tree.specs.Plain.{plain_fragment, plain_function, plain_ts};
-ghost use Rattle.tg_compile.specs.Compiling.{CompilesFunction, flattened};
-ghost use Rattle.tg_compile.specs.Passes.{Chooses, IsWellFormed};
+ghost use Rattle.tg_compile.specs.Compiling.{Chooses, CompilesFunction, flattened};
+ghost use Rattle.tg_compile.specs.Passes.{IsWellFormed};
 
 use crate::laws::{flat_code_is_well_marked, instructions_name_their_own};
 use std::alloc::Global;
