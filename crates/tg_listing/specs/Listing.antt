@@ -1,6 +1,6 @@
 -- The text of `tiger alloc`: for each function its rounds with their steps, and where its
 -- temporaries came to stand.
-use Rattle.std.specs.Prelude.{ℕ, ◌+◌, ◌-◌, suc, Bool, true, false, List, [], ◌∷◌, ◌++◌, codes}
+use Rattle.std.specs.Prelude.{ℕ, ◌-◌, suc, Bool, true, false, List, [], ◌∷◌, ◌++◌, codes}
 use Rattle.std.specs.Prelude.{if◌then◌else◌, slice_index_or}
 use Rattle.std.specs.Fmt.{decimal}
 use Rattle.tg_isa.specs.Names.{name_of}
@@ -37,12 +37,15 @@ test_text false = codes " george\n"
 abbrev pub move_at : List Move → ℕ → Move
 move_at moves i = slice_index_or moves i (record { to = 0; from = 0 })
 
+abbrev pub merge_line : (kept gone : ℕ) → (briggs : Bool) → List ℕ
+merge_line kept gone briggs =
+    codes "coalesce " ++ (node_text kept ++ (32 ∷ [] ++ (node_text gone ++ test_text briggs)))
+
 abbrev pub step_line : List Move → Step → List ℕ
 step_line moves (Simplify x) = node_line (codes "simplify ") x
 step_line moves (Same i) = move_line (codes "same ") (move_at moves i)
 step_line moves (Constrain i) = move_line (codes "constrain ") (move_at moves i)
-step_line moves (Coalesce i kept gone briggs) =
-    codes "coalesce " ++ (node_text kept ++ (32 ∷ [] ++ (node_text gone ++ test_text briggs)))
+step_line moves (Coalesce i kept gone briggs) = merge_line kept gone briggs
 step_line moves (Freeze x) = node_line (codes "freeze ") x
 step_line moves (Spill x) = node_line (codes "spill ") x
 

@@ -1,4 +1,4 @@
-ghost use Rattle.std.specs.Prelude.{◌≡◌, ◌<◌, ◌++◌, ◌^◌, OnOk, length};
+ghost use Rattle.std.specs.Prelude.{◌≡◌, ◌++◌, OnOk};
 ghost use Rattle.tg_listing.specs.Listing.{home_line, home_lines, placed_lines};
 
 use crate::nodes::{put_decimal, put_temp};
@@ -8,7 +8,6 @@ use tg_spill::{Home, register_of};
 
 /// Puts a line for each temporary at the end, or one that says that all stand in the frame.
 pub fn put_homes(text: &mut Vec<u8>, all_in_frame: bool, homes: &[Home]) -> Result<(), Memory>
-    requires { length homes.now < 2 ^ 32 }
     ensures { OnOk result (text.new.items
         ≡ text.old.items ++ placed_lines all_in_frame homes.now) }
 {
@@ -21,17 +20,16 @@ pub fn put_homes(text: &mut Vec<u8>, all_in_frame: bool, homes: &[Home]) -> Resu
 }
 
 fn put_each_home(text: &mut Vec<u8>, homes: &[Home]) -> Result<(), Memory>
-    requires { length homes.now < 2 ^ 32 }
     ensures { OnOk result (text.new.items ≡ text.old.items ++ home_lines 0 homes.now) }
 {
     for at in 0..homes.len() {
-        put_home(text, at as u32, &homes[at])?;
+        put_home(text, at, &homes[at])?;
     }
     Ok(())
 }
 
 /// Puts the line of a temporary's home at the end.
-fn put_home(text: &mut Vec<u8>, temp: u32, home: &Home) -> Result<(), Memory>
+fn put_home(text: &mut Vec<u8>, temp: usize, home: &Home) -> Result<(), Memory>
     ensures { OnOk result (text.new.items ≡ text.old.items ++ home_line temp home.now) }
 {
     match home {
@@ -45,7 +43,7 @@ fn put_home(text: &mut Vec<u8>, temp: u32, home: &Home) -> Result<(), Memory>
             text.extend_from_slice(b"slot ")?;
             put_temp(text, temp)?;
             text.push(b' ')?;
-            put_decimal(text, *slot)?;
+            put_decimal(text, *slot as usize)?;
         }
     }
     text.push(b'\n')?;

@@ -1,4 +1,4 @@
-ghost use Rattle.std.specs.Prelude.{◌≡◌, ◌<◌, ◌≤◌, ◌++◌, ◌^◌, All, IfOk, OnOk, length};
+ghost use Rattle.std.specs.Prelude.{◌≡◌, ◌++◌, IfOk, OnOk};
 ghost use Rattle.tg_listing.specs.Listing.{allocation_lines, listed, rounds_lines};
 
 use crate::homes::put_homes;
@@ -26,23 +26,17 @@ pub fn list(alloc: Global, allocations: &[Allocation]) -> Result<Vec<u8>, Memory
 fn put_allocation(text: &mut Vec<u8>, one: &Allocation) -> Result<(), Memory>
     ensures { OnOk result (text.new.items ≡ text.old.items ++ allocation_lines one.now) }
 {
-    let homes = one.registers.as_slice();
-    let rounds = one.rounds.as_slice();
-    if homes.len() >= u32::MAX as usize || rounds.len() >= u32::MAX as usize {
-        return Err(Memory);
-    }
-    put_number_line(text, b"function ", one.done.frame.label.0)?;
-    put_rounds(text, rounds)?;
-    put_homes(text, one.all_in_frame, homes)?;
-    put_number_line(text, b"slots ", one.slots)
+    put_number_line(text, b"function ", one.done.frame.label.0 as usize)?;
+    put_rounds(text, one.rounds.as_slice())?;
+    put_homes(text, one.all_in_frame, one.registers.as_slice())?;
+    put_number_line(text, b"slots ", one.slots as usize)
 }
 
 fn put_rounds(text: &mut Vec<u8>, rounds: &[Round]) -> Result<(), Memory>
-    requires { length rounds.now < 2 ^ 32 - 1 }
     ensures { OnOk result (text.new.items ≡ text.old.items ++ rounds_lines 1 rounds.now) }
 {
     for at in 0..rounds.len() {
-        put_round(text, at as u32 + 1, &rounds[at])?;
+        put_round(text, at + 1, &rounds[at])?;
     }
     Ok(())
 }

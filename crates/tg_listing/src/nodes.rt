@@ -16,12 +16,12 @@ pub fn put_node(text: &mut Vec<u8>, node: u32) -> Result<(), Memory>
         text.extend_from_slice(name(register_of(node as u8)).as_bytes())?;
         Ok(())
     } else {
-        put_temp(text, node - COLOURS)
+        put_temp(text, (node - COLOURS) as usize)
     }
 }
 
 /// Puts `t` and a temporary's number at the end.
-pub fn put_temp(text: &mut Vec<u8>, temp: u32) -> Result<(), Memory>
+pub fn put_temp(text: &mut Vec<u8>, temp: usize) -> Result<(), Memory>
     ensures { OnOk result (text.new.items ≡ text.old.items ++ temp_text temp) }
 {
     text.push(b't')?;
@@ -39,7 +39,7 @@ pub fn put_node_line(text: &mut Vec<u8>, word: &[u8], node: u32) -> Result<(), M
 }
 
 /// Puts a word, a number and a newline at the end.
-pub fn put_number_line(text: &mut Vec<u8>, word: &[u8], number: u32) -> Result<(), Memory>
+pub fn put_number_line(text: &mut Vec<u8>, word: &[u8], number: usize) -> Result<(), Memory>
     ensures { OnOk result (text.new.items ≡ text.old.items ++ number_line word.now number) }
 {
     text.extend_from_slice(word)?;
@@ -49,7 +49,7 @@ pub fn put_number_line(text: &mut Vec<u8>, word: &[u8], number: u32) -> Result<(
 }
 
 /// Puts a number's decimal digits at the end.
-pub fn put_decimal(text: &mut Vec<u8>, number: u32) -> Result<(), Memory>
+pub fn put_decimal(text: &mut Vec<u8>, number: usize) -> Result<(), Memory>
     ensures { OnOk result (text.new.items ≡ text.old.items ++ decimal number) }
 {
     let mut digits = Buffer::new();

@@ -1,5 +1,6 @@
-ghost use Rattle.std.specs.Prelude.{◌≡◌, ◌<◌, ◌++◌, ◌^◌, OnOk, length};
+ghost use Rattle.std.specs.Prelude.{◌≡◌, ◌++◌, OnOk};
 ghost use Rattle.tg_listing.specs.Listing.{
+  merge_line,
   move_at,
   move_line,
   round_lines,
@@ -14,7 +15,7 @@ use tg_base::Memory;
 use tg_rounds::{Move, Round, Step};
 
 /// Puts the lines of a round at the end: its number, its steps, and the classes that were spilled.
-pub fn put_round(text: &mut Vec<u8>, number: u32, round: &Round) -> Result<(), Memory>
+pub fn put_round(text: &mut Vec<u8>, number: usize, round: &Round) -> Result<(), Memory>
     ensures { OnOk result (text.new.items ≡ text.old.items ++ round_lines number round.now) }
 {
     put_number_line(text, b"round ", number)?;
@@ -83,8 +84,7 @@ fn put_move(text: &mut Vec<u8>, word: &[u8], one: Move) -> Result<(), Memory>
 
 /// Puts the line of two classes that became one at the end: the second goes into the first.
 fn put_merge(text: &mut Vec<u8>, kept: u32, gone: u32, briggs: bool) -> Result<(), Memory>
-    ensures { OnOk result ((index : ℕ) → text.new.items
-        ≡ text.old.items ++ step_line [] (Coalesce index kept gone briggs)) }
+    ensures { OnOk result (text.new.items ≡ text.old.items ++ merge_line kept gone briggs) }
 {
     text.extend_from_slice(b"coalesce ")?;
     put_node(text, kept)?;
