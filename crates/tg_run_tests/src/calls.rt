@@ -6,13 +6,12 @@ use tg_base::{ListSource, MapShelf, RoomSink};
 use tg_driver::{Tools, tiger};
 use tg_rounds::{LeastUse, SpillPolicy};
 
-/// What a call is made on: the text of the one file FILE, the room of the output, and the calls
-/// that fail.
-///
-/// The input is `xyz`.
+/// What a call is made on: the text of the one file FILE, the input, the room of the output, and
+/// the calls that fail.
 #[derive(Clone, Copy)]
 pub(crate) struct Outside<'a> {
     pub(crate) text: &'a [u8],
+    pub(crate) input: &'a [u8],
     pub(crate) room: usize,
     pub(crate) shelf_fails: &'a [u64],
     pub(crate) read_fails: &'a [u64],
@@ -21,10 +20,11 @@ pub(crate) struct Outside<'a> {
 }
 
 impl<'a> Outside<'a> {
-    /// Nothing fails, and the output has a room of 64 bytes.
+    /// Nothing fails, the input is `xyz`, and the output has a room of 64 bytes.
     pub(crate) fn of(text: &'a [u8]) -> Outside<'a> {
         Outside {
             text,
+            input: b"xyz",
             room: 64,
             shelf_fails: &[],
             read_fails: &[],
@@ -83,7 +83,7 @@ pub(crate) fn call_with(
     )?;
     let mut shelf = MapShelf::new(files, outside.shelf_fails.to_vec(alloc)?);
     let mut input = ListSource::new(
-        b"xyz".as_slice().to_vec(alloc)?,
+        outside.input.to_vec(alloc)?,
         outside.read_fails.to_vec(alloc)?,
     );
     let mut out = sink(alloc, outside.room, outside.write_fails)?;
