@@ -1,5 +1,6 @@
 -- What a program is compiled to, pass after pass (Appel, chapters 6 to 12).
-use Rattle.std.specs.Prelude.{◌≡◌, ◌<◌, ℕ, List, [], ◌∷◌, ◌++◌, map, Ok}
+use Rattle.std.specs.Prelude.{◌≡◌, ◌<◌, ℕ, List, [], ◌∷◌, ◌++◌, map, Ok, IsTrue}
+use Rattle.std.specs.List.{list_all}
 use Rattle.std.specs.FinSet.{from_list}
 use Rattle.tg_syntax.specs.Tree.{Exp}
 use Rattle.tg_types.specs.declared.notes.Note.{Note}
@@ -21,9 +22,10 @@ use Rattle.tg_instr.specs.declared.codes.Allocated.{Allocated}
 use Rattle.tg_instr.specs.declared.codes.Code.{Code as Instructions}
 use Rattle.tg_munch.specs.Choosing.{Chosen}
 use Rattle.tg_munch.specs.Bodies.{munched, outs}
-use Rattle.tg_spill.specs.declared.allocations.Allocation.{Allocation}
 use Rattle.tg_rounds.specs.Policies.{Rule}
+use Rattle.tg_spill.specs.declared.allocations.Allocation.{Allocation}
 use Rattle.tg_spill.specs.Allocations.{IsAllocation}
+use Rattle.tg_spill.specs.Conditions.{is_allocated, names_registers}
 use Rattle.tg_emit.specs.Lines.{assembly_of}
 use Rattle.tg_emit.specs.Text.{text_of}
 
@@ -74,12 +76,14 @@ pub record Chooses (f : Function Ts) (frame : Frame) (code : Instructions) : Typ
 
 -- By a policy's rule.
 module _ (rule : Rule) where
-  -- an allocation of the instructions that are chosen for a function, in its frame
+  -- An allocation of the instructions that are chosen for a function, in its frame. It names no
+  -- register but $zero, $sp and the colours.
   pub record CompilesFunction (f : Function Ts) (a : Allocation) : Type 0 where
     pub frame : Frame
     pub code : Instructions
     pub chooses : Chooses f frame code
     pub allocation : IsAllocation rule code frame a
+    pub registers : IsTrue (list_all (names_registers is_allocated) a.done.code.list)
 
   -- each function has its allocation, in their order
   abbrev pub CompileFunctions : List (Function Ts) → List Allocation → Type 0

@@ -32,7 +32,7 @@ pub(crate) fn compile_function(
     let mut frame = frame;
     let code = choose(alloc, &mut frame, body)?;
     instructions_name_their_own();
-    allocate(alloc, &code, frame, policy)
+    Ok(allocate(alloc, &code, frame, policy)?)
 }
 
 /// The instructions of a body.
