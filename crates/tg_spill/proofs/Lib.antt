@@ -1,9 +1,11 @@
 mod Alike
+mod Causes
 mod Counts
 mod Examples
 mod Framed
 mod Making
 mod Naming
+mod OneRound
 mod Painted
 mod Registers
 mod Replacing
@@ -13,3 +15,4 @@ mod RoundExamples
 mod RoundsOf
 mod Sizes
 mod Slots
+mod TestsKept

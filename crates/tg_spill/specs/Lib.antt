@@ -5,3 +5,4 @@ pub mod Rewriting
 pub mod Painting
 pub mod Rounds
 pub mod Allocations
+pub mod Explained
