@@ -81,7 +81,7 @@ module _ (g : Problem) where
   one_more P false xs x h k = h
 
   -- what is spilled was taken out
-  spilled_among : (s : RoundState) (P : ℕ → Type 0) (xs : List ℕ) (c : Colouring) → AllByRecursion P xs → AllByRecursion P c.spilled → AllByRecursion P (fold (pop g s) c xs).spilled
+  pub spilled_among : (s : RoundState) (P : ℕ → Type 0) (xs : List ℕ) (c : Colouring) → AllByRecursion P xs → AllByRecursion P c.spilled → AllByRecursion P (fold (pop g s) c xs).spilled
   spilled_among s P [] c h k = k
   spilled_among s P (x ∷ xs) c h k =
       spilled_among s P xs (pop g s c x) h.1

@@ -13,6 +13,8 @@ pub mod AmongNodes
 pub mod Standing
 pub mod Explaining
 pub mod Selecting
+pub mod Within
+pub mod Bare
 pub mod ProperColouring
 pub mod Shrinking
 pub mod Running
