@@ -1,13 +1,17 @@
 mod Alike
+mod Blocks
+mod BlocksKept
 mod Causes
 mod Counts
 mod Examples
 mod Framed
+mod Growing
 mod Making
 mod Naming
 mod OneRound
 mod Painted
 mod Registers
+mod Renamed
 mod Replacing
 mod Rewritten
 mod RewrittenBelow
@@ -15,4 +19,5 @@ mod RoundExamples
 mod RoundsOf
 mod Sizes
 mod Slots
+mod Slotting
 mod TestsKept

@@ -1,10 +1,9 @@
 -- The rounds of an allocation as the laws of rounds see them: its graphs, the ends of its moves, and
 -- where the first round is the last.
-use Rattle.std.proofs.Common.{ℕ, ◌≡◌, ◌+◌, List, [], ◌∷◌, Bool, true, false, refl, sym, ap, subst, ◌∙◌, arith}
+use Rattle.std.proofs.Common.{ℕ, ◌≡◌, ◌+◌, ◌<◌, List, [], ◌∷◌, Bool, true, false, refl, sym, ap, subst, ◌∙◌, arith}
 use Rattle.std.specs.Prelude.{IsTrue, IsFalse, All, nat_lt, filter}
 use Rattle.std.specs.List.{list_all}
 use Rattle.tg_instr.specs.declared.instr.Instr.{Instr}
-use Rattle.tg_instr.specs.declared.codes.Code.{Code}
 use Rattle.tg_instr.specs.Codes.{has_temps_below}
 use Rattle.tg_graph.specs.Interference.{Interference}
 use Rattle.tg_graph.proofs.Joining.{either_way, not_itself}
@@ -16,13 +15,10 @@ use Rattle.tg_rounds.proofs.GreedyColouring.{part}
 use Rattle.tg_rounds.proofs.Selecting.{colourable_never_spills}
 use Rattle.tg_interference.specs.Pairs.{IsInterference}
 use Rattle.tg_coalesce.specs.Standing.{graph_of}
-use Rattle.tg_spill.specs.Rewriting.{slotted}
-use Rattle.tg_spill.specs.Rounds.{Stage, stage_of, IsRoundOf, AreRounds, slots_of, last_round}
+use Rattle.tg_spill.specs.Rounds.{Stage, stage_of, IsRoundOf, AreRounds, last_round}
 use Rattle.tg_spill.specs.Rounds.AreRounds.{last, more}
-use Rattle.tg_spill.specs.Allocations.{IsAllocation}
-use Rattle.tg_spill.specs.Explained.{problem_of, IsColourable, NeedsOneRound, ColourableNeedsOneRound}
+use Rattle.tg_spill.specs.Explained.{problem_of, IsColourable, ColourableNeedsOneRound}
 use Rattle.tg_spill.proofs.Sizes.{moves_below}
-use Rattle.tg_spill.proofs.RewrittenBelow.{temps_below}
 
 pub is_graph : (graph : Interference) → IsGraph (graph_of graph)
 is_graph graph = record { symmetric = either_way graph; irreflexive = λ x. not_itself graph x x refl }
@@ -48,9 +44,9 @@ colourable_alike list temps graph other exact exact' h =
     (λ x l t. t) (λ x y lx ly tx ty p. (exact.pairs x y).1 ((exact'.pairs x y).0 p)))
 
 -- some rounds are one, after which the code is as before
-record IsOne (s t : Stage) (rounds : List Round) : Type 0 where
+record IsOne (s t : Stage) (all : List Round) : Type 0 where
   pub round : Round
-  pub rounds : rounds ≡ round ∷ []
+  pub rounds : all ≡ round ∷ []
   pub nothing_spilled : SpillsNothing round
   pub end : t ≡ s
 

@@ -1,5 +1,5 @@
 -- The numbers of uses and of moves of a code, and the nodes that its moves end in.
-use Rattle.std.proofs.Common.{ℕ, zero, suc, ◌≡◌, ◌<◌, ◌≤◌, ◌+◌, ◌-◌, ◌*◌, List, [], ◌∷◌, Bool, true, false, Option, Some, None, cond, length, map, count_by, refl, ap, ◌∙◌, sym, subst, arith, zero-add}
+use Rattle.std.proofs.Common.{ℕ, zero, suc, ◌≡◌, ◌<◌, ◌≤◌, ◌+◌, ◌-◌, ◌*◌, List, [], ◌∷◌, Bool, true, false, Option, Some, None, cond, length, map, count_by, refl, subst, arith, zero-add}
 use Rattle.std.specs.Prelude.{All, IsTrue, nat_le, nat_lt}
 use Rattle.std.specs.List.{list_all, sum_by, range_with_len, cons_option}
 use Rattle.std.proofs.lemmas.Bool.{ltb-true}
@@ -12,10 +12,9 @@ use Rattle.tg_instr.specs.declared.operands.Opnd.TheVariants.{Temp, Reg}
 use Rattle.tg_instr.specs.declared.instr.Instr.{Instr}
 use Rattle.tg_instr.specs.Codes.{is_below, has_temps_below}
 use Rattle.tg_instr.specs.Operands.{is_same}
-use Rattle.tg_instr.specs.Shapes.{Holder, Operand, Hi, Lo, Shape, From1, Copy, shape}
+use Rattle.tg_instr.specs.Shapes.{Holder, Operand, Shape, From1, Copy, shape}
 use Rattle.tg_instr.specs.Uses.{operand_of, uses, defs, uses_of, defs_of}
 use Rattle.tg_instr.proofs.Tests.{left_holds, right_holds}
-use Rattle.tg_live.specs.Interference.{colours}
 use Rattle.tg_graph.specs.Interference.{is_register}
 use Rattle.tg_rounds.specs.declared.moves.Move.{Move}
 use Rattle.tg_rounds.specs.declared.candidates.Mark.{Mark}
@@ -114,7 +113,7 @@ position_below : (b : Bool) (p n k : ℕ) → nat_lt p n ≡ b → cond b (Some 
 position_below true p n k h e = subst (λ j. j < n) (some_is e) (ltb-true p n h)
 position_below false p n k h e = cc
 
-node_below : (temps : ℕ) (x : Opnd) → IsTrue (is_below temps x) → (k : ℕ) → node_of x ≡ Some k → k < 25 + temps
+pub node_below : (temps : ℕ) (x : Opnd) → IsTrue (is_below temps x) → (k : ℕ) → node_of x ≡ Some k → k < 25 + temps
 unfolding node_of
 node_below temps (Temp t) h k e = let i : 25 + t.0 ≡ k = some_is e in let l = ltb-true t.0 temps h in omega arith
 node_below temps (Reg r) h k e = let l : k < 25 = position_below _ _ 25 k refl e in omega arith

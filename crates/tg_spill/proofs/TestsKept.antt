@@ -1,6 +1,6 @@
 -- What passes a test of instructions whatever operands they name, goes on to pass it in allocations.
-use Rattle.std.proofs.Common.{ℕ, ◌≡◌, List, [], ◌∷◌, ◌++◌, Bool, true, false, Option, Some, None, refl, sym, subst, ◌∙◌}
-use Rattle.std.specs.Prelude.{IsTrue, cond, not, filter, map}
+use Rattle.std.proofs.Common.{ℕ, ◌≡◌, List, [], ◌∷◌, Bool, true, false, Option, Some, None, refl, sym, subst, ◌∙◌}
+use Rattle.std.specs.Prelude.{IsTrue, cond, not}
 use Rattle.std.specs.List.{list_all}
 use Rattle.tg_instr.specs.declared.operands.Opnd.{Opnd}
 use Rattle.tg_instr.specs.declared.operands.Opnd.TheVariants.{Temp, Reg}
@@ -12,8 +12,8 @@ use Rattle.tg_rounds.specs.declared.rounds.Round.{Round}
 use Rattle.tg_rounds.specs.Policies.{Rule}
 use Rattle.tg_spill.specs.InFrame.{through_named, loaded, stored, moved, through_slots, instruction_in_frame, code_in_frame}
 use Rattle.tg_spill.specs.Rewriting.{loads, stores, target, first_use, second_use, next_after, instruction_rewritten, code_rewritten}
-use Rattle.tg_spill.specs.Painting.{is_idle, instruction_painted, code_painted}
-use Rattle.tg_spill.specs.Rounds.{Stage, AreRounds, slots_of}
+use Rattle.tg_spill.specs.Painting.{colour_of, is_idle, instruction_painted, code_painted}
+use Rattle.tg_spill.specs.Rounds.{Stage, AreRounds, slots_of, last_round}
 use Rattle.tg_spill.specs.Rounds.AreRounds.{last, more}
 use Rattle.tg_spill.specs.Explained.{IgnoresOperands, AllocationsKeepTests}
 
@@ -105,7 +105,7 @@ allocations_keep_tests rule code frame a h test ignores p = by a.all_in_frame re
     by : (all : Bool) → a.all_in_frame ≡ all → IsTrue (list_all test a.done.code.list)
     by false e =
         subst (λ list. IsTrue (list_all test list)) (sym (h.coloured e).list)
-        (painted_passes test ignores _ h.end.list (rounds_pass test ignores rule code.temps h.rounds p))
+        (painted_passes test ignores (colour_of (last_round a.rounds)) h.end.list (rounds_pass test ignores rule code.temps h.rounds p))
     by true e =
         subst (λ list. IsTrue (list_all test list)) (sym (h.in_frame e).list)
         (in_frame_passes test ignores frame.slots code.list p)

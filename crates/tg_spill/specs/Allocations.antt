@@ -1,10 +1,9 @@
 -- What an allocation of a code is (George and Appel 1996, section 4): its rounds, and the code over
 -- registers behind them.
-use Rattle.std.specs.Prelude.{◌≡◌, ◌≢◌, ◌<◌, ℕ, ◌+◌, IsTrue, IsFalse, List, [], map}
+use Rattle.std.specs.Prelude.{◌≡◌, ◌≢◌, ◌+◌, IsTrue, IsFalse, [], map}
 use Rattle.std.specs.List.{range_with_len}
 use Rattle.tg_frame.specs.declared.frames.Frame.{Frame}
 use Rattle.tg_instr.specs.declared.codes.Code.{Code}
-use Rattle.tg_rounds.specs.declared.rounds.Round.{Round}
 use Rattle.tg_rounds.specs.Policies.{Rule}
 use Rattle.tg_spill.specs.declared.allocations.Allocation.{Allocation}
 use Rattle.tg_spill.specs.InFrame.{code_in_frame, homes_from}

@@ -1,6 +1,6 @@
 -- What an allocation keeps of the code that was handed in, where it needs one round, and why moves
 -- of the last code stay (George and Appel 1996, section 4).
-use Rattle.std.specs.Prelude.{◌≡◌, ◌≢◌, ◌⊎◌, ℕ, nat_lt, Bool, IsTrue, IsFalse, List, [], ◌∷◌, Some}
+use Rattle.std.specs.Prelude.{◌≡◌, ◌≢◌, ◌⊎◌, ℕ, nat_lt, Bool, IsTrue, IsFalse, [], ◌∷◌, Some}
 use Rattle.std.specs.Prelude.{slice_get}
 use Rattle.std.specs.List.{list_all}
 use Rattle.tg_frame.specs.declared.frames.Frame.{Frame}

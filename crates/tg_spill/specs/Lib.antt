@@ -6,3 +6,4 @@ pub mod Painting
 pub mod Rounds
 pub mod Allocations
 pub mod Explained
+pub mod Growth

@@ -3,6 +3,7 @@ ghost use Rattle.tg_spill.specs.Explained.{
   ColourableNeedsOneRound,
   MovesOfAllocationsStayForACause,
 };
+ghost use Rattle.tg_spill.specs.Growth.{AllocationsGrowLittle};
 
 /// The law that a test of instructions, which looks at no operand and which loads and stores of
 /// slots pass, goes on to hold in the code of an allocation.
@@ -20,4 +21,10 @@ pub fn colourable_needs_one_round()
 /// was possible.
 pub fn moves_stay_for_a_cause()
     ensures { MovesOfAllocationsStayForACause }
+{}
+
+/// The law of how much of its code an allocation makes of each instruction, and how many
+/// temporaries spilling makes for it.
+pub fn allocations_grow_little()
+    ensures { AllocationsGrowLittle }
 {}
