@@ -13,7 +13,7 @@ use Rattle.tg_instr.specs.Renaming.{names, named, renamed}
 use Rattle.tg_instr.specs.Lengths.{words}
 use Rattle.tg_spill.specs.declared.placing.Placed.{Placed}
 use Rattle.tg_spill.specs.Rewriting.{loads, stores, drawn_for, drawn, in_slot, placed, target, first_use, second_use, next_after, instruction_rewritten, code_rewritten, temps_after}
-use Rattle.tg_spill.proofs.Renamed.{temp, is_move, replaced, named_placed, words_renamed, move_renamed, temps_append, code_append}
+use Rattle.tg_spill.proofs.Renamed.{temp, is_move, replaced, named_placed, words_renamed, move_renamed, temps_append, temps_rise, code_append}
 use Rattle.tg_spill.proofs.Blocks.{is_outer, Known, IsClosed, IsOpen, IsFinal, AreFinal, IsFit, IsFitNamed, operands, outer_in, outers, IsCore, IsBlock, AreBlocks}
 use Rattle.tg_spill.proofs.Blocks.{slot_at, IsSlotting, unless_slotted, if_outer, partner_between, partner_kept, partner_made, ArePartners, Follows}
 use Rattle.tg_spill.proofs.Blocks.IsFinal.{load, store, between}
@@ -502,10 +502,6 @@ module _ (n : ℕ) (slot_of : ℕ → Option ℕ) (k k' : Known) (fits : IsSlott
     pub blocks : AreBlocks n k' originals list still
     pub budget : still + end ≤ left + next
 
-  pub temps_rise : (list : List Instr) (next : ℕ) → next ≤ temps_after slot_of list next
-  temps_rise [] next = omega arith
-  temps_rise (x ∷ rest) next = let l = temps_rise rest (next_after slot_of x next) in omega arith
-
   pub blocks_go : {originals list : List Instr} {left : ℕ} → AreBlocks n k originals list left → (next : ℕ) → k.bound ≤ next →
       ArePartners n slot_of list next k'.partner → temps_after slot_of list next ≤ k'.bound →
       AllGo originals (code_rewritten slot_of list next) next (temps_after slot_of list next) left
@@ -513,8 +509,8 @@ module _ (n : ℕ) (slot_of : ℕ → Option ℕ) (k k' : Known) (fits : IsSlott
   blocks_go (also one block rest rest' left lefts h hs) next f p b =
       let e = temps_append slot_of block rest' next in
       let middle = temps_after slot_of block next in
-      let rises = temps_rise block next in
-      let rises' = temps_rise rest' middle in
+      let rises = temps_rise slot_of block next in
+      let rises' = temps_rise slot_of rest' middle in
       let here = block_goes next f h (partners_before block rest' next p) (omega (arith, e, rises', b)) in
       let behind = blocks_go hs middle (omega (arith, rises, f)) (partners_behind block rest' next p) (omega (arith, e, b)) in
       let budget1 = here.budget in

@@ -30,7 +30,7 @@ use Rattle.tg_spill.specs.Growth.AreSmall.{none, also}
 use Rattle.tg_spill.proofs.Counts.{few, few_words}
 use Rattle.tg_spill.proofs.Naming.{to_below, first_below, second_below}
 use Rattle.tg_spill.proofs.RewrittenBelow.{temps_below}
-use Rattle.tg_spill.proofs.Renamed.{is_move, words_renamed}
+use Rattle.tg_spill.proofs.Renamed.{is_move, words_renamed, temps_rise}
 use Rattle.tg_spill.proofs.Blocks.{Known, IsFinal, AreFinal, IsFitNamed, count_of, operands, outer_in, outers, IsBlock, AreBlocks}
 use Rattle.tg_spill.proofs.Blocks.{partner_kept, partner_made, ArePartners, Follows}
 use Rattle.tg_spill.proofs.Blocks.IsFinal.{load, store, between}
@@ -164,7 +164,7 @@ module _ (rule : Rule) (n : ℕ) (originals : List Instr) where
       let slot_of = slots_of rule n s round in
       let after = partner_after n slot_of s.list s.temps (λ m. partner_kept n slot_of (partner m)) in
       let k' : Known = record { bound = temps_after slot_of s.list s.temps; partner = after } in
-      let rises = temps_rise' slot_of s.list s.temps in
+      let rises = temps_rise slot_of s.list s.temps in
       let follows : Follows n slot_of k k' = record {
         old = after_below n slot_of s.list s.temps (λ m. partner_kept n slot_of (partner m));
         grows = rises;
@@ -175,10 +175,6 @@ module _ (rule : Rule) (n : ℕ) (originals : List Instr) where
       let behind = rounds_grow rest (temps_below slot_of s.list s.temps below) (omega (arith, some, rises)) after go.still go.blocks in
       let b' = behind.budget in
       record { partner = behind.partner; still = behind.still; blocks = behind.blocks; budget = omega (arith, b, b') }
-    where
-      temps_rise' : (slot_of : ℕ → Option ℕ) (list : List Instr) (next : ℕ) → next ≤ temps_after slot_of list next
-      temps_rise' slot_of [] next = omega arith
-      temps_rise' slot_of (x ∷ rest) next = let l = temps_rise' slot_of rest (next_after slot_of x next) in omega arith
 
 -- Sizes.
 

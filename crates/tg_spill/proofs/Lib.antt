@@ -1,3 +1,4 @@
+mod Absent
 mod Alike
 mod Blocks
 mod BlocksKept
@@ -17,6 +18,7 @@ mod Rewritten
 mod RewrittenBelow
 mod RoundExamples
 mod RoundsOf
+mod Shortness
 mod Sizes
 mod Slots
 mod Slotting

@@ -1,5 +1,5 @@
 -- What an instruction names where it has other operands, and what placing makes of its operands.
-use Rattle.std.proofs.Common.{ℕ, ◌≡◌, ◌+◌, List, [], ◌∷◌, ◌++◌, Bool, true, false, Option, Some, None, refl, ap, ◌∙◌, sym, append_assoc}
+use Rattle.std.proofs.Common.{ℕ, ◌≡◌, ◌+◌, List, [], ◌∷◌, ◌++◌, Bool, true, false, Option, Some, None, refl, ap, ◌∙◌, sym, append_assoc, ◌≤◌, arith}
 use Rattle.std.specs.Prelude.{IsTrue}
 use Rattle.tg_tree.specs.declared.operators.Rel.{Rel}
 use Rattle.tg_tree.specs.declared.operators.Rel.TheVariants.{Equal, NotEqual, Less, LessEqual, Greater, GreaterEqual, Below, NotBelow}
@@ -81,6 +81,10 @@ module _ (slot_of : ℕ → Option ℕ) where
   pub temps_append : (xs ys : List Instr) (next : ℕ) → temps_after slot_of (xs ++ ys) next ≡ temps_after slot_of ys (temps_after slot_of xs next)
   temps_append [] ys next = refl
   temps_append (x ∷ xs) ys next = temps_append xs ys (next_after slot_of x next)
+
+  pub temps_rise : (list : List Instr) (next : ℕ) → next ≤ temps_after slot_of list next
+  temps_rise [] next = omega arith
+  temps_rise (x ∷ rest) next = let l = temps_rise rest (next_after slot_of x next) in omega arith
 
   pub code_append : (xs ys : List Instr) (next : ℕ) →
       code_rewritten slot_of (xs ++ ys) next ≡ code_rewritten slot_of xs next ++ code_rewritten slot_of ys (temps_after slot_of xs next)

@@ -186,7 +186,7 @@ module _ (n : ℕ) (k : Known) where
 
 -- Slots.
 
-filtered : (P : ℕ → Type 0) (p : ℕ → Bool) (xs : List ℕ) → AllByRecursion P xs → AllByRecursion (λ x. P x × (p x ≡ true)) (filter p xs)
+pub filtered : (P : ℕ → Type 0) (p : ℕ → Bool) (xs : List ℕ) → AllByRecursion P xs → AllByRecursion (λ x. P x × (p x ≡ true)) (filter p xs)
 filtered P p [] h = tt
 filtered P p (x ∷ xs) h = by (p x) refl (filtered P p xs h.1)
   where

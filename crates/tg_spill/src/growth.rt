@@ -3,7 +3,7 @@ ghost use Rattle.tg_spill.specs.Explained.{
   ColourableNeedsOneRound,
   MovesOfAllocationsStayForACause,
 };
-ghost use Rattle.tg_spill.specs.Growth.{AllocationsGrowLittle};
+ghost use Rattle.tg_spill.specs.Growth.{AllocationsAreShort, AllInFrameIsLast, AllocationsGrowLittle};
 
 /// The law that a test of instructions, which looks at no operand and which loads and stores of
 /// slots pass, goes on to hold in the code of an allocation.
@@ -21,6 +21,13 @@ pub fn colourable_needs_one_round()
 /// was possible.
 pub fn moves_stay_for_a_cause()
     ensures { MovesOfAllocationsStayForACause }
+{}
+
+/// The laws of how many rounds and slots an allocation takes, and of when every temporary goes to
+/// the frame.
+pub fn allocations_are_short()
+    ensures short { AllocationsAreShort }
+    ensures last { AllInFrameIsLast }
 {}
 
 /// The law of how much of its code an allocation makes of each instruction, and how many
