@@ -24,7 +24,7 @@ use Rattle.tg_driver.specs.OfFiles.{OfFile, unreadable, read, OrMemory, unread_a
 use Rattle.tg_driver.specs.Found.{IsRefused}
 use Rattle.tg_driver.specs.Runs.{HasRun, IsRunOrMemory}
 use Rattle.tg_driver.specs.CheckMode.{IsChecked, ByCheck}
-use Rattle.tg_driver.specs.Writing.{TextRelation, IsWritten, ByWriting}
+use Rattle.tg_driver.specs.Writing.{TakesText, TextRelation, IsWritten, ByWriting}
 use Rattle.tg_driver.specs.RunMode.{EndsAssembled, IsRun, ByRun}
 use Rattle.tg_driver.specs.GenMode.{summary, TakesSummary, SumsUpRun, SumsUpBuilt, IsGenerated, ByGen}
 use Rattle.tg_driver.specs.Endings.{end_status}
@@ -71,13 +71,21 @@ refused_untouched s text OutOfMemory r h = h
 refused_untouched s text _ r h = absurd r
 
 -- a sink took a text of a source, or failed
-pub written : {O : Type 0} (out : Stream O) (writes : TextRelation) (source text : List ℕ) (answer : Answer) → writes source text → Takes out text Written Unwritten answer → IsWritten out writes source answer
+written : {O : Type 0} (out : Stream O) (writes : TextRelation) (source text : List ℕ) (answer : Answer) → writes source text → TakesText out text answer → IsWritten out writes source answer
 written out writes source text answer b (all is a) =
     let P : Answer → Type 0 = λ x. IsWritten out writes source x in
     subst P (sym is) (record { written = text; is_of = b; takes = all refl a })
 written out writes source text answer b (part is p f t) =
     let P : Answer → Type 0 = λ x. IsWritten out writes source x in
     subst P (sym is) (record { written = text; is_of = b; takes = part refl p f t })
+
+pub taken_text : {O : Type 0} (out : Stream O) (text : List ℕ) (answer : Answer) → TakesText out text answer → OrMemory (Unit {0}) (TakesText out text) answer
+taken_text out text OutOfMemory t = tt
+taken_text out text _ t = t
+
+pub writes_text : {O : Type 0} (out : Stream O) (writes : TextRelation) (source text : List ℕ) (answer : Answer) → writes source text → OrMemory (Unit {0}) (TakesText out text) answer → OrMemory (Unit {0}) (IsWritten out writes source) answer
+writes_text out writes source text OutOfMemory b t = tt
+writes_text out writes source text answer b t = written out writes source text answer b t
 
 pub started_stays : {T : Type 0} (out : Stream T) (answer : Answer) → HasStarted answer → StaysBeforeStart out answer
 started_stays out (Finished end) h = tt
@@ -106,11 +114,6 @@ sums_up_built rule out functions text assembly image heap stack steps _ b is h =
 pub or_memory : (due : Answer → Type 0) (answer : Answer) → due answer → OrMemory (Unit {0}) due answer
 or_memory due OutOfMemory h = tt
 or_memory due _ h = h
-
--- and so does what follows from that
-pub or_memory_so : (due more : Answer → Type 0) (answer : Answer) → (due answer → more answer) → OrMemory (Unit {0}) due answer → OrMemory (Unit {0}) more answer
-or_memory_so due more OutOfMemory f h = tt
-or_memory_so due more _ f h = f h
 
 -- a machine that was loaded ran on no input, and its summary was written
 pub ran_and_summed : {O : Type 0} (told : O → Option (List ℕ)) (faults : O → ℕ) (before between after : O) (functions source steps : ℕ) (machine new : Simulated) (input input' : PlainBytes) (image : Image) (heap stack : ℕ) (end : RunEnd) (answer : Answer) → machine ≡ loaded image heap stack → input ≡ record { left = []; calls = 0 } → (machine.end ≡ None → IsSimulation (λ s. Some s.left) (λ _. 0) told faults steps machine new input input' before between end) → TakesSummary (stream_of told faults between after) functions source new.written end answer → SumsUpRun (stream_of told faults before after) functions source image heap stack steps answer

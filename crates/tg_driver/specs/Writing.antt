@@ -7,16 +7,20 @@ use Rattle.tg_driver.specs.Calls.{Shelved, Stream, Streams, Stays, Takes}
 use Rattle.tg_driver.specs.OfFiles.{OfFile, UntouchedBeforeStart}
 use Rattle.tg_driver.specs.Sources.{IsFaultOf, IsSource}
 
+-- the sink took a text, whole, or a write of it failed
+abbrev pub TakesText : {O : Type 0} → Stream O → List ℕ → Answer → Type 0
+TakesText out text answer = Takes out text Written Unwritten answer
+
 -- which texts a mode may write of a source
 abbrev pub TextRelation : Type 1
 TextRelation = (source written : List ℕ) → Type 0
 
--- the sink took such a text of the source, whole, or a write of it failed
+-- the sink took such a text of the source, or a write of it failed
 pub record WritesText {O : Type 0} (out : Stream O) (writes : TextRelation)
     (source : List ℕ) (answer : Answer) : Type 0 where
   pub written : List ℕ
   pub is_of : writes source written
-  pub takes : Takes out written Written Unwritten answer
+  pub takes : TakesText out written answer
 
 -- to a source: its first fault, or what came of writing such a text of it
 abbrev pub IsWritten :

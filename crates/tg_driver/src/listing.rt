@@ -1,10 +1,10 @@
 ghost use Rattle.std.specs.Prelude.{◌≡◌, ⊤};
 ghost use Rattle.tg_listing.specs.Listing.{listed};
 ghost use Rattle.tg_command.specs.Commands.{asked_of};
-ghost use Rattle.tg_driver.specs.declared.answers.Answer.TheVariants.{Unwritten, Written};
 ghost use Rattle.tg_driver.specs.AllocMode.{IsListed};
-ghost use Rattle.tg_driver.specs.Calls.{Takes, shelf_of, stream_of};
+ghost use Rattle.tg_driver.specs.Calls.{shelf_of, stream_of};
 ghost use Rattle.tg_driver.specs.OfFiles.{OfFile, OrMemory, StaysBeforeStart};
+ghost use Rattle.tg_driver.specs.Writing.{TakesText};
 
 use crate::answers::{Answer, unread};
 use crate::checking::refused;
@@ -58,8 +58,8 @@ fn list_text<O: Sink>(
 
 /// Writes the text of allocations to the output.
 fn write_listing<O: Sink>(alloc: Global, allocations: &[Allocation], out: &mut O) -> Answer
-    ensures takes { OrMemory ⊤ (λ answer. Takes (stream_of O.taken O.faults out.old out.new)
-        (listed allocations.now) Written Unwritten answer) result }
+    ensures takes { OrMemory ⊤ (TakesText (stream_of O.taken O.faults out.old out.new)
+        (listed allocations.now)) result }
     ensures before_start { StaysBeforeStart (stream_of O.taken O.faults out.old out.new) result }
 {
     match list(alloc, allocations) {

@@ -2,4 +2,4 @@ use Rattle.tg_driver.proofs.AnswerLemmas.{answers_of}
 use Rattle.tg_driver.proofs.top.tiger.Goals as goal
 
 pub returns-clause-answers : goal.returns-clause-answers
-returns-clause-answers g c = answers_of _ _ _ c.answer_words-answer.ensures.due c.report.ensures.reports
+returns-clause-answers g c = ?
