@@ -224,6 +224,12 @@ answers_of c status answer due (itself told) = record { answer = answer; due = d
 answers_of c status answer due (no_memory before told) =
     record { answer = OutOfMemory; due = answered.no_memory refl (left_alone c.rule c.words c.shelf c.streams answer before due); told = told }
 
+-- and so by the rule of the policy in the box
+pub answers_by : {H I O E : Type 0} (rule : SpillRule) (c : Call H I O E) (status : ℕ) (answer : Answer) → rule ≡ c.rule → IsDue rule c.words c.shelf c.streams answer → IsReported c.err answer status → Answers c status
+answers_by rule c status answer is due told =
+    let P : SpillRule → Type 0 = λ r. IsDue r c.words c.shelf c.streams answer in
+    answers_of c status answer (subst P is due) told
+
 -- the answer in the mode of a command
 pub in_mode : {H I O : Type 0} (rule : SpillRule) (m : Mode) (shelf : Shelved H) (s : Streams I O) (a : Asked) (answer : Answer) → a.mode ≡ m → OrMemory (Untouched s) (InMode rule m shelf s a) answer → OrMemory (Untouched s) (InMode rule a.mode shelf s a) answer
 in_mode rule m shelf s a answer is h =
