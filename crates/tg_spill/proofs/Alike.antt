@@ -40,3 +40,28 @@ module _ (n : ℕ) (f g : ℕ → Option ℕ) (alike : AreAlike n f g) where
       placed_alike (named x).second (next + drawn (target f x next) + drawn (first_use f x next)) (second_below n x h)
       ∙ (ap (λ p. placed g (named x).second (next + drawn p + drawn (first_use f x next))) (target_alike x next h)
       ∙ ap (λ p. placed g (named x).second (next + drawn (target g x next) + drawn p)) (first_alike x next h))
+
+  next_alike : (x : Instr) (next : ℕ) → IsTrue (has_temps_below n x) → next_after f x next ≡ next_after g x next
+  next_alike x next h =
+      ap (λ p. next + drawn p + drawn (first_use f x next) + drawn (second_use f x next)) (target_alike x next h)
+      ∙ (ap (λ p. next + drawn (target g x next) + drawn p + drawn (second_use f x next)) (first_alike x next h)
+      ∙ ap (λ p. next + drawn (target g x next) + drawn (first_use g x next) + drawn p) (second_alike x next h))
+
+  instruction_alike : (x : Instr) (next : ℕ) → IsTrue (has_temps_below n x) → instruction_rewritten f x next ≡ instruction_rewritten g x next
+  instruction_alike x next h =
+      ap (λ p. around_placed x p (first_use f x next) (second_use f x next)) (target_alike x next h)
+      ∙ (ap (λ p. around_placed x (target g x next) p (second_use f x next)) (first_alike x next h)
+      ∙ ap (λ p. around_placed x (target g x next) (first_use g x next) p) (second_alike x next h))
+
+  pub code_alike : (list : List Instr) (next : ℕ) → IsTrue (list_all (has_temps_below n) list) → code_rewritten f list next ≡ code_rewritten g list next
+  code_alike [] next h = refl
+  code_alike (x ∷ rest) next h =
+      let here : IsTrue (has_temps_below n x) = left_holds _ _ h in
+      ap (λ l. l ++ code_rewritten f rest (next_after f x next)) (instruction_alike x next here)
+      ∙ (ap (λ m. instruction_rewritten g x next ++ code_rewritten f rest m) (next_alike x next here)
+      ∙ ap (λ l. instruction_rewritten g x next ++ l) (code_alike rest (next_after g x next) (right_holds (has_temps_below n x) _ h)))
+
+  pub temps_alike : (list : List Instr) (next : ℕ) → IsTrue (list_all (has_temps_below n) list) → temps_after f list next ≡ temps_after g list next
+  temps_alike [] next h = refl
+  temps_alike (x ∷ rest) next h =
+      ap (temps_after f rest) (next_alike x next (left_holds _ _ h)) ∙ temps_alike rest (next_after g x next) (right_holds (has_temps_below n x) _ h)

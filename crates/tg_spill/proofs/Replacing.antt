@@ -6,7 +6,7 @@ use Rattle.std.specs.List.{list_all, list_any}
 use Rattle.std.proofs.lemmas.List.Folds.{list_any-append}
 use Rattle.tg_instr.specs.declared.operands.Opnd.{Opnd}
 use Rattle.tg_instr.specs.declared.instr.Instr.{Instr}
-use Rattle.tg_instr.specs.declared.instr.Instr.TheVariants.{Mark, Jump, Branch, Fault, Return, Move, FrameLoad, FrameStore}
+use Rattle.tg_instr.specs.declared.instr.Instr.TheVariants.{Mark, Jump, Branch, Move, FrameLoad, FrameStore}
 use Rattle.tg_instr.specs.Codes.{is_mark, marks_differ, leads_to_marks, is_end, ends_well}
 use Rattle.tg_instr.specs.Renaming.{renamed}
 use Rattle.tg_instr.proofs.Tests.{left_holds, right_holds, both_hold, all_append}

@@ -6,9 +6,9 @@ use Rattle.tg_instr.specs.declared.operands.Opnd.{Opnd}
 use Rattle.tg_instr.specs.declared.instr.Instr.{Instr}
 use Rattle.tg_instr.specs.declared.instr.Instr.TheVariants.{Jump, Fault, Return}
 use Rattle.tg_instr.specs.Codes.{is_end}
-use Rattle.tg_instr.specs.Renaming.{named, renamed}
+use Rattle.tg_instr.specs.Renaming.{renamed}
 use Rattle.tg_instr.proofs.Tests.{all_append}
-use Rattle.tg_spill.specs.Rewriting.{loads, stores, drawn_for, drawn, target, first_use, second_use, next_after, instruction_rewritten, code_rewritten, temps_after}
+use Rattle.tg_spill.specs.Rewriting.{loads, stores, drawn_for, target, first_use, second_use, next_after, instruction_rewritten, code_rewritten, temps_after}
 use Rattle.tg_spill.proofs.Replacing.{is_access, Replaces, AreReplaced, around}
 use Rattle.tg_spill.proofs.Replacing.AreReplaced.{none, also}
 

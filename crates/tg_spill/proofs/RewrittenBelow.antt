@@ -106,7 +106,7 @@ module _ (slot_of : ℕ → Option ℕ) where
       (all_append (has_temps_below m) (loads second.operand second.slot) _ (loads_below m second.operand second.slot c)
       (both_hold _ _ (renamed_below m x to.operand first.operand second.operand h a b c) (stores_below m to.operand to.slot a)))
 
-  temps_grow : (list : List Instr) (next : ℕ) → next ≤ temps_after slot_of list next
+  pub temps_grow : (list : List Instr) (next : ℕ) → next ≤ temps_after slot_of list next
   temps_grow [] next = omega arith
   temps_grow (x ∷ rest) next = let l = temps_grow rest (next_after slot_of x next) in omega arith
 

@@ -1,8 +1,8 @@
 -- The rounds of an allocation (George and Appel 1996, section 4): each is a round on the
 -- interference graph of its code, and each but the last spills originals, to whose slots the next
 -- code loads and stores.
-use Rattle.std.specs.Prelude.{◌≡◌, ◌≢◌, ℕ, ◌+◌, List, [], ◌∷◌, length, map, Option, Some}
-use Rattle.std.specs.Prelude.{None}
+use Rattle.std.specs.Prelude.{◌≡◌, ◌≢◌, ◌<◌, ◌≤◌, ℕ, ◌+◌, All, List, [], ◌∷◌, length, map, Option}
+use Rattle.std.specs.Prelude.{Some, None}
 use Rattle.std.specs.List.{range_with_len}
 use Rattle.tg_instr.specs.declared.instr.Instr.{Instr}
 use Rattle.tg_instr.specs.declared.codes.Code.{Code}
@@ -19,6 +19,19 @@ use Rattle.tg_spill.specs.declared.allocations.Home.{Home}
 use Rattle.tg_spill.specs.declared.allocations.Home.TheVariants.{Colour, Slot}
 use Rattle.tg_spill.specs.Rewriting.{slotted, slot_after, slot_in, code_rewritten, temps_after}
 use Rattle.tg_spill.specs.Painting.{colour_of, colour_in}
+
+-- the nodes and the uses of a code of this size have numbers
+pub record IsSmall (code : Code) : Type 0 where
+  pub temps : code.temps ≤ 16777216
+  pub instructions : length code.list ≤ 89478485
+
+-- a round answers an alias and a colour of each node of a code with so many temporaries, and what
+-- it answers of nodes are nodes of the code
+pub record IsOfTemps (temps : ℕ) (round : Round) : Type 0 where
+  pub each_alias : length round.aliases ≡ 25 + temps
+  pub each_colour : length round.colours ≡ 25 + temps
+  pub aliases : All (λ x. x < 25 + temps) round.aliases
+  pub spilled : All (λ x. x < 25 + temps) round.spilled
 
 -- a code between rounds: its instructions and temporaries, and the frame's next slot
 pub record Stage : Type 0 where

@@ -1,6 +1,6 @@
-//! Register allocation with every temporary in the frame (Appel, chapter 11): what a function's
-//! code is where each temporary stands in a slot of its own. Promises exactly that code, and homes
-//! of all temporaries.
+//! Register allocation by rounds of coalescing and spilling (George and Appel 1996), and with every
+//! temporary in the frame (Appel, chapter 11). Promises rounds that are of the code, the code over
+//! registers that follows from them, and the home of each temporary.
 #![tactic(auto)]
 
 mod allocating;
@@ -11,6 +11,7 @@ mod laws;
 mod loading;
 mod painting;
 mod placing;
+mod progress;
 mod rewriting;
 mod stages;
 

@@ -7,6 +7,7 @@ ghost use Rattle.std.specs.Prelude.{
   ℕ,
   All,
   IfOk,
+  OnOk,
   filter,
   length,
   map,
@@ -14,7 +15,7 @@ ghost use Rattle.std.specs.Prelude.{
   slice_index_or,
 };
 ghost use Rattle.tg_spill.specs.Rewriting.{slot_by, slotted};
-ghost use Rattle.tg_spill.specs.Rounds.{IsRoundOf, stage_of};
+ghost use Rattle.tg_spill.specs.Rounds.{IsOfTemps, IsRoundOf, IsSmall, stage_of};
 
 use std::alloc::Global;
 use tg_base::Memory;
@@ -23,13 +24,23 @@ use tg_graph::COLOURS;
 use tg_instr::Code;
 use tg_interference::{interference, marks_of, moves_of};
 use tg_live::{flow, live};
-use tg_rounds::{Round, SpillPolicy};
+use tg_rounds::{Round, SpillPolicy, rounds_are_of_nodes};
 
 /// The most temporaries that a code may have before a round, and the most instructions: above
 /// these the numbers of nodes and of uses don't fit.
 const MOST_TEMPS: u32 = 16_777_216;
 
 const MOST_INSTRUCTIONS: usize = 89_478_485;
+
+/// That nodes, uses and made temporaries of a code have numbers, or else `Memory`.
+pub fn check_size(code: &Code) -> Result<(), Memory>
+    ensures { OnOk result (IsSmall code.now) }
+{
+    if code.temps > MOST_TEMPS || code.list.as_slice().len() > MOST_INSTRUCTIONS {
+        return Err(Memory);
+    }
+    Ok(())
+}
 
 /// A round on the interference graph of a code. `originals` is the number of temporaries that
 /// spilling hasn't made.
@@ -41,12 +52,12 @@ pub fn color_code(
 ) -> Result<Round, Memory>
     ensures round { IfOk result (λ round.
         IsRoundOf (rule policy.old) originals (stage_of code.now 0) round) }
+    ensures nodes { IfOk result (λ round. IsOfTemps code.now.temps round) }
+    ensures small { OnOk result (IsSmall code.now) }
     ensures same { rule policy.new ≡ rule policy.old }
 {
-    let list = code.list.as_slice();
-    if code.temps > MOST_TEMPS || list.len() > MOST_INSTRUCTIONS {
-        return Err(Memory);
-    }
+    check_size(code)?;
+    rounds_are_of_nodes();
     let flow = flow(alloc, code)?;
     let live = live(alloc, code, &flow)?;
     let graph = interference(alloc, code, &live)?;

@@ -4,7 +4,7 @@ use Rattle.std.proofs.lemmas.List.FromFn.{map-range_with_len_more}
 use Rattle.tg_spill.specs.Painting.{colour_in}
 use Rattle.tg_spill.specs.Rewriting.{slot_in}
 use Rattle.tg_spill.specs.Rounds.{home_in}
-use Rattle.tg_spill.proofs.allocating.homes_of.Goals as goal
+use Rattle.tg_spill.proofs.progress.homes_of.Goals as goal
 
 pub loop-at-preserved : goal.loop-at-preserved
 loop-at-preserved c =

@@ -1,7 +1,7 @@
 use Rattle.std.proofs.Common.{◌≡◌, ◌<◌, ◌≤◌, ℕ, length}
 use Rattle.std.specs.Option.{option_or}
 use Rattle.tg_spill.specs.Rewriting.{slot_in}
-use Rattle.tg_spill.proofs.allocating.fill_homes.Given as goal
+use Rattle.tg_spill.proofs.progress.fill_homes.Given as goal
 
 abbrev pub invariant-loop-at : goal.invariant-loop-at
 invariant-loop-at l = record {
