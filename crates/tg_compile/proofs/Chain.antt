@@ -59,8 +59,12 @@ pub translated_whole : (notes : List Note) (body : Exp) (escaping : FinSet nat_c
 translated_whole notes body escaping fs gs all ls ms every e h p q r =
     joined fs gs all ls ms every p q r ∙ ap with_runtime (h ∙ ap (λ (s : FinSet nat_cmp). translated (found notes s (from_list (links_of body))) body) e)
 
+-- what an allocation tells besides its code
+abbrev placement_of : Allocation → Placement
+placement_of a = record { registers = a.registers; rounds = a.rounds; all_in_frame = a.all_in_frame; slots = a.slots }
+
 -- one more function
-pub compile_more : (rule : Rule) (fs : List (Function Ts)) (codes : List Allocated) (ps : List Placement) (f : Function Ts) (code : Allocated) (p : Placement) → CompileApart rule fs codes ps → CompilesFunction rule f (allocation_of (code, p)) →
+compile_more : (rule : Rule) (fs : List (Function Ts)) (codes : List Allocated) (ps : List Placement) (f : Function Ts) (code : Allocated) (p : Placement) → CompileApart rule fs codes ps → CompilesFunction rule f (allocation_of (code, p)) →
     CompileApart rule (fs ++ f ∷ []) (codes ++ code ∷ []) (ps ++ p ∷ [])
 compile_more rule [] [] [] f code p h k = (k, tt)
 compile_more rule [] [] (q ∷ ps) f code p h k = absurd h
@@ -68,6 +72,18 @@ compile_more rule [] (c ∷ codes) ps f code p h k = absurd h
 compile_more rule (g ∷ fs) [] ps f code p h k = absurd h
 compile_more rule (g ∷ fs) (c ∷ codes) [] f code p h k = absurd h
 compile_more rule (g ∷ fs) (c ∷ codes) (q ∷ ps) f code p h k = (h.0, compile_more rule fs codes ps f code p h.1 k)
+
+-- and its code and placement behind the others
+pub compile_one_more : (rule : Rule) (fs : List Fragment) (one : Fragment) (codes all : List Allocated) (ps every : List Placement) (a : Allocation) →
+    CompileApart rule (map plain_fragment fs) codes ps → CompilesFunction rule (plain_fragment one) a →
+    all ≡ codes ++ a.done ∷ [] → every ≡ ps ++ placement_of a ∷ [] → CompileApart rule (map plain_fragment (fs ++ one ∷ [])) all every
+compile_one_more rule fs one codes all ps every a h k e d =
+    let before = map plain_fragment fs in
+    let P : List (Function Ts) → Type 0 = λ gs. CompileApart rule gs all every in
+    let Q : List Allocated → Type 0 = λ cs. CompileApart rule (before ++ plain_fragment one ∷ []) cs every in
+    let R : List Placement → Type 0 = λ qs. CompileApart rule (before ++ plain_fragment one ∷ []) (codes ++ a.done ∷ []) qs in
+    subst P (sym (map-append plain_fragment fs (one ∷ [])))
+    (subst Q (sym e) (subst R (sym d) (compile_more rule before codes ps (plain_fragment one) a.done (placement_of a) h k)))
 
 -- codes and placements that are brought together
 together : (rule : Rule) (fs : List (Function Ts)) (codes : List Allocated) (ps : List Placement) → CompileApart rule fs codes ps →

@@ -1,18 +1,14 @@
-use Rattle.std.proofs.Common.{◌≡◌, List, [], ◌∷◌, ◌++◌, refl, sym, subst, ◌∙◌}
+use Rattle.std.proofs.Common.{◌≡◌, List, refl, sym, subst, ◌∙◌}
 use Rattle.std.specs.Prelude.{All, length, map}
 use Rattle.std.proofs.IntoIterSteps.{All-taken}
 use Rattle.std.proofs.lemmas.Iterator.Adapters.{YieldsList-from_vec}
 use Rattle.std.proofs.lemmas.Iterator.Consumers.{YieldsList-turn}
-use Rattle.std.proofs.lemmas.List.{map-append}
 use Rattle.tg_tree.specs.declared.fragments.Fragment.{Fragment}
-use Rattle.tg_tree.specs.Tree.{Ts, Function}
 use Rattle.tg_tree.specs.Plain.{plain_fragment}
-use Rattle.tg_instr.specs.declared.codes.Allocated.{Allocated}
-use Rattle.tg_compile.specs.declared.programs.Placement.{Placement}
 use Rattle.tg_rounds.specs.Policies.{Rule}
 use Rattle.tg_compile.specs.Compiling.{CompilesFunction}
-use Rattle.tg_compile.specs.Passes.{CompileApart, IsWellFormed, allocation_of}
-use Rattle.tg_compile.proofs.Chain.{compile_more}
+use Rattle.tg_compile.specs.Passes.{CompileApart, IsWellFormed}
+use Rattle.tg_compile.proofs.Chain.{compile_one_more}
 use Rattle.tg_compile.proofs.WellFormed.{one_is}
 use Rattle.tg_compile.proofs.programs.compile_functions.Goals as goal
 
@@ -27,19 +23,11 @@ compile_function-requires g c =
 pub loop-one-preserved : goal.loop-one-preserved
 loop-one-preserved g c =
     let rule = (goal.SpillPolicy-dyn g c.args.policy.now).rule c.args.policy.now.1 in
-    let before = map plain_fragment c.loop-one.yielded in
-    let one = plain_fragment c.in-Some.one in
-    let a = c.in_ok-done.field-0 in
-    let placed : Placement = record { registers = a.registers; rounds = a.rounds; all_in_frame = a.all_in_frame; slots = a.slots } in
-    let F : Rule → Type 0 = λ r. CompilesFunction r one a in
-    let compiled : CompilesFunction rule one (allocation_of (a.done, placed)) = subst F c.loop-one.invariant.same c.in_ok-done.ensures.compiles in
-    let more = compile_more rule before c.loop-one.codes.items c.loop-one.placements.items one a.done placed c.loop-one.invariant.compile compiled in
-    let P : List (Function Ts) → Type 0 = λ fs. CompileApart rule fs c.push.new.self.items c.push-in-loop-one.new.self.items in
-    let Q : List Allocated → Type 0 = λ codes. CompileApart rule (before ++ one ∷ []) codes c.push-in-loop-one.new.self.items in
-    let R : List Placement → Type 0 = λ ps. CompileApart rule (before ++ one ∷ []) (c.loop-one.codes.items ++ a.done ∷ []) ps in
+    let F : Rule → Type 0 = λ r. CompilesFunction r (plain_fragment c.in-Some.one) c.in_ok-done.field-0 in
     record {
-      compile = subst P (sym (map-append plain_fragment c.loop-one.yielded (c.in-Some.one ∷ [])))
-          (subst Q (sym c.in_ok-push.ensures.items) (subst R (sym c.in_ok-push-2.ensures.items) more));
+      compile = compile_one_more rule c.loop-one.yielded c.in-Some.one c.loop-one.codes.items c.push.new.self.items
+          c.loop-one.placements.items c.push-in-loop-one.new.self.items c.in_ok-done.field-0 c.loop-one.invariant.compile
+          (subst F c.loop-one.invariant.same c.in_ok-done.ensures.compiles) c.in_ok-push.ensures.items c.in_ok-push-2.ensures.items;
       same = c.in_ok-done.ensures.same ∙ c.loop-one.invariant.same;
     }
 
