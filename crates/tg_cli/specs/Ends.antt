@@ -2,6 +2,7 @@
 use Rattle.std.specs.Prelude.{◌≡◌, ◌⊎◌, ℕ, List, Option, None}
 use Rattle.tg_base.specs.Causes.{Rose}
 use Rattle.tg_base.specs.Files.{Files}
+use Rattle.tg_rounds.specs.Policies.{least_use}
 use Rattle.tg_driver.specs.Calls.{Stream, stream_of, shelf_of, call_of}
 use Rattle.tg_driver.specs.Answered.{Answers}
 
@@ -13,13 +14,13 @@ EndsWith status before now result = (result ≡ status) ⊎ ((result ≡ 74) × 
 abbrev pub untold : (before after : ℕ) → Stream ℕ
 untold before after = stream_of (λ s. None) (λ s. s) before after
 
--- the status is that of the top call on some words, for counts of faults of the shelf, the input,
--- the output and the error sink
+-- the status is that of the top call on some words, by the rule of `LeastUse`, for counts of faults
+-- of the shelf, the input, the output and the error sink
 abbrev pub AnswersWords :
     (words : List (List ℕ)) (files reads writes errors : ℕ)
     (files' reads' writes' errors' : ℕ) (status : ℕ) → Type 0
 AnswersWords words files reads writes errors files' reads' writes' errors' status =
-    Answers (call_of words (shelf_of (λ s. None) (λ s name. s) files files')
+    Answers (call_of least_use words (shelf_of (λ s. None) (λ s name. s) files files')
     (untold reads reads') (untold writes writes') (untold errors errors')) status
 
 -- With the status of the top call on some words, or with that of words that can't be read: memory

@@ -18,14 +18,15 @@ use std::env;
 use std::io::{self, ErrorKind};
 use std::process::ExitCode;
 use tg_base::{Sink, write_all};
-use tg_driver::{tiger, usage};
+use tg_driver::{Tools, tiger, usage};
+use tg_rounds::LeastUse;
 use writers::WriterSink;
 
 fn main(rt: HostRuntime) -> ExitCode {
     ExitCode::from(status(&rt))
 }
 
-/// Reads the words, and hands them with the real outside to the top call.
+/// Reads the words, and hands them with the real outside and the policy `LeastUse` to the top call.
 fn status(rt: &HostRuntime) -> u8
     ensures { IsStatus result }
 {
@@ -38,10 +39,16 @@ fn status(rt: &HostRuntime) -> u8
     let Ok(words) = words else {
         return refusal(&mut err, OUT_OF_MEMORY, 70);
     };
+    let Ok(policy) = Box::new(alloc, LeastUse) else {
+        return refusal(&mut err, OUT_OF_MEMORY, 70);
+    };
+    let tools = Tools { policy };
     let mut shelf = FileShelf::new(rt);
     let mut input = ReaderSource::new(rt.stdin());
     let mut out = WriterSink::new(rt.stdout());
-    tiger(alloc, &words, &mut shelf, &mut input, &mut out, &mut err)
+    tiger(
+        alloc, &words, &mut shelf, &mut input, &mut out, &mut err, tools,
+    )
 }
 
 const OUT_OF_MEMORY: &str = "tiger: out of memory\n";

@@ -9,7 +9,7 @@ use Rattle.tg_command.specs.declared.CommandFault.{CommandFault}
 use Rattle.tg_command.specs.declared.CommandFault.TheVariants.{Usage, Memory}
 use Rattle.tg_command.specs.Commands.{Ask, Asked, Blames, IsUsageFault, heap, mode, number, refused, stack, steps}
 use Rattle.tg_command.specs.declared.modes.Mode.{Mode}
-use Rattle.tg_command.specs.declared.modes.Mode.TheVariants.{Check, Build, Run, Exec, Gen}
+use Rattle.tg_command.specs.declared.modes.Mode.TheVariants.{Check, Build, Run, Exec, Alloc, Gen}
 
 given_once : (limits : Limits) (o : Option (List ℕ)) (m n : ℕ) → GivesCount limits o m → GivesCount limits o n → m ≡ n
 given_once limits None m n p q = p ∙ sym q
@@ -20,6 +20,7 @@ number_same Check file a b p q = p ∙ sym q
 number_same Build file a b p q = p ∙ sym q
 number_same Run file a b p q = p ∙ sym q
 number_same Exec file a b p q = p ∙ sym q
+number_same Alloc file a b p q = p ∙ sym q
 number_same Gen file a b p q = p.value ∙ sym q.value
 
 number_once : (m n : Mode) (f g : List ℕ) (a b : ℕ) → m ≡ n → f ≡ g → GivesNumber m f a → GivesNumber n g b → a ≡ b
@@ -32,7 +33,8 @@ number_once m n f g a b same_mode same_file p q =
 mode_named : List ℕ → Mode
 mode_named [] = Check
 mode_named (first ∷ rest) =
-    if first == 99 then Check else if first == 98 then Build else if first == 114 then Run else if first == 101 then Exec else Gen
+    if first == 99 then Check else if first == 98 then Build else if first == 114 then Run else if first == 101 then Exec
+    else if first == 97 then Alloc else Gen
 
 mode_named-name_of : (m : Mode) → mode_named (name_of m) ≡ m
 unfolding mode_named
@@ -40,6 +42,7 @@ mode_named-name_of Check = refl
 mode_named-name_of Build = refl
 mode_named-name_of Run = refl
 mode_named-name_of Exec = refl
+mode_named-name_of Alloc = refl
 mode_named-name_of Gen = refl
 
 pub name_once : (a b : Mode) → name_of a ≡ name_of b → a ≡ b

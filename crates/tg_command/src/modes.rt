@@ -12,6 +12,8 @@ pub enum Mode {
     Run,
     /// Assembles a text of assembly and runs it.
     Exec,
+    /// Compiles a source and writes what the register allocator did.
+    Alloc,
     /// Generates a source of as many functions as FILE says, compiles it and runs it.
     Gen,
 }
@@ -26,6 +28,7 @@ pub(crate) fn named(name: &str) -> Option<Mode>
         "build" => Some(Mode::Build),
         "run" => Some(Mode::Run),
         "exec" => Some(Mode::Exec),
+        "alloc" => Some(Mode::Alloc),
         "gen" => Some(Mode::Gen),
         _ => None,
     }

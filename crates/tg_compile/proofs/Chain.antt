@@ -1,6 +1,6 @@
 -- Functions and literals behind one another, and what each is compiled to.
-use Rattle.std.proofs.Common.{◌≡◌, ◌+◌, ◌<◌, ℕ, List, [], ◌∷◌, ◌++◌, refl, sym, ap, subst, ◌∙◌}
-use Rattle.std.specs.Prelude.{map, IsTrue}
+use Rattle.std.proofs.Common.{◌≡◌, ◌<◌, ℕ, List, [], ◌∷◌, ◌++◌, refl, sym, ap, subst, ◌∙◌}
+use Rattle.std.specs.Prelude.{map}
 use Rattle.std.specs.List.{zip}
 use Rattle.std.specs.FinSet.{FinSet, from_list}
 use Rattle.std.specs.Ordering.{nat_cmp}
@@ -23,9 +23,8 @@ use Rattle.tg_isa.specs.Placement.{image_of}
 use Rattle.tg_isa.specs.Texts.{readings_of}
 use Rattle.tg_instr.specs.declared.codes.Allocated.{Allocated}
 use Rattle.tg_instr.specs.declared.codes.Code.{Code as Instructions}
-use Rattle.tg_instr.specs.declared.instr.Instr.{Instr}
 use Rattle.tg_munch.specs.Bodies.{munched, outs}
-use Rattle.tg_spill.specs.InFrame.{code_in_frame, homes_from}
+use Rattle.tg_rounds.specs.Policies.{Rule}
 use Rattle.tg_spill.specs.declared.allocations.Allocation.{Allocation}
 use Rattle.tg_canon.specs.Drawing.{Drawn, Gives}
 use Rattle.tg_canon.specs.Canon.{linearized}
@@ -38,8 +37,8 @@ use Rattle.tg_image.specs.Programs.{IsProgram, AreTyped}
 use Rattle.tg_image.specs.Images.{program_written}
 use Rattle.tg_image.proofs.Soundness.{program_has_image}
 use Rattle.tg_compile.specs.declared.programs.Placement.{Placement}
-use Rattle.tg_compile.specs.Compiling.{with_runtime, fragments_of, with_statements, flattened, chosen, CompilesFunction, CompileFunctions, codes_of, HasImage, Compiles}
-use Rattle.tg_compile.specs.Passes.{Chooses, allocation_of, CompileApart}
+use Rattle.tg_compile.specs.Compiling.{with_runtime, fragments_of, with_statements, flattened, Chooses, CompilesFunction, CompileFunctions, codes_of, HasImage, Compiles}
+use Rattle.tg_compile.specs.Passes.{allocation_of, CompileApart}
 
 -- a program's functions and literals, before the runtime is behind them
 abbrev pub tree_of : List Fragment → List Literal → Code Ts
@@ -60,36 +59,52 @@ pub translated_whole : (notes : List Note) (body : Exp) (escaping : FinSet nat_c
 translated_whole notes body escaping fs gs all ls ms every e h p q r =
     joined fs gs all ls ms every p q r ∙ ap with_runtime (h ∙ ap (λ (s : FinSet nat_cmp). translated (found notes s (from_list (links_of body))) body) e)
 
+-- what an allocation tells besides its code
+abbrev placement_of : Allocation → Placement
+placement_of a = record { registers = a.registers; rounds = a.rounds; all_in_frame = a.all_in_frame; slots = a.slots }
+
 -- one more function
-pub compile_more : (fs : List (Function Ts)) (codes : List Allocated) (ps : List Placement) (f : Function Ts) (code : Allocated) (p : Placement) → CompileApart fs codes ps → CompilesFunction f (allocation_of (code, p)) →
-    CompileApart (fs ++ f ∷ []) (codes ++ code ∷ []) (ps ++ p ∷ [])
-compile_more [] [] [] f code p h k = (k, tt)
-compile_more [] [] (q ∷ ps) f code p h k = absurd h
-compile_more [] (c ∷ codes) ps f code p h k = absurd h
-compile_more (g ∷ fs) [] ps f code p h k = absurd h
-compile_more (g ∷ fs) (c ∷ codes) [] f code p h k = absurd h
-compile_more (g ∷ fs) (c ∷ codes) (q ∷ ps) f code p h k = (h.0, compile_more fs codes ps f code p h.1 k)
+compile_more : (rule : Rule) (fs : List (Function Ts)) (codes : List Allocated) (ps : List Placement) (f : Function Ts) (code : Allocated) (p : Placement) → CompileApart rule fs codes ps → CompilesFunction rule f (allocation_of (code, p)) →
+    CompileApart rule (fs ++ f ∷ []) (codes ++ code ∷ []) (ps ++ p ∷ [])
+compile_more rule [] [] [] f code p h k = (k, tt)
+compile_more rule [] [] (q ∷ ps) f code p h k = absurd h
+compile_more rule [] (c ∷ codes) ps f code p h k = absurd h
+compile_more rule (g ∷ fs) [] ps f code p h k = absurd h
+compile_more rule (g ∷ fs) (c ∷ codes) [] f code p h k = absurd h
+compile_more rule (g ∷ fs) (c ∷ codes) (q ∷ ps) f code p h k = (h.0, compile_more rule fs codes ps f code p h.1 k)
+
+-- and its code and placement behind the others
+pub compile_one_more : (rule : Rule) (fs : List Fragment) (one : Fragment) (codes all : List Allocated) (ps every : List Placement) (a : Allocation) →
+    CompileApart rule (map plain_fragment fs) codes ps → CompilesFunction rule (plain_fragment one) a →
+    all ≡ codes ++ a.done ∷ [] → every ≡ ps ++ placement_of a ∷ [] → CompileApart rule (map plain_fragment (fs ++ one ∷ [])) all every
+compile_one_more rule fs one codes all ps every a h k e d =
+    let before = map plain_fragment fs in
+    let P : List (Function Ts) → Type 0 = λ gs. CompileApart rule gs all every in
+    let Q : List Allocated → Type 0 = λ cs. CompileApart rule (before ++ plain_fragment one ∷ []) cs every in
+    let R : List Placement → Type 0 = λ qs. CompileApart rule (before ++ plain_fragment one ∷ []) (codes ++ a.done ∷ []) qs in
+    subst P (sym (map-append plain_fragment fs (one ∷ [])))
+    (subst Q (sym e) (subst R (sym d) (compile_more rule before codes ps (plain_fragment one) a.done (placement_of a) h k)))
 
 -- codes and placements that are brought together
-together : (fs : List (Function Ts)) (codes : List Allocated) (ps : List Placement) → CompileApart fs codes ps →
-    CompileFunctions fs (map allocation_of (zip codes ps)) × (codes_of (map allocation_of (zip codes ps)) ≡ codes)
-together [] [] [] h = (tt, refl)
-together [] [] (p ∷ ps) h = absurd h
-together [] (c ∷ codes) ps h = absurd h
-together (f ∷ fs) [] ps h = absurd h
-together (f ∷ fs) (c ∷ codes) [] h = absurd h
-together (f ∷ fs) (c ∷ codes) (p ∷ ps) h =
-    let rest = together fs codes ps h.1 in
+together : (rule : Rule) (fs : List (Function Ts)) (codes : List Allocated) (ps : List Placement) → CompileApart rule fs codes ps →
+    CompileFunctions rule fs (map allocation_of (zip codes ps)) × (codes_of (map allocation_of (zip codes ps)) ≡ codes)
+together rule [] [] [] h = (tt, refl)
+together rule [] [] (p ∷ ps) h = absurd h
+together rule [] (c ∷ codes) ps h = absurd h
+together rule (f ∷ fs) [] ps h = absurd h
+together rule (f ∷ fs) (c ∷ codes) [] h = absurd h
+together rule (f ∷ fs) (c ∷ codes) (p ∷ ps) h =
+    let rest = together rule fs codes ps h.1 in
     ((h.0, rest.0), ap (λ (cs : List Allocated). c ∷ cs) rest.1)
 
 -- a program whose functions are compiled, and whose text is written
-pub compiles_whole : (notes : List Note) (body : Exp) (functions : List Fragment) (literals : List Literal) (codes : List Allocated) (ps : List Placement) (all : List Allocation) (text : List ℕ) →
-    tree_of functions literals ≡ fragments_of notes body → CompileApart (map plain_fragment functions) codes ps → all ≡ map allocation_of (zip codes ps) →
-    text ≡ text_of (assembly_of codes literals) → HasImage text → Compiles notes body all text
-compiles_whole notes body functions literals codes ps all text tree apart joins written image =
-    let both = together (map plain_fragment functions) codes ps apart in
-    let P : List Allocation → Type 0 = λ xs. CompileFunctions (map plain_fragment functions) xs in
-    let Q : List (Function Ts) → Type 0 = λ fs. CompileFunctions fs all in
+pub compiles_whole : (rule : Rule) (notes : List Note) (body : Exp) (functions : List Fragment) (literals : List Literal) (codes : List Allocated) (ps : List Placement) (all : List Allocation) (text : List ℕ) →
+    tree_of functions literals ≡ fragments_of notes body → CompileApart rule (map plain_fragment functions) codes ps → all ≡ map allocation_of (zip codes ps) →
+    text ≡ text_of (assembly_of codes literals) → HasImage text → Compiles rule notes body all text
+compiles_whole rule notes body functions literals codes ps all text tree apart joins written image =
+    let both = together rule (map plain_fragment functions) codes ps apart in
+    let P : List Allocation → Type 0 = λ xs. CompileFunctions rule (map plain_fragment functions) xs in
+    let Q : List (Function Ts) → Type 0 = λ fs. CompileFunctions rule fs all in
     let same : codes ≡ codes_of all = sym (ap codes_of joins ∙ both.1) in
     record {
       literals = literals;
@@ -138,26 +153,6 @@ chooses f between new flat code is label params slots drawn out list temps few =
       list = list ∙ ap (λ (g : Function (List Linear)). (munched g).code) is;
       temps = temps ∙ ap (λ (g : Function (List Linear)). (munched g).drawn.temp) is;
       few = few;
-    }
-
--- and each of its temporaries gets a slot
-pub compiles : (f : Function Ts) (frame : Frame) (code : Instructions) (a : Allocation) → Chooses f frame code →
-    a.done.frame.label ≡ frame.label → a.done.frame.params ≡ frame.params → a.done.frame.slots ≡ frame.slots + a.slots →
-    a.done.frame.temps ≡ frame.temps → a.done.frame.out ≡ frame.out → a.done.code.list ≡ code_in_frame frame.slots code.list →
-    a.registers ≡ homes_from frame.slots code.temps → a.slots ≡ code.temps → IsTrue a.all_in_frame →
-    CompilesFunction f a
-compiles f frame code a h label params slots temps out list homes added all =
-    let drawn : a.slots ≡ (chosen f).drawn.temp = added ∙ h.temps in
-    record {
-      label = ap (λ (l : Label). l.0) label ∙ h.label;
-      params = params ∙ h.params;
-      slots = slots ∙ ap (λ (n : ℕ). frame.slots + n) drawn ∙ ap (λ (n : ℕ). n + (chosen f).drawn.temp) h.slots;
-      temps = temps ∙ h.drawn;
-      out = out ∙ h.out;
-      list = list ∙ ap (λ (n : ℕ). code_in_frame n code.list) h.slots ∙ ap (λ (l : List Instr). code_in_frame f.slots l) h.list;
-      homes = homes ∙ ap (λ (n : ℕ). homes_from n code.temps) h.slots ∙ ap (λ (n : ℕ). homes_from f.slots n) h.temps;
-      added = drawn;
-      all = all;
     }
 
 -- the text of a program is assembled to the image of its lines

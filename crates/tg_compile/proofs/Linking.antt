@@ -1,9 +1,10 @@
 -- What the instructions of a program name is there: the passes name no more than its trees do.
-use Rattle.std.proofs.Common.{◌≡◌, ◌≢◌, ◌<◌, ℕ, zero, suc, Bool, true, false, List, [], ◌∷◌, ◌++◌, Option, Some, None, refl, sym, ap, subst, ◌∙◌, arith, eq-eqb, get_or, length, inl, inr, ◌≤◌}
+use Rattle.std.proofs.Common.{◌≡◌, ◌≢◌, ◌<◌, ℕ, zero, suc, Bool, true, false, List, [], ◌∷◌, ◌++◌, refl, sym, ap, subst, ◌∙◌, arith, eq-eqb, get_or, length, inl, inr, ◌≤◌}
 use Rattle.std.specs.Prelude.{◌&&◌, ◌||◌, ◌==◌, nat_lt, nat_le, map, not, IsTrue}
 use Rattle.std.specs.List.{Contains, AllPairs, list_all}
 use Rattle.std.proofs.lemmas.Bool.{lt-ltb, ltb-true}
 use Rattle.std.proofs.lemmas.Bool.Decides.{eqb_tells, nat_tests}
+use Rattle.tg_base.specs.declared.ids.Label.{Label}
 use Rattle.tg_base.specs.State.{most_words, most_bytes}
 use Rattle.tg_tree.specs.declared.fragments.Literal.{Literal}
 use Rattle.tg_tree.specs.Tree as tree
@@ -11,26 +12,27 @@ use Rattle.tg_tree.specs.Tree.{Ts, Function, Code}
 use Rattle.tg_tree.specs.Plain.{plain_literal}
 use Rattle.tg_tree.specs.Named.{Named, function, literal, fault, temporary, IsLinked}
 use Rattle.tg_instr.specs.declared.operands.Opnd.{Opnd}
-use Rattle.tg_instr.specs.declared.operands.Opnd.TheVariants.{Temp, Reg}
 use Rattle.tg_instr.specs.declared.instr.Instr.{Instr}
 use Rattle.tg_instr.specs.declared.instr.Instr.TheVariants.{Sll, Srl, Sra, Mfhi, Mflo, Mult, Div, Add, Sub, Addu, Subu, And, Or, Xor, Nor, Slt, Sltu, Addi, Addiu, Slti, Sltiu, Andi, Ori, Xori, Lui, Lb, Lbu, Lw, Sb, Sw, Move, FrameLoad, FrameStore, FrameAddress, Address, Mark, Jump, Branch, Call, Service, Fault, Return}
 use Rattle.tg_instr.specs.declared.codes.Allocated.{Allocated}
-use Rattle.tg_instr.specs.Renaming.{named, renamed}
+use Rattle.tg_instr.specs.Renaming.{renamed}
 use Rattle.tg_shapes.specs.Laws.{names}
 use Rattle.tg_canon.specs.Laws as canon
 use Rattle.tg_canon.specs.Canon.{linearized}
 use Rattle.tg_trace.specs.Laws as trace
 use Rattle.tg_munch.specs.Laws as munch
 use Rattle.tg_munch.specs.Naming.{names_allowed}
-use Rattle.tg_spill.specs.InFrame.{through_named, loaded, stored, through_slots, instruction_in_frame, code_in_frame}
+use Rattle.tg_rounds.specs.Policies.{Rule}
+use Rattle.tg_spill.specs.declared.allocations.Allocation.{Allocation}
+use Rattle.tg_spill.specs.Explained.{IgnoresOperands, AllocationsKeepTests}
 use Rattle.tg_emit.specs.Conditions.{has_code, is_emittable}
 use Rattle.tg_emit.specs.declared.assembly.Line.{Line}
 use Rattle.tg_emit.specs.Lines.{words, functions_lines, literals_lines, is_long, assembly_of}
 use Rattle.tg_emit.proofs.Appending.{words_front}
 use Rattle.tg_image.specs.Programs.{IsProgram, bytes_of, function_labels, literal_labels, is_among, labels_differ, names_those, calls_those}
 use Rattle.tg_compile.specs.declared.programs.Placement.{Placement}
-use Rattle.tg_compile.specs.Compiling.{flattened, chosen}
-use Rattle.tg_compile.specs.Passes.{CompileApart, is_there, have_codes, has_small_frame, CodeNamesNoMore, AreLinked}
+use Rattle.tg_compile.specs.Compiling.{flattened, CompilesFunction}
+use Rattle.tg_compile.specs.Passes.{CompileApart, allocation_of, is_there, have_codes, has_small_frame, CodeNamesNoMore, AreLinked}
 
 both_left : (a b : Bool) → (a && b) ≡ true → a ≡ true
 both_left true b e = refl
@@ -51,26 +53,6 @@ or_left false b e = cc
 or_right : (a b : Bool) → b ≡ true → (a || b) ≡ true
 or_right true b e = refl
 or_right false b e = e
-
-appended : (p : Instr → Bool) (xs ys : List Instr) → list_all p xs ≡ true → list_all p ys ≡ true →
-    list_all p (xs ++ ys) ≡ true
-appended p [] ys e d = d
-appended p (x ∷ xs) ys e d =
-    both (p x) (list_all p (xs ++ ys)) (both_left (p x) (list_all p xs) e)
-    (appended p xs ys (both_right (p x) (list_all p xs) e) d)
-
--- loads and stores name nothing
-loaded_keeps : (p : Named → Bool) (base r : ℕ) (one : Option Opnd) →
-    list_all (names_allowed p) (loaded base r one) ≡ true
-loaded_keeps p base r (Some (Temp t)) = refl
-loaded_keeps p base r (Some (Reg q)) = refl
-loaded_keeps p base r None = refl
-
-stored_keeps : (p : Named → Bool) (base r : ℕ) (one : Option Opnd) →
-    list_all (names_allowed p) (stored base r one) ≡ true
-stored_keeps p base r (Some (Temp t)) = refl
-stored_keeps p base r (Some (Reg q)) = refl
-stored_keeps p base r None = refl
 
 -- other operands change no name
 renamed_keeps : (p : Named → Bool) (one : Instr) (x y z : Opnd) →
@@ -118,82 +100,21 @@ renamed_keeps p Service x y z = refl
 renamed_keeps p (Fault a) x y z = refl
 renamed_keeps p Return x y z = refl
 
-through_keeps : (p : Named → Bool) (base : ℕ) (one : Instr) → names_allowed p one ≡ true →
-    list_all (names_allowed p) (through_slots base one (named one)) ≡ true
-through_keeps p base one e =
-    let n = named one in
-    let kept = renamed one (through_named 8 n.to) (through_named 8 n.first) (through_named 9 n.second) in
-    let here : names_allowed p kept ≡ true =
-    renamed_keeps p one (through_named 8 n.to) (through_named 8 n.first) (through_named 9 n.second) ∙ e in
-    let behind : list_all (names_allowed p) (kept ∷ stored base 8 n.to) ≡ true =
-    both (names_allowed p kept) (list_all (names_allowed p) (stored base 8 n.to)) here (stored_keeps p base 8 n.to) in
-    appended (names_allowed p) (loaded base 8 n.first) (loaded base 9 n.second ++ (kept ∷ stored base 8 n.to)) (loaded_keeps p base 8 n.first)
-    (appended (names_allowed p) (loaded base 9 n.second) (kept ∷ stored base 8 n.to) (loaded_keeps p base 9 n.second) behind)
-
-instruction_keeps : (p : Named → Bool) (base : ℕ) (one : Instr) → names_allowed p one ≡ true →
-    list_all (names_allowed p) (instruction_in_frame base one) ≡ true
-instruction_keeps p base (Sll a b c) e = through_keeps p base (Sll a b c) e
-instruction_keeps p base (Srl a b c) e = through_keeps p base (Srl a b c) e
-instruction_keeps p base (Sra a b c) e = through_keeps p base (Sra a b c) e
-instruction_keeps p base (Mfhi a) e = through_keeps p base (Mfhi a) e
-instruction_keeps p base (Mflo a) e = through_keeps p base (Mflo a) e
-instruction_keeps p base (Mult a b) e = through_keeps p base (Mult a b) e
-instruction_keeps p base (Div a b) e = through_keeps p base (Div a b) e
-instruction_keeps p base (Add a b c) e = through_keeps p base (Add a b c) e
-instruction_keeps p base (Sub a b c) e = through_keeps p base (Sub a b c) e
-instruction_keeps p base (Addu a b c) e = through_keeps p base (Addu a b c) e
-instruction_keeps p base (Subu a b c) e = through_keeps p base (Subu a b c) e
-instruction_keeps p base (And a b c) e = through_keeps p base (And a b c) e
-instruction_keeps p base (Or a b c) e = through_keeps p base (Or a b c) e
-instruction_keeps p base (Xor a b c) e = through_keeps p base (Xor a b c) e
-instruction_keeps p base (Nor a b c) e = through_keeps p base (Nor a b c) e
-instruction_keeps p base (Slt a b c) e = through_keeps p base (Slt a b c) e
-instruction_keeps p base (Sltu a b c) e = through_keeps p base (Sltu a b c) e
-instruction_keeps p base (Addi a b c) e = through_keeps p base (Addi a b c) e
-instruction_keeps p base (Addiu a b c) e = through_keeps p base (Addiu a b c) e
-instruction_keeps p base (Slti a b c) e = through_keeps p base (Slti a b c) e
-instruction_keeps p base (Sltiu a b c) e = through_keeps p base (Sltiu a b c) e
-instruction_keeps p base (Andi a b c) e = through_keeps p base (Andi a b c) e
-instruction_keeps p base (Ori a b c) e = through_keeps p base (Ori a b c) e
-instruction_keeps p base (Xori a b c) e = through_keeps p base (Xori a b c) e
-instruction_keeps p base (Lui a b) e = through_keeps p base (Lui a b) e
-instruction_keeps p base (Lb a b c) e = through_keeps p base (Lb a b c) e
-instruction_keeps p base (Lbu a b c) e = through_keeps p base (Lbu a b c) e
-instruction_keeps p base (Lw a b c) e = through_keeps p base (Lw a b c) e
-instruction_keeps p base (Sb a b c) e = through_keeps p base (Sb a b c) e
-instruction_keeps p base (Sw a b c) e = through_keeps p base (Sw a b c) e
-instruction_keeps p base (Move (Temp a) (Temp b)) e = refl
-instruction_keeps p base (Move (Temp a) (Reg b)) e = refl
-instruction_keeps p base (Move (Reg a) (Temp b)) e = refl
-instruction_keeps p base (Move (Reg a) (Reg b)) e = refl
-instruction_keeps p base (FrameLoad a b) e = through_keeps p base (FrameLoad a b) e
-instruction_keeps p base (FrameStore a b) e = through_keeps p base (FrameStore a b) e
-instruction_keeps p base (FrameAddress a) e = through_keeps p base (FrameAddress a) e
-instruction_keeps p base (Address a b) e = through_keeps p base (Address a b) e
-instruction_keeps p base (Mark a) e = through_keeps p base (Mark a) e
-instruction_keeps p base (Jump a) e = through_keeps p base (Jump a) e
-instruction_keeps p base (Branch a b) e = through_keeps p base (Branch a b) e
-instruction_keeps p base (Call a) e = through_keeps p base (Call a) e
-instruction_keeps p base Service e = through_keeps p base Service e
-instruction_keeps p base (Fault a) e = through_keeps p base (Fault a) e
-instruction_keeps p base Return e = through_keeps p base Return e
-
-code_keeps : (p : Named → Bool) (base : ℕ) (code : List Instr) → list_all (names_allowed p) code ≡ true →
-    list_all (names_allowed p) (code_in_frame base code) ≡ true
-code_keeps p base [] e = refl
-code_keeps p base (one ∷ rest) e =
-    appended (names_allowed p) (instruction_in_frame base one) (code_in_frame base rest)
-    (instruction_keeps p base one (both_left (names_allowed p one) (list_all (names_allowed p) rest) e))
-    (code_keeps p base rest (both_right (names_allowed p one) (list_all (names_allowed p) rest) e))
+-- and loads and stores name nothing
+names_ignore_operands : (p : Named → Bool) → IgnoresOperands (names_allowed p)
+names_ignore_operands p =
+    record { renaming = renamed_keeps p; load = λ to slot. refl; store = λ from slot. refl }
 
 -- the law of all passes
-pub names_no_more : canon.NamesStay → trace.NamesStay → munch.NamesStay → CodeNamesNoMore
+pub names_no_more : canon.NamesStay → trace.NamesStay → munch.NamesStay → AllocationsKeepTests → CodeNamesNoMore
 unfolding flattened
-names_no_more lifts lays picks p temps zeros f h =
+names_no_more lifts lays picks keeps p temps zeros f h rule a c =
     let lifted = linearized f.body f.temps in
     let canonical = lifts p f.body f.temps h (λ i low high. temps i) in
     let flat = lays p lifted.it zeros canonical in
-    code_keeps p f.slots (chosen f).code (picks p (flattened f) flat)
+    let P : List Instr → Type 0 = λ code. IsTrue (list_all (names_allowed p) code) in
+    keeps rule c.code c.frame a c.allocation (names_allowed p) (names_ignore_operands p)
+    (subst P (sym c.chooses.list) (picks p (flattened f) flat))
 
 -- what is there, as the test of a program tells it
 those_told : (fs ls : List ℕ) (one : Instr) → names_allowed (is_there fs ls) one ≡ true → names_those fs ls one ≡ true
@@ -337,15 +258,16 @@ last_differ [] ys e = e
 last_differ (x ∷ xs) ys e = last_differ xs ys (both_right (not (is_among (xs ++ ys) x)) (labels_differ (xs ++ ys)) e)
 
 -- codes of functions, one for each
-labels_are : (fs : List (Function Ts)) (codes : List Allocated) (ps : List Placement) → CompileApart fs codes ps →
+labels_are : (rule : Rule) (fs : List (Function Ts)) (codes : List Allocated) (ps : List Placement) → CompileApart rule fs codes ps →
     function_labels codes ≡ map (λ (f : Function Ts). f.label) fs
-labels_are [] [] [] h = refl
-labels_are [] [] (p ∷ ps) h = absurd h
-labels_are [] (c ∷ codes) ps h = absurd h
-labels_are (f ∷ fs) [] ps h = absurd h
-labels_are (f ∷ fs) (c ∷ codes) [] h = absurd h
-labels_are (f ∷ fs) (c ∷ codes) (p ∷ ps) h =
-    ap (λ (n : ℕ). n ∷ function_labels codes) h.0.label ∙ ap (λ (ns : List ℕ). f.label ∷ ns) (labels_are fs codes ps h.1)
+labels_are rule [] [] [] h = refl
+labels_are rule [] [] (p ∷ ps) h = absurd h
+labels_are rule [] (c ∷ codes) ps h = absurd h
+labels_are rule (f ∷ fs) [] ps h = absurd h
+labels_are rule (f ∷ fs) (c ∷ codes) [] h = absurd h
+labels_are rule (f ∷ fs) (c ∷ codes) (p ∷ ps) h =
+    let one : c.frame.label.0 ≡ f.label = ap (λ (l : Label). l.0) h.0.allocation.has_frame.label ∙ h.0.chooses.label in
+    ap (λ (n : ℕ). n ∷ function_labels codes) one ∙ ap (λ (ns : List ℕ). f.label ∷ ns) (labels_are rule fs codes ps h.1)
 
 literals_are : (ls : List Literal) → literal_labels ls ≡ map (λ (l : tree.Literal). l.label) (map plain_literal ls)
 literals_are [] = refl
@@ -355,20 +277,19 @@ literals_are (l ∷ ls) = ap (λ (xs : List ℕ). l.label.0 ∷ xs) (literals_ar
 abbrev names_pass : (Named → Bool) → Allocated → Bool
 names_pass allowed a = list_all (names_allowed allowed) a.code.list
 
-codes_pass : (allowed : Named → Bool) (fs : List (Function Ts)) (codes : List Allocated) (ps : List Placement) →
-    CompileApart fs codes ps →
-    ((f : Function Ts) → Contains fs f → list_all (names_allowed allowed) (code_in_frame f.slots (chosen f).code) ≡ true) →
+codes_pass : (rule : Rule) (allowed : Named → Bool) (fs : List (Function Ts)) (codes : List Allocated) (ps : List Placement) →
+    CompileApart rule fs codes ps →
+    ((f : Function Ts) → Contains fs f → (a : Allocation) → CompilesFunction rule f a → names_pass allowed a.done ≡ true) →
     list_all (names_pass allowed) codes ≡ true
-codes_pass allowed [] [] [] h each = refl
-codes_pass allowed [] [] (p ∷ ps) h each = absurd h
-codes_pass allowed [] (c ∷ codes) ps h each = absurd h
-codes_pass allowed (f ∷ fs) [] ps h each = absurd h
-codes_pass allowed (f ∷ fs) (c ∷ codes) [] h each = absurd h
-codes_pass allowed (f ∷ fs) (c ∷ codes) (p ∷ ps) h each =
-    let P : List Instr → Type 0 = λ code. list_all (names_allowed allowed) code ≡ true in
+codes_pass rule allowed [] [] [] h each = refl
+codes_pass rule allowed [] [] (p ∷ ps) h each = absurd h
+codes_pass rule allowed [] (c ∷ codes) ps h each = absurd h
+codes_pass rule allowed (f ∷ fs) [] ps h each = absurd h
+codes_pass rule allowed (f ∷ fs) (c ∷ codes) [] h each = absurd h
+codes_pass rule allowed (f ∷ fs) (c ∷ codes) (p ∷ ps) h each =
     both (names_pass allowed c) (list_all (names_pass allowed) codes)
-    (subst P (sym h.0.list) (each f (zero, omega arith, refl)))
-    (codes_pass allowed fs codes ps h.1 (λ g m. each g (suc m.0, omega (arith, m.1), m.2)))
+    (each f (zero, omega arith, refl) (allocation_of (c, p)) h.0)
+    (codes_pass rule allowed fs codes ps h.1 (λ g m. each g (suc m.0, omega (arith, m.1), m.2)))
 
 -- what a function of a linked program names is there
 allowed_there : (program : Code Ts) → IsLinked names program → (f : Function Ts) → Contains program.functions f →
@@ -381,18 +302,18 @@ allowed_there program linked f c (temporary i) k = refl
 
 -- so the code of a linked program is linked
 pub links : CodeNamesNoMore →
-    (program : Code Ts) (codes : List Allocated) (ps : List Placement) (literals : List Literal) →
+    (rule : Rule) (program : Code Ts) (codes : List Allocated) (ps : List Placement) (literals : List Literal) →
     IsLinked names program →
-    map plain_literal literals ≡ program.literals → CompileApart program.functions codes ps → AreLinked codes literals
-links law program codes ps literals linked same apart =
+    map plain_literal literals ≡ program.literals → CompileApart rule program.functions codes ps → AreLinked codes literals
+links law rule program codes ps literals linked same apart =
     let fs = map (λ (g : Function Ts). g.label) program.functions in
     let ls = map (λ (l : tree.Literal). l.label) program.literals in
-    let functions : function_labels codes ≡ fs = labels_are program.functions codes ps apart in
+    let functions : function_labels codes ≡ fs = labels_are rule program.functions codes ps apart in
     let theirs : literal_labels literals ≡ ls = literals_are literals ∙ ap (λ (xs : List tree.Literal). map (λ (l : tree.Literal). l.label) xs) same in
     let all : labels_differ (fs ++ ls) ≡ true = differ (fs ++ ls) linked.apart in
     let passed : list_all (names_pass (is_there fs ls)) codes ≡ true =
-    codes_pass (is_there fs ls) program.functions codes ps apart
-    (λ f c. law (is_there fs ls) (λ i. refl) refl f (allowed_there program linked f c)) in
+    codes_pass rule (is_there fs ls) program.functions codes ps apart
+    (λ f c. law (is_there fs ls) (λ i. refl) refl f (allowed_there program linked f c) rule) in
     let D : List ℕ → Type 0 = λ xs. IsTrue (labels_differ xs) in
     let M : List ℕ → Type 0 = λ xs. IsTrue (is_among xs 32) in
     let C : List ℕ → Type 0 = λ xs. IsTrue (list_all (calls_those xs ls) codes) in

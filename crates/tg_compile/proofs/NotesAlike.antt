@@ -12,6 +12,7 @@ use Rattle.tg_types.specs.Has.{Says}
 use Rattle.tg_types.proofs.NotesFound.{says_found, found_said}
 use Rattle.tg_translate.specs.Scopes.{Findings}
 use Rattle.tg_translate.specs.Translate.{translated}
+use Rattle.tg_rounds.specs.Policies.{Rule}
 use Rattle.tg_spill.specs.declared.allocations.Allocation.{Allocation}
 use Rattle.tg_compile.specs.Compiling.{findings_of, with_runtime, fragments_of, CompileFunctions, Compiles}
 
@@ -44,11 +45,11 @@ findings_alike notes sorted program p r =
     sym (λ i. record (findings_of notes program) { meaning = λ at. found_alike notes sorted p r at i })
 
 -- so a program is compiled to the same by both
-pub compiles_alike : (notes sorted : List Note) (program : Exp) (allocations : List Allocation) (text : List ℕ) → IsPermutation notes sorted → AreRising sorted → Compiles sorted program allocations text → Compiles notes program allocations text
-compiles_alike notes sorted program allocations text p r c =
+pub compiles_alike : (rule : Rule) (notes sorted : List Note) (program : Exp) (allocations : List Allocation) (text : List ℕ) → IsPermutation notes sorted → AreRising sorted → Compiles rule sorted program allocations text → Compiles rule notes program allocations text
+compiles_alike rule notes sorted program allocations text p r c =
     let same : fragments_of sorted program ≡ fragments_of notes program =
     ap (λ (f : Findings). with_runtime (translated f program)) (findings_alike notes sorted program p r) in
-    let P : List (Function Ts) → Type 0 = λ fs. CompileFunctions fs allocations in
+    let P : List (Function Ts) → Type 0 = λ fs. CompileFunctions rule fs allocations in
     record {
       literals = c.literals;
       functions_are = subst P (ap (λ (t : Code Ts). t.functions) same) c.functions_are;

@@ -1,7 +1,6 @@
 -- What the parts of the compilation promise one another.
 use Rattle.std.specs.Prelude.{◌≡◌, ◌<◌, ◌≤◌, ◌^◌, ℕ, nat_lt, Bool, true, List, [], ◌∷◌, IsTrue}
 use Rattle.std.specs.List.{Contains, list_all}
-use Rattle.tg_frame.specs.declared.frames.Frame.{Frame}
 use Rattle.tg_frame.specs.Homes.{slot_bound}
 use Rattle.tg_tree.specs.declared.fragments.Literal.{Literal}
 use Rattle.tg_tree.specs.Tree.{Ts, Linear, Function}
@@ -10,11 +9,9 @@ use Rattle.tg_tree.specs.Shapes.{IsClosed, IsWellMarked}
 use Rattle.tg_shapes.specs.Laws.{names}
 use Rattle.tg_instr.specs.Codes.{has_slots_below}
 use Rattle.tg_instr.specs.declared.codes.Allocated.{Allocated}
-use Rattle.tg_instr.specs.declared.codes.Code.{Code as Instructions}
-use Rattle.tg_munch.specs.Bodies.{outs}
 use Rattle.tg_munch.specs.Naming.{names_allowed}
+use Rattle.tg_rounds.specs.Policies.{Rule}
 use Rattle.tg_spill.specs.Conditions.{is_fixed, names_registers}
-use Rattle.tg_spill.specs.InFrame.{code_in_frame}
 use Rattle.tg_spill.specs.declared.allocations.Allocation.{Allocation}
 use Rattle.tg_emit.specs.Conditions.{has_code}
 use Rattle.tg_emit.specs.Lines.{size_of}
@@ -62,13 +59,14 @@ is_there functions literals (fault n) = nat_lt n (2 ^ 20)
 is_there functions literals (temporary i) = true
 
 -- The law that code over registers names no more than its function does: whatever test all names of
--- the body pass, and each temporary and the fault 0, those of the code pass.
+-- the body pass, and each temporary and the fault 0, those of the code pass, by every rule.
 abbrev pub CodeNamesNoMore : Type 0
 CodeNamesNoMore =
     (allowed : Named → Bool) →
     ((i : ℕ) → IsTrue (allowed (temporary i))) → IsTrue (allowed (fault 0)) →
     (f : Function Ts) → ((x : Named) → Contains (names f.body) x → IsTrue (allowed x)) →
-    IsTrue (list_all (names_allowed allowed) (code_in_frame f.slots (chosen f).code))
+    (rule : Rule) (a : Allocation) → CompilesFunction rule f a →
+    IsTrue (list_all (names_allowed allowed) a.done.code.list)
 
 -- a frame below 2 ^ 29 bytes, and code whose faults have 20 bits
 abbrev pub has_small_frame : Allocated → Bool
@@ -87,29 +85,20 @@ pub record AreLinked (codes : List Allocated) (literals : List Literal) : Type 0
       IsTrue (list_all (calls_those (function_labels codes) (literal_labels literals)) codes)
   pub faults : IsTrue (list_all have_codes codes)
 
--- the instructions that are chosen for the flat code of a function, and its frame then
-pub record Chooses (f : Function Ts) (frame : Frame) (code : Instructions) : Type 0 where
-  pub label : frame.label.0 ≡ f.label
-  pub params : frame.params ≡ f.params
-  pub slots : frame.slots ≡ f.slots
-  pub drawn : frame.temps ≡ (flattened f).temps
-  pub out : frame.out ≡ outs (flattened f).body
-  pub list : code.list ≡ (chosen f).code
-  pub temps : code.temps ≡ (chosen f).drawn.temp
-  pub few : code.temps < 16777216
-
 -- an allocation of its code and its placement
 abbrev pub allocation_of : Allocated × Placement → Allocation
 allocation_of (done, p) = record {
   done = done;
   registers = p.registers;
+  rounds = p.rounds;
   all_in_frame = p.all_in_frame;
   slots = p.slots;
 }
 
 -- each function has its code and its placement, in their order
-abbrev pub CompileApart : List (Function Ts) → List Allocated → List Placement → Type 0
-CompileApart [] [] [] = Unit {0}
-CompileApart (f ∷ functions) (code ∷ codes) (p ∷ placements) =
-    CompilesFunction f (allocation_of (code, p)) × CompileApart functions codes placements
-CompileApart _ _ _ = ⊥
+module _ (rule : Rule) where
+  abbrev pub CompileApart : List (Function Ts) → List Allocated → List Placement → Type 0
+  CompileApart [] [] [] = Unit {0}
+  CompileApart (f ∷ functions) (code ∷ codes) (p ∷ placements) =
+      CompilesFunction rule f (allocation_of (code, p)) × CompileApart functions codes placements
+  CompileApart _ _ _ = ⊥

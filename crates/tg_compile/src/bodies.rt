@@ -1,8 +1,8 @@
 ghost use Rattle.std.specs.Prelude.{◌≡◌, IfOk};
 ghost use Rattle.tg_tree.specs.Lists.{code_of};
 ghost use Rattle.tg_tree.specs.Plain.{plain_fragment, plain_function, plain_ts};
-ghost use Rattle.tg_compile.specs.Compiling.{CompilesFunction, flattened};
-ghost use Rattle.tg_compile.specs.Passes.{Chooses, IsWellFormed};
+ghost use Rattle.tg_compile.specs.Compiling.{Chooses, CompilesFunction, flattened};
+ghost use Rattle.tg_compile.specs.Passes.{IsWellFormed};
 
 use crate::laws::{flat_code_is_well_marked, instructions_name_their_own};
 use std::alloc::Global;
@@ -11,20 +11,28 @@ use tg_canon::linearize;
 use tg_frame::Frame;
 use tg_instr::Code;
 use tg_munch::munch;
-use tg_spill::{Allocation, in_frame};
+use tg_rounds::SpillPolicy;
+use tg_spill::{Allocation, allocate};
 use tg_trace::{blocks, trace};
 use tg_tree::{Fragment, Linear, Ts};
 
-/// The code of a function over registers, with each temporary in its frame.
-pub(crate) fn compile_function(alloc: Global, one: Fragment) -> Result<Allocation, Memory>
+/// The code of a function over registers; what is spilled is the policy's choice. After `Memory` the
+/// policy may have been asked.
+pub(crate) fn compile_function(
+    alloc: Global,
+    one: Fragment,
+    policy: &mut dyn SpillPolicy,
+) -> Result<Allocation, Memory>
     requires { IsWellFormed (plain_fragment one) }
-    ensures { IfOk result (λ a. CompilesFunction (plain_fragment one) a) }
+    ensures compiles { IfOk result
+        (λ a. CompilesFunction (rule policy.old) (plain_fragment one) a) }
+    ensures same { rule policy.new ≡ rule policy.old }
 {
     let Fragment { frame, body } = one;
     let mut frame = frame;
     let code = choose(alloc, &mut frame, body)?;
     instructions_name_their_own();
-    Ok(in_frame(alloc, &code, frame)?)
+    Ok(allocate(alloc, &code, frame, policy)?)
 }
 
 /// The instructions of a body.

@@ -12,6 +12,7 @@ use tg_canon::canonical_statements;
 use tg_munch::code_names_its_own;
 use tg_runtime::routines_are_closed;
 use tg_shapes::{bodies_are_closed, frames_are_small, temporaries_are_drawn};
+use tg_spill::allocations_keep_tests;
 use tg_trace::{blocks_are_well_formed, code_is_well_formed};
 use tg_types::Checked;
 
@@ -54,4 +55,5 @@ pub(crate) fn code_names_no_more()
     tg_canon::names_stay();
     tg_trace::names_stay();
     code_names_its_own();
+    allocations_keep_tests();
 }

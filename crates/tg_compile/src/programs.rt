@@ -19,9 +19,10 @@ use tg_emit::{emit, text};
 use tg_escape::escapes;
 use tg_image::fit_segments;
 use tg_instr::Allocated;
+use tg_rounds::SpillPolicy;
 use tg_runtime::runtime;
 use tg_shapes::programs_are_linked;
-use tg_spill::{Allocation, Homes};
+use tg_spill::{Allocation, Homes, Rounds};
 use tg_translate::translate;
 use tg_tree::{Fragment, Fragments, Literal};
 use tg_types::Checked;
@@ -30,6 +31,7 @@ use tg_types::Checked;
 #[derive(Drop)]
 struct Placement {
     registers: Homes,
+    rounds: Rounds,
     all_in_frame: bool,
     slots: u32,
 }
@@ -41,16 +43,23 @@ struct Functions {
     placements: Vec<Placement>,
 }
 
-/// Compiles a program that has no fault: its functions and the runtime's become assembly text.
-pub fn compile_checked(alloc: Global, checked: &Checked) -> Result<Compiled, Memory>
-    ensures { IfOk result (λ c. Compiles checked.now.notes (plain checked.now.program.body)
+/// Compiles a program that has no fault: its functions and the runtime's become assembly text. The
+/// policy is asked in each function in turn; after `Memory` it may have been asked.
+pub fn compile_checked(
+    alloc: Global,
+    checked: &Checked,
+    policy: &mut dyn SpillPolicy,
+) -> Result<Compiled, Memory>
+    ensures compiles { IfOk result
+        (λ c. Compiles (rule policy.old) checked.now.notes (plain checked.now.program.body)
         c.allocations.items c.text.items) }
+    ensures same { rule policy.new ≡ rule policy.old }
 {
     let Fragments {
         functions: bodies,
         literals,
     } = fragments(alloc, checked)?;
-    let functions = compile_functions(alloc, bodies)?;
+    let functions = compile_functions(alloc, bodies, policy)?;
     code_names_no_more();
     let written = write(alloc, &functions.codes, &literals)?;
     Ok(Compiled {
@@ -77,10 +86,15 @@ fn fragments(alloc: Global, checked: &Checked) -> Result<Fragments, Memory>
 }
 
 /// Compiles functions one after another.
-fn compile_functions(alloc: Global, bodies: Vec<Fragment>) -> Result<Functions, Memory>
+fn compile_functions(
+    alloc: Global,
+    bodies: Vec<Fragment>,
+    policy: &mut dyn SpillPolicy,
+) -> Result<Functions, Memory>
     requires { All IsWellFormed (map plain_fragment bodies.items) }
-    ensures { IfOk result (λ f. CompileApart (map plain_fragment bodies.items)
-        f.codes.items f.placements.items) }
+    ensures compile { IfOk result (λ f. CompileApart (rule policy.old)
+        (map plain_fragment bodies.items) f.codes.items f.placements.items) }
+    ensures same { rule policy.new ≡ rule policy.old }
 {
     let mut codes = Vec::new(alloc);
     let mut placements = Vec::new(alloc);
@@ -88,12 +102,14 @@ fn compile_functions(alloc: Global, bodies: Vec<Fragment>) -> Result<Functions, 
         let Allocation {
             done,
             registers,
+            rounds,
             all_in_frame,
             slots,
-        } = compile_function(alloc, one)?;
+        } = compile_function(alloc, one, policy)?;
         codes.push(done)?;
         placements.push(Placement {
             registers,
+            rounds,
             all_in_frame,
             slots,
         })?;
@@ -139,12 +155,14 @@ fn allocation(done: Allocated, placement: Placement) -> Allocation
 {
     let Placement {
         registers,
+        rounds,
         all_in_frame,
         slots,
     } = placement;
     Allocation {
         done,
         registers,
+        rounds,
         all_in_frame,
         slots,
     }

@@ -12,18 +12,19 @@ use Rattle.tg_base.specs.Files.{IsFrontOf}
 use Rattle.tg_isa.specs.declared.images.Image.{Image}
 use Rattle.tg_isa.specs.Assembly.{assembled}
 use Rattle.tg_asm.specs.Images.{image_of}
+use Rattle.tg_rounds.specs.Policies.{Rule as SpillRule}
 use Rattle.tg_command.specs.declared.modes.Mode.{Mode}
-use Rattle.tg_command.specs.declared.modes.Mode.TheVariants.{Check, Build, Run, Exec, Gen}
+use Rattle.tg_command.specs.declared.modes.Mode.TheVariants.{Check, Build, Run, Exec, Alloc, Gen}
 use Rattle.tg_command.specs.Commands.{Asked, Ask}
 use Rattle.tg_driver.specs.declared.answers.Answer.{Answer}
-use Rattle.tg_driver.specs.declared.answers.Answer.TheVariants.{Faulty, Built, Unwritten, OutOfMemory, Finished}
+use Rattle.tg_driver.specs.declared.answers.Answer.TheVariants.{Faulty, Written, Unwritten, OutOfMemory, Finished}
 use Rattle.tg_driver.specs.Builds.{RunRelation, Builds}
 use Rattle.tg_driver.specs.Calls.{Stream, stream_of, Streams, Stays, Untouched, Shelved, IsUnread, Call, Takes, all, part}
 use Rattle.tg_driver.specs.OfFiles.{OfFile, unreadable, read, OrMemory, unread_answer, HasStarted, StaysBeforeStart, UntouchedBeforeStart}
 use Rattle.tg_driver.specs.Found.{IsRefused}
 use Rattle.tg_driver.specs.Runs.{HasRun, IsRunOrMemory}
 use Rattle.tg_driver.specs.CheckMode.{IsChecked, ByCheck}
-use Rattle.tg_driver.specs.BuildMode.{IsBuilt, ByBuild}
+use Rattle.tg_driver.specs.Writing.{TakesText, TextRelation, IsWritten, ByWriting}
 use Rattle.tg_driver.specs.RunMode.{EndsAssembled, IsRun, ByRun}
 use Rattle.tg_driver.specs.GenMode.{summary, TakesSummary, SumsUpRun, SumsUpBuilt, IsGenerated, ByGen}
 use Rattle.tg_driver.specs.Endings.{end_status}
@@ -48,15 +49,15 @@ checked_of_refused text (Faulty f) r = r
 checked_of_refused text OutOfMemory r = tt
 checked_of_refused text _ r = absurd r
 
-pub built_of_refused : {O : Type 0} (out : Stream O) (text : List ℕ) (answer : Answer) → IsRefused text answer → OrMemory (Unit {0}) (IsBuilt out text) answer
-built_of_refused out text (Faulty f) r = r
-built_of_refused out text OutOfMemory r = tt
-built_of_refused out text _ r = absurd r
+pub written_of_refused : {O : Type 0} (out : Stream O) (writes : TextRelation) (text : List ℕ) (answer : Answer) → IsRefused text answer → OrMemory (Unit {0}) (IsWritten out writes text) answer
+written_of_refused out writes text (Faulty f) r = r
+written_of_refused out writes text OutOfMemory r = tt
+written_of_refused out writes text _ r = absurd r
 
-pub run_of_refused : (runs : RunRelation) (a : Asked) (text : List ℕ) (answer : Answer) → IsRefused text answer → OrMemory (Unit {0}) (IsRun runs a text) answer
-run_of_refused runs a text (Faulty f) r = r
-run_of_refused runs a text OutOfMemory r = tt
-run_of_refused runs a text _ r = absurd r
+pub run_of_refused : (rule : SpillRule) (runs : RunRelation) (a : Asked) (text : List ℕ) (answer : Answer) → IsRefused text answer → OrMemory (Unit {0}) (IsRun rule runs a text) answer
+run_of_refused rule runs a text (Faulty f) r = r
+run_of_refused rule runs a text OutOfMemory r = tt
+run_of_refused rule runs a text _ r = absurd r
 
 -- a refusal leaves the streams alone
 pub refused_stays : {T : Type 0} (out : Stream T) (text : List ℕ) (answer : Answer) → IsRefused text answer → Stays out → StaysBeforeStart out answer
@@ -69,25 +70,34 @@ refused_untouched s text (Faulty f) r h = h
 refused_untouched s text OutOfMemory r h = h
 refused_untouched s text _ r h = absurd r
 
--- a sink took an assembly text, or failed
-pub written : {O : Type 0} (out : Stream O) (text assembly : List ℕ) (answer : Answer) → Builds text assembly → Takes out assembly Built Unwritten answer → HasStarted answer → OrMemory (Unit {0}) (IsBuilt out text) answer
-written out text assembly Built b t h = record { assembly = assembly; builds = b; takes = t }
-written out text assembly Unwritten b t h = record { assembly = assembly; builds = b; takes = t }
-written out text assembly (Finished end) b (all is a) h = absurd (cc)
-written out text assembly (Finished end) b (part is p f t) h = absurd (cc)
-written out text assembly _ b t h = absurd h
+-- a sink took a text of a source, or failed
+written : {O : Type 0} (out : Stream O) (writes : TextRelation) (source text : List ℕ) (answer : Answer) → writes source text → TakesText out text answer → IsWritten out writes source answer
+written out writes source text answer b (all is a) =
+    let P : Answer → Type 0 = λ x. IsWritten out writes source x in
+    subst P (sym is) (record { written = text; is_of = b; takes = all refl a })
+written out writes source text answer b (part is p f t) =
+    let P : Answer → Type 0 = λ x. IsWritten out writes source x in
+    subst P (sym is) (record { written = text; is_of = b; takes = part refl p f t })
+
+pub taken_text : {O : Type 0} (out : Stream O) (text : List ℕ) (answer : Answer) → TakesText out text answer → OrMemory (Unit {0}) (TakesText out text) answer
+taken_text out text OutOfMemory t = tt
+taken_text out text _ t = t
+
+pub writes_text : {O : Type 0} (out : Stream O) (writes : TextRelation) (source text : List ℕ) (answer : Answer) → writes source text → OrMemory (Unit {0}) (TakesText out text) answer → OrMemory (Unit {0}) (IsWritten out writes source) answer
+writes_text out writes source text OutOfMemory b t = tt
+writes_text out writes source text answer b t = written out writes source text answer b t
 
 pub started_stays : {T : Type 0} (out : Stream T) (answer : Answer) → HasStarted answer → StaysBeforeStart out answer
 started_stays out (Finished end) h = tt
-started_stays out Built h = tt
+started_stays out Written h = tt
 started_stays out Unwritten h = tt
 started_stays out _ h = absurd h
 
 -- a run of what a source is built to
-pub ends_built : (runs : RunRelation) (a : Asked) (text assembly : List ℕ) (answer : Answer) → Builds text assembly → EndsAssembled runs assembly a.heap a.stack a.steps answer → OrMemory (Unit {0}) (IsRun runs a text) answer
-ends_built runs a text assembly (Finished end) b r = record { assembly = assembly; builds = b; ran = r }
-ends_built runs a text assembly OutOfMemory b r = tt
-ends_built runs a text assembly _ b r = absurd r
+pub ends_built : (rule : SpillRule) (runs : RunRelation) (a : Asked) (text assembly : List ℕ) (answer : Answer) → Builds rule text assembly → EndsAssembled runs assembly a.heap a.stack a.steps answer → OrMemory (Unit {0}) (IsRun rule runs a text) answer
+ends_built rule runs a text assembly (Finished end) b r = record { assembly = assembly; builds = b; ran = r }
+ends_built rule runs a text assembly OutOfMemory b r = tt
+ends_built rule runs a text assembly _ b r = absurd r
 
 pub assembled_run : {I O : Type 0} (s : Streams I O) (assembly : List ℕ) (image : Image) (heap stack steps : ℕ) (answer : Answer) → assembled assembly ≡ Ok (image_of image) → IsRunOrMemory s image heap stack steps answer → EndsAssembled (HasRun s) assembly heap stack steps answer
 assembled_run s assembly image heap stack steps (Finished end) is run = record { image = image; assembles = is; run = run }
@@ -95,9 +105,9 @@ assembled_run s assembly image heap stack steps OutOfMemory is run = tt
 assembled_run s assembly image heap stack steps _ is run = absurd run
 
 -- a run of what a generated source is built to, and its summary
-pub sums_up_built : {O : Type 0} (out : Stream O) (functions : ℕ) (text assembly : List ℕ) (image : Image) (heap stack steps : ℕ) (answer : Answer) → Builds text assembly → assembled assembly ≡ Ok (image_of image) → OrMemory (Unit {0}) (SumsUpRun out functions (length text) image heap stack steps) answer → OrMemory (Unit {0}) (SumsUpBuilt out functions text heap stack steps) answer
-sums_up_built out functions text assembly image heap stack steps OutOfMemory b is h = tt
-sums_up_built out functions text assembly image heap stack steps _ b is h =
+pub sums_up_built : {O : Type 0} (rule : SpillRule) (out : Stream O) (functions : ℕ) (text assembly : List ℕ) (image : Image) (heap stack steps : ℕ) (answer : Answer) → Builds rule text assembly → assembled assembly ≡ Ok (image_of image) → OrMemory (Unit {0}) (SumsUpRun out functions (length text) image heap stack steps) answer → OrMemory (Unit {0}) (SumsUpBuilt rule out functions text heap stack steps) answer
+sums_up_built rule out functions text assembly image heap stack steps OutOfMemory b is h = tt
+sums_up_built rule out functions text assembly image heap stack steps _ b is h =
     record { end = h.end; ends = record { assembly = assembly; builds = b; ran = record { image = image; assembles = is; run = h.sums_up } } }
 
 -- what holds of an answer holds of it unless memory is wanting
@@ -139,9 +149,9 @@ takes_summary out functions source written ReadFault answer other h = h
 pub summary_some : (functions source written status : ℕ) → 0 < length (summary functions source written status)
 summary_some functions source written status = omega arith
 
-pub in_number : {O : Type 0} (out : Stream O) (functions : ℕ) (text other : List ℕ) (heap stack steps : ℕ) (answer : Answer) → text ≡ other → OrMemory (Unit {0}) (SumsUpBuilt out functions text heap stack steps) answer → OrMemory (Unit {0}) (SumsUpBuilt out functions other heap stack steps) answer
-in_number out functions text other heap stack steps answer is h =
-    let P : List ℕ → Type 0 = λ t. OrMemory (Unit {0}) (SumsUpBuilt out functions t heap stack steps) answer in
+pub in_number : {O : Type 0} (rule : SpillRule) (out : Stream O) (functions : ℕ) (text other : List ℕ) (heap stack steps : ℕ) (answer : Answer) → text ≡ other → OrMemory (Unit {0}) (SumsUpBuilt rule out functions text heap stack steps) answer → OrMemory (Unit {0}) (SumsUpBuilt rule out functions other heap stack steps) answer
+in_number rule out functions text other heap stack steps answer is h =
+    let P : List ℕ → Type 0 = λ t. OrMemory (Unit {0}) (SumsUpBuilt rule out functions t heap stack steps) answer in
     subst P is h
 
 -- a run of an image that was assembled
@@ -163,58 +173,65 @@ by_check shelf s a _ u h = (u, h)
 -- a sink that stays, and a source that does, are streams that do
 before_start : {I O : Type 0} (s : Streams I O) (answer : Answer) → Stays s.input → StaysBeforeStart s.out answer → UntouchedBeforeStart s answer
 before_start s (Finished end) i o = tt
-before_start s Built i o = tt
+before_start s Written i o = tt
 before_start s Unwritten i o = tt
 before_start s _ i o = (i, o)
 
-pub by_build : {H I O : Type 0} (shelf : Shelved H) (s : Streams I O) (a : Asked) (answer : Answer) → Stays s.input → StaysBeforeStart s.out answer → OrMemory (Unit {0}) (OfFile shelf a.file 262145 (IsBuilt s.out)) answer → OrMemory (Untouched s) (ByBuild shelf s a) answer
-by_build shelf s a OutOfMemory i o h = (i, o)
-by_build shelf s a answer i o h = (i, before_start s answer i o, h)
+pub by_writing : {H I O : Type 0} (shelf : Shelved H) (s : Streams I O) (writes : TextRelation) (a : Asked) (answer : Answer) → Stays s.input → StaysBeforeStart s.out answer → OrMemory (Unit {0}) (OfFile shelf a.file 262145 (IsWritten s.out writes)) answer → OrMemory (Untouched s) (ByWriting shelf s writes a) answer
+by_writing shelf s writes a OutOfMemory i o h = (i, o)
+by_writing shelf s writes a answer i o h = (i, before_start s answer i o, h)
 
-pub by_gen : {H I O : Type 0} (shelf : Shelved H) (s : Streams I O) (a : Asked) (answer : Answer) → shelf.after ≡ shelf.before → Stays s.input → StaysBeforeStart s.out answer → OrMemory (Unit {0}) (IsGenerated s.out a) answer → OrMemory (Untouched s) (ByGen shelf s a) answer
-by_gen shelf s a OutOfMemory same i o h = (i, o)
-by_gen shelf s a answer same i o h = (same, i, before_start s answer i o, h)
+pub by_gen : {H I O : Type 0} (rule : SpillRule) (shelf : Shelved H) (s : Streams I O) (a : Asked) (answer : Answer) → shelf.after ≡ shelf.before → Stays s.input → StaysBeforeStart s.out answer → OrMemory (Unit {0}) (IsGenerated rule s.out a) answer → OrMemory (Untouched s) (ByGen rule shelf s a) answer
+by_gen rule shelf s a OutOfMemory same i o h = (i, o)
+by_gen rule shelf s a answer same i o h = (same, i, before_start s answer i o, h)
 
-pub by_run : {H I O : Type 0} (shelf : Shelved H) (s : Streams I O) (a : Asked) (answer : Answer) → UntouchedBeforeStart s answer → OrMemory (Unit {0}) (OfFile shelf a.file 262145 (IsRun (HasRun s) a)) answer → OrMemory (Untouched s) (ByRun shelf s a) answer
-by_run shelf s a OutOfMemory u h = u
-by_run shelf s a _ u h = (u, h)
+pub by_run : {H I O : Type 0} (rule : SpillRule) (shelf : Shelved H) (s : Streams I O) (a : Asked) (answer : Answer) → UntouchedBeforeStart s answer → OrMemory (Unit {0}) (OfFile shelf a.file 262145 (IsRun rule (HasRun s) a)) answer → OrMemory (Untouched s) (ByRun rule shelf s a) answer
+by_run rule shelf s a OutOfMemory u h = u
+by_run rule shelf s a _ u h = (u, h)
 
 pub by_exec : {H I O : Type 0} (shelf : Shelved H) (s : Streams I O) (a : Asked) (answer : Answer) → UntouchedBeforeStart s answer → OrMemory (Unit {0}) (OfFile shelf a.file 67108865 (IsExecuted (HasRun s) a)) answer → OrMemory (Untouched s) (ByExec shelf s a) answer
 by_exec shelf s a OutOfMemory u h = u
 by_exec shelf s a _ u h = (u, h)
 
 -- the answer to a command is the answer to its words
-pub due_of_mode : {H I O : Type 0} (words : List (List ℕ)) (shelf : Shelved H) (s : Streams I O) (a : Asked) (answer : Answer) → Ask words a → OrMemory (Untouched s) (InMode a.mode shelf s a) answer → IsDue words shelf s answer
-due_of_mode words shelf s a OutOfMemory ask h = answered.no_memory refl h
-due_of_mode words shelf s a _ ask h = asked a ask h
+pub due_of_mode : {H I O : Type 0} (rule : SpillRule) (words : List (List ℕ)) (shelf : Shelved H) (s : Streams I O) (a : Asked) (answer : Answer) → Ask words a → OrMemory (Untouched s) (InMode rule a.mode shelf s a) answer → IsDue rule words shelf s answer
+due_of_mode rule words shelf s a OutOfMemory ask h = answered.no_memory refl h
+due_of_mode rule words shelf s a _ ask h = asked a ask h
 
 -- before that nothing was touched
 untouched : {I O : Type 0} (s : Streams I O) (answer : Answer) → IsBeforeStart answer → UntouchedBeforeStart s answer → Untouched s
 untouched s (Finished end) b u = absurd b
-untouched s Built b u = absurd b
+untouched s Written b u = absurd b
 untouched s Unwritten b u = absurd b
 untouched s _ b u = u
 
-left_in : {H I O : Type 0} (mode : Mode) (shelf : Shelved H) (s : Streams I O) (a : Asked) (answer : Answer) → IsBeforeStart answer → InMode mode shelf s a answer → Untouched s
-left_in Check shelf s a answer b h = h.0
-left_in Build shelf s a answer b h = untouched s answer b h.1
-left_in Run shelf s a answer b h = untouched s answer b h.0
-left_in Exec shelf s a answer b h = untouched s answer b h.0
-left_in Gen shelf s a answer b h = untouched s answer b h.2
+left_in : {H I O : Type 0} (rule : SpillRule) (mode : Mode) (shelf : Shelved H) (s : Streams I O) (a : Asked) (answer : Answer) → IsBeforeStart answer → InMode rule mode shelf s a answer → Untouched s
+left_in rule Check shelf s a answer b h = h.0
+left_in rule Build shelf s a answer b h = untouched s answer b h.1
+left_in rule Run shelf s a answer b h = untouched s answer b h.0
+left_in rule Exec shelf s a answer b h = untouched s answer b h.0
+left_in rule Alloc shelf s a answer b h = untouched s answer b h.1
+left_in rule Gen shelf s a answer b h = untouched s answer b h.2
 
-left_alone : {H I O : Type 0} (words : List (List ℕ)) (shelf : Shelved H) (s : Streams I O) (answer : Answer) → IsBeforeStart answer → IsDue words shelf s answer → Untouched s
-left_alone words shelf s answer b (usage is fault same u) = u
-left_alone words shelf s answer b (answered.no_memory is u) = u
-left_alone words shelf s answer b (asked a ask h) = left_in a.mode shelf s a answer b h
+left_alone : {H I O : Type 0} (rule : SpillRule) (words : List (List ℕ)) (shelf : Shelved H) (s : Streams I O) (answer : Answer) → IsBeforeStart answer → IsDue rule words shelf s answer → Untouched s
+left_alone rule words shelf s answer b (usage is fault same u) = u
+left_alone rule words shelf s answer b (answered.no_memory is u) = u
+left_alone rule words shelf s answer b (asked a ask h) = left_in rule a.mode shelf s a answer b h
 
 -- the answer that was told
-pub answers_of : {H I O E : Type 0} (c : Call H I O E) (status : ℕ) (answer : Answer) → IsDue c.words c.shelf c.streams answer → IsReported c.err answer status → Answers c status
+pub answers_of : {H I O E : Type 0} (c : Call H I O E) (status : ℕ) (answer : Answer) → IsDue c.rule c.words c.shelf c.streams answer → IsReported c.err answer status → Answers c status
 answers_of c status answer due (itself told) = record { answer = answer; due = due; told = told }
 answers_of c status answer due (no_memory before told) =
-    record { answer = OutOfMemory; due = answered.no_memory refl (left_alone c.words c.shelf c.streams answer before due); told = told }
+    record { answer = OutOfMemory; due = answered.no_memory refl (left_alone c.rule c.words c.shelf c.streams answer before due); told = told }
+
+-- and so by the rule of the policy in the box
+pub answers_by : {H I O E : Type 0} (rule : SpillRule) (c : Call H I O E) (status : ℕ) (answer : Answer) → rule ≡ c.rule → IsDue rule c.words c.shelf c.streams answer → IsReported c.err answer status → Answers c status
+answers_by rule c status answer is due told =
+    let P : SpillRule → Type 0 = λ r. IsDue r c.words c.shelf c.streams answer in
+    answers_of c status answer (subst P is due) told
 
 -- the answer in the mode of a command
-pub in_mode : {H I O : Type 0} (m : Mode) (shelf : Shelved H) (s : Streams I O) (a : Asked) (answer : Answer) → a.mode ≡ m → OrMemory (Untouched s) (InMode m shelf s a) answer → OrMemory (Untouched s) (InMode a.mode shelf s a) answer
-in_mode m shelf s a answer is h =
-    let P : Mode → Type 0 = λ x. OrMemory (Untouched s) (InMode x shelf s a) answer in
+pub in_mode : {H I O : Type 0} (rule : SpillRule) (m : Mode) (shelf : Shelved H) (s : Streams I O) (a : Asked) (answer : Answer) → a.mode ≡ m → OrMemory (Untouched s) (InMode rule m shelf s a) answer → OrMemory (Untouched s) (InMode rule a.mode shelf s a) answer
+in_mode rule m shelf s a answer is h =
+    let P : Mode → Type 0 = λ x. OrMemory (Untouched s) (InMode rule x shelf s a) answer in
     subst P (sym is) h

@@ -5,26 +5,28 @@ use Rattle.tg_base.specs.Files.{Files, IsFrontOf}
 use Rattle.tg_base.specs.declared.ends.RunEnd.{RunEnd}
 use Rattle.tg_base.specs.declared.ends.RunEnd.TheVariants.{Exit, Break, Overflow, HeapFull, StackFull, StepLimit, BadAddress, Unaligned, BadWord, BadService, ReadFault, WriteFault}
 use Rattle.tg_isa.specs.declared.images.Image.{Image}
+use Rattle.tg_rounds.specs.Policies.{Rule as SpillRule}
 use Rattle.tg_command.specs.declared.modes.Mode.{Mode}
-use Rattle.tg_command.specs.declared.modes.Mode.TheVariants.{Check, Build, Run, Exec, Gen}
+use Rattle.tg_command.specs.declared.modes.Mode.TheVariants.{Check, Build, Run, Exec, Alloc, Gen}
 use Rattle.tg_command.specs.Commands.{Asked}
 use Rattle.tg_command.proofs.CommandLemmas.{asked_once, asked_no_fault}
 use Rattle.tg_driver.specs.declared.answers.Answer.{Answer}
-use Rattle.tg_driver.specs.declared.answers.Answer.TheVariants.{Faulty, BadLine, TooLong, Built, Unwritten, Finished, OutOfMemory}
+use Rattle.tg_driver.specs.declared.answers.Answer.TheVariants.{Faulty, BadLine, TooLong, Written, Unwritten, Finished, OutOfMemory}
 use Rattle.tg_driver.specs.Calls.{Stream, stream_of, streams_of, HasFailed, Streams, Shelved, IsUnread, Call, Takes, all, part}
 use Rattle.tg_driver.specs.OfFiles.{OfFile, unreadable, read}
 use Rattle.tg_driver.specs.Builds.{RunRelation, EndsBuilt}
 use Rattle.tg_driver.specs.Runs.{HasRun}
-use Rattle.tg_driver.specs.BuildMode.{IsBuilt}
+use Rattle.tg_driver.specs.Sources.{IsSource}
+use Rattle.tg_driver.specs.Writing.{TextRelation, IsWritten}
 use Rattle.tg_driver.specs.RunMode.{IsRun}
 use Rattle.tg_driver.specs.ExecMode.{IsExecuted}
 use Rattle.tg_driver.specs.GenMode.{no_input, TakesSummary, IsGenerated}
 use Rattle.tg_driver.specs.Modes.{InMode, most_of}
 use Rattle.tg_driver.specs.Telling.{IsTold}
 use Rattle.tg_driver.specs.Answered.{IsDue, usage, no_memory, asked, Answers}
-use Rattle.tg_driver.specs.Laws.{HoldsFile, ReadsFile, IsGood, Gives, EndsAsTold, IsFaultyOrBuilt, EndsGenerated, Settles, IsSettled}
+use Rattle.tg_driver.specs.Laws.{HoldsFile, ReadsFile, IsGood, Gives, EndsAsTold, IsFaultyOrWritten, EndsGenerated, Settles, IsSettled}
 use Rattle.tg_driver.proofs.ExactRuns.{ends_as_told, ends_faultless}
-use Rattle.tg_driver.proofs.SourcesOnce.{built_source}
+use Rattle.tg_driver.proofs.SourcesOnce.{built_source, listed_source}
 
 -- the front of a file that the shelf holds
 front_is : (files : Files) (name : List ℕ) (most : ℕ) (text file : List ℕ) (at : List ℕ → Option (List ℕ)) → files ≡ Some at → at name ≡ Some file → IsFrontOf files name most text → text ≡ take most file
@@ -43,25 +45,25 @@ to_text shelf name most due file answer there readable (read text front h) =
     subst P (front_is _ name most text file there.at there.tells there.holds front) h
 
 -- what is said of runs may be said more weakly
-ends_more : (runs others : RunRelation) (text : List ℕ) (heap stack steps : ℕ) (end : RunEnd) → ((image : Image) → runs image heap stack steps end → others image heap stack steps end) → EndsBuilt runs text heap stack steps end → EndsBuilt others text heap stack steps end
-ends_more runs others text heap stack steps end more e =
+ends_more : (rule : SpillRule) (runs others : RunRelation) (text : List ℕ) (heap stack steps : ℕ) (end : RunEnd) → ((image : Image) → runs image heap stack steps end → others image heap stack steps end) → EndsBuilt rule runs text heap stack steps end → EndsBuilt rule others text heap stack steps end
+ends_more rule runs others text heap stack steps end more e =
     record { assembly = e.assembly; builds = e.builds; ran = record { image = e.ran.image; assembles = e.ran.assembles; run = more e.ran.image e.ran.run } }
 
-of_built : {O : Type 0} (out : Stream O) (text : List ℕ) (answer : Answer) → (HasFailed out → ⊥) → IsBuilt out text answer → IsFaultyOrBuilt text answer
-of_built out text (Faulty f) written h = h
-of_built out text Built written h = built_source text h.assembly h.builds
-of_built out text Unwritten written h = failed h.takes
+of_written : {O : Type 0} (out : Stream O) (writes : TextRelation) (source : List ℕ) (answer : Answer) → (HasFailed out → ⊥) → ((text : List ℕ) → writes source text → IsSource source) → IsWritten out writes source answer → IsFaultyOrWritten source answer
+of_written out writes source (Faulty f) written is h = h
+of_written out writes source Written written is h = is h.written h.is_of
+of_written out writes source Unwritten written is h = failed h.takes
   where
-    failed : {assembly : List ℕ} → Takes out assembly Built Unwritten Unwritten → ⊥
-    failed (all is a) = absurd (cc)
-    failed (part is some f front) = written f
-of_built out text _ written h = absurd h
+    failed : {text : List ℕ} → Takes out text Written Unwritten Unwritten → ⊥
+    failed (all same a) = absurd (cc)
+    failed (part same some f front) = written f
+of_written out writes source _ written is h = absurd h
 
-of_run : {I O : Type 0} (s : Streams I O) (a : Asked) (text : List ℕ) (answer : Answer) → (HasFailed s.input → ⊥) → (HasFailed s.out → ⊥) → IsRun (HasRun s) a text answer → IsRun (EndsAsTold (s.input.told s.input.before)) a text answer
-of_run s a text (Faulty f) r w h = h
-of_run s a text (Finished end) r w h =
-    ends_more (HasRun s) (EndsAsTold (s.input.told s.input.before)) text a.heap a.stack a.steps end (λ image run. ends_faultless s image a.heap a.stack a.steps end r w run) h
-of_run s a text _ r w h = absurd h
+of_run : {I O : Type 0} (rule : SpillRule) (s : Streams I O) (a : Asked) (text : List ℕ) (answer : Answer) → (HasFailed s.input → ⊥) → (HasFailed s.out → ⊥) → IsRun rule (HasRun s) a text answer → IsRun rule (EndsAsTold (s.input.told s.input.before)) a text answer
+of_run rule s a text (Faulty f) r w h = h
+of_run rule s a text (Finished end) r w h =
+    ends_more rule (HasRun s) (EndsAsTold (s.input.told s.input.before)) text a.heap a.stack a.steps end (λ image run. ends_faultless s image a.heap a.stack a.steps end r w run) h
+of_run rule s a text _ r w h = absurd h
 
 of_exec : {I O : Type 0} (s : Streams I O) (a : Asked) (text : List ℕ) (answer : Answer) → (HasFailed s.input → ⊥) → (HasFailed s.out → ⊥) → IsExecuted (HasRun s) a text answer → IsExecuted (EndsAsTold (s.input.told s.input.before)) a text answer
 of_exec s a text TooLong r w h = h
@@ -108,14 +110,14 @@ write_failed {O} out between functions source written end answer is rose h =
 no_read : Rose 0 0 → ⊥
 no_read r = absurd (omega (arith, r))
 
-of_gen : {O : Type 0} (out : Stream O) (a : Asked) (answer : Answer) → (HasFailed out → ⊥) → IsGenerated out a answer → EndsGenerated a answer
-of_gen out a answer kept h =
+of_gen : {O : Type 0} (rule : SpillRule) (out : Stream O) (a : Asked) (answer : Answer) → (HasFailed out → ⊥) → IsGenerated rule out a answer → EndsGenerated rule a answer
+of_gen rule out a answer kept h =
     let sums = h.ends.ran.run in
     let s = streams_of (no_input sums.input) (stream_of out.told out.faults out.before sums.between) in
     let other : h.end ≡ WriteFault → ⊥ = λ is. kept (write_failed out sums.between _ _ _ h.end answer is (sums.run.ran.write_cause is) sums.sums_up) in
     let last = passed (stream_of out.told out.faults sums.between out.after) _ _ _ h.end answer
     (λ f. kept (rose_later _ _ _ sums.run.ran.writes_later f)) other sums.sums_up in
-    let P : Answer → Type 0 = λ x. EndsGenerated a x in
+    let P : Answer → Type 0 = λ x. EndsGenerated rule a x in
     subst P (sym last.finished)
     (record {
       assembly = h.ends.assembly;
@@ -127,12 +129,13 @@ of_gen out a answer kept h =
       };
     })
 
-settled : {H I O E : Type 0} (c : Call H I O E) (a : Asked) (file : List ℕ) (mode : Mode) (answer : Answer) → IsGood c a file → (ReadsFile mode → ReadsFile a.mode) → InMode mode c.shelf c.streams a answer → Settles (c.streams.input.told c.streams.input.before) mode a (take (most_of mode) file) answer
+settled : {H I O E : Type 0} (c : Call H I O E) (a : Asked) (file : List ℕ) (mode : Mode) (answer : Answer) → IsGood c a file → (ReadsFile mode → ReadsFile a.mode) → InMode c.rule mode c.shelf c.streams a answer → Settles c.rule (c.streams.input.told c.streams.input.before) mode a (take (most_of mode) file) answer
 settled c a file Check answer good reads h = to_text c.shelf a.file 262145 _ file answer (good.there (reads tt)) good.readable h.1
-settled c a file Build answer good reads h = of_built c.streams.out _ answer good.all_written (to_text c.shelf a.file 262145 _ file answer (good.there (reads tt)) good.readable h.2)
-settled c a file Run answer good reads h = of_run c.streams a _ answer good.all_read good.all_written (to_text c.shelf a.file 262145 _ file answer (good.there (reads tt)) good.readable h.1)
+settled c a file Build answer good reads h = of_written c.streams.out _ _ answer good.all_written (built_source c.rule _) (to_text c.shelf a.file 262145 _ file answer (good.there (reads tt)) good.readable h.2)
+settled c a file Run answer good reads h = of_run c.rule c.streams a _ answer good.all_read good.all_written (to_text c.shelf a.file 262145 _ file answer (good.there (reads tt)) good.readable h.1)
 settled c a file Exec answer good reads h = of_exec c.streams a _ answer good.all_read good.all_written (to_text c.shelf a.file 67108865 _ file answer (good.there (reads tt)) good.readable h.1)
-settled c a file Gen answer good reads h = of_gen c.streams.out a answer good.all_written h.3
+settled c a file Alloc answer good reads h = of_written c.streams.out _ _ answer good.all_written (listed_source c.rule _) (to_text c.shelf a.file 262145 _ file answer (good.there (reads tt)) good.readable h.2)
+settled c a file Gen answer good reads h = of_gen c.rule c.streams.out a answer good.all_written h.3
 
 -- the line was told
 given : {H I O E : Type 0} (c : Call H I O E) (status : ℕ) (a : Asked) (file : List ℕ) (answer : Answer) → IsGood c a file → IsTold c.err answer status → Gives c status answer
@@ -142,10 +145,10 @@ given c status a file answer good (part is some failed front) = absurd (good.all
 pub complete : {H I O E : Type 0} (c : Call H I O E) (status : ℕ) (a : Asked) (file : List ℕ) → Answers c status → IsGood c a file → IsSettled c status a (take (most_of a.mode) file) ⊎ Gives c status OutOfMemory
 complete c status a file h good = by h.answer (given c status a file h.answer good h.told) h.due
   where
-    by : (found : Answer) → Gives c status found → IsDue c.words c.shelf c.streams found → IsSettled c status a (take (most_of a.mode) file) ⊎ Gives c status OutOfMemory
+    by : (found : Answer) → Gives c status found → IsDue c.rule c.words c.shelf c.streams found → IsSettled c status a (take (most_of a.mode) file) ⊎ Gives c status OutOfMemory
     by found gives (usage is fault same u) = absurd (asked_no_fault c.words a good.ask fault)
     by found gives (no_memory is u) = let P : Answer → Type 0 = λ x. Gives c status x in inr (subst P is gives)
     by found gives (asked b ask h) =
-        let P : Asked → Type 0 = λ x. InMode x.mode c.shelf c.streams x found in
+        let P : Asked → Type 0 = λ x. InMode c.rule x.mode c.shelf c.streams x found in
         let in_mode = subst P (asked_once c.words b a ask good.ask) h in
         inl (record { answer = found; settled = settled c a file a.mode found good (λ r. r) in_mode; gives = gives })

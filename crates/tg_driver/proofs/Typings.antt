@@ -14,11 +14,14 @@ use Rattle.tg_types.specs.declared.notes.Note.{Note}
 use Rattle.tg_types.specs.Accepted.{Finding, finding, accepted, at_fault}
 use Rattle.tg_types.specs.Answered.{Accepts, AreRising, IsAt}
 use Rattle.tg_types.proofs.NeverStuck.{accepted_never_stuck}
+use Rattle.tg_rounds.specs.Policies.{Rule as SpillRule}
 use Rattle.tg_spill.specs.declared.allocations.Allocation.{Allocation}
+use Rattle.tg_listing.specs.Listing.{listed}
 use Rattle.tg_compile.specs.Compiling.{Compiles, HasImage}
 use Rattle.tg_driver.specs.Meanings.{SourcesAreNeverStuck}
 use Rattle.tg_driver.specs.Sources.{IsSource, IsSourceOf}
 use Rattle.tg_driver.specs.Builds.{CompilesTo, Builds}
+use Rattle.tg_driver.specs.AllocMode.{Lists}
 use Rattle.tg_driver.specs.Readings.{HasNamedTree, IsTypeFaultOf}
 use Rattle.tg_compile.proofs.NotesAlike.{compiles_alike}
 
@@ -41,23 +44,26 @@ typed_fault text names program (Bad rule at) t h = record { names = names; token
 typed_fault text names program Memory t h = tt
 
 -- a program that was compiled, and what the text is compiled to
-pub compiles_to : (text : List ℕ) (names : List (List ℕ)) (program : Exp) (sorted : List Note) (allocations : List Allocation) (assembly : List ℕ) → HasNamedTree text names program → Accepts (finding names program) sorted → Compiles sorted program allocations assembly → CompilesTo text allocations assembly
-compiles_to text names program sorted allocations assembly t h compiles =
+pub compiles_to : (rule : SpillRule) (text : List ℕ) (names : List (List ℕ)) (program : Exp) (sorted : List Note) (allocations : List Allocation) (assembly : List ℕ) → HasNamedTree text names program → Accepts (finding names program) sorted → Compiles rule sorted program allocations assembly → CompilesTo rule text allocations assembly
+compiles_to rule text names program sorted allocations assembly t h compiles =
     let n = noted (finding names program) sorted h in
     record {
       names = names;
       tokens = t.tokens;
       program = program;
       source = source_of text names program t n.0 n.1.0;
-      compiles = compiles_alike n.0 sorted program allocations assembly n.1.1.0 n.1.1.1 compiles;
+      compiles = compiles_alike rule n.0 sorted program allocations assembly n.1.1.0 n.1.1.1 compiles;
     }
 
--- so it is built to that, and the assembly text is assembled without a fault
-pub builds : (text : List ℕ) (allocations : List Allocation) (assembly : List ℕ) → CompilesTo text allocations assembly → Builds text assembly
-builds text allocations assembly h = record { allocations = allocations; compiles = h }
+-- so it is built to that, the allocations are listed, and the assembly text is assembled without a fault
+pub builds : (rule : SpillRule) (text : List ℕ) (allocations : List Allocation) (assembly : List ℕ) → CompilesTo rule text allocations assembly → Builds rule text assembly
+builds rule text allocations assembly h = record { allocations = allocations; compiles = h }
 
-pub has_image : (text : List ℕ) (allocations : List Allocation) (assembly : List ℕ) → CompilesTo text allocations assembly → HasImage assembly
-has_image text allocations assembly h = h.compiles.has_image
+pub lists : (rule : SpillRule) (text : List ℕ) (allocations : List Allocation) (assembly : List ℕ) → CompilesTo rule text allocations assembly → Lists rule text (listed allocations)
+lists rule text allocations assembly h = record { allocations = allocations; assembly = assembly; compiles = h; listing_is = refl }
+
+pub has_image : (rule : SpillRule) (text : List ℕ) (allocations : List Allocation) (assembly : List ℕ) → CompilesTo rule text allocations assembly → HasImage assembly
+has_image rule text allocations assembly h = h.compiles.has_image
 
 pub is_source : (text : List ℕ) (names : List (List ℕ)) (program : Exp) (sorted : List Note) → HasNamedTree text names program → Accepts (finding names program) sorted → IsSource text
 is_source text names program sorted t h =

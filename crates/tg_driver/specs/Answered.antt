@@ -1,5 +1,6 @@
 -- What the program answers to a call.
 use Rattle.std.specs.Prelude.{ℕ, ◌≡◌, List}
+use Rattle.tg_rounds.specs.Policies.{Rule as SpillRule}
 use Rattle.tg_command.specs.Commands.{Asked, Ask, IsUsageFault}
 use Rattle.tg_driver.specs.declared.answers.Answer.{Answer}
 use Rattle.tg_driver.specs.declared.answers.Answer.TheVariants.{Usage, OutOfMemory}
@@ -9,24 +10,24 @@ use Rattle.tg_driver.specs.Telling.{IsTold}
 
 -- The answer is due: the words are no command; memory was wanting, before anything was read or
 -- written; or the mode that the words ask for gives it.
-pub data IsDue {H I O : Type 0}
-    (words : List (List ℕ)) (shelf : Shelved H) (s : Streams I O) (answer : Answer) : Type 0 where
+pub data IsDue {H I O : Type 0} (rule : SpillRule) (words : List (List ℕ))
+    (shelf : Shelved H) (s : Streams I O) (answer : Answer) : Type 0 where
   usage :
       answer ≡ Usage →
       IsUsageFault words →
       shelf.after ≡ shelf.before →
       Untouched s →
-      IsDue words shelf s answer
-  no_memory : answer ≡ OutOfMemory → Untouched s → IsDue words shelf s answer
+      IsDue rule words shelf s answer
+  no_memory : answer ≡ OutOfMemory → Untouched s → IsDue rule words shelf s answer
   asked :
       (a : Asked) →
       Ask words a →
-      InMode a.mode shelf s a answer →
-      IsDue words shelf s answer
+      InMode rule a.mode shelf s a answer →
+      IsDue rule words shelf s answer
 
 -- The answer is due. The error sink took its line, and the status is its own; or the line failed,
 -- and the status is 74.
 pub record Answers {H I O E : Type 0} (c : Call H I O E) (status : ℕ) : Type 0 where
   pub answer : Answer
-  pub due : IsDue c.words c.shelf c.streams answer
+  pub due : IsDue c.rule c.words c.shelf c.streams answer
   pub told : IsTold c.err answer status

@@ -6,24 +6,25 @@ use Rattle.tg_isa.specs.Assembly.{assembled}
 use Rattle.tg_asm.specs.Images.{image_of}
 use Rattle.tg_syntax.specs.declared.tokens.Spanned.{Spanned}
 use Rattle.tg_syntax.specs.Tree.{Exp}
+use Rattle.tg_rounds.specs.Policies.{Rule as SpillRule}
 use Rattle.tg_spill.specs.declared.allocations.Allocation.{Allocation}
 use Rattle.tg_compile.specs.Compiling.{Compiles}
 use Rattle.tg_driver.specs.Sources.{IsSourceOf}
 
--- The text is a source, and this is what it is compiled to by the notes of its typing: allocations
--- of its functions, and an assembly text.
-pub record CompilesTo (text : List ℕ)
+-- The text is a source, and this is what it is compiled to by the notes of its typing and the rule
+-- of a policy: allocations of its functions, and an assembly text.
+pub record CompilesTo (rule : SpillRule) (text : List ℕ)
     (allocations : List Allocation) (assembly : List ℕ) : Type 0 where
   pub names : List (List ℕ)
   pub tokens : List Spanned
   pub program : Exp
   pub source : IsSourceOf text names tokens program
-  pub compiles : Compiles source.notes program allocations assembly
+  pub compiles : Compiles rule source.notes program allocations assembly
 
 -- the text is a source, and this is an assembly text that it is compiled to
-pub record Builds (text assembly : List ℕ) : Type 0 where
+pub record Builds (rule : SpillRule) (text assembly : List ℕ) : Type 0 where
   pub allocations : List Allocation
-  pub compiles : CompilesTo text allocations assembly
+  pub compiles : CompilesTo rule text allocations assembly
 
 -- what may be said of a run of an image with these sizes and steps that ends so
 abbrev pub RunRelation : Type 1
@@ -37,8 +38,8 @@ pub record RunsAssembled (runs : RunRelation)
   pub run : runs image heap stack steps end
 
 -- and so does that of an assembly text that the source is built to
-pub record EndsBuilt (runs : RunRelation)
+pub record EndsBuilt (rule : SpillRule) (runs : RunRelation)
     (text : List ℕ) (heap stack steps : ℕ) (end : RunEnd) : Type 0 where
   pub assembly : List ℕ
-  pub builds : Builds text assembly
+  pub builds : Builds rule text assembly
   pub ran : RunsAssembled runs assembly heap stack steps end

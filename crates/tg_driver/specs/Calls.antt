@@ -4,6 +4,7 @@ use Rattle.std.specs.Io.KnownBytes.{Appends}
 use Rattle.tg_base.specs.Causes.{Rose}
 use Rattle.tg_base.specs.Files.{Files}
 use Rattle.tg_base.specs.Writes.{TakesFront}
+use Rattle.tg_rounds.specs.Policies.{Rule as SpillRule}
 
 -- a source or a sink: what it tells of its bytes, its count of faults, and itself before and after
 pub record Stream (T : Type 0) : Type 0 where
@@ -51,18 +52,25 @@ shelf_of files faults before after =
 abbrev pub IsUnread : {H : Type 0} → Shelved H → (name : List ℕ) → Type 0
 IsUnread h name = Rose (h.faults h.before name) (h.faults h.after name)
 
--- a call of the program: its words, the files, the streams of its run, and the error sink
+-- a call of the program: the rule of its policy, its words, the files, the streams of its run, and
+-- the error sink
 pub record Call (H I O E : Type 0) : Type 0 where
+  pub rule : SpillRule
   pub words : List (List ℕ)
   pub shelf : Shelved H
   pub streams : Streams I O
   pub err : Stream E
 
 abbrev pub call_of :
-    {H I O E : Type 0} → List (List ℕ) →
+    {H I O E : Type 0} → SpillRule → List (List ℕ) →
     Shelved H → Stream I → Stream O → Stream E → Call H I O E
-call_of words shelf input out err =
-    record { words = words; shelf = shelf; streams = streams_of input out; err = err }
+call_of rule words shelf input out err = record {
+  rule = rule;
+  words = words;
+  shelf = shelf;
+  streams = streams_of input out;
+  err = err;
+}
 
 -- A sink took the text that is due, whole, and this is the result; or a write failed, it took a
 -- front, and that is the result.

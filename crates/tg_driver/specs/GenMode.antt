@@ -6,6 +6,7 @@ use Rattle.tg_base.specs.InMemory.{PlainBytes}
 use Rattle.tg_base.specs.declared.ends.RunEnd.{RunEnd}
 use Rattle.tg_base.specs.declared.ends.RunEnd.TheVariants.{WriteFault}
 use Rattle.tg_isa.specs.declared.images.Image.{Image}
+use Rattle.tg_rounds.specs.Policies.{Rule as SpillRule}
 use Rattle.tg_generate.specs.Generated.{generated}
 use Rattle.tg_command.specs.Commands.{Asked}
 use Rattle.tg_driver.specs.declared.answers.Answer.{Answer}
@@ -60,20 +61,21 @@ pub record SumsUpRun {O : Type 0} (out : Stream O) (functions source : ℕ)
   pub sums_up : SumsUp out functions source answer image heap stack steps end
 
 -- and so did that of an assembly text that a source of so many functions is built to
-pub record SumsUpBuilt {O : Type 0} (out : Stream O) (functions : ℕ) (text : List ℕ)
-    (heap stack steps : ℕ) (answer : Answer) : Type 0 where
+pub record SumsUpBuilt {O : Type 0} (rule : SpillRule) (out : Stream O)
+    (functions : ℕ) (text : List ℕ) (heap stack steps : ℕ) (answer : Answer) : Type 0 where
   pub end : RunEnd
-  pub ends : EndsBuilt (SumsUp out functions (length text) answer) text heap stack steps end
+  pub ends : EndsBuilt rule (SumsUp out functions (length text) answer) text heap stack steps end
 
 -- what comes of a generated source
-abbrev pub IsGenerated : {O : Type 0} → Stream O → Asked → Answer → Type 0
-IsGenerated out asked answer =
-    SumsUpBuilt out asked.number (generated asked.number) asked.heap asked.stack asked.steps answer
+abbrev pub IsGenerated : {O : Type 0} → SpillRule → Stream O → Asked → Answer → Type 0
+IsGenerated rule out asked answer =
+    SumsUpBuilt rule out asked.number (generated asked.number)
+    asked.heap asked.stack asked.steps answer
 
-abbrev pub ByGen : {H I O : Type 0} → Shelved H → Streams I O → Asked → Answer → Type 0
-ByGen shelf s asked answer =
+abbrev pub ByGen : {H I O : Type 0} → SpillRule → Shelved H → Streams I O → Asked → Answer → Type 0
+ByGen rule shelf s asked answer =
     (shelf.after ≡ shelf.before) × Stays s.input × UntouchedBeforeStart s answer
-    × IsGenerated s.out asked answer
+    × IsGenerated rule s.out asked answer
 
 -- whatever the sink takes: an end of the run, or that the summary failed
 abbrev pub IsGenerable : Answer → Type 0

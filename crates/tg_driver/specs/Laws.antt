@@ -1,12 +1,13 @@
 -- What the answers to a call amount to.
 use Rattle.std.specs.Prelude.{ℕ, ◌≡◌, List, [], Option, Some}
 use Rattle.std.specs.Io.KnownBytes.{Appends}
+use Rattle.tg_rounds.specs.Policies.{Rule as SpillRule}
 use Rattle.tg_generate.specs.Generated.{generated}
 use Rattle.tg_command.specs.declared.modes.Mode.{Mode}
-use Rattle.tg_command.specs.declared.modes.Mode.TheVariants.{Check, Build, Run, Exec, Gen}
+use Rattle.tg_command.specs.declared.modes.Mode.TheVariants.{Check, Build, Run, Exec, Alloc, Gen}
 use Rattle.tg_command.specs.Commands.{Asked, Ask}
 use Rattle.tg_driver.specs.declared.answers.Answer.{Answer}
-use Rattle.tg_driver.specs.declared.answers.Answer.TheVariants.{Faulty, Built, Finished}
+use Rattle.tg_driver.specs.declared.answers.Answer.TheVariants.{Faulty, Written, Finished}
 use Rattle.tg_driver.specs.Calls.{HasFailed, Streams, Shelved, IsUnread, Call}
 use Rattle.tg_driver.specs.Sources.{IsFaultOf, IsSource}
 use Rattle.tg_driver.specs.Builds.{RunRelation, EndsBuilt}
@@ -53,30 +54,33 @@ abbrev pub EndsAsTold : Option (List ℕ) → RunRelation
 EndsAsTold told image heap stack steps end =
     (bytes : List ℕ) → told ≡ Some bytes → end ≡ end_in (outcome_on image heap stack steps bytes)
 
--- to a source: its first fault, or that it is built
-abbrev pub IsFaultyOrBuilt : List ℕ → Answer → Type 0
-IsFaultyOrBuilt text (Faulty fault) = IsFaultOf text fault
-IsFaultyOrBuilt text Built = IsSource text
-IsFaultyOrBuilt text _ = ⊥
+-- to a source: its first fault, or that a text of it was written
+abbrev pub IsFaultyOrWritten : List ℕ → Answer → Type 0
+IsFaultyOrWritten text (Faulty fault) = IsFaultOf text fault
+IsFaultyOrWritten text Written = IsSource text
+IsFaultyOrWritten text _ = ⊥
 
 -- the end of a run of what a generated source is built to, on an empty input
-abbrev pub EndsGenerated : Asked → Answer → Type 0
-EndsGenerated asked (Finished end) =
-    EndsBuilt (EndsAsTold (Some [])) (generated asked.number)
+abbrev pub EndsGenerated : SpillRule → Asked → Answer → Type 0
+EndsGenerated rule asked (Finished end) =
+    EndsBuilt rule (EndsAsTold (Some [])) (generated asked.number)
     asked.heap asked.stack asked.steps end
-EndsGenerated asked _ = ⊥
+EndsGenerated rule asked _ = ⊥
 
 -- what text and input settle where no read or write fails
-abbrev pub Settles : (told : Option (List ℕ)) → Mode → Asked → (text : List ℕ) → Answer → Type 0
-Settles told Check asked text answer = IsChecked text answer
-Settles told Build asked text answer = IsFaultyOrBuilt text answer
-Settles told Run asked text answer = IsRun (EndsAsTold told) asked text answer
-Settles told Exec asked text answer = IsExecuted (EndsAsTold told) asked text answer
-Settles told Gen asked text answer = EndsGenerated asked answer
+abbrev pub Settles :
+    SpillRule → (told : Option (List ℕ)) → Mode → Asked → (text : List ℕ) → Answer → Type 0
+Settles rule told Check asked text answer = IsChecked text answer
+Settles rule told Build asked text answer = IsFaultyOrWritten text answer
+Settles rule told Run asked text answer = IsRun rule (EndsAsTold told) asked text answer
+Settles rule told Exec asked text answer = IsExecuted (EndsAsTold told) asked text answer
+Settles rule told Alloc asked text answer = IsFaultyOrWritten text answer
+Settles rule told Gen asked text answer = EndsGenerated rule asked answer
 
 -- the status and the line are those of an answer that is so settled
 pub record IsSettled {H I O E : Type 0} (c : Call H I O E)
     (status : ℕ) (asked : Asked) (text : List ℕ) : Type 0 where
   pub answer : Answer
-  pub settled : Settles (c.streams.input.told c.streams.input.before) asked.mode asked text answer
+  pub settled :
+      Settles c.rule (c.streams.input.told c.streams.input.before) asked.mode asked text answer
   pub gives : Gives c status answer

@@ -5,9 +5,11 @@ pub mod OfFiles
 pub mod Builds
 pub mod Runs
 pub mod CheckMode
+pub mod Writing
 pub mod BuildMode
 pub mod RunMode
 pub mod ExecMode
+pub mod AllocMode
 pub mod GenMode
 pub mod Modes
 pub mod Answered

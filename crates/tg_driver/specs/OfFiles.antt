@@ -4,7 +4,7 @@ use Rattle.tg_base.specs.declared.outside.ShelfFault.{ShelfFault}
 use Rattle.tg_base.specs.declared.outside.ShelfFault.TheVariants.{Failed, Memory}
 use Rattle.tg_base.specs.Files.{IsFrontOf}
 use Rattle.tg_driver.specs.declared.answers.Answer.{Answer}
-use Rattle.tg_driver.specs.declared.answers.Answer.TheVariants.{Unreadable, OutOfMemory, Built}
+use Rattle.tg_driver.specs.declared.answers.Answer.TheVariants.{Unreadable, OutOfMemory, Written}
 use Rattle.tg_driver.specs.declared.answers.Answer.TheVariants.{Unwritten, Finished}
 use Rattle.tg_driver.specs.Calls.{Stream, Stays, Shelved, IsUnread, Streams, Untouched}
 
@@ -29,24 +29,23 @@ abbrev pub OrMemory : (wanting : Type 0) (due : Answer → Type 0) → Answer �
 OrMemory wanting due OutOfMemory = wanting
 OrMemory wanting due answer = due answer
 
--- The streams were touched: a run has ended, or an assembly text or a summary was written, whole or
--- in part.
+-- The streams were touched: a run has ended, or a text or a summary was written, whole or in part.
 abbrev pub HasStarted : Answer → Type 0
 HasStarted (Finished end) = Unit {0}
-HasStarted Built = Unit {0}
+HasStarted Written = Unit {0}
 HasStarted Unwritten = Unit {0}
 HasStarted answer = ⊥
 
 -- before that a sink is as it was
 abbrev pub StaysBeforeStart : {T : Type 0} → Stream T → Answer → Type 0
 StaysBeforeStart out (Finished end) = Unit {0}
-StaysBeforeStart out Built = Unit {0}
+StaysBeforeStart out Written = Unit {0}
 StaysBeforeStart out Unwritten = Unit {0}
 StaysBeforeStart out answer = Stays out
 
 -- and so are the streams
 abbrev pub UntouchedBeforeStart : {I O : Type 0} → Streams I O → Answer → Type 0
 UntouchedBeforeStart s (Finished end) = Unit {0}
-UntouchedBeforeStart s Built = Unit {0}
+UntouchedBeforeStart s Written = Unit {0}
 UntouchedBeforeStart s Unwritten = Unit {0}
 UntouchedBeforeStart s answer = Untouched s

@@ -4,6 +4,7 @@ use Rattle.tg_syntax.specs.declared.tokens.Spanned.{Spanned}
 use Rattle.tg_syntax.specs.LexicalFaults.{HasLexicalFault}
 use Rattle.tg_syntax.specs.Plain.{plain}
 use Rattle.tg_syntax.specs.Tree.{Exp}
+use Rattle.tg_rounds.specs.Policies.{Rule as SpillRule}
 use Rattle.tg_lexer.specs.declared.faults.LexFault.{LexFault}
 use Rattle.tg_lexer.specs.declared.faults.LexFault.TheVariants as lexed
 use Rattle.tg_parser.specs.Answers.{HasSyntaxFault}
@@ -66,7 +67,7 @@ abbrev pub IsParsed : List ℕ → Result NamedProgram Refusal → Type 0
 IsParsed text (Ok s) = HasNamedTree text s.names (plain s.program.body)
 IsParsed text (Err why) = IsRefusalOf text why
 
--- what compiling a text answers: what it is compiled to, or its first fault
-abbrev pub IsCompiled : List ℕ → Result Compiled Refusal → Type 0
-IsCompiled text (Ok c) = CompilesTo text c.allocations.items c.text.items
-IsCompiled text (Err why) = IsRefusalOf text why
+-- what compiling a text by the rule of a policy answers: what it is compiled to, or its first fault
+abbrev pub IsCompiled : SpillRule → List ℕ → Result Compiled Refusal → Type 0
+IsCompiled rule text (Ok c) = CompilesTo rule text c.allocations.items c.text.items
+IsCompiled rule text (Err why) = IsRefusalOf text why

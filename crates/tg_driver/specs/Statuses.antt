@@ -14,7 +14,7 @@ use Rattle.tg_driver.specs.declared.faults.Rule.TheVariants.{Lexical, Syntactic,
 use Rattle.tg_driver.specs.declared.faults.Fault.{Fault}
 use Rattle.tg_driver.specs.declared.answers.Answer.{Answer}
 use Rattle.tg_driver.specs.declared.answers.Answer.TheVariants.{Usage, Unreadable, Faulty, BadLine}
-use Rattle.tg_driver.specs.declared.answers.Answer.TheVariants.{TooLong, Accepted, Built, Unwritten}
+use Rattle.tg_driver.specs.declared.answers.Answer.TheVariants.{TooLong, Accepted, Written, Unwritten}
 use Rattle.tg_driver.specs.declared.answers.Answer.TheVariants.{OutOfMemory, Finished}
 use Rattle.tg_driver.specs.Endings.{ended, end_status, end_line}
 
@@ -26,7 +26,7 @@ status_of TooLong = 65
 status_of Unreadable = 66
 status_of OutOfMemory = 70
 status_of Accepted = 0
-status_of Built = 0
+status_of Written = 0
 status_of Unwritten = 74
 status_of (Finished end) = end_status end
 
@@ -90,7 +90,7 @@ fault_text fault =
 abbrev pub bad_line_text : AsmRule → (line : ℕ) → List ℕ
 bad_line_text rule line = codes "line " ++ (decimal line ++ (codes ": " ++ asm_text rule))
 
--- each line is ended by byte 10; an exit, an accepted source and a built one have none
+-- each line is ended by byte 10; an exit, an accepted source and a text that was written have none
 abbrev pub line_of : Answer → List ℕ
 line_of Usage =
     ended (codes "usage: tiger MODE FILE [--heap BYTES] [--stack BYTES] [--steps COUNT]")
@@ -100,6 +100,6 @@ line_of TooLong = ended (codes "line 1: A10 file too long")
 line_of Unreadable = ended (codes "cannot read file")
 line_of OutOfMemory = ended (codes "out of memory")
 line_of Accepted = []
-line_of Built = []
+line_of Written = []
 line_of Unwritten = ended (codes "read or write failed")
 line_of (Finished end) = end_line end

@@ -1,7 +1,7 @@
 -- How an answer is reported.
 use Rattle.std.specs.Prelude.{ℕ}
 use Rattle.tg_driver.specs.declared.answers.Answer.{Answer}
-use Rattle.tg_driver.specs.declared.answers.Answer.TheVariants.{Faulty, BadLine, Built, Unwritten}
+use Rattle.tg_driver.specs.declared.answers.Answer.TheVariants.{Faulty, BadLine, Written, Unwritten}
 use Rattle.tg_driver.specs.declared.answers.Answer.TheVariants.{Finished, OutOfMemory}
 use Rattle.tg_driver.specs.Calls.{Stream, Takes}
 use Rattle.tg_driver.specs.Statuses.{line_of, status_of}
@@ -13,10 +13,10 @@ IsFixed (BadLine rule line) = ⊥
 IsFixed (Finished end) = ⊥
 IsFixed answer = Unit {0}
 
--- nothing has run, and no assembly text was written
+-- nothing has run, and no text was written
 abbrev pub IsBeforeStart : Answer → Type 0
 IsBeforeStart (Finished end) = ⊥
-IsBeforeStart Built = ⊥
+IsBeforeStart Written = ⊥
 IsBeforeStart Unwritten = ⊥
 IsBeforeStart answer = Unit {0}
 

@@ -25,8 +25,8 @@ pub(crate) enum Answer {
     OutOfMemory,
     /// The source has no fault.
     Accepted,
-    /// The output took the assembly text of the source.
-    Built,
+    /// The output took the text of the source that was due.
+    Written,
     /// A write of what is due on the output failed.
     Unwritten,
     /// The machine ended so.
@@ -41,7 +41,7 @@ pub fn usage() -> &'static str
 }
 
 /// The line on the error sink of an answer whose line is a text of its own; an accepted source
-/// and a built one have none.
+/// and a text that was written have none.
 pub(crate) fn line(answer: Answer) -> &'static str
     requires { IsFixed answer }
     ensures { result.now ≡ line_of answer }
@@ -52,7 +52,7 @@ pub(crate) fn line(answer: Answer) -> &'static str
         Answer::Unreadable => "tiger: cannot read file\n",
         Answer::OutOfMemory => "tiger: out of memory\n",
         Answer::Unwritten => "tiger: read or write failed\n",
-        Answer::Accepted | Answer::Built => "",
+        Answer::Accepted | Answer::Written => "",
         Answer::Faulty(_) | Answer::BadLine(_, _) | Answer::Finished(_) => unreachable!(),
     }
 }
@@ -77,7 +77,7 @@ pub(crate) fn status(answer: Answer) -> u8
         Answer::Unreadable => 66,
         Answer::OutOfMemory => 70,
         Answer::Unwritten => 74,
-        Answer::Accepted | Answer::Built => 0,
+        Answer::Accepted | Answer::Written => 0,
         Answer::Finished(end) => end_status(end),
     }
 }

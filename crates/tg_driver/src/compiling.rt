@@ -1,4 +1,4 @@
-ghost use Rattle.std.specs.Prelude.{ℕ, List};
+ghost use Rattle.std.specs.Prelude.{◌≡◌, ℕ, List};
 ghost use Rattle.tg_syntax.specs.Plain.{plain};
 ghost use Rattle.tg_driver.specs.Readings.{HasNamedTree, IsCompiled};
 
@@ -6,29 +6,41 @@ use crate::reading::{NamedProgram, ill_typed, parse_source};
 use crate::refusals::Refusal;
 use std::alloc::Global;
 use tg_compile::{Compiled, compile_checked};
+use tg_rounds::SpillPolicy;
 use tg_types::check;
 
-/// Compiles a source: the code of its functions and its assembly text.
+/// Compiles a source: the code of its functions and its assembly text. The policy is asked what to
+/// spill in each function in turn.
 ///
 /// It is refused by its first fault exactly where it has one; `Memory` may come in place of any
-/// answer.
-pub fn compile(alloc: Global, text: &[u8]) -> Result<Compiled, Refusal>
-    ensures { IsCompiled text.now result }
+/// answer, and the policy may have been asked then.
+pub fn compile(
+    alloc: Global,
+    text: &[u8],
+    policy: &mut dyn SpillPolicy,
+) -> Result<Compiled, Refusal>
+    ensures compiled { IsCompiled (rule policy.old) text.now result }
+    ensures same { rule policy.new ≡ rule policy.old }
 {
     let source = parse_source(alloc, text)?;
-    compile_program(alloc, &source)
+    compile_program(alloc, &source, policy)
 }
 
 /// Types the tree of a source and compiles it.
-fn compile_program(alloc: Global, source: &NamedProgram) -> Result<Compiled, Refusal>
+fn compile_program(
+    alloc: Global,
+    source: &NamedProgram,
+    policy: &mut dyn SpillPolicy,
+) -> Result<Compiled, Refusal>
     requires { (text : List ℕ)
         × HasNamedTree text source.now.names (plain source.now.program.body) }
-    ensures { (text : List ℕ)
+    ensures compiled { (text : List ℕ)
         → HasNamedTree text source.now.names (plain source.now.program.body)
-        → IsCompiled text result }
+        → IsCompiled (rule policy.old) text result }
+    ensures same { rule policy.new ≡ rule policy.old }
 {
     match check(alloc, &source.program, &source.names) {
-        Ok(checked) => Ok(compile_checked(alloc, &checked)?),
+        Ok(checked) => Ok(compile_checked(alloc, &checked, policy)?),
         Err(fault) => Err(ill_typed(fault)),
     }
 }

@@ -28,30 +28,43 @@ use tg_command::Command;
 use tg_generate::generate;
 use tg_isa::Image;
 use tg_machine::{Machine, load};
+use tg_rounds::SpillPolicy;
 
 /// The answer of the mode `gen`: generates a source, compiles it, runs it on an empty input, and
 /// writes the summary line.
-pub(crate) fn answer_gen<O: Sink>(alloc: Global, command: &Command, out: &mut O) -> Answer
+pub(crate) fn answer_gen<O: Sink>(
+    alloc: Global,
+    command: &Command,
+    out: &mut O,
+    policy: &mut dyn SpillPolicy,
+) -> Answer
     requires limits { KeepsLimits (asked_of command.now) }
     requires number { IsWithin function_limits command.now.number }
-    ensures due { OrMemory ⊤ (IsGenerated (stream_of O.taken O.faults out.old out.new)
-        (asked_of command.now)) result }
+    ensures due { OrMemory ⊤ (IsGenerated (rule policy.old)
+        (stream_of O.taken O.faults out.old out.new) (asked_of command.now)) result }
     ensures before_start { StaysBeforeStart (stream_of O.taken O.faults out.old out.new) result }
 {
     match generate(alloc, command.number) {
-        Ok(text) => run_generated(alloc, command, &text, out),
+        Ok(text) => run_generated(alloc, command, &text, out, policy),
         Err(_) => Answer::OutOfMemory,
     }
 }
 
 /// The answer of a generated source. A refusal of it is told as want of memory.
-fn run_generated<O: Sink>(alloc: Global, command: &Command, text: &[u8], out: &mut O) -> Answer
+fn run_generated<O: Sink>(
+    alloc: Global,
+    command: &Command,
+    text: &[u8],
+    out: &mut O,
+    policy: &mut dyn SpillPolicy,
+) -> Answer
     requires { KeepsLimits (asked_of command.now) }
-    ensures due { OrMemory ⊤ (SumsUpBuilt (stream_of O.taken O.faults out.old out.new)
+    ensures due { OrMemory ⊤ (SumsUpBuilt (rule policy.old)
+        (stream_of O.taken O.faults out.old out.new)
         command.now.number text.now command.now.heap command.now.stack command.now.steps) result }
     ensures before_start { StaysBeforeStart (stream_of O.taken O.faults out.old out.new) result }
 {
-    match compile(alloc, text) {
+    match compile(alloc, text, policy) {
         Ok(compiled) => match image_of(alloc, &compiled.text) {
             Ok(image) => execute_generated(alloc, command, &image, text.len(), out),
             Err(_) => Answer::OutOfMemory,

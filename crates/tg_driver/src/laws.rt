@@ -1,6 +1,7 @@
 ghost use Rattle.std.specs.Prelude.{◌≡◌, ◌⊎◌, ℕ, List, take};
 ghost use Rattle.tg_base.specs.declared.ends.RunEnd.{RunEnd};
 ghost use Rattle.tg_isa.specs.declared.images.Image.{Image};
+ghost use Rattle.tg_rounds.specs.Policies.{Rule as SpillRule};
 ghost use Rattle.tg_command.specs.Commands.{Asked};
 ghost use Rattle.tg_driver.specs.declared.answers.Answer.{Answer};
 ghost use Rattle.tg_driver.specs.declared.answers.Answer.TheVariants.{OutOfMemory};
@@ -15,11 +16,13 @@ ghost use Rattle.tg_driver.specs.Runs.{HasRun, IsExact};
 
 /// The law that a command has at most one answer for a text, but where the streams were touched: an
 /// end of a run, which the input decides too, or whether the output took what was written. So each
-/// refusal comes exactly where its cause stands, or want of memory. It does nothing.
+/// refusal comes exactly where its cause stands, whatever the policies, or want of memory. It does
+/// nothing.
 pub fn one_answer<I, O>()
-    ensures { (s : Streams I O) (asked : Asked) (text : List ℕ) (a b : Answer)
-        → IsDueOfText (HasRun s) asked.mode asked text a
-        → IsDueOfText (HasRun s) asked.mode asked text b
+    ensures { (rule other : SpillRule) (s : Streams I O) (asked : Asked) (text : List ℕ)
+        (a b : Answer)
+        → IsDueOfText rule (HasRun s) asked.mode asked text a
+        → IsDueOfText other (HasRun s) asked.mode asked text b
         → (a ≡ b) ⊎ (HasStarted a × HasStarted b) }
 {}
 

@@ -1,6 +1,6 @@
 //! The passes joined together, and the top call `tiger`, which reads the words of a command and
-//! answers a status. Promises every answer with its cause, and that the status of a run is that of
-//! the machine.
+//! answers a status. Promises every answer with its cause, by the rule of the policy that it is
+//! handed, and that the status of a run is that of the machine.
 #![tactic(auto)]
 
 mod answers;
@@ -13,12 +13,15 @@ mod faults;
 mod generating;
 mod images;
 mod laws;
+mod listing;
 mod reading;
 mod refusals;
 mod running;
 mod streams;
 mod telling;
+mod tools;
 mod top;
+mod writing;
 
 pub use answers::usage;
 pub use compiling::compile;
@@ -28,4 +31,5 @@ pub use laws::{
 pub use refusals::Refusal;
 pub use tg_compile::Compiled;
 pub use tg_generate::generate;
+pub use tools::Tools;
 pub use top::tiger;

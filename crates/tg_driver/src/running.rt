@@ -16,6 +16,7 @@ use crate::streams::Streams;
 use std::alloc::Global;
 use tg_base::{Shelf, Sink, Source};
 use tg_command::Command;
+use tg_rounds::SpillPolicy;
 
 /// The answer of the mode `run`.
 pub(crate) fn answer_run<H: Shelf, I: Source, O: Sink>(
@@ -23,11 +24,12 @@ pub(crate) fn answer_run<H: Shelf, I: Source, O: Sink>(
     command: &Command,
     shelf: &mut H,
     streams: Streams<I, O>,
+    policy: &mut dyn SpillPolicy,
 ) -> Answer
     requires { KeepsLimits (asked_of command.now) }
     ensures due { OrMemory ⊤ (OfFile (shelf_of H.files H.faults shelf.old shelf.new)
         (asked_of command.now).file 262145
-        (IsRun (HasRun (streams_of
+        (IsRun (rule policy.old) (HasRun (streams_of
         (stream_of I.left I.faults streams.entry.input.now streams.exit.0.now)
         (stream_of O.taken O.faults streams.entry.out.now streams.exit.1.0.now)))
         (asked_of command.now))) result }
@@ -37,7 +39,7 @@ pub(crate) fn answer_run<H: Shelf, I: Source, O: Sink>(
     ensures files { H.files shelf.new ≡ H.files shelf.old }
 {
     match shelf.read_file(alloc, command.file.as_str(), LONGEST + 1) {
-        Ok(text) => run_text(alloc, command, &text, streams),
+        Ok(text) => run_text(alloc, command, &text, streams, policy),
         Err(fault) => unread(fault),
     }
 }
@@ -48,9 +50,10 @@ fn run_text<I: Source, O: Sink>(
     command: &Command,
     text: &[u8],
     streams: Streams<I, O>,
+    policy: &mut dyn SpillPolicy,
 ) -> Answer
     requires { KeepsLimits (asked_of command.now) }
-    ensures due { OrMemory ⊤ (IsRun (HasRun (streams_of
+    ensures due { OrMemory ⊤ (IsRun (rule policy.old) (HasRun (streams_of
         (stream_of I.left I.faults streams.entry.input.now streams.exit.0.now)
         (stream_of O.taken O.faults streams.entry.out.now streams.exit.1.0.now)))
         (asked_of command.now) text.now) result }
@@ -58,7 +61,7 @@ fn run_text<I: Source, O: Sink>(
         (stream_of I.left I.faults streams.entry.input.now streams.exit.0.now)
         (stream_of O.taken O.faults streams.entry.out.now streams.exit.1.0.now)) result }
 {
-    match compile(alloc, text) {
+    match compile(alloc, text, policy) {
         Ok(compiled) => run_assembly(alloc, command, &compiled.text, streams),
         Err(refusal) => refused(text, refusal),
     }

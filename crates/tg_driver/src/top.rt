@@ -3,6 +3,7 @@ ghost use Rattle.tg_command.specs.Counts.{IsWithin, function_limits};
 ghost use Rattle.tg_command.specs.Commands.{KeepsLimits, asked_of};
 ghost use Rattle.tg_driver.specs.Answered.{Answers, IsDue};
 ghost use Rattle.tg_driver.specs.Calls.{Untouched, call_of, shelf_of, stream_of, streams_of};
+ghost use Rattle.tg_driver.specs.AllocMode.{IsListed};
 ghost use Rattle.tg_driver.specs.BuildMode.{IsBuilt};
 ghost use Rattle.tg_driver.specs.GenMode.{IsGenerated};
 ghost use Rattle.tg_driver.specs.Modes.{InMode};
@@ -13,14 +14,18 @@ use crate::building::answer_build;
 use crate::checking::answer_check;
 use crate::executing::answer_exec;
 use crate::generating::answer_gen;
+use crate::listing::answer_alloc;
 use crate::running::answer_run;
 use crate::streams::Streams;
 use crate::telling::report;
+use crate::tools::Tools;
 use std::alloc::Global;
 use tg_base::{Shelf, Sink, Source};
 use tg_command::{Command, CommandFault, Mode, read_words};
+use tg_rounds::SpillPolicy;
 
-/// The program: reads the words of a command, does what they ask, and answers the exit status.
+/// The program: reads the words of a command, does what they ask, and answers the exit status. What
+/// it compiles is compiled by the policy of the tools, which is dropped at the end.
 pub fn tiger<H: Shelf, I: Source, O: Sink, E: Sink>(
     alloc: Global,
     words: &[String],
@@ -28,8 +33,9 @@ pub fn tiger<H: Shelf, I: Source, O: Sink, E: Sink>(
     input: &mut I,
     out: &mut O,
     err: &mut E,
+    tools: Tools,
 ) -> u8
-    ensures answers { Answers (call_of (map string_bytes words.now)
+    ensures answers { Answers (call_of (rule tools.policy) (map string_bytes words.now)
         (shelf_of H.files H.faults shelf.old shelf.new)
         (stream_of I.left I.faults input.old input.new)
         (stream_of O.taken O.faults out.old out.new)
@@ -37,7 +43,9 @@ pub fn tiger<H: Shelf, I: Source, O: Sink, E: Sink>(
     ensures files { H.files shelf.new ≡ H.files shelf.old }
     ensures err_later { E.faults err.old ≤ E.faults err.new }
 {
-    let answer = answer_words(alloc, words, shelf, Streams { input, out });
+    let mut tools = tools;
+    let streams = Streams { input, out };
+    let answer = answer_words(alloc, words, shelf, streams, &mut *tools.policy);
     report(alloc, err, answer)
 }
 
@@ -47,8 +55,9 @@ fn answer_words<H: Shelf, I: Source, O: Sink>(
     words: &[String],
     shelf: &mut H,
     streams: Streams<I, O>,
+    policy: &mut dyn SpillPolicy,
 ) -> Answer
-    ensures due { IsDue (map string_bytes words.now)
+    ensures due { IsDue (rule policy.old) (map string_bytes words.now)
         (shelf_of H.files H.faults shelf.old shelf.new)
         (streams_of
         (stream_of I.left I.faults streams.entry.input.now streams.exit.0.now)
@@ -57,7 +66,7 @@ fn answer_words<H: Shelf, I: Source, O: Sink>(
     ensures files { H.files shelf.new ≡ H.files shelf.old }
 {
     match read_words(alloc, words) {
-        Ok(command) => answer_command(alloc, &command, shelf, streams),
+        Ok(command) => answer_command(alloc, &command, shelf, streams, policy),
         Err(CommandFault::Usage) => Answer::Usage,
         Err(CommandFault::Memory) => Answer::OutOfMemory,
     }
@@ -69,12 +78,13 @@ fn answer_command<H: Shelf, I: Source, O: Sink>(
     command: &Command,
     shelf: &mut H,
     streams: Streams<I, O>,
+    policy: &mut dyn SpillPolicy,
 ) -> Answer
     requires { KeepsLimits (asked_of command.now) }
     ensures due { let left_alone = Untouched (streams_of
         (stream_of I.left I.faults streams.entry.input.now streams.exit.0.now)
         (stream_of O.taken O.faults streams.entry.out.now streams.exit.1.0.now)) in
-        OrMemory left_alone (InMode command.now.mode
+        OrMemory left_alone (InMode (rule policy.old) command.now.mode
         (shelf_of H.files H.faults shelf.old shelf.new)
         (streams_of
         (stream_of I.left I.faults streams.entry.input.now streams.exit.0.now)
@@ -84,10 +94,11 @@ fn answer_command<H: Shelf, I: Source, O: Sink>(
 {
     match command.mode {
         Mode::Check => answer_check(alloc, command, shelf),
-        Mode::Build => build_to(alloc, command, shelf, streams),
-        Mode::Run => answer_run(alloc, command, shelf, streams),
+        Mode::Build => build_to(alloc, command, shelf, streams, policy),
+        Mode::Run => answer_run(alloc, command, shelf, streams, policy),
         Mode::Exec => answer_exec(alloc, command, shelf, streams),
-        Mode::Gen => generate_to(alloc, command, streams),
+        Mode::Alloc => list_to(alloc, command, shelf, streams, policy),
+        Mode::Gen => generate_to(alloc, command, streams, policy),
     }
 }
 
@@ -97,17 +108,40 @@ fn build_to<H: Shelf, I: Source, O: Sink>(
     command: &Command,
     shelf: &mut H,
     streams: Streams<I, O>,
+    policy: &mut dyn SpillPolicy,
 ) -> Answer
     ensures due { OrMemory ⊤ (OfFile (shelf_of H.files H.faults shelf.old shelf.new)
         (asked_of command.now).file 262145
-        (IsBuilt (stream_of O.taken O.faults streams.entry.out.now streams.exit.1.0.now))) result }
+        (IsBuilt (rule policy.old)
+        (stream_of O.taken O.faults streams.entry.out.now streams.exit.1.0.now))) result }
     ensures before_start { StaysBeforeStart
         (stream_of O.taken O.faults streams.entry.out.now streams.exit.1.0.now) result }
     ensures unread { streams.exit.0.now ≡ streams.entry.input.now }
     ensures files { H.files shelf.new ≡ H.files shelf.old }
 {
     let Streams { input: _, out } = streams;
-    answer_build(alloc, command, shelf, out)
+    answer_build(alloc, command, shelf, out, policy)
+}
+
+/// The answer of the mode `alloc`, which writes to the output alone.
+fn list_to<H: Shelf, I: Source, O: Sink>(
+    alloc: Global,
+    command: &Command,
+    shelf: &mut H,
+    streams: Streams<I, O>,
+    policy: &mut dyn SpillPolicy,
+) -> Answer
+    ensures due { OrMemory ⊤ (OfFile (shelf_of H.files H.faults shelf.old shelf.new)
+        (asked_of command.now).file 262145
+        (IsListed (rule policy.old)
+        (stream_of O.taken O.faults streams.entry.out.now streams.exit.1.0.now))) result }
+    ensures before_start { StaysBeforeStart
+        (stream_of O.taken O.faults streams.entry.out.now streams.exit.1.0.now) result }
+    ensures unread { streams.exit.0.now ≡ streams.entry.input.now }
+    ensures files { H.files shelf.new ≡ H.files shelf.old }
+{
+    let Streams { input: _, out } = streams;
+    answer_alloc(alloc, command, shelf, out, policy)
 }
 
 /// The answer of the mode `gen`, which writes to the output alone.
@@ -115,10 +149,11 @@ fn generate_to<I: Source, O: Sink>(
     alloc: Global,
     command: &Command,
     streams: Streams<I, O>,
+    policy: &mut dyn SpillPolicy,
 ) -> Answer
     requires limits { KeepsLimits (asked_of command.now) }
     requires number { IsWithin function_limits command.now.number }
-    ensures due { OrMemory ⊤ (IsGenerated
+    ensures due { OrMemory ⊤ (IsGenerated (rule policy.old)
         (stream_of O.taken O.faults streams.entry.out.now streams.exit.1.0.now)
         (asked_of command.now)) result }
     ensures before_start { StaysBeforeStart
@@ -126,5 +161,5 @@ fn generate_to<I: Source, O: Sink>(
     ensures unread { streams.exit.0.now ≡ streams.entry.input.now }
 {
     let Streams { input: _, out } = streams;
-    answer_gen(alloc, command, out)
+    answer_gen(alloc, command, out, policy)
 }

@@ -9,9 +9,12 @@ pub mod Classes
 pub mod GreedyColouring
 pub mod NoSpill
 pub mod Answering
+pub mod AmongNodes
 pub mod Standing
 pub mod Explaining
 pub mod Selecting
+pub mod Within
+pub mod Bare
 pub mod ProperColouring
 pub mod Shrinking
 pub mod Running

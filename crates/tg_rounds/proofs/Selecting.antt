@@ -20,7 +20,7 @@ use Rattle.tg_rounds.proofs.Explaining.{same_to_end}
 use Rattle.tg_rounds.proofs.NoSpill.{none_spilled}
 
 -- Searches among the numbers from one on.
-any_is : (p q : Set) (a n : ℕ) → list_any p (filter q (range_with_len a n)) ≡ true → (y : ℕ) × (y < a + n) ×
+pub any_is : (p q : Set) (a n : ℕ) → list_any p (filter q (range_with_len a n)) ≡ true → (y : ℕ) × (y < a + n) ×
     (q y ≡ true) × (p y ≡ true)
 any_is p q a zero h = cc
 any_is p q a (suc n) h = by (tells (q a)) (any_is p q (a + 1) n)

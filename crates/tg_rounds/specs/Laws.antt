@@ -1,7 +1,7 @@
 -- What holds of every round beside its steps (George and Appel 1996, section 4): a greedily
 -- colourable graph loses nothing to memory, a move whose ends have two colours had to stay, nodes
 -- that interfere have two colours, and a round ends.
-use Rattle.std.specs.Prelude.{◌≡◌, ◌≢◌, ◌+◌, ◌<◌, ◌⊎◌, ℕ, nat_lt, ◌==◌}
+use Rattle.std.specs.Prelude.{◌≡◌, ◌≢◌, ◌+◌, ◌<◌, ◌≤◌, ◌⊎◌, ℕ, nat_lt, ◌==◌}
 use Rattle.std.specs.Prelude.{Bool, true, false, IsTrue, IsFalse, List, [], ◌∷◌, ◌++◌, length, All}
 use Rattle.std.specs.Prelude.{Some, slice_get}
 use Rattle.std.specs.List.{list_any}
@@ -10,7 +10,8 @@ use Rattle.tg_rounds.specs.declared.moves.MoveState.TheVariants.{Constrained, Fr
 use Rattle.tg_rounds.specs.declared.steps.Step.{Step}
 use Rattle.tg_rounds.specs.declared.steps.Step.TheVariants.{Simplify, Freeze, Spill}
 use Rattle.tg_rounds.specs.declared.rounds.Round.{Round}
-use Rattle.tg_rounds.specs.Graphs.{count, IsGraph, IsGreedilyColourable, is_register}
+use Rattle.tg_rounds.specs.Graphs.{count, colour_count, IsGraph, IsGreedilyColourable}
+use Rattle.tg_rounds.specs.Graphs.{is_register}
 use Rattle.tg_rounds.specs.States.{Problem, RoundState, start, remains, is_unsettled, to, from}
 use Rattle.tg_rounds.specs.States.{mark_at}
 use Rattle.tg_rounds.specs.States.{all_made}
@@ -258,3 +259,19 @@ PairsAreOfClasses =
     AreNodes g →
     AreTaken g (start g) steps →
     IsOfClasses g (after_all g (start g) steps)
+
+-- Answers.
+
+-- the node is that of a temporary
+abbrev pub IsTemporary : Problem → ℕ → Type 0
+IsTemporary g x = (colour_count ≤ x) × (x < g.graph.nodes)
+
+-- what a round answers of nodes, and which nodes it answers
+pub record IsOfNodes (g : Problem) (round : Round) : Type 0 where
+  pub each_alias : length round.aliases ≡ g.graph.nodes
+  pub each_colour : length round.colours ≡ g.graph.nodes
+  pub aliases : All (λ x. x < g.graph.nodes) round.aliases
+  pub spilled : All (IsTemporary g) round.spilled
+
+abbrev pub RoundsAreOfNodes : Type 0
+RoundsAreOfNodes = (g : Problem) (round : Round) → AreNodes g → IsRound g round → IsOfNodes g round

@@ -5,5 +5,6 @@ pub mod Steps
 pub mod Selection
 pub mod Rounds
 pub mod Laws
+pub mod Classes
 pub mod Waiting
 pub mod Degrees

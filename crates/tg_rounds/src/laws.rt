@@ -16,6 +16,15 @@ ghost use Rattle.tg_rounds.specs.Laws.{
   StepsKeepStanding,
   StandsByMark,
   PairsAreOfClasses,
+  RoundsAreOfNodes,
+};
+ghost use Rattle.tg_rounds.specs.Classes.{
+  ClassesStayWithin,
+  UntouchedStandAlone,
+  OneNeighbourIsJoined,
+  BareAreFirstColoured,
+  SpilledNameClasses,
+  RegistersStandAbove,
 };
 ghost use Rattle.tg_rounds.specs.Degrees.{TakenOutIsLess, MergedIsLess, MergedIsMore};
 ghost use Rattle.tg_rounds.specs.Waiting.{WaitingFails, WokenAreDisturbed};
@@ -76,4 +85,27 @@ pub fn pairs_are_of_classes()
 pub fn waiting_fails()
     ensures fails { WaitingFails }
     ensures woken { WokenAreDisturbed }
+{}
+
+/// The law that a round answers an alias and a colour of each node, and that the aliases are nodes
+/// and what is spilled are nodes of temporaries.
+pub fn rounds_are_of_nodes()
+    ensures { RoundsAreOfNodes }
+{}
+
+/// The laws of which nodes come into one class: a class stays within a set of nodes that no move
+/// leads out of, so a node without moves stands alone, and one whose moves all lead to one other
+/// stands alone or with that. A register's class stands under the register.
+pub fn classes_follow_moves()
+    ensures within { ClassesStayWithin }
+    ensures untouched { UntouchedStandAlone }
+    ensures joined { OneNeighbourIsJoined }
+    ensures registers { RegistersStandAbove }
+{}
+
+/// The laws of what is spilled: no temporary without moves and without pairs, which gets the first
+/// colour; and each class that is spilled is named once.
+pub fn spilled_are_classes()
+    ensures bare { BareAreFirstColoured }
+    ensures named { SpilledNameClasses }
 {}

@@ -12,8 +12,9 @@ mod steps;
 
 pub use candidates::{Candidate, Mark};
 pub use laws::{
-    colourable_never_spills, colours_are_proper, degrees_change, moves_are_explained,
-    pairs_are_of_classes, states_are_sound, steps_are_taken, waiting_fails,
+    classes_follow_moves, colourable_never_spills, colours_are_proper, degrees_change,
+    moves_are_explained, pairs_are_of_classes, rounds_are_of_nodes, spilled_are_classes,
+    states_are_sound, steps_are_taken, waiting_fails,
 };
 pub use moves::{Move, MoveState};
 pub use policies::{LeastUse, SpillPolicy};

@@ -3,15 +3,15 @@ use std::collections::BTreeMap;
 use std::process::Abort;
 use std::test::Fail;
 use tg_base::{ListSource, MapShelf, RoomSink};
-use tg_driver::tiger;
+use tg_driver::{Tools, tiger};
+use tg_rounds::{LeastUse, SpillPolicy};
 
-/// What a call is made on: the text of the one file FILE, the room of the output, and the calls
-/// that fail.
-///
-/// The input is `xyz`.
+/// What a call is made on: the text of the one file FILE, the input, the room of the output, and
+/// the calls that fail.
 #[derive(Clone, Copy)]
 pub(crate) struct Outside<'a> {
     pub(crate) text: &'a [u8],
+    pub(crate) input: &'a [u8],
     pub(crate) room: usize,
     pub(crate) shelf_fails: &'a [u64],
     pub(crate) read_fails: &'a [u64],
@@ -20,10 +20,11 @@ pub(crate) struct Outside<'a> {
 }
 
 impl<'a> Outside<'a> {
-    /// Nothing fails, and the output has a room of 64 bytes.
+    /// Nothing fails, the input is `xyz`, and the output has a room of 64 bytes.
     pub(crate) fn of(text: &'a [u8]) -> Outside<'a> {
         Outside {
             text,
+            input: b"xyz",
             room: 64,
             shelf_fails: &[],
             read_fails: &[],
@@ -63,8 +64,18 @@ fn sink(alloc: Global, room: usize, fails: &[u64]) -> Result<RoomSink, Fail> {
     }
 }
 
-/// The program on the words of a line.
+/// The program on the words of a line, with the policy `LeastUse`.
 pub(crate) fn call(alloc: Global, line: &str, outside: Outside) -> Result<Seen, Fail> {
+    call_with(alloc, line, outside, Box::new(alloc, LeastUse)?)
+}
+
+/// The program on the words of a line, with a policy.
+pub(crate) fn call_with(
+    alloc: Global,
+    line: &str,
+    outside: Outside,
+    policy: Box<dyn SpillPolicy>,
+) -> Result<Seen, Fail> {
     let mut files = BTreeMap::new(alloc);
     files.insert(
         String::from_str(alloc, "FILE")?,
@@ -72,13 +83,21 @@ pub(crate) fn call(alloc: Global, line: &str, outside: Outside) -> Result<Seen, 
     )?;
     let mut shelf = MapShelf::new(files, outside.shelf_fails.to_vec(alloc)?);
     let mut input = ListSource::new(
-        b"xyz".as_slice().to_vec(alloc)?,
+        outside.input.to_vec(alloc)?,
         outside.read_fails.to_vec(alloc)?,
     );
     let mut out = sink(alloc, outside.room, outside.write_fails)?;
     let mut err = sink(alloc, 128, outside.err_fails)?;
     let words = words_of(alloc, line)?;
-    let status = tiger(alloc, &words, &mut shelf, &mut input, &mut out, &mut err);
+    let status = tiger(
+        alloc,
+        &words,
+        &mut shelf,
+        &mut input,
+        &mut out,
+        &mut err,
+        Tools { policy },
+    );
     Ok(Seen {
         status,
         error: err.taken().to_vec(alloc)?,

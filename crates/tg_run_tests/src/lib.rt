@@ -12,6 +12,8 @@ mod languages;
 #[cfg(test)]
 mod large;
 #[cfg(test)]
+mod policies;
+#[cfg(test)]
 mod programs;
 #[cfg(test)]
 mod runs;

@@ -96,7 +96,7 @@ static REFUSED: [&str; 85] = [
 
 // A status, a blank, and a command line that has it, where FILE holds `exit(7)` and the output takes
 // 64 bytes.
-static LINES: [&str; 35] = [
+static LINES: [&str; 37] = [
     "7 tiger|run|FILE",
     "7 |run|FILE",
     "0 tiger|check|FILE",
@@ -122,6 +122,8 @@ static LINES: [&str; 35] = [
     "0 tiger|check|FILE|--steps|1",
     "74 tiger|build|FILE|--steps|1",
     "66 tiger|build|MISSING",
+    "74 tiger|alloc|FILE|--steps|1",
+    "66 tiger|alloc|MISSING",
     "0 tiger|check|FILE|--heap|4|--stack|65536",
     "0 tiger|--steps|1|check|FILE",
     "66 tiger|run|MISSING",
@@ -136,11 +138,12 @@ static LINES: [&str; 35] = [
 
 // The mode, the heap, the stack, the steps and the file that a command line asks for, with blanks
 // between them, a `|`, and the line.
-static TAKEN: [&str; 24] = [
+static TAKEN: [&str; 25] = [
     "run 16777216 67108864 1000000000 a.tig|tiger|run|a.tig",
     "check 16777216 67108864 1000000000 a.tig|tiger|check|a.tig",
     "exec 16777216 67108864 10 a.s|tiger|exec|a.s|--steps|10",
     "build 16777216 67108864 1000000000 a|tiger|build|a",
+    "alloc 16777216 67108864 1000000000 a|tiger|alloc|a",
     "gen 16777216 67108864 1000000000 0017|tiger|gen|0017",
     "gen 16777216 67108864 1000000000 1000|tiger|gen|1000",
     "run 16777216 67108864 1000000000 a.s|tiger|run|a.s",
@@ -199,6 +202,7 @@ fn told(alloc: Global, command: &Command) -> Result<String, AllocError> {
         Mode::Build => "build",
         Mode::Run => "run",
         Mode::Exec => "exec",
+        Mode::Alloc => "alloc",
         Mode::Gen => "gen",
     };
     let file = command.file.as_str();

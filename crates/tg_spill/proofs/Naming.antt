@@ -1,5 +1,5 @@
 -- What an instruction names is among what it uses and defines.
-use Rattle.std.proofs.Common.{ℕ, ◌≡◌, ◌≢◌, refl}
+use Rattle.std.proofs.Common.{ℕ, ◌≡◌, ◌≢◌, refl, ap, ◌∙◌}
 use Rattle.std.specs.Prelude.{IsTrue}
 use Rattle.tg_tree.specs.declared.operators.Rel.{Rel}
 use Rattle.tg_tree.specs.declared.operators.Rel.TheVariants.{Equal, NotEqual, Less, LessEqual, Greater, GreaterEqual, Below, NotBelow}
@@ -8,11 +8,12 @@ use Rattle.tg_instr.specs.declared.operands.Opnd.TheVariants.{Temp, Reg}
 use Rattle.tg_instr.specs.declared.instr.Instr.{Instr}
 use Rattle.tg_instr.specs.declared.instr.Instr.TheVariants.{Sll, Srl, Sra, Mfhi, Mflo, Mult, Div, Add, Sub, Addu, Subu, And, Or, Xor, Nor, Slt, Sltu, Addi, Addiu, Slti, Sltiu, Andi, Ori, Xori, Lui, Lb, Lbu, Lw, Sb, Sw, Move, FrameLoad, FrameStore, FrameAddress, Address, Branch}
 use Rattle.tg_instr.specs.Codes.{has_temps_below}
-use Rattle.tg_instr.specs.Operands.{is_one_row}
+use Rattle.tg_instr.specs.Operands.{is_one_row, is_zero}
 use Rattle.tg_instr.specs.Renaming.{named, stays_one_row}
 use Rattle.tg_instr.proofs.Tests.{left_holds, right_holds}
 use Rattle.tg_spill.specs.Below.{is_option_below}
 use Rattle.tg_spill.specs.InFrame.{through, through_named, through_slots, instruction_in_frame}
+use Rattle.tg_spill.specs.Painting.{painted, painted_named}
 
 pub to_below : (most : ℕ) (one : Instr) → IsTrue (has_temps_below most one) → IsTrue (is_option_below most (named one).to)
 to_below most (Sll rd rt n) h = left_holds _ _ (right_holds _ _ h)
@@ -132,23 +133,27 @@ second_below most (Branch test m) h = left_holds _ _ (right_holds _ _ (left_hold
 second_below most _ h = refl
 
 -- registers stay, so a row of the table stays one
-row_through : (rel : Rel) (left right : Opnd) → IsTrue (is_one_row rel left right) → IsTrue (is_one_row rel (through 8 left) (through 9 right))
-row_through Equal left right h = refl
-row_through NotEqual left right h = refl
-row_through Below left right h = h
-row_through NotBelow left right h = h
-row_through Less left (Reg r) h = h
-row_through LessEqual left (Reg r) h = h
-row_through Greater left (Reg r) h = h
-row_through GreaterEqual left (Reg r) h = h
-row_through Less left (Temp t) h = cc
-row_through LessEqual left (Temp t) h = cc
-row_through Greater left (Temp t) h = cc
-row_through GreaterEqual left (Temp t) h = cc
+row_mapped : (f g : Opnd → Opnd) → ((r : ℕ) → g (Reg r) ≡ Reg r) → (rel : Rel) (left right : Opnd) → IsTrue (is_one_row rel left right) → IsTrue (is_one_row rel (f left) (g right))
+row_mapped f g e Equal left right h = refl
+row_mapped f g e NotEqual left right h = refl
+row_mapped f g e Below left right h = h
+row_mapped f g e NotBelow left right h = h
+row_mapped f g e Less left (Reg r) h = ap is_zero (e r) ∙ h
+row_mapped f g e LessEqual left (Reg r) h = ap is_zero (e r) ∙ h
+row_mapped f g e Greater left (Reg r) h = ap is_zero (e r) ∙ h
+row_mapped f g e GreaterEqual left (Reg r) h = ap is_zero (e r) ∙ h
+row_mapped f g e Less left (Temp t) h = cc
+row_mapped f g e LessEqual left (Temp t) h = cc
+row_mapped f g e Greater left (Temp t) h = cc
+row_mapped f g e GreaterEqual left (Temp t) h = cc
 
 pub stays : (one : Instr) → IsTrue (stays_one_row one (through_named 8 (named one).first) (through_named 9 (named one).second))
-stays (Branch test m) = row_through test.rel test.left test.right test.is_one_row
+stays (Branch test m) = row_mapped (through 8) (through 9) (λ r. refl) test.rel test.left test.right test.is_one_row
 stays _ = refl
+
+pub stays_painted : (colour : ℕ → ℕ) (one : Instr) → IsTrue (stays_one_row one (painted_named colour (named one).first) (painted_named colour (named one).second))
+stays_painted colour (Branch test m) = row_mapped (painted colour) (painted colour) (λ r. refl) test.rel test.left test.right test.is_one_row
+stays_painted colour _ = refl
 
 pub no_move : (base : ℕ) (one : Instr) → ((to from : Opnd) → one ≢ Move to from) → instruction_in_frame base one ≡ through_slots base one (named one)
 no_move base (Move to from) h = absurd (h to from refl)

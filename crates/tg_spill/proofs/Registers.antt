@@ -8,7 +8,7 @@ use Rattle.tg_instr.specs.declared.operands.Opnd.{Opnd}
 use Rattle.tg_instr.specs.declared.operands.Opnd.TheVariants.{Temp, Reg}
 use Rattle.tg_instr.specs.declared.instr.Test.{Test}
 use Rattle.tg_instr.specs.declared.instr.Instr.{Instr}
-use Rattle.tg_instr.specs.declared.instr.Instr.TheVariants.{Sll, Srl, Sra, Mfhi, Mflo, Mult, Div, Add, Sub, Addu, Subu, And, Or, Xor, Nor, Slt, Sltu, Addi, Addiu, Slti, Sltiu, Andi, Ori, Xori, Lui, Lb, Lbu, Lw, Sb, Sw, Move, FrameLoad, FrameStore, FrameAddress, Address, Branch}
+use Rattle.tg_instr.specs.declared.instr.Instr.TheVariants.{Move, FrameLoad, FrameStore, Branch}
 use Rattle.tg_instr.specs.Operands.{is_one_row}
 use Rattle.tg_instr.specs.Codes.{is_below, is_register, has_temps_below, has_registers_alone, has_slots_below}
 use Rattle.tg_instr.specs.Renaming.{named, renamed, tested, stays_one_row}
@@ -18,6 +18,7 @@ use Rattle.tg_spill.specs.Below.{is_option_below}
 use Rattle.tg_spill.specs.Conditions.{is_fixed, is_allocated, has_register, names_registers}
 use Rattle.tg_spill.specs.InFrame.{through_named, loaded, stored, moved, through_slots, instruction_in_frame, code_in_frame}
 use Rattle.tg_spill.proofs.Naming.{to_below, first_below, second_below, stays}
+use Rattle.tg_spill.proofs.RegisterNames.{fixed_allocated, names_weaker, names_renamed}
 
 -- the register through which an operand goes
 abbrev number : ℕ → Option Opnd → ℕ
@@ -30,20 +31,12 @@ through_is r (Some (Temp t)) = refl
 through_is r (Some (Reg q)) = refl
 through_is r None = refl
 
-fixed_allocated : (q : ℕ) → is_fixed q ≡ true → is_allocated q ≡ true
-fixed_allocated q h = grind (arith, nat_tests)
-
-allocated : (r : ℕ) → IsTrue (is_allocated r) → (o : Option Opnd) → IsTrue (has_register is_fixed o) → IsTrue (is_allocated (number r o))
-allocated r free (Some (Temp t)) h = free
-allocated r free (Some (Reg q)) h = fixed_allocated q h
-allocated r free None h = free
-
 -- registers alone
 alone_tested : (rel : Rel) (b c m : ℕ) (fits : Bool) (e : is_one_row rel (Reg b) (Reg c) ≡ fits) (test : Test) → IsTrue fits → IsTrue (has_registers_alone (Branch (tested rel (Reg b) (Reg c) fits e test) m))
 alone_tested rel b c m true e test f = refl
 alone_tested rel b c m false e test f = cc
 
-alone_renamed : (one : Instr) (a b c : ℕ) → IsTrue (stays_one_row one (Reg b) (Reg c)) → IsTrue (has_registers_alone (renamed one (Reg a) (Reg b) (Reg c)))
+pub alone_renamed : (one : Instr) (a b c : ℕ) → IsTrue (stays_one_row one (Reg b) (Reg c)) → IsTrue (has_registers_alone (renamed one (Reg a) (Reg b) (Reg c)))
 alone_renamed (Branch test m) a b c f = alone_tested test.rel b c m (is_one_row test.rel (Reg b) (Reg c)) refl test f
 alone_renamed _ a b c f = refl
 
@@ -60,103 +53,6 @@ alone_below n [] h = refl
 alone_below n (one ∷ rest) h =
     let here : IsTrue (has_registers_alone one) = left_holds _ _ h in
     both_hold _ _ (both_hold _ _ (registers_below n (uses_of one) (left_holds _ _ here)) (registers_below n (defs_of one) (right_holds (list_all is_register (uses_of one)) _ here))) (alone_below n rest (right_holds (has_registers_alone one) _ h))
-
--- what a renamed instruction names
-first_tested : (allowed : ℕ → Bool) (rel : Rel) (b c : ℕ) (fits : Bool) (e : is_one_row rel (Reg b) (Reg c) ≡ fits) (test : Test) → IsTrue fits → IsTrue (allowed b) → IsTrue (has_register allowed (Some (tested rel (Reg b) (Reg c) fits e test).left))
-first_tested allowed rel b c true e test f h = h
-first_tested allowed rel b c false e test f h = cc
-
-second_tested : (allowed : ℕ → Bool) (rel : Rel) (b c : ℕ) (fits : Bool) (e : is_one_row rel (Reg b) (Reg c) ≡ fits) (test : Test) → IsTrue fits → IsTrue (allowed c) → IsTrue (has_register allowed (Some (tested rel (Reg b) (Reg c) fits e test).right))
-second_tested allowed rel b c true e test f h = h
-second_tested allowed rel b c false e test f h = cc
-
-allowed_to : (allowed : ℕ → Bool) (one : Instr) (a b c : ℕ) → IsTrue (stays_one_row one (Reg b) (Reg c)) → IsTrue (allowed a) → IsTrue (has_register allowed (named (renamed one (Reg a) (Reg b) (Reg c))).to)
-allowed_to allowed (Sll rd rt n) a b c f h = h
-allowed_to allowed (Srl rd rt n) a b c f h = h
-allowed_to allowed (Sra rd rt n) a b c f h = h
-allowed_to allowed (Mfhi rd) a b c f h = h
-allowed_to allowed (Mflo rd) a b c f h = h
-allowed_to allowed (Add rd rs rt) a b c f h = h
-allowed_to allowed (Sub rd rs rt) a b c f h = h
-allowed_to allowed (Addu rd rs rt) a b c f h = h
-allowed_to allowed (Subu rd rs rt) a b c f h = h
-allowed_to allowed (And rd rs rt) a b c f h = h
-allowed_to allowed (Or rd rs rt) a b c f h = h
-allowed_to allowed (Xor rd rs rt) a b c f h = h
-allowed_to allowed (Nor rd rs rt) a b c f h = h
-allowed_to allowed (Slt rd rs rt) a b c f h = h
-allowed_to allowed (Sltu rd rs rt) a b c f h = h
-allowed_to allowed (Addi rt rs n) a b c f h = h
-allowed_to allowed (Addiu rt rs n) a b c f h = h
-allowed_to allowed (Slti rt rs n) a b c f h = h
-allowed_to allowed (Sltiu rt rs n) a b c f h = h
-allowed_to allowed (Andi rt rs n) a b c f h = h
-allowed_to allowed (Ori rt rs n) a b c f h = h
-allowed_to allowed (Xori rt rs n) a b c f h = h
-allowed_to allowed (Lui rt n) a b c f h = h
-allowed_to allowed (Lb rt n rs) a b c f h = h
-allowed_to allowed (Lbu rt n rs) a b c f h = h
-allowed_to allowed (Lw rt n rs) a b c f h = h
-allowed_to allowed (Move to from) a b c f h = h
-allowed_to allowed (FrameLoad to k) a b c f h = h
-allowed_to allowed (FrameAddress to) a b c f h = h
-allowed_to allowed (Address to label) a b c f h = h
-allowed_to allowed _ a b c f h = refl
-
-allowed_first : (allowed : ℕ → Bool) (one : Instr) (a b c : ℕ) → IsTrue (stays_one_row one (Reg b) (Reg c)) → IsTrue (allowed b) → IsTrue (has_register allowed (named (renamed one (Reg a) (Reg b) (Reg c))).first)
-allowed_first allowed (Sll rd rt n) a b c f h = h
-allowed_first allowed (Srl rd rt n) a b c f h = h
-allowed_first allowed (Sra rd rt n) a b c f h = h
-allowed_first allowed (Mult rs rt) a b c f h = h
-allowed_first allowed (Div rs rt) a b c f h = h
-allowed_first allowed (Add rd rs rt) a b c f h = h
-allowed_first allowed (Sub rd rs rt) a b c f h = h
-allowed_first allowed (Addu rd rs rt) a b c f h = h
-allowed_first allowed (Subu rd rs rt) a b c f h = h
-allowed_first allowed (And rd rs rt) a b c f h = h
-allowed_first allowed (Or rd rs rt) a b c f h = h
-allowed_first allowed (Xor rd rs rt) a b c f h = h
-allowed_first allowed (Nor rd rs rt) a b c f h = h
-allowed_first allowed (Slt rd rs rt) a b c f h = h
-allowed_first allowed (Sltu rd rs rt) a b c f h = h
-allowed_first allowed (Addi rt rs n) a b c f h = h
-allowed_first allowed (Addiu rt rs n) a b c f h = h
-allowed_first allowed (Slti rt rs n) a b c f h = h
-allowed_first allowed (Sltiu rt rs n) a b c f h = h
-allowed_first allowed (Andi rt rs n) a b c f h = h
-allowed_first allowed (Ori rt rs n) a b c f h = h
-allowed_first allowed (Xori rt rs n) a b c f h = h
-allowed_first allowed (Lb rt n rs) a b c f h = h
-allowed_first allowed (Lbu rt n rs) a b c f h = h
-allowed_first allowed (Lw rt n rs) a b c f h = h
-allowed_first allowed (Sb rt n rs) a b c f h = h
-allowed_first allowed (Sw rt n rs) a b c f h = h
-allowed_first allowed (Move to from) a b c f h = h
-allowed_first allowed (FrameStore from k) a b c f h = h
-allowed_first allowed (Branch test m) a b c f h = first_tested allowed test.rel b c (is_one_row test.rel (Reg b) (Reg c)) refl test f h
-allowed_first allowed _ a b c f h = refl
-
-allowed_second : (allowed : ℕ → Bool) (one : Instr) (a b c : ℕ) → IsTrue (stays_one_row one (Reg b) (Reg c)) → IsTrue (allowed c) → IsTrue (has_register allowed (named (renamed one (Reg a) (Reg b) (Reg c))).second)
-allowed_second allowed (Mult rs rt) a b c f h = h
-allowed_second allowed (Div rs rt) a b c f h = h
-allowed_second allowed (Add rd rs rt) a b c f h = h
-allowed_second allowed (Sub rd rs rt) a b c f h = h
-allowed_second allowed (Addu rd rs rt) a b c f h = h
-allowed_second allowed (Subu rd rs rt) a b c f h = h
-allowed_second allowed (And rd rs rt) a b c f h = h
-allowed_second allowed (Or rd rs rt) a b c f h = h
-allowed_second allowed (Xor rd rs rt) a b c f h = h
-allowed_second allowed (Nor rd rs rt) a b c f h = h
-allowed_second allowed (Slt rd rs rt) a b c f h = h
-allowed_second allowed (Sltu rd rs rt) a b c f h = h
-allowed_second allowed (Sb rt n rs) a b c f h = h
-allowed_second allowed (Sw rt n rs) a b c f h = h
-allowed_second allowed (Branch test m) a b c f h = second_tested allowed test.rel b c (is_one_row test.rel (Reg b) (Reg c)) refl test f h
-allowed_second allowed _ a b c f h = refl
-
-names_renamed : (one : Instr) (a b c : ℕ) → IsTrue (stays_one_row one (Reg b) (Reg c)) → IsTrue (is_allocated a) → IsTrue (is_allocated b) → IsTrue (is_allocated c) → IsTrue (names_registers is_allocated (renamed one (Reg a) (Reg b) (Reg c)))
-names_renamed one a b c f ha hb hc =
-    both_hold _ _ (allowed_to is_allocated one a b c f ha) (both_hold _ _ (allowed_first is_allocated one a b c f hb) (allowed_second is_allocated one a b c f hc))
 
 -- a renamed instruction's slots are those that it had
 slots_renamed : (base temps : ℕ) (one : Instr) (x y z : Opnd) → IsTrue (has_slots_below base one) → IsTrue (has_slots_below (base + temps) (renamed one x y z))
@@ -223,11 +119,16 @@ pub registers_alone : (base temps : ℕ) (list : List Instr) → IsTrue (list_al
 registers_alone base temps list below fixed =
     good_code has_registers_alone always base temps (λ r t a h. (refl, refl)) (λ r q a b. refl) (λ one h g. renamed_alone one) list below fixed (all_always list)
 
+through_allocated : (r : ℕ) → IsTrue (is_allocated r) → (o : Option Opnd) → IsTrue (has_register is_fixed o) → IsTrue (has_register is_allocated (Some (through_named r o)))
+through_allocated r free (Some (Temp t)) h = free
+through_allocated r free (Some (Reg q)) h = fixed_allocated q h
+through_allocated r free None h = free
+
 renamed_names : (one : Instr) → IsTrue (names_registers is_fixed one) → IsTrue (names_registers is_allocated (renamed one (through_named 8 (named one).to) (through_named 8 (named one).first) (through_named 9 (named one).second)))
 renamed_names one h =
-    let f = stays one in
     let rest = right_holds (has_register is_fixed (named one).to) _ h in
-    rw (through_is 8 (named one).to, through_is 8 (named one).first, through_is 9 (named one).second) (names_renamed one (number 8 (named one).to) (number 8 (named one).first) (number 9 (named one).second) (rw (← through_is 8 (named one).first, ← through_is 9 (named one).second) f) (allocated 8 refl (named one).to (left_holds _ _ h)) (allocated 8 refl (named one).first (left_holds _ _ rest)) (allocated 9 refl (named one).second (right_holds (has_register is_fixed (named one).first) _ rest)))
+    names_renamed is_allocated one _ _ _ (names_weaker is_fixed is_allocated fixed_allocated one h)
+    (through_allocated 8 refl (named one).to (left_holds _ _ h)) (through_allocated 8 refl (named one).first (left_holds _ _ rest)) (through_allocated 9 refl (named one).second (right_holds (has_register is_fixed (named one).first) _ rest))
 
 pub registers_allocated : (base temps : ℕ) (list : List Instr) → IsTrue (list_all (has_temps_below temps) list) → IsTrue (list_all (names_registers is_fixed) list) → IsTrue (list_all (names_registers is_allocated) (code_in_frame base list))
 registers_allocated base temps list below fixed =

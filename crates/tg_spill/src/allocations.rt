@@ -1,5 +1,6 @@
 use tg_base::ListOf;
 use tg_instr::Allocated;
+use tg_rounds::Round;
 
 /// Where a temporary of the code that was handed in stands: in a colour, by its place among the
 /// colours, or in a slot.
@@ -12,12 +13,17 @@ pub enum Home {
 /// The homes of temporaries, in the order of their numbers.
 pub type Homes = ListOf<Home>;
 
-/// What an allocation gives: the code over registers with its frame, the home of each temporary,
-/// whether all of them stand in the frame, and how many slots were added.
+/// Rounds, in the order in which they were made.
+pub type Rounds = ListOf<Round>;
+
+/// What an allocation gives: the code over registers with its frame, the home of each temporary of
+/// the code that was handed in, the rounds that were made, whether all temporaries stand in the
+/// frame, and how many slots were added.
 #[derive(Drop)]
 pub struct Allocation {
     pub done: Allocated,
     pub registers: Homes,
+    pub rounds: Rounds,
     pub all_in_frame: bool,
     pub slots: u32,
 }

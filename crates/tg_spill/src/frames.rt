@@ -1,10 +1,10 @@
-ghost use Rattle.std.specs.Prelude.{◌≡◌, ◌<◌, ◌+◌, ◌^◌, IsTrue, IfOk, cond};
+ghost use Rattle.std.specs.Prelude.{[], ◌≡◌, ◌<◌, ◌+◌, ◌^◌, IsTrue, IfOk, cond};
 ghost use Rattle.std.specs.List.{list_all};
 ghost use Rattle.tg_instr.specs.Codes.{has_slots_below, has_temps_below};
 ghost use Rattle.tg_spill.specs.Conditions.{is_allocated, is_fixed, names_registers};
 ghost use Rattle.tg_spill.specs.InFrame.{code_in_frame, homes_from};
 
-use crate::allocations::{Allocation, Home, Homes};
+use crate::allocations::{Allocation, Home, Homes, Rounds};
 use crate::loading::put;
 use std::alloc::Global;
 use tg_base::Memory;
@@ -26,6 +26,7 @@ pub fn in_frame(alloc: Global, code: &Code, frame: Frame) -> Result<Allocation, 
     ensures out { IfOk result (λ a. a.done.frame.out ≡ frame.out) }
     ensures homes { IfOk result (λ a. a.registers ≡ homes_from frame.slots code.now.temps) }
     ensures slots { IfOk result (λ a. a.slots ≡ code.now.temps) }
+    ensures rounds { IfOk result (λ a. a.rounds ≡ []) }
     ensures all { IfOk result (λ a. IsTrue a.all_in_frame) }
     ensures registers { IfOk result
         (λ a. IsTrue (list_all (names_registers is_allocated) a.done.code.list)) }
@@ -44,6 +45,7 @@ pub fn in_frame(alloc: Global, code: &Code, frame: Frame) -> Result<Allocation, 
             },
         },
         registers,
+        rounds: Rounds::from_vec(Vec::new(alloc)),
         all_in_frame: true,
         slots: code.temps,
     })

@@ -5,16 +5,15 @@ use Rattle.tg_tree.specs.Plain.{plain_fragment}
 use Rattle.tg_instr.specs.Codes.{has_slots_below}
 use Rattle.tg_instr.specs.declared.instr.Instr.{Instr}
 use Rattle.tg_spill.specs.Conditions.{is_fixed, names_registers}
-use Rattle.tg_compile.proofs.Chain.{compiles}
 use Rattle.tg_compile.proofs.bodies.compile_function.Goals as goal
 
-pub returns : goal.returns
-returns c =
-    let e = c.in_ok-in_frame.ensures in
-    compiles (plain_fragment c.args.one) c.choose.new.frame c.in_ok-code.code c.in_ok-in_frame.field-0 c.in_ok-code.ensures e.label e.params e.frame e.temps e.out e.code e.homes e.slots e.all
+pub returns-clause-compiles : goal.returns-clause-compiles
+returns-clause-compiles g c =
+    let e = c.in_ok-allocate.ensures in
+    record { frame = c.choose.new.frame; code = c.in_ok-code.code; chooses = c.in_ok-code.ensures; allocation = e.allocation; registers = e.registers }
 
-pub in_frame-requires : goal.in_frame-requires
-in_frame-requires c =
+pub allocate-requires : goal.allocate-requires
+allocate-requires g c =
     let chosen = c.in_ok-code.ensures in
     let own = c.instructions_name_their_own.ensures (plain_fragment c.args.one) c.args.one.frame.slots_below in
     let P : List Instr → Type 0 = λ code. IsTrue (list_all (names_registers is_fixed) code) in

@@ -4,19 +4,22 @@ use Rattle.tg_compile.proofs.Chain.{tree_of, compiles_whole}
 use Rattle.tg_compile.proofs.Linking.{links}
 use Rattle.tg_compile.proofs.programs.compile_checked.Goals as goal
 
-pub returns : goal.returns
-returns c =
+pub returns-clause-compiles : goal.returns-clause-compiles
+returns-clause-compiles g c =
+    let rule = (goal.SpillPolicy-dyn g c.args.policy.now).rule c.args.policy.now.1 in
     let checked = c.args.checked.now in
     let fragments = c.in_ok-bodies.field-0 in
     let functions = c.in_ok-functions.functions in
     let written = c.in_ok-written.ensures in
-    compiles_whole checked.notes (plain checked.program.body) fragments.functions.items fragments.literals.items functions.codes.items functions.placements.items c.in_ok-join.field-0.items c.in_ok-written.written.items
-    c.in_ok-bodies.ensures.fragments c.in_ok-functions.ensures c.in_ok-join.ensures (rw c.deref.ensures.value at (rw c.deref-2.ensures.value at written.text)) written.image
+    compiles_whole rule checked.notes (plain checked.program.body) fragments.functions.items fragments.literals.items functions.codes.items functions.placements.items
+    c.in_ok-join.field-0.items c.in_ok-written.written.items c.in_ok-bodies.ensures.fragments c.in_ok-functions.ensures.compile c.in_ok-join.ensures
+    (rw c.deref.ensures.value at (rw c.deref-2.ensures.value at written.text)) written.image
 
 pub write-requires : goal.write-requires
-write-requires c =
+write-requires g c =
+    let rule = (goal.SpillPolicy-dyn g c.args.policy.now).rule c.args.policy.now.1 in
     let fragments = c.in_ok-bodies.field-0 in
     let functions = c.in_ok-functions.functions in
     rw (c.deref.ensures.value, c.deref-2.ensures.value)
-    (links c.code_names_no_more.ensures (tree_of fragments.functions.items fragments.literals.items) functions.codes.items functions.placements.items fragments.literals.items
-    c.in_ok-bodies.ensures.linked refl c.in_ok-functions.ensures)
+    (links c.code_names_no_more.ensures rule (tree_of fragments.functions.items fragments.literals.items) functions.codes.items functions.placements.items fragments.literals.items
+    c.in_ok-bodies.ensures.linked refl c.in_ok-functions.ensures.compile)

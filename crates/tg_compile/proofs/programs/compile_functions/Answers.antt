@@ -1,21 +1,19 @@
-use Rattle.std.proofs.Common.{◌≡◌, List, [], ◌∷◌, ◌++◌, refl, sym, subst, ◌∙◌}
+use Rattle.std.proofs.Common.{◌≡◌, List, refl, sym, subst, ◌∙◌}
 use Rattle.std.specs.Prelude.{All, length, map}
 use Rattle.std.proofs.IntoIterSteps.{All-taken}
 use Rattle.std.proofs.lemmas.Iterator.Adapters.{YieldsList-from_vec}
 use Rattle.std.proofs.lemmas.Iterator.Consumers.{YieldsList-turn}
-use Rattle.std.proofs.lemmas.List.{map-append}
 use Rattle.tg_tree.specs.declared.fragments.Fragment.{Fragment}
-use Rattle.tg_tree.specs.Tree.{Ts, Function}
 use Rattle.tg_tree.specs.Plain.{plain_fragment}
-use Rattle.tg_instr.specs.declared.codes.Allocated.{Allocated}
-use Rattle.tg_compile.specs.declared.programs.Placement.{Placement}
+use Rattle.tg_rounds.specs.Policies.{Rule}
+use Rattle.tg_compile.specs.Compiling.{CompilesFunction}
 use Rattle.tg_compile.specs.Passes.{CompileApart, IsWellFormed}
-use Rattle.tg_compile.proofs.Chain.{compile_more}
+use Rattle.tg_compile.proofs.Chain.{compile_one_more}
 use Rattle.tg_compile.proofs.WellFormed.{one_is}
 use Rattle.tg_compile.proofs.programs.compile_functions.Goals as goal
 
 pub compile_function-requires : goal.compile_function-requires
-compile_function-requires c =
+compile_function-requires g c =
     let first = c.into_iter-one-iterator.result in
     let given = c.into_iter-one-iterator.ensures.into_iter_gives.0 in
     let turn = YieldsList-turn (YieldsList-from_vec first.rest.items refl first.rest.ok.0) c.loop-one.yielded c.loop-one.one-iterator c.loop-one.yielded_by c.next.result c.next.new.self c.in-Some.one c.in-Some.is c.next.ensures.steps in
@@ -23,23 +21,22 @@ compile_function-requires c =
     one_is first.rest.items (length c.loop-one.yielded) c.in-Some.one (subst P (sym given) c.requires) turn.0 turn.1
 
 pub loop-one-preserved : goal.loop-one-preserved
-loop-one-preserved c =
-    let before = map plain_fragment c.loop-one.yielded in
-    let one = plain_fragment c.in-Some.one in
-    let a = c.in_ok-done.field-0 in
-    let placed : Placement = record { registers = a.registers; all_in_frame = a.all_in_frame; slots = a.slots } in
-    let more = compile_more before c.loop-one.codes.items c.loop-one.placements.items one a.done placed c.loop-one.invariant c.in_ok-done.ensures in
-    let P : List (Function Ts) → Type 0 = λ fs. CompileApart fs c.push.new.self.items c.push-in-loop-one.new.self.items in
-    let Q : List Allocated → Type 0 = λ codes. CompileApart (before ++ one ∷ []) codes c.push-in-loop-one.new.self.items in
-    let R : List Placement → Type 0 = λ ps. CompileApart (before ++ one ∷ []) (c.loop-one.codes.items ++ a.done ∷ []) ps in
-    subst P (sym (map-append plain_fragment c.loop-one.yielded (c.in-Some.one ∷ [])))
-    (subst Q (sym c.in_ok-push.ensures.items) (subst R (sym c.in_ok-push-2.ensures.items) more))
+loop-one-preserved g c =
+    let rule = (goal.SpillPolicy-dyn g c.args.policy.now).rule c.args.policy.now.1 in
+    let F : Rule → Type 0 = λ r. CompilesFunction r (plain_fragment c.in-Some.one) c.in_ok-done.field-0 in
+    record {
+      compile = compile_one_more rule c.loop-one.yielded c.in-Some.one c.loop-one.codes.items c.push.new.self.items
+          c.loop-one.placements.items c.push-in-loop-one.new.self.items c.in_ok-done.field-0 c.loop-one.invariant.compile
+          (subst F c.loop-one.invariant.same c.in_ok-done.ensures.compiles) c.in_ok-push.ensures.items c.in_ok-push-2.ensures.items;
+      same = c.in_ok-done.ensures.same ∙ c.loop-one.invariant.same;
+    }
 
-pub returns : goal.returns
-returns c =
+pub returns-clause-compile : goal.returns-clause-compile
+returns-clause-compile g c =
+    let rule = (goal.SpillPolicy-dyn g c.args.policy.now).rule c.args.policy.now.1 in
     let first = c.into_iter-one-iterator.result in
     let all : c.loop-one.yielded ≡ first.rest.items =
     All-taken first c.loop-one.yielded (c.next.new.self, (c.loop-one.one-iterator, c.loop-one.yielded_by, c.in-None.ensures.steps)) in
     let given : first.rest.items ≡ c.args.bodies.items = c.into_iter-one-iterator.ensures.into_iter_gives.0 in
-    let P : List Fragment → Type 0 = λ xs. CompileApart (map plain_fragment xs) c.loop-one.codes.items c.loop-one.placements.items in
-    subst P (all ∙ given) c.loop-one.invariant
+    let P : List Fragment → Type 0 = λ xs. CompileApart rule (map plain_fragment xs) c.loop-one.codes.items c.loop-one.placements.items in
+    subst P (all ∙ given) c.loop-one.invariant.compile

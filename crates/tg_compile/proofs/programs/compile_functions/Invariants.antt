@@ -1,7 +1,13 @@
+use Rattle.std.proofs.Common.{◌≡◌}
 use Rattle.std.specs.Prelude.{map}
 use Rattle.tg_tree.specs.Plain.{plain_fragment}
 use Rattle.tg_compile.specs.Passes.{CompileApart}
 use Rattle.tg_compile.proofs.programs.compile_functions.Given as goal
 
 abbrev pub invariant-loop-one : goal.invariant-loop-one
-invariant-loop-one l = CompileApart (map plain_fragment l.yielded) l.codes.items l.placements.items
+invariant-loop-one g l = record {
+  compile : CompileApart ((goal.SpillPolicy-dyn g l.fn.policy.now).rule l.fn.policy.now.1)
+      (map plain_fragment l.yielded) l.codes.items l.placements.items;
+  same : (goal.SpillPolicy-dyn g l.policy.now).rule l.policy.now.1
+      ≡ (goal.SpillPolicy-dyn g l.fn.policy.now).rule l.fn.policy.now.1;
+}

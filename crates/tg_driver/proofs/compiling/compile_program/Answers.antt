@@ -2,14 +2,14 @@ use Rattle.tg_driver.proofs.Typings.{names_within, begins_apart, typed_fault, co
 use Rattle.tg_driver.proofs.compiling.compile_program.Goals as goal
 
 pub check-requires-clause-names : goal.check-requires-clause-names
-check-requires-clause-names c = names_within _ _ _ c.requires.1
+check-requires-clause-names g c = names_within _ _ _ c.requires.1
 
 pub check-requires-clause-apart : goal.check-requires-clause-apart
-check-requires-clause-apart c = begins_apart _ _ _ c.requires.1
+check-requires-clause-apart g c = begins_apart _ _ _ c.requires.1
 
-pub returns-in_ok-compile_checked-in-Ok : goal.returns-in_ok-compile_checked-in-Ok
-returns-in_ok-compile_checked-in-Ok c = λ text t.
-    compiles_to text _ _ _ _ _ t c.in-Ok.ensures.ok (rw c.in-Ok.ensures.program at c.in_ok-compile_checked-in-Ok.ensures)
+pub returns-in_ok-compile_checked-in-Ok-clause-compiled : goal.returns-in_ok-compile_checked-in-Ok-clause-compiled
+returns-in_ok-compile_checked-in-Ok-clause-compiled g c = λ text t.
+    compiles_to _ text _ _ _ _ _ t c.in-Ok.ensures.ok (rw c.in-Ok.ensures.program at c.in_ok-compile_checked-in-Ok.ensures.compiled)
 
-pub returns-in-Err : goal.returns-in-Err
-returns-in-Err c = λ text t. c.ill_typed.ensures text (typed_fault _ _ _ _ t c.in-Err.ensures.err)
+pub returns-in-Err-clause-compiled : goal.returns-in-Err-clause-compiled
+returns-in-Err-clause-compiled g c = λ text t. c.ill_typed.ensures text (typed_fault _ _ _ _ t c.in-Err.ensures.err)

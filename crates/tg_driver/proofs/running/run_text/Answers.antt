@@ -7,21 +7,21 @@ use Rattle.tg_driver.proofs.Typings.{builds, has_image}
 use Rattle.tg_driver.proofs.running.run_text.Goals as goal
 
 pub run_assembly-requires-clause-image : goal.run_assembly-requires-clause-image
-run_assembly-requires-clause-image g c = rw c.deref.ensures.value (has_image _ _ _ c.in-Ok.ensures)
+run_assembly-requires-clause-image g c = rw c.deref.ensures.value (has_image _ _ _ _ c.in-Ok.ensures.compiled)
 
 pub returns-in-Ok-clause-due : goal.returns-in-Ok-clause-due
 returns-in-Ok-clause-due g c =
     let streams = streams_of
     (stream_of g.I.Source.left g.I.Source.faults c.args.streams.input.now c.run_assembly.new.streams.0)
     (stream_of g.O.Sink.taken g.O.Sink.faults c.args.streams.out.now c.run_assembly.new.streams.1.0) in
-    ends_built (HasRun streams) (asked_of c.args.command.now) _ _ c.run_assembly.result (builds _ _ _ c.in-Ok.ensures) (rw c.deref.ensures.value at c.run_assembly.ensures.runs)
+    ends_built _ (HasRun streams) (asked_of c.args.command.now) _ _ c.run_assembly.result (builds _ _ _ _ c.in-Ok.ensures.compiled) (rw c.deref.ensures.value at c.run_assembly.ensures.runs)
 
 pub returns-in-Err-clause-due : goal.returns-in-Err-clause-due
 returns-in-Err-clause-due g c =
     let streams = streams_of
     (stream_of g.I.Source.left g.I.Source.faults c.args.streams.input.now c.args.streams.input.now)
     (stream_of g.O.Sink.taken g.O.Sink.faults c.args.streams.out.now c.args.streams.out.now) in
-    run_of_refused (HasRun streams) (asked_of c.args.command.now) _ c.refused.result c.refused.ensures
+    run_of_refused _ (HasRun streams) (asked_of c.args.command.now) _ c.refused.result c.refused.ensures
 
 pub returns-in-Err-clause-before_start : goal.returns-in-Err-clause-before_start
 returns-in-Err-clause-before_start g c =

@@ -1,8 +1,10 @@
 use Rattle.std.proofs.Common.{refl}
-use Rattle.tg_command.specs.declared.modes.Mode.TheVariants.{Check, Build, Run, Exec, Gen}
+use Rattle.tg_command.specs.declared.modes.Mode.TheVariants.{Check, Build, Run, Exec, Alloc, Gen}
 use Rattle.tg_command.specs.Commands.{asked_of}
 use Rattle.tg_driver.specs.Calls.{shelf_of, stream_of, streams_of}
-use Rattle.tg_driver.proofs.AnswerLemmas.{by_check, by_build, by_run, by_exec, by_gen, in_mode}
+use Rattle.tg_driver.specs.Builds.{Builds}
+use Rattle.tg_driver.specs.AllocMode.{Lists}
+use Rattle.tg_driver.proofs.AnswerLemmas.{by_check, by_writing, by_run, by_exec, by_gen, in_mode}
 use Rattle.tg_driver.proofs.top.answer_command.Goals as goal
 
 pub returns-in-Check-clause-due : goal.returns-in-Check-clause-due
@@ -12,7 +14,7 @@ returns-in-Check-clause-due g c =
     (stream_of g.I.Source.left g.I.Source.faults c.args.streams.input.now c.args.streams.input.now)
     (stream_of g.O.Sink.taken g.O.Sink.faults c.args.streams.out.now c.args.streams.out.now) in
     let asked = asked_of c.args.command.now in
-    in_mode Check shelf streams asked c.answer_check.result c.in-Check.is
+    in_mode _ Check shelf streams asked c.answer_check.result c.in-Check.is
     (by_check shelf streams asked c.answer_check.result (refl, refl) c.answer_check.ensures.due)
 
 pub returns-in-Build-clause-due : goal.returns-in-Build-clause-due
@@ -22,8 +24,8 @@ returns-in-Build-clause-due g c =
     (stream_of g.I.Source.left g.I.Source.faults c.args.streams.input.now c.build_to.new.streams.0)
     (stream_of g.O.Sink.taken g.O.Sink.faults c.args.streams.out.now c.build_to.new.streams.1.0) in
     let asked = asked_of c.args.command.now in
-    in_mode Build shelf streams asked c.build_to.result c.in-Build.is
-    (by_build shelf streams asked c.build_to.result c.build_to.ensures.unread c.build_to.ensures.before_start c.build_to.ensures.due)
+    in_mode _ Build shelf streams asked c.build_to.result c.in-Build.is
+    (by_writing shelf streams (Builds _) asked c.build_to.result c.build_to.ensures.unread c.build_to.ensures.before_start c.build_to.ensures.due)
 
 pub returns-in-Run-clause-due : goal.returns-in-Run-clause-due
 returns-in-Run-clause-due g c =
@@ -32,8 +34,8 @@ returns-in-Run-clause-due g c =
     (stream_of g.I.Source.left g.I.Source.faults c.args.streams.input.now c.answer_run.new.streams.0)
     (stream_of g.O.Sink.taken g.O.Sink.faults c.args.streams.out.now c.answer_run.new.streams.1.0) in
     let asked = asked_of c.args.command.now in
-    in_mode Run shelf streams asked c.answer_run.result c.in-Run.is
-    (by_run shelf streams asked c.answer_run.result c.answer_run.ensures.before_start c.answer_run.ensures.due)
+    in_mode _ Run shelf streams asked c.answer_run.result c.in-Run.is
+    (by_run _ shelf streams asked c.answer_run.result c.answer_run.ensures.before_start c.answer_run.ensures.due)
 
 pub returns-in-Exec-clause-due : goal.returns-in-Exec-clause-due
 returns-in-Exec-clause-due g c =
@@ -42,8 +44,18 @@ returns-in-Exec-clause-due g c =
     (stream_of g.I.Source.left g.I.Source.faults c.args.streams.input.now c.answer_exec.new.streams.0)
     (stream_of g.O.Sink.taken g.O.Sink.faults c.args.streams.out.now c.answer_exec.new.streams.1.0) in
     let asked = asked_of c.args.command.now in
-    in_mode Exec shelf streams asked c.answer_exec.result c.in-Exec.is
+    in_mode _ Exec shelf streams asked c.answer_exec.result c.in-Exec.is
     (by_exec shelf streams asked c.answer_exec.result c.answer_exec.ensures.before_start c.answer_exec.ensures.due)
+
+pub returns-in-Alloc-clause-due : goal.returns-in-Alloc-clause-due
+returns-in-Alloc-clause-due g c =
+    let shelf = shelf_of g.H.Shelf.files g.H.Shelf.faults c.args.shelf.now c.list_to.new.shelf in
+    let streams = streams_of
+    (stream_of g.I.Source.left g.I.Source.faults c.args.streams.input.now c.list_to.new.streams.0)
+    (stream_of g.O.Sink.taken g.O.Sink.faults c.args.streams.out.now c.list_to.new.streams.1.0) in
+    let asked = asked_of c.args.command.now in
+    in_mode _ Alloc shelf streams asked c.list_to.result c.in-Alloc.is
+    (by_writing shelf streams (Lists _) asked c.list_to.result c.list_to.ensures.unread c.list_to.ensures.before_start c.list_to.ensures.due)
 
 pub returns-in-Gen-clause-due : goal.returns-in-Gen-clause-due
 returns-in-Gen-clause-due g c =
@@ -52,8 +64,8 @@ returns-in-Gen-clause-due g c =
     (stream_of g.I.Source.left g.I.Source.faults c.args.streams.input.now c.generate_to.new.streams.0)
     (stream_of g.O.Sink.taken g.O.Sink.faults c.args.streams.out.now c.generate_to.new.streams.1.0) in
     let asked = asked_of c.args.command.now in
-    in_mode Gen shelf streams asked c.generate_to.result c.in-Gen.is
-    (by_gen shelf streams asked c.generate_to.result refl c.generate_to.ensures.unread c.generate_to.ensures.before_start c.generate_to.ensures.due)
+    in_mode _ Gen shelf streams asked c.generate_to.result c.in-Gen.is
+    (by_gen _ shelf streams asked c.generate_to.result refl c.generate_to.ensures.unread c.generate_to.ensures.before_start c.generate_to.ensures.due)
 
 pub generate_to-requires-clause-number : goal.generate_to-requires-clause-number
 generate_to-requires-clause-number g c = c.requires.number c.in-Gen.is

@@ -1,0 +1,10 @@
+//! The text of `tiger alloc`: the steps of the register allocator, round by round, and where each
+//! temporary came to stand. Promises exactly the lines of `specs/Listing.antt`.
+#![tactic(auto)]
+
+mod homes;
+mod listing;
+mod nodes;
+mod steps;
+
+pub use listing::list;
