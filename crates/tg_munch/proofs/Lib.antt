@@ -1,4 +1,6 @@
+pub mod Counting
 pub mod Drawing
+pub mod Draws
 mod Examples
 pub mod Keeping
 pub mod Kept

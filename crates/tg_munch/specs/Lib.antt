@@ -3,6 +3,7 @@ pub mod Choosing
 pub mod Comparing
 pub mod Drafts
 pub mod Laws
+pub mod Lengths
 pub mod Munching
 pub mod Naming
 pub mod Tiles

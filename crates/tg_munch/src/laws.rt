@@ -1,3 +1,4 @@
+ghost use Rattle.tg_munch.specs.Lengths.{InstructionsAreFew};
 ghost use Rattle.tg_munch.specs.Laws.{
   MovesStay,
   CodeEndsWell,
@@ -32,4 +33,11 @@ pub fn code_names_its_own()
 pub fn code_is_marked()
     ensures differ { MarksDiffer }
     ensures stand { MarksStand }
+{}
+
+/// A law of the number of instructions: there are at most as many as the flat code of their
+/// function is long, and nine more, for the registers that are kept; and no more temporaries and
+/// marks are drawn for them than that.
+pub fn code_is_short()
+    ensures few { InstructionsAreFew }
 {}

@@ -15,5 +15,5 @@ mod statements;
 mod tiles;
 mod tiling;
 
-pub use laws::{code_is_kept, code_is_marked, code_names_its_own};
+pub use laws::{code_is_kept, code_is_marked, code_is_short, code_names_its_own};
 pub use munching::munch;

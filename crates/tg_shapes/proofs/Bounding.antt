@@ -91,11 +91,21 @@ within_limit : (rule : TypeRule) (at number limit : ℕ) (otherwise : Option (Ty
     above rule at number limit otherwise ≡ None → (number ≤ limit) × (otherwise ≡ None)
 within_limit rule at number limit otherwise h = not_above (nat_lt limit number) number limit (rule, at) otherwise refl h
 
-small : (m : Measures) (f : Function Ts) → m.nodes ≤ 32768 → m.level ≤ 32 → IsWithin m f → IsSmall f
-small m f n l h =
+small : (m : Measures) (f : Function Ts) → m.nodes ≤ 32768 → m.level ≤ 32 → m.size ≤ 4096 → IsWithin m f → IsSmall f
+small m f n l k h =
     let s = h.slots in
     let t = h.temps in
-    record { slots = omega (arith, s, n); temps = omega (arith, t, n); accesses = wider (suc m.level) 33 f.body (omega (arith, l)) h.accesses }
+    let long = h.short l in
+    let room = h.small l in
+    let deep = h.shallow l in
+    record {
+      slots = omega (arith, s, n);
+      temps = omega (arith, t, n);
+      accesses = wider (suc m.level) 33 f.body (omega (arith, l)) h.accesses;
+      short = omega (arith, long, n, k);
+      small = omega (arith, room, n, k);
+      shallow = omega (arith, deep, k);
+    }
 
 all_small : (ms : List Measures) (fs : List (Function Ts)) → Each (Few 32768) ms → first_above ms ≡ None → AllZip IsWithin ms fs → Each IsSmall fs
 all_small [] [] h e k = tt
@@ -104,7 +114,7 @@ all_small (m ∷ ms) [] h e k = absurd k
 all_small (m ∷ ms) (f ∷ fs) h e k =
     let level = within_limit T20 m.at m.level 32 (above T21 m.at m.size 4096 (first_above ms)) e in
     let size = within_limit T21 m.at m.size 4096 (first_above ms) level.1 in
-    (small m f h.0 level.0 k.0, all_small ms fs h.1 size.1 k.1)
+    (small m f h.0 level.0 size.0 k.0, all_small ms fs h.1 size.1 k.1)
 
 pub checked_frames_are_small : CheckedHasType → CheckedFramesAreSmall
 checked_frames_are_small typed p escapes links f a c =

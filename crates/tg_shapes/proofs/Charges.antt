@@ -34,15 +34,15 @@ arms_takes want.Dropped s = more (omega arith) (gives s want.Dropped tt)
 arms_takes want.Test s = then_quiet (draws_one s) λ t s _. gives s (want.Into (record { 0 = t })) tt
 
 pub declares : (b : Bool) (level at : ℕ) (s : TranslationState) → Takes (record (draws 1) { slots = one_of b }) (λ a. Unit {0}) s (declare_variable b level at s)
-declares true level at s = keeps _ 1 1 s (left (declare_variable true level at s)) tt (omega arith) (omega arith) refl refl
-declares false level at s = keeps _ 0 1 s (left (declare_variable false level at s)) tt (omega arith) (omega arith) refl refl
+declares true level at s = keeps _ 1 1 s (left (declare_variable true level at s)) tt (omega arith) (omega arith) refl refl refl refl
+declares false level at s = keeps _ 0 1 s (left (declare_variable false level at s)) tt (omega arith) (omega arith) refl refl refl refl
 
 pub declares_functions : (fs : FunDecs) (level : ℕ) (s : TranslationState) → Takes (draws 0) (λ x. Unit {0}) s (declare_functions level fs s)
 declares_functions no_functions level s = gives {A = Unit {0}} s tt tt
 declares_functions (function f _ _ _ rest) level s =
     let t : TranslationState = record s { label = s.label + 1; callees = (at_of f, record { level = level; label = record { 0 = s.label } }) ∷ s.callees } in
     quiet_then {A = Unit {0}} {next = λ x. declare_functions level rest}
-    (keeps {A = Unit {0}} {V = λ x. Unit {0}} tt 0 0 s t tt (omega arith) (omega arith) refl refl) λ x t h.
+    (keeps {A = Unit {0}} {V = λ x. Unit {0}} tt 0 0 s t tt (omega arith) (omega arith) refl refl refl refl) λ x t h.
     declares_functions rest level t
 
 -- In a text from which so many levels lead outwards.
@@ -143,6 +143,8 @@ module _ (n : ℕ) where
     value = tt;
     slots = omega arith;
     temps = omega arith;
+    params = refl;
+    out = refl;
     texts = map-append (λ l. l.text) s.literals (record { label = s.label; text = string_text bytes } ∷ []);
     functions = adds_none s (left (literal bytes s)) refl;
   }

@@ -1,26 +1,28 @@
 -- Labels, strings and what the laws ask for, computed of small programs. Above each stands its text.
 use Rattle.std.proofs.Common.{◌≡◌, ℕ, List, [], ◌∷◌, map, None, true, false, refl, inl, inr, arith}
-use Rattle.std.specs.Prelude.{codes, nat_eq}
+use Rattle.std.specs.Prelude.{zero, suc, ◌+◌, ◌*◌, Some, codes, nat_eq}
 use Rattle.std.specs.List.{list_any}
 use Rattle.tg_base.specs.declared.ids.Span.{Span}
 use Rattle.tg_symbols.specs.Tables.{named}
 use Rattle.tg_syntax.specs.declared.tokens.Ident.{Ident}
 use Rattle.tg_syntax.specs.declared.trees.Op.TheVariants as op
 use Rattle.tg_syntax.specs.Functions.{program_functions}
-use Rattle.tg_syntax.specs.Tree.{Exp, Break, Int, Text, Read, Call, Binary, Assign, While, Let, Seq, Simple, no_exps, exp, no_decs, variable, functions, no_functions, function}
+use Rattle.tg_syntax.specs.Tree.{Exp, Break, Int, Text, Read, Call, Binary, Assign, While, For, Let, Seq, Simple, no_exps, exp, no_decs, variable, functions, no_functions, function}
 use Rattle.tg_meaning.specs.declared.standards.Standard.TheVariants as standard
 use Rattle.tg_types.specs.declared.notes.Means.{Means}
 use Rattle.tg_types.specs.declared.notes.Means.TheVariants as means
 use Rattle.tg_tree.specs.Tree.{Tx, Load}
+use Rattle.tg_tree.specs.Sizes.{tree_length}
 use Rattle.tg_tree.specs.Named.{function_labels, literal_labels}
 use Rattle.tg_translate.specs.Constructs.{slot_address, frame_out}
 use Rattle.tg_translate.specs.Scopes.{Findings}
 use Rattle.tg_translate.specs.Translate.{translated}
 use Rattle.tg_shapes.specs.Accesses.{AccessesWithinTx}
+use Rattle.tg_shapes.specs.Depths.{ts_depth}
 use Rattle.tg_shapes.specs.Escaped.{program_escaping}
 use Rattle.tg_shapes.specs.Standing.{BreaksStand, Reaches}
 use Rattle.tg_shapes.specs.Strings.{strings}
-use Rattle.tg_shapes.specs.Laws.{names}
+use Rattle.tg_shapes.specs.Laws.{names, paid, node_length, parameter_length, function_length}
 
 abbrev sp : Span
 sp = record { from = 0; to = 0 }
@@ -119,3 +121,50 @@ used =
 
 used_inside : Reaches (findings []) [] [] used → ⊥
 used_inside h = elim h.0.2.0.1.0 [ inl c ↦ omega (arith, c.1) | inr e ↦ cc ]
+
+-- Lengths and depths, by adding up what each node has.
+
+abbrev lengths : Findings → Exp → List ℕ
+lengths findings e = map (λ f. tree_length f) (translated findings e).functions
+
+-- 1 + 2: the sum is dropped, and 0 returned
+sum_length : lengths (findings []) (Binary sp op.Plus 0 (Int sp 1) (Int sp 2)) ≡ ((1 + (2 + 2)) + (16 + 2)) ∷ []
+sum_length = refl
+
+-- 1 & 2: a choice between the second value and 0, which goes nowhere
+choice_length : lengths (findings []) (Binary sp op.And 0 (Int sp 1) (Int sp 2)) ≡ ((4 + ((4 + (2 + 2)) + (2 + 2))) + (16 + 2)) ∷ []
+choice_length = refl
+
+-- for i := 1 to 2 do (), with i in a temporary: the test, the first value, the loop's addition, its body, and the test for its end
+turns_length : lengths (findings []) (For sp (id 1) (Int sp 1) (Int sp 2) (Seq sp no_exps)) ≡
+    ((4 + (4 + (2 + 2))) + (2 + 2) + 4 + (2 + (1 + 2)) + 2 + (4 + (4 + 2) + 3) + (16 + 2)) ∷ []
+turns_length = refl
+
+-- let function f() = () in .. end, where so many functions are nested in one another, and the innermost calls f
+
+abbrev calling_outermost : ℕ → Exp
+calling_outermost zero = Call sp (id 11) no_exps
+calling_outermost (suc n) =
+    Let sp (functions (function (id (100 + n)) [] None (calling_outermost n) no_functions) no_decs) (exp (Call sp (id (100 + n)) no_exps) no_exps)
+
+abbrev far : ℕ → Exp
+far n = Let sp (functions (function (id 11) [] None (Seq sp no_exps) no_functions) no_decs) (exp (calling_outermost n) no_exps)
+
+-- each name is a function's, and each function keeps its link in a slot
+abbrev far_findings : Findings
+far_findings = record { meaning = λ at. Some (means.Function at); escapes = λ at. false; keeps_link = λ at. true }
+
+abbrev last_of : {A : Type 0} → A → List A → A
+last_of x [] = x
+last_of x (y ∷ ys) = last_of y ys
+
+-- The dearest node, a call over 32 levels: itself, its link, which is stored, and 4 for each level. It pays for 2 more, which the
+-- link would have where something of the arguments is lifted.
+far_length : last_of 0 (lengths far_findings (far 32)) ≡ 6 + (4 + 4 + (1 + 4 * 32)) + (16 + 2)
+far_length = refl
+
+far_paid : last_of 0 (map (paid node_length parameter_length function_length) (program_functions (far 32))) ≡ 145 + 18
+far_paid = refl
+
+far_depth : last_of 0 (map (λ f. ts_depth f.body) (translated far_findings (far 32)).functions) ≡ 3 + (1 + 2 * 32)
+far_depth = refl

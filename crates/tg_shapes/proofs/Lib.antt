@@ -13,6 +13,8 @@ pub mod Shaped
 pub mod Typed
 pub mod Reaching
 pub mod Near
+pub mod Sizing
+pub mod Sized
 pub mod Taking
 pub mod Charges
 pub mod Measured

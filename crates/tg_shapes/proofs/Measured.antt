@@ -3,7 +3,7 @@
 use Rattle.std.proofs.Common.{◌≡◌, ◌≤◌, ◌+◌, ◌*◌, ℕ, suc, Bool, true, false, List, [], ◌∷◌, length, map, refl, sym, subst, arith}
 use Rattle.std.specs.Prelude.{is_some}
 use Rattle.std.specs.List.{AllZip}
-use Rattle.tg_frame.specs.Homes.{slots_of, temps_of}
+use Rattle.tg_frame.specs.Homes.{homes_from, homes_of, slots_of, temps_of}
 use Rattle.tg_syntax.specs.declared.trees.Param.{Param}
 use Rattle.tg_syntax.specs.Measures.{size, place_size, exps_size, inits_size, decs_size}
 use Rattle.tg_syntax.specs.Functions.{Measures, Levels, measures, own, own_params, own_functions, own_decs, declared, declared_place, declared_exps, declared_inits, declared_decs, declared_functions, program_functions}
@@ -30,7 +30,8 @@ use Rattle.tg_shapes.specs.Escaped.{one_of, params_escaping, escaping, place_esc
 use Rattle.tg_shapes.specs.Strings.{strings, place_strings, exps_strings, inits_strings, decs_strings, bodies_strings}
 use Rattle.tg_shapes.specs.Laws.{IsWithin}
 use Rattle.tg_shapes.proofs.Near.{IsTx, AreTxs, IsCond, IsTs, AreStms, IsMade, IsPlace, join_txs_near, followed_near, dropped_near, test_near, statement_near, deliver_near, read_near, negation_near}
-use Rattle.tg_shapes.proofs.Taking.{Cost, adds, HasSlots, Takes, both, more, then_draws, then_quiet, draws_then, quiet_then, adds_then, gives, finished}
+use Rattle.tg_shapes.proofs.Sized.{Gives, SmallBody, body_size}
+use Rattle.tg_shapes.proofs.Taking.{Cost, adds, HasSlots, Takes, both, more, then_draws, then_quiet, draws_then, quiet_then, adds_then, gives, within_frame, finished}
 use Rattle.tg_shapes.proofs.Charges.{arms_takes, declares, declares_functions, values_takes, behind_takes, hold_next_takes, assign_takes, field_takes, element_takes, count_takes, record_takes, place_takes, call_takes, closing_takes, literal_takes, declaration_takes, left_takes}
 
 -- how many temporaries each part draws at most, without the functions that it declares
@@ -187,6 +188,20 @@ module _ (escapes : ℕ → Bool) where
           temps_of (b ∷ map (λ p. escapes (at_of p.name)) params) ≤ length (p ∷ params)
       one true e = omega (arith, e)
       one false e = omega (arith, e)
+
+  homes_count : (slots temps : ℕ) (params : List Param) → length (homes_from slots temps (map (λ p. escapes (at_of p.name)) params)) ≡ length params
+  homes_count slots temps [] = refl
+  homes_count slots temps (p ∷ params) = one (escapes (at_of p.name)) (homes_count (slots + 1) temps params) (homes_count slots (temps + 1) params)
+    where
+      one : (b : Bool) → length (homes_from (slots + 1) temps (map (λ p. escapes (at_of p.name)) params)) ≡ length params →
+          length (homes_from slots (temps + 1) (map (λ p. escapes (at_of p.name)) params)) ≡ length params →
+          length (homes_from slots temps (b ∷ map (λ p. escapes (at_of p.name)) params)) ≡ length (p ∷ params)
+      one true e f = omega (arith, e)
+      one false e f = omega (arith, f)
+
+  frame_params : (kept : Bool) (params : List Param) → length (homes_of (asked escapes kept params)) ≤ length params + 1
+  frame_params true params = let h = homes_count 1 0 params in omega (arith, h)
+  frame_params false params = let h = homes_count 0 1 params in omega (arith, h)
 
   frame_temps : (kept : Bool) (params : List Param) → temps_of (asked escapes kept params) ≤ length params + 1
   frame_temps true params = omega (arith, few_temps params)
@@ -355,10 +370,12 @@ module _ (findings : Findings) where
         let temps = frame_temps findings.escapes kept params in
         let few = few_escaping findings.escapes e in
         let few_own = few_params findings.escapes params in
+        let homes = frame_params findings.escapes kept params in
         both
         (finished s t (params_escaping findings.escapes params) (measures f.span.from (suc n) seen params e) refl refl
-        (frame_slots findings.escapes kept params)
+        (omega (arith, homes)) refl (frame_slots findings.escapes kept params)
         (omega (arith, few, few_own)) (omega (arith, drawn, temps))
+        (λ k. body_size findings e (result_want (is_some result)) (is_some result) (inside c kept) t (omega (arith, k, l)))
         (then_draws (walk e (result_want (is_some result)) (inside c kept) (suc n) (own_params (suc n) params seen) t (omega (arith, l))) λ m s h.
         closing_takes (suc n) (is_some result) m s h)) λ _ s _.
         walk_functions rest (label + 1) c n seen s l
@@ -379,14 +396,12 @@ module _ (findings : Findings) where
       let k = h.slots in
       (omega (arith, k), subst (λ fs. AllZip HasSlots m.counts fs) (sym h.functions.behind) h.functions.slots)
 
-  program_within : {m : Cost} (i : Measures) (d : Drawn Ts) → m.slots ≤ i.nodes → m.temps ≤ 6 * i.nodes + 1 → Takes m (AccessesWithin (suc i.level)) start d →
-      AllZip IsWithin (i ∷ m.functions) (program d).functions
-  program_within {m} i (drawn x u) a b h =
-      let k = h.slots in
-      let j = h.temps in (
-        record { slots = omega (arith, k, a); temps = omega (arith, j, b); accesses = h.value },
-        subst (λ fs. AllZip IsWithin m.functions fs) (sym h.functions.behind) h.functions.within,
-      )
+  program_within : {m : Cost} (i : Measures) (d : Drawn Ts) → m.slots ≤ i.nodes → m.temps ≤ 6 * i.nodes + 1 → (i.level ≤ 32 → Gives (SmallBody i.size) d) →
+      Takes m (AccessesWithin (suc i.level)) start d → AllZip IsWithin (i ∷ m.functions) (program d).functions
+  program_within {m} i (drawn x u) a b small h = (
+    within_frame start i (omega arith) refl (omega (arith, a)) (omega (arith, b)) (λ n. (small n).value) h,
+    subst (λ fs. AllZip IsWithin m.functions fs) (sym h.functions.behind) h.functions.within,
+  )
 
   pub literals_are : (e : Exp) → map (λ l. l.text) (translated findings e).literals ≡ map string_text (strings e)
   literals_are e = program_texts (program_body findings e start) (walked e)
@@ -398,4 +413,5 @@ module _ (findings : Findings) where
   functions_are_within e =
       let drawn = few_drawn e in
       let few = few_escaping findings.escapes e in
-      program_within (measures (span_of e).from 0 [] [] e) (program_body findings e start) (omega (arith, few)) (omega (arith, drawn)) (walked e)
+      program_within (measures (span_of e).from 0 [] [] e) (program_body findings e start) (omega (arith, few)) (omega (arith, drawn))
+      (λ l. body_size findings e want.Dropped false outermost start (omega arith)) (walked e)

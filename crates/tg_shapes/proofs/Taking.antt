@@ -1,5 +1,6 @@
 -- What an action of the translation takes of its frame and adds to the program, and how far goes what it gives.
-use Rattle.std.proofs.Common.{◌≡◌, ◌≤◌, ◌+◌, ◌*◌, ℕ, suc, List, [], ◌∷◌, ◌++◌, map, refl, sym, ap, ◌∙◌, subst, append_assoc, append-nil, arith}
+use Rattle.std.proofs.Common.{◌≡◌, ◌≤◌, ◌+◌, ◌*◌, ℕ, suc, List, [], ◌∷◌, ◌++◌, length, map, refl, sym, ap, ◌∙◌, subst, append_assoc, append-nil, arith}
+use Rattle.std.specs.Prelude.{◌-◌}
 use Rattle.std.specs.List.{AllZip}
 use Rattle.std.proofs.lemmas.List.{map-append}
 use Rattle.tg_syntax.specs.Functions.{Measures}
@@ -10,6 +11,7 @@ use Rattle.tg_translate.specs.Functions.{with_body, finish}
 use Rattle.tg_shapes.specs.Accesses.{AccessesWithin}
 use Rattle.tg_shapes.specs.Laws.{IsWithin}
 use Rattle.tg_shapes.proofs.Actions.{answer, left}
+use Rattle.tg_shapes.proofs.Sized.{Gives, SmallBody}
 
 -- of a text: the slots and temporaries of its frame, its strings, and of the functions that it declares how many
 -- variables escape, and their measures
@@ -53,6 +55,8 @@ pub record Takes {A : Type 0} (m : Cost) (V : A → Type 0) (s : TranslationStat
   pub value : V (answer d)
   pub slots : (left d).frame.slots ≤ s.frame.slots + m.slots
   pub temps : (left d).frame.temps ≤ s.frame.temps + m.temps
+  pub params : (left d).frame.params ≡ s.frame.params
+  pub out : (left d).frame.out ≡ s.frame.out
   pub texts : texts (left d) ≡ texts s ++ map string_text m.texts
   pub functions : Adds m.counts m.functions s (left d)
 
@@ -91,6 +95,8 @@ both {m = m} {k = k} {s = s} {d = drawn a t} {next = next} h f =
       value = g.value;
       slots = let x = h.slots in let y = g.slots in omega (arith, x, y);
       temps = let x = h.temps in let y = g.temps in omega (arith, x, y);
+      params = g.params ∙ h.params;
+      out = g.out ∙ h.out;
       texts = texts_on (texts s) (texts t) (texts u) m.texts k.texts h.texts g.texts;
       functions = adds_on s t u m.counts k.counts m.functions k.functions h.functions g.functions;
     }
@@ -104,6 +110,8 @@ at_most {s = s} {d = d} m k l i e c f h =
       value = h.value;
       slots = let x = h.slots in omega (arith, x, l);
       temps = let x = h.temps in omega (arith, x, i);
+      params = h.params;
+      out = h.out;
       texts = h.texts ∙ ap (λ xs. texts s ++ map string_text xs) e;
       functions = subst (λ xs. Adds xs k.functions s u) c (subst (λ ms. Adds m.counts ms s u) f h.functions);
     }
@@ -141,21 +149,23 @@ adds_then {m = m} {texts = texts} {counts = counts} {functions = functions} h f 
 
 -- what leaves all but the frame as it is, and draws so much of that
 pub keeps : {A : Type 0} {V : A → Type 0} (a : A) (slots temps : ℕ) (s t : TranslationState) → V a →
-    t.frame.slots ≤ s.frame.slots + slots → t.frame.temps ≤ s.frame.temps + temps →
+    t.frame.slots ≤ s.frame.slots + slots → t.frame.temps ≤ s.frame.temps + temps → t.frame.params ≡ s.frame.params → t.frame.out ≡ s.frame.out →
     t.literals ≡ s.literals → t.functions ≡ s.functions → Takes (record (draws temps) { slots = slots }) V s (drawn a t)
-keeps a slots temps s t v l k e f = record {
+keeps a slots temps s t v l k p o e f = record {
   value = v;
   slots = l;
   temps = k;
+  params = p;
+  out = o;
   texts = ap (map (λ l. l.text)) e ∙ sym (append-nil (texts s));
   functions = adds_none s t f;
 }
 
 pub gives : {A : Type 0} {V : A → Type 0} (s : TranslationState) (a : A) → V a → Takes (draws 0) V s (give a s)
-gives s a v = keeps a 0 0 s s v (omega arith) (omega arith) refl refl
+gives s a v = keeps a 0 0 s s v (omega arith) (omega arith) refl refl refl refl
 
 pub draws_one : (s : TranslationState) → Takes (draws 1) (λ t. Unit {0}) s (fresh s)
-draws_one s = keeps s.frame.temps 0 1 s (left (fresh s)) tt (omega arith) (omega arith) refl refl
+draws_one s = keeps s.frame.temps 0 1 s (left (fresh s)) tt (omega arith) (omega arith) refl refl refl refl
 
 -- A function stands before those that its text adds.
 
@@ -174,19 +184,39 @@ added_first s t u x counts ms count i e l w h =
       within = (w, h.within);
     }
 
-pub finished : {m : Cost} (s t : TranslationState) {d : Drawn Ts} (own : ℕ) (i : Measures) → t.functions ≡ [] → t.literals ≡ s.literals → t.frame.slots ≤ own + 1 →
-    own + m.slots ≤ i.nodes → t.frame.temps + m.temps ≤ 6 * i.nodes + 1 →
+-- what a function has is within what its text allows, where its body is
+pub within_frame : {m : Cost} (t : TranslationState) {x : Ts} {u : TranslationState} (i : Measures) →
+    length t.frame.params ≤ i.nodes - i.size + 1 → t.frame.out ≡ 0 → t.frame.slots + m.slots ≤ i.nodes + 1 → t.frame.temps + m.temps ≤ 6 * i.nodes + 1 → (i.level ≤ 32 → SmallBody i.size x) →
+    Takes m (AccessesWithin (suc i.level)) t (drawn x u) → IsWithin i (with_body u.frame x)
+within_frame t i p o a b small h =
+    let c = h.slots in
+    let e = h.temps in
+    let f = ap (λ xs. length xs) h.params in
+    let g = h.out in
+    record {
+      slots = omega (arith, a, c);
+      temps = omega (arith, b, e);
+      accesses = h.value;
+      short = λ l. let k = small l in omega (arith, k.0, p, f);
+      small = λ l. let k = small l in omega (arith, k.1, p, f, o, g, a, b, c, e);
+      shallow = λ l. let k = small l in omega (arith, k.2);
+    }
+
+pub finished : {m : Cost} (s t : TranslationState) {d : Drawn Ts} (own : ℕ) (i : Measures) → t.functions ≡ [] → t.literals ≡ s.literals →
+    length t.frame.params ≤ i.nodes - i.size + 1 → t.frame.out ≡ 0 → t.frame.slots ≤ own + 1 →
+    own + m.slots ≤ i.nodes → t.frame.temps + m.temps ≤ 6 * i.nodes + 1 → (i.level ≤ 32 → Gives (SmallBody i.size) d) →
     Takes m (AccessesWithin (suc i.level)) t d → Takes (enclosed (own + m.slots) i m) (λ x. Unit {0}) s (finish s d)
-finished {m = m} s t {d = drawn x u} own i e q l k j h =
+finished {m = m} s t {d = drawn x u} own i e q p o l k j small h =
     let a = h.slots in
-    let b = h.temps in
     let slots : u.frame.slots ≤ own + m.slots + 1 = omega (arith, a, l) in
     record {
       value = tt;
       slots = omega arith;
       temps = omega arith;
+      params = refl;
+      out = refl;
       texts = h.texts ∙ ap (λ ls. map (λ l. l.text) ls ++ map string_text m.texts) q;
       functions =
           added_first s t u x m.counts m.functions (own + m.slots) i e slots
-          (record { slots = omega (arith, slots, k); temps = omega (arith, b, j); accesses = h.value }) h.functions;
+          (within_frame t i p o (omega (arith, l, k)) j (λ n. (small n).value) h) h.functions;
     }

@@ -1,5 +1,5 @@
 -- Laws of the trees that programs are translated to.
-use Rattle.std.specs.Prelude.{◌≡◌, ◌≤◌, ◌+◌, ◌*◌, ℕ, suc, List, [], ◌++◌, length, map, false}
+use Rattle.std.specs.Prelude.{◌≡◌, ◌≤◌, ◌+◌, ◌*◌, ◌-◌, ℕ, suc, List, [], ◌++◌, length, map, false}
 use Rattle.std.specs.List.{AllZip, Contains, sum_by}
 use Rattle.std.specs.Ordering.{nat_cmp}
 use Rattle.std.specs.FinSet.{FinSet, from_list}
@@ -10,6 +10,7 @@ use Rattle.tg_escape.specs.Escaping.{escapes_of}
 use Rattle.tg_types.specs.Programs.{CheckedProgram, IsAccepted}
 use Rattle.tg_tree.specs.Tree.{Ts, Function, Code}
 use Rattle.tg_tree.specs.Shapes.{IsClosed}
+use Rattle.tg_tree.specs.Sizes.{tree_length, tree_room}
 use Rattle.tg_tree.specs.Named.{
   Named,
   named_ts,
@@ -25,6 +26,7 @@ use Rattle.tg_translate.specs.Translate.{translated}
 use Rattle.tg_shapes.specs.Standing.{BreaksStand, Reaches}
 use Rattle.tg_shapes.specs.Strings.{strings}
 use Rattle.tg_shapes.specs.Accesses.{AccessesWithin}
+use Rattle.tg_shapes.specs.Depths.{ts_depth}
 use Rattle.tg_shapes.specs.Escaped.{program_escaping}
 
 -- what a body names
@@ -107,25 +109,65 @@ SlotsAreFew =
     AllZip (λ n f. f.slots ≤ n + 1) (program_escaping findings.escapes e)
     (translated findings e).functions
 
+-- The length, the room and the depth that a node of a function's text pays for at most, where
+-- functions are nested 32 deep at most, what a parameter of its own pays for, and what each function
+-- has besides. The dearest node is a call without arguments over 32 levels.
+abbrev pub node_length : ℕ
+node_length = 145
+
+abbrev pub node_room : ℕ
+node_room = 208
+
+abbrev pub node_depth : ℕ
+node_depth = 8
+
+abbrev pub parameter_length : ℕ
+parameter_length = 6
+
+abbrev pub parameter_room : ℕ
+parameter_room = 9
+
+abbrev pub function_length : ℕ
+function_length = 18
+
+abbrev pub function_room : ℕ
+function_room = 4
+
+abbrev pub function_depth : ℕ
+function_depth = 62
+
+-- a function's own parameters are nodes, but none of its body
+abbrev pub paid : (node parameter function : ℕ) → Measures → ℕ
+paid node parameter function m = node * m.size + parameter * (m.nodes - m.size) + function
+
 -- What the frame of a function has, and how far its body goes, by the nodes and the level of the
 -- text: at most six temporaries a node, and one more; and for a variable or a callee of a function
 -- further out at most one static link a level, so at most as many accesses of memory stand one
--- within another, and one more, for the variable itself.
+-- within another, and one more, for the variable itself. So its length, its room and its depth are
+-- at most what its nodes and its parameters pay for.
 pub record IsWithin (m : Measures) (f : Function Ts) : Type 0 where
   pub slots : f.slots ≤ m.nodes + 1
   pub temps : f.temps ≤ 6 * m.nodes + 1
   pub accesses : AccessesWithin (suc m.level) f.body
+  pub short :
+      m.level ≤ 32 → tree_length f ≤ paid node_length parameter_length function_length m
+  pub small : m.level ≤ 32 → tree_room f ≤ paid node_room parameter_room function_room m
+  pub shallow : m.level ≤ 32 → ts_depth f.body ≤ node_depth * m.size + function_depth
 
 abbrev pub FunctionsAreWithin : Type 0
 FunctionsAreWithin =
     (findings : Findings) (e : Exp) →
     AllZip IsWithin (program_functions e) (translated findings e).functions
 
--- An accepted program has 32,768 nodes and 32 levels at most.
+-- An accepted program has 32,768 nodes and 32 levels at most, and the body of each of its functions
+-- 4,096 nodes.
 pub record IsSmall (f : Function Ts) : Type 0 where
   pub slots : f.slots ≤ 32769
   pub temps : f.temps ≤ 196609
   pub accesses : AccessesWithin 33 f.body
+  pub short : tree_length f ≤ 800000
+  pub small : tree_room f ≤ 1200000
+  pub shallow : ts_depth f.body ≤ 33000
 
 abbrev pub CheckedFramesAreSmall : Type 0
 CheckedFramesAreSmall =
