@@ -1,8 +1,8 @@
 -- Which nodes a round puts into one class (George and Appel 1996, section 4): those alone that
 -- moves lead to from one another. So a node without moves stands alone, and one without pairs too
 -- gets the first colour.
-use Rattle.std.specs.Prelude.{◌≡◌, ◌≢◌, ◌<◌, ◌⊎◌, ℕ, nat_eq, IsTrue, IsFalse, List, All, Some, slice_get}
-use Rattle.std.specs.Prelude.{slice_index_or}
+use Rattle.std.specs.Prelude.{◌≡◌, ◌≢◌, ◌<◌, ◌⊎◌, ℕ, nat_eq, IsTrue, IsFalse, List, All, Some}
+use Rattle.std.specs.Prelude.{slice_get, slice_index_or}
 use Rattle.std.specs.List.{IsDistinct}
 use Rattle.tg_rounds.specs.declared.rounds.Round.{Round}
 use Rattle.tg_rounds.specs.Graphs.{Set, IsGraph, is_register}

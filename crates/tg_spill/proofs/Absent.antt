@@ -19,16 +19,20 @@ use Rattle.tg_live.specs.Interference.{defines_beside_at, Interferes, moves, col
 use Rattle.tg_rounds.specs.declared.moves.Move.{Move as MoveBetween}
 use Rattle.tg_rounds.specs.declared.rounds.Round.{Round}
 use Rattle.tg_rounds.specs.Policies.{Rule}
-use Rattle.tg_rounds.specs.Classes.{IsUntouched}
+use Rattle.tg_rounds.specs.Classes.{IsUntouched, class_of}
+use Rattle.tg_rounds.proofs.Within.{untouched_stand_alone}
+use Rattle.std.proofs.lemmas.List.Elements.{All-from_recursion, recursion_from_All}
+use Rattle.std.specs.Prelude.{filter}
 use Rattle.tg_rounds.proofs.Deciding.{clash, neither, or_false, never, same_node, same_test}
 use Rattle.tg_rounds.proofs.Bare.{bare_are_first_coloured}
 use Rattle.tg_interference.specs.Nodes.{operand_at, node_of, temp_at}
 use Rattle.tg_spill.specs.declared.placing.Placed.{Placed}
 use Rattle.tg_spill.specs.Rewriting.{loads, stores, drawn, in_slot, placed, target, first_use, second_use, next_after, instruction_rewritten, code_rewritten}
+use Rattle.tg_spill.specs.Rewriting.{is_original, slotted, slot_after}
 use Rattle.tg_spill.specs.Rounds.{Stage, IsRoundOf}
 use Rattle.tg_spill.specs.Explained.{problem_of}
 use Rattle.tg_spill.proofs.Renamed.{temp, replaced, named_placed, here, uses_named, defs_named}
-use Rattle.tg_spill.proofs.Slotting.{is_temp, ends_of, all_moves}
+use Rattle.tg_spill.proofs.Slotting.{is_temp, ends_of, all_moves, slot_none}
 use Rattle.tg_spill.proofs.OneRound.{HasTempsBelow, is_graph, are_nodes}
 
 -- whether an operand is a temporary, and whether an instruction and a code name it
@@ -99,6 +103,14 @@ at_temp t =
     ap (λ b. if b then Reg (slice_index colours (25 + t)) else temp_at (25 + t)) (le-ltb (25 + t) 25 (omega arith)) ∙
     (let e : (25 + t) - 25 ≡ t = omega arith in ap temp e)
 
+pub filtered_too : (P : ℕ → Type 0) (p : ℕ → Bool) (xs : List ℕ) → AllByRecursion P xs → AllByRecursion P (filter p xs)
+filtered_too P p [] h = tt
+filtered_too P p (x ∷ xs) h = by (p x) (filtered_too P p xs h.1)
+  where
+    by : (b : Bool) → AllByRecursion P (filter p xs) → AllByRecursion P (if b then x ∷ filter p xs else filter p xs)
+    by true r = (h.0, r)
+    by false r = r
+
 module _ (rule : Rule) (n : ℕ) (s : Stage) (round : Round) (r : IsRoundOf rule n s round) (below : HasTempsBelow s) (some : n ≤ s.temps) where
   no_pairs : (t : ℕ) → occurs s.list t ≡ false → (y : ℕ) → interferes r.graph (25 + t) y ≡ false
   no_pairs t h y =
@@ -128,6 +140,21 @@ module _ (rule : Rule) (n : ℕ) (s : Stage) (round : Round) (r : IsRoundOf rule
       (bare_are_first_coloured (problem_of rule n s r.graph) round (is_graph r.graph) (are_nodes rule n s r.graph r.exact below) r.run
       (25 + t) (omega arith, subst (λ m. 25 + t < m) (sym r.exact.nodes) (omega (arith, l, some))) (no_moves t h)
       (λ y k. no_pairs t h y)).not_spilled
+
+  -- so it gets no slot
+  pub absent_slotless : (t : ℕ) → t < n → occurs s.list t ≡ false → slot_after n s.slots round t ≡ None
+  absent_slotless t l h =
+      slot_none (slotted n round) s.slots (class_of round (25 + t)) (λ i u e.
+      All-from_recursion (λ y. y ≢ 25 + t) (slotted n round) others i 0 u (e ∙ own))
+    where
+      inside : 25 + t < r.graph.nodes
+      inside = subst (λ m. 25 + t < m) (sym r.exact.nodes) (omega (arith, l, some))
+
+      own : class_of round (25 + t) ≡ 25 + t
+      own = (untouched_stand_alone (problem_of rule n s r.graph) round r.run (25 + t) inside (no_moves t h)).own
+
+      others : AllByRecursion (λ y. y ≢ 25 + t) (slotted n round)
+      others = filtered_too (λ y. y ≢ 25 + t) (is_original n) round.spilled (recursion_from_All (λ y. y ≢ 25 + t) round.spilled (absent_unspilled t l h))
 
 -- What is rewritten names no temporary that had a slot, nor one that wasn't named before.
 

@@ -1,9 +1,9 @@
 -- Each round but the last leaves fewer temporaries in the code, so there are few rounds and slots;
 -- and every temporary goes to the frame exactly where the last round spills made ones alone.
-use Rattle.std.proofs.Common.{lit≤}
+use Rattle.std.proofs.Common.{lit≤, Option, None}
 use Rattle.std.proofs.Common.{ℕ, zero, suc, ◌≡◌, ◌≢◌, ◌≤◌, ◌<◌, ◌+◌, ◌-◌, ◌||◌, List, [], ◌∷◌, Bool, true, false, Some, length, refl, ap, sym, subst, ◌∙◌, arith, ◌⊎◌, inl, inr}
 use Rattle.std.specs.Prelude.{All, IsTrue, nat_eq, nat_le, nat_lt, filter, get_or, cond, if◌then◌else◌}
-use Rattle.std.specs.List.{AllByRecursion, IsDistinct, list_any, position_from}
+use Rattle.std.specs.List.{AllByRecursion, IsDistinct, cons_option, list_any, position_from}
 use Rattle.std.specs.Option.{option_map}
 use Rattle.std.proofs.lemmas.Bool.{ltb-true, ltb-false, le-ltb, le-leb}
 use Rattle.std.proofs.lemmas.Bool.Decides.{nat_tests}
@@ -28,27 +28,19 @@ use Rattle.tg_rounds.proofs.AmongNodes.{rounds_are_of_nodes}
 use Rattle.tg_rounds.proofs.Within.{class_is}
 use Rattle.tg_rounds.proofs.Bare.{spilled_name_classes}
 use Rattle.tg_interference.specs.Marks.{occurrences, mark_of, marks_of}
-use Rattle.tg_spill.specs.Rewriting.{is_original, slotted, slot_by}
+use Rattle.tg_spill.specs.Rewriting.{slot_after, is_original, slotted, slot_by}
 use Rattle.tg_spill.specs.Rounds.{Stage, stage_of, IsRoundOf, AreRounds, slots_of, next_stage, last_round}
 use Rattle.tg_spill.specs.Rounds.AreRounds.{last, more}
 use Rattle.tg_spill.specs.Explained.{problem_of}
-use Rattle.tg_spill.specs.Growth.{AllocationsAreShort, SpillsMadeAlone, AllInFrameIsLast}
+use Rattle.tg_spill.specs.Growth.{slots_given, AllocationsAreShort, SpillsMadeAlone, AllInFrameIsLast}
 use Rattle.tg_spill.proofs.RewrittenBelow.{temps_below}
 use Rattle.tg_spill.proofs.Renamed.{temp, temps_rise}
 use Rattle.tg_spill.proofs.OneRound.{HasTempsBelow, is_graph, are_nodes}
 use Rattle.tg_spill.proofs.Causes.{Ends, ends}
 use Rattle.tg_spill.proofs.Slotting.{filtered}
-use Rattle.tg_spill.proofs.Absent.{occurs, absent_unspilled, code_avoids}
+use Rattle.tg_spill.proofs.Absent.{filtered_too, absent_slotless, occurs, absent_unspilled, code_avoids}
 
 -- Lists and sets of numbers.
-
-filtered_too : (P : ℕ → Type 0) (p : ℕ → Bool) (xs : List ℕ) → AllByRecursion P xs → AllByRecursion P (filter p xs)
-filtered_too P p [] h = tt
-filtered_too P p (x ∷ xs) h = by (p x) (filtered_too P p xs h.1)
-  where
-    by : (b : Bool) → AllByRecursion P (filter p xs) → AllByRecursion P (if b then x ∷ filter p xs else filter p xs)
-    by true r = (h.0, r)
-    by false r = r
 
 distinct_filtered : (p : ℕ → Bool) (xs : List ℕ) → IsDistinct nat_eq xs → IsDistinct nat_eq (filter p xs)
 unfolding IsDistinct
@@ -226,9 +218,43 @@ module _ (rule : Rule) (n : ℕ) where
       let g = behind.slots in
       record { few = omega (arith, a, b, f); slots = omega (arith, a, g) }
 
+-- an original gets one slot at most, and none where it doesn't occur
+module _ (rule : Rule) (n t : ℕ) (l : t < n) where
+  none_given : {s u : Stage} {rounds : List Round} → AreRounds rule n s rounds u → HasTempsBelow s → n ≤ s.temps → occurs s.list t ≡ false →
+      length (slots_given n s.slots rounds t) ≤ 0
+  none_given (last s round r e) below some h =
+      subst (λ o. length (cons_option o []) ≤ 0) (sym (absent_slotless rule n s round r below some t l h)) (lit≤ tt)
+  none_given (more s u round rounds r ne rest) below some h =
+      let rises = temps_rise (slots_of rule n s round) s.list s.temps in
+      subst (λ o. length (cons_option o (slots_given n (s.slots + length (slotted n round)) rounds t)) ≤ 0)
+      (sym (absent_slotless rule n s round r below some t l h))
+      (none_given rest (temps_below (slots_of rule n s round) s.list s.temps below) (omega (arith, some, rises))
+      (code_avoids (slots_of rule n s round) t s.list s.temps (omega (arith, l, some)) (inl h)))
+
+  one_given : {s u : Stage} {rounds : List Round} → AreRounds rule n s rounds u → HasTempsBelow s → n ≤ s.temps →
+      length (slots_given n s.slots rounds t) ≤ 1
+  one_given (last s round r e) below some = one_last (slot_after n s.slots round t)
+    where
+      one_last : (o : Option ℕ) → length (cons_option o []) ≤ 1
+      one_last None = lit≤ tt
+      one_last (Some j) = lit≤ tt
+  one_given (more s u round rounds r ne rest) below some =
+      let rises = temps_rise (slots_of rule n s round) s.list s.temps in
+      let still = temps_below (slots_of rule n s round) s.list s.temps below in
+      by (slot_after n s.slots round t) refl (one_given rest still (omega (arith, some, rises)))
+      (λ j e. none_given rest still (omega (arith, some, rises))
+      (code_avoids (slots_of rule n s round) t s.list s.temps (omega (arith, l, some)) (inr (j, e))))
+    where
+      by : (o : Option ℕ) → slot_after n s.slots round t ≡ o →
+          length (slots_given n (s.slots + length (slotted n round)) rounds t) ≤ 1 →
+          ((j : ℕ) → slot_after n s.slots round t ≡ Some j → length (slots_given n (s.slots + length (slotted n round)) rounds t) ≤ 0) →
+          length (cons_option o (slots_given n (s.slots + length (slotted n round)) rounds t)) ≤ 1
+      by None e f g = f
+      by (Some j) e f g = let z = g j e in omega (arith, z)
+
 pub allocations_are_short : AllocationsAreShort
 allocations_are_short rule code frame a h =
-    record { rounds = let f = all.few in omega (arith, f, most); slots = by a.all_in_frame refl }
+    record { rounds = let f = all.few in omega (arith, f, most); slots = by a.all_in_frame refl; once = λ t l. one_given rule code.temps t l h.rounds code.temps_below (omega arith) }
   where
     all : Shrinks code.temps (stage_of code frame.slots) h.end a.rounds
     all = shrinks rule code.temps h.rounds code.temps_below (omega arith)

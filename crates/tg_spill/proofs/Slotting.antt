@@ -196,7 +196,7 @@ filtered P p (x ∷ xs) h = by (p x) refl (filtered P p xs h.1)
     by false e r = r
 
 module _ (classes : List ℕ) (base x : ℕ) (other : (i : ℕ) → i < length classes → get_or classes i 0 ≢ x) where
-  slot_none : slot_by classes base x ≡ None
+  pub slot_none : slot_by classes base x ≡ None
   slot_none = by (position (nat_eq x) classes) refl
     where
       by : (o : Option ℕ) → position (nat_eq x) classes ≡ o → option_map (λ k. base + k) o ≡ None

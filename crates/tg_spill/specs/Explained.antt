@@ -27,7 +27,9 @@ use Rattle.tg_spill.specs.Allocations.{IsAllocation}
 
 -- a test of instructions whatever operands they name, which loads and stores of slots pass
 pub record IgnoresOperands (test : Instr → Bool) : Type 0 where
-  pub renaming : (one : Instr) (to first second : Opnd) → test (renamed one to first second) ≡ test one
+  pub renaming :
+      (one : Instr) (to first second : Opnd) →
+      test (renamed one to first second) ≡ test one
   pub load : (to : Opnd) (slot : ℕ) → IsTrue (test (FrameLoad to slot))
   pub store : (from : Opnd) (slot : ℕ) → IsTrue (test (FrameStore from slot))
 

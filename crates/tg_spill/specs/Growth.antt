@@ -2,6 +2,7 @@
 -- come of each instruction (George and Appel 1996, section 4).
 use Rattle.std.specs.Prelude.{◌≢◌, ◌↔◌, ◌≤◌, ◌<◌, ◌+◌, ◌*◌, ℕ, IsTrue, List, [], ◌∷◌, ◌++◌}
 use Rattle.std.specs.Prelude.{All, length, sum_by}
+use Rattle.std.specs.List.{cons_option}
 use Rattle.tg_frame.specs.declared.frames.Frame.{Frame}
 use Rattle.tg_instr.specs.declared.instr.Instr.{Instr}
 use Rattle.tg_instr.specs.declared.instr.Instr.TheVariants.{Move}
@@ -11,21 +12,31 @@ use Rattle.tg_rounds.specs.declared.rounds.Round.{Round}
 use Rattle.tg_rounds.specs.Classes.{class_of}
 use Rattle.tg_rounds.specs.Policies.{Rule}
 use Rattle.tg_spill.specs.declared.allocations.Allocation.{Allocation}
+use Rattle.tg_spill.specs.Rewriting.{slotted, slot_after}
 use Rattle.tg_spill.specs.Rounds.{last_round}
 use Rattle.tg_spill.specs.Allocations.{IsAllocation}
 
 -- Rounds and slots.
 
--- each round but the last gives a slot to an original that had none
-pub record IsShort (code : Code) (a : Allocation) : Type 0 where
+-- the slots that rounds give to an original, from a number of slots on
+abbrev pub slots_given : (originals base : ℕ) → List Round → (temp : ℕ) → List ℕ
+slots_given originals base [] t = []
+slots_given originals base (round ∷ rounds) t =
+    cons_option (slot_after originals base round t)
+    (slots_given originals (base + length (slotted originals round)) rounds t)
+
+-- each round but the last gives a slot to an original that had none, and none gets a second
+pub record IsShort (code : Code) (frame : Frame) (a : Allocation) : Type 0 where
   pub rounds : length a.rounds ≤ code.temps + 1
   pub slots : a.slots ≤ code.temps
+  pub once :
+      (t : ℕ) → t < code.temps → length (slots_given code.temps frame.slots a.rounds t) ≤ 1
 
 abbrev pub AllocationsAreShort : Type 0
 AllocationsAreShort =
     (rule : Rule) (code : Code) (frame : Frame) (a : Allocation) →
     IsAllocation rule code frame a →
-    IsShort code a
+    IsShort code frame a
 
 -- a round spills, and no class that it spills holds an original
 pub record SpillsMadeAlone (originals : ℕ) (round : Round) : Type 0 where

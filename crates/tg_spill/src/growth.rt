@@ -3,7 +3,11 @@ ghost use Rattle.tg_spill.specs.Explained.{
   ColourableNeedsOneRound,
   MovesOfAllocationsStayForACause,
 };
-ghost use Rattle.tg_spill.specs.Growth.{AllocationsAreShort, AllInFrameIsLast, AllocationsGrowLittle};
+ghost use Rattle.tg_spill.specs.Growth.{
+  AllocationsAreShort,
+  AllInFrameIsLast,
+  AllocationsGrowLittle,
+};
 
 /// The law that a test of instructions, which looks at no operand and which loads and stores of
 /// slots pass, goes on to hold in the code of an allocation.

@@ -18,6 +18,9 @@ mod stages;
 pub use allocating::allocate;
 pub use allocations::{Allocation, Home, Homes, Rounds};
 pub use frames::in_frame;
-pub use growth::{allocations_keep_tests, colourable_needs_one_round, moves_stay_for_a_cause};
+pub use growth::{
+    allocations_are_short, allocations_grow_little, allocations_keep_tests,
+    colourable_needs_one_round, moves_stay_for_a_cause,
+};
 pub use laws::code_stays_short;
 pub use painting::register_of;
