@@ -16,8 +16,8 @@ use tg_spill::{Allocation, allocate};
 use tg_trace::{blocks, trace};
 use tg_tree::{Fragment, Linear, Ts};
 
-/// The code of a function over registers; what is spilled is the policy's choice. After `Memory` the
-/// policy may have been asked.
+/// The code of a function over registers; what is spilled is the policy's choice. After `Memory`
+/// the policy may have been asked.
 pub(crate) fn compile_function(
     alloc: Global,
     one: Fragment,

@@ -21,5 +21,6 @@ pub record Lists (rule : SpillRule) (text listing : List ℕ) : Type 0 where
 abbrev pub IsListed : {O : Type 0} → SpillRule → Stream O → List ℕ → Answer → Type 0
 IsListed rule out text answer = IsWritten out (Lists rule) text answer
 
-abbrev pub ByAlloc : {H I O : Type 0} → SpillRule → Shelved H → Streams I O → Asked → Answer → Type 0
+abbrev pub ByAlloc :
+    {H I O : Type 0} → SpillRule → Shelved H → Streams I O → Asked → Answer → Type 0
 ByAlloc rule shelf s asked answer = ByWriting shelf s (Lists rule) asked answer

@@ -11,5 +11,6 @@ use Rattle.tg_driver.specs.Writing.{IsWritten, ByWriting}
 abbrev pub IsBuilt : {O : Type 0} → SpillRule → Stream O → List ℕ → Answer → Type 0
 IsBuilt rule out text answer = IsWritten out (Builds rule) text answer
 
-abbrev pub ByBuild : {H I O : Type 0} → SpillRule → Shelved H → Streams I O → Asked → Answer → Type 0
+abbrev pub ByBuild :
+    {H I O : Type 0} → SpillRule → Shelved H → Streams I O → Asked → Answer → Type 0
 ByBuild rule shelf s asked answer = ByWriting shelf s (Builds rule) asked answer

@@ -14,7 +14,8 @@ use Rattle.tg_driver.specs.declared.faults.Rule.TheVariants.{Lexical, Syntactic,
 use Rattle.tg_driver.specs.declared.faults.Fault.{Fault}
 use Rattle.tg_driver.specs.declared.answers.Answer.{Answer}
 use Rattle.tg_driver.specs.declared.answers.Answer.TheVariants.{Usage, Unreadable, Faulty, BadLine}
-use Rattle.tg_driver.specs.declared.answers.Answer.TheVariants.{TooLong, Accepted, Written, Unwritten}
+use Rattle.tg_driver.specs.declared.answers.Answer.TheVariants.{TooLong, Accepted, Written}
+use Rattle.tg_driver.specs.declared.answers.Answer.TheVariants.{Unwritten}
 use Rattle.tg_driver.specs.declared.answers.Answer.TheVariants.{OutOfMemory, Finished}
 use Rattle.tg_driver.specs.Endings.{ended, end_status, end_line}
 

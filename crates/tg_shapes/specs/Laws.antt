@@ -110,8 +110,8 @@ SlotsAreFew =
     (translated findings e).functions
 
 -- The length, the room and the depth that a node of a function's text pays for at most, where
--- functions are nested 32 deep at most, what a parameter of its own pays for, and what each function
--- has besides. The dearest node is a call without arguments over 32 levels.
+-- functions are nested 32 deep at most, what a parameter of its own pays for, and what each
+-- function has besides. The dearest node is a call without arguments over 32 levels.
 abbrev pub node_length : ℕ
 node_length = 145
 
