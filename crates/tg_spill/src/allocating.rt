@@ -16,8 +16,8 @@ use tg_instr::Code;
 use tg_rounds::{Round, SpillPolicy};
 
 /// Registers for a code's temporaries by rounds of coalescing and spilling (George and Appel 1996,
-/// section 4): each round that spills a class with an original gives it a slot, above those that the
-/// frame has, and the next round is on the code with its loads and stores. Where a round spills
+/// section 4): each round that spills a class with an original gives it a slot, above those that
+/// the frame has, and the next round is on the code with its loads and stores. Where a round spills
 /// classes of made temporaries alone, every temporary of the code that was handed in goes to the
 /// frame. After `Memory` the policy may have been asked.
 pub fn allocate(
