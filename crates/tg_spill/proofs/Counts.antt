@@ -68,7 +68,9 @@ moved_words base (Reg r) (Temp s) = lit≤ tt
 moved_words base (Reg r) (Reg q) = lit≤ tt
 
 -- with so many words of the instruction, and at most so many before and behind it
-sum_words : (base : ℕ) (one : Instr) (x y z : Opnd) (a b c n : ℕ) → words (loaded base 8 (named one).first) ≤ a → words (loaded base 9 (named one).second) ≤ b → words (stored base 8 (named one).to) ≤ c → words_of (renamed one x y z) ≤ n → words (loaded base 8 (named one).first ++ (loaded base 9 (named one).second ++ (renamed one x y z ∷ stored base 8 (named one).to))) ≤ a + b + c + n
+sum_words : (base : ℕ) (one : Instr) (x y z : Opnd) (a b c n : ℕ) → words (loaded base 8 (named one).first) ≤ a →
+    words (loaded base 9 (named one).second) ≤ b → words (stored base 8 (named one).to) ≤ c → words_of (renamed one x y z) ≤ n →
+    words (loaded base 8 (named one).first ++ (loaded base 9 (named one).second ++ (renamed one x y z ∷ stored base 8 (named one).to))) ≤ a + b + c + n
 sum_words base one x y z a b c n ha hb hc hn =
     let p = loaded base 8 (named one).first in
     let q = loaded base 9 (named one).second in
@@ -78,7 +80,8 @@ sum_words base one x y z a b c n ha hb hc hn =
     let g : words r ≡ 0 + words_of (renamed one x y z) + words (stored base 8 (named one).to) = sum_by-append words_of (renamed one x y z ∷ []) (stored base 8 (named one).to) in
     omega arith
 
-through_words : (base : ℕ) (one : Instr) (x y z : Opnd) → words (loaded base 8 (named one).first ++ (loaded base 9 (named one).second ++ (renamed one x y z ∷ stored base 8 (named one).to))) ≤ 10
+through_words : (base : ℕ) (one : Instr) (x y z : Opnd) →
+    words (loaded base 8 (named one).first ++ (loaded base 9 (named one).second ++ (renamed one x y z ∷ stored base 8 (named one).to))) ≤ 10
 through_words base (FrameLoad to k) x y z = let h = sum_words base (FrameLoad to k) x y z 0 0 3 3 (lit≤ tt) (lit≤ tt) (stored_words base 8 (Some to)) (lit≤ tt) in omega arith
 through_words base (FrameStore from k) x y z = let h = sum_words base (FrameStore from k) x y z 3 0 0 3 (loaded_words base 8 (Some from)) (lit≤ tt) (lit≤ tt) (lit≤ tt) in omega arith
 through_words base (FrameAddress to) x y z = let h = sum_words base (FrameAddress to) x y z 0 0 3 3 (lit≤ tt) (lit≤ tt) (stored_words base 8 (Some to)) (lit≤ tt) in omega arith

@@ -133,7 +133,8 @@ second_below most (Branch test m) h = left_holds _ _ (right_holds _ _ (left_hold
 second_below most _ h = refl
 
 -- registers stay, so a row of the table stays one
-row_mapped : (f g : Opnd → Opnd) → ((r : ℕ) → g (Reg r) ≡ Reg r) → (rel : Rel) (left right : Opnd) → IsTrue (is_one_row rel left right) → IsTrue (is_one_row rel (f left) (g right))
+row_mapped : (f g : Opnd → Opnd) → ((r : ℕ) → g (Reg r) ≡ Reg r) → (rel : Rel) (left right : Opnd) → IsTrue (is_one_row rel left right) →
+    IsTrue (is_one_row rel (f left) (g right))
 row_mapped f g e Equal left right h = refl
 row_mapped f g e NotEqual left right h = refl
 row_mapped f g e Below left right h = h
@@ -151,7 +152,8 @@ pub stays : (one : Instr) → IsTrue (stays_one_row one (through_named 8 (named 
 stays (Branch test m) = row_mapped (through 8) (through 9) (λ r. refl) test.rel test.left test.right test.is_one_row
 stays _ = refl
 
-pub stays_painted : (colour : ℕ → ℕ) (one : Instr) → IsTrue (stays_one_row one (painted_named colour (named one).first) (painted_named colour (named one).second))
+pub stays_painted : (colour : ℕ → ℕ) (one : Instr) →
+    IsTrue (stays_one_row one (painted_named colour (named one).first) (painted_named colour (named one).second))
 stays_painted colour (Branch test m) = row_mapped (painted colour) (painted colour) (λ r. refl) test.rel test.left test.right test.is_one_row
 stays_painted colour _ = refl
 

@@ -27,10 +27,12 @@ kept p true y ys h k = both_hold (p y) _ h k
 kept p false y ys h k = k
 
 -- what each painted instruction passes
-painted_passes : (colour : ℕ → ℕ) (p q : Instr → Bool) → ((one : Instr) → IsTrue (q one) → IsTrue (p (instruction_painted colour one))) → (list : List Instr) → IsTrue (list_all q list) → IsTrue (list_all p (code_painted colour list))
+painted_passes : (colour : ℕ → ℕ) (p q : Instr → Bool) → ((one : Instr) → IsTrue (q one) → IsTrue (p (instruction_painted colour one))) →
+    (list : List Instr) → IsTrue (list_all q list) → IsTrue (list_all p (code_painted colour list))
 painted_passes colour p q f [] h = refl
 painted_passes colour p q f (x ∷ rest) h =
-    kept p (not (is_idle (instruction_painted colour x))) (instruction_painted colour x) (code_painted colour rest) (f x (left_holds _ _ h)) (painted_passes colour p q f rest (right_holds (q x) _ h))
+    kept p (not (is_idle (instruction_painted colour x))) (instruction_painted colour x) (code_painted colour rest) (f x (left_holds _ _ h))
+    (painted_passes colour p q f rest (right_holds (q x) _ h))
 
 module _ (colour : ℕ → ℕ) where
   -- the register in an operand's place
@@ -47,7 +49,8 @@ module _ (colour : ℕ → ℕ) where
   one_alone : (one : Instr) → IsTrue (has_registers_alone (instruction_painted colour one))
   one_alone one =
       let f = stays_painted colour one in
-      rw (painted_is (named one).to, painted_is (named one).first, painted_is (named one).second) (alone_renamed one (number (named one).to) (number (named one).first) (number (named one).second) (rw (← painted_is (named one).first, ← painted_is (named one).second) f))
+      rw (painted_is (named one).to, painted_is (named one).first, painted_is (named one).second)
+      (alone_renamed one (number (named one).to) (number (named one).first) (number (named one).second) (rw (← painted_is (named one).first, ← painted_is (named one).second) f))
 
   -- a colour's register is one of the allocator's
   register_allowed : (c : ℕ) → IsTrue (is_allocated (register_of c))
@@ -65,9 +68,11 @@ module _ (colour : ℕ → ℕ) where
   one_allowed one h =
       let rest = right_holds (has_register is_fixed (named one).to) _ h in
       names_renamed is_allocated one _ _ _ (names_weaker is_fixed is_allocated fixed_allocated one h)
-      (operand_allowed (named one).to (left_holds _ _ h)) (operand_allowed (named one).first (left_holds _ _ rest)) (operand_allowed (named one).second (right_holds (has_register is_fixed (named one).first) _ rest))
+      (operand_allowed (named one).to (left_holds _ _ h)) (operand_allowed (named one).first (left_holds _ _ rest))
+      (operand_allowed (named one).second (right_holds (has_register is_fixed (named one).first) _ rest))
 
-  pub names_allocated : (list : List Instr) → IsTrue (list_all (names_registers is_fixed) list) → IsTrue (list_all (names_registers is_allocated) (code_painted colour list))
+  pub names_allocated : (list : List Instr) → IsTrue (list_all (names_registers is_fixed) list) →
+      IsTrue (list_all (names_registers is_allocated) (code_painted colour list))
   names_allocated list h = painted_passes colour (names_registers is_allocated) (names_registers is_fixed) one_allowed list h
 
   pub names_alone : (list : List Instr) → IsTrue (list_all (names_registers is_fixed) list) → IsTrue (list_all has_registers_alone (code_painted colour list))
@@ -84,11 +89,13 @@ same_colour round = λ i t. ap colour_or_first (get_or-drop 25 round.colours t N
 colours_behind : (round : Round) (all : List (Option ℕ)) → all ≡ round.colours → colour_in (take (length all - 25) (drop 25 all)) ≡ colour_of round
 colours_behind round all e = ap colour_in (behind_registers all ∙ ap (drop 25) e) ∙ same_colour round
 
-pub painted_behind : (round : Round) (all : List (Option ℕ)) (list list' : List Instr) → all ≡ round.colours → list' ≡ list → code_painted (colour_in (take (length all - 25) (drop 25 all))) list' ≡ code_painted (colour_of round) list
+pub painted_behind : (round : Round) (all : List (Option ℕ)) (list list' : List Instr) → all ≡ round.colours → list' ≡ list →
+    code_painted (colour_in (take (length all - 25) (drop 25 all))) list' ≡ code_painted (colour_of round) list
 painted_behind round all list list' e d =
     ap (code_painted (colour_in (take (length all - 25) (drop 25 all)))) d ∙ ap (λ f. code_painted f list) (colours_behind round all e)
 
-pub homes_behind : (round : Round) (all homes homes' : List (Option ℕ)) → all ≡ round.colours → homes' ≡ homes → homes_in homes' (take (length all - 25) (drop 25 all)) ≡ map (λ t. home_in (slot_in homes t) (colour_of round t)) (range_with_len 0 (length homes))
+pub homes_behind : (round : Round) (all homes homes' : List (Option ℕ)) → all ≡ round.colours → homes' ≡ homes →
+    homes_in homes' (take (length all - 25) (drop 25 all)) ≡ map (λ t. home_in (slot_in homes t) (colour_of round t)) (range_with_len 0 (length homes))
 homes_behind round all homes homes' e d =
     ap (λ hs. homes_in hs (take (length all - 25) (drop 25 all))) d
     ∙ ap (λ (f : ℕ → ℕ). map (λ t. home_in (slot_in homes t) (f t)) (range_with_len 0 (length homes))) (colours_behind round all e)

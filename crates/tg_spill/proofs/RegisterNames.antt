@@ -28,15 +28,20 @@ module _ (p q : ℕ → Bool) (weaker : (r : ℕ) → p r ≡ true → q r ≡ t
       both_hold _ _ (register_weaker (named one).to (left_holds _ _ h))
       (both_hold _ _ (register_weaker (named one).first (left_holds _ _ rest)) (register_weaker (named one).second (right_holds (has_register p (named one).first) _ rest)))
 
-first_tested : (allowed : ℕ → Bool) (rel : Rel) (y z : Opnd) (fits : Bool) (e : is_one_row rel y z ≡ fits) (test : Test) → IsTrue (has_register allowed (Some test.left)) → IsTrue (has_register allowed (Some y)) → IsTrue (has_register allowed (Some (tested rel y z fits e test).left))
+first_tested : (allowed : ℕ → Bool) (rel : Rel) (y z : Opnd) (fits : Bool) (e : is_one_row rel y z ≡ fits) (test : Test) →
+    IsTrue (has_register allowed (Some test.left)) → IsTrue (has_register allowed (Some y)) →
+    IsTrue (has_register allowed (Some (tested rel y z fits e test).left))
 first_tested allowed rel y z true e test k h = h
 first_tested allowed rel y z false e test k h = k
 
-second_tested : (allowed : ℕ → Bool) (rel : Rel) (y z : Opnd) (fits : Bool) (e : is_one_row rel y z ≡ fits) (test : Test) → IsTrue (has_register allowed (Some test.right)) → IsTrue (has_register allowed (Some z)) → IsTrue (has_register allowed (Some (tested rel y z fits e test).right))
+second_tested : (allowed : ℕ → Bool) (rel : Rel) (y z : Opnd) (fits : Bool) (e : is_one_row rel y z ≡ fits) (test : Test) →
+    IsTrue (has_register allowed (Some test.right)) → IsTrue (has_register allowed (Some z)) →
+    IsTrue (has_register allowed (Some (tested rel y z fits e test).right))
 second_tested allowed rel y z true e test k h = h
 second_tested allowed rel y z false e test k h = k
 
-to_renamed : (allowed : ℕ → Bool) (one : Instr) (x y z : Opnd) → IsTrue (has_register allowed (Some x)) → IsTrue (has_register allowed (named (renamed one x y z)).to)
+to_renamed : (allowed : ℕ → Bool) (one : Instr) (x y z : Opnd) → IsTrue (has_register allowed (Some x)) →
+    IsTrue (has_register allowed (named (renamed one x y z)).to)
 to_renamed allowed (Sll rd rt n) x y z h = h
 to_renamed allowed (Srl rd rt n) x y z h = h
 to_renamed allowed (Sra rd rt n) x y z h = h
@@ -69,7 +74,8 @@ to_renamed allowed (FrameAddress to) x y z h = h
 to_renamed allowed (Address to label) x y z h = h
 to_renamed allowed _ x y z h = refl
 
-first_renamed : (allowed : ℕ → Bool) (one : Instr) (x y z : Opnd) → IsTrue (has_register allowed (named one).first) → IsTrue (has_register allowed (Some y)) → IsTrue (has_register allowed (named (renamed one x y z)).first)
+first_renamed : (allowed : ℕ → Bool) (one : Instr) (x y z : Opnd) → IsTrue (has_register allowed (named one).first) →
+    IsTrue (has_register allowed (Some y)) → IsTrue (has_register allowed (named (renamed one x y z)).first)
 first_renamed allowed (Sll rd rt n) x y z own h = h
 first_renamed allowed (Srl rd rt n) x y z own h = h
 first_renamed allowed (Sra rd rt n) x y z own h = h
@@ -102,7 +108,8 @@ first_renamed allowed (FrameStore from k) x y z own h = h
 first_renamed allowed (Branch test m) x y z own h = first_tested allowed test.rel y z (is_one_row test.rel y z) refl test own h
 first_renamed allowed _ x y z own h = refl
 
-second_renamed : (allowed : ℕ → Bool) (one : Instr) (x y z : Opnd) → IsTrue (has_register allowed (named one).second) → IsTrue (has_register allowed (Some z)) → IsTrue (has_register allowed (named (renamed one x y z)).second)
+second_renamed : (allowed : ℕ → Bool) (one : Instr) (x y z : Opnd) → IsTrue (has_register allowed (named one).second) →
+    IsTrue (has_register allowed (Some z)) → IsTrue (has_register allowed (named (renamed one x y z)).second)
 second_renamed allowed (Mult rs rt) x y z own h = h
 second_renamed allowed (Div rs rt) x y z own h = h
 second_renamed allowed (Add rd rs rt) x y z own h = h
@@ -120,7 +127,8 @@ second_renamed allowed (Sw rt n rs) x y z own h = h
 second_renamed allowed (Branch test m) x y z own h = second_tested allowed test.rel y z (is_one_row test.rel y z) refl test own h
 second_renamed allowed _ x y z own h = refl
 
-pub names_renamed : (allowed : ℕ → Bool) (one : Instr) (x y z : Opnd) → IsTrue (names_registers allowed one) → IsTrue (has_register allowed (Some x)) → IsTrue (has_register allowed (Some y)) → IsTrue (has_register allowed (Some z)) → IsTrue (names_registers allowed (renamed one x y z))
+pub names_renamed : (allowed : ℕ → Bool) (one : Instr) (x y z : Opnd) → IsTrue (names_registers allowed one) → IsTrue (has_register allowed (Some x)) →
+    IsTrue (has_register allowed (Some y)) → IsTrue (has_register allowed (Some z)) → IsTrue (names_registers allowed (renamed one x y z))
 names_renamed allowed one x y z h hx hy hz =
     let rest = right_holds (has_register allowed (named one).to) _ h in
     both_hold _ _ (to_renamed allowed one x y z hx)

@@ -32,7 +32,8 @@ through_is r (Some (Reg q)) = refl
 through_is r None = refl
 
 -- registers alone
-alone_tested : (rel : Rel) (b c m : ℕ) (fits : Bool) (e : is_one_row rel (Reg b) (Reg c) ≡ fits) (test : Test) → IsTrue fits → IsTrue (has_registers_alone (Branch (tested rel (Reg b) (Reg c) fits e test) m))
+alone_tested : (rel : Rel) (b c m : ℕ) (fits : Bool) (e : is_one_row rel (Reg b) (Reg c) ≡ fits) (test : Test) → IsTrue fits →
+    IsTrue (has_registers_alone (Branch (tested rel (Reg b) (Reg c) fits e test) m))
 alone_tested rel b c m true e test f = refl
 alone_tested rel b c m false e test f = cc
 
@@ -67,35 +68,49 @@ slot_below base temps t h = grind (arith, nat_tests)
 abbrev Good : (Instr → Bool) → ℕ → ℕ → Type 0
 Good p base temps = (r t : ℕ) → IsTrue (is_allocated r) → IsTrue (nat_lt t temps) → IsTrue (p (FrameLoad (Reg r) (base + t))) × IsTrue (p (FrameStore (Reg r) (base + t)))
 
-good_loaded : (p : Instr → Bool) (base temps r : ℕ) → Good p base temps → IsTrue (is_allocated r) → (o : Option Opnd) → IsTrue (is_option_below temps o) → IsTrue (list_all p (loaded base r o))
+good_loaded : (p : Instr → Bool) (base temps r : ℕ) → Good p base temps → IsTrue (is_allocated r) → (o : Option Opnd) → IsTrue (is_option_below temps o) →
+    IsTrue (list_all p (loaded base r o))
 good_loaded p base temps r good free (Some (Temp t)) h = both_hold _ _ (good r t.0 free h).0 refl
 good_loaded p base temps r good free (Some (Reg q)) h = refl
 good_loaded p base temps r good free None h = refl
 
-good_stored : (p : Instr → Bool) (base temps r : ℕ) → Good p base temps → IsTrue (is_allocated r) → (o : Option Opnd) → IsTrue (is_option_below temps o) → IsTrue (list_all p (stored base r o))
+good_stored : (p : Instr → Bool) (base temps r : ℕ) → Good p base temps → IsTrue (is_allocated r) → (o : Option Opnd) → IsTrue (is_option_below temps o) →
+    IsTrue (list_all p (stored base r o))
 good_stored p base temps r good free (Some (Temp t)) h = both_hold _ _ (good r t.0 free h).1 refl
 good_stored p base temps r good free (Some (Reg q)) h = refl
 good_stored p base temps r good free None h = refl
 
-good_moved : (p : Instr → Bool) (base temps : ℕ) → Good p base temps → (to from : Opnd) → IsTrue (is_option_below temps (Some to)) → IsTrue (is_option_below temps (Some from)) → IsTrue (has_register is_fixed (Some to)) → IsTrue (has_register is_fixed (Some from)) → ((r q : ℕ) → IsTrue (is_allocated r) → IsTrue (is_allocated q) → IsTrue (p (Move (Reg r) (Reg q)))) → IsTrue (list_all p (moved base to from))
+good_moved : (p : Instr → Bool) (base temps : ℕ) → Good p base temps → (to from : Opnd) → IsTrue (is_option_below temps (Some to)) →
+    IsTrue (is_option_below temps (Some from)) → IsTrue (has_register is_fixed (Some to)) → IsTrue (has_register is_fixed (Some from)) →
+    ((r q : ℕ) → IsTrue (is_allocated r) → IsTrue (is_allocated q) → IsTrue (p (Move (Reg r) (Reg q)))) → IsTrue (list_all p (moved base to from))
 good_moved p base temps good (Temp t) (Temp s) h k f g m = both_hold _ _ (good 8 s.0 refl k).0 (both_hold _ _ (good 8 t.0 refl h).1 refl)
 good_moved p base temps good (Temp t) (Reg q) h k f g m = both_hold _ _ (good q t.0 (fixed_allocated q g) h).1 refl
 good_moved p base temps good (Reg r) (Temp s) h k f g m = both_hold _ _ (good r s.0 (fixed_allocated r f) k).0 refl
 good_moved p base temps good (Reg r) (Reg q) h k f g m = both_hold _ _ (m r q (fixed_allocated r f) (fixed_allocated q g)) refl
 
-good_through : (p : Instr → Bool) (base temps : ℕ) → Good p base temps → (one : Instr) → IsTrue (has_temps_below temps one) → IsTrue (p (renamed one (through_named 8 (named one).to) (through_named 8 (named one).first) (through_named 9 (named one).second))) → IsTrue (list_all p (through_slots base one (named one)))
+good_through : (p : Instr → Bool) (base temps : ℕ) → Good p base temps → (one : Instr) → IsTrue (has_temps_below temps one) →
+    IsTrue (p (renamed one (through_named 8 (named one).to) (through_named 8 (named one).first) (through_named 9 (named one).second))) →
+    IsTrue (list_all p (through_slots base one (named one)))
 good_through p base temps good one below here =
     all_append p (loaded base 8 (named one).first) _ (good_loaded p base temps 8 good refl (named one).first (first_below temps one below))
     (all_append p (loaded base 9 (named one).second) _ (good_loaded p base temps 9 good refl (named one).second (second_below temps one below))
     (both_hold _ _ here (good_stored p base temps 8 good refl (named one).to (to_below temps one below))))
 
-good_one : (p : Instr → Bool) (base temps : ℕ) → Good p base temps → ((r q : ℕ) → IsTrue (is_allocated r) → IsTrue (is_allocated q) → IsTrue (p (Move (Reg r) (Reg q)))) → (one : Instr) → IsTrue (has_temps_below temps one) → IsTrue (names_registers is_fixed one) → IsTrue (p (renamed one (through_named 8 (named one).to) (through_named 8 (named one).first) (through_named 9 (named one).second))) → IsTrue (list_all p (instruction_in_frame base one))
+good_one : (p : Instr → Bool) (base temps : ℕ) → Good p base temps →
+    ((r q : ℕ) → IsTrue (is_allocated r) → IsTrue (is_allocated q) → IsTrue (p (Move (Reg r) (Reg q)))) → (one : Instr) →
+    IsTrue (has_temps_below temps one) → IsTrue (names_registers is_fixed one) →
+    IsTrue (p (renamed one (through_named 8 (named one).to) (through_named 8 (named one).first) (through_named 9 (named one).second))) →
+    IsTrue (list_all p (instruction_in_frame base one))
 good_one p base temps good m (Move to from) below fixed here =
     good_moved p base temps good to from (to_below temps (Move to from) below) (first_below temps (Move to from) below) (left_holds _ _ fixed) (left_holds _ _ (right_holds (has_register is_fixed (Some to)) _ fixed)) m
 good_one p base temps good m one below fixed here = good_through p base temps good one below here
 
 -- a test that loads, stores and moves pass, and each renamed instruction
-pub good_code : (p q : Instr → Bool) (base temps : ℕ) → Good p base temps → ((r q : ℕ) → IsTrue (is_allocated r) → IsTrue (is_allocated q) → IsTrue (p (Move (Reg r) (Reg q)))) → ((one : Instr) → IsTrue (q one) → IsTrue (names_registers is_fixed one) → IsTrue (p (renamed one (through_named 8 (named one).to) (through_named 8 (named one).first) (through_named 9 (named one).second)))) → (list : List Instr) → IsTrue (list_all (has_temps_below temps) list) → IsTrue (list_all (names_registers is_fixed) list) → IsTrue (list_all q list) → IsTrue (list_all p (code_in_frame base list))
+pub good_code : (p q : Instr → Bool) (base temps : ℕ) → Good p base temps →
+    ((r q : ℕ) → IsTrue (is_allocated r) → IsTrue (is_allocated q) → IsTrue (p (Move (Reg r) (Reg q)))) →
+    ((one : Instr) → IsTrue (q one) → IsTrue (names_registers is_fixed one) → IsTrue (p (renamed one (through_named 8 (named one).to) (through_named 8 (named one).first) (through_named 9 (named one).second)))) →
+    (list : List Instr) → IsTrue (list_all (has_temps_below temps) list) → IsTrue (list_all (names_registers is_fixed) list) → IsTrue (list_all q list) →
+    IsTrue (list_all p (code_in_frame base list))
 good_code p q base temps good m here [] below fixed h = refl
 good_code p q base temps good m here (one ∷ rest) below fixed h =
     all_append p (instruction_in_frame base one) (code_in_frame base rest)
@@ -110,30 +125,37 @@ all_always [] = refl
 all_always (one ∷ rest) = all_always rest
 
 -- registers alone
-renamed_alone : (one : Instr) → IsTrue (has_registers_alone (renamed one (through_named 8 (named one).to) (through_named 8 (named one).first) (through_named 9 (named one).second)))
+renamed_alone : (one : Instr) →
+    IsTrue (has_registers_alone (renamed one (through_named 8 (named one).to) (through_named 8 (named one).first) (through_named 9 (named one).second)))
 renamed_alone one =
     let f = stays one in
     rw (through_is 8 (named one).to, through_is 8 (named one).first, through_is 9 (named one).second) (alone_renamed one (number 8 (named one).to) (number 8 (named one).first) (number 9 (named one).second) (rw (← through_is 8 (named one).first, ← through_is 9 (named one).second) f))
 
-pub registers_alone : (base temps : ℕ) (list : List Instr) → IsTrue (list_all (has_temps_below temps) list) → IsTrue (list_all (names_registers is_fixed) list) → IsTrue (list_all has_registers_alone (code_in_frame base list))
+pub registers_alone : (base temps : ℕ) (list : List Instr) → IsTrue (list_all (has_temps_below temps) list) →
+    IsTrue (list_all (names_registers is_fixed) list) → IsTrue (list_all has_registers_alone (code_in_frame base list))
 registers_alone base temps list below fixed =
     good_code has_registers_alone always base temps (λ r t a h. (refl, refl)) (λ r q a b. refl) (λ one h g. renamed_alone one) list below fixed (all_always list)
 
-through_allocated : (r : ℕ) → IsTrue (is_allocated r) → (o : Option Opnd) → IsTrue (has_register is_fixed o) → IsTrue (has_register is_allocated (Some (through_named r o)))
+through_allocated : (r : ℕ) → IsTrue (is_allocated r) → (o : Option Opnd) → IsTrue (has_register is_fixed o) →
+    IsTrue (has_register is_allocated (Some (through_named r o)))
 through_allocated r free (Some (Temp t)) h = free
 through_allocated r free (Some (Reg q)) h = fixed_allocated q h
 through_allocated r free None h = free
 
-renamed_names : (one : Instr) → IsTrue (names_registers is_fixed one) → IsTrue (names_registers is_allocated (renamed one (through_named 8 (named one).to) (through_named 8 (named one).first) (through_named 9 (named one).second)))
+renamed_names : (one : Instr) → IsTrue (names_registers is_fixed one) →
+    IsTrue (names_registers is_allocated (renamed one (through_named 8 (named one).to) (through_named 8 (named one).first) (through_named 9 (named one).second)))
 renamed_names one h =
     let rest = right_holds (has_register is_fixed (named one).to) _ h in
     names_renamed is_allocated one _ _ _ (names_weaker is_fixed is_allocated fixed_allocated one h)
     (through_allocated 8 refl (named one).to (left_holds _ _ h)) (through_allocated 8 refl (named one).first (left_holds _ _ rest)) (through_allocated 9 refl (named one).second (right_holds (has_register is_fixed (named one).first) _ rest))
 
-pub registers_allocated : (base temps : ℕ) (list : List Instr) → IsTrue (list_all (has_temps_below temps) list) → IsTrue (list_all (names_registers is_fixed) list) → IsTrue (list_all (names_registers is_allocated) (code_in_frame base list))
+pub registers_allocated : (base temps : ℕ) (list : List Instr) → IsTrue (list_all (has_temps_below temps) list) →
+    IsTrue (list_all (names_registers is_fixed) list) → IsTrue (list_all (names_registers is_allocated) (code_in_frame base list))
 registers_allocated base temps list below fixed =
     good_code (names_registers is_allocated) always base temps (λ r t a h. (both_hold _ _ a refl, both_hold _ _ refl (both_hold _ _ a refl))) (λ r q a b. both_hold _ _ a (both_hold _ _ b refl)) (λ one h g. renamed_names one g) list below fixed (all_always list)
 
-pub slots_below : (base temps : ℕ) (list : List Instr) → IsTrue (list_all (has_temps_below temps) list) → IsTrue (list_all (names_registers is_fixed) list) → IsTrue (list_all (has_slots_below base) list) → IsTrue (list_all (has_slots_below (base + temps)) (code_in_frame base list))
+pub slots_below : (base temps : ℕ) (list : List Instr) → IsTrue (list_all (has_temps_below temps) list) →
+    IsTrue (list_all (names_registers is_fixed) list) → IsTrue (list_all (has_slots_below base) list) →
+    IsTrue (list_all (has_slots_below (base + temps)) (code_in_frame base list))
 slots_below base temps list below fixed h =
     good_code (has_slots_below (base + temps)) (has_slots_below base) base temps (λ r t a lt. (slot_below base temps t lt, slot_below base temps t lt)) (λ r q a b. refl) (λ one k g. slots_renamed base temps one _ _ _ k) list below fixed h

@@ -50,7 +50,8 @@ pub same_differing : {l k : List Instr} → AreReplaced l k → marks_differ k �
 same_differing none = refl
 same_differing (also x xs rest rest' r rs) = r.differ rest' ∙ differ_cons x rest' rest (same_marks rs) (same_differing rs)
 
-lead_into : {l k : List Instr} (all into : List Instr) → SameMarks into all → AreReplaced l k → IsTrue (list_all (leads_to_marks all) l) → IsTrue (list_all (leads_to_marks into) k)
+lead_into : {l k : List Instr} (all into : List Instr) → SameMarks into all → AreReplaced l k → IsTrue (list_all (leads_to_marks all) l) →
+    IsTrue (list_all (leads_to_marks into) k)
 lead_into all into same none h = refl
 lead_into all into same (also x xs rest rest' r rs) h =
     all_append (leads_to_marks into) xs rest' (r.leads all into same (left_holds _ _ h)) (lead_into all into same rs (right_holds (leads_to_marks all x) _ h))
@@ -121,7 +122,8 @@ mark_renamed : (m : ℕ) (one : Instr) (x y z : Opnd) → is_mark m (renamed one
 mark_renamed m (Mark k) x y z = refl
 mark_renamed m _ x y z = refl
 
-leads_renamed : (all into : List Instr) → SameMarks into all → (one : Instr) (x y z : Opnd) → IsTrue (leads_to_marks all one) → IsTrue (leads_to_marks into (renamed one x y z))
+leads_renamed : (all into : List Instr) → SameMarks into all → (one : Instr) (x y z : Opnd) → IsTrue (leads_to_marks all one) →
+    IsTrue (leads_to_marks into (renamed one x y z))
 leads_renamed all into same (Jump m) x y z h = same m ∙ h
 leads_renamed all into same (Branch test m) x y z h = same m ∙ h
 leads_renamed all into same _ x y z h = refl
@@ -132,7 +134,8 @@ differ_renamed _ x y z ys = refl
 
 -- the instruction with other operands, and accesses before and behind it; a last instruction has
 -- none
-pub around : (one : Instr) (x y z : Opnd) (before after : List Instr) → IsTrue (list_all is_access before) → IsTrue (list_all is_access after) → (IsTrue (is_end one) → before ++ (renamed one x y z ∷ after) ≡ one ∷ []) → Replaces one (before ++ (renamed one x y z ∷ after))
+pub around : (one : Instr) (x y z : Opnd) (before after : List Instr) → IsTrue (list_all is_access before) → IsTrue (list_all is_access after) →
+    (IsTrue (is_end one) → before ++ (renamed one x y z ∷ after) ≡ one ∷ []) → Replaces one (before ++ (renamed one x y z ∷ after))
 around one x y z before after h k e =
     record {
       marks = λ m.

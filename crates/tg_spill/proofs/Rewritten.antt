@@ -53,7 +53,8 @@ module _ (slot_of : ℕ → Option ℕ) where
       also x (instruction_rewritten slot_of x next) rest (code_rewritten slot_of rest (next_after slot_of x next)) (replaced x next) (are_replaced rest (next_after slot_of x next))
 
   -- One instruction after another.
-  pub rewritten_more : (xs : List Instr) (x : Instr) (next : ℕ) → code_rewritten slot_of (xs ++ x ∷ []) next ≡ code_rewritten slot_of xs next ++ instruction_rewritten slot_of x (temps_after slot_of xs next)
+  pub rewritten_more : (xs : List Instr) (x : Instr) (next : ℕ) →
+      code_rewritten slot_of (xs ++ x ∷ []) next ≡ code_rewritten slot_of xs next ++ instruction_rewritten slot_of x (temps_after slot_of xs next)
   rewritten_more [] x next = append-nil (instruction_rewritten slot_of x next)
   rewritten_more (y ∷ xs) x next =
       ap (λ l. instruction_rewritten slot_of y next ++ l) (rewritten_more xs x (next_after slot_of y next))

@@ -33,15 +33,19 @@ temps_weaker n m l x h =
     (all_weaker (is_below n) (is_below m) (operand_weaker n m l) (uses_of x) (left_holds _ _ h))
     (all_weaker (is_below n) (is_below m) (operand_weaker n m l) (defs_of x) (right_holds (list_all (is_below n) (uses_of x)) _ h))
 
-tested_below : (m : ℕ) (rel : Rel) (y z : Opnd) (fits : Bool) (e : is_one_row rel y z ≡ fits) (test : Test) (k : ℕ) → IsTrue (has_temps_below m (Branch test k)) → IsTrue (is_below m y) → IsTrue (is_below m z) → IsTrue (has_temps_below m (Branch (tested rel y z fits e test) k))
+tested_below : (m : ℕ) (rel : Rel) (y z : Opnd) (fits : Bool) (e : is_one_row rel y z ≡ fits) (test : Test) (k : ℕ) →
+    IsTrue (has_temps_below m (Branch test k)) → IsTrue (is_below m y) → IsTrue (is_below m z) →
+    IsTrue (has_temps_below m (Branch (tested rel y z fits e test) k))
 tested_below m rel y z true e test k h hy hz = both_hold _ _ (both_hold _ _ hy (both_hold _ _ hz refl)) refl
 tested_below m rel y z false e test k h hy hz = h
 
-renamed_below : (m : ℕ) (one : Instr) (x y z : Opnd) → IsTrue (has_temps_below m one) → IsTrue (is_below m x) → IsTrue (is_below m y) → IsTrue (is_below m z) → IsTrue (has_temps_below m (renamed one x y z))
+renamed_below : (m : ℕ) (one : Instr) (x y z : Opnd) → IsTrue (has_temps_below m one) → IsTrue (is_below m x) → IsTrue (is_below m y) →
+    IsTrue (is_below m z) → IsTrue (has_temps_below m (renamed one x y z))
 renamed_below m (Branch test k) x y z h hx hy hz = tested_below m test.rel y z (is_one_row test.rel y z) refl test k h hy hz
 renamed_below m _ x y z h hx hy hz = grind (arith, nat_tests)
 
-in_slot_below : (m temp : ℕ) (x : Opnd) (slot : Option ℕ) → IsTrue (is_below m x) → temp + drawn_for slot ≤ m → IsTrue (is_below m (in_slot temp x slot).operand)
+in_slot_below : (m temp : ℕ) (x : Opnd) (slot : Option ℕ) → IsTrue (is_below m x) → temp + drawn_for slot ≤ m →
+    IsTrue (is_below m (in_slot temp x slot).operand)
 in_slot_below m temp x None h l = h
 in_slot_below m temp x (Some k) h l = grind (arith, nat_tests)
 
@@ -84,7 +88,8 @@ slots_weaker n m l (FrameStore from k) h = grind (arith, nat_tests)
 slots_weaker n m l _ h = refl
 
 module _ (slot_of : ℕ → Option ℕ) where
-  placed_below : (m : ℕ) (o : Option Opnd) (next : ℕ) → IsTrue (is_option_below m o) → next + drawn (placed slot_of o next) ≤ m → IsTrue (is_below m (placed slot_of o next).operand)
+  placed_below : (m : ℕ) (o : Option Opnd) (next : ℕ) → IsTrue (is_option_below m o) → next + drawn (placed slot_of o next) ≤ m →
+      IsTrue (is_below m (placed slot_of o next).operand)
   placed_below m (Some (Temp t)) next h l = in_slot_below m next (Temp t) (slot_of t.0) h (let e = slot_is next (Temp t) (slot_of t.0) in rw e at l)
   placed_below m (Some (Reg r)) next h l = refl
   placed_below m None next h l = refl
@@ -94,7 +99,8 @@ module _ (slot_of : ℕ → Option ℕ) where
   placed_slots m f (Some (Reg r)) next k e = cc
   placed_slots m f None next k e = cc
 
-  instruction_below : (m : ℕ) (x : Instr) (next : ℕ) → IsTrue (has_temps_below m x) → next_after slot_of x next ≤ m → IsTrue (list_all (has_temps_below m) (instruction_rewritten slot_of x next))
+  instruction_below : (m : ℕ) (x : Instr) (next : ℕ) → IsTrue (has_temps_below m x) → next_after slot_of x next ≤ m →
+      IsTrue (list_all (has_temps_below m) (instruction_rewritten slot_of x next))
   instruction_below m x next h l =
       let to = target slot_of x next in
       let first = first_use slot_of x next in
@@ -110,7 +116,8 @@ module _ (slot_of : ℕ → Option ℕ) where
   temps_grow [] next = omega arith
   temps_grow (x ∷ rest) next = let l = temps_grow rest (next_after slot_of x next) in omega arith
 
-  all_below : (m : ℕ) (list : List Instr) (next : ℕ) → IsTrue (list_all (has_temps_below m) list) → temps_after slot_of list next ≤ m → IsTrue (list_all (has_temps_below m) (code_rewritten slot_of list next))
+  all_below : (m : ℕ) (list : List Instr) (next : ℕ) → IsTrue (list_all (has_temps_below m) list) → temps_after slot_of list next ≤ m →
+      IsTrue (list_all (has_temps_below m) (code_rewritten slot_of list next))
   all_below m [] next h l = refl
   all_below m (x ∷ rest) next h l =
       let k = temps_grow rest (next_after slot_of x next) in
@@ -118,13 +125,15 @@ module _ (slot_of : ℕ → Option ℕ) where
       (instruction_below m x next (left_holds _ _ h) (omega arith))
       (all_below m rest (next_after slot_of x next) (right_holds (has_temps_below m x) _ h) l)
 
-  pub temps_below : (list : List Instr) (next : ℕ) → IsTrue (list_all (has_temps_below next) list) → IsTrue (list_all (has_temps_below (temps_after slot_of list next)) (code_rewritten slot_of list next))
+  pub temps_below : (list : List Instr) (next : ℕ) → IsTrue (list_all (has_temps_below next) list) →
+      IsTrue (list_all (has_temps_below (temps_after slot_of list next)) (code_rewritten slot_of list next))
   temps_below list next h =
       all_below (temps_after slot_of list next) list next
       (all_weaker (has_temps_below next) (has_temps_below (temps_after slot_of list next)) (temps_weaker next (temps_after slot_of list next) (temps_grow list next)) list h)
       (omega arith)
 
-  pub slots_below : (m : ℕ) → ((t : ℕ) → AreSlotsBelow m (slot_of t)) → (list : List Instr) (next : ℕ) → IsTrue (list_all (has_slots_below m) list) → IsTrue (list_all (has_slots_below m) (code_rewritten slot_of list next))
+  pub slots_below : (m : ℕ) → ((t : ℕ) → AreSlotsBelow m (slot_of t)) → (list : List Instr) (next : ℕ) → IsTrue (list_all (has_slots_below m) list) →
+      IsTrue (list_all (has_slots_below m) (code_rewritten slot_of list next))
   slots_below m f [] next h = refl
   slots_below m f (x ∷ rest) next h =
       let to = target slot_of x next in

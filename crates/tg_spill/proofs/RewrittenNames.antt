@@ -12,7 +12,8 @@ use Rattle.tg_spill.specs.Rewriting.{loads, stores, drawn, in_slot, placed, targ
 use Rattle.tg_spill.proofs.RegisterNames.{names_renamed}
 
 module _ (allowed : ℕ → Bool) (zero : IsTrue (allowed 0)) (slot_of : ℕ → Option ℕ) where
-  slot_names : (temp : ℕ) (x : Opnd) (slot : Option ℕ) → IsTrue (has_register allowed (Some x)) → IsTrue (has_register allowed (Some (in_slot temp x slot).operand))
+  slot_names : (temp : ℕ) (x : Opnd) (slot : Option ℕ) → IsTrue (has_register allowed (Some x)) →
+      IsTrue (has_register allowed (Some (in_slot temp x slot).operand))
   slot_names temp x None h = h
   slot_names temp x (Some k) h = refl
 
@@ -29,7 +30,8 @@ module _ (allowed : ℕ → Bool) (zero : IsTrue (allowed 0)) (slot_of : ℕ →
   stores_names x None h = refl
   stores_names x (Some k) h = both_hold _ _ (both_hold _ _ h refl) refl
 
-  instruction_names : (x : Instr) (next : ℕ) → IsTrue (names_registers allowed x) → IsTrue (list_all (names_registers allowed) (instruction_rewritten slot_of x next))
+  instruction_names : (x : Instr) (next : ℕ) → IsTrue (names_registers allowed x) →
+      IsTrue (list_all (names_registers allowed) (instruction_rewritten slot_of x next))
   instruction_names x next h =
       let to = target slot_of x next in
       let first = first_use slot_of x next in
@@ -42,7 +44,8 @@ module _ (allowed : ℕ → Bool) (zero : IsTrue (allowed 0)) (slot_of : ℕ →
       (all_append (names_registers allowed) (loads second.operand second.slot) _ (loads_names second.operand second.slot c)
       (both_hold _ _ (names_renamed allowed x to.operand first.operand second.operand h a b c) (stores_names to.operand to.slot a)))
 
-  pub code_names : (list : List Instr) (next : ℕ) → IsTrue (list_all (names_registers allowed) list) → IsTrue (list_all (names_registers allowed) (code_rewritten slot_of list next))
+  pub code_names : (list : List Instr) (next : ℕ) → IsTrue (list_all (names_registers allowed) list) →
+      IsTrue (list_all (names_registers allowed) (code_rewritten slot_of list next))
   code_names [] next h = refl
   code_names (x ∷ rest) next h =
       all_append (names_registers allowed) (instruction_rewritten slot_of x next) (code_rewritten slot_of rest (next_after slot_of x next))

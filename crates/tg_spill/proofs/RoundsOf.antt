@@ -18,7 +18,9 @@ use Rattle.tg_coalesce.specs.Standing.{graph_of}
 use Rattle.tg_spill.specs.Rounds.{IsOfTemps, IsRoundOf, stage_of}
 use Rattle.tg_spill.proofs.Sizes.{AreEnds}
 
-pub round_of : (rule : Rule) (originals slots : ℕ) (code : Code) (graph : Interference) (moves : List Move) (marks : List Mark) (round : Round) → IsInterference code.list code.temps graph → moves ≡ moves_of code.list → marks ≡ marks_of code.list code.temps originals → IsRound (problem (graph_of graph) moves marks rule) round → IsRoundOf rule originals (stage_of code slots) round
+pub round_of : (rule : Rule) (originals slots : ℕ) (code : Code) (graph : Interference) (moves : List Move) (marks : List Mark) (round : Round) →
+    IsInterference code.list code.temps graph → moves ≡ moves_of code.list → marks ≡ marks_of code.list code.temps originals →
+    IsRound (problem (graph_of graph) moves marks rule) round → IsRoundOf rule originals (stage_of code slots) round
 round_of rule originals slots code graph moves marks round exact e d h =
     record {
       graph = graph;
@@ -29,7 +31,8 @@ round_of rule originals slots code graph moves marks round exact e d h =
     }
 
 -- what it answers of nodes
-pub of_temps : (rule : Rule) (temps : ℕ) (graph : Interference) (moves : List Move) (marks : List Mark) (round : Round) → RoundsAreOfNodes → graph.nodes ≡ 25 + temps → All (AreEnds (25 + temps)) moves → IsRound (problem (graph_of graph) moves marks rule) round → IsOfTemps temps round
+pub of_temps : (rule : Rule) (temps : ℕ) (graph : Interference) (moves : List Move) (marks : List Mark) (round : Round) → RoundsAreOfNodes →
+    graph.nodes ≡ 25 + temps → All (AreEnds (25 + temps)) moves → IsRound (problem (graph_of graph) moves marks rule) round → IsOfTemps temps round
 of_temps rule temps graph moves marks round law e ends h =
     let p = problem (graph_of graph) moves marks rule in
     let o = law p round (subst (λ (n : ℕ). All (AreEnds n) moves) (sym e) ends) h in

@@ -57,11 +57,13 @@ total_more n list h =
 mark_uses : (list : List Instr) (originals n : ℕ) → (mark_of list originals n).uses ≤ occurrences (temp (n - 25)) list
 mark_uses list originals n = by (is_register n)
   where
-    by : (b : Bool) → (cond {A = Mark} b (record { uses = 0; made = false }) (record { uses = occurrences (temp (n - 25)) list; made = nat_le originals (n - 25) })).uses ≤ occurrences (temp (n - 25)) list
+    by : (b : Bool) →
+        (cond {A = Mark} b (record { uses = 0; made = false }) (record { uses = occurrences (temp (n - 25)) list; made = nat_le originals (n - 25) })).uses ≤ occurrences (temp (n - 25)) list
     by true = omega arith
     by false = omega arith
 
-few_in : (list : List Instr) (originals n : ℕ) → sum_by (λ (m : Mark). m.uses) (map (mark_of list originals) (range_with_len 0 (25 + n))) ≤ sum_by (total (25 + n)) list
+few_in : (list : List Instr) (originals n : ℕ) →
+    sum_by (λ (m : Mark). m.uses) (map (mark_of list originals) (range_with_len 0 (25 + n))) ≤ sum_by (total (25 + n)) list
 few_in list originals zero = let z : sum_by (λ (m : Mark). m.uses) (map (mark_of list originals) (range_with_len 0 25)) ≡ 0 = refl in omega arith
 few_in list originals (suc n) =
     let e : (25 + n) + 1 ≡ 25 + suc n = omega arith in
@@ -123,7 +125,8 @@ between_below n (Some to) (Some from) f g m e = subst (AreEnds n) (some_is e) (f
 between_below n (Some to) None f g m e = cc
 between_below n None b f g m e = cc
 
-shape_below : (temps : ℕ) (s : Shape) → IsTrue (list_all (is_below temps) (uses s)) → IsTrue (list_all (is_below temps) (defs s)) → (m : Move) → move_of s ≡ Some m → AreEnds (25 + temps) m
+shape_below : (temps : ℕ) (s : Shape) → IsTrue (list_all (is_below temps) (uses s)) → IsTrue (list_all (is_below temps) (defs s)) → (m : Move) →
+    move_of s ≡ Some m → AreEnds (25 + temps) m
 shape_below temps (Copy to from) u d m e = between_below (25 + temps) (node_of to) (node_of from) (node_below temps to (left_holds _ _ d)) (node_below temps from (left_holds _ _ u)) m e
 shape_below temps _ u d m e = cc
 

@@ -13,7 +13,8 @@ use Rattle.tg_spill.proofs.Alike.{AreAlike}
 use Rattle.tg_spill.proofs.RewrittenBelow.{AreSlotsBelow}
 
 -- by the nodes under which the temporaries' classes stand
-pub by_aliases : (classes aliases : List ℕ) (base n t : ℕ) → length aliases ≡ 25 + n → t < n → slot_in (map (slot_by classes base) (drop 25 aliases)) t ≡ slot_by classes base (get_or aliases (25 + t) 0)
+pub by_aliases : (classes aliases : List ℕ) (base n t : ℕ) → length aliases ≡ 25 + n → t < n →
+    slot_in (map (slot_by classes base) (drop 25 aliases)) t ≡ slot_by classes base (get_or aliases (25 + t) 0)
 by_aliases classes aliases base n t size l =
     get_or-map (slot_by classes base) (drop 25 aliases) t 0 None (omega (arith, size, l, length-drop 25 aliases))
     ∙ ap (slot_by classes base) (get_or-drop 25 aliases t 0)
@@ -52,7 +53,8 @@ module _ (round : Round) (n : ℕ) (nodes : IsOfTemps n round) (all : List ℕ) 
       (subst (λ (xs : List ℕ). All (λ x. x < 25 + n) xs) (sym e) (All-filter (is_original originals) (λ x. x < 25 + n) round.spilled nodes.spilled))
 
   -- a table of the slots by the classes' nodes
-  pub alike : (originals base : ℕ) (classes : List ℕ) (table : List (Option ℕ)) → classes ≡ slotted originals round → table ≡ map (slot_by classes base) (take (length all - 25) (drop 25 all)) → AreAlike n (slot_in table) (slot_after originals base round)
+  pub alike : (originals base : ℕ) (classes : List ℕ) (table : List (Option ℕ)) → classes ≡ slotted originals round →
+      table ≡ map (slot_by classes base) (take (length all - 25) (drop 25 all)) → AreAlike n (slot_in table) (slot_after originals base round)
   alike originals base classes table e f t l =
       ap (λ ts. slot_in ts t) (f ∙ ap (map (slot_by classes base)) (behind_registers all))
       ∙ (by_aliases classes all base n t size l
@@ -60,7 +62,8 @@ module _ (round : Round) (n : ℕ) (nodes : IsOfTemps n round) (all : List ℕ) 
       ∙ ap (λ cs. slot_by cs base (get_or round.aliases (25 + t) 0)) e))
 
 -- what is filled in from a slice's start, to its end
-pub filled : (len : ℕ) (new old : List (Option ℕ)) (t : ℕ) → len ≡ length old → length new ≡ length old → t < length old → slot_in (take len (new ++ drop (length new) old)) t ≡ slot_in new t
+pub filled : (len : ℕ) (new old : List (Option ℕ)) (t : ℕ) → len ≡ length old → length new ≡ length old → t < length old →
+    slot_in (take len (new ++ drop (length new) old)) t ≡ slot_in new t
 filled len new old t e f l =
     get_or-take len (new ++ drop (length new) old) t None (omega (arith, e, l))
     ∙ get_or_append_left new (drop (length new) old) None t (omega (arith, f, l))

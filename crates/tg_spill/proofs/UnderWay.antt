@@ -45,7 +45,8 @@ last_is (a ∷ b ∷ rounds) round = last_is (b ∷ rounds) round
 
 same_map : {A : Type 0} (f g : ℕ → A) (a n : ℕ) → ((t : ℕ) → t < a + n → f t ≡ g t) → map f (range_with_len a n) ≡ map g (range_with_len a n)
 same_map f g a zero h = refl
-same_map f g a (suc n) h = ap (λ y. y ∷ map f (range_with_len (a + 1) n)) (h a (omega arith)) ∙ ap (λ ys. g a ∷ ys) (same_map f g (a + 1) n (λ t l. h t (omega arith)))
+same_map f g a (suc n) h =
+    ap (λ y. y ∷ map f (range_with_len (a + 1) n)) (h a (omega arith)) ∙ ap (λ ys. g a ∷ ys) (same_map f g (a + 1) n (λ t l. h t (omega arith)))
 
 clash : {b : Bool} → b ≡ true → b ≡ false → ⊥
 clash {b = true} e f = cc
@@ -60,7 +61,8 @@ pub record Follows (originals : ℕ) (round : Round) (now next : Stage) (homes h
   pub stand : (t : ℕ) → t < originals → slot_in homes' t ≡ option_or (slot_in homes t) (slot_after originals now.slots round t)
 
 -- by the same rule, whatever slots there are
-pub again : (rule rule' : Rule) (originals slots : ℕ) (code : Code) (round : Round) → rule ≡ rule' → IsRoundOf rule originals (stage_of code 0) round → IsRoundOf rule' originals (stage_of code slots) round
+pub again : (rule rule' : Rule) (originals slots : ℕ) (code : Code) (round : Round) → rule ≡ rule' → IsRoundOf rule originals (stage_of code 0) round →
+    IsRoundOf rule' originals (stage_of code slots) round
 again rule rule' originals slots code round e h =
     subst (λ (q : Rule). IsRoundOf q originals (stage_of code slots) round) e (record { graph = h.graph; exact = h.exact; run = h.run })
 
@@ -69,10 +71,13 @@ module _ (rule : Rule) (code : Code) (frame : Frame) where
     pub size : length homes ≡ code.temps
     pub more_temps : code.temps ≤ now.temps
     pub more_slots : frame.slots ≤ now.slots
-    pub whole : (later : List Round) (end : Stage) → AreRounds rule code.temps now later end → AreRounds rule code.temps (stage_of code frame.slots) (rounds ++ later) end
-    pub stand : (t : ℕ) → t < code.temps → (round : Round) (later : List Round) → home_by code.temps frame.slots (rounds ++ round ∷ later) t ≡ home_after (slot_in homes t) (home_by code.temps now.slots (round ∷ later) t)
+    pub whole : (later : List Round) (end : Stage) → AreRounds rule code.temps now later end →
+        AreRounds rule code.temps (stage_of code frame.slots) (rounds ++ later) end
+    pub stand : (t : ℕ) → t < code.temps → (round : Round) (later : List Round) →
+        home_by code.temps frame.slots (rounds ++ round ∷ later) t ≡ home_after (slot_in homes t) (home_by code.temps now.slots (round ∷ later) t)
 
-  pub begins : (now : Stage) (homes : List (Option ℕ)) → now.list ≡ code.list → now.temps ≡ code.temps → now.slots ≡ frame.slots → homes ≡ replicate code.temps None → IsUnderWay now homes []
+  pub begins : (now : Stage) (homes : List (Option ℕ)) → now.list ≡ code.list → now.temps ≡ code.temps → now.slots ≡ frame.slots →
+      homes ≡ replicate code.temps None → IsUnderWay now homes []
   begins now homes l m n h = record {
     size = ap length h ∙ length-replicate {A = Option ℕ} code.temps None;
     more_temps = omega (arith, m);
@@ -83,8 +88,10 @@ module _ (rule : Rule) (code : Code) (frame : Frame) where
         ∙ ap (λ o. home_after o (home_by code.temps now.slots (round ∷ later) t)) (sym (ap (λ hs. slot_in hs t) h ∙ ap (λ f. f t) (has_none code.temps)));
   }
 
-  module _ (now : Stage) (homes : List (Option ℕ)) (rounds : List Round) (round : Round) (so_far : IsUnderWay now homes rounds) (is_round : IsRoundOf rule code.temps now round) where
-    pub goes_on : (next : Stage) (homes' : List (Option ℕ)) → slotted code.temps round ≢ [] → Follows code.temps round now next homes homes' → IsUnderWay next homes' (rounds ++ round ∷ [])
+  module _ (now : Stage) (homes : List (Option ℕ)) (rounds : List Round) (round : Round) (so_far : IsUnderWay now homes rounds)
+      (is_round : IsRoundOf rule code.temps now round) where
+    pub goes_on : (next : Stage) (homes' : List (Option ℕ)) → slotted code.temps round ≢ [] → Follows code.temps round now next homes homes' →
+        IsUnderWay next homes' (rounds ++ round ∷ [])
     goes_on next homes' some f = record {
       size = f.size ∙ so_far.size;
       more_temps = let a = so_far.more_temps in let b = temps_grow (slot_after code.temps now.slots round) now.list now.temps in let c = f.temps in omega arith;
@@ -106,9 +113,12 @@ module _ (rule : Rule) (code : Code) (frame : Frame) where
       the_last = ap last_round all ∙ last_is rounds round
 
       are_rounds : AreRounds rule code.temps (stage_of code frame.slots) a.rounds now
-      are_rounds = subst (λ rs. AreRounds rule code.temps (stage_of code frame.slots) rs now) (sym all) (so_far.whole (round ∷ []) now (last now round is_round none))
+      are_rounds =
+          subst (λ rs. AreRounds rule code.temps (stage_of code frame.slots) rs now) (sym all) (so_far.whole (round ∷ []) now (last now round is_round none))
 
-      pub ends_coloured : round.spilled ≡ [] → a.done.code.list ≡ code_painted (colour_of round) now.list → a.registers ≡ map (λ t. home_in (slot_in homes t) (colour_of round t)) (range_with_len 0 (length homes)) → now.slots ≡ frame.slots + a.slots → IsFalse a.all_in_frame → IsAllocation rule code frame a
+      pub ends_coloured : round.spilled ≡ [] → a.done.code.list ≡ code_painted (colour_of round) now.list →
+          a.registers ≡ map (λ t. home_in (slot_in homes t) (colour_of round t)) (range_with_len 0 (length homes)) → now.slots ≡ frame.slots + a.slots →
+          IsFalse a.all_in_frame → IsAllocation rule code frame a
       ends_coloured spilled list registers slots coloured = record {
         end = now;
         rounds = are_rounds;
@@ -127,7 +137,8 @@ module _ (rule : Rule) (code : Code) (frame : Frame) where
         in_frame = λ h. absurd (clash h coloured);
       }
 
-      pub ends_in_frame : round.spilled ≢ [] → a.done.code.list ≡ code_in_frame frame.slots code.list → a.registers ≡ homes_from frame.slots code.temps → a.slots ≡ code.temps → IsTrue a.all_in_frame → IsAllocation rule code frame a
+      pub ends_in_frame : round.spilled ≢ [] → a.done.code.list ≡ code_in_frame frame.slots code.list → a.registers ≡ homes_from frame.slots code.temps →
+          a.slots ≡ code.temps → IsTrue a.all_in_frame → IsAllocation rule code frame a
       ends_in_frame spilled list registers slots in_frame = record {
         end = now;
         rounds = are_rounds;
@@ -143,10 +154,15 @@ module _ (rule : Rule) (code : Code) (frame : Frame) where
 
     -- the same of what is answered
     module _ {E : Type 0} (none : slotted code.temps round ≡ []) where
-      pub coloured_if : (r : Result Allocation E) → round.spilled ≡ [] → IfOk r (λ a. HasFrame frame a) → IfOk r (λ a. a.rounds ≡ rounds ++ round ∷ []) → IfOk r (λ a. a.done.code.list ≡ code_painted (colour_of round) now.list) → IfOk r (λ a. a.registers ≡ map (λ t. home_in (slot_in homes t) (colour_of round t)) (range_with_len 0 (length homes))) → IfOk r (λ a. now.slots ≡ frame.slots + a.slots) → IfOk r (λ a. IsFalse a.all_in_frame) → IfOk r (λ a. IsAllocation rule code frame a)
+      pub coloured_if : (r : Result Allocation E) → round.spilled ≡ [] → IfOk r (λ a. HasFrame frame a) → IfOk r (λ a. a.rounds ≡ rounds ++ round ∷ []) →
+          IfOk r (λ a. a.done.code.list ≡ code_painted (colour_of round) now.list) →
+          IfOk r (λ a. a.registers ≡ map (λ t. home_in (slot_in homes t) (colour_of round t)) (range_with_len 0 (length homes))) →
+          IfOk r (λ a. now.slots ≡ frame.slots + a.slots) → IfOk r (λ a. IsFalse a.all_in_frame) → IfOk r (λ a. IsAllocation rule code frame a)
       coloured_if (Ok a) spilled has_frame all list registers slots coloured = ends_coloured a none has_frame all spilled list registers slots coloured
       coloured_if (Err e) spilled has_frame all list registers slots coloured = tt
 
-      pub in_frame_if : (r : Result Allocation E) → round.spilled ≢ [] → IfOk r (λ a. HasFrame frame a) → IfOk r (λ a. a.rounds ≡ rounds ++ round ∷ []) → IfOk r (λ a. a.done.code.list ≡ code_in_frame frame.slots code.list) → IfOk r (λ a. a.registers ≡ homes_from frame.slots code.temps) → IfOk r (λ a. a.slots ≡ code.temps) → IfOk r (λ a. IsTrue a.all_in_frame) → IfOk r (λ a. IsAllocation rule code frame a)
+      pub in_frame_if : (r : Result Allocation E) → round.spilled ≢ [] → IfOk r (λ a. HasFrame frame a) → IfOk r (λ a. a.rounds ≡ rounds ++ round ∷ []) →
+          IfOk r (λ a. a.done.code.list ≡ code_in_frame frame.slots code.list) → IfOk r (λ a. a.registers ≡ homes_from frame.slots code.temps) →
+          IfOk r (λ a. a.slots ≡ code.temps) → IfOk r (λ a. IsTrue a.all_in_frame) → IfOk r (λ a. IsAllocation rule code frame a)
       in_frame_if (Ok a) spilled has_frame all list registers slots in_frame = ends_in_frame a none has_frame all spilled list registers slots in_frame
       in_frame_if (Err e) spilled has_frame all list registers slots in_frame = tt

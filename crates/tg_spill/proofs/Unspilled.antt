@@ -22,12 +22,16 @@ operand None = Reg 0
 abbrev pub nowhere : ℕ → Option ℕ
 nowhere t = None
 
-test_itself : (rel : Rel) (left right : Opnd) (is_row : IsTrue (is_one_row rel left right)) (fits : Bool) (e : is_one_row rel left right ≡ fits) → tested rel left right fits e (record { rel = rel; left = left; right = right; is_one_row = is_row }) ≡ record { rel = rel; left = left; right = right; is_one_row = is_row }
-test_itself rel left right is_row true e = ap {A = is_one_row rel left right ≡ true} {B = Test} (λ row. record { rel = rel; left = left; right = right; is_one_row = row }) (Bool-set _ _ e is_row)
+test_itself : (rel : Rel) (left right : Opnd) (is_row : IsTrue (is_one_row rel left right)) (fits : Bool) (e : is_one_row rel left right ≡ fits) →
+    tested rel left right fits e
+    (record { rel = rel; left = left; right = right; is_one_row = is_row }) ≡ record { rel = rel; left = left; right = right; is_one_row = is_row }
+test_itself rel left right is_row true e =
+    ap {A = is_one_row rel left right ≡ true} {B = Test} (λ row. record { rel = rel; left = left; right = right; is_one_row = row }) (Bool-set _ _ e is_row)
 test_itself rel left right is_row false e = refl
 
 renamed_itself : (x : Instr) → renamed x (operand (named x).to) (operand (named x).first) (operand (named x).second) ≡ x
-renamed_itself (Branch test m) = ap (λ t. Branch t m) (test_itself test.rel test.left test.right test.is_one_row (is_one_row test.rel test.left test.right) refl)
+renamed_itself (Branch test m) =
+    ap (λ t. Branch t m) (test_itself test.rel test.left test.right test.is_one_row (is_one_row test.rel test.left test.right) refl)
 renamed_itself _ = refl
 
 placed_stays : (o : Option Opnd) (next : ℕ) → placed nowhere o next ≡ staying (operand o)

@@ -14,11 +14,13 @@ returns-then-is_empty-2-clause-allocation g c =
     let rule : Rule = (goal.SpillPolicy-dyn g c.args.policy.now).rule c.args.policy.now.1 in
     let round = c.in_ok-round.round in
     let by = c.rounds.progress in
-    let is_round : IsRoundOf rule code.temps (stage_of by.code by.slots) round = again _ rule code.temps by.slots by.code round c.rounds.invariant.same c.in_ok-round.ensures.round in
+    let is_round : IsRoundOf rule code.temps (stage_of by.code by.slots) round =
+    again _ rule code.temps by.slots by.code round c.rounds.invariant.same c.in_ok-round.ensures.round in
     let empty : length c.in_ok-classes.classes.items ≡ 0 = grind (arith, common_steps, c.is_empty.ensures, c.if-is_empty.true) in
     let none : slotted code.temps round ≡ [] = sym c.in_ok-classes.ensures ∙ nil_from_length c.in_ok-classes.classes.items empty in
     let nothing : length c.as_slice.result.now ≡ 0 = grind (arith, common_steps, c.is_empty-then-is_empty.ensures, c.if-is_empty-2.true) in
-    coloured_if rule code c.args.frame (stage_of by.code by.slots) by.homes.items c.rounds.rounds.items round c.rounds.invariant.under_way is_round none c.finish.result
+    coloured_if rule code c.args.frame
+    (stage_of by.code by.slots) by.homes.items c.rounds.rounds.items round c.rounds.invariant.under_way is_round none c.finish.result
     (sym c.as_slice.ensures ∙ nil_from_length c.as_slice.result.now nothing)
     c.finish.ensures.frame c.finish.ensures.rounds c.finish.ensures.list c.finish.ensures.homes c.finish.ensures.slots c.finish.ensures.coloured
 
@@ -28,11 +30,13 @@ returns-else-is_empty-2-clause-allocation g c =
     let rule : Rule = (goal.SpillPolicy-dyn g c.args.policy.now).rule c.args.policy.now.1 in
     let round = c.in_ok-round.round in
     let by = c.rounds.progress in
-    let is_round : IsRoundOf rule code.temps (stage_of by.code by.slots) round = again _ rule code.temps by.slots by.code round c.rounds.invariant.same c.in_ok-round.ensures.round in
+    let is_round : IsRoundOf rule code.temps (stage_of by.code by.slots) round =
+    again _ rule code.temps by.slots by.code round c.rounds.invariant.same c.in_ok-round.ensures.round in
     let empty : length c.in_ok-classes.classes.items ≡ 0 = grind (arith, common_steps, c.is_empty.ensures, c.if-is_empty.true) in
     let none : slotted code.temps round ≡ [] = sym c.in_ok-classes.ensures ∙ nil_from_length c.in_ok-classes.classes.items empty in
     let something : length c.as_slice.result.now ≢ 0 = grind (arith, common_steps, c.is_empty-then-is_empty.ensures, c.if-is_empty-2.false) in
-    in_frame_if rule code c.args.frame (stage_of by.code by.slots) by.homes.items c.rounds.rounds.items round c.rounds.invariant.under_way is_round none c.all_in_frame.result
+    in_frame_if rule code c.args.frame
+    (stage_of by.code by.slots) by.homes.items c.rounds.rounds.items round c.rounds.invariant.under_way is_round none c.all_in_frame.result
     (λ e. something (ap length (c.as_slice.ensures ∙ e)))
     c.all_in_frame.ensures.frame c.all_in_frame.ensures.rounds c.all_in_frame.ensures.code c.all_in_frame.ensures.homes c.all_in_frame.ensures.slots c.all_in_frame.ensures.all
 

@@ -18,7 +18,8 @@ returns-clause-list c =
 
 pub returns-clause-homes : goal.returns-clause-homes
 returns-clause-homes c =
-    c.in_ok-registers.ensures ∙ homes_behind c.args.round c.as_slice.result.now c.args.self.homes.items c.deref.result.now c.as_slice.ensures c.deref.ensures.value
+    c.in_ok-registers.ensures
+    ∙ homes_behind c.args.round c.as_slice.result.now c.args.self.homes.items c.deref.result.now c.as_slice.ensures c.deref.ensures.value
 
 pub invariant_of-result : goal.invariant_of-result
 invariant_of-result c =
@@ -30,7 +31,9 @@ invariant_of-result c =
     record {
       marks_differ = subst (λ (l : List Instr). IsTrue (marks_differ l)) e (same_differing r ∙ code.marks_differ);
       marks_stand = subst (λ (l : List Instr). IsTrue (list_all (leads_to_marks l) l)) e (marks_stand r code.marks_stand);
-      temps_below = subst (λ (l : List Instr). IsTrue (list_all (has_temps_below 0) l)) e (alone_below 0 (code_painted colour code.list) (names_alone colour code.list c.args.self.registers));
+      temps_below =
+          subst (λ (l : List Instr). IsTrue (list_all (has_temps_below 0) l)) e
+          (alone_below 0 (code_painted colour code.list) (names_alone colour code.list c.args.self.registers));
       ends_well = subst (λ (l : List Instr). IsTrue (ends_well l)) e (still_ends r code.ends_well);
     }
 
@@ -42,7 +45,9 @@ invariant_of-result-2 c =
     sym (c.from_vec.ensures ∙ (c.in_ok-list.ensures ∙ painted_behind c.args.round c.as_slice.result.now code.list c.as_slice-2.result.now c.as_slice.ensures c.as_slice-2.ensures)) in
     record {
       registers_alone = subst (λ (l : List Instr). IsTrue (list_all has_registers_alone l)) e (names_alone colour code.list c.args.self.registers);
-      slots_below = subst (λ (l : List Instr). IsTrue (list_all (has_slots_below c.args.self.slots) l)) e (slots_stay colour c.args.self.slots code.list c.args.self.slots_below);
+      slots_below =
+          subst (λ (l : List Instr). IsTrue (list_all (has_slots_below c.args.self.slots) l)) e
+          (slots_stay colour c.args.self.slots code.list c.args.self.slots_below);
     }
 
 pub returns-clause-registers : goal.returns-clause-registers

@@ -28,7 +28,8 @@ invariant_of-result c =
     let code = c.args.code.now in
     let all : c.in_ok-homes.homes.items ≡ replicate code.temps None = grind (arith, common_steps, c.in_ok-homes.ensures.items_if_clones_equal) in
     let none : slot_in c.deref.result.now ≡ nowhere = ap slot_in (c.deref.ensures.value ∙ all) ∙ has_none code.temps in
-    let same : c.in_ok-code.code.list ≡ code.list = c.in_ok-code.ensures.list ∙ (ap (λ f. code_rewritten f code.list code.temps) none ∙ code_stays code.list code.temps) in
+    let same : c.in_ok-code.code.list ≡ code.list =
+    c.in_ok-code.ensures.list ∙ (ap (λ f. code_rewritten f code.list code.temps) none ∙ code_stays code.list code.temps) in
     record {
       registers = subst (λ (l : List Instr). IsTrue (list_all (names_registers is_fixed) l)) (sym same) c.requires.registers;
       slots_below = subst (λ (l : List Instr). IsTrue (list_all (has_slots_below c.args.slots) l)) (sym same) c.requires.slots_below;

@@ -13,11 +13,13 @@ use Rattle.tg_spill.proofs.SlotsBehind.{aliases_below, classes_below, alike, slo
 use Rattle.tg_spill.proofs.progress.Progress.spill.Goals as goal
 
 pub slots_of-requires-clause-aliases : goal.slots_of-requires-clause-aliases
-slots_of-requires-clause-aliases c = aliases_below c.args.round.now c.args.self.code.temps c.requires.nodes c.as_slice-aliases.result.now c.as_slice-aliases.ensures
+slots_of-requires-clause-aliases c =
+    aliases_below c.args.round.now c.args.self.code.temps c.requires.nodes c.as_slice-aliases.result.now c.as_slice-aliases.ensures
 
 pub slots_of-requires-clause-classes : goal.slots_of-requires-clause-classes
 slots_of-requires-clause-classes c =
-    classes_below c.args.round.now c.args.self.code.temps c.requires.nodes c.as_slice-aliases.result.now c.as_slice-aliases.ensures (length c.args.self.homes.items) c.args.classes.now c.requires.classes
+    classes_below c.args.round.now c.args.self.code.temps c.requires.nodes c.as_slice-aliases.result.now c.as_slice-aliases.ensures
+    (length c.args.self.homes.items) c.args.classes.now c.requires.classes
 
 pub returns-clause-list : goal.returns-clause-list
 returns-clause-list c =
@@ -49,7 +51,9 @@ invariant_of-result c =
     code.list code.temps code.temps_below in
     let end : c.in_ok-end.end ≡ base + length (slotted originals round) = c.in_ok-end.ensures ∙ ap (λ (cs : List ℕ). base + length cs) c.requires.classes in
     record {
-      registers = subst (λ (l : List Instr). IsTrue (list_all (names_registers is_fixed) l)) (sym e) (code_names is_fixed refl slot_of code.list code.temps c.args.self.registers);
+      registers =
+          subst (λ (l : List Instr). IsTrue (list_all (names_registers is_fixed) l)) (sym e)
+          (code_names is_fixed refl slot_of code.list code.temps c.args.self.registers);
       slots_below =
           subst (λ (m : ℕ). IsTrue (list_all (has_slots_below m) c.in_ok-code.code.list)) (sym end)
           (subst (λ (l : List Instr). IsTrue (list_all (has_slots_below (base + length (slotted originals round))) l)) (sym e)
@@ -63,7 +67,8 @@ returns-clause-homes c t l =
     let size : length c.fill_homes.new.homes ≡ length old = c.fill_homes.auto.homes ∙ ap length c.deref_mut.ensures.value in
     let before : length c.deref_mut.result.now ≡ length old = ap length c.deref_mut.ensures.value in
     let alike_here : AreAlike c.args.self.code.temps (slot_in c.deref.result.now) (slot_after (length old) c.args.self.slots c.args.round.now) =
-    alike c.args.round.now c.args.self.code.temps c.requires.nodes c.as_slice-aliases.result.now c.as_slice-aliases.ensures (length old) c.args.self.slots c.args.classes.now c.deref.result.now c.requires.classes (c.deref.ensures.value ∙ c.in_ok-slots.ensures) in
+    alike c.args.round.now c.args.self.code.temps c.requires.nodes c.as_slice-aliases.result.now c.as_slice-aliases.ensures
+    (length old) c.args.self.slots c.args.classes.now c.deref.result.now c.requires.classes (c.deref.ensures.value ∙ c.in_ok-slots.ensures) in
     let few = c.requires.homes in
     filled c.args.self.homes.len c.fill_homes.new.homes old t (let n = c.deref_mut.ensures.len in omega (arith, n, before)) size l
     ∙ (c.fill_homes.ensures t (omega (arith, before, l))
