@@ -9,7 +9,7 @@ check-requires-clause-apart g c = begins_apart _ _ _ c.requires.1
 
 pub returns-in_ok-compile_checked-in-Ok-clause-compiled : goal.returns-in_ok-compile_checked-in-Ok-clause-compiled
 returns-in_ok-compile_checked-in-Ok-clause-compiled g c = λ text t.
-    compiles_to _ text _ _ _ _ _ t c.in-Ok.ensures.ok (rw c.in-Ok.ensures.program at c.in_ok-compile_checked-in-Ok.ensures.compiled)
+    compiles_to _ text _ _ _ _ _ t c.in-Ok.ensures.ok (rw c.in-Ok.ensures.program at c.in_ok-compile_checked-in-Ok.ensures.compiles)
 
 pub returns-in-Err-clause-compiled : goal.returns-in-Err-clause-compiled
 returns-in-Err-clause-compiled g c = λ text t. c.ill_typed.ensures text (typed_fault _ _ _ _ t c.in-Err.ensures.err)
