@@ -1,6 +1,5 @@
 -- An accepted program has a type by the relation of typed parts, with the notes that it carries, and no limit is exceeded.
 use Rattle.std.proofs.Common.{◌≡◌, ◌≢◌, ℕ, List, [], Option, Some, None, refl, subst, sym}
-use Rattle.std.specs.List.{AllPairs}
 use Rattle.std.proofs.lemmas.List.Sorted.{Contains-permutation}
 use Rattle.tg_syntax.specs.Tree.{Exp}
 use Rattle.tg_syntax.specs.Beginnings.{BeginsApart}
@@ -16,11 +15,10 @@ use Rattle.tg_types.specs.Accepted.{Finding, accepted, at_fault, finding, findin
 use Rattle.tg_types.specs.Answered.{Accepts}
 use Rattle.tg_types.specs.Derivations.{Derivation}
 use Rattle.tg_types.specs.Laws.{CheckedHasType}
-use Rattle.tg_types.proofs.TypeBytes.{type_bytes}
-use Rattle.tg_types.proofs.AmongBeginnings.{types_apart}
-use Rattle.tg_types.proofs.Derived.{derived}
-use Rattle.tg_types.proofs.Inversion.{AreIn}
-use Rattle.tg_types.proofs.Bytes.{gathered, apart_by_keys}
+use Rattle.tg_types.proofs.TreeInversion.{checked}
+use Rattle.tg_types.proofs.AmongBeginnings.{nothing, among, pairs}
+use Rattle.tg_types.proofs.Derived.{AreIn, derived}
+use Rattle.tg_types.proofs.Bytes.{bytes_of, shape_marks, apart_by_keys}
 
 abbrev begin : Noted
 begin = record { shapes = []; notes = [] }
@@ -35,18 +33,19 @@ by_limits few notes None a = (refl, a)
 by_limits few notes (Some f) a = absurd a
 
 by_checks : (names : List (List ℕ)) (body : Exp) (notes : List Note) (c : CheckResult Ty) → typed body (outermost names) begin ≡ c →
-    AcceptsAmong (finding_of body c) notes → AllPairs (λ a b. a ≢ b) (type_bytes body) → Derivation names body notes
+    AcceptsAmong (finding_of body c) notes → BeginsApart body → Derivation names body notes
 by_checks names body notes (fault rule at) is e a = absurd e
 by_checks names body notes (fine t noted) is e a =
-    let apart = apart_by_keys noted.shapes (subst (λ l. AllPairs (λ a b. a ≢ b) l) (sym (gathered body (outermost names) t begin noted is)) a) in
+    let c = checked body (outermost names) t begin noted is in
+    let apart = apart_by_keys noted.shapes (pairs (λ a b. a ≢ b) (among bytes_of shape_marks c nothing) a) in
     let l = by_limits noted.notes notes (limit_fault body) e in
-    let d = derived noted.shapes notes apart body (outermost names) t begin noted is ([], refl, l.1) in
+    let d = derived noted.shapes notes apart c (record { more = []; are = refl; among = l.1 }) in
     record { shapes = noted.shapes; apart = apart; type = t; has = d.0; limits = l.0 }
 
 -- a tree, and notes in any order
 pub derivation : (names : List (List ℕ)) (body : Exp) (notes : List Note) → AcceptsAmong (finding names body) notes → BeginsApart body →
     Derivation names body notes
-derivation names body notes e a = by_checks names body notes (typed body (outermost names) begin) refl e (types_apart body a)
+derivation names body notes e a = by_checks names body notes (typed body (outermost names) begin) refl e a
 
 -- the notes as they were gathered
 pub among_themselves : (f : Finding) (notes : List Note) → f ≡ accepted notes → AcceptsAmong f notes

@@ -1,5 +1,5 @@
 -- What checks that came out fine say of their parts.
-use Rattle.std.proofs.Common.{◌≡◌, ℕ, suc, List, [], ◌∷◌, ◌++◌, Option, Some, None, Bool, true, false, refl, sym, ap, ◌∙◌, subst, arith}
+use Rattle.std.proofs.Common.{◌≡◌, ℕ, suc, List, [], ◌∷◌, ◌++◌, Option, Some, None, Bool, true, false, refl, sym, ap, ◌∙◌, subst}
 use Rattle.std.specs.Prelude.{not, ◌||◌, ◌==◌, if◌then◌else◌}
 use Rattle.tg_syntax.specs.declared.tokens.Ident.{Ident}
 use Rattle.tg_syntax.specs.declared.trees.Op.{Op}
@@ -12,11 +12,8 @@ use Rattle.tg_types.specs.Types.{Ty, int_type, string_type, nil_type, none_type,
 use Rattle.tg_symbols.specs.Tables.{named}
 use Rattle.tg_types.specs.Checks.{Noted, CheckResult, fine, fault, Check, on_fine, ◌>>=◌, give, refuse, keep, present, note, shape_at, add_shape}
 use Rattle.tg_types.specs.Scopes.{Signature, Binding, variable_at, function_at, standard_one, name_of, at_of}
-use Rattle.tg_types.specs.Typing.{expect, expect_none, variable_of, function_of, fields_in, fields_of, element_in, element_of, placed, select, compares, ordered, equated, left_side, equal_sides, right_side}
+use Rattle.tg_types.specs.Typing.{expect, expect_none, variable_of, function_of, fields_in, fields_of, element_in, element_of, placed, select, ordered, equated, left_side, equal_sides, right_side}
 use Rattle.std.proofs.lemmas.Bool.{eqb-true}
-use Rattle.std.proofs.lemmas.List.{append-nil}
-use Rattle.std.proofs.lemmas.List.Elements.{Contains-append_right}
-use Rattle.std.specs.List.{Contains}
 use Rattle.tg_types.specs.Has.{Fits, the_same, nil_for, Alike, records, arrays, nil_and, and_nil, Compares, Identifies, Callee, declared, standard, use_of, Says, SaysOf}
 
 -- both steps of two are fine
@@ -53,25 +50,24 @@ pub refused : {A : Type 0} (rule : TypeRule) (at : ℕ) (a : A) (g h : Noted) �
 unfolding refuse
 refused rule at a g h e = cc
 
-pub after_note : (at : ℕ) (m : Means) (x : Unit {0}) (g h : Noted) → note at m g ≡ fine x h → g.shapes ≡ h.shapes
-unfolding note
-after_note at m x g h e = let k : record g { notes = g.notes ++ record { at = at; means = m } ∷ [] } ≡ h = cc in ap (λ n. n.shapes) k
+-- the notes with one more, and the shapes
+abbrev pub noting : (at : ℕ) → Means → Noted → Noted
+noting at m g = record g { notes = g.notes ++ record { at = at; means = m } ∷ [] }
 
-pub added_note : (at : ℕ) (m : Means) (x : Unit {0}) (g h : Noted) → note at m g ≡ fine x h → h.notes ≡ g.notes ++ record { at = at; means = m } ∷ []
-unfolding note
-added_note at m x g h e = let k : record g { notes = g.notes ++ record { at = at; means = m } ∷ [] } ≡ h = cc in ap (λ n. n.notes) (sym k)
+abbrev pub shaping : (at : ℕ) → Shape → Noted → Noted
+shaping at s g = record g { shapes = (at, s) ∷ g.shapes }
 
-pub shape_notes : (at : ℕ) (s : Shape) (x : Unit {0}) (g h : Noted) → add_shape at s g ≡ fine x h → g.notes ≡ h.notes
+noted : (at : ℕ) (m : Means) (x : Unit {0}) (g h : Noted) → note at m g ≡ fine x h → noting at m g ≡ h
+unfolding note
+noted at m x g h e = cc
+
+pub shape_added : (at : ℕ) (s : Shape) (x : Unit {0}) (g h : Noted) → add_shape at s g ≡ fine x h → shaping at s g ≡ h
 unfolding add_shape
-shape_notes at s x g h e = let k : record g { shapes = (at, s) ∷ g.shapes } ≡ h = cc in ap (λ n. n.notes) k
+shape_added at s x g h e = cc
 
 pub shape_found : (at : ℕ) (o : Option Shape) (g h : Noted) → shape_at at g ≡ fine o h → (named at g.shapes ≡ o) × (g ≡ h)
 unfolding shape_at
 shape_found at o g h e = (cc, cc)
-
-pub shape_added : (at : ℕ) (s : Shape) (x : Unit {0}) (g h : Noted) → add_shape at s g ≡ fine x h → (at, s) ∷ g.shapes ≡ h.shapes
-unfolding add_shape
-shape_added at s x g h e = let k : record g { shapes = (at, s) ∷ g.shapes } ≡ h = cc in ap (λ n. n.shapes) k
 
 -- tests of types
 pub same_is : (t u : Ty) → same t u ≡ true → t ≡ u
@@ -162,61 +158,44 @@ ordered_pair op c none_type u e f = cc
 ordered_pair op c (record_type k) u e f = cc
 ordered_pair op c (array_type k) u e f = cc
 
-compares_shapes : (at : ℕ) (t : Ty) (x : Unit {0}) (g h : Noted) → compares at t g ≡ fine x h → g.shapes ≡ h.shapes
-compares_shapes at t x g h e = after_note _ _ _ _ _ e
-
 -- what a comparison of a type is noted as
 abbrev pub compared : Ty → Means
 compared t = if same t string_type then means.Content else means.Number
 
--- all of these are among those
-abbrev pub AreIn : List Note → List Note → Type 0
-AreIn few all = (n : Note) → Contains few n → Contains all n
-
--- the notes grow by that of an operator
-abbrev pub Notes : Op → (at : ℕ) → Ty → (g h : Noted) → Type 0
-Notes op at t g h = (more : List Note) × (h.notes ≡ g.notes ++ more) × ((ns : List Note) → AreIn h.notes ns → SaysOf ns op at (compared t))
-
-pub last_said : (a : List Note) (n : Note) → Contains (a ++ n ∷ []) n
-last_said a n = Contains-append_right a (n ∷ []) n (0, omega arith, refl)
-
-abbrev Wrap : Op → (at : ℕ) → Ty → Type 0
-Wrap op at t = (ns : List Note) → Says ns at (compared t) → SaysOf ns op at (compared t)
-
-noted_one : (op : Op) (at : ℕ) (t : Ty) (g h : Noted) → Wrap op at t → h.notes ≡ g.notes ++ record { at = at; means = compared t } ∷ [] → Notes op at t g h
-noted_one op at t g h wrap e =
-    let n : Note = record { at = at; means = compared t } in
-    (n ∷ [], e, λ ns c. wrap ns (c n (subst (λ l. Contains l n) (sym e) (last_said g.notes n))))
+-- what an operator notes: one that compares, the type that it compares
+pub data Notes (op : Op) (at : ℕ) (t : Ty) (g : Noted) : Noted → Type 0 where
+  one_note : ((ns : List Note) → Says ns at (compared t) → SaysOf ns op at (compared t)) → Notes op at t g (noting at (compared t) g)
+  no_note : ((ns : List Note) → SaysOf ns op at (compared t)) → Notes op at t g g
 
 abbrev Facts : Op → (at : ℕ) → Ty → Ty → (g g1 g2 h : Noted) → Type 0
-Facts op at t u g g1 g2 h = Sides op t u × (g.shapes ≡ g1.shapes) × (g2 ≡ h) × Notes op at t g g1
+Facts op at t u g g1 g2 h = Sides op t u × Notes op at t g g1 × (g2 ≡ h)
 
-ordered_sides : (op : Op) → Compares op → (t u left : Ty) (at la ra : ℕ) → Wrap op at t → (x : Unit {0}) (g g1 g2 h : Noted) →
-    ordered t at la g ≡ fine left g1 → expect left u ra g2 ≡ fine x h → Facts op at t u g g1 g2 h
+noted_one : (op : Op) (at : ℕ) (t : Ty) (g g1 g2 h : Noted) → ((ns : List Note) → Says ns at (compared t) → SaysOf ns op at (compared t)) → g ≡ g1 →
+    noting at (compared t) g1 ≡ g2 → g2 ≡ h → Notes op at t g h
+noted_one op at t g g1 g2 h wrap a b c = subst (λ y. Notes op at t g y) (ap (λ y. noting at (compared t) y) a ∙ b ∙ c) (one_note wrap)
+
+ordered_sides : (op : Op) → Compares op → (t u left : Ty) (at la ra : ℕ) → ((ns : List Note) → Says ns at (compared t) → SaysOf ns op at (compared t)) →
+    (x : Unit {0}) (g g1 g2 h : Noted) → ordered t at la g ≡ fine left g1 → expect left u ra g2 ≡ fine x h → Facts op at t u g g1 g2 h
 ordered_sides op c t u left at la ra wrap x g g1 g2 h e e' =
     let p = steps e in
     let q = steps p.onward in
     let r = steps q.onward in
     let n = kept _ _ _ _ _ _ p.first in
     let o = kept _ _ _ _ _ _ q.first in
-    let k = compares_shapes _ _ _ _ _ r.first in
     let l = given _ _ _ _ r.onward in
     let f = expected left u ra x g2 h e' in (
       ordered_pair op c t u o.0 (subst (λ y. Fits u y) (sym l.0) f.0),
-      ap (λ y. y.shapes) (n.1 ∙ o.1) ∙ k ∙ ap
-          (λ y. y.shapes) l.1,
+      noted_one op at t g q.between r.between g1 wrap (n.1 ∙ o.1) (noted _ _ _ _ _ r.first) l.1,
       f.1,
-      noted_one op at t g g1 wrap
-          (ap (λ y. y.notes) (sym l.1) ∙ added_note _ _ _ _ _ r.first ∙ ap (λ y. y.notes ++ record { at = at; means = compared t } ∷ []) (sym (n.1 ∙ o.1))),
     )
 
-equated_sides : (op : Op) → Compares op → Identifies op → (t u left : Ty) (at la ra whole : ℕ) → Wrap op at t → (x : Unit {0}) (g g1 g2 h : Noted) →
-    equated t at la g ≡ fine left g1 → equal_sides left u ra whole g2 ≡ fine x h → Facts op at t u g g1 g2 h
+equated_sides : (op : Op) → Compares op → Identifies op → (t u left : Ty) (at la ra whole : ℕ) →
+    ((ns : List Note) → Says ns at (compared t) → SaysOf ns op at (compared t)) → (x : Unit {0}) (g g1 g2 h : Noted) → equated t at la g ≡ fine left g1 →
+    equal_sides left u ra whole g2 ≡ fine x h → Facts op at t u g g1 g2 h
 equated_sides op c i t u left at la ra whole wrap x g g1 g2 h e e' =
     let p = steps e in
     let q = steps p.onward in
     let n = kept _ _ _ _ _ _ p.first in
-    let k = compares_shapes _ _ _ _ _ q.first in
     let l = given _ _ _ _ q.onward in
     let a = steps e' in
     let b = steps a.onward in
@@ -224,11 +203,8 @@ equated_sides op c i t u left at la ra whole wrap x g g1 g2 h e e' =
     let o = kept _ _ _ _ _ _ b.first in
     let j = kept _ _ _ _ _ _ b.onward in (
       alike_sides op c i t u n.0 (subst (λ y. not (are_nil y u) ≡ true) (sym l.0) o.0) (subst (λ y. alike y u ≡ true) (sym l.0) j.0),
-      ap (λ y. y.shapes) n.1
-          ∙ k ∙ ap (λ y. y.shapes) l.1,
+      noted_one op at t g p.between q.between g1 wrap n.1 (noted _ _ _ _ _ q.first) l.1,
       m.1 ∙ o.1 ∙ j.1,
-      noted_one op at t g g1 wrap
-          (ap (λ y. y.notes) (sym l.1) ∙ added_note _ _ _ _ _ q.first ∙ ap (λ y. y.notes ++ record { at = at; means = compared t } ∷ []) (sym n.1)),
     )
 
 arithmetic_sides : (op : Op) (t u left : Ty) (at la ra : ℕ) → ((ns : List Note) → SaysOf ns op at (compared t)) → (x : Unit {0}) (g g1 g2 h : Noted) →
@@ -240,9 +216,8 @@ arithmetic_sides op t u left at la ra wrap x g g1 g2 h e e' =
     let f = expected left u ra x g2 h e' in
     let i : u ≡ int_type = fits_int u (subst (λ y. Fits u y) (sym l.0) f.0) in (
       subst (λ y. Sides op y u) (sym n.0) (subst (λ y. Sides op int_type y) (sym i) both_ints),
-      ap (λ y. y.shapes) (n.1 ∙ l.1),
+      subst (λ y. Notes op at t g y) (n.1 ∙ l.1) (no_note wrap),
       f.1,
-      ([], ap (λ y. y.notes) (sym (n.1 ∙ l.1)) ∙ sym (append-nil g.notes), λ ns c. wrap ns),
     )
 
 pub sides : (op : Op) (t u left : Ty) (at la ra whole : ℕ) (x : Unit {0}) (g g1 g2 h : Noted) → left_side op t at la g ≡ fine left g1 →
@@ -260,46 +235,27 @@ sides op t u left at la ra whole x g g1 g2 h e e' = arithmetic_sides op t u left
 
 -- names
 pub variable_got : (x : Ident) (o : Option Binding) (t : Ty) (g h : Noted) → variable_of x o g ≡ fine t h →
-    (at : ℕ) × (loop : Bool) × (o ≡ Some (variable_at at t loop)) × (g.shapes ≡ h.shapes)
-    × (h.notes ≡ g.notes ++ record { at = at_of x; means = means.Variable at } ∷ [])
+    (at : ℕ) × (loop : Bool) × (o ≡ Some (variable_at at t loop)) × (noting (at_of x) (means.Variable at) g ≡ h)
 variable_got x None t g h e = absurd (refused _ _ _ _ _ e)
 variable_got x (Some (function_at at s)) t g h e = absurd (refused _ _ _ _ _ e)
 variable_got x (Some (standard_one f)) t g h e = absurd (refused _ _ _ _ _ e)
 variable_got x (Some (variable_at at u loop)) t g h e =
     let p = steps e in
-    let q = given _ _ _ _ p.onward in (
-      at,
-      loop,
-      ap (λ y. Some (variable_at at y loop)) q.0,
-      after_note _ _ _ _ _ p.first ∙ ap (λ y. y.shapes) q.1,
-      ap (λ y. y.notes) (sym q.1)
-          ∙ added_note _ _ _ _ _ p.first,
-    )
+    let q = given _ _ _ _ p.onward in
+    (at, loop, ap (λ y. Some (variable_at at y loop)) q.0, noted _ _ _ _ _ p.first ∙ q.1)
 
 pub callee_got : (f : Ident) (o : Option Binding) (s : Signature) (g h : Noted) → function_of f o g ≡ fine s h →
-    (b : Binding) × (o ≡ Some b) × Callee b s × (g.shapes ≡ h.shapes) × (h.notes ≡ g.notes ++ record { at = at_of f; means = use_of b } ∷ [])
+    (b : Binding) × (o ≡ Some b) × Callee b s × (noting (at_of f) (use_of b) g ≡ h)
 callee_got f None s g h e = absurd (refused _ _ _ _ _ e)
 callee_got f (Some (variable_at at t loop)) s g h e = absurd (refused _ _ _ _ _ e)
 callee_got f (Some (function_at at sig)) s g h e =
     let p = steps e in
-    let q = given _ _ _ _ p.onward in (
-      function_at at sig,
-      refl,
-      subst (λ y. Callee (function_at at sig) y) q.0 declared,
-      after_note _ _ _ _ _ p.first ∙ ap (λ y. y.shapes) q.1,
-      ap
-          (λ y. y.notes) (sym q.1) ∙ added_note _ _ _ _ _ p.first,
-    )
+    let q = given _ _ _ _ p.onward in
+    (function_at at sig, refl, subst (λ y. Callee (function_at at sig) y) q.0 declared, noted _ _ _ _ _ p.first ∙ q.1)
 callee_got f (Some (standard_one k)) s g h e =
     let p = steps e in
-    let q = given _ _ _ _ p.onward in (
-      standard_one k,
-      refl,
-      subst (λ y. Callee (standard_one k) y) q.0 (standard k),
-      after_note _ _ _ _ _ p.first ∙ ap (λ y. y.shapes) q.1,
-      ap (λ y. y.notes)
-          (sym q.1) ∙ added_note _ _ _ _ _ p.first,
-    )
+    let q = given _ _ _ _ p.onward in
+    (standard_one k, refl, subst (λ y. Callee (standard_one k) y) q.0 (standard k), noted _ _ _ _ _ p.first ∙ q.1)
 
 -- records and arrays
 fields_in_got : (o : Option Shape) (at : ℕ) (fs : List (ℕ × Ty)) (g h : Noted) → fields_in o at g ≡ fine fs h → (o ≡ Some (record_shape fs)) × (g ≡ h)
@@ -308,12 +264,12 @@ fields_in_got (Some (array_shape t)) at fs g h e = absurd (refused _ _ _ _ _ e)
 fields_in_got (Some (record_shape gs)) at fs g h e = let p = given _ _ _ _ e in (ap (λ y. Some (record_shape y)) p.0, p.1)
 
 pub fields_got : (t : Ty) (at : ℕ) (fs : List (ℕ × Ty)) (g h : Noted) → fields_of t at g ≡ fine fs h →
-    (byte : ℕ) × (t ≡ record_type byte) × (named byte g.shapes ≡ Some (record_shape fs)) × (g ≡ h)
+    (byte : ℕ) × (t ≡ record_type byte) × (named byte h.shapes ≡ Some (record_shape fs)) × (g ≡ h)
 fields_got (record_type byte) at fs g h e =
     let p = steps e in
     let q = shape_found _ _ _ _ p.first in
     let r = fields_in_got _ _ _ _ _ p.onward in
-    (byte, refl, q.0 ∙ r.0, q.1 ∙ r.1)
+    (byte, refl, ap (λ y. named byte y.shapes) (sym (q.1 ∙ r.1)) ∙ q.0 ∙ r.0, q.1 ∙ r.1)
 fields_got int_type at fs g h e = absurd (refused _ _ _ _ _ e)
 fields_got string_type at fs g h e = absurd (refused _ _ _ _ _ e)
 fields_got nil_type at fs g h e = absurd (refused _ _ _ _ _ e)
@@ -326,12 +282,12 @@ element_in_got (Some (record_shape fs)) at t g h e = absurd (refused _ _ _ _ _ e
 element_in_got (Some (array_shape u)) at t g h e = let p = given _ _ _ _ e in (ap (λ y. Some (array_shape y)) p.0, p.1)
 
 pub element_got : (t : Ty) (at : ℕ) (u : Ty) (g h : Noted) → element_of t at g ≡ fine u h →
-    (byte : ℕ) × (t ≡ array_type byte) × (named byte g.shapes ≡ Some (array_shape u)) × (g ≡ h)
+    (byte : ℕ) × (t ≡ array_type byte) × (named byte h.shapes ≡ Some (array_shape u)) × (g ≡ h)
 element_got (array_type byte) at u g h e =
     let p = steps e in
     let q = shape_found _ _ _ _ p.first in
     let r = element_in_got _ _ _ _ _ p.onward in
-    (byte, refl, q.0 ∙ r.0, q.1 ∙ r.1)
+    (byte, refl, ap (λ y. named byte y.shapes) (sym (q.1 ∙ r.1)) ∙ q.0 ∙ r.0, q.1 ∙ r.1)
 element_got int_type at u g h e = absurd (refused _ _ _ _ _ e)
 element_got string_type at u g h e = absurd (refused _ _ _ _ _ e)
 element_got nil_type at u g h e = absurd (refused _ _ _ _ _ e)
@@ -348,19 +304,14 @@ placed_named f from (field ∷ rest) found e = by (field.0 == f) (placed_named f
     by false r e = r e
 
 pub selected : (fs : List (ℕ × Ty)) (f : Ident) (t : Ty) (g h : Noted) → select fs f g ≡ fine t h →
-    (named (name_of f) fs ≡ Some t) × (g.shapes ≡ h.shapes) × (k : ℕ) × (placed (name_of f) 0 fs ≡ Some (k, t))
-    × (h.notes ≡ g.notes ++ record { at = at_of f; means = means.Field k } ∷ [])
+    (k : ℕ) × (named (name_of f) fs ≡ Some t) × (placed (name_of f) 0 fs ≡ Some (k, t)) × (noting (at_of f) (means.Field k) g ≡ h)
 selected fs f t g h e =
     let p = steps e in
     let q = steps p.onward in
     let a = presented _ _ _ _ _ _ p.first in
-    let b = after_note _ _ _ _ _ q.first in
     let c = given _ _ _ _ q.onward in (
-      placed_named (name_of f) 0 fs p.value a.0 ∙ ap (λ y. Some y) c.0,
-      ap (λ y. y.shapes) a.1 ∙ b ∙ ap (λ y. y.shapes) c.1,
       p.value.0,
-      a.0 ∙ ap
-          (λ y. Some (p.value.0, y)) c.0,
-      ap (λ y. y.notes) (sym c.1) ∙ added_note _ _ _ _ _ q.first ∙ ap
-          (λ y. y.notes ++ record { at = at_of f; means = means.Field p.value.0 } ∷ []) (sym a.1),
+      placed_named (name_of f) 0 fs p.value a.0 ∙ ap (λ y. Some y) c.0,
+      a.0 ∙ ap (λ y. Some (p.value.0, y)) c.0,
+      ap (λ y. noting (at_of f) (means.Field p.value.0) y) a.1 ∙ noted _ _ _ _ _ q.first ∙ c.1,
     )

@@ -15,8 +15,10 @@ pub mod Worlds
 pub mod Sound
 pub mod SoundDirect
 pub mod Inversion
+pub mod CheckedParts
+pub mod GroupInversion
+pub mod TreeInversion
 pub mod Derived
-pub mod TypeBytes
 pub mod AmongBeginnings
 pub mod Bytes
 pub mod FaultBytes

@@ -14,8 +14,9 @@ use Rattle.tg_types.specs.Checks.{Noted, fine}
 use Rattle.tg_types.specs.Scopes.{Scope}
 use Rattle.tg_types.specs.Typing.{typed}
 use Rattle.tg_types.specs.Answered.{AreRising}
-use Rattle.tg_types.proofs.AmongBeginnings.{nothing, pairs}
-use Rattle.tg_types.proofs.NoteBytes.{marks, note_bytes}
+use Rattle.tg_types.proofs.TreeInversion.{checked}
+use Rattle.tg_types.proofs.AmongBeginnings.{nothing, among, pairs}
+use Rattle.tg_types.proofs.NoteBytes.{marks, note_marks}
 
 abbrev at : Note → ℕ
 at n = n.at
@@ -27,7 +28,7 @@ flips x y = grind arith
 apart : (body : Exp) (scope : Scope) (t : Ty) (h : Noted) → BeginsApart body → typed body scope (record { shapes = []; notes = [] }) ≡ fine t h →
     IsDistinct eqb (marks h)
 apart body scope t h b e =
-    let s = note_bytes body scope t (record { shapes = []; notes = [] }) h e nothing in
+    let s = among marks note_marks (checked body scope t (record { shapes = []; notes = [] }) h e) nothing in
     let p : AllPairs (λ x y. x ≢ y) (marks h) = pairs (λ x y. x ≢ y) s b in
     IsDistinct-from_apart eqb (marks h) (λ i j d l m. ne_eqb _ _ (p i j d l m))
 

@@ -1,0 +1,193 @@
+-- What the checks of a group of types or functions that came out fine say of it.
+use Rattle.std.proofs.Common.{◌≡◌, ℕ, suc, List, [], ◌∷◌, length, Option, Some, None, Bool, true, false, refl, sym, ap, ◌∙◌, subst}
+use Rattle.std.specs.Prelude.{not, ◌&&◌, ◌||◌, ◌==◌, if◌then◌else◌}
+use Rattle.std.proofs.lemmas.Bool.{eqb-true, eq-eqb}
+use Rattle.tg_syntax.specs.declared.tokens.Ident.{Ident}
+use Rattle.tg_syntax.specs.declared.trees.Param.{Param}
+use Rattle.tg_syntax.specs.Tree.{Form, Alias, Fields, Array, TypeDec, Exp, LValue, Simple, Field, Index, FunDecs, no_functions, function}
+use Rattle.tg_meaning.specs.Environments.{function_named}
+use Rattle.tg_types.specs.declared.faults.TypeRule.{TypeRule}
+use Rattle.tg_types.specs.Types.{Ty, none_type}
+use Rattle.tg_types.specs.Checks.{Noted, fine}
+use Rattle.tg_types.specs.Scopes.{Signature, Scope, name_of, at_of}
+use Rattle.tg_types.specs.Groups.{stands_in, no_repeats, declare_types, known_fields, known_form, known_forms, names_of, chains_end, with_group, type_at_end, chain_of, add_form, add_forms, function_names, param_types, result_type, headers}
+use Rattle.tg_types.specs.Typing.{body_fits, own_type, assignable}
+use Rattle.tg_types.specs.Has.{Fits, the_same, Apart}
+use Rattle.tg_types.proofs.Inversion.{steps, kept, given, presented, shape_added, expected, expected_none}
+use Rattle.tg_types.proofs.CheckedParts.{AddsForm, alias, fields, array, AddsForms, end_forms, a_form}
+
+-- names that don't repeat
+apart_from : (rule : TypeRule) (earlier names : List Ident) (y : ℕ) (x : Unit {0}) (g h : Noted) → no_repeats rule earlier names g ≡ fine x h →
+    stands_in y earlier ≡ true → stands_in y names ≡ false
+apart_from rule earlier [] y x g h e s = refl
+apart_from rule earlier (z ∷ names) y x g h e s =
+    let p = steps e in
+    let k = kept _ _ _ _ _ _ p.first in
+    by (name_of z == y) refl k.0 (apart_from rule (z ∷ earlier) names y x p.between h p.onward (either (name_of z == y) s))
+  where
+    either : (c : Bool) → stands_in y earlier ≡ true → (c || stands_in y earlier) ≡ true
+    either true s = refl
+    either false s = s
+
+    by : (c : Bool) → (name_of z == y) ≡ c → not (stands_in (name_of z) earlier) ≡ true → stands_in y names ≡ false → (c || stands_in y names) ≡ false
+    by true is n r =
+        let same : name_of z ≡ y = eqb-true (name_of z) y is in
+        let t : not (stands_in y earlier) ≡ true = subst (λ w. not (stands_in w earlier) ≡ true) same n in
+        let f : not true ≡ true = subst (λ w. not w ≡ true) s t in
+        absurd (cc)
+    by false is n r = r
+
+not_named : (y : ℕ) (fs : FunDecs) → stands_in y (function_names fs) ≡ false → function_named y fs ≡ None
+not_named y no_functions e = refl
+not_named y (function f ps _ body rest) e = by (name_of f == y) (not_named y rest) e
+  where
+    by : (c : Bool) → (stands_in y (function_names rest) ≡ false → function_named y rest ≡ None) → (c || stands_in y (function_names rest)) ≡ false →
+        (if c then Some (record { params = ps; body = body }) else function_named y rest) ≡ None
+    by true r e = cc
+    by false r e = r e
+
+equal_itself : (y : ℕ) (l : List Ident) (f : Ident) → name_of f ≡ y → stands_in y (f ∷ l) ≡ true
+equal_itself y l f e = subst (λ z. (name_of f == z || stands_in z l) ≡ true) e (by (name_of f == name_of f) (eq-eqb (name_of f) (name_of f) refl))
+  where
+    by : (c : Bool) → c ≡ true → (c || stands_in (name_of f) l) ≡ true
+    by true e = refl
+    by false e = cc
+
+pub group_apart : (rule : TypeRule) (earlier : List Ident) (fs : FunDecs) (x : Unit {0}) (g h : Noted) →
+    no_repeats rule earlier (function_names fs) g ≡ fine x h → Apart fs
+group_apart rule earlier no_functions x g h e = tt
+group_apart rule earlier (function f ps r body rest) x g h e =
+    let p = steps e in (
+      not_named (name_of f) rest (apart_from rule (f ∷ earlier) (function_names rest) (name_of f) x p.between h p.onward
+          (equal_itself (name_of f) earlier f refl)),
+      group_apart rule (f ∷ earlier) rest x p.between h p.onward,
+    )
+
+-- checks that add no shape
+pub no_repeats_keep : (rule : TypeRule) (earlier names : List Ident) (x : Unit {0}) (g h : Noted) → no_repeats rule earlier names g ≡ fine x h → g ≡ h
+no_repeats_keep rule earlier [] x g h e = (given _ _ _ _ e).1
+no_repeats_keep rule earlier (z ∷ names) x g h e =
+    let p = steps e in
+    (kept _ _ _ _ _ _ p.first).1 ∙ no_repeats_keep rule (z ∷ earlier) names x p.between h p.onward
+
+known_fields_keep : (ds : List TypeDec) (scope : Scope) (earlier : List Ident) (ps : List Param) (x : Unit {0}) (g h : Noted) →
+    known_fields ds scope earlier ps g ≡ fine x h → g ≡ h
+known_fields_keep ds scope earlier [] x g h e = (given _ _ _ _ e).1
+known_fields_keep ds scope earlier (p ∷ ps) x g h e =
+    let a = steps e in
+    let b = steps a.onward in
+    (kept _ _ _ _ _ _ a.first).1 ∙ (kept _ _ _ _ _ _ b.first).1 ∙ known_fields_keep ds scope (p.name ∷ earlier) ps x b.between h b.onward
+
+known_form_keep : (ds : List TypeDec) (scope : Scope) (form : Form) (x : Unit {0}) (g h : Noted) → known_form ds scope form g ≡ fine x h → g ≡ h
+known_form_keep ds scope (Alias y) x g h e = (kept _ _ _ _ _ _ e).1
+known_form_keep ds scope (Fields ps) x g h e = known_fields_keep ds scope [] ps x g h e
+known_form_keep ds scope (Array y) x g h e = (kept _ _ _ _ _ _ e).1
+
+pub known_forms_keep : (group ds : List TypeDec) (scope : Scope) (x : Unit {0}) (g h : Noted) → known_forms group ds scope g ≡ fine x h → g ≡ h
+known_forms_keep group [] scope x g h e = (given _ _ _ _ e).1
+known_forms_keep group (d ∷ ds) scope x g h e =
+    let a = steps e in
+    known_form_keep group scope d.form a.value g a.between a.first ∙ known_forms_keep group ds scope x a.between h a.onward
+
+pub chains_keep : (group ds : List TypeDec) (x : Unit {0}) (g h : Noted) → chains_end group ds g ≡ fine x h → g ≡ h
+chains_keep group [] x g h e = (given _ _ _ _ e).1
+chains_keep group (d ∷ ds) x g h e =
+    let a = steps e in
+    (kept _ _ _ _ _ _ a.first).1 ∙ chains_keep group ds x a.between h a.onward
+
+-- a group of types changes the names of types alone
+group_scope : (group ds : List TypeDec) (outer inner : Scope) →
+    with_group group ds outer inner ≡ record inner { types = (with_group group ds outer inner).types }
+group_scope group [] outer inner = refl
+group_scope group (d ∷ ds) outer inner =
+    group_scope group ds outer (record inner { types = (name_of d.name, type_at_end (chain_of group d.name) outer) ∷ inner.types })
+
+params_count : (scope : Scope) (earlier : List Ident) (ps : List Param) (ts : List Ty) (g h : Noted) → param_types scope earlier ps g ≡ fine ts h →
+    (length ps ≡ length ts) × (g ≡ h)
+params_count scope earlier [] ts g h e =
+    let p = given _ _ _ _ e in
+    (ap (λ y. length y) p.0, p.1)
+params_count scope earlier (p ∷ ps) ts g h e =
+    let a = steps e in
+    let b = steps a.onward in
+    let c = steps b.onward in
+    let d = given _ _ _ _ c.onward in
+    let r = params_count scope (p.name ∷ earlier) ps c.value b.between c.between c.first in
+    (ap suc r.0 ∙ ap (λ y. length y) d.0, (kept _ _ _ _ _ _ a.first).1 ∙ (presented _ _ _ _ _ _ b.first).1 ∙ r.1 ∙ d.1)
+
+result_got : (scope : Scope) (r : Option Ident) (t : Ty) (g h : Noted) → result_type scope r g ≡ fine t h → (r ≡ None → t ≡ none_type) × (g ≡ h)
+result_got scope None t g h e = let p = given _ _ _ _ e in ((λ n. sym p.0), p.1)
+result_got scope (Some x) t g h e = ((λ n. cc), (presented _ _ _ _ _ _ e).1)
+
+-- the headers of a group
+pub data Headed : FunDecs → List Signature → Type 0 where
+  no_heads : Headed no_functions []
+  a_head : {f : Ident} {ps : List Param} {r : Option Ident} {body : Exp} {rest : FunDecs} {s : Signature} {ss : List Signature} →
+      length ps ≡ length s.params → (r ≡ None → s.result ≡ none_type) → Headed rest ss → Headed (function f ps r body rest) (s ∷ ss)
+
+pub headed : (fs : FunDecs) (scope : Scope) (ss : List Signature) (g h : Noted) → headers fs scope g ≡ fine ss h → Headed fs ss × (g ≡ h)
+headed no_functions scope ss g h e =
+    let p = given _ _ _ _ e in
+    (subst (λ y. Headed no_functions y) p.0 no_heads, p.1)
+headed (function f ps r body rest) scope ss g h e =
+    let a = steps e in
+    let b = steps a.onward in
+    let c = steps b.onward in
+    let d = given _ _ _ _ c.onward in
+    let n = params_count scope [] ps a.value g a.between a.first in
+    let m = result_got scope r b.value a.between b.between b.first in
+    let k = headed rest scope c.value b.between c.between c.first in
+    (subst (λ y. Headed (function f ps r body rest) y) d.0 (a_head n.0 m.0 k.0), n.1 ∙ m.1 ∙ k.1 ∙ d.1)
+
+pub body_got : (r : Option Ident) (result got : Ty) (at : ℕ) (x : Unit {0}) (g h : Noted) → (r ≡ None → result ≡ none_type) →
+    body_fits r result got at g ≡ fine x h → Fits got result × (g ≡ h)
+body_got None result got at x g h n e =
+    let p = expected_none got at x g h e in
+    (subst (λ y. Fits got y) (p.0 ∙ sym (n refl)) the_same, p.1)
+body_got (Some y) result got at x g h n e = expected result got at x g h e
+
+pub assignable_keep : (v : LValue) (scope : Scope) (x : Unit {0}) (g h : Noted) → assignable v scope g ≡ fine x h → g ≡ h
+assignable_keep (Simple y) scope x g h e = (kept _ _ _ _ _ _ e).1
+assignable_keep (Field v f) scope x g h e = (given _ _ _ _ e).1
+assignable_keep (Index v i) scope x g h e = (given _ _ _ _ e).1
+
+pub both : (c d : Bool) → (c && d) ≡ true → (c ≡ true) × (d ≡ true)
+both true true e = (refl, refl)
+both true false e = cc
+both false d e = cc
+
+pub own_got : (t : Ty) (at : ℕ) (u : Ty) (g h : Noted) → own_type t at g ≡ fine u h → (t ≡ u) × (g ≡ h)
+own_got t at u g h e =
+    let a = steps e in
+    let b = steps a.onward in
+    let c = given _ _ _ _ b.onward in
+    (c.0, (kept _ _ _ _ _ _ a.first).1 ∙ (kept _ _ _ _ _ _ b.first).1 ∙ c.1)
+
+-- the shapes of a group
+form_added : (scope : Scope) (at : ℕ) (form : Form) (x : Unit {0}) (g h : Noted) → add_form scope at form g ≡ fine x h → AddsForm at form g h
+form_added scope at (Alias y) x g h e = subst (λ k. AddsForm at (Alias y) g k) (given _ _ _ _ e).1 alias
+form_added scope at (Fields ps) x g h e = subst (λ k. AddsForm at (Fields ps) g k) (shape_added _ _ _ _ _ e) (fields _)
+form_added scope at (Array y) x g h e = subst (λ k. AddsForm at (Array y) g k) (shape_added _ _ _ _ _ e) (array _)
+
+forms_added : (scope : Scope) (ds : List TypeDec) (x : Unit {0}) (g h : Noted) → add_forms scope ds g ≡ fine x h → AddsForms ds g h
+forms_added scope [] x g h e = subst (λ k. AddsForms [] g k) (given _ _ _ _ e).1 end_forms
+forms_added scope (d ∷ ds) x g h e =
+    let a = steps e in
+    a_form (form_added scope (at_of d.name) d.form a.value g a.between a.first) (forms_added scope ds x a.between h a.onward)
+
+pub types_got : (ds : List TypeDec) (scope inner : Scope) (g h : Noted) → declare_types ds scope g ≡ fine inner h →
+    (names : List (ℕ × Ty)) × (inner ≡ record scope { types = names }) × AddsForms ds g h
+types_got ds scope inner g h e =
+    let a = steps e in
+    let b = steps a.onward in
+    let c = steps b.onward in
+    let d = steps c.onward in
+    let f = given _ _ _ _ d.onward in
+    let w = with_group ds ds scope scope in
+    let same : g ≡ c.between =
+    no_repeats_keep _ [] (names_of ds) a.value g a.between a.first ∙ known_forms_keep ds ds scope b.value a.between b.between b.first
+    ∙ chains_keep ds ds c.value b.between c.between c.first in (
+      w.types,
+      sym f.0 ∙ group_scope ds ds scope scope,
+      subst (λ k. AddsForms ds g k) f.1 (subst (λ k. AddsForms ds k d.between) (sym same) (forms_added w ds d.value c.between d.between d.first)),
+    )

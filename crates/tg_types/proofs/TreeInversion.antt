@@ -1,0 +1,242 @@
+-- The checks of a part that came out fine are a derivation of the relation of checked parts.
+use Rattle.std.proofs.Common.{◌≡◌, ℕ, List, [], ◌∷◌, length, Some, None, true, false, refl, sym, ◌∙◌, subst}
+use Rattle.std.specs.Prelude.{◌==◌}
+use Rattle.std.proofs.lemmas.Bool.{eqb-true}
+use Rattle.tg_syntax.specs.Tree.{Exp, Nil, Break, Int, Text, Read, Call, Neg, Binary, Make, Fill, Assign, If, When, While, For, Let, Seq, LValue, Simple, Field, Index, Exps, no_exps, exp, Inits, no_inits, init, Decs, no_decs, types, variable, functions, FunDecs, no_functions, function}
+use Rattle.tg_types.specs.Types.{Ty, int_type, none_type}
+use Rattle.tg_types.specs.Checks.{Noted, fine}
+use Rattle.tg_types.specs.Scopes.{Signature, variable_at, Scope, name_of, at_of, binding, in_a_loop, in_no_loop}
+use Rattle.tg_types.specs.Groups.{function_names, with_functions, with_params}
+use Rattle.tg_types.specs.Typing.{typed, typed_place, typed_last, expect_all, expect_fields, declare, bodies, are_fields, count}
+use Rattle.tg_types.specs.Has.{Fits, the_same}
+use Rattle.tg_types.proofs.Inversion.{steps, kept, given, presented, expected, expected_int, expected_none, arms_fit, sides, variable_got, callee_got, fields_got, element_got, selected}
+use Rattle.tg_types.proofs.GroupInversion.{both, no_repeats_keep, group_apart, Headed, no_heads, a_head, headed, body_got, assignable_keep, own_got, types_got}
+use Rattle.tg_types.proofs.CheckedParts.{Checked, nil, int, text, break, read, call, neg, binary, make, fill, assign, if_else, when, while, for, block, seq, CheckedPlace, simple, field, index, CheckedAll, end_args, an_arg, CheckedInits, end_inits, an_init, CheckedLast, end_lasts, a_last, CheckedDecs, end_decs, type_names, variables, group, CheckedBodies, end_bodies, a_body}
+
+-- a part, once its type and the state behind it are known to be these; the same of the state before it
+to : {e : Exp} {scope : Scope} {t u : Ty} {g h k : Noted} → t ≡ u → h ≡ k → Checked e scope t g h → Checked e scope u g k
+to {e = e} {scope = scope} {u = u} {g = g} {h = h} i j c = subst (λ y. Checked e scope u g y) j (subst (λ y. Checked e scope y g h) i c)
+
+from : {e : Exp} {scope : Scope} {t : Ty} {g h k : Noted} → g ≡ k → Checked e scope t k h → Checked e scope t g h
+from {e = e} {scope = scope} {t = t} {h = h} j c = subst (λ y. Checked e scope t y h) (sym j) c
+
+to_place : {v : LValue} {scope : Scope} {t u : Ty} {g h k : Noted} → t ≡ u → h ≡ k → CheckedPlace v scope t g h → CheckedPlace v scope u g k
+to_place {v = v} {scope = scope} {u = u} {g = g} {h = h} i j c = subst (λ y. CheckedPlace v scope u g y) j (subst (λ y. CheckedPlace v scope y g h) i c)
+
+mutual
+  pub checked : (e : Exp) (scope : Scope) (t : Ty) (g h : Noted) → typed e scope g ≡ fine t h → Checked e scope t g h
+  checked (Nil s) scope t g h e = let d = given _ _ _ _ e in to d.0 d.1 nil
+  checked (Int s n) scope t g h e = let d = given _ _ _ _ e in to d.0 d.1 int
+  checked (Text s b) scope t g h e = let d = given _ _ _ _ e in to d.0 d.1 text
+  checked (Break s) scope t g h e =
+      let p = steps e in
+      let k = kept _ _ _ _ _ _ p.first in
+      let d = given _ _ _ _ p.onward in
+      to d.0 (k.1 ∙ d.1) (break k.0)
+  checked (Read s v) scope t g h e = read (checked_place v scope t g h e)
+  checked (Call s f args) scope t g h e =
+      let p = steps e in
+      let q = steps p.onward in
+      let r = steps q.onward in
+      let d = given _ _ _ _ r.onward in
+      let c = callee_got f _ p.value g p.between p.first in
+      let k = kept _ _ _ _ _ _ q.first in
+      let a = checked_all args p.value.params scope r.value q.between r.between (eqb-true _ _ k.0) r.first in
+      to d.0 d.1 (call c.0 c.1 c.2 (subst (λ y. CheckedAll args p.value.params scope y r.between) (sym (c.3 ∙ k.1)) a))
+  checked (Neg s a) scope t g h e =
+      let p = steps e in
+      let q = steps p.onward in
+      let d = given _ _ _ _ q.onward in
+      let i = expected_int _ _ _ _ _ q.first in
+      to d.0 d.1 (neg (to i.0 i.1 (checked a scope p.value g p.between p.first)))
+  checked (Binary s op at a b) scope t g h e =
+      let p = steps e in
+      let q = steps p.onward in
+      let r = steps q.onward in
+      let u = steps r.onward in
+      let d = given _ _ _ _ u.onward in
+      let f = sides op p.value r.value q.value at _ _ _ u.value p.between q.between r.between u.between q.first u.first in
+      to d.0 (f.2 ∙ d.1) (binary f.0 (checked a scope p.value g p.between p.first) f.1 (checked b scope r.value q.between r.between r.first))
+  checked (Make s y inits) scope t g h e =
+      let p = steps e in
+      let q = steps p.onward in
+      let r = steps q.onward in
+      let u = steps r.onward in
+      let d = given _ _ _ _ u.onward in
+      let n = presented _ _ _ _ _ _ p.first in
+      let f = fields_got p.value _ q.value p.between q.between q.first in
+      let k = kept _ _ _ _ _ _ r.first in
+      let l = checked_inits inits q.value scope u.value r.between u.between k.0 u.first in
+      from (n.1 ∙ f.3) (to (sym f.1 ∙ d.0) d.1
+      (make q.value f.2 (subst (λ z. CheckedInits inits q.value scope z u.between) (sym k.1) l)))
+  checked (Fill s y size value) scope t g h e =
+      let p = steps e in
+      let q = steps p.onward in
+      let r = steps q.onward in
+      let u = steps r.onward in
+      let v = steps u.onward in
+      let w = steps v.onward in
+      let d = given _ _ _ _ w.onward in
+      let n = presented _ _ _ _ _ _ p.first in
+      let f = element_got p.value _ q.value p.between q.between q.first in
+      let i = expected_int _ _ _ _ _ u.first in
+      let j = expected _ _ _ _ _ _ w.first in
+      from (n.1 ∙ f.3) (to (sym f.1 ∙ d.0) (j.1 ∙ d.1)
+      (fill q.value v.value f.2 (to i.0 i.1 (checked size scope r.value q.between r.between r.first))
+      (checked value scope v.value u.between v.between v.first) j.0))
+  checked (Assign s v a) scope t g h e =
+      let p = steps e in
+      let q = steps p.onward in
+      let r = steps q.onward in
+      let u = steps r.onward in
+      let d = given _ _ _ _ u.onward in
+      let m = assignable_keep v scope q.value p.between q.between q.first in
+      let j = expected _ _ _ _ _ _ u.first in
+      to d.0 (j.1 ∙ d.1)
+      (assign (to_place refl m (checked_place v scope p.value g p.between p.first)) (checked a scope r.value q.between r.between r.first) j.0)
+  checked (If s c a b) scope t g h e =
+      let p = steps e in
+      let q = steps p.onward in
+      let r = steps q.onward in
+      let u = steps r.onward in
+      let v = steps u.onward in
+      let d = given _ _ _ _ v.onward in
+      let i = expected_int _ _ _ _ _ q.first in
+      let k = kept _ _ _ _ _ _ v.first in
+      let f = arms_fit r.value u.value k.0 in
+      to d.0 (k.1 ∙ d.1)
+      (if_else (to i.0 i.1 (checked c scope p.value g p.between p.first)) (checked a scope r.value q.between r.between r.first)
+      (checked b scope u.value r.between u.between u.first) f.0 f.1)
+  checked (When s c a) scope t g h e =
+      let p = steps e in
+      let q = steps p.onward in
+      let r = steps q.onward in
+      let u = steps r.onward in
+      let d = given _ _ _ _ u.onward in
+      let i = expected_int _ _ _ _ _ q.first in
+      let k = expected_none _ _ _ _ _ u.first in
+      to d.0 d.1 (when (to i.0 i.1 (checked c scope p.value g p.between p.first)) (to k.0 k.1 (checked a scope r.value q.between r.between r.first)))
+  checked (While s c a) scope t g h e =
+      let p = steps e in
+      let q = steps p.onward in
+      let r = steps q.onward in
+      let u = steps r.onward in
+      let d = given _ _ _ _ u.onward in
+      let i = expected_int _ _ _ _ _ q.first in
+      let k = expected_none _ _ _ _ _ u.first in
+      to d.0 d.1
+      (while (to i.0 i.1 (checked c scope p.value g p.between p.first)) (to k.0 k.1 (checked a (in_a_loop scope) r.value q.between r.between r.first)))
+  checked (For s y low high a) scope t g h e =
+      let p = steps e in
+      let q = steps p.onward in
+      let r = steps q.onward in
+      let u = steps r.onward in
+      let v = steps u.onward in
+      let w = steps v.onward in
+      let d = given _ _ _ _ w.onward in
+      let inner = in_a_loop (binding y (variable_at (at_of y) int_type true) scope) in
+      let i = expected_int _ _ _ _ _ q.first in
+      let j = expected_int _ _ _ _ _ u.first in
+      let k = expected_none _ _ _ _ _ w.first in
+      to d.0 d.1
+      (for (to i.0 i.1 (checked low scope p.value g p.between p.first)) (to j.0 j.1 (checked high scope r.value q.between r.between r.first))
+      (to k.0 k.1 (checked a inner v.value u.between v.between v.first)))
+  checked (Let s ds es) scope t g h e =
+      let p = steps e in
+      block p.value (checked_decs ds scope p.value g p.between p.first) (checked_last none_type es p.value t p.between h p.onward)
+  checked (Seq s es) scope t g h e = seq (checked_last none_type es scope t g h e)
+
+  checked_place : (v : LValue) (scope : Scope) (t : Ty) (g h : Noted) → typed_place v scope g ≡ fine t h → CheckedPlace v scope t g h
+  checked_place (Simple y) scope t g h e = let p = variable_got y _ t g h e in to_place refl p.3 (simple p.0 p.1 p.2)
+  checked_place (Field v f) scope t g h e =
+      let p = steps e in
+      let q = steps p.onward in
+      let k = fields_got p.value _ q.value p.between q.between q.first in
+      let l = selected q.value f t q.between h q.onward in
+      to_place refl l.3 (field k.0 q.value l.0 (to_place k.1 k.3 (checked_place v scope p.value g p.between p.first)) k.2 l.1 l.2)
+  checked_place (Index v i) scope t g h e =
+      let p = steps e in
+      let q = steps p.onward in
+      let r = steps q.onward in
+      let u = steps r.onward in
+      let d = given _ _ _ _ u.onward in
+      let k = element_got p.value _ q.value p.between q.between q.first in
+      let j = expected_int _ _ _ _ _ u.first in
+      to_place d.0 d.1
+      (index k.0 (to_place k.1 k.3 (checked_place v scope p.value g p.between p.first)) k.2 (to j.0 j.1 (checked i scope r.value q.between r.between r.first)))
+
+  checked_all : (es : Exps) (ts : List Ty) (scope : Scope) (y : Unit {0}) (g h : Noted) → count es ≡ length ts → expect_all es ts scope g ≡ fine y h →
+      CheckedAll es ts scope g h
+  checked_all no_exps [] scope y g h c e = subst (λ k. CheckedAll no_exps [] scope g k) (given _ _ _ _ e).1 end_args
+  checked_all no_exps (t ∷ ts) scope y g h c e = cc
+  checked_all (exp a rest) [] scope y g h c e = cc
+  checked_all (exp a rest) (t ∷ ts) scope y g h c e =
+      let p = steps e in
+      let q = steps p.onward in
+      let f = expected _ _ _ _ _ _ q.first in
+      an_arg p.value (to refl f.1 (checked a scope p.value g p.between p.first)) f.0
+      (checked_all rest ts scope y q.between h (let j : count rest ≡ length ts = cc in j) q.onward)
+
+  checked_inits : (es : Inits) (fs : List (ℕ × Ty)) (scope : Scope) (y : Unit {0}) (g h : Noted) → are_fields es fs ≡ true →
+      expect_fields es fs scope g ≡ fine y h → CheckedInits es fs scope g h
+  checked_inits no_inits [] scope y g h c e = subst (λ k. CheckedInits no_inits [] scope g k) (given _ _ _ _ e).1 end_inits
+  checked_inits no_inits (one ∷ fs) scope y g h c e = cc
+  checked_inits (init f a rest) [] scope y g h c e = cc
+  checked_inits (init f a rest) (one ∷ fs) scope y g h c e =
+      let p = steps e in
+      let q = steps p.onward in
+      let w = expected _ _ _ _ _ _ q.first in
+      let b = both (name_of f == one.0) (are_fields rest fs) c in
+      an_init p.value (eqb-true (name_of f) one.0 b.0) (to refl w.1 (checked a scope p.value g p.between p.first)) w.0
+      (checked_inits rest fs scope y q.between h b.1 q.onward)
+
+  checked_last : (u : Ty) (es : Exps) (scope : Scope) (t : Ty) (g h : Noted) → typed_last u es scope g ≡ fine t h → CheckedLast u es scope t g h
+  checked_last u no_exps scope t g h e =
+      let d = given _ _ _ _ e in
+      subst (λ k. CheckedLast u no_exps scope t g k) d.1 (subst (λ y. CheckedLast u no_exps scope y g g) d.0 end_lasts)
+  checked_last u (exp a rest) scope t g h e =
+      let p = steps e in
+      a_last p.value (checked a scope p.value g p.between p.first) (checked_last p.value rest scope t p.between h p.onward)
+
+  checked_decs : (ds : Decs) (scope inner : Scope) (g h : Noted) → declare ds scope g ≡ fine inner h → CheckedDecs ds scope inner g h
+  checked_decs no_decs scope inner g h e =
+      let d = given _ _ _ _ e in
+      subst (λ k. CheckedDecs no_decs scope inner g k) d.1 (subst (λ y. CheckedDecs no_decs scope y g g) d.0 end_decs)
+  checked_decs (types ds rest) scope inner g h e =
+      let p = steps e in
+      let l = types_got ds scope p.value g p.between p.first in
+      type_names l.0 l.2 (subst (λ y. CheckedDecs rest y inner p.between h) l.1 (checked_decs rest p.value inner p.between h p.onward))
+  checked_decs (variable y None a rest) scope inner g h e =
+      let p = steps e in
+      let q = steps p.onward in
+      let o = own_got p.value _ q.value p.between q.between q.first in
+      variables q.value p.value (to refl o.1 (checked a scope p.value g p.between p.first)) (subst (λ z. Fits p.value z) o.0 the_same)
+      (checked_decs rest (binding y (variable_at (at_of y) q.value false) scope) inner q.between h q.onward)
+  checked_decs (variable y (Some kind) a rest) scope inner g h e =
+      let p = steps e in
+      let q = steps p.onward in
+      let r = steps q.onward in
+      let n = presented _ _ _ _ _ _ p.first in
+      let f = expected _ _ _ _ _ _ r.first in
+      variables p.value q.value (from n.1 (to refl f.1 (checked a scope q.value p.between q.between q.first))) f.0
+      (checked_decs rest (binding y (variable_at (at_of y) p.value false) scope) inner r.between h r.onward)
+  checked_decs (functions fs rest) scope inner g h e =
+      let p = steps e in
+      let q = steps p.onward in
+      let r = steps q.onward in
+      let hd = headed fs scope q.value p.between q.between q.first in
+      let body_scope = in_no_loop (with_functions fs q.value scope) in
+      let l = checked_bodies fs q.value body_scope r.value q.between r.between hd.0 r.first in
+      let same = no_repeats_keep _ [] (function_names fs) p.value g p.between p.first ∙ hd.1 in
+      group q.value (group_apart _ [] fs p.value g p.between p.first) (subst (λ k. CheckedBodies fs q.value body_scope k r.between) (sym same) l)
+      (checked_decs rest (with_functions fs q.value scope) inner r.between h r.onward)
+
+  checked_bodies : (fs : FunDecs) (ss : List Signature) (scope : Scope) (y : Unit {0}) (g h : Noted) → Headed fs ss → bodies fs ss scope g ≡ fine y h →
+      CheckedBodies fs ss scope g h
+  checked_bodies no_functions _ scope y g h no_heads e = subst (λ k. CheckedBodies no_functions [] scope g k) (given _ _ _ _ e).1 end_bodies
+  checked_bodies (function f ps r body rest) _ scope y g h (a_head {s = s} {ss = ss} n m hd) e =
+      let p = steps e in
+      let q = steps p.onward in
+      let b = body_got r s.result p.value _ q.value p.between q.between m q.first in
+      a_body p.value n (to refl b.1 (checked body (with_params ps s.params scope) p.value g p.between p.first)) b.0
+      (checked_bodies rest ss scope y q.between h hd q.onward)
