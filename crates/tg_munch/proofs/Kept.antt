@@ -1,5 +1,5 @@
 -- What stays of flat code: moves between temporaries, and its end.
-use Rattle.std.proofs.Common.{ℕ, zero, suc, ◌≡◌, ◌⊎◌, inl, inr, List, [], ◌∷◌, ◌++◌, Some, refl, sym, subst, arith, append-nil}
+use Rattle.std.proofs.Common.{ℕ, ◌+◌, Bool, zero, suc, ◌≡◌, ◌⊎◌, inl, inr, List, [], ◌∷◌, ◌++◌, Some, refl, sym, subst, arith, append-nil}
 use Rattle.std.specs.Prelude.{IsTrue}
 use Rattle.std.specs.List.{Contains}
 use Rattle.std.proofs.lemmas.List.Elements.{Contains-append_left, Contains-append_right, Contains-append_cases}
@@ -12,6 +12,7 @@ use Rattle.tg_instr.specs.declared.instr.Instr.{Instr}
 use Rattle.tg_instr.specs.declared.instr.Instr.TheVariants.{Move, Return}
 use Rattle.tg_munch.specs.Choosing.{Drawn, ◌>>=◌}
 use Rattle.tg_munch.specs.Munching.{temp, expression, kept_registers, given_back, element, elements}
+use Rattle.tg_munch.specs.Products.{stands_in_hi}
 use Rattle.tg_munch.specs.Bodies.{kept, parameters, mark_above, munched}
 
 one_only : {X : Type 0} (e x : X) → Contains (e ∷ []) x → e ≡ x
@@ -25,15 +26,17 @@ in_either : (first rest : List Instr) (one : Instr) {P Q : Type 0} → P ⊎ Q �
 in_either first rest one (inl p) f g = Contains-append_left first rest one (f p)
 in_either first rest one (inr q) f g = Contains-append_right first rest one (g q)
 
-elements_have : (slots keeps : ℕ) (code : List Linear) (e : Linear) (one : Instr) → ((d : Drawn) → Contains (element slots keeps e d).code one) →
-    Contains code e →
-    (d : Drawn) → Contains (elements slots keeps code d).code one
+elements_have : (slots keeps : ℕ) (whole : List Linear) (i : ℕ) (code : List Linear) (e : Linear) (one : Instr) →
+    ((in_hi : Bool) (d : Drawn) → Contains (element slots keeps in_hi e d).code one) → Contains code e →
+    (d : Drawn) → Contains (elements slots keeps whole i code d).code one
 unfolding ◌>>=◌
-elements_have slots keeps [] e one h c d = let no : ⊥ = omega (arith, c.1) in absurd no
-elements_have slots keeps (x ∷ rest) e one h c d =
-    in_either (element slots keeps x d).code (elements slots keeps rest (element slots keeps x d).drawn).code one (Contains-append_cases (x ∷ []) rest e c)
-    (λ p. subst (λ y. Contains (element slots keeps y d).code one) (sym (one_only x e p)) (h d))
-    (λ q. elements_have slots keeps rest e one h q (element slots keeps x d).drawn)
+elements_have slots keeps whole i [] e one h c d = let no : ⊥ = omega (arith, c.1) in absurd no
+elements_have slots keeps whole i (x ∷ rest) e one h c d =
+    let in_hi = stands_in_hi whole i in
+    let first = element slots keeps in_hi x d in
+    in_either first.code (elements slots keeps whole (i + 1) rest first.drawn).code one (Contains-append_cases (x ∷ []) rest e c)
+    (λ p. subst (λ y. Contains (element slots keeps in_hi y d).code one) (sym (one_only x e p)) (h in_hi d))
+    (λ q. elements_have slots keeps whole (i + 1) rest e one h q first.drawn)
 
 pub moves_stay : (f : Function (List Linear)) (t s : ℕ) → Contains f.body (tree.Do' (tree.Move t (tree.Temp s))) →
     Contains (munched f).code (Move (temp t) (temp s))
@@ -43,7 +46,7 @@ moves_stay f t s h =
     let two = parameters f.slots 0 f.params one.drawn in
     let move = Move (temp t) (temp s) in
     Contains-append_right one.code _ _ (Contains-append_right two.code _ _
-    (elements_have f.slots f.temps f.body (tree.Do' (tree.Move t (tree.Temp s))) move (λ d. in_one move) h two.drawn))
+    (elements_have f.slots f.temps f.body 0 f.body (tree.Do' (tree.Move t (tree.Temp s))) move (λ in_hi d. in_one move) h two.drawn))
 
 -- the end
 ends_behind : (xs ys : List Instr) → IsTrue (ends_well ys) → IsTrue (ends_well (xs ++ ys))
@@ -52,32 +55,36 @@ ends_behind (x ∷ []) [] h = cc
 ends_behind (x ∷ []) (y ∷ ys) h = h
 ends_behind (x ∷ z ∷ xs) ys h = ends_behind (z ∷ xs) ys h
 
-end_element : (slots keeps : ℕ) (e : Linear) → EndsCode (e ∷ []) → (d : Drawn) → IsTrue (ends_well (element slots keeps e d).code)
+end_element : (slots keeps : ℕ) (in_hi : Bool) (e : Linear) → EndsCode (e ∷ []) → (d : Drawn) →
+    IsTrue (ends_well (element slots keeps in_hi e d).code)
 unfolding ◌>>=◌
-end_element slots keeps (tree.Jump m) h d = refl
-end_element slots keeps (tree.Fault' n) h d = refl
-end_element slots keeps (tree.Return' x) h d =
+end_element slots keeps in_hi (tree.Jump m) h d = refl
+end_element slots keeps in_hi (tree.Fault' n) h d = refl
+end_element slots keeps in_hi (tree.Return' x) h d =
     let one = expression slots x (Some (Reg 2)) d in
     let back = (given_back keeps kept_registers one.drawn).code in
     ends_behind one.code (back ++ Return ∷ []) (ends_behind back (Return ∷ []) refl)
-end_element slots keeps _ h d = absurd h
+end_element slots keeps in_hi _ h d = absurd h
 
 ends_tail : (e y : Linear) (rest : List Linear) → EndsCode (e ∷ y ∷ rest) → EndsCode (y ∷ rest)
 ends_tail _ y rest h = h
 
-elements_end : (slots keeps : ℕ) (code : List Linear) → EndsCode code → (d : Drawn) → IsTrue (ends_well (elements slots keeps code d).code)
+elements_end : (slots keeps : ℕ) (whole : List Linear) (i : ℕ) (code : List Linear) → EndsCode code → (d : Drawn) →
+    IsTrue (ends_well (elements slots keeps whole i code d).code)
 unfolding ◌>>=◌
-elements_end slots keeps [] h d = absurd h
-elements_end slots keeps (e ∷ []) h d =
-    subst (λ (l : List Instr). IsTrue (ends_well l)) (sym (append-nil (element slots keeps e d).code)) (end_element slots keeps e h d)
-elements_end slots keeps (e ∷ y ∷ rest) h d =
-    let one = element slots keeps e d in
-    ends_behind one.code (elements slots keeps (y ∷ rest) one.drawn).code (elements_end slots keeps (y ∷ rest) (ends_tail e y rest h) one.drawn)
+elements_end slots keeps whole i [] h d = absurd h
+elements_end slots keeps whole i (e ∷ []) h d =
+    let in_hi = stands_in_hi whole i in
+    subst (λ (l : List Instr). IsTrue (ends_well l)) (sym (append-nil (element slots keeps in_hi e d).code)) (end_element slots keeps in_hi e h d)
+elements_end slots keeps whole i (e ∷ y ∷ rest) h d =
+    let one = element slots keeps (stands_in_hi whole i) e d in
+    ends_behind one.code (elements slots keeps whole (i + 1) (y ∷ rest) one.drawn).code
+    (elements_end slots keeps whole (i + 1) (y ∷ rest) (ends_tail e y rest h) one.drawn)
 
 pub code_ends : (f : Function (List Linear)) → EndsCode f.body → IsTrue (ends_well (munched f).code)
 unfolding ◌>>=◌
 code_ends f h =
     let one = kept kept_registers (record { temp = f.temps; mark = mark_above f.body }) in
     let two = parameters f.slots 0 f.params one.drawn in
-    let rest = (elements f.slots f.temps f.body two.drawn).code in
-    ends_behind one.code (two.code ++ rest) (ends_behind two.code rest (elements_end f.slots f.temps f.body h two.drawn))
+    let rest = (elements f.slots f.temps f.body 0 f.body two.drawn).code in
+    ends_behind one.code (two.code ++ rest) (ends_behind two.code rest (elements_end f.slots f.temps f.body 0 f.body h two.drawn))

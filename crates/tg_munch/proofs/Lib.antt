@@ -6,6 +6,7 @@ pub mod MarkingLaws
 pub mod Naming
 pub mod NamingCode
 pub mod NamingLaws
+pub mod Neighbours
 pub mod Passing
 pub mod Scopes
 pub mod Walking

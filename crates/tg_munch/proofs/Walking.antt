@@ -10,7 +10,7 @@ use Rattle.tg_tree.specs.declared.trees.Tx.{Tx as CodeTx}
 use Rattle.tg_tree.specs.Lists.{txs_of, code_of}
 use Rattle.tg_tree.specs.Plain.{plain_tx, plain_linear}
 use Rattle.tg_tree.specs.Tree as tree
-use Rattle.tg_tree.specs.Tree.{Tx}
+use Rattle.tg_tree.specs.Tree.{Tx, Linear}
 use Rattle.tg_instr.specs.declared.operands.Opnd.{Opnd}
 use Rattle.tg_instr.specs.declared.operands.Opnd.TheVariants.{Reg}
 use Rattle.tg_instr.specs.declared.instr.Instr.TheVariants.{Move, FrameStore}
@@ -21,6 +21,7 @@ use Rattle.tg_munch.specs.Tiles.{tile, tiled, shifted_into, operated}
 use Rattle.tg_munch.specs.Munching.{temp, argument, store_low, passed, given_back, expression, arguments, loaded_at, byte_at, valued, effect, element, elements}
 use Rattle.tg_munch.specs.Bodies.{count, kept, kept_register, from_caller, parameter, parameter_in_temp, parameter_in_frame, parameters}
 use Rattle.tg_munch.specs.Drafts.{Writes}
+use Rattle.tg_munch.specs.Products.{stands_in_hi}
 use Rattle.tg_munch.proofs.Writing.{writes_then, writes_none}
 
 pub load_is : (slots : ℕ) (x : Tx) (dest : Option Opnd) → expression slots (tree.Load x) dest ≡ loaded_at slots x dest
@@ -65,8 +66,9 @@ given_each = record { none = λ i. refl; more = λ i x xs. refl }
 pub parameter_each : (slots : ℕ) → EachChoice (parameters slots) (parameter slots)
 parameter_each slots = record { none = λ i. refl; more = λ i x xs. refl }
 
-pub element_each : (slots keeps : ℕ) → EachChoice (λ i es. elements slots keeps (code_of es)) (λ i e. element slots keeps (plain_linear e))
-element_each slots keeps = record { none = λ i. refl; more = λ i x xs. refl }
+pub element_each : (slots keeps : ℕ) (code : List Linear) →
+    EachChoice (λ i es. elements slots keeps code i (code_of es)) (λ i e. element slots keeps (stands_in_hi code i) (plain_linear e))
+element_each slots keeps code = record { none = λ i. refl; more = λ i x xs. refl }
 
 pub argument_each : (slots : ℕ) → EachChoice (λ i xs. arguments slots i (txs_of xs)) (λ i x. passed i (expression slots (plain_tx x)))
 argument_each slots = record { none = λ i. refl; more = λ i x xs. refl }

@@ -5,4 +5,5 @@ pub mod Drafts
 pub mod Laws
 pub mod Munching
 pub mod Naming
+pub mod Products
 pub mod Tiles

@@ -1,7 +1,7 @@
 -- Maximal munch: the instructions of expressions, statements and elements of flat code (Appel,
 -- chapter 9).
 use Rattle.std.specs.Prelude.{ℕ, ◌+◌, ◌-◌, ◌*◌, ◌==◌, nat_lt, List, [], ◌∷◌, Option, Some, None}
-use Rattle.std.specs.Prelude.{if◌then◌else◌}
+use Rattle.std.specs.Prelude.{Bool, true, false, if◌then◌else◌}
 use Rattle.tg_tree.specs.declared.operators.Rel.{Rel}
 use Rattle.tg_base.specs.declared.ids.Label.{Label}
 use Rattle.tg_tree.specs.Tree as tree
@@ -10,12 +10,13 @@ use Rattle.tg_instr.specs.declared.operands.Opnd.{Opnd}
 use Rattle.tg_instr.specs.declared.operands.Opnd.TheVariants.{Temp, Reg}
 use Rattle.tg_instr.specs.declared.instr.Instr.TheVariants.{Addu, Sw, Sb, Move, FrameStore}
 use Rattle.tg_instr.specs.declared.instr.Instr.TheVariants.{FrameAddress, Address, Mark, Jump, Call}
-use Rattle.tg_instr.specs.declared.instr.Instr.TheVariants.{Service, Fault, Return}
+use Rattle.tg_instr.specs.declared.instr.Instr.TheVariants.{Service, Fault, Return, Mfhi}
 use Rattle.tg_munch.specs.Choosing.{Choice, ◌>>=◌, ◌>>◌, give, put, fresh, choose, defining}
 use Rattle.tg_munch.specs.declared.tiles.Base.{Base}
 use Rattle.tg_munch.specs.Tiles.{nothing, constant, slot, offset, offset_by, based, loaded}
 use Rattle.tg_munch.specs.Tiles.{loaded_byte, tile, tiled, moved}
 use Rattle.tg_munch.specs.Comparing.{short_side, against, is_turned, turned}
+use Rattle.tg_munch.specs.Products.{stands_in_hi}
 
 -- what a function gives back: $s0 to $s7 and $ra
 abbrev pub kept_registers : List ℕ
@@ -163,20 +164,32 @@ module _ (slots : ℕ) where
   branch rel x y m =
       if is_turned rel x y then compared (turned rel) y x m else compared rel x y m
 
+  -- a comparison whose left side is in HI
+  abbrev pub compared_in_hi : Rel → (right : Tx) → (mark : ℕ) → Choice (Unit {0})
+  compared_in_hi rel y m = fresh >>= (λ a. put (Mfhi a) >> compared_with rel a y m)
+
+  abbrev pub branch_by :
+      (in_hi : Bool) → Rel → (left right : Tx) → (mark : ℕ) → Choice (Unit {0})
+  branch_by true rel x y m = compared_in_hi rel y m
+  branch_by false rel x y m = branch rel x y m
+
   -- a return with a word: the kept registers get back what they held
   abbrev pub returned : (keeps : ℕ) → Tx → Choice (Unit {0})
   returned keeps x =
       expression x (Some (Reg 2)) >> (given_back keeps kept_registers >> put Return)
 
   -- an element of flat code, where the kept registers stand in temporaries from a number on
-  abbrev pub element : (keeps : ℕ) → Linear → Choice (Unit {0})
-  element keeps (tree.Mark m) = put (Mark m)
-  element keeps (tree.Do' s) = statement s
-  element keeps (tree.Jump m) = put (Jump m)
-  element keeps (tree.Branch rel x y m) = branch rel x y m
-  element keeps (tree.Fault' n) = put (Fault n)
-  element keeps (tree.Return' x) = returned keeps x
+  abbrev pub element : (keeps : ℕ) → (in_hi : Bool) → Linear → Choice (Unit {0})
+  element keeps in_hi (tree.Mark m) = put (Mark m)
+  element keeps in_hi (tree.Do' s) = statement s
+  element keeps in_hi (tree.Jump m) = put (Jump m)
+  element keeps in_hi (tree.Branch rel x y m) = branch_by in_hi rel x y m
+  element keeps in_hi (tree.Fault' n) = put (Fault n)
+  element keeps in_hi (tree.Return' x) = returned keeps x
 
-  abbrev pub elements : (keeps : ℕ) → List Linear → Choice (Unit {0})
-  elements keeps [] = give tt
-  elements keeps (e ∷ rest) = element keeps e >> elements keeps rest
+  -- the elements of a code from a place on
+  abbrev pub elements :
+      (keeps : ℕ) → (code : List Linear) → (place : ℕ) → List Linear → Choice (Unit {0})
+  elements keeps code i [] = give tt
+  elements keeps code i (e ∷ rest) =
+      element keeps (stands_in_hi code i) e >> elements keeps code (i + 1) rest

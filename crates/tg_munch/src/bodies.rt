@@ -8,7 +8,8 @@ ghost use Rattle.tg_munch.specs.Munching as munching;
 
 use crate::drafts::Draft;
 use crate::expressions::{expression, low_bytes};
-use crate::statements::{branch, statement};
+use crate::products::stands_in_hi;
+use crate::statements::{branch, compare_in_hi, statement};
 use std::alloc::Global;
 use tg_base::{Memory, Temp};
 use tg_frame::Access;
@@ -143,23 +144,35 @@ pub(crate) fn elements(
 ) -> Result<(), Memory>
     requires { keeps < 2 ^ 24 }
     ensures { OnOk result
-        (Writes (munching.elements slots keeps (code_of code.now)) draft.old draft.new tt) }
+        (Writes (munching.elements slots keeps (code_of code.now) 0 (code_of code.now))
+        draft.old draft.new tt) }
 {
-    for one in code {
-        element(draft, slots, keeps, one)?;
+    for (i, one) in code.iter().enumerate() {
+        element(draft, slots, keeps, stands_in_hi(code, i), one)?;
     }
     Ok(())
 }
 
-fn element(draft: &mut Draft, slots: u32, keeps: u32, one: &Linear) -> Result<(), Memory>
+/// An element of flat code, which is a comparison whose left side is in HI, where it is said so.
+fn element(
+    draft: &mut Draft,
+    slots: u32,
+    keeps: u32,
+    in_hi: bool,
+    one: &Linear,
+) -> Result<(), Memory>
     requires { keeps < 2 ^ 24 }
     ensures { OnOk result
-        (Writes (munching.element slots keeps (plain_linear one.now)) draft.old draft.new tt) }
+        (Writes (munching.element slots keeps in_hi (plain_linear one.now))
+        draft.old draft.new tt) }
 {
     match one {
         Linear::Mark(mark) => draft.put(Instr::Mark(*mark)),
         Linear::Do(s) => statement(draft, slots, s),
         Linear::Jump(mark) => draft.put(Instr::Jump(*mark)),
+        Linear::Branch(rel, _, right, mark) if in_hi => {
+            compare_in_hi(draft, slots, *rel, right, *mark)
+        }
         Linear::Branch(rel, left, right, mark) => { branch(draft, slots, *rel, left, right, *mark) }
         Linear::Fault(number) => draft.put(Instr::Fault(*number)),
         Linear::Return(x) => answer(draft, slots, keeps, x),

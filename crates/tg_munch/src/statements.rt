@@ -145,6 +145,25 @@ fn compare(
     Ok(())
 }
 
+/// A branch on a comparison whose left side is in HI.
+pub(crate) fn compare_in_hi(
+    draft: &mut Draft,
+    slots: u32,
+    rel: Rel,
+    right: &Tx,
+    mark: u32,
+) -> Result<(), Memory>
+    ensures { OnOk result
+        (Writes (munching.compared_in_hi slots rel (plain_tx right.now) mark)
+        draft.old draft.new tt) }
+{
+    let first = draft.fresh()?;
+    let target = first;
+    draft.put(Instr::Mfhi(target))?;
+    compare_with(draft, slots, rel, first, right, mark)?;
+    Ok(())
+}
+
 fn compare_with(
     draft: &mut Draft,
     slots: u32,
