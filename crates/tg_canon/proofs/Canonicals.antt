@@ -6,6 +6,8 @@ use Rattle.tg_tree.specs.Shapes.{IsFlat, AreFlat, IsFlatSide, IsFlatCond, IsCano
 use Rattle.tg_canon.specs.Drawing.{Draws, give, ◌>>=◌}
 use Rattle.tg_canon.specs.Canon.{Part, still, nothing, is_nothing, first_then, ◌before◌, loop_of, block, Parts, in_front, in_turn, Lifted, Two, Arguments, behind, hold, is_side, hold_side, word, stays, hold_unless, hold_but_offset, hold_for, hold_before, in_front_of, side_by_side, argument, over, over_two, over_all, with_one, with_two, assigning, acts, dropped, is_whole, Tested, compared, opposite, joined, choice, exit_where, wide_choice, deeper, inside, choose, lift, lift_all, condition, leave, linear, linear_all, statements_of, linearized}
 use Rattle.tg_canon.proofs.Always.{Always, next, made}
+use Rattle.tg_canon.proofs.Helds.{flat_side}
+use Rattle.tg_canon.proofs.Words.{side_flat}
 
 -- a choice of two of a kind
 one_of_two : {A : Type 0} (P : A → Type 0) (b : Bool) {x y : A} → P x → P y → P (if b then x else y)
@@ -43,31 +45,6 @@ record PartsAre (p : Parts) : Type 0 where
 record TestedIs (t : Tested) : Type 0 where
   canonical : IsCanonical t.front.statement
   flat : IsFlatCond t.condition
-
-flat_side : (x : Tx) → IsFlat x → IsFlatSide x
-flat_side (Const _) h = h
-flat_side (Address _) h = h
-flat_side (Temp _) h = h
-flat_side FrameAddress h = h
-flat_side (Binary _ _ _) h = h
-flat_side (Load _) h = h
-flat_side (LoadByte _) h = h
-flat_side (Call _ _) h = absurd h
-flat_side (Service _ _) h = absurd h
-flat_side (After _ _) h = absurd h
-
--- a side that isn't a call or service is flat
-side_flat : (x : Tx) → is_side x ≡ false → IsFlatSide x → IsFlat x
-side_flat (Const _) e h = h
-side_flat (Address _) e h = h
-side_flat (Temp _) e h = h
-side_flat FrameAddress e h = h
-side_flat (Binary _ _ _) e h = h
-side_flat (Load _) e h = h
-side_flat (LoadByte _) e h = h
-side_flat (Call _ _) e h = cc
-side_flat (Service _ _) e h = cc
-side_flat (After _ _) e h = h
 
 hold_is : (x : Tx) → IsFlatSide x → Always WordIs (hold x)
 hold_is x h = record { at = λ k. record { canonical = h; flat = tt } }
