@@ -111,7 +111,43 @@ pub(crate) fn take_string(alloc: Global, string: u32, bytes: Tx, length: Tx) -> 
 pub(crate) fn copy_bytes(alloc: Global, from: u32, end: u32, to: u32) -> Result<Ts, Memory>
     ensures { IfOk result (λ s. plain_ts s ≡ routines.copy_bytes from end to) }
 {
-    let copied = Ts::StoreByte(temp(to), byte_at(alloc, from)?);
-    let turn = vec![in alloc; copied, advance(alloc, from, 1)?, advance(alloc, to, 1)?]?;
+    let part = Ts::StoreByte(temp(to), byte_at(alloc, from)?);
+    copy_parts(alloc, part, 1, from, end, to)
+}
+
+/// The words from one address on, up to an end, are put from another address on.
+pub(crate) fn copy_words(alloc: Global, from: u32, end: u32, to: u32) -> Result<Ts, Memory>
+    ensures { IfOk result (λ s. plain_ts s ≡ routines.copy_words from end to) }
+{
+    let part = Ts::Store(temp(to), load_at(alloc, from)?);
+    copy_parts(alloc, part, 4, from, end, to)
+}
+
+// What lies from one address on, up to an end, is put from another one on, in parts.
+fn copy_parts(
+    alloc: Global,
+    part: Ts,
+    bytes: u32,
+    from: u32,
+    end: u32,
+    to: u32,
+) -> Result<Ts, Memory>
+    ensures { IfOk result (λ s. plain_ts s ≡
+        routines.copy_parts (plain_ts part) bytes from end to) }
+{
+    let turn = vec![in alloc;
+        part,
+        advance(alloc, from, bytes)?,
+        advance(alloc, to, bytes)?,
+    ]?;
     walk(alloc, from, end, turn)
+}
+
+/// The first multiple of 4 from a number on.
+pub(crate) fn whole_words(alloc: Global, number: Tx) -> Result<Tx, Memory>
+    ensures { IfOk result (λ x. plain_tx x ≡ routines.whole_words (plain_tx number)) }
+{
+    let past = binary(alloc, Bin::Add, number, Tx::Const(3))?;
+    let words = binary(alloc, Bin::ShiftRight, past, Tx::Const(2))?;
+    binary(alloc, Bin::ShiftLeft, words, Tx::Const(2))
 }
