@@ -94,8 +94,9 @@ pub(crate) fn walk(alloc: Global, at: u32, end: u32, turn: Vec<Ts>) -> Result<Ts
     ensures { IfOk result (λ s. plain_ts s ≡ routines.walk at end (map plain_ts turn.items)) }
 {
     let done = compare_temps(alloc, Rel::Equal, at, end)?;
+    let more = compare_temps(alloc, Rel::NotEqual, at, end)?;
     let turns = repeat_until(alloc, done, turn)?;
-    when(alloc, compare_temps(alloc, Rel::NotEqual, at, end)?, turns)
+    when(alloc, more, turns)
 }
 
 /// A new string of some length, which takes so many bytes with the word of its length.
@@ -135,11 +136,9 @@ fn copy_parts(
     ensures { IfOk result (λ s. plain_ts s ≡
         routines.copy_parts (plain_ts part) bytes from end to) }
 {
-    let turn = vec![in alloc;
-        part,
-        advance(alloc, from, bytes)?,
-        advance(alloc, to, bytes)?,
-    ]?;
+    let next = sum(alloc, from, Tx::Const(bytes))?;
+    let place = sum(alloc, to, Tx::Const(bytes))?;
+    let turn = vec![in alloc; part, assign(from, next), assign(to, place)]?;
     walk(alloc, from, end, turn)
 }
 

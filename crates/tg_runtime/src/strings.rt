@@ -63,10 +63,10 @@ fn compare_bytes(alloc: Global, one: u32, two: u32) -> Result<Ts, Memory>
 fn common_end(alloc: Global, left: u32, right: u32, at: u32, end: u32) -> Result<Ts, Memory>
     ensures { IfOk result (λ s. plain_ts s ≡ routines.common_end left right at end) }
 {
+    let this = sum(alloc, at, load_at(alloc, left)?)?;
+    let other = sum(alloc, at, load_at(alloc, right)?)?;
     let shorter = lengths(alloc, Rel::Less, left, right)?;
-    let this = assign(end, sum(alloc, at, load_at(alloc, left)?)?);
-    let other = assign(end, sum(alloc, at, load_at(alloc, right)?)?);
-    if_else(alloc, shorter, this, other)
+    if_else(alloc, shorter, assign(end, this), assign(end, other))
 }
 
 // A comparison of two strings' lengths.
@@ -147,12 +147,16 @@ fn begin_with(
 ) -> Result<Ts, Memory>
     ensures { IfOk result (λ s. plain_ts s ≡ routines.begin_with string made from end to) }
 {
-    let last = sum(alloc, from, load_at(alloc, string)?)?;
+    let behind = sum(alloc, from, load_at(alloc, string)?)?;
+    let last = whole_words(alloc, behind)?;
+    let begin = bytes_of(alloc, string)?;
+    let place = bytes_of(alloc, made)?;
+    let copied = copy_words(alloc, from, end, to)?;
     Ok(sequence(vec![in alloc;
-        assign(from, bytes_of(alloc, string)?),
-        assign(end, whole_words(alloc, last)?),
-        assign(to, bytes_of(alloc, made)?),
-        copy_words(alloc, from, end, to)?,
+        assign(from, begin),
+        assign(end, last),
+        assign(to, place),
+        copied,
     ]?))
 }
 
@@ -160,9 +164,8 @@ fn begin_with(
 fn append(alloc: Global, string: u32, from: u32, end: u32, to: u32) -> Result<Ts, Memory>
     ensures { IfOk result (λ s. plain_ts s ≡ routines.append string from end to) }
 {
-    Ok(sequence(vec![in alloc;
-        assign(from, bytes_of(alloc, string)?),
-        assign(end, sum(alloc, from, load_at(alloc, string)?)?),
-        copy_bytes(alloc, from, end, to)?,
-    ]?))
+    let last = sum(alloc, from, load_at(alloc, string)?)?;
+    let begin = bytes_of(alloc, string)?;
+    let copied = copy_bytes(alloc, from, end, to)?;
+    Ok(sequence(vec![in alloc; assign(from, begin), assign(end, last), copied]?))
 }
