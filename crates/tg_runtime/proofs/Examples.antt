@@ -85,14 +85,34 @@ count_below : does (print (cut 2 4294967295) ∷ []) 9 ≡ broken 5
 count_below = refl
 
 -- `concat`: five bytes and two take eight bytes and the word of the length
+abbrev join : (left right : Tx) → Tx
+join left right = call routine.Concat (left ∷ right ∷ [])
+
 abbrev joined : Tx
-joined = call routine.Concat (tiger ∷ Address 34 ∷ [])
+joined = join tiger (Address 34)
 
 concatenated : does_with 12 [] (print joined ∷ Return (Const 0) ∷ []) 16 ≡ finished (codes "tigerhi")
 concatenated = refl
 
 no_room_for_both : does_with 8 [] (print joined ∷ Return (Const 0) ∷ []) 16 ≡ full
 no_room_for_both = refl
+
+-- two words and two bytes: each goes back to the head of its loop once
+words_copied : does_with 12 [] (Do joined ∷ Return (Const 0) ∷ []) 3 ≡ finished []
+words_copied = refl
+
+byte_wants_a_turn : does_with 12 [] (Do joined ∷ Return (Const 0) ∷ []) 2 ≡ ([], WantsFuel)
+byte_wants_a_turn = refl
+
+-- seven bytes, of which the last word has one that isn't its own, and five
+joined_again : does_with 28 [] (print (join joined tiger) ∷ Return (Const 0) ∷ []) 30 ≡ finished (codes "tigerhitiger")
+joined_again = refl
+
+-- an empty string on either side, and on both
+nothing_joined :
+    does_with 24 [] (print (join tiger (Address 35)) ∷ print (join (Address 35) (Address 34)) ∷ print (join (Address 35) (Address 35)) ∷ Return (Const 0) ∷ [])
+    30 ≡ finished (codes "tigerhi")
+nothing_joined = refl
 
 -- strings in order: the empty one, hi, tige, tiger
 abbrev order : Tx → Tx → Ts

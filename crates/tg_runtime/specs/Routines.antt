@@ -4,7 +4,7 @@
 -- first temporaries; the others that it uses follow them.
 use Rattle.std.specs.Prelude.{ℕ, List, [], ◌∷◌, ◌++◌, replicate, Bool, false}
 use Rattle.tg_frame.specs.Homes.{homes_of, slots_of}
-use Rattle.tg_tree.specs.declared.operators.Bin.TheVariants.{Add, Sub, ShiftLeft}
+use Rattle.tg_tree.specs.declared.operators.Bin.TheVariants.{Add, Sub, ShiftLeft, ShiftRight}
 use Rattle.tg_tree.specs.declared.operators.Rel.{Rel}
 use Rattle.tg_tree.specs.declared.operators.Rel.TheVariants.{
   Equal,
@@ -69,9 +69,22 @@ abbrev pub take_string : (string : ℕ) → (bytes length : Tx) → Ts
 take_string string bytes length =
     sequence (Move string (Service 9 bytes) ∷ Store (Temp string) length ∷ [])
 
+-- what lies from one address on, up to an end, is put from another address on, in parts of so many
+-- bytes
+abbrev pub copy_parts : (part : Ts) → (bytes from end to : ℕ) → Ts
+copy_parts part bytes from end to =
+    walk from end (part ∷ advance from bytes ∷ advance to bytes ∷ [])
+
 abbrev pub copy_bytes : (from end to : ℕ) → Ts
 copy_bytes from end to =
-    walk from end (StoreByte (Temp to) (LoadByte (Temp from)) ∷ advance from 1 ∷ advance to 1 ∷ [])
+    copy_parts (StoreByte (Temp to) (LoadByte (Temp from))) 1 from end to
+
+abbrev pub copy_words : (from end to : ℕ) → Ts
+copy_words from end to = copy_parts (Store (Temp to) (Load (Temp from))) 4 from end to
+
+-- the first multiple of 4 from a number on
+abbrev pub whole_words : Tx → Tx
+whole_words x = Binary ShiftLeft (Binary ShiftRight (plus x 3) (Const 2)) (Const 2)
 
 -- Creation.
 
@@ -193,12 +206,22 @@ append string from end to = sequence (
     Move end (Binary Add (Temp from) (Load (Temp string))) ∷
     copy_bytes from end to ∷ [])
 
+-- The words that hold a string's bytes are put where those of another string begin: both begin at
+-- multiples of 4, and what the last word holds behind the bytes goes along.
+abbrev pub begin_with : (string made from end to : ℕ) → Ts
+begin_with string made from end to = sequence (
+    Move from (bytes_of string) ∷
+    Move end (whole_words (Binary Add (Temp from) (Load (Temp string)))) ∷
+    Move to (bytes_of made) ∷
+    copy_words from end to ∷ [])
+
+-- the second string's bytes replace what came along behind those of the first
 abbrev pub concat : (left right made from end to : ℕ) → Ts
 concat left right made from end to = sequence (
     Move end (Binary Add (Load (Temp left)) (Load (Temp right))) ∷
     take_string made (plus (Temp end) 4) (Temp end) ∷
-    Move to (bytes_of made) ∷
-    append left from end to ∷
+    begin_with left made from end to ∷
+    Move to (Binary Add (bytes_of made) (Load (Temp left))) ∷
     append right from end to ∷
     Return (Temp made) ∷ [])
 

@@ -94,8 +94,9 @@ pub(crate) fn walk(alloc: Global, at: u32, end: u32, turn: Vec<Ts>) -> Result<Ts
     ensures { IfOk result (λ s. plain_ts s ≡ routines.walk at end (map plain_ts turn.items)) }
 {
     let done = compare_temps(alloc, Rel::Equal, at, end)?;
+    let more = compare_temps(alloc, Rel::NotEqual, at, end)?;
     let turns = repeat_until(alloc, done, turn)?;
-    when(alloc, compare_temps(alloc, Rel::NotEqual, at, end)?, turns)
+    when(alloc, more, turns)
 }
 
 /// A new string of some length, which takes so many bytes with the word of its length.
@@ -111,7 +112,41 @@ pub(crate) fn take_string(alloc: Global, string: u32, bytes: Tx, length: Tx) -> 
 pub(crate) fn copy_bytes(alloc: Global, from: u32, end: u32, to: u32) -> Result<Ts, Memory>
     ensures { IfOk result (λ s. plain_ts s ≡ routines.copy_bytes from end to) }
 {
-    let copied = Ts::StoreByte(temp(to), byte_at(alloc, from)?);
-    let turn = vec![in alloc; copied, advance(alloc, from, 1)?, advance(alloc, to, 1)?]?;
+    let part = Ts::StoreByte(temp(to), byte_at(alloc, from)?);
+    copy_parts(alloc, part, 1, from, end, to)
+}
+
+/// The words from one address on, up to an end, are put from another address on.
+pub(crate) fn copy_words(alloc: Global, from: u32, end: u32, to: u32) -> Result<Ts, Memory>
+    ensures { IfOk result (λ s. plain_ts s ≡ routines.copy_words from end to) }
+{
+    let part = Ts::Store(temp(to), load_at(alloc, from)?);
+    copy_parts(alloc, part, 4, from, end, to)
+}
+
+// What lies from one address on, up to an end, is put from another one on, in parts.
+fn copy_parts(
+    alloc: Global,
+    part: Ts,
+    bytes: u32,
+    from: u32,
+    end: u32,
+    to: u32,
+) -> Result<Ts, Memory>
+    ensures { IfOk result (λ s. plain_ts s ≡
+        routines.copy_parts (plain_ts part) bytes from end to) }
+{
+    let next = sum(alloc, from, Tx::Const(bytes))?;
+    let place = sum(alloc, to, Tx::Const(bytes))?;
+    let turn = vec![in alloc; part, assign(from, next), assign(to, place)]?;
     walk(alloc, from, end, turn)
+}
+
+/// The first multiple of 4 from a number on.
+pub(crate) fn whole_words(alloc: Global, number: Tx) -> Result<Tx, Memory>
+    ensures { IfOk result (λ x. plain_tx x ≡ routines.whole_words (plain_tx number)) }
+{
+    let past = binary(alloc, Bin::Add, number, Tx::Const(3))?;
+    let words = binary(alloc, Bin::ShiftRight, past, Tx::Const(2))?;
+    binary(alloc, Bin::ShiftLeft, words, Tx::Const(2))
 }

@@ -30,56 +30,61 @@ pub fn runtime(alloc: Global) -> Result<Fragments, Memory>
 fn creations(alloc: Global) -> Result<Vec<Fragment>, Memory>
     ensures { IfOk result (λ fs. map plain_fragment fs.items ≡ routines.creations) }
 {
-    let record = function(alloc, Routine::MakeRecord, &[false], 1, make_record(alloc)?)?;
-    let array = function(
-        alloc,
-        Routine::MakeArray,
-        &[false, false],
-        5,
-        make_array(alloc)?,
-    )?;
+    let mut functions = Vec::new(alloc);
+    let body = make_record(alloc)?;
+    functions.push(function(alloc, Routine::MakeRecord, &[false], 1, body)?)?;
+    let body = make_array(alloc)?;
+    functions.push(function(alloc, Routine::MakeArray, &[false, false], 5, body)?)?;
     let body = compare_strings(alloc)?;
-    let order = function(alloc, Routine::Compare, &[false, false], 7, body)?;
-    Ok(vec![in alloc; record, array, order]?)
+    functions.push(function(alloc, Routine::Compare, &[false, false], 7, body)?)?;
+    Ok(functions)
 }
 
 fn inputs_and_outputs(alloc: Global) -> Result<Vec<Fragment>, Memory>
     ensures { IfOk result (λ fs. map plain_fragment fs.items ≡ routines.inputs_and_outputs) }
 {
-    Ok(vec![in alloc;
-        function(alloc, Routine::Print, &[false], 3, print(alloc)?)?,
-        function(alloc, Routine::Flush, &[], 0, flush())?,
-        function(alloc, Routine::Getchar, &[], 2, getchar(alloc)?)?,
-    ]?)
+    let mut functions = Vec::new(alloc);
+    let body = print(alloc)?;
+    functions.push(function(alloc, Routine::Print, &[false], 3, body)?)?;
+    functions.push(function(alloc, Routine::Flush, &[], 0, flush())?)?;
+    let body = getchar(alloc)?;
+    functions.push(function(alloc, Routine::Getchar, &[], 2, body)?)?;
+    Ok(functions)
 }
 
 fn bytes_and_sizes(alloc: Global) -> Result<Vec<Fragment>, Memory>
     ensures { IfOk result (λ fs. map plain_fragment fs.items ≡ routines.bytes_and_sizes) }
 {
-    Ok(vec![in alloc;
-        function(alloc, Routine::Ord, &[false], 1, ord(alloc)?)?,
-        function(alloc, Routine::Chr, &[false], 2, chr(alloc)?)?,
-        function(alloc, Routine::Size, &[false], 1, size(alloc)?)?,
-    ]?)
+    let mut functions = Vec::new(alloc);
+    let body = ord(alloc)?;
+    functions.push(function(alloc, Routine::Ord, &[false], 1, body)?)?;
+    let body = chr(alloc)?;
+    functions.push(function(alloc, Routine::Chr, &[false], 2, body)?)?;
+    let body = size(alloc)?;
+    functions.push(function(alloc, Routine::Size, &[false], 1, body)?)?;
+    Ok(functions)
 }
 
 fn parts_and_sums(alloc: Global) -> Result<Vec<Fragment>, Memory>
     ensures { IfOk result (λ fs. map plain_fragment fs.items ≡ routines.parts_and_sums) }
 {
+    let mut functions = Vec::new(alloc);
     let body = substring(alloc)?;
-    Ok(vec![in alloc;
-        function(alloc, Routine::Substring, &[false, false, false], 7, body)?,
-        function(alloc, Routine::Concat, &[false, false], 6, concat(alloc)?)?,
-    ]?)
+    functions.push(function(alloc, Routine::Substring, &[false, false, false], 7, body)?)?;
+    let body = concat(alloc)?;
+    functions.push(function(alloc, Routine::Concat, &[false, false], 6, body)?)?;
+    Ok(functions)
 }
 
 fn of_ints(alloc: Global) -> Result<Vec<Fragment>, Memory>
     ensures { IfOk result (λ fs. map plain_fragment fs.items ≡ routines.of_ints) }
 {
-    Ok(vec![in alloc;
-        function(alloc, Routine::Not, &[false], 1, negation(alloc)?)?,
-        function(alloc, Routine::Exit, &[false], 1, exit(alloc)?)?,
-    ]?)
+    let mut functions = Vec::new(alloc);
+    let body = negation(alloc)?;
+    functions.push(function(alloc, Routine::Not, &[false], 1, body)?)?;
+    let body = exit(alloc)?;
+    functions.push(function(alloc, Routine::Exit, &[false], 1, body)?)?;
+    Ok(functions)
 }
 
 // A function with its parameters and so many temporaries.

@@ -17,12 +17,16 @@ pub(crate) fn print(alloc: Global) -> Result<Ts, Memory>
     ensures { IfOk result (λ s. plain_ts s ≡ routines.print 0 1 2) }
 {
     let (string, at, end) = (0, 1, 2);
-    let written = Ts::Do(service(alloc, WRITE, byte_at(alloc, at)?)?);
-    let turn = vec![in alloc; written, advance(alloc, at, 1)?]?;
+    let written = service(alloc, WRITE, byte_at(alloc, at)?)?;
+    let next = advance(alloc, at, 1)?;
+    let turn = vec![in alloc; Ts::Do(written), next]?;
+    let last = sum(alloc, at, load_at(alloc, string)?)?;
+    let begin = bytes_of(alloc, string)?;
+    let turns = walk(alloc, at, end, turn)?;
     Ok(sequence(vec![in alloc;
-        assign(at, bytes_of(alloc, string)?),
-        assign(end, sum(alloc, at, load_at(alloc, string)?)?),
-        walk(alloc, at, end, turn)?,
+        assign(at, begin),
+        assign(end, last),
+        turns,
         Ts::Return(Tx::Const(0)),
     ]?))
 }
@@ -38,23 +42,21 @@ pub(crate) fn getchar(alloc: Global) -> Result<Ts, Memory>
     ensures { IfOk result (λ s. plain_ts s ≡ routines.getchar 0 1) }
 {
     let (byte, string) = (0, 1);
+    let read = service(alloc, READ, Tx::Const(0))?;
+    let at_end = is_negative(alloc, byte)?;
     let none = take_string(alloc, string, Tx::Const(4), Tx::Const(0))?;
     let one = string_of_byte(alloc, string, byte)?;
-    Ok(sequence(vec![in alloc;
-        assign(byte, service(alloc, READ, Tx::Const(0))?),
-        if_else(alloc, is_negative(alloc, byte)?, none, one)?,
-        Ts::Return(temp(string)),
-    ]?))
+    let taken = if_else(alloc, at_end, none, one)?;
+    Ok(sequence(vec![in alloc; assign(byte, read), taken, Ts::Return(temp(string))]?))
 }
 
 // A new string of one byte.
 fn string_of_byte(alloc: Global, string: u32, byte: u32) -> Result<Ts, Memory>
     ensures { IfOk result (λ s. plain_ts s ≡ routines.string_of_byte string byte) }
 {
-    Ok(sequence(vec![in alloc;
-        take_string(alloc, string, Tx::Const(8), Tx::Const(1))?,
-        Ts::StoreByte(bytes_of(alloc, string)?, temp(byte)),
-    ]?))
+    let begin = bytes_of(alloc, string)?;
+    let taken = take_string(alloc, string, Tx::Const(8), Tx::Const(1))?;
+    Ok(sequence(vec![in alloc; taken, Ts::StoreByte(begin, temp(byte))]?))
 }
 
 pub(crate) fn ord(alloc: Global) -> Result<Ts, Memory>

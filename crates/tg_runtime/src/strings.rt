@@ -3,8 +3,8 @@ ghost use Rattle.tg_tree.specs.Plain.{plain_tx, plain_cond, plain_ts};
 ghost use Rattle.tg_runtime.specs.Routines as routines;
 
 use crate::forms::{
-    MINUS_ONE, advance, assign, byte_at, bytes_of, compare_temps, copy_bytes, is_negative, load_at,
-    sum, take_string, temp, walk,
+    MINUS_ONE, advance, assign, byte_at, bytes_of, compare_temps, copy_bytes, copy_words,
+    is_negative, load_at, sum, take_string, temp, walk, whole_words,
 };
 use std::alloc::Global;
 use tg_base::Memory;
@@ -63,10 +63,10 @@ fn compare_bytes(alloc: Global, one: u32, two: u32) -> Result<Ts, Memory>
 fn common_end(alloc: Global, left: u32, right: u32, at: u32, end: u32) -> Result<Ts, Memory>
     ensures { IfOk result (λ s. plain_ts s ≡ routines.common_end left right at end) }
 {
+    let this = sum(alloc, at, load_at(alloc, left)?)?;
+    let other = sum(alloc, at, load_at(alloc, right)?)?;
     let shorter = lengths(alloc, Rel::Less, left, right)?;
-    let this = assign(end, sum(alloc, at, load_at(alloc, left)?)?);
-    let other = assign(end, sum(alloc, at, load_at(alloc, right)?)?);
-    if_else(alloc, shorter, this, other)
+    if_else(alloc, shorter, assign(end, this), assign(end, other))
 }
 
 // A comparison of two strings' lengths.
@@ -120,13 +120,43 @@ pub(crate) fn concat(alloc: Global) -> Result<Ts, Memory>
         load_at(alloc, right)?,
     )?;
     let bytes = sum(alloc, end, Tx::Const(4))?;
+    let behind = binary(
+        alloc,
+        Bin::Add,
+        bytes_of(alloc, made)?,
+        load_at(alloc, left)?,
+    )?;
     Ok(sequence(vec![in alloc;
         assign(end, both),
         take_string(alloc, made, bytes, temp(end))?,
-        assign(to, bytes_of(alloc, made)?),
-        append(alloc, left, from, end, to)?,
+        begin_with(alloc, left, made, from, end, to)?,
+        assign(to, behind),
         append(alloc, right, from, end, to)?,
         Ts::Return(temp(made)),
+    ]?))
+}
+
+// The words that hold a string's bytes are put where those of another string begin.
+fn begin_with(
+    alloc: Global,
+    string: u32,
+    made: u32,
+    from: u32,
+    end: u32,
+    to: u32,
+) -> Result<Ts, Memory>
+    ensures { IfOk result (λ s. plain_ts s ≡ routines.begin_with string made from end to) }
+{
+    let behind = sum(alloc, from, load_at(alloc, string)?)?;
+    let last = whole_words(alloc, behind)?;
+    let begin = bytes_of(alloc, string)?;
+    let place = bytes_of(alloc, made)?;
+    let copied = copy_words(alloc, from, end, to)?;
+    Ok(sequence(vec![in alloc;
+        assign(from, begin),
+        assign(end, last),
+        assign(to, place),
+        copied,
     ]?))
 }
 
@@ -134,9 +164,8 @@ pub(crate) fn concat(alloc: Global) -> Result<Ts, Memory>
 fn append(alloc: Global, string: u32, from: u32, end: u32, to: u32) -> Result<Ts, Memory>
     ensures { IfOk result (λ s. plain_ts s ≡ routines.append string from end to) }
 {
-    Ok(sequence(vec![in alloc;
-        assign(from, bytes_of(alloc, string)?),
-        assign(end, sum(alloc, from, load_at(alloc, string)?)?),
-        copy_bytes(alloc, from, end, to)?,
-    ]?))
+    let last = sum(alloc, from, load_at(alloc, string)?)?;
+    let begin = bytes_of(alloc, string)?;
+    let copied = copy_bytes(alloc, from, end, to)?;
+    Ok(sequence(vec![in alloc; assign(from, begin), assign(end, last), copied]?))
 }

@@ -1,13 +1,13 @@
-use Rattle.std.proofs.Common.{refl, ap, ◌∙◌, map, [], ◌∷◌, false}
+use Rattle.std.proofs.Common.{ap, ◌∙◌, map, [], ◌∷◌, false}
 use Rattle.tg_runtime.specs.declared.routines.Routine.TheVariants as routine
 use Rattle.tg_tree.specs.Plain.{plain_fragment}
 use Rattle.tg_runtime.specs.Routines.{function_of}
-use Rattle.tg_runtime.proofs.Functions.{listed}
+use Rattle.tg_runtime.proofs.Functions.{pushed}
 use Rattle.tg_runtime.proofs.fragments.of_ints.Goals as goal
 
 pub returns : goal.returns
 returns c =
-    ap (map plain_fragment) c.in_ok-vec.ensures.items ∙
-    listed (c.in_ok-function.ensures ∙ ap (function_of routine.Not (false ∷ []) 1) c.in_ok-negation.ensures) (
-    listed (c.in_ok-function-2.ensures ∙ ap (function_of routine.Exit (false ∷ []) 1) c.in_ok-exit.ensures) (
-    refl))
+    pushed _ _ _ c.in_ok-push-2.ensures.items (
+    pushed _ _ _ c.in_ok-push.ensures.items (ap (map plain_fragment) c.new-functions.ensures.items)
+    (c.in_ok-function.ensures ∙ ap (function_of routine.Not (false ∷ []) 1) c.in_ok-body.ensures))
+    (c.in_ok-function-2.ensures ∙ ap (function_of routine.Exit (false ∷ []) 1) c.in_ok-body-2.ensures)
