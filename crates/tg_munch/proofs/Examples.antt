@@ -116,7 +116,7 @@ function : (munched (record { label = 33; params = InTemp (record { 0 = 0 }) ∷
 unfolding ◌>>=◌
 function = refl
 
--- A product's check takes the upper word out of HI, where the multiplication left it.
+-- A check of a product takes the upper word out of HI, where the multiplication left it,
 abbrev check : (x y : Tx) → (product : ℕ) → Linear
 check x y p = tree.Branch NotEqual (Binary bin.MulHigh x y) (Binary bin.ShiftSigned (t p) (Const 31)) 7
 
@@ -131,19 +131,22 @@ one_product : checked (Do' (tree.Move 3 (Binary bin.Mul (t 1) (Const 10))) ∷ c
 unfolding ◌>>=◌
 one_product = refl
 
--- but not where the product has taken the place of a side, nor of other sides
+-- but neither where the product is moved over a side, nor where the sides are others,
 own_side : checked (Do' (tree.Move 1 (Binary bin.Mul (t 1) (t 2))) ∷ check (t 1) (t 2) 1 ∷ []) ≡
     Mult (temp 1) (temp 2) ∷ Mflo (temp 1) ∷ Mult (temp 1) (temp 2) ∷ Mfhi (temp 9) ∷ Sra (temp 10) (temp 1) 31 ∷ unless_same 9 10 ∷ []
 unfolding ◌>>=◌
 own_side = refl
 
 other_sides : checked (Do' (tree.Move 3 (Binary bin.Mul (t 1) (Const 10))) ∷ check (t 1) (Const 11) 3 ∷ []) ≡
-    Addiu (temp 9) (Reg 0) 10 ∷ Mult (temp 1) (temp 9) ∷ Mflo (temp 3) ∷ Addiu (temp 11) (Reg 0) 11 ∷ Mult (temp 1) (temp 11) ∷ Mfhi (temp 10) ∷ Sra (temp 12) (temp 3) 31 ∷ unless_same 10 12 ∷ []
+    Addiu (temp 9) (Reg 0) 10 ∷ Mult (temp 1) (temp 9) ∷ Mflo (temp 3)
+    ∷ Addiu (temp 11) (Reg 0) 11 ∷ Mult (temp 1) (temp 11) ∷ Mfhi (temp 10) ∷ Sra (temp 12) (temp 3) 31 ∷ unless_same 10 12 ∷ []
 unfolding ◌>>=◌
 other_sides = refl
 
--- nor where something stands between
+-- nor where something stands between.
 apart : checked (Do' (tree.Move 3 (Binary bin.Mul (t 1) (t 2))) ∷ Mark 4 ∷ check (t 1) (t 2) 3 ∷ []) ≡
-    Mult (temp 1) (temp 2) ∷ Mflo (temp 3) ∷ instr.Mark 4 ∷ Mult (temp 1) (temp 2) ∷ Mfhi (temp 9) ∷ Sra (temp 10) (temp 3) 31 ∷ unless_same 9 10 ∷ []
+    Mult (temp 1) (temp 2) ∷ Mflo (temp 3)
+    ∷ instr.Mark 4
+    ∷ Mult (temp 1) (temp 2) ∷ Mfhi (temp 9) ∷ Sra (temp 10) (temp 3) 31 ∷ unless_same 9 10 ∷ []
 unfolding ◌>>=◌
 apart = refl
