@@ -17,6 +17,7 @@ abbrev pub moves_product : Ts → (left right : Tx) → Bool
 moves_product (tree.Move i (tree.Binary bin.Mul x y)) u v = is_same i x u && is_same i y v
 moves_product _ u v = false
 
+-- an element that leaves the upper word of the product of two sides in HI
 abbrev pub leaves_product : (before : Option Linear) → (left right : Tx) → Bool
 leaves_product (Some (tree.Do' s)) u v = moves_product s u v
 leaves_product _ u v = false

@@ -28,6 +28,7 @@ fn moves_product(s: &Ts, left: &Tx, right: &Tx) -> bool
     }
 }
 
+/// An element that leaves the upper word of the product of two sides in HI.
 fn leaves_product(before: Option<&Linear>, left: &Tx, right: &Tx) -> bool
     ensures { result ≡ products.leaves_product (option_map (λ e. plain_linear e.now) before.entry)
         (plain_tx left.now) (plain_tx right.now) }
