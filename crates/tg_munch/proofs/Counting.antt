@@ -3,6 +3,7 @@ use Rattle.std.proofs.Common.{◌+◌, ◌*◌, ℕ, Option, Some, None, List, [
 use Rattle.std.specs.Prelude.{◌==◌, nat_lt}
 use Rattle.tg_frame.specs.declared.accesses.Access.{Access}
 use Rattle.tg_frame.specs.declared.accesses.Access.TheVariants.{InTemp, InFrame}
+use Rattle.tg_tree.specs.declared.operators.Bin.TheVariants as bin
 use Rattle.tg_tree.specs.declared.operators.Rel.{Rel}
 use Rattle.tg_tree.specs.Tree as tree
 use Rattle.tg_tree.specs.Tree.{Tx, Txs, Ts, Linear, Function, no_txs, tx}
@@ -12,7 +13,8 @@ use Rattle.tg_instr.specs.declared.operands.Opnd.{Opnd}
 use Rattle.tg_munch.specs.Choosing.{Choice}
 use Rattle.tg_munch.specs.Tiles.{slot, offset, offset_by}
 use Rattle.tg_munch.specs.Comparing.{short_side, is_turned, turned}
-use Rattle.tg_munch.specs.Munching.{kept_registers, temp, argument, constant_in, answer_in, store_far, store_low, passed, asked as asked_for, given_back, expression, arguments, left_side, based_at, valued, effect, stored, stored_byte, statement, compared, branch, element, elements}
+use Rattle.tg_munch.specs.Munching.{kept_registers, temp, argument, constant_in, answer_in, store_far, store_low, passed, asked as asked_for, given_back, expression, arguments, left_side, based_at, valued, effect, stored, stored_byte, statement, compared, branch, compared_in_hi, branch_behind, element, elements}
+use Rattle.tg_munch.specs.Products.{is_in_hi}
 use Rattle.tg_munch.specs.Bodies.{kept, from_caller, parameter, parameters, body}
 use Rattle.tg_munch.specs.Lengths.{InstructionsAreFew}
 use Rattle.tg_munch.proofs.Draws.{Draws, both, more, either, gives, puts, defines, draws_temp, chooses, constant_draws, asked, moved_draws, tiled_draws, based_draws, loaded_draws, byte_draws, against_draws}
@@ -122,18 +124,29 @@ module _ (slots : ℕ) where
   branch_draws : (rel : Rel) (x y : Tx) (m : ℕ) → Draws (2 + (len x + len y)) (2 + (len x + len y)) (branch slots rel x y m)
   branch_draws rel x y m = either (is_turned rel x y) (more (omega arith) (omega arith) (compared_draws (turned rel) y x m)) (compared_draws rel x y m)
 
-  element_draws : (keeps : ℕ) (e : Linear) → Draws (element_length e) (element_length e) (element slots keeps e)
-  element_draws keeps (tree.Mark m) = more (omega arith) (omega arith) (puts _)
-  element_draws keeps (tree.Do' s) = more (omega arith) (omega arith) (statement_draws s)
-  element_draws keeps (tree.Jump m) = more (omega arith) (omega arith) (puts _)
-  element_draws keeps (tree.Branch rel x y m) = branch_draws rel x y m
-  element_draws keeps (tree.Fault' n) = more (omega arith) (omega arith) (puts _)
-  element_draws keeps (tree.Return' x) =
+  in_hi_draws : (rel : Rel) (y : Tx) (m : ℕ) → Draws (3 + len y) (2 + len y) (compared_in_hi slots rel y m)
+  in_hi_draws rel y m =
+      more (omega arith) (omega arith) (both draws_temp λ a. both (puts _) λ u. against_draws rel (short_side rel y) a m (value_draws y))
+
+  behind_draws : (before : Option Linear) (rel : Rel) (x y : Tx) (m : ℕ) →
+      Draws (2 + (len x + len y)) (2 + (len x + len y)) (branch_behind slots before rel x y m)
+  behind_draws before rel (tree.Binary bin.MulHigh u v) y m =
+      either (is_in_hi before (tree.Binary bin.MulHigh u v)) (more (omega arith) (omega arith) (in_hi_draws rel y m))
+      (branch_draws rel (tree.Binary bin.MulHigh u v) y m)
+  behind_draws before rel x y m = branch_draws rel x y m
+
+  element_draws : (keeps : ℕ) (before : Option Linear) (e : Linear) → Draws (element_length e) (element_length e) (element slots keeps before e)
+  element_draws keeps before (tree.Mark m) = more (omega arith) (omega arith) (puts _)
+  element_draws keeps before (tree.Do' s) = more (omega arith) (omega arith) (statement_draws s)
+  element_draws keeps before (tree.Jump m) = more (omega arith) (omega arith) (puts _)
+  element_draws keeps before (tree.Branch rel x y m) = behind_draws before rel x y m
+  element_draws keeps before (tree.Fault' n) = more (omega arith) (omega arith) (puts _)
+  element_draws keeps before (tree.Return' x) =
       more (omega arith) (omega arith) (both (expression_draws x (Some _)) λ v. both (given_draws keeps kept_registers) λ u. puts _)
 
-  elements_draw : (keeps : ℕ) (code : List Linear) → Draws (code_length code) (code_length code) (elements slots keeps code)
-  elements_draw keeps [] = gives tt
-  elements_draw keeps (e ∷ rest) = both (element_draws keeps e) λ u. elements_draw keeps rest
+  elements_draw : (keeps : ℕ) (before : Option Linear) (code : List Linear) → Draws (code_length code) (code_length code) (elements slots keeps before code)
+  elements_draw keeps before [] = gives tt
+  elements_draw keeps before (e ∷ rest) = both (element_draws keeps before e) λ u. elements_draw keeps (Some e) rest
 
   -- The entry of a function.
 
@@ -155,7 +168,7 @@ kept_draws (r ∷ rs) = more (omega arith) (omega arith) (both (both draws_temp 
 body_draws : (f : Function (List Linear)) → Draws (flat_length f + 9) (flat_length f + 9) (body f)
 body_draws f =
     more (omega arith) (omega arith)
-    (both (kept_draws kept_registers) λ u. both (parameters_draw f.slots 0 f.params) λ u. elements_draw f.slots f.temps f.body)
+    (both (kept_draws kept_registers) λ u. both (parameters_draw f.slots 0 f.params) λ u. elements_draw f.slots f.temps None f.body)
 
 pub few : InstructionsAreFew
 few f =

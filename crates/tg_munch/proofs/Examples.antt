@@ -4,13 +4,13 @@ use Rattle.tg_frame.specs.declared.accesses.Access.TheVariants.{InTemp, InFrame}
 use Rattle.tg_tree.specs.declared.operators.Bin.TheVariants as bin
 use Rattle.tg_tree.specs.declared.operators.Rel.TheVariants.{Equal, NotEqual, Less, LessEqual, Greater, NotBelow}
 use Rattle.tg_tree.specs.Tree as tree
-use Rattle.tg_tree.specs.Tree.{Tx, Const, FrameAddress, Binary, Load, Txs, no_txs, tx, Mark, Do', Return'}
+use Rattle.tg_tree.specs.Tree.{Tx, Const, FrameAddress, Binary, Load, Txs, no_txs, tx, Linear, Mark, Do', Return'}
 use Rattle.tg_instr.specs.declared.operands.Opnd.TheVariants.{Reg}
 use Rattle.tg_instr.specs.declared.instr.Instr.{Instr}
 use Rattle.tg_instr.specs.declared.instr.Instr.TheVariants as instr
-use Rattle.tg_instr.specs.declared.instr.Instr.TheVariants.{Addiu, Addi, Add, Addu, Subu, Sll, Andi, Ori, Lui, Lw, Sw, Slt, Slti, Sltiu, Move, FrameLoad, FrameStore, Branch, Call, Service, Mult, Mflo, Return}
+use Rattle.tg_instr.specs.declared.instr.Instr.TheVariants.{Addiu, Addi, Add, Addu, Subu, Sll, Andi, Ori, Lui, Lw, Sw, Slt, Slti, Sltiu, Move, FrameLoad, FrameStore, Branch, Call, Service, Mult, Mflo, Mfhi, Sra, Return}
 use Rattle.tg_munch.specs.Choosing.{Drawn, ◌>>=◌}
-use Rattle.tg_munch.specs.Munching.{temp, expression, statement, branch}
+use Rattle.tg_munch.specs.Munching.{temp, expression, statement, branch, elements}
 use Rattle.tg_munch.specs.Bodies.{munched, outs}
 
 abbrev start : Drawn
@@ -115,3 +115,38 @@ words_for_arguments = refl
 function : (munched (record { label = 33; params = InTemp (record { 0 = 0 }) ∷ InFrame 0 ∷ []; slots = 1; temps = 1; out = 0; body = Return' (Binary bin.AddTrap (t 0) (Const 1)) ∷ [] })).code ≡ Move (temp 1) (Reg 16) ∷ Move (temp 2) (Reg 17) ∷ Move (temp 3) (Reg 18) ∷ Move (temp 4) (Reg 19) ∷ Move (temp 5) (Reg 20) ∷ Move (temp 6) (Reg 21) ∷ Move (temp 7) (Reg 22) ∷ Move (temp 8) (Reg 23) ∷ Move (temp 9) (Reg 31) ∷ Move (temp 0) (Reg 4) ∷ FrameStore (Reg 5) 0 ∷ Addi (Reg 2) (temp 0) 1 ∷ Move (Reg 16) (temp 1) ∷ Move (Reg 17) (temp 2) ∷ Move (Reg 18) (temp 3) ∷ Move (Reg 19) (temp 4) ∷ Move (Reg 20) (temp 5) ∷ Move (Reg 21) (temp 6) ∷ Move (Reg 22) (temp 7) ∷ Move (Reg 23) (temp 8) ∷ Move (Reg 31) (temp 9) ∷ Return ∷ []
 unfolding ◌>>=◌
 function = refl
+
+-- A check of a product takes the upper word out of HI, where the multiplication left it,
+abbrev check : (x y : Tx) → (product : ℕ) → Linear
+check x y p = tree.Branch NotEqual (Binary bin.MulHigh x y) (Binary bin.ShiftSigned (t p) (Const 31)) 7
+
+abbrev checked : (code : List Linear) → List Instr
+checked code = (elements 2 40 None code start).code
+
+abbrev unless_same : (x y : ℕ) → Instr
+unless_same x y = Branch (record { rel = NotEqual; left = temp x; right = temp y; is_one_row = refl }) 7
+
+one_product : checked (Do' (tree.Move 3 (Binary bin.Mul (t 1) (Const 10))) ∷ check (t 1) (Const 10) 3 ∷ []) ≡
+    Addiu (temp 9) (Reg 0) 10 ∷ Mult (temp 1) (temp 9) ∷ Mflo (temp 3) ∷ Mfhi (temp 10) ∷ Sra (temp 11) (temp 3) 31 ∷ unless_same 10 11 ∷ []
+unfolding ◌>>=◌
+one_product = refl
+
+-- but neither where the product is moved over a side, nor where the sides are others,
+own_side : checked (Do' (tree.Move 1 (Binary bin.Mul (t 1) (t 2))) ∷ check (t 1) (t 2) 1 ∷ []) ≡
+    Mult (temp 1) (temp 2) ∷ Mflo (temp 1) ∷ Mult (temp 1) (temp 2) ∷ Mfhi (temp 9) ∷ Sra (temp 10) (temp 1) 31 ∷ unless_same 9 10 ∷ []
+unfolding ◌>>=◌
+own_side = refl
+
+other_sides : checked (Do' (tree.Move 3 (Binary bin.Mul (t 1) (Const 10))) ∷ check (t 1) (Const 11) 3 ∷ []) ≡
+    Addiu (temp 9) (Reg 0) 10 ∷ Mult (temp 1) (temp 9) ∷ Mflo (temp 3)
+    ∷ Addiu (temp 11) (Reg 0) 11 ∷ Mult (temp 1) (temp 11) ∷ Mfhi (temp 10) ∷ Sra (temp 12) (temp 3) 31 ∷ unless_same 10 12 ∷ []
+unfolding ◌>>=◌
+other_sides = refl
+
+-- nor where something stands between.
+apart : checked (Do' (tree.Move 3 (Binary bin.Mul (t 1) (t 2))) ∷ Mark 4 ∷ check (t 1) (t 2) 3 ∷ []) ≡
+    Mult (temp 1) (temp 2) ∷ Mflo (temp 3)
+    ∷ instr.Mark 4
+    ∷ Mult (temp 1) (temp 2) ∷ Mfhi (temp 9) ∷ Sra (temp 10) (temp 3) 31 ∷ unless_same 9 10 ∷ []
+unfolding ◌>>=◌
+apart = refl

@@ -9,6 +9,7 @@ pub mod Naming
 pub mod NamingCode
 pub mod NamingLaws
 pub mod Passing
+mod ProductRuns
 pub mod Scopes
 pub mod Walking
 pub mod Whole

@@ -20,11 +20,12 @@ use Rattle.tg_munch.specs.declared.orders.Short.{Short}
 use Rattle.tg_munch.specs.declared.orders.Short.TheVariants.{Zero, Field}
 use Rattle.tg_munch.specs.Choosing.{Drawn, Choice, ◌>>=◌, ◌>>◌, give, put}
 use Rattle.tg_munch.specs.Comparing.{on_flag, flag, field_flag, on_less, on_less_field, branch_on, against_zero, against, short_side, is_turned, turned, order}
-use Rattle.tg_munch.specs.Munching.{temp, argument, kept_registers, expression, given_back, compared, branch, returned, element, elements}
+use Rattle.tg_munch.specs.Munching.{temp, argument, kept_registers, expression, given_back, compared, branch, compared_in_hi, branch_behind, returned, element, elements}
+use Rattle.tg_munch.specs.Products.{is_in_hi}
 use Rattle.tg_munch.specs.Bodies.{kept_register, kept, from_caller, parameter, parameters}
 use Rattle.tg_munch.specs.Naming.{is_written, is_read}
 use Rattle.tg_munch.proofs.Scopes.{Scope, Grows, grows_on, is_readable, may_name, may_put, Readable, Writable, or_left, or_right, readable_on, writable_on, readable, all_on, counted, occurs, spanned, occurs_append, span_join}
-use Rattle.tg_munch.proofs.Drawing.{Fits, anything, fits_then, fits_give, fits_put, fits_fresh, fits_if, two_named, three_named}
+use Rattle.tg_munch.proofs.Drawing.{Fits, anything, fits_then, fits_give, fits_put, fits_fresh, fits_if, one_named, two_named, three_named}
 use Rattle.tg_munch.proofs.Naming.{Passes, StatementPasses, temp_writable, fits_expression, fits_statement}
 
 -- branches to a mark that may be led to
@@ -96,6 +97,19 @@ fits_branch : (w : Scope) (rel : Rel) (x y : Tx) (m : ℕ) → Passes w x → Pa
     Fits anything w (branch w.slots rel x y m) d
 fits_branch w rel x y m p q l d =
     fits_if (is_turned rel x y) (fits_compared w (turned rel) y x m q p l d) (fits_compared w rel x y m p q l d)
+
+fits_compared_in_hi : (w : Scope) (rel : Rel) (y : Tx) (m : ℕ) → Passes w y → IsTrue (w.is_target m) → (d : Drawn) →
+    Fits anything w (compared_in_hi w.slots rel y m) d
+fits_compared_in_hi w rel y m q l d =
+    fits_then _ (fits_fresh w d) (λ e t a b.
+    fits_then _ (fits_put w _ e (one_named _ b)) (λ f u a' b'.
+    fits_against w rel (short_side rel y) t (expression w.slots y None) m f (readable w f t (writable_on w a' t b)) l
+    (fits_expression w y q None f refl)))
+
+fits_branch_behind : (w : Scope) (before : Option Linear) (rel : Rel) (x y : Tx) (m : ℕ) → Passes w x → Passes w y → IsTrue (w.is_target m) →
+    (d : Drawn) → Fits anything w (branch_behind w.slots before rel x y m) d
+fits_branch_behind w before rel x y m p q l d =
+    fits_if (is_in_hi before x) (fits_compared_in_hi w rel y m q l d) (fits_branch w rel x y m p q l d)
 
 -- the registers that are given back
 drawn_temp : (w : Scope) (d : Drawn) (t : ℕ) → t < d.temp → Readable w d (temp t)
@@ -201,7 +215,7 @@ lays_behind w {good} {n} {first} {onward} {d} h k =
           (span_join d.mark one.drawn.mark rest.drawn.mark w.mark h.grows.mark two.grows.mark);
     }
 
-lays_mark : (w : Scope) (n : ℕ) (d : Drawn) → Lays w (counted (nat_eq w.mark n)) (element w.slots 0 (tree.Mark n)) d
+lays_mark : (w : Scope) (n : ℕ) (d : Drawn) → Lays w (counted (nat_eq w.mark n)) (element w.slots 0 None (tree.Mark n)) d
 lays_mark w n d = record {
   grows = record { temp = omega arith; mark = omega arith };
   code = λ l. refl;
@@ -211,25 +225,25 @@ lays_mark w n d = record {
     none : (a k m : ℕ) → a + 0 ≡ a + spanned k k m
     none a k m = grind (arith, nat_tests)
 
-lays_element : (w : Scope) (keeps : ℕ) (e : Linear) → ElementPasses w e → (d : Drawn) → keeps + 9 ≤ d.temp →
-    Lays w (standing w.mark e) (element w.slots keeps e) d
-lays_element w keeps (tree.Mark n) p d le = lays_mark w n d
-lays_element w keeps (tree.Do' s) p d le = lays_alone w _ d (fits_statement w s p d)
-lays_element w keeps (tree.Jump m) p d le = lays_alone w _ d (fits_put w _ d (or_left (w.is_target m) _ p))
-lays_element w keeps (tree.Branch rel x y m) p d le = lays_alone w _ d (fits_branch w rel x y m p.0 p.1 p.2 d)
-lays_element w keeps (tree.Fault' n) p d le = lays_alone w _ d (fits_put w _ d p)
-lays_element w keeps (tree.Return' x) p d le = lays_alone w _ d (fits_returned w keeps x p d le)
+lays_element : (w : Scope) (keeps : ℕ) (before : Option Linear) (e : Linear) → ElementPasses w e → (d : Drawn) → keeps + 9 ≤ d.temp →
+    Lays w (standing w.mark e) (element w.slots keeps before e) d
+lays_element w keeps before (tree.Mark n) p d le = lays_mark w n d
+lays_element w keeps before (tree.Do' s) p d le = lays_alone w _ d (fits_statement w s p d)
+lays_element w keeps before (tree.Jump m) p d le = lays_alone w _ d (fits_put w _ d (or_left (w.is_target m) _ p))
+lays_element w keeps before (tree.Branch rel x y m) p d le = lays_alone w _ d (fits_branch_behind w before rel x y m p.0 p.1 p.2 d)
+lays_element w keeps before (tree.Fault' n) p d le = lays_alone w _ d (fits_put w _ d p)
+lays_element w keeps before (tree.Return' x) p d le = lays_alone w _ d (fits_returned w keeps x p d le)
 
 lays_nothing : (w : Scope) (d : Drawn) → Lays w 0 (give tt) d
 lays_nothing w d = lays_alone w _ d (fits_give anything w tt d refl)
 
-lays_elements : (w : Scope) (keeps : ℕ) (code : List Linear) → CodePasses w code → (d : Drawn) → keeps + 9 ≤ d.temp →
-    Lays w (stands w.mark code) (elements w.slots keeps code) d
-lays_elements w keeps [] p d le = lays_nothing w d
-lays_elements w keeps (e ∷ rest) p d le =
-    lays_then w (lays_element w keeps e p.0 d le) (λ f g.
+lays_elements : (w : Scope) (keeps : ℕ) (before : Option Linear) (code : List Linear) → CodePasses w code → (d : Drawn) → keeps + 9 ≤ d.temp →
+    Lays w (stands w.mark code) (elements w.slots keeps before code) d
+lays_elements w keeps before [] p d le = lays_nothing w d
+lays_elements w keeps before (e ∷ rest) p d le =
+    lays_then w (lays_element w keeps before e p.0 d le) (λ f g.
     let h : d.temp ≤ f.temp = g.temp in
-    lays_elements w keeps rest p.1 f (omega arith))
+    lays_elements w keeps (Some e) rest p.1 f (omega arith))
 
 -- a function's entry
 fits_kept_register : (w : Scope) (r : ℕ) → IsTrue (is_read r) → (d : Drawn) → Fits anything w (kept_register r) d
@@ -307,9 +321,9 @@ fits_parameters w i (home ∷ homes) p d =
 -- a whole function
 pub lays_body : (w : Scope) (homes : List Access) (code : List Linear) → HomesPass w homes → CodePasses w code →
     (d : Drawn) →
-    Lays w (stands w.mark code) (kept kept_registers >> (parameters w.slots 0 homes >> elements w.slots d.temp code)) d
+    Lays w (stands w.mark code) (kept kept_registers >> (parameters w.slots 0 homes >> elements w.slots d.temp None code)) d
 lays_body w homes code p q d =
     lays_behind w (fits_all_kept w d) (λ e u a b. lays_behind w (fits_parameters w 0 homes p e) (λ f v g t.
     let h : d.temp + 9 ≤ e.temp = at_most (d.temp + 9) e.temp b in
     let k : e.temp ≤ f.temp = g.temp in
-    lays_elements w d.temp code q f (omega arith)))
+    lays_elements w d.temp None code q f (omega arith)))

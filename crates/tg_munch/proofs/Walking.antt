@@ -31,44 +31,49 @@ pub load_byte_is : (slots : ℕ) (x : Tx) (dest : Option Opnd) → expression sl
 load_byte_is slots (tree.Binary op x y) dest = refl
 load_byte_is slots _ dest = refl
 
--- choices for the items of a list, by their places
-pub record EachChoice {X : Type 0} (f : ℕ → List X → Choice (Unit {0})) (g : ℕ → X → Choice (Unit {0})) : Type 0 where
-  pub none : (i : ℕ) → f i [] ≡ give tt
-  pub more : (i : ℕ) (x : X) (xs : List X) → f i (x ∷ xs) ≡ (g i x >> f (i + 1) xs)
+-- choices for the items of a list, each by what the items before it lead to, as by its place
+pub record EachChoice {P X : Type 0} (next : P → X → P) (f : P → List X → Choice (Unit {0})) (g : P → X → Choice (Unit {0})) : Type 0 where
+  pub none : (p : P) → f p [] ≡ give tt
+  pub more : (p : P) (x : X) (xs : List X) → f p (x ∷ xs) ≡ (g p x >> f (next p x) xs)
+
+abbrev next_place : {X : Type 0} → ℕ → X → ℕ
+next_place i x = i + 1
 
 -- from a place on, what is left leads from one draft to wherever all leads from another
-abbrev pub Leads : {X : Type 0} → (ℕ → List X → Choice (Unit {0})) → List X → (k p i : ℕ) → (a b : Draft) → Type 0
+abbrev pub Leads : {P X : Type 0} → (P → List X → Choice (Unit {0})) → List X → (k p : P) → (i : ℕ) → (a b : Draft) → Type 0
 Leads f xs k p i a b = (c : Draft) → Writes (f p (drop i xs)) b c tt → Writes (f k xs) a c tt
 
-pub leads_on : {X : Type 0} {f : ℕ → List X → Choice (Unit {0})} {g : ℕ → X → Choice (Unit {0})} → EachChoice f g →
-    (xs : List X) (k p i : ℕ) {a b c : Draft} {x : X} → i < length xs → x ≡ get_or xs i x → Leads f xs k p i a b → Writes (g p x) b c tt →
-    Leads f xs k (p + 1) (i + 1) a c
+pub leads_on : {P X : Type 0} {next : P → X → P} {f : P → List X → Choice (Unit {0})} {g : P → X → Choice (Unit {0})} → EachChoice next f g →
+    (xs : List X) (k p : P) (i : ℕ) {a b c : Draft} {x : X} → i < length xs → x ≡ get_or xs i x → Leads f xs k p i a b → Writes (g p x) b c tt →
+    Leads f xs k (next p x) (i + 1) a c
 leads_on {f = f} {g = g} each xs k p i {b = b} {c = c} {x = x} less at leads step d rest =
     let here : drop i xs ≡ x ∷ drop (i + 1) xs = drop_more xs i x less ∙ ap (λ y. y ∷ drop (i + 1) xs) (sym at) in
     leads d (subst (λ ys. Writes (f p ys) b d tt) (sym here)
     (subst (λ q. Writes q b d tt) (sym (each.more p x (drop (i + 1) xs))) (writes_then _ step rest)))
 
-pub leads_end : {X : Type 0} {f : ℕ → List X → Choice (Unit {0})} {g : ℕ → X → Choice (Unit {0})} → EachChoice f g → (xs : List X) (k p i : ℕ) {a b : Draft} →
-    i ≡ length xs → Leads f xs k p i a b → Writes (f k xs) a b tt
+pub leads_end : {P X : Type 0} {next : P → X → P} {f : P → List X → Choice (Unit {0})} {g : P → X → Choice (Unit {0})} → EachChoice next f g →
+    (xs : List X) (k p : P) (i : ℕ) {a b : Draft} → i ≡ length xs → Leads f xs k p i a b → Writes (f k xs) a b tt
 leads_end {f = f} each xs k p i {b = b} over leads =
     let none : drop i xs ≡ [] = ap (λ j. drop j xs) over ∙ drop-length xs in
     leads b (subst (λ ys. Writes (f p ys) b b tt) (sym none)
     (subst (λ q. Writes q b b tt) (sym (each.none p)) (writes_none b tt)))
 
 -- the walks of the code
-pub kept_each : EachChoice (λ i rs. kept rs) (λ i r. kept_register r)
+pub kept_each : EachChoice next_place (λ i rs. kept rs) (λ i r. kept_register r)
 kept_each = record { none = λ i. refl; more = λ i x xs. refl }
 
-pub given_each : EachChoice given_back (λ t r. put (Move (Reg r) (temp t)))
+pub given_each : EachChoice next_place given_back (λ t r. put (Move (Reg r) (temp t)))
 given_each = record { none = λ i. refl; more = λ i x xs. refl }
 
-pub parameter_each : (slots : ℕ) → EachChoice (parameters slots) (parameter slots)
+pub parameter_each : (slots : ℕ) → EachChoice next_place (parameters slots) (parameter slots)
 parameter_each slots = record { none = λ i. refl; more = λ i x xs. refl }
 
-pub element_each : (slots keeps : ℕ) → EachChoice (λ i es. elements slots keeps (code_of es)) (λ i e. element slots keeps (plain_linear e))
-element_each slots keeps = record { none = λ i. refl; more = λ i x xs. refl }
+pub element_each : (slots keeps : ℕ) →
+    EachChoice (λ before e. Some (plain_linear e)) (λ before es. elements slots keeps before (code_of es))
+    (λ before e. element slots keeps before (plain_linear e))
+element_each slots keeps = record { none = λ before. refl; more = λ before e es. refl }
 
-pub argument_each : (slots : ℕ) → EachChoice (λ i xs. arguments slots i (txs_of xs)) (λ i x. passed i (expression slots (plain_tx x)))
+pub argument_each : (slots : ℕ) → EachChoice next_place (λ i xs. arguments slots i (txs_of xs)) (λ i x. passed i (expression slots (plain_tx x)))
 argument_each slots = record { none = λ i. refl; more = λ i x xs. refl }
 
 -- an argument in a register, and one in the frame

@@ -75,7 +75,9 @@ outs [] = 0
 outs (e ∷ rest) = max (out_of_element e) (outs rest)
 
 abbrev pub body : (f : Function (List Linear)) → Choice (Unit {0})
-body f = kept kept_registers >> (parameters f.slots 0 f.params >> elements f.slots f.temps f.body)
+body f =
+    kept kept_registers
+    >> (parameters f.slots 0 f.params >> elements f.slots f.temps None f.body)
 
 -- the code of a function
 abbrev pub munched : Function (List Linear) → Chosen (Unit {0})

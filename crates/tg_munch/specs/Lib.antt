@@ -6,4 +6,5 @@ pub mod Laws
 pub mod Lengths
 pub mod Munching
 pub mod Naming
+pub mod Products
 pub mod Tiles

@@ -10,12 +10,13 @@ use Rattle.tg_instr.specs.declared.operands.Opnd.{Opnd}
 use Rattle.tg_instr.specs.declared.operands.Opnd.TheVariants.{Temp, Reg}
 use Rattle.tg_instr.specs.declared.instr.Instr.TheVariants.{Addu, Sw, Sb, Move, FrameStore}
 use Rattle.tg_instr.specs.declared.instr.Instr.TheVariants.{FrameAddress, Address, Mark, Jump, Call}
-use Rattle.tg_instr.specs.declared.instr.Instr.TheVariants.{Service, Fault, Return}
+use Rattle.tg_instr.specs.declared.instr.Instr.TheVariants.{Service, Fault, Return, Mfhi}
 use Rattle.tg_munch.specs.Choosing.{Choice, ◌>>=◌, ◌>>◌, give, put, fresh, choose, defining}
 use Rattle.tg_munch.specs.declared.tiles.Base.{Base}
 use Rattle.tg_munch.specs.Tiles.{nothing, constant, slot, offset, offset_by, based, loaded}
 use Rattle.tg_munch.specs.Tiles.{loaded_byte, tile, tiled, moved}
 use Rattle.tg_munch.specs.Comparing.{short_side, against, is_turned, turned}
+use Rattle.tg_munch.specs.Products.{is_in_hi}
 
 -- what a function gives back: $s0 to $s7 and $ra
 abbrev pub kept_registers : List ℕ
@@ -163,20 +164,31 @@ module _ (slots : ℕ) where
   branch rel x y m =
       if is_turned rel x y then compared (turned rel) y x m else compared rel x y m
 
+  -- a comparison whose left side is in HI
+  abbrev pub compared_in_hi : Rel → (right : Tx) → (mark : ℕ) → Choice (Unit {0})
+  compared_in_hi rel y m = fresh >>= (λ a. put (Mfhi a) >> compared_with rel a y m)
+
+  -- a comparison behind an element, or at the start of the code
+  abbrev pub branch_behind :
+      (before : Option Linear) → Rel → (left right : Tx) → (mark : ℕ) → Choice (Unit {0})
+  branch_behind before rel x y m =
+      if is_in_hi before x then compared_in_hi rel y m else branch rel x y m
+
   -- a return with a word: the kept registers get back what they held
   abbrev pub returned : (keeps : ℕ) → Tx → Choice (Unit {0})
   returned keeps x =
       expression x (Some (Reg 2)) >> (given_back keeps kept_registers >> put Return)
 
-  -- an element of flat code, where the kept registers stand in temporaries from a number on
-  abbrev pub element : (keeps : ℕ) → Linear → Choice (Unit {0})
-  element keeps (tree.Mark m) = put (Mark m)
-  element keeps (tree.Do' s) = statement s
-  element keeps (tree.Jump m) = put (Jump m)
-  element keeps (tree.Branch rel x y m) = branch rel x y m
-  element keeps (tree.Fault' n) = put (Fault n)
-  element keeps (tree.Return' x) = returned keeps x
+  -- an element of flat code behind another, or at the start, where the kept registers stand in
+  -- temporaries from a number on
+  abbrev pub element : (keeps : ℕ) → (before : Option Linear) → Linear → Choice (Unit {0})
+  element keeps before (tree.Mark m) = put (Mark m)
+  element keeps before (tree.Do' s) = statement s
+  element keeps before (tree.Jump m) = put (Jump m)
+  element keeps before (tree.Branch rel x y m) = branch_behind before rel x y m
+  element keeps before (tree.Fault' n) = put (Fault n)
+  element keeps before (tree.Return' x) = returned keeps x
 
-  abbrev pub elements : (keeps : ℕ) → List Linear → Choice (Unit {0})
-  elements keeps [] = give tt
-  elements keeps (e ∷ rest) = element keeps e >> elements keeps rest
+  abbrev pub elements : (keeps : ℕ) → (before : Option Linear) → List Linear → Choice (Unit {0})
+  elements keeps before [] = give tt
+  elements keeps before (e ∷ rest) = element keeps before e >> elements keeps (Some e) rest

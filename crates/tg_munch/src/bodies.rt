@@ -1,4 +1,5 @@
 ghost use Rattle.std.specs.Prelude.{◌≡◌, ◌<◌, ◌+◌, ◌^◌, OnOk, IfOk, IsTrue, length, nat_lt};
+ghost use Rattle.std.specs.Prelude.{None, option_map};
 ghost use Rattle.std.specs.List.{list_all};
 ghost use Rattle.tg_tree.specs.Lists.{code_of};
 ghost use Rattle.tg_tree.specs.Plain.{plain_linear, plain_tx};
@@ -8,7 +9,7 @@ ghost use Rattle.tg_munch.specs.Munching as munching;
 
 use crate::drafts::Draft;
 use crate::expressions::{expression, low_bytes};
-use crate::statements::{branch, statement};
+use crate::statements::{branch_behind, statement};
 use std::alloc::Global;
 use tg_base::{Memory, Temp};
 use tg_frame::Access;
@@ -143,24 +144,36 @@ pub(crate) fn elements(
 ) -> Result<(), Memory>
     requires { keeps < 2 ^ 24 }
     ensures { OnOk result
-        (Writes (munching.elements slots keeps (code_of code.now)) draft.old draft.new tt) }
+        (Writes (munching.elements slots keeps None (code_of code.now)) draft.old draft.new tt) }
 {
+    let mut before = None;
     for one in code {
-        element(draft, slots, keeps, one)?;
+        element(draft, slots, keeps, before, one)?;
+        before = Some(one);
     }
     Ok(())
 }
 
-fn element(draft: &mut Draft, slots: u32, keeps: u32, one: &Linear) -> Result<(), Memory>
+/// An element of flat code, behind another or at the start.
+fn element(
+    draft: &mut Draft,
+    slots: u32,
+    keeps: u32,
+    before: Option<&Linear>,
+    one: &Linear,
+) -> Result<(), Memory>
     requires { keeps < 2 ^ 24 }
     ensures { OnOk result
-        (Writes (munching.element slots keeps (plain_linear one.now)) draft.old draft.new tt) }
+        (Writes (munching.element slots keeps (option_map (λ e. plain_linear e.now) before.entry)
+        (plain_linear one.now)) draft.old draft.new tt) }
 {
     match one {
         Linear::Mark(mark) => draft.put(Instr::Mark(*mark)),
         Linear::Do(s) => statement(draft, slots, s),
         Linear::Jump(mark) => draft.put(Instr::Jump(*mark)),
-        Linear::Branch(rel, left, right, mark) => { branch(draft, slots, *rel, left, right, *mark) }
+        Linear::Branch(rel, left, right, mark) => {
+            branch_behind(draft, slots, before, *rel, left, right, *mark)
+        }
         Linear::Fault(number) => draft.put(Instr::Fault(*number)),
         Linear::Return(x) => answer(draft, slots, keeps, x),
     }

@@ -11,6 +11,7 @@ mod laws;
 mod munching;
 mod operators;
 mod orders;
+mod products;
 mod statements;
 mod tiles;
 mod tiling;

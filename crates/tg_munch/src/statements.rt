@@ -1,5 +1,5 @@
-ghost use Rattle.std.specs.Prelude.{◌≡◌, OnOk};
-ghost use Rattle.tg_tree.specs.Plain.{plain_tx, plain_ts};
+ghost use Rattle.std.specs.Prelude.{◌≡◌, OnOk, option_map};
+ghost use Rattle.tg_tree.specs.Plain.{plain_linear, plain_tx, plain_ts};
 ghost use Rattle.tg_tree.specs.Tree as tree;
 ghost use Rattle.tg_munch.specs.Drafts.{Writes};
 ghost use Rattle.tg_munch.specs.Munching as munching;
@@ -7,10 +7,11 @@ ghost use Rattle.tg_munch.specs.Munching as munching;
 use crate::comparing::{branch_on, branch_short, is_turned, short_side, turned};
 use crate::drafts::Draft;
 use crate::expressions::{base, call, expression, service};
+use crate::products::is_in_hi;
 use crate::tiling::slot;
 use tg_base::{Memory, Temp};
 use tg_instr::{Instr, Opnd};
-use tg_tree::{Rel, Ts, Tx};
+use tg_tree::{Linear, Rel, Ts, Tx};
 
 /// A statement of flat code. For any other nothing is written.
 pub(crate) fn statement(draft: &mut Draft, slots: u32, s: &Ts) -> Result<(), Memory>
@@ -108,8 +109,28 @@ fn value(draft: &mut Draft, slots: u32, x: &Tx) -> Result<(), Memory>
     Ok(())
 }
 
-/// A branch on a comparison.
-pub(crate) fn branch(
+/// A branch on a comparison, behind an element or at the start of the code.
+pub(crate) fn branch_behind(
+    draft: &mut Draft,
+    slots: u32,
+    before: Option<&Linear>,
+    rel: Rel,
+    left: &Tx,
+    right: &Tx,
+    mark: u32,
+) -> Result<(), Memory>
+    ensures { OnOk result
+        (Writes (munching.branch_behind slots (option_map (λ e. plain_linear e.now) before.entry)
+        rel (plain_tx left.now) (plain_tx right.now) mark) draft.old draft.new tt) }
+{
+    if is_in_hi(before, left) {
+        compare_in_hi(draft, slots, rel, right, mark)
+    } else {
+        branch(draft, slots, rel, left, right, mark)
+    }
+}
+
+fn branch(
     draft: &mut Draft,
     slots: u32,
     rel: Rel,
@@ -141,6 +162,25 @@ fn compare(
         draft.old draft.new tt) }
 {
     let first = expression(draft, slots, left, None)?;
+    compare_with(draft, slots, rel, first, right, mark)?;
+    Ok(())
+}
+
+/// A branch on a comparison whose left side is in HI.
+fn compare_in_hi(
+    draft: &mut Draft,
+    slots: u32,
+    rel: Rel,
+    right: &Tx,
+    mark: u32,
+) -> Result<(), Memory>
+    ensures { OnOk result
+        (Writes (munching.compared_in_hi slots rel (plain_tx right.now) mark)
+        draft.old draft.new tt) }
+{
+    let first = draft.fresh()?;
+    let target = first;
+    draft.put(Instr::Mfhi(target))?;
     compare_with(draft, slots, rel, first, right, mark)?;
     Ok(())
 }

@@ -1,8 +1,12 @@
+use Rattle.std.proofs.Common.{None}
+use Rattle.std.specs.Prelude.{option_map}
 use Rattle.tg_tree.specs.Lists.{code_of}
+use Rattle.tg_tree.specs.Plain.{plain_linear}
 use Rattle.tg_munch.specs.Munching.{elements}
 use Rattle.tg_munch.proofs.Walking.{Leads}
 use Rattle.tg_munch.proofs.bodies.elements.Given as goal
 
 abbrev pub invariant-loop-one : goal.invariant-loop-one
 invariant-loop-one l =
-    Leads (λ i es. elements l.slots l.keeps (code_of es)) l.code 0 l.one-index l.one-index l.fn.draft l.draft
+    let before = option_map (λ e. plain_linear e.now) l.before in
+    Leads (λ before es. elements l.slots l.keeps before (code_of es)) l.code None before l.one-index l.fn.draft l.draft
