@@ -9,6 +9,7 @@ mod creation;
 mod expressions;
 mod findings;
 mod functions;
+mod held;
 mod homes;
 mod loops;
 mod operands;
@@ -17,6 +18,7 @@ mod places;
 mod programs;
 mod purity;
 mod states;
+mod updates;
 mod wants;
 
 pub use homes::{Callee, Home, Within};
