@@ -37,8 +37,6 @@ use Rattle.tg_translate.specs.Functions.{at_of, body}
 use Rattle.tg_translate.specs.Translate.{
   connective,
   with_left,
-  choice,
-  is_zero,
   assigned,
   updated,
   declaration_of,
@@ -91,11 +89,6 @@ module _ (findings : Findings) where
 
   abbrev pub updated_in : Storage → Exp → Within → Acts Ts
   updated_in place e within = updated place (λ x v. behind_read findings e x v within)
-
-  abbrev pub choice_in : Want → Cond → (this other : Exp) → Within → Acts Made
-  choice_in w c a b within =
-      choice (is_zero b) w c (λ v. expression findings a v within)
-      (λ v. expression findings b v within)
 
   abbrev pub when_true : Cond → Exp → Within → Acts Made
   when_true c a within = do

@@ -141,14 +141,18 @@ chosen_arm w c this other = do
   t ← arm_from v (other v)
   give (deliver w v (tree.If c s t))
 
-abbrev pub choice :
-    (or_zero : Bool) → Want → tree.Cond → (this other : Want → Acts Made) → Acts Made
-choice true want.Test c this other = connective And want.Test c this
-choice or_zero w c this other = chosen_arm w c this other
-
 abbrev pub is_zero : Exp → Bool
 is_zero (Int _ zero) = true
 is_zero _ = false
+
+abbrev pub is_conjunction : Want → (other : Exp) → Bool
+is_conjunction want.Test b = is_zero b
+is_conjunction _ b = false
+
+abbrev pub choice :
+    (conjunction : Bool) → Want → tree.Cond → (this other : Want → Acts Made) → Acts Made
+choice true w c this other = connective And w c this
+choice false w c this other = chosen_arm w c this other
 
 -- A value is assigned to a place. Where it begins with a read of that place, as in `v := v + 1`,
 -- the place is found and checked once.
@@ -214,7 +218,7 @@ module _ (findings : Findings) where
       give (done s)
     expression (If _ c a b) w within = do
       c ← condition_from (expression c want.Test within)
-      choice (is_zero b) w c (λ v. expression a v within) (λ v. expression b v within)
+      choice (is_conjunction w b) w c (λ v. expression a v within) (λ v. expression b v within)
     expression (When _ c a) w within = do
       c ← condition_from (expression c want.Test within)
       s ← statement_from (expression a want.Dropped within)

@@ -28,14 +28,16 @@ use crate::held::{hold_place, place_held, read_held};
 use crate::homes::Within;
 use crate::loops::{count, in_body, in_test, repeat_while};
 use crate::operands::{Operand, hold};
-use crate::operators::{chosen, compares_strings, left_want, negation, operation, tested};
+use crate::operators::{
+    chosen, compares_strings, is_conjunction, left_want, negation, operation, tested,
+};
 use crate::places::{
     Storage, assign, declare_variable, element_place, field_number, field_place, own_place, read,
     variable_place, want_for,
 };
 use crate::purity::{assigns_nothing, inits_assign_nothing};
 use crate::states::{TranslationState, next};
-use crate::updates::{begins_with, is_zero};
+use crate::updates::begins_with;
 use crate::wants::{
     Made, Want, arms, as_statement, behind, deliver, dropped, nothing, push, test_of, value_of,
 };
@@ -90,7 +92,14 @@ pub(crate) fn expression(
         }
         Kind::If(test, this, Some(other)) => {
             let test = condition(findings, state, test, within)?;
-            Ok(choice(findings, state, this, other, test, want, within)?)
+            if is_conjunction(want, other) {
+                return Ok(connective(findings, state, this, Op::And, test, want, within)?);
+            }
+            let arms = arms(state, want)?;
+            let this = arm(findings, state, this, arms, within)?;
+            let other = arm(findings, state, other, arms, within)?;
+            let choice = if_else(state.alloc, test, this, other)?;
+            Ok(deliver(state.alloc, want, arms, choice)?)
         }
         Kind::If(test, this, None) => {
             let test = condition(findings, state, test, within)?;
@@ -292,32 +301,6 @@ fn filled(
     let item = value(findings, state, item, within)?;
     let array = call_with_two(state.alloc, Routine::MakeArray, size, item)?;
     Ok(Made::Value(array))
-}
-
-// A choice whose test is translated.
-#[cycle(translation)]
-fn choice(
-    findings: &Findings,
-    state: &mut TranslationState,
-    this: &Exp,
-    other: &Exp,
-    test: Cond,
-    want: Want,
-    within: Within,
-) -> Result<Made, Memory>
-    ensures { IfOk result (λ m.
-        parts.choice_in (findings_of findings.now) want (plain_cond test) (plain this.now)
-        (plain other.now) within
-        (state_of state.old) ≡ drawn (plain_made m) (state_of state.new)) }
-{
-    if is_zero(other) && matches!(want, Want::Test) {
-        return Ok(connective(findings, state, this, Op::And, test, want, within)?);
-    }
-    let arms = arms(state, want)?;
-    let this = arm(findings, state, this, arms, within)?;
-    let other = arm(findings, state, other, arms, within)?;
-    let choice = if_else(state.alloc, test, this, other)?;
-    Ok(deliver(state.alloc, want, arms, choice)?)
 }
 
 // An assignment to a place.
