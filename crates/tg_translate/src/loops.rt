@@ -95,7 +95,12 @@ fn turn_of(alloc: Global, variable: Access, high: Operand, turn: Ts) -> Result<T
 {
     let next = binary(alloc, Bin::Add, read_home(alloc, variable)?, Tx::Const(1))?;
     let step = assign_home(alloc, variable, next)?;
-    let is_not_last = compare(alloc, Rel::NotEqual, read_home(alloc, variable)?, high.tree())?;
+    let is_not_last = compare(
+        alloc,
+        Rel::NotEqual,
+        read_home(alloc, variable)?,
+        high.tree(),
+    )?;
     let stop = if_else(alloc, is_not_last, nothing(alloc), Ts::Break(0))?;
     Ok(sequence(vec![in alloc; step, turn, stop]?))
 }
