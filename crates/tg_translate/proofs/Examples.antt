@@ -23,6 +23,7 @@ use Rattle.tg_tree.specs.Running.{tree_run}
 use Rattle.tg_runtime.specs.Routines.{runtime}
 use Rattle.tg_translate.specs.Scopes.{Findings}
 use Rattle.tg_translate.specs.Translate.{translated}
+use Rattle.tg_translate.specs.Updates.{begins_with}
 
 abbrev sp : Span
 sp = record { from = 0; to = 0 }
@@ -240,3 +241,64 @@ links_three_deep :
     (call h [] ∷ When sp (binary op.Greater (get k) (num 1)) (call g (binary op.Minus (get k) (num 1) ∷ [])) ∷ [])) no_functions) no_decs))
     (call g (num 3 ∷ []) ∷ get x ∷ [])) no_functions) no_decs) (exit (call f (num 10 ∷ [])) ∷ [])) 20 ≡ ends 16
 links_three_deep = refl
+
+-- Places that are read first and then assigned.
+
+abbrev at_index : Exp → LValue
+at_index e = Index (Simple (id x)) e
+
+abbrev of_field : ℕ → LValue
+of_field n = Field (Simple (id x)) (id n)
+
+abbrev begins : Exp → LValue → Bool
+begins e v = begins_with (findings [] []).meaning e v
+
+begins_so :
+    (begins (plus (plus (Read sp (at_index (plus (get i) (num 1)))) (num 2)) (get i)) (at_index (plus (get i) (num 1))) ≡ true)
+    × (begins (plus (Read sp (of_field 20)) (num 1)) (of_field 20) ≡ true)
+begins_so = (refl, refl)
+
+-- another variable, sign, number or field, what is read second, and an index that does something
+begins_otherwise :
+    (begins (get i) (Simple (id x)) ≡ false)
+    × (begins (Read sp (at_index (binary op.Minus (get i) (num 1)))) (at_index (plus (get i) (num 1))) ≡ false)
+    × (begins (Read sp (at_index (num 2))) (at_index (num 1)) ≡ false)
+    × (begins (Read sp (of_field 21)) (of_field 20) ≡ false)
+    × (begins (plus (num 1) (get x)) (Simple (id x)) ≡ false)
+    × (begins (Read sp (at_index (call f []))) (at_index (call f [])) ≡ false)
+begins_otherwise = (refl, refl, refl, refl, refl, refl)
+
+abbrev with_sevens : List Exp → List ℕ × Stop
+with_sevens es = does (block (let_var x (Fill sp (id 0) (num 3) (num 7)) (let_var k (get x) (let_var i (num 1) no_decs))) es) 9
+
+abbrev element_of_k : ℕ → Exp
+element_of_k n = Read sp (Index (Simple (id k)) (num n))
+
+-- let type t=array of int var x:=t[3] of 7 var k:=x var i:=1 in x[1]:=x[1]+x[0]*2; exit(k[1]) end
+updated_element :
+    with_sevens
+    (Assign sp (at_index (num 1)) (plus (Read sp (at_index (num 1))) (binary op.Times (Read sp (at_index (num 0))) (num 2))) ∷ exit (element_of_k 1) ∷ []) ≡
+    ends 21
+updated_element = refl
+
+-- x[i]:=x[i]-(x:=t[1] of 0; i:=0; 1): the place is found before
+updated_before :
+    with_sevens
+    (Assign sp (at_index (get i))
+    (binary op.Minus (Read sp (at_index (get i))) (seq (set x (Fill sp (id 0) (num 1) (num 0)) ∷ set i (num 0) ∷ num 1 ∷ []))) ∷ exit (element_of_k 1) ∷ []) ≡
+    ends 6
+updated_before = refl
+
+-- x[i+2]:=x[i+2]+1 is outside, and x.a:=x.a+1 of nil
+updated_outside : with_sevens (Assign sp (at_index (plus (get i) (num 2))) (plus (Read sp (at_index (plus (get i) (num 2)))) (num 1)) ∷ []) ≡ breaks 3
+updated_outside = refl
+
+updated_nil : does (block (let_var x (Nil sp) no_decs) (Assign sp (of_field 20) (plus (Read sp (of_field 20)) (num 1)) ∷ [])) 9 ≡ breaks 2
+updated_nil = refl
+
+-- let var x:=0 in while if x<5 then x<>3 else 0 do x:=x+1; exit(x) end
+chosen_condition :
+    does (block (let_var x (num 0) no_decs)
+    (While sp (If sp (binary op.Less (get x) (num 5)) (binary op.NotEqual (get x) (num 3)) (num 0)) (set x (plus (get x) (num 1))) ∷ exit (get x) ∷ [])) 9 ≡
+    ends 3
+chosen_condition = refl

@@ -28,6 +28,7 @@ use Rattle.tg_runtime.specs.declared.routines.Routine.TheVariants as routine
 use Rattle.tg_runtime.specs.Labels.{label_of}
 use Rattle.tg_syntax.specs.declared.trees.Op.{Op}
 use Rattle.tg_syntax.specs.declared.trees.Op.TheVariants as op
+use Rattle.tg_tree.specs.declared.operators.Bin.{Bin}
 use Rattle.tg_tree.specs.declared.operators.Bin.TheVariants.{
   Add,
   Sub,
@@ -69,11 +70,15 @@ use Rattle.tg_tree.specs.Tree.{
   no_stms,
   stm,
 }
-use Rattle.tg_tree.specs.Forms.{when}
+use Rattle.tg_tree.specs.Forms.{nothing, when}
 use Rattle.tg_tree.specs.Plain.{plain_tx}
 use Rattle.tg_tree.specs.Lists.{stms_of}
 use Rattle.tg_translate.specs.declared.places.Storage.{Storage as CodePlace}
 use Rattle.tg_translate.specs.declared.places.Storage.TheVariants as code
+use Rattle.tg_translate.specs.declared.held.HeldAddress.{HeldAddress}
+use Rattle.tg_translate.specs.declared.held.HeldAddress.TheVariants.{InOwnFrame, Beside, At}
+use Rattle.tg_translate.specs.declared.held.HeldPlace.{HeldPlace as CodeHeldPlace}
+use Rattle.tg_translate.specs.declared.held.HeldPlace.TheVariants as held
 use Rattle.tg_translate.specs.declared.operands.Operand.{Operand}
 use Rattle.tg_translate.specs.declared.operands.Operand.TheVariants.{Number, Kept}
 use Rattle.tg_translate.specs.declared.wants.Want.{Want}
@@ -196,6 +201,51 @@ assign (in_temp t) m = give (put_in t m)
 assign (at_address before a) m = do
   x ← value_of m
   give (store_at before a x)
+
+-- A place that is read first and then assigned. What its address is made of is kept, but for the
+-- frame address, and for the bytes that are added to it or taken from it in the end.
+abbrev pub held_address : HeldAddress → Tx
+held_address (InOwnFrame op n) = Binary op FrameAddress (Const n)
+held_address (Beside o op n) = Binary op (operand o) (Const n)
+held_address (At o) = operand o
+
+pub record HeldAt : Type 0 where
+  pub before : Stms
+  pub address : HeldAddress
+
+abbrev pub hold_base : Stms → Tx → (Operand → HeldAddress) → Acts HeldAt
+hold_base before x address = do
+  h ← hold true before x
+  give (record { before = h.before; address = address h.operand })
+
+abbrev pub hold_address : Stms → Tx → Acts HeldAt
+hold_address before (Binary op FrameAddress (Const n)) =
+    give (record { before = before; address = InOwnFrame op n })
+hold_address before (Binary op x (Const n)) = hold_base before x (λ o. Beside o op n)
+hold_address before x = hold_base before x (λ o. At o)
+
+pub data HeldPlace : Type 0 where
+  held_in_temp : ℕ → HeldPlace
+  held_at : Stms → HeldAddress → HeldPlace
+
+abbrev pub plain_held : CodeHeldPlace → HeldPlace
+plain_held (held.InTemp t) = held_in_temp t.0
+plain_held (held.AtAddress before a) = held_at (stms_of before.items) a
+
+abbrev pub hold_place : Storage → Acts HeldPlace
+hold_place (in_temp t) = give (held_in_temp t)
+hold_place (at_address before a) = do
+  h ← hold_address before a
+  give (held_at h.before h.address)
+
+-- its value, behind the checks that were made
+abbrev pub read_held : HeldPlace → Tx
+read_held (held_in_temp t) = Temp t
+read_held (held_at before a) = Load (held_address a)
+
+abbrev pub place_held : HeldPlace → Storage
+place_held (held_in_temp t) = in_temp t
+place_held (held_at before a) = at_address before (held_address a)
 
 -- Checks.
 
@@ -361,7 +411,6 @@ in_test within = record within { leave = within.leave + 1 }
 abbrev pub repeat_while : Cond → Ts → Ts
 repeat_while c turn = Loop (If c turn (Break 0))
 
--- a loop's bound is kept over the loop
 abbrev pub first_minus_one : Operand → Tx
 first_minus_one (Number n) = Const (sub n 1)
 first_minus_one (Kept t) = Binary Sub (Temp t.0) (Const 1)
@@ -372,12 +421,13 @@ assign_value (at_address before a) x = store_at before a x
 
 -- The test for the last turn comes before the addition, so the bound may be the greatest int. The
 -- variable starts one below its first value, and each turn begins with the addition: so a turn's
--- end is one branch back.
+-- end is one branch back, against a bound that is kept over the loop.
 abbrev pub turn_of : (variable : Access) → (high : Operand) → Ts → Ts
 turn_of i high turn = Seq (
     stm (assign_value (own_place i) (Binary Add (read (own_place i)) (Const 1))) (
     stm turn (
-    stm (when (Compare rel.Equal (read (own_place i)) (operand high)) (Break 0)) no_stms)))
+    stm (If (Compare rel.NotEqual (read (own_place i)) (operand high)) nothing (Break 0))
+    no_stms)))
 
 abbrev pub turns : (variable : Access) → (low high : Operand) → Ts → Ts
 turns i low high turn = Seq (
@@ -392,7 +442,7 @@ count_of before i low high turn =
 abbrev pub count : (variable : Access) → (low high : Tx) → Ts → Acts Ts
 count i x y turn = do
   l ← hold false no_stms x
-  h ← hold false l.before y
+  h ← keep l.before y
   give (count_of h.before i l.operand h.operand turn)
 
 -- Strings: a word of length and the bytes; zeros up to a multiple of 4 follow where it is laid out.

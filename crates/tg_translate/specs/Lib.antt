@@ -5,5 +5,6 @@ pub mod Scopes
 pub mod Functions
 pub mod Choices
 pub mod Purity
+pub mod Updates
 pub mod Translate
 pub mod Parts

@@ -24,8 +24,6 @@ use Rattle.tg_translate.specs.Wants.{
 use Rattle.tg_translate.specs.Constructs.{
   Storage,
   none_held,
-  want_for,
-  assign,
   element_place,
   make_record,
   make_array,
@@ -39,8 +37,11 @@ use Rattle.tg_translate.specs.Functions.{at_of, body}
 use Rattle.tg_translate.specs.Translate.{
   connective,
   with_left,
+  assigned,
+  updated,
   declaration_of,
   expression,
+  behind_read,
   values,
   fields,
   sequence,
@@ -83,11 +84,11 @@ module _ (findings : Findings) where
     y ← value_in item within
     give (value (make_array size y))
 
-  abbrev pub assigned : Storage → Exp → Within → Acts Made
-  assigned place e within = do
-    m ← expression findings e (want_for place) within
-    s ← assign place m
-    give (done s)
+  abbrev pub assigned_in : Storage → Exp → Within → Acts Ts
+  assigned_in place e within = assigned place (λ v. expression findings e v within)
+
+  abbrev pub updated_in : Storage → Exp → Within → Acts Ts
+  updated_in place e within = updated place (λ x v. behind_read findings e x v within)
 
   abbrev pub when_true : Cond → Exp → Within → Acts Made
   when_true c a within = do

@@ -1,7 +1,7 @@
 -- The translation of a checked program to trees (Appel, chapter 7). Each expression is translated
 -- for what its place wants of it. Fragments stand in the order of the source, the program's body
 -- first.
-use Rattle.std.specs.Prelude.{ℕ, ◌+◌, [], is_some, Option, Bool, false}
+use Rattle.std.specs.Prelude.{ℕ, zero, ◌+◌, [], is_some, Option, Bool, true, false}
 use Rattle.tg_syntax.specs.declared.trees.Op.{Op}
 use Rattle.tg_syntax.specs.declared.trees.Op.TheVariants.{And, Or}
 use Rattle.tg_syntax.specs.Tree as source
@@ -43,7 +43,7 @@ use Rattle.tg_syntax.specs.Tree.{
   function,
 }
 use Rattle.tg_tree.specs.Tree as tree
-use Rattle.tg_tree.specs.Tree.{Const, Txs, no_txs, tx, Ts, Stms, no_stms, Code}
+use Rattle.tg_tree.specs.Tree.{Tx, Const, Txs, no_txs, tx, Ts, Stms, no_stms, Code}
 use Rattle.tg_tree.specs.Forms.{nothing}
 use Rattle.tg_tree.specs.Lists.{join_txs}
 use Rattle.tg_types.specs.declared.notes.Means.{Means}
@@ -75,6 +75,9 @@ use Rattle.tg_translate.specs.Constructs.{
   read,
   want_for,
   assign,
+  hold_place,
+  read_held,
+  place_held,
   field_place,
   element_place,
   make_record,
@@ -97,6 +100,7 @@ use Rattle.tg_translate.specs.Scopes.{
 }
 use Rattle.tg_translate.specs.Choices.{left_want, tested, chosen}
 use Rattle.tg_translate.specs.Purity.{assigns_nothing, inits_assign_nothing}
+use Rattle.tg_translate.specs.Updates.{begins_with}
 use Rattle.tg_translate.specs.Functions.{
   at_of,
   declare_functions,
@@ -126,6 +130,48 @@ with_left op meaning direct w left right = do
   x ← value_of left
   y ← value_from (right want.Value)
   operation op (compares_strings meaning) direct x y
+
+-- A choice between two arms. Where a condition is wanted and the second arm is 0, it is one of two
+-- conditions, as `&` is.
+abbrev pub chosen_arm :
+    Want → tree.Cond → (this other : Want → Acts Made) → Acts Made
+chosen_arm w c this other = do
+  v ← arms w
+  s ← arm_from v (this v)
+  t ← arm_from v (other v)
+  give (deliver w v (tree.If c s t))
+
+abbrev pub is_zero : Exp → Bool
+is_zero (Int _ zero) = true
+is_zero _ = false
+
+abbrev pub is_conjunction : Want → (other : Exp) → Bool
+is_conjunction want.Test b = is_zero b
+is_conjunction _ b = false
+
+abbrev pub choice :
+    (conjunction : Bool) → Want → tree.Cond → (this other : Want → Acts Made) → Acts Made
+choice true w c this other = connective And w c this
+choice false w c this other = chosen_arm w c this other
+
+-- A value is assigned to a place. Where it begins with a read of that place, as in `v := v + 1`,
+-- the place is found and checked once.
+abbrev pub assigned : Storage → (value : Want → Acts Made) → Acts Ts
+assigned place e = do
+  m ← e (want_for place)
+  assign place m
+
+abbrev pub updated : Storage → (value : (read : Tx) → Want → Acts Made) → Acts Ts
+updated place e = do
+  held ← hold_place place
+  m ← e (read_held held) (want_for (place_held held))
+  assign (place_held held) m
+
+abbrev pub assignment :
+    (reads_first : Bool) → Storage → (value : Want → Acts Made) →
+    (value_behind : (read : Tx) → Want → Acts Made) → Acts Ts
+assignment true place e behind = updated place behind
+assignment false place e behind = assigned place e
 
 pub record Begun : Type 0 where
   pub before : Stms
@@ -167,15 +213,12 @@ module _ (findings : Findings) where
       give (value (make_array x y))
     expression (Assign _ v e) w within = do
       place ← locate v within
-      m ← expression e (want_for place) within
-      s ← assign place m
+      s ← assignment (begins_with findings.meaning e v) place (λ v. expression e v within)
+          (λ x v. behind_read e x v within)
       give (done s)
     expression (If _ c a b) w within = do
       c ← condition_from (expression c want.Test within)
-      v ← arms w
-      s ← arm_from v (expression a v within)
-      t ← arm_from v (expression b v within)
-      give (deliver w v (tree.If c s t))
+      choice (is_conjunction w b) w c (λ v. expression a v within) (λ v. expression b v within)
     expression (When _ c a) w within = do
       c ← condition_from (expression c want.Test within)
       s ← statement_from (expression a want.Dropped within)
@@ -198,6 +241,13 @@ module _ (findings : Findings) where
     expression (Seq _ es) w within = do
       begun ← sequence es w no_stms within
       behind w begun.before begun.last
+
+    -- an expression that begins with a read, whose value is known
+    pub behind_read : Exp → (read : Tx) → Want → Within → Acts Made
+    behind_read (Binary _ op at a b) x w within = do
+      left ← behind_read a x (left_want op) within
+      with_left op (findings.meaning at) (assigns_nothing b) w left (λ v. expression b v within)
+    behind_read _ x w within = give (value x)
 
     pub locate : source.LValue → Within → Acts Storage
     locate (Simple x) within = variable_place within (findings.meaning (at_of x))

@@ -1,7 +1,5 @@
 ghost use Rattle.std.specs.Prelude.{◌≡◌, ◌*◌, IfOk};
 ghost use Rattle.tg_tree.specs.Plain.{plain_tx, plain_cond, plain_ts};
-ghost use Rattle.tg_tree.specs.Tree as tree;
-ghost use Rattle.tg_tree.specs.declared.operators.Rel.TheVariants.{Equal as PlainEqual};
 ghost use Rattle.tg_translate.specs.Constructs as constructs;
 
 use std::alloc::Global;
@@ -171,12 +169,4 @@ pub(crate) fn call_with_two(
         constructs.call_routine one (constructs.two_txs (plain_tx first) (plain_tx second))) }
 {
     Ok(call(one.label(), vec![in alloc; first, second]?))
-}
-
-/// The condition that two values are the same word.
-pub(crate) fn equals(alloc: Global, left: Tx, right: Tx) -> Result<Cond, Memory>
-    ensures { IfOk result (λ c. plain_cond c ≡
-        tree.Compare PlainEqual (plain_tx left) (plain_tx right)) }
-{
-    Ok(compare(alloc, Rel::Equal, left, right)?)
 }

@@ -24,16 +24,20 @@ use crate::constructs::call_with_two;
 use crate::creation::make_record;
 use crate::findings::Findings;
 use crate::functions::{begin, closing, declare_functions, inside, result_want};
+use crate::held::{hold_place, place_held, read_held};
 use crate::homes::Within;
 use crate::loops::{count, in_body, in_test, repeat_while};
 use crate::operands::{Operand, hold};
-use crate::operators::{chosen, compares_strings, left_want, negation, operation, tested};
+use crate::operators::{
+    chosen, compares_strings, is_conjunction, left_want, negation, operation, tested,
+};
 use crate::places::{
     Storage, assign, declare_variable, element_place, field_number, field_place, own_place, read,
     variable_place, want_for,
 };
 use crate::purity::{assigns_nothing, inits_assign_nothing};
 use crate::states::{TranslationState, next};
+use crate::updates::begins_with;
 use crate::wants::{
     Made, Want, arms, as_statement, behind, deliver, dropped, nothing, push, test_of, value_of,
 };
@@ -78,12 +82,19 @@ pub(crate) fn expression(
             let size = value(findings, state, size, within)?;
             Ok(filled(findings, state, item, size, within)?)
         }
-        Kind::Assign(place, a) => {
-            let place = locate(findings, state, place, within)?;
-            Ok(assigned(findings, state, a, place, within)?)
+        Kind::Assign(v, a) => {
+            let place = locate(findings, state, v, within)?;
+            if begins_with(findings, a, v) {
+                Ok(Made::Done(updated(findings, state, a, place, within)?))
+            } else {
+                Ok(Made::Done(assigned(findings, state, a, place, within)?))
+            }
         }
         Kind::If(test, this, Some(other)) => {
             let test = condition(findings, state, test, within)?;
+            if is_conjunction(want, other) {
+                return Ok(connective(findings, state, this, Op::And, test, want, within)?);
+            }
             let arms = arms(state, want)?;
             let this = arm(findings, state, this, arms, within)?;
             let other = arm(findings, state, other, arms, within)?;
@@ -300,13 +311,57 @@ fn assigned(
     e: &Exp,
     place: Storage,
     within: Within,
-) -> Result<Made, Memory>
-    ensures { IfOk result (λ m.
-        parts.assigned (findings_of findings.now) (plain_place place) (plain e.now) within
-        (state_of state.old) ≡ drawn (plain_made m) (state_of state.new)) }
+) -> Result<Ts, Memory>
+    ensures { IfOk result (λ s.
+        parts.assigned_in (findings_of findings.now) (plain_place place) (plain e.now) within
+        (state_of state.old) ≡ drawn (plain_ts s) (state_of state.new)) }
 {
     let made = expression(findings, state, e, want_for(&place), within)?;
-    Ok(Made::Done(assign(state, place, made)?))
+    Ok(assign(state, place, made)?)
+}
+
+// An assignment to a place of a value that begins with a read of it.
+#[cycle(translation)]
+fn updated(
+    findings: &Findings,
+    state: &mut TranslationState,
+    e: &Exp,
+    place: Storage,
+    within: Within,
+) -> Result<Ts, Memory>
+    ensures { IfOk result (λ s.
+        parts.updated_in (findings_of findings.now) (plain_place place) (plain e.now) within
+        (state_of state.old) ≡ drawn (plain_ts s) (state_of state.new)) }
+{
+    let held = hold_place(state, place)?;
+    let read = read_held(state.alloc, &held)?;
+    let place = place_held(state.alloc, held)?;
+    let made = behind_read(findings, state, e, read, want_for(&place), within)?;
+    Ok(assign(state, place, made)?)
+}
+
+// An expression that begins with a read whose value is known.
+#[cycle(translation)]
+fn behind_read(
+    findings: &Findings,
+    state: &mut TranslationState,
+    e: &Exp,
+    read: Tx,
+    want: Want,
+    within: Within,
+) -> Result<Made, Memory>
+    ensures { IfOk result (λ m.
+        translation.behind_read (findings_of findings.now) (plain e.now) (plain_tx read) want
+        within
+        (state_of state.old) ≡ drawn (plain_made m) (state_of state.new)) }
+{
+    match &e.kind {
+        Kind::Binary(op, at, a, b) => {
+            let left = behind_read(findings, state, a, read, left_want(*op), within)?;
+            Ok(with_left(findings, state, b, *op, *at, left, want, within)?)
+        }
+        _ => Ok(Made::Value(read)),
+    }
 }
 
 #[cycle(translation)]

@@ -9,6 +9,7 @@ mod creation;
 mod expressions;
 mod findings;
 mod functions;
+mod held;
 mod homes;
 mod loops;
 mod operands;
@@ -17,8 +18,10 @@ mod places;
 mod programs;
 mod purity;
 mod states;
+mod updates;
 mod wants;
 
+pub use held::HeldAddress;
 pub use homes::{Callee, Home, Within};
 pub use operands::Operand;
 pub use programs::translate;

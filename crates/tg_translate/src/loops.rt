@@ -4,12 +4,11 @@ ghost use Rattle.tg_tree.specs.Lists.{stms_of};
 ghost use Rattle.tg_translate.specs.States.{drawn, state_of};
 ghost use Rattle.tg_translate.specs.Constructs as constructs;
 
-use crate::constructs::equals;
 use crate::homes::Within;
-use crate::operands::{Operand, hold};
+use crate::operands::{Operand, hold, keep};
 use crate::places::{assign_value, own_place, read};
 use crate::states::{TranslationState, next};
-use crate::wants::push;
+use crate::wants::{nothing, push};
 use std::alloc::Global;
 use tg_base::{Memory, sub};
 use tg_frame::Access;
@@ -96,8 +95,13 @@ fn turn_of(alloc: Global, variable: Access, high: Operand, turn: Ts) -> Result<T
 {
     let next = binary(alloc, Bin::Add, read_home(alloc, variable)?, Tx::Const(1))?;
     let step = assign_home(alloc, variable, next)?;
-    let is_last = equals(alloc, read_home(alloc, variable)?, high.tree())?;
-    let stop = when(alloc, is_last, Ts::Break(0))?;
+    let is_not_last = compare(
+        alloc,
+        Rel::NotEqual,
+        read_home(alloc, variable)?,
+        high.tree(),
+    )?;
+    let stop = if_else(alloc, is_not_last, nothing(alloc), Ts::Break(0))?;
     Ok(sequence(vec![in alloc; step, turn, stop]?))
 }
 
@@ -115,7 +119,7 @@ pub(crate) fn count(
 {
     let mut done = Vec::new(state.alloc);
     let low = hold(state, false, &mut done, low)?;
-    let high = hold(state, false, &mut done, high)?;
+    let high = keep(state, &mut done, high)?;
     Ok(count_of(state.alloc, done, variable, low, high, turn)?)
 }
 

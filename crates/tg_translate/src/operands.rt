@@ -47,7 +47,12 @@ pub(crate) fn hold(
     }
 }
 
-fn keep(state: &mut TranslationState, before: &mut Vec<Ts>, value: Tx) -> Result<Operand, Memory>
+/// A value is kept in a temporary of its own.
+pub(crate) fn keep(
+    state: &mut TranslationState,
+    before: &mut Vec<Ts>,
+    value: Tx,
+) -> Result<Operand, Memory>
     ensures { IfOk result (λ o.
         constructs.keep (stms_of before.old.items) (plain_tx value) (state_of state.old) ≡
         drawn (record { before = stms_of before.new.items; operand = o }) (state_of state.new)) }

@@ -1,4 +1,5 @@
 ghost use Rattle.std.specs.Prelude.{◌≡◌, IfOk};
+ghost use Rattle.tg_syntax.specs.Plain.{plain};
 ghost use Rattle.tg_tree.specs.Plain.{plain_tx, plain_cond, plain_ts};
 ghost use Rattle.tg_tree.specs.Lists.{stms_of};
 ghost use Rattle.tg_translate.specs.States.{drawn, state_of};
@@ -7,6 +8,7 @@ ghost use Rattle.tg_translate.specs.Wants.{plain_made};
 ghost use Rattle.tg_translate.specs.Constructs as constructs;
 ghost use Rattle.tg_translate.specs.Scopes as scopes;
 ghost use Rattle.tg_translate.specs.Choices as choices;
+ghost use Rattle.tg_translate.specs.Translate as translation;
 
 use crate::constructs::{
     LEAST_INT, MINUS_ONE, call_with_two, product_check, quotient_check, zero_check,
@@ -17,7 +19,7 @@ use crate::wants::{Made, Want, as_statement, push, test_of, value_behind};
 use std::alloc::Global;
 use tg_base::{Memory, Temp, sub};
 use tg_runtime::Routine;
-use tg_syntax::Op;
+use tg_syntax::{Exp, Kind, Op};
 use tg_tree::{Bin, Cond, Rel, Ts, Tx, binary, both, compare, either, if_else};
 use tg_types::Means;
 
@@ -64,6 +66,24 @@ pub(crate) fn chosen(
             let other = as_statement(alloc, arms, right)?;
             Ok(if_else(alloc, left, this, other)?)
         }
+    }
+}
+
+/// Whether an expression is the number 0.
+fn is_zero(e: &Exp) -> bool
+    ensures { result ≡ translation.is_zero (plain e.now) }
+{
+    matches!(&e.kind, Kind::Int(0))
+}
+
+/// Whether a choice is one of two conditions, as `&` is: where a condition is wanted, and its
+/// second arm is 0.
+pub(crate) fn is_conjunction(want: Want, other: &Exp) -> bool
+    ensures { result ≡ translation.is_conjunction want (plain other.now) }
+{
+    match want {
+        Want::Test => is_zero(other),
+        _ => false,
     }
 }
 

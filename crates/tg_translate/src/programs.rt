@@ -2,8 +2,9 @@ ghost use Rattle.std.specs.Prelude.{◌≡◌, IfOk};
 ghost use Rattle.std.specs.FinSet.{from_list};
 ghost use Rattle.tg_syntax.specs.Plain.{plain};
 ghost use Rattle.tg_escape.specs.Links.{links_of};
-ghost use Rattle.tg_tree.specs.Plain.{plain_fragments};
-ghost use Rattle.tg_translate.specs.Scopes.{found};
+ghost use Rattle.tg_tree.specs.Plain.{plain_ts, plain_fragments};
+ghost use Rattle.tg_translate.specs.States.{drawn, state_of};
+ghost use Rattle.tg_translate.specs.Scopes.{found, findings_of};
 ghost use Rattle.tg_translate.specs.Translate as translation;
 
 use crate::expressions::expression;
@@ -15,7 +16,8 @@ use crate::wants::Want;
 use std::alloc::Global;
 use tg_base::{Label, Memory};
 use tg_escape::{Escapes, links};
-use tg_tree::Fragments;
+use tg_syntax::Exp;
+use tg_tree::{Fragments, Ts};
 use tg_types::Checked;
 
 /// The label of the program's body. Labels below it are the runtime's.
@@ -37,20 +39,31 @@ pub fn translate(alloc: Global, checked: &Checked, escapes: &Escapes) -> Result<
         escapes,
         links: &links,
     };
+    Ok(program(alloc, &findings, &checked.program.body)?)
+}
+
+/// The trees of a program, by what was found of it.
+fn program(alloc: Global, findings: &Findings, e: &Exp) -> Result<Fragments, Memory>
+    ensures { IfOk result (λ code. plain_fragments code ≡
+        translation.translated (findings_of findings.now) (plain e.now)) }
+{
     let frame = frame_of(alloc, Label(BODY), &[])?;
     let mut state = TranslationState::new(alloc, BODY + 1, frame);
+    let body = program_body(findings, &mut state, e)?;
+    Ok(state.finish(body)?)
+}
+
+/// The program's body, of which nothing is wanted.
+fn program_body(findings: &Findings, state: &mut TranslationState, e: &Exp) -> Result<Ts, Memory>
+    ensures { IfOk result (λ s.
+        translation.program_body (findings_of findings.now) (plain e.now) (state_of state.old) ≡
+        drawn (plain_ts s) (state_of state.new)) }
+{
     let outermost = Within {
         level: 0,
         link_in_slot: false,
         leave: 0,
     };
-    let made = expression(
-        &findings,
-        &mut state,
-        &checked.program.body,
-        Want::Dropped,
-        outermost,
-    )?;
-    let body = closing(&mut state, false, made)?;
-    Ok(state.finish(body)?)
+    let made = expression(findings, state, e, Want::Dropped, outermost)?;
+    Ok(closing(state, false, made)?)
 }

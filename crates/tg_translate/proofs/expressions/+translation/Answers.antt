@@ -1,18 +1,20 @@
 use Rattle.std.proofs.Common.{◌≡◌, ◌+◌, [], ◌∷◌, ◌++◌, length, drop, sym, ap, ◌∙◌, arith}
-use Rattle.tg_syntax.specs.Plain.{plain_kind, plain_exps}
+use Rattle.tg_syntax.specs.Plain.{plain, plain_kind, plain_place, plain_exps}
 use Rattle.tg_syntax.proofs.ListLaws.{plain_kind-Let}
 use Rattle.tg_tree.specs.Tree.{Const, no_txs, tx, no_stms}
 use Rattle.tg_tree.specs.Lists.{txs_of, stms_of, join_txs}
-use Rattle.tg_tree.specs.Plain.{plain_ts}
+use Rattle.tg_tree.specs.Plain.{plain_tx, plain_ts}
 use Rattle.tg_tree.proofs.ListLaws.{txs_of-push}
 use Rattle.tg_translate.specs.States.{drawn, after, give, state_of}
 use Rattle.tg_translate.specs.Wants.{value, plain_made, behind}
-use Rattle.tg_translate.specs.Constructs.{hold_next}
+use Rattle.tg_translate.specs.Constructs.{hold_next, plain_place as place_of}
 use Rattle.tg_translate.specs.Scopes.{findings_of}
 use Rattle.tg_syntax.specs.Lists.{exps_of}
-use Rattle.tg_translate.specs.Translate.{expression, sequence}
-use Rattle.tg_translate.specs.Parts.{sequence_in}
+use Rattle.tg_translate.specs.Translate.{expression, behind_read, sequence}
+use Rattle.tg_translate.specs.Updates.{begins_with}
+use Rattle.tg_translate.specs.Parts.{with_left_in, sequence_in}
 use Rattle.tg_translate.proofs.Steps.{step}
+use Rattle.tg_translate.proofs.Assigning.{assigned_by, updates, assigns}
 use Rattle.tg_translate.proofs.Walks.{
   in_turn,
   walk_on,
@@ -143,3 +145,38 @@ sequence-returns t c =
     (stms_of c.args.before.items) (stms_of c.loop-e.before.items) (state_of c.args.state.now) (state_of c.loop-e.state) (value (Const 0))
     c.loop-e.invariant.so_far (omega (arith, c.loop-e.auto.e-index-end, c.loop-e-test.false))))
     c.in_ok-behind-2.ensures
+
+pub expression-returns-in_ok-with_left-in-Binary : goal.expression-returns-in_ok-with_left-in-Binary
+expression-returns-in_ok-with_left-in-Binary t c =
+    ap (λ k. expression (findings_of c.args.findings.now) (plain_kind k c.args.e.now.span) c.args.want c.args.within (state_of c.args.state.now)) c.in-Binary.is
+    ∙ step (λ left. with_left_in (findings_of c.args.findings.now) c.in-Binary.op c.in-Binary.at left (plain c.in-Binary.b.value) c.args.want c.args.within)
+    (rw (c.deref-in-Binary.ensures, c.left_want.ensures) at c.in_ok-left-in-Binary.ensures)
+    (rw c.deref-in-Binary-2.ensures at c.in_ok-with_left-in-Binary.ensures)
+
+pub behind_read-returns-in_ok-with_left-in-Binary : goal.behind_read-returns-in_ok-with_left-in-Binary
+behind_read-returns-in_ok-with_left-in-Binary t c =
+    ap (λ k. behind_read (findings_of c.args.findings.now) (plain_kind k c.args.e.now.span) (plain_tx c.args.read) c.args.want c.args.within
+    (state_of c.args.state.now)) c.in-Binary.is
+    ∙ step (λ left. with_left_in (findings_of c.args.findings.now) c.in-Binary.op c.in-Binary.at left (plain c.in-Binary.b.value) c.args.want c.args.within)
+    (rw (c.deref.ensures, c.left_want.ensures) at c.in_ok-left-in-Binary.ensures)
+    (rw c.deref-in-Binary.ensures at c.in_ok-with_left-in-Binary.ensures)
+
+pub expression-returns-in_ok-updated-in-Assign : goal.expression-returns-in_ok-updated-in-Assign
+expression-returns-in_ok-updated-in-Assign t c =
+    ap (λ k. expression (findings_of c.args.findings.now) (plain_kind k c.args.e.now.span) c.args.want c.args.within (state_of c.args.state.now)) c.in-Assign.is
+    ∙ step (assigned_by (findings_of c.args.findings.now) (plain_place c.in-Assign.v) (plain c.in-Assign.a.value) c.args.within) c.in_ok-place-in-Assign.ensures
+    (updates (findings_of c.args.findings.now) (plain_place c.in-Assign.v) (plain c.in-Assign.a.value) c.args.within (place_of c.in_ok-place-in-Assign.place)
+    (state_of c.locate-in-Assign.new.state) (plain_ts c.in_ok-updated-in-Assign.field-0) (state_of c.updated.new.state)
+    (ap (λ e. begins_with (findings_of c.args.findings.now).meaning (plain e) (plain_place c.in-Assign.v)) (sym c.deref-in-Assign.ensures)
+    ∙ (sym c.begins_with.ensures ∙ c.if-begins_with.true))
+    (rw c.deref-then-begins_with.ensures at c.in_ok-updated-in-Assign.ensures))
+
+pub expression-returns-in_ok-assigned-in-Assign : goal.expression-returns-in_ok-assigned-in-Assign
+expression-returns-in_ok-assigned-in-Assign t c =
+    ap (λ k. expression (findings_of c.args.findings.now) (plain_kind k c.args.e.now.span) c.args.want c.args.within (state_of c.args.state.now)) c.in-Assign.is
+    ∙ step (assigned_by (findings_of c.args.findings.now) (plain_place c.in-Assign.v) (plain c.in-Assign.a.value) c.args.within) c.in_ok-place-in-Assign.ensures
+    (assigns (findings_of c.args.findings.now) (plain_place c.in-Assign.v) (plain c.in-Assign.a.value) c.args.within (place_of c.in_ok-place-in-Assign.place)
+    (state_of c.locate-in-Assign.new.state) (plain_ts c.in_ok-assigned-in-Assign.field-0) (state_of c.assigned.new.state)
+    (ap (λ e. begins_with (findings_of c.args.findings.now).meaning (plain e) (plain_place c.in-Assign.v)) (sym c.deref-in-Assign.ensures)
+    ∙ (sym c.begins_with.ensures ∙ c.if-begins_with.false))
+    (rw c.deref-else-begins_with.ensures at c.in_ok-assigned-in-Assign.ensures))

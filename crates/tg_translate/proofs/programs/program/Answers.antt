@@ -1,0 +1,13 @@
+use Rattle.std.proofs.Common.{◌≡◌, sym, ap, ◌∙◌}
+use Rattle.tg_syntax.specs.Plain.{plain}
+use Rattle.tg_translate.specs.Scopes.{findings_of}
+use Rattle.tg_translate.specs.Functions.{beginning, program}
+use Rattle.tg_translate.specs.Translate.{program_body}
+use Rattle.tg_translate.proofs.programs.program.Goals as goal
+
+pub returns : goal.returns
+returns c =
+    c.in_ok-finish.ensures
+    ∙ ap program (sym (
+    ap (program_body (findings_of c.args.findings.now) (plain c.args.e.now)) (sym (c.new-state.ensures ∙ ap (beginning 33) c.in_ok-frame.ensures))
+    ∙ c.in_ok-body.ensures))
