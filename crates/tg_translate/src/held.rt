@@ -16,7 +16,7 @@ use tg_tree::{Bin, Ts, Tx, binary, load};
 /// An address that is used twice, each time as a tree of its own: so many bytes behind or before
 /// the frame address or an operand, or an operand.
 #[derive(Clone, Copy)]
-pub(crate) enum HeldAddress {
+pub enum HeldAddress {
     InOwnFrame(Bin, u32),
     Beside(Operand, Bin, u32),
     At(Operand),

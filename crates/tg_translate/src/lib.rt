@@ -21,6 +21,7 @@ mod states;
 mod updates;
 mod wants;
 
+pub use held::HeldAddress;
 pub use homes::{Callee, Home, Within};
 pub use operands::Operand;
 pub use programs::translate;
