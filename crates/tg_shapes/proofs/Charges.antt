@@ -103,8 +103,8 @@ module _ (n : ℕ) where
       gives s (held_at one.before one.address) (g, held_address_near n one.address)
 
   -- an assignment draws two more than its value, read first or not
-  pub assignment_takes : {m : Cost} (reads_first : Bool) (p : Storage) (e : Want → Acts Made) (behind : Tx → Want → Acts Made) (s : TranslationState) → IsPlace n p →
-      ((w : Want) (t : TranslationState) → Takes m (IsMade n) t (e w t)) →
+  pub assignment_takes : {m : Cost} (reads_first : Bool) (p : Storage) (e : Want → Acts Made) (behind : Tx → Want → Acts Made) (s : TranslationState) →
+      IsPlace n p → ((w : Want) (t : TranslationState) → Takes m (IsMade n) t (e w t)) →
       (reads_first ≡ true → (x : Tx) (w : Want) (t : TranslationState) → IsTx n x → Takes m (IsMade n) t (behind x w t)) →
       Takes (record m { temps = 1 + (m.temps + 1) }) (IsTs n) s (assignment reads_first p e behind s)
   assignment_takes true p e behind s h f g =
@@ -217,7 +217,8 @@ module _ (n : ℕ) where
 
   -- A choice draws one more than its arms; where the other arm is 0, that one takes nothing.
 
-  arm_takes : {m : Cost} {s : TranslationState} {d : Drawn Made} (w : Want) → Takes m (IsMade n) s d → Takes m (IsTs n) s (after d (λ x. give (as_statement w x)))
+  arm_takes : {m : Cost} {s : TranslationState} {d : Drawn Made} (w : Want) → Takes m (IsMade n) s d →
+      Takes m (IsTs n) s (after d (λ x. give (as_statement w x)))
   arm_takes w h = then_quiet h λ x s k. gives s (as_statement w x) (statement_near n w x k)
 
   module _ {m k : Cost} (this other : Want → Acts Made) (f : (w : Want) (t : TranslationState) → Takes m (IsMade n) t (this w t))
