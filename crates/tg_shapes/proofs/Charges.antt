@@ -195,11 +195,11 @@ module _ (n : ℕ) where
         gives s (deliver w a (chosen o a c x)) (deliver_near n w a (chosen o a c x) (chosen_near n o a c x h k))
 
     connective_takes : (o : Op) (w : Want) (c : Cond) (s : TranslationState) → IsCond n c →
-        Takes (record m { temps = m.temps + 5 }) (IsMade n) s (connective o w c right s)
+        Takes (record m { temps = 1 + m.temps }) (IsMade n) s (connective o w c right s)
     connective_takes o want.Test c s h = more (omega arith) (then_quiet (f want.Test s) λ x s k. gives s (tested o c x) (tested_near n o c x h k))
-    connective_takes o want.Value c s h = more (omega arith) (into_takes o want.Value c s h)
-    connective_takes o (want.Into t) c s h = more (omega arith) (into_takes o (want.Into t) c s h)
-    connective_takes o want.Dropped c s h = more (omega arith) (into_takes o want.Dropped c s h)
+    connective_takes o want.Value c s h = into_takes o want.Value c s h
+    connective_takes o (want.Into t) c s h = into_takes o (want.Into t) c s h
+    connective_takes o want.Dropped c s h = into_takes o want.Dropped c s h
 
     operator_takes : (o : Op) (of_strings direct : Bool) (l : Made) (s : TranslationState) → IsMade n l →
         Takes (record m { temps = m.temps + 5 }) (IsMade n) s
@@ -211,11 +211,11 @@ module _ (n : ℕ) where
 
     pub left_takes : (o : Op) (meaning : Option Means) (direct : Bool) (w : Want) (l : Made) (s : TranslationState) → IsMade n l →
         Takes (record m { temps = m.temps + 5 }) (IsMade n) s (with_left o meaning direct w l right s)
-    left_takes op.And meaning direct w l s h = connective_takes op.And w (test_of l) s (test_near n l h)
-    left_takes op.Or meaning direct w l s h = connective_takes op.Or w (test_of l) s (test_near n l h)
+    left_takes op.And meaning direct w l s h = more (omega arith) (connective_takes op.And w (test_of l) s (test_near n l h))
+    left_takes op.Or meaning direct w l s h = more (omega arith) (connective_takes op.Or w (test_of l) s (test_near n l h))
     left_takes o meaning direct w l s h = operator_takes o (compares_strings meaning) direct l s h
 
-  -- A choice draws one more than its arms; where the other arm is 0, that one takes nothing.
+  -- A choice draws one more than its arms; where it is a conjunction, the other arm takes nothing.
 
   arm_takes : {m : Cost} {s : TranslationState} {d : Drawn Made} (w : Want) → Takes m (IsMade n) s d →
       Takes m (IsTs n) s (after d (λ x. give (as_statement w x)))
@@ -229,11 +229,10 @@ module _ (n : ℕ) where
         draws_then (arms_takes w s) λ v s _. both (arm_takes v (f v s)) λ x s i. then_quiet (arm_takes v (g v s)) λ y s j.
         gives s (deliver w v (tree.If c x y)) (deliver_near n w v (tree.If c x y) (h, i, j))
 
-    pub choice_takes : (or_zero : Bool) (w : Want) (c : Cond) (s : TranslationState) → (or_zero ≡ true → k ≡ draws 0) → IsCond n c →
-        Takes (record (and m k) { temps = 1 + (m.temps + k.temps) }) (IsMade n) s (choice or_zero w c this other s)
-    choice_takes true want.Test c s none h =
-        subst (λ l. Takes (record (and m l) { temps = 1 + (m.temps + l.temps) }) (IsMade n) s (choice true want.Test c this other s)) (sym (none refl))
-        (at_most m (record (and m (draws 0)) { temps = 1 + (m.temps + 0) }) (omega arith) (omega arith)
-        (sym (append-nil m.texts)) (sym (append-nil m.counts)) (sym (append-nil m.functions))
-        (then_quiet (f want.Test s) λ x s i. gives s (tested op.And c x) (tested_near n op.And c x h i)))
-    choice_takes or_zero w c s none h = arms_take w c s h
+    pub choice_takes : (conjunction : Bool) (w : Want) (c : Cond) (s : TranslationState) → (conjunction ≡ true → k ≡ draws 0) → IsCond n c →
+        Takes (record (and m k) { temps = 1 + (m.temps + k.temps) }) (IsMade n) s (choice conjunction w c this other s)
+    choice_takes true w c s none h =
+        subst (λ l. Takes (record (and m l) { temps = 1 + (m.temps + l.temps) }) (IsMade n) s (connective op.And w c this s)) (sym (none refl))
+        (at_most (record m { temps = 1 + m.temps }) (record (and m (draws 0)) { temps = 1 + (m.temps + 0) }) (omega arith) (omega arith)
+        (sym (append-nil m.texts)) (sym (append-nil m.counts)) (sym (append-nil m.functions)) (connective_takes this f op.And w c s h))
+    choice_takes false w c s none h = arms_take w c s h

@@ -25,7 +25,7 @@ use Rattle.tg_translate.specs.Scopes.{Findings, field_number}
 use Rattle.tg_translate.specs.Purity.{assigns_nothing, inits_assign_nothing}
 use Rattle.tg_translate.specs.Updates.{begins_with}
 use Rattle.tg_translate.specs.Functions.{at_of, asked, begun, inside, result_want, outermost, beginning, frame_for, program}
-use Rattle.tg_translate.specs.Translate.{Begun, is_zero, expression, behind_read, locate, values, fields, sequence, declarations, bodies, program_body, translated}
+use Rattle.tg_translate.specs.Translate.{Begun, is_zero, is_conjunction, expression, behind_read, locate, values, fields, sequence, declarations, bodies, program_body, translated}
 use Rattle.tg_shapes.specs.Accesses.{AccessesWithin}
 use Rattle.tg_shapes.specs.Escaped.{one_of, params_escaping, escaping, place_escaping, exps_escaping, inits_escaping, decs_escaping, escaping_inside, place_escaping_inside, exps_escaping_inside, inits_escaping_inside, decs_escaping_inside, functions_escaping, program_escaping}
 use Rattle.tg_shapes.specs.Strings.{strings, place_strings, exps_strings, inits_strings, decs_strings, bodies_strings}
@@ -273,6 +273,10 @@ module _ (findings : Findings) where
   zero_takes_nothing n seen (Int _ ℕ.zero) i = refl
   zero_takes_nothing n seen e i = cc
 
+  conjunction_takes_nothing : (n : ℕ) (seen : Levels) (w : Want) (e : Exp) → is_conjunction w e ≡ true → of_exp n seen e ≡ draws 0
+  conjunction_takes_nothing n seen want.Test e i = zero_takes_nothing n seen e i
+  conjunction_takes_nothing n seen w e i = cc
+
   abbrev IsBegun : ℕ → Begun → Type 0
   IsBegun n b = AreStms n b.before × IsMade n b.last
 
@@ -304,7 +308,7 @@ module _ (findings : Findings) where
     walk (If _ d x y) w c n seen s l =
         both (of_test n (walk d want.Test c n seen s l)) λ a s h.
         choice_takes n (λ v. expression findings x v c) (λ v. expression findings y v c) (λ v t. walk x v c n seen t l) (λ v t. walk y v c n seen t l)
-        (is_zero y) w a s (zero_takes_nothing n seen y) h
+        (is_conjunction w y) w a s (conjunction_takes_nothing n seen w y) h
     walk (When _ d x) w c n seen s l =
         both (of_test n (walk d want.Test c n seen s l)) λ a s h. then_quiet (of_statement n (walk x want.Dropped c n seen s l)) λ y s k.
         gives s (done (tree.If a y nothing)) (h, k, tt)

@@ -30,7 +30,7 @@ use Rattle.tg_translate.specs.Scopes.{Findings, no_value, nowhere, home_place, v
 use Rattle.tg_translate.specs.Purity.{assigns_nothing, inits_assign_nothing}
 use Rattle.tg_translate.specs.Updates.{begins_with}
 use Rattle.tg_translate.specs.Functions.{at_of, gives_nothing, closing, declare_functions}
-use Rattle.tg_translate.specs.Translate.{connective, with_left, chosen_arm, choice, is_zero, assignment, declaration_of, Begun, expression, behind_read, locate, values, fields, sequence, declarations, bodies}
+use Rattle.tg_translate.specs.Translate.{connective, with_left, chosen_arm, choice, is_conjunction, assignment, declaration_of, Begun, expression, behind_read, locate, values, fields, sequence, declarations, bodies}
 use Rattle.tg_translate.specs.Constructs as constructs
 use Rattle.tg_shapes.specs.Depths.{tx_depth, txs_depth, cond_depth, ts_depth, stms_depth}
 use Rattle.tg_shapes.proofs.Actions.{answer}
@@ -406,10 +406,10 @@ module _ (n m k : ℕ) (this other : Want → Acts Made) (f : (w : Want) (t : Tr
       given s (deliver w v (tree.If c p q))
       (let l = deliver_size w v (tree.If c p q) in (omega (arith, h.0, i.0, j.0, l.0), omega (arith, h.1, i.1, j.1, l.1), omega (arith, h.2, i.2, j.2, l.2)))
 
-  choice_paid : (or_zero : Bool) (w : Want) (c : Cond) (s : TranslationState) → PaidCond n c → Gives (Paid (1 + n + m + k)) (choice or_zero w c this other s)
-  choice_paid true want.Test c s h =
-      weaken (connective_paid n m this f op.And want.Test c s h) λ x i. (omega (arith, i.0), omega (arith, i.1), omega (arith, i.2))
-  choice_paid or_zero w c s h = arms_paid w c s h
+  choice_paid : (conjunction : Bool) (w : Want) (c : Cond) (s : TranslationState) → PaidCond n c →
+      Gives (Paid (1 + n + m + k)) (choice conjunction w c this other s)
+  choice_paid true w c s h = weaken (connective_paid n m this f op.And w c s h) λ x i. (omega (arith, i.0), omega (arith, i.1), omega (arith, i.2))
+  choice_paid false w c s h = arms_paid w c s h
 
 paid_read : (n : ℕ) (p : Storage) → PaidPlace n p → PaidRead n (read p)
 paid_read n p h = let k = read_size p in (omega (arith, h.0, k.0), omega (arith, h.1, k.1), omega (arith, h.2, k.2))
@@ -465,7 +465,7 @@ module _ (findings : Findings) where
     walk (If _ d x y) w c s l =
         bind (of_test _ (walk d want.Test c s l)) λ a s h.
         choice_paid (size d) (size x) (size y) (λ v. expression findings x v c) (λ v. expression findings y v c) (λ v t. walk x v c t l)
-        (λ v t. walk y v c t l) (is_zero y) w a s h
+        (λ v t. walk y v c t l) (is_conjunction w y) w a s h
     walk (When _ d x) w c s l =
         bind (of_test _ (walk d want.Test c s l)) λ a s h. bind (of_statement _ (walk x want.Dropped c s l)) λ y s k.
         given s (done (tree.If a y nothing)) (omega (arith, h.0, k.0), omega (arith, h.1, k.1), omega (arith, h.2, k.2))

@@ -20,7 +20,7 @@ use Rattle.tg_translate.specs.Scopes.{field_number, compares_strings}
 use Rattle.tg_translate.specs.Purity.{assigns_nothing, inits_assign_nothing}
 use Rattle.tg_translate.specs.Updates.{begins_with}
 use Rattle.tg_translate.specs.Functions.{at_of, declare_functions, body}
-use Rattle.tg_translate.specs.Translate.{connective, with_left, chosen_arm, choice, is_zero, assignment, Begun, declaration_of, expression, behind_read, locate, values, fields, sequence, declarations, bodies}
+use Rattle.tg_translate.specs.Translate.{connective, with_left, chosen_arm, choice, is_conjunction, assignment, Begun, declaration_of, expression, behind_read, locate, values, fields, sequence, declarations, bodies}
 use Rattle.tg_shapes.specs.Standing.{BreaksStand, BreaksStandPlace, BreaksStandExps, BreaksStandInits, BreaksStandDecs, BreaksStandBodies, owned_by, AreApart, Reaches, ReachesPlace, ReachesExps, ReachesInits, ReachesDecs, ReachesBodies}
 use Rattle.tg_shapes.proofs.Fine.{join_fine_txs}
 use Rattle.tg_shapes.proofs.Keeping.{Asks, Where, access_on, bind, cond_on, given, held_on, onward, place_on, stay, stms_on, ts_on, tx_on, txs_on, want_on, Ready, Step, Yields, GoodWant, GoodCond, GoodHeld, GoodMade, GoodPlace, GoodStms, GoodTs, GoodTx, GoodTxs, KnowsAt}
@@ -154,10 +154,10 @@ module _ (asks : Asks) where
           i,
         )))))
 
-    choice_yields : (or_zero : Bool) (w : Want) (d : Cond) → Ready asks c s → GoodWant asks s w → IsCondition c s d →
-        Yields asks c s (IsMade c) (choice or_zero w d this other s)
-    choice_yields true want.Test d r g h = connective_yields c s this then_this And want.Test d r g h
-    choice_yields or_zero w d r g h = chosen_yields w d r g h
+    choice_yields : (conjunction : Bool) (w : Want) (d : Cond) → Ready asks c s → GoodWant asks s w → IsCondition c s d →
+        Yields asks c s (IsMade c) (choice conjunction w d this other s)
+    choice_yields true w d r g h = connective_yields c s this then_this And w d r g h
+    choice_yields false w d r g h = chosen_yields w d r g h
 
   -- an assignment, where its value is translated to what is fine, also behind a read that is fine
   assignment_yields : (c : Where) (s : TranslationState) (reads_first : Bool) (p : Storage) (e : Want → Acts Made) (behind : Tx → Want → Acts Made) →
@@ -266,7 +266,7 @@ module _ (asks : Asks) where
         (λ v. expression asks.findings y v c.within)
         (λ u v su ru gu. walk x c u (λ a. (b a).1) (λ a. (q a).1) v ru gu)
         (λ u v su ru gu. walk y c u (λ a. (b a).2) (λ a. (q a).2) v ru gu)
-        (is_zero y) w d rt (want_on st w g) k)
+        (is_conjunction w y) w d rt (want_on st w g) k)
     walk (When _ d x) c s b q w r g =
         bind (wanting.condition_from_yields
         (walk d c s (λ a. (b a).0) (λ a. (q a).0) want.Test r tt))
