@@ -1,5 +1,5 @@
 -- What each construct takes, of parts that go so far.
-use Rattle.std.proofs.Common.{◌≤◌, ◌+◌, ℕ, Bool, true, false, Option, Some, None, List, [], ◌∷◌, ◌++◌, refl, arith}
+use Rattle.std.proofs.Common.{◌≡◌, ◌≤◌, ◌+◌, ℕ, suc, Bool, true, false, Option, Some, None, List, [], ◌∷◌, ◌++◌, refl, sym, subst, append-nil, arith}
 use Rattle.std.specs.Prelude.{◌==◌, ◌||◌, if◌then◌else◌}
 use Rattle.std.proofs.lemmas.List.{map-append}
 use Rattle.tg_frame.specs.declared.accesses.Access.{Access}
@@ -10,22 +10,26 @@ use Rattle.tg_syntax.specs.Tree.{FunDecs, no_functions, function}
 use Rattle.tg_types.specs.declared.notes.Means.{Means}
 use Rattle.tg_types.specs.declared.notes.Means.TheVariants as means
 use Rattle.tg_tree.specs.declared.operators.Bin.TheVariants as bin
-use Rattle.tg_tree.specs.Tree.{Tx, Const, Temp, Binary, After, Txs, Cond, Ts, Move, Return, Stms, no_stms, stm}
+use Rattle.tg_tree.specs.Tree as tree
+use Rattle.tg_tree.specs.Tree.{Tx, Const, Temp, FrameAddress, Binary, After, Txs, Cond, Ts, Move, Return, Stms, no_stms, stm}
 use Rattle.tg_translate.specs.declared.homes.Within.{Within}
+use Rattle.tg_translate.specs.declared.operands.Operand.{Operand}
 use Rattle.tg_translate.specs.declared.operands.Operand.TheVariants.{Number, Kept}
+use Rattle.tg_translate.specs.declared.held.HeldAddress.{HeldAddress}
+use Rattle.tg_translate.specs.declared.held.HeldAddress.TheVariants.{InOwnFrame, Beside, At}
 use Rattle.tg_translate.specs.declared.wants.Want.{Want}
 use Rattle.tg_translate.specs.declared.wants.Want.TheVariants as want
-use Rattle.tg_translate.specs.States.{TranslationState, Acts, after, give}
-use Rattle.tg_translate.specs.Wants.{Made, value, done, test, truth_into, value_of, put_in, dropped, test_of, arms, deliver, followed, value_behind, done_behind, behind_some, behind}
-use Rattle.tg_translate.specs.Constructs.{Storage, in_temp, at_address, operand, keep, hold, HeldAll, hold_next, own_place, store_at, want_for, assign, field_of, field_place, element_of, element_place, call_routine, record_of, make_record, product_of, quotient_of, checked_quotient, minus_one, quotient, comparison, operation, count_of, count, string_text}
+use Rattle.tg_translate.specs.States.{TranslationState, Drawn, Acts, after, give}
+use Rattle.tg_translate.specs.Wants.{Made, value, done, test, truth_into, value_of, put_in, dropped, test_of, arms, as_statement, deliver, followed, value_behind, done_behind, behind_some, behind}
+use Rattle.tg_translate.specs.Constructs.{Storage, in_temp, at_address, operand, keep, hold, HeldAll, hold_next, own_place, store_at, want_for, assign, hold_base, hold_address, held_in_temp, held_at, hold_place, read_held, place_held, field_of, field_place, element_of, element_place, call_routine, record_of, make_record, product_of, quotient_of, checked_quotient, minus_one, quotient, comparison, operation, count_of, count, string_text}
 use Rattle.tg_translate.specs.Choices.{tested, chosen}
 use Rattle.tg_translate.specs.Scopes.{no_value, nowhere, home_place, variable_place, compares_strings, routine_of, call_declared, call, literal, declare_variable}
 use Rattle.tg_translate.specs.Functions.{at_of, declare_functions, gives_nothing, closing}
-use Rattle.tg_translate.specs.Translate.{connective, with_left, declaration_of}
+use Rattle.tg_translate.specs.Translate.{connective, with_left, chosen_arm, choice, assignment, declaration_of}
 use Rattle.tg_shapes.specs.Escaped.{one_of}
-use Rattle.tg_shapes.proofs.Near.{IsTx, AreTxs, IsCond, IsTs, AreStms, IsMade, IsPlace, followed_near, truth_near, put_near, dropped_near, test_near, deliver_near, tested_near, chosen_near, own_place_near, home_near, store_near, field_near, element_near, record_near, product_near, quotient_near, comparison_near, count_near, declared_near}
+use Rattle.tg_shapes.proofs.Near.{IsTx, AreTxs, IsCond, IsTs, AreStms, IsMade, IsPlace, followed_near, truth_near, put_near, dropped_near, test_near, statement_near, deliver_near, tested_near, chosen_near, own_place_near, home_near, store_near, held_address_near, read_held_near, wider_tx, field_near, element_near, record_near, product_near, quotient_near, comparison_near, count_near, declared_near}
 use Rattle.tg_shapes.proofs.Actions.{left}
-use Rattle.tg_shapes.proofs.Taking.{Cost, draws, adds, Takes, adds_none, both, more, then_draws, then_quiet, draws_then, quiet_then, keeps, gives, draws_one}
+use Rattle.tg_shapes.proofs.Taking.{Cost, and, draws, adds, Takes, adds_none, both, at_most, more, then_draws, then_quiet, draws_then, quiet_then, keeps, gives, draws_one}
 
 pub arms_takes : (w : Want) (s : TranslationState) → Takes (draws 1) (λ a. Unit {0}) s (arms w s)
 arms_takes want.Value s = then_quiet (draws_one s) λ t s _. gives s (want.Into (record { 0 = t })) tt
@@ -82,6 +86,32 @@ module _ (n : ℕ) where
   assign_takes (in_temp t) m s h k = more (omega arith) (gives s (put_in t m) (put_near n t m k))
   assign_takes (at_address ss a) m s h k = then_quiet (values_takes m s k) λ x s g. gives s (store_at ss a x) (store_near n ss a x h.0 h.1 g)
 
+  base_takes : (ss : Stms) (x : Tx) (address : Operand → HeldAddress) (s : TranslationState) → AreStms n ss → IsTx n x →
+      Takes (draws 1) (λ h. AreStms n h.before) s (hold_base ss x address s)
+  base_takes ss x address s h k =
+      then_quiet (hold_takes true ss x s h k) λ one s g. gives s (record { before = one.before; address = address one.operand }) g
+
+  hold_address_takes : (ss : Stms) (a : Tx) (s : TranslationState) → AreStms n ss → IsTx n a → Takes (draws 1) (λ h. AreStms n h.before) s (hold_address ss a s)
+  hold_address_takes ss (Binary o FrameAddress (Const k)) s h g = more (omega arith) (gives s (record { before = ss; address = InOwnFrame o k }) h)
+  hold_address_takes ss (Binary o x (Const k)) s h g = base_takes ss x (λ p. Beside p o k) s h g.0
+  hold_address_takes ss a s h g = base_takes ss a (λ p. At p) s h g
+
+  hold_place_takes : (p : Storage) (s : TranslationState) → IsPlace n p → Takes (draws 1) (λ q. IsPlace n (place_held q)) s (hold_place p s)
+  hold_place_takes (in_temp t) s h = more (omega arith) (gives s (held_in_temp t) tt)
+  hold_place_takes (at_address ss a) s h =
+      then_quiet (hold_address_takes ss a s h.0 (wider_tx n (suc n) a (omega arith) h.1)) λ one s g.
+      gives s (held_at one.before one.address) (g, held_address_near n one.address)
+
+  -- an assignment draws two more than its value, read first or not
+  pub assignment_takes : {m : Cost} (reads_first : Bool) (p : Storage) (e : Want → Acts Made) (behind : Tx → Want → Acts Made) (s : TranslationState) →
+      IsPlace n p → ((w : Want) (t : TranslationState) → Takes m (IsMade n) t (e w t)) →
+      (reads_first ≡ true → (x : Tx) (w : Want) (t : TranslationState) → IsTx n x → Takes m (IsMade n) t (behind x w t)) →
+      Takes (record m { temps = 1 + (m.temps + 1) }) (IsTs n) s (assignment reads_first p e behind s)
+  assignment_takes true p e behind s h f g =
+      draws_then (hold_place_takes p s h) λ q s k. then_draws (g refl (read_held q) (want_for (place_held q)) s (read_held_near n q k)) λ m s j.
+      assign_takes (place_held q) m s k j
+  assignment_takes false p e behind s h f g = more (omega arith) (then_draws (f (want_for p) s) λ m s k. assign_takes p m s h k)
+
   pub field_takes : (k : ℕ) (x : Tx) (s : TranslationState) → IsTx n x → Takes (draws 1) (IsPlace n) s (field_place k x s)
   field_takes k x s h =
       then_quiet (hold_takes true no_stms x s tt h) λ r s g. gives s (field_of k r.before (operand r.operand)) (field_near n k r.before r.operand g)
@@ -117,7 +147,7 @@ module _ (n : ℕ) where
 
   pub count_takes : (i : Access) (x y : Tx) (turn : Ts) (s : TranslationState) → IsTx n x → IsTx n y → IsTs n turn → Takes (draws 2) (IsTs n) s (count i x y turn s)
   count_takes i x y turn s h k f =
-      draws_then (hold_takes false no_stms x s tt h) λ l s g. then_quiet (hold_takes false l.before y s g k) λ r s j.
+      draws_then (hold_takes false no_stms x s tt h) λ l s g. then_quiet (keep_takes l.before y s g k) λ r s j.
       gives s (count_of r.before i l.operand r.operand turn) (count_near n r.before i l.operand r.operand turn j f)
 
   pub record_takes : (all : HeldAll) (s : TranslationState) → AreStms n all.before → Takes (draws 1) (IsMade n) s (make_record all s)
@@ -165,11 +195,11 @@ module _ (n : ℕ) where
         gives s (deliver w a (chosen o a c x)) (deliver_near n w a (chosen o a c x) (chosen_near n o a c x h k))
 
     connective_takes : (o : Op) (w : Want) (c : Cond) (s : TranslationState) → IsCond n c →
-        Takes (record m { temps = m.temps + 5 }) (IsMade n) s (connective o w c right s)
+        Takes (record m { temps = 1 + m.temps }) (IsMade n) s (connective o w c right s)
     connective_takes o want.Test c s h = more (omega arith) (then_quiet (f want.Test s) λ x s k. gives s (tested o c x) (tested_near n o c x h k))
-    connective_takes o want.Value c s h = more (omega arith) (into_takes o want.Value c s h)
-    connective_takes o (want.Into t) c s h = more (omega arith) (into_takes o (want.Into t) c s h)
-    connective_takes o want.Dropped c s h = more (omega arith) (into_takes o want.Dropped c s h)
+    connective_takes o want.Value c s h = into_takes o want.Value c s h
+    connective_takes o (want.Into t) c s h = into_takes o (want.Into t) c s h
+    connective_takes o want.Dropped c s h = into_takes o want.Dropped c s h
 
     operator_takes : (o : Op) (of_strings direct : Bool) (l : Made) (s : TranslationState) → IsMade n l →
         Takes (record m { temps = m.temps + 5 }) (IsMade n) s
@@ -181,6 +211,28 @@ module _ (n : ℕ) where
 
     pub left_takes : (o : Op) (meaning : Option Means) (direct : Bool) (w : Want) (l : Made) (s : TranslationState) → IsMade n l →
         Takes (record m { temps = m.temps + 5 }) (IsMade n) s (with_left o meaning direct w l right s)
-    left_takes op.And meaning direct w l s h = connective_takes op.And w (test_of l) s (test_near n l h)
-    left_takes op.Or meaning direct w l s h = connective_takes op.Or w (test_of l) s (test_near n l h)
+    left_takes op.And meaning direct w l s h = more (omega arith) (connective_takes op.And w (test_of l) s (test_near n l h))
+    left_takes op.Or meaning direct w l s h = more (omega arith) (connective_takes op.Or w (test_of l) s (test_near n l h))
     left_takes o meaning direct w l s h = operator_takes o (compares_strings meaning) direct l s h
+
+  -- A choice draws one more than its arms; where it is a conjunction, the other arm takes nothing.
+
+  arm_takes : {m : Cost} {s : TranslationState} {d : Drawn Made} (w : Want) → Takes m (IsMade n) s d →
+      Takes m (IsTs n) s (after d (λ x. give (as_statement w x)))
+  arm_takes w h = then_quiet h λ x s k. gives s (as_statement w x) (statement_near n w x k)
+
+  module _ {m k : Cost} (this other : Want → Acts Made) (f : (w : Want) (t : TranslationState) → Takes m (IsMade n) t (this w t))
+      (g : (w : Want) (t : TranslationState) → Takes k (IsMade n) t (other w t)) where
+    arms_take : (w : Want) (c : Cond) (s : TranslationState) → IsCond n c →
+        Takes (record (and m k) { temps = 1 + (m.temps + k.temps) }) (IsMade n) s (chosen_arm w c this other s)
+    arms_take w c s h =
+        draws_then (arms_takes w s) λ v s _. both (arm_takes v (f v s)) λ x s i. then_quiet (arm_takes v (g v s)) λ y s j.
+        gives s (deliver w v (tree.If c x y)) (deliver_near n w v (tree.If c x y) (h, i, j))
+
+    pub choice_takes : (conjunction : Bool) (w : Want) (c : Cond) (s : TranslationState) → (conjunction ≡ true → k ≡ draws 0) → IsCond n c →
+        Takes (record (and m k) { temps = 1 + (m.temps + k.temps) }) (IsMade n) s (choice conjunction w c this other s)
+    choice_takes true w c s none h =
+        subst (λ l. Takes (record (and m l) { temps = 1 + (m.temps + l.temps) }) (IsMade n) s (connective op.And w c this s)) (sym (none refl))
+        (at_most (record m { temps = 1 + m.temps }) (record (and m (draws 0)) { temps = 1 + (m.temps + 0) }) (omega arith) (omega arith)
+        (sym (append-nil m.texts)) (sym (append-nil m.counts)) (sym (append-nil m.functions)) (connective_takes this f op.And w c s h))
+    choice_takes false w c s none h = arms_take w c s h

@@ -16,9 +16,11 @@ use Rattle.tg_runtime.specs.declared.routines.Routine.{Routine}
 use Rattle.tg_runtime.specs.declared.routines.Routine.TheVariants as routine
 use Rattle.tg_translate.specs.declared.operands.Operand.{Operand}
 use Rattle.tg_translate.specs.declared.operands.Operand.TheVariants.{Number, Kept}
+use Rattle.tg_translate.specs.declared.held.HeldAddress.{HeldAddress}
+use Rattle.tg_translate.specs.declared.held.HeldAddress.TheVariants.{InOwnFrame, Beside, At}
 use Rattle.tg_translate.specs.States.{TranslationState, Acts, after, give, fresh}
 use Rattle.tg_translate.specs.Wants.{Made, value, test, put_in, followed}
-use Rattle.tg_translate.specs.Constructs.{minus_one, least_int, plus, operand, Held, keep, hold, HeldAll, hold_next, own_link, frame_out, Storage, in_temp, at_address, place_in, own_place, after_all, read, store_at, want_for, assign, nil_check, index_check, zero_check, product_check, quotient_check, field_of, field_place, element_of, element_place, call_routine, store_field, store_fields, call_for_record, record_of, make_record, make_array, comparison, product_of, product, quotient_of, checked_quotient, quotient, operation, negation, repeat_while, first_minus_one, assign_value, turn_of, turns, count_of, count}
+use Rattle.tg_translate.specs.Constructs.{minus_one, least_int, plus, operand, Held, keep, hold, HeldAll, hold_next, own_link, frame_out, Storage, in_temp, at_address, place_in, own_place, after_all, read, store_at, want_for, assign, held_address, hold_base, hold_address, HeldPlace, held_in_temp, held_at, hold_place, read_held, place_held, nil_check, index_check, zero_check, product_check, quotient_check, field_of, field_place, element_of, element_place, call_routine, store_field, store_fields, call_for_record, record_of, make_record, make_array, comparison, product_of, product, quotient_of, checked_quotient, quotient, operation, negation, repeat_while, first_minus_one, assign_value, turn_of, turns, count_of, count}
 use Rattle.tg_shapes.proofs.Keeping.{Asks, Where, access_on, bind, draws_temp, given, held_on, onward, operand_on, operands_on, stms_on, ts_on, tx_on, Ready, Yields, GoodTx, GoodTxs, GoodTs, GoodStms, GoodCond, GoodMade, GoodPlace, GoodOperand, GoodOperands, GoodHeld, GoodWant, GoodAccess, KnowsAt}
 use Rattle.tg_shapes.proofs.Wanting as wanting
 
@@ -68,6 +70,10 @@ module _ (asks : Asks) where
     pub want_for_good : (p : Storage) → GoodPlace asks n s p → GoodWant asks s (want_for p)
     want_for_good (in_temp t) h = h
     want_for_good (at_address before a) h = tt
+
+    pub read_held_good : (q : HeldPlace) → GoodPlace asks n s (place_held q) → GoodTx asks n s (read_held q)
+    read_held_good (held_in_temp t) h = h
+    read_held_good (held_at before a) h = h.1
 
     nil_good : (x : Tx) → GoodTx asks n s x → GoodTs asks n s (nil_check x)
     nil_good x h = ((h, tt), omega arith, tt)
@@ -190,8 +196,8 @@ module _ (asks : Asks) where
       (
         (
           (read_good (n + 1) s (own_place i) (own_place_good (n + 1) s i h), operand_good (n + 1) s high j),
-          (λ b. omega arith),
           tt,
+          (λ b. omega arith),
         ),
         tt,
       ),
@@ -265,6 +271,31 @@ module _ {asks : Asks} {c : Where} where
       (λ x t st r' j. given (store_at before a x) r'
       (store_good asks c.loops t before a x (stms_on st c.loops before h.0)
       (tx_on st c.loops a h.1) j))
+
+  base_yields : {s : TranslationState} (before : Stms) (x : Tx) (address : Operand → HeldAddress) →
+      ((t : TranslationState) (o : Operand) → GoodOperand asks t o → GoodTx asks c.loops t (held_address (address o))) →
+      Ready asks c s → GoodStms asks c.loops s before → GoodTx asks c.loops s x →
+      Yields asks c s (λ t h. GoodPlace asks c.loops t (at_address h.before (held_address h.address))) (hold_base before x address s)
+  base_yields before x address good r h k =
+      bind (hold_yields true before x r h k)
+      (λ one t st r' j. given (record { before = one.before; address = address one.operand }) r'
+      (j.0, good t one.operand j.1))
+
+  hold_address_yields : {s : TranslationState} (before : Stms) (a : Tx) → Ready asks c s → GoodStms asks c.loops s before →
+      GoodTx asks c.loops s a →
+      Yields asks c s (λ t h. GoodPlace asks c.loops t (at_address h.before (held_address h.address))) (hold_address before a s)
+  hold_address_yields before (Binary o FrameAddress (Const k)) r h g =
+      given (record { before = before; address = InOwnFrame o k }) r (h, g)
+  hold_address_yields before (Binary o x (Const k)) r h g =
+      base_yields before x (λ p. Beside p o k) (λ t p i. (operand_good asks c.loops t p i, tt)) r h g.0
+  hold_address_yields before a r h g = base_yields before a (λ p. At p) (λ t p i. operand_good asks c.loops t p i) r h g
+
+  pub hold_place_yields : {s : TranslationState} (p : Storage) → Ready asks c s → GoodPlace asks c.loops s p →
+      Yields asks c s (λ t q. GoodPlace asks c.loops t (place_held q)) (hold_place p s)
+  hold_place_yields (in_temp i) r h = given (held_in_temp i) r h
+  hold_place_yields (at_address before a) r h =
+      bind (hold_address_yields before a r h.0 h.1)
+      (λ one t st r' g. given (held_at one.before one.address) r' g)
 
   pub field_yields : {s : TranslationState} (k : ℕ) (x : Tx) → Ready asks c s → GoodTx asks c.loops s x →
       Yields asks c s (λ t p. GoodPlace asks c.loops t p) (field_place k x s)
@@ -361,7 +392,7 @@ module _ {asks : Asks} {c : Where} where
   count_yields i x y turn r a h k g =
       bind (hold_yields false no_stms x r tt h)
       (λ l t st r' j.
-      bind (hold_yields false l.before y r' j.0 (tx_on st c.loops y k))
+      bind (keep_yields l.before y r' j.0 (tx_on st c.loops y k))
       (λ h u st' r'' q. let on = onward st st' in
       given (count_of h.before i l.operand h.operand turn) r''
       (count_good asks c.loops u h.before i l.operand h.operand turn q.0 (access_on on i a)

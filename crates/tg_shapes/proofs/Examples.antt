@@ -7,7 +7,7 @@ use Rattle.tg_symbols.specs.Tables.{named}
 use Rattle.tg_syntax.specs.declared.tokens.Ident.{Ident}
 use Rattle.tg_syntax.specs.declared.trees.Op.TheVariants as op
 use Rattle.tg_syntax.specs.Functions.{program_functions}
-use Rattle.tg_syntax.specs.Tree.{Exp, Break, Int, Text, Read, Call, Binary, Assign, While, For, Let, Seq, Simple, no_exps, exp, no_decs, variable, functions, no_functions, function}
+use Rattle.tg_syntax.specs.Tree.{Exp, Break, Int, Text, Read, Call, Binary, Assign, If, When, While, For, Let, Seq, Simple, no_exps, exp, no_decs, variable, functions, no_functions, function}
 use Rattle.tg_meaning.specs.declared.standards.Standard.TheVariants as standard
 use Rattle.tg_types.specs.declared.notes.Means.{Means}
 use Rattle.tg_types.specs.declared.notes.Means.TheVariants as means
@@ -73,6 +73,10 @@ nested_escaping = refl
 nested_slots : map (λ f. f.slots) (translated nested_findings nested).functions ≡ 1 ∷ 2 ∷ 0 ∷ []
 nested_slots = refl
 
+-- x is read and assigned two functions outwards: the frame that it stands in is found once, and kept behind g's own link
+nested_temps : map (λ f. f.temps) (translated nested_findings nested).functions ≡ 0 ∷ 0 ∷ 2 ∷ []
+nested_temps = refl
+
 -- the variable of a slot two functions outwards: two links, and the variable
 abbrev two_outwards : Tx
 two_outwards = Load (slot_address (frame_out true 2) 0)
@@ -135,9 +139,15 @@ sum_length = refl
 choice_length : lengths (findings []) (Binary sp op.And 0 (Int sp 1) (Int sp 2)) ≡ ((4 + ((4 + (2 + 2)) + (2 + 2))) + (16 + 2)) ∷ []
 choice_length = refl
 
--- for i := 1 to 2 do (), with i in a temporary: the test, the first value, the loop's addition, its body, and the test for its end
+-- if (if 1 then 2 else 0) then (): both of two tests, as in 1 & 2
+both_length : lengths (findings []) (When sp (If sp (Int sp 1) (Int sp 2) (Int sp 0)) (Seq sp no_exps)) ≡
+    ((4 + ((14 + ((4 + (2 + 2)) + (4 + (2 + 2)))) + 2)) + (16 + 2)) ∷ []
+both_length = refl
+
+-- for i := 1 to 2 do (), with i in a temporary: the bound that is kept, the test, the first value, the loop's addition, its body, and the
+-- test for its end
 turns_length : lengths (findings []) (For sp (id 1) (Int sp 1) (Int sp 2) (Seq sp no_exps)) ≡
-    ((4 + (4 + (2 + 2))) + (2 + 2) + 4 + (2 + (1 + 2)) + 2 + (4 + (4 + 2) + 3) + (16 + 2)) ∷ []
+    ((2 + 2) + (4 + (4 + 2)) + (2 + 2) + 4 + (2 + (1 + 2)) + 2 + (4 + 4 + 3) + (16 + 2)) ∷ []
 turns_length = refl
 
 -- let function f() = () in .. end, where so many functions are nested in one another, and the innermost calls f
@@ -157,6 +167,10 @@ far_findings = record { meaning = λ at. Some (means.Function at); escapes = λ 
 abbrev last_of : {A : Type 0} → A → List A → A
 last_of x [] = x
 last_of x (y ∷ ys) = last_of y ys
+
+-- x := x + k in g above: the link to x's frame is kept, and x and k stand in slots
+nested_length : last_of 0 (lengths nested_findings nested) ≡ 6 + (2 + (1 + (1 + 2))) + (1 + (1 + 2) + (1 + (1 + (1 + 2)) + (1 + (1 + 2)))) + (16 + 2)
+nested_length = refl
 
 -- The dearest node, a call over 32 levels: itself, its link, which is stored, and 4 for each level. It pays for 2 more, which the
 -- link would have where something of the arguments is lifted.

@@ -16,6 +16,7 @@ pub mod Near
 pub mod Sizing
 pub mod Sized
 pub mod Taking
+pub mod Updating
 pub mod Charges
 pub mod Measured
 pub mod Bounding

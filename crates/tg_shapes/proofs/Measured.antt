@@ -18,21 +18,23 @@ use Rattle.tg_translate.specs.declared.wants.Want.{Want}
 use Rattle.tg_translate.specs.declared.wants.Want.TheVariants as want
 use Rattle.tg_translate.specs.declared.homes.Within.{Within}
 use Rattle.tg_translate.specs.States.{TranslationState, Drawn, drawn, after, give}
-use Rattle.tg_translate.specs.Wants.{Made, value, done, value_of, test_of, dropped, as_statement, deliver, followed}
-use Rattle.tg_translate.specs.Constructs.{HeldAll, none_held, read, want_for, make_array, negation, repeat_while, in_body, in_test, string_text}
+use Rattle.tg_translate.specs.Wants.{Made, value, done, value_of, test_of, dropped, followed}
+use Rattle.tg_translate.specs.Constructs.{HeldAll, none_held, read, make_array, negation, repeat_while, in_body, in_test, string_text}
 use Rattle.tg_translate.specs.Choices.{left_want}
 use Rattle.tg_translate.specs.Scopes.{Findings, field_number}
 use Rattle.tg_translate.specs.Purity.{assigns_nothing, inits_assign_nothing}
+use Rattle.tg_translate.specs.Updates.{begins_with}
 use Rattle.tg_translate.specs.Functions.{at_of, asked, begun, inside, result_want, outermost, beginning, frame_for, program}
-use Rattle.tg_translate.specs.Translate.{Begun, expression, locate, values, fields, sequence, declarations, bodies, program_body, translated}
+use Rattle.tg_translate.specs.Translate.{Begun, is_zero, is_conjunction, expression, behind_read, locate, values, fields, sequence, declarations, bodies, program_body, translated}
 use Rattle.tg_shapes.specs.Accesses.{AccessesWithin}
 use Rattle.tg_shapes.specs.Escaped.{one_of, params_escaping, escaping, place_escaping, exps_escaping, inits_escaping, decs_escaping, escaping_inside, place_escaping_inside, exps_escaping_inside, inits_escaping_inside, decs_escaping_inside, functions_escaping, program_escaping}
 use Rattle.tg_shapes.specs.Strings.{strings, place_strings, exps_strings, inits_strings, decs_strings, bodies_strings}
 use Rattle.tg_shapes.specs.Laws.{IsWithin}
-use Rattle.tg_shapes.proofs.Near.{IsTx, AreTxs, IsCond, IsTs, AreStms, IsMade, IsPlace, join_txs_near, followed_near, dropped_near, test_near, statement_near, deliver_near, read_near, negation_near}
+use Rattle.tg_shapes.proofs.Near.{IsTx, AreTxs, IsCond, IsTs, AreStms, IsMade, IsPlace, join_txs_near, followed_near, dropped_near, test_near, read_near, negation_near}
 use Rattle.tg_shapes.proofs.Sized.{Gives, SmallBody, body_size}
-use Rattle.tg_shapes.proofs.Taking.{Cost, adds, HasSlots, Takes, both, more, then_draws, then_quiet, draws_then, quiet_then, adds_then, gives, within_frame, finished}
-use Rattle.tg_shapes.proofs.Charges.{arms_takes, declares, declares_functions, values_takes, behind_takes, hold_next_takes, assign_takes, field_takes, element_takes, count_takes, record_takes, place_takes, call_takes, closing_takes, literal_takes, declaration_takes, left_takes}
+use Rattle.tg_shapes.proofs.Taking.{Cost, draws, adds, HasSlots, Takes, both, at_most, more, then_draws, then_quiet, draws_then, quiet_then, adds_then, gives, within_frame, finished}
+use Rattle.tg_shapes.proofs.Updating.{same_is_quiet}
+use Rattle.tg_shapes.proofs.Charges.{declares, declares_functions, values_takes, behind_takes, hold_next_takes, assignment_takes, field_takes, element_takes, count_takes, record_takes, place_takes, call_takes, closing_takes, literal_takes, declaration_takes, left_takes, choice_takes}
 
 -- how many temporaries each part draws at most, without the functions that it declares
 abbrev mutual
@@ -47,7 +49,7 @@ abbrev mutual
   drawn_by (Binary _ _ _ x y) = drawn_by x + (drawn_by y + 5)
   drawn_by (Make _ _ inits) = drawn_by_inits inits + 1
   drawn_by (Fill _ _ x y) = drawn_by x + 1 + (drawn_by y + 1)
-  drawn_by (Assign _ v x) = drawn_by_place v + (drawn_by x + 1)
+  drawn_by (Assign _ v x) = drawn_by_place v + (1 + (drawn_by x + 1))
   drawn_by (If _ d x y) = drawn_by d + (1 + (drawn_by x + drawn_by y))
   drawn_by (When _ d x) = drawn_by d + drawn_by x
   drawn_by (While _ d x) = drawn_by d + drawn_by x
@@ -264,11 +266,16 @@ module _ (findings : Findings) where
     of_test : Takes m (IsCond n) s (after d (λ x. give (test_of x)))
     of_test = then_quiet h λ x s k. gives s (test_of x) (test_near n x k)
 
-    of_arm : (w : Want) → Takes m (IsTs n) s (after d (λ x. give (as_statement w x)))
-    of_arm w = then_quiet h λ x s k. gives s (as_statement w x) (statement_near n w x k)
-
     of_statement : Takes m (IsTs n) s (after d (λ x. give (dropped x)))
     of_statement = then_quiet h λ x s k. gives s (dropped x) (dropped_near n x k)
+
+  zero_takes_nothing : (n : ℕ) (seen : Levels) (e : Exp) → is_zero e ≡ true → of_exp n seen e ≡ draws 0
+  zero_takes_nothing n seen (Int _ ℕ.zero) i = refl
+  zero_takes_nothing n seen e i = cc
+
+  conjunction_takes_nothing : (n : ℕ) (seen : Levels) (w : Want) (e : Exp) → is_conjunction w e ≡ true → of_exp n seen e ≡ draws 0
+  conjunction_takes_nothing n seen want.Test e i = zero_takes_nothing n seen e i
+  conjunction_takes_nothing n seen w e i = cc
 
   abbrev IsBegun : ℕ → Begun → Type 0
   IsBegun n b = AreStms n b.before × IsMade n b.last
@@ -294,12 +301,14 @@ module _ (findings : Findings) where
         both (of_value n (walk x want.Value c n seen s l)) λ a s h. then_quiet (of_value n (walk y want.Value c n seen s l)) λ b s k.
         gives s (value (make_array a b)) (h, (k, tt))
     walk (Assign _ v x) w c n seen s l =
-        both (walk_place v c n seen s l) λ p s h. then_draws (walk x (want_for p) c n seen s l) λ m s k.
-        then_quiet (assign_takes n p m s h k) λ y s g. gives s (done y) g
+        both (walk_place v c n seen s l) λ p s h.
+        then_quiet (assignment_takes n (begins_with findings.meaning x v) p (λ v. expression findings x v c) (λ r v. behind_read findings x r v c) s h
+        (λ v t. walk x v c n seen t l) (λ i r u t k. walk_behind x v r u c n seen t l i k)) λ y s g.
+        gives s (done y) g
     walk (If _ d x y) w c n seen s l =
-        both (of_test n (walk d want.Test c n seen s l)) λ a s h. draws_then (arms_takes w s) λ v s _.
-        both (of_arm n (walk x v c n seen s l) v) λ p s k. then_quiet (of_arm n (walk y v c n seen s l) v) λ q s g.
-        gives s (deliver w v (tree.If a p q)) (deliver_near n w v (tree.If a p q) (h, k, g))
+        both (of_test n (walk d want.Test c n seen s l)) λ a s h.
+        choice_takes n (λ v. expression findings x v c) (λ v. expression findings y v c) (λ v t. walk x v c n seen t l) (λ v t. walk y v c n seen t l)
+        (is_conjunction w y) w a s (conjunction_takes_nothing n seen w y) h
     walk (When _ d x) w c n seen s l =
         both (of_test n (walk d want.Test c n seen s l)) λ a s h. then_quiet (of_statement n (walk x want.Dropped c n seen s l)) λ y s k.
         gives s (done (tree.If a y nothing)) (h, k, tt)
@@ -315,6 +324,16 @@ module _ (findings : Findings) where
         both (walk_decs ds no_stms c n seen s l tt) λ before s h. then_draws (walk_sequence es w before c n (own_decs n ds seen) s l h) λ b s k.
         behind_takes n w b.before b.last s k.0 k.1
     walk (Seq _ es) w c n seen s l = then_draws (walk_sequence es w no_stms c n seen s l tt) λ b s k. behind_takes n w b.before b.last s k.0 k.1
+
+    walk_behind : (e : Exp) (v : source.LValue) (x : Tx) (w : Want) (c : Within) (n : ℕ) (seen : Levels) (s : TranslationState) → c.level ≤ n →
+        begins_with findings.meaning e v ≡ true → IsTx n x → Takes (of_exp n seen e) (IsMade n) s (behind_read findings e x w c s)
+    walk_behind (Read at u) v x w c n seen s l i h =
+        let k = same_is_quiet findings n seen v u i in
+        at_most (draws 0) (of_exp n seen (Read at u)) (omega arith) (omega arith) (sym k.0) (sym k.1) (sym k.2) (gives s (value x) h)
+    walk_behind (Binary _ o at a y) v x w c n seen s l i h =
+        both (walk_behind a v x (left_want o) c n seen s l i h) λ left s k.
+        left_takes n (λ v. expression findings y v c) (λ v t. walk y v c n seen t l) o (findings.meaning at) (assigns_nothing y) w left s k
+    walk_behind e v x w c n seen s l i h = cc
 
     walk_place : (v : source.LValue) (c : Within) (n : ℕ) (seen : Levels) (s : TranslationState) → c.level ≤ n →
         Takes (of_place n seen v) (IsPlace n) s (locate findings v c s)

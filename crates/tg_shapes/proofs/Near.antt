@@ -17,10 +17,12 @@ use Rattle.tg_translate.specs.declared.homes.Callee.{Callee}
 use Rattle.tg_translate.specs.declared.homes.Within.{Within}
 use Rattle.tg_translate.specs.declared.operands.Operand.{Operand}
 use Rattle.tg_translate.specs.declared.operands.Operand.TheVariants.{Number, Kept}
+use Rattle.tg_translate.specs.declared.held.HeldAddress.{HeldAddress}
+use Rattle.tg_translate.specs.declared.held.HeldAddress.TheVariants.{InOwnFrame, Beside, At}
 use Rattle.tg_translate.specs.declared.wants.Want.{Want}
 use Rattle.tg_translate.specs.declared.wants.Want.TheVariants as want
 use Rattle.tg_translate.specs.Wants.{Made, value, done, test, truth_into, put_in, dropped, test_of, as_statement, taken_from, deliver, followed}
-use Rattle.tg_translate.specs.Constructs.{Storage, in_temp, at_address, operand, HeldAll, frame_out, place_in, own_place, read, store_at, plus, nil_check, field_of, index_check, element_of, store_field, store_fields, call_for_record, record_of, product_check, product_of, zero_check, quotient_check, quotient_of, least_int, negation, assign_value, first_minus_one, turn_of, turns, count_of, comparison}
+use Rattle.tg_translate.specs.Constructs.{Storage, in_temp, at_address, operand, HeldAll, frame_out, place_in, own_place, read, store_at, held_address, HeldPlace, held_in_temp, held_at, read_held, place_held, plus, nil_check, field_of, index_check, element_of, store_field, store_fields, call_for_record, record_of, product_check, product_of, zero_check, quotient_check, quotient_of, least_int, negation, assign_value, first_minus_one, turn_of, turns, count_of, comparison}
 use Rattle.tg_translate.specs.Choices.{connected, tested, chosen}
 use Rattle.tg_translate.specs.Scopes.{frame_at, home_place, call_declared}
 use Rattle.tg_shapes.specs.Accesses.{Accessed, AccessesWithin, AccessesWithinStms, AccessesWithinTx, AccessesWithinTxs, AccessesWithinCond}
@@ -161,6 +163,15 @@ module _ (n : ℕ) where
   assigned_near (in_temp t) x h k = k
   assigned_near (at_address ss a) x h k = store_near ss a x h.0 h.1 k
 
+  pub held_address_near : (a : HeldAddress) → AccessesWithinTx n (held_address a)
+  held_address_near (InOwnFrame o k) = (tt, tt)
+  held_address_near (Beside x o k) = (operand_near n x, tt)
+  held_address_near (At x) = operand_near n x
+
+  pub read_held_near : (q : HeldPlace) → IsPlace (place_held q) → IsTx (read_held q)
+  read_held_near (held_in_temp t) h = tt
+  read_held_near (held_at ss a) h = h.1
+
   pub field_near : (k : ℕ) (ss : Stms) (r : Operand) → AreStms ss → IsPlace (field_of k ss (operand r))
   field_near k ss r h = (followed_near ss (nil_check (operand r)) h ((near r, tt), tt, tt), plus_near n (operand r) (4 * k) (operand_near n r))
 
@@ -254,7 +265,7 @@ mutual
   wider_stms n m no_stms l h = tt
   wider_stms n m (stm s ss) l h = (wider n m s l h.0, wider_stms n m ss l h.1)
 
-  wider_tx : (n m : ℕ) (x : Tx) → n ≤ m → AccessesWithinTx n x → AccessesWithinTx m x
+  pub wider_tx : (n m : ℕ) (x : Tx) → n ≤ m → AccessesWithinTx n x → AccessesWithinTx m x
   wider_tx n m (Const _) l h = tt
   wider_tx n m (Address _) l h = tt
   wider_tx n m (Temp _) l h = tt

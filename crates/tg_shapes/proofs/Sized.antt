@@ -11,27 +11,30 @@ use Rattle.tg_syntax.specs.Tree as source
 use Rattle.tg_syntax.specs.Tree.{Exp, Nil, Break, Int, Text, Read, Call, Neg, Binary, Make, Fill, Assign, If, When, While, For, Let, Seq, Simple, Field, Index, Exps, no_exps, exp, Inits, no_inits, init, Decs, no_decs, types, variable, functions}
 use Rattle.tg_types.specs.declared.notes.Means.{Means}
 use Rattle.tg_types.specs.declared.notes.Means.TheVariants as means
+use Rattle.tg_tree.specs.declared.operators.Bin.{Bin}
 use Rattle.tg_tree.specs.declared.operators.Bin.TheVariants as bin
 use Rattle.tg_tree.specs.Tree as tree
-use Rattle.tg_tree.specs.Tree.{Tx, Const, Temp, After, Txs, no_txs, tx, Cond, Ts, Move, Return, Stms, no_stms, stm}
+use Rattle.tg_tree.specs.Tree.{Tx, Const, Temp, FrameAddress, After, Txs, no_txs, tx, Cond, Ts, Move, Return, Stms, no_stms, stm}
 use Rattle.tg_tree.specs.Forms.{nothing}
 use Rattle.tg_tree.specs.Lists.{join_txs}
 use Rattle.tg_translate.specs.declared.homes.Within.{Within}
 use Rattle.tg_translate.specs.declared.operands.Operand.TheVariants.{Number, Kept}
+use Rattle.tg_translate.specs.declared.held.HeldAddress.TheVariants.{InOwnFrame, Beside, At}
 use Rattle.tg_translate.specs.declared.wants.Want.{Want}
 use Rattle.tg_translate.specs.declared.wants.Want.TheVariants as want
 use Rattle.tg_translate.specs.States.{TranslationState, Drawn, drawn, Acts, after, give, fresh}
 use Rattle.tg_translate.specs.Wants.{Made, value, done, test, truth_into, value_of, put_in, dropped, test_of, as_statement, arms, deliver, followed, behind, behind_some, value_behind, done_behind}
-use Rattle.tg_translate.specs.Constructs.{Storage, in_temp, at_address, operand, Held, keep, hold, HeldAll, none_held, hold_next, own_place, read, store_at, want_for, assign, field_of, field_place, element_of, element_place, record_of, make_record, product_of, product, quotient_of, checked_quotient, minus_one, quotient, comparison, operation, count_of, count, make_array, negation, repeat_while, in_body, in_test}
+use Rattle.tg_translate.specs.Constructs.{Storage, in_temp, at_address, operand, Held, keep, hold, HeldAll, none_held, hold_next, own_place, read, store_at, want_for, assign, held_address, HeldAt, hold_base, hold_address, HeldPlace, held_in_temp, held_at, hold_place, read_held, place_held, field_of, field_place, element_of, element_place, record_of, make_record, product_of, product, quotient_of, checked_quotient, minus_one, quotient, comparison, operation, count_of, count, make_array, negation, repeat_while, in_body, in_test}
 use Rattle.tg_translate.specs.Choices.{left_want, tested, chosen}
 use Rattle.tg_translate.specs.Scopes.{Findings, no_value, nowhere, home_place, variable_place, field_number, compares_strings, routine_of, call_declared, call, declare_variable}
 use Rattle.tg_translate.specs.Purity.{assigns_nothing, inits_assign_nothing}
+use Rattle.tg_translate.specs.Updates.{begins_with}
 use Rattle.tg_translate.specs.Functions.{at_of, gives_nothing, closing, declare_functions}
-use Rattle.tg_translate.specs.Translate.{connective, with_left, declaration_of, Begun, expression, locate, values, fields, sequence, declarations, bodies}
+use Rattle.tg_translate.specs.Translate.{connective, with_left, chosen_arm, choice, is_conjunction, assignment, declaration_of, Begun, expression, behind_read, locate, values, fields, sequence, declarations, bodies}
 use Rattle.tg_translate.specs.Constructs as constructs
 use Rattle.tg_shapes.specs.Depths.{tx_depth, txs_depth, cond_depth, ts_depth, stms_depth}
 use Rattle.tg_shapes.proofs.Actions.{answer}
-use Rattle.tg_shapes.proofs.Sizing.{tx_length, tx_room, cond_length, cond_room, ts_length, ts_room, stms_length, stms_room, most_arguments, txs_room, made_length, made_room, made_depth, place_length, place_room, place_depth, held_length, held_room, followed_size, joined_size, put_size, dropped_size, test_size, statement_size, deliver_size, behind_size, tested_size, chosen_size, own_place_size, home_size, read_size, store_size, operand_size, field_size, element_size, record_size, routine_size, make_array_size, comparison_size, binary_size, product_size, divide_size, quotient_size, negation_size, while_size, count_size, declared_size}
+use Rattle.tg_shapes.proofs.Sizing.{tx_length, tx_room, cond_length, cond_room, ts_length, ts_room, stms_length, stms_room, most_arguments, txs_room, made_length, made_room, made_depth, place_length, place_room, place_depth, held_length, held_room, followed_size, joined_size, put_size, dropped_size, test_size, statement_size, deliver_size, behind_size, tested_size, chosen_size, own_place_size, home_size, read_size, store_size, operand_size, read_held_size, field_size, element_size, record_size, routine_size, make_array_size, comparison_size, binary_size, product_size, divide_size, quotient_size, negation_size, while_size, count_size, declared_size}
 
 -- What actions give, whatever state they begin in.
 
@@ -251,6 +254,63 @@ assign_size (at_address ss a) m s =
     bind (value_size m s) λ x s h. given s (store_at ss a x)
     (let k = store_size ss a x in (omega (arith, h.0, k.0), omega (arith, h.1, k.1), omega (arith, h.2, k.2)))
 
+-- A place that is kept is hardly longer, and its read is short.
+
+abbrev HeldAs : Stms → Tx → HeldAt → Type 0
+HeldAs before x h =
+    Most (stms_length h.before + tx_length (held_address h.address)) (stms_room h.before + tx_room (held_address h.address))
+    (max (stms_depth h.before) (tx_depth (held_address h.address))) (stms_length before + (tx_length x + 2)) (stms_room before + (tx_room x + 1))
+    (max (stms_depth before) (tx_depth x) + 1)
+
+beside_size : (before : Stms) (x : Tx) (o : Bin) (k : ℕ) (s : TranslationState) →
+    Gives (HeldAs before (tree.Binary o x (Const k))) (hold_base before x (λ p. Beside p o k) s)
+beside_size before x o k s =
+    bind (hold_size true before x s) λ h s i.
+    given s (record { before = h.before; address = Beside h.operand o k })
+    (let p = operand_size h.operand in
+    let a = i.short in
+    let b = i.small in
+    let c = i.shallow in
+    (omega (arith, a), omega (arith, b), omega (arith, c, p.2)))
+
+at_size : (before : Stms) (x : Tx) (s : TranslationState) → Gives (HeldAs before x) (hold_base before x (λ p. At p) s)
+at_size before x s =
+    bind (hold_size true before x s) λ h s i.
+    given s (record { before = h.before; address = At h.operand })
+    (let p = operand_size h.operand in
+    let a = i.short in
+    let b = i.small in
+    let c = i.shallow in
+    (omega (arith, a), omega (arith, b), omega (arith, c, p.2)))
+
+hold_address_size : (before : Stms) (x : Tx) (s : TranslationState) → Gives (HeldAs before x) (hold_address before x s)
+hold_address_size before (tree.Binary o FrameAddress (Const k)) s =
+    given s (record { before = before; address = InOwnFrame o k }) (omega arith, omega arith, omega arith)
+hold_address_size before (tree.Binary o x (Const k)) s = beside_size before x o k s
+hold_address_size before x s = at_size before x s
+
+hold_place_size : (p : Storage) (s : TranslationState) →
+    Gives (λ q. Most (place_length (place_held q)) (place_room (place_held q)) (place_depth (place_held q)) (place_length p + 2) (place_room p + 1)
+    (place_depth p + 1))
+    (hold_place p s)
+hold_place_size (in_temp t) s = given s (held_in_temp t) (omega arith, omega arith, omega arith)
+hold_place_size (at_address ss a) s =
+    bind (hold_address_size ss a s) λ h s i. given s (held_at h.before h.address) (omega (arith, i.0), omega (arith, i.1), omega (arith, i.2))
+
+short_read : (q : HeldPlace) → PaidTx 1 (read_held q)
+short_read q = let h = read_held_size q in (omega (arith, h.0), omega (arith, h.1), omega (arith, h.2))
+
+paid_assignment : (n m : ℕ) (reads_first : Bool) (p : Storage) (e : Want → Acts Made) (behind : Tx → Want → Acts Made) (s : TranslationState) →
+    PaidPlace n p → ((w : Want) (t : TranslationState) → Gives (Paid m) (e w t)) →
+    ((x : Tx) (w : Want) (t : TranslationState) → PaidTx 1 x → Gives (Paid m) (behind x w t)) →
+    Gives (λ y. Paid (1 + n + m) (done y)) (assignment reads_first p e behind s)
+paid_assignment n m true p e behind s h f g =
+    bind (hold_place_size p s) λ q s j. bind (g (read_held q) (want_for (place_held q)) s (short_read q)) λ x s k.
+    weaken (assign_size (place_held q) x s) λ y i. (omega (arith, h.0, j.0, k.0, i.0), omega (arith, h.1, j.1, k.1, i.1), omega (arith, h.2, j.2, k.2, i.2))
+paid_assignment n m false p e behind s h f g =
+    bind (f (want_for p) s) λ x s k.
+    weaken (assign_size p x s) λ y i. (omega (arith, h.0, k.0, i.0), omega (arith, h.1, k.1, i.1), omega (arith, h.2, k.2, i.2))
+
 paid_declaration : (n : ℕ) (escapes : ℕ → Bool) (level at : ℕ) (e : Want → Acts Made) (s : TranslationState) →
     ((w : Want) (t : TranslationState) → Gives (Paid n) (e w t)) → Gives (PaidTs (1 + n)) (declaration_of escapes level at e s)
 paid_declaration n escapes level at e s f =
@@ -337,6 +397,20 @@ module _ (n m : ℕ) (right : Want → Acts Made) (f : (w : Want) (t : Translati
   left_paid op.Or meaning direct w l s h = connective_paid op.Or w (test_of l) s (left_condition l h)
   left_paid o meaning direct w l s h = operator_paid o (compares_strings meaning) direct l s h
 
+-- Choices, of two arms that are translated for what they are to be.
+module _ (n m k : ℕ) (this other : Want → Acts Made) (f : (w : Want) (t : TranslationState) → Gives (Paid m) (this w t))
+    (g : (w : Want) (t : TranslationState) → Gives (Paid k) (other w t)) where
+  arms_paid : (w : Want) (c : Cond) (s : TranslationState) → PaidCond n c → Gives (Paid (1 + n + m + k)) (chosen_arm w c this other s)
+  arms_paid w c s h =
+      bind (anything (arms w s)) λ v s u. bind (of_arm m (f v s) v) λ p s i. bind (of_arm k (g v s) v) λ q s j.
+      given s (deliver w v (tree.If c p q))
+      (let l = deliver_size w v (tree.If c p q) in (omega (arith, h.0, i.0, j.0, l.0), omega (arith, h.1, i.1, j.1, l.1), omega (arith, h.2, i.2, j.2, l.2)))
+
+  choice_paid : (conjunction : Bool) (w : Want) (c : Cond) (s : TranslationState) → PaidCond n c →
+      Gives (Paid (1 + n + m + k)) (choice conjunction w c this other s)
+  choice_paid true w c s h = weaken (connective_paid n m this f op.And w c s h) λ x i. (omega (arith, i.0), omega (arith, i.1), omega (arith, i.2))
+  choice_paid false w c s h = arms_paid w c s h
+
 paid_read : (n : ℕ) (p : Storage) → PaidPlace n p → PaidRead n (read p)
 paid_read n p h = let k = read_size p in (omega (arith, h.0, k.0), omega (arith, h.1, k.1), omega (arith, h.2, k.2))
 
@@ -344,7 +418,7 @@ paid_count : (n m k : ℕ) (home : Access) (x y : Tx) (turn : Ts) (s : Translati
     Gives (λ z. Most (ts_length z + 8) (ts_room z + 4) (ts_depth z + 2) (145 * (1 + n + m + k)) (201 * (1 + n + m + k)) (8 * (1 + n + m + k) + 60))
     (count home x y turn s)
 paid_count n m k home x y turn s h i j =
-    bind (hold_size false no_stms x s) λ l s a. bind (hold_size false l.before y s) λ r s b.
+    bind (hold_size false no_stms x s) λ l s a. bind (keep_size l.before y s) λ r s b.
     given s (count_of r.before home l.operand r.operand turn)
     (let e = count_size r.before home l.operand r.operand turn in
     let p = operand_size l.operand in
@@ -384,13 +458,14 @@ module _ (findings : Findings) where
         given s (value (make_array a b))
         (let i = make_array_size a b in (omega (arith, h.0, k.0, i.0), omega (arith, h.1, k.1, i.1), omega (arith, h.2, k.2, i.2)))
     walk (Assign _ v x) w c s l =
-        bind (walk_place v c s l) λ p s h. bind (walk x (want_for p) c s l) λ m s k. bind (assign_size p m s) λ y s i.
-        given s (done y) (omega (arith, h.0, k.0, i.0), omega (arith, h.1, k.1, i.1), omega (arith, h.2, k.2, i.2))
+        bind (walk_place v c s l) λ p s h.
+        bind (paid_assignment (place_size v) (size x) (begins_with findings.meaning x v) p (λ v. expression findings x v c)
+        (λ r v. behind_read findings x r v c) s h (λ v t. walk x v c t l) (λ r v t k. walk_behind x r v c t l k)) λ y s i.
+        given s (done y) i
     walk (If _ d x y) w c s l =
-        bind (of_test _ (walk d want.Test c s l)) λ a s h. bind (anything (arms w s)) λ v s u.
-        bind (of_arm _ (walk x v c s l) v) λ p s k. bind (of_arm _ (walk y v c s l) v) λ q s i.
-        given s (deliver w v (tree.If a p q))
-        (let j = deliver_size w v (tree.If a p q) in (omega (arith, h.0, k.0, i.0, j.0), omega (arith, h.1, k.1, i.1, j.1), omega (arith, h.2, k.2, i.2, j.2)))
+        bind (of_test _ (walk d want.Test c s l)) λ a s h.
+        choice_paid (size d) (size x) (size y) (λ v. expression findings x v c) (λ v. expression findings y v c) (λ v t. walk x v c t l)
+        (λ v t. walk y v c t l) (is_conjunction w y) w a s h
     walk (When _ d x) w c s l =
         bind (of_test _ (walk d want.Test c s l)) λ a s h. bind (of_statement _ (walk x want.Dropped c s l)) λ y s k.
         given s (done (tree.If a y nothing)) (omega (arith, h.0, k.0), omega (arith, h.1, k.1), omega (arith, h.2, k.2))
@@ -409,6 +484,13 @@ module _ (findings : Findings) where
         (omega (arith, i.0), omega (arith, i.1), omega (arith, i.2))
     walk (Seq _ es) w c s l =
         bind (walk_sequence es w no_stms c s l) λ b s k. paid_behind (exps_size es) w b s (omega (arith, k.0), omega (arith, k.1), omega (arith, k.2))
+
+    walk_behind : (e : Exp) (x : Tx) (w : Want) (c : Within) (s : TranslationState) → c.level ≤ 32 → PaidTx 1 x →
+        Gives (Paid (size e)) (behind_read findings e x w c s)
+    walk_behind (Binary _ o at a y) x w c s l h =
+        bind (walk_behind a x (left_want o) c s l h) λ left s k.
+        left_paid (size a) (size y) (λ v. expression findings y v c) (λ v t. walk y v c t l) o (findings.meaning at) (assigns_nothing y) w left s k
+    walk_behind e x w c s l h = given s (value x) (omega (arith, h.0), omega (arith, h.1), omega (arith, h.2))
 
     walk_place : (v : source.LValue) (c : Within) (s : TranslationState) → c.level ≤ 32 → Gives (PaidPlace (place_size v)) (locate findings v c s)
     walk_place (Simple x) c s l = paid_variable c (findings.meaning (at_of x)) s l

@@ -7,23 +7,26 @@ use Rattle.tg_frame.specs.declared.accesses.Access.TheVariants.{InTemp, InFrame}
 use Rattle.tg_runtime.specs.declared.routines.Routine.{Routine}
 use Rattle.tg_syntax.specs.declared.trees.Op.{Op}
 use Rattle.tg_syntax.specs.declared.trees.Op.TheVariants as op
+use Rattle.tg_tree.specs.declared.operators.Bin.{Bin}
 use Rattle.tg_tree.specs.declared.operators.Bin.TheVariants as bin
 use Rattle.tg_tree.specs.declared.operators.Rel.TheVariants as rel
 use Rattle.tg_tree.specs.Tree.{Tx, Const, Temp, FrameAddress, Binary, Txs, no_txs, tx, Cond, Compare, Ts, Move, Store, Stms, no_stms, stm}
 use Rattle.tg_tree.specs.Forms.{when}
 use Rattle.tg_tree.specs.Lists.{join_txs}
-use Rattle.tg_tree.specs.Units.{Trees, lifted_units, joined_units}
+use Rattle.tg_tree.specs.Units.{Trees, lifted_units, joined_units, operator_units}
 use Rattle.tg_tree.specs.Shapes.{is_flat, are_flat, is_flat_condition}
-use Rattle.tg_tree.specs.Sizes.{expression_length, arguments_length, condition_length, statement_length, statements_length, in_trees, expression_room, arguments_room, condition_room, statement_room, statements_room}
+use Rattle.tg_tree.specs.Sizes.{expression_length, arguments_length, condition_length, statement_length, statements_length, in_trees, shift_room, expression_room, arguments_room, condition_room, statement_room, statements_room}
 use Rattle.tg_translate.specs.declared.homes.Home.{Home}
 use Rattle.tg_translate.specs.declared.homes.Callee.{Callee}
 use Rattle.tg_translate.specs.declared.homes.Within.{Within}
 use Rattle.tg_translate.specs.declared.operands.Operand.{Operand}
 use Rattle.tg_translate.specs.declared.operands.Operand.TheVariants.{Number, Kept}
+use Rattle.tg_translate.specs.declared.held.HeldAddress.{HeldAddress}
+use Rattle.tg_translate.specs.declared.held.HeldAddress.TheVariants.{InOwnFrame, Beside, At}
 use Rattle.tg_translate.specs.declared.wants.Want.{Want}
 use Rattle.tg_translate.specs.declared.wants.Want.TheVariants as want
 use Rattle.tg_translate.specs.Wants.{Made, value, done, test, put_in, dropped, test_of, as_statement, taken_from, deliver, followed, done_behind}
-use Rattle.tg_translate.specs.Constructs.{Storage, in_temp, at_address, operand, frame_out, place_in, own_place, read, store_at, plus, nil_check, field_of, index_check, element, element_of, call_routine, store_field, store_fields, call_for_record, record_of, HeldAll, product_check, product_of, zero_check, quotient_check, quotient_of, least_int, negation, make_array, turn_of, turns, count_of, comparison, repeat_while}
+use Rattle.tg_translate.specs.Constructs.{Storage, in_temp, at_address, operand, frame_out, place_in, own_place, read, store_at, held_address, HeldPlace, held_in_temp, held_at, read_held, plus, nil_check, field_of, index_check, element, element_of, call_routine, store_field, store_fields, call_for_record, record_of, HeldAll, product_check, product_of, zero_check, quotient_check, quotient_of, least_int, negation, make_array, turn_of, turns, count_of, comparison, repeat_while}
 use Rattle.tg_translate.specs.Choices.{connected, tested, chosen}
 use Rattle.tg_translate.specs.Scopes.{frame_at, home_place, call_declared}
 use Rattle.tg_shapes.specs.Depths.{tx_depth, txs_depth, cond_depth, ts_depth, stms_depth}
@@ -246,6 +249,25 @@ pub operand_size : (o : Operand) → (tx_length (operand o) ≤ 2) × (tx_room (
     (tx_depth (operand o) ≡ 1)
 operand_size (Number k) = (omega arith, omega arith, omega arith)
 operand_size (Kept t) = (omega arith, omega arith, omega arith)
+
+operator_size : (o : Bin) (k : ℕ) → (operator_units o (Const k) ≤ 2) × (shift_room in_trees o ≤ 2)
+operator_size bin.Mul k = (omega arith, omega arith)
+operator_size bin.Div k = (omega arith, omega arith)
+operator_size bin.MulHigh k = (omega arith, omega arith)
+operator_size bin.ShiftLeft k = (omega arith, omega arith)
+operator_size bin.ShiftRight k = (omega arith, omega arith)
+operator_size bin.ShiftSigned k = (omega arith, omega arith)
+operator_size o k = (omega arith, omega arith)
+
+held_address_size : (a : HeldAddress) → (tx_length (held_address a) ≤ 6) × (tx_room (held_address a) ≤ 8) × (tx_depth (held_address a) ≤ 2)
+held_address_size (InOwnFrame o k) = let h = operator_size o k in (omega (arith, h.0), omega (arith, h.1), omega arith)
+held_address_size (Beside x o k) =
+    let h = operator_size o k in let p = operand_size x in (omega (arith, h.0, p.0), omega (arith, h.1, p.1), omega (arith, p.2))
+held_address_size (At x) = let p = operand_size x in (omega (arith, p.0), omega (arith, p.1), omega (arith, p.2))
+
+pub read_held_size : (q : HeldPlace) → (tx_length (read_held q) ≤ 7) × (tx_room (read_held q) ≤ 10) × (tx_depth (read_held q) ≤ 3)
+read_held_size (held_in_temp t) = (omega arith, omega arith, omega arith)
+read_held_size (held_at ss a) = let h = held_address_size a in (omega (arith, h.0), omega (arith, h.1), omega (arith, h.2))
 
 plus_size : (o : Operand) (k : ℕ) → (tx_length (plus (operand o) k) ≤ tx_length (operand o) + 3) × (tx_room (plus (operand o) k) ≤ tx_room (operand o) + 4) ×
     (tx_depth (plus (operand o) k) ≤ 2)

@@ -1,5 +1,5 @@
 -- The walk over a program's text: each part is translated to what is fine, and keeps what stands.
-use Rattle.std.proofs.Common.{◌+◌, ℕ, Bool, Option, List, [], ◌∷◌, ◌++◌, refl}
+use Rattle.std.proofs.Common.{◌+◌, ℕ, Bool, true, false, Option, List, [], ◌∷◌, ◌++◌, refl}
 use Rattle.std.specs.Prelude.{is_some}
 use Rattle.tg_syntax.specs.declared.trees.Op.{Op}
 use Rattle.tg_syntax.specs.declared.trees.Op.TheVariants.{And, Or}
@@ -14,12 +14,13 @@ use Rattle.tg_translate.specs.declared.wants.Want.{Want}
 use Rattle.tg_translate.specs.declared.wants.Want.TheVariants as want
 use Rattle.tg_translate.specs.States.{TranslationState, Acts, after, give}
 use Rattle.tg_translate.specs.Wants.{Made, value, done, test_of, value_of, dropped, arms, deliver, followed}
-use Rattle.tg_translate.specs.Constructs.{Storage, HeldAll, none_held, own_place, read, want_for, make_array, operation, negation, repeat_while}
+use Rattle.tg_translate.specs.Constructs.{Storage, HeldAll, none_held, own_place, read, want_for, read_held, place_held, make_array, operation, negation, repeat_while}
 use Rattle.tg_translate.specs.Choices.{left_want, connected, tested, chosen}
 use Rattle.tg_translate.specs.Scopes.{field_number, compares_strings}
 use Rattle.tg_translate.specs.Purity.{assigns_nothing, inits_assign_nothing}
+use Rattle.tg_translate.specs.Updates.{begins_with}
 use Rattle.tg_translate.specs.Functions.{at_of, declare_functions, body}
-use Rattle.tg_translate.specs.Translate.{connective, with_left, Begun, declaration_of, expression, locate, values, fields, sequence, declarations, bodies}
+use Rattle.tg_translate.specs.Translate.{connective, with_left, chosen_arm, choice, is_conjunction, assignment, Begun, declaration_of, expression, behind_read, locate, values, fields, sequence, declarations, bodies}
 use Rattle.tg_shapes.specs.Standing.{BreaksStand, BreaksStandPlace, BreaksStandExps, BreaksStandInits, BreaksStandDecs, BreaksStandBodies, owned_by, AreApart, Reaches, ReachesPlace, ReachesExps, ReachesInits, ReachesDecs, ReachesBodies}
 use Rattle.tg_shapes.proofs.Fine.{join_fine_txs}
 use Rattle.tg_shapes.proofs.Keeping.{Asks, Where, access_on, bind, cond_on, given, held_on, onward, place_on, stay, stms_on, ts_on, tx_on, txs_on, want_on, Ready, Step, Yields, GoodWant, GoodCond, GoodHeld, GoodMade, GoodPlace, GoodStms, GoodTs, GoodTx, GoodTxs, KnowsAt}
@@ -134,6 +135,49 @@ module _ (asks : Asks) where
         (wanting.test_good asks c.loops s left h)
     left_yields o meaning direct w left r g h = operator_yields o (compares_strings meaning) direct left r h
 
+  module _ (c : Where) (s : TranslationState) (this other : Want → Acts Made) (then_this : RightYields c s this) (then_other : RightYields c s other) where
+    chosen_yields : (w : Want) (d : Cond) → Ready asks c s → GoodWant asks s w → IsCondition c s d →
+        Yields asks c s (IsMade c) (chosen_arm w d this other s)
+    chosen_yields w d r g h =
+        bind (wanting.arms_yield w r g)
+        (λ v t st rt gv.
+        bind (wanting.arm_from_yields (then_this t v st rt gv) v gv)
+        (λ x u su ru j.
+        let gu = want_on su v gv in
+        bind (wanting.arm_from_yields (then_other u v (onward st su) ru gu) v gu)
+        (λ y o so ro i.
+        given (deliver w v (tree.If d x y)) ro
+        (wanting.deliver_good asks c.loops o w v (tree.If d x y)
+        (want_on so v gu) (
+          cond_on (onward st (onward su so)) c.loops d h,
+          ts_on so c.loops x j,
+          i,
+        )))))
+
+    choice_yields : (conjunction : Bool) (w : Want) (d : Cond) → Ready asks c s → GoodWant asks s w → IsCondition c s d →
+        Yields asks c s (IsMade c) (choice conjunction w d this other s)
+    choice_yields true w d r g h = connective_yields c s this then_this And w d r g h
+    choice_yields false w d r g h = chosen_yields w d r g h
+
+  -- an assignment, where its value is translated to what is fine, also behind a read that is fine
+  assignment_yields : (c : Where) (s : TranslationState) (reads_first : Bool) (p : Storage) (e : Want → Acts Made) (behind : Tx → Want → Acts Made) →
+      Ready asks c s → IsPlace c s p → RightYields c s e →
+      ((t : TranslationState) (x : Tx) (w : Want) → Ready asks c t → Step asks c.kept s t → IsValue c t x → GoodWant asks t w →
+      Yields asks c t (IsMade c) (behind x w t)) →
+      Yields asks c s (IsStatement c) (assignment reads_first p e behind s)
+  assignment_yields c s true p e behind r h then_e then_behind =
+      bind (constructing.hold_place_yields p r h)
+      (λ held t st rt k.
+      bind (then_behind t (read_held held) (want_for (place_held held)) rt st
+      (constructing.read_held_good asks c.loops t held k)
+      (constructing.want_for_good asks c.loops t (place_held held) k))
+      (λ m u su ru j. constructing.assign_yields (place_held held) m ru
+      (place_on su c.loops (place_held held) k) j))
+  assignment_yields c s false p e behind r h then_e then_behind =
+      bind (then_e s (want_for p) stay r (constructing.want_for_good asks c.loops s p h))
+      (λ m t st rt j. constructing.assign_yields p m rt
+      (place_on st c.loops p h) j)
+
   left_want_good : (s : TranslationState) (o : Op) → GoodWant asks s (left_want o)
   left_want_good s And = tt
   left_want_good s Or = tt
@@ -208,32 +252,21 @@ module _ (asks : Asks) where
     walk (Assign _ v e) c s b q w r g =
         bind (walk_place v c s (λ a. (b a).0) (λ a. (q a).0) r)
         (λ p t st rt k.
-        bind (walk e c t (λ a. (b a).1) (λ a. (q a).1) (want_for p) rt
-        (constructing.want_for_good asks c.loops t p k))
-        (λ m u su ru j.
-        bind (constructing.assign_yields p m ru
-        (place_on su c.loops p k) j)
-        (λ x v sv rv i. given (done x) rv i)))
+        bind (assignment_yields c t (begins_with asks.findings.meaning e v) p
+        (λ w. expression asks.findings e w c.within)
+        (λ x w. behind_read asks.findings e x w c.within) rt k
+        (λ u w su ru gu. walk e c u (λ a. (b a).1) (λ a. (q a).1) w ru gu)
+        (λ u x w ru su h gu. walk_behind e x c u (λ a. (b a).1) (λ a. (q a).1) w ru gu h))
+        (λ x u su ru i. given (done x) ru i))
     walk (If _ d x y) c s b q w r g =
         bind (wanting.condition_from_yields
         (walk d c s (λ a. (b a).0) (λ a. (q a).0) want.Test r tt))
         (λ d t st rt k.
-        bind (wanting.arms_yield w rt (want_on st w g))
-        (λ v u su ru gv.
-        bind (wanting.arm_from_yields
-        (walk x c u (λ a. (b a).1) (λ a. (q a).1) v ru gv) v gv)
-        (λ x z sz rz j.
-        let gz = want_on sz v gv in
-        bind (wanting.arm_from_yields
-        (walk y c z (λ a. (b a).2) (λ a. (q a).2) v rz gz) v gz)
-        (λ y o so ro i.
-        given (deliver w v (tree.If d x y)) ro
-        (wanting.deliver_good asks c.loops o w v (tree.If d x y)
-        (want_on so v gz) (
-          cond_on (onward su (onward sz so)) c.loops d k,
-          ts_on so c.loops x j,
-          i,
-        ))))))
+        choice_yields c t (λ v. expression asks.findings x v c.within)
+        (λ v. expression asks.findings y v c.within)
+        (λ u v su ru gu. walk x c u (λ a. (b a).1) (λ a. (q a).1) v ru gu)
+        (λ u v su ru gu. walk y c u (λ a. (b a).2) (λ a. (q a).2) v ru gu)
+        (is_conjunction w y) w d rt (want_on st w g) k)
     walk (When _ d x) c s b q w r g =
         bind (wanting.condition_from_yields
         (walk d c s (λ a. (b a).0) (λ a. (q a).0) want.Test r tt))
@@ -286,6 +319,19 @@ module _ (asks : Asks) where
         bind (walk_sequence es w no_stms c s b q r g tt)
         (λ begun t st rt k. wanting.behind_yields w begun.before begun.last rt
         (want_on st w g) k.0 k.1)
+
+    walk_behind : (e : Exp) (x : Tx) (c : Where) (s : TranslationState) → (asks.breaks → BreaksStand c.in_loop e) →
+        (asks.temps → Reaches asks.findings c.own c.kept e) →
+        (w : Want) → Ready asks c s → GoodWant asks s w → IsValue c s x → Yields asks c s (IsMade c)
+        (behind_read asks.findings e x w c.within s)
+    walk_behind (Binary _ o at a y) x c s b q w r g h =
+        bind (walk_behind a x c s (λ a. (b a).0) (λ a. (q a).0) (left_want o) r (left_want_good s o) h)
+        (λ left t st rt k.
+        left_yields c t (λ v. expression asks.findings y v c.within)
+        (λ u v su ru gu. walk y c u (λ a. (b a).1) (λ a. (q a).1) v ru gu)
+        o (asks.findings.meaning at) (assigns_nothing y) w left rt (want_on st w g)
+        k)
+    walk_behind e x c s b q w r g h = given (value x) r h
 
     walk_place : (v : source.LValue) (c : Where) (s : TranslationState) → (asks.breaks → BreaksStandPlace c.in_loop v) →
         (asks.temps → ReachesPlace asks.findings c.own c.kept v) → Ready asks c s →
