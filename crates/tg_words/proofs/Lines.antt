@@ -45,7 +45,8 @@ code_short turned label size place [] = omega arith
 code_short turned label size place (one ∷ rest) =
     let h = one_short turned label size place one in
     let k = code_short turned label size (place + 1) rest in
-    omega (arith, h, k, words_append (instruction_lines turned label size place one) (code_lines turned label size (place + 1) rest), sum_by-cons instr.words_of one rest)
+    let parts = words_append (instruction_lines turned label size place one) (code_lines turned label size (place + 1) rest) in
+    omega (arith, h, k, parts, sum_by-cons instr.words_of one rest)
 
 pub lines_are_short : LinesAreShort
 lines_are_short turned f =

@@ -84,8 +84,8 @@ within_limit rule at number limit otherwise h = not_above (nat_lt limit number) 
 module _ (rule : Rule) where
   -- Frames.
 
-  frames_small : FramesAreSmall → (fs : List (Function Ts)) (allocations : List Allocation) → AllByRecursion IsBounded fs → AllZip (IsAllocationOf rule) fs allocations →
-      IsTrue (list_all has_small_frame (codes_of allocations))
+  frames_small : FramesAreSmall → (fs : List (Function Ts)) (allocations : List Allocation) → AllByRecursion IsBounded fs →
+      AllZip (IsAllocationOf rule) fs allocations → IsTrue (list_all has_small_frame (codes_of allocations))
   frames_small law [] [] h k = refl
   frames_small law [] (a ∷ rest) h k = absurd k
   frames_small law (f ∷ fs) [] h k = absurd k
@@ -96,8 +96,8 @@ module _ (rule : Rule) where
       let low : size_of a.done.frame < 2 ^ 29 = omega (arith, s, r, b) in
       both_hold _ _ (lt-ltb (size_of a.done.frame) (2 ^ 29) low) (frames_small law fs rest h.1 k.1)
 
-  -- Code, of the runtime and of the functions before it. What each of these has besides its nodes is the half of what its declaration,
-  -- which counts two, and its parameters are charged.
+  -- Code, of the runtime and of the functions before it. What such a function has besides its nodes is at most half of function_words
+  -- for each that is counted of it: its two, and its parameters.
 
   abbrev routine_words : ℕ
   routine_words = unit_words * most_length + besides_words
@@ -116,7 +116,8 @@ module _ (rule : Rule) where
   functions_short : CodeIsShort → FunctionsArePaid → (turned : Bool) (ms : List Measures) (fs rs : List (Function Ts)) (allocations : List Allocation) →
       first_above ms ≡ None → AllZip IsWithin ms fs → AllByRecursion IsBounded fs → AreRoutines rs → AllByRecursion IsBounded rs →
       AllZip (IsAllocationOf rule) (fs ++ rs) allocations →
-      2 * words (functions_lines turned (codes_of allocations)) ≤ 2 * node_words * sum_by (λ m. m.size) ms + function_words * all_counted ms + 2 * routine_words * length rs
+      2 * words (functions_lines turned (codes_of allocations)) ≤
+      2 * node_words * sum_by (λ m. m.size) ms + function_words * all_counted ms + 2 * routine_words * length rs
   functions_short law paid turned [] [] rs allocations limits within may routines last k =
       let h = routines_short law turned rs allocations routines last k in omega (arith, h)
   functions_short law paid turned [] (f ∷ fs) rs allocations limits within may routines last k = absurd within
@@ -144,7 +145,8 @@ literals_empty (l ∷ ls) = let h = literals_empty ls in omega (arith, h)
 routine_count : length runtime.functions ≡ 13
 routine_count = refl
 
-within_segment : (nodes : ℕ) (codes : List Allocated) → nodes ≤ 32768 → ((turned : Bool) → words (functions_lines turned codes) ≤ most_node_words * nodes + most_runtime_words) → FitsSegment nodes codes
+within_segment : (nodes : ℕ) (codes : List Allocated) → nodes ≤ 32768 →
+    ((turned : Bool) → words (functions_lines turned codes) ≤ most_node_words * nodes + most_runtime_words) → FitsSegment nodes codes
 within_segment nodes codes few short =
     let h = short (is_long codes) in
     record {
@@ -153,7 +155,8 @@ within_segment nodes codes few short =
       assembly = λ literals. omega (arith, few, h, words_append (functions_lines (is_long codes) codes) (literals_lines literals), literals_empty literals);
     }
 
-pub program_code_fits : CodeIsShort → FunctionsArePaid → CheckedHasType → CheckedBodiesAreClosed → CheckedTemporariesAreDrawn → CheckedFramesAreSmall → FunctionsAreWithin → AllAreRoutines → ProgramCodeFits
+pub program_code_fits : CodeIsShort → FunctionsArePaid → CheckedHasType → CheckedBodiesAreClosed → CheckedTemporariesAreDrawn →
+    CheckedFramesAreSmall → FunctionsAreWithin → AllAreRoutines → ProgramCodeFits
 program_code_fits law paid typed closed drawn small within routines rule p links allocations accepted are =
     let body = plain p.program.body in
     let functions = (translated (findings_in p links) body).functions in
@@ -161,12 +164,16 @@ program_code_fits law paid typed closed drawn small within routines rule p links
     let few = limit.0 in
     let counts = counted_within body in
     let bounded = each_bounded functions (program_bounded closed drawn small p links accepted) in
-    within_segment (program_size body) (codes_of allocations) few
-    (λ turned. let h = functions_short rule law paid turned (program_functions body) functions runtime.functions allocations limit.1 (within (findings_in p links) body)
-    bounded routines (routines_bounded runtime.functions routines) are in omega (arith, few, counts, h, routine_count))
+    let last = routines_bounded runtime.functions routines in
+    within_segment (program_size body) (codes_of allocations) few (λ turned.
+    let h = functions_short rule law paid turned (program_functions body) functions runtime.functions allocations limit.1
+    (within (findings_in p links) body) bounded routines last are in
+    omega (arith, few, counts, h, routine_count))
 
-pub program_frames_are_small : FramesAreSmall → CheckedBodiesAreClosed → CheckedTemporariesAreDrawn → CheckedFramesAreSmall → AllAreRoutines → ProgramFramesAreSmall
+pub program_frames_are_small : FramesAreSmall → CheckedBodiesAreClosed → CheckedTemporariesAreDrawn → CheckedFramesAreSmall → AllAreRoutines →
+    ProgramFramesAreSmall
 program_frames_are_small law closed drawn small routines rule p links allocations accepted are =
     let functions = (translated (findings_in p links) (plain p.program.body)).functions in
-    frames_small rule law (functions ++ runtime.functions) allocations
-    (both_bounded functions runtime.functions (each_bounded functions (program_bounded closed drawn small p links accepted)) (routines_bounded runtime.functions routines)) are
+    let bounded = each_bounded functions (program_bounded closed drawn small p links accepted) in
+    let last = routines_bounded runtime.functions routines in
+    frames_small rule law (functions ++ runtime.functions) allocations (both_bounded functions runtime.functions bounded last) are
