@@ -22,16 +22,17 @@ pub fn functions_are_few()
     ensures { FunctionsAreFew }
 {}
 
-/// The law of the lines of a function: its code over registers is counted at four words less than
-/// what is emitted, whichever way its branches are written; the four are its entry's.
+/// The law of the lines of a function: whichever way its branches are written, they are at most the
+/// words that its code over registers is counted at, and four more for its entry.
 pub fn lines_are_short()
     ensures { LinesAreShort }
 {}
 
 /// Laws of an allocation of a function, by any policy. Its code is at most 12 words for each unit
-/// of the length of the function's tree, and 145 more; of its frame, slots and the words for
-/// arguments are at most the tree's room and twice its length, and 13 more. So where functions are
-/// nested 32 deep at most, they are what the nodes and the parameters of its text pay for.
+/// of the length of the function's tree, and 145 more; its frame has at most as many words as the
+/// tree's room and twice its length, and 13 more. So where functions are nested 32 deep at most, the
+/// code is at most 1,740 words for each node of the function's body, 72 for each of its parameters,
+/// and 361 more, and the frame 1,992 bytes, 84 and 212.
 pub fn functions_are_short()
     ensures code { CodeIsShort }
     ensures frames { FramesAreSmall }
@@ -51,7 +52,6 @@ pub fn programs_fit()
     ensures code { ProgramCodeFits }
     ensures frames { ProgramFramesAreSmall }
 {
-    functions_are_few();
     functions_are_short();
     checked_has_type();
     bodies_are_closed();
