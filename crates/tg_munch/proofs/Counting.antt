@@ -1,5 +1,7 @@
--- The instructions of a function are at most as many as its flat code is long.
-use Rattle.std.proofs.Common.{◌+◌, ◌*◌, ℕ, Option, Some, None, List, [], ◌∷◌, length, arith}
+-- The instructions of a function are at most as many as its flat code is long, and twelve words for each unit of it may come of them.
+use Rattle.std.proofs.Common.{◌≤◌, ◌+◌, ◌-◌, ◌*◌, ℕ, Option, Some, None, List, [], ◌∷◌, length, sum_by, arith}
+use Rattle.std.proofs.Math.Dec.{lit≤}
+use Rattle.std.proofs.lemmas.List.Sums.{sum_by-le-sum_by}
 use Rattle.std.specs.Prelude.{◌==◌, nat_lt}
 use Rattle.tg_frame.specs.declared.accesses.Access.{Access}
 use Rattle.tg_frame.specs.declared.accesses.Access.TheVariants.{InTemp, InFrame}
@@ -10,167 +12,204 @@ use Rattle.tg_tree.specs.Tree.{Tx, Txs, Ts, Linear, Function, no_txs, tx}
 use Rattle.tg_tree.specs.Units.{Canonical}
 use Rattle.tg_tree.specs.Sizes.{expression_length, arguments_length, statement_length, element_length, code_length, flat_length}
 use Rattle.tg_instr.specs.declared.operands.Opnd.{Opnd}
+use Rattle.tg_instr.specs.declared.instr.Instr.{Instr}
+use Rattle.tg_instr.specs.declared.instr.Instr.TheVariants.{Move}
 use Rattle.tg_munch.specs.Choosing.{Choice}
 use Rattle.tg_munch.specs.Tiles.{slot, offset, offset_by}
 use Rattle.tg_munch.specs.Comparing.{short_side, is_turned, turned}
 use Rattle.tg_munch.specs.Munching.{kept_registers, temp, argument, constant_in, answer_in, store_far, store_low, passed, asked as asked_for, given_back, expression, arguments, left_side, based_at, valued, effect, stored, stored_byte, statement, compared, branch, compared_in_hi, branch_behind, element, elements}
 use Rattle.tg_munch.specs.Products.{is_in_hi}
-use Rattle.tg_munch.specs.Bodies.{kept, from_caller, parameter, parameters, body}
-use Rattle.tg_munch.specs.Lengths.{InstructionsAreFew}
-use Rattle.tg_munch.proofs.Draws.{Draws, both, more, either, gives, puts, defines, draws_temp, chooses, constant_draws, asked, moved_draws, tiled_draws, based_draws, loaded_draws, byte_draws, against_draws}
+use Rattle.tg_munch.specs.Bodies.{munched, kept, from_caller, parameter, parameters, body}
+use Rattle.tg_munch.specs.Lengths.{InstructionsAreFew, CountsWords, WordsAreFew}
+use Rattle.tg_munch.proofs.Draws.{Draws, Within, most_words, both, more, either, gives, puts, puts_move, defines, defines_move, draws_temp, chooses, constant_draws, asked, moved_draws, tiled_draws, based_draws, loaded_draws, byte_draws, against_draws}
 
 -- Single choices.
 
-constant_in_draws : (n : ℕ) (dest : Option Opnd) → Draws 2 1 (constant_in n dest)
-constant_in_draws n (Some to) = more (omega arith) (omega arith) (constant_draws to n)
-constant_in_draws n None = either (n == 0) (more (omega arith) (omega arith) (gives _)) (more (omega arith) (omega arith) (both draws_temp λ to. constant_draws to n))
+constant_in_draws : (n : ℕ) (dest : Option Opnd) → Draws 2 1 20 (constant_in n dest)
+constant_in_draws n (Some to) = more (omega arith) (omega arith) (omega arith) (constant_draws to n)
+constant_in_draws n None =
+    either (n == 0) (more (omega arith) (omega arith) (omega arith) (gives _))
+    (more (omega arith) (omega arith) (omega arith) (both draws_temp λ to. constant_draws to n))
 
-answer_draws : (dest : Option Opnd) → Draws 1 1 (answer_in dest)
-answer_draws dest = more (omega arith) (omega arith) (both (chooses dest) λ to. defines _ to)
+answer_draws : (dest : Option Opnd) → Draws 1 1 13 (answer_in dest)
+answer_draws dest = more (omega arith) (omega arith) (omega arith) (both (chooses dest) λ to. defines_move to _)
 
-far_draws : (n : ℕ) (x : Opnd) → Draws 4 1 (store_far n x)
-far_draws n x = more (omega arith) (omega arith) (both draws_temp λ t. both (constant_draws t n) λ u. both (puts _) λ u. puts _)
+far_draws : (n : ℕ) (x : Opnd) → Draws 4 1 40 (store_far n x)
+far_draws n x =
+    more (omega arith) (omega arith) (omega arith)
+    (both draws_temp λ t. both (constant_draws t n) λ u. both (puts _ (lit≤ tt)) λ u. puts _ (lit≤ tt))
 
-low_draws : (n : ℕ) (x : Opnd) → Draws 4 1 (store_low n x)
-low_draws n x = either (nat_lt n 32768) (more (omega arith) (omega arith) (puts _)) (far_draws n x)
+low_draws : (n : ℕ) (x : Opnd) → Draws 4 1 40 (store_low n x)
+low_draws n x = either (nat_lt n 32768) (more (omega arith) (omega arith) (omega arith) (puts _ (lit≤ tt))) (far_draws n x)
 
-passed_draws : (n i : ℕ) (value : Option Opnd → Choice Opnd) → ((dest : Option Opnd) → Draws (n + asked dest) n (value dest)) → Draws (n + 4) (n + 4) (passed i value)
+-- so many units, and a move where an operand is asked for
+abbrev Gives : (units : ℕ) → Option Opnd → Choice Opnd → Type 0
+Gives units dest choice = Draws (units + asked dest) units (12 * units + 13 * asked dest) choice
+
+-- no move where none is asked for
+unasked : {n m : ℕ} {choice : Choice Opnd} → n ≤ m → Gives n None choice → Within m choice
+unasked h i = more (omega (arith, h)) h (omega (arith, h)) i
+
+passed_draws : (n i : ℕ) (value : Option Opnd → Choice Opnd) → ((dest : Option Opnd) → Gives n dest (value dest)) → Within (n + 4) (passed i value)
 passed_draws n i value h =
-    either (nat_lt i 4) (more (omega arith) (omega arith) (both (h (Some (argument i))) λ u. gives tt))
-    (more (omega arith) (omega arith) (both (h None) λ v. low_draws _ v))
+    either (nat_lt i 4) (more (omega arith) (omega arith) (omega arith) (both (h (Some (argument i))) λ u. gives tt))
+    (more (omega arith) (omega arith) (omega arith) (both (h None) λ v. low_draws _ v))
 
-service_draws : {n k : ℕ} (number : ℕ) {side : Choice Opnd} → Draws n k side → Draws (n + 3) k (asked_for number side)
-service_draws number h = more (omega arith) (omega arith) (both h λ x. both (constant_draws _ number) λ u. puts _)
+service_draws : {n k w : ℕ} (number : ℕ) {side : Choice Opnd} → Draws n k w side → Draws (n + 3) k (w + 30) (asked_for number side)
+service_draws number h = more (omega arith) (omega arith) (omega arith) (both h λ x. both (constant_draws _ number) λ u. puts _ (lit≤ tt))
 
-given_draws : (t : ℕ) (rs : List ℕ) → Draws (length rs) 0 (given_back t rs)
+given_draws : (t : ℕ) (rs : List ℕ) → Draws (length rs) 0 (13 * length rs) (given_back t rs)
 given_draws t [] = gives tt
-given_draws t (r ∷ rs) = more (omega arith) (omega arith) (both (puts _) λ u. given_draws (t + 1) rs)
+given_draws t (r ∷ rs) = more (omega arith) (omega arith) (omega arith) (both (puts_move _ _) λ u. given_draws (t + 1) rs)
 
 module _ (slots : ℕ) where
   abbrev len : Tx → ℕ
   len x = expression_length Canonical x
 
   mutual
-    expression_draws : (x : Tx) (dest : Option Opnd) → Draws (len x + asked dest) (len x) (expression slots x dest)
-    expression_draws (tree.Const n) dest = more (omega arith) (omega arith) (constant_in_draws n dest)
-    expression_draws (tree.Address label) dest = more (omega arith) (omega arith) (both (chooses dest) λ to. defines _ to)
-    expression_draws (tree.Temp i) dest = more (omega arith) (omega arith) (moved_draws dest (temp i))
-    expression_draws tree.FrameAddress dest = more (omega arith) (omega arith) (both (chooses dest) λ to. defines _ to)
+    expression_draws : (x : Tx) (dest : Option Opnd) → Gives (len x) dest (expression slots x dest)
+    expression_draws (tree.Const n) dest = more (omega arith) (omega arith) (omega arith) (constant_in_draws n dest)
+    expression_draws (tree.Address label) dest = more (omega arith) (omega arith) (omega arith) (both (chooses dest) λ to. defines _ to (lit≤ tt))
+    expression_draws (tree.Temp i) dest = more (omega arith) (omega arith) (omega arith) (moved_draws dest (temp i))
+    expression_draws tree.FrameAddress dest = more (omega arith) (omega arith) (omega arith) (both (chooses dest) λ to. defines _ to (lit≤ tt))
     expression_draws (tree.Binary op x y) dest =
-        more (omega arith) (omega arith) (tiled_draws op y dest (expression_draws x None) (expression_draws y None) x)
+        more (omega arith) (omega arith) (omega arith) (tiled_draws op y dest (expression_draws x None) (expression_draws y None) x)
     expression_draws (tree.Load (tree.Binary op x y)) dest =
-        more (omega arith) (omega arith)
-        (both (chooses dest) λ to. loaded_draws (slot slots (tree.Binary op x y)) to
-        (based_draws {n = len (tree.Binary op x y)} {k = len (tree.Binary op x y)} (offset_by op y) (more (omega arith) (omega arith) (expression_draws x None))
-        (more (omega arith) (omega arith) (expression_draws (tree.Binary op x y) None))))
+        more (omega arith) (omega arith) (omega arith)
+        (loaded_draws dest
+        (based_draws (offset_by op y) (unasked (omega arith) (expression_draws x None))
+        (unasked {m = len (tree.Binary op x y)} (omega arith) (expression_draws (tree.Binary op x y) None)))
+        (slot slots (tree.Binary op x y)))
     expression_draws (tree.Load x) dest =
-        more (omega arith) (omega arith)
-        (both (chooses dest) λ to. loaded_draws None to (based_draws None (expression_draws x None) (expression_draws x None)))
+        more (omega arith) (omega arith) (omega arith)
+        (loaded_draws dest (based_draws None (expression_draws x None) (expression_draws x None)) None)
     expression_draws (tree.LoadByte (tree.Binary op x y)) dest =
-        more (omega arith) (omega arith)
-        (both (chooses dest) λ to. byte_draws to
-        (based_draws {n = len (tree.Binary op x y)} {k = len (tree.Binary op x y)} (offset_by op y) (more (omega arith) (omega arith) (expression_draws x None))
-        (more (omega arith) (omega arith) (expression_draws (tree.Binary op x y) None))))
+        more (omega arith) (omega arith) (omega arith)
+        (byte_draws dest
+        (based_draws (offset_by op y) (unasked (omega arith) (expression_draws x None))
+        (unasked {m = len (tree.Binary op x y)} (omega arith) (expression_draws (tree.Binary op x y) None))))
     expression_draws (tree.LoadByte x) dest =
-        more (omega arith) (omega arith)
-        (both (chooses dest) λ to. byte_draws to (based_draws None (expression_draws x None) (expression_draws x None)))
+        more (omega arith) (omega arith) (omega arith)
+        (byte_draws dest (based_draws None (expression_draws x None) (expression_draws x None)))
     expression_draws (tree.Call label xs) dest =
-        more (omega arith) (omega arith) (both (both (arguments_draw 0 xs) λ u. puts _) λ u. answer_draws dest)
+        more (omega arith) (omega arith) (omega arith) (both (both (arguments_draw 0 xs) λ u. puts _ (lit≤ tt)) λ u. answer_draws dest)
     expression_draws (tree.Service n x) dest =
-        more (omega arith) (omega arith) (both (service_draws n (expression_draws x (Some _))) λ u. answer_draws dest)
-    expression_draws (tree.After s x) dest = more (omega arith) (omega arith) (expression_draws x dest)
+        more (omega arith) (omega arith) (omega arith) (both (service_draws n (expression_draws x (Some _))) λ u. answer_draws dest)
+    expression_draws (tree.After s x) dest = more (omega arith) (omega arith) (omega arith) (expression_draws x dest)
 
-    arguments_draw : (i : ℕ) (xs : Txs) → Draws (arguments_length Canonical xs) (arguments_length Canonical xs) (arguments slots i xs)
+    arguments_draw : (i : ℕ) (xs : Txs) → Within (arguments_length Canonical xs) (arguments slots i xs)
     arguments_draw i no_txs = gives tt
     arguments_draw i (tx x xs) =
-        more (omega arith) (omega arith)
+        more (omega arith) (omega arith) (omega arith)
         (both (passed_draws (len x) i (expression slots x) (λ dest. expression_draws x dest)) λ u. arguments_draw (i + 1) xs)
 
-  value_draws : (x : Tx) → Draws (len x) (len x) (expression slots x None)
-  value_draws x = more (omega arith) (omega arith) (expression_draws x None)
+  value_draws : (x : Tx) → Within (len x) (expression slots x None)
+  value_draws x = unasked (omega arith) (expression_draws x None)
 
-  left_draws : (x : Tx) → Draws (len x) (len x) (left_side slots x)
-  left_draws (tree.Binary op x y) = more (omega arith) (omega arith) (expression_draws x None)
+  left_draws : (x : Tx) → Within (len x) (left_side slots x)
+  left_draws (tree.Binary op x y) = unasked (omega arith) (expression_draws x None)
   left_draws x = value_draws x
 
-  based_at_draws : (x : Tx) → Draws (len x) (len x) (based_at slots x)
+  based_at_draws : (x : Tx) → Within (len x) (based_at slots x)
   based_at_draws x = based_draws (offset x) (left_draws x) (value_draws x)
 
-  valued_draws : (x : Tx) → Draws (len x) (len x) (valued slots x)
-  valued_draws x = more (omega arith) (omega arith) (both (value_draws x) λ v. gives tt)
+  valued_draws : (x : Tx) → Within (len x) (valued slots x)
+  valued_draws x = more (omega arith) (omega arith) (omega arith) (both (value_draws x) λ v. gives tt)
 
-  effect_draws : (x : Tx) → Draws (len x) (len x) (effect slots x)
-  effect_draws (tree.Call label xs) = more (omega arith) (omega arith) (both (arguments_draw 0 xs) λ u. puts _)
-  effect_draws (tree.Service n x) = more (omega arith) (omega arith) (service_draws n (expression_draws x (Some _)))
+  effect_draws : (x : Tx) → Within (len x) (effect slots x)
+  effect_draws (tree.Call label xs) = more (omega arith) (omega arith) (omega arith) (both (arguments_draw 0 xs) λ u. puts _ (lit≤ tt))
+  effect_draws (tree.Service n x) = more (omega arith) (omega arith) (omega arith) (service_draws n (expression_draws x (Some _)))
   effect_draws x = valued_draws x
 
-  stored_draws : (o : Option ℕ) (x y : Tx) → Draws (1 + (len x + len y)) (1 + (len x + len y)) (stored slots o x y)
-  stored_draws (Some k) x y = more (omega arith) (omega arith) (both (value_draws y) λ v. puts _)
-  stored_draws None x y = more (omega arith) (omega arith) (both (based_at_draws x) λ b. both (value_draws y) λ v. puts _)
+  stored_draws : (o : Option ℕ) (x y : Tx) → Within (1 + (len x + len y)) (stored slots o x y)
+  stored_draws (Some k) x y = more (omega arith) (omega arith) (omega arith) (both (value_draws y) λ v. puts _ (lit≤ tt))
+  stored_draws None x y = more (omega arith) (omega arith) (omega arith) (both (based_at_draws x) λ b. both (value_draws y) λ v. puts _ (lit≤ tt))
 
-  stored_byte_draws : (x y : Tx) → Draws (1 + (len x + len y)) (1 + (len x + len y)) (stored_byte slots x y)
-  stored_byte_draws x y = more (omega arith) (omega arith) (both (based_at_draws x) λ b. both (value_draws y) λ v. puts _)
+  stored_byte_draws : (x y : Tx) → Within (1 + (len x + len y)) (stored_byte slots x y)
+  stored_byte_draws x y = more (omega arith) (omega arith) (omega arith) (both (based_at_draws x) λ b. both (value_draws y) λ v. puts _ (lit≤ tt))
 
-  statement_draws : (s : Ts) → Draws (statement_length Canonical s) (statement_length Canonical s) (statement slots s)
-  statement_draws (tree.Move i x) = more (omega arith) (omega arith) (both (expression_draws x (Some (temp i))) λ v. gives tt)
-  statement_draws (tree.Store x y) = more (omega arith) (omega arith) (stored_draws (slot slots x) x y)
-  statement_draws (tree.StoreByte x y) = more (omega arith) (omega arith) (stored_byte_draws x y)
-  statement_draws (tree.Do x) = more (omega arith) (omega arith) (effect_draws x)
-  statement_draws s = more (omega arith) (omega arith) (gives tt)
+  statement_draws : (s : Ts) → Within (statement_length Canonical s) (statement slots s)
+  statement_draws (tree.Move i x) = more (omega arith) (omega arith) (omega arith) (both (expression_draws x (Some (temp i))) λ v. gives tt)
+  statement_draws (tree.Store x y) = more (omega arith) (omega arith) (omega arith) (stored_draws (slot slots x) x y)
+  statement_draws (tree.StoreByte x y) = more (omega arith) (omega arith) (omega arith) (stored_byte_draws x y)
+  statement_draws (tree.Do x) = more (omega arith) (omega arith) (omega arith) (effect_draws x)
+  statement_draws s = more (omega arith) (omega arith) (omega arith) (gives tt)
 
-  compared_draws : (rel : Rel) (x y : Tx) (m : ℕ) → Draws (2 + (len x + len y)) (2 + (len x + len y)) (compared slots rel x y m)
-  compared_draws rel x y m = more (omega arith) (omega arith) (both (value_draws x) λ a. against_draws rel (short_side rel y) a m (value_draws y))
+  compared_draws : (rel : Rel) (x y : Tx) (m : ℕ) → Within (2 + (len x + len y)) (compared slots rel x y m)
+  compared_draws rel x y m =
+      more (omega arith) (omega arith) (omega arith)
+      (both (value_draws x) λ a. against_draws rel (short_side rel y) a m (value_draws y))
 
-  branch_draws : (rel : Rel) (x y : Tx) (m : ℕ) → Draws (2 + (len x + len y)) (2 + (len x + len y)) (branch slots rel x y m)
-  branch_draws rel x y m = either (is_turned rel x y) (more (omega arith) (omega arith) (compared_draws (turned rel) y x m)) (compared_draws rel x y m)
+  branch_draws : (rel : Rel) (x y : Tx) (m : ℕ) → Within (2 + (len x + len y)) (branch slots rel x y m)
+  branch_draws rel x y m =
+      either (is_turned rel x y) (more (omega arith) (omega arith) (omega arith) (compared_draws (turned rel) y x m))
+      (compared_draws rel x y m)
 
-  in_hi_draws : (rel : Rel) (y : Tx) (m : ℕ) → Draws (3 + len y) (2 + len y) (compared_in_hi slots rel y m)
+  in_hi_draws : (rel : Rel) (y : Tx) (m : ℕ) → Draws (3 + len y) (2 + len y) (30 + 12 * len y) (compared_in_hi slots rel y m)
   in_hi_draws rel y m =
-      more (omega arith) (omega arith) (both draws_temp λ a. both (puts _) λ u. against_draws rel (short_side rel y) a m (value_draws y))
+      more (omega arith) (omega arith) (omega arith)
+      (both draws_temp λ a. both (puts _ (lit≤ tt)) λ u. against_draws rel (short_side rel y) a m (value_draws y))
 
-  behind_draws : (before : Option Linear) (rel : Rel) (x y : Tx) (m : ℕ) →
-      Draws (2 + (len x + len y)) (2 + (len x + len y)) (branch_behind slots before rel x y m)
+  behind_draws : (before : Option Linear) (rel : Rel) (x y : Tx) (m : ℕ) → Within (2 + (len x + len y)) (branch_behind slots before rel x y m)
   behind_draws before rel (tree.Binary bin.MulHigh u v) y m =
-      either (is_in_hi before (tree.Binary bin.MulHigh u v)) (more (omega arith) (omega arith) (in_hi_draws rel y m))
+      either (is_in_hi before (tree.Binary bin.MulHigh u v)) (more (omega arith) (omega arith) (omega arith) (in_hi_draws rel y m))
       (branch_draws rel (tree.Binary bin.MulHigh u v) y m)
   behind_draws before rel x y m = branch_draws rel x y m
 
-  element_draws : (keeps : ℕ) (before : Option Linear) (e : Linear) → Draws (element_length e) (element_length e) (element slots keeps before e)
-  element_draws keeps before (tree.Mark m) = more (omega arith) (omega arith) (puts _)
-  element_draws keeps before (tree.Do' s) = more (omega arith) (omega arith) (statement_draws s)
-  element_draws keeps before (tree.Jump m) = more (omega arith) (omega arith) (puts _)
+  element_draws : (keeps : ℕ) (before : Option Linear) (e : Linear) → Within (element_length e) (element slots keeps before e)
+  element_draws keeps before (tree.Mark m) = more (omega arith) (omega arith) (omega arith) (puts _ (lit≤ tt))
+  element_draws keeps before (tree.Do' s) = more (omega arith) (omega arith) (omega arith) (statement_draws s)
+  element_draws keeps before (tree.Jump m) = more (omega arith) (omega arith) (omega arith) (puts _ (lit≤ tt))
   element_draws keeps before (tree.Branch rel x y m) = behind_draws before rel x y m
-  element_draws keeps before (tree.Fault' n) = more (omega arith) (omega arith) (puts _)
+  element_draws keeps before (tree.Fault' n) = more (omega arith) (omega arith) (omega arith) (puts _ (lit≤ tt))
   element_draws keeps before (tree.Return' x) =
-      more (omega arith) (omega arith) (both (expression_draws x (Some _)) λ v. both (given_draws keeps kept_registers) λ u. puts _)
+      more (omega arith) (omega arith) (omega arith) (both (expression_draws x (Some _)) λ v. both (given_draws keeps kept_registers) λ u. puts _ (lit≤ tt))
 
-  elements_draw : (keeps : ℕ) (before : Option Linear) (code : List Linear) → Draws (code_length code) (code_length code) (elements slots keeps before code)
+  elements_draw : (keeps : ℕ) (before : Option Linear) (code : List Linear) → Within (code_length code) (elements slots keeps before code)
   elements_draw keeps before [] = gives tt
-  elements_draw keeps before (e ∷ rest) = both (element_draws keeps before e) λ u. elements_draw keeps (Some e) rest
+  elements_draw keeps before (e ∷ rest) =
+      more (omega arith) (omega arith) (omega arith)
+      (both (element_draws keeps before e) λ u. elements_draw keeps (Some e) rest)
 
   -- The entry of a function.
 
-  parameter_draws : (i : ℕ) (home : Access) → Draws 6 6 (parameter slots i home)
+  from_caller_draws : (i : ℕ) (dest : Option Opnd) → Draws 5 5 58 (expression slots (from_caller i) dest)
+  from_caller_draws i dest =
+      let place : Tx = tree.Binary bin.Add tree.FrameAddress (tree.Const (4 * (i - 4))) in
+      more (omega arith) (omega arith) (omega arith)
+      (loaded_draws dest (based_draws (offset place) (unasked (omega arith) (expression_draws tree.FrameAddress None)) (value_draws place)) None)
+
+  parameter_draws : (i : ℕ) (home : Access) → Within 6 (parameter slots i home)
   parameter_draws i (InTemp t) =
-      either (nat_lt i 4) (more (omega arith) (omega arith) (puts _))
-      (more (omega arith) (omega arith) (both (expression_draws (from_caller i) (Some (temp t.0))) λ v. gives tt))
+      either (nat_lt i 4) (more (omega arith) (omega arith) (omega arith) (puts_move _ _))
+      (more (omega arith) (omega arith) (omega arith) (both (from_caller_draws i (Some (temp t.0))) λ v. gives tt))
   parameter_draws i (InFrame k) =
-      either (nat_lt i 4) (more (omega arith) (omega arith) (puts _)) (more (omega arith) (omega arith) (both (value_draws (from_caller i)) λ v. puts _))
+      either (nat_lt i 4) (more (omega arith) (omega arith) (omega arith) (puts _ (lit≤ tt)))
+      (more (omega arith) (omega arith) (omega arith) (both (from_caller_draws i None) λ v. puts _ (lit≤ tt)))
 
-  parameters_draw : (i : ℕ) (homes : List Access) → Draws (6 * length homes) (6 * length homes) (parameters slots i homes)
-  parameters_draw i [] = more (omega arith) (omega arith) (gives tt)
-  parameters_draw i (home ∷ homes) = more (omega arith) (omega arith) (both (parameter_draws i home) λ u. parameters_draw (i + 1) homes)
+  parameters_draw : (i : ℕ) (homes : List Access) → Within (6 * length homes) (parameters slots i homes)
+  parameters_draw i [] = more (omega arith) (omega arith) (omega arith) (gives tt)
+  parameters_draw i (home ∷ homes) = more (omega arith) (omega arith) (omega arith) (both (parameter_draws i home) λ u. parameters_draw (i + 1) homes)
 
-kept_draws : (rs : List ℕ) → Draws (length rs) (length rs) (kept rs)
+kept_draws : (rs : List ℕ) → Draws (length rs) (length rs) (13 * length rs) (kept rs)
 kept_draws [] = gives tt
-kept_draws (r ∷ rs) = more (omega arith) (omega arith) (both (both draws_temp λ t. puts _) λ u. kept_draws rs)
+kept_draws (r ∷ rs) = more (omega arith) (omega arith) (omega arith) (both (both draws_temp λ t. puts_move t _) λ u. kept_draws rs)
 
-body_draws : (f : Function (List Linear)) → Draws (flat_length f + 9) (flat_length f + 9) (body f)
+body_draws : (f : Function (List Linear)) → Draws (flat_length f + 9) (flat_length f + 9) (12 * flat_length f + 117) (body f)
 body_draws f =
-    more (omega arith) (omega arith)
+    more (omega arith) (omega arith) (omega arith)
     (both (kept_draws kept_registers) λ u. both (parameters_draw f.slots 0 f.params) λ u. elements_draw f.slots f.temps None f.body)
 
 pub few : InstructionsAreFew
 few f =
     let h = body_draws f in
     record { code = h.code _; temps = h.temps _; marks = h.marks _ }
+
+most : {count : Instr → ℕ} → CountsWords count → (one : Instr) → count one ≤ most_words one
+most h (Move to from) = h.moves to from
+most h one = h.others one (λ to from e. cc)
+
+pub words_few : WordsAreFew
+words_few count f h =
+    let w : sum_by most_words (munched f).code ≤ 12 * flat_length f + 117 = (body_draws f).words _ in
+    omega (arith, sum_by-le-sum_by count most_words (munched f).code (most h), w)

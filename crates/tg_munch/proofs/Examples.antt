@@ -1,10 +1,13 @@
 -- The instructions of small trees, computed.
-use Rattle.std.proofs.Common.{ℕ, ◌≡◌, List, [], ◌∷◌, None, refl}
+use Rattle.std.proofs.Common.{ℕ, ◌≡◌, ◌≢◌, ◌≤◌, ◌+◌, ◌*◌, List, [], ◌∷◌, None, sum_by, refl}
+use Rattle.std.proofs.Math.Dec.{lit≤}
 use Rattle.tg_frame.specs.declared.accesses.Access.TheVariants.{InTemp, InFrame}
 use Rattle.tg_tree.specs.declared.operators.Bin.TheVariants as bin
 use Rattle.tg_tree.specs.declared.operators.Rel.TheVariants.{Equal, NotEqual, Less, LessEqual, Greater, NotBelow}
 use Rattle.tg_tree.specs.Tree as tree
-use Rattle.tg_tree.specs.Tree.{Tx, Const, FrameAddress, Binary, Load, Txs, no_txs, tx, Linear, Mark, Do', Return'}
+use Rattle.tg_tree.specs.Tree.{Tx, Const, FrameAddress, Binary, Load, Txs, no_txs, tx, Linear, Mark, Do', Return', Function}
+use Rattle.tg_tree.specs.Sizes.{flat_length}
+use Rattle.tg_instr.specs.declared.operands.Opnd.{Opnd}
 use Rattle.tg_instr.specs.declared.operands.Opnd.TheVariants.{Reg}
 use Rattle.tg_instr.specs.declared.instr.Instr.{Instr}
 use Rattle.tg_instr.specs.declared.instr.Instr.TheVariants as instr
@@ -12,6 +15,8 @@ use Rattle.tg_instr.specs.declared.instr.Instr.TheVariants.{Addiu, Addi, Add, Ad
 use Rattle.tg_munch.specs.Choosing.{Drawn, ◌>>=◌}
 use Rattle.tg_munch.specs.Munching.{temp, expression, statement, branch, elements}
 use Rattle.tg_munch.specs.Bodies.{munched, outs}
+use Rattle.tg_munch.specs.Lengths.{kept_count, CountsWords}
+use Rattle.tg_munch.proofs.Draws.{most_words}
 
 abbrev start : Drawn
 start = record { temp = 9; mark = 5 }
@@ -112,9 +117,32 @@ unfolding ◌>>=◌
 words_for_arguments = refl
 
 -- a function of two parameters, the second of which escapes
-function : (munched (record { label = 33; params = InTemp (record { 0 = 0 }) ∷ InFrame 0 ∷ []; slots = 1; temps = 1; out = 0; body = Return' (Binary bin.AddTrap (t 0) (Const 1)) ∷ [] })).code ≡ Move (temp 1) (Reg 16) ∷ Move (temp 2) (Reg 17) ∷ Move (temp 3) (Reg 18) ∷ Move (temp 4) (Reg 19) ∷ Move (temp 5) (Reg 20) ∷ Move (temp 6) (Reg 21) ∷ Move (temp 7) (Reg 22) ∷ Move (temp 8) (Reg 23) ∷ Move (temp 9) (Reg 31) ∷ Move (temp 0) (Reg 4) ∷ FrameStore (Reg 5) 0 ∷ Addi (Reg 2) (temp 0) 1 ∷ Move (Reg 16) (temp 1) ∷ Move (Reg 17) (temp 2) ∷ Move (Reg 18) (temp 3) ∷ Move (Reg 19) (temp 4) ∷ Move (Reg 20) (temp 5) ∷ Move (Reg 21) (temp 6) ∷ Move (Reg 22) (temp 7) ∷ Move (Reg 23) (temp 8) ∷ Move (Reg 31) (temp 9) ∷ Return ∷ []
+abbrev next : Function (List Linear)
+next = record { label = 33; params = InTemp (record { 0 = 0 }) ∷ InFrame 0 ∷ []; slots = 1; temps = 1; out = 0; body = Return' (Binary bin.AddTrap (t 0) (Const 1)) ∷ [] }
+
+function : (munched next).code ≡ Move (temp 1) (Reg 16) ∷ Move (temp 2) (Reg 17) ∷ Move (temp 3) (Reg 18) ∷ Move (temp 4) (Reg 19) ∷ Move (temp 5) (Reg 20) ∷ Move (temp 6) (Reg 21) ∷ Move (temp 7) (Reg 22) ∷ Move (temp 8) (Reg 23) ∷ Move (temp 9) (Reg 31) ∷ Move (temp 0) (Reg 4) ∷ FrameStore (Reg 5) 0 ∷ Addi (Reg 2) (temp 0) 1 ∷ Move (Reg 16) (temp 1) ∷ Move (Reg 17) (temp 2) ∷ Move (Reg 18) (temp 3) ∷ Move (Reg 19) (temp 4) ∷ Move (Reg 20) (temp 5) ∷ Move (Reg 21) (temp 6) ∷ Move (Reg 22) (temp 7) ∷ Move (Reg 23) (temp 8) ∷ Move (Reg 31) (temp 9) ∷ Return ∷ []
 unfolding ◌>>=◌
 function = refl
+
+-- Twelve words a unit: a count that gives to a move thirteen, and ten to all else,
+counts_ten : (one : Instr) → ((to from : Opnd) → one ≢ Move to from) → most_words one ≤ 10
+counts_ten (Move to from) h = elim (h to from refl) [ ]
+counts_ten one h = lit≤ tt
+
+counts_words : CountsWords most_words
+counts_words = record { moves = λ to from. lit≤ tt; others = counts_ten }
+
+words_of_next : (flat_length next ≡ 29) × (sum_by most_words (munched next).code ≡ 277)
+unfolding ◌>>=◌
+words_of_next = (refl, refl)
+
+-- and no whole number below it would do: the sum of two calls is five units, of which 56 words come.
+abbrev two_calls : Function (List Linear)
+two_calls = record { label = 33; params = []; slots = 0; temps = 0; out = 0; body = Do' (tree.Do (Binary bin.Add (tree.Call 40 no_txs) (tree.Call 41 no_txs))) ∷ [] }
+
+words_of_calls : (flat_length two_calls ≡ 5) × (sum_by most_words (munched two_calls).code ≡ 13 * kept_count + 56)
+unfolding ◌>>=◌
+words_of_calls = (refl, refl)
 
 -- A check of a product takes the upper word out of HI, where the multiplication left it,
 abbrev check : (x y : Tx) → (product : ℕ) → Linear

@@ -1,4 +1,4 @@
-ghost use Rattle.tg_munch.specs.Lengths.{InstructionsAreFew};
+ghost use Rattle.tg_munch.specs.Lengths.{InstructionsAreFew, WordsAreFew};
 ghost use Rattle.tg_munch.specs.Laws.{
   MovesStay,
   CodeEndsWell,
@@ -35,9 +35,12 @@ pub fn code_is_marked()
     ensures stand { MarksStand }
 {}
 
-/// A law of the number of instructions: there are at most as many as the flat code of their
+/// Laws of the number of instructions: there are at most as many as the flat code of their
 /// function is long, and nine more, for the registers that are kept; and no more temporaries and
-/// marks are drawn for them than that.
+/// marks are drawn for them than that. However the words that come of them are counted, at most 13
+/// of a move and 10 of any other, there are at most twelve for each unit of that length, and nine
+/// moves'.
 pub fn code_is_short()
     ensures few { InstructionsAreFew }
+    ensures words { WordsAreFew }
 {}

@@ -1,0 +1,5 @@
+mod Functions
+mod Lines
+mod Allocating
+mod Programs
+mod Examples
