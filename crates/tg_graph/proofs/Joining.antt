@@ -1,15 +1,15 @@
 -- Graphs, when two nodes are joined.
 use Rattle.std.specs.Prelude.{◌==◌, nat_eq, nat_lt}
-use Rattle.std.proofs.Common.{◌≡◌, ◌≢◌, ℕ, zero, suc, ◌+◌, ◌-◌, ◌*◌, ◌<◌, ◌≤◌, ◌&&◌, ◌||◌, Bool, true, false, not, min, max, List, [], ◌∷◌, length, map, get_or, replicate, All, refl, sym, ap, ◌∙◌, subst, ⊎_elim, arith}
+use Rattle.std.proofs.Common.{◌≡◌, ◌≢◌, ℕ, zero, suc, ◌+◌, ◌-◌, ◌<◌, ◌≤◌, ◌&&◌, ◌||◌, Bool, true, false, not, min, max, List, [], ◌∷◌, length, map, get_or, replicate, All, refl, sym, ap, ◌∙◌, subst, ⊎_elim, arith}
 use Rattle.std.specs.List.{IsDistinct}
-use Rattle.std.proofs.lemmas.Bool.{cases_eq, cases_lt, cases_order, eq-eqb, ne_eqb, lt-ltb, le-ltb, eqb-true, or_cases, or_from, and_parts, and_left, and_right, false_from_ne_true}
+use Rattle.std.proofs.lemmas.Bool.{cases_eq, cases_lt, cases_order, eq-eqb, ne_eqb, lt-ltb, le-ltb, eqb-true, or_cases, or_from, and_parts, and_left, and_right, false_from_ne_true, cond-false}
 use Rattle.std.proofs.lemmas.List.{get_or_past, get_or-map, length-replicate, length-map}
 use Rattle.std.proofs.lemmas.List.Folds.{list_any_at}
 use Rattle.std.proofs.lemmas.Map.Steps.{length-le_from_distinct_below}
-use Rattle.tg_graph.specs.Bits.{bit, triangle, pair_place}
-use Rattle.tg_graph.specs.Interference.{Interference, IsGraph, colours, most_nodes, is_register, is_among, neighbours, are_joined, interferes, are_ends, with_neighbour, bare}
+use Rattle.tg_graph.specs.Bits.{bit, pair_place}
+use Rattle.tg_graph.specs.Interference.{Interference, IsGraph, colours, most_nodes, is_register, is_among, neighbours, are_joined, interferes, are_ends, with_neighbour, with_edge, bare}
 use Rattle.tg_graph.specs.Keeping.{IsKept, counted_up}
-use Rattle.tg_graph.proofs.Places.{same_pairs, bit_unset, read_replicate}
+use Rattle.tg_graph.proofs.Places.{same_pairs, bit_past, read_replicate}
 use Rattle.tg_graph.proofs.Changes.{among_with, distinct_with, counted_with, length_with}
 
 -- Interference by the order of two nodes.
@@ -47,6 +47,31 @@ registers_joined g x y h = ap (λ b. b || is_among x (neighbours g y)) (lt-ltb y
 pub temporary_joined : (g : Interference) (x y : ℕ) → colours ≤ y → are_joined g x y ≡ is_among x (neighbours g y)
 temporary_joined g x y h = ap (λ b. b || is_among x (neighbours g y)) (le-ltb y 25 h)
 
+true_and_false : (b : Bool) → b ≡ true → b ≡ false → ⊥
+true_and_false b p q = cc
+
+pub by_order : (g : Interference) (a b : ℕ) → a ≢ b → interferes g a b ≡ are_joined g (min a b) (max a b)
+by_order g a b d =
+    ⊎_elim
+    (λ (p : a < b).
+    let low : min a b ≡ a = omega arith in
+    let high : max a b ≡ b = omega arith in
+    below g a b p ∙ sym (ap (λ z. are_joined g z (max a b)) low ∙ ap (λ z. are_joined g a z) high))
+    (λ (p : b ≤ a).
+    let low : min a b ≡ b = omega arith in
+    let high : max a b ≡ a = omega arith in
+    above g a b (omega arith) ∙ sym (ap (λ z. are_joined g z (max a b)) low ∙ ap (λ z. are_joined g b z) high))
+    (cases_lt a b)
+
+-- of two nodes that don't interfere one is a temporary
+pub one_temporary : (g : Interference) (a b : ℕ) → a ≢ b → interferes g a b ≡ false → colours ≤ max a b
+one_temporary g a b d e =
+    ⊎_elim
+    (λ (h : max a b < 25).
+    absurd (true_and_false (interferes g a b) (by_order g a b d ∙ registers_joined g (min a b) (max a b) h) e))
+    (λ (h : 25 ≤ max a b). h)
+    (cases_lt (max a b) 25)
+
 -- what interferes with a node is a node
 pub stays_below : (g : Interference) (x y : ℕ) → IsGraph g → colours ≤ x → x < g.nodes → interferes g x y ≡ true →
     y < g.nodes
@@ -55,12 +80,9 @@ stays_below g x y s h k e =
     (λ (l : g.nodes ≤ y).
     let past : get_or g.adjacent (y - 25) [] ≡ [] =
     get_or_past g.adjacent (y - 25) [] (omega (arith, s.sized, h, k, l)) in
-    absurd (both (interferes g x y) e
+    absurd (true_and_false (interferes g x y) e
     (below g x y (omega (arith, k, l)) ∙ (temporary_joined g x y (omega (arith, h, k, l)) ∙ ap (is_among x) past))))
     (cases_lt y g.nodes)
-  where
-    both : (b : Bool) → b ≡ true → b ≡ false → ⊥
-    both b p q = cc
 
 pub neighbours_below : (g : Interference) (x m : ℕ) (xs : List ℕ) → IsGraph g → colours ≤ x → x < g.nodes →
     xs ≡ neighbours g x → g.nodes ≡ m →
@@ -111,6 +133,13 @@ degree_read g bits degrees x s h k =
 abbrev pub joined : Interference → (a b : ℕ) → Interference
 joined g a b = record { nodes = g.nodes; adjacent = with_neighbour b a (with_neighbour a b g.adjacent) }
 
+-- the graph with these lists
+abbrev pub graph_of : ℕ → List (List ℕ) → Interference
+graph_of n lists = record { nodes = n; adjacent = lists }
+
+pub edge_joined : (g : Interference) (a b : ℕ) → interferes g a b ≡ false → with_edge g a b ≡ joined g a b
+edge_joined g a b e = cond-false _ _ _ e
+
 ends_then : (p q r s o : Bool) → ((p && q) || ((r && s) || o)) ≡ (((r && s) || (p && q)) || o)
 ends_then p q r s o = either (p && q) (r && s)
   where
@@ -149,6 +178,18 @@ pub record CanJoin (g : Interference) (a b : ℕ) : Type 0 where
   pub second : b < g.nodes
   pub differ : a ≢ b
   pub apart : interferes g a b ≡ false
+
+-- which the invariant gives, where the nodes don't interfere
+pub can_join : (g now : Interference) (bits degrees : List ℕ) (a b : ℕ) → IsKept g bits degrees → g ≡ now →
+    a < now.nodes → b < now.nodes → a ≢ b → interferes now a b ≡ false → CanJoin g a b
+can_join g now bits degrees a b s p i j d e = record {
+  graph = s.graph;
+  some = s.some;
+  first = subst (λ (h : Interference). a < h.nodes) (sym p) i;
+  second = subst (λ (h : Interference). b < h.nodes) (sym p) j;
+  differ = d;
+  apart = ap (λ (h : Interference). interferes h a b) p ∙ e;
+}
 
 among_joined : (g : Interference) (a b x y : ℕ) → CanJoin g a b → colours ≤ x →
     is_among y (neighbours (joined g a b) x) ≡ (are_ends a b x y || is_among y (neighbours g x))
@@ -230,21 +271,22 @@ graph_joined g a b j = record {
 
 -- How it is kept.
 
-ends_told : (a b x y : ℕ) → x < y → a < b → (pair_place x y == pair_place a b) ≡ are_ends a b y x
-ends_told a b x y h k =
+ends_told : (n a b x y : ℕ) → x < y → y < n → colours ≤ y → a < b → b < n → colours ≤ b →
+    (pair_place n x y == pair_place n a b) ≡ are_ends a b y x
+ends_told n a b x y h l t k m w =
     ⊎_elim
     (λ (p : x ≡ a).
     ⊎_elim
     (λ (q : y ≡ b).
-    eq-eqb (pair_place x y) (pair_place a b) (ap (λ z. pair_place z y) p ∙ ap (λ z. pair_place a z) q)
+    eq-eqb (pair_place n x y) (pair_place n a b) (ap (λ z. pair_place n z y) p ∙ ap (λ z. pair_place n a z) q)
     ∙ sym (ap (λ o. ((y == a) && (x == b)) || (o && (x == a))) (eq-eqb y b q)
     ∙ (ap (λ o. ((y == a) && (x == b)) || (true && o)) (eq-eqb x a p) ∙ always ((y == a) && (x == b)))))
     (λ (q : y ≢ b).
-    ne_eqb (pair_place x y) (pair_place a b) (λ e. q (same_pairs x y a b h k e).1)
+    ne_eqb (pair_place n x y) (pair_place n a b) (λ e. q (same_pairs n x y a b h l t k m w e).1)
     ∙ sym (or_from ((y == a) && (x == b)) ((y == b) && (x == a)) (cross p) (and_left (y == b) (x == a) (ne_eqb y b q))))
     (cases_eq y b))
     (λ (p : x ≢ a).
-    ne_eqb (pair_place x y) (pair_place a b) (λ e. p (same_pairs x y a b h k e).0)
+    ne_eqb (pair_place n x y) (pair_place n a b) (λ e. p (same_pairs n x y a b h l t k m w e).0)
     ∙ sym (or_from ((y == a) && (x == b)) ((y == b) && (x == a)) crossed (and_right (y == b) (x == a) (ne_eqb x a p))))
     (cases_eq x a)
   where
@@ -265,36 +307,55 @@ turned p q r s = either (p && q) (r && s)
     either false true = refl
     either false false = refl
 
-pub ends_by_place : (a b x y : ℕ) → x < y → a ≢ b →
-    (pair_place x y == pair_place (min a b) (max a b)) ≡ are_ends a b y x
-ends_by_place a b x y h d =
+pub ends_by_place : (n a b x y : ℕ) → x < y → y < n → colours ≤ y → a < n → b < n → a ≢ b → colours ≤ max a b →
+    (pair_place n x y == pair_place n (min a b) (max a b)) ≡ are_ends a b y x
+ends_by_place n a b x y h l t i j d w =
     ⊎_elim
     (λ (k : a < b).
     let low : min a b ≡ a = omega arith in
     let high : max a b ≡ b = omega arith in
-    ap (λ z. pair_place x y == pair_place z (max a b)) low
-    ∙ (ap (λ z. pair_place x y == pair_place a z) high ∙ ends_told a b x y h k))
+    ap (λ z. pair_place n x y == pair_place n z (max a b)) low
+    ∙ (ap (λ z. pair_place n x y == pair_place n a z) high ∙ ends_told n a b x y h l t k j (omega (arith, w, high))))
     (λ (k : b ≤ a).
     let low : min a b ≡ b = omega arith in
     let high : max a b ≡ a = omega arith in
     let less : b < a = omega arith in
-    ap (λ z. pair_place x y == pair_place z (max a b)) low
-    ∙ (ap (λ z. pair_place x y == pair_place b z) high
-    ∙ (ends_told b a x y h less ∙ turned (y == b) (x == a) (y == a) (x == b))))
+    ap (λ z. pair_place n x y == pair_place n z (max a b)) low
+    ∙ (ap (λ z. pair_place n x y == pair_place n b z) high
+    ∙ (ends_told n b a x y h l t less i (omega (arith, w, high)) ∙ turned (y == b) (x == a) (y == a) (x == b))))
     (cases_lt a b)
 
+-- the bit of two nodes tells whether they interfere
+pub bit_told : (g : Interference) (bits degrees : List ℕ) (a b : ℕ) → IsKept g bits degrees → a < g.nodes →
+    b < g.nodes → a ≢ b → colours ≤ max a b →
+    bit bits (pair_place g.nodes (min a b) (max a b)) ≡ interferes g a b
+bit_told g bits degrees a b s i j d t =
+    s.told (min a b) (max a b) (omega arith) (omega arith) t
+    ∙ sym (by_order g a b d ∙ temporary_joined g (min a b) (max a b) t)
+
+-- the same graph, kept in other words that have the same bits
+pub kept_reached : (g : Interference) (bits degrees new : List ℕ) → IsKept g bits degrees →
+    ((k : ℕ) → bit new k ≡ bit bits k) →
+    IsKept g new degrees
+kept_reached g bits degrees new s w = record {
+  some = s.some;
+  few = s.few;
+  graph = s.graph;
+  told = λ x y h k t. w (pair_place g.nodes x y) ∙ s.told x y h k t;
+  counted = s.counted;
+}
+
 pub kept_joined : (g : Interference) (bits degrees new : List ℕ) (a b : ℕ) → IsKept g bits degrees → CanJoin g a b →
-    length new ≡ length bits →
-    ((k : ℕ) → bit new k ≡ ((k == pair_place (min a b) (max a b)) || bit bits k)) →
+    ((k : ℕ) → bit new k ≡ ((k == pair_place g.nodes (min a b) (max a b)) || bit bits k)) →
     IsKept (joined g a b) new (counted_up b (counted_up a degrees))
-kept_joined g bits degrees new a b s j l w = record {
+kept_joined g bits degrees new a b s j w = record {
   some = s.some;
   few = s.few;
   graph = graph_joined g a b j;
-  room = subst (λ (n : ℕ). triangle g.nodes ≤ 64 * n) (sym l) s.room;
   told = λ x y h k t.
-      w (pair_place x y)
-      ∙ (ap (λ o. o || bit bits (pair_place x y)) (ends_by_place a b x y h j.differ)
+      w (pair_place g.nodes x y)
+      ∙ (ap (λ o. o || bit bits (pair_place g.nodes x y))
+      (ends_by_place g.nodes a b x y h k t j.first j.second j.differ (one_temporary g a b j.differ j.apart))
       ∙ (ap (λ o. are_ends a b y x || o) (s.told x y h k t) ∙ sym (among_joined g a b y x j t)));
   counted =
       ap (λ ds. counted_up b (counted_up a ds)) s.counted
@@ -322,10 +383,9 @@ none_interferes n x y h =
     (λ (p : y < x). above (bare n) x y p ∙ none_joined n y x h) o)
     (cases_order x y)
 
-pub kept_bare : (n words : ℕ) → colours ≤ n → n ≤ most_nodes → triangle n ≤ 64 * words →
-    IsKept (bare n) (replicate words 0) (replicate (n - colours) 0)
+pub kept_bare : (n : ℕ) → colours ≤ n → n ≤ most_nodes → IsKept (bare n) [] (replicate (n - colours) 0)
 unfolding IsDistinct
-kept_bare n words h k r = record {
+kept_bare n h k = record {
   some = h;
   few = k;
   graph = record {
@@ -333,8 +393,7 @@ kept_bare n words h k r = record {
     exact = λ x y l. none_among n x y ∙ sym (none_interferes n x y l);
     distinct = λ x. subst (λ (xs : List ℕ). IsDistinct nat_eq xs) (sym (read_replicate (n - 25) (x - 25) [])) tt;
   };
-  room = subst (λ (m : ℕ). triangle n ≤ 64 * m) (sym (length-replicate words 0)) r;
-  told = λ x y l m t. bit_unset words (pair_place x y) ∙ sym (none_among n y x);
+  told = λ x y l m t. bit_past [] (pair_place n x y) (omega arith) ∙ sym (none_among n y x);
   counted = map_replicate (n - 25);
 }
 

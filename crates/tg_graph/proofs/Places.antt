@@ -1,11 +1,12 @@
--- The places of pairs in a triangle, and bits of words.
+-- The places of pairs, and bits of words.
 use Rattle.std.specs.Prelude.{◌==◌}
-use Rattle.std.proofs.Common.{◌≡◌, ◌≢◌, ℕ, zero, suc, ◌+◌, ◌-◌, ◌*◌, ◌/◌, ◌%◌, ◌^◌, ◌<◌, ◌≤◌, ◌||◌, false, List, length, get_or, set, replicate, bit_or, refl, sym, ap, ◌∙◌, subst, ⊎_elim, arith}
-use Rattle.std.proofs.lemmas.Bool.{cases_eq, cases_lt, cases_order, eq-eqb, ne_eqb}
+use Rattle.std.proofs.Common.{◌≡◌, ◌≢◌, ℕ, zero, suc, ◌+◌, ◌-◌, ◌*◌, ◌/◌, ◌%◌, ◌^◌, ◌<◌, ◌≤◌, ◌||◌, false, List, length, min, max, get_or, set, replicate, bit_or, refl, sym, ap, ◌∙◌, subst, ⊎_elim, arith}
+use Rattle.std.proofs.lemmas.Bool.{cases_eq, cases_lt, cases_order, eq-eqb, ne_eqb, lt-ltb, le-ltb, cond-true, cond-false}
 use Rattle.std.proofs.lemmas.List.{get_or-set_same, get_or-set_other, get_or-replicate, get_or_past, length-replicate}
 use Rattle.std.proofs.lemmas.Nat.Bits.{bit_at_set_same, bit_at_set_other, bit_at-zero}
 use Rattle.std.specs.Int.{bit_at, w64}
-use Rattle.tg_graph.specs.Bits.{bit, triangle, pair_place}
+use Rattle.tg_graph.specs.Bits.{bit, triangle, nearer, pair_place}
+use Rattle.tg_graph.specs.Interference.{colours}
 
 -- Triangles, by their step.
 
@@ -24,6 +25,11 @@ grows T more (suc k) y =
     let e : suc k + y ≡ suc (k + y) = omega arith in
     omega (arith, ap T e, more (k + y), grows T more k y)
 
+shrinks : (T : ℕ → ℕ) → ((n : ℕ) → T (suc n) ≡ T n + n) → (n y : ℕ) → y ≤ n → T y ≤ T n
+shrinks T more n y h =
+    let e : n - y + y ≡ n = omega (arith, h) in
+    omega (arith, grows T more (n - y) y, ap T e)
+
 place_below : (T : ℕ → ℕ) → ((n : ℕ) → T (suc n) ≡ T n + n) → (x y n : ℕ) → x < y → y < n → T y + x < T n
 place_below T more x y n h k =
     let e : n - suc y + suc y ≡ n = omega arith in
@@ -37,17 +43,74 @@ same_places T more x y u v h k e =
     (λ (p : v < y). absurd (omega (arith, e, place_below T more u v y k p))) o)
     (cases_order y v)
 
-pub pair_below : (x y n : ℕ) → x < y → y < n → pair_place x y < triangle n
-pair_below x y n h k = place_below triangle triangle_more x y n h k
+-- Places of pairs.
 
-pub same_pairs : (x y u v : ℕ) → x < y → u < v → pair_place x y ≡ pair_place u v → (x ≡ u) × (y ≡ v)
-same_pairs x y u v h k e = same_places triangle triangle_more x y u v h k e
+with_register : (n x y : ℕ) → x < colours → pair_place n x y ≡ (y - 25) * 25 + x
+with_register n x y h = cond-true _ _ _ (lt-ltb x 25 h)
 
--- where a pair's bit is within the words for n nodes
-pub pair_within : (x y n k : ℕ) → x < y → y < n → triangle n ≤ 64 * k → pair_place x y / 64 < k
-pair_within x y n k h l m =
-    let all : (p t : ℕ) → p < t → t ≤ 64 * k → p / 64 < k = λ p t a b. omega (arith, a, b) in
-    all (pair_place x y) (triangle n) (pair_below x y n h l) m
+of_temporaries : (n x y : ℕ) → colours ≤ x → pair_place n x y ≡ (n - 25) * 25 + nearer (n - 25) (y - x) + (x - 25)
+of_temporaries n x y h = cond-false _ _ _ (le-ltb x 25 h)
+
+-- the place of a pair of temporaries, counted from the last
+mirrored : (T : ℕ → ℕ) → ((n : ℕ) → T (suc n) ≡ T n + n) → (n x y : ℕ) → 25 ≤ x → x < y → y < n →
+    T (n - 25) - T (n - 25 + 1 - (y - x)) + (x - 25) + suc (T (n - 25 - (y - x)) + (n - suc y)) ≡ T (n - 25)
+mirrored T more n x y h k l =
+    let p = n - 25 - (y - x) in
+    let step : n - 25 + 1 - (y - x) ≡ suc p = omega (arith, h, k, l) in
+    omega (arith, h, k, l, ap T step, more p, shrinks T more (n - 25) (suc p) (omega (arith, h, k, l)))
+
+same_temporaries : (n x y u v : ℕ) → 25 ≤ x → x < y → y < n → 25 ≤ u → u < v → v < n →
+    pair_place n x y ≡ pair_place n u v → (x ≡ u) × (y ≡ v)
+same_temporaries n x y u v hx h k hu l m e =
+    let first : nearer (n - 25) (y - x) + (x - 25) + suc (triangle (n - 25 - (y - x)) + (n - suc y))
+    ≡ triangle (n - 25) =
+    mirrored triangle triangle_more n x y hx h k in
+    let second : nearer (n - 25) (v - u) + (u - 25) + suc (triangle (n - 25 - (v - u)) + (n - suc v))
+    ≡ triangle (n - 25) =
+    mirrored triangle triangle_more n u v hu l m in
+    let turned = from_last (nearer (n - 25) (y - x)) (nearer (n - 25) (v - u)) (triangle (n - 25 - (y - x)))
+    (triangle (n - 25 - (v - u))) (triangle (n - 25)) ((n - 25) * 25) (x - 25) (u - 25) (n - suc y) (n - suc v)
+    first second (sym (of_temporaries n x y hx) ∙ (e ∙ of_temporaries n u v hu)) in
+    let same = same_places triangle triangle_more (n - suc y) (n - 25 - (y - x)) (n - suc v) (n - 25 - (v - u))
+    (omega (arith, hx, h, k)) (omega (arith, hu, l, m)) turned in
+    (omega (arith, same.0, same.1, hx, h, k, hu, l, m), omega (arith, same.0, k, m))
+  where
+    from_last : (f g p q t r x u i j : ℕ) → f + x + suc (p + i) ≡ t → g + u + suc (q + j) ≡ t →
+        r + f + x ≡ r + g + u → p + i ≡ q + j
+    from_last f g p q t r x u i j a b c = omega (arith, a, b, c)
+
+-- pairs with a register stand before the others
+apart : (n x y u v : ℕ) → x < colours → y < n → 25 ≤ y → 25 ≤ u → pair_place n x y ≢ pair_place n u v
+apart n x y u v h k l m e =
+    before (nearer (n - 25) (v - u)) (sym (with_register n x y h) ∙ (e ∙ of_temporaries n u v m))
+  where
+    before : (f : ℕ) → (y - 25) * 25 + x ≡ (n - 25) * 25 + f + (u - 25) → ⊥
+    before f p = absurd (omega (arith, p, h, k, l))
+
+pub same_pairs : (n x y u v : ℕ) → x < y → y < n → 25 ≤ y → u < v → v < n → 25 ≤ v →
+    pair_place n x y ≡ pair_place n u v → (x ≡ u) × (y ≡ v)
+same_pairs n x y u v h k t l m w e =
+    ⊎_elim
+    (λ (p : x < 25).
+    ⊎_elim
+    (λ (q : u < 25).
+    let f : (y - 25) * 25 + x ≡ (v - 25) * 25 + u =
+    sym (with_register n x y p) ∙ (e ∙ with_register n u v q) in
+    (omega (arith, f, p, q), omega (arith, f, p, q, t, w)))
+    (λ (q : 25 ≤ u). absurd (apart n x y u v p k t q e))
+    (cases_lt u 25))
+    (λ (p : 25 ≤ x).
+    ⊎_elim (λ (q : u < 25). absurd (apart n u v x y q m w p (sym e)))
+    (λ (q : 25 ≤ u). same_temporaries n x y u v p h k q l m e)
+    (cases_lt u 25))
+    (cases_lt x 25)
+
+-- the place of two nodes, by what was called to find it
+pub place_at : (m n a b low high place : ℕ) → place ≡ pair_place m low high → m ≡ n → low ≡ min a b → high ≡ max a b →
+    place ≡ pair_place n (min a b) (max a b)
+place_at m n a b low high place p e f g =
+    p ∙ (ap (λ k. pair_place k low high) e
+    ∙ (ap (λ z. pair_place n z high) f ∙ ap (λ z. pair_place n (min a b) z) g))
 
 -- Bits.
 
@@ -88,9 +151,7 @@ read_replicate n i d =
     (λ (h : n ≤ i). get_or_past (replicate n d) i d (subst (λ (m : ℕ). m ≤ i) (sym (length-replicate n d)) h))
     (cases_lt i n)
 
-pub bit_unset : (n k : ℕ) → bit (replicate n 0) k ≡ false
-bit_unset n k = ap (λ w. bit_at w (k % 64) == 1) (read_replicate n (k / 64) 0) ∙ ap (λ i. i == 1) (bit_at-zero (k % 64))
-
-pub within_at : (p q : ℕ) (xs ys : List ℕ) → p ≡ q → xs ≡ ys → q / 64 < length ys → p / 64 < length xs
-within_at p q xs ys e f h =
-    subst (λ (zs : List ℕ). p / 64 < length zs) (sym f) (subst (λ (i : ℕ). i / 64 < length ys) (sym e) h)
+-- beyond the words each bit is 0
+pub bit_past : (words : List ℕ) (at : ℕ) → length words ≤ at / 64 → bit words at ≡ false
+bit_past words at h =
+    ap (λ w. bit_at w (at % 64) == 1) (get_or_past words (at / 64) 0 h) ∙ ap (λ i. i == 1) (bit_at-zero (at % 64))

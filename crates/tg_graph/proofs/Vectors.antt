@@ -26,6 +26,12 @@ pub list_read : (vs : List (Vec ℕ Global)) (i : ℕ) (w : Vec ℕ Global) → 
 list_read vs i w l e = get_or-map (λ (v : Vec ℕ Global). v.items) vs i w [] l
     ∙ ap (λ (v : Vec ℕ Global). v.items) (sym e)
 
+-- as many vectors as lists were, before one of them had one more neighbour
+pub size_with : (vs : List (Vec ℕ Global)) (x y : ℕ) (lists : List (List ℕ)) →
+    lists_of vs ≡ with_neighbour x y lists →
+    length vs ≡ length lists
+size_with vs x y lists e = sym (length-map vs (λ v. v.items)) ∙ (ap length e ∙ length_with x y lists)
+
 lists_set : (vs : List (Vec ℕ Global)) (i : ℕ) (v : Vec ℕ Global) → lists_of (set vs i v) ≡ set (lists_of vs) i v.items
 lists_set vs i v = map-set (λ (u : Vec ℕ Global). u.items) vs i v
 

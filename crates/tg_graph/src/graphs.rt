@@ -23,7 +23,7 @@ ghost use Rattle.tg_graph.specs.Interference.{
   with_edge,
 };
 
-use crate::bits::{has_bit, pair_place, set_bit, triangle};
+use crate::bits::{has_bit, pair_place, reach, set_bit};
 use crate::lists::{COLOURS, count_up, empty_lists, pop_neighbour, push_neighbour};
 use std::alloc::Global;
 use std::marker::Model;
@@ -54,17 +54,17 @@ impl Model for Graph {
 }
 
 impl Graph {
-    /// A graph in which the registers alone interfere. For n nodes it takes n(n-1)/2 bits.
+    /// A graph in which the registers alone interfere. It has no bits: edges take them, at most
+    /// n(n-1)/2 for n nodes, and fewer where they join temporaries whose numbers are near.
     pub fn new(alloc: Global, nodes: u32) -> Result<Graph, Memory>
         requires low { colours ≤ nodes }
         requires high { nodes ≤ most_nodes }
         ensures { IfOk result (λ g. g ≡ bare nodes) }
     {
-        let words = triangle(nodes) / 64 + 1;
         let temporaries = nodes - COLOURS;
         Ok(Graph {
             nodes,
-            pairs: vec![in alloc; 0u64; words]?,
+            pairs: Vec::new(alloc),
             degrees: vec![in alloc; 0u32; temporaries as usize]?,
             adjacent: empty_lists(alloc, temporaries)?,
         })
@@ -94,7 +94,8 @@ impl Graph {
         if self.interferes(a, b) {
             return Ok(());
         }
-        let at = pair_place(a.min(b), a.max(b));
+        let at = pair_place(self.nodes(), a.min(b), a.max(b));
+        reach(&mut self.pairs, at)?;
         push_neighbour(&mut self.adjacent, a, b)?;
         if push_neighbour(&mut self.adjacent, b, a).is_err() {
             pop_neighbour(&mut self.adjacent, a);
@@ -112,9 +113,9 @@ impl Graph {
         requires second { b < self.now.nodes }
         ensures { result ≡ graph.interferes self.now a b }
     {
-        let _nodes = self.nodes;
+        let nodes = self.nodes;
         let high = a.max(b);
-        a != b && (high < COLOURS || has_bit(&self.pairs, pair_place(a.min(b), high)))
+        a != b && (high < COLOURS || has_bit(&self.pairs, pair_place(nodes, a.min(b), high)))
     }
 
     /// How many neighbours a temporary has.

@@ -1,13 +1,23 @@
-use Rattle.std.proofs.Common.{◌≡◌, ◌<◌, length, ap, arith}
-use Rattle.tg_graph.specs.Interference.{Interference}
-use Rattle.tg_graph.proofs.Places.{pair_within, within_at}
+use Rattle.std.proofs.Common.{◌≡◌, ℕ, ◌≤◌, List, max, refl, ap, ◌∙◌, subst, arith}
+use Rattle.tg_graph.specs.Bits.{bit}
+use Rattle.tg_graph.specs.Interference.{Interference, interferes, colours}
+use Rattle.tg_graph.specs.Keeping.{lists_of}
+use Rattle.tg_graph.proofs.Places.{place_at}
+use Rattle.tg_graph.proofs.Joining.{bit_told, graph_of}
 use Rattle.tg_graph.proofs.graphs.Graph.interferes.Goals as goal
 
-pub has_bit-requires : goal.has_bit-requires
-has_bit-requires c =
-    let nodes : c.self.inside.nodes ≡ c.args.self.now.nodes = ap (λ (g : Interference). g.nodes) c.self.view_is in
-    let order : c.min.result < c.max-high.result = omega arith in
-    let node : c.max-high.result < c.self.inside.nodes = omega arith in
-    within_at _ _ _ _ c.pair_place.ensures c.deref.ensures.value
-    (pair_within c.min.result c.max-high.result c.self.inside.nodes
-    (length c.self.inside.pairs.items) order node c.self.invariant.room)
+pub returns-else-high-lt-COLOURS : goal.returns-else-high-lt-COLOURS
+returns-else-high-lt-COLOURS c =
+    let a = c.args.a in
+    let b = c.args.b in
+    let n = c.self.inside.nodes in
+    let bits = c.self.inside.pairs.items in
+    let g : Interference = graph_of n (lists_of c.self.inside.adjacent.items) in
+    let nodes : n ≡ c.args.self.now.nodes = ap (λ (h : Interference). h.nodes) c.self.view_is in
+    let temporary : colours ≤ max a b = subst (λ (z : ℕ). 25 ≤ z) c.max-high.ensures (omega arith) in
+    c.has_bit.ensures
+    ∙ (ap (λ (ws : List ℕ). bit ws c.pair_place.result) c.deref.ensures.value
+    ∙ (ap (λ (z : ℕ). bit bits z) (place_at n n a b _ _ _ c.pair_place.ensures refl c.min.ensures c.max-high.ensures)
+    ∙ (bit_told g bits c.self.inside.degrees.items a b c.self.invariant (omega arith) (omega arith)
+    (omega arith) temporary
+    ∙ ap (λ (h : Interference). interferes h a b) c.self.view_is)))
