@@ -1,6 +1,6 @@
 ghost use Rattle.std.specs.Prelude.{◌≡◌, IfOk, IsTrue};
 ghost use Rattle.std.specs.List.{list_all};
-ghost use Rattle.tg_instr.specs.declared.operands.Opnd.TheVariants.{Temp as TempOf};
+ghost use Rattle.tg_instr.specs.declared.operands.Opnd.TheVariants.{Reg as RegOf, Temp as TempOf};
 ghost use Rattle.tg_instr.specs.Codes.{has_slots_below};
 ghost use Rattle.tg_spill.specs.Conditions.{is_fixed, names_registers};
 
@@ -11,7 +11,7 @@ use tg_base::{Label, Memory, Temp};
 use tg_frame::new_frame;
 use tg_instr::{Code, Instr, Instrs, Opnd, push_instr};
 use tg_interference::interference;
-use tg_isa::Reg;
+use tg_isa::{Bits, Reg};
 use tg_listing::list;
 use tg_live::{flow, live};
 use tg_rounds::LeastUse;
@@ -97,6 +97,56 @@ fn kept_over_a_call(alloc: Global) -> Result<Code, Memory>
     })
 }
 
+/// A register that a function keeps for its caller.
+fn kept(number: u8) -> Opnd
+    requires { number < 32 }
+    ensures { result ≡ RegOf number }
+{
+    Opnd::Reg(Reg::new(number))
+}
+
+/// The body of `print("hello\n")`: what a function keeps for its caller goes to temporaries, and
+/// back in the end.
+fn printing(alloc: Global) -> Result<Code, Memory>
+    ensures registers { IfOk result
+        (λ code. IsTrue (list_all (names_registers is_fixed) code.list)) }
+    ensures slots { IfOk result (λ code. IsTrue (list_all (has_slots_below 0) code.list)) }
+    ensures temps { IfOk result (λ code. code.temps ≡ 9) }
+{
+    let mut list = Vec::new(alloc);
+    push_instr(&mut list, Instr::Move(temp(0), kept(16)))?;
+    push_instr(&mut list, Instr::Move(temp(1), kept(17)))?;
+    push_instr(&mut list, Instr::Move(temp(2), kept(18)))?;
+    push_instr(&mut list, Instr::Move(temp(3), kept(19)))?;
+    push_instr(&mut list, Instr::Move(temp(4), kept(20)))?;
+    push_instr(&mut list, Instr::Move(temp(5), kept(21)))?;
+    push_instr(&mut list, Instr::Move(temp(6), kept(22)))?;
+    push_instr(&mut list, Instr::Move(temp(7), kept(23)))?;
+    push_instr(&mut list, Instr::Move(temp(8), Opnd::Reg(Reg::RA)))?;
+    push_instr(&mut list, Instr::Mark(0))?;
+    push_instr(&mut list, Instr::Address(Opnd::Reg(Reg::A0), Label(33)))?;
+    push_instr(&mut list, Instr::Call(Label(3)))?;
+    let zero = Opnd::Reg(Reg::ZERO);
+    push_instr(
+        &mut list,
+        Instr::Addiu(Opnd::Reg(Reg::V0), zero, Bits::new(0)),
+    )?;
+    push_instr(&mut list, Instr::Move(kept(16), temp(0)))?;
+    push_instr(&mut list, Instr::Move(kept(17), temp(1)))?;
+    push_instr(&mut list, Instr::Move(kept(18), temp(2)))?;
+    push_instr(&mut list, Instr::Move(kept(19), temp(3)))?;
+    push_instr(&mut list, Instr::Move(kept(20), temp(4)))?;
+    push_instr(&mut list, Instr::Move(kept(21), temp(5)))?;
+    push_instr(&mut list, Instr::Move(kept(22), temp(6)))?;
+    push_instr(&mut list, Instr::Move(kept(23), temp(7)))?;
+    push_instr(&mut list, Instr::Move(Opnd::Reg(Reg::RA), temp(8)))?;
+    push_instr(&mut list, Instr::Return)?;
+    Ok(Code {
+        list: Instrs::from_vec(list),
+        temps: 9,
+    })
+}
+
 #[test]
 fn a_copy_does_not_interfere(rt: HostRuntime) -> Result<(), Fail> {
     let code = copied(rt.alloc())?;
@@ -127,6 +177,17 @@ fn every_temporary_goes_to_the_frame(rt: HostRuntime) -> Result<(), Fail> {
     let allocation = in_frame(rt.alloc(), &code, frame)?;
     assert_eq!(rt; allocation.slots, 3);
     assert_eq!(rt; allocation.done.code.list.as_slice().len(), 9);
+    assert!(rt; allocation.all_in_frame);
+    Ok(())
+}
+
+#[test]
+fn what_a_program_keeps_goes_to_the_frame(rt: HostRuntime) -> Result<(), Fail> {
+    let code = printing(rt.alloc())?;
+    let frame = new_frame(rt.alloc(), Label(32), &[])?;
+    let allocation = in_frame(rt.alloc(), &code, frame)?;
+    assert_eq!(rt; allocation.slots, 9);
+    assert_eq!(rt; allocation.done.code.list.as_slice().len(), 23);
     assert!(rt; allocation.all_in_frame);
     Ok(())
 }
