@@ -13,7 +13,7 @@ pub(crate) fn has_bit(words: &[u32], at: usize) -> bool
     at / 32 < words.len() && (words[at / 32] >> (at % 32)) & 1 == 1
 }
 
-/// Takes the words of a tile, where that of a place isn't there.
+/// Takes all words of a tile, where that of a place isn't there.
 pub(crate) fn reach(words: &mut Vec<u32>, at: usize) -> Result<(), Memory>
     requires { at < area }
     ensures within { OnOk result (at / 32 < length words.new.items) }

@@ -30,8 +30,8 @@ use std::marker::Model;
 use tg_base::Memory;
 
 /// An interference graph: the registers that serve as colours, which all interfere with each
-/// other, and temporaries. It has a bit for each pair of nodes, and a counter and a list for each
-/// temporary (Appel, chapter 11: `adjSet`, `degree` and `adjList`).
+/// other, and temporaries. It has a bit for each pair of nodes, in tiles, and a counter and a list
+/// for each temporary (Appel, chapter 11: `adjSet`, `degree` and `adjList`).
 #[derive(Drop)]
 pub struct Graph {
     nodes: u32,
@@ -54,8 +54,8 @@ impl Model for Graph {
 }
 
 impl Graph {
-    /// A graph in which the registers alone interfere. It has tiles without bits: edges take them,
-    /// for n nodes n(n-1)/2 and few more at most.
+    /// A graph in which the registers alone interfere. It has no bits yet: edges take them, a tile
+    /// at a time, and for n nodes little more than n(n-1)/2 in all.
     pub fn new(alloc: Global, nodes: u32) -> Result<Graph, Memory>
         requires low { colours ≤ nodes }
         requires high { nodes ≤ most_nodes }

@@ -51,14 +51,14 @@ pub(crate) fn pair_place(low: u32, high: u32) -> usize
 }
 
 /// Whether the bit of a pair is 1.
-pub(crate) fn has_pair(tiles: &Vec<Vec<u32>>, place: usize) -> bool
-    requires { place / area < length tiles.now.items }
-    ensures { result ≡ matrix_bit (lists_of tiles.now.items) place }
+pub(crate) fn has_pair(tiles: &[Vec<u32>], place: usize) -> bool
+    requires { place / area < length tiles.now }
+    ensures { result ≡ matrix_bit (lists_of tiles.now) place }
 {
     has_bit(tiles[place / AREA].as_slice(), place % AREA)
 }
 
-/// Takes the words of a pair's tile.
+/// Takes the words of a pair's tile, where it has none.
 pub(crate) fn reach_pair(tiles: &mut Vec<Vec<u32>>, place: usize) -> Result<(), Memory>
     requires { place / area < length tiles.old.items }
     ensures size { length tiles.new.items ≡ length tiles.old.items }

@@ -1,4 +1,5 @@
-use Rattle.std.proofs.Common.{◌≡◌, ℕ, ◌<◌, ◌≤◌, ◌/◌, max, sym, ap, ◌∙◌, subst, arith}
+use Rattle.std.proofs.Common.{◌≡◌, ℕ, ◌<◌, ◌≤◌, ◌/◌, List, Vec, length, max, sym, ap, ◌∙◌, subst, arith}
+use Rattle.std.specs.declared.alloc.Global.{Global}
 use Rattle.tg_graph.specs.Bits.{matrix_bit, tiles_for}
 use Rattle.tg_graph.specs.Interference.{Interference, interferes, colours}
 use Rattle.tg_graph.specs.Keeping.{lists_of}
@@ -12,7 +13,8 @@ has_pair-requires c =
     let n = c.self.inside.nodes in
     let nodes : n ≡ c.args.self.now.nodes = ap (λ (h : Interference). h.nodes) c.self.view_is in
     subst (λ (size : ℕ). c.pair_place.result / 16384 < size)
-    (sym (lists_sized c.self.inside.pairs.items (tiles_for n) c.self.invariant.room))
+    (sym (ap length c.deref.ensures.value
+    ∙ lists_sized c.self.inside.pairs.items (tiles_for n) c.self.invariant.room))
     (tile_within c.min.result c.max-high.result n c.pair_place.result (omega arith) (omega arith) c.pair_place.ensures)
 
 pub returns-else-high-lt-COLOURS : goal.returns-else-high-lt-COLOURS
@@ -25,7 +27,8 @@ returns-else-high-lt-COLOURS c =
     let nodes : n ≡ c.args.self.now.nodes = ap (λ (h : Interference). h.nodes) c.self.view_is in
     let temporary : colours ≤ max a b = subst (λ (z : ℕ). 25 ≤ z) c.max-high.ensures (omega arith) in
     c.has_pair.ensures
+    ∙ (ap (λ (vs : List (Vec ℕ Global)). matrix_bit (lists_of vs) c.pair_place.result) c.deref.ensures.value
     ∙ (ap (λ (z : ℕ). matrix_bit tiles z) (place_at a b _ _ _ c.pair_place.ensures c.min.ensures c.max-high.ensures)
     ∙ (bit_told g tiles c.self.inside.degrees.items a b c.self.invariant (omega arith) (omega arith)
     (omega arith) temporary
-    ∙ ap (λ (h : Interference). interferes h a b) c.self.view_is))
+    ∙ ap (λ (h : Interference). interferes h a b) c.self.view_is)))
