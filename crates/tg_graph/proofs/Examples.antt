@@ -1,7 +1,7 @@
 -- Graphs and lists computed.
 use Rattle.std.proofs.Common.{◌≡◌, true, false, [], ◌∷◌, Some, None, refl}
 use Rattle.tg_graph.specs.declared.worklists.Worklist.TheVariants.{Simplify, Spill}
-use Rattle.tg_graph.specs.Bits.{bit, triangle, nearer, pair_place}
+use Rattle.tg_graph.specs.Bits.{bit, matrix_bit, pair_place, tiles_for, triangle}
 use Rattle.tg_graph.specs.Interference.{Interference, bare, with_edge, interferes, neighbours, degree}
 use Rattle.tg_graph.specs.Lists.{Lists, started, moved, after}
 
@@ -30,19 +30,19 @@ counted = (refl, refl)
 again : with_edge (with_edge small 26 25) 4 3 ≡ small
 again = refl
 
--- of 28 nodes three are temporaries: 75 pairs with a register, and then three of temporaries, the nearest first
-registered : (pair_place 28 0 25 ≡ 0) × (pair_place 28 24 25 ≡ 24) × (pair_place 28 0 26 ≡ 25) ×
-    (pair_place 28 24 27 ≡ 74)
-registered = (refl, refl, refl, refl)
+-- a tile has the pairs of 128 nodes with 128, and one of 300 nodes stands in one of six tiles
+places : (pair_place 0 1 ≡ 128) × (pair_place 26 27 ≡ 3482) × (pair_place 127 128 ≡ 16511) × (pair_place 128 129 ≡ 32896)
+places = (refl, refl, refl, refl)
 
-by_distance : (pair_place 28 25 26 ≡ 75) × (pair_place 28 26 27 ≡ 76) × (pair_place 28 25 27 ≡ 77)
-by_distance = (refl, refl, refl)
+triangles : (triangle 1 ≡ 0) × (triangle 4 ≡ 6) × (tiles_for 300 ≡ 6)
+triangles = (refl, refl, refl)
 
-triangles : (triangle 1 ≡ 0) × (triangle 3 ≡ 3) × (nearer 3 1 ≡ 0) × (nearer 3 2 ≡ 2)
-triangles = (refl, refl, refl, refl)
+marked : (matrix_bit ([] ∷ (5 ∷ []) ∷ []) 16384 ≡ true) × (matrix_bit ([] ∷ (5 ∷ []) ∷ []) 16385 ≡ false) ×
+    (matrix_bit ([] ∷ (5 ∷ []) ∷ []) 0 ≡ false)
+marked = (refl, refl, refl)
 
 bits : (bit (5 ∷ 1 ∷ []) 0 ≡ true) × (bit (5 ∷ 1 ∷ []) 1 ≡ false) × (bit (5 ∷ 1 ∷ []) 2 ≡ true) ×
-    (bit (5 ∷ 1 ∷ []) 64 ≡ true) × (bit (5 ∷ 1 ∷ []) 128 ≡ false)
+    (bit (5 ∷ 1 ∷ []) 32 ≡ true) × (bit (5 ∷ 1 ∷ []) 64 ≡ false)
 bits = (refl, refl, refl, refl, refl)
 
 -- a node goes last, also in its own list

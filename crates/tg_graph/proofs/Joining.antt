@@ -2,14 +2,14 @@
 use Rattle.std.specs.Prelude.{◌==◌, nat_eq, nat_lt}
 use Rattle.std.proofs.Common.{◌≡◌, ◌≢◌, ℕ, zero, suc, ◌+◌, ◌-◌, ◌<◌, ◌≤◌, ◌&&◌, ◌||◌, Bool, true, false, not, min, max, List, [], ◌∷◌, length, map, get_or, replicate, All, refl, sym, ap, ◌∙◌, subst, ⊎_elim, arith}
 use Rattle.std.specs.List.{IsDistinct}
-use Rattle.std.proofs.lemmas.Bool.{cases_eq, cases_lt, cases_order, eq-eqb, ne_eqb, lt-ltb, le-ltb, eqb-true, or_cases, or_from, and_parts, and_left, and_right, false_from_ne_true, cond-false}
+use Rattle.std.proofs.lemmas.Bool.{cases_eq, cases_lt, cases_order, eq-eqb, ne_eqb, lt-ltb, le-ltb, eqb-true, or_cases, or_from, and_parts, and_left, and_right, false_from_ne_true}
 use Rattle.std.proofs.lemmas.List.{get_or_past, get_or-map, length-replicate, length-map}
 use Rattle.std.proofs.lemmas.List.Folds.{list_any_at}
 use Rattle.std.proofs.lemmas.Map.Steps.{length-le_from_distinct_below}
-use Rattle.tg_graph.specs.Bits.{bit, pair_place}
-use Rattle.tg_graph.specs.Interference.{Interference, IsGraph, colours, most_nodes, is_register, is_among, neighbours, are_joined, interferes, are_ends, with_neighbour, with_edge, bare}
+use Rattle.tg_graph.specs.Bits.{matrix_bit, pair_place, tiles_for}
+use Rattle.tg_graph.specs.Interference.{Interference, IsGraph, colours, most_nodes, is_register, is_among, neighbours, are_joined, interferes, are_ends, with_neighbour, bare}
 use Rattle.tg_graph.specs.Keeping.{IsKept, counted_up}
-use Rattle.tg_graph.proofs.Places.{same_pairs, bit_past, read_replicate}
+use Rattle.tg_graph.proofs.Places.{same_pairs, matrix_unset, read_replicate}
 use Rattle.tg_graph.proofs.Changes.{among_with, distinct_with, counted_with, length_with}
 
 -- Interference by the order of two nodes.
@@ -63,15 +63,6 @@ by_order g a b d =
     above g a b (omega arith) ∙ sym (ap (λ z. are_joined g z (max a b)) low ∙ ap (λ z. are_joined g b z) high))
     (cases_lt a b)
 
--- of two nodes that don't interfere one is a temporary
-pub one_temporary : (g : Interference) (a b : ℕ) → a ≢ b → interferes g a b ≡ false → colours ≤ max a b
-one_temporary g a b d e =
-    ⊎_elim
-    (λ (h : max a b < 25).
-    absurd (true_and_false (interferes g a b) (by_order g a b d ∙ registers_joined g (min a b) (max a b) h) e))
-    (λ (h : 25 ≤ max a b). h)
-    (cases_lt (max a b) 25)
-
 -- what interferes with a node is a node
 pub stays_below : (g : Interference) (x y : ℕ) → IsGraph g → colours ≤ x → x < g.nodes → interferes g x y ≡ true →
     y < g.nodes
@@ -101,9 +92,9 @@ few_neighbours g x s h k =
     length-le_from_distinct_below (neighbours g x) g.nodes (s.distinct x)
     (λ q e. stays_below g x q s h k (sym (s.exact x q h) ∙ e))
 
-pub few_counted : (g : Interference) (bits degrees : List ℕ) → IsKept g bits degrees → (i : ℕ) →
+pub few_counted : (g : Interference) (tiles : List (List ℕ)) (degrees : List ℕ) → IsKept g tiles degrees → (i : ℕ) →
     get_or degrees i 0 ≤ most_nodes
-few_counted g bits degrees s i =
+few_counted g tiles degrees s i =
     let here : get_or degrees i 0 ≡ get_or (map length g.adjacent) i 0 = ap (λ ds. get_or ds i 0) s.counted in
     ⊎_elim
     (λ (h : i < length g.adjacent).
@@ -121,10 +112,10 @@ few_counted g bits degrees s i =
     omega (arith, here, past))
     (cases_lt i (length g.adjacent))
 
-pub degree_read : (g : Interference) (bits degrees : List ℕ) (x : ℕ) → IsKept g bits degrees → colours ≤ x →
+pub degree_read : (g : Interference) (tiles : List (List ℕ)) (degrees : List ℕ) (x : ℕ) → IsKept g tiles degrees → colours ≤ x →
     x < g.nodes →
     get_or degrees (x - 25) 0 ≡ length (neighbours g x)
-degree_read g bits degrees x s h k =
+degree_read g tiles degrees x s h k =
     ap (λ ds. get_or ds (x - 25) 0) s.counted
     ∙ get_or-map length g.adjacent (x - 25) [] 0 (omega (arith, h, k, s.graph.sized))
 
@@ -137,8 +128,22 @@ joined g a b = record { nodes = g.nodes; adjacent = with_neighbour b a (with_nei
 abbrev pub graph_of : ℕ → List (List ℕ) → Interference
 graph_of n lists = record { nodes = n; adjacent = lists }
 
-pub edge_joined : (g : Interference) (a b : ℕ) → interferes g a b ≡ false → with_edge g a b ≡ joined g a b
-edge_joined g a b e = cond-false _ _ _ e
+-- the ends of an edge that is there interfere
+pub ends_interfere : (g : Interference) (a b x y : ℕ) → interferes g a b ≡ true →
+    interferes g x y ≡ (are_ends a b x y || interferes g x y)
+ends_interfere g a b x y t =
+    absorbed (are_ends a b x y) (interferes g x y)
+    (λ e. ⊎_elim
+    (λ l. let parts = and_parts (x == a) (y == b) l in
+    ap (λ z. interferes g z y) (eqb-true x a parts.0) ∙ (ap (λ z. interferes g a z) (eqb-true y b parts.1) ∙ t))
+    (λ r. let parts = and_parts (x == b) (y == a) r in
+    ap (λ z. interferes g z y) (eqb-true x b parts.0)
+    ∙ (ap (λ z. interferes g b z) (eqb-true y a parts.1) ∙ (either_way g b a ∙ t)))
+    (or_cases ((x == a) && (y == b)) ((x == b) && (y == a)) e))
+  where
+    absorbed : (p q : Bool) → (p ≡ true → q ≡ true) → q ≡ (p || q)
+    absorbed true q h = h refl
+    absorbed false q h = refl
 
 ends_then : (p q r s o : Bool) → ((p && q) || ((r && s) || o)) ≡ (((r && s) || (p && q)) || o)
 ends_then p q r s o = either (p && q) (r && s)
@@ -180,9 +185,9 @@ pub record CanJoin (g : Interference) (a b : ℕ) : Type 0 where
   pub apart : interferes g a b ≡ false
 
 -- which the invariant gives, where the nodes don't interfere
-pub can_join : (g now : Interference) (bits degrees : List ℕ) (a b : ℕ) → IsKept g bits degrees → g ≡ now →
+pub can_join : (g now : Interference) (tiles : List (List ℕ)) (degrees : List ℕ) (a b : ℕ) → IsKept g tiles degrees → g ≡ now →
     a < now.nodes → b < now.nodes → a ≢ b → interferes now a b ≡ false → CanJoin g a b
-can_join g now bits degrees a b s p i j d e = record {
+can_join g now tiles degrees a b s p i j d e = record {
   graph = s.graph;
   some = s.some;
   first = subst (λ (h : Interference). a < h.nodes) (sym p) i;
@@ -271,22 +276,21 @@ graph_joined g a b j = record {
 
 -- How it is kept.
 
-ends_told : (n a b x y : ℕ) → x < y → y < n → colours ≤ y → a < b → b < n → colours ≤ b →
-    (pair_place n x y == pair_place n a b) ≡ are_ends a b y x
-ends_told n a b x y h l t k m w =
+ends_told : (a b x y : ℕ) → x < y → a < b → (pair_place x y == pair_place a b) ≡ are_ends a b y x
+ends_told a b x y h k =
     ⊎_elim
     (λ (p : x ≡ a).
     ⊎_elim
     (λ (q : y ≡ b).
-    eq-eqb (pair_place n x y) (pair_place n a b) (ap (λ z. pair_place n z y) p ∙ ap (λ z. pair_place n a z) q)
+    eq-eqb (pair_place x y) (pair_place a b) (ap (λ z. pair_place z y) p ∙ ap (λ z. pair_place a z) q)
     ∙ sym (ap (λ o. ((y == a) && (x == b)) || (o && (x == a))) (eq-eqb y b q)
     ∙ (ap (λ o. ((y == a) && (x == b)) || (true && o)) (eq-eqb x a p) ∙ always ((y == a) && (x == b)))))
     (λ (q : y ≢ b).
-    ne_eqb (pair_place n x y) (pair_place n a b) (λ e. q (same_pairs n x y a b h l t k m w e).1)
+    ne_eqb (pair_place x y) (pair_place a b) (λ e. q (same_pairs x y a b h k e).1)
     ∙ sym (or_from ((y == a) && (x == b)) ((y == b) && (x == a)) (cross p) (and_left (y == b) (x == a) (ne_eqb y b q))))
     (cases_eq y b))
     (λ (p : x ≢ a).
-    ne_eqb (pair_place n x y) (pair_place n a b) (λ e. p (same_pairs n x y a b h l t k m w e).0)
+    ne_eqb (pair_place x y) (pair_place a b) (λ e. p (same_pairs x y a b h k e).0)
     ∙ sym (or_from ((y == a) && (x == b)) ((y == b) && (x == a)) crossed (and_right (y == b) (x == a) (ne_eqb x a p))))
     (cases_eq x a)
   where
@@ -307,55 +311,58 @@ turned p q r s = either (p && q) (r && s)
     either false true = refl
     either false false = refl
 
-pub ends_by_place : (n a b x y : ℕ) → x < y → y < n → colours ≤ y → a < n → b < n → a ≢ b → colours ≤ max a b →
-    (pair_place n x y == pair_place n (min a b) (max a b)) ≡ are_ends a b y x
-ends_by_place n a b x y h l t i j d w =
+pub ends_by_place : (a b x y : ℕ) → x < y → a ≢ b →
+    (pair_place x y == pair_place (min a b) (max a b)) ≡ are_ends a b y x
+ends_by_place a b x y h d =
     ⊎_elim
     (λ (k : a < b).
     let low : min a b ≡ a = omega arith in
     let high : max a b ≡ b = omega arith in
-    ap (λ z. pair_place n x y == pair_place n z (max a b)) low
-    ∙ (ap (λ z. pair_place n x y == pair_place n a z) high ∙ ends_told n a b x y h l t k j (omega (arith, w, high))))
+    ap (λ z. pair_place x y == pair_place z (max a b)) low
+    ∙ (ap (λ z. pair_place x y == pair_place a z) high ∙ ends_told a b x y h k))
     (λ (k : b ≤ a).
     let low : min a b ≡ b = omega arith in
     let high : max a b ≡ a = omega arith in
     let less : b < a = omega arith in
-    ap (λ z. pair_place n x y == pair_place n z (max a b)) low
-    ∙ (ap (λ z. pair_place n x y == pair_place n b z) high
-    ∙ (ends_told n b a x y h l t less i (omega (arith, w, high)) ∙ turned (y == b) (x == a) (y == a) (x == b))))
+    ap (λ z. pair_place x y == pair_place z (max a b)) low
+    ∙ (ap (λ z. pair_place x y == pair_place b z) high
+    ∙ (ends_told b a x y h less ∙ turned (y == b) (x == a) (y == a) (x == b))))
     (cases_lt a b)
 
 -- the bit of two nodes tells whether they interfere
-pub bit_told : (g : Interference) (bits degrees : List ℕ) (a b : ℕ) → IsKept g bits degrees → a < g.nodes →
-    b < g.nodes → a ≢ b → colours ≤ max a b →
-    bit bits (pair_place g.nodes (min a b) (max a b)) ≡ interferes g a b
-bit_told g bits degrees a b s i j d t =
+pub bit_told : (g : Interference) (tiles : List (List ℕ)) (degrees : List ℕ) (a b : ℕ) → IsKept g tiles degrees →
+    a < g.nodes → b < g.nodes → a ≢ b → colours ≤ max a b →
+    matrix_bit tiles (pair_place (min a b) (max a b)) ≡ interferes g a b
+bit_told g tiles degrees a b s i j d t =
     s.told (min a b) (max a b) (omega arith) (omega arith) t
     ∙ sym (by_order g a b d ∙ temporary_joined g (min a b) (max a b) t)
 
--- the same graph, kept in other words that have the same bits
-pub kept_reached : (g : Interference) (bits degrees new : List ℕ) → IsKept g bits degrees →
-    ((k : ℕ) → bit new k ≡ bit bits k) →
+-- the same graph, kept in other tiles that have the same bits
+pub kept_reached : (g : Interference) (tiles : List (List ℕ)) (degrees : List ℕ) (new : List (List ℕ)) →
+    IsKept g tiles degrees → length new ≡ length tiles →
+    ((k : ℕ) → matrix_bit new k ≡ matrix_bit tiles k) →
     IsKept g new degrees
-kept_reached g bits degrees new s w = record {
+kept_reached g tiles degrees new s l w = record {
   some = s.some;
   few = s.few;
   graph = s.graph;
-  told = λ x y h k t. w (pair_place g.nodes x y) ∙ s.told x y h k t;
+  room = l ∙ s.room;
+  told = λ x y h k t. w (pair_place x y) ∙ s.told x y h k t;
   counted = s.counted;
 }
 
-pub kept_joined : (g : Interference) (bits degrees new : List ℕ) (a b : ℕ) → IsKept g bits degrees → CanJoin g a b →
-    ((k : ℕ) → bit new k ≡ ((k == pair_place g.nodes (min a b) (max a b)) || bit bits k)) →
+pub kept_joined : (g : Interference) (tiles : List (List ℕ)) (degrees : List ℕ) (new : List (List ℕ)) (a b : ℕ) →
+    IsKept g tiles degrees → CanJoin g a b → length new ≡ length tiles →
+    ((k : ℕ) → matrix_bit new k ≡ ((k == pair_place (min a b) (max a b)) || matrix_bit tiles k)) →
     IsKept (joined g a b) new (counted_up b (counted_up a degrees))
-kept_joined g bits degrees new a b s j w = record {
+kept_joined g tiles degrees new a b s j l w = record {
   some = s.some;
   few = s.few;
   graph = graph_joined g a b j;
+  room = l ∙ s.room;
   told = λ x y h k t.
-      w (pair_place g.nodes x y)
-      ∙ (ap (λ o. o || bit bits (pair_place g.nodes x y))
-      (ends_by_place g.nodes a b x y h k t j.first j.second j.differ (one_temporary g a b j.differ j.apart))
+      w (pair_place x y)
+      ∙ (ap (λ o. o || matrix_bit tiles (pair_place x y)) (ends_by_place a b x y h j.differ)
       ∙ (ap (λ o. are_ends a b y x || o) (s.told x y h k t) ∙ sym (among_joined g a b y x j t)));
   counted =
       ap (λ ds. counted_up b (counted_up a ds)) s.counted
@@ -383,9 +390,10 @@ none_interferes n x y h =
     (λ (p : y < x). above (bare n) x y p ∙ none_joined n y x h) o)
     (cases_order x y)
 
-pub kept_bare : (n : ℕ) → colours ≤ n → n ≤ most_nodes → IsKept (bare n) [] (replicate (n - colours) 0)
+pub kept_bare : (n count : ℕ) → colours ≤ n → n ≤ most_nodes → count ≡ tiles_for n →
+    IsKept (bare n) (replicate count []) (replicate (n - colours) 0)
 unfolding IsDistinct
-kept_bare n h k = record {
+kept_bare n count h k e = record {
   some = h;
   few = k;
   graph = record {
@@ -393,7 +401,8 @@ kept_bare n h k = record {
     exact = λ x y l. none_among n x y ∙ sym (none_interferes n x y l);
     distinct = λ x. subst (λ (xs : List ℕ). IsDistinct nat_eq xs) (sym (read_replicate (n - 25) (x - 25) [])) tt;
   };
-  told = λ x y l m t. bit_past [] (pair_place n x y) (omega arith) ∙ sym (none_among n y x);
+  room = length-replicate count [] ∙ e;
+  told = λ x y l m t. matrix_unset count (pair_place x y) ∙ sym (none_among n y x);
   counted = map_replicate (n - 25);
 }
 
@@ -436,10 +445,10 @@ registers_alone n x y =
     none_above : (u v : ℕ) → u < v → 25 ≤ v → interferes (bare n) u v ≡ false
     none_above u v p h = below (bare n) u v p ∙ none_joined n u v h
 
--- the same graph, kept in the same bits and counters
-pub kept_at : (n : ℕ) (ls ms : List (List ℕ)) (xs ys ds es : List ℕ) → ls ≡ ms → xs ≡ ys → ds ≡ es →
-    IsKept (record { nodes = n; adjacent = ls }) xs ds → IsKept (record { nodes = n; adjacent = ms }) ys es
-kept_at n ls ms xs ys ds es p q r k =
-    subst (λ (zs : List ℕ). IsKept (record { nodes = n; adjacent = ms }) ys zs) r
-    (subst (λ (zs : List ℕ). IsKept (record { nodes = n; adjacent = ms }) zs ds) q
-    (subst (λ (zs : List (List ℕ)). IsKept (record { nodes = n; adjacent = zs }) xs ds) p k))
+-- the same graph, kept in the same tiles and counters
+pub kept_at : (n : ℕ) (ls ms ts us : List (List ℕ)) (ds es : List ℕ) → ls ≡ ms → ts ≡ us → ds ≡ es →
+    IsKept (graph_of n ls) ts ds → IsKept (graph_of n ms) us es
+kept_at n ls ms ts us ds es p q r k =
+    subst (λ (zs : List ℕ). IsKept (graph_of n ms) us zs) r
+    (subst (λ (zs : List (List ℕ)). IsKept (graph_of n ms) zs ds) q
+    (subst (λ (zs : List (List ℕ)). IsKept (graph_of n zs) ts ds) p k))

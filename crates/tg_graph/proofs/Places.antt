@@ -1,12 +1,11 @@
--- The places of pairs, and bits of words.
+-- The places of pairs in tiles, and bits of words and of tiles.
 use Rattle.std.specs.Prelude.{◌==◌}
-use Rattle.std.proofs.Common.{◌≡◌, ◌≢◌, ℕ, zero, suc, ◌+◌, ◌-◌, ◌*◌, ◌/◌, ◌%◌, ◌^◌, ◌<◌, ◌≤◌, ◌||◌, false, List, length, min, max, get_or, set, replicate, bit_or, refl, sym, ap, ◌∙◌, subst, ⊎_elim, arith}
-use Rattle.std.proofs.lemmas.Bool.{cases_eq, cases_lt, cases_order, eq-eqb, ne_eqb, lt-ltb, le-ltb, cond-true, cond-false}
-use Rattle.std.proofs.lemmas.List.{get_or-set_same, get_or-set_other, get_or-replicate, get_or_past, length-replicate}
+use Rattle.std.proofs.Common.{take, ◌≡◌, ◌≢◌, ℕ, zero, suc, ◌+◌, ◌-◌, ◌*◌, ◌/◌, ◌%◌, ◌^◌, ◌<◌, ◌≤◌, ◌||◌, false, List, [], ◌++◌, length, min, max, get_or, set, replicate, bit_or, refl, sym, ap, ◌∙◌, subst, ⊎_elim, arith}
+use Rattle.std.proofs.lemmas.Bool.{cases_eq, cases_lt, cases_order, eq-eqb, ne_eqb}
+use Rattle.std.proofs.lemmas.List.{get_or-set_same, get_or-set_other, get_or-replicate, get_or_past, get_or_append_left, take_all, get_or-append_right, length-replicate}
 use Rattle.std.proofs.lemmas.Nat.Bits.{bit_at_set_same, bit_at_set_other, bit_at-zero}
-use Rattle.std.specs.Int.{bit_at, w64}
-use Rattle.tg_graph.specs.Bits.{bit, triangle, nearer, pair_place}
-use Rattle.tg_graph.specs.Interference.{colours}
+use Rattle.std.specs.Int.{bit_at, w32}
+use Rattle.tg_graph.specs.Bits.{bit, matrix_bit, pair_place, tile_of, tiles_for, triangle}
 
 -- Triangles, by their step.
 
@@ -25,11 +24,6 @@ grows T more (suc k) y =
     let e : suc k + y ≡ suc (k + y) = omega arith in
     omega (arith, ap T e, more (k + y), grows T more k y)
 
-shrinks : (T : ℕ → ℕ) → ((n : ℕ) → T (suc n) ≡ T n + n) → (n y : ℕ) → y ≤ n → T y ≤ T n
-shrinks T more n y h =
-    let e : n - y + y ≡ n = omega (arith, h) in
-    omega (arith, grows T more (n - y) y, ap T e)
-
 place_below : (T : ℕ → ℕ) → ((n : ℕ) → T (suc n) ≡ T n + n) → (x y n : ℕ) → x < y → y < n → T y + x < T n
 place_below T more x y n h k =
     let e : n - suc y + suc y ≡ n = omega arith in
@@ -45,105 +39,69 @@ same_places T more x y u v h k e =
 
 -- Places of pairs.
 
-with_register : (n x y : ℕ) → x < colours → pair_place n x y ≡ (y - 25) * 25 + x
-with_register n x y h = cond-true _ _ _ (lt-ltb x 25 h)
-
-of_temporaries : (n x y : ℕ) → colours ≤ x → pair_place n x y ≡ (n - 25) * 25 + nearer (n - 25) (y - x) + (x - 25)
-of_temporaries n x y h = cond-false _ _ _ (le-ltb x 25 h)
-
--- the place of a pair of temporaries, counted from the last
-mirrored : (T : ℕ → ℕ) → ((n : ℕ) → T (suc n) ≡ T n + n) → (n x y : ℕ) → 25 ≤ x → x < y → y < n →
-    T (n - 25) - T (n - 25 + 1 - (y - x)) + (x - 25) + suc (T (n - 25 - (y - x)) + (n - suc y)) ≡ T (n - 25)
-mirrored T more n x y h k l =
-    let p = n - 25 - (y - x) in
-    let step : n - 25 + 1 - (y - x) ≡ suc p = omega (arith, h, k, l) in
-    omega (arith, h, k, l, ap T step, more p, shrinks T more (n - 25) (suc p) (omega (arith, h, k, l)))
-
-same_temporaries : (n x y u v : ℕ) → 25 ≤ x → x < y → y < n → 25 ≤ u → u < v → v < n →
-    pair_place n x y ≡ pair_place n u v → (x ≡ u) × (y ≡ v)
-same_temporaries n x y u v hx h k hu l m e =
-    let first : nearer (n - 25) (y - x) + (x - 25) + suc (triangle (n - 25 - (y - x)) + (n - suc y))
-    ≡ triangle (n - 25) =
-    mirrored triangle triangle_more n x y hx h k in
-    let second : nearer (n - 25) (v - u) + (u - 25) + suc (triangle (n - 25 - (v - u)) + (n - suc v))
-    ≡ triangle (n - 25) =
-    mirrored triangle triangle_more n u v hu l m in
-    let turned = from_last (nearer (n - 25) (y - x)) (nearer (n - 25) (v - u)) (triangle (n - 25 - (y - x)))
-    (triangle (n - 25 - (v - u))) (triangle (n - 25)) ((n - 25) * 25) (x - 25) (u - 25) (n - suc y) (n - suc v)
-    first second (sym (of_temporaries n x y hx) ∙ (e ∙ of_temporaries n u v hu)) in
-    let same = same_places triangle triangle_more (n - suc y) (n - 25 - (y - x)) (n - suc v) (n - 25 - (v - u))
-    (omega (arith, hx, h, k)) (omega (arith, hu, l, m)) turned in
-    (omega (arith, same.0, same.1, hx, h, k, hu, l, m), omega (arith, same.0, k, m))
+pub same_pairs : (x y u v : ℕ) → x < y → u < v → pair_place x y ≡ pair_place u v → (x ≡ u) × (y ≡ v)
+same_pairs x y u v h k e =
+    let parts = split (triangle (y / 128 + 1) + x / 128) (triangle (v / 128 + 1) + u / 128) (y % 128) (x % 128) (v % 128)
+    (u % 128) (omega arith) (omega arith) (omega arith) (omega arith) e in
+    let tiles = same_places triangle triangle_more (x / 128) (y / 128 + 1) (u / 128) (v / 128 + 1)
+    (omega (arith, h)) (omega (arith, k)) parts.0 in
+    (joins x u tiles.0 parts.1.1, joins y v (omega (arith, tiles.1)) parts.1.0)
   where
-    from_last : (f g p q t r x u i j : ℕ) → f + x + suc (p + i) ≡ t → g + u + suc (q + j) ≡ t →
-        r + f + x ≡ r + g + u → p + i ≡ q + j
-    from_last f g p q t r x u i j a b c = omega (arith, a, b, c)
+    split : (s t p q i j : ℕ) → p < 128 → q < 128 → i < 128 → j < 128 →
+        s * 16384 + (p * 128 + q) ≡ t * 16384 + (i * 128 + j) → (s ≡ t) × ((p ≡ i) × (q ≡ j))
+    split s t p q i j a b c d f =
+        (omega (arith, a, b, c, d, f), (omega (arith, a, b, c, d, f), omega (arith, a, b, c, d, f)))
 
--- pairs with a register stand before the others
-apart : (n x y u v : ℕ) → x < colours → y < n → 25 ≤ y → 25 ≤ u → pair_place n x y ≢ pair_place n u v
-apart n x y u v h k l m e =
-    before (nearer (n - 25) (v - u)) (sym (with_register n x y h) ∙ (e ∙ of_temporaries n u v m))
+    joins : (p q : ℕ) → p / 128 ≡ q / 128 → p % 128 ≡ q % 128 → p ≡ q
+    joins p q a b = omega (arith, a, b)
+
+-- the tile of a pair is there
+pub tile_within : (x y n place : ℕ) → x < y → y < n → place ≡ pair_place x y → place / 16384 < tiles_for n
+tile_within x y n place h k e =
+    within (triangle (y / 128 + 1) + x / 128) (tiles_for n) (y % 128) (x % 128) (omega arith) (omega arith)
+    (place_below triangle triangle_more (x / 128) (y / 128 + 1) (n / 128 + 2) (omega (arith, h)) (omega (arith, k))) e
   where
-    before : (f : ℕ) → (y - 25) * 25 + x ≡ (n - 25) * 25 + f + (u - 25) → ⊥
-    before f p = absurd (omega (arith, p, h, k, l))
-
-pub same_pairs : (n x y u v : ℕ) → x < y → y < n → 25 ≤ y → u < v → v < n → 25 ≤ v →
-    pair_place n x y ≡ pair_place n u v → (x ≡ u) × (y ≡ v)
-same_pairs n x y u v h k t l m w e =
-    ⊎_elim
-    (λ (p : x < 25).
-    ⊎_elim
-    (λ (q : u < 25).
-    let f : (y - 25) * 25 + x ≡ (v - 25) * 25 + u =
-    sym (with_register n x y p) ∙ (e ∙ with_register n u v q) in
-    (omega (arith, f, p, q), omega (arith, f, p, q, t, w)))
-    (λ (q : 25 ≤ u). absurd (apart n x y u v p k t q e))
-    (cases_lt u 25))
-    (λ (p : 25 ≤ x).
-    ⊎_elim (λ (q : u < 25). absurd (apart n u v x y q m w p (sym e)))
-    (λ (q : 25 ≤ u). same_temporaries n x y u v p h k q l m e)
-    (cases_lt u 25))
-    (cases_lt x 25)
+    within : (s t p q : ℕ) → p < 128 → q < 128 → s < t → place ≡ s * 16384 + (p * 128 + q) → place / 16384 < t
+    within s t p q a b c f = omega (arith, a, b, c, f)
 
 -- the place of two nodes, by what was called to find it
-pub place_at : (m n a b low high place : ℕ) → place ≡ pair_place m low high → m ≡ n → low ≡ min a b → high ≡ max a b →
-    place ≡ pair_place n (min a b) (max a b)
-place_at m n a b low high place p e f g =
-    p ∙ (ap (λ k. pair_place k low high) e
-    ∙ (ap (λ z. pair_place n z high) f ∙ ap (λ z. pair_place n (min a b) z) g))
+pub place_at : (a b low high place : ℕ) → place ≡ pair_place low high → low ≡ min a b → high ≡ max a b →
+    place ≡ pair_place (min a b) (max a b)
+place_at a b low high place p f g =
+    p ∙ (ap (λ z. pair_place z high) f ∙ ap (λ z. pair_place (min a b) z) g)
 
 -- Bits.
 
 abbrev written : List ℕ → ℕ → List ℕ
-written words at = set words (at / 64) (bit_or (get_or words (at / 64) 0) (1 * 2 ^ (at % 64) % 18446744073709551616))
+written words at = set words (at / 32) (bit_or (get_or words (at / 32) 0) (1 * 2 ^ (at % 32) % 4294967296))
 
-pub bit_written : (words : List ℕ) (at k : ℕ) → at / 64 < length words →
+pub bit_written : (words : List ℕ) (at k : ℕ) → at / 32 < length words →
     bit (written words at) k ≡ ((k == at) || bit words k)
 bit_written words at k l =
-    let w = get_or words (at / 64) 0 in
-    let v = bit_or w (1 * 2 ^ (at % 64) % 18446744073709551616) in
-    let small : at % 64 < 64 = omega arith in
+    let w = get_or words (at / 32) 0 in
+    let v = bit_or w (1 * 2 ^ (at % 32) % 4294967296) in
+    let small : at % 32 < 32 = omega arith in
     ⊎_elim
-    (λ (p : k / 64 ≡ at / 64).
-    let here : get_or (written words at) (k / 64) 0 ≡ v = ap (λ i. get_or (written words at) i 0) p
-    ∙ get_or-set_same words (at / 64) v 0 l in
-    let there : get_or words (k / 64) 0 ≡ w = ap (λ i. get_or words i 0) p in
+    (λ (p : k / 32 ≡ at / 32).
+    let here : get_or (written words at) (k / 32) 0 ≡ v = ap (λ i. get_or (written words at) i 0) p
+    ∙ get_or-set_same words (at / 32) v 0 l in
+    let there : get_or words (k / 32) 0 ≡ w = ap (λ i. get_or words i 0) p in
     ⊎_elim
-    (λ (q : k % 64 ≡ at % 64).
+    (λ (q : k % 32 ≡ at % 32).
     let is : k ≡ at = omega (arith, p, q) in
-    ap (λ i. bit_at i (k % 64) == 1) here
-    ∙ (ap (λ i. bit_at v i == 1) q ∙ (ap (λ i. i == 1) (bit_at_set_same w64 w (at % 64) small)
+    ap (λ i. bit_at i (k % 32) == 1) here
+    ∙ (ap (λ i. bit_at v i == 1) q ∙ (ap (λ i. i == 1) (bit_at_set_same w32 w (at % 32) small)
     ∙ sym (ap (λ b. b || bit words k) (eq-eqb k at is)))))
-    (λ (q : k % 64 ≢ at % 64).
-    let isnt : k ≢ at = λ e. q (ap (λ i. i % 64) e) in
-    ap (λ i. bit_at i (k % 64) == 1) here ∙ (ap (λ i. i == 1) (bit_at_set_other w64 w (at % 64) small (k % 64) q)
-    ∙ (ap (λ i. bit_at i (k % 64) == 1) (sym there) ∙ sym (ap (λ b. b || bit words k) (ne_eqb k at isnt)))))
-    (cases_eq (k % 64) (at % 64)))
-    (λ (p : k / 64 ≢ at / 64).
-    let isnt : k ≢ at = λ e. p (ap (λ i. i / 64) e) in
-    ap (λ i. bit_at i (k % 64) == 1) (get_or-set_other words (at / 64) (k / 64) v 0 p)
+    (λ (q : k % 32 ≢ at % 32).
+    let isnt : k ≢ at = λ e. q (ap (λ i. i % 32) e) in
+    ap (λ i. bit_at i (k % 32) == 1) here ∙ (ap (λ i. i == 1) (bit_at_set_other w32 w (at % 32) small (k % 32) q)
+    ∙ (ap (λ i. bit_at i (k % 32) == 1) (sym there) ∙ sym (ap (λ b. b || bit words k) (ne_eqb k at isnt)))))
+    (cases_eq (k % 32) (at % 32)))
+    (λ (p : k / 32 ≢ at / 32).
+    let isnt : k ≢ at = λ e. p (ap (λ i. i / 32) e) in
+    ap (λ i. bit_at i (k % 32) == 1) (get_or-set_other words (at / 32) (k / 32) v 0 p)
     ∙ sym (ap (λ b. b || bit words k) (ne_eqb k at isnt)))
-    (cases_eq (k / 64) (at / 64))
+    (cases_eq (k / 32) (at / 32))
 
 pub read_replicate : {X : Type 0} (n i : ℕ) (d : X) → get_or (replicate n d) i d ≡ d
 read_replicate n i d =
@@ -152,6 +110,77 @@ read_replicate n i d =
     (cases_lt i n)
 
 -- beyond the words each bit is 0
-pub bit_past : (words : List ℕ) (at : ℕ) → length words ≤ at / 64 → bit words at ≡ false
+pub bit_past : (words : List ℕ) (at : ℕ) → length words ≤ at / 32 → bit words at ≡ false
 bit_past words at h =
-    ap (λ w. bit_at w (at % 64) == 1) (get_or_past words (at / 64) 0 h) ∙ ap (λ i. i == 1) (bit_at-zero (at % 64))
+    ap (λ w. bit_at w (at % 32) == 1) (get_or_past words (at / 32) 0 h) ∙ ap (λ i. i == 1) (bit_at-zero (at % 32))
+
+-- words of 0 change no bit
+bit_padded : (words : List ℕ) (more at : ℕ) → bit (words ++ replicate more 0) at ≡ bit words at
+bit_padded words more at =
+    ap (λ w. bit_at w (at % 32) == 1)
+    (⊎_elim (λ (h : at / 32 < length words). get_or_append_left words (replicate more 0) 0 (at / 32) h)
+    (λ (h : length words ≤ at / 32).
+    get_or-append_right words (replicate more 0) (length words) (at / 32) 0 refl h
+    ∙ (read_replicate more (at / 32 - length words) 0 ∙ sym (get_or_past words (at / 32) 0 h)))
+    (cases_lt (at / 32) (length words)))
+
+pub bit_filled : (words new : List ℕ) (n more : ℕ) → length words ≤ n → new ≡ take n words ++ replicate more 0 →
+    (at : ℕ) → bit new at ≡ bit words at
+bit_filled words new n more h e at =
+    ap (λ (ws : List ℕ). bit ws at) (e ∙ ap (λ (ws : List ℕ). ws ++ replicate more 0) (take_all n words h))
+    ∙ bit_padded words more at
+
+-- Tiles.
+
+pub matrix_unset : (count place : ℕ) → matrix_bit (replicate count []) place ≡ false
+matrix_unset count place =
+    ap (λ (words : List ℕ). bit words (place % 16384)) (read_replicate count (place / 16384) [])
+    ∙ bit_past [] (place % 16384) (omega arith)
+
+set_here : (tiles : List (List ℕ)) (i : ℕ) (words : List ℕ) (k : ℕ) → i < length tiles → k / 16384 ≡ i →
+    matrix_bit (set tiles i words) k ≡ bit words (k % 16384)
+set_here tiles i words k h p =
+    ap (λ (ws : List ℕ). bit ws (k % 16384))
+    (ap (λ j. get_or (set tiles i words) j []) p ∙ get_or-set_same tiles i words [] h)
+
+set_elsewhere : (tiles : List (List ℕ)) (i : ℕ) (words : List ℕ) (k : ℕ) → k / 16384 ≢ i →
+    matrix_bit (set tiles i words) k ≡ matrix_bit tiles k
+set_elsewhere tiles i words k p =
+    ap (λ (ws : List ℕ). bit ws (k % 16384)) (get_or-set_other tiles i (k / 16384) words [] p)
+
+-- a tile that has the same bits
+pub matrix_same : (tiles : List (List ℕ)) (i : ℕ) (words : List ℕ) → i < length tiles →
+    ((k : ℕ) → bit words k ≡ bit (get_or tiles i []) k) → (k : ℕ) →
+    matrix_bit (set tiles i words) k ≡ matrix_bit tiles k
+matrix_same tiles i words h w k =
+    ⊎_elim
+    (λ (p : k / 16384 ≡ i).
+    set_here tiles i words k h p
+    ∙ (w (k % 16384) ∙ ap (λ j. bit (get_or tiles j []) (k % 16384)) (sym p)))
+    (λ (p : k / 16384 ≢ i). set_elsewhere tiles i words k p)
+    (cases_eq (k / 16384) i)
+
+-- a tile that has one bit more
+pub matrix_written : (tiles : List (List ℕ)) (place : ℕ) (words : List ℕ) → place / 16384 < length tiles →
+    ((k : ℕ) → bit words k ≡ ((k == place % 16384) || bit (tile_of tiles place) k)) → (k : ℕ) →
+    matrix_bit (set tiles (place / 16384) words) k ≡ ((k == place) || matrix_bit tiles k)
+matrix_written tiles place words h w k =
+    ⊎_elim
+    (λ (p : k / 16384 ≡ place / 16384).
+    set_here tiles (place / 16384) words k h p
+    ∙ (w (k % 16384)
+    ∙ (ap (λ o. o || bit (tile_of tiles place) (k % 16384)) (same_test p)
+    ∙ ap (λ j. (k == place) || bit (get_or tiles j []) (k % 16384)) (sym p))))
+    (λ (p : k / 16384 ≢ place / 16384).
+    set_elsewhere tiles (place / 16384) words k p
+    ∙ sym (ap (λ o. o || matrix_bit tiles k) (ne_eqb k place (λ e. p (ap (λ i. i / 16384) e)))))
+    (cases_eq (k / 16384) (place / 16384))
+  where
+    same_test : k / 16384 ≡ place / 16384 → (k % 16384 == place % 16384) ≡ (k == place)
+    same_test p =
+        ⊎_elim
+        (λ (q : k ≡ place).
+        eq-eqb (k % 16384) (place % 16384) (ap (λ i. i % 16384) q) ∙ sym (eq-eqb k place q))
+        (λ (q : k ≢ place).
+        ne_eqb (k % 16384) (place % 16384) (λ r. q (omega (arith, p, r))) ∙ sym (ne_eqb k place q))
+        (cases_eq k place)

@@ -1,9 +1,12 @@
 -- Vectors of lists, and what a call gives by its result.
-use Rattle.std.proofs.Common.{◌≡◌, ℕ, ◌-◌, ◌<◌, ◌≤◌, true, false, List, [], ◌∷◌, ◌++◌, length, take, get_or, set, Vec, Result, Ok, Err, OnOk, OnErr, is_err, refl, sym, ap, ◌∙◌, arith}
+use Rattle.std.specs.Prelude.{◌==◌}
+use Rattle.std.proofs.Common.{◌≡◌, ℕ, ◌-◌, ◌/◌, ◌%◌, ◌<◌, ◌||◌, ◌≤◌, true, false, List, [], ◌∷◌, ◌++◌, length, take, get_or, set, Vec, Result, Ok, Err, OnOk, OnErr, is_err, refl, sym, ap, ◌∙◌, arith}
 use Rattle.std.specs.declared.alloc.Global.{Global}
-use Rattle.std.proofs.lemmas.List.{map-set, get_or-map, set-get_or, set-set, length-map, length_push, take_at}
+use Rattle.std.proofs.lemmas.List.{map-set, get_or-map, get_or-set_same, set-get_or, set-set, length-map, length_push, take_at}
+use Rattle.tg_graph.specs.Bits.{bit, matrix_bit}
 use Rattle.tg_graph.specs.Interference.{colours, with_neighbour}
 use Rattle.tg_graph.specs.Keeping.{lists_of}
+use Rattle.tg_graph.proofs.Places.{matrix_same, matrix_written}
 use Rattle.tg_graph.proofs.Changes.{with_temporary, list_same, length_with}
 
 pub at_err : {T E P : Type 0} (r : Result T E) → true ≡ is_err r → OnErr r P → P
@@ -26,14 +29,44 @@ pub list_read : (vs : List (Vec ℕ Global)) (i : ℕ) (w : Vec ℕ Global) → 
 list_read vs i w l e = get_or-map (λ (v : Vec ℕ Global). v.items) vs i w [] l
     ∙ ap (λ (v : Vec ℕ Global). v.items) (sym e)
 
+pub lists_sized : (vs : List (Vec ℕ Global)) (n : ℕ) → length (lists_of vs) ≡ n → length vs ≡ n
+lists_sized vs n e = sym (length-map vs (λ v. v.items)) ∙ e
+
+pub same_size : (vs ws : List (Vec ℕ Global)) → length vs ≡ length ws → length (lists_of vs) ≡ length (lists_of ws)
+same_size vs ws e = length-map vs (λ v. v.items) ∙ (e ∙ sym (length-map ws (λ v. v.items)))
+
 -- as many vectors as lists were, before one of them had one more neighbour
 pub size_with : (vs : List (Vec ℕ Global)) (x y : ℕ) (lists : List (List ℕ)) →
     lists_of vs ≡ with_neighbour x y lists →
     length vs ≡ length lists
-size_with vs x y lists e = sym (length-map vs (λ v. v.items)) ∙ (ap length e ∙ length_with x y lists)
+size_with vs x y lists e = lists_sized vs (length lists) (ap length e ∙ length_with x y lists)
 
-lists_set : (vs : List (Vec ℕ Global)) (i : ℕ) (v : Vec ℕ Global) → lists_of (set vs i v) ≡ set (lists_of vs) i v.items
+pub lists_set : (vs : List (Vec ℕ Global)) (i : ℕ) (v : Vec ℕ Global) → lists_of (set vs i v) ≡ set (lists_of vs) i v.items
 lists_set vs i v = map-set (λ (u : Vec ℕ Global). u.items) vs i v
+
+-- the tile that was set, and the matrix with it
+pub tile_set : (vs : List (Vec ℕ Global)) (i : ℕ) (v : Vec ℕ Global) → i < length vs →
+    get_or (lists_of (set vs i v)) i [] ≡ v.items
+tile_set vs i v l =
+    ap (λ (ts : List (List ℕ)). get_or ts i []) (lists_set vs i v)
+    ∙ get_or-set_same (lists_of vs) i v.items [] (omega (arith, l, length-map vs (λ (u : Vec ℕ Global). u.items)))
+
+pub matrix_kept : (vs : List (Vec ℕ Global)) (i : ℕ) (v w : Vec ℕ Global) → i < length vs → w ≡ get_or vs i w →
+    ((k : ℕ) → bit v.items k ≡ bit w.items k) → (k : ℕ) →
+    matrix_bit (lists_of (set vs i v)) k ≡ matrix_bit (lists_of vs) k
+matrix_kept vs i v w l e h k =
+    ap (λ (ts : List (List ℕ)). matrix_bit ts k) (lists_set vs i v)
+    ∙ matrix_same (lists_of vs) i v.items (omega (arith, l, length-map vs (λ (u : Vec ℕ Global). u.items)))
+    (λ j. h j ∙ ap (λ (ws : List ℕ). bit ws j) (sym (list_read vs i w l e))) k
+
+pub matrix_set : (vs : List (Vec ℕ Global)) (place : ℕ) (v w : Vec ℕ Global) → place / 16384 < length vs →
+    w ≡ get_or vs (place / 16384) w →
+    ((k : ℕ) → bit v.items k ≡ ((k == place % 16384) || bit w.items k)) → (k : ℕ) →
+    matrix_bit (lists_of (set vs (place / 16384) v)) k ≡ ((k == place) || matrix_bit (lists_of vs) k)
+matrix_set vs place v w l e h k =
+    ap (λ (ts : List (List ℕ)). matrix_bit ts k) (lists_set vs (place / 16384) v)
+    ∙ matrix_written (lists_of vs) place v.items (omega (arith, l, length-map vs (λ (u : Vec ℕ Global). u.items)))
+    (λ j. h j ∙ ap (λ (ws : List ℕ). (j == place % 16384) || bit ws j) (sym (list_read vs (place / 16384) w l e))) k
 
 pub lists_same : (vs : List (Vec ℕ Global)) (i : ℕ) (v w : Vec ℕ Global) → i < length vs → w ≡ get_or vs i w →
     v.items ≡ w.items →

@@ -23,19 +23,19 @@ ghost use Rattle.tg_graph.specs.Interference.{
   with_edge,
 };
 
-use crate::bits::{has_bit, pair_place, reach, set_bit};
 use crate::lists::{COLOURS, count_up, empty_lists, pop_neighbour, push_neighbour};
+use crate::matrices::{has_pair, pair_place, reach_pair, set_pair, tiles_for};
 use std::alloc::Global;
 use std::marker::Model;
 use tg_base::Memory;
 
 /// An interference graph: the registers that serve as colours, which all interfere with each
-/// other, and temporaries. It has a bit for each pair of nodes, and a counter and a list for each
-/// temporary (Appel, chapter 11: `adjSet`, `degree` and `adjList`).
+/// other, and temporaries. It has a bit for each pair of nodes, in tiles, and a counter and a list
+/// for each temporary (Appel, chapter 11: `adjSet`, `degree` and `adjList`).
 #[derive(Drop)]
 pub struct Graph {
     nodes: u32,
-    pairs: Vec<u64>,
+    pairs: Vec<Vec<u32>>,
     degrees: Vec<u32>,
     adjacent: Vec<Vec<u32>>,
 }
@@ -50,12 +50,12 @@ impl Model for Graph {
 
     ghost invariant = { λ g.
         IsKept (record { nodes = g.nodes; adjacent = lists_of g.adjacent.items })
-        g.pairs.items g.degrees.items };
+        (lists_of g.pairs.items) g.degrees.items };
 }
 
 impl Graph {
-    /// A graph in which the registers alone interfere. It has no bits: edges take them, at most
-    /// n(n-1)/2 for n nodes, and fewer where they join temporaries whose numbers are near.
+    /// A graph in which the registers alone interfere. It has no bits yet: edges take them, a tile
+    /// at a time, and for n nodes little more than n(n-1)/2 in all.
     pub fn new(alloc: Global, nodes: u32) -> Result<Graph, Memory>
         requires low { colours ≤ nodes }
         requires high { nodes ≤ most_nodes }
@@ -64,9 +64,9 @@ impl Graph {
         let temporaries = nodes - COLOURS;
         Ok(Graph {
             nodes,
-            pairs: Vec::new(alloc),
+            pairs: empty_lists(alloc, tiles_for(nodes))?,
             degrees: vec![in alloc; 0u32; temporaries as usize]?,
-            adjacent: empty_lists(alloc, temporaries)?,
+            adjacent: empty_lists(alloc, temporaries as usize)?,
         })
     }
 
@@ -94,8 +94,8 @@ impl Graph {
         if self.interferes(a, b) {
             return Ok(());
         }
-        let at = pair_place(self.nodes(), a.min(b), a.max(b));
-        reach(&mut self.pairs, at)?;
+        let at = pair_place(a.min(b), a.max(b));
+        reach_pair(&mut self.pairs, at)?;
         push_neighbour(&mut self.adjacent, a, b)?;
         if push_neighbour(&mut self.adjacent, b, a).is_err() {
             pop_neighbour(&mut self.adjacent, a);
@@ -103,7 +103,7 @@ impl Graph {
         }
         count_up(&mut self.degrees, a);
         count_up(&mut self.degrees, b);
-        set_bit(&mut self.pairs, at);
+        set_pair(&mut self.pairs, at);
         Ok(())
     }
 
@@ -113,9 +113,9 @@ impl Graph {
         requires second { b < self.now.nodes }
         ensures { result ≡ graph.interferes self.now a b }
     {
-        let nodes = self.nodes;
+        let _nodes = self.nodes;
         let high = a.max(b);
-        a != b && (high < COLOURS || has_bit(&self.pairs, pair_place(nodes, a.min(b), high)))
+        a != b && (high < COLOURS || has_pair(&self.pairs, pair_place(a.min(b), high)))
     }
 
     /// How many neighbours a temporary has.

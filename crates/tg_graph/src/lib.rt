@@ -8,6 +8,7 @@ mod graphs;
 mod laws;
 mod links;
 mod lists;
+mod matrices;
 mod worklists;
 
 pub use graphs::Graph;

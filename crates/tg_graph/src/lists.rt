@@ -24,10 +24,10 @@ use tg_base::Memory;
 pub const COLOURS: u32 = 25;
 
 /// As many empty lists. They take no memory of their own.
-pub(crate) fn empty_lists(alloc: Global, count: u32) -> Result<Vec<Vec<u32>>, Memory>
+pub(crate) fn empty_lists(alloc: Global, count: usize) -> Result<Vec<Vec<u32>>, Memory>
     ensures { IfOk result (λ v. lists_of v.items ≡ replicate count []) }
 {
-    let mut lists = Vec::with_capacity(alloc, count as usize)?;
+    let mut lists = Vec::with_capacity(alloc, count)?;
     for _ in 0..count {
         lists.push(Vec::new(alloc))?;
     }

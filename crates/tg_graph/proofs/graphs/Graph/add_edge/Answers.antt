@@ -1,20 +1,40 @@
 use Rattle.std.specs.Prelude.{◌==◌}
-use Rattle.std.proofs.Common.{◌≡◌, ℕ, ◌+◌, ◌-◌, ◌≤◌, ◌||◌, List, false, length, get_or, min, max, refl, sym, ap, ◌∙◌, subst, arith}
+use Rattle.std.proofs.Common.{◌≡◌, ℕ, ◌+◌, ◌-◌, ◌<◌, ◌/◌, ◌≤◌, ◌||◌, List, length, get_or, min, max, refl, sym, ap, ◌∙◌, subst, arith}
 use Rattle.std.proofs.lemmas.List.{with_items_is}
 use Rattle.std.specs.Vec.{with_items}
-use Rattle.tg_graph.specs.Bits.{bit, pair_place}
-use Rattle.tg_graph.specs.Interference.{Interference, interferes, are_ends, with_edge, with_neighbour, most_nodes}
+use Rattle.tg_graph.specs.Bits.{area, matrix_bit, pair_place, tiles_for}
+use Rattle.tg_graph.specs.Interference.{Interference, interferes, are_ends, with_neighbour, most_nodes}
 use Rattle.tg_graph.specs.Keeping.{IsKept, lists_of, counted_up}
-use Rattle.tg_graph.proofs.Places.{place_at}
+use Rattle.tg_graph.proofs.Places.{place_at, tile_within}
 use Rattle.tg_graph.proofs.Changes.{counted_few, length_counted}
-use Rattle.tg_graph.proofs.Joining.{CanJoin, can_join, edge_joined, few_counted, graph_of, joined, kept_at, kept_joined, kept_reached, interferes_joined}
-use Rattle.tg_graph.proofs.Vectors.{at_err, at_ok, size_with}
+use Rattle.tg_graph.proofs.Joining.{CanJoin, can_join, ends_interfere, few_counted, graph_of, joined, kept_at, kept_joined, kept_reached, interferes_joined}
+use Rattle.tg_graph.proofs.Vectors.{at_err, at_ok, lists_sized, same_size, size_with}
 use Rattle.tg_graph.proofs.graphs.Graph.add_edge.Goals as goal
+
+pub returns-then-interferes-clause-pairs : goal.returns-then-interferes-clause-pairs
+returns-then-interferes-clause-pairs c = λ x y.
+    ends_interfere c.args.self.now c.args.a c.args.b x y (sym c.interferes.ensures ∙ c.if-interferes.true)
+
+pub reach_pair-requires : goal.reach_pair-requires
+reach_pair-requires c =
+    let nodes : c.self.inside.nodes ≡ c.args.self.now.nodes = ap (λ (h : Interference). h.nodes) c.self.view_is in
+    subst (λ (size : ℕ). c.pair_place-at.result / area < size)
+    (sym (lists_sized c.self.inside.pairs.items (tiles_for c.self.inside.nodes) c.self.invariant.room))
+    (tile_within c.min.result c.max.result c.self.inside.nodes c.pair_place-at.result (omega arith) (omega arith)
+    c.pair_place-at.ensures)
+
+pub invariant_of-self : goal.invariant_of-self
+invariant_of-self c =
+    kept_reached _ _ _ _ c.self.invariant
+    (same_size c.reach_pair.new.tiles.items c.self.inside.pairs.items c.in_err-reach_pair.ensures.size)
+    c.in_err-reach_pair.ensures.bits
 
 pub invariant_of-self-in_err-push_neighbour : goal.invariant_of-self-in_err-push_neighbour
 invariant_of-self-in_err-push_neighbour c =
     kept_at c.self.inside.nodes _ _ _ _ _ _ (sym c.in_err-push_neighbour.ensures.err) refl refl
-    (kept_reached _ _ _ _ c.self.invariant c.in_ok-reach.ensures.bits)
+    (kept_reached _ _ _ _ c.self.invariant
+    (same_size c.reach_pair.new.tiles.items c.self.inside.pairs.items c.in_ok-reach_pair.ensures.size)
+    c.in_ok-reach_pair.ensures.bits)
 
 pub push_neighbour-requires-2 : goal.push_neighbour-requires-2
 push_neighbour-requires-2 c =
@@ -42,16 +62,9 @@ invariant_of-self-then-is_err c =
     c.pop_neighbour.ensures (lists_of c.self.inside.adjacent.items) c.args.b (failed
     ∙ c.in_ok-push_neighbour.ensures.ok) in
     kept_at c.self.inside.nodes _ _ _ _ _ _ (sym back) refl refl
-    (kept_reached _ _ _ _ c.self.invariant c.in_ok-reach.ensures.bits)
-
-pub returns-then-is_err-clause-err : goal.returns-then-is_err-clause-err
-returns-then-is_err-clause-err c =
-    let failed : lists_of c.push_neighbour-2.new.lists.items ≡ lists_of c.push_neighbour.new.lists.items =
-    at_err c.push_neighbour-2.result c.if-is_err.ensures.value c.push_neighbour-2.ensures.err in
-    ap (graph_of c.self.inside.nodes)
-    (c.pop_neighbour.ensures (lists_of c.self.inside.adjacent.items) c.args.b (failed
-    ∙ c.in_ok-push_neighbour.ensures.ok))
-    ∙ c.self.view_is
+    (kept_reached _ _ _ _ c.self.invariant
+    (same_size c.reach_pair.new.tiles.items c.self.inside.pairs.items c.in_ok-reach_pair.ensures.size)
+    c.in_ok-reach_pair.ensures.bits)
 
 pub count_up-requires-clause-few : goal.count_up-requires-clause-few
 count_up-requires-clause-few c =
@@ -61,7 +74,7 @@ count_up-requires-clause-few c =
     omega (
       arith,
       here,
-      few_counted g c.self.inside.pairs.items c.self.inside.degrees.items c.self.invariant
+      few_counted g (lists_of c.self.inside.pairs.items) c.self.inside.degrees.items c.self.invariant
           (c.args.a - 25),
     )
 
@@ -79,31 +92,38 @@ count_up-requires-2-clause-few c =
     ap (λ (xs : List ℕ). get_or xs (c.args.b - 25) 0) here in
     let few : get_or (counted_up c.args.a c.self.inside.degrees.items) (c.args.b - 25) 0 ≤ most_nodes + 1 =
     counted_few c.args.a most_nodes c.self.inside.degrees.items
-    (few_counted g c.self.inside.pairs.items c.self.inside.degrees.items c.self.invariant) (c.args.b - 25) in
+    (few_counted g (lists_of c.self.inside.pairs.items) c.self.inside.degrees.items c.self.invariant) (c.args.b - 25) in
     omega (arith, subst (λ (d : ℕ). d ≤ 16777242) (sym read) few)
+
+pub set_pair-requires-clause-tile : goal.set_pair-requires-clause-tile
+set_pair-requires-clause-tile c =
+    let nodes : c.self.inside.nodes ≡ c.args.self.now.nodes = ap (λ (h : Interference). h.nodes) c.self.view_is in
+    subst (λ (size : ℕ). c.pair_place-at.result / area < size)
+    (sym (c.in_ok-reach_pair.ensures.size
+    ∙ lists_sized c.self.inside.pairs.items (tiles_for c.self.inside.nodes) c.self.invariant.room))
+    (tile_within c.min.result c.max.result c.self.inside.nodes c.pair_place-at.result (omega arith) (omega arith)
+    c.pair_place-at.ensures)
 
 pub invariant_of-self-2 : goal.invariant_of-self-2
 invariant_of-self-2 c =
     let a = c.args.a in
     let b = c.args.b in
     let g : Interference = graph_of c.self.inside.nodes (lists_of c.self.inside.adjacent.items) in
-    let bits = c.reach.new.words in
+    let tiles : List (List ℕ) = lists_of c.reach_pair.new.tiles.items in
     let degrees = c.self.inside.degrees in
-    let kept : IsKept g bits.items degrees.items =
-    kept_reached g c.self.inside.pairs.items degrees.items bits.items c.self.invariant c.in_ok-reach.ensures.bits in
+    let kept : IsKept g tiles degrees.items =
+    kept_reached _ _ _ _ c.self.invariant
+    (same_size c.reach_pair.new.tiles.items c.self.inside.pairs.items c.in_ok-reach_pair.ensures.size)
+    c.in_ok-reach_pair.ensures.bits in
     let nodes : c.self.inside.nodes ≡ c.args.self.now.nodes = ap (λ (h : Interference). h.nodes) c.self.view_is in
     let can : CanJoin g a b =
-    can_join g c.args.self.now bits.items degrees.items a b kept c.self.view_is c.requires.first c.requires.second
+    can_join g c.args.self.now tiles degrees.items a b kept c.self.view_is c.requires.first c.requires.second
     c.requires.differ (sym c.interferes.ensures ∙ c.if-interferes.false) in
-    let place : c.pair_place-at.result ≡ pair_place g.nodes (min a b) (max a b) =
-    place_at _ _ a b _ _ _ c.pair_place-at.ensures (c.nodes.ensures.value ∙ sym nodes) c.min.ensures c.max.ensures in
-    let told : (k : ℕ) → bit c.set_bit.new.words k
-    ≡ ((k == pair_place g.nodes (min a b) (max a b)) || bit bits.items k) =
-    λ k. c.set_bit.ensures k
-    ∙ (ap (λ z. (k == z) || bit c.deref_mut-3.result.now k) place
-    ∙ ap (λ (ws : List ℕ). (k == pair_place g.nodes (min a b) (max a b)) || bit ws k) c.deref_mut-3.ensures.value) in
-    let size : length c.set_bit.new.words ≡ bits.len = c.set_bit.auto.words
-    ∙ (ap length c.deref_mut-3.ensures.value ∙ sym bits.ok.0) in
+    let place : c.pair_place-at.result ≡ pair_place (min a b) (max a b) =
+    place_at a b _ _ _ c.pair_place-at.ensures c.min.ensures c.max.ensures in
+    let told : (k : ℕ) → matrix_bit (lists_of c.set_pair.new.tiles.items) k
+    ≡ ((k == pair_place (min a b) (max a b)) || matrix_bit tiles k) =
+    λ k. c.set_pair.ensures.bits k ∙ ap (λ z. (k == z) || matrix_bit tiles k) place in
     let once : c.count_up.new.degrees ≡ counted_up a degrees.items =
     c.count_up.ensures ∙ ap (λ (xs : List ℕ). counted_up a xs) c.deref_mut.ensures.value in
     let once_size : length c.count_up.new.degrees ≡ degrees.len = ap length once
@@ -118,23 +138,11 @@ invariant_of-self-2 c =
     let lists : lists_of c.push_neighbour-2.new.lists.items ≡ (joined g a b).adjacent =
     at_ok c.push_neighbour-2.result c.if-is_err.ensures.value c.push_neighbour-2.ensures.ok
     ∙ ap (λ (ls : List (List ℕ)). with_neighbour b a ls) c.in_ok-push_neighbour.ensures.ok in
-    kept_at c.self.inside.nodes _ _ _ _ _ _ (sym lists) (sym (with_items_is bits c.set_bit.new.words size))
+    kept_at c.self.inside.nodes _ _ _ _ _ _ (sym lists) refl
     (sym twice ∙ sym (with_items_is
     (with_items degrees c.count_up.new.degrees) c.count_up-2.new.degrees twice_size))
-    (kept_joined g bits.items degrees.items c.set_bit.new.words a b kept can told)
-
-pub returns-clause-ok : goal.returns-clause-ok
-returns-clause-ok c =
-    let a = c.args.a in
-    let b = c.args.b in
-    let g : Interference = graph_of c.self.inside.nodes (lists_of c.self.inside.adjacent.items) in
-    let apart : interferes g a b ≡ false = ap (λ (h : Interference). interferes h a b) c.self.view_is
-    ∙ (sym c.interferes.ensures ∙ c.if-interferes.false) in
-    let lists : lists_of c.push_neighbour-2.new.lists.items ≡ (joined g a b).adjacent =
-    at_ok c.push_neighbour-2.result c.if-is_err.ensures.value c.push_neighbour-2.ensures.ok
-    ∙ ap (λ (ls : List (List ℕ)). with_neighbour b a ls) c.in_ok-push_neighbour.ensures.ok in
-    ap (graph_of c.self.inside.nodes) lists
-    ∙ (sym (edge_joined g a b apart) ∙ ap (λ (h : Interference). with_edge h a b) c.self.view_is)
+    (kept_joined g tiles degrees.items (lists_of c.set_pair.new.tiles.items) a b kept can
+    (same_size c.set_pair.new.tiles.items c.reach_pair.new.tiles.items c.set_pair.ensures.size) told)
 
 pub returns-clause-pairs : goal.returns-clause-pairs
 returns-clause-pairs c = λ x y.
@@ -142,7 +150,7 @@ returns-clause-pairs c = λ x y.
     let b = c.args.b in
     let g : Interference = graph_of c.self.inside.nodes (lists_of c.self.inside.adjacent.items) in
     let can : CanJoin g a b =
-    can_join g c.args.self.now c.self.inside.pairs.items c.self.inside.degrees.items a b c.self.invariant
+    can_join g c.args.self.now (lists_of c.self.inside.pairs.items) c.self.inside.degrees.items a b c.self.invariant
     c.self.view_is c.requires.first c.requires.second c.requires.differ
     (sym c.interferes.ensures ∙ c.if-interferes.false) in
     let lists : lists_of c.push_neighbour-2.new.lists.items ≡ (joined g a b).adjacent =

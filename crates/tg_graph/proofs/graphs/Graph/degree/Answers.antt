@@ -8,7 +8,7 @@ use Rattle.tg_graph.proofs.graphs.Graph.degree.Goals as goal
 pub returns-clause-bound : goal.returns-clause-bound
 returns-clause-bound c =
     let g : Interference = record { nodes = c.self.inside.nodes; adjacent = lists_of c.self.inside.adjacent.items } in
-    let kept : IsKept g c.self.inside.pairs.items c.self.inside.degrees.items = c.self.invariant in
+    let kept : IsKept g (lists_of c.self.inside.pairs.items) c.self.inside.degrees.items = c.self.invariant in
     let nodes : c.self.inside.nodes ≡ c.args.self.now.nodes = ap (λ (h : Interference). h.nodes) c.self.view_is in
     let size : length c.self.inside.degrees.items ≡ c.self.inside.nodes - 25 = ap length kept.counted
     ∙ (length-map g.adjacent length ∙ kept.graph.sized) in
@@ -20,6 +20,6 @@ returns-clause-bound c =
       arith,
       nodes,
       read,
-      degree_read g c.self.inside.pairs.items c.self.inside.degrees.items c.args.a kept c.requires.temporary node,
+      degree_read g (lists_of c.self.inside.pairs.items) c.self.inside.degrees.items c.args.a kept c.requires.temporary node,
       few_neighbours g c.args.a kept.graph c.requires.temporary node,
     )

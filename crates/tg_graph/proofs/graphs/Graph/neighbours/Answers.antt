@@ -10,7 +10,7 @@ pub returns-clause-within : goal.returns-clause-within
 returns-clause-within c =
     let vectors = c.self.inside.adjacent.items in
     let g : Interference = record { nodes = c.self.inside.nodes; adjacent = lists_of vectors } in
-    let kept : IsKept g c.self.inside.pairs.items c.self.inside.degrees.items = c.self.invariant in
+    let kept : IsKept g (lists_of c.self.inside.pairs.items) c.self.inside.degrees.items = c.self.invariant in
     let nodes : c.self.inside.nodes ≡ c.args.self.now.nodes = ap (λ (h : Interference). h.nodes) c.self.view_is in
     let node : c.args.a < c.self.inside.nodes = omega arith in
     let size : length vectors ≡ c.self.inside.nodes - 25 = sym (length-map vectors (λ v. v.items)) ∙ kept.graph.sized in

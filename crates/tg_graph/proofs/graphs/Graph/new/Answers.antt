@@ -7,5 +7,5 @@ invariant_of-result c =
     let n = c.args.nodes in
     let counters : c.in_ok-vec.field-0.items ≡ replicate (n - 25) 0 =
     c.in_ok-vec.ensures.items_if_clones_equal (λ y h. search rules) in
-    kept_at n _ _ _ _ _ _ (sym c.in_ok-empty_lists.ensures) (sym c.new.ensures.items) (sym counters)
-    (kept_bare n c.requires.low c.requires.high)
+    kept_at n _ _ _ _ _ _ (sym c.in_ok-empty_lists-2.ensures) (sym c.in_ok-empty_lists.ensures) (sym counters)
+    (kept_bare n c.tiles_for.result c.requires.low c.requires.high c.tiles_for.ensures)
