@@ -2,5 +2,5 @@ pub mod Chain
 pub mod Linking
 pub mod Naming
 pub mod NotesAlike
-pub mod Small
+mod Small
 pub mod WellFormed

@@ -125,7 +125,8 @@ fn compile_functions(
     Ok(Functions { codes, placements })
 }
 
-/// The assembly text of functions and literals.
+/// The assembly text of functions and literals. `Memory` comes too where the statics don't fit
+/// their segment.
 fn write(alloc: Global, codes: &[Allocated], literals: &[Literal]) -> Result<Vec<u8>, Memory>
     requires linked { AreLinked codes.now literals.now }
     requires small { AreSmall codes.now }
