@@ -86,7 +86,7 @@ compile_one_more rule fs one codes all ps every a h k e d =
     (subst Q (sym e) (subst R (sym d) (compile_more rule before codes ps (plain_fragment one) a.done (placement_of a) h k)))
 
 -- codes and placements that are brought together
-together : (rule : Rule) (fs : List (Function Ts)) (codes : List Allocated) (ps : List Placement) → CompileApart rule fs codes ps →
+pub together : (rule : Rule) (fs : List (Function Ts)) (codes : List Allocated) (ps : List Placement) → CompileApart rule fs codes ps →
     CompileFunctions rule fs (map allocation_of (zip codes ps)) × (codes_of (map allocation_of (zip codes ps)) ≡ codes)
 together rule [] [] [] h = (tt, refl)
 together rule [] [] (p ∷ ps) h = absurd h

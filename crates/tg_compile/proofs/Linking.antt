@@ -1,11 +1,11 @@
 -- What the instructions of a program name is there: the passes name no more than its trees do.
 use Rattle.std.proofs.Common.{◌≡◌, ◌≢◌, ◌<◌, ℕ, zero, suc, Bool, true, false, List, [], ◌∷◌, ◌++◌, refl, sym, ap, subst, ◌∙◌, arith, eq-eqb, get_or, length, inl, inr, ◌≤◌}
-use Rattle.std.specs.Prelude.{◌&&◌, ◌||◌, ◌==◌, nat_lt, nat_le, map, not, IsTrue}
+use Rattle.std.specs.Prelude.{◌&&◌, ◌||◌, ◌==◌, nat_le, map, not, IsTrue}
 use Rattle.std.specs.List.{Contains, AllPairs, list_all}
-use Rattle.std.proofs.lemmas.Bool.{lt-ltb, ltb-true}
+use Rattle.std.proofs.lemmas.Bool.{lt-ltb}
 use Rattle.std.proofs.lemmas.Bool.Decides.{eqb_tells, nat_tests}
 use Rattle.tg_base.specs.declared.ids.Label.{Label}
-use Rattle.tg_base.specs.State.{most_words, most_bytes}
+use Rattle.tg_base.specs.State.{most_bytes}
 use Rattle.tg_tree.specs.declared.fragments.Literal.{Literal}
 use Rattle.tg_tree.specs.Tree as tree
 use Rattle.tg_tree.specs.Tree.{Ts, Function, Code}
@@ -26,13 +26,11 @@ use Rattle.tg_rounds.specs.Policies.{Rule}
 use Rattle.tg_spill.specs.declared.allocations.Allocation.{Allocation}
 use Rattle.tg_spill.specs.Explained.{IgnoresOperands, AllocationsKeepTests}
 use Rattle.tg_emit.specs.Conditions.{has_code, is_emittable}
-use Rattle.tg_emit.specs.declared.assembly.Line.{Line}
-use Rattle.tg_emit.specs.Lines.{words, functions_lines, literals_lines, is_long, assembly_of}
-use Rattle.tg_emit.proofs.Appending.{words_front}
 use Rattle.tg_image.specs.Programs.{IsProgram, bytes_of, function_labels, literal_labels, is_among, labels_differ, names_those, calls_those}
+use Rattle.tg_words.specs.Allocating.{has_small_frame}
 use Rattle.tg_compile.specs.declared.programs.Placement.{Placement}
 use Rattle.tg_compile.specs.Compiling.{flattened, CompilesFunction}
-use Rattle.tg_compile.specs.Passes.{CompileApart, allocation_of, is_there, have_codes, has_small_frame, CodeNamesNoMore, AreLinked}
+use Rattle.tg_compile.specs.Passes.{CompileApart, allocation_of, is_there, have_codes, CodeNamesNoMore, AreLinked, AreSmall}
 
 both_left : (a b : Bool) → (a && b) ≡ true → a ≡ true
 both_left true b e = refl
@@ -338,29 +336,19 @@ emittable (c ∷ codes) e d =
     (both (has_small_frame c) (have_codes c) (both_left (has_small_frame c) (list_all has_small_frame codes) e) (both_left (have_codes c) (list_all have_codes codes) d))
     (emittable codes (both_right (has_small_frame c) (list_all has_small_frame codes) e) (both_right (have_codes c) (list_all have_codes codes) d))
 
-below : (a b : ℕ) → nat_lt a b ≡ true → a < b
-below a b e = ltb-true a b e
-
 within : (a b : ℕ) → nat_le a b ≡ true → a ≤ b
 within a b e = grind (arith, nat_tests, e)
 
--- code and statics that fit their segments make a program of them
-pub whole_program : (codes : List Allocated) (literals : List Literal) (assembly : List Line) →
-    AreLinked codes literals → list_all is_emittable codes ≡ true → assembly ≡ assembly_of codes literals →
-    (nat_lt (words assembly) most_words && nat_le (bytes_of literals) most_bytes) ≡ true → IsProgram codes literals
-whole_program codes literals assembly linked fit is sizes =
-    let short = both_left (nat_lt (words assembly) most_words) (nat_le (bytes_of literals) most_bytes) sizes in
-    let few = both_right (nat_lt (words assembly) most_words) (nat_le (bytes_of literals) most_bytes) sizes in
-    let lines = functions_lines (is_long codes) codes in
-    let front : words lines ≤ words (assembly_of codes literals) = words_front lines (literals_lines literals) in
-    let same : words assembly ≡ words (assembly_of codes literals) = ap words is in
-    let all : words assembly < most_words = below (words assembly) most_words short in
+-- small ones, with statics that fit their segment, make a program of them
+pub whole_program : (codes : List Allocated) (literals : List Literal) → AreLinked codes literals → AreSmall codes →
+    nat_le (bytes_of literals) most_bytes ≡ true → IsProgram codes literals
+whole_program codes literals linked small few =
     record {
-      emittable = fit;
+      emittable = emittable codes small.frames linked.faults;
       functions_differ = linked.functions_differ;
       literals_differ = linked.literals_differ;
       has_body = linked.has_body;
       names = linked.names;
-      code_fits = omega (arith, front, same, all);
+      code_fits = small.functions;
       statics_fit = within (bytes_of literals) most_bytes few;
     }

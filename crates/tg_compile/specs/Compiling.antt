@@ -1,6 +1,6 @@
 -- What a program is compiled to, pass after pass (Appel, chapters 6 to 12).
-use Rattle.std.specs.Prelude.{◌≡◌, ◌<◌, ℕ, List, [], ◌∷◌, ◌++◌, map, Ok, IsTrue}
-use Rattle.std.specs.List.{list_all}
+use Rattle.std.specs.Prelude.{◌≡◌, ◌<◌, ℕ, List, ◌++◌, map, Ok, IsTrue}
+use Rattle.std.specs.List.{AllZip, list_all}
 use Rattle.std.specs.FinSet.{from_list}
 use Rattle.tg_syntax.specs.Tree.{Exp}
 use Rattle.tg_types.specs.declared.notes.Note.{Note}
@@ -87,10 +87,7 @@ module _ (rule : Rule) where
 
   -- each function has its allocation, in their order
   abbrev pub CompileFunctions : List (Function Ts) → List Allocation → Type 0
-  CompileFunctions [] [] = Unit {0}
-  CompileFunctions (f ∷ functions) (a ∷ allocations) =
-      CompilesFunction f a × CompileFunctions functions allocations
-  CompileFunctions _ _ = ⊥
+  CompileFunctions functions allocations = AllZip CompilesFunction functions allocations
 
 -- the code over registers of each allocation
 abbrev pub codes_of : List Allocation → List Allocated

@@ -1,6 +1,7 @@
 -- What the parts of the compilation promise one another.
 use Rattle.std.specs.Prelude.{◌<◌, ◌≤◌, ◌^◌, ℕ, nat_lt, Bool, true, List, [], ◌∷◌, IsTrue}
 use Rattle.std.specs.List.{Contains, list_all}
+use Rattle.tg_base.specs.State.{most_words}
 use Rattle.tg_frame.specs.Homes.{slot_bound}
 use Rattle.tg_tree.specs.declared.fragments.Literal.{Literal}
 use Rattle.tg_tree.specs.Tree.{Ts, Linear, Function}
@@ -14,7 +15,7 @@ use Rattle.tg_rounds.specs.Policies.{Rule}
 use Rattle.tg_spill.specs.Conditions.{is_fixed, names_registers}
 use Rattle.tg_spill.specs.declared.allocations.Allocation.{Allocation}
 use Rattle.tg_emit.specs.Conditions.{has_code}
-use Rattle.tg_emit.specs.Lines.{size_of}
+use Rattle.tg_emit.specs.Lines.{words, functions_lines, is_long, assembly_of}
 use Rattle.tg_image.specs.Programs.{
   function_labels,
   literal_labels,
@@ -22,6 +23,7 @@ use Rattle.tg_image.specs.Programs.{
   labels_differ,
   calls_those,
 }
+use Rattle.tg_words.specs.Allocating.{has_small_frame}
 use Rattle.tg_compile.specs.declared.programs.Placement.{Placement}
 use Rattle.tg_compile.specs.Compiling.{flattened, chosen, CompilesFunction}
 
@@ -68,10 +70,7 @@ CodeNamesNoMore =
     (rule : Rule) (a : Allocation) → CompilesFunction rule f a →
     IsTrue (list_all (names_allowed allowed) a.done.code.list)
 
--- a frame below 2 ^ 29 bytes, and code whose faults have 20 bits
-abbrev pub has_small_frame : Allocated → Bool
-has_small_frame f = nat_lt (size_of f.frame) (2 ^ 29)
-
+-- code whose faults have 20 bits
 abbrev pub have_codes : Allocated → Bool
 have_codes f = list_all has_code f.code.list
 
@@ -84,6 +83,13 @@ pub record AreLinked (codes : List Allocated) (literals : List Literal) : Type 0
   pub names :
       IsTrue (list_all (calls_those (function_labels codes) (literal_labels literals)) codes)
   pub faults : IsTrue (list_all have_codes codes)
+
+-- Functions over registers whose frames are below 2 ^ 29 bytes, and whose code fits its segment: as
+-- functions, and as an assembly with any literals.
+pub record AreSmall (codes : List Allocated) : Type 0 where
+  pub frames : IsTrue (list_all has_small_frame codes)
+  pub functions : words (functions_lines (is_long codes) codes) < most_words
+  pub assembly : (literals : List Literal) → words (assembly_of codes literals) < most_words
 
 -- an allocation of its code and its placement
 abbrev pub allocation_of : Allocated × Placement → Allocation
@@ -102,3 +108,9 @@ module _ (rule : Rule) where
   CompileApart (f ∷ functions) (code ∷ codes) (p ∷ placements) =
       CompilesFunction rule f (allocation_of (code, p)) × CompileApart functions codes placements
   CompileApart _ _ _ = ⊥
+
+-- the law that functions are compiled to small ones, whatever the policy
+abbrev pub CodeIsSmall : List (Function Ts) → Type 0
+CodeIsSmall functions =
+    (rule : Rule) (codes : List Allocated) (placements : List Placement) →
+    CompileApart rule functions codes placements → AreSmall codes

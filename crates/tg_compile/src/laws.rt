@@ -2,6 +2,7 @@ ghost use Rattle.std.specs.Prelude.{All};
 ghost use Rattle.tg_syntax.specs.Plain.{plain};
 ghost use Rattle.tg_compile.specs.Compiling.{fragments_of};
 ghost use Rattle.tg_compile.specs.Passes.{
+  CodeIsSmall,
   CodeNamesItsOwn,
   CodeNamesNoMore,
   FlatCodeIsWellMarked,
@@ -15,6 +16,7 @@ use tg_shapes::{bodies_are_closed, frames_are_small, temporaries_are_drawn};
 use tg_spill::allocations_keep_tests;
 use tg_trace::{blocks_are_well_formed, code_is_well_formed};
 use tg_types::Checked;
+use tg_words::programs_fit;
 
 /// Each function of a checked program, and of the runtime, is well formed.
 pub(crate) fn functions_are_well_formed(checked: &Checked)
@@ -56,4 +58,15 @@ pub(crate) fn code_names_no_more()
     tg_trace::names_stay();
     code_names_its_own();
     allocations_keep_tests();
+}
+
+/// The functions of a checked program, with the runtime's, are compiled to small ones: each frame
+/// is below 2^29 bytes, and their code fits its segment, whatever is spilled.
+pub(crate) fn compiled_is_small(checked: &Checked)
+    ensures { CodeIsSmall
+        (fragments_of checked.now.notes (plain checked.now.program.body)).functions }
+{
+    // As in `functions_are_well_formed`.
+    let _ = &checked.notes;
+    programs_fit();
 }

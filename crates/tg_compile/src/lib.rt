@@ -6,7 +6,6 @@ mod bodies;
 mod compiled;
 mod laws;
 mod programs;
-mod sizes;
 
 pub use compiled::Compiled;
 pub use programs::compile_checked;

@@ -1,21 +1,28 @@
-ghost use Rattle.std.specs.Prelude.{◌≡◌, All, IfOk, map};
+ghost use Rattle.std.specs.Prelude.{◌≡◌, ◌<◌, All, IfOk, map, nat_le};
 ghost use Rattle.std.specs.List.{zip};
+ghost use Rattle.tg_base.specs.State.{most_bytes, most_words};
 ghost use Rattle.tg_syntax.specs.Plain.{plain};
 ghost use Rattle.tg_tree.specs.Plain.{plain_fragment, plain_fragments};
 ghost use Rattle.tg_tree.specs.Named.{IsLinked};
 ghost use Rattle.tg_shapes.specs.Laws.{names};
-ghost use Rattle.tg_emit.specs.Lines.{assembly_of};
+ghost use Rattle.tg_emit.specs.Lines.{assembly_of, words};
 ghost use Rattle.tg_emit.specs.Text.{text_of};
+ghost use Rattle.tg_image.specs.Programs.{bytes_of};
 ghost use Rattle.tg_compile.specs.Compiling.{Compiles, HasImage, fragments_of};
-ghost use Rattle.tg_compile.specs.Passes.{AreLinked, CompileApart, IsWellFormed, allocation_of};
+ghost use Rattle.tg_compile.specs.Passes.{
+  AreLinked,
+  AreSmall,
+  CompileApart,
+  IsWellFormed,
+  allocation_of,
+};
 
 use crate::bodies::compile_function;
 use crate::compiled::Compiled;
-use crate::laws::{code_names_no_more, functions_are_well_formed};
-use crate::sizes::have_small_frames;
+use crate::laws::{code_names_no_more, compiled_is_small, functions_are_well_formed};
 use std::alloc::Global;
 use tg_base::Memory;
-use tg_emit::{emit, text};
+use tg_emit::{Assembly, emit, text};
 use tg_escape::escapes;
 use tg_image::fit_segments;
 use tg_instr::Allocated;
@@ -61,6 +68,7 @@ pub fn compile_checked(
     } = fragments(alloc, checked)?;
     let functions = compile_functions(alloc, bodies, policy)?;
     code_names_no_more();
+    compiled_is_small(checked);
     let written = write(alloc, &functions.codes, &literals)?;
     Ok(Compiled {
         allocations: join(alloc, functions)?,
@@ -117,22 +125,28 @@ fn compile_functions(
     Ok(Functions { codes, placements })
 }
 
-/// The assembly text of functions and literals.
+/// The assembly text of functions and literals. `Memory` comes too where the statics don't fit
+/// their segment.
 fn write(alloc: Global, codes: &[Allocated], literals: &[Literal]) -> Result<Vec<u8>, Memory>
-    requires { AreLinked codes.now literals.now }
+    requires linked { AreLinked codes.now literals.now }
+    requires small { AreSmall codes.now }
     ensures text { IfOk result (λ t. t.items ≡ text_of (assembly_of codes.now literals.now)) }
     ensures image { IfOk result (λ t. HasImage t.items) }
 {
-    let small = have_small_frames(codes);
-    if !small {
-        return Err(Memory);
-    }
     let assembly = emit(alloc, codes, literals)?;
-    let fits = fit_segments(&assembly, literals);
-    if !fits {
+    let fit = statics_fit(&assembly, literals);
+    if !fit {
         return Err(Memory);
     }
     Ok(text(alloc, &assembly)?)
+}
+
+/// Whether the statics of literals fit their segment, where the code of an assembly does.
+fn statics_fit(assembly: &Assembly, literals: &[Literal]) -> bool
+    requires { words assembly.now < most_words }
+    ensures { result ≡ nat_le (bytes_of literals.now) most_bytes }
+{
+    fit_segments(assembly, literals)
 }
 
 /// The allocations of compiled functions.

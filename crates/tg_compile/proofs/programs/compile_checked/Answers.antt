@@ -1,5 +1,7 @@
-use Rattle.std.proofs.Common.{refl}
+use Rattle.std.proofs.Common.{List, refl, ap, subst}
 use Rattle.tg_syntax.specs.Plain.{plain}
+use Rattle.tg_tree.specs.Tree.{Ts, Function, Code}
+use Rattle.tg_compile.specs.Passes.{CompileApart}
 use Rattle.tg_compile.proofs.Chain.{tree_of, compiles_whole}
 use Rattle.tg_compile.proofs.Linking.{links}
 use Rattle.tg_compile.proofs.programs.compile_checked.Goals as goal
@@ -11,8 +13,9 @@ returns-clause-compiles g c =
     let fragments = c.in_ok-bodies.field-0 in
     let functions = c.in_ok-functions.functions in
     let written = c.in_ok-written.ensures in
-    compiles_whole rule checked.notes (plain checked.program.body) fragments.functions.items fragments.literals.items functions.codes.items functions.placements.items
-    c.in_ok-join.field-0.items c.in_ok-written.written.items c.in_ok-bodies.ensures.fragments c.in_ok-functions.ensures.compile c.in_ok-join.ensures
+    compiles_whole rule checked.notes (plain checked.program.body) fragments.functions.items fragments.literals.items
+    functions.codes.items functions.placements.items c.in_ok-join.field-0.items c.in_ok-written.written.items
+    c.in_ok-bodies.ensures.fragments c.in_ok-functions.ensures.compile c.in_ok-join.ensures
     (rw c.deref.ensures.value at (rw c.deref-2.ensures.value at written.text)) written.image
 
 pub write-requires : goal.write-requires
@@ -20,6 +23,11 @@ write-requires g c =
     let rule = (goal.SpillPolicy-dyn g c.args.policy.now).rule c.args.policy.now.1 in
     let fragments = c.in_ok-bodies.field-0 in
     let functions = c.in_ok-functions.functions in
-    rw (c.deref.ensures.value, c.deref-2.ensures.value)
-    (links c.code_names_no_more.ensures rule (tree_of fragments.functions.items fragments.literals.items) functions.codes.items functions.placements.items fragments.literals.items
-    c.in_ok-bodies.ensures.linked refl c.in_ok-functions.ensures.compile)
+    let P : List (Function Ts) → Type 0 = λ fs. CompileApart rule fs functions.codes.items functions.placements.items in
+    let apart = subst P (ap (λ (t : Code Ts). t.functions) c.in_ok-bodies.ensures.fragments) c.in_ok-functions.ensures.compile in
+    record {
+      linked = rw (c.deref.ensures.value, c.deref-2.ensures.value)
+          (links c.code_names_no_more.ensures rule (tree_of fragments.functions.items fragments.literals.items) functions.codes.items functions.placements.items
+          fragments.literals.items c.in_ok-bodies.ensures.linked refl c.in_ok-functions.ensures.compile);
+      small = rw c.deref.ensures.value (c.compiled_is_small.ensures rule functions.codes.items functions.placements.items apart);
+    }

@@ -1,31 +1,41 @@
-use Rattle.std.proofs.Common.{List, sym, ap, subst, ◌∙◌}
+use Rattle.std.proofs.Common.{◌<◌, List, sym, ap, subst, ◌∙◌}
 use Rattle.std.specs.Prelude.{IsTrue}
 use Rattle.std.specs.List.{list_all}
+use Rattle.tg_base.specs.State.{most_words}
 use Rattle.tg_emit.specs.declared.assembly.Line.{Line}
 use Rattle.tg_emit.specs.Conditions.{has_labels}
+use Rattle.tg_emit.specs.Lines.{words}
 use Rattle.tg_emit.specs.Text.{text_of}
+use Rattle.tg_image.specs.Programs.{AreTyped}
 use Rattle.tg_image.proofs.HasLabels.{emitted_has_labels}
 use Rattle.tg_compile.proofs.Chain.{written_image}
 use Rattle.tg_compile.proofs.Linking.{emittable, whole_program}
 use Rattle.tg_compile.proofs.programs.write.Goals as goal
 
 pub emit-requires : goal.emit-requires
-emit-requires c = emittable c.args.codes.now (sym c.have_small_frames-small.ensures ∙ c.if-not-small.false) c.requires.faults
+emit-requires c = emittable c.args.codes.now c.requires.small.frames c.requires.linked.faults
+
+pub statics_fit-fit-requires : goal.statics_fit-fit-requires
+statics_fit-fit-requires c =
+    let P : List Line → Type 0 = λ lines. words lines < most_words in
+    subst P (sym c.in_ok-assembly.ensures.lines) (c.requires.small.assembly c.args.literals.now)
 
 pub text-requires : goal.text-requires
 text-requires c =
     let written = c.in_ok-assembly.ensures in
-    let fit = emittable c.args.codes.now (sym c.have_small_frames-small.ensures ∙ c.if-not-small.false) c.requires.faults in
+    let fit = emittable c.args.codes.now c.requires.small.frames c.requires.linked.faults in
     let P : List Line → Type 0 = λ lines. IsTrue (list_all has_labels lines) in
-    subst P (sym written.lines) (emitted_has_labels c.args.codes.now c.args.literals.now fit (record { functions = written.functions; literals = written.literals }))
+    subst P (sym written.lines)
+    (emitted_has_labels c.args.codes.now c.args.literals.now fit (record { functions = written.functions; literals = written.literals }))
 
 pub returns : goal.returns
 returns c =
     let written = c.in_ok-assembly.ensures in
-    let fit = emittable c.args.codes.now (sym c.have_small_frames-small.ensures ∙ c.if-not-small.false) c.requires.faults in
-    let whole = whole_program c.args.codes.now c.args.literals.now c.in_ok-assembly.assembly c.requires fit written.lines (sym c.fit_segments-fits.ensures ∙ c.if-not-fits.false) in
+    let few = sym c.statics_fit-fit.ensures ∙ c.if-not-fit.false in
+    let whole = whole_program c.args.codes.now c.args.literals.now c.requires.linked c.requires.small few in
+    let typed : AreTyped c.args.codes.now c.args.literals.now = record { functions = written.functions; literals = written.literals } in
     let same = c.in_ok-text.ensures ∙ ap text_of written.lines in
     record {
       text = same;
-      image = written_image c.args.codes.now c.args.literals.now c.in_ok-text.field-0.items same whole (record { functions = written.functions; literals = written.literals });
+      image = written_image c.args.codes.now c.args.literals.now c.in_ok-text.field-0.items same whole typed;
     }
