@@ -1,4 +1,4 @@
-ghost use Rattle.std.specs.Prelude.{◌≡◌, IfOk, IsTrue};
+ghost use Rattle.std.specs.Prelude.{◌≡◌, ◌<◌, IfOk, IsTrue};
 ghost use Rattle.std.specs.List.{list_all};
 ghost use Rattle.tg_instr.specs.declared.operands.Opnd.TheVariants.{Reg as RegOf, Temp as TempOf};
 ghost use Rattle.tg_instr.specs.Codes.{has_slots_below};
