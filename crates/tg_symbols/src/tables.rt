@@ -1,4 +1,5 @@
-ghost use Rattle.std.specs.Prelude.{◌≡◌, ◌≤◌, [], ◌∷◌, ◌++◌, drop, length, List, OnOk, OnErr, IfOk};
+ghost use Rattle.std.specs.Prelude.{◌≡◌, ◌≤◌, [], ◌∷◌, ◌++◌, drop, length, List};
+ghost use Rattle.std.specs.Prelude.{OnOk, OnErr, IfOk};
 ghost use Rattle.std.specs.Option.{option_copied};
 ghost use Rattle.tg_symbols.specs.Tables.{named, placed_at};
 
@@ -15,9 +16,10 @@ struct Entry<V> {
     value: V,
 }
 
-/// A scoped symbol table: names, which are numbers, with what they have, the newest first. A newer entry hides the
-/// older ones of its name until it is taken away. A look-up and an entry's end take a bounded number of look-ups in a
-/// hash map, and don't walk over what is open; only an entry pushed takes memory.
+/// A scoped symbol table: names, which are numbers, with what they have, the newest first. A newer
+/// entry hides the older ones of its name until it is taken away. A look-up and an entry's end take
+/// a bounded number of look-ups in a hash map, and don't walk over what is open; only an entry
+/// pushed takes memory.
 #[derive(Drop)]
 pub struct Table<V> {
     top: HashMap<u32, u32>,
@@ -47,7 +49,8 @@ impl<V: Drop> Table<V> {
         }
     }
 
-    /// How many entries are open, hidden ones too. A scope remembers it at its beginning and cuts to it at its end.
+    /// How many entries are open, hidden ones too. A scope remembers it at its beginning and cuts
+    /// to it at its end.
     pub fn len(&self) -> usize
         ensures { result ≡ length self.now }
     {
@@ -76,7 +79,8 @@ impl<V: Drop> Table<V> {
         }
     }
 
-    /// A name's entry before the others. It fails for want of memory, for which 2^32 - 1 open entries stand too.
+    /// A name's entry before the others. It fails for want of memory, for which 2^32 - 1 open
+    /// entries stand too.
     pub fn push(&mut self, name: u32, value: V) -> Result<(), Memory>
         ensures ok { OnOk result (self.new ≡ (name, value) ∷ self.old) }
         ensures err { OnErr result (self.new ≡ self.old) }
@@ -103,7 +107,8 @@ impl<V: Drop> Table<V> {
     /// Takes the newest entries away, so many that this many are left.
     pub fn cut_to(&mut self, len: usize)
         requires { len ≤ length self.old }
-        ensures { (front back : List _) → self.old ≡ front ++ back → length back ≡ len → self.new ≡ back }
+        ensures { (front back : List _) → self.old ≡ front ++ back → length back ≡ len →
+            self.new ≡ back }
     {
         while self.len() > len {
             self.pop();

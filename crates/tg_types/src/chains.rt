@@ -21,8 +21,8 @@ use std::collections::HashMap;
 use tg_base::Memory;
 use tg_syntax::{Form, Ident, TypeDec};
 
-/// Where a chain of aliases stands: outside the group at a name, at a form that is no alias, or at an alias, whose place
-/// in the group is named.
+/// Where a chain of aliases stands: outside the group at a name, at a form that is no alias, or at
+/// an alias, whose place in the group is named.
 #[derive(Clone, Copy)]
 pub(crate) enum Chain {
     Outside(Ident),
@@ -30,7 +30,8 @@ pub(crate) enum Chain {
     Onward(usize),
 }
 
-/// Where the chain from each declaration of a group stands after as many links as the group has declarations.
+/// Where the chain from each declaration of a group stands after as many links as the group has
+/// declarations.
 pub(crate) fn ends_of(
     alloc: Global,
     places: &HashMap<u32, usize>,
@@ -40,7 +41,8 @@ pub(crate) fn ends_of(
     requires different { AreDifferent (map plain_type group.now) }
     ensures chains { IfOk result (λ v. map (chain_from (map plain_type group.now)) v.items
         ≡ map (λ d. groups.chain_of (map plain_type group.now) d.name) (map plain_type group.now)) }
-    ensures within { (n : ℕ) → TypesWithin n (map plain_type group.now) → IfOk result (λ v. All (ChainWithin n (map plain_type group.now)) v.items) }
+    ensures within { (n : ℕ) → TypesWithin n (map plain_type group.now) →
+        IfOk result (λ v. All (ChainWithin n (map plain_type group.now)) v.items) }
     ensures as_many { IfOk result (λ v. length v.items ≡ length group.now) }
 {
     let mut links = links_of(alloc, places, group)?;
@@ -58,7 +60,8 @@ pub(crate) fn ends_of(
 
 fn places_themselves(alloc: Global, count: usize) -> Result<Vec<Chain>, Memory>
     ensures as_many { IfOk result (λ v. length v.items ≡ count) }
-    ensures each { IfOk result (λ v. (k : ℕ) (d : Place) → k < count → slice_index_or v.items k d ≡ Onward k) }
+    ensures each { IfOk result (λ v. (k : ℕ) (d : Place) → k < count →
+        slice_index_or v.items k d ≡ Onward k) }
 {
     let mut ends = Vec::new(alloc);
     for at in 0..count {
@@ -74,8 +77,10 @@ fn links_of(
     group: &[TypeDec],
 ) -> Result<Vec<Chain>, Memory>
     requires places { HasPlaces places.now (map plain_type group.now) }
-    ensures links { IfOk result (λ v. v.items ≡ links_in (map plain_type group.now) 0 (map plain_type group.now)) }
-    ensures within { (n : ℕ) → TypesWithin n (map plain_type group.now) → IfOk result (λ v. All (ChainWithin n (map plain_type group.now)) v.items) }
+    ensures links { IfOk result (λ v. v.items
+        ≡ links_in (map plain_type group.now) 0 (map plain_type group.now)) }
+    ensures within { (n : ℕ) → TypesWithin n (map plain_type group.now) →
+        IfOk result (λ v. All (ChainWithin n (map plain_type group.now)) v.items) }
 {
     let mut links = Vec::new(alloc);
     for (at, dec) in group.iter().enumerate() {
@@ -96,7 +101,8 @@ fn link_of(places: &HashMap<u32, usize>, group: &[TypeDec], at: usize, form: &Fo
 
 fn start_of(places: &HashMap<u32, usize>, group: &[TypeDec], x: Ident) -> Chain
     requires places { HasPlaces places.now (map plain_type group.now) }
-    ensures within { (n : ℕ) → TypesWithin n (map plain_type group.now) → IsWithin n x → ChainWithin n (map plain_type group.now) result }
+    ensures within { (n : ℕ) → TypesWithin n (map plain_type group.now) → IsWithin n x →
+        ChainWithin n (map plain_type group.now) result }
     ensures chain { result ≡ start_in (map plain_type group.now) x }
 {
     match places.get(&x.name.0) {

@@ -80,9 +80,9 @@ impl Notes {
     }
 }
 
-/// A program that has no fault of types, with its names and its notes. Whoever reads a field knows that its names lie
-/// within the list, that its identifiers and operators begin at bytes of their own, and that the notes are those of its
-/// typing.
+/// A program that has no fault of types, with its names and its notes. Whoever reads a field knows
+/// that its names lie within the list, that its identifiers and operators begin at bytes of their
+/// own, and that the notes are those of its typing.
 #[derive(Drop)]
 pub struct Checked<'a> {
     pub program: &'a Program,
@@ -99,7 +99,8 @@ impl<'a> Model for Checked<'a> {
 
     ghost view = { λ c. record { program = c.program.now; names = c.names.now; notes = c.notes } };
 
-    ghost invariant = { λ c. IsAccepted (record { program = c.program.now; names = c.names.now; notes = c.notes }) };
+    ghost invariant = { λ c. IsAccepted
+        (record { program = c.program.now; names = c.names.now; notes = c.notes }) };
 }
 
 /// Types a program, whose identifiers are numbered by a list of names.

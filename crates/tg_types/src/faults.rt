@@ -51,7 +51,8 @@ pub enum TypeRule {
     T22,
 }
 
-/// Why a program isn't accepted: a rule and the first byte of the part where it is broken, or want of memory.
+/// Why a program isn't accepted: a rule and the first byte of the part where it is broken, or want
+/// of memory.
 #[derive(Clone, Copy, Debug, PartialEq, Eq, Error)]
 pub enum TypeFault {
     #[error("a fault of types at byte {at}")]

@@ -1,4 +1,5 @@
-ghost use Rattle.std.specs.Prelude.{◌≡◌, ℕ, [], ◌∷◌, List, length, map, Bool, not, OnOk, IfOk, All};
+ghost use Rattle.std.specs.Prelude.{◌≡◌, ℕ, [], ◌∷◌, List, length, map, Bool, not, All};
+ghost use Rattle.std.specs.Prelude.{OnOk, IfOk};
 ghost use Rattle.tg_syntax.specs.declared.tokens.Ident.{Ident as PlainIdent};
 ghost use Rattle.tg_syntax.specs.Plain.{plain_type, plain_form};
 ghost use Rattle.tg_syntax.specs.Tree.{TypeDec as PlainTypeDec};
@@ -7,7 +8,8 @@ ghost use Rattle.tg_types.specs.declared.faults.TypeRule.TheVariants.{T16};
 ghost use Rattle.tg_types.specs.Checks.{Noted, keep, add_shape};
 ghost use Rattle.tg_types.specs.Scopes.{Scope};
 ghost use Rattle.tg_types.specs.Groups as groups;
-ghost use Rattle.tg_types.specs.Declaring.{HasNames, HasPlaces, chain_from, ChainWithin, named_types, AreDifferent};
+ghost use Rattle.tg_types.specs.Declaring.{HasNames, HasPlaces, AreDifferent, chain_from};
+ghost use Rattle.tg_types.specs.Declaring.{ChainWithin, named_types};
 ghost use Rattle.tg_types.specs.States.{Gives, Keeps, Opens, scope_of, noted_of};
 
 use crate::chains::{Chain, ends_of};
@@ -30,8 +32,10 @@ pub(crate) fn declare_types(
     group: &[TypeDec],
 ) -> Result<(), TypeFault>
     requires { TypesWithin (length names.now) (map plain_type group.now) }
-    ensures given { (scope : Scope) (in_loop : Bool) → scope ≡ scope_of names.now state.old in_loop →
-        Gives result (λ _. scope_of names.now state.new in_loop) (noted_of state.new) (groups.declare_types (map plain_type group.now) scope (noted_of state.old)) }
+    ensures given { (scope : Scope) (in_loop : Bool) →
+        scope ≡ scope_of names.now state.old in_loop →
+        Gives result (λ _. scope_of names.now state.new in_loop) (noted_of state.new)
+        (groups.declare_types (map plain_type group.now) scope (noted_of state.old)) }
     ensures opens { OnOk result (Opens state.old state.new) }
 {
     let places = places_of(state.alloc, group)?;
@@ -45,7 +49,8 @@ pub(crate) fn declare_types(
 
 // The places of the names of a group, which are all different.
 fn places_of(alloc: Global, group: &[TypeDec]) -> Result<HashMap<u32, usize>, TypeFault>
-    ensures given { (n : Noted) → Gives result (λ _. tt) n (groups.no_repeats T16 [] (groups.names_of (map plain_type group.now)) n) }
+    ensures given { (n : Noted) → Gives result (λ _. tt) n
+        (groups.no_repeats T16 [] (groups.names_of (map plain_type group.now)) n) }
     ensures places { IfOk result (λ p. HasPlaces p (map plain_type group.now)) }
     ensures different { OnOk result (AreDifferent (map plain_type group.now)) }
 {
@@ -70,7 +75,8 @@ fn known(
     x: Ident,
 ) -> Result<(), TypeFault>
     requires { IsWithin (length names.now) x }
-    ensures { (group : List PlainTypeDec) (scope : Scope) (in_loop : Bool) → HasPlaces places.now group →
+    ensures { (group : List PlainTypeDec) (scope : Scope) (in_loop : Bool) →
+        HasPlaces places.now group →
         scope ≡ scope_of names.now state.now in_loop → (n : Noted) →
         Gives result (λ _. tt) n (groups.known group scope x n) }
 {
@@ -85,7 +91,8 @@ fn known_forms(
     group: &[TypeDec],
 ) -> Result<(), TypeFault>
     requires { TypesWithin (length names.now) (map plain_type group.now) }
-    ensures { (whole : List PlainTypeDec) (scope : Scope) (in_loop : Bool) → HasPlaces places.now whole →
+    ensures { (whole : List PlainTypeDec) (scope : Scope) (in_loop : Bool) →
+        HasPlaces places.now whole →
         scope ≡ scope_of names.now state.now in_loop → (n : Noted) →
         Gives result (λ _. tt) n (groups.known_forms whole (map plain_type group.now) scope n) }
 {
@@ -102,7 +109,8 @@ fn known_form(
     form: &Form,
 ) -> Result<(), TypeFault>
     requires { FormWithin (length names.now) (plain_form form.now) }
-    ensures { (whole : List PlainTypeDec) (scope : Scope) (in_loop : Bool) → HasPlaces places.now whole →
+    ensures { (whole : List PlainTypeDec) (scope : Scope) (in_loop : Bool) →
+        HasPlaces places.now whole →
         scope ≡ scope_of names.now state.now in_loop → (n : Noted) →
         Gives result (λ _. tt) n (groups.known_form whole scope (plain_form form.now) n) }
 {
@@ -120,7 +128,8 @@ fn known_fields(
     fields: &[Param],
 ) -> Result<(), TypeFault>
     requires { ParamsWithin (length names.now) fields.now }
-    ensures { (whole : List PlainTypeDec) (scope : Scope) (in_loop : Bool) → HasPlaces places.now whole →
+    ensures { (whole : List PlainTypeDec) (scope : Scope) (in_loop : Bool) →
+        HasPlaces places.now whole →
         scope ≡ scope_of names.now state.now in_loop → (n : Noted) →
         Gives result (λ _. tt) n (groups.known_fields whole scope [] fields.now n) }
 {
@@ -136,7 +145,8 @@ fn known_fields(
 pub(crate) fn fresh(earlier: &mut HashSet<u32>, rule: TypeRule, x: Ident) -> Result<(), TypeFault>
     ensures given { (seen : List PlainIdent) → HasNames earlier.old seen → (n : Noted) →
         Gives result (λ _. tt) n (keep rule x.span.from (not (groups.stands_in x.name.0 seen)) n) }
-    ensures seen { (seen : List PlainIdent) → HasNames earlier.old seen → OnOk result (HasNames earlier.new (x ∷ seen)) }
+    ensures seen { (seen : List PlainIdent) → HasNames earlier.old seen →
+        OnOk result (HasNames earlier.new (x ∷ seen)) }
 {
     let is_new = earlier.insert(x.name.0)?;
     kept(rule, x.span.from, is_new)
@@ -158,7 +168,8 @@ fn chains_end(ends: &[Chain], group: &[TypeDec]) -> Result<(), TypeFault>
 }
 
 fn has_end(chain: Chain) -> bool
-    ensures { (count : ℕ) (group : List PlainTypeDec) → ChainWithin count group chain → result ≡ groups.has_end (chain_from group chain) }
+    ensures { (count : ℕ) (group : List PlainTypeDec) → ChainWithin count group chain →
+        result ≡ groups.has_end (chain_from group chain) }
 {
     match chain {
         Chain::Onward(_) => false,
@@ -175,7 +186,8 @@ fn types_of(
 ) -> Result<Vec<Ty>, Memory>
     requires { All (ChainWithin (length names.now) (map plain_type group.now)) ends.now }
     ensures { (scope : Scope) (in_loop : Bool) → scope ≡ scope_of names.now state.now in_loop →
-        IfOk result (λ ts. ts.items ≡ map (λ e. groups.type_at_end (chain_from (map plain_type group.now) e) scope) ends.now) }
+        IfOk result (λ ts. ts.items
+        ≡ map (λ e. groups.type_at_end (chain_from (map plain_type group.now) e) scope) ends.now) }
 {
     let mut types = Vec::new(state.alloc);
     for end in ends {
@@ -186,7 +198,8 @@ fn types_of(
 
 fn type_at_end(names: &Names, state: &CheckingState, end: Chain, group: &[TypeDec]) -> Ty
     requires { ChainWithin (length names.now) (map plain_type group.now) end }
-    ensures { (scope : Scope) (in_loop : Bool) → scope ≡ scope_of names.now state.now in_loop →
+    ensures { (scope : Scope) (in_loop : Bool) →
+        scope ≡ scope_of names.now state.now in_loop →
         result ≡ groups.type_at_end (chain_from (map plain_type group.now) end) scope }
 {
     match end {
@@ -208,7 +221,8 @@ fn declared(dec: &TypeDec) -> Ty
 
 fn open_types(state: &mut CheckingState, types: &[Ty], group: &[TypeDec]) -> Result<(), Memory>
     requires { length types.now ≡ length group.now }
-    ensures types { OnOk result (state.new.types ≡ named_types group.now types.now state.old.types) }
+    ensures types { OnOk result
+        (state.new.types ≡ named_types group.now types.now state.old.types) }
     ensures bindings { state.new.bindings ≡ state.old.bindings }
     ensures noted { noted_of state.new ≡ noted_of state.old }
 {
@@ -222,8 +236,10 @@ fn open_types(state: &mut CheckingState, types: &[Ty], group: &[TypeDec]) -> Res
 
 fn add_forms(names: &Names, state: &mut CheckingState, group: &[TypeDec]) -> Result<(), TypeFault>
     requires { TypesWithin (length names.now) (map plain_type group.now) }
-    ensures given { (scope : Scope) (in_loop : Bool) → scope ≡ scope_of names.now state.old in_loop →
-        Gives result (λ _. tt) (noted_of state.new) (groups.add_forms scope (map plain_type group.now) (noted_of state.old)) }
+    ensures given { (scope : Scope) (in_loop : Bool) →
+        scope ≡ scope_of names.now state.old in_loop →
+        Gives result (λ _. tt) (noted_of state.new)
+        (groups.add_forms scope (map plain_type group.now) (noted_of state.old)) }
     ensures kept { OnOk result (Keeps state.old state.new) }
 {
     for dec in group {
@@ -234,8 +250,11 @@ fn add_forms(names: &Names, state: &mut CheckingState, group: &[TypeDec]) -> Res
 
 fn add_form(names: &Names, state: &mut CheckingState, dec: &TypeDec) -> Result<(), TypeFault>
     requires { FormWithin (length names.now) (plain_form dec.now.form) }
-    ensures given { (scope : Scope) (in_loop : Bool) → scope ≡ scope_of names.now state.old in_loop →
-        Gives result (λ _. tt) (noted_of state.new) (groups.add_form scope dec.now.name.span.from (plain_form dec.now.form) (noted_of state.old)) }
+    ensures given { (scope : Scope) (in_loop : Bool) →
+        scope ≡ scope_of names.now state.old in_loop →
+        Gives result (λ _. tt) (noted_of state.new)
+        (groups.add_form scope dec.now.name.span.from (plain_form dec.now.form)
+        (noted_of state.old)) }
     ensures kept { OnOk result (Keeps state.old state.new) }
 {
     match &dec.form {
@@ -252,7 +271,8 @@ fn add_form(names: &Names, state: &mut CheckingState, dec: &TypeDec) -> Result<(
 }
 
 fn add_shape(state: &mut CheckingState, at: u32, shape: Shape) -> Result<(), TypeFault>
-    ensures given { Gives result (λ _. tt) (noted_of state.new) (add_shape at shape (noted_of state.old)) }
+    ensures given { Gives result (λ _. tt) (noted_of state.new)
+        (add_shape at shape (noted_of state.old)) }
     ensures kept { OnOk result (Keeps state.old state.new) }
 {
     state.shapes.push(at, shape)?;
@@ -261,8 +281,10 @@ fn add_shape(state: &mut CheckingState, at: u32, shape: Shape) -> Result<(), Typ
 
 fn fields_of(names: &Names, state: &CheckingState, fields: &[Param]) -> Result<Table<Ty>, Memory>
     requires { ParamsWithin (length names.now) fields.now }
-    ensures { (scope : Scope) (in_loop : Bool) → scope ≡ scope_of names.now state.now in_loop →
-        IfOk result (λ t. t ≡ map (λ p. (p.name.name.0, groups.known_type scope p.kind)) fields.now) }
+    ensures { (scope : Scope) (in_loop : Bool) →
+        scope ≡ scope_of names.now state.now in_loop →
+        IfOk result (λ t. t
+        ≡ map (λ p. (p.name.name.0, groups.known_type scope p.kind)) fields.now) }
 {
     let mut table = Table::new(state.alloc);
     let mut at = fields.len();
@@ -276,7 +298,9 @@ fn fields_of(names: &Names, state: &CheckingState, fields: &[Param]) -> Result<T
 
 fn known_type(names: &Names, state: &CheckingState, x: Ident) -> Ty
     requires { IsWithin (length names.now) x }
-    ensures { (scope : Scope) (in_loop : Bool) → scope ≡ scope_of names.now state.now in_loop → result ≡ groups.known_type scope x }
+    ensures { (scope : Scope) (in_loop : Bool) →
+        scope ≡ scope_of names.now state.now in_loop →
+        result ≡ groups.known_type scope x }
 {
     type_of(names, state, x).unwrap_or(Ty::nothing())
 }

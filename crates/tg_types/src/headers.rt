@@ -20,7 +20,8 @@ use tg_syntax::{FunDec, FunDecs, Ident, Param};
 
 /// The functions of a group have different names.
 pub(crate) fn all_fresh(state: &CheckingState, functions: &FunDecs) -> Result<(), TypeFault>
-    ensures { (n : Noted) → Gives result (λ _. tt) n (groups.no_repeats T17 [] (groups.function_names (plain_functions functions.now)) n) }
+    ensures { (n : Noted) → Gives result (λ _. tt) n
+        (groups.no_repeats T17 [] (groups.function_names (plain_functions functions.now)) n) }
 {
     let mut earlier = HashSet::new(state.alloc);
     for function in &functions.items {
@@ -36,9 +37,12 @@ pub(crate) fn headers(
     functions: &FunDecs,
 ) -> Result<Vec<Signature>, TypeFault>
     requires { FunctionsWithin (length names.now) (plain_functions functions.now) }
-    ensures given { (scope : Scope) (in_loop : Bool) → scope ≡ scope_of names.now state.now in_loop →
-        (n : Noted) → Gives result (λ v. v.items) n (groups.headers (plain_functions functions.now) scope n) }
-    ensures as_many { IfOk result (λ v. function_count (plain_functions functions.now) ≡ length v.items) }
+    ensures given { (scope : Scope) (in_loop : Bool) →
+        scope ≡ scope_of names.now state.now in_loop →
+        (n : Noted) → Gives result (λ v. v.items) n
+        (groups.headers (plain_functions functions.now) scope n) }
+    ensures as_many { IfOk result (λ v.
+        function_count (plain_functions functions.now) ≡ length v.items) }
 {
     let mut signatures = Vec::new(state.alloc);
     for function in &functions.items {
@@ -51,7 +55,8 @@ fn header(names: &Names, state: &CheckingState, function: &FunDec) -> Result<Sig
     requires params { ParamsWithin (length names.now) function.now.params }
     requires kind { KindWithin (length names.now) function.now.result }
     ensures { (scope : Scope) (in_loop : Bool) → scope ≡ scope_of names.now state.now in_loop →
-        (n : Noted) → Gives result (λ s. s) n (header_of function.now.params function.now.result scope n) }
+        (n : Noted) → Gives result (λ s. s) n
+        (header_of function.now.params function.now.result scope n) }
 {
     let params = param_types(names, state, function.params.as_slice())?;
     let outcome = result_type(names, state, function.result)?;
@@ -61,7 +66,8 @@ fn header(names: &Names, state: &CheckingState, function: &FunDec) -> Result<Sig
 fn result_type(names: &Names, state: &CheckingState, kind: Option<Ident>) -> Result<Ty, TypeFault>
     requires { KindWithin (length names.now) kind }
     ensures { (scope : Scope) (in_loop : Bool) → scope ≡ scope_of names.now state.now in_loop →
-        (n : Noted) → Gives result (λ t. t) n (groups.result_type scope kind n) }
+        (n : Noted) → Gives result (λ t. t) n
+        (groups.result_type scope kind n) }
 {
     match kind {
         Some(kind) => type_named(names, state, kind),
@@ -71,8 +77,10 @@ fn result_type(names: &Names, state: &CheckingState, kind: Option<Ident>) -> Res
 
 fn param_types(names: &Names, state: &CheckingState, params: &[Param]) -> Result<Vec<Ty>, TypeFault>
     requires { ParamsWithin (length names.now) params.now }
-    ensures given { (scope : Scope) (in_loop : Bool) → scope ≡ scope_of names.now state.now in_loop →
-        (n : Noted) → Gives result (λ v. v.items) n (groups.param_types scope [] params.now n) }
+    ensures given { (scope : Scope) (in_loop : Bool) →
+        scope ≡ scope_of names.now state.now in_loop →
+        (n : Noted) → Gives result (λ v. v.items) n
+        (groups.param_types scope [] params.now n) }
 {
     let mut earlier = HashSet::new(state.alloc);
     let mut types = Vec::new(state.alloc);
@@ -90,8 +98,10 @@ pub(crate) fn open_functions(
     signatures: &[Signature],
 ) -> Result<(), Memory>
     requires { function_count (plain_functions functions.now) ≡ length signatures.now }
-    ensures given { (names : List (List ℕ)) (in_loop : Bool) (scope : Scope) → scope ≡ scope_of names state.old in_loop →
-        OnOk result (groups.with_functions (plain_functions functions.now) signatures.now scope ≡ scope_of names state.new in_loop) }
+    ensures given { (names : List (List ℕ)) (in_loop : Bool) (scope : Scope) →
+        scope ≡ scope_of names state.old in_loop →
+        OnOk result (groups.with_functions (plain_functions functions.now) signatures.now scope
+        ≡ scope_of names state.new in_loop) }
     ensures opens { OnOk result (Opens state.old state.new) }
     ensures noted { noted_of state.new ≡ noted_of state.old }
     ensures types { state.new.types ≡ state.old.types }
@@ -111,8 +121,10 @@ pub(crate) fn open_params(
     params: &[Param],
     types: &[Ty],
 ) -> Result<(), Memory>
-    ensures given { (names : List (List ℕ)) (in_loop : Bool) (scope : Scope) → scope ≡ scope_of names state.old in_loop →
-        OnOk result (groups.with_params params.now types.now scope ≡ scope_of names state.new in_loop) }
+    ensures given { (names : List (List ℕ)) (in_loop : Bool) (scope : Scope) →
+        scope ≡ scope_of names state.old in_loop →
+        OnOk result (groups.with_params params.now types.now scope
+        ≡ scope_of names state.new in_loop) }
     ensures opens { OnOk result (Opens state.old state.new) }
     ensures noted { noted_of state.new ≡ noted_of state.old }
     ensures types { state.new.types ≡ state.old.types }

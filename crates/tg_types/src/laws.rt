@@ -1,7 +1,8 @@
-ghost use Rattle.tg_types.specs.Laws.{CheckedHasType, FaultsStandWithin, IsNeverStuck, NotesAreFound};
+ghost use Rattle.tg_types.specs.Laws.{CheckedHasType, FaultsStandWithin, IsNeverStuck};
+ghost use Rattle.tg_types.specs.Laws.{NotesAreFound};
 
-/// A law: a checked program has a type by the relation of typed parts, which asks of each use, call, field and
-/// comparison what the program's notes say there.
+/// A law: a checked program has a type by the relation of typed parts, which asks of each use,
+/// call, field and comparison what the program's notes say there.
 pub fn checked_has_type()
     ensures { CheckedHasType }
 {}

@@ -1,6 +1,7 @@
-//! Types of Tiger (Appel, chapter 5 and appendix A). `check` types a program: it answers notes on what the program's
-//! uses, fields and comparisons mean, or the first fault with its rule and byte, exactly as the definition of typing in
-//! `specs/` does. Promises too that an accepted program is never stuck, and that a fault stands within its text.
+//! Types of Tiger (Appel, chapter 5 and appendix A). `check` types a program: it answers notes on
+//! what the program's uses, fields and comparisons mean, or the first fault with its rule and byte,
+//! exactly as the definition of typing in `specs/` does. Promises too that an accepted program is
+//! never stuck, and that a fault stands within its text.
 #![tactic(auto)]
 
 mod bindings;

@@ -1,5 +1,6 @@
 ghost use Rattle.std.specs.Prelude.{◌≡◌, ◌≤◌, [], ◌++◌, List};
-ghost use Rattle.tg_syntax.specs.Plain.{plain, plain_place, plain_exps, plain_inits, plain_dec, plain_functions};
+ghost use Rattle.tg_syntax.specs.Plain.{plain, plain_place, plain_exps, plain_inits, plain_dec};
+ghost use Rattle.tg_syntax.specs.Plain.{plain_functions};
 ghost use Rattle.tg_syntax.specs.Tree.{no_decs};
 ghost use Rattle.tg_syntax.specs.Lists.{decs_of};
 ghost use Rattle.tg_syntax.specs.Measures.{size};
@@ -44,7 +45,9 @@ pub(crate) fn first_limit(program: &Program) -> Option<Limit>
 
 // The first of two that is there.
 fn first_of(one: Option<Limit>, other: Option<Limit>) -> Option<Limit>
-    ensures { (a b : List Measures) → rule_and_byte one ≡ limits.first_above a → rule_and_byte other ≡ limits.first_above b →
+    ensures { (a b : List Measures) →
+        rule_and_byte one ≡ limits.first_above a →
+        rule_and_byte other ≡ limits.first_above b →
         rule_and_byte result ≡ limits.first_above (a ++ b) }
 {
     match one {
@@ -56,7 +59,8 @@ fn first_of(one: Option<Limit>, other: Option<Limit>) -> Option<Limit>
 #[cycle(limits)]
 fn first_above(e: &Exp, level: u32) -> Option<Limit>
     requires { level ≤ 32 }
-    ensures { rule_and_byte result ≡ limits.first_above (functions.declared level [] (plain e.now)) }
+    ensures { rule_and_byte result
+        ≡ limits.first_above (functions.declared level [] (plain e.now)) }
 {
     match &e.kind {
         Kind::Nil | Kind::Break | Kind::Int(_) | Kind::Text(_) => None,
@@ -85,7 +89,8 @@ fn first_above(e: &Exp, level: u32) -> Option<Limit>
 #[cycle(limits)]
 fn place_above(place: &Var, level: u32) -> Option<Limit>
     requires { level ≤ 32 }
-    ensures { rule_and_byte result ≡ limits.first_above (functions.declared_place level [] (plain_place place.now)) }
+    ensures { rule_and_byte result
+        ≡ limits.first_above (functions.declared_place level [] (plain_place place.now)) }
 {
     match place {
         Var::Simple(_) => None,
@@ -97,7 +102,8 @@ fn place_above(place: &Var, level: u32) -> Option<Limit>
 #[cycle(limits)]
 fn list_above(exps: &Exps, level: u32) -> Option<Limit>
     requires { level ≤ 32 }
-    ensures { rule_and_byte result ≡ limits.first_above (functions.declared_exps level [] (plain_exps exps.now)) }
+    ensures { rule_and_byte result
+        ≡ limits.first_above (functions.declared_exps level [] (plain_exps exps.now)) }
 {
     for e in &exps.items {
         let limit = first_above(e, level);
@@ -111,7 +117,8 @@ fn list_above(exps: &Exps, level: u32) -> Option<Limit>
 #[cycle(limits)]
 fn inits_above(inits: &Inits, level: u32) -> Option<Limit>
     requires { level ≤ 32 }
-    ensures { rule_and_byte result ≡ limits.first_above (functions.declared_inits level [] (plain_inits inits.now)) }
+    ensures { rule_and_byte result
+        ≡ limits.first_above (functions.declared_inits level [] (plain_inits inits.now)) }
 {
     for init in &inits.items {
         let limit = first_above(&init.value, level);
@@ -125,7 +132,8 @@ fn inits_above(inits: &Inits, level: u32) -> Option<Limit>
 #[cycle(limits)]
 fn decs_above(decs: &Decs, level: u32) -> Option<Limit>
     requires { level ≤ 32 }
-    ensures { rule_and_byte result ≡ limits.first_above (functions.declared_decs level [] (decs_of decs.now.items.items)) }
+    ensures { rule_and_byte result
+        ≡ limits.first_above (functions.declared_decs level [] (decs_of decs.now.items.items)) }
 {
     for dec in &decs.items {
         let limit = dec_above(dec, level);
@@ -139,7 +147,8 @@ fn decs_above(decs: &Decs, level: u32) -> Option<Limit>
 #[cycle(limits)]
 fn dec_above(dec: &Dec, level: u32) -> Option<Limit>
     requires { level ≤ 32 }
-    ensures { rule_and_byte result ≡ limits.first_above (functions.declared_decs level [] (plain_dec dec.now no_decs)) }
+    ensures { rule_and_byte result
+        ≡ limits.first_above (functions.declared_decs level [] (plain_dec dec.now no_decs)) }
 {
     match dec {
         Dec::Types(_) => None,
@@ -151,7 +160,8 @@ fn dec_above(dec: &Dec, level: u32) -> Option<Limit>
 #[cycle(limits)]
 fn functions_above(group: &FunDecs, level: u32) -> Option<Limit>
     requires { level ≤ 32 }
-    ensures { rule_and_byte result ≡ limits.first_above (functions.declared_functions level [] (plain_functions group.now)) }
+    ensures { rule_and_byte result
+        ≡ limits.first_above (functions.declared_functions level [] (plain_functions group.now)) }
 {
     for function in &group.items {
         let limit = function_above(function, level + 1);
@@ -167,7 +177,8 @@ fn functions_above(group: &FunDecs, level: u32) -> Option<Limit>
 fn function_above(function: &FunDec, level: u32) -> Option<Limit>
     requires { level ≤ 33 }
     ensures { rule_and_byte result ≡ above T20 function.now.name.span.from level 32
-        (above T21 function.now.name.span.from (size (plain function.now.body)) 4096 (limits.first_above (functions.declared level [] (plain function.now.body)))) }
+        (above T21 function.now.name.span.from (size (plain function.now.body)) 4096
+        (limits.first_above (functions.declared level [] (plain function.now.body)))) }
 {
     let at = function.name.span.from;
     if level > 32 {

@@ -31,7 +31,8 @@ pub(crate) fn type_of(names: &Names, state: &CheckingState, x: Ident) -> Option<
 pub(crate) fn type_named(names: &Names, state: &CheckingState, x: Ident) -> Result<Ty, TypeFault>
     requires { x.name.0 < length names.now }
     ensures { (scope : Scope) (in_loop : Bool) → scope ≡ scope_of names.now state.now in_loop →
-        (n : Noted) → Gives result (λ t. t) n (groups.type_named x scope n) }
+        (n : Noted) → Gives result (λ t. t) n
+        (groups.type_named x scope n) }
 {
     match type_of(names, state, x) {
         Some(ty) => Ok(ty),
@@ -42,8 +43,10 @@ pub(crate) fn type_named(names: &Names, state: &CheckingState, x: Ident) -> Resu
 /// A variable that is used.
 pub(crate) fn variable(names: &Names, state: &mut CheckingState, x: Ident) -> Result<Ty, TypeFault>
     requires { x.name.0 < length names.now }
-    ensures given { (scope : Scope) (in_loop : Bool) → scope ≡ scope_of names.now state.old in_loop →
-        Gives result (λ t. t) (noted_of state.new) (typing.variable_of x (bound x scope) (noted_of state.old)) }
+    ensures given { (scope : Scope) (in_loop : Bool) →
+        scope ≡ scope_of names.now state.old in_loop →
+        Gives result (λ t. t) (noted_of state.new)
+        (typing.variable_of x (bound x scope) (noted_of state.old)) }
     ensures kept { Keeps state.old state.new }
 {
     match state.bindings.get(x.name.0) {
@@ -68,8 +71,10 @@ pub(crate) fn function(
     f: Ident,
 ) -> Result<Signature, TypeFault>
     requires { f.name.0 < length names.now }
-    ensures given { (scope : Scope) (in_loop : Bool) → scope ≡ scope_of names.now state.old in_loop →
-        Gives result (λ s. s) (noted_of state.new) (typing.function_of f (bound f scope) (noted_of state.old)) }
+    ensures given { (scope : Scope) (in_loop : Bool) →
+        scope ≡ scope_of names.now state.old in_loop →
+        Gives result (λ s. s) (noted_of state.new)
+        (typing.function_of f (bound f scope) (noted_of state.old)) }
     ensures kept { Keeps state.old state.new }
 {
     match state.bindings.get(f.name.0) {
@@ -94,7 +99,9 @@ pub(crate) fn function(
 /// Whether a name is a loop's variable.
 pub(crate) fn is_loop_variable(names: &Names, state: &CheckingState, x: Ident) -> bool
     requires { x.name.0 < length names.now }
-    ensures { (scope : Scope) (in_loop : Bool) → scope ≡ scope_of names.now state.now in_loop → result ≡ typing.is_loop_variable (bound x scope) }
+    ensures { (scope : Scope) (in_loop : Bool) →
+        scope ≡ scope_of names.now state.now in_loop →
+        result ≡ typing.is_loop_variable (bound x scope) }
 {
     match state.bindings.get(x.name.0) {
         Some(binding) => binding.is_loop_variable(),

@@ -12,7 +12,8 @@ use tg_syntax::Op;
 
 // Notes whether strings or anything else are compared.
 fn compares(state: &mut CheckingState, at: u32, ty: Ty) -> Result<(), TypeFault>
-    ensures given { Gives result (λ _. tt) (noted_of state.new) (typing.compares at ty (noted_of state.old)) }
+    ensures given { Gives result (λ _. tt) (noted_of state.new)
+        (typing.compares at ty (noted_of state.old)) }
     ensures kept { Keeps state.old state.new }
 {
     let means = if ty.same(Ty::text()) {
@@ -24,7 +25,8 @@ fn compares(state: &mut CheckingState, at: u32, ty: Ty) -> Result<(), TypeFault>
 }
 
 fn ordered(state: &mut CheckingState, left: Ty, at: u32, left_at: u32) -> Result<Ty, TypeFault>
-    ensures given { Gives result (λ t. t) (noted_of state.new) (typing.ordered left at left_at (noted_of state.old)) }
+    ensures given { Gives result (λ t. t) (noted_of state.new)
+        (typing.ordered left at left_at (noted_of state.old)) }
     ensures kept { Keeps state.old state.new }
 {
     value_needed(left, left_at)?;
@@ -34,7 +36,8 @@ fn ordered(state: &mut CheckingState, left: Ty, at: u32, left_at: u32) -> Result
 }
 
 fn equated(state: &mut CheckingState, left: Ty, at: u32, left_at: u32) -> Result<Ty, TypeFault>
-    ensures given { Gives result (λ t. t) (noted_of state.new) (typing.equated left at left_at (noted_of state.old)) }
+    ensures given { Gives result (λ t. t) (noted_of state.new)
+        (typing.equated left at left_at (noted_of state.old)) }
     ensures kept { Keeps state.old state.new }
 {
     value_needed(left, left_at)?;
@@ -57,7 +60,8 @@ pub(crate) fn left_side(
     at: u32,
     left_at: u32,
 ) -> Result<Ty, TypeFault>
-    ensures given { Gives result (λ t. t) (noted_of state.new) (typing.left_side op left at left_at (noted_of state.old)) }
+    ensures given { Gives result (λ t. t) (noted_of state.new)
+        (typing.left_side op left at left_at (noted_of state.old)) }
     ensures kept { Keeps state.old state.new }
 {
     match op {
@@ -70,7 +74,8 @@ pub(crate) fn left_side(
 }
 
 fn equal_sides(left: Ty, right: Ty, right_at: u32, whole: u32) -> Result<(), TypeFault>
-    ensures { (n : Noted) → Gives result (λ _. tt) n (typing.equal_sides left right right_at whole n) }
+    ensures { (n : Noted) → Gives result (λ _. tt) n
+        (typing.equal_sides left right right_at whole n) }
 {
     value_needed(right, right_at)?;
     kept(TypeRule::T13, whole, !left.are_nil(right))?;
@@ -85,7 +90,8 @@ pub(crate) fn right_side(
     right_at: u32,
     whole: u32,
 ) -> Result<(), TypeFault>
-    ensures { (n : Noted) → Gives result (λ _. tt) n (typing.right_side op left right right_at whole n) }
+    ensures { (n : Noted) → Gives result (λ _. tt) n
+        (typing.right_side op left right right_at whole n) }
 {
     match op {
         Op::Equal | Op::NotEqual => equal_sides(left, right, right_at, whole),

@@ -14,7 +14,8 @@ use tg_syntax::{Ident, Inits};
 
 /// The fields of a type, which is that of the part at a byte.
 fn fields_of(state: &CheckingState, ty: Ty, at: u32) -> Result<&Table<Ty>, TypeFault>
-    ensures { Gives result (λ t. t.now) (noted_of state.now) (typing.fields_of ty at (noted_of state.now)) }
+    ensures { Gives result (λ t. t.now) (noted_of state.now)
+        (typing.fields_of ty at (noted_of state.now)) }
 {
     let fault = TypeFault::Bad {
         rule: TypeRule::T7,
@@ -34,7 +35,8 @@ fn fields_of(state: &CheckingState, ty: Ty, at: u32) -> Result<&Table<Ty>, TypeF
 
 /// The type of the elements of a type, which is that of the part at a byte.
 pub(crate) fn element_of(state: &CheckingState, ty: Ty, at: u32) -> Result<Ty, TypeFault>
-    ensures { Gives result (λ t. t) (noted_of state.now) (typing.element_of ty at (noted_of state.now)) }
+    ensures { Gives result (λ t. t) (noted_of state.now)
+        (typing.element_of ty at (noted_of state.now)) }
 {
     let fault = TypeFault::Bad {
         rule: TypeRule::T9,

@@ -38,7 +38,8 @@ impl CheckingState {
 
     /// A note behind the others.
     pub(crate) fn note(&mut self, at: u32, means: Means) -> Result<(), TypeFault>
-        ensures given { Gives result (λ _. tt) (noted_of self.new) (note at means (noted_of self.old)) }
+        ensures given { Gives result (λ _. tt) (noted_of self.new)
+            (note at means (noted_of self.old)) }
         ensures kept { Keeps self.old self.new }
     {
         self.notes.push(Note { at, means })?;

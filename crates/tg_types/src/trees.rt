@@ -1,6 +1,8 @@
-ghost use Rattle.std.specs.Prelude.{◌≡◌, ◌==◌, length, Bool, OnOk, IfSome, box_value, ◌∷◌, Some, None, true, false};
+ghost use Rattle.std.specs.Prelude.{◌≡◌, ◌==◌, ◌∷◌, length, Bool, true, false, Some, None};
+ghost use Rattle.std.specs.Prelude.{OnOk, IfSome, box_value};
 ghost use Rattle.std.specs.Option.{option_map};
-ghost use Rattle.tg_syntax.specs.Plain.{plain, plain_place, plain_exps, plain_inits, plain_dec, plain_functions};
+ghost use Rattle.tg_syntax.specs.Plain.{plain, plain_place, plain_exps, plain_inits, plain_dec};
+ghost use Rattle.tg_syntax.specs.Plain.{plain_functions};
 ghost use Rattle.tg_syntax.specs.Lists.{decs_of};
 ghost use Rattle.tg_syntax.specs.Tree as tree;
 ghost use Rattle.tg_syntax.specs.declared.trees.Kind.{If, Let};
@@ -12,9 +14,13 @@ ghost use Rattle.tg_types.specs.Checks.{Noted};
 ghost use Rattle.tg_types.specs.Scopes.{Scope, variable_at};
 ghost use Rattle.tg_types.specs.Typing as typing;
 ghost use Rattle.tg_types.specs.Selections.{init_count, function_count};
-ghost use Rattle.tg_types.specs.Trees.{nowhere, fitting, without_value, left_operand, right_operand, filled, second_way, choice, idle, counting, one_body, IsAmong};
-ghost use Rattle.tg_syntax.specs.NamesWithin.{NamesWithin, PlaceWithin, ExpsWithin, InitsWithin, DecsWithin, FunctionsWithin, IsWithin};
-ghost use Rattle.tg_types.specs.States.{Gives, Leads, Keeps, Opens, scope_of, noted_of};
+ghost use Rattle.tg_types.specs.Trees.{nowhere, fitting, without_value, left_operand};
+ghost use Rattle.tg_types.specs.Trees.{right_operand, filled, second_way, choice, idle, counting};
+ghost use Rattle.tg_types.specs.Trees.{one_body, IsAmong};
+ghost use Rattle.tg_syntax.specs.NamesWithin.{NamesWithin, PlaceWithin, ExpsWithin, InitsWithin};
+ghost use Rattle.tg_syntax.specs.NamesWithin.{DecsWithin, FunctionsWithin, IsWithin};
+ghost use Rattle.tg_types.specs.States.{Gives, Leads, Keeps, Opens};
+ghost use Rattle.tg_types.specs.States.{scope_of, noted_of};
 
 use crate::bindings::{Binding, Signature};
 use crate::faults::{TypeFault, TypeRule};
@@ -39,7 +45,8 @@ pub(crate) fn typed(
 ) -> Result<Ty, TypeFault>
     requires { NamesWithin (length names.now) (plain e.now) }
     ensures given { (scope : Scope) → scope ≡ scope_of names.now state.old in_loop →
-        Gives result (λ t. t) (noted_of state.new) (typing.typed (plain e.now) scope (noted_of state.old)) }
+        Gives result (λ t. t) (noted_of state.new)
+        (typing.typed (plain e.now) scope (noted_of state.old)) }
     ensures kept { OnOk result (Keeps state.old state.new) }
 {
     match &e.kind {
@@ -119,7 +126,8 @@ fn fitting(
 ) -> Result<(), TypeFault>
     requires { NamesWithin (length names.now) (plain e.now) }
     ensures given { (scope : Scope) → scope ≡ scope_of names.now state.old in_loop →
-        Gives result (λ _. tt) (noted_of state.new) (fitting (plain e.now) wanted scope (noted_of state.old)) }
+        Gives result (λ _. tt) (noted_of state.new)
+        (fitting (plain e.now) wanted scope (noted_of state.old)) }
     ensures kept { OnOk result (Keeps state.old state.new) }
 {
     let got = typed(names, state, e, in_loop)?;
@@ -136,7 +144,8 @@ fn fitting_int(
 ) -> Result<(), TypeFault>
     requires { NamesWithin (length names.now) (plain e.now) }
     ensures given { (scope : Scope) → scope ≡ scope_of names.now state.old in_loop →
-        Gives result (λ _. tt) (noted_of state.new) (fitting (plain e.now) int_type scope (noted_of state.old)) }
+        Gives result (λ _. tt) (noted_of state.new)
+        (fitting (plain e.now) int_type scope (noted_of state.old)) }
     ensures kept { OnOk result (Keeps state.old state.new) }
 {
     fitting(names, state, e, Ty::int(), in_loop)
@@ -152,7 +161,8 @@ fn without_value(
 ) -> Result<(), TypeFault>
     requires { NamesWithin (length names.now) (plain e.now) }
     ensures given { (scope : Scope) → scope ≡ scope_of names.now state.old in_loop →
-        Gives result (λ _. tt) (noted_of state.new) (without_value (plain e.now) scope (noted_of state.old)) }
+        Gives result (λ _. tt) (noted_of state.new)
+        (without_value (plain e.now) scope (noted_of state.old)) }
     ensures kept { OnOk result (Keeps state.old state.new) }
 {
     let got = typed(names, state, e, in_loop)?;
@@ -168,7 +178,8 @@ fn typed_place(
 ) -> Result<Ty, TypeFault>
     requires { PlaceWithin (length names.now) (plain_place place.now) }
     ensures given { (scope : Scope) → scope ≡ scope_of names.now state.old in_loop →
-        Gives result (λ t. t) (noted_of state.new) (typing.typed_place (plain_place place.now) scope (noted_of state.old)) }
+        Gives result (λ t. t) (noted_of state.new)
+        (typing.typed_place (plain_place place.now) scope (noted_of state.old)) }
     ensures kept { OnOk result (Keeps state.old state.new) }
 {
     match place {
@@ -207,7 +218,9 @@ fn called(
     requires f { IsWithin (length names.now) f }
     requires arguments { ExpsWithin (length names.now) (plain_exps arguments.now) }
     ensures given { (scope : Scope) → scope ≡ scope_of names.now state.old in_loop →
-        Gives result (λ t. t) (noted_of state.new) (typing.typed (tree.Call nowhere f (plain_exps arguments.now)) scope (noted_of state.old)) }
+        Gives result (λ t. t) (noted_of state.new)
+        (typing.typed (tree.Call nowhere f (plain_exps arguments.now))
+        scope (noted_of state.old)) }
     ensures kept { OnOk result (Keeps state.old state.new) }
 {
     let signature = function(names, state, f)?;
@@ -235,7 +248,8 @@ fn typed_all(
     requires names { ExpsWithin (length names.now) (plain_exps arguments.now) }
     requires as_many { typing.count (plain_exps arguments.now) ≡ length params.now }
     ensures given { (scope : Scope) → scope ≡ scope_of names.now state.old in_loop →
-        Gives result (λ _. tt) (noted_of state.new) (typing.expect_all (plain_exps arguments.now) params.now scope (noted_of state.old)) }
+        Gives result (λ _. tt) (noted_of state.new)
+        (typing.expect_all (plain_exps arguments.now) params.now scope (noted_of state.old)) }
     ensures kept { OnOk result (Keeps state.old state.new) }
 {
     let mut at = 0;
@@ -256,7 +270,8 @@ fn negated(
 ) -> Result<Ty, TypeFault>
     requires { NamesWithin (length names.now) (plain a.now) }
     ensures given { (scope : Scope) → scope ≡ scope_of names.now state.old in_loop →
-        Gives result (λ t. t) (noted_of state.new) (typing.typed (tree.Neg nowhere (plain a.now)) scope (noted_of state.old)) }
+        Gives result (λ t. t) (noted_of state.new)
+        (typing.typed (tree.Neg nowhere (plain a.now)) scope (noted_of state.old)) }
     ensures kept { OnOk result (Keeps state.old state.new) }
 {
     fitting_int(names, state, a, in_loop)?;
@@ -275,7 +290,8 @@ fn left_operand(
 ) -> Result<Ty, TypeFault>
     requires { NamesWithin (length names.now) (plain a.now) }
     ensures given { (scope : Scope) → scope ≡ scope_of names.now state.old in_loop →
-        Gives result (λ t. t) (noted_of state.new) (left_operand op at (plain a.now) scope (noted_of state.old)) }
+        Gives result (λ t. t) (noted_of state.new)
+        (left_operand op at (plain a.now) scope (noted_of state.old)) }
     ensures kept { OnOk result (Keeps state.old state.new) }
 {
     let ty = typed(names, state, a, in_loop)?;
@@ -295,7 +311,8 @@ fn right_operand(
 ) -> Result<Ty, TypeFault>
     requires { NamesWithin (length names.now) (plain b.now) }
     ensures given { (scope : Scope) → scope ≡ scope_of names.now state.old in_loop →
-        Gives result (λ t. t) (noted_of state.new) (right_operand op left (plain b.now) whole scope (noted_of state.old)) }
+        Gives result (λ t. t) (noted_of state.new)
+        (right_operand op left (plain b.now) whole scope (noted_of state.old)) }
     ensures kept { OnOk result (Keeps state.old state.new) }
 {
     let right = typed(names, state, b, in_loop)?;
@@ -315,7 +332,8 @@ fn filled(
 ) -> Result<Ty, TypeFault>
     requires { NamesWithin (length names.now) (plain value.now) }
     ensures given { (scope : Scope) → scope ≡ scope_of names.now state.old in_loop →
-        Gives result (λ t. t) (noted_of state.new) (filled whole wanted (plain value.now) scope (noted_of state.old)) }
+        Gives result (λ t. t) (noted_of state.new)
+        (filled whole wanted (plain value.now) scope (noted_of state.old)) }
     ensures kept { OnOk result (Keeps state.old state.new) }
 {
     fitting(names, state, value, wanted, in_loop)?;
@@ -333,7 +351,8 @@ fn joined(
 ) -> Result<Ty, TypeFault>
     requires { NamesWithin (length names.now) (plain other.now) }
     ensures given { (scope : Scope) → scope ≡ scope_of names.now state.old in_loop →
-        Gives result (λ t. t) (noted_of state.new) (second_way ty (plain other.now) scope (noted_of state.old)) }
+        Gives result (λ t. t) (noted_of state.new)
+        (second_way ty (plain other.now) scope (noted_of state.old)) }
     ensures kept { OnOk result (Keeps state.old state.new) }
 {
     let also = typed(names, state, other, in_loop)?;
@@ -346,7 +365,8 @@ fn joined(
 fn idle(names: &Names, state: &mut CheckingState, e: &Exp, in_loop: bool) -> Result<Ty, TypeFault>
     requires { NamesWithin (length names.now) (plain e.now) }
     ensures given { (scope : Scope) → scope ≡ scope_of names.now state.old in_loop →
-        Gives result (λ t. t) (noted_of state.new) (idle (plain e.now) scope (noted_of state.old)) }
+        Gives result (λ t. t) (noted_of state.new)
+        (idle (plain e.now) scope (noted_of state.old)) }
     ensures kept { OnOk result (Keeps state.old state.new) }
 {
     without_value(names, state, e, in_loop)?;
@@ -364,7 +384,8 @@ fn counted(
 ) -> Result<Ty, TypeFault>
     requires { NamesWithin (length names.now) (plain body.now) }
     ensures given { (scope : Scope) → scope ≡ scope_of names.now state.old in_loop →
-        Gives result (λ t. t) (noted_of state.new) (counting x (plain body.now) scope (noted_of state.old)) }
+        Gives result (λ t. t) (noted_of state.new)
+        (counting x (plain body.now) scope (noted_of state.old)) }
     ensures kept { OnOk result (Keeps state.old state.new) }
 {
     let count = state.bindings.len();
@@ -385,7 +406,9 @@ fn made_record(
     requires x { IsWithin (length names.now) x }
     requires inits { InitsWithin (length names.now) (plain_inits inits.now) }
     ensures given { (scope : Scope) → scope ≡ scope_of names.now state.old in_loop →
-        Gives result (λ t. t) (noted_of state.new) (typing.typed (tree.Make nowhere x (plain_inits inits.now)) scope (noted_of state.old)) }
+        Gives result (λ t. t) (noted_of state.new)
+        (typing.typed (tree.Make nowhere x (plain_inits inits.now))
+        scope (noted_of state.old)) }
     ensures kept { OnOk result (Keeps state.old state.new) }
 {
     let ty = type_named(names, state, x)?;
@@ -406,7 +429,8 @@ fn typed_fields(
     requires names { InitsWithin (length names.now) (plain_inits inits.now) }
     requires as_many { init_count (plain_inits inits.now) ≡ length fields.now }
     ensures given { (scope : Scope) → scope ≡ scope_of names.now state.old in_loop →
-        Gives result (λ _. tt) (noted_of state.new) (typing.expect_fields (plain_inits inits.now) fields.now scope (noted_of state.old)) }
+        Gives result (λ _. tt) (noted_of state.new)
+        (typing.expect_fields (plain_inits inits.now) fields.now scope (noted_of state.old)) }
     ensures kept { OnOk result (Keeps state.old state.new) }
 {
     let mut at = 0;
@@ -423,7 +447,8 @@ fn typed_fields(
 fn assignable(names: &Names, state: &CheckingState, place: &Var) -> Result<(), TypeFault>
     requires { PlaceWithin (length names.now) (plain_place place.now) }
     ensures { (scope : Scope) (in_loop : Bool) → scope ≡ scope_of names.now state.now in_loop →
-        (n : Noted) → Gives result (λ _. tt) n (typing.assignable (plain_place place.now) scope n) }
+        (n : Noted) → Gives result (λ _. tt) n
+        (typing.assignable (plain_place place.now) scope n) }
 {
     match place {
         Var::Simple(x) => kept(
@@ -446,7 +471,8 @@ fn typed_last(
 ) -> Result<Ty, TypeFault>
     requires { ExpsWithin (length names.now) (plain_exps items.now) }
     ensures given { (scope : Scope) → scope ≡ scope_of names.now state.old in_loop →
-        Gives result (λ t. t) (noted_of state.new) (typing.typed_last none_type (plain_exps items.now) scope (noted_of state.old)) }
+        Gives result (λ t. t) (noted_of state.new)
+        (typing.typed_last none_type (plain_exps items.now) scope (noted_of state.old)) }
     ensures kept { OnOk result (Keeps state.old state.new) }
 {
     let mut last = Ty::nothing();
@@ -467,7 +493,8 @@ fn declared(
 ) -> Result<(), TypeFault>
     requires { DecsWithin (length names.now) (decs_of decs.now.items.items) }
     ensures given { (scope : Scope) → scope ≡ scope_of names.now state.old in_loop →
-        Gives result (λ _. scope_of names.now state.new in_loop) (noted_of state.new) (typing.declare (decs_of decs.now.items.items) scope (noted_of state.old)) }
+        Gives result (λ _. scope_of names.now state.new in_loop) (noted_of state.new)
+        (typing.declare (decs_of decs.now.items.items) scope (noted_of state.old)) }
     ensures opens { OnOk result (Opens state.old state.new) }
 {
     for dec in &decs.items {
@@ -485,8 +512,11 @@ fn declaration(
     in_loop: bool,
 ) -> Result<(), TypeFault>
     requires { DecsWithin (length names.now) (plain_dec dec.now tree.no_decs) }
-    ensures given { (rest : tree.Decs) (scope : Scope) → scope ≡ scope_of names.now state.old in_loop →
-        Leads result (scope_of names.now state.new in_loop) (noted_of state.new) (typing.declare rest) (typing.declare (plain_dec dec.now rest) scope (noted_of state.old)) }
+    ensures given { (rest : tree.Decs) (scope : Scope) →
+        scope ≡ scope_of names.now state.old in_loop →
+        Leads result (scope_of names.now state.new in_loop) (noted_of state.new)
+        (typing.declare rest)
+        (typing.declare (plain_dec dec.now rest) scope (noted_of state.old)) }
     ensures opens { OnOk result (Opens state.old state.new) }
 {
     match dec {
@@ -509,9 +539,12 @@ fn own_variable(
     in_loop: bool,
 ) -> Result<(), TypeFault>
     requires { NamesWithin (length names.now) (plain value.now) }
-    ensures given { (rest : tree.Decs) (scope : Scope) → scope ≡ scope_of names.now state.old in_loop →
-        Leads result (scope_of names.now state.new in_loop) (noted_of state.new) (typing.declare rest)
-        (typing.declare (tree.variable x None (plain value.now) rest) scope (noted_of state.old)) }
+    ensures given { (rest : tree.Decs) (scope : Scope) →
+        scope ≡ scope_of names.now state.old in_loop →
+        Leads result (scope_of names.now state.new in_loop) (noted_of state.new)
+        (typing.declare rest)
+        (typing.declare (tree.variable x None (plain value.now) rest)
+        scope (noted_of state.old)) }
     ensures opens { OnOk result (Opens state.old state.new) }
 {
     let ty = typed(names, state, value, in_loop)?;
@@ -532,9 +565,12 @@ fn typed_variable(
 ) -> Result<(), TypeFault>
     requires kind { IsWithin (length names.now) kind }
     requires value { NamesWithin (length names.now) (plain value.now) }
-    ensures given { (rest : tree.Decs) (scope : Scope) → scope ≡ scope_of names.now state.old in_loop →
-        Leads result (scope_of names.now state.new in_loop) (noted_of state.new) (typing.declare rest)
-        (typing.declare (tree.variable x (Some kind) (plain value.now) rest) scope (noted_of state.old)) }
+    ensures given { (rest : tree.Decs) (scope : Scope) →
+        scope ≡ scope_of names.now state.old in_loop →
+        Leads result (scope_of names.now state.new in_loop) (noted_of state.new)
+        (typing.declare rest)
+        (typing.declare (tree.variable x (Some kind) (plain value.now) rest)
+        scope (noted_of state.old)) }
     ensures opens { OnOk result (Opens state.old state.new) }
 {
     let ty = type_named(names, state, kind)?;
@@ -545,7 +581,8 @@ fn typed_variable(
 
 // A loop's variable.
 fn open_counter(state: &mut CheckingState, x: Ident) -> Result<(), Memory>
-    ensures bindings { OnOk result (state.new.bindings ≡ (x.name.0, variable_at x.span.from int_type true) ∷ state.old.bindings) }
+    ensures bindings { OnOk result (state.new.bindings
+        ≡ (x.name.0, variable_at x.span.from int_type true) ∷ state.old.bindings) }
     ensures types { state.new.types ≡ state.old.types }
     ensures noted { noted_of state.new ≡ noted_of state.old }
 {
@@ -554,7 +591,8 @@ fn open_counter(state: &mut CheckingState, x: Ident) -> Result<(), Memory>
 }
 
 fn open_variable(state: &mut CheckingState, x: Ident, ty: Ty) -> Result<(), Memory>
-    ensures bindings { OnOk result (state.new.bindings ≡ (x.name.0, variable_at x.span.from ty false) ∷ state.old.bindings) }
+    ensures bindings { OnOk result (state.new.bindings
+        ≡ (x.name.0, variable_at x.span.from ty false) ∷ state.old.bindings) }
     ensures types { state.new.types ≡ state.old.types }
     ensures noted { noted_of state.new ≡ noted_of state.old }
 {
@@ -571,9 +609,12 @@ fn declare_functions(
     group: &FunDecs,
 ) -> Result<(), TypeFault>
     requires { FunctionsWithin (length names.now) (plain_functions group.now) }
-    ensures given { (rest : tree.Decs) (in_loop : Bool) (scope : Scope) → scope ≡ scope_of names.now state.old in_loop →
-        Leads result (scope_of names.now state.new in_loop) (noted_of state.new) (typing.declare rest)
-        (typing.declare (tree.functions (plain_functions group.now) rest) scope (noted_of state.old)) }
+    ensures given { (rest : tree.Decs) (in_loop : Bool) (scope : Scope) →
+        scope ≡ scope_of names.now state.old in_loop →
+        Leads result (scope_of names.now state.new in_loop) (noted_of state.new)
+        (typing.declare rest)
+        (typing.declare (tree.functions (plain_functions group.now) rest)
+        scope (noted_of state.old)) }
     ensures opens { OnOk result (Opens state.old state.new) }
 {
     all_fresh(state, group)?;
@@ -592,7 +633,8 @@ fn bodies(
     requires names { FunctionsWithin (length names.now) (plain_functions group.now) }
     requires as_many { function_count (plain_functions group.now) ≡ length signatures.now }
     ensures given { (scope : Scope) → scope ≡ scope_of names.now state.old false →
-        Gives result (λ _. tt) (noted_of state.new) (typing.bodies (plain_functions group.now) signatures.now scope (noted_of state.old)) }
+        Gives result (λ _. tt) (noted_of state.new)
+        (typing.bodies (plain_functions group.now) signatures.now scope (noted_of state.old)) }
     ensures kept { OnOk result (Keeps state.old state.new) }
 {
     let mut at = 0;
@@ -613,7 +655,9 @@ fn body(
 ) -> Result<(), TypeFault>
     requires names { NamesWithin (length names.now) (plain function.now.body) }
     ensures given { (scope : Scope) → scope ≡ scope_of names.now state.old false →
-        Gives result (λ _. tt) (noted_of state.new) (one_body function.now.params function.now.result (plain function.now.body) signature.now scope (noted_of state.old)) }
+        Gives result (λ _. tt) (noted_of state.new)
+        (one_body function.now.params function.now.result (plain function.now.body)
+        signature.now scope (noted_of state.old)) }
     ensures kept { OnOk result (Keeps state.old state.new) }
 {
     let count = state.bindings.len();
@@ -658,7 +702,9 @@ fn function_named(names: &Names, all: &FunDecs, function: &FunDec)
 fn choice_named(names: &Names, e: &Exp, test: &Box<Exp>, this: &Box<Exp>, other: &Option<Box<Exp>>)
     requires all { NamesWithin (length names.now) (plain e.now) }
     requires parts { e.now.kind ≡ If test.now this.now other.now }
-    ensures whole { plain e.now ≡ choice e.now.span (plain (box_value test.now)) (plain (box_value this.now)) (option_map (λ b. plain (box_value b)) other.now) }
+    ensures whole { plain e.now
+        ≡ choice e.now.span (plain (box_value test.now)) (plain (box_value this.now))
+        (option_map (λ b. plain (box_value b)) other.now) }
     ensures test { NamesWithin (length names.now) (plain (box_value test.now)) }
     ensures this { NamesWithin (length names.now) (plain (box_value this.now)) }
     ensures other { IfSome other.now (λ b. NamesWithin (length names.now) (plain (box_value b))) }
