@@ -1,0 +1,13 @@
+use Rattle.std.proofs.Common.{◌≡◌, ap, ◌∙◌, arith}
+use Rattle.std.specs.List.{range_with_len}
+use Rattle.tg_graph.proofs.Runs.{range_pushed}
+use Rattle.tg_graph.proofs.lists.numbers.Goals as goal
+
+pub loop-number-preserved : goal.loop-number-preserved
+loop-number-preserved c =
+    c.in_ok-push.ensures.items ∙ range_pushed c.loop-number.list.items c.loop-number.number c.loop-number.invariant
+
+pub returns : goal.returns
+returns c =
+    let all : c.loop-number.number ≡ c.args.count = omega arith in
+    c.loop-number.invariant ∙ ap (λ i. range_with_len 0 i) all
