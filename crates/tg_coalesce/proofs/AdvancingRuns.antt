@@ -5,7 +5,7 @@ use Rattle.std.proofs.lemmas.List.{get_or_default}
 use Rattle.tg_rounds.specs.declared.steps.Step.{Step}
 use Rattle.tg_rounds.specs.States.{Problem, RoundState, start, members, mark_at, all_made}
 use Rattle.tg_rounds.specs.Steps.{after, after_all, IsTaken, AreTaken}
-use Rattle.tg_rounds.proofs.Classes.{Holds, holds_at_start, holds_all}
+use Rattle.tg_rounds.proofs.Classes.{Holds, holds_from_start}
 use Rattle.tg_rounds.proofs.Running.{runs_go_on}
 use Rattle.tg_coalesce.specs.Groupings.{Grouping, is_made}
 use Rattle.tg_coalesce.specs.Works.{Work, alias_of, is_left}
@@ -16,7 +16,7 @@ module _ (g : Problem) (w : Work) (run : IsRunOf g w) where
   pub holds : Holds g (state_of w)
   holds =
       subst (λ s. Holds g s) (sym run.state)
-      (holds_all g (start g) w.steps (holds_at_start g run.graph run.ends) run.steps)
+      (holds_from_start g run.graph run.ends w.steps run.steps)
 
   -- a node that remains stands under itself
   pub own_alias : (z : ℕ) → z < w.graph.nodes → is_left w.lists z ≡ true → (state_of w).alias z ≡ z

@@ -31,7 +31,7 @@ use Rattle.tg_coalesce.proofs.AdvancingParking.{not_moving, park_advances}
 use Rattle.tg_coalesce.proofs.AdvancingWaking.{requeued}
 use Rattle.tg_coalesce.proofs.AdvancingPassingOn.{remade}
 use Rattle.tg_coalesce.proofs.AdvancingMerging.{MayMerge, IsMerged, merged_merged}
-use Rattle.tg_coalesce.proofs.AdvancingStanding.{first_leads, second_leads, stands_told}
+use Rattle.tg_coalesce.proofs.AdvancingStanding.{Leads, first_leads, second_leads, stands_told}
 use Rattle.tg_coalesce.proofs.AdvancingSafe.{Coalesces, step, kept_below, gone_below, kept_remains, gone_remains, kept_gone}
 use Rattle.tg_coalesce.proofs.AdvancingSafe.{safe, by_briggs, possible}
 use Rattle.tg_coalesce.proofs.AdvancingCoalescing.{once, orderly_once, may, whole, last, state_last, orderly_last}
@@ -172,45 +172,31 @@ module _ (i : ℕ) (w : Work) (h : IsOrderly w) (simplify : w.lists.simplify ≡
       never (λ r. let rs = both (is_register x) (is_register y) r in
       clash (registers_interfere w.graph x y (λ s. clash (same_test x y s) e) rs.0 rs.1) p)
 
-  first_ends : (x == y) ≡ false → interferes w.graph x y ≡ false → passes w x y ≡ true → is_register y ≡ false →
-      Coalesces w i x y
-  first_ends e p q r = record {
-    ends = or_left _ _ (and_true (same_test x x refl) (same_test y y refl));
-    apart = e;
-    no_pair = p;
-    temporary = r;
-    test = q;
-  }
-
-  second_ends : (x == y) ≡ false → interferes w.graph x y ≡ false → passes w x y ≡ true → is_register x ≡ false →
-      Coalesces w i y x
-  second_ends e p q r = record {
-    ends = or_right ((x == y) && (y == x)) _ (and_true (same_test x x refl) (same_test y y refl));
-    apart = e;
-    no_pair = p;
-    temporary = r;
-    test = q;
-  }
+  -- one end stands under the other, in this order
+  led : (kept gone : ℕ) → ((x == kept && y == gone) || (x == gone && y == kept)) ≡ true → (x == y) ≡ false →
+      interferes w.graph x y ≡ false → passes w x y ≡ true → is_register gone ≡ false →
+      Leads (is_register kept) (is_made w.classes kept) (is_made w.classes gone) →
+      Advances w (coalesced i kept gone (begun i w h first))
+  led kept gone ends e p q temporary leads =
+      let c : Coalesces w i kept gone = record { ends = ends; apart = e; no_pair = p; temporary = temporary; test = q } in
+      coalesce_advances i w h first simplify kept gone c
+      (λ g run. stands_told g w h run kept gone (kept_below i w h first kept gone c) (gone_below i w h first kept gone c)
+      (kept_remains i w h first kept gone c) (gone_remains i w h first kept gone c) temporary leads)
 
   under_first : (e : (x == y) ≡ false) (p : interferes w.graph x y ≡ false) → passes w x y ≡ true →
       passing.stands_under w x y ≡ true → Advances w (coalesced i x y (begun i w h first))
   under_first e p q t =
       let leads = first_leads (is_register x) (is_register y) (is_made w.classes x) (is_made w.classes y)
       (nat_lt (degree_at w x) (degree_at w y)) (not_both e p) t in
-      let c = first_ends e p q leads.0 in
-      coalesce_advances i w h first simplify x y c
-      (λ g run. stands_told g w h run x y (kept_below i w h first x y c) (gone_below i w h first x y c)
-      (kept_remains i w h first x y c) (gone_remains i w h first x y c) leads.0 leads.1)
+      led x y (or_left _ _ (and_true (same_test x x refl) (same_test y y refl))) e p q leads.0 leads.1
 
   under_second : (e : (x == y) ≡ false) (p : interferes w.graph x y ≡ false) → passes w x y ≡ true →
       passing.stands_under w x y ≡ false → Advances w (coalesced i y x (begun i w h first))
   under_second e p q t =
       let leads = second_leads (is_register x) (is_register y) (is_made w.classes x) (is_made w.classes y)
       (nat_lt (degree_at w x) (degree_at w y)) (not_both e p) t in
-      let c = second_ends e p q leads.0 in
-      coalesce_advances i w h first simplify y x c
-      (λ g run. stands_told g w h run y x (kept_below i w h first y x c) (gone_below i w h first y x c)
-      (kept_remains i w h first y x c) (gone_remains i w h first y x c) leads.0 leads.1)
+      led y x (or_right ((x == y) && (y == x)) _ (and_true (same_test x x refl) (same_test y y refl))) e p q leads.0
+      leads.1
 
   pub all_advance : Advances w (tried i w)
   unfolding tried

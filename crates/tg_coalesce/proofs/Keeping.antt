@@ -13,22 +13,22 @@ module _ (x : ℕ) (w : Work) where
   abbrev listed_again : Work
   listed_again = record w { lists = moved w.lists x (list_of w x) }
 
-  pub relisted_graph : (relisted x w).graph ≡ w.graph
+  -- what is seen alike where it is listed again
+  relisted_sees : {V : Type 0} (see : Work → V) → see listed_again ≡ see w → see (relisted x w) ≡ see w
   unfolding relisted
-  relisted_graph = either (λ (v : Work). v.graph) (is_open w x) listed_again w w.graph refl refl
+  relisted_sees see p = either see (is_open w x) listed_again w (see w) p refl
+
+  pub relisted_graph : (relisted x w).graph ≡ w.graph
+  relisted_graph = relisted_sees (λ (v : Work). v.graph) refl
 
   pub relisted_degrees : (relisted x w).degrees ≡ w.degrees
-  unfolding relisted
-  relisted_degrees = either (λ (v : Work). v.degrees) (is_open w x) listed_again w w.degrees refl refl
+  relisted_degrees = relisted_sees (λ (v : Work). v.degrees) refl
 
   pub relisted_classes : (relisted x w).classes ≡ w.classes
-  unfolding relisted
-  relisted_classes = either (λ (v : Work). v.classes) (is_open w x) listed_again w w.classes refl refl
+  relisted_classes = relisted_sees (λ (v : Work). v.classes) refl
 
   pub relisted_moves : (relisted x w).moves ≡ w.moves
-  unfolding relisted
-  relisted_moves = either (λ (v : Work). v.moves) (is_open w x) listed_again w w.moves refl refl
+  relisted_moves = relisted_sees (λ (v : Work). v.moves) refl
 
   pub relisted_nodes : (relisted x w).lists.nodes ≡ w.lists.nodes
-  unfolding relisted
-  relisted_nodes = either (λ (v : Work). v.lists.nodes) (is_open w x) listed_again w w.lists.nodes refl refl
+  relisted_nodes = relisted_sees (λ (v : Work). v.lists.nodes) refl

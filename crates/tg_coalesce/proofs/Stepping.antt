@@ -5,9 +5,9 @@ use Rattle.std.proofs.lemmas.Bool.{cond-false, cond-true, eq-eqb, ne_eqb}
 use Rattle.std.proofs.lemmas.List.{get_or-set_other, get_or_read, length-set}
 use Rattle.tg_graph.specs.Interference.{Interference, is_among}
 use Rattle.tg_rounds.specs.declared.moves.MoveState.{MoveState}
+use Rattle.tg_rounds.specs.declared.moves.MoveState.TheVariants.{Frozen}
 use Rattle.tg_coalesce.specs.Lists.{list_at, lowered, raised}
 use Rattle.tg_coalesce.specs.Tables as tables
-use Rattle.tg_coalesce.specs.Tables.{Table}
 use Rattle.tg_coalesce.specs.Works.{Work, awake_around, degree_at, from, is_left, is_open, relisted, settled, to}
 use Rattle.tg_coalesce.specs.Steps.{bereft, freeze_one, given_up}
 use Rattle.tg_coalesce.proofs.Folds.{fold_keeps, fold_keeps_off}
@@ -20,50 +20,46 @@ module _ (i : ℕ) (state : MoveState) (w : Work) where
   abbrev told : Work
   told = record w { moves = tables.settled i state (to w i) (from w i) w.moves }
 
-  pub settled_graph : (settled i state w).graph ≡ w.graph
+  -- what is seen alike where a node is put into its list
+  settled_sees : {V : Type 0} (see : Work → V) → ((x : ℕ) (v : Work) → see (relisted x v) ≡ see v) →
+      see (settled i state w) ≡ see told
   unfolding settled
-  settled_graph = relisted_graph (from w i) (relisted (to w i) told) ∙ relisted_graph (to w i) told
+  settled_sees see k = k (from w i) (relisted (to w i) told) ∙ k (to w i) told
+
+  pub settled_graph : (settled i state w).graph ≡ w.graph
+  settled_graph = settled_sees (λ v. v.graph) relisted_graph
 
   pub settled_degrees : (settled i state w).degrees ≡ w.degrees
-  unfolding settled
-  settled_degrees = relisted_degrees (from w i) (relisted (to w i) told) ∙ relisted_degrees (to w i) told
+  settled_degrees = settled_sees (λ v. v.degrees) relisted_degrees
 
   pub settled_classes : (settled i state w).classes ≡ w.classes
-  unfolding settled
-  settled_classes = relisted_classes (from w i) (relisted (to w i) told) ∙ relisted_classes (to w i) told
+  settled_classes = settled_sees (λ v. v.classes) relisted_classes
 
   pub settled_moves : (settled i state w).moves ≡ tables.settled i state (to w i) (from w i) w.moves
-  unfolding settled
-  settled_moves = relisted_moves (from w i) (relisted (to w i) told) ∙ relisted_moves (to w i) told
+  settled_moves = settled_sees (λ v. v.moves) relisted_moves
 
   pub settled_left : (z : ℕ) → is_left (settled i state w).lists z ≡ is_left w.lists z
-  unfolding settled
-  settled_left z = relisted_left (from w i) (relisted (to w i) told) z ∙ relisted_left (to w i) told z
+  settled_left z = settled_sees (λ v. is_left v.lists z) (λ x v. relisted_left x v z)
 
 -- The moves of a class are given up.
 
 module _ (x : ℕ) (w : Work) where
-  pub given_up_graph : (given_up x w).graph ≡ w.graph
+  -- what is seen alike where a move is settled
+  given_up_sees : {V : Type 0} (see : Work → V) → ((i : ℕ) (v : Work) → see (settled i Frozen v) ≡ see v) →
+      see (given_up x w) ≡ see w
   unfolding given_up
-  given_up_graph =
-      fold_keeps freeze_one (λ v. v.graph)
-      (λ v i. either (λ u. u.graph) (tables.is_unsettled v.moves i) _ v v.graph (settled_graph i _ v) refl) w
+  given_up_sees see k =
+      fold_keeps freeze_one see (λ v i. either see (tables.is_unsettled v.moves i) _ v (see v) (k i v) refl) w
       (list_at w.moves.touching x)
+
+  pub given_up_graph : (given_up x w).graph ≡ w.graph
+  given_up_graph = given_up_sees (λ v. v.graph) (λ i v. settled_graph i Frozen v)
 
   pub given_up_degrees : (given_up x w).degrees ≡ w.degrees
-  unfolding given_up
-  given_up_degrees =
-      fold_keeps freeze_one (λ v. v.degrees)
-      (λ v i. either (λ u. u.degrees) (tables.is_unsettled v.moves i) _ v v.degrees (settled_degrees i _ v) refl) w
-      (list_at w.moves.touching x)
+  given_up_degrees = given_up_sees (λ v. v.degrees) (λ i v. settled_degrees i Frozen v)
 
   pub given_up_left : (z : ℕ) → is_left (given_up x w).lists z ≡ is_left w.lists z
-  unfolding given_up
-  given_up_left z =
-      fold_keeps freeze_one (λ v. is_left v.lists z)
-      (λ v i. either (λ u. is_left u.lists z) (tables.is_unsettled v.moves i) _ v (is_left v.lists z)
-      (settled_left i _ v z) refl)
-      w (list_at w.moves.touching x)
+  given_up_left z = given_up_sees (λ v. is_left v.lists z) (λ i v. settled_left i Frozen v z)
 
 -- A node has a neighbour less.
 

@@ -10,10 +10,10 @@ use Rattle.std.proofs.lemmas.List.Folds.{sum_by-replicate}
 use Rattle.tg_rounds.specs.declared.moves.Move.{Move}
 use Rattle.tg_rounds.specs.declared.moves.MoveState.{MoveState}
 use Rattle.tg_rounds.specs.declared.moves.MoveState.TheVariants.{Ready}
+use Rattle.tg_graph.proofs.Runs.{range_next}
 use Rattle.tg_coalesce.specs.Lists.{list_at, pushed, poured, moved_sum, raised, lowered}
 use Rattle.tg_coalesce.specs.Tables.{Table, IsTable, move_at, state_at, is_waiting, ends_listed, ends_counted, started, first_taken, settled, tried_again, woken, joined}
 use Rattle.tg_coalesce.proofs.Keeping.{either}
-use Rattle.tg_coalesce.proofs.Vectors.{range_more}
 use Rattle.tg_coalesce.proofs.Listing.{each_pushed, each_poured, length_pushed, length_poured, length_moved_sum, sum_moved, sum_lowered, sum_raised, range_below, read_within, raised_read}
 
 -- The ends listed and counted of one move more.
@@ -24,14 +24,14 @@ module _ (moves : List Move) (nodes : ℕ) where
   listed_more n =
       let step = λ (lists : List (List ℕ)) (i : ℕ).
       pushed (move_at moves i).from i (pushed (move_at moves i).to i lists) in
-      ap (fold step (replicate nodes [])) (range_more n) ∙ fold_push step (replicate nodes []) (range_with_len 0 n) n
+      ap (fold step (replicate nodes [])) (range_next 0 n n (omega arith)) ∙ fold_push step (replicate nodes []) (range_with_len 0 n) n
 
   pub counted_more : (n : ℕ) →
       ends_counted moves nodes (n + 1) ≡
       raised (move_at moves n).from (raised (move_at moves n).to (ends_counted moves nodes n))
   counted_more n =
       let step = λ (counts : List ℕ) (i : ℕ). raised (move_at moves i).from (raised (move_at moves i).to counts) in
-      ap (fold step (replicate nodes 0)) (range_more n) ∙ fold_push step (replicate nodes 0) (range_with_len 0 n) n
+      ap (fold step (replicate nodes 0)) (range_next 0 n n (omega arith)) ∙ fold_push step (replicate nodes 0) (range_with_len 0 n) n
 
   pub length_listed : (n : ℕ) → length (ends_listed moves nodes n) ≡ nodes
   length_listed zero = length-replicate nodes []

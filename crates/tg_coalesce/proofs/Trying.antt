@@ -1,5 +1,5 @@
 -- A move that is tried: what holds of its ends, and what becomes of it.
-use Rattle.std.proofs.Common.{◌≡◌, ◌≢◌, ℕ, ◌<◌, ◌≤◌, Bool, true, false, not, ◌||◌, ◌⊎◌, inl}
+use Rattle.std.proofs.Common.{◌≡◌, ◌≢◌, ℕ, ◌<◌, ◌≤◌, true, false, not, ◌||◌, ◌⊎◌, inl}
 use Rattle.std.proofs.Common.{inr, List, [], ◌∷◌, ◌++◌, length, get_or, sym, ap, ◌∙◌, subst, ⊎_elim, arith}
 use Rattle.std.specs.Prelude.{◌==◌, if◌then◌else◌, Some, slice_get}
 use Rattle.std.proofs.lemmas.Bool.{and_parts, cases_lt, cond-false, cond-true, eq-eqb, le-ltb, lt-ltb, ne_eqb, or_left, or_right}
@@ -14,6 +14,7 @@ use Rattle.tg_coalesce.specs.Works.{Work, degree_at, from, is_left, settled, ste
 use Rattle.tg_coalesce.specs.Passing.{passes, stands_under}
 use Rattle.tg_coalesce.specs.Steps.{CanLose, coalesced, tried, tried_out}
 use Rattle.tg_coalesce.specs.Standing.{IsOrderly}
+use Rattle.tg_rounds.proofs.Deciding.{clash}
 use Rattle.tg_coalesce.proofs.AdvancingMembers.{among_first}
 use Rattle.tg_coalesce.proofs.Counters.{has_neighbour, loses_alike}
 use Rattle.tg_coalesce.proofs.Edges.{registers_apart}
@@ -65,14 +66,11 @@ module _ (i : ℕ) (w : Work) where
 -- Registers among its ends.
 
 module _ (g : Interference) (x y : ℕ) (d : x ≢ y) (a : interferes g x y ≡ false) where
-  clash : (b : Bool) → b ≡ true → b ≡ false → ⊥
-  clash b p q = cc
-
   one_temporary : (colours ≤ x) ⊎ (colours ≤ y)
   one_temporary =
       ⊎_elim
       (λ (h : x < 25).
-      ⊎_elim (λ (k : y < 25). absurd (clash (interferes g x y) (registers_apart g x y h k d) a)) (λ (k : 25 ≤ y). inr k)
+      ⊎_elim (λ (k : y < 25). absurd (clash (registers_apart g x y h k d) a)) (λ (k : 25 ≤ y). inr k)
       (cases_lt y 25))
       (λ (h : 25 ≤ x). inl h)
       (cases_lt x 25)
@@ -87,13 +85,10 @@ under_temporary w x y d a s =
     let stands : is_register x ≡ true =
     sym (cond-true (is_register x || is_register y) (is_register x) _ (or_right (is_register x) (is_register y)
     (lt-ltb y 25 k))) ∙ s in
-    absurd (both (is_register x) stands (⊎_elim (λ (h : 25 ≤ x). le-ltb x 25 h) (λ (h : 25 ≤ y). absurd (omega (arith, h, k)))
+    absurd (clash stands (⊎_elim (λ (h : 25 ≤ x). le-ltb x 25 h) (λ (h : 25 ≤ y). absurd (omega (arith, h, k)))
     (one_temporary w.graph x y d a))))
     (λ (k : 25 ≤ y). k)
     (cases_lt y 25)
-  where
-    both : (b : Bool) → b ≡ true → b ≡ false → ⊥
-    both b p q = cc
 
 over_temporary : (w : Work) (x y : ℕ) → stands_under w x y ≡ false → colours ≤ x
 over_temporary w x y s =
@@ -102,12 +97,9 @@ over_temporary w x y s =
     let register : is_register x ≡ true = lt-ltb x 25 h in
     let stands = cond-true (is_register x || is_register y) (is_register x) _ (or_left (is_register x) (is_register y)
     register) in
-    absurd (both (is_register x) register (sym stands ∙ s)))
+    absurd (clash register (sym stands ∙ s)))
     (λ (h : 25 ≤ x). h)
     (cases_lt x 25)
-  where
-    both : (b : Bool) → b ≡ true → b ≡ false → ⊥
-    both b p q = cc
 
 -- The move is one that can be settled.
 
@@ -153,14 +145,19 @@ is_taken v w t e f =
     ap (λ (u : Work). record u { moves = t }) e
     ∙ ap (λ s. record w { moves = s }) (f ∙ ap (λ (u : Work). tables.first_taken u.moves) e)
 
--- Of work in which the first move is taken, and the two ends of the move.
-module _ (i : ℕ) (w u : Work) (e : u ≡ taken w) (x y : ℕ) (p : x ≡ to u i) (q : y ≡ from u i) where
+-- work in which the first move is taken, and the two ends of the move
+pub record IsTried (i : ℕ) (w u : Work) (x y : ℕ) : Type 0 where
+  pub work : u ≡ taken w
+  pub one : x ≡ to u i
+  pub other : y ≡ from u i
+
+module _ (i : ℕ) (w u : Work) (x y : ℕ) (t : IsTried i w u x y) where
   at_ends : {V : Type 0} (f : ℕ → ℕ → V) → f (to u i) (from u i) ≡ f x y
-  at_ends f = ap (λ a. f a (from u i)) (sym p) ∙ ap (λ b. f x b) (sym q)
+  at_ends f = ap (λ a. f a (from u i)) (sym t.one) ∙ ap (λ b. f x b) (sym t.other)
 
   as_tried : tried_out i u ≡ tried i w
   unfolding tried
-  as_tried = ap (λ (v : Work). tried_out i v) e
+  as_tried = ap (λ (v : Work). tried_out i v) t.work
 
   pub same_done : x ≡ y → (s v : Work) (steps : List Step) → s ≡ settled i Coalesced u → v ≡ s →
       steps ≡ v.steps ++ Same i ∷ [] →
@@ -184,9 +181,9 @@ module _ (i : ℕ) (w u : Work) (e : u ≡ taken w) (x y : ℕ) (p : x ≡ to u 
       apart : interferes u.graph (to u i) (from u i) ≡ false
       apart = at_ends (interferes u.graph) ∙ a
 
-      pub parked_done : passes u x y ≡ false → (t : Table) → t ≡ tables.parked i u.moves →
-          record u { moves = t } ≡ tried i w
-      parked_done b t f =
+      pub parked_done : passes u x y ≡ false → (moves : Table) → moves ≡ tables.parked i u.moves →
+          record u { moves = moves } ≡ tried i w
+      parked_done b moves f =
           ap (λ s. record u { moves = s }) f
           ∙ (sym (tries_unsafe i u differ apart (at_ends (passes u) ∙ b)) ∙ as_tried)
 
@@ -207,15 +204,15 @@ module _ (i : ℕ) (w u : Work) (e : u ≡ taken w) (x y : ℕ) (p : x ≡ to u 
       module _ (o : IsOrderly w) (l : i < length w.moves.moves) (first : slice_get w.moves.ready 0 ≡ Some i) where
         pub under_loses : stands_under u x y ≡ true → CanLose u y
         under_loses s =
-            let t : colours ≤ from u i = subst (λ z. 25 ≤ z) q (under_temporary u x y d a s) in
-            subst (λ z. CanLose u z) (sym q)
-            (subst (λ (v : Work). 25 ≤ from v i → CanLose v (from v i)) (sym e) (from_loses i w o l first) t)
+            let temporary : colours ≤ from u i = subst (λ z. 25 ≤ z) t.other (under_temporary u x y d a s) in
+            subst (λ z. CanLose u z) (sym t.other)
+            (subst (λ (v : Work). 25 ≤ from v i → CanLose v (from v i)) (sym t.work) (from_loses i w o l first) temporary)
 
         pub over_loses : stands_under u x y ≡ false → CanLose u x
         over_loses s =
-            let t : colours ≤ to u i = subst (λ z. 25 ≤ z) p (over_temporary u x y s) in
-            subst (λ z. CanLose u z) (sym p)
-            (subst (λ (v : Work). 25 ≤ to v i → CanLose v (to v i)) (sym e) (to_loses i w o l first) t)
+            let temporary : colours ≤ to u i = subst (λ z. 25 ≤ z) t.one (over_temporary u x y s) in
+            subst (λ z. CanLose u z) (sym t.one)
+            (subst (λ (v : Work). 25 ≤ to v i → CanLose v (to v i)) (sym t.work) (to_loses i w o l first) temporary)
 
 -- what it takes to settle it, and the room of its ends
 module _ (i : ℕ) (w : Work) (o : IsOrderly w) (l : i < length w.moves.moves) (first : slice_get w.moves.ready 0 ≡ Some i)

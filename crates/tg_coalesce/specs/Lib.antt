@@ -7,3 +7,6 @@ pub mod Steps
 pub mod Selecting
 pub mod Standing
 pub mod Advancing
+pub mod ShownClasses
+pub mod ShownMoves
+pub mod ShownWork

@@ -14,10 +14,11 @@ ghost use Rattle.std.specs.Prelude.{
 ghost use Rattle.tg_coalesce.specs.Groupings.{apart, is_made, joined};
 ghost use Rattle.tg_coalesce.specs.Lists.{set_at_all};
 
-use crate::lists::{move_sum, numbers, pour, singletons};
+use crate::lists::{move_sum, pour, singletons};
 use std::alloc::Global;
 use std::marker::Model;
 use tg_base::Memory;
+use tg_graph::numbers;
 use tg_rounds::Mark;
 
 /// The classes of the nodes that were coalesced so far, each named by the node under which it
@@ -32,24 +33,15 @@ pub(crate) struct Classes {
 }
 
 impl Model for Classes {
-    ghost use Rattle.tg_graph.specs.Keeping.{lists_of};
     ghost use Rattle.tg_coalesce.specs.Groupings.{Grouping, IsGrouping};
 
     ghost Value = { Grouping };
 
-    ghost view = { λ c. record {
-      aliases = c.aliases.items;
-      members = lists_of c.members.items;
-      uses = c.uses.items;
-      made = c.made.items;
-    } };
+    ghost use Rattle.tg_coalesce.specs.ShownClasses.{grouping_of};
 
-    ghost invariant = { λ c. IsGrouping (record {
-      aliases = c.aliases.items;
-      members = lists_of c.members.items;
-      uses = c.uses.items;
-      made = c.made.items;
-    }) };
+    ghost view = { grouping_of };
+
+    ghost invariant = { λ c. IsGrouping (grouping_of c) };
 }
 
 impl Classes {

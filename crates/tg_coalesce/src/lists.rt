@@ -11,12 +11,10 @@ ghost use Rattle.std.specs.Prelude.{
   OnErr,
   OnOk,
   length,
-  replicate,
   slice_index_or,
   slice_set,
   sum,
 };
-ghost use Rattle.std.specs.List.{range_with_len};
 ghost use Rattle.tg_graph.specs.Keeping.{lists_of};
 ghost use Rattle.tg_coalesce.specs.Lists as lists_by;
 ghost use Rattle.tg_coalesce.specs.Lists.{list_at, poured, pushed};
@@ -24,28 +22,6 @@ ghost use Rattle.tg_coalesce.specs.Lists.{list_at, poured, pushed};
 use std::alloc::Global;
 use std::mem;
 use tg_base::Memory;
-
-/// The numbers below a number, in rising order.
-pub(crate) fn numbers(alloc: Global, count: u32) -> Result<Vec<u32>, Memory>
-    ensures { IfOk result (λ v. v.items ≡ range_with_len 0 count) }
-{
-    let mut list = Vec::with_capacity(alloc, count as usize)?;
-    for number in 0..count {
-        list.push(number)?;
-    }
-    Ok(list)
-}
-
-/// As many empty lists. They take no memory of their own.
-pub(crate) fn empty_lists(alloc: Global, count: u32) -> Result<Vec<Vec<u32>>, Memory>
-    ensures { IfOk result (λ v. lists_of v.items ≡ replicate count []) }
-{
-    let mut lists = Vec::with_capacity(alloc, count as usize)?;
-    for _ in 0..count {
-        lists.push(Vec::new(alloc))?;
-    }
-    Ok(lists)
-}
 
 /// For each number below a number a list of it alone.
 pub(crate) fn singletons(alloc: Global, count: u32) -> Result<Vec<Vec<u32>>, Memory>

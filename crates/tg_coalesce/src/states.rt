@@ -57,25 +57,11 @@ impl Model for Coalescer {
 
     ghost Value = { Work };
 
-    ghost view = { λ w. record {
-      graph = w.graph;
-      lists = w.lists;
-      degrees = w.degrees.items;
-      classes = w.classes;
-      moves = w.moves;
-      stack = w.stack.items;
-      steps = w.steps.items;
-    } };
+    ghost use Rattle.tg_coalesce.specs.ShownWork.{work_of};
 
-    ghost invariant = { λ w. IsSized (record {
-      graph = w.graph;
-      lists = w.lists;
-      degrees = w.degrees.items;
-      classes = w.classes;
-      moves = w.moves;
-      stack = w.stack.items;
-      steps = w.steps.items;
-    }) };
+    ghost view = { work_of };
+
+    ghost invariant = { λ w. IsSized (work_of w) };
 }
 
 pub(crate) fn is_register(node: u32) -> bool

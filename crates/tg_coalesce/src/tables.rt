@@ -33,11 +33,12 @@ ghost use Rattle.tg_coalesce.specs.Tables.{
   woken,
 };
 
-use crate::lists::{empty_lists, pour, push_to};
+use crate::lists::{pour, push_to};
 use std::alloc::Global;
 use std::collections::VecDeque;
 use std::marker::Model;
 use tg_base::Memory;
+use tg_graph::empty_lists;
 use tg_rounds::{Move, MoveState};
 
 /// The moves of a round, their states, and those that are to be tried. For each class it lists the
@@ -52,26 +53,15 @@ pub(crate) struct MoveTable {
 }
 
 impl Model for MoveTable {
-    ghost use Rattle.tg_graph.specs.Keeping.{lists_of};
     ghost use Rattle.tg_coalesce.specs.Tables.{Table, IsTable};
 
     ghost Value = { Table };
 
-    ghost view = { λ t. record {
-      moves = t.moves.items;
-      states = t.states.items;
-      ready = t.ready.items;
-      touching = lists_of t.touching.items;
-      unsettled = t.unsettled.items;
-    } };
+    ghost use Rattle.tg_coalesce.specs.ShownMoves.{table_of};
 
-    ghost invariant = { λ t. IsTable (record {
-      moves = t.moves.items;
-      states = t.states.items;
-      ready = t.ready.items;
-      touching = lists_of t.touching.items;
-      unsettled = t.unsettled.items;
-    }) };
+    ghost view = { table_of };
+
+    ghost invariant = { λ t. IsTable (table_of t) };
 }
 
 impl MoveTable {
@@ -239,7 +229,7 @@ fn list_ends(alloc: Global, moves: &[Move], nodes: u32) -> Result<Vec<Vec<u32>>,
     ensures { IfOk result
         (λ v. lists_of v.items ≡ ends_listed moves.now nodes (length moves.now)) }
 {
-    let mut touching = empty_lists(alloc, nodes)?;
+    let mut touching = empty_lists(alloc, nodes as usize)?;
     for index in 0..moves.len() {
         let one = moves[index];
         push_to(&mut touching, one.to, index as u32)?;

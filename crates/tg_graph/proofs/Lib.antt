@@ -5,5 +5,5 @@ pub mod Joining
 pub mod Runs
 pub mod Members
 pub mod Moves
-mod Vectors
+pub mod Vectors
 pub mod Partitions

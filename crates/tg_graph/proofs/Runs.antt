@@ -169,13 +169,21 @@ link_runs next prev x end n e xs i l b a h k o m r =
     (linked (slice_index next) (slice_index (next_linked next prev x end)) n x end e leads h k o xs (slice_index next e)
     (apart_from next prev x e i b a m y) r)
 
--- Nodes put last one after another.
+-- Numbers and nodes one after another.
 
 pub range_more : (a k : ℕ) → range_with_len a (suc k) ≡ range_with_len a k ++ (a + k) ∷ []
 range_more a zero = ap (λ v. v ∷ []) (omega arith)
 range_more a (suc k) =
     let e : a + 1 + k ≡ a + suc k = omega arith in
     ap (λ vs. a ∷ vs) (range_more (a + 1) k ∙ ap (λ v. range_with_len (a + 1) k ++ v ∷ []) e)
+
+pub range_next : (a k j : ℕ) → a + k ≡ j → range_with_len a (k + 1) ≡ range_with_len a k ++ j ∷ []
+range_next a k j e =
+    let more : k + 1 ≡ suc k = omega arith in
+    ap (range_with_len a) more ∙ (range_more a k ∙ ap (λ i. range_with_len a k ++ i ∷ []) e)
+
+pub range_pushed : (list : List ℕ) (n : ℕ) → list ≡ range_with_len 0 n → list ++ n ∷ [] ≡ range_with_len 0 (n + 1)
+range_pushed list n e = ap (λ l. l ++ n ∷ []) e ∙ sym (range_next 0 n n (omega arith))
 
 pub joined_more : (end a k : ℕ) (xs : List ℕ) (e : ℕ) →
     joined_to end ((a + k) ∷ []) (joined_to end (range_with_len a k) xs e) e

@@ -68,6 +68,7 @@ matrix_set vs place v w l e h k =
     ∙ matrix_written (lists_of vs) place v.items (omega (arith, l, length-map vs (λ (u : Vec ℕ Global). u.items)))
     (λ j. h j ∙ ap (λ (ws : List ℕ). (j == place % 16384) || bit ws j) (sym (list_read vs (place / 16384) w l e))) k
 
+-- one with the same items in its place
 pub lists_same : (vs : List (Vec ℕ Global)) (i : ℕ) (v w : Vec ℕ Global) → i < length vs → w ≡ get_or vs i w →
     v.items ≡ w.items →
     lists_of (set vs i v) ≡ lists_of vs
@@ -75,13 +76,29 @@ lists_same vs i v w l e f =
     lists_set vs i v ∙ (ap (λ xs. set (lists_of vs) i xs) (f ∙ sym (list_read vs i w l e))
     ∙ set-get_or (lists_of vs) i [])
 
+-- one with more items
+pub lists_more : (vs : List (Vec ℕ Global)) (i : ℕ) (v w : Vec ℕ Global) (more : List ℕ) → i < length vs →
+    w ≡ get_or vs i w → v.items ≡ w.items ++ more →
+    lists_of (set vs i v) ≡ set (lists_of vs) i (get_or (lists_of vs) i [] ++ more)
+lists_more vs i v w more l e f =
+    lists_set vs i v
+    ∙ ap (λ xs. set (lists_of vs) i xs) (f ∙ ap (λ xs. xs ++ more) (sym (list_read vs i w l e)))
+
+-- one put back as it was
+pub lists_back : (before : List (List ℕ)) (vs : List (Vec ℕ Global)) (i : ℕ) (v : Vec ℕ Global) (left : List ℕ) →
+    lists_of vs ≡ set before i left → v.items ≡ get_or before i [] →
+    lists_of (set vs i v) ≡ before
+lists_back before vs i v left e f =
+    lists_set vs i v
+    ∙ (ap (λ ls. set ls i v.items) e
+    ∙ (set-set before i left v.items
+    ∙ (ap (λ xs. set before i xs) f ∙ set-get_or before i [])))
+
 pub lists_pushed : (vs : List (Vec ℕ Global)) (x y : ℕ) (v w : Vec ℕ Global) → colours ≤ x → x - 25 < length vs →
     w ≡ get_or vs (x - 25) w →
     v.items ≡ w.items ++ y ∷ [] → lists_of (set vs (x - 25) v) ≡ with_neighbour x y (lists_of vs)
 lists_pushed vs x y v w h l e f =
-    lists_set vs (x - 25) v
-    ∙ (ap (λ xs. set (lists_of vs) (x - 25) xs) (f ∙ ap (λ xs. xs ++ y ∷ []) (sym (list_read vs (x - 25) w l e)))
-    ∙ sym (with_temporary x y (lists_of vs) h))
+    lists_more vs (x - 25) v w (y ∷ []) l e f ∙ sym (with_temporary x y (lists_of vs) h)
 
 pub lists_popped : (vs : List (Vec ℕ Global)) (x y : ℕ) (v w : Vec ℕ Global) (before : List (List ℕ)) → colours ≤ x →
     x - 25 < length vs →
@@ -97,7 +114,4 @@ lists_popped vs x y v w before h l e f q =
     omega (arith, w.ok.0, ap length now, length_push (get_or before (x - 25) []) y) in
     let left : v.items ≡ get_or before (x - 25) [] =
     f ∙ (ap (λ xs. take (w.len - 1) xs) now ∙ take_at (get_or before (x - 25) []) (y ∷ []) (w.len - 1) many) in
-    lists_set vs (x - 25) v
-    ∙ (ap (λ ls. set ls (x - 25) v.items) (q ∙ with_temporary x y before h)
-    ∙ (set-set before (x - 25) (get_or before (x - 25) [] ++ y ∷ []) v.items
-    ∙ (ap (λ xs. set before (x - 25) xs) left ∙ set-get_or before (x - 25) [])))
+    lists_back before vs (x - 25) v (get_or before (x - 25) [] ++ y ∷ []) (q ∙ with_temporary x y before h) left

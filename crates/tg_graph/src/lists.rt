@@ -14,6 +14,7 @@ ghost use Rattle.std.specs.Prelude.{
   OnOk,
   OnErr,
 };
+ghost use Rattle.std.specs.List.{range_with_len};
 ghost use Rattle.tg_graph.specs.Interference.{colours, with_neighbour};
 ghost use Rattle.tg_graph.specs.Keeping.{lists_of, counted_up};
 
@@ -24,7 +25,7 @@ use tg_base::Memory;
 pub const COLOURS: u32 = 25;
 
 /// As many empty lists. They take no memory of their own.
-pub(crate) fn empty_lists(alloc: Global, count: usize) -> Result<Vec<Vec<u32>>, Memory>
+pub fn empty_lists(alloc: Global, count: usize) -> Result<Vec<Vec<u32>>, Memory>
     ensures { IfOk result (λ v. lists_of v.items ≡ replicate count []) }
 {
     let mut lists = Vec::with_capacity(alloc, count)?;
@@ -32,6 +33,17 @@ pub(crate) fn empty_lists(alloc: Global, count: usize) -> Result<Vec<Vec<u32>>, 
         lists.push(Vec::new(alloc))?;
     }
     Ok(lists)
+}
+
+/// The numbers below a number, in rising order.
+pub fn numbers(alloc: Global, count: u32) -> Result<Vec<u32>, Memory>
+    ensures { IfOk result (λ v. v.items ≡ range_with_len 0 count) }
+{
+    let mut list = Vec::with_capacity(alloc, count as usize)?;
+    for number in 0..count {
+        list.push(number)?;
+    }
+    Ok(list)
 }
 
 /// Gives a node one more neighbour; a register keeps no list.

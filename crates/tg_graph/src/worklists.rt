@@ -1,11 +1,10 @@
 ghost use Rattle.std.specs.Prelude.{◌≡◌, ◌<◌, ◌≤◌, ◌==◌, ℕ, IfOk, IfSome, IsTrue, slice_get};
-ghost use Rattle.std.specs.List.{range_with_len};
 ghost use Rattle.tg_graph.specs.Interference.{colours, is_among, most_nodes};
 ghost use Rattle.tg_graph.specs.Lists as lists;
 ghost use Rattle.tg_graph.specs.Lists.{after, moved, nodes_in, started};
 
 use crate::links::{link_last, link_range, unlink};
-use crate::lists::COLOURS;
+use crate::lists::{COLOURS, numbers};
 use std::alloc::Global;
 use std::marker::Model;
 use tg_base::Memory;
@@ -70,17 +69,6 @@ impl Model for Worklists {
         (list_from l.nodes l.next.items) };
 }
 
-/// Places that are linked to themselves.
-fn alone(alloc: Global, count: u32) -> Result<Vec<u32>, Memory>
-    ensures { IfOk result (λ v. v.items ≡ range_with_len 0 count) }
-{
-    let mut places = Vec::with_capacity(alloc, count as usize)?;
-    for place in 0..count {
-        places.push(place)?;
-    }
-    Ok(places)
-}
-
 impl Worklists {
     /// The registers in `Fixed` and all temporaries in `Spill`, in rising order. It takes all
     /// memory of the lists.
@@ -89,8 +77,8 @@ impl Worklists {
         requires high { nodes ≤ most_nodes }
         ensures { IfOk result (λ l. l ≡ started nodes) }
     {
-        let mut next = alone(alloc, nodes + LISTS)?;
-        let mut prev = alone(alloc, nodes + LISTS)?;
+        let mut next = numbers(alloc, nodes + LISTS)?;
+        let mut prev = numbers(alloc, nodes + LISTS)?;
         let mut places = vec![in alloc; Worklist::Fixed; COLOURS as usize]?;
         places.resize(nodes as usize, Worklist::Spill)?;
         let fixed = nodes + number(Worklist::Fixed);

@@ -1,5 +1,5 @@
 -- What a round answers are nodes, and what it spills are temporaries.
-use Rattle.std.proofs.Common.{◌≡◌, ℕ, ◌+◌, ◌<◌, ◌&&◌, ◌||◌, true, false, not, sym, ap, subst, ◌∙◌, arith, ⊎_elim}
+use Rattle.std.proofs.Common.{◌≡◌, ℕ, ◌+◌, ◌<◌, ◌&&◌, true, false, not, sym, ap, subst, ◌∙◌, arith, ⊎_elim}
 use Rattle.std.proofs.Common.{Bool, List, [], ◌∷◌, ◌++◌, length, map, zero, suc}
 use Rattle.std.specs.Prelude.{All, nat_lt, ◌==◌, if◌then◌else◌, find, fold, is_none}
 use Rattle.std.specs.List.{AllByRecursion, range_with_len}
@@ -9,12 +9,17 @@ use Rattle.std.proofs.lemmas.List.FromFn.{length-map-range_with_len}
 use Rattle.tg_rounds.specs.declared.steps.Step.{Step}
 use Rattle.tg_rounds.specs.declared.steps.Step.TheVariants.{Simplify, Same, Constrain, Coalesce, Freeze, Spill}
 use Rattle.tg_rounds.specs.Graphs.{colour_count, is_register}
-use Rattle.tg_rounds.specs.States.{Problem, RoundState, start, low, remains, move_at, to, from, is_unsettled}
-use Rattle.tg_rounds.specs.Steps.{is_safe, stands_under, can, after, after_all, AreTaken}
+use Rattle.tg_rounds.specs.States.{Problem, RoundState, start, low, remains, move_at}
+use Rattle.tg_rounds.specs.Steps.{can, after, after_all, AreTaken}
 use Rattle.tg_rounds.specs.Selection.{Colouring, precoloured, is_free, pop, select}
 use Rattle.tg_rounds.specs.Rounds.{end}
 use Rattle.tg_rounds.specs.Laws.{AreNodes, IsTemporary, RoundsAreOfNodes}
-use Rattle.tg_rounds.proofs.Deciding.{both, either, not_true, same_node}
+use Rattle.tg_rounds.proofs.Deciding.{both, not_true}
+use Rattle.tg_rounds.proofs.Within.{Merged, merged_of}
+
+pub all_pushed : (P : ℕ → Type 0) (xs : List ℕ) (x : ℕ) → AllByRecursion P xs → P x → AllByRecursion P (xs ++ x ∷ [])
+all_pushed P [] x h k = (k, tt)
+all_pushed P (y ∷ xs) x h k = (h.0, all_pushed P xs x h.1 k)
 
 -- each class stands under a node, and what was taken out are temporaries
 record IsAmong (g : Problem) (s : RoundState) : Type 0 where
@@ -34,24 +39,15 @@ module _ (g : Problem) where
     -- what a merge keeps is one of the move's ends
     kept_is_node : (s : RoundState) (j kept gone : ℕ) (b : Bool) → IsAmong g s → can g s (Coalesce j kept gone b) ≡ true → kept < g.graph.nodes
     kept_is_node s j kept gone b h c =
-        ⊎_elim (λ p. subst (λ w. w < g.graph.nodes) (same_node x kept (both (x == kept) (y == gone) p).0) (h.aliases _ ends.0))
-        (λ p. subst (λ w. w < g.graph.nodes) (same_node y kept (both (x == gone) (y == kept) p).1) (h.aliases _ ends.1))
-        (either (x == kept && y == gone) (x == gone && y == kept) c2.1)
+        ⊎_elim (λ p. subst (λ w. w < g.graph.nodes) p.0 (h.aliases _ ends.0))
+        (λ p. subst (λ w. w < g.graph.nodes) p.1 (h.aliases _ ends.1))
+        merges.ends
       where
-        x : ℕ
-        x = to g s j
-
-        y : ℕ
-        y = from g s j
-
-        c2 : ((is_unsettled g s j && is_safe g s j) ≡ true) × (((x == kept && y == gone) || (x == gone && y == kept)) ≡ true)
-        c2 = both (is_unsettled g s j && is_safe g s j) _ (both _ (stands_under g s kept gone) (both _ _ c).0).0
-
-        inside : j < length g.moves
-        inside = ltb-true j (length g.moves) (both (nat_lt j (length g.moves)) _ (both (is_unsettled g s j) (is_safe g s j) c2.0).0).0
+        merges : Merged g s j kept gone
+        merges = merged_of g s j kept gone b c
 
         ends : ((move_at g s j).to < g.graph.nodes) × ((move_at g s j).from < g.graph.nodes)
-        ends = nodes j (record { to = 0; from = 0 }) inside
+        ends = nodes j (record { to = 0; from = 0 }) merges.inside
 
     among_after : (s : RoundState) (step : Step) → IsAmong g s → can g s step ≡ true → IsAmong g (after g s step)
     among_after s (Simplify x) h c = record {
@@ -76,8 +72,7 @@ module _ (g : Problem) where
     among_all s (step ∷ steps) h t = among_all (after g s step) steps (among_after s step h t.0.possible) t.1
 
   one_more : (P : ℕ → Type 0) (b : Bool) (xs : List ℕ) (x : ℕ) → AllByRecursion P xs → P x → AllByRecursion P (if b then xs ++ x ∷ [] else xs)
-  one_more P true [] x h k = (k, tt)
-  one_more P true (y ∷ xs) x h k = (h.0, one_more P true xs x h.1 k)
+  one_more P true xs x h k = all_pushed P xs x h k
   one_more P false xs x h k = h
 
   -- what is spilled was taken out

@@ -19,10 +19,10 @@ use Rattle.tg_rounds.specs.Classes.{class_of, IsAlone, IsUntouched, BareAreFirst
 use Rattle.tg_rounds.proofs.Deciding.{clash, both, and_true, either, or_left, or_right, neither, tells, never, not_true, from_false}
 use Rattle.tg_rounds.proofs.Deciding.{same_node, same_test, some_is}
 use Rattle.tg_rounds.proofs.Counting.{was_in}
-use Rattle.tg_rounds.proofs.Classes.{Holds, holds_at_start, holds_after, holds_all}
+use Rattle.tg_rounds.proofs.Classes.{Holds, holds_at_start, holds_after, holds_from_start}
 use Rattle.tg_rounds.proofs.Selecting.{any_is}
 use Rattle.tg_rounds.proofs.Answering.{answered}
-use Rattle.tg_rounds.proofs.AmongNodes.{spilled_among, rounds_are_of_nodes}
+use Rattle.tg_rounds.proofs.AmongNodes.{all_pushed, spilled_among, rounds_are_of_nodes}
 use Rattle.tg_rounds.proofs.Within.{class_is, untouched_stand_alone}
 
 module _ (g : Problem) (s : RoundState) (x : ℕ) where
@@ -63,10 +63,6 @@ module _ (g : Problem) (s : RoundState) (x : ℕ) where
     abbrev Others : List ℕ → Type 0
     Others ys = AllByRecursion (λ y. y ≢ x) ys
 
-    one_more : (ys : List ℕ) (y : ℕ) → Others ys → y ≢ x → Others (ys ++ y ∷ [])
-    one_more [] y h n = (n, tt)
-    one_more (z ∷ ys) y h n = (h.0, one_more ys y h.1 n)
-
     not_spilled : (xs : List ℕ) (c : Colouring) → Others c.spilled → Others (fold (pop g s) c xs).spilled
     not_spilled [] c h = h
     not_spilled (y ∷ xs) c h = not_spilled xs (pop g s c y) (by (tells (y == x)))
@@ -76,7 +72,7 @@ module _ (g : Problem) (s : RoundState) (x : ℕ) where
         by (inr e) = either_way (is_none (first c y))
           where
             either_way : (b : Bool) → Others (if b then c.spilled ++ y ∷ [] else c.spilled)
-            either_way true = one_more c.spilled y h (λ d. clash (same_test y x d) e)
+            either_way true = all_pushed (λ z. z ≢ x) c.spilled y h (λ d. clash (same_test y x d) e)
             either_way false = h
 
 -- at the end of a round each temporary was taken out
@@ -110,7 +106,7 @@ bare_are_first_coloured g round graph nodes r x t untouched bare =
     s = end g round
 
     holds : Holds g (end g round)
-    holds = holds_all g (start g) round.steps (holds_at_start g graph nodes) r.steps
+    holds = holds_from_start g graph nodes round.steps r.steps
 
     alone : IsAlone g round x
     alone = untouched_stand_alone g round r x t.1 untouched
@@ -170,23 +166,15 @@ module _ (g : Problem) where
     still : IsDistinct nat_eq xs
     apart : AllByRecursion (λ x. Apart x spilled) xs
 
-  snoc_apart : (x : ℕ) (ys : List ℕ) (y : ℕ) → Apart x ys → nat_eq y x ≡ false → Apart x (ys ++ y ∷ [])
-  snoc_apart x [] y h k = (k, tt)
-  snoc_apart x (z ∷ ys) y h k = (h.0, snoc_apart x ys y h.1 k)
-
-  snoc_from : (x : ℕ) (ys : List ℕ) (y : ℕ) → ApartFrom x ys → nat_eq x y ≡ false → ApartFrom x (ys ++ y ∷ [])
-  snoc_from x [] y h k = (k, tt)
-  snoc_from x (z ∷ ys) y h k = (h.0, snoc_from x ys y h.1 k)
-
   snoc_distinct : (ys : List ℕ) (y : ℕ) → IsDistinct nat_eq ys → Apart y ys → IsDistinct nat_eq (ys ++ y ∷ [])
   unfolding IsDistinct
   snoc_distinct [] y d h = (tt, tt)
-  snoc_distinct (z ∷ ys) y d h = (snoc_from z ys y d.0 h.0, snoc_distinct ys y d.1 h.1)
+  snoc_distinct (z ∷ ys) y d h = (all_pushed (λ w. nat_eq z w ≡ false) ys y d.0 h.0, snoc_distinct ys y d.1 h.1)
 
   all_snoc : (ys : List ℕ) (y : ℕ) (xs : List ℕ) → AllByRecursion (λ x. Apart x ys) xs → ApartFrom y xs →
       AllByRecursion (λ x. Apart x (ys ++ y ∷ [])) xs
   all_snoc ys y [] h k = tt
-  all_snoc ys y (x ∷ xs) h k = (snoc_apart x ys y h.0 k.0, all_snoc ys y xs h.1 k.1)
+  all_snoc ys y (x ∷ xs) h k = (all_pushed (λ w. nat_eq w x ≡ false) ys y h.0 k.0, all_snoc ys y xs h.1 k.1)
 
   apart_popped : (b : Bool) (ys : List ℕ) (y : ℕ) (xs : List ℕ) → IsApart ys (y ∷ xs) → IsApart (if b then ys ++ y ∷ [] else ys) xs
   unfolding IsDistinct
@@ -228,7 +216,7 @@ spilled_name_classes g round graph nodes r =
     s = end g round
 
     holds : Holds g (end g round)
-    holds = holds_all g (start g) round.steps (holds_at_start g graph nodes) r.steps
+    holds = holds_from_start g graph nodes round.steps r.steps
 
     own : All (λ x. (end g round).alias x ≡ x) round.spilled
     own =
@@ -239,5 +227,5 @@ spilled_name_classes g round graph nodes r =
 
 pub registers_stand_above : RegistersStandAbove
 registers_stand_above g round graph nodes r x l t =
-    let k = (holds_all g (start g) round.steps (holds_at_start g graph nodes) r.steps).classes in
+    let k = (holds_from_start g graph nodes round.steps r.steps).classes in
     class_is g round r x l ∙ k.remaining_is_own x l (k.register_remains x l t)

@@ -246,6 +246,10 @@ module _ (g : Problem) where
   holds_all s [] h t = h
   holds_all s (step ∷ steps) h t = holds_all (after g s step) steps (holds_after s step h t.0.possible) t.1
 
+  pub holds_from_start : IsGraph g.graph → AreNodes g → (steps : List Step) → AreTaken g (start g) steps →
+      Holds (after_all g (start g) steps)
+  holds_from_start graph nodes steps t = holds_all (start g) steps (holds_at_start graph nodes) t
+
   -- a pair of the merged graph comes from a pair of the start
   record IsExact (s : RoundState) : Type 0 where
     comes : (a b : ℕ) → a < g.graph.nodes → b < g.graph.nodes → s.pairs a b ≡ true → (y z : ℕ) × (y < g.graph.nodes) ×
@@ -306,9 +310,8 @@ module _ (g : Problem) where
 
 pub pairs_are_of_classes : PairsAreOfClasses
 pairs_are_of_classes g steps graph nodes t =
-    let first = holds_at_start g graph nodes in
     record {
-      keeps = (holds_all g (start g) steps first t).keeps;
-      exact = (exact_all g (start g) steps first t
+      keeps = (holds_from_start g graph nodes steps t).keeps;
+      exact = (exact_all g (start g) steps (holds_at_start g graph nodes) t
           (record { comes = λ a b la lb h. (a, b, la, lb, refl, refl, h) })).comes;
     }

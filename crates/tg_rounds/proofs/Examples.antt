@@ -1,7 +1,7 @@
 -- How the examples of rounds are written.
 use Rattle.std.proofs.Common.{◌≡◌, ℕ, ◌<◌, Bool, true, false, not, ◌&&◌, ◌||◌, List, ◌∷◌, ◌++◌, length, Option, Some}
-use Rattle.std.proofs.Common.{map, replicate, ap}
-use Rattle.std.specs.Prelude.{◌==◌}
+use Rattle.std.proofs.Common.{map, replicate, sym, ap, ◌∙◌}
+use Rattle.std.specs.Prelude.{◌==◌, slice_get}
 use Rattle.std.specs.List.{list_any, range_with_len}
 use Rattle.tg_rounds.specs.declared.candidates.Mark.{Mark}
 use Rattle.tg_rounds.specs.declared.moves.Move.{Move}
@@ -14,7 +14,8 @@ use Rattle.tg_rounds.specs.States.{Problem, start}
 use Rattle.tg_rounds.specs.Steps.{can, kind, after_all, AreTaken, is_over}
 use Rattle.tg_rounds.specs.Selection.{select}
 use Rattle.tg_rounds.specs.Rounds.{listed, end, IsRound}
-use Rattle.tg_rounds.proofs.Deciding.{clash}
+use Rattle.tg_rounds.proofs.Deciding.{clash, same_test}
+use Rattle.tg_rounds.proofs.Answering.{the_same}
 use Rattle.tg_rounds.proofs.Taking.{are_taken, all_taken}
 
 -- the pairs of a list in either order, and all pairs of registers
@@ -100,3 +101,9 @@ impossible g steps step e later t = clash t.0.possible e
 pub too_early : (g : Problem) (steps : List Step) (step other : Step) → kind g other < kind g step →
     can g (after_all g (start g) steps) other ≡ true → NeverTakes g steps step
 too_early g steps step other l e later t = clash e (t.0.first other l)
+
+-- no round answers a colour but the one that Select gives
+pub wrong_colour : (g : Problem) (r : Round) (x a b : ℕ) → slice_get r.colours x ≡ Some (Some a) →
+    slice_get (answer g r.steps).colours x ≡ Some (Some b) → (a == b) ≡ false → IsRound g r → ⊥
+wrong_colour g r x a b said given differ t =
+    clash (same_test a b (the_same (the_same (sym said ∙ (ap (λ l. slice_get l x) t.colours ∙ given))))) differ

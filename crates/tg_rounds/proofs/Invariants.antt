@@ -5,10 +5,11 @@ use Rattle.std.specs.Prelude.{nat_lt, ◌==◌, if◌then◌else◌}
 use Rattle.std.proofs.lemmas.Bool.{ltb-true, lt-ltb}
 use Rattle.tg_rounds.specs.declared.steps.Step.{Step}
 use Rattle.tg_rounds.specs.declared.steps.Step.TheVariants.{Simplify, Same, Constrain, Coalesce, Freeze, Spill}
+use Rattle.tg_rounds.specs.declared.moves.MoveState.{MoveState}
 use Rattle.tg_rounds.specs.declared.moves.MoveState.TheVariants.{Coalesced, Constrained}
 use Rattle.tg_rounds.specs.Graphs.{colour_count, is_register, Pairs, count, without, merged, IsGraph}
 use Rattle.tg_rounds.specs.States.{Problem, RoundState, start, low, remains, to, from, is_unsettled, touches}
-use Rattle.tg_rounds.specs.Steps.{briggs, george, passes, is_same, is_constrained, is_safe, stands_under, can, after}
+use Rattle.tg_rounds.specs.Steps.{briggs, george, passes, is_same, is_constrained, is_safe, stands_under, can, after, settle, freeze, take_out}
 use Rattle.tg_rounds.specs.Laws.{AreNodes, IsSound}
 use Rattle.tg_rounds.proofs.Deciding.{clash, both, and_true, either, or_left, or_right, or_swap, neither, tells, never}
 use Rattle.tg_rounds.proofs.Deciding.{not_true, from_false, and_false, same_node, same_test}
@@ -199,44 +200,39 @@ module _ (g : Problem) where
       (without x s.remaining c ≡ true)
   keeps_ends s x c d h = (h.0, stays_in x c s.remaining d h.1)
 
+  -- a step that settles moves and does no more
+  sound_settled : (s : RoundState) (states : ℕ → MoveState) → IsSound g s →
+      ((i : ℕ) → is_unsettled g (record s { states = states }) i ≡ true → is_unsettled g s i ≡ true) →
+      IsSound g (record s { states = states })
+  sound_settled s states k was = record {
+    symmetric = k.symmetric;
+    irreflexive = k.irreflexive;
+    to_remains = λ i u. k.to_remains i (was i u);
+    from_remains = λ i u. k.from_remains i (was i u);
+  }
+
+  -- a node taken out that no unsettled move touches
+  sound_taken_out : (s : RoundState) (x : ℕ) → IsSound g s →
+      ((i : ℕ) → is_unsettled g s i ≡ true → touches g s x i ≡ false) → IsSound g (take_out g s x)
+  sound_taken_out s x k alone = record {
+    symmetric = k.symmetric;
+    irreflexive = k.irreflexive;
+    to_remains = λ i u. keeps_ends s x (to g s i) (elsewhere g s x i u (alone i u)).0 (k.to_remains i u);
+    from_remains = λ i u. keeps_ends s x (from g s i) (elsewhere g s x i u (alone i u)).1 (k.from_remains i u);
+  }
+
+  sound_frozen : (s : RoundState) (x : ℕ) → IsSound g s → IsSound g (freeze g s x)
+  sound_frozen s x k = sound_settled s (freeze g s x).states k (frozen_is g s x)
+
   pub sound_after : (s : RoundState) (step : Step) → IsSound g s → can g s step ≡ true → IsSound g (after g s step)
   sound_after s (Simplify x) k c =
-      let alone : (i : ℕ) → touches g s x i ≡ false = λ i. unrelated g s x i
-      (not_true (both (remains g s x && low g s x) _ c).1) in
-      record {
-        symmetric = k.symmetric;
-        irreflexive = k.irreflexive;
-        to_remains = λ i u. keeps_ends s x (to g s i) (elsewhere g s x i u (alone i)).0 (k.to_remains i u);
-        from_remains = λ i u. keeps_ends s x (from g s i) (elsewhere g s x i u (alone i)).1 (k.from_remains i u);
-      }
-  sound_after s (Spill x) k c =
-      record {
-        symmetric = k.symmetric;
-        irreflexive = k.irreflexive;
-        to_remains = λ i u. let w = frozen_is g s x i u in keeps_ends s x (to g s i)
-            (elsewhere g s x i w (not_touched g s x i u)).0 (k.to_remains i w);
-        from_remains = λ i u. let w = frozen_is g s x i u in
-            keeps_ends s x (from g s i) (elsewhere g s x i w (not_touched g s x i u)).1 (k.from_remains i w);
-      }
+      sound_taken_out s x k (λ i u. unrelated g s x i (not_true (both (remains g s x && low g s x) _ c).1))
+  sound_after s (Spill x) k c = sound_taken_out (freeze g s x) x (sound_frozen s x k) (λ i u. never
+      (λ t. clash (and_true (frozen_is g s x i u) (both (is_unsettled g (freeze g s x) i) _ t).1)
+      (not_touched g s x i u)))
   sound_after s (Coalesce j kept gone b) k c = sound_merged s j kept gone b k (merges s j kept gone b k c)
   sound_after s (Same j) k c =
-      record {
-        symmetric = k.symmetric;
-        irreflexive = k.irreflexive;
-        to_remains = λ i u. k.to_remains i (settled_at g s j i Coalesced refl u);
-        from_remains = λ i u. k.from_remains i (settled_at g s j i Coalesced refl u);
-      }
+      sound_settled s (settle g s j Coalesced).states k (λ i u. settled_at g s j i Coalesced refl u)
   sound_after s (Constrain j) k c =
-      record {
-        symmetric = k.symmetric;
-        irreflexive = k.irreflexive;
-        to_remains = λ i u. k.to_remains i (settled_at g s j i Constrained refl u);
-        from_remains = λ i u. k.from_remains i (settled_at g s j i Constrained refl u);
-      }
-  sound_after s (Freeze x) k c =
-      record {
-        symmetric = k.symmetric;
-        irreflexive = k.irreflexive;
-        to_remains = λ i u. k.to_remains i (frozen_is g s x i u);
-        from_remains = λ i u. k.from_remains i (frozen_is g s x i u);
-      }
+      sound_settled s (settle g s j Constrained).states k (λ i u. settled_at g s j i Constrained refl u)
+  sound_after s (Freeze x) k c = sound_frozen s x k

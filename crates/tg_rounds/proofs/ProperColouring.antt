@@ -6,13 +6,13 @@ use Rattle.std.specs.List.{list_any, range_with_len}
 use Rattle.std.proofs.lemmas.Bool.{lt-ltb}
 use Rattle.std.proofs.lemmas.Bool.Decides.{eqb_tells}
 use Rattle.tg_rounds.specs.Graphs.{colour_count, is_register, Set}
-use Rattle.tg_rounds.specs.States.{Problem, RoundState, start}
+use Rattle.tg_rounds.specs.States.{Problem, RoundState}
 use Rattle.tg_rounds.specs.Selection.{Colouring, has_colour, precoloured, sees, is_free, pop, select}
 use Rattle.tg_rounds.specs.Rounds.{end}
 use Rattle.tg_rounds.specs.Laws.{ColoursDiffer, RegistersAreColoured, ColoursAreRegisters}
 use Rattle.tg_rounds.proofs.Deciding.{clash, and_true, or_left, or_right, neither, tells, never, not_true}
 use Rattle.tg_rounds.proofs.Deciding.{same_node, same_test, some_is}
-use Rattle.tg_rounds.proofs.Classes.{Holds, holds_at_start, holds_all}
+use Rattle.tg_rounds.proofs.Classes.{Holds, holds_from_start}
 use Rattle.tg_rounds.proofs.Answering.{answered, is_coloured}
 
 -- What a search among the numbers from one on finds.
@@ -177,7 +177,7 @@ colours_differ g round graph nodes r x y a b lx ly p ca cb =
     (is_coloured g round r y b ly cb)
   where
     holds : Holds g (end g round)
-    holds = holds_all g (start g) round.steps (holds_at_start g graph nodes) r.steps
+    holds = holds_from_start g graph nodes round.steps r.steps
 
 pub colours_are_registers : ColoursAreRegisters
 colours_are_registers g round r x a l e =
@@ -193,4 +193,4 @@ registers_are_coloured g round graph nodes r x l t =
     ap (λ b. if b then Some x else None) t))
   where
     holds : Holds g (end g round)
-    holds = holds_all g (start g) round.steps (holds_at_start g graph nodes) r.steps
+    holds = holds_from_start g graph nodes round.steps r.steps

@@ -1,6 +1,6 @@
 -- Small rounds, computed, and steps that no run takes.
-use Rattle.std.proofs.Common.{◌≡◌, ℕ, false, true, List, [], ◌∷◌, ◌++◌, Option, Some, None, refl, ap, arith}
-use Rattle.std.specs.Prelude.{nat_lt, filter, not, ◌==◌, slice_get}
+use Rattle.std.proofs.Common.{◌≡◌, ℕ, false, true, List, [], ◌∷◌, ◌++◌, Some, None, refl, arith}
+use Rattle.std.specs.Prelude.{nat_lt, filter, not, ◌==◌}
 use Rattle.std.specs.List.{range_with_len}
 use Rattle.tg_rounds.specs.declared.candidates.Candidate.{Candidate}
 use Rattle.tg_rounds.specs.declared.steps.Step.{Step}
@@ -12,7 +12,7 @@ use Rattle.tg_rounds.specs.States.{Problem, start}
 use Rattle.tg_rounds.specs.Steps.{candidates, after_all, is_over}
 use Rattle.tg_rounds.specs.Rounds.{IsRound}
 use Rattle.tg_rounds.proofs.Examples.{graph, move, mark, marks_then, original, registers, with_each, round, is_round}
-use Rattle.tg_rounds.proofs.Examples.{NeverTakes, impossible, too_early}
+use Rattle.tg_rounds.proofs.Examples.{NeverTakes, impossible, too_early, wrong_colour}
 
 -- the registers but one
 abbrev all_but : ℕ → List ℕ
@@ -77,10 +77,7 @@ held_move_isn't_frozen = too_early held_move [] (Freeze 26) (Constrain 0) (omega
 held_move_differs : IsRound held_move
     (round held_move (Constrain 0 ∷ Simplify 25 ∷ Simplify 26 ∷ []) (Constrained ∷ []) (25 ∷ 26 ∷ [])
     (Some 0 ∷ Some 0 ∷ []) []) → ⊥
-held_move_differs t = apart (ap (λ l. slice_get l 25) t.colours)
-  where
-    apart : ◌≡◌ {A = Option (Option ℕ)} (Some (Some 0)) (Some (Some 1)) → ⊥
-    apart e = cc
+held_move_differs = wrong_colour held_move _ 25 0 1 refl refl refl
 
 -- A temporary and a register, with a move: it is coalesced by George's test, and the register is kept.
 
@@ -135,10 +132,7 @@ blocked_move_isn't_spilled = too_early blocked_move [] (Spill 26) (Freeze 25) (o
 blocked_move_takes_first : IsRound blocked_move
     (round blocked_move (Freeze 25 ∷ Simplify 25 ∷ Simplify 26 ∷ []) (Frozen ∷ []) (25 ∷ 26 ∷ [])
     (Some 1 ∷ Some 2 ∷ []) []) → ⊥
-blocked_move_takes_first t = apart (ap (λ l. slice_get l 25) t.colours)
-  where
-    apart : ◌≡◌ {A = Option (Option ℕ)} (Some (Some 1)) (Some (Some 0)) → ⊥
-    apart e = cc
+blocked_move_takes_first = wrong_colour blocked_move _ 25 1 0 refl refl refl
 
 -- A freeze leaves what is settled.
 

@@ -143,28 +143,33 @@ module _ (g : Problem) where
     apart : (x z : ℕ) → x ≢ z → (z == x) ≡ false
     apart x z d = never (λ h. d (sym (same_node z x h)))
 
+    -- a node that isn't woken keeps its high neighbours where its pairs stay and none of these is gone
+    keeps_by : (step : Step) (u : ℕ) → is_by_turned g s step u ≡ false →
+        ((z : ℕ) → s.pairs u z ≡ true → (after g s step).pairs u z ≡ true) →
+        ((z : ℕ) → s.remaining z ≡ true → s.pairs u z ≡ true → not (low g s z) ≡ true →
+        (after g s step).remaining z ≡ true) →
+        Keeps s (after g s step) u
+    keeps_by step u e joined rest = record {
+      stays = λ z l r p h. rest z r p h;
+      joined = λ z l r p. joined z p;
+      high = λ z l r p h. stays_high step u e z l r (rest z r p h) p h;
+    }
+
+    -- the neighbours of a node remain without one that isn't among them
+    without_other : (x u z : ℕ) → s.pairs x u ≡ false → s.remaining z ≡ true → s.pairs u z ≡ true →
+        without x s.remaining z ≡ true
+    without_other x u z f r p =
+        and_true (from_false (apart x z (λ d. clash (subst (λ w. s.pairs w u ≡ true) (sym d) (swapped u z p)) f))) r
+
     keeps_simplified : (x u : ℕ) → low g s x ≡ true → is_by_turned g s (Simplify x) u ≡ false →
         Keeps s (after g s (Simplify x)) u
-    keeps_simplified x u lx e = record {
-      stays = λ z l r p h. rest z r h;
-      joined = λ z l r p. p;
-      high = λ z l r p h. stays_high (Simplify x) u e z l r (rest z r h) p h;
-    }
-      where
-        rest : (z : ℕ) → s.remaining z ≡ true → not (low g s z) ≡ true → without x s.remaining z ≡ true
-        rest z r h = and_true (from_false (apart x z (λ d. clash (subst (λ w. low g s w ≡ true) d lx) (not_true h)))) r
+    keeps_simplified x u lx e =
+        keeps_by (Simplify x) u e (λ z p. p)
+        (λ z r p h. and_true (from_false (apart x z (λ d. clash (subst (λ w. low g s w ≡ true) d lx) (not_true h)))) r)
 
     keeps_spilled : (x u : ℕ) → s.pairs x u ≡ false → is_by_turned g s (Spill x) u ≡ false →
         Keeps s (after g s (Spill x)) u
-    keeps_spilled x u f e = record {
-      stays = λ z l r p h. rest z r p;
-      joined = λ z l r p. p;
-      high = λ z l r p h. stays_high (Spill x) u e z l r (rest z r p) p h;
-    }
-      where
-        rest : (z : ℕ) → s.remaining z ≡ true → s.pairs u z ≡ true → without x s.remaining z ≡ true
-        rest z r p = and_true
-            (from_false (apart x z (λ d. clash (subst (λ w. s.pairs w u ≡ true) (sym d) (swapped u z p)) f))) r
+    keeps_spilled x u f e = keeps_by (Spill x) u e (λ z p. p) (λ z r p h. without_other x u z f r p)
 
     module _ (i0 kept gone : ℕ) (b : Bool) where
       abbrev merging : Step
@@ -181,16 +186,9 @@ module _ (g : Problem) where
           record { not_kept = q.0; not_near = q.1; not_turned = p.1 }
 
       keeps_merged : (u : ℕ) → IsAway u → Keeps s (after g s merging) u
-      keeps_merged u a = record {
-        stays = λ z l r p h. rest z r p;
-        joined = λ z l r p. or_left _ _ (or_left _ _ p);
-        high = λ z l r p h. stays_high merging u a.not_turned z l r (rest z r p) p h;
-      }
-        where
-          rest : (z : ℕ) → s.remaining z ≡ true → s.pairs u z ≡ true → without gone s.remaining z ≡ true
-          rest z r p = and_true
-              (from_false (apart gone z
-              (λ d. clash (subst (λ w. s.pairs w u ≡ true) (sym d) (swapped u z p)) a.not_near))) r
+      keeps_merged u a =
+          keeps_by merging u a.not_turned (λ z p. or_left _ _ (or_left _ _ p))
+          (λ z r p h. without_other gone u z a.not_near r p)
 
       old_pair : (u z : ℕ) → IsAway u → merged kept gone s.pairs u z ≡ true → s.pairs u z ≡ true
       old_pair u z a h =

@@ -44,12 +44,12 @@ merged_ends kept gone a b h =
 
 module _ (g : Problem) where
   -- what a Coalesce step merges: the classes of the ends of a move
-  record Merged (s : RoundState) (i kept gone : ℕ) : Type 0 where
-    inside : i < length g.moves
-    ends : ((to g s i ≡ kept) × (from g s i ≡ gone)) ⊎ ((to g s i ≡ gone) × (from g s i ≡ kept))
-    differ : to g s i ≢ from g s i
+  pub record Merged (s : RoundState) (i kept gone : ℕ) : Type 0 where
+    pub inside : i < length g.moves
+    pub ends : ((to g s i ≡ kept) × (from g s i ≡ gone)) ⊎ ((to g s i ≡ gone) × (from g s i ≡ kept))
+    pub differ : to g s i ≢ from g s i
 
-  merged_of : (s : RoundState) (i kept gone : ℕ) (b : Bool) → can g s (Coalesce i kept gone b) ≡ true → Merged s i kept gone
+  pub merged_of : (s : RoundState) (i kept gone : ℕ) (b : Bool) → can g s (Coalesce i kept gone b) ≡ true → Merged s i kept gone
   merged_of s i kept gone b c =
       record {
         inside = ltb-true i (length g.moves) (both (nat_lt i (length g.moves)) _ c3.0).0;

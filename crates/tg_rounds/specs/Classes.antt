@@ -5,10 +5,10 @@ use Rattle.std.specs.Prelude.{◌≡◌, ◌≢◌, ◌<◌, ◌⊎◌, ℕ, nat
 use Rattle.std.specs.Prelude.{slice_get, slice_index_or}
 use Rattle.std.specs.List.{IsDistinct}
 use Rattle.tg_rounds.specs.declared.rounds.Round.{Round}
-use Rattle.tg_rounds.specs.Graphs.{Set, IsGraph, is_register}
+use Rattle.tg_rounds.specs.Graphs.{Set, is_register}
 use Rattle.tg_rounds.specs.States.{Problem}
 use Rattle.tg_rounds.specs.Rounds.{IsRound}
-use Rattle.tg_rounds.specs.Laws.{AreNodes, IsTemporary}
+use Rattle.tg_rounds.specs.Laws.{IsTemporary, OfEachRound}
 
 -- the node under which a node's class stands
 abbrev pub class_of : Round → (node : ℕ) → ℕ
@@ -37,14 +37,8 @@ pub record IsAlone (g : Problem) (round : Round) (x : ℕ) : Type 0 where
 -- a register's class stands under the register
 abbrev pub RegistersStandAbove : Type 0
 RegistersStandAbove =
-    (g : Problem) (round : Round) →
-    IsGraph g.graph →
-    AreNodes g →
-    IsRound g round →
-    (x : ℕ) →
-    x < g.graph.nodes →
-    IsTrue (is_register x) →
-    class_of round x ≡ x
+    OfEachRound
+    (λ g round. (x : ℕ) → x < g.graph.nodes → IsTrue (is_register x) → class_of round x ≡ x)
 
 -- no move ends in the node
 abbrev pub IsUntouched : Problem → ℕ → Type 0
@@ -83,15 +77,13 @@ pub record IsFirstColoured (round : Round) (x : ℕ) : Type 0 where
 -- a temporary without moves and without pairs does
 abbrev pub BareAreFirstColoured : Type 0
 BareAreFirstColoured =
-    (g : Problem) (round : Round) →
-    IsGraph g.graph →
-    AreNodes g →
-    IsRound g round →
+    OfEachRound
+    (λ g round.
     (x : ℕ) →
     IsTemporary g x →
     IsUntouched g x →
     ((y : ℕ) → y < g.graph.nodes → IsFalse (g.graph.pairs x y)) →
-    IsFirstColoured round x
+    IsFirstColoured round x)
 
 -- a spilled class is named once, by the node under which it stands
 pub record NamesClasses (round : Round) : Type 0 where
@@ -99,9 +91,4 @@ pub record NamesClasses (round : Round) : Type 0 where
   pub once : IsDistinct nat_eq round.spilled
 
 abbrev pub SpilledNameClasses : Type 0
-SpilledNameClasses =
-    (g : Problem) (round : Round) →
-    IsGraph g.graph →
-    AreNodes g →
-    IsRound g round →
-    NamesClasses round
+SpilledNameClasses = OfEachRound (λ g round. NamesClasses round)

@@ -22,6 +22,19 @@ use Rattle.tg_rounds.specs.Rounds.{IsRound}
 abbrev pub AreNodes : Problem → Type 0
 AreNodes g = All (λ m. (m.to < g.graph.nodes) × (m.from < g.graph.nodes)) g.moves
 
+-- what holds of every round on a graph between whose nodes the moves go
+abbrev pub OfEachRound : (Problem → Round → Type 0) → Type 0
+OfEachRound P =
+    (g : Problem) (round : Round) → IsGraph g.graph → AreNodes g → IsRound g round → P g round
+
+-- what each step keeps
+abbrev pub StepsKeep : (Problem → RoundState → Type 0) → Type 0
+StepsKeep P =
+    (g : Problem) (s : RoundState) (step : Step) →
+    P g s →
+    IsTrue (can g s step) →
+    P g (after g s step)
+
 -- Spills.
 
 abbrev pub is_spill : Step → Bool
@@ -74,29 +87,25 @@ MovesAreExplained =
 -- two nodes that interfere have two colours, where both have one
 abbrev pub ColoursDiffer : Type 0
 ColoursDiffer =
-    (g : Problem) (round : Round) →
-    IsGraph g.graph →
-    AreNodes g →
-    IsRound g round →
+    OfEachRound
+    (λ g round.
     (x y a b : ℕ) →
     x < g.graph.nodes →
     y < g.graph.nodes →
     IsTrue (g.graph.pairs x y) →
     slice_get round.colours x ≡ Some (Some a) →
     slice_get round.colours y ≡ Some (Some b) →
-    a ≢ b
+    a ≢ b)
 
 -- a register has its own colour
 abbrev pub RegistersAreColoured : Type 0
 RegistersAreColoured =
-    (g : Problem) (round : Round) →
-    IsGraph g.graph →
-    AreNodes g →
-    IsRound g round →
+    OfEachRound
+    (λ g round.
     (x : ℕ) →
     x < g.graph.nodes →
     IsTrue (is_register x) →
-    slice_get round.colours x ≡ Some (Some x)
+    slice_get round.colours x ≡ Some (Some x))
 
 abbrev pub ColoursAreRegisters : Type 0
 ColoursAreRegisters =
@@ -159,11 +168,7 @@ abbrev pub StartIsSound : Type 0
 StartIsSound = (g : Problem) → IsGraph g.graph → AreNodes g → IsSound g (start g)
 
 abbrev pub StepsKeepSound : Type 0
-StepsKeepSound =
-    (g : Problem) (s : RoundState) (step : Step) →
-    IsSound g s →
-    IsTrue (can g s step) →
-    IsSound g (after g s step)
+StepsKeepSound = StepsKeep IsSound
 
 -- where no temporary remains and no move can be settled, the round is over
 abbrev pub NothingLeftIsOver : Type 0
@@ -218,11 +223,7 @@ abbrev pub StartStandsWell : Type 0
 StartStandsWell = (g : Problem) → StandsWell g (start g)
 
 abbrev pub StepsKeepStanding : Type 0
-StepsKeepStanding =
-    (g : Problem) (s : RoundState) (step : Step) →
-    StandsWell g s →
-    IsTrue (can g s step) →
-    StandsWell g (after g s step)
+StepsKeepStanding = StepsKeep StandsWell
 
 -- so the mark of that temporary says whether it made all
 abbrev pub StandsByMark : Type 0

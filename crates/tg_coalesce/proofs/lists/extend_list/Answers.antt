@@ -1,5 +1,5 @@
 use Rattle.std.proofs.lemmas.Result.{err_from_is_err_and}
-use Rattle.tg_coalesce.proofs.Vectors.{lists_more, lists_same}
+use Rattle.tg_graph.proofs.Vectors.{lists_more, lists_same}
 use Rattle.tg_coalesce.proofs.lists.extend_list.Goals as goal
 
 pub returns-in_err-extend_from_slice-clause-err : goal.returns-in_err-extend_from_slice-clause-err

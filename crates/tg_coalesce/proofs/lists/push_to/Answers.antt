@@ -1,6 +1,6 @@
 use Rattle.std.proofs.Common.{[], ◌∷◌}
 use Rattle.std.proofs.lemmas.Result.{err_from_is_err_and}
-use Rattle.tg_coalesce.proofs.Vectors.{lists_more, lists_same}
+use Rattle.tg_graph.proofs.Vectors.{lists_more, lists_same}
 use Rattle.tg_coalesce.proofs.lists.push_to.Goals as goal
 
 pub returns-in_err-push-clause-err : goal.returns-in_err-push-clause-err

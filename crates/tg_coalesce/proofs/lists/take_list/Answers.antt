@@ -1,6 +1,6 @@
 use Rattle.std.proofs.Common.{ℕ, List, set, ap, ◌∙◌}
 use Rattle.tg_graph.specs.Keeping.{lists_of}
-use Rattle.tg_coalesce.proofs.Vectors.{lists_set}
+use Rattle.tg_graph.proofs.Vectors.{lists_set}
 use Rattle.tg_coalesce.proofs.lists.take_list.Goals as goal
 
 pub returns-clause-left : goal.returns-clause-left

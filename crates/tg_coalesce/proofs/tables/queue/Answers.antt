@@ -1,6 +1,6 @@
 use Rattle.std.proofs.Common.{◌≡◌, ◌∙◌, ap, arith}
 use Rattle.std.specs.List.{range_with_len}
-use Rattle.tg_coalesce.proofs.Vectors.{range_pushed}
+use Rattle.tg_graph.proofs.Runs.{range_pushed}
 use Rattle.tg_coalesce.proofs.tables.queue.Goals as goal
 
 pub loop-number-preserved : goal.loop-number-preserved

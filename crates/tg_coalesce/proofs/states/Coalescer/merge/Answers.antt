@@ -6,6 +6,20 @@ use Rattle.tg_coalesce.proofs.Edges.{passed_nodes}
 use Rattle.tg_coalesce.proofs.Folds.{fold_end, fold_next}
 use Rattle.tg_coalesce.proofs.Uniting.{as_one, awake_as, counted_there, list_there, nodes_there, others_differ, room_there}
 use Rattle.tg_coalesce.proofs.states.Coalescer.merge.Goals as goal
+use Rattle.tg_coalesce.proofs.states.Coalescer.merge.Goals.{After-neighbours}
+
+-- the neighbours that are read are those of the start
+neighbours_read : (c : After-neighbours) → c.neighbours.result.now ≡ neighbours c.args.self.now.graph c.args.gone
+neighbours_read c =
+    list_there c.args.kept c.args.gone c.args.self.now c.loop-place.invariant.merges c.loop-place.place _
+    (c.self-in-loop-place.view_is ∙ c.loop-place.invariant.so_far) c.neighbours.result.now c.neighbours.ensures.value
+
+-- and the next of them is a node
+other_below : (c : After-neighbours) →
+    get_or c.neighbours.result.now c.loop-place.place 0 < c.self-in-loop-place.inside.graph.nodes
+other_below c =
+    c.neighbours.ensures.within c.loop-place.place 0
+    (omega (arith, ap length (neighbours_read c), c.loop-place.invariant.size, c.loop-place-test.true))
 
 pub neighbours-requires-clause-node : goal.neighbours-requires-clause-node
 neighbours-requires-clause-node c =
@@ -15,9 +29,7 @@ neighbours-requires-clause-node c =
 
 pub bounds-neighbours-place : goal.bounds-neighbours-place
 bounds-neighbours-place c =
-    let here : c.neighbours.result.now ≡ neighbours c.args.self.now.graph c.args.gone =
-    list_there c.args.kept c.args.gone c.args.self.now c.loop-place.invariant.merges c.loop-place.place _
-    (c.self-in-loop-place.view_is ∙ c.loop-place.invariant.so_far) c.neighbours.result.now c.neighbours.ensures.value in
+    let here = neighbours_read (goal.at.bounds-neighbours-place c).After-neighbours in
     omega (arith, ap length here, c.loop-place.invariant.size, c.loop-place-test.true)
 
 pub pass_edge-requires-clause-kept : goal.pass_edge-requires-clause-kept
@@ -28,28 +40,19 @@ pass_edge-requires-clause-kept c =
 
 pub pass_edge-requires-clause-other : goal.pass_edge-requires-clause-other
 pass_edge-requires-clause-other c =
-    let here : c.neighbours.result.now ≡ neighbours c.args.self.now.graph c.args.gone =
-    list_there c.args.kept c.args.gone c.args.self.now c.loop-place.invariant.merges c.loop-place.place _
-    (c.self-in-loop-place.view_is ∙ c.loop-place.invariant.so_far) c.neighbours.result.now c.neighbours.ensures.value in
-    let below : get_or c.neighbours.result.now c.loop-place.place 0 < c.self-in-loop-place.inside.graph.nodes =
-    c.neighbours.ensures.within c.loop-place.place 0
-    (omega (arith, ap length here, c.loop-place.invariant.size, c.loop-place-test.true)) in
+    let below = other_below (goal.at.pass_edge-requires-clause-other c).After-neighbours in
     omega (arith, below, ap (λ (v : Work). v.graph.nodes) c.self-in-loop-place.view_is)
 
 pub pass_edge-requires-clause-differ : goal.pass_edge-requires-clause-differ
 pass_edge-requires-clause-differ c =
-    let here : c.neighbours.result.now ≡ neighbours c.args.self.now.graph c.args.gone =
-    list_there c.args.kept c.args.gone c.args.self.now c.loop-place.invariant.merges c.loop-place.place _
-    (c.self-in-loop-place.view_is ∙ c.loop-place.invariant.so_far) c.neighbours.result.now c.neighbours.ensures.value in
+    let here = neighbours_read (goal.at.pass_edge-requires-clause-differ c).After-neighbours in
     others_differ c.args.kept c.args.gone c.args.self.now c.loop-place.invariant.merges c.loop-place.place
     (get_or c.neighbours.result.now c.loop-place.place 0) (omega (arith, c.loop-place.invariant.size, c.loop-place-test.true))
     (ap (λ ys. get_or ys c.loop-place.place 0) here)
 
 pub pass_edge-requires-clause-counted : goal.pass_edge-requires-clause-counted
 pass_edge-requires-clause-counted c =
-    let here : c.neighbours.result.now ≡ neighbours c.args.self.now.graph c.args.gone =
-    list_there c.args.kept c.args.gone c.args.self.now c.loop-place.invariant.merges c.loop-place.place _
-    (c.self-in-loop-place.view_is ∙ c.loop-place.invariant.so_far) c.neighbours.result.now c.neighbours.ensures.value in
+    let here = neighbours_read (goal.at.pass_edge-requires-clause-counted c).After-neighbours in
     counted_there c.args.kept c.args.gone c.args.self.now c.loop-place.invariant.merges c.loop-place.place c.loop-place.self
     c.loop-place.invariant.so_far (get_or c.neighbours.result.now c.loop-place.place 0)
     (omega (arith, c.loop-place.invariant.size, c.loop-place-test.true)) (ap (λ ys. get_or ys c.loop-place.place 0) here)
@@ -61,12 +64,7 @@ pass_edge-requires-clause-room c =
 
 pub wake-requires : goal.wake-requires
 wake-requires c =
-    let here : c.neighbours.result.now ≡ neighbours c.args.self.now.graph c.args.gone =
-    list_there c.args.kept c.args.gone c.args.self.now c.loop-place.invariant.merges c.loop-place.place _
-    (c.self-in-loop-place.view_is ∙ c.loop-place.invariant.so_far) c.neighbours.result.now c.neighbours.ensures.value in
-    let below : get_or c.neighbours.result.now c.loop-place.place 0 < c.self-in-loop-place.inside.graph.nodes =
-    c.neighbours.ensures.within c.loop-place.place 0
-    (omega (arith, ap length here, c.loop-place.invariant.size, c.loop-place-test.true)) in
+    let below = other_below (goal.at.wake-requires c).After-neighbours in
     let passed : c.self-in-loop-place-2.inside.graph.nodes ≡ c.loop-place.self.graph.nodes =
     ap (λ (v : Work). v.graph.nodes) (c.self-in-loop-place-2.view_is ∙ c.in_ok-pass_edge.ensures)
     ∙ passed_nodes c.args.kept c.loop-place.self (get_or c.neighbours.result.now c.loop-place.place 0) in
@@ -83,9 +81,7 @@ loop-place-preserved c =
     let w = c.args.self.now in
     let k = c.loop-place.place in
     let z = get_or c.neighbours.result.now k 0 in
-    let here : c.neighbours.result.now ≡ neighbours c.args.self.now.graph c.args.gone =
-    list_there c.args.kept c.args.gone c.args.self.now c.loop-place.invariant.merges c.loop-place.place _
-    (c.self-in-loop-place.view_is ∙ c.loop-place.invariant.so_far) c.neighbours.result.now c.neighbours.ensures.value in
+    let here = neighbours_read (goal.at.loop-place-preserved c).After-neighbours in
     record {
       merges = c.loop-place.invariant.merges;
       size = c.loop-place.invariant.size;

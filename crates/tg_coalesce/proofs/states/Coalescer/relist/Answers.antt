@@ -1,6 +1,7 @@
 use Rattle.std.proofs.Common.{◌≡◌, true, sym, ap, ◌∙◌}
 use Rattle.tg_graph.specs.declared.worklists.Worklist.{Worklist}
 use Rattle.tg_graph.specs.Lists.{Lists, moved}
+use Rattle.tg_coalesce.specs.ShownWork.{work_of}
 use Rattle.tg_coalesce.specs.Works.{Work, is_open, list_of}
 use Rattle.tg_coalesce.proofs.AdvancingListing.{relisted_not, relisted_open}
 use Rattle.tg_coalesce.proofs.states.Coalescer.relist.Goals as goal
@@ -10,20 +11,11 @@ returns-then-is_open c =
     let w = c.args.self.now in
     let x = c.args.node in
     let i = c.self.inside in
-    let v : Work = record {
-      graph = i.graph;
-      lists = i.lists;
-      degrees = i.degrees.items;
-      classes = i.classes;
-      moves = i.moves;
-      stack = i.stack.items;
-      steps = i.steps.items;
-    } in
     let opened : is_open w x ≡ true = sym c.is_open.ensures ∙ c.if-is_open.true in
     let lists = c.move_to.ensures
     ∙ (ap (λ (k : Worklist). moved i.lists x k) c.list_of-list.ensures
     ∙ ap (λ (u : Work). moved u.lists x (list_of w x)) c.self.view_is) in
-    ap (λ (l : Lists). record v { lists = l }) lists
+    ap (λ (l : Lists). record (work_of i) { lists = l }) lists
     ∙ (ap (λ (u : Work). record u { lists = moved w.lists x (list_of w x) }) c.self.view_is
     ∙ sym (relisted_open x w opened))
 

@@ -1,5 +1,6 @@
 use Rattle.std.proofs.Common.{◌≡◌, ℕ, ap, ◌∙◌, arith}
 use Rattle.tg_graph.specs.Interference.{Interference}
+use Rattle.tg_coalesce.specs.ShownWork.{work_of}
 use Rattle.tg_coalesce.specs.Tables as tables
 use Rattle.tg_coalesce.specs.Tables.{Table}
 use Rattle.tg_coalesce.specs.Works.{Work, from, relisted, settled, to}
@@ -9,15 +10,7 @@ use Rattle.tg_coalesce.proofs.states.Coalescer.settle.Goals as goal
 pub relist-requires-2 : goal.relist-requires-2
 relist-requires-2 c =
     let i = c.self.inside in
-    let before : Work = record {
-      graph = i.graph;
-      lists = i.lists;
-      degrees = i.degrees.items;
-      classes = i.classes;
-      moves = c.settle.new.self;
-      stack = i.stack.items;
-      steps = i.steps.items;
-    } in
+    let before = record (work_of i) { moves = c.settle.new.self } in
     let same : c.relist.new.self.graph.nodes ≡ i.graph.nodes = ap (λ (u : Work). u.graph.nodes) c.relist.ensures
     ∙ ap (λ (g : Interference). g.nodes) (relisted_graph c.to-to.result before) in
     let nodes = ap (λ (u : Work). u.graph.nodes) c.self.view_is in
@@ -29,15 +22,7 @@ returns c =
     let w = c.args.self.now in
     let n = c.args.index in
     let i = c.self.inside in
-    let v : Work = record {
-      graph = i.graph;
-      lists = i.lists;
-      degrees = i.degrees.items;
-      classes = i.classes;
-      moves = i.moves;
-      stack = i.stack.items;
-      steps = i.steps.items;
-    } in
+    let v = work_of i in
     let x = c.to-to.ensures.value in
     let y = c.from-from.ensures.value in
     let t = tables.settled n c.args.state (to w n) (from w n) w.moves in

@@ -2,55 +2,52 @@ use Rattle.std.proofs.Common.{◌+◌, ◌<◌, length, sym, ap, ◌∙◌, subs
 use Rattle.tg_graph.specs.Interference.{Interference}
 use Rattle.tg_coalesce.specs.Works.{Work, awake_around}
 use Rattle.tg_coalesce.specs.Steps.{CanLose, given_up}
-use Rattle.tg_coalesce.proofs.Candidates.{candidate_read}
+use Rattle.tg_coalesce.proofs.Candidates.{IsCandidate, candidate_read}
 use Rattle.tg_coalesce.proofs.Counters.{has_neighbour, loses_alike}
 use Rattle.tg_coalesce.proofs.Stepping.{given_up_degrees, given_up_graph, given_up_left}
+use Rattle.tg_coalesce.proofs.states.Coalescer.spill.Given as given
 use Rattle.tg_coalesce.proofs.states.Coalescer.spill.Goals as goal
+use Rattle.tg_coalesce.proofs.states.Coalescer.spill.Goals.{After-index}
+
+-- the candidate that the policy chose
+chosen : (g : given.Over) (c : After-index g) → IsCandidate c.args.self.now (c.index.result.now.temp + 25)
+chosen g c =
+    candidate_read c.args.self.now c.in_ok-candidates.candidates.items c.choose-chosen.result c.index.result.now
+    c.in_ok-candidates.ensures (omega (arith, c.choose-chosen.ensures.0, ap length c.deref.ensures.value))
+    c.index.ensures
 
 pub overflow_add-node : goal.overflow_add-node
 overflow_add-node g c =
-    let node = candidate_read c.args.self.now c.in_ok-candidates.candidates.items c.choose-chosen.result c.index.result.now
-    c.in_ok-candidates.ensures (omega (arith, c.choose-chosen.ensures.0, ap length c.deref.ensures.value))
-    c.index.ensures in
-    omega (arith, node.node, c.requires.orderly.few)
+    omega (arith, (chosen g (goal.at.overflow_add-node g c).After-index).node, c.requires.orderly.few)
 
 pub freeze_moves-requires-clause-class : goal.freeze_moves-requires-clause-class
 freeze_moves-requires-clause-class g c =
-    let node = candidate_read c.args.self.now c.in_ok-candidates.candidates.items c.choose-chosen.result c.index.result.now
-    c.in_ok-candidates.ensures (omega (arith, c.choose-chosen.ensures.0, ap length c.deref.ensures.value))
-    c.index.ensures in
-    node.node
+    (chosen g (goal.at.freeze_moves-requires-clause-class g c).After-index).node
 
 pub wake_around-requires-clause-node : goal.wake_around-requires-clause-node
 wake_around-requires-clause-node g c =
     let w = c.args.self.now in
     let x = c.index.result.now.temp + 25 in
-    let node = candidate_read c.args.self.now c.in_ok-candidates.candidates.items c.choose-chosen.result c.index.result.now
-    c.in_ok-candidates.ensures (omega (arith, c.choose-chosen.ensures.0, ap length c.deref.ensures.value))
-    c.index.ensures in
     let same = ap (λ (v : Work). v.graph) c.freeze_moves.ensures ∙ given_up_graph x w in
-    subst (λ (h : Interference). x < h.nodes) (sym same) node.node
+    subst (λ (h : Interference). x < h.nodes) (sym same)
+    (chosen g (goal.at.wake_around-requires-clause-node g c).After-index).node
 
 pub take_out-requires-clause-node : goal.take_out-requires-clause-node
 take_out-requires-clause-node g c =
     let w = c.args.self.now in
     let x = c.index.result.now.temp + 25 in
-    let node = candidate_read c.args.self.now c.in_ok-candidates.candidates.items c.choose-chosen.result c.index.result.now
-    c.in_ok-candidates.ensures (omega (arith, c.choose-chosen.ensures.0, ap length c.deref.ensures.value))
-    c.index.ensures in
     let same =
     ap (λ (v : Work). v.graph) c.in_ok-wake_around.ensures
     ∙ (ap (λ (v : Work). v.graph) c.freeze_moves.ensures ∙ given_up_graph x w) in
-    subst (λ (h : Interference). x < h.nodes) (sym same) node.node
+    subst (λ (h : Interference). x < h.nodes) (sym same)
+    (chosen g (goal.at.take_out-requires-clause-node g c).After-index).node
 
 pub take_out-requires-clause-counted : goal.take_out-requires-clause-counted
 take_out-requires-clause-counted g c =
     let w = c.args.self.now in
     let o = c.requires.orderly in
     let x = c.index.result.now.temp + 25 in
-    let node = candidate_read c.args.self.now c.in_ok-candidates.candidates.items c.choose-chosen.result c.index.result.now
-    c.in_ok-candidates.ensures (omega (arith, c.choose-chosen.ensures.0, ap length c.deref.ensures.value))
-    c.index.ensures in
+    let node = chosen g (goal.at.take_out-requires-clause-counted g c).After-index in
     let loses : CanLose w x = λ z. has_neighbour w x z o.graph o.degrees node.temporary node.node node.left in
     subst (λ (v : Work). CanLose v x)
     (sym (c.in_ok-wake_around.ensures ∙ ap (λ (v : Work). awake_around x v) c.freeze_moves.ensures))

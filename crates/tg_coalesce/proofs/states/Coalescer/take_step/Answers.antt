@@ -1,8 +1,26 @@
-use Rattle.std.proofs.Common.{◌≡◌, true, false, None, slice_get, refl, sym, ap, ◌∙◌, rules, arith}
+use Rattle.std.proofs.Common.{◌≡◌, true, false, [], None, slice_get, refl, sym, ap, ◌∙◌, rules, arith}
 use Rattle.std.specs.Option.{is_some}
 use Rattle.tg_coalesce.specs.Works.{Work}
 use Rattle.tg_coalesce.proofs.Conditions.{first_simplify, freeze_progresses, neighbours_counted, no_spill, none_first, nothing_left, simplify_progresses, spill_candidate, spill_progresses, temporary_of, try_progresses}
+use Rattle.tg_coalesce.proofs.states.Coalescer.take_step.Given as given
 use Rattle.tg_coalesce.proofs.states.Coalescer.take_step.Goals as goal
+use Rattle.tg_coalesce.proofs.states.Coalescer.take_step.Goals.{After-first-2, After-first-3, After-first_ready}
+
+-- where the code goes on, the lists that it asked for are empty
+none_simple : (g : given.Over) (c : After-first_ready g) → c.args.self.now.lists.simplify ≡ []
+none_simple g c =
+    let none : None ≡ slice_get c.self.inside.lists.simplify 0 = first_of (search rules, cc, grind arith) in
+    none_first _ (none ∙ ap (λ (v : Work). slice_get v.lists.simplify 0) c.self.view_is)
+
+none_ready : (g : given.Over) (c : After-first-2 g) → c.args.self.now.moves.ready ≡ []
+none_ready g c =
+    let none : None ≡ slice_get c.self.inside.moves.ready 0 = first_of (search rules, cc, grind arith) in
+    none_first _ (none ∙ ap (λ (v : Work). slice_get v.moves.ready 0) c.self.view_is)
+
+none_cold : (g : given.Over) (c : After-first-3 g) → c.args.self.now.lists.freeze ≡ []
+none_cold g c =
+    let none : None ≡ slice_get c.self.inside.lists.freeze 0 = first_of (search rules, cc, grind arith) in
+    none_first _ (none ∙ ap (λ (v : Work). slice_get v.lists.freeze 0) c.self.view_is)
 
 pub simplify-requires-clause-temporary : goal.simplify-requires-clause-temporary
 simplify-requires-clause-temporary g c =
@@ -26,8 +44,7 @@ returns-in-Some-clause-more g c =
 pub returns-in-Some-first_ready-clause-more : goal.returns-in-Some-first_ready-clause-more
 returns-in-Some-first_ready-clause-more g c =
     let w = c.args.self.now in
-    let none : None ≡ slice_get c.self.inside.lists.simplify 0 = first_of (search rules, cc, grind arith) in
-    let empty = none_first w.lists.simplify (none ∙ ap (λ (v : Work). slice_get v.lists.simplify 0) c.self.view_is) in
+    let empty = none_simple g (goal.at.returns-in-Some-first_ready-clause-more g c).After-first_ready in
     let at = c.in-Some-first_ready in
     let first = sym (at.ensures.value ∙ ap (λ (v : Work). slice_get v.moves.ready 0) c.self.view_is) in
     λ t. try_progresses _ w c.try_move.new.self c.requires empty at.index first c.in_ok-try_move.ensures
@@ -35,10 +52,8 @@ returns-in-Some-first_ready-clause-more g c =
 pub returns-in-Some-first-clause-more : goal.returns-in-Some-first-clause-more
 returns-in-Some-first-clause-more g c =
     let w = c.args.self.now in
-    let none : None ≡ slice_get c.self.inside.lists.simplify 0 = first_of (search rules, cc, grind arith) in
-    let empty = none_first w.lists.simplify (none ∙ ap (λ (v : Work). slice_get v.lists.simplify 0) c.self.view_is) in
-    let tried : None ≡ slice_get c.self.inside.moves.ready 0 = first_of (search rules, cc, grind arith) in
-    let settled = none_first w.moves.ready (tried ∙ ap (λ (v : Work). slice_get v.moves.ready 0) c.self.view_is) in
+    let empty = none_simple g (goal.at.returns-in-Some-first-clause-more g c).After-first_ready in
+    let settled = none_ready g (goal.at.returns-in-Some-first-clause-more g c).After-first-2 in
     let at = c.in-Some-first in
     let first = sym (at.ensures.value ∙ ap (λ (v : Work). slice_get v.lists.freeze 0) c.self.view_is) in
     λ t. freeze_progresses _ w c.freeze.new.self c.requires empty settled at.node first c.in_ok-freeze.ensures
@@ -52,24 +67,18 @@ spill-requires-clause-some g c =
 pub returns-then-is_some-clause-more : goal.returns-then-is_some-clause-more
 returns-then-is_some-clause-more g c =
     let w = c.args.self.now in
-    let none : None ≡ slice_get c.self.inside.lists.simplify 0 = first_of (search rules, cc, grind arith) in
-    let empty = none_first w.lists.simplify (none ∙ ap (λ (v : Work). slice_get v.lists.simplify 0) c.self.view_is) in
-    let tried : None ≡ slice_get c.self.inside.moves.ready 0 = first_of (search rules, cc, grind arith) in
-    let settled = none_first w.moves.ready (tried ∙ ap (λ (v : Work). slice_get v.moves.ready 0) c.self.view_is) in
-    let cold : None ≡ slice_get c.self.inside.lists.freeze 0 = first_of (search rules, cc, grind arith) in
-    let frozen = none_first w.lists.freeze (cold ∙ ap (λ (v : Work). slice_get v.lists.freeze 0) c.self.view_is) in
+    let empty = none_simple g (goal.at.returns-then-is_some-clause-more g c).After-first_ready in
+    let settled = none_ready g (goal.at.returns-then-is_some-clause-more g c).After-first-2 in
+    let frozen = none_cold g (goal.at.returns-then-is_some-clause-more g c).After-first-3 in
     let chosen = c.in_ok-spill.ensures.spilled in
     λ t. spill_progresses _ w c.spill.new.self c.requires empty settled frozen chosen.0 chosen.1 chosen.2 chosen.3
 
 pub returns-clause-done : goal.returns-clause-done
 returns-clause-done g c =
     let w = c.args.self.now in
-    let none : None ≡ slice_get c.self.inside.lists.simplify 0 = first_of (search rules, cc, grind arith) in
-    let empty = none_first w.lists.simplify (none ∙ ap (λ (v : Work). slice_get v.lists.simplify 0) c.self.view_is) in
-    let tried : None ≡ slice_get c.self.inside.moves.ready 0 = first_of (search rules, cc, grind arith) in
-    let settled = none_first w.moves.ready (tried ∙ ap (λ (v : Work). slice_get v.moves.ready 0) c.self.view_is) in
-    let cold : None ≡ slice_get c.self.inside.lists.freeze 0 = first_of (search rules, cc, grind arith) in
-    let frozen = none_first w.lists.freeze (cold ∙ ap (λ (v : Work). slice_get v.lists.freeze 0) c.self.view_is) in
+    let empty = none_simple g (goal.at.returns-clause-done g c).After-first_ready in
+    let settled = none_ready g (goal.at.returns-clause-done g c).After-first-2 in
+    let frozen = none_cold g (goal.at.returns-clause-done g c).After-first-3 in
     let nowhere : false ≡ is_some c.first-3.result = first_of (search rules, cc, grind arith) in
     let kept = no_spill c.first-3.result w.lists.spill
     (c.first-3.ensures.value ∙ ap (λ (v : Work). slice_get v.lists.spill 0) c.self.view_is) nowhere in

@@ -4,20 +4,9 @@ use Rattle.tg_graph.specs.Interference.{Interference, neighbours}
 use Rattle.tg_coalesce.specs.declared.states.Coalescer.TheInside.{Inside}
 use Rattle.tg_coalesce.specs.Standing.{IsSized}
 use Rattle.tg_coalesce.specs.Tables.{Table, woken}
-use Rattle.tg_coalesce.specs.Works.{Work}
+use Rattle.tg_coalesce.specs.ShownWork.{work_of}
 use Rattle.tg_coalesce.proofs.Tabling.{all_woken_touching}
 use Rattle.tg_coalesce.proofs.states.Coalescer.wake_around.Goals as goal
-
-abbrev view : Inside → Work
-view i = record {
-  graph = i.graph;
-  lists = i.lists;
-  degrees = i.degrees.items;
-  classes = i.classes;
-  moves = i.moves;
-  stack = i.stack.items;
-  steps = i.steps.items;
-}
 
 -- what woken moves leave as it was
 woken_from : (i j : Inside) (n : ℕ) (xs : List ℕ) →
@@ -26,10 +15,10 @@ woken_from : (i j : Inside) (n : ℕ) (xs : List ℕ) →
 woken_from i j n xs e = ap (λ (s : Inside). s.moves.touching) e ∙ all_woken_touching (take n xs) i.moves
 
 -- other moves of as many classes
-sized_at : (i j : Inside) (t u : Table) → j ≡ record i { moves = u } → IsSized (view i) →
+sized_at : (i j : Inside) (t u : Table) → j ≡ record i { moves = u } → IsSized (work_of i) →
     length t.touching ≡ length i.moves.touching →
-    IsSized (record (view j) { moves = t })
-sized_at i j t u e k h = subst (λ (s : Inside). IsSized (record (view s) { moves = t })) (sym e) (record {
+    IsSized (record (work_of j) { moves = t })
+sized_at i j t u e k h = subst (λ (s : Inside). IsSized (record (work_of s) { moves = t })) (sym e) (record {
   lists = k.lists;
   degrees = k.degrees;
   classes = k.classes;

@@ -1,6 +1,6 @@
 use Rattle.std.proofs.Common.{◌≡◌, length, refl, ap, ◌∙◌, arith}
-use Rattle.tg_graph.specs.Keeping.{lists_of}
 use Rattle.tg_coalesce.specs.Lists.{moved_sum}
+use Rattle.tg_coalesce.specs.ShownMoves.{table_of}
 use Rattle.tg_coalesce.specs.Tables.{Table, joined}
 use Rattle.tg_coalesce.proofs.Listing.{length_moved_sum}
 use Rattle.tg_coalesce.proofs.Tabling.{joined_table, same_table}
@@ -10,13 +10,7 @@ use Rattle.tg_coalesce.proofs.tables.MoveTable.join.Goals as goal
 pub invariant_of-self-2 : goal.invariant_of-self-2
 invariant_of-self-2 c =
     let i = c.self.inside in
-    let t : Table = record {
-      moves = i.moves.items;
-      states = i.states.items;
-      ready = i.ready.items;
-      touching = lists_of i.touching.items;
-      unsettled = i.unsettled.items;
-    } in
+    let t = table_of i in
     let size = ap (λ (v : Table). length v.touching) c.self.view_is in
     let now = joined_table t c.self.invariant c.args.kept c.args.gone (omega (arith, size, c.requires.kept))
     (omega (arith, size, c.requires.gone)) in

@@ -1,6 +1,6 @@
 use Rattle.std.proofs.Common.{◌≡◌}
 use Rattle.std.specs.List.{range_with_len}
-use Rattle.tg_coalesce.proofs.lists.numbers.Given as goal
+use Rattle.tg_graph.proofs.lists.numbers.Given as goal
 
 abbrev pub invariant-loop-number : goal.invariant-loop-number
 invariant-loop-number l = l.list.items ≡ range_with_len 0 l.number

@@ -1,7 +1,7 @@
-use Rattle.std.proofs.Common.{◌≡◌, ◌∙◌, ap, arith}
+use Rattle.std.proofs.Common.{◌≡◌, ap, ◌∙◌, arith}
 use Rattle.std.specs.List.{range_with_len}
-use Rattle.tg_coalesce.proofs.Vectors.{range_pushed}
-use Rattle.tg_coalesce.proofs.lists.numbers.Goals as goal
+use Rattle.tg_graph.proofs.Runs.{range_pushed}
+use Rattle.tg_graph.proofs.lists.numbers.Goals as goal
 
 pub loop-number-preserved : goal.loop-number-preserved
 loop-number-preserved c =
