@@ -1,16 +1,16 @@
 -- The required arguments of the simple command have values.
-use Rattle.std.proofs.Common.{◌≡◌, ◌∙◌, ◌<◌, ℕ, zero, suc, List, [], ◌∷◌, true, false, refl, sym, ap, subst, arith, codes, length, is_some, inl, inr, slice_index}
+use Rattle.std.proofs.Common.{◌≡◌, ◌∙◌, ◌<◌, ℕ, zero, suc, List, [], ◌∷◌, false, refl, sym, ap, subst, arith, codes, length, inl, inr, slice_index}
 use Rattle.std.specs.List.{All, slice_index_or, position_or_len}
 use Rattle.std.specs.Str.{bytes_eq}
 use Rattle.std.proofs.lemmas.Slice.Eq.{bytes_eq-Decides}
-use Rattle.clap.specs.Words.{AddsArg, AddsInTurn, IsParsedFrom, Rule, Text, args_of, first_value, found_of, groups_of}
+use Rattle.clap.specs.Words.{AddsArg, AddsInTurn, IsParsedFrom, Rule, Text, args_of, groups_of}
 use Rattle.clap.specs.Built.{FitsChain, HasDistinctIds, TakesValue}
 use Rattle.clap.specs.declared.builder.arg.Arg.{Arg}
 use Rattle.clap.specs.declared.builder.command.Command.{Command}
 use Rattle.clap.specs.declared.builder.command.Command.TheViews.{out-Command as fields_of}
 use Rattle.clap.specs.declared.parser.matches.ArgMatches.{ArgMatches}
 use Rattle.clap.proofs.CallerLemmas.{required_in_chain}
-use Rattle.tg_command.specs.Simple.{IsArgument, positional, option}
+use Rattle.tg_command.specs.Simple.{IsArgument, IsGiven, positional, option}
 
 -- the names of the arguments
 abbrev names : List Text
@@ -68,10 +68,9 @@ module _ (a b d e f : Arg) (is_a : IsArgument (positional (codes "mode")) a) (is
     takes : (name : Text) (x : Arg) → IsArgument (positional name) x → TakesValue x
     takes name x h = (ap (λ (r : Rule). r.required) h.rule_is, ap (λ (r : Rule). r.action) h.rule_is, h.undivided, h.filled)
 
-    pub mode_given : is_some (first_value (found_of m) (codes "mode")) ≡ true
-    mode_given = subst (λ t. is_some (first_value (found_of m) t) ≡ true) (id_is _ a is_a)
-        (required_in_chain start cmd chain 0 a m adds args groups globals negates all_fit distinct (omega arith) (takes _ a is_a) parsed)
+    given : (k : ℕ) (name : Text) (x : Arg) → k < length chain → slice_index_or chain k x ≡ x → IsArgument (positional name) x → IsGiven name m
+    given k name x low at is = subst (λ t. IsGiven t m) (ap (λ (y : Arg). y.id.now) at ∙ id_is _ x is)
+        (required_in_chain start cmd chain k x m adds args groups globals negates all_fit distinct low (subst TakesValue (sym at) (takes name x is)) parsed)
 
-    pub file_given : is_some (first_value (found_of m) (codes "file")) ≡ true
-    file_given = subst (λ t. is_some (first_value (found_of m) t) ≡ true) (id_is _ b is_b)
-        (required_in_chain start cmd chain 1 a m adds args groups globals negates all_fit distinct (omega arith) (takes _ b is_b) parsed)
+    pub required_given : IsGiven (codes "mode") m × IsGiven (codes "file") m
+    required_given = (given 0 (codes "mode") a (omega arith) refl is_a, given 1 (codes "file") b (omega arith) refl is_b)

@@ -46,7 +46,12 @@ pub record IsArgument (rule : Rule) (a : Arg) : Type 0 where
   pub undivided : a.val_delim ≡ None
   pub filled : 1 ≤ least_values a
 
--- where the command takes words, they give a value to the argument
-abbrev pub Requires : Command → Text → Type 0
-Requires command name =
-    (m : ArgMatches) → IsParsedFrom command m → is_some (first_value (found_of m) name) ≡ true
+-- the words that were parsed give a value to the argument
+abbrev pub IsGiven : Text → ArgMatches → Type 0
+IsGiven name m = is_some (first_value (found_of m) name) ≡ true
+
+-- where the command takes words, they give values to the arguments that must be there
+abbrev pub GivesRequired : Command → Type 0
+GivesRequired command =
+    (m : ArgMatches) → IsParsedFrom command m →
+    IsGiven (codes "mode") m × IsGiven (codes "file") m

@@ -1,8 +1,8 @@
-ghost use Rattle.std.specs.Prelude.{◌≡◌, ◌≢◌, IfOk, codes, map, string_bytes};
+ghost use Rattle.std.specs.Prelude.{◌≡◌, ◌≢◌, IfOk, map, string_bytes};
 ghost use Rattle.clap.specs.Words.{app_of, kind_of};
 ghost use Rattle.tg_command.specs.Simple as specs;
 ghost use Rattle.tg_command.specs.Values.{AreValuesOf};
-ghost use Rattle.tg_command.specs.Simple.{IsArgument, IsTaken, Requires, simple_command};
+ghost use Rattle.tg_command.specs.Simple.{GivesRequired, IsArgument, IsTaken, simple_command};
 
 use crate::CommandFault;
 use clap::error::ErrorKind;
@@ -36,8 +36,7 @@ fn option<'a>(alloc: Global, name: &'a str) -> Arg<'a>
 // The simple command.
 fn command<'a>(alloc: Global) -> Result<Command<'a>, AllocError>
     ensures app { IfOk result (λ c. app_of c ≡ simple_command) }
-    ensures mode { IfOk result (λ c. Requires c (codes "mode")) }
-    ensures file { IfOk result (λ c. Requires c (codes "file")) }
+    ensures required { IfOk result (λ c. GivesRequired c) }
 {
     Command::new(alloc, "tiger")
         .disable_help_flag(true)

@@ -53,7 +53,8 @@ fn function(alloc: Global, i: u32, before: u32) -> Result<String, AllocError>
         ++ codes "(b)) - a end\n")))))) }
 {
     format!(in alloc;
-        "function f{i}(a: int): int = let var b := a + {i} function g(c: int): int = (s := s + c; b + c) in g(f{before}(b)) - a end\n"
+        "function f{i}(a: int): int = let var b := a + {i} \
+         function g(c: int): int = (s := s + c; b + c) in g(f{before}(b)) - a end\n"
     )
 }
 

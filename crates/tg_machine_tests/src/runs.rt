@@ -15,20 +15,27 @@ const ENDS: [&str; 48] = [
     "BadService(99)|main: li $v0, 99\nsyscall",
     "Break(1048575)|main: break 1048575",
     "Unaligned(2147483646)|main: lw $t0, 2($sp)",
-    "Exit(77)|main: addiu $sp, $sp, -4\nli $t0, 77\nsw $t0, 0($sp)\nlw $a0, 0($sp)\nli $v0, 17\nsyscall",
+    "Exit(77)|main: addiu $sp, $sp, -4\nli $t0, 77\nsw $t0, 0($sp)\n\
+     lw $a0, 0($sp)\nli $v0, 17\nsyscall",
     "StackFull|main: addiu $sp, $sp, -68\nsw $t0, 0($sp)",
     "HeapFull|main: li $a0, 17\nli $v0, 9\nsyscall",
-    "Exit(99)|main: li $a0, 13\nli $v0, 9\nsyscall\nli $t0, 99\nsw $t0, 12($v0)\nlui $t1, 0x1100\nlw $a0, 12($t1)\nli $v0, 17\nsyscall",
+    "Exit(99)|main: li $a0, 13\nli $v0, 9\nsyscall\nli $t0, 99\n\
+     sw $t0, 12($v0)\nlui $t1, 0x1100\nlw $a0, 12($t1)\nli $v0, 17\nsyscall",
     // quotients and bytes
-    "Exit(-2147483648)|main: lui $t0, 0x8000\nli $t1, -1\ndiv $t0, $t1\nmflo $a0\nli $v0, 17\nsyscall",
-    "Exit(-3)|main: li $t0, -7\nli $t1, 4\ndiv $t0, $t1\ndiv $t0, $zero\nmfhi $a0\nli $v0, 17\nsyscall",
-    "Exit(-128)|.data\nm: .byte 1, 2\n.text\nmain: la $t0, m\nli $t1, 0x0180\nsb $t1, 1($t0)\nlb $a0, 1($t0)\nli $v0, 17\nsyscall",
+    "Exit(-2147483648)|main: lui $t0, 0x8000\nli $t1, -1\ndiv $t0, $t1\nmflo $a0\n\
+     li $v0, 17\nsyscall",
+    "Exit(-3)|main: li $t0, -7\nli $t1, 4\ndiv $t0, $t1\ndiv $t0, $zero\n\
+     mfhi $a0\nli $v0, 17\nsyscall",
+    "Exit(-128)|.data\nm: .byte 1, 2\n.text\nmain: la $t0, m\nli $t1, 0x0180\n\
+     sb $t1, 1($t0)\nlb $a0, 1($t0)\nli $v0, 17\nsyscall",
     "Exit(128)|main: li $t1, 0x0180\nsb $t1, -1($sp)\nlbu $a0, -1($sp)\nli $v0, 17\nsyscall",
-    "Exit(67305985)|.data\nm: .byte 1, 2, 3, 4\n.text\nmain: la $t0, m\nlw $a0, 0($t0)\nli $v0, 17\nsyscall",
+    "Exit(67305985)|.data\nm: .byte 1, 2, 3, 4\n.text\nmain: la $t0, m\n\
+     lw $a0, 0($t0)\nli $v0, 17\nsyscall",
     "Exit(3)|main: li $t1, 0x01020304\nsw $t1, -4($sp)\nlbu $a0, -3($sp)\nli $v0, 17\nsyscall",
     // jumps and branches
     "Exit(9)|main: jal f\nor $a0, $t0, $zero\nli $v0, 17\nsyscall\nf: li $t0, 9\njr $ra",
-    "Exit(3)|main: li $t0, 3\na: addiu $a0, $a0, 1\naddi $t0, $t0, -1\nbgtz $t0, a\nbltz $t0, a\nli $v0, 17\nsyscall",
+    "Exit(3)|main: li $t0, 3\na: addiu $a0, $a0, 1\naddi $t0, $t0, -1\n\
+     bgtz $t0, a\nbltz $t0, a\nli $v0, 17\nsyscall",
     "Exit(0)|main: jr $ra",
     "Unaligned(2)|main: li $t0, 2\njr $t0",
     "BadAddress(4194300)|main: lui $t0, 0x003f\nori $t0, $t0, 0xfffc\njr $t0",

@@ -247,8 +247,11 @@ static IMAGES: [&str; 33] = [
     "400000: 00000000 / 61 00|main: nop\n.data\n.asciiz \"a\" # \"b\"",
     "400000: 00000000 / c3 a9 00|main: nop\n.data\n.asciiz \"\u{e9}\"",
     "400000: 3c081001 35080001 / 01|main: la $t0, end\n.data\n.byte 1\nend:",
-    "400000: 3c041001 34840000 24020004 0000000c 24040007 24020011 0000000c / 68 69 00|.data\nm: .asciiz \"hi\"\n.text\nmain: la $a0, m\nli $v0, 4\nsyscall\nli $a0, 7\nli $v0, 17\nsyscall",
-    "400000: 0000000c 08100000 / 01 00 00 00 0c 00 01 10 00 00 40 00 02|x: main: syscall\n.data\n.byte 1\n.word y, x\ny: .text\nj x\n.data\n.byte 2",
+    "400000: 3c041001 34840000 24020004 0000000c 24040007 24020011 0000000c / 68 69 00|\
+     .data\nm: .asciiz \"hi\"\n.text\nmain: la $a0, m\nli $v0, 4\nsyscall\n\
+     li $a0, 7\nli $v0, 17\nsyscall",
+    "400000: 0000000c 08100000 / 01 00 00 00 0c 00 01 10 00 00 40 00 02|x: main: syscall\n.data\n\
+     .byte 1\n.word y, x\ny: .text\nj x\n.data\n.byte 2",
 ];
 
 /// What a text is, in the words of the tables.

@@ -117,7 +117,8 @@ static GRAMMAR_FAULTS: [&str; 47] = [
 
 // The same of a fault of types.
 static TYPE_FAULTS: [&str; 156] = [
-    "1:67: T6 type mismatch|let type a={x:int} type b={x:int} var p:a:=nil var q:b:=nil in p:=q end",
+    "1:67: T6 type mismatch|let type a={x:int} type b={x:int} var p:a:=nil var q:b:=nil \
+     in p:=q end",
     "1:10: T19 type cycle|let type a=b type b=a in end",
     "1:18: T15 loop variable assigned|for i:=0 to 1 do i:=2",
     "1:35: T15 loop variable assigned|for i:=0 to 1 do let function f()=i:=2 in f() end",

@@ -15,7 +15,8 @@ static PROGRAMS: [&str; 36] = [
     "0 |..|for i:=-2147483647-1 to -2147483647 do print(\".\")",
     "0 ||for i:=3 to 2 do print(\".\")",
     "110 overflow||let var m:=-2147483647-1 in if m/(-1)=m then print(\"w\") end",
-    "16 ||let function a(n:int):int = let var v:=n function b(k:int) = let function c() = v:=v+k in c(); if k>1 then b(k-1) end in b(3); v end in exit(a(10)) end",
+    "16 ||let function a(n:int):int = let var v:=n function b(k:int) = \
+     let function c() = v:=v+k in c(); if k>1 then b(k-1) end in b(3); v end in exit(a(10)) end",
     "109 step limit||while 1 do ()",
     "0 |xyz|let var c:=getchar() in while c<>\"\" do (print(c); c:=getchar()) end",
     "0 |b|if 1 then if 0 then print(\"a\") else print(\"b\")",
@@ -29,10 +30,12 @@ static PROGRAMS: [&str; 36] = [
     "11 ||let type r={f:int} var a:=r{f=1} function g():int=(a.f:=5; 10) in exit(a.f+g()) end",
     "120 ||let function f(n:int):int=if n=0 then 1 else n*f(n-1) in exit(f(5)) end",
     "15 ||let function f(a:int,b:int,c:int,d:int,e:int):int=a+b+c+d+e in exit(f(1,2,3,4,5)) end",
-    "21 ||let function f(a:int,b:int,c:int,d:int,e:int,g:int):int=a+b+c+d+e+g in exit(f(1,2,3,4,5,6)) end",
+    "21 ||let function f(a:int,b:int,c:int,d:int,e:int,g:int):int=a+b+c+d+e+g \
+     in exit(f(1,2,3,4,5,6)) end",
     "6 ||let var s:=0 in for i:=1 to 3 do s:=s+i; exit(s) end",
     "5 ||let type l={h:int,t:l} var a:=l{h=2,t=l{h=3,t=nil}} in exit(a.h+a.t.h) end",
-    "7 ||let type t=array of int type u=array of t var a:=u[2] of t[2] of 3 in a[1][0]:=4; exit(a[0][0]+a[0][1]) end",
+    "7 ||let type t=array of int type u=array of t var a:=u[2] of t[2] of 3 in a[1][0]:=4; \
+     exit(a[0][0]+a[0][1]) end",
     "1 ||let var x:=1 in (let var x:=2 in x end); exit(x) end",
     "0 |no|if not(1) then print(\"yes\") else print(\"no\")",
     "120 ||exit(ord(getchar()))",

@@ -11,7 +11,8 @@ static ENDS: [&str; 44] = [
     "7 ||main: li $a0, 7\nli $v0, 17\nsyscall\n",
     "255 ||main: li $a0, -1\nli $v0, 17\nsyscall\n",
     "44 ||main: li $a0, 300\nli $v0, 17\nsyscall\n",
-    "7 |hi|.data\nm: .asciiz \"hi\"\n.text\nmain: la $a0, m\nli $v0, 4\nsyscall\nli $a0, 7\nli $v0, 17\nsyscall\n",
+    "7 |hi|.data\nm: .asciiz \"hi\"\n.text\nmain: la $a0, m\nli $v0, 4\nsyscall\n\
+     li $a0, 7\nli $v0, 17\nsyscall\n",
     "0 |-5|main: li $a0, -5\nli $v0, 1\nsyscall\njr $ra\n",
     "0 |A|main: li $a0, 65\nli $v0, 11\nsyscall\njr $ra\n",
     "0 |x|main: li $v0, 12\nsyscall\naddu $a0, $v0, $zero\nli $v0, 11\nsyscall\njr $ra\n",

@@ -94,8 +94,8 @@ static REFUSED: [&str; 85] = [
     "tiger|Exec|FILE",
 ];
 
-// A status, a blank, and a command line that has it, where FILE holds `exit(7)` and the output takes
-// 64 bytes.
+// A status, a blank, and a command line that has it, where FILE holds `exit(7)` and the output
+// takes 64 bytes.
 static LINES: [&str; 37] = [
     "7 tiger|run|FILE",
     "7 |run|FILE",
@@ -161,7 +161,8 @@ static TAKEN: [&str; 25] = [
     "run 8 67108864 1000000000 a|tiger|--heap|8|run|a",
     "run 8 67108864 1000000000 a|tiger|run|--heap=8|a",
     "check 4 65536 1 a|tiger|--steps=1|check|--stack|65536|a|--heap=4",
-    "run 268435456 268435456 4611686018427387904 a|tiger|run|a|--heap|268435456|--stack|268435456|--steps|4611686018427387904",
+    "run 268435456 268435456 4611686018427387904 a|tiger|run|a|--heap|268435456\
+     |--stack|268435456|--steps|4611686018427387904",
     "run 12 67108864 7 a|tiger|run|a|--heap|00000000000000000012|--steps|07",
     "check 16777216 67108864 7 a|tiger|check|a|--steps|7",
 ];

@@ -7,7 +7,8 @@ use tg_types::check;
 // A text, and the bytes at which the variables are declared that escape.
 static ESCAPING: [(&str, &[u32]); 9] = [
     (
-        "let function a(n:int):int = let var v:=n function b(k:int) = let function c() = v:=v+k in c(); if k>1 then b(k-1) end in b(3); v end in exit(a(10)) end",
+        "let function a(n:int):int = let var v:=n function b(k:int) = let function c() = v:=v+k \
+         in c(); if k>1 then b(k-1) end in b(3); v end in exit(a(10)) end",
         &[36, 52],
     ),
     ("exit(3)", &[]),
@@ -79,11 +80,13 @@ static LINKING: [(&str, &[u32]); 8] = [
         &[],
     ),
     (
-        "let var x:=1 function f()=let function g()=let function h()=x:=2 in h() end in g() end in f() end",
+        "let var x:=1 function f()=let function g()=let function h()=x:=2 in h() end \
+         in g() end in f() end",
         &[22, 39],
     ),
     (
-        "let function f(n:int)=let function g()=let function h()=exit(n) in h() end in g() end in f(1) end",
+        "let function f(n:int)=let function g()=let function h()=exit(n) in h() end \
+         in g() end in f(1) end",
         &[35],
     ),
     (

@@ -1,5 +1,5 @@
-//! Tests of calls that several crates make up, one file a subject, and nothing but tests. They stand apart from the
-//! crates that they call, since a crate with tests is proved twice.
+//! Tests of calls that several crates make up, one file a subject, and nothing but tests. They
+//! stand apart from the crates that they call, since a crate with tests is proved twice.
 #![tactic(auto)]
 
 #[cfg(test)]

@@ -6,7 +6,7 @@ use Rattle.clap.specs.declared.builder.command.Command.{Command}
 use Rattle.clap.specs.declared.builder.command.Command.TheViews.{out-Command as fields_of}
 use Rattle.clap.specs.declared.builder.command.Command.TheOpen.{Command-F}
 use Rattle.tg_command.specs.Simple.{without_flags}
-use Rattle.tg_command.proofs.ArgumentLemmas.{file_given, mode_given}
+use Rattle.tg_command.proofs.ArgumentLemmas.{required_given}
 use Rattle.tg_command.proofs.simple.command.Goals as goal
 
 pub returns-clause-app : goal.returns-clause-app
@@ -19,30 +19,10 @@ returns-clause-app c =
     let four = c.in_ok-arg-4.ensures.shape c.option-2.ensures.local ∙ ap₂ with_rule three c.option-2.ensures.rule_is in
     IfOk-weaker c.arg-5.result _ _ (λ r h. h.shape c.option-3.ensures.local ∙ ap₂ with_rule four c.option-3.ensures.rule_is) c.arg-5.ensures
 
-pub returns-clause-mode : goal.returns-clause-mode
-returns-clause-mode c =
+pub returns-clause-required : goal.returns-clause-required
+returns-clause-required c =
     let fields : fields_of c.disable_version_flag.result ≡ record (record (fields_of c.new.result) { disable_help_flag = true }) { disable_version_flag = true } = c.disable_version_flag.ensures ∙ ap (λ (f : Command-F Command). record f { disable_version_flag = true }) c.disable_help_flag.ensures in
-    IfOk-weaker c.arg-5.result _ _ (λ r h m parsed. mode_given _ _ _ _ _ c.positional.ensures c.positional-2.ensures c.option.ensures c.option-2.ensures c.option-3.ensures
-    c.disable_version_flag.result r m (
-      c.in_ok-arg.field-0,
-      c.in_ok-arg.ensures,
-      (
-        c.in_ok-arg-2.field-0,
-        c.in_ok-arg-2.ensures,
-        (
-          c.in_ok-arg-3.field-0,
-          c.in_ok-arg-3.ensures,
-          (c.in_ok-arg-4.field-0, c.in_ok-arg-4.ensures, (r, h, refl)),
-        ),
-      ),
-    )
-    (ap (λ (f : Command-F Command). f.args.items) fields ∙ c.new.ensures.empty.0) (ap (λ (f : Command-F Command). f.groups.items) fields ∙ c.new.ensures.empty.1)
-    (ap (λ (f : Command-F Command). f.has_globals) fields ∙ c.new.ensures.local) (ap (λ (f : Command-F Command). f.subcommand_negates_reqs) fields ∙ c.new.ensures.negates) parsed) c.arg-5.ensures
-
-pub returns-clause-file : goal.returns-clause-file
-returns-clause-file c =
-    let fields : fields_of c.disable_version_flag.result ≡ record (record (fields_of c.new.result) { disable_help_flag = true }) { disable_version_flag = true } = c.disable_version_flag.ensures ∙ ap (λ (f : Command-F Command). record f { disable_version_flag = true }) c.disable_help_flag.ensures in
-    IfOk-weaker c.arg-5.result _ _ (λ r h m parsed. file_given _ _ _ _ _ c.positional.ensures c.positional-2.ensures c.option.ensures c.option-2.ensures c.option-3.ensures
+    IfOk-weaker c.arg-5.result _ _ (λ r h m parsed. required_given _ _ _ _ _ c.positional.ensures c.positional-2.ensures c.option.ensures c.option-2.ensures c.option-3.ensures
     c.disable_version_flag.result r m (
       c.in_ok-arg.field-0,
       c.in_ok-arg.ensures,
