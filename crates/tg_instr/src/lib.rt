@@ -1,7 +1,7 @@
 //! Instructions over temporaries and registers (Appel, chapter 9), and the code that register
 //! allocation makes of them. Promises what each instruction uses and defines, and code that keeps
-//! in its type what every later pass asks of it. The meaning of instructions stands in `specs/`, with
-//! the law that uses and definitions are those of its effect.
+//! in its type what every later pass asks of it. The meaning of instructions stands in `specs/`,
+//! with the law that uses and definitions are those of its effect.
 #![tactic(auto)]
 
 mod building;

@@ -30,7 +30,8 @@ impl LiveSets {
         LiveSets { sets }
     }
 
-    /// Whether the operand is live out of the instruction at a place, in the time of its set's size.
+    /// Whether the operand is live out of the instruction at a place, in the time of its set's
+    /// size.
     pub fn out(&self, at: u32, one: Opnd) -> bool
         requires { at < length self.now }
         ensures { result ≡ is_among one (set_at self.now at) }

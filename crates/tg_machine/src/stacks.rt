@@ -32,7 +32,8 @@ pub(crate) struct Stack {
 
 impl Model for Stack {
     ghost use Rattle.tg_base.specs.State.{most_room};
-    ghost use Rattle.std.specs.Prelude.{List, ℕ, length, vec_capacity, replicate, ◌++◌, ◌-◌, ◌≤◌, ◌≡◌, ◌%◌};
+    ghost use Rattle.std.specs.Prelude.{List, ℕ, length, vec_capacity, replicate};
+    ghost use Rattle.std.specs.Prelude.{◌++◌, ◌-◌, ◌≤◌, ◌≡◌, ◌%◌};
 
     ghost Value = { List ℕ };
 

@@ -29,8 +29,8 @@ pub record CountsWords (count : Instr → ℕ) : Type 0 where
   pub others :
       (one : Instr) → ((to from : Opnd) → one ≢ Move to from) → count one ≤ 10
 
--- Twelve words for each unit of the flat code, and a move for each kept register: no unit stands for
--- a move alone, since what needs one counts two units or more.
+-- Twelve words for each unit of the flat code, and a move for each kept register: no unit stands
+-- for a move alone, since what needs one counts two units or more.
 abbrev pub WordsAreFew : Type 0
 WordsAreFew =
     (count : Instr → ℕ) (f : Function (List Linear)) →
