@@ -1,6 +1,6 @@
 -- Bits in words of 32, the lowest first, and a triangular matrix of bits for pairs of nodes, cut
--- into tiles of 128 by 128. A tile has words only once a pair in it is joined. Pairs of near numbers
--- stand in few tiles, and so do the pairs of one node with all others.
+-- into tiles of 128 by 128. A tile has words only once a pair in it is joined. Pairs of near
+-- numbers stand in few tiles, and so do the pairs of one node with all others.
 use Rattle.std.specs.Prelude.{ℕ, ◌+◌, ◌-◌, ◌*◌, ◌/◌, ◌%◌, Bool, List, [], ◌==◌, slice_index}
 use Rattle.std.specs.Prelude.{slice_index_or}
 use Rattle.std.specs.Int.{bit_at}

@@ -35,7 +35,8 @@ pub fn lex(alloc: Global, text: &[u8], names: &mut Names) -> Result<Vec<Spanned>
     ensures lexed { IfOk result (λ tokens. Lexes names.new 0 text.now tokens.items) }
     ensures ends { IfOk result (λ tokens. EndsOnce tokens.items) }
     ensures short { IfOk result (λ tokens. length text.now ≤ 262144) }
-    ensures named { IfOk result (λ tokens. names.new ≡ all_named names.old (idents text.now tokens.items)) }
+    ensures named { IfOk result
+        (λ tokens. names.new ≡ all_named names.old (idents text.now tokens.items)) }
     ensures kept { (more : List (List ℕ)) × (names.new ≡ names.old ++ more) }
     ensures bad { OnBad result (λ rule at. HasLexicalFault text.now rule at) }
 {

@@ -6,7 +6,8 @@ use tg_syntax::Word;
 
 // The reserved word that a text is.
 pub(crate) fn word(text: &[u8]) -> Option<Word>
-    ensures { MatchOption result ((w : Word) → text.now ≢ word_text w) (λ w. text.now ≡ word_text w) }
+    ensures { MatchOption result ((w : Word) → text.now ≢ word_text w)
+        (λ w. text.now ≡ word_text w) }
 {
     match text {
         b"array" => Some(Word::WArray),

@@ -37,7 +37,8 @@ fn one_param(tokens: &[Spanned]) -> Reading<Param>
 }
 
 fn more_params(first: Param, alloc: Global, tokens: &[Spanned]) -> Reading<Vec<Param>>
-    ensures given { Gives (MoreParams (first ∷ [])) (λ x. x.0.items) (λ x. x.1.now) result (more_params (first ∷ [])) tokens.now }
+    ensures given { Gives (MoreParams (first ∷ [])) (λ x. x.0.items) (λ x. x.1.now) result
+        (more_params (first ∷ [])) tokens.now }
     ensures shorter { IfOk result (λ x. length x.1.now ≤ length tokens.now) }
 {
     let mut params = Vec::new(alloc);
@@ -56,7 +57,8 @@ fn more_params(first: Param, alloc: Global, tokens: &[Spanned]) -> Reading<Vec<P
 
 /// Parameters, or a record's fields, up to a mark that ends them.
 pub fn listed_params(alloc: Global, close: Mark, tokens: &[Spanned]) -> Reading<Params>
-    ensures given { Gives (ListedParams close) (λ x. x.0) (λ x. x.1.now) result (listed_params close) tokens.now }
+    ensures given { Gives (ListedParams close) (λ x. x.0) (λ x. x.1.now) result
+        (listed_params close) tokens.now }
     ensures shorter { IfOk result (λ x. length x.1.now < length tokens.now) }
 {
     let (token, after) = next(tokens)?;
@@ -102,7 +104,8 @@ pub fn annotation(tokens: &[Spanned]) -> Reading<Option<Ident>>
 
 /// What follows `type`.
 pub fn type_dec(alloc: Global, tokens: &[Spanned]) -> Reading<TypeDec>
-    ensures given { Gives TypeDecJob (λ x. one_type (plain_type x.0)) (λ x. x.1.now) result type_dec tokens.now }
+    ensures given { Gives TypeDecJob (λ x. one_type (plain_type x.0)) (λ x. x.1.now) result
+        type_dec tokens.now }
     ensures shorter { IfOk result (λ x. length x.1.now < length tokens.now) }
 {
     let (name, rest) = take_name(tokens)?;

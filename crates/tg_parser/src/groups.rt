@@ -9,7 +9,8 @@ use tg_syntax::{Dec, Exp, FunDec, FunDecs, Ident, TypeDec};
 
 /// A type behind other declarations: in the last group, where that is one of types.
 pub(crate) fn push_type(alloc: Global, decs: &mut Vec<Dec>, dec: TypeDec) -> Result<(), Memory>
-    ensures { OnOk result (decs_of decs.new.items ≡ snoc_dec (decs_of decs.old.items) (one_type (plain_type dec))) }
+    ensures { OnOk result (decs_of decs.new.items
+        ≡ snoc_dec (decs_of decs.old.items) (one_type (plain_type dec))) }
 {
     let Some(last) = decs.pop() else {
         decs.push(type_alone(alloc, dec)?)?;
@@ -30,7 +31,8 @@ pub(crate) fn push_type(alloc: Global, decs: &mut Vec<Dec>, dec: TypeDec) -> Res
 }
 
 fn type_alone(alloc: Global, dec: TypeDec) -> Result<Dec, Memory>
-    ensures { IfOk result (λ d. decs_of (d ∷ []) ≡ snoc_dec (decs_of []) (one_type (plain_type dec))) }
+    ensures { IfOk result (λ d. decs_of (d ∷ [])
+        ≡ snoc_dec (decs_of []) (one_type (plain_type dec))) }
 {
     let mut group = Vec::new(alloc);
     group.push(dec)?;
@@ -44,7 +46,8 @@ pub(crate) fn push_variable(
     kind: Option<Ident>,
     value: Exp,
 ) -> Result<(), Memory>
-    ensures { OnOk result (decs_of decs.new.items ≡ snoc_dec (decs_of decs.old.items) (one_variable name kind (plain value))) }
+    ensures { OnOk result (decs_of decs.new.items
+        ≡ snoc_dec (decs_of decs.old.items) (one_variable name kind (plain value))) }
 {
     decs.push(Dec::Variable(name, kind, value))?;
     Ok(())
@@ -52,7 +55,9 @@ pub(crate) fn push_variable(
 
 /// A function behind other declarations: in the last group, where that is one of functions.
 pub(crate) fn push_function(alloc: Global, decs: &mut Vec<Dec>, dec: FunDec) -> Result<(), Memory>
-    ensures { OnOk result (decs_of decs.new.items ≡ snoc_dec (decs_of decs.old.items) (one_function dec.name dec.params dec.result (plain dec.body))) }
+    ensures { OnOk result (decs_of decs.new.items
+        ≡ snoc_dec (decs_of decs.old.items)
+        (one_function dec.name dec.params dec.result (plain dec.body))) }
 {
     let Some(last) = decs.pop() else {
         decs.push(function_alone(alloc, dec)?)?;
@@ -73,7 +78,8 @@ pub(crate) fn push_function(alloc: Global, decs: &mut Vec<Dec>, dec: FunDec) -> 
 }
 
 fn function_alone(alloc: Global, dec: FunDec) -> Result<Dec, Memory>
-    ensures { IfOk result (λ d. decs_of (d ∷ []) ≡ snoc_dec (decs_of []) (one_function dec.name dec.params dec.result (plain dec.body))) }
+    ensures { IfOk result (λ d. decs_of (d ∷ [])
+        ≡ snoc_dec (decs_of []) (one_function dec.name dec.params dec.result (plain dec.body))) }
 {
     let mut group = Vec::new(alloc);
     group.push(dec)?;

@@ -8,8 +8,9 @@ ghost use Rattle.tg_parser.specs.Answers.{HasSyntaxFault};
 
 /// The law that a list of tokens has at most one first fault of syntax. It does nothing.
 pub fn faults_once()
-    ensures { (tokens : List Spanned) (rule other : SyntaxRule) (at to : ℕ) → HasSyntaxFault tokens rule at
-        → HasSyntaxFault tokens other to → (rule ≡ other) × (at ≡ to) }
+    ensures { (tokens : List Spanned) (rule other : SyntaxRule) (at to : ℕ)
+        → HasSyntaxFault tokens rule at → HasSyntaxFault tokens other to
+        → (rule ≡ other) × (at ≡ to) }
 {}
 
 /// The law that a list of tokens with a fault of syntax is no program whose nesting stays within

@@ -139,7 +139,8 @@ impl Counts {
 /// The place of the first token after which the nesting is above 256, in time linear in the tokens,
 /// and with memory for at most 256 counts.
 pub(crate) fn first_deep(alloc: Global, tokens: &[Spanned]) -> Result<Option<usize>, Memory>
-    ensures { IfOk result (λ found. MatchOption found (IsShallow tokens.now) (λ place. IsFirstDeep tokens.now place)) }
+    ensures { IfOk result (λ found. MatchOption found (IsShallow tokens.now)
+        (λ place. IsFirstDeep tokens.now place)) }
 {
     let mut counts = Counts::new(alloc);
     for (place, one) in tokens.iter().enumerate() {

@@ -39,7 +39,8 @@ pub(crate) fn next(tokens: &[Spanned]) -> Result<(&Spanned, &[Spanned]), Stop>
 /// The span of a mark that has to stand at the front.
 #[tactic(auto, using(crate::proofs::Chains::take_yes, crate::proofs::Chains::take_no, crate::proofs::Chains::take_none))]
 pub(crate) fn take(mark: Mark, tokens: &[Spanned]) -> Reading<Span>
-    ensures given { Gives OneSpan (λ x. x.0) (λ x. x.1.now) result (want mark (λ s. give s)) tokens.now }
+    ensures given { Gives OneSpan (λ x. x.0) (λ x. x.1.now) result
+        (want mark (λ s. give s)) tokens.now }
     ensures shorter { IfOk result (λ x. length x.1.now < length tokens.now) }
 {
     match tokens.split_first() {

@@ -1,5 +1,5 @@
 -- Examples of the grammar, the nesting and the nodes, by the definitions.
-use Rattle.std.proofs.Common.{ℕ, ◌+◌, ◌≡◌, List, [], ◌∷◌, Bool, true, false, Some, replicate, refl}
+use Rattle.std.proofs.Common.{ℕ, ◌+◌, ◌≡◌, List, [], ◌∷◌, Bool, true, false, Option, Some, replicate, refl, ap, ◌∙◌}
 use Rattle.std.specs.Prelude.{fold, map}
 use Rattle.tg_base.specs.declared.ids.Span.{Span}
 use Rattle.tg_syntax.specs.declared.tokens.Word.TheVariants.{WArray, WBreak, WDo, WElse, WEnd, WFor, WFunction, WIf, WIn, WLet, WNil, WOf, WThen, WTo, WType, WVar, WWhile}
@@ -63,20 +63,31 @@ left_associated =
     (sum_more {a = x 0 0 ∷ minus 1 ∷ x 1 2 ∷ []} {b = x 2 4 ∷ []} (minus 3)
     (sum_more {a = x 0 0 ∷ []} {b = x 1 2 ∷ []} (minus 1) (sum_up (a_name 0 0)) refl refl (a_name 1 2)) refl refl (a_name 2 4))) refl
 
+true_false : true ≡ false → ⊥
+true_false e = cc
+
+-- whether it is an operator of terms
+abbrev is_factor : Option Op → Bool
+is_factor (Some op.Times) = true
+is_factor (Some op.Divide) = true
+is_factor _ = false
+
+not_factor : (t : Token) {o : Op} → is_factor (Some o) ≡ false → term_op t ≡ Some o → ⊥
+not_factor (token.Sign sign.Times) other e = true_false (ap is_factor e ∙ other)
+not_factor (token.Sign sign.Divide) other e = true_false (ap is_factor e ∙ other)
+not_factor (token.Sign _) other e = cc
+not_factor _ other e = cc
+
+-- a term has no other operator
+no_term : {a : List Spanned} {s : Span} {o : Op} {at : ℕ} {l r : Exp} → is_factor (Some o) ≡ false → Reads Term a (Exp.Binary s o at l r) → ⊥
+no_term other (term_up (unary_primary h)) = elim h [ ]
+no_term other (term_up (unary_tail h)) = elim h [ ]
+no_term other (term_more t h ends e k) = not_factor t.token other e
+
 -- and never to the right: a term is no difference
-no_minus : (t : Token) → term_op t ≡ Some op.Minus → ⊥
-no_minus (token.Sign sign.Times) e = cc
-no_minus (token.Sign _) e = cc
-no_minus _ e = cc
-
-term_minus : {a : List Spanned} {s : Span} {at : ℕ} {l r : Exp} → Reads Term a (Exp.Binary s op.Minus at l r) → ⊥
-term_minus (term_up (unary_primary h)) = elim h [ ]
-term_minus (term_up (unary_tail h)) = elim h [ ]
-term_minus (term_more t h ends e k) = no_minus t.token e
-
 pub not_right : {a : List Spanned} {s z : Span} {at to : ℕ} {l m r : Exp} → Reads Sum a (Exp.Binary s op.Minus at l (Exp.Binary z op.Minus to m r)) → ⊥
-not_right (sum_up h) = term_minus h
-not_right (sum_more t h ends e k) = term_minus k
+not_right (sum_up h) = no_term refl h
+not_right (sum_more t h ends e k) = no_term refl k
 
 -- `1+if 1 then 2 else 3+4`: the else arm takes all that follows
 abbrev word : Word → ℕ → ℕ → Spanned
@@ -98,21 +109,8 @@ tail_takes_all =
     (sum_whole (sum_more {a = num 3 19 ∷ []} {b = num 4 21 ∷ []} (plus 20) (sum_up (a_number 3 19)) refl refl (a_number 4 21)))))))) refl
 
 -- and the sum never stands behind the `if`
-no_plus : (t : Token) → term_op t ≡ Some op.Plus → ⊥
-no_plus (token.Sign sign.Times) e = cc
-no_plus (token.Sign _) e = cc
-no_plus _ e = cc
-
-term_plus : {a : List Spanned} {s : Span} {at : ℕ} {l r : Exp} → Reads Term a (Exp.Binary s op.Plus at l r) → ⊥
-term_plus (term_up (unary_primary h)) = elim h [ ]
-term_plus (term_up (unary_tail h)) = elim h [ ]
-term_plus (term_more t h ends e k) = no_plus t.token e
-
-true_false : true ≡ false → ⊥
-true_false e = cc
-
 pub not_behind : {a : List Spanned} {s z w : Span} {at to : ℕ} {l c x y r : Exp} → Reads Sum a (Exp.Binary s op.Plus at (Exp.Binary z op.Plus to l (Exp.If w c x y)) r) → ⊥
-not_behind (sum_up h) = term_plus h
+not_behind (sum_up h) = no_term refl h
 not_behind (sum_more t h ends e k) = true_false ends
 
 -- `if 1 then if 0 then a else b`: the else belongs to the nearest then
@@ -178,19 +176,8 @@ not_sum (token.Sign sign.Minus) e = cc
 not_sum (token.Sign _) e = cc
 not_sum _ e = cc
 
-not_term : (t : Token) → term_op t ≡ Some op.Equal → ⊥
-not_term (token.Sign sign.Times) e = cc
-not_term (token.Sign sign.Divide) e = cc
-not_term (token.Sign _) e = cc
-not_term _ e = cc
-
-term_equal : {a : List Spanned} {s : Span} {at : ℕ} {l r : Exp} → Reads Term a (Exp.Binary s op.Equal at l r) → ⊥
-term_equal (term_up (unary_primary h)) = elim h [ ]
-term_equal (term_up (unary_tail h)) = elim h [ ]
-term_equal (term_more t h ends e k) = not_term t.token e
-
 sum_equal : {a : List Spanned} {s : Span} {at : ℕ} {l r : Exp} → Reads Sum a (Exp.Binary s op.Equal at l r) → ⊥
-sum_equal (sum_up h) = term_equal h
+sum_equal (sum_up h) = no_term refl h
 sum_equal (sum_more t h ends e k) = not_sum t.token e
 
 pub compares_once : {a : List Spanned} {s z : Span} {at to : ℕ} {o : Op} {l m r : Exp} → Reads Comparison a (Exp.Binary s o at (Exp.Binary z op.Equal to l m) r) → Reads Sum a (Exp.Binary s o at (Exp.Binary z op.Equal to l m) r)

@@ -29,40 +29,28 @@ function_size f = 1 + length f.params
 abbrev pub dec_size : Dec → ℕ
 dec_size d = decs_size (plain_dec d no_decs)
 
-exps_size-exps_of : (es : List Exp) → exps_size (exps_of es) ≡ sum_by exp_size es
-exps_size-exps_of [] = refl
-exps_size-exps_of (e ∷ es) = rw sum_by-cons (ap (λ k. exp_size e + k) (exps_size-exps_of es))
-
-inits_size-inits_of : (is : List Init) → inits_size (inits_of is) ≡ sum_by init_size is
-inits_size-inits_of [] = refl
-inits_size-inits_of (i ∷ is) = rw sum_by-cons (ap (λ k. init_size i + k) (inits_size-inits_of is))
-
-functions_size-functions_of : (fs : List FunDec) → functions_size (functions_of fs) ≡ sum_by function_size fs
-functions_size-functions_of [] = refl
-functions_size-functions_of (f ∷ fs) = rw sum_by-cons (ap (λ k. function_size f + k) (functions_size-functions_of fs))
+-- what is 0 of no items, and of more the first's and that of the rest, is a sum over the items
+pub sum_of_items : {A : Type 0} (of : List A → ℕ) (one : A → ℕ) → of [] ≡ 0 → ((x : A) (xs : List A) → of (x ∷ xs) ≡ one x + of xs) → (xs : List A) → of xs ≡ sum_by one xs
+sum_of_items of one none more [] = none
+sum_of_items of one none more (x ∷ xs) = rw sum_by-cons (more x xs ∙ ap (λ k. one x + k) (sum_of_items of one none more xs))
 
 decs_size-plain_dec : (d : Dec) (rest : PlainDecs) → decs_size (plain_dec d rest) ≡ dec_size d + decs_size rest
 decs_size-plain_dec (Types ds) rest = omega arith
 decs_size-plain_dec (Variable' x t s e) rest = omega arith
 decs_size-plain_dec (Functions fs) rest = omega arith
 
-decs_size-decs_of : (ds : List Dec) → decs_size (decs_of ds) ≡ sum_by dec_size ds
-decs_size-decs_of [] = refl
-decs_size-decs_of (d ∷ ds) = rw sum_by-cons (decs_size-plain_dec d (decs_of ds) ∙ ap (λ k. dec_size d + k) (decs_size-decs_of ds))
-
 pub exps_size-plain_exps : (es : Exps) → exps_size (plain_exps es) ≡ sum_by exp_size (out-Exps es).items.items
-exps_size-plain_exps es = ap exps_size (plain_exps-items es) ∙ exps_size-exps_of _
+exps_size-plain_exps es = ap exps_size (plain_exps-items es) ∙ sum_of_items (λ xs. exps_size (exps_of xs)) exp_size refl (λ _ _. refl) _
 
 pub inits_size-plain_inits : (is : Inits) → inits_size (plain_inits is) ≡ sum_by init_size (out-Inits is).items.items
-inits_size-plain_inits is = ap inits_size (plain_inits-items is) ∙ inits_size-inits_of _
+inits_size-plain_inits is = ap inits_size (plain_inits-items is) ∙ sum_of_items (λ xs. inits_size (inits_of xs)) init_size refl (λ _ _. refl) _
 
 pub functions_size-plain_functions : (fs : FunDecs) → functions_size (plain_functions fs) ≡ sum_by function_size (out-FunDecs fs).items.items
-functions_size-plain_functions fs = ap functions_size (plain_functions-items fs) ∙ functions_size-functions_of _
+functions_size-plain_functions fs = ap functions_size (plain_functions-items fs) ∙ sum_of_items (λ xs. functions_size (functions_of xs)) function_size refl (λ _ _. refl) _
 
 pub size-Let : (decs : Decs) (es : Exps) (s : Span) → size (plain_kind (Let decs es) s) ≡ 1 + sum_by dec_size decs.items.items + exps_size (plain_exps es)
-size-Let decs es s = ap size (plain_kind-Let decs es s) ∙ ap (λ k. 1 + k + exps_size (plain_exps es)) (decs_size-decs_of decs.items.items)
+size-Let decs es s = ap size (plain_kind-Let decs es s) ∙ ap (λ k. 1 + k + exps_size (plain_exps es)) (sum_of_items (λ ds. decs_size (decs_of ds)) dec_size refl (λ d ds. decs_size-plain_dec d (decs_of ds)) decs.items.items)
 
 -- a sum over the types, each made plain
 pub sum_by-map : {A B : Type 0} (f : B → ℕ) (g : A → B) (xs : List A) → sum_by f (map g xs) ≡ sum_by (λ x. f (g x)) xs
-sum_by-map f g [] = refl
-sum_by-map f g (x ∷ xs) = rw (sum_by-cons (λ x. f (g x)) x xs) (sum_by-cons f (g x) (map g xs) ∙ ap (λ k. f (g x) + k) (sum_by-map f g xs))
+sum_by-map f g xs = sum_of_items (λ ys. sum_by f (map g ys)) (λ x. f (g x)) refl (λ y ys. sum_by-cons f (g y) (map g ys)) xs

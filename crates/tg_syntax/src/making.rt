@@ -227,7 +227,8 @@ pub fn for_to(
     high: Exp,
     body: Exp,
 ) -> Result<Exp, Memory>
-    ensures { IfOk result (λ e. plain e ≡ PlainFor span variable (plain low) (plain high) (plain body)) }
+    ensures { IfOk result
+        (λ e. plain e ≡ PlainFor span variable (plain low) (plain high) (plain body)) }
 {
     let low = Box::new(alloc, low)?;
     let high = Box::new(alloc, high)?;
