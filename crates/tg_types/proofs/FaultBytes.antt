@@ -12,7 +12,7 @@ use Rattle.tg_types.specs.declared.faults.TypeRule.{TypeRule}
 use Rattle.tg_types.specs.declared.faults.TypeRule.TheVariants.{T16, T17, T20, T21, T22}
 use Rattle.tg_types.specs.declared.notes.Means.{Means}
 use Rattle.tg_types.specs.declared.notes.Note.{Note}
-use Rattle.tg_types.specs.Types.{Ty, int_type, string_type, nil_type, none_type, record_type, array_type, Shape, record_shape, array_shape}
+use Rattle.tg_types.specs.Types.{Ty, int_type, none_type, record_type, array_type, Shape, record_shape, array_shape}
 use Rattle.tg_types.specs.Checks.{Noted, CheckResult, fine, fault, Check, on_fine, ◌>>=◌, give, refuse, keep, present, note, shape_at, add_shape}
 use Rattle.tg_types.specs.Scopes.{Signature, Binding, variable_at, function_at, standard_one, Scope, at_of, bound as bound_in, binding, in_a_loop, in_no_loop, outermost}
 use Rattle.tg_types.specs.Groups.{no_repeats, names_of, known_fields, known_form, known_forms, chains_end, with_group, add_form, add_forms, declare_types, function_names, param_types, result_type, headers, with_functions, with_params}
@@ -104,11 +104,7 @@ module _ (here : ℕ → Bool) where
 
   of_fields : (t : Ty) (at : ℕ) → IsTrue (here at) → FaultsWithin here (fields_of t at)
   of_fields (record_type byte) at h = bind (shape _) (λ s. of_fields_in s at h)
-  of_fields int_type at h = refused _ _ h
-  of_fields string_type at h = refused _ _ h
-  of_fields nil_type at h = refused _ _ h
-  of_fields none_type at h = refused _ _ h
-  of_fields (array_type byte) at h = refused _ _ h
+  of_fields _ at h = refused _ _ h
 
   of_element_in : (s : Option Shape) (at : ℕ) → IsTrue (here at) → FaultsWithin here (element_in s at)
   of_element_in (Some (array_shape t)) at h = given _
@@ -117,11 +113,7 @@ module _ (here : ℕ → Bool) where
 
   of_element : (t : Ty) (at : ℕ) → IsTrue (here at) → FaultsWithin here (element_of t at)
   of_element (array_type byte) at h = bind (shape _) (λ s. of_element_in s at h)
-  of_element int_type at h = refused _ _ h
-  of_element string_type at h = refused _ _ h
-  of_element nil_type at h = refused _ _ h
-  of_element none_type at h = refused _ _ h
-  of_element (record_type byte) at h = refused _ _ h
+  of_element _ at h = refused _ _ h
 
   of_select : (fs : List (ℕ × Ty)) (f : Ident) → IdentBegins here f → FaultsWithin here (select fs f)
   of_select fs f h = bind (presented _ _ _ h) (λ found. bind (noted _ _) (λ _. given _))
@@ -253,19 +245,7 @@ module _ (here : ℕ → Bool) where
   start (Break s) h = h
   start (Int s k) h = h
   start (Text s bytes) h = h
-  start (Read s v) h = h.0
-  start (Call s f args) h = h.0
-  start (Neg s a) h = h.0
-  start (Binary s op at a b) h = h.0
-  start (Make s x inits) h = h.0
-  start (Fill s x size value) h = h.0
-  start (Assign s v e) h = h.0
-  start (If s test this other) h = h.0
-  start (When s test this) h = h.0
-  start (While s test body) h = h.0
-  start (For s x low high body) h = h.0
-  start (Let s ds es) h = h.0
-  start (Seq s es) h = h.0
+  start _ h = h.0
 
   start_of_place : (v : LValue) → PlaceBegins here v → IsTrue (here (place_start v))
   start_of_place (Simple x) h = h

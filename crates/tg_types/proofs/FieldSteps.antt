@@ -7,7 +7,7 @@ use Rattle.tg_syntax.specs.Lists.{inits_of}
 use Rattle.tg_types.proofs.TreeSteps.{from_here, none_left}
 use Rattle.tg_types.specs.declared.faults.TypeRule.{TypeRule}
 use Rattle.tg_types.specs.declared.faults.TypeRule.TheVariants.{T7, T9}
-use Rattle.tg_types.specs.Types.{Ty, int_type, string_type, nil_type, none_type, record_type, array_type, Shape, record_shape, array_shape}
+use Rattle.tg_types.specs.Types.{Ty, record_type, array_type, Shape, record_shape, array_shape}
 use Rattle.tg_symbols.specs.Tables.{named}
 use Rattle.tg_types.specs.Checks.{Noted, fine, fault, present, give, refuse, shape_at, ◌>>=◌}
 use Rattle.tg_types.specs.Scopes.{name_of}
@@ -20,12 +20,8 @@ use Rattle.tg_symbols.specs.Tables.{placed_at}
 -- what isn't a record
 pub not_record : (t : Ty) (at : ℕ) (n : Noted) → None ≡ record_byte t → fields_of t at n ≡ fault T7 at
 unfolding refuse
-not_record int_type at n e = refl
-not_record string_type at n e = refl
-not_record nil_type at n e = refl
-not_record none_type at n e = refl
 not_record (record_type b) at n e = grind arith
-not_record (array_type b) at n e = refl
+not_record _ at n e = refl
 
 pub of_shape : (t : Ty) (at byte : ℕ) (o : Option Shape) (n : Noted) → Some byte ≡ record_byte t → o ≡ named byte n.shapes →
     fields_of t at n ≡ fields_in o at n
@@ -33,11 +29,7 @@ unfolding ◌>>=◌ shape_at
 of_shape (record_type b) at byte o n e d =
     let i : byte ≡ b = grind arith in
     ap (λ s. fields_in s at n) (ap (λ x. named x n.shapes) (sym i) ∙ sym d)
-of_shape int_type at byte o n e d = grind arith
-of_shape string_type at byte o n e d = grind arith
-of_shape nil_type at byte o n e d = grind arith
-of_shape none_type at byte o n e d = grind arith
-of_shape (array_type b) at byte o n e d = grind arith
+of_shape _ at byte o n e d = grind arith
 
 pub no_shape : (at : ℕ) (n : Noted) → fields_in None at n ≡ fault T7 at
 unfolding refuse
@@ -56,12 +48,8 @@ fields_not (array_shape t) at n e = refl
 -- what isn't an array
 pub not_array : (t : Ty) (at : ℕ) (n : Noted) → None ≡ array_byte t → element_of t at n ≡ fault T9 at
 unfolding refuse
-not_array int_type at n e = refl
-not_array string_type at n e = refl
-not_array nil_type at n e = refl
-not_array none_type at n e = refl
-not_array (record_type b) at n e = refl
 not_array (array_type b) at n e = grind arith
+not_array _ at n e = refl
 
 pub of_array : (t : Ty) (at byte : ℕ) (o : Option Shape) (n : Noted) → Some byte ≡ array_byte t → o ≡ named byte n.shapes →
     element_of t at n ≡ element_in o at n
@@ -69,11 +57,7 @@ unfolding ◌>>=◌ shape_at
 of_array (array_type b) at byte o n e d =
     let i : byte ≡ b = grind arith in
     ap (λ s. element_in s at n) (ap (λ x. named x n.shapes) (sym i) ∙ sym d)
-of_array int_type at byte o n e d = grind arith
-of_array string_type at byte o n e d = grind arith
-of_array nil_type at byte o n e d = grind arith
-of_array none_type at byte o n e d = grind arith
-of_array (record_type b) at byte o n e d = grind arith
+of_array _ at byte o n e d = grind arith
 
 pub no_array : (at : ℕ) (n : Noted) → element_in None at n ≡ fault T9 at
 unfolding refuse

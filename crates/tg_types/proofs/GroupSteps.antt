@@ -408,34 +408,34 @@ fields_back f ps at table p l h =
 
 pub record AddedOn (names : List (List ℕ)) (first now : CheckingState) (ds : List TypeDec) (k : ℕ) : Type 0 where
   pub keeps : Keeps first now
-  pub onward : (scope : Scope) (in_loop : Bool) → scope ≡ scope_of names first in_loop →
+  pub onward : (in_loop : Bool) (scope : Scope) → scope ≡ scope_of names first in_loop →
       add_forms scope ds (noted_of first) ≡ add_forms scope (drop k ds) (noted_of now)
 
 pub added_one : {names : List (List ℕ)} {first : CheckingState} {now : CheckingState} {next : CheckingState} (group : List CodeTypeDec) {k : ℕ} (d : CodeTypeDec) →
     AddedOn names first now (map plain_type group) k → k < length group → d ≡ get_or group k d → Keeps now next →
-    ((scope : Scope) (in_loop : Bool) → scope ≡ scope_of names now in_loop →
+    ((in_loop : Bool) (scope : Scope) → scope ≡ scope_of names now in_loop →
     add_form scope d.name.span.from (plain_form d.form) (noted_of now) ≡ fine tt (noted_of next)) → AddedOn names first next (map plain_type group) (k + 1)
 added_one {names = names} {now = now} group {k = k} d a l i kept f = record {
   keeps = keeps_both a.keeps kept;
-  onward = λ scope in_loop h.
-      a.onward scope in_loop h ∙ (ap (λ x. add_forms scope x (noted_of now)) (plain_here group k d l i) ∙ step _ _
-      (f scope in_loop (same_scope names a.keeps h)) refl);
+  onward = λ in_loop scope h.
+      a.onward in_loop scope h ∙ (ap (λ x. add_forms scope x (noted_of now)) (plain_here group k d l i) ∙ step _ _
+      (f in_loop scope (same_scope names a.keeps h)) refl);
 }
 
 pub added_fail : {names : List (List ℕ)} {first : CheckingState} {now : CheckingState} (group : List CodeTypeDec) {k : ℕ} (d : CodeTypeDec) {e : TypeFault} →
     AddedOn names first now (map plain_type group) k → k < length group → d ≡ get_or group k d →
-    ((scope : Scope) (in_loop : Bool) → scope ≡ scope_of names now in_loop → Fails e (add_form scope d.name.span.from (plain_form d.form) (noted_of now))) →
-    (scope : Scope) (in_loop : Bool) → scope ≡ scope_of names first in_loop → Fails e (add_forms scope (map plain_type group) (noted_of first))
-added_fail {names = names} {now = now} group {k = k} d a l i f scope in_loop h =
-    last_fails (a.onward scope in_loop h ∙ ap (λ x. add_forms scope x (noted_of now)) (plain_here group k d l i))
-    (fails_first _ _ (f scope in_loop (same_scope names a.keeps h)))
+    ((in_loop : Bool) (scope : Scope) → scope ≡ scope_of names now in_loop → Fails e (add_form scope d.name.span.from (plain_form d.form) (noted_of now))) →
+    (in_loop : Bool) (scope : Scope) → scope ≡ scope_of names first in_loop → Fails e (add_forms scope (map plain_type group) (noted_of first))
+added_fail {names = names} {now = now} group {k = k} d a l i f in_loop scope h =
+    last_fails (a.onward in_loop scope h ∙ ap (λ x. add_forms scope x (noted_of now)) (plain_here group k d l i))
+    (fails_first _ _ (f in_loop scope (same_scope names a.keeps h)))
 
 pub added_all : {names : List (List ℕ)} {first : CheckingState} {now : CheckingState} (group : List CodeTypeDec) {k : ℕ} → AddedOn names first now (map plain_type group) k →
-    k ≡ length group → (scope : Scope) (in_loop : Bool) → scope ≡ scope_of names first in_loop →
+    k ≡ length group → (in_loop : Bool) (scope : Scope) → scope ≡ scope_of names first in_loop →
     add_forms scope (map plain_type group) (noted_of first) ≡ fine tt (noted_of now)
 unfolding give
-added_all {now = now} group {k = k} a l scope in_loop h =
-    a.onward scope in_loop h ∙ ap (λ x. add_forms scope x (noted_of now)) (none_left (map plain_type group) k (plain_end group k l))
+added_all {now = now} group {k = k} a l in_loop scope h =
+    a.onward in_loop scope h ∙ ap (λ x. add_forms scope x (noted_of now)) (none_left (map plain_type group) k (plain_end group k l))
 
 -- ---- the whole group
 

@@ -270,11 +270,7 @@ fields_got (record_type byte) at fs g h e =
     let q = shape_found _ _ _ _ p.first in
     let r = fields_in_got _ _ _ _ _ p.onward in
     (byte, refl, ap (λ y. named byte y.shapes) (sym (q.1 ∙ r.1)) ∙ q.0 ∙ r.0, q.1 ∙ r.1)
-fields_got int_type at fs g h e = absurd (refused _ _ _ _ _ e)
-fields_got string_type at fs g h e = absurd (refused _ _ _ _ _ e)
-fields_got nil_type at fs g h e = absurd (refused _ _ _ _ _ e)
-fields_got none_type at fs g h e = absurd (refused _ _ _ _ _ e)
-fields_got (array_type byte) at fs g h e = absurd (refused _ _ _ _ _ e)
+fields_got _ at fs g h e = absurd (refused _ _ _ _ _ e)
 
 element_in_got : (o : Option Shape) (at : ℕ) (t : Ty) (g h : Noted) → element_in o at g ≡ fine t h → (o ≡ Some (array_shape t)) × (g ≡ h)
 element_in_got None at t g h e = absurd (refused _ _ _ _ _ e)
@@ -288,11 +284,7 @@ element_got (array_type byte) at u g h e =
     let q = shape_found _ _ _ _ p.first in
     let r = element_in_got _ _ _ _ _ p.onward in
     (byte, refl, ap (λ y. named byte y.shapes) (sym (q.1 ∙ r.1)) ∙ q.0 ∙ r.0, q.1 ∙ r.1)
-element_got int_type at u g h e = absurd (refused _ _ _ _ _ e)
-element_got string_type at u g h e = absurd (refused _ _ _ _ _ e)
-element_got nil_type at u g h e = absurd (refused _ _ _ _ _ e)
-element_got none_type at u g h e = absurd (refused _ _ _ _ _ e)
-element_got (record_type byte) at u g h e = absurd (refused _ _ _ _ _ e)
+element_got _ at u g h e = absurd (refused _ _ _ _ _ e)
 
 placed_named : (f from : ℕ) (fs : List (ℕ × Ty)) (found : ℕ × Ty) → placed f from fs ≡ Some found → named f fs ≡ Some found.1
 placed_named f from [] found e = cc

@@ -3,7 +3,7 @@ use Rattle.std.specs.Prelude.{Option, Some}
 use Rattle.std.proofs.Common.{◌≡◌, ℕ, ◌<◌, ◌≤◌, [], refl, sym, ap, arith}
 use Rattle.tg_base.specs.declared.ids.Span.{Span}
 use Rattle.tg_syntax.specs.declared.trees.Exp.{Exp as CodeExp}
-use Rattle.tg_syntax.specs.declared.trees.Kind.{Kind, Nil, Break, Int, Text, Read, Call, Neg', Binary', Make, Fill', Assign', If', None', Some', While', For', Let', Seq}
+use Rattle.tg_syntax.specs.declared.trees.Kind.{Kind, Nil, If', None'}
 use Rattle.tg_syntax.specs.Plain.{plain, plain_kind}
 use Rattle.tg_syntax.specs.Spans.{span_of}
 use Rattle.tg_syntax.specs.Measures.{size, capped}
@@ -12,24 +12,14 @@ use Rattle.tg_types.specs.declared.faults.TypeRule.TheVariants.{T21, T22}
 use Rattle.tg_syntax.specs.Functions.{declared, program_size}
 use Rattle.tg_types.specs.Limits.{above, first_above, limit_fault}
 
+-- where an expression stands
 kind_span : (k : Kind) (s : Span) → span_of (plain_kind k s) ≡ s
 kind_span Nil s = refl
-kind_span Break s = refl
-kind_span (Int _) s = refl
-kind_span (Text _) s = refl
-kind_span (Read _) s = refl
-kind_span (Call _ _) s = refl
-kind_span (Neg' _ _ _) s = refl
-kind_span (Binary' _ _ _ _ _ _ _ _) s = refl
-kind_span (Make _ _) s = refl
-kind_span (Fill' _ _ _ _ _ _ _) s = refl
-kind_span (Assign' _ _ _ _) s = refl
 kind_span (If' _ _ _ _ _ _ None') s = refl
-kind_span (If' _ _ _ _ _ _ (Some' _ _ _)) s = refl
-kind_span (While' _ _ _ _ _ _) s = refl
-kind_span (For' _ _ _ _ _ _ _ _ _ _) s = refl
-kind_span (Let' _ _ _) s = refl
-kind_span (Seq _) s = refl
+kind_span _ s = refl
+
+pub span_is : (e : CodeExp) → span_of (plain e) ≡ e.span
+span_is e = kind_span e.kind e.span
 
 pub over : (rule : TypeRule) (at n limit : ℕ) (o : Option (TypeRule × ℕ)) → limit < n → Some (rule, at) ≡ above rule at n limit o
 over rule at n limit o h = grind arith
@@ -48,4 +38,4 @@ pub fault_parts : (e : CodeExp) → above T22 e.span.from (program_size (plain e
     (above T21 e.span.from (size (plain e)) 4096 (first_above (declared 0 [] (plain e)))) ≡ limit_fault (plain e)
 fault_parts e =
     ap (λ s. above T22 s.from (program_size (plain e)) 32768 (above T21 s.from (size (plain e)) 4096 (first_above (declared 0 [] (plain e)))))
-    (sym (kind_span e.kind e.span))
+    (sym (span_is e))

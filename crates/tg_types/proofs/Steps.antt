@@ -80,7 +80,8 @@ pub last_fails : {A : Type 0} {c c' : CheckResult A} {e : TypeFault} → c ≡ c
 last_fails {e = e} d f = subst (λ c. Fails e c) (sym d) f
 
 -- the scope of a state whose open names are the same
-pub same_scope : {old : CheckingState} {new : CheckingState} (names : List (List ℕ)) {in_loop : Bool} {scope : Scope} → Keeps old new → scope ≡ scope_of names old in_loop →
+pub same_scope : {old : CheckingState} {new : CheckingState} (names : List (List ℕ)) {in_loop : Bool} {scope : Scope} → Keeps old new →
+    scope ≡ scope_of names old in_loop →
     scope ≡ scope_of names new in_loop
 same_scope {old = old} {new = new} names {in_loop = in_loop} k h =
     h ∙ (ap (λ b. record { bindings = b ++ standard_bindings 0 names; types = old.types ++ standard_types 0 names; in_loop = in_loop }) (sym k.bindings) ∙ ap
@@ -181,4 +182,6 @@ opened x {b = b} types outer rest {in_loop = in_loop} e h =
 pub opened_state : (x : Ident) (b : Binding) (names : List (List ℕ)) (in_loop : Bool) (old new : CheckingState) {scope : Scope} →
     new.bindings ≡ (x.name.0, b) ∷ old.bindings → new.types ≡ old.types → scope ≡ scope_of names old in_loop → binding x b scope ≡ scope_of names new in_loop
 opened_state x b names in_loop old new e t h =
-    ap (λ s. binding x b s) h ∙ (ap (λ bs. record { bindings = bs ++ standard_bindings 0 names; types = old.types ++ standard_types 0 names; in_loop = in_loop }) (sym e) ∙ ap (λ ts. record { bindings = new.bindings ++ standard_bindings 0 names; types = ts ++ standard_types 0 names; in_loop = in_loop }) (sym t))
+    ap (λ s. binding x b s) h ∙ (ap
+    (λ bs. record { bindings = bs ++ standard_bindings 0 names; types = old.types ++ standard_types 0 names; in_loop = in_loop }) (sym e) ∙ ap
+    (λ ts. record { bindings = new.bindings ++ standard_bindings 0 names; types = ts ++ standard_types 0 names; in_loop = in_loop }) (sym t))

@@ -4,12 +4,12 @@ use Rattle.std.specs.Prelude.{◌==◌}
 use Rattle.std.proofs.lemmas.Bool.{eqb-true}
 use Rattle.tg_syntax.specs.Tree.{Exp, Nil, Break, Int, Text, Read, Call, Neg, Binary, Make, Fill, Assign, If, When, While, For, Let, Seq, LValue, Simple, Field, Index, Exps, no_exps, exp, Inits, no_inits, init, Decs, no_decs, types, variable, functions, FunDecs, no_functions, function}
 use Rattle.tg_types.specs.Types.{Ty, int_type, none_type}
-use Rattle.tg_types.specs.Checks.{Noted, fine}
+use Rattle.tg_types.specs.Checks.{Noted, Check, fine, ◌>>=◌}
 use Rattle.tg_types.specs.Scopes.{Signature, variable_at, Scope, name_of, at_of, binding, in_a_loop, in_no_loop}
 use Rattle.tg_types.specs.Groups.{function_names, with_functions, with_params}
-use Rattle.tg_types.specs.Typing.{typed, typed_place, typed_last, expect_all, expect_fields, declare, bodies, are_fields, count}
+use Rattle.tg_types.specs.Typing.{expect, expect_none, typed, typed_place, typed_last, expect_all, expect_fields, declare, bodies, are_fields, count}
 use Rattle.tg_types.specs.Has.{Fits, the_same}
-use Rattle.tg_types.proofs.Inversion.{steps, kept, given, presented, expected, expected_int, expected_none, arms_fit, sides, variable_got, callee_got, fields_got, element_got, selected}
+use Rattle.tg_types.proofs.Inversion.{steps, kept, given, presented, fits_int, expected, expected_none, arms_fit, sides, variable_got, callee_got, fields_got, element_got, selected}
 use Rattle.tg_types.proofs.GroupInversion.{both, no_repeats_keep, group_apart, Headed, no_heads, a_head, headed, body_got, assignable_keep, own_got, types_got}
 use Rattle.tg_types.proofs.CheckedParts.{Checked, nil, int, text, break, read, call, neg, binary, make, fill, assign, if_else, when, while, for, block, seq, CheckedPlace, simple, field, index, CheckedAll, end_args, an_arg, CheckedInits, end_inits, an_init, CheckedLast, end_lasts, a_last, CheckedDecs, end_decs, type_names, variables, group, CheckedBodies, end_bodies, a_body}
 
@@ -22,6 +22,34 @@ from {e = e} {scope = scope} {t = t} {h = h} j c = subst (λ y. Checked e scope 
 
 to_place : {v : LValue} {scope : Scope} {t u : Ty} {g h k : Noted} → t ≡ u → h ≡ k → CheckedPlace v scope t g h → CheckedPlace v scope u g k
 to_place {v = v} {scope = scope} {u = u} {g = g} {h = h} i j c = subst (λ y. CheckedPlace v scope u g y) j (subst (λ y. CheckedPlace v scope y g h) i c)
+
+-- an expression whose checks are known to be a derivation
+abbrev IsKnown : Exp → Scope → Type 0
+IsKnown e scope = (t : Ty) (g h : Noted) → typed e scope g ≡ fine t h → Checked e scope t g h
+
+-- a part of a type that fits, one of type int, and one without a value, each before the next check
+fitting : {A : Type 0} {e : Exp} {scope : Scope} {wanted : Ty} (at : ℕ) {next : Check A} {a : A} {g h : Noted} → IsKnown e scope →
+    (typed e scope >>= λ t. expect wanted t at >>= λ _. next) g ≡ fine a h →
+    (t : Ty) × (k : Noted) × Checked e scope t g k × Fits t wanted × (next k ≡ fine a h)
+fitting at {g = g} known e =
+    let p = steps e in
+    let q = steps p.onward in
+    let f = expected _ _ _ _ _ _ q.first in
+    (p.value, q.between, to refl f.1 (known p.value g p.between p.first), f.0, q.onward)
+
+an_int : {A : Type 0} {e : Exp} {scope : Scope} (at : ℕ) {next : Check A} {a : A} {g h : Noted} → IsKnown e scope →
+    (typed e scope >>= λ t. expect int_type t at >>= λ _. next) g ≡ fine a h → (k : Noted) × Checked e scope int_type g k × (next k ≡ fine a h)
+an_int at known e =
+    let f = fitting at known e in
+    (f.1, to (fits_int f.0 f.3) refl f.2, f.4)
+
+no_value : {A : Type 0} {e : Exp} {scope : Scope} (at : ℕ) {next : Check A} {a : A} {g h : Noted} → IsKnown e scope →
+    (typed e scope >>= λ t. expect_none t at >>= λ _. next) g ≡ fine a h → (k : Noted) × Checked e scope none_type g k × (next k ≡ fine a h)
+no_value at {g = g} known e =
+    let p = steps e in
+    let q = steps p.onward in
+    let n = expected_none _ _ _ _ _ q.first in
+    (q.between, to n.0 n.1 (known p.value g p.between p.first), q.onward)
 
 mutual
   pub checked : (e : Exp) (scope : Scope) (t : Ty) (g h : Noted) → typed e scope g ≡ fine t h → Checked e scope t g h
@@ -44,11 +72,9 @@ mutual
       let a = checked_all args p.value.params scope r.value q.between r.between (eqb-true _ _ k.0) r.first in
       to d.0 d.1 (call c.0 c.1 c.2 (subst (λ y. CheckedAll args p.value.params scope y r.between) (sym (c.3 ∙ k.1)) a))
   checked (Neg s a) scope t g h e =
-      let p = steps e in
-      let q = steps p.onward in
-      let d = given _ _ _ _ q.onward in
-      let i = expected_int _ _ _ _ _ q.first in
-      to d.0 d.1 (neg (to i.0 i.1 (checked a scope p.value g p.between p.first)))
+      let i = an_int _ (checked a scope) e in
+      let d = given _ _ _ _ i.2 in
+      to d.0 d.1 (neg i.1)
   checked (Binary s op at a b) scope t g h e =
       let p = steps e in
       let q = steps p.onward in
@@ -72,75 +98,45 @@ mutual
   checked (Fill s y size value) scope t g h e =
       let p = steps e in
       let q = steps p.onward in
-      let r = steps q.onward in
-      let u = steps r.onward in
-      let v = steps u.onward in
-      let w = steps v.onward in
-      let d = given _ _ _ _ w.onward in
+      let i = an_int _ (checked size scope) q.onward in
+      let j = fitting _ (checked value scope) i.2 in
+      let d = given _ _ _ _ j.4 in
       let n = presented _ _ _ _ _ _ p.first in
       let f = element_got p.value _ q.value p.between q.between q.first in
-      let i = expected_int _ _ _ _ _ u.first in
-      let j = expected _ _ _ _ _ _ w.first in
-      from (n.1 ∙ f.3) (to (sym f.1 ∙ d.0) (j.1 ∙ d.1)
-      (fill q.value v.value f.2 (to i.0 i.1 (checked size scope r.value q.between r.between r.first))
-      (checked value scope v.value u.between v.between v.first) j.0))
+      from (n.1 ∙ f.3) (to (sym f.1 ∙ d.0) d.1 (fill q.value j.0 f.2 i.1 j.2 j.3))
   checked (Assign s v a) scope t g h e =
       let p = steps e in
       let q = steps p.onward in
-      let r = steps q.onward in
-      let u = steps r.onward in
-      let d = given _ _ _ _ u.onward in
+      let j = fitting _ (checked a scope) q.onward in
+      let d = given _ _ _ _ j.4 in
       let m = assignable_keep v scope q.value p.between q.between q.first in
-      let j = expected _ _ _ _ _ _ u.first in
-      to d.0 (j.1 ∙ d.1)
-      (assign (to_place refl m (checked_place v scope p.value g p.between p.first)) (checked a scope r.value q.between r.between r.first) j.0)
+      to d.0 d.1 (assign (to_place refl m (checked_place v scope p.value g p.between p.first)) j.2 j.3)
   checked (If s c a b) scope t g h e =
-      let p = steps e in
+      let i = an_int _ (checked c scope) e in
+      let p = steps i.2 in
       let q = steps p.onward in
       let r = steps q.onward in
-      let u = steps r.onward in
-      let v = steps u.onward in
-      let d = given _ _ _ _ v.onward in
-      let i = expected_int _ _ _ _ _ q.first in
-      let k = kept _ _ _ _ _ _ v.first in
-      let f = arms_fit r.value u.value k.0 in
-      to d.0 (k.1 ∙ d.1)
-      (if_else (to i.0 i.1 (checked c scope p.value g p.between p.first)) (checked a scope r.value q.between r.between r.first)
-      (checked b scope u.value r.between u.between u.first) f.0 f.1)
+      let d = given _ _ _ _ r.onward in
+      let k = kept _ _ _ _ _ _ r.first in
+      let f = arms_fit p.value q.value k.0 in
+      to d.0 (k.1 ∙ d.1) (if_else i.1 (checked a scope p.value i.0 p.between p.first) (checked b scope q.value p.between q.between q.first) f.0 f.1)
   checked (When s c a) scope t g h e =
-      let p = steps e in
-      let q = steps p.onward in
-      let r = steps q.onward in
-      let u = steps r.onward in
-      let d = given _ _ _ _ u.onward in
-      let i = expected_int _ _ _ _ _ q.first in
-      let k = expected_none _ _ _ _ _ u.first in
-      to d.0 d.1 (when (to i.0 i.1 (checked c scope p.value g p.between p.first)) (to k.0 k.1 (checked a scope r.value q.between r.between r.first)))
+      let i = an_int _ (checked c scope) e in
+      let n = no_value _ (checked a scope) i.2 in
+      let d = given _ _ _ _ n.2 in
+      to d.0 d.1 (when i.1 n.1)
   checked (While s c a) scope t g h e =
-      let p = steps e in
-      let q = steps p.onward in
-      let r = steps q.onward in
-      let u = steps r.onward in
-      let d = given _ _ _ _ u.onward in
-      let i = expected_int _ _ _ _ _ q.first in
-      let k = expected_none _ _ _ _ _ u.first in
-      to d.0 d.1
-      (while (to i.0 i.1 (checked c scope p.value g p.between p.first)) (to k.0 k.1 (checked a (in_a_loop scope) r.value q.between r.between r.first)))
+      let i = an_int _ (checked c scope) e in
+      let n = no_value _ (checked a (in_a_loop scope)) i.2 in
+      let d = given _ _ _ _ n.2 in
+      to d.0 d.1 (while i.1 n.1)
   checked (For s y low high a) scope t g h e =
-      let p = steps e in
-      let q = steps p.onward in
-      let r = steps q.onward in
-      let u = steps r.onward in
-      let v = steps u.onward in
-      let w = steps v.onward in
-      let d = given _ _ _ _ w.onward in
       let inner = in_a_loop (binding y (variable_at (at_of y) int_type true) scope) in
-      let i = expected_int _ _ _ _ _ q.first in
-      let j = expected_int _ _ _ _ _ u.first in
-      let k = expected_none _ _ _ _ _ w.first in
-      to d.0 d.1
-      (for (to i.0 i.1 (checked low scope p.value g p.between p.first)) (to j.0 j.1 (checked high scope r.value q.between r.between r.first))
-      (to k.0 k.1 (checked a inner v.value u.between v.between v.first)))
+      let i = an_int _ (checked low scope) e in
+      let j = an_int _ (checked high scope) i.2 in
+      let n = no_value _ (checked a inner) j.2 in
+      let d = given _ _ _ _ n.2 in
+      to d.0 d.1 (for i.1 j.1 n.1)
   checked (Let s ds es) scope t g h e =
       let p = steps e in
       block p.value (checked_decs ds scope p.value g p.between p.first) (checked_last none_type es p.value t p.between h p.onward)
@@ -157,13 +153,10 @@ mutual
   checked_place (Index v i) scope t g h e =
       let p = steps e in
       let q = steps p.onward in
-      let r = steps q.onward in
-      let u = steps r.onward in
-      let d = given _ _ _ _ u.onward in
+      let j = an_int _ (checked i scope) q.onward in
+      let d = given _ _ _ _ j.2 in
       let k = element_got p.value _ q.value p.between q.between q.first in
-      let j = expected_int _ _ _ _ _ u.first in
-      to_place d.0 d.1
-      (index k.0 (to_place k.1 k.3 (checked_place v scope p.value g p.between p.first)) k.2 (to j.0 j.1 (checked i scope r.value q.between r.between r.first)))
+      to_place d.0 d.1 (index k.0 (to_place k.1 k.3 (checked_place v scope p.value g p.between p.first)) k.2 j.1)
 
   checked_all : (es : Exps) (ts : List Ty) (scope : Scope) (y : Unit {0}) (g h : Noted) → count es ≡ length ts → expect_all es ts scope g ≡ fine y h →
       CheckedAll es ts scope g h
@@ -171,11 +164,8 @@ mutual
   checked_all no_exps (t ∷ ts) scope y g h c e = cc
   checked_all (exp a rest) [] scope y g h c e = cc
   checked_all (exp a rest) (t ∷ ts) scope y g h c e =
-      let p = steps e in
-      let q = steps p.onward in
-      let f = expected _ _ _ _ _ _ q.first in
-      an_arg p.value (to refl f.1 (checked a scope p.value g p.between p.first)) f.0
-      (checked_all rest ts scope y q.between h (let j : count rest ≡ length ts = cc in j) q.onward)
+      let f = fitting _ (checked a scope) e in
+      an_arg f.0 f.2 f.3 (checked_all rest ts scope y f.1 h (let j : count rest ≡ length ts = cc in j) f.4)
 
   checked_inits : (es : Inits) (fs : List (ℕ × Ty)) (scope : Scope) (y : Unit {0}) (g h : Noted) → are_fields es fs ≡ true →
       expect_fields es fs scope g ≡ fine y h → CheckedInits es fs scope g h
@@ -183,12 +173,9 @@ mutual
   checked_inits no_inits (one ∷ fs) scope y g h c e = cc
   checked_inits (init f a rest) [] scope y g h c e = cc
   checked_inits (init f a rest) (one ∷ fs) scope y g h c e =
-      let p = steps e in
-      let q = steps p.onward in
-      let w = expected _ _ _ _ _ _ q.first in
+      let w = fitting _ (checked a scope) e in
       let b = both (name_of f == one.0) (are_fields rest fs) c in
-      an_init p.value (eqb-true (name_of f) one.0 b.0) (to refl w.1 (checked a scope p.value g p.between p.first)) w.0
-      (checked_inits rest fs scope y q.between h b.1 q.onward)
+      an_init w.0 (eqb-true (name_of f) one.0 b.0) w.2 w.3 (checked_inits rest fs scope y w.1 h b.1 w.4)
 
   checked_last : (u : Ty) (es : Exps) (scope : Scope) (t : Ty) (g h : Noted) → typed_last u es scope g ≡ fine t h → CheckedLast u es scope t g h
   checked_last u no_exps scope t g h e =
@@ -214,12 +201,9 @@ mutual
       (checked_decs rest (binding y (variable_at (at_of y) q.value false) scope) inner q.between h q.onward)
   checked_decs (variable y (Some kind) a rest) scope inner g h e =
       let p = steps e in
-      let q = steps p.onward in
-      let r = steps q.onward in
+      let f = fitting _ (checked a scope) p.onward in
       let n = presented _ _ _ _ _ _ p.first in
-      let f = expected _ _ _ _ _ _ r.first in
-      variables p.value q.value (from n.1 (to refl f.1 (checked a scope q.value p.between q.between q.first))) f.0
-      (checked_decs rest (binding y (variable_at (at_of y) p.value false) scope) inner r.between h r.onward)
+      variables p.value f.0 (from n.1 f.2) f.3 (checked_decs rest (binding y (variable_at (at_of y) p.value false) scope) inner f.1 h f.4)
   checked_decs (functions fs rest) scope inner g h e =
       let p = steps e in
       let q = steps p.onward in

@@ -6,6 +6,8 @@ use Rattle.std.specs.Option.{option_map}
 use Rattle.std.proofs.Math.Seq.{drop-length}
 use Rattle.std.proofs.lemmas.List.{drop_more}
 use Rattle.tg_base.specs.declared.ids.Span.{Span}
+use Rattle.tg_syntax.specs.declared.tokens.Ident.{Ident}
+use Rattle.tg_syntax.specs.declared.trees.Param.{Param}
 use Rattle.tg_syntax.specs.declared.trees.Exp.{Exp as CodeExp}
 use Rattle.tg_syntax.specs.declared.trees.Init.{Init as CodeInit}
 use Rattle.tg_syntax.specs.declared.trees.Dec.{Dec as CodeDec, Types, Variable', Functions}
@@ -14,7 +16,7 @@ use Rattle.tg_syntax.specs.declared.trees.Exps.{Exps as CodeExps, out-Exps}
 use Rattle.tg_syntax.specs.declared.trees.Decs.{Decs as CodeDecs}
 use Rattle.tg_syntax.specs.declared.trees.Inits.{Inits as CodeInits, out-Inits}
 use Rattle.tg_syntax.specs.declared.trees.FunDecs.{FunDecs as CodeFunDecs, out-FunDecs}
-use Rattle.tg_syntax.specs.declared.trees.Kind.{Kind, Nil, Break, Int, Text, Read, Call, Neg', Binary', Make, Fill', Assign', If, If', None', Some', While', For', Let, Let', Seq}
+use Rattle.tg_syntax.specs.declared.trees.Kind.{Kind, If, Let}
 use Rattle.tg_syntax.specs.Tree.{Exp, Decs, no_decs}
 use Rattle.tg_syntax.specs.Plain.{plain, plain_kind, plain_exps, plain_inits, plain_functions, plain_dec}
 use Rattle.tg_syntax.specs.Lists.{exps_of, inits_of, decs_of, functions_of}
@@ -24,35 +26,35 @@ use Rattle.tg_types.specs.declared.states.CheckingState.{CheckingState}
 use Rattle.tg_types.specs.Types.{Ty, int_type, none_type}
 use Rattle.tg_types.specs.Checks.{Check, Noted, CheckResult, fine, give, on_fine, ◌>>=◌}
 use Rattle.tg_types.specs.Scopes.{Scope, Signature}
-use Rattle.tg_types.specs.Typing.{start_of, count, expect_all, expect_fields, typed, typed_last, declare, bodies}
+use Rattle.tg_types.specs.Groups.{with_params}
+use Rattle.tg_types.specs.Typing.{start_of, count, expect_all, expect_fields, body_fits, typed, typed_last, declare, bodies}
 use Rattle.tg_types.specs.Selections.{init_count, function_count}
-use Rattle.tg_types.specs.Trees.{fitting, choice, second_way, idle, one_body}
+use Rattle.tg_types.specs.Trees.{fitting, choice, second_way, idle, one_body, IsAmong}
 use Rattle.tg_syntax.specs.NamesWithin.{NamesWithin, ExpsWithin, InitsWithin, DecsWithin, FunctionsWithin}
 use Rattle.tg_types.specs.States.{Fails, Gives, Leads, Keeps, Opens, scope_of, noted_of}
+use Rattle.tg_types.proofs.LimitFaults.{span_is}
 use Rattle.tg_types.proofs.Steps.{step, two_steps, fails_first, two_fail_first, two_fail_then, last_fails, same_scope, keeps_both, keeps_same, opens_keep, opens_both}
 
 -- where an expression begins
-kind_start : (k : Kind) (s : Span) → start_of (plain_kind k s) ≡ s.from
-kind_start Nil s = refl
-kind_start Break s = refl
-kind_start (Int _) s = refl
-kind_start (Text _) s = refl
-kind_start (Read _) s = refl
-kind_start (Call _ _) s = refl
-kind_start (Neg' _ _ _) s = refl
-kind_start (Binary' _ _ _ _ _ _ _ _) s = refl
-kind_start (Make _ _) s = refl
-kind_start (Fill' _ _ _ _ _ _ _) s = refl
-kind_start (Assign' _ _ _ _) s = refl
-kind_start (If' _ _ _ _ _ _ None') s = refl
-kind_start (If' _ _ _ _ _ _ (Some' _ _ _)) s = refl
-kind_start (While' _ _ _ _ _ _) s = refl
-kind_start (For' _ _ _ _ _ _ _ _ _ _) s = refl
-kind_start (Let' _ _ _) s = refl
-kind_start (Seq _) s = refl
-
 pub start_is : (e : CodeExp) → start_of (plain e) ≡ e.span.from
-start_is e = kind_start e.kind e.span
+start_is e = ap (λ (s : Span). s.from) (span_is e)
+
+-- the parts of what is typed are these
+pub typed_at : (e : Exp) {s s' : Scope} {n n' : Noted} → s ≡ s' → n' ≡ n → typed e s n ≡ typed e s' n'
+typed_at e {s' = s'} {n = n} i j = ap (λ s. typed e s n) i ∙ ap (λ n. typed e s' n) (sym j)
+
+pub params_at : {ps qs : List Param} {ts us : List Ty} (scope : Scope) → qs ≡ ps → us ≡ ts → with_params ps ts scope ≡ with_params qs us scope
+params_at {qs = qs} {ts = ts} scope i j = ap (λ ps. with_params ps ts scope) (sym i) ∙ ap (λ ts. with_params qs ts scope) (sym j)
+
+pub fits_at : (r : Option Ident) {t u : Ty} (got : Ty) {at from : ℕ} (n : Noted) → u ≡ t → at ≡ from → body_fits r t got at n ≡ body_fits r u got from n
+fits_at r {u = u} got {at = at} n i j = ap (λ t. body_fits r t got at n) (sym i) ∙ ap (λ at. body_fits r u got at n) j
+
+-- a part of a list, by its place
+pub among : {A : Type 0} {xs ys : List A} {x : A} (k : ℕ) → k < length xs → x ≡ get_or xs k x → xs ≡ ys → IsAmong x ys
+among {x = x} k l i e = subst (λ zs. IsAmong x zs) e (k, l, i)
+
+pub index_at : {A : Type 0} (xs : List A) {x : A} {j k : ℕ} → x ≡ get_or xs j x → j ≡ k → x ≡ get_or xs k x
+index_at xs {x = x} i e = i ∙ ap (λ k. get_or xs k x) e
 
 -- how many there are
 count_of : (es : List CodeExp) → count (exps_of es) ≡ length es

@@ -5,8 +5,10 @@ use Rattle.tg_types.specs.declared.faults.TypeFault.{TypeFault}
 use Rattle.tg_types.specs.declared.faults.TypeFault.TheVariants.{Bad, Memory}
 use Rattle.tg_types.specs.declared.states.CheckingState.{CheckingState}
 use Rattle.tg_types.specs.Types.{Ty}
-use Rattle.tg_types.specs.Checks.{Noted, CheckResult, fine, fault}
+use Rattle.tg_types.specs.Checks.{Noted, Check, CheckResult, fine, fault}
 use Rattle.tg_types.specs.Scopes.{Scope, Binding, standard_bindings, standard_types}
+use Rattle.tg_types.specs.Typing.{declare}
+use Rattle.tg_syntax.specs.Tree.{Decs}
 
 -- the scope of a state: what it holds, before what the names mean outside
 abbrev pub scope_of : (names : List (List ℕ)) → CheckingState → (in_loop : Bool) → Scope
@@ -35,6 +37,28 @@ abbrev pub Leads : {X A : Type 0} → Result X TypeFault → Scope → (after : 
     (Scope → Noted → CheckResult A) → CheckResult A → Type 0
 Leads (Ok x) scope after onward c = c ≡ onward scope after
 Leads (Err e) scope after onward c = Fails e c
+
+-- a call that moves the state on answers what a check gives, in the scope of the state before
+abbrev pub Follows : {X A : Type 0} → (names : List (List ℕ)) → (old new : CheckingState) →
+    (in_loop : Bool) → Result X TypeFault → (X → A) → (Scope → Check A) → Type 0
+Follows names old new in_loop result value check =
+    (scope : Scope) → scope ≡ scope_of names old in_loop →
+    Gives result value (noted_of new) (check scope (noted_of old))
+
+-- the same of a call that only looks at the state, whatever is noted
+abbrev pub Judges : {X A : Type 0} → (names : List (List ℕ)) → CheckingState →
+    Result X TypeFault → (X → A) → (Scope → Check A) → Type 0
+Judges names state result value check =
+    (scope : Scope) (in_loop : Bool) → scope ≡ scope_of names state in_loop →
+    (n : Noted) → Gives result value n (check scope n)
+
+-- a call declares what stands before the rest of a list of declarations, which goes on behind it
+abbrev pub Declares : {X : Type 0} → (names : List (List ℕ)) → (old new : CheckingState) →
+    (in_loop : Bool) → Result X TypeFault → (Decs → Decs) → Type 0
+Declares names old new in_loop result declared =
+    (rest : Decs) (scope : Scope) → scope ≡ scope_of names old in_loop →
+    Leads result (scope_of names new in_loop) (noted_of new) (declare rest)
+    (declare (declared rest) scope (noted_of old))
 
 -- the same names are open
 pub record Keeps (old new : CheckingState) : Type 0 where

@@ -10,7 +10,7 @@ ghost use Rattle.tg_types.specs.Scopes.{Scope};
 ghost use Rattle.tg_types.specs.Groups as groups;
 ghost use Rattle.tg_types.specs.Declaring.{HasNames, HasPlaces, AreDifferent, chain_from};
 ghost use Rattle.tg_types.specs.Declaring.{ChainWithin, named_types};
-ghost use Rattle.tg_types.specs.States.{Gives, Keeps, Opens, scope_of, noted_of};
+ghost use Rattle.tg_types.specs.States.{Gives, Follows, Keeps, Opens, scope_of, noted_of};
 
 use crate::chains::{Chain, ends_of};
 use crate::faults::{TypeFault, TypeRule};
@@ -32,10 +32,9 @@ pub(crate) fn declare_types(
     group: &[TypeDec],
 ) -> Result<(), TypeFault>
     requires { TypesWithin (length names.now) (map plain_type group.now) }
-    ensures given { (scope : Scope) (in_loop : Bool) →
-        scope ≡ scope_of names.now state.old in_loop →
-        Gives result (λ _. scope_of names.now state.new in_loop) (noted_of state.new)
-        (groups.declare_types (map plain_type group.now) scope (noted_of state.old)) }
+    ensures given { (in_loop : Bool) → Follows names.now state.old state.new in_loop result
+        (λ _. scope_of names.now state.new in_loop)
+        (groups.declare_types (map plain_type group.now)) }
     ensures opens { OnOk result (Opens state.old state.new) }
 {
     let places = places_of(state.alloc, group)?;
@@ -198,8 +197,7 @@ fn types_of(
 
 fn type_at_end(names: &Names, state: &CheckingState, end: Chain, group: &[TypeDec]) -> Ty
     requires { ChainWithin (length names.now) (map plain_type group.now) end }
-    ensures { (scope : Scope) (in_loop : Bool) →
-        scope ≡ scope_of names.now state.now in_loop →
+    ensures { (scope : Scope) (in_loop : Bool) → scope ≡ scope_of names.now state.now in_loop →
         result ≡ groups.type_at_end (chain_from (map plain_type group.now) end) scope }
 {
     match end {
@@ -236,10 +234,9 @@ fn open_types(state: &mut CheckingState, types: &[Ty], group: &[TypeDec]) -> Res
 
 fn add_forms(names: &Names, state: &mut CheckingState, group: &[TypeDec]) -> Result<(), TypeFault>
     requires { TypesWithin (length names.now) (map plain_type group.now) }
-    ensures given { (scope : Scope) (in_loop : Bool) →
-        scope ≡ scope_of names.now state.old in_loop →
-        Gives result (λ _. tt) (noted_of state.new)
-        (groups.add_forms scope (map plain_type group.now) (noted_of state.old)) }
+    ensures given { (in_loop : Bool) →
+        Follows names.now state.old state.new in_loop result (λ _. tt)
+        (λ scope. groups.add_forms scope (map plain_type group.now)) }
     ensures kept { OnOk result (Keeps state.old state.new) }
 {
     for dec in group {
@@ -250,11 +247,9 @@ fn add_forms(names: &Names, state: &mut CheckingState, group: &[TypeDec]) -> Res
 
 fn add_form(names: &Names, state: &mut CheckingState, dec: &TypeDec) -> Result<(), TypeFault>
     requires { FormWithin (length names.now) (plain_form dec.now.form) }
-    ensures given { (scope : Scope) (in_loop : Bool) →
-        scope ≡ scope_of names.now state.old in_loop →
-        Gives result (λ _. tt) (noted_of state.new)
-        (groups.add_form scope dec.now.name.span.from (plain_form dec.now.form)
-        (noted_of state.old)) }
+    ensures given { (in_loop : Bool) →
+        Follows names.now state.old state.new in_loop result (λ _. tt)
+        (λ scope. groups.add_form scope dec.now.name.span.from (plain_form dec.now.form)) }
     ensures kept { OnOk result (Keeps state.old state.new) }
 {
     match &dec.form {
@@ -281,8 +276,7 @@ fn add_shape(state: &mut CheckingState, at: u32, shape: Shape) -> Result<(), Typ
 
 fn fields_of(names: &Names, state: &CheckingState, fields: &[Param]) -> Result<Table<Ty>, Memory>
     requires { ParamsWithin (length names.now) fields.now }
-    ensures { (scope : Scope) (in_loop : Bool) →
-        scope ≡ scope_of names.now state.now in_loop →
+    ensures { (scope : Scope) (in_loop : Bool) → scope ≡ scope_of names.now state.now in_loop →
         IfOk result (λ t. t
         ≡ map (λ p. (p.name.name.0, groups.known_type scope p.kind)) fields.now) }
 {
@@ -298,8 +292,7 @@ fn fields_of(names: &Names, state: &CheckingState, fields: &[Param]) -> Result<T
 
 fn known_type(names: &Names, state: &CheckingState, x: Ident) -> Ty
     requires { IsWithin (length names.now) x }
-    ensures { (scope : Scope) (in_loop : Bool) →
-        scope ≡ scope_of names.now state.now in_loop →
+    ensures { (scope : Scope) (in_loop : Bool) → scope ≡ scope_of names.now state.now in_loop →
         result ≡ groups.known_type scope x }
 {
     type_of(names, state, x).unwrap_or(Ty::nothing())

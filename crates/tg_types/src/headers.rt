@@ -6,7 +6,7 @@ ghost use Rattle.tg_types.specs.Scopes.{Scope};
 ghost use Rattle.tg_types.specs.Groups as groups;
 ghost use Rattle.tg_types.specs.Selections.{function_count, header_of};
 ghost use Rattle.tg_syntax.specs.NamesWithin.{FunctionsWithin, ParamsWithin, KindWithin};
-ghost use Rattle.tg_types.specs.States.{Gives, Opens, scope_of, noted_of};
+ghost use Rattle.tg_types.specs.States.{Gives, Judges, Opens, scope_of, noted_of};
 
 use crate::bindings::{Binding, Signature};
 use crate::faults::{TypeFault, TypeRule};
@@ -37,10 +37,8 @@ pub(crate) fn headers(
     functions: &FunDecs,
 ) -> Result<Vec<Signature>, TypeFault>
     requires { FunctionsWithin (length names.now) (plain_functions functions.now) }
-    ensures given { (scope : Scope) (in_loop : Bool) →
-        scope ≡ scope_of names.now state.now in_loop →
-        (n : Noted) → Gives result (λ v. v.items) n
-        (groups.headers (plain_functions functions.now) scope n) }
+    ensures given { Judges names.now state.now result (λ v. v.items)
+        (groups.headers (plain_functions functions.now)) }
     ensures as_many { IfOk result (λ v.
         function_count (plain_functions functions.now) ≡ length v.items) }
 {
@@ -54,9 +52,8 @@ pub(crate) fn headers(
 fn header(names: &Names, state: &CheckingState, function: &FunDec) -> Result<Signature, TypeFault>
     requires params { ParamsWithin (length names.now) function.now.params }
     requires kind { KindWithin (length names.now) function.now.result }
-    ensures { (scope : Scope) (in_loop : Bool) → scope ≡ scope_of names.now state.now in_loop →
-        (n : Noted) → Gives result (λ s. s) n
-        (header_of function.now.params function.now.result scope n) }
+    ensures { Judges names.now state.now result (λ s. s)
+        (header_of function.now.params function.now.result) }
 {
     let params = param_types(names, state, function.params.as_slice())?;
     let outcome = result_type(names, state, function.result)?;
@@ -65,9 +62,7 @@ fn header(names: &Names, state: &CheckingState, function: &FunDec) -> Result<Sig
 
 fn result_type(names: &Names, state: &CheckingState, kind: Option<Ident>) -> Result<Ty, TypeFault>
     requires { KindWithin (length names.now) kind }
-    ensures { (scope : Scope) (in_loop : Bool) → scope ≡ scope_of names.now state.now in_loop →
-        (n : Noted) → Gives result (λ t. t) n
-        (groups.result_type scope kind n) }
+    ensures { Judges names.now state.now result (λ t. t) (λ scope. groups.result_type scope kind) }
 {
     match kind {
         Some(kind) => type_named(names, state, kind),
@@ -77,10 +72,8 @@ fn result_type(names: &Names, state: &CheckingState, kind: Option<Ident>) -> Res
 
 fn param_types(names: &Names, state: &CheckingState, params: &[Param]) -> Result<Vec<Ty>, TypeFault>
     requires { ParamsWithin (length names.now) params.now }
-    ensures given { (scope : Scope) (in_loop : Bool) →
-        scope ≡ scope_of names.now state.now in_loop →
-        (n : Noted) → Gives result (λ v. v.items) n
-        (groups.param_types scope [] params.now n) }
+    ensures given { Judges names.now state.now result (λ v. v.items)
+        (λ scope. groups.param_types scope [] params.now) }
 {
     let mut earlier = HashSet::new(state.alloc);
     let mut types = Vec::new(state.alloc);

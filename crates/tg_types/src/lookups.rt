@@ -1,11 +1,10 @@
 ghost use Rattle.std.specs.Prelude.{◌≡◌, ◌<◌, ◌++◌, length, Bool};
 ghost use Rattle.tg_types.specs.declared.faults.TypeFault.TheVariants.{Bad};
 ghost use Rattle.tg_symbols.specs.Tables.{named};
-ghost use Rattle.tg_types.specs.Checks.{Noted};
 ghost use Rattle.tg_types.specs.Scopes.{Scope, bound, standard_types};
 ghost use Rattle.tg_types.specs.Groups as groups;
 ghost use Rattle.tg_types.specs.Typing as typing;
-ghost use Rattle.tg_types.specs.States.{Gives, Keeps, scope_of, noted_of};
+ghost use Rattle.tg_types.specs.States.{Follows, Judges, Keeps, scope_of};
 
 use crate::bindings::Signature;
 use crate::faults::{TypeFault, TypeRule};
@@ -30,9 +29,7 @@ pub(crate) fn type_of(names: &Names, state: &CheckingState, x: Ident) -> Option<
 /// A type's name.
 pub(crate) fn type_named(names: &Names, state: &CheckingState, x: Ident) -> Result<Ty, TypeFault>
     requires { x.name.0 < length names.now }
-    ensures { (scope : Scope) (in_loop : Bool) → scope ≡ scope_of names.now state.now in_loop →
-        (n : Noted) → Gives result (λ t. t) n
-        (groups.type_named x scope n) }
+    ensures { Judges names.now state.now result (λ t. t) (groups.type_named x) }
 {
     match type_of(names, state, x) {
         Some(ty) => Ok(ty),
@@ -43,10 +40,8 @@ pub(crate) fn type_named(names: &Names, state: &CheckingState, x: Ident) -> Resu
 /// A variable that is used.
 pub(crate) fn variable(names: &Names, state: &mut CheckingState, x: Ident) -> Result<Ty, TypeFault>
     requires { x.name.0 < length names.now }
-    ensures given { (scope : Scope) (in_loop : Bool) →
-        scope ≡ scope_of names.now state.old in_loop →
-        Gives result (λ t. t) (noted_of state.new)
-        (typing.variable_of x (bound x scope) (noted_of state.old)) }
+    ensures given { (in_loop : Bool) → Follows names.now state.old state.new in_loop result (λ t. t)
+        (λ scope. typing.variable_of x (bound x scope)) }
     ensures kept { Keeps state.old state.new }
 {
     match state.bindings.get(x.name.0) {
@@ -71,10 +66,8 @@ pub(crate) fn function(
     f: Ident,
 ) -> Result<Signature, TypeFault>
     requires { f.name.0 < length names.now }
-    ensures given { (scope : Scope) (in_loop : Bool) →
-        scope ≡ scope_of names.now state.old in_loop →
-        Gives result (λ s. s) (noted_of state.new)
-        (typing.function_of f (bound f scope) (noted_of state.old)) }
+    ensures given { (in_loop : Bool) → Follows names.now state.old state.new in_loop result (λ s. s)
+        (λ scope. typing.function_of f (bound f scope)) }
     ensures kept { Keeps state.old state.new }
 {
     match state.bindings.get(f.name.0) {
@@ -99,8 +92,7 @@ pub(crate) fn function(
 /// Whether a name is a loop's variable.
 pub(crate) fn is_loop_variable(names: &Names, state: &CheckingState, x: Ident) -> bool
     requires { x.name.0 < length names.now }
-    ensures { (scope : Scope) (in_loop : Bool) →
-        scope ≡ scope_of names.now state.now in_loop →
+    ensures { (scope : Scope) (in_loop : Bool) → scope ≡ scope_of names.now state.now in_loop →
         result ≡ typing.is_loop_variable (bound x scope) }
 {
     match state.bindings.get(x.name.0) {

@@ -19,7 +19,7 @@ ghost use Rattle.tg_types.specs.Trees.{right_operand, filled, second_way, choice
 ghost use Rattle.tg_types.specs.Trees.{one_body, IsAmong};
 ghost use Rattle.tg_syntax.specs.NamesWithin.{NamesWithin, PlaceWithin, ExpsWithin, InitsWithin};
 ghost use Rattle.tg_syntax.specs.NamesWithin.{DecsWithin, FunctionsWithin, IsWithin};
-ghost use Rattle.tg_types.specs.States.{Gives, Leads, Keeps, Opens};
+ghost use Rattle.tg_types.specs.States.{Gives, Follows, Judges, Declares, Keeps, Opens};
 ghost use Rattle.tg_types.specs.States.{scope_of, noted_of};
 
 use crate::bindings::{Binding, Signature};
@@ -44,9 +44,8 @@ pub(crate) fn typed(
     in_loop: bool,
 ) -> Result<Ty, TypeFault>
     requires { NamesWithin (length names.now) (plain e.now) }
-    ensures given { (scope : Scope) → scope ≡ scope_of names.now state.old in_loop →
-        Gives result (λ t. t) (noted_of state.new)
-        (typing.typed (plain e.now) scope (noted_of state.old)) }
+    ensures given { Follows names.now state.old state.new in_loop result (λ t. t)
+        (typing.typed (plain e.now)) }
     ensures kept { OnOk result (Keeps state.old state.new) }
 {
     match &e.kind {
@@ -125,9 +124,8 @@ fn fitting(
     in_loop: bool,
 ) -> Result<(), TypeFault>
     requires { NamesWithin (length names.now) (plain e.now) }
-    ensures given { (scope : Scope) → scope ≡ scope_of names.now state.old in_loop →
-        Gives result (λ _. tt) (noted_of state.new)
-        (fitting (plain e.now) wanted scope (noted_of state.old)) }
+    ensures given { Follows names.now state.old state.new in_loop result (λ _. tt)
+        (fitting (plain e.now) wanted) }
     ensures kept { OnOk result (Keeps state.old state.new) }
 {
     let got = typed(names, state, e, in_loop)?;
@@ -143,9 +141,8 @@ fn fitting_int(
     in_loop: bool,
 ) -> Result<(), TypeFault>
     requires { NamesWithin (length names.now) (plain e.now) }
-    ensures given { (scope : Scope) → scope ≡ scope_of names.now state.old in_loop →
-        Gives result (λ _. tt) (noted_of state.new)
-        (fitting (plain e.now) int_type scope (noted_of state.old)) }
+    ensures given { Follows names.now state.old state.new in_loop result (λ _. tt)
+        (fitting (plain e.now) int_type) }
     ensures kept { OnOk result (Keeps state.old state.new) }
 {
     fitting(names, state, e, Ty::int(), in_loop)
@@ -160,9 +157,8 @@ fn without_value(
     in_loop: bool,
 ) -> Result<(), TypeFault>
     requires { NamesWithin (length names.now) (plain e.now) }
-    ensures given { (scope : Scope) → scope ≡ scope_of names.now state.old in_loop →
-        Gives result (λ _. tt) (noted_of state.new)
-        (without_value (plain e.now) scope (noted_of state.old)) }
+    ensures given { Follows names.now state.old state.new in_loop result (λ _. tt)
+        (without_value (plain e.now)) }
     ensures kept { OnOk result (Keeps state.old state.new) }
 {
     let got = typed(names, state, e, in_loop)?;
@@ -177,9 +173,8 @@ fn typed_place(
     in_loop: bool,
 ) -> Result<Ty, TypeFault>
     requires { PlaceWithin (length names.now) (plain_place place.now) }
-    ensures given { (scope : Scope) → scope ≡ scope_of names.now state.old in_loop →
-        Gives result (λ t. t) (noted_of state.new)
-        (typing.typed_place (plain_place place.now) scope (noted_of state.old)) }
+    ensures given { Follows names.now state.old state.new in_loop result (λ t. t)
+        (typing.typed_place (plain_place place.now)) }
     ensures kept { OnOk result (Keeps state.old state.new) }
 {
     match place {
@@ -217,10 +212,8 @@ fn called(
 ) -> Result<Ty, TypeFault>
     requires f { IsWithin (length names.now) f }
     requires arguments { ExpsWithin (length names.now) (plain_exps arguments.now) }
-    ensures given { (scope : Scope) → scope ≡ scope_of names.now state.old in_loop →
-        Gives result (λ t. t) (noted_of state.new)
-        (typing.typed (tree.Call nowhere f (plain_exps arguments.now))
-        scope (noted_of state.old)) }
+    ensures given { Follows names.now state.old state.new in_loop result (λ t. t)
+        (typing.typed (tree.Call nowhere f (plain_exps arguments.now))) }
     ensures kept { OnOk result (Keeps state.old state.new) }
 {
     let signature = function(names, state, f)?;
@@ -247,9 +240,8 @@ fn typed_all(
 ) -> Result<(), TypeFault>
     requires names { ExpsWithin (length names.now) (plain_exps arguments.now) }
     requires as_many { typing.count (plain_exps arguments.now) ≡ length params.now }
-    ensures given { (scope : Scope) → scope ≡ scope_of names.now state.old in_loop →
-        Gives result (λ _. tt) (noted_of state.new)
-        (typing.expect_all (plain_exps arguments.now) params.now scope (noted_of state.old)) }
+    ensures given { Follows names.now state.old state.new in_loop result (λ _. tt)
+        (typing.expect_all (plain_exps arguments.now) params.now) }
     ensures kept { OnOk result (Keeps state.old state.new) }
 {
     let mut at = 0;
@@ -269,9 +261,8 @@ fn negated(
     in_loop: bool,
 ) -> Result<Ty, TypeFault>
     requires { NamesWithin (length names.now) (plain a.now) }
-    ensures given { (scope : Scope) → scope ≡ scope_of names.now state.old in_loop →
-        Gives result (λ t. t) (noted_of state.new)
-        (typing.typed (tree.Neg nowhere (plain a.now)) scope (noted_of state.old)) }
+    ensures given { Follows names.now state.old state.new in_loop result (λ t. t)
+        (typing.typed (tree.Neg nowhere (plain a.now))) }
     ensures kept { OnOk result (Keeps state.old state.new) }
 {
     fitting_int(names, state, a, in_loop)?;
@@ -289,9 +280,8 @@ fn left_operand(
     in_loop: bool,
 ) -> Result<Ty, TypeFault>
     requires { NamesWithin (length names.now) (plain a.now) }
-    ensures given { (scope : Scope) → scope ≡ scope_of names.now state.old in_loop →
-        Gives result (λ t. t) (noted_of state.new)
-        (left_operand op at (plain a.now) scope (noted_of state.old)) }
+    ensures given { Follows names.now state.old state.new in_loop result (λ t. t)
+        (left_operand op at (plain a.now)) }
     ensures kept { OnOk result (Keeps state.old state.new) }
 {
     let ty = typed(names, state, a, in_loop)?;
@@ -310,9 +300,8 @@ fn right_operand(
     in_loop: bool,
 ) -> Result<Ty, TypeFault>
     requires { NamesWithin (length names.now) (plain b.now) }
-    ensures given { (scope : Scope) → scope ≡ scope_of names.now state.old in_loop →
-        Gives result (λ t. t) (noted_of state.new)
-        (right_operand op left (plain b.now) whole scope (noted_of state.old)) }
+    ensures given { Follows names.now state.old state.new in_loop result (λ t. t)
+        (right_operand op left (plain b.now) whole) }
     ensures kept { OnOk result (Keeps state.old state.new) }
 {
     let right = typed(names, state, b, in_loop)?;
@@ -331,9 +320,8 @@ fn filled(
     in_loop: bool,
 ) -> Result<Ty, TypeFault>
     requires { NamesWithin (length names.now) (plain value.now) }
-    ensures given { (scope : Scope) → scope ≡ scope_of names.now state.old in_loop →
-        Gives result (λ t. t) (noted_of state.new)
-        (filled whole wanted (plain value.now) scope (noted_of state.old)) }
+    ensures given { Follows names.now state.old state.new in_loop result (λ t. t)
+        (filled whole wanted (plain value.now)) }
     ensures kept { OnOk result (Keeps state.old state.new) }
 {
     fitting(names, state, value, wanted, in_loop)?;
@@ -350,9 +338,8 @@ fn joined(
     in_loop: bool,
 ) -> Result<Ty, TypeFault>
     requires { NamesWithin (length names.now) (plain other.now) }
-    ensures given { (scope : Scope) → scope ≡ scope_of names.now state.old in_loop →
-        Gives result (λ t. t) (noted_of state.new)
-        (second_way ty (plain other.now) scope (noted_of state.old)) }
+    ensures given { Follows names.now state.old state.new in_loop result (λ t. t)
+        (second_way ty (plain other.now)) }
     ensures kept { OnOk result (Keeps state.old state.new) }
 {
     let also = typed(names, state, other, in_loop)?;
@@ -364,9 +351,8 @@ fn joined(
 #[cycle(typing)]
 fn idle(names: &Names, state: &mut CheckingState, e: &Exp, in_loop: bool) -> Result<Ty, TypeFault>
     requires { NamesWithin (length names.now) (plain e.now) }
-    ensures given { (scope : Scope) → scope ≡ scope_of names.now state.old in_loop →
-        Gives result (λ t. t) (noted_of state.new)
-        (idle (plain e.now) scope (noted_of state.old)) }
+    ensures given { Follows names.now state.old state.new in_loop result (λ t. t)
+        (idle (plain e.now)) }
     ensures kept { OnOk result (Keeps state.old state.new) }
 {
     without_value(names, state, e, in_loop)?;
@@ -383,9 +369,8 @@ fn counted(
     in_loop: bool,
 ) -> Result<Ty, TypeFault>
     requires { NamesWithin (length names.now) (plain body.now) }
-    ensures given { (scope : Scope) → scope ≡ scope_of names.now state.old in_loop →
-        Gives result (λ t. t) (noted_of state.new)
-        (counting x (plain body.now) scope (noted_of state.old)) }
+    ensures given { Follows names.now state.old state.new in_loop result (λ t. t)
+        (counting x (plain body.now)) }
     ensures kept { OnOk result (Keeps state.old state.new) }
 {
     let count = state.bindings.len();
@@ -405,10 +390,8 @@ fn made_record(
 ) -> Result<Ty, TypeFault>
     requires x { IsWithin (length names.now) x }
     requires inits { InitsWithin (length names.now) (plain_inits inits.now) }
-    ensures given { (scope : Scope) → scope ≡ scope_of names.now state.old in_loop →
-        Gives result (λ t. t) (noted_of state.new)
-        (typing.typed (tree.Make nowhere x (plain_inits inits.now))
-        scope (noted_of state.old)) }
+    ensures given { Follows names.now state.old state.new in_loop result (λ t. t)
+        (typing.typed (tree.Make nowhere x (plain_inits inits.now))) }
     ensures kept { OnOk result (Keeps state.old state.new) }
 {
     let ty = type_named(names, state, x)?;
@@ -428,9 +411,8 @@ fn typed_fields(
 ) -> Result<(), TypeFault>
     requires names { InitsWithin (length names.now) (plain_inits inits.now) }
     requires as_many { init_count (plain_inits inits.now) ≡ length fields.now }
-    ensures given { (scope : Scope) → scope ≡ scope_of names.now state.old in_loop →
-        Gives result (λ _. tt) (noted_of state.new)
-        (typing.expect_fields (plain_inits inits.now) fields.now scope (noted_of state.old)) }
+    ensures given { Follows names.now state.old state.new in_loop result (λ _. tt)
+        (typing.expect_fields (plain_inits inits.now) fields.now) }
     ensures kept { OnOk result (Keeps state.old state.new) }
 {
     let mut at = 0;
@@ -446,9 +428,8 @@ fn typed_fields(
 // A loop's variable isn't assigned.
 fn assignable(names: &Names, state: &CheckingState, place: &Var) -> Result<(), TypeFault>
     requires { PlaceWithin (length names.now) (plain_place place.now) }
-    ensures { (scope : Scope) (in_loop : Bool) → scope ≡ scope_of names.now state.now in_loop →
-        (n : Noted) → Gives result (λ _. tt) n
-        (typing.assignable (plain_place place.now) scope n) }
+    ensures { Judges names.now state.now result (λ _. tt)
+        (typing.assignable (plain_place place.now)) }
 {
     match place {
         Var::Simple(x) => kept(
@@ -470,9 +451,8 @@ fn typed_last(
     in_loop: bool,
 ) -> Result<Ty, TypeFault>
     requires { ExpsWithin (length names.now) (plain_exps items.now) }
-    ensures given { (scope : Scope) → scope ≡ scope_of names.now state.old in_loop →
-        Gives result (λ t. t) (noted_of state.new)
-        (typing.typed_last none_type (plain_exps items.now) scope (noted_of state.old)) }
+    ensures given { Follows names.now state.old state.new in_loop result (λ t. t)
+        (typing.typed_last none_type (plain_exps items.now)) }
     ensures kept { OnOk result (Keeps state.old state.new) }
 {
     let mut last = Ty::nothing();
@@ -492,9 +472,9 @@ fn declared(
     in_loop: bool,
 ) -> Result<(), TypeFault>
     requires { DecsWithin (length names.now) (decs_of decs.now.items.items) }
-    ensures given { (scope : Scope) → scope ≡ scope_of names.now state.old in_loop →
-        Gives result (λ _. scope_of names.now state.new in_loop) (noted_of state.new)
-        (typing.declare (decs_of decs.now.items.items) scope (noted_of state.old)) }
+    ensures given { Follows names.now state.old state.new in_loop result
+        (λ _. scope_of names.now state.new in_loop)
+        (typing.declare (decs_of decs.now.items.items)) }
     ensures opens { OnOk result (Opens state.old state.new) }
 {
     for dec in &decs.items {
@@ -512,11 +492,7 @@ fn declaration(
     in_loop: bool,
 ) -> Result<(), TypeFault>
     requires { DecsWithin (length names.now) (plain_dec dec.now tree.no_decs) }
-    ensures given { (rest : tree.Decs) (scope : Scope) →
-        scope ≡ scope_of names.now state.old in_loop →
-        Leads result (scope_of names.now state.new in_loop) (noted_of state.new)
-        (typing.declare rest)
-        (typing.declare (plain_dec dec.now rest) scope (noted_of state.old)) }
+    ensures given { Declares names.now state.old state.new in_loop result (plain_dec dec.now) }
     ensures opens { OnOk result (Opens state.old state.new) }
 {
     match dec {
@@ -539,12 +515,8 @@ fn own_variable(
     in_loop: bool,
 ) -> Result<(), TypeFault>
     requires { NamesWithin (length names.now) (plain value.now) }
-    ensures given { (rest : tree.Decs) (scope : Scope) →
-        scope ≡ scope_of names.now state.old in_loop →
-        Leads result (scope_of names.now state.new in_loop) (noted_of state.new)
-        (typing.declare rest)
-        (typing.declare (tree.variable x None (plain value.now) rest)
-        scope (noted_of state.old)) }
+    ensures given { Declares names.now state.old state.new in_loop result
+        (tree.variable x None (plain value.now)) }
     ensures opens { OnOk result (Opens state.old state.new) }
 {
     let ty = typed(names, state, value, in_loop)?;
@@ -565,12 +537,8 @@ fn typed_variable(
 ) -> Result<(), TypeFault>
     requires kind { IsWithin (length names.now) kind }
     requires value { NamesWithin (length names.now) (plain value.now) }
-    ensures given { (rest : tree.Decs) (scope : Scope) →
-        scope ≡ scope_of names.now state.old in_loop →
-        Leads result (scope_of names.now state.new in_loop) (noted_of state.new)
-        (typing.declare rest)
-        (typing.declare (tree.variable x (Some kind) (plain value.now) rest)
-        scope (noted_of state.old)) }
+    ensures given { Declares names.now state.old state.new in_loop result
+        (tree.variable x (Some kind) (plain value.now)) }
     ensures opens { OnOk result (Opens state.old state.new) }
 {
     let ty = type_named(names, state, kind)?;
@@ -609,12 +577,8 @@ fn declare_functions(
     group: &FunDecs,
 ) -> Result<(), TypeFault>
     requires { FunctionsWithin (length names.now) (plain_functions group.now) }
-    ensures given { (rest : tree.Decs) (in_loop : Bool) (scope : Scope) →
-        scope ≡ scope_of names.now state.old in_loop →
-        Leads result (scope_of names.now state.new in_loop) (noted_of state.new)
-        (typing.declare rest)
-        (typing.declare (tree.functions (plain_functions group.now) rest)
-        scope (noted_of state.old)) }
+    ensures given { (in_loop : Bool) → Declares names.now state.old state.new in_loop result
+        (tree.functions (plain_functions group.now)) }
     ensures opens { OnOk result (Opens state.old state.new) }
 {
     all_fresh(state, group)?;
@@ -632,9 +596,8 @@ fn bodies(
 ) -> Result<(), TypeFault>
     requires names { FunctionsWithin (length names.now) (plain_functions group.now) }
     requires as_many { function_count (plain_functions group.now) ≡ length signatures.now }
-    ensures given { (scope : Scope) → scope ≡ scope_of names.now state.old false →
-        Gives result (λ _. tt) (noted_of state.new)
-        (typing.bodies (plain_functions group.now) signatures.now scope (noted_of state.old)) }
+    ensures given { Follows names.now state.old state.new false result (λ _. tt)
+        (typing.bodies (plain_functions group.now) signatures.now) }
     ensures kept { OnOk result (Keeps state.old state.new) }
 {
     let mut at = 0;
@@ -654,10 +617,8 @@ fn body(
     signature: &Signature,
 ) -> Result<(), TypeFault>
     requires names { NamesWithin (length names.now) (plain function.now.body) }
-    ensures given { (scope : Scope) → scope ≡ scope_of names.now state.old false →
-        Gives result (λ _. tt) (noted_of state.new)
-        (one_body function.now.params function.now.result (plain function.now.body)
-        signature.now scope (noted_of state.old)) }
+    ensures given { Follows names.now state.old state.new false result (λ _. tt)
+        (one_body function.now.params function.now.result (plain function.now.body) signature.now) }
     ensures kept { OnOk result (Keeps state.old state.new) }
 {
     let count = state.bindings.len();

@@ -9,14 +9,14 @@ use Rattle.tg_types.proofs.Steps.{ended, given, carry}
 use Rattle.tg_types.proofs.groups.add_form.Goals as goal
 
 pub returns-in_err-fields-in-Fields-clause-given : goal.returns-in_err-fields-in-Fields-clause-given
-returns-in_err-fields-in-Fields-clause-given c = λ scope in_loop h. ended _ _ _ c.from_residual.ensures no_memory
+returns-in_err-fields-in-Fields-clause-given c = λ in_loop scope h. ended _ _ _ c.from_residual.ensures no_memory
 
 pub returns-in-Alias-clause-given : goal.returns-in-Alias-clause-given
-returns-in-Alias-clause-given c = λ scope in_loop h.
+returns-in-Alias-clause-given c = λ in_loop scope h.
     ap (λ f. groups.add_form scope c.args.dec.now.name.span.from (plain_form f) (noted_of c.args.state.now)) c.in-Alias.is ∙ given
 
 pub returns-in_ok-fields-in-Fields-clause-given : goal.returns-in_ok-fields-in-Fields-clause-given
-returns-in_ok-fields-in-Fields-clause-given c = λ scope in_loop h.
+returns-in_ok-fields-in-Fields-clause-given c = λ in_loop scope h.
     let at = c.args.dec.now.name.span.from in
     let n = noted_of c.args.state.now in
     let is = c.record_of.ensures ∙ ap record_shape (c.in_ok-fields-in-Fields.ensures scope in_loop h ∙ ap
@@ -25,7 +25,7 @@ returns-in_ok-fields-in-Fields-clause-given c = λ scope in_loop h.
     c.add_shape.ensures.given
 
 pub returns-in-Array-clause-given : goal.returns-in-Array-clause-given
-returns-in-Array-clause-given c = λ scope in_loop h.
+returns-in-Array-clause-given c = λ in_loop scope h.
     let at = c.args.dec.now.name.span.from in
     let n = noted_of c.args.state.now in
     let is = c.array_of.ensures ∙ ap array_shape (c.known_type-element.ensures scope in_loop h) in

@@ -15,7 +15,7 @@ use Rattle.tg_syntax.proofs.ListLaws.{plain_kind-Let, plain_exps-items, plain_in
 use Rattle.tg_syntax.specs.Lists.{exps_of, inits_of, decs_of, functions_of}
 use Rattle.tg_types.proofs.Steps.{step, two_steps, given, fails_first, fails_then, two_fail_first, two_fail_then, ended, leads_ended, carry, last_fails, same_scope, no_loop_scope, opens_both, opens_keep, given_is, keep_is, keep_true, kept_steps, kept_fail, kept_then, cut_back, opened_state, keeps_both}
 use Rattle.tg_types.proofs.HeaderSteps.{open_one}
-use Rattle.tg_types.proofs.TreeSteps.{start_is, count_is, init_count_is, function_count_is, arguments_none, arguments_one, arguments_fail, arguments_all, fields_none, fields_one, fields_fail, fields_all, order_none, order_one, order_fails, order_all, decs_none, decs_one, decs_fail, decs_all, bodies_none, bodies_one, bodies_fail, bodies_all, leads_carry, leads_on, leads_kept, choice_fails, choice_first_fails, choice_both, choice_one}
+use Rattle.tg_types.proofs.TreeSteps.{start_is, count_is, init_count_is, function_count_is, among, index_at, typed_at, params_at, fits_at, arguments_none, arguments_one, arguments_fail, arguments_all, fields_none, fields_one, fields_fail, fields_all, order_none, order_one, order_fails, order_all, decs_none, decs_one, decs_fail, decs_all, bodies_none, bodies_one, bodies_fail, bodies_all, leads_carry, leads_on, leads_kept, choice_fails, choice_first_fails, choice_both, choice_one}
 use Rattle.tg_types.proofs.trees.+typing.Goals as goal
 
 pub fitting-returns-in_err-got-clause-given : goal.fitting-returns-in_err-got-clause-given
@@ -67,24 +67,33 @@ made_record-returns-clause-given t c =
 
 pub called-returns-in_err-signature-clause-given : goal.called-returns-in_err-signature-clause-given
 called-returns-in_err-signature-clause-given t c =
-    λ scope h. ended _ _ _ c.from_residual.ensures (fails_first _ _ (c.in_err-signature.ensures.given scope c.args.in_loop h))
+    λ scope h. ended _ _ _ c.from_residual.ensures (fails_first _ _ (c.in_err-signature.ensures.given c.args.in_loop scope h))
 
 pub called-returns-in_err-kept-clause-given : goal.called-returns-in_err-kept-clause-given
 called-returns-in_err-kept-clause-given t c =
     λ scope h. ended _ _ _ c.from_residual-in_err-kept.ensures
-    (fails_then _ _ (c.in_ok-signature.ensures.given scope c.args.in_loop h)
-    (fails_first _ _ (last_fails (keep_is _ _ refl (ap (λ ps. typing.count (plain_exps c.args.arguments.now) == length ps) (sym c.params-params.ensures) ∙ sym c.are_as_many.ensures)) (c.in_err-kept.ensures _))))
+    (fails_then _ _ (c.in_ok-signature.ensures.given c.args.in_loop scope h)
+    (fails_first _ _ (last_fails (keep_is _ _ refl (ap (λ ps. typing.count (plain_exps c.args.arguments.now) == length ps) (sym c.params-params.ensures)
+    ∙ sym c.are_as_many.ensures)) (c.in_err-kept.ensures _))))
 
 pub called-returns-in_err-typed_all-clause-given : goal.called-returns-in_err-typed_all-clause-given
 called-returns-in_err-typed_all-clause-given t c =
     λ scope h. ended _ _ _ c.from_residual-in_err-typed_all.ensures
-    (fails_then _ _ (c.in_ok-signature.ensures.given scope c.args.in_loop h)
-    (fails_then _ _ (keep_is _ _ refl (ap (λ ps. typing.count (plain_exps c.args.arguments.now) == length ps) (sym c.params-params.ensures) ∙ sym c.are_as_many.ensures) ∙ c.in_ok-kept.ensures _) (fails_first _ _ (last_fails (ap (λ ps. typing.expect_all (plain_exps c.args.arguments.now) ps scope (noted_of c.function.new.state)) (sym c.params-params.ensures)) (c.in_err-typed_all.ensures.given scope (same_scope c.args.names.now c.in_ok-signature.ensures.kept h))))))
+    (fails_then _ _ (c.in_ok-signature.ensures.given c.args.in_loop scope h)
+    (fails_then _ _ (keep_is _ _ refl (ap (λ ps. typing.count (plain_exps c.args.arguments.now) == length ps) (sym c.params-params.ensures)
+    ∙ sym c.are_as_many.ensures)
+    ∙ c.in_ok-kept.ensures _) (fails_first _ _ (last_fails (ap (λ ps. typing.expect_all (plain_exps c.args.arguments.now) ps scope
+    (noted_of c.function.new.state)) (sym c.params-params.ensures))
+    (c.in_err-typed_all.ensures.given scope (same_scope c.args.names.now c.in_ok-signature.ensures.kept h))))))
 
 pub called-returns-clause-given : goal.called-returns-clause-given
 called-returns-clause-given t c =
-    λ scope h. step _ _ (c.in_ok-signature.ensures.given scope c.args.in_loop h)
-    (step _ _ (keep_is _ _ refl (ap (λ ps. typing.count (plain_exps c.args.arguments.now) == length ps) (sym c.params-params.ensures) ∙ sym c.are_as_many.ensures) ∙ c.in_ok-kept.ensures _) (step _ _ (ap (λ ps. typing.expect_all (plain_exps c.args.arguments.now) ps scope (noted_of c.function.new.state)) (sym c.params-params.ensures) ∙ c.in_ok-typed_all.ensures.given scope (same_scope c.args.names.now c.in_ok-signature.ensures.kept h)) (given_is c.outcome.ensures)))
+    λ scope h. step _ _ (c.in_ok-signature.ensures.given c.args.in_loop scope h)
+    (step _ _ (keep_is _ _ refl (ap (λ ps. typing.count (plain_exps c.args.arguments.now) == length ps) (sym c.params-params.ensures)
+    ∙ sym c.are_as_many.ensures)
+    ∙ c.in_ok-kept.ensures _) (step _ _ (ap (λ ps. typing.expect_all (plain_exps c.args.arguments.now) ps scope (noted_of c.function.new.state))
+    (sym c.params-params.ensures)
+    ∙ c.in_ok-typed_all.ensures.given scope (same_scope c.args.names.now c.in_ok-signature.ensures.kept h)) (given_is c.outcome.ensures)))
 
 pub fitting_int-returns-clause-given : goal.fitting_int-returns-clause-given
 fitting_int-returns-clause-given t c =
@@ -110,7 +119,14 @@ typed_last-returns-clause-given t c =
 
 pub typed_all-loop-e-preserved : goal.typed_all-loop-e-preserved
 typed_all-loop-e-preserved t c =
-    record { at_index = ap (λ k. k + 1) c.loop-e.invariant.at_index; onward = arguments_one c.e-item.result c.index-params-at.result c.loop-e.invariant.onward c.loop-e-test.true (ap length c.deref-e-items.ensures.value ∙ (sym (count_is c.args.arguments.now) ∙ c.requires.as_many)) c.e-item.is (c.index-params-at.is ∙ ap (λ k. get_or c.args.params.now k c.index-params-at.result) c.loop-e.invariant.at_index) c.in_ok-fitting.ensures.given c.in_ok-fitting.ensures.kept }
+    record {
+      at_index = ap (λ k. k + 1) c.loop-e.invariant.at_index;
+      onward =
+          arguments_one c.e-item.result c.index-params-at.result c.loop-e.invariant.onward c.loop-e-test.true
+          (ap length c.deref-e-items.ensures.value ∙ (sym (count_is c.args.arguments.now) ∙ c.requires.as_many)) c.e-item.is
+          (index_at c.args.params.now c.index-params-at.is c.loop-e.invariant.at_index)
+          c.in_ok-fitting.ensures.given c.in_ok-fitting.ensures.kept;
+    }
 
 pub typed_all-returns-in_err-fitting-clause-given : goal.typed_all-returns-in_err-fitting-clause-given
 typed_all-returns-in_err-fitting-clause-given t c =
@@ -119,7 +135,7 @@ typed_all-returns-in_err-fitting-clause-given t c =
     (plain_exps-items c.args.arguments.now ∙ ap exps_of (sym c.deref-e-items.ensures.value)))
     (arguments_fail c.e-item.result c.index-params-at.result c.loop-e.invariant.onward c.loop-e-test.true
     (ap length c.deref-e-items.ensures.value ∙ (sym (count_is c.args.arguments.now) ∙ c.requires.as_many)) c.e-item.is
-    (c.index-params-at.is ∙ ap (λ k. get_or c.args.params.now k c.index-params-at.result) c.loop-e.invariant.at_index) c.in_err-fitting.ensures.given scope
+    (index_at c.args.params.now c.index-params-at.is c.loop-e.invariant.at_index) c.in_err-fitting.ensures.given scope
     h))
 
 pub typed_all-returns-clause-given : goal.typed_all-returns-clause-given
@@ -204,7 +220,8 @@ pub right_operand-returns-in_err-right_side-clause-given : goal.right_operand-re
 right_operand-returns-in_err-right_side-clause-given t c =
     λ scope h. ended _ _ _ c.from_residual-in_err-right_side.ensures
     (fails_then _ _ (c.in_ok-right.ensures.given scope h)
-    (fails_first _ _ (last_fails (ap (λ at. typing.right_side c.args.op c.args.left c.in_ok-right.right at c.args.whole (noted_of c.typed.new.state)) (start_is c.args.b.now)) (c.in_err-right_side.ensures _))))
+    (fails_first _ _ (last_fails (ap (λ at. typing.right_side c.args.op c.args.left c.in_ok-right.right at c.args.whole (noted_of c.typed.new.state))
+    (start_is c.args.b.now)) (c.in_err-right_side.ensures _))))
 
 pub right_operand-returns-clause-given : goal.right_operand-returns-clause-given
 right_operand-returns-clause-given t c =
@@ -260,12 +277,16 @@ counted-returns-clause-given t c =
 
 pub counted-returns-clause-kept : goal.counted-returns-clause-kept
 counted-returns-clause-kept t c =
-    record { bindings = cut_back ((c.args.x.name.0, (variable_at c.args.x.span.from int_type true)) ∷ []) c.cut_to.ensures (c.in_ok-ty.ensures.kept.bindings ∙ c.in_ok-open_counter.ensures.bindings) c.len-count.ensures; types = c.in_ok-ty.ensures.kept.types ∙ c.in_ok-open_counter.ensures.types }
+    record {
+      bindings = cut_back ((c.args.x.name.0, (variable_at c.args.x.span.from int_type true)) ∷ []) c.cut_to.ensures (c.in_ok-ty.ensures.kept.bindings
+          ∙ c.in_ok-open_counter.ensures.bindings) c.len-count.ensures;
+      types = c.in_ok-ty.ensures.kept.types ∙ c.in_ok-open_counter.ensures.types;
+    }
 
 pub typed_place-returns-in-Simple-clause-given : goal.typed_place-returns-in-Simple-clause-given
 typed_place-returns-in-Simple-clause-given t c =
     λ scope h. carry c.variable.result _ _ (ap (λ v. typing.typed_place (plain_place v) scope (noted_of c.args.state.now)) c.in-Simple.is)
-    (c.variable.ensures.given scope c.args.in_loop h)
+    (c.variable.ensures.given c.args.in_loop scope h)
 
 pub typed_place-returns-in_err-ty-in-Field-clause-given : goal.typed_place-returns-in_err-ty-in-Field-clause-given
 typed_place-returns-in_err-ty-in-Field-clause-given t c =
@@ -294,7 +315,9 @@ typed_place-returns-in_err-element-in-Index-clause-given t c =
     (last_fails (ap (λ v. typing.typed_place (plain_place v) scope (noted_of c.args.state.now)) c.in-Index.is ∙ ap
     (λ v. typing.typed_place (tree.Index (plain_place v) (plain c.in-Index.index.value)) scope (noted_of c.args.state.now)) (sym c.deref-in-Index.ensures))
     (fails_then _ _ (c.in_ok-ty-in-Index.ensures.given scope h)
-    (fails_first _ _ (last_fails (ap (λ at. typing.element_of c.in_ok-ty-in-Index.ty at (noted_of c.typed_place-in-Index.new.state)) (ap (λ v. typing.place_start (plain_place v)) (c.deref-in-Index.ensures ∙ sym c.deref-in-Index-2.ensures) ∙ sym c.start_of-in-Index.ensures)) c.in_err-element-in-Index.ensures))))
+    (fails_first _ _ (last_fails (ap (λ at. typing.element_of c.in_ok-ty-in-Index.ty at (noted_of c.typed_place-in-Index.new.state))
+    (ap (λ v. typing.place_start (plain_place v)) (c.deref-in-Index.ensures ∙ sym c.deref-in-Index-2.ensures)
+    ∙ sym c.start_of-in-Index.ensures)) c.in_err-element-in-Index.ensures))))
 
 pub typed_place-returns-in_err-fitting_int-in-Index-clause-given : goal.typed_place-returns-in_err-fitting_int-in-Index-clause-given
 typed_place-returns-in_err-fitting_int-in-Index-clause-given t c =
@@ -401,23 +424,23 @@ declaration-returns-in-Types-clause-given t c =
     (ap (λ d. typing.declare (plain_dec d rest) scope (noted_of c.args.state.now)) c.in-Types.is ∙ ap
     (λ ds. typing.declare (tree.types (map plain_type ds) rest) scope (noted_of c.args.state.now)) (sym c.as_slice.ensures))
     (leads_on c.declare_types.result _ _ (groups.declare_types (map plain_type c.as_slice.result.now) scope) (typing.declare rest) _
-    (c.declare_types.ensures.given scope c.args.in_loop h))
+    (c.declare_types.ensures.given c.args.in_loop scope h))
 
 pub declare_functions-returns-in_err-all_fresh-clause-given : goal.declare_functions-returns-in_err-all_fresh-clause-given
 declare_functions-returns-in_err-all_fresh-clause-given t c =
-    λ rest in_loop scope h. leads_ended _ _ _ _ c.from_residual.ensures (fails_first _ _ (c.in_err-all_fresh.ensures _))
+    λ in_loop rest scope h. leads_ended _ _ _ _ c.from_residual.ensures (fails_first _ _ (c.in_err-all_fresh.ensures _))
 
 pub declare_functions-returns-in_err-signatures-clause-given : goal.declare_functions-returns-in_err-signatures-clause-given
 declare_functions-returns-in_err-signatures-clause-given t c =
-    λ rest in_loop scope h. leads_ended _ _ _ _ c.from_residual-in_err-signatures.ensures
+    λ in_loop rest scope h. leads_ended _ _ _ _ c.from_residual-in_err-signatures.ensures
     (fails_then _ _ (c.in_ok-all_fresh.ensures _) (fails_first _ _ (c.in_err-signatures.ensures.given scope in_loop h _)))
 
 pub declare_functions-returns-in_err-open_functions-clause-given : goal.declare_functions-returns-in_err-open_functions-clause-given
 declare_functions-returns-in_err-open_functions-clause-given t c =
-    λ rest in_loop scope h. leads_ended _ _ _ _ c.from_residual-in_err-open_functions.ensures no_memory
+    λ in_loop rest scope h. leads_ended _ _ _ _ c.from_residual-in_err-open_functions.ensures no_memory
 
 pub declare_functions-returns-clause-given : goal.declare_functions-returns-clause-given
-declare_functions-returns-clause-given t c = λ rest in_loop scope h.
+declare_functions-returns-clause-given t c = λ in_loop rest scope h.
     let inside : (groups.with_functions (plain_functions c.args.group.now) c.in_ok-signatures.signatures.items scope)
     ≡ scope_of c.args.names.now c.open_functions.new.state in_loop = ap (λ ss. groups.with_functions (plain_functions c.args.group.now) ss scope)
     (sym c.deref.ensures.value) ∙ c.in_ok-open_functions.ensures.given c.args.names.now in_loop scope h in
@@ -456,7 +479,14 @@ bodies-bounds-signatures-at t c =
 
 pub bodies-loop-function-preserved : goal.bodies-loop-function-preserved
 bodies-loop-function-preserved t c =
-    record { at_index = ap (λ k. k + 1) c.loop-function.invariant.at_index; onward = bodies_one c.function-item.result c.index-signatures-at.result c.loop-function.invariant.onward c.loop-function-test.true (ap length c.deref-function-items.ensures.value ∙ (sym (function_count_is c.args.group.now) ∙ c.requires.as_many)) c.function-item.is (c.index-signatures-at.is ∙ ap (λ k. get_or c.args.signatures.now k c.index-signatures-at.result) c.loop-function.invariant.at_index) c.in_ok-body.ensures.given c.in_ok-body.ensures.kept }
+    record {
+      at_index = ap (λ k. k + 1) c.loop-function.invariant.at_index;
+      onward =
+          bodies_one c.function-item.result c.index-signatures-at.result c.loop-function.invariant.onward c.loop-function-test.true
+          (ap length c.deref-function-items.ensures.value ∙ (sym (function_count_is c.args.group.now) ∙ c.requires.as_many)) c.function-item.is
+          (index_at c.args.signatures.now c.index-signatures-at.is c.loop-function.invariant.at_index)
+          c.in_ok-body.ensures.given c.in_ok-body.ensures.kept;
+    }
 
 pub bodies-returns-in_err-body-clause-given : goal.bodies-returns-in_err-body-clause-given
 bodies-returns-in_err-body-clause-given t c =
@@ -465,7 +495,7 @@ bodies-returns-in_err-body-clause-given t c =
     (plain_functions-items c.args.group.now ∙ ap functions_of (sym c.deref-function-items.ensures.value)))
     (bodies_fail c.function-item.result c.index-signatures-at.result c.loop-function.invariant.onward c.loop-function-test.true
     (ap length c.deref-function-items.ensures.value ∙ (sym (function_count_is c.args.group.now) ∙ c.requires.as_many)) c.function-item.is
-    (c.index-signatures-at.is ∙ ap (λ k. get_or c.args.signatures.now k c.index-signatures-at.result) c.loop-function.invariant.at_index)
+    (index_at c.args.signatures.now c.index-signatures-at.is c.loop-function.invariant.at_index)
     c.in_err-body.ensures.given scope h))
 
 pub bodies-returns-clause-given : goal.bodies-returns-clause-given
@@ -483,24 +513,27 @@ body-returns-in_err-open_params-clause-given t c = λ scope h. ended _ _ _ c.fro
 pub body-returns-in_err-got-clause-given : goal.body-returns-in_err-got-clause-given
 body-returns-in_err-got-clause-given t c =
     λ scope h. ended _ _ _ c.from_residual-in_err-got.ensures
-    (fails_first _ _ (last_fails (ap (λ s. typing.typed (plain c.args.function.now.body) s (noted_of c.args.state.now)) (ap (λ ps. groups.with_params ps c.args.signature.now.params scope) (sym c.as_slice.ensures) ∙ (ap (λ ts. groups.with_params c.as_slice.result.now ts scope) (sym c.params.ensures) ∙ c.in_ok-open_params.ensures.given c.args.names.now false scope h)) ∙ ap (λ n. typing.typed (plain c.args.function.now.body) (scope_of c.args.names.now c.open_params.new.state false) n) (sym c.in_ok-open_params.ensures.noted)) (c.in_err-got.ensures.given (scope_of c.args.names.now c.open_params.new.state false) refl)))
+    (fails_first _ _ (last_fails (typed_at (plain c.args.function.now.body)
+    (params_at scope c.as_slice.ensures c.params.ensures ∙ c.in_ok-open_params.ensures.given c.args.names.now false scope h)
+    c.in_ok-open_params.ensures.noted) (c.in_err-got.ensures.given (scope_of c.args.names.now c.open_params.new.state false) refl)))
 
 pub body-returns-in_err-body_fits-clause-given : goal.body-returns-in_err-body_fits-clause-given
 body-returns-in_err-body_fits-clause-given t c =
     λ scope h. ended _ _ _ c.from_residual-in_err-body_fits.ensures
-    (fails_then _ _ ((ap (λ s. typing.typed (plain c.args.function.now.body) s (noted_of c.args.state.now)) (ap (λ ps. groups.with_params ps c.args.signature.now.params scope) (sym c.as_slice.ensures) ∙ (ap (λ ts. groups.with_params c.as_slice.result.now ts scope) (sym c.params.ensures) ∙ c.in_ok-open_params.ensures.given c.args.names.now false scope h)) ∙ ap (λ n. typing.typed (plain c.args.function.now.body) (scope_of c.args.names.now c.open_params.new.state false) n) (sym c.in_ok-open_params.ensures.noted)) ∙ c.in_ok-got.ensures.given (scope_of c.args.names.now c.open_params.new.state false) refl) (last_fails (ap (λ t. typing.body_fits c.args.function.now.result t c.in_ok-got.got (typing.start_of (plain c.args.function.now.body)) (noted_of c.typed.new.state)) (sym c.outcome.ensures) ∙ ap (λ at. typing.body_fits c.args.function.now.result c.outcome.result c.in_ok-got.got at (noted_of c.typed.new.state)) (start_is c.args.function.now.body)) (c.in_err-body_fits.ensures _)))
+    (fails_then _ _ ((typed_at (plain c.args.function.now.body)
+    (params_at scope c.as_slice.ensures c.params.ensures ∙ c.in_ok-open_params.ensures.given c.args.names.now false scope h)
+    c.in_ok-open_params.ensures.noted) ∙ c.in_ok-got.ensures.given (scope_of c.args.names.now c.open_params.new.state false) refl) (last_fails
+    (fits_at c.args.function.now.result c.in_ok-got.got (noted_of c.typed.new.state) c.outcome.ensures (start_is c.args.function.now.body))
+    (c.in_err-body_fits.ensures _)))
 
 pub body-returns-clause-given : goal.body-returns-clause-given
 body-returns-clause-given t c =
-    λ scope h. step _ _ ((ap (λ s. typing.typed (plain c.args.function.now.body) s (noted_of c.args.state.now))
-    (ap (λ ps. groups.with_params ps c.args.signature.now.params scope) (sym c.as_slice.ensures)
-    ∙ (ap (λ ts. groups.with_params c.as_slice.result.now ts scope) (sym c.params.ensures)
-    ∙ c.in_ok-open_params.ensures.given c.args.names.now false scope h)) ∙ ap
-    (λ n. typing.typed (plain c.args.function.now.body) (scope_of c.args.names.now c.open_params.new.state false) n) (sym c.in_ok-open_params.ensures.noted))
+    λ scope h. step _ _ ((typed_at (plain c.args.function.now.body)
+    (params_at scope c.as_slice.ensures c.params.ensures ∙ c.in_ok-open_params.ensures.given c.args.names.now false scope h)
+    c.in_ok-open_params.ensures.noted)
     ∙ c.in_ok-got.ensures.given (scope_of c.args.names.now c.open_params.new.state false) refl)
-    ((ap (λ t. typing.body_fits c.args.function.now.result t c.in_ok-got.got (typing.start_of (plain c.args.function.now.body)) (noted_of c.typed.new.state))
-    (sym c.outcome.ensures) ∙ ap (λ at. typing.body_fits c.args.function.now.result c.outcome.result c.in_ok-got.got at (noted_of c.typed.new.state))
-    (start_is c.args.function.now.body)) ∙ c.in_ok-body_fits.ensures _)
+    ((fits_at c.args.function.now.result c.in_ok-got.got (noted_of c.typed.new.state) c.outcome.ensures (start_is c.args.function.now.body))
+    ∙ c.in_ok-body_fits.ensures _)
 
 pub called-typed_all-requires : goal.called-typed_all-requires
 called-typed_all-requires t c =
@@ -523,7 +556,14 @@ typed_fields-bounds-fields-at t c =
 
 pub typed_fields-loop-init-preserved : goal.typed_fields-loop-init-preserved
 typed_fields-loop-init-preserved t c =
-    record { at_index = ap (λ k. k + 1) c.loop-init.invariant.at_index; onward = fields_one c.init-item.result c.index-fields-at.result c.loop-init.invariant.onward c.loop-init-test.true (ap length c.deref-init-items.ensures.value ∙ (sym (init_count_is c.args.inits.now) ∙ c.requires.as_many)) c.init-item.is (c.index-fields-at.is ∙ ap (λ k. get_or c.args.fields.now k c.index-fields-at.result) c.loop-init.invariant.at_index) c.in_ok-fitting.ensures.given c.in_ok-fitting.ensures.kept }
+    record {
+      at_index = ap (λ k. k + 1) c.loop-init.invariant.at_index;
+      onward =
+          fields_one c.init-item.result c.index-fields-at.result c.loop-init.invariant.onward c.loop-init-test.true
+          (ap length c.deref-init-items.ensures.value ∙ (sym (init_count_is c.args.inits.now) ∙ c.requires.as_many)) c.init-item.is
+          (index_at c.args.fields.now c.index-fields-at.is c.loop-init.invariant.at_index)
+          c.in_ok-fitting.ensures.given c.in_ok-fitting.ensures.kept;
+    }
 
 pub typed_fields-returns-in_err-fitting-clause-given : goal.typed_fields-returns-in_err-fitting-clause-given
 typed_fields-returns-in_err-fitting-clause-given t c =
@@ -532,7 +572,7 @@ typed_fields-returns-in_err-fitting-clause-given t c =
     (plain_inits-items c.args.inits.now ∙ ap inits_of (sym c.deref-init-items.ensures.value)))
     (fields_fail c.init-item.result c.index-fields-at.result c.loop-init.invariant.onward c.loop-init-test.true
     (ap length c.deref-init-items.ensures.value ∙ (sym (init_count_is c.args.inits.now) ∙ c.requires.as_many)) c.init-item.is
-    (c.index-fields-at.is ∙ ap (λ k. get_or c.args.fields.now k c.index-fields-at.result) c.loop-init.invariant.at_index) c.in_err-fitting.ensures.given scope
+    (index_at c.args.fields.now c.index-fields-at.is c.loop-init.invariant.at_index) c.in_err-fitting.ensures.given scope
     h))
 
 pub typed-returns-in_err-left-in-Binary-clause-given : goal.typed-returns-in_err-left-in-Binary-clause-given
@@ -670,27 +710,33 @@ typed-returns-in_ok-ty-in-Let-clause-given t c =
 
 pub typed-returns-in_ok-ty-in-Let-clause-kept : goal.typed-returns-in_ok-ty-in-Let-clause-kept
 typed-returns-in_ok-ty-in-Let-clause-kept t c =
-    record { bindings = cut_back _ c.cut_to.ensures (c.in_ok-ty-in-Let.ensures.kept.bindings ∙ c.in_ok-declared-in-Let.ensures.opens.bindings) c.len-bindings.ensures; types = cut_back _ c.cut_to-in-Let.ensures (c.in_ok-ty-in-Let.ensures.kept.types ∙ c.in_ok-declared-in-Let.ensures.opens.types) c.len-types.ensures }
+    record {
+      bindings = cut_back _ c.cut_to.ensures (c.in_ok-ty-in-Let.ensures.kept.bindings ∙ c.in_ok-declared-in-Let.ensures.opens.bindings) c.len-bindings.ensures;
+      types = cut_back _ c.cut_to-in-Let.ensures (c.in_ok-ty-in-Let.ensures.kept.types ∙ c.in_ok-declared-in-Let.ensures.opens.types) c.len-types.ensures;
+    }
 
 pub typed_last-exp_named-requires : goal.typed_last-exp_named-requires
 typed_last-exp_named-requires t c =
-    record { all = c.requires; among = (c.loop-e.e-index, omega (arith, c.loop-e-test.true, ap length c.deref-e-items.ensures.value), c.e-item.is ∙ ap (λ xs. get_or xs c.loop-e.e-index c.e-item.result) c.deref-e-items.ensures.value) }
+    record { all = c.requires; among = among c.loop-e.e-index c.loop-e-test.true c.e-item.is c.deref-e-items.ensures.value }
 
 pub typed_all-exp_named-requires : goal.typed_all-exp_named-requires
 typed_all-exp_named-requires t c =
-    record { all = c.requires.names; among = (c.loop-e.e-index, omega (arith, c.loop-e-test.true, ap length c.deref-e-items.ensures.value), c.e-item.is ∙ ap (λ xs. get_or xs c.loop-e.e-index c.e-item.result) c.deref-e-items.ensures.value) }
+    record { all = c.requires.names; among = among c.loop-e.e-index c.loop-e-test.true c.e-item.is c.deref-e-items.ensures.value }
 
 pub typed_fields-init_named-requires : goal.typed_fields-init_named-requires
 typed_fields-init_named-requires t c =
-    record { all = c.requires.names; among = (c.loop-init.init-index, omega (arith, c.loop-init-test.true, ap length c.deref-init-items.ensures.value), c.init-item.is ∙ ap (λ xs. get_or xs c.loop-init.init-index c.init-item.result) c.deref-init-items.ensures.value) }
+    record { all = c.requires.names; among = among c.loop-init.init-index c.loop-init-test.true c.init-item.is c.deref-init-items.ensures.value }
 
 pub declared-dec_named-requires : goal.declared-dec_named-requires
 declared-dec_named-requires t c =
-    record { all = c.requires; among = (c.loop-dec.dec-index, omega (arith, c.loop-dec-test.true, ap length c.deref-dec-items.ensures.value), c.dec-item.is ∙ ap (λ xs. get_or xs c.loop-dec.dec-index c.dec-item.result) c.deref-dec-items.ensures.value) }
+    record { all = c.requires; among = among c.loop-dec.dec-index c.loop-dec-test.true c.dec-item.is c.deref-dec-items.ensures.value }
 
 pub bodies-function_named-requires : goal.bodies-function_named-requires
 bodies-function_named-requires t c =
-    record { all = c.requires.names; among = (c.loop-function.function-index, omega (arith, c.loop-function-test.true, ap length c.deref-function-items.ensures.value), c.function-item.is ∙ ap (λ xs. get_or xs c.loop-function.function-index c.function-item.result) c.deref-function-items.ensures.value) }
+    record {
+      all = c.requires.names;
+      among = among c.loop-function.function-index c.loop-function-test.true c.function-item.is c.deref-function-items.ensures.value;
+    }
 
 pub typed-let_named-requires : goal.typed-let_named-requires
 typed-let_named-requires t c = record { all = c.requires; parts = c.in-Let.is }
