@@ -2,59 +2,14 @@
 -- statements, calls and services, is lifted in front of it. An expression on the left of what is
 -- lifted is held in a fresh temporary, unless it gives the same word behind it. All is looked at
 -- from the right, so that what comes between is known when an expression is.
-use Rattle.std.specs.Prelude.{
-  ℕ,
-  zero,
-  suc,
-  ◌+◌,
-  ◌&&◌,
-  ◌||◌,
-  min,
-  max,
-  Bool,
-  true,
-  false,
-  not,
-  nat_le,
-  if◌then◌else◌,
-}
+use Rattle.std.specs.Prelude.{ℕ, zero, suc, ◌+◌, min, max}
+use Rattle.std.specs.Prelude.{Bool, true, false, not, ◌&&◌, ◌||◌, nat_le, if◌then◌else◌}
 use Rattle.tg_tree.specs.declared.operators.Bin.{Bin}
 use Rattle.tg_tree.specs.declared.operators.Bin.TheVariants.{Add, Sub, AddTrap, SubTrap}
-use Rattle.tg_tree.specs.Tree.{
-  Tx,
-  Const,
-  Address,
-  Temp,
-  FrameAddress,
-  Binary,
-  Load,
-  LoadByte,
-  Call,
-  Service,
-  After,
-  Txs,
-  no_txs,
-  tx,
-  Cond,
-  Compare,
-  Not,
-  Both,
-  Either,
-  Ts,
-  Move,
-  Store,
-  StoreByte,
-  Do,
-  If,
-  Loop,
-  Break,
-  Fault,
-  Seq,
-  Return,
-  Stms,
-  no_stms,
-  stm,
-}
+use Rattle.tg_tree.specs.Tree.{Tx, Const, Address, Temp, FrameAddress, Binary, Load, LoadByte, Call}
+use Rattle.tg_tree.specs.Tree.{Service, After, Txs, no_txs, tx, Cond, Compare, Not, Both, Either}
+use Rattle.tg_tree.specs.Tree.{Ts, Move, Store, StoreByte, Do, If, Loop, Break, Fault, Seq, Return}
+use Rattle.tg_tree.specs.Tree.{Stms, no_stms, stm}
 use Rattle.tg_tree.specs.Shapes.{is_flat_condition}
 use Rattle.tg_canon.specs.Drawing.{Draws, give, fresh, ◌>>=◌}
 

@@ -21,8 +21,8 @@ fn statements(alloc: Global, statement: Ts) -> Result<Vec<Ts>, Memory>
     }
 }
 
-/// A function's body as statements in canonical form (Appel, chapter 8): each expression is flat but
-/// for a call or service that is the whole right side of a move or alone. `frame` gets the
+/// A function's body as statements in canonical form (Appel, chapter 8): each expression is flat
+/// but for a call or service that is the whole right side of a move or alone. `frame` gets the
 /// temporaries that are drawn. It is out of memory also where temporaries run out and where trees
 /// are nested too deep.
 pub fn linearize(alloc: Global, frame: &mut Frame, body: Ts) -> Result<Vec<Ts>, Memory>

@@ -97,8 +97,8 @@ pub(crate) fn word(supply: &mut Supply, a: Lifted) -> Result<Lifted, Memory>
     }
 }
 
-// Whether an expression gives the same word behind a part: it reads no memory, and no temporary that
-// the part assigns.
+// Whether an expression gives the same word behind a part: it reads no memory, and no temporary
+// that the part assigns.
 fn stays(part: &Part, x: &Tx) -> bool
     ensures { result ≡ canon.stays (plain_part part.now) (plain_tx x.now) }
 {

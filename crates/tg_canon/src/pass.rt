@@ -275,7 +275,8 @@ fn linear_all(
     breaks: &Breaks,
     height: u32,
 ) -> Result<Parts, Memory>
-    ensures { IfOk result (λ all. Gives (canon.linear_all (leads breaks.now) (stms_of ss.items.items))
+    ensures { IfOk result (λ all.
+        Gives (canon.linear_all (leads breaks.now) (stms_of ss.items.items))
         supply.old.next (plain_parts all) supply.new.next) }
 {
     let lower = descend(height)?;

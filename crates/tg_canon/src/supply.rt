@@ -7,8 +7,8 @@ use tg_base::{Memory, Temp};
 /// A function has at most so many temporaries.
 const MOST_TEMPORARIES: u32 = 4_194_304;
 
-/// What the pass over one body draws from: memory, and the temporaries from a number on that nothing
-/// uses.
+/// What the pass over one body draws from: memory, and the temporaries from a number on that
+/// nothing uses.
 #[derive(Drop)]
 pub(crate) struct Supply {
     pub(crate) alloc: Global,

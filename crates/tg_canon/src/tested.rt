@@ -129,8 +129,8 @@ impl Tested {
 }
 
 /// One of two statements, where a condition is tested part by part: the first one stands in two
-/// loops behind the test, which leaves the inner one where it fails, and the second one in the outer
-/// one behind that.
+/// loops behind the test, which leaves the inner one where it fails, and the second one in the
+/// outer one behind that.
 pub(crate) fn choose_by_parts(
     alloc: Global,
     test: Part,

@@ -7,30 +7,9 @@ use Rattle.tg_frame.specs.declared.accesses.Access.TheVariants.{InTemp}
 use Rattle.tg_runs.specs.Ran.{Ran, Stop, Ended}
 use Rattle.tg_tree.specs.declared.operators.Bin.TheVariants.{Add}
 use Rattle.tg_tree.specs.declared.operators.Rel.TheVariants.{Less, Equal}
-use Rattle.tg_tree.specs.Tree.{
-  Tx,
-  Const,
-  Temp,
-  Binary,
-  Load,
-  Call,
-  Service,
-  Cond,
-  Compare,
-  Both,
-  Either,
-  Not,
-  Ts,
-  Move,
-  Store,
-  Do,
-  If,
-  Loop,
-  Break,
-  Return,
-  Function,
-  Code,
-}
+use Rattle.tg_tree.specs.Tree.{Tx, Const, Temp, Binary, Load, Call, Service}
+use Rattle.tg_tree.specs.Tree.{Cond, Compare, Both, Either, Not}
+use Rattle.tg_tree.specs.Tree.{Ts, Move, Store, Do, If, Loop, Break, Return, Function, Code}
 use Rattle.tg_tree.specs.Units.{Trees}
 use Rattle.tg_tree.specs.Running.{tree_run, canonical_run}
 use Rattle.tg_tree.specs.Flat.{flat_run}

@@ -16,8 +16,8 @@ pub fn trees_are_preserved()
     traces_keep_meaning();
 }
 
-/// The laws of sizes: the flat code of a function is at most two units longer than its tree, and has
-/// no more room, of the 256 words that all passes may add.
+/// The laws of sizes: the flat code of a function is at most two units longer than its tree, and
+/// has no more room, of the 256 words that all passes may add.
 pub fn sizes_stay()
     ensures length { LengthStays }
     ensures room { RoomStays }
@@ -27,8 +27,8 @@ pub fn sizes_stay()
     tg_trace::sizes_stay();
 }
 
-/// Programs of three functions, computed: they come to one end as trees, as canonical statements, as
-/// blocks and as flat code.
+/// Programs of three functions, computed: they come to one end as trees, as canonical statements,
+/// as blocks and as flat code.
 pub fn programs_end_alike()
     ensures adding { AddingEndsAlike }
     ensures counting { CountingEndsAlike }

@@ -6,35 +6,11 @@ use Rattle.std.specs.Prelude.{ℕ, List, [], ◌∷◌, ◌++◌, replicate, Boo
 use Rattle.tg_frame.specs.Homes.{homes_of, slots_of}
 use Rattle.tg_tree.specs.declared.operators.Bin.TheVariants.{Add, Sub, ShiftLeft, ShiftRight}
 use Rattle.tg_tree.specs.declared.operators.Rel.{Rel}
-use Rattle.tg_tree.specs.declared.operators.Rel.TheVariants.{
-  Equal,
-  NotEqual,
-  Less,
-  Greater,
-  NotBelow,
-}
-use Rattle.tg_tree.specs.Tree.{
-  Tx,
-  Const,
-  Temp,
-  Binary,
-  Load,
-  LoadByte,
-  Service,
-  Cond,
-  Compare,
-  Either,
-  Ts,
-  Move,
-  Store,
-  StoreByte,
-  Do,
-  If,
-  Fault,
-  Return,
-  Function,
-  Code,
-}
+use Rattle.tg_tree.specs.declared.operators.Rel.TheVariants.{Equal, NotEqual, Less, Greater}
+use Rattle.tg_tree.specs.declared.operators.Rel.TheVariants.{NotBelow}
+use Rattle.tg_tree.specs.Tree.{Tx, Const, Temp, Binary, Load, LoadByte, Service}
+use Rattle.tg_tree.specs.Tree.{Cond, Compare, Either}
+use Rattle.tg_tree.specs.Tree.{Ts, Move, Store, StoreByte, Do, If, Fault, Return, Function, Code}
 use Rattle.tg_tree.specs.Forms.{sequence, when, repeat_until}
 use Rattle.tg_runtime.specs.declared.routines.Routine.{Routine}
 use Rattle.tg_runtime.specs.declared.routines.Routine.TheVariants as routine

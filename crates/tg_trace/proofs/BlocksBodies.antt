@@ -19,6 +19,7 @@ use Rattle.tg_tree.specs.Meaning.{run_all}
 use Rattle.tg_tree.specs.Running.{Runner, with_fuel, enter, outermost, run_body, body_point, going, in_sequence, canonical_run}
 use Rattle.tg_tree.specs.Carrying.{BacksSimulate, CallsSimulate, AllCarried, none, one, ProgramsCarried}
 use Rattle.tg_tree.proofs.TreeRuns.{trees_step}
+use Rattle.tg_tree.proofs.CallsLess.{enters_less}
 use Rattle.tg_tree.proofs.Linking.{programs_carried}
 use Rattle.tg_trace.specs.Block.{Block}
 use Rattle.tg_trace.specs.Cutting.{Cut, draw, leads, next_mark, seal, branch, leaves, cut, cut_all, start, entered_by, placed_all, blocks_of}
@@ -27,7 +28,6 @@ use Rattle.tg_trace.specs.Carried.{added_work, in_blocks, code_in_blocks, IsCano
 use Rattle.tg_trace.proofs.Rests.{take_all}
 use Rattle.tg_trace.proofs.BlocksPlaces.{opens, first, first_is, ahead, leads_to, from_place}
 use Rattle.tg_trace.proofs.BlocksKept.{Keeps, turn, turn_keeps, cut_keeps, get_front, get_seam, set_own, Fits}
-use Rattle.tg_trace.proofs.BlocksLess.{enters_less}
 use Rattle.tg_trace.proofs.BlocksCarried.{lighter, paying, working, leads_only, Scene, all_carry}
 
 -- What only jumps, outside of every loop, leads to the block that was laid last.

@@ -214,6 +214,21 @@ module _
     either_leads true n s j yes' no' go h k w t = h w t
     either_leads false n s j yes' no' go h k w t = k w t
 
+    -- the second test of two that are joined, sealed in front of the first
+    second_kept : (d : Cond) (yes' no' : ℕ) (c : Cut) → Keeps c (seal (branch d yes' no' c))
+    second_kept d yes' no' c =
+        keeps_on c (branch d yes' no' c) (seal (branch d yes' no' c)) (branch_keeps d yes' no' c) (seal_keeps (branch d yes' no' c))
+
+    second_leads :
+        (d : Cond) (n r most : ℕ) → most ≤ length laid → (yes' no' : ℕ) (c all : Cut) (next : Next) → Keeps (seal (branch d yes' no' c)) all →
+        Fits places laid c all → (Fits places laid c (branch d yes' no' c) → Opens n r most (branch d yes' no' c) next) →
+        Leads n (r + 1) (length (seal (branch d yes' no' c)).laid) most (next_mark (branch d yes' no' c)) next
+    second_leads d n r most lw yes' no' c all next keeps f opened =
+        let second = branch d yes' no' c in
+        seal_leads n r most second next lw
+        (opened (fits_first places laid c second all (keeps_on second (seal second) all (seal_keeps second) keeps) f))
+        (fits_first places laid second (seal second) all keeps (fits_rest places laid c second all (branch_keeps d yes' no' c) f))
+
     branch_opens :
         (d : Cond) → IsFlatCond d → (n r most : ℕ) → n ≤ limit → debt ≤ r → most ≤ length laid → (yes' no' : ℕ) (c : Cut) (out : Out) (go : Go Bool) →
         Leads n (r + 1) (length c.laid) most yes' (go true) → Leads n (r + 1) (length c.laid) most no' (go false) → Fits places laid c (branch d yes' no' c) →
@@ -226,39 +241,27 @@ module _
     branch_opens (Not d) flat n r most le lo lw yes' no' c out go h k f j a b w t =
         paying 0 r r n _ _ (omega arith) (branch_opens d flat n r most le lo lw no' yes' c out (λ v. go (not v)) k h f j a b w t)
     branch_opens (Both d e) flat n r most le lo lw yes' no' c out go h k f j a b w t =
-        let second = branch e yes' no' c in
-        let m = next_mark second in
-        let all = branch d m no' (seal second) in
-        let k1 : Keeps c second = branch_keeps e yes' no' c in
-        let k2 : Keeps second (seal second) = seal_keeps second in
-        let k3 : Keeps (seal second) all = branch_keeps d m no' (seal second) in
-        let k12 : Keeps c (seal second) = keeps_on c second (seal second) k1 k2 in
-        let opened = branch_opens e flat.1 n r most le lo lw yes' no' c out go h k
-        (fits_first places laid c second all (keeps_on second (seal second) all k2 k3) f) in
-        let on = seal_leads n r most second (tests e out go) lw opened
-        (fits_first places laid second (seal second) all k3 (fits_rest places laid c second all k1 f)) in
+        let m = next_mark (branch e yes' no' c) in
+        let sealed = seal (branch e yes' no' c) in
+        let all = branch d m no' sealed in
+        let kept : Keeps c sealed = second_kept e yes' no' c in
+        let on = second_leads e n r most lw yes' no' c all (tests e out go) (branch_keeps d m no' sealed) f
+        (λ g. branch_opens e flat.1 n r most le lo lw yes' no' c out go h k g) in
         paying 0 r r n _ _ (omega arith)
-        (branch_opens d flat.0 n r most le lo lw m no' (seal second) out _ on
-        (leads_on n n (r + 1) (r + 1) (length c.laid) (length (seal second).laid) most most no' (go false) (omega arith) (omega arith) k12.laid
-        (omega arith) k)
-        (fits_rest places laid c (seal second) all k12 f) j a b w t)
+        (branch_opens d flat.0 n r most le lo lw m no' sealed out _ on
+        (leads_on n n (r + 1) (r + 1) (length c.laid) (length sealed.laid) most most no' (go false) (omega arith) (omega arith) kept.laid (omega arith) k)
+        (fits_rest places laid c sealed all kept f) j a b w t)
     branch_opens (Either d e) flat n r most le lo lw yes' no' c out go h k f j a b w t =
-        let second = branch e yes' no' c in
-        let m = next_mark second in
-        let all = branch d yes' m (seal second) in
-        let k1 : Keeps c second = branch_keeps e yes' no' c in
-        let k2 : Keeps second (seal second) = seal_keeps second in
-        let k3 : Keeps (seal second) all = branch_keeps d yes' m (seal second) in
-        let k12 : Keeps c (seal second) = keeps_on c second (seal second) k1 k2 in
-        let opened = branch_opens e flat.1 n r most le lo lw yes' no' c out go h k
-        (fits_first places laid c second all (keeps_on second (seal second) all k2 k3) f) in
-        let on = seal_leads n r most second (tests e out go) lw opened
-        (fits_first places laid second (seal second) all k3 (fits_rest places laid c second all k1 f)) in
+        let m = next_mark (branch e yes' no' c) in
+        let sealed = seal (branch e yes' no' c) in
+        let all = branch d yes' m sealed in
+        let kept : Keeps c sealed = second_kept e yes' no' c in
+        let on = second_leads e n r most lw yes' no' c all (tests e out go) (branch_keeps d yes' m sealed) f
+        (λ g. branch_opens e flat.1 n r most le lo lw yes' no' c out go h k g) in
         paying 0 r r n _ _ (omega arith)
-        (branch_opens d flat.0 n r most le lo lw yes' m (seal second) out _
-        (leads_on n n (r + 1) (r + 1) (length c.laid) (length (seal second).laid) most most yes' (go true) (omega arith) (omega arith) k12.laid
-        (omega arith) h) on
-        (fits_rest places laid c (seal second) all k12 f) j a b w t)
+        (branch_opens d flat.0 n r most le lo lw yes' m sealed out _
+        (leads_on n n (r + 1) (r + 1) (length c.laid) (length sealed.laid) most most yes' (go true) (omega arith) (omega arith) kept.laid (omega arith) h) on
+        (fits_rest places laid c sealed all kept f) j a b w t)
 
     -- statements that leave don't come to what is open behind them
     break_opens :

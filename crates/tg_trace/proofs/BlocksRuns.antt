@@ -1,24 +1,22 @@
 -- Runs of blocks: each is its own step, and goes on with more fuel alone.
-use Rattle.std.proofs.Common.{◌≡◌, ℕ, zero, suc, ◌+◌, ◌-◌, ◌<◌, ◌≤◌, List, [], ◌∷◌, length, Bool, true, false, arith}
-use Rattle.std.specs.Prelude.{nat_lt, pos, if◌then◌else◌}
-use Rattle.tg_base.specs.declared.ends.RunEnd.TheVariants.{Exit, Break}
-use Rattle.tg_base.specs.State.{stack_top}
+use Rattle.std.proofs.Common.{◌≡◌, ℕ, zero, suc, ◌+◌, ◌-◌, ◌<◌, ◌≤◌, List, [], ◌∷◌, Bool, true, false, arith}
+use Rattle.std.specs.Prelude.{nat_lt, if◌then◌else◌}
+use Rattle.tg_base.specs.declared.ends.RunEnd.TheVariants.{Break}
 use Rattle.tg_runs.specs.Runs.{Run}
 use Rattle.tg_runs.specs.Ran.{Ran, Ended, WantsFuel, Wrong, stops, IsOver, GoesOn}
 use Rattle.tg_runs.proofs.Fixpoint.{again_is, runs_relate}
 use Rattle.tg_tree.specs.Tree.{Mark, Code}
 use Rattle.tg_tree.specs.Operators.{holds}
-use Rattle.tg_tree.specs.Memory.{begin}
 use Rattle.tg_tree.specs.Units.{Canonical, element_units, entry_units}
 use Rattle.tg_tree.specs.Actions.{World, Temps, Around, Acts, Back, wrong}
 use Rattle.tg_tree.specs.Meaning.{Point}
-use Rattle.tg_tree.specs.Running.{function_of}
 use Rattle.tg_tree.specs.Flat.{Last}
-use Rattle.tg_tree.proofs.Relating.{Related, RelatedWorlds, RelatedTemps, Keeps, AlikeBack, AlikeAround, around_down, Alike, alike, keep_choice, keep_back, keep_entered, keep_value, keep_all}
-use Rattle.tg_tree.proofs.Going.{one, OneWorld, OneTemps, Same, same_keeps, IsOnward, Onward, onward_keeps}
+use Rattle.tg_tree.proofs.Relating.{Related, RelatedWorlds, RelatedTemps, Keeps, AlikeBack, AlikeAround, around_down, Alike, alike, keep_choice, keep_back, keep_value, keep_all}
+use Rattle.tg_tree.proofs.Going.{one, OneWorld, OneTemps, Same, same_keeps, Onward, onward_keeps}
+use Rattle.tg_tree.proofs.Entering.{BodiesKeep, keep_call_in, stays_over, only_goes_on}
 use Rattle.tg_tree.proofs.TreeRuns.{same_around}
 use Rattle.tg_trace.specs.Block.{End, Jump, Branch, Fault, Return, Block}
-use Rattle.tg_trace.specs.Meaning.{BlockPoint, end_units, enter_blocks, finish, return_to, run_from, block_step, block_going, block_run}
+use Rattle.tg_trace.specs.Meaning.{BlockPoint, end_units, run_block_body, enter_blocks, finish, return_to, run_from, block_step, block_going, block_run}
 
 module _ (R : Related) (W : RelatedWorlds) (T : RelatedTemps) where
   -- two places that differ in what comes next, in worlds and temporaries alone
@@ -38,11 +36,9 @@ module _ (R : Related) (W : RelatedWorlds) (T : RelatedTemps) where
       pub keep_enter :
           (label : ℕ) (vs : List ℕ) (top : ℕ) (back back' : Back) (w x : World) → W w x → AlikeBack R W T n back back' →
           R n w (enter_blocks code size floor room c label vs top back w) (enter_blocks code size floor room d label vs top back' x)
-      keep_enter label vs top back back' w x r h =
-          keeps.work n (entry_units (length vs)) w _ _ (keep_entered R W T keeps n size floor _ _
-          (λ all e e' w1 x1 t1 u1 he r1 s1. keeps.fuel n w1 x1 _ _ r1
-          (λ m lt. later m lt _ _ (alike_blocks all 0 e e' w1 x1 t1 u1 (around_down R W T keeps m n e e' (omega arith) he) r1 s1)))
-          (function_of label code.functions) vs top back back' w x r h)
+      keep_enter =
+          keep_call_in R W T keeps size floor n entry_units (run_block_body code size floor room c) (run_block_body code size floor room d) code.functions
+          (λ m lt all e e' w x t u he r s. later m lt _ _ (alike_blocks all 0 e e' w x t u he r s))
 
       no_loop : (x y : Point) → Alike R W T n x y → R n x.world (wrong x.world) (wrong y.world)
       no_loop x y (alike s e e' g g' w v t u h l r q) = keeps.stop n Wrong w v r
@@ -107,20 +103,14 @@ module _ (code : Code (List Block)) (size : ℕ → ℕ) (floor room : ℕ) wher
       runs_relate (AlikeBlocks R W T) (λ m v z c d. R m v.world c d) (block_step code size floor room) (block_step code size floor room)
       (λ k c d h v z q. keep_block_step R W T keeps code size floor room k c d h v z q) goes goes blocks_step blocks_step n x y r
 
-  blocks_onward :
-      (body : ℕ) (input : List ℕ) (i j : ℕ) → i ≤ j → IsOnward (record { memory = begin code.literals; input = input })
-      (block_run code size floor room body input i) (block_run code size floor room body input j)
-  blocks_onward body input i j le =
-      keep_entered Onward OneWorld OneTemps onward_keeps j size floor _ _
-      (λ all e e' w x t u he r q. blocks_relate Onward OneWorld OneTemps onward_keeps j _ _ (alike_blocks all 0 e e' w x t u he r q))
-      (function_of body code.functions) [] stack_top _ _ (record { memory = begin code.literals; input = input }) _ (one _)
-      (λ v w x r. onward_keeps.stop j (Ended (Exit (pos 0))) w x r) j i (omega arith) le
+  blocks_go_on : (n : ℕ) → BodiesKeep Onward OneWorld OneTemps n (run_block_body code size floor room goes) (run_block_body code size floor room goes)
+  blocks_go_on n all e e' w x t u he r q = blocks_relate Onward OneWorld OneTemps onward_keeps n _ _ (alike_blocks all 0 e e' w x t u he r q)
 
   pub blocks_stay_over :
       (body : ℕ) (input : List ℕ) (i j : ℕ) → i ≤ j → IsOver (block_run code size floor room body input i).stop →
       block_run code size floor room body input j ≡ block_run code size floor room body input i
-  blocks_stay_over body input i j le o = (blocks_onward body input i j le).over o
+  blocks_stay_over = stays_over size floor (run_block_body code size floor room goes) code blocks_go_on
 
   pub blocks_only_go_on :
       (body : ℕ) (input : List ℕ) (i j : ℕ) → i ≤ j → GoesOn (block_run code size floor room body input i) (block_run code size floor room body input j)
-  blocks_only_go_on body input i j le = (blocks_onward body input i j le).on
+  blocks_only_go_on = only_goes_on size floor (run_block_body code size floor room goes) code blocks_go_on

@@ -12,7 +12,6 @@ pub mod Wholes
 pub mod Costs
 pub mod Measures
 pub mod Names
-pub mod CallsLess
 pub mod TracesCode
 pub mod TracesOrders
 pub mod TracesLed
@@ -28,6 +27,5 @@ pub mod BlocksRuns
 pub mod BlocksFlat
 pub mod BlocksPlaces
 pub mod BlocksKept
-pub mod BlocksLess
 pub mod BlocksCarried
 pub mod BlocksBodies

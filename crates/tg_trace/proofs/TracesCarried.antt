@@ -20,13 +20,13 @@ use Rattle.tg_tree.proofs.Linking.{programs_carried}
 use Rattle.tg_tree.proofs.Relating.{AlikeAround, around, around_down}
 use Rattle.tg_tree.proofs.Going.{one as one_of, OneWorld, OneTemps, Same, same_keeps}
 use Rattle.tg_tree.proofs.FlatRuns.{flat_code_steps}
+use Rattle.tg_tree.proofs.CallsLess.{IsLocal, calls_less}
 use Rattle.tg_trace.specs.Block.{Block}
 use Rattle.tg_trace.specs.Laying.{Order, put, block_at, onward, follow, traces, traced}
 use Rattle.tg_trace.specs.Shapes.{LeadsBelow}
 use Rattle.tg_trace.specs.Meaning.{block_going, block_run, enter_blocks}
 use Rattle.tg_trace.specs.Traced.{MayBeLaid, laid, laid_all, block_runner, flat_runner}
 use Rattle.tg_trace.proofs.Marks.{each}
-use Rattle.tg_trace.proofs.CallsLess.{IsLocal, calls_less}
 use Rattle.tg_trace.proofs.BlocksRuns.{blocks_step, blocks_relate, keep_enter}
 use Rattle.tg_trace.proofs.BlocksFlat.{keeps_simulating}
 use Rattle.tg_trace.proofs.TracesCode.{laid_code, traced_is}

@@ -8,9 +8,8 @@ use Rattle.tg_runs.specs.Ran.{Ran, Ended, WantsFuel, Wrong, stops}
 use Rattle.tg_runs.specs.Simulating.{Simulates}
 use Rattle.tg_runs.proofs.Simulations.{simulates_turn, simulates_turn_behind, simulates_paying, simulates_working, simulates_with_credit, simulates_along}
 use Rattle.tg_tree.specs.declared.operators.Rel.{Rel}
-use Rattle.tg_tree.specs.declared.operators.Rel.TheVariants.{Equal, NotEqual, Less, LessEqual, Greater, GreaterEqual, Below, NotBelow}
 use Rattle.tg_tree.specs.Tree.{Tx, Stms, no_stms, stm, Linear, Mark, Function, Literal, Code}
-use Rattle.tg_tree.specs.Operators.{holds}
+use Rattle.tg_tree.specs.Operators.{holds, opposite}
 use Rattle.tg_tree.specs.Units.{Canonical, entry_units}
 use Rattle.tg_tree.specs.Actions.{World, Temps, Around, Back, Next, Acts, Go, charged, wrong}
 use Rattle.tg_tree.specs.Meaning.{Point, value}
@@ -18,9 +17,10 @@ use Rattle.tg_tree.specs.Carrying.{CallsSimulate}
 use Rattle.tg_tree.specs.Flat.{Last, behind, FlatPoint, enter_flat, jump_to, run_flat, flat_going}
 use Rattle.tg_tree.proofs.Relating.{Related, AlikeAround, around, Alike, alike, keep_choice, keep_back, keep_value, keep_run}
 use Rattle.tg_tree.proofs.Going.{one, OneWorld, OneTemps}
+use Rattle.tg_tree.proofs.Opposites.{opposite_holds}
 use Rattle.tg_tree.proofs.FlatRuns.{flat_code_steps}
 use Rattle.tg_trace.specs.Block.{End, Jump, Branch, Fault, Return, Block}
-use Rattle.tg_trace.specs.Laying.{no_block, block_at, opposite, is_next, jump_unless, branch_by, end_code, body_code}
+use Rattle.tg_trace.specs.Laying.{no_block, block_at, is_next, jump_unless, branch_by, end_code, body_code}
 use Rattle.tg_trace.specs.Shapes.{EndsBelow, LeadsBelow}
 use Rattle.tg_trace.specs.Heads.{LeadsTo}
 use Rattle.tg_trace.specs.Meaning.{end_units, BlockPoint, enter_blocks, word_of, run_within, finish, return_to, run_from, block_going}
@@ -58,20 +58,6 @@ more_credit : (r k n : ℕ) (c d : Run Ran) → Simulates 1 r n c d → Simulate
 more_credit r k n c d h = simulates_with_credit 1 r (r + k) n c d (omega arith) h
 
 -- a branch that is turned round goes the other way
-not_not : (b : Bool) → b ≡ not (not b)
-not_not true = refl
-not_not false = refl
-
-opposite_holds : (rel : Rel) (u v : ℕ) → holds (opposite rel) u v ≡ not (holds rel u v)
-opposite_holds Equal u v = refl
-opposite_holds NotEqual u v = not_not (holds Equal u v)
-opposite_holds Less u v = refl
-opposite_holds LessEqual u v = not_not (holds Greater u v)
-opposite_holds Greater u v = refl
-opposite_holds GreaterEqual u v = not_not (holds Less u v)
-opposite_holds Below u v = refl
-opposite_holds NotBelow u v = not_not (holds Below u v)
-
 turned_round :
     {K : Type 0} (b c : Bool) (p q : Acts K) (e : Around) (k : K) (w : World) (t : Temps) → b ≡ not c → (if b then p else q) e k w t ≡
     (if c then q else p) e k w t

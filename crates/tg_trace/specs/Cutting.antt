@@ -1,48 +1,13 @@
 -- Canonical statements are cut into basic blocks (Appel, chapter 8), from the end of a body to its
 -- front, so that it is known where each statement goes on. A block is laid when something in front
 -- of it has to lead to it; one that only jumps isn't: what leads there leads on at once.
-use Rattle.std.specs.Prelude.{
-  ℕ,
-  ◌+◌,
-  ◌-◌,
-  Bool,
-  true,
-  false,
-  if◌then◌else◌,
-  List,
-  [],
-  ◌∷◌,
-  ◌++◌,
-  length,
-  map,
-  reverse,
-  take,
-  slice_index,
-  slice_set,
-  Option,
-  Some,
-  None,
-}
+use Rattle.std.specs.Prelude.{ℕ, ◌+◌, ◌-◌, Bool, true, false, if◌then◌else◌}
+use Rattle.std.specs.Prelude.{List, [], ◌∷◌, ◌++◌, length, map, reverse, take, slice_index}
+use Rattle.std.specs.Prelude.{slice_set, Option, Some, None}
 use Rattle.tg_tree.specs.Tree as tree
-use Rattle.tg_tree.specs.Tree.{
-  Cond,
-  Compare,
-  Not,
-  Both,
-  Either,
-  Ts,
-  Move,
-  Store,
-  StoreByte,
-  Do,
-  If,
-  Loop,
-  Break,
-  Seq,
-  Stms,
-  no_stms,
-  stm,
-}
+use Rattle.tg_tree.specs.Tree.{Cond, Compare, Not, Both, Either}
+use Rattle.tg_tree.specs.Tree.{Ts, Move, Store, StoreByte, Do, If, Loop, Break, Seq}
+use Rattle.tg_tree.specs.Tree.{Stms, no_stms, stm}
 use Rattle.tg_trace.specs.Block.{End, Jump, Branch, Fault, Return, Block}
 
 -- The blocks that are laid, the last of the body first, and the block that is open: more may come

@@ -1,31 +1,12 @@
 -- Blocks are laid in traces (Appel, chapter 8): behind each block comes one that it leads to, for
 -- as long as such a one isn't laid. So a jump is left only where it goes back.
-use Rattle.std.specs.Prelude.{
-  ℕ,
-  zero,
-  suc,
-  ◌==◌,
-  Bool,
-  true,
-  false,
-  List,
-  [],
-  ◌∷◌,
-  ◌++◌,
-  length,
-  replicate,
-  slice_get,
-  slice_set,
-  slice_index_or,
-  Option,
-  Some,
-  None,
-}
+use Rattle.std.specs.Prelude.{ℕ, zero, suc, ◌==◌, Bool, true, false}
+use Rattle.std.specs.Prelude.{List, [], ◌∷◌, ◌++◌, length, replicate, slice_get, slice_set}
+use Rattle.std.specs.Prelude.{slice_index_or, Option, Some, None}
 use Rattle.tg_tree.specs.declared.operators.Rel.{Rel}
-use Rattle.tg_tree.specs.declared.operators.Rel.TheVariants.{Equal, NotEqual, Less, LessEqual}
-use Rattle.tg_tree.specs.declared.operators.Rel.TheVariants.{Greater, GreaterEqual, Below, NotBelow}
 use Rattle.tg_tree.specs.Tree as tree
 use Rattle.tg_tree.specs.Tree.{Stms, no_stms, stm, Linear, Mark, Do'}
+use Rattle.tg_tree.specs.Operators.{opposite}
 use Rattle.tg_trace.specs.Block.{End, Jump, Branch, Fault, Return, Block}
 
 -- what stands where there is no block
@@ -74,17 +55,6 @@ traces zero blocks = record { places = []; laid = replicate (length blocks) fals
 traces (suc k) blocks = trace_from blocks k (traces k blocks)
 
 -- Blocks in an order as flat code.
-
--- what holds where a comparison doesn't
-abbrev pub opposite : Rel → Rel
-opposite Equal = NotEqual
-opposite NotEqual = Equal
-opposite Less = GreaterEqual
-opposite LessEqual = Greater
-opposite Greater = LessEqual
-opposite GreaterEqual = Less
-opposite Below = NotBelow
-opposite NotBelow = Below
 
 abbrev pub is_next : Option ℕ → (place : ℕ) → Bool
 is_next None place = false

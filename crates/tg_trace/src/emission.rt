@@ -6,7 +6,7 @@ ghost use Rattle.tg_trace.specs.Plains.{plain_end, plain_block};
 
 use crate::flows::{Block, End};
 use tg_base::Memory;
-use tg_tree::{Linear, Rel, Stms, Tx};
+use tg_tree::{Linear, Rel, Stms, Tx, opposite};
 
 /// Puts a block's code at the end, by the block that comes next.
 pub(crate) fn put_block(
@@ -83,7 +83,8 @@ fn put_branch(
     no: u32,
 ) -> Result<(), Memory>
     ensures { OnOk result (code_of code.new.items ≡ code_of code.old.items ++
-        laying.branch_by (laying.is_next next yes) next rel (plain_tx left) (plain_tx right) yes no) }
+        laying.branch_by (laying.is_next next yes) next rel (plain_tx left) (plain_tx right)
+        yes no) }
 {
     if is_next(next, yes) {
         return put(code, Linear::Branch(opposite(rel), left, right, no));
@@ -100,21 +101,5 @@ fn is_next(next: Option<u32>, place: u32) -> bool
     match next {
         Some(next) => next == place,
         None => false,
-    }
-}
-
-/// What holds where a comparison doesn't.
-fn opposite(rel: Rel) -> Rel
-    ensures { result ≡ laying.opposite rel }
-{
-    match rel {
-        Rel::Equal => Rel::NotEqual,
-        Rel::NotEqual => Rel::Equal,
-        Rel::Less => Rel::GreaterEqual,
-        Rel::LessEqual => Rel::Greater,
-        Rel::Greater => Rel::LessEqual,
-        Rel::GreaterEqual => Rel::Less,
-        Rel::Below => Rel::NotBelow,
-        Rel::NotBelow => Rel::Below,
     }
 }

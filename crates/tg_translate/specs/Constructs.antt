@@ -1,24 +1,7 @@
 -- What the constructs of the language become, as small trees (Appel, chapters 6 and 7): static
 -- links and slots, checks, arithmetic that ends the program by overflow, records and arrays.
-use Rattle.std.specs.Prelude.{
-  ℕ,
-  zero,
-  suc,
-  ◌+◌,
-  ◌*◌,
-  ◌==◌,
-  ◌||◌,
-  List,
-  [],
-  ◌∷◌,
-  ◌++◌,
-  length,
-  max,
-  Bool,
-  true,
-  false,
-  if◌then◌else◌,
-}
+use Rattle.std.specs.Prelude.{ℕ, zero, suc, ◌+◌, ◌*◌, ◌==◌, max}
+use Rattle.std.specs.Prelude.{Bool, true, false, ◌||◌, if◌then◌else◌, List, [], ◌∷◌, ◌++◌, length}
 use Rattle.std.specs.Int.{to_le_bytes, w32}
 use Rattle.tg_base.specs.Words.{sub}
 use Rattle.tg_frame.specs.declared.accesses.Access.{Access}
@@ -29,47 +12,13 @@ use Rattle.tg_runtime.specs.Labels.{label_of}
 use Rattle.tg_syntax.specs.declared.trees.Op.{Op}
 use Rattle.tg_syntax.specs.declared.trees.Op.TheVariants as op
 use Rattle.tg_tree.specs.declared.operators.Bin.{Bin}
-use Rattle.tg_tree.specs.declared.operators.Bin.TheVariants.{
-  Add,
-  Sub,
-  Mul,
-  Div,
-  ShiftLeft,
-  ShiftSigned,
-  AddTrap,
-  SubTrap,
-  MulHigh,
-}
+use Rattle.tg_tree.specs.declared.operators.Bin.TheVariants.{Add, Sub, Mul, Div, ShiftLeft}
+use Rattle.tg_tree.specs.declared.operators.Bin.TheVariants.{ShiftSigned, AddTrap, SubTrap, MulHigh}
 use Rattle.tg_tree.specs.declared.operators.Rel.{Rel}
 use Rattle.tg_tree.specs.declared.operators.Rel.TheVariants as rel
-use Rattle.tg_tree.specs.Tree.{
-  Tx,
-  Const,
-  Temp,
-  FrameAddress,
-  Binary,
-  Load,
-  Call,
-  After,
-  Txs,
-  no_txs,
-  tx,
-  Cond,
-  Compare,
-  Both,
-  Ts,
-  Move,
-  Store,
-  Do,
-  If,
-  Loop,
-  Break,
-  Fault,
-  Seq,
-  Stms,
-  no_stms,
-  stm,
-}
+use Rattle.tg_tree.specs.Tree.{Tx, Const, Temp, FrameAddress, Binary, Load, Call, After}
+use Rattle.tg_tree.specs.Tree.{Txs, no_txs, tx, Cond, Compare, Both}
+use Rattle.tg_tree.specs.Tree.{Ts, Move, Store, Do, If, Loop, Break, Fault, Seq, Stms, no_stms, stm}
 use Rattle.tg_tree.specs.Forms.{nothing, when}
 use Rattle.tg_tree.specs.Plain.{plain_tx}
 use Rattle.tg_tree.specs.Lists.{stms_of}
@@ -85,16 +34,8 @@ use Rattle.tg_translate.specs.declared.wants.Want.{Want}
 use Rattle.tg_translate.specs.declared.wants.Want.TheVariants as want
 use Rattle.tg_translate.specs.declared.homes.Within.{Within}
 use Rattle.tg_translate.specs.States.{Acts, ◌>>=◌, give, fresh}
-use Rattle.tg_translate.specs.Wants.{
-  Made,
-  value,
-  test,
-  put_in,
-  value_of,
-  is_none,
-  followed,
-  value_behind,
-}
+use Rattle.tg_translate.specs.Wants.{Made, value, test, put_in, value_of, is_none, followed}
+use Rattle.tg_translate.specs.Wants.{value_behind}
 
 abbrev pub minus_one : ℕ
 minus_one = 4294967295

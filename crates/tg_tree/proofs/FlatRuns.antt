@@ -1,23 +1,20 @@
 -- Runs of flat code: each is its own step, goes on with more fuel alone, and reads nothing but what is set.
-use Rattle.std.proofs.Common.{◌≡◌, ℕ, ◌<◌, ◌≤◌, List, [], ◌∷◌, length, Option, Some, None, arith}
-use Rattle.std.specs.Prelude.{pos}
-use Rattle.tg_base.specs.declared.ends.RunEnd.TheVariants.{Exit, Break}
-use Rattle.tg_base.specs.State.{stack_top}
+use Rattle.std.proofs.Common.{◌≡◌, ℕ, ◌<◌, ◌≤◌, List, [], ◌∷◌, Option, Some, None, arith}
+use Rattle.tg_base.specs.declared.ends.RunEnd.TheVariants.{Break}
 use Rattle.tg_runs.specs.Runs.{Run}
 use Rattle.tg_runs.specs.Ran.{Ran, Ended, WantsFuel, Wrong, stops, IsOver, GoesOn}
 use Rattle.tg_runs.proofs.Fixpoint.{again_is, runs_relate}
 use Rattle.tg_tree.specs.Tree.{Linear, Mark, Do', Jump, Branch, Fault', Return', Code}
 use Rattle.tg_tree.specs.Operators.{holds}
-use Rattle.tg_tree.specs.Memory.{begin}
 use Rattle.tg_tree.specs.Units.{Canonical, element_units, entry_units}
 use Rattle.tg_tree.specs.Actions.{World, Temps, Around, Back, wrong}
 use Rattle.tg_tree.specs.Meaning.{Point}
-use Rattle.tg_tree.specs.Running.{function_of}
-use Rattle.tg_tree.specs.Flat.{behind, FlatPoint, enter_flat, jump_to, run_flat, flat_step, flat_going, flat_run}
+use Rattle.tg_tree.specs.Flat.{behind, FlatPoint, run_flat_body, enter_flat, jump_to, run_flat, flat_step, flat_going, flat_run}
 use Rattle.tg_tree.specs.Holding.{TempsHoldAtLeast, WorldHoldsAtLeast, UnlessWrong, AroundReadsNoMore}
-use Rattle.tg_tree.proofs.Relating.{Related, RelatedWorlds, RelatedTemps, Keeps, AlikeBack, AlikeAround, around, around_down, Alike, alike, keep_choice, keep_back, keep_entered, keep_value, keep_run}
-use Rattle.tg_tree.proofs.Going.{one, OneWorld, OneTemps, Same, same_keeps, IsOnward, Onward, onward_keeps}
+use Rattle.tg_tree.proofs.Relating.{Related, RelatedWorlds, RelatedTemps, Keeps, AlikeBack, AlikeAround, around, around_down, Alike, alike, keep_choice, keep_back, keep_value, keep_run}
+use Rattle.tg_tree.proofs.Going.{one, OneWorld, OneTemps, Same, same_keeps, Onward, onward_keeps}
 use Rattle.tg_tree.proofs.Filled.{Filled, filled_keeps}
+use Rattle.tg_tree.proofs.Entering.{BodiesKeep, keep_call_in, stays_over, only_goes_on}
 use Rattle.tg_tree.proofs.TreeRuns.{same_around}
 
 module _ (R : Related) (W : RelatedWorlds) (T : RelatedTemps) where
@@ -33,10 +30,9 @@ module _ (R : Related) (W : RelatedWorlds) (T : RelatedTemps) where
 
     module _ (code : Code (List Linear)) (size : ℕ → ℕ) (floor room n : ℕ) (c d : FlatPoint → Run Ran) (later : (m : ℕ) → m < n → (x y : FlatPoint) → AlikeFlat m x y → R m x.world (c x) (d y)) where
       pub keep_enter_flat : (label : ℕ) (vs : List ℕ) (top : ℕ) (back back' : Back) (w x : World) → W w x → AlikeBack R W T n back back' → R n w (enter_flat code size floor room c label vs top back w) (enter_flat code size floor room d label vs top back' x)
-      keep_enter_flat label vs top back back' w x r h =
-          keeps.work n (entry_units (length vs)) w _ _ (keep_entered R W T keeps n size floor _ _
-          (λ all e e' w1 x1 t1 u1 he r1 s1. keeps.fuel n w1 x1 _ _ r1 (λ m lt. later m lt _ _ (alike_flat all all e e' w1 x1 t1 u1 (around_down R W T keeps m n e e' (omega arith) he) r1 s1)))
-          (function_of label code.functions) vs top back back' w x r h)
+      keep_enter_flat =
+          keep_call_in R W T keeps size floor n entry_units (run_flat_body code size floor room c) (run_flat_body code size floor room d) code.functions
+          (λ m lt all e e' w x t u he r s. later m lt _ _ (alike_flat all all e e' w x t u he r s))
 
       no_loop : (x y : Point) → Alike R W T n x y → R n x.world (wrong x.world) (wrong y.world)
       no_loop x y (alike s e e' g g' w v t u h l r q) = keeps.stop n Wrong w v r
@@ -83,17 +79,14 @@ module _ (code : Code (List Linear)) (size : ℕ → ℕ) (floor room : ℕ) whe
       runs_relate (AlikeFlat R W T) (λ m v z c d. R m v.world c d) (flat_step code size floor room) (flat_step code size floor room)
       (λ k c d h v z q. keep_flat_step R W T keeps code size floor room k c d h v z q) goes goes flat_code_steps flat_code_steps n x y r
 
-  flat_onward : (body : ℕ) (input : List ℕ) (i j : ℕ) → i ≤ j → IsOnward (record { memory = begin code.literals; input = input }) (flat_run code size floor room body input i) (flat_run code size floor room body input j)
-  flat_onward body input i j le =
-      keep_entered Onward OneWorld OneTemps onward_keeps j size floor _ _
-      (λ all e e' w x t u he r q. flat_relate Onward OneWorld OneTemps onward_keeps j _ _ (alike_flat all all e e' w x t u he r q))
-      (function_of body code.functions) [] stack_top _ _ (record { memory = begin code.literals; input = input }) _ (one _) (λ v w x r. onward_keeps.stop j (Ended (Exit (pos 0))) w x r) j i (omega arith) le
+  flat_goes_on : (n : ℕ) → BodiesKeep Onward OneWorld OneTemps n (run_flat_body code size floor room goes) (run_flat_body code size floor room goes)
+  flat_goes_on n all e e' w x t u he r q = flat_relate Onward OneWorld OneTemps onward_keeps n _ _ (alike_flat all all e e' w x t u he r q)
 
   pub flat_code_stays_over : (body : ℕ) (input : List ℕ) (i j : ℕ) → i ≤ j → IsOver (flat_run code size floor room body input i).stop → flat_run code size floor room body input j ≡ flat_run code size floor room body input i
-  flat_code_stays_over body input i j le o = (flat_onward body input i j le).over o
+  flat_code_stays_over = stays_over size floor (run_flat_body code size floor room goes) code flat_goes_on
 
   pub flat_code_only_goes_on : (body : ℕ) (input : List ℕ) (i j : ℕ) → i ≤ j → GoesOn (flat_run code size floor room body input i) (flat_run code size floor room body input j)
-  flat_code_only_goes_on body input i j le = (flat_onward body input i j le).on
+  flat_code_only_goes_on = only_goes_on size floor (run_flat_body code size floor room goes) code flat_goes_on
 
   pub flat_code_reads_no_more : (p : FlatPoint) (x : World) (u : Temps) → AroundReadsNoMore p.around → WorldHoldsAtLeast p.world x → TempsHoldAtLeast p.temps u → UnlessWrong (goes p) (goes (record p { world = x; temps = u }))
   flat_code_reads_no_more p x u h hw ht n ne =

@@ -4,10 +4,13 @@ mod LinkExamples
 pub mod Relating
 pub mod Going
 pub mod Filled
+pub mod Entering
 pub mod TreeRuns
 pub mod FlatRuns
 pub mod FlatValues
 pub mod ListLaws
 pub mod Flatness
+pub mod CallsLess
 pub mod Linking
 pub mod Alikes
+pub mod Opposites

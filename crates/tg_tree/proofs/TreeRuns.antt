@@ -1,22 +1,21 @@
 -- Runs of trees: each is its own step, goes on with more fuel alone, and reads nothing but what is set.
-use Rattle.std.proofs.Common.{◌≡◌, ℕ, ◌+◌, ◌<◌, ◌≤◌, List, [], length, Option, Some, Bool, true, refl, ap, ◌∙◌, arith}
+use Rattle.std.proofs.Common.{◌≡◌, ℕ, ◌+◌, ◌<◌, ◌≤◌, List, [], Option, Some, Bool, true, refl, ap, ◌∙◌, arith}
 use Rattle.std.proofs.lemmas.Bool.{lt-ltb}
-use Rattle.std.specs.Prelude.{pos, nat_lt, if◌then◌else◌}
-use Rattle.tg_base.specs.declared.ends.RunEnd.TheVariants.{Exit, StackFull}
-use Rattle.tg_base.specs.State.{stack_top}
+use Rattle.std.specs.Prelude.{nat_lt, if◌then◌else◌}
+use Rattle.tg_base.specs.declared.ends.RunEnd.TheVariants.{StackFull}
 use Rattle.tg_runs.specs.Runs.{Run, IsSameTo}
 use Rattle.tg_runs.specs.Ran.{Ran, Ended, WantsFuel, Wrong, stops, IsOver, GoesOn}
 use Rattle.tg_runs.proofs.Fixpoint.{again_is, runs_relate}
 use Rattle.tg_tree.specs.Tree.{Ts, Function, Code}
-use Rattle.tg_tree.specs.Memory.{begin}
 use Rattle.tg_tree.specs.Units.{Stage, marked_entry_units}
 use Rattle.tg_tree.specs.Actions.{World, Temps, Around, Next, Back}
 use Rattle.tg_tree.specs.Meaning.{Point}
-use Rattle.tg_tree.specs.Running.{Runner, function_of, with_fuel, entered, run_body, body_point, enter, step, going, tree_run}
+use Rattle.tg_tree.specs.Running.{Runner, with_fuel, entered, run_body, body_point, enter, step, going, tree_run}
 use Rattle.tg_tree.specs.Holding.{TempsHoldAtLeast, WorldHoldsAtLeast, UnlessWrong, NextReadsNoMore, AroundReadsNoMore}
-use Rattle.tg_tree.proofs.Relating.{Related, RelatedWorlds, RelatedTemps, Keeps, AlikeBack, AlikeAround, around, around_down, Alike, alike, alike_down, keep_entered, keep_run}
-use Rattle.tg_tree.proofs.Going.{one, OneWorld, OneTemps, Same, same_keeps, IsOnward, Onward, onward_keeps}
+use Rattle.tg_tree.proofs.Relating.{Related, RelatedWorlds, RelatedTemps, Keeps, AlikeBack, AlikeAround, around, Alike, alike, alike_down, keep_run}
+use Rattle.tg_tree.proofs.Going.{one, OneWorld, OneTemps, Same, same_keeps, Onward, onward_keeps}
 use Rattle.tg_tree.proofs.Filled.{Filled, filled_keeps}
+use Rattle.tg_tree.proofs.Entering.{BodiesKeep, keep_call_in, stays_over, only_goes_on}
 
 module _ (R : Related) (W : RelatedWorlds) (T : RelatedTemps) (keeps : Keeps R W T) (stage : Stage) (code : Code Ts) (size : ℕ → ℕ) (floor room : ℕ) where
   -- a body from its begin, where what comes of points is related
@@ -26,10 +25,9 @@ module _ (R : Related) (W : RelatedWorlds) (T : RelatedTemps) (keeps : Keeps R W
 
   module _ (n : ℕ) (c d : Point → Run Ran) (later : (m : ℕ) → m < n → (x y : Point) → Alike R W T m x y → R m x.world (c x) (d y)) where
     pub keep_enter : (label : ℕ) (vs : List ℕ) (top : ℕ) (back back' : Back) (w x : World) → W w x → AlikeBack R W T n back back' → R n w (enter stage code size floor room c label vs top back w) (enter stage code size floor room d label vs top back' x)
-    keep_enter label vs top back back' w x r h =
-        keeps.work n (marked_entry_units (length vs)) w _ _ (keep_entered R W T keeps n size floor _ _
-        (λ s e e' w1 x1 t1 u1 he r1 s1. keeps.fuel n w1 x1 _ _ r1 (λ m lt. keep_body m c d (later m lt) s e e' w1 x1 t1 u1 (around_down R W T keeps m n e e' (omega arith) he) r1 s1))
-        (function_of label code.functions) vs top back back' w x r h)
+    keep_enter =
+        keep_call_in R W T keeps size floor n marked_entry_units (run_body stage code size floor room c) (run_body stage code size floor room d)
+        code.functions (λ m lt. keep_body m c d (later m lt))
 
     pub keep_head : (x y : Point) → Alike R W T n x y → R n x.world (with_fuel x.world (c x)) (with_fuel y.world (d y))
     keep_head x y (alike s e e' g g' w v t u h l r q) =
@@ -71,17 +69,16 @@ module _ (stage : Stage) (code : Code Ts) (size : ℕ → ℕ) (floor room : ℕ
       runs_relate (Alike R W T) (λ m v z c d. R m v.world c d) (step stage code size floor room) (step stage code size floor room)
       (λ k c d h v z q. keep_step R W T keeps stage code size floor room k c d h v z q) goes goes trees_step trees_step n x y r
 
-  trees_onward : (body : ℕ) (input : List ℕ) (i j : ℕ) → i ≤ j → IsOnward (record { memory = begin code.literals; input = input }) (tree_run stage code size floor room body input i) (tree_run stage code size floor room body input j)
-  trees_onward body input i j le =
-      keep_entered Onward OneWorld OneTemps onward_keeps j size floor _ _
-      (λ s e e' w x t u he r q. keep_body Onward OneWorld OneTemps onward_keeps stage code size floor room j goes goes (λ v z h. trees_relate Onward OneWorld OneTemps onward_keeps j v z h) s e e' w x t u he r q)
-      (function_of body code.functions) [] stack_top _ _ (record { memory = begin code.literals; input = input }) _ (one _) (λ v w x r. onward_keeps.stop j (Ended (Exit (pos 0))) w x r) j i (omega arith) le
+  trees_go_on : (n : ℕ) → BodiesKeep Onward OneWorld OneTemps n (run_body stage code size floor room goes) (run_body stage code size floor room goes)
+  trees_go_on n =
+      keep_body Onward OneWorld OneTemps onward_keeps stage code size floor room n goes goes
+      (λ x y h. trees_relate Onward OneWorld OneTemps onward_keeps n x y h)
 
   pub trees_stay_over : (body : ℕ) (input : List ℕ) (i j : ℕ) → i ≤ j → IsOver (tree_run stage code size floor room body input i).stop → tree_run stage code size floor room body input j ≡ tree_run stage code size floor room body input i
-  trees_stay_over body input i j le o = (trees_onward body input i j le).over o
+  trees_stay_over = stays_over size floor (run_body stage code size floor room goes) code trees_go_on
 
   pub trees_only_go_on : (body : ℕ) (input : List ℕ) (i j : ℕ) → i ≤ j → GoesOn (tree_run stage code size floor room body input i) (tree_run stage code size floor room body input j)
-  trees_only_go_on body input i j le = (trees_onward body input i j le).on
+  trees_only_go_on = only_goes_on size floor (run_body stage code size floor room goes) code trees_go_on
 
   pub trees_read_no_more : (p : Point) (x : World) (u : Temps) → AroundReadsNoMore p.around → NextReadsNoMore p.next → WorldHoldsAtLeast p.world x → TempsHoldAtLeast p.temps u → UnlessWrong (goes p) (goes (record p { world = x; temps = u }))
   trees_read_no_more p x u h l hw ht n ne =

@@ -1,20 +1,7 @@
 -- Forms of trees that many texts share.
 use Rattle.std.specs.Prelude.{List, [], ◌∷◌, ◌++◌}
-use Rattle.tg_tree.specs.Tree.{
-  Tx,
-  Txs,
-  no_txs,
-  tx,
-  Cond,
-  Ts,
-  If,
-  Loop,
-  Break,
-  Seq,
-  Stms,
-  no_stms,
-  stm,
-}
+use Rattle.tg_tree.specs.Tree.{Tx, Txs, no_txs, tx, Cond, Ts, If, Loop, Break, Seq}
+use Rattle.tg_tree.specs.Tree.{Stms, no_stms, stm}
 
 -- lists of trees
 abbrev pub txs : List Tx → Txs

@@ -46,3 +46,14 @@ holds Greater a b = less b a
 holds GreaterEqual a b = not (less a b)
 holds Below a b = nat_lt a b
 holds NotBelow a b = not (nat_lt a b)
+
+-- what holds where a comparison doesn't
+abbrev pub opposite : Rel → Rel
+opposite Equal = NotEqual
+opposite NotEqual = Equal
+opposite Less = GreaterEqual
+opposite LessEqual = Greater
+opposite Greater = LessEqual
+opposite GreaterEqual = Less
+opposite Below = NotBelow
+opposite NotBelow = Below

@@ -9,17 +9,8 @@ use Rattle.tg_tree.specs.Tree.{Tx, Temp, Binary, Load, LoadByte, Call, Service, 
 use Rattle.tg_tree.specs.Tree.{tx, Cond, Compare, Not, Both, Either, Ts, Move, Store, StoreByte, Do}
 use Rattle.tg_tree.specs.Tree.{If, Loop, Seq, Return, Stms, no_stms, stm, Linear, Do', Branch}
 use Rattle.tg_tree.specs.Tree.{Return', Function}
-use Rattle.tg_tree.specs.Units.{
-  Stage,
-  Trees,
-  Canonical,
-  expression_units,
-  argument_units,
-  condition_units,
-  statement_units,
-  element_units,
-  parameter_units,
-}
+use Rattle.tg_tree.specs.Units.{Stage, Trees, Canonical, expression_units, argument_units}
+use Rattle.tg_tree.specs.Units.{condition_units, statement_units, element_units, parameter_units}
 
 -- Lengths: the units of all nodes.
 module _ (g : Stage) where

@@ -6,39 +6,10 @@ use Rattle.std.specs.Prelude.{ℕ, ◌+◌, ◌*◌, Bool, if◌then◌else◌}
 use Rattle.tg_tree.specs.declared.operators.Bin.{Bin}
 use Rattle.tg_tree.specs.declared.operators.Bin.TheVariants.{Mul, Div, MulHigh, ShiftLeft}
 use Rattle.tg_tree.specs.declared.operators.Bin.TheVariants.{ShiftRight, ShiftSigned}
-use Rattle.tg_tree.specs.Tree.{
-  Tx,
-  Const,
-  Temp,
-  Binary,
-  Call,
-  Service,
-  After,
-  Txs,
-  Cond,
-  Compare,
-  Not,
-  Both,
-  Either,
-  Ts,
-  Move,
-  Store,
-  StoreByte,
-  Do,
-  If,
-  Loop,
-  Break,
-  Fault,
-  Seq,
-  Return,
-  Linear,
-  Mark,
-  Do',
-  Jump,
-  Branch,
-  Fault',
-  Return',
-}
+use Rattle.tg_tree.specs.Tree.{Tx, Const, Temp, Binary, Call, Service, After, Txs}
+use Rattle.tg_tree.specs.Tree.{Cond, Compare, Not, Both, Either}
+use Rattle.tg_tree.specs.Tree.{Ts, Move, Store, StoreByte, Do, If, Loop, Break, Fault, Seq, Return}
+use Rattle.tg_tree.specs.Tree.{Linear, Mark, Do', Jump, Branch, Fault', Return'}
 use Rattle.tg_tree.specs.Shapes.{is_flat, are_flat, is_flat_condition}
 
 -- as translated, or canonical: with calls and services that are whole right sides, as the

@@ -20,5 +20,5 @@ pub use making::{
     after, binary, both, call, compare, either, if_else, load, load_byte, negate, repeat,
     repeat_until, sequence, service, when,
 };
-pub use operators::{Bin, Rel};
+pub use operators::{Bin, Rel, opposite};
 pub use trees::{Cond, Stms, Ts, Tx, Txs};

@@ -1,3 +1,6 @@
+ghost use Rattle.std.specs.Prelude.{◌≡◌};
+ghost use Rattle.tg_tree.specs.Operators as operators;
+
 /// An operator on two words. A shift uses the low five bits of its right operand.
 #[derive(Clone, Copy, Debug, PartialEq, Eq)]
 pub enum Bin {
@@ -32,4 +35,20 @@ pub enum Rel {
     GreaterEqual,
     Below,
     NotBelow,
+}
+
+/// What holds where a comparison doesn't.
+pub fn opposite(rel: Rel) -> Rel
+    ensures { result ≡ operators.opposite rel }
+{
+    match rel {
+        Rel::Equal => Rel::NotEqual,
+        Rel::NotEqual => Rel::Equal,
+        Rel::Less => Rel::GreaterEqual,
+        Rel::LessEqual => Rel::Greater,
+        Rel::Greater => Rel::LessEqual,
+        Rel::GreaterEqual => Rel::Less,
+        Rel::Below => Rel::NotBelow,
+        Rel::NotBelow => Rel::Below,
+    }
 }
