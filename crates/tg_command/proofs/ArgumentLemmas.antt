@@ -1,5 +1,5 @@
 -- The required arguments of the simple command have values.
-use Rattle.std.proofs.Common.{◌≡◌, ◌∙◌, ◌<◌, ℕ, zero, suc, List, [], ◌∷◌, false, refl, sym, ap, subst, arith, codes, length, inl, inr, slice_index}
+use Rattle.std.proofs.Common.{◌≡◌, ◌∙◌, ◌<◌, ℕ, zero, suc, List, [], ◌∷◌, true, false, refl, sym, ap, subst, arith, codes, length, inl, inr}
 use Rattle.std.specs.List.{All, slice_index_or, position_or_len}
 use Rattle.std.specs.Str.{bytes_eq}
 use Rattle.std.proofs.lemmas.Slice.Eq.{bytes_eq-Decides}
@@ -22,19 +22,25 @@ place name = position_or_len (λ x. bytes_eq x name) names
 id_is : (rule : Rule) (a : Arg) → IsArgument rule a → a.id.now ≡ rule.id
 id_is rule a h = ap (λ (r : Rule). r.id) h.rule_is
 
+no_truth : false ≡ true → ⊥
+no_truth h = cc
+
+other_name : (s t : Text) → bytes_eq s t ≡ false → s ≡ t → ⊥
+other_name s t differ same = no_truth (sym differ ∙ (bytes_eq-Decides s t).1 same)
+
 -- an argument fits a chain where its name is neither that of the help flag nor that of the version flag
-fits : (rule : Rule) (a : Arg) → IsArgument rule a → (rule.id ≡ [] → ⊥) → (rule.id ≡ codes "help" → ⊥) → (rule.id ≡ codes "version" → ⊥) → FitsChain a
+fits : (rule : Rule) (a : Arg) → IsArgument rule a →
+    bytes_eq rule.id [] ≡ false → bytes_eq rule.id (codes "help") ≡ false → bytes_eq rule.id (codes "version") ≡ false → FitsChain a
 fits rule a h named no_help no_version =
     let same = id_is rule a h in (
       h.plain,
       h.local,
-      (λ empty. named (sym same ∙ empty)),
-      (λ auto. elim auto [ inl e ↦ no_help (sym same ∙ e) | inr e ↦ no_version (sym same ∙ e) ]),
+      (λ empty. other_name rule.id [] named (sym same ∙ empty)),
+      (λ auto. elim auto [
+        | inl e ↦ other_name rule.id (codes "help") no_help (sym same ∙ e)
+        | inr e ↦ other_name rule.id (codes "version") no_version (sym same ∙ e)
+      ]),
     )
-
--- texts differ where their bytes at one place do
-pub other_text : (k a b : ℕ) (s t : Text) → slice_index s k ≡ a → slice_index t k ≡ b → (a ≡ b → ⊥) → s ≡ t → ⊥
-other_text k a b s t at_s at_t differ same = differ (sym at_s ∙ (ap (λ (x : Text). slice_index x k) same ∙ at_t))
 
 module _ (a b d e f : Arg) (is_a : IsArgument (positional (codes "mode")) a) (is_b : IsArgument (positional (codes "file")) b)
     (is_d : IsArgument (option (codes "heap")) d) (is_e : IsArgument (option (codes "stack")) e) (is_f : IsArgument (option (codes "steps")) f) where
@@ -42,11 +48,11 @@ module _ (a b d e f : Arg) (is_a : IsArgument (positional (codes "mode")) a) (is
   chain = a ∷ b ∷ d ∷ e ∷ f ∷ []
 
   all_fit : All FitsChain chain
-  all_fit zero x lt = fits _ a is_a (other_text 0 109 0 _ _ refl refl (λ q. absurd (omega (arith, q)))) (other_text 0 109 104 _ _ refl refl (λ q. absurd (omega (arith, q)))) (other_text 0 109 118 _ _ refl refl (λ q. absurd (omega (arith, q))))
-  all_fit (suc zero) x lt = fits _ b is_b (other_text 0 102 0 _ _ refl refl (λ q. absurd (omega (arith, q)))) (other_text 0 102 104 _ _ refl refl (λ q. absurd (omega (arith, q)))) (other_text 0 102 118 _ _ refl refl (λ q. absurd (omega (arith, q))))
-  all_fit (suc (suc zero)) x lt = fits _ d is_d (other_text 0 104 0 _ _ refl refl (λ q. absurd (omega (arith, q)))) (other_text 2 97 108 _ _ refl refl (λ q. absurd (omega (arith, q)))) (other_text 0 104 118 _ _ refl refl (λ q. absurd (omega (arith, q))))
-  all_fit (suc (suc (suc zero))) x lt = fits _ e is_e (other_text 0 115 0 _ _ refl refl (λ q. absurd (omega (arith, q)))) (other_text 0 115 104 _ _ refl refl (λ q. absurd (omega (arith, q)))) (other_text 0 115 118 _ _ refl refl (λ q. absurd (omega (arith, q))))
-  all_fit (suc (suc (suc (suc zero)))) x lt = fits _ f is_f (other_text 0 115 0 _ _ refl refl (λ q. absurd (omega (arith, q)))) (other_text 0 115 104 _ _ refl refl (λ q. absurd (omega (arith, q)))) (other_text 0 115 118 _ _ refl refl (λ q. absurd (omega (arith, q))))
+  all_fit zero x lt = fits _ a is_a refl refl refl
+  all_fit (suc zero) x lt = fits _ b is_b refl refl refl
+  all_fit (suc (suc zero)) x lt = fits _ d is_d refl refl refl
+  all_fit (suc (suc (suc zero))) x lt = fits _ e is_e refl refl refl
+  all_fit (suc (suc (suc (suc zero)))) x lt = fits _ f is_f refl refl refl
   all_fit (suc (suc (suc (suc (suc k))))) x lt = absurd (omega arith)
 
   -- each argument stands in the place of its name
