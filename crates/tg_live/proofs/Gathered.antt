@@ -5,12 +5,13 @@ use Rattle.std.proofs.lemmas.List.{length-replicate}
 use Rattle.tg_instr.specs.declared.instr.Instr.{Instr}
 use Rattle.tg_instr.specs.declared.operands.Opnd.{Opnd}
 use Rattle.tg_instr.specs.Operands.{is_same}
+use Rattle.tg_instr.proofs.Same.{same_itself, same_is}
 use Rattle.tg_live.specs.Live.{Sets, set_at, is_among, is_rising, number_of, operand_of, IsLiveOut, AreLiveSets}
 use Rattle.tg_live.specs.Tables.{Table, AreSites}
 use Rattle.tg_live.specs.Search.{ends_in, AreSearched}
 use Rattle.tg_live.proofs.Reach.{used_along}
 use Rattle.tg_live.proofs.Turned.{row_none}
-use Rattle.tg_live.proofs.Numbers.{same_itself, same_is, number_operand, ends_among, among_push_left, among_push_itself, among_push, rising_push}
+use Rattle.tg_live.proofs.Numbers.{number_operand, ends_among, among_push_left, among_push_itself, among_push, rising_push}
 
 pub record AreGathered (all : List Instr) (n : ℕ) (sets : Sets) : Type 0 where
   pub size : length sets ≡ length all

@@ -1,9 +1,10 @@
-mod Reach
+-- for the passes above too
+pub mod Reach
+pub mod Numbers
+pub mod LiveExamples
 mod Turned
-mod Numbers
 mod Places
 mod Marked
 mod Searched
 mod Gathered
 mod Closed
-mod LiveExamples

@@ -15,10 +15,10 @@ abbrev temp : ℕ → Opnd
 temp n = TempOf (record { 0 = n })
 
 -- t0 <- $a0; t1 <- t0; t2 <- t0 + t1; $v0 <- t2; return
-abbrev copies : List Instr
+abbrev pub copies : List Instr
 copies =
-    Move (temp 0) (Reg 4) ∷ Move (temp 1) (temp 0) ∷ Addu (temp 2) (temp 0) (temp 1) ∷ Move (Reg 2) (temp
-    2) ∷ Return ∷ []
+    Move (temp 0) (Reg 4) ∷ Move (temp 1) (temp 0) ∷ Addu (temp 2) (temp 0) (temp 1) ∷
+    Move (Reg 2) (temp 2) ∷ Return ∷ []
 
 copies_go_on : successors copies ≡ (1 ∷ []) ∷ (2 ∷ []) ∷ (3 ∷ []) ∷ (4 ∷ []) ∷ [] ∷ []
 copies_go_on = refl
@@ -88,7 +88,7 @@ copy_interferes_not h =
     (λ beside. ⊎_elim (λ b. t0_beside_t1_at b.at b.defines b.live) (λ b. t1_beside_t0 b) beside) h.cause
 
 -- but $s0, which is live out of every instruction, interferes with t2, and with $v0 as a colour
-s0_with_t2 : Interferes copies (Reg 16) (temp 2)
+pub s0_with_t2 : Interferes copies (Reg 16) (temp 2)
 s0_with_t2 = record {
   left = refl;
   right = refl;

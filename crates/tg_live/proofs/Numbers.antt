@@ -1,25 +1,16 @@
 -- Operands and their numbers.
 use Rattle.std.proofs.Common.{◌≡◌, ◌<◌, ◌≤◌, ◌+◌, ◌-◌, ℕ, suc, Bool, true, false, nat_eq, nat_lt, ◌||◌, cond, List, [], ◌∷◌, ◌++◌, Some, length, get_or, drop, slice_get, refl, sym, ap, ◌∙◌, arith, ⊎_elim}
 use Rattle.std.specs.List.{list_any, list_all}
-use Rattle.std.proofs.lemmas.Bool.{eqb-true, eq-eqb, ne_eqb, cases_eq, cases_lt, lt-ltb, le-ltb, ltb-true, and_parts, and_from, or_cases, or_left, or_right, false_from_ne_true, false≢true}
+use Rattle.std.proofs.lemmas.Bool.{eq-eqb, ne_eqb, cases_eq, cases_lt, lt-ltb, le-ltb, ltb-true, and_parts, and_from, or_cases, or_left, or_right, false_from_ne_true, false≢true}
 use Rattle.std.proofs.lemmas.List.{drop_more}
 use Rattle.tg_instr.specs.declared.operands.Opnd.{Opnd}
 use Rattle.tg_instr.specs.declared.operands.Opnd.TheVariants.{Temp as TempOf, Reg}
 use Rattle.tg_instr.specs.Operands.{is_same}
 use Rattle.tg_instr.specs.Codes.{is_below}
+use Rattle.tg_instr.proofs.Same.{same_itself, same_is}
 use Rattle.tg_live.specs.Live.{is_among, number_of, operand_of, is_proper, is_rising}
 use Rattle.tg_live.specs.Tables.{numbers_of}
 use Rattle.tg_live.specs.Search.{ends_in}
-
-pub same_itself : (x : Opnd) → is_same x x ≡ true
-same_itself (TempOf t) = eq-eqb t.0 t.0 refl
-same_itself (Reg r) = eq-eqb r r refl
-
-pub same_is : (x y : Opnd) → is_same x y ≡ true → x ≡ y
-same_is (TempOf s) (TempOf t) e = ap (λ n. TempOf (record { 0 = n })) (eqb-true s.0 t.0 e)
-same_is (Reg r) (Reg q) e = ap Reg (eqb-true r q e)
-same_is (TempOf s) (Reg q) e = absurd (false≢true e)
-same_is (Reg r) (TempOf t) e = absurd (false≢true e)
 
 pub number_operand : (n : ℕ) → number_of (operand_of n) ≡ n
 number_operand n = ⊎_elim low high (cases_lt n 32)

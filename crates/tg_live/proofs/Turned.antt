@@ -199,27 +199,31 @@ and_or : (a e h : Bool) → ((a && e) || (a && h)) ≡ (a && (e || h))
 and_or true e h = refl
 and_or false e h = refl
 
-and_or_back : (a e h : Bool) → ((e && a) || (a && h)) ≡ (a && (e || h))
-and_or_back true true h = refl
-and_or_back true false h = refl
-and_or_back false true h = refl
-and_or_back false false h = refl
+and_back : (a e : Bool) → (e && a) ≡ (a && e)
+and_back true true = refl
+and_back true false = refl
+and_back false true = refl
+and_back false false = refl
+
+-- edges at a place, whose other ends are a list
+edges_at : (edge : ℕ → ℕ × ℕ) (x : ℕ × ℕ) (here : Bool) (end : ℕ) →
+    ((n : ℕ) → eq_by_cmp pair_cmp x (edge n) ≡ (here && nat_eq end n)) → (ends : List ℕ) →
+    list_any (eq_by_cmp pair_cmp x) (map edge ends) ≡ (here && has end ends)
+edges_at edge x here end same [] = sym (and_false here)
+edges_at edge x here end same (n ∷ ends) =
+    ap (λ b. b || list_any (eq_by_cmp pair_cmp x) (map edge ends)) (same n)
+    ∙ (ap (λ b. (here && nat_eq end n) || b) (edges_at edge x here end same ends)
+    ∙ and_or here (nat_eq end n) (has end ends))
 
 edges_out : (at : ℕ) (nexts : List ℕ) (x : ℕ × ℕ) →
     list_any (eq_by_cmp pair_cmp x) (map (λ next. (at, next)) nexts) ≡ (nat_eq x.0 at && has x.1 nexts)
-edges_out at [] x = sym (and_false (nat_eq x.0 at))
-edges_out at (n ∷ nexts) x =
-    ap (λ b. b || list_any (eq_by_cmp pair_cmp x) (map (λ next. (at, next)) nexts)) (pair_same x (at, n))
-    ∙ (ap (λ b. (nat_eq x.0 at && nat_eq x.1 n) || b) (edges_out at nexts x)
-    ∙ and_or (nat_eq x.0 at) (nat_eq x.1 n) (has x.1 nexts))
+edges_out at nexts x = edges_at (λ n. (at, n)) x (nat_eq x.0 at) x.1 (λ n. pair_same x (at, n)) nexts
 
 edges_in : (at : ℕ) (befores : List ℕ) (x : ℕ × ℕ) →
     list_any (eq_by_cmp pair_cmp x) (map (λ before. (before, at)) befores) ≡ (nat_eq x.1 at && has x.0 befores)
-edges_in at [] x = sym (and_false (nat_eq x.1 at))
-edges_in at (n ∷ befores) x =
-    ap (λ b. b || list_any (eq_by_cmp pair_cmp x) (map (λ before. (before, at)) befores)) (pair_same x (n, at))
-    ∙ (ap (λ b. (nat_eq x.0 n && nat_eq x.1 at) || b) (edges_in at befores x)
-    ∙ and_or_back (nat_eq x.1 at) (nat_eq x.0 n) (has x.0 befores))
+edges_in at befores x =
+    edges_at (λ n. (n, at)) x (nat_eq x.1 at) x.0
+    (λ n. pair_same x (n, at) ∙ and_back (nat_eq x.1 at) (nat_eq x.0 n)) befores
 
 edges_from_hold : (at : ℕ) (lists : List (List ℕ)) (x : ℕ × ℕ) →
     list_any (eq_by_cmp pair_cmp x) (edges_from at lists) ≡ holds at lists x.0 x.1
