@@ -243,7 +243,8 @@ fn values<'a>(
     align: Align,
     operands: &[Operand<'a>],
 ) -> Result<Item<'a>, Refused>
-    ensures { Gives item_of (items.values keyword (bytes_of align) (map operand_of operands.now)) result }
+    ensures { Gives item_of
+        (items.values keyword (bytes_of align) (map operand_of operands.now)) result }
 {
     if operands.is_empty() {
         return Err(Refused::Rule(AsmRule::A3));

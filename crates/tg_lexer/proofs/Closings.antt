@@ -81,37 +81,40 @@ two_bytes a b [] h = absurd h
 two_bytes a b (x ∷ []) h = absurd h
 two_bytes a b (x ∷ y ∷ text) h = let e = h.0 in let f = h.1 in cc
 
+-- behind a piece of the text other comments are left open
+open_past : (text : List ℕ) (depth left at : ℕ) (piece tail : List ℕ) → Open text depth at → drop at text ≡ piece ++ tail →
+    0 < left → left ≤ at + length piece + 1 →
+    ((more rest : List ℕ) → drop at text ≡ (piece ++ more) ++ rest → Closes left more → Closes depth (piece ++ more)) →
+    ((rest : List ℕ) → Left depth (piece ++ tail) rest → Left left tail rest) →
+    Open text left (at + length piece)
+open_past text depth left at piece tail h e some few ahead only =
+    record {
+      within = within_piece at text piece tail h.within e;
+      some = some;
+      few = few;
+      ahead = λ more rest w c.
+          let f : drop at text ≡ (piece ++ more) ++ rest =
+          e ∙ ap (λ l. piece ++ l) (sym (drop_piece at text piece tail e) ∙ w) ∙ sym (append_assoc piece more rest) in
+          rw (take_piece at text piece tail e, append_assoc (take at text) piece more) (h.ahead (piece ++ more) rest f (ahead more rest f c));
+      only = λ inside rest w c. rw (drop_piece at text piece tail e) (only rest (rw e at (h.only inside rest w c)));
+    }
+
 pub open_opens : (text : List ℕ) (depth at : ℕ) → Open text depth at → OpensComment (drop at text) → Open text (depth + 1) (at + 2)
 open_opens text zero at h o = absurd (omega (arith, h.some))
 open_opens text (suc depth) at h o =
-    let e = two_bytes 47 42 (drop at text) o in
-    let piece : List ℕ = 47 ∷ 42 ∷ [] in
     let n : suc depth + 1 ≡ suc (suc depth) = omega arith in
-    record {
-      within = within_piece at text piece (drop 2 (drop at text)) h.within e;
-      some = omega arith;
-      few = let k = h.few in omega arith;
-      ahead = λ more rest w c. rw (take_piece at text piece (drop 2 (drop at text)) e, append_assoc (take at text) piece more) (h.ahead (47 ∷ 42 ∷ more) rest (e ∙ ap (λ l. 47 ∷ 42 ∷ l) (sym (drop_piece at text piece (drop 2 (drop at text)) e) ∙ w)) (opens (subst (λ d. Closes d more) n c)));
-      only = λ inside rest w c.
-          let l = left_opens depth (drop 2 (drop at text)) rest (rw e at (h.only inside rest w c)) in
-          rw (n, drop_piece at text piece (drop 2 (drop at text)) e) l;
-    }
+    let few : suc (suc depth) ≤ at + 2 + 1 = let k = h.few in omega arith in
+    rw n (open_past text (suc depth) (suc (suc depth)) at (47 ∷ 42 ∷ []) (drop 2 (drop at text)) h (two_bytes 47 42 (drop at text) o) (omega arith) few
+    (λ more rest f c. opens c) (λ rest l. left_opens depth _ rest l))
 
 pub open_closes : (text : List ℕ) (depth at : ℕ) → Open text depth at → ClosesComment (drop at text) → depth - 1 ≢ 0 → Open text (depth - 1) (at + 2)
 open_closes text zero at h o ne = absurd (omega (arith, h.some))
 open_closes text (suc depth) at h o ne =
-    let e = two_bytes 42 47 (drop at text) o in
-    let piece : List ℕ = 42 ∷ 47 ∷ [] in
     let n : suc depth - 1 ≡ depth = omega arith in
-    record {
-      within = within_piece at text piece (drop 2 (drop at text)) h.within e;
-      some = omega arith;
-      few = let k = h.few in omega arith;
-      ahead = λ more rest w c. rw (take_piece at text piece (drop 2 (drop at text)) e, append_assoc (take at text) piece more) (h.ahead (42 ∷ 47 ∷ more) rest (e ∙ ap (λ l. 42 ∷ 47 ∷ l) (sym (drop_piece at text piece (drop 2 (drop at text)) e) ∙ w)) (closes (subst (λ d. Closes d more) n c)));
-      only = λ inside rest w c.
-          let l = left_closes depth (drop 2 (drop at text)) rest (rw e at (h.only inside rest w c)) in
-          rw (n, drop_piece at text piece (drop 2 (drop at text)) e) l;
-    }
+    let some : 0 < depth = omega arith in
+    let few : depth ≤ at + 2 + 1 = let k = h.few in omega arith in
+    rw n (open_past text (suc depth) depth at (42 ∷ 47 ∷ []) (drop 2 (drop at text)) h (two_bytes 42 47 (drop at text) o) some few
+    (λ more rest f c. closes c) (λ rest l. left_closes depth _ rest l))
 
 begins_longer : (a b x : ℕ) (more rest : List ℕ) → BeginsWithPair a b (x ∷ more) → BeginsWithPair a b (x ∷ more ++ rest)
 begins_longer a b x [] rest h = absurd h
@@ -122,17 +125,10 @@ open_byte text zero at h lt unopening unclosing = absurd (omega (arith, h.some))
 open_byte text (suc depth) at h lt unopening unclosing =
     let b = get_or text at 0 in
     let e : drop at text ≡ (b ∷ []) ++ drop (at + 1) text = drop_more text at 0 lt in
-    record {
-      within = omega arith;
-      some = omega arith;
-      few = let k = h.few in omega arith;
-      ahead = λ more rest w c.
-          let f : drop at text ≡ b ∷ more ++ rest = e ∙ ap (λ l. b ∷ l) w in
-          let opening : OpensComment (b ∷ more) → ⊥ = λ o. unopening (rw f (begins_longer 47 42 b more rest o)) in
-          let closing : ClosesComment (b ∷ more) → ⊥ = λ o. unclosing (rw f (begins_longer 42 47 b more rest o)) in
-          rw (take_piece at text (b ∷ []) (drop (at + 1) text) e, append_assoc (take at text) (b ∷ []) more) (h.ahead (b ∷ more) rest f (byte b opening closing c));
-      only = λ inside rest w c. left_byte depth b (drop (at + 1) text) rest (rw e at unopening) (rw e at unclosing) (rw e at (h.only inside rest w c));
-    }
+    let few : suc depth ≤ at + 1 + 1 = let k = h.few in omega arith in
+    open_past text (suc depth) (suc depth) at (b ∷ []) (drop (at + 1) text) h e (omega arith) few
+    (λ more rest f c. byte b (λ o. unopening (rw f (begins_longer 47 42 b more rest o))) (λ o. unclosing (rw f (begins_longer 42 47 b more rest o))) c)
+    (λ rest l. left_byte depth b (drop (at + 1) text) rest (rw e at unopening) (rw e at unclosing) l)
 
 -- the last comment is closed
 pub open_closed : (text : List ℕ) (depth at : ℕ) → Open text depth at → ClosesComment (drop at text) → depth - 1 ≡ 0 → (at + 2 ≤ length text) × Closes 1 (take (at + 2) text)

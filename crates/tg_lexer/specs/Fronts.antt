@@ -5,9 +5,11 @@ use Rattle.std.specs.Prelude.{not, ◌&&◌}
 use Rattle.tg_syntax.specs.declared.tokens.Token.{Token}
 use Rattle.tg_syntax.specs.declared.tokens.Sign.{Sign}
 use Rattle.tg_syntax.specs.Spellings.{Spells, sign_text, is_blank, is_letter, is_digit, AllAre}
-use Rattle.tg_syntax.specs.Spellings.{Escape, IsQuoted}
+use Rattle.tg_syntax.specs.Spellings.{Escape, IsQuoted, is_name_byte}
 use Rattle.tg_syntax.specs.Lexing.{IsLongest, OpensComment, ClosesComment, Closes}
 use Rattle.tg_syntax.specs.LexicalFaults.{IsBegun, Misfits, FaultAt}
+use Rattle.tg_lexer.specs.declared.bytes.Class.{Class}
+use Rattle.tg_lexer.specs.declared.bytes.Class.TheVariants as classes
 use Rattle.tg_lexer.specs.declared.comments.Mark.{Mark}
 use Rattle.tg_lexer.specs.declared.comments.Mark.TheVariants as mark
 use Rattle.tg_lexer.specs.declared.escapes.Escaped.{Escaped}
@@ -24,6 +26,11 @@ pub record IsRun (class : ℕ → Bool) (text : List ℕ) (size : ℕ) : Type 0 
   pub within : size ≤ length text
   pub all : AllAre class (take size text)
   pub stops : (b : ℕ) (after : List ℕ) → drop size text ≡ b ∷ after → class b ≡ false
+
+abbrev pub in_class : Class → ℕ → Bool
+in_class classes.Blank = is_blank
+in_class classes.Digit = is_digit
+in_class classes.NameByte = is_name_byte
 
 -- the text begins with the mark that opens or closes a comment, or with neither
 abbrev pub IsMark : List ℕ → Mark → Type 0

@@ -5,7 +5,7 @@ ghost use Rattle.tg_syntax.specs.Spellings.{
   is_letter as letter,
   is_name_byte as name_byte,
 };
-ghost use Rattle.tg_lexer.specs.Fronts.{IsRun};
+ghost use Rattle.tg_lexer.specs.Fronts.{IsRun, in_class};
 
 // A tab, a newline, a form feed, a carriage return or a space.
 pub(crate) fn is_blank(byte: u8) -> bool
@@ -26,7 +26,7 @@ pub(crate) fn is_letter(byte: u8) -> bool
     b'A' <= byte && byte <= b'Z' || b'a' <= byte && byte <= b'z'
 }
 
-pub(crate) fn is_name_byte(byte: u8) -> bool
+fn is_name_byte(byte: u8) -> bool
     ensures { result ≡ name_byte byte }
 {
     is_letter(byte) || is_digit(byte) || byte == b'_'
@@ -39,36 +39,31 @@ pub(crate) fn byte_at(text: &[u8], at: usize) -> Option<u8>
     text.get(at).copied()
 }
 
-// How many blanks a text begins with.
-pub(crate) fn blanks(text: &[u8]) -> usize
-    ensures { IsRun blank text.now result }
-{
-    for (size, byte) in text.iter().enumerate() {
-        if !is_blank(*byte) {
-            return size;
-        }
-    }
-    text.len()
+// A class of bytes that stand one after another.
+#[derive(Clone, Copy)]
+pub(crate) enum Class {
+    Blank,
+    Digit,
+    // A letter, a digit or an underscore.
+    NameByte,
 }
 
-// How many digits a text begins with.
-pub(crate) fn digits(text: &[u8]) -> usize
-    ensures { IsRun digit text.now result }
+fn is_in(class: Class, byte: u8) -> bool
+    ensures { result ≡ in_class class byte }
 {
-    for (size, byte) in text.iter().enumerate() {
-        if !is_digit(*byte) {
-            return size;
-        }
+    match class {
+        Class::Blank => is_blank(byte),
+        Class::Digit => is_digit(byte),
+        Class::NameByte => is_name_byte(byte),
     }
-    text.len()
 }
 
-// How many letters, digits and underscores a text begins with.
-pub(crate) fn name_bytes(text: &[u8]) -> usize
-    ensures { IsRun name_byte text.now result }
+// How many bytes of a class a text begins with.
+pub(crate) fn count_run(class: Class, text: &[u8]) -> usize
+    ensures { IsRun (in_class class) text.now result }
 {
     for (size, byte) in text.iter().enumerate() {
-        if !is_name_byte(*byte) {
+        if !is_in(class, *byte) {
             return size;
         }
     }

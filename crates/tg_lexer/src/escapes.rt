@@ -3,7 +3,7 @@ ghost use Rattle.std.specs.Str.Parse.{digits_value};
 ghost use Rattle.tg_syntax.specs.Spellings.{is_blank as blank, is_digit as digit, is_between};
 ghost use Rattle.tg_lexer.specs.Fronts.{IsEscape, IsMisfit};
 
-use crate::bytes::{blanks, byte_at, is_blank, is_digit};
+use crate::bytes::{Class, byte_at, count_run, is_blank, is_digit};
 
 /// What stands behind a backslash.
 #[derive(Clone, Copy)]
@@ -92,7 +92,7 @@ fn gap(first: u8, text: &[u8]) -> Escaped
     requires is_blank { IsTrue (blank first) }
     ensures { IsEscape text.now result }
 {
-    let size = blanks(text);
+    let size = count_run(Class::Blank, text);
     let Some(byte) = byte_at(text, size) else {
         return Escaped::Cut;
     };

@@ -10,7 +10,7 @@ ghost use Rattle.tg_base.specs.Interned.{IsInterned};
 ghost use Rattle.tg_lexer.specs.Fronts.{IsRead, BeginsWith, BeginsQuote, BeginsOther};
 ghost use Rattle.tg_lexer.specs.Numbering.{names_after};
 
-use crate::bytes::{digits, is_blank, is_digit, is_letter, name_bytes};
+use crate::bytes::{Class, count_run, is_blank, is_digit, is_letter};
 use crate::comments::comment;
 use crate::faults::LexFault;
 use crate::ints::int;
@@ -53,7 +53,7 @@ fn read_int(text: &[u8], at: usize) -> Result<Front, LexFault>
     ensures read { (n : List (List ℕ)) → IsRead n at text.now result }
     ensures unnamed { (n : List (List ℕ)) → names_after n text.now result ≡ n }
 {
-    let size = digits(text);
+    let size = count_run(Class::Digit, text);
     match int(&text[..size]) {
         Some(value) => Ok(Front::One(Token::Int(value), size)),
         None => Err(LexFault::Bad {
@@ -118,7 +118,7 @@ fn read_name(text: &[u8], at: usize, names: &mut Names) -> Result<Front, LexFaul
     ensures read { IsRead names.new at text.now result }
     ensures named { names.new ≡ names_after names.old text.now result }
 {
-    let size = name_bytes(text);
+    let size = count_run(Class::NameByte, text);
     let bytes = &text[..size];
     if let Some(word) = word(bytes) {
         return Ok(Front::One(Token::Word(word), size));

@@ -41,7 +41,11 @@ pub inner_inits-plain_inits : (is : Inits) → inner_inits (plain_inits is) ≡ 
 inner_inits-plain_inits is = ap inner_inits (plain_inits-items is) ∙ sum_of_items (λ xs. inner_inits (inits_of xs)) init_inner refl (λ _ _. refl) _
 
 pub inner_functions-plain_functions : (fs : FunDecs) → inner_functions (plain_functions fs) ≡ sum_by function_inner (out-FunDecs fs).items.items
-inner_functions-plain_functions fs = ap inner_functions (plain_functions-items fs) ∙ sum_of_items (λ xs. inner_functions (functions_of xs)) function_inner refl (λ _ _. refl) _
+inner_functions-plain_functions fs =
+    ap inner_functions (plain_functions-items fs) ∙ sum_of_items (λ xs. inner_functions (functions_of xs)) function_inner refl (λ _ _. refl) _
 
 pub inner-Let : (decs : Decs) (es : Exps) (s : Span) → inner (plain_kind (Let decs es) s) ≡ sum_by dec_inner decs.items.items + inner_exps (plain_exps es)
-inner-Let decs es s = ap inner (plain_kind-Let decs es s) ∙ ap (λ k. k + inner_exps (plain_exps es)) (sum_of_items (λ ds. inner_decs (decs_of ds)) dec_inner refl (λ d ds. inner_decs-plain_dec d (decs_of ds)) decs.items.items)
+inner-Let decs es s =
+    ap inner (plain_kind-Let decs es s) ∙
+    ap (λ k. k + inner_exps (plain_exps es))
+    (sum_of_items (λ ds. inner_decs (decs_of ds)) dec_inner refl (λ d ds. inner_decs-plain_dec d (decs_of ds)) decs.items.items)

@@ -30,7 +30,8 @@ abbrev pub dec_size : Dec → ℕ
 dec_size d = decs_size (plain_dec d no_decs)
 
 -- what is 0 of no items, and of more the first's and that of the rest, is a sum over the items
-pub sum_of_items : {A : Type 0} (of : List A → ℕ) (one : A → ℕ) → of [] ≡ 0 → ((x : A) (xs : List A) → of (x ∷ xs) ≡ one x + of xs) → (xs : List A) → of xs ≡ sum_by one xs
+pub sum_of_items : {A : Type 0} (of : List A → ℕ) (one : A → ℕ) → of [] ≡ 0 → ((x : A) (xs : List A) → of (x ∷ xs) ≡ one x + of xs) →
+    (xs : List A) → of xs ≡ sum_by one xs
 sum_of_items of one none more [] = none
 sum_of_items of one none more (x ∷ xs) = rw sum_by-cons (more x xs ∙ ap (λ k. one x + k) (sum_of_items of one none more xs))
 
@@ -46,10 +47,14 @@ pub inits_size-plain_inits : (is : Inits) → inits_size (plain_inits is) ≡ su
 inits_size-plain_inits is = ap inits_size (plain_inits-items is) ∙ sum_of_items (λ xs. inits_size (inits_of xs)) init_size refl (λ _ _. refl) _
 
 pub functions_size-plain_functions : (fs : FunDecs) → functions_size (plain_functions fs) ≡ sum_by function_size (out-FunDecs fs).items.items
-functions_size-plain_functions fs = ap functions_size (plain_functions-items fs) ∙ sum_of_items (λ xs. functions_size (functions_of xs)) function_size refl (λ _ _. refl) _
+functions_size-plain_functions fs =
+    ap functions_size (plain_functions-items fs) ∙ sum_of_items (λ xs. functions_size (functions_of xs)) function_size refl (λ _ _. refl) _
 
 pub size-Let : (decs : Decs) (es : Exps) (s : Span) → size (plain_kind (Let decs es) s) ≡ 1 + sum_by dec_size decs.items.items + exps_size (plain_exps es)
-size-Let decs es s = ap size (plain_kind-Let decs es s) ∙ ap (λ k. 1 + k + exps_size (plain_exps es)) (sum_of_items (λ ds. decs_size (decs_of ds)) dec_size refl (λ d ds. decs_size-plain_dec d (decs_of ds)) decs.items.items)
+size-Let decs es s =
+    ap size (plain_kind-Let decs es s) ∙
+    ap (λ k. 1 + k + exps_size (plain_exps es))
+    (sum_of_items (λ ds. decs_size (decs_of ds)) dec_size refl (λ d ds. decs_size-plain_dec d (decs_of ds)) decs.items.items)
 
 -- a sum over the types, each made plain
 pub sum_by-map : {A B : Type 0} (f : B → ℕ) (g : A → B) (xs : List A) → sum_by f (map g xs) ≡ sum_by (λ x. f (g x)) xs

@@ -4,13 +4,13 @@ use Rattle.tg_lexer.proofs.Interning.{ident_token, interned_named}
 use Rattle.tg_lexer.proofs.fronts.read_name.Goals as goal
 
 pub intern-requires-clause-bytes : goal.intern-requires-clause-bytes
-intern-requires-clause-bytes c = c.name_bytes-size.ensures.all
+intern-requires-clause-bytes c = c.count_run-size.ensures.all
 
 pub returns-in-Some-clause-read : goal.returns-in-Some-clause-read
-returns-in-Some-clause-read c = word_token _ _ _ _ c.requires.begins c.name_bytes-size.ensures c.in-Some.ensures
+returns-in-Some-clause-read c = word_token _ _ _ _ c.requires.begins c.count_run-size.ensures c.in-Some.ensures
 
 pub returns-clause-read : goal.returns-clause-read
-returns-clause-read c = ident_token _ _ _ _ _ c.requires.begins c.name_bytes-size.ensures c.in_default.ensures c.in_ok-name.ensures.ok
+returns-clause-read c = ident_token _ _ _ _ _ c.requires.begins c.count_run-size.ensures c.in_default.ensures c.in_ok-name.ensures.ok
 
 pub returns-clause-named : goal.returns-clause-named
-returns-clause-named c = interned_named c.args.names.now _ (take c.name_bytes-size.result c.args.text.now) c.in_ok-name.name.0 c.in_ok-name.ensures.ok
+returns-clause-named c = interned_named c.args.names.now _ (take c.count_run-size.result c.args.text.now) c.in_ok-name.name.0 c.in_ok-name.ensures.ok

@@ -1,6 +1,0 @@
-use Rattle.std.proofs.Common.{take}
-use Rattle.tg_syntax.specs.Spellings.{AllAre, is_digit}
-use Rattle.tg_lexer.proofs.bytes.digits.Given as goal
-
-abbrev pub invariant-loop-size : goal.invariant-loop-size
-invariant-loop-size l = AllAre is_digit (take l.size l.text)
