@@ -1,6 +1,6 @@
--- Assignments whose value begins with a read of the very place that is assigned, as `v := v + 1` and
--- `a[i].n := a[i].n * 2 - x`: nothing happens between finding the place and that read, so it is the
--- same place. Its indices are made of ints, places, sums and differences alone, which change
+-- Assignments whose value begins with a read of the very place that is assigned, as `v := v + 1`
+-- and `a[i].n := a[i].n * 2 - x`: nothing happens between finding the place and that read, so it is
+-- the same place. Its indices are made of ints, places, sums and differences alone, which change
 -- nothing.
 use Rattle.std.specs.Prelude.{ℕ, ◌==◌, ◌&&◌, Bool, true, false, Option, Some}
 use Rattle.tg_syntax.specs.declared.trees.Op.{Op}

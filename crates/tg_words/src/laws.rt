@@ -30,9 +30,9 @@ pub fn lines_are_short()
 
 /// Laws of an allocation of a function, by any policy. Its code is at most 12 words for each unit
 /// of the length of the function's tree, and 145 more; its frame has at most as many words as the
-/// tree's room and twice its length, and 13 more. So where functions are nested 32 deep at most, the
-/// code is at most 1,740 words for each node of the function's body, 72 for each of its parameters,
-/// and 361 more, and the frame 1,992 bytes, 84 and 212.
+/// tree's room and twice its length, and 13 more. So where functions are nested 32 deep at most,
+/// the code is at most 1,740 words for each node of the function's body, 72 for each of its
+/// parameters, and 361 more, and the frame 1,992 bytes, 84 and 212.
 pub fn functions_are_short()
     ensures code { CodeIsShort }
     ensures frames { FramesAreSmall }
