@@ -1,12 +1,14 @@
 -- The parts of a line are found one after the other.
-use Rattle.std.proofs.Common.{◌≡◌, ◌<◌, ◌≤◌, ◌+◌, ℕ, zero, suc, Bool, true, false, not, cond, List, [], ◌∷◌, ◌++◌, length, take, drop, map, Option, Some, None, refl, sym, ap, ◌∙◌, arith, append-nil, append_assoc, drop-cons, add-one}
+use Rattle.std.proofs.Common.{◌≡◌, ◌<◌, ◌≤◌, ◌+◌, ℕ, zero, suc, Bool, true, false, not, cond, List, [], ◌∷◌, ◌++◌, length, take, drop, map, Option}
+use Rattle.std.proofs.Common.{Some, None, refl, sym, ap, ◌∙◌, arith, append-nil, append_assoc, drop-cons, add-one}
 use Rattle.std.specs.Prelude.{slice_index, ◌==◌, ◌&&◌}
 use Rattle.std.specs.Borrow.{Bor}
 use Rattle.std.proofs.Math.Seq.{take-suc}
 use Rattle.std.proofs.lemmas.List.{drop_all, map-append}
 use Rattle.std.proofs.lemmas.Bool.{ne_eqb}
 use Rattle.tg_isa.specs.Lines as lines
-use Rattle.tg_isa.specs.Lines.{front, back, quoted, before_quoted, Labelled, before_labelled, unlabelled, labelled, label_at, before_colon, skip, Over, Next, Misshapen, first_gap, gap, before_operands, begins_label, is_past_label, is_end, is_solid}
+use Rattle.tg_isa.specs.Lines.{front, back, quoted, before_quoted, Labelled, before_labelled, unlabelled, labelled, label_at, before_colon, skip}
+use Rattle.tg_isa.specs.Lines.{Over, Next, Misshapen, first_gap, gap, before_operands, begins_label, is_past_label, is_end, is_solid}
 use Rattle.tg_asm.specs.Cuts.{texts, operand_of}
 use Rattle.tg_asm.specs.declared.cuts.Operand.{Operand}
 
@@ -27,7 +29,8 @@ all_before_quoted inside None = None
 pub record InQuotes (text : List ℕ) (escaped : Bool) (at : ℕ) : Type 0 where
   pub same : quoted false text ≡ all_before_quoted (take at text) (quoted escaped (drop at text))
 
-all_before_more : (inside : List ℕ) (c : ℕ) (q : Option (List ℕ × List ℕ)) → all_before_quoted inside (before_quoted c q) ≡ all_before_quoted (inside ++ c ∷ []) q
+all_before_more : (inside : List ℕ) (c : ℕ) (q : Option (List ℕ × List ℕ)) → all_before_quoted inside (before_quoted c q) ≡
+    all_before_quoted (inside ++ c ∷ []) q
 all_before_more inside c (Some q) = rw append_assoc refl
 all_before_more inside c None = refl
 
@@ -38,22 +41,29 @@ all_before_none None = refl
 pub quotes_begin : (text : List ℕ) → InQuotes text false 0
 quotes_begin text = record { same = all_before_none _ }
 
-goes_on : (escaped : Bool) (c : ℕ) (rest : List ℕ) → (not escaped && c == 34) ≡ false → quoted escaped (c ∷ rest) ≡ before_quoted c (quoted (not escaped && c == 92) rest)
+goes_on : (escaped : Bool) (c : ℕ) (rest : List ℕ) → (not escaped && c == 34) ≡ false → quoted escaped (c ∷ rest) ≡
+    before_quoted c (quoted (not escaped && c == 92) rest)
 goes_on escaped c rest e = rw (e, quoted) refl
 
 closes : (escaped : Bool) (c : ℕ) (rest : List ℕ) → (not escaped && c == 34) ≡ true → quoted escaped (c ∷ rest) ≡ Some ([], rest)
 closes escaped c rest e = rw (e, quoted) refl
 
-pub quotes_more : (text : List ℕ) (escaped : Bool) (at : ℕ) → InQuotes text escaped at → at < length text → (not escaped && slice_index text at == 34) ≡ false → InQuotes text (not escaped && slice_index text at == 92) (at + 1)
+pub quotes_more : (text : List ℕ) (escaped : Bool) (at : ℕ) → InQuotes text escaped at → at < length text →
+    (not escaped && slice_index text at == 34) ≡ false → InQuotes text (not escaped && slice_index text at == 92) (at + 1)
 quotes_more text escaped at i h e =
     let cons : drop at text ≡ slice_index text at ∷ drop (suc at) text = drop-cons text at 0 h in
     let more : take (suc at) text ≡ take at text ++ (slice_index text at ∷ []) = take-suc text at 0 h in
-    record { same = rw (add-one, more) (i.same ∙ ap (λ l. all_before_quoted (take at text) (quoted escaped l)) cons ∙ ap (all_before_quoted (take at text)) (goes_on escaped _ _ e) ∙ all_before_more _ _ _) }
+    record {
+      same = rw (add-one, more) (i.same ∙ ap (λ l. all_before_quoted (take at text) (quoted escaped l)) cons
+          ∙ ap (all_before_quoted (take at text)) (goes_on escaped _ _ e) ∙ all_before_more _ _ _);
+    }
 
-pub quotes_close : (text : List ℕ) (escaped : Bool) (at : ℕ) → InQuotes text escaped at → at < length text → (not escaped && slice_index text at == 34) ≡ true → quoted false text ≡ Some (take at text, drop (at + 1) text)
+pub quotes_close : (text : List ℕ) (escaped : Bool) (at : ℕ) → InQuotes text escaped at → at < length text →
+    (not escaped && slice_index text at == 34) ≡ true → quoted false text ≡ Some (take at text, drop (at + 1) text)
 quotes_close text escaped at i h e =
     let cons : drop at text ≡ slice_index text at ∷ drop (suc at) text = drop-cons text at 0 h in
-    rw add-one (i.same ∙ ap (λ l. all_before_quoted (take at text) (quoted escaped l)) cons ∙ ap (all_before_quoted (take at text)) (closes escaped _ _ e) ∙ rw append-nil refl)
+    rw add-one (i.same ∙ ap (λ l. all_before_quoted (take at text) (quoted escaped l)) cons
+    ∙ ap (all_before_quoted (take at text)) (closes escaped _ _ e) ∙ rw append-nil refl)
 
 pub quotes_end : (text : List ℕ) (escaped : Bool) (at : ℕ) → InQuotes text escaped at → length text ≤ at → quoted false text ≡ None
 quotes_end text escaped at i h = i.same ∙ ap (λ l. all_before_quoted (take at text) (quoted escaped l)) (drop_all at text h)
@@ -91,11 +101,13 @@ label_shorter (c ∷ text) name rest e = by (begins_label c) refl (back is_past_
         at_colon true k = let s = rw k at h in let r : more ≡ rest = ap behind s in rw (← r) (omega arith)
         at_colon false k = let s = rw k at h in cc
 
-    by : (b : Bool) → begins_label c ≡ b → (p : List ℕ) → back is_past_label text ≡ p → length (back is_past_label text) ≤ length text → length rest < suc (length text)
+    by : (b : Bool) → begins_label c ≡ b → (p : List ℕ) → back is_past_label text ≡ p → length (back is_past_label text) ≤ length text →
+        length rest < suc (length text)
     by true k p q h = let s = rw k at e in let t = past (back is_past_label text) s in omega (arith, t, h)
     by false k p q h = let s = rw k at e in cc
 
-labelled_more : (fuel : ℕ) (text name rest : List ℕ) → label_at text ≡ Some (name, rest) → labelled (suc fuel) text ≡ before_labelled name (labelled fuel (skip rest))
+labelled_more : (fuel : ℕ) (text name rest : List ℕ) → label_at text ≡ Some (name, rest) → labelled (suc fuel) text ≡
+    before_labelled name (labelled fuel (skip rest))
 labelled_more fuel text name rest e = rw (e, labelled) refl
 
 labelled_none : (fuel : ℕ) (text : List ℕ) → label_at text ≡ None → labelled fuel text ≡ unlabelled text
@@ -111,7 +123,8 @@ labels_shorter text name rest after e a =
     let s = length-back is_solid rest in
     rw a (omega (arith, h, s))
 
-labels_more : (line : List ℕ) (names : List (List ℕ)) (text name rest : List ℕ) → InLabels line names text → label_at text ≡ Some (name, rest) → InLabels line (names ++ name ∷ []) (skip rest)
+labels_more : (line : List ℕ) (names : List (List ℕ)) (text name rest : List ℕ) → InLabels line names text →
+    label_at text ≡ Some (name, rest) → InLabels line (names ++ name ∷ []) (skip rest)
 labels_more line names text name rest i e = by i.fuel refl
   where
     by : (n : ℕ) → i.fuel ≡ n → InLabels line (names ++ name ∷ []) (skip rest)
@@ -126,13 +139,15 @@ labels_more line names text name rest i e = by i.fuel refl
           same = (rw k at i.same) ∙ ap (all_labelled names) (labelled_more n text name rest e) ∙ all_labelled_more names name _;
         }
 
-pub labels_pushed : (line : List ℕ) (names names' : List (List ℕ)) (text name rest after : List ℕ) → InLabels line names text → label_at text ≡ Some (name, rest) → names' ≡ names ++ name ∷ [] → after ≡ skip rest → InLabels line names' after
+pub labels_pushed : (line : List ℕ) (names names' : List (List ℕ)) (text name rest after : List ℕ) → InLabels line names text →
+    label_at text ≡ Some (name, rest) → names' ≡ names ++ name ∷ [] → after ≡ skip rest → InLabels line names' after
 labels_pushed line names names' text name rest after i e n a = rw (n, a) (labels_more line names text name rest i e)
 
 pub texts_pushed : (ts ts' : List (Bor (List ℕ))) (t : Bor (List ℕ)) → ts' ≡ ts ++ t ∷ [] → texts ts' ≡ texts ts ++ t.now ∷ []
 texts_pushed ts ts' t e = ap texts e ∙ map-append _ ts (t ∷ [])
 
-pub labels_end : (line : List ℕ) (names : List (List ℕ)) (text : List ℕ) → InLabels line names text → label_at text ≡ None → labelled (length line) (skip line) ≡ record { labels = names; rest = text }
+pub labels_end : (line : List ℕ) (names : List (List ℕ)) (text : List ℕ) → InLabels line names text → label_at text ≡ None →
+    labelled (length line) (skip line) ≡ record { labels = names; rest = text }
 labels_end line names text i e = i.same ∙ ap (all_labelled names) (labelled_none i.fuel text e) ∙ rw append-nil refl
 
 -- operands
@@ -200,9 +215,11 @@ operand_behind None = []
 
 quoted_shorter : (escaped : Bool) (text inside rest : List ℕ) → quoted escaped text ≡ Some (inside, rest) → length rest < length text
 quoted_shorter escaped [] inside rest e = cc
-quoted_shorter escaped (c ∷ text) inside rest e = by (not escaped && c == 34) refl (quoted (not escaped && c == 92) text) refl (quoted_shorter (not escaped && c == 92) text)
+quoted_shorter escaped (c ∷ text) inside rest e = by (not escaped && c == 34) refl (quoted (not escaped && c == 92) text)
+    refl (quoted_shorter (not escaped && c == 92) text)
   where
-    by : (b : Bool) → (not escaped && c == 34) ≡ b → (q : Option (List ℕ × List ℕ)) → quoted (not escaped && c == 92) text ≡ q → ((inside rest : List ℕ) → quoted (not escaped && c == 92) text ≡ Some (inside, rest) → length rest < length text) → length rest < suc (length text)
+    by : (b : Bool) → (not escaped && c == 34) ≡ b → (q : Option (List ℕ × List ℕ)) → quoted (not escaped && c == 92) text ≡ q →
+        ((inside rest : List ℕ) → quoted (not escaped && c == 92) text ≡ Some (inside, rest) → length rest < length text) → length rest < suc (length text)
     by true k q h ih = let s = sym (closes escaped c text k) ∙ e in let r : text ≡ rest = ap behind s in rw (← r) (omega arith)
     by false k None h ih = let s : None ≡ Some (inside, rest) = ap (before_quoted c) (sym h) ∙ sym (goes_on escaped c text k) ∙ e in cc
     by false k (Some q) h ih =
@@ -211,7 +228,8 @@ quoted_shorter escaped (c ∷ text) inside rest e = by (not escaped && c == 34) 
         let l = ih q.0 q.1 h in
         rw (← r) (omega (arith, l))
 
-as_quoted_shorter : (q : Option (List ℕ × List ℕ)) (text rest : List ℕ) (o : lines.Operand) → quoted false text ≡ q → lines.as_quoted q ≡ Some (o, rest) → length rest < length text
+as_quoted_shorter : (q : Option (List ℕ × List ℕ)) (text rest : List ℕ) (o : lines.Operand) → quoted false text ≡ q →
+    lines.as_quoted q ≡ Some (o, rest) → length rest < length text
 as_quoted_shorter None text rest o h e = cc
 as_quoted_shorter (Some q) text rest o h e = let r : q.1 ≡ rest = ap operand_behind e in rw (← r) (quoted_shorter false text q.0 q.1 h)
 
@@ -227,24 +245,29 @@ operand_shorter (c ∷ text) rest o e = by (c == 34) refl
         let l = length-back is_end text in
         rw (← r) (omega (arith, l))
 
-operands_next : (fuel : ℕ) (text rest : List ℕ) (o : lines.Operand) → lines.operand text ≡ Some (o, rest) → lines.operands (suc fuel) (Next text) ≡ before_operands o (lines.operands fuel (gap rest))
+operands_next : (fuel : ℕ) (text rest : List ℕ) (o : lines.Operand) → lines.operand text ≡ Some (o, rest) →
+    lines.operands (suc fuel) (Next text) ≡ before_operands o (lines.operands fuel (gap rest))
 operands_next fuel text rest o e = rw (e, lines.operands) refl
 
 operands_misshapen : (fuel : ℕ) (text : List ℕ) → lines.operand text ≡ None → lines.operands fuel (Next text) ≡ None
 operands_misshapen zero text e = refl
 operands_misshapen (suc fuel) text e = rw (e, lines.operands) refl
 
-all_before_operands_more : (list : List lines.Operand) (o : lines.Operand) (more : Option (List lines.Operand)) → all_before_operands list (before_operands o more) ≡ all_before_operands (list ++ o ∷ []) more
+all_before_operands_more : (list : List lines.Operand) (o : lines.Operand) (more : Option (List lines.Operand)) →
+    all_before_operands list (before_operands o more) ≡ all_before_operands (list ++ o ∷ []) more
 all_before_operands_more list o (Some more) = rw append_assoc refl
 all_before_operands_more list o None = refl
 
-pub operands_shorter : (text rest : List ℕ) (o : lines.Operand) (before after : lines.Gap) → before ≡ Next text → lines.operand text ≡ Some (o, rest) → after ≡ gap rest → room after < room before
+pub operands_shorter : (text rest : List ℕ) (o : lines.Operand) (before after : lines.Gap) → before ≡ Next text →
+    lines.operand text ≡ Some (o, rest) → after ≡ gap rest → room after < room before
 operands_shorter text rest o before after b e a =
     let h = operand_shorter text rest o e in
     let s = room-gap rest in
     rw (a, b) (omega (arith, h, s))
 
-pub operands_pushed : (whole : List ℕ) (list list' : List lines.Operand) (text rest : List ℕ) (o : lines.Operand) (before after : lines.Gap) → InOperands whole list before → before ≡ Next text → lines.operand text ≡ Some (o, rest) → list' ≡ list ++ o ∷ [] → after ≡ gap rest → InOperands whole list' after
+pub operands_pushed : (whole : List ℕ) (list list' : List lines.Operand) (text rest : List ℕ) (o : lines.Operand) (before after : lines.Gap) →
+    InOperands whole list before → before ≡ Next text → lines.operand text ≡ Some (o, rest) → list' ≡ list ++ o ∷ [] →
+    after ≡ gap rest → InOperands whole list' after
 operands_pushed whole list list' text rest o before after i b e l a = by i.fuel refl
   where
     by : (n : ℕ) → i.fuel ≡ n → InOperands whole list' after
@@ -258,21 +281,24 @@ operands_pushed whole list list' text rest o before after i b e l a = by i.fuel 
           same = rw (l, a) ((rw (k, b) at i.same) ∙ ap (all_before_operands list) (operands_next n text rest o e) ∙ all_before_operands_more list o _);
         }
 
-pub operands_over : (whole : List ℕ) (list : List lines.Operand) (before : lines.Gap) → InOperands whole list before → before ≡ Over → lines.operands_in whole ≡ Some list
+pub operands_over : (whole : List ℕ) (list : List lines.Operand) (before : lines.Gap) → InOperands whole list before →
+    before ≡ Over → lines.operands_in whole ≡ Some list
 operands_over whole list before i b = by i.fuel refl
   where
     by : (n : ℕ) → i.fuel ≡ n → lines.operands_in whole ≡ Some list
     by zero k = let z : room before < 0 = rw k at i.enough in absurd (let f : ⊥ = omega (arith, z) in f)
     by (suc n) k = (rw (k, b) at i.same) ∙ rw append-nil refl
 
-pub operands_bad : (whole : List ℕ) (list : List lines.Operand) (before : lines.Gap) → InOperands whole list before → before ≡ Misshapen → lines.operands_in whole ≡ None
+pub operands_bad : (whole : List ℕ) (list : List lines.Operand) (before : lines.Gap) → InOperands whole list before →
+    before ≡ Misshapen → lines.operands_in whole ≡ None
 operands_bad whole list before i b = by i.fuel refl
   where
     by : (n : ℕ) → i.fuel ≡ n → lines.operands_in whole ≡ None
     by zero k = (rw k at i.same)
     by (suc n) k = (rw (k, b) at i.same)
 
-pub operands_open : (whole : List ℕ) (list : List lines.Operand) (before : lines.Gap) (text : List ℕ) → InOperands whole list before → before ≡ Next text → lines.operand text ≡ None → lines.operands_in whole ≡ None
+pub operands_open : (whole : List ℕ) (list : List lines.Operand) (before : lines.Gap) (text : List ℕ) →
+    InOperands whole list before → before ≡ Next text → lines.operand text ≡ None → lines.operands_in whole ≡ None
 operands_open whole list before text i b e = (rw b at i.same) ∙ ap (all_before_operands list) (operands_misshapen i.fuel text e)
 
 -- the run of an operand from its first byte
@@ -283,17 +309,21 @@ run_taken c text = rw add-one (ap (λ l. c ∷ l) (front_taken text))
     front_taken [] = refl
     front_taken (d ∷ text) = by (is_end d) refl (front_taken text)
       where
-        by : (b : Bool) → is_end d ≡ b → take (length (front is_end text)) text ≡ front is_end text → take (length (front is_end (d ∷ text))) (d ∷ text) ≡ front is_end (d ∷ text)
+        by : (b : Bool) → is_end d ≡ b → take (length (front is_end text)) text ≡ front is_end text →
+            take (length (front is_end (d ∷ text))) (d ∷ text) ≡ front is_end (d ∷ text)
         by true k h = rw k refl
         by false k h = rw k (ap (λ l. d ∷ l) h)
 
 pub run_fits : (text more run : List ℕ) (c : ℕ) → text ≡ c ∷ more → run ≡ front is_end more → length run + 1 ≡ length (take (length run + 1) text)
-run_fits text more run c t r = rw (t, r) (let l : length (take (length (front is_end more) + 1) (c ∷ more)) ≡ suc (length (front is_end more)) = ap length (run_taken c more) in omega (arith, l))
+run_fits text more run c t r =
+    rw (t, r) (let l : length (take (length (front is_end more) + 1) (c ∷ more)) ≡ suc (length (front is_end more)) = ap length (run_taken c more) in
+    omega (arith, l))
 
 not_quote : (c : ℕ) → (c ≡ 34 → ⊥) → (c == 34) ≡ false
 not_quote c h = ne_eqb c 34 h
 
-pub plain_operand : (text more run rest : List ℕ) (c : ℕ) → text ≡ c ∷ more → (c ≡ 34 → ⊥) → run ≡ front is_end more → rest ≡ back is_end more → Some (lines.Plain (take (length run + 1) text), rest) ≡ lines.operand text
+pub plain_operand : (text more run rest : List ℕ) (c : ℕ) → text ≡ c ∷ more → (c ≡ 34 → ⊥) → run ≡ front is_end more →
+    rest ≡ back is_end more → Some (lines.Plain (take (length run + 1) text), rest) ≡ lines.operand text
 plain_operand text more run rest c t n r b = rw (t, r, b, not_quote c n, run_taken c more) refl
 
 pub operand_pushed : (os os' : List Operand) (o : Operand) → os' ≡ os ++ o ∷ [] → map operand_of os' ≡ map operand_of os ++ operand_of o ∷ []

@@ -13,18 +13,23 @@ pub first_over : (text : List ℕ) (e : AsmFault) → GivesLayout (layout 1 blan
 first_over text (fault.Bad rule line) h = rw h refl
 first_over text fault.Memory h = tt
 
-pub second_over : (text : List ℕ) (l : Layout) (e : AsmFault) → layout 1 blank (lines text) ≡ Ok l → GivesMade (make 1 l unmade (lines text)) (Err e) → GivesImage (assembled text) (Err e)
+pub second_over : (text : List ℕ) (l : Layout) (e : AsmFault) → layout 1 blank (lines text) ≡ Ok l →
+    GivesMade (make 1 l unmade (lines text)) (Err e) → GivesImage (assembled text) (Err e)
 second_over text l (fault.Bad rule line) g h = rw g (rw h refl)
 second_over text l fault.Memory g h = tt
 
-pub no_main : (text : List ℕ) (l : Layout) (m : Made) (n : ℕ) → layout 1 blank (lines text) ≡ Ok l → make 1 l unmade (lines text) ≡ Ok m → None ≡ entry l → n ≡ last_line text → assembled text ≡ Err (record { rule = A9; line = n })
+pub no_main : (text : List ℕ) (l : Layout) (m : Made) (n : ℕ) → layout 1 blank (lines text) ≡ Ok l →
+    make 1 l unmade (lines text) ≡ Ok m → None ≡ entry l → n ≡ last_line text → assembled text ≡ Err (record { rule = A9; line = n })
 no_main text l m n g h e k = rw g (rw h (rw (← e) (rw (← k) refl)))
 
-pub whole : (text : List ℕ) (l : Layout) (m : Made) (p : ℕ) → layout 1 blank (lines text) ≡ Ok l → make 1 l unmade (lines text) ≡ Ok m → Some p ≡ entry l → assembled text ≡ Ok (record { code = m.code; statics = m.statics; entry = p })
+pub whole : (text : List ℕ) (l : Layout) (m : Made) (p : ℕ) → layout 1 blank (lines text) ≡ Ok l →
+    make 1 l unmade (lines text) ≡ Ok m → Some p ≡ entry l → assembled text ≡ Ok (record { code = m.code; statics = m.statics; entry = p })
 whole text l m p g h e = rw g (rw h (rw (← e) refl))
 
-pub few_words : (text : List ℕ) (l : Layout) (m : Made) → layout 1 blank (lines text) ≡ Ok l → make 1 l unmade (lines text) ≡ Ok m → IsSmall l → length m.code ≤ 66060288
+pub few_words : (text : List ℕ) (l : Layout) (m : Made) → layout 1 blank (lines text) ≡ Ok l → make 1 l unmade (lines text) ≡ Ok m →
+    IsSmall l → length m.code ≤ 66060288
 few_words text l m g h s = rw (made_even text l m g h).words s.0
 
-pub few_bytes : (text : List ℕ) (l : Layout) (m : Made) → layout 1 blank (lines text) ≡ Ok l → make 1 l unmade (lines text) ≡ Ok m → IsSmall l → length m.statics ≤ 16711680
+pub few_bytes : (text : List ℕ) (l : Layout) (m : Made) → layout 1 blank (lines text) ≡ Ok l → make 1 l unmade (lines text) ≡ Ok m →
+    IsSmall l → length m.statics ≤ 16711680
 few_bytes text l m g h s = rw (made_even text l m g h).size s.1

@@ -1,5 +1,6 @@
 -- Words and data are made one by one.
-use Rattle.std.proofs.Common.{◌≡◌, ◌<◌, ◌≤◌, ◌+◌, ◌-◌, ◌%◌, ℕ, suc, List, [], ◌∷◌, ◌++◌, length, map, drop, get_or, Result, Ok, Err, refl, ap, ◌∙◌, arith, drop-cons, add-one}
+use Rattle.std.proofs.Common.{◌≡◌, ◌<◌, ◌≤◌, ◌+◌, ◌-◌, ◌%◌, ℕ, suc, List, [], ◌∷◌, ◌++◌, length, map, drop, get_or, Result, Ok, Err, refl, ap, ◌∙◌}
+use Rattle.std.proofs.Common.{arith, drop-cons, add-one}
 use Rattle.std.proofs.lemmas.List.{drop_all}
 use Rattle.tg_isa.specs.declared.keywords.AsmRule.{AsmRule}
 use Rattle.tg_isa.specs.Items as items
@@ -8,7 +9,8 @@ use Rattle.tg_asm.specs.Means.{datum_of}
 use Rattle.tg_asm.specs.declared.items.Datum.{Datum}
 
 -- words behind one word
-pub word_made : (l : Layout) (m k : Made) (c : items.Coded) (cs : List items.Coded) → make_words l m (c ∷ []) ≡ Ok k → make_words l m (c ∷ cs) ≡ make_words l k cs
+pub word_made : (l : Layout) (m k : Made) (c : items.Coded) (cs : List items.Coded) → make_words l m (c ∷ []) ≡ Ok k →
+    make_words l m (c ∷ cs) ≡ make_words l k cs
 word_made l m k c cs e = by (word l (length m.code) c) refl
   where
     by : (w : Result ℕ AsmRule) → word l (length m.code) c ≡ w → make_words l m (c ∷ cs) ≡ make_words l k cs
@@ -18,7 +20,8 @@ word_made l m k c cs e = by (word l (length m.code) c) refl
         rw (h, make_words) (ap (λ j. make_words l j cs) same)
     by (Err r) h = let o = rw (h, make_words) at e in cc
 
-pub word_bad : (l : Layout) (m : Made) (c : items.Coded) (cs : List items.Coded) (r : AsmRule) → make_words l m (c ∷ []) ≡ Err r → make_words l m (c ∷ cs) ≡ Err r
+pub word_bad : (l : Layout) (m : Made) (c : items.Coded) (cs : List items.Coded) (r : AsmRule) → make_words l m (c ∷ []) ≡ Err r →
+    make_words l m (c ∷ cs) ≡ Err r
 word_bad l m c cs r e = by (word l (length m.code) c) refl
   where
     by : (w : Result ℕ AsmRule) → word l (length m.code) c ≡ w → make_words l m (c ∷ cs) ≡ Err r
@@ -46,16 +49,20 @@ datum_bad l m d ds r e = by (datum_bytes l d) refl
 pub record InMakingData (l : Layout) (first : Made) (ds : List Datum) (m : Made) (at : ℕ) : Type 0 where
   pub same : make_data l first (map datum_of ds) ≡ make_data l m (map datum_of (drop at ds))
 
-next_datum : (l : Layout) (first : Made) (ds : List Datum) (m : Made) (at : ℕ) (z : Datum) → InMakingData l first ds m at → at < length ds → make_data l first (map datum_of ds) ≡ make_data l m (datum_of (get_or ds at z) ∷ map datum_of (drop (suc at) ds))
+next_datum : (l : Layout) (first : Made) (ds : List Datum) (m : Made) (at : ℕ) (z : Datum) → InMakingData l first ds m at →
+    at < length ds → make_data l first (map datum_of ds) ≡ make_data l m (datum_of (get_or ds at z) ∷ map datum_of (drop (suc at) ds))
 next_datum l first ds m at z s h = s.same ∙ ap (λ o. make_data l m (map datum_of o)) (drop-cons ds at z h)
 
-pub data_made : (l : Layout) (first : Made) (ds : List Datum) (m k : Made) (at : ℕ) (z : Datum) → InMakingData l first ds m at → at < length ds → make_data l m (datum_of (get_or ds at z) ∷ []) ≡ Ok k → InMakingData l first ds k (at + 1)
+pub data_made : (l : Layout) (first : Made) (ds : List Datum) (m k : Made) (at : ℕ) (z : Datum) → InMakingData l first ds m at →
+    at < length ds → make_data l m (datum_of (get_or ds at z) ∷ []) ≡ Ok k → InMakingData l first ds k (at + 1)
 data_made l first ds m k at z s h e = record { same = rw add-one (next_datum l first ds m at z s h ∙ datum_made l m k _ (map datum_of (drop (suc at) ds)) e) }
 
-pub data_bad : (l : Layout) (first : Made) (ds : List Datum) (m : Made) (at : ℕ) (z : Datum) (r : AsmRule) → InMakingData l first ds m at → at < length ds → make_data l m (datum_of (get_or ds at z) ∷ []) ≡ Err r → make_data l first (map datum_of ds) ≡ Err r
+pub data_bad : (l : Layout) (first : Made) (ds : List Datum) (m : Made) (at : ℕ) (z : Datum) (r : AsmRule) →
+    InMakingData l first ds m at → at < length ds → make_data l m (datum_of (get_or ds at z) ∷ []) ≡ Err r → make_data l first (map datum_of ds) ≡ Err r
 data_bad l first ds m at z r s h e = next_datum l first ds m at z s h ∙ datum_bad l m _ (map datum_of (drop (suc at) ds)) r e
 
-pub data_end : (l : Layout) (first : Made) (ds : List Datum) (m : Made) (at : ℕ) → InMakingData l first ds m at → length ds ≤ at → make_data l first (map datum_of ds) ≡ Ok m
+pub data_end : (l : Layout) (first : Made) (ds : List Datum) (m : Made) (at : ℕ) → InMakingData l first ds m at →
+    length ds ≤ at → make_data l first (map datum_of ds) ≡ Ok m
 data_end l first ds m at s h = s.same ∙ ap (λ o. make_data l m (map datum_of o)) (drop_all at ds h)
 
 -- padding

@@ -1,12 +1,15 @@
 -- The two passes over the same lines agree on what there is of code and statics.
-use Rattle.std.proofs.Common.{◌≡◌, ◌+◌, ◌-◌, ℕ, suc, List, [], ◌∷◌, ◌++◌, length, replicate, Bool, true, false, Result, Ok, Err, Option, Some, None, refl, sym, ap, ◌∙◌, arith, length-append}
+use Rattle.std.proofs.Common.{◌≡◌, ◌+◌, ◌-◌, ℕ, suc, List, [], ◌∷◌, ◌++◌, length, replicate, Bool, true, false, Result, Ok, Err, Option, Some, None}
+use Rattle.std.proofs.Common.{refl, sym, ap, ◌∙◌, arith, length-append}
 use Rattle.std.specs.Prelude.{nat_le}
 use Rattle.std.proofs.lemmas.List.{length-replicate}
 use Rattle.tg_isa.specs.declared.keywords.AsmRule.{AsmRule}
 use Rattle.tg_isa.specs.Lines.{lines}
 use Rattle.tg_isa.specs.Items.{Item, Nothing, Section, Words, Data', Coded, Datum, Value, AddressOfLabel, Single, Bytes, Zeros, width, widths}
 use Rattle.tg_base.specs.State.{most_words, most_bytes}
-use Rattle.tg_isa.specs.Assembly.{Layout, LabelTarget, Reading, Made, blank, unmade, spot_of, add_label, add_new, add_one, add_labels, add_words, add_data, add_item, add_reading, add_line, layout, round_up, word, make_words, address_of, datum_bytes, place_bytes, make_data, pad, make_item, make_reading, make_line, make, reading}
+use Rattle.tg_isa.specs.Assembly.{Layout, LabelTarget, Reading, Made, blank, unmade, spot_of, add_label, add_new, add_one, add_labels, add_words}
+use Rattle.tg_isa.specs.Assembly.{add_data, add_item, add_reading, add_line, layout, round_up, word, make_words, address_of, datum_bytes, place_bytes}
+use Rattle.tg_isa.specs.Assembly.{make_data, pad, make_item, make_reading, make_line, make, reading}
 
 -- the segment is the same, and there are as many words and bytes
 pub record Even (l : Layout) (m : Made) : Type 0 where
@@ -89,7 +92,8 @@ storing l [] m k e =
     record { segment = sym (ap (λ j. j.segment) same); code = sym (ap (λ j. j.code) same); statics = rw (← same) (omega arith) }
 storing l (d ∷ ds) m k e = by (datum_bytes l d) refl (λ j. storing l ds j k)
   where
-    by : (b : Result (List ℕ) AsmRule) → datum_bytes l d ≡ b → ((j : Made) → make_data l j ds ≡ Ok k → Storing j k (widths ds)) → Storing m k (width d + widths ds)
+    by : (b : Result (List ℕ) AsmRule) → datum_bytes l d ≡ b → ((j : Made) → make_data l j ds ≡ Ok k → Storing j k (widths ds)) →
+        Storing m k (width d + widths ds)
     by (Ok b) h ih =
         let s = ih (record m { statics = m.statics ++ b }) (rw (h, make_data) at e) in
         let n : length (m.statics ++ b) ≡ length m.statics + length b = length-append m.statics b in
@@ -163,7 +167,8 @@ lines_even [] n l k c m j v a b =
     rw (← e) (rw (← f) v)
 lines_even (line ∷ ls) n l k c m j v a b = by (add_line l line) (make_line c m line) refl refl (λ x y. lines_even ls (n + 1) x k c y j)
   where
-    by : (p : Result Layout AsmRule) (q : Result Made AsmRule) → add_line l line ≡ p → make_line c m line ≡ q → ((x : Layout) (y : Made) → Even x y → layout (n + 1) x ls ≡ Ok k → make (n + 1) c y ls ≡ Ok j → Even k j) → Even k j
+    by : (p : Result Layout AsmRule) (q : Result Made AsmRule) → add_line l line ≡ p → make_line c m line ≡ q →
+        ((x : Layout) (y : Made) → Even x y → layout (n + 1) x ls ≡ Ok k → make (n + 1) c y ls ≡ Ok j → Even k j) → Even k j
     by (Ok x) (Ok y) g h ih = ih x y (line_even line l x c m y v g h) (rw (g, layout) at a) (rw (h, make) at b)
     by (Err r) q g h ih = let o = rw (g, layout) at a in cc
     by (Ok x) (Err r) g h ih = let o = rw (h, make) at b in cc

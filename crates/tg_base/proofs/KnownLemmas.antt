@@ -20,7 +20,8 @@ pub appends_as : (x y : Option (List ℕ)) (a b : List ℕ) → a ≡ b → Appe
 appends_as x y a b e h = rw (sym e) h
 
 -- a write of the next bytes of a piece
-pub appends_more : (x y z : Option (List ℕ)) (piece : List ℕ) (done n : ℕ) → done + n ≤ length piece → Appends x y (take done piece) → Appends y z (take n (take (length piece - done) (drop done piece))) → Appends x z (take (done + n) piece)
+pub appends_more : (x y z : Option (List ℕ)) (piece : List ℕ) (done n : ℕ) → done + n ≤ length piece →
+    Appends x y (take done piece) → Appends y z (take n (take (length piece - done) (drop done piece))) → Appends x z (take (done + n) piece)
 appends_more x y z piece done n le h k =
     let e : take n (take (length piece - done) (drop done piece)) ≡ take n (drop done piece) = grind (arith, common_steps) in
     appends_as x z _ _ (sym (take-add done n piece)) (appends_then x y z _ _ h (appends_as y z _ _ e k))

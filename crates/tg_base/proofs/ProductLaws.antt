@@ -1,5 +1,6 @@
 -- The product of two words, and its upper and its lower word.
-use Rattle.std.proofs.Common.{◌≡◌, ◌≢◌, ◌≤◌, ◌<◌, ◌-◌, ◌*◌, ◌/◌, ◌%◌, ◌^◌, inl, inr, ℕ, suc, ℤ, pos, negsuc, ◌*ℤ◌, Some, None, sym, ap, ◌∙◌, arith, mul-le-mul, w64, unsigned_abs}
+use Rattle.std.proofs.Common.{◌≡◌, ◌≢◌, ◌≤◌, ◌<◌, ◌-◌, ◌*◌, ◌/◌, ◌%◌, ◌^◌, inl, inr, ℕ, suc, ℤ, pos, negsuc, ◌*ℤ◌, Some, None, sym, ap, ◌∙◌, arith}
+use Rattle.std.proofs.Common.{mul-le-mul, w64, unsigned_abs}
 use Rattle.std.proofs.lemmas.Int.{unsigned_abs-mul, ints}
 use Rattle.std.proofs.lemmas.Bool.{cases_lt}
 use Rattle.std.proofs.lemmas.Grind.{common_steps}

@@ -1,5 +1,6 @@
 -- The work begins in order, as that of a run that has taken no step.
-use Rattle.std.proofs.Common.{◌≡◌, ◌≢◌, ℕ, zero, suc, ◌+◌, ◌-◌, ◌<◌, ◌≤◌, Bool, true, false, not, ◌&&◌, ◌||◌, List, [], ◌∷◌, length, get_or, refl, sym, ap, ◌∙◌, subst, ⊎_elim, arith}
+use Rattle.std.proofs.Common.{◌≡◌, ◌≢◌, ℕ, zero, suc, ◌+◌, ◌-◌, ◌<◌, ◌≤◌, Bool, true, false, not, ◌&&◌, ◌||◌, List, [], ◌∷◌, length, get_or, refl}
+use Rattle.std.proofs.Common.{sym, ap, ◌∙◌, subst, ⊎_elim, arith}
 use Rattle.std.specs.Prelude.{◌==◌, nat_eq, nat_lt, fold}
 use Rattle.std.specs.List.{range_with_len, IsDistinct}
 use Rattle.std.proofs.lemmas.Bool.{cases_eq, cases_lt, ne_eqb, lt-ltb, le-ltb}
@@ -27,7 +28,8 @@ use Rattle.tg_coalesce.specs.Lists.{list_at}
 use Rattle.tg_coalesce.specs.Tables.{move_at, state_at, is_waiting, is_unsettled}
 use Rattle.tg_coalesce.specs.Works.{Work, alias_of, is_left, relisted, started, to, unlisted}
 use Rattle.tg_coalesce.specs.Standing.{IsSized, HasDegrees, IsPlaced, HasMembers, HasEnds, HasReady, IsOrderly}
-use Rattle.tg_coalesce.proofs.AdvancingListing.{IsShifted, IsListed, shifted_none, shifted_then, shifted_left, relisted_shifts, relisted_same, lists_it, lists_other}
+use Rattle.tg_coalesce.proofs.AdvancingListing.{IsShifted, IsListed, shifted_none, shifted_then, shifted_left, relisted_shifts, relisted_same}
+use Rattle.tg_coalesce.proofs.AdvancingListing.{lists_it, lists_other}
 use Rattle.tg_coalesce.proofs.AdvancingMembers.{count_of_list}
 use Rattle.tg_coalesce.proofs.AdvancingOrder.{remains_open}
 use Rattle.tg_coalesce.proofs.Classing.{apart_grouping, singleton_at, no_singleton}

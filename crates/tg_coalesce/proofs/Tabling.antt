@@ -1,5 +1,6 @@
 -- What is kept of each table of moves is so at the start, and every change keeps it.
-use Rattle.std.proofs.Common.{◌≡◌, ℕ, zero, suc, ◌+◌, ◌*◌, ◌<◌, ◌≤◌, ◌^◌, true, false, Bool, List, [], ◌∷◌, ◌++◌, length, get_or, set, take, replicate, refl, sym, ap, ◌∙◌, subst, ⊎_elim, arith}
+use Rattle.std.proofs.Common.{◌≡◌, ℕ, zero, suc, ◌+◌, ◌*◌, ◌<◌, ◌≤◌, ◌^◌, true, false, Bool, List, [], ◌∷◌, ◌++◌, length, get_or, set, take}
+use Rattle.std.proofs.Common.{replicate, refl, sym, ap, ◌∙◌, subst, ⊎_elim, arith}
 use Rattle.std.specs.Prelude.{sum, fold, if◌then◌else◌}
 use Rattle.std.specs.List.{All, range_with_len}
 use Rattle.std.proofs.lemmas.Bool.{cases_lt, cond-true, cond-false}
@@ -12,9 +13,11 @@ use Rattle.tg_rounds.specs.declared.moves.MoveState.{MoveState}
 use Rattle.tg_rounds.specs.declared.moves.MoveState.TheVariants.{Ready}
 use Rattle.tg_graph.proofs.Runs.{range_next}
 use Rattle.tg_coalesce.specs.Lists.{list_at, pushed, poured, moved_sum, raised, lowered}
-use Rattle.tg_coalesce.specs.Tables.{Table, IsTable, move_at, state_at, is_waiting, ends_listed, ends_counted, started, first_taken, settled, tried_again, woken, joined}
+use Rattle.tg_coalesce.specs.Tables.{Table, IsTable, move_at, state_at, is_waiting, ends_listed, ends_counted, started, first_taken, settled}
+use Rattle.tg_coalesce.specs.Tables.{tried_again, woken, joined}
 use Rattle.tg_coalesce.proofs.Keeping.{either}
-use Rattle.tg_coalesce.proofs.Listing.{each_pushed, each_poured, length_pushed, length_poured, length_moved_sum, sum_moved, sum_lowered, sum_raised, range_below, read_within, raised_read}
+use Rattle.tg_coalesce.proofs.Listing.{each_pushed, each_poured, length_pushed, length_poured, length_moved_sum, sum_moved, sum_lowered, sum_raised}
+use Rattle.tg_coalesce.proofs.Listing.{range_below, read_within, raised_read}
 
 -- The ends listed and counted of one move more.
 module _ (moves : List Move) (nodes : ℕ) where

@@ -5,7 +5,8 @@ use Rattle.tg_base.specs.declared.ids.Span.{Span}
 use Rattle.tg_syntax.specs.declared.tokens.Ident.{Ident}
 use Rattle.tg_syntax.specs.declared.trees.Param.{Param}
 use Rattle.tg_syntax.specs.declared.trees.Op.TheVariants.{Plus, Minus, Greater}
-use Rattle.tg_syntax.specs.Tree.{Exp, Int, Read, Call, Binary, Assign, When, For, Let, Seq, Simple, Exps, no_exps, exp, Decs, no_decs, variable, functions, FunDecs, no_functions, function}
+use Rattle.tg_syntax.specs.Tree.{Exp, Int, Read, Call, Binary, Assign, When, For, Let, Seq, Simple, Exps, no_exps, exp, Decs, no_decs, variable}
+use Rattle.tg_syntax.specs.Tree.{functions, FunDecs, no_functions, function}
 use Rattle.tg_escape.specs.Escaping.{escapes_of}
 use Rattle.tg_escape.specs.Links.{links_of}
 
@@ -49,7 +50,13 @@ seq es = Seq here (exps es)
 
 -- let function a(n:int):int = let var v:=n function b(k:int) = let function c() = v:=v+k in c(); if k>1 then b(k-1) end
 -- in b(3); v end in exit(a(10)) end
-three_levels : escapes_of (block (functions (fun (i 0 13) (param (i 1 15) ∷ []) (block (var (i 3 36) (read 1) (functions (fun (i 4 50) (param (i 5 52) ∷ []) (block (functions (fun (i 6 74) [] (set 3 (Binary here Plus 0 (read 3) (read 5))) no_functions) no_decs) (call 6 [] ∷ When here (Binary here Greater 0 (read 5) (num 1)) (call 4 (Binary here Minus 0 (read 5) (num 1) ∷ [])) ∷ [])) no_functions) no_decs)) (call 4 (num 3 ∷ []) ∷ read 3 ∷ [])) no_functions) no_decs) (call 7 (call 0 (num 10 ∷ []) ∷ []) ∷ [])) ≡ 36 ∷ 36 ∷ 52 ∷ []
+three_levels : escapes_of
+    (block (functions (fun (i 0 13) (param (i 1 15) ∷ [])
+    (block (var (i 3 36) (read 1)
+    (functions (fun (i 4 50) (param (i 5 52) ∷ [])
+    (block (functions (fun (i 6 74) [] (set 3 (Binary here Plus 0 (read 3) (read 5))) no_functions) no_decs)
+    (call 6 [] ∷ When here (Binary here Greater 0 (read 5) (num 1)) (call 4 (Binary here Minus 0 (read 5) (num 1) ∷ [])) ∷ [])) no_functions) no_decs))
+    (call 4 (num 3 ∷ []) ∷ read 3 ∷ [])) no_functions) no_decs) (call 7 (call 0 (num 10 ∷ []) ∷ []) ∷ [])) ≡ 36 ∷ 36 ∷ 52 ∷ []
 three_levels = refl
 
 -- let var x:=1 in x end
@@ -72,17 +79,32 @@ hidden_by_a_function = refl
 
 -- let function a(n:int):int = let var v:=n function b(k:int) = let function c() = v:=v+k in c(); if k>1 then b(k-1) end
 -- in b(3); v end in exit(a(10)) end, where c goes to a through the link of b
-through_the_next_outer_function : links_of (block (functions (fun (i 0 13) (param (i 1 15) ∷ []) (block (var (i 3 36) (read 1) (functions (fun (i 4 50) (param (i 5 52) ∷ []) (block (functions (fun (i 6 74) [] (set 3 (Binary here Plus 0 (read 3) (read 5))) no_functions) no_decs) (call 6 [] ∷ When here (Binary here Greater 0 (read 5) (num 1)) (call 4 (Binary here Minus 0 (read 5) (num 1) ∷ [])) ∷ [])) no_functions) no_decs)) (call 4 (num 3 ∷ []) ∷ read 3 ∷ [])) no_functions) no_decs) (call 7 (call 0 (num 10 ∷ []) ∷ []) ∷ [])) ≡ 50 ∷ 50 ∷ []
+through_the_next_outer_function :
+    links_of (block (functions
+    (fun (i 0 13) (param (i 1 15) ∷ [])
+    (block (var (i 3 36) (read 1)
+    (functions (fun (i 4 50) (param (i 5 52) ∷ [])
+    (block (functions (fun (i 6 74) [] (set 3 (Binary here Plus 0 (read 3) (read 5))) no_functions) no_decs)
+    (call 6 [] ∷ When here (Binary here Greater 0 (read 5) (num 1)) (call 4 (Binary here Minus 0 (read 5) (num 1) ∷ [])) ∷ [])) no_functions) no_decs))
+    (call 4 (num 3 ∷ []) ∷ read 3 ∷ [])) no_functions) no_decs) (call 7 (call 0 (num 10 ∷ []) ∷ []) ∷ [])) ≡ 50 ∷ 50 ∷ []
 through_the_next_outer_function = refl
 
 -- let var x:=1 function f()=let function g()=let function h()=x:=2 in h() end in g() end in f() end
-through_two_functions : links_of (block (var (i 0 8) (num 1) (functions (fun (i 1 22) [] (block (functions (fun (i 2 39) [] (block (functions (fun (i 3 56) [] (set 0 (num 2)) no_functions) no_decs) (call 3 [] ∷ [])) no_functions) no_decs) (call 2 [] ∷ [])) no_functions) no_decs)) (call 1 [] ∷ [])) ≡ 22 ∷ 39 ∷ []
+through_two_functions :
+    links_of (block (var (i 0 8) (num 1)
+    (functions (fun (i 1 22) []
+    (block (functions (fun (i 2 39) [] (block (functions (fun (i 3 56) [] (set 0 (num 2)) no_functions) no_decs) (call 3 [] ∷ [])) no_functions) no_decs)
+    (call 2 [] ∷ [])) no_functions) no_decs)) (call 1 [] ∷ [])) ≡ 22 ∷ 39 ∷ []
 through_two_functions = refl
 
 -- let function f()=let function g()=f() in g() end in f() end, where the inner call of f needs the frame around f
-a_call_of_an_outer_function : links_of (block (functions (fun (i 0 13) [] (block (functions (fun (i 1 30) [] (call 0 []) no_functions) no_decs) (call 1 [] ∷ [])) no_functions) no_decs) (call 0 [] ∷ [])) ≡ 13 ∷ []
+a_call_of_an_outer_function :
+    links_of (block (functions (fun (i 0 13) [] (block (functions (fun (i 1 30) [] (call 0 []) no_functions) no_decs) (call 1 [] ∷ [])) no_functions) no_decs)
+    (call 0 [] ∷ [])) ≡ 13 ∷ []
 a_call_of_an_outer_function = refl
 
 -- let function f()=let function g()=g() in g() end in f() end, where each call is of a function of the caller or of the next outer one
-own_links_alone : links_of (block (functions (fun (i 0 13) [] (block (functions (fun (i 1 30) [] (call 1 []) no_functions) no_decs) (call 1 [] ∷ [])) no_functions) no_decs) (call 0 [] ∷ [])) ≡ []
+own_links_alone : links_of
+    (block (functions (fun (i 0 13) [] (block (functions (fun (i 1 30) [] (call 1 []) no_functions) no_decs) (call 1 [] ∷ [])) no_functions) no_decs)
+    (call 0 [] ∷ [])) ≡ []
 own_links_alone = refl

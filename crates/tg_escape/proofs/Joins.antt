@@ -1,8 +1,11 @@
 -- The uses of a text stand before those that come after it.
 use Rattle.std.proofs.Common.{◌≡◌, ℕ, List, [], ◌∷◌, ◌++◌, length, Option, Some, None, refl, sym, ap, ◌∙◌, append_assoc}
 use Rattle.tg_symbols.specs.Tables.{named}
-use Rattle.tg_syntax.specs.Tree.{Nil, Break, Int, Text, Read, Call, Neg, Binary, Make, Fill, Assign, If, When, While, For, Let, Seq, LValue, Simple, Field, Index, Exps, no_exps, exp, Inits, no_inits, init, Decs, no_decs, types, variable, functions, FunDecs, no_functions, function}
-use Rattle.tg_escape.specs.Uses.{DeclaredAs, Seen, Use, declare_variable, declare_params, declare_functions, declare_all, used, uses, place_uses, exps_uses, inits_uses, decs_uses, functions_uses}
+use Rattle.tg_syntax.specs.Tree.{Nil, Break, Int, Text, Read, Call, Neg, Binary, Make, Fill, Assign, If, When, While, For, Let, Seq, LValue, Simple}
+use Rattle.tg_syntax.specs.Tree.{Field, Index, Exps, no_exps, exp, Inits, no_inits, init, Decs, no_decs, types, variable, functions, FunDecs}
+use Rattle.tg_syntax.specs.Tree.{no_functions, function}
+use Rattle.tg_escape.specs.Uses.{DeclaredAs, Seen, Use, declare_variable, declare_params, declare_functions, declare_all, used, uses, place_uses}
+use Rattle.tg_escape.specs.Uses.{exps_uses, inits_uses, decs_uses, functions_uses}
 use Rattle.tg_escape.specs.Laws.{UsesJoin}
 
 -- what stands before a list stands before it alone

@@ -1,5 +1,6 @@
 -- Walks over a tree, one part after another.
-use Rattle.std.proofs.Common.{◌≡◌, ℕ, ◌+◌, ◌<◌, ◌≤◌, List, [], ◌∷◌, ◌++◌, true, false, Option, Some, None, IsSome, ◌↔◌, option_to_list, length, drop, get_or, refl, sym, ap, ◌∙◌, subst, arith, append_assoc, length-append}
+use Rattle.std.proofs.Common.{◌≡◌, ℕ, ◌+◌, ◌<◌, ◌≤◌, List, [], ◌∷◌, ◌++◌, true, false, Option, Some, None, IsSome, ◌↔◌, option_to_list, length, drop}
+use Rattle.std.proofs.Common.{get_or, refl, sym, ap, ◌∙◌, subst, arith, append_assoc, length-append}
 use Rattle.std.proofs.Math.Seq.{drop-length}
 use Rattle.std.proofs.lemmas.List.{drop_more, get_or_default, same_from_push}
 use Rattle.tg_syntax.specs.declared.trees.Exp.{Exp as CodeExp}
@@ -16,7 +17,8 @@ use Rattle.tg_syntax.specs.Plain.{plain, plain_exps, plain_inits, plain_function
 use Rattle.tg_syntax.specs.Lists.{exps_of, inits_of, decs_of, functions_of}
 use Rattle.tg_syntax.proofs.ListLaws.{plain_exps-items, plain_inits-items, plain_functions-items}
 use Rattle.tg_escape.specs.declared.searches.Search.{Search}
-use Rattle.tg_escape.specs.Uses.{Seen, Use, a_function, declare, declare_variable, declare_params, declare_functions, declare_all, uses, exps_uses, inits_uses, decs_uses, functions_uses, function_uses, uses_of}
+use Rattle.tg_escape.specs.Uses.{Seen, Use, a_function, declare, declare_variable, declare_params, declare_functions, declare_all, uses, exps_uses}
+use Rattle.tg_escape.specs.Uses.{inits_uses, decs_uses, functions_uses, function_uses, uses_of}
 use Rattle.tg_escape.specs.Searches.{Finds, FindsUses, FindsDeclared, Declares, with_uses}
 
 -- nothing is used, and nothing is declared

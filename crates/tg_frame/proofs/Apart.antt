@@ -24,7 +24,8 @@ all_drawn (InFrame s ∷ homes) slots temps ls lt =
     All-cons (IsDrawn slots temps) (InFrame s) homes (omega arith) (all_drawn homes slots temps (omega arith) lt)
 
 -- a home that stands at a place
-pub drawn_at : (homes : List Access) (slots temps i : ℕ) (home : Access) → slot_bound homes ≤ slots → temp_bound homes ≤ temps → slice_get homes i ≡ Some home → IsDrawn slots temps home
+pub drawn_at : (homes : List Access) (slots temps i : ℕ) (home : Access) → slot_bound homes ≤ slots → temp_bound homes ≤ temps →
+    slice_get homes i ≡ Some home → IsDrawn slots temps home
 drawn_at homes slots temps i home ls lt e =
     subst (IsDrawn slots temps) (get_or_from_slice_get homes i home home e) (all_drawn homes slots temps ls lt i home (slice_get_within homes i home e))
 
@@ -38,22 +39,27 @@ not_true true h = absurd (h refl)
 not_true false h = refl
 
 -- the home of the head is none of the others
-head_apart : (a : Access) (homes : List Access) (j : ℕ) (d : Access) → list_any (is_same_home a) homes ≡ false → j < length homes → is_same_home a (get_or homes j d) ≡ false
+head_apart : (a : Access) (homes : List Access) (j : ℕ) (d : Access) → list_any (is_same_home a) homes ≡ false →
+    j < length homes → is_same_home a (get_or homes j d) ≡ false
 head_apart a homes j d e lt =
     not_true (is_same_home a (get_or homes j d)) (λ t. true_is_false (sym (list_any_at (is_same_home a) homes j d lt t) ∙ e))
   where
     true_is_false : true ≡ false → ⊥
     true_is_false h = cc
 
-two_apart : (homes : List Access) (i j : ℕ) (d : Access) → IsTrue (differ homes) → i < j → j < length homes → is_same_home (get_or homes i d) (get_or homes j d) ≡ false
+two_apart : (homes : List Access) (i j : ℕ) (d : Access) → IsTrue (differ homes) → i < j → j < length homes →
+    is_same_home (get_or homes i d) (get_or homes j d) ≡ false
 two_apart [] i j d h lt l = absurd (omega arith)
 two_apart (a ∷ homes) i zero d h lt l = absurd (omega arith)
 two_apart (a ∷ homes) zero (suc j) d h lt l = head_apart a homes j d (both (list_any (is_same_home a) homes) (differ homes) h).0 (omega arith)
 two_apart (a ∷ homes) (suc i) (suc j) d h lt l = two_apart homes i j d (both (list_any (is_same_home a) homes) (differ homes) h).1 (omega arith) (omega arith)
 
-differ_in_order : (homes : List Access) (i j : ℕ) (a b : Access) → IsTrue (differ homes) → i < j → slice_get homes i ≡ Some a → slice_get homes j ≡ Some b → a ≢ b
+differ_in_order : (homes : List Access) (i j : ℕ) (a b : Access) → IsTrue (differ homes) → i < j → slice_get homes i ≡ Some a →
+    slice_get homes j ≡ Some b → a ≢ b
 differ_in_order homes i j a b d lt e f g =
-    clash (sym (ap (λ x. is_same_home a x) (sym (get_or_from_slice_get homes j b a f)) ∙ ap (λ x. is_same_home x (get_or homes j a)) (sym (get_or_from_slice_get homes i a a e)) ∙ two_apart homes i j a d lt (slice_get_within homes j b f)) ∙ (ap (is_same_home a) (sym g) ∙ same_itself a))
+    clash (sym (ap (λ x. is_same_home a x) (sym (get_or_from_slice_get homes j b a f))
+    ∙ ap (λ x. is_same_home x (get_or homes j a)) (sym (get_or_from_slice_get homes i a a e)) ∙ two_apart homes i j a d lt (slice_get_within homes j b f))
+    ∙ (ap (is_same_home a) (sym g) ∙ same_itself a))
   where
     clash : false ≡ true → ⊥
     clash h = cc

@@ -22,7 +22,16 @@ pub record Made (asked : List Bool) (homes : List Access) (slots temps : ℕ) : 
   pub distinct : IsTrue (differ homes)
 
 pub made_none : Made [] [] 0 0
-made_none = record { exact = refl; are = refl; slots_are = refl; temps_are = refl; drawn = refl; slots_below = omega arith; temps_below = omega arith; distinct = refl }
+made_none = record {
+  exact = refl;
+  are = refl;
+  slots_are = refl;
+  temps_are = refl;
+  drawn = refl;
+  slots_below = omega arith;
+  temps_below = omega arith;
+  distinct = refl;
+}
 
 map_push : (homes : List Access) (a : Access) → map is_slot (homes ++ a ∷ []) ≡ map is_slot homes ++ is_slot a ∷ []
 map_push [] a = refl
@@ -49,7 +58,8 @@ temps_keep (true ∷ asked) = temps_keep asked
 temps_keep (false ∷ asked) = ap (λ n. n + 1) (temps_keep asked)
 
 -- the homes that are asked for, and one more
-homes_push : (asked : List Bool) (b : Bool) (s t : ℕ) → homes_from s t (asked ++ b ∷ []) ≡ homes_from s t asked ++ next_home b (s + slots_of asked) (t + temps_of asked) ∷ []
+homes_push : (asked : List Bool) (b : Bool) (s t : ℕ) → homes_from s t (asked ++ b ∷ []) ≡ homes_from s t asked ++
+    next_home b (s + slots_of asked) (t + temps_of asked) ∷ []
 homes_push [] true s t = let e : s ≡ s + 0 = omega arith in ap (λ n. InFrame n ∷ []) e
 homes_push [] false s t = let e : t ≡ t + 0 = omega arith in ap (λ n. InTemp (record { 0 = n }) ∷ []) e
 homes_push (true ∷ asked) b s t =
@@ -59,11 +69,13 @@ homes_push (false ∷ asked) b s t =
     let e : t + 1 + temps_of asked ≡ t + (temps_of asked + 1) = omega arith in
     ap (λ l. InTemp (record { 0 = t }) ∷ l) (homes_push asked b s (t + 1) ∙ ap (λ n. homes_from s (t + 1) asked ++ next_home b (s + slots_of asked) n ∷ []) e)
 
-exact_push : (asked : List Bool) (b : Bool) (homes : List Access) (slots temps : ℕ) → homes ≡ homes_of asked → slots ≡ slots_of asked → temps ≡ temps_of asked → homes ++ next_home b slots temps ∷ [] ≡ homes_of (asked ++ b ∷ [])
+exact_push : (asked : List Bool) (b : Bool) (homes : List Access) (slots temps : ℕ) → homes ≡ homes_of asked →
+    slots ≡ slots_of asked → temps ≡ temps_of asked → homes ++ next_home b slots temps ∷ [] ≡ homes_of (asked ++ b ∷ [])
 exact_push asked b homes slots temps e f g =
     let zs : slots ≡ 0 + slots_of asked = omega (arith, f) in
     let zt : temps ≡ 0 + temps_of asked = omega (arith, g) in
-    ap (λ l. l ++ next_home b slots temps ∷ []) e ∙ (ap (λ n. homes_of asked ++ next_home b n temps ∷ []) zs ∙ (ap (λ n. homes_of asked ++ next_home b (0 + slots_of asked) n ∷ []) zt ∙ sym (homes_push asked b 0 0)))
+    ap (λ l. l ++ next_home b slots temps ∷ []) e ∙ (ap (λ n. homes_of asked ++ next_home b n temps ∷ []) zs
+    ∙ (ap (λ n. homes_of asked ++ next_home b (0 + slots_of asked) n ∷ []) zt ∙ sym (homes_push asked b 0 0)))
 
 length_push : (asked : List Bool) (b : Bool) → length (asked ++ b ∷ []) ≡ length asked + 1
 length_push [] b = refl
@@ -98,7 +110,8 @@ both false y e = (refl, e)
 joins : (x y : Bool) → x ≡ false → y ≡ true → (not x && y) ≡ true
 joins x y e f = rw (e, f) refl
 
-none_push : (a b : Access) (homes : List Access) → list_any (is_same_home a) homes ≡ false → is_same_home a b ≡ false → list_any (is_same_home a) (homes ++ b ∷ []) ≡ false
+none_push : (a b : Access) (homes : List Access) → list_any (is_same_home a) homes ≡ false → is_same_home a b ≡ false →
+    list_any (is_same_home a) (homes ++ b ∷ []) ≡ false
 none_push a b homes e f = list_any-append (is_same_home a) homes (b ∷ []) ∙ rw (e, f) refl
 
 slot_apart : (a : Access) (homes : List Access) (s : ℕ) → slot_bound (a ∷ homes) ≤ s → is_same_home a (InFrame s) ≡ false
@@ -134,7 +147,8 @@ temp_differs (a ∷ homes) t d le =
     (temp_differs homes t h.1 (temp_rest a homes t le))
 
 -- one home more
-pub made_slot : (asked : List Bool) (homes : List Access) (slots temps : ℕ) → Made asked homes slots temps → Made (asked ++ true ∷ []) (homes ++ InFrame slots ∷ []) (slots + 1) temps
+pub made_slot : (asked : List Bool) (homes : List Access) (slots temps : ℕ) → Made asked homes slots temps →
+    Made (asked ++ true ∷ []) (homes ++ InFrame slots ∷ []) (slots + 1) temps
 made_slot asked homes slots temps m =
     record {
       exact = exact_push asked true homes slots temps m.exact m.slots_are m.temps_are;
@@ -147,7 +161,8 @@ made_slot asked homes slots temps m =
       distinct = slot_differs homes slots m.distinct m.slots_below;
     }
 
-pub made_temp : (asked : List Bool) (homes : List Access) (slots temps : ℕ) → Made asked homes slots temps → Made (asked ++ false ∷ []) (homes ++ InTemp (record { 0 = temps }) ∷ []) slots (temps + 1)
+pub made_temp : (asked : List Bool) (homes : List Access) (slots temps : ℕ) → Made asked homes slots temps →
+    Made (asked ++ false ∷ []) (homes ++ InTemp (record { 0 = temps }) ∷ []) slots (temps + 1)
 made_temp asked homes slots temps m =
     record {
       exact = exact_push asked false homes slots temps m.exact m.slots_are m.temps_are;
@@ -161,12 +176,15 @@ made_temp asked homes slots temps m =
     }
 
 -- the next one of what is asked
-pub made_slot_at : (asked : List Bool) (i : ℕ) (d : Bool) (homes more : List Access) (s t s' t' : ℕ) → i < length asked → get_or asked i d ≡ true → Made (take i asked) homes s t → more ≡ homes ++ InFrame s ∷ [] → s' ≡ s + 1 → t' ≡ t → Made (take (i + 1) asked) more s' t'
+pub made_slot_at : (asked : List Bool) (i : ℕ) (d : Bool) (homes more : List Access) (s t s' t' : ℕ) → i < length asked →
+    get_or asked i d ≡ true → Made (take i asked) homes s t → more ≡ homes ++ InFrame s ∷ [] → s' ≡ s + 1 → t' ≡ t → Made (take (i + 1) asked) more s' t'
 made_slot_at asked i d homes more s t s' t' lt e m f g h =
     let w : take (i + 1) asked ≡ take i asked ++ true ∷ [] = take_more asked i d lt ∙ ap (λ b. take i asked ++ b ∷ []) e in
     rw (w, f, g, h) (made_slot (take i asked) homes s t m)
 
-pub made_temp_at : (asked : List Bool) (i : ℕ) (d : Bool) (homes more : List Access) (s t s' t' : ℕ) → i < length asked → get_or asked i d ≡ false → Made (take i asked) homes s t → more ≡ homes ++ InTemp (record { 0 = t }) ∷ [] → s' ≡ s → t' ≡ t + 1 → Made (take (i + 1) asked) more s' t'
+pub made_temp_at : (asked : List Bool) (i : ℕ) (d : Bool) (homes more : List Access) (s t s' t' : ℕ) → i < length asked →
+    get_or asked i d ≡ false → Made (take i asked) homes s t → more ≡ homes ++ InTemp (record { 0 = t }) ∷ [] → s' ≡ s →
+    t' ≡ t + 1 → Made (take (i + 1) asked) more s' t'
 made_temp_at asked i d homes more s t s' t' lt e m f g h =
     let w : take (i + 1) asked ≡ take i asked ++ false ∷ [] = take_more asked i d lt ∙ ap (λ b. take i asked ++ b ∷ []) e in
     rw (w, f, g, h) (made_temp (take i asked) homes s t m)

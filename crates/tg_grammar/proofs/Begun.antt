@@ -8,10 +8,19 @@ use Rattle.tg_syntax.specs.declared.tokens.Spanned.{Spanned}
 use Rattle.tg_syntax.specs.declared.tokens.Ident.{Ident}
 use Rattle.tg_syntax.specs.declared.trees.Param.{Param}
 use Rattle.tg_syntax.specs.declared.trees.Op.{Op}
-use Rattle.tg_syntax.specs.Tree.{Form, TypeDec, Exp, LValue, Exps, no_exps, exp, Inits, no_inits, init, Decs, no_decs, types, variable, functions, FunDecs, no_functions, function}
+use Rattle.tg_syntax.specs.Tree.{Form, TypeDec, Exp, LValue, Exps, no_exps, exp, Inits, no_inits, init, Decs, no_decs, types, variable, functions}
+use Rattle.tg_syntax.specs.Tree.{FunDecs, no_functions, function}
 use Rattle.tg_syntax.specs.Groups.{snoc, snoc_init, Dec, one_type, one_variable, one_function, snoc_function, snoc_dec}
-use Rattle.tg_syntax.specs.Grammar.{Level, or_op, and_op, rel_op, sum_op, term_op, IsIdent, AreFields, one_field, more_fields, AreAnyFields, no_fields, some_fields, IsForm, alias, fields, array, IsAnnotation, not_annotated, annotated, Reads, whole_assign, whole_up, or_up, or_more, and_up, and_more, cmp_up, cmp_two, sum_up, sum_more, term_up, term_more, unary_minus, unary_primary, unary_tail, primary_place, primary_nil, primary_int, primary_text, primary_break, primary_sequence, primary_call, primary_record, primary_let, tail_then, tail_else, tail_while, tail_for, tail_fill, IsPlace, place_simple, place_field, place_index, AreMany, many_one, many_more, AreAny, any_none, any_many, AreInits, one_init, more_inits, AreAnyInits, any_no_inits, any_inits, IsDec, dec_type, dec_variable, dec_function, AreDecs, decs_none, decs_more, IsProgram, program}
-use Rattle.tg_syntax.specs.Beginnings.{param_beginnings, form_beginnings, type_beginnings, kind_beginnings, beginnings, place_beginnings, exps_beginnings, inits_beginnings, decs_beginnings, function_beginnings, BeginsInOrder}
+use Rattle.tg_syntax.specs.Grammar.{Level, or_op, and_op, rel_op, sum_op, term_op, IsIdent, AreFields, one_field, more_fields, AreAnyFields}
+use Rattle.tg_syntax.specs.Grammar.{no_fields, some_fields, IsForm, alias, fields, array, IsAnnotation, not_annotated, annotated, Reads, whole_assign}
+use Rattle.tg_syntax.specs.Grammar.{whole_up, or_up, or_more, and_up, and_more, cmp_up, cmp_two, sum_up, sum_more, term_up, term_more, unary_minus}
+use Rattle.tg_syntax.specs.Grammar.{unary_primary, unary_tail, primary_place, primary_nil, primary_int, primary_text, primary_break, primary_sequence}
+use Rattle.tg_syntax.specs.Grammar.{primary_call, primary_record, primary_let, tail_then, tail_else, tail_while, tail_for, tail_fill, IsPlace}
+use Rattle.tg_syntax.specs.Grammar.{place_simple, place_field, place_index, AreMany, many_one, many_more, AreAny, any_none, any_many, AreInits}
+use Rattle.tg_syntax.specs.Grammar.{one_init, more_inits, AreAnyInits, any_no_inits, any_inits, IsDec, dec_type, dec_variable, dec_function, AreDecs}
+use Rattle.tg_syntax.specs.Grammar.{decs_none, decs_more, IsProgram, program}
+use Rattle.tg_syntax.specs.Beginnings.{param_beginnings, form_beginnings, type_beginnings, kind_beginnings, beginnings, place_beginnings}
+use Rattle.tg_syntax.specs.Beginnings.{exps_beginnings, inits_beginnings, decs_beginnings, function_beginnings, BeginsInOrder}
 use Rattle.tg_grammar.specs.Places.{StandFrom}
 use Rattle.tg_grammar.proofs.Orders.{Falls, falls_below, falling}
 
@@ -53,7 +62,8 @@ more_params : (ps : List Param) (p : Param) (b : List ℕ) → param_beginnings 
 more_params [] p b = refl
 more_params (q ∷ ps) p b = more_params ps p (q.kind.span.from ∷ q.name.span.from ∷ b)
 
-more_types : (ds : List TypeDec) (d : TypeDec) (b : List ℕ) → type_beginnings (ds ++ d ∷ []) b ≡ form_beginnings d.form (d.name.span.from ∷ type_beginnings ds b)
+more_types : (ds : List TypeDec) (d : TypeDec) (b : List ℕ) → type_beginnings (ds ++ d ∷ []) b ≡ form_beginnings d.form
+    (d.name.span.from ∷ type_beginnings ds b)
 more_types [] d b = refl
 more_types (f ∷ ds) d b = more_types ds d (form_beginnings f.form (f.name.span.from ∷ b))
 
@@ -65,7 +75,8 @@ more_values : (is : Inits) (x : Ident) (e : Exp) (b : List ℕ) → inits_beginn
 more_values no_inits x e b = refl
 more_values (init y f is) x e b = more_values is x e (beginnings f (y.span.from ∷ b))
 
-more_functions : (fs : FunDecs) (f : Ident) (ps : List Param) (k : Option Ident) (e : Exp) (b : List ℕ) → function_beginnings (snoc_function fs f ps k e) b ≡ beginnings e (kind_beginnings k (param_beginnings ps (f.span.from ∷ function_beginnings fs b)))
+more_functions : (fs : FunDecs) (f : Ident) (ps : List Param) (k : Option Ident) (e : Exp) (b : List ℕ) →
+    function_beginnings (snoc_function fs f ps k e) b ≡ beginnings e (kind_beginnings k (param_beginnings ps (f.span.from ∷ function_beginnings fs b)))
 more_functions no_functions f ps k e b = refl
 more_functions (function g qs r body fs) f ps k e b = more_functions fs f ps k e (beginnings body (kind_beginnings r (param_beginnings qs (g.span.from ∷ b))))
 

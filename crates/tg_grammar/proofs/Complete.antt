@@ -3,9 +3,11 @@ use Rattle.std.proofs.Common.{◌≡◌, ℕ, ◌<◌, ◌≤◌, Bool, true, fa
 use Rattle.tg_base.specs.declared.ids.Span.{Span}
 use Rattle.tg_base.specs.declared.ids.Name.{Name}
 use Rattle.tg_syntax.specs.declared.tokens.Word.{Word}
-use Rattle.tg_syntax.specs.declared.tokens.Word.TheVariants.{WBreak, WDo, WElse, WEnd, WFor, WFunction, WIf, WIn, WLet, WNil, WOf, WThen, WTo, WType, WVar, WWhile}
+use Rattle.tg_syntax.specs.declared.tokens.Word.TheVariants.{WBreak, WDo, WElse, WEnd, WFor, WFunction, WIf, WIn, WLet, WNil, WOf, WThen, WTo, WType}
+use Rattle.tg_syntax.specs.declared.tokens.Word.TheVariants.{WVar, WWhile}
 use Rattle.tg_syntax.specs.declared.tokens.Sign.{Sign}
-use Rattle.tg_syntax.specs.declared.tokens.Sign.TheVariants.{Comma, Colon, Semicolon, LeftParen, RightParen, LeftBracket, RightBracket, LeftBrace, RightBrace, Dot, Equal}
+use Rattle.tg_syntax.specs.declared.tokens.Sign.TheVariants.{Comma, Colon, Semicolon, LeftParen, RightParen, LeftBracket, RightBracket, LeftBrace}
+use Rattle.tg_syntax.specs.declared.tokens.Sign.TheVariants.{RightBrace, Dot, Equal}
 use Rattle.tg_syntax.specs.declared.tokens.Sign.TheVariants as sign
 use Rattle.tg_syntax.specs.declared.tokens.Token.{Token}
 use Rattle.tg_syntax.specs.declared.tokens.Token.TheVariants as token
@@ -13,15 +15,29 @@ use Rattle.tg_syntax.specs.declared.tokens.Spanned.{Spanned}
 use Rattle.tg_syntax.specs.declared.tokens.Ident.{Ident}
 use Rattle.tg_syntax.specs.declared.trees.Param.{Param}
 use Rattle.tg_syntax.specs.declared.trees.Op.{Op}
-use Rattle.tg_syntax.specs.Tree.{Form, Fields, Exp, Nil, Break, Int, Text, Read, Call, Neg, Make, Fill, Assign, If, When, While, For, Let, Seq, LValue, Simple, Field, Index, Exps, no_exps, exp, Inits, no_inits, init, Decs, no_decs}
+use Rattle.tg_syntax.specs.Tree.{Form, Fields, Exp, Nil, Break, Int, Text, Read, Call, Neg, Make, Fill, Assign, If, When, While, For, Let, Seq}
+use Rattle.tg_syntax.specs.Tree.{LValue, Simple, Field, Index, Exps, no_exps, exp, Inits, no_inits, init, Decs, no_decs}
 use Rattle.tg_syntax.specs.Spans.{span_of, joined}
 use Rattle.tg_syntax.specs.Tails.{ends_tail, is_short}
 use Rattle.tg_syntax.specs.Groups.{snoc, snoc_init, one_type, one_variable, one_function, snoc_dec}
-use Rattle.tg_syntax.specs.Grammar.{Level, Whole, Disjunction, Conjunction, Comparison, Sum, Term, Unary, Primary, Tail, or_op, and_op, rel_op, sum_op, term_op, IsIdent, IsSign, IsWord, AreFields, one_field, more_fields, AreAnyFields, no_fields, some_fields, IsForm, alias, fields, array, IsAnnotation, not_annotated, annotated, Reads, whole_assign, whole_up, or_up, or_more, and_up, and_more, cmp_up, cmp_two, sum_up, sum_more, term_up, term_more, unary_minus, unary_primary, unary_tail, primary_place, primary_nil, primary_int, primary_text, primary_break, primary_sequence, primary_call, primary_record, primary_let, tail_then, tail_else, tail_while, tail_for, tail_fill, IsPlace, place_simple, place_field, place_index, AreMany, many_one, many_more, AreAny, any_none, any_many, AreInits, one_init, more_inits, AreAnyInits, any_no_inits, any_inits, dec_type, dec_variable, dec_function, AreDecs, decs_none, decs_more, IsProgram, program}
+use Rattle.tg_syntax.specs.Grammar.{Level, Whole, Disjunction, Conjunction, Comparison, Sum, Term, Unary, Primary, Tail, or_op, and_op, rel_op}
+use Rattle.tg_syntax.specs.Grammar.{sum_op, term_op, IsIdent, IsSign, IsWord, AreFields, one_field, more_fields, AreAnyFields, no_fields, some_fields}
+use Rattle.tg_syntax.specs.Grammar.{IsForm, alias, fields, array, IsAnnotation, not_annotated, annotated, Reads, whole_assign, whole_up, or_up}
+use Rattle.tg_syntax.specs.Grammar.{or_more, and_up, and_more, cmp_up, cmp_two, sum_up, sum_more, term_up, term_more, unary_minus, unary_primary}
+use Rattle.tg_syntax.specs.Grammar.{unary_tail, primary_place, primary_nil, primary_int, primary_text, primary_break, primary_sequence, primary_call}
+use Rattle.tg_syntax.specs.Grammar.{primary_record, primary_let, tail_then, tail_else, tail_while, tail_for, tail_fill, IsPlace, place_simple}
+use Rattle.tg_syntax.specs.Grammar.{place_field, place_index, AreMany, many_one, many_more, AreAny, any_none, any_many, AreInits, one_init}
+use Rattle.tg_syntax.specs.Grammar.{more_inits, AreAnyInits, any_no_inits, any_inits, dec_type, dec_variable, dec_function, AreDecs, decs_none}
+use Rattle.tg_syntax.specs.Grammar.{decs_more, IsProgram, program}
 use Rattle.tg_grammar.specs.declared.marks.Mark.{Mark}
 use Rattle.tg_grammar.specs.declared.marks.Mark.TheVariants.{OfSign, OfWord}
-use Rattle.tg_grammar.specs.Steps.{token_of, op_of, Answer, Got, Bad, Out, Job, At, After, Suffix, Listed, Items, OneInit, ListedInits, MoreInits, OneParam, ListedParams, MoreParams, OneForm, Annotation, TypeDec, VarDec, FunDec, MoreDecs, Whole_program, Of, Steps, split}
-use Rattle.tg_grammar.specs.Reading.{below, binary, atom_of, unary, level, operators, comparing, assigning, reading, naming, suffixes, listed, items, listed_inits, listed_params, more_params, one_form, annotation, more_decs, whole_program, job, Does, give_got, refuse_bad, want_got, name_got, name_bad, name_out, split_yes, split_no, oper_yes, oper_no, leaf_yes, leaf_no, leaf_out, look_at, test_yes, test_no, call_got, call_bad, call_out}
+use Rattle.tg_grammar.specs.Steps.{token_of, op_of, Answer, Got, Bad, Out, Job, At, After, Suffix, Listed, Items, OneInit, ListedInits, MoreInits}
+use Rattle.tg_grammar.specs.Steps.{OneParam, ListedParams, MoreParams, OneForm, Annotation, TypeDec, VarDec, FunDec, MoreDecs, Whole_program, Of}
+use Rattle.tg_grammar.specs.Steps.{Steps, split}
+use Rattle.tg_grammar.specs.Reading.{below, binary, atom_of, unary, level, operators, comparing, assigning, reading, naming, suffixes, listed, items}
+use Rattle.tg_grammar.specs.Reading.{listed_inits, listed_params, more_params, one_form, annotation, more_decs, whole_program, job, Does, give_got}
+use Rattle.tg_grammar.specs.Reading.{refuse_bad, want_got, name_got, name_bad, name_out, split_yes, split_no, oper_yes, oper_no, leaf_yes, leaf_no}
+use Rattle.tg_grammar.specs.Reading.{leaf_out, look_at, test_yes, test_no, call_got, call_bad, call_out}
 use Rattle.tg_grammar.specs.Reading.{one_init as one_init_steps}
 use Rattle.tg_grammar.specs.Reading.{more_inits as more_inits_steps}
 use Rattle.tg_grammar.proofs.Runs.{does_one, got_bad, got_out, got_value}
@@ -186,7 +202,11 @@ ends_last : (k : Level) (e x : Exp) (t : Token) → ends_tail e ≡ true → is_
 ends_last k e x t a b h = record { weak = h.tail a; tail = λ _. h.tail a; no_else = λ c. h.no_else (b ∙ c) }
 
 pub ends_mark : (e : Exp) (t w : Token) → t ≡ w → strength w < 1 → (w ≡ token.Word WElse → ⊥) → Ends Whole e t
-ends_mark e t w q h d = let s : strength t ≡ strength w = ap strength q in record { weak = omega arith; tail = λ _. omega arith; no_else = λ _ z. d (sym q ∙ z) }
+ends_mark e t w q h d = let s : strength t ≡ strength w = ap strength q in record {
+  weak = omega arith;
+  tail = λ _. omega arith;
+  no_else = λ _ z. d (sym q ∙ z);
+}
 
 -- an l-value's token that may follow, where it isn't a part of it
 abbrev limit : LValue → ℕ
@@ -205,11 +225,14 @@ abbrev Follows : Level → Exp → List Spanned → Exp → List Spanned → Typ
 Follows k l s e z = Does (After k l) (operators k l) s (Got e z)
 
 stop : (k : Level) (l : Exp) (t : Spanned) (s : List Spanned) → op_of k t.token ≡ None → Follows k l (t ∷ s) l (t ∷ s)
-stop k l t s d = by_test (ends_tail l) (λ b. test_yes (After k l) b (give_got (After k l))) (λ b. test_no (After k l) b (oper_no (After k l) d (give_got (After k l))))
+stop k l t s d = by_test (ends_tail l) (λ b. test_yes (After k l) b (give_got (After k l)))
+    (λ b. test_no (After k l) b (oper_no (After k l) d (give_got (After k l))))
 
-more : (k : Level) (l r : Exp) (t : Spanned) (o : Op) (s x : List Spanned) (e : Exp) (z : List Spanned) → ends_tail l ≡ false → op_of k t.token ≡ Some o → Reaches (below k) s r x → Follows k (binary o t.span.from l r) x e z → Follows k l (t ∷ s) e z
+more : (k : Level) (l r : Exp) (t : Spanned) (o : Op) (s x : List Spanned) (e : Exp) (z : List Spanned) → ends_tail l ≡ false →
+    op_of k t.token ≡ Some o → Reaches (below k) s r x → Follows k (binary o t.span.from l r) x e z → Follows k l (t ∷ s) e z
 more k l r t o s x e z n d h g =
-    test_no (After k l) n (oper_yes (After k l) o d (call_got (After k l) (At (below k)) h (call_got (After k l) (After k (binary o t.span.from l r)) g (give_got (After k l)))))
+    test_no (After k l) n
+    (oper_yes (After k l) o d (call_got (After k l) (At (below k)) h (call_got (After k l) (After k (binary o t.span.from l r)) g (give_got (After k l)))))
 
 abbrev pub IsChain : Level → Type 0
 IsChain Disjunction = Unit {0}
@@ -218,7 +241,8 @@ IsChain Sum = Unit {0}
 IsChain Term = Unit {0}
 IsChain _ = ⊥
 
-up : (k : Level) → IsChain k → (s : List Spanned) (l : Exp) (x : List Spanned) (e : Exp) (z : List Spanned) → Reaches (below k) s l x → Follows k l x e z → Reaches k s e z
+up : (k : Level) → IsChain k → (s : List Spanned) (l : Exp) (x : List Spanned) (e : Exp) (z : List Spanned) →
+    Reaches (below k) s l x → Follows k l x e z → Reaches k s e z
 up Disjunction c s l x e z h g = call_got (At Disjunction) (At Conjunction) h (call_got (At Disjunction) (After Disjunction l) g (give_got (At Disjunction)))
 up Conjunction c s l x e z h g = call_got (At Conjunction) (At Comparison) h (call_got (At Conjunction) (After Conjunction l) g (give_got (At Conjunction)))
 up Sum c s l x e z h g = call_got (At Sum) (At Term) h (call_got (At Sum) (After Sum l) g (give_got (At Sum)))
@@ -226,11 +250,13 @@ up Term c s l x e z h g = call_got (At Term) (At Unary) h (call_got (At Term) (A
 up _ c s l x e z h g = absurd c
 
 -- a list in two parts
-moved : {j : Job} {s : Steps (Of j)} {r : Answer (Of j)} (a : List Spanned) (t : Spanned) (b z : List Spanned) → Does j s (a ++ t ∷ (b ++ z)) r → Does j s ((a ++ t ∷ b) ++ z) r
+moved : {j : Job} {s : Steps (Of j)} {r : Answer (Of j)} (a : List Spanned) (t : Spanned) (b z : List Spanned) →
+    Does j s (a ++ t ∷ (b ++ z)) r → Does j s ((a ++ t ∷ b) ++ z) r
 moved {j = j} {s = s} {r = r} a t b z h = subst (λ w. Does j s w r) (sym (append_assoc a (t ∷ b) z)) h
 
 comparing_stop : (l : Exp) (t : Spanned) (s : List Spanned) → strength t.token < 4 → Does (At Comparison) (comparing l) (t ∷ s) (Got l (t ∷ s))
-comparing_stop l t s h = by_test (ends_tail l) (λ b. test_yes (At Comparison) b (give_got (At Comparison))) (λ b. test_no (At Comparison) b (oper_no (At Comparison) (no_rel t.token h) (give_got (At Comparison))))
+comparing_stop l t s h = by_test (ends_tail l) (λ b. test_yes (At Comparison) b (give_got (At Comparison)))
+    (λ b. test_no (At Comparison) b (oper_no (At Comparison) (no_rel t.token h) (give_got (At Comparison))))
 
 not_token : {t w : Token} → t ≡ w → (w ≡ token.Sign sign.Assign → ⊥) → t ≡ token.Sign sign.Assign → ⊥
 not_token q d e = d (sym q ∙ e)
@@ -243,13 +269,16 @@ assigning_stop (Read p v) t s h = split_no (At Whole) (weaker t.token (token.Sig
 assigning_stop _ t s h = give_got (At Whole)
 
 -- what begins with a token
-by_first : (t : Spanned) (w : Token) (ts : List Spanned) (r : Answer Exp) → t.token ≡ w → ((s : Span) → atom_of w s ≡ None) → Does (At Unary) (unary w) (t ∷ ts) r → Does (At Unary) (level Unary) (t ∷ ts) r
-by_first t w ts r q n h = leaf_no (At Unary) (ap (λ z. atom_of z t.span) q ∙ n t.span) (look_at (At Unary) (subst (λ z. Does (At Unary) (unary z) (t ∷ ts) r) (sym q) h))
+by_first : (t : Spanned) (w : Token) (ts : List Spanned) (r : Answer Exp) → t.token ≡ w → ((s : Span) → atom_of w s ≡ None) →
+    Does (At Unary) (unary w) (t ∷ ts) r → Does (At Unary) (level Unary) (t ∷ ts) r
+by_first t w ts r q n h = leaf_no (At Unary) (ap (λ z. atom_of z t.span) q ∙ n t.span)
+    (look_at (At Unary) (subst (λ z. Does (At Unary) (unary z) (t ∷ ts) r) (sym q) h))
 
 by_atom : (t : Spanned) (w : Token) (e : Exp) (ts : List Spanned) → t.token ≡ w → atom_of w t.span ≡ Some e → Reaches Unary (t ∷ ts) e ts
 by_atom t w e ts q n = leaf_yes (At Unary) (ap (λ z. atom_of z t.span) q ∙ n)
 
-by_name : (t : Spanned) (x : Ident) (ts : List Spanned) (r : Answer Exp) → IsIdent t x → Does (At Unary) (naming x) ts r → Does (At Unary) (level Unary) (t ∷ ts) r
+by_name : (t : Spanned) (x : Ident) (ts : List Spanned) (r : Answer Exp) → IsIdent t x → Does (At Unary) (naming x) ts r →
+    Does (At Unary) (level Unary) (t ∷ ts) r
 by_name t x ts r h d = by_first t (token.Ident x.name) ts r h.name (λ s. refl) (name_got (At Unary) h d)
 
 -- an l-value up to an assignment
@@ -258,17 +287,23 @@ climb e t s z d h =
     up Disjunction tt s e (t ∷ z) e (t ∷ z)
     (up Conjunction tt s e (t ∷ z) e (t ∷ z)
     (call_got (At Comparison) (At Sum)
-    (up Sum tt s e (t ∷ z) e (t ∷ z) (up Term tt s e (t ∷ z) e (t ∷ z) h (stop Term e t z (no_term t.token (omega arith)))) (stop Sum e t z (no_sum t.token (omega arith))))
+    (up Sum tt s e (t ∷ z) e (t ∷ z) (up Term tt s e (t ∷ z) e (t ∷ z) h (stop Term e t z (no_term t.token (omega arith))))
+    (stop Sum e t z (no_sum t.token (omega arith))))
     (comparing_stop e t z (omega arith)))
     (stop Conjunction e t z (no_and t.token (omega arith))))
     (stop Disjunction e t z (no_or t.token d))
 
 -- what is refused at once is refused at each level
 whole_bad : (s : List Spanned) (t : Spanned) (u : List Spanned) → Does (At Unary) (level Unary) s (Bad t u) → Does (At Whole) (level Whole) s (Bad t u)
-whole_bad s t u h = call_bad (At Whole) (At Disjunction) (call_bad (At Disjunction) (At Conjunction) (call_bad (At Conjunction) (At Comparison) (call_bad (At Comparison) (At Sum) (call_bad (At Sum) (At Term) (call_bad (At Term) (At Unary) h)))))
+whole_bad s t u h = call_bad (At Whole) (At Disjunction)
+    (call_bad (At Disjunction) (At Conjunction)
+    (call_bad (At Conjunction) (At Comparison) (call_bad (At Comparison) (At Sum) (call_bad (At Sum) (At Term) (call_bad (At Term) (At Unary) h)))))
 
 whole_out : Does (At Whole) (level Whole) [] Out
-whole_out = call_out (At Whole) (At Disjunction) (call_out (At Disjunction) (At Conjunction) (call_out (At Conjunction) (At Comparison) (call_out (At Comparison) (At Sum) (call_out (At Sum) (At Term) (call_out (At Term) (At Unary) (leaf_out (At Unary)))))))
+whole_out = call_out (At Whole) (At Disjunction)
+    (call_out (At Disjunction) (At Conjunction)
+    (call_out (At Conjunction) (At Comparison)
+    (call_out (At Comparison) (At Sum) (call_out (At Sum) (At Term) (call_out (At Term) (At Unary) (leaf_out (At Unary)))))))
 
 -- no expression begins with this mark
 pub record Closes (c : Mark) : Type 0 where
@@ -293,12 +328,15 @@ record Started (m : Sign) (w : List Spanned) (y : Exps) (z : List Spanned) : Typ
   first : Reaches Whole w one behind
   rest : Does (Items m (exp one no_exps)) (items m (exp one no_exps)) behind (Got y z)
 
-no_open : (c : Mark) → Closes c → (w : List Spanned) (e : Exp) (z : List Spanned) → Reaches Whole w e z → (f : Span → Steps (Exps × Span)) (s : Steps (Exps × Span)) (m : Sign) (r : Answer (Exps × Span)) → Does (Listed m c) s w r → Does (Listed m c) (split c f s) w r
+no_open : (c : Mark) → Closes c → (w : List Spanned) (e : Exp) (z : List Spanned) → Reaches Whole w e z →
+    (f : Span → Steps (Exps × Span)) (s : Steps (Exps × Span)) (m : Sign) (r : Answer (Exps × Span)) → Does (Listed m c) s w r →
+    Does (Listed m c) (split c f s) w r
 no_open c k [] e z h f s m r d = got_out (does_one h Out whole_out)
 no_open c k (t ∷ w) e z h f s m r d =
     split_no (Listed m c) (λ q. got_bad (does_one h (Bad t w) (whole_bad (t ∷ w) t w (by_first t (token_of c) w (Bad t w) q k.none (k.refused t w))))) d
 
-closed : (m : Sign) (c : Mark) → Closes c → (w : List Spanned) (es : Exps) (t : Spanned) (rest : List Spanned) → t.token ≡ token_of c → Started m w es (t ∷ rest) → Does (Listed m c) (listed m c) w (Got (es, t.span) rest)
+closed : (m : Sign) (c : Mark) → Closes c → (w : List Spanned) (es : Exps) (t : Spanned) (rest : List Spanned) →
+    t.token ≡ token_of c → Started m w es (t ∷ rest) → Does (Listed m c) (listed m c) w (Got (es, t.span) rest)
 closed m c k w es t rest q h =
     no_open c k w h.one h.behind h.first _ _ m _
     (call_got (Listed m c) (At Whole) h.first (call_got (Listed m c) (Items m (exp h.one no_exps)) h.rest (want_got (Listed m c) q (give_got (Listed m c)))))
@@ -327,20 +365,24 @@ word_not {w = w} {v = v} h d e = d (word_same w v (sym h ∙ e))
     word_same : (w v : Word) → token.Word w ≡ token.Word v → w ≡ v
     word_same w v q = cc
 
-inits_close : (w : List Spanned) (is : Inits) (t : Spanned) (rest : List Spanned) → IsSign t RightBrace → StartedInits w is (t ∷ rest) → Does ListedInits listed_inits w (Got (is, t.span) rest)
+inits_close : (w : List Spanned) (is : Inits) (t : Spanned) (rest : List Spanned) → IsSign t RightBrace →
+    StartedInits w is (t ∷ rest) → Does ListedInits listed_inits w (Got (is, t.span) rest)
 inits_close [] is t rest q h = got_out (does_one h.first Out (name_out OneInit))
 inits_close (u ∷ w) is t rest q h =
     split_no ListedInits (λ e. got_bad (does_one h.first (Bad u w) (name_bad OneInit (λ x i. not_ident (sym i.name ∙ e)))))
-    (call_got ListedInits OneInit h.first (call_got ListedInits (MoreInits (init h.one.0 h.one.1 no_inits)) h.rest (want_got ListedInits q (give_got ListedInits))))
+    (call_got ListedInits OneInit h.first (call_got ListedInits (MoreInits (init h.one.0 h.one.1 no_inits)) h.rest
+    (want_got ListedInits q (give_got ListedInits))))
   where
     not_ident : {n : Name} → token.Ident n ≡ token.Sign RightBrace → ⊥
     not_ident e = cc
 
 decs_stop : (ds : Decs) (i : Spanned) (w : List Spanned) → IsWord i WIn → Does (MoreDecs ds) (more_decs ds) (i ∷ w) (Got ds (i ∷ w))
-decs_stop ds i w h = split_no (MoreDecs ds) (word_not h (λ e. cc)) (split_no (MoreDecs ds) (word_not h (λ e. cc)) (split_no (MoreDecs ds) (word_not h (λ e. cc)) (give_got (MoreDecs ds))))
+decs_stop ds i w h = split_no (MoreDecs ds) (word_not h (λ e. cc)) (split_no (MoreDecs ds) (word_not h (λ e. cc))
+    (split_no (MoreDecs ds) (word_not h (λ e. cc)) (give_got (MoreDecs ds))))
 
 -- parameters
-param : (t c u : Spanned) {x k : Ident} (ts : List Spanned) → IsIdent t x → IsSign c Colon → IsIdent u k → Does OneParam (job OneParam) (t ∷ c ∷ u ∷ ts) (Got (record { name = x; kind = k }) ts)
+param : (t c u : Spanned) {x k : Ident} (ts : List Spanned) → IsIdent t x → IsSign c Colon → IsIdent u k →
+    Does OneParam (job OneParam) (t ∷ c ∷ u ∷ ts) (Got (record { name = x; kind = k }) ts)
 param t c u ts h d g = name_got OneParam h (want_got OneParam d (name_got OneParam g (give_got OneParam)))
 
 record StartedParams (w : List Spanned) (y : List Param) (z : List Spanned) : Type 0 where
@@ -349,28 +391,34 @@ record StartedParams (w : List Spanned) (y : List Param) (z : List Spanned) : Ty
   first : Does OneParam (job OneParam) w (Got one behind)
   rest : Does (MoreParams (one ∷ [])) (more_params (one ∷ [])) behind (Got y z)
 
-params_start : {a : List Spanned} {ps : List Param} → AreFields a ps → (w : List Spanned) (y : List Param) (z : List Spanned) → Does (MoreParams ps) (more_params ps) w (Got y z) → StartedParams (a ++ w) y z
+params_start : {a : List Spanned} {ps : List Param} → AreFields a ps → (w : List Spanned) (y : List Param) (z : List Spanned) →
+    Does (MoreParams ps) (more_params ps) w (Got y z) → StartedParams (a ++ w) y z
 params_start (one_field t c u {x = x} {k = k} h d g) w y z r = record { one = record { name = x; kind = k }; behind = w; first = param t c u w h d g; rest = r }
 params_start (more_fields {a = a} {ps = ps} m t c u {x = x} {k = k} f e h d g) w y z r =
     subst (λ q. StartedParams q y z) (sym (append_assoc a (m ∷ t ∷ c ∷ u ∷ []) w))
     (params_start f (m ∷ t ∷ c ∷ u ∷ w) y z
-    (split_yes (MoreParams ps) e (call_got (MoreParams ps) OneParam (param t c u w h d g) (call_got (MoreParams ps) (MoreParams (ps ++ record { name = x; kind = k } ∷ [])) r (give_got (MoreParams ps))))))
+    (split_yes (MoreParams ps) e (call_got (MoreParams ps) OneParam (param t c u w h d g)
+    (call_got (MoreParams ps) (MoreParams (ps ++ record { name = x; kind = k } ∷ [])) r (give_got (MoreParams ps))))))
 
 -- no parameter begins with a mark
 record IsClose (c : Mark) : Type 0 where
   other : (n : Name) → token.Ident n ≡ token_of c → ⊥
   stops : token_of c ≡ token.Sign Comma → ⊥
 
-no_param : (c : Mark) → IsClose c → (w : List Spanned) (p : Param) (z : List Spanned) → Does OneParam (job OneParam) w (Got p z) → (f : Span → Steps (List Param)) (s : Steps (List Param)) (r : Answer (List Param)) → Does (ListedParams c) s w r → Does (ListedParams c) (split c f s) w r
+no_param : (c : Mark) → IsClose c → (w : List Spanned) (p : Param) (z : List Spanned) → Does OneParam (job OneParam) w (Got p z) →
+    (f : Span → Steps (List Param)) (s : Steps (List Param)) (r : Answer (List Param)) → Does (ListedParams c) s w r → Does (ListedParams c) (split c f s) w r
 no_param c k [] p z h f s r d = got_out (does_one h Out (name_out OneParam))
-no_param c k (t ∷ w) p z h f s r d = split_no (ListedParams c) (λ q. got_bad (does_one h (Bad t w) (name_bad OneParam (λ x i. k.other x.name (sym i.name ∙ q))))) d
+no_param c k (t ∷ w) p z h f s r d = split_no (ListedParams c)
+    (λ q. got_bad (does_one h (Bad t w) (name_bad OneParam (λ x i. k.other x.name (sym i.name ∙ q))))) d
 
-params : {a : List Spanned} {ps : List Param} → AreAnyFields a ps → (c : Mark) → IsClose c → (t : Spanned) (ts : List Spanned) → t.token ≡ token_of c → Does (ListedParams c) (listed_params c) (a ++ t ∷ ts) (Got ps ts)
+params : {a : List Spanned} {ps : List Param} → AreAnyFields a ps → (c : Mark) → IsClose c → (t : Spanned) (ts : List Spanned) →
+    t.token ≡ token_of c → Does (ListedParams c) (listed_params c) (a ++ t ∷ ts) (Got ps ts)
 params no_fields c k t ts q = split_yes (ListedParams c) q (give_got (ListedParams c))
 params (some_fields {a = a} {ps = ps} h) c k t ts q =
     let s = params_start h (t ∷ ts) ps (t ∷ ts) (split_no (MoreParams ps) (λ e. k.stops (sym q ∙ e)) (give_got (MoreParams ps))) in
     no_param c k (a ++ t ∷ ts) s.one s.behind s.first _ _ _
-    (call_got (ListedParams c) OneParam s.first (call_got (ListedParams c) (MoreParams (s.one ∷ [])) s.rest (want_got (ListedParams c) q (give_got (ListedParams c)))))
+    (call_got (ListedParams c) OneParam s.first (call_got (ListedParams c) (MoreParams (s.one ∷ [])) s.rest
+    (want_got (ListedParams c) q (give_got (ListedParams c)))))
 
 brace_closes : IsClose (OfSign RightBrace)
 brace_closes = record { other = λ n e. cc; stops = λ e. cc }
@@ -383,9 +431,11 @@ form (alias t h) ts = split_no OneForm (ident_no h (λ e. cc)) (split_no OneForm
 form (fields {a = a} {ps = ps} l r d h e) ts =
     subst (λ w. Does OneForm one_form (l ∷ w) (Got (Fields ps) ts)) (sym (append_assoc a (r ∷ []) ts))
     (split_yes OneForm d (call_got OneForm (ListedParams (OfSign RightBrace)) (params h (OfSign RightBrace) brace_closes r ts e) (give_got OneForm)))
-form (array t o u h d e) ts = split_no OneForm (λ q. (let z = sym h ∙ q in cc)) (split_yes OneForm h (want_got OneForm d (name_got OneForm e (give_got OneForm))))
+form (array t o u h d e) ts = split_no OneForm (λ q. (let z = sym h ∙ q in cc))
+    (split_yes OneForm h (want_got OneForm d (name_got OneForm e (give_got OneForm))))
 
-annotated_is : {a : List Spanned} {k : Option Ident} → IsAnnotation a k → (t : Spanned) (ts : List Spanned) → (t.token ≡ token.Sign Colon → ⊥) → Does Annotation annotation (a ++ t ∷ ts) (Got k (t ∷ ts))
+annotated_is : {a : List Spanned} {k : Option Ident} → IsAnnotation a k → (t : Spanned) (ts : List Spanned) →
+    (t.token ≡ token.Sign Colon → ⊥) → Does Annotation annotation (a ++ t ∷ ts) (Got k (t ∷ ts))
 annotated_is not_annotated t ts n = split_no Annotation n (give_got Annotation)
 annotated_is (annotated c u h d) t ts n = split_yes Annotation h (name_got Annotation d (give_got Annotation))
 
@@ -400,21 +450,30 @@ free_is t w q h d = let s : strength t ≡ strength w = ap strength q in record 
 ends_free : (e : Exp) (t : Token) → Free t → Ends Whole e t
 ends_free e t f = let w = f.weak in record { weak = w; tail = λ _. w; no_else = λ _. f.no_else }
 
-naming_other : (x : Ident) (t : Spanned) (ts : List Spanned) (e : Span × LValue) (z : List Spanned) → strength t.token ≤ 8 → Does (Suffix x.span (Simple x)) (suffixes x.span (Simple x)) (t ∷ ts) (Got e z) → Does (At Unary) (naming x) (t ∷ ts) (Got (reading e) z)
+naming_other : (x : Ident) (t : Spanned) (ts : List Spanned) (e : Span × LValue) (z : List Spanned) → strength t.token ≤ 8 →
+    Does (Suffix x.span (Simple x)) (suffixes x.span (Simple x)) (t ∷ ts) (Got e z) → Does (At Unary) (naming x) (t ∷ ts) (Got (reading e) z)
 naming_other x t ts e z h d =
-    split_no (At Unary) (weaker t.token (token.Sign LeftParen) (omega arith)) (split_no (At Unary) (weaker t.token (token.Sign LeftBrace) (omega arith)) (split_no (At Unary) (weaker t.token (token.Sign LeftBracket) (omega arith))
+    split_no (At Unary) (weaker t.token (token.Sign LeftParen) (omega arith))
+    (split_no (At Unary) (weaker t.token (token.Sign LeftBrace) (omega arith)) (split_no (At Unary) (weaker t.token (token.Sign LeftBracket) (omega arith))
     (call_got (At Unary) (Suffix x.span (Simple x)) d (give_got (At Unary)))))
 
 suffix_stop : (s : Span) (v : LValue) (t : Spanned) (ts : List Spanned) → strength t.token < 8 → Does (Suffix s v) (suffixes s v) (t ∷ ts) (Got (s, v) (t ∷ ts))
-suffix_stop s v t ts h = split_no (Suffix s v) (weaker t.token (token.Sign Dot) h) (split_no (Suffix s v) (weaker t.token (token.Sign LeftBracket) (omega arith)) (give_got (Suffix s v)))
+suffix_stop s v t ts h = split_no (Suffix s v) (weaker t.token (token.Sign Dot) h)
+    (split_no (Suffix s v) (weaker t.token (token.Sign LeftBracket) (omega arith)) (give_got (Suffix s v)))
 
 -- behind a name and `[`
-bracketed : (x : Ident) (l r : Spanned) (w : List Spanned) (e : Exp) (t : Spanned) (ts : List Spanned) (p : Span × LValue) (z : List Spanned) → IsSign l LeftBracket → IsSign r RightBracket → Reaches Whole w e (r ∷ t ∷ ts) → strength t.token ≤ 9 → Does (Suffix (joined x.span r.span) (Index (Simple x) e)) (suffixes (joined x.span r.span) (Index (Simple x) e)) (t ∷ ts) (Got p z) → Does (At Unary) (naming x) (l ∷ w) (Got (reading p) z)
+bracketed : (x : Ident) (l r : Spanned) (w : List Spanned) (e : Exp) (t : Spanned) (ts : List Spanned) (p : Span × LValue) (z : List Spanned) →
+    IsSign l LeftBracket → IsSign r RightBracket → Reaches Whole w e (r ∷ t ∷ ts) → strength t.token ≤ 9 →
+    Does (Suffix (joined x.span r.span) (Index (Simple x) e)) (suffixes (joined x.span r.span) (Index (Simple x) e)) (t ∷ ts) (Got p z) →
+    Does (At Unary) (naming x) (l ∷ w) (Got (reading p) z)
 bracketed x l r w e t ts p z dl dr h n d =
     split_no (At Unary) (is_sign_not dl (λ q. cc)) (split_no (At Unary) (is_sign_not dl (λ q. cc)) (split_yes (At Unary) dl
-    (call_got (At Unary) (At Whole) h (want_got (At Unary) dr (split_no (At Unary) (weaker t.token (token.Word WOf) (omega arith)) (call_got (At Unary) (Suffix (joined x.span r.span) (Index (Simple x) e)) d (give_got (At Unary))))))))
+    (call_got (At Unary) (At Whole) h
+    (want_got (At Unary) dr (split_no (At Unary) (weaker t.token (token.Word WOf) (omega arith))
+    (call_got (At Unary) (Suffix (joined x.span r.span) (Index (Simple x) e)) d (give_got (At Unary))))))))
 
-simple_is : {a : List Spanned} {s : Span} {v : LValue} {C : Type 0} (x : Ident) → IsPlace a s v → v ≡ Simple x → ((t : Spanned) → IsIdent t x → a ≡ t ∷ [] → s ≡ x.span → C) → C
+simple_is : {a : List Spanned} {s : Span} {v : LValue} {C : Type 0} (x : Ident) → IsPlace a s v → v ≡ Simple x →
+    ((t : Spanned) → IsIdent t x → a ≡ t ∷ [] → s ≡ x.span → C) → C
 simple_is x (place_simple t {x = y} h) e k = let d : y ≡ x = cc in k t (subst (λ w. IsIdent t w) d h) refl (h.span ∙ ap (λ w. w.span) d)
 simple_is x (place_field d t h g i) e k = absurd (cc)
 simple_is x (place_index l r h g i j) e k = absurd (cc)
@@ -424,41 +483,70 @@ place_or_name (Simple x) f g = f x refl
 place_or_name (Field w x) f g = g refl
 place_or_name (Index w e) f g = g refl
 
-one_init_is : {e : Exp} (t q : Spanned) {x : Ident} (w z : List Spanned) → IsIdent t x → IsSign q Equal → Reaches Whole w e z → Does OneInit one_init_steps (t ∷ q ∷ w) (Got (x, e) z)
+one_init_is : {e : Exp} (t q : Spanned) {x : Ident} (w z : List Spanned) → IsIdent t x → IsSign q Equal → Reaches Whole w e z →
+    Does OneInit one_init_steps (t ∷ q ∷ w) (Got (x, e) z)
 one_init_is t q w z h d r = name_got OneInit h (want_got OneInit d (call_got OneInit (At Whole) r (give_got OneInit)))
 
 mutual
-  pub complete : {k : Level} {u : List Spanned} {e : Exp} → Reads k u e → (t : Spanned) (rest : List Spanned) → Ends k e t.token → Reaches (read_at k) (u ++ t ∷ rest) e (t ∷ rest)
+  pub complete : {k : Level} {u : List Spanned} {e : Exp} → Reads k u e → (t : Spanned) (rest : List Spanned) →
+      Ends k e t.token → Reaches (read_at k) (u ++ t ∷ rest) e (t ∷ rest)
   complete (whole_assign {a = a} {b = b} {s = s} {v = v} {e = x} q h d g) t rest e =
       moved a q b (t ∷ rest)
       (call_got (At Whole) (At Disjunction)
       (climb (Read s v) q (a ++ q ∷ (b ++ t ∷ rest)) (b ++ t ∷ rest) (let z : strength q.token ≡ 1 = ap strength d in omega arith)
-      (place_reaches h q (b ++ t ∷ rest) (let z : strength q.token ≡ 1 = ap strength d in let y = small v in omega arith) (s, v) (q ∷ (b ++ t ∷ rest)) (suffix_stop s v q (b ++ t ∷ rest) (let z : strength q.token ≡ 1 = ap strength d in omega arith))))
-      (split_yes (At Whole) d (call_got (At Whole) (At Whole) (complete g t rest (ends_right Whole Whole (Assign (joined s (span_of x)) v x) x t.token (omega arith) refl refl e)) (give_got (At Whole)))))
-  complete (whole_up {a = a} {e = x} h) t rest e = call_got (At Whole) (At Disjunction) (complete h t rest (ends_lower Whole Disjunction x t.token (omega arith) e)) (assigning_stop x t rest e.weak)
-  complete (or_up {a = a} {e = x} h) t rest e = up Disjunction tt (a ++ t ∷ rest) x (t ∷ rest) x (t ∷ rest) (complete h t rest (ends_lower Disjunction Conjunction x t.token (omega arith) e)) (stop Disjunction x t rest (no_op Disjunction t.token e.weak))
+      (place_reaches h q (b ++ t ∷ rest) (let z : strength q.token ≡ 1 = ap strength d in let y = small v in omega arith)
+      (s, v) (q ∷ (b ++ t ∷ rest)) (suffix_stop s v q (b ++ t ∷ rest) (let z : strength q.token ≡ 1 = ap strength d in omega arith))))
+      (split_yes (At Whole) d
+      (call_got (At Whole) (At Whole) (complete g t rest (ends_right Whole Whole (Assign (joined s (span_of x)) v x) x t.token (omega arith) refl refl e))
+      (give_got (At Whole)))))
+  complete (whole_up {a = a} {e = x} h) t rest e = call_got (At Whole) (At Disjunction)
+      (complete h t rest (ends_lower Whole Disjunction x t.token (omega arith) e)) (assigning_stop x t rest e.weak)
+  complete (or_up {a = a} {e = x} h) t rest e = up Disjunction tt (a ++ t ∷ rest) x (t ∷ rest) x (t ∷ rest)
+      (complete h t rest (ends_lower Disjunction Conjunction x t.token (omega arith) e)) (stop Disjunction x t rest (no_op Disjunction t.token e.weak))
   complete (or_more {a = a} {b = b} s {o = o} {l = l} {r = r} h n d g) t rest e =
-      moved a s b (t ∷ rest) (reaches h tt s (b ++ t ∷ rest) (ends_left Disjunction Conjunction l s.token o (omega arith) (omega arith) n d) (binary o s.span.from l r) (t ∷ rest)
-      (more Disjunction l r s o (b ++ t ∷ rest) (t ∷ rest) (binary o s.span.from l r) (t ∷ rest) n d (complete g t rest (ends_right Disjunction Conjunction (binary o s.span.from l r) r t.token (omega arith) refl refl e)) (stop Disjunction (binary o s.span.from l r) t rest (no_op Disjunction t.token e.weak))))
-  complete (and_up {a = a} {e = x} h) t rest e = up Conjunction tt (a ++ t ∷ rest) x (t ∷ rest) x (t ∷ rest) (complete h t rest (ends_lower Conjunction Comparison x t.token (omega arith) e)) (stop Conjunction x t rest (no_op Conjunction t.token e.weak))
+      moved a s b (t ∷ rest) (reaches h tt s (b ++ t ∷ rest) (ends_left Disjunction Conjunction l s.token o (omega arith) (omega arith) n d)
+      (binary o s.span.from l r) (t ∷ rest)
+      (more Disjunction l r s o (b ++ t ∷ rest) (t ∷ rest) (binary o s.span.from l r) (t ∷ rest) n d
+      (complete g t rest (ends_right Disjunction Conjunction (binary o s.span.from l r) r t.token (omega arith) refl refl e))
+      (stop Disjunction (binary o s.span.from l r) t rest (no_op Disjunction t.token e.weak))))
+  complete (and_up {a = a} {e = x} h) t rest e = up Conjunction tt (a ++ t ∷ rest) x (t ∷ rest) x (t ∷ rest)
+      (complete h t rest (ends_lower Conjunction Comparison x t.token (omega arith) e)) (stop Conjunction x t rest (no_op Conjunction t.token e.weak))
   complete (and_more {a = a} {b = b} s {o = o} {l = l} {r = r} h n d g) t rest e =
-      moved a s b (t ∷ rest) (reaches h tt s (b ++ t ∷ rest) (ends_left Conjunction Comparison l s.token o (omega arith) (omega arith) n d) (binary o s.span.from l r) (t ∷ rest)
-      (more Conjunction l r s o (b ++ t ∷ rest) (t ∷ rest) (binary o s.span.from l r) (t ∷ rest) n d (complete g t rest (ends_right Conjunction Comparison (binary o s.span.from l r) r t.token (omega arith) refl refl e)) (stop Conjunction (binary o s.span.from l r) t rest (no_op Conjunction t.token e.weak))))
-  complete (cmp_up {a = a} {e = x} h) t rest e = call_got (At Comparison) (At Sum) (complete h t rest (ends_lower Comparison Sum x t.token (omega arith) e)) (comparing_stop x t rest e.weak)
+      moved a s b (t ∷ rest) (reaches h tt s (b ++ t ∷ rest) (ends_left Conjunction Comparison l s.token o (omega arith) (omega arith) n d)
+      (binary o s.span.from l r) (t ∷ rest)
+      (more Conjunction l r s o (b ++ t ∷ rest) (t ∷ rest) (binary o s.span.from l r) (t ∷ rest) n d
+      (complete g t rest (ends_right Conjunction Comparison (binary o s.span.from l r) r t.token (omega arith) refl refl e))
+      (stop Conjunction (binary o s.span.from l r) t rest (no_op Conjunction t.token e.weak))))
+  complete (cmp_up {a = a} {e = x} h) t rest e = call_got (At Comparison) (At Sum)
+      (complete h t rest (ends_lower Comparison Sum x t.token (omega arith) e)) (comparing_stop x t rest e.weak)
   complete (cmp_two {a = a} {b = b} s {o = o} {l = l} {r = r} h n d g) t rest e =
-      moved a s b (t ∷ rest) (call_got (At Comparison) (At Sum) (complete h s (b ++ t ∷ rest) (ends_left Comparison Sum l s.token o (omega arith) (omega arith) n d))
-      (test_no (At Comparison) n (oper_yes (At Comparison) o d (call_got (At Comparison) (At Sum) (complete g t rest (ends_right Comparison Sum (binary o s.span.from l r) r t.token (omega arith) refl refl e)) (give_got (At Comparison))))))
-  complete (sum_up {a = a} {e = x} h) t rest e = up Sum tt (a ++ t ∷ rest) x (t ∷ rest) x (t ∷ rest) (complete h t rest (ends_lower Sum Term x t.token (omega arith) e)) (stop Sum x t rest (no_op Sum t.token e.weak))
+      moved a s b (t ∷ rest)
+      (call_got (At Comparison) (At Sum) (complete h s (b ++ t ∷ rest) (ends_left Comparison Sum l s.token o (omega arith) (omega arith) n d))
+      (test_no (At Comparison) n
+      (oper_yes (At Comparison) o d
+      (call_got (At Comparison) (At Sum) (complete g t rest (ends_right Comparison Sum (binary o s.span.from l r) r t.token (omega arith) refl refl e))
+      (give_got (At Comparison))))))
+  complete (sum_up {a = a} {e = x} h) t rest e = up Sum tt (a ++ t ∷ rest) x (t ∷ rest) x (t ∷ rest)
+      (complete h t rest (ends_lower Sum Term x t.token (omega arith) e)) (stop Sum x t rest (no_op Sum t.token e.weak))
   complete (sum_more {a = a} {b = b} s {o = o} {l = l} {r = r} h n d g) t rest e =
-      moved a s b (t ∷ rest) (reaches h tt s (b ++ t ∷ rest) (ends_left Sum Term l s.token o (omega arith) (omega arith) n d) (binary o s.span.from l r) (t ∷ rest)
-      (more Sum l r s o (b ++ t ∷ rest) (t ∷ rest) (binary o s.span.from l r) (t ∷ rest) n d (complete g t rest (ends_right Sum Term (binary o s.span.from l r) r t.token (omega arith) refl refl e)) (stop Sum (binary o s.span.from l r) t rest (no_op Sum t.token e.weak))))
-  complete (term_up {a = a} {e = x} h) t rest e = up Term tt (a ++ t ∷ rest) x (t ∷ rest) x (t ∷ rest) (complete h t rest (ends_lower Term Unary x t.token (omega arith) e)) (stop Term x t rest (no_op Term t.token e.weak))
+      moved a s b (t ∷ rest) (reaches h tt s (b ++ t ∷ rest) (ends_left Sum Term l s.token o (omega arith) (omega arith) n d)
+      (binary o s.span.from l r) (t ∷ rest)
+      (more Sum l r s o (b ++ t ∷ rest) (t ∷ rest) (binary o s.span.from l r) (t ∷ rest) n d
+      (complete g t rest (ends_right Sum Term (binary o s.span.from l r) r t.token (omega arith) refl refl e))
+      (stop Sum (binary o s.span.from l r) t rest (no_op Sum t.token e.weak))))
+  complete (term_up {a = a} {e = x} h) t rest e = up Term tt (a ++ t ∷ rest) x (t ∷ rest) x (t ∷ rest)
+      (complete h t rest (ends_lower Term Unary x t.token (omega arith) e)) (stop Term x t rest (no_op Term t.token e.weak))
   complete (term_more {a = a} {b = b} s {o = o} {l = l} {r = r} h n d g) t rest e =
-      moved a s b (t ∷ rest) (reaches h tt s (b ++ t ∷ rest) (ends_left Term Unary l s.token o (omega arith) (omega arith) n d) (binary o s.span.from l r) (t ∷ rest)
-      (more Term l r s o (b ++ t ∷ rest) (t ∷ rest) (binary o s.span.from l r) (t ∷ rest) n d (complete g t rest (ends_right Term Unary (binary o s.span.from l r) r t.token (omega arith) refl refl e)) (stop Term (binary o s.span.from l r) t rest (no_op Term t.token e.weak))))
+      moved a s b (t ∷ rest) (reaches h tt s (b ++ t ∷ rest) (ends_left Term Unary l s.token o (omega arith) (omega arith) n d)
+      (binary o s.span.from l r) (t ∷ rest)
+      (more Term l r s o (b ++ t ∷ rest) (t ∷ rest) (binary o s.span.from l r) (t ∷ rest) n d
+      (complete g t rest (ends_right Term Unary (binary o s.span.from l r) r t.token (omega arith) refl refl e))
+      (stop Term (binary o s.span.from l r) t rest (no_op Term t.token e.weak))))
   complete (unary_minus {a = a} {e = x} m d h) t rest e =
       by_first m (token.Sign sign.Minus) (a ++ t ∷ rest) _ d (λ s. refl)
-      (want_got (At Unary) d (call_got (At Unary) (At Unary) (complete h t rest (ends_right Unary Unary (Neg (joined m.span (span_of x)) x) x t.token (omega arith) refl refl e)) (give_got (At Unary))))
+      (want_got (At Unary) d
+      (call_got (At Unary) (At Unary) (complete h t rest (ends_right Unary Unary (Neg (joined m.span (span_of x)) x) x t.token (omega arith) refl refl e))
+      (give_got (At Unary))))
   complete (unary_primary {a = a} {e = x} h) t rest e = complete h t rest (ends_lower Unary Primary x t.token (omega arith) e)
   complete (unary_tail {a = a} {e = x} h) t rest e = complete h t rest (ends_lower Unary Tail x t.token (omega arith) e)
   complete (primary_place {a = a} {s = s} {v = v} h) t rest e =
@@ -470,137 +558,207 @@ mutual
   complete (primary_sequence {a = a} {es = es} l r d h f) t rest e =
       subst (λ w. Reaches Unary (l ∷ w) (Seq (joined l.span r.span) es) (t ∷ rest)) (sym (append_assoc a (r ∷ []) (t ∷ rest)))
       (by_first l (token.Sign LeftParen) (a ++ r ∷ t ∷ rest) _ d (λ s. refl)
-      (want_got (At Unary) d (call_got (At Unary) (Listed Semicolon (OfSign RightParen)) (any_reaches h (omega arith) (OfSign RightParen) by_paren (λ q. cc) r (t ∷ rest) f) (give_got (At Unary)))))
+      (want_got (At Unary) d (call_got (At Unary) (Listed Semicolon (OfSign RightParen))
+      (any_reaches h (omega arith) (OfSign RightParen) by_paren (λ q. cc) r (t ∷ rest) f) (give_got (At Unary)))))
   complete (primary_call {a = a} {es = es} q l r {f = x} i d h f) t rest e =
       subst (λ w. Reaches Unary (q ∷ l ∷ w) (Call (joined q.span r.span) x es) (t ∷ rest)) (sym (append_assoc a (r ∷ []) (t ∷ rest)))
       (subst (λ s. Reaches Unary (q ∷ l ∷ (a ++ r ∷ t ∷ rest)) (Call (joined s r.span) x es) (t ∷ rest)) (sym i.span)
       (by_name q x (l ∷ (a ++ r ∷ t ∷ rest)) _ i
-      (split_yes (At Unary) d (call_got (At Unary) (Listed Comma (OfSign RightParen)) (any_reaches h (omega arith) (OfSign RightParen) by_paren (λ q. cc) r (t ∷ rest) f) (give_got (At Unary))))))
+      (split_yes (At Unary) d (call_got (At Unary) (Listed Comma (OfSign RightParen))
+      (any_reaches h (omega arith) (OfSign RightParen) by_paren (λ q. cc) r (t ∷ rest) f) (give_got (At Unary))))))
   complete (primary_record {a = a} {is = is} q l r {x = x} i d h f) t rest e =
       subst (λ w. Reaches Unary (q ∷ l ∷ w) (Make (joined q.span r.span) x is) (t ∷ rest)) (sym (append_assoc a (r ∷ []) (t ∷ rest)))
       (subst (λ s. Reaches Unary (q ∷ l ∷ (a ++ r ∷ t ∷ rest)) (Make (joined s r.span) x is) (t ∷ rest)) (sym i.span)
       (by_name q x (l ∷ (a ++ r ∷ t ∷ rest)) _ i
-      (split_no (At Unary) (is_sign_not d (λ q. cc)) (split_yes (At Unary) d (call_got (At Unary) ListedInits (any_inits_reach h r (t ∷ rest) f) (give_got (At Unary)))))))
+      (split_no (At Unary) (is_sign_not d (λ q. cc))
+      (split_yes (At Unary) d (call_got (At Unary) ListedInits (any_inits_reach h r (t ∷ rest) f) (give_got (At Unary)))))))
   complete (primary_let {a = a} {b = b} {ds = ds} {es = es} q i l d h f g k) t rest e =
-      subst (λ w. Reaches Unary (q ∷ w) (Let (joined q.span l.span) ds es) (t ∷ rest)) (sym (append_assoc a (i ∷ (b ++ l ∷ [])) (t ∷ rest) ∙ ap (λ w. a ++ i ∷ w) (append_assoc b (l ∷ []) (t ∷ rest))))
+      subst (λ w. Reaches Unary (q ∷ w) (Let (joined q.span l.span) ds es) (t ∷ rest))
+      (sym (append_assoc a (i ∷ (b ++ l ∷ [])) (t ∷ rest) ∙ ap (λ w. a ++ i ∷ w) (append_assoc b (l ∷ []) (t ∷ rest))))
       (by_first q (token.Word WLet) (a ++ i ∷ (b ++ l ∷ t ∷ rest)) _ d (λ s. refl)
       (want_got (At Unary) d (call_got (At Unary) (MoreDecs no_decs)
-      (decs_reach h i (b ++ l ∷ t ∷ rest) (free_is i.token (token.Word WIn) f (omega arith) (λ z. cc)) ds (i ∷ (b ++ l ∷ t ∷ rest)) (decs_stop ds i (b ++ l ∷ t ∷ rest) f))
-      (want_got (At Unary) f (call_got (At Unary) (Listed Semicolon (OfWord WEnd)) (any_reaches g (omega arith) (OfWord WEnd) by_end (λ q. cc) l (t ∷ rest) k) (give_got (At Unary)))))))
+      (decs_reach h i (b ++ l ∷ t ∷ rest) (free_is i.token (token.Word WIn) f (omega arith) (λ z. cc)) ds
+      (i ∷ (b ++ l ∷ t ∷ rest)) (decs_stop ds i (b ++ l ∷ t ∷ rest) f))
+      (want_got (At Unary) f (call_got (At Unary) (Listed Semicolon (OfWord WEnd))
+      (any_reaches g (omega arith) (OfWord WEnd) by_end (λ q. cc) l (t ∷ rest) k) (give_got (At Unary)))))))
   complete (tail_then {a = a} {b = b} {c = c} {x = x} q u d h f g) t rest e =
       subst (λ w. Reaches Unary (q ∷ w) (When (joined q.span (span_of x)) c x) (t ∷ rest)) (sym (append_assoc a (u ∷ b) (t ∷ rest)))
       (by_first q (token.Word WIf) (a ++ u ∷ (b ++ t ∷ rest)) _ d (λ s. refl)
       (want_got (At Unary) d (call_got (At Unary) (At Whole) (complete h u (b ++ t ∷ rest) (ends_mark c u.token (token.Word WThen) f (omega arith) (λ z. cc)))
-      (want_got (At Unary) f (call_got (At Unary) (At Whole) (complete g t rest (record { weak = e.tail refl; tail = λ _. e.tail refl; no_else = λ _. e.no_else refl }))
-      (by_test (is_short x) (λ z. test_yes (At Unary) z (give_got (At Unary))) (λ z. test_no (At Unary) z (split_no (At Unary) (e.no_else refl) (give_got (At Unary))))))))))
+      (want_got (At Unary) f
+      (call_got (At Unary) (At Whole) (complete g t rest (record { weak = e.tail refl; tail = λ _. e.tail refl; no_else = λ _. e.no_else refl }))
+      (by_test (is_short x) (λ z. test_yes (At Unary) z (give_got (At Unary)))
+      (λ z. test_no (At Unary) z (split_no (At Unary) (e.no_else refl) (give_got (At Unary))))))))))
   complete (tail_else {a = a} {b = b} {d = p} {c = c} {x = x} {y = y} q u w d h f g n m k) t rest e =
-      subst (λ w. Reaches Unary (q ∷ w) (If (joined q.span (span_of y)) c x y) (t ∷ rest)) (sym (append_assoc a (u ∷ (b ++ w ∷ p)) (t ∷ rest) ∙ ap (λ z. a ++ u ∷ z) (append_assoc b (w ∷ p) (t ∷ rest))))
+      subst (λ w. Reaches Unary (q ∷ w) (If (joined q.span (span_of y)) c x y) (t ∷ rest))
+      (sym (append_assoc a (u ∷ (b ++ w ∷ p)) (t ∷ rest) ∙ ap (λ z. a ++ u ∷ z) (append_assoc b (w ∷ p) (t ∷ rest))))
       (by_first q (token.Word WIf) (a ++ u ∷ (b ++ w ∷ (p ++ t ∷ rest))) _ d (λ s. refl)
-      (want_got (At Unary) d (call_got (At Unary) (At Whole) (complete h u (b ++ w ∷ (p ++ t ∷ rest)) (ends_mark c u.token (token.Word WThen) f (omega arith) (λ z. cc)))
-      (want_got (At Unary) f (call_got (At Unary) (At Whole) (complete g w (p ++ t ∷ rest) (let z : strength w.token ≡ 0 = ap strength m in record { weak = omega arith; tail = λ _. omega arith; no_else = λ q _. clash q n }))
-      (test_no (At Unary) n (split_yes (At Unary) m (call_got (At Unary) (At Whole) (complete k t rest (ends_last Tail (If (joined q.span (span_of y)) c x y) y t.token refl refl e)) (give_got (At Unary))))))))))
+      (want_got (At Unary) d
+      (call_got (At Unary) (At Whole) (complete h u (b ++ w ∷ (p ++ t ∷ rest)) (ends_mark c u.token (token.Word WThen) f (omega arith) (λ z. cc)))
+      (want_got (At Unary) f
+      (call_got (At Unary) (At Whole)
+      (complete g w (p ++ t ∷ rest) (let z : strength w.token ≡ 0 = ap strength m in record {
+        weak = omega arith;
+        tail = λ _. omega arith;
+        no_else = λ q _. clash q n;
+      }))
+      (test_no (At Unary) n
+      (split_yes (At Unary) m
+      (call_got (At Unary) (At Whole) (complete k t rest (ends_last Tail (If (joined q.span (span_of y)) c x y) y t.token refl refl e))
+      (give_got (At Unary))))))))))
   complete (tail_while {a = a} {b = b} {c = c} {x = x} q u d h f g) t rest e =
       subst (λ w. Reaches Unary (q ∷ w) (While (joined q.span (span_of x)) c x) (t ∷ rest)) (sym (append_assoc a (u ∷ b) (t ∷ rest)))
       (by_first q (token.Word WWhile) (a ++ u ∷ (b ++ t ∷ rest)) _ d (λ s. refl)
       (want_got (At Unary) d (call_got (At Unary) (At Whole) (complete h u (b ++ t ∷ rest) (ends_mark c u.token (token.Word WDo) f (omega arith) (λ z. cc)))
-      (want_got (At Unary) f (call_got (At Unary) (At Whole) (complete g t rest (ends_last Tail (While (joined q.span (span_of x)) c x) x t.token refl refl e)) (give_got (At Unary)))))))
+      (want_got (At Unary) f
+      (call_got (At Unary) (At Whole) (complete g t rest (ends_last Tail (While (joined q.span (span_of x)) c x) x t.token refl refl e))
+      (give_got (At Unary)))))))
   complete (tail_for {a = a} {b = b} {d = p} {low = low} {high = high} {x = x} q i m u w {v = v} d j f h g k n l) t rest e =
-      subst (λ w. Reaches Unary (q ∷ i ∷ m ∷ w) (For (joined q.span (span_of x)) v low high x) (t ∷ rest)) (sym (append_assoc a (u ∷ (b ++ w ∷ p)) (t ∷ rest) ∙ ap (λ z. a ++ u ∷ z) (append_assoc b (w ∷ p) (t ∷ rest))))
+      subst (λ w. Reaches Unary (q ∷ i ∷ m ∷ w) (For (joined q.span (span_of x)) v low high x) (t ∷ rest))
+      (sym (append_assoc a (u ∷ (b ++ w ∷ p)) (t ∷ rest) ∙ ap (λ z. a ++ u ∷ z) (append_assoc b (w ∷ p) (t ∷ rest))))
       (by_first q (token.Word WFor) (i ∷ m ∷ (a ++ u ∷ (b ++ w ∷ (p ++ t ∷ rest)))) _ d (λ s. refl)
-      (want_got (At Unary) d (name_got (At Unary) j (want_got (At Unary) f (call_got (At Unary) (At Whole) (complete h u (b ++ w ∷ (p ++ t ∷ rest)) (ends_mark low u.token (token.Word WTo) g (omega arith) (λ z. cc)))
+      (want_got (At Unary) d
+      (name_got (At Unary) j
+      (want_got (At Unary) f
+      (call_got (At Unary) (At Whole) (complete h u (b ++ w ∷ (p ++ t ∷ rest)) (ends_mark low u.token (token.Word WTo) g (omega arith) (λ z. cc)))
       (want_got (At Unary) g (call_got (At Unary) (At Whole) (complete k w (p ++ t ∷ rest) (ends_mark high w.token (token.Word WDo) n (omega arith) (λ z. cc)))
-      (want_got (At Unary) n (call_got (At Unary) (At Whole) (complete l t rest (ends_last Tail (For (joined q.span (span_of x)) v low high x) x t.token refl refl e)) (give_got (At Unary)))))))))))
+      (want_got (At Unary) n
+      (call_got (At Unary) (At Whole) (complete l t rest (ends_last Tail (For (joined q.span (span_of x)) v low high x) x t.token refl refl e))
+      (give_got (At Unary)))))))))))
   complete (tail_fill {a = a} {b = b} {n = n} {x = x} q l r o {k = k} i d h f w g) t rest e =
       subst (λ w. Reaches Unary (q ∷ l ∷ w) (Fill (joined q.span (span_of x)) k n x) (t ∷ rest)) (sym (append_assoc a (r ∷ o ∷ b) (t ∷ rest)))
       (subst (λ s. Reaches Unary (q ∷ l ∷ (a ++ r ∷ o ∷ (b ++ t ∷ rest))) (Fill (joined s (span_of x)) k n x) (t ∷ rest)) (sym i.span)
       (by_name q k (l ∷ (a ++ r ∷ o ∷ (b ++ t ∷ rest))) _ i
       (split_no (At Unary) (is_sign_not d (λ q. cc)) (split_no (At Unary) (is_sign_not d (λ q. cc)) (split_yes (At Unary) d
       (call_got (At Unary) (At Whole) (complete h r (o ∷ (b ++ t ∷ rest)) (ends_mark n r.token (token.Sign RightBracket) f (omega arith) (λ z. cc)))
-      (want_got (At Unary) f (split_yes (At Unary) w (call_got (At Unary) (At Whole) (complete g t rest (ends_last Tail (Fill (joined q.span (span_of x)) k n x) x t.token refl refl e)) (give_got (At Unary)))))))))))
+      (want_got (At Unary) f
+      (split_yes (At Unary) w
+      (call_got (At Unary) (At Whole) (complete g t rest (ends_last Tail (Fill (joined q.span (span_of x)) k n x) x t.token refl refl e))
+      (give_got (At Unary)))))))))))
 
-  reaches : {k : Level} {u : List Spanned} {l : Exp} → Reads k u l → IsChain k → (t : Spanned) (rest : List Spanned) → Ends (below k) l t.token → (e : Exp) (z : List Spanned) → Follows k l (t ∷ rest) e z → Reaches k (u ++ t ∷ rest) e z
+  reaches : {k : Level} {u : List Spanned} {l : Exp} → Reads k u l → IsChain k → (t : Spanned) (rest : List Spanned) →
+      Ends (below k) l t.token → (e : Exp) (z : List Spanned) → Follows k l (t ∷ rest) e z → Reaches k (u ++ t ∷ rest) e z
   reaches (or_up {a = a} {e = x} h) c t rest n e z d = up Disjunction tt (a ++ t ∷ rest) x (t ∷ rest) e z (complete h t rest n) d
   reaches (or_more {a = a} {b = b} s {o = o} {l = l} {r = r} h n q g) c t rest m e z d =
       moved a s b (t ∷ rest) (reaches h tt s (b ++ t ∷ rest) (ends_left Disjunction Conjunction l s.token o (omega arith) (omega arith) n q) e z
-      (more Disjunction l r s o (b ++ t ∷ rest) (t ∷ rest) e z n q (complete g t rest (ends_right Conjunction Conjunction (binary o s.span.from l r) r t.token (omega arith) refl refl m)) d))
+      (more Disjunction l r s o (b ++ t ∷ rest) (t ∷ rest) e z n q
+      (complete g t rest (ends_right Conjunction Conjunction (binary o s.span.from l r) r t.token (omega arith) refl refl m)) d))
   reaches (and_up {a = a} {e = x} h) c t rest n e z d = up Conjunction tt (a ++ t ∷ rest) x (t ∷ rest) e z (complete h t rest n) d
   reaches (and_more {a = a} {b = b} s {o = o} {l = l} {r = r} h n q g) c t rest m e z d =
       moved a s b (t ∷ rest) (reaches h tt s (b ++ t ∷ rest) (ends_left Conjunction Comparison l s.token o (omega arith) (omega arith) n q) e z
-      (more Conjunction l r s o (b ++ t ∷ rest) (t ∷ rest) e z n q (complete g t rest (ends_right Comparison Comparison (binary o s.span.from l r) r t.token (omega arith) refl refl m)) d))
+      (more Conjunction l r s o (b ++ t ∷ rest) (t ∷ rest) e z n q
+      (complete g t rest (ends_right Comparison Comparison (binary o s.span.from l r) r t.token (omega arith) refl refl m)) d))
   reaches (sum_up {a = a} {e = x} h) c t rest n e z d = up Sum tt (a ++ t ∷ rest) x (t ∷ rest) e z (complete h t rest n) d
   reaches (sum_more {a = a} {b = b} s {o = o} {l = l} {r = r} h n q g) c t rest m e z d =
       moved a s b (t ∷ rest) (reaches h tt s (b ++ t ∷ rest) (ends_left Sum Term l s.token o (omega arith) (omega arith) n q) e z
-      (more Sum l r s o (b ++ t ∷ rest) (t ∷ rest) e z n q (complete g t rest (ends_right Term Term (binary o s.span.from l r) r t.token (omega arith) refl refl m)) d))
+      (more Sum l r s o (b ++ t ∷ rest) (t ∷ rest) e z n q
+      (complete g t rest (ends_right Term Term (binary o s.span.from l r) r t.token (omega arith) refl refl m)) d))
   reaches (term_up {a = a} {e = x} h) c t rest n e z d = up Term tt (a ++ t ∷ rest) x (t ∷ rest) e z (complete h t rest n) d
   reaches (term_more {a = a} {b = b} s {o = o} {l = l} {r = r} h n q g) c t rest m e z d =
       moved a s b (t ∷ rest) (reaches h tt s (b ++ t ∷ rest) (ends_left Term Unary l s.token o (omega arith) (omega arith) n q) e z
-      (more Term l r s o (b ++ t ∷ rest) (t ∷ rest) e z n q (complete g t rest (ends_right Unary Unary (binary o s.span.from l r) r t.token (omega arith) refl refl m)) d))
+      (more Term l r s o (b ++ t ∷ rest) (t ∷ rest) e z n q
+      (complete g t rest (ends_right Unary Unary (binary o s.span.from l r) r t.token (omega arith) refl refl m)) d))
   reaches _ c t rest n e z d = absurd c
 
-  place_reaches : {u : List Spanned} {s : Span} {v : LValue} → IsPlace u s v → (t : Spanned) (rest : List Spanned) → strength t.token ≤ limit v → (e : Span × LValue) (z : List Spanned) → Does (Suffix s v) (suffixes s v) (t ∷ rest) (Got e z) → Reaches Unary (u ++ t ∷ rest) (reading e) z
-  place_reaches (place_simple q {x = x} h) t rest n e z d = by_name q x (t ∷ rest) (Got (reading e) z) h (naming_other x t rest e z n (subst (λ s. Does (Suffix s (Simple x)) (suffixes s (Simple x)) (t ∷ rest) (Got e z)) h.span d))
+  place_reaches : {u : List Spanned} {s : Span} {v : LValue} → IsPlace u s v → (t : Spanned) (rest : List Spanned) →
+      strength t.token ≤ limit v → (e : Span × LValue) (z : List Spanned) → Does (Suffix s v) (suffixes s v) (t ∷ rest) (Got e z) →
+      Reaches Unary (u ++ t ∷ rest) (reading e) z
+  place_reaches (place_simple q {x = x} h) t rest n e z d = by_name q x (t ∷ rest) (Got (reading e) z) h
+      (naming_other x t rest e z n (subst (λ s. Does (Suffix s (Simple x)) (suffixes s (Simple x)) (t ∷ rest) (Got e z)) h.span d))
   place_reaches (place_field {a = a} {s = s} {v = v} q i {x = x} h f g) t rest n e z d =
       moved a q (i ∷ []) (t ∷ rest)
       (place_reaches h q (i ∷ t ∷ rest) (let y : strength q.token ≡ 8 = ap strength f in let w = small v in omega arith) e z
-      (split_yes (Suffix s v) f (name_got (Suffix s v) g (call_got (Suffix s v) (Suffix (joined s x.span) (Field v x)) (subst (λ p. Does (Suffix (joined s p) (Field v x)) (suffixes (joined s p) (Field v x)) (t ∷ rest) (Got e z)) g.span d) (give_got (Suffix s v))))))
+      (split_yes (Suffix s v) f
+      (name_got (Suffix s v) g (call_got (Suffix s v) (Suffix (joined s x.span) (Field v x))
+      (subst (λ p. Does (Suffix (joined s p) (Field v x)) (suffixes (joined s p) (Field v x)) (t ∷ rest) (Got e z)) g.span d) (give_got (Suffix s v))))))
   place_reaches (place_index {a = a} {b = b} {s = s} {v = v} {e = x} l r h f g k) t rest n e z d =
       let inner : Reaches Whole (b ++ r ∷ t ∷ rest) x (r ∷ t ∷ rest) = complete g r (t ∷ rest) (ends_mark x r.token (token.Sign RightBracket) k (omega arith) (λ y. cc)) in
-      subst (λ w. Reaches Unary w (reading e) z) (sym (append_assoc a (l ∷ (b ++ r ∷ [])) (t ∷ rest) ∙ ap (λ w. a ++ l ∷ w) (append_assoc b (r ∷ []) (t ∷ rest))))
+      subst (λ w. Reaches Unary w (reading e) z)
+      (sym (append_assoc a (l ∷ (b ++ r ∷ [])) (t ∷ rest) ∙ ap (λ w. a ++ l ∷ w) (append_assoc b (r ∷ []) (t ∷ rest))))
       (place_or_name v
       (λ y q. simple_is y h q (λ i j ea es. subst (λ w. Reaches Unary (w ++ l ∷ (b ++ r ∷ t ∷ rest)) (reading e) z) (sym ea)
       (by_name i y (l ∷ (b ++ r ∷ t ∷ rest)) _ j (bracketed y l r (b ++ r ∷ t ∷ rest) x t rest e z f k inner n
       (subst (λ p. Does (Suffix (joined p r.span) (Index (Simple y) x)) (suffixes (joined p r.span) (Index (Simple y) x)) (t ∷ rest) (Got e z)) es
       (subst (λ p. Does (Suffix (joined s r.span) (Index p x)) (suffixes (joined s r.span) (Index p x)) (t ∷ rest) (Got e z)) q d))))))
       (λ q. place_reaches h l (b ++ r ∷ t ∷ rest) (let y : strength l.token ≡ 9 = ap strength f in omega arith) e z
-      (split_no (Suffix s v) (is_sign_not f (λ y. cc)) (split_yes (Suffix s v) f (call_got (Suffix s v) (At Whole) inner (want_got (Suffix s v) k (call_got (Suffix s v) (Suffix (joined s r.span) (Index v x)) d (give_got (Suffix s v)))))))))
+      (split_no (Suffix s v) (is_sign_not f (λ y. cc))
+      (split_yes (Suffix s v) f
+      (call_got (Suffix s v) (At Whole) inner
+      (want_got (Suffix s v) k (call_got (Suffix s v) (Suffix (joined s r.span) (Index v x)) d (give_got (Suffix s v)))))))))
 
-  many_start : {m : Sign} {a : List Spanned} {es : Exps} → AreMany m a es → strength_sign m < 1 → (t : Spanned) (rest : List Spanned) → Free t.token → (y : Exps) (z : List Spanned) → Does (Items m es) (items m es) (t ∷ rest) (Got y z) → Started m (a ++ t ∷ rest) y z
+  many_start : {m : Sign} {a : List Spanned} {es : Exps} → AreMany m a es → strength_sign m < 1 → (t : Spanned) (rest : List Spanned) →
+      Free t.token → (y : Exps) (z : List Spanned) → Does (Items m es) (items m es) (t ∷ rest) (Got y z) → Started m (a ++ t ∷ rest) y z
   many_start (many_one {e = x} h) n t rest f y z d = record { one = x; behind = t ∷ rest; first = complete h t rest (ends_free x t.token f); rest = d }
   many_start (many_more {s = m} {a = a} {b = b} {es = es} {e = x} q h g k) n t rest f y z d =
       subst (λ w. Started m w y z) (sym (append_assoc a (q ∷ b) (t ∷ rest)))
       (many_start h n q (b ++ t ∷ rest) (free_is q.token (token.Sign m) g n (λ w. cc)) y z
-      (split_yes (Items m es) g (call_got (Items m es) (At Whole) (complete k t rest (ends_free x t.token f)) (call_got (Items m es) (Items m (snoc es x)) d (give_got (Items m es))))))
+      (split_yes (Items m es) g (call_got (Items m es) (At Whole) (complete k t rest (ends_free x t.token f))
+      (call_got (Items m es) (Items m (snoc es x)) d (give_got (Items m es))))))
 
-  any_reaches : {m : Sign} {a : List Spanned} {es : Exps} → AreAny m a es → strength_sign m < 1 → (c : Mark) → Closes c → (token_of c ≡ token.Sign m → ⊥) → (t : Spanned) (rest : List Spanned) → t.token ≡ token_of c → Does (Listed m c) (listed m c) (a ++ t ∷ rest) (Got (es, t.span) rest)
+  any_reaches : {m : Sign} {a : List Spanned} {es : Exps} → AreAny m a es → strength_sign m < 1 → (c : Mark) → Closes c →
+      (token_of c ≡ token.Sign m → ⊥) → (t : Spanned) (rest : List Spanned) → t.token ≡ token_of c →
+      Does (Listed m c) (listed m c) (a ++ t ∷ rest) (Got (es, t.span) rest)
   any_reaches (any_none {s = m}) n c k o t rest q = split_yes (Listed m c) q (give_got (Listed m c))
   any_reaches (any_many {s = m} {a = a} {es = es} h) n c k o t rest q =
-      closed m c k (a ++ t ∷ rest) es t rest q (many_start h n t rest (free_is t.token (token_of c) q k.weak k.no_else) es (t ∷ rest) (items_stop m es t rest (λ e. o (sym q ∙ e))))
+      closed m c k (a ++ t ∷ rest) es t rest q (many_start h n t rest (free_is t.token (token_of c) q k.weak k.no_else)
+      es (t ∷ rest) (items_stop m es t rest (λ e. o (sym q ∙ e))))
 
-  inits_start : {a : List Spanned} {is : Inits} → AreInits a is → (t : Spanned) (rest : List Spanned) → Free t.token → (y : Inits) (z : List Spanned) → Does (MoreInits is) (more_inits_steps is) (t ∷ rest) (Got y z) → StartedInits (a ++ t ∷ rest) y z
-  inits_start (one_init {a = a} {e = e} t q {x = x} h d g) u rest f y z r = record { one = (x, e); behind = u ∷ rest; first = one_init_is t q (a ++ u ∷ rest) (u ∷ rest) h d (complete g u rest (ends_free e u.token f)); rest = r }
+  inits_start : {a : List Spanned} {is : Inits} → AreInits a is → (t : Spanned) (rest : List Spanned) → Free t.token →
+      (y : Inits) (z : List Spanned) → Does (MoreInits is) (more_inits_steps is) (t ∷ rest) (Got y z) → StartedInits (a ++ t ∷ rest) y z
+  inits_start (one_init {a = a} {e = e} t q {x = x} h d g) u rest f y z r = record {
+    one = (x, e);
+    behind = u ∷ rest;
+    first = one_init_is t q (a ++ u ∷ rest) (u ∷ rest) h d (complete g u rest (ends_free e u.token f));
+    rest = r;
+  }
   inits_start (more_inits {a = a} {b = b} {is = is} {e = e} m t q {x = x} h k i d g) u rest f y z r =
       subst (λ w. StartedInits w y z) (sym (append_assoc a (m ∷ t ∷ q ∷ b) (u ∷ rest)))
       (inits_start h m (t ∷ q ∷ (b ++ u ∷ rest)) (free_is m.token (token.Sign Comma) k (omega arith) (λ w. cc)) y z
-      (split_yes (MoreInits is) k (call_got (MoreInits is) OneInit (one_init_is t q (b ++ u ∷ rest) (u ∷ rest) i d (complete g u rest (ends_free e u.token f))) (call_got (MoreInits is) (MoreInits (snoc_init is x e)) r (give_got (MoreInits is))))))
+      (split_yes (MoreInits is) k
+      (call_got (MoreInits is) OneInit (one_init_is t q (b ++ u ∷ rest) (u ∷ rest) i d (complete g u rest (ends_free e u.token f)))
+      (call_got (MoreInits is) (MoreInits (snoc_init is x e)) r (give_got (MoreInits is))))))
 
-  any_inits_reach : {a : List Spanned} {is : Inits} → AreAnyInits a is → (t : Spanned) (rest : List Spanned) → IsSign t RightBrace → Does ListedInits listed_inits (a ++ t ∷ rest) (Got (is, t.span) rest)
+  any_inits_reach : {a : List Spanned} {is : Inits} → AreAnyInits a is → (t : Spanned) (rest : List Spanned) →
+      IsSign t RightBrace → Does ListedInits listed_inits (a ++ t ∷ rest) (Got (is, t.span) rest)
   any_inits_reach any_no_inits t rest q = split_yes ListedInits q (give_got ListedInits)
   any_inits_reach (any_inits {a = a} {is = is} h) t rest q =
-      inits_close (a ++ t ∷ rest) is t rest q (inits_start h t rest (free_is t.token (token.Sign RightBrace) q (omega arith) (λ w. cc)) is (t ∷ rest) (split_no (MoreInits is) (is_sign_not q (λ w. cc)) (give_got (MoreInits is))))
+      inits_close (a ++ t ∷ rest) is t rest q (inits_start h t rest (free_is t.token (token.Sign RightBrace) q (omega arith) (λ w. cc))
+      is (t ∷ rest) (split_no (MoreInits is) (is_sign_not q (λ w. cc)) (give_got (MoreInits is))))
 
-  decs_reach : {a : List Spanned} {ds : Decs} → AreDecs a ds → (t : Spanned) (rest : List Spanned) → Free t.token → (y : Decs) (z : List Spanned) → Does (MoreDecs ds) (more_decs ds) (t ∷ rest) (Got y z) → Does (MoreDecs no_decs) (more_decs no_decs) (a ++ t ∷ rest) (Got y z)
+  decs_reach : {a : List Spanned} {ds : Decs} → AreDecs a ds → (t : Spanned) (rest : List Spanned) → Free t.token →
+      (y : Decs) (z : List Spanned) → Does (MoreDecs ds) (more_decs ds) (t ∷ rest) (Got y z) →
+      Does (MoreDecs no_decs) (more_decs no_decs) (a ++ t ∷ rest) (Got y z)
   decs_reach decs_none t rest f y z r = r
   decs_reach (decs_more {a = a} {ds = ds} h (dec_type {a = b} {f = w} q i d {x = x} g k l n)) t rest f y z r =
       moved a q (i ∷ d ∷ b) (t ∷ rest) (decs_reach h q (i ∷ d ∷ (b ++ t ∷ rest)) (free_is q.token (token.Word WType) g (omega arith) (λ w. cc)) y z
-      (split_yes (MoreDecs ds) g (call_got (MoreDecs ds) TypeDec (name_got TypeDec k (want_got TypeDec l (call_got TypeDec OneForm (form n (t ∷ rest)) (give_got TypeDec))))
+      (split_yes (MoreDecs ds) g
+      (call_got (MoreDecs ds) TypeDec (name_got TypeDec k (want_got TypeDec l (call_got TypeDec OneForm (form n (t ∷ rest)) (give_got TypeDec))))
       (call_got (MoreDecs ds) (MoreDecs (snoc_dec ds (one_type (record { name = x; form = w })))) r (give_got (MoreDecs ds))))))
   decs_reach (decs_more {a = a} {ds = ds} h (dec_variable {a = b} {b = p} {k = ty} {e = e} q i d {x = x} g k l n m)) t rest f y z r =
-      subst (λ w. Does (MoreDecs no_decs) (more_decs no_decs) w (Got y z)) (sym (append_assoc a (q ∷ i ∷ (b ++ d ∷ p)) (t ∷ rest) ∙ ap (λ w. a ++ q ∷ i ∷ w) (append_assoc b (d ∷ p) (t ∷ rest))))
+      subst (λ w. Does (MoreDecs no_decs) (more_decs no_decs) w (Got y z))
+      (sym (append_assoc a (q ∷ i ∷ (b ++ d ∷ p)) (t ∷ rest) ∙ ap (λ w. a ++ q ∷ i ∷ w) (append_assoc b (d ∷ p) (t ∷ rest))))
       (decs_reach h q (i ∷ (b ++ d ∷ (p ++ t ∷ rest))) (free_is q.token (token.Word WVar) g (omega arith) (λ w. cc)) y z
       (split_no (MoreDecs ds) (word_not g (λ w. cc)) (split_yes (MoreDecs ds) g (call_got (MoreDecs ds) VarDec
-      (name_got VarDec k (call_got VarDec Annotation (annotated_is l d (p ++ t ∷ rest) (is_sign_not n (λ w. cc))) (want_got VarDec n (call_got VarDec (At Whole) (complete m t rest (ends_free e t.token f)) (give_got VarDec)))))
+      (name_got VarDec k (call_got VarDec Annotation (annotated_is l d (p ++ t ∷ rest) (is_sign_not n (λ w. cc)))
+      (want_got VarDec n (call_got VarDec (At Whole) (complete m t rest (ends_free e t.token f)) (give_got VarDec)))))
       (call_got (MoreDecs ds) (MoreDecs (snoc_dec ds (one_variable x ty e))) r (give_got (MoreDecs ds)))))))
-  decs_reach (decs_more {a = a} {ds = ds} h (dec_function {a = b} {b = p} {d = o} {ps = ps} {k = ty} {e = e} q i l r' d {f = x} g k n j s u v m)) t rest f y z r =
-      subst (λ w. Does (MoreDecs no_decs) (more_decs no_decs) w (Got y z)) (sym (append_assoc a (q ∷ i ∷ l ∷ (b ++ r' ∷ (p ++ d ∷ o))) (t ∷ rest) ∙ ap (λ w. a ++ q ∷ i ∷ l ∷ w) (append_assoc b (r' ∷ (p ++ d ∷ o)) (t ∷ rest) ∙ ap (λ w. b ++ r' ∷ w) (append_assoc p (d ∷ o) (t ∷ rest)))))
+  decs_reach (decs_more {a = a} {ds = ds} h (dec_function {a = b} {b = p} {d = o} {ps = ps} {k = ty} {e = e} q i l r' d {f = x} g k n j s u v m))
+      t rest f y z r =
+      subst (λ w. Does (MoreDecs no_decs) (more_decs no_decs) w (Got y z))
+      (sym (append_assoc a (q ∷ i ∷ l ∷ (b ++ r' ∷ (p ++ d ∷ o))) (t ∷ rest)
+      ∙ ap (λ w. a ++ q ∷ i ∷ l ∷ w) (append_assoc b (r' ∷ (p ++ d ∷ o)) (t ∷ rest) ∙ ap (λ w. b ++ r' ∷ w) (append_assoc p (d ∷ o) (t ∷ rest)))))
       (decs_reach h q (i ∷ l ∷ (b ++ r' ∷ (p ++ d ∷ (o ++ t ∷ rest)))) (free_is q.token (token.Word WFunction) g (omega arith) (λ w. cc)) y z
       (split_no (MoreDecs ds) (word_not g (λ w. cc)) (split_no (MoreDecs ds) (word_not g (λ w. cc)) (split_yes (MoreDecs ds) g (call_got (MoreDecs ds) FunDec
-      (name_got FunDec k (want_got FunDec n (call_got FunDec (ListedParams (OfSign RightParen)) (params j (OfSign RightParen) paren_closes r' (p ++ d ∷ (o ++ t ∷ rest)) s)
-      (call_got FunDec Annotation (annotated_is u d (o ++ t ∷ rest) (is_sign_not v (λ w. cc))) (want_got FunDec v (call_got FunDec (At Whole) (complete m t rest (ends_free e t.token f)) (give_got FunDec)))))))
+      (name_got FunDec k (want_got FunDec n (call_got FunDec (ListedParams (OfSign RightParen))
+      (params j (OfSign RightParen) paren_closes r' (p ++ d ∷ (o ++ t ∷ rest)) s)
+      (call_got FunDec Annotation (annotated_is u d (o ++ t ∷ rest) (is_sign_not v (λ w. cc)))
+      (want_got FunDec v (call_got FunDec (At Whole) (complete m t rest (ends_free e t.token f)) (give_got FunDec)))))))
       (call_got (MoreDecs ds) (MoreDecs (snoc_dec ds (one_function x ps ty e))) r (give_got (MoreDecs ds))))))))
 
 -- a program is read
 pub complete_program : (ts : List Spanned) (e : Exp) → IsProgram ts e → Does Whole_program whole_program ts (Got e [])
-complete_program ts e (program t h q) = call_got Whole_program (At Whole) (complete h t [] (ends_mark e t.token token.End q (omega arith) (λ z. cc))) (want_got Whole_program q (give_got Whole_program))
+complete_program ts e (program t h q) = call_got Whole_program (At Whole) (complete h t [] (ends_mark e t.token token.End q (omega arith) (λ z. cc)))
+    (want_got Whole_program q (give_got Whole_program))
 
 -- each list has at most one tree
 pub one_tree : (ts : List Spanned) (a b : Exp) → IsProgram ts a → IsProgram ts b → a ≡ b

@@ -4,7 +4,10 @@ use Rattle.tg_base.specs.declared.ids.Span.{Span}
 use Rattle.tg_syntax.specs.declared.tokens.Spanned.{Spanned}
 use Rattle.tg_syntax.specs.Tree.{Exp, LValue}
 use Rattle.tg_syntax.specs.Spans.{span_of, joined}
-use Rattle.tg_syntax.specs.Grammar.{Level, Reads, whole_assign, whole_up, or_up, or_more, and_up, and_more, cmp_up, cmp_two, sum_up, sum_more, term_up, term_more, unary_minus, unary_primary, unary_tail, primary_place, primary_nil, primary_int, primary_text, primary_break, primary_sequence, primary_call, primary_record, primary_let, tail_then, tail_else, tail_while, tail_for, tail_fill, IsPlace, place_simple, place_field, place_index}
+use Rattle.tg_syntax.specs.Grammar.{Level, Reads, whole_assign, whole_up, or_up, or_more, and_up, and_more, cmp_up, cmp_two, sum_up, sum_more}
+use Rattle.tg_syntax.specs.Grammar.{term_up, term_more, unary_minus, unary_primary, unary_tail, primary_place, primary_nil, primary_int, primary_text}
+use Rattle.tg_syntax.specs.Grammar.{primary_break, primary_sequence, primary_call, primary_record, primary_let, tail_then, tail_else, tail_while}
+use Rattle.tg_syntax.specs.Grammar.{tail_for, tail_fill, IsPlace, place_simple, place_field, place_index}
 use Rattle.tg_grammar.specs.Places.{IsSpanOf}
 
 alone : (t : Spanned) → IsSpanOf t.span (t ∷ [])
@@ -57,9 +60,11 @@ mutual
   span_of-Reads (primary_record {a} t l r i j is k) = closed t (l ∷ a) r
   span_of-Reads (primary_let {a} {b} t i e h ds j es k) = rw (← append_assoc a (i ∷ b) (e ∷ [])) (closed t (a ++ i ∷ b) e)
   span_of-Reads (tail_then {a} t u i c j x) = rw (← append_assoc a (u ∷ []) _) (between t (a ++ u ∷ []) (span_of-Reads x))
-  span_of-Reads (tail_else {a} {b} {d} t u w i c j x n k y) = rw (← append_assoc b (w ∷ []) d, ← append_assoc a (u ∷ (b ++ w ∷ [])) d) (between t (a ++ u ∷ (b ++ w ∷ [])) (span_of-Reads y))
+  span_of-Reads (tail_else {a} {b} {d} t u w i c j x n k y) = rw (← append_assoc b (w ∷ []) d, ← append_assoc a (u ∷ (b ++ w ∷ [])) d)
+      (between t (a ++ u ∷ (b ++ w ∷ [])) (span_of-Reads y))
   span_of-Reads (tail_while {a} t u i c j x) = rw (← append_assoc a (u ∷ []) _) (between t (a ++ u ∷ []) (span_of-Reads x))
-  span_of-Reads (tail_for {a} {b} {d} t i g u w h j k l m n o x) = rw (← append_assoc b (w ∷ []) d, ← append_assoc a (u ∷ (b ++ w ∷ [])) d) (between t (i ∷ g ∷ (a ++ u ∷ (b ++ w ∷ []))) (span_of-Reads x))
+  span_of-Reads (tail_for {a} {b} {d} t i g u w h j k l m n o x) = rw (← append_assoc b (w ∷ []) d, ← append_assoc a (u ∷ (b ++ w ∷ [])) d)
+      (between t (i ∷ g ∷ (a ++ u ∷ (b ++ w ∷ []))) (span_of-Reads x))
   span_of-Reads (tail_fill {a} {b} t l r o i j n k m x) = rw (← append_assoc a (r ∷ o ∷ []) b) (between t (l ∷ (a ++ r ∷ o ∷ [])) (span_of-Reads x))
 
   pub span_of-IsPlace : {a : List Spanned} {s : Span} {v : LValue} → IsPlace a s v → IsSpanOf s a

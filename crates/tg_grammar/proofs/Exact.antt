@@ -47,7 +47,9 @@ bad_at ts t us (fine_bad u d l c) =
       front = u;
       whole = d;
       could = record { rest = l.rest; tree = l.tree; is = l.is };
-      cannot = λ b. got_bad (does_one (complete_program (u ++ t ∷ b.rest) b.tree (subst (λ w. IsProgram w b.tree) (append_assoc u (t ∷ []) b.rest) b.is)) (Bad t b.rest) (c b.rest));
+      cannot = λ b. got_bad
+          (does_one (complete_program (u ++ t ∷ b.rest) b.tree (subst (λ w. IsProgram w b.tree) (append_assoc u (t ∷ []) b.rest) b.is))
+          (Bad t b.rest) (c b.rest));
     }
 
 -- what is refused is the first token with which no program can go on

@@ -34,5 +34,6 @@ known (comment inside c r) = known r
 known {names} {at} (one_token bytes one s long not_comment r) =
     (names_give (length names) (spanned one at (at + length bytes)) (spelled names bytes one s), known r)
 
-pub all_named : (names : List (List ℕ)) (text : List ℕ) (tokens : List Spanned) (body : Exp) → Lexes names 0 text tokens → IsProgram tokens body → NamesWithin (length names) body
+pub all_named : (names : List (List ℕ)) (text : List ℕ) (tokens : List Spanned) (body : Exp) → Lexes names 0 text tokens →
+    IsProgram tokens body → NamesWithin (length names) body
 all_named names text tokens body l p = through_program (IsWithin (length names)) AnyByte p (known l)

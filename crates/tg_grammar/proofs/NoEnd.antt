@@ -11,7 +11,14 @@ use Rattle.tg_base.specs.declared.ids.Span.{Span}
 use Rattle.tg_base.specs.declared.ids.Name.{Name}
 use Rattle.tg_syntax.specs.Tree.{Form, Exp, LValue, Exps, Inits, Decs}
 use Rattle.tg_syntax.specs.Groups.{Dec}
-use Rattle.tg_syntax.specs.Grammar.{Level, or_op, and_op, rel_op, sum_op, term_op, IsIdent, AreFields, one_field, more_fields, AreAnyFields, no_fields, some_fields, IsForm, alias, fields, array, IsAnnotation, not_annotated, annotated, Reads, whole_assign, whole_up, or_up, or_more, and_up, and_more, cmp_up, cmp_two, sum_up, sum_more, term_up, term_more, unary_minus, unary_primary, unary_tail, primary_place, primary_nil, primary_int, primary_text, primary_break, primary_sequence, primary_call, primary_record, primary_let, tail_then, tail_else, tail_while, tail_for, tail_fill, IsPlace, place_simple, place_field, place_index, AreMany, many_one, many_more, AreAny, any_none, any_many, AreInits, one_init, more_inits, AreAnyInits, any_no_inits, any_inits, IsDec, dec_type, dec_variable, dec_function, AreDecs, decs_none, decs_more, IsProgram, program}
+use Rattle.tg_syntax.specs.Grammar.{Level, or_op, and_op, rel_op, sum_op, term_op, IsIdent, AreFields, one_field, more_fields, AreAnyFields}
+use Rattle.tg_syntax.specs.Grammar.{no_fields, some_fields, IsForm, alias, fields, array, IsAnnotation, not_annotated, annotated, Reads, whole_assign}
+use Rattle.tg_syntax.specs.Grammar.{whole_up, or_up, or_more, and_up, and_more, cmp_up, cmp_two, sum_up, sum_more, term_up, term_more, unary_minus}
+use Rattle.tg_syntax.specs.Grammar.{unary_primary, unary_tail, primary_place, primary_nil, primary_int, primary_text, primary_break, primary_sequence}
+use Rattle.tg_syntax.specs.Grammar.{primary_call, primary_record, primary_let, tail_then, tail_else, tail_while, tail_for, tail_fill, IsPlace}
+use Rattle.tg_syntax.specs.Grammar.{place_simple, place_field, place_index, AreMany, many_one, many_more, AreAny, any_none, any_many, AreInits}
+use Rattle.tg_syntax.specs.Grammar.{one_init, more_inits, AreAnyInits, any_no_inits, any_inits, IsDec, dec_type, dec_variable, dec_function, AreDecs}
+use Rattle.tg_syntax.specs.Grammar.{decs_none, decs_more, IsProgram, program}
 use Rattle.tg_syntax.specs.SyntaxFaults.{HasNoEnd, EndsOnce}
 use Rattle.tg_grammar.specs.Steps.{Out, Whole_program}
 use Rattle.tg_grammar.specs.Reading.{whole_program, Does}
@@ -43,7 +50,8 @@ between a t b h q k = joins a (t ∷ b) h (q, k)
 
 no_end_fields : {u : List Spanned} {ps : List Param} → AreFields u ps → HasNoEnd u
 no_end_fields (one_field t c u h d g) = (ident_other h, (other d (λ e. cc), (ident_other g, tt)))
-no_end_fields (more_fields {a = a} m t c u f e h d g) = between a m (t ∷ c ∷ u ∷ []) (no_end_fields f) (other e (λ e. cc)) (ident_other h, (other d (λ e. cc), (ident_other g, tt)))
+no_end_fields (more_fields {a = a} m t c u f e h d g) = between a m (t ∷ c ∷ u ∷ []) (no_end_fields f) (other e (λ e. cc))
+    (ident_other h, (other d (λ e. cc), (ident_other g, tt)))
 
 no_end_any_fields : {u : List Spanned} {ps : List Param} → AreAnyFields u ps → HasNoEnd u
 no_end_any_fields no_fields = tt
@@ -83,17 +91,31 @@ mutual
   no_end (primary_sequence {a = a} l r d h f) = (other d (λ e. cc), between a r [] (no_end_any h) (other f (λ e. cc)) tt)
   no_end (primary_call {a = a} q l r i d h f) = (ident_other i, (other d (λ e. cc), between a r [] (no_end_any h) (other f (λ e. cc)) tt))
   no_end (primary_record {a = a} q l r i d h f) = (ident_other i, (other d (λ e. cc), between a r [] (no_end_any_inits h) (other f (λ e. cc)) tt))
-  no_end (primary_let {a = a} {b = b} q i l d h f g k) = (other d (λ e. cc), between a i (b ++ l ∷ []) (no_end_decs h) (other f (λ e. cc)) (between b l [] (no_end_any g) (other k (λ e. cc)) tt))
+  no_end (primary_let {a = a} {b = b} q i l d h f g k) =
+      (other d (λ e. cc), between a i (b ++ l ∷ []) (no_end_decs h) (other f (λ e. cc)) (between b l [] (no_end_any g) (other k (λ e. cc)) tt))
   no_end (tail_then {a = a} {b = b} q u d h f g) = (other d (λ e. cc), between a u b (no_end h) (other f (λ e. cc)) (no_end g))
-  no_end (tail_else {a = a} {b = b} {d = p} q u w d h f g n m k) = (other d (λ e. cc), between a u (b ++ w ∷ p) (no_end h) (other f (λ e. cc)) (between b w p (no_end g) (other m (λ e. cc)) (no_end k)))
+  no_end (tail_else {a = a} {b = b} {d = p} q u w d h f g n m k) =
+      (other d (λ e. cc), between a u (b ++ w ∷ p) (no_end h) (other f (λ e. cc)) (between b w p (no_end g) (other m (λ e. cc)) (no_end k)))
   no_end (tail_while {a = a} {b = b} q u d h f g) = (other d (λ e. cc), between a u b (no_end h) (other f (λ e. cc)) (no_end g))
-  no_end (tail_for {a = a} {b = b} {d = p} q i m u w d j f h g k n l) = (other d (λ e. cc), (ident_other j, (other f (λ e. cc), between a u (b ++ w ∷ p) (no_end h) (other g (λ e. cc)) (between b w p (no_end k) (other n (λ e. cc)) (no_end l)))))
-  no_end (tail_fill {a = a} {b = b} q l r o i d h f w g) = (ident_other i, (other d (λ e. cc), between a r (o ∷ b) (no_end h) (other f (λ e. cc)) (other w (λ e. cc), no_end g)))
+  no_end (tail_for {a = a} {b = b} {d = p} q i m u w d j f h g k n l) = (
+    other d (λ e. cc),
+    (
+      ident_other j,
+      (
+        other f (λ e. cc),
+        between a u (b ++ w ∷ p) (no_end h) (other g (λ e. cc))
+            (between b w p (no_end k) (other n (λ e. cc)) (no_end l)),
+      ),
+    ),
+  )
+  no_end (tail_fill {a = a} {b = b} q l r o i d h f w g) =
+      (ident_other i, (other d (λ e. cc), between a r (o ∷ b) (no_end h) (other f (λ e. cc)) (other w (λ e. cc), no_end g)))
 
   no_end_place : {u : List Spanned} {s : Span} {v : LValue} → IsPlace u s v → HasNoEnd u
   no_end_place (place_simple t h) = (ident_other h, tt)
   no_end_place (place_field {a = a} d t h f g) = between a d (t ∷ []) (no_end_place h) (other f (λ e. cc)) (ident_other g, tt)
-  no_end_place (place_index {a = a} {b = b} l r h f g k) = between a l (b ++ r ∷ []) (no_end_place h) (other f (λ e. cc)) (between b r [] (no_end g) (other k (λ e. cc)) tt)
+  no_end_place (place_index {a = a} {b = b} l r h f g k) = between a l (b ++ r ∷ []) (no_end_place h) (other f (λ e. cc))
+      (between b r [] (no_end g) (other k (λ e. cc)) tt)
 
   no_end_many : {s : Sign} {u : List Spanned} {es : Exps} → AreMany s u es → HasNoEnd u
   no_end_many (many_one h) = no_end h
@@ -105,7 +127,8 @@ mutual
 
   no_end_inits : {u : List Spanned} {is : Inits} → AreInits u is → HasNoEnd u
   no_end_inits (one_init t q i d h) = (ident_other i, (other d (λ e. cc), no_end h))
-  no_end_inits (more_inits {a = a} {b = b} m t q h f i d g) = between a m (t ∷ q ∷ b) (no_end_inits h) (other f (λ e. cc)) (ident_other i, (other d (λ e. cc), no_end g))
+  no_end_inits (more_inits {a = a} {b = b} m t q h f i d g) = between a m (t ∷ q ∷ b) (no_end_inits h) (other f (λ e. cc))
+      (ident_other i, (other d (λ e. cc), no_end g))
 
   no_end_any_inits : {u : List Spanned} {is : Inits} → AreAnyInits u is → HasNoEnd u
   no_end_any_inits any_no_inits = tt
@@ -113,8 +136,19 @@ mutual
 
   no_end_dec : {u : List Spanned} {d : Dec} → IsDec u d → HasNoEnd u
   no_end_dec (dec_type t i q d j k h) = (other d (λ e. cc), (ident_other j, (other k (λ e. cc), no_end_form h)))
-  no_end_dec (dec_variable {a = a} {b = b} t i g d j h q k) = (other d (λ e. cc), (ident_other j, between a g b (no_end_annotation h) (other q (λ e. cc)) (no_end k)))
-  no_end_dec (dec_function {a = a} {b = b} {d = p} t i l r q d j f h k n m g) = (other d (λ e. cc), (ident_other j, (other f (λ e. cc), between a r (b ++ q ∷ p) (no_end_any_fields h) (other k (λ e. cc)) (between b q p (no_end_annotation n) (other m (λ e. cc)) (no_end g)))))
+  no_end_dec (dec_variable {a = a} {b = b} t i g d j h q k) =
+      (other d (λ e. cc), (ident_other j, between a g b (no_end_annotation h) (other q (λ e. cc)) (no_end k)))
+  no_end_dec (dec_function {a = a} {b = b} {d = p} t i l r q d j f h k n m g) = (
+    other d (λ e. cc),
+    (
+      ident_other j,
+      (
+        other f (λ e. cc),
+        between a r (b ++ q ∷ p) (no_end_any_fields h) (other k (λ e. cc))
+            (between b q p (no_end_annotation n) (other m (λ e. cc)) (no_end g)),
+      ),
+    ),
+  )
 
   no_end_decs : {u : List Spanned} {ds : Decs} → AreDecs u ds → HasNoEnd u
   no_end_decs decs_none = tt

@@ -10,7 +10,9 @@ use Rattle.tg_syntax.specs.declared.trees.Op.{Op}
 use Rattle.tg_syntax.specs.Grammar.{Level, IsIdent}
 use Rattle.tg_grammar.specs.declared.marks.Mark.{Mark}
 use Rattle.tg_grammar.specs.Steps.{token_of, op_of, Answer, Got, Bad, Out, Job, Of, Steps, give, refuse, want, name, split, oper, leaf, look, test, call}
-use Rattle.tg_grammar.specs.Reading.{job, Does, give_got, refuse_bad, refuse_out, want_got, want_bad, want_out, name_got, name_bad, name_out, split_yes, split_no, split_out, oper_yes, oper_no, oper_out, leaf_yes, leaf_no, leaf_out, look_at, look_out, test_yes, test_no, call_got, call_bad, call_out}
+use Rattle.tg_grammar.specs.Reading.{job, Does, give_got, refuse_bad, refuse_out, want_got, want_bad, want_out, name_got, name_bad, name_out}
+use Rattle.tg_grammar.specs.Reading.{split_yes, split_no, split_out, oper_yes, oper_no, oper_out, leaf_yes, leaf_no, leaf_out, look_at, look_out}
+use Rattle.tg_grammar.specs.Reading.{test_yes, test_no, call_got, call_bad, call_out}
 
 by_fields : (x y : Ident) → x.name ≡ y.name → x.span ≡ y.span → x ≡ y
 by_fields x y e s =
@@ -59,62 +61,73 @@ refuse_is (refuse_bad _) = refl
 refuse_none : {j : Job} {z : Answer (Of j)} → Does j refuse [] z → Out ≡ z
 refuse_none (refuse_out _) = refl
 
-want_yes : {j : Job} {m : Mark} {f : Span → Steps (Of j)} {t : Spanned} {ts : List Spanned} {z : Answer (Of j)} → Does j (want m f) (t ∷ ts) z → t.token ≡ token_of m → Does j (f t.span) ts z
+want_yes : {j : Job} {m : Mark} {f : Span → Steps (Of j)} {t : Spanned} {ts : List Spanned} {z : Answer (Of j)} →
+    Does j (want m f) (t ∷ ts) z → t.token ≡ token_of m → Does j (f t.span) ts z
 want_yes (want_got _ d k) e = k
 want_yes (want_bad _ d) e = absurd (d e)
 
-want_no : {j : Job} {m : Mark} {f : Span → Steps (Of j)} {t : Spanned} {ts : List Spanned} {z : Answer (Of j)} → Does j (want m f) (t ∷ ts) z → (t.token ≡ token_of m → ⊥) → Bad t ts ≡ z
+want_no : {j : Job} {m : Mark} {f : Span → Steps (Of j)} {t : Spanned} {ts : List Spanned} {z : Answer (Of j)} →
+    Does j (want m f) (t ∷ ts) z → (t.token ≡ token_of m → ⊥) → Bad t ts ≡ z
 want_no (want_got _ d k) e = absurd (e d)
 want_no (want_bad _ d) e = refl
 
 want_none : {j : Job} {m : Mark} {f : Span → Steps (Of j)} {z : Answer (Of j)} → Does j (want m f) [] z → Out ≡ z
 want_none (want_out _) = refl
 
-name_yes : {j : Job} {f : Ident → Steps (Of j)} {t : Spanned} {ts : List Spanned} {z : Answer (Of j)} (x : Ident) → Does j (name f) (t ∷ ts) z → IsIdent t x → Does j (f x) ts z
+name_yes : {j : Job} {f : Ident → Steps (Of j)} {t : Spanned} {ts : List Spanned} {z : Answer (Of j)} (x : Ident) →
+    Does j (name f) (t ∷ ts) z → IsIdent t x → Does j (f x) ts z
 name_yes {j = j} {f = f} {t = t} {ts = ts} {z = z} x (name_got _ {x = y} d k) e = subst (λ w. Does j (f w) ts z) (same_name t y x d e) k
 name_yes x (name_bad _ d) e = absurd (d x e)
 
-name_no : {j : Job} {f : Ident → Steps (Of j)} {t : Spanned} {ts : List Spanned} {z : Answer (Of j)} → Does j (name f) (t ∷ ts) z → ((x : Ident) → IsIdent t x → ⊥) → Bad t ts ≡ z
+name_no : {j : Job} {f : Ident → Steps (Of j)} {t : Spanned} {ts : List Spanned} {z : Answer (Of j)} → Does j (name f) (t ∷ ts) z →
+    ((x : Ident) → IsIdent t x → ⊥) → Bad t ts ≡ z
 name_no (name_got _ {x = y} d k) e = absurd (e y d)
 name_no (name_bad _ d) e = refl
 
 name_none : {j : Job} {f : Ident → Steps (Of j)} {z : Answer (Of j)} → Does j (name f) [] z → Out ≡ z
 name_none (name_out _) = refl
 
-split_is : {j : Job} {m : Mark} {f : Span → Steps (Of j)} {s : Steps (Of j)} {t : Spanned} {ts : List Spanned} {z : Answer (Of j)} → Does j (split m f s) (t ∷ ts) z → t.token ≡ token_of m → Does j (f t.span) ts z
+split_is : {j : Job} {m : Mark} {f : Span → Steps (Of j)} {s : Steps (Of j)} {t : Spanned} {ts : List Spanned} {z : Answer (Of j)} →
+    Does j (split m f s) (t ∷ ts) z → t.token ≡ token_of m → Does j (f t.span) ts z
 split_is (split_yes _ d k) e = k
 split_is (split_no _ d k) e = absurd (d e)
 
-split_not : {j : Job} {m : Mark} {f : Span → Steps (Of j)} {s : Steps (Of j)} {t : Spanned} {ts : List Spanned} {z : Answer (Of j)} → Does j (split m f s) (t ∷ ts) z → (t.token ≡ token_of m → ⊥) → Does j s (t ∷ ts) z
+split_not : {j : Job} {m : Mark} {f : Span → Steps (Of j)} {s : Steps (Of j)} {t : Spanned} {ts : List Spanned} {z : Answer (Of j)} →
+    Does j (split m f s) (t ∷ ts) z → (t.token ≡ token_of m → ⊥) → Does j s (t ∷ ts) z
 split_not (split_yes _ d k) e = absurd (e d)
 split_not (split_no _ d k) e = k
 
 split_none : {j : Job} {m : Mark} {f : Span → Steps (Of j)} {s : Steps (Of j)} {z : Answer (Of j)} → Does j (split m f s) [] z → Out ≡ z
 split_none (split_out _) = refl
 
-oper_is : {j : Job} {k : Level} {f : Op → ℕ → Steps (Of j)} {s : Steps (Of j)} {t : Spanned} {ts : List Spanned} {z : Answer (Of j)} (o : Op) → Does j (oper k f s) (t ∷ ts) z → op_of k t.token ≡ Some o → Does j (f o t.span.from) ts z
+oper_is : {j : Job} {k : Level} {f : Op → ℕ → Steps (Of j)} {s : Steps (Of j)} {t : Spanned} {ts : List Spanned} {z : Answer (Of j)} (o : Op) →
+    Does j (oper k f s) (t ∷ ts) z → op_of k t.token ≡ Some o → Does j (f o t.span.from) ts z
 oper_is {j = j} {f = f} {t = t} {ts = ts} {z = z} o (oper_yes _ p d h) e = subst (λ w. Does j (f w t.span.from) ts z) (some_is d e) h
 oper_is o (oper_no _ d h) e = some_none e d
 
-oper_not : {j : Job} {k : Level} {f : Op → ℕ → Steps (Of j)} {s : Steps (Of j)} {t : Spanned} {ts : List Spanned} {z : Answer (Of j)} → Does j (oper k f s) (t ∷ ts) z → op_of k t.token ≡ None → Does j s (t ∷ ts) z
+oper_not : {j : Job} {k : Level} {f : Op → ℕ → Steps (Of j)} {s : Steps (Of j)} {t : Spanned} {ts : List Spanned} {z : Answer (Of j)} →
+    Does j (oper k f s) (t ∷ ts) z → op_of k t.token ≡ None → Does j s (t ∷ ts) z
 oper_not (oper_yes _ p d h) e = some_none d e
 oper_not (oper_no _ d h) e = h
 
 oper_none : {j : Job} {k : Level} {f : Op → ℕ → Steps (Of j)} {s : Steps (Of j)} {z : Answer (Of j)} → Does j (oper k f s) [] z → Out ≡ z
 oper_none (oper_out _) = refl
 
-leaf_is : {j : Job} {g : Spanned → Option (Of j)} {s : Steps (Of j)} {t : Spanned} {ts : List Spanned} {z : Answer (Of j)} (x : Of j) → Does j (leaf g s) (t ∷ ts) z → g t ≡ Some x → Got x ts ≡ z
+leaf_is : {j : Job} {g : Spanned → Option (Of j)} {s : Steps (Of j)} {t : Spanned} {ts : List Spanned} {z : Answer (Of j)} (x : Of j) →
+    Does j (leaf g s) (t ∷ ts) z → g t ≡ Some x → Got x ts ≡ z
 leaf_is {ts = ts} x (leaf_yes _ d) e = ap (λ w. Got w ts) (some_is e d)
 leaf_is x (leaf_no _ d h) e = some_none e d
 
-leaf_not : {j : Job} {g : Spanned → Option (Of j)} {s : Steps (Of j)} {t : Spanned} {ts : List Spanned} {z : Answer (Of j)} → Does j (leaf g s) (t ∷ ts) z → g t ≡ None → Does j s (t ∷ ts) z
+leaf_not : {j : Job} {g : Spanned → Option (Of j)} {s : Steps (Of j)} {t : Spanned} {ts : List Spanned} {z : Answer (Of j)} →
+    Does j (leaf g s) (t ∷ ts) z → g t ≡ None → Does j s (t ∷ ts) z
 leaf_not (leaf_yes _ d) e = some_none d e
 leaf_not (leaf_no _ d h) e = h
 
 leaf_none : {j : Job} {g : Spanned → Option (Of j)} {s : Steps (Of j)} {z : Answer (Of j)} → Does j (leaf g s) [] z → Out ≡ z
 leaf_none (leaf_out _) = refl
 
-look_is : {j : Job} {f : Token → Steps (Of j)} {t : Spanned} {ts : List Spanned} {z : Answer (Of j)} → Does j (look f) (t ∷ ts) z → Does j (f t.token) (t ∷ ts) z
+look_is : {j : Job} {f : Token → Steps (Of j)} {t : Spanned} {ts : List Spanned} {z : Answer (Of j)} → Does j (look f) (t ∷ ts) z →
+    Does j (f t.token) (t ∷ ts) z
 look_is (look_at _ h) = h
 
 look_none : {j : Job} {f : Token → Steps (Of j)} {z : Answer (Of j)} → Does j (look f) [] z → Out ≡ z
@@ -139,7 +152,8 @@ call_is (call_got _ _ {rest = rest} {x = x} a h) = came x rest a h
 call_is (call_bad _ _ {rest = rest} {t = t} a) = failed t rest a refl
 call_is (call_out _ _ a) = ended a refl
 
-got_case : {j i : Job} {f : Of i → Steps (Of j)} {ts rest : List Spanned} {x : Of i} {r z : Answer (Of j)} → ((y : Answer (Of i)) → Does i (job i) ts y → Got x rest ≡ y) → ((y : Answer (Of j)) → Does j (f x) rest y → r ≡ y) → Called j i f ts z → r ≡ z
+got_case : {j i : Job} {f : Of i → Steps (Of j)} {ts rest : List Spanned} {x : Of i} {r z : Answer (Of j)} →
+    ((y : Answer (Of i)) → Does i (job i) ts y → Got x rest ≡ y) → ((y : Answer (Of j)) → Does j (f x) rest y → r ≡ y) → Called j i f ts z → r ≡ z
 got_case {j = j} {f = f} {rest = rest} {x = x} {z = z} one next (came y s b k) =
     let e = one (Got y s) b in
     let v : x ≡ y = got_value e in
@@ -148,12 +162,14 @@ got_case {j = j} {f = f} {rest = rest} {x = x} {z = z} one next (came y s b k) =
 got_case one next (failed t s b e) = got_bad (one (Bad t s) b)
 got_case one next (ended b e) = got_out (one Out b)
 
-bad_case : {j i : Job} {f : Of i → Steps (Of j)} {ts rest : List Spanned} {t : Spanned} {z : Answer (Of j)} → ((y : Answer (Of i)) → Does i (job i) ts y → Bad t rest ≡ y) → Called j i f ts z → Bad t rest ≡ z
+bad_case : {j i : Job} {f : Of i → Steps (Of j)} {ts rest : List Spanned} {t : Spanned} {z : Answer (Of j)} →
+    ((y : Answer (Of i)) → Does i (job i) ts y → Bad t rest ≡ y) → Called j i f ts z → Bad t rest ≡ z
 bad_case one (came y s b k) = got_bad (sym (one (Got y s) b))
 bad_case {rest = rest} {t = t} one (failed u s b e) = bad_as t u rest s (one (Bad u s) b) ∙ e
 bad_case one (ended b e) = bad_out (one Out b)
 
-out_case : {j i : Job} {f : Of i → Steps (Of j)} {ts : List Spanned} {z : Answer (Of j)} → ((y : Answer (Of i)) → Does i (job i) ts y → Out ≡ y) → Called j i f ts z → Out ≡ z
+out_case : {j i : Job} {f : Of i → Steps (Of j)} {ts : List Spanned} {z : Answer (Of j)} →
+    ((y : Answer (Of i)) → Does i (job i) ts y → Out ≡ y) → Called j i f ts z → Out ≡ z
 out_case one (came y s b k) = got_out (sym (one (Got y s) b))
 out_case one (failed u s b e) = bad_out (sym (one (Bad u s) b))
 out_case one (ended b e) = e

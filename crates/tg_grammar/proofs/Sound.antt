@@ -12,10 +12,15 @@ use Rattle.tg_syntax.specs.declared.tokens.Ident.{Ident}
 use Rattle.tg_syntax.specs.declared.trees.Param.{Param}
 use Rattle.tg_syntax.specs.declared.trees.Op.{Op}
 use Rattle.tg_syntax.specs.Tree.{Exp, Exps, Inits}
-use Rattle.tg_syntax.specs.Grammar.{Whole, IsIdent, IsSign, IsWord, AreFields, AreAnyFields, IsForm, IsAnnotation, Reads, IsPlace, AreMany, AreAny, AreInits, AreAnyInits, IsDec, AreDecs, IsProgram}
+use Rattle.tg_syntax.specs.Grammar.{Whole, IsIdent, IsSign, IsWord, AreFields, AreAnyFields, IsForm, IsAnnotation, Reads, IsPlace, AreMany, AreAny}
+use Rattle.tg_syntax.specs.Grammar.{AreInits, AreAnyInits, IsDec, AreDecs, IsProgram}
 use Rattle.tg_grammar.specs.declared.marks.Mark.{Mark}
-use Rattle.tg_grammar.specs.Steps.{token_of, op_of, Answer, Got, Bad, Out, Job, OneSpan, OneName, At, After, Suffix, Listed, Items, OneInit, ListedInits, MoreInits, OneParam, ListedParams, MoreParams, OneForm, Annotation, TypeDec, VarDec, FunDec, MoreDecs, Whole_program, Of, Steps, give, refuse, want, name, split, oper, leaf, look, test, call}
-use Rattle.tg_grammar.specs.Reading.{job, Does, give_got, refuse_bad, refuse_out, want_got, want_bad, want_out, name_got, name_bad, name_out, split_yes, split_no, split_out, oper_yes, oper_no, oper_out, leaf_yes, leaf_no, leaf_out, look_at, look_out, test_yes, test_no, call_got, call_bad, call_out}
+use Rattle.tg_grammar.specs.Steps.{token_of, op_of, Answer, Got, Bad, Out, Job, OneSpan, OneName, At, After, Suffix, Listed, Items, OneInit}
+use Rattle.tg_grammar.specs.Steps.{ListedInits, MoreInits, OneParam, ListedParams, MoreParams, OneForm, Annotation, TypeDec, VarDec, FunDec, MoreDecs}
+use Rattle.tg_grammar.specs.Steps.{Whole_program, Of, Steps, give, refuse, want, name, split, oper, leaf, look, test, call}
+use Rattle.tg_grammar.specs.Reading.{job, Does, give_got, refuse_bad, refuse_out, want_got, want_bad, want_out, name_got, name_bad, name_out}
+use Rattle.tg_grammar.specs.Reading.{split_yes, split_no, split_out, oper_yes, oper_no, oper_out, leaf_yes, leaf_no, leaf_out, look_at, look_out}
+use Rattle.tg_grammar.specs.Reading.{test_yes, test_no, call_got, call_bad, call_out}
 use Rattle.tg_grammar.proofs.Complete.{read_at, IsChain}
 
 abbrev pub Lang : Type 0 → Type 1
@@ -97,7 +102,8 @@ viable_at L u h = record { rest = u ++ h.rest; tree = h.tree; is = h.is }
 viable_of : Inhabited → {A : Type 0} (s : Steps A) (L : Lang A) → Valid s L → Viable L
 viable_of n (give x) L h = record { rest = []; tree = x; is = h }
 viable_of n refuse L h = h
-viable_of n (want m f) L h = viable_at L (sample (token_of m) ∷ []) (viable_of n (f nowhere) (λ v y. L (sample (token_of m) ∷ v) y) (h (sample (token_of m)) refl))
+viable_of n (want m f) L h = viable_at L (sample (token_of m) ∷ [])
+    (viable_of n (f nowhere) (λ v y. L (sample (token_of m) ∷ v) y) (h (sample (token_of m)) refl))
 viable_of n (name f) L h =
     let t : Spanned = sample (token.Ident (record { 0 = 0 })) in
     viable_at L (t ∷ []) (viable_of n (f some_ident) (λ v y. L (t ∷ v) y) (h t some_ident (record { name = refl; span = refl })))
@@ -114,12 +120,15 @@ first [] = None
 first (t ∷ ts) = Some t
 
 pub data Fine (j : Job) (L : Lang (Of j)) (s : Steps (Of j)) (ts : List Spanned) : Answer (Of j) → Type 0 where
-  fine_got : {x : Of j} {rest : List Spanned} (u : List Spanned) → ts ≡ u ++ rest → L u x → ((z : List Spanned) → first z ≡ first rest → Does j s (u ++ z) (Got x z)) → Fine j L s ts (Got x rest)
-  fine_bad : {t : Spanned} {us : List Spanned} (u : List Spanned) → ts ≡ u ++ t ∷ us → Viable (λ v y. L (u ++ v) y) → ((z : List Spanned) → Does j s (u ++ t ∷ z) (Bad t z)) → Fine j L s ts (Bad t us)
+  fine_got : {x : Of j} {rest : List Spanned} (u : List Spanned) → ts ≡ u ++ rest → L u x →
+      ((z : List Spanned) → first z ≡ first rest → Does j s (u ++ z) (Got x z)) → Fine j L s ts (Got x rest)
+  fine_bad : {t : Spanned} {us : List Spanned} (u : List Spanned) → ts ≡ u ++ t ∷ us → Viable (λ v y. L (u ++ v) y) →
+      ((z : List Spanned) → Does j s (u ++ t ∷ z) (Bad t z)) → Fine j L s ts (Bad t us)
   fine_out : Viable (λ v y. L (ts ++ v) y) → Fine j L s ts Out
 
 -- a token is taken
-took : {j : Job} {L : Lang (Of j)} {s p : Steps (Of j)} {ts : List Spanned} {r : Answer (Of j)} (t : Spanned) → ((z : List Spanned) (x : Answer (Of j)) → Does j s z x → Does j p (t ∷ z) x) → Fine j (λ v y. L (t ∷ v) y) s ts r → Fine j L p (t ∷ ts) r
+took : {j : Job} {L : Lang (Of j)} {s p : Steps (Of j)} {ts : List Spanned} {r : Answer (Of j)} (t : Spanned) →
+    ((z : List Spanned) (x : Answer (Of j)) → Does j s z x → Does j p (t ∷ z) x) → Fine j (λ v y. L (t ∷ v) y) s ts r → Fine j L p (t ∷ ts) r
 took t f (fine_got u d l c) = fine_got (t ∷ u) (ap (λ w. t ∷ w) d) l (λ z h. f (u ++ z) _ (c z h))
 took t f (fine_bad u d l c) = fine_bad (t ∷ u) (ap (λ w. t ∷ w) d) (record { rest = l.rest; tree = l.tree; is = l.is }) (λ z. f (u ++ _) _ (c z))
 took t f (fine_out l) = fine_out (record { rest = l.rest; tree = l.tree; is = l.is })
@@ -133,36 +142,45 @@ first_append [] s t h = h
 first_append (x ∷ v) s t h = refl
 
 -- another program from the same token on
-stayed : {j : Job} {L : Lang (Of j)} {s p : Steps (Of j)} {ts : List Spanned} {r : Answer (Of j)} (t : Spanned) → ((z : List Spanned) (x : Answer (Of j)) → Does j s (t ∷ z) x → Does j p (t ∷ z) x) → Fine j L s (t ∷ ts) r → Fine j L p (t ∷ ts) r
-stayed {j = j} {s = s} {p = p} t f (fine_got {x = x} {rest = rest} u d l c) = fine_got u d l (λ z h. by (u ++ z) (first_append u z rest h ∙ ap first (sym d)) (Got x z) (c z h))
+stayed : {j : Job} {L : Lang (Of j)} {s p : Steps (Of j)} {ts : List Spanned} {r : Answer (Of j)} (t : Spanned) →
+    ((z : List Spanned) (x : Answer (Of j)) → Does j s (t ∷ z) x → Does j p (t ∷ z) x) → Fine j L s (t ∷ ts) r → Fine j L p (t ∷ ts) r
+stayed {j = j} {s = s} {p = p} t f (fine_got {x = x} {rest = rest} u d l c) =
+    fine_got u d l (λ z h. by (u ++ z) (first_append u z rest h ∙ ap first (sym d)) (Got x z) (c z h))
   where
     by : (w : List Spanned) → first w ≡ Some t → (r : Answer (Of j)) → Does j s w r → Does j p w r
     by w e r h = let b = begun w t e in subst (λ w. Does j p w r) (sym b.1) (f b.0 r (subst (λ w. Does j s w r) b.1 h))
-stayed {j = j} {s = s} {p = p} t f (fine_bad {t = q} {us = us} u d l c) = fine_bad u d l (λ z. by (u ++ q ∷ z) (first_append u (q ∷ z) (q ∷ us) refl ∙ ap first (sym d)) (Bad q z) (c z))
+stayed {j = j} {s = s} {p = p} t f (fine_bad {t = q} {us = us} u d l c) =
+    fine_bad u d l (λ z. by (u ++ q ∷ z) (first_append u (q ∷ z) (q ∷ us) refl ∙ ap first (sym d)) (Bad q z) (c z))
   where
     by : (w : List Spanned) → first w ≡ Some t → (r : Answer (Of j)) → Does j s w r → Does j p w r
     by w e r h = let b = begun w t e in subst (λ w. Does j p w r) (sym b.1) (f b.0 r (subst (λ w. Does j s w r) b.1 h))
 stayed t f (fine_out l) = fine_out l
 
-same : {j : Job} {L : Lang (Of j)} {s p : Steps (Of j)} {ts : List Spanned} {r : Answer (Of j)} → ((z : List Spanned) (x : Answer (Of j)) → Does j s z x → Does j p z x) → Fine j L s ts r → Fine j L p ts r
+same : {j : Job} {L : Lang (Of j)} {s p : Steps (Of j)} {ts : List Spanned} {r : Answer (Of j)} →
+    ((z : List Spanned) (x : Answer (Of j)) → Does j s z x → Does j p z x) → Fine j L s ts r → Fine j L p ts r
 same f (fine_got u d l c) = fine_got u d l (λ z h. f _ _ (c z h))
 same f (fine_bad u d l c) = fine_bad u d l (λ z. f _ _ (c z))
 same f (fine_out l) = fine_out l
 
 -- a job first
-did : {j : Job} {L : Lang (Of j)} (i : Job) (f : Of i → Steps (Of j)) (ts u rest : List Spanned) (x : Of i) {r : Answer (Of j)} → ts ≡ u ++ rest → ((z : List Spanned) → first z ≡ first rest → Does i (job i) (u ++ z) (Got x z)) → Fine j (λ v y. L (u ++ v) y) (f x) rest r → Fine j L (call i f) ts r
+did : {j : Job} {L : Lang (Of j)} (i : Job) (f : Of i → Steps (Of j)) (ts u rest : List Spanned) (x : Of i) {r : Answer (Of j)} →
+    ts ≡ u ++ rest → ((z : List Spanned) → first z ≡ first rest → Does i (job i) (u ++ z) (Got x z)) →
+    Fine j (λ v y. L (u ++ v) y) (f x) rest r → Fine j L (call i f) ts r
 did {j = j} {L = L} i f ts u rest x e c (fine_got {x = y} {rest = after} v d l k) =
     fine_got (u ++ v) (e ∙ ap (λ w. u ++ w) d ∙ sym (append_assoc u v after)) l
-    (λ z h. subst (λ w. Does j (call i f) w (Got y z)) (sym (append_assoc u v z)) (call_got j i (c (v ++ z) (first_append v z after h ∙ ap first (sym d))) (k z h)))
+    (λ z h. subst (λ w. Does j (call i f) w (Got y z)) (sym (append_assoc u v z))
+    (call_got j i (c (v ++ z) (first_append v z after h ∙ ap first (sym d))) (k z h)))
 did {j = j} {L = L} i f ts u rest x e c (fine_bad {t = t} {us = us} v d l k) =
     fine_bad (u ++ v) (e ∙ ap (λ w. u ++ w) d ∙ sym (append_assoc u v (t ∷ us)))
     (record { rest = l.rest; tree = l.tree; is = subst (λ w. L w l.tree) (sym (append_assoc u v l.rest)) l.is })
-    (λ z. subst (λ w. Does j (call i f) w (Bad t z)) (sym (append_assoc u v (t ∷ z))) (call_got j i (c (v ++ t ∷ z) (first_append v (t ∷ z) (t ∷ us) refl ∙ ap first (sym d))) (k z)))
+    (λ z. subst (λ w. Does j (call i f) w (Bad t z)) (sym (append_assoc u v (t ∷ z)))
+    (call_got j i (c (v ++ t ∷ z) (first_append v (t ∷ z) (t ∷ us) refl ∙ ap first (sym d))) (k z)))
 did {L = L} i f ts u rest x e c (fine_out l) =
     fine_out (record { rest = l.rest; tree = l.tree; is = subst (λ w. L w l.tree) (sym (append_assoc u rest l.rest) ∙ ap (λ w. w ++ l.rest) (sym e)) l.is })
 
 -- a part of a job is completed, then the rest
-through : Inhabited → {A : Type 0} (L : Lang A) (i : Job) (f : Of i → Steps A) (u : List Spanned) → Valid (call i f) L → Viable (λ v y. Lang_of i (u ++ v) y) → Viable (λ v y. L (u ++ v) y)
+through : Inhabited → {A : Type 0} (L : Lang A) (i : Job) (f : Of i → Steps A) (u : List Spanned) → Valid (call i f) L →
+    Viable (λ v y. Lang_of i (u ++ v) y) → Viable (λ v y. L (u ++ v) y)
 through n L i f u v h =
     let k = viable_of n (f h.tree) (λ w y. L ((u ++ h.rest) ++ w) y) (v (u ++ h.rest) h.tree h.is) in
     record { rest = h.rest ++ k.rest; tree = k.tree; is = subst (λ w. L w k.tree) (append_assoc u h.rest k.rest) k.is }
@@ -171,13 +189,16 @@ pub record AllValid : Type 0 where
   pub jobs : (i : Job) → Valid (job i) (Lang_of i)
   pub inhabited : Inhabited
 
-bad_job : AllValid → {j : Job} (L : Lang (Of j)) (i : Job) (f : Of i → Steps (Of j)) (ts : List Spanned) (t : Spanned) (us : List Spanned) → Valid (call i f) L → Fine i (Lang_of i) (job i) ts (Bad t us) → Fine j L (call i f) ts (Bad t us)
+bad_job : AllValid → {j : Job} (L : Lang (Of j)) (i : Job) (f : Of i → Steps (Of j)) (ts : List Spanned) (t : Spanned) (us : List Spanned) →
+    Valid (call i f) L → Fine i (Lang_of i) (job i) ts (Bad t us) → Fine j L (call i f) ts (Bad t us)
 bad_job n {j = j} L i f ts t us v (fine_bad u d l c) = fine_bad u d (through n.inhabited L i f u v l) (λ z. call_bad j i (c z))
 
-out_job : AllValid → {j : Job} (L : Lang (Of j)) (i : Job) (f : Of i → Steps (Of j)) (ts : List Spanned) → Valid (call i f) L → Fine i (Lang_of i) (job i) ts Out → Fine j L (call i f) ts Out
+out_job : AllValid → {j : Job} (L : Lang (Of j)) (i : Job) (f : Of i → Steps (Of j)) (ts : List Spanned) → Valid (call i f) L →
+    Fine i (Lang_of i) (job i) ts Out → Fine j L (call i f) ts Out
 out_job n {j = j} L i f ts v (fine_out l) = fine_out (through n.inhabited L i f ts v l)
 
-got_job : {i : Job} {ts rest : List Spanned} {x : Of i} (C : Type 0) → Fine i (Lang_of i) (job i) ts (Got x rest) → ((u : List Spanned) → ts ≡ u ++ rest → Lang_of i u x → ((z : List Spanned) → first z ≡ first rest → Does i (job i) (u ++ z) (Got x z)) → C) → C
+got_job : {i : Job} {ts rest : List Spanned} {x : Of i} (C : Type 0) → Fine i (Lang_of i) (job i) ts (Got x rest) →
+    ((u : List Spanned) → ts ≡ u ++ rest → Lang_of i u x → ((z : List Spanned) → first z ≡ first rest → Does i (job i) (u ++ z) (Got x z)) → C) → C
 got_job C (fine_got u d l c) k = k u d l c
 
 pub fine : AllValid → {j : Job} {s : Steps (Of j)} {ts : List Spanned} {r : Answer (Of j)} → Does j s ts r → (L : Lang (Of j)) → Valid s L → Fine j L s ts r

@@ -7,10 +7,20 @@ use Rattle.tg_syntax.specs.declared.tokens.Spanned.{Spanned}
 use Rattle.tg_syntax.specs.declared.tokens.Ident.{Ident}
 use Rattle.tg_syntax.specs.declared.trees.Param.{Param}
 use Rattle.tg_syntax.specs.Spans.{span_of}
-use Rattle.tg_syntax.specs.Tree.{Form, TypeDec, Exp, Nil, Break, Int, Text, Read, Call, Neg, Binary, Make, Fill, Assign, If, When, While, For, Let, Seq, LValue, Exps, no_exps, exp, Inits, no_inits, init, Decs, no_decs, types, variable, functions, FunDecs, no_functions, function}
+use Rattle.tg_syntax.specs.Tree.{Form, TypeDec, Exp, Nil, Break, Int, Text, Read, Call, Neg, Binary, Make, Fill, Assign, If, When, While, For, Let}
+use Rattle.tg_syntax.specs.Tree.{Seq, LValue, Exps, no_exps, exp, Inits, no_inits, init, Decs, no_decs, types, variable, functions, FunDecs}
+use Rattle.tg_syntax.specs.Tree.{no_functions, function}
 use Rattle.tg_syntax.specs.Groups.{snoc, snoc_init, Dec, one_type, one_variable, one_function, snoc_function, snoc_dec}
-use Rattle.tg_syntax.specs.Grammar.{Level, IsIdent, AreFields, one_field, more_fields, AreAnyFields, no_fields, some_fields, IsForm, alias, fields, array, IsAnnotation, not_annotated, annotated, Reads, whole_assign, whole_up, or_up, or_more, and_up, and_more, cmp_up, cmp_two, sum_up, sum_more, term_up, term_more, unary_minus, unary_primary, unary_tail, primary_place, primary_nil, primary_int, primary_text, primary_break, primary_sequence, primary_call, primary_record, primary_let, tail_then, tail_else, tail_while, tail_for, tail_fill, IsPlace, place_simple, place_field, place_index, AreMany, many_one, many_more, AreAny, any_none, any_many, AreInits, one_init, more_inits, AreAnyInits, any_no_inits, any_inits, IsDec, dec_type, dec_variable, dec_function, AreDecs, decs_none, decs_more, IsProgram, program}
-use Rattle.tg_syntax.specs.Throughout.{ThroughParams, ThroughForm, ThroughTypes, ThroughKind, Throughout, ThroughPlace, ThroughExps, ThroughInits, ThroughDecs, ThroughFunctions}
+use Rattle.tg_syntax.specs.Grammar.{Level, IsIdent, AreFields, one_field, more_fields, AreAnyFields, no_fields, some_fields, IsForm, alias, fields}
+use Rattle.tg_syntax.specs.Grammar.{array, IsAnnotation, not_annotated, annotated, Reads, whole_assign, whole_up, or_up, or_more, and_up, and_more}
+use Rattle.tg_syntax.specs.Grammar.{cmp_up, cmp_two, sum_up, sum_more, term_up, term_more, unary_minus, unary_primary, unary_tail, primary_place}
+use Rattle.tg_syntax.specs.Grammar.{primary_nil, primary_int, primary_text, primary_break, primary_sequence, primary_call, primary_record}
+use Rattle.tg_syntax.specs.Grammar.{primary_let, tail_then, tail_else, tail_while, tail_for, tail_fill, IsPlace, place_simple, place_field}
+use Rattle.tg_syntax.specs.Grammar.{place_index, AreMany, many_one, many_more, AreAny, any_none, any_many, AreInits, one_init, more_inits}
+use Rattle.tg_syntax.specs.Grammar.{AreAnyInits, any_no_inits, any_inits, IsDec, dec_type, dec_variable, dec_function, AreDecs, decs_none, decs_more}
+use Rattle.tg_syntax.specs.Grammar.{IsProgram, program}
+use Rattle.tg_syntax.specs.Throughout.{ThroughParams, ThroughForm, ThroughTypes, ThroughKind, Throughout, ThroughPlace, ThroughExps, ThroughInits}
+use Rattle.tg_syntax.specs.Throughout.{ThroughDecs, ThroughFunctions}
 
 module _ (OfIdent : Ident → Type 0) (OfByte : (at : ℕ) → Type 0) where
   -- what a token gives: a fact of the identifier that it is, if it is one, and one of the byte at which it begins
@@ -46,7 +56,8 @@ module _ (OfIdent : Ident → Type 0) (OfByte : (at : ℕ) → Type 0) where
   more_params [] p h i j = (i, j, tt)
   more_params (q ∷ ps) p h i j = (h.0, h.1, more_params ps p h.2 i j)
 
-  more_types : (ds : List TypeDec) (d : TypeDec) → ThroughTypes OfIdent OfByte ds → OfIdent d.name → ThroughForm OfIdent OfByte d.form → ThroughTypes OfIdent OfByte (ds ++ d ∷ [])
+  more_types : (ds : List TypeDec) (d : TypeDec) → ThroughTypes OfIdent OfByte ds → OfIdent d.name →
+      ThroughForm OfIdent OfByte d.form → ThroughTypes OfIdent OfByte (ds ++ d ∷ [])
   more_types [] d h i j = (i, j, tt)
   more_types (f ∷ ds) d h i j = (h.0, h.1, more_types ds d h.2 i j)
 
@@ -54,7 +65,8 @@ module _ (OfIdent : Ident → Type 0) (OfByte : (at : ℕ) → Type 0) where
   more_exps no_exps e h i = (i, tt)
   more_exps (exp f es) e h i = (h.0, more_exps es e h.1 i)
 
-  more_values : (is : Inits) (x : Ident) (e : Exp) → ThroughInits OfIdent OfByte is → OfIdent x → Throughout OfIdent OfByte e → ThroughInits OfIdent OfByte (snoc_init is x e)
+  more_values : (is : Inits) (x : Ident) (e : Exp) → ThroughInits OfIdent OfByte is → OfIdent x → Throughout OfIdent OfByte e →
+      ThroughInits OfIdent OfByte (snoc_init is x e)
   more_values no_inits x e h i j = (i, j, tt)
   more_values (init y f is) x e h i j = (h.0, h.1, more_values is x e h.2 i j)
 
@@ -63,7 +75,8 @@ module _ (OfIdent : Ident → Type 0) (OfByte : (at : ℕ) → Type 0) where
   ThroughDec (one_variable x k e) = OfIdent x × ThroughKind OfIdent OfByte k × Throughout OfIdent OfByte e
   ThroughDec (one_function f ps k e) = OfIdent f × ThroughParams OfIdent OfByte ps × ThroughKind OfIdent OfByte k × Throughout OfIdent OfByte e
 
-  more_functions : (fs : FunDecs) (f : Ident) (ps : List Param) (k : Option Ident) (e : Exp) → ThroughFunctions OfIdent OfByte fs → ThroughDec (one_function f ps k e) → ThroughFunctions OfIdent OfByte (snoc_function fs f ps k e)
+  more_functions : (fs : FunDecs) (f : Ident) (ps : List Param) (k : Option Ident) (e : Exp) → ThroughFunctions OfIdent OfByte fs →
+      ThroughDec (one_function f ps k e) → ThroughFunctions OfIdent OfByte (snoc_function fs f ps k e)
   more_functions no_functions f ps k e h i = (i.0, i.1, i.2, i.3, tt)
   more_functions (function g qs r body fs) f ps k e h i = (h.0, h.1, h.2, h.3, more_functions fs f ps k e h.4 i)
 

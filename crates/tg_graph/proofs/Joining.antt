@@ -1,13 +1,16 @@
 -- Graphs, when two nodes are joined.
 use Rattle.std.specs.Prelude.{◌==◌, nat_eq, nat_lt}
-use Rattle.std.proofs.Common.{◌≡◌, ◌≢◌, ℕ, zero, suc, ◌+◌, ◌-◌, ◌<◌, ◌≤◌, ◌&&◌, ◌||◌, Bool, true, false, not, min, max, List, [], ◌∷◌, length, map, get_or, replicate, All, refl, sym, ap, ◌∙◌, subst, ⊎_elim, arith}
+use Rattle.std.proofs.Common.{◌≡◌, ◌≢◌, ℕ, zero, suc, ◌+◌, ◌-◌, ◌<◌, ◌≤◌, ◌&&◌, ◌||◌, Bool, true, false, not, min, max, List, [], ◌∷◌, length, map}
+use Rattle.std.proofs.Common.{get_or, replicate, All, refl, sym, ap, ◌∙◌, subst, ⊎_elim, arith}
 use Rattle.std.specs.List.{IsDistinct}
-use Rattle.std.proofs.lemmas.Bool.{cases_eq, cases_lt, cases_order, eq-eqb, ne_eqb, lt-ltb, le-ltb, eqb-true, or_cases, or_from, and_parts, and_left, and_right, false_from_ne_true}
+use Rattle.std.proofs.lemmas.Bool.{cases_eq, cases_lt, cases_order, eq-eqb, ne_eqb, lt-ltb, le-ltb, eqb-true, or_cases, or_from, and_parts, and_left}
+use Rattle.std.proofs.lemmas.Bool.{and_right, false_from_ne_true}
 use Rattle.std.proofs.lemmas.List.{get_or_past, get_or-map, length-replicate, length-map}
 use Rattle.std.proofs.lemmas.List.Folds.{list_any_at}
 use Rattle.std.proofs.lemmas.Map.Steps.{length-le_from_distinct_below}
 use Rattle.tg_graph.specs.Bits.{matrix_bit, pair_place, tiles_for}
-use Rattle.tg_graph.specs.Interference.{Interference, IsGraph, colours, most_nodes, is_register, is_among, neighbours, are_joined, interferes, are_ends, with_neighbour, bare}
+use Rattle.tg_graph.specs.Interference.{Interference, IsGraph, colours, most_nodes, is_register, is_among, neighbours, are_joined, interferes}
+use Rattle.tg_graph.specs.Interference.{are_ends, with_neighbour, bare}
 use Rattle.tg_graph.specs.Keeping.{IsKept, counted_up}
 use Rattle.tg_graph.proofs.Places.{same_pairs, matrix_unset, read_replicate}
 use Rattle.tg_graph.proofs.Changes.{among_with, distinct_with, counted_with, length_with}

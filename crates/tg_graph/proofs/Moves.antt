@@ -1,9 +1,11 @@
 -- Worklists, when a node is moved and when they begin.
 use Rattle.std.specs.Prelude.{◌==◌, if◌then◌else◌}
-use Rattle.std.proofs.Common.{◌≡◌, ◌≢◌, ℕ, ◌+◌, ◌-◌, ◌<◌, ◌≤◌, Bool, true, false, List, [], ◌∷◌, ◌++◌, length, get_or, set, replicate, slice_index, refl, sym, ap, ◌∙◌, subst, ⊎_elim, arith}
+use Rattle.std.proofs.Common.{◌≡◌, ◌≢◌, ℕ, ◌+◌, ◌-◌, ◌<◌, ◌≤◌, Bool, true, false, List, [], ◌∷◌, ◌++◌, length, get_or, set, replicate, slice_index}
+use Rattle.std.proofs.Common.{refl, sym, ap, ◌∙◌, subst, ⊎_elim, arith}
 use Rattle.std.specs.List.{range_with_len}
 use Rattle.std.proofs.lemmas.Bool.{cases_eq, cases_lt, eq-eqb, ne_eqb}
-use Rattle.std.proofs.lemmas.List.{get_or-set_same, get_or-set_other, length-set, length-append, length-replicate, get_or_append_left, get_or-append_right, get_or-replicate, append-nil}
+use Rattle.std.proofs.lemmas.List.{get_or-set_same, get_or-set_other, length-set, length-append, length-replicate, get_or_append_left}
+use Rattle.std.proofs.lemmas.List.{get_or-append_right, get_or-replicate, append-nil}
 use Rattle.std.proofs.lemmas.List.FromFn.{length-range_with_len, get_or-range_with_len}
 use Rattle.tg_graph.specs.declared.worklists.Worklist.{Worklist}
 use Rattle.tg_graph.specs.declared.worklists.Worklist.TheVariants.{Fixed, Simplify, Freeze, Spill, Stacked, Merged}
@@ -12,7 +14,8 @@ use Rattle.tg_graph.specs.Lists.{lists_by, nodes_in, number, without, started_in
 use Rattle.tg_graph.specs.Chains.{AreInverse, IsRun, Relinks, joined_to}
 use Rattle.tg_graph.specs.Linking.{AreLinked, list_from, total}
 use Rattle.tg_graph.proofs.Runs.{follows}
-use Rattle.tg_graph.proofs.Members.{bit, among_without_same, among_without_other, length_without, among_added_same, among_added_other, among_below, among_above, among_within}
+use Rattle.tg_graph.proofs.Members.{bit, among_without_same, among_without_other, length_without, among_added_same, among_added_other, among_below}
+use Rattle.tg_graph.proofs.Members.{among_above, among_within}
 
 pub nodes_by : (n : ℕ) (f : Worklist → List ℕ) (w : Worklist) → nodes_in (lists_by n f) w ≡ f w
 nodes_by n f Fixed = refl

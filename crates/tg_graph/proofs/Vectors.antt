@@ -1,6 +1,7 @@
 -- Vectors of lists, and what a call gives by its result.
 use Rattle.std.specs.Prelude.{◌==◌}
-use Rattle.std.proofs.Common.{◌≡◌, ℕ, ◌-◌, ◌/◌, ◌%◌, ◌<◌, ◌||◌, ◌≤◌, true, false, List, [], ◌∷◌, ◌++◌, length, take, get_or, set, Vec, Result, Ok, Err, OnOk, OnErr, is_err, refl, sym, ap, ◌∙◌, arith}
+use Rattle.std.proofs.Common.{◌≡◌, ℕ, ◌-◌, ◌/◌, ◌%◌, ◌<◌, ◌||◌, ◌≤◌, true, false, List, [], ◌∷◌, ◌++◌, length, take, get_or, set, Vec, Result, Ok}
+use Rattle.std.proofs.Common.{Err, OnOk, OnErr, is_err, refl, sym, ap, ◌∙◌, arith}
 use Rattle.std.specs.declared.alloc.Global.{Global}
 use Rattle.std.proofs.lemmas.List.{map-set, get_or-map, get_or-set_same, set-get_or, set-set, length-map, length_push, take_at}
 use Rattle.tg_graph.specs.Bits.{bit, matrix_bit}

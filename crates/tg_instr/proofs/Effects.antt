@@ -8,9 +8,11 @@ use Rattle.tg_base.specs.Words.{add}
 use Rattle.tg_instr.specs.declared.operands.Opnd.{Opnd}
 use Rattle.tg_instr.specs.declared.operands.Opnd.TheVariants.{Temp, Reg}
 use Rattle.tg_instr.specs.Operands.{is_same, registers}
-use Rattle.tg_instr.specs.Shapes.{Holder, Operand, Hi, Lo, From0, From1, From2, Halves, Copy, Loads, Stores, FromSlot, ToSlot, Base, AddressOf, Here, Goes, Tests, Calls, Asks, Fails, Returns}
+use Rattle.tg_instr.specs.Shapes.{Holder, Operand, Hi, Lo, From0, From1, From2, Halves, Copy, Loads, Stores, FromSlot, ToSlot, Base, AddressOf, Here}
+use Rattle.tg_instr.specs.Shapes.{Goes, Tests, Calls, Asks, Fails, Returns}
 use Rattle.tg_instr.specs.Uses.{arguments, given_back}
-use Rattle.tg_instr.specs.Contents.{Content, Nothing, Word, Contents, is_holder, set, held, handed, is_in, is_among, at_entry, left_unset, after_call, is_found, gives_back, content_of}
+use Rattle.tg_instr.specs.Contents.{Content, Nothing, Word, Contents, is_holder, set, held, handed, is_in, is_among, at_entry, left_unset, after_call}
+use Rattle.tg_instr.specs.Contents.{is_found, gives_back, content_of}
 use Rattle.tg_instr.specs.Meaning.{Next, Around, with_content_word, with_content, put_in, put_slot, jump, skip}
 use Rattle.tg_instr.specs.Laws as law
 use Rattle.tg_instr.specs.Laws.{within, only, Agree, changes, reads}

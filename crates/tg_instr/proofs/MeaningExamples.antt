@@ -8,7 +8,8 @@ use Rattle.tg_tree.specs.Tree.{Function}
 use Rattle.tg_instr.specs.declared.operands.Opnd.{Opnd}
 use Rattle.tg_instr.specs.declared.operands.Opnd.TheVariants.{Temp, Reg}
 use Rattle.tg_instr.specs.declared.instr.Instr.{Instr}
-use Rattle.tg_instr.specs.declared.instr.Instr.TheVariants.{Addiu, Div, Mfhi, Lw, Sw, Move, FrameLoad, FrameStore, FrameAddress, Address, Mark, Jump, Call, Service, Fault, Return}
+use Rattle.tg_instr.specs.declared.instr.Instr.TheVariants.{Addiu, Div, Mfhi, Lw, Sw, Move, FrameLoad, FrameStore, FrameAddress, Address, Mark, Jump}
+use Rattle.tg_instr.specs.declared.instr.Instr.TheVariants.{Call, Service, Fault, Return}
 use Rattle.tg_instr.specs.Running.{code_run}
 
 abbrev temp : ℕ → Opnd

@@ -12,7 +12,8 @@ image code statics = Ok (record { code = code; statics = statics; entry = 0x0040
 abbrev fault : AsmRule → ℕ → Result Assembled Fault
 fault rule line = Err (record { rule = rule; line = line })
 
-hi : assembled (codes ".data\nm: .asciiz \"hi\"\n.text\nmain: la $a0, m\nli $v0, 4\nsyscall\nli $a0, 7\nli $v0, 17\nsyscall") ≡ image (0x3C041001 ∷ 0x34840000 ∷ 0x24020004 ∷ 0x0000000C ∷ 0x24040007 ∷ 0x24020011 ∷ 0x0000000C ∷ []) (104 ∷ 105 ∷ 0 ∷ [])
+hi : assembled (codes ".data\nm: .asciiz \"hi\"\n.text\nmain: la $a0, m\nli $v0, 4\nsyscall\nli $a0, 7\nli $v0, 17\nsyscall") ≡
+    image (0x3C041001 ∷ 0x34840000 ∷ 0x24020004 ∷ 0x0000000C ∷ 0x24040007 ∷ 0x24020011 ∷ 0x0000000C ∷ []) (104 ∷ 105 ∷ 0 ∷ [])
 hi = refl
 
 label_twice : assembled (codes "main:\nmain:") ≡ fault A4 2
@@ -43,17 +44,21 @@ break_nine : assembled (codes "main: break 9") ≡ image (0x0000024D ∷ []) []
 break_nine = refl
 
 -- the words that a table of the machine's manual gives
-words : assembled (codes "main: addu $v0, $a0, $a1\nlw $t0, 4($sp)\nbreak 7\nx: beq $zero, $zero, x\nnop") ≡ image (0x00851021 ∷ 0x8FA80004 ∷ 0x000001CD ∷ 0x1000FFFF ∷ 0 ∷ []) []
+words : assembled (codes "main: addu $v0, $a0, $a1\nlw $t0, 4($sp)\nbreak 7\nx: beq $zero, $zero, x\nnop") ≡
+    image (0x00851021 ∷ 0x8FA80004 ∷ 0x000001CD ∷ 0x1000FFFF ∷ 0 ∷ []) []
 words = refl
 
-jumps : assembled (codes "f: jalr $t0\njal f\nmain: bne $a0 $0 g\nj main\ng: break") ≡ Ok (record { code = 0x0100F809 ∷ 0x0C100000 ∷ 0x14800001 ∷ 0x08100002 ∷ 0x0000000D ∷ []; statics = []; entry = 0x00400008 })
+jumps : assembled (codes "f: jalr $t0\njal f\nmain: bne $a0 $0 g\nj main\ng: break") ≡
+    Ok (record { code = 0x0100F809 ∷ 0x0C100000 ∷ 0x14800001 ∷ 0x08100002 ∷ 0x0000000D ∷ []; statics = []; entry = 0x00400008 })
 jumps = refl
 
-numbers : assembled (codes "main: li $t0, -32768\nli $t0, 65535\nli $t0, 65536\nmove $s0 $t0") ≡ image (0x24088000 ∷ 0x3408FFFF ∷ 0x3C080001 ∷ 0x35080000 ∷ 0x00088021 ∷ []) []
+numbers : assembled (codes "main: li $t0, -32768\nli $t0, 65535\nli $t0, 65536\nmove $s0 $t0") ≡
+    image (0x24088000 ∷ 0x3408FFFF ∷ 0x3C080001 ∷ 0x35080000 ∷ 0x00088021 ∷ []) []
 numbers = refl
 
 -- labels of the statics stand behind the padding, and at the end before it
-padding : assembled (codes "main: nop\n.data\n.byte 1, -1\nx:\n.word x, y, 0xFFFFFFFF\n.align 3\n.byte 2\ny:") ≡ image (0 ∷ []) (1 ∷ 255 ∷ 0 ∷ 0 ∷ 4 ∷ 0 ∷ 1 ∷ 16 ∷ 17 ∷ 0 ∷ 1 ∷ 16 ∷ 255 ∷ 255 ∷ 255 ∷ 255 ∷ 2 ∷ [])
+padding : assembled (codes "main: nop\n.data\n.byte 1, -1\nx:\n.word x, y, 0xFFFFFFFF\n.align 3\n.byte 2\ny:") ≡
+    image (0 ∷ []) (1 ∷ 255 ∷ 0 ∷ 0 ∷ 4 ∷ 0 ∷ 1 ∷ 16 ∷ 17 ∷ 0 ∷ 1 ∷ 16 ∷ 255 ∷ 255 ∷ 255 ∷ 255 ∷ 2 ∷ [])
 padding = refl
 
 unknown : assembled (codes "main:\n foo $t0") ≡ fault A2 2

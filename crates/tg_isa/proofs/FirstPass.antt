@@ -1,6 +1,7 @@
 -- The first pass lays readings out: what it knows of them behind the last line.
 use Rattle.std.specs.Prelude.{AllPairs, nat_le}
-use Rattle.std.proofs.Common.{◌≡◌, ◌≢◌, ◌≤◌, ◌+◌, ℕ, true, false, Bool, List, [], ◌∷◌, ◌++◌, length, map, None, Result, Ok, Err, get_or, suc, le-leb, refl, sym, ap, subst, ◌∙◌, arith, append_assoc, length-append}
+use Rattle.std.proofs.Common.{◌≡◌, ◌≢◌, ◌≤◌, ◌+◌, ℕ, true, false, Bool, List, [], ◌∷◌, ◌++◌, length, map, None, Result, Ok, Err, get_or, suc, le-leb}
+use Rattle.std.proofs.Common.{refl, sym, ap, subst, ◌∙◌, arith, append_assoc, length-append}
 use Rattle.std.specs.Str.{bytes_eq}
 use Rattle.std.specs.List.{All}
 use Rattle.std.proofs.lemmas.List.{append-nil, map-append, get_or_append_left}
@@ -11,7 +12,8 @@ use Rattle.tg_isa.specs.declared.keywords.Segment.{Segment}
 use Rattle.tg_isa.specs.declared.keywords.Segment.TheVariants.{Code, Statics}
 use Rattle.tg_isa.specs.declared.keywords.AsmRule.{AsmRule}
 use Rattle.tg_isa.specs.Items.{Item, Nothing, Section, Words, Data', widths}
-use Rattle.tg_isa.specs.Assembly.{Reading, LabelTarget, InCode, InStatics, Layout, next_spot, spot_among, spot_of, add_label, add_labels, round_up, add_item, labelled_item, add_reading, add_line, Fault, layout}
+use Rattle.tg_isa.specs.Assembly.{Reading, LabelTarget, InCode, InStatics, Layout, next_spot, spot_among, spot_of, add_label, add_labels, round_up}
+use Rattle.tg_isa.specs.Assembly.{add_item, labelled_item, add_reading, add_line, Fault, layout}
 use Rattle.tg_isa.specs.Placement.{segment_behind, Reads, item_words, code_in, byte_behind, last_byte, labels_in}
 
 -- the items of the statics among readings: how many, and where each begins
@@ -59,19 +61,24 @@ abbrev behind : Layout → Item → Layout
 behind l i =
     layout_with (segment_behind l.segment i) (l.words + length (item_words i)) (l.starts ++ item_starts l.size i) (byte_behind l.size i) l.labels
 
-same_layout : (segment : Segment) (w w' : ℕ) (s s' : List ℕ) (z : ℕ) (e e' : Entries) → w ≡ w' → s ≡ s' → e ≡ e' → layout_with segment w s z e ≡ layout_with segment w' s' z e'
+same_layout : (segment : Segment) (w w' : ℕ) (s s' : List ℕ) (z : ℕ) (e e' : Entries) → w ≡ w' → s ≡ s' → e ≡ e' →
+    layout_with segment w s z e ≡ layout_with segment w' s' z e'
 same_layout segment w w' s s' z e e' a b c = rw (a, b, c) refl
 
 -- an item within the limits
 item_added : (i : Item) (l : Layout) → l.words + length (item_words i) ≤ most_words → byte_behind l.size i ≤ most_bytes → add_item i l ≡ Ok (behind l i)
-item_added Nothing l h k = ap Ok (same_layout l.segment l.words (l.words + 0) l.starts (l.starts ++ []) l.size l.labels l.labels (omega arith) (sym (append-nil l.starts)) refl)
-item_added (Section s) l h k = ap Ok (same_layout s l.words (l.words + 0) l.starts (l.starts ++ []) l.size l.labels l.labels (omega arith) (sym (append-nil l.starts)) refl)
+item_added Nothing l h k = ap Ok (same_layout l.segment l.words (l.words + 0) l.starts (l.starts ++ []) l.size l.labels
+    l.labels (omega arith) (sym (append-nil l.starts)) refl)
+item_added (Section s) l h k = ap Ok (same_layout s l.words (l.words + 0) l.starts (l.starts ++ []) l.size l.labels
+    l.labels (omega arith) (sym (append-nil l.starts)) refl)
 item_added (Words ws) l h k =
     let t : nat_le (l.words + length ws) most_words ≡ true = le-leb (l.words + length ws) most_words h in
-    rw t (ap Ok (same_layout l.segment (l.words + length ws) (l.words + length ws) l.starts (l.starts ++ []) l.size l.labels l.labels refl (sym (append-nil l.starts)) refl))
+    rw t (ap Ok (same_layout l.segment (l.words + length ws) (l.words + length ws) l.starts (l.starts ++ []) l.size
+    l.labels l.labels refl (sym (append-nil l.starts)) refl))
 item_added (Data' multiple ds) l h k =
     let t : nat_le (round_up l.size multiple + widths ds) most_bytes ≡ true = le-leb (round_up l.size multiple + widths ds) most_bytes k in
-    rw t (ap Ok (same_layout l.segment l.words (l.words + 0) (l.starts ++ round_up l.size multiple ∷ []) (l.starts ++ round_up l.size multiple ∷ []) (round_up l.size multiple + widths ds) l.labels l.labels (omega arith) refl refl))
+    rw t (ap Ok (same_layout l.segment l.words (l.words + 0) (l.starts ++ round_up l.size multiple ∷ [])
+    (l.starts ++ round_up l.size multiple ∷ []) (round_up l.size multiple + widths ds) l.labels l.labels (omega arith) refl refl))
 
 -- Labels that differ: none is found before it is given.
 abbrev pub names_of : Entries → List (List ℕ)
@@ -118,13 +125,16 @@ added_new l name more e = rw (e, add_labels) refl
 with_entries : Layout → Entries → Result Layout AsmRule
 with_entries l es = Ok (record l { labels = es })
 
-labels_added : (names : List (List ℕ)) (l : Layout) (more : List (List ℕ)) → Differ (names_of l.labels ++ (names ++ more)) → add_labels l names ≡ Ok (labelled_so l names)
-labels_added [] l more h = ap Ok (same_layout l.segment l.words l.words l.starts l.starts l.size l.labels (l.labels ++ []) refl refl (sym (append-nil l.labels)))
+labels_added : (names : List (List ℕ)) (l : Layout) (more : List (List ℕ)) → Differ (names_of l.labels ++ (names ++ more)) →
+    add_labels l names ≡ Ok (labelled_so l names)
+labels_added [] l more h = ap Ok (same_layout l.segment l.words l.words l.starts l.starts l.size l.labels (l.labels ++ [])
+    refl refl (sym (append-nil l.labels)))
 labels_added (name ∷ names) l more h =
     let s = next_spot l l.segment in
     let m = add_label l name in
     let d : Differ (names_of m.labels ++ (names ++ more)) =
-    subst Differ (sym (ap (λ x. x ++ (names ++ more)) (names-append l.labels s (name ∷ [])) ∙ append_assoc (names_of l.labels) (name ∷ []) (names ++ more))) h in
+    subst Differ (sym (ap (λ x. x ++ (names ++ more)) (names-append l.labels s (name ∷ [])) ∙ append_assoc (names_of l.labels) (name ∷ []) (names ++ more)))
+    h in
     let e : m.labels ++ named_so (next_spot m m.segment) names ≡ l.labels ++ named_so s (name ∷ names) =
     ap (λ t. m.labels ++ named_so t names) (spot_same l m.labels l.segment) ∙ append_assoc l.labels ((name, s) ∷ []) (named_so s names) in
     added_new l name names (not_found l.labels name (others_before (names_of l.labels) (names ++ more) name h))
@@ -163,7 +173,9 @@ goes_on n more (Err e) = Err (record { rule = e; line = n })
 line_laid : (n : ℕ) (l m : Layout) (line : List ℕ) (more : List (List ℕ)) → add_line l line ≡ Ok m → layout n l (line ∷ more) ≡ layout (n + 1) m more
 line_laid n l m line more e = rw (e, layout) refl
 
-reading_laid : (l : Layout) (r : Reading) (more : List (List ℕ)) → Differ (names_of l.labels ++ (r.labels ++ more)) → l.words + length (item_words r.item) ≤ most_words → byte_behind l.size r.item ≤ most_bytes → add_reading l (Ok r) ≡ Ok (behind (labelled_so l r.labels) r.item)
+reading_laid : (l : Layout) (r : Reading) (more : List (List ℕ)) → Differ (names_of l.labels ++ (r.labels ++ more)) →
+    l.words + length (item_words r.item) ≤ most_words → byte_behind l.size r.item ≤ most_bytes → add_reading l (Ok r) ≡
+    Ok (behind (labelled_so l r.labels) r.item)
 reading_laid l r more d h k =
     ap (labelled_item r.item) (labels_added r.labels l more d) ∙ item_added r.item (labelled_so l r.labels) h k
 
@@ -179,11 +191,14 @@ laid_on l r rs =
     append_assoc l.labels front (spots_from s w (length (l.starts ++ item_starts l.size r.item)) rs)
     ∙ ap (λ t. l.labels ++ (named_so t r.labels ++ spots_from s w (length (l.starts ++ item_starts l.size r.item)) rs)) (spot_of_next l l.segment)
     ∙ ap (λ t. l.labels ++ (named_so (spot_next l.segment l.words (length l.starts)) r.labels ++ spots_from s w t rs)) k in
-    same_layout (segment_end s rs) (w + length (code_in rs)) (l.words + length (item_words r.item ++ code_in rs)) ((l.starts ++ item_starts l.size r.item) ++ starts_from (byte_behind l.size r.item) rs) _ (last_byte (byte_behind l.size r.item) rs) _ _
+    same_layout (segment_end s rs) (w + length (code_in rs)) (l.words + length (item_words r.item ++ code_in rs))
+    ((l.starts ++ item_starts l.size r.item) ++ starts_from (byte_behind l.size r.item) rs) _ (last_byte (byte_behind l.size r.item) rs) _ _
     (omega (arith, n)) (append_assoc l.starts (item_starts l.size r.item) (starts_from (byte_behind l.size r.item) rs)) e
 
-pub lays : (n : ℕ) (ls : List (List ℕ)) (l : Layout) (rs : List Reading) → Reads l.segment ls rs → Differ (names_of l.labels ++ labels_in rs) → l.words + length (code_in rs) ≤ most_words → last_byte l.size rs ≤ most_bytes → layout n l ls ≡ Ok (laid l rs)
-lays n [] l [] h d w b = ap Ok (same_layout l.segment l.words (l.words + 0) l.starts (l.starts ++ []) l.size l.labels (l.labels ++ []) (omega arith) (sym (append-nil l.starts)) (sym (append-nil l.labels)))
+pub lays : (n : ℕ) (ls : List (List ℕ)) (l : Layout) (rs : List Reading) → Reads l.segment ls rs →
+    Differ (names_of l.labels ++ labels_in rs) → l.words + length (code_in rs) ≤ most_words → last_byte l.size rs ≤ most_bytes → layout n l ls ≡ Ok (laid l rs)
+lays n [] l [] h d w b = ap Ok (same_layout l.segment l.words (l.words + 0) l.starts (l.starts ++ []) l.size l.labels
+    (l.labels ++ []) (omega arith) (sym (append-nil l.starts)) (sym (append-nil l.labels)))
 lays n [] l (r ∷ rs) h d w b = absurd h
 lays n (line ∷ ls) l [] h d w b = absurd h
 lays n (line ∷ ls) l (r ∷ rs) h d w b =
@@ -192,5 +207,6 @@ lays n (line ∷ ls) l (r ∷ rs) h d w b =
     let g = bytes_grow rs (byte_behind l.size r.item) in
     let one : add_line l line ≡ Ok m = ap (add_reading l) h.0 ∙ reading_laid l r (labels_in rs) d (omega (arith, c, w)) (omega (arith, g, b)) in
     let d' : Differ (names_of m.labels ++ labels_in rs) =
-    subst Differ (sym (ap (λ x. x ++ labels_in rs) (names-append l.labels (next_spot l l.segment) r.labels) ∙ append_assoc (names_of l.labels) r.labels (labels_in rs))) d in
+    subst Differ (sym (ap (λ x. x ++ labels_in rs) (names-append l.labels (next_spot l l.segment) r.labels)
+    ∙ append_assoc (names_of l.labels) r.labels (labels_in rs))) d in
     line_laid n l m line ls one ∙ lays (n + 1) ls m rs h.1 d' (omega (arith, c, w)) b ∙ ap Ok (laid_on l r rs)

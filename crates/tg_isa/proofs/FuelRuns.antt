@@ -59,7 +59,8 @@ runs_behind (suc n) s input front =
     (subst (λ r. IsRunBehind (suc n) front (go_on n (proceed (world s (answers input) front) (step s))) r) (sym (machine_run-suc s input n))
     (by (step s) (λ t i f. runs_behind n t i f)))
   where
-    by : (d : Step) → ((t : MachineState) (i f : List ℕ) → IsRunBehind n f (run n (world t (answers i) f)) (machine_run t i n)) → IsRunBehind (suc n) front (go_on n (proceed (world s (answers input) front) d)) (works 1 (stepped input n d))
+    by : (d : Step) → ((t : MachineState) (i f : List ℕ) → IsRunBehind n f (run n (world t (answers i) f)) (machine_run t i n)) →
+        IsRunBehind (suc n) front (go_on n (proceed (world s (answers input) front) d)) (works 1 (stepped input n d))
     by (Goes t) ih = one_more n front (run n (world t (answers input) front)) (machine_run t input n) (ih t input front)
     by (Ends e) ih = (append-nil front, refl, refl, omega arith)
     by (Reads t) ih =
@@ -81,9 +82,11 @@ stays_over zero j s input l h = absurd h
 stays_over (suc i) zero s input l h = absurd (omega (arith, l))
 stays_over (suc i) (suc j) s input l h =
     let k : i ≤ j = omega (arith, l) in
-    machine_run-suc s input j ∙ ap (works 1) (by (step s) (λ t x. stays_over i j t x k) (subst (λ (r : Ran). IsOver r.stop) (machine_run-suc s input i) h)) ∙ sym (machine_run-suc s input i)
+    machine_run-suc s input j ∙ ap (works 1) (by (step s) (λ t x. stays_over i j t x k) (subst (λ (r : Ran). IsOver r.stop) (machine_run-suc s input i) h))
+    ∙ sym (machine_run-suc s input i)
   where
-    by : (d : Step) → ((t : MachineState) (x : List ℕ) → IsOver (machine_run t x i).stop → machine_run t x j ≡ machine_run t x i) → IsOver (stepped input i d).stop → stepped input j d ≡ stepped input i d
+    by : (d : Step) → ((t : MachineState) (x : List ℕ) → IsOver (machine_run t x i).stop → machine_run t x j ≡ machine_run t x i) →
+        IsOver (stepped input i d).stop → stepped input j d ≡ stepped input i d
     by (Goes t) ih o = ih t input o
     by (Ends e) ih o = refl
     by (Reads t) ih o = ih (answered t (first_byte input)) (later_bytes input) o
@@ -97,7 +100,11 @@ works_on : (p q : Ran) → GoesOn p q → GoesOn (works 1 p) (works 1 q)
 works_on p q g = let w = g.work in let l : 1 + p.work ≤ 1 + q.work = omega (arith, w) in record { output = g.output; input = g.input; work = l }
 
 writes_on : (bytes : List ℕ) (p q : Ran) → GoesOn p q → GoesOn (writes bytes p) (writes bytes q)
-writes_on bytes p q g = record { output = (g.output.0, ap (λ o. bytes ++ o) g.output.1 ∙ sym (append_assoc bytes p.output g.output.0)); input = g.input; work = g.work }
+writes_on bytes p q g = record {
+  output = (g.output.0, ap (λ o. bytes ++ o) g.output.1 ∙ sym (append_assoc bytes p.output g.output.0));
+  input = g.input;
+  work = g.work;
+}
 
 -- a run from a moment on only takes from its input
 abbrev Takes : List ℕ → Ran → Type 0
@@ -114,7 +121,8 @@ takes (suc n) s input = subst (Takes input) (sym (machine_run-suc s input n)) (b
     by : (d : Step) → ((t : MachineState) (x : List ℕ) → Takes x (machine_run t x n)) → Takes input (works 1 (stepped input n d))
     by (Goes t) ih = ih t input
     by (Ends e) ih = ([], refl)
-    by (Reads t) ih = takes_more input (machine_run (answered t (first_byte input)) (later_bytes input) n) (ih (answered t (first_byte input)) (later_bytes input))
+    by (Reads t) ih = takes_more input (machine_run (answered t (first_byte input)) (later_bytes input) n)
+        (ih (answered t (first_byte input)) (later_bytes input))
     by (Writes bytes t) ih = ih t input
 
 goes_on : (i j : ℕ) (s : MachineState) (input : List ℕ) → i ≤ j → GoesOn (machine_run s input i) (machine_run s input j)

@@ -1,7 +1,9 @@
 -- The row of an instruction's word is that instruction.
 use Rattle.std.proofs.Common.{◌≡◌, ◌≢◌, ap, Option, None, IfNone, ◌<◌, ◌/◌, ◌%◌, ℕ, arith, refl, Some, lit<}
 use Rattle.tg_isa.specs.declared.mips.Mips.{Mips}
-use Rattle.tg_isa.specs.declared.mips.Mips.TheVariants.{Sll, Srl, Sra, Jr, Jalr, Syscall, Break, Mfhi, Mflo, Mult, Div, Add, Sub, Addu, Subu, And, Or, Xor, Nor, Slt, Sltu, J, Jal, Beq, Bne, Blez, Bgtz, Bltz, Bgez, Addi, Addiu, Slti, Sltiu, Andi, Ori, Xori, Lui, Lb, Lbu, Lw, Sb, Sw}
+use Rattle.tg_isa.specs.declared.mips.Mips.TheVariants.{Sll, Srl, Sra, Jr, Jalr, Syscall, Break, Mfhi, Mflo, Mult, Div, Add, Sub, Addu, Subu, And, Or}
+use Rattle.tg_isa.specs.declared.mips.Mips.TheVariants.{Xor, Nor, Slt, Sltu, J, Jal, Beq, Bne, Blez, Bgtz, Bltz, Bgez, Addi, Addiu, Slti, Sltiu, Andi}
+use Rattle.tg_isa.specs.declared.mips.Mips.TheVariants.{Ori, Xori, Lui, Lb, Lbu, Lw, Sb, Sw}
 use Rattle.tg_isa.specs.Table.{register_form, immediate_form, jump_form, code_form, word_of, IsRow, decode_of}
 
 -- the fields of a word, by name
@@ -13,7 +15,8 @@ record Fields (w opcode rs rt rd shamt funct : ℕ) : Type 0 where
   shamt_is : w / 64 % 32 ≡ shamt
   funct_is : w % 64 ≡ funct
 
-register_fields : (rs rt rd shamt funct : ℕ) → rs < 32 → rt < 32 → rd < 32 → shamt < 32 → funct < 64 → Fields (register_form rs rt rd shamt funct) 0 rs rt rd shamt funct
+register_fields : (rs rt rd shamt funct : ℕ) → rs < 32 → rt < 32 → rd < 32 → shamt < 32 → funct < 64 →
+    Fields (register_form rs rt rd shamt funct) 0 rs rt rd shamt funct
 register_fields rs rt rd shamt funct a b c d e = record {
   opcode_is = omega arith;
   rs_is = omega arith;

@@ -1,5 +1,6 @@
 -- Numbers, registers and labels are read as they are written.
-use Rattle.std.proofs.Common.{◌≡◌, ◌≢◌, ◌⊎◌, inl, inr, ◌<◌, ◌≤◌, ◌+◌, ◌-◌, ◌*◌, ◌/◌, ◌%◌, ◌^◌, ℕ, zero, suc, Bool, true, false, not, cond, List, [], ◌∷◌, ◌++◌, length, Option, Some, None, refl, sym, ap, subst, ◌∙◌, arith, append_assoc}
+use Rattle.std.proofs.Common.{◌≡◌, ◌≢◌, ◌⊎◌, inl, inr, ◌<◌, ◌≤◌, ◌+◌, ◌-◌, ◌*◌, ◌/◌, ◌%◌, ◌^◌, ℕ, zero, suc, Bool, true, false, not, cond, List, []}
+use Rattle.std.proofs.Common.{◌∷◌, ◌++◌, length, Option, Some, None, refl, sym, ap, subst, ◌∙◌, arith, append_assoc}
 use Rattle.std.specs.Prelude.{◌&&◌, ◌||◌, ◌==◌, nat_lt, if◌then◌else◌}
 use Rattle.std.specs.Fmt.{decimal}
 use Rattle.std.proofs.lemmas.Fmt.{decimal_by_steps}
@@ -8,9 +9,11 @@ use Rattle.std.proofs.lemmas.Bool.Decides.{eqb_tells}
 use Rattle.std.proofs.Math.Nat.{mod-eq_of_lt}
 use Rattle.tg_isa.specs.Names.{name_of}
 use Rattle.tg_isa.specs.Lines.{front, back, is_end, begins_label, is_past_label}
-use Rattle.tg_isa.specs.Operands.{Signed, capped, digit, digits, some_digits, hexadecimal, magnitude, with_sign, number, is_within, field, register, is_label, or_nothing, address_of, closed_address, in_parens, based}
+use Rattle.tg_isa.specs.Operands.{Signed, capped, digit, digits, some_digits, hexadecimal, magnitude, with_sign, number, is_within, field, register}
+use Rattle.tg_isa.specs.Operands.{is_label, or_nothing, address_of, closed_address, in_parens, based}
 use Rattle.tg_isa.specs.Writing.{signed_text, based_text}
-use Rattle.tg_isa.proofs.WordCuts.{and_true, or_false, not_true, none_of, is_some, is_newline, first_not, rest_not, none_cons, none_append, front_until, back_until, IsWord}
+use Rattle.tg_isa.proofs.WordCuts.{and_true, or_false, not_true, none_of, is_some, is_newline, first_not, rest_not, none_cons, none_append}
+use Rattle.tg_isa.proofs.WordCuts.{front_until, back_until, IsWord}
 
 -- what holds of all small numbers
 abbrev all_below : ℕ → (ℕ → Bool) → Bool
@@ -81,7 +84,8 @@ last_digit v w c d [] h e =
     rw (e, digits) (ap (λ j. Some (capped (10 * j + d))) s)
 last_digit v w c d (x ∷ ds) h e = by (digit 10 x) refl (λ j. last_digit j w c d ds)
   where
-    by : (o : Option ℕ) → digit 10 x ≡ o → ((j : ℕ) → digits 10 j ds ≡ Some w → digit 10 c ≡ Some d → digits 10 j (ds ++ c ∷ []) ≡ Some (capped (10 * w + d))) → digits 10 v (x ∷ ds ++ c ∷ []) ≡ Some (capped (10 * w + d))
+    by : (o : Option ℕ) → digit 10 x ≡ o → ((j : ℕ) → digits 10 j ds ≡ Some w → digit 10 c ≡ Some d → digits 10 j (ds ++ c ∷ []) ≡ Some (capped (10 * w + d))) →
+        digits 10 v (x ∷ ds ++ c ∷ []) ≡ Some (capped (10 * w + d))
     by (Some y) k ih = rw (k, digits) (ih (capped (10 * v + y)) (rw (k, digits) at h) e)
     by None k ih = let o = rw (k, digits) at h in cc
 
@@ -195,14 +199,16 @@ signed_of n = if nat_lt n 32768 then record { negative = false; size = n } else 
 pub signed_number : (n : ℕ) → n < 2 ^ 16 → NumberText (signed_text n) (signed_of n)
 signed_number n h = by (nat_lt n 32768)
   where
-    by : (b : Bool) → NumberText (if b then decimal n else 45 ∷ decimal (65536 - n)) (if b then record { negative = false; size = n } else record { negative = true; size = 65536 - n })
+    by : (b : Bool) → NumberText (if b then decimal n else 45 ∷ decimal (65536 - n))
+        (if b then record { negative = false; size = n } else record { negative = true; size = 65536 - n })
     by true = decimal_text n (omega (arith, h))
     by false = minus_text (65536 - n) (omega (arith, h))
 
 pub signed_within : (n : ℕ) → n < 2 ^ 16 → is_within 32768 32767 (signed_of n) ≡ true
 signed_within n h = by (nat_lt n 32768) refl
   where
-    by : (b : Bool) → nat_lt n 32768 ≡ b → is_within 32768 32767 (if b then record { negative = false; size = n } else record { negative = true; size = 65536 - n }) ≡ true
+    by : (b : Bool) → nat_lt n 32768 ≡ b →
+        is_within 32768 32767 (if b then record { negative = false; size = n } else record { negative = true; size = 65536 - n }) ≡ true
     by true e = let l = ltb-true n 32768 e in le-leb n 32767 (omega (arith, l))
     by false e = let l = ltb-false n 32768 e in le-leb (65536 - n) 32768 (omega (arith, l))
 
@@ -226,7 +232,8 @@ based_word n r h k =
     let w = name_word r k in
     record {
       ends = none_append is_end (signed_text n ++ 40 ∷ name_of r) (41 ∷ []) (none_append is_end (signed_text n) (40 ∷ name_of r) s.ends w.ends) refl;
-      newlines = none_append is_newline (signed_text n ++ 40 ∷ name_of r) (41 ∷ []) (none_append is_newline (signed_text n) (40 ∷ name_of r) s.newlines w.newlines) refl;
+      newlines = none_append is_newline (signed_text n ++ 40 ∷ name_of r) (41 ∷ [])
+          (none_append is_newline (signed_text n) (40 ∷ name_of r) s.newlines w.newlines) refl;
       some = some_more (signed_text n ++ 40 ∷ name_of r) 41;
     }
 
@@ -234,7 +241,8 @@ or_number : (t : List ℕ) → is_some t ≡ true → or_nothing t ≡ number t
 or_number [] h = cc
 or_number (c ∷ t) h = refl
 
-closed_read : (s : Signed) (r : ℕ) (name : List ℕ) → none_of is_close name ≡ true → register name ≡ Some r → closed_address (Some s) (name ++ 41 ∷ []) ≡ Some (record { number = s; base = r })
+closed_read : (s : Signed) (r : ℕ) (name : List ℕ) → none_of is_close name ≡ true → register name ≡ Some r →
+    closed_address (Some s) (name ++ 41 ∷ []) ≡ Some (record { number = s; base = r })
 closed_read s r name c e =
     let b : back is_close (name ++ 41 ∷ []) ≡ 41 ∷ [] = back_until is_close name (41 ∷ []) c refl in
     let f : front is_close (name ++ 41 ∷ []) ≡ name = front_until is_close name (41 ∷ []) c refl in
@@ -242,7 +250,8 @@ closed_read s r name c e =
     ∙ ap (λ l. address_of (Some s) (register l)) f
     ∙ ap (address_of (Some s)) e
 
-based_at : (t name : List ℕ) (s : Signed) (r : ℕ) → NumberText t s → none_of is_close name ≡ true → register name ≡ Some r → based (t ++ 40 ∷ (name ++ 41 ∷ [])) ≡ Some (record { number = s; base = r })
+based_at : (t name : List ℕ) (s : Signed) (r : ℕ) → NumberText t s → none_of is_close name ≡ true → register name ≡ Some r →
+    based (t ++ 40 ∷ (name ++ 41 ∷ [])) ≡ Some (record { number = s; base = r })
 based_at t name s r n c e =
     let rest = 40 ∷ (name ++ 41 ∷ []) in
     let f : front is_open (t ++ rest) ≡ t = front_until is_open t rest n.opens refl in
@@ -253,7 +262,8 @@ based_at t name s r n c e =
     ∙ closed_read s r name c e
 
 pub based_read : (n r : ℕ) → n < 2 ^ 16 → r < 32 → based (based_text n r) ≡ Some (record { number = signed_of n; base = r })
-based_read n r h k = ap based (append_assoc (signed_text n) (40 ∷ name_of r) (41 ∷ [])) ∙ based_at (signed_text n) (name_of r) (signed_of n) r (signed_number n h) (name_closes r k) (register_named r k)
+based_read n r h k = ap based (append_assoc (signed_text n) (40 ∷ name_of r) (41 ∷ []))
+    ∙ based_at (signed_text n) (name_of r) (signed_of n) r (signed_number n h) (name_closes r k) (register_named r k)
 
 -- labels
 pub none_past : (class : ℕ → Bool) (t : List ℕ) → (length (back class t) == 0) ≡ true → none_of class t ≡ true

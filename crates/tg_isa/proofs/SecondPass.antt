@@ -1,15 +1,21 @@
 -- The second pass makes of readings what stands at their places.
 use Rattle.std.specs.Prelude.{◌-◌, ◌/◌, replicate, nat_lt, nat_le}
-use Rattle.std.proofs.Common.{◌≡◌, ◌≤◌, ◌+◌, ◌^◌, ℕ, suc, true, false, Bool, List, [], ◌∷◌, ◌++◌, length, Option, Some, None, Result, Ok, Err, refl, sym, ap, subst, ◌∙◌, arith, append_assoc, length-append, le-leb, lt-ltb, ltb-true, ltb-false}
+use Rattle.std.proofs.Common.{◌≡◌, ◌≤◌, ◌+◌, ◌^◌, ℕ, suc, true, false, Bool, List, [], ◌∷◌, ◌++◌, length, Option, Some, None, Result, Ok, Err, refl}
+use Rattle.std.proofs.Common.{sym, ap, subst, ◌∙◌, arith, append_assoc, length-append, le-leb, lt-ltb, ltb-true, ltb-false}
 use Rattle.std.proofs.lemmas.List.{append-nil, length-replicate}
 use Rattle.tg_base.specs.State.{code_base}
 use Rattle.tg_isa.specs.declared.mips.Mips.{Mips}
 use Rattle.tg_isa.specs.declared.keywords.Segment.{Segment}
 use Rattle.tg_isa.specs.declared.keywords.AsmRule.{AsmRule}
 use Rattle.tg_isa.specs.Table.{word_of}
-use Rattle.tg_isa.specs.Items.{Item, Nothing, Section, Words, Data', Coded, Fixed, Branch, Jump, Upper, Lower, Datum, Value, AddressOfLabel, Single, Bytes, Zeros, width, widths}
-use Rattle.tg_isa.specs.Assembly.{Reading, LabelTarget, InCode, InStatics, Layout, spot_of, with_offset, with_target, branch_word, branch_to, jump_to, upper, lower, word, place_bytes, datum_bytes, Made, make_words, make_data, pad, round_up, make_item, make_reading, make_line, make}
-use Rattle.tg_isa.specs.Placement.{segment_behind, Reads, item_words, code_in, byte_behind, Positions, found_word, offset_to, placed_word, placed_words, placed_datum, placed_data, placed_item, placed_bytes, BranchReaches, JumpReaches, WordReaches, WordsReach, DatumStands, DataStand, ItemStands, ItemsStand}
+use Rattle.tg_isa.specs.Items.{Item, Nothing, Section, Words, Data', Coded, Fixed, Branch, Jump, Upper, Lower, Datum, Value, AddressOfLabel, Single}
+use Rattle.tg_isa.specs.Items.{Bytes, Zeros, width, widths}
+use Rattle.tg_isa.specs.Assembly.{Reading, LabelTarget, InCode, InStatics, Layout, spot_of, with_offset, with_target, branch_word, branch_to, jump_to}
+use Rattle.tg_isa.specs.Assembly.{upper, lower, word, place_bytes, datum_bytes, Made, make_words, make_data, pad, round_up, make_item, make_reading}
+use Rattle.tg_isa.specs.Assembly.{make_line, make}
+use Rattle.tg_isa.specs.Placement.{segment_behind, Reads, item_words, code_in, byte_behind, Positions, found_word, offset_to, placed_word}
+use Rattle.tg_isa.specs.Placement.{placed_words, placed_datum, placed_data, placed_item, placed_bytes, BranchReaches, JumpReaches, WordReaches}
+use Rattle.tg_isa.specs.Placement.{WordsReach, DatumStands, DataStand, ItemStands, ItemsStand}
 use Rattle.tg_isa.proofs.FirstPass.{segment_end}
 use Rattle.tg_isa.proofs.LabelTables.{found_so, Knows, address_known}
 
@@ -29,12 +35,14 @@ branch_near one at to h k = by (nat_lt at to) refl
         let o : 2 ^ 16 - (at + 1 - to) ≡ offset_to at to = omega (arith, l, k) in
         rw (e, t) (ap (λ n. Ok (word_of (with_offset one n))) o)
 
-branch_found : (one : Mips) (at : ℕ) (starts : List ℕ) (size : ℕ) (o : Option LabelTarget) → BranchReaches at (found_so starts size o) → branch_to one at o ≡ Ok (word_of (with_offset one (offset_to at (found_word (found_so starts size o)))))
+branch_found : (one : Mips) (at : ℕ) (starts : List ℕ) (size : ℕ) (o : Option LabelTarget) → BranchReaches at (found_so starts size o) →
+    branch_to one at o ≡ Ok (word_of (with_offset one (offset_to at (found_word (found_so starts size o)))))
 branch_found one at starts size (Some (InCode to)) h = branch_near one at to h.0 h.1
 branch_found one at starts size (Some (InStatics k)) h = absurd h
 branch_found one at starts size None h = absurd h
 
-jump_found : (l : Layout) (one : Mips) (starts : List ℕ) (size : ℕ) (o : Option LabelTarget) → JumpReaches l.words (found_so starts size o) → jump_to l one o ≡ Ok (word_of (with_target one (code_base / 4 + found_word (found_so starts size o))))
+jump_found : (l : Layout) (one : Mips) (starts : List ℕ) (size : ℕ) (o : Option LabelTarget) →
+    JumpReaches l.words (found_so starts size o) → jump_to l one o ≡ Ok (word_of (with_target one (code_base / 4 + found_word (found_so starts size o))))
 jump_found l one starts size (Some (InCode to)) h = let t : nat_lt to l.words ≡ true = lt-ltb to l.words h in rw t refl
 jump_found l one starts size (Some (InStatics k)) h = absurd h
 jump_found l one starts size None h = absurd h
@@ -66,7 +74,8 @@ words_on l m more (Err e) = Err e
 length-one : (xs : List ℕ) (x : ℕ) → length (xs ++ x ∷ []) ≡ length xs + 1
 length-one xs x = length-append xs (x ∷ [])
 
-words_made : (l : Layout) (ps : Positions) (cs : List Coded) (m : Made) → Knows l ps → WordsReach ps l.words (length m.code) cs → make_words l m cs ≡ Ok (record m { code = m.code ++ placed_words ps (length m.code) cs })
+words_made : (l : Layout) (ps : Positions) (cs : List Coded) (m : Made) → Knows l ps → WordsReach ps l.words (length m.code) cs →
+    make_words l m cs ≡ Ok (record m { code = m.code ++ placed_words ps (length m.code) cs })
 words_made l ps [] m k h = ap Ok (same_made m.segment m.code (m.code ++ []) m.statics m.statics (sym (append-nil m.code)) refl)
 words_made l ps (c ∷ cs) m k h =
     let w = placed_word ps (length m.code) c in
@@ -105,7 +114,8 @@ abbrev data_on : Layout → Made → List Datum → Result (List ℕ) AsmRule �
 data_on l m more (Ok bytes) = make_data l (record m { statics = m.statics ++ bytes }) more
 data_on l m more (Err e) = Err e
 
-data_made : (l : Layout) (ps : Positions) (ds : List Datum) (m : Made) → Knows l ps → DataStand ps ds → make_data l m ds ≡ Ok (record m { statics = m.statics ++ placed_data ps ds })
+data_made : (l : Layout) (ps : Positions) (ds : List Datum) (m : Made) → Knows l ps → DataStand ps ds → make_data l m ds ≡
+    Ok (record m { statics = m.statics ++ placed_data ps ds })
 data_made l ps [] m k h = ap Ok (same_made m.segment m.code m.code m.statics (m.statics ++ []) refl (sym (append-nil m.statics)))
 data_made l ps (d ∷ ds) m k h =
     let bytes = placed_datum ps d in
@@ -115,22 +125,29 @@ data_made l ps (d ∷ ds) m k h =
 
 -- items
 abbrev made_behind : Positions → Made → Item → Made
-made_behind ps m i = made_with (segment_behind m.segment i) (m.code ++ placed_words ps (length m.code) (item_words i)) (m.statics ++ placed_item ps (length m.statics) i)
+made_behind ps m i = made_with (segment_behind m.segment i) (m.code ++ placed_words ps (length m.code) (item_words i))
+    (m.statics ++ placed_item ps (length m.statics) i)
 
-item_made : (l : Layout) (ps : Positions) (i : Item) (m : Made) → Knows l ps → WordsReach ps l.words (length m.code) (item_words i) → ItemStands ps i → make_item l m i ≡ Ok (made_behind ps m i)
-item_made l ps Nothing m k h d = ap Ok (same_made m.segment m.code (m.code ++ []) m.statics (m.statics ++ []) (sym (append-nil m.code)) (sym (append-nil m.statics)))
-item_made l ps (Section s) m k h d = ap Ok (same_made s m.code (m.code ++ []) m.statics (m.statics ++ []) (sym (append-nil m.code)) (sym (append-nil m.statics)))
+item_made : (l : Layout) (ps : Positions) (i : Item) (m : Made) → Knows l ps → WordsReach ps l.words (length m.code) (item_words i) →
+    ItemStands ps i → make_item l m i ≡ Ok (made_behind ps m i)
+item_made l ps Nothing m k h d = ap Ok (same_made m.segment m.code (m.code ++ []) m.statics (m.statics ++ [])
+    (sym (append-nil m.code)) (sym (append-nil m.statics)))
+item_made l ps (Section s) m k h d = ap Ok (same_made s m.code (m.code ++ []) m.statics (m.statics ++ [])
+    (sym (append-nil m.code)) (sym (append-nil m.statics)))
 item_made l ps (Words ws) m k h d =
-    words_made l ps ws m k h ∙ ap Ok (same_made m.segment _ (m.code ++ placed_words ps (length m.code) ws) m.statics (m.statics ++ []) refl (sym (append-nil m.statics)))
+    words_made l ps ws m k h ∙ ap Ok (same_made m.segment _ (m.code ++ placed_words ps (length m.code) ws) m.statics
+    (m.statics ++ []) refl (sym (append-nil m.statics)))
 item_made l ps (Data' multiple ds) m k h d =
     data_made l ps ds (pad m multiple) k d
-    ∙ ap Ok (same_made m.segment m.code (m.code ++ []) _ _ (sym (append-nil m.code)) (append_assoc m.statics (replicate (round_up (length m.statics) multiple - length m.statics) 0) (placed_data ps ds)))
+    ∙ ap Ok (same_made m.segment m.code (m.code ++ []) _ _ (sym (append-nil m.code))
+    (append_assoc m.statics (replicate (round_up (length m.statics) multiple - length m.statics) 0) (placed_data ps ds)))
 
 length-placed_words : (ps : Positions) (cs : List Coded) (at : ℕ) → length (placed_words ps at cs) ≡ length cs
 length-placed_words ps [] at = refl
 length-placed_words ps (c ∷ cs) at = ap suc (length-placed_words ps cs (at + 1))
 
-placed_words-append : (ps : Positions) (xs ys : List Coded) (at : ℕ) → placed_words ps at (xs ++ ys) ≡ placed_words ps at xs ++ placed_words ps (at + length xs) ys
+placed_words-append : (ps : Positions) (xs ys : List Coded) (at : ℕ) → placed_words ps at (xs ++ ys) ≡ placed_words ps at xs ++
+    placed_words ps (at + length xs) ys
 placed_words-append ps [] ys at = let z : at ≡ at + 0 = omega arith in ap (λ j. placed_words ps j ys) z
 placed_words-append ps (x ∷ xs) ys at =
     let z : at + 1 + length xs ≡ at + length (x ∷ xs) = omega arith in
@@ -158,11 +175,13 @@ length-placed_item ps (Data' multiple ds) b =
     omega (arith, a, r, c)
 
 -- all readings
-line_made : (n : ℕ) (l : Layout) (m m' : Made) (line : List ℕ) (more : List (List ℕ)) → make_line l m line ≡ Ok m' → make n l m (line ∷ more) ≡ make (n + 1) l m' more
+line_made : (n : ℕ) (l : Layout) (m m' : Made) (line : List ℕ) (more : List (List ℕ)) → make_line l m line ≡ Ok m' →
+    make n l m (line ∷ more) ≡ make (n + 1) l m' more
 line_made n l m m' line more e = rw (e, make) refl
 
 abbrev all_made : Positions → Made → List Reading → Made
-all_made ps m rs = made_with (segment_end m.segment rs) (m.code ++ placed_words ps (length m.code) (code_in rs)) (m.statics ++ placed_bytes ps (length m.statics) rs)
+all_made ps m rs = made_with (segment_end m.segment rs) (m.code ++ placed_words ps (length m.code) (code_in rs))
+    (m.statics ++ placed_bytes ps (length m.statics) rs)
 
 made_on : (ps : Positions) (m : Made) (r : Reading) (rs : List Reading) → all_made ps (made_behind ps m r.item) rs ≡ all_made ps m (r ∷ rs)
 made_on ps m r rs =
@@ -179,8 +198,10 @@ made_on ps m r rs =
     (append_assoc m.statics bs (placed_bytes ps (length (m.statics ++ bs)) rs)
     ∙ ap (λ j. m.statics ++ (bs ++ placed_bytes ps j rs)) k)
 
-pub makes : (n : ℕ) (l : Layout) (ps : Positions) (ls : List (List ℕ)) (m : Made) (rs : List Reading) → Knows l ps → Reads m.segment ls rs → WordsReach ps l.words (length m.code) (code_in rs) → ItemsStand ps rs → make n l m ls ≡ Ok (all_made ps m rs)
-makes n l ps [] m [] k h w d = ap Ok (same_made m.segment m.code (m.code ++ []) m.statics (m.statics ++ []) (sym (append-nil m.code)) (sym (append-nil m.statics)))
+pub makes : (n : ℕ) (l : Layout) (ps : Positions) (ls : List (List ℕ)) (m : Made) (rs : List Reading) → Knows l ps →
+    Reads m.segment ls rs → WordsReach ps l.words (length m.code) (code_in rs) → ItemsStand ps rs → make n l m ls ≡ Ok (all_made ps m rs)
+makes n l ps [] m [] k h w d = ap Ok (same_made m.segment m.code (m.code ++ []) m.statics (m.statics ++ [])
+    (sym (append-nil m.code)) (sym (append-nil m.statics)))
 makes n l ps [] m (r ∷ rs) k h w d = absurd h
 makes n l ps (line ∷ ls) m [] k h w d = absurd h
 makes n l ps (line ∷ ls) m (r ∷ rs) k h w d =

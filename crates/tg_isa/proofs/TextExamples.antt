@@ -28,10 +28,13 @@ unfolding program program_image
 image_computed = refl
 
 -- as it is written
-text_assembled : assembled (codes "main:\nla $a0, text\nagain:\njal f\nbne $v0, $zero, again\nf:\naddiu $sp, $sp, -8\nbeq $zero, $zero, f\n.data\n.byte 7, 255\ntext:\n.word 2, 4294967295\n.ascii \"h\\n\\\"\\\\\\0\\t" ++ (200 ∷ codes "\"\n.align 2\nend:\n")) ≡ Ok program_image
+text_assembled : assembled
+    (codes "main:\nla $a0, text\nagain:\njal f\nbne $v0, $zero, again\nf:\naddiu $sp, $sp, -8\nbeq $zero, $zero, f\n.data\n.byte 7, 255\ntext:\n.word 2, 4294967295\n.ascii \"h\\n\\\"\\\\\\0\\t" ++ (200 ∷ codes "\"\n.align 2\nend:\n")) ≡ Ok program_image
 unfolding program_image
 text_assembled = refl
 
 -- lines without numbers
-plain_text : text_of (Label (codes "main") ∷ La 4 (codes "text") ∷ One (row.Bne 2 0 0) (codes "main") ∷ One row.Syscall [] ∷ Enter Statics ∷ Label (codes "text") ∷ Text (104 ∷ 10 ∷ 34 ∷ 92 ∷ 0 ∷ 9 ∷ 200 ∷ []) ∷ []) ≡ codes "main:\n\tla $a0, text\n\tbne $v0, $zero, main\n\tsyscall\n\t.data\ntext:\n\t.ascii \"h\\n\\\"\\\\\\0\\t" ++ (200 ∷ codes "\"\n")
+plain_text : text_of (Label (codes "main") ∷ La 4 (codes "text") ∷ One (row.Bne 2 0 0) (codes "main") ∷ One row.Syscall [] ∷
+    Enter Statics ∷ Label (codes "text") ∷ Text (104 ∷ 10 ∷ 34 ∷ 92 ∷ 0 ∷ 9 ∷ 200 ∷ []) ∷ []) ≡
+    codes "main:\n\tla $a0, text\n\tbne $v0, $zero, main\n\tsyscall\n\t.data\ntext:\n\t.ascii \"h\\n\\\"\\\\\\0\\t" ++ (200 ∷ codes "\"\n")
 plain_text = refl

@@ -1,6 +1,7 @@
 -- The lines of a text that is put together are read as those lines.
 use Rattle.std.specs.Prelude.{codes, nat_le, if◌then◌else◌, ◌==◌, ◌||◌}
-use Rattle.std.proofs.Common.{◌≡◌, ◌<◌, ◌≤◌, ◌^◌, ℕ, zero, suc, true, false, Bool, List, [], ◌∷◌, ◌++◌, length, map, Some, Ok, Err, refl, sym, ap, subst, ◌∙◌, arith, append_assoc, le-leb, eqb-true, Result, Option, None}
+use Rattle.std.proofs.Common.{◌≡◌, ◌<◌, ◌≤◌, ◌^◌, ℕ, zero, suc, true, false, Bool, List, [], ◌∷◌, ◌++◌, length, map, Some, Ok, Err, refl, sym, ap}
+use Rattle.std.proofs.Common.{subst, ◌∙◌, arith, append_assoc, le-leb, eqb-true, Result, Option, None}
 use Rattle.std.specs.List.{All}
 use Rattle.std.specs.Fmt.{decimal}
 use Rattle.std.proofs.lemmas.List.{append-nil}
@@ -13,16 +14,20 @@ use Rattle.tg_isa.specs.declared.keywords.AsmRule.{AsmRule}
 use Rattle.tg_isa.specs.declared.keywords.AsmRule.TheVariants.{A7, A1}
 use Rattle.tg_isa.specs.declared.keywords.Slot.TheVariants as slot
 use Rattle.tg_isa.specs.Names.{name_of}
-use Rattle.tg_isa.specs.Lines.{lines, is_blank, is_between, Next, cut, before_lines, onto_first, front, back, is_past_label, before_colon, label_at, begins_label, unlabelled, before_labelled, labelled, Plain, Quoted, as_quoted, quoted, before_quoted, operands, cut_with, cut_item, Labelled, is_over, is_end, operands_in, skip, Operand}
+use Rattle.tg_isa.specs.Lines.{lines, is_blank, is_between, Next, cut, before_lines, onto_first, front, back, is_past_label, before_colon, label_at}
+use Rattle.tg_isa.specs.Lines.{begins_label, unlabelled, before_labelled, labelled, Plain, Quoted, as_quoted, quoted, before_quoted, operands}
+use Rattle.tg_isa.specs.Lines.{cut_with, cut_item, Labelled, is_over, is_end, operands_in, skip, Operand}
 use Rattle.tg_isa.specs.Operands.{nothing, fill_all, is_label, plain, string, before_string, unfilled}
 use Rattle.tg_isa.specs.Items as items
 use Rattle.tg_isa.specs.Assembly.{Reading, reading, read_cut, with_labels, read_word, read_known}
 use Rattle.tg_isa.specs.Placement.{Reads, segment_behind}
 use Rattle.tg_isa.specs.Writing.{joined, line_of}
-use Rattle.tg_isa.specs.Texts.{Line, Enter, Label, One, La, Align, Words, Bytes, Text, escaped, escaped_text, is_in_string, written_line, text_of, unsigned, reading_of, readings_of, StandsIn, AreLines, Globl, Space, reads_item}
+use Rattle.tg_isa.specs.Texts.{Line, Enter, Label, One, La, Align, Words, Bytes, Text, escaped, escaped_text, is_in_string, written_line, text_of}
+use Rattle.tg_isa.specs.Texts.{unsigned, reading_of, readings_of, StandsIn, AreLines, Globl, Space, reads_item}
 use Rattle.tg_isa.specs.Laws.{LinesHaveImage}
 use Rattle.tg_isa.proofs.PlacedTexts.{assembled_so}
-use Rattle.tg_isa.proofs.WordCuts.{visible, skipped, and_true, none_of, is_newline, none_append, none_cons, front_until, back_until, lines_alone, AreWords, plains, next_operands, cut_unlabelled, newlines_joined}
+use Rattle.tg_isa.proofs.WordCuts.{visible, skipped, and_true, none_of, is_newline, none_append, none_cons, front_until, back_until, lines_alone}
+use Rattle.tg_isa.proofs.WordCuts.{AreWords, plains, next_operands, cut_unlabelled, newlines_joined}
 use Rattle.tg_isa.proofs.OperandTexts.{register_named, name_word, decimal_text, label_word, none_past, label_end, letter_in}
 use Rattle.tg_isa.proofs.ReadBack.{Ready, words_read, words_line, reads, step, rt_in, label_in, fields}
 
@@ -74,7 +79,8 @@ nothing_labelled (suc n) = refl
 letter_no_blank : (c : ℕ) → begins_label c ≡ true → is_blank c ≡ false
 letter_no_blank c h = (visible c (label_end c (letter_in c h))).blank
 
-label_there : (c : ℕ) (t : List ℕ) → begins_label c ≡ true → front is_past_label (t ++ 58 ∷ []) ≡ t → back is_past_label (t ++ 58 ∷ []) ≡ 58 ∷ [] → label_at (c ∷ (t ++ 58 ∷ [])) ≡ Some (c ∷ t, [])
+label_there : (c : ℕ) (t : List ℕ) → begins_label c ≡ true → front is_past_label (t ++ 58 ∷ []) ≡ t →
+    back is_past_label (t ++ 58 ∷ []) ≡ 58 ∷ [] → label_at (c ∷ (t ++ 58 ∷ [])) ≡ Some (c ∷ t, [])
 label_there c t h f b = rw h (ap (λ x. before_colon (c ∷ x) (back is_past_label (t ++ 58 ∷ []))) f ∙ ap (before_colon (c ∷ t)) b)
 
 labels_some : (n : ℕ) (text name : List ℕ) → label_at text ≡ Some (name, []) → labelled (suc n) text ≡ record { labels = name ∷ []; rest = [] }
@@ -83,7 +89,8 @@ labels_some n text name e = rw (e, labelled) (ap (before_labelled name) (nothing
 labels_first : (n : ℕ) (t : List ℕ) (l : List ℕ × List ℕ) → label_at t ≡ Some l → labelled (suc n) t ≡ before_labelled l.0 (labelled n (skip l.1))
 labels_first n t l e = rw (e, labelled) refl
 
-label_read : (segment : Segment) (name : List ℕ) → is_label name ≡ true → reading segment (name ++ 58 ∷ []) ≡ Ok (record { labels = name ∷ []; item = items.Nothing })
+label_read : (segment : Segment) (name : List ℕ) → is_label name ≡ true → reading segment (name ++ 58 ∷ []) ≡
+    Ok (record { labels = name ∷ []; item = items.Nothing })
 label_read segment [] h = cc
 label_read segment (c ∷ t) h =
     let b = and_true (begins_label c) (length (back is_past_label t) == 0) h in
@@ -104,9 +111,11 @@ label_lines name h = lines_alone (name ++ 58 ∷ []) (none_append is_newline nam
 la_ready : Ready word.La 108 (97 ∷ [])
 la_ready = record { letter = refl; label = refl; ends = refl; newlines = refl; found = refl; stands = refl; same = λ os. refl }
 
-la_fills : (r : ℕ) (label : List ℕ) → r < 32 → is_label label ≡ true → fill_all (slot.Rt ∷ slot.Label ∷ []) (Plain (name_of r) ∷ Plain label ∷ []) unfilled ≡ Some (fields 31 0 r nothing label)
+la_fills : (r : ℕ) (label : List ℕ) → r < 32 → is_label label ≡ true → fill_all (slot.Rt ∷ slot.Label ∷ [])
+    (Plain (name_of r) ∷ Plain label ∷ []) unfilled ≡ Some (fields 31 0 r nothing label)
 la_fills r label h k =
-    step slot.Rt (slot.Label ∷ []) (Plain (name_of r)) (Plain label ∷ []) (fields 31 0 0 nothing []) (fields 31 0 r nothing []) (rt_in (name_of r) r (fields 31 0 0 nothing []) (register_named r h))
+    step slot.Rt (slot.Label ∷ []) (Plain (name_of r)) (Plain label ∷ []) (fields 31 0 0 nothing []) (fields 31 0 r nothing [])
+    (rt_in (name_of r) r (fields 31 0 0 nothing []) (register_named r h))
     ∙ step slot.Label [] (Plain label) [] (fields 31 0 r nothing []) (fields 31 0 r nothing label) (label_in label (fields 31 0 r nothing []) k)
 
 la_words : (r : ℕ) (label : List ℕ) → r < 32 → is_label label ≡ true → AreWords (name_of r ∷ label ∷ [])
@@ -123,7 +132,8 @@ numbers_words : (ns : List ℕ) → All (λ n. n < 2 ^ 32) ns → AreWords (map 
 numbers_words [] h = tt
 numbers_words (n ∷ ns) h = ((decimal_text n (h 0 n (omega arith))).word, numbers_words ns (λ k d lt. h (suc k) d (omega (arith, lt))))
 
-directive_line : (c : ℕ) (word : List ℕ) (os : List (List ℕ)) → none_of is_newline (c ∷ word) ≡ true → AreWords os → lines ((c ∷ word) ++ joined os) ≡ ((c ∷ word) ++ joined os) ∷ []
+directive_line : (c : ℕ) (word : List ℕ) (os : List (List ℕ)) → none_of is_newline (c ∷ word) ≡ true → AreWords os →
+    lines ((c ∷ word) ++ joined os) ≡ ((c ∷ word) ++ joined os) ∷ []
 directive_line c word os h w = lines_alone ((c ∷ word) ++ joined os) (none_append is_newline (c ∷ word) (joined os) h (newlines_joined os w))
 
 align_read : (power : ℕ) → power ≤ 3 → IsRead Statics (codes ".align" ++ joined (decimal power ∷ [])) (reading_of (Align power))
@@ -195,19 +205,44 @@ record Spelled (c : ℕ) : Type 0 where
   newlines : none_of is_newline (escaped c) ≡ true
 
 spelled_newline : Spelled 10
-spelled_newline = record { quotes = λ rest q r h. ap (λ o. before_quoted 92 (before_quoted 110 o)) h; means = λ rest bytes h. ap (before_string (Some 10)) h; newlines = refl }
+spelled_newline = record {
+  quotes = λ rest q r h. ap (λ o. before_quoted 92 (before_quoted 110 o)) h;
+  means =
+      λ rest bytes h. ap (before_string (Some 10)) h;
+  newlines = refl;
+}
 
 spelled_tab : Spelled 9
-spelled_tab = record { quotes = λ rest q r h. ap (λ o. before_quoted 92 (before_quoted 116 o)) h; means = λ rest bytes h. ap (before_string (Some 9)) h; newlines = refl }
+spelled_tab = record {
+  quotes = λ rest q r h. ap (λ o. before_quoted 92 (before_quoted 116 o)) h;
+  means =
+      λ rest bytes h. ap (before_string (Some 9)) h;
+  newlines = refl;
+}
 
 spelled_zero : Spelled 0
-spelled_zero = record { quotes = λ rest q r h. ap (λ o. before_quoted 92 (before_quoted 48 o)) h; means = λ rest bytes h. ap (before_string (Some 0)) h; newlines = refl }
+spelled_zero = record {
+  quotes = λ rest q r h. ap (λ o. before_quoted 92 (before_quoted 48 o)) h;
+  means =
+      λ rest bytes h. ap (before_string (Some 0)) h;
+  newlines = refl;
+}
 
 spelled_quote : Spelled 34
-spelled_quote = record { quotes = λ rest q r h. ap (λ o. before_quoted 92 (before_quoted 34 o)) h; means = λ rest bytes h. ap (before_string (Some 34)) h; newlines = refl }
+spelled_quote = record {
+  quotes = λ rest q r h. ap (λ o. before_quoted 92 (before_quoted 34 o)) h;
+  means =
+      λ rest bytes h. ap (before_string (Some 34)) h;
+  newlines = refl;
+}
 
 spelled_backslash : Spelled 92
-spelled_backslash = record { quotes = λ rest q r h. ap (λ o. before_quoted 92 (before_quoted 92 o)) h; means = λ rest bytes h. ap (before_string (Some 92)) h; newlines = refl }
+spelled_backslash = record {
+  quotes = λ rest q r h. ap (λ o. before_quoted 92 (before_quoted 92 o)) h;
+  means =
+      λ rest bytes h. ap (before_string (Some 92)) h;
+  newlines = refl;
+}
 
 record IsOrdinary (c : ℕ) : Type 0 where
   newline : (c == 10) ≡ false
@@ -240,7 +275,8 @@ spelled_ordinary c o h =
     let e = ordinary_escaped c o in
     record {
       quotes = λ rest q r k. subst (λ x. quoted false (x ++ rest) ≡ Some (x ++ q, r)) (sym e) (quoted_byte c rest o.quote o.backslash ∙ ap (before_quoted c) k);
-      means = λ rest bytes k. subst (λ x. string false (x ++ rest) ≡ Some (c ∷ bytes)) (sym e) (string_byte c rest o.backslash ∙ ap (λ p. before_string p (string false rest)) (ordinary_plain c o h) ∙ ap (before_string (Some c)) k);
+      means = λ rest bytes k. subst (λ x. string false (x ++ rest) ≡ Some (c ∷ bytes)) (sym e) (string_byte c rest o.backslash
+          ∙ ap (λ p. before_string p (string false rest)) (ordinary_plain c o h) ∙ ap (before_string (Some c)) k);
       newlines = subst (λ x. none_of is_newline x ≡ true) (sym e) (none_cons is_newline c [] o.newline refl);
     }
 
@@ -273,18 +309,23 @@ string_text (c ∷ bytes) h = (spelled c (h 0 c (omega arith))).means (escaped_t
 
 newlines_text : (bytes : List ℕ) → AreSpelled bytes → none_of is_newline (escaped_text bytes) ≡ true
 newlines_text [] h = refl
-newlines_text (c ∷ bytes) h = none_append is_newline (escaped c) (escaped_text bytes) (spelled c (h 0 c (omega arith))).newlines (newlines_text bytes (rest_spelled c bytes h))
+newlines_text (c ∷ bytes) h = none_append is_newline (escaped c) (escaped_text bytes) (spelled c (h 0 c (omega arith))).newlines
+    (newlines_text bytes (rest_spelled c bytes h))
 
 -- the line of a string
-quoted_operand : (n : ℕ) (text : List ℕ) → quoted false (text ++ (34 ∷ [])) ≡ Some (text, []) → operands (suc (suc n)) (Next (34 ∷ (text ++ (34 ∷ [])))) ≡ Some (Quoted text ∷ [])
+quoted_operand : (n : ℕ) (text : List ℕ) → quoted false (text ++ (34 ∷ [])) ≡ Some (text, []) →
+    operands (suc (suc n)) (Next (34 ∷ (text ++ (34 ∷ [])))) ≡ Some (Quoted text ∷ [])
 quoted_operand n text e = ap (next_operands (suc n)) (ap as_quoted e)
 
-text_cut : (text : List ℕ) → quoted false (text ++ (34 ∷ [])) ≡ Some (text, []) → cut (codes ".ascii \"" ++ (text ++ codes "\"")) ≡ Some (record { labels = []; word = codes ".ascii"; operands = Quoted text ∷ [] })
+text_cut : (text : List ℕ) → quoted false (text ++ (34 ∷ [])) ≡ Some (text, []) → cut (codes ".ascii \"" ++ (text ++ codes "\"")) ≡
+    Some (record { labels = []; word = codes ".ascii"; operands = Quoted text ∷ [] })
 text_cut text e = ap (cut_with [] (codes ".ascii")) (quoted_operand (length (34 ∷ (text ++ (34 ∷ [])))) text e)
 
 text_read : (bytes : List ℕ) → AreSpelled bytes → IsRead Statics (codes ".ascii \"" ++ (escaped_text bytes ++ codes "\"")) (reading_of (Text bytes))
 text_read bytes h = record {
-  line = lines_alone (codes ".ascii \"" ++ (escaped_text bytes ++ codes "\"")) (none_append is_newline (codes ".ascii \"") (escaped_text bytes ++ (34 ∷ [])) refl (none_append is_newline (escaped_text bytes) (34 ∷ []) (newlines_text bytes h) refl));
+  line = lines_alone (codes ".ascii \"" ++ (escaped_text bytes ++ codes "\""))
+      (none_append is_newline
+      (codes ".ascii \"") (escaped_text bytes ++ (34 ∷ [])) refl (none_append is_newline (escaped_text bytes) (34 ∷ []) (newlines_text bytes h) refl));
   read = ap (read_cut Statics) (text_cut (escaped_text bytes) (quoted_text bytes [] h))
       ∙ ap (λ o. with_labels [] (items.text_item [] o)) (string_text bytes h)
       ∙ ap (λ b. with_labels [] (Ok (items.Data' 1 (items.Bytes b ∷ [])))) (append-nil bytes);
@@ -318,7 +359,8 @@ with_labels-labels : (labels : List (List ℕ)) (o : Result items.Item AsmRule) 
 with_labels-labels labels (Ok i) r h = cc
 with_labels-labels labels (Err e) r h = cc
 
-read_word-labels : (segment : Segment) (labels : List (List ℕ)) (os : List Operand) (word : List ℕ) (r : Reading) → read_word segment labels os word ≡ Ok r → labels ≡ r.labels
+read_word-labels : (segment : Segment) (labels : List (List ℕ)) (os : List Operand) (word : List ℕ) (r : Reading) →
+    read_word segment labels os word ≡ Ok r → labels ≡ r.labels
 read_word-labels segment labels os [] r h = cc
 read_word-labels segment labels os (c ∷ word) r h = by (items.keyword (c ∷ word)) h
   where
@@ -330,7 +372,8 @@ read_word-labels segment labels os (c ∷ word) r h = by (items.keyword (c ∷ w
     by (Some k) e = stands k (items.stands_in k segment) e
     by None e = cc
 
-cut_with-labels : (segment : Segment) (labels : List (List ℕ)) (word : List ℕ) (found : Option (List Operand)) (r : Reading) → read_cut segment (cut_with labels word found) ≡ Ok r → labels ≡ r.labels
+cut_with-labels : (segment : Segment) (labels : List (List ℕ)) (word : List ℕ) (found : Option (List Operand)) (r : Reading) →
+    read_cut segment (cut_with labels word found) ≡ Ok r → labels ≡ r.labels
 cut_with-labels segment labels [] found r h = cc
 cut_with-labels segment labels (c ∷ word) None r h = cc
 cut_with-labels segment labels (c ∷ word) (Some os) r h = read_word-labels segment labels os (c ∷ word) r h
@@ -338,7 +381,8 @@ cut_with-labels segment labels (c ∷ word) (Some os) r h = read_word-labels seg
 cut_item-labels : (segment : Segment) (l : Labelled) (r : Reading) → read_cut segment (cut_item l) ≡ Ok r → l.labels ≡ r.labels
 cut_item-labels segment l r h = by (is_over l.rest) h
   where
-    by : (b : Bool) → read_cut segment (if b then Some (record { labels = l.labels; word = []; operands = [] }) else cut_with l.labels (front is_end l.rest) (operands_in (back is_end l.rest))) ≡ Ok r → l.labels ≡ r.labels
+    by : (b : Bool) → read_cut segment (if b then Some (record { labels = l.labels; word = []; operands = [] }) else
+        cut_with l.labels (front is_end l.rest) (operands_in (back is_end l.rest))) ≡ Ok r → l.labels ≡ r.labels
     by true e = cc
     by false e = cut_with-labels segment l.labels (front is_end l.rest) (operands_in (back is_end l.rest)) r e
 

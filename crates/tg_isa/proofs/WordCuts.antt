@@ -1,7 +1,10 @@
 -- Lines of words parted by commas are cut into those words.
-use Rattle.std.proofs.Common.{◌≡◌, ◌<◌, ◌≤◌, ◌+◌, ℕ, zero, suc, Bool, true, false, not, List, [], ◌∷◌, ◌++◌, length, Option, Some, None, refl, ap, ◌∙◌, arith, length-append}
+use Rattle.std.proofs.Common.{◌≡◌, ◌<◌, ◌≤◌, ◌+◌, ℕ, zero, suc, Bool, true, false, not, List, [], ◌∷◌, ◌++◌, length, Option, Some, None, refl, ap}
+use Rattle.std.proofs.Common.{◌∙◌, arith, length-append}
 use Rattle.std.specs.Prelude.{◌&&◌, ◌||◌, ◌==◌}
-use Rattle.tg_isa.specs.Lines.{lines, onto_first, front, back, skip, is_blank, is_end, begins_label, is_past_label, before_colon, label_at, unlabelled, labelled, Operand, Plain, operand, before_operands, operands, operands_in, Gap, Over, Next, without_comma, after_comma, gap, first_gap, cut_with, cut_item, cut}
+use Rattle.tg_isa.specs.Lines.{lines, onto_first, front, back, skip, is_blank, is_end, begins_label, is_past_label, before_colon, label_at}
+use Rattle.tg_isa.specs.Lines.{unlabelled, labelled, Operand, Plain, operand, before_operands, operands, operands_in, Gap, Over, Next, without_comma}
+use Rattle.tg_isa.specs.Lines.{after_comma, gap, first_gap, cut_with, cut_item, cut}
 use Rattle.tg_isa.specs.Writing.{further, joined}
 
 pub and_true : (a b : Bool) → (a && b) ≡ true → (a ≡ true) × (b ≡ true)
@@ -134,7 +137,8 @@ abbrev pub next_operands : ℕ → Option (Operand × List ℕ) → Option (List
 next_operands n (Some o) = before_operands o.0 (operands n (gap o.1))
 next_operands n None = None
 
-one_more : (n : ℕ) (o t : List ℕ) (more : List Operand) → operand (o ++ t) ≡ found o t → operands n (gap t) ≡ Some more → operands (suc n) (Next (o ++ t)) ≡ Some (Plain o ∷ more)
+one_more : (n : ℕ) (o t : List ℕ) (more : List Operand) → operand (o ++ t) ≡ found o t → operands n (gap t) ≡ Some more →
+    operands (suc n) (Next (o ++ t)) ≡ Some (Plain o ∷ more)
 one_more n o t more e k = ap (next_operands n) e ∙ ap (before_operands (Plain o)) k
 
 operands_words : (n : ℕ) (os : List (List ℕ)) → AreWords os → length os < n → operands n (gap_next os) ≡ Some (plains os)
@@ -167,7 +171,8 @@ operands_cut os w =
 -- a line
 no_label : (c : ℕ) (word : List ℕ) (os : List (List ℕ)) → begins_label c ≡ true → none_of is_past_label word ≡ true → label_at (c ∷ word ++ joined os) ≡ None
 no_label c word [] h n = rw h (ap (λ t. before_colon (c ∷ front is_past_label (word ++ [])) t) (back_until is_past_label word [] n refl))
-no_label c word (o ∷ os) h n = rw h (ap (λ t. before_colon (c ∷ front is_past_label (word ++ joined (o ∷ os))) t) (back_until is_past_label word (joined (o ∷ os)) n refl))
+no_label c word (o ∷ os) h n = rw h (ap (λ t. before_colon (c ∷ front is_past_label (word ++ joined (o ∷ os))) t)
+    (back_until is_past_label word (joined (o ∷ os)) n refl))
 
 labels_none : (n : ℕ) (t : List ℕ) → label_at t ≡ None → labelled (suc n) t ≡ unlabelled t
 labels_none n t e = rw (e, labelled) refl
@@ -180,7 +185,8 @@ begins_joined [] = refl
 begins_joined (o ∷ os) = refl
 
 -- a line that begins with a word and no label
-pub cut_unlabelled : (c : ℕ) (word : List ℕ) (os : List (List ℕ)) → label_at (c ∷ word ++ joined os) ≡ None → none_of is_end (c ∷ word) ≡ true → AreWords os → cut (c ∷ word ++ joined os) ≡ Some (record { labels = []; word = c ∷ word; operands = plains os })
+pub cut_unlabelled : (c : ℕ) (word : List ℕ) (os : List (List ℕ)) → label_at (c ∷ word ++ joined os) ≡ None →
+    none_of is_end (c ∷ word) ≡ true → AreWords os → cut (c ∷ word ++ joined os) ≡ Some (record { labels = []; word = c ∷ word; operands = plains os })
 cut_unlabelled c word os b e w =
     let v = visible c (first_not is_end c word e) in
     let t = c ∷ word ++ joined os in
@@ -194,7 +200,8 @@ cut_unlabelled c word os b e w =
     ∙ ap (λ s. cut_with [] (c ∷ word) (operands_in s)) k
     ∙ ap (cut_with [] (c ∷ word)) (operands_cut os w)
 
-pub cut_words : (c : ℕ) (word : List ℕ) (os : List (List ℕ)) → begins_label c ≡ true → none_of is_past_label word ≡ true → none_of is_end (c ∷ word) ≡ true → AreWords os → cut (c ∷ word ++ joined os) ≡ Some (record { labels = []; word = c ∷ word; operands = plains os })
+pub cut_words : (c : ℕ) (word : List ℕ) (os : List (List ℕ)) → begins_label c ≡ true → none_of is_past_label word ≡ true →
+    none_of is_end (c ∷ word) ≡ true → AreWords os → cut (c ∷ word ++ joined os) ≡ Some (record { labels = []; word = c ∷ word; operands = plains os })
 cut_words c word os b n e w = cut_unlabelled c word os (no_label c word os b n) e w
 
 newlines_further : (os : List (List ℕ)) → AreWords os → none_of is_newline (further os) ≡ true

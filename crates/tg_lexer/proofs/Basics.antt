@@ -1,5 +1,6 @@
 -- Fronts of lists, and runs of bytes of a class.
-use Rattle.std.proofs.Common.{ℕ, zero, suc, ◌+◌, ◌≡◌, ◌≤◌, ◌<◌, ◌⊎◌, inl, inr, List, [], ◌∷◌, ◌++◌, length, Bool, true, false, take, drop, get_or, refl, sym, ap, subst, ◌∙◌, arith}
+use Rattle.std.proofs.Common.{ℕ, zero, suc, ◌+◌, ◌≡◌, ◌≤◌, ◌<◌, ◌⊎◌, inl, inr, List, [], ◌∷◌, ◌++◌, length, Bool, true, false, take, drop, get_or}
+use Rattle.std.proofs.Common.{refl, sym, ap, subst, ◌∙◌, arith}
 use Rattle.std.specs.Prelude.{◌==◌}
 use Rattle.std.proofs.lemmas.Bool.{eq-eqb}
 use Rattle.std.proofs.lemmas.List.{take_more, drop_more, drop_all, take_all, take_at, drop_at, drop-drop}
@@ -81,10 +82,12 @@ within_piece (suc at) [] piece rest le e = absurd (omega arith)
 within_piece (suc at) (b ∷ text) piece rest le e = let k : at ≤ length text = omega arith in omega (arith, within_piece at text piece rest k e)
 
 -- runs
-pub run_more : (class : ℕ → Bool) (text : List ℕ) (size : ℕ) → size < length text → AllAre class (take size text) → class (get_or text size 0) ≡ true → AllAre class (take (size + 1) text)
+pub run_more : (class : ℕ → Bool) (text : List ℕ) (size : ℕ) → size < length text → AllAre class (take size text) →
+    class (get_or text size 0) ≡ true → AllAre class (take (size + 1) text)
 run_more class text size lt a h = rw (take_more text size 0 lt) (AllAre-append class (take size text) (get_or text size 0 ∷ []) a (h, tt))
 
-pub run_stops : (class : ℕ → Bool) (text : List ℕ) (size : ℕ) → size < length text → AllAre class (take size text) → class (get_or text size 0) ≡ false → IsRun class text size
+pub run_stops : (class : ℕ → Bool) (text : List ℕ) (size : ℕ) → size < length text → AllAre class (take size text) →
+    class (get_or text size 0) ≡ false → IsRun class text size
 run_stops class text size lt a h =
     record {
       within = omega arith;
@@ -96,6 +99,7 @@ pub run_ends : (class : ℕ → Bool) (text : List ℕ) (size : ℕ) → length 
 run_ends class text size le a =
     record {
       within = omega arith;
-      all = let w : take size text ≡ take (length text) text = take_all size text le ∙ sym (take_all (length text) text (omega arith)) in subst (AllAre class) w a;
+      all = let w : take size text ≡ take (length text) text = take_all size text le ∙ sym (take_all (length text) text (omega arith)) in
+          subst (AllAre class) w a;
       stops = λ b after e. cc (drop_all (length text) text (omega arith));
     }

@@ -1,12 +1,14 @@
 -- Comments: what closes them, and that nothing else does.
-use Rattle.std.proofs.Common.{ℕ, zero, suc, ◌+◌, ◌≡◌, ◌≢◌, ◌-◌, ◌≤◌, ◌<◌, get_or, List, [], ◌∷◌, ◌++◌, length, take, drop, refl, sym, ap, subst, ◌∙◌, arith, append_assoc}
+use Rattle.std.proofs.Common.{ℕ, zero, suc, ◌+◌, ◌≡◌, ◌≢◌, ◌-◌, ◌≤◌, ◌<◌, get_or, List, [], ◌∷◌, ◌++◌, length, take, drop, refl, sym, ap, subst, ◌∙◌}
+use Rattle.std.proofs.Common.{arith, append_assoc}
 use Rattle.std.proofs.lemmas.List.{drop_all, drop_more, append_cancel_right}
 use Rattle.tg_syntax.specs.Lexing.{BeginsWithPair, OpensComment, ClosesComment, Closes, done, closes, opens, byte}
 use Rattle.tg_lexer.specs.Fronts.{NeverCloses}
 use Rattle.tg_lexer.proofs.Basics.{head_is, tail_is, not_cons, differ, drop_piece, take_piece, within_piece}
 
 -- what closes something isn't empty
-begins_first : {depth : ℕ} {more : List ℕ} → Closes (suc depth) more → (a b : ℕ) (rest after : List ℕ) → more ++ rest ≡ b ∷ after → BeginsWithPair a b (a ∷ more)
+begins_first : {depth : ℕ} {more : List ℕ} → Closes (suc depth) more → (a b : ℕ) (rest after : List ℕ) → more ++ rest ≡ b ∷
+    after → BeginsWithPair a b (a ∷ more)
 begins_first (closes c) a b rest after e = (refl, head_is e)
 begins_first (opens c) a b rest after e = (refl, head_is e)
 begins_first (byte x unopening unclosing c) a b rest after e = (refl, head_is e)
@@ -43,7 +45,8 @@ pub begins_is : (a c b : ℕ) (tail rest : List ℕ) → b ≡ a → tail ≡ c 
 begins_is a c b [] rest e f = absurd (not_cons f)
 begins_is a c b (x ∷ tail) rest e f = (e, head_is f)
 
-pub left_byte : (depth b : ℕ) (tail rest : List ℕ) → (OpensComment (b ∷ tail) → ⊥) → (ClosesComment (b ∷ tail) → ⊥) → Left (suc depth) (b ∷ tail) rest → Left (suc depth) tail rest
+pub left_byte : (depth b : ℕ) (tail rest : List ℕ) → (OpensComment (b ∷ tail) → ⊥) → (ClosesComment (b ∷ tail) → ⊥) →
+    Left (suc depth) (b ∷ tail) rest → Left (suc depth) tail rest
 left_byte depth b tail rest unopening unclosing h = by h.closes h.tail_whole
   where
     by : {more : List ℕ} → Closes (suc depth) more → b ∷ tail ≡ more ++ rest → Left (suc depth) tail rest
@@ -120,7 +123,8 @@ begins_longer : (a b x : ℕ) (more rest : List ℕ) → BeginsWithPair a b (x �
 begins_longer a b x [] rest h = absurd h
 begins_longer a b x (y ∷ more) rest h = h
 
-pub open_byte : (text : List ℕ) (depth at : ℕ) → Open text depth at → at < length text → (OpensComment (drop at text) → ⊥) → (ClosesComment (drop at text) → ⊥) → Open text depth (at + 1)
+pub open_byte : (text : List ℕ) (depth at : ℕ) → Open text depth at → at < length text → (OpensComment (drop at text) → ⊥) →
+    (ClosesComment (drop at text) → ⊥) → Open text depth (at + 1)
 open_byte text zero at h lt unopening unclosing = absurd (omega (arith, h.some))
 open_byte text (suc depth) at h lt unopening unclosing =
     let b = get_or text at 0 in
@@ -131,7 +135,8 @@ open_byte text (suc depth) at h lt unopening unclosing =
     (λ rest l. left_byte depth b (drop (at + 1) text) rest (rw e at unopening) (rw e at unclosing) l)
 
 -- the last comment is closed
-pub open_closed : (text : List ℕ) (depth at : ℕ) → Open text depth at → ClosesComment (drop at text) → depth - 1 ≡ 0 → (at + 2 ≤ length text) × Closes 1 (take (at + 2) text)
+pub open_closed : (text : List ℕ) (depth at : ℕ) → Open text depth at → ClosesComment (drop at text) → depth - 1 ≡ 0 →
+    (at + 2 ≤ length text) × Closes 1 (take (at + 2) text)
 open_closed text depth at h o z =
     let e = two_bytes 42 47 (drop at text) o in
     let piece : List ℕ = 42 ∷ 47 ∷ [] in
@@ -151,14 +156,16 @@ open_ended text (suc depth) at h le inside rest w c =
     by (opens c) e = not_cons e
     by (byte b unopening unclosing c) e = not_cons e
 
-begins_shorter : {depth : ℕ} {more : List ℕ} → Closes (suc depth) more → (a b x : ℕ) (rest : List ℕ) → BeginsWithPair a b (x ∷ more ++ rest) → BeginsWithPair a b (x ∷ more)
+begins_shorter : {depth : ℕ} {more : List ℕ} → Closes (suc depth) more → (a b x : ℕ) (rest : List ℕ) →
+    BeginsWithPair a b (x ∷ more ++ rest) → BeginsWithPair a b (x ∷ more)
 begins_shorter (closes c) a b x rest h = h
 begins_shorter (opens c) a b x rest h = h
 begins_shorter (byte y unopening unclosing c) a b x rest h = h
 
 whole : (piece more other ys rest after : List ℕ) → more ≡ other → more ++ rest ≡ other ++ after → (piece ++ more) ++ rest ≡ ys ++ after → piece ++ more ≡ ys
 whole piece more other ys rest after same e w =
-    append_cancel_right (piece ++ more) ys after (append_assoc piece more after ∙ ap (λ l. piece ++ (l ++ after)) same ∙ ap (λ l. piece ++ l) (sym e) ∙ sym (append_assoc piece more rest) ∙ w)
+    append_cancel_right (piece ++ more) ys after (append_assoc piece more after ∙ ap (λ l. piece ++ (l ++ after)) same
+    ∙ ap (λ l. piece ++ l) (sym e) ∙ sym (append_assoc piece more rest) ∙ w)
 
 -- two fronts that close as many comments are one
 pub closes_once : {depth : ℕ} {xs : List ℕ} → Closes depth xs → {ys : List ℕ} → Closes depth ys → (rest after : List ℕ) → xs ++ rest ≡ ys ++ after → xs ≡ ys

@@ -1,5 +1,6 @@
 -- An escape, by its bytes.
-use Rattle.std.proofs.Common.{ℕ, zero, suc, ◌+◌, ◌≡◌, ◌≢◌, ◌≤◌, ◌<◌, ◌%◌, List, [], ◌∷◌, ◌++◌, length, inl, inr, Bool, true, false, take, drop, refl, sym, ap, subst, ◌∙◌, arith, append_assoc, length-append}
+use Rattle.std.proofs.Common.{ℕ, zero, suc, ◌+◌, ◌≡◌, ◌≢◌, ◌≤◌, ◌<◌, ◌%◌, List, [], ◌∷◌, ◌++◌, length, inl, inr, Bool, true, false, take, drop, refl}
+use Rattle.std.proofs.Common.{sym, ap, subst, ◌∙◌, arith, append_assoc, length-append}
 use Rattle.std.specs.Prelude.{◌==◌, ◌||◌, ◌⊎◌, MatchBool, IsTrue, Some, None, slice_get}
 use Rattle.std.proofs.lemmas.Bool.{eqb-true}
 use Rattle.std.proofs.lemmas.Bool.Decides.{nat_tests}
@@ -38,14 +39,16 @@ two_alone (x ∷ []) a b e f g = cc
 two_alone (x ∷ y ∷ []) a b e f g = cc
 two_alone (x ∷ y ∷ z ∷ text) a b e f g = cc
 
-pub three_first : (text : List ℕ) (a b c : ℕ) → slice_get text 0 ≡ Some a → Some b ≡ slice_get text 1 → Some c ≡ slice_get text 2 → text ≡ a ∷ b ∷ c ∷ drop 3 text
+pub three_first : (text : List ℕ) (a b c : ℕ) → slice_get text 0 ≡ Some a → Some b ≡ slice_get text 1 → Some c ≡ slice_get text 2 →
+    text ≡ a ∷ b ∷ c ∷ drop 3 text
 three_first [] a b c e f g = cc
 three_first (x ∷ []) a b c e f g = cc
 three_first (x ∷ y ∷ []) a b c e f g = cc
 three_first (x ∷ y ∷ z ∷ text) a b c e f g = cc
 
 -- the front of a text, of so many bytes
-pub escape_whole : (text front rest meant : List ℕ) → text ≡ front ++ rest → Escape front meant → (length front ≤ length text) × Escape (take (length front) text) meant
+pub escape_whole : (text front rest meant : List ℕ) → text ≡ front ++ rest → Escape front meant → (length front ≤ length text) ×
+    Escape (take (length front) text) meant
 escape_whole text front rest meant e h = rw e (by front rest h)
   where
     within : (front rest : List ℕ) → length front ≤ length (front ++ rest)
@@ -56,7 +59,8 @@ escape_whole text front rest meant e h = rw e (by front rest h)
     by front rest h = (within front rest, rw (take_at front rest (length front) refl) h)
 
 -- which escapes were begun or end, by their first bytes
-begun_shape : {xs : List ℕ} → IsBegun xs → (a b : ℕ) (more : List ℕ) → xs ≡ a ∷ b ∷ more → is_blank a ≡ false → (IsTrue (is_digit a)) × (IsTrue (is_digit b)) × (more ≡ [])
+begun_shape : {xs : List ℕ} → IsBegun xs → (a b : ℕ) (more : List ℕ) → xs ≡ a ∷ b ∷ more → is_blank a ≡ false →
+    (IsTrue (is_digit a)) × (IsTrue (is_digit b)) × (more ≡ [])
 begun_shape IsBegun.backslash a b more e n = absurd (not_cons e)
 begun_shape IsBegun.caret a b more e n = absurd (not_cons (tail_is e))
 begun_shape (IsBegun.digit x h) a b more e n = absurd (not_cons (tail_is e))
@@ -86,7 +90,9 @@ escape_one (blanks b more h) a e n t q s = no_end more (tail_is e)
     no_end (x ∷ more) e = not_cons (sym e)
 
 -- a longer one that begins with a caret, a digit or a blank
-escape_more : {xs meant : List ℕ} → Escape xs meant → (a b : ℕ) (more : List ℕ) → xs ≡ a ∷ b ∷ more → is_blank a ≡ false → ((a ≡ 94) × IsTrue (is_between 64 95 b || is_between 97 122 b)) ⊎ (IsTrue (is_digit a) × IsTrue (is_digit b) × (c : ℕ) × (more ≡ c ∷ []) × IsTrue (is_digit c) × (digits_value 10 (a ∷ b ∷ c ∷ []) ≤ 255))
+escape_more : {xs meant : List ℕ} → Escape xs meant → (a b : ℕ) (more : List ℕ) → xs ≡ a ∷ b ∷ more → is_blank a ≡ false →
+    ((a ≡ 94) × IsTrue (is_between 64 95 b || is_between 97 122 b)) ⊎ (IsTrue (is_digit a) × IsTrue (is_digit b) × (c : ℕ) ×
+    (more ≡ c ∷ []) × IsTrue (is_digit c) × (digits_value 10 (a ∷ b ∷ c ∷ []) ≤ 255))
 escape_more newline a b more e n = absurd (not_cons (tail_is e))
 escape_more tab a b more e n = absurd (not_cons (tail_is e))
 escape_more quote a b more e n = absurd (not_cons (tail_is e))
@@ -96,7 +102,14 @@ escape_more (decimal x y z h le) a b more e n =
     let ea : x ≡ a = head_is e in
     let eb : y ≡ b = head_is (tail_is e) in
     let d = bytes_of_digits (x ∷ y ∷ z ∷ []) h in
-    inr (subst (λ z. IsTrue (is_digit z)) ea d.0, subst (λ z. IsTrue (is_digit z)) eb d.1.0, z, sym (tail_is (tail_is e)), d.1.1.0, subst (λ v. digits_value 10 (a ∷ v ∷ z ∷ []) ≤ 255) eb (subst (λ v. digits_value 10 (v ∷ y ∷ z ∷ []) ≤ 255) ea le))
+    inr (
+      subst (λ z. IsTrue (is_digit z)) ea d.0,
+      subst (λ z. IsTrue (is_digit z)) eb d.1.0,
+      z,
+      sym (tail_is (tail_is e)),
+      d.1.1.0,
+      subst (λ v. digits_value 10 (a ∷ v ∷ z ∷ []) ≤ 255) eb (subst (λ v. digits_value 10 (v ∷ y ∷ z ∷ []) ≤ 255) ea le),
+    )
 escape_more (blanks x more' h) a b more e n = absurd (apart is_blank a x n h.0 (sym (head_is e)))
 
 digit_blank : (b : ℕ) → is_digit b ≡ true → is_blank b ≡ false
@@ -106,7 +119,8 @@ digit_caret : (b : ℕ) → is_digit b ≡ true → (b == 94) ≡ false
 digit_caret b h = grind (arith, nat_tests)
 
 -- a byte with which nothing goes on, by what was begun
-pub misfits_none : (b : ℕ) → (b == 110) ≡ false → (b == 116) ≡ false → (b == 34) ≡ false → (b == 92) ≡ false → (b == 94) ≡ false → is_digit b ≡ false → is_blank b ≡ false → Misfits [] b
+pub misfits_none : (b : ℕ) → (b == 110) ≡ false → (b == 116) ≡ false → (b == 34) ≡ false → (b == 92) ≡ false →
+    (b == 94) ≡ false → is_digit b ≡ false → is_blank b ≡ false → Misfits [] b
 misfits_none b n t q s c d w =
     record {
       is_begun = IsBegun.backslash;
@@ -122,7 +136,8 @@ misfits_caret b h =
       ends = λ meant k. by (escape_more k 94 b [] refl refl);
     }
   where
-    by : ((◌≡◌ {A = ℕ} 94 94) × IsTrue (is_between 64 95 b || is_between 97 122 b)) ⊎ (IsTrue (is_digit 94) × IsTrue (is_digit b) × (c : ℕ) × ([] ≡ c ∷ []) × IsTrue (is_digit c) × (digits_value 10 (94 ∷ b ∷ c ∷ []) ≤ 255)) → ⊥
+    by : ((◌≡◌ {A = ℕ} 94 94) × IsTrue (is_between 64 95 b || is_between 97 122 b)) ⊎
+        (IsTrue (is_digit 94) × IsTrue (is_digit b) × (c : ℕ) × ([] ≡ c ∷ []) × IsTrue (is_digit c) × (digits_value 10 (94 ∷ b ∷ c ∷ []) ≤ 255)) → ⊥
     by (inl x) = clash h x.1
     by (inr x) = clash refl x.0
 
@@ -134,7 +149,8 @@ misfits_digit a b h k =
       ends = λ meant g. by (escape_more g a b [] refl (digit_blank a h));
     }
   where
-    by : ((a ≡ 94) × IsTrue (is_between 64 95 b || is_between 97 122 b)) ⊎ (IsTrue (is_digit a) × IsTrue (is_digit b) × (c : ℕ) × ([] ≡ c ∷ []) × IsTrue (is_digit c) × (digits_value 10 (a ∷ b ∷ c ∷ []) ≤ 255)) → ⊥
+    by : ((a ≡ 94) × IsTrue (is_between 64 95 b || is_between 97 122 b)) ⊎
+        (IsTrue (is_digit a) × IsTrue (is_digit b) × (c : ℕ) × ([] ≡ c ∷ []) × IsTrue (is_digit c) × (digits_value 10 (a ∷ b ∷ c ∷ []) ≤ 255)) → ⊥
     by (inl x) = apart (λ z. z == 94) a 94 (digit_caret a h) refl x.0
     by (inr x) = clash k x.1
 
@@ -146,7 +162,8 @@ misfits_digits a b c h k g =
       ends = λ meant x. by (escape_more x a b (c ∷ []) refl (digit_blank a h));
     }
   where
-    by : ((a ≡ 94) × IsTrue (is_between 64 95 b || is_between 97 122 b)) ⊎ (IsTrue (is_digit a) × IsTrue (is_digit b) × (d : ℕ) × (c ∷ [] ≡ d ∷ []) × IsTrue (is_digit d) × (digits_value 10 (a ∷ b ∷ d ∷ []) ≤ 255)) → ⊥
+    by : ((a ≡ 94) × IsTrue (is_between 64 95 b || is_between 97 122 b)) ⊎
+        (IsTrue (is_digit a) × IsTrue (is_digit b) × (d : ℕ) × (c ∷ [] ≡ d ∷ []) × IsTrue (is_digit d) × (digits_value 10 (a ∷ b ∷ d ∷ []) ≤ 255)) → ⊥
     by (inl x) = apart (λ z. z == 94) a 94 (digit_caret a h) refl x.0
     by (inr x) =
         let e : x.2 ≡ c = sym (head_is x.3) in
@@ -173,38 +190,50 @@ misfit_is text begun b rest e w m h = by (b == 10) refl h
 pub caret_ended : (text : List ℕ) → slice_get text 0 ≡ Some 94 → None ≡ slice_get text 1 → IsCut text
 caret_ended text e f = subst IsCut (sym (alone text 94 e f)) (ended (94 ∷ []) IsBegun.caret)
 
-pub caret_control : (text : List ℕ) (b : ℕ) → slice_get text 0 ≡ Some 94 → Some b ≡ slice_get text 1 → (is_between 64 95 b || is_between 97 122 b) ≡ true → (2 ≤ length text) × Escape (take 2 text) (b % 32 ∷ [])
+pub caret_control : (text : List ℕ) (b : ℕ) → slice_get text 0 ≡ Some 94 → Some b ≡ slice_get text 1 →
+    (is_between 64 95 b || is_between 97 122 b) ≡ true → (2 ≤ length text) × Escape (take 2 text) (b % 32 ∷ [])
 caret_control text b e f h = escape_whole text (94 ∷ b ∷ []) (drop 2 text) (b % 32 ∷ []) (two_first text 94 b e f) (control b h)
 
-pub caret_misfit : (text : List ℕ) (b : ℕ) (x : Escaped) → slice_get text 0 ≡ Some 94 → Some b ≡ slice_get text 1 → (is_between 64 95 b || is_between 97 122 b) ≡ false → IsMisfit b x → IsEscape text x
+pub caret_misfit : (text : List ℕ) (b : ℕ) (x : Escaped) → slice_get text 0 ≡ Some 94 → Some b ≡ slice_get text 1 →
+    (is_between 64 95 b || is_between 97 122 b) ≡ false → IsMisfit b x → IsEscape text x
 caret_misfit text b x e f h m = misfit_is text (94 ∷ []) b (drop 2 text) x (two_first text 94 b e f) (misfits_caret b h) m
 
 -- what begins with a digit
 pub digit_ended : (text : List ℕ) (a : ℕ) → slice_get text 0 ≡ Some a → is_digit a ≡ true → None ≡ slice_get text 1 → IsCut text
 digit_ended text a e h f = subst IsCut (sym (alone text a e f)) (ended (a ∷ []) (IsBegun.digit a h))
 
-pub digit_misfit : (text : List ℕ) (a b : ℕ) (x : Escaped) → slice_get text 0 ≡ Some a → is_digit a ≡ true → Some b ≡ slice_get text 1 → is_digit b ≡ false → IsMisfit b x → IsEscape text x
+pub digit_misfit : (text : List ℕ) (a b : ℕ) (x : Escaped) → slice_get text 0 ≡ Some a → is_digit a ≡ true →
+    Some b ≡ slice_get text 1 → is_digit b ≡ false → IsMisfit b x → IsEscape text x
 digit_misfit text a b x e h f k m = misfit_is text (a ∷ []) b (drop 2 text) x (two_first text a b e f) (misfits_digit a b h k) m
 
-pub digits_ended : (text : List ℕ) (a b : ℕ) → slice_get text 0 ≡ Some a → is_digit a ≡ true → Some b ≡ slice_get text 1 → is_digit b ≡ true → None ≡ slice_get text 2 → IsCut text
+pub digits_ended : (text : List ℕ) (a b : ℕ) → slice_get text 0 ≡ Some a → is_digit a ≡ true → Some b ≡ slice_get text 1 →
+    is_digit b ≡ true → None ≡ slice_get text 2 → IsCut text
 digits_ended text a b e h f k g = subst IsCut (sym (two_alone text a b e f g)) (ended (a ∷ b ∷ []) (IsBegun.digits a b h k))
 
-pub digits_misfit : (text : List ℕ) (a b c : ℕ) (x : Escaped) → slice_get text 0 ≡ Some a → is_digit a ≡ true → Some b ≡ slice_get text 1 → is_digit b ≡ true → Some c ≡ slice_get text 2 → is_digit c ≡ false → IsMisfit c x → IsEscape text x
-digits_misfit text a b c x e h f k g l m = misfit_is text (a ∷ b ∷ []) c (drop 3 text) x (three_first text a b c e f g) (misfits_digits a b c h k (λ d. absurd (clash l d))) m
+pub digits_misfit : (text : List ℕ) (a b c : ℕ) (x : Escaped) → slice_get text 0 ≡ Some a → is_digit a ≡ true →
+    Some b ≡ slice_get text 1 → is_digit b ≡ true → Some c ≡ slice_get text 2 → is_digit c ≡ false → IsMisfit c x → IsEscape text x
+digits_misfit text a b c x e h f k g l m = misfit_is text (a ∷ b ∷ []) c (drop 3 text) x (three_first text a b c e f g)
+    (misfits_digits a b c h k (λ d. absurd (clash l d))) m
 
 digit_line : (b : ℕ) → is_digit b ≡ true → b ≡ 10 → ⊥
 digit_line b h e = apart is_digit 10 b refl h (sym e)
 
-pub digits_great : (text : List ℕ) (a b c n : ℕ) → slice_get text 0 ≡ Some a → is_digit a ≡ true → Some b ≡ slice_get text 1 → is_digit b ≡ true → Some c ≡ slice_get text 2 → is_digit c ≡ true → n ≡ digits_value 10 (a ∷ b ∷ c ∷ []) → 255 < n → IsBad text
+pub digits_great : (text : List ℕ) (a b c n : ℕ) → slice_get text 0 ≡ Some a → is_digit a ≡ true → Some b ≡ slice_get text 1 →
+    is_digit b ≡ true → Some c ≡ slice_get text 2 → is_digit c ≡ true → n ≡ digits_value 10 (a ∷ b ∷ c ∷ []) → 255 < n → IsBad text
 digits_great text a b c n e h f k g l w m =
-    subst IsBad (sym (three_first text a b c e f g)) (bad (a ∷ b ∷ []) c (drop 3 text) (misfits_digits a b c h k (λ d. subst (λ v. 255 < v) w m)) (digit_line c l))
+    subst IsBad (sym (three_first text a b c e f g))
+    (bad (a ∷ b ∷ []) c (drop 3 text) (misfits_digits a b c h k (λ d. subst (λ v. 255 < v) w m)) (digit_line c l))
 
-pub digits_whole : (text : List ℕ) (a b c n : ℕ) → slice_get text 0 ≡ Some a → is_digit a ≡ true → Some b ≡ slice_get text 1 → is_digit b ≡ true → Some c ≡ slice_get text 2 → is_digit c ≡ true → n ≡ digits_value 10 (a ∷ b ∷ c ∷ []) → n ≤ 255 → (3 ≤ length text) × Escape (take 3 text) (n ∷ [])
+pub digits_whole : (text : List ℕ) (a b c n : ℕ) → slice_get text 0 ≡ Some a → is_digit a ≡ true → Some b ≡ slice_get text 1 →
+    is_digit b ≡ true → Some c ≡ slice_get text 2 → is_digit c ≡ true → n ≡ digits_value 10 (a ∷ b ∷ c ∷ []) → n ≤ 255 →
+    (3 ≤ length text) × Escape (take 3 text) (n ∷ [])
 digits_whole text a b c n e h f k g l w m =
-    rw w (escape_whole text (a ∷ b ∷ c ∷ []) (drop 3 text) (digits_value 10 (a ∷ b ∷ c ∷ []) ∷ []) (three_first text a b c e f g) (decimal a b c (digits_of_bytes (a ∷ b ∷ c ∷ []) (h, (k, (l, tt)))) (subst (λ v. v ≤ 255) w m)))
+    rw w (escape_whole text (a ∷ b ∷ c ∷ []) (drop 3 text) (digits_value 10 (a ∷ b ∷ c ∷ []) ∷ []) (three_first text a b c e f g)
+    (decimal a b c (digits_of_bytes (a ∷ b ∷ c ∷ []) (h, (k, (l, tt)))) (subst (λ v. v ≤ 255) w m)))
 
 -- blanks
-run_some : (text : List ℕ) (size a : ℕ) → IsRun is_blank text size → slice_get text 0 ≡ Some a → is_blank a ≡ true → (more : List ℕ) × (take size text ≡ a ∷ more)
+run_some : (text : List ℕ) (size a : ℕ) → IsRun is_blank text size → slice_get text 0 ≡ Some a → is_blank a ≡ true →
+    (more : List ℕ) × (take size text ≡ a ∷ more)
 run_some [] size a r e h = cc
 run_some (b ∷ text) zero a r e h = let same : b ≡ a = cc in absurd (clash (r.stops b text refl) (ap is_blank same ∙ h))
 run_some (b ∷ text) (suc size) a r e h = let same : b ≡ a = cc in (take size text, ap (λ x. x ∷ take size text) same)
@@ -232,13 +261,15 @@ begun_blanks text size a r e h =
     let m = run_some text size a r e h in
     subst IsBegun (sym m.1) (IsBegun.blanks a m.0 (subst (AllAre is_blank) m.1 r.all))
 
-pub blanks_ended : (text : List ℕ) (size a : ℕ) → IsRun is_blank text size → slice_get text 0 ≡ Some a → is_blank a ≡ true → None ≡ slice_get text size → IsCut text
+pub blanks_ended : (text : List ℕ) (size a : ℕ) → IsRun is_blank text size → slice_get text 0 ≡ Some a → is_blank a ≡ true →
+    None ≡ slice_get text size → IsCut text
 blanks_ended text size a r e h f = subst IsCut (past_end text size f) (ended (take size text) (begun_blanks text size a r e h))
 
 escape_blanks : (front : List ℕ) (a : ℕ) (more : List ℕ) → front ≡ a ∷ more → AllAre is_blank front → Escape (front ++ 92 ∷ []) []
 escape_blanks front a more e h = subst (λ l. Escape (l ++ 92 ∷ []) []) (sym e) (blanks a more (subst (AllAre is_blank) e h))
 
-pub blanks_whole : (text : List ℕ) (size a : ℕ) → IsRun is_blank text size → slice_get text 0 ≡ Some a → is_blank a ≡ true → Some 92 ≡ slice_get text size → (size + 1 ≤ length text) × Escape (take (size + 1) text) []
+pub blanks_whole : (text : List ℕ) (size a : ℕ) → IsRun is_blank text size → slice_get text 0 ≡ Some a → is_blank a ≡ true →
+    Some 92 ≡ slice_get text size → (size + 1 ≤ length text) × Escape (take (size + 1) text) []
 blanks_whole text size a r e h f =
     let m = run_some text size a r e h in
     let w : text ≡ (take size text ++ 92 ∷ []) ++ drop (suc size) text = at_byte text size 92 f ∙ sym (append_assoc (take size text) (92 ∷ []) (drop (suc size) text)) in
@@ -282,19 +313,23 @@ misfits_blanks a more b h n s =
       ends = λ meant g. differ b 92 s (blank_escape g a more b refl h.0);
     }
 
-pub blanks_bad : (text : List ℕ) (size a b : ℕ) → IsRun is_blank text size → slice_get text 0 ≡ Some a → is_blank a ≡ true → Some b ≡ slice_get text size → (b == 92) ≡ false → IsBad text
+pub blanks_bad : (text : List ℕ) (size a b : ℕ) → IsRun is_blank text size → slice_get text 0 ≡ Some a → is_blank a ≡ true →
+    Some b ≡ slice_get text size → (b == 92) ≡ false → IsBad text
 blanks_bad text size a b r e h f s =
     let m = run_some text size a r e h in
     let n = r.stops b (drop (suc size) text) (stop_byte text size b f) in
     let w : text ≡ (a ∷ m.0) ++ b ∷ drop (suc size) text = at_byte text size b f ∙ ap (λ l. l ++ b ∷ drop (suc size) text) m.1 in
-    subst IsBad (sym w) (bad (a ∷ m.0) b (drop (suc size) text) (misfits_blanks a m.0 b (subst (AllAre is_blank) m.1 r.all) n s) (λ g. apart is_blank b 10 n refl g))
+    subst IsBad (sym w) (bad (a ∷ m.0) b (drop (suc size) text) (misfits_blanks a m.0 b (subst (AllAre is_blank) m.1 r.all) n s)
+    (λ g. apart is_blank b 10 n refl g))
 
 -- one byte alone
 pub byte_whole : (text : List ℕ) (a b : ℕ) → Some a ≡ slice_get text 0 → Escape (a ∷ []) (b ∷ []) → (1 ≤ length text) × Escape (take 1 text) (b ∷ [])
 byte_whole text a b e h = escape_whole text (a ∷ []) (drop 1 text) (b ∷ []) (first_byte text a (sym e)) h
 
-pub byte_bad : (text : List ℕ) (b : ℕ) → Some b ≡ slice_get text 0 → (b == 110) ≡ false → (b == 116) ≡ false → (b == 34) ≡ false → (b == 92) ≡ false → (b == 94) ≡ false → is_digit b ≡ false → is_blank b ≡ false → IsBad text
-byte_bad text b e n t q s c d w = subst IsBad (sym (first_byte text b (sym e))) (bad [] b (drop 1 text) (misfits_none b n t q s c d w) (λ g. apart is_blank b 10 w refl g))
+pub byte_bad : (text : List ℕ) (b : ℕ) → Some b ≡ slice_get text 0 → (b == 110) ≡ false → (b == 116) ≡ false →
+    (b == 34) ≡ false → (b == 92) ≡ false → (b == 94) ≡ false → is_digit b ≡ false → is_blank b ≡ false → IsBad text
+byte_bad text b e n t q s c d w = subst IsBad (sym (first_byte text b (sym e)))
+    (bad [] b (drop 1 text) (misfits_none b n t q s c d w) (λ g. apart is_blank b 10 w refl g))
 
 pub nothing_cut : (text : List ℕ) → None ≡ slice_get text 0 → IsCut text
 nothing_cut text e = subst IsCut (sym (no_byte text e)) (ended [] IsBegun.backslash)

@@ -1,5 +1,6 @@
 -- Escapes: one front of a text alone is one, and means one thing.
-use Rattle.std.proofs.Common.{ℕ, ◌≡◌, ◌⊎◌, inl, inr, ◌%◌, List, [], ◌∷◌, ◌++◌, Bool, true, false, cond, refl, sym, ap, subst, ◌∙◌, arith, append_assoc, append-nil}
+use Rattle.std.proofs.Common.{ℕ, ◌≡◌, ◌⊎◌, inl, inr, ◌%◌, List, [], ◌∷◌, ◌++◌, Bool, true, false, cond, refl, sym, ap, subst, ◌∙◌, arith}
+use Rattle.std.proofs.Common.{append_assoc, append-nil}
 use Rattle.std.specs.Prelude.{◌==◌, IsTrue}
 use Rattle.std.proofs.lemmas.Bool.Decides.{nat_tests}
 use Rattle.std.proofs.lemmas.List.{append_cancel_right}
@@ -24,7 +25,10 @@ rest_of_blanks (b ∷ text) = cond (b == 92) (text, []) (rest_of_blanks text)
 
 abbrev rest_of : List ℕ → List ℕ × List ℕ
 rest_of [] = ([], [])
-rest_of (b ∷ text) = cond (b == 110) (text, 10 ∷ []) (cond (b == 116) (text, 9 ∷ []) (cond (b == 34) (text, 34 ∷ []) (cond (b == 92) (text, 92 ∷ []) (cond (b == 94) (rest_of_control text) (cond (is_digit b) (rest_of_decimal b text) (rest_of_blanks text))))))
+rest_of (b ∷ text) = cond (b == 110) (text, 10 ∷ [])
+    (cond (b == 116) (text, 9 ∷ [])
+    (cond (b == 34) (text, 34 ∷ [])
+    (cond (b == 92) (text, 92 ∷ []) (cond (b == 94) (rest_of_control text) (cond (is_digit b) (rest_of_decimal b text) (rest_of_blanks text))))))
 
 record Plain (b : ℕ) : Type 0 where
   n : (b == 110) ≡ false
@@ -34,22 +38,38 @@ record Plain (b : ℕ) : Type 0 where
   c : (b == 94) ≡ false
 
 digit_plain : (b : ℕ) → is_digit b ≡ true → Plain b
-digit_plain b h = record { n = grind (arith, nat_tests); t = grind (arith, nat_tests); q = grind (arith, nat_tests); s = grind (arith, nat_tests); c = grind (arith, nat_tests) }
+digit_plain b h = record {
+  n = grind (arith, nat_tests);
+  t = grind (arith, nat_tests);
+  q = grind (arith, nat_tests);
+  s = grind (arith, nat_tests);
+  c = grind (arith, nat_tests);
+}
 
 blank_plain : (b : ℕ) → is_blank b ≡ true → Plain b
-blank_plain b h = record { n = grind (arith, nat_tests); t = grind (arith, nat_tests); q = grind (arith, nat_tests); s = grind (arith, nat_tests); c = grind (arith, nat_tests) }
+blank_plain b h = record {
+  n = grind (arith, nat_tests);
+  t = grind (arith, nat_tests);
+  q = grind (arith, nat_tests);
+  s = grind (arith, nat_tests);
+  c = grind (arith, nat_tests);
+}
 
 blank_digit : (b : ℕ) → is_blank b ≡ true → is_digit b ≡ false
 blank_digit b h = grind (arith, nat_tests)
 
 rest_of-blanks : (more rest : List ℕ) → AllAre is_blank more → rest_of_blanks (more ++ 92 ∷ rest) ≡ (rest, [])
 rest_of-blanks [] rest a = refl
-rest_of-blanks (b ∷ more) rest a = ap (λ x. cond x (more ++ 92 ∷ rest, []) (rest_of_blanks (more ++ 92 ∷ rest))) (blank_plain b a.0).s ∙ rest_of-blanks more rest a.1
+rest_of-blanks (b ∷ more) rest a = ap (λ x. cond x (more ++ 92 ∷ rest, []) (rest_of_blanks (more ++ 92 ∷ rest))) (blank_plain b a.0).s
+    ∙ rest_of-blanks more rest a.1
 
 abbrev choose : Bool → Bool → Bool → Bool → Bool → Bool → ℕ → List ℕ → List ℕ × List ℕ
-choose n t q s c d b text = cond n (text, 10 ∷ []) (cond t (text, 9 ∷ []) (cond q (text, 34 ∷ []) (cond s (text, 92 ∷ []) (cond c (rest_of_control text) (cond d (rest_of_decimal b text) (rest_of_blanks text))))))
+choose n t q s c d b text = cond n (text, 10 ∷ [])
+    (cond t (text, 9 ∷ [])
+    (cond q (text, 34 ∷ []) (cond s (text, 92 ∷ []) (cond c (rest_of_control text) (cond d (rest_of_decimal b text) (rest_of_blanks text))))))
 
-chosen : (n t q s c d d' : Bool) (b : ℕ) (text : List ℕ) → n ≡ false → t ≡ false → q ≡ false → s ≡ false → c ≡ false → d ≡ d' → choose n t q s c d b text ≡ cond d' (rest_of_decimal b text) (rest_of_blanks text)
+chosen : (n t q s c d d' : Bool) (b : ℕ) (text : List ℕ) → n ≡ false → t ≡ false → q ≡ false → s ≡ false → c ≡ false →
+    d ≡ d' → choose n t q s c d b text ≡ cond d' (rest_of_decimal b text) (rest_of_blanks text)
 chosen n t q s c d d' b text en et eq es ec ed = simp (en, et, eq, es, ec, ed)
 
 plain_rest : (b : ℕ) (text : List ℕ) (d : Bool) → Plain b → is_digit b ≡ d → rest_of (b ∷ text) ≡ cond d (rest_of_decimal b text) (rest_of_blanks text)
@@ -63,14 +83,16 @@ rest_of-escape backslash rest = refl
 rest_of-escape (control b h) rest = refl
 rest_of-escape (decimal a b c h le) rest = let d = is_digit_from a h.0 in plain_rest a (b ∷ c ∷ rest) true (digit_plain a d) d
 rest_of-escape (blanks b more h) rest =
-    ap (λ l. rest_of (b ∷ l)) (append_assoc more (92 ∷ []) rest) ∙ plain_rest b (more ++ 92 ∷ rest) false (blank_plain b h.0) (blank_digit b h.0) ∙ rest_of-blanks more rest h.1
+    ap (λ l. rest_of (b ∷ l)) (append_assoc more (92 ∷ []) rest) ∙ plain_rest b (more ++ 92 ∷ rest) false (blank_plain b h.0) (blank_digit b h.0)
+    ∙ rest_of-blanks more rest h.1
 
 pub record SameEscape (escape other meant meaning rest after : List ℕ) : Type 0 where
   pub escape_is : escape ≡ other
   pub meant_is : meant ≡ meaning
   pub rest_is : rest ≡ after
 
-pub escape_once : {escape meant other meaning : List ℕ} → Escape escape meant → Escape other meaning → (rest after : List ℕ) → escape ++ rest ≡ other ++ after → SameEscape escape other meant meaning rest after
+pub escape_once : {escape meant other meaning : List ℕ} → Escape escape meant → Escape other meaning → (rest after : List ℕ) →
+    escape ++ rest ≡ other ++ after → SameEscape escape other meant meaning rest after
 escape_once {escape = escape} {meant = meant} {other = other} {meaning = meaning} h k rest after e =
     let p = sym (rest_of-escape h rest) ∙ ap rest_of e ∙ rest_of-escape k after in
     let r : rest ≡ after = ap (λ x. x.0) p in
@@ -116,7 +138,8 @@ begun_goes_on IsBegun.backslash = refl
 begun_goes_on IsBegun.caret = refl
 begun_goes_on (IsBegun.digit a h) = going_is (a == 94) (is_digit a) (is_blank a) false true (is_blank a) [] (digit_plain a h).c h refl
 begun_goes_on (IsBegun.digits a b h k) = going_is (a == 94) (is_digit a) (is_blank a) false true (is_blank a) (b ∷ []) (digit_plain a h).c h refl
-begun_goes_on (IsBegun.blanks b more h) = going_is (b == 94) (is_digit b) (is_blank b) false false true more (blank_plain b h.0).c (blank_digit b h.0) h.0 ∙ blanks_none more h.1
+begun_goes_on (IsBegun.blanks b more h) = going_is (b == 94) (is_digit b) (is_blank b) false false true more
+    (blank_plain b h.0).c (blank_digit b h.0) h.0 ∙ blanks_none more h.1
 
 escape_ends : {escape meant : List ℕ} → Escape escape meant → (rest : List ℕ) → goes_on (escape ++ rest) ≡ false
 escape_ends newline rest = refl
@@ -127,7 +150,8 @@ escape_ends (control b h) rest = refl
 escape_ends (decimal a b c h le) rest =
     let d = is_digit_from a h.0 in
     going_is (a == 94) (is_digit a) (is_blank a) false true (is_blank a) (b ∷ c ∷ rest) (digit_plain a d).c d refl
-escape_ends (blanks b more h) rest = going_is (b == 94) (is_digit b) (is_blank b) false false true ((more ++ 92 ∷ []) ++ rest) (blank_plain b h.0).c (blank_digit b h.0) h.0 ∙ blanks_end more rest h.1
+escape_ends (blanks b more h) rest = going_is (b == 94) (is_digit b) (is_blank b) false false true ((more ++ 92 ∷ []) ++ rest)
+    (blank_plain b h.0).c (blank_digit b h.0) h.0 ∙ blanks_end more rest h.1
 
 pub begun_no_escape : {begun escape meant : List ℕ} → IsBegun begun → Escape escape meant → (rest : List ℕ) → begun ≡ escape ++ rest → ⊥
 begun_no_escape b h rest e = clash (escape_ends h rest) (sym (ap goes_on e) ∙ begun_goes_on b)
@@ -166,13 +190,15 @@ front_begun (control b h) (x ∷ []) d q e = let same : 94 ≡ x = head_is e in 
 front_begun (control b h) (x ∷ y ∷ p) d q e = absurd (none p d q (tail_is (tail_is e)))
 front_begun (decimal a b c h le) [] d q e = IsBegun.backslash
 front_begun (decimal a b c h le) (x ∷ []) d q e = let same : a ≡ x = head_is e in subst (λ z. IsBegun (z ∷ [])) same (IsBegun.digit a (is_digit_from a h.0))
-front_begun (decimal a b c h le) (x ∷ y ∷ []) d q e = let same : a ∷ b ∷ [] ≡ x ∷ y ∷ [] = two_same e in subst IsBegun same (IsBegun.digits a b (is_digit_from a h.0) (is_digit_from b h.1.0))
+front_begun (decimal a b c h le) (x ∷ y ∷ []) d q e = let same : a ∷ b ∷ [] ≡ x ∷ y ∷ [] = two_same e in subst IsBegun
+    same (IsBegun.digits a b (is_digit_from a h.0) (is_digit_from b h.1.0))
 front_begun (decimal a b c h le) (x ∷ y ∷ z ∷ p) d q e = absurd (none p d q (tail_is (tail_is (tail_is e))))
 front_begun (blanks b more h) [] d q e = IsBegun.backslash
 front_begun (blanks b more h) (x ∷ p) d q e = subst (λ z. IsBegun (z ∷ p)) (head_is e) (blanks_front b more p d q h (tail_is e))
 
 -- a byte that doesn't fit leaves no escape
-pub misfit_no_escape : {begun escape meant : List ℕ} (b : ℕ) → Misfits begun b → Escape escape meant → (rest after : List ℕ) → begun ++ b ∷ rest ≡ escape ++ after → ⊥
+pub misfit_no_escape : {begun escape meant : List ℕ} (b : ℕ) → Misfits begun b → Escape escape meant → (rest after : List ℕ) →
+    begun ++ b ∷ rest ≡ escape ++ after → ⊥
 misfit_no_escape {begun = begun} {escape = escape} {meant = meant} b m h rest after e = by (two_fronts begun (b ∷ rest) escape after e)
   where
     longer : (more : List ℕ) → escape ≡ begun ++ more → b ∷ rest ≡ more ++ after → ⊥

@@ -1,5 +1,6 @@
 -- Names that are added one by one.
-use Rattle.std.proofs.Common.{ℕ, zero, suc, ◌≡◌, ◌≢◌, ◌≤◌, List, [], ◌∷◌, ◌++◌, length, Bool, true, false, cond, take, drop, Some, refl, sym, ap, ◌∙◌, arith, append_assoc, append-nil}
+use Rattle.std.proofs.Common.{ℕ, zero, suc, ◌≡◌, ◌≢◌, ◌≤◌, List, [], ◌∷◌, ◌++◌, length, Bool, true, false, cond, take, drop, Some, refl, sym, ap, ◌∙◌}
+use Rattle.std.proofs.Common.{arith, append_assoc, append-nil}
 use Rattle.std.specs.Prelude.{MatchBool, slice_get}
 use Rattle.std.proofs.lemmas.List.{take-append-drop, length-take-le}
 use Rattle.std.proofs.lemmas.List.Sums.{fold-append}
@@ -38,7 +39,8 @@ interned_named old new t n h = by (is_among t old) h
     by true h = h.0
     by false h = h.0
 
-pub ident_token : (old new : List (List ℕ)) (text : List ℕ) (size : ℕ) (n : Name) → BeginsWith is_letter text → IsRun is_name_byte text size → ((w : Word) → take size text ≢ word_text w) → IsInterned old (take size text) new n.0 → IsToken new text (token.Ident n) size
+pub ident_token : (old new : List (List ℕ)) (text : List ℕ) (size : ℕ) (n : Name) → BeginsWith is_letter text →
+    IsRun is_name_byte text size → ((w : Word) → take size text ≢ word_text w) → IsInterned old (take size text) new n.0 → IsToken new text (token.Ident n) size
 ident_token old new text size n h r no_word i =
     record {
       bytes = take size text;
@@ -75,4 +77,5 @@ all_named-append names xs ys = fold-append named names xs ys
 
 pub idents-append : (text : List ℕ) (xs ys : List Spanned) → idents text (xs ++ ys) ≡ idents text xs ++ idents text ys
 idents-append text [] ys = refl
-idents-append text (x ∷ xs) ys = ap (λ l. ident_text text x.token x.span ++ l) (idents-append text xs ys) ∙ sym (append_assoc (ident_text text x.token x.span) (idents text xs) (idents text ys))
+idents-append text (x ∷ xs) ys = ap (λ l. ident_text text x.token x.span ++ l) (idents-append text xs ys)
+    ∙ sym (append_assoc (ident_text text x.token x.span) (idents text xs) (idents text ys))

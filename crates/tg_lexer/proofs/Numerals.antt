@@ -13,10 +13,12 @@ digit_at [] i a lt = absurd (omega arith)
 digit_at (b ∷ text) zero a lt = a.0
 digit_at (b ∷ text) (suc i) a lt = digit_at text i a.1 (omega arith)
 
-pub number_more : (text : List ℕ) (i value : ℕ) → AllAre is_digit text → value ≡ digits_value 10 (take i text) → i < length text → digits_value 10 (take (i + 1) text) ≡ 10 * value + (get_or text i 0 - 48)
+pub number_more : (text : List ℕ) (i value : ℕ) → AllAre is_digit text → value ≡ digits_value 10 (take i text) →
+    i < length text → digits_value 10 (take (i + 1) text) ≡ 10 * value + (get_or text i 0 - 48)
 number_more text i value a e lt = omega (arith, digits_value_more 10 text i lt, digit_worth (get_or text i 0) (digit_at text i a lt))
 
-pub number_great : (text : List ℕ) (i value : ℕ) → AllAre is_digit text → value ≡ digits_value 10 (take i text) → i < length text → 2147483647 < 10 * value + (get_or text i 0 - 48) → 2147483647 < digits_value 10 text
+pub number_great : (text : List ℕ) (i value : ℕ) → AllAre is_digit text → value ≡ digits_value 10 (take i text) →
+    i < length text → 2147483647 < 10 * value + (get_or text i 0 - 48) → 2147483647 < digits_value 10 text
 number_great text i value a e lt h = omega (arith, number_more text i value a e lt, digits_value-take-le 10 text (i + 1) (omega arith))
 
 digit_low : (b : ℕ) → is_digit b ≡ true → 48 ≤ b

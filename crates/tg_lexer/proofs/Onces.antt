@@ -1,5 +1,6 @@
 -- A text is spelled by one token alone, and a text's tokens are its only ones.
-use Rattle.std.proofs.Common.{ℕ, zero, suc, ◌+◌, ◌≡◌, ◌<◌, ◌⊎◌, inl, inr, List, [], ◌∷◌, ◌++◌, length, Bool, true, false, cond, Some, get_or, refl, sym, ap, subst, ◌∙◌, arith, append-nil}
+use Rattle.std.proofs.Common.{ℕ, zero, suc, ◌+◌, ◌≡◌, ◌<◌, ◌⊎◌, inl, inr, List, [], ◌∷◌, ◌++◌, length, Bool, true, false, cond, Some, get_or, refl}
+use Rattle.std.proofs.Common.{sym, ap, subst, ◌∙◌, arith, append-nil}
 use Rattle.std.specs.Prelude.{◌==◌, codes, slice_get}
 use Rattle.std.specs.Str.{bytes_eq}
 use Rattle.std.proofs.lemmas.Bool.Decides.{nat_tests}
@@ -10,12 +11,16 @@ use Rattle.tg_syntax.specs.declared.tokens.Token.{Token}
 use Rattle.tg_syntax.specs.declared.tokens.Token.TheVariants as token
 use Rattle.tg_syntax.specs.declared.tokens.Spanned.{Spanned}
 use Rattle.tg_syntax.specs.declared.tokens.Word.{Word}
-use Rattle.tg_syntax.specs.declared.tokens.Word.TheVariants.{WArray, WBreak, WDo, WElse, WEnd, WFor, WFunction, WIf, WIn, WLet, WNil, WOf, WThen, WTo, WType, WVar, WWhile}
+use Rattle.tg_syntax.specs.declared.tokens.Word.TheVariants.{WArray, WBreak, WDo, WElse, WEnd, WFor, WFunction, WIf, WIn, WLet, WNil, WOf, WThen, WTo}
+use Rattle.tg_syntax.specs.declared.tokens.Word.TheVariants.{WType, WVar, WWhile}
 use Rattle.tg_syntax.specs.declared.tokens.Sign.{Sign}
-use Rattle.tg_syntax.specs.declared.tokens.Sign.TheVariants.{Comma, Colon, Semicolon, LeftParen, RightParen, LeftBracket, RightBracket, LeftBrace, RightBrace, Dot, Plus, Minus, Times, Divide, Equal, NotEqual, Less, LessEqual, Greater, GreaterEqual, And, Or, Assign}
+use Rattle.tg_syntax.specs.declared.tokens.Sign.TheVariants.{Comma, Colon, Semicolon, LeftParen, RightParen, LeftBracket, RightBracket, LeftBrace}
+use Rattle.tg_syntax.specs.declared.tokens.Sign.TheVariants.{RightBrace, Dot, Plus, Minus, Times, Divide, Equal, NotEqual, Less, LessEqual, Greater}
+use Rattle.tg_syntax.specs.declared.tokens.Sign.TheVariants.{GreaterEqual, And, Or, Assign}
 use Rattle.std.specs.Str.Parse.{IsNumeral}
 use Rattle.tg_syntax.proofs.Numerals.{is_digit_from, none_is_numeral}
-use Rattle.tg_syntax.specs.Spellings.{Spells, word_text, sign_text, is_letter, is_digit, is_name_byte, is_blank, AllAre, IsName, HasTokenForm, name, sign, digits, quoted, IsQuoted}
+use Rattle.tg_syntax.specs.Spellings.{Spells, word_text, sign_text, is_letter, is_digit, is_name_byte, is_blank, AllAre, IsName, HasTokenForm, name}
+use Rattle.tg_syntax.specs.Spellings.{sign, digits, quoted, IsQuoted}
 use Rattle.tg_syntax.specs.Lexing.{Lexes, ends, blank, comment, token, spanned, IsLongest, OpensComment, Closes}
 use Rattle.tg_syntax.proofs.Longest.{begins, is_mark}
 use Rattle.tg_lexer.proofs.Basics.{head_is, tail_is, not_cons, differ, apart, clash, GoesOn, two_fronts}
@@ -118,7 +123,9 @@ one_front a b c d e s l s' l' = by (two_fronts a b c d e)
 
 -- bytes spell one token
 abbrev word_of : List ℕ → Word
-word_of bytes = cond (bytes_eq bytes (codes "array")) WArray (cond (bytes_eq bytes (codes "break")) WBreak (cond (bytes_eq bytes (codes "do")) WDo (cond (bytes_eq bytes (codes "else")) WElse (cond (bytes_eq bytes (codes "end")) WEnd (cond (bytes_eq bytes (codes "for")) WFor (cond (bytes_eq bytes (codes "function")) WFunction (cond (bytes_eq bytes (codes "if")) WIf (cond (bytes_eq bytes (codes "in")) WIn (cond (bytes_eq bytes (codes "let")) WLet (cond (bytes_eq bytes (codes "nil")) WNil (cond (bytes_eq bytes (codes "of")) WOf (cond (bytes_eq bytes (codes "then")) WThen (cond (bytes_eq bytes (codes "to")) WTo (cond (bytes_eq bytes (codes "type")) WType (cond (bytes_eq bytes (codes "var")) WVar (WWhile))))))))))))))))
+word_of bytes = cond (bytes_eq bytes (codes "array")) WArray (cond (bytes_eq bytes (codes "break")) WBreak
+    (cond (bytes_eq bytes
+    (codes "do")) WDo (cond (bytes_eq bytes (codes "else")) WElse (cond (bytes_eq bytes (codes "end")) WEnd (cond (bytes_eq bytes (codes "for")) WFor (cond (bytes_eq bytes (codes "function")) WFunction (cond (bytes_eq bytes (codes "if")) WIf (cond (bytes_eq bytes (codes "in")) WIn (cond (bytes_eq bytes (codes "let")) WLet (cond (bytes_eq bytes (codes "nil")) WNil (cond (bytes_eq bytes (codes "of")) WOf (cond (bytes_eq bytes (codes "then")) WThen (cond (bytes_eq bytes (codes "to")) WTo (cond (bytes_eq bytes (codes "type")) WType (cond (bytes_eq bytes (codes "var")) WVar (WWhile))))))))))))))))
 
 word_of-text : (w : Word) → word_of (word_text w) ≡ w
 word_of-text WArray = refl
@@ -140,7 +147,20 @@ word_of-text WVar = refl
 word_of-text WWhile = refl
 
 abbrev sign_of : List ℕ → Sign
-sign_of bytes = cond (bytes_eq bytes (codes ",")) Comma (cond (bytes_eq bytes (codes ":")) Colon (cond (bytes_eq bytes (codes ";")) Semicolon (cond (bytes_eq bytes (codes "(")) LeftParen (cond (bytes_eq bytes (codes ")")) RightParen (cond (bytes_eq bytes (codes "[")) LeftBracket (cond (bytes_eq bytes (codes "]")) RightBracket (cond (bytes_eq bytes (codes "{")) LeftBrace (cond (bytes_eq bytes (codes "}")) RightBrace (cond (bytes_eq bytes (codes ".")) Dot (cond (bytes_eq bytes (codes "+")) Plus (cond (bytes_eq bytes (codes "-")) Minus (cond (bytes_eq bytes (codes "*")) Times (cond (bytes_eq bytes (codes "/")) Divide (cond (bytes_eq bytes (codes "=")) Equal (cond (bytes_eq bytes (codes "<>")) NotEqual (cond (bytes_eq bytes (codes "<")) Less (cond (bytes_eq bytes (codes "<=")) LessEqual (cond (bytes_eq bytes (codes ">")) Greater (cond (bytes_eq bytes (codes ">=")) GreaterEqual (cond (bytes_eq bytes (codes "&")) And (cond (bytes_eq bytes (codes "|")) Or (Assign))))))))))))))))))))))
+sign_of bytes = cond (bytes_eq bytes (codes ",")) Comma
+    (cond (bytes_eq bytes (codes ":")) Colon (cond (bytes_eq bytes (codes ";")) Semicolon
+    (cond (bytes_eq bytes (codes "(")) LeftParen (cond (bytes_eq bytes (codes ")")) RightParen
+    (cond (bytes_eq bytes (codes "[")) LeftBracket (cond (bytes_eq bytes (codes "]")) RightBracket
+    (cond (bytes_eq bytes (codes "{")) LeftBrace (cond (bytes_eq bytes (codes "}")) RightBrace
+    (cond (bytes_eq bytes (codes ".")) Dot
+    (cond (bytes_eq bytes (codes "+")) Plus
+    (cond (bytes_eq bytes (codes "-")) Minus
+    (cond (bytes_eq bytes (codes "*")) Times
+    (cond (bytes_eq bytes (codes "/")) Divide
+    (cond (bytes_eq bytes (codes "=")) Equal (cond (bytes_eq bytes (codes "<>")) NotEqual
+    (cond (bytes_eq bytes (codes "<")) Less (cond (bytes_eq bytes (codes "<=")) LessEqual
+    (cond (bytes_eq bytes (codes ">")) Greater (cond (bytes_eq bytes (codes ">=")) GreaterEqual
+    (cond (bytes_eq bytes (codes "&")) And (cond (bytes_eq bytes (codes "|")) Or (Assign))))))))))))))))))))))
 
 sign_of-text : (s : Sign) → sign_of (sign_text s) ≡ s
 sign_of-text Comma = refl
@@ -192,35 +212,54 @@ place_once names bytes n m d e f = by (order n m)
 same_text : (inside other meant meaning : List ℕ) → IsQuoted inside meant → IsQuoted other meaning → inside ++ 34 ∷ [] ≡ other ++ 34 ∷ [] → meant ≡ meaning
 same_text inside other meant meaning q q' e = (quoted_once q q' [] [] e).meant_is
 
-pub spells_once : (names : List (List ℕ)) (bytes : List ℕ) (one other : Token) → AreDistinct names → Spells names bytes one → Spells names bytes other → one ≡ other
+pub spells_once : (names : List (List ℕ)) (bytes : List ℕ) (one other : Token) → AreDistinct names → Spells names bytes one →
+    Spells names bytes other → one ≡ other
 spells_once names bytes (token.Word w) (token.Word w') d h k = ap token.Word (sym (word_of-text w) ∙ ap word_of (sym h ∙ k) ∙ word_of-text w')
 spells_once names bytes (token.Word w) (token.Ident n') d h k = absurd (k.1 w h)
-spells_once names bytes (token.Word w) (token.Int n') d h k = absurd (differ 0 1 refl (sym (spells_kind names bytes (token.Word w) h) ∙ spells_kind names bytes (token.Int n') k))
-spells_once names bytes (token.Word w) (token.Text t') d h k = absurd (differ 0 2 refl (sym (spells_kind names bytes (token.Word w) h) ∙ spells_kind names bytes (token.Text t') k))
-spells_once names bytes (token.Word w) (token.Sign s') d h k = absurd (differ 0 3 refl (sym (spells_kind names bytes (token.Word w) h) ∙ spells_kind names bytes (token.Sign s') k))
+spells_once names bytes (token.Word w) (token.Int n') d h k =
+    absurd (differ 0 1 refl (sym (spells_kind names bytes (token.Word w) h) ∙ spells_kind names bytes (token.Int n') k))
+spells_once names bytes (token.Word w) (token.Text t') d h k =
+    absurd (differ 0 2 refl (sym (spells_kind names bytes (token.Word w) h) ∙ spells_kind names bytes (token.Text t') k))
+spells_once names bytes (token.Word w) (token.Sign s') d h k =
+    absurd (differ 0 3 refl (sym (spells_kind names bytes (token.Word w) h) ∙ spells_kind names bytes (token.Sign s') k))
 spells_once names bytes (token.Word w) token.End d h k = absurd k
 spells_once names bytes (token.Ident n) (token.Word w') d h k = absurd (h.1 w' k)
 spells_once names bytes (token.Ident n) (token.Ident n') d h k = ap (λ m. token.Ident (record { 0 = m })) (place_once names bytes n.0 n'.0 d h.2 k.2)
-spells_once names bytes (token.Ident n) (token.Int n') d h k = absurd (differ 0 1 refl (sym (spells_kind names bytes (token.Ident n) h) ∙ spells_kind names bytes (token.Int n') k))
-spells_once names bytes (token.Ident n) (token.Text t') d h k = absurd (differ 0 2 refl (sym (spells_kind names bytes (token.Ident n) h) ∙ spells_kind names bytes (token.Text t') k))
-spells_once names bytes (token.Ident n) (token.Sign s') d h k = absurd (differ 0 3 refl (sym (spells_kind names bytes (token.Ident n) h) ∙ spells_kind names bytes (token.Sign s') k))
+spells_once names bytes (token.Ident n) (token.Int n') d h k =
+    absurd (differ 0 1 refl (sym (spells_kind names bytes (token.Ident n) h) ∙ spells_kind names bytes (token.Int n') k))
+spells_once names bytes (token.Ident n) (token.Text t') d h k =
+    absurd (differ 0 2 refl (sym (spells_kind names bytes (token.Ident n) h) ∙ spells_kind names bytes (token.Text t') k))
+spells_once names bytes (token.Ident n) (token.Sign s') d h k =
+    absurd (differ 0 3 refl (sym (spells_kind names bytes (token.Ident n) h) ∙ spells_kind names bytes (token.Sign s') k))
 spells_once names bytes (token.Ident n) token.End d h k = absurd k
-spells_once names bytes (token.Int n) (token.Word w') d h k = absurd (differ 1 0 refl (sym (spells_kind names bytes (token.Int n) h) ∙ spells_kind names bytes (token.Word w') k))
-spells_once names bytes (token.Int n) (token.Ident n') d h k = absurd (differ 1 0 refl (sym (spells_kind names bytes (token.Int n) h) ∙ spells_kind names bytes (token.Ident n') k))
+spells_once names bytes (token.Int n) (token.Word w') d h k =
+    absurd (differ 1 0 refl (sym (spells_kind names bytes (token.Int n) h) ∙ spells_kind names bytes (token.Word w') k))
+spells_once names bytes (token.Int n) (token.Ident n') d h k =
+    absurd (differ 1 0 refl (sym (spells_kind names bytes (token.Int n) h) ∙ spells_kind names bytes (token.Ident n') k))
 spells_once names bytes (token.Int n) (token.Int n') d h k = ap token.Int (h.1 ∙ sym k.1)
-spells_once names bytes (token.Int n) (token.Text t') d h k = absurd (differ 1 2 refl (sym (spells_kind names bytes (token.Int n) h) ∙ spells_kind names bytes (token.Text t') k))
-spells_once names bytes (token.Int n) (token.Sign s') d h k = absurd (differ 1 3 refl (sym (spells_kind names bytes (token.Int n) h) ∙ spells_kind names bytes (token.Sign s') k))
+spells_once names bytes (token.Int n) (token.Text t') d h k =
+    absurd (differ 1 2 refl (sym (spells_kind names bytes (token.Int n) h) ∙ spells_kind names bytes (token.Text t') k))
+spells_once names bytes (token.Int n) (token.Sign s') d h k =
+    absurd (differ 1 3 refl (sym (spells_kind names bytes (token.Int n) h) ∙ spells_kind names bytes (token.Sign s') k))
 spells_once names bytes (token.Int n) token.End d h k = absurd k
-spells_once names bytes (token.Text t) (token.Word w') d h k = absurd (differ 2 0 refl (sym (spells_kind names bytes (token.Text t) h) ∙ spells_kind names bytes (token.Word w') k))
-spells_once names bytes (token.Text t) (token.Ident n') d h k = absurd (differ 2 0 refl (sym (spells_kind names bytes (token.Text t) h) ∙ spells_kind names bytes (token.Ident n') k))
-spells_once names bytes (token.Text t) (token.Int n') d h k = absurd (differ 2 1 refl (sym (spells_kind names bytes (token.Text t) h) ∙ spells_kind names bytes (token.Int n') k))
+spells_once names bytes (token.Text t) (token.Word w') d h k =
+    absurd (differ 2 0 refl (sym (spells_kind names bytes (token.Text t) h) ∙ spells_kind names bytes (token.Word w') k))
+spells_once names bytes (token.Text t) (token.Ident n') d h k =
+    absurd (differ 2 0 refl (sym (spells_kind names bytes (token.Text t) h) ∙ spells_kind names bytes (token.Ident n') k))
+spells_once names bytes (token.Text t) (token.Int n') d h k =
+    absurd (differ 2 1 refl (sym (spells_kind names bytes (token.Text t) h) ∙ spells_kind names bytes (token.Int n') k))
 spells_once names bytes (token.Text t) (token.Text t') d h k = ap token.Text (same_text h.0 k.0 t t' h.2 k.2 (tail_is (sym h.1 ∙ k.1)))
-spells_once names bytes (token.Text t) (token.Sign s') d h k = absurd (differ 2 3 refl (sym (spells_kind names bytes (token.Text t) h) ∙ spells_kind names bytes (token.Sign s') k))
+spells_once names bytes (token.Text t) (token.Sign s') d h k =
+    absurd (differ 2 3 refl (sym (spells_kind names bytes (token.Text t) h) ∙ spells_kind names bytes (token.Sign s') k))
 spells_once names bytes (token.Text t) token.End d h k = absurd k
-spells_once names bytes (token.Sign s) (token.Word w') d h k = absurd (differ 3 0 refl (sym (spells_kind names bytes (token.Sign s) h) ∙ spells_kind names bytes (token.Word w') k))
-spells_once names bytes (token.Sign s) (token.Ident n') d h k = absurd (differ 3 0 refl (sym (spells_kind names bytes (token.Sign s) h) ∙ spells_kind names bytes (token.Ident n') k))
-spells_once names bytes (token.Sign s) (token.Int n') d h k = absurd (differ 3 1 refl (sym (spells_kind names bytes (token.Sign s) h) ∙ spells_kind names bytes (token.Int n') k))
-spells_once names bytes (token.Sign s) (token.Text t') d h k = absurd (differ 3 2 refl (sym (spells_kind names bytes (token.Sign s) h) ∙ spells_kind names bytes (token.Text t') k))
+spells_once names bytes (token.Sign s) (token.Word w') d h k =
+    absurd (differ 3 0 refl (sym (spells_kind names bytes (token.Sign s) h) ∙ spells_kind names bytes (token.Word w') k))
+spells_once names bytes (token.Sign s) (token.Ident n') d h k =
+    absurd (differ 3 0 refl (sym (spells_kind names bytes (token.Sign s) h) ∙ spells_kind names bytes (token.Ident n') k))
+spells_once names bytes (token.Sign s) (token.Int n') d h k =
+    absurd (differ 3 1 refl (sym (spells_kind names bytes (token.Sign s) h) ∙ spells_kind names bytes (token.Int n') k))
+spells_once names bytes (token.Sign s) (token.Text t') d h k =
+    absurd (differ 3 2 refl (sym (spells_kind names bytes (token.Sign s) h) ∙ spells_kind names bytes (token.Text t') k))
 spells_once names bytes (token.Sign s) (token.Sign s') d h k = ap token.Sign (sym (sign_of-text s) ∙ ap sign_of (sym h ∙ k) ∙ sign_of-text s')
 spells_once names bytes (token.Sign s) token.End d h k = absurd k
 spells_once names bytes token.End other d h k = absurd h
@@ -257,13 +296,16 @@ no_blank_front [] rest b after f e h = form_some f refl
 no_blank_front (x ∷ bytes) rest b after f e h = apart is_blank x b (form_begins f) h (sym (head_is e))
 
 -- the first step of tokens, by what a text begins with
-pub lexes_blank : {names : List (List ℕ)} {at : ℕ} {text : List ℕ} {tokens : List Spanned} → Lexes names at text tokens → (b : ℕ) (rest : List ℕ) → text ≡ b ∷ rest → is_blank b ≡ true → Lexes names (at + 1) rest tokens
+pub lexes_blank : {names : List (List ℕ)} {at : ℕ} {text : List ℕ} {tokens : List Spanned} → Lexes names at text tokens →
+    (b : ℕ) (rest : List ℕ) → text ≡ b ∷ rest → is_blank b ≡ true → Lexes names (at + 1) rest tokens
 lexes_blank (ends at) b rest e h = absurd (not_cons e)
 lexes_blank {names = names} {at = at} {tokens = tokens} (blank x k l) b rest e h = subst (λ r. Lexes names (at + 1) r tokens) (tail_is e) l
 lexes_blank (comment inside c l) b rest e h = absurd (apart is_blank 47 b refl h (head_is e))
-lexes_blank {names = names} (token bytes one {rest = after} s longest o l) b rest e h = absurd (no_blank_front bytes after b rest (spells_form names bytes one s) (sym e) h)
+lexes_blank {names = names} (token bytes one {rest = after} s longest o l) b rest e h =
+    absurd (no_blank_front bytes after b rest (spells_form names bytes one s) (sym e) h)
 
-pub lexes_comment : {names : List (List ℕ)} {at : ℕ} {text : List ℕ} {tokens : List Spanned} → Lexes names at text tokens → (inside rest : List ℕ) → text ≡ 47 ∷ 42 ∷ inside ++ rest → Closes 1 inside → Lexes names (at + 2 + length inside) rest tokens
+pub lexes_comment : {names : List (List ℕ)} {at : ℕ} {text : List ℕ} {tokens : List Spanned} → Lexes names at text tokens →
+    (inside rest : List ℕ) → text ≡ 47 ∷ 42 ∷ inside ++ rest → Closes 1 inside → Lexes names (at + 2 + length inside) rest tokens
 lexes_comment (ends at) inside rest e c = absurd (not_cons e)
 lexes_comment (blank x k l) inside rest e c = absurd (apart is_blank 47 x refl k (sym (head_is e)))
 lexes_comment {names = names} {at = at} {tokens = tokens} (comment other {rest = after} c' l) inside rest e c =
@@ -284,7 +326,8 @@ no_form_front : (bytes rest : List ℕ) → HasTokenForm bytes → [] ≡ bytes 
 no_form_front [] rest f e = form_some f refl
 no_form_front (b ∷ bytes) rest f e = not_cons e
 
-pub lexes_token : {names : List (List ℕ)} {at : ℕ} {text : List ℕ} {tokens : List Spanned} → Lexes names at text tokens → (bytes rest : List ℕ) → text ≡ bytes ++ rest → HasTokenForm bytes → IsLongest bytes rest → (OpensComment text → ⊥) → Head names at bytes rest tokens
+pub lexes_token : {names : List (List ℕ)} {at : ℕ} {text : List ℕ} {tokens : List Spanned} → Lexes names at text tokens →
+    (bytes rest : List ℕ) → text ≡ bytes ++ rest → HasTokenForm bytes → IsLongest bytes rest → (OpensComment text → ⊥) → Head names at bytes rest tokens
 lexes_token (ends at) bytes rest e f longest o = absurd (no_form_front bytes rest f e)
 lexes_token (blank x {rest = after} k l) bytes rest e f longest o = absurd (no_blank_front bytes rest x after f e k)
 lexes_token (comment inside c l) bytes rest e f longest o = absurd (o (refl, refl))
@@ -299,18 +342,21 @@ lexes_token {names = names} {at = at} (token other one {rest = after} {tokens = 
       lexed = subst (λ l. Lexes names (at + length l) rest more) same (subst (λ x. Lexes names (at + length other) x more) r l);
     }
 
-lexes_end : {names : List (List ℕ)} {at : ℕ} {text : List ℕ} {tokens : List Spanned} → Lexes names at text tokens → text ≡ [] → tokens ≡ spanned token.End at at ∷ []
+lexes_end : {names : List (List ℕ)} {at : ℕ} {text : List ℕ} {tokens : List Spanned} → Lexes names at text tokens →
+    text ≡ [] → tokens ≡ spanned token.End at at ∷ []
 lexes_end (ends at) e = refl
 lexes_end (blank x k l) e = absurd (not_cons (sym e))
 lexes_end (comment inside c l) e = absurd (not_cons (sym e))
 lexes_end {names = names} (token bytes one {rest = rest} s longest o l) e = absurd (no_form_front bytes rest (spells_form names bytes one s) (sym e))
 
 -- a text's tokens are its only ones
-pub lexes_once : (names : List (List ℕ)) → AreDistinct names → {at : ℕ} {text : List ℕ} {tokens : List Spanned} → Lexes names at text tokens → (others : List Spanned) → Lexes names at text others → tokens ≡ others
+pub lexes_once : (names : List (List ℕ)) → AreDistinct names → {at : ℕ} {text : List ℕ} {tokens : List Spanned} →
+    Lexes names at text tokens → (others : List Spanned) → Lexes names at text others → tokens ≡ others
 lexes_once names d (ends at) others k = sym (lexes_end k refl)
 lexes_once names d (blank b {rest = rest} h l) others k = lexes_once names d l others (lexes_blank k b rest refl h)
 lexes_once names d (comment inside {rest = rest} c l) others k = lexes_once names d l others (lexes_comment k inside rest refl c)
 lexes_once names d (token {at = at} bytes one {rest = rest} {tokens = tokens} s longest o l) others k =
     let h = lexes_token k bytes rest refl (spells_form names bytes one s) longest o in
     let same : one ≡ h.one = spells_once names bytes one h.one d s h.spells in
-    ap (λ t. spanned t at (at + length bytes) ∷ tokens) same ∙ ap (λ l. spanned h.one at (at + length bytes) ∷ l) (lexes_once names d l h.more h.lexed) ∙ sym h.whole
+    ap (λ t. spanned t at (at + length bytes) ∷ tokens) same ∙ ap (λ l. spanned h.one at (at + length bytes) ∷ l)
+    (lexes_once names d l h.more h.lexed) ∙ sym h.whole

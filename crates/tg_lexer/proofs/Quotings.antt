@@ -3,7 +3,8 @@ use Rattle.std.proofs.Common.{ℕ, ◌≡◌, List, [], ◌∷◌, ◌++◌, tru
 use Rattle.std.proofs.lemmas.Bool.Decides.{nat_tests}
 use Rattle.tg_syntax.specs.declared.faults.LexRule.{LexRule}
 use Rattle.tg_syntax.specs.Spellings.{IsQuoted, nothing, plain, escaped, is_plain}
-use Rattle.tg_syntax.specs.LexicalFaults.{FaultInString, end_in_string, line_in_string, control_byte, end_in_escape, line_in_escape, bad_escape, is_control, Misfits}
+use Rattle.tg_syntax.specs.LexicalFaults.{FaultInString, end_in_string, line_in_string, control_byte, end_in_escape, line_in_escape, bad_escape}
+use Rattle.tg_syntax.specs.LexicalFaults.{is_control, Misfits}
 use Rattle.tg_lexer.proofs.Basics.{head_is, tail_is, not_cons, differ, apart}
 use Rattle.tg_lexer.proofs.Escapings.{escape_once, begun_no_escape, misfit_no_escape}
 
@@ -25,16 +26,29 @@ pub record Goes (short long meant meaning rest after : List ℕ) : Type 0 where
 cons_same : {a b : ℕ} {xs ys : List ℕ} → a ≡ b → xs ≡ ys → a ∷ xs ≡ b ∷ ys
 cons_same e f = cc
 
-pub quoted_goes_on : {short meant long meaning : List ℕ} → IsQuoted short meant → IsQuoted long meaning → (rest after : List ℕ) → short ++ rest ≡ long ++ 34 ∷ after → Goes short long meant meaning rest after
-quoted_goes_on {long = long} {meaning = meaning} nothing k rest after e = record { more = long; means = meaning; long_is = refl; meaning_is = refl; quoted = k; rest_is = e }
+pub quoted_goes_on : {short meant long meaning : List ℕ} → IsQuoted short meant → IsQuoted long meaning → (rest after : List ℕ) →
+    short ++ rest ≡ long ++ 34 ∷ after → Goes short long meant meaning rest after
+quoted_goes_on {long = long} {meaning = meaning} nothing k rest after e =
+    record { more = long; means = meaning; long_is = refl; meaning_is = refl; quoted = k; rest_is = e }
 quoted_goes_on (plain b {bytes = bytes} {meant = meant} h q) nothing rest after e = absurd (apart is_plain 34 b refl h (sym (head_is e)))
 quoted_goes_on (plain b {bytes = bytes} {meant = meant} h q) (plain c {bytes = others} {meant = meaning} h' q') rest after e =
     let g = quoted_goes_on q q' rest after (tail_is e) in
-    record { more = g.more; means = g.means; long_is = cons_same (sym (head_is e)) g.long_is; meaning_is = cons_same (sym (head_is e)) g.meaning_is; quoted = g.quoted; rest_is = g.rest_is }
-quoted_goes_on (plain b {bytes = bytes} {meant = meant} h q) (escaped {escape = escape} {more = more} {bytes = others} {meant = meaning} h' q') rest after e = absurd (apart is_plain 92 b refl h (sym (head_is e)))
+    record {
+      more = g.more;
+      means = g.means;
+      long_is = cons_same (sym (head_is e)) g.long_is;
+      meaning_is =
+          cons_same (sym (head_is e)) g.meaning_is;
+      quoted = g.quoted;
+      rest_is = g.rest_is;
+    }
+quoted_goes_on (plain b {bytes = bytes} {meant = meant} h q) (escaped {escape = escape} {more = more} {bytes = others} {meant = meaning} h' q') rest after e =
+    absurd (apart is_plain 92 b refl h (sym (head_is e)))
 quoted_goes_on (escaped {escape = escape} {more = more} {bytes = bytes} {meant = meant} h q) nothing rest after e = absurd (differ 92 34 refl (head_is e))
-quoted_goes_on (escaped {escape = escape} {more = more} {bytes = bytes} {meant = meant} h q) (plain c {bytes = others} {meant = meaning} h' q') rest after e = absurd (apart is_plain 92 c refl h' (head_is e))
-quoted_goes_on (escaped {escape = escape} {more = more} {bytes = bytes} {meant = meant} h q) (escaped {escape = escape'} {more = more'} {bytes = others} {meant = meaning} h' q') rest after e =
+quoted_goes_on (escaped {escape = escape} {more = more} {bytes = bytes} {meant = meant} h q)
+    (plain c {bytes = others} {meant = meaning} h' q') rest after e = absurd (apart is_plain 92 c refl h' (head_is e))
+quoted_goes_on (escaped {escape = escape} {more = more} {bytes = bytes} {meant = meant} h q)
+    (escaped {escape = escape'} {more = more'} {bytes = others} {meant = meaning} h' q') rest after e =
     let f : (escape ++ bytes) ++ rest ≡ (escape' ++ others) ++ 34 ∷ after = tail_is e in
     let s = escape_once h h' (bytes ++ rest) (others ++ 34 ∷ after) (sym (append_assoc escape bytes rest) ∙ f ∙ append_assoc escape' others (34 ∷ after)) in
     let g = quoted_goes_on q q' rest after s.rest_is in
@@ -57,7 +71,8 @@ pub record SameString (short long meant meaning : List ℕ) : Type 0 where
   pub string_is : short ≡ long
   pub meant_is : meant ≡ meaning
 
-pub quoted_once : {short meant long meaning : List ℕ} → IsQuoted short meant → IsQuoted long meaning → (rest after : List ℕ) → short ++ 34 ∷ rest ≡ long ++ 34 ∷ after → SameString short long meant meaning
+pub quoted_once : {short meant long meaning : List ℕ} → IsQuoted short meant → IsQuoted long meaning → (rest after : List ℕ) →
+    short ++ 34 ∷ rest ≡ long ++ 34 ∷ after → SameString short long meant meaning
 quoted_once {short = short} {meant = meant} {long = long} {meaning = meaning} q q' rest after e =
     let g = quoted_goes_on q q' (34 ∷ rest) after e in
     let n = no_quote g.quoted rest after g.rest_is in
@@ -82,14 +97,16 @@ no_control b h nothing rest after e = control_quote b h (head_is e)
 no_control b h (plain c k q) rest after e = apart is_plain b c (control_plain b h) k (head_is e)
 no_control b h (escaped k q) rest after e = control_backslash b h (head_is e)
 
-no_misfit : (begun : List ℕ) (b : ℕ) (rest : List ℕ) → Misfits begun b → {more means : List ℕ} → IsQuoted more means → (after : List ℕ) → 92 ∷ begun ++ b ∷ rest ≡ more ++ 34 ∷ after → ⊥
+no_misfit : (begun : List ℕ) (b : ℕ) (rest : List ℕ) → Misfits begun b → {more means : List ℕ} → IsQuoted more means →
+    (after : List ℕ) → 92 ∷ begun ++ b ∷ rest ≡ more ++ 34 ∷ after → ⊥
 no_misfit begun b rest m nothing after e = differ 92 34 refl (head_is e)
 no_misfit begun b rest m (plain c k q) after e = apart is_plain 92 c refl k (head_is e)
 no_misfit begun b rest m (escaped {escape = escape} {more = more} {bytes = bytes} k q) after e =
     let f : begun ++ b ∷ rest ≡ (escape ++ bytes) ++ 34 ∷ after = tail_is e in
     misfit_no_escape b m k rest (bytes ++ 34 ∷ after) (f ∙ append_assoc escape bytes (34 ∷ after))
 
-pub fault_no_string : {from at : ℕ} {rest : List ℕ} {rule : LexRule} {place : ℕ} → FaultInString from at rest rule place → {more means : List ℕ} → IsQuoted more means → (after : List ℕ) → rest ≡ more ++ 34 ∷ after → ⊥
+pub fault_no_string : {from at : ℕ} {rest : List ℕ} {rule : LexRule} {place : ℕ} → FaultInString from at rest rule place →
+    {more means : List ℕ} → IsQuoted more means → (after : List ℕ) → rest ≡ more ++ 34 ∷ after → ⊥
 fault_no_string end_in_string nothing after e = not_cons e
 fault_no_string end_in_string (plain b h q) after e = not_cons e
 fault_no_string end_in_string (escaped h q) after e = not_cons e

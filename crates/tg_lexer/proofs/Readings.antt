@@ -1,5 +1,6 @@
 -- What a text begins with, read by its first byte.
-use Rattle.std.proofs.Common.{ℕ, zero, suc, ◌+◌, ◌≡◌, ◌≢◌, ◌≤◌, ◌<◌, List, [], ◌∷◌, ◌++◌, length, Bool, true, false, take, drop, get_or, refl, sym, ap, subst, ◌∙◌, arith, append_assoc}
+use Rattle.std.proofs.Common.{ℕ, zero, suc, ◌+◌, ◌≡◌, ◌≢◌, ◌≤◌, ◌<◌, List, [], ◌∷◌, ◌++◌, length, Bool, true, false, take, drop, get_or, refl, sym}
+use Rattle.std.proofs.Common.{ap, subst, ◌∙◌, arith, append_assoc}
 use Rattle.std.specs.Prelude.{◌==◌, ◌||◌, not}
 use Rattle.std.proofs.lemmas.Bool.Decides.{nat_tests}
 use Rattle.std.proofs.lemmas.Bool.{eqb-true}
@@ -11,7 +12,8 @@ use Rattle.tg_syntax.specs.declared.faults.LexRule.{LexRule}
 use Rattle.tg_syntax.specs.declared.faults.LexRule.TheVariants.{L1, L2, L5}
 use Rattle.std.specs.Str.Parse.{IsNumeral, digits_value}
 use Rattle.tg_syntax.proofs.Numerals.{is_digit_from, digits_of_bytes, none_is_numeral}
-use Rattle.tg_syntax.specs.Spellings.{sign_text, word_text, is_blank, is_letter, is_digit, is_name_byte, AllAre, IsName, IsQuoted, HasTokenForm, name, sign, digits, quoted}
+use Rattle.tg_syntax.specs.Spellings.{sign_text, word_text, is_blank, is_letter, is_digit, is_name_byte, AllAre, IsName, IsQuoted, HasTokenForm, name}
+use Rattle.tg_syntax.specs.Spellings.{sign, digits, quoted}
 use Rattle.tg_syntax.specs.Lexing.{OpensComment, Closes, IsLongest}
 use Rattle.tg_syntax.specs.LexicalFaults.{FaultAt, illegal_byte, comment_not_closed, large_int}
 use Rattle.tg_syntax.proofs.Longest.{begins, is_mark, form_of_mark, name_longest, digits_longest}
@@ -39,7 +41,8 @@ no_slash class (b ∷ []) c h o = o
 no_slash class (b ∷ x ∷ text) c h o = apart class 47 b c h (sym o.0)
 
 -- runs of a class with which a text begins
-run_begins : (class : ℕ → Bool) (text : List ℕ) (size : ℕ) → BeginsWith class text → IsRun class text size → (b : ℕ) × (more : List ℕ) × (take size text ≡ b ∷ more)
+run_begins : (class : ℕ → Bool) (text : List ℕ) (size : ℕ) → BeginsWith class text → IsRun class text size → (b : ℕ) ×
+    (more : List ℕ) × (take size text ≡ b ∷ more)
 run_begins class [] size h r = absurd h
 run_begins class (b ∷ text) zero h r = absurd (clash (r.stops b text refl) h)
 run_begins class (b ∷ text) (suc size) h r = (b, take size text, refl)
@@ -53,7 +56,8 @@ digits_run text size h r =
     let m = run_begins is_digit text size h r in
     (subst (λ bytes. 0 < length bytes) (sym m.2) (omega arith), digits_of_bytes (take size text) r.all)
 
-pub int_token : (n : List (List ℕ)) (text : List ℕ) (size value : ℕ) → BeginsWith is_digit text → IsRun is_digit text size → value ≡ digits_value 10 (take size text) → value ≤ 2147483647 → IsToken n text (token.Int value) size
+pub int_token : (n : List (List ℕ)) (text : List ℕ) (size value : ℕ) → BeginsWith is_digit text → IsRun is_digit text size →
+    value ≡ digits_value 10 (take size text) → value ≤ 2147483647 → IsToken n text (token.Int value) size
 int_token n text size value h r e le =
     let d = digits_run text size h r in
     record {
@@ -66,10 +70,12 @@ int_token n text size value h r e le =
       no_comment = no_slash is_digit text refl h;
     }
 
-pub int_large : (at : ℕ) (text : List ℕ) (size : ℕ) → BeginsWith is_digit text → IsRun is_digit text size → 2147483647 < digits_value 10 (take size text) → FaultAt at text L5 at
+pub int_large : (at : ℕ) (text : List ℕ) (size : ℕ) → BeginsWith is_digit text → IsRun is_digit text size →
+    2147483647 < digits_value 10 (take size text) → FaultAt at text L5 at
 int_large at text size h r lt =
     let d = digits_run text size h r in
-    subst (λ l. FaultAt at l L5 at) (take-append-drop size text) (large_int (take size text) (drop size text) d (digits_longest (take size text) (drop size text) d (stopped is_digit (drop size text) r.stops)) lt)
+    subst (λ l. FaultAt at l L5 at) (take-append-drop size text) (large_int (take size text) (drop size text) d
+    (digits_longest (take size text) (drop size text) d (stopped is_digit (drop size text) r.stops)) lt)
 
 -- names
 letter_name : (b : ℕ) → is_letter b ≡ true → is_name_byte b ≡ true
@@ -84,7 +90,8 @@ name_of [] size h r = absurd h
 name_of (b ∷ text) zero h r = absurd (clash (r.stops b text refl) (letter_name b h))
 name_of (b ∷ text) (suc size) h r = (h, r.all.1)
 
-pub word_token : (n : List (List ℕ)) (text : List ℕ) (size : ℕ) (w : Word) → BeginsWith is_letter text → IsRun is_name_byte text size → take size text ≡ word_text w → IsToken n text (token.Word w) size
+pub word_token : (n : List (List ℕ)) (text : List ℕ) (size : ℕ) (w : Word) → BeginsWith is_letter text →
+    IsRun is_name_byte text size → take size text ≡ word_text w → IsToken n text (token.Word w) size
 word_token n text size w h r e =
     record {
       bytes = take size text;
@@ -101,7 +108,8 @@ quote_first : (text : List ℕ) → BeginsQuote text → text ≡ 34 ∷ drop 1 
 quote_first [] h = absurd h
 quote_first (b ∷ text) h = ap (λ x. x ∷ text) (eqb-true b 34 h)
 
-pub form_quoted : {xs : List ℕ} → HasTokenForm xs → (bytes : List ℕ) → xs ≡ 34 ∷ bytes → (inside : List ℕ) × (meant : List ℕ) × IsQuoted inside meant × (bytes ≡ inside ++ 34 ∷ [])
+pub form_quoted : {xs : List ℕ} → HasTokenForm xs → (bytes : List ℕ) → xs ≡ 34 ∷ bytes → (inside : List ℕ) × (meant : List ℕ) ×
+    IsQuoted inside meant × (bytes ≡ inside ++ 34 ∷ [])
 form_quoted (name [] h) bytes e = absurd h
 form_quoted (name (b ∷ more) h) bytes e = absurd (apart is_letter 34 b refl h.0 (sym (head_is e)))
 form_quoted (sign s) bytes e = absurd (clash refl (sym (ap (begins is_mark) e) ∙ sign_mark s))
@@ -116,7 +124,8 @@ string_longest inside meant rest q more after w ne form =
     let same = (quoted_once q f.2 more [] e).string_is in
     ne (tail_is (append_cancel_left inside (34 ∷ more) (34 ∷ []) (e ∙ ap (λ l. l ++ 34 ∷ []) (sym same))))
 
-pub string_token : (n : List (List ℕ)) (text meant : List ℕ) (size : ℕ) → BeginsQuote text → IsString (drop 1 text) meant size → IsToken n text (token.Text meant) (size + 1)
+pub string_token : (n : List (List ℕ)) (text meant : List ℕ) (size : ℕ) → BeginsQuote text → IsString (drop 1 text) meant size →
+    IsToken n text (token.Text meant) (size + 1)
 string_token n text meant size h s =
     record {
       bytes = 34 ∷ s.inside ++ 34 ∷ [];
@@ -147,12 +156,14 @@ other_blank b h = grind (arith, nat_tests)
 other_mark : (b : ℕ) → is_other b ≡ true → is_mark b ≡ true
 other_mark b h = grind (arith, nat_tests)
 
-pub no_front : (at : ℕ) (text : List ℕ) → BeginsOther text → ((b : ℕ) (rest : List ℕ) → text ≡ b ∷ rest → (s : Sign) (more : List ℕ) → sign_text s ≢ b ∷ more) → FaultAt at text L1 at
+pub no_front : (at : ℕ) (text : List ℕ) → BeginsOther text → ((b : ℕ) (rest : List ℕ) → text ≡ b ∷ rest → (s : Sign) (more : List ℕ) → sign_text s ≢ b ∷ more) →
+    FaultAt at text L1 at
 no_front at [] h k = absurd h.0
 no_front at (b ∷ text) h k =
     illegal_byte b text (other_blank b h.0) (λ more f. let s = form_of_mark f b more refl (other_mark b h.0) in k b text refl s.0 more s.1)
 
-pub string_fault : (at : ℕ) (text : List ℕ) (rule : LexRule) (place : ℕ) → BeginsQuote text → FaultAt at (34 ∷ drop 1 text) rule place → FaultAt at text rule place
+pub string_fault : (at : ℕ) (text : List ℕ) (rule : LexRule) (place : ℕ) → BeginsQuote text → FaultAt at (34 ∷ drop 1 text) rule place →
+    FaultAt at text rule place
 string_fault at text rule place h f = subst (λ l. FaultAt at l rule place) (sym (quote_first text h)) f
 
 -- the first byte

@@ -39,7 +39,8 @@ first_sign-text : (s : Sign) → sign_text (first_sign s) ≡ first_of (sign_tex
 first_sign-text Comma = refl
 first_sign-text _ = refl
 
-pub no_sign : (text : List ℕ) (a : ℕ) → Some a ≡ slice_get text 0 → IsSign (a ∷ []) None → (b : ℕ) (rest : List ℕ) → text ≡ b ∷ rest → (s : Sign) (more : List ℕ) → sign_text s ≢ b ∷ more
+pub no_sign : (text : List ℕ) (a : ℕ) → Some a ≡ slice_get text 0 → IsSign (a ∷ []) None → (b : ℕ) (rest : List ℕ) →
+    text ≡ b ∷ rest → (s : Sign) (more : List ℕ) → sign_text s ≢ b ∷ more
 no_sign text a f none b rest w s more e =
     let same : a ≡ b = head_is (sym (first_byte text a (sym f)) ∙ w) in
     none (first_sign s) (ap (λ x. x ∷ []) same ∙ sym (first_sign-text s ∙ ap first_of e))

@@ -16,10 +16,12 @@ spelled names bytes after (token.Int n) h = h
 spelled names bytes after (token.Text t) h = h
 
 -- a part of the text is passed over
-passed : (names : List (List ℕ)) (before part rest : List ℕ) (tokens : List Spanned) → AreSpelled names ((before ++ part) ++ rest) tokens → AreSpelled names (before ++ (part ++ rest)) tokens
+passed : (names : List (List ℕ)) (before part rest : List ℕ) (tokens : List Spanned) → AreSpelled names ((before ++ part) ++ rest) tokens →
+    AreSpelled names (before ++ (part ++ rest)) tokens
 passed names before part rest tokens h = subst (λ text. AreSpelled names text tokens) (append_assoc before part rest) h
 
-behind : {names : List (List ℕ)} {at : ℕ} {text : List ℕ} {tokens : List Spanned} → Lexes names at text tokens → (before : List ℕ) → at ≡ length before → AreSpelled names (before ++ text) tokens
+behind : {names : List (List ℕ)} {at : ℕ} {text : List ℕ} {tokens : List Spanned} → Lexes names at text tokens →
+    (before : List ℕ) → at ≡ length before → AreSpelled names (before ++ text) tokens
 behind (ends at) before e =
     (record { before = before; bytes = []; after = []; whole = refl; from_is = e; to_is = omega (arith, e); spells = (refl, refl) }, tt)
 behind {names} (blank b {rest} {tokens} h r) before e =

@@ -4,7 +4,8 @@ use Rattle.std.specs.Prelude.{IsTrue}
 use Rattle.std.proofs.lemmas.List.{length-append}
 use Rattle.tg_syntax.specs.declared.faults.LexRule.{LexRule}
 use Rattle.tg_syntax.specs.Spellings.{IsQuoted, nothing, plain, escaped, Escape, is_plain, is_blank, AllAre}
-use Rattle.tg_syntax.specs.LexicalFaults.{FaultInString, end_in_string, line_in_string, control_byte, end_in_escape, line_in_escape, bad_escape, is_control, IsBegun, Misfits}
+use Rattle.tg_syntax.specs.LexicalFaults.{FaultInString, end_in_string, line_in_string, control_byte, end_in_escape, line_in_escape, bad_escape}
+use Rattle.tg_syntax.specs.LexicalFaults.{is_control, IsBegun, Misfits}
 use Rattle.tg_syntax.specs.LexicalFaults as faults
 use Rattle.tg_lexer.proofs.Basics.{head_is, tail_is, not_cons, differ, apart, GoesOn, two_fronts}
 use Rattle.tg_lexer.proofs.Escapings.{escape_once, begun_no_escape, misfit_no_escape}
@@ -64,7 +65,8 @@ escape_of : {b : ℕ} {xs ys : List ℕ} → 92 ∷ xs ≡ b ∷ ys → is_contr
 escape_of {b = b} e h = control_backslash b h (sym (head_is e))
 
 -- a fault of a string stands in one place
-pub in_string_once : {quote at : ℕ} {xs ys : List ℕ} {rule other : LexRule} {place there : ℕ} → FaultInString quote at xs rule place → FaultInString quote at ys other there → xs ≡ ys → Same rule other place there
+pub in_string_once : {quote at : ℕ} {xs ys : List ℕ} {rule other : LexRule} {place there : ℕ} → FaultInString quote at xs rule place →
+    FaultInString quote at ys other there → xs ≡ ys → Same rule other place there
 in_string_once end_in_string end_in_string e = the_same
 in_string_once end_in_string (line_in_string rest) e = the_same
 in_string_once end_in_string (control_byte b rest h n) e = absurd (not_cons e)
@@ -103,7 +105,8 @@ in_string_once (bad_escape begun b rest m n) (line_in_escape other after k) e = 
 in_string_once (bad_escape begun b rest m n) (bad_escape other c after k l) e = the_same
 
 -- no fault stands where a string goes on
-fault_plain : {quote at : ℕ} {xs : List ℕ} {rule : LexRule} {place : ℕ} → FaultInString quote at xs rule place → (b : ℕ) (rest : List ℕ) → xs ≡ b ∷ rest → is_plain b ≡ true → ⊥
+fault_plain : {quote at : ℕ} {xs : List ℕ} {rule : LexRule} {place : ℕ} → FaultInString quote at xs rule place →
+    (b : ℕ) (rest : List ℕ) → xs ≡ b ∷ rest → is_plain b ≡ true → ⊥
 fault_plain end_in_string b rest e h = not_cons e
 fault_plain (line_in_string after) b rest e h = apart is_plain 10 b refl h (head_is e)
 fault_plain (control_byte c after k n) b rest e h = apart is_plain c b (control_plain c k) h (head_is e)
@@ -111,7 +114,8 @@ fault_plain (end_in_escape begun k) b rest e h = apart is_plain 92 b refl h (hea
 fault_plain (line_in_escape begun after m) b rest e h = apart is_plain 92 b refl h (head_is e)
 fault_plain (bad_escape begun c after m n) b rest e h = apart is_plain 92 b refl h (head_is e)
 
-fault_escape : {quote at : ℕ} {xs : List ℕ} {rule : LexRule} {place : ℕ} → FaultInString quote at xs rule place → {escape meant : List ℕ} → Escape escape meant → (rest : List ℕ) → xs ≡ 92 ∷ escape ++ rest → ⊥
+fault_escape : {quote at : ℕ} {xs : List ℕ} {rule : LexRule} {place : ℕ} → FaultInString quote at xs rule place →
+    {escape meant : List ℕ} → Escape escape meant → (rest : List ℕ) → xs ≡ 92 ∷ escape ++ rest → ⊥
 fault_escape end_in_string h rest e = not_cons e
 fault_escape (line_in_string after) h rest e = differ 10 92 refl (head_is e)
 fault_escape (control_byte c after k n) h rest e = control_backslash c k (head_is e)
@@ -120,7 +124,9 @@ fault_escape (line_in_escape begun after m) h rest e = misfit_no_escape 10 m h a
 fault_escape (bad_escape begun c after m n) h rest e = misfit_no_escape c m h after rest (tail_is e)
 
 -- behind two fronts of one string stands one fault
-pub quoted_fault_once : {quote at to : ℕ} {short meant long meaning rest after : List ℕ} {rule other : LexRule} {place there : ℕ} → IsQuoted short meant → IsQuoted long meaning → (from : ℕ) → at ≡ from + length short → to ≡ from + length long → FaultInString quote at rest rule place → FaultInString quote to after other there → short ++ rest ≡ long ++ after → Same rule other place there
+pub quoted_fault_once : {quote at to : ℕ} {short meant long meaning rest after : List ℕ} {rule other : LexRule} {place there : ℕ} →
+    IsQuoted short meant → IsQuoted long meaning → (from : ℕ) → at ≡ from + length short → to ≡ from + length long →
+    FaultInString quote at rest rule place → FaultInString quote to after other there → short ++ rest ≡ long ++ after → Same rule other place there
 quoted_fault_once {quote = quote} {after = after} {other = other} {there = there} nothing nothing from a b f g e =
     in_string_once f (subst (λ n. FaultInString quote n after other there) (b ∙ sym a) g) e
 quoted_fault_once {after = after} nothing (plain c {bytes = bytes} h q) from a b f g e = absurd (fault_plain f c (bytes ++ after) e h)
@@ -133,10 +139,12 @@ quoted_fault_once (plain c h q) (escaped k r) from a b f g e = absurd (apart is_
 quoted_fault_once {rest = rest} (escaped {escape = escape} {bytes = bytes} h q) nothing from a b f g e =
     absurd (fault_escape g h (bytes ++ rest) (sym e ∙ ap (λ l. 92 ∷ l) (append_assoc escape bytes rest)))
 quoted_fault_once (escaped h q) (plain d k r) from a b f g e = absurd (apart is_plain 92 d refl k (head_is e))
-quoted_fault_once {rest = rest} {after = after} (escaped {escape = escape} {bytes = bytes} h q) (escaped {escape = escape'} {bytes = others} k r) from a b f g e =
+quoted_fault_once {rest = rest} {after = after} (escaped {escape = escape} {bytes = bytes} h q)
+    (escaped {escape = escape'} {bytes = others} k r) from a b f g e =
     let w : (escape ++ bytes) ++ rest ≡ (escape' ++ others) ++ after = tail_is e in
     let s = escape_once h k (bytes ++ rest) (others ++ after) (sym (append_assoc escape bytes rest) ∙ w ∙ append_assoc escape' others after) in
-    quoted_fault_once q r (from + 1 + length escape) (a ∙ behind from escape bytes) (b ∙ behind from escape' others ∙ ap (λ l. from + 1 + length l + length others) (sym s.escape_is)) f g s.rest_is
+    quoted_fault_once q r (from + 1 + length escape) (a ∙ behind from escape bytes) (b ∙ behind from escape' others
+    ∙ ap (λ l. from + 1 + length l + length others) (sym s.escape_is)) f g s.rest_is
   where
     behind : (from : ℕ) (xs ys : List ℕ) → from + length (92 ∷ xs ++ ys) ≡ from + 1 + length xs + length ys
     behind from xs ys = let l : length (xs ++ ys) ≡ length xs + length ys = length-append xs ys in omega arith

@@ -73,7 +73,8 @@ in_frame = record {
   slots = 2;
 }
 
-text : listed (blocked ∷ in_two_rounds ∷ in_frame ∷ []) ≡ codes "function 32\nround 1\nfreeze t0\nsimplify t0\nsimplify t1\ncolour t0 $v0\ncolour t1 $a0\nslots 0\nfunction 33\nround 1\nconstrain t0 $a2\ncoalesce $ra t1 george\nsame t1 $ra\nspill t0\nsimplify t2\nspilled t0\nround 2\ncoalesce t2 t3 briggs\nsimplify t2\nslot t0 3\ncolour t1 $ra\ncolour t2 $s0\nslots 1\nfunction 120\nround 1\nspill t2\nsimplify t0\nsimplify t1\nspilled t2\nall in frame\nslots 2\n"
+text : listed (blocked ∷ in_two_rounds ∷ in_frame ∷ []) ≡
+    codes "function 32\nround 1\nfreeze t0\nsimplify t0\nsimplify t1\ncolour t0 $v0\ncolour t1 $a0\nslots 0\nfunction 33\nround 1\nconstrain t0 $a2\ncoalesce $ra t1 george\nsame t1 $ra\nspill t0\nsimplify t2\nspilled t0\nround 2\ncoalesce t2 t3 briggs\nsimplify t2\nslot t0 3\ncolour t1 $ra\ncolour t2 $s0\nslots 1\nfunction 120\nround 1\nspill t2\nsimplify t0\nsimplify t1\nspilled t2\nall in frame\nslots 2\n"
 unfolding digits frame
 text = refl
 

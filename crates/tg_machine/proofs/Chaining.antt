@@ -1,5 +1,6 @@
 -- A call behind a call that made all its steps.
-use Rattle.std.proofs.Common.{◌≡◌, ◌<◌, ◌≤◌, ◌⊎◌, inl, inr, ◌+◌, ℕ, zero, suc, List, [], ◌∷◌, ◌++◌, length, Option, Some, None, arith, refl, sym, ap, ◌∙◌, subst, append_assoc, append-nil, length-append}
+use Rattle.std.proofs.Common.{◌≡◌, ◌<◌, ◌≤◌, ◌⊎◌, inl, inr, ◌+◌, ℕ, zero, suc, List, [], ◌∷◌, ◌++◌, length, Option, Some, None, arith, refl, sym, ap}
+use Rattle.std.proofs.Common.{◌∙◌, subst, append_assoc, append-nil, length-append}
 use Rattle.std.specs.Io.KnownBytes.{Appends}
 use Rattle.std.proofs.KnownBytes.{Appends-trans}
 use Rattle.tg_base.specs.declared.ends.RunEnd.{RunEnd}
@@ -7,7 +8,8 @@ use Rattle.tg_base.specs.State.{MachineState}
 use Rattle.tg_base.specs.Services.{Step, Goes, Ends, Reads, Writes, answered}
 use Rattle.tg_isa.specs.Effects.{step}
 use Rattle.tg_isa.specs.Runs.{Execution, Progress, Running, Ended, proceed, run, begun, first_answer, later_answers}
-use Rattle.tg_machine.specs.Ran.{Tells, StillTells, IsReading, IsWriting, ComesToRead, ComesToWrite, Stops, still, ended, read_failed, write_failed, saturating_sum}
+use Rattle.tg_machine.specs.Ran.{Tells, StillTells, IsReading, IsWriting, ComesToRead, ComesToWrite, Stops, still, ended, read_failed, write_failed}
+use Rattle.tg_machine.specs.Ran.{saturating_sum}
 use Rattle.tg_machine.specs.Laws.{CallsChain}
 use Rattle.tg_machine.proofs.Runs.{go_on, run_suc, run_add, running_same}
 use Rattle.tg_machine.proofs.Reached.{saturating_sum-add, rose_later}
@@ -47,9 +49,12 @@ given w input = world w.machine input w.output
 record Replayed (k : ℕ) (w last : Execution) : Type 0 where
   read : List (Option ℕ)
   comes : (rest : List (Option ℕ)) → run k (given w (read ++ rest)) ≡ Running (given last rest)
-  along : (rest : List (Option ℕ)) (i : ℕ) (v : Execution) → i < k → run i w ≡ Running v → (u : Execution) × (run i (given w (read ++ rest)) ≡ Running u) × (u.machine ≡ v.machine)
+  along : (rest : List (Option ℕ)) (i : ℕ) (v : Execution) → i < k → run i w ≡ Running v → (u : Execution) ×
+      (run i (given w (read ++ rest)) ≡ Running u) × (u.machine ≡ v.machine)
 
-replayed_on : (k : ℕ) (w v last : Execution) (front : List (Option ℕ)) → ((x : List (Option ℕ)) → proceed (given w (front ++ x)) (step w.machine) ≡ Running (given v x)) → proceed w (step w.machine) ≡ Running v → Replayed k v last → Replayed (suc k) w last
+replayed_on : (k : ℕ) (w v last : Execution) (front : List (Option ℕ)) →
+    ((x : List (Option ℕ)) → proceed (given w (front ++ x)) (step w.machine) ≡ Running (given v x)) →
+    proceed w (step w.machine) ≡ Running v → Replayed k v last → Replayed (suc k) w last
 replayed_on k w v last front to from r = record {
   read = front ++ r.read;
   comes = λ rest. next rest k ∙ r.comes rest;
@@ -61,7 +66,8 @@ replayed_on k w v last front to from r = record {
         ap (λ x. run (suc j) (given w x)) (append_assoc front r.read rest)
         ∙ run_suc j (given w (front ++ (r.read ++ rest))) ∙ ap (go_on j) (to (r.read ++ rest))
 
-    along : (rest : List (Option ℕ)) (i : ℕ) (u : Execution) → i < suc k → run i w ≡ Running u → (t : Execution) × (run i (given w ((front ++ r.read) ++ rest)) ≡ Running t) × (t.machine ≡ u.machine)
+    along : (rest : List (Option ℕ)) (i : ℕ) (u : Execution) → i < suc k → run i w ≡ Running u → (t : Execution) ×
+        (run i (given w ((front ++ r.read) ++ rest)) ≡ Running t) × (t.machine ≡ u.machine)
     along rest zero u lt h = (given w ((front ++ r.read) ++ rest), refl, ap (λ (x : Execution). x.machine) (running_same w u h))
     along rest (suc i) u lt h =
         let below : i < k = omega (arith, lt) in
@@ -128,17 +134,28 @@ joined k None left' old mid first second last h m t t' s u =
           record { steps = c.steps; world = a.0; within = c.within; comes = a.1; reading = subst IsReading (sym a.2) c.reading };
       writes = λ c.
           let a = r.along second c.steps c.world c.within c.comes in
-          record { steps = c.steps; world = a.0; bytes = c.bytes; within = c.within; comes = a.1; writing = subst (λ x. IsWriting x c.bytes) (sym a.2) c.writing };
+          record {
+            steps = c.steps;
+            world = a.0;
+            bytes = c.bytes;
+            within = c.within;
+            comes = a.1;
+            writing =
+                subst (λ x. IsWriting x c.bytes) (sym a.2) c.writing;
+          };
     }
 
 -- behind so many steps a run goes on as from its start, with the output so far in front
-comes_on : (k i : ℕ) (old mid : MachineState) (input second : List (Option ℕ)) (output : List ℕ) → run k (begun old input) ≡ Running (world mid second output) → run (k + i) (begun old input) ≡ all_behind output (run i (begun mid second))
+comes_on : (k i : ℕ) (old mid : MachineState) (input second : List (Option ℕ)) (output : List ℕ) → run k (begun old input) ≡
+    Running (world mid second output) → run (k + i) (begun old input) ≡ all_behind output (run i (begun mid second))
 comes_on k i old mid input second output h =
     run_add k i (world mid second output) (begun old input) h
     ∙ ap (λ o. run i (world mid second o)) (sym (append-nil output))
     ∙ run-behind i output (begun mid second)
 
-stops_on : (k n : ℕ) (old mid : MachineState) (input second : List (Option ℕ)) (output : List ℕ) (e : RunEnd) (last : Execution) (front : List ℕ) → run k (begun old input) ≡ Running (world mid second output) → Stops n (begun mid second) e last front → Stops (k + n) (begun old input) e (behind output last) front
+stops_on : (k n : ℕ) (old mid : MachineState) (input second : List (Option ℕ)) (output : List ℕ) (e : RunEnd) (last : Execution) (front : List ℕ) →
+    run k (begun old input) ≡ Running (world mid second output) → Stops n (begun mid second) e last front →
+    Stops (k + n) (begun old input) e (behind output last) front
 stops_on k n old mid input second output e last front h (still r p f) = still (comes_on k n old mid input second output h ∙ ap (all_behind output) r) p f
 stops_on k n old mid input second output e last front h (ended r f) = ended (comes_on k n old mid input second output h ∙ ap (all_behind output) r) f
 stops_on k n old mid input second output e last front h (read_failed i lt r d p f) =
@@ -164,15 +181,32 @@ more_writes k n w c =
     let within : c.steps < k + n = omega (arith, c.within) in
     record { steps = c.steps; world = c.world; bytes = c.bytes; within = within; comes = c.comes; writing = c.writing }
 
-reads_on : (k n : ℕ) (old mid : MachineState) (input second : List (Option ℕ)) (output : List ℕ) → run k (begun old input) ≡ Running (world mid second output) → ComesToRead n (begun mid second) → ComesToRead (k + n) (begun old input)
+reads_on : (k n : ℕ) (old mid : MachineState) (input second : List (Option ℕ)) (output : List ℕ) → run k (begun old input) ≡
+    Running (world mid second output) → ComesToRead n (begun mid second) → ComesToRead (k + n) (begun old input)
 reads_on k n old mid input second output h c =
     let within : k + c.steps < k + n = omega (arith, c.within) in
-    record { steps = k + c.steps; world = behind output c.world; within = within; comes = comes_on k c.steps old mid input second output h ∙ ap (all_behind output) c.comes; reading = c.reading }
+    record {
+      steps = k + c.steps;
+      world = behind output c.world;
+      within = within;
+      comes = comes_on k c.steps old mid input second output h
+          ∙ ap (all_behind output) c.comes;
+      reading = c.reading;
+    }
 
-writes_on : (k n : ℕ) (old mid : MachineState) (input second : List (Option ℕ)) (output : List ℕ) → run k (begun old input) ≡ Running (world mid second output) → ComesToWrite n (begun mid second) → ComesToWrite (k + n) (begun old input)
+writes_on : (k n : ℕ) (old mid : MachineState) (input second : List (Option ℕ)) (output : List ℕ) → run k (begun old input) ≡
+    Running (world mid second output) → ComesToWrite n (begun mid second) → ComesToWrite (k + n) (begun old input)
 writes_on k n old mid input second output h c =
     let within : k + c.steps < k + n = omega (arith, c.within) in
-    record { steps = k + c.steps; world = behind output c.world; bytes = c.bytes; within = within; comes = comes_on k c.steps old mid input second output h ∙ ap (all_behind output) c.comes; writing = c.writing }
+    record {
+      steps = k + c.steps;
+      world = behind output c.world;
+      bytes = c.bytes;
+      within = within;
+      comes =
+          comes_on k c.steps old mid input second output h ∙ ap (all_behind output) c.comes;
+      writing = c.writing;
+    }
 
 pub calls_chain : {I O : Type 0} → CallsChain I O
 calls_chain left read_faults taken write_faults k n old mid new first input input' start out out' e a b =
@@ -192,14 +226,24 @@ calls_chain left read_faults taken write_faults k n old mid new first input inpu
       told = j.told;
       rest = b.rest;
       tells = λ h. b.tells (a.tells h);
-      writes = subst (Appends (taken start) (taken out')) (sym (append_assoc output b.last.output b.front)) (Appends-trans (taken start) (taken out) (taken out') output (b.last.output ++ b.front) wrote b.writes);
-      unread = touched _ _ _ first input input' a.unread b.unread (λ c. more_reads k n (begun old.state j.input) (j.reads c)) (reads_on k n old.state mid.state j.input b.input_before output j.comes);
-      unwritten = touched _ _ _ start out out' a.unwritten b.unwritten (λ c. more_writes k n (begun old.state j.input) (j.writes c)) (writes_on k n old.state mid.state j.input b.input_before output j.comes);
+      writes = subst (Appends (taken start) (taken out')) (sym (append_assoc output b.last.output b.front))
+          (Appends-trans (taken start) (taken out) (taken out') output (b.last.output ++ b.front) wrote b.writes);
+      unread = touched _ _ _ first input input' a.unread b.unread (λ c. more_reads k n (begun old.state j.input) (j.reads c))
+          (reads_on k n old.state mid.state j.input b.input_before output j.comes);
+      unwritten = touched _ _ _ start out out' a.unwritten b.unwritten (λ c. more_writes k n (begun old.state j.input) (j.writes c))
+          (writes_on k n old.state mid.state j.input b.input_before output j.comes);
       reads_later = reads_later;
       writes_later = writes_later;
       read_cause = λ h. rose_later _ _ _ a.reads_later (b.read_cause h);
       write_cause = λ h. rose_later _ _ _ a.writes_later (b.write_cause h);
-      goes_on = λ h. let d = b.goes_on h in record { running = comes_on k n old.state mid.state j.input b.input_before output j.comes ∙ ap (all_behind output) d.running; end = d.end; state = d.state; whole = d.whole };
+      goes_on = λ h. let d = b.goes_on h in record {
+        running = comes_on k n old.state mid.state j.input b.input_before output j.comes
+            ∙ ap (all_behind output) d.running;
+        end = d.end;
+        state = d.state;
+        whole = d.whole;
+      };
       keeps = b.keeps;
-      written = b.written ∙ ap (λ w. saturating_sum w (length b.last.output)) a.written ∙ saturating_sum-add old.written (length output) (length b.last.output) ∙ ap (saturating_sum old.written) (sym size);
+      written = b.written ∙ ap (λ w. saturating_sum w (length b.last.output)) a.written ∙ saturating_sum-add old.written
+          (length output) (length b.last.output) ∙ ap (saturating_sum old.written) (sym size);
     }

@@ -1,5 +1,6 @@
 -- What the code has come to after so many steps, and what it leaves at each way out.
-use Rattle.std.proofs.Common.{◌≡◌, ◌<◌, ◌≤◌, ◌⊎◌, inl, inr, ◌+◌, ◌^◌, ℕ, List, [], ◌∷◌, ◌++◌, map, length, Option, Some, None, Result, Ok, Err, arith, refl, sym, ap, ◌∙◌, subst, append_assoc, append-nil, length-append}
+use Rattle.std.proofs.Common.{◌≡◌, ◌<◌, ◌≤◌, ◌⊎◌, inl, inr, ◌+◌, ◌^◌, ℕ, List, [], ◌∷◌, ◌++◌, map, length, Option, Some, None, Result, Ok, Err, arith}
+use Rattle.std.proofs.Common.{refl, sym, ap, ◌∙◌, subst, append_assoc, append-nil, length-append}
 use Rattle.std.specs.Io.KnownBytes.{Appends, Keeps}
 use Rattle.std.proofs.KnownBytes.{Appends-nil, Appends-trans}
 use Rattle.tg_base.specs.declared.ends.RunEnd.{RunEnd}
@@ -72,7 +73,8 @@ pub record Reached {I O : Type 0}
   pub read : List (Option ℕ)
   pub output : List ℕ
   pub told : (rest : List (Option ℕ)) → Tells (left input') rest → Tells (left input) (read ++ rest)
-  pub comes : (rest : List (Option ℕ)) → Tells (left input') rest → run n (begun old (read ++ rest)) ≡ Running (record { machine = new; input = rest; output = output })
+  pub comes : (rest : List (Option ℕ)) → Tells (left input') rest → run n (begun old (read ++ rest)) ≡
+      Running (record { machine = new; input = rest; output = output })
   pub tells : StillTells (left input) (left input')
   pub writes : Appends (taken out) (taken out') output
   pub unread : (input' ≡ input) ⊎ ((rest : List (Option ℕ)) → Tells (left input') rest → ComesToRead n (begun old (read ++ rest)))
@@ -82,7 +84,8 @@ pub record Reached {I O : Type 0}
   pub counts : written' ≡ saturating_sum written (length output)
 
 pub reached_none : {I O : Type 0} (left : I → Option (List ℕ)) (read_faults : I → ℕ) (taken : O → Option (List ℕ)) (write_faults : O → ℕ)
-    (s : MachineState) (input : I) (out : O) (written : ℕ) → written < 2 ^ 64 → Reached left read_faults taken write_faults 0 s s input input out out written written
+    (s : MachineState) (input : I) (out : O) (written : ℕ) → written < 2 ^ 64 → Reached left read_faults taken write_faults
+    0 s s input input out out written written
 reached_none left read_faults taken write_faults s input out written fits = record {
   read = [];
   output = [];
@@ -143,7 +146,8 @@ reached_goes left read_faults taken write_faults n old mid new first input start
   tells = r.tells;
   writes = r.writes;
   unread = onto_same (left input) r.read (λ l. ComesToRead n (begun old l)) (λ l. ComesToRead (n + 1) (begun old l)) (λ l. later_read n (begun old l)) r.unread;
-  unwritten = onto_same (left input) r.read (λ l. ComesToWrite n (begun old l)) (λ l. ComesToWrite (n + 1) (begun old l)) (λ l. later_write n (begun old l)) r.unwritten;
+  unwritten = onto_same (left input) r.read (λ l. ComesToWrite n (begun old l)) (λ l. ComesToWrite (n + 1) (begun old l))
+      (λ l. later_write n (begun old l)) r.unwritten;
   reads_later = r.reads_later;
   writes_later = r.writes_later;
   counts = r.counts;
@@ -168,14 +172,16 @@ reached_reads left read_faults taken write_faults n old mid after new first inpu
       writes = r.writes;
       unread = inr (λ rest t. at_read old mid after n (r.read ++ ad.more) rest r.output (ad.more ++ rest)
           (ap (λ l. run n (begun old l)) (append_assoc r.read ad.more rest) ∙ r.comes (ad.more ++ rest) (ad.tells rest t)) s);
-      unwritten = onto (left input) (left input') r.read ad.more (λ l. ComesToWrite n (begun old l)) (λ l. ComesToWrite (n + 1) (begun old l)) ad.tells (λ l. later_write n (begun old l)) r.unwritten;
+      unwritten = onto (left input) (left input') r.read ad.more (λ l. ComesToWrite n (begun old l))
+          (λ l. ComesToWrite (n + 1) (begun old l)) ad.tells (λ l. later_write n (begun old l)) r.unwritten;
       reads_later = later;
       writes_later = r.writes_later;
       counts = r.counts;
     }
   where
     at_read : (old mid after : MachineState) (n : ℕ) (read rest : List (Option ℕ)) (output : List ℕ) (left : List (Option ℕ)) →
-        run n (begun old (read ++ rest)) ≡ Running (record { machine = mid; input = left; output = output }) → step mid ≡ Reads after → ComesToRead (n + 1) (begun old (read ++ rest))
+        run n (begun old (read ++ rest)) ≡ Running (record { machine = mid; input = left; output = output }) →
+        step mid ≡ Reads after → ComesToRead (n + 1) (begun old (read ++ rest))
     at_read old mid after n read rest output left h s =
         let within : n < n + 1 = omega arith in
         record { steps = n; world = record { machine = mid; input = left; output = output }; within = within; comes = h; reading = (after, s) }
@@ -183,7 +189,8 @@ reached_reads left read_faults taken write_faults n old mid after new first inpu
 reached_writes : {I O : Type 0} (left : I → Option (List ℕ)) (read_faults : I → ℕ) (taken : O → Option (List ℕ)) (write_faults : O → ℕ)
     (n : ℕ) (old mid new : MachineState) (first input : I) (start out out' : O) (before written written' : ℕ) (bytes : List ℕ) →
     Reached left read_faults taken write_faults n old mid first input start out before written →
-    step mid ≡ Writes bytes new → Appends (taken out) (taken out') bytes → written' ≡ saturating_sum written (length bytes) → write_faults out ≤ write_faults out' →
+    step mid ≡ Writes bytes new → Appends (taken out) (taken out') bytes → written' ≡ saturating_sum written (length bytes) →
+    write_faults out ≤ write_faults out' →
     Reached left read_faults taken write_faults (n + 1) old new first input start out' before written'
 reached_writes left read_faults taken write_faults n old mid new first input start out out' before written written' bytes r s a is le =
     let later : write_faults start ≤ write_faults out' = omega (arith, r.writes_later, le) in
@@ -195,15 +202,18 @@ reached_writes left read_faults taken write_faults n old mid new first input sta
       comes = λ rest t. run_more n (begun old (r.read ++ rest)) _ (Writes bytes new) _ (r.comes rest t) s refl;
       tells = r.tells;
       writes = Appends-trans (taken start) (taken out) (taken out') r.output bytes r.writes a;
-      unread = onto_same (left input) r.read (λ l. ComesToRead n (begun old l)) (λ l. ComesToRead (n + 1) (begun old l)) (λ l. later_read n (begun old l)) r.unread;
+      unread = onto_same (left input) r.read (λ l. ComesToRead n (begun old l)) (λ l. ComesToRead (n + 1) (begun old l))
+          (λ l. later_read n (begun old l)) r.unread;
       unwritten = inr (λ rest t. at_write old mid new n (r.read ++ rest) rest r.output bytes (r.comes rest t) s);
       reads_later = r.reads_later;
       writes_later = later;
-      counts = is ∙ ap (λ w. saturating_sum w (length bytes)) r.counts ∙ saturating_sum-add before (length r.output) (length bytes) ∙ ap (saturating_sum before) (sym size);
+      counts = is ∙ ap (λ w. saturating_sum w (length bytes)) r.counts ∙ saturating_sum-add before (length r.output) (length bytes)
+          ∙ ap (saturating_sum before) (sym size);
     }
   where
     at_write : (old mid new : MachineState) (n : ℕ) (given rest : List (Option ℕ)) (output bytes : List ℕ) →
-        run n (begun old given) ≡ Running (record { machine = mid; input = rest; output = output }) → step mid ≡ Writes bytes new → ComesToWrite (n + 1) (begun old given)
+        run n (begun old given) ≡ Running (record { machine = mid; input = rest; output = output }) → step mid ≡ Writes bytes new →
+        ComesToWrite (n + 1) (begun old given)
     at_write old mid new n given rest output bytes h s =
         let within : n < n + 1 = omega arith in
         record { steps = n; world = record { machine = mid; input = rest; output = output }; bytes = bytes; within = within; comes = h; writing = (new, s) }
@@ -329,7 +339,13 @@ ran_unread left read_faults taken write_faults steps n old mid new after first i
       rest = t';
       tells = λ h. keep_tells (left input) (left input') keeps (r.tells h);
       writes = subst (Appends (taken start) (taken out)) (sym (append-nil r.output)) r.writes;
-      unread = inr (record { steps = n; world = record { machine = mid; input = rest; output = r.output }; within = lt; comes = r.comes rest t; reading = (after, s) });
+      unread = inr (record {
+        steps = n;
+        world = record { machine = mid; input = rest; output = r.output };
+        within = lt;
+        comes = r.comes rest t;
+        reading = (after, s);
+      });
       unwritten = touched_write n steps (begun old (r.read ++ rest)) le (given (left input) r.read rest (λ l. ComesToWrite n (begun old l)) t r.unwritten);
       reads_later = faults;
       writes_later = r.writes_later;
@@ -343,8 +359,10 @@ ran_unread left read_faults taken write_faults steps n old mid new after first i
 ran_unwritten : {I O : Type 0} (left : I → Option (List ℕ)) (read_faults : I → ℕ) (taken : O → Option (List ℕ)) (write_faults : O → ℕ)
     (steps n : ℕ) (old mid new after : MachineState) (first input : I) (start out out' : O) (before written : ℕ) (bytes : List ℕ) → n < steps →
     Reached left read_faults taken write_faults n old mid first input start out before written →
-    step mid ≡ Writes bytes after → TakesFront (taken out) (taken out') bytes → Rose (write_faults out) (write_faults out') → write_faults out ≤ write_faults out' →
-    IsSimulation left read_faults taken write_faults steps (simulated old None before) (simulated new (Some WriteFault) written) first input start out' WriteFault
+    step mid ≡ Writes bytes after → TakesFront (taken out) (taken out') bytes → Rose (write_faults out) (write_faults out') →
+    write_faults out ≤ write_faults out' →
+    IsSimulation left read_faults taken write_faults steps (simulated old None before) (simulated new (Some WriteFault) written)
+    first input start out' WriteFault
 ran_unwritten left read_faults taken write_faults steps n old mid new after first input start out out' before written bytes lt r s takes rose later =
     let rest = (some_rest (left input)).0 in
     let t = (some_rest (left input)).1 in
@@ -360,7 +378,14 @@ ran_unwritten left read_faults taken write_faults steps n old mid new after firs
       tells = r.tells;
       writes = Appends-trans (taken start) (taken out) (taken out') r.output takes.0 r.writes takes.3;
       unread = touched_read n steps (begun old (r.read ++ rest)) le (given (left input) r.read rest (λ l. ComesToRead n (begun old l)) t r.unread);
-      unwritten = inr (record { steps = n; world = record { machine = mid; input = rest; output = r.output }; bytes = bytes; within = lt; comes = r.comes rest t; writing = (after, s) });
+      unwritten = inr (record {
+        steps = n;
+        world = record { machine = mid; input = rest; output = r.output };
+        bytes = bytes;
+        within = lt;
+        comes = r.comes rest t;
+        writing = (after, s);
+      });
       reads_later = r.reads_later;
       writes_later = faults;
       read_cause = λ h. cc;
@@ -372,22 +397,27 @@ ran_unwritten left read_faults taken write_faults steps n old mid new after firs
 
 -- a step ended the run
 pub ran_out : {T I O : Type 0} (left : I → Option (List ℕ)) (read_faults : I → ℕ) (taken : O → Option (List ℕ)) (write_faults : O → ℕ)
-    (steps n : ℕ) (old mid new : MachineState) (first input input' : I) (start out out' : O) (before written written' : ℕ) (d : Step) (result : Result T RunEnd) (e : RunEnd) → n < steps →
+    (steps n : ℕ) (old mid new : MachineState) (first input input' : I) (start out out' : O) (before written written' : ℕ)
+    (d : Step) (result : Result T RunEnd) (e : RunEnd) → n < steps →
     Reached left read_faults taken write_faults n old mid first input start out before written →
     step mid ≡ d → result ≡ Err e → Moved left read_faults taken write_faults d result new input input' out out' written written' →
     IsSimulation left read_faults taken write_faults steps (simulated old None before) (simulated new (Some e) written') first input' start out' e
 ran_out left read_faults taken write_faults steps n old mid new first input input' start out out' before written written' d (Ok done) e lt r is was m = cc
-ran_out left read_faults taken write_faults steps n old mid new first input input' start out out' before written written' (Goes s) (Err f) e lt r is was m = absurd m.0
+ran_out left read_faults taken write_faults steps n old mid new first input input' start out out' before written written'
+    (Goes s) (Err f) e lt r is was m = absurd m.0
 ran_out left read_faults taken write_faults steps n old mid new first input input' start out out' before written written' (Ends g) (Err f) e lt r is was m =
     let same : e ≡ g = cc (was, m.0.0) in
     let own : IsOwn g = subst IsOwn m.0.0 m.0.1 in
     rw (same, m.1, m.2, m.3) (ran_ended left read_faults taken write_faults steps n old mid new first input start out before written g lt r is own)
 ran_out left read_faults taken write_faults steps n old mid new first input input' start out out' before written written' (Reads s) (Err f) e lt r is was m =
     let same : e ≡ ReadFault = cc (was, m.0.0) in
-    rw (same, m.2, m.3) (ran_unread left read_faults taken write_faults steps n old mid new s first input input' start out before written lt r is m.0.1 m.0.2 m.1)
-ran_out left read_faults taken write_faults steps n old mid new first input input' start out out' before written written' (Writes bytes s) (Err f) e lt r is was m =
+    rw (same, m.2, m.3) (ran_unread left read_faults taken write_faults steps n old mid new s first input input' start
+    out before written lt r is m.0.1 m.0.2 m.1)
+ran_out left read_faults taken write_faults steps n old mid new first input input' start out out' before written written'
+    (Writes bytes s) (Err f) e lt r is was m =
     let same : e ≡ WriteFault = cc (was, m.0.0) in
-    rw (same, m.2, m.0.3) (ran_unwritten left read_faults taken write_faults steps n old mid new s first input start out out' before written bytes lt r is m.0.1 m.0.2 m.1)
+    rw (same, m.2, m.0.3) (ran_unwritten left read_faults taken write_faults steps n old mid new s first input start out
+    out' before written bytes lt r is m.0.1 m.0.2 m.1)
 
 -- no step ends by the limit of steps
 pub moved_apart : {T I O : Type 0} (left : I → Option (List ℕ)) (read_faults : I → ℕ) (taken : O → Option (List ℕ)) (write_faults : O → ℕ)

@@ -15,7 +15,8 @@ run_suc k w = refl
 pub running_same : (w v : Execution) → Running w ≡ Running v → w ≡ v
 running_same w v h = cc
 
-go_on_add : (i k : ℕ) (v : Execution) → ((w : Execution) → run i w ≡ Running v → run (i + k) w ≡ run k v) → (o : Progress) → go_on i o ≡ Running v → go_on (i + k) o ≡ run k v
+go_on_add : (i k : ℕ) (v : Execution) → ((w : Execution) → run i w ≡ Running v → run (i + k) w ≡ run k v) → (o : Progress) →
+    go_on i o ≡ Running v → go_on (i + k) o ≡ run k v
 go_on_add i k v below (Running u) h = below u h
 go_on_add i k v below (Ended e u) h = cc
 
@@ -26,7 +27,8 @@ run_add (suc i) k v w h =
     ap (λ m. run m w) e ∙ run_suc (i + k) w ∙ go_on_add i k v (run_add i k v) (proceed w (step w.machine)) (sym (run_suc i w) ∙ h)
 
 -- one step more, by what the step does
-pub run_more : (i : ℕ) (w v : Execution) (d : Step) (u : Execution) → run i w ≡ Running v → step v.machine ≡ d → proceed v d ≡ Running u → run (i + 1) w ≡ Running u
+pub run_more : (i : ℕ) (w v : Execution) (d : Step) (u : Execution) → run i w ≡ Running v → step v.machine ≡ d →
+    proceed v d ≡ Running u → run (i + 1) w ≡ Running u
 run_more i w v d u h s p = run_add i 1 v w h ∙ run_suc 0 v ∙ ap (go_on 0) (ap (proceed v) s ∙ p)
 
 -- a run that comes to a step that ends has ended

@@ -1,5 +1,7 @@
 -- The text at an address, byte by byte.
-use Rattle.std.proofs.Common.{◌≡◌, ◌≢◌, ◌<◌, ◌≤◌, ◌⊎◌, inl, inr, ◌+◌, ◌-◌, ℕ, suc, Bool, true, false, List, [], ◌∷◌, ◌++◌, length, slice_index, Result, Ok, Err, refl, sym, ap, ◌∙◌, subst, arith, eq-eqb, ne_eqb, take, drop, take-append-drop, append_assoc, Option, IfOk, IsOk}
+use Rattle.std.proofs.Common.{◌≡◌, ◌≢◌, ◌<◌, ◌≤◌, ◌⊎◌, inl, inr, ◌+◌, ◌-◌, ℕ, suc, Bool, true, false, List, [], ◌∷◌, ◌++◌, length, slice_index}
+use Rattle.std.proofs.Common.{Result, Ok, Err, refl, sym, ap, ◌∙◌, subst, arith, eq-eqb, ne_eqb, take, drop, take-append-drop, append_assoc, Option}
+use Rattle.std.proofs.Common.{IfOk, IsOk}
 use Rattle.std.specs.Prelude.{◌==◌}
 use Rattle.std.proofs.lemmas.Grind.{common_steps}
 use Rattle.std.proofs.lemmas.List.{ext_get_or}
@@ -82,7 +84,8 @@ found_none most s a =
       loads = λ j h. absurd (omega (arith, h));
     }
 
-pub found_more : (most : ℕ) (s : MachineState) (a k b : ℕ) → k < most → Found most s a k → load_byte s (a + k) ≡ Ok b → a + k < stack_top → b ≢ 0 → Found most s a (k + 1)
+pub found_more : (most : ℕ) (s : MachineState) (a k b : ℕ) → k < most → Found most s a k → load_byte s (a + k) ≡ Ok b →
+    a + k < stack_top → b ≢ 0 → Found most s a (k + 1)
 found_more most s a k b lt f h low ne =
     let m : most - k ≡ suc (most - (k + 1)) = omega arith in
     let e : a + k + 1 ≡ a + (k + 1) = omega arith in
@@ -101,7 +104,8 @@ found_more most s a k b lt f h low ne =
     le_or_eq : (j k : ℕ) → j < k + 1 → (j < k) ⊎ (j ≡ k)
     le_or_eq j k lt = grind arith
 
-    at_or_below : (s : MachineState) (a k b : ℕ) (text : List ℕ) → length text ≡ k → ((j : ℕ) → j < k → load_byte s (a + j) ≡ Ok (slice_index text j)) → load_byte s (a + k) ≡ Ok b
+    at_or_below : (s : MachineState) (a k b : ℕ) (text : List ℕ) → length text ≡ k →
+        ((j : ℕ) → j < k → load_byte s (a + j) ≡ Ok (slice_index text j)) → load_byte s (a + k) ≡ Ok b
         → (j : ℕ) → j < k + 1 → (j < k) ⊎ (j ≡ k) → load_byte s (a + j) ≡ Ok (slice_index (text ++ b ∷ []) j)
     at_or_below s a k b text size loads h j lt (inl below) =
         let e : slice_index text j ≡ slice_index (text ++ b ∷ []) j = grind (arith, common_steps, size) in
@@ -110,25 +114,30 @@ found_more most s a k b lt f h low ne =
         let e : b ≡ slice_index (text ++ b ∷ []) j = grind (arith, common_steps, size, is) in
         ap (λ x. load_byte s (a + x)) is ∙ h ∙ ap Ok e
 
-    loads_more : (s : MachineState) (a k b : ℕ) (text : List ℕ) → length text ≡ k → ((j : ℕ) → j < k → load_byte s (a + j) ≡ Ok (slice_index text j)) → load_byte s (a + k) ≡ Ok b
+    loads_more : (s : MachineState) (a k b : ℕ) (text : List ℕ) → length text ≡ k →
+        ((j : ℕ) → j < k → load_byte s (a + j) ≡ Ok (slice_index text j)) → load_byte s (a + k) ≡ Ok b
         → (j : ℕ) → j < k + 1 → load_byte s (a + j) ≡ Ok (slice_index (text ++ b ∷ []) j)
     loads_more s a k b text size loads h j lt = at_or_below s a k b text size loads h j lt (le_or_eq j k lt)
 
-pub found_all : (most : ℕ) (s : MachineState) (a k b : ℕ) → most ≡ length s.statics + length s.heap + length s.stack + 1 → k < most → Found most s a k → load_byte s (a + k) ≡ Ok b → a + k < stack_top → b ≡ 0 → HasText s a k
+pub found_all : (most : ℕ) (s : MachineState) (a k b : ℕ) → most ≡ length s.statics + length s.heap + length s.stack + 1 →
+    k < most → Found most s a k → load_byte s (a + k) ≡ Ok b → a + k < stack_top → b ≡ 0 → HasText s a k
 found_all most s a k b is lt f h low z =
     let m : most - k ≡ suc (most - (k + 1)) = omega arith in
     let all : text_from most s a ≡ Ok f.text = f.rest ∙ ap (prefixed f.text) (from_end (most - k) (most - (k + 1)) s (a + k) b m h z) ∙ prefixed-end f.text in
     (f.text, record { found = ap (λ n. text_from n s a) (sym is) ∙ all; size = f.size; low = low; loads = f.loads })
 
-pub found_fault : (most : ℕ) (s : MachineState) (a k : ℕ) (e : RunEnd) → most ≡ length s.statics + length s.heap + length s.stack + 1 → k < most → Found most s a k → load_byte s (a + k) ≡ Err e → text_at s a ≡ Err e
+pub found_fault : (most : ℕ) (s : MachineState) (a k : ℕ) (e : RunEnd) → most ≡ length s.statics + length s.heap + length s.stack + 1 →
+    k < most → Found most s a k → load_byte s (a + k) ≡ Err e → text_at s a ≡ Err e
 found_fault most s a k e is lt f h =
     let m : most - k ≡ suc (most - (k + 1)) = omega arith in
     ap (λ n. text_from n s a) (sym is) ∙ f.rest ∙ ap (prefixed f.text) (from_fault (most - k) (most - (k + 1)) s (a + k) e m h) ∙ prefixed-failed f.text e
 
-pub found_over : (most : ℕ) (s : MachineState) (a k : ℕ) → most ≡ length s.statics + length s.heap + length s.stack + 1 → k ≡ most → Found most s a k → text_at s a ≡ Err (BadAddress (a + most))
+pub found_over : (most : ℕ) (s : MachineState) (a k : ℕ) → most ≡ length s.statics + length s.heap + length s.stack + 1 →
+    k ≡ most → Found most s a k → text_at s a ≡ Err (BadAddress (a + most))
 found_over most s a k is over f =
     let m : most - k ≡ 0 = omega arith in
-    ap (λ n. text_from n s a) (sym is) ∙ f.rest ∙ ap (λ n. prefixed f.text (text_from n s (a + k))) m ∙ prefixed-failed f.text (BadAddress (a + k)) ∙ ap (λ n. Err (BadAddress (a + n))) over
+    ap (λ n. text_from n s a) (sym is) ∙ f.rest ∙ ap (λ n. prefixed f.text (text_from n s (a + k))) m
+    ∙ prefixed-failed f.text (BadAddress (a + k)) ∙ ap (λ n. Err (BadAddress (a + n))) over
 
 is_ok_of : {T E : Type 0} (r : Result T E) (x : T) → r ≡ Ok x → IsOk r
 is_ok_of (Ok y) x h = refl
@@ -141,7 +150,8 @@ text_loads s a n done k text is lt =
     is_ok_of (load_byte s (a + done + k)) (slice_index text (done + k)) (ap (load_byte s) place ∙ is.loads (done + k) lt)
 
 -- the front of a chunk is what was copied into it
-pub front_loads : (s : MachineState) (a more : ℕ) (into chunk : List ℕ) → length into ≡ more → ((k : ℕ) → k < length into → load_byte s (a + k) ≡ Ok (slice_index into k))
+pub front_loads : (s : MachineState) (a more : ℕ) (into chunk : List ℕ) → length into ≡ more →
+    ((k : ℕ) → k < length into → load_byte s (a + k) ≡ Ok (slice_index into k))
     → (k : ℕ) → k < more → load_byte s (a + k) ≡ Ok (slice_index (take more (into ++ drop more chunk)) k)
 front_loads s a more into chunk size loads k lt =
     let e : take more (into ++ drop more chunk) ≡ into = grind (arith, common_steps) in
@@ -163,13 +173,16 @@ chunk_is s a n done more text piece is fits size loads =
     same_ok : (x y : ℕ) → (let r : Result ℕ RunEnd = Ok x in r) ≡ Ok y → x ≡ y
     same_ok x y h = cc
 
-pub chunk_more : (x y z : Option (List ℕ)) (s : MachineState) (a n done more : ℕ) (text piece : List ℕ) → IsText s a n text → done + more ≤ n → length piece ≡ more
+pub chunk_more : (x y z : Option (List ℕ)) (s : MachineState) (a n done more : ℕ) (text piece : List ℕ) → IsText s a n text →
+    done + more ≤ n → length piece ≡ more
     → ((k : ℕ) → k < more → load_byte s (a + done + k) ≡ Ok (slice_index piece k))
     → Appends x y (take done text) → Appends y z piece → Appends x z (take (done + more) text)
 chunk_more x y z s a n done more text piece is fits size loads was now =
-    subst (Appends x z) (ap (λ l. take done text ++ l) (chunk_is s a n done more text piece is fits size loads) ∙ sym (take-add done more text)) (Appends-trans x y z (take done text) piece was now)
+    subst (Appends x z) (ap (λ l. take done text ++ l) (chunk_is s a n done more text piece is fits size loads)
+    ∙ sym (take-add done more text)) (Appends-trans x y z (take done text) piece was now)
 
-pub chunk_failed : (x y z : Option (List ℕ)) (s : MachineState) (a n done more : ℕ) (text piece : List ℕ) → IsText s a n text → done + more ≤ n → length piece ≡ more
+pub chunk_failed : (x y z : Option (List ℕ)) (s : MachineState) (a n done more : ℕ) (text piece : List ℕ) → IsText s a n text →
+    done + more ≤ n → length piece ≡ more
     → ((k : ℕ) → k < more → load_byte s (a + done + k) ≡ Ok (slice_index piece k))
     → Appends x y (take done text) → TakesFront y z piece → TakesFront x z text
 chunk_failed x y z s a n done more text piece is fits size loads was now =

@@ -6,7 +6,8 @@ use Rattle.std.proofs.lemmas.List.{append-nil, take-append-drop}
 use Rattle.tg_runs.specs.Outcomes.{End, ended, Outcome}
 use Rattle.tg_meaning.specs.Values.{Value, by_heap, add_heap, add_weight, go_deeper, Ending}
 use Rattle.tg_meaning.specs.Evaluation.{eval, meaning, Job}
-use Rattle.tg_meaning.specs.Direct.{RunState, Result, gives, breaks, is_over, Direct, after, after_body, returned, fuelled, found, changed, first_past, past_limit}
+use Rattle.tg_meaning.specs.Direct.{RunState, Result, gives, breaks, is_over, Direct, after, after_body, returned, fuelled, found, changed}
+use Rattle.tg_meaning.specs.Direct.{first_past, past_limit}
 use Rattle.tg_meaning.specs.Direct.{direct, told, outcome}
 use Rattle.tg_meaning.specs.Laws.{GoesOn, so_far, NothingIsTakenBack}
 use Rattle.tg_meaning.proofs.Related.{Related, eval_same, meaning_same}

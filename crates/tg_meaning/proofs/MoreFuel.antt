@@ -108,7 +108,8 @@ none_left d zero s m m' le g = fuelled_keeps (0 + d) (more d s) m' g
 none_left d (suc n) s m m' le g = absurd (omega arith)
 
 -- a unit that is wanted and not there, and one that is used
-fuelled_longer : (d k n : ℕ) (s : RunState) (m m' : Direct Value) → n ≤ suc k → Longers d k Value m m' → Longer d n (fuelled n s m) (fuelled (n + d) (more d s) m')
+fuelled_longer : (d k n : ℕ) (s : RunState) (m m' : Direct Value) → n ≤ suc k → Longers d k Value m m' →
+    Longer d n (fuelled n s m) (fuelled (n + d) (more d s) m')
 fuelled_longer d k zero s m m' le g = fuelled_keeps (0 + d) (more d s) m' g.1
 fuelled_longer d k (suc n) s m m' le g =
     let s' : RunState = record s { fuel = n } in

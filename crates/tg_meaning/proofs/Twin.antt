@@ -55,7 +55,8 @@ returned_same (gives v s) go out = refl
 returned_same (breaks s) go out = refl
 returned_same (is_over e s) go out = refl
 
-found_same : {A : Type 0} (o : Option A) (s : RunState) (go : A → Rest) (out : Rest) → finished (found o s) go out ≡ since s.trace (with_found o go s.world s.fuel)
+found_same : {A : Type 0} (o : Option A) (s : RunState) (go : A → Rest) (out : Rest) → finished (found o s) go out ≡
+    since s.trace (with_found o go s.world s.fuel)
 found_same (Some a) s go out = refl
 found_same None s go out = refl
 

@@ -16,12 +16,14 @@ unfolding counts_after
 counts_behind counts [] t = refl
 counts_behind counts (u ∷ ts) t = counts_behind (after_token u.token counts) ts t
 
-within_behind : (counts : List ℕ) (ts : List Spanned) (t : Spanned) → NestsWithin 256 counts (ts ++ t ∷ []) → nesting_of (after_token t.token (counts_after counts ts)) ≤ 256
+within_behind : (counts : List ℕ) (ts : List Spanned) (t : Spanned) → NestsWithin 256 counts (ts ++ t ∷ []) →
+    nesting_of (after_token t.token (counts_after counts ts)) ≤ 256
 unfolding counts_after
 within_behind counts [] t h = h.0
 within_behind counts (u ∷ ts) t h = within_behind (after_token u.token counts) ts t h.1
 
-pub within_more : (counts : List ℕ) (ts : List Spanned) (t : Spanned) → NestsWithin 256 counts ts → nesting_of (after_token t.token (counts_after counts ts)) ≤ 256 → NestsWithin 256 counts (ts ++ t ∷ [])
+pub within_more : (counts : List ℕ) (ts : List Spanned) (t : Spanned) → NestsWithin 256 counts ts →
+    nesting_of (after_token t.token (counts_after counts ts)) ≤ 256 → NestsWithin 256 counts (ts ++ t ∷ [])
 unfolding counts_after
 within_more counts [] t h k = (k, tt)
 within_more counts (u ∷ ts) t h k = (h.0, within_more (after_token u.token counts) ts t h.1 k)
@@ -36,10 +38,12 @@ pub nested_none : (tokens : List Spanned) → Nested tokens 0 (0 ∷ [])
 unfolding counts_after
 nested_none tokens = record { small = omega arith; shallow = tt; leaves = refl }
 
-more : (tokens : List Spanned) (index : ℕ) (t : Spanned) → index < length tokens → t ≡ get_or tokens index t → take (index + 1) tokens ≡ take index tokens ++ t ∷ []
+more : (tokens : List Spanned) (index : ℕ) (t : Spanned) → index < length tokens → t ≡ get_or tokens index t →
+    take (index + 1) tokens ≡ take index tokens ++ t ∷ []
 more tokens index t lt e = take_more tokens index t lt ∙ ap (λ x. take index tokens ++ x ∷ []) (sym e)
 
-pub nested_more : (tokens : List Spanned) (index : ℕ) (counts after : List ℕ) (t : Spanned) → Nested tokens index counts → index < length tokens → t ≡ get_or tokens index t → after ≡ after_token t.token counts → nesting_of after ≤ 256 → Nested tokens (index + 1) after
+pub nested_more : (tokens : List Spanned) (index : ℕ) (counts after : List ℕ) (t : Spanned) → Nested tokens index counts →
+    index < length tokens → t ≡ get_or tokens index t → after ≡ after_token t.token counts → nesting_of after ≤ 256 → Nested tokens (index + 1) after
 nested_more tokens index counts after t h lt e f small =
     let e1 = f ∙ ap (after_token t.token) h.leaves in
     record {
@@ -48,7 +52,8 @@ nested_more tokens index counts after t h lt e f small =
       leaves = rw (more tokens index t lt e) (e1 ∙ sym (counts_behind (0 ∷ []) (take index tokens) t));
     }
 
-pub nested_over : (tokens : List Spanned) (index : ℕ) (counts after : List ℕ) (t : Spanned) → Nested tokens index counts → index < length tokens → t ≡ get_or tokens index t → after ≡ after_token t.token counts → 256 < nesting_of after → IsFirstDeep tokens index
+pub nested_over : (tokens : List Spanned) (index : ℕ) (counts after : List ℕ) (t : Spanned) → Nested tokens index counts →
+    index < length tokens → t ≡ get_or tokens index t → after ≡ after_token t.token counts → 256 < nesting_of after → IsFirstDeep tokens index
 nested_over tokens index counts after t h lt e f great = record {
   front = take index tokens;
   one = t;

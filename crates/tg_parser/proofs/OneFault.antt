@@ -81,11 +81,17 @@ same_place p q is_same = p ∙ sym q
 not_both : {a b : List Spanned} {t u : Spanned} → (BeginsProgram (a ++ t ∷ []) → ⊥) → BeginsProgram (b ++ u ∷ []) → IsSame a t b u → ⊥
 not_both h k is_same = h k
 
-pub faults_once : (tokens : List Spanned) (rule other : SyntaxRule) (at to : ℕ) → HasSyntaxFault tokens rule at → HasSyntaxFault tokens other to → (rule ≡ other) × (at ≡ to)
-faults_once tokens S1 S1 at to h k =
-    (refl, same_place h.is_at.place k.is_at.place (one_break tokens h.front k.front h.one k.one (unexpected_breaks tokens at h) (unexpected_breaks tokens to k)))
-faults_once tokens S1 S2 at to h k = absurd (not_both h.cannot k.could (one_break tokens h.front k.front h.one k.one (unexpected_breaks tokens at h) (too_deep_breaks tokens to k)))
-faults_once tokens S2 S1 at to h k = absurd (not_both k.cannot h.could (one_break tokens k.front h.front k.one h.one (unexpected_breaks tokens to k) (too_deep_breaks tokens at h)))
+pub faults_once : (tokens : List Spanned) (rule other : SyntaxRule) (at to : ℕ) → HasSyntaxFault tokens rule at →
+    HasSyntaxFault tokens other to → (rule ≡ other) × (at ≡ to)
+faults_once tokens S1 S1 at to h k = (
+  refl,
+  same_place h.is_at.place k.is_at.place (one_break tokens h.front k.front h.one k.one (unexpected_breaks tokens at h)
+      (unexpected_breaks tokens to k)),
+)
+faults_once tokens S1 S2 at to h k =
+    absurd (not_both h.cannot k.could (one_break tokens h.front k.front h.one k.one (unexpected_breaks tokens at h) (too_deep_breaks tokens to k)))
+faults_once tokens S2 S1 at to h k =
+    absurd (not_both k.cannot h.could (one_break tokens k.front h.front k.one h.one (unexpected_breaks tokens to k) (too_deep_breaks tokens at h)))
 faults_once tokens S2 S2 at to h k =
     (refl, same_place h.is_at.place k.is_at.place (one_break tokens h.front k.front h.one k.one (too_deep_breaks tokens at h) (too_deep_breaks tokens to k)))
 
@@ -99,6 +105,7 @@ fine_program tokens tree h s = record {
   shallow = s;
 }
 
-pub fault_excludes_program : (tokens : List Spanned) (rule : SyntaxRule) (at : ℕ) → HasSyntaxFault tokens rule at → (tree : Exp) → IsProgram tokens tree → IsShallow tokens → ⊥
+pub fault_excludes_program : (tokens : List Spanned) (rule : SyntaxRule) (at : ℕ) → HasSyntaxFault tokens rule at →
+    (tree : Exp) → IsProgram tokens tree → IsShallow tokens → ⊥
 fault_excludes_program tokens S1 at h tree p s = no_break tokens h.front h.one (unexpected_breaks tokens at h) (fine_program tokens tree p s)
 fault_excludes_program tokens S2 at h tree p s = no_break tokens h.front h.one (too_deep_breaks tokens at h) (fine_program tokens tree p s)

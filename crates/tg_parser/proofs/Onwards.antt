@@ -53,17 +53,23 @@ pub record ItemsOn (m : Sign) (first : Exps) (tokens : List Spanned) (es : Exps)
 pub items_first : (m : Sign) (first es : Exps) (tokens : List Spanned) → es ≡ first → ItemsOn m first tokens es tokens
 items_first m first es tokens e = record { reaches = λ r d. subst (λ x. Does (Items m x) (items m x) tokens r) e d }
 
-last_items : (m : Sign) (es more : Exps) (tokens : List Spanned) (r : Answer Exps) → Does (Items m more) (items m more) tokens r → Does (Items m es) (last (Items m more)) tokens r
+last_items : (m : Sign) (es more : Exps) (tokens : List Spanned) (r : Answer Exps) → Does (Items m more) (items m more) tokens r →
+    Does (Items m es) (last (Items m more)) tokens r
 last_items m es more tokens (Got x rest) d = call_got (Items m es) (Items m more) d (give_got (Items m es))
 last_items m es more tokens (Bad t rest) d = call_bad (Items m es) (Items m more) d
 last_items m es more tokens Out d = call_out (Items m es) (Items m more) d
 
-pub items_more : {m : Sign} {first es new : Exps} {tokens rest after behind : List Spanned} {s : Span} {e : Exp} → ItemsOn m first tokens es rest → ((j : Job) (f : Span → Steps (Of j)) (z : Steps (Of j)) → Leads j (split (OfSign m) f z) rest (f s) after) → Does (At Whole) (job (At Whole)) after (Got e behind) → new ≡ snoc es e → ItemsOn m first tokens new behind
+pub items_more : {m : Sign} {first es new : Exps} {tokens rest after behind : List Spanned} {s : Span} {e : Exp} →
+    ItemsOn m first tokens es rest → ((j : Job) (f : Span → Steps (Of j)) (z : Steps (Of j)) → Leads j (split (OfSign m) f z) rest (f s) after) →
+    Does (At Whole) (job (At Whole)) after (Got e behind) → new ≡ snoc es e → ItemsOn m first tokens new behind
 items_more {m} {first} {es} {new} {tokens} {rest} {after} {behind} {s} {e} h l d n = record {
-  reaches = λ r w. h.reaches r ((l (Items m es) _ _).goes r (call_got (Items m es) (At Whole) d (last_items m es (snoc es e) behind r (subst (λ x. Does (Items m x) (items m x) behind r) n w))));
+  reaches = λ r w. h.reaches r
+      ((l (Items m es) _ _).goes r
+      (call_got (Items m es) (At Whole) d (last_items m es (snoc es e) behind r (subst (λ x. Does (Items m x) (items m x) behind r) n w))));
 }
 
-pub items_stops : {m : Sign} {first es : Exps} {tokens rest : List Spanned} {e : Stop} → ItemsOn m first tokens es rest → Refuses e (Items m es) (items m es) rest → Refuses e (Items m first) (items m first) tokens
+pub items_stops : {m : Sign} {first es : Exps} {tokens rest : List Spanned} {e : Stop} → ItemsOn m first tokens es rest →
+    Refuses e (Items m es) (items m es) rest → Refuses e (Items m first) (items m first) tokens
 items_stops h (refuses {after = after} one d) = refuses one (h.reaches (Bad one after) d)
 items_stops h (wants d) = wants (h.reaches Out d)
 items_stops h (no_memory _) = no_memory (Items _ _)
@@ -75,17 +81,23 @@ pub record InitsOn (first : Inits) (tokens : List Spanned) (is : Inits) (rest : 
 pub inits_first : (first is : Inits) (tokens : List Spanned) → is ≡ first → InitsOn first tokens is tokens
 inits_first first is tokens e = record { reaches = λ r d. subst (λ x. Does (MoreInits x) (more_inits x) tokens r) e d }
 
-last_inits : (is more : Inits) (tokens : List Spanned) (r : Answer Inits) → Does (MoreInits more) (more_inits more) tokens r → Does (MoreInits is) (last (MoreInits more)) tokens r
+last_inits : (is more : Inits) (tokens : List Spanned) (r : Answer Inits) → Does (MoreInits more) (more_inits more) tokens r →
+    Does (MoreInits is) (last (MoreInits more)) tokens r
 last_inits is more tokens (Got x rest) d = call_got (MoreInits is) (MoreInits more) d (give_got (MoreInits is))
 last_inits is more tokens (Bad t rest) d = call_bad (MoreInits is) (MoreInits more) d
 last_inits is more tokens Out d = call_out (MoreInits is) (MoreInits more) d
 
-pub inits_more : {first is new : Inits} {tokens rest after behind : List Spanned} {s : Span} {i : Ident × Exp} → InitsOn first tokens is rest → ((j : Job) (f : Span → Steps (Of j)) (z : Steps (Of j)) → Leads j (split (OfSign Comma) f z) rest (f s) after) → Does OneInit (job OneInit) after (Got i behind) → new ≡ snoc_init is i.0 i.1 → InitsOn first tokens new behind
+pub inits_more : {first is new : Inits} {tokens rest after behind : List Spanned} {s : Span} {i : Ident × Exp} →
+    InitsOn first tokens is rest → ((j : Job) (f : Span → Steps (Of j)) (z : Steps (Of j)) → Leads j (split (OfSign Comma) f z) rest (f s) after) →
+    Does OneInit (job OneInit) after (Got i behind) → new ≡ snoc_init is i.0 i.1 → InitsOn first tokens new behind
 inits_more {first} {is} {new} {tokens} {rest} {after} {behind} {s} {i} h l d n = record {
-  reaches = λ r w. h.reaches r ((l (MoreInits is) _ _).goes r (call_got (MoreInits is) OneInit d (last_inits is (snoc_init is i.0 i.1) behind r (subst (λ x. Does (MoreInits x) (more_inits x) behind r) n w))));
+  reaches = λ r w. h.reaches r
+      ((l (MoreInits is) _ _).goes r
+      (call_got (MoreInits is) OneInit d (last_inits is (snoc_init is i.0 i.1) behind r (subst (λ x. Does (MoreInits x) (more_inits x) behind r) n w))));
 }
 
-pub inits_stops : {first is : Inits} {tokens rest : List Spanned} {e : Stop} → InitsOn first tokens is rest → Refuses e (MoreInits is) (more_inits is) rest → Refuses e (MoreInits first) (more_inits first) tokens
+pub inits_stops : {first is : Inits} {tokens rest : List Spanned} {e : Stop} → InitsOn first tokens is rest →
+    Refuses e (MoreInits is) (more_inits is) rest → Refuses e (MoreInits first) (more_inits first) tokens
 inits_stops h (refuses {after = after} one d) = refuses one (h.reaches (Bad one after) d)
 inits_stops h (wants d) = wants (h.reaches Out d)
 inits_stops h (no_memory _) = no_memory (MoreInits _)
@@ -97,17 +109,21 @@ pub record DecsOn (first : Decs) (tokens : List Spanned) (ds : Decs) (rest : Lis
 pub decs_first : (first ds : Decs) (tokens : List Spanned) → ds ≡ first → DecsOn first tokens ds tokens
 decs_first first ds tokens e = record { reaches = λ r d. subst (λ x. Does (MoreDecs x) (more_decs x) tokens r) e d }
 
-last_decs : (ds more : Decs) (tokens : List Spanned) (r : Answer Decs) → Does (MoreDecs more) (more_decs more) tokens r → Does (MoreDecs ds) (last (MoreDecs more)) tokens r
+last_decs : (ds more : Decs) (tokens : List Spanned) (r : Answer Decs) → Does (MoreDecs more) (more_decs more) tokens r →
+    Does (MoreDecs ds) (last (MoreDecs more)) tokens r
 last_decs ds more tokens (Got x rest) d = call_got (MoreDecs ds) (MoreDecs more) d (give_got (MoreDecs ds))
 last_decs ds more tokens (Bad t rest) d = call_bad (MoreDecs ds) (MoreDecs more) d
 last_decs ds more tokens Out d = call_out (MoreDecs ds) (MoreDecs more) d
 
-pub decs_more : {first ds new : Decs} {tokens rest after behind : List Spanned} (k : DeclarationKind) → DecsOn first tokens ds rest → Leads (MoreDecs ds) (more_decs ds) rest (one_of k (MoreDecs ds) (λ d. last (MoreDecs (snoc_dec ds d)))) after → Leads (MoreDecs ds) (one_of k (MoreDecs ds) (λ d. last (MoreDecs (snoc_dec ds d)))) after (last (MoreDecs new)) behind → DecsOn first tokens new behind
+pub decs_more : {first ds new : Decs} {tokens rest after behind : List Spanned} (k : DeclarationKind) →
+    DecsOn first tokens ds rest → Leads (MoreDecs ds) (more_decs ds) rest (one_of k (MoreDecs ds) (λ d. last (MoreDecs (snoc_dec ds d)))) after →
+    Leads (MoreDecs ds) (one_of k (MoreDecs ds) (λ d. last (MoreDecs (snoc_dec ds d)))) after (last (MoreDecs new)) behind → DecsOn first tokens new behind
 decs_more {first} {ds} {new} {tokens} {rest} {after} {behind} k h l m = record {
   reaches = λ r w. h.reaches r (l.goes r (m.goes r (last_decs ds new behind r w)));
 }
 
-pub decs_stops : {first ds : Decs} {tokens rest : List Spanned} {e : Stop} → DecsOn first tokens ds rest → Refuses e (MoreDecs ds) (more_decs ds) rest → Refuses e (MoreDecs first) (more_decs first) tokens
+pub decs_stops : {first ds : Decs} {tokens rest : List Spanned} {e : Stop} → DecsOn first tokens ds rest →
+    Refuses e (MoreDecs ds) (more_decs ds) rest → Refuses e (MoreDecs first) (more_decs first) tokens
 decs_stops h (refuses {after = after} one d) = refuses one (h.reaches (Bad one after) d)
 decs_stops h (wants d) = wants (h.reaches Out d)
 decs_stops h (no_memory _) = no_memory (MoreDecs _)

@@ -47,10 +47,12 @@ last_small counts (t ∷ ts) le h = last_small (after_token t.token counts) ts h
 
 end_shallow : (front : List Spanned) (one : Spanned) → IsShallow front → one.token ≡ End → IsShallow (front ++ one ∷ [])
 end_shallow front one h e =
-    within_more (0 ∷ []) front one h (subst (λ w. nesting_of (after_token w (counts_after (0 ∷ []) front)) ≤ 256) (sym e) (last_small (0 ∷ []) front (omega arith) h))
+    within_more (0 ∷ []) front one h (subst (λ w. nesting_of (after_token w (counts_after (0 ∷ []) front)) ≤ 256) (sym e)
+    (last_small (0 ∷ []) front (omega arith) h))
 
 -- so none stands up to the first token that is too deep
-no_end_before : (front body after : List Spanned) (one end : Spanned) → front ++ one ∷ after ≡ body ++ end ∷ [] → end.token ≡ End → (one.token ≡ End → ⊥) → HasNoEnd body → HasNoEnd (front ++ one ∷ [])
+no_end_before : (front body after : List Spanned) (one end : Spanned) → front ++ one ∷ after ≡ body ++ end ∷ [] →
+    end.token ≡ End → (one.token ≡ End → ⊥) → HasNoEnd body → HasNoEnd (front ++ one ∷ [])
 no_end_before [] [] after one end e q n h = absurd (n (ap (λ w. w.token) (head_is e) ∙ q))
 no_end_before [] (y ∷ body) after one end e q n h = (n, tt)
 no_end_before (x ∷ front) [] after one end e q n h = no_rest front one after (rest_is e)
@@ -59,7 +61,8 @@ no_end_before (x ∷ front) (y ∷ body) after one end e q n h =
 
 no_end_deep : (tokens : List Spanned) (place : ℕ) → EndsOnce tokens → (found : IsFirstDeep tokens place) → HasNoEnd (found.front ++ found.one ∷ [])
 no_end_deep tokens place o found =
-    no_end_before found.front o.body found.after found.one o.end (sym found.whole ∙ o.whole) o.is_end (λ e. found.deep (end_shallow found.front found.one found.shallow e)) o.once
+    no_end_before found.front o.body found.after found.one o.end (sym found.whole ∙ o.whole) o.is_end
+    (λ e. found.deep (end_shallow found.front found.one found.shallow e)) o.once
 
 -- and no program can be read there
 has_end : (a rest : List Spanned) (t : Spanned) → t.token ≡ End → HasNoEnd ((a ++ t ∷ []) ++ rest) → ⊥
@@ -76,16 +79,19 @@ not_got : (ts rest : List Spanned) (e : Exp) → HasNoEnd ts → Does Whole_prog
 not_got ts rest e n d = fine_has_end ts rest e (fine all_valid d IsProgram (valid Whole_program)) n
 
 -- a tree is read of a shallow program alone
-pub got_program : (tokens part rest : List Spanned) (e : Exp) → ReadsPrograms → EndsOnce tokens → IsReadable tokens part → Does Whole_program whole_program part (Got e rest) → IsProgram tokens e
+pub got_program : (tokens part rest : List Spanned) (e : Exp) → ReadsPrograms → EndsOnce tokens → IsReadable tokens part →
+    Does Whole_program whole_program part (Got e rest) → IsProgram tokens e
 got_program tokens part rest e law o (all h) d = law tokens e rest o d
 got_program tokens part rest e law o (cut {place} found) d = absurd (not_got _ rest e (no_end_deep tokens place o found) d)
 
-pub got_shallow : (tokens part rest : List Spanned) (e : Exp) → EndsOnce tokens → IsReadable tokens part → Does Whole_program whole_program part (Got e rest) → IsShallow tokens
+pub got_shallow : (tokens part rest : List Spanned) (e : Exp) → EndsOnce tokens → IsReadable tokens part →
+    Does Whole_program whole_program part (Got e rest) → IsShallow tokens
 got_shallow tokens part rest e o (all h) d = h
 got_shallow tokens part rest e o (cut {place} found) d = absurd (not_got _ rest e (no_end_deep tokens place o found) d)
 
 -- what is refused is unexpected
-unexpected : (tokens part after : List Spanned) (one : Spanned) → RefusesFirst → IsReadable tokens part → Does Whole_program whole_program part (Bad one after) → HasUnexpected tokens one.span.from
+unexpected : (tokens part after : List Spanned) (one : Spanned) → RefusesFirst → IsReadable tokens part →
+    Does Whole_program whole_program part (Bad one after) → HasUnexpected tokens one.span.from
 unexpected tokens part after one law (all h) d =
     let u = law tokens one after d in
     record {
@@ -103,7 +109,8 @@ unexpected tokens part after one law (cut found) d =
       one = one;
       is_at = record {
         after = after ++ found.after;
-        whole = found.whole ∙ sym (append_assoc found.front (found.one ∷ []) found.after) ∙ ap (λ w. w ++ found.after) u.whole ∙ append_assoc u.front (one ∷ after) found.after;
+        whole = found.whole ∙ sym (append_assoc found.front (found.one ∷ []) found.after) ∙ ap (λ w. w ++ found.after) u.whole
+            ∙ append_assoc u.front (one ∷ after) found.after;
         place = refl;
       };
       could = u.could;
@@ -111,7 +118,8 @@ unexpected tokens part after one law (cut found) d =
       shallow = shallow_before (0 ∷ []) u.front after found.front one found.one (sym u.whole) found.shallow;
     }
 
-pub refused : (tokens part : List Spanned) (e : Stop) (at : ℕ) → RefusesFirst → IsReadable tokens part → e ≡ Wrong at → Refuses e Whole_program whole_program part → HasUnexpected tokens at
+pub refused : (tokens part : List Spanned) (e : Stop) (at : ℕ) → RefusesFirst → IsReadable tokens part → e ≡ Wrong at →
+    Refuses e Whole_program whole_program part → HasUnexpected tokens at
 refused tokens part e at law r w d = stands (subst (λ x. Refuses x Whole_program whole_program part) w d)
   where
     stands : Refuses (Wrong at) Whole_program whole_program part → HasUnexpected tokens at
@@ -127,7 +135,8 @@ last_place front one = omega (arith, length_more front one)
 last_is : (front : List Spanned) (one d : Spanned) → get_or (front ++ one ∷ []) (length (front ++ one ∷ []) - 1) d ≡ one
 last_is front one d = ap (λ n. get_or (front ++ one ∷ []) n d) (last_place front one) ∙ get_or-append_seam front one [] d
 
-too_deep_out : (tokens part : List Spanned) (d : Spanned) → WantsMore → EndsAlways → EndsOnce tokens → IsReadable tokens part → Does Whole_program whole_program part Out → HasTooDeep tokens (get_or part (length part - 1) d).span.from
+too_deep_out : (tokens part : List Spanned) (d : Spanned) → WantsMore → EndsAlways → EndsOnce tokens → IsReadable tokens part →
+    Does Whole_program whole_program part Out → HasTooDeep tokens (get_or part (length part - 1) d).span.from
 too_deep_out tokens part d more ends o (all h) w = absurd (ends tokens o w)
 too_deep_out tokens part d more ends o (cut found) w = record {
   front = found.front;
@@ -144,17 +153,20 @@ wanted part e w d = out (subst (λ x. Refuses x Whole_program whole_program part
     out : Refuses More Whole_program whole_program part → Does Whole_program whole_program part Out
     out (wants h) = h
 
-pub too_deep : (tokens part : List Spanned) (e : Stop) (d : Spanned) → WantsMore → EndsAlways → EndsOnce tokens → IsReadable tokens part → e ≡ More → Refuses e Whole_program whole_program part → HasTooDeep tokens (get_or part (length part - 1) d).span.from
+pub too_deep : (tokens part : List Spanned) (e : Stop) (d : Spanned) → WantsMore → EndsAlways → EndsOnce tokens →
+    IsReadable tokens part → e ≡ More → Refuses e Whole_program whole_program part → HasTooDeep tokens (get_or part (length part - 1) d).span.from
 too_deep tokens part e d more ends o r w h = too_deep_out tokens part d more ends o r (wanted part e w h)
 
 -- the tokens up to a place
 up_to : (front after : List Spanned) (one : Spanned) → take (length front + 1) (front ++ one ∷ after) ≡ front ++ one ∷ []
 up_to front after one =
-    ap (λ n. take n (front ++ one ∷ after)) (sym (length_more front one)) ∙ ap (λ w. take (length (front ++ one ∷ [])) w) (sym (append_assoc front (one ∷ []) after))
+    ap (λ n. take n (front ++ one ∷ after)) (sym (length_more front one)) ∙ ap (λ w. take (length (front ++ one ∷ [])) w)
+    (sym (append_assoc front (one ∷ []) after))
     ∙ take-append_seam (front ++ one ∷ []) after
 
 pub cut_at : (tokens : List Spanned) (place : ℕ) → IsFirstDeep tokens place → IsReadable tokens (take (place + 1) tokens)
 cut_at tokens place found =
     subst (λ w. IsReadable tokens w)
-    (sym (up_to found.front found.after found.one) ∙ ap (λ n. take (n + 1) (found.front ++ found.one ∷ found.after)) found.at_place ∙ ap (λ w. take (place + 1) w) (sym found.whole))
+    (sym (up_to found.front found.after found.one) ∙ ap (λ n. take (n + 1) (found.front ++ found.one ∷ found.after)) found.at_place
+    ∙ ap (λ w. take (place + 1) w) (sym found.whole))
     (cut found)

@@ -29,11 +29,29 @@ quiet_token : (k : Level) {l : Exp} {t : Spanned} {ts rest : List Spanned} → e
 quiet_token k h e n = record { leads = λ j f z. then (test_not j h) (oper_not j e n) }
 
 step_up : (k : Rank) {b : Level} {l : Exp} {ts : List Spanned} → b ≡ below (level_of k) → Quiet (level_of k) l ts → Passes b l ts → Passes (level_of k) l ts
-step_up Disjunction {l = l} {ts = ts} e q p = record { goes = λ start d. call_got (At level.Disjunction) (At level.Conjunction) (level_does e (p.goes start d)) (call_got (At level.Disjunction) (After level.Disjunction l) (gives (q.leads (After level.Disjunction l) _ _)) (give_got (At level.Disjunction))) }
-step_up Conjunction {l = l} {ts = ts} e q p = record { goes = λ start d. call_got (At level.Conjunction) (At level.Comparison) (level_does e (p.goes start d)) (call_got (At level.Conjunction) (After level.Conjunction l) (gives (q.leads (After level.Conjunction l) _ _)) (give_got (At level.Conjunction))) }
-step_up Comparison {l = l} {ts = ts} e q p = record { goes = λ start d. call_got (At level.Comparison) (At level.Sum) (level_does e (p.goes start d)) (gives (q.leads (At level.Comparison) _ _)) }
-step_up Sum {l = l} {ts = ts} e q p = record { goes = λ start d. call_got (At level.Sum) (At level.Term) (level_does e (p.goes start d)) (call_got (At level.Sum) (After level.Sum l) (gives (q.leads (After level.Sum l) _ _)) (give_got (At level.Sum))) }
-step_up Term {l = l} {ts = ts} e q p = record { goes = λ start d. call_got (At level.Term) (At level.Unary) (level_does e (p.goes start d)) (call_got (At level.Term) (After level.Term l) (gives (q.leads (After level.Term l) _ _)) (give_got (At level.Term))) }
+step_up Disjunction {l = l} {ts = ts} e q p =
+    record {
+      goes = λ start d. call_got (At level.Disjunction) (At level.Conjunction) (level_does e (p.goes start d))
+          (call_got (At level.Disjunction) (After level.Disjunction l) (gives (q.leads (After level.Disjunction l) _ _)) (give_got (At level.Disjunction)));
+    }
+step_up Conjunction {l = l} {ts = ts} e q p =
+    record {
+      goes = λ start d. call_got (At level.Conjunction) (At level.Comparison) (level_does e (p.goes start d))
+          (call_got (At level.Conjunction) (After level.Conjunction l) (gives (q.leads (After level.Conjunction l) _ _)) (give_got (At level.Conjunction)));
+    }
+step_up Comparison {l = l} {ts = ts} e q p = record {
+  goes = λ start d. call_got (At level.Comparison) (At level.Sum)
+      (level_does e (p.goes start d)) (gives (q.leads (At level.Comparison) _ _));
+}
+step_up Sum {l = l} {ts = ts} e q p =
+    record {
+      goes = λ start d. call_got (At level.Sum) (At level.Term) (level_does e (p.goes start d))
+          (call_got (At level.Sum) (After level.Sum l) (gives (q.leads (After level.Sum l) _ _)) (give_got (At level.Sum)));
+    }
+step_up Term {l = l} {ts = ts} e q p = record {
+  goes = λ start d. call_got (At level.Term) (At level.Unary)
+      (level_does e (p.goes start d)) (call_got (At level.Term) (After level.Term l) (gives (q.leads (After level.Term l) _ _)) (give_got (At level.Term)));
+}
 step_up Unary e q p = record { goes = λ start d. level_does e (p.goes start d) }
 
 here : {l : Exp} {ts : List Spanned} → Passes level.Unary l ts
@@ -59,7 +77,8 @@ tail_passes Comparison h = tail_comparison h
 tail_passes Conjunction h = tail_conjunction h
 tail_passes Disjunction h = step_up Disjunction refl (quiet_tail level.Disjunction h) (tail_conjunction h)
 
-pub none_passes : {k : Rank} {t : Spanned} {l : Exp} {ts rest : List Spanned} → ends_tail l ≡ false → ts ≡ t ∷ rest → NoneWithin k t.token → Passes (level_of k) l ts
+pub none_passes : {k : Rank} {t : Spanned} {l : Exp} {ts rest : List Spanned} → ends_tail l ≡ false → ts ≡ t ∷ rest →
+    NoneWithin k t.token → Passes (level_of k) l ts
 none_passes h e (at_unary _) = here
 none_passes h e (looser {k = k} {b = b} p n w) = step_up k p (quiet_token (level_of k) h e n) (none_passes h e w)
 
@@ -70,13 +89,16 @@ at_term h = call_stops (At level.Term) (At level.Unary) h
 at_sum : {e : Stop} {ts : List Spanned} → Refuses e (At level.Unary) (job (At level.Unary)) ts → Refuses e (At level.Sum) (job (At level.Sum)) ts
 at_sum h = call_stops (At level.Sum) (At level.Term) (at_term h)
 
-at_comparison : {e : Stop} {ts : List Spanned} → Refuses e (At level.Unary) (job (At level.Unary)) ts → Refuses e (At level.Comparison) (job (At level.Comparison)) ts
+at_comparison : {e : Stop} {ts : List Spanned} → Refuses e (At level.Unary) (job (At level.Unary)) ts →
+    Refuses e (At level.Comparison) (job (At level.Comparison)) ts
 at_comparison h = call_stops (At level.Comparison) (At level.Sum) (at_sum h)
 
-at_conjunction : {e : Stop} {ts : List Spanned} → Refuses e (At level.Unary) (job (At level.Unary)) ts → Refuses e (At level.Conjunction) (job (At level.Conjunction)) ts
+at_conjunction : {e : Stop} {ts : List Spanned} → Refuses e (At level.Unary) (job (At level.Unary)) ts →
+    Refuses e (At level.Conjunction) (job (At level.Conjunction)) ts
 at_conjunction h = call_stops (At level.Conjunction) (At level.Comparison) (at_comparison h)
 
-pub unary_refuses : (k : Rank) {e : Stop} {ts : List Spanned} → Refuses e (At level.Unary) (job (At level.Unary)) ts → Refuses e (At (level_of k)) (job (At (level_of k))) ts
+pub unary_refuses : (k : Rank) {e : Stop} {ts : List Spanned} → Refuses e (At level.Unary) (job (At level.Unary)) ts →
+    Refuses e (At (level_of k)) (job (At (level_of k))) ts
 unary_refuses Unary h = h
 unary_refuses Term h = at_term h
 unary_refuses Sum h = at_sum h

@@ -76,7 +76,8 @@ module _ (g : Problem) where
   one_more P false xs x h k = h
 
   -- what is spilled was taken out
-  pub spilled_among : (s : RoundState) (P : ℕ → Type 0) (xs : List ℕ) (c : Colouring) → AllByRecursion P xs → AllByRecursion P c.spilled → AllByRecursion P (fold (pop g s) c xs).spilled
+  pub spilled_among : (s : RoundState) (P : ℕ → Type 0) (xs : List ℕ) (c : Colouring) → AllByRecursion P xs →
+      AllByRecursion P c.spilled → AllByRecursion P (fold (pop g s) c xs).spilled
   spilled_among s P [] c h k = k
   spilled_among s P (x ∷ xs) c h k =
       spilled_among s P xs (pop g s c x) h.1
@@ -91,7 +92,8 @@ pub rounds_are_of_nodes : RoundsAreOfNodes
 rounds_are_of_nodes g round nodes r = record {
   each_alias = ap length r.aliases ∙ length-map-range_with_len (end g round).alias 0 g.graph.nodes;
   each_colour = ap length r.colours ∙ length-map-range_with_len (λ x. (select g (end g round)).colour ((end g round).alias x)) 0 g.graph.nodes;
-  aliases = subst (All (λ x. x < g.graph.nodes)) (sym r.aliases) (all_listed (λ x. x < g.graph.nodes) (end g round).alias 0 g.graph.nodes (λ x l. among.aliases x (omega arith)));
+  aliases = subst (All (λ x. x < g.graph.nodes)) (sym r.aliases) (all_listed (λ x. x < g.graph.nodes) (end g round).alias
+      0 g.graph.nodes (λ x l. among.aliases x (omega arith)));
   spilled = subst (All (IsTemporary g)) (sym r.spilled)
       (All-from_recursion (IsTemporary g) _ (spilled_among g (end g round) (IsTemporary g) (end g round).stack precoloured among.stack tt));
 }

@@ -4,7 +4,8 @@ use Rattle.tg_base.specs.declared.ids.Span.{Span}
 use Rattle.tg_syntax.specs.declared.tokens.Ident.{Ident}
 use Rattle.tg_syntax.specs.declared.trees.Param.{Param}
 use Rattle.tg_syntax.specs.declared.trees.Op.TheVariants as op
-use Rattle.tg_syntax.specs.Tree.{Form, Exp, Int, Read, Call, Binary, Make, Assign, Let, Simple, Field, no_exps, exp, no_inits, init, no_decs, types, variable, functions, no_functions, function}
+use Rattle.tg_syntax.specs.Tree.{Form, Exp, Int, Read, Call, Binary, Make, Assign, Let, Simple, Field, no_exps, exp, no_inits, init, no_decs, types}
+use Rattle.tg_syntax.specs.Tree.{variable, functions, no_functions, function}
 use Rattle.tg_syntax.specs.Beginnings.{beginnings}
 
 abbrev s : (from to : ℕ) → Span

@@ -89,11 +89,13 @@ body_of_a body = program_functions (block (let_var "v" (num 1) (group (fun "a" 9
 
 -- (v; n; let var k:=2 in k end; print(); a()): a use of the program's v crosses a level and so does the call of a; a use of a
 -- parameter, of a variable of its own and a call of a standard function cross none
-uses : body_of_a (tree.Seq here (exps (var "v" ∷ var "n" ∷ block (let_var "k" (num 2) no_decs) (var "k" ∷ []) ∷ call "print" [] ∷ call "a" [] ∷ []))) ≡ of 0 0 5 5 0 ∷ of 9 1 12 13 2 ∷ []
+uses : body_of_a (tree.Seq here (exps (var "v" ∷ var "n" ∷ block (let_var "k" (num 2) no_decs) (var "k" ∷ []) ∷ call "print" [] ∷ call "a" [] ∷ []))) ≡
+    of 0 0 5 5 0 ∷ of 9 1 12 13 2 ∷ []
 uses = refl
 
 -- (let var v:=v in v end; v): what is hidden crosses nothing, before and behind it the program's v does
-hidden_by_a_variable : body_of_a (tree.Seq here (exps (block (let_var "v" (var "v") no_decs) (var "v" ∷ []) ∷ var "v" ∷ []))) ≡ of 0 0 5 5 0 ∷ of 9 1 9 10 2 ∷ []
+hidden_by_a_variable : body_of_a (tree.Seq here (exps (block (let_var "v" (var "v") no_decs) (var "v" ∷ []) ∷ var "v" ∷ []))) ≡
+    of 0 0 5 5 0 ∷ of 9 1 9 10 2 ∷ []
 hidden_by_a_variable = refl
 
 -- for v:=v to v do v: the bounds see the program's
@@ -103,17 +105,21 @@ hidden_in_a_loop = refl
 -- let function print() = () function b() = (print(); b(); v; n) in print(); b() end: of a group each function sees all, and
 -- hides a standard one; both are called across a level from within it, and across none behind it
 a_group :
-    body_of_a (block (group (fun "print" 20 [] (tree.Seq here no_exps) (fun "b" 30 [] (tree.Seq here (exps (call "print" [] ∷ call "b" [] ∷ var "v" ∷ var "n" ∷ []))) no_functions)) no_decs) (call "print" [] ∷ call "b" [] ∷ [])) ≡
+    body_of_a (block (group
+    (fun "print" 20 [] (tree.Seq here no_exps) (fun "b" 30 [] (tree.Seq here (exps (call "print" [] ∷ call "b" [] ∷ var "v" ∷ var "n" ∷ []))) no_functions))
+    no_decs) (call "print" [] ∷ call "b" [] ∷ [])) ≡
     of 0 0 5 5 0 ∷ of 9 1 5 6 0 ∷ of 20 2 1 1 0 ∷ of 30 2 7 7 5 ∷ []
 a_group = refl
 
 -- let function b(v:int, k:int) = v in end: a parameter hides, each counts one of b's nodes and one of a's
-hidden_by_a_parameter : body_of_a (block (group (fun "b" 20 ("v" ∷ "k" ∷ []) (var "v") no_functions) no_decs) []) ≡ of 0 0 5 5 0 ∷ of 9 1 4 5 0 ∷ of 20 2 2 4 0 ∷ []
+hidden_by_a_parameter : body_of_a (block (group (fun "b" 20 ("v" ∷ "k" ∷ []) (var "v") no_functions) no_decs) []) ≡
+    of 0 0 5 5 0 ∷ of 9 1 4 5 0 ∷ of 20 2 2 4 0 ∷ []
 hidden_by_a_parameter = refl
 
 -- v[v].v := v {v=v} of v, in one: places cross where their variable does; names of fields and types aren't uses
 places_and_types :
-    body_of_a (tree.Assign here (tree.Field (tree.Index (simple "v") (var "v")) (id "v" 0)) (tree.Fill here (id "v" 0) (tree.Make here (id "v" 0) (init (id "v" 0) (var "v") no_inits)) (tree.Neg here (var "v")))) ≡
+    body_of_a (tree.Assign here (tree.Field (tree.Index (simple "v") (var "v")) (id "v" 0))
+    (tree.Fill here (id "v" 0) (tree.Make here (id "v" 0) (init (id "v" 0) (var "v") no_inits)) (tree.Neg here (var "v")))) ≡
     of 0 0 5 5 0 ∷ of 9 1 14 15 4 ∷ []
 places_and_types = refl
 
@@ -126,9 +132,11 @@ starts fs = map (λ f. f.at) fs
 
 in_order_of_the_text :
     starts (program_functions (tree.Seq here (exps (
-    tree.If here (one 1) (one 2) (one 3) ∷ tree.When here (one 4) (one 5) ∷ tree.While here (one 6) (one 7) ∷ tree.For here (id "i" 0) (one 8) (one 9) (one 10) ∷
+    tree.If here (one 1) (one 2) (one 3) ∷ tree.When here (one 4) (one 5) ∷ tree.While here (one 6) (one 7) ∷
+    tree.For here (id "i" 0) (one 8) (one 9) (one 10) ∷
     tree.Assign here (tree.Index (tree.Index (simple "v") (one 11)) (one 12)) (one 13) ∷ tree.Fill here (id "r" 0) (one 14) (one 15) ∷
-    tree.Make here (id "r" 0) (init (id "a" 0) (one 16) (init (id "b" 0) (one 17) no_inits)) ∷ plus (one 18) (one 19) ∷ tree.Neg here (one 20) ∷ call "a" (one 21 ∷ one 22 ∷ []) ∷
+    tree.Make here (id "r" 0) (init (id "a" 0) (one 16) (init (id "b" 0) (one 17) no_inits)) ∷ plus (one 18) (one 19) ∷
+    tree.Neg here (one 20) ∷ call "a" (one 21 ∷ one 22 ∷ []) ∷
     block (let_var "k" (one 23) (group (fun "a" 24 [] (one 25) (fun "b" 26 [] (one 27) no_functions)) no_decs)) (one 28 ∷ one 29 ∷ []) ∷ [])))) ≡
     0 ∷ 1 ∷ 2 ∷ 3 ∷ 4 ∷ 5 ∷ 6 ∷ 7 ∷ 8 ∷ 9 ∷ 10 ∷ 11 ∷ 12 ∷ 13 ∷ 14 ∷ 15 ∷ 16 ∷ 17 ∷ 18 ∷ 19 ∷ 20 ∷ 21 ∷ 22 ∷ 23 ∷ 24 ∷ 25 ∷ 26 ∷ 27 ∷ 28 ∷ 29 ∷ []
 in_order_of_the_text = refl

@@ -4,8 +4,11 @@ use Rattle.std.proofs.Common.{◌≡◌, ℕ, suc, ◌+◌, List, [], ◌∷◌,
 use Rattle.std.proofs.lemmas.List.{map-append}
 use Rattle.std.proofs.lemmas.List.Sums.{sum_by-append, sum_by-cons}
 use Rattle.tg_syntax.specs.Measures.{size, inner, inner_place, inner_exps, inner_inits, inner_decs, inner_functions}
-use Rattle.tg_syntax.specs.Functions.{Measures, Levels, measures, own, own_params, own_functions, own_decs, declared, declared_place, declared_exps, declared_inits, declared_decs, declared_functions, program_size}
-use Rattle.tg_syntax.specs.Tree.{Exp, Nil, Break, Int, Text, Read, Call, Neg, Binary, Make, Fill, Assign, If, When, While, For, Let, Seq, LValue, Simple, Field, Index, Exps, no_exps, exp, Inits, no_inits, init, Decs, no_decs, types, variable, functions, FunDecs, no_functions, function}
+use Rattle.tg_syntax.specs.Functions.{Measures, Levels, measures, own, own_params, own_functions, own_decs, declared, declared_place, declared_exps}
+use Rattle.tg_syntax.specs.Functions.{declared_inits, declared_decs, declared_functions, program_size}
+use Rattle.tg_syntax.specs.Tree.{Exp, Nil, Break, Int, Text, Read, Call, Neg, Binary, Make, Fill, Assign, If, When, While, For, Let, Seq, LValue}
+use Rattle.tg_syntax.specs.Tree.{Simple, Field, Index, Exps, no_exps, exp, Inits, no_inits, init, Decs, no_decs, types, variable, functions, FunDecs}
+use Rattle.tg_syntax.specs.Tree.{no_functions, function}
 
 abbrev pub sizes_in : List Measures → ℕ
 sizes_in fs = sum_by (λ f. f.size) fs
@@ -61,7 +64,8 @@ mutual
   inner_decs_is n seen (variable x _ e rest) =
       two _ _ (declared n seen e) (declared_decs n (own n x seen) rest) (inner_is n seen e) (inner_decs_is n (own n x seen) rest)
   inner_decs_is n seen (functions fs rest) =
-      two _ _ (declared_functions n (own_functions n fs seen) fs) (declared_decs n (own_functions n fs seen) rest) (inner_functions_is n (own_functions n fs seen) fs) (inner_decs_is n (own_functions n fs seen) rest)
+      two _ _ (declared_functions n (own_functions n fs seen) fs) (declared_decs n (own_functions n fs seen) rest)
+      (inner_functions_is n (own_functions n fs seen) fs) (inner_decs_is n (own_functions n fs seen) rest)
 
   pub inner_functions_is : (n : ℕ) (seen : Levels) (fs : FunDecs) → inner_functions fs ≡ sizes_in (declared_functions n seen fs)
   inner_functions_is n seen no_functions = refl
@@ -124,7 +128,8 @@ mutual
   same_decs_texts n s t (types _ rest) = same_decs_texts n s t rest
   same_decs_texts n s t (variable x _ e rest) = joins _ _ _ _ (same_texts n s t e) (same_decs_texts n (own n x s) (own n x t) rest)
   same_decs_texts n s t (functions fs rest) =
-      joins _ _ _ _ (same_functions_texts n (own_functions n fs s) (own_functions n fs t) fs) (same_decs_texts n (own_functions n fs s) (own_functions n fs t) rest)
+      joins _ _ _ _ (same_functions_texts n (own_functions n fs s) (own_functions n fs t) fs)
+      (same_decs_texts n (own_functions n fs s) (own_functions n fs t) rest)
 
   pub same_functions_texts : (n : ℕ) (s t : Levels) (fs : FunDecs) → texts (declared_functions n s fs) ≡ texts (declared_functions n t fs)
   same_functions_texts n s t no_functions = refl

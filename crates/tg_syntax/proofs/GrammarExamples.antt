@@ -2,7 +2,8 @@
 use Rattle.std.proofs.Common.{ℕ, ◌+◌, ◌≡◌, List, [], ◌∷◌, Bool, true, false, Option, Some, replicate, refl, ap, ◌∙◌}
 use Rattle.std.specs.Prelude.{fold, map}
 use Rattle.tg_base.specs.declared.ids.Span.{Span}
-use Rattle.tg_syntax.specs.declared.tokens.Word.TheVariants.{WArray, WBreak, WDo, WElse, WEnd, WFor, WFunction, WIf, WIn, WLet, WNil, WOf, WThen, WTo, WType, WVar, WWhile}
+use Rattle.tg_syntax.specs.declared.tokens.Word.TheVariants.{WArray, WBreak, WDo, WElse, WEnd, WFor, WFunction, WIf, WIn, WLet, WNil, WOf, WThen, WTo}
+use Rattle.tg_syntax.specs.declared.tokens.Word.TheVariants.{WType, WVar, WWhile}
 use Rattle.tg_syntax.specs.declared.tokens.Sign.TheVariants as sign
 use Rattle.tg_syntax.specs.declared.tokens.Token.{Token}
 use Rattle.tg_syntax.specs.declared.tokens.Token.TheVariants as token
@@ -16,7 +17,9 @@ use Rattle.tg_syntax.specs.Lexing.{spanned}
 use Rattle.tg_syntax.specs.Tails.{ends_tail, is_short}
 use Rattle.tg_syntax.specs.Nesting.{after_token, nesting_of}
 use Rattle.tg_syntax.specs.Measures.{size, decs_size}
-use Rattle.tg_syntax.specs.Grammar.{Whole, Comparison, Sum, Term, Tail, sum_op, term_op, Reads, whole_up, or_up, and_up, cmp_up, cmp_two, sum_up, sum_more, term_up, term_more, unary_primary, unary_tail, primary_place, primary_int, tail_then, tail_else, place_simple, IsProgram, program}
+use Rattle.tg_syntax.specs.Grammar.{Whole, Comparison, Sum, Term, Tail, sum_op, term_op, Reads, whole_up, or_up, and_up, cmp_up, cmp_two, sum_up}
+use Rattle.tg_syntax.specs.Grammar.{sum_more, term_up, term_more, unary_primary, unary_tail, primary_place, primary_int, tail_then, tail_else}
+use Rattle.tg_syntax.specs.Grammar.{place_simple, IsProgram, program}
 
 -- tokens of one byte, and words, from a byte on
 abbrev tok : Token → ℕ → Spanned
@@ -56,7 +59,8 @@ sum_whole : {a : List Spanned} {e : Exp} → Reads Sum a e → Reads Whole a e
 sum_whole r = whole_up (or_up (and_up (cmp_up r)))
 
 -- `a-b-c` associates to the left
-pub left_associated : IsProgram (x 0 0 ∷ minus 1 ∷ x 1 2 ∷ minus 3 ∷ x 2 4 ∷ the_end 5 ∷ []) (Exp.Binary (span 0 5) op.Minus 3 (Exp.Binary (span 0 3) op.Minus 1 (read 0 0) (read 1 2)) (read 2 4))
+pub left_associated : IsProgram (x 0 0 ∷ minus 1 ∷ x 1 2 ∷ minus 3 ∷ x 2 4 ∷ the_end 5 ∷ [])
+    (Exp.Binary (span 0 5) op.Minus 3 (Exp.Binary (span 0 3) op.Minus 1 (read 0 0) (read 1 2)) (read 2 4))
 left_associated =
     program {a = x 0 0 ∷ minus 1 ∷ x 1 2 ∷ minus 3 ∷ x 2 4 ∷ []} (the_end 5)
     (sum_whole
@@ -102,14 +106,16 @@ pub tail_takes_all :
 tail_takes_all =
     program {a = num 1 0 ∷ plus 1 ∷ word WIf 2 4 ∷ num 1 5 ∷ word WThen 7 11 ∷ num 2 12 ∷ word WElse 14 18 ∷ num 3 19 ∷ plus 20 ∷ num 4 21 ∷ []} (the_end 22)
     (sum_whole
-    (sum_more {a = num 1 0 ∷ []} {b = word WIf 2 4 ∷ num 1 5 ∷ word WThen 7 11 ∷ num 2 12 ∷ word WElse 14 18 ∷ num 3 19 ∷ plus 20 ∷ num 4 21 ∷ []} (plus 1) (sum_up (a_number 1 0)) refl refl
+    (sum_more {a = num 1 0 ∷ []} {b = word WIf 2 4 ∷ num 1 5 ∷ word WThen 7 11 ∷ num 2 12 ∷ word WElse 14 18 ∷ num 3 19 ∷
+    plus 20 ∷ num 4 21 ∷ []} (plus 1) (sum_up (a_number 1 0)) refl refl
     (term_up (unary_tail
     (tail_else {a = num 1 5 ∷ []} {b = num 2 12 ∷ []} {d = num 3 19 ∷ plus 20 ∷ num 4 21 ∷ []} (word WIf 2 4) (word WThen 7 11) (word WElse 14 18) refl
     (sum_whole (sum_up (a_number 1 5))) refl (sum_whole (sum_up (a_number 2 12))) refl refl
     (sum_whole (sum_more {a = num 3 19 ∷ []} {b = num 4 21 ∷ []} (plus 20) (sum_up (a_number 3 19)) refl refl (a_number 4 21)))))))) refl
 
 -- and the sum never stands behind the `if`
-pub not_behind : {a : List Spanned} {s z w : Span} {at to : ℕ} {l c x y r : Exp} → Reads Sum a (Exp.Binary s op.Plus at (Exp.Binary z op.Plus to l (Exp.If w c x y)) r) → ⊥
+pub not_behind : {a : List Spanned} {s z w : Span} {at to : ℕ} {l c x y r : Exp} →
+    Reads Sum a (Exp.Binary s op.Plus at (Exp.Binary z op.Plus to l (Exp.If w c x y)) r) → ⊥
 not_behind (sum_up h) = no_term refl h
 not_behind (sum_more t h ends e k) = true_false ends
 
@@ -120,7 +126,8 @@ pub nearest_then :
 nearest_then =
     program {a = word WIf 0 2 ∷ num 1 3 ∷ word WThen 5 9 ∷ word WIf 10 12 ∷ num 0 13 ∷ word WThen 15 19 ∷ x 0 20 ∷ word WElse 22 26 ∷ x 1 27 ∷ []} (the_end 28)
     (whole_tail
-    (tail_then {a = num 1 3 ∷ []} {b = word WIf 10 12 ∷ num 0 13 ∷ word WThen 15 19 ∷ x 0 20 ∷ word WElse 22 26 ∷ x 1 27 ∷ []} (word WIf 0 2) (word WThen 5 9) refl (sum_whole (sum_up (a_number 1 3))) refl
+    (tail_then {a = num 1 3 ∷ []} {b = word WIf 10 12 ∷ num 0 13 ∷ word WThen 15 19 ∷ x 0 20 ∷ word WElse 22 26 ∷ x 1 27 ∷ []}
+    (word WIf 0 2) (word WThen 5 9) refl (sum_whole (sum_up (a_number 1 3))) refl
     (whole_tail
     (tail_else {a = num 0 13 ∷ []} {b = x 0 20 ∷ []} {d = x 1 27 ∷ []} (word WIf 10 12) (word WThen 15 19) (word WElse 22 26) refl
     (sum_whole (sum_up (a_number 0 13))) refl (sum_whole (sum_up (a_name 0 20))) refl refl (sum_whole (sum_up (a_name 1 27))))))) refl
@@ -157,7 +164,8 @@ tails = with_else (int 3 7) ∷ loop (int 3 7) ∷ counted (int 3 7) ∷ filled 
 abbrev ends : (Exp → Exp) → List Bool
 ends around = map (λ e. ends_tail (around e)) (int 3 7 ∷ tails)
 
-tails_end : (ends (λ e. e) ≡ false ∷ replicate 5 true) × (ends (λ e. Exp.Neg (span 0 9) e) ≡ false ∷ replicate 5 true) × (ends assigned ≡ false ∷ replicate 5 true)
+tails_end : (ends (λ e. e) ≡ false ∷ replicate 5 true) × (ends (λ e. Exp.Neg (span 0 9) e) ≡ false ∷ replicate 5 true) ×
+    (ends assigned ≡ false ∷ replicate 5 true)
 tails_end = (refl, refl, refl)
 
 tails_enclosed : ends (λ e. Exp.Seq (span 0 9) (exp e no_exps)) ≡ replicate 6 false
@@ -166,7 +174,9 @@ tails_enclosed = refl
 short : map is_short tails ≡ false ∷ false ∷ false ∷ false ∷ true ∷ []
 short = refl
 
-short_inside : (is_short (with_else (without_else (int 3 7))) ≡ true) × (is_short (loop (without_else (int 3 7))) ≡ true) × (is_short (counted (without_else (int 3 7))) ≡ true) × (is_short (filled (without_else (int 3 7))) ≡ true) × (is_short (assigned (without_else (int 3 7))) ≡ true)
+short_inside : (is_short (with_else (without_else (int 3 7))) ≡ true) × (is_short (loop (without_else (int 3 7))) ≡ true) ×
+    (is_short (counted (without_else (int 3 7))) ≡ true) × (is_short (filled (without_else (int 3 7))) ≡ true) ×
+    (is_short (assigned (without_else (int 3 7))) ≡ true)
 short_inside = (refl, refl, refl, refl, refl)
 
 -- `a = b = c` compares nothing: a comparison is no side of another
@@ -180,7 +190,8 @@ sum_equal : {a : List Spanned} {s : Span} {at : ℕ} {l r : Exp} → Reads Sum a
 sum_equal (sum_up h) = no_term refl h
 sum_equal (sum_more t h ends e k) = not_sum t.token e
 
-pub compares_once : {a : List Spanned} {s z : Span} {at to : ℕ} {o : Op} {l m r : Exp} → Reads Comparison a (Exp.Binary s o at (Exp.Binary z op.Equal to l m) r) → Reads Sum a (Exp.Binary s o at (Exp.Binary z op.Equal to l m) r)
+pub compares_once : {a : List Spanned} {s z : Span} {at to : ℕ} {o : Op} {l m r : Exp} →
+    Reads Comparison a (Exp.Binary s o at (Exp.Binary z op.Equal to l m) r) → Reads Sum a (Exp.Binary s o at (Exp.Binary z op.Equal to l m) r)
 compares_once (cmp_up h) = h
 compares_once (cmp_two t h ends e k) = absurd (sum_equal h)
 
@@ -214,11 +225,13 @@ nesting_raised : map behind_signs raising ≡ replicate 18 3
 nesting_raised = refl
 
 -- a list's separators and the words that begin a part of a `let` make it 0 again
-nesting_reset : map behind_signs (token.Sign sign.Semicolon ∷ token.Sign sign.Comma ∷ token.Word WIn ∷ token.Word WType ∷ token.Word WVar ∷ token.Word WFunction ∷ []) ≡ replicate 6 0
+nesting_reset : map behind_signs (token.Sign sign.Semicolon ∷ token.Sign sign.Comma ∷ token.Word WIn ∷ token.Word WType ∷
+    token.Word WVar ∷ token.Word WFunction ∷ []) ≡ replicate 6 0
 nesting_reset = refl
 
 -- a colon and the other words leave it
-nesting_kept : map behind_signs (token.Sign sign.Colon ∷ token.Word WThen ∷ token.Word WElse ∷ token.Word WDo ∷ token.Word WTo ∷ token.Word WNil ∷ token.Word WBreak ∷ token.Word WArray ∷ []) ≡ replicate 8 2
+nesting_kept : map behind_signs (token.Sign sign.Colon ∷ token.Word WThen ∷ token.Word WElse ∷ token.Word WDo ∷
+    token.Word WTo ∷ token.Word WNil ∷ token.Word WBreak ∷ token.Word WArray ∷ []) ≡ replicate 8 2
 nesting_kept = refl
 
 -- what opens a bracket counts one, and a new count begins

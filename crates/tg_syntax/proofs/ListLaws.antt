@@ -6,12 +6,16 @@ use Rattle.tg_syntax.specs.declared.trees.Exp.{Exp}
 use Rattle.tg_syntax.specs.declared.trees.Init.{Init}
 use Rattle.tg_syntax.specs.declared.trees.FunDec.{FunDec}
 use Rattle.tg_syntax.specs.declared.trees.Decs.{Decs}
-use Rattle.tg_syntax.specs.declared.trees.Exps.{Exps, Exps', out-Exps, outs-Exps', roll-Exps, out-roll-Exps, Row_of-Exp, end_of-Exp, more_of-Exp, items-the_row-Exp, items_shown-the_row-Exp-1}
-use Rattle.tg_syntax.specs.declared.trees.Inits.{Inits, Inits', out-Inits, outs-Inits', roll-Inits, out-roll-Inits, Row_of-Init, end_of-Init, more_of-Init, items-the_row-Init, items_shown-the_row-Init-3}
-use Rattle.tg_syntax.specs.declared.trees.FunDecs.{FunDecs, FunDecs', out-FunDecs, outs-FunDecs', roll-FunDecs, out-roll-FunDecs, Row_of-FunDec, end_of-FunDec, more_of-FunDec, items-the_row-FunDec, items_shown-the_row-FunDec-2}
+use Rattle.tg_syntax.specs.declared.trees.Exps.{Exps, Exps', out-Exps, outs-Exps', roll-Exps, out-roll-Exps, Row_of-Exp, end_of-Exp, more_of-Exp}
+use Rattle.tg_syntax.specs.declared.trees.Exps.{items-the_row-Exp, items_shown-the_row-Exp-1}
+use Rattle.tg_syntax.specs.declared.trees.Inits.{Inits, Inits', out-Inits, outs-Inits', roll-Inits, out-roll-Inits, Row_of-Init, end_of-Init}
+use Rattle.tg_syntax.specs.declared.trees.Inits.{more_of-Init, items-the_row-Init, items_shown-the_row-Init-3}
+use Rattle.tg_syntax.specs.declared.trees.FunDecs.{FunDecs, FunDecs', out-FunDecs, outs-FunDecs', roll-FunDecs, out-roll-FunDecs, Row_of-FunDec}
+use Rattle.tg_syntax.specs.declared.trees.FunDecs.{end_of-FunDec, more_of-FunDec, items-the_row-FunDec, items_shown-the_row-FunDec-2}
 use Rattle.tg_syntax.specs.declared.trees.Kind.{Kind, Let, Let', Row_of-Dec, end_of-Dec, more_of-Dec, items-the_row-Dec, items_hidden-the_row-Dec-0}
 use Rattle.tg_syntax.specs.Tree.{Let as PlainLet, exp, init, function}
-use Rattle.tg_syntax.specs.Plain.{plain_kind, plain_exps, plain_exp_row, plain_inits, plain_init_row, plain_functions, plain_function_row, plain_dec, plain_decs}
+use Rattle.tg_syntax.specs.Plain.{plain_kind, plain_exps, plain_exp_row, plain_inits, plain_init_row, plain_functions, plain_function_row, plain_dec}
+use Rattle.tg_syntax.specs.Plain.{plain_decs}
 use Rattle.tg_syntax.specs.Lists.{exps_of, inits_of, decs_of, functions_of}
 
 plain_exp_row-items : (n : Count) (row : Row_of-Exp n) → plain_exp_row row ≡ exps_of (items-the_row-Exp n row)
@@ -44,15 +48,18 @@ plain_inits-items (Inits' shape row) =
     plain_init_row-items _ row ∙ ap inits_of (sym (items_shown-the_row-Init-3 shape row)) ∙ ap (λ x. inits_of x.items.items) (sym (outs-Inits' shape row))
 
 pub plain_inits-made : (items : Vec Init Global) → plain_inits (roll-Inits (record { items = items })) ≡ inits_of items.items
-plain_inits-made items = plain_inits-items (roll-Inits (record { items = items })) ∙ ap (λ x. inits_of x.items.items) (out-roll-Inits (record { items = items }))
+plain_inits-made items = plain_inits-items (roll-Inits (record { items = items })) ∙ ap (λ x. inits_of x.items.items)
+    (out-roll-Inits (record { items = items }))
 
 -- functions
 pub plain_functions-items : (fs : FunDecs) → plain_functions fs ≡ functions_of (out-FunDecs fs).items.items
 plain_functions-items (FunDecs' shape row) =
-    plain_function_row-items _ row ∙ ap functions_of (sym (items_shown-the_row-FunDec-2 shape row)) ∙ ap (λ x. functions_of x.items.items) (sym (outs-FunDecs' shape row))
+    plain_function_row-items _ row ∙ ap functions_of (sym (items_shown-the_row-FunDec-2 shape row))
+    ∙ ap (λ x. functions_of x.items.items) (sym (outs-FunDecs' shape row))
 
 pub plain_functions-made : (items : Vec FunDec Global) → plain_functions (roll-FunDecs (record { items = items })) ≡ functions_of items.items
-plain_functions-made items = plain_functions-items (roll-FunDecs (record { items = items })) ∙ ap (λ x. functions_of x.items.items) (out-roll-FunDecs (record { items = items }))
+plain_functions-made items = plain_functions-items (roll-FunDecs (record { items = items }))
+    ∙ ap (λ x. functions_of x.items.items) (out-roll-FunDecs (record { items = items }))
 
 -- declarations, which a `Let` holds as its own row
 abbrev decs_row : Kind → (n : Count) × Row_of-Dec n

@@ -65,7 +65,8 @@ form_of_letter (name [] h) b bytes e l = absurd h
 form_of_letter (name (c ∷ cs) h) b bytes e l = let same : cs ≡ bytes = cc in subst (AllAre is_name_byte) same h.1
 form_of_letter (sign s) b bytes e l = absurd (clash (letter_mark b l) (sym (ap (begins is_mark) e) ∙ sign_mark s))
 form_of_letter (digits [] h) b bytes e l = none_is_numeral h
-form_of_letter (digits (c ∷ cs) h) b bytes e l = let same : c ≡ b = cc in absurd (clash (digit_letter c (bytes_of_digits (c ∷ cs) h.1).0) (ap is_letter same ∙ l))
+form_of_letter (digits (c ∷ cs) h) b bytes e l = let same : c ≡ b = cc in absurd
+    (clash (digit_letter c (bytes_of_digits (c ∷ cs) h.1).0) (ap is_letter same ∙ l))
 form_of_letter (quoted {inside} q) b bytes e l = let same : 34 ≡ b = cc in absurd (clash refl (ap is_letter same ∙ l))
 
 pub form_of_digit : {xs : List ℕ} → HasTokenForm xs → (b : ℕ) (bytes : List ℕ) → xs ≡ b ∷ bytes → is_digit b ≡ true → AllAre is_digit bytes
@@ -81,7 +82,8 @@ form_of_mark (name [] h) b bytes e m = absurd h
 form_of_mark (name (c ∷ cs) h) b bytes e m = let same : c ≡ b = cc in absurd (clash (mark_letter b m) (sym (ap is_letter same) ∙ h.0))
 form_of_mark (sign s) b bytes e m = (s, e)
 form_of_mark (digits [] h) b bytes e m = none_is_numeral h
-form_of_mark (digits (c ∷ cs) h) b bytes e m = let same : c ≡ b = cc in absurd (clash (mark_digit b m) (sym (ap is_digit same) ∙ (bytes_of_digits (c ∷ cs) h.1).0))
+form_of_mark (digits (c ∷ cs) h) b bytes e m = let same : c ≡ b = cc in absurd
+    (clash (mark_digit b m) (sym (ap is_digit same) ∙ (bytes_of_digits (c ∷ cs) h.1).0))
 form_of_mark (quoted {inside} q) b bytes e m = let same : 34 ≡ b = cc in absurd (clash refl (ap is_mark same ∙ m))
 
 -- a name that no letter, digit or underscore follows
@@ -96,7 +98,8 @@ pub digits_longest : (bytes rest : List ℕ) → IsNumeral 10 bytes → begins i
 digits_longest bytes rest h stop [] after e ne f = ne refl
 digits_longest [] rest h stop (c ∷ more) after e ne f = none_is_numeral h
 digits_longest (b ∷ bytes) rest h stop (c ∷ more) after e ne f =
-    clash (sym (ap (begins is_digit) e) ∙ stop) (AllAre_right is_digit bytes (c ∷ more) (form_of_digit f b (bytes ++ c ∷ more) refl (bytes_of_digits (b ∷ bytes) h.1).0)).0
+    clash (sym (ap (begins is_digit) e) ∙ stop)
+    (AllAre_right is_digit bytes (c ∷ more) (form_of_digit f b (bytes ++ c ∷ more) refl (bytes_of_digits (b ∷ bytes) h.1).0)).0
 
 -- a byte that is a sign, and no first byte of a longer one
 pub mark_longest : (b : ℕ) (rest : List ℕ) → is_mark b ≡ true → begins_pair (b ∷ b ∷ []) ≡ false → IsLongest (b ∷ []) rest

@@ -11,7 +11,8 @@ use Rattle.tg_syntax.specs.declared.tokens.Token.TheVariants as token
 use Rattle.tg_syntax.specs.declared.faults.LexRule.TheVariants.{L1, L2, L3, L4, L5, L6}
 use Rattle.tg_syntax.specs.Spellings.{word_text, sign_text, is_digit, is_blank, HasTokenForm, nothing, plain, Escape}
 use Rattle.tg_syntax.specs.Lexing.{Lexes, spanned, IsLongest, OpensComment, Closes}
-use Rattle.tg_syntax.specs.LexicalFaults.{HasLexicalFault, met, LeadsTo, here, illegal_byte, comment_not_closed, in_string, bad_escape, large_int, control_byte, end_in_escape, line_in_escape, IsBegun}
+use Rattle.tg_syntax.specs.LexicalFaults.{HasLexicalFault, met, LeadsTo, here, illegal_byte, comment_not_closed, in_string, bad_escape, large_int}
+use Rattle.tg_syntax.specs.LexicalFaults.{control_byte, end_in_escape, line_in_escape, IsBegun}
 use Rattle.tg_syntax.proofs.Numerals.{bytes_of_digits, digits_of_bytes}
 use Rattle.tg_syntax.proofs.Longest.{name_longest, digits_longest, mark_longest, form_of_mark, begins}
 
@@ -39,12 +40,16 @@ no_word w e = no (ap begins_ex e ∙ word_ex w)
     no e = cc
 
 -- `exit(-1)`
-pub exit_tokens : Lexes (codes "exit" ∷ []) 0 (codes "exit(-1)") (spanned (token.Ident (record { 0 = 0 })) 0 4 ∷ spanned (token.Sign LeftParen) 4 5 ∷ spanned (token.Sign Minus) 5 6 ∷ spanned (token.Int 1) 6 7 ∷ spanned (token.Sign RightParen) 7 8 ∷ spanned token.End 8 8 ∷ [])
+pub exit_tokens : Lexes (codes "exit" ∷ []) 0 (codes "exit(-1)") (spanned (token.Ident (record { 0 = 0 })) 0 4 ∷
+    spanned (token.Sign LeftParen) 4 5 ∷ spanned (token.Sign Minus) 5 6 ∷ spanned (token.Int 1) 6 7 ∷
+    spanned (token.Sign RightParen) 7 8 ∷ spanned token.End 8 8 ∷ [])
 exit_tokens =
-    Lexes.token (codes "exit") (token.Ident (record { 0 = 0 })) {rest = codes "(-1)"} ((refl, (refl, (refl, (refl, tt)))), no_word, refl) (name_longest (codes "exit") (codes "(-1)") (refl, (refl, (refl, (refl, tt)))) refl) (not_opening 101 (codes "xit(-1)") refl)
+    Lexes.token (codes "exit") (token.Ident (record { 0 = 0 })) {rest = codes "(-1)"} ((refl, (refl, (refl, (refl, tt)))), no_word, refl)
+    (name_longest (codes "exit") (codes "(-1)") (refl, (refl, (refl, (refl, tt)))) refl) (not_opening 101 (codes "xit(-1)") refl)
     (Lexes.token (codes "(") (token.Sign LeftParen) {rest = codes "-1)"} refl (mark_longest 40 (codes "-1)") refl refl) (not_opening 40 (codes "-1)") refl)
     (Lexes.token (codes "-") (token.Sign Minus) {rest = codes "1)"} refl (mark_longest 45 (codes "1)") refl refl) (not_opening 45 (codes "1)") refl)
-    (Lexes.token (codes "1") (token.Int 1) {rest = codes ")"} (one_digit, refl, omega arith) (digits_longest (codes "1") (codes ")") one_digit refl) (not_opening 49 (codes ")") refl)
+    (Lexes.token (codes "1") (token.Int 1) {rest = codes ")"} (one_digit, refl, omega arith)
+    (digits_longest (codes "1") (codes ")") one_digit refl) (not_opening 49 (codes ")") refl)
     (Lexes.token (codes ")") (token.Sign RightParen) {rest = []} refl (mark_longest 41 [] refl refl) (not_opening 41 [] refl)
     (Lexes.ends 8)))))
   where
@@ -121,15 +126,18 @@ pub large : HasLexicalFault (codes "2147483648") L5 0
 large = met (omega arith) here (large_int (codes "2147483648") [] ten_digits (digits_longest (codes "2147483648") [] ten_digits refl) (omega arith))
 
 pub control_in_string : HasLexicalFault (34 ∷ 97 ∷ 127 ∷ 34 ∷ []) L6 2
-control_in_string = met (omega arith) here (in_string (codes "a") (codes "a") (127 ∷ 34 ∷ []) (plain 97 refl nothing) (control_byte 127 (34 ∷ []) refl (λ e. cc)))
+control_in_string = met (omega arith) here (in_string (codes "a") (codes "a") (127 ∷ 34 ∷ []) (plain 97 refl nothing)
+    (control_byte 127 (34 ∷ []) refl (λ e. cc)))
 
 -- L4: `\q`
 one_begun : {xs : List ℕ} → IsBegun xs → (a : ℕ) → xs ≡ a ∷ [] → (a == 94 || (is_digit a || is_blank a)) ≡ true
 one_begun IsBegun.backslash a e = absurd (cc)
 one_begun IsBegun.caret a e = let same : 94 ≡ a = cc in ap (λ a. a == 94 || (is_digit a || is_blank a)) (sym same)
-one_begun (IsBegun.digit x h) a e = let same : x ≡ a = cc in ap (λ a. a == 94 || (is_digit a || is_blank a)) (sym same) ∙ or_right (x == 94) (or_left (is_digit x) (is_blank x) h)
+one_begun (IsBegun.digit x h) a e = let same : x ≡ a = cc in ap (λ a. a == 94 || (is_digit a || is_blank a)) (sym same)
+    ∙ or_right (x == 94) (or_left (is_digit x) (is_blank x) h)
 one_begun (IsBegun.digits x y h k) a e = absurd (cc)
-one_begun (IsBegun.blanks x more h) a e = let same : x ≡ a = cc in ap (λ a. a == 94 || (is_digit a || is_blank a)) (sym same) ∙ or_right (x == 94) (or_right (is_digit x) h.0)
+one_begun (IsBegun.blanks x more h) a e = let same : x ≡ a = cc in ap (λ a. a == 94 || (is_digit a || is_blank a)) (sym same)
+    ∙ or_right (x == 94) (or_right (is_digit x) h.0)
 
 one_escape : {xs meant : List ℕ} → Escape xs meant → (a : ℕ) → xs ≡ a ∷ [] → (a == 113) ≡ false
 one_escape Escape.newline a e = let same : 110 ≡ a = cc in ap (λ a. a == 113) (sym same)
@@ -177,7 +185,8 @@ closes-front (Closes.closes h) rest = closes-front h rest
 closes-front (Closes.opens h) rest = closes-front h rest
 closes-front (Closes.byte {depth} b {more = []} no_open no_close h) rest = elim h [ ]
 closes-front (Closes.byte {depth} b {more = c ∷ more} no_open no_close h) rest =
-    ap (λ p. cond p (front_closes depth (more ++ rest)) (cond (b == 47 && c == 42) (front_closes (suc (suc depth)) (more ++ rest)) (front_closes (suc depth) (c ∷ more ++ rest)))) (pair_false b c 42 47 no_close)
+    ap (λ p. cond p (front_closes depth (more ++ rest)) (cond (b == 47 && c == 42) (front_closes (suc (suc depth)) (more ++ rest))
+    (front_closes (suc depth) (c ∷ more ++ rest)))) (pair_false b c 42 47 no_close)
     ∙ ap (λ p. cond p (front_closes (suc (suc depth)) (more ++ rest)) (front_closes (suc depth) (c ∷ more ++ rest))) (pair_false b c 47 42 no_open)
     ∙ closes-front h rest
 

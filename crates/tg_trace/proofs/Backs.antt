@@ -1,5 +1,6 @@
 -- Statements that are cut from the last that is come to.
-use Rattle.std.proofs.Common.{◌≡◌, ◌≤◌, ◌<◌, ℕ, suc, ◌+◌, List, [], ◌∷◌, ◌++◌, length, take, drop, get_or, Bool, true, false, refl, ap, sym, ◌∙◌, subst, arith, length-append, add-one, drop-cons}
+use Rattle.std.proofs.Common.{◌≡◌, ◌≤◌, ◌<◌, ℕ, suc, ◌+◌, List, [], ◌∷◌, ◌++◌, length, take, drop, get_or, Bool, true, false, refl, ap, sym, ◌∙◌}
+use Rattle.std.proofs.Common.{subst, arith, length-append, add-one, drop-cons}
 use Rattle.std.specs.Prelude.{if◌then◌else◌}
 use Rattle.std.proofs.lemmas.List.{take-append-le}
 use Rattle.tg_trace.proofs.Rests.{take_all, none_there}
@@ -14,7 +15,9 @@ abbrev pub back : (exits : List ℕ) → List CodeTs → Cut → Cut
 back exits [] c = c
 back exits (s ∷ ss) c = cut exits (plain_ts s) (back exits ss c)
 
-leaving : (b : Bool) (exits : List ℕ) (s : CodeTs) (ss : List CodeTs) (c : Cut) → cut_all exits (stms_of ss) c ≡ back exits (take (come_to ss) ss) c → cut exits (plain_ts s) (if b then c else cut_all exits (stms_of ss) c) ≡ back exits (take (if b then 1 else suc (come_to ss)) (s ∷ ss)) c
+leaving : (b : Bool) (exits : List ℕ) (s : CodeTs) (ss : List CodeTs) (c : Cut) → cut_all exits (stms_of ss) c ≡
+    back exits (take (come_to ss) ss) c → cut exits (plain_ts s) (if b then c else cut_all exits (stms_of ss) c) ≡
+    back exits (take (if b then 1 else suc (come_to ss)) (s ∷ ss)) c
 leaving true exits s ss c h = refl
 leaving false exits s ss c h = ap (cut exits (plain_ts s)) h
 
@@ -27,20 +30,24 @@ back_last exits [] s c = refl
 back_last exits (first ∷ ss) s c = ap (cut exits (plain_ts first)) (back_last exits ss s c)
 
 -- the last statement, which is come to, and one that isn't
-pub back_in : (exits : List ℕ) (n : ℕ) (ss all : List CodeTs) (s : CodeTs) (c : Cut) → all ≡ ss ++ s ∷ [] → length ss < n → back exits (take n ss) (cut exits (plain_ts s) c) ≡ back exits (take n all) c
+pub back_in : (exits : List ℕ) (n : ℕ) (ss all : List CodeTs) (s : CodeTs) (c : Cut) → all ≡ ss ++ s ∷ [] → length ss < n →
+    back exits (take n ss) (cut exits (plain_ts s) c) ≡ back exits (take n all) c
 back_in exits n ss all s c e h =
     let k : length (ss ++ s ∷ []) ≤ n = omega (arith, length-append ss (s ∷ [])) in
     let k' : length ss ≤ n = omega arith in
-    ap (λ xs. back exits xs (cut exits (plain_ts s) c)) (take_all n ss k') ∙ (sym (back_last exits ss s c) ∙ ap (λ xs. back exits xs c) (sym (take_all n (ss ++ s ∷ []) k) ∙ ap (take n) (sym e)))
+    ap (λ xs. back exits xs (cut exits (plain_ts s) c)) (take_all n ss k')
+    ∙ (sym (back_last exits ss s c) ∙ ap (λ xs. back exits xs c) (sym (take_all n (ss ++ s ∷ []) k) ∙ ap (take n) (sym e)))
 
-pub back_out : (exits : List ℕ) (n : ℕ) (ss all : List CodeTs) (s : CodeTs) (c : Cut) → all ≡ ss ++ s ∷ [] → n ≤ length ss → back exits (take n ss) c ≡ back exits (take n all) c
+pub back_out : (exits : List ℕ) (n : ℕ) (ss all : List CodeTs) (s : CodeTs) (c : Cut) → all ≡ ss ++ s ∷ [] → n ≤ length ss →
+    back exits (take n ss) c ≡ back exits (take n all) c
 back_out exits n ss all s c e h = ap (λ xs. back exits xs c) (sym (take-append-le n ss (s ∷ []) h) ∙ ap (take n) (sym e))
 
 -- how many are come to, counted from a place on
 pub count_begins : (all : List CodeTs) → come_to all ≡ 0 + come_to (drop 0 all)
 count_begins all = omega arith
 
-pub count_goes_on : (all : List CodeTs) (i : ℕ) (d : CodeTs) → i < length all → leaves (plain_ts (get_or all i d)) ≡ false → come_to all ≡ i + come_to (drop i all) → come_to all ≡ (i + 1) + come_to (drop (i + 1) all)
+pub count_goes_on : (all : List CodeTs) (i : ℕ) (d : CodeTs) → i < length all → leaves (plain_ts (get_or all i d)) ≡ false →
+    come_to all ≡ i + come_to (drop i all) → come_to all ≡ (i + 1) + come_to (drop (i + 1) all)
 count_goes_on all i d h b e =
     let rest : ℕ = come_to (drop (suc i) all) in
     let step : come_to (drop i all) ≡ suc rest = ap come_to (drop-cons all i d h) ∙ ap (λ v. if v then 1 else suc rest) b in
@@ -48,7 +55,8 @@ count_goes_on all i d h b e =
     let last : come_to (drop (i + 1) all) ≡ rest = ap come_to one in
     omega arith
 
-pub count_leaves : (all : List CodeTs) (i : ℕ) (d : CodeTs) → i < length all → leaves (plain_ts (get_or all i d)) ≡ true → come_to all ≡ i + come_to (drop i all) → i + 1 ≡ come_to all
+pub count_leaves : (all : List CodeTs) (i : ℕ) (d : CodeTs) → i < length all → leaves (plain_ts (get_or all i d)) ≡ true →
+    come_to all ≡ i + come_to (drop i all) → i + 1 ≡ come_to all
 count_leaves all i d h b e =
     let rest : ℕ = come_to (drop (suc i) all) in
     let step : come_to (drop i all) ≡ 1 = ap come_to (drop-cons all i d h) ∙ ap (λ v. if v then 1 else suc rest) b in

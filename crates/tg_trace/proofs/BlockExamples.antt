@@ -61,7 +61,8 @@ wants_one_more = refl
 -- a break out of two loops
 abbrev leaves_two : List Ts
 leaves_two =
-    Move 0 (Const 0) ∷ Loop (sequence (print (Const 7) ∷ Loop (sequence (up ∷ If (below 3) (print (Temp 0)) (Break 1) ∷ [])) ∷ [])) ∷ print (Const 9) ∷ done ∷ []
+    Move 0 (Const 0) ∷ Loop (sequence (print (Const 7) ∷ Loop (sequence (up ∷ If (below 3) (print (Temp 0)) (Break 1) ∷ [])) ∷ [])) ∷
+    print (Const 9) ∷ done ∷ []
 
 out_of_two : behind leaves_two 2 ≡ finished (7 ∷ 1 ∷ 2 ∷ 9 ∷ [])
 out_of_two = refl

@@ -10,7 +10,8 @@ use Rattle.tg_runs.specs.Preserving.{Preserves}
 use Rattle.tg_runs.specs.Simulating.{Simulates}
 use Rattle.tg_runs.proofs.Simulations.{simulates_wrong, simulates_stopping, simulates_along, simulates_with_credit, simulation_preserves}
 use Rattle.tg_tree.specs.Tree as tree
-use Rattle.tg_tree.specs.Tree.{Cond, Compare, Not, Both, Either, Ts, Move, Store, StoreByte, Do, If, Loop, Break, Seq, Stms, no_stms, stm, Function, Literal, Code}
+use Rattle.tg_tree.specs.Tree.{Cond, Compare, Not, Both, Either, Ts, Move, Store, StoreByte, Do, If, Loop, Break, Seq, Stms, no_stms, stm, Function}
+use Rattle.tg_tree.specs.Tree.{Literal, Code}
 use Rattle.tg_tree.specs.Shapes.{BreaksWithin, BreaksWithinStms, AreCanonical, AreClosed}
 use Rattle.tg_tree.specs.Units.{Canonical, marked_entry_units, entry_units}
 use Rattle.tg_tree.specs.Memory.{begin}

@@ -1,5 +1,6 @@
 -- Statements that are cut do what they did: what is open in front of them does so, if what was open behind them does what comes next.
-use Rattle.std.proofs.Common.{◌≡◌, ℕ, zero, suc, ◌+◌, ◌-◌, ◌*◌, ◌<◌, ◌≤◌, List, [], ◌∷◌, ◌++◌, length, Bool, true, false, refl, sym, ap, ◌∙◌, subst, arith, length-append}
+use Rattle.std.proofs.Common.{◌≡◌, ℕ, zero, suc, ◌+◌, ◌-◌, ◌*◌, ◌<◌, ◌≤◌, List, [], ◌∷◌, ◌++◌, length, Bool, true, false, refl, sym, ap, ◌∙◌, subst}
+use Rattle.std.proofs.Common.{arith, length-append}
 use Rattle.std.specs.Prelude.{Option, Some, None, not, slice_index, if◌then◌else◌}
 use Rattle.std.proofs.Math.ListN.{get_or-append}
 use Rattle.std.proofs.Math.Seq.{get_or-append_seam}
@@ -10,7 +11,8 @@ use Rattle.tg_runs.specs.Ran.{Ran, Ended}
 use Rattle.tg_runs.specs.Simulating.{Simulates}
 use Rattle.tg_runs.proofs.Simulations.{simulates_stopping, simulates_paying, simulates_working, simulates_with_credit, simulates_turn, simulates_less}
 use Rattle.tg_tree.specs.Tree as tree
-use Rattle.tg_tree.specs.Tree.{Tx, Cond, Compare, Not, Both, Either, Ts, Move, Store, StoreByte, Do, If, Loop, Break, Seq, Stms, no_stms, stm, Function, Literal, Code}
+use Rattle.tg_tree.specs.Tree.{Tx, Cond, Compare, Not, Both, Either, Ts, Move, Store, StoreByte, Do, If, Loop, Break, Seq, Stms, no_stms, stm}
+use Rattle.tg_tree.specs.Tree.{Function, Literal, Code}
 use Rattle.tg_tree.specs.Operators.{holds}
 use Rattle.tg_tree.specs.Shapes.{BreaksWithin, BreaksWithinStms, IsFlat, IsFlatStatement, IsFlatCond, IsCanonical, AreCanonical}
 use Rattle.tg_tree.specs.Units.{Canonical}
@@ -21,11 +23,13 @@ use Rattle.tg_tree.specs.Flat.{Last}
 use Rattle.tg_tree.specs.Carrying.{BacksSimulate, EntersSimulate}
 use Rattle.tg_tree.proofs.TreeRuns.{trees_step}
 use Rattle.tg_trace.specs.Block.{End, Jump, Branch, Fault, Return, Block}
-use Rattle.tg_trace.specs.Cutting.{Cut, open_at, in_front, draw, leads, mark_by, seal_by, next_mark, seal, branch, head, exit_of, leaves, cut, cut_all, place_of}
+use Rattle.tg_trace.specs.Cutting.{Cut, open_at, in_front, draw, leads, mark_by, seal_by, next_mark, seal, branch, head, exit_of, leaves, cut}
+use Rattle.tg_trace.specs.Cutting.{cut_all, place_of}
 use Rattle.tg_trace.specs.Meaning.{enter_blocks, block_going}
 use Rattle.tg_trace.proofs.BlocksFlat.{pays_less, no_later, word_simulates, statement_simulates}
 use Rattle.tg_trace.proofs.BlocksPlaces.{at, leads_to, opens, first, first_is, ahead, back as back_at}
-use Rattle.tg_trace.proofs.BlocksKept.{Keeps, keeps_itself, keeps_on, opened_keeps, draw_keeps, seal_keeps, branch_keeps, head_keeps, side, turn, side_keeps, cut_keeps, all_keeps, Fits, fits_first, fits_rest, Stands, sealed_stands, head_stands, fits_turn}
+use Rattle.tg_trace.proofs.BlocksKept.{Keeps, keeps_itself, keeps_on, opened_keeps, draw_keeps, seal_keeps, branch_keeps, head_keeps, side, turn}
+use Rattle.tg_trace.proofs.BlocksKept.{side_keeps, cut_keeps, all_keeps, Fits, fits_first, fits_rest, Stands, sealed_stands, head_stands, fits_turn}
 
 -- less work behind, and work that is paid before
 pub lighter : (a r n k : ℕ) (c d : Run Ran) → Simulates a r n c (charged k d) → Simulates a r n c d

@@ -3,8 +3,10 @@ use Rattle.std.proofs.Common.{◌≡◌, ℕ, ◌+◌, ◌*◌, ◌≤◌, List,
 use Rattle.tg_runs.specs.Runs.{Run}
 use Rattle.tg_runs.specs.Ran.{Ran, Wrong}
 use Rattle.tg_runs.specs.Simulating.{Simulates}
-use Rattle.tg_runs.proofs.Simulations.{simulates_stopping, simulates_writing, simulates_paying, simulates_working, simulates_with_credit, simulates_turn, simulates_less}
-use Rattle.tg_tree.specs.Tree.{Tx, Const, Address, Temp, FrameAddress, Binary, Load, LoadByte, Call, Service, After, Txs, no_txs, tx, Ts, Move, Store, StoreByte, Do, If, Loop, Break, Fault, Seq, Return, Literal}
+use Rattle.tg_runs.proofs.Simulations.{simulates_stopping, simulates_writing, simulates_paying, simulates_working, simulates_with_credit}
+use Rattle.tg_runs.proofs.Simulations.{simulates_turn, simulates_less}
+use Rattle.tg_tree.specs.Tree.{Tx, Const, Address, Temp, FrameAddress, Binary, Load, LoadByte, Call, Service, After, Txs, no_txs, tx, Ts, Move, Store}
+use Rattle.tg_tree.specs.Tree.{StoreByte, Do, If, Loop, Break, Fault, Seq, Return, Literal}
 use Rattle.tg_tree.specs.Shapes.{IsFlat, AreFlat, IsFlatSide, IsFlatStatement}
 use Rattle.tg_tree.specs.Memory.{store, store_byte}
 use Rattle.tg_tree.specs.Units.{Canonical, expression_units, argument_units, statement_units}

@@ -11,7 +11,8 @@ use Rattle.tg_tree.specs.Units.{Canonical, element_units, entry_units}
 use Rattle.tg_tree.specs.Actions.{World, Temps, Around, Acts, Back, wrong}
 use Rattle.tg_tree.specs.Meaning.{Point}
 use Rattle.tg_tree.specs.Flat.{Last}
-use Rattle.tg_tree.proofs.Relating.{Related, RelatedWorlds, RelatedTemps, Keeps, AlikeBack, AlikeAround, around_down, Alike, alike, keep_choice, keep_back, keep_value, keep_all}
+use Rattle.tg_tree.proofs.Relating.{Related, RelatedWorlds, RelatedTemps, Keeps, AlikeBack, AlikeAround, around_down, Alike, alike, keep_choice}
+use Rattle.tg_tree.proofs.Relating.{keep_back, keep_value, keep_all}
 use Rattle.tg_tree.proofs.Going.{one, OneWorld, OneTemps, Same, same_keeps, Onward, onward_keeps}
 use Rattle.tg_tree.proofs.Entering.{BodiesKeep, keep_call_in, stays_over, only_goes_on}
 use Rattle.tg_tree.proofs.TreeRuns.{same_around}

@@ -1,12 +1,15 @@
 -- What blocks and their code count, for any weights of their parts. A mark and a jump count m and j, a flat statement s, a branch b, a return r and a fault f.
-use Rattle.std.proofs.Common.{◌≡◌, ◌≢◌, ◌≤◌, ◌<◌, ℕ, zero, suc, ◌+◌, ◌-◌, Bool, true, false, List, [], ◌∷◌, ◌++◌, length, take, map, get_or, refl, ap, sym, subst, arith}
+use Rattle.std.proofs.Common.{◌≡◌, ◌≢◌, ◌≤◌, ◌<◌, ℕ, zero, suc, ◌+◌, ◌-◌, Bool, true, false, List, [], ◌∷◌, ◌++◌, length, take, map, get_or, refl, ap}
+use Rattle.std.proofs.Common.{sym, subst, arith}
 use Rattle.std.specs.Prelude.{Option, Some, None, reverse, slice_get, slice_set, slice_index, if◌then◌else◌}
 use Rattle.std.specs.List.{Contains, AllPairs}
 use Rattle.std.proofs.lemmas.List.{reverse-append}
 use Rattle.tg_tree.specs.Tree as tree
-use Rattle.tg_tree.specs.Tree.{Tx, Cond, Compare, Not, Both, Either, Ts, Move, Store, StoreByte, Do, If, Loop, Break, Seq, Stms, no_stms, stm, Linear, Mark, Do'}
+use Rattle.tg_tree.specs.Tree.{Tx, Cond, Compare, Not, Both, Either, Ts, Move, Store, StoreByte, Do, If, Loop, Break, Seq, Stms, no_stms, stm, Linear}
+use Rattle.tg_tree.specs.Tree.{Mark, Do'}
 use Rattle.tg_trace.specs.Block.{End, Jump, Branch, Fault, Return, Block}
-use Rattle.tg_trace.specs.Cutting.{Cut, open_at, draw, stand, lay, leads, seal_by, next_mark, seal, branch, head, leaves, cut, cut_all, start, entered_by, entered, placed_end, placed, blocks_of}
+use Rattle.tg_trace.specs.Cutting.{Cut, open_at, draw, stand, lay, leads, seal_by, next_mark, seal, branch, head, leaves, cut, cut_all, start}
+use Rattle.tg_trace.specs.Cutting.{entered_by, entered, placed_end, placed, blocks_of}
 use Rattle.tg_trace.specs.Laying.{no_block, block_at, is_next, jump_unless, branch_by, end_code, body_code, block_code, code_in, traces, traced}
 use Rattle.tg_trace.proofs.Places.{traces_keep}
 use Rattle.tg_trace.proofs.TracesCode.{other_block, in_rest, first_apart, rest_apart}
@@ -265,7 +268,8 @@ module _ (m j : ℕ) (s : Ts → ℕ) (b : Tx → Tx → ℕ) (r : Tx → ℕ) (
       let ws' = slice_set ws p 0 in
       let keep = λ (q : ℕ) (c : Contains ps q).
       let n = first_apart p ps apart q c in
-      subst (λ x. block_cost x ≤ get_or ws' q 0) (sym (other_block bs p q n)) (subst (λ x. block_cost (block_at bs q) ≤ x) (sym (other_cost ws p q n)) (h q (in_rest p ps q c))) in
+      subst (λ x. block_cost x ≤ get_or ws' q 0) (sym (other_block bs p q n))
+      (subst (λ x. block_cost (block_at bs q) ≤ x) (sym (other_cost ws p q n)) (h q (in_rest p ps q c))) in
       let rest = code_in_cost ps bs' ws' (rest_apart p ps apart) keep in
       let one = block_code_cost p (slice_get ps 0) (block_at bs p) in
       let own = h p (0, omega arith, refl) in

@@ -37,22 +37,26 @@ a_loop = blocks_of (stms (set ∷ Loop (If less set (Break 0)) ∷ done ∷ []))
 loop_blocks : a_loop ≡ block (Jump 1) (set ∷ []) ∷ block (on_less 2 3) [] ∷ block (Jump 1) (set ∷ []) ∷ block (Return (Const 0)) [] ∷ []
 loop_blocks = refl
 
-loop_code : traced a_loop ≡ Mark 0 ∷ Do' set ∷ Mark 1 ∷ tree.Branch GreaterEqual (Temp 0) (Const 3) 3 ∷ Mark 2 ∷ Do' set ∷ tree.Jump 1 ∷ Mark 3 ∷ tree.Return' (Const 0) ∷ []
+loop_code : traced a_loop ≡ Mark 0 ∷ Do' set ∷ Mark 1 ∷ tree.Branch GreaterEqual (Temp 0) (Const 3) 3 ∷ Mark 2 ∷ Do' set ∷
+    tree.Jump 1 ∷ Mark 3 ∷ tree.Return' (Const 0) ∷ []
 loop_code = refl
 
 -- a choice in a loop, whose empty side goes back to the head
-choice_in_loop : blocks_of (stms (Loop (If less (when equal set) (Break 0)) ∷ done ∷ [])) ≡ block (on_less 1 3) [] ∷ block (on_equal 2 0) [] ∷ block (Jump 0) (set ∷ []) ∷ block (Return (Const 0)) [] ∷ []
+choice_in_loop : blocks_of (stms (Loop (If less (when equal set) (Break 0)) ∷ done ∷ [])) ≡ block (on_less 1 3) [] ∷
+    block (on_equal 2 0) [] ∷ block (Jump 0) (set ∷ []) ∷ block (Return (Const 0)) [] ∷ []
 choice_in_loop = refl
 
 -- a break out of two loops: the outer one's head only jumps
 abbrev two_loops : List Block
 two_loops = blocks_of (stms (set ∷ Loop (Loop (sequence (when less (Break 1) ∷ set ∷ when equal (Break 0) ∷ []))) ∷ done ∷ []))
 
-two_loops_blocks : two_loops ≡ block (Jump 1) (set ∷ []) ∷ block (Jump 2) [] ∷ block (on_less 4 3) [] ∷ block (on_equal 1 2) (set ∷ []) ∷ block (Return (Const 0)) [] ∷ []
+two_loops_blocks : two_loops ≡ block (Jump 1) (set ∷ []) ∷ block (Jump 2) [] ∷ block (on_less 4 3) [] ∷
+    block (on_equal 1 2) (set ∷ []) ∷ block (Return (Const 0)) [] ∷ []
 two_loops_blocks = refl
 
 two_loops_code :
-    traced two_loops ≡ Mark 0 ∷ Do' set ∷ Mark 1 ∷ Mark 2 ∷ tree.Branch GreaterEqual (Temp 0) (Const 3) 3 ∷ Mark 4 ∷ tree.Return' (Const 0) ∷ Mark 3 ∷ Do' set ∷ tree.Branch Equal (Temp 0) (Const 4) 1 ∷ tree.Jump 2 ∷ []
+    traced two_loops ≡ Mark 0 ∷ Do' set ∷ Mark 1 ∷ Mark 2 ∷ tree.Branch GreaterEqual (Temp 0) (Const 3) 3 ∷ Mark 4 ∷
+    tree.Return' (Const 0) ∷ Mark 3 ∷ Do' set ∷ tree.Branch Equal (Temp 0) (Const 4) 1 ∷ tree.Jump 2 ∷ []
 two_loops_code = refl
 
 -- a choice with two empty sides is a branch whose sides are one
@@ -60,7 +64,8 @@ one_side : blocks_of (stms (If less nothing nothing ∷ set ∷ done ∷ [])) �
 one_side = refl
 
 -- a condition leads on as soon as it is known
-parts : blocks_of (stms (If (Both less (Not (Either less equal))) (tree.Fault 2) nothing ∷ done ∷ [])) ≡ block (on_less 1 4) [] ∷ block (on_less 4 2) [] ∷ block (on_equal 4 3) [] ∷ block (Fault 2) [] ∷ block (Return (Const 0)) [] ∷ []
+parts : blocks_of (stms (If (Both less (Not (Either less equal))) (tree.Fault 2) nothing ∷ done ∷ [])) ≡ block (on_less 1 4) [] ∷
+    block (on_less 4 2) [] ∷ block (on_equal 4 3) [] ∷ block (Fault 2) [] ∷ block (Return (Const 0)) [] ∷ []
 parts = refl
 
 -- a loop of nothing goes round
@@ -75,5 +80,6 @@ dropped : blocks_of (stms (Loop (sequence (set ∷ Break 0 ∷ Loop set ∷ []))
 dropped = refl
 
 -- a fault stands where it is tested for, and the branch is turned round
-fault_code : traced (blocks_of (stms (when (Compare NotEqual (Temp 0) (Const 0)) (tree.Fault 3) ∷ set ∷ done ∷ []))) ≡ Mark 0 ∷ tree.Branch Equal (Temp 0) (Const 0) 2 ∷ Mark 1 ∷ tree.Fault' 3 ∷ Mark 2 ∷ Do' set ∷ tree.Return' (Const 0) ∷ []
+fault_code : traced (blocks_of (stms (when (Compare NotEqual (Temp 0) (Const 0)) (tree.Fault 3) ∷ set ∷ done ∷ []))) ≡
+    Mark 0 ∷ tree.Branch Equal (Temp 0) (Const 0) 2 ∷ Mark 1 ∷ tree.Fault' 3 ∷ Mark 2 ∷ Do' set ∷ tree.Return' (Const 0) ∷ []
 fault_code = refl

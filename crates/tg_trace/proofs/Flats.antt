@@ -7,7 +7,8 @@ use Rattle.tg_tree.specs.Tree as tree
 use Rattle.tg_tree.specs.Tree.{Cond, Compare, Not, Both, Either, Ts, Move, Store, StoreByte, Do, If, Loop, Break, Seq, Stms, no_stms, stm}
 use Rattle.tg_tree.specs.Shapes.{IsFlatStatement, IsFlatCond, IsCanonical, AreCanonical}
 use Rattle.tg_trace.specs.Block.{End, Jump, Branch, Fault, Return, Block}
-use Rattle.tg_trace.specs.Cutting.{Cut, open_at, in_front, draw, stand, lay, leads, seal_by, next_mark, seal, branch, head, exit_of, leaves, cut, cut_all, start, entered_by, entered, placed_end, placed, blocks_of}
+use Rattle.tg_trace.specs.Cutting.{Cut, open_at, in_front, draw, stand, lay, leads, seal_by, next_mark, seal, branch, head, exit_of, leaves, cut}
+use Rattle.tg_trace.specs.Cutting.{cut_all, start, entered_by, entered, placed_end, placed, blocks_of}
 use Rattle.tg_trace.specs.Shapes.{AreFlatStatements, IsFlatEnd, IsFlatBlock, AreFlatBlocks}
 
 -- Facts of each element.
@@ -87,7 +88,8 @@ mutual
       let c3 = open_at (Jump join) (seal c2) in
       let c4 = cut exits s c3 in
       branch_flat d (next_mark c4) (next_mark c2) (seal c4) h.0
-      (seal_flat c4 (cut_flat exits s c3 h.1 (open_flat (Jump join) (seal c2) tt (seal_flat c2 (cut_flat exits t c1 h.2 (open_flat (Jump join) (seal c) tt (seal_flat c f)))))))
+      (seal_flat c4 (cut_flat exits s c3 h.1
+      (open_flat (Jump join) (seal c2) tt (seal_flat c2 (cut_flat exits t c1 h.2 (open_flat (Jump join) (seal c) tt (seal_flat c f)))))))
   cut_flat exits (Loop s) c h f =
       let c1 = seal c in
       let mark = length c1.places in

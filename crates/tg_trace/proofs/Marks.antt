@@ -1,5 +1,6 @@
 -- Marks, targets, flatness and the end of the code in which blocks are laid.
-use Rattle.std.proofs.Common.{◌≡◌, ◌≢◌, ◌<◌, ℕ, zero, suc, Bool, true, false, List, [], ◌∷◌, ◌++◌, length, refl, ap, sym, ◌∙◌, subst, arith, append_assoc, append-nil}
+use Rattle.std.proofs.Common.{◌≡◌, ◌≢◌, ◌<◌, ℕ, zero, suc, Bool, true, false, List, [], ◌∷◌, ◌++◌, length, refl, ap, sym, ◌∙◌, subst, arith}
+use Rattle.std.proofs.Common.{append_assoc, append-nil}
 use Rattle.std.specs.Prelude.{Option, Some, None, slice_get, slice_set}
 use Rattle.std.specs.List.{Contains, AllPairs, AllByRecursion}
 use Rattle.tg_tree.specs.Tree as tree
@@ -72,7 +73,8 @@ marks_behind_jump : (b : Bool) (p : ℕ) (rest : List Linear) → marks (jump_un
 marks_behind_jump true p rest = refl
 marks_behind_jump false p rest = refl
 
-marks_behind_branch : (b : Bool) (next : Option ℕ) (rel : _) (x y : tree.Tx) (p q : ℕ) (rest : List Linear) → marks (branch_by b next rel x y p q ++ rest) ≡ marks rest
+marks_behind_branch : (b : Bool) (next : Option ℕ) (rel : _) (x y : tree.Tx) (p q : ℕ) (rest : List Linear) →
+    marks (branch_by b next rel x y p q ++ rest) ≡ marks rest
 marks_behind_branch true next rel x y p q rest = refl
 marks_behind_branch false next rel x y p q rest = marks_behind_jump (is_next next q) q rest
 
@@ -90,7 +92,8 @@ marks_are (p ∷ ps) bs =
     let body = body_code b.body in
     let end = end_code (slice_get ps 0) b.end in
     ap (λ m. p ∷ m)
-    (ap marks (append_assoc body end rest) ∙ (marks_behind_body b.body (end ++ rest) ∙ (marks_behind_end (slice_get ps 0) b.end rest ∙ marks_are ps (slice_set bs p no_block))))
+    (ap marks (append_assoc body end rest)
+    ∙ (marks_behind_body b.body (end ++ rest) ∙ (marks_behind_end (slice_get ps 0) b.end rest ∙ marks_are ps (slice_set bs p no_block))))
 
 -- It goes to places of the blocks alone.
 module _ (n : ℕ) where
@@ -105,7 +108,8 @@ module _ (n : ℕ) where
   below_behind_jump true p rest h k = k
   below_behind_jump false p rest h k = (h, k)
 
-  below_behind_branch : (b : Bool) (next : Option ℕ) (rel : _) (x y : tree.Tx) (p q : ℕ) (rest : List Linear) → p < n → q < n → AllBelow (targets rest) → AllBelow (targets (branch_by b next rel x y p q ++ rest))
+  below_behind_branch : (b : Bool) (next : Option ℕ) (rel : _) (x y : tree.Tx) (p q : ℕ) (rest : List Linear) → p < n →
+      q < n → AllBelow (targets rest) → AllBelow (targets (branch_by b next rel x y p q ++ rest))
   below_behind_branch true next rel x y p q rest h i k = (i, k)
   below_behind_branch false next rel x y p q rest h i k = (h, below_behind_jump (is_next next q) q rest i k)
 
@@ -123,7 +127,8 @@ module _ (n : ℕ) where
       let body = body_code b.body in
       let end = end_code (slice_get ps 0) b.end in
       let k = targets_below ps (slice_set bs p no_block) (taken (LeadsBelow n) tt bs p h) in
-      subst (λ code. AllBelow (targets code)) (sym (append_assoc body end rest)) (below_behind_body b.body (end ++ rest) (below_behind_end (slice_get ps 0) b.end rest (h p) k))
+      subst (λ code. AllBelow (targets code)) (sym (append_assoc body end rest))
+      (below_behind_body b.body (end ++ rest) (below_behind_end (slice_get ps 0) b.end rest (h p) k))
 
   among : (ms : List ℕ) (m : ℕ) → AllBelow ms → Contains ms m → m < n
   among [] m h (k, l, e) = absurd (omega arith)
@@ -158,9 +163,11 @@ code_ends : (order : List ℕ) (bs : List Block) → 0 < length order → EndsCo
 code_ends [] bs h = absurd (omega arith)
 code_ends (p ∷ []) bs h =
     let b = block_at bs p in
-    subst EndsCode (sym (append-nil (block_code p None b))) (ends_cons (Mark p) (body_code b.body ++ end_code None b.end) (ends_behind (body_code b.body) (end_code None b.end) (last_ends b.end)))
+    subst EndsCode (sym (append-nil (block_code p None b))) (ends_cons (Mark p) (body_code b.body ++ end_code None b.end)
+    (ends_behind (body_code b.body) (end_code None b.end) (last_ends b.end)))
 code_ends (p ∷ q ∷ ps) bs h =
-    ends_behind (block_code p (Some q) (block_at bs p)) (code_in (q ∷ ps) (slice_set bs p no_block)) (code_ends (q ∷ ps) (slice_set bs p no_block) (omega arith))
+    ends_behind (block_code p (Some q) (block_at bs p)) (code_in (q ∷ ps) (slice_set bs p no_block))
+    (code_ends (q ∷ ps) (slice_set bs p no_block) (omega arith))
 
 not_empty : (ms : List ℕ) (m : ℕ) → Contains ms m → 0 < length ms
 not_empty ms m (k, l, e) = omega arith
@@ -172,6 +179,7 @@ code_is_well_marked bs w =
     let code_marks = marks_are order bs in
     record {
       apart = subst (AllPairs (λ a b. a ≢ b)) (sym code_marks) (traces_keep n bs).apart;
-      there = λ m h. subst (λ ms. Contains ms m) (sym code_marks) (all_there bs m (among n (targets (traced bs)) m (targets_below n order bs (each (LeadsBelow n) tt bs w.within)) h));
+      there = λ m h. subst (λ ms. Contains ms m) (sym code_marks)
+          (all_there bs m (among n (targets (traced bs)) m (targets_below n order bs (each (LeadsBelow n) tt bs w.within)) h));
       last = code_ends order bs (not_empty order 0 (all_there bs 0 w.entry));
     }

@@ -1,9 +1,11 @@
 -- Lengths and rooms of canonical statements and of the code of their blocks.
 use Rattle.std.proofs.Common.{◌≡◌, ◌≤◌, ℕ, ◌+◌, List, [], ◌∷◌, refl, arith}
 use Rattle.tg_tree.specs.Tree as tree
-use Rattle.tg_tree.specs.Tree.{Tx, Cond, Compare, Not, Both, Either, Ts, Move, Store, StoreByte, Do, If, Loop, Break, Seq, Stms, no_stms, stm, Linear, Mark, Do'}
+use Rattle.tg_tree.specs.Tree.{Tx, Cond, Compare, Not, Both, Either, Ts, Move, Store, StoreByte, Do, If, Loop, Break, Seq, Stms, no_stms, stm, Linear}
+use Rattle.tg_tree.specs.Tree.{Mark, Do'}
 use Rattle.tg_tree.specs.Units.{Canonical}
-use Rattle.tg_tree.specs.Sizes.{in_canonical, expression_length, condition_length, statement_length, statements_length, code_length, expression_room, condition_room, statement_room, statements_room, code_room}
+use Rattle.tg_tree.specs.Sizes.{in_canonical, expression_length, condition_length, statement_length, statements_length, code_length, expression_room}
+use Rattle.tg_tree.specs.Sizes.{condition_room, statement_room, statements_room, code_room}
 use Rattle.tg_trace.specs.Cutting.{blocks_of}
 use Rattle.tg_trace.specs.Laying.{traced}
 use Rattle.tg_trace.proofs.Costs.{condition_cost, statement_cost, statements_cost, code_cost, traced_cost_no_more}

@@ -3,7 +3,8 @@ use Rattle.std.proofs.Common.{◌≡◌, ◌≤◌, ℕ, zero, suc, ◌+◌, Boo
 use Rattle.std.specs.Prelude.{IsTrue}
 use Rattle.std.specs.List.{Contains}
 use Rattle.tg_tree.specs.Tree as tree
-use Rattle.tg_tree.specs.Tree.{Tx, Const, Address, Temp, FrameAddress, Binary, Load, LoadByte, Call, Service, After, Txs, no_txs, tx, Cond, Compare, Not, Both, Either, Ts, Move, Store, StoreByte, Do, If, Loop, Break, Seq, Stms, no_stms, stm, Linear, Mark, Do'}
+use Rattle.tg_tree.specs.Tree.{Tx, Const, Address, Temp, FrameAddress, Binary, Load, LoadByte, Call, Service, After, Txs, no_txs, tx, Cond, Compare}
+use Rattle.tg_tree.specs.Tree.{Not, Both, Either, Ts, Move, Store, StoreByte, Do, If, Loop, Break, Seq, Stms, no_stms, stm, Linear, Mark, Do'}
 use Rattle.tg_tree.specs.Named.{Named, fault, named_tx, named_txs, named_cond, named_ts, named_stms, named_flat}
 use Rattle.tg_trace.specs.Cutting.{blocks_of}
 use Rattle.tg_trace.specs.Laying.{traced}
@@ -124,7 +125,8 @@ module _ (allowed : Named → Bool) where
   code_names (Do' s ∷ rest) = let h = code_names rest in let k = split_ts s (named_flat rest []) in omega (arith, h, k)
   code_names (tree.Jump m ∷ rest) = let h = code_names rest in omega (arith, h)
   code_names (tree.Branch rel x y m ∷ rest) =
-      let h = code_names rest in let k = split_tx x (named_tx y (named_flat rest [])) in let l = split_tx y (named_flat rest []) in let n = split_tx x (named_tx y []) in omega (arith, h, k, l, n)
+      let h = code_names rest in let k = split_tx x (named_tx y (named_flat rest [])) in let l = split_tx y (named_flat rest []) in
+      let n = split_tx x (named_tx y []) in omega (arith, h, k, l, n)
   code_names (tree.Fault' n ∷ rest) = let h = code_names rest in omega (arith, h)
   code_names (tree.Return' x ∷ rest) = let h = code_names rest in let k = split_tx x (named_flat rest []) in omega (arith, h, k)
 

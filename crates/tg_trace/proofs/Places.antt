@@ -44,7 +44,8 @@ only_one p q (suc k, h, e) = absurd (omega arith)
 one_there : (p : ℕ) → Contains (p ∷ []) p
 one_there p = (0, omega arith, refl)
 
-put_there : (o : Order) (p q : ℕ) → (slice_get o.laid q ≡ Some true → Contains o.places q) → (p ≡ q) ⊎ (p ≢ q) → slice_get (slice_set o.laid p true) q ≡ Some true → Contains (o.places ++ p ∷ []) q
+put_there : (o : Order) (p q : ℕ) → (slice_get o.laid q ≡ Some true → Contains o.places q) → (p ≡ q) ⊎ (p ≢ q) →
+    slice_get (slice_set o.laid p true) q ≡ Some true → Contains (o.places ++ p ∷ []) q
 put_there o p q h (inl e) t = Contains-append_right o.places (p ∷ []) q (subst (λ x. Contains (p ∷ []) x) e (one_there p))
 put_there o p q h (inr n) t = Contains-append_left o.places (p ∷ []) q (h (sym (set_there o.laid p q n) ∙ t))
 
@@ -54,7 +55,8 @@ some_not_none e = cc
 true_not_false : {A : Type 0} → Some true ≡ Some false → A
 true_not_false e = cc
 
-put_free : (o : Order) (p q : ℕ) → slice_get o.laid p ≡ Some false → (slice_get o.laid q ≡ Some false → Contains o.places q → ⊥) → (p ≡ q) ⊎ (p ≢ q) → slice_get (slice_set o.laid p true) q ≡ Some false → Contains (o.places ++ p ∷ []) q → ⊥
+put_free : (o : Order) (p q : ℕ) → slice_get o.laid p ≡ Some false → (slice_get o.laid q ≡ Some false → Contains o.places q → ⊥) →
+    (p ≡ q) ⊎ (p ≢ q) → slice_get (slice_set o.laid p true) q ≡ Some false → Contains (o.places ++ p ∷ []) q → ⊥
 put_free o p q f h (inl e) t c =
     let k : slice_get (slice_set o.laid p true) q ≡ Some true = subst (λ x. slice_get (slice_set o.laid p true) x ≡ Some true) e (set_here o.laid p false f) in
     true_not_false (sym k ∙ t)
@@ -96,7 +98,8 @@ pub follow_keeps : (n k : ℕ) (blocks : List Block) (next : Option ℕ) (o : Or
 follow_keeps n zero blocks next o f i = i
 follow_keeps n (suc k) blocks None o f i = i
 follow_keeps n (suc k) blocks (Some p) o f i =
-    follow_keeps n k blocks (onward (slice_set o.laid p true) (block_at blocks p).end) (put p o) (onward_free (slice_set o.laid p true) (block_at blocks p).end) (put_keeps n o p f i)
+    follow_keeps n k blocks (onward (slice_set o.laid p true) (block_at blocks p).end) (put p o)
+    (onward_free (slice_set o.laid p true) (block_at blocks p).end) (put_keeps n o p f i)
 
 nothing_there : (n p : ℕ) → slice_get (replicate n false) p ≡ Some true → ⊥
 nothing_there zero p h = cc
@@ -120,7 +123,8 @@ put_stays : (l : List Bool) (p q : ℕ) → (p ≡ q) ⊎ (p ≢ q) → slice_ge
 put_stays l p q (inl e) h = subst (λ x. slice_get (slice_set l p true) x ≡ Some true) e (set_here l p true (subst (λ x. slice_get l x ≡ Some true) (sym e) h))
 put_stays l p q (inr n) h = set_there l p q n ∙ h
 
-pub follow_stays : (k : ℕ) (blocks : List Block) (next : Option ℕ) (o : Order) (q : ℕ) → slice_get o.laid q ≡ Some true → slice_get (follow k blocks next o).laid q ≡ Some true
+pub follow_stays : (k : ℕ) (blocks : List Block) (next : Option ℕ) (o : Order) (q : ℕ) → slice_get o.laid q ≡ Some true →
+    slice_get (follow k blocks next o).laid q ≡ Some true
 follow_stays zero blocks next o q h = h
 follow_stays (suc k) blocks None o q h = h
 follow_stays (suc k) blocks (Some p) o q h =
@@ -132,7 +136,8 @@ None_past (x ∷ l) zero h = absurd (some_not_none (h))
 None_past (x ∷ l) (suc k) h = let m : length l ≤ k = None_past l k h in omega arith
 
 -- a place from which a trace begins is laid
-first_laid : (n k : ℕ) (blocks : List Block) (o : Order) (v : Option Bool) → slice_get o.laid k ≡ v → k < length o.laid → 0 < n → slice_get (follow n blocks (unless v k None) o).laid k ≡ Some true
+first_laid : (n k : ℕ) (blocks : List Block) (o : Order) (v : Option Bool) → slice_get o.laid k ≡ v → k < length o.laid →
+    0 < n → slice_get (follow n blocks (unless v k None) o).laid k ≡ Some true
 first_laid n k blocks o None e h m = absurd (omega (arith, None_past o.laid k e))
 first_laid zero k blocks o (Some true) e h m = e
 first_laid (suc n) k blocks o (Some true) e h m = e
@@ -146,7 +151,8 @@ all_laid (suc k) blocks p h m =
     let o = traces k blocks in
     let first = unless_laid o.laid k None in
     elim (same_or_not k p) [
-      | inl e ↦ subst (λ x. slice_get (follow (length blocks) blocks first o).laid x ≡ Some true) e (first_laid (length blocks) k blocks o (slice_get o.laid k) refl (omega (arith, (traces_keep k blocks).count, e)) (omega arith))
+      | inl e ↦ subst (λ x. slice_get (follow (length blocks) blocks first o).laid x ≡ Some true) e
+          (first_laid (length blocks) k blocks o (slice_get o.laid k) refl (omega (arith, (traces_keep k blocks).count, e)) (omega arith))
       | inr n ↦ follow_stays (length blocks) blocks first o p (all_laid k blocks p (omega (arith, n)) m)
     ]
 

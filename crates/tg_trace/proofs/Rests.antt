@@ -1,5 +1,6 @@
 -- Lists that are taken from their end, or from a place on.
-use Rattle.std.proofs.Common.{◌≡◌, ◌≤◌, ◌<◌, ℕ, zero, suc, true, ◌+◌, ◌-◌, List, [], ◌∷◌, ◌++◌, Bool, length, take, drop, get_or, map, refl, ap, sym, ◌∙◌, arith, add-one, drop-cons, append_assoc}
+use Rattle.std.proofs.Common.{◌≡◌, ◌≤◌, ◌<◌, ℕ, zero, suc, true, ◌+◌, ◌-◌, List, [], ◌∷◌, ◌++◌, Bool, length, take, drop, get_or, map, refl, ap, sym}
+use Rattle.std.proofs.Common.{◌∙◌, arith, add-one, drop-cons, append_assoc}
 use Rattle.std.specs.Prelude.{reverse, Option, Some, None, slice_get, slice_set, slice_index}
 use Rattle.std.proofs.lemmas.List.{reverse-append, length-reverse, map-append, take-map}
 use Rattle.tg_tree.specs.declared.trees.Ts.{Ts as CodeTs}
@@ -46,7 +47,8 @@ pub enter_front :
     (laid laid' : List CodeBlock) (c : Cut) (mark place : ℕ) (m : Option ℕ) →
     Some mark ≡ m → plain_blocks laid ≡ c.laid → place ≡ slice_index c.places mark → laid' ≡ take (place + 1) laid → plain_blocks laid' ≡ entered_by m c
 enter_front laid laid' c mark place m e l p t =
-    ap plain_blocks t ∙ (sym (take-map plain_block (place + 1) laid) ∙ (ap (take (place + 1)) l ∙ (ap (λ n. take (n + 1) c.laid) p ∙ ap (λ k. entered_by k c) e)))
+    ap plain_blocks t ∙ (sym (take-map plain_block (place + 1) laid)
+    ∙ (ap (take (place + 1)) l ∙ (ap (λ n. take (n + 1) c.laid) p ∙ ap (λ k. entered_by k c) e)))
 
 -- a block that is taken out
 set_at : (bs : List CodeBlock) (p : ℕ) (b : CodeBlock) → plain_blocks (slice_set bs p b) ≡ slice_set (plain_blocks bs) p (plain_block b)
@@ -54,7 +56,8 @@ set_at [] p b = refl
 set_at (x ∷ xs) zero b = refl
 set_at (x ∷ xs) (suc p) b = ap (λ ys. plain_block x ∷ ys) (set_at xs p b)
 
-pub set_block : (bs : List CodeBlock) (p : ℕ) (b b' : CodeBlock) → b ≡ b' → plain_block b' ≡ no_block → plain_blocks (slice_set bs p b) ≡ slice_set (plain_blocks bs) p no_block
+pub set_block : (bs : List CodeBlock) (p : ℕ) (b b' : CodeBlock) → b ≡ b' → plain_block b' ≡ no_block →
+    plain_blocks (slice_set bs p b) ≡ slice_set (plain_blocks bs) p no_block
 set_block bs p b b' e n = set_at bs p b ∙ ap (slice_set (plain_blocks bs) p) (ap plain_block e ∙ n)
 
 -- blocks with one more behind
@@ -73,14 +76,18 @@ placed_step places last told told' rest all b b' e t p =
     let f = placed places last in
     let told_is : plain_blocks told' ≡ plain_blocks told ++ f (plain_block b) ∷ [] = ap plain_blocks t ∙ (blocks_more told b' ∙ ap (λ x. plain_blocks told ++ x ∷ []) p) in
     let all_is : reverse (plain_blocks all) ≡ plain_block b ∷ reverse (plain_blocks rest) = ap (λ xs. reverse (plain_blocks xs)) e ∙ (ap reverse (blocks_more rest b) ∙ reverse_last (plain_blocks rest) (plain_block b)) in
-    ap (λ xs. xs ++ map f (reverse (plain_blocks rest))) told_is ∙ (append_assoc (plain_blocks told) (f (plain_block b) ∷ []) (map f (reverse (plain_blocks rest))) ∙ ap (λ xs. plain_blocks told ++ map f xs) (sym all_is))
+    ap (λ xs. xs ++ map f (reverse (plain_blocks rest))) told_is
+    ∙ (append_assoc (plain_blocks told) (f (plain_block b) ∷ []) (map f (reverse (plain_blocks rest)))
+    ∙ ap (λ xs. plain_blocks told ++ map f xs) (sym all_is))
 
 pub body_step :
     (told told' : List Linear) (rest all : List CodeTs) (s : CodeTs) →
     all ≡ rest ++ s ∷ [] → told' ≡ told ++ Do' (plain_ts s) ∷ [] →
     told' ++ body_code (stms_of (reverse rest)) ≡ told ++ body_code (stms_of (reverse all))
 body_step told told' rest all s e t =
-    ap (λ xs. xs ++ body_code (stms_of (reverse rest))) t ∙ (append_assoc told (Do' (plain_ts s) ∷ []) (body_code (stms_of (reverse rest))) ∙ ap (λ xs. told ++ body_code (stms_of xs)) (sym (reverse_last rest s) ∙ ap reverse (sym e)))
+    ap (λ xs. xs ++ body_code (stms_of (reverse rest))) t
+    ∙ (append_assoc told (Do' (plain_ts s) ∷ []) (body_code (stms_of (reverse rest)))
+    ∙ ap (λ xs. told ++ body_code (stms_of xs)) (sym (reverse_last rest s) ∙ ap reverse (sym e)))
 
 -- a trace that has ended
 pub follow_none : (k : ℕ) (blocks : List Block) (o : Order) → follow k blocks None o ≡ o
@@ -102,7 +109,8 @@ follow_step n i blocks next next' p o o' final laid h e put_is laid_is next_is s
     let k = n - (i + 1) in
     let onto : next' ≡ onward (slice_set o.laid p true) (block_at blocks p).end =
     next_is ∙ ap (λ l. onward l (block_at blocks p).end) (laid_is ∙ ap (λ x. x.laid) put_is) in
-    ap (λ m. follow k blocks m o') onto ∙ (ap (follow k blocks (onward (slice_set o.laid p true) (block_at blocks p).end)) put_is ∙ (sym (follow_one n i blocks p o h) ∙ (ap (λ m. follow (n - i) blocks m o) (sym e) ∙ so_far)))
+    ap (λ m. follow k blocks m o') onto ∙ (ap (follow k blocks (onward (slice_set o.laid p true) (block_at blocks p).end)) put_is
+    ∙ (sym (follow_one n i blocks p o h) ∙ (ap (λ m. follow (n - i) blocks m o) (sym e) ∙ so_far)))
 
 pub follow_stops :
     (k : ℕ) (blocks : List Block) (next : Option ℕ) (o final : Order) → next ≡ None → follow k blocks next o ≡ final → o ≡ final
@@ -128,4 +136,5 @@ emit_step told told' order at blocks blocks' h t b =
     let rest = code_in (drop (at + 1) order) (slice_set blocks p no_block) in
     let first : piece ++ rest ≡ code_in (drop at order) blocks =
     ap (λ m. block_code p m (block_at blocks p) ++ rest) (sym next) ∙ ap (λ xs. code_in xs blocks) (sym one) in
-    ap (λ xs. xs ++ code_in (drop (at + 1) order) blocks') t ∙ (ap (λ bs. (told ++ piece) ++ code_in (drop (at + 1) order) bs) b ∙ (append_assoc told piece rest ∙ ap (λ xs. told ++ xs) first))
+    ap (λ xs. xs ++ code_in (drop (at + 1) order) blocks') t ∙ (ap (λ bs. (told ++ piece) ++ code_in (drop (at + 1) order) bs) b
+    ∙ (append_assoc told piece rest ∙ ap (λ xs. told ++ xs) first))

@@ -1,5 +1,6 @@
 -- Loops of blocks that statements are cut into are entered at their heads alone.
-use Rattle.std.proofs.Common.{◌≡◌, ◌<◌, ℕ, suc, ◌+◌, ◌-◌, inl, inr, Bool, true, false, List, [], ◌∷◌, ◌++◌, length, refl, ap, sym, ◌∙◌, subst, arith, length-append}
+use Rattle.std.proofs.Common.{◌≡◌, ◌<◌, ℕ, suc, ◌+◌, ◌-◌, inl, inr, Bool, true, false, List, [], ◌∷◌, ◌++◌, length, refl, ap, sym, ◌∙◌, subst, arith}
+use Rattle.std.proofs.Common.{length-append}
 use Rattle.std.specs.Prelude.{slice_get, slice_index, if◌then◌else◌}
 use Rattle.std.proofs.lemmas.Bool.{cases_lt}
 use Rattle.std.proofs.lemmas.Option.{get_or_from_slice_get}
@@ -10,7 +11,8 @@ use Rattle.tg_trace.specs.Block.{Jump, Branch, Fault, Return}
 use Rattle.tg_trace.specs.Heads.{LeadsTo}
 use Rattle.tg_trace.specs.Cutting.{Cut, open_at, leads, next_mark, seal, branch, exit_of, leaves, cut, cut_all}
 use Rattle.tg_trace.proofs.BlocksKept.{get_front, get_seam, side, turn}
-use Rattle.tg_trace.proofs.TracesLoops.{same_index, UsableIn, CutState, Step, step_usable, step_on, stays, opens, fronts, Sealed, seals, begun, begun_starts, FromOutside, begun_state, from_outside, turns}
+use Rattle.tg_trace.proofs.TracesLoops.{same_index, UsableIn, CutState, Step, step_usable, step_on, stays, opens, fronts, Sealed, seals, begun}
+use Rattle.tg_trace.proofs.TracesLoops.{begun_starts, FromOutside, begun_state, from_outside, turns}
 
 -- the marks behind the loops around
 abbrev Exits : (L P : ℕ) (Out : ℕ → Type 0) (starts : List ℕ) (c : Cut) (exits : List ℕ) → Type 0

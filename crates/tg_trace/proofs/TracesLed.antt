@@ -1,12 +1,14 @@
 -- Behind each block comes one that it leads to and that isn't laid, if there is one: a jump that is left goes back.
-use Rattle.std.proofs.Common.{◌≡◌, ◌≤◌, ◌<◌, ℕ, zero, suc, Bool, true, false, List, [], ◌∷◌, ◌++◌, length, refl, ap, sym, ◌∙◌, subst, arith, append_assoc, append-nil, eq-eqb}
+use Rattle.std.proofs.Common.{◌≡◌, ◌≤◌, ◌<◌, ℕ, zero, suc, Bool, true, false, List, [], ◌∷◌, ◌++◌, length, refl, ap, sym, ◌∙◌, subst, arith}
+use Rattle.std.proofs.Common.{append_assoc, append-nil, eq-eqb}
 use Rattle.std.specs.Prelude.{Option, Some, None, slice_get, slice_set}
 use Rattle.std.specs.List.{Contains}
 use Rattle.tg_tree.specs.Tree as tree
 use Rattle.tg_tree.specs.Tree.{Stms, no_stms, stm, Linear, Mark}
 use Rattle.tg_tree.specs.declared.operators.Rel.{Rel}
 use Rattle.tg_trace.specs.Block.{End, Jump, Branch, Fault, Return, Block}
-use Rattle.tg_trace.specs.Laying.{Order, put, unless, unless_laid, onward, block_at, follow, traces, is_next, jump_unless, branch_by, end_code, body_code, traced}
+use Rattle.tg_trace.specs.Laying.{Order, put, unless, unless_laid, onward, block_at, follow, traces, is_next, jump_unless, branch_by, end_code}
+use Rattle.tg_trace.specs.Laying.{body_code, traced}
 use Rattle.tg_trace.specs.Shapes.{EndsBelow, LeadsBelow, AreWhole}
 use Rattle.tg_trace.specs.Heads.{JumpsGoBack}
 use Rattle.tg_trace.proofs.Places.{IsOrder, IsFree, put_keeps, onward_free, free_or, traces_keep, None_past}

@@ -7,7 +7,8 @@ use Rattle.tg_tree.specs.Tree as tree
 use Rattle.tg_tree.specs.Tree.{Cond, Compare, Not, Both, Either, Ts, Move, Store, StoreByte, Do, If, Loop, Break, Seq, Stms, no_stms, stm}
 use Rattle.tg_tree.specs.Shapes.{BreaksWithin, BreaksWithinStms, AreClosed}
 use Rattle.tg_trace.specs.Block.{End, Jump, Branch, Fault, Return, Block}
-use Rattle.tg_trace.specs.Cutting.{Cut, open_at, draw, stand, lay, leads, seal_by, next_mark, seal, branch, head, leaves, cut, cut_all, start, entered_by, entered, placed_end, placed, placed_all, blocks_of}
+use Rattle.tg_trace.specs.Cutting.{Cut, open_at, draw, stand, lay, leads, seal_by, next_mark, seal, branch, head, leaves, cut, cut_all, start}
+use Rattle.tg_trace.specs.Cutting.{entered_by, entered, placed_end, placed, placed_all, blocks_of}
 use Rattle.tg_trace.specs.Shapes.{EndsBelow, LeadsBelow, AreWhole}
 
 -- No block that is laid is lost.
@@ -90,7 +91,8 @@ mutual
   all_grow exits no_stms c = omega arith
   all_grow exits (stm s ss) c =
       let behind = cut_all exits ss c in
-      onto c (if leaves s then c else behind) (cut_all exits (stm s ss) c) (either_grows (leaves s) c behind (all_grow exits ss c)) (cut_grows exits s (if leaves s then c else behind))
+      onto c (if leaves s then c else behind) (cut_all exits (stm s ss) c) (either_grows (leaves s) c behind (all_grow exits ss c))
+      (cut_grows exits s (if leaves s then c else behind))
 
 -- What is open leads to a block that is laid.
 abbrev IsGrounded : Cut → Type 0

@@ -14,7 +14,9 @@ use Rattle.tg_syntax.specs.declared.tokens.Ident.{Ident}
 use Rattle.tg_syntax.specs.declared.trees.Param.{Param}
 use Rattle.tg_syntax.specs.declared.trees.Op.{Op}
 use Rattle.tg_syntax.specs.declared.trees.Op.TheVariants as op
-use Rattle.tg_syntax.specs.Tree.{Exp, Nil, Break, Int, Text, Read, Call, Neg, Binary, Make, Fill, Assign, If, When, While, For, Let, Seq, LValue, Simple, Field, Index, Exps, no_exps, exp, Inits, no_inits, init, Decs, no_decs, variable, functions, FunDecs, no_functions, function}
+use Rattle.tg_syntax.specs.Tree.{Exp, Nil, Break, Int, Text, Read, Call, Neg, Binary, Make, Fill, Assign, If, When, While, For, Let, Seq, LValue}
+use Rattle.tg_syntax.specs.Tree.{Simple, Field, Index, Exps, no_exps, exp, Inits, no_inits, init, Decs, no_decs, variable, functions, FunDecs}
+use Rattle.tg_syntax.specs.Tree.{no_functions, function}
 use Rattle.tg_meaning.specs.declared.standards.Standard.TheVariants as standard
 use Rattle.tg_types.specs.declared.notes.Means.{Means}
 use Rattle.tg_types.specs.declared.notes.Means.TheVariants as means

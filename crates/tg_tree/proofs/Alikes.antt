@@ -19,11 +19,13 @@ pub back_is : (c d : Back) → ((v : ℕ) (w : World) (n : ℕ) → c v w n ≡ 
 back_is c d h = λ i v w n. h v w n i
 
 -- what is around a part, with other ways out that are equal
-pub around_is : (e : Around) (out : Out) (back : Back) → ((k : ℕ) (w : World) (t : Temps) (n : ℕ) → e.out k w t n ≡ out k w t n) → ((v : ℕ) (w : World) (n : ℕ) → e.back v w n ≡ back v w n) → e ≡ record e { out = out; back = back }
+pub around_is : (e : Around) (out : Out) (back : Back) → ((k : ℕ) (w : World) (t : Temps) (n : ℕ) → e.out k w t n ≡ out k w t n) →
+    ((v : ℕ) (w : World) (n : ℕ) → e.back v w n ≡ back v w n) → e ≡ record e { out = out; back = back }
 around_is e out back h k = λ i. record { activation = e.activation; out = λ j w t n. h j w t n i; back = λ v w n. k v w n i }
 
 -- statements that are put together run one behind the other
 module _ (stage : Stage) (room : ℕ) (literals : List Literal) (enter : Enter) (later : Point → Run Ran) where
-  pub runs_in_turn : (ss ts : Stms) → run_all stage room literals enter later (join_stms ss ts) ≡ (run_all stage room literals enter later ss >> run_all stage room literals enter later ts)
+  pub runs_in_turn : (ss ts : Stms) → run_all stage room literals enter later (join_stms ss ts) ≡
+      (run_all stage room literals enter later ss >> run_all stage room literals enter later ts)
   runs_in_turn no_stms ts = refl
   runs_in_turn (stm s ss) ts = ap (λ m. run stage room literals enter later s >> m) (runs_in_turn ss ts)

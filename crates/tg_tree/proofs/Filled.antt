@@ -4,11 +4,13 @@ use Rattle.std.specs.Prelude.{◌≢◌, ◌==◌, nat_lt, if◌then◌else◌}
 use Rattle.tg_base.specs.State.{heap_base}
 use Rattle.tg_runs.specs.Runs.{Run}
 use Rattle.tg_runs.specs.Ran.{Ran, Stop, WantsFuel, Wrong, writes, works}
-use Rattle.tg_tree.specs.Memory.{Memory, Cell, Closed, Unset, Has, Kept, Spot, in_statics, in_heap, elsewhere, spot, cell_word, cell_byte, word_in, byte_in, load, load_byte, put_open, put_byte, with_byte, store_in, store_byte_in, store, store_byte}
+use Rattle.tg_tree.specs.Memory.{Memory, Cell, Closed, Unset, Has, Kept, Spot, in_statics, in_heap, elsewhere, spot, cell_word, cell_byte, word_in}
+use Rattle.tg_tree.specs.Memory.{byte_in, load, load_byte, put_open, put_byte, with_byte, store_in, store_byte_in, store, store_byte}
 use Rattle.tg_tree.specs.Actions.{World, Back, over, with_word, with_memory, with_text, before, text_from, take_heap, read_byte}
 use Rattle.tg_tree.specs.Running.{with_fuel}
 use Rattle.tg_tree.specs.Holding as holding
-use Rattle.tg_tree.specs.Holding.{HoldsAtLeast, unset, set, CellHoldsAtLeast, not_stored, stored_to, stored, kept, TempsHoldAtLeast, WorldHoldsAtLeast, in_stack}
+use Rattle.tg_tree.specs.Holding.{HoldsAtLeast, unset, set, CellHoldsAtLeast, not_stored, stored_to, stored, kept, TempsHoldAtLeast}
+use Rattle.tg_tree.specs.Holding.{WorldHoldsAtLeast, in_stack}
 use Rattle.tg_tree.proofs.Relating.{Related, Keeps, AlikeBack, AlikeWorld, with_put}
 
 -- as far as so much fuel
@@ -22,11 +24,13 @@ world statics heap input cells = record { memory = record { statics = statics; h
 goes_wrong : (n : ℕ) (w : World) (d : Run Ran) → Filled n w (over Wrong w) d
 goes_wrong n w d i le ne = absurd (ne refl)
 
-filled_word : (n : ℕ) (o o' : Option ℕ) (w x : World) (p q : ℕ → Run Ran) → HoldsAtLeast o o' → ((v : ℕ) → Filled n w (p v) (q v)) → Filled n w (with_word o w p) (with_word o' x q)
+filled_word : (n : ℕ) (o o' : Option ℕ) (w x : World) (p q : ℕ → Run Ran) → HoldsAtLeast o o' → ((v : ℕ) → Filled n w (p v) (q v)) →
+    Filled n w (with_word o w p) (with_word o' x q)
 filled_word n o o' w x p q (unset u) h = goes_wrong n w (with_word u x q)
 filled_word n o o' w x p q (set v) h = h v
 
-filled_either : (n : ℕ) (b : Bool) (w : World) (p q p' q' : Run Ran) → Filled n w p p' → Filled n w q q' → Filled n w (if b then p else q) (if b then p' else q')
+filled_either : (n : ℕ) (b : Bool) (w : World) (p q p' q' : Run Ran) → Filled n w p p' → Filled n w q q' →
+    Filled n w (if b then p else q) (if b then p' else q')
 filled_either n true w p q p' q' h k = h
 filled_either n false w p q p' q' h k = k
 
@@ -86,7 +90,8 @@ module _ (statics heap input : List ℕ) (cells cells' : ℕ → Cell) (more : (
   is_put a c d h = in_stack statics heap input _ _ (λ b. put_cell (b == a) c d (cells b) (cells' b) h (more b))
 
   module _ (n : ℕ) (p q : World → Run Ran) (h : AlikeWorld Filled WorldHoldsAtLeast TempsHoldAtLeast n p q) where
-    opened : (a v : ℕ) (c c' : Cell) → CellHoldsAtLeast c c' → Filled n first (with_memory (put_open c a v first.memory) first p) (with_memory (put_open c' a v second.memory) second q)
+    opened : (a v : ℕ) (c c' : Cell) → CellHoldsAtLeast c c' → Filled n first (with_memory (put_open c a v first.memory) first p)
+        (with_memory (put_open c' a v second.memory) second q)
     opened a v c c' (holding.elsewhere d) = goes_wrong n first _
     opened a v c c' not_stored = h _ _ (is_put a (Has v) (Has v) (stored v))
     opened a v c c' (stored_to u) = h _ _ (is_put a (Has v) (Has v) (stored v))
@@ -98,21 +103,24 @@ module _ (statics heap input : List ℕ) (cells cells' : ℕ → Cell) (more : (
     store_spot a v (in_heap i) = h _ _ (in_stack statics _ input cells cells' more)
     store_spot a v elsewhere = opened a v (cells a) (cells' a) (more a)
 
-    store_if : (b : Bool) (o o' : Option Memory) → Filled n first (with_memory o first p) (with_memory o' second q) → Filled n first (with_memory (if b then o else None) first p) (with_memory (if b then o' else None) second q)
+    store_if : (b : Bool) (o o' : Option Memory) → Filled n first (with_memory o first p) (with_memory o' second q) →
+        Filled n first (with_memory (if b then o else None) first p) (with_memory (if b then o' else None) second q)
     store_if true o o' k = k
     store_if false o o' k = goes_wrong n first _
 
     filled_store : (a v : ℕ) → Filled n first (with_memory (store first.memory a v) first p) (with_memory (store second.memory a v) second q)
     filled_store a v = store_if (a % 4 == 0) _ _ (store_spot a v (spot first.memory a))
 
-    byte_opened : (a k v : ℕ) (c c' : Cell) → CellHoldsAtLeast c c' → Filled n first (with_memory (put_byte c a k v first.memory) first p) (with_memory (put_byte c' a k v second.memory) second q)
+    byte_opened : (a k v : ℕ) (c c' : Cell) → CellHoldsAtLeast c c' →
+        Filled n first (with_memory (put_byte c a k v first.memory) first p) (with_memory (put_byte c' a k v second.memory) second q)
     byte_opened a k v c c' (holding.elsewhere d) = goes_wrong n first _
     byte_opened a k v c c' not_stored = goes_wrong n first _
     byte_opened a k v c c' (stored_to u) = goes_wrong n first _
     byte_opened a k v c c' (stored u) = h _ _ (is_put a (Has (with_byte u k v)) (Has (with_byte u k v)) (stored (with_byte u k v)))
     byte_opened a k v c c' (kept r) = goes_wrong n first _
 
-    byte_store_spot : (a v : ℕ) (s : Spot) → Filled n first (with_memory (store_byte_in first.memory a s v) first p) (with_memory (store_byte_in second.memory a s v) second q)
+    byte_store_spot : (a v : ℕ) (s : Spot) → Filled n first (with_memory (store_byte_in first.memory a s v) first p)
+        (with_memory (store_byte_in second.memory a s v) second q)
     byte_store_spot a v (in_statics i) = h _ _ (in_stack _ heap input cells cells' more)
     byte_store_spot a v (in_heap i) = h _ _ (in_stack statics _ input cells cells' more)
     byte_store_spot a v elsewhere = byte_opened _ (a % 4) v _ _ (more _)
@@ -136,7 +144,9 @@ module _ (statics heap input : List ℕ) (cells cells' : ℕ → Cell) (more : (
   before_too b o o' (no_text p) = no_text (before b p)
   before_too b o o' (text bytes) = text (b ∷ bytes)
 
-  ended_too : (z : Bool) (b : ℕ) (o o' : Option (List ℕ)) → TextToo o o' → TextToo (elim z as (λ _. Option (List ℕ)) [ true ↦ Some [] | false ↦ before b o ]) (elim z as (λ _. Option (List ℕ)) [ true ↦ Some [] | false ↦ before b o' ])
+  ended_too : (z : Bool) (b : ℕ) (o o' : Option (List ℕ)) → TextToo o o' →
+      TextToo (elim z as (λ _. Option (List ℕ)) [ true ↦ Some [] | false ↦ before b o ])
+      (elim z as (λ _. Option (List ℕ)) [ true ↦ Some [] | false ↦ before b o' ])
   ended_too true b o o' h = text []
   ended_too false b o o' h = before_too b o o' h
 
@@ -146,9 +156,11 @@ module _ (statics heap input : List ℕ) (cells cells' : ℕ → Cell) (more : (
 
   text_too : (k a : ℕ) → TextToo (text_from k first.memory a) (text_from k second.memory a)
   text_too zero a = no_text None
-  text_too (suc k) a = step_too (load_byte first.memory a) (load_byte second.memory a) (text_from k first.memory (a + 1)) (text_from k second.memory (a + 1)) (byte_loaded a) (text_too k (a + 1))
+  text_too (suc k) a = step_too (load_byte first.memory a) (load_byte second.memory a) (text_from k first.memory (a + 1))
+      (text_from k second.memory (a + 1)) (byte_loaded a) (text_too k (a + 1))
 
-  write_too : (n : ℕ) (o o' : Option (List ℕ)) (c d : Run Ran) → TextToo o o' → Filled n first c d → Filled n first (with_text o first c) (with_text o' second d)
+  write_too : (n : ℕ) (o o' : Option (List ℕ)) (c d : Run Ran) → TextToo o o' → Filled n first c d →
+      Filled n first (with_text o first c) (with_text o' second d)
   write_too n o o' c d (no_text p) h = goes_wrong n first _
   write_too n o o' c d (text bytes) h = λ i le ne. ap (writes bytes) (h i le ne)
 
@@ -162,31 +174,43 @@ turns n w x c d e h (suc i) le ne = h i (omega arith) i (omega arith) ne
 filled_fuel : (n : ℕ) (w x : World) (c d : Run Ran) → WorldHoldsAtLeast w x → ((m : ℕ) → m < n → Filled m w c d) → Filled n w (with_fuel w c) (with_fuel x d)
 filled_fuel n w x c d (in_stack statics heap input p q m) h = turns n (world statics heap input p) (world statics heap input q) c d refl h
 
-filled_load : (n a : ℕ) (w x : World) (p q : ℕ → Run Ran) → WorldHoldsAtLeast w x → ((v : ℕ) → Filled n w (p v) (q v)) → Filled n w (with_word (load w.memory a) w p) (with_word (load x.memory a) x q)
+filled_load : (n a : ℕ) (w x : World) (p q : ℕ → Run Ran) → WorldHoldsAtLeast w x → ((v : ℕ) → Filled n w (p v) (q v)) →
+    Filled n w (with_word (load w.memory a) w p) (with_word (load x.memory a) x q)
 filled_load n a w x p q (in_stack statics heap input c c' m) h = filled_word n _ _ _ _ p q (loaded statics heap input c c' m a) h
 
-filled_load_byte : (n a : ℕ) (w x : World) (p q : ℕ → Run Ran) → WorldHoldsAtLeast w x → ((v : ℕ) → Filled n w (p v) (q v)) → Filled n w (with_word (load_byte w.memory a) w p) (with_word (load_byte x.memory a) x q)
+filled_load_byte : (n a : ℕ) (w x : World) (p q : ℕ → Run Ran) → WorldHoldsAtLeast w x → ((v : ℕ) → Filled n w (p v) (q v)) →
+    Filled n w (with_word (load_byte w.memory a) w p) (with_word (load_byte x.memory a) x q)
 filled_load_byte n a w x p q (in_stack statics heap input c c' m) h = filled_word n _ _ _ _ p q (byte_loaded statics heap input c c' m a) h
 
-filled_stores : (n a v : ℕ) (w x : World) (p q : World → Run Ran) → WorldHoldsAtLeast w x → AlikeWorld Filled WorldHoldsAtLeast TempsHoldAtLeast n p q → Filled n w (with_memory (store w.memory a v) w p) (with_memory (store x.memory a v) x q)
+filled_stores : (n a v : ℕ) (w x : World) (p q : World → Run Ran) → WorldHoldsAtLeast w x →
+    AlikeWorld Filled WorldHoldsAtLeast TempsHoldAtLeast n p q → Filled n w (with_memory (store w.memory a v) w p) (with_memory (store x.memory a v) x q)
 filled_stores n a v w x p q (in_stack statics heap input c c' m) h = filled_store statics heap input c c' m n p q h a v
 
-filled_store_bytes : (n a v : ℕ) (w x : World) (p q : World → Run Ran) → WorldHoldsAtLeast w x → AlikeWorld Filled WorldHoldsAtLeast TempsHoldAtLeast n p q → Filled n w (with_memory (store_byte w.memory a v) w p) (with_memory (store_byte x.memory a v) x q)
+filled_store_bytes : (n a v : ℕ) (w x : World) (p q : World → Run Ran) → WorldHoldsAtLeast w x →
+    AlikeWorld Filled WorldHoldsAtLeast TempsHoldAtLeast n p q → Filled n w (with_memory (store_byte w.memory a v) w p)
+    (with_memory (store_byte x.memory a v) x q)
 filled_store_bytes n a v w x p q (in_stack statics heap input c c' m) h = filled_store_byte statics heap input c c' m n p q h a v
 
-filled_text : (n k a : ℕ) (w x : World) (c d : Run Ran) → WorldHoldsAtLeast w x → Filled n w c d → Filled n w (with_text (text_from k w.memory a) w c) (with_text (text_from k x.memory a) x d)
+filled_text : (n k a : ℕ) (w x : World) (c d : Run Ran) → WorldHoldsAtLeast w x → Filled n w c d →
+    Filled n w (with_text (text_from k w.memory a) w c) (with_text (text_from k x.memory a) x d)
 filled_text n k a w x c d (in_stack statics heap input p q m) h =
-    write_too statics heap input p q m n (text_from k (first statics heap input p q m).memory a) (text_from k (second statics heap input p q m).memory a) c d (text_too statics heap input p q m k a) h
+    write_too statics heap input p q m n (text_from k (first statics heap input p q m).memory a)
+    (text_from k (second statics heap input p q m).memory a) c d (text_too statics heap input p q m k a) h
 
-filled_heap : (n room k : ℕ) (w x : World) (p q : Back) → WorldHoldsAtLeast w x → AlikeBack Filled WorldHoldsAtLeast TempsHoldAtLeast n p q → Filled n w (take_heap room k w p) (take_heap room k x q)
+filled_heap : (n room k : ℕ) (w x : World) (p q : Back) → WorldHoldsAtLeast w x → AlikeBack Filled WorldHoldsAtLeast TempsHoldAtLeast n p q →
+    Filled n w (take_heap room k w p) (take_heap room k x q)
 filled_heap n room k w x p q (in_stack statics heap input c c' m) h =
-    filled_either n (nat_lt room (length heap + k)) (world statics heap input c) _ _ _ _ (λ i le ne. refl) (h (heap_base + length heap) _ _ (in_stack statics _ input c c' m))
+    filled_either n (nat_lt room (length heap + k)) (world statics heap input c) _ _ _ _ (λ i le ne. refl)
+    (h (heap_base + length heap) _ _ (in_stack statics _ input c c' m))
 
-filled_input : (n : ℕ) (statics heap input : List ℕ) (c c' : ℕ → Cell) → ((a : ℕ) → CellHoldsAtLeast (c a) (c' a)) → (p q : Back) → AlikeBack Filled WorldHoldsAtLeast TempsHoldAtLeast n p q → Filled n (world statics heap input c) (read_byte input (world statics heap input c) p) (read_byte input (world statics heap input c') q)
+filled_input : (n : ℕ) (statics heap input : List ℕ) (c c' : ℕ → Cell) → ((a : ℕ) → CellHoldsAtLeast (c a) (c' a)) →
+    (p q : Back) → AlikeBack Filled WorldHoldsAtLeast TempsHoldAtLeast n p q → Filled n (world statics heap input c)
+    (read_byte input (world statics heap input c) p) (read_byte input (world statics heap input c') q)
 filled_input n statics heap [] c c' m p q h = h 4294967295 _ _ (in_stack statics heap [] c c' m)
 filled_input n statics heap (b ∷ rest) c c' m p q h = h b _ _ (in_stack statics heap rest c c' m)
 
-filled_reads : (n : ℕ) (w x : World) (p q : Back) → WorldHoldsAtLeast w x → AlikeBack Filled WorldHoldsAtLeast TempsHoldAtLeast n p q → Filled n w (read_byte w.input w p) (read_byte x.input x q)
+filled_reads : (n : ℕ) (w x : World) (p q : Back) → WorldHoldsAtLeast w x → AlikeBack Filled WorldHoldsAtLeast TempsHoldAtLeast n p q →
+    Filled n w (read_byte w.input w p) (read_byte x.input x q)
 filled_reads n w x p q (in_stack statics heap input c c' m) h = filled_input n statics heap input c c' m p q h
 
 filled_puts : (a : ℕ) (c : Cell) (w x : World) → WorldHoldsAtLeast w x → WorldHoldsAtLeast (with_put a c w) (with_put a c x)

@@ -24,7 +24,8 @@ word_runs (Some v) w go n = refl
 word_runs None w go n = refl
 
 -- what comes after a value
-onward_runs : (g : Given) (f : ℕ → Given) (w : World) (next go : ℕ → Run Ran) (k l n : ℕ) → ((v : ℕ) → next v n ≡ works l (with_given (f v) w go n)) → works k (with_given g w next n) ≡ works (k + after_word g l) (with_given (onward g f) w go n)
+onward_runs : (g : Given) (f : ℕ → Given) (w : World) (next go : ℕ → Run Ran) (k l n : ℕ) →
+    ((v : ℕ) → next v n ≡ works l (with_given (f v) w go n)) → works k (with_given g w next n) ≡ works (k + after_word g l) (with_given (onward g f) w go n)
 onward_runs (word v) f w next go k l n h = ap (works k) (h v) ∙ works_add k l (with_given (f v) w go n)
 onward_runs (stops_by s) f w next go k l n h = let e : k ≡ k + 0 = omega arith in ap (λ j. works j (stops w.input s)) e
 
@@ -32,13 +33,16 @@ no_more : (g : Given) (k : ℕ) → k + after_word g 0 ≡ k
 no_more (word v) k = omega arith
 no_more (stops_by s) k = omega arith
 
-last_runs : (g : Given) (f : ℕ → Given) (w : World) (next go : ℕ → Run Ran) (k n : ℕ) → ((v : ℕ) → next v n ≡ with_given (f v) w go n) → works k (with_given g w next n) ≡ works k (with_given (onward g f) w go n)
+last_runs : (g : Given) (f : ℕ → Given) (w : World) (next go : ℕ → Run Ran) (k n : ℕ) → ((v : ℕ) → next v n ≡ with_given (f v) w go n) →
+    works k (with_given g w next n) ≡ works k (with_given (onward g f) w go n)
 last_runs g f w next go k n h =
     onward_runs g f w next go k 0 n (λ v. h v ∙ sym (works_none (with_given (f v) w go n))) ∙
     ap (λ j. works j (with_given (onward g f) w go n)) (no_more g k)
 
 module _ (g : Stage) (room : ℕ) (ls : List Literal) (enter : Enter) (later : Point → Run Ran) where
-  pub flat_runs : (x : Tx) (z : Around) (go : Go ℕ) (w : World) (t : Temps) (n : ℕ) → IsFlat x → value g room ls enter later x z go w t n ≡ charged (flat_spent g ls z.activation.base w.memory t x) (with_given (flat_value ls z.activation.base w.memory t x) w (λ v. go v w t)) n
+  pub flat_runs : (x : Tx) (z : Around) (go : Go ℕ) (w : World) (t : Temps) (n : ℕ) → IsFlat x →
+      value g room ls enter later x z go w t n ≡ charged (flat_spent g ls z.activation.base w.memory t x)
+      (with_given (flat_value ls z.activation.base w.memory t x) w (λ v. go v w t)) n
   flat_runs (Const v) z go w t n f = refl
   flat_runs (Address label) z go w t n f =
       ap (works (expression_units g (Address label))) (word_runs (literal_address ls label) w (λ v. go v w t) n)
@@ -53,21 +57,24 @@ module _ (g : Stage) (room : ℕ) (ls : List Literal) (enter : Enter) (later : P
       ap (works e)
       (flat_runs x z (λ u w1 t1. value g room ls enter later y z (λ v w2 t2. with_given (operate op u v) w2 (λ r. go r w2 t2)) w1 t1) w t n f.0 ∙
       onward_runs vx (λ u. onward vy (λ v. operate op u v)) w _ (λ v. go v w t) sx sy n
-      (λ u. flat_runs y z (λ v w2 t2. with_given (operate op u v) w2 (λ r. go r w2 t2)) w t n f.1 ∙ last_runs vy (λ v. operate op u v) w _ (λ v. go v w t) sy n (λ v. refl))) ∙
+      (λ u. flat_runs y z (λ v w2 t2. with_given (operate op u v) w2 (λ r. go r w2 t2)) w t n f.1
+      ∙ last_runs vy (λ v. operate op u v) w _ (λ v. go v w t) sy n (λ v. refl))) ∙
       works_add e (sx + after_word vx sy) _
   flat_runs (Load x) z go w t n f =
       let e = expression_units g (Load x) in
       let sx = flat_spent g ls z.activation.base w.memory t x in
       ap (works e)
       (flat_runs x z (λ u w1 t1. with_word (load w1.memory u) w1 (λ v. go v w1 t1)) w t n f ∙
-      last_runs (flat_value ls z.activation.base w.memory t x) (λ u. or_wrong (load w.memory u)) w _ (λ v. go v w t) sx n (λ u. word_runs (load w.memory u) w (λ v. go v w t) n)) ∙
+      last_runs (flat_value ls z.activation.base w.memory t x) (λ u. or_wrong (load w.memory u)) w _ (λ v. go v w t) sx
+      n (λ u. word_runs (load w.memory u) w (λ v. go v w t) n)) ∙
       works_add e sx _
   flat_runs (LoadByte x) z go w t n f =
       let e = expression_units g (LoadByte x) in
       let sx = flat_spent g ls z.activation.base w.memory t x in
       ap (works e)
       (flat_runs x z (λ u w1 t1. with_word (load_byte w1.memory u) w1 (λ v. go v w1 t1)) w t n f ∙
-      last_runs (flat_value ls z.activation.base w.memory t x) (λ u. or_wrong (load_byte w.memory u)) w _ (λ v. go v w t) sx n (λ u. word_runs (load_byte w.memory u) w (λ v. go v w t) n)) ∙
+      last_runs (flat_value ls z.activation.base w.memory t x) (λ u. or_wrong (load_byte w.memory u)) w _ (λ v. go v w t)
+      sx n (λ u. word_runs (load_byte w.memory u) w (λ v. go v w t) n)) ∙
       works_add e sx _
   flat_runs (Call label xs) z go w t n f = absurd f
   flat_runs (Service k x) z go w t n f = absurd f

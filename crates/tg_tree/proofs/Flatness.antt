@@ -1,7 +1,8 @@
 -- The tests of flatness tell what is flat.
 use Rattle.std.proofs.Common.{◌≡◌, Bool, true, false, refl}
 use Rattle.std.specs.Prelude.{◌&&◌}
-use Rattle.tg_tree.specs.Tree.{Tx, Const, Address, Temp, FrameAddress, Binary, Load, LoadByte, Call, Service, After, Txs, no_txs, tx, Cond, Compare, Not, Both, Either}
+use Rattle.tg_tree.specs.Tree.{Tx, Const, Address, Temp, FrameAddress, Binary, Load, LoadByte, Call, Service, After, Txs, no_txs, tx, Cond, Compare}
+use Rattle.tg_tree.specs.Tree.{Not, Both, Either}
 use Rattle.tg_tree.specs.Shapes.{IsFlat, AreFlat, IsFlatCond, is_flat, are_flat, is_flat_condition}
 
 and_true : (a b : Bool) → a ≡ true → b ≡ true → (a && b) ≡ true

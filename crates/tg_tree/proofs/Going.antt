@@ -1,5 +1,6 @@
 -- Runs of one and the same world: as far as so much fuel, and on with more.
-use Rattle.std.proofs.Common.{◌≡◌, ℕ, zero, suc, ◌+◌, ◌^◌, ◌<◌, ◌≤◌, List, [], ◌∷◌, ◌++◌, length, Bool, true, false, Option, Some, None, refl, sym, ap, ◌∙◌, arith, append_assoc}
+use Rattle.std.proofs.Common.{◌≡◌, ℕ, zero, suc, ◌+◌, ◌^◌, ◌<◌, ◌≤◌, List, [], ◌∷◌, ◌++◌, length, Bool, true, false, Option, Some, None, refl, sym}
+use Rattle.std.proofs.Common.{ap, ◌∙◌, arith, append_assoc}
 use Rattle.std.specs.Prelude.{nat_lt, if◌then◌else◌}
 use Rattle.tg_base.specs.declared.ends.RunEnd.TheVariants.{HeapFull}
 use Rattle.tg_base.specs.State.{heap_base}
@@ -40,42 +41,51 @@ module _ (R : Related) (k : KeepsRuns R) where
   one_word n None w p q h = k.stop n Wrong w
   one_word n (Some v) w p q h = h v
 
-  one_temp : (n i : ℕ) (w x : World) (t u : Temps) (p q : ℕ → Run Ran) → OneWorld w x → OneTemps t u → ((v : ℕ) → R n w (p v) (q v)) → R n w (with_word (t i) w p) (with_word (u i) x q)
+  one_temp : (n i : ℕ) (w x : World) (t u : Temps) (p q : ℕ → Run Ran) → OneWorld w x → OneTemps t u →
+      ((v : ℕ) → R n w (p v) (q v)) → R n w (with_word (t i) w p) (with_word (u i) x q)
   one_temp n i w x t u p q (one v) (one s) h = one_word n (s i) v p q h
 
-  one_load : (n a : ℕ) (w x : World) (p q : ℕ → Run Ran) → OneWorld w x → ((v : ℕ) → R n w (p v) (q v)) → R n w (with_word (load w.memory a) w p) (with_word (load x.memory a) x q)
+  one_load : (n a : ℕ) (w x : World) (p q : ℕ → Run Ran) → OneWorld w x → ((v : ℕ) → R n w (p v) (q v)) →
+      R n w (with_word (load w.memory a) w p) (with_word (load x.memory a) x q)
   one_load n a w x p q (one v) h = one_word n (load v.memory a) v p q h
 
-  one_load_byte : (n a : ℕ) (w x : World) (p q : ℕ → Run Ran) → OneWorld w x → ((v : ℕ) → R n w (p v) (q v)) → R n w (with_word (load_byte w.memory a) w p) (with_word (load_byte x.memory a) x q)
+  one_load_byte : (n a : ℕ) (w x : World) (p q : ℕ → Run Ran) → OneWorld w x → ((v : ℕ) → R n w (p v) (q v)) →
+      R n w (with_word (load_byte w.memory a) w p) (with_word (load_byte x.memory a) x q)
   one_load_byte n a w x p q (one v) h = one_word n (load_byte v.memory a) v p q h
 
-  one_memory : (n : ℕ) (o : Option Memory) (w : World) (p q : World → Run Ran) → ((y z : World) → OneWorld y z → R n y (p y) (q z)) → R n w (with_memory o w p) (with_memory o w q)
+  one_memory : (n : ℕ) (o : Option Memory) (w : World) (p q : World → Run Ran) → ((y z : World) → OneWorld y z → R n y (p y) (q z)) →
+      R n w (with_memory o w p) (with_memory o w q)
   one_memory n None w p q h = k.stop n Wrong w
   one_memory n (Some m) w p q h = k.later n w (record w { memory = m }) _ _ ([], refl) (h _ _ (one (record w { memory = m })))
 
-  one_store : (n a b : ℕ) (w x : World) (p q : World → Run Ran) → OneWorld w x → ((y z : World) → OneWorld y z → R n y (p y) (q z)) → R n w (with_memory (store w.memory a b) w p) (with_memory (store x.memory a b) x q)
+  one_store : (n a b : ℕ) (w x : World) (p q : World → Run Ran) → OneWorld w x → ((y z : World) → OneWorld y z → R n y (p y) (q z)) →
+      R n w (with_memory (store w.memory a b) w p) (with_memory (store x.memory a b) x q)
   one_store n a b w x p q (one v) h = one_memory n (store v.memory a b) v p q h
 
-  one_store_byte : (n a b : ℕ) (w x : World) (p q : World → Run Ran) → OneWorld w x → ((y z : World) → OneWorld y z → R n y (p y) (q z)) → R n w (with_memory (store_byte w.memory a b) w p) (with_memory (store_byte x.memory a b) x q)
+  one_store_byte : (n a b : ℕ) (w x : World) (p q : World → Run Ran) → OneWorld w x → ((y z : World) → OneWorld y z → R n y (p y) (q z)) →
+      R n w (with_memory (store_byte w.memory a b) w p) (with_memory (store_byte x.memory a b) x q)
   one_store_byte n a b w x p q (one v) h = one_memory n (store_byte v.memory a b) v p q h
 
   texts : (n : ℕ) (o : Option (List ℕ)) (w : World) (c d : Run Ran) → R n w c d → R n w (with_text o w c) (with_text o w d)
   texts n None w c d h = k.stop n Wrong w
   texts n (Some bytes) w c d h = k.write n bytes w c d h
 
-  one_text : (n m a : ℕ) (w x : World) (c d : Run Ran) → OneWorld w x → R n w c d → R n w (with_text (text_from m w.memory a) w c) (with_text (text_from m x.memory a) x d)
+  one_text : (n m a : ℕ) (w x : World) (c d : Run Ran) → OneWorld w x → R n w c d →
+      R n w (with_text (text_from m w.memory a) w c) (with_text (text_from m x.memory a) x d)
   one_text n m a w x c d (one v) h = texts n (text_from m v.memory a) v c d h
 
   either : (n : ℕ) (b : Bool) (w : World) (p q p' q' : Run Ran) → R n w p p' → R n w q q' → R n w (if b then p else q) (if b then p' else q')
   either n true w p q p' q' h i = h
   either n false w p q p' q' h i = i
 
-  one_heap : (n room m : ℕ) (w x : World) (p q : Back) → OneWorld w x → AlikeBack R OneWorld OneTemps n p q → R n w (take_heap room m w p) (take_heap room m x q)
+  one_heap : (n room m : ℕ) (w x : World) (p q : Back) → OneWorld w x → AlikeBack R OneWorld OneTemps n p q →
+      R n w (take_heap room m w p) (take_heap room m x q)
   one_heap n room m w x p q (one v) h =
       either n (nat_lt room (length v.memory.heap + m)) v _ _ _ _ (k.stop n (Ended HeapFull) v)
       (k.later n v (record v { memory = _ }) _ _ ([], refl) (h (heap_base + length v.memory.heap) _ _ (one _)))
 
-  one_input : (n : ℕ) (bytes : List ℕ) (w : World) (p q : Back) → w.input ≡ bytes → AlikeBack R OneWorld OneTemps n p q → R n w (read_byte bytes w p) (read_byte bytes w q)
+  one_input : (n : ℕ) (bytes : List ℕ) (w : World) (p q : Back) → w.input ≡ bytes → AlikeBack R OneWorld OneTemps n p q →
+      R n w (read_byte bytes w p) (read_byte bytes w q)
   one_input n [] w p q e h = h 4294967295 w w (one w)
   one_input n (b ∷ rest) w p q e h = k.later n w (record w { input = rest }) _ _ (b ∷ [], e) (h b _ _ (one (record w { input = rest })))
 
@@ -148,7 +158,11 @@ stops_on w s = record {
 write_on : (bytes : List ℕ) (w : World) (p q : Ran) → IsOnward w p q → IsOnward w (writes bytes p) (writes bytes q)
 write_on bytes w p q h = record {
   over = λ o. ap (writes bytes) (h.over o);
-  on = record { output = (h.on.output.0, ap (λ r. bytes ++ r) h.on.output.1 ∙ sym (append_assoc bytes p.output h.on.output.0)); input = h.on.input; work = h.on.work };
+  on = record {
+    output = (h.on.output.0, ap (λ r. bytes ++ r) h.on.output.1 ∙ sym (append_assoc bytes p.output h.on.output.0));
+    input = h.on.input;
+    work = h.on.work;
+  };
   begun = h.begun;
 }
 

@@ -19,7 +19,8 @@ module _ (a r n : ℕ) where
   simulates_if true c c' d d' h k = h
   simulates_if false c c' d d' h k = k
 
-  placed_simulates : (base : ℕ) (homes : List Access) (vs : List ℕ) (w : World) (t : Temps) (p q : Next) → ((w1 : World) (t1 : Temps) → Simulates a r n (p w1 t1) (q w1 t1)) → Simulates a r n (placed base homes vs w t p) (placed base homes vs w t q)
+  placed_simulates : (base : ℕ) (homes : List Access) (vs : List ℕ) (w : World) (t : Temps) (p q : Next) →
+      ((w1 : World) (t1 : Temps) → Simulates a r n (p w1 t1) (q w1 t1)) → Simulates a r n (placed base homes vs w t p) (placed base homes vs w t q)
   placed_simulates base [] [] w t p q h = h w t
   placed_simulates base [] (v ∷ vs) w t p q h = simulates_stopping a r n w.input Wrong
   placed_simulates base (InTemp i ∷ homes) [] w t p q h = simulates_stopping a r n w.input Wrong
@@ -29,10 +30,13 @@ module _ (a r n : ℕ) where
       placed_simulates base homes vs (record w { memory = put (slot base k) (Has v) w.memory }) t p q h
 
   -- two functions that differ in their temporaries and bodies alone
-  pub entered_simulates : {A B : Type 0} (size : ℕ → ℕ) (floor : ℕ) (runner : Runner A) (runner' : Runner B) (label : ℕ) (params : List Access) (slots temps temps' out out' : ℕ) (s : A) (s' : B) (vs : List ℕ) (top : ℕ) (back back' : Back) (w : World) →
+  pub entered_simulates : {A B : Type 0} (size : ℕ → ℕ) (floor : ℕ) (runner : Runner A) (runner' : Runner B) (label : ℕ)
+      (params : List Access) (slots temps temps' out out' : ℕ) (s : A) (s' : B) (vs : List ℕ) (top : ℕ) (back back' : Back) (w : World) →
       let f : Function A = record { label = label; params = params; slots = slots; temps = temps; out = out; body = s } in
       let g : Function B = record { label = label; params = params; slots = slots; temps = temps'; out = out'; body = s' } in
-      ((w1 : World) (t1 : Temps) → Simulates a r n (runner s (outermost (record { base = top; size = size label }) (λ v w2. back v (without_slots f top w2))) w1 t1) (runner' s' (outermost (record { base = top; size = size label }) (λ v w2. back' v (without_slots g top w2))) w1 t1)) →
+      ((w1 : World) (t1 : Temps) →
+      Simulates a r n (runner s (outermost (record { base = top; size = size label }) (λ v w2. back v (without_slots f top w2))) w1 t1)
+      (runner' s' (outermost (record { base = top; size = size label }) (λ v w2. back' v (without_slots g top w2))) w1 t1)) →
       Simulates a r n (entered size floor runner (Some f) vs top back w) (entered size floor runner' (Some g) vs top back' w)
   entered_simulates size floor runner runner' label params slots temps temps' out out' s s' vs top back back' w h =
       simulates_if (nat_lt top (floor + size label)) _ _ _ _ (simulates_stopping a r n w.input (Ended StackFull))
@@ -47,7 +51,8 @@ paid a e n k k' r c d le h =
     simulates_paying a (r + 0) n k c (λ j. works k' (d j))
     (simulates_with_credit a (r + e + k') (r + 0 + a * k) n c (λ j. works k' (d j)) (omega (arith, le)) (simulates_working a (r + e) n k' c d h))
 
-module _ {A B : Type 0} (a e : ℕ) (size : ℕ → ℕ) (floor : ℕ) (units units' : ℕ → ℕ) (runner : Runner A) (runner' : Runner B) (functions : List (Function A)) (functions' : List (Function B)) where
+module _ {A B : Type 0} (a e : ℕ) (size : ℕ → ℕ) (floor : ℕ) (units units' : ℕ → ℕ) (runner : Runner A) (runner' : Runner B)
+    (functions : List (Function A)) (functions' : List (Function B)) where
   abbrev Calls : ℕ → Type 0
   Calls n = CallsSimulate a e size floor units units' runner runner' functions functions' n
 
@@ -58,13 +63,22 @@ module _ {A B : Type 0} (a e : ℕ) (size : ℕ → ℕ) (floor : ℕ) (units un
   Pay = EntriesPay a e size floor units units' runner runner' functions functions'
 
   -- one of two that were found
-  either : (n r : ℕ) (first : Runner A) (first' : Runner B) (b : Bool) (f : Option (Function A)) (g : Option (Function B)) (o : Option (Function A)) (p : Option (Function B)) (vs : List ℕ) (top : ℕ) (back back' : Back) (w : World) → Simulates a r n (entered size floor first f vs top back w) (entered size floor first' g vs top back' w) → Simulates a r n (entered size floor first o vs top back w) (entered size floor first' p vs top back' w) → Simulates a r n (entered size floor first (if b then f else o) vs top back w) (entered size floor first' (if b then g else p) vs top back' w)
+  either : (n r : ℕ) (first : Runner A) (first' : Runner B) (b : Bool) (f : Option (Function A)) (g : Option (Function B))
+      (o : Option (Function A)) (p : Option (Function B)) (vs : List ℕ) (top : ℕ) (back back' : Back) (w : World) →
+      Simulates a r n (entered size floor first f vs top back w) (entered size floor first' g vs top back' w) →
+      Simulates a r n (entered size floor first o vs top back w) (entered size floor first' p vs top back' w) →
+      Simulates a r n (entered size floor first (if b then f else o) vs top back w) (entered size floor first' (if b then g else p) vs top back' w)
   either n r first first' true f g o p vs top back back' w h k = h
   either n r first first' false f g o p vs top back back' w h k = k
 
   -- where each body that is carried does what it did, run so, the function that is found does
-  module _ (n : ℕ) (first : Runner A) (first' : Runner B) (runs : (s : A) (s' : B) → BodyCarried a e size floor units units' runner runner' functions functions' s s' → (r : ℕ) (activation : Activation) (back back' : Back) (w : World) (t : Temps) → BacksSimulate a r n back back' → Simulates a (r + e) n (first s (outermost activation back) w t) (first' s' (outermost activation back') w t)) where
-    found : (fs : List (Function A)) (gs : List (Function B)) → Carried fs gs → (label : ℕ) (vs : List ℕ) (top : ℕ) (back back' : Back) (w : World) (r : ℕ) → BacksSimulate a r n back back' → Simulates a (r + e) n (entered size floor first (function_of label fs) vs top back w) (entered size floor first' (function_of label gs) vs top back' w)
+  module _ (n : ℕ) (first : Runner A) (first' : Runner B) (runs : (s : A) (s' : B) →
+      BodyCarried a e size floor units units' runner runner' functions functions' s s' →
+      (r : ℕ) (activation : Activation) (back back' : Back) (w : World) (t : Temps) → BacksSimulate a r n back back' →
+      Simulates a (r + e) n (first s (outermost activation back) w t) (first' s' (outermost activation back') w t)) where
+    found : (fs : List (Function A)) (gs : List (Function B)) → Carried fs gs →
+        (label : ℕ) (vs : List ℕ) (top : ℕ) (back back' : Back) (w : World) (r : ℕ) → BacksSimulate a r n back back' →
+        Simulates a (r + e) n (entered size floor first (function_of label fs) vs top back w) (entered size floor first' (function_of label gs) vs top back' w)
     found fs gs none label vs top back back' w r h = simulates_stopping a (r + e) n w.input Wrong
     found fs gs (one here params slots temps temps' out out' s s' fs1 gs1 carried rest) label vs top back back' w r h =
         let f : Function A = record { label = here; params = params; slots = slots; temps = temps; out = out; body = s } in
@@ -79,7 +93,8 @@ module _ {A B : Type 0} (a e : ℕ) (size : ℕ → ℕ) (floor : ℕ) (units un
   calls_next pays c n below label vs top back back' w r h =
       paid a e n (units (length vs)) (units' (length vs)) r _ _ (pays (length vs))
       (found n (fuelled runner) (fuelled runner')
-      (λ s s' carried r1 act b b' w1 t1 hb. simulates_turn a (r1 + e) n w1.input _ _ (λ m lt. carried m r1 act b b' w1 t1 (below m lt) (backs_less a r1 m n b b' (omega arith) hb)))
+      (λ s s' carried r1 act b b' w1 t1 hb. simulates_turn a (r1 + e) n w1.input _ _
+      (λ m lt. carried m r1 act b b' w1 t1 (below m lt) (backs_less a r1 m n b b' (omega arith) hb)))
       functions functions' c label vs top back back' w r h)
 
   calls_below : Pay → Carried functions functions' → (n m : ℕ) → m < n → Calls m
@@ -91,4 +106,5 @@ module _ {A B : Type 0} (a e : ℕ) (size : ℕ → ℕ) (floor : ℕ) (units un
 
   pub programs_carried : ProgramsCarried a e size floor units units' runner runner' functions functions'
   programs_carried pays c n label vs top back back' w r h =
-      found n runner runner' (λ s s' carried r1 act b b' w1 t1 hb. carried n r1 act b b' w1 t1 (calls_carried pays c n) hb) functions functions' c label vs top back back' w r h
+      found n runner runner' (λ s s' carried r1 act b b' w1 t1 hb. carried n r1 act b b' w1 t1 (calls_carried pays c n) hb)
+      functions functions' c label vs top back back' w r h

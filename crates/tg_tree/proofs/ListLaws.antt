@@ -78,6 +78,7 @@ stms_of-last (first ∷ ss) s = ap (tree.stm (plain_ts first)) (stms_of-last ss 
 -- what is repeated, once the test stands behind it
 pub turn_is :
     (c : tree.Cond) (ss turn : List CodeTs) (test whole : CodeTs) →
-    plain_ts test ≡ when c (tree.Break 0) → turn ≡ ss ++ test ∷ [] → plain_ts whole ≡ tree.Seq (stms_of turn) → tree.Loop (plain_ts whole) ≡ repeat_until c (map plain_ts ss)
+    plain_ts test ≡ when c (tree.Break 0) → turn ≡ ss ++ test ∷ [] → plain_ts whole ≡ tree.Seq (stms_of turn) →
+    tree.Loop (plain_ts whole) ≡ repeat_until c (map plain_ts ss)
 turn_is c ss turn test whole is more all =
     ap tree.Loop (all ∙ ap tree.Seq (ap stms_of more ∙ (stms_of-last ss test ∙ ap (λ t. stms (map plain_ts ss ++ t ∷ [])) is)))

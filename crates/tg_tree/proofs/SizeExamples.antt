@@ -3,12 +3,16 @@ use Rattle.std.proofs.Common.{◌≡◌, ℕ, zero, suc, ◌+◌, List, [], ◌�
 use Rattle.tg_frame.specs.declared.accesses.Access.TheVariants.{InFrame}
 use Rattle.tg_tree.specs.declared.operators.Bin.TheVariants.{Add, Sub, Mul, Div, And, Or, Xor, ShiftLeft, ShiftRight, ShiftSigned, AddTrap, SubTrap, MulHigh}
 use Rattle.tg_tree.specs.declared.operators.Rel.TheVariants.{Equal, NotEqual, Less}
-use Rattle.tg_tree.specs.Tree.{Tx, Const, Address, Temp, FrameAddress, Binary, Load, LoadByte, Call, Service, After, no_txs, tx, Cond, Compare, Not, Both, Either, Ts, Move, Store, StoreByte, Do, If, Loop, Break, Fault, Seq, Return, Stms, Function, Linear, Mark, Do', Jump, Branch, Fault', Return'}
+use Rattle.tg_tree.specs.Tree.{Tx, Const, Address, Temp, FrameAddress, Binary, Load, LoadByte, Call, Service, After, no_txs, tx, Cond, Compare, Not}
+use Rattle.tg_tree.specs.Tree.{Both, Either, Ts, Move, Store, StoreByte, Do, If, Loop, Break, Fault, Seq, Return, Stms, Function, Linear, Mark, Do'}
+use Rattle.tg_tree.specs.Tree.{Jump, Branch, Fault', Return'}
 use Rattle.tg_tree.specs.Forms.{stms, sequence, nothing}
 use Rattle.tg_tree.specs.Named.{function, literal, fault, temporary, named_ts, named_flat}
 use Rattle.tg_tree.specs.FrameSizes.{IsSizeOf}
-use Rattle.tg_tree.specs.Units.{Trees, Canonical, operator_units, expression_units, argument_units, condition_units, statement_units, element_units, entry_units, marked_entry_units}
-use Rattle.tg_tree.specs.Sizes.{expression_length, condition_length, statement_length, tree_length, tree_room, canonical_length, canonical_room, flat_length, flat_room}
+use Rattle.tg_tree.specs.Units.{Trees, Canonical, operator_units, expression_units, argument_units, condition_units, statement_units, element_units}
+use Rattle.tg_tree.specs.Units.{entry_units, marked_entry_units}
+use Rattle.tg_tree.specs.Sizes.{expression_length, condition_length, statement_length, tree_length, tree_room, canonical_length, canonical_room}
+use Rattle.tg_tree.specs.Sizes.{flat_length, flat_room}
 
 abbrev fun : {Body : Type 0} → Body → Function Body
 fun body = record { label = 33; params = InFrame 0 ∷ []; slots = 1; temps = 2; out = 0; body = body }
@@ -33,7 +37,8 @@ lengths_as_statements = refl
 
 -- the same as flat code
 abbrev flat_body : List Linear
-flat_body = Branch Less (Temp 0) (Const 2) 1 ∷ Jump 2 ∷ Mark 1 ∷ Do' (Move 1 (Call 34 (tx (Address 40) no_txs))) ∷ Return' (Temp 1) ∷ Mark 2 ∷ Return' (Const 0) ∷ []
+flat_body = Branch Less (Temp 0) (Const 2) 1 ∷ Jump 2 ∷ Mark 1 ∷ Do' (Move 1 (Call 34 (tx (Address 40) no_txs))) ∷
+    Return' (Temp 1) ∷ Mark 2 ∷ Return' (Const 0) ∷ []
 
 flat_names : named_flat flat_body [] ≡ temporary 0 ∷ temporary 1 ∷ function 34 ∷ literal 40 ∷ temporary 1 ∷ []
 flat_names = refl
@@ -48,11 +53,13 @@ rooms_as_flat_code : flat_room (fun flat_body) ≡ 3 + 2 + (1 + (0 + 1)) + (1 + 
 rooms_as_flat_code = refl
 
 -- each node alone
-expressions_alone : map (expression_units Trees) (Const 7 ∷ Address 40 ∷ Temp 0 ∷ FrameAddress ∷ Load (Temp 0) ∷ LoadByte (Temp 0) ∷ Call 34 no_txs ∷ Service 9 (Temp 0) ∷ After nothing (Temp 0) ∷ []) ≡
+expressions_alone : map (expression_units Trees) (Const 7 ∷ Address 40 ∷ Temp 0 ∷ FrameAddress ∷ Load (Temp 0) ∷
+    LoadByte (Temp 0) ∷ Call 34 no_txs ∷ Service 9 (Temp 0) ∷ After nothing (Temp 0) ∷ []) ≡
     2 ∷ 1 ∷ 0 ∷ 1 ∷ 1 ∷ 1 ∷ 4 ∷ 7 ∷ 0 ∷ []
 expressions_alone = refl
 
-operators_alone : map (λ op. operator_units op (Temp 1)) (Add ∷ Sub ∷ Mul ∷ Div ∷ And ∷ Or ∷ Xor ∷ ShiftLeft ∷ ShiftRight ∷ ShiftSigned ∷ AddTrap ∷ SubTrap ∷ MulHigh ∷ []) ≡
+operators_alone : map (λ op. operator_units op (Temp 1)) (Add ∷ Sub ∷ Mul ∷ Div ∷ And ∷ Or ∷ Xor ∷ ShiftLeft ∷ ShiftRight ∷
+    ShiftSigned ∷ AddTrap ∷ SubTrap ∷ MulHigh ∷ []) ≡
     1 ∷ 1 ∷ 2 ∷ 2 ∷ 1 ∷ 1 ∷ 1 ∷ 21 ∷ 21 ∷ 21 ∷ 1 ∷ 1 ∷ 2 ∷ []
 operators_alone = refl
 
@@ -62,14 +69,17 @@ lifted = Call 34 no_txs
 abbrev holds : Cond
 holds = Compare Equal (Temp 0) lifted
 
-conditions_alone : map (condition_units Trees) (Compare Equal lifted (Temp 0) ∷ holds ∷ Not holds ∷ Both holds holds ∷ Either holds holds ∷ []) ≡ 4 ∷ 6 ∷ 0 ∷ 31 ∷ 31 ∷ []
+conditions_alone : map (condition_units Trees) (Compare Equal lifted (Temp 0) ∷ holds ∷ Not holds ∷ Both holds holds ∷ Either holds holds ∷ []) ≡
+    4 ∷ 6 ∷ 0 ∷ 31 ∷ 31 ∷ []
 conditions_alone = refl
 
-statements_alone : map (statement_units Trees) (Move 0 lifted ∷ Store (Temp 0) lifted ∷ StoreByte (Temp 0) lifted ∷ Do lifted ∷ If holds nothing nothing ∷ Loop nothing ∷ Break 0 ∷ Fault 1 ∷ nothing ∷ Return lifted ∷ []) ≡
+statements_alone : map (statement_units Trees) (Move 0 lifted ∷ Store (Temp 0) lifted ∷ StoreByte (Temp 0) lifted ∷
+    Do lifted ∷ If holds nothing nothing ∷ Loop nothing ∷ Break 0 ∷ Fault 1 ∷ nothing ∷ Return lifted ∷ []) ≡
     2 ∷ 3 ∷ 3 ∷ 0 ∷ 4 ∷ 4 ∷ 3 ∷ 3 ∷ 0 ∷ 16 ∷ []
 statements_alone = refl
 
-elements_alone : map element_units (Mark 1 ∷ Do' nothing ∷ Jump 1 ∷ Branch Equal (Temp 0) (Temp 1) 1 ∷ Fault' 1 ∷ Return' (Temp 0) ∷ []) ≡ 1 ∷ 0 ∷ 1 ∷ 2 ∷ 1 ∷ 14 ∷ []
+elements_alone : map element_units (Mark 1 ∷ Do' nothing ∷ Jump 1 ∷ Branch Equal (Temp 0) (Temp 1) 1 ∷ Fault' 1 ∷ Return' (Temp 0) ∷ []) ≡
+    1 ∷ 0 ∷ 1 ∷ 2 ∷ 1 ∷ 14 ∷ []
 elements_alone = refl
 
 arguments_alone : argument_units Trees no_txs ∷ argument_units Trees (tx lifted no_txs) ∷ argument_units Canonical (tx lifted no_txs) ∷ [] ≡ 4 ∷ 6 ∷ 4 ∷ []
@@ -100,13 +110,16 @@ call_across_levels = refl
 -- t0 / t1 with its two tests, and the moves of both sides
 abbrev quotient : Tx
 quotient =
-    After (sequence (If (Compare Equal (Temp 1) (Const 0)) (Fault 7) nothing ∷ If (Both (Compare Equal (Temp 0) (Const 2147483648)) (Compare Equal (Temp 1) (Const 4294967295))) (Do (Binary AddTrap (Const 2147483648) (Const 2147483648))) nothing ∷ [])) (Binary Div (Temp 0) (Temp 1))
+    After (sequence (If (Compare Equal (Temp 1) (Const 0)) (Fault 7) nothing ∷
+    If (Both (Compare Equal (Temp 0) (Const 2147483648)) (Compare Equal (Temp 1) (Const 4294967295)))
+    (Do (Binary AddTrap (Const 2147483648) (Const 2147483648))) nothing ∷ [])) (Binary Div (Temp 0) (Temp 1))
 
 quotient_with_its_tests : expression_length Trees quotient ≡ 50
 quotient_with_its_tests = refl
 
 -- two conditions, of which the right one isn't flat
-lifts_a_condition : condition_length Trees (Both (Compare NotEqual (Temp 0) (Const 0)) (Compare NotEqual (Call 34 no_txs) (Const 0))) ≡ 31 + (4 + 2) + (4 + 4 + 2)
+lifts_a_condition : condition_length Trees (Both (Compare NotEqual (Temp 0) (Const 0)) (Compare NotEqual (Call 34 no_txs) (Const 0))) ≡
+    31 + (4 + 2) + (4 + 4 + 2)
 lifts_a_condition = refl
 
 -- for t0 in a slot: the bounds, the test before the loop, the loop with its test and step
@@ -115,7 +128,9 @@ slot = Binary Sub FrameAddress (Const 4)
 
 abbrev counted : Ts
 counted =
-    sequence (Move 0 (Temp 2) ∷ Move 1 (Temp 3) ∷ If (Compare Less (Temp 0) (Temp 1)) (sequence (Store slot (Temp 0) ∷ Loop (sequence (If (Compare Equal (Load slot) (Temp 1)) (Break 0) nothing ∷ Store slot (Binary Add (Load slot) (Const 1)) ∷ [])) ∷ [])) nothing ∷ [])
+    sequence (Move 0 (Temp 2) ∷ Move 1 (Temp 3) ∷ If (Compare Less (Temp 0) (Temp 1))
+    (sequence (Store slot (Temp 0) ∷
+    Loop (sequence (If (Compare Equal (Load slot) (Temp 1)) (Break 0) nothing ∷ Store slot (Binary Add (Load slot) (Const 1)) ∷ [])) ∷ [])) nothing ∷ [])
 
 counted_loop : statement_length Trees counted ≡ 50
 counted_loop = refl

@@ -6,13 +6,17 @@ use Rattle.tg_syntax.specs.declared.tokens.Ident.{Ident}
 use Rattle.tg_syntax.specs.declared.trees.Param.{Param}
 use Rattle.tg_syntax.specs.declared.trees.Op.{Op}
 use Rattle.tg_syntax.specs.Tree.{Form, TypeDec, Exp, LValue, Exps, Inits, Decs, FunDecs}
-use Rattle.tg_syntax.specs.Beginnings.{param_beginnings, form_beginnings, type_beginnings, kind_beginnings, beginnings, place_beginnings, exps_beginnings, inits_beginnings, decs_beginnings, function_beginnings}
+use Rattle.tg_syntax.specs.Beginnings.{param_beginnings, form_beginnings, type_beginnings, kind_beginnings, beginnings, place_beginnings}
+use Rattle.tg_syntax.specs.Beginnings.{exps_beginnings, inits_beginnings, decs_beginnings, function_beginnings}
 use Rattle.tg_types.specs.declared.notes.Means.{Means}
 use Rattle.tg_types.specs.Types.{Ty, Shape}
 use Rattle.tg_types.specs.Checks.{Noted}
 use Rattle.tg_types.specs.Scopes.{Signature, Scope}
 use Rattle.tg_types.proofs.Inversion.{noting, shaping, Notes, one_note, no_note}
-use Rattle.tg_types.proofs.CheckedParts.{AddsForm, alias, fields, array, AddsForms, end_forms, a_form, Checked, nil, int, text, break, read, call, neg, binary, make, fill, assign, if_else, when, while, for, block, seq, CheckedPlace, simple, field, index, CheckedAll, end_args, an_arg, CheckedInits, end_inits, an_init, CheckedLast, end_lasts, a_last, CheckedDecs, end_decs, type_names, variables, group, CheckedBodies, end_bodies, a_body}
+use Rattle.tg_types.proofs.CheckedParts.{AddsForm, alias, fields, array, AddsForms, end_forms, a_form, Checked, nil, int, text, break, read, call}
+use Rattle.tg_types.proofs.CheckedParts.{neg, binary, make, fill, assign, if_else, when, while, for, block, seq, CheckedPlace, simple, field, index}
+use Rattle.tg_types.proofs.CheckedParts.{CheckedAll, end_args, an_arg, CheckedInits, end_inits, an_init, CheckedLast, end_lasts, a_last, CheckedDecs}
+use Rattle.tg_types.proofs.CheckedParts.{end_decs, type_names, variables, group, CheckedBodies, end_bodies, a_body}
 
 -- some of a list, in its order
 pub data Some_of : List ℕ → List ℕ → Type 0 where

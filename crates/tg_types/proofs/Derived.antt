@@ -16,7 +16,10 @@ use Rattle.tg_types.specs.Scopes.{Signature, Scope}
 use Rattle.tg_types.specs.Has as Has
 use Rattle.tg_types.specs.Has.{AreApart, SaysOf, Says, records, arrays, nil_and, and_nil}
 use Rattle.tg_types.proofs.Inversion.{noting, shaping, compared, Sides, both_ints, both_strings, both_same, Notes, one_note, no_note}
-use Rattle.tg_types.proofs.CheckedParts.{AddsForm, alias, fields, array, AddsForms, end_forms, a_form, Checked, nil, int, text, break, read, call, neg, binary, make, fill, assign, if_else, when, while, for, block, seq, CheckedPlace, simple, field, index, CheckedAll, end_args, an_arg, CheckedInits, end_inits, an_init, CheckedLast, end_lasts, a_last, CheckedDecs, end_decs, type_names, variables, group, CheckedBodies, end_bodies, a_body}
+use Rattle.tg_types.proofs.CheckedParts.{AddsForm, alias, fields, array, AddsForms, end_forms, a_form, Checked, nil, int, text, break, read, call}
+use Rattle.tg_types.proofs.CheckedParts.{neg, binary, make, fill, assign, if_else, when, while, for, block, seq, CheckedPlace, simple, field, index}
+use Rattle.tg_types.proofs.CheckedParts.{CheckedAll, end_args, an_arg, CheckedInits, end_inits, an_init, CheckedLast, end_lasts, a_last, CheckedDecs}
+use Rattle.tg_types.proofs.CheckedParts.{end_decs, type_names, variables, group, CheckedBodies, end_bodies, a_body}
 
 -- all of these are among those
 abbrev pub AreIn : List Note → List Note → Type 0

@@ -6,7 +6,9 @@ use Rattle.tg_syntax.specs.declared.tokens.Ident.{Ident}
 use Rattle.tg_syntax.specs.declared.trees.Param.{Param}
 use Rattle.tg_syntax.specs.declared.trees.Op.{Op}
 use Rattle.tg_syntax.specs.declared.trees.Op.TheVariants.{Plus, Minus, Times, Divide, Equal, NotEqual, Less, LessEqual, Greater, GreaterEqual, And, Or}
-use Rattle.tg_syntax.specs.Tree.{Form, Alias, Fields, Array, TypeDec, Exp, Nil, Break, Int, Text, Read, Call, Neg, Binary, Make, Fill, Assign, If, When, While, For, Let, Seq, LValue, Simple, Field, Index, Exps, no_exps, exp, Inits, no_inits, init, Decs, no_decs, types, variable, functions, FunDecs, no_functions, function}
+use Rattle.tg_syntax.specs.Tree.{Form, Alias, Fields, Array, TypeDec, Exp, Nil, Break, Int, Text, Read, Call, Neg, Binary, Make, Fill, Assign, If}
+use Rattle.tg_syntax.specs.Tree.{When, While, For, Let, Seq, LValue, Simple, Field, Index, Exps, no_exps, exp, Inits, no_inits, init, Decs, no_decs}
+use Rattle.tg_syntax.specs.Tree.{types, variable, functions, FunDecs, no_functions, function}
 use Rattle.tg_syntax.specs.Measures.{size}
 use Rattle.tg_types.specs.declared.faults.TypeRule.{TypeRule}
 use Rattle.tg_types.specs.declared.faults.TypeRule.TheVariants.{T16, T17, T20, T21, T22}
@@ -14,13 +16,19 @@ use Rattle.tg_types.specs.declared.notes.Means.{Means}
 use Rattle.tg_types.specs.declared.notes.Note.{Note}
 use Rattle.tg_types.specs.Types.{Ty, int_type, none_type, record_type, array_type, Shape, record_shape, array_shape}
 use Rattle.tg_types.specs.Checks.{Noted, CheckResult, fine, fault, Check, on_fine, ◌>>=◌, give, refuse, keep, present, note, shape_at, add_shape}
-use Rattle.tg_types.specs.Scopes.{Signature, Binding, variable_at, function_at, standard_one, Scope, at_of, bound as bound_in, binding, in_a_loop, in_no_loop, outermost}
-use Rattle.tg_types.specs.Groups.{no_repeats, names_of, known_fields, known_form, known_forms, chains_end, with_group, add_form, add_forms, declare_types, function_names, param_types, result_type, headers, with_functions, with_params}
-use Rattle.tg_types.specs.Typing.{start_of, place_start, expect, variable_of, function_of, assignable, fields_in, fields_of, element_in, element_of, select, ordered, equated, left_side, equal_sides, right_side, own_type, body_fits, typed, typed_place, expect_all, expect_fields, typed_last, declare, bodies}
-use Rattle.tg_syntax.specs.Functions.{Measures, Levels, own, own_params, own_functions, own_decs, declared, declared_place, declared_exps, declared_inits, declared_decs, declared_functions, program_functions, program_size}
+use Rattle.tg_types.specs.Scopes.{Signature, Binding, variable_at, function_at, standard_one, Scope, at_of, bound as bound_in, binding, in_a_loop}
+use Rattle.tg_types.specs.Scopes.{in_no_loop, outermost}
+use Rattle.tg_types.specs.Groups.{no_repeats, names_of, known_fields, known_form, known_forms, chains_end, with_group, add_form, add_forms}
+use Rattle.tg_types.specs.Groups.{declare_types, function_names, param_types, result_type, headers, with_functions, with_params}
+use Rattle.tg_types.specs.Typing.{start_of, place_start, expect, variable_of, function_of, assignable, fields_in, fields_of, element_in, element_of}
+use Rattle.tg_types.specs.Typing.{select, ordered, equated, left_side, equal_sides, right_side, own_type, body_fits, typed, typed_place, expect_all}
+use Rattle.tg_types.specs.Typing.{expect_fields, typed_last, declare, bodies}
+use Rattle.tg_syntax.specs.Functions.{Measures, Levels, own, own_params, own_functions, own_decs, declared, declared_place, declared_exps}
+use Rattle.tg_syntax.specs.Functions.{declared_inits, declared_decs, declared_functions, program_functions, program_size}
 use Rattle.tg_types.specs.Limits.{above, first_above, limit_fault}
 use Rattle.tg_types.specs.Accepted.{at_fault, within_limits, finding_of, finding}
-use Rattle.tg_types.specs.BeginWithin.{IdentBegins, ParamsBegin, FormBegins, TypesBegin, KindBegins, BeginsWithin, PlaceBegins, ExpsBegin, InitsBegin, DecsBegin, FunctionsBegin}
+use Rattle.tg_types.specs.BeginWithin.{IdentBegins, ParamsBegin, FormBegins, TypesBegin, KindBegins, BeginsWithin, PlaceBegins, ExpsBegin, InitsBegin}
+use Rattle.tg_types.specs.BeginWithin.{DecsBegin, FunctionsBegin}
 
 -- the fault of a check, if it has one, stands at this byte or before it
 record FaultsWithin {A : Type 0} (here : ℕ → Bool) (m : Check A) : Type 0 where

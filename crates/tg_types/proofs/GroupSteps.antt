@@ -8,7 +8,8 @@ use Rattle.std.specs.HashSet as set
 use Rattle.std.specs.HashSet.{HashSet}
 use Rattle.std.specs.HashMap as hash
 use Rattle.std.specs.HashMap.{HashMap}
-use Rattle.std.proofs.Common.{◌≡◌, ℕ, zero, suc, ◌+◌, ◌-◌, ◌<◌, ◌≤◌, List, [], ◌∷◌, ◌++◌, length, map, take, drop, get_or, Bool, true, false, refl, sym, ap, ◌∙◌, subst, arith, append_assoc, eq-eqb}
+use Rattle.std.proofs.Common.{◌≡◌, ℕ, zero, suc, ◌+◌, ◌-◌, ◌<◌, ◌≤◌, List, [], ◌∷◌, ◌++◌, length, map, take, drop, get_or, Bool, true, false, refl}
+use Rattle.std.proofs.Common.{sym, ap, ◌∙◌, subst, arith, append_assoc, eq-eqb}
 use Rattle.std.proofs.lemmas.Bool.{eqb-true}
 use Rattle.std.proofs.lemmas.List.{length-map, get_or-map, get_or_default}
 use Rattle.tg_syntax.specs.declared.tokens.Ident.{Ident}
@@ -24,7 +25,8 @@ use Rattle.tg_types.specs.Checks.{Check, Noted, fine, keep, give, refuse, add_sh
 use Rattle.tg_types.specs.Scopes.{Scope, name_of, at_of, standard_bindings, standard_types}
 use Rattle.tg_types.specs.Types.{Ty, Shape}
 use Rattle.tg_types.specs.Groups as groups
-use Rattle.tg_types.specs.Groups.{stands_in, no_repeats, names_of, known, known_form, known_forms, known_fields, endless, ends_at, chain_of, has_end, chains_end, type_at_end, with_group, add_form, add_forms}
+use Rattle.tg_types.specs.Groups.{stands_in, no_repeats, names_of, known, known_form, known_forms, known_fields, endless, ends_at, chain_of, has_end}
+use Rattle.tg_types.specs.Groups.{chains_end, type_at_end, with_group, add_form, add_forms}
 use Rattle.tg_types.specs.Declaring.{HasPlaces, HasNames, place_in, AreDifferent, chain_from, ChainWithin, named_types}
 use Rattle.tg_types.specs.declared.states.CheckingState.{CheckingState}
 use Rattle.tg_types.specs.declared.chains.Chain.{Chain as CodeChain}
@@ -246,7 +248,8 @@ field_within n [] k h l = absurd (omega (arith, l))
 field_within n (p ∷ ps) zero h l = h.1
 field_within n (p ∷ ps) (suc k) h l = field_within n ps k h.2 (omega (arith, l))
 
-pub record FieldsOn {S T : Type 0} (names : List (List ℕ)) (s : CheckingState) (places : HashMap ℕ ℕ S) (seen : HashSet ℕ T) (ps : List Param) (k : ℕ) : Type 0 where
+pub record FieldsOn {S T : Type 0} (names : List (List ℕ)) (s : CheckingState) (places : HashMap ℕ ℕ S) (seen : HashSet ℕ T)
+    (ps : List Param) (k : ℕ) : Type 0 where
   pub earlier : List Ident
   pub has : HasNames seen earlier
   pub onward : (whole : List TypeDec) (scope : Scope) (in_loop : Bool) → HasPlaces places whole → scope ≡ scope_of names s in_loop → (n : Noted) →
@@ -273,7 +276,8 @@ fields_one {ps = ps} {k = k} a l g f h = record {
       ∙ (fields_here whole scope a.earlier ps k n l ∙ step _ _ (g n) (step _ _ (f whole scope in_loop p e n) refl));
 }
 
-pub fields_repeat : {S : Type 0} {T : Type 0} {names : List (List ℕ)} {s : CheckingState} {places : HashMap ℕ ℕ S} {seen : HashSet ℕ T} {ps : List Param} {k : ℕ}
+pub fields_repeat : {S : Type 0} {T : Type 0} {names : List (List ℕ)} {s : CheckingState} {places : HashMap ℕ ℕ S}
+    {seen : HashSet ℕ T} {ps : List Param} {k : ℕ}
     {e : TypeFault} (a : FieldsOn names s places seen ps k) → k < length ps →
     ((n : Noted) → Fails e (keep T18 (field_at ps k).name.span.from (not (stands_in (field_at ps k).name.name.0 a.earlier)) n)) →
     (whole : List TypeDec) (scope : Scope) (in_loop : Bool) → HasPlaces places whole → scope ≡ scope_of names s in_loop → (n : Noted) →
@@ -281,7 +285,8 @@ pub fields_repeat : {S : Type 0} {T : Type 0} {names : List (List ℕ)} {s : Che
 fields_repeat {ps = ps} {k = k} a l g whole scope in_loop p e n =
     last_fails (a.onward whole scope in_loop p e n ∙ fields_here whole scope a.earlier ps k n l) (fails_first _ _ (g n))
 
-pub fields_unknown : {S : Type 0} {T : Type 0} {names : List (List ℕ)} {s : CheckingState} {places : HashMap ℕ ℕ S} {seen : HashSet ℕ T} {ps : List Param} {k : ℕ}
+pub fields_unknown : {S : Type 0} {T : Type 0} {names : List (List ℕ)} {s : CheckingState} {places : HashMap ℕ ℕ S}
+    {seen : HashSet ℕ T} {ps : List Param} {k : ℕ}
     {e : TypeFault} (a : FieldsOn names s places seen ps k) → k < length ps →
     ((n : Noted) → keep T18 (field_at ps k).name.span.from (not (stands_in (field_at ps k).name.name.0 a.earlier)) n ≡ fine tt n) →
     ((whole : List TypeDec) (scope : Scope) (in_loop : Bool) → HasPlaces places whole → scope ≡ scope_of names s in_loop → (n : Noted) →
@@ -308,7 +313,10 @@ pub forms_one : {S : Type 0} {names : List (List ℕ)} {s : CheckingState} {plac
     ((whole : List TypeDec) (scope : Scope) (in_loop : Bool) → HasPlaces places whole → scope ≡ scope_of names s in_loop → (n : Noted) →
     known_form whole scope (plain_form d.form) n ≡ fine tt n) → FormsOn names s places (map plain_type group) (k + 1)
 forms_one group {k = k} d a l i f =
-    record { onward = λ whole scope in_loop p e n. a.onward whole scope in_loop p e n ∙ (ap (λ x. known_forms whole x scope n) (plain_here group k d l i) ∙ step _ _ (f whole scope in_loop p e n) refl) }
+    record {
+      onward = λ whole scope in_loop p e n. a.onward whole scope in_loop p e n
+          ∙ (ap (λ x. known_forms whole x scope n) (plain_here group k d l i) ∙ step _ _ (f whole scope in_loop p e n) refl);
+    }
 
 pub forms_fail : {S : Type 0} {names : List (List ℕ)} {s : CheckingState} {places : HashMap ℕ ℕ S} (group : List CodeTypeDec) {k : ℕ}
     (d : CodeTypeDec) {e : TypeFault} → FormsOn names s places (map plain_type group) k → k < length group → d ≡ get_or group k d →
@@ -411,7 +419,8 @@ pub record AddedOn (names : List (List ℕ)) (first now : CheckingState) (ds : L
   pub onward : (in_loop : Bool) (scope : Scope) → scope ≡ scope_of names first in_loop →
       add_forms scope ds (noted_of first) ≡ add_forms scope (drop k ds) (noted_of now)
 
-pub added_one : {names : List (List ℕ)} {first : CheckingState} {now : CheckingState} {next : CheckingState} (group : List CodeTypeDec) {k : ℕ} (d : CodeTypeDec) →
+pub added_one : {names : List (List ℕ)} {first : CheckingState} {now : CheckingState} {next : CheckingState}
+    (group : List CodeTypeDec) {k : ℕ} (d : CodeTypeDec) →
     AddedOn names first now (map plain_type group) k → k < length group → d ≡ get_or group k d → Keeps now next →
     ((in_loop : Bool) (scope : Scope) → scope ≡ scope_of names now in_loop →
     add_form scope d.name.span.from (plain_form d.form) (noted_of now) ≡ fine tt (noted_of next)) → AddedOn names first next (map plain_type group) (k + 1)
@@ -430,7 +439,8 @@ added_fail {names = names} {now = now} group {k = k} d a l i f in_loop scope h =
     last_fails (a.onward in_loop scope h ∙ ap (λ x. add_forms scope x (noted_of now)) (plain_here group k d l i))
     (fails_first _ _ (f in_loop scope (same_scope names a.keeps h)))
 
-pub added_all : {names : List (List ℕ)} {first : CheckingState} {now : CheckingState} (group : List CodeTypeDec) {k : ℕ} → AddedOn names first now (map plain_type group) k →
+pub added_all : {names : List (List ℕ)} {first : CheckingState} {now : CheckingState} (group : List CodeTypeDec) {k : ℕ} →
+    AddedOn names first now (map plain_type group) k →
     k ≡ length group → (in_loop : Bool) (scope : Scope) → scope ≡ scope_of names first in_loop →
     add_forms scope (map plain_type group) (noted_of first) ≡ fine tt (noted_of now)
 unfolding give
@@ -482,7 +492,8 @@ named_front (d ∷ group) (t ∷ ts) before =
     let r = named_front group ts ((name_of d.name, t) ∷ before) in
     (r.0 ++ (name_of d.name, t) ∷ [], r.1 ∙ sym (append_assoc r.0 ((name_of d.name, t) ∷ []) before))
 
-pub opens_types : (old new : CheckingState) (group : List CodeTypeDec) (ts : List Ty) → new.types ≡ named_types group ts old.types → new.bindings ≡ old.bindings →
+pub opens_types : (old new : CheckingState) (group : List CodeTypeDec) (ts : List Ty) → new.types ≡ named_types group ts old.types →
+    new.bindings ≡ old.bindings →
     Opens old new
 opens_types old new group ts t b =
     let r = named_front group ts old.types in

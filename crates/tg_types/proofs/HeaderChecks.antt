@@ -3,7 +3,8 @@ use Rattle.std.specs.Prelude.{Option, nat_eq}
 use Rattle.std.specs.List.{list_any}
 use Rattle.std.specs.HashSet as set
 use Rattle.std.specs.HashSet.{HashSet}
-use Rattle.std.proofs.Common.{◌≡◌, ℕ, zero, suc, ◌+◌, ◌<◌, List, [], ◌∷◌, ◌++◌, length, drop, get_or, Bool, not, refl, sym, ap, ◌∙◌, subst, append_assoc, append-nil, length-append, arith}
+use Rattle.std.proofs.Common.{◌≡◌, ℕ, zero, suc, ◌+◌, ◌<◌, List, [], ◌∷◌, ◌++◌, length, drop, get_or, Bool, not, refl, sym, ap, ◌∙◌, subst}
+use Rattle.std.proofs.Common.{append_assoc, append-nil, length-append, arith}
 use Rattle.std.proofs.lemmas.List.{get_or_default}
 use Rattle.tg_syntax.specs.declared.tokens.Ident.{Ident}
 use Rattle.tg_syntax.specs.declared.trees.Param.{Param}
@@ -81,10 +82,12 @@ pub record TypesOn {S : Type 0} (names : List (List ℕ)) (s : CheckingState) (s
   pub fails : (scope : Scope) (in_loop : Bool) → scope ≡ scope_of names s in_loop → (n : Noted) (e : TypeFault) →
       Fails e (param_types scope earlier (drop k ps) n) → Fails e (param_types scope [] ps n)
 
-pub types_none : {S : Type 0} {names : List (List ℕ)} {s : CheckingState} {seen : HashSet ℕ S} {ps : List Param} → HasNames seen [] → TypesOn names s seen ps [] 0
+pub types_none : {S : Type 0} {names : List (List ℕ)} {s : CheckingState} {seen : HashSet ℕ S} {ps : List Param} →
+    HasNames seen [] → TypesOn names s seen ps [] 0
 types_none h = record { earlier = []; has = h; gives = λ scope in_loop d n more e. e; fails = λ scope in_loop d n e f. f }
 
-pub types_one : {S : Type 0} {names : List (List ℕ)} {s : CheckingState} {seen : HashSet ℕ S} {next : HashSet ℕ S} {ps : List Param} {ts : List Ty} {us : List Ty}
+pub types_one : {S : Type 0} {names : List (List ℕ)} {s : CheckingState} {seen : HashSet ℕ S} {next : HashSet ℕ S}
+    {ps : List Param} {ts : List Ty} {us : List Ty}
     {k : ℕ} (p : Param) (t : Ty) (a : TypesOn names s seen ps ts k) → k < length ps → p ≡ get_or ps k p →
     ((n : Noted) → keep T18 p.name.span.from (not (stands_in p.name.name.0 a.earlier)) n ≡ fine tt n) →
     ((scope : Scope) (in_loop : Bool) → scope ≡ scope_of names s in_loop → (n : Noted) → type_named p.kind scope n ≡ fine t n) →
@@ -101,14 +104,16 @@ types_one {ps = ps} {ts = ts} {k = k} p t a l i g h has u = record {
 }
 
 -- a name that is repeated, and a type that isn't known
-pub types_repeat : {S : Type 0} {names : List (List ℕ)} {s : CheckingState} {seen : HashSet ℕ S} {ps : List Param} {ts : List Ty} {k : ℕ} (p : Param) {e : TypeFault}
+pub types_repeat : {S : Type 0} {names : List (List ℕ)} {s : CheckingState} {seen : HashSet ℕ S} {ps : List Param}
+    {ts : List Ty} {k : ℕ} (p : Param) {e : TypeFault}
     (a : TypesOn names s seen ps ts k) → k < length ps → p ≡ get_or ps k p →
     ((n : Noted) → Fails e (keep T18 p.name.span.from (not (stands_in p.name.name.0 a.earlier)) n)) → (scope : Scope) (in_loop : Bool) →
     scope ≡ scope_of names s in_loop → (n : Noted) → Fails e (param_types scope [] ps n)
 types_repeat {ps = ps} {k = k} p a l i g scope in_loop d n =
     a.fails scope in_loop d n _ (last_fails (ap (λ x. param_types scope a.earlier x n) (from_here ps k p l i)) (fails_first _ _ (g n)))
 
-pub types_unknown : {S : Type 0} {names : List (List ℕ)} {s : CheckingState} {seen : HashSet ℕ S} {ps : List Param} {ts : List Ty} {k : ℕ} (p : Param) {e : TypeFault}
+pub types_unknown : {S : Type 0} {names : List (List ℕ)} {s : CheckingState} {seen : HashSet ℕ S} {ps : List Param}
+    {ts : List Ty} {k : ℕ} (p : Param) {e : TypeFault}
     (a : TypesOn names s seen ps ts k) → k < length ps → p ≡ get_or ps k p →
     ((n : Noted) → keep T18 p.name.span.from (not (stands_in p.name.name.0 a.earlier)) n ≡ fine tt n) →
     ((scope : Scope) (in_loop : Bool) → scope ≡ scope_of names s in_loop → (n : Noted) → Fails e (type_named p.kind scope n)) →

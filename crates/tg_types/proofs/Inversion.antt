@@ -8,13 +8,16 @@ use Rattle.tg_types.specs.declared.faults.TypeRule.{TypeRule}
 use Rattle.tg_types.specs.declared.notes.Means.{Means}
 use Rattle.tg_types.specs.declared.notes.Means.TheVariants as means
 use Rattle.tg_types.specs.declared.notes.Note.{Note}
-use Rattle.tg_types.specs.Types.{Ty, int_type, string_type, nil_type, none_type, record_type, array_type, Shape, record_shape, array_shape, are_nil, has_order, same, is_nil_for, fits, alike, joined}
+use Rattle.tg_types.specs.Types.{Ty, int_type, string_type, nil_type, none_type, record_type, array_type, Shape, record_shape, array_shape, are_nil}
+use Rattle.tg_types.specs.Types.{has_order, same, is_nil_for, fits, alike, joined}
 use Rattle.tg_symbols.specs.Tables.{named}
 use Rattle.tg_types.specs.Checks.{Noted, CheckResult, fine, fault, Check, on_fine, ◌>>=◌, give, refuse, keep, present, note, shape_at, add_shape}
 use Rattle.tg_types.specs.Scopes.{Signature, Binding, variable_at, function_at, standard_one, name_of, at_of}
-use Rattle.tg_types.specs.Typing.{expect, expect_none, variable_of, function_of, fields_in, fields_of, element_in, element_of, placed, select, ordered, equated, left_side, equal_sides, right_side}
+use Rattle.tg_types.specs.Typing.{expect, expect_none, variable_of, function_of, fields_in, fields_of, element_in, element_of, placed, select}
+use Rattle.tg_types.specs.Typing.{ordered, equated, left_side, equal_sides, right_side}
 use Rattle.std.proofs.lemmas.Bool.{eqb-true}
-use Rattle.tg_types.specs.Has.{Fits, the_same, nil_for, Alike, records, arrays, nil_and, and_nil, Compares, Identifies, Callee, declared, standard, use_of, Says, SaysOf}
+use Rattle.tg_types.specs.Has.{Fits, the_same, nil_for, Alike, records, arrays, nil_and, and_nil, Compares, Identifies, Callee, declared, standard}
+use Rattle.tg_types.specs.Has.{use_of, Says, SaysOf}
 
 -- both steps of two are fine
 pub record Steps {A B : Type 0} (m : Check A) (next : A → Check B) (b : B) (start end : Noted) : Type 0 where

@@ -19,7 +19,8 @@ use Rattle.tg_types.specs.declared.faults.TypeRule.{TypeRule}
 use Rattle.tg_types.specs.declared.faults.TypeRule.TheVariants.{T20, T21}
 use Rattle.tg_types.specs.declared.limits.Limit.{Limit}
 use Rattle.tg_types.specs.Faults.{rule_and_byte}
-use Rattle.tg_syntax.specs.Functions.{Measures, Levels, measures, own, own_params, own_functions, own_decs, declared, declared_exps, declared_inits, declared_decs, declared_functions}
+use Rattle.tg_syntax.specs.Functions.{Measures, Levels, measures, own, own_params, own_functions, own_decs, declared, declared_exps, declared_inits}
+use Rattle.tg_syntax.specs.Functions.{declared_decs, declared_functions}
 use Rattle.tg_syntax.proofs.FunctionLaws.{texts, same_texts, same_exps_texts, same_decs_texts, same_functions_texts}
 use Rattle.tg_types.specs.Limits.{above, first_above}
 use Rattle.tg_types.proofs.TreeSteps.{from_here, none_left}

@@ -13,7 +13,8 @@ use Rattle.tg_types.specs.declared.notes.Means.TheVariants as means
 use Rattle.tg_types.specs.Types.{Ty}
 use Rattle.tg_symbols.specs.Tables.{named}
 use Rattle.tg_types.specs.Checks.{Noted, CheckResult, fine, fault, present, note, give, refuse}
-use Rattle.tg_types.specs.Scopes.{Scope, Binding, Signature, variable_at, function_at, standard_one, signature, bound, name_of, at_of, entry, standard_of, type_of_text, standard_bindings, standard_types}
+use Rattle.tg_types.specs.Scopes.{Scope, Binding, Signature, variable_at, function_at, standard_one, signature, bound, name_of, at_of, entry}
+use Rattle.tg_types.specs.Scopes.{standard_of, type_of_text, standard_bindings, standard_types}
 use Rattle.tg_types.specs.Groups.{type_named}
 use Rattle.tg_types.specs.Typing.{variable_of, function_of, is_loop_variable}
 use Rattle.tg_types.specs.Bindings.{variable_in, function_in, IsDeclared}

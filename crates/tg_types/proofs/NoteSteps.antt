@@ -1,6 +1,7 @@
 -- Notes in rising order of their bytes, and the one at a byte.
 use Rattle.std.specs.Prelude.{Option, Some, None, ◌==◌, if◌then◌else◌}
-use Rattle.std.proofs.Common.{◌≡◌, ◌≢◌, ℕ, zero, suc, ◌+◌, ◌-◌, ◌/◌, ◌<◌, ◌≤◌, List, [], ◌∷◌, length, get_or, Bool, true, false, refl, sym, ap, ◌∙◌, subst, arith, eq-eqb, inl, inr}
+use Rattle.std.proofs.Common.{◌≡◌, ◌≢◌, ℕ, zero, suc, ◌+◌, ◌-◌, ◌/◌, ◌<◌, ◌≤◌, List, [], ◌∷◌, length, get_or, Bool, true, false, refl, sym, ap, ◌∙◌}
+use Rattle.std.proofs.Common.{subst, arith, eq-eqb, inl, inr}
 use Rattle.std.specs.Prelude.{◌⊎◌}
 use Rattle.std.proofs.Math.Nat.{eq-or-lt_of_le}
 use Rattle.std.proofs.lemmas.List.{get_or_default}
@@ -76,7 +77,11 @@ nowhere at (x ∷ notes) f =
 
 pub between_none : (at : ℕ) (notes : List Note) (low high : ℕ) → Between at notes low high → high ≤ low → meaning_at at notes ≡ None
 between_none at notes low high b l =
-    nowhere at notes (λ k d m e. elim (le-or-gt high k) [ inl h ↦ omega (arith, b.behind k d h m, e) | inr h ↦ omega (arith, b.before k d (omega (arith, h, l)), e) ])
+    nowhere at notes (λ k d m e. elim (le-or-gt high k) [
+      | inl h ↦ omega (arith, b.behind k d h m, e)
+      | inr h ↦ omega
+          (arith, b.before k d (omega (arith, h, l)), e)
+    ])
   where
     le-or-gt : (a b : ℕ) → (a ≤ b) ⊎ (b < a)
     le-or-gt zero b = inl (omega arith)

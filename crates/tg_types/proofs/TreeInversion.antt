@@ -2,16 +2,22 @@
 use Rattle.std.proofs.Common.{◌≡◌, ℕ, List, [], ◌∷◌, length, Some, None, true, false, refl, sym, ◌∙◌, subst}
 use Rattle.std.specs.Prelude.{◌==◌}
 use Rattle.std.proofs.lemmas.Bool.{eqb-true}
-use Rattle.tg_syntax.specs.Tree.{Exp, Nil, Break, Int, Text, Read, Call, Neg, Binary, Make, Fill, Assign, If, When, While, For, Let, Seq, LValue, Simple, Field, Index, Exps, no_exps, exp, Inits, no_inits, init, Decs, no_decs, types, variable, functions, FunDecs, no_functions, function}
+use Rattle.tg_syntax.specs.Tree.{Exp, Nil, Break, Int, Text, Read, Call, Neg, Binary, Make, Fill, Assign, If, When, While, For, Let, Seq, LValue}
+use Rattle.tg_syntax.specs.Tree.{Simple, Field, Index, Exps, no_exps, exp, Inits, no_inits, init, Decs, no_decs, types, variable, functions, FunDecs}
+use Rattle.tg_syntax.specs.Tree.{no_functions, function}
 use Rattle.tg_types.specs.Types.{Ty, int_type, none_type}
 use Rattle.tg_types.specs.Checks.{Noted, Check, fine, ◌>>=◌}
 use Rattle.tg_types.specs.Scopes.{Signature, variable_at, Scope, name_of, at_of, binding, in_a_loop, in_no_loop}
 use Rattle.tg_types.specs.Groups.{function_names, with_functions, with_params}
 use Rattle.tg_types.specs.Typing.{expect, expect_none, typed, typed_place, typed_last, expect_all, expect_fields, declare, bodies, are_fields, count}
 use Rattle.tg_types.specs.Has.{Fits, the_same}
-use Rattle.tg_types.proofs.Inversion.{steps, kept, given, presented, fits_int, expected, expected_none, arms_fit, sides, variable_got, callee_got, fields_got, element_got, selected}
+use Rattle.tg_types.proofs.Inversion.{steps, kept, given, presented, fits_int, expected, expected_none, arms_fit, sides, variable_got, callee_got}
+use Rattle.tg_types.proofs.Inversion.{fields_got, element_got, selected}
 use Rattle.tg_types.proofs.GroupInversion.{both, no_repeats_keep, group_apart, Headed, no_heads, a_head, headed, body_got, assignable_keep, own_got, types_got}
-use Rattle.tg_types.proofs.CheckedParts.{Checked, nil, int, text, break, read, call, neg, binary, make, fill, assign, if_else, when, while, for, block, seq, CheckedPlace, simple, field, index, CheckedAll, end_args, an_arg, CheckedInits, end_inits, an_init, CheckedLast, end_lasts, a_last, CheckedDecs, end_decs, type_names, variables, group, CheckedBodies, end_bodies, a_body}
+use Rattle.tg_types.proofs.CheckedParts.{Checked, nil, int, text, break, read, call, neg, binary, make, fill, assign, if_else, when, while, for}
+use Rattle.tg_types.proofs.CheckedParts.{block, seq, CheckedPlace, simple, field, index, CheckedAll, end_args, an_arg, CheckedInits, end_inits}
+use Rattle.tg_types.proofs.CheckedParts.{an_init, CheckedLast, end_lasts, a_last, CheckedDecs, end_decs, type_names, variables, group, CheckedBodies}
+use Rattle.tg_types.proofs.CheckedParts.{end_bodies, a_body}
 
 -- a part, once its type and the state behind it are known to be these; the same of the state before it
 to : {e : Exp} {scope : Scope} {t u : Ty} {g h k : Noted} → t ≡ u → h ≡ k → Checked e scope t g h → Checked e scope u g k

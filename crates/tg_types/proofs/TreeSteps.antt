@@ -33,7 +33,8 @@ use Rattle.tg_types.specs.Trees.{fitting, choice, second_way, idle, one_body, Is
 use Rattle.tg_syntax.specs.NamesWithin.{NamesWithin, ExpsWithin, InitsWithin, DecsWithin, FunctionsWithin}
 use Rattle.tg_types.specs.States.{Fails, Gives, Leads, Keeps, Opens, scope_of, noted_of}
 use Rattle.tg_types.proofs.LimitFaults.{span_is}
-use Rattle.tg_types.proofs.Steps.{step, two_steps, fails_first, two_fail_first, two_fail_then, last_fails, same_scope, keeps_both, keeps_same, opens_keep, opens_both}
+use Rattle.tg_types.proofs.Steps.{step, two_steps, fails_first, two_fail_first, two_fail_then, last_fails, same_scope, keeps_both, keeps_same}
+use Rattle.tg_types.proofs.Steps.{opens_keep, opens_both}
 
 -- where an expression begins
 pub start_is : (e : CodeExp) → start_of (plain e) ≡ e.span.from
@@ -114,7 +115,8 @@ pub record ArgumentsOn (names : List (List ℕ)) (in_loop : Bool) (first now : C
 pub arguments_none : {names : List (List ℕ)} {in_loop : Bool} {s : CheckingState} {es : List CodeExp} {ts : List Ty} → ArgumentsOn names in_loop s s es ts 0
 arguments_none = record { kept = keeps_same; onward = λ scope h. refl }
 
-pub arguments_one : {names : List (List ℕ)} {in_loop : Bool} {first now next : CheckingState} {es : List CodeExp} {ts : List Ty} {k : ℕ} (e : CodeExp) (t : Ty) →
+pub arguments_one : {names : List (List ℕ)} {in_loop : Bool} {first now next : CheckingState} {es : List CodeExp}
+    {ts : List Ty} {k : ℕ} (e : CodeExp) (t : Ty) →
     ArgumentsOn names in_loop first now es ts k → k < length es → length es ≡ length ts → e ≡ get_or es k e → t ≡ get_or ts k t →
     ((scope : Scope) → scope ≡ scope_of names now in_loop → fitting (plain e) t scope (noted_of now) ≡ fine tt (noted_of next)) → Keeps now next →
     ArgumentsOn names in_loop first next es ts (k + 1)
@@ -207,7 +209,8 @@ order_fails {names = names} {now = now} {es = es} {t = t} {k = k} e a l i g scop
     last_fails (a.onward scope h ∙ ap (λ x. typed_last t (exps_of x) scope (noted_of now)) (from_here es k e l i))
     (fails_first _ _ (g scope (same_scope names a.kept h)))
 
-pub order_all : {names : List (List ℕ)} {in_loop : Bool} {first now : CheckingState} {es : List CodeExp} {t : Ty} {k : ℕ} → InOrder names in_loop first now es t k →
+pub order_all : {names : List (List ℕ)} {in_loop : Bool} {first now : CheckingState} {es : List CodeExp} {t : Ty} {k : ℕ} →
+    InOrder names in_loop first now es t k →
     k ≡ length es → (scope : Scope) → scope ≡ scope_of names first in_loop → typed_last none_type (exps_of es) scope (noted_of first) ≡ fine t (noted_of now)
 unfolding give
 order_all {now = now} {es = es} {t = t} {k = k} a e scope h = a.onward scope h ∙ ap (λ x. typed_last t (exps_of x) scope (noted_of now)) (none_left es k e)
@@ -278,7 +281,8 @@ pub record BodiesOn (names : List (List ℕ)) (first now : CheckingState) (fs : 
 pub bodies_none : {names : List (List ℕ)} {s : CheckingState} {fs : List CodeFunDec} {ss : List Signature} → BodiesOn names s s fs ss 0
 bodies_none = record { kept = keeps_same; onward = λ scope h. refl }
 
-pub bodies_one : {names : List (List ℕ)} {first now next : CheckingState} {fs : List CodeFunDec} {ss : List Signature} {k : ℕ} (f : CodeFunDec) (s : Signature) →
+pub bodies_one : {names : List (List ℕ)} {first now next : CheckingState} {fs : List CodeFunDec} {ss : List Signature}
+    {k : ℕ} (f : CodeFunDec) (s : Signature) →
     BodiesOn names first now fs ss k → k < length fs → length fs ≡ length ss → f ≡ get_or fs k f → s ≡ get_or ss k s →
     ((scope : Scope) → scope ≡ scope_of names now false → one_body f.params f.result (plain f.body) s scope (noted_of now) ≡ fine tt (noted_of next)) →
     Keeps now next → BodiesOn names first next fs ss (k + 1)
@@ -306,7 +310,8 @@ bodies_all {now = now} {fs = fs} {ss = ss} {k = k} a e scope h =
     a.onward scope h ∙ ap (λ x. bodies (functions_of x) (drop k ss) scope (noted_of now)) (none_left fs k e)
 
 -- a check goes on behind an answer
-pub leads_carry : {X A : Type 0} (r : Result X TypeFault) (scope : Scope) (after : Noted) (onward : Scope → Noted → CheckResult A) {c c' : CheckResult A} → c ≡ c' →
+pub leads_carry : {X A : Type 0} (r : Result X TypeFault) (scope : Scope) (after : Noted) (onward : Scope → Noted →
+    CheckResult A) {c c' : CheckResult A} → c ≡ c' →
     Leads r scope after onward c' → Leads r scope after onward c
 leads_carry r scope after onward d g = subst (λ c. Leads r scope after onward c) (sym d) g
 

@@ -6,7 +6,9 @@ use Rattle.tg_base.specs.declared.ids.Span.{Span}
 use Rattle.tg_syntax.specs.declared.tokens.Ident.{Ident}
 use Rattle.tg_syntax.specs.declared.trees.Param.{Param}
 use Rattle.tg_syntax.specs.declared.trees.Op.TheVariants as op
-use Rattle.tg_syntax.specs.Tree.{Form, Alias, Fields, Array, TypeDec, Exp, Nil, Break, Int, Text, Read, Call, Neg, Binary, Make, Fill, Assign, If, When, While, For, Let, Seq, Simple, Field, Index, Exps, no_exps, exp, no_inits, init, no_decs, types, variable, functions, no_functions, function}
+use Rattle.tg_syntax.specs.Tree.{Form, Alias, Fields, Array, TypeDec, Exp, Nil, Break, Int, Text, Read, Call, Neg, Binary, Make, Fill, Assign, If}
+use Rattle.tg_syntax.specs.Tree.{When, While, For, Let, Seq, Simple, Field, Index, Exps, no_exps, exp, no_inits, init, no_decs, types, variable}
+use Rattle.tg_syntax.specs.Tree.{functions, no_functions, function}
 use Rattle.tg_types.specs.declared.faults.TypeRule.{TypeRule}
 use Rattle.tg_types.specs.declared.faults.TypeRule.TheVariants.{T20, T1, T2, T3, T4, T5, T6, T7, T8, T9, T10, T11, T12, T13, T14, T15, T16, T17, T18, T19}
 use Rattle.tg_types.specs.Checks.{◌>>=◌, give, refuse, note, shape_at, add_shape}
@@ -571,7 +573,8 @@ example_88 = refl
 -- let type r={} var v:=r{} in (v=nil;nil<>v) end
 example_89 : verdict ("r" ∷ "v" ∷ []) (Let (s 0 46) (types (t (i 0 9 10) (Fields ([])) ∷ [])
     (variable (i 1 18 19) None (Make (s 21 24) (i 0 21 22) no_inits) no_decs))
-    (exps ((Seq (s 28 42) (exps ((Binary (s 29 34) op.Equal 30 (Read (s 29 30) (Simple (i 1 29 30))) (Nil (s 31 34))) ∷ (Binary (s 35 41) op.NotEqual 38 (Nil (s 35 38)) (Read (s 40 41) (Simple (i 1 40 41)))) ∷ []))) ∷ []))) ≡ None
+    (exps ((Seq (s 28 42) (exps ((Binary (s 29 34) op.Equal 30 (Read (s 29 30) (Simple (i 1 29 30))) (Nil (s 31 34))) ∷
+    (Binary (s 35 41) op.NotEqual 38 (Nil (s 35 38)) (Read (s 40 41) (Simple (i 1 40 41)))) ∷ []))) ∷ []))) ≡ None
 unfolding ◌>>=◌ give refuse note shape_at add_shape
 example_89 = refl
 
@@ -718,7 +721,9 @@ unfolding ◌>>=◌ give refuse note shape_at add_shape
 example_115 = refl
 
 -- (let var x:=1 in x end;x)
-example_116 : verdict ("x" ∷ []) (Seq (s 0 25) (exps ((Let (s 1 22) (variable (i 0 9 10) None (Int (s 12 13) 1) no_decs) (exps ((Read (s 17 18) (Simple (i 0 17 18))) ∷ []))) ∷ (Read (s 23 24) (Simple (i 0 23 24))) ∷ []))) ≡ Some (T1, 23)
+example_116 : verdict ("x" ∷ [])
+    (Seq (s 0 25) (exps ((Let (s 1 22) (variable (i 0 9 10) None (Int (s 12 13) 1) no_decs) (exps ((Read (s 17 18) (Simple (i 0 17 18))) ∷ []))) ∷
+    (Read (s 23 24) (Simple (i 0 23 24))) ∷ []))) ≡ Some (T1, 23)
 unfolding ◌>>=◌ give refuse note shape_at add_shape
 example_116 = refl
 

@@ -1,9 +1,11 @@
 -- What is known of a run's values, variables, objects and names, by types.
-use Rattle.std.proofs.Common.{◌≡◌, ℕ, zero, suc, ◌<◌, List, [], ◌∷◌, ◌++◌, length, Option, Some, None, Bool, true, false, refl, sym, ap, ◌∙◌, subst, arith, replicate}
+use Rattle.std.proofs.Common.{◌≡◌, ℕ, zero, suc, ◌<◌, List, [], ◌∷◌, ◌++◌, length, Option, Some, None, Bool, true, false, refl, sym, ap, ◌∙◌, subst}
+use Rattle.std.proofs.Common.{arith, replicate}
 use Rattle.std.specs.Prelude.{slice_get, slice_set, ◌==◌, if◌then◌else◌}
 use Rattle.std.proofs.lemmas.Bool.{eqb-true}
 use Rattle.tg_syntax.specs.Tree.{FunDecs, function}
-use Rattle.tg_meaning.specs.Values.{Value, int, string, nil, reference, nothing, Object, fields, elements, Entry, variable, group, standard, SourceWorld, start, add_variable, put_variable, add_object, put_object}
+use Rattle.tg_meaning.specs.Values.{Value, int, string, nil, reference, nothing, Object, fields, elements, Entry, variable, group, standard}
+use Rattle.tg_meaning.specs.Values.{SourceWorld, start, add_variable, put_variable, add_object, put_object}
 use Rattle.tg_meaning.specs.Operators.{get_field, set_field, field_in, element_in, with_field, with_element}
 use Rattle.tg_meaning.specs.Environments.{Function, Bound, to_variable, to_function, to_standard, function_named, or_beyond, find}
 use Rattle.tg_types.specs.Types.{Ty, int_type, string_type, nil_type, none_type, record_type, array_type, Shape, record_shape, array_shape}

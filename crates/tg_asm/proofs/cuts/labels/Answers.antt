@@ -10,4 +10,5 @@ pub loop-name-smaller : goal.loop-name-smaller
 loop-name-smaller c = labels_shorter _ _ _ _ (sym c.in-Some.ensures) c.skip-rest-in-Some.ensures
 
 pub loop-name-preserved : goal.loop-name-preserved
-loop-name-preserved c = labels_pushed _ _ _ _ _ _ _ c.loop-name.invariant (sym c.in-Some.ensures) (texts_pushed _ _ _ c.in_ok-push.ensures.items) c.skip-rest-in-Some.ensures
+loop-name-preserved c = labels_pushed _ _ _ _ _ _ _ c.loop-name.invariant (sym c.in-Some.ensures)
+    (texts_pushed _ _ _ c.in_ok-push.ensures.items) c.skip-rest-in-Some.ensures

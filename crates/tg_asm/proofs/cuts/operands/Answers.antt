@@ -10,4 +10,5 @@ pub loop-before-smaller : goal.loop-before-smaller
 loop-before-smaller c = operands_shorter _ _ _ _ _ (ap gap_of c.in-Next.is) (sym c.in-Some.ensures) c.next_gap-before.ensures
 
 pub loop-before-preserved : goal.loop-before-preserved
-loop-before-preserved c = operands_pushed _ _ _ _ _ _ _ _ c.loop-before.invariant (ap gap_of c.in-Next.is) (sym c.in-Some.ensures) (operand_pushed _ _ _ c.in_ok-push-in-Some.ensures.items) c.next_gap-before.ensures
+loop-before-preserved c = operands_pushed _ _ _ _ _ _ _ _ c.loop-before.invariant (ap gap_of c.in-Next.is)
+    (sym c.in-Some.ensures) (operand_pushed _ _ _ c.in_ok-push-in-Some.ensures.items) c.next_gap-before.ensures

@@ -5,7 +5,9 @@ use Rattle.tg_syntax.proofs.ListLaws.{plain_kind-Let}
 use Rattle.tg_escape.specs.declared.searches.Search.{Search}
 use Rattle.tg_escape.specs.Uses.{uses, exps_uses, declare_params}
 use Rattle.tg_escape.specs.Searches.{FindsUses, FindsDeclared, Declares}
-use Rattle.tg_escape.proofs.SearchSteps.{behind, closed, walk_begins, walk_on, walk_ends, uses_are, uses_in_exp, uses_in_init, uses_in_function, exps_are, inits_are, functions_are, decs_begin, dec_more, decs_end, decs_open, params_open, still_open, in_order, body_closed, left_of}
+use Rattle.tg_escape.proofs.SearchSteps.{behind, closed, walk_begins, walk_on, walk_ends, uses_are, uses_in_exp, uses_in_init, uses_in_function}
+use Rattle.tg_escape.proofs.SearchSteps.{exps_are, inits_are, functions_are, decs_begin, dec_more, decs_end, decs_open, params_open, still_open}
+use Rattle.tg_escape.proofs.SearchSteps.{in_order, body_closed, left_of}
 use Rattle.tg_escape.proofs.searches.+uses.Goals as goal
 
 pub in_turn-returns : goal.in_turn-returns
@@ -16,7 +18,11 @@ in_turn-returns t c =
 pub in_exp-returns-in_ok-in_exps-in-Let : goal.in_exp-returns-in_ok-in_exps-in-Let
 in_exp-returns-in_ok-in_exps-in-Let t c =
     let o = decs_open (length c.args.search.now.within.items) (decs_of c.in-Let.decs.items.items) c.args.search.now.table in
-    subst (λ x. FindsUses c.args.search.now (record { table = c.cut_to.new.self; within = c.in_exps-in-Let.new.search.within; found = c.in_exps-in-Let.new.search.found })
+    subst (λ x. FindsUses c.args.search.now (record {
+      table = c.cut_to.new.self;
+      within = c.in_exps-in-Let.new.search.within;
+      found = c.in_exps-in-Let.new.search.found;
+    })
     (uses x))
     (sym (ap (λ k. plain_kind k c.args.e.now.span) c.in-Let.is ∙ plain_kind-Let c.in-Let.decs c.in-Let.body c.args.e.now.span))
     (closed o.0 (behind (λ within seen. seen) (exps_uses (plain_exps c.in-Let.body)) c.in_ok-in_decs-in-Let.ensures c.in_ok-in_exps-in-Let.ensures) o.1
@@ -82,7 +88,8 @@ in_function-returns t c =
     let o : Search = record { table = c.args.search.now.table; within = c.push.new.self; found = c.args.search.now.found } in
     body_closed {o = o} c.args.function.now.name c.args.function.now.params (plain c.args.function.now.body) refl c.in_ok-push.ensures.items refl
     (subst (λ ps. Declares o c.declare_params.new.search (λ level. declare_params level ps)) c.as_slice.ensures c.in_ok-declare_params.ensures)
-    c.in_ok-in_exp.ensures c.cut_to.ensures c.len-open.ensures (left_of _ _ _ _ c.in_exp.new.search.within.len c.pop.result c.pop.ensures.items (omega (arith, c.in_exp.new.search.within.ok)) c.pop.ensures.variant) refl
+    c.in_ok-in_exp.ensures c.cut_to.ensures c.len-open.ensures (left_of _ _ _ _ c.in_exp.new.search.within.len c.pop.result
+    c.pop.ensures.items (omega (arith, c.in_exp.new.search.within.ok)) c.pop.ensures.variant) refl
 
 pub in_function-cut_to-requires : goal.in_function-cut_to-requires
 in_function-cut_to-requires t c =

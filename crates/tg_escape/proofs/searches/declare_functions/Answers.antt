@@ -9,7 +9,8 @@ loop-function-init c = names_begin
 pub loop-function-preserved : goal.loop-function-preserved
 loop-function-preserved c =
     one_function c.function-item.result c.loop-function.invariant c.loop-function-test.true c.function-item.is
-    (c.in_ok-push.ensures.ok ∙ ap (λ d. (c.function-item.result.name.name.0, d) ∷ c.loop-function.search.table) (c.function.ensures ∙ ap a_function (omega (arith, c.len-level.ensures, c.args.search.now.within.ok)))) refl refl
+    (c.in_ok-push.ensures.ok ∙ ap (λ d. (c.function-item.result.name.name.0, d) ∷ c.loop-function.search.table)
+    (c.function.ensures ∙ ap a_function (omega (arith, c.len-level.ensures, c.args.search.now.within.ok)))) refl refl
 
 pub returns : goal.returns
 returns c =

@@ -12,4 +12,5 @@ returns-clause-stays c = λ slots temps slots' temps' home ls lt d. drawn_stays 
 
 pub returns-clause-locals : goal.returns-clause-locals
 returns-clause-locals c = λ f slots temps i home later ls lt e h.
-    drawn_differs slots temps home later (drawn_stays f.slots f.temps slots temps home ls lt (drawn_at f.params f.slots f.temps i home f.slots_below f.temps_below e)) h
+    drawn_differs slots temps home later (drawn_stays f.slots f.temps slots temps home ls lt
+    (drawn_at f.params f.slots f.temps i home f.slots_below f.temps_below e)) h

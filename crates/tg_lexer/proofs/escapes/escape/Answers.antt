@@ -20,4 +20,5 @@ returns-in-92 c = byte_whole _ 92 92 (ap Some (sym c.in-92.is) ∙ c.in-Some.ens
 
 pub returns-in_default-3 : goal.returns-in_default-3
 returns-in_default-3 c =
-    byte_bad _ _ c.in-Some.ensures (not_equal _ 110 (omega arith)) (not_equal _ 116 (omega arith)) (not_equal _ 34 (omega arith)) (not_equal _ 92 (omega arith)) (not_equal _ 94 (omega arith)) (sym c.if-is_digit.ensures) (sym c.if-is_blank.ensures)
+    byte_bad _ _ c.in-Some.ensures (not_equal _ 110 (omega arith)) (not_equal _ 116 (omega arith)) (not_equal _ 34 (omega arith))
+    (not_equal _ 92 (omega arith)) (not_equal _ 94 (omega arith)) (sym c.if-is_digit.ensures) (sym c.if-is_blank.ensures)

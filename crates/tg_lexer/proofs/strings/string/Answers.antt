@@ -1,6 +1,7 @@
 use Rattle.std.proofs.Common.{◌≢◌, ◌<◌, get_or, arith, sym}
 use Rattle.std.proofs.lemmas.List.{take_rest}
-use Rattle.tg_lexer.proofs.StringSteps.{quotes_none, quotes_plain, quotes_escape, quotes_gap, quotes_whole, quotes_end, quotes_line, quotes_cut, quotes_bad, quotes_control}
+use Rattle.tg_lexer.proofs.StringSteps.{quotes_none, quotes_plain, quotes_escape, quotes_gap, quotes_whole, quotes_end, quotes_line, quotes_cut}
+use Rattle.tg_lexer.proofs.StringSteps.{quotes_bad, quotes_control}
 use Rattle.tg_lexer.proofs.strings.string.Goals as goal
 
 pub loop-at-init : goal.loop-at-init
@@ -10,7 +11,8 @@ pub loop-at-preserved-then-is_plain : goal.loop-at-preserved-then-is_plain
 loop-at-preserved-then-is_plain c = rw c.in_ok-push.ensures.items (quotes_plain _ _ _ c.loop-at.invariant c.loop-at-test.true (sym c.if-is_plain.ensures))
 
 pub loop-at-preserved-in-Byte : goal.loop-at-preserved-in-Byte
-loop-at-preserved-in-Byte c = rw c.in_ok-push-in-Byte.ensures.items (quotes_escape _ _ _ _ _ c.loop-at.invariant c.loop-at-test.true c.in-92.is (rw take_rest at c.in-Byte.ensures))
+loop-at-preserved-in-Byte c = rw c.in_ok-push-in-Byte.ensures.items (quotes_escape _ _ _ _ _ c.loop-at.invariant
+    c.loop-at-test.true c.in-92.is (rw take_rest at c.in-Byte.ensures))
 
 pub loop-at-preserved : goal.loop-at-preserved
 loop-at-preserved c = quotes_gap _ _ _ _ c.loop-at.invariant c.loop-at-test.true c.in-92.is (rw take_rest at c.in-Nothing.ensures)

@@ -9,7 +9,8 @@ returns-in_err-token-clause-given c = ended _ _ _ _ _ _ c.from_residual.ensures 
 
 pub returns-then-is-clause-given : goal.returns-then-is-clause-given
 returns-then-is-clause-given c =
-    subst (λ ps. Does (ListedParams c.args.close) (listed_params c.args.close) c.args.tokens.now (Got ps c.in_ok-token.after.now)) (sym (c.from_vec.ensures ∙ c.new.ensures.items))
+    subst (λ ps. Does (ListedParams c.args.close) (listed_params c.args.close) c.args.tokens.now (Got ps c.in_ok-token.after.now))
+    (sym (c.from_vec.ensures ∙ c.new.ensures.items))
     (split_on (ListedParams _) c.in_ok-token.ensures.first c.is.ensures c.if-is.true (give_got (ListedParams _)))
 
 pub returns-in_err-first-clause-given : goal.returns-in_err-first-clause-given

@@ -20,13 +20,15 @@ returns-then-not-is-clause-given c =
 pub returns-in_err-param-clause-given : goal.returns-in_err-param-clause-given
 returns-in_err-param-clause-given c =
     ended _ _ _ _ _ _ c.from_residual-in_err-param.ensures
-    (onward_stops c.params.invariant.onward (split_then (MoreParams _) c.in_ok-token.ensures.first c.is.ensures c.if-not-is.false (call_stops (MoreParams _) OneParam c.in_err-param.ensures.given)))
+    (onward_stops c.params.invariant.onward (split_then (MoreParams _) c.in_ok-token.ensures.first c.is.ensures
+    c.if-not-is.false (call_stops (MoreParams _) OneParam c.in_err-param.ensures.given)))
 
 pub returns-in_err-push-2-clause-given : goal.returns-in_err-push-2-clause-given
 returns-in_err-push-2-clause-given c = ended _ _ _ _ _ _ c.from_residual-in_err-push-2.ensures (no_memory (MoreParams _))
 
 pub params-preserved : goal.params-preserved
 params-preserved c = record {
-  onward = onward_more c.params.invariant.onward c.in_ok-token.ensures.first c.is.ensures c.if-not-is.false c.in_ok-param.ensures.given c.in_ok-push-2.ensures.items;
+  onward = onward_more c.params.invariant.onward c.in_ok-token.ensures.first c.is.ensures c.if-not-is.false
+      c.in_ok-param.ensures.given c.in_ok-push-2.ensures.items;
   shorter = omega (arith, c.in_ok-token.ensures.shorter, c.in_ok-param.ensures.shorter);
 }

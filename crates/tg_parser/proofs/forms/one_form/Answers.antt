@@ -2,7 +2,8 @@ use Rattle.tg_syntax.specs.declared.tokens.Sign.TheVariants.{RightBrace}
 use Rattle.tg_grammar.specs.declared.marks.Mark.TheVariants.{OfSign}
 use Rattle.tg_grammar.specs.Steps.{OneForm, ListedParams}
 use Rattle.tg_grammar.specs.Reading.{give_got, call_got}
-use Rattle.tg_parser.proofs.Chains.{name_on, name_stops, want_on, want_then, want_stops, call_stops, ended, split_on, split_then, split_off, split_else, split_none}
+use Rattle.tg_parser.proofs.Chains.{name_on, name_stops, want_on, want_then, want_stops, call_stops, ended, split_on, split_then, split_off}
+use Rattle.tg_parser.proofs.Chains.{split_else, split_none}
 use Rattle.tg_parser.proofs.forms.one_form.Goals as goal
 
 pub returns-in_err-token-clause-given : goal.returns-in_err-token-clause-given
@@ -11,7 +12,8 @@ returns-in_err-token-clause-given c = ended _ _ _ _ _ _ c.from_residual.ensures 
 pub returns-in_err-fields-clause-given : goal.returns-in_err-fields-clause-given
 returns-in_err-fields-clause-given c =
     ended _ _ _ _ _ _ c.from_residual-in_err-fields.ensures
-    (split_then OneForm c.in_ok-token.ensures.first c.is.ensures c.if-is.true (call_stops OneForm (ListedParams (OfSign RightBrace)) c.in_err-fields.ensures.given))
+    (split_then OneForm c.in_ok-token.ensures.first c.is.ensures c.if-is.true
+    (call_stops OneForm (ListedParams (OfSign RightBrace)) c.in_err-fields.ensures.given))
 
 pub returns-then-is-clause-given : goal.returns-then-is-clause-given
 returns-then-is-clause-given c =

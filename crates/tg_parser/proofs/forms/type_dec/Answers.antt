@@ -18,4 +18,5 @@ returns-in_err-form-clause-given c =
 
 pub returns-clause-given : goal.returns-clause-given
 returns-clause-given c =
-    name_on TypeDec c.in_ok-name.ensures.given (want_on TypeDec c.in_ok-rest.ensures.given (call_got TypeDec OneForm c.in_ok-form.ensures.given (give_got TypeDec)))
+    name_on TypeDec c.in_ok-name.ensures.given
+    (want_on TypeDec c.in_ok-rest.ensures.given (call_got TypeDec OneForm c.in_ok-form.ensures.given (give_got TypeDec)))

@@ -16,7 +16,8 @@ returns-in_err-rest-clause-given c =
 pub returns-in_err-params-clause-given : goal.returns-in_err-params-clause-given
 returns-in_err-params-clause-given c =
     begins_ended _ _ c.from_residual-in_err-params.result c.from_residual-in_err-params.ensures
-    (λ j f. name_then j c.in_ok-name.ensures.given (want_then j c.in_ok-rest.ensures.given (call_stops j (ListedParams (OfSign RightParen)) c.in_err-params.ensures.given)))
+    (λ j f. name_then j c.in_ok-name.ensures.given
+    (want_then j c.in_ok-rest.ensures.given (call_stops j (ListedParams (OfSign RightParen)) c.in_err-params.ensures.given)))
 
 pub returns-in_err-result-clause-given : goal.returns-in_err-result-clause-given
 returns-in_err-result-clause-given c =

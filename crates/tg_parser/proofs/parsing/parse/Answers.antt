@@ -10,10 +10,12 @@ returns-in-Ok-clause-shallow c = got_shallow c.args.tokens.now c.in_ok-part.part
 
 pub returns-in-Err-Wrong-clause-bad : goal.returns-in-Err-Wrong-clause-bad
 returns-in-Err-Wrong-clause-bad c =
-    refused c.args.tokens.now c.in_ok-part.part.now c.in-Err-Wrong.field-0 c.in-Err-Wrong.at c.descent_is_exact.ensures.first c.in_ok-part.ensures c.in-Err-Wrong.field-0-is
+    refused c.args.tokens.now c.in_ok-part.part.now c.in-Err-Wrong.field-0 c.in-Err-Wrong.at c.descent_is_exact.ensures.first
+    c.in_ok-part.ensures c.in-Err-Wrong.field-0-is
     c.in-Err-Wrong.ensures.given
 
 pub returns-in-Err-More-clause-bad : goal.returns-in-Err-More-clause-bad
 returns-in-Err-More-clause-bad c =
-    too_deep c.args.tokens.now c.in_ok-part.part.now c.in-Err-More.field-0 c.index-part-part.result c.descent_is_exact.ensures.more c.descent_is_exact.ensures.ends c.requires.ends
+    too_deep c.args.tokens.now c.in_ok-part.part.now c.in-Err-More.field-0 c.index-part-part.result c.descent_is_exact.ensures.more
+    c.descent_is_exact.ensures.ends c.requires.ends
     c.in_ok-part.ensures c.in-Err-More.field-0-is c.in-Err-More.ensures.given

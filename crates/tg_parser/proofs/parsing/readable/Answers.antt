@@ -6,7 +6,8 @@ use Rattle.tg_parser.proofs.ParseSteps.{cut_at}
 use Rattle.tg_parser.proofs.parsing.readable.Goals as goal
 
 pub returns-in-None : goal.returns-in-None
-returns-in-None c = all (subst (λ o. MatchOption o (IsShallow c.args.tokens.now) (λ place. IsFirstDeep c.args.tokens.now place)) c.in-None.is c.in_ok-first_deep.ensures)
+returns-in-None c = all (subst (λ o. MatchOption o (IsShallow c.args.tokens.now) (λ place. IsFirstDeep c.args.tokens.now place))
+    c.in-None.is c.in_ok-first_deep.ensures)
 
 pub returns-in-Some : goal.returns-in-Some
 returns-in-Some c =

@@ -14,8 +14,11 @@ use Rattle.tg_parser.specs.Ranks.{level_of}
 use Rattle.tg_parser.specs.Heads.{plain_of}
 use Rattle.tg_parser.proofs.Chains.{want_on, want_then, want_stops, name_on, name_then, name_stops, call_then, call_stops, ended}
 use Rattle.tg_parser.proofs.Leading.{then, gives, raise, carry, want_leads, name_leads, call_leads, last_at, begins_ended, two_ended}
-use Rattle.tg_parser.proofs.Descents.{got_is, same_leads, level_does, level_refuses, after_same, suffix_does, suffix_refuses, suffix_same, some_leads, none_leads, some_operates, none_operates, some_declares, none_declares, if_some, elses_yes, elses_no, leaf_is, leaf_none, look_leads, refuse_at}
-use Rattle.tg_parser.proofs.Onwards.{exps_end, inits_end, exps_one, inits_one, exps_none, inits_none, items_first, items_more, items_stops, inits_first, inits_more, inits_stops, decs_first, decs_more, decs_stops}
+use Rattle.tg_parser.proofs.Descents.{got_is, same_leads, level_does, level_refuses, after_same, suffix_does, suffix_refuses, suffix_same, some_leads}
+use Rattle.tg_parser.proofs.Descents.{none_leads, some_operates, none_operates, some_declares, none_declares, if_some, elses_yes, elses_no, leaf_is}
+use Rattle.tg_parser.proofs.Descents.{leaf_none, look_leads, refuse_at}
+use Rattle.tg_parser.proofs.Onwards.{exps_end, inits_end, exps_one, inits_one, exps_none, inits_none, items_first, items_more, items_stops}
+use Rattle.tg_parser.proofs.Onwards.{inits_first, inits_more, inits_stops, decs_first, decs_more, decs_stops}
 use Rattle.tg_parser.proofs.Passings.{unary_refuses}
 use Rattle.tg_parser.proofs.reading.+descent.Goals as goal
 
@@ -23,22 +26,27 @@ pub whole-returns-in_err-left-clause-given : goal.whole-returns-in_err-left-clau
 whole-returns-in_err-left-clause-given t c = ended _ _ _ _ _ _ c.from_residual.ensures (call_stops (At Whole) (At Disjunction) c.in_err-left.ensures.given)
 
 pub whole-returns-in-Other-clause-given : goal.whole-returns-in-Other-clause-given
-whole-returns-in-Other-clause-given t c = gives (then (call_leads (At Whole) (At Disjunction) c.in_ok-left.ensures.given) (same_leads (At Whole) c.in-Other.ensures))
+whole-returns-in-Other-clause-given t c = gives (then (call_leads (At Whole) (At Disjunction) c.in_ok-left.ensures.given)
+    (same_leads (At Whole) c.in-Other.ensures))
 
 pub whole-returns-in-LValue-clause-given : goal.whole-returns-in-LValue-clause-given
-whole-returns-in-LValue-clause-given t c = carry c.assignment.result _ _ (then (call_leads (At Whole) (At Disjunction) c.in_ok-left.ensures.given) (same_leads (At Whole) c.in-LValue.ensures)) c.assignment.ensures.given
+whole-returns-in-LValue-clause-given t c = carry c.assignment.result _ _
+    (then (call_leads (At Whole) (At Disjunction) c.in_ok-left.ensures.given) (same_leads (At Whole) c.in-LValue.ensures)) c.assignment.ensures.given
 
 pub assignment-returns-in_default-clause-given : goal.assignment-returns-in_default-clause-given
-assignment-returns-in_default-clause-given t c = got_is (At Whole) c.read.ensures (gives (none_leads _ _ c.in_ok-after.ensures.given c.in_default.is (At Whole) _ _))
+assignment-returns-in_default-clause-given t c = got_is (At Whole) c.read.ensures
+    (gives (none_leads _ _ c.in_ok-after.ensures.given c.in_default.is (At Whole) _ _))
 
 pub assignment-returns-in_err-value-clause-given : goal.assignment-returns-in_err-value-clause-given
-assignment-returns-in_err-value-clause-given t c = ended _ _ _ _ _ _ c.from_residual-in_err-value.ensures (raise (some_leads _ _ c.in_ok-after.ensures.given c.in-Some.is (At Whole) _ _) (call_stops (At Whole) (At Whole) c.in_err-value.ensures.given))
+assignment-returns-in_err-value-clause-given t c = ended _ _ _ _ _ _ c.from_residual-in_err-value.ensures
+    (raise (some_leads _ _ c.in_ok-after.ensures.given c.in-Some.is (At Whole) _ _) (call_stops (At Whole) (At Whole) c.in_err-value.ensures.given))
 
 pub assignment-returns-in_err-e-clause-given : goal.assignment-returns-in_err-e-clause-given
 assignment-returns-in_err-e-clause-given t c = ended _ _ _ _ _ _ c.from_residual-in_err-e.ensures (no_memory (At Whole))
 
 pub assignment-returns-clause-given : goal.assignment-returns-clause-given
-assignment-returns-clause-given t c = got_is (At Whole) c.in_ok-e.ensures (gives (then (some_leads _ _ c.in_ok-after.ensures.given c.in-Some.is (At Whole) _ _) (call_leads (At Whole) (At Whole) c.in_ok-value.ensures.given)))
+assignment-returns-clause-given t c = got_is (At Whole) c.in_ok-e.ensures
+    (gives (then (some_leads _ _ c.in_ok-after.ensures.given c.in-Some.is (At Whole) _ _) (call_leads (At Whole) (At Whole) c.in_ok-value.ensures.given)))
 
 pub at-returns-in_err-left-clause-given : goal.at-returns-in_err-left-clause-given
 at-returns-in_err-left-clause-given t c = ended _ _ _ _ _ _ c.from_residual.ensures (unary_refuses c.args.rank c.in_err-left.ensures.given)
@@ -53,37 +61,56 @@ pub onward-returns-in-Unary-clause-given : goal.onward-returns-in-Unary-clause-g
 onward-returns-in-Unary-clause-given t c = λ start d. level_does (ap level_of (sym c.in-Unary.is)) d
 
 pub operands-returns-in_err-first-clause-given : goal.operands-returns-in_err-first-clause-given
-operands-returns-in_err-first-clause-given t c = λ start d. ended _ _ _ _ _ _ c.from_residual.ensures (call_stops (At _) (At _) (level_refuses c.below.ensures (c.in_err-first.ensures.given start d)))
+operands-returns-in_err-first-clause-given t c = λ start d. ended _ _ _ _ _ _ c.from_residual.ensures
+    (call_stops (At _) (At _) (level_refuses c.below.ensures (c.in_err-first.ensures.given start d)))
 
 pub operands-returns-clause-given : goal.operands-returns-clause-given
-operands-returns-clause-given t c = λ start d. carry c.operators.result _ _ (call_leads (At _) (At _) (level_does c.below.ensures (c.in_ok-first.ensures.given start d))) (last_at c.operators.result _ _ _ _ _ _ c.operators.ensures.given)
+operands-returns-clause-given t c = λ start d. carry c.operators.result _ _
+    (call_leads (At _) (At _) (level_does c.below.ensures (c.in_ok-first.ensures.given start d)))
+    (last_at c.operators.result _ _ _ _ _ _ c.operators.ensures.given)
 
 pub operators-returns-in_default-clause-given : goal.operators-returns-in_default-clause-given
-operators-returns-in_default-clause-given t c = gives (none_operates _ _ _ _ c.in_ok-operator.ensures.given c.in_default.is (After (level_of c.args.rank) (plain c.args.left)) _ _)
+operators-returns-in_default-clause-given t c = gives (none_operates _ _ _ _ c.in_ok-operator.ensures.given c.in_default.is
+    (After (level_of c.args.rank) (plain c.args.left)) _ _)
 
 pub operators-returns-in_err-right-clause-given : goal.operators-returns-in_err-right-clause-given
-operators-returns-in_err-right-clause-given t c = ended _ _ _ _ _ _ c.from_residual-in_err-right.ensures (raise (some_operates _ _ _ _ c.in_ok-operator.ensures.given c.in-Some.is (After (level_of c.args.rank) (plain c.args.left)) _ _) (call_stops (After (level_of c.args.rank) (plain c.args.left)) (At (below (level_of c.args.rank))) (level_refuses c.below.ensures c.in_err-right.ensures.given)))
+operators-returns-in_err-right-clause-given t c = ended _ _ _ _ _ _ c.from_residual-in_err-right.ensures
+    (raise (some_operates _ _ _ _ c.in_ok-operator.ensures.given c.in-Some.is (After (level_of c.args.rank) (plain c.args.left)) _ _)
+    (call_stops (After (level_of c.args.rank) (plain c.args.left)) (At (below (level_of c.args.rank)))
+    (level_refuses c.below.ensures c.in_err-right.ensures.given)))
 
 pub operators-returns-in_err-e-clause-given : goal.operators-returns-in_err-e-clause-given
 operators-returns-in_err-e-clause-given t c = ended _ _ _ _ _ _ c.from_residual-in_err-e.ensures (no_memory (After (level_of c.args.rank) (plain c.args.left)))
 
 pub operators-returns-clause-given : goal.operators-returns-clause-given
-operators-returns-clause-given t c = carry c.operators.result _ _ (then (some_operates _ _ _ _ c.in_ok-operator.ensures.given c.in-Some.is (After (level_of c.args.rank) (plain c.args.left)) _ _) (call_leads (After (level_of c.args.rank) (plain c.args.left)) (At (below (level_of c.args.rank))) (level_does c.below.ensures c.in_ok-right.ensures.given))) (after_same c.operators.result _ _ _ _ _ _ _ c.in_ok-e.ensures c.operators.ensures.given)
+operators-returns-clause-given t c = carry c.operators.result _ _
+    (then (some_operates _ _ _ _ c.in_ok-operator.ensures.given c.in-Some.is (After (level_of c.args.rank) (plain c.args.left)) _ _)
+    (call_leads (After (level_of c.args.rank) (plain c.args.left)) (At (below (level_of c.args.rank))) (level_does c.below.ensures c.in_ok-right.ensures.given)))
+    (after_same c.operators.result _ _ _ _ _ _ _ c.in_ok-e.ensures c.operators.ensures.given)
 
 pub comparison-returns-in_err-first-clause-given : goal.comparison-returns-in_err-first-clause-given
-comparison-returns-in_err-first-clause-given t c = λ start d. ended _ _ _ _ _ _ c.from_residual.ensures (call_stops (At Comparison) (At Sum) (c.in_err-first.ensures.given start d))
+comparison-returns-in_err-first-clause-given t c = λ start d. ended _ _ _ _ _ _ c.from_residual.ensures
+    (call_stops (At Comparison) (At Sum) (c.in_err-first.ensures.given start d))
 
 pub comparison-returns-in_err-operator-clause-given : goal.comparison-returns-in_err-operator-clause-given
-comparison-returns-in_err-operator-clause-given t c = λ start d. ended _ _ _ _ _ _ c.from_residual-in_err-operator.ensures (call_then (At Comparison) (At Sum) (c.in_ok-first.ensures.given start d) (c.in_err-operator.ensures.given (At Comparison) _ _))
+comparison-returns-in_err-operator-clause-given t c = λ start d. ended _ _ _ _ _ _ c.from_residual-in_err-operator.ensures
+    (call_then (At Comparison) (At Sum) (c.in_ok-first.ensures.given start d) (c.in_err-operator.ensures.given (At Comparison) _ _))
 
 pub comparison-returns-in_default-clause-given : goal.comparison-returns-in_default-clause-given
-comparison-returns-in_default-clause-given t c = λ start d. gives (then (call_leads (At Comparison) (At Sum) (c.in_ok-first.ensures.given start d)) (none_operates _ _ _ _ c.in_ok-operator.ensures.given c.in_default.is (At Comparison) _ _))
+comparison-returns-in_default-clause-given t c =
+    λ start d. gives (then (call_leads (At Comparison) (At Sum) (c.in_ok-first.ensures.given start d))
+    (none_operates _ _ _ _ c.in_ok-operator.ensures.given c.in_default.is (At Comparison) _ _))
 
 pub comparison-returns-in_err-right-clause-given : goal.comparison-returns-in_err-right-clause-given
-comparison-returns-in_err-right-clause-given t c = λ start d. ended _ _ _ _ _ _ c.from_residual-in_err-right.ensures (raise (then (call_leads (At Comparison) (At Sum) (c.in_ok-first.ensures.given start d)) (some_operates _ _ _ _ c.in_ok-operator.ensures.given c.in-Some.is (At Comparison) _ _)) (call_stops (At Comparison) (At Sum) c.in_err-right.ensures.given))
+comparison-returns-in_err-right-clause-given t c = λ start d. ended _ _ _ _ _ _ c.from_residual-in_err-right.ensures
+    (raise (then (call_leads (At Comparison) (At Sum) (c.in_ok-first.ensures.given start d))
+    (some_operates _ _ _ _ c.in_ok-operator.ensures.given c.in-Some.is (At Comparison) _ _)) (call_stops (At Comparison) (At Sum) c.in_err-right.ensures.given))
 
 pub comparison-returns-clause-given : goal.comparison-returns-clause-given
-comparison-returns-clause-given t c = λ start d. got_is (At Comparison) c.in_ok-e.ensures (gives (then (call_leads (At Comparison) (At Sum) (c.in_ok-first.ensures.given start d)) (then (some_operates _ _ _ _ c.in_ok-operator.ensures.given c.in-Some.is (At Comparison) _ _) (call_leads (At Comparison) (At Sum) c.in_ok-right.ensures.given))))
+comparison-returns-clause-given t c = λ start d. got_is (At Comparison) c.in_ok-e.ensures
+    (gives (then (call_leads (At Comparison) (At Sum) (c.in_ok-first.ensures.given start d))
+    (then (some_operates _ _ _ _ c.in_ok-operator.ensures.given c.in-Some.is (At Comparison) _ _)
+    (call_leads (At Comparison) (At Sum) c.in_ok-right.ensures.given))))
 
 pub comparison-returns-in_err-e-clause-given : goal.comparison-returns-in_err-e-clause-given
 comparison-returns-in_err-e-clause-given t c = λ start d. ended _ _ _ _ _ _ c.from_residual-in_err-e.ensures (no_memory (At Comparison))
@@ -98,172 +125,253 @@ pub unary-returns-in-Some-clause-given : goal.unary-returns-in-Some-clause-given
 unary-returns-in-Some-clause-given t c = leaf_is (At Unary) c.in_ok-first.ensures.first (c.in_ok-e.ensures ∙ ap plain_of c.in-Some.is)
 
 pub unary-returns-in-Minus-clause-given : goal.unary-returns-in-Minus-clause-given
-unary-returns-in-Minus-clause-given t c = carry c.negating.result _ _ (look_leads (At Unary) c.in_ok-first.ensures.first (c.in_ok-e.ensures ∙ ap plain_of c.in_default.is) c.in-Minus.ensures) c.negating.ensures.given
+unary-returns-in-Minus-clause-given t c = carry c.negating.result _ _ (look_leads (At Unary) c.in_ok-first.ensures.first
+    (c.in_ok-e.ensures ∙ ap plain_of c.in_default.is) c.in-Minus.ensures) c.negating.ensures.given
 
 pub unary-returns-in-Parenthesis-clause-given : goal.unary-returns-in-Parenthesis-clause-given
-unary-returns-in-Parenthesis-clause-given t c = carry c.grouping.result _ _ (look_leads (At Unary) c.in_ok-first.ensures.first (c.in_ok-e.ensures ∙ ap plain_of c.in_default.is) c.in-Parenthesis.ensures) c.grouping.ensures.given
+unary-returns-in-Parenthesis-clause-given t c = carry c.grouping.result _ _
+    (look_leads (At Unary) c.in_ok-first.ensures.first (c.in_ok-e.ensures ∙ ap plain_of c.in_default.is) c.in-Parenthesis.ensures) c.grouping.ensures.given
 
 pub unary-returns-in-If-clause-given : goal.unary-returns-in-If-clause-given
-unary-returns-in-If-clause-given t c = carry c.choosing.result _ _ (look_leads (At Unary) c.in_ok-first.ensures.first (c.in_ok-e.ensures ∙ ap plain_of c.in_default.is) c.in-If.ensures) c.choosing.ensures.given
+unary-returns-in-If-clause-given t c = carry c.choosing.result _ _ (look_leads (At Unary) c.in_ok-first.ensures.first
+    (c.in_ok-e.ensures ∙ ap plain_of c.in_default.is) c.in-If.ensures) c.choosing.ensures.given
 
 pub unary-returns-in-While-clause-given : goal.unary-returns-in-While-clause-given
-unary-returns-in-While-clause-given t c = carry c.looping.result _ _ (look_leads (At Unary) c.in_ok-first.ensures.first (c.in_ok-e.ensures ∙ ap plain_of c.in_default.is) c.in-While.ensures) c.looping.ensures.given
+unary-returns-in-While-clause-given t c = carry c.looping.result _ _ (look_leads (At Unary) c.in_ok-first.ensures.first
+    (c.in_ok-e.ensures ∙ ap plain_of c.in_default.is) c.in-While.ensures) c.looping.ensures.given
 
 pub unary-returns-in-For-clause-given : goal.unary-returns-in-For-clause-given
-unary-returns-in-For-clause-given t c = carry c.counting.result _ _ (look_leads (At Unary) c.in_ok-first.ensures.first (c.in_ok-e.ensures ∙ ap plain_of c.in_default.is) c.in-For.ensures) c.counting.ensures.given
+unary-returns-in-For-clause-given t c = carry c.counting.result _ _ (look_leads (At Unary) c.in_ok-first.ensures.first
+    (c.in_ok-e.ensures ∙ ap plain_of c.in_default.is) c.in-For.ensures) c.counting.ensures.given
 
 pub unary-returns-in-Let-clause-given : goal.unary-returns-in-Let-clause-given
-unary-returns-in-Let-clause-given t c = carry c.declaring.result _ _ (look_leads (At Unary) c.in_ok-first.ensures.first (c.in_ok-e.ensures ∙ ap plain_of c.in_default.is) c.in-Let.ensures) c.declaring.ensures.given
+unary-returns-in-Let-clause-given t c = carry c.declaring.result _ _ (look_leads (At Unary) c.in_ok-first.ensures.first
+    (c.in_ok-e.ensures ∙ ap plain_of c.in_default.is) c.in-Let.ensures) c.declaring.ensures.given
 
 pub unary-returns-in-Name-clause-given : goal.unary-returns-in-Name-clause-given
-unary-returns-in-Name-clause-given t c = carry c.naming.result _ _ (look_leads (At Unary) c.in_ok-first.ensures.first (c.in_ok-e.ensures ∙ ap plain_of c.in_default.is) c.in-Name.ensures) c.naming.ensures.given
+unary-returns-in-Name-clause-given t c = carry c.naming.result _ _ (look_leads (At Unary) c.in_ok-first.ensures.first
+    (c.in_ok-e.ensures ∙ ap plain_of c.in_default.is) c.in-Name.ensures) c.naming.ensures.given
 
 pub unary-returns-in-Nothing-clause-given : goal.unary-returns-in-Nothing-clause-given
-unary-returns-in-Nothing-clause-given t c = raise (look_leads (At Unary) c.in_ok-first.ensures.first (c.in_ok-e.ensures ∙ ap plain_of c.in_default.is) c.in-Nothing.ensures) (refuse_at (At Unary) c.in_ok-first.ensures.first)
+unary-returns-in-Nothing-clause-given t c =
+    raise (look_leads (At Unary) c.in_ok-first.ensures.first (c.in_ok-e.ensures ∙ ap plain_of c.in_default.is) c.in-Nothing.ensures)
+    (refuse_at (At Unary) c.in_ok-first.ensures.first)
 
 pub negating-returns-in_err-first-clause-given : goal.negating-returns-in_err-first-clause-given
 negating-returns-in_err-first-clause-given t c = ended _ _ _ _ _ _ c.from_residual.ensures (want_stops (At Unary) c.in_err-first.ensures.given)
 
 pub negating-returns-in_err-a-clause-given : goal.negating-returns-in_err-a-clause-given
-negating-returns-in_err-a-clause-given t c = ended _ _ _ _ _ _ c.from_residual-in_err-a.ensures (want_then (At Unary) c.in_ok-first.ensures.given (call_stops (At Unary) (At Unary) c.in_err-a.ensures.given))
+negating-returns-in_err-a-clause-given t c = ended _ _ _ _ _ _ c.from_residual-in_err-a.ensures
+    (want_then (At Unary) c.in_ok-first.ensures.given (call_stops (At Unary) (At Unary) c.in_err-a.ensures.given))
 
 pub negating-returns-in_err-e-clause-given : goal.negating-returns-in_err-e-clause-given
 negating-returns-in_err-e-clause-given t c = ended _ _ _ _ _ _ c.from_residual-in_err-e.ensures (no_memory (At Unary))
 
 pub negating-returns-clause-given : goal.negating-returns-clause-given
-negating-returns-clause-given t c = got_is (At Unary) c.in_ok-e.ensures (want_on (At Unary) c.in_ok-first.ensures.given (call_got (At Unary) (At Unary) c.in_ok-a.ensures.given (give_got (At Unary))))
+negating-returns-clause-given t c = got_is (At Unary) c.in_ok-e.ensures (want_on (At Unary) c.in_ok-first.ensures.given
+    (call_got (At Unary) (At Unary) c.in_ok-a.ensures.given (give_got (At Unary))))
 
 pub grouping-returns-in_err-first-clause-given : goal.grouping-returns-in_err-first-clause-given
 grouping-returns-in_err-first-clause-given t c = ended _ _ _ _ _ _ c.from_residual.ensures (want_stops (At Unary) c.in_err-first.ensures.given)
 
 pub grouping-returns-in_err-items-clause-given : goal.grouping-returns-in_err-items-clause-given
-grouping-returns-in_err-items-clause-given t c = ended _ _ _ _ _ _ c.from_residual-in_err-items.ensures (want_then (At Unary) c.in_ok-first.ensures.given (call_stops (At Unary) (Listed Semicolon (OfSign RightParen)) c.in_err-items.ensures.given))
+grouping-returns-in_err-items-clause-given t c = ended _ _ _ _ _ _ c.from_residual-in_err-items.ensures
+    (want_then (At Unary) c.in_ok-first.ensures.given (call_stops (At Unary) (Listed Semicolon (OfSign RightParen)) c.in_err-items.ensures.given))
 
 pub grouping-returns-clause-given : goal.grouping-returns-clause-given
-grouping-returns-clause-given t c = got_is (At Unary) c.enclosed.ensures (want_on (At Unary) c.in_ok-first.ensures.given (call_got (At Unary) (Listed Semicolon (OfSign RightParen)) c.in_ok-items.ensures.given (give_got (At Unary))))
+grouping-returns-clause-given t c = got_is (At Unary) c.enclosed.ensures (want_on (At Unary) c.in_ok-first.ensures.given
+    (call_got (At Unary) (Listed Semicolon (OfSign RightParen)) c.in_ok-items.ensures.given (give_got (At Unary))))
 
 pub choosing-returns-in_err-first-clause-given : goal.choosing-returns-in_err-first-clause-given
 choosing-returns-in_err-first-clause-given t c = ended _ _ _ _ _ _ c.from_residual.ensures (c.in_err-first.ensures.given (At Unary) _)
 
 pub choosing-returns-in_err-this-clause-given : goal.choosing-returns-in_err-this-clause-given
-choosing-returns-in_err-this-clause-given t c = ended _ _ _ _ _ _ c.from_residual-in_err-this.ensures (raise (c.in_ok-first.ensures.given (At Unary) _) (c.in_err-this.ensures.given (At Unary) _))
+choosing-returns-in_err-this-clause-given t c = ended _ _ _ _ _ _ c.from_residual-in_err-this.ensures
+    (raise (c.in_ok-first.ensures.given (At Unary) _) (c.in_err-this.ensures.given (At Unary) _))
 
 pub choosing-returns-in_err-goes_on-clause-given : goal.choosing-returns-in_err-goes_on-clause-given
-choosing-returns-in_err-goes_on-clause-given t c = ended _ _ _ _ _ _ c.from_residual-in_err-goes_on.ensures (raise (then (c.in_ok-first.ensures.given (At Unary) _) (c.in_ok-this.ensures.given (At Unary) _)) (c.in_err-goes_on.ensures (At Unary) _ _))
+choosing-returns-in_err-goes_on-clause-given t c = ended _ _ _ _ _ _ c.from_residual-in_err-goes_on.ensures
+    (raise (then (c.in_ok-first.ensures.given (At Unary) _) (c.in_ok-this.ensures.given (At Unary) _)) (c.in_err-goes_on.ensures (At Unary) _ _))
 
 pub choosing-returns-in_err-e-clause-given : goal.choosing-returns-in_err-e-clause-given
 choosing-returns-in_err-e-clause-given t c = ended _ _ _ _ _ _ c.from_residual-in_err-e.ensures (no_memory (At Unary))
 
 pub choosing-returns-then-not-goes_on-clause-given : goal.choosing-returns-then-not-goes_on-clause-given
-choosing-returns-then-not-goes_on-clause-given t c = got_is (At Unary) c.in_ok-e.ensures (gives (then (c.in_ok-first.ensures.given (At Unary) _) (then (c.in_ok-this.ensures.given (At Unary) _) (elses_no c.in_ok-goes_on.goes_on _ c.in_ok-goes_on.ensures c.if-not-goes_on.true (At Unary) _ _))))
+choosing-returns-then-not-goes_on-clause-given t c = got_is (At Unary) c.in_ok-e.ensures
+    (gives (then (c.in_ok-first.ensures.given (At Unary) _) (then (c.in_ok-this.ensures.given (At Unary) _)
+    (elses_no c.in_ok-goes_on.goes_on _ c.in_ok-goes_on.ensures c.if-not-goes_on.true (At Unary) _ _))))
 
 pub choosing-returns-in_err-other-clause-given : goal.choosing-returns-in_err-other-clause-given
-choosing-returns-in_err-other-clause-given t c = ended _ _ _ _ _ _ c.from_residual-in_err-other.ensures (raise (then (c.in_ok-first.ensures.given (At Unary) _) (then (c.in_ok-this.ensures.given (At Unary) _) (elses_yes c.in_ok-goes_on.goes_on _ c.in_ok-goes_on.ensures c.if-not-goes_on.false (At Unary) _ _))) (c.in_err-other.ensures.given (At Unary) _))
+choosing-returns-in_err-other-clause-given t c = ended _ _ _ _ _ _ c.from_residual-in_err-other.ensures
+    (raise (then (c.in_ok-first.ensures.given (At Unary) _) (then (c.in_ok-this.ensures.given (At Unary) _)
+    (elses_yes c.in_ok-goes_on.goes_on _ c.in_ok-goes_on.ensures c.if-not-goes_on.false (At Unary) _ _))) (c.in_err-other.ensures.given (At Unary) _))
 
 pub choosing-returns-in_err-e-2-clause-given : goal.choosing-returns-in_err-e-2-clause-given
 choosing-returns-in_err-e-2-clause-given t c = ended _ _ _ _ _ _ c.from_residual-in_err-e-2.ensures (no_memory (At Unary))
 
 pub choosing-returns-clause-given : goal.choosing-returns-clause-given
-choosing-returns-clause-given t c = got_is (At Unary) c.in_ok-e-2.ensures (gives (then (c.in_ok-first.ensures.given (At Unary) _) (then (c.in_ok-this.ensures.given (At Unary) _) (then (elses_yes c.in_ok-goes_on.goes_on _ c.in_ok-goes_on.ensures c.if-not-goes_on.false (At Unary) _ _) (c.in_ok-other.ensures.given (At Unary) _)))))
+choosing-returns-clause-given t c = got_is (At Unary) c.in_ok-e-2.ensures
+    (gives (then (c.in_ok-first.ensures.given (At Unary) _) (then (c.in_ok-this.ensures.given (At Unary) _)
+    (then (elses_yes c.in_ok-goes_on.goes_on _ c.in_ok-goes_on.ensures c.if-not-goes_on.false (At Unary) _ _) (c.in_ok-other.ensures.given (At Unary) _)))))
 
 pub looping-returns-in_err-first-clause-given : goal.looping-returns-in_err-first-clause-given
 looping-returns-in_err-first-clause-given t c = ended _ _ _ _ _ _ c.from_residual.ensures (c.in_err-first.ensures.given (At Unary) _)
 
 pub looping-returns-in_err-body-clause-given : goal.looping-returns-in_err-body-clause-given
-looping-returns-in_err-body-clause-given t c = ended _ _ _ _ _ _ c.from_residual-in_err-body.ensures (raise (c.in_ok-first.ensures.given (At Unary) _) (c.in_err-body.ensures.given (At Unary) _))
+looping-returns-in_err-body-clause-given t c = ended _ _ _ _ _ _ c.from_residual-in_err-body.ensures
+    (raise (c.in_ok-first.ensures.given (At Unary) _) (c.in_err-body.ensures.given (At Unary) _))
 
 pub looping-returns-in_err-e-clause-given : goal.looping-returns-in_err-e-clause-given
 looping-returns-in_err-e-clause-given t c = ended _ _ _ _ _ _ c.from_residual-in_err-e.ensures (no_memory (At Unary))
 
 pub looping-returns-clause-given : goal.looping-returns-clause-given
-looping-returns-clause-given t c = got_is (At Unary) c.in_ok-e.ensures (gives (then (c.in_ok-first.ensures.given (At Unary) _) (c.in_ok-body.ensures.given (At Unary) _)))
+looping-returns-clause-given t c = got_is (At Unary) c.in_ok-e.ensures
+    (gives (then (c.in_ok-first.ensures.given (At Unary) _) (c.in_ok-body.ensures.given (At Unary) _)))
 
 pub counting-returns-in_err-first-clause-given : goal.counting-returns-in_err-first-clause-given
 counting-returns-in_err-first-clause-given t c = ended _ _ _ _ _ _ c.from_residual.ensures (c.in_err-first.ensures.given (At Unary) _)
 
 pub counting-returns-in_err-low-clause-given : goal.counting-returns-in_err-low-clause-given
-counting-returns-in_err-low-clause-given t c = ended _ _ _ _ _ _ c.from_residual-in_err-low.ensures (raise (c.in_ok-first.ensures.given (At Unary) _) (c.in_err-low.ensures.given (At Unary) _))
+counting-returns-in_err-low-clause-given t c = ended _ _ _ _ _ _ c.from_residual-in_err-low.ensures
+    (raise (c.in_ok-first.ensures.given (At Unary) _) (c.in_err-low.ensures.given (At Unary) _))
 
 pub counting-returns-in_err-high-clause-given : goal.counting-returns-in_err-high-clause-given
-counting-returns-in_err-high-clause-given t c = ended _ _ _ _ _ _ c.from_residual-in_err-high.ensures (raise (then (c.in_ok-first.ensures.given (At Unary) _) (c.in_ok-low.ensures.given (At Unary) _)) (c.in_err-high.ensures.given (At Unary) _))
+counting-returns-in_err-high-clause-given t c = ended _ _ _ _ _ _ c.from_residual-in_err-high.ensures
+    (raise (then (c.in_ok-first.ensures.given (At Unary) _) (c.in_ok-low.ensures.given (At Unary) _)) (c.in_err-high.ensures.given (At Unary) _))
 
 pub counting-returns-in_err-body-clause-given : goal.counting-returns-in_err-body-clause-given
-counting-returns-in_err-body-clause-given t c = ended _ _ _ _ _ _ c.from_residual-in_err-body.ensures (raise (then (c.in_ok-first.ensures.given (At Unary) _) (then (c.in_ok-low.ensures.given (At Unary) _) (c.in_ok-high.ensures.given (At Unary) _))) (c.in_err-body.ensures.given (At Unary) _))
+counting-returns-in_err-body-clause-given t c = ended _ _ _ _ _ _ c.from_residual-in_err-body.ensures
+    (raise (then (c.in_ok-first.ensures.given (At Unary) _) (then (c.in_ok-low.ensures.given (At Unary) _) (c.in_ok-high.ensures.given (At Unary) _)))
+    (c.in_err-body.ensures.given (At Unary) _))
 
 pub counting-returns-in_err-e-clause-given : goal.counting-returns-in_err-e-clause-given
 counting-returns-in_err-e-clause-given t c = ended _ _ _ _ _ _ c.from_residual-in_err-e.ensures (no_memory (At Unary))
 
 pub counting-returns-clause-given : goal.counting-returns-clause-given
-counting-returns-clause-given t c = got_is (At Unary) c.in_ok-e.ensures (gives (then (c.in_ok-first.ensures.given (At Unary) _) (then (c.in_ok-low.ensures.given (At Unary) _) (then (c.in_ok-high.ensures.given (At Unary) _) (c.in_ok-body.ensures.given (At Unary) _)))))
+counting-returns-clause-given t c = got_is (At Unary) c.in_ok-e.ensures
+    (gives (then (c.in_ok-first.ensures.given (At Unary) _) (then (c.in_ok-low.ensures.given (At Unary) _)
+    (then (c.in_ok-high.ensures.given (At Unary) _) (c.in_ok-body.ensures.given (At Unary) _)))))
 
 pub declaring-returns-in_err-first-clause-given : goal.declaring-returns-in_err-first-clause-given
 declaring-returns-in_err-first-clause-given t c = ended _ _ _ _ _ _ c.from_residual.ensures (want_stops (At Unary) c.in_err-first.ensures.given)
 
 pub declaring-returns-in_err-decs-clause-given : goal.declaring-returns-in_err-decs-clause-given
-declaring-returns-in_err-decs-clause-given t c = ended _ _ _ _ _ _ c.from_residual-in_err-decs.ensures (want_then (At Unary) c.in_ok-first.ensures.given (call_stops (At Unary) (MoreDecs no_decs) c.in_err-decs.ensures.given))
+declaring-returns-in_err-decs-clause-given t c = ended _ _ _ _ _ _ c.from_residual-in_err-decs.ensures
+    (want_then (At Unary) c.in_ok-first.ensures.given (call_stops (At Unary) (MoreDecs no_decs) c.in_err-decs.ensures.given))
 
 pub declaring-returns-in_err-rest-clause-given : goal.declaring-returns-in_err-rest-clause-given
-declaring-returns-in_err-rest-clause-given t c = ended _ _ _ _ _ _ c.from_residual-in_err-rest.ensures (want_then (At Unary) c.in_ok-first.ensures.given (call_then (At Unary) (MoreDecs no_decs) c.in_ok-decs.ensures.given (want_stops (At Unary) c.in_err-rest.ensures.given)))
+declaring-returns-in_err-rest-clause-given t c = ended _ _ _ _ _ _ c.from_residual-in_err-rest.ensures
+    (want_then (At Unary) c.in_ok-first.ensures.given (call_then (At Unary) (MoreDecs no_decs) c.in_ok-decs.ensures.given
+    (want_stops (At Unary) c.in_err-rest.ensures.given)))
 
 pub declaring-returns-in_err-body-clause-given : goal.declaring-returns-in_err-body-clause-given
-declaring-returns-in_err-body-clause-given t c = ended _ _ _ _ _ _ c.from_residual-in_err-body.ensures (want_then (At Unary) c.in_ok-first.ensures.given (call_then (At Unary) (MoreDecs no_decs) c.in_ok-decs.ensures.given (want_then (At Unary) c.in_ok-rest.ensures.given (call_stops (At Unary) (Listed Semicolon (OfWord WEnd)) c.in_err-body.ensures.given))))
+declaring-returns-in_err-body-clause-given t c = ended _ _ _ _ _ _ c.from_residual-in_err-body.ensures
+    (want_then (At Unary) c.in_ok-first.ensures.given (call_then (At Unary) (MoreDecs no_decs) c.in_ok-decs.ensures.given
+    (want_then (At Unary) c.in_ok-rest.ensures.given (call_stops (At Unary) (Listed Semicolon (OfWord WEnd)) c.in_err-body.ensures.given))))
 
 pub declaring-returns-clause-given : goal.declaring-returns-clause-given
-declaring-returns-clause-given t c = got_is (At Unary) c.declared.ensures (want_on (At Unary) c.in_ok-first.ensures.given (call_got (At Unary) (MoreDecs no_decs) c.in_ok-decs.ensures.given (want_on (At Unary) c.in_ok-rest.ensures.given (call_got (At Unary) (Listed Semicolon (OfWord WEnd)) c.in_ok-body.ensures.given (give_got (At Unary))))))
+declaring-returns-clause-given t c = got_is (At Unary) c.declared.ensures (want_on (At Unary) c.in_ok-first.ensures.given
+    (call_got (At Unary) (MoreDecs no_decs) c.in_ok-decs.ensures.given (want_on (At Unary) c.in_ok-rest.ensures.given
+    (call_got (At Unary) (Listed Semicolon (OfWord WEnd)) c.in_ok-body.ensures.given (give_got (At Unary))))))
 
 pub naming-returns-in_err-name-clause-given : goal.naming-returns-in_err-name-clause-given
 naming-returns-in_err-name-clause-given t c = ended _ _ _ _ _ _ c.from_residual.ensures (name_stops (At Unary) c.in_err-name.ensures.given)
 
 pub naming-returns-in_err-after-clause-given : goal.naming-returns-in_err-after-clause-given
-naming-returns-in_err-after-clause-given t c = ended _ _ _ _ _ _ c.from_residual-in_err-after.ensures (name_then (At Unary) c.in_ok-name.ensures.given (c.in_err-after.ensures.given (At Unary) _ _))
+naming-returns-in_err-after-clause-given t c = ended _ _ _ _ _ _ c.from_residual-in_err-after.ensures
+    (name_then (At Unary) c.in_ok-name.ensures.given (c.in_err-after.ensures.given (At Unary) _ _))
 
 pub naming-returns-in_err-arguments-clause-given : goal.naming-returns-in_err-arguments-clause-given
-naming-returns-in_err-arguments-clause-given t c = ended _ _ _ _ _ _ c.from_residual-in_err-arguments.ensures (raise (then (name_leads (At Unary) c.in_ok-name.ensures.given) (some_leads _ _ c.in_ok-after.ensures.given c.in-Some.is (At Unary) _ _)) (call_stops (At Unary) (Listed Comma (OfSign RightParen)) c.in_err-arguments.ensures.given))
+naming-returns-in_err-arguments-clause-given t c = ended _ _ _ _ _ _ c.from_residual-in_err-arguments.ensures
+    (raise (then (name_leads (At Unary) c.in_ok-name.ensures.given) (some_leads _ _ c.in_ok-after.ensures.given c.in-Some.is (At Unary) _ _))
+    (call_stops (At Unary) (Listed Comma (OfSign RightParen)) c.in_err-arguments.ensures.given))
 
 pub naming-returns-in-Some-clause-given : goal.naming-returns-in-Some-clause-given
-naming-returns-in-Some-clause-given t c = got_is (At Unary) c.called.ensures (gives (then (name_leads (At Unary) c.in_ok-name.ensures.given) (then (some_leads _ _ c.in_ok-after.ensures.given c.in-Some.is (At Unary) _ _) (call_leads (At Unary) (Listed Comma (OfSign RightParen)) c.in_ok-arguments.ensures.given))))
+naming-returns-in-Some-clause-given t c = got_is (At Unary) c.called.ensures
+    (gives (then (name_leads (At Unary) c.in_ok-name.ensures.given)
+    (then (some_leads _ _ c.in_ok-after.ensures.given c.in-Some.is (At Unary) _ _)
+    (call_leads (At Unary) (Listed Comma (OfSign RightParen)) c.in_ok-arguments.ensures.given))))
 
 pub naming-returns-in_err-after-2-clause-given : goal.naming-returns-in_err-after-2-clause-given
-naming-returns-in_err-after-2-clause-given t c = ended _ _ _ _ _ _ c.from_residual-in_err-after-2.ensures (raise (then (name_leads (At Unary) c.in_ok-name.ensures.given) (none_leads _ _ c.in_ok-after.ensures.given c.in_default.is (At Unary) _ _)) (c.in_err-after-2.ensures.given (At Unary) _ _))
+naming-returns-in_err-after-2-clause-given t c = ended _ _ _ _ _ _ c.from_residual-in_err-after-2.ensures
+    (raise (then (name_leads (At Unary) c.in_ok-name.ensures.given) (none_leads _ _ c.in_ok-after.ensures.given c.in_default.is (At Unary) _ _))
+    (c.in_err-after-2.ensures.given (At Unary) _ _))
 
 pub naming-returns-in_err-inits-clause-given : goal.naming-returns-in_err-inits-clause-given
-naming-returns-in_err-inits-clause-given t c = ended _ _ _ _ _ _ c.from_residual-in_err-inits.ensures (raise (then (name_leads (At Unary) c.in_ok-name.ensures.given) (then (none_leads _ _ c.in_ok-after.ensures.given c.in_default.is (At Unary) _ _) (some_leads _ _ c.in_ok-after-2.ensures.given c.in-Some-2.is (At Unary) _ _))) (call_stops (At Unary) ListedInits c.in_err-inits.ensures.given))
+naming-returns-in_err-inits-clause-given t c = ended _ _ _ _ _ _ c.from_residual-in_err-inits.ensures
+    (raise (then (name_leads (At Unary) c.in_ok-name.ensures.given)
+    (then (none_leads _ _ c.in_ok-after.ensures.given c.in_default.is (At Unary) _ _)
+    (some_leads _ _ c.in_ok-after-2.ensures.given c.in-Some-2.is (At Unary) _ _))) (call_stops (At Unary) ListedInits c.in_err-inits.ensures.given))
 
 pub naming-returns-in-Some-2-clause-given : goal.naming-returns-in-Some-2-clause-given
-naming-returns-in-Some-2-clause-given t c = got_is (At Unary) c.made.ensures (gives (then (name_leads (At Unary) c.in_ok-name.ensures.given) (then (none_leads _ _ c.in_ok-after.ensures.given c.in_default.is (At Unary) _ _) (then (some_leads _ _ c.in_ok-after-2.ensures.given c.in-Some-2.is (At Unary) _ _) (call_leads (At Unary) ListedInits c.in_ok-inits.ensures.given)))))
+naming-returns-in-Some-2-clause-given t c = got_is (At Unary) c.made.ensures
+    (gives (then (name_leads (At Unary) c.in_ok-name.ensures.given)
+    (then (none_leads _ _ c.in_ok-after.ensures.given c.in_default.is (At Unary) _ _)
+    (then (some_leads _ _ c.in_ok-after-2.ensures.given c.in-Some-2.is (At Unary) _ _) (call_leads (At Unary) ListedInits c.in_ok-inits.ensures.given)))))
 
 pub naming-returns-in_err-after-3-clause-given : goal.naming-returns-in_err-after-3-clause-given
-naming-returns-in_err-after-3-clause-given t c = ended _ _ _ _ _ _ c.from_residual-in_err-after-3.ensures (raise (then (name_leads (At Unary) c.in_ok-name.ensures.given) (then (none_leads _ _ c.in_ok-after.ensures.given c.in_default.is (At Unary) _ _) (none_leads _ _ c.in_ok-after-2.ensures.given c.in_default-2.is (At Unary) _ _))) (c.in_err-after-3.ensures.given (At Unary) _ _))
+naming-returns-in_err-after-3-clause-given t c = ended _ _ _ _ _ _ c.from_residual-in_err-after-3.ensures
+    (raise (then (name_leads (At Unary) c.in_ok-name.ensures.given)
+    (then (none_leads _ _ c.in_ok-after.ensures.given c.in_default.is (At Unary) _ _)
+    (none_leads _ _ c.in_ok-after-2.ensures.given c.in_default-2.is (At Unary) _ _))) (c.in_err-after-3.ensures.given (At Unary) _ _))
 
 pub naming-returns-in-Some-3-clause-given : goal.naming-returns-in-Some-3-clause-given
-naming-returns-in-Some-3-clause-given t c = carry c.indexing.result _ _ (then (name_leads (At Unary) c.in_ok-name.ensures.given) (then (none_leads _ _ c.in_ok-after.ensures.given c.in_default.is (At Unary) _ _) (then (none_leads _ _ c.in_ok-after-2.ensures.given c.in_default-2.is (At Unary) _ _) (some_leads _ _ c.in_ok-after-3.ensures.given c.in-Some-3.is (At Unary) _ _)))) c.indexing.ensures.given
+naming-returns-in-Some-3-clause-given t c = carry c.indexing.result _ _
+    (then (name_leads (At Unary) c.in_ok-name.ensures.given)
+    (then (none_leads _ _ c.in_ok-after.ensures.given c.in_default.is (At Unary) _ _)
+    (then (none_leads _ _ c.in_ok-after-2.ensures.given c.in_default-2.is (At Unary) _ _)
+    (some_leads _ _ c.in_ok-after-3.ensures.given c.in-Some-3.is (At Unary) _ _)))) c.indexing.ensures.given
 
 pub naming-returns-in_err-span-clause-given : goal.naming-returns-in_err-span-clause-given
-naming-returns-in_err-span-clause-given t c = ended _ _ _ _ _ _ c.from_residual-in_err-span.ensures (raise (then (name_leads (At Unary) c.in_ok-name.ensures.given) (then (none_leads _ _ c.in_ok-after.ensures.given c.in_default.is (At Unary) _ _) (then (none_leads _ _ c.in_ok-after-2.ensures.given c.in_default-2.is (At Unary) _ _) (none_leads _ _ c.in_ok-after-3.ensures.given c.in_default-3.is (At Unary) _ _)))) (call_stops (At Unary) (Suffix _ _) c.in_err-span.ensures.given))
+naming-returns-in_err-span-clause-given t c = ended _ _ _ _ _ _ c.from_residual-in_err-span.ensures
+    (raise (then (name_leads (At Unary) c.in_ok-name.ensures.given)
+    (then (none_leads _ _ c.in_ok-after.ensures.given c.in_default.is (At Unary) _ _)
+    (then (none_leads _ _ c.in_ok-after-2.ensures.given c.in_default-2.is (At Unary) _ _)
+    (none_leads _ _ c.in_ok-after-3.ensures.given c.in_default-3.is (At Unary) _ _)))) (call_stops (At Unary) (Suffix _ _) c.in_err-span.ensures.given))
 
 pub naming-returns-clause-given : goal.naming-returns-clause-given
-naming-returns-clause-given t c = got_is (At Unary) c.read.ensures (gives (then (name_leads (At Unary) c.in_ok-name.ensures.given) (then (none_leads _ _ c.in_ok-after.ensures.given c.in_default.is (At Unary) _ _) (then (none_leads _ _ c.in_ok-after-2.ensures.given c.in_default-2.is (At Unary) _ _) (then (none_leads _ _ c.in_ok-after-3.ensures.given c.in_default-3.is (At Unary) _ _) (call_leads (At Unary) (Suffix _ _) c.in_ok-span.ensures.given))))))
+naming-returns-clause-given t c = got_is (At Unary) c.read.ensures
+    (gives (then (name_leads (At Unary) c.in_ok-name.ensures.given)
+    (then (none_leads _ _ c.in_ok-after.ensures.given c.in_default.is (At Unary) _ _)
+    (then (none_leads _ _ c.in_ok-after-2.ensures.given c.in_default-2.is (At Unary) _ _)
+    (then (none_leads _ _ c.in_ok-after-3.ensures.given c.in_default-3.is (At Unary) _ _) (call_leads (At Unary) (Suffix _ _) c.in_ok-span.ensures.given))))))
 
 pub indexing-returns-in_err-inside-clause-given : goal.indexing-returns-in_err-inside-clause-given
 indexing-returns-in_err-inside-clause-given t c = ended _ _ _ _ _ _ c.from_residual.ensures (call_stops (At Unary) (At Whole) c.in_err-inside.ensures.given)
 
 pub indexing-returns-in_err-last-clause-given : goal.indexing-returns-in_err-last-clause-given
-indexing-returns-in_err-last-clause-given t c = ended _ _ _ _ _ _ c.from_residual-in_err-last.ensures (call_then (At Unary) (At Whole) c.in_ok-inside.ensures.given (want_stops (At Unary) c.in_err-last.ensures.given))
+indexing-returns-in_err-last-clause-given t c = ended _ _ _ _ _ _ c.from_residual-in_err-last.ensures
+    (call_then (At Unary) (At Whole) c.in_ok-inside.ensures.given (want_stops (At Unary) c.in_err-last.ensures.given))
 
 pub indexing-returns-in_err-after-clause-given : goal.indexing-returns-in_err-after-clause-given
-indexing-returns-in_err-after-clause-given t c = ended _ _ _ _ _ _ c.from_residual-in_err-after.ensures (raise (then (call_leads (At Unary) (At Whole) c.in_ok-inside.ensures.given) (want_leads (At Unary) c.in_ok-last.ensures.given)) (c.in_err-after.ensures.given (At Unary) _ _))
+indexing-returns-in_err-after-clause-given t c = ended _ _ _ _ _ _ c.from_residual-in_err-after.ensures
+    (raise (then (call_leads (At Unary) (At Whole) c.in_ok-inside.ensures.given) (want_leads (At Unary) c.in_ok-last.ensures.given))
+    (c.in_err-after.ensures.given (At Unary) _ _))
 
 pub indexing-returns-in_err-value-clause-given : goal.indexing-returns-in_err-value-clause-given
-indexing-returns-in_err-value-clause-given t c = ended _ _ _ _ _ _ c.from_residual-in_err-value.ensures (raise (then (call_leads (At Unary) (At Whole) c.in_ok-inside.ensures.given) (then (want_leads (At Unary) c.in_ok-last.ensures.given) (some_leads _ _ c.in_ok-after.ensures.given c.in-Some.is (At Unary) _ _))) (call_stops (At Unary) (At Whole) c.in_err-value.ensures.given))
+indexing-returns-in_err-value-clause-given t c = ended _ _ _ _ _ _ c.from_residual-in_err-value.ensures
+    (raise (then (call_leads (At Unary) (At Whole) c.in_ok-inside.ensures.given)
+    (then (want_leads (At Unary) c.in_ok-last.ensures.given) (some_leads _ _ c.in_ok-after.ensures.given c.in-Some.is (At Unary) _ _)))
+    (call_stops (At Unary) (At Whole) c.in_err-value.ensures.given))
 
 pub indexing-returns-in-Some-clause-given : goal.indexing-returns-in-Some-clause-given
-indexing-returns-in-Some-clause-given t c = got_is (At Unary) c.in_ok-e.ensures (gives (then (call_leads (At Unary) (At Whole) c.in_ok-inside.ensures.given) (then (want_leads (At Unary) c.in_ok-last.ensures.given) (then (some_leads _ _ c.in_ok-after.ensures.given c.in-Some.is (At Unary) _ _) (call_leads (At Unary) (At Whole) c.in_ok-value.ensures.given)))))
+indexing-returns-in-Some-clause-given t c = got_is (At Unary) c.in_ok-e.ensures
+    (gives (then (call_leads (At Unary) (At Whole) c.in_ok-inside.ensures.given)
+    (then (want_leads (At Unary) c.in_ok-last.ensures.given)
+    (then (some_leads _ _ c.in_ok-after.ensures.given c.in-Some.is (At Unary) _ _) (call_leads (At Unary) (At Whole) c.in_ok-value.ensures.given)))))
 
 pub indexing-returns-in_err-span-clause-given : goal.indexing-returns-in_err-span-clause-given
-indexing-returns-in_err-span-clause-given t c = ended _ _ _ _ _ _ c.from_residual-in_err-span.ensures (raise (then (call_leads (At Unary) (At Whole) c.in_ok-inside.ensures.given) (then (want_leads (At Unary) c.in_ok-last.ensures.given) (none_leads _ _ c.in_ok-after.ensures.given c.in_default.is (At Unary) _ _))) (call_stops (At Unary) (Suffix _ _) (suffix_refuses c.joined.ensures c.in_ok-place.ensures c.in_err-span.ensures.given)))
+indexing-returns-in_err-span-clause-given t c = ended _ _ _ _ _ _ c.from_residual-in_err-span.ensures
+    (raise (then (call_leads (At Unary) (At Whole) c.in_ok-inside.ensures.given)
+    (then (want_leads (At Unary) c.in_ok-last.ensures.given) (none_leads _ _ c.in_ok-after.ensures.given c.in_default.is (At Unary) _ _)))
+    (call_stops (At Unary) (Suffix _ _) (suffix_refuses c.joined.ensures c.in_ok-place.ensures c.in_err-span.ensures.given)))
 
 pub indexing-returns-clause-given : goal.indexing-returns-clause-given
-indexing-returns-clause-given t c = got_is (At Unary) c.read.ensures (gives (then (call_leads (At Unary) (At Whole) c.in_ok-inside.ensures.given) (then (want_leads (At Unary) c.in_ok-last.ensures.given) (then (none_leads _ _ c.in_ok-after.ensures.given c.in_default.is (At Unary) _ _) (call_leads (At Unary) (Suffix _ _) (suffix_does c.joined.ensures c.in_ok-place.ensures c.in_ok-span.ensures.given))))))
+indexing-returns-clause-given t c = got_is (At Unary) c.read.ensures
+    (gives (then (call_leads (At Unary) (At Whole) c.in_ok-inside.ensures.given)
+    (then (want_leads (At Unary) c.in_ok-last.ensures.given)
+    (then (none_leads _ _ c.in_ok-after.ensures.given c.in_default.is (At Unary) _ _)
+    (call_leads (At Unary) (Suffix _ _) (suffix_does c.joined.ensures c.in_ok-place.ensures c.in_ok-span.ensures.given))))))
 
 pub indexing-returns-in_err-e-clause-given : goal.indexing-returns-in_err-e-clause-given
 indexing-returns-in_err-e-clause-given t c = ended _ _ _ _ _ _ c.from_residual-in_err-e.ensures (no_memory (At Unary))
@@ -272,97 +380,158 @@ pub indexing-returns-in_err-place-clause-given : goal.indexing-returns-in_err-pl
 indexing-returns-in_err-place-clause-given t c = ended _ _ _ _ _ _ c.from_residual-in_err-place.ensures (no_memory (At Unary))
 
 pub suffixes-returns-in_err-name-clause-given : goal.suffixes-returns-in_err-name-clause-given
-suffixes-returns-in_err-name-clause-given t c = ended _ _ _ _ _ _ c.from_residual-in_err-name.ensures (raise (some_leads _ _ c.in_ok-after.ensures.given c.in-Some.is (Suffix c.args.span (plain_place c.args.place)) _ _) (name_stops (Suffix c.args.span (plain_place c.args.place)) c.in_err-name.ensures.given))
+suffixes-returns-in_err-name-clause-given t c = ended _ _ _ _ _ _ c.from_residual-in_err-name.ensures
+    (raise (some_leads _ _ c.in_ok-after.ensures.given c.in-Some.is (Suffix c.args.span (plain_place c.args.place)) _ _)
+    (name_stops (Suffix c.args.span (plain_place c.args.place)) c.in_err-name.ensures.given))
 
 pub suffixes-returns-in_err-place-clause-given : goal.suffixes-returns-in_err-place-clause-given
 suffixes-returns-in_err-place-clause-given t c = ended _ _ _ _ _ _ c.from_residual-in_err-place.ensures (no_memory (Suffix _ _))
 
 pub suffixes-returns-in-Some-clause-given : goal.suffixes-returns-in-Some-clause-given
-suffixes-returns-in-Some-clause-given t c = carry c.suffixes.result _ _ (then (some_leads _ _ c.in_ok-after.ensures.given c.in-Some.is (Suffix c.args.span (plain_place c.args.place)) _ _) (name_leads (Suffix c.args.span (plain_place c.args.place)) c.in_ok-name.ensures.given)) (suffix_same c.suffixes.result _ _ _ _ _ _ _ _ _ c.joined.ensures c.in_ok-place.ensures c.suffixes.ensures.given)
+suffixes-returns-in-Some-clause-given t c = carry c.suffixes.result _ _
+    (then (some_leads _ _ c.in_ok-after.ensures.given c.in-Some.is (Suffix c.args.span (plain_place c.args.place)) _ _)
+    (name_leads (Suffix c.args.span (plain_place c.args.place)) c.in_ok-name.ensures.given))
+    (suffix_same c.suffixes.result _ _ _ _ _ _ _ _ _ c.joined.ensures c.in_ok-place.ensures c.suffixes.ensures.given)
 
 pub suffixes-returns-in_err-after-2-clause-given : goal.suffixes-returns-in_err-after-2-clause-given
-suffixes-returns-in_err-after-2-clause-given t c = ended _ _ _ _ _ _ c.from_residual-in_err-after-2.ensures (raise (none_leads _ _ c.in_ok-after.ensures.given c.in_default.is (Suffix c.args.span (plain_place c.args.place)) _ _) (c.in_err-after-2.ensures.given (Suffix c.args.span (plain_place c.args.place)) _ _))
+suffixes-returns-in_err-after-2-clause-given t c = ended _ _ _ _ _ _ c.from_residual-in_err-after-2.ensures
+    (raise (none_leads _ _ c.in_ok-after.ensures.given c.in_default.is (Suffix c.args.span (plain_place c.args.place)) _ _)
+    (c.in_err-after-2.ensures.given (Suffix c.args.span (plain_place c.args.place)) _ _))
 
 pub suffixes-returns-in_err-inside-clause-given : goal.suffixes-returns-in_err-inside-clause-given
-suffixes-returns-in_err-inside-clause-given t c = ended _ _ _ _ _ _ c.from_residual-in_err-inside.ensures (raise (then (none_leads _ _ c.in_ok-after.ensures.given c.in_default.is (Suffix c.args.span (plain_place c.args.place)) _ _) (some_leads _ _ c.in_ok-after-2.ensures.given c.in-Some-2.is (Suffix c.args.span (plain_place c.args.place)) _ _)) (call_stops (Suffix c.args.span (plain_place c.args.place)) (At Whole) c.in_err-inside.ensures.given))
+suffixes-returns-in_err-inside-clause-given t c = ended _ _ _ _ _ _ c.from_residual-in_err-inside.ensures
+    (raise (then (none_leads _ _ c.in_ok-after.ensures.given c.in_default.is (Suffix c.args.span (plain_place c.args.place)) _ _)
+    (some_leads _ _ c.in_ok-after-2.ensures.given c.in-Some-2.is (Suffix c.args.span (plain_place c.args.place)) _ _))
+    (call_stops (Suffix c.args.span (plain_place c.args.place)) (At Whole) c.in_err-inside.ensures.given))
 
 pub suffixes-returns-in_err-last-clause-given : goal.suffixes-returns-in_err-last-clause-given
-suffixes-returns-in_err-last-clause-given t c = ended _ _ _ _ _ _ c.from_residual-in_err-last.ensures (raise (then (none_leads _ _ c.in_ok-after.ensures.given c.in_default.is (Suffix c.args.span (plain_place c.args.place)) _ _) (then (some_leads _ _ c.in_ok-after-2.ensures.given c.in-Some-2.is (Suffix c.args.span (plain_place c.args.place)) _ _) (call_leads (Suffix c.args.span (plain_place c.args.place)) (At Whole) c.in_ok-inside.ensures.given))) (want_stops (Suffix c.args.span (plain_place c.args.place)) c.in_err-last.ensures.given))
+suffixes-returns-in_err-last-clause-given t c = ended _ _ _ _ _ _ c.from_residual-in_err-last.ensures
+    (raise (then (none_leads _ _ c.in_ok-after.ensures.given c.in_default.is (Suffix c.args.span (plain_place c.args.place)) _ _)
+    (then (some_leads _ _ c.in_ok-after-2.ensures.given c.in-Some-2.is (Suffix c.args.span (plain_place c.args.place)) _ _)
+    (call_leads (Suffix c.args.span (plain_place c.args.place)) (At Whole) c.in_ok-inside.ensures.given)))
+    (want_stops (Suffix c.args.span (plain_place c.args.place)) c.in_err-last.ensures.given))
 
 pub suffixes-returns-in_err-place-2-clause-given : goal.suffixes-returns-in_err-place-2-clause-given
 suffixes-returns-in_err-place-2-clause-given t c = ended _ _ _ _ _ _ c.from_residual-in_err-place-2.ensures (no_memory (Suffix _ _))
 
 pub suffixes-returns-in-Some-2-clause-given : goal.suffixes-returns-in-Some-2-clause-given
-suffixes-returns-in-Some-2-clause-given t c = carry c.suffixes-in-Some-2.result _ _ (then (none_leads _ _ c.in_ok-after.ensures.given c.in_default.is (Suffix c.args.span (plain_place c.args.place)) _ _) (then (some_leads _ _ c.in_ok-after-2.ensures.given c.in-Some-2.is (Suffix c.args.span (plain_place c.args.place)) _ _) (then (call_leads (Suffix c.args.span (plain_place c.args.place)) (At Whole) c.in_ok-inside.ensures.given) (want_leads (Suffix c.args.span (plain_place c.args.place)) c.in_ok-last.ensures.given)))) (suffix_same c.suffixes-in-Some-2.result _ _ _ _ _ _ _ _ _ c.joined-in-Some-2.ensures c.in_ok-place-2.ensures c.suffixes-in-Some-2.ensures.given)
+suffixes-returns-in-Some-2-clause-given t c = carry c.suffixes-in-Some-2.result _ _
+    (then (none_leads _ _ c.in_ok-after.ensures.given c.in_default.is (Suffix c.args.span (plain_place c.args.place)) _ _)
+    (then (some_leads _ _ c.in_ok-after-2.ensures.given c.in-Some-2.is (Suffix c.args.span (plain_place c.args.place)) _ _)
+    (then (call_leads (Suffix c.args.span (plain_place c.args.place)) (At Whole) c.in_ok-inside.ensures.given)
+    (want_leads (Suffix c.args.span (plain_place c.args.place)) c.in_ok-last.ensures.given))))
+    (suffix_same c.suffixes-in-Some-2.result _ _ _ _ _ _ _ _ _ c.joined-in-Some-2.ensures c.in_ok-place-2.ensures c.suffixes-in-Some-2.ensures.given)
 
 pub suffixes-returns-clause-given : goal.suffixes-returns-clause-given
-suffixes-returns-clause-given t c = gives (then (none_leads _ _ c.in_ok-after.ensures.given c.in_default.is (Suffix c.args.span (plain_place c.args.place)) _ _) (none_leads _ _ c.in_ok-after-2.ensures.given c.in_default-2.is (Suffix c.args.span (plain_place c.args.place)) _ _))
+suffixes-returns-clause-given t c =
+    gives (then (none_leads _ _ c.in_ok-after.ensures.given c.in_default.is (Suffix c.args.span (plain_place c.args.place)) _ _)
+    (none_leads _ _ c.in_ok-after-2.ensures.given c.in_default-2.is (Suffix c.args.span (plain_place c.args.place)) _ _))
 
 pub clause-returns-in_err-span-clause-given : goal.clause-returns-in_err-span-clause-given
 clause-returns-in_err-span-clause-given t c = two_ended _ _ _ c.from_residual.result c.from_residual.ensures (λ j f. want_stops j c.in_err-span.ensures.given)
 
 pub clause-returns-in_err-e-clause-given : goal.clause-returns-in_err-e-clause-given
-clause-returns-in_err-e-clause-given t c = two_ended _ _ _ c.from_residual-in_err-e.result c.from_residual-in_err-e.ensures (λ j f. want_then j c.in_ok-span.ensures.given (call_stops j (At Whole) c.in_err-e.ensures.given))
+clause-returns-in_err-e-clause-given t c = two_ended _ _ _ c.from_residual-in_err-e.result c.from_residual-in_err-e.ensures
+    (λ j f. want_then j c.in_ok-span.ensures.given (call_stops j (At Whole) c.in_err-e.ensures.given))
 
 pub clause-returns-clause-given : goal.clause-returns-clause-given
 clause-returns-clause-given t c = λ j f. then (want_leads j c.in_ok-span.ensures.given) (call_leads j (At Whole) c.in_ok-e.ensures.given)
 
 pub listed-returns-in-Some-clause-given : goal.listed-returns-in-Some-clause-given
-listed-returns-in-Some-clause-given t c = got_is (Listed c.args.separator c.args.close) (exps_none c.new.ensures.items) (gives (some_leads _ _ c.in_ok-last.ensures.given c.in-Some.is (Listed c.args.separator c.args.close) _ _))
+listed-returns-in-Some-clause-given t c = got_is (Listed c.args.separator c.args.close) (exps_none c.new.ensures.items)
+    (gives (some_leads _ _ c.in_ok-last.ensures.given c.in-Some.is (Listed c.args.separator c.args.close) _ _))
 
 pub listed-returns-in_err-first-clause-given : goal.listed-returns-in_err-first-clause-given
-listed-returns-in_err-first-clause-given t c = ended _ _ _ _ _ _ c.from_residual-in_err-first.ensures (raise (none_leads _ _ c.in_ok-last.ensures.given c.in_default.is (Listed c.args.separator c.args.close) _ _) (call_stops (Listed c.args.separator c.args.close) (At Whole) c.in_err-first.ensures.given))
+listed-returns-in_err-first-clause-given t c = ended _ _ _ _ _ _ c.from_residual-in_err-first.ensures
+    (raise (none_leads _ _ c.in_ok-last.ensures.given c.in_default.is (Listed c.args.separator c.args.close) _ _)
+    (call_stops (Listed c.args.separator c.args.close) (At Whole) c.in_err-first.ensures.given))
 
 pub listed-returns-in_err-items-clause-given : goal.listed-returns-in_err-items-clause-given
-listed-returns-in_err-items-clause-given t c = ended _ _ _ _ _ _ c.from_residual-in_err-items.ensures (raise (then (none_leads _ _ c.in_ok-last.ensures.given c.in_default.is (Listed c.args.separator c.args.close) _ _) (call_leads (Listed c.args.separator c.args.close) (At Whole) c.in_ok-first.ensures.given)) (call_stops (Listed c.args.separator c.args.close) (Items c.args.separator (exp (plain c.in_ok-first.first) no_exps)) c.in_err-items.ensures.given))
+listed-returns-in_err-items-clause-given t c = ended _ _ _ _ _ _ c.from_residual-in_err-items.ensures
+    (raise (then (none_leads _ _ c.in_ok-last.ensures.given c.in_default.is (Listed c.args.separator c.args.close) _ _)
+    (call_leads (Listed c.args.separator c.args.close) (At Whole) c.in_ok-first.ensures.given))
+    (call_stops (Listed c.args.separator c.args.close) (Items c.args.separator (exp (plain c.in_ok-first.first) no_exps)) c.in_err-items.ensures.given))
 
 pub listed-returns-in_err-last-2-clause-given : goal.listed-returns-in_err-last-2-clause-given
-listed-returns-in_err-last-2-clause-given t c = ended _ _ _ _ _ _ c.from_residual-in_err-last-2.ensures (raise (then (none_leads _ _ c.in_ok-last.ensures.given c.in_default.is (Listed c.args.separator c.args.close) _ _) (then (call_leads (Listed c.args.separator c.args.close) (At Whole) c.in_ok-first.ensures.given) (call_leads (Listed c.args.separator c.args.close) (Items c.args.separator (exp (plain c.in_ok-first.first) no_exps)) c.in_ok-items.ensures.given))) (want_stops (Listed c.args.separator c.args.close) c.in_err-last-2.ensures.given))
+listed-returns-in_err-last-2-clause-given t c = ended _ _ _ _ _ _ c.from_residual-in_err-last-2.ensures
+    (raise (then (none_leads _ _ c.in_ok-last.ensures.given c.in_default.is (Listed c.args.separator c.args.close) _ _)
+    (then (call_leads (Listed c.args.separator c.args.close) (At Whole) c.in_ok-first.ensures.given)
+    (call_leads (Listed c.args.separator c.args.close) (Items c.args.separator (exp (plain c.in_ok-first.first) no_exps)) c.in_ok-items.ensures.given)))
+    (want_stops (Listed c.args.separator c.args.close) c.in_err-last-2.ensures.given))
 
 pub listed_inits-returns-in-Some-clause-given : goal.listed_inits-returns-in-Some-clause-given
-listed_inits-returns-in-Some-clause-given t c = got_is ListedInits (inits_none c.new.ensures.items) (gives (some_leads _ _ c.in_ok-last.ensures.given c.in-Some.is ListedInits _ _))
+listed_inits-returns-in-Some-clause-given t c = got_is ListedInits (inits_none c.new.ensures.items)
+    (gives (some_leads _ _ c.in_ok-last.ensures.given c.in-Some.is ListedInits _ _))
 
 pub listed_inits-returns-in_err-first-clause-given : goal.listed_inits-returns-in_err-first-clause-given
-listed_inits-returns-in_err-first-clause-given t c = ended _ _ _ _ _ _ c.from_residual-in_err-first.ensures (raise (none_leads _ _ c.in_ok-last.ensures.given c.in_default.is ListedInits _ _) (call_stops ListedInits OneInit c.in_err-first.ensures.given))
+listed_inits-returns-in_err-first-clause-given t c = ended _ _ _ _ _ _ c.from_residual-in_err-first.ensures
+    (raise (none_leads _ _ c.in_ok-last.ensures.given c.in_default.is ListedInits _ _) (call_stops ListedInits OneInit c.in_err-first.ensures.given))
 
 pub listed_inits-returns-in_err-inits-clause-given : goal.listed_inits-returns-in_err-inits-clause-given
-listed_inits-returns-in_err-inits-clause-given t c = ended _ _ _ _ _ _ c.from_residual-in_err-inits.ensures (raise (then (none_leads _ _ c.in_ok-last.ensures.given c.in_default.is ListedInits _ _) (call_leads ListedInits OneInit c.in_ok-first.ensures.given)) (call_stops ListedInits (MoreInits (init c.in_ok-first.first.field (plain c.in_ok-first.first.value) no_inits)) c.in_err-inits.ensures.given))
+listed_inits-returns-in_err-inits-clause-given t c = ended _ _ _ _ _ _ c.from_residual-in_err-inits.ensures
+    (raise (then (none_leads _ _ c.in_ok-last.ensures.given c.in_default.is ListedInits _ _) (call_leads ListedInits OneInit c.in_ok-first.ensures.given))
+    (call_stops ListedInits (MoreInits (init c.in_ok-first.first.field (plain c.in_ok-first.first.value) no_inits)) c.in_err-inits.ensures.given))
 
 pub listed_inits-returns-in_err-last-2-clause-given : goal.listed_inits-returns-in_err-last-2-clause-given
-listed_inits-returns-in_err-last-2-clause-given t c = ended _ _ _ _ _ _ c.from_residual-in_err-last-2.ensures (raise (then (none_leads _ _ c.in_ok-last.ensures.given c.in_default.is ListedInits _ _) (then (call_leads ListedInits OneInit c.in_ok-first.ensures.given) (call_leads ListedInits (MoreInits (init c.in_ok-first.first.field (plain c.in_ok-first.first.value) no_inits)) c.in_ok-inits.ensures.given))) (want_stops ListedInits c.in_err-last-2.ensures.given))
+listed_inits-returns-in_err-last-2-clause-given t c = ended _ _ _ _ _ _ c.from_residual-in_err-last-2.ensures
+    (raise (then (none_leads _ _ c.in_ok-last.ensures.given c.in_default.is ListedInits _ _)
+    (then (call_leads ListedInits OneInit c.in_ok-first.ensures.given)
+    (call_leads ListedInits (MoreInits (init c.in_ok-first.first.field (plain c.in_ok-first.first.value) no_inits)) c.in_ok-inits.ensures.given)))
+    (want_stops ListedInits c.in_err-last-2.ensures.given))
 
 pub items-returns-in_err-after-clause-given : goal.items-returns-in_err-after-clause-given
-items-returns-in_err-after-clause-given t c = ended _ _ _ _ _ _ c.from_residual-in_err-after.ensures (items_stops c.items.invariant.onward (c.in_err-after.ensures.given (Items c.args.separator (exps_of c.items.items.items)) _ _))
+items-returns-in_err-after-clause-given t c = ended _ _ _ _ _ _ c.from_residual-in_err-after.ensures
+    (items_stops c.items.invariant.onward (c.in_err-after.ensures.given (Items c.args.separator (exps_of c.items.items.items)) _ _))
 
 pub items-returns-in_default-clause-given : goal.items-returns-in_default-clause-given
-items-returns-in_default-clause-given t c = c.items.invariant.onward.reaches (Got _ _) (gives (none_leads _ _ c.in_ok-after.ensures.given c.in_default.is (Items c.args.separator (exps_of c.items.items.items)) _ _))
+items-returns-in_default-clause-given t c = c.items.invariant.onward.reaches (Got _ _)
+    (gives (none_leads _ _ c.in_ok-after.ensures.given c.in_default.is (Items c.args.separator (exps_of c.items.items.items)) _ _))
 
 pub items-returns-in_err-e-clause-given : goal.items-returns-in_err-e-clause-given
-items-returns-in_err-e-clause-given t c = ended _ _ _ _ _ _ c.from_residual-in_err-e.ensures (items_stops c.items.invariant.onward (raise (some_leads _ _ c.in_ok-after.ensures.given c.in-Some.is (Items c.args.separator (exps_of c.items.items.items)) _ _) (call_stops (Items c.args.separator (exps_of c.items.items.items)) (At Whole) c.in_err-e.ensures.given)))
+items-returns-in_err-e-clause-given t c = ended _ _ _ _ _ _ c.from_residual-in_err-e.ensures
+    (items_stops c.items.invariant.onward
+    (raise (some_leads _ _ c.in_ok-after.ensures.given c.in-Some.is (Items c.args.separator (exps_of c.items.items.items)) _ _)
+    (call_stops (Items c.args.separator (exps_of c.items.items.items)) (At Whole) c.in_err-e.ensures.given)))
 
 pub inits-returns-in_err-after-clause-given : goal.inits-returns-in_err-after-clause-given
-inits-returns-in_err-after-clause-given t c = ended _ _ _ _ _ _ c.from_residual-in_err-after.ensures (inits_stops c.inits.invariant.onward (c.in_err-after.ensures.given (MoreInits (inits_of c.inits.inits.items)) _ _))
+inits-returns-in_err-after-clause-given t c = ended _ _ _ _ _ _ c.from_residual-in_err-after.ensures
+    (inits_stops c.inits.invariant.onward (c.in_err-after.ensures.given (MoreInits (inits_of c.inits.inits.items)) _ _))
 
 pub inits-returns-in_default-clause-given : goal.inits-returns-in_default-clause-given
-inits-returns-in_default-clause-given t c = c.inits.invariant.onward.reaches (Got _ _) (gives (none_leads _ _ c.in_ok-after.ensures.given c.in_default.is (MoreInits (inits_of c.inits.inits.items)) _ _))
+inits-returns-in_default-clause-given t c = c.inits.invariant.onward.reaches (Got _ _)
+    (gives (none_leads _ _ c.in_ok-after.ensures.given c.in_default.is (MoreInits (inits_of c.inits.inits.items)) _ _))
 
 pub inits-returns-in_err-init-clause-given : goal.inits-returns-in_err-init-clause-given
-inits-returns-in_err-init-clause-given t c = ended _ _ _ _ _ _ c.from_residual-in_err-init.ensures (inits_stops c.inits.invariant.onward (raise (some_leads _ _ c.in_ok-after.ensures.given c.in-Some.is (MoreInits (inits_of c.inits.inits.items)) _ _) (call_stops (MoreInits (inits_of c.inits.inits.items)) OneInit c.in_err-init.ensures.given)))
+inits-returns-in_err-init-clause-given t c = ended _ _ _ _ _ _ c.from_residual-in_err-init.ensures
+    (inits_stops c.inits.invariant.onward
+    (raise (some_leads _ _ c.in_ok-after.ensures.given c.in-Some.is (MoreInits (inits_of c.inits.inits.items)) _ _)
+    (call_stops (MoreInits (inits_of c.inits.inits.items)) OneInit c.in_err-init.ensures.given)))
 
 pub declarations-returns-in_err-kind-clause-given : goal.declarations-returns-in_err-kind-clause-given
-declarations-returns-in_err-kind-clause-given t c = ended _ _ _ _ _ _ c.from_residual.ensures (decs_stops c.decs.invariant.onward (c.in_err-kind.ensures.given (decs_of c.decs.decs.items)))
+declarations-returns-in_err-kind-clause-given t c = ended _ _ _ _ _ _ c.from_residual.ensures
+    (decs_stops c.decs.invariant.onward (c.in_err-kind.ensures.given (decs_of c.decs.decs.items)))
 
 pub declarations-returns-in_default-clause-given : goal.declarations-returns-in_default-clause-given
-declarations-returns-in_default-clause-given t c = c.decs.invariant.onward.reaches (Got _ _) (gives (none_declares _ _ c.in_ok-kind.ensures.given c.in_default.is (decs_of c.decs.decs.items)))
+declarations-returns-in_default-clause-given t c = c.decs.invariant.onward.reaches (Got _ _)
+    (gives (none_declares _ _ c.in_ok-kind.ensures.given c.in_default.is (decs_of c.decs.decs.items)))
 
 pub declarations-returns-in_err-more-clause-given : goal.declarations-returns-in_err-more-clause-given
-declarations-returns-in_err-more-clause-given t c = ended _ _ _ _ _ _ c.from_residual-in_err-more.ensures (decs_stops c.decs.invariant.onward (raise (some_declares _ _ c.in_ok-kind.ensures.given c.in-Some.is (decs_of c.decs.decs.items)) (c.in_err-more.ensures.given (MoreDecs (decs_of c.decs.decs.items)) (λ ds. last (MoreDecs ds)))))
+declarations-returns-in_err-more-clause-given t c = ended _ _ _ _ _ _ c.from_residual-in_err-more.ensures
+    (decs_stops c.decs.invariant.onward (raise (some_declares _ _ c.in_ok-kind.ensures.given c.in-Some.is (decs_of c.decs.decs.items))
+    (c.in_err-more.ensures.given (MoreDecs (decs_of c.decs.decs.items)) (λ ds. last (MoreDecs ds)))))
 
 pub listed-returns-clause-given : goal.listed-returns-clause-given
-listed-returns-clause-given t c = gives (then (none_leads _ _ c.in_ok-last.ensures.given c.in_default.is (Listed c.args.separator c.args.close) _ _) (then (call_leads (Listed c.args.separator c.args.close) (At Whole) c.in_ok-first.ensures.given) (then (call_leads (Listed c.args.separator c.args.close) (Items c.args.separator (exp (plain c.in_ok-first.first) no_exps)) c.in_ok-items.ensures.given) (want_leads (Listed c.args.separator c.args.close) c.in_ok-last-2.ensures.given))))
+listed-returns-clause-given t c =
+    gives (then (none_leads _ _ c.in_ok-last.ensures.given c.in_default.is (Listed c.args.separator c.args.close) _ _)
+    (then (call_leads (Listed c.args.separator c.args.close) (At Whole) c.in_ok-first.ensures.given)
+    (then (call_leads (Listed c.args.separator c.args.close) (Items c.args.separator (exp (plain c.in_ok-first.first) no_exps)) c.in_ok-items.ensures.given)
+    (want_leads (Listed c.args.separator c.args.close) c.in_ok-last-2.ensures.given))))
 
 pub listed_inits-returns-clause-given : goal.listed_inits-returns-clause-given
-listed_inits-returns-clause-given t c = gives (then (none_leads _ _ c.in_ok-last.ensures.given c.in_default.is ListedInits _ _) (then (call_leads ListedInits OneInit c.in_ok-first.ensures.given) (then (call_leads ListedInits (MoreInits (init c.in_ok-first.first.field (plain c.in_ok-first.first.value) no_inits)) c.in_ok-inits.ensures.given) (want_leads ListedInits c.in_ok-last-2.ensures.given))))
+listed_inits-returns-clause-given t c = gives (then (none_leads _ _ c.in_ok-last.ensures.given c.in_default.is ListedInits _ _)
+    (then (call_leads ListedInits OneInit c.in_ok-first.ensures.given)
+    (then (call_leads ListedInits (MoreInits (init c.in_ok-first.first.field (plain c.in_ok-first.first.value) no_inits)) c.in_ok-inits.ensures.given)
+    (want_leads ListedInits c.in_ok-last-2.ensures.given))))
 
 pub items-returns-in_err-items-clause-given : goal.items-returns-in_err-items-clause-given
 items-returns-in_err-items-clause-given t c = ended _ _ _ _ _ _ c.from_residual.ensures (no_memory (Items _ _))
@@ -386,7 +555,8 @@ pub one_init-returns-in_err-field-clause-given : goal.one_init-returns-in_err-fi
 one_init-returns-in_err-field-clause-given t c = ended _ _ _ _ _ _ c.from_residual.ensures (name_stops OneInit c.in_err-field.ensures.given)
 
 pub one_init-returns-in_err-value-clause-given : goal.one_init-returns-in_err-value-clause-given
-one_init-returns-in_err-value-clause-given t c = ended _ _ _ _ _ _ c.from_residual-in_err-value.ensures (name_then OneInit c.in_ok-field.ensures.given (c.in_err-value.ensures.given OneInit _))
+one_init-returns-in_err-value-clause-given t c = ended _ _ _ _ _ _ c.from_residual-in_err-value.ensures
+    (name_then OneInit c.in_ok-field.ensures.given (c.in_err-value.ensures.given OneInit _))
 
 pub one_init-returns-clause-given : goal.one_init-returns-clause-given
 one_init-returns-clause-given t c = name_on OneInit c.in_ok-field.ensures.given (gives (c.in_ok-value.ensures.given OneInit _))
@@ -401,43 +571,75 @@ pub one_more-returns-in-OneFunction-clause-given : goal.one_more-returns-in-OneF
 one_more-returns-in-OneFunction-clause-given t c = rw c.in-OneFunction.is c.with_function.ensures.given
 
 pub with_variable-returns-in_err-head-clause-given : goal.with_variable-returns-in_err-head-clause-given
-with_variable-returns-in_err-head-clause-given t c = begins_ended _ _ c.from_residual.result c.from_residual.ensures (λ j f. call_stops j VarDec (c.in_err-head.ensures.given VarDec _))
+with_variable-returns-in_err-head-clause-given t c = begins_ended _ _ c.from_residual.result c.from_residual.ensures
+    (λ j f. call_stops j VarDec (c.in_err-head.ensures.given VarDec _))
 
 pub with_variable-returns-in_err-value-clause-given : goal.with_variable-returns-in_err-value-clause-given
-with_variable-returns-in_err-value-clause-given t c = begins_ended _ _ c.from_residual-in_err-value.result c.from_residual-in_err-value.ensures (λ j f. call_stops j VarDec (raise (c.in_ok-head.ensures.given VarDec _) (c.in_err-value.ensures.given VarDec _)))
+with_variable-returns-in_err-value-clause-given t c = begins_ended _ _ c.from_residual-in_err-value.result
+    c.from_residual-in_err-value.ensures (λ j f. call_stops j VarDec (raise (c.in_ok-head.ensures.given VarDec _) (c.in_err-value.ensures.given VarDec _)))
 
 pub with_variable-returns-in_err-push_variable-clause-given : goal.with_variable-returns-in_err-push_variable-clause-given
-with_variable-returns-in_err-push_variable-clause-given t c = begins_ended _ _ c.from_residual-in_err-push_variable.result c.from_residual-in_err-push_variable.ensures (λ j f. no_memory j)
+with_variable-returns-in_err-push_variable-clause-given t c = begins_ended _ _ c.from_residual-in_err-push_variable.result
+    c.from_residual-in_err-push_variable.ensures (λ j f. no_memory j)
 
 pub with_variable-returns-clause-given : goal.with_variable-returns-clause-given
-with_variable-returns-clause-given t c = λ j f. then (call_leads j VarDec (gives (then (c.in_ok-head.ensures.given VarDec _) (c.in_ok-value.ensures.given VarDec _)))) (same_leads j (ap f (sym c.in_ok-push_variable.ensures)))
+with_variable-returns-clause-given t c =
+    λ j f. then (call_leads j VarDec (gives (then (c.in_ok-head.ensures.given VarDec _) (c.in_ok-value.ensures.given VarDec _))))
+    (same_leads j (ap f (sym c.in_ok-push_variable.ensures)))
 
 pub with_function-returns-in_err-head-clause-given : goal.with_function-returns-in_err-head-clause-given
-with_function-returns-in_err-head-clause-given t c = begins_ended _ _ c.from_residual.result c.from_residual.ensures (λ j f. call_stops j FunDec (c.in_err-head.ensures.given FunDec (λ h. want (OfSign Equal) (λ _. call (At Whole) (λ e. give (one_function h.name h.params h.result e))))))
+with_function-returns-in_err-head-clause-given t c = begins_ended _ _ c.from_residual.result c.from_residual.ensures
+    (λ j f. call_stops j FunDec
+    (c.in_err-head.ensures.given FunDec (λ h. want (OfSign Equal) (λ _. call (At Whole) (λ e. give (one_function h.name h.params h.result e))))))
 
 pub with_function-returns-in_err-body-clause-given : goal.with_function-returns-in_err-body-clause-given
-with_function-returns-in_err-body-clause-given t c = begins_ended _ _ c.from_residual-in_err-body.result c.from_residual-in_err-body.ensures (λ j f. call_stops j FunDec (raise (c.in_ok-head.ensures.given FunDec (λ h. want (OfSign Equal) (λ _. call (At Whole) (λ e. give (one_function h.name h.params h.result e))))) (c.in_err-body.ensures.given FunDec _)))
+with_function-returns-in_err-body-clause-given t c = begins_ended _ _ c.from_residual-in_err-body.result
+    c.from_residual-in_err-body.ensures
+    (λ j f. call_stops j FunDec
+    (raise (c.in_ok-head.ensures.given FunDec (λ h. want (OfSign Equal) (λ _. call (At Whole) (λ e. give (one_function h.name h.params h.result e)))))
+    (c.in_err-body.ensures.given FunDec _)))
 
 pub with_function-returns-in_err-push_function-clause-given : goal.with_function-returns-in_err-push_function-clause-given
-with_function-returns-in_err-push_function-clause-given t c = begins_ended _ _ c.from_residual-in_err-push_function.result c.from_residual-in_err-push_function.ensures (λ j f. no_memory j)
+with_function-returns-in_err-push_function-clause-given t c = begins_ended _ _ c.from_residual-in_err-push_function.result
+    c.from_residual-in_err-push_function.ensures (λ j f. no_memory j)
 
 pub with_function-returns-clause-given : goal.with_function-returns-clause-given
-with_function-returns-clause-given t c = λ j f. then (call_leads j FunDec (gives (then (c.in_ok-head.ensures.given FunDec (λ h. want (OfSign Equal) (λ _. call (At Whole) (λ e. give (one_function h.name h.params h.result e))))) (c.in_ok-body.ensures.given FunDec _)))) (same_leads j (ap f (sym c.in_ok-push_function.ensures)))
+with_function-returns-clause-given t c =
+    λ j f. then (call_leads j FunDec
+    (gives (then (c.in_ok-head.ensures.given FunDec (λ h. want (OfSign Equal) (λ _. call (At Whole) (λ e. give (one_function h.name h.params h.result e)))))
+    (c.in_ok-body.ensures.given FunDec _)))) (same_leads j (ap f (sym c.in_ok-push_function.ensures)))
 
 pub items-items-init : goal.items-items-init
 items-items-init t c = record { onward = items_first _ _ _ _ (exps_one _ c.in_ok-items.ensures.items c.in_ok-push.ensures.items); shorter = omega arith }
 
 pub items-items-preserved : goal.items-items-preserved
-items-items-preserved t c = record { onward = items_more c.items.invariant.onward (some_leads _ _ c.in_ok-after.ensures.given c.in-Some.is) c.in_ok-e.ensures.given (ap exps_of c.in_ok-push-2.ensures.items ∙ exps_end _ _); shorter = omega (arith, if_some _ c.in_ok-after.ensures.shorter c.in-Some.is, c.in_ok-e.ensures.shorter) }
+items-items-preserved t c =
+    record {
+      onward = items_more c.items.invariant.onward (some_leads _ _ c.in_ok-after.ensures.given c.in-Some.is)
+          c.in_ok-e.ensures.given (ap exps_of c.in_ok-push-2.ensures.items ∙ exps_end _ _);
+      shorter =
+          omega (arith, if_some _ c.in_ok-after.ensures.shorter c.in-Some.is, c.in_ok-e.ensures.shorter);
+    }
 
 pub inits-inits-init : goal.inits-inits-init
 inits-inits-init t c = record { onward = inits_first _ _ _ (inits_one _ c.in_ok-inits.ensures.items c.in_ok-push.ensures.items); shorter = omega arith }
 
 pub inits-inits-preserved : goal.inits-inits-preserved
-inits-inits-preserved t c = record { onward = inits_more c.inits.invariant.onward (some_leads _ _ c.in_ok-after.ensures.given c.in-Some.is) c.in_ok-init.ensures.given (ap inits_of c.in_ok-push-2.ensures.items ∙ inits_end _ _); shorter = omega (arith, if_some _ c.in_ok-after.ensures.shorter c.in-Some.is, c.in_ok-init.ensures.shorter) }
+inits-inits-preserved t c =
+    record {
+      onward = inits_more c.inits.invariant.onward (some_leads _ _ c.in_ok-after.ensures.given c.in-Some.is)
+          c.in_ok-init.ensures.given (ap inits_of c.in_ok-push-2.ensures.items ∙ inits_end _ _);
+      shorter =
+          omega (arith, if_some _ c.in_ok-after.ensures.shorter c.in-Some.is, c.in_ok-init.ensures.shorter);
+    }
 
 pub declarations-decs-init : goal.declarations-decs-init
 declarations-decs-init t c = record { onward = decs_first _ _ _ (ap decs_of c.new-decs.ensures.items); shorter = omega arith }
 
 pub declarations-decs-preserved : goal.declarations-decs-preserved
-declarations-decs-preserved t c = record { onward = decs_more c.in-Some.kind c.decs.invariant.onward (some_declares _ _ c.in_ok-kind.ensures.given c.in-Some.is (decs_of c.decs.decs.items)) (c.in_ok-more.ensures.given (MoreDecs (decs_of c.decs.decs.items)) (λ ds. last (MoreDecs ds))); shorter = omega (arith, if_some _ c.in_ok-kind.ensures.shorter c.in-Some.is, c.in_ok-more.ensures.shorter) }
+declarations-decs-preserved t c =
+    record {
+      onward = decs_more c.in-Some.kind c.decs.invariant.onward (some_declares _ _ c.in_ok-kind.ensures.given
+          c.in-Some.is (decs_of c.decs.decs.items)) (c.in_ok-more.ensures.given (MoreDecs (decs_of c.decs.decs.items)) (λ ds. last (MoreDecs ds)));
+      shorter = omega (arith, if_some _ c.in_ok-kind.ensures.shorter c.in-Some.is, c.in_ok-more.ensures.shorter);
+    }

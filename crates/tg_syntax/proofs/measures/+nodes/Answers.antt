@@ -13,4 +13,5 @@ init_nodes-returns t c = rw (inits_size-plain_inits c.args.inits.now) (grind (ar
 
 pub nodes-returns-after-loop-dec : goal.nodes-returns-after-loop-dec
 nodes-returns-after-loop-dec t c =
-    rw (ap (λ k. size (plain_kind k c.args.body.now.span)) c.in-Let.is ∙ size-Let c.in-Let.decs c.in-Let.body c.args.body.now.span) (grind (arith, common_steps))
+    rw (ap (λ k. size (plain_kind k c.args.body.now.span)) c.in-Let.is ∙ size-Let c.in-Let.decs c.in-Let.body c.args.body.now.span)
+    (grind (arith, common_steps))

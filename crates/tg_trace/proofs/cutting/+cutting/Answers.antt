@@ -25,7 +25,8 @@ cut_loop-returns t c =
     record {
       exits = c.in_ok-put_head.ensures.exits ∙ popped _ _ _ exits exit c.pop.ensures.rest c.cut.new.before.exits.ok.0 (c.in_ok-cut.ensures.exits ∙ pushed);
       cut =
-          turned_is exits (plain_ts c.args.turn) (plain_cut c.args.before.now) (plain_cut c.seal.new.cut) (plain_cut c.draw.new.cut) opened _ _ exit c.in_ok-head.head
+          turned_is exits (plain_ts c.args.turn) (plain_cut c.args.before.now) (plain_cut c.seal.new.cut)
+          (plain_cut c.draw.new.cut) opened _ _ exit c.in_ok-head.head
           c.in_ok-exit.ensures.mark c.in_ok-exit.ensures.cut.cut c.in_ok-head.ensures.mark c.in_ok-head.ensures.cut.cut c.open_at.ensures.cut
           (c.in_ok-cut.ensures.cut ∙ ap (λ es. cutting.cut es (plain_ts c.args.turn) opened) pushed) c.in_ok-put_head.ensures.cut;
     }
@@ -59,7 +60,8 @@ cut_all-loop-statement-preserved t c =
           let shorter = no_deeper (roll-Stms (record { items = c.pop.new.self })) c.loop-statement.all c.in-Some.statement c.in-Some.ensures.items in
           omega (arith, shorter, c.loop-statement.invariant.deeper);
       exits = c.loop-statement.invariant.exits;
-      cut = back_out exits count rest c.loop-statement.all.items.items c.in-Some.statement (plain_cut c.loop-statement.before) c.in-Some.ensures.items h ∙ c.loop-statement.invariant.cut;
+      cut = back_out exits count rest c.loop-statement.all.items.items c.in-Some.statement (plain_cut c.loop-statement.before)
+          c.in-Some.ensures.items h ∙ c.loop-statement.invariant.cut;
     }
 
 pub cut_all-returns : goal.cut_all-returns

@@ -8,7 +8,8 @@ abbrev pub invariant-cut_all-loop-statement : goal.invariant-cut_all-loop-statem
 invariant-cut_all-loop-statement l = record {
   deeper : size-Stms l.all ≤ size-Stms l.initial.all;
   exits : l.before.exits.items ≡ l.fn.before.exits.items;
-  cut : back l.fn.before.exits.items (take l.count l.all.items.items) (plain_cut l.before) ≡ back l.fn.before.exits.items (take l.count l.fn.all.items.items) (plain_cut l.fn.before);
+  cut : back l.fn.before.exits.items (take l.count l.all.items.items) (plain_cut l.before) ≡ back l.fn.before.exits.items
+      (take l.count l.fn.all.items.items) (plain_cut l.fn.before);
 }
 
 abbrev pub decreases-cut_all-loop-statement : goal.decreases-cut_all-loop-statement

@@ -5,4 +5,5 @@ use Rattle.tg_trace.proofs.orders.follow.Given as goal
 
 abbrev pub invariant-loop-step : goal.invariant-loop-step
 invariant-loop-step l =
-    follow (length l.blocks - l.step) (plain_blocks l.blocks) l.next (plain_order l.order) ≡ follow (length l.blocks) (plain_blocks l.blocks) l.fn.first (plain_order l.fn.order)
+    follow (length l.blocks - l.step) (plain_blocks l.blocks) l.next (plain_order l.order) ≡ follow (length l.blocks)
+    (plain_blocks l.blocks) l.fn.first (plain_order l.fn.order)

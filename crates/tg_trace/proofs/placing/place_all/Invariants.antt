@@ -6,7 +6,8 @@ use Rattle.tg_trace.proofs.placing.place_all.Given as goal
 
 abbrev pub invariant-loop-block : goal.invariant-loop-block
 invariant-loop-block l =
-    plain_blocks l.blocks.items ++ map (placed l.places l.last) (reverse (plain_blocks l.rest.items)) ≡ map (placed l.places l.last) (reverse (plain_blocks l.fn.laid.items))
+    plain_blocks l.blocks.items ++ map (placed l.places l.last) (reverse (plain_blocks l.rest.items)) ≡
+    map (placed l.places l.last) (reverse (plain_blocks l.fn.laid.items))
 
 abbrev pub decreases-loop-block : goal.decreases-loop-block
 decreases-loop-block l = vec_len l.rest

@@ -15,7 +15,9 @@ loop-at-preserved c =
     let p = slice_index order at in
     let len : length c.put_next.new.blocks ≡ c.loop-at.blocks.len = omega (arith, c.put_next.auto.blocks, c.deref_mut.ensures.len) in
     let same : (with_items c.loop-at.blocks c.put_next.new.blocks).items ≡ c.put_next.new.blocks = with_items_is c.loop-at.blocks c.put_next.new.blocks len in
-    emit_step (code_of c.loop-at.code.items) (code_of c.put_next.new.code.items) order at (plain_blocks c.loop-at.blocks.items) (plain_blocks (with_items c.loop-at.blocks c.put_next.new.blocks).items) c.loop-at-test.true
-    (c.in_ok-put_next.ensures.code ∙ ap (λ bs. code_of c.loop-at.code.items ++ laying.block_code p (slice_get order (at + 1)) (laying.block_at (plain_blocks bs) p)) c.deref_mut.ensures.value)
+    emit_step (code_of c.loop-at.code.items) (code_of c.put_next.new.code.items) order at (plain_blocks c.loop-at.blocks.items)
+    (plain_blocks (with_items c.loop-at.blocks c.put_next.new.blocks).items) c.loop-at-test.true
+    (c.in_ok-put_next.ensures.code ∙ ap (λ bs. code_of c.loop-at.code.items ++ laying.block_code p (slice_get order (at + 1))
+    (laying.block_at (plain_blocks bs) p)) c.deref_mut.ensures.value)
     (ap plain_blocks same ∙ (c.in_ok-put_next.ensures.blocks ∙ ap (λ bs. slice_set (plain_blocks bs) p laying.no_block) c.deref_mut.ensures.value))
     ∙ c.loop-at.invariant

@@ -8,4 +8,5 @@ use Rattle.tg_tree.proofs.making.repeat_until.Goals as goal
 pub returns : goal.returns
 returns c =
     subst (λ (t : Ts). IfOk c.repeat.result (λ s. plain_ts s ≡ t))
-    (turn_is (plain_cond c.args.done) c.args.turn.items _ _ c.sequence.result c.in_ok-when.ensures c.in_ok-push.ensures.items c.sequence.ensures) c.repeat.ensures
+    (turn_is (plain_cond c.args.done) c.args.turn.items _ _ c.sequence.result c.in_ok-when.ensures c.in_ok-push.ensures.items c.sequence.ensures)
+    c.repeat.ensures

@@ -5,7 +5,8 @@ use Rattle.tg_syntax.specs.Lists.{decs_of}
 use Rattle.tg_syntax.proofs.ListLaws.{plain_kind-Let}
 use Rattle.tg_syntax.specs.Functions.{declared, declared_decs, declared_exps}
 use Rattle.tg_types.specs.Limits.{first_above}
-use Rattle.tg_types.proofs.LimitSteps.{exp_limit, init_limit, dec_limit, function_limit, first_in, one_here, none_in, exps_are, inits_are, decs_are, functions_are, one_level_up, let_limit, for_limit, group_limit}
+use Rattle.tg_types.proofs.LimitSteps.{exp_limit, init_limit, dec_limit, function_limit, first_in, one_here, none_in, exps_are, inits_are, decs_are}
+use Rattle.tg_types.proofs.LimitSteps.{functions_are, one_level_up, let_limit, for_limit, group_limit}
 use Rattle.tg_types.proofs.limits.+limits.Goals as goal
 
 pub first_above-returns-in-Let : goal.first_above-returns-in-Let

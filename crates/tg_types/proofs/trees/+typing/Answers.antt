@@ -13,9 +13,15 @@ use Rattle.tg_types.specs.Trees.{fitting, filled, second_way, choice, idle}
 use Rattle.tg_types.specs.States.{no_memory, scope_of, noted_of}
 use Rattle.tg_syntax.proofs.ListLaws.{plain_kind-Let, plain_exps-items, plain_inits-items, plain_functions-items}
 use Rattle.tg_syntax.specs.Lists.{exps_of, inits_of, decs_of, functions_of}
-use Rattle.tg_types.proofs.Steps.{step, two_steps, given, fails_first, fails_then, two_fail_first, two_fail_then, ended, leads_ended, carry, last_fails, same_scope, no_loop_scope, opens_both, opens_keep, given_is, keep_is, keep_true, kept_steps, kept_fail, kept_then, cut_back, opened_state, keeps_both}
+use Rattle.tg_types.proofs.Steps.{step, two_steps, given, fails_first, fails_then, two_fail_first, two_fail_then, ended, leads_ended, carry}
+use Rattle.tg_types.proofs.Steps.{last_fails, same_scope, no_loop_scope, opens_both, opens_keep, given_is, keep_is, keep_true, kept_steps, kept_fail}
+use Rattle.tg_types.proofs.Steps.{kept_then, cut_back, opened_state, keeps_both}
 use Rattle.tg_types.proofs.HeaderSteps.{open_one}
-use Rattle.tg_types.proofs.TreeSteps.{start_is, count_is, init_count_is, function_count_is, among, index_at, typed_at, params_at, fits_at, arguments_none, arguments_one, arguments_fail, arguments_all, fields_none, fields_one, fields_fail, fields_all, order_none, order_one, order_fails, order_all, decs_none, decs_one, decs_fail, decs_all, bodies_none, bodies_one, bodies_fail, bodies_all, leads_carry, leads_on, leads_kept, choice_fails, choice_first_fails, choice_both, choice_one}
+use Rattle.tg_types.proofs.TreeSteps.{start_is, count_is, init_count_is, function_count_is, among, index_at, typed_at, params_at, fits_at}
+use Rattle.tg_types.proofs.TreeSteps.{arguments_none, arguments_one, arguments_fail, arguments_all, fields_none, fields_one, fields_fail, fields_all}
+use Rattle.tg_types.proofs.TreeSteps.{order_none, order_one, order_fails, order_all, decs_none, decs_one, decs_fail, decs_all, bodies_none}
+use Rattle.tg_types.proofs.TreeSteps.{bodies_one, bodies_fail, bodies_all, leads_carry, leads_on, leads_kept, choice_fails, choice_first_fails}
+use Rattle.tg_types.proofs.TreeSteps.{choice_both, choice_one}
 use Rattle.tg_types.proofs.trees.+typing.Goals as goal
 
 pub fitting-returns-in_err-got-clause-given : goal.fitting-returns-in_err-got-clause-given

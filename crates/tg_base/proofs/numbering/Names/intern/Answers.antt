@@ -8,4 +8,5 @@ returns-in-Some-clause-ok c =
 
 pub returns-clause-ok : goal.returns-clause-ok
 returns-clause-ok c =
-    rw (← c.self.view_is) (interned_new c.self.inside.texts.keys c.insert_full.new.self.keys c.in_ok-owned.owned c.args.text.now c.in_ok-at.at c.in_ok-owned.ensures.ok (sym c.in_default.ensures.found) c.in_ok-at.ensures.keys c.in_ok-at.ensures.index)
+    rw (← c.self.view_is) (interned_new c.self.inside.texts.keys c.insert_full.new.self.keys c.in_ok-owned.owned
+    c.args.text.now c.in_ok-at.at c.in_ok-owned.ensures.ok (sym c.in_default.ensures.found) c.in_ok-at.ensures.keys c.in_ok-at.ensures.index)

@@ -5,4 +5,5 @@ use Rattle.tg_base.proofs.shelves.PlainShelfShelf.read_file.Goals as goal
 
 pub returns-in-Some-clause-front : goal.returns-in-Some-clause-front
 returns-in-Some-clause-front c =
-    front_of_file c.front.result c.args.self.now.held c.args.name.now c.args.most c.deref.result.now (grind (arith, common_steps, file_of_named)) c.front.ensures.ok
+    front_of_file c.front.result c.args.self.now.held c.args.name.now c.args.most c.deref.result.now
+    (grind (arith, common_steps, file_of_named)) c.front.ensures.ok

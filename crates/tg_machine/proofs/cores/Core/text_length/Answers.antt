@@ -8,7 +8,8 @@ loop-length-init c = found_none _ _ _
 
 pub loop-length-preserved : goal.loop-length-preserved
 loop-length-preserved c =
-    found_more _ _ _ _ _ c.loop-length-test.true c.loop-length.invariant (sym c.in_ok-load_byte.ensures.value) c.in_ok-load_byte.ensures.low c.if-branch-eq0.false
+    found_more _ _ _ _ _ c.loop-length-test.true c.loop-length.invariant (sym c.in_ok-load_byte.ensures.value)
+    c.in_ok-load_byte.ensures.low c.if-branch-eq0.false
 
 pub returns-in_err-load_byte-clause-text : goal.returns-in_err-load_byte-clause-text
 returns-in_err-load_byte-clause-text c =
@@ -22,7 +23,8 @@ pub returns-then-branch-eq0-clause-text : goal.returns-then-branch-eq0-clause-te
 returns-then-branch-eq0-clause-text c =
     let s = c.args.self.now in
     let is : c.len.result + c.len-2.result + c.len-3.result + 1 ≡ length s.statics + length s.heap + length s.stack + 1 = grind arith in
-    found_all _ _ _ _ _ is c.loop-length-test.true c.loop-length.invariant (sym c.in_ok-load_byte.ensures.value) c.in_ok-load_byte.ensures.low c.if-branch-eq0.true
+    found_all _ _ _ _ _ is c.loop-length-test.true c.loop-length.invariant (sym c.in_ok-load_byte.ensures.value)
+    c.in_ok-load_byte.ensures.low c.if-branch-eq0.true
 
 pub returns-clause-text : goal.returns-clause-text
 returns-clause-text c =

@@ -17,7 +17,10 @@ returns-in_err-write_all-clause-bytes g c =
     let fits : c.loop-done.done + c.min-more.result ≤ c.args.size = omega arith in
     let same : length c.copy.new.into ≡ c.min-more.result = grind (arith, common_steps) in
     let size : length (take c.min-more.result (c.copy.new.into ++ drop c.min-more.result c.loop-done.chunk)) ≡ c.min-more.result = grind (arith, common_steps) in
-    if_ok _ _ text is.found (rw p.1 (chunk_failed _ _ _ c.args.self.now c.args.address c.args.size c.loop-done.done c.min-more.result text _ is fits size (front_loads c.args.self.now _ _ _ _ same c.copy.ensures.bytes) (IfOk-at_ok _ is.found c.loop-done.invariant.3) c.in_err-write_all.ensures.bytes))
+    if_ok _ _ text is.found
+    (rw p.1 (chunk_failed _ _ _ c.args.self.now c.args.address c.args.size c.loop-done.done c.min-more.result text _ is
+    fits size (front_loads c.args.self.now _ _ _ _ same c.copy.ensures.bytes) (IfOk-at_ok _ is.found c.loop-done.invariant.3)
+    c.in_err-write_all.ensures.bytes))
 
 pub loop-done-preserved : goal.loop-done-preserved
 loop-done-preserved g c =
@@ -29,5 +32,7 @@ loop-done-preserved g c =
       omega (arith, c.loop-done.invariant.0, c.write_all.ensures.cause.later),
       omega arith,
       grind (arith, common_steps),
-      if_ok _ _ text is.found (chunk_more _ _ _ c.args.self.now c.args.address c.args.size c.loop-done.done c.min-more.result text _ is fits size (front_loads c.args.self.now _ _ _ _ same c.copy.ensures.bytes) (IfOk-at_ok _ is.found c.loop-done.invariant.3) c.in_ok-write_all.ensures.bytes),
+      if_ok _ _ text is.found (chunk_more _ _ _ c.args.self.now c.args.address c.args.size c.loop-done.done c.min-more.result
+          text _ is fits size (front_loads c.args.self.now _ _ _ _ same c.copy.ensures.bytes) (IfOk-at_ok _ is.found c.loop-done.invariant.3)
+          c.in_ok-write_all.ensures.bytes),
     )
