@@ -1,16 +1,12 @@
 -- What the pass gives is canonical.
-use Rattle.std.proofs.Common.{◌≡◌, ℕ, ◌+◌, Bool, true, false, refl, if◌then◌else◌}
+use Rattle.std.proofs.Common.{◌≡◌, ℕ, ◌+◌, Bool, true, false, refl}
 use Rattle.tg_tree.specs.declared.operators.Bin.{Bin}
 use Rattle.tg_tree.specs.Tree.{Tx, Const, Address, Temp, FrameAddress, Binary, Load, LoadByte, Call, Service, After, Txs, no_txs, tx, Cond, Compare, Not, Both, Either, Ts, Move, Store, StoreByte, Do, If, Loop, Break, Fault, Seq, Return, Stms, no_stms, stm}
 use Rattle.tg_tree.specs.Shapes.{IsFlat, AreFlat, IsFlatSide, IsFlatCond, IsCanonical, AreCanonical}
 use Rattle.tg_canon.specs.Drawing.{Draws, give, ◌>>=◌}
 use Rattle.tg_canon.specs.Canon.{Part, still, nothing, is_nothing, first_then, ◌before◌, loop_of, block, Parts, in_front, in_turn, Lifted, Two, Arguments, behind, hold, is_side, hold_side, word, stays, hold_unless, hold_but_offset, hold_for, hold_before, in_front_of, side_by_side, argument, over, over_two, over_all, with_one, with_two, assigning, acts, dropped, is_whole, Tested, compared, opposite, joined, choice, exit_where, wide_choice, deeper, inside, choose, lift, lift_all, condition, leave, linear, linear_all, statements_of, linearized}
-use Rattle.tg_canon.proofs.Always.{Always, next, made}
-
--- a choice of two of a kind
-one_of_two : {A : Type 0} (P : A → Type 0) (b : Bool) {x y : A} → P x → P y → P (if b then x else y)
-one_of_two P true p q = p
-one_of_two P false p q = q
+use Rattle.tg_canon.proofs.Always.{one_of_two, Always, give_is, next, made}
+use Rattle.tg_canon.proofs.Sides.{flat_side, side_flat}
 
 first_then_canonical : (s t : Ts) → IsCanonical s → IsCanonical t → IsCanonical (first_then s t)
 first_then_canonical s t p q =
@@ -43,31 +39,6 @@ record PartsAre (p : Parts) : Type 0 where
 record TestedIs (t : Tested) : Type 0 where
   canonical : IsCanonical t.front.statement
   flat : IsFlatCond t.condition
-
-flat_side : (x : Tx) → IsFlat x → IsFlatSide x
-flat_side (Const _) h = h
-flat_side (Address _) h = h
-flat_side (Temp _) h = h
-flat_side FrameAddress h = h
-flat_side (Binary _ _ _) h = h
-flat_side (Load _) h = h
-flat_side (LoadByte _) h = h
-flat_side (Call _ _) h = absurd h
-flat_side (Service _ _) h = absurd h
-flat_side (After _ _) h = absurd h
-
--- a side that isn't a call or service is flat
-side_flat : (x : Tx) → is_side x ≡ false → IsFlatSide x → IsFlat x
-side_flat (Const _) e h = h
-side_flat (Address _) e h = h
-side_flat (Temp _) e h = h
-side_flat FrameAddress e h = h
-side_flat (Binary _ _ _) e h = h
-side_flat (Load _) e h = h
-side_flat (LoadByte _) e h = h
-side_flat (Call _ _) e h = cc
-side_flat (Service _ _) e h = cc
-side_flat (After _ _) e h = h
 
 hold_is : (x : Tx) → IsFlatSide x → Always WordIs (hold x)
 hold_is x h = record { at = λ k. record { canonical = h; flat = tt } }
@@ -117,9 +88,6 @@ side_by_side_is a b v w =
 argument_is : (a : Lifted) (all : Arguments) → WordIs a → ArgumentsAre all → Always ArgumentsAre (argument a all)
 argument_is a all v w =
     next (in_front_of all.front a) (λ h. give (record { front = h.front before all.front; rest = tx h.rest all.rest })) (in_front_of_is all.front a v) (λ h u. record { at = λ k. record { canonical = first_then_canonical h.front.statement all.front.statement u.canonical w.canonical; flat = (u.flat, w.flat) } })
-
-give_is : {A : Type 0} {P : A → Type 0} {a : A} → P a → Always P (give a)
-give_is h = record { at = λ k. h }
 
 two_of_words : {B : Type 0} {Q : B → Type 0} (m n : Draws Lifted) (f : Two → B) → Always SideIs m → Always SideIs n → ((a : Two) → TwoAre a → Q (f a)) →
     Always Q (word n >>= (λ b. word m >>= (λ a. side_by_side a b >>= (λ ab. give (f ab)))))

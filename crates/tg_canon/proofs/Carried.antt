@@ -20,7 +20,8 @@ use Rattle.tg_canon.proofs.Paying.{pays, unpaid, credit, along}
 use Rattle.tg_canon.proofs.Fixed.{Scene, around, tree_value, tree_values, tree_test, tree_does, mixed_value, mixed_values}
 use Rattle.tg_canon.proofs.Steady.{Occurs}
 use Rattle.tg_canon.proofs.Splits.{outs_more, backs_more, IsSplit, IsDone, does_nothing}
-use Rattle.tg_canon.proofs.Helds.{IsOwned, owned_both, owned_none, owned_one, flat_side}
+use Rattle.tg_canon.proofs.Sides.{flat_side}
+use Rattle.tg_canon.proofs.Helds.{IsOwned, owned_both, owned_none, owned_one}
 use Rattle.tg_canon.proofs.Words.{spare, units_most, LiftIs, WordIs, word_is, PairIs, pair_is}
 use Rattle.tg_canon.proofs.Dones.{after_split, move_done, dropped_done, return_done, stores_done, choice_done, break_done, fault_done, AllDone, none_done, more_done, sequence_done, GoesOn, loop_done}
 use Rattle.tg_canon.proofs.Tests.{TestIs, not_is, and_is, or_is, compare_is, JoinsPay, extra, extra_there, LeftIs, exit_left, chain_left, block_left, left_opposite, wide_done}

@@ -11,7 +11,7 @@ use Rattle.tg_tree.specs.Lists.{txs_of, stms_of}
 use Rattle.tg_tree.proofs.ListLaws.{plain_tx-Call, plain_ts-Seq}
 use Rattle.tg_tree.specs.Plain.{plain_tx, plain_cond, plain_ts}
 use Rattle.tg_canon.specs.Drawing.{Draws, Gives}
-use Rattle.tg_canon.specs.Canon.{Part, Lifted, Tested, word, lift, condition, leave, linear}
+use Rattle.tg_canon.specs.Canon.{Part, Lifted, Two, Tested, word, lift, condition, leave, linear, operands}
 
 -- what equal trees draw
 alike : {A Tree : Type 0} (draw : Tree → Draws A) {s t : Tree} {k l : ℕ} {a : A} → s ≡ t → Gives (draw t) k a l → Gives (draw s) k a l
@@ -22,6 +22,10 @@ lifts_as out e g = alike (λ x. lift out (plain_tx x)) e g
 
 pub word_as : (out : ℕ → ℕ) {x y : CodeTx} {k l : ℕ} {a : Lifted} → x ≡ y → Gives (word (lift out (plain_tx y))) k a l → Gives (word (lift out (plain_tx x))) k a l
 word_as out e g = alike (λ x. word (lift out (plain_tx x))) e g
+
+pub both_as : (out : ℕ → ℕ) {x x' y y' : CodeTx} {k l : ℕ} {both : Two} → x ≡ x' → y ≡ y' → Gives (operands out (plain_tx x') (plain_tx y')) k both l →
+    Gives (operands out (plain_tx x) (plain_tx y)) k both l
+both_as out {x' = x'} {y = y} d e g = alike (λ x. operands out (plain_tx x) (plain_tx y)) d (alike (λ y. operands out (plain_tx x') (plain_tx y)) e g)
 
 pub tests_as : (out : ℕ → ℕ) {c d : CodeCond} {k l : ℕ} {t : Tested} → c ≡ d → Gives (condition out (plain_cond d)) k t l → Gives (condition out (plain_cond c)) k t l
 tests_as out e g = alike (λ c. condition out (plain_cond c)) e g

@@ -5,14 +5,7 @@ use Rattle.tg_tree.specs.Tree.{Tx, Const, Address, Temp, FrameAddress, Binary, L
 use Rattle.tg_tree.specs.Shapes.{BreaksWithin, BreaksWithinStms, BreaksWithinTx, BreaksWithinTxs, BreaksWithinCond, EndsFunction, LastEndsFunction, IsClosed, AreClosed}
 use Rattle.tg_canon.specs.Drawing.{Draws, give, ◌>>=◌}
 use Rattle.tg_canon.specs.Canon.{Part, still, nothing, is_nothing, pair, first_then, ◌before◌, loop_of, block, Parts, no_parts, in_front, in_turn, Lifted, Two, Arguments, behind, hold, is_side, hold_side, word, stays, hold_unless, hold_but_offset, hold_for, hold_before, in_front_of, side_by_side, argument, over, over_two, over_all, with_one, with_two, assigning, acts, dropped, is_whole, Tested, compared, opposite, joined, choice, exit_where, wide_choice, deeper, inside, choose, lift, lift_all, condition, leave, linear, linear_all, statements_of, linearized}
-use Rattle.tg_canon.proofs.Always.{Always, next, made}
-
-one_of_two : {A : Type 0} (P : A → Type 0) (b : Bool) {x y : A} → P x → P y → P (if b then x else y)
-one_of_two P true p q = p
-one_of_two P false p q = q
-
-give_is : {A : Type 0} {P : A → Type 0} {a : A} → P a → Always P (give a)
-give_is h = record { at = λ k. h }
+use Rattle.tg_canon.proofs.Always.{one_of_two, Always, give_is, next, made}
 
 -- Inside so many loops.
 module _ (n : ℕ) where

@@ -14,8 +14,9 @@ use Rattle.tg_canon.proofs.Paying.{Sim, trade, pays, worked, unpaid, credit, alo
 use Rattle.tg_canon.proofs.Fixed.{Scene, around, tree_value, tree_test, tree_does, mixed_value, mixed_test, then_value, then_test, then_does, fixed_value, fixed_test}
 use Rattle.tg_canon.proofs.Steady.{IsQuiet, quiet_word, quiet_wrong, quiet_value}
 use Rattle.tg_canon.proofs.Splits.{Known, Beside, KeptBy, kept_within, kept_first, kept_second, beside_world, beside_assigned, OutsAre, BacksAre, outs_more, backs_more, IsSplit, IsDone, does_nothing, does_in_turn}
-use Rattle.tg_canon.proofs.Helds.{fixed_runs, side_runs, flat_side}
-use Rattle.tg_canon.proofs.Words.{spare, LiftIs, WordIs, both_before, both_rest, PairIs, side_flat}
+use Rattle.tg_canon.proofs.Sides.{flat_side, side_flat}
+use Rattle.tg_canon.proofs.Helds.{fixed_runs, side_runs}
+use Rattle.tg_canon.proofs.Words.{spare, LiftIs, WordIs, both_before, both_rest, PairIs}
 
 no_side : (x : Tx) → acts x ≡ false → is_side x ≡ false
 no_side (Const _) e = refl

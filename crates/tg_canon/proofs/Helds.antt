@@ -21,6 +21,7 @@ use Rattle.tg_canon.proofs.Sizing.{size, takes, holdable, holdable_most, own_hol
 use Rattle.tg_canon.proofs.Paying.{Sim, trade, pays, worked, unpaid, untraded, credit, along, free}
 use Rattle.tg_canon.proofs.Fixed.{Scene, around, mixed_value, mixed_values, then_value, then_values, then_does, IsFixed, gives, stops, fixed_value, fixed_values}
 use Rattle.tg_canon.proofs.Steady.{Occurs, IsSteady}
+use Rattle.tg_canon.proofs.Sides.{flat_side}
 use Rattle.tg_canon.proofs.Splits.{set_same, Known, Beside, KeptBy, beside_world, beside_drawn, does_nothing}
 
 -- a temporary of the body's own, or one of those drawn from a number up to another
@@ -60,18 +61,6 @@ owned_one own i lt = record { strict = λ h. lt; zero = λ e. absurd (omega arit
 both_true : (a b : Bool) → (a && b) ≡ true → (a ≡ true) × (b ≡ true)
 both_true true b e = (refl, e)
 both_true false b e = cc
-
-pub flat_side : (x : Tx) → IsFlat x → IsFlatSide x
-flat_side (Const _) h = h
-flat_side (Address _) h = h
-flat_side (Temp _) h = h
-flat_side FrameAddress h = h
-flat_side (Binary _ _ _) h = h
-flat_side (Load _) h = h
-flat_side (LoadByte _) h = h
-flat_side (Call _ _) h = absurd h
-flat_side (Service _ _) h = absurd h
-flat_side (After _ _) h = absurd h
 
 -- what stays behind a part
 stays_steady : (p : Part) (x : Tx) → stays p x ≡ true → IsSteady x

@@ -5,6 +5,7 @@ pub mod Paying
 pub mod Fixed
 pub mod Steady
 pub mod Splits
+pub mod Sides
 pub mod Helds
 pub mod Words
 pub mod Dones

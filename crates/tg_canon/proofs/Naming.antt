@@ -1,5 +1,5 @@
 -- What the pass gives names nothing that the body doesn't name, but for the temporaries that it draws.
-use Rattle.std.proofs.Common.{ℕ, ◌+◌, ◌<◌, ◌≤◌, Bool, true, false, List, [], refl, if◌then◌else◌, ltb, arith}
+use Rattle.std.proofs.Common.{ℕ, ◌+◌, ◌<◌, ◌≤◌, Bool, true, false, List, [], refl, ltb, arith}
 use Rattle.std.proofs.lemmas.Bool.{ltb-true, lt-ltb}
 use Rattle.tg_tree.specs.declared.operators.Bin.{Bin}
 use Rattle.tg_tree.specs.Tree.{Tx, Const, Address, Temp, FrameAddress, Binary, Load, LoadByte, Call, Service, After, Txs, no_txs, tx, Cond, Compare, Not, Both, Either, Ts, Move, Store, StoreByte, Do, If, Loop, Break, Fault, Seq, Return, Stms, no_stms, stm}
@@ -7,13 +7,10 @@ use Rattle.tg_tree.specs.Named.{Named, function, literal, fault, temporary, name
 use Rattle.tg_canon.specs.Drawing.{Draws, give, ◌>>=◌}
 use Rattle.tg_canon.specs.Canon.{Part, still, nothing, is_nothing, first_then, ◌before◌, loop_of, block, Parts, in_front, in_turn, Lifted, Two, Arguments, behind, hold, is_side, hold_side, word, stays, hold_unless, hold_but_offset, hold_for, hold_before, in_front_of, side_by_side, argument, over, over_two, over_all, with_one, with_two, assigning, acts, dropped, is_whole, Tested, compared, opposite, joined, choice, exit_where, wide_choice, deeper, inside, choose, lift, lift_all, condition, leave, linear, linear_all, statements_of, linearized}
 use Rattle.tg_canon.specs.Laws.{AreAllowed, AllowsDrawn, AreTempsBelow}
+use Rattle.tg_canon.proofs.Always.{one_of_two}
 use Rattle.tg_canon.proofs.Growing as growing
 use Rattle.tg_canon.proofs.Growing.{Grows, two, hold_side_grows, word_grows, side_by_side_grows, argument_grows, lift_grows, condition_grows, leave_grows, linear_grows, linearized_grows}
 use Rattle.tg_canon.proofs.Passing.{Passes, TxPasses, TxsPass, CondPasses, TsPasses, StmsPass, body_passes, statements_allowed}
-
-one_of_two : {A : Type 0} (P : A → Type 0) (b : Bool) {x y : A} → P x → P y → P (if b then x else y)
-one_of_two P true p q = p
-one_of_two P false p q = q
 
 -- The test passes the temporaries from one number up to another.
 module _ (allowed : Named → Bool) (from top : ℕ) (drawn : AllowsDrawn allowed from top) where

@@ -1,27 +1,23 @@
 -- Bodies are carried, and with them calls and programs.
-use Rattle.std.proofs.Common.{◌≡◌, ℕ, zero, suc, ◌+◌, ◌<◌, ◌≤◌, List, [], ◌∷◌, length, map, nat_le, if◌then◌else◌, refl, sym, ap, ◌∙◌, subst, arith, ⊎_elim}
+use Rattle.std.proofs.Common.{◌≡◌, ℕ, zero, suc, ◌+◌, ◌<◌, ◌≤◌, List, [], ◌∷◌, map, refl, arith}
 use Rattle.std.specs.List.{Contains}
 use Rattle.std.specs.Prelude.{pos}
-use Rattle.std.proofs.lemmas.Bool.{le-leb}
-use Rattle.std.proofs.lemmas.Bool.Decides.{leb_tells}
 use Rattle.tg_base.specs.declared.ends.RunEnd.TheVariants.{Exit}
 use Rattle.tg_base.specs.State.{stack_top}
-use Rattle.tg_runs.specs.Runs.{Run, IsSameTo}
-use Rattle.tg_runs.specs.Ran.{Ran, Ended, Wrong, stops}
-use Rattle.tg_runs.specs.Preserving.{DoesTheSame, Preserves}
+use Rattle.tg_runs.specs.Runs.{Run}
+use Rattle.tg_runs.specs.Ran.{Ran, Ended, Wrong}
+use Rattle.tg_runs.specs.Preserving.{Preserves}
 use Rattle.tg_runs.proofs.Simulations.{simulation_preserves, simulates_stopping, simulates_turn, simulates_less}
 use Rattle.tg_tree.specs.Tree.{Ts, Move, Store, StoreByte, Do, If, Loop, Break, Fault, Seq, Return, Function, Literal, Code}
 use Rattle.tg_tree.specs.Memory.{begin}
 use Rattle.tg_tree.specs.Units.{Trees, Canonical, marked_entry_units}
-use Rattle.tg_tree.specs.Actions.{World, Temps, Around, Next, Back, wrong}
+use Rattle.tg_tree.specs.Actions.{World, Temps, Around, Next, wrong}
 use Rattle.tg_tree.specs.Meaning.{Point}
-use Rattle.tg_tree.specs.Running.{function_of, with_fuel, outermost, body_point, enter, step, going, in_sequence, tree_run, canonical_run}
-use Rattle.tg_tree.specs.Carrying.{BacksSimulate, CallsSimulate, EntriesPay, BodyCarried, AllCarried, none, one}
+use Rattle.tg_tree.specs.Running.{with_fuel, outermost, body_point, enter, step, going, in_sequence, tree_run, canonical_run}
+use Rattle.tg_tree.specs.Carrying.{CallsSimulate, EntriesPay, BodyCarried, AllCarried, none, one}
 use Rattle.tg_tree.specs.Named.{named_ts}
-use Rattle.tg_tree.proofs.Relating.{AlikeBack, around_down, keep_entered}
-use Rattle.tg_tree.proofs.Going as same
-use Rattle.tg_tree.proofs.Going.{OneWorld, OneTemps, Same, same_keeps}
-use Rattle.tg_tree.proofs.TreeRuns.{keep_body, trees_step, trees_relate}
+use Rattle.tg_tree.proofs.TreeRuns.{trees_step}
+use Rattle.tg_tree.proofs.CallsLess.{enters_less}
 use Rattle.tg_tree.proofs.Linking.{calls_carried, programs_carried}
 use Rattle.tg_canon.specs.Canon.{statements_of, inside, linear, linearized}
 use Rattle.tg_canon.specs.Laws.{AreTempsBelow}
@@ -47,22 +43,6 @@ statements_run z (Break k) e next w t = free (then_does z (Break k) e next w t)
 statements_run z (Fault k) e next w t = free (then_does z (Fault k) e next w t)
 statements_run z (Return x) e next w t = free (then_does z (Return x) e next w t)
 
--- what comes after a return, up to so much fuel
-abbrev cut_back : (fuel : ℕ) → Back → Back
-cut_back m back v w n = if nat_le n m then back v w n else stops w.input Wrong
-
-within : (m n : ℕ) (p q : Ran) → n ≤ m → (if nat_le n m then p else q) ≡ p
-within m n p q le = ap (λ b. if b then p else q) (le-leb n m le)
-
-cut_simulates : (r m n : ℕ) (back back' : Back) → BacksSimulate 1 r m back back' → BacksSimulate 1 r n (cut_back m back) back'
-cut_simulates r m n back back' h v w i li ne =
-    ⊎_elim
-    (λ e.
-    let same : cut_back m back v w i ≡ back v w i = within m i (back v w i) (stops w.input Wrong) e.1 in
-    subst (λ p. (j : ℕ) × (i ≤ j) × DoesTheSame 1 r p (back' v w j)) (sym same) (h v w i e.1 (λ f. ne (ap (λ p. p.stop) same ∙ f))))
-    (λ e. absurd (ne (ap (λ b. (if b then back v w i else stops w.input Wrong).stop) e.0)))
-    (leb_tells i m)
-
 module _ (functions functions' : List (Function Ts)) (literals : List Literal) (size : ℕ → ℕ) (floor room : ℕ) where
   abbrev code : Code Ts
   code = record { functions = functions; literals = literals }
@@ -80,27 +60,8 @@ module _ (functions functions' : List (Function Ts)) (literals : List Literal) (
   Calls n = CallsSimulate 1 added_work size floor marked_entry_units marked_entry_units (runner Trees functions literals size floor room)
       (runner Canonical functions' literals size floor room) functions functions' n
 
-  -- what comes after a return matters up to the fuel that there is
-  enters_same : (m label : ℕ) (vs : List ℕ) (top : ℕ) (back back' : Back) (w : World) → AlikeBack Same OneWorld OneTemps m back back' →
-      IsSameTo m (enter Trees code size floor room goes label vs top back w) (enter Trees code size floor room goes label vs top back' w)
-  enters_same m label vs top back back' w h =
-      same_keeps.work m (marked_entry_units (length vs)) w _ _
-      (keep_entered Same OneWorld OneTemps same_keeps m size floor _ _
-      (λ s e e' w1 x t u he r q. same_keeps.fuel m w1 x _ _ r
-      (λ k lt. keep_body Same OneWorld OneTemps same_keeps Trees code size floor room k goes goes
-      (λ v y g. trees_relate Trees code size floor room Same OneWorld OneTemps same_keeps k v y g) s e e' w1 x t u
-      (around_down Same OneWorld OneTemps same_keeps k m e e' (omega arith) he) r q))
-      (function_of label functions) vs top back back' w w (same.one w) h)
-
   calls_less : (m n : ℕ) → m ≤ n → Calls n → Calls m
-  calls_less m n le h label vs top back back' w r backs i li ne =
-      let e : enter Trees code size floor room goes label vs top (cut_back m back) w i ≡ enter Trees code size floor room goes label vs top back w i =
-      enters_same m label vs top (cut_back m back) back w (λ v w1 w2 o. by v w1 w2 o) i li in
-      subst (λ p. (j : ℕ) × (i ≤ j) × DoesTheSame 1 (r + 0) p (enter Canonical code' size floor room goes' label vs top back' w j)) e
-      (h label vs top (cut_back m back) back' w r (cut_simulates r m n back back' backs) i (omega arith) (λ f. ne (ap (λ p. p.stop) (sym e) ∙ f)))
-    where
-      by : (v : ℕ) (w1 w2 : World) → OneWorld w1 w2 → IsSameTo m (cut_back m back v w1) (back v w2)
-      by v w1 w2 (same.one x) = λ k lk. within m k (back v x k) (stops x.input Wrong) lk
+  calls_less m n le h = enters_less Trees code size floor room 1 0 m n (enter Canonical code' size floor room goes') le h
 
   abbrev scene : (own n : ℕ) → Calls n → Scene
   scene own n calls = record {

@@ -127,17 +127,19 @@ module _ (z : Scene) (out : ℕ → ℕ) where
 
   pub or_is : (c d : Cond) (first from to : ℕ) (t s : Tested) → is_flat_condition d ≡ true → TestIs c from t to → TestIs d first s from →
       TestIs (Either c d) first (joined Either t s) to
-  or_is c d first from to t s e h k = record {
-    split = joined_split c from t to h (tree_test z d) (mixed_test z s.condition) s.front first k.split (k.none e)
-        (λ q. if q then give true else tree_test z d) (λ q. if q then give true else mixed_test z s.condition) turn
-        (joined_units Trees (is_flat_condition d)) k.grows;
-    flat = (h.flat, k.flat);
-    none = λ f. both_nothing t.front.statement s.front.statement (h.none (both_true (is_flat_condition c) (is_flat_condition d) f).0) (k.none e);
-    owned = owned_both z.own t.front.least t.front.greatest s.front.least s.front.greatest h.owned k.owned;
-    length = let n = h.length in let n' = k.length in let q = (in_turn_counts t.front.statement s.front.statement).0 in omega arith;
-    room = let n = h.room in let n' = k.room in let q = (in_turn_counts t.front.statement s.front.statement).1 in omega arith;
-    grows = let g = h.grows in let g' = k.grows in omega arith;
-  }
+  or_is c d first from to t s e h k =
+      let both = and_is c d first from to t s e h k in
+      record {
+        split = joined_split c from t to h (tree_test z d) (mixed_test z s.condition) s.front first k.split (k.none e)
+            (λ q. if q then give true else tree_test z d) (λ q. if q then give true else mixed_test z s.condition) turn
+            (joined_units Trees (is_flat_condition d)) k.grows;
+        flat = both.flat;
+        none = both.none;
+        owned = both.owned;
+        length = both.length;
+        room = both.room;
+        grows = both.grows;
+      }
     where
       turn : (q : Bool) →
           Turns (tree_test z d) (mixed_test z s.condition) (if q then give true else tree_test z d) (if q then give true else mixed_test z s.condition)

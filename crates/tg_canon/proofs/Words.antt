@@ -16,6 +16,7 @@ use Rattle.tg_canon.proofs.Paying.{Sim, pays, unpaid, credit, along}
 use Rattle.tg_canon.proofs.Fixed.{Scene, around, tree_value, mixed_value, then_value, then_does, IsFixed, gives, stops, fixed_value}
 use Rattle.tg_canon.proofs.Steady.{Occurs, IsSteady, ComesTo, one_word, no_word, steady_comes}
 use Rattle.tg_canon.proofs.Splits.{set_other, Known, Beside, StaysKnown, KeptBy, kept_first, kept_second, beside_less, Only, only, OutsAre, BacksAre, outs_more, outs_less, outs_only, backs_more, IsSplit, does_nothing, does_in_turn}
+use Rattle.tg_canon.proofs.Sides.{side_flat}
 use Rattle.tg_canon.proofs.Helds.{IsIn, IsOwned, owned_both, owned_none, IsHeld, held, move_runs}
 
 -- what a call or service spares: its word is held in front of what follows it
@@ -35,18 +36,6 @@ spare_side (LoadByte _) e = cc
 spare_side (Call _ _) e = refl
 spare_side (Service _ _) e = refl
 spare_side (After _ _) e = cc
-
-pub side_flat : (x : Tx) → is_side x ≡ false → IsFlatSide x → IsFlat x
-side_flat (Const _) e h = h
-side_flat (Address _) e h = h
-side_flat (Temp _) e h = h
-side_flat FrameAddress e h = h
-side_flat (Binary _ _ _) e h = h
-side_flat (Load _) e h = h
-side_flat (LoadByte _) e h = h
-side_flat (Call _ _) e h = cc
-side_flat (Service _ _) e h = cc
-side_flat (After _ _) e h = h
 
 -- a shift by what isn't constant counts most
 most : (y : Tx) → shift_units y ≤ 21

@@ -183,6 +183,13 @@ side_by_side a b = do
   h ← in_front_of b.front a
   give (record { front = h.front before b.front; left = h.rest; right = b.rest })
 
+-- two words, of which the right one is drawn first
+abbrev pub two_words : (left right : Draws Lifted) → Draws Two
+two_words m n = do
+  b ← word n
+  a ← word m
+  side_by_side a b
+
 abbrev pub argument : Lifted → Arguments → Draws Arguments
 argument a all = do
   h ← in_front_of all.front a
@@ -281,9 +288,7 @@ abbrev mutual
   lift out (Temp i) = give (whole (Temp i))
   lift out FrameAddress = give (whole FrameAddress)
   lift out (Binary op x y) = do
-    b ← word (lift out y)
-    a ← word (lift out x)
-    ab ← side_by_side a b
+    ab ← two_words (lift out x) (lift out y)
     give (over_two (Binary op) ab)
   lift out (Load x) = do
     a ← word (lift out x)
@@ -312,9 +317,7 @@ abbrev mutual
   -- a whole condition
   pub condition : (out : ℕ → ℕ) → Cond → Draws Tested
   condition out (Compare rel x y) = do
-    b ← word (lift out y)
-    a ← word (lift out x)
-    ab ← side_by_side a b
+    ab ← two_words (lift out x) (lift out y)
     give (compared (Compare rel) ab)
   condition out (Not c) = do
     t ← condition out c
@@ -331,9 +334,7 @@ abbrev mutual
   -- any condition, part by part
   pub leave : (out : ℕ → ℕ) → (when : Bool) → (loops : ℕ) → Cond → Draws Part
   leave out w k (Compare rel x y) = do
-    b ← word (lift out y)
-    a ← word (lift out x)
-    ab ← side_by_side a b
+    ab ← two_words (lift out x) (lift out y)
     give (exit_where w k (compared (Compare rel) ab))
   leave out w k (Not c) = leave out (not w) k c
   leave out false k (Both c d) = do
@@ -358,14 +359,10 @@ abbrev mutual
     a ← lift out x
     give (with_one (λ v. assigning i (Move i v)) a)
   linear out (Store x y) = do
-    b ← word (lift out y)
-    a ← word (lift out x)
-    ab ← side_by_side a b
+    ab ← two_words (lift out x) (lift out y)
     give (with_two Store ab)
   linear out (StoreByte x y) = do
-    b ← word (lift out y)
-    a ← word (lift out x)
-    ab ← side_by_side a b
+    ab ← two_words (lift out x) (lift out y)
     give (with_two StoreByte ab)
   linear out (Do x) = do
     a ← lift out x
@@ -402,10 +399,7 @@ abbrev mutual
 
 -- two operands as words
 abbrev pub operands : (out : ℕ → ℕ) → (left right : Tx) → Draws Two
-operands out x y = do
-  b ← word (lift out y)
-  a ← word (lift out x)
-  side_by_side a b
+operands out x y = two_words (lift out x) (lift out y)
 
 -- the statements of a body in canonical form, drawing temporaries from a number on
 abbrev pub statements_of : Ts → Stms

@@ -1,4 +1,4 @@
-ghost use Rattle.std.specs.Prelude.{◌≡◌, IfOk, Bool};
+ghost use Rattle.std.specs.Prelude.{◌≡◌, IfOk};
 ghost use Rattle.tg_tree.specs.Plain.{plain_tx};
 ghost use Rattle.tg_tree.specs.Tree as tree;
 ghost use Rattle.tg_canon.specs.Canon as canon;
@@ -134,24 +134,6 @@ fn is_sum(op: Bin) -> bool
 }
 
 // A constant offset stays where it is, and what it is added to is held.
-fn hold_but_offset(
-    supply: &mut Supply,
-    part: &Part,
-    op: Bin,
-    left: Tx,
-    right: Tx,
-) -> Result<Lifted, Memory>
-    ensures { IfOk result (λ a. Gives
-        (canon.hold_but_offset Bool.true (plain_part part.now) op (plain_tx left) (plain_tx right))
-        supply.old.next (plain_lifted a) supply.new.next) }
-{
-    let held = hold_unless_it_stays(supply, part, left)?;
-    Ok(Lifted {
-        front: held.front,
-        rest: binary(supply.alloc, op, held.rest, right)?,
-    })
-}
-
 fn hold_for_sum(
     supply: &mut Supply,
     part: &Part,
@@ -164,7 +146,11 @@ fn hold_for_sum(
         supply.old.next (plain_lifted a) supply.new.next) }
 {
     if is_sum(op) && is_constant(&right) {
-        Ok(hold_but_offset(supply, part, op, left, right)?)
+        let held = hold_unless_it_stays(supply, part, left)?;
+        Ok(Lifted {
+            front: held.front,
+            rest: binary(supply.alloc, op, held.rest, right)?,
+        })
     } else {
         let sum = binary(supply.alloc, op, left, right)?;
         Ok(hold(supply, sum)?)

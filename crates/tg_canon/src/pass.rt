@@ -8,14 +8,15 @@ ghost use Rattle.tg_canon.specs.Views.{
   plain_part,
   plain_parts,
   plain_lifted,
+  plain_two,
   plain_arguments,
   plain_tested,
 };
 
 use crate::breaks::{Breaks, more_loops, target};
 use crate::lifted::{
-    Arguments, Lifted, argument, behind, call_of, load_byte_from, load_from, no_arguments, operate,
-    serve, side_by_side, whole, word,
+    Arguments, Lifted, Two, argument, behind, call_of, load_byte_from, load_from, no_arguments,
+    operate, serve, side_by_side, whole, word,
 };
 use crate::parts::{Part, Parts};
 use crate::statements::{drop_value, move_to, return_of, store, store_byte};
@@ -51,9 +52,13 @@ fn lift(x: Tx, supply: &mut Supply, breaks: &Breaks, height: u32) -> Result<Lift
         Tx::Temp(temp) => Ok(whole(supply.alloc, Tx::Temp(temp))),
         Tx::FrameAddress => Ok(whole(supply.alloc, Tx::FrameAddress)),
         Tx::Binary(op, x, y) => {
-            let b = lift_word(Box::into_inner(y), supply, breaks, lower)?;
-            let a = lift_word(Box::into_inner(x), supply, breaks, lower)?;
-            let both = side_by_side(supply, a, b)?;
+            let both = lift_both(
+                Box::into_inner(x),
+                Box::into_inner(y),
+                supply,
+                breaks,
+                lower,
+            )?;
             Ok(operate(supply.alloc, op, both)?)
         }
         Tx::Load(x) => {
@@ -91,6 +96,24 @@ fn lift_word(x: Tx, supply: &mut Supply, breaks: &Breaks, height: u32) -> Result
     Ok(word(supply, a)?)
 }
 
+// Two words side by side, the right one lifted first: this is no walk of its own into a part.
+#[cycle(canon)]
+fn lift_both(
+    left: Tx,
+    right: Tx,
+    supply: &mut Supply,
+    breaks: &Breaks,
+    height: u32,
+) -> Result<Two, Memory>
+    ensures { IfOk result (λ both. Gives
+        (canon.operands (leads breaks.now) (plain_tx left) (plain_tx right))
+        supply.old.next (plain_two both) supply.new.next) }
+{
+    let b = lift_word(right, supply, breaks, height)?;
+    let a = lift_word(left, supply, breaks, height)?;
+    Ok(side_by_side(supply, a, b)?)
+}
+
 // A call's arguments, from the last to the first.
 #[cycle(canon)]
 fn lift_all(
@@ -125,9 +148,13 @@ fn condition(
     let lower = descend(height)?;
     match test {
         Cond::Compare(rel, x, y) => {
-            let b = lift_word(Box::into_inner(y), supply, breaks, lower)?;
-            let a = lift_word(Box::into_inner(x), supply, breaks, lower)?;
-            let both = side_by_side(supply, a, b)?;
+            let both = lift_both(
+                Box::into_inner(x),
+                Box::into_inner(y),
+                supply,
+                breaks,
+                lower,
+            )?;
             Ok(compare_both(supply.alloc, rel, both)?)
         }
         Cond::Not(c) => {
@@ -163,9 +190,13 @@ fn leave(
     let lower = descend(height)?;
     match test {
         Cond::Compare(rel, x, y) => {
-            let b = lift_word(Box::into_inner(y), supply, breaks, lower)?;
-            let a = lift_word(Box::into_inner(x), supply, breaks, lower)?;
-            let both = side_by_side(supply, a, b)?;
+            let both = lift_both(
+                Box::into_inner(x),
+                Box::into_inner(y),
+                supply,
+                breaks,
+                lower,
+            )?;
             let t = compare_both(supply.alloc, rel, both)?;
             Ok(t.exit_where(supply.alloc, when, loops)?)
         }
@@ -214,15 +245,11 @@ fn linear(s: Ts, supply: &mut Supply, breaks: &Breaks, height: u32) -> Result<Pa
             Ok(move_to(supply.alloc, temp, a)?)
         }
         Ts::Store(x, y) => {
-            let b = lift_word(y, supply, breaks, lower)?;
-            let a = lift_word(x, supply, breaks, lower)?;
-            let both = side_by_side(supply, a, b)?;
+            let both = lift_both(x, y, supply, breaks, lower)?;
             Ok(store(supply.alloc, both)?)
         }
         Ts::StoreByte(x, y) => {
-            let b = lift_word(y, supply, breaks, lower)?;
-            let a = lift_word(x, supply, breaks, lower)?;
-            let both = side_by_side(supply, a, b)?;
+            let both = lift_both(x, y, supply, breaks, lower)?;
             Ok(store_byte(supply.alloc, both)?)
         }
         Ts::Do(x) => {

@@ -4,7 +4,7 @@ use Rattle.tg_tree.specs.Lists.{txs_of, stms_of}
 use Rattle.tg_canon.specs.Canon.{deeper, inside}
 use Rattle.tg_canon.specs.Breaking.{leads}
 use Rattle.tg_canon.proofs.Arms.{constant_lifts, address_lifts, temporary_lifts, frame_lifts, binary_lifts, load_lifts, byte_lifts, call_lifts, service_lifts, after_lifts, word_lifts, operands_lift, compare_tests, not_tests, both_tests, either_tests, compare_leaves, not_leaves, move_goes, store_goes, store_byte_goes, do_goes, if_goes, if_goes_by_parts, loop_goes, break_goes, fault_goes, sequence_goes, return_goes}
-use Rattle.tg_canon.proofs.Cases.{lifts_as, word_as, tests_as, leaves_as, goes_as, call_as, sequence_as}
+use Rattle.tg_canon.proofs.Cases.{lifts_as, word_as, both_as, tests_as, leaves_as, goes_as, call_as, sequence_as}
 use Rattle.tg_canon.proofs.Walks.{statements_begin, statement_more, arguments_begin, argument_more, ends_with, none_left}
 use Rattle.tg_canon.proofs.pass.+canon.Goals as goal
 
@@ -27,7 +27,8 @@ lift-returns-in-FrameAddress t c =
 pub lift-returns-in_ok-operate-in-Binary : goal.lift-returns-in_ok-operate-in-Binary
 lift-returns-in_ok-operate-in-Binary t c =
     lifts_as (leads c.args.breaks.now) c.in-Binary.is (binary_lifts (leads c.args.breaks.now) c.in-Binary.op (plain_tx c.in-Binary.x.value) (plain_tx c.in-Binary.y.value)
-    (operands_lift (leads c.args.breaks.now) (plain_tx c.in-Binary.x.value) (plain_tx c.in-Binary.y.value) (word_as (leads c.args.breaks.now) (sym c.into_inner.ensures) c.in_ok-b-in-Binary.ensures) (word_as (leads c.args.breaks.now) (sym c.into_inner-in-Binary.ensures) c.in_ok-a-in-Binary.ensures) c.in_ok-both-in-Binary.ensures) c.in_ok-operate-in-Binary.ensures)
+    (both_as (leads c.args.breaks.now) (sym c.into_inner.ensures) (sym c.into_inner-in-Binary.ensures) c.in_ok-both-in-Binary.ensures)
+    c.in_ok-operate-in-Binary.ensures)
 
 pub lift-returns-in_ok-load_from-in-Load : goal.lift-returns-in_ok-load_from-in-Load
 lift-returns-in_ok-load_from-in-Load t c =
@@ -53,6 +54,10 @@ pub lift_word-returns : goal.lift_word-returns
 lift_word-returns t c =
     word_lifts (leads c.args.breaks.now) (plain_tx c.args.x) c.in_ok-a.ensures c.in_ok-word.ensures
 
+pub lift_both-returns : goal.lift_both-returns
+lift_both-returns t c =
+    operands_lift (leads c.args.breaks.now) (plain_tx c.args.left) (plain_tx c.args.right) c.in_ok-b.ensures c.in_ok-a.ensures c.in_ok-side_by_side.ensures
+
 pub lift_all-loop-x-init : goal.lift_all-loop-x-init
 lift_all-loop-x-init t c =
     arguments_begin (leads c.args.breaks.now) c.args.xs.items.items c.no_arguments-all.ensures
@@ -68,7 +73,8 @@ lift_all-returns t c =
 pub condition-returns-in_ok-compare_both-in-Compare : goal.condition-returns-in_ok-compare_both-in-Compare
 condition-returns-in_ok-compare_both-in-Compare t c =
     tests_as (leads c.args.breaks.now) c.in-Compare.is (compare_tests (leads c.args.breaks.now) c.in-Compare.rel (plain_tx c.in-Compare.x.value) (plain_tx c.in-Compare.y.value)
-    (operands_lift (leads c.args.breaks.now) (plain_tx c.in-Compare.x.value) (plain_tx c.in-Compare.y.value) (word_as (leads c.args.breaks.now) (sym c.into_inner.ensures) c.in_ok-b-in-Compare.ensures) (word_as (leads c.args.breaks.now) (sym c.into_inner-in-Compare.ensures) c.in_ok-a-in-Compare.ensures) c.in_ok-both-in-Compare.ensures) c.in_ok-compare_both-in-Compare.ensures)
+    (both_as (leads c.args.breaks.now) (sym c.into_inner.ensures) (sym c.into_inner-in-Compare.ensures) c.in_ok-both-in-Compare.ensures)
+    c.in_ok-compare_both-in-Compare.ensures)
 
 pub condition-returns-in_ok-opposite-in-Not : goal.condition-returns-in_ok-opposite-in-Not
 condition-returns-in_ok-opposite-in-Not t c =
@@ -85,7 +91,8 @@ condition-returns-in_ok-or-in-Either t c =
 pub leave-returns-in_ok-exit_where-in-Compare : goal.leave-returns-in_ok-exit_where-in-Compare
 leave-returns-in_ok-exit_where-in-Compare t c =
     leaves_as (leads c.args.breaks.now) c.args.when c.args.loops c.in-Compare.is (compare_leaves (leads c.args.breaks.now) c.args.when c.args.loops c.in-Compare.rel (plain_tx c.in-Compare.x.value) (plain_tx c.in-Compare.y.value)
-    (operands_lift (leads c.args.breaks.now) (plain_tx c.in-Compare.x.value) (plain_tx c.in-Compare.y.value) (word_as (leads c.args.breaks.now) (sym c.into_inner.ensures) c.in_ok-b-in-Compare.ensures) (word_as (leads c.args.breaks.now) (sym c.into_inner-in-Compare.ensures) c.in_ok-a-in-Compare.ensures) c.in_ok-both-in-Compare.ensures) c.in_ok-t-in-Compare.ensures c.in_ok-exit_where-in-Compare.ensures)
+    (both_as (leads c.args.breaks.now) (sym c.into_inner.ensures) (sym c.into_inner-in-Compare.ensures) c.in_ok-both-in-Compare.ensures)
+    c.in_ok-t-in-Compare.ensures c.in_ok-exit_where-in-Compare.ensures)
 
 pub leave-returns-in_ok-leave-in-Not : goal.leave-returns-in_ok-leave-in-Not
 leave-returns-in_ok-leave-in-Not t c =
@@ -97,11 +104,13 @@ linear-returns-in_ok-move_to-in-Move t c =
 
 pub linear-returns-in_ok-store-in-Store : goal.linear-returns-in_ok-store-in-Store
 linear-returns-in_ok-store-in-Store t c =
-    goes_as (leads c.args.breaks.now) c.in-Store.is (store_goes (leads c.args.breaks.now) (plain_tx c.in-Store.x) (plain_tx c.in-Store.y) (operands_lift (leads c.args.breaks.now) (plain_tx c.in-Store.x) (plain_tx c.in-Store.y) c.in_ok-b-in-Store.ensures c.in_ok-a-in-Store.ensures c.in_ok-both-in-Store.ensures) c.in_ok-store-in-Store.ensures)
+    goes_as (leads c.args.breaks.now) c.in-Store.is
+    (store_goes (leads c.args.breaks.now) (plain_tx c.in-Store.x) (plain_tx c.in-Store.y) c.in_ok-both-in-Store.ensures c.in_ok-store-in-Store.ensures)
 
 pub linear-returns-in_ok-store_byte-in-StoreByte : goal.linear-returns-in_ok-store_byte-in-StoreByte
 linear-returns-in_ok-store_byte-in-StoreByte t c =
-    goes_as (leads c.args.breaks.now) c.in-StoreByte.is (store_byte_goes (leads c.args.breaks.now) (plain_tx c.in-StoreByte.x) (plain_tx c.in-StoreByte.y) (operands_lift (leads c.args.breaks.now) (plain_tx c.in-StoreByte.x) (plain_tx c.in-StoreByte.y) c.in_ok-b-in-StoreByte.ensures c.in_ok-a-in-StoreByte.ensures c.in_ok-both-in-StoreByte.ensures) c.in_ok-store_byte-in-StoreByte.ensures)
+    goes_as (leads c.args.breaks.now) c.in-StoreByte.is
+    (store_byte_goes (leads c.args.breaks.now) (plain_tx c.in-StoreByte.x) (plain_tx c.in-StoreByte.y) c.in_ok-both-in-StoreByte.ensures c.in_ok-store_byte-in-StoreByte.ensures)
 
 pub linear-returns-in_ok-drop_value-in-Do : goal.linear-returns-in_ok-drop_value-in-Do
 linear-returns-in_ok-drop_value-in-Do t c =

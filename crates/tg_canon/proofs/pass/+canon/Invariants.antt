@@ -1,4 +1,4 @@
-use Rattle.std.proofs.Common.{length}
+use Rattle.std.proofs.Common.{length, ◌+◌, ◌*◌}
 use Rattle.tg_canon.specs.Breaking.{leads}
 use Rattle.tg_canon.specs.Views.{plain_parts, plain_arguments}
 use Rattle.tg_canon.proofs.Walks.{StatementsWalked, ArgumentsWalked}
@@ -11,25 +11,28 @@ abbrev pub invariant-linear_all-loop-s : goal.invariant-linear_all-loop-s
 invariant-linear_all-loop-s l = StatementsWalked (leads l.breaks) l.fn.ss.items.items l.fn.supply.next l.ss.items.items (plain_parts l.all) l.supply.next
 
 abbrev pub decreases-lift : goal.decreases-lift
-decreases-lift l = l.height
+decreases-lift l = 2 * l.height
 
 abbrev pub decreases-lift_word : goal.decreases-lift_word
-decreases-lift_word l = l.height
+decreases-lift_word l = 2 * l.height
+
+abbrev pub decreases-lift_both : goal.decreases-lift_both
+decreases-lift_both l = 2 * l.height + 1
 
 abbrev pub decreases-lift_all : goal.decreases-lift_all
-decreases-lift_all l = l.height
+decreases-lift_all l = 2 * l.height
 
 abbrev pub decreases-condition : goal.decreases-condition
-decreases-condition l = l.height
+decreases-condition l = 2 * l.height
 
 abbrev pub decreases-leave : goal.decreases-leave
-decreases-leave l = l.height
+decreases-leave l = 2 * l.height
 
 abbrev pub decreases-linear : goal.decreases-linear
-decreases-linear l = l.height
+decreases-linear l = 2 * l.height
 
 abbrev pub decreases-linear_all : goal.decreases-linear_all
-decreases-linear_all l = l.height
+decreases-linear_all l = 2 * l.height
 
 abbrev pub decreases-lift_all-loop-x : goal.decreases-lift_all-loop-x
 decreases-lift_all-loop-x l = length l.xs.items.items
