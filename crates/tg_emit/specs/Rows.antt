@@ -5,7 +5,8 @@ use Rattle.tg_isa.specs.declared.mips.Mips.{Mips}
 use Rattle.tg_isa.specs.declared.mips.Mips.TheVariants as row
 use Rattle.tg_tree.specs.declared.operators.Rel.{Rel}
 use Rattle.tg_tree.specs.declared.operators.Rel.TheVariants.{Equal, NotEqual, Less, LessEqual}
-use Rattle.tg_tree.specs.declared.operators.Rel.TheVariants.{Greater, GreaterEqual, Below, NotBelow}
+use Rattle.tg_tree.specs.declared.operators.Rel.TheVariants.{Greater, GreaterEqual}
+use Rattle.tg_tree.specs.Operators.{opposite}
 use Rattle.tg_instr.specs.declared.operands.Opnd.{Opnd}
 use Rattle.tg_instr.specs.declared.operands.Opnd.TheVariants.{Temp, Reg}
 use Rattle.tg_instr.specs.declared.instr.Instr.{Instr}
@@ -66,16 +67,6 @@ branch_on LessEqual left right = row.Blez left 0
 branch_on Greater left right = row.Bgtz left 0
 branch_on GreaterEqual left right = row.Bgez left 0
 branch_on _ left right = row.Beq 0 0 0
-
-abbrev pub opposite : Rel → Rel
-opposite Equal = NotEqual
-opposite NotEqual = Equal
-opposite Less = GreaterEqual
-opposite LessEqual = Greater
-opposite Greater = LessEqual
-opposite GreaterEqual = Less
-opposite Below = NotBelow
-opposite NotBelow = Below
 
 abbrev pub branch_of : Test → Mips
 branch_of test = branch_on test.rel (register_of test.left) (register_of test.right)

@@ -6,12 +6,11 @@ ghost use Rattle.tg_emit.specs.Rows.{
   branch_of,
   opposite_branch_of,
   branch_on as branch_on_rel,
-  opposite as opposite_of,
 };
 
 use tg_instr::{Instr, Opnd, Test};
 use tg_isa::{Bits, Mips, Reg};
-use tg_tree::Rel;
+use tg_tree::{Rel, opposite};
 
 /// The register of an operand of code that is allocated.
 pub fn register(one: Opnd) -> Reg
@@ -106,20 +105,5 @@ fn branch_on(rel: Rel, left: Reg, right: Reg) -> Mips
         Rel::Greater => Mips::Bgtz(left, to),
         Rel::GreaterEqual => Mips::Bgez(left, to),
         _ => Mips::Beq(Reg::ZERO, Reg::ZERO, to),
-    }
-}
-
-fn opposite(rel: Rel) -> Rel
-    ensures { result ≡ opposite_of rel }
-{
-    match rel {
-        Rel::Equal => Rel::NotEqual,
-        Rel::NotEqual => Rel::Equal,
-        Rel::Less => Rel::GreaterEqual,
-        Rel::LessEqual => Rel::Greater,
-        Rel::Greater => Rel::LessEqual,
-        Rel::GreaterEqual => Rel::Less,
-        Rel::Below => Rel::NotBelow,
-        Rel::NotBelow => Rel::Below,
     }
 }

@@ -10,13 +10,14 @@ use Rattle.tg_isa.specs.Items.{Branch as BranchTo}
 use Rattle.tg_isa.specs.Placement.{Position, AtWord, Positions, position_of, BranchReaches, JumpReaches, WordsReach, WordReaches}
 use Rattle.tg_tree.specs.declared.operators.Rel.{Rel}
 use Rattle.tg_tree.specs.declared.operators.Rel.TheVariants.{Equal, NotEqual, Less, LessEqual, Greater, GreaterEqual, Below, NotBelow}
+use Rattle.tg_tree.specs.Operators.{opposite}
 use Rattle.tg_instr.specs.declared.instr.Instr.{Instr}
 use Rattle.tg_instr.specs.declared.instr.Test.{Test}
 use Rattle.tg_instr.specs.declared.instr.Instr.TheVariants.{Address, Mark, Jump, Branch, Call, Fault, Return}
 use Rattle.tg_instr.specs.Codes.{is_mark, leads_to_marks, is_end}
 use Rattle.tg_emit.specs.declared.assembly.Line.TheVariants.{Label}
 use Rattle.tg_emit.specs.Names.{function_name, mark_name, behind_name, literal_name}
-use Rattle.tg_emit.specs.Rows.{register_of, branch_on, opposite, branch_of, opposite_branch_of}
+use Rattle.tg_emit.specs.Rows.{register_of, branch_on, branch_of, opposite_branch_of}
 use Rattle.tg_emit.specs.Ranges.{InstructionFits}
 use Rattle.tg_emit.specs.Conditions.{has_code}
 use Rattle.tg_emit.specs.Lines.{alone, above_stack, branch_lines, instruction_lines, words}
