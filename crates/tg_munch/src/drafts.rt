@@ -1,6 +1,7 @@
 ghost use Rattle.std.specs.Prelude.{◌≡◌, [], OnOk, IfOk};
 ghost use Rattle.tg_munch.specs.Drafts.{Writes};
 ghost use Rattle.tg_munch.specs.Choosing as choosing;
+ghost use Rattle.tg_munch.specs.Choosing.{◌>>◌};
 ghost use Rattle.tg_munch.specs.Tiles as tiles;
 
 use crate::tiling::{field, is_small};
@@ -80,6 +81,21 @@ impl Draft {
     {
         self.put(one)?;
         Ok(to)
+    }
+
+    /// Writes an instruction, and behind it one that defines an operand, and gives the operand.
+    pub(crate) fn define_behind(
+        &mut self,
+        first: Instr,
+        one: Instr,
+        to: Opnd,
+    ) -> Result<Opnd, Memory>
+        ensures { IfOk result
+            (λ x. Writes (choosing.put first >> choosing.defining one to) self.old self.new x) }
+    {
+        self.put(first)?;
+        let value = self.define(one, to)?;
+        Ok(value)
     }
 
     /// An operand gets what another holds, where it is asked for.

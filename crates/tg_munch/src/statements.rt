@@ -125,24 +125,7 @@ pub(crate) fn branch_behind(
 {
     if is_in_hi(before, left) {
         compare_in_hi(draft, slots, rel, right, mark)
-    } else {
-        branch(draft, slots, rel, left, right, mark)
-    }
-}
-
-fn branch(
-    draft: &mut Draft,
-    slots: u32,
-    rel: Rel,
-    left: &Tx,
-    right: &Tx,
-    mark: u32,
-) -> Result<(), Memory>
-    ensures { OnOk result
-        (Writes (munching.branch slots rel (plain_tx left.now) (plain_tx right.now) mark)
-        draft.old draft.new tt) }
-{
-    if is_turned(rel, left, right) {
+    } else if is_turned(rel, left, right) {
         compare(draft, slots, turned(rel), right, left, mark)
     } else {
         compare(draft, slots, rel, left, right, mark)
