@@ -132,11 +132,13 @@ impl Draft {
     fn halves(&mut self, to: Opnd, n: u32) -> Result<Opnd, Memory>
         ensures { IfOk result (λ x. Writes (tiles.halves to n) self.old self.new x) }
     {
-        let target = to;
-        self.put(Instr::Lui(target, field(n / 65536)))?;
+        let upper = to;
         let target = to;
         let source = to;
-        let value = self.define(Instr::Ori(target, source, field(n)), to)?;
-        Ok(value)
+        self.define_behind(
+            Instr::Lui(upper, field(n / 65536)),
+            Instr::Ori(target, source, field(n)),
+            to,
+        )
     }
 }

@@ -90,20 +90,17 @@ fn effect(draft: &mut Draft, slots: u32, x: &Tx) -> Result<(), Memory>
     match x {
         Tx::Call(label, items) => call(draft, slots, *label, items),
         Tx::Service(number, argument) => service(draft, slots, *number, argument),
-        Tx::Const(_) => value(draft, slots, x),
-        Tx::Address(_) => value(draft, slots, x),
-        Tx::Temp(_) => value(draft, slots, x),
-        Tx::FrameAddress => value(draft, slots, x),
-        Tx::Binary(_, _, _) => value(draft, slots, x),
-        Tx::Load(_) => value(draft, slots, x),
-        Tx::LoadByte(_) => value(draft, slots, x),
+        Tx::Const(_) | Tx::Address(_) | Tx::Temp(_) | Tx::FrameAddress => value(draft, slots, x),
+        Tx::Binary(_, _, _) | Tx::Load(_) | Tx::LoadByte(_) => value(draft, slots, x),
         Tx::After(_, _) => value(draft, slots, x),
     }
 }
 
+/// An expression that is neither.
 fn value(draft: &mut Draft, slots: u32, x: &Tx) -> Result<(), Memory>
+    requires { munching.effect slots (plain_tx x.now) ≡ munching.valued slots (plain_tx x.now) }
     ensures { OnOk result
-        (Writes (munching.valued slots (plain_tx x.now)) draft.old draft.new tt) }
+        (Writes (munching.effect slots (plain_tx x.now)) draft.old draft.new tt) }
 {
     expression(draft, slots, x, None)?;
     Ok(())
