@@ -1,7 +1,6 @@
 ghost use Rattle.std.specs.Prelude.{◌≡◌, [], OnOk, IfOk};
 ghost use Rattle.tg_munch.specs.Drafts.{Writes};
 ghost use Rattle.tg_munch.specs.Choosing as choosing;
-ghost use Rattle.tg_munch.specs.Choosing.{◌>>◌};
 ghost use Rattle.tg_munch.specs.Tiles as tiles;
 
 use crate::tiling::{field, is_small};
@@ -91,7 +90,7 @@ impl Draft {
         to: Opnd,
     ) -> Result<Opnd, Memory>
         ensures { IfOk result
-            (λ x. Writes (choosing.put first >> choosing.defining one to) self.old self.new x) }
+            (λ x. Writes (choosing.defining_behind first one to) self.old self.new x) }
     {
         self.put(first)?;
         let value = self.define(one, to)?;
