@@ -11,48 +11,8 @@ use Rattle.tg_isa.specs.declared.mips.Mips.TheVariants as row
 use Rattle.tg_isa.specs.Writing.{takes_label, line_of}
 
 pub written_alone : (one : Mips) (s t : List ℕ) → takes_label one ≡ false → line_of one s ≡ line_of one t
-written_alone (row.Sll rd rt n) s t h = refl
-written_alone (row.Srl rd rt n) s t h = refl
-written_alone (row.Sra rd rt n) s t h = refl
-written_alone (row.Jr rs) s t h = refl
-written_alone (row.Jalr rd rs) s t h = refl
-written_alone row.Syscall s t h = refl
-written_alone (row.Break n) s t h = refl
-written_alone (row.Mfhi rd) s t h = refl
-written_alone (row.Mflo rd) s t h = refl
-written_alone (row.Mult rs rt) s t h = refl
-written_alone (row.Div rs rt) s t h = refl
-written_alone (row.Add rd rs rt) s t h = refl
-written_alone (row.Sub rd rs rt) s t h = refl
-written_alone (row.Addu rd rs rt) s t h = refl
-written_alone (row.Subu rd rs rt) s t h = refl
-written_alone (row.And rd rs rt) s t h = refl
-written_alone (row.Or rd rs rt) s t h = refl
-written_alone (row.Xor rd rs rt) s t h = refl
-written_alone (row.Nor rd rs rt) s t h = refl
-written_alone (row.Slt rd rs rt) s t h = refl
-written_alone (row.Sltu rd rs rt) s t h = refl
 written_alone (row.J n) s t h = cc
-written_alone (row.Jal n) s t h = cc
-written_alone (row.Beq rs rt n) s t h = cc
-written_alone (row.Bne rs rt n) s t h = cc
-written_alone (row.Blez rs n) s t h = cc
-written_alone (row.Bgtz rs n) s t h = cc
-written_alone (row.Bltz rs n) s t h = cc
-written_alone (row.Bgez rs n) s t h = cc
-written_alone (row.Addi rt rs n) s t h = refl
-written_alone (row.Addiu rt rs n) s t h = refl
-written_alone (row.Slti rt rs n) s t h = refl
-written_alone (row.Sltiu rt rs n) s t h = refl
-written_alone (row.Andi rt rs n) s t h = refl
-written_alone (row.Ori rt rs n) s t h = refl
-written_alone (row.Xori rt rs n) s t h = refl
-written_alone (row.Lui rt n) s t h = refl
-written_alone (row.Lb rt n rs) s t h = refl
-written_alone (row.Lbu rt n rs) s t h = refl
-written_alone (row.Lw rt n rs) s t h = refl
-written_alone (row.Sb rt n rs) s t h = refl
-written_alone (row.Sw rt n rs) s t h = refl
+written_alone _ s t h = cc
 
 begins_below : (c : ℕ) → begins_label c ≡ true → c < 128
 begins_below c h = grind (arith, nat_tests)

@@ -69,27 +69,25 @@ pub record IsGiven (w : ℕ) (lines : List Line) (name : List ℕ) : Type 0 wher
   pub below : word < w + words lines
   pub stands : Stands (labels_from w lines) name (AtWord word)
 
+-- and among the labels of two parts
+given_in : (w : ℕ) (xs ys : List Line) (name : List ℕ) (word : ℕ) → word < w + words xs + words ys →
+    Stands (labels_from w xs ++ labels_from (w + words xs) ys) name (AtWord word) → IsGiven w (xs ++ ys) name
+given_in w xs ys name word l s =
+    let e = words_append xs ys in
+    record {
+      word = word;
+      below = omega arith;
+      stands = subst (λ q. Stands q name (AtWord word)) (sym (labels_append w xs ys)) s;
+    }
+
 pub given_left : (w : ℕ) (xs ys : List Line) (name : List ℕ) → IsGiven w xs name → IsGiven w (xs ++ ys) name
 given_left w xs ys name g =
-    let e = words_append xs ys in
     let b = g.below in
-    record {
-      word = g.word;
-      below = omega arith;
-      stands = subst (λ q. Stands q name (AtWord g.word)) (sym (labels_append w xs ys))
-          (stands_left (labels_from w xs) (labels_from (w + words xs) ys) name (AtWord g.word) g.stands);
-    }
+    given_in w xs ys name g.word (omega arith) (stands_left (labels_from w xs) (labels_from (w + words xs) ys) name (AtWord g.word) g.stands)
 
 pub given_right : (w : ℕ) (xs ys : List Line) (name : List ℕ) → IsGiven (w + words xs) ys name → IsGiven w (xs ++ ys) name
 given_right w xs ys name g =
-    let e = words_append xs ys in
-    let b = g.below in
-    record {
-      word = g.word;
-      below = omega arith;
-      stands = subst (λ q. Stands q name (AtWord g.word)) (sym (labels_append w xs ys))
-          (stands_right (labels_from w xs) (labels_from (w + words xs) ys) name (AtWord g.word) g.stands);
-    }
+    given_in w xs ys name g.word g.below (stands_right (labels_from w xs) (labels_from (w + words xs) ys) name (AtWord g.word) g.stands)
 
 pub in_code : (ps : Positions) (n w : ℕ) (lines : List Line) (name : List ℕ) → w + words lines ≤ n → Finds ps (labels_from w lines) → IsGiven w lines name →
     IsInCode ps n name

@@ -1,13 +1,13 @@
 ghost use Rattle.std.specs.Prelude.{◌≡◌, ◌&&◌, length, nat_le, nat_lt};
 ghost use Rattle.tg_base.specs.State.{most_bytes, most_words, padded};
-ghost use Rattle.tg_emit.specs.Lines.{words, words_of as words_of_line};
+ghost use Rattle.tg_emit.specs.Lines.{words};
 ghost use Rattle.tg_image.specs.Programs.{bytes_of};
 
-use tg_emit::{Assembly, Line};
+use tg_emit::{Assembly, Line, is_above};
 use tg_tree::Literal;
 
-/// The words below which the code of a program has to be.
-const WORDS: usize = 66060288;
+/// The greatest number of words of the code.
+const WORDS: usize = 66060287;
 
 /// The greatest number of bytes of the statics.
 const BYTES: usize = 16711680;
@@ -25,26 +25,7 @@ pub fn fit_segments(assembly: &Assembly, literals: &[Literal]) -> bool
 fn is_short(lines: &[Line]) -> bool
     ensures { result ≡ nat_lt (words lines.now) most_words }
 {
-    let mut left = WORDS;
-    for line in lines.iter() {
-        let words = words_of(line);
-        if left <= words {
-            return false;
-        }
-        left -= words;
-    }
-    true
-}
-
-/// The words of code that a line is.
-fn words_of(line: &Line) -> usize
-    ensures { result ≡ words_of_line line.now }
-{
-    match line {
-        Line::One(_, _) => 1,
-        Line::La(_, _) => 2,
-        _ => 0,
-    }
+    !is_above(lines, WORDS)
 }
 
 /// Whether literals are no more bytes than the statics hold.

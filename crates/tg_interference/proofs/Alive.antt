@@ -1,22 +1,15 @@
 -- What is live in a code is used in it, so it is a register or one of the code's temporaries.
-use Rattle.std.proofs.Common.{◌≡◌, ℕ, zero, suc, true, not, ◌&&◌, List, [], ◌∷◌, refl}
+use Rattle.std.proofs.Common.{◌≡◌, ℕ, zero, suc, true, List, [], ◌∷◌, refl}
 use Rattle.std.specs.List.{list_all}
 use Rattle.std.proofs.lemmas.Bool.{and_parts}
 use Rattle.tg_instr.specs.declared.instr.Instr.{Instr}
 use Rattle.tg_instr.specs.declared.operands.Opnd.{Opnd}
 use Rattle.tg_instr.specs.Uses.{uses_of, defs_of}
 use Rattle.tg_instr.specs.Codes.{is_below, has_temps_below}
-use Rattle.tg_live.specs.Flow.{goes_on}
-use Rattle.tg_live.specs.Live.{Sets, set_at, is_among, uses_at, is_used, is_defined, leads_to_use, AreLiveSets}
-use Rattle.tg_interference.proofs.Operands.{among_all, all_among}
-
-used_along : (all : List Instr) (x : Opnd) (path : List ℕ) (next : ℕ) → leads_to_use all x next path ≡ true →
-    (at : ℕ) × (is_used all x at ≡ true)
-used_along all x [] next u = (next, u)
-used_along all x (further ∷ path) next l =
-    let h = and_parts (not (is_defined all x next)) (goes_on all next further && leads_to_use all x further path) l in
-    let k = and_parts (goes_on all next further) (leads_to_use all x further path) h.1 in
-    used_along all x path further k.1
+use Rattle.tg_live.specs.Live.{Sets, set_at, is_among, uses_at, AreLiveSets}
+use Rattle.tg_live.proofs.Reach.{used_along}
+use Rattle.tg_live.proofs.Numbers.{among_all}
+use Rattle.tg_interference.proofs.Operands.{all_among}
 
 uses_below : (n : ℕ) (all : List Instr) (at : ℕ) → list_all (has_temps_below n) all ≡ true →
     list_all (is_below n) (uses_at all at) ≡ true

@@ -11,7 +11,7 @@ use Rattle.tg_instr.specs.Operands.{is_same}
 use Rattle.tg_instr.specs.Codes.{is_below}
 use Rattle.tg_graph.specs.Interference.{is_register}
 use Rattle.tg_live.specs.Interference.{colours, is_colour, is_node, are_two_colours}
-use Rattle.tg_interference.proofs.Operands.{same_is}
+use Rattle.tg_instr.proofs.Same.{same_is}
 use Rattle.tg_interference.specs.Nodes.{temp_at, operand_at, node_of}
 
 -- a node is the one given

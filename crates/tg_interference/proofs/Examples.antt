@@ -1,13 +1,15 @@
 -- Nodes, and the pairs, the moves and the marks of a code, by computing.
-use Rattle.std.proofs.Common.{◌≡◌, ℕ, Bool, true, false, List, [], ◌∷◌, ◌++◌, Some, None, map, refl, inl, inr}
+use Rattle.std.proofs.Common.{◌≡◌, ℕ, Bool, true, false, List, [], ◌∷◌, ◌++◌, Some, None, map, replicate, refl, inl}
 use Rattle.std.specs.Prelude.{filter}
 use Rattle.std.specs.List.{range_with_len}
 use Rattle.tg_instr.specs.declared.instr.Instr.{Instr}
-use Rattle.tg_instr.specs.declared.instr.Instr.TheVariants.{Move as MoveOf, Addu, Return}
+use Rattle.tg_instr.specs.declared.instr.Instr.TheVariants.{Move as MoveOf, Return}
 use Rattle.tg_instr.specs.declared.operands.Opnd.{Opnd}
 use Rattle.tg_instr.specs.declared.operands.Opnd.TheVariants.{Reg}
 use Rattle.tg_graph.specs.Interference.{Interference, interferes}
 use Rattle.tg_live.specs.Live.{Sets}
+use Rattle.tg_live.proofs.LiveExamples as live
+use Rattle.tg_live.proofs.LiveExamples.{copies}
 use Rattle.tg_rounds.specs.declared.moves.Move.{Move}
 use Rattle.tg_rounds.specs.declared.candidates.Mark.{Mark}
 use Rattle.tg_interference.specs.Nodes.{operand_at, node_of}
@@ -26,11 +28,7 @@ operands : map operand_at (0 ∷ 2 ∷ 24 ∷ 28 ∷ []) ≡ Reg 2 ∷ Reg 4 ∷
 unfolding operand_at
 operands = refl
 
--- t0 <- $a0; t1 <- t0; t2 <- t0 + t1; $v0 <- t2; return
-abbrev copies : List Instr
-copies =
-    MoveOf (temp 0) (Reg 4) ∷ MoveOf (temp 1) (temp 0) ∷ Addu (temp 2) (temp 0) (temp 1) ∷
-    MoveOf (Reg 2) (temp 2) ∷ Return ∷ []
+-- The code `copies` is t0 <- $a0; t1 <- t0; t2 <- t0 + t1; $v0 <- t2; return.
 
 -- $s0 to $s7 and $ra are live throughout
 abbrev given_back : List Opnd
@@ -53,34 +51,14 @@ abbrev joined_to : ℕ → List ℕ
 joined_to x = filter (joined_below copies lives 5 x) (range_with_len 0 28)
 
 -- each temporary is joined to $s0 to $s7 and $ra, as $v0 is, and t0 not to its copy t1
-t0_pairs : joined_to 25 ≡ range_with_len 16 9
+joined_nodes : map joined_to (25 ∷ 26 ∷ 27 ∷ 0 ∷ []) ≡ replicate 4 (range_with_len 16 9)
 unfolding operand_at node_of
-t0_pairs = refl
-
-t1_pairs : joined_to 26 ≡ range_with_len 16 9
-unfolding operand_at node_of
-t1_pairs = refl
-
-t2_pairs : joined_to 27 ≡ range_with_len 16 9
-unfolding operand_at node_of
-t2_pairs = refl
-
-v0_pairs : joined_to 0 ≡ range_with_len 16 9
-unfolding operand_at node_of
-v0_pairs = refl
+joined_nodes = refl
 
 -- in each graph of the code $s0 and t2 interfere, and $v0 and $a0 as colours
 s0_with_t2 : (graph : Interference) → IsInterference copies 3 graph → interferes graph 16 27 ≡ true
 unfolding operand_at
-s0_with_t2 graph is = (is.pairs 16 27).1 (record {
-  left = refl;
-  right = refl;
-  cause = inr (inr (record {
-    at = 2;
-    defines = refl;
-    live = record { next = 3; path = 4 ∷ []; goes = refl; leads = refl };
-  }));
-})
+s0_with_t2 graph is = (is.pairs 16 27).1 live.s0_with_t2
 
 v0_with_a0 : (graph : Interference) → IsInterference copies 3 graph → interferes graph 0 2 ≡ true
 unfolding operand_at

@@ -101,25 +101,23 @@ module _ (moved : Option Move) where
   left true true true false = refl
   left true true true true = refl
 
+  -- what joins one way as two others do joins so in either order
+  both_more : (all some one : ℕ → ℕ → Bool) → ((u v : ℕ) → all u v ≡ (some u v || one u v)) → (x y : ℕ) →
+      (all x y || all y x) ≡ ((some x y || some y x) || (one x y || one y x))
+  both_more all some one h x y =
+      ap (λ b. b || all y x) (h x y)
+      ∙ (ap (λ b. (some x y || one x y) || b) (h y x)
+      ∙ four (some x y) (some y x) (one x y) (one y x))
+
   pub live_more : (f p q r : ℕ → Bool) → ((n : ℕ) → p n ≡ (q n || r n)) → (x y : ℕ) →
       joins_both moved f p x y ≡ (joins_both moved f q x y || joins_both moved f r x y)
-  live_more f p q r h x y =
-      ap (λ b. b || joins moved f p y x) (one x y)
-      ∙ (ap (λ b. (joins moved f q x y || joins moved f r x y) || b) (one y x)
-      ∙ four (joins moved f q x y) (joins moved f q y x) (joins moved f r x y) (joins moved f r y x))
-    where
-      one : (u v : ℕ) → joins moved f p u v ≡ (joins moved f q u v || joins moved f r u v)
-      one u v = ap (λ b. f u && (is_apart moved u v && b)) (h v) ∙ right (f u) (is_apart moved u v) (q v) (r v)
+  live_more f p q r h = both_more (joins moved f p) (joins moved f q) (joins moved f r)
+      (λ u v. ap (λ b. f u && (is_apart moved u v && b)) (h v) ∙ right (f u) (is_apart moved u v) (q v) (r v))
 
   pub defined_more : (f g d p : ℕ → Bool) → ((n : ℕ) → f n ≡ (g n || d n)) → (x y : ℕ) →
       joins_both moved f p x y ≡ (joins_both moved g p x y || joins_both moved d p x y)
-  defined_more f g d p h x y =
-      ap (λ b. b || joins moved f p y x) (one x y)
-      ∙ (ap (λ b. (joins moved g p x y || joins moved d p x y) || b) (one y x)
-      ∙ four (joins moved g p x y) (joins moved g p y x) (joins moved d p x y) (joins moved d p y x))
-    where
-      one : (u v : ℕ) → joins moved f p u v ≡ (joins moved g p u v || joins moved d p u v)
-      one u v = ap (λ b. b && (is_apart moved u v && p v)) (h u) ∙ left (g u) (d u) (is_apart moved u v) (p v)
+  defined_more f g d p h = both_more (joins moved f p) (joins moved g p) (joins moved d p)
+      (λ u v. ap (λ b. b && (is_apart moved u v && p v)) (h u) ∙ left (g u) (d u) (is_apart moved u v) (p v))
 
 -- the step of a loop that joins
 pub joined_more : (new old first all some one : Bool) → new ≡ (one || old) → old ≡ (some || first) →

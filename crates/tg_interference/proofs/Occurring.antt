@@ -10,7 +10,7 @@ use Rattle.std.proofs.lemmas.List.Sums.{sum_by_more, sum_by_more_le_part, sum_by
 use Rattle.tg_instr.specs.declared.instr.Instr.{Instr}
 use Rattle.tg_instr.specs.declared.operands.Opnd.{Opnd}
 use Rattle.tg_instr.specs.Operands.{is_same}
-use Rattle.tg_instr.specs.Shapes.{Holder, Operand, Hi, Lo, Shape, From0, From1, From2, Halves, Copy, Loads, Stores, FromSlot, ToSlot, Base, AddressOf, Here, Goes, Tests, Calls, Asks, Fails, Returns, shape}
+use Rattle.tg_instr.specs.Shapes.{Holder, Operand, Hi, Lo, Shape, From1, Calls, shape}
 use Rattle.tg_instr.specs.Uses.{operand_of, uses, defs, uses_of, defs_of}
 use Rattle.tg_graph.specs.Interference.{is_register}
 use Rattle.tg_rounds.specs.declared.moves.Move.{Move}
@@ -65,44 +65,12 @@ operand_few Hi = omega arith
 operand_few Lo = omega arith
 
 pub few_uses : (s : Shape) → length (uses s) ≤ 24
-few_uses (From0 to n) = omega arith
 few_uses (From1 to from f) = operand_few from
-few_uses (From2 to left right f) = omega arith
-few_uses (Halves left right low high) = omega arith
-few_uses (Copy to from) = omega arith
-few_uses (Loads to base n f) = omega arith
-few_uses (Stores from base n f) = omega arith
-few_uses (FromSlot to k) = omega arith
-few_uses (ToSlot from k) = omega arith
-few_uses (Base to) = omega arith
-few_uses (AddressOf to label) = omega arith
-few_uses (Here m) = omega arith
-few_uses (Goes m) = omega arith
-few_uses (Tests rel left right m) = omega arith
-few_uses (Calls label) = omega arith
-few_uses Asks = omega arith
-few_uses (Fails n) = omega arith
-few_uses Returns = omega arith
+few_uses _ = omega arith
 
 pub few_defs : (s : Shape) → length (defs s) ≤ 24
-few_defs (From0 to n) = omega arith
-few_defs (From1 to from f) = omega arith
-few_defs (From2 to left right f) = omega arith
-few_defs (Halves left right low high) = omega arith
-few_defs (Copy to from) = omega arith
-few_defs (Loads to base n f) = omega arith
-few_defs (Stores from base n f) = omega arith
-few_defs (FromSlot to k) = omega arith
-few_defs (ToSlot from k) = omega arith
-few_defs (Base to) = omega arith
-few_defs (AddressOf to label) = omega arith
-few_defs (Here m) = omega arith
-few_defs (Goes m) = omega arith
-few_defs (Tests rel left right m) = omega arith
 few_defs (Calls label) = omega arith
-few_defs Asks = omega arith
-few_defs (Fails n) = omega arith
-few_defs Returns = omega arith
+few_defs _ = omega arith
 
 few_occurrences : (x : Opnd) (one : Instr) → occurrences_in x one ≤ 48
 few_occurrences x one =

@@ -1,34 +1,17 @@
--- Operands that are the same, and lists of operands.
-use Rattle.std.proofs.Common.{◌≡◌, ◌<◌, ◌≤◌, ℕ, zero, suc, Bool, true, List, [], ◌∷◌, length, get_or, refl, ap, ◌∙◌, arith, ⊎_elim}
+-- Lists of operands, and of other items.
+use Rattle.std.proofs.Common.{◌≡◌, ◌<◌, ◌≤◌, ℕ, zero, suc, Bool, true, List, [], ◌∷◌, length, get_or, refl, ap, ◌∙◌, arith}
 use Rattle.std.specs.List.{list_all}
-use Rattle.std.proofs.lemmas.Bool.{eqb-true, eq-eqb, lt-ltb, ltb-true, and_parts, and_from, or_cases, or_left, or_right, false≢true}
+use Rattle.std.proofs.lemmas.Bool.{lt-ltb, ltb-true, and_parts, and_from, or_left, or_right}
 use Rattle.tg_instr.specs.declared.operands.Opnd.{Opnd}
 use Rattle.tg_instr.specs.declared.operands.Opnd.TheVariants.{Temp as TempOf, Reg}
 use Rattle.tg_instr.specs.Operands.{is_same}
+use Rattle.tg_instr.proofs.Same.{same_itself}
 use Rattle.tg_instr.specs.declared.instr.Instr.{Instr}
 use Rattle.tg_instr.specs.Uses.{uses_of, defs_of}
 use Rattle.tg_instr.specs.Codes.{is_below, has_temps_below}
 use Rattle.tg_live.specs.Live.{is_among}
 
-pub same_itself : (x : Opnd) → is_same x x ≡ true
-same_itself (TempOf t) = eq-eqb t.0 t.0 refl
-same_itself (Reg r) = eq-eqb r r refl
-
-pub same_is : (x y : Opnd) → is_same x y ≡ true → x ≡ y
-same_is (TempOf s) (TempOf t) e = ap (λ n. TempOf (record { 0 = n })) (eqb-true s.0 t.0 e)
-same_is (Reg r) (Reg q) e = ap Reg (eqb-true r q e)
-same_is (TempOf s) (Reg q) e = absurd (false≢true e)
-same_is (Reg r) (TempOf t) e = absurd (false≢true e)
-
--- what holds of a list holds of what is among it, and the converse
-pub among_all : (p : Opnd → Bool) (x : Opnd) (list : List Opnd) → list_all p list ≡ true → is_among x list ≡ true →
-    p x ≡ true
-among_all p x [] h a = absurd (false≢true a)
-among_all p x (y ∷ list) h a =
-    let k = and_parts (p y) (list_all p list) h in
-    ⊎_elim (λ s. ap p (same_is x y s)
-    ∙ k.0) (λ r. among_all p x list k.1 r) (or_cases (is_same x y) (is_among x list) a)
-
+-- what holds of all that is among a list holds of the list
 pub all_among : (p : Opnd → Bool) (list : List Opnd) → ((x : Opnd) → is_among x list ≡ true → p x ≡ true) →
     list_all p list ≡ true
 all_among p [] h = refl

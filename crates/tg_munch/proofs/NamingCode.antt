@@ -1,5 +1,5 @@
 -- What the instructions of branches, elements and a whole function name, and their marks.
-use Rattle.std.proofs.Common.{ℕ, ◌≡◌, ◌<◌, ◌≤◌, ◌+◌, List, [], ◌∷◌, ◌++◌, Option, Some, None, Bool, true, false, length, nat_lt, refl, sym, ◌∙◌, arith, zero-add}
+use Rattle.std.proofs.Common.{ℕ, ◌≡◌, ◌<◌, ◌≤◌, ◌+◌, List, [], ◌∷◌, ◌++◌, Option, Some, None, Bool, true, false, length, nat_lt, refl, sym, ◌∙◌, subst, arith, zero-add}
 use Rattle.std.proofs.lemmas.Bool.Decides.{nat_tests}
 use Rattle.std.specs.Prelude.{IsTrue, nat_le, nat_eq, if◌then◌else◌}
 use Rattle.std.specs.List.{list_all}
@@ -160,7 +160,7 @@ pub record Lays (w : Scope) (marks : ℕ) (choice : Choice (Unit {0})) (d : Draw
   pub code : w.first_mark ≤ d.mark → IsTrue (list_all (may_name w (choice d).drawn) (choice d).code)
   pub marks_stand : occurs w.mark (choice d).code ≡ marks + spanned d.mark (choice d).drawn.mark w.mark
 
-lays_alone : (w : Scope) (choice : Choice (Unit {0})) (d : Drawn) → Fits anything w choice d → Lays w 0 choice d
+lays_alone : (w : Scope) {good : Drawn → Unit {0} → Bool} (choice : Choice (Unit {0})) (d : Drawn) → Fits good w choice d → Lays w 0 choice d
 lays_alone w choice d h = record {
   grows = h.grows;
   code = h.code;
@@ -171,13 +171,11 @@ lays_alone w choice d h = record {
 joined : (a b c s t u m n : ℕ) → a ≡ b + c → b ≡ m + s → c ≡ n + t → s + t ≡ u → a ≡ (m + n) + u
 joined a b c s t u m n h k l i = omega arith
 
-lays_then : (w : Scope) {m n : ℕ} {first onward : Choice (Unit {0})} {d : Drawn} → Lays w m first d →
-    ((e : Drawn) → Grows d e → Lays w n onward e) →
+lays_on : (w : Scope) {m n : ℕ} {first onward : Choice (Unit {0})} {d : Drawn} → Lays w m first d → Lays w n onward (first d).drawn →
     Lays w (m + n) (first >> onward) d
 unfolding ◌>>=◌
-lays_then w {m} {n} {first} {onward} {d} h k =
+lays_on w {m} {n} {first} {onward} {d} h two =
     let one = first d in
-    let two = k one.drawn h.grows in
     let rest = onward one.drawn in
     let start = h.grows.mark in
     record {
@@ -191,29 +189,17 @@ lays_then w {m} {n} {first} {onward} {d} h k =
           (span_join d.mark one.drawn.mark rest.drawn.mark w.mark h.grows.mark two.grows.mark);
     }
 
-joined_behind : (a b c s t u n : ℕ) → a ≡ b + c → b ≡ s → c ≡ n + t → s + t ≡ u → a ≡ n + u
-joined_behind a b c s t u n h k l i = omega arith
+lays_then : (w : Scope) {m n : ℕ} {first onward : Choice (Unit {0})} {d : Drawn} → Lays w m first d →
+    ((e : Drawn) → Grows d e → Lays w n onward e) →
+    Lays w (m + n) (first >> onward) d
+lays_then w {first = first} {d = d} h k = lays_on w h (k (first d).drawn h.grows)
 
 lays_behind : (w : Scope) {good : Drawn → Unit {0} → Bool} {n : ℕ} {first onward : Choice (Unit {0})} {d : Drawn} →
     Fits good w first d →
     ((e : Drawn) (x : Unit {0}) → Grows d e → IsTrue (good e x) → Lays w n onward e) → Lays w n (first >> onward) d
-unfolding ◌>>=◌
-lays_behind w {good} {n} {first} {onward} {d} h k =
-    let one = first d in
-    let two = k one.drawn one.value h.grows h.given in
-    let rest = onward one.drawn in
-    let start = h.grows.mark in
-    record {
-      grows = grows_on h.grows two.grows;
-      code = λ l. all_append (may_name w rest.drawn) one.code rest.code (all_on w two.grows one.code (h.code l))
-          (two.code (omega (arith, l, start)));
-      marks_stand = joined_behind (occurs w.mark (one.code ++ rest.code)) (occurs w.mark one.code)
-          (occurs w.mark rest.code)
-          (spanned d.mark one.drawn.mark w.mark) (spanned one.drawn.mark rest.drawn.mark w.mark)
-          (spanned d.mark rest.drawn.mark w.mark) n
-          (occurs_append w.mark one.code rest.code) h.marks two.marks_stand
-          (span_join d.mark one.drawn.mark rest.drawn.mark w.mark h.grows.mark two.grows.mark);
-    }
+lays_behind w {n = n} {first = first} {onward = onward} {d = d} h k =
+    subst (λ m. Lays w m (first >> onward) d) (zero-add n)
+    (lays_on w (lays_alone w first d h) (k (first d).drawn (first d).value h.grows h.given))
 
 lays_mark : (w : Scope) (n : ℕ) (d : Drawn) → Lays w (counted (nat_eq w.mark n)) (element w.slots 0 None (tree.Mark n)) d
 lays_mark w n d = record {

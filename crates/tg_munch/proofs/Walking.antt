@@ -18,7 +18,7 @@ use Rattle.tg_munch.specs.declared.drafts.Draft.{Draft}
 use Rattle.tg_munch.specs.declared.tiles.Tile.TheVariants.{ByWord, Operands}
 use Rattle.tg_munch.specs.Choosing.{Choice, ◌>>=◌, ◌>>◌, give, put, choose}
 use Rattle.tg_munch.specs.Tiles.{tile, tiled, shifted_into, operated}
-use Rattle.tg_munch.specs.Munching.{temp, argument, store_low, passed, given_back, expression, arguments, loaded_at, byte_at, valued, effect, element, elements}
+use Rattle.tg_munch.specs.Munching.{temp, argument, store_low, passed, given_back, expression, arguments, loaded_at, byte_at, element, elements}
 use Rattle.tg_munch.specs.Bodies.{count, kept, kept_register, from_caller, parameter, parameter_in_temp, parameter_in_frame, parameters}
 use Rattle.tg_munch.specs.Drafts.{Writes}
 use Rattle.tg_munch.proofs.Writing.{writes_then, writes_none}
@@ -97,11 +97,6 @@ pub far_in_frame : (slots i k : ℕ) → 4 ≤ i → parameter_in_frame slots i 
 far_in_frame slots i k h =
     let e : nat_lt i 4 ≡ false = grind (arith, nat_tests) in
     ap (λ b. if b then put (FrameStore (argument i) k) else (expression slots (from_caller i) None >>= (λ v. put (FrameStore v k)))) e
-
--- an expression that is no call and no service
-pub valued_at : (slots : ℕ) (x y : CodeTx) → x ≡ y → valued slots (plain_tx y) ≡ effect slots (plain_tx y) →
-    valued slots (plain_tx x) ≡ effect slots (plain_tx x)
-valued_at slots x y e h = subst (λ z. valued slots (plain_tx z) ≡ effect slots (plain_tx z)) (sym e) h
 
 -- how many arguments a call has
 pub count_of : (xs : List CodeTx) → count (txs_of xs) ≡ length xs

@@ -55,3 +55,7 @@ choose None = fresh
 -- an instruction that defines an operand, which it gives
 abbrev pub defining : Instr → Opnd → Choice Opnd
 defining one to d = record { value = to; code = one ∷ []; drawn = d }
+
+-- such an instruction behind another
+abbrev pub defining_behind : (first one : Instr) → Opnd → Choice Opnd
+defining_behind first one to = put first >> defining one to

@@ -82,6 +82,21 @@ impl Draft {
         Ok(to)
     }
 
+    /// Writes an instruction, and behind it one that defines an operand, and gives the operand.
+    pub(crate) fn define_behind(
+        &mut self,
+        first: Instr,
+        one: Instr,
+        to: Opnd,
+    ) -> Result<Opnd, Memory>
+        ensures { IfOk result
+            (λ x. Writes (choosing.defining_behind first one to) self.old self.new x) }
+    {
+        self.put(first)?;
+        let value = self.define(one, to)?;
+        Ok(value)
+    }
+
     /// An operand gets what another holds, where it is asked for.
     pub(crate) fn move_into(&mut self, asked: Option<Opnd>, from: Opnd) -> Result<Opnd, Memory>
         ensures { IfOk result (λ x. Writes (tiles.moved asked from) self.old self.new x) }
@@ -116,11 +131,13 @@ impl Draft {
     fn halves(&mut self, to: Opnd, n: u32) -> Result<Opnd, Memory>
         ensures { IfOk result (λ x. Writes (tiles.halves to n) self.old self.new x) }
     {
-        let target = to;
-        self.put(Instr::Lui(target, field(n / 65536)))?;
+        let upper = to;
         let target = to;
         let source = to;
-        let value = self.define(Instr::Ori(target, source, field(n)), to)?;
-        Ok(value)
+        self.define_behind(
+            Instr::Lui(upper, field(n / 65536)),
+            Instr::Ori(target, source, field(n)),
+            to,
+        )
     }
 }

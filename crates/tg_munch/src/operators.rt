@@ -1,5 +1,4 @@
 ghost use Rattle.std.specs.Prelude.{◌≡◌, ◌<◌, OnOk, IfOk};
-ghost use Rattle.tg_tree.specs.declared.operators.Bin.TheVariants as bin;
 ghost use Rattle.tg_munch.specs.Drafts.{Writes};
 ghost use Rattle.tg_munch.specs.Tiles as tiles;
 
@@ -9,38 +8,6 @@ use tg_base::Memory;
 use tg_instr::{Instr, Opnd};
 use tg_isa::Bits;
 use tg_tree::Bin;
-
-/// The low word of a product.
-fn product(draft: &mut Draft, to: Opnd, left: Opnd, right: Opnd) -> Result<Opnd, Memory>
-    ensures { IfOk result
-        (λ x. Writes (tiles.operated bin.Mul to left right) draft.old draft.new x) }
-{
-    let target = to;
-    draft.put(Instr::Mult(left, right))?;
-    let value = draft.define(Instr::Mflo(target), to)?;
-    Ok(value)
-}
-
-/// The high word of a product.
-fn high_product(draft: &mut Draft, to: Opnd, left: Opnd, right: Opnd) -> Result<Opnd, Memory>
-    ensures { IfOk result
-        (λ x. Writes (tiles.operated bin.MulHigh to left right) draft.old draft.new x) }
-{
-    let target = to;
-    draft.put(Instr::Mult(left, right))?;
-    let value = draft.define(Instr::Mfhi(target), to)?;
-    Ok(value)
-}
-
-fn quotient(draft: &mut Draft, to: Opnd, left: Opnd, right: Opnd) -> Result<Opnd, Memory>
-    ensures { IfOk result
-        (λ x. Writes (tiles.operated bin.Div to left right) draft.old draft.new x) }
-{
-    let target = to;
-    draft.put(Instr::Div(left, right))?;
-    let value = draft.define(Instr::Mflo(target), to)?;
-    Ok(value)
-}
 
 /// An operand gets what an operator gives for two others.
 pub(crate) fn operate(
@@ -57,14 +24,14 @@ pub(crate) fn operate(
     match op {
         Bin::Add => draft.define(Instr::Addu(target, left, right), to),
         Bin::Sub => draft.define(Instr::Subu(target, left, right), to),
-        Bin::Mul => product(draft, to, left, right),
-        Bin::Div => quotient(draft, to, left, right),
+        Bin::Mul => draft.define_behind(Instr::Mult(left, right), Instr::Mflo(target), to),
+        Bin::Div => draft.define_behind(Instr::Div(left, right), Instr::Mflo(target), to),
         Bin::And => draft.define(Instr::And(target, left, right), to),
         Bin::Or => draft.define(Instr::Or(target, left, right), to),
         Bin::Xor => draft.define(Instr::Xor(target, left, right), to),
         Bin::AddTrap => draft.define(Instr::Add(target, left, right), to),
         Bin::SubTrap => draft.define(Instr::Sub(target, left, right), to),
-        Bin::MulHigh => high_product(draft, to, left, right),
+        Bin::MulHigh => draft.define_behind(Instr::Mult(left, right), Instr::Mfhi(target), to),
         Bin::ShiftLeft | Bin::ShiftRight | Bin::ShiftSigned => Ok(to),
     }
 }

@@ -90,20 +90,17 @@ fn effect(draft: &mut Draft, slots: u32, x: &Tx) -> Result<(), Memory>
     match x {
         Tx::Call(label, items) => call(draft, slots, *label, items),
         Tx::Service(number, argument) => service(draft, slots, *number, argument),
-        Tx::Const(_) => value(draft, slots, x),
-        Tx::Address(_) => value(draft, slots, x),
-        Tx::Temp(_) => value(draft, slots, x),
-        Tx::FrameAddress => value(draft, slots, x),
-        Tx::Binary(_, _, _) => value(draft, slots, x),
-        Tx::Load(_) => value(draft, slots, x),
-        Tx::LoadByte(_) => value(draft, slots, x),
+        Tx::Const(_) | Tx::Address(_) | Tx::Temp(_) | Tx::FrameAddress => value(draft, slots, x),
+        Tx::Binary(_, _, _) | Tx::Load(_) | Tx::LoadByte(_) => value(draft, slots, x),
         Tx::After(_, _) => value(draft, slots, x),
     }
 }
 
+/// An expression that is neither.
 fn value(draft: &mut Draft, slots: u32, x: &Tx) -> Result<(), Memory>
+    requires { munching.effect slots (plain_tx x.now) ≡ munching.valued slots (plain_tx x.now) }
     ensures { OnOk result
-        (Writes (munching.valued slots (plain_tx x.now)) draft.old draft.new tt) }
+        (Writes (munching.effect slots (plain_tx x.now)) draft.old draft.new tt) }
 {
     expression(draft, slots, x, None)?;
     Ok(())
@@ -125,24 +122,7 @@ pub(crate) fn branch_behind(
 {
     if is_in_hi(before, left) {
         compare_in_hi(draft, slots, rel, right, mark)
-    } else {
-        branch(draft, slots, rel, left, right, mark)
-    }
-}
-
-fn branch(
-    draft: &mut Draft,
-    slots: u32,
-    rel: Rel,
-    left: &Tx,
-    right: &Tx,
-    mark: u32,
-) -> Result<(), Memory>
-    ensures { OnOk result
-        (Writes (munching.branch slots rel (plain_tx left.now) (plain_tx right.now) mark)
-        draft.old draft.new tt) }
-{
-    if is_turned(rel, left, right) {
+    } else if is_turned(rel, left, right) {
         compare(draft, slots, turned(rel), right, left, mark)
     } else {
         compare(draft, slots, rel, left, right, mark)
