@@ -16,6 +16,7 @@ use Rattle.tg_tree.specs.declared.fragments.Literal.{Literal}
 use Rattle.tg_tree.specs.Tree.{Ts, Function, Code, Linear, Stms}
 use Rattle.tg_tree.specs.Plain.{plain_fragment, plain_literal, plain_function}
 use Rattle.tg_runtime.specs.Routines.{runtime}
+use Rattle.tg_shapes.specs.Programs.{with_runtime}
 use Rattle.tg_frame.specs.declared.frames.Frame.{Frame}
 use Rattle.tg_base.specs.declared.ids.Label.{Label}
 use Rattle.tg_isa.specs.Assembly.{assembled}
@@ -37,7 +38,7 @@ use Rattle.tg_image.specs.Programs.{IsProgram, AreTyped}
 use Rattle.tg_image.specs.Images.{program_written}
 use Rattle.tg_image.proofs.Soundness.{program_has_image}
 use Rattle.tg_compile.specs.declared.programs.Placement.{Placement}
-use Rattle.tg_compile.specs.Compiling.{with_runtime, fragments_of, with_statements, flattened, Chooses, CompilesFunction, CompileFunctions, codes_of, HasImage, Compiles}
+use Rattle.tg_compile.specs.Compiling.{fragments_of, with_statements, flattened, Chooses, CompilesFunction, CompileFunctions, codes_of, HasImage, Compiles}
 use Rattle.tg_compile.specs.Passes.{allocation_of, CompileApart}
 
 -- a program's functions and literals, before the runtime is behind them

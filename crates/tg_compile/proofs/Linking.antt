@@ -1,8 +1,8 @@
 -- What the instructions of a program name is there: the passes name no more than its trees do.
 use Rattle.std.proofs.Common.{◌≡◌, ◌≢◌, ◌<◌, ℕ, zero, suc, Bool, true, false, List, [], ◌∷◌, ◌++◌, refl, sym, ap, subst, ◌∙◌, arith, eq-eqb, get_or, length, inl, inr, ◌≤◌}
-use Rattle.std.specs.Prelude.{◌&&◌, ◌||◌, ◌==◌, nat_le, map, not, IsTrue}
+use Rattle.std.specs.Prelude.{◌||◌, ◌==◌, nat_le, map, not, IsTrue}
 use Rattle.std.specs.List.{Contains, AllPairs, list_all}
-use Rattle.std.proofs.lemmas.Bool.{lt-ltb}
+use Rattle.std.proofs.lemmas.Bool.{lt-ltb, and_from, and_parts, or_left, or_right}
 use Rattle.std.proofs.lemmas.Bool.Decides.{eqb_tells, nat_tests}
 use Rattle.tg_base.specs.declared.ids.Label.{Label}
 use Rattle.tg_base.specs.State.{most_bytes}
@@ -13,7 +13,7 @@ use Rattle.tg_tree.specs.Plain.{plain_literal}
 use Rattle.tg_tree.specs.Named.{Named, function, literal, fault, temporary, IsLinked}
 use Rattle.tg_instr.specs.declared.operands.Opnd.{Opnd}
 use Rattle.tg_instr.specs.declared.instr.Instr.{Instr}
-use Rattle.tg_instr.specs.declared.instr.Instr.TheVariants.{Sll, Srl, Sra, Mfhi, Mflo, Mult, Div, Add, Sub, Addu, Subu, And, Or, Xor, Nor, Slt, Sltu, Addi, Addiu, Slti, Sltiu, Andi, Ori, Xori, Lui, Lb, Lbu, Lw, Sb, Sw, Move, FrameLoad, FrameStore, FrameAddress, Address, Mark, Jump, Branch, Call, Service, Fault, Return}
+use Rattle.tg_instr.specs.declared.instr.Instr.TheVariants.{Sll, Address, Call, Fault}
 use Rattle.tg_instr.specs.declared.codes.Allocated.{Allocated}
 use Rattle.tg_instr.specs.Renaming.{renamed}
 use Rattle.tg_shapes.specs.Laws.{names}
@@ -32,71 +32,11 @@ use Rattle.tg_compile.specs.declared.programs.Placement.{Placement}
 use Rattle.tg_compile.specs.Compiling.{flattened, CompilesFunction}
 use Rattle.tg_compile.specs.Passes.{CompileApart, allocation_of, is_there, have_codes, CodeNamesNoMore, AreLinked, AreSmall}
 
-both_left : (a b : Bool) → (a && b) ≡ true → a ≡ true
-both_left true b e = refl
-both_left false b e = cc
-
-both_right : (a b : Bool) → (a && b) ≡ true → b ≡ true
-both_right true b e = e
-both_right false b e = cc
-
-both : (a b : Bool) → a ≡ true → b ≡ true → (a && b) ≡ true
-both true b e d = d
-both false b e d = cc
-
-or_left : (a b : Bool) → a ≡ true → (a || b) ≡ true
-or_left true b e = refl
-or_left false b e = cc
-
-or_right : (a b : Bool) → b ≡ true → (a || b) ≡ true
-or_right true b e = refl
-or_right false b e = e
-
 -- other operands change no name
 renamed_keeps : (p : Named → Bool) (one : Instr) (x y z : Opnd) →
     names_allowed p (renamed one x y z) ≡ names_allowed p one
 renamed_keeps p (Sll a b c) x y z = refl
-renamed_keeps p (Srl a b c) x y z = refl
-renamed_keeps p (Sra a b c) x y z = refl
-renamed_keeps p (Mfhi a) x y z = refl
-renamed_keeps p (Mflo a) x y z = refl
-renamed_keeps p (Mult a b) x y z = refl
-renamed_keeps p (Div a b) x y z = refl
-renamed_keeps p (Add a b c) x y z = refl
-renamed_keeps p (Sub a b c) x y z = refl
-renamed_keeps p (Addu a b c) x y z = refl
-renamed_keeps p (Subu a b c) x y z = refl
-renamed_keeps p (And a b c) x y z = refl
-renamed_keeps p (Or a b c) x y z = refl
-renamed_keeps p (Xor a b c) x y z = refl
-renamed_keeps p (Nor a b c) x y z = refl
-renamed_keeps p (Slt a b c) x y z = refl
-renamed_keeps p (Sltu a b c) x y z = refl
-renamed_keeps p (Addi a b c) x y z = refl
-renamed_keeps p (Addiu a b c) x y z = refl
-renamed_keeps p (Slti a b c) x y z = refl
-renamed_keeps p (Sltiu a b c) x y z = refl
-renamed_keeps p (Andi a b c) x y z = refl
-renamed_keeps p (Ori a b c) x y z = refl
-renamed_keeps p (Xori a b c) x y z = refl
-renamed_keeps p (Lui a b) x y z = refl
-renamed_keeps p (Lb a b c) x y z = refl
-renamed_keeps p (Lbu a b c) x y z = refl
-renamed_keeps p (Lw a b c) x y z = refl
-renamed_keeps p (Sb a b c) x y z = refl
-renamed_keeps p (Sw a b c) x y z = refl
-renamed_keeps p (Move a b) x y z = refl
-renamed_keeps p (FrameLoad a b) x y z = refl
-renamed_keeps p (FrameStore a b) x y z = refl
-renamed_keeps p (FrameAddress a) x y z = refl
-renamed_keeps p (Address a b) x y z = refl
-renamed_keeps p (Mark a) x y z = refl
-renamed_keeps p (Jump a) x y z = refl
-renamed_keeps p (Branch a b) x y z = refl
-renamed_keeps p (Call a) x y z = refl
-renamed_keeps p Service x y z = refl
-renamed_keeps p (Fault a) x y z = refl
-renamed_keeps p Return x y z = refl
+renamed_keeps p one x y z = refl
 
 -- and loads and stores name nothing
 names_ignore_operands : (p : Named → Bool) → IgnoresOperands (names_allowed p)
@@ -114,100 +54,21 @@ names_no_more lifts lays picks keeps p temps zeros f h rule a c =
     keeps rule c.code c.frame a c.allocation (names_allowed p) (names_ignore_operands p)
     (subst P (sym c.chooses.list) (picks p (flattened f) flat))
 
--- what is there, as the test of a program tells it
+-- what is there, as the test of a program tells it, and has a code
 those_told : (fs ls : List ℕ) (one : Instr) → names_allowed (is_there fs ls) one ≡ true → names_those fs ls one ≡ true
-those_told fs ls (Sll a b c) e = refl
-those_told fs ls (Srl a b c) e = refl
-those_told fs ls (Sra a b c) e = refl
-those_told fs ls (Mfhi a) e = refl
-those_told fs ls (Mflo a) e = refl
-those_told fs ls (Mult a b) e = refl
-those_told fs ls (Div a b) e = refl
-those_told fs ls (Add a b c) e = refl
-those_told fs ls (Sub a b c) e = refl
-those_told fs ls (Addu a b c) e = refl
-those_told fs ls (Subu a b c) e = refl
-those_told fs ls (And a b c) e = refl
-those_told fs ls (Or a b c) e = refl
-those_told fs ls (Xor a b c) e = refl
-those_told fs ls (Nor a b c) e = refl
-those_told fs ls (Slt a b c) e = refl
-those_told fs ls (Sltu a b c) e = refl
-those_told fs ls (Addi a b c) e = refl
-those_told fs ls (Addiu a b c) e = refl
-those_told fs ls (Slti a b c) e = refl
-those_told fs ls (Sltiu a b c) e = refl
-those_told fs ls (Andi a b c) e = refl
-those_told fs ls (Ori a b c) e = refl
-those_told fs ls (Xori a b c) e = refl
-those_told fs ls (Lui a b) e = refl
-those_told fs ls (Lb a b c) e = refl
-those_told fs ls (Lbu a b c) e = refl
-those_told fs ls (Lw a b c) e = refl
-those_told fs ls (Sb a b c) e = refl
-those_told fs ls (Sw a b c) e = refl
-those_told fs ls (Move a b) e = refl
-those_told fs ls (FrameLoad a b) e = refl
-those_told fs ls (FrameStore a b) e = refl
-those_told fs ls (FrameAddress a) e = refl
 those_told fs ls (Address a b) e = e
-those_told fs ls (Mark a) e = refl
-those_told fs ls (Jump a) e = refl
-those_told fs ls (Branch a b) e = refl
 those_told fs ls (Call a) e = e
-those_told fs ls Service e = refl
-those_told fs ls (Fault a) e = refl
-those_told fs ls Return e = refl
+those_told fs ls one e = refl
 
 code_told : (fs ls : List ℕ) (one : Instr) → names_allowed (is_there fs ls) one ≡ true → has_code one ≡ true
-code_told fs ls (Sll a b c) e = refl
-code_told fs ls (Srl a b c) e = refl
-code_told fs ls (Sra a b c) e = refl
-code_told fs ls (Mfhi a) e = refl
-code_told fs ls (Mflo a) e = refl
-code_told fs ls (Mult a b) e = refl
-code_told fs ls (Div a b) e = refl
-code_told fs ls (Add a b c) e = refl
-code_told fs ls (Sub a b c) e = refl
-code_told fs ls (Addu a b c) e = refl
-code_told fs ls (Subu a b c) e = refl
-code_told fs ls (And a b c) e = refl
-code_told fs ls (Or a b c) e = refl
-code_told fs ls (Xor a b c) e = refl
-code_told fs ls (Nor a b c) e = refl
-code_told fs ls (Slt a b c) e = refl
-code_told fs ls (Sltu a b c) e = refl
-code_told fs ls (Addi a b c) e = refl
-code_told fs ls (Addiu a b c) e = refl
-code_told fs ls (Slti a b c) e = refl
-code_told fs ls (Sltiu a b c) e = refl
-code_told fs ls (Andi a b c) e = refl
-code_told fs ls (Ori a b c) e = refl
-code_told fs ls (Xori a b c) e = refl
-code_told fs ls (Lui a b) e = refl
-code_told fs ls (Lb a b c) e = refl
-code_told fs ls (Lbu a b c) e = refl
-code_told fs ls (Lw a b c) e = refl
-code_told fs ls (Sb a b c) e = refl
-code_told fs ls (Sw a b c) e = refl
-code_told fs ls (Move a b) e = refl
-code_told fs ls (FrameLoad a b) e = refl
-code_told fs ls (FrameStore a b) e = refl
-code_told fs ls (FrameAddress a) e = refl
-code_told fs ls (Address a b) e = refl
-code_told fs ls (Mark a) e = refl
-code_told fs ls (Jump a) e = refl
-code_told fs ls (Branch a b) e = refl
-code_told fs ls (Call a) e = refl
-code_told fs ls Service e = refl
 code_told fs ls (Fault a) e = e
-code_told fs ls Return e = refl
+code_told fs ls one e = refl
 
 each_told : {X : Type 0} (p q : X → Bool) → ((one : X) → p one ≡ true → q one ≡ true) → (code : List X) →
     list_all p code ≡ true → list_all q code ≡ true
 each_told p q told [] e = refl
 each_told p q told (one ∷ rest) e =
-    both (q one) (list_all q rest) (told one (both_left (p one) (list_all p rest) e)) (each_told p q told rest (both_right (p one) (list_all p rest) e))
+    and_from (q one) (list_all q rest) (told one (and_parts (p one) (list_all p rest) e).0) (each_told p q told rest (and_parts (p one) (list_all p rest) e).1)
 
 among : (labels : List ℕ) (label : ℕ) → Contains labels label → is_among labels label ≡ true
 among [] label c = absurd (omega (arith, c.1))
@@ -232,7 +93,7 @@ not_among label (x ∷ xs) h =
 differ : (labels : List ℕ) → AllPairs (λ a b. a ≢ b) labels → labels_differ labels ≡ true
 differ [] h = refl
 differ (x ∷ xs) h =
-    both (not (is_among xs x)) (labels_differ xs)
+    and_from (not (is_among xs x)) (labels_differ xs)
     (not_among x xs (λ k d l. h zero (suc k) d (omega arith) (omega (arith, l))))
     (differ xs (λ i j d below inside. h (suc i) (suc j) d (omega (arith, below)) (omega (arith, inside))))
 
@@ -247,13 +108,13 @@ fewer label (x ∷ xs) ys e = fewer_tests (label == x) (is_among (xs ++ ys) labe
 first_differ : (xs ys : List ℕ) → labels_differ (xs ++ ys) ≡ true → labels_differ xs ≡ true
 first_differ [] ys e = refl
 first_differ (x ∷ xs) ys e =
-    both (not (is_among xs x)) (labels_differ xs)
-    (fewer x xs ys (both_left (not (is_among (xs ++ ys) x)) (labels_differ (xs ++ ys)) e))
-    (first_differ xs ys (both_right (not (is_among (xs ++ ys) x)) (labels_differ (xs ++ ys)) e))
+    and_from (not (is_among xs x)) (labels_differ xs)
+    (fewer x xs ys (and_parts (not (is_among (xs ++ ys) x)) (labels_differ (xs ++ ys)) e).0)
+    (first_differ xs ys (and_parts (not (is_among (xs ++ ys) x)) (labels_differ (xs ++ ys)) e).1)
 
 last_differ : (xs ys : List ℕ) → labels_differ (xs ++ ys) ≡ true → labels_differ ys ≡ true
 last_differ [] ys e = e
-last_differ (x ∷ xs) ys e = last_differ xs ys (both_right (not (is_among (xs ++ ys) x)) (labels_differ (xs ++ ys)) e)
+last_differ (x ∷ xs) ys e = last_differ xs ys (and_parts (not (is_among (xs ++ ys) x)) (labels_differ (xs ++ ys)) e).1
 
 -- codes of functions, one for each
 labels_are : (rule : Rule) (fs : List (Function Ts)) (codes : List Allocated) (ps : List Placement) → CompileApart rule fs codes ps →
@@ -285,7 +146,7 @@ codes_pass rule allowed [] (c ∷ codes) ps h each = absurd h
 codes_pass rule allowed (f ∷ fs) [] ps h each = absurd h
 codes_pass rule allowed (f ∷ fs) (c ∷ codes) [] h each = absurd h
 codes_pass rule allowed (f ∷ fs) (c ∷ codes) (p ∷ ps) h each =
-    both (names_pass allowed c) (list_all (names_pass allowed) codes)
+    and_from (names_pass allowed c) (list_all (names_pass allowed) codes)
     (each f (zero, omega arith, refl) (allocation_of (c, p)) h.0)
     (codes_pass rule allowed fs codes ps h.1 (λ g m. each g (suc m.0, omega (arith, m.1), m.2)))
 
@@ -332,9 +193,9 @@ pub emittable : (codes : List Allocated) → list_all has_small_frame codes ≡ 
     list_all is_emittable codes ≡ true
 emittable [] e d = refl
 emittable (c ∷ codes) e d =
-    both (is_emittable c) (list_all is_emittable codes)
-    (both (has_small_frame c) (have_codes c) (both_left (has_small_frame c) (list_all has_small_frame codes) e) (both_left (have_codes c) (list_all have_codes codes) d))
-    (emittable codes (both_right (has_small_frame c) (list_all has_small_frame codes) e) (both_right (have_codes c) (list_all have_codes codes) d))
+    and_from (is_emittable c) (list_all is_emittable codes)
+    (and_from (has_small_frame c) (have_codes c) (and_parts (has_small_frame c) (list_all has_small_frame codes) e).0 (and_parts (have_codes c) (list_all have_codes codes) d).0)
+    (emittable codes (and_parts (has_small_frame c) (list_all has_small_frame codes) e).1 (and_parts (have_codes c) (list_all have_codes codes) d).1)
 
 within : (a b : ℕ) → nat_le a b ≡ true → a ≤ b
 within a b e = grind (arith, nat_tests, e)

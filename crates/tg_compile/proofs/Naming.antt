@@ -1,7 +1,8 @@
 -- The instructions of a function name registers and slots that they may name before allocation.
-use Rattle.std.proofs.Common.{◌≡◌, Bool, true, false, List, [], ◌∷◌, Option, Some, None, refl}
+use Rattle.std.proofs.Common.{◌≡◌, true, List, [], ◌∷◌, Option, Some, None, refl}
 use Rattle.std.specs.Prelude.{◌&&◌, ◌||◌, ◌==◌}
 use Rattle.std.specs.List.{list_all}
+use Rattle.std.proofs.lemmas.Bool.{and_from, and_parts, or_right}
 use Rattle.tg_instr.specs.declared.instr.Instr.{Instr}
 use Rattle.tg_instr.specs.declared.operands.Opnd.{Opnd}
 use Rattle.tg_instr.specs.declared.operands.Opnd.TheVariants.{Temp, Reg}
@@ -11,22 +12,6 @@ use Rattle.tg_munch.specs.Laws.{RegistersAreFixed, SlotsAreBelow}
 use Rattle.tg_spill.specs.Conditions as spill
 use Rattle.tg_compile.specs.Compiling.{flattened, chosen}
 use Rattle.tg_compile.specs.Passes.{CodeNamesItsOwn}
-
-both_left : (a b : Bool) → (a && b) ≡ true → a ≡ true
-both_left true b e = refl
-both_left false b e = cc
-
-both_right : (a b : Bool) → (a && b) ≡ true → b ≡ true
-both_right true b e = e
-both_right false b e = cc
-
-both : (a b : Bool) → a ≡ true → b ≡ true → (a && b) ≡ true
-both true b e d = d
-both false b e d = cc
-
-or_right : (a b : Bool) → b ≡ true → (a || b) ≡ true
-or_right true b e = refl
-or_right false b e = e
 
 -- a register that is read, or written, is one that code names before allocation
 read_is : (one : Option Opnd) → munch.has_register munch.is_read one ≡ true →
@@ -48,19 +33,19 @@ one_is one e =
     let to = munch.has_register munch.is_written n.to in
     let first = munch.has_register munch.is_read n.first in
     let second = munch.has_register munch.is_read n.second in
-    let reads = both_right to (first && second) e in
-    both (spill.has_register spill.is_fixed n.to) (spill.has_register spill.is_fixed n.first && spill.has_register spill.is_fixed n.second)
-    (written_is n.to (both_left to (first && second) e))
-    (both (spill.has_register spill.is_fixed n.first) (spill.has_register spill.is_fixed n.second)
-    (read_is n.first (both_left first second reads)) (read_is n.second (both_right first second reads)))
+    let reads = (and_parts to (first && second) e).1 in
+    and_from (spill.has_register spill.is_fixed n.to) (spill.has_register spill.is_fixed n.first && spill.has_register spill.is_fixed n.second)
+    (written_is n.to (and_parts to (first && second) e).0)
+    (and_from (spill.has_register spill.is_fixed n.first) (spill.has_register spill.is_fixed n.second)
+    (read_is n.first (and_parts first second reads).0) (read_is n.second (and_parts first second reads).1))
 
 all_are : (code : List Instr) → list_all munch.names_registers code ≡ true →
     list_all (spill.names_registers spill.is_fixed) code ≡ true
 all_are [] e = refl
 all_are (one ∷ rest) e =
-    both (spill.names_registers spill.is_fixed one) (list_all (spill.names_registers spill.is_fixed) rest)
-    (one_is one (both_left (munch.names_registers one) (list_all munch.names_registers rest) e))
-    (all_are rest (both_right (munch.names_registers one) (list_all munch.names_registers rest) e))
+    and_from (spill.names_registers spill.is_fixed one) (list_all (spill.names_registers spill.is_fixed) rest)
+    (one_is one (and_parts (munch.names_registers one) (list_all munch.names_registers rest) e).0)
+    (all_are rest (and_parts (munch.names_registers one) (list_all munch.names_registers rest) e).1)
 
 pub own_names : RegistersAreFixed → SlotsAreBelow → CodeNamesItsOwn
 unfolding flattened

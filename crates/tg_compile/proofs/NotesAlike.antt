@@ -12,9 +12,10 @@ use Rattle.tg_types.specs.Has.{Says}
 use Rattle.tg_types.proofs.NotesFound.{says_found, found_said}
 use Rattle.tg_translate.specs.Scopes.{Findings}
 use Rattle.tg_translate.specs.Translate.{translated}
+use Rattle.tg_shapes.specs.Programs.{with_runtime}
 use Rattle.tg_rounds.specs.Policies.{Rule}
 use Rattle.tg_spill.specs.declared.allocations.Allocation.{Allocation}
-use Rattle.tg_compile.specs.Compiling.{findings_of, with_runtime, fragments_of, CompileFunctions, Compiles}
+use Rattle.tg_compile.specs.Compiling.{findings_of, fragments_of, CompileFunctions, Compiles}
 
 -- a search doesn't miss what is noted
 not_missed : (notes : List Note) (at : ℕ) (m : Means) → Says notes at m → meaning_at at notes ≡ None → ⊥

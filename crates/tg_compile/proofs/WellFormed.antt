@@ -1,11 +1,12 @@
 -- Functions are well formed, and their flat code is well marked.
-use Rattle.std.proofs.Common.{◌≡◌, ◌<◌, ℕ, zero, suc, Bool, true, false, List, [], ◌∷◌, refl, sym, ap, ◌∙◌, subst, arith, get_or, length}
-use Rattle.std.specs.Prelude.{◌&&◌, nat_lt, IsTrue, All, map}
+use Rattle.std.proofs.Common.{◌≡◌, ◌<◌, ℕ, zero, suc, Bool, true, List, [], ◌∷◌, refl, sym, ap, ◌∙◌, subst, arith, get_or, length}
+use Rattle.std.specs.Prelude.{nat_lt, IsTrue, All, map}
 use Rattle.std.specs.List.{Contains, list_all}
 use Rattle.std.specs.FinSet.{from_list}
 use Rattle.std.proofs.lemmas.List.{get_or-map, length-map}
-use Rattle.std.proofs.lemmas.Bool.{lt-ltb, ltb-true}
-use Rattle.std.proofs.lemmas.List.Elements.{All-append, All-weaker, All-contains_itself}
+use Rattle.std.proofs.lemmas.Bool.{lt-ltb, ltb-true, and_parts}
+use Rattle.std.proofs.lemmas.List.Elements.{All-append, All-weaker, All-contains, All-contains_itself}
+use Rattle.std.proofs.lemmas.List.Sums.{AllPass-from_list_all}
 use Rattle.tg_syntax.specs.Plain.{plain}
 use Rattle.tg_types.specs.Programs.{CheckedProgram, IsAccepted}
 use Rattle.tg_escape.specs.Escaping.{escapes_of}
@@ -26,19 +27,6 @@ use Rattle.tg_trace.specs.Laws as trace
 use Rattle.tg_compile.specs.Compiling.{findings_of, fragments_of, flattened}
 use Rattle.tg_compile.specs.Passes.{IsWellFormed, FlatCodeIsWellMarked}
 
-both_left : (a b : Bool) → (a && b) ≡ true → a ≡ true
-both_left true b e = refl
-both_left false b e = cc
-
-both_right : (a b : Bool) → (a && b) ≡ true → b ≡ true
-both_right true b e = e
-both_right false b e = cc
-
-passes : (p : Named → Bool) (xs : List Named) → list_all p xs ≡ true → (x : Named) → Contains xs x → p x ≡ true
-passes p [] e x c = absurd (omega (arith, c.1))
-passes p (y ∷ ys) e x (zero, l, i) = subst (λ z. p z ≡ true) i (both_left (p y) (list_all p ys) e)
-passes p (y ∷ ys) e x (suc k, l, i) = passes p ys (both_right (p y) (list_all p ys) e) x (k, omega arith, i)
-
 -- a function of the runtime, which has no slot
 abbrev has_few : Function Ts → Bool
 has_few f = nat_lt f.slots 16777216
@@ -47,13 +35,14 @@ routine_is : (fs : List (Function Ts)) → AreRoutines fs → list_all has_few f
     Contains fs f → IsWellFormed f
 routine_is [] h few f c = absurd (omega (arith, c.1))
 routine_is (g ∷ gs) h few f (zero, l, e) =
+    let own = AllPass-from_list_all (is_own g.temps) (names g.body) h.0.own in
     subst IsWellFormed e (record {
       closed = h.0.closed;
-      drawn = λ i c. ltb-true i g.temps (passes (is_own g.temps) (names g.body) h.0.own (temporary i) c);
-      few = ltb-true g.slots 16777216 (both_left (has_few g) (list_all has_few gs) few);
+      drawn = λ i c. ltb-true i g.temps (All-contains (λ x. is_own g.temps x ≡ true) (names g.body) (temporary i) own c);
+      few = ltb-true g.slots 16777216 (and_parts (has_few g) (list_all has_few gs) few).0;
     })
 routine_is (g ∷ gs) h few f (suc n, l, e) =
-    routine_is gs h.1 (both_right (has_few g) (list_all has_few gs) few) f (n, omega arith, e)
+    routine_is gs h.1 (and_parts (has_few g) (list_all has_few gs) few).1 f (n, omega arith, e)
 
 each_is : (fs : List (Function Ts)) → ((f : Function Ts) → Contains fs f → IsWellFormed f) → All IsWellFormed fs
 each_is fs h = All-weaker (Contains fs) IsWellFormed h fs (All-contains_itself fs)

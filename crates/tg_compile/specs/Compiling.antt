@@ -1,5 +1,5 @@
 -- What a program is compiled to, pass after pass (Appel, chapters 6 to 12).
-use Rattle.std.specs.Prelude.{◌≡◌, ◌<◌, ℕ, List, ◌++◌, map, Ok, IsTrue}
+use Rattle.std.specs.Prelude.{◌≡◌, ◌<◌, ℕ, List, map, Ok, IsTrue}
 use Rattle.std.specs.List.{AllZip, list_all}
 use Rattle.std.specs.FinSet.{from_list}
 use Rattle.tg_syntax.specs.Tree.{Exp}
@@ -12,7 +12,7 @@ use Rattle.tg_tree.specs.Tree.{Ts, Stms, Linear, Function, Code}
 use Rattle.tg_tree.specs.Plain.{plain_literal}
 use Rattle.tg_translate.specs.Scopes.{Findings, found}
 use Rattle.tg_translate.specs.Translate.{translated}
-use Rattle.tg_runtime.specs.Routines.{runtime}
+use Rattle.tg_shapes.specs.Programs.{with_runtime}
 use Rattle.tg_canon.specs.Drawing.{Drawn}
 use Rattle.tg_canon.specs.Canon.{linearized}
 use Rattle.tg_trace.specs.Cutting.{blocks_of}
@@ -33,13 +33,6 @@ use Rattle.tg_emit.specs.Text.{text_of}
 abbrev pub findings_of : List Note → Exp → Findings
 findings_of notes program =
     found notes (from_list (escapes_of program)) (from_list (links_of program))
-
--- the functions and literals of a program, and behind them the runtime's
-abbrev pub with_runtime : Code Ts → Code Ts
-with_runtime program = record {
-  functions = program.functions ++ runtime.functions;
-  literals = program.literals ++ runtime.literals;
-}
 
 -- the functions and literals that a program is translated to, with the runtime's
 abbrev pub fragments_of : List Note → Exp → Code Ts

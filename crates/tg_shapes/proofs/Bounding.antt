@@ -87,7 +87,7 @@ not_above : (b : Bool) (number limit : ℕ) (f : TypeRule × ℕ) (otherwise : O
 not_above true number limit f otherwise e h = cc
 not_above false number limit f otherwise e h = (grind (arith, nat_tests, e), h)
 
-within_limit : (rule : TypeRule) (at number limit : ℕ) (otherwise : Option (TypeRule × ℕ)) →
+pub within_limit : (rule : TypeRule) (at number limit : ℕ) (otherwise : Option (TypeRule × ℕ)) →
     above rule at number limit otherwise ≡ None → (number ≤ limit) × (otherwise ≡ None)
 within_limit rule at number limit otherwise h = not_above (nat_lt limit number) number limit (rule, at) otherwise refl h
 

@@ -105,18 +105,7 @@ module _ (asks : Asks) where
 
     routine_below : (one : Routine) → KnowsAt asks s (name.function (label_of one))
     routine_below routine.MakeRecord = inl (omega arith)
-    routine_below routine.MakeArray = inl (omega arith)
-    routine_below routine.Compare = inl (omega arith)
-    routine_below routine.Print = inl (omega arith)
-    routine_below routine.Flush = inl (omega arith)
-    routine_below routine.Getchar = inl (omega arith)
-    routine_below routine.Ord = inl (omega arith)
-    routine_below routine.Chr = inl (omega arith)
-    routine_below routine.Size = inl (omega arith)
-    routine_below routine.Substring = inl (omega arith)
-    routine_below routine.Concat = inl (omega arith)
-    routine_below routine.Not = inl (omega arith)
-    routine_below routine.Exit = inl (omega arith)
+    routine_below one = inl (omega arith)
 
     pub routine_good : (one : Routine) (xs : Txs) → GoodTxs asks n s xs → GoodTx asks n s (call_routine one xs)
     routine_good one xs h = (routine_below one, h)
@@ -305,26 +294,34 @@ module _ {asks : Asks} {c : Where} where
       (field_good asks c.loops t k held.before (operand held.operand) j.0 (operand_good asks c.loops t held.operand j.1)))
 
   -- two values are held, one behind the other
-  module _ {A : Type 0} (W : TranslationState → A → Type 0) (direct also : Bool) (x y : Tx) (next : Held → Held → Acts A)
+  module _ {A : Type 0} (W : TranslationState → A → Type 0) (direct : Bool) (x y : Tx) (next : Held → Held → Acts A)
       (made : (l h : Held) (t : TranslationState) → Ready asks c t → GoodOperand asks t l.operand → HeldWell asks c.loops t h → Yields asks c t W
       (next l h t)) where
     both_held : {s : TranslationState} → Ready asks c s → GoodTx asks c.loops s x → GoodTx asks c.loops s y →
-        Yields asks c s W (after (hold direct no_stms x s) (λ l t. after (hold also l.before y t) (λ h. next l h)))
+        Yields asks c s W (after (hold direct no_stms x s) (λ l t. after (hold true l.before y t) (λ h. next l h)))
     both_held r h k =
         bind (hold_yields direct no_stms x r tt h)
         (λ l t st r' j.
-        bind (hold_yields also l.before y r' j.0 (tx_on st c.loops y k))
+        bind (hold_yields true l.before y r' j.0 (tx_on st c.loops y k))
         (λ h u st' r'' i. made l h u r'' (operand_on st' l.operand j.1) i))
+
+  -- and something is made of them, behind the statements that keep them
+  made_of_held : {A : Type 0} {s : TranslationState} (W : TranslationState → A → Type 0) (make : Stms → Tx → Tx → A) →
+      ((t : TranslationState) (ss : Stms) (a b : Tx) → GoodStms asks c.loops t ss → GoodTx asks c.loops t a → GoodTx asks c.loops t b → W t (make ss a b)) →
+      (direct : Bool) (x y : Tx) → Ready asks c s → GoodTx asks c.loops s x → GoodTx asks c.loops s y →
+      Yields asks c s W (after (hold direct no_stms x s) (λ l t. after (hold true l.before y t)
+      (λ h. give (make h.before (operand l.operand) (operand h.operand)))))
+  made_of_held W make good direct x y r h k =
+      both_held W direct x y (λ l h. give (make h.before (operand l.operand) (operand h.operand)))
+      (λ l h t r' j i. given (make h.before (operand l.operand) (operand h.operand)) r'
+      (good t h.before (operand l.operand) (operand h.operand) i.0
+      (operand_good asks c.loops t l.operand j)
+      (operand_good asks c.loops t h.operand i.1))) r h k
 
   pub element_yields : {s : TranslationState} (direct : Bool) (x y : Tx) → Ready asks c s → GoodTx asks c.loops s x → GoodTx asks c.loops s y →
       Yields asks c s (λ t p. GoodPlace asks c.loops t p) (element_place direct x y s)
   element_yields direct x y r h k =
-      both_held (λ t p. GoodPlace asks c.loops t p) direct true x y
-      (λ a i. give (element_of i.before (operand a.operand) (operand i.operand)))
-      (λ a i t r' j l. given (element_of i.before (operand a.operand) (operand i.operand)) r'
-      (element_good asks c.loops t i.before (operand a.operand) (operand i.operand) l.0
-      (operand_good asks c.loops t a.operand j)
-      (operand_good asks c.loops t i.operand l.1))) r h k
+      made_of_held (λ t p. GoodPlace asks c.loops t p) (λ ss a i. element_of ss a i) (λ t ss a i. element_good asks c.loops t ss a i) direct x y r h k
 
   pub record_yields : {s : TranslationState} (all : HeldAll) → Ready asks c s → GoodHeld asks c.loops s all → Yields asks c s
       (λ t m. GoodMade asks c.loops t m) (make_record all s)
@@ -336,7 +333,7 @@ module _ {asks : Asks} {c : Where} where
   product_yields : {s : TranslationState} (direct : Bool) (x y : Tx) → Ready asks c s → GoodTx asks c.loops s x → GoodTx asks c.loops s y →
       Yields asks c s (λ t m. GoodMade asks c.loops t m) (product direct x y s)
   product_yields direct x y r h k =
-      both_held (λ t m. GoodMade asks c.loops t m) direct true x y
+      both_held (λ t m. GoodMade asks c.loops t m) direct x y
       (λ a b t. after (fresh t) (λ p. give (product_of p b.before (operand a.operand) (operand b.operand))))
       (λ a b t r' j l.
       bind (draws_temp r')
@@ -349,12 +346,7 @@ module _ {asks : Asks} {c : Where} where
   checked_yields : {s : TranslationState} (direct : Bool) (x y : Tx) → Ready asks c s → GoodTx asks c.loops s x → GoodTx asks c.loops s y →
       Yields asks c s (λ t m. GoodMade asks c.loops t m) (checked_quotient direct x y s)
   checked_yields direct x y r h k =
-      both_held (λ t m. GoodMade asks c.loops t m) direct true x y
-      (λ a b. give (quotient_of b.before (operand a.operand) (operand b.operand)))
-      (λ a b t r' j l. given (quotient_of b.before (operand a.operand) (operand b.operand)) r'
-      (quotient_good asks c.loops t b.before (operand a.operand) (operand b.operand) l.0
-      (operand_good asks c.loops t a.operand j)
-      (operand_good asks c.loops t b.operand l.1))) r h k
+      made_of_held (λ t m. GoodMade asks c.loops t m) (λ ss a b. quotient_of ss a b) (λ t ss a b. quotient_good asks c.loops t ss a b) direct x y r h k
 
   by_number_yields : {s : TranslationState} (direct : Bool) (x : Tx) (k : ℕ) (b : Bool) → Ready asks c s → GoodTx asks c.loops s x →
       Yields asks c s (λ t m. GoodMade asks c.loops t m) ((if b then checked_quotient direct x (Const k) else give

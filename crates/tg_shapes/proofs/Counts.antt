@@ -62,6 +62,27 @@ pub counted_contains : {X : Type 0} (label : X → ℕ) (xs : List X) (n : ℕ) 
 counted_contains label [] n h = absurd (omega (arith, h))
 counted_contains label (x ∷ xs) n h = counted_either label x xs n (label x == n) refl (counted_contains label xs n) h
 
+-- so many labels, one after another
+abbrev pub counted_from : (first count : ℕ) → List ℕ
+counted_from first zero = []
+counted_from first (suc count) = first ∷ counted_from (first + 1) count
+
+times-counted : (n first count end : ℕ) → first + count ≡ end → times (λ l. l) n (counted_from first count) + below n first ≡ below n end
+times-counted n first zero end e =
+    let last : first ≡ end = omega (arith, e) in
+    let h : below n first ≡ below n end = ap (below n) last in
+    omega (arith, h)
+times-counted n first (suc count) end e =
+    let h = times-counted n (first + 1) count end (omega (arith, e)) in
+    let k = below-next n first in
+    omega (arith, h, k)
+
+pub times-first : (n count : ℕ) → times (λ l. l) n (counted_from 0 count) ≡ below n count
+times-first n count =
+    let h = times-counted n 0 count count (omega arith) in
+    let k = below_no n 0 (omega arith) in
+    omega (arith, h, k)
+
 -- where each stands once at most, all differ
 pub times-map : {X : Type 0} (label : X → ℕ) (xs : List X) (n : ℕ) → times (λ l. l) n (map label xs) ≡ times label n xs
 times-map label [] n = refl

@@ -15,7 +15,7 @@ use Rattle.tg_translate.specs.Scopes.{declare_variable}
 use Rattle.tg_translate.specs.Functions.{at_of, asked, parameters, own_homes}
 use Rattle.tg_shapes.specs.Standing.{AreApart, params_of, owned_by}
 use Rattle.tg_shapes.proofs.Actions.{left}
-use Rattle.tg_shapes.proofs.Keeping.{Asks, Where, Ready, Step, Yields, GoodAccess, IsDrawn, drawn_on}
+use Rattle.tg_shapes.proofs.Keeping.{Asks, Where, Ready, Step, Yields, GoodAccess, IsDrawn, drawn_on, rehomed}
 use Rattle.tg_shapes.proofs.Scoping.{named_cases, named_other, more_contained, first_contained, behind_first}
 
 -- contexts: with a variable more, with more variables, in a loop's body, in a loop's test
@@ -93,20 +93,10 @@ module _ (asks : Asks) where
   home_step : (kept : List ℕ) (s : TranslationState) (at level : ℕ) (f : Frame) (a : Access) → f.label ≡ s.frame.label →
       s.frame.temps ≤ f.temps →
       (asks.temps → AreApart (at ∷ []) kept) → Step asks kept s (with_home at level f a s)
-  home_step kept s at level f a e h apart = record {
-    grows =
-        record {
-          label = omega arith;
-          temps = h;
-          name = e;
-          callees = λ l k. k;
-          literals = λ l k. k;
-          homes = λ t x k.
-              named_other x at (record { level = level; access = a }) s.homes
-              (λ q. apart t x (subst (λ y. Contains (at ∷ []) y) q (first_contained at [])) k);
-        };
-    balance = λ n. refl;
-  }
+  home_step kept s at level f a e h apart =
+      let home : Home = record { level = level; access = a } in
+      rehomed asks kept s f ((at, home) ∷ s.homes) e h
+      (λ t x k. named_other x at home s.homes (λ q. apart t x (subst (λ y. Contains (at ∷ []) y) q (first_contained at [])) k))
 
   home_ready : (c : Where) (s : TranslationState) (at level : ℕ) (f : Frame) (a : Access) → s.frame.temps ≤ f.temps → IsDrawn asks
       f.temps a →

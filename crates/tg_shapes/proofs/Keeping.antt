@@ -182,20 +182,17 @@ module _ (asks : Asks) where
   drawn_on n m (InTemp t) h k = omega (arith, h, k)
   drawn_on n m (InFrame j) h k = tt
 
-  pub framed : (kept : List ℕ) (s : TranslationState) (f : Frame) → f.label ≡ s.frame.label → s.frame.temps ≤ f.temps → Step kept s
-      (with_frame f s)
-  framed kept s f e h = record {
-    grows =
-        record {
-          label = omega arith;
-          temps = h;
-          name = e;
-          callees = λ l k. k;
-          literals = λ l k. k;
-          homes = λ t at k. refl;
-        };
+  -- and have other homes, but for those that are kept
+  pub rehomed : (kept : List ℕ) (s : TranslationState) (f : Frame) (homes : List (ℕ × Home)) → f.label ≡ s.frame.label → s.frame.temps ≤ f.temps →
+      (asks.temps → (at : ℕ) → Contains kept at → named at homes ≡ named at s.homes) → Step kept s (record s { frame = f; homes = homes })
+  rehomed kept s f homes e h same = record {
+    grows = record { label = omega arith; temps = h; name = e; callees = λ l k. k; literals = λ l k. k; homes = same };
     balance = λ n. refl;
   }
+
+  pub framed : (kept : List ℕ) (s : TranslationState) (f : Frame) → f.label ≡ s.frame.label → s.frame.temps ≤ f.temps → Step kept s
+      (with_frame f s)
+  framed kept s f e h = rehomed kept s f s.homes e h (λ t at k. refl)
 
   pub ready_framed : (c : Where) (s : TranslationState) (f : Frame) → s.frame.temps ≤ f.temps → Ready c s → Ready c
       (with_frame f s)

@@ -32,7 +32,7 @@ use Rattle.tg_shapes.specs.Strings.{strings, place_strings, exps_strings, inits_
 use Rattle.tg_shapes.specs.Laws.{IsWithin}
 use Rattle.tg_shapes.proofs.Near.{IsTx, AreTxs, IsCond, IsTs, AreStms, IsMade, IsPlace, join_txs_near, followed_near, dropped_near, test_near, read_near, negation_near}
 use Rattle.tg_shapes.proofs.Sized.{Gives, SmallBody, body_size}
-use Rattle.tg_shapes.proofs.Taking.{Cost, draws, adds, HasSlots, Takes, both, at_most, more, then_draws, then_quiet, draws_then, quiet_then, adds_then, gives, within_frame, finished}
+use Rattle.tg_shapes.proofs.Taking.{Cost, costs, draws, adds, HasSlots, Takes, both, at_most, more, then_draws, then_quiet, draws_then, quiet_then, adds_then, gives, within_frame, finished}
 use Rattle.tg_shapes.proofs.Updating.{same_is_quiet}
 use Rattle.tg_shapes.proofs.Charges.{declares, declares_functions, values_takes, behind_takes, hold_next_takes, assignment_takes, field_takes, element_takes, count_takes, record_takes, place_takes, call_takes, closing_takes, literal_takes, declaration_takes, left_takes, choice_takes}
 
@@ -76,47 +76,6 @@ abbrev mutual
   drawn_by_decs (variable _ _ x rest) = 1 + (drawn_by x + 1) + drawn_by_decs rest
   drawn_by_decs (functions _ rest) = drawn_by_decs rest
 
--- Each node draws six at most.
-mutual
-  few_drawn : (e : Exp) → drawn_by e + 1 ≤ 6 * size e
-  few_drawn (Nil _) = omega arith
-  few_drawn (Int _ _) = omega arith
-  few_drawn (Break _) = omega arith
-  few_drawn (Text _ _) = omega arith
-  few_drawn (Read _ v) = let h = few_in_place v in omega (arith, h)
-  few_drawn (Call _ _ args) = let h = few_in_exps args in omega (arith, h)
-  few_drawn (Neg _ x) = let h = few_drawn x in omega (arith, h)
-  few_drawn (Binary _ _ _ x y) = let h = few_drawn x in let k = few_drawn y in omega (arith, h, k)
-  few_drawn (Make _ _ inits) = let h = few_in_inits inits in omega (arith, h)
-  few_drawn (Fill _ _ x y) = let h = few_drawn x in let k = few_drawn y in omega (arith, h, k)
-  few_drawn (Assign _ v x) = let h = few_in_place v in let k = few_drawn x in omega (arith, h, k)
-  few_drawn (If _ d x y) = let h = few_drawn d in let k = few_drawn x in let l = few_drawn y in omega (arith, h, k, l)
-  few_drawn (When _ d x) = let h = few_drawn d in let k = few_drawn x in omega (arith, h, k)
-  few_drawn (While _ d x) = let h = few_drawn d in let k = few_drawn x in omega (arith, h, k)
-  few_drawn (For _ _ low high x) = let h = few_drawn low in let k = few_drawn high in let l = few_drawn x in omega (arith, h, k, l)
-  few_drawn (Let _ ds es) = let h = few_in_decs ds in let k = few_in_exps es in omega (arith, h, k)
-  few_drawn (Seq _ es) = let h = few_in_exps es in omega (arith, h)
-
-  few_in_place : (v : source.LValue) → drawn_by_place v ≤ 6 * place_size v
-  few_in_place (Simple _) = omega arith
-  few_in_place (Field v _) = let h = few_in_place v in omega (arith, h)
-  few_in_place (Index v x) = let h = few_in_place v in let k = few_drawn x in omega (arith, h, k)
-
-  few_in_exps : (es : Exps) → drawn_by_exps es ≤ 6 * exps_size es
-  few_in_exps no_exps = omega arith
-  few_in_exps (exp x rest) = let h = few_drawn x in let k = few_in_exps rest in omega (arith, h, k)
-
-  few_in_inits : (is : Inits) → drawn_by_inits is ≤ 6 * inits_size is
-  few_in_inits no_inits = omega arith
-  few_in_inits (init _ x rest) = let h = few_drawn x in let k = few_in_inits rest in omega (arith, h, k)
-
-  few_in_decs : (ds : Decs) → drawn_by_decs ds ≤ 6 * decs_size ds
-  few_in_decs no_decs = omega arith
-  few_in_decs (types ts rest) = let h = few_in_decs rest in omega (arith, h)
-  few_in_decs (variable _ _ x rest) = let h = few_drawn x in let k = few_in_decs rest in omega (arith, h, k)
-  few_in_decs (functions fs rest) = let h = few_in_decs rest in omega (arith, h)
-
--- No more variables of a function escape than it has nodes.
 module _ (escapes : ℕ → Bool) where
   one_at_most : (b : Bool) → one_of b ≤ 1
   one_at_most true = omega arith
@@ -126,46 +85,54 @@ module _ (escapes : ℕ → Bool) where
   few_params [] = omega arith
   few_params (p ∷ params) = let h = one_at_most (escapes (at_of p.name)) in let k = few_params params in omega (arith, h, k)
 
+  -- Each node draws six at most; and no more variables of a function escape than it has nodes.
   mutual
-    few_escaping : (e : Exp) → escaping escapes e ≤ size e
-    few_escaping (Nil _) = omega arith
-    few_escaping (Int _ _) = omega arith
-    few_escaping (Break _) = omega arith
-    few_escaping (Text _ _) = omega arith
-    few_escaping (Read _ v) = let h = few_escape_place v in omega (arith, h)
-    few_escaping (Call _ _ args) = let h = few_escape_exps args in omega (arith, h)
-    few_escaping (Neg _ x) = let h = few_escaping x in omega (arith, h)
-    few_escaping (Binary _ _ _ x y) = let h = few_escaping x in let k = few_escaping y in omega (arith, h, k)
-    few_escaping (Make _ _ inits) = let h = few_escape_inits inits in omega (arith, h)
-    few_escaping (Fill _ _ x y) = let h = few_escaping x in let k = few_escaping y in omega (arith, h, k)
-    few_escaping (Assign _ v x) = let h = few_escape_place v in let k = few_escaping x in omega (arith, h, k)
-    few_escaping (If _ d x y) = let h = few_escaping d in let k = few_escaping x in let l = few_escaping y in omega (arith, h, k, l)
-    few_escaping (When _ d x) = let h = few_escaping d in let k = few_escaping x in omega (arith, h, k)
-    few_escaping (While _ d x) = let h = few_escaping d in let k = few_escaping x in omega (arith, h, k)
-    few_escaping (For _ i low high x) =
-        let h = few_escaping low in let k = few_escaping high in let l = few_escaping x in let m = one_at_most (escapes (at_of i)) in omega (arith, h, k, l, m)
-    few_escaping (Let _ ds es) = let h = few_escape_decs ds in let k = few_escape_exps es in omega (arith, h, k)
-    few_escaping (Seq _ es) = let h = few_escape_exps es in omega (arith, h)
+    few : (e : Exp) → (drawn_by e + 1 ≤ 6 * size e) × (escaping escapes e ≤ size e)
+    few (Nil _) = (omega arith, omega arith)
+    few (Int _ _) = (omega arith, omega arith)
+    few (Break _) = (omega arith, omega arith)
+    few (Text _ _) = (omega arith, omega arith)
+    few (Read _ v) = let h = few_in_place v in (omega (arith, h.0), omega (arith, h.1))
+    few (Call _ _ args) = let h = few_in_exps args in (omega (arith, h.0), omega (arith, h.1))
+    few (Neg _ x) = let h = few x in (omega (arith, h.0), omega (arith, h.1))
+    few (Binary _ _ _ x y) = let h = few x in let k = few y in (omega (arith, h.0, k.0), omega (arith, h.1, k.1))
+    few (Make _ _ inits) = let h = few_in_inits inits in (omega (arith, h.0), omega (arith, h.1))
+    few (Fill _ _ x y) = let h = few x in let k = few y in (omega (arith, h.0, k.0), omega (arith, h.1, k.1))
+    few (Assign _ v x) = let h = few_in_place v in let k = few x in (omega (arith, h.0, k.0), omega (arith, h.1, k.1))
+    few (If _ d x y) = let h = few d in let k = few x in let l = few y in (omega (arith, h.0, k.0, l.0), omega (arith, h.1, k.1, l.1))
+    few (When _ d x) = let h = few d in let k = few x in (omega (arith, h.0, k.0), omega (arith, h.1, k.1))
+    few (While _ d x) = let h = few d in let k = few x in (omega (arith, h.0, k.0), omega (arith, h.1, k.1))
+    few (For _ i low high x) =
+        let h = few low in
+        let k = few high in
+        let l = few x in
+        let m = one_at_most (escapes (at_of i)) in
+        (omega (arith, h.0, k.0, l.0), omega (arith, h.1, k.1, l.1, m))
+    few (Let _ ds es) = let h = few_in_decs ds in let k = few_in_exps es in (omega (arith, h.0, k.0), omega (arith, h.1, k.1))
+    few (Seq _ es) = let h = few_in_exps es in (omega (arith, h.0), omega (arith, h.1))
 
-    few_escape_place : (v : source.LValue) → place_escaping escapes v ≤ place_size v
-    few_escape_place (Simple _) = omega arith
-    few_escape_place (Field v _) = let h = few_escape_place v in omega (arith, h)
-    few_escape_place (Index v x) = let h = few_escape_place v in let k = few_escaping x in omega (arith, h, k)
+    few_in_place : (v : source.LValue) → (drawn_by_place v ≤ 6 * place_size v) × (place_escaping escapes v ≤ place_size v)
+    few_in_place (Simple _) = (omega arith, omega arith)
+    few_in_place (Field v _) = let h = few_in_place v in (omega (arith, h.0), omega (arith, h.1))
+    few_in_place (Index v x) = let h = few_in_place v in let k = few x in (omega (arith, h.0, k.0), omega (arith, h.1, k.1))
 
-    few_escape_exps : (es : Exps) → exps_escaping escapes es ≤ exps_size es
-    few_escape_exps no_exps = omega arith
-    few_escape_exps (exp x rest) = let h = few_escaping x in let k = few_escape_exps rest in omega (arith, h, k)
+    few_in_exps : (es : Exps) → (drawn_by_exps es ≤ 6 * exps_size es) × (exps_escaping escapes es ≤ exps_size es)
+    few_in_exps no_exps = (omega arith, omega arith)
+    few_in_exps (exp x rest) = let h = few x in let k = few_in_exps rest in (omega (arith, h.0, k.0), omega (arith, h.1, k.1))
 
-    few_escape_inits : (is : Inits) → inits_escaping escapes is ≤ inits_size is
-    few_escape_inits no_inits = omega arith
-    few_escape_inits (init _ x rest) = let h = few_escaping x in let k = few_escape_inits rest in omega (arith, h, k)
+    few_in_inits : (is : Inits) → (drawn_by_inits is ≤ 6 * inits_size is) × (inits_escaping escapes is ≤ inits_size is)
+    few_in_inits no_inits = (omega arith, omega arith)
+    few_in_inits (init _ x rest) = let h = few x in let k = few_in_inits rest in (omega (arith, h.0, k.0), omega (arith, h.1, k.1))
 
-    few_escape_decs : (ds : Decs) → decs_escaping escapes ds ≤ decs_size ds
-    few_escape_decs no_decs = omega arith
-    few_escape_decs (types ts rest) = let h = few_escape_decs rest in omega (arith, h)
-    few_escape_decs (variable y _ x rest) =
-        let h = few_escaping x in let k = few_escape_decs rest in let m = one_at_most (escapes (at_of y)) in omega (arith, h, k, m)
-    few_escape_decs (functions fs rest) = let h = few_escape_decs rest in omega (arith, h)
+    few_in_decs : (ds : Decs) → (drawn_by_decs ds ≤ 6 * decs_size ds) × (decs_escaping escapes ds ≤ decs_size ds)
+    few_in_decs no_decs = (omega arith, omega arith)
+    few_in_decs (types ts rest) = let h = few_in_decs rest in (omega (arith, h.0), omega (arith, h.1))
+    few_in_decs (variable y _ x rest) =
+        let h = few x in
+        let k = few_in_decs rest in
+        let m = one_at_most (escapes (at_of y)) in
+        (omega (arith, h.0, k.0), omega (arith, h.1, k.1, m))
+    few_in_decs (functions fs rest) = let h = few_in_decs rest in (omega (arith, h.0), omega (arith, h.1))
 
   -- A frame begins with the homes of parameters and the link's.
 
@@ -212,49 +179,23 @@ module _ (escapes : ℕ → Bool) where
 module _ (findings : Findings) where
   -- what parts cost, in a text of this level which sees these names
   abbrev of_exp : (n : ℕ) → Levels → Exp → Cost
-  of_exp n seen e = record {
-    slots = escaping findings.escapes e;
-    temps = drawn_by e;
-    texts = strings e;
-    counts = escaping_inside findings.escapes e;
-    functions = declared n seen e;
-  }
+  of_exp n seen e = costs (escaping findings.escapes e) (drawn_by e) (strings e) (escaping_inside findings.escapes e) (declared n seen e)
 
   abbrev of_place : (n : ℕ) → Levels → source.LValue → Cost
-  of_place n seen v = record {
-    slots = place_escaping findings.escapes v;
-    temps = drawn_by_place v;
-    texts = place_strings v;
-    counts = place_escaping_inside findings.escapes v;
-    functions = declared_place n seen v;
-  }
+  of_place n seen v =
+      costs (place_escaping findings.escapes v) (drawn_by_place v) (place_strings v) (place_escaping_inside findings.escapes v) (declared_place n seen v)
 
   abbrev of_exps : (n : ℕ) → Levels → Exps → Cost
-  of_exps n seen es = record {
-    slots = exps_escaping findings.escapes es;
-    temps = drawn_by_exps es;
-    texts = exps_strings es;
-    counts = exps_escaping_inside findings.escapes es;
-    functions = declared_exps n seen es;
-  }
+  of_exps n seen es =
+      costs (exps_escaping findings.escapes es) (drawn_by_exps es) (exps_strings es) (exps_escaping_inside findings.escapes es) (declared_exps n seen es)
 
   abbrev of_inits : (n : ℕ) → Levels → Inits → Cost
-  of_inits n seen is = record {
-    slots = inits_escaping findings.escapes is;
-    temps = drawn_by_inits is;
-    texts = inits_strings is;
-    counts = inits_escaping_inside findings.escapes is;
-    functions = declared_inits n seen is;
-  }
+  of_inits n seen is =
+      costs (inits_escaping findings.escapes is) (drawn_by_inits is) (inits_strings is) (inits_escaping_inside findings.escapes is) (declared_inits n seen is)
 
   abbrev of_decs : (n : ℕ) → Levels → Decs → Cost
-  of_decs n seen ds = record {
-    slots = decs_escaping findings.escapes ds;
-    temps = drawn_by_decs ds;
-    texts = decs_strings ds;
-    counts = decs_escaping_inside findings.escapes ds;
-    functions = declared_decs n seen ds;
-  }
+  of_decs n seen ds =
+      costs (decs_escaping findings.escapes ds) (drawn_by_decs ds) (decs_strings ds) (decs_escaping_inside findings.escapes ds) (declared_decs n seen ds)
 
   abbrev of_functions : (n : ℕ) → Levels → FunDecs → Cost
   of_functions n seen fs = adds (bodies_strings fs) (functions_escaping findings.escapes fs) (declared_functions n seen fs)
@@ -385,15 +326,14 @@ module _ (findings : Findings) where
     walk_functions (function f params result e rest) label c n seen s l =
         let kept = findings.keeps_link (at_of f) in
         let t : TranslationState = begun findings.escapes label kept (c.level + 1) params s in
-        let drawn = few_drawn e in
         let temps = frame_temps findings.escapes kept params in
-        let few = few_escaping findings.escapes e in
+        let bounds = few findings.escapes e in
         let few_own = few_params findings.escapes params in
         let homes = frame_params findings.escapes kept params in
         both
         (finished s t (params_escaping findings.escapes params) (measures f.span.from (suc n) seen params e) refl refl
         (omega (arith, homes)) refl (frame_slots findings.escapes kept params)
-        (omega (arith, few, few_own)) (omega (arith, drawn, temps))
+        (omega (arith, bounds.1, few_own)) (omega (arith, bounds.0, temps))
         (λ k. body_size findings e (result_want (is_some result)) (is_some result) (inside c kept) t (omega (arith, k, l)))
         (then_draws (walk e (result_want (is_some result)) (inside c kept) (suc n) (own_params (suc n) params seen) t (omega (arith, l))) λ m s h.
         closing_takes (suc n) (is_some result) m s h)) λ _ s _.
@@ -430,7 +370,6 @@ module _ (findings : Findings) where
 
   pub functions_are_within : (e : Exp) → AllZip IsWithin (program_functions e) (translated findings e).functions
   functions_are_within e =
-      let drawn = few_drawn e in
-      let few = few_escaping findings.escapes e in
-      program_within (measures (span_of e).from 0 [] [] e) (program_body findings e start) (omega (arith, few)) (omega (arith, drawn))
+      let bounds = few findings.escapes e in
+      program_within (measures (span_of e).from 0 [] [] e) (program_body findings e start) (omega (arith, bounds.1)) (omega (arith, bounds.0))
       (λ l. body_size findings e want.Dropped false outermost start (omega arith)) (walked e)

@@ -16,7 +16,7 @@ use Rattle.tg_translate.specs.Translate.{program_body, translated}
 use Rattle.tg_shapes.specs.Laws.{names}
 use Rattle.tg_shapes.specs.Standing.{BreaksStand, Reaches}
 use Rattle.tg_shapes.proofs.Fine.{Each, breaks_ts, names_ts, each_contained}
-use Rattle.tg_shapes.proofs.Counts.{times, times-append, times-map, same, same_self, below, below-next, below_yes, below_no, below_one, once_apart, contained_counts, counted_contains}
+use Rattle.tg_shapes.proofs.Counts.{times, times-append, times-map, times-first, same, same_self, below, below-next, below_yes, below_no, below_one, once_apart, contained_counts, counted_contains}
 use Rattle.tg_shapes.proofs.Keeping.{Asks, Where, callee_labels, bind, FineFunction, Knows, Ready, Yields}
 use Rattle.tg_shapes.proofs.Nesting as nesting
 use Rattle.tg_shapes.proofs.Walking.{walked}
@@ -166,37 +166,7 @@ module _ (asks : Asks) (e : Exp) where
         (own : (f : Function Ts) → Contains routines f → (x : Named) → Contains (names f.body) x →
         ((l : ℕ) → x ≢ function l) × ((l : ℕ) → x ≢ literal l) × ((k : ℕ) → x ≡ fault k → k < 1048576)) where
       routine_counts : (n : ℕ) → times (λ f. f.label) n routines ≡ below n 13
-      routine_counts n =
-          let i : times (λ f. f.label) n routines ≡ times (λ l. l) n
-          (0 ∷ 1 ∷ 2 ∷ 3 ∷ 4 ∷ 5 ∷ 6 ∷ 7 ∷ 8 ∷ 9 ∷ 10 ∷ 11 ∷ 12 ∷ []) =
-          sym (times-map (λ f. f.label) routines n) ∙ ap (times (λ l. l) n) labels in
-          let z = below_no n 0 (omega arith) in
-          let a0 : below n 1 ≡ below n 0 + same 0 n = below-next n 0 in
-          let a1 : below n 2 ≡ below n 1 + same 1 n = below-next n 1 in
-          let a2 : below n 3 ≡ below n 2 + same 2 n = below-next n 2 in
-          let a3 : below n 4 ≡ below n 3 + same 3 n = below-next n 3 in
-          let a4 : below n 5 ≡ below n 4 + same 4 n = below-next n 4 in
-          let a5 : below n 6 ≡ below n 5 + same 5 n = below-next n 5 in
-          let a6 : below n 7 ≡ below n 6 + same 6 n = below-next n 6 in
-          let a7 : below n 8 ≡ below n 7 + same 7 n = below-next n 7 in
-          let a8 : below n 9 ≡ below n 8 + same 8 n = below-next n 8 in
-          let a9 : below n 10 ≡ below n 9 + same 9 n = below-next n 9 in
-          let b0 : below n 11 ≡ below n 10 + same 10 n = below-next n 10 in
-          let b1 : below n 12 ≡ below n 11 + same 11 n = below-next n 11 in
-          let b2 : below n 13 ≡ below n 12 + same 12 n = below-next n 12 in
-          i ∙ summed (same 0 n) (same 1 n) (same 2 n) (same 3 n) (same 4 n) (same 5 n) (same 6 n) (same 7 n) (same 8 n)
-          (same 9 n) (same 10 n) (same 11 n) (same 12 n)
-          (below n 0) (below n 1) (below n 2) (below n 3) (below n 4) (below n 5) (below n 6) (below n 7) (below n 8)
-          (below n 9) (below n 10) (below n 11) (below n 12) (below n 13)
-          z a0 a1 a2 a3 a4 a5 a6 a7 a8 a9 b0 b1 b2
-        where
-          summed : (p0 p1 p2 p3 p4 p5 p6 p7 p8 p9 q0 q1 q2 s0 s1 s2 s3 s4 s5 s6 s7 s8 s9 t0 t1 t2 t3 : ℕ) →
-              s0 ≡ 0 → s1 ≡ s0 + p0 → s2 ≡ s1 + p1 → s3 ≡ s2 + p2 → s4 ≡ s3 + p3 → s5 ≡ s4 + p4 → s6 ≡ s5 + p5 → s7 ≡
-              s6 + p6 → s8 ≡ s7 + p7 →
-              s9 ≡ s8 + p8 → t0 ≡ s9 + p9 → t1 ≡ t0 + q0 → t2 ≡ t1 + q1 → t3 ≡ t2 + q2 →
-              p0 + (p1 + (p2 + (p3 + (p4 + (p5 + (p6 + (p7 + (p8 + (p9 + (q0 + (q1 + (q2 + 0)))))))))))) ≡ t3
-          summed p0 p1 p2 p3 p4 p5 p6 p7 p8 p9 q0 q1 q2 s0 s1 s2 s3 s4 s5 s6 s7 s8 s9 t0 t1 t2 t3 a b c d e f g i j k l
-              m n o = omega arith
+      routine_counts n = sym (times-map (λ f. f.label) routines n) ∙ (ap (times (λ l. l) n) labels ∙ times-first n 13)
 
       abbrev whole : Code Ts
       whole = record { functions = code.functions ++ routines; literals = code.literals ++ [] }

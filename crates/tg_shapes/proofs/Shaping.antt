@@ -1,13 +1,14 @@
 -- The laws of the shapes of trees.
 use Rattle.std.proofs.Common.{◌≡◌, ◌≢◌, ◌<◌, ℕ, zero, suc, Bool, true, false, Option, Some, None, List, [], ◌∷◌, ◌++◌, length, map, refl, sym, ap, ◌∙◌, subst, arith, inl, inr, ◌+◌, length-append}
-use Rattle.std.specs.Prelude.{◌&&◌, ◌||◌, nat_lt, nat_eq}
+use Rattle.std.specs.Prelude.{nat_lt, nat_eq}
 use Rattle.std.specs.Int.{to_le_bytes, w32}
 use Rattle.std.specs.List.{Contains, list_all, list_any, flat_map, sum_by}
 use Rattle.std.specs.FinSet.{FinSet, contains, from_list, contains-from_list_nat}
 use Rattle.std.specs.Ordering.{nat_cmp}
-use Rattle.std.proofs.lemmas.List.Elements.{Contains-append_left, Contains-append_right}
+use Rattle.std.proofs.lemmas.List.Elements.{All-contains, Contains-append_left, Contains-append_right}
+use Rattle.std.proofs.lemmas.Bool.{or_left, or_right}
 use Rattle.std.proofs.lemmas.Bool.Decides.{nat_tests}
-use Rattle.std.proofs.lemmas.List.Sums.{sum_by-append}
+use Rattle.std.proofs.lemmas.List.Sums.{AllPass-from_list_all, sum_by-cons}
 use Rattle.tg_syntax.specs.Plain.{plain}
 use Rattle.tg_syntax.specs.Beginnings.{beginnings}
 use Rattle.tg_tree.specs.Tree.{Ts, Function}
@@ -35,19 +36,6 @@ use Rattle.tg_shapes.proofs.Scoping.{named_cases}
 use Rattle.tg_shapes.proofs.Typed.{breaks_stand}
 use Rattle.tg_shapes.proofs.Reaching.{reaches, distinct_of}
 
-both_left : (a b : Bool) → (a && b) ≡ true → a ≡ true
-both_left true b e = refl
-both_left false b e = cc
-
-both_right : (a b : Bool) → (a && b) ≡ true → b ≡ true
-both_right true b e = e
-both_right false b e = cc
-
-passes : (p : Named → Bool) (xs : List Named) → list_all p xs ≡ true → (x : Named) → Contains xs x → p x ≡ true
-passes p [] e x c = absurd (omega (arith, c.1))
-passes p (y ∷ ys) e x (zero, l, i) = subst (λ z. p z ≡ true) i (both_left (p y) (list_all p ys) e)
-passes p (y ∷ ys) e x (suc k, l, i) = passes p ys (both_right (p y) (list_all p ys) e) x (k, omega arith, i)
-
 fault_below : (k : ℕ) → nat_lt k 1048576 ≡ true → k < 1048576
 fault_below k e = grind (arith, nat_tests, e)
 
@@ -65,8 +53,8 @@ routines_own : (fs : List (Function Ts)) → AreRoutines fs → (f : Function Ts
     (names f.body) x → NamesOwn x
 routines_own [] h f c x k = absurd (omega (arith, c.1))
 routines_own (g ∷ gs) h f (zero, l, e) x k =
-    own_is f.temps x (passes (is_own f.temps) (names f.body)
-    (subst (λ j. list_all (is_own j.temps) (names j.body) ≡ true) e h.0.own) x k)
+    let own : list_all (is_own f.temps) (names f.body) ≡ true = subst (λ j. list_all (is_own j.temps) (names j.body) ≡ true) e h.0.own in
+    own_is f.temps x (All-contains (λ y. is_own f.temps y ≡ true) (names f.body) x (AllPass-from_list_all (is_own f.temps) (names f.body) own) k)
 routines_own (g ∷ gs) h f (suc n, l, e) x k = routines_own gs h.1 f (n, omega arith, e) x k
 
 pub programs_are_linked : LabelsInOrder → AllAreRoutines → ProgramsAreLinked
@@ -116,22 +104,13 @@ no_variable x at t loop n (text ∷ names) e =
 
 -- What the uses show is in the set that they make.
 
-either_right : (a b : Bool) → b ≡ true → (a || b) ≡ true
-either_right true b e = refl
-either_right false b e = e
-
 same_number : (x y : ℕ) → x ≡ y → nat_eq x y ≡ true
 same_number x y e = grind (arith, nat_tests)
 
-either_left : (a b : Bool) → a ≡ true → (a || b) ≡ true
-either_left true b e = refl
-either_left false b e = cc
-
 any_is : (xs : List ℕ) (x : ℕ) → Contains xs x → list_any (λ y. nat_eq y x) xs ≡ true
 any_is [] x c = absurd (omega (arith, c.1))
-any_is (y ∷ ys) x (zero, l, e) = either_left (nat_eq y x) (list_any (λ z. nat_eq z x) ys) (same_number y x e)
-any_is (y ∷ ys) x (suc k, l, e) = either_right (nat_eq y x) (list_any (λ z. nat_eq z x) ys)
-    (any_is ys x (k, omega arith, e))
+any_is (y ∷ ys) x (zero, l, e) = or_left (nat_eq y x) (list_any (λ z. nat_eq z x) ys) (same_number y x e)
+any_is (y ∷ ys) x (suc k, l, e) = or_right (nat_eq y x) (list_any (λ z. nat_eq z x) ys) (any_is ys x (k, omega arith, e))
 
 each_shown : (us : List Use) (P : ℕ → Type 0) → ((at : ℕ) → Contains (flat_map escapes_by us) at → P at) →
     Each (λ u. (at : ℕ) → Contains (escapes_by u) at → P at) us
@@ -166,16 +145,12 @@ literals_are_strings findings e = literals_are findings e
 
 -- Bytes of literals.
 
-sum_by-next : {X : Type 0} (f : X → ℕ) (x : X) (xs : List X) → sum_by f (x ∷ xs) ≡ f x + sum_by f xs
-sum_by-next f x xs = let h = sum_by-append f (x ∷ []) xs in omega (arith, h)
+pub sum_by-map : {X Y : Type 0} (f : Y → ℕ) (g : X → Y) (xs : List X) → sum_by f (map g xs) ≡ sum_by (λ x. f (g x)) xs
+sum_by-map f g [] = refl
+sum_by-map f g (x ∷ xs) = sum_by-cons f (g x) (map g xs) ∙ (ap (λ n. f (g x) + n) (sum_by-map f g xs) ∙ sym (sum_by-cons (λ y. f (g y)) x xs))
 
-sum_by-map : {X : Type 0} (f : X → List ℕ) (xs : List X) → sum_by length (map f xs) ≡ sum_by (λ x. length (f x)) xs
-sum_by-map f [] = refl
-sum_by-map f (x ∷ xs) =
-    sum_by-next length (f x) (map f xs)
-    ∙ (ap (λ n. length (f x) + n) (sum_by-map f xs) ∙ sym (sum_by-next (λ y. length (f y)) x xs))
-
-length_text : (bytes : List ℕ) → length (string_text bytes) ≡ 4 + length bytes
+-- a word more than a string
+pub length_text : (bytes : List ℕ) → length (string_text bytes) ≡ 4 + length bytes
 length_text bytes =
     let h : length (to_le_bytes w32 (length bytes)) ≡ 4 = refl in
     let k = length-append (to_le_bytes w32 (length bytes)) bytes in
@@ -185,11 +160,11 @@ sum_of_texts : (xs : List (List ℕ)) → sum_by (λ bytes. length (string_text 
     (λ bytes. 4 + length bytes) xs
 sum_of_texts [] = refl
 sum_of_texts (x ∷ xs) =
-    sum_by-next (λ bytes. length (string_text bytes)) x xs
+    sum_by-cons (λ bytes. length (string_text bytes)) x xs
     ∙ (ap (λ n. n + sum_by (λ bytes. length (string_text bytes)) xs) (length_text x)
-    ∙ (ap (λ n. 4 + length x + n) (sum_of_texts xs) ∙ sym (sum_by-next (λ bytes. 4 + length bytes) x xs)))
+    ∙ (ap (λ n. 4 + length x + n) (sum_of_texts xs) ∙ sym (sum_by-cons (λ bytes. 4 + length bytes) x xs)))
 
 pub literals_are_short : LiteralsAreShort
 literals_are_short findings e =
-    sym (sum_by-map (λ l. l.text) (translated findings e).literals)
-    ∙ (ap (sum_by length) (literals_are findings e) ∙ (sum_by-map string_text (strings e) ∙ sum_of_texts (strings e)))
+    sym (sum_by-map length (λ l. l.text) (translated findings e).literals)
+    ∙ (ap (sum_by length) (literals_are findings e) ∙ (sum_by-map length string_text (strings e) ∙ sum_of_texts (strings e)))

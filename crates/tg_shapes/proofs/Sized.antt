@@ -128,22 +128,20 @@ module _ (n : ℕ) {d : Drawn Made} (h : Gives (Paid n) d) where
 
 -- What is held is kept or a number.
 
-pub record IsHeld (before : Stms) (x : Tx) (h : Held) : Type 0 where
-  pub short : stms_length h.before + 2 * tx_length (operand h.operand) ≤ stms_length before + (tx_length x + 2)
-  pub small : stms_room h.before + tx_room (operand h.operand) ≤ stms_room before + (tx_room x + 1)
-  pub shallow : stms_depth h.before ≤ max (stms_depth before) (tx_depth x + 1)
+abbrev IsHeld : (before : Stms) → Tx → Held → Type 0
+IsHeld before x h =
+    Most (stms_length h.before + 2 * tx_length (operand h.operand)) (stms_room h.before + tx_room (operand h.operand)) (stms_depth h.before)
+    (stms_length before + (tx_length x + 2)) (stms_room before + (tx_room x + 1)) (max (stms_depth before) (tx_depth x + 1))
 
 keep_size : (before : Stms) (x : Tx) (s : TranslationState) → Gives (IsHeld before x) (keep before x s)
 keep_size before x s =
     bind (anything (fresh s)) λ t s u.
     given s (record { before = followed before (Move t x); operand = Kept (record { 0 = t }) })
-    (let h = followed_size before (Move t x) in record { short = omega (arith, h.0); small = omega (arith, h.1); shallow = omega (arith, h.2) })
+    (let h = followed_size before (Move t x) in (omega (arith, h.0), omega (arith, h.1), omega (arith, h.2)))
 
 hold_size : (direct : Bool) (before : Stms) (x : Tx) (s : TranslationState) → Gives (IsHeld before x) (hold direct before x s)
-hold_size direct before (Const k) s = given s (record { before = before; operand = Number k })
-    (record { short = omega arith; small = omega arith; shallow = omega arith })
-hold_size true before (Temp t) s =
-    given s (record { before = before; operand = Kept (record { 0 = t }) }) (record { short = omega arith; small = omega arith; shallow = omega arith })
+hold_size direct before (Const k) s = given s (record { before = before; operand = Number k }) (omega arith, omega arith, omega arith)
+hold_size true before (Temp t) s = given s (record { before = before; operand = Kept (record { 0 = t }) }) (omega arith, omega arith, omega arith)
 hold_size false before (Temp t) s = keep_size before (Temp t) s
 hold_size direct before x s = keep_size before x s
 
@@ -151,11 +149,7 @@ paid_next : (n : ℕ) (direct : Bool) (all : HeldAll) (x : Tx) (s : TranslationS
 paid_next n direct all x s h =
     bind (hold_size direct all.before x s) λ one s k.
     given s (record { before = one.before; operands = all.operands ++ one.operand ∷ [] })
-    (let e = length-append all.operands (one.operand ∷ []) in
-    let i = k.short in
-    let j = k.small in
-    let g = k.shallow in
-    (omega (arith, e, h.0, i), omega (arith, e, h.1, j), omega (arith, h.2, g)))
+    (let e = length-append all.operands (one.operand ∷ []) in (omega (arith, e, h.0, k.0), omega (arith, e, h.1, k.1), omega (arith, h.2, k.2)))
 
 -- What an operator of two values adds to them.
 
@@ -170,13 +164,7 @@ product_added direct x y s =
     (let i = product_size p r.before l.operand r.operand in
     let a = operand_size l.operand in
     let b = operand_size r.operand in
-    let hl = h.short in
-    let hr = h.small in
-    let kl = k.short in
-    let kr = k.small in
-    let hd = h.shallow in
-    let kd = k.shallow in
-    (omega (arith, i.0, hl, kl), omega (arith, i.1, hr, kr, a.1, b.1), omega (arith, i.2, hd, kd)))
+    (omega (arith, i.0, h.0, k.0), omega (arith, i.1, h.1, k.1, a.1, b.1), omega (arith, i.2, h.2, k.2)))
 
 checked_added : (direct : Bool) (x y : Tx) (s : TranslationState) → Gives (Added 56 50 x y) (checked_quotient direct x y s)
 checked_added direct x y s =
@@ -185,13 +173,7 @@ checked_added direct x y s =
     (let i = quotient_size r.before l.operand r.operand in
     let a = operand_size l.operand in
     let b = operand_size r.operand in
-    let hl = h.short in
-    let hr = h.small in
-    let kl = k.short in
-    let kr = k.small in
-    let hd = h.shallow in
-    let kd = k.shallow in
-    (omega (arith, i.0, hl, kl, b.0), omega (arith, i.1, hr, kr, a.1, b.1), omega (arith, i.2, hd, kd)))
+    (omega (arith, i.0, h.0, k.0, b.0), omega (arith, i.1, h.1, k.1, a.1, b.1), omega (arith, i.2, h.2, k.2)))
 
 by_number : (direct : Bool) (x : Tx) (k : ℕ) (b : Bool) (s : TranslationState) →
     Gives (Added 56 50 x (Const k)) ((if b then checked_quotient direct x (Const k) else give (value (tree.Binary bin.Div x (Const k)))) s)
@@ -224,10 +206,7 @@ paid_field n k x s h =
     given s (field_of k r.before (operand r.operand))
     (let j = field_size k r.before r.operand in
     let a = operand_size r.operand in
-    let il = i.short in
-    let ir = i.small in
-    let it = i.shallow in
-    (omega (arith, h.0, j.0, il), omega (arith, h.1, j.1, ir, a.1), omega (arith, h.2, j.2, it)))
+    (omega (arith, h.0, j.0, i.0), omega (arith, h.1, j.1, i.1, a.1), omega (arith, h.2, j.2, i.2)))
 
 paid_element : (n m : ℕ) (direct : Bool) (x y : Tx) (s : TranslationState) → PaidRead n x → PaidTx m y →
     Gives (PaidPlace (1 + n + m)) (element_place direct x y s)
@@ -237,13 +216,7 @@ paid_element n m direct x y s h k =
     (let e = element_size b.before a.operand b.operand in
     let p = operand_size a.operand in
     let q = operand_size b.operand in
-    let il = i.short in
-    let ir = i.small in
-    let jl = j.short in
-    let jr = j.small in
-    let it = i.shallow in
-    let jt = j.shallow in
-    (omega (arith, h.0, k.0, e.0, il, jl), omega (arith, h.1, k.1, e.1, ir, jr, p.1, q.1), omega (arith, h.2, k.2, e.2, it, jt)))
+    (omega (arith, h.0, k.0, e.0, i.0, j.0), omega (arith, h.1, k.1, e.1, i.1, j.1, p.1, q.1), omega (arith, h.2, k.2, e.2, i.2, j.2)))
 
 assign_size : (p : Storage) (m : Made) (s : TranslationState) →
     Gives (λ x. Most (ts_length x) (ts_room x) (ts_depth x) (place_length p + (made_length m + 3)) (place_room p + made_room m)
@@ -267,21 +240,13 @@ beside_size : (before : Stms) (x : Tx) (o : Bin) (k : ℕ) (s : TranslationState
 beside_size before x o k s =
     bind (hold_size true before x s) λ h s i.
     given s (record { before = h.before; address = Beside h.operand o k })
-    (let p = operand_size h.operand in
-    let a = i.short in
-    let b = i.small in
-    let c = i.shallow in
-    (omega (arith, a), omega (arith, b), omega (arith, c, p.2)))
+    (let p = operand_size h.operand in (omega (arith, i.0), omega (arith, i.1), omega (arith, i.2, p.2)))
 
 at_size : (before : Stms) (x : Tx) (s : TranslationState) → Gives (HeldAs before x) (hold_base before x (λ p. At p) s)
 at_size before x s =
     bind (hold_size true before x s) λ h s i.
     given s (record { before = h.before; address = At h.operand })
-    (let p = operand_size h.operand in
-    let a = i.short in
-    let b = i.small in
-    let c = i.shallow in
-    (omega (arith, a), omega (arith, b), omega (arith, c, p.2)))
+    (let p = operand_size h.operand in (omega (arith, i.0), omega (arith, i.1), omega (arith, i.2, p.2)))
 
 hold_address_size : (before : Stms) (x : Tx) (s : TranslationState) → Gives (HeldAs before x) (hold_address before x s)
 hold_address_size before (tree.Binary o FrameAddress (Const k)) s =
@@ -423,13 +388,7 @@ paid_count n m k home x y turn s h i j =
     (let e = count_size r.before home l.operand r.operand turn in
     let p = operand_size l.operand in
     let q = operand_size r.operand in
-    let al = a.short in
-    let ar = a.small in
-    let bl = b.short in
-    let br = b.small in
-    let at = a.shallow in
-    let bt = b.shallow in
-    (omega (arith, h.0, i.0, j.0, e.0, al, bl, p.0), omega (arith, h.1, i.1, j.1, e.1, ar, br, p.1, q.1), omega (arith, h.2, i.2, j.2, e.2, at, bt)))
+    (omega (arith, h.0, i.0, j.0, e.0, a.0, b.0, p.0), omega (arith, h.1, i.1, j.1, e.1, a.1, b.1, p.1, q.1), omega (arith, h.2, i.2, j.2, e.2, a.2, b.2)))
 
 module _ (findings : Findings) where
   mutual

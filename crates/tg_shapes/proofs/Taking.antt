@@ -31,12 +31,15 @@ and m k = record {
   functions = m.functions ++ k.functions;
 }
 
+abbrev pub costs : (slots temps : ℕ) → List (List ℕ) → List ℕ → List Measures → Cost
+costs slots temps texts counts functions = record { slots = slots; temps = temps; texts = texts; counts = counts; functions = functions }
+
 -- of what draws temporaries alone, and of declarations of functions
 abbrev pub draws : ℕ → Cost
-draws n = record { slots = 0; temps = n; texts = []; counts = []; functions = [] }
+draws n = costs 0 n [] [] []
 
 abbrev pub adds : List (List ℕ) → List ℕ → List Measures → Cost
-adds texts counts functions = record { slots = 0; temps = 0; texts = texts; counts = counts; functions = functions }
+adds texts counts functions = costs 0 0 texts counts functions
 
 abbrev pub texts : TranslationState → List (List ℕ)
 texts s = map (λ l. l.text) s.literals

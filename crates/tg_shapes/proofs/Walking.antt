@@ -6,7 +6,7 @@ use Rattle.tg_syntax.specs.declared.trees.Op.TheVariants.{And, Or}
 use Rattle.tg_syntax.specs.Tree as source
 use Rattle.tg_syntax.specs.Tree.{Exp, Nil, Break, Int, Text, Read, Call, Neg, Binary, Make, Fill, Assign, If, When, While, For, Let, Seq, Simple, Field, Index, Exps, no_exps, exp, Inits, no_inits, init, Decs, no_decs, types, variable, functions, FunDecs, no_functions, function}
 use Rattle.tg_tree.specs.Tree as tree
-use Rattle.tg_tree.specs.Tree.{Tx, Const, Txs, no_txs, tx, Cond, Ts, Stms, no_stms}
+use Rattle.tg_tree.specs.Tree.{Tx, Const, Txs, no_txs, tx, Cond, Stms, no_stms}
 use Rattle.tg_tree.specs.Forms.{nothing}
 use Rattle.tg_tree.specs.Lists.{join_txs}
 use Rattle.tg_types.specs.declared.notes.Means.{Means}
@@ -34,35 +34,11 @@ use Rattle.tg_shapes.proofs.Nesting as nesting
 use Rattle.tg_shapes.proofs.Nesting.{nested}
 
 module _ (asks : Asks) where
-  abbrev IsMade : Where → TranslationState → Made → Type 0
-  IsMade c t m = GoodMade asks c.loops t m
-
-  abbrev IsValue : Where → TranslationState → Tx → Type 0
-  IsValue c t x = GoodTx asks c.loops t x
-
-  abbrev AreValues : Where → TranslationState → Txs → Type 0
-  AreValues c t xs = GoodTxs asks c.loops t xs
-
-  abbrev IsCondition : Where → TranslationState → Cond → Type 0
-  IsCondition c t d = GoodCond asks c.loops t d
-
-  abbrev IsStatement : Where → TranslationState → Ts → Type 0
-  IsStatement c t x = GoodTs asks c.loops t x
-
-  abbrev AreStatements : Where → TranslationState → Stms → Type 0
-  AreStatements c t ss = GoodStms asks c.loops t ss
-
-  abbrev IsPlace : Where → TranslationState → Storage → Type 0
-  IsPlace c t p = GoodPlace asks c.loops t p
-
-  abbrev IsHeld : Where → TranslationState → HeldAll → Type 0
-  IsHeld c t all = GoodHeld asks c.loops t all
-
   abbrev IsBegun : Where → TranslationState → Begun → Type 0
-  IsBegun c t b = AreStatements c t b.before × IsMade c t b.last
+  IsBegun c t b = GoodStms asks c.loops t b.before × GoodMade asks c.loops t b.last
 
   abbrev DeclaredIn : Where → List ℕ → TranslationState → Stms → Type 0
-  DeclaredIn c own t ss = AreStatements c t ss × Ready asks (with_own own c) t
+  DeclaredIn c own t ss = GoodStms asks c.loops t ss × Ready asks (with_own own c) t
 
   -- Connectives and operators, where the right side is translated to what is fine.
 
@@ -87,12 +63,12 @@ module _ (asks : Asks) where
   )
 
   abbrev RightYields : Where → TranslationState → (Want → Acts Made) → Type 0
-  RightYields c s right = (t : TranslationState) (w : Want) → Step asks c.kept s t → Ready asks c t → GoodWant asks t w → Yields asks c t (IsMade c)
-      (right w t)
+  RightYields c s right =
+      (t : TranslationState) (w : Want) → Step asks c.kept s t → Ready asks c t → GoodWant asks t w → Yields asks c t (GoodMade asks c.loops) (right w t)
 
   module _ (c : Where) (s : TranslationState) (right : Want → Acts Made) (then_right : RightYields c s right) where
-    into_arms : (o : Op) (w : Want) (d : Cond) → Ready asks c s → GoodWant asks s w → IsCondition c s d →
-        Yields asks c s (IsMade c) (after (arms w s) (λ a t. after (right a t) (λ m. give (deliver w a (chosen o a d m)))))
+    into_arms : (o : Op) (w : Want) (d : Cond) → Ready asks c s → GoodWant asks s w → GoodCond asks c.loops s d →
+        Yields asks c s (GoodMade asks c.loops) (after (arms w s) (λ a t. after (right a t) (λ m. give (deliver w a (chosen o a d m)))))
     into_arms o w d r g h =
         bind (wanting.arms_yield w r g)
         (λ a t st rt ga.
@@ -105,8 +81,8 @@ module _ (asks : Asks) where
         (wanting.deliver_good asks c.loops u w a (chosen o a d m) gu
         (chosen_good o c.loops u a d m gu hu k))))
 
-    connective_yields : (o : Op) (w : Want) (d : Cond) → Ready asks c s → GoodWant asks s w → IsCondition c s d → Yields asks c s
-        (IsMade c) (connective o w d right s)
+    connective_yields : (o : Op) (w : Want) (d : Cond) → Ready asks c s → GoodWant asks s w → GoodCond asks c.loops s d → Yields asks c s
+        (GoodMade asks c.loops) (connective o w d right s)
     connective_yields o want.Test d r g h =
         bind (then_right s want.Test stay r tt)
         (λ m t st rt k. given (tested o d m) rt
@@ -116,8 +92,8 @@ module _ (asks : Asks) where
     connective_yields o (want.Into i) d r g h = into_arms o (want.Into i) d r g h
     connective_yields o want.Dropped d r g h = into_arms o want.Dropped d r g h
 
-    operator_yields : (o : Op) (strings direct : Bool) (left : Made) → Ready asks c s → IsMade c s left →
-        Yields asks c s (IsMade c) (after (value_of left s) (λ x t. after (after (right want.Value t) value_of)
+    operator_yields : (o : Op) (strings direct : Bool) (left : Made) → Ready asks c s → GoodMade asks c.loops s left →
+        Yields asks c s (GoodMade asks c.loops) (after (value_of left s) (λ x t. after (after (right want.Value t) value_of)
         (λ y. operation o strings direct x y)))
     operator_yields o strings direct left r h =
         bind (wanting.value_yields left r h)
@@ -127,8 +103,8 @@ module _ (asks : Asks) where
         (tx_on su c.loops x k) j))
 
     left_yields : (o : Op) (meaning : Option Means) (direct : Bool) (w : Want) (left : Made) → Ready asks c s → GoodWant asks s
-        w → IsMade c s left →
-        Yields asks c s (IsMade c) (with_left o meaning direct w left right s)
+        w → GoodMade asks c.loops s left →
+        Yields asks c s (GoodMade asks c.loops) (with_left o meaning direct w left right s)
     left_yields And meaning direct w left r g h = connective_yields And w (test_of left) r g
         (wanting.test_good asks c.loops s left h)
     left_yields Or meaning direct w left r g h = connective_yields Or w (test_of left) r g
@@ -136,8 +112,8 @@ module _ (asks : Asks) where
     left_yields o meaning direct w left r g h = operator_yields o (compares_strings meaning) direct left r h
 
   module _ (c : Where) (s : TranslationState) (this other : Want → Acts Made) (then_this : RightYields c s this) (then_other : RightYields c s other) where
-    chosen_yields : (w : Want) (d : Cond) → Ready asks c s → GoodWant asks s w → IsCondition c s d →
-        Yields asks c s (IsMade c) (chosen_arm w d this other s)
+    chosen_yields : (w : Want) (d : Cond) → Ready asks c s → GoodWant asks s w → GoodCond asks c.loops s d →
+        Yields asks c s (GoodMade asks c.loops) (chosen_arm w d this other s)
     chosen_yields w d r g h =
         bind (wanting.arms_yield w r g)
         (λ v t st rt gv.
@@ -154,17 +130,17 @@ module _ (asks : Asks) where
           i,
         )))))
 
-    choice_yields : (conjunction : Bool) (w : Want) (d : Cond) → Ready asks c s → GoodWant asks s w → IsCondition c s d →
-        Yields asks c s (IsMade c) (choice conjunction w d this other s)
+    choice_yields : (conjunction : Bool) (w : Want) (d : Cond) → Ready asks c s → GoodWant asks s w → GoodCond asks c.loops s d →
+        Yields asks c s (GoodMade asks c.loops) (choice conjunction w d this other s)
     choice_yields true w d r g h = connective_yields c s this then_this And w d r g h
     choice_yields false w d r g h = chosen_yields w d r g h
 
   -- an assignment, where its value is translated to what is fine, also behind a read that is fine
   assignment_yields : (c : Where) (s : TranslationState) (reads_first : Bool) (p : Storage) (e : Want → Acts Made) (behind : Tx → Want → Acts Made) →
-      Ready asks c s → IsPlace c s p → RightYields c s e →
-      ((t : TranslationState) (x : Tx) (w : Want) → Ready asks c t → Step asks c.kept s t → IsValue c t x → GoodWant asks t w →
-      Yields asks c t (IsMade c) (behind x w t)) →
-      Yields asks c s (IsStatement c) (assignment reads_first p e behind s)
+      Ready asks c s → GoodPlace asks c.loops s p → RightYields c s e →
+      ((t : TranslationState) (x : Tx) (w : Want) → Ready asks c t → Step asks c.kept s t → GoodTx asks c.loops t x → GoodWant asks t w →
+      Yields asks c t (GoodMade asks c.loops) (behind x w t)) →
+      Yields asks c s (GoodTs asks c.loops) (assignment reads_first p e behind s)
   assignment_yields c s true p e behind r h then_e then_behind =
       bind (constructing.hold_place_yields p r h)
       (λ held t st rt k.
@@ -186,8 +162,8 @@ module _ (asks : Asks) where
   -- a declaration, where its value is translated to what is fine
   declaration_yields : (c : Where) (s : TranslationState) (at : ℕ) (e : Want → Acts Made) → Ready asks c s →
       (asks.temps → AreApart (at ∷ []) c.kept) →
-      ((t : TranslationState) (w : Want) → Ready asks (owning at c) t → GoodWant asks t w → Yields asks (owning at c) t (IsMade c) (e w t)) →
-      Yields asks c s (λ t x. IsStatement c t x × Ready asks (owning at c) t)
+      ((t : TranslationState) (w : Want) → Ready asks (owning at c) t → GoodWant asks t w → Yields asks (owning at c) t (GoodMade asks c.loops) (e w t)) →
+      Yields asks c s (λ t x. GoodTs asks c.loops t x × Ready asks (owning at c) t)
       (declaration_of asks.findings.escapes c.within.level at e s)
   declaration_yields c s at e r apart more =
       bind (declaring.declare_yields asks c s at r apart)
@@ -200,15 +176,15 @@ module _ (asks : Asks) where
       (place_on su c.loops (own_place home) p) k)))
 
   abbrev Walks : Where → TranslationState → (Want → Acts Made) → Type 0
-  Walks c s e = (w : Want) → Ready asks c s → GoodWant asks s w → Yields asks c s (IsMade c) (e w s)
+  Walks c s e = (w : Want) → Ready asks c s → GoodWant asks s w → Yields asks c s (GoodMade asks c.loops) (e w s)
 
-  of_value : (e : Exp) (c : Where) (s : TranslationState) → Yields asks c s (IsMade c) (expression asks.findings e want.Value c.within s) →
-      Yields asks c s (IsValue c) (after (expression asks.findings e want.Value c.within s) value_of)
+  of_value : (e : Exp) (c : Where) (s : TranslationState) → Yields asks c s (GoodMade asks c.loops) (expression asks.findings e want.Value c.within s) →
+      Yields asks c s (GoodTx asks c.loops) (after (expression asks.findings e want.Value c.within s) value_of)
   of_value e c s h = wanting.value_from_yields h
 
-  of_statement : (e : Exp) (c : Where) (s : TranslationState) → Yields asks c s (IsMade c)
+  of_statement : (e : Exp) (c : Where) (s : TranslationState) → Yields asks c s (GoodMade asks c.loops)
       (expression asks.findings e want.Dropped c.within s) →
-      Yields asks c s (IsStatement c) (after (expression asks.findings e want.Dropped c.within s) (λ m. give (dropped m)))
+      Yields asks c s (GoodTs asks c.loops) (after (expression asks.findings e want.Dropped c.within s) (λ m. give (dropped m)))
   of_statement e c s h = wanting.statement_from_yields h
 
   mutual
@@ -322,7 +298,7 @@ module _ (asks : Asks) where
 
     walk_behind : (e : Exp) (x : Tx) (c : Where) (s : TranslationState) → (asks.breaks → BreaksStand c.in_loop e) →
         (asks.temps → Reaches asks.findings c.own c.kept e) →
-        (w : Want) → Ready asks c s → GoodWant asks s w → IsValue c s x → Yields asks c s (IsMade c)
+        (w : Want) → Ready asks c s → GoodWant asks s w → GoodTx asks c.loops s x → Yields asks c s (GoodMade asks c.loops)
         (behind_read asks.findings e x w c.within s)
     walk_behind (Binary _ o at a y) x c s b q w r g h =
         bind (walk_behind a x c s (λ a. (b a).0) (λ a. (q a).0) (left_want o) r (left_want_good s o) h)
@@ -335,7 +311,7 @@ module _ (asks : Asks) where
 
     walk_place : (v : source.LValue) (c : Where) (s : TranslationState) → (asks.breaks → BreaksStandPlace c.in_loop v) →
         (asks.temps → ReachesPlace asks.findings c.own c.kept v) → Ready asks c s →
-        Yields asks c s (IsPlace c) (locate asks.findings v c.within s)
+        Yields asks c s (GoodPlace asks c.loops) (locate asks.findings v c.within s)
     walk_place (Simple x) c s b q r = scoping.variable_yields asks c s (asks.findings.meaning (at_of x)) r q
     walk_place (Field v f) c s b q r =
         bind (walk_place v c s b q r)
@@ -352,7 +328,7 @@ module _ (asks : Asks) where
 
     walk_values : (es : Exps) (before : Txs) (c : Where) (s : TranslationState) → (asks.breaks → BreaksStandExps c.in_loop es) →
         (asks.temps → ReachesExps asks.findings c.own c.kept es) →
-        Ready asks c s → AreValues c s before → Yields asks c s (AreValues c) (values asks.findings es before c.within s)
+        Ready asks c s → GoodTxs asks c.loops s before → Yields asks c s (GoodTxs asks c.loops) (values asks.findings es before c.within s)
     walk_values no_exps before c s b q r h = given before r h
     walk_values (exp e rest) before c s b q r h =
         bind (of_value e c s (walk e c s (λ a. (b a).0) (λ a. (q a).0) want.Value r tt))
@@ -362,7 +338,7 @@ module _ (asks : Asks) where
 
     walk_fields : (is : Inits) (direct : Bool) (before : HeldAll) (c : Where) (s : TranslationState) →
         (asks.breaks → BreaksStandInits c.in_loop is) →
-        (asks.temps → ReachesInits asks.findings c.own c.kept is) → Ready asks c s → IsHeld c s before → Yields asks c s (IsHeld c)
+        (asks.temps → ReachesInits asks.findings c.own c.kept is) → Ready asks c s → GoodHeld asks c.loops s before → Yields asks c s (GoodHeld asks c.loops)
         (fields asks.findings is direct before c.within s)
     walk_fields no_inits direct before c s b q r h = given before r h
     walk_fields (init _ e rest) direct before c s b q r h =
@@ -374,7 +350,7 @@ module _ (asks : Asks) where
 
     walk_sequence : (es : Exps) (w : Want) (before : Stms) (c : Where) (s : TranslationState) →
         (asks.breaks → BreaksStandExps c.in_loop es) →
-        (asks.temps → ReachesExps asks.findings c.own c.kept es) → Ready asks c s → GoodWant asks s w → AreStatements c s before →
+        (asks.temps → ReachesExps asks.findings c.own c.kept es) → Ready asks c s → GoodWant asks s w → GoodStms asks c.loops s before →
         Yields asks c s (IsBegun c) (sequence asks.findings es w before c.within s)
     walk_sequence no_exps w before c s b q r g h =
         given (record { before = before; last = value (Const 0) }) r
@@ -392,7 +368,7 @@ module _ (asks : Asks) where
 
     walk_decs : (ds : Decs) (before : Stms) (c : Where) (s : TranslationState) → (asks.breaks → BreaksStandDecs c.in_loop ds) →
         (asks.temps → ReachesDecs asks.findings c.own c.kept ds) →
-        Ready asks c s → AreStatements c s before → Yields asks c s (DeclaredIn c (owned_by ds c.own))
+        Ready asks c s → GoodStms asks c.loops s before → Yields asks c s (DeclaredIn c (owned_by ds c.own))
         (declarations asks.findings ds before c.within s)
     walk_decs no_decs before c s b q r h = given before r (h, r)
     walk_decs (types _ rest) before c s b q r h = walk_decs rest before c s b q r h
@@ -431,5 +407,5 @@ module _ (asks : Asks) where
 
   pub walked : (e : Exp) (c : Where) (s : TranslationState) (w : Want) → (asks.breaks → BreaksStand c.in_loop e) →
       (asks.temps → Reaches asks.findings c.own c.kept e) →
-      Ready asks c s → GoodWant asks s w → Yields asks c s (IsMade c) (expression asks.findings e w c.within s)
+      Ready asks c s → GoodWant asks s w → Yields asks c s (GoodMade asks c.loops) (expression asks.findings e w c.within s)
   walked e c s w b q r g = walk e c s b q w r g

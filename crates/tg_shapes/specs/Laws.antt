@@ -8,7 +8,7 @@ use Rattle.tg_syntax.specs.Plain.{plain}
 use Rattle.tg_syntax.specs.Functions.{Measures, program_functions}
 use Rattle.tg_escape.specs.Escaping.{escapes_of}
 use Rattle.tg_types.specs.Programs.{CheckedProgram, IsAccepted}
-use Rattle.tg_tree.specs.Tree.{Ts, Function, Code}
+use Rattle.tg_tree.specs.Tree.{Ts, Function}
 use Rattle.tg_tree.specs.Shapes.{IsClosed}
 use Rattle.tg_tree.specs.Sizes.{tree_length, tree_room}
 use Rattle.tg_tree.specs.Named.{
@@ -19,7 +19,6 @@ use Rattle.tg_tree.specs.Named.{
   HasItsTemps,
   IsLinked,
 }
-use Rattle.tg_runtime.specs.Routines.{runtime}
 use Rattle.tg_translate.specs.Constructs.{string_text}
 use Rattle.tg_translate.specs.Scopes.{Findings, found}
 use Rattle.tg_translate.specs.Translate.{translated}
@@ -28,17 +27,11 @@ use Rattle.tg_shapes.specs.Strings.{strings}
 use Rattle.tg_shapes.specs.Accesses.{AccessesWithin}
 use Rattle.tg_shapes.specs.Depths.{ts_depth}
 use Rattle.tg_shapes.specs.Escaped.{program_escaping}
+use Rattle.tg_shapes.specs.Programs.{with_runtime}
 
 -- what a body names
 abbrev pub names : Ts → List Named
 names body = named_ts body []
-
--- the functions and literals of a program, and behind them the runtime's
-abbrev pub with_runtime : Code Ts → Code Ts
-with_runtime program = record {
-  functions = program.functions ++ runtime.functions;
-  literals = program.literals ++ runtime.literals;
-}
 
 -- Labels, for any program and whatever was found of it.
 abbrev pub ProgramsAreLinked : Type 0

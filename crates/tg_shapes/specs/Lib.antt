@@ -3,4 +3,5 @@ pub mod Strings
 pub mod Escaped
 pub mod Accesses
 pub mod Depths
+pub mod Programs
 pub mod Laws

@@ -18,7 +18,7 @@ use Rattle.tg_syntax.proofs.Numerals.{bytes_of_digits, digits_of_bytes}
 use Rattle.tg_translate.specs.Scopes.{Findings}
 use Rattle.tg_translate.specs.Translate.{translated}
 use Rattle.tg_shapes.specs.Strings.{strings}
-use Rattle.tg_shapes.specs.Laws.{with_runtime}
+use Rattle.tg_shapes.specs.Programs.{with_runtime}
 use Rattle.tg_texts.specs.TokenStrings.{spaced_length}
 use Rattle.tg_texts.specs.Laws.{IsTextOf, statics_length}
 

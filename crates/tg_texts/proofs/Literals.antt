@@ -1,6 +1,5 @@
 -- How much of a text the literals of its program take.
-use Rattle.std.proofs.Common.{ℕ, ◌+◌, ◌-◌, ◌*◌, ◌%◌, ◌≡◌, ◌≤◌, List, [], ◌∷◌, length, map, refl, sym, ap, ◌∙◌, arith, length-append, append-nil}
-use Rattle.std.specs.Int.{to_le_bytes, w32}
+use Rattle.std.proofs.Common.{ℕ, ◌+◌, ◌-◌, ◌*◌, ◌%◌, ◌≡◌, ◌≤◌, List, [], ◌∷◌, length, sym, ap, ◌∙◌, arith, length-append, append-nil}
 use Rattle.std.specs.List.{sum_by}
 use Rattle.std.proofs.lemmas.List.{length-map, length-replicate}
 use Rattle.std.proofs.lemmas.List.Sums.{sum_by-cons}
@@ -11,22 +10,12 @@ use Rattle.tg_translate.specs.Scopes.{Findings}
 use Rattle.tg_translate.specs.Translate.{translated}
 use Rattle.tg_shapes.specs.Strings.{strings}
 use Rattle.tg_shapes.specs.Laws.{LiteralsAreStrings, LiteralsAreShort}
+use Rattle.tg_shapes.proofs.Shaping.{sum_by-map, length_text}
 use Rattle.tg_texts.specs.TokenStrings.{spaced_length}
 use Rattle.tg_texts.specs.Laws.{LiteralsAreFew, LiteralsFitText, StaticsFitText, StaticsFitSegment, statics_length}
 use Rattle.tg_texts.proofs.Fitting.{each_more, strings_fit}
 
--- sums of what is made of each, and sums that are bounded term by term
-sum_by-map : {X Y : Type 0} (f : Y → ℕ) (g : X → Y) (xs : List X) → sum_by f (map g xs) ≡ sum_by (λ x. f (g x)) xs
-sum_by-map f g [] = refl
-sum_by-map f g (x ∷ xs) = sum_by-cons f (g x) (map g xs) ∙ (ap (λ n. f (g x) + n) (sum_by-map f g xs) ∙ sym (sum_by-cons (λ y. f (g y)) x xs))
-
--- a word more than a string, and zeros up to a multiple of four bytes
-length_text : (bytes : List ℕ) → length (string_text bytes) ≡ 4 + length bytes
-length_text bytes =
-    let h : length (to_le_bytes w32 (length bytes)) ≡ 4 = refl in
-    let k = length-append (to_le_bytes w32 (length bytes)) bytes in
-    omega (arith, h, k)
-
+-- zeros up to a multiple of four bytes
 length_padded : (bytes : List ℕ) → length (padded bytes) ≡ length bytes + (4 - length bytes % 4) % 4
 length_padded bytes = length-append bytes _ ∙ ap (λ n. length bytes + n) (length-replicate ((4 - length bytes % 4) % 4) 0)
 

@@ -10,7 +10,7 @@ use Rattle.tg_tree.specs.Tree.{Literal}
 use Rattle.tg_translate.specs.Scopes.{Findings}
 use Rattle.tg_translate.specs.Translate.{translated}
 use Rattle.tg_shapes.specs.Strings.{strings}
-use Rattle.tg_shapes.specs.Laws.{with_runtime}
+use Rattle.tg_shapes.specs.Programs.{with_runtime}
 use Rattle.tg_texts.specs.TokenStrings.{strings_of, spaced_length}
 
 -- the text is tokens, and they are this program

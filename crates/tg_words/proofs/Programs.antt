@@ -1,17 +1,15 @@
 -- The code of a program, with the runtime's, fits its segment, and each frame is small.
-use Rattle.std.proofs.Common.{ℕ, ◌+◌, ◌*◌, ◌≡◌, ◌≤◌, ◌<◌, ◌^◌, List, [], ◌∷◌, ◌++◌, length, sum_by, Bool, true, false, Option, Some, None, refl, subst, arith}
-use Rattle.std.specs.Prelude.{IsTrue, nat_lt, if◌then◌else◌}
+use Rattle.std.proofs.Common.{ℕ, ◌+◌, ◌*◌, ◌≡◌, ◌≤◌, ◌<◌, ◌^◌, List, [], ◌∷◌, ◌++◌, length, sum_by, Bool, None, refl, subst, arith}
+use Rattle.std.specs.Prelude.{IsTrue}
 use Rattle.std.specs.List.{AllZip, AllByRecursion, Contains, list_all}
 use Rattle.std.specs.Ordering.{nat_cmp}
 use Rattle.std.specs.FinSet.{FinSet, from_list}
 use Rattle.std.proofs.lemmas.Bool.{lt-ltb, ltb-true}
-use Rattle.std.proofs.lemmas.Bool.Decides.{nat_tests}
 use Rattle.std.proofs.lemmas.List.Elements.{All-weaker, All-contains_itself, recursion_from_All}
 use Rattle.std.proofs.lemmas.List.Sums.{sum_by-cons}
 use Rattle.tg_syntax.specs.Plain.{plain}
 use Rattle.tg_syntax.specs.Spans.{span_of}
 use Rattle.tg_syntax.specs.Functions.{Measures, program_functions, program_size}
-use Rattle.tg_types.specs.declared.faults.TypeRule.{TypeRule}
 use Rattle.tg_types.specs.declared.faults.TypeRule.TheVariants.{T20, T21, T22}
 use Rattle.tg_types.specs.Laws.{CheckedHasType}
 use Rattle.tg_types.specs.Limits.{above, first_above}
@@ -25,6 +23,7 @@ use Rattle.tg_runtime.specs.Routines.{runtime}
 use Rattle.tg_runtime.specs.Laws.{AreRoutines, AllAreRoutines, is_own, most_length}
 use Rattle.tg_translate.specs.Translate.{translated}
 use Rattle.tg_shapes.specs.Laws.{names, findings_in, IsWithin, FunctionsAreWithin, CheckedBodiesAreClosed, CheckedTemporariesAreDrawn, CheckedFramesAreSmall}
+use Rattle.tg_shapes.proofs.Bounding.{within_limit}
 use Rattle.tg_carried.specs.Flattened.{MayBeFlattened}
 use Rattle.tg_instr.specs.declared.codes.Allocated.{Allocated}
 use Rattle.tg_instr.proofs.Tests.{all_at, both_hold}
@@ -69,17 +68,6 @@ each_bounded fs h = recursion_from_All IsBounded fs (All-weaker (Contains fs) Is
 both_bounded : (fs rs : List (Function Ts)) → AllByRecursion IsBounded fs → AllByRecursion IsBounded rs → AllByRecursion IsBounded (fs ++ rs)
 both_bounded [] rs h k = k
 both_bounded (f ∷ fs) rs h k = (h.0, both_bounded fs rs h.1 k)
-
--- Limits.
-
-not_above : (b : Bool) (number limit : ℕ) (f : TypeRule × ℕ) (otherwise : Option (TypeRule × ℕ)) → nat_lt limit number ≡ b →
-    (if b then Some f else otherwise) ≡ None → (number ≤ limit) × (otherwise ≡ None)
-not_above true number limit f otherwise e h = cc
-not_above false number limit f otherwise e h = (grind (arith, nat_tests, e), h)
-
-within_limit : (rule : TypeRule) (at number limit : ℕ) (otherwise : Option (TypeRule × ℕ)) →
-    above rule at number limit otherwise ≡ None → (number ≤ limit) × (otherwise ≡ None)
-within_limit rule at number limit otherwise h = not_above (nat_lt limit number) number limit (rule, at) otherwise refl h
 
 module _ (rule : Rule) where
   -- Frames.

@@ -22,8 +22,8 @@ use Rattle.tg_shapes.specs.Laws.{
   function_length,
   function_room,
   findings_in,
-  with_runtime,
 }
+use Rattle.tg_shapes.specs.Programs.{with_runtime}
 use Rattle.tg_carried.specs.Flattened.{MayBeFlattened}
 use Rattle.tg_carried.specs.Laws.{added_length, added_room}
 use Rattle.tg_instr.specs.declared.codes.Allocated.{Allocated}
