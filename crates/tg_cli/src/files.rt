@@ -4,39 +4,16 @@ ghost use Rattle.tg_base.specs.Causes.{Rose};
 ghost use Rattle.tg_base.specs.Counts.{counted};
 ghost use Rattle.tg_base.specs.Files.{IsFrontOf};
 
+use crate::counted::Counted;
 use std::alloc::Global;
 use std::fs;
 use std::io::Read;
-use std::marker::Model;
 use std::rt::Files;
 use tg_base::{Shelf, ShelfFault};
 
-/// The files of the system, which contracts see as the count of faults, for every name that of all.
-///
-/// Each error in opening or reading a file is a fault.
-#[derive(Drop)]
-pub struct FileShelf<'a, R: Files> {
-    rt: &'a R,
-    faults: u64,
-}
-
-impl<'a, R: Files> Model for FileShelf<'a, R> {
-    ghost use Rattle.std.specs.Prelude.{ℕ};
-
-    ghost Value = { ℕ };
-
-    ghost view = { λ s. s.faults };
-}
-
-impl<'a, R: Files> FileShelf<'a, R> {
-    pub fn new(rt: &'a R) -> FileShelf<'a, R>
-        ensures { result ≡ 0 }
-    {
-        FileShelf { rt, faults: 0 }
-    }
-}
-
-impl<'a, R: Files> Shelf for FileShelf<'a, R>
+/// The files of the system are a shelf, whose count of faults is for every name that of all. Each
+/// error in opening or reading a file is a fault.
+impl<'a, R: Files> Shelf for Counted<&'a R>
 where
     R::File: Read + Drop,
 {
@@ -52,7 +29,7 @@ where
         ensures failed { result ≡ Err ShelfFault.Failed → self.new ≡ counted self.old }
         ensures unfailed { result ≢ Err ShelfFault.Failed → self.new ≡ self.old }
     {
-        let front = match fs::open(self.rt, name) {
+        let front = match fs::open(self.part, name) {
             Ok(mut file) => read_front(alloc, &mut file, most),
             Err(_) => Err(ShelfFault::Failed),
         };
@@ -96,7 +73,7 @@ mod tests {
         let id = process::id(rt.process());
         let name = format!(in alloc; "/tmp/tiger_shelf_{id}")?;
         fs::write(&rt, name.as_str(), b"exit(3)".as_slice())?;
-        let mut shelf = FileShelf::new(&rt);
+        let mut shelf = Counted::new(&rt);
         let Ok(front) = shelf.read_file(alloc, &name, 4) else {
             return Err(Fail::from("the front of a file"));
         };

@@ -8,19 +8,18 @@ ghost use Rattle.std.specs.IoError.{error_kind};
 ghost use Rattle.std.specs.Io.KnownBytes.{Appends};
 ghost use Rattle.tg_cli.specs.Ends.{EndsWith, IsStatus};
 
+mod counted;
 mod files;
 mod readers;
 mod writers;
 
-use files::FileShelf;
-use readers::ReaderSource;
+use counted::Counted;
 use std::env;
 use std::io::{self, ErrorKind};
 use std::process::ExitCode;
 use tg_base::{Sink, write_all};
 use tg_driver::{Tools, tiger, usage};
 use tg_rounds::LeastUse;
-use writers::WriterSink;
 
 fn main(rt: HostRuntime) -> ExitCode {
     ExitCode::from(status(&rt))
@@ -31,7 +30,7 @@ fn status(rt: &HostRuntime) -> u8
     ensures { IsStatus result }
 {
     let alloc = rt.alloc();
-    let mut err = WriterSink::new(rt.stderr());
+    let mut err = Counted::new(rt.stderr());
     let words = match env::args(rt) {
         Ok(words) => words.collect::<Vec<String>>(alloc),
         Err(error) => return without_words(&mut err, error),
@@ -43,9 +42,9 @@ fn status(rt: &HostRuntime) -> u8
         return refusal(&mut err, OUT_OF_MEMORY, 70);
     };
     let tools = Tools { policy };
-    let mut shelf = FileShelf::new(rt);
-    let mut input = ReaderSource::new(rt.stdin());
-    let mut out = WriterSink::new(rt.stdout());
+    let mut shelf = Counted::new(rt);
+    let mut input = Counted::new(rt.stdin());
+    let mut out = Counted::new(rt.stdout());
     tiger(
         alloc, &words, &mut shelf, &mut input, &mut out, &mut err, tools,
     )

@@ -5,35 +5,12 @@ ghost use Rattle.std.specs.Io.KnownBytes.{ReadConsumes};
 ghost use Rattle.tg_base.specs.Causes.{HasCause};
 ghost use Rattle.tg_cli.specs.Faults.{faults_after};
 
+use crate::counted::Counted;
 use std::io::Read;
-use std::marker::Model;
 use tg_base::{Failed, Source};
 
-/// A source over a reader, which contracts see as its count of faults. Each error of the reader is
-/// a fault.
-#[derive(Drop)]
-pub struct ReaderSource<R> {
-    reader: R,
-    faults: u64,
-}
-
-impl<R> Model for ReaderSource<R> {
-    ghost use Rattle.std.specs.Prelude.{ℕ};
-
-    ghost Value = { ℕ };
-
-    ghost view = { λ s. s.faults };
-}
-
-impl<R> ReaderSource<R> {
-    pub fn new(reader: R) -> ReaderSource<R>
-        ensures { result ≡ 0 }
-    {
-        ReaderSource { reader, faults: 0 }
-    }
-}
-
-impl<R: Read> Source for ReaderSource<R> {
+/// A reader is a source, each of whose errors is a fault.
+impl<R: Read> Source for Counted<R> {
     ghost left = { λ _. None };
 
     ghost faults = { λ s. s };
@@ -44,7 +21,7 @@ impl<R: Read> Source for ReaderSource<R> {
         ensures cause { HasCause self.old self.new result }
         ensures counted { self.new ≡ faults_after self.old (is_err result) }
     {
-        match self.reader.read(into) {
+        match self.part.read(into) {
             Ok(count) => Ok(count),
             Err(_) => {
                 self.faults = self.faults.saturating_add(1);
@@ -72,7 +49,7 @@ mod tests {
     #[test]
     fn reads_count_their_faults(rt: HostRuntime) {
         let mut into = [0; 2];
-        let mut source = ReaderSource::new(b"abc".as_slice());
+        let mut source = Counted::new(b"abc".as_slice());
         assert_eq!(rt; source.read(&mut into), Ok(2));
         assert_eq!(rt; into, *b"ab");
         assert_eq!(rt; source.read(&mut into), Ok(1));
@@ -80,7 +57,7 @@ mod tests {
         assert_eq!(rt; source.read(&mut into), Ok(0));
         assert_eq!(rt; source.faults, 0);
 
-        let mut source = ReaderSource::new(Closed);
+        let mut source = Counted::new(Closed);
         assert_eq!(rt; source.read(&mut into), Err(Failed));
         assert_eq!(rt; source.faults, 1);
     }

@@ -4,37 +4,13 @@ ghost use Rattle.std.specs.Io.KnownBytes.{WriteAppends};
 ghost use Rattle.tg_base.specs.Causes.{HasCause};
 ghost use Rattle.tg_cli.specs.Faults.{faults_after};
 
+use crate::counted::Counted;
 use std::io::Write;
-use std::marker::Model;
 use tg_base::{Failed, Sink};
 
-/// A sink over a writer, which contracts see as its count of faults. Each piece is handed on at
-/// once.
-///
-/// Each error of the writer is a fault, and so is a write of nothing.
-#[derive(Drop)]
-pub struct WriterSink<W> {
-    writer: W,
-    faults: u64,
-}
-
-impl<W> Model for WriterSink<W> {
-    ghost use Rattle.std.specs.Prelude.{ℕ};
-
-    ghost Value = { ℕ };
-
-    ghost view = { λ s. s.faults };
-}
-
-impl<W> WriterSink<W> {
-    pub fn new(writer: W) -> WriterSink<W>
-        ensures { result ≡ 0 }
-    {
-        WriterSink { writer, faults: 0 }
-    }
-}
-
-impl<W: Write> Sink for WriterSink<W> {
+/// A writer is a sink, to which each piece is handed on at once. Each of its errors is a fault, and
+/// so is a write of nothing.
+impl<W: Write> Sink for Counted<W> {
     ghost taken = { λ _. None };
 
     ghost faults = { λ s. s };
@@ -45,8 +21,8 @@ impl<W: Write> Sink for WriterSink<W> {
         ensures cause { HasCause self.old self.new result }
         ensures counted { self.new ≡ faults_after self.old (is_err result) }
     {
-        let count = self.writer.write(piece).unwrap_or(0);
-        if count == 0 || self.writer.flush().is_err() {
+        let count = self.part.write(piece).unwrap_or(0);
+        if count == 0 || self.part.flush().is_err() {
             self.faults = self.faults.saturating_add(1);
             return Err(Failed);
         }
@@ -75,14 +51,14 @@ mod tests {
 
     #[test]
     fn writes_count_their_faults(rt: HostRuntime) {
-        let mut sink = WriterSink::new(Cursor::new([0; 2]));
+        let mut sink = Counted::new(Cursor::new([0; 2]));
         assert_eq!(rt; sink.write(b"abc"), Ok(2));
         assert_eq!(rt; sink.faults, 0);
         assert_eq!(rt; sink.write(b"c"), Err(Failed));
         assert_eq!(rt; sink.faults, 1);
-        assert_eq!(rt; sink.writer.get_ref(), b"ab");
+        assert_eq!(rt; sink.part.get_ref(), b"ab");
 
-        let mut sink = WriterSink::new(Unflushed);
+        let mut sink = Counted::new(Unflushed);
         assert_eq!(rt; sink.write(b"a"), Err(Failed));
         assert_eq!(rt; sink.faults, 1);
     }
