@@ -17,5 +17,6 @@ pub next : {A B : Type 0} {P : A → Type 0} {Q : B → Type 0} (m : Draws A) (f
 next m f h g = record { at = λ k. (g (m k).it (h.at k)).at (m k).next }
 
 -- with what is made of it
-pub made : {A B : Type 0} {P : A → Type 0} {Q : B → Type 0} (m : Draws A) (f : A → B) → Always P m → ((a : A) → P a → Q (f a)) → Always Q (m >>= (λ a. give (f a)))
+pub made : {A B : Type 0} {P : A → Type 0} {Q : B → Type 0} (m : Draws A) (f : A → B) → Always P m → ((a : A) → P a → Q (f a)) →
+    Always Q (m >>= (λ a. give (f a)))
 made m f h g = record { at = λ k. g (m k).it (h.at k) }

@@ -3,15 +3,19 @@ use Rattle.std.proofs.Common.{◌≡◌, ⊎_elim, ℕ, ◌+◌, ◌-◌, ◌<�
 use Rattle.std.proofs.lemmas.Bool.{ltb-true}
 use Rattle.tg_tree.specs.declared.operators.Bin.{Bin}
 use Rattle.tg_tree.specs.declared.operators.Rel.{Rel}
-use Rattle.tg_tree.specs.Tree.{Tx, Const, Address, Temp, FrameAddress, Binary, Load, LoadByte, Call, Service, After, Txs, no_txs, tx, Cond, Compare, Not, Both, Either, Ts, Move, Store, StoreByte, Do, If, Loop, Break, Fault, Seq, Return, Stms, no_stms, stm}
+use Rattle.tg_tree.specs.Tree.{Tx, Const, Address, Temp, FrameAddress, Binary, Load, LoadByte, Call, Service, After, Txs, no_txs, tx, Cond, Compare}
+use Rattle.tg_tree.specs.Tree.{Not, Both, Either, Ts, Move, Store, StoreByte, Do, If, Loop, Break, Fault, Seq, Return, Stms, no_stms, stm}
 use Rattle.tg_tree.specs.Operators.{operate}
 use Rattle.tg_tree.specs.Memory.{load, load_byte, store, store_byte}
 use Rattle.tg_tree.specs.Units.{Trees, Canonical, lifted_units, operator_units, argument_units}
-use Rattle.tg_tree.specs.Sizes.{expression_length, arguments_length, statement_length, statements_length, expression_room, arguments_room, statement_room, statements_room, in_trees, in_canonical}
+use Rattle.tg_tree.specs.Sizes.{expression_length, arguments_length, statement_length, statements_length, expression_room, arguments_room}
+use Rattle.tg_tree.specs.Sizes.{statement_room, statements_room, in_trees, in_canonical}
 use Rattle.tg_tree.specs.Shapes.{IsFlat, AreFlat, is_flat, are_flat, is_flat_condition}
 use Rattle.tg_tree.specs.Actions.{World, Temps, Around, Acts, Go, charged, with_word, with_given, read_memory, ask, give as acts_give}
 use Rattle.tg_canon.specs.Drawing.{Draws, Drawn, give, ◌>>=◌}
-use Rattle.tg_canon.specs.Canon.{Part, still, nothing, is_nothing, first_then, ◌before◌, Parts, in_front, Lifted, Arguments, no_arguments, whole, is_side, word, in_front_of, acts, dropped, is_whole, choice, wide_choice, deeper, inside, choose, lift, lift_all, condition, leave, linear, linear_all}
+use Rattle.tg_canon.specs.Canon.{Part, still, nothing, is_nothing, first_then, ◌before◌, Parts, in_front, Lifted, Arguments, no_arguments, whole}
+use Rattle.tg_canon.specs.Canon.{is_side, word, in_front_of, acts, dropped, is_whole, choice, wide_choice, deeper, inside, choose, lift, lift_all}
+use Rattle.tg_canon.specs.Canon.{condition, leave, linear, linear_all}
 use Rattle.tg_canon.proofs.Passing.{TxPasses, TxsPass, CondPasses, TsPasses, StmsPass}
 use Rattle.tg_canon.proofs.Naming.{below}
 use Rattle.tg_canon.proofs.Growing.{in_front_grows}
@@ -23,8 +27,10 @@ use Rattle.tg_canon.proofs.Splits.{outs_more, backs_more, IsSplit, IsDone, does_
 use Rattle.tg_canon.proofs.Sides.{flat_side}
 use Rattle.tg_canon.proofs.Helds.{IsOwned, owned_both, owned_none, owned_one}
 use Rattle.tg_canon.proofs.Words.{spare, units_most, LiftIs, WordIs, word_is, PairIs, pair_is}
-use Rattle.tg_canon.proofs.Dones.{after_split, move_done, dropped_done, return_done, stores_done, choice_done, break_done, fault_done, AllDone, none_done, more_done, sequence_done, GoesOn, loop_done}
-use Rattle.tg_canon.proofs.Tests.{TestIs, not_is, and_is, or_is, compare_is, JoinsPay, extra, extra_there, LeftIs, exit_left, chain_left, block_left, left_opposite, wide_done}
+use Rattle.tg_canon.proofs.Dones.{after_split, move_done, dropped_done, return_done, stores_done, choice_done, break_done, fault_done, AllDone}
+use Rattle.tg_canon.proofs.Dones.{none_done, more_done, sequence_done, GoesOn, loop_done}
+use Rattle.tg_canon.proofs.Tests.{TestIs, not_is, and_is, or_is, compare_is, JoinsPay, extra, extra_there, LeftIs, exit_left, chain_left, block_left}
+use Rattle.tg_canon.proofs.Tests.{left_opposite, wide_done}
 
 both_true : (a b : Bool) → (a && b) ≡ true → (a ≡ true) × (b ≡ true)
 both_true true b e = (refl, e)

@@ -1,10 +1,16 @@
 -- The pass keeps bodies closed: breaks stay inside of enough loops, and the last statement stays last.
 use Rattle.std.proofs.Common.{◌≡◌, ◌<◌, ℕ, zero, suc, ◌+◌, Bool, true, false, refl, if◌then◌else◌, arith}
 use Rattle.tg_tree.specs.declared.operators.Bin.{Bin}
-use Rattle.tg_tree.specs.Tree.{Tx, Const, Address, Temp, FrameAddress, Binary, Load, LoadByte, Call, Service, After, Txs, no_txs, tx, Cond, Compare, Not, Both, Either, Ts, Move, Store, StoreByte, Do, If, Loop, Break, Fault, Seq, Return, Stms, no_stms, stm}
-use Rattle.tg_tree.specs.Shapes.{BreaksWithin, BreaksWithinStms, BreaksWithinTx, BreaksWithinTxs, BreaksWithinCond, EndsFunction, LastEndsFunction, IsClosed, AreClosed}
+use Rattle.tg_tree.specs.Tree.{Tx, Const, Address, Temp, FrameAddress, Binary, Load, LoadByte, Call, Service, After, Txs, no_txs, tx, Cond, Compare}
+use Rattle.tg_tree.specs.Tree.{Not, Both, Either, Ts, Move, Store, StoreByte, Do, If, Loop, Break, Fault, Seq, Return, Stms, no_stms, stm}
+use Rattle.tg_tree.specs.Shapes.{BreaksWithin, BreaksWithinStms, BreaksWithinTx, BreaksWithinTxs, BreaksWithinCond, EndsFunction, LastEndsFunction}
+use Rattle.tg_tree.specs.Shapes.{IsClosed, AreClosed}
 use Rattle.tg_canon.specs.Drawing.{Draws, give, ◌>>=◌}
-use Rattle.tg_canon.specs.Canon.{Part, still, nothing, is_nothing, pair, first_then, ◌before◌, loop_of, block, Parts, no_parts, in_front, in_turn, Lifted, Two, Arguments, behind, hold, is_side, hold_side, word, stays, hold_unless, hold_but_offset, hold_for, hold_before, in_front_of, side_by_side, argument, over, over_two, over_all, with_one, with_two, assigning, acts, dropped, is_whole, Tested, compared, opposite, joined, choice, exit_where, wide_choice, deeper, inside, choose, lift, lift_all, condition, leave, linear, linear_all, statements_of, linearized}
+use Rattle.tg_canon.specs.Canon.{Part, still, nothing, is_nothing, pair, first_then, ◌before◌, loop_of, block, Parts, no_parts, in_front, in_turn}
+use Rattle.tg_canon.specs.Canon.{Lifted, Two, Arguments, behind, hold, is_side, hold_side, word, stays, hold_unless, hold_but_offset, hold_for}
+use Rattle.tg_canon.specs.Canon.{hold_before, in_front_of, side_by_side, argument, over, over_two, over_all, with_one, with_two, assigning, acts}
+use Rattle.tg_canon.specs.Canon.{dropped, is_whole, Tested, compared, opposite, joined, choice, exit_where, wide_choice, deeper, inside, choose, lift}
+use Rattle.tg_canon.specs.Canon.{lift_all, condition, leave, linear, linear_all, statements_of, linearized}
 use Rattle.tg_canon.proofs.Always.{one_of_two, Always, give_is, next, made}
 
 -- Inside so many loops.
@@ -49,9 +55,11 @@ module _ (n : ℕ) where
   hold_unless_within true x h = give_is (record { front = tt; rest = h })
   hold_unless_within false x h = hold_within x h
 
-  hold_but_offset_within : (b : Bool) (p : Part) (op : Bin) (x y : Tx) → BreaksWithinTx n x → BreaksWithinTx n y → Always LiftedWithin (hold_but_offset b p op x y)
+  hold_but_offset_within : (b : Bool) (p : Part) (op : Bin) (x y : Tx) → BreaksWithinTx n x → BreaksWithinTx n y →
+      Always LiftedWithin (hold_but_offset b p op x y)
   hold_but_offset_within true p op x y hx hy =
-      next (hold_unless (stays p x) x) (λ a. give (record { front = a.front; rest = Binary op a.rest y })) (hold_unless_within (stays p x) x hx) (λ a w. give_is (record { front = w.front; rest = (w.rest, hy) }))
+      next (hold_unless (stays p x) x) (λ a. give (record { front = a.front; rest = Binary op a.rest y }))
+      (hold_unless_within (stays p x) x hx) (λ a w. give_is (record { front = w.front; rest = (w.rest, hy) }))
   hold_but_offset_within false p op x y hx hy = hold_within (Binary op x y) (hx, hy)
 
   hold_for_within : (p : Part) (x : Tx) → BreaksWithinTx n x → Always LiftedWithin (hold_for p x)
@@ -68,22 +76,30 @@ module _ (n : ℕ) where
 
   in_front_of_within : (b : Bool) (p : Part) (a : Lifted) → LiftedWithin a → Always LiftedWithin (hold_before b p a)
   in_front_of_within true p a w = give_is w
-  in_front_of_within false p a w = next (hold_for p a.rest) (λ h. give (behind a.front h)) (hold_for_within p a.rest w.rest) (λ h v. give_is (behind_within a.front h w.front v))
+  in_front_of_within false p a w = next (hold_for p a.rest) (λ h. give (behind a.front h)) (hold_for_within p a.rest w.rest)
+      (λ h v. give_is (behind_within a.front h w.front v))
 
   side_by_side_within : (a b : Lifted) → LiftedWithin a → LiftedWithin b → Always TwoWithin (side_by_side a b)
   side_by_side_within a b v w =
-      next (in_front_of b.front a) (λ h. give (record { front = h.front before b.front; left = h.rest; right = b.rest })) (in_front_of_within _ b.front a v) (λ h u. give_is (record { front = first_then_within h.front.statement b.front.statement u.front w.front; left = u.rest; right = w.rest }))
+      next (in_front_of b.front a) (λ h. give (record { front = h.front before b.front; left = h.rest; right = b.rest }))
+      (in_front_of_within _ b.front a v)
+      (λ h u. give_is (record { front = first_then_within h.front.statement b.front.statement u.front w.front; left = u.rest; right = w.rest }))
 
   argument_within : (a : Lifted) (all : Arguments) → LiftedWithin a → AllWithin all → Always AllWithin (argument a all)
   argument_within a all v w =
-      next (in_front_of all.front a) (λ h. give (record { front = h.front before all.front; rest = tx h.rest all.rest })) (in_front_of_within _ all.front a v) (λ h u. give_is (record { front = first_then_within h.front.statement all.front.statement u.front w.front; rest = (u.rest, w.rest) }))
+      next (in_front_of all.front a) (λ h. give (record { front = h.front before all.front; rest = tx h.rest all.rest }))
+      (in_front_of_within _ all.front a v)
+      (λ h u. give_is (record { front = first_then_within h.front.statement all.front.statement u.front w.front; rest = (u.rest, w.rest) }))
 
-  two_within : {B : Type 0} {Q : B → Type 0} (m l : Draws Lifted) (f : Two → B) → Always LiftedWithin m → Always LiftedWithin l → ((a : Two) → TwoWithin a → Q (f a)) →
+  two_within : {B : Type 0} {Q : B → Type 0} (m l : Draws Lifted) (f : Two → B) → Always LiftedWithin m → Always LiftedWithin l →
+      ((a : Two) → TwoWithin a → Q (f a)) →
       Always Q (word l >>= (λ b. word m >>= (λ a. side_by_side a b >>= (λ ab. give (f ab)))))
   two_within m l f hm hl g =
-      next (word l) _ (word_within l hl) (λ b w. next (word m) _ (word_within m hm) (λ a v. next (side_by_side a b) _ (side_by_side_within a b v w) (λ ab t. give_is (g ab t))))
+      next (word l) _ (word_within l hl)
+      (λ b w. next (word m) _ (word_within m hm) (λ a v. next (side_by_side a b) _ (side_by_side_within a b v w) (λ ab t. give_is (g ab t))))
 
-  one_within : {B : Type 0} {Q : B → Type 0} (m : Draws Lifted) (f : Lifted → B) → Always LiftedWithin m → ((a : Lifted) → LiftedWithin a → Q (f a)) → Always Q (word m >>= (λ a. give (f a)))
+  one_within : {B : Type 0} {Q : B → Type 0} (m : Draws Lifted) (f : Lifted → B) → Always LiftedWithin m →
+      ((a : Lifted) → LiftedWithin a → Q (f a)) → Always Q (word m >>= (λ a. give (f a)))
   one_within m f hm g = next (word m) _ (word_within m hm) (λ a w. give_is (g a w))
 
   in_front_within : (p : Part) (all : Parts) → Within p → PartsWithin all → PartsWithin (in_front p all)
@@ -144,7 +160,8 @@ loop_deeper loops n out h = record { lead = led }
     led (suc k) lt = let l : out k < n = h.lead k (omega arith) in omega arith
 
 -- two parts of a test
-tests_within : (n n' : ℕ) (m l : Draws Part) (f : Part → Part) → Always (Within n') m → Always (Within n') l → ((p : Part) → Within n' p → Within n (f p)) → Always (Within n) (l >>= (λ q. m >>= (λ p. give (f (p before q)))))
+tests_within : (n n' : ℕ) (m l : Draws Part) (f : Part → Part) → Always (Within n') m → Always (Within n') l →
+    ((p : Part) → Within n' p → Within n (f p)) → Always (Within n) (l >>= (λ q. m >>= (λ p. give (f (p before q)))))
 tests_within n n' m l f hm hl hf = next l _ hl (λ q hq. next m _ hm (λ p hp. give_is (hf (p before q) (before_within n' p q hp hq))))
 
 mutual
@@ -153,54 +170,90 @@ mutual
   lift_within loops n out (Address i) o h = give_is (record { front = tt; rest = tt })
   lift_within loops n out (Temp i) o h = give_is (record { front = tt; rest = tt })
   lift_within loops n out FrameAddress o h = give_is (record { front = tt; rest = tt })
-  lift_within loops n out (Binary op x y) o h = two_within n (lift out x) (lift out y) (over_two (Binary op)) (lift_within loops n out x o h.0) (lift_within loops n out y o h.1) (λ a t. record { front = t.front; rest = (t.left, t.right) })
-  lift_within loops n out (Load x) o h = one_within n (lift out x) (over Load) (lift_within loops n out x o h) (λ a w. record { front = w.front; rest = w.rest })
-  lift_within loops n out (LoadByte x) o h = one_within n (lift out x) (over LoadByte) (lift_within loops n out x o h) (λ a w. record { front = w.front; rest = w.rest })
-  lift_within loops n out (Call f xs) o h = made (lift_all out xs) (over_all (Call f)) (lift_all_within loops n out xs o h) (λ a w. record { front = w.front; rest = w.rest })
-  lift_within loops n out (Service i x) o h = one_within n (lift out x) (over (Service i)) (lift_within loops n out x o h) (λ a w. record { front = w.front; rest = w.rest })
-  lift_within loops n out (After s x) o h = next (lift out x) (λ a. linear out s >>= (λ p. give (behind p a))) (lift_within loops n out x o h.1) (λ a w. made (linear out s) (λ p. behind p a) (linear_within loops n out s o h.0) (λ p l. behind_within n p a l.part w))
+  lift_within loops n out (Binary op x y) o h = two_within n (lift out x) (lift out y) (over_two (Binary op))
+      (lift_within loops n out x o h.0) (lift_within loops n out y o h.1) (λ a t. record { front = t.front; rest = (t.left, t.right) })
+  lift_within loops n out (Load x) o h = one_within n (lift out x) (over Load) (lift_within loops n out x o h)
+      (λ a w. record { front = w.front; rest = w.rest })
+  lift_within loops n out (LoadByte x) o h = one_within n (lift out x) (over LoadByte) (lift_within loops n out x o h)
+      (λ a w. record { front = w.front; rest = w.rest })
+  lift_within loops n out (Call f xs) o h = made (lift_all out xs) (over_all (Call f)) (lift_all_within loops n out xs o h)
+      (λ a w. record { front = w.front; rest = w.rest })
+  lift_within loops n out (Service i x) o h = one_within n (lift out x) (over (Service i)) (lift_within loops n out x o h)
+      (λ a w. record { front = w.front; rest = w.rest })
+  lift_within loops n out (After s x) o h = next (lift out x) (λ a. linear out s >>= (λ p. give (behind p a)))
+      (lift_within loops n out x o h.1) (λ a w. made (linear out s) (λ p. behind p a) (linear_within loops n out s o h.0) (λ p l. behind_within n p a l.part w))
 
   lift_all_within : (loops n : ℕ) (out : ℕ → ℕ) (xs : Txs) → Leads loops n out → BreaksWithinTxs loops xs → Always (AllWithin n) (lift_all out xs)
   lift_all_within loops n out no_txs o h = give_is (record { front = tt; rest = tt })
-  lift_all_within loops n out (tx x xs) o h = next (lift_all out xs) (λ all. word (lift out x) >>= (λ a. argument a all)) (lift_all_within loops n out xs o h.1) (λ all l. next (word (lift out x)) (λ a. argument a all) (word_within n (lift out x) (lift_within loops n out x o h.0)) (λ a w. argument_within n a all w l))
+  lift_all_within loops n out (tx x xs) o h = next (lift_all out xs) (λ all. word (lift out x) >>= (λ a. argument a all))
+      (lift_all_within loops n out xs o h.1) (λ all l. next (word (lift out x)) (λ a. argument a all)
+      (word_within n (lift out x) (lift_within loops n out x o h.0)) (λ a w. argument_within n a all w l))
 
   condition_within : (loops n : ℕ) (out : ℕ → ℕ) (c : Cond) → Leads loops n out → BreaksWithinCond loops c → Always (TestedWithin n) (condition out c)
-  condition_within loops n out (Compare rel x y) o h = two_within n (lift out x) (lift out y) (compared (Compare rel)) (lift_within loops n out x o h.0) (lift_within loops n out y o h.1) (λ a t. record { front = t.front; condition = (t.left, t.right) })
-  condition_within loops n out (Not c) o h = made (condition out c) opposite (condition_within loops n out c o h) (λ t l. record { front = l.front; condition = l.condition })
-  condition_within loops n out (Both c d) o h = next (condition out d) (λ u. condition out c >>= (λ t. give (joined Both t u))) (condition_within loops n out d o h.1) (λ u l. made (condition out c) (λ t. joined Both t u) (condition_within loops n out c o h.0) (λ t m. both_within n t u m l))
-  condition_within loops n out (Either c d) o h = next (condition out d) (λ u. condition out c >>= (λ t. give (joined Either t u))) (condition_within loops n out d o h.1) (λ u l. made (condition out c) (λ t. joined Either t u) (condition_within loops n out c o h.0) (λ t m. either_within n t u m l))
+  condition_within loops n out (Compare rel x y) o h = two_within n (lift out x) (lift out y) (compared (Compare rel))
+      (lift_within loops n out x o h.0) (lift_within loops n out y o h.1) (λ a t. record { front = t.front; condition = (t.left, t.right) })
+  condition_within loops n out (Not c) o h = made (condition out c) opposite (condition_within loops n out c o h)
+      (λ t l. record { front = l.front; condition = l.condition })
+  condition_within loops n out (Both c d) o h = next (condition out d) (λ u. condition out c >>= (λ t. give (joined Both t u)))
+      (condition_within loops n out d o h.1) (λ u l. made (condition out c) (λ t. joined Both t u) (condition_within loops n out c o h.0)
+      (λ t m. both_within n t u m l))
+  condition_within loops n out (Either c d) o h = next (condition out d) (λ u. condition out c >>= (λ t. give (joined Either t u)))
+      (condition_within loops n out d o h.1) (λ u l. made (condition out c) (λ t. joined Either t u)
+      (condition_within loops n out c o h.0) (λ t m. either_within n t u m l))
 
-  leave_within : (loops n : ℕ) (out : ℕ → ℕ) (w : Bool) (k : ℕ) (c : Cond) → Leads loops n out → k < n → BreaksWithinCond loops c → Always (Within n) (leave out w k c)
-  leave_within loops n out w k (Compare rel x y) o lt h = two_within n (lift out x) (lift out y) (λ ab. exit_where w k (compared (Compare rel) ab)) (lift_within loops n out x o h.0) (lift_within loops n out y o h.1) (λ a t. exit_within n w k (compared (Compare rel) a) lt (record { front = t.front; condition = (t.left, t.right) }))
+  leave_within : (loops n : ℕ) (out : ℕ → ℕ) (w : Bool) (k : ℕ) (c : Cond) → Leads loops n out → k < n →
+      BreaksWithinCond loops c → Always (Within n) (leave out w k c)
+  leave_within loops n out w k (Compare rel x y) o lt h = two_within n (lift out x) (lift out y)
+      (λ ab. exit_where w k (compared (Compare rel) ab)) (lift_within loops n out x o h.0) (lift_within loops n out y o h.1)
+      (λ a t. exit_within n w k (compared (Compare rel) a) lt (record { front = t.front; condition = (t.left, t.right) }))
   leave_within loops n out true k (Not c) o lt h = leave_within loops n out false k c o lt h
   leave_within loops n out false k (Not c) o lt h = leave_within loops n out true k c o lt h
-  leave_within loops n out false k (Both c d) o lt h = tests_within n n (leave out false k c) (leave out false k d) (λ p. p) (leave_within loops n out false k c o lt h.0) (leave_within loops n out false k d o lt h.1) (λ p q. q)
-  leave_within loops n out true k (Both c d) o lt h = tests_within n (n + 1) (leave (deeper 1 out) false 0 c) (leave (deeper 1 out) true (k + 1) d) block (leave_within loops (n + 1) (deeper 1 out) false 0 c (one_deeper loops n out o) (omega arith) h.0) (leave_within loops (n + 1) (deeper 1 out) true (k + 1) d (one_deeper loops n out o) (omega arith) h.1) (block_within n)
-  leave_within loops n out true k (Either c d) o lt h = tests_within n n (leave out true k c) (leave out true k d) (λ p. p) (leave_within loops n out true k c o lt h.0) (leave_within loops n out true k d o lt h.1) (λ p q. q)
-  leave_within loops n out false k (Either c d) o lt h = tests_within n (n + 1) (leave (deeper 1 out) true 0 c) (leave (deeper 1 out) false (k + 1) d) block (leave_within loops (n + 1) (deeper 1 out) true 0 c (one_deeper loops n out o) (omega arith) h.0) (leave_within loops (n + 1) (deeper 1 out) false (k + 1) d (one_deeper loops n out o) (omega arith) h.1) (block_within n)
+  leave_within loops n out false k (Both c d) o lt h = tests_within n n (leave out false k c) (leave out false k d)
+      (λ p. p) (leave_within loops n out false k c o lt h.0) (leave_within loops n out false k d o lt h.1) (λ p q. q)
+  leave_within loops n out true k (Both c d) o lt h = tests_within n (n + 1) (leave (deeper 1 out) false 0 c)
+      (leave (deeper 1 out) true (k + 1) d) block (leave_within loops (n + 1) (deeper 1 out) false 0 c (one_deeper loops n out o) (omega arith) h.0)
+      (leave_within loops (n + 1) (deeper 1 out) true (k + 1) d (one_deeper loops n out o) (omega arith) h.1) (block_within n)
+  leave_within loops n out true k (Either c d) o lt h = tests_within n n (leave out true k c) (leave out true k d) (λ p. p)
+      (leave_within loops n out true k c o lt h.0) (leave_within loops n out true k d o lt h.1) (λ p q. q)
+  leave_within loops n out false k (Either c d) o lt h = tests_within n (n + 1) (leave (deeper 1 out) true 0 c)
+      (leave (deeper 1 out) false (k + 1) d) block (leave_within loops (n + 1) (deeper 1 out) true 0 c (one_deeper loops n out o) (omega arith) h.0)
+      (leave_within loops (n + 1) (deeper 1 out) false (k + 1) d (one_deeper loops n out o) (omega arith) h.1) (block_within n)
 
   linear_within : (loops n : ℕ) (out : ℕ → ℕ) (s : Ts) → Leads loops n out → BreaksWithin loops s → Always (Within n) (linear out s)
-  linear_within loops n out (Move i x) o h = made (lift out x) (with_one (λ v. assigning i (Move i v))) (lift_within loops n out x o h) (λ a w. record { part = first_then_within n a.front.statement (Move i a.rest) w.front w.rest })
-  linear_within loops n out (Store x y) o h = two_within n (lift out x) (lift out y) (with_two Store) (lift_within loops n out x o h.0) (lift_within loops n out y o h.1) (λ a t. record { part = first_then_within n a.front.statement (Store a.left a.right) t.front (t.left, t.right) })
-  linear_within loops n out (StoreByte x y) o h = two_within n (lift out x) (lift out y) (with_two StoreByte) (lift_within loops n out x o h.0) (lift_within loops n out y o h.1) (λ a t. record { part = first_then_within n a.front.statement (StoreByte a.left a.right) t.front (t.left, t.right) })
-  linear_within loops n out (Do x) o h = made (lift out x) (with_one dropped) (lift_within loops n out x o h) (λ a w. record { part = first_then_within n a.front.statement (dropped a.rest).statement w.front (dropped_within n a.rest w.rest) })
+  linear_within loops n out (Move i x) o h = made (lift out x) (with_one (λ v. assigning i (Move i v)))
+      (lift_within loops n out x o h) (λ a w. record { part = first_then_within n a.front.statement (Move i a.rest) w.front w.rest })
+  linear_within loops n out (Store x y) o h = two_within n (lift out x) (lift out y) (with_two Store)
+      (lift_within loops n out x o h.0) (lift_within loops n out y o h.1)
+      (λ a t. record { part = first_then_within n a.front.statement (Store a.left a.right) t.front (t.left, t.right) })
+  linear_within loops n out (StoreByte x y) o h = two_within n (lift out x) (lift out y) (with_two StoreByte)
+      (lift_within loops n out x o h.0) (lift_within loops n out y o h.1)
+      (λ a t. record { part = first_then_within n a.front.statement (StoreByte a.left a.right) t.front (t.left, t.right) })
+  linear_within loops n out (Do x) o h = made (lift out x) (with_one dropped) (lift_within loops n out x o h)
+      (λ a w. record { part = first_then_within n a.front.statement (dropped a.rest).statement w.front (dropped_within n a.rest w.rest) })
   linear_within loops n out (If c s t) o h =
       choose_within n (is_whole c) _ _
       (next (linear out t) (λ q. linear out s >>= (λ p. condition out c >>= (λ u. give (choice u p q)))) (linear_within loops n out t o h.2) (λ q hq.
       next (linear out s) (λ p. condition out c >>= (λ u. give (choice u p q))) (linear_within loops n out s o h.1) (λ p hp.
       made (condition out c) (λ u. choice u p q) (condition_within loops n out c o h.0) (λ u hu. choice_within n u p q hu hp hq))))
-      (next (linear (deeper 1 out) t) (λ q. linear (deeper 2 out) s >>= (λ p. leave (deeper 2 out) false 0 c >>= (λ u. give (wide_choice u p q)))) (linear_within loops (n + 1) (deeper 1 out) t (one_deeper loops n out o) h.2) (λ q hq.
-      next (linear (deeper 2 out) s) (λ p. leave (deeper 2 out) false 0 c >>= (λ u. give (wide_choice u p q))) (linear_within loops (n + 1 + 1) (deeper 2 out) s (two_deeper loops n out o) h.1) (λ p hp.
-      made (leave (deeper 2 out) false 0 c) (λ u. wide_choice u p q) (leave_within loops (n + 1 + 1) (deeper 2 out) false 0 c (two_deeper loops n out o) (omega arith) h.0) (λ u hu. wide_within n u p q hu hp hq))))
-  linear_within loops n out (Loop s) o h = made (linear (inside out) s) loop_of (linear_within (loops + 1) (n + 1) (inside out) s (loop_deeper loops n out o) h) (λ p l. record { part = l.part })
+      (next (linear (deeper 1 out) t) (λ q. linear (deeper 2 out) s >>= (λ p. leave (deeper 2 out) false 0 c >>= (λ u. give (wide_choice u p q))))
+      (linear_within loops (n + 1) (deeper 1 out) t (one_deeper loops n out o) h.2) (λ q hq.
+      next (linear (deeper 2 out) s) (λ p. leave (deeper 2 out) false 0 c >>= (λ u. give (wide_choice u p q)))
+      (linear_within loops (n + 1 + 1) (deeper 2 out) s (two_deeper loops n out o) h.1) (λ p hp.
+      made (leave (deeper 2 out) false 0 c) (λ u. wide_choice u p q) (leave_within loops (n + 1 + 1) (deeper 2 out) false
+      0 c (two_deeper loops n out o) (omega arith) h.0) (λ u hu. wide_within n u p q hu hp hq))))
+  linear_within loops n out (Loop s) o h = made (linear (inside out) s) loop_of
+      (linear_within (loops + 1) (n + 1) (inside out) s (loop_deeper loops n out o) h) (λ p l. record { part = l.part })
   linear_within loops n out (Break k) o h = give_is (record { part = o.lead k h })
   linear_within loops n out (Fault i) o h = give_is (record { part = tt })
   linear_within loops n out (Seq ss) o h = made (linear_all out ss) in_turn (linear_all_within loops n out ss o h) (λ all l. record { part = l.list })
-  linear_within loops n out (Return x) o h = one_within n (lift out x) (with_one (λ v. still (Return v))) (lift_within loops n out x o h) (λ a w. record { part = first_then_within n a.front.statement (Return a.rest) w.front w.rest })
+  linear_within loops n out (Return x) o h = one_within n (lift out x) (with_one (λ v. still (Return v)))
+      (lift_within loops n out x o h) (λ a w. record { part = first_then_within n a.front.statement (Return a.rest) w.front w.rest })
 
   linear_all_within : (loops n : ℕ) (out : ℕ → ℕ) (ss : Stms) → Leads loops n out → BreaksWithinStms loops ss → Always (PartsWithin n) (linear_all out ss)
   linear_all_within loops n out no_stms o h = give_is (record { list = tt })
-  linear_all_within loops n out (stm s ss) o h = next (linear_all out ss) (λ all. linear out s >>= (λ p. give (in_front p all))) (linear_all_within loops n out ss o h.1) (λ all l. made (linear out s) (λ p. in_front p all) (linear_within loops n out s o h.0) (λ p m. in_front_within n p all m l))
+  linear_all_within loops n out (stm s ss) o h = next (linear_all out ss) (λ all. linear out s >>= (λ p. give (in_front p all)))
+      (linear_all_within loops n out ss o h.1) (λ all l. made (linear out s) (λ p. in_front p all) (linear_within loops n out s o h.0)
+      (λ p m. in_front_within n p all m l))
 
 -- The last statement.
 
@@ -247,7 +300,8 @@ last_ends p h = record { ends = last (is_nothing p.statement) (ends_something p.
 mutual
   linear_ends : (out : ℕ → ℕ) (s : Ts) → EndsFunction s → Always Ends (linear out s)
   linear_ends out (Fault n) h = give_is (record { ends = tt })
-  linear_ends out (Return x) h = record { at = λ k. record { ends = first_then_ends (word (lift out x) k).it.front.statement (Return (word (lift out x) k).it.rest) tt } }
+  linear_ends out (Return x) h =
+      record { at = λ k. record { ends = first_then_ends (word (lift out x) k).it.front.statement (Return (word (lift out x) k).it.rest) tt } }
   linear_ends out (Seq ss) h = made (linear_all out ss) in_turn (linear_all_end out ss h) (λ all l. record { ends = l.ends })
   linear_ends out (Move i x) h = absurd h
   linear_ends out (Store x y) h = absurd h
@@ -260,7 +314,8 @@ mutual
   linear_all_end : (out : ℕ → ℕ) (ss : Stms) → LastEndsFunction ss → Always AllEnd (linear_all out ss)
   linear_all_end out no_stms h = absurd h
   linear_all_end out (stm s no_stms) h = made (linear out s) (λ p. in_front p no_parts) (linear_ends out s h) last_ends
-  linear_all_end out (stm s (stm t ss)) h = next (linear_all out (stm t ss)) (λ all. linear out s >>= (λ p. give (in_front p all))) (linear_all_end out (stm t ss) h) (λ all l. record { at = λ k. in_front_ends (linear out s k).it all l })
+  linear_all_end out (stm s (stm t ss)) h = next (linear_all out (stm t ss)) (λ all. linear out s >>= (λ p. give (in_front p all)))
+      (linear_all_end out (stm t ss) h) (λ all l. record { at = λ k. in_front_ends (linear out s k).it all l })
 
 statements_closed : (s : Ts) → BreaksWithin 0 s → EndsFunction s → AreClosed (statements_of s)
 statements_closed (Seq ss) h l = record { breaks = h; last = l }
@@ -276,4 +331,5 @@ statements_closed (Break k) h l = absurd l
 
 pub linearized_closed : (body : Ts) (k : ℕ) → IsClosed body → AreClosed (linearized body k).it
 linearized_closed body k h =
-    statements_closed (linear (λ i. i) body k).it.statement ((linear_within 0 0 (λ i. i) body (record { lead = λ i lt. lt }) h.breaks).at k).part ((linear_ends (λ i. i) body h.last).at k).ends
+    statements_closed (linear (λ i. i) body k).it.statement ((linear_within 0 0 (λ i. i) body (record { lead = λ i lt. lt }) h.breaks).at k).part
+    ((linear_ends (λ i. i) body h.last).at k).ends

@@ -3,17 +3,21 @@ use Rattle.std.proofs.Common.{◌≡◌, ℕ, zero, suc, ◌+◌, ◌≤◌, Boo
 use Rattle.tg_base.specs.declared.ends.RunEnd.TheVariants.{Break as Broken}
 use Rattle.tg_runs.specs.Ran.{Ended, Wrong}
 use Rattle.tg_runs.proofs.Simulations.{simulates_stopping, simulates_wrong}
-use Rattle.tg_tree.specs.Tree.{Tx, Const, Address, Temp, FrameAddress, Binary, Load, LoadByte, Call, Service, After, Cond, Ts, Move, Do, If, Loop, Break, Fault, Seq, Return, Stms, no_stms, stm}
+use Rattle.tg_tree.specs.Tree.{Tx, Const, Address, Temp, FrameAddress, Binary, Load, LoadByte, Call, Service, After, Cond, Ts, Move, Do, If, Loop}
+use Rattle.tg_tree.specs.Tree.{Break, Fault, Seq, Return, Stms, no_stms, stm}
 use Rattle.tg_tree.specs.Memory.{Memory}
 use Rattle.tg_tree.specs.Units.{Trees, Canonical}
 use Rattle.tg_tree.specs.Shapes.{IsFlat, IsFlatCond}
 use Rattle.tg_tree.specs.Actions.{World, Temps, set_temp, Activation, Around, Acts, Go, Next, Out, Back, ◌>>◌, charged, pay, with_memory, leaving}
 use Rattle.tg_tree.specs.Meaning.{run_all}
-use Rattle.tg_canon.specs.Canon.{Part, still, assigning, is_nothing, nothing, as_part, ◌before◌, loop_of, Parts, no_parts, in_front, in_turn, Lifted, is_side, acts, dropped, Tested, choice, inside}
+use Rattle.tg_canon.specs.Canon.{Part, still, assigning, is_nothing, nothing, as_part, ◌before◌, loop_of, Parts, no_parts, in_front, in_turn, Lifted}
+use Rattle.tg_canon.specs.Canon.{is_side, acts, dropped, Tested, choice, inside}
 use Rattle.tg_canon.proofs.Paying.{Sim, trade, pays, worked, unpaid, credit, along}
-use Rattle.tg_canon.proofs.Fixed.{Scene, around, tree_value, tree_test, tree_does, mixed_value, mixed_test, then_value, then_test, then_does, fixed_value, fixed_test}
+use Rattle.tg_canon.proofs.Fixed.{Scene, around, tree_value, tree_test, tree_does, mixed_value, mixed_test, then_value, then_test, then_does}
+use Rattle.tg_canon.proofs.Fixed.{fixed_value, fixed_test}
 use Rattle.tg_canon.proofs.Steady.{IsQuiet, quiet_word, quiet_wrong, quiet_value}
-use Rattle.tg_canon.proofs.Splits.{Known, Beside, KeptBy, kept_within, kept_first, kept_second, beside_world, beside_assigned, OutsAre, BacksAre, outs_more, backs_more, IsSplit, IsDone, does_nothing, does_in_turn}
+use Rattle.tg_canon.proofs.Splits.{Known, Beside, KeptBy, kept_within, kept_first, kept_second, beside_world, beside_assigned, OutsAre, BacksAre}
+use Rattle.tg_canon.proofs.Splits.{outs_more, backs_more, IsSplit, IsDone, does_nothing, does_in_turn}
 use Rattle.tg_canon.proofs.Sides.{flat_side, side_flat}
 use Rattle.tg_canon.proofs.Helds.{fixed_runs, side_runs}
 use Rattle.tg_canon.proofs.Words.{spare, LiftIs, WordIs, both_before, both_rest, PairIs}

@@ -4,11 +4,13 @@ use Rattle.std.proofs.Common.{◌≡◌, ℕ, ◌+◌, List, [], ◌∷◌, Bool
 use Rattle.std.specs.Prelude.{if◌then◌else◌}
 use Rattle.tg_runs.specs.Runs.{Run}
 use Rattle.tg_runs.specs.Ran.{Ran, Stop, Wrong}
-use Rattle.tg_tree.specs.Tree.{Tx, Const, Address, Temp, FrameAddress, Binary, Load, LoadByte, Call, Service, After, Txs, no_txs, tx, Cond, Compare, Not, Both, Either, Ts, Literal}
+use Rattle.tg_tree.specs.Tree.{Tx, Const, Address, Temp, FrameAddress, Binary, Load, LoadByte, Call, Service, After, Txs, no_txs, tx, Cond, Compare}
+use Rattle.tg_tree.specs.Tree.{Not, Both, Either, Ts, Literal}
 use Rattle.tg_tree.specs.Operators.{Given, word, stops_by, operate, holds}
 use Rattle.tg_tree.specs.Memory.{load, load_byte, literal_address}
 use Rattle.tg_tree.specs.Units.{Trees, Canonical, expression_units}
-use Rattle.tg_tree.specs.Actions.{World, Temps, Activation, Around, Acts, Go, Next, Out, Back, ◌>>=◌, ◌>>◌, over, charged, with_word, give, pay, known, read_temp, read_memory, given, frame_address}
+use Rattle.tg_tree.specs.Actions.{World, Temps, Activation, Around, Acts, Go, Next, Out, Back, ◌>>=◌, ◌>>◌, over, charged, with_word, give, pay}
+use Rattle.tg_tree.specs.Actions.{known, read_temp, read_memory, given, frame_address}
 use Rattle.tg_tree.specs.Meaning.{Enter, Point, value, values, test, run}
 use Rattle.tg_tree.specs.Shapes.{IsFlat, AreFlat, IsFlatCond}
 use Rattle.tg_tree.specs.Carrying.{EntersSimulate}

@@ -1,9 +1,14 @@
 -- The next number to draw never falls.
 use Rattle.std.proofs.Common.{ℕ, ◌+◌, ◌≤◌, ◌&&◌, Bool, true, false, not, arith, subst}
 use Rattle.tg_tree.specs.declared.operators.Bin.{Bin}
-use Rattle.tg_tree.specs.Tree.{Tx, Const, Address, Temp, FrameAddress, Binary, Load, LoadByte, Call, Service, After, Txs, no_txs, tx, Cond, Compare, Not, Both, Either, Ts, Move, Store, StoreByte, Do, If, Loop, Break, Fault, Seq, Return, Stms, no_stms, stm}
+use Rattle.tg_tree.specs.Tree.{Tx, Const, Address, Temp, FrameAddress, Binary, Load, LoadByte, Call, Service, After, Txs, no_txs, tx, Cond, Compare}
+use Rattle.tg_tree.specs.Tree.{Not, Both, Either, Ts, Move, Store, StoreByte, Do, If, Loop, Break, Fault, Seq, Return, Stms, no_stms, stm}
 use Rattle.tg_canon.specs.Drawing.{Draws, Drawn, give, fresh, ◌>>=◌, Gives}
-use Rattle.tg_canon.specs.Canon.{Part, still, assigning, is_nothing, ◌before◌, loop_of, block, no_parts, in_front, in_turn, Lifted, Arguments, no_arguments, whole, behind, hold, is_side, hold_side, word, stays, hold_unless, is_constant, is_sum, hold_but_offset, hold_for, hold_before, in_front_of, side_by_side, argument, over, over_two, over_all, with_one, with_two, dropped, is_whole, compared, opposite, joined, choice, exit_where, wide_choice, deeper, inside, choose, lift, lift_all, condition, leave, linear, linear_all, operands, linearized}
+use Rattle.tg_canon.specs.Canon.{Part, still, assigning, is_nothing, ◌before◌, loop_of, block, no_parts, in_front, in_turn, Lifted, Arguments}
+use Rattle.tg_canon.specs.Canon.{no_arguments, whole, behind, hold, is_side, hold_side, word, stays, hold_unless, is_constant, is_sum}
+use Rattle.tg_canon.specs.Canon.{hold_but_offset, hold_for, hold_before, in_front_of, side_by_side, argument, over, over_two, over_all, with_one}
+use Rattle.tg_canon.specs.Canon.{with_two, dropped, is_whole, compared, opposite, joined, choice, exit_where, wide_choice, deeper, inside, choose}
+use Rattle.tg_canon.specs.Canon.{lift, lift_all, condition, leave, linear, linear_all, operands, linearized}
 
 pub record Grows {A : Type 0} (m : Draws A) : Type 0 where
   pub at : (k : ℕ) → k ≤ (m k).next
@@ -38,7 +43,8 @@ hold_unless_grows true x = stays_at (whole x)
 hold_unless_grows false x = hold_grows x
 
 hold_but_offset_grows : (b : Bool) (p : Part) (op : Bin) (x y : Tx) → Grows (hold_but_offset b p op x y)
-hold_but_offset_grows true p op x y = made (hold_unless (stays p x) x) (λ a. record { front = a.front; rest = Binary op a.rest y }) (hold_unless_grows (stays p x) x)
+hold_but_offset_grows true p op x y = made (hold_unless (stays p x) x) (λ a. record { front = a.front; rest = Binary op a.rest y })
+    (hold_unless_grows (stays p x) x)
 hold_but_offset_grows false p op x y = hold_grows (Binary op x y)
 
 hold_for_grows : (p : Part) (x : Tx) → Grows (hold_for p x)
@@ -62,20 +68,24 @@ in_front_grows p a = hold_before_grows (is_nothing p.statement) p a
 
 pub side_by_side_grows : (a b : Lifted) → Grows (side_by_side a b)
 side_by_side_grows a b =
-    made (in_front_of b.front a) (λ h. record { front = h.front before b.front; left = h.rest; right = b.rest }) (hold_before_grows (is_nothing b.front.statement) b.front a)
+    made (in_front_of b.front a) (λ h. record { front = h.front before b.front; left = h.rest; right = b.rest })
+    (hold_before_grows (is_nothing b.front.statement) b.front a)
 
 pub argument_grows : (a : Lifted) (all : Arguments) → Grows (argument a all)
 argument_grows a all =
-    made (in_front_of all.front a) (λ h. record { front = h.front before all.front; rest = tx h.rest all.rest }) (hold_before_grows (is_nothing all.front.statement) all.front a)
+    made (in_front_of all.front a) (λ h. record { front = h.front before all.front; rest = tx h.rest all.rest })
+    (hold_before_grows (is_nothing all.front.statement) all.front a)
 
 operands_grow : (m n : Draws Lifted) → Grows m → Grows n → Grows (word n >>= λ b. word m >>= λ a. side_by_side a b)
 operands_grow m n g h =
-    next (word n) (λ b. word m >>= λ a. side_by_side a b) (word_grows n h) (λ b. next (word m) (λ a. side_by_side a b) (word_grows m g) (λ a. side_by_side_grows a b))
+    next (word n) (λ b. word m >>= λ a. side_by_side a b) (word_grows n h)
+    (λ b. next (word m) (λ a. side_by_side a b) (word_grows m g) (λ a. side_by_side_grows a b))
 
 pub in_turn_grow : {A B C : Type 0} (m : Draws A) (n : Draws B) (f : A → B → C) → Grows m → Grows n → Grows (m >>= λ a. n >>= λ b. give (f a b))
 in_turn_grow m n f g h = next m (λ a. n >>= λ b. give (f a b)) g (λ a. made n (f a) h)
 
-three_grow : {A B C D : Type 0} (m : Draws A) (n : Draws B) (o : Draws C) (f : A → B → C → D) → Grows m → Grows n → Grows o → Grows (m >>= λ a. n >>= λ b. o >>= λ c. give (f a b c))
+three_grow : {A B C D : Type 0} (m : Draws A) (n : Draws B) (o : Draws C) (f : A → B → C → D) → Grows m → Grows n →
+    Grows o → Grows (m >>= λ a. n >>= λ b. o >>= λ c. give (f a b c))
 three_grow m n o f g h i = next m (λ a. n >>= λ b. o >>= λ c. give (f a b c)) g (λ a. in_turn_grow n o (f a) h i)
 
 choose_grows : (b : Bool) (m n : Draws Part) → Grows m → Grows n → Grows (choose b m n)
@@ -88,7 +98,8 @@ mutual
   lift_grows out (Address n) = stays_at (whole (Address n))
   lift_grows out (Temp i) = stays_at (whole (Temp i))
   lift_grows out FrameAddress = stays_at (whole FrameAddress)
-  lift_grows out (Binary op x y) = made (operands out x y) (over_two (Binary op)) (operands_grow (lift out x) (lift out y) (lift_grows out x) (lift_grows out y))
+  lift_grows out (Binary op x y) = made (operands out x y) (over_two (Binary op))
+      (operands_grow (lift out x) (lift out y) (lift_grows out x) (lift_grows out y))
   lift_grows out (Load x) = made (word (lift out x)) (over Load) (word_grows (lift out x) (lift_grows out x))
   lift_grows out (LoadByte x) = made (word (lift out x)) (over LoadByte) (word_grows (lift out x) (lift_grows out x))
   lift_grows out (Call f xs) = made (lift_all out xs) (over_all (Call f)) (lift_all_grows out xs)
@@ -102,7 +113,8 @@ mutual
       (λ all. next (word (lift out x)) (λ a. argument a all) (word_grows (lift out x) (lift_grows out x)) (λ a. argument_grows a all))
 
   pub condition_grows : (out : ℕ → ℕ) (c : Cond) → Grows (condition out c)
-  condition_grows out (Compare rel x y) = made (operands out x y) (compared (Compare rel)) (operands_grow (lift out x) (lift out y) (lift_grows out x) (lift_grows out y))
+  condition_grows out (Compare rel x y) = made (operands out x y) (compared (Compare rel))
+      (operands_grow (lift out x) (lift out y) (lift_grows out x) (lift_grows out y))
   condition_grows out (Not c) = made (condition out c) opposite (condition_grows out c)
   condition_grows out (Both c d) = in_turn_grow (condition out d) (condition out c) (λ u t. joined Both t u) (condition_grows out d) (condition_grows out c)
   condition_grows out (Either c d) = in_turn_grow (condition out d) (condition out c) (λ u t. joined Either t u) (condition_grows out d) (condition_grows out c)
@@ -111,19 +123,24 @@ mutual
   leave_grows out w n (Compare rel x y) =
       made (operands out x y) (λ ab. exit_where w n (compared (Compare rel) ab)) (operands_grow (lift out x) (lift out y) (lift_grows out x) (lift_grows out y))
   leave_grows out w n (Not c) = leave_grows out (not w) n c
-  leave_grows out false n (Both c d) = in_turn_grow (leave out false n d) (leave out false n c) (λ q p. p before q) (leave_grows out false n d) (leave_grows out false n c)
+  leave_grows out false n (Both c d) = in_turn_grow (leave out false n d) (leave out false n c) (λ q p. p before q)
+      (leave_grows out false n d) (leave_grows out false n c)
   leave_grows out true n (Both c d) =
-      in_turn_grow (leave (deeper 1 out) true (n + 1) d) (leave (deeper 1 out) false 0 c) (λ q p. block (p before q)) (leave_grows (deeper 1 out) true (n + 1) d)
+      in_turn_grow (leave (deeper 1 out) true (n + 1) d) (leave (deeper 1 out) false 0 c) (λ q p. block (p before q))
+      (leave_grows (deeper 1 out) true (n + 1) d)
       (leave_grows (deeper 1 out) false 0 c)
-  leave_grows out true n (Either c d) = in_turn_grow (leave out true n d) (leave out true n c) (λ q p. p before q) (leave_grows out true n d) (leave_grows out true n c)
+  leave_grows out true n (Either c d) = in_turn_grow (leave out true n d) (leave out true n c) (λ q p. p before q)
+      (leave_grows out true n d) (leave_grows out true n c)
   leave_grows out false n (Either c d) =
-      in_turn_grow (leave (deeper 1 out) false (n + 1) d) (leave (deeper 1 out) true 0 c) (λ q p. block (p before q)) (leave_grows (deeper 1 out) false (n + 1) d)
+      in_turn_grow (leave (deeper 1 out) false (n + 1) d) (leave (deeper 1 out) true 0 c) (λ q p. block (p before q))
+      (leave_grows (deeper 1 out) false (n + 1) d)
       (leave_grows (deeper 1 out) true 0 c)
 
   pub linear_grows : (out : ℕ → ℕ) (s : Ts) → Grows (linear out s)
   linear_grows out (Move i x) = made (lift out x) (with_one (λ v. assigning i (Move i v))) (lift_grows out x)
   linear_grows out (Store x y) = made (operands out x y) (with_two Store) (operands_grow (lift out x) (lift out y) (lift_grows out x) (lift_grows out y))
-  linear_grows out (StoreByte x y) = made (operands out x y) (with_two StoreByte) (operands_grow (lift out x) (lift out y) (lift_grows out x) (lift_grows out y))
+  linear_grows out (StoreByte x y) = made (operands out x y) (with_two StoreByte)
+      (operands_grow (lift out x) (lift out y) (lift_grows out x) (lift_grows out y))
   linear_grows out (Do x) = made (lift out x) (with_one dropped) (lift_grows out x)
   linear_grows out (If c s t) =
       choose_grows (is_whole c) (linear out t >>= λ q. linear out s >>= λ p. condition out c >>= λ u. give (choice u p q))

@@ -1,5 +1,6 @@
 -- Right sides behind the pass, and words that are held or stay.
-use Rattle.std.proofs.Common.{◌≡◌, ◌⊎◌, ⊎_elim, inl, inr, ℕ, zero, suc, ◌+◌, ◌-◌, ◌<◌, ◌≤◌, min, max, Bool, true, false, not, ◌&&◌, nat_le, refl, sym, ap, ◌∙◌, subst, arith}
+use Rattle.std.proofs.Common.{◌≡◌, ◌⊎◌, ⊎_elim, inl, inr, ℕ, zero, suc, ◌+◌, ◌-◌, ◌<◌, ◌≤◌, min, max, Bool, true, false, not, ◌&&◌, nat_le, refl, sym}
+use Rattle.std.proofs.Common.{ap, ◌∙◌, subst, arith}
 use Rattle.std.proofs.lemmas.Bool.{le-leb, lt-leb}
 use Rattle.std.proofs.lemmas.Bool.Decides.{leb_tells}
 use Rattle.tg_runs.specs.Ran.{Wrong}
@@ -19,7 +20,8 @@ use Rattle.tg_canon.specs.Drawing.{Drawn, give}
 use Rattle.tg_canon.specs.Canon.{Part, still, nothing, Lifted, whole, hold, is_constant, is_sum, stays, hold_unless, hold_but_offset, hold_for}
 use Rattle.tg_canon.proofs.Sizing.{size, takes, holdable, holdable_most, own_holdable}
 use Rattle.tg_canon.proofs.Paying.{Sim, trade, pays, worked, unpaid, untraded, credit, along, free}
-use Rattle.tg_canon.proofs.Fixed.{Scene, around, mixed_value, mixed_values, then_value, then_values, then_does, IsFixed, gives, stops, fixed_value, fixed_values}
+use Rattle.tg_canon.proofs.Fixed.{Scene, around, mixed_value, mixed_values, then_value, then_values, then_does, IsFixed, gives, stops, fixed_value}
+use Rattle.tg_canon.proofs.Fixed.{fixed_values}
 use Rattle.tg_canon.proofs.Steady.{Occurs, IsSteady}
 use Rattle.tg_canon.proofs.Sides.{flat_side}
 use Rattle.tg_canon.proofs.Splits.{set_same, Known, Beside, KeptBy, beside_world, beside_drawn, does_nothing}

@@ -2,14 +2,20 @@
 use Rattle.std.proofs.Common.{ℕ, ◌+◌, ◌<◌, ◌≤◌, Bool, true, false, List, [], refl, ltb, arith}
 use Rattle.std.proofs.lemmas.Bool.{ltb-true, lt-ltb}
 use Rattle.tg_tree.specs.declared.operators.Bin.{Bin}
-use Rattle.tg_tree.specs.Tree.{Tx, Const, Address, Temp, FrameAddress, Binary, Load, LoadByte, Call, Service, After, Txs, no_txs, tx, Cond, Compare, Not, Both, Either, Ts, Move, Store, StoreByte, Do, If, Loop, Break, Fault, Seq, Return, Stms, no_stms, stm}
+use Rattle.tg_tree.specs.Tree.{Tx, Const, Address, Temp, FrameAddress, Binary, Load, LoadByte, Call, Service, After, Txs, no_txs, tx, Cond, Compare}
+use Rattle.tg_tree.specs.Tree.{Not, Both, Either, Ts, Move, Store, StoreByte, Do, If, Loop, Break, Fault, Seq, Return, Stms, no_stms, stm}
 use Rattle.tg_tree.specs.Named.{Named, function, literal, fault, temporary, named_ts, named_stms}
 use Rattle.tg_canon.specs.Drawing.{Draws, give, ◌>>=◌}
-use Rattle.tg_canon.specs.Canon.{Part, still, nothing, is_nothing, first_then, ◌before◌, loop_of, block, Parts, in_front, in_turn, Lifted, Two, Arguments, behind, hold, is_side, hold_side, word, stays, hold_unless, hold_but_offset, hold_for, hold_before, in_front_of, side_by_side, argument, over, over_two, over_all, with_one, with_two, assigning, acts, dropped, is_whole, Tested, compared, opposite, joined, choice, exit_where, wide_choice, deeper, inside, choose, lift, lift_all, condition, leave, linear, linear_all, statements_of, linearized}
+use Rattle.tg_canon.specs.Canon.{Part, still, nothing, is_nothing, first_then, ◌before◌, loop_of, block, Parts, in_front, in_turn, Lifted, Two}
+use Rattle.tg_canon.specs.Canon.{Arguments, behind, hold, is_side, hold_side, word, stays, hold_unless, hold_but_offset, hold_for, hold_before}
+use Rattle.tg_canon.specs.Canon.{in_front_of, side_by_side, argument, over, over_two, over_all, with_one, with_two, assigning, acts, dropped}
+use Rattle.tg_canon.specs.Canon.{is_whole, Tested, compared, opposite, joined, choice, exit_where, wide_choice, deeper, inside, choose, lift}
+use Rattle.tg_canon.specs.Canon.{lift_all, condition, leave, linear, linear_all, statements_of, linearized}
 use Rattle.tg_canon.specs.Laws.{AreAllowed, AllowsDrawn, AreTempsBelow}
 use Rattle.tg_canon.proofs.Always.{one_of_two}
 use Rattle.tg_canon.proofs.Growing as growing
-use Rattle.tg_canon.proofs.Growing.{Grows, two, hold_side_grows, word_grows, side_by_side_grows, argument_grows, lift_grows, condition_grows, leave_grows, linear_grows, linearized_grows}
+use Rattle.tg_canon.proofs.Growing.{Grows, two, hold_side_grows, word_grows, side_by_side_grows, argument_grows, lift_grows, condition_grows}
+use Rattle.tg_canon.proofs.Growing.{leave_grows, linear_grows, linearized_grows}
 use Rattle.tg_canon.proofs.Passing.{Passes, TxPasses, TxsPass, CondPasses, TsPasses, StmsPass, body_passes, statements_allowed}
 
 -- The test passes the temporaries from one number up to another.
@@ -21,7 +27,8 @@ module _ (allowed : Named → Bool) (from top : ℕ) (drawn : AllowsDrawn allowe
   given : {A : Type 0} {P : A → Type 0} {a : A} → P a → Keeps P (give a)
   given h = record { at = λ k low high. h }
 
-  next : {A B : Type 0} {P : A → Type 0} {Q : B → Type 0} (m : Draws A) (f : A → Draws B) → Grows m → ((a : A) → Grows (f a)) → Keeps P m → ((a : A) → P a → Keeps Q (f a)) → Keeps Q (m >>= f)
+  next : {A B : Type 0} {P : A → Type 0} {Q : B → Type 0} (m : Draws A) (f : A → Draws B) → Grows m → ((a : A) → Grows (f a)) →
+      Keeps P m → ((a : A) → P a → Keeps Q (f a)) → Keeps Q (m >>= f)
   next m f gm gf h g = record {
     at = λ k low high.
         let up : k ≤ (m k).next = gm.at k in
@@ -62,7 +69,8 @@ module _ (allowed : Named → Bool) (from top : ℕ) (drawn : AllowsDrawn allowe
 
   hold_passes : (x : Tx) → TxPasses allowed x → Keeps LiftedPasses (hold x)
   hold_passes x h = record {
-    at = λ k low high. let up : k + 1 ≤ top = high in let it : Passes allowed (temporary k) = drawn k low (omega arith) in record { front = (it, h); rest = it };
+    at = λ k low high. let up : k + 1 ≤ top = high in let it : Passes allowed (temporary k) = drawn k low (omega arith) in
+        record { front = (it, h); rest = it };
   }
 
   behind_passes : (p : Part) (a : Lifted) → TsPasses allowed p.statement → LiftedPasses a → LiftedPasses (behind p a)
@@ -79,9 +87,11 @@ module _ (allowed : Named → Bool) (from top : ℕ) (drawn : AllowsDrawn allowe
   hold_unless_passes true x h = given (record { front = tt; rest = h })
   hold_unless_passes false x h = hold_passes x h
 
-  hold_but_offset_passes : (b : Bool) (p : Part) (op : Bin) (x y : Tx) → TxPasses allowed x → TxPasses allowed y → Keeps LiftedPasses (hold_but_offset b p op x y)
+  hold_but_offset_passes : (b : Bool) (p : Part) (op : Bin) (x y : Tx) → TxPasses allowed x → TxPasses allowed y →
+      Keeps LiftedPasses (hold_but_offset b p op x y)
   hold_but_offset_passes true p op x y hx hy =
-      made (hold_unless (stays p x) x) (λ a. record { front = a.front; rest = Binary op a.rest y }) (hold_unless_passes (stays p x) x hx) (λ a w. record { front = w.front; rest = (w.rest, hy) })
+      made (hold_unless (stays p x) x) (λ a. record { front = a.front; rest = Binary op a.rest y })
+      (hold_unless_passes (stays p x) x hx) (λ a w. record { front = w.front; rest = (w.rest, hy) })
   hold_but_offset_passes false p op x y hx hy = hold_passes (Binary op x y) (hx, hy)
 
   hold_for_passes : (p : Part) (x : Tx) → TxPasses allowed x → Keeps LiftedPasses (hold_for p x)
@@ -102,26 +112,35 @@ module _ (allowed : Named → Bool) (from top : ℕ) (drawn : AllowsDrawn allowe
 
   side_by_side_passes : (a b : Lifted) → LiftedPasses a → LiftedPasses b → Keeps TwoPass (side_by_side a b)
   side_by_side_passes a b v w =
-      made (in_front_of b.front a) (λ h. record { front = h.front before b.front; left = h.rest; right = b.rest }) (hold_before_passes _ b.front a v) (λ h u. record { front = first_then_passes h.front.statement b.front.statement u.front w.front; left = u.rest; right = w.rest })
+      made (in_front_of b.front a) (λ h. record { front = h.front before b.front; left = h.rest; right = b.rest })
+      (hold_before_passes _ b.front a v)
+      (λ h u. record { front = first_then_passes h.front.statement b.front.statement u.front w.front; left = u.rest; right = w.rest })
 
   argument_passes : (a : Lifted) (all : Arguments) → LiftedPasses a → ArgumentsPass all → Keeps ArgumentsPass (argument a all)
   argument_passes a all v w =
-      made (in_front_of all.front a) (λ h. record { front = h.front before all.front; rest = tx h.rest all.rest }) (hold_before_passes _ all.front a v) (λ h u. record { front = first_then_passes h.front.statement all.front.statement u.front w.front; rest = (u.rest, w.rest) })
+      made (in_front_of all.front a) (λ h. record { front = h.front before all.front; rest = tx h.rest all.rest })
+      (hold_before_passes _ all.front a v)
+      (λ h u. record { front = first_then_passes h.front.statement all.front.statement u.front w.front; rest = (u.rest, w.rest) })
 
   -- two words, and one
-  two_pass : {B : Type 0} {Q : B → Type 0} (m l : Draws Lifted) (f : Two → B) → Grows m → Grows l → Keeps LiftedPasses m → Keeps LiftedPasses l → ((a : Two) → TwoPass a → Q (f a)) →
+  two_pass : {B : Type 0} {Q : B → Type 0} (m l : Draws Lifted) (f : Two → B) → Grows m → Grows l → Keeps LiftedPasses m →
+      Keeps LiftedPasses l → ((a : Two) → TwoPass a → Q (f a)) →
       Keeps Q (word l >>= (λ b. word m >>= (λ a. side_by_side a b >>= (λ ab. give (f ab)))))
   two_pass m l f gm gl hm hl g =
       next (word l) (λ b. word m >>= (λ a. side_by_side a b >>= (λ ab. give (f ab)))) (word_grows l gl)
-      (λ b. growing.next (word m) (λ a. side_by_side a b >>= (λ ab. give (f ab))) (word_grows m gm) (λ a. growing.made (side_by_side a b) f (side_by_side_grows a b))) (word_passes l gl hl) (λ b w.
-      next (word m) (λ a. side_by_side a b >>= (λ ab. give (f ab))) (word_grows m gm) (λ a. growing.made (side_by_side a b) f (side_by_side_grows a b)) (word_passes m gm hm) (λ a v.
+      (λ b. growing.next (word m) (λ a. side_by_side a b >>= (λ ab. give (f ab))) (word_grows m gm)
+      (λ a. growing.made (side_by_side a b) f (side_by_side_grows a b))) (word_passes l gl hl) (λ b w.
+      next (word m) (λ a. side_by_side a b >>= (λ ab. give (f ab))) (word_grows m gm)
+      (λ a. growing.made (side_by_side a b) f (side_by_side_grows a b)) (word_passes m gm hm) (λ a v.
       made (side_by_side a b) f (side_by_side_passes a b v w) g))
 
-  one_passes : {B : Type 0} {Q : B → Type 0} (m : Draws Lifted) (f : Lifted → B) → Grows m → Keeps LiftedPasses m → ((a : Lifted) → LiftedPasses a → Q (f a)) → Keeps Q (word m >>= (λ a. give (f a)))
+  one_passes : {B : Type 0} {Q : B → Type 0} (m : Draws Lifted) (f : Lifted → B) → Grows m → Keeps LiftedPasses m →
+      ((a : Lifted) → LiftedPasses a → Q (f a)) → Keeps Q (word m >>= (λ a. give (f a)))
   one_passes m f gm hm g = made (word m) f (word_passes m gm hm) g
 
   -- one thing drawn after another
-  in_turn_pass : {A B C : Type 0} {P : A → Type 0} {Q : B → Type 0} {R : C → Type 0} (m : Draws A) (l : Draws B) (f : A → B → C) → Grows m → Grows l → Keeps P m → Keeps Q l → ((a : A) (b : B) → P a → Q b → R (f a b)) →
+  in_turn_pass : {A B C : Type 0} {P : A → Type 0} {Q : B → Type 0} {R : C → Type 0} (m : Draws A) (l : Draws B) (f : A → B → C) →
+      Grows m → Grows l → Keeps P m → Keeps Q l → ((a : A) (b : B) → P a → Q b → R (f a b)) →
       Keeps R (m >>= (λ a. l >>= (λ b. give (f a b))))
   in_turn_pass m l f gm gl hm hl g = next m (λ a. l >>= (λ b. give (f a b))) gm (λ a. growing.made l (f a) gl) hm (λ a w. made l (f a) hl (λ b v. g a b w v))
 
@@ -166,59 +185,93 @@ module _ (allowed : Named → Bool) (from top : ℕ) (drawn : AllowsDrawn allowe
     lift_passes out (Address i) h = given (record { front = tt; rest = h })
     lift_passes out (Temp i) h = given (record { front = tt; rest = h })
     lift_passes out FrameAddress h = given (record { front = tt; rest = tt })
-    lift_passes out (Binary op x y) h = two_pass (lift out x) (lift out y) (over_two (Binary op)) (lift_grows out x) (lift_grows out y) (lift_passes out x h.0) (lift_passes out y h.1) (λ a t. record { front = t.front; rest = (t.left, t.right) })
+    lift_passes out (Binary op x y) h = two_pass (lift out x) (lift out y) (over_two (Binary op)) (lift_grows out x)
+        (lift_grows out y) (lift_passes out x h.0) (lift_passes out y h.1) (λ a t. record { front = t.front; rest = (t.left, t.right) })
     lift_passes out (Load x) h = one_passes (lift out x) (over Load) (lift_grows out x) (lift_passes out x h) (λ a w. record { front = w.front; rest = w.rest })
-    lift_passes out (LoadByte x) h = one_passes (lift out x) (over LoadByte) (lift_grows out x) (lift_passes out x h) (λ a w. record { front = w.front; rest = w.rest })
-    lift_passes out (Call f xs) h = made (lift_all out xs) (over_all (Call f)) (lift_all_pass out xs h.1) (λ a w. record { front = w.front; rest = (h.0, w.rest) })
-    lift_passes out (Service i x) h = one_passes (lift out x) (over (Service i)) (lift_grows out x) (lift_passes out x h) (λ a w. record { front = w.front; rest = w.rest })
-    lift_passes out (After s x) h = in_turn_pass (lift out x) (linear out s) (λ a p. behind p a) (lift_grows out x) (linear_grows out s) (lift_passes out x h.1) (linear_passes out s h.0) (λ a p w l. behind_passes p a l.part w)
+    lift_passes out (LoadByte x) h = one_passes (lift out x) (over LoadByte) (lift_grows out x) (lift_passes out x h)
+        (λ a w. record { front = w.front; rest = w.rest })
+    lift_passes out (Call f xs) h = made (lift_all out xs) (over_all (Call f)) (lift_all_pass out xs h.1)
+        (λ a w. record { front = w.front; rest = (h.0, w.rest) })
+    lift_passes out (Service i x) h = one_passes (lift out x) (over (Service i)) (lift_grows out x) (lift_passes out x h)
+        (λ a w. record { front = w.front; rest = w.rest })
+    lift_passes out (After s x) h = in_turn_pass (lift out x) (linear out s) (λ a p. behind p a) (lift_grows out x)
+        (linear_grows out s) (lift_passes out x h.1) (linear_passes out s h.0) (λ a p w l. behind_passes p a l.part w)
 
     lift_all_pass : (out : ℕ → ℕ) (xs : Txs) → TxsPass allowed xs → Keeps ArgumentsPass (lift_all out xs)
     lift_all_pass out no_txs h = given (record { front = tt; rest = tt })
     lift_all_pass out (tx x xs) h =
         next (lift_all out xs) (λ all. word (lift out x) >>= (λ a. argument a all)) (growing.lift_all_grows out xs)
-        (λ all. growing.next (word (lift out x)) (λ a. argument a all) (word_grows (lift out x) (lift_grows out x)) (λ a. argument_grows a all)) (lift_all_pass out xs h.1) (λ all l.
-        next (word (lift out x)) (λ a. argument a all) (word_grows (lift out x) (lift_grows out x)) (λ a. argument_grows a all) (word_passes (lift out x) (lift_grows out x) (lift_passes out x h.0)) (λ a w. argument_passes a all w l))
+        (λ all. growing.next (word (lift out x)) (λ a. argument a all) (word_grows (lift out x) (lift_grows out x)) (λ a. argument_grows a all))
+        (lift_all_pass out xs h.1) (λ all l.
+        next (word (lift out x)) (λ a. argument a all) (word_grows (lift out x) (lift_grows out x)) (λ a. argument_grows a all)
+        (word_passes (lift out x) (lift_grows out x) (lift_passes out x h.0)) (λ a w. argument_passes a all w l))
 
     condition_passes : (out : ℕ → ℕ) (c : Cond) → CondPasses allowed c → Keeps TestedPasses (condition out c)
-    condition_passes out (Compare rel x y) h = two_pass (lift out x) (lift out y) (compared (Compare rel)) (lift_grows out x) (lift_grows out y) (lift_passes out x h.0) (lift_passes out y h.1) (λ a t. record { front = t.front; condition = (t.left, t.right) })
+    condition_passes out (Compare rel x y) h = two_pass (lift out x) (lift out y) (compared (Compare rel)) (lift_grows out x)
+        (lift_grows out y) (lift_passes out x h.0) (lift_passes out y h.1) (λ a t. record { front = t.front; condition = (t.left, t.right) })
     condition_passes out (Not c) h = made (condition out c) opposite (condition_passes out c h) (λ t l. record { front = l.front; condition = l.condition })
-    condition_passes out (Both c d) h = in_turn_pass (condition out d) (condition out c) (λ u t. joined Both t u) (condition_grows out d) (condition_grows out c) (condition_passes out d h.1) (condition_passes out c h.0) (λ u t l m. both_pass t u m l)
-    condition_passes out (Either c d) h = in_turn_pass (condition out d) (condition out c) (λ u t. joined Either t u) (condition_grows out d) (condition_grows out c) (condition_passes out d h.1) (condition_passes out c h.0) (λ u t l m. either_passes t u m l)
+    condition_passes out (Both c d) h = in_turn_pass (condition out d) (condition out c) (λ u t. joined Both t u)
+        (condition_grows out d) (condition_grows out c) (condition_passes out d h.1) (condition_passes out c h.0) (λ u t l m. both_pass t u m l)
+    condition_passes out (Either c d) h = in_turn_pass (condition out d) (condition out c) (λ u t. joined Either t u)
+        (condition_grows out d) (condition_grows out c) (condition_passes out d h.1) (condition_passes out c h.0) (λ u t l m. either_passes t u m l)
 
     leave_passes : (out : ℕ → ℕ) (w : Bool) (k : ℕ) (c : Cond) → CondPasses allowed c → Keeps PartPasses (leave out w k c)
-    leave_passes out w k (Compare rel x y) h = two_pass (lift out x) (lift out y) (λ ab. exit_where w k (compared (Compare rel) ab)) (lift_grows out x) (lift_grows out y) (lift_passes out x h.0) (lift_passes out y h.1) (λ a t. exit_passes w k (compared (Compare rel) a) (record { front = t.front; condition = (t.left, t.right) }))
+    leave_passes out w k (Compare rel x y) h = two_pass (lift out x) (lift out y) (λ ab. exit_where w k (compared (Compare rel) ab))
+        (lift_grows out x) (lift_grows out y) (lift_passes out x h.0) (lift_passes out y h.1)
+        (λ a t. exit_passes w k (compared (Compare rel) a) (record { front = t.front; condition = (t.left, t.right) }))
     leave_passes out true k (Not c) h = leave_passes out false k c h
     leave_passes out false k (Not c) h = leave_passes out true k c h
-    leave_passes out false k (Both c d) h = in_turn_pass (leave out false k d) (leave out false k c) (λ q p. p before q) (leave_grows out false k d) (leave_grows out false k c) (leave_passes out false k d h.1) (leave_passes out false k c h.0) (λ q p l m. before_passes p q m l)
+    leave_passes out false k (Both c d) h = in_turn_pass (leave out false k d) (leave out false k c) (λ q p. p before q)
+        (leave_grows out false k d) (leave_grows out false k c) (leave_passes out false k d h.1) (leave_passes out false k c h.0)
+        (λ q p l m. before_passes p q m l)
     leave_passes out true k (Both c d) h =
-        in_turn_pass (leave (deeper 1 out) true (k + 1) d) (leave (deeper 1 out) false 0 c) (λ q p. block (p before q)) (leave_grows (deeper 1 out) true (k + 1) d) (leave_grows (deeper 1 out) false 0 c)
-        (leave_passes (deeper 1 out) true (k + 1) d h.1) (leave_passes (deeper 1 out) false 0 c h.0) (λ q p l m. block_passes (p before q) (before_passes p q m l))
-    leave_passes out true k (Either c d) h = in_turn_pass (leave out true k d) (leave out true k c) (λ q p. p before q) (leave_grows out true k d) (leave_grows out true k c) (leave_passes out true k d h.1) (leave_passes out true k c h.0) (λ q p l m. before_passes p q m l)
+        in_turn_pass (leave (deeper 1 out) true (k + 1) d) (leave (deeper 1 out) false 0 c) (λ q p. block (p before q))
+        (leave_grows (deeper 1 out) true (k + 1) d) (leave_grows (deeper 1 out) false 0 c)
+        (leave_passes (deeper 1 out) true (k + 1) d h.1) (leave_passes (deeper 1 out) false 0 c h.0)
+        (λ q p l m. block_passes (p before q) (before_passes p q m l))
+    leave_passes out true k (Either c d) h = in_turn_pass (leave out true k d) (leave out true k c) (λ q p. p before q)
+        (leave_grows out true k d) (leave_grows out true k c) (leave_passes out true k d h.1) (leave_passes out true k c h.0) (λ q p l m. before_passes p q m l)
     leave_passes out false k (Either c d) h =
-        in_turn_pass (leave (deeper 1 out) false (k + 1) d) (leave (deeper 1 out) true 0 c) (λ q p. block (p before q)) (leave_grows (deeper 1 out) false (k + 1) d) (leave_grows (deeper 1 out) true 0 c)
-        (leave_passes (deeper 1 out) false (k + 1) d h.1) (leave_passes (deeper 1 out) true 0 c h.0) (λ q p l m. block_passes (p before q) (before_passes p q m l))
+        in_turn_pass (leave (deeper 1 out) false (k + 1) d) (leave (deeper 1 out) true 0 c) (λ q p. block (p before q))
+        (leave_grows (deeper 1 out) false (k + 1) d) (leave_grows (deeper 1 out) true 0 c)
+        (leave_passes (deeper 1 out) false (k + 1) d h.1) (leave_passes (deeper 1 out) true 0 c h.0)
+        (λ q p l m. block_passes (p before q) (before_passes p q m l))
 
     linear_passes : (out : ℕ → ℕ) (s : Ts) → TsPasses allowed s → Keeps PartPasses (linear out s)
-    linear_passes out (Move i x) h = made (lift out x) (with_one (λ v. assigning i (Move i v))) (lift_passes out x h.1) (λ a w. record { part = first_then_passes a.front.statement (Move i a.rest) w.front (h.0, w.rest) })
-    linear_passes out (Store x y) h = two_pass (lift out x) (lift out y) (with_two Store) (lift_grows out x) (lift_grows out y) (lift_passes out x h.0) (lift_passes out y h.1) (λ a t. record { part = first_then_passes a.front.statement (Store a.left a.right) t.front (t.left, t.right) })
-    linear_passes out (StoreByte x y) h = two_pass (lift out x) (lift out y) (with_two StoreByte) (lift_grows out x) (lift_grows out y) (lift_passes out x h.0) (lift_passes out y h.1) (λ a t. record { part = first_then_passes a.front.statement (StoreByte a.left a.right) t.front (t.left, t.right) })
-    linear_passes out (Do x) h = made (lift out x) (with_one dropped) (lift_passes out x h) (λ a w. record { part = first_then_passes a.front.statement (dropped a.rest).statement w.front (dropped_passes a.rest w.rest) })
+    linear_passes out (Move i x) h = made (lift out x) (with_one (λ v. assigning i (Move i v))) (lift_passes out x h.1)
+        (λ a w. record { part = first_then_passes a.front.statement (Move i a.rest) w.front (h.0, w.rest) })
+    linear_passes out (Store x y) h = two_pass (lift out x) (lift out y) (with_two Store) (lift_grows out x) (lift_grows out y)
+        (lift_passes out x h.0) (lift_passes out y h.1)
+        (λ a t. record { part = first_then_passes a.front.statement (Store a.left a.right) t.front (t.left, t.right) })
+    linear_passes out (StoreByte x y) h = two_pass (lift out x) (lift out y) (with_two StoreByte) (lift_grows out x)
+        (lift_grows out y) (lift_passes out x h.0) (lift_passes out y h.1)
+        (λ a t. record { part = first_then_passes a.front.statement (StoreByte a.left a.right) t.front (t.left, t.right) })
+    linear_passes out (Do x) h = made (lift out x) (with_one dropped) (lift_passes out x h)
+        (λ a w. record { part = first_then_passes a.front.statement (dropped a.rest).statement w.front (dropped_passes a.rest w.rest) })
     linear_passes out (If c s t) h =
         choose_passes (is_whole c) _ _
-        (next (linear out t) (λ q. linear out s >>= (λ p. condition out c >>= (λ u. give (choice u p q)))) (linear_grows out t) (λ q. growing.in_turn_grow (linear out s) (condition out c) (λ p u. choice u p q) (linear_grows out s) (condition_grows out c)) (linear_passes out t h.2) (λ q hq.
-        in_turn_pass (linear out s) (condition out c) (λ p u. choice u p q) (linear_grows out s) (condition_grows out c) (linear_passes out s h.1) (condition_passes out c h.0) (λ p u hp hu. choice_passes u p q hu hp hq)))
-        (next (linear (deeper 1 out) t) (λ q. linear (deeper 2 out) s >>= (λ p. leave (deeper 2 out) false 0 c >>= (λ u. give (wide_choice u p q)))) (linear_grows (deeper 1 out) t) (λ q. growing.in_turn_grow (linear (deeper 2 out) s) (leave (deeper 2 out) false 0 c) (λ p u. wide_choice u p q) (linear_grows (deeper 2 out) s) (leave_grows (deeper 2 out) false 0 c)) (linear_passes (deeper 1 out) t h.2) (λ q hq.
-        in_turn_pass (linear (deeper 2 out) s) (leave (deeper 2 out) false 0 c) (λ p u. wide_choice u p q) (linear_grows (deeper 2 out) s) (leave_grows (deeper 2 out) false 0 c) (linear_passes (deeper 2 out) s h.1) (leave_passes (deeper 2 out) false 0 c h.0) (λ p u hp hu. wide_passes u p q hu hp hq)))
+        (next (linear out t) (λ q. linear out s >>= (λ p. condition out c >>= (λ u. give (choice u p q)))) (linear_grows out t)
+        (λ q. growing.in_turn_grow (linear out s) (condition out c) (λ p u. choice u p q) (linear_grows out s) (condition_grows out c))
+        (linear_passes out t h.2) (λ q hq.
+        in_turn_pass (linear out s) (condition out c) (λ p u. choice u p q) (linear_grows out s) (condition_grows out c)
+        (linear_passes out s h.1) (condition_passes out c h.0) (λ p u hp hu. choice_passes u p q hu hp hq)))
+        (next (linear (deeper 1 out) t) (λ q. linear (deeper 2 out) s >>= (λ p. leave (deeper 2 out) false 0 c >>= (λ u. give (wide_choice u p q))))
+        (linear_grows (deeper 1 out) t) (λ q. growing.in_turn_grow (linear (deeper 2 out) s) (leave (deeper 2 out) false 0 c)
+        (λ p u. wide_choice u p q) (linear_grows (deeper 2 out) s) (leave_grows (deeper 2 out) false 0 c)) (linear_passes (deeper 1 out) t h.2) (λ q hq.
+        in_turn_pass (linear (deeper 2 out) s) (leave (deeper 2 out) false 0 c) (λ p u. wide_choice u p q)
+        (linear_grows (deeper 2 out) s) (leave_grows (deeper 2 out) false 0 c) (linear_passes (deeper 2 out) s h.1)
+        (leave_passes (deeper 2 out) false 0 c h.0) (λ p u hp hu. wide_passes u p q hu hp hq)))
     linear_passes out (Loop s) h = made (linear (inside out) s) loop_of (linear_passes (inside out) s h) (λ p l. record { part = l.part })
     linear_passes out (Break k) h = given (record { part = tt })
     linear_passes out (Fault i) h = given (record { part = h })
     linear_passes out (Seq ss) h = made (linear_all out ss) in_turn (linear_all_pass out ss h) (λ all l. record { part = l.list })
-    linear_passes out (Return x) h = one_passes (lift out x) (with_one (λ v. still (Return v))) (lift_grows out x) (lift_passes out x h) (λ a w. record { part = first_then_passes a.front.statement (Return a.rest) w.front w.rest })
+    linear_passes out (Return x) h = one_passes (lift out x) (with_one (λ v. still (Return v))) (lift_grows out x)
+        (lift_passes out x h) (λ a w. record { part = first_then_passes a.front.statement (Return a.rest) w.front w.rest })
 
     linear_all_pass : (out : ℕ → ℕ) (ss : Stms) → StmsPass allowed ss → Keeps PartsPass (linear_all out ss)
     linear_all_pass out no_stms h = given (record { list = tt })
-    linear_all_pass out (stm s ss) h = in_turn_pass (linear_all out ss) (linear out s) (λ all p. in_front p all) (growing.linear_all_grows out ss) (linear_grows out s) (linear_all_pass out ss h.1) (linear_passes out s h.0) (λ all p l m. in_front_passes p all m l)
+    linear_all_pass out (stm s ss) h = in_turn_pass (linear_all out ss) (linear out s) (λ all p. in_front p all)
+        (growing.linear_all_grows out ss) (linear_grows out s) (linear_all_pass out ss h.1) (linear_passes out s h.0) (λ all p l m. in_front_passes p all m l)
 
   statements_pass : (s : Ts) → TsPasses allowed s → StmsPass allowed (statements_of s)
   statements_pass (Seq ss) h = h
@@ -236,9 +289,11 @@ module _ (allowed : Named → Bool) (from top : ℕ) (drawn : AllowsDrawn allowe
   statements_keep : (body : Ts) → TsPasses allowed body → (linearized body from).next ≤ top → StmsPass allowed (linearized body from).it
   statements_keep body h high = statements_pass (linear (λ i. i) body from).it.statement ((linear_passes (λ i. i) body h).at from (omega arith) high).part
 
-pub linearized_names : (allowed : Named → Bool) (body : Ts) (temps : ℕ) → AreAllowed allowed (named_ts body []) → AllowsDrawn allowed temps (linearized body temps).next → AreAllowed allowed (named_stms (linearized body temps).it [])
+pub linearized_names : (allowed : Named → Bool) (body : Ts) (temps : ℕ) → AreAllowed allowed (named_ts body []) →
+    AllowsDrawn allowed temps (linearized body temps).next → AreAllowed allowed (named_stms (linearized body temps).it [])
 linearized_names allowed body temps h drawn =
-    statements_allowed allowed (linearized body temps).it (statements_keep allowed temps (linearized body temps).next drawn body (body_passes allowed body h) (omega arith))
+    statements_allowed allowed (linearized body temps).it (statements_keep allowed temps (linearized body temps).next
+    drawn body (body_passes allowed body h) (omega arith))
 
 -- a test of temporaries alone
 abbrev pub below : ℕ → Named → Bool
@@ -253,8 +308,10 @@ below_more m n names le h (function label) d = refl
 below_more m n names le h (literal label) d = refl
 below_more m n names le h (fault j) d = refl
 
-pub temporaries_below : (body : Ts) (temps : ℕ) → AreTempsBelow temps (named_ts body []) → AreTempsBelow (linearized body temps).next (named_stms (linearized body temps).it [])
+pub temporaries_below : (body : Ts) (temps : ℕ) → AreTempsBelow temps (named_ts body []) →
+    AreTempsBelow (linearized body temps).next (named_stms (linearized body temps).it [])
 temporaries_below body temps h i c =
     ltb-true i (linearized body temps).next
-    (linearized_names (below (linearized body temps).next) body temps (below_more temps (linearized body temps).next (named_ts body []) (linearized_grows body temps) h)
+    (linearized_names (below (linearized body temps).next) body temps (below_more temps (linearized body temps).next
+    (named_ts body []) (linearized_grows body temps) h)
     (λ j low high. lt-ltb j (linearized body temps).next high) (temporary i) c)

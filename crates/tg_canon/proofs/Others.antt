@@ -6,12 +6,14 @@ use Rattle.tg_tree.specs.Plain.{plain_tx}
 use Rattle.tg_canon.specs.Drawing.{Draws, Gives}
 use Rattle.tg_canon.specs.Canon.{Part, Lifted, stays, hold_unless, hold_for}
 
-other_held : (p : Part) (x : CodeTx) → ((op : Bin) (a b : Box CodeTx Global) → x ≡ Binary op a b → ⊥) → hold_for p (plain_tx x) ≡ hold_unless (stays p (plain_tx x)) (plain_tx x)
+other_held : (p : Part) (x : CodeTx) → ((op : Bin) (a b : Box CodeTx Global) → x ≡ Binary op a b → ⊥) →
+    hold_for p (plain_tx x) ≡ hold_unless (stays p (plain_tx x)) (plain_tx x)
 other_held p (Const _) h = refl
 other_held p (Address _) h = refl
 other_held p (Temp _) h = refl
 other_held p FrameAddress h = refl
-other_held p (Binary' op s a t b) h = absurd (h op (record { ptr = s.ptr; alloc = s.alloc; value = a }) (record { ptr = t.ptr; alloc = t.alloc; value = b }) refl)
+other_held p (Binary' op s a t b) h =
+    absurd (h op (record { ptr = s.ptr; alloc = s.alloc; value = a }) (record { ptr = t.ptr; alloc = t.alloc; value = b }) refl)
 other_held p (Load' _ _) h = refl
 other_held p (LoadByte' _ _) h = refl
 other_held p (Call' _ _ _) h = refl

@@ -6,7 +6,8 @@ use Rattle.tg_base.specs.State.{stack_top}
 use Rattle.tg_runs.specs.Ran.{Ran, Stop, Ended}
 use Rattle.tg_tree.specs.declared.operators.Bin.TheVariants.{Add}
 use Rattle.tg_tree.specs.declared.operators.Rel.TheVariants.{Less, Equal}
-use Rattle.tg_tree.specs.Tree.{Tx, Const, Temp, Binary, Load, Call, Service, no_txs, Compare, Both, Either, Ts, Move, Store, Do, If, Loop, Break, Return, Stms, Function, Code}
+use Rattle.tg_tree.specs.Tree.{Tx, Const, Temp, Binary, Load, Call, Service, no_txs, Compare, Both, Either, Ts, Move, Store, Do, If, Loop, Break}
+use Rattle.tg_tree.specs.Tree.{Return, Stms, Function, Code}
 use Rattle.tg_tree.specs.Units.{Trees}
 use Rattle.tg_tree.specs.Running.{tree_run, canonical_run}
 use Rattle.tg_tree.specs.Forms.{stms, sequence}

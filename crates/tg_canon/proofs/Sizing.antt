@@ -1,7 +1,8 @@
 -- Lengths and rooms of parts that are put together, and what room an expression has left for being held.
 use Rattle.std.proofs.Common.{◌≡◌, ℕ, ◌+◌, ◌<◌, ◌≤◌, Bool, true, false, if◌then◌else◌, nat_lt, refl, ap, arith}
 use Rattle.std.proofs.lemmas.Bool.{lt-ltb, le-ltb}
-use Rattle.tg_tree.specs.Tree.{Tx, Const, Address, Temp, FrameAddress, Binary, Load, LoadByte, Call, Service, After, Ts, Seq, no_stms, stm, Move, Store, StoreByte, Do, If, Loop, Break, Fault, Return}
+use Rattle.tg_tree.specs.Tree.{Tx, Const, Address, Temp, FrameAddress, Binary, Load, LoadByte, Call, Service, After, Ts, Seq, no_stms, stm, Move}
+use Rattle.tg_tree.specs.Tree.{Store, StoreByte, Do, If, Loop, Break, Fault, Return}
 use Rattle.tg_tree.specs.Units.{Canonical}
 use Rattle.tg_tree.specs.Sizes.{statement_length, statement_room, in_canonical}
 use Rattle.tg_canon.specs.Canon.{is_nothing, pair, first_then}

@@ -7,11 +7,14 @@ use Rattle.tg_tree.specs.Units.{Trees, Canonical, lifted_units, joined_units}
 use Rattle.tg_tree.specs.Sizes.{condition_length, condition_room, in_trees, in_canonical}
 use Rattle.tg_tree.specs.Shapes.{IsFlatCond, is_flat, is_flat_condition}
 use Rattle.tg_tree.specs.Actions.{World, Temps, Activation, Around, Acts, Go, Next, Out, Back, give, over, charged, leaving}
-use Rattle.tg_canon.specs.Canon.{Part, still, is_nothing, nothing, first_then, ◌before◌, block, as_part, Lifted, is_whole, Tested, opposite, joined, exit_where, wide_choice, deeper}
+use Rattle.tg_canon.specs.Canon.{Part, still, is_nothing, nothing, first_then, ◌before◌, block, as_part, Lifted, is_whole, Tested, opposite, joined}
+use Rattle.tg_canon.specs.Canon.{exit_where, wide_choice, deeper}
 use Rattle.tg_canon.proofs.Sizing.{size, takes, in_turn_counts}
 use Rattle.tg_canon.proofs.Paying.{Sim, trade, pays, worked, reworked, unpaid, credit, along, free, charged_add}
-use Rattle.tg_canon.proofs.Fixed.{Scene, around, tree_value, tree_test, tree_does, mixed_value, mixed_test, then_test, then_does, IsFixed, gives, stops, fixed_test}
-use Rattle.tg_canon.proofs.Splits.{Known, Beside, KeptBy, kept_within, kept_first, kept_second, Only, only, OutsAre, BacksAre, outs_more, outs_only, backs_more, IsSplit, IsDone, does_nothing, does_in_turn}
+use Rattle.tg_canon.proofs.Fixed.{Scene, around, tree_value, tree_test, tree_does, mixed_value, mixed_test, then_test, then_does, IsFixed, gives}
+use Rattle.tg_canon.proofs.Fixed.{stops, fixed_test}
+use Rattle.tg_canon.proofs.Splits.{Known, Beside, KeptBy, kept_within, kept_first, kept_second, Only, only, OutsAre, BacksAre, outs_more, outs_only}
+use Rattle.tg_canon.proofs.Splits.{backs_more, IsSplit, IsDone, does_nothing, does_in_turn}
 use Rattle.tg_canon.proofs.Helds.{IsOwned, owned_both, owned_none, fixed_runs}
 use Rattle.tg_canon.proofs.Words.{WordIs, PairIs, both_nothing}
 use Rattle.tg_canon.proofs.Dones.{leaving_more}

@@ -10,12 +10,14 @@ use Rattle.tg_tree.specs.Shapes.{IsFlat, IsFlatSide, is_flat}
 use Rattle.tg_tree.specs.Actions.{World, Temps, Activation, Acts, Go, Next, Out, Back, over, charged}
 use Rattle.tg_tree.proofs.Flatness.{tested_flat}
 use Rattle.tg_canon.specs.Drawing.{Drawn}
-use Rattle.tg_canon.specs.Canon.{Part, still, is_nothing, pair, first_then, ◌before◌, Lifted, behind, is_constant, is_side, hold_side, hold_for, hold_before, in_front_of}
+use Rattle.tg_canon.specs.Canon.{Part, still, is_nothing, pair, first_then, ◌before◌, Lifted, behind, is_constant, is_side, hold_side, hold_for}
+use Rattle.tg_canon.specs.Canon.{hold_before, in_front_of}
 use Rattle.tg_canon.proofs.Sizing.{size, takes, holdable, holdable_most, drawn_held, in_turn_counts}
 use Rattle.tg_canon.proofs.Paying.{Sim, pays, unpaid, credit, along}
 use Rattle.tg_canon.proofs.Fixed.{Scene, around, tree_value, mixed_value, then_value, then_does, IsFixed, gives, stops, fixed_value}
 use Rattle.tg_canon.proofs.Steady.{Occurs, IsSteady, ComesTo, one_word, no_word, steady_comes}
-use Rattle.tg_canon.proofs.Splits.{set_other, Known, Beside, StaysKnown, KeptBy, kept_first, kept_second, beside_less, Only, only, OutsAre, BacksAre, outs_more, outs_less, outs_only, backs_more, IsSplit, does_nothing, does_in_turn}
+use Rattle.tg_canon.proofs.Splits.{set_other, Known, Beside, StaysKnown, KeptBy, kept_first, kept_second, beside_less, Only, only, OutsAre, BacksAre}
+use Rattle.tg_canon.proofs.Splits.{outs_more, outs_less, outs_only, backs_more, IsSplit, does_nothing, does_in_turn}
 use Rattle.tg_canon.proofs.Sides.{side_flat}
 use Rattle.tg_canon.proofs.Helds.{IsIn, IsOwned, owned_both, owned_none, IsHeld, held, move_runs}
 

@@ -45,7 +45,8 @@ use Rattle.tg_compile.specs.Passes.{allocation_of, CompileApart}
 abbrev pub tree_of : List Fragment → List Literal → Code Ts
 tree_of functions literals = record { functions = map plain_fragment functions; literals = map plain_literal literals }
 
-joined : (fs gs all : List Fragment) (ls ms every : List Literal) → all ≡ fs ++ gs → every ≡ ls ++ ms → tree_of gs ms ≡ runtime → tree_of all every ≡ with_runtime (tree_of fs ls)
+joined : (fs gs all : List Fragment) (ls ms every : List Literal) → all ≡ fs ++ gs → every ≡ ls ++ ms → tree_of gs ms ≡ runtime →
+    tree_of all every ≡ with_runtime (tree_of fs ls)
 joined fs gs all ls ms every p q r =
     let functions : map plain_fragment all ≡ map plain_fragment fs ++ runtime.functions =
     ap (λ x. map plain_fragment x) p ∙ map-append plain_fragment fs gs ∙ ap (λ (c : Code Ts). map plain_fragment fs ++ c.functions) r in
@@ -54,7 +55,8 @@ joined fs gs all ls ms every p q r =
     λ i. record { functions = functions i; literals = literals i }
 
 -- a program's functions and literals are what it is translated to, and the runtime's stand behind them
-pub translated_whole : (notes : List Note) (body : Exp) (escaping : FinSet nat_cmp) (fs gs all : List Fragment) (ls ms every : List Literal) → escaping ≡ from_list (escapes_of body) →
+pub translated_whole : (notes : List Note) (body : Exp) (escaping : FinSet nat_cmp) (fs gs all : List Fragment) (ls ms every : List Literal) →
+    escaping ≡ from_list (escapes_of body) →
     tree_of fs ls ≡ translated (found notes escaping (from_list (links_of body))) body → all ≡ fs ++ gs → every ≡ ls ++ ms → tree_of gs ms ≡ runtime →
     tree_of all every ≡ fragments_of notes body
 translated_whole notes body escaping fs gs all ls ms every e h p q r =
@@ -65,7 +67,8 @@ abbrev placement_of : Allocation → Placement
 placement_of a = record { registers = a.registers; rounds = a.rounds; all_in_frame = a.all_in_frame; slots = a.slots }
 
 -- one more function
-compile_more : (rule : Rule) (fs : List (Function Ts)) (codes : List Allocated) (ps : List Placement) (f : Function Ts) (code : Allocated) (p : Placement) → CompileApart rule fs codes ps → CompilesFunction rule f (allocation_of (code, p)) →
+compile_more : (rule : Rule) (fs : List (Function Ts)) (codes : List Allocated) (ps : List Placement) (f : Function Ts)
+    (code : Allocated) (p : Placement) → CompileApart rule fs codes ps → CompilesFunction rule f (allocation_of (code, p)) →
     CompileApart rule (fs ++ f ∷ []) (codes ++ code ∷ []) (ps ++ p ∷ [])
 compile_more rule [] [] [] f code p h k = (k, tt)
 compile_more rule [] [] (q ∷ ps) f code p h k = absurd h
@@ -99,7 +102,8 @@ together rule (f ∷ fs) (c ∷ codes) (p ∷ ps) h =
     ((h.0, rest.0), ap (λ (cs : List Allocated). c ∷ cs) rest.1)
 
 -- a program whose functions are compiled, and whose text is written
-pub compiles_whole : (rule : Rule) (notes : List Note) (body : Exp) (functions : List Fragment) (literals : List Literal) (codes : List Allocated) (ps : List Placement) (all : List Allocation) (text : List ℕ) →
+pub compiles_whole : (rule : Rule) (notes : List Note) (body : Exp) (functions : List Fragment) (literals : List Literal)
+    (codes : List Allocated) (ps : List Placement) (all : List Allocation) (text : List ℕ) →
     tree_of functions literals ≡ fragments_of notes body → CompileApart rule (map plain_fragment functions) codes ps → all ≡ map allocation_of (zip codes ps) →
     text ≡ text_of (assembly_of codes literals) → HasImage text → Compiles rule notes body all text
 compiles_whole rule notes body functions literals codes ps all text tree apart joins written image =
@@ -116,7 +120,8 @@ compiles_whole rule notes body functions literals codes ps all text tree apart j
     }
 
 -- canonical statements, blocks and traces give flat code
-pub flattens : (frame new : Frame) (body : Ts) (statements : Stms) (blocks : List Block) (flat : List Linear) → Gives (linearized body) frame.temps statements new.temps →
+pub flattens : (frame new : Frame) (body : Ts) (statements : Stms) (blocks : List Block) (flat : List Linear) →
+    Gives (linearized body) frame.temps statements new.temps →
     new.label ≡ frame.label → new.params ≡ frame.params → new.slots ≡ frame.slots → new.out ≡ frame.out → blocks ≡ blocks_of statements → flat ≡ traced blocks →
     plain_function new flat ≡ flattened (plain_function frame body)
 unfolding flattened
@@ -157,6 +162,7 @@ chooses f between new flat code is label params slots drawn out list temps few =
     }
 
 -- the text of a program is assembled to the image of its lines
-pub written_image : (codes : List Allocated) (literals : List Literal) (text : List ℕ) → text ≡ text_of (assembly_of codes literals) → IsProgram codes literals → AreTyped codes literals → HasImage text
+pub written_image : (codes : List Allocated) (literals : List Literal) (text : List ℕ) → text ≡ text_of (assembly_of codes literals) →
+    IsProgram codes literals → AreTyped codes literals → HasImage text
 written_image codes literals text is whole typed =
     record { image = image_of (readings_of (program_written codes literals)); assembles = ap assembled is ∙ program_has_image codes literals whole typed }

@@ -1,5 +1,6 @@
 -- What the instructions of a program name is there: the passes name no more than its trees do.
-use Rattle.std.proofs.Common.{◌≡◌, ◌≢◌, ◌<◌, ℕ, zero, suc, Bool, true, false, List, [], ◌∷◌, ◌++◌, refl, sym, ap, subst, ◌∙◌, arith, eq-eqb, get_or, length, inl, inr, ◌≤◌}
+use Rattle.std.proofs.Common.{◌≡◌, ◌≢◌, ◌<◌, ℕ, zero, suc, Bool, true, false, List, [], ◌∷◌, ◌++◌, refl, sym, ap, subst, ◌∙◌, arith, eq-eqb, get_or}
+use Rattle.std.proofs.Common.{length, inl, inr, ◌≤◌}
 use Rattle.std.specs.Prelude.{◌||◌, ◌==◌, nat_le, map, not, IsTrue}
 use Rattle.std.specs.List.{Contains, AllPairs, list_all}
 use Rattle.std.proofs.lemmas.Bool.{lt-ltb, and_from, and_parts, or_left, or_right}
@@ -194,7 +195,8 @@ pub emittable : (codes : List Allocated) → list_all has_small_frame codes ≡ 
 emittable [] e d = refl
 emittable (c ∷ codes) e d =
     and_from (is_emittable c) (list_all is_emittable codes)
-    (and_from (has_small_frame c) (have_codes c) (and_parts (has_small_frame c) (list_all has_small_frame codes) e).0 (and_parts (have_codes c) (list_all have_codes codes) d).0)
+    (and_from (has_small_frame c) (have_codes c) (and_parts (has_small_frame c) (list_all has_small_frame codes) e).0
+    (and_parts (have_codes c) (list_all have_codes codes) d).0)
     (emittable codes (and_parts (has_small_frame c) (list_all has_small_frame codes) e).1 (and_parts (have_codes c) (list_all have_codes codes) d).1)
 
 within : (a b : ℕ) → nat_le a b ≡ true → a ≤ b

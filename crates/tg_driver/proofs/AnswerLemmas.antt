@@ -2,7 +2,8 @@
 use Rattle.std.specs.Prelude.{Ok, Err, IsErrOf, ◌≤◌, length}
 use Rattle.std.proofs.Common.{ℕ, ◌≡◌, ◌<◌, List, [], Option, Some, None, refl, sym, ap, subst, arith}
 use Rattle.tg_base.specs.declared.ends.RunEnd.{RunEnd}
-use Rattle.tg_base.specs.declared.ends.RunEnd.TheVariants.{Exit, Break, Overflow, HeapFull, StackFull, StepLimit, BadAddress, Unaligned, BadWord, BadService, ReadFault, WriteFault}
+use Rattle.tg_base.specs.declared.ends.RunEnd.TheVariants.{Exit, Break, Overflow, HeapFull, StackFull, StepLimit, BadAddress, Unaligned, BadWord}
+use Rattle.tg_base.specs.declared.ends.RunEnd.TheVariants.{BadService, ReadFault, WriteFault}
 use Rattle.tg_base.specs.InMemory.{PlainBytes}
 use Rattle.tg_machine.specs.Machines.{Simulated, loaded}
 use Rattle.tg_machine.specs.Ran.{IsSimulation}
@@ -35,11 +36,13 @@ use Rattle.tg_driver.specs.Answered.{IsDue, usage, asked, Answers}
 use Rattle.tg_driver.specs.Answered as answered
 
 -- the answer is due to the front of a file, or the file wasn't read
-pub of_text : {H : Type 0} (shelf : Shelved H) (name : List ℕ) (most : ℕ) (due : List ℕ → Answer → Type 0) (text : List ℕ) (answer : Answer) → IsFrontOf (shelf.files shelf.before) name most text → OrMemory (Unit {0}) (due text) answer → OrMemory (Unit {0}) (OfFile shelf name most due) answer
+pub of_text : {H : Type 0} (shelf : Shelved H) (name : List ℕ) (most : ℕ) (due : List ℕ → Answer → Type 0) (text : List ℕ) (answer : Answer) →
+    IsFrontOf (shelf.files shelf.before) name most text → OrMemory (Unit {0}) (due text) answer → OrMemory (Unit {0}) (OfFile shelf name most due) answer
 of_text shelf name most due text OutOfMemory front h = tt
 of_text shelf name most due text _ front h = read text front h
 
-pub of_unread : {H T : Type 0} (shelf : Shelved H) (name : List ℕ) (most : ℕ) (due : List ℕ → Answer → Type 0) (fault : ShelfFault) → (IsErrOf {T = T} (Err fault) Failed → IsUnread shelf name) → OrMemory (Unit {0}) (OfFile shelf name most due) (unread_answer fault)
+pub of_unread : {H T : Type 0} (shelf : Shelved H) (name : List ℕ) (most : ℕ) (due : List ℕ → Answer → Type 0) (fault : ShelfFault) →
+    (IsErrOf {T = T} (Err fault) Failed → IsUnread shelf name) → OrMemory (Unit {0}) (OfFile shelf name most due) (unread_answer fault)
 of_unread shelf name most due Failed cause = unreadable refl (cause refl)
 of_unread shelf name most due Memory cause = tt
 
@@ -49,12 +52,14 @@ checked_of_refused text (Faulty f) r = r
 checked_of_refused text OutOfMemory r = tt
 checked_of_refused text _ r = absurd r
 
-pub written_of_refused : {O : Type 0} (out : Stream O) (writes : TextRelation) (text : List ℕ) (answer : Answer) → IsRefused text answer → OrMemory (Unit {0}) (IsWritten out writes text) answer
+pub written_of_refused : {O : Type 0} (out : Stream O) (writes : TextRelation) (text : List ℕ) (answer : Answer) →
+    IsRefused text answer → OrMemory (Unit {0}) (IsWritten out writes text) answer
 written_of_refused out writes text (Faulty f) r = r
 written_of_refused out writes text OutOfMemory r = tt
 written_of_refused out writes text _ r = absurd r
 
-pub run_of_refused : (rule : SpillRule) (runs : RunRelation) (a : Asked) (text : List ℕ) (answer : Answer) → IsRefused text answer → OrMemory (Unit {0}) (IsRun rule runs a text) answer
+pub run_of_refused : (rule : SpillRule) (runs : RunRelation) (a : Asked) (text : List ℕ) (answer : Answer) →
+    IsRefused text answer → OrMemory (Unit {0}) (IsRun rule runs a text) answer
 run_of_refused rule runs a text (Faulty f) r = r
 run_of_refused rule runs a text OutOfMemory r = tt
 run_of_refused rule runs a text _ r = absurd r
@@ -71,7 +76,8 @@ refused_untouched s text OutOfMemory r h = h
 refused_untouched s text _ r h = absurd r
 
 -- a sink took a text of a source, or failed
-written : {O : Type 0} (out : Stream O) (writes : TextRelation) (source text : List ℕ) (answer : Answer) → writes source text → TakesText out text answer → IsWritten out writes source answer
+written : {O : Type 0} (out : Stream O) (writes : TextRelation) (source text : List ℕ) (answer : Answer) → writes source text →
+    TakesText out text answer → IsWritten out writes source answer
 written out writes source text answer b (all is a) =
     let P : Answer → Type 0 = λ x. IsWritten out writes source x in
     subst P (sym is) (record { written = text; is_of = b; takes = all refl a })
@@ -83,7 +89,8 @@ pub taken_text : {O : Type 0} (out : Stream O) (text : List ℕ) (answer : Answe
 taken_text out text OutOfMemory t = tt
 taken_text out text _ t = t
 
-pub writes_text : {O : Type 0} (out : Stream O) (writes : TextRelation) (source text : List ℕ) (answer : Answer) → writes source text → OrMemory (Unit {0}) (TakesText out text) answer → OrMemory (Unit {0}) (IsWritten out writes source) answer
+pub writes_text : {O : Type 0} (out : Stream O) (writes : TextRelation) (source text : List ℕ) (answer : Answer) →
+    writes source text → OrMemory (Unit {0}) (TakesText out text) answer → OrMemory (Unit {0}) (IsWritten out writes source) answer
 writes_text out writes source text OutOfMemory b t = tt
 writes_text out writes source text answer b t = written out writes source text answer b t
 
@@ -94,18 +101,23 @@ started_stays out Unwritten h = tt
 started_stays out _ h = absurd h
 
 -- a run of what a source is built to
-pub ends_built : (rule : SpillRule) (runs : RunRelation) (a : Asked) (text assembly : List ℕ) (answer : Answer) → Builds rule text assembly → EndsAssembled runs assembly a.heap a.stack a.steps answer → OrMemory (Unit {0}) (IsRun rule runs a text) answer
+pub ends_built : (rule : SpillRule) (runs : RunRelation) (a : Asked) (text assembly : List ℕ) (answer : Answer) →
+    Builds rule text assembly → EndsAssembled runs assembly a.heap a.stack a.steps answer → OrMemory (Unit {0}) (IsRun rule runs a text) answer
 ends_built rule runs a text assembly (Finished end) b r = record { assembly = assembly; builds = b; ran = r }
 ends_built rule runs a text assembly OutOfMemory b r = tt
 ends_built rule runs a text assembly _ b r = absurd r
 
-pub assembled_run : {I O : Type 0} (s : Streams I O) (assembly : List ℕ) (image : Image) (heap stack steps : ℕ) (answer : Answer) → assembled assembly ≡ Ok (image_of image) → IsRunOrMemory s image heap stack steps answer → EndsAssembled (HasRun s) assembly heap stack steps answer
+pub assembled_run : {I O : Type 0} (s : Streams I O) (assembly : List ℕ) (image : Image) (heap stack steps : ℕ) (answer : Answer) →
+    assembled assembly ≡ Ok (image_of image) → IsRunOrMemory s image heap stack steps answer → EndsAssembled (HasRun s) assembly heap stack steps answer
 assembled_run s assembly image heap stack steps (Finished end) is run = record { image = image; assembles = is; run = run }
 assembled_run s assembly image heap stack steps OutOfMemory is run = tt
 assembled_run s assembly image heap stack steps _ is run = absurd run
 
 -- a run of what a generated source is built to, and its summary
-pub sums_up_built : {O : Type 0} (rule : SpillRule) (out : Stream O) (functions : ℕ) (text assembly : List ℕ) (image : Image) (heap stack steps : ℕ) (answer : Answer) → Builds rule text assembly → assembled assembly ≡ Ok (image_of image) → OrMemory (Unit {0}) (SumsUpRun out functions (length text) image heap stack steps) answer → OrMemory (Unit {0}) (SumsUpBuilt rule out functions text heap stack steps) answer
+pub sums_up_built : {O : Type 0} (rule : SpillRule) (out : Stream O) (functions : ℕ) (text assembly : List ℕ) (image : Image)
+    (heap stack steps : ℕ) (answer : Answer) → Builds rule text assembly → assembled assembly ≡ Ok (image_of image) →
+    OrMemory (Unit {0}) (SumsUpRun out functions (length text) image heap stack steps) answer →
+    OrMemory (Unit {0}) (SumsUpBuilt rule out functions text heap stack steps) answer
 sums_up_built rule out functions text assembly image heap stack steps OutOfMemory b is h = tt
 sums_up_built rule out functions text assembly image heap stack steps _ b is h =
     record { end = h.end; ends = record { assembly = assembly; builds = b; ran = record { image = image; assembles = is; run = h.sums_up } } }
@@ -116,7 +128,12 @@ or_memory due OutOfMemory h = tt
 or_memory due _ h = h
 
 -- a machine that was loaded ran on no input, and its summary was written
-pub ran_and_summed : {O : Type 0} (told : O → Option (List ℕ)) (faults : O → ℕ) (before between after : O) (functions source steps : ℕ) (machine new : Simulated) (input input' : PlainBytes) (image : Image) (heap stack : ℕ) (end : RunEnd) (answer : Answer) → machine ≡ loaded image heap stack → input ≡ record { left = []; calls = 0 } → (machine.end ≡ None → IsSimulation (λ s. Some s.left) (λ _. 0) told faults steps machine new input input' before between end) → TakesSummary (stream_of told faults between after) functions source new.written end answer → SumsUpRun (stream_of told faults before after) functions source image heap stack steps answer
+pub ran_and_summed : {O : Type 0} (told : O → Option (List ℕ)) (faults : O → ℕ) (before between after : O)
+    (functions source steps : ℕ) (machine new : Simulated) (input input' : PlainBytes) (image : Image) (heap stack : ℕ)
+    (end : RunEnd) (answer : Answer) → machine ≡ loaded image heap stack → input ≡ record { left = []; calls = 0 } →
+    (machine.end ≡ None → IsSimulation (λ s. Some s.left) (λ _. 0) told faults steps machine new input input' before between end) →
+    TakesSummary (stream_of told faults between after) functions source new.written end answer →
+    SumsUpRun (stream_of told faults before after) functions source image heap stack steps answer
 ran_and_summed told faults before between after functions source steps machine new input input' image heap stack end answer is empty ran takes =
     let P : Simulated → Type 0 = λ m. IsSimulation (λ s. Some s.left) (λ _. 0) told faults steps m new input input' before between end in
     let Q : PlainBytes → Type 0 = λ i. IsSimulation (λ s. Some s.left) (λ _. 0) told faults steps (loaded image heap stack) new i input' before between end in
@@ -131,7 +148,9 @@ ran_and_summed told faults before between after functions source steps machine n
     }
 
 -- a summary that is due, whatever the end was but a write that failed
-pub takes_summary : {O : Type 0} (out : Stream O) (functions source written : ℕ) (end : RunEnd) (answer : Answer) → (end ≡ WriteFault → ⊥) → Takes out (summary functions source written (end_status end)) (Finished end) Unwritten answer → TakesSummary out functions source written end answer
+pub takes_summary : {O : Type 0} (out : Stream O) (functions source written : ℕ) (end : RunEnd) (answer : Answer) →
+    (end ≡ WriteFault → ⊥) → Takes out (summary functions source written (end_status end)) (Finished end) Unwritten answer →
+    TakesSummary out functions source written end answer
 takes_summary out functions source written WriteFault answer other h = absurd (other refl)
 takes_summary out functions source written (Exit n) answer other h = h
 takes_summary out functions source written (Break n) answer other h = h
@@ -149,19 +168,24 @@ takes_summary out functions source written ReadFault answer other h = h
 pub summary_some : (functions source written status : ℕ) → 0 < length (summary functions source written status)
 summary_some functions source written status = omega arith
 
-pub in_number : {O : Type 0} (rule : SpillRule) (out : Stream O) (functions : ℕ) (text other : List ℕ) (heap stack steps : ℕ) (answer : Answer) → text ≡ other → OrMemory (Unit {0}) (SumsUpBuilt rule out functions text heap stack steps) answer → OrMemory (Unit {0}) (SumsUpBuilt rule out functions other heap stack steps) answer
+pub in_number : {O : Type 0} (rule : SpillRule) (out : Stream O) (functions : ℕ) (text other : List ℕ) (heap stack steps : ℕ) (answer : Answer) →
+    text ≡ other → OrMemory (Unit {0}) (SumsUpBuilt rule out functions text heap stack steps) answer →
+    OrMemory (Unit {0}) (SumsUpBuilt rule out functions other heap stack steps) answer
 in_number rule out functions text other heap stack steps answer is h =
     let P : List ℕ → Type 0 = λ t. OrMemory (Unit {0}) (SumsUpBuilt rule out functions t heap stack steps) answer in
     subst P is h
 
 -- a run of an image that was assembled
-pub executed : {I O : Type 0} (s : Streams I O) (a : Asked) (text : List ℕ) (image : Image) (answer : Answer) → length text ≤ 67108864 → assembled text ≡ Ok (image_of image) → IsRunOrMemory s image a.heap a.stack a.steps answer → OrMemory (Unit {0}) (IsExecuted (HasRun s) a text) answer
+pub executed : {I O : Type 0} (s : Streams I O) (a : Asked) (text : List ℕ) (image : Image) (answer : Answer) →
+    length text ≤ 67108864 → assembled text ≡ Ok (image_of image) → IsRunOrMemory s image a.heap a.stack a.steps answer →
+    OrMemory (Unit {0}) (IsExecuted (HasRun s) a text) answer
 executed s a text image (Finished end) short is run = record { short = short; image = image; assembles = is; run = run }
 executed s a text image OutOfMemory short is run = tt
 executed s a text image _ short is run = absurd run
 
 -- a mode's answer to its file, and what it leaves alone
-pub by_check : {H I O : Type 0} (shelf : Shelved H) (s : Streams I O) (a : Asked) (answer : Answer) → Untouched s → OrMemory (Unit {0}) (OfFile shelf a.file 262145 IsChecked) answer → OrMemory (Untouched s) (ByCheck shelf s a) answer
+pub by_check : {H I O : Type 0} (shelf : Shelved H) (s : Streams I O) (a : Asked) (answer : Answer) → Untouched s →
+    OrMemory (Unit {0}) (OfFile shelf a.file 262145 IsChecked) answer → OrMemory (Untouched s) (ByCheck shelf s a) answer
 by_check shelf s a OutOfMemory u h = u
 by_check shelf s a _ u h = (u, h)
 
@@ -172,24 +196,32 @@ before_start s Written i o = tt
 before_start s Unwritten i o = tt
 before_start s _ i o = (i, o)
 
-pub by_writing : {H I O : Type 0} (shelf : Shelved H) (s : Streams I O) (writes : TextRelation) (a : Asked) (answer : Answer) → Stays s.input → StaysBeforeStart s.out answer → OrMemory (Unit {0}) (OfFile shelf a.file 262145 (IsWritten s.out writes)) answer → OrMemory (Untouched s) (ByWriting shelf s writes a) answer
+pub by_writing : {H I O : Type 0} (shelf : Shelved H) (s : Streams I O) (writes : TextRelation) (a : Asked) (answer : Answer) →
+    Stays s.input → StaysBeforeStart s.out answer → OrMemory (Unit {0}) (OfFile shelf a.file 262145 (IsWritten s.out writes)) answer →
+    OrMemory (Untouched s) (ByWriting shelf s writes a) answer
 by_writing shelf s writes a OutOfMemory i o h = (i, o)
 by_writing shelf s writes a answer i o h = (i, before_start s answer i o, h)
 
-pub by_gen : {H I O : Type 0} (rule : SpillRule) (shelf : Shelved H) (s : Streams I O) (a : Asked) (answer : Answer) → shelf.after ≡ shelf.before → Stays s.input → StaysBeforeStart s.out answer → OrMemory (Unit {0}) (IsGenerated rule s.out a) answer → OrMemory (Untouched s) (ByGen rule shelf s a) answer
+pub by_gen : {H I O : Type 0} (rule : SpillRule) (shelf : Shelved H) (s : Streams I O) (a : Asked) (answer : Answer) →
+    shelf.after ≡ shelf.before → Stays s.input → StaysBeforeStart s.out answer → OrMemory (Unit {0}) (IsGenerated rule s.out a) answer →
+    OrMemory (Untouched s) (ByGen rule shelf s a) answer
 by_gen rule shelf s a OutOfMemory same i o h = (i, o)
 by_gen rule shelf s a answer same i o h = (same, i, before_start s answer i o, h)
 
-pub by_run : {H I O : Type 0} (rule : SpillRule) (shelf : Shelved H) (s : Streams I O) (a : Asked) (answer : Answer) → UntouchedBeforeStart s answer → OrMemory (Unit {0}) (OfFile shelf a.file 262145 (IsRun rule (HasRun s) a)) answer → OrMemory (Untouched s) (ByRun rule shelf s a) answer
+pub by_run : {H I O : Type 0} (rule : SpillRule) (shelf : Shelved H) (s : Streams I O) (a : Asked) (answer : Answer) →
+    UntouchedBeforeStart s answer → OrMemory (Unit {0}) (OfFile shelf a.file 262145 (IsRun rule (HasRun s) a)) answer →
+    OrMemory (Untouched s) (ByRun rule shelf s a) answer
 by_run rule shelf s a OutOfMemory u h = u
 by_run rule shelf s a _ u h = (u, h)
 
-pub by_exec : {H I O : Type 0} (shelf : Shelved H) (s : Streams I O) (a : Asked) (answer : Answer) → UntouchedBeforeStart s answer → OrMemory (Unit {0}) (OfFile shelf a.file 67108865 (IsExecuted (HasRun s) a)) answer → OrMemory (Untouched s) (ByExec shelf s a) answer
+pub by_exec : {H I O : Type 0} (shelf : Shelved H) (s : Streams I O) (a : Asked) (answer : Answer) → UntouchedBeforeStart s answer →
+    OrMemory (Unit {0}) (OfFile shelf a.file 67108865 (IsExecuted (HasRun s) a)) answer → OrMemory (Untouched s) (ByExec shelf s a) answer
 by_exec shelf s a OutOfMemory u h = u
 by_exec shelf s a _ u h = (u, h)
 
 -- the answer to a command is the answer to its words
-pub due_of_mode : {H I O : Type 0} (rule : SpillRule) (words : List (List ℕ)) (shelf : Shelved H) (s : Streams I O) (a : Asked) (answer : Answer) → Ask words a → OrMemory (Untouched s) (InMode rule a.mode shelf s a) answer → IsDue rule words shelf s answer
+pub due_of_mode : {H I O : Type 0} (rule : SpillRule) (words : List (List ℕ)) (shelf : Shelved H) (s : Streams I O) (a : Asked) (answer : Answer) →
+    Ask words a → OrMemory (Untouched s) (InMode rule a.mode shelf s a) answer → IsDue rule words shelf s answer
 due_of_mode rule words shelf s a OutOfMemory ask h = answered.no_memory refl h
 due_of_mode rule words shelf s a _ ask h = asked a ask h
 
@@ -200,7 +232,8 @@ untouched s Written b u = absurd b
 untouched s Unwritten b u = absurd b
 untouched s _ b u = u
 
-left_in : {H I O : Type 0} (rule : SpillRule) (mode : Mode) (shelf : Shelved H) (s : Streams I O) (a : Asked) (answer : Answer) → IsBeforeStart answer → InMode rule mode shelf s a answer → Untouched s
+left_in : {H I O : Type 0} (rule : SpillRule) (mode : Mode) (shelf : Shelved H) (s : Streams I O) (a : Asked) (answer : Answer) →
+    IsBeforeStart answer → InMode rule mode shelf s a answer → Untouched s
 left_in rule Check shelf s a answer b h = h.0
 left_in rule Build shelf s a answer b h = untouched s answer b h.1
 left_in rule Run shelf s a answer b h = untouched s answer b h.0
@@ -208,25 +241,29 @@ left_in rule Exec shelf s a answer b h = untouched s answer b h.0
 left_in rule Alloc shelf s a answer b h = untouched s answer b h.1
 left_in rule Gen shelf s a answer b h = untouched s answer b h.2
 
-left_alone : {H I O : Type 0} (rule : SpillRule) (words : List (List ℕ)) (shelf : Shelved H) (s : Streams I O) (answer : Answer) → IsBeforeStart answer → IsDue rule words shelf s answer → Untouched s
+left_alone : {H I O : Type 0} (rule : SpillRule) (words : List (List ℕ)) (shelf : Shelved H) (s : Streams I O) (answer : Answer) →
+    IsBeforeStart answer → IsDue rule words shelf s answer → Untouched s
 left_alone rule words shelf s answer b (usage is fault same u) = u
 left_alone rule words shelf s answer b (answered.no_memory is u) = u
 left_alone rule words shelf s answer b (asked a ask h) = left_in rule a.mode shelf s a answer b h
 
 -- the answer that was told
-pub answers_of : {H I O E : Type 0} (c : Call H I O E) (status : ℕ) (answer : Answer) → IsDue c.rule c.words c.shelf c.streams answer → IsReported c.err answer status → Answers c status
+pub answers_of : {H I O E : Type 0} (c : Call H I O E) (status : ℕ) (answer : Answer) → IsDue c.rule c.words c.shelf c.streams answer →
+    IsReported c.err answer status → Answers c status
 answers_of c status answer due (itself told) = record { answer = answer; due = due; told = told }
 answers_of c status answer due (no_memory before told) =
     record { answer = OutOfMemory; due = answered.no_memory refl (left_alone c.rule c.words c.shelf c.streams answer before due); told = told }
 
 -- and so by the rule of the policy in the box
-pub answers_by : {H I O E : Type 0} (rule : SpillRule) (c : Call H I O E) (status : ℕ) (answer : Answer) → rule ≡ c.rule → IsDue rule c.words c.shelf c.streams answer → IsReported c.err answer status → Answers c status
+pub answers_by : {H I O E : Type 0} (rule : SpillRule) (c : Call H I O E) (status : ℕ) (answer : Answer) → rule ≡ c.rule →
+    IsDue rule c.words c.shelf c.streams answer → IsReported c.err answer status → Answers c status
 answers_by rule c status answer is due told =
     let P : SpillRule → Type 0 = λ r. IsDue r c.words c.shelf c.streams answer in
     answers_of c status answer (subst P is due) told
 
 -- the answer in the mode of a command
-pub in_mode : {H I O : Type 0} (rule : SpillRule) (m : Mode) (shelf : Shelved H) (s : Streams I O) (a : Asked) (answer : Answer) → a.mode ≡ m → OrMemory (Untouched s) (InMode rule m shelf s a) answer → OrMemory (Untouched s) (InMode rule a.mode shelf s a) answer
+pub in_mode : {H I O : Type 0} (rule : SpillRule) (m : Mode) (shelf : Shelved H) (s : Streams I O) (a : Asked) (answer : Answer) →
+    a.mode ≡ m → OrMemory (Untouched s) (InMode rule m shelf s a) answer → OrMemory (Untouched s) (InMode rule a.mode shelf s a) answer
 in_mode rule m shelf s a answer is h =
     let P : Mode → Type 0 = λ x. OrMemory (Untouched s) (InMode rule x shelf s a) answer in
     subst P (sym is) h

@@ -3,7 +3,8 @@ use Rattle.std.proofs.Common.{ℕ, ◌≡◌, ◌≤◌, ◌⊎◌, inl, inr, Li
 use Rattle.tg_base.specs.Causes.{Rose}
 use Rattle.tg_base.specs.Files.{Files, IsFrontOf}
 use Rattle.tg_base.specs.declared.ends.RunEnd.{RunEnd}
-use Rattle.tg_base.specs.declared.ends.RunEnd.TheVariants.{Exit, Break, Overflow, HeapFull, StackFull, StepLimit, BadAddress, Unaligned, BadWord, BadService, ReadFault, WriteFault}
+use Rattle.tg_base.specs.declared.ends.RunEnd.TheVariants.{Exit, Break, Overflow, HeapFull, StackFull, StepLimit, BadAddress, Unaligned, BadWord}
+use Rattle.tg_base.specs.declared.ends.RunEnd.TheVariants.{BadService, ReadFault, WriteFault}
 use Rattle.tg_isa.specs.declared.images.Image.{Image}
 use Rattle.tg_rounds.specs.Policies.{Rule as SpillRule}
 use Rattle.tg_command.specs.declared.modes.Mode.{Mode}
@@ -29,7 +30,8 @@ use Rattle.tg_driver.proofs.ExactRuns.{ends_as_told, ends_faultless}
 use Rattle.tg_driver.proofs.SourcesOnce.{built_source, listed_source}
 
 -- the front of a file that the shelf holds
-front_is : (files : Files) (name : List ℕ) (most : ℕ) (text file : List ℕ) (at : List ℕ → Option (List ℕ)) → files ≡ Some at → at name ≡ Some file → IsFrontOf files name most text → text ≡ take most file
+front_is : (files : Files) (name : List ℕ) (most : ℕ) (text file : List ℕ) (at : List ℕ → Option (List ℕ)) → files ≡ Some at →
+    at name ≡ Some file → IsFrontOf files name most text → text ≡ take most file
 front_is files name most text file at tells holds front =
     let P : Files → Type 0 = λ f. IsFrontOf f name most text in
     held at (subst P tells front) holds
@@ -38,18 +40,22 @@ front_is files name most text file at tells holds front =
     held at front holds = rw holds at front
 
 -- the answer to the text of the file, where that can be read
-to_text : {H : Type 0} (shelf : Shelved H) (name : List ℕ) (most : ℕ) (due : List ℕ → Answer → Type 0) (file : List ℕ) (answer : Answer) → HoldsFile shelf name file → (IsUnread shelf name → ⊥) → OfFile shelf name most due answer → due (take most file) answer
+to_text : {H : Type 0} (shelf : Shelved H) (name : List ℕ) (most : ℕ) (due : List ℕ → Answer → Type 0) (file : List ℕ) (answer : Answer) →
+    HoldsFile shelf name file → (IsUnread shelf name → ⊥) → OfFile shelf name most due answer → due (take most file) answer
 to_text shelf name most due file answer there readable (unreadable is u) = absurd (readable u)
 to_text shelf name most due file answer there readable (read text front h) =
     let P : List ℕ → Type 0 = λ t. due t answer in
     subst P (front_is _ name most text file there.at there.tells there.holds front) h
 
 -- what is said of runs may be said more weakly
-ends_more : (rule : SpillRule) (runs others : RunRelation) (text : List ℕ) (heap stack steps : ℕ) (end : RunEnd) → ((image : Image) → runs image heap stack steps end → others image heap stack steps end) → EndsBuilt rule runs text heap stack steps end → EndsBuilt rule others text heap stack steps end
+ends_more : (rule : SpillRule) (runs others : RunRelation) (text : List ℕ) (heap stack steps : ℕ) (end : RunEnd) →
+    ((image : Image) → runs image heap stack steps end → others image heap stack steps end) → EndsBuilt rule runs text heap stack steps end →
+    EndsBuilt rule others text heap stack steps end
 ends_more rule runs others text heap stack steps end more e =
     record { assembly = e.assembly; builds = e.builds; ran = record { image = e.ran.image; assembles = e.ran.assembles; run = more e.ran.image e.ran.run } }
 
-of_written : {O : Type 0} (out : Stream O) (writes : TextRelation) (source : List ℕ) (answer : Answer) → (HasFailed out → ⊥) → ((text : List ℕ) → writes source text → IsSource source) → IsWritten out writes source answer → IsFaultyOrWritten source answer
+of_written : {O : Type 0} (out : Stream O) (writes : TextRelation) (source : List ℕ) (answer : Answer) → (HasFailed out → ⊥) →
+    ((text : List ℕ) → writes source text → IsSource source) → IsWritten out writes source answer → IsFaultyOrWritten source answer
 of_written out writes source (Faulty f) written is h = h
 of_written out writes source Written written is h = is h.written h.is_of
 of_written out writes source Unwritten written is h = failed h.takes
@@ -59,13 +65,16 @@ of_written out writes source Unwritten written is h = failed h.takes
     failed (part same some f front) = written f
 of_written out writes source _ written is h = absurd h
 
-of_run : {I O : Type 0} (rule : SpillRule) (s : Streams I O) (a : Asked) (text : List ℕ) (answer : Answer) → (HasFailed s.input → ⊥) → (HasFailed s.out → ⊥) → IsRun rule (HasRun s) a text answer → IsRun rule (EndsAsTold (s.input.told s.input.before)) a text answer
+of_run : {I O : Type 0} (rule : SpillRule) (s : Streams I O) (a : Asked) (text : List ℕ) (answer : Answer) →
+    (HasFailed s.input → ⊥) → (HasFailed s.out → ⊥) → IsRun rule (HasRun s) a text answer → IsRun rule (EndsAsTold (s.input.told s.input.before)) a text answer
 of_run rule s a text (Faulty f) r w h = h
 of_run rule s a text (Finished end) r w h =
-    ends_more rule (HasRun s) (EndsAsTold (s.input.told s.input.before)) text a.heap a.stack a.steps end (λ image run. ends_faultless s image a.heap a.stack a.steps end r w run) h
+    ends_more rule (HasRun s) (EndsAsTold (s.input.told s.input.before)) text a.heap a.stack a.steps end
+    (λ image run. ends_faultless s image a.heap a.stack a.steps end r w run) h
 of_run rule s a text _ r w h = absurd h
 
-of_exec : {I O : Type 0} (s : Streams I O) (a : Asked) (text : List ℕ) (answer : Answer) → (HasFailed s.input → ⊥) → (HasFailed s.out → ⊥) → IsExecuted (HasRun s) a text answer → IsExecuted (EndsAsTold (s.input.told s.input.before)) a text answer
+of_exec : {I O : Type 0} (s : Streams I O) (a : Asked) (text : List ℕ) (answer : Answer) → (HasFailed s.input → ⊥) →
+    (HasFailed s.out → ⊥) → IsExecuted (HasRun s) a text answer → IsExecuted (EndsAsTold (s.input.told s.input.before)) a text answer
 of_exec s a text TooLong r w h = h
 of_exec s a text (BadLine rule line) r w h = h
 of_exec s a text (Finished end) r w h =
@@ -81,11 +90,13 @@ pub record Passed (end : RunEnd) (answer : Answer) : Type 0 where
   pub finished : answer ≡ Finished end
   pub written : end ≡ WriteFault → ⊥
 
-taken : {O : Type 0} (out : Stream O) (due : List ℕ) (end : RunEnd) (answer : Answer) → (HasFailed out → ⊥) → (end ≡ WriteFault → ⊥) → Takes out due (Finished end) Unwritten answer → Passed end answer
+taken : {O : Type 0} (out : Stream O) (due : List ℕ) (end : RunEnd) (answer : Answer) → (HasFailed out → ⊥) →
+    (end ≡ WriteFault → ⊥) → Takes out due (Finished end) Unwritten answer → Passed end answer
 taken out due end answer kept other (all is a) = record { finished = is; written = other }
 taken out due end answer kept other (part is some f front) = absurd (kept f)
 
-passed : {O : Type 0} (out : Stream O) (functions source written : ℕ) (end : RunEnd) (answer : Answer) → (HasFailed out → ⊥) → (end ≡ WriteFault → ⊥) → TakesSummary out functions source written end answer → Passed end answer
+passed : {O : Type 0} (out : Stream O) (functions source written : ℕ) (end : RunEnd) (answer : Answer) → (HasFailed out → ⊥) →
+    (end ≡ WriteFault → ⊥) → TakesSummary out functions source written end answer → Passed end answer
 passed out functions source written WriteFault answer kept other h = absurd (other refl)
 passed out functions source written (Exit n) answer kept other h = taken out _ (Exit n) answer kept other h
 passed out functions source written (Break n) answer kept other h = taken out _ (Break n) answer kept other h
@@ -100,7 +111,9 @@ passed out functions source written (BadService n) answer kept other h = taken o
 passed out functions source written ReadFault answer kept other h = taken out _ ReadFault answer kept other h
 
 -- a run that ended at a failed write leaves a sink that has failed
-write_failed : {O : Type 0} (out : Stream O) (between : O) (functions source written : ℕ) (end : RunEnd) (answer : Answer) → end ≡ WriteFault → Rose (out.faults out.before) (out.faults between) → TakesSummary (stream_of out.told out.faults between out.after) functions source written end answer → HasFailed out
+write_failed : {O : Type 0} (out : Stream O) (between : O) (functions source written : ℕ) (end : RunEnd) (answer : Answer) →
+    end ≡ WriteFault → Rose (out.faults out.before) (out.faults between) →
+    TakesSummary (stream_of out.told out.faults between out.after) functions source written end answer → HasFailed out
 write_failed {O} out between functions source written end answer is rose h =
     let P : RunEnd → Type 0 = λ e. TakesSummary (stream_of out.told out.faults between out.after) functions source written e answer in
     let stays = (subst P is h).0 in
@@ -110,7 +123,8 @@ write_failed {O} out between functions source written end answer is rose h =
 no_read : Rose 0 0 → ⊥
 no_read r = absurd (omega (arith, r))
 
-of_gen : {O : Type 0} (rule : SpillRule) (out : Stream O) (a : Asked) (answer : Answer) → (HasFailed out → ⊥) → IsGenerated rule out a answer → EndsGenerated rule a answer
+of_gen : {O : Type 0} (rule : SpillRule) (out : Stream O) (a : Asked) (answer : Answer) → (HasFailed out → ⊥) →
+    IsGenerated rule out a answer → EndsGenerated rule a answer
 of_gen rule out a answer kept h =
     let sums = h.ends.ran.run in
     let s = streams_of (no_input sums.input) (stream_of out.told out.faults out.before sums.between) in
@@ -129,23 +143,32 @@ of_gen rule out a answer kept h =
       };
     })
 
-settled : {H I O E : Type 0} (c : Call H I O E) (a : Asked) (file : List ℕ) (mode : Mode) (answer : Answer) → IsGood c a file → (ReadsFile mode → ReadsFile a.mode) → InMode c.rule mode c.shelf c.streams a answer → Settles c.rule (c.streams.input.told c.streams.input.before) mode a (take (most_of mode) file) answer
+settled : {H I O E : Type 0} (c : Call H I O E) (a : Asked) (file : List ℕ) (mode : Mode) (answer : Answer) → IsGood c a file →
+    (ReadsFile mode → ReadsFile a.mode) → InMode c.rule mode c.shelf c.streams a answer →
+    Settles c.rule (c.streams.input.told c.streams.input.before) mode a (take (most_of mode) file) answer
 settled c a file Check answer good reads h = to_text c.shelf a.file 262145 _ file answer (good.there (reads tt)) good.readable h.1
-settled c a file Build answer good reads h = of_written c.streams.out _ _ answer good.all_written (built_source c.rule _) (to_text c.shelf a.file 262145 _ file answer (good.there (reads tt)) good.readable h.2)
-settled c a file Run answer good reads h = of_run c.rule c.streams a _ answer good.all_read good.all_written (to_text c.shelf a.file 262145 _ file answer (good.there (reads tt)) good.readable h.1)
-settled c a file Exec answer good reads h = of_exec c.streams a _ answer good.all_read good.all_written (to_text c.shelf a.file 67108865 _ file answer (good.there (reads tt)) good.readable h.1)
-settled c a file Alloc answer good reads h = of_written c.streams.out _ _ answer good.all_written (listed_source c.rule _) (to_text c.shelf a.file 262145 _ file answer (good.there (reads tt)) good.readable h.2)
+settled c a file Build answer good reads h = of_written c.streams.out _ _ answer good.all_written (built_source c.rule _)
+    (to_text c.shelf a.file 262145 _ file answer (good.there (reads tt)) good.readable h.2)
+settled c a file Run answer good reads h = of_run c.rule c.streams a _ answer good.all_read good.all_written
+    (to_text c.shelf a.file 262145 _ file answer (good.there (reads tt)) good.readable h.1)
+settled c a file Exec answer good reads h = of_exec c.streams a _ answer good.all_read good.all_written
+    (to_text c.shelf a.file 67108865 _ file answer (good.there (reads tt)) good.readable h.1)
+settled c a file Alloc answer good reads h = of_written c.streams.out _ _ answer good.all_written (listed_source c.rule _)
+    (to_text c.shelf a.file 262145 _ file answer (good.there (reads tt)) good.readable h.2)
 settled c a file Gen answer good reads h = of_gen c.rule c.streams.out a answer good.all_written h.3
 
 -- the line was told
-given : {H I O E : Type 0} (c : Call H I O E) (status : ℕ) (a : Asked) (file : List ℕ) (answer : Answer) → IsGood c a file → IsTold c.err answer status → Gives c status answer
+given : {H I O E : Type 0} (c : Call H I O E) (status : ℕ) (a : Asked) (file : List ℕ) (answer : Answer) → IsGood c a file →
+    IsTold c.err answer status → Gives c status answer
 given c status a file answer good (all is line) = record { status_is = is; line_is = line }
 given c status a file answer good (part is some failed front) = absurd (good.all_told failed)
 
-pub complete : {H I O E : Type 0} (c : Call H I O E) (status : ℕ) (a : Asked) (file : List ℕ) → Answers c status → IsGood c a file → IsSettled c status a (take (most_of a.mode) file) ⊎ Gives c status OutOfMemory
+pub complete : {H I O E : Type 0} (c : Call H I O E) (status : ℕ) (a : Asked) (file : List ℕ) → Answers c status →
+    IsGood c a file → IsSettled c status a (take (most_of a.mode) file) ⊎ Gives c status OutOfMemory
 complete c status a file h good = by h.answer (given c status a file h.answer good h.told) h.due
   where
-    by : (found : Answer) → Gives c status found → IsDue c.rule c.words c.shelf c.streams found → IsSettled c status a (take (most_of a.mode) file) ⊎ Gives c status OutOfMemory
+    by : (found : Answer) → Gives c status found → IsDue c.rule c.words c.shelf c.streams found →
+        IsSettled c status a (take (most_of a.mode) file) ⊎ Gives c status OutOfMemory
     by found gives (usage is fault same u) = absurd (asked_no_fault c.words a good.ask fault)
     by found gives (no_memory is u) = let P : Answer → Type 0 = λ x. Gives c status x in inr (subst P is gives)
     by found gives (asked b ask h) =

@@ -17,7 +17,8 @@ record Comes (n : ℕ) (w : Execution) (e : RunEnd) (last : Execution) (front : 
   last_is : last ≡ world_in (run n w)
   no_front : front ≡ []
 
-comes : (n : ℕ) (w : Execution) (e : RunEnd) (last : Execution) (front : List ℕ) → (e ≡ ReadFault → ⊥) → (e ≡ WriteFault → ⊥) → Stops n w e last front → Comes n w e last front
+comes : (n : ℕ) (w : Execution) (e : RunEnd) (last : Execution) (front : List ℕ) → (e ≡ ReadFault → ⊥) → (e ≡ WriteFault → ⊥) →
+    Stops n w e last front → Comes n w e last front
 comes n w e last front r s (still q p f) = record { end_is = p ∙ sym (ap end_in q); last_is = sym (ap world_in q); no_front = f }
 comes n w e last front r s (ended q f) = record { end_is = sym (ap end_in q); last_is = sym (ap world_in q); no_front = f }
 comes n w e last front r s (read_failed i l q p d f) = absurd (r d)
@@ -26,7 +27,8 @@ comes n w e last front r s (write_failed i rest l q p d) = absurd (s d)
 whole : (written front : List ℕ) → front ≡ [] → written ++ front ≡ written
 whole written front e = ap (λ f. written ++ f) e ∙ append-nil written
 
-pub exact_run : {I O : Type 0} (s : Streams I O) (image : Image) (heap stack steps : ℕ) (end : RunEnd) (bytes : List ℕ) → HasRun s image heap stack steps end → IsFaultless s bytes → IsExact s image heap stack steps end bytes
+pub exact_run : {I O : Type 0} (s : Streams I O) (image : Image) (heap stack steps : ℕ) (end : RunEnd) (bytes : List ℕ) →
+    HasRun s image heap stack steps end → IsFaultless s bytes → IsExact s image heap stack steps end bytes
 exact_run s image heap stack steps end bytes h f =
     let r = h.ran in
     let T : Option (List ℕ) → Type 0 = λ o. Tells o r.input_before in
@@ -42,12 +44,14 @@ exact_run s image heap stack steps end bytes h f =
     }
 
 -- two such runs on the same bytes end alike
-pub exact_alike : {I O J P : Type 0} (s : Streams I O) (t : Streams J P) (bytes : List ℕ) (image : Image) (heap stack steps : ℕ) (d e : RunEnd) → IsFaultless s bytes → IsFaultless t bytes → HasRun s image heap stack steps d → HasRun t image heap stack steps e → d ≡ e
+pub exact_alike : {I O J P : Type 0} (s : Streams I O) (t : Streams J P) (bytes : List ℕ) (image : Image) (heap stack steps : ℕ) (d e : RunEnd) →
+    IsFaultless s bytes → IsFaultless t bytes → HasRun s image heap stack steps d → HasRun t image heap stack steps e → d ≡ e
 exact_alike s t bytes image heap stack steps d e f g p q =
     (exact_run s image heap stack steps d bytes p f).ends ∙ sym ((exact_run t image heap stack steps e bytes q g).ends)
 
 -- such a run ends as it does on the bytes that its input tells
-pub ends_as_told : {I O : Type 0} (s : Streams I O) (image : Image) (heap stack steps : ℕ) (end : RunEnd) → (end ≡ ReadFault → ⊥) → (end ≡ WriteFault → ⊥) → HasRun s image heap stack steps end → EndsAsTold (s.input.told s.input.before) image heap stack steps end
+pub ends_as_told : {I O : Type 0} (s : Streams I O) (image : Image) (heap stack steps : ℕ) (end : RunEnd) →
+    (end ≡ ReadFault → ⊥) → (end ≡ WriteFault → ⊥) → HasRun s image heap stack steps end → EndsAsTold (s.input.told s.input.before) image heap stack steps end
 ends_as_told s image heap stack steps end read written h bytes tells =
     let r = h.ran in
     let T : Option (List ℕ) → Type 0 = λ o. Tells o r.input_before in
@@ -55,5 +59,7 @@ ends_as_told s image heap stack steps end read written h bytes tells =
     let S : List (Option ℕ) → Type 0 = λ i. Stops steps (begun (start image.code image.statics image.entry heap stack) i) end r.last r.front in
     (comes steps _ end r.last r.front read written (subst S same r.stops)).end_is
 
-pub ends_faultless : {I O : Type 0} (s : Streams I O) (image : Image) (heap stack steps : ℕ) (end : RunEnd) → (HasFailed s.input → ⊥) → (HasFailed s.out → ⊥) → HasRun s image heap stack steps end → EndsAsTold (s.input.told s.input.before) image heap stack steps end
-ends_faultless s image heap stack steps end read written h = ends_as_told s image heap stack steps end (λ d. read (h.ran.read_cause d)) (λ d. written (h.ran.write_cause d)) h
+pub ends_faultless : {I O : Type 0} (s : Streams I O) (image : Image) (heap stack steps : ℕ) (end : RunEnd) →
+    (HasFailed s.input → ⊥) → (HasFailed s.out → ⊥) → HasRun s image heap stack steps end → EndsAsTold (s.input.told s.input.before) image heap stack steps end
+ends_faultless s image heap stack steps end read written h = ends_as_told s image heap stack steps end
+    (λ d. read (h.ran.read_cause d)) (λ d. written (h.ran.write_cause d)) h

@@ -63,7 +63,8 @@ one_within : (end : ℕ) (front : List Spanned) (one : Spanned) (after : List Sp
 one_within end [] one after h = h.0
 one_within end (t ∷ front) one after h = one_within end front one after h.1
 
-at_within : (text : List ℕ) (names : List (List ℕ)) (tokens front : List Spanned) (one : Spanned) (at : ℕ) → HasTokens text names tokens → IsAt tokens front one at → IsWithin text at
+at_within : (text : List ℕ) (names : List (List ℕ)) (tokens front : List Spanned) (one : Spanned) (at : ℕ) →
+    HasTokens text names tokens → IsAt tokens front one at → IsWithin text at
 at_within text names tokens front one at has is =
     let P : List Spanned → Type 0 = λ ts. AreWithin (0 + length text) ts in
     let w = one_within (0 + length text) front one is.after (subst P is.whole (tokens_within has.lexed)) in
@@ -71,18 +72,25 @@ at_within text names tokens front one at has is =
     let short = has.short in
     record { within = omega (arith, w, e); small = omega (arith, w, e, short) }
 
-syntactic_within : (text : List ℕ) (names : List (List ℕ)) (tokens : List Spanned) (rule : SyntaxRule) (at : ℕ) → HasTokens text names tokens → HasSyntaxFault tokens rule at → IsWithin text at
+syntactic_within : (text : List ℕ) (names : List (List ℕ)) (tokens : List Spanned) (rule : SyntaxRule) (at : ℕ) →
+    HasTokens text names tokens → HasSyntaxFault tokens rule at → IsWithin text at
 syntactic_within text names tokens S1 at has f = at_within text names tokens f.front f.one at has f.is_at
 syntactic_within text names tokens S2 at has f = at_within text names tokens f.front f.one at has f.is_at
 
-typed_within : (text : List ℕ) (names : List (List ℕ)) (tokens : List Spanned) (program : Exp) (rule : TypeRule) (at : ℕ) → HasTree text names tokens program → finding names program ≡ at_fault rule at → IsWithin text at
+typed_within : (text : List ℕ) (names : List (List ℕ)) (tokens : List Spanned) (program : Exp) (rule : TypeRule) (at : ℕ) →
+    HasTree text names tokens program → finding names program ≡ at_fault rule at → IsWithin text at
 typed_within text names tokens program rule at tree f =
-    record { within = type_fault_within text names tokens program rule at tree.has_tokens tree.parsed f; small = type_fault_small text names tokens program rule at tree.has_tokens tree.parsed f }
+    record {
+      within = type_fault_within text names tokens program rule at tree.has_tokens tree.parsed f;
+      small =
+          type_fault_small text names tokens program rule at tree.has_tokens tree.parsed f;
+    }
 
 pub within_text : (text : List ℕ) (rule : Rule) (at : ℕ) → HasFault text rule at → IsWithin text at
 within_text text rule at (lexical {rule = r} f) = lexical_within text r at f
 within_text text rule at (syntactic {names = names} {tokens = tokens} {rule = r} has f) = syntactic_within text names tokens r at has f
-within_text text rule at (ill_typed {names = names} {tokens = tokens} {program = program} {rule = r} tree f) = typed_within text names tokens program r at tree f
+within_text text rule at (ill_typed {names = names} {tokens = tokens} {program = program} {rule = r} tree f) =
+    typed_within text names tokens program r at tree f
 
 -- the fault of the lexer, that of the parser, and that of the checker
 pub lexer_fault : (text : List ℕ) (rule : LexRule) (at : ℕ) → HasLexicalFault text rule at → HasFault text (Lexical rule) at

@@ -37,7 +37,8 @@ finding_once text n m a b p q s r =
     ap (λ x. finding x p) one.names ∙ ap (λ x. finding m x) one.same
 
 -- a fault of syntax in a text that is a tree
-no_tree : (text : List ℕ) (n m : List (List ℕ)) (a b : List Spanned) (p : SyntaxRule) (at : ℕ) (program : Exp) → HasTokens text n a → HasSyntaxFault a p at → HasTree text m b program → ⊥
+no_tree : (text : List ℕ) (n m : List (List ℕ)) (a b : List Spanned) (p : SyntaxRule) (at : ℕ) (program : Exp) →
+    HasTokens text n a → HasSyntaxFault a p at → HasTree text m b program → ⊥
 no_tree text n m a b p at program h f t =
     let one = tokens_once text n m a b h t.has_tokens in
     let P : List Spanned → Type 0 = λ ts. HasSyntaxFault ts p at in
@@ -74,9 +75,11 @@ one_fault text r s at to (syntactic {names = n} {tokens = a} {rule = p} h f) (sy
     let P : List Spanned → Type 0 = λ ts. HasSyntaxFault ts p at in
     let same = faults_once b p q at to (subst P one.same f) g in
     record { rule_is = ap Syntactic same.0; place_is = same.1 }
-one_fault text r s at to (syntactic {names = n} {tokens = a} {rule = p} h f) (ill_typed {names = m} {tokens = b} {program = x} k g) = absurd (no_tree text n m a b p at x h f k)
+one_fault text r s at to (syntactic {names = n} {tokens = a} {rule = p} h f) (ill_typed {names = m} {tokens = b} {program = x} k g) =
+    absurd (no_tree text n m a b p at x h f k)
 one_fault text r s at to (ill_typed {names = n} {tokens = t} h g) (lexical f) = absurd (fault_excludes f h.has_tokens.short n t h.has_tokens.lexed)
-one_fault text r s at to (ill_typed {names = m} {tokens = b} {program = x} k g) (syntactic {names = n} {tokens = a} {rule = p} h f) = absurd (no_tree text n m a b p to x h f k)
+one_fault text r s at to (ill_typed {names = m} {tokens = b} {program = x} k g) (syntactic {names = n} {tokens = a} {rule = p} h f) =
+    absurd (no_tree text n m a b p to x h f k)
 one_fault text r s at to (ill_typed {names = n} {tokens = a} {program = x} {rule = p} h f) (ill_typed {names = m} {tokens = b} {program = y} {rule = q} k g) =
     let e = finding_once text n m a b x y h k in
     record { rule_is = ap Typed (same_rule _ p q at to f (e ∙ g)); place_is = same_byte _ p q at to f (e ∙ g) }
@@ -89,7 +92,8 @@ fault_once_told text f g p q =
     λ i. record { rule = rules i; place = places i }
 
 -- a text with a fault is no source
-pub source_excludes : (text : List ℕ) (rule : Rule) (at : ℕ) (names : List (List ℕ)) (tokens : List Spanned) (program : Exp) → HasFault text rule at → IsSourceOf text names tokens program → ⊥
+pub source_excludes : (text : List ℕ) (rule : Rule) (at : ℕ) (names : List (List ℕ)) (tokens : List Spanned) (program : Exp) →
+    HasFault text rule at → IsSourceOf text names tokens program → ⊥
 source_excludes text rule at names tokens program (lexical f) s = fault_excludes f s.tree.has_tokens.short names tokens s.tree.has_tokens.lexed
 source_excludes text rule at names tokens program (syntactic {names = n} {tokens = a} {rule = p} h f) s = no_tree text n names a tokens p at program h f s.tree
 source_excludes text rule at names tokens program (ill_typed {names = n} {tokens = a} {program = x} {rule = p} h f) s =

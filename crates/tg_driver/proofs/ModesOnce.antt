@@ -47,7 +47,8 @@ written_alike text Unwritten Unwritten p q = inr (tt, tt)
 written_alike text Unwritten _ p q = absurd q
 written_alike text _ b p q = absurd p
 
-run_alike : (rule other : SpillRule) (runs : RunRelation) (asked : Asked) (text : List ℕ) (a b : Answer) → IsRun rule runs asked text a → IsRun other runs asked text b → (a ≡ b) ⊎ (HasStarted a × HasStarted b)
+run_alike : (rule other : SpillRule) (runs : RunRelation) (asked : Asked) (text : List ℕ) (a b : Answer) →
+    IsRun rule runs asked text a → IsRun other runs asked text b → (a ≡ b) ⊎ (HasStarted a × HasStarted b)
 run_alike rule other runs asked text (Faulty f) (Faulty g) p q = inl (ap Faulty (fault_once_told text f g p q))
 run_alike rule other runs asked text (Faulty f) (Finished e) p q = absurd (no_fault_of_built other runs text asked.heap asked.stack asked.steps f e p q)
 run_alike rule other runs asked text (Faulty f) _ p q = absurd q
@@ -95,16 +96,19 @@ too_long text s l = absurd (omega (arith, s, l))
 
 -- what is said of the runs of one image leaves one end
 AreAlike : (runs others : RunRelation) → Asked → Type 0
-AreAlike runs others asked = (image : Image) (d e : RunEnd) → runs image asked.heap asked.stack asked.steps d → others image asked.heap asked.stack asked.steps e → d ≡ e
+AreAlike runs others asked = (image : Image) (d e : RunEnd) → runs image asked.heap asked.stack asked.steps d →
+    others image asked.heap asked.stack asked.steps e → d ≡ e
 
-ended_once : (runs others : RunRelation) (asked : Asked) (text : List ℕ) (d e : RunEnd) → AreAlike runs others asked → EndsImage runs asked text d → EndsImage others asked text e → d ≡ e
+ended_once : (runs others : RunRelation) (asked : Asked) (text : List ℕ) (d e : RunEnd) → AreAlike runs others asked →
+    EndsImage runs asked text d → EndsImage others asked text e → d ≡ e
 unfolding AreAlike
 ended_once runs others asked text d e alike p q =
     let P : Image → Type 0 = λ i. runs i asked.heap asked.stack asked.steps d in
     alike q.image d e (subst P (same_image text p.image q.image p.assembles q.assembles) p.run) q.run
 
 -- in `exec` two answers are one, or two ends
-pub executed_alike : (runs others : RunRelation) (asked : Asked) (text : List ℕ) (a b : Answer) → IsExecuted runs asked text a → IsExecuted others asked text b → (a ≡ b) ⊎ (HasStarted a × HasStarted b)
+pub executed_alike : (runs others : RunRelation) (asked : Asked) (text : List ℕ) (a b : Answer) → IsExecuted runs asked text a →
+    IsExecuted others asked text b → (a ≡ b) ⊎ (HasStarted a × HasStarted b)
 unfolding bad_as
 executed_alike runs others asked text TooLong TooLong p q = inl refl
 executed_alike runs others asked text TooLong (BadLine r n) p q = absurd (too_long text q.short p)
@@ -120,7 +124,8 @@ executed_alike runs others asked text (Finished d) (Finished e) p q = inr (tt, t
 executed_alike runs others asked text (Finished d) _ p q = absurd q
 executed_alike runs others asked text _ b p q = absurd p
 
-executed_once : (runs others : RunRelation) (asked : Asked) (text : List ℕ) (a b : Answer) → AreAlike runs others asked → IsExecuted runs asked text a → IsExecuted others asked text b → a ≡ b
+executed_once : (runs others : RunRelation) (asked : Asked) (text : List ℕ) (a b : Answer) → AreAlike runs others asked →
+    IsExecuted runs asked text a → IsExecuted others asked text b → a ≡ b
 executed_once runs others asked text a b alike p q = by a b p q (executed_alike runs others asked text a b p q)
   where
     by : (a b : Answer) → IsExecuted runs asked text a → IsExecuted others asked text b → (a ≡ b) ⊎ (HasStarted a × HasStarted b) → a ≡ b
@@ -134,7 +139,8 @@ executed_once runs others asked text a b alike p q = by a b p q (executed_alike 
     by a b p q (inr both) = absurd (both.0)
 
 -- whatever the mode
-pub due_alike : (rule other : SpillRule) (runs : RunRelation) (mode : Mode) (asked : Asked) (text : List ℕ) (a b : Answer) → IsDueOfText rule runs mode asked text a → IsDueOfText other runs mode asked text b → (a ≡ b) ⊎ (HasStarted a × HasStarted b)
+pub due_alike : (rule other : SpillRule) (runs : RunRelation) (mode : Mode) (asked : Asked) (text : List ℕ) (a b : Answer) →
+    IsDueOfText rule runs mode asked text a → IsDueOfText other runs mode asked text b → (a ≡ b) ⊎ (HasStarted a × HasStarted b)
 due_alike rule other runs Check asked text a b p q = inl (checked_once text a b p q)
 due_alike rule other runs Build asked text a b p q = written_alike text a b p q
 due_alike rule other runs Run asked text a b p q = run_alike rule other runs asked text a b p q
@@ -142,6 +148,8 @@ due_alike rule other runs Exec asked text a b p q = executed_alike runs runs ask
 due_alike rule other runs Alloc asked text a b p q = written_alike text a b p q
 due_alike rule other runs Gen asked text a b p q = generated_alike a b p q
 
-pub exec_once : (runs others : RunRelation) (asked : Asked) (text : List ℕ) (a b : Answer) → ((image : Image) (d e : RunEnd) → runs image asked.heap asked.stack asked.steps d → others image asked.heap asked.stack asked.steps e → d ≡ e) → IsExecuted runs asked text a → IsExecuted others asked text b → a ≡ b
+pub exec_once : (runs others : RunRelation) (asked : Asked) (text : List ℕ) (a b : Answer) →
+    ((image : Image) (d e : RunEnd) → runs image asked.heap asked.stack asked.steps d → others image asked.heap asked.stack asked.steps e → d ≡ e) →
+    IsExecuted runs asked text a → IsExecuted others asked text b → a ≡ b
 unfolding AreAlike
 exec_once runs others asked text a b alike p q = executed_once runs others asked text a b alike p q

@@ -12,7 +12,13 @@ front_longer x y a b (front, rest, is, kept) = (front, rest ++ b, ap (λ z. z ++
 
 -- a whole piece, and a front of the next
 pub front_later : (x y z : Option (List ℕ)) (a b : List ℕ) → Appends x y a → TakesFront y z b → TakesFront x z (a ++ b)
-front_later x y z a b whole (front, rest, is, kept) = (a ++ front, rest, ap (λ w. a ++ w) is ∙ sym (append_assoc a front rest), appends_then x y z a front whole kept)
+front_later x y z a b whole (front, rest, is, kept) = (
+  a ++ front,
+  rest,
+  ap (λ w. a ++ w) is
+      ∙ sym (append_assoc a front rest),
+  appends_then x y z a front whole kept,
+)
 
 -- a whole piece, and what comes of the next
 pub all_later : {T E : Type 0} (x y z : Option (List ℕ)) (a b : List ℕ) (r : Result T E) → Appends x y a → TakesAll y z r b → TakesAll x z r (a ++ b)

@@ -12,7 +12,8 @@ use Rattle.tg_driver.proofs.FaultsOnce.{source_excludes}
 pub no_fault : (text : List ℕ) (f : Fault) → IsFaultOf text f → IsSource text → ⊥
 no_fault text f h s = source_excludes text f.rule h.at s.names s.tokens s.program h.has s.source
 
-compiled_source : (rule : SpillRule) (text : List ℕ) (allocations : List Allocation) (assembly : List ℕ) → CompilesTo rule text allocations assembly → IsSource text
+compiled_source : (rule : SpillRule) (text : List ℕ) (allocations : List Allocation) (assembly : List ℕ) →
+    CompilesTo rule text allocations assembly → IsSource text
 compiled_source rule text allocations assembly c = record { names = c.names; tokens = c.tokens; program = c.program; source = c.source }
 
 pub built_source : (rule : SpillRule) (text assembly : List ℕ) → Builds rule text assembly → IsSource text
@@ -21,5 +22,6 @@ built_source rule text assembly b = compiled_source rule text b.allocations asse
 pub listed_source : (rule : SpillRule) (text listing : List ℕ) → Lists rule text listing → IsSource text
 listed_source rule text listing b = compiled_source rule text b.allocations b.assembly b.compiles
 
-pub no_fault_of_built : (rule : SpillRule) (runs : RunRelation) (text : List ℕ) (heap stack steps : ℕ) (f : Fault) (end : RunEnd) → IsFaultOf text f → EndsBuilt rule runs text heap stack steps end → ⊥
+pub no_fault_of_built : (rule : SpillRule) (runs : RunRelation) (text : List ℕ) (heap stack steps : ℕ) (f : Fault) (end : RunEnd) →
+    IsFaultOf text f → EndsBuilt rule runs text heap stack steps end → ⊥
 no_fault_of_built rule runs text heap stack steps f end h e = no_fault text f h (built_source rule text e.assembly e.builds)

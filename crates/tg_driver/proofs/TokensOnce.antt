@@ -1,5 +1,6 @@
 -- A text has at most one list of tokens, and one of names.
-use Rattle.std.proofs.Common.{ℕ, zero, suc, ◌+◌, ◌≡◌, ◌≢◌, ◌<◌, List, [], ◌∷◌, ◌++◌, length, Bool, true, false, cond, Some, refl, sym, ap, subst, ◌∙◌, arith, get_or}
+use Rattle.std.proofs.Common.{ℕ, zero, suc, ◌+◌, ◌≡◌, ◌≢◌, ◌<◌, List, [], ◌∷◌, ◌++◌, length, Bool, true, false, cond, Some, refl, sym, ap, subst, ◌∙◌}
+use Rattle.std.proofs.Common.{arith, get_or}
 use Rattle.std.specs.Prelude.{slice_get}
 use Rattle.std.specs.Str.{bytes_eq}
 use Rattle.std.proofs.lemmas.List.Folds.{Any-from_list_any, list_any_at}
@@ -109,7 +110,8 @@ pub record Renumbered (more : List (List ℕ)) (at : ℕ) (text : List ℕ) (tok
   pub lexed : Lexes more at text others
   pub same : (whole : List ℕ) → idents whole others ≡ idents whole tokens
 
-renumbered : (names more : List (List ℕ)) → Holds names more → {at : ℕ} {text : List ℕ} {tokens : List Spanned} → Lexes names at text tokens → Renumbered more at text tokens
+renumbered : (names more : List (List ℕ)) → Holds names more → {at : ℕ} {text : List ℕ} {tokens : List Spanned} →
+    Lexes names at text tokens → Renumbered more at text tokens
 renumbered names more holds (ends at) = record { others = spanned kind.End at at ∷ []; lexed = ends at; same = λ whole. refl }
 renumbered names more holds (blank b is l) =
     let r = renumbered names more holds l in

@@ -39,15 +39,19 @@ noted : (f : Finding) (sorted : List Note) → Accepts f sorted → (notes : Lis
 noted (accepted notes) sorted h = (notes, (refl, h))
 noted (at_fault rule at) sorted h = absurd h
 
-abbrev source_of : (text : List ℕ) (names : List (List ℕ)) (program : Exp) (t : HasNamedTree text names program) (notes : List Note) → finding names program ≡ accepted notes → IsSourceOf text names t.tokens program
+abbrev source_of : (text : List ℕ) (names : List (List ℕ)) (program : Exp) (t : HasNamedTree text names program) (notes : List Note) →
+    finding names program ≡ accepted notes → IsSourceOf text names t.tokens program
 source_of text names program t notes e = record { tree = t.tree; notes = notes; well_typed = e }
 
-pub typed_fault : (text : List ℕ) (names : List (List ℕ)) (program : Exp) (fault : TypeFault) → HasNamedTree text names program → IsAt (finding names program) fault → IsTypeFaultOf text fault
+pub typed_fault : (text : List ℕ) (names : List (List ℕ)) (program : Exp) (fault : TypeFault) → HasNamedTree text names program →
+    IsAt (finding names program) fault → IsTypeFaultOf text fault
 typed_fault text names program (Bad rule at) t h = record { names = names; tokens = t.tokens; program = program; tree = t.tree; fault = h }
 typed_fault text names program Memory t h = tt
 
 -- a program that was compiled, and what the text is compiled to
-pub compiles_to : (rule : SpillRule) (text : List ℕ) (names : List (List ℕ)) (program : Exp) (sorted : List Note) (allocations : List Allocation) (assembly : List ℕ) → HasNamedTree text names program → Accepts (finding names program) sorted → Compiles rule sorted program allocations assembly → CompilesTo rule text allocations assembly
+pub compiles_to : (rule : SpillRule) (text : List ℕ) (names : List (List ℕ)) (program : Exp) (sorted : List Note)
+    (allocations : List Allocation) (assembly : List ℕ) → HasNamedTree text names program → Accepts (finding names program) sorted →
+    Compiles rule sorted program allocations assembly → CompilesTo rule text allocations assembly
 compiles_to rule text names program sorted allocations assembly t h compiles =
     let n = noted (finding names program) sorted h in
     record {
@@ -59,21 +63,26 @@ compiles_to rule text names program sorted allocations assembly t h compiles =
     }
 
 -- so it is built to that, the allocations are listed, and the assembly text is assembled without a fault
-pub builds : (rule : SpillRule) (text : List ℕ) (allocations : List Allocation) (assembly : List ℕ) → CompilesTo rule text allocations assembly → Builds rule text assembly
+pub builds : (rule : SpillRule) (text : List ℕ) (allocations : List Allocation) (assembly : List ℕ) →
+    CompilesTo rule text allocations assembly → Builds rule text assembly
 builds rule text allocations assembly h = record { allocations = allocations; compiles = h }
 
-pub lists : (rule : SpillRule) (text : List ℕ) (allocations : List Allocation) (assembly : List ℕ) → CompilesTo rule text allocations assembly → Lists rule text (listed allocations)
+pub lists : (rule : SpillRule) (text : List ℕ) (allocations : List Allocation) (assembly : List ℕ) →
+    CompilesTo rule text allocations assembly → Lists rule text (listed allocations)
 lists rule text allocations assembly h = record { allocations = allocations; assembly = assembly; compiles = h; listing_is = refl }
 
 -- and what is wanted of a source is a text that may be written of it
-pub writes_wanted : (w : Wanted) (rule : SpillRule) (text : List ℕ) (allocations : List Allocation) (assembly : List ℕ) → CompilesTo rule text allocations assembly → writes_of w rule text (wanted_text w allocations assembly)
+pub writes_wanted : (w : Wanted) (rule : SpillRule) (text : List ℕ) (allocations : List Allocation) (assembly : List ℕ) →
+    CompilesTo rule text allocations assembly → writes_of w rule text (wanted_text w allocations assembly)
 writes_wanted Assembly rule text allocations assembly h = builds rule text allocations assembly h
 writes_wanted Allocations rule text allocations assembly h = lists rule text allocations assembly h
 
-pub has_image : (rule : SpillRule) (text : List ℕ) (allocations : List Allocation) (assembly : List ℕ) → CompilesTo rule text allocations assembly → HasImage assembly
+pub has_image : (rule : SpillRule) (text : List ℕ) (allocations : List Allocation) (assembly : List ℕ) →
+    CompilesTo rule text allocations assembly → HasImage assembly
 has_image rule text allocations assembly h = h.compiles.has_image
 
-pub is_source : (text : List ℕ) (names : List (List ℕ)) (program : Exp) (sorted : List Note) → HasNamedTree text names program → Accepts (finding names program) sorted → IsSource text
+pub is_source : (text : List ℕ) (names : List (List ℕ)) (program : Exp) (sorted : List Note) → HasNamedTree text names program →
+    Accepts (finding names program) sorted → IsSource text
 is_source text names program sorted t h =
     let n = noted (finding names program) sorted h in
     record { names = names; tokens = t.tokens; program = program; source = source_of text names program t n.0 n.1.0 }

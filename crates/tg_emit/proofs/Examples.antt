@@ -32,16 +32,19 @@ down =
 abbrev text : Bool → List ℕ
 text turned = text_of (entry 32 8 ++ code_lines turned 32 8 0 down ++ Label (codes "s40") ∷ Statics (1 ∷ 255 ∷ []) ∷ [])
 
-near_text : text false ≡ codes "\t.text\n\t.globl main\nmain:\n\taddiu $sp, $sp, -8\n\tlw $zero, 0($sp)\n\tlw $t0, 4($sp)\nmain.5:\n\taddiu $t0, $t0, -1\n\tblez $t0, main.7\n\tj main.5\nmain.7:\n\taddu $v0, $zero, $t0\n\taddiu $sp, $sp, 8\n\tjr $ra\n\t.data\ns40:\n\t.byte 1, 255\n"
+near_text : text false ≡
+    codes "\t.text\n\t.globl main\nmain:\n\taddiu $sp, $sp, -8\n\tlw $zero, 0($sp)\n\tlw $t0, 4($sp)\nmain.5:\n\taddiu $t0, $t0, -1\n\tblez $t0, main.7\n\tj main.5\nmain.7:\n\taddu $v0, $zero, $t0\n\taddiu $sp, $sp, 8\n\tjr $ra\n\t.data\ns40:\n\t.byte 1, 255\n"
 unfolding digits
 near_text = refl
 
 -- behind the opposite branch, which is at the place 3, a jump
-far_text : text true ≡ codes "\t.text\n\t.globl main\nmain:\n\taddiu $sp, $sp, -8\n\tlw $zero, 0($sp)\n\tlw $t0, 4($sp)\nmain.5:\n\taddiu $t0, $t0, -1\n\tbgtz $t0, main_3\n\tj main.7\nmain_3:\n\tj main.5\nmain.7:\n\taddu $v0, $zero, $t0\n\taddiu $sp, $sp, 8\n\tjr $ra\n\t.data\ns40:\n\t.byte 1, 255\n"
+far_text : text true ≡
+    codes "\t.text\n\t.globl main\nmain:\n\taddiu $sp, $sp, -8\n\tlw $zero, 0($sp)\n\tlw $t0, 4($sp)\nmain.5:\n\taddiu $t0, $t0, -1\n\tbgtz $t0, main_3\n\tj main.7\nmain_3:\n\tj main.5\nmain.7:\n\taddu $v0, $zero, $t0\n\taddiu $sp, $sp, 8\n\tjr $ra\n\t.data\ns40:\n\t.byte 1, 255\n"
 unfolding digits
 far_text = refl
 
-other_lines : code_lines false 33 16 0 (FrameStore (Reg 9) 1 ∷ FrameAddress (Reg 9) ∷ Address (Reg 4) (record { 0 = 40 }) ∷ Call (record { 0 = 34 }) ∷ []) ≡ alone (row.Sw 9 8 29) ∷ alone (row.Addiu 9 29 16) ∷ La 4 (codes "s40") ∷ One (row.Jal 0) (codes "f34") ∷ []
+other_lines : code_lines false 33 16 0 (FrameStore (Reg 9) 1 ∷ FrameAddress (Reg 9) ∷ Address (Reg 4) (record { 0 = 40 }) ∷
+    Call (record { 0 = 34 }) ∷ []) ≡ alone (row.Sw 9 8 29) ∷ alone (row.Addiu 9 29 16) ∷ La 4 (codes "s40") ∷ One (row.Jal 0) (codes "f34") ∷ []
 unfolding digits
 other_lines = refl
 

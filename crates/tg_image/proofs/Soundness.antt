@@ -10,7 +10,8 @@ use Rattle.std.proofs.lemmas.Slice.Eq.{bytes_eq-Decides}
 use Rattle.tg_base.specs.State.{most_words, most_bytes, code_base}
 use Rattle.tg_isa.specs.declared.keywords.Segment.TheVariants.{Code}
 use Rattle.tg_isa.specs.Assembly.{Reading, assembled}
-use Rattle.tg_isa.specs.Placement.{AtWord, found_address, Positions, positions, positions_from, position_of, labels_in, code_in, last_byte, WordsReach, JumpReaches, IsSound}
+use Rattle.tg_isa.specs.Placement.{AtWord, found_address, Positions, positions, positions_from, position_of, labels_in, code_in, last_byte}
+use Rattle.tg_isa.specs.Placement.{WordsReach, JumpReaches, IsSound}
 use Rattle.tg_isa.specs.Texts as texts
 use Rattle.tg_isa.proofs.TextLines.{lines_have_image}
 use Rattle.tg_tree.specs.declared.fragments.Literal.{Literal}
@@ -22,7 +23,8 @@ use Rattle.tg_emit.specs.Lines.{function_lines, functions_lines, is_long, words}
 use Rattle.tg_image.specs.Programs.{function_labels, literal_labels, is_among, bytes_of, IsProgram, AreTyped}
 use Rattle.tg_image.specs.Images.{statics_written, program_written, words_before, ProgramHasImage, ProgramEntersBody}
 use Rattle.tg_image.proofs.Apart.{Differ, differ_append, pairs_differ, Stands, stands_left, stands_right, names_of, found}
-use Rattle.tg_image.proofs.CodeLines.{AreCode, coded_in, labels_from, labels_append, given_in, coded_words, code_stands, code_words, code_positions, code_bytes, code_items}
+use Rattle.tg_image.proofs.CodeLines.{AreCode, coded_in, labels_from, labels_append, given_in, coded_words, code_stands, code_words, code_positions}
+use Rattle.tg_image.proofs.CodeLines.{code_bytes, code_items}
 use Rattle.tg_image.proofs.CodeLines.{code_labels}
 use Rattle.tg_image.proofs.InstructionLines.{IsInCode, jump_there, Surrounds, Finds}
 use Rattle.tg_image.proofs.FunctionLines.{IsEmitted, in_code, or_right}

@@ -1,5 +1,6 @@
 -- Nodes and their operands: the colours differ, and each node is that of its operand.
-use Rattle.std.proofs.Common.{◌≡◌, ◌<◌, ◌≤◌, ◌+◌, ◌-◌, ◌==◌, ℕ, zero, suc, Bool, true, false, not, nat_eq, ◌&&◌, cond, List, [], ◌∷◌, length, Option, Some, None, get_or, refl, sym, ap, ◌∙◌, arith, ⊎_elim}
+use Rattle.std.proofs.Common.{◌≡◌, ◌<◌, ◌≤◌, ◌+◌, ◌-◌, ◌==◌, ℕ, zero, suc, Bool, true, false, not, nat_eq, ◌&&◌, cond, List, [], ◌∷◌, length, Option}
+use Rattle.std.proofs.Common.{Some, None, get_or, refl, sym, ap, ◌∙◌, arith, ⊎_elim}
 use Rattle.std.specs.List.{list_any, list_all, position, range_with_len}
 use Rattle.std.proofs.lemmas.Bool.{eqb-true, eq-eqb, ne_eqb, cases_eq, cases_lt, lt-ltb, le-ltb, ltb-true, and_parts, or_cases, false_from_ne_true, false≢true}
 use Rattle.std.specs.Prelude.{is_some}

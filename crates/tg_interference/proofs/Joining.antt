@@ -1,5 +1,6 @@
 -- What each step of the code joins.
-use Rattle.std.proofs.Common.{◌≡◌, ◌+◌, ◌<◌, ◌==◌, ℕ, Bool, true, false, ◌&&◌, ◌||◌, List, Option, Some, None, length, get_or, take, refl, sym, ap, ◌∙◌, Result, Ok, Err, OnOk}
+use Rattle.std.proofs.Common.{◌≡◌, ◌+◌, ◌<◌, ◌==◌, ℕ, Bool, true, false, ◌&&◌, ◌||◌, List, Option, Some, None, length, get_or, take, refl, sym, ap}
+use Rattle.std.proofs.Common.{◌∙◌, Result, Ok, Err, OnOk}
 use Rattle.std.proofs.lemmas.Bool.{eqb-true}
 use Rattle.std.proofs.lemmas.List.Folds.{list_any_more}
 use Rattle.tg_instr.specs.declared.operands.Opnd.{Opnd}

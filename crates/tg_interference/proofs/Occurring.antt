@@ -1,5 +1,6 @@
 -- Moves in a loop, and how often operands occur.
-use Rattle.std.proofs.Common.{◌≡◌, ◌<◌, ◌≤◌, ◌+◌, ◌-◌, ◌*◌, ◌^◌, ℕ, Bool, false, cond, List, [], ◌∷◌, ◌++◌, Some, None, length, get_or, take, map, count_by, refl, sym, ap, ◌∙◌, arith, ⊎_elim}
+use Rattle.std.proofs.Common.{◌≡◌, ◌<◌, ◌≤◌, ◌+◌, ◌-◌, ◌*◌, ◌^◌, ℕ, Bool, false, cond, List, [], ◌∷◌, ◌++◌, Some, None, length, get_or, take, map}
+use Rattle.std.proofs.Common.{count_by, refl, sym, ap, ◌∙◌, arith, ⊎_elim}
 use Rattle.std.specs.Prelude.{All, nat_le, slice_index}
 use Rattle.std.specs.List.{cons_option, range_with_len}
 use Rattle.std.proofs.lemmas.List.FromFn.{map-range_with_len_more}

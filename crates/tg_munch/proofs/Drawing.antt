@@ -17,8 +17,11 @@ use Rattle.tg_munch.specs.declared.tiles.Immediate.TheVariants as in_field
 use Rattle.tg_munch.specs.declared.tiles.Tile.{Tile}
 use Rattle.tg_munch.specs.declared.tiles.Tile.TheVariants.{Right, Left, ByWord, Operands}
 use Rattle.tg_munch.specs.Choosing.{Drawn, Choice, ◌>>=◌, ◌>>◌, give, put, fresh, choose, defining}
-use Rattle.tg_munch.specs.Tiles.{is_small, halves, constant, behind, based, loaded, loaded_byte, instruction, shift_by, shift_bit, shift_bits, shifted, shifted_into, moved, operated, with_field, tiled}
-use Rattle.tg_munch.proofs.Scopes.{Scope, Grows, grows_none, grows_on, is_readable, is_writable, may_name, may_put, Readable, Writable, Asked, or_right, readable_on, writable_on, asked_on, readable, all_on, counted, occurs, spanned, occurs_append, span_none, span_join, span_one}
+use Rattle.tg_munch.specs.Tiles.{is_small, halves, constant, behind, based, loaded, loaded_byte, instruction, shift_by, shift_bit, shift_bits}
+use Rattle.tg_munch.specs.Tiles.{shifted, shifted_into, moved, operated, with_field, tiled}
+use Rattle.tg_munch.proofs.Scopes.{Scope, Grows, grows_none, grows_on, is_readable, is_writable, may_name, may_put, Readable, Writable, Asked}
+use Rattle.tg_munch.proofs.Scopes.{or_right, readable_on, writable_on, asked_on, readable, all_on, counted, occurs, spanned, occurs_append, span_none}
+use Rattle.tg_munch.proofs.Scopes.{span_join, span_one}
 
 -- a choice that names what it may, gives something good, and has the marks that it draws
 pub record Fits {A : Type 0} (good : Drawn → A → Bool) (w : Scope) (choice : Choice A) (d : Drawn) : Type 0 where

@@ -11,7 +11,8 @@ use Rattle.tg_instr.specs.declared.operands.Opnd.{Opnd}
 use Rattle.tg_instr.specs.declared.operands.Opnd.TheVariants.{Reg}
 use Rattle.tg_instr.specs.declared.instr.Instr.{Instr}
 use Rattle.tg_instr.specs.declared.instr.Instr.TheVariants as instr
-use Rattle.tg_instr.specs.declared.instr.Instr.TheVariants.{Addiu, Addi, Add, Addu, Subu, Sll, Andi, Ori, Lui, Lw, Sw, Slt, Slti, Sltiu, Move, FrameLoad, FrameStore, Branch, Call, Service, Mult, Mflo, Mfhi, Sra, Return}
+use Rattle.tg_instr.specs.declared.instr.Instr.TheVariants.{Addiu, Addi, Add, Addu, Subu, Sll, Andi, Ori, Lui, Lw, Sw, Slt, Slti, Sltiu, Move}
+use Rattle.tg_instr.specs.declared.instr.Instr.TheVariants.{FrameLoad, FrameStore, Branch, Call, Service, Mult, Mflo, Mfhi, Sra, Return}
 use Rattle.tg_munch.specs.Choosing.{Drawn, ◌>>=◌}
 use Rattle.tg_munch.specs.Munching.{temp, expression, statement, branch, elements}
 use Rattle.tg_munch.specs.Bodies.{munched, outs}
@@ -91,20 +92,25 @@ zero_on_the_left : (branch 2 Less (Const 0) (t 1) 7 start).code ≡ Branch (reco
 unfolding ◌>>=◌
 zero_on_the_left = refl
 
-at_most : (branch 2 LessEqual (t 1) (Const 9) 7 start).code ≡ Slti (temp 9) (temp 1) 10 ∷ Branch (record { rel = NotEqual; left = temp 9; right = Reg 0; is_one_row = refl }) 7 ∷ []
+at_most : (branch 2 LessEqual (t 1) (Const 9) 7 start).code ≡ Slti (temp 9) (temp 1) 10 ∷
+    Branch (record { rel = NotEqual; left = temp 9; right = Reg 0; is_one_row = refl }) 7 ∷ []
 unfolding ◌>>=◌
 at_most = refl
 
-above : (branch 2 Greater (t 1) (t 2) 7 start).code ≡ Slt (temp 9) (temp 2) (temp 1) ∷ Branch (record { rel = NotEqual; left = temp 9; right = Reg 0; is_one_row = refl }) 7 ∷ []
+above : (branch 2 Greater (t 1) (t 2) 7 start).code ≡ Slt (temp 9) (temp 2) (temp 1) ∷
+    Branch (record { rel = NotEqual; left = temp 9; right = Reg 0; is_one_row = refl }) 7 ∷ []
 unfolding ◌>>=◌
 above = refl
 
-index : (branch 2 NotBelow (t 1) (Load (t 2)) 7 start).code ≡ Lw (temp 9) 0 (temp 2) ∷ instr.Sltu (temp 10) (temp 1) (temp 9) ∷ Branch (record { rel = Equal; left = temp 10; right = Reg 0; is_one_row = refl }) 7 ∷ []
+index : (branch 2 NotBelow (t 1) (Load (t 2)) 7 start).code ≡ Lw (temp 9) 0 (temp 2) ∷ instr.Sltu (temp 10) (temp 1) (temp 9) ∷
+    Branch (record { rel = Equal; left = temp 10; right = Reg 0; is_one_row = refl }) 7 ∷ []
 unfolding ◌>>=◌
 index = refl
 
 -- a call of five arguments, whose fifth stands in the frame
-call : (statement 2 (tree.Move 3 (tree.Call 40 (tx FrameAddress (tx (t 1) (tx (Const 0) (tx (t 2) (tx (t 1) no_txs))))))) start).code ≡ instr.FrameAddress (Reg 4) ∷ Move (Reg 5) (temp 1) ∷ Addiu (Reg 6) (Reg 0) 0 ∷ Move (Reg 7) (temp 2) ∷ Sw (temp 1) 0 (Reg 29) ∷ Call (record { 0 = 40 }) ∷ Move (temp 3) (Reg 2) ∷ []
+call : (statement 2 (tree.Move 3 (tree.Call 40 (tx FrameAddress (tx (t 1) (tx (Const 0) (tx (t 2) (tx (t 1) no_txs))))))) start).code ≡
+    instr.FrameAddress (Reg 4) ∷ Move (Reg 5) (temp 1) ∷ Addiu (Reg 6) (Reg 0) 0 ∷ Move (Reg 7) (temp 2) ∷ Sw (temp 1) 0 (Reg 29) ∷
+    Call (record { 0 = 40 }) ∷ Move (temp 3) (Reg 2) ∷ []
 unfolding ◌>>=◌
 call = refl
 
@@ -118,9 +124,21 @@ words_for_arguments = refl
 
 -- a function of two parameters, the second of which escapes
 abbrev next : Function (List Linear)
-next = record { label = 33; params = InTemp (record { 0 = 0 }) ∷ InFrame 0 ∷ []; slots = 1; temps = 1; out = 0; body = Return' (Binary bin.AddTrap (t 0) (Const 1)) ∷ [] }
+next = record {
+  label = 33;
+  params = InTemp (record { 0 = 0 }) ∷ InFrame 0 ∷ [];
+  slots = 1;
+  temps = 1;
+  out = 0;
+  body =
+      Return' (Binary bin.AddTrap (t 0) (Const 1)) ∷ [];
+}
 
-function : (munched next).code ≡ Move (temp 1) (Reg 16) ∷ Move (temp 2) (Reg 17) ∷ Move (temp 3) (Reg 18) ∷ Move (temp 4) (Reg 19) ∷ Move (temp 5) (Reg 20) ∷ Move (temp 6) (Reg 21) ∷ Move (temp 7) (Reg 22) ∷ Move (temp 8) (Reg 23) ∷ Move (temp 9) (Reg 31) ∷ Move (temp 0) (Reg 4) ∷ FrameStore (Reg 5) 0 ∷ Addi (Reg 2) (temp 0) 1 ∷ Move (Reg 16) (temp 1) ∷ Move (Reg 17) (temp 2) ∷ Move (Reg 18) (temp 3) ∷ Move (Reg 19) (temp 4) ∷ Move (Reg 20) (temp 5) ∷ Move (Reg 21) (temp 6) ∷ Move (Reg 22) (temp 7) ∷ Move (Reg 23) (temp 8) ∷ Move (Reg 31) (temp 9) ∷ Return ∷ []
+function : (munched next).code ≡ Move (temp 1) (Reg 16) ∷ Move (temp 2) (Reg 17) ∷ Move (temp 3) (Reg 18) ∷
+    Move (temp 4) (Reg 19) ∷ Move (temp 5) (Reg 20) ∷ Move (temp 6) (Reg 21) ∷ Move (temp 7) (Reg 22) ∷ Move (temp 8) (Reg 23) ∷
+    Move (temp 9) (Reg 31) ∷ Move (temp 0) (Reg 4) ∷ FrameStore (Reg 5) 0 ∷ Addi (Reg 2) (temp 0) 1 ∷ Move (Reg 16) (temp 1) ∷
+    Move (Reg 17) (temp 2) ∷ Move (Reg 18) (temp 3) ∷ Move (Reg 19) (temp 4) ∷ Move (Reg 20) (temp 5) ∷ Move (Reg 21) (temp 6) ∷
+    Move (Reg 22) (temp 7) ∷ Move (Reg 23) (temp 8) ∷ Move (Reg 31) (temp 9) ∷ Return ∷ []
 unfolding ◌>>=◌
 function = refl
 
@@ -138,7 +156,15 @@ words_of_next = (refl, refl)
 
 -- and no whole number below it would do: the sum of two calls is five units, of which 56 words come.
 abbrev two_calls : Function (List Linear)
-two_calls = record { label = 33; params = []; slots = 0; temps = 0; out = 0; body = Do' (tree.Do (Binary bin.Add (tree.Call 40 no_txs) (tree.Call 41 no_txs))) ∷ [] }
+two_calls = record {
+  label = 33;
+  params = [];
+  slots = 0;
+  temps = 0;
+  out = 0;
+  body =
+      Do' (tree.Do (Binary bin.Add (tree.Call 40 no_txs) (tree.Call 41 no_txs))) ∷ [];
+}
 
 words_of_calls : (flat_length two_calls ≡ 5) × (sum_by most_words (munched two_calls).code ≡ 13 * kept_count + 56)
 unfolding ◌>>=◌

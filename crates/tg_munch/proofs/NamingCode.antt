@@ -1,5 +1,6 @@
 -- What the instructions of branches, elements and a whole function name, and their marks.
-use Rattle.std.proofs.Common.{ℕ, ◌≡◌, ◌<◌, ◌≤◌, ◌+◌, List, [], ◌∷◌, ◌++◌, Option, Some, None, Bool, true, false, length, nat_lt, refl, sym, ◌∙◌, subst, arith, zero-add}
+use Rattle.std.proofs.Common.{ℕ, ◌≡◌, ◌<◌, ◌≤◌, ◌+◌, List, [], ◌∷◌, ◌++◌, Option, Some, None, Bool, true, false, length, nat_lt, refl, sym, ◌∙◌}
+use Rattle.std.proofs.Common.{subst, arith, zero-add}
 use Rattle.std.proofs.lemmas.Bool.Decides.{nat_tests}
 use Rattle.std.specs.Prelude.{IsTrue, nat_le, nat_eq, if◌then◌else◌}
 use Rattle.std.specs.List.{list_all}
@@ -20,11 +21,13 @@ use Rattle.tg_munch.specs.declared.orders.Short.{Short}
 use Rattle.tg_munch.specs.declared.orders.Short.TheVariants.{Zero, Field}
 use Rattle.tg_munch.specs.Choosing.{Drawn, Choice, ◌>>=◌, ◌>>◌, give, put}
 use Rattle.tg_munch.specs.Comparing.{on_flag, flag, field_flag, on_less, on_less_field, branch_on, against_zero, against, short_side, is_turned, turned, order}
-use Rattle.tg_munch.specs.Munching.{temp, argument, kept_registers, expression, given_back, compared, branch, compared_in_hi, branch_behind, returned, element, elements}
+use Rattle.tg_munch.specs.Munching.{temp, argument, kept_registers, expression, given_back, compared, branch, compared_in_hi, branch_behind, returned}
+use Rattle.tg_munch.specs.Munching.{element, elements}
 use Rattle.tg_munch.specs.Products.{is_in_hi}
 use Rattle.tg_munch.specs.Bodies.{kept_register, kept, from_caller, parameter, parameters}
 use Rattle.tg_munch.specs.Naming.{is_written, is_read}
-use Rattle.tg_munch.proofs.Scopes.{Scope, Grows, grows_on, is_readable, may_name, may_put, Readable, Writable, or_left, or_right, readable_on, writable_on, readable, all_on, counted, occurs, spanned, occurs_append, span_join}
+use Rattle.tg_munch.proofs.Scopes.{Scope, Grows, grows_on, is_readable, may_name, may_put, Readable, Writable, or_left, or_right, readable_on}
+use Rattle.tg_munch.proofs.Scopes.{writable_on, readable, all_on, counted, occurs, spanned, occurs_append, span_join}
 use Rattle.tg_munch.proofs.Drawing.{Fits, anything, fits_then, fits_give, fits_put, fits_fresh, fits_if, one_named, two_named, three_named}
 use Rattle.tg_munch.proofs.Naming.{Passes, StatementPasses, temp_writable, fits_expression, fits_statement}
 

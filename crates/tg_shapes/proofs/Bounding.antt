@@ -4,9 +4,13 @@ use Rattle.std.specs.Prelude.{nat_lt, if◌then◌else◌}
 use Rattle.std.specs.List.{AllZip}
 use Rattle.std.proofs.lemmas.Bool.Decides.{nat_tests}
 use Rattle.tg_syntax.specs.Tree as source
-use Rattle.tg_syntax.specs.Tree.{Exp, Nil, Break, Int, Text, Read, Call, Neg, Binary, Make, Fill, Assign, If, When, While, For, Let, Seq, Simple, Field, Index, Exps, no_exps, exp, Inits, no_inits, init, Decs, no_decs, types, variable, functions, FunDecs, no_functions, function}
-use Rattle.tg_syntax.specs.Measures.{size, place_size, exps_size, inits_size, decs_size, functions_size, inner, inner_place, inner_exps, inner_inits, inner_decs, inner_functions}
-use Rattle.tg_syntax.specs.Functions.{Measures, Levels, own, own_params, own_functions, own_decs, declared, declared_place, declared_exps, declared_inits, declared_decs, declared_functions, program_functions, program_size}
+use Rattle.tg_syntax.specs.Tree.{Exp, Nil, Break, Int, Text, Read, Call, Neg, Binary, Make, Fill, Assign, If, When, While, For, Let, Seq, Simple}
+use Rattle.tg_syntax.specs.Tree.{Field, Index, Exps, no_exps, exp, Inits, no_inits, init, Decs, no_decs, types, variable, functions, FunDecs}
+use Rattle.tg_syntax.specs.Tree.{no_functions, function}
+use Rattle.tg_syntax.specs.Measures.{size, place_size, exps_size, inits_size, decs_size, functions_size, inner, inner_place, inner_exps, inner_inits}
+use Rattle.tg_syntax.specs.Measures.{inner_decs, inner_functions}
+use Rattle.tg_syntax.specs.Functions.{Measures, Levels, own, own_params, own_functions, own_decs, declared, declared_place, declared_exps}
+use Rattle.tg_syntax.specs.Functions.{declared_inits, declared_decs, declared_functions, program_functions, program_size}
 use Rattle.tg_syntax.specs.Plain.{plain}
 use Rattle.tg_syntax.specs.Spans.{span_of}
 use Rattle.tg_syntax.proofs.FunctionLaws.{program_size_is}

@@ -20,16 +20,25 @@ use Rattle.tg_translate.specs.declared.held.HeldAddress.TheVariants.{InOwnFrame,
 use Rattle.tg_translate.specs.declared.wants.Want.{Want}
 use Rattle.tg_translate.specs.declared.wants.Want.TheVariants as want
 use Rattle.tg_translate.specs.States.{TranslationState, Drawn, Acts, after, give}
-use Rattle.tg_translate.specs.Wants.{Made, value, done, test, truth_into, value_of, put_in, dropped, test_of, arms, as_statement, deliver, followed, value_behind, done_behind, behind_some, behind}
-use Rattle.tg_translate.specs.Constructs.{Storage, in_temp, at_address, operand, keep, hold, HeldAll, hold_next, own_place, store_at, want_for, assign, hold_base, hold_address, held_in_temp, held_at, hold_place, read_held, place_held, field_of, field_place, element_of, element_place, call_routine, record_of, make_record, product_of, quotient_of, checked_quotient, minus_one, quotient, comparison, operation, count_of, count, string_text}
+use Rattle.tg_translate.specs.Wants.{Made, value, done, test, truth_into, value_of, put_in, dropped, test_of, arms, as_statement, deliver, followed}
+use Rattle.tg_translate.specs.Wants.{value_behind, done_behind, behind_some, behind}
+use Rattle.tg_translate.specs.Constructs.{Storage, in_temp, at_address, operand, keep, hold, HeldAll, hold_next, own_place, store_at, want_for}
+use Rattle.tg_translate.specs.Constructs.{assign, hold_base, hold_address, held_in_temp, held_at, hold_place, read_held, place_held, field_of}
+use Rattle.tg_translate.specs.Constructs.{field_place, element_of, element_place, call_routine, record_of, make_record, product_of, quotient_of}
+use Rattle.tg_translate.specs.Constructs.{checked_quotient, minus_one, quotient, comparison, operation, count_of, count, string_text}
 use Rattle.tg_translate.specs.Choices.{tested, chosen}
-use Rattle.tg_translate.specs.Scopes.{no_value, nowhere, home_place, variable_place, compares_strings, routine_of, call_declared, call, literal, declare_variable}
+use Rattle.tg_translate.specs.Scopes.{no_value, nowhere, home_place, variable_place, compares_strings, routine_of, call_declared, call, literal}
+use Rattle.tg_translate.specs.Scopes.{declare_variable}
 use Rattle.tg_translate.specs.Functions.{at_of, declare_functions, gives_nothing, closing}
 use Rattle.tg_translate.specs.Translate.{connective, with_left, chosen_arm, choice, assignment, declaration_of}
 use Rattle.tg_shapes.specs.Escaped.{one_of}
-use Rattle.tg_shapes.proofs.Near.{IsTx, AreTxs, IsCond, IsTs, AreStms, IsMade, IsPlace, followed_near, truth_near, put_near, dropped_near, test_near, statement_near, deliver_near, tested_near, chosen_near, own_place_near, home_near, store_near, held_address_near, read_held_near, wider_tx, field_near, element_near, record_near, product_near, quotient_near, comparison_near, count_near, declared_near}
+use Rattle.tg_shapes.proofs.Near.{IsTx, AreTxs, IsCond, IsTs, AreStms, IsMade, IsPlace, followed_near, truth_near, put_near, dropped_near, test_near}
+use Rattle.tg_shapes.proofs.Near.{statement_near, deliver_near, tested_near, chosen_near, own_place_near, home_near, store_near, held_address_near}
+use Rattle.tg_shapes.proofs.Near.{read_held_near, wider_tx, field_near, element_near, record_near, product_near, quotient_near, comparison_near}
+use Rattle.tg_shapes.proofs.Near.{count_near, declared_near}
 use Rattle.tg_shapes.proofs.Actions.{left}
-use Rattle.tg_shapes.proofs.Taking.{Cost, and, draws, adds, Takes, adds_none, both, at_most, more, then_draws, then_quiet, draws_then, quiet_then, keeps, gives, draws_one}
+use Rattle.tg_shapes.proofs.Taking.{Cost, and, draws, adds, Takes, adds_none, both, at_most, more, then_draws, then_quiet, draws_then, quiet_then}
+use Rattle.tg_shapes.proofs.Taking.{keeps, gives, draws_one}
 
 pub arms_takes : (w : Want) (s : TranslationState) → Takes (draws 1) (λ a. Unit {0}) s (arms w s)
 arms_takes want.Value s = then_quiet (draws_one s) λ t s _. gives s (want.Into (record { 0 = t })) tt
@@ -37,7 +46,8 @@ arms_takes (want.Into t) s = more (omega arith) (gives s (want.Into t) tt)
 arms_takes want.Dropped s = more (omega arith) (gives s want.Dropped tt)
 arms_takes want.Test s = then_quiet (draws_one s) λ t s _. gives s (want.Into (record { 0 = t })) tt
 
-pub declares : (b : Bool) (level at : ℕ) (s : TranslationState) → Takes (record (draws 1) { slots = one_of b }) (λ a. Unit {0}) s (declare_variable b level at s)
+pub declares : (b : Bool) (level at : ℕ) (s : TranslationState) → Takes (record (draws 1) { slots = one_of b })
+    (λ a. Unit {0}) s (declare_variable b level at s)
 declares true level at s = keeps _ 1 1 s (left (declare_variable true level at s)) tt (omega arith) (omega arith) refl refl refl refl
 declares false level at s = keeps _ 0 1 s (left (declare_variable false level at s)) tt (omega arith) (omega arith) refl refl refl refl
 
@@ -71,7 +81,8 @@ module _ (n : ℕ) where
       then_quiet (draws_one s) λ t s _.
       gives s (record { before = followed ss (Move t x); operand = Kept (record { 0 = t }) }) (followed_near n ss (Move t x) h k)
 
-  hold_takes : (direct : Bool) (ss : Stms) (x : Tx) (s : TranslationState) → AreStms n ss → IsTx n x → Takes (draws 1) (λ h. AreStms n h.before) s (hold direct ss x s)
+  hold_takes : (direct : Bool) (ss : Stms) (x : Tx) (s : TranslationState) → AreStms n ss → IsTx n x →
+      Takes (draws 1) (λ h. AreStms n h.before) s (hold direct ss x s)
   hold_takes direct ss (Const k) s h g = more (omega arith) (gives s (record { before = ss; operand = Number k }) h)
   hold_takes true ss (Temp t) s h g = more (omega arith) (gives s (record { before = ss; operand = Kept (record { 0 = t }) }) h)
   hold_takes false ss (Temp t) s h g = keep_takes ss (Temp t) s h g
@@ -145,7 +156,8 @@ module _ (n : ℕ) where
   operation_takes op.Divide of_strings direct x y s h k = more (omega arith) (quotient_takes direct x y s h k)
   operation_takes o of_strings direct x y s h k = more (omega arith) (gives s (test (comparison o of_strings x y)) (comparison_near n o of_strings x y h k))
 
-  pub count_takes : (i : Access) (x y : Tx) (turn : Ts) (s : TranslationState) → IsTx n x → IsTx n y → IsTs n turn → Takes (draws 2) (IsTs n) s (count i x y turn s)
+  pub count_takes : (i : Access) (x y : Tx) (turn : Ts) (s : TranslationState) → IsTx n x → IsTx n y → IsTs n turn →
+      Takes (draws 2) (IsTs n) s (count i x y turn s)
   count_takes i x y turn s h k f =
       draws_then (hold_takes false no_stms x s tt h) λ l s g. then_quiet (keep_takes l.before y s g k) λ r s j.
       gives s (count_of r.before i l.operand r.operand turn) (count_near n r.before i l.operand r.operand turn j f)
@@ -158,7 +170,8 @@ module _ (n : ℕ) where
   place_takes c (Some (means.Variable at)) s l = gives s (home_place c (named at s.homes)) (home_near n c (named at s.homes) l)
   place_takes c (Some other) s l = gives s nowhere (tt, tt)
 
-  pub call_takes : (c : Within) (meaning : Option Means) (xs : Txs) (s : TranslationState) → c.level ≤ n → AreTxs n xs → Takes (draws 0) (IsTx n) s (call c meaning xs s)
+  pub call_takes : (c : Within) (meaning : Option Means) (xs : Txs) (s : TranslationState) → c.level ≤ n → AreTxs n xs →
+      Takes (draws 0) (IsTx n) s (call c meaning xs s)
   call_takes c None xs s l h = gives s no_value tt
   call_takes c (Some (means.Standard f)) xs s l h = gives s (call_routine (routine_of f) xs) h
   call_takes c (Some (means.Function at)) xs s l h = gives s (call_declared c xs (named at s.callees)) (declared_near n c xs (named at s.callees) l h)

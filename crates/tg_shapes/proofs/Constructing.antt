@@ -20,8 +20,16 @@ use Rattle.tg_translate.specs.declared.held.HeldAddress.{HeldAddress}
 use Rattle.tg_translate.specs.declared.held.HeldAddress.TheVariants.{InOwnFrame, Beside, At}
 use Rattle.tg_translate.specs.States.{TranslationState, Acts, after, give, fresh}
 use Rattle.tg_translate.specs.Wants.{Made, value, test, put_in, followed}
-use Rattle.tg_translate.specs.Constructs.{minus_one, least_int, plus, operand, Held, keep, hold, HeldAll, hold_next, own_link, frame_out, Storage, in_temp, at_address, place_in, own_place, after_all, read, store_at, want_for, assign, held_address, hold_base, hold_address, HeldPlace, held_in_temp, held_at, hold_place, read_held, place_held, nil_check, index_check, zero_check, product_check, quotient_check, field_of, field_place, element_of, element_place, call_routine, store_field, store_fields, call_for_record, record_of, make_record, make_array, comparison, product_of, product, quotient_of, checked_quotient, quotient, operation, negation, repeat_while, first_minus_one, assign_value, turn_of, turns, count_of, count}
-use Rattle.tg_shapes.proofs.Keeping.{Asks, Where, access_on, bind, draws_temp, given, held_on, onward, operand_on, operands_on, stms_on, ts_on, tx_on, Ready, Yields, GoodTx, GoodTxs, GoodTs, GoodStms, GoodCond, GoodMade, GoodPlace, GoodOperand, GoodOperands, GoodHeld, GoodWant, GoodAccess, KnowsAt}
+use Rattle.tg_translate.specs.Constructs.{minus_one, least_int, plus, operand, Held, keep, hold, HeldAll, hold_next, own_link, frame_out, Storage}
+use Rattle.tg_translate.specs.Constructs.{in_temp, at_address, place_in, own_place, after_all, read, store_at, want_for, assign, held_address}
+use Rattle.tg_translate.specs.Constructs.{hold_base, hold_address, HeldPlace, held_in_temp, held_at, hold_place, read_held, place_held, nil_check}
+use Rattle.tg_translate.specs.Constructs.{index_check, zero_check, product_check, quotient_check, field_of, field_place, element_of, element_place}
+use Rattle.tg_translate.specs.Constructs.{call_routine, store_field, store_fields, call_for_record, record_of, make_record, make_array, comparison}
+use Rattle.tg_translate.specs.Constructs.{product_of, product, quotient_of, checked_quotient, quotient, operation, negation, repeat_while}
+use Rattle.tg_translate.specs.Constructs.{first_minus_one, assign_value, turn_of, turns, count_of, count}
+use Rattle.tg_shapes.proofs.Keeping.{Asks, Where, access_on, bind, draws_temp, given, held_on, onward, operand_on, operands_on, stms_on, ts_on, tx_on}
+use Rattle.tg_shapes.proofs.Keeping.{Ready, Yields, GoodTx, GoodTxs, GoodTs, GoodStms, GoodCond, GoodMade, GoodPlace, GoodOperand, GoodOperands}
+use Rattle.tg_shapes.proofs.Keeping.{GoodHeld, GoodWant, GoodAccess, KnowsAt}
 use Rattle.tg_shapes.proofs.Wanting as wanting
 
 module _ (asks : Asks) where

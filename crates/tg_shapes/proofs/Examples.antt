@@ -7,7 +7,8 @@ use Rattle.tg_symbols.specs.Tables.{named}
 use Rattle.tg_syntax.specs.declared.tokens.Ident.{Ident}
 use Rattle.tg_syntax.specs.declared.trees.Op.TheVariants as op
 use Rattle.tg_syntax.specs.Functions.{program_functions}
-use Rattle.tg_syntax.specs.Tree.{Exp, Break, Int, Text, Read, Call, Binary, Assign, If, When, While, For, Let, Seq, Simple, no_exps, exp, no_decs, variable, functions, no_functions, function}
+use Rattle.tg_syntax.specs.Tree.{Exp, Break, Int, Text, Read, Call, Binary, Assign, If, When, While, For, Let, Seq, Simple, no_exps, exp, no_decs}
+use Rattle.tg_syntax.specs.Tree.{variable, functions, no_functions, function}
 use Rattle.tg_meaning.specs.declared.standards.Standard.TheVariants as standard
 use Rattle.tg_types.specs.declared.notes.Means.{Means}
 use Rattle.tg_types.specs.declared.notes.Means.TheVariants as means

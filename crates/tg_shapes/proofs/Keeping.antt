@@ -250,13 +250,15 @@ module _ {asks : Asks} where
     balance = λ n. let p = h.balance n in let q = k.balance n in omega (arith, p, q);
   }
 
-  pub bind : {A C : Type 0} {c : Where} {s : TranslationState} {V : TranslationState → A → Type 0} {W : TranslationState → C → Type 0} {d : Drawn A} {next : A → Acts C} →
+  pub bind : {A C : Type 0} {c : Where} {s : TranslationState} {V : TranslationState → A → Type 0} {W : TranslationState →
+      C → Type 0} {d : Drawn A} {next : A → Acts C} →
       Yields asks c s V d → ((a : A) (t : TranslationState) → Step asks c.kept s t → Ready asks c t → V t a → Yields asks c t W (next a t)) →
       Yields asks c s W (after d next)
   bind {d = drawn a t} h k =
       let g = k a t h.step h.ready h.value in record { step = onward h.step g.step; ready = g.ready; value = g.value }
 
-  pub given : {A : Type 0} {c : Where} {s : TranslationState} {V : TranslationState → A → Type 0} (a : A) → Ready asks c s → V s a → Yields asks c s V (give a s)
+  pub given : {A : Type 0} {c : Where} {s : TranslationState} {V : TranslationState → A → Type 0} (a : A) → Ready asks c s →
+      V s a → Yields asks c s V (give a s)
   given a r v = record { step = stay; ready = r; value = v }
 
   pub draws_temp : {c : Where} {s : TranslationState} → Ready asks c s → Yields asks c s (λ t i. asks.temps → i < t.frame.temps) (fresh s)

@@ -6,10 +6,13 @@ use Rattle.std.specs.List.{AllZip}
 use Rattle.tg_frame.specs.Homes.{homes_from, homes_of, slots_of, temps_of}
 use Rattle.tg_syntax.specs.declared.trees.Param.{Param}
 use Rattle.tg_syntax.specs.Measures.{size, place_size, exps_size, inits_size, decs_size}
-use Rattle.tg_syntax.specs.Functions.{Measures, Levels, measures, own, own_params, own_functions, own_decs, declared, declared_place, declared_exps, declared_inits, declared_decs, declared_functions, program_functions}
+use Rattle.tg_syntax.specs.Functions.{Measures, Levels, measures, own, own_params, own_functions, own_decs, declared, declared_place, declared_exps}
+use Rattle.tg_syntax.specs.Functions.{declared_inits, declared_decs, declared_functions, program_functions}
 use Rattle.tg_syntax.specs.Spans.{span_of}
 use Rattle.tg_syntax.specs.Tree as source
-use Rattle.tg_syntax.specs.Tree.{Exp, Nil, Break, Int, Text, Read, Call, Neg, Binary, Make, Fill, Assign, If, When, While, For, Let, Seq, Simple, Field, Index, Exps, no_exps, exp, Inits, no_inits, init, Decs, no_decs, types, variable, functions, FunDecs, no_functions, function}
+use Rattle.tg_syntax.specs.Tree.{Exp, Nil, Break, Int, Text, Read, Call, Neg, Binary, Make, Fill, Assign, If, When, While, For, Let, Seq, Simple}
+use Rattle.tg_syntax.specs.Tree.{Field, Index, Exps, no_exps, exp, Inits, no_inits, init, Decs, no_decs, types, variable, functions, FunDecs}
+use Rattle.tg_syntax.specs.Tree.{no_functions, function}
 use Rattle.tg_tree.specs.Tree as tree
 use Rattle.tg_tree.specs.Tree.{Tx, Const, Txs, no_txs, tx, Ts, Stms, no_stms}
 use Rattle.tg_tree.specs.Forms.{nothing}
@@ -25,16 +28,23 @@ use Rattle.tg_translate.specs.Scopes.{Findings, field_number}
 use Rattle.tg_translate.specs.Purity.{assigns_nothing, inits_assign_nothing}
 use Rattle.tg_translate.specs.Updates.{begins_with}
 use Rattle.tg_translate.specs.Functions.{at_of, asked, begun, inside, result_want, outermost, beginning, frame_for, program}
-use Rattle.tg_translate.specs.Translate.{Begun, is_zero, is_conjunction, expression, behind_read, locate, values, fields, sequence, declarations, bodies, program_body, translated}
+use Rattle.tg_translate.specs.Translate.{Begun, is_zero, is_conjunction, expression, behind_read, locate, values, fields, sequence, declarations}
+use Rattle.tg_translate.specs.Translate.{bodies, program_body, translated}
 use Rattle.tg_shapes.specs.Accesses.{AccessesWithin}
-use Rattle.tg_shapes.specs.Escaped.{one_of, params_escaping, escaping, place_escaping, exps_escaping, inits_escaping, decs_escaping, escaping_inside, place_escaping_inside, exps_escaping_inside, inits_escaping_inside, decs_escaping_inside, functions_escaping, program_escaping}
+use Rattle.tg_shapes.specs.Escaped.{one_of, params_escaping, escaping, place_escaping, exps_escaping, inits_escaping, decs_escaping, escaping_inside}
+use Rattle.tg_shapes.specs.Escaped.{place_escaping_inside, exps_escaping_inside, inits_escaping_inside, decs_escaping_inside, functions_escaping}
+use Rattle.tg_shapes.specs.Escaped.{program_escaping}
 use Rattle.tg_shapes.specs.Strings.{strings, place_strings, exps_strings, inits_strings, decs_strings, bodies_strings}
 use Rattle.tg_shapes.specs.Laws.{IsWithin}
-use Rattle.tg_shapes.proofs.Near.{IsTx, AreTxs, IsCond, IsTs, AreStms, IsMade, IsPlace, join_txs_near, followed_near, dropped_near, test_near, read_near, negation_near}
+use Rattle.tg_shapes.proofs.Near.{IsTx, AreTxs, IsCond, IsTs, AreStms, IsMade, IsPlace, join_txs_near, followed_near, dropped_near, test_near}
+use Rattle.tg_shapes.proofs.Near.{read_near, negation_near}
 use Rattle.tg_shapes.proofs.Sized.{Gives, SmallBody, body_size}
-use Rattle.tg_shapes.proofs.Taking.{Cost, costs, draws, adds, HasSlots, Takes, both, at_most, more, then_draws, then_quiet, draws_then, quiet_then, adds_then, gives, within_frame, finished}
+use Rattle.tg_shapes.proofs.Taking.{Cost, costs, draws, adds, HasSlots, Takes, both, at_most, more, then_draws, then_quiet, draws_then, quiet_then}
+use Rattle.tg_shapes.proofs.Taking.{adds_then, gives, within_frame, finished}
 use Rattle.tg_shapes.proofs.Updating.{same_is_quiet}
-use Rattle.tg_shapes.proofs.Charges.{declares, declares_functions, values_takes, behind_takes, hold_next_takes, assignment_takes, field_takes, element_takes, count_takes, record_takes, place_takes, call_takes, closing_takes, literal_takes, declaration_takes, left_takes, choice_takes}
+use Rattle.tg_shapes.proofs.Charges.{declares, declares_functions, values_takes, behind_takes, hold_next_takes, assignment_takes, field_takes}
+use Rattle.tg_shapes.proofs.Charges.{element_takes, count_takes, record_takes, place_takes, call_takes, closing_takes, literal_takes}
+use Rattle.tg_shapes.proofs.Charges.{declaration_takes, left_takes, choice_takes}
 
 -- how many temporaries each part draws at most, without the functions that it declares
 abbrev mutual
@@ -291,7 +301,8 @@ module _ (findings : Findings) where
     walk_values (exp e rest) before c n seen s l h =
         both (of_value n (walk e want.Value c n seen s l)) λ x s k. walk_values rest (join_txs before (tx x no_txs)) c n seen s l (join_txs_near n before x h k)
 
-    walk_fields : (is : Inits) (direct : Bool) (all : HeldAll) (c : Within) (n : ℕ) (seen : Levels) (s : TranslationState) → c.level ≤ n → AreStms n all.before →
+    walk_fields : (is : Inits) (direct : Bool) (all : HeldAll) (c : Within) (n : ℕ) (seen : Levels) (s : TranslationState) →
+        c.level ≤ n → AreStms n all.before →
         Takes (of_inits n seen is) (λ all. AreStms n all.before) s (fields findings is direct all c s)
     walk_fields no_inits direct all c n seen s l h = gives s all h
     walk_fields (init _ e rest) direct all c n seen s l h =

@@ -11,11 +11,13 @@ use Rattle.tg_translate.specs.declared.homes.Within.{Within}
 use Rattle.tg_translate.specs.declared.wants.Want.{Want}
 use Rattle.tg_translate.specs.States.{TranslationState, Acts, Drawn, drawn, after}
 use Rattle.tg_translate.specs.Wants.{Made}
-use Rattle.tg_translate.specs.Functions.{at_of, asked, parameters, own_homes, frame_for, declare_functions, with_body, finished, finish, opened, result_want, inside, gives_nothing, closing, body}
+use Rattle.tg_translate.specs.Functions.{at_of, asked, parameters, own_homes, frame_for, declare_functions, with_body, finished, finish, opened}
+use Rattle.tg_translate.specs.Functions.{result_want, inside, gives_nothing, closing, body}
 use Rattle.tg_shapes.specs.Standing.{AreApart, params_of}
 use Rattle.tg_shapes.proofs.Fine.{each_append}
 use Rattle.tg_shapes.proofs.Counts.{times, times-append, same, below, below-next}
-use Rattle.tg_shapes.proofs.Keeping.{Asks, Where, callee_labels, literal_labels, stands, bind, given, onward, Ready, Step, Yields, GoodTs, GoodMade, FineFunction, GoodWant, functions_on, Grows, grows_none, grows_on, grows_for}
+use Rattle.tg_shapes.proofs.Keeping.{Asks, Where, callee_labels, literal_labels, stands, bind, given, onward, Ready, Step, Yields, GoodTs, GoodMade}
+use Rattle.tg_shapes.proofs.Keeping.{FineFunction, GoodWant, functions_on, Grows, grows_none, grows_on, grows_for}
 use Rattle.tg_shapes.proofs.Wanting as wanting
 use Rattle.tg_shapes.proofs.Scoping.{more_contained}
 use Rattle.tg_shapes.proofs.Declaring as declaring

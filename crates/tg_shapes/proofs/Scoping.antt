@@ -1,5 +1,6 @@
 -- Variables, calls and literals are fine, and what is declared is.
-use Rattle.std.proofs.Common.{◌≡◌, ◌≢◌, ◌+◌, ◌-◌, ℕ, zero, suc, Bool, true, false, Option, Some, None, List, [], ◌∷◌, ◌++◌, map, refl, ap, subst, arith, inl, inr}
+use Rattle.std.proofs.Common.{◌≡◌, ◌≢◌, ◌+◌, ◌-◌, ℕ, zero, suc, Bool, true, false, Option, Some, None, List, [], ◌∷◌, ◌++◌, map, refl, ap, subst}
+use Rattle.std.proofs.Common.{arith, inl, inr}
 use Rattle.std.specs.Prelude.{◌==◌, ◌⊎◌, if◌then◌else◌, IsTrue}
 use Rattle.std.specs.List.{Contains}
 use Rattle.std.proofs.lemmas.Bool.Decides.{nat_tests}
@@ -19,7 +20,8 @@ use Rattle.tg_shapes.specs.Standing.{IsInReach}
 use Rattle.tg_shapes.proofs.Counts.{times-append, same, same_not, below-next, contained_counts, counted_contains}
 use Rattle.tg_translate.specs.Constructs as constructs
 use Rattle.tg_shapes.proofs.Counts as counts
-use Rattle.tg_shapes.proofs.Keeping.{Asks, Where, callee_labels, literal_labels, given, Ready, Step, Yields, GoodTx, GoodTxs, GoodMade, GoodPlace, GoodAccess, IsDrawn, functions_on}
+use Rattle.tg_shapes.proofs.Keeping.{Asks, Where, callee_labels, literal_labels, given, Ready, Step, Yields, GoodTx, GoodTxs, GoodMade, GoodPlace}
+use Rattle.tg_shapes.proofs.Keeping.{GoodAccess, IsDrawn, functions_on}
 use Rattle.tg_shapes.proofs.Constructing as constructing
 
 -- What has a name in a table.

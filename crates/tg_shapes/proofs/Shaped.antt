@@ -16,7 +16,8 @@ use Rattle.tg_translate.specs.Translate.{program_body, translated}
 use Rattle.tg_shapes.specs.Laws.{names}
 use Rattle.tg_shapes.specs.Standing.{BreaksStand, Reaches}
 use Rattle.tg_shapes.proofs.Fine.{Each, breaks_ts, names_ts, each_contained}
-use Rattle.tg_shapes.proofs.Counts.{times, times-append, times-map, times-first, same, same_self, below, below-next, below_yes, below_no, below_one, once_apart, contained_counts, counted_contains}
+use Rattle.tg_shapes.proofs.Counts.{times, times-append, times-map, times-first, same, same_self, below, below-next, below_yes, below_no, below_one}
+use Rattle.tg_shapes.proofs.Counts.{once_apart, contained_counts, counted_contains}
 use Rattle.tg_shapes.proofs.Keeping.{Asks, Where, callee_labels, bind, FineFunction, Knows, Ready, Yields}
 use Rattle.tg_shapes.proofs.Nesting as nesting
 use Rattle.tg_shapes.proofs.Walking.{walked}

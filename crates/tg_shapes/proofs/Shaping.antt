@@ -1,5 +1,6 @@
 -- The laws of the shapes of trees.
-use Rattle.std.proofs.Common.{◌≡◌, ◌≢◌, ◌<◌, ℕ, zero, suc, Bool, true, false, Option, Some, None, List, [], ◌∷◌, ◌++◌, length, map, refl, sym, ap, ◌∙◌, subst, arith, inl, inr, ◌+◌, length-append}
+use Rattle.std.proofs.Common.{◌≡◌, ◌≢◌, ◌<◌, ℕ, zero, suc, Bool, true, false, Option, Some, None, List, [], ◌∷◌, ◌++◌, length, map, refl, sym, ap}
+use Rattle.std.proofs.Common.{◌∙◌, subst, arith, inl, inr, ◌+◌, length-append}
 use Rattle.std.specs.Prelude.{nat_lt, nat_eq}
 use Rattle.std.specs.Int.{to_le_bytes, w32}
 use Rattle.std.specs.List.{Contains, list_all, list_any, flat_map, sum_by}
@@ -26,7 +27,8 @@ use Rattle.tg_runtime.specs.Routines.{runtime}
 use Rattle.tg_translate.specs.Constructs.{string_text}
 use Rattle.tg_translate.specs.Scopes.{found}
 use Rattle.tg_translate.specs.Translate.{translated}
-use Rattle.tg_shapes.specs.Laws.{names, ProgramsAreLinked, LabelsAreAbove, BodiesAreClosed, CheckedBodiesAreClosed, TemporariesAreDrawn, CheckedReaches, CheckedTemporariesAreDrawn, LiteralsAreStrings, LiteralsAreShort, findings_in}
+use Rattle.tg_shapes.specs.Laws.{names, ProgramsAreLinked, LabelsAreAbove, BodiesAreClosed, CheckedBodiesAreClosed, TemporariesAreDrawn}
+use Rattle.tg_shapes.specs.Laws.{CheckedReaches, CheckedTemporariesAreDrawn, LiteralsAreStrings, LiteralsAreShort, findings_in}
 use Rattle.tg_shapes.proofs.Shaped.{has_shape, linked, above, closed_one, temps_one}
 use Rattle.tg_shapes.specs.Strings.{strings}
 use Rattle.tg_shapes.proofs.Measured.{literals_are}

@@ -8,7 +8,8 @@ use Rattle.tg_syntax.specs.declared.trees.Op.{Op}
 use Rattle.tg_syntax.specs.declared.trees.Op.TheVariants as op
 use Rattle.tg_syntax.specs.Measures.{size, place_size, exps_size, inits_size, decs_size}
 use Rattle.tg_syntax.specs.Tree as source
-use Rattle.tg_syntax.specs.Tree.{Exp, Nil, Break, Int, Text, Read, Call, Neg, Binary, Make, Fill, Assign, If, When, While, For, Let, Seq, Simple, Field, Index, Exps, no_exps, exp, Inits, no_inits, init, Decs, no_decs, types, variable, functions}
+use Rattle.tg_syntax.specs.Tree.{Exp, Nil, Break, Int, Text, Read, Call, Neg, Binary, Make, Fill, Assign, If, When, While, For, Let, Seq, Simple}
+use Rattle.tg_syntax.specs.Tree.{Field, Index, Exps, no_exps, exp, Inits, no_inits, init, Decs, no_decs, types, variable, functions}
 use Rattle.tg_types.specs.declared.notes.Means.{Means}
 use Rattle.tg_types.specs.declared.notes.Means.TheVariants as means
 use Rattle.tg_tree.specs.declared.operators.Bin.{Bin}
@@ -23,18 +24,30 @@ use Rattle.tg_translate.specs.declared.held.HeldAddress.TheVariants.{InOwnFrame,
 use Rattle.tg_translate.specs.declared.wants.Want.{Want}
 use Rattle.tg_translate.specs.declared.wants.Want.TheVariants as want
 use Rattle.tg_translate.specs.States.{TranslationState, Drawn, drawn, Acts, after, give, fresh}
-use Rattle.tg_translate.specs.Wants.{Made, value, done, test, truth_into, value_of, put_in, dropped, test_of, as_statement, arms, deliver, followed, behind, behind_some, value_behind, done_behind}
-use Rattle.tg_translate.specs.Constructs.{Storage, in_temp, at_address, operand, Held, keep, hold, HeldAll, none_held, hold_next, own_place, read, store_at, want_for, assign, held_address, HeldAt, hold_base, hold_address, HeldPlace, held_in_temp, held_at, hold_place, read_held, place_held, field_of, field_place, element_of, element_place, record_of, make_record, product_of, product, quotient_of, checked_quotient, minus_one, quotient, comparison, operation, count_of, count, make_array, negation, repeat_while, in_body, in_test}
+use Rattle.tg_translate.specs.Wants.{Made, value, done, test, truth_into, value_of, put_in, dropped, test_of, as_statement, arms, deliver, followed}
+use Rattle.tg_translate.specs.Wants.{behind, behind_some, value_behind, done_behind}
+use Rattle.tg_translate.specs.Constructs.{Storage, in_temp, at_address, operand, Held, keep, hold, HeldAll, none_held, hold_next, own_place, read}
+use Rattle.tg_translate.specs.Constructs.{store_at, want_for, assign, held_address, HeldAt, hold_base, hold_address, HeldPlace, held_in_temp, held_at}
+use Rattle.tg_translate.specs.Constructs.{hold_place, read_held, place_held, field_of, field_place, element_of, element_place, record_of, make_record}
+use Rattle.tg_translate.specs.Constructs.{product_of, product, quotient_of, checked_quotient, minus_one, quotient, comparison, operation, count_of}
+use Rattle.tg_translate.specs.Constructs.{count, make_array, negation, repeat_while, in_body, in_test}
 use Rattle.tg_translate.specs.Choices.{left_want, tested, chosen}
-use Rattle.tg_translate.specs.Scopes.{Findings, no_value, nowhere, home_place, variable_place, field_number, compares_strings, routine_of, call_declared, call, declare_variable}
+use Rattle.tg_translate.specs.Scopes.{Findings, no_value, nowhere, home_place, variable_place, field_number, compares_strings, routine_of}
+use Rattle.tg_translate.specs.Scopes.{call_declared, call, declare_variable}
 use Rattle.tg_translate.specs.Purity.{assigns_nothing, inits_assign_nothing}
 use Rattle.tg_translate.specs.Updates.{begins_with}
 use Rattle.tg_translate.specs.Functions.{at_of, gives_nothing, closing, declare_functions}
-use Rattle.tg_translate.specs.Translate.{connective, with_left, chosen_arm, choice, is_conjunction, assignment, declaration_of, Begun, expression, behind_read, locate, values, fields, sequence, declarations, bodies}
+use Rattle.tg_translate.specs.Translate.{connective, with_left, chosen_arm, choice, is_conjunction, assignment, declaration_of, Begun, expression}
+use Rattle.tg_translate.specs.Translate.{behind_read, locate, values, fields, sequence, declarations, bodies}
 use Rattle.tg_translate.specs.Constructs as constructs
 use Rattle.tg_shapes.specs.Depths.{tx_depth, txs_depth, cond_depth, ts_depth, stms_depth}
 use Rattle.tg_shapes.proofs.Actions.{answer}
-use Rattle.tg_shapes.proofs.Sizing.{tx_length, tx_room, cond_length, cond_room, ts_length, ts_room, stms_length, stms_room, most_arguments, txs_room, made_length, made_room, made_depth, place_length, place_room, place_depth, held_length, held_room, followed_size, joined_size, put_size, dropped_size, test_size, statement_size, deliver_size, behind_size, tested_size, chosen_size, own_place_size, home_size, read_size, store_size, operand_size, read_held_size, field_size, element_size, record_size, routine_size, make_array_size, comparison_size, binary_size, product_size, divide_size, quotient_size, negation_size, while_size, count_size, declared_size}
+use Rattle.tg_shapes.proofs.Sizing.{tx_length, tx_room, cond_length, cond_room, ts_length, ts_room, stms_length, stms_room, most_arguments, txs_room}
+use Rattle.tg_shapes.proofs.Sizing.{made_length, made_room, made_depth, place_length, place_room, place_depth, held_length, held_room, followed_size}
+use Rattle.tg_shapes.proofs.Sizing.{joined_size, put_size, dropped_size, test_size, statement_size, deliver_size, behind_size, tested_size}
+use Rattle.tg_shapes.proofs.Sizing.{chosen_size, own_place_size, home_size, read_size, store_size, operand_size, read_held_size, field_size}
+use Rattle.tg_shapes.proofs.Sizing.{element_size, record_size, routine_size, make_array_size, comparison_size, binary_size, product_size, divide_size}
+use Rattle.tg_shapes.proofs.Sizing.{quotient_size, negation_size, while_size, count_size, declared_size}
 
 -- What actions give, whatever state they begin in.
 

@@ -15,7 +15,8 @@ use Rattle.tg_tree.specs.Forms.{when}
 use Rattle.tg_tree.specs.Lists.{join_txs}
 use Rattle.tg_tree.specs.Units.{Trees, lifted_units, joined_units, operator_units}
 use Rattle.tg_tree.specs.Shapes.{is_flat, are_flat, is_flat_condition}
-use Rattle.tg_tree.specs.Sizes.{expression_length, arguments_length, condition_length, statement_length, statements_length, in_trees, shift_room, expression_room, arguments_room, condition_room, statement_room, statements_room}
+use Rattle.tg_tree.specs.Sizes.{expression_length, arguments_length, condition_length, statement_length, statements_length, in_trees, shift_room}
+use Rattle.tg_tree.specs.Sizes.{expression_room, arguments_room, condition_room, statement_room, statements_room}
 use Rattle.tg_translate.specs.declared.homes.Home.{Home}
 use Rattle.tg_translate.specs.declared.homes.Callee.{Callee}
 use Rattle.tg_translate.specs.declared.homes.Within.{Within}
@@ -26,7 +27,11 @@ use Rattle.tg_translate.specs.declared.held.HeldAddress.TheVariants.{InOwnFrame,
 use Rattle.tg_translate.specs.declared.wants.Want.{Want}
 use Rattle.tg_translate.specs.declared.wants.Want.TheVariants as want
 use Rattle.tg_translate.specs.Wants.{Made, value, done, test, put_in, dropped, test_of, as_statement, taken_from, deliver, followed, done_behind}
-use Rattle.tg_translate.specs.Constructs.{Storage, in_temp, at_address, operand, frame_out, place_in, own_place, read, store_at, held_address, HeldPlace, held_in_temp, held_at, read_held, plus, nil_check, field_of, index_check, element, element_of, call_routine, store_field, store_fields, call_for_record, record_of, HeldAll, product_check, product_of, zero_check, quotient_check, quotient_of, least_int, negation, make_array, turn_of, turns, count_of, comparison, repeat_while}
+use Rattle.tg_translate.specs.Constructs.{Storage, in_temp, at_address, operand, frame_out, place_in, own_place, read, store_at, held_address}
+use Rattle.tg_translate.specs.Constructs.{HeldPlace, held_in_temp, held_at, read_held, plus, nil_check, field_of, index_check, element, element_of}
+use Rattle.tg_translate.specs.Constructs.{call_routine, store_field, store_fields, call_for_record, record_of, HeldAll, product_check, product_of}
+use Rattle.tg_translate.specs.Constructs.{zero_check, quotient_check, quotient_of, least_int, negation, make_array, turn_of, turns, count_of}
+use Rattle.tg_translate.specs.Constructs.{comparison, repeat_while}
 use Rattle.tg_translate.specs.Choices.{connected, tested, chosen}
 use Rattle.tg_translate.specs.Scopes.{frame_at, home_place, call_declared}
 use Rattle.tg_shapes.specs.Depths.{tx_depth, txs_depth, cond_depth, ts_depth, stms_depth}

@@ -119,7 +119,8 @@ at_most {s = s} {d = d} m k l i e c f h =
       functions = subst (λ xs. Adds xs k.functions s u) c (subst (λ ms. Adds m.counts ms s u) f h.functions);
     }
 
-pub more : {A : Type 0} {m : Cost} {k : ℕ} {V : A → Type 0} {s : TranslationState} {d : Drawn A} → m.temps ≤ k → Takes m V s d → Takes (record m { temps = k }) V s d
+pub more : {A : Type 0} {m : Cost} {k : ℕ} {V : A → Type 0} {s : TranslationState} {d : Drawn A} → m.temps ≤ k →
+    Takes m V s d → Takes (record m { temps = k }) V s d
 more {m = m} {k = k} l h = at_most m (record m { temps = k }) (omega arith) l refl refl refl h
 
 pub then_draws : {A B : Type 0} {m : Cost} {k : ℕ} {V : A → Type 0} {W : B → Type 0} {s : TranslationState} {d : Drawn A} {next : A → Acts B} → Takes m V s d →
@@ -132,7 +133,8 @@ pub then_quiet : {A B : Type 0} {m : Cost} {V : A → Type 0} {W : B → Type 0}
     ((a : A) (t : TranslationState) → V a → Takes (draws 0) W t (next a t)) → Takes m W s (after d next)
 then_quiet {m = m} h f = at_most (record m { temps = m.temps + 0 }) m (omega arith) (omega arith) refl refl refl (then_draws h f)
 
-pub draws_then : {A B : Type 0} {m : Cost} {k : ℕ} {V : A → Type 0} {W : B → Type 0} {s : TranslationState} {d : Drawn A} {next : A → Acts B} → Takes (draws k) V s d →
+pub draws_then : {A B : Type 0} {m : Cost} {k : ℕ} {V : A → Type 0} {W : B → Type 0} {s : TranslationState} {d : Drawn A} {next : A → Acts B} →
+    Takes (draws k) V s d →
     ((a : A) (t : TranslationState) → V a → Takes m W t (next a t)) → Takes (record m { temps = k + m.temps }) W s (after d next)
 draws_then {m = m} {k = k} h f = at_most (and (draws k) m) (record m { temps = k + m.temps }) (omega arith) (omega arith) refl refl refl (both h f)
 
@@ -140,7 +142,8 @@ pub quiet_then : {A B : Type 0} {m : Cost} {V : A → Type 0} {W : B → Type 0}
     ((a : A) (t : TranslationState) → V a → Takes m W t (next a t)) → Takes m W s (after d next)
 quiet_then {m = m} h f = at_most (record m { temps = 0 + m.temps }) m (omega arith) (omega arith) refl refl refl (draws_then h f)
 
-pub adds_then : {A B : Type 0} {m : Cost} {texts : List (List ℕ)} {counts : List ℕ} {functions : List Measures} {V : A → Type 0} {W : B → Type 0} {s : TranslationState}
+pub adds_then : {A B : Type 0} {m : Cost} {texts : List (List ℕ)} {counts : List ℕ} {functions : List Measures} {V : A →
+    Type 0} {W : B → Type 0} {s : TranslationState}
     {d : Drawn A} {next : A → Acts B} → Takes (adds texts counts functions) V s d →
     ((a : A) (t : TranslationState) → V a → Takes m W t (next a t)) →
     Takes (record m { texts = texts ++ m.texts; counts = counts ++ m.counts; functions = functions ++ m.functions }) W s (after d next)
@@ -176,7 +179,8 @@ draws_one s = keeps s.frame.temps 0 1 s (left (fresh s)) tt (omega arith) (omega
 abbrev pub enclosed : (count : ℕ) → Measures → Cost → Cost
 enclosed count i m = adds m.texts (count ∷ m.counts) (i ∷ m.functions)
 
-added_first : (s t u : TranslationState) (x : Ts) (counts : List ℕ) (ms : List Measures) (count : ℕ) (i : Measures) → t.functions ≡ [] → u.frame.slots ≤ count + 1 →
+added_first : (s t u : TranslationState) (x : Ts) (counts : List ℕ) (ms : List Measures) (count : ℕ) (i : Measures) →
+    t.functions ≡ [] → u.frame.slots ≤ count + 1 →
     IsWithin i (with_body u.frame x) → Adds counts ms t u → Adds (count ∷ counts) (i ∷ ms) s (left (finish s (drawn x u)))
 added_first s t u x counts ms count i e l w h =
     let f : Function Ts = with_body u.frame x in
@@ -189,7 +193,8 @@ added_first s t u x counts ms count i e l w h =
 
 -- what a function has is within what its text allows, where its body is
 pub within_frame : {m : Cost} (t : TranslationState) {x : Ts} {u : TranslationState} (i : Measures) →
-    length t.frame.params ≤ i.nodes - i.size + 1 → t.frame.out ≡ 0 → t.frame.slots + m.slots ≤ i.nodes + 1 → t.frame.temps + m.temps ≤ 6 * i.nodes + 1 → (i.level ≤ 32 → SmallBody i.size x) →
+    length t.frame.params ≤ i.nodes - i.size + 1 → t.frame.out ≡ 0 → t.frame.slots + m.slots ≤ i.nodes + 1 →
+    t.frame.temps + m.temps ≤ 6 * i.nodes + 1 → (i.level ≤ 32 → SmallBody i.size x) →
     Takes m (AccessesWithin (suc i.level)) t (drawn x u) → IsWithin i (with_body u.frame x)
 within_frame t i p o a b small h =
     let c = h.slots in

@@ -4,7 +4,9 @@ use Rattle.std.specs.Prelude.{is_some}
 use Rattle.tg_syntax.specs.declared.trees.Op.{Op}
 use Rattle.tg_syntax.specs.declared.trees.Op.TheVariants.{And, Or}
 use Rattle.tg_syntax.specs.Tree as source
-use Rattle.tg_syntax.specs.Tree.{Exp, Nil, Break, Int, Text, Read, Call, Neg, Binary, Make, Fill, Assign, If, When, While, For, Let, Seq, Simple, Field, Index, Exps, no_exps, exp, Inits, no_inits, init, Decs, no_decs, types, variable, functions, FunDecs, no_functions, function}
+use Rattle.tg_syntax.specs.Tree.{Exp, Nil, Break, Int, Text, Read, Call, Neg, Binary, Make, Fill, Assign, If, When, While, For, Let, Seq, Simple}
+use Rattle.tg_syntax.specs.Tree.{Field, Index, Exps, no_exps, exp, Inits, no_inits, init, Decs, no_decs, types, variable, functions, FunDecs}
+use Rattle.tg_syntax.specs.Tree.{no_functions, function}
 use Rattle.tg_tree.specs.Tree as tree
 use Rattle.tg_tree.specs.Tree.{Tx, Const, Txs, no_txs, tx, Cond, Stms, no_stms}
 use Rattle.tg_tree.specs.Forms.{nothing}
@@ -14,16 +16,21 @@ use Rattle.tg_translate.specs.declared.wants.Want.{Want}
 use Rattle.tg_translate.specs.declared.wants.Want.TheVariants as want
 use Rattle.tg_translate.specs.States.{TranslationState, Acts, after, give}
 use Rattle.tg_translate.specs.Wants.{Made, value, done, test_of, value_of, dropped, arms, deliver, followed}
-use Rattle.tg_translate.specs.Constructs.{Storage, HeldAll, none_held, own_place, read, want_for, read_held, place_held, make_array, operation, negation, repeat_while}
+use Rattle.tg_translate.specs.Constructs.{Storage, HeldAll, none_held, own_place, read, want_for, read_held, place_held, make_array, operation}
+use Rattle.tg_translate.specs.Constructs.{negation, repeat_while}
 use Rattle.tg_translate.specs.Choices.{left_want, connected, tested, chosen}
 use Rattle.tg_translate.specs.Scopes.{field_number, compares_strings}
 use Rattle.tg_translate.specs.Purity.{assigns_nothing, inits_assign_nothing}
 use Rattle.tg_translate.specs.Updates.{begins_with}
 use Rattle.tg_translate.specs.Functions.{at_of, declare_functions, body}
-use Rattle.tg_translate.specs.Translate.{connective, with_left, chosen_arm, choice, is_conjunction, assignment, Begun, declaration_of, expression, behind_read, locate, values, fields, sequence, declarations, bodies}
-use Rattle.tg_shapes.specs.Standing.{BreaksStand, BreaksStandPlace, BreaksStandExps, BreaksStandInits, BreaksStandDecs, BreaksStandBodies, owned_by, AreApart, Reaches, ReachesPlace, ReachesExps, ReachesInits, ReachesDecs, ReachesBodies}
+use Rattle.tg_translate.specs.Translate.{connective, with_left, chosen_arm, choice, is_conjunction, assignment, Begun, declaration_of, expression}
+use Rattle.tg_translate.specs.Translate.{behind_read, locate, values, fields, sequence, declarations, bodies}
+use Rattle.tg_shapes.specs.Standing.{BreaksStand, BreaksStandPlace, BreaksStandExps, BreaksStandInits, BreaksStandDecs, BreaksStandBodies, owned_by}
+use Rattle.tg_shapes.specs.Standing.{AreApart, Reaches, ReachesPlace, ReachesExps, ReachesInits, ReachesDecs, ReachesBodies}
 use Rattle.tg_shapes.proofs.Fine.{join_fine_txs}
-use Rattle.tg_shapes.proofs.Keeping.{Asks, Where, access_on, bind, cond_on, given, held_on, onward, place_on, stay, stms_on, ts_on, tx_on, txs_on, want_on, Ready, Step, Yields, GoodWant, GoodCond, GoodHeld, GoodMade, GoodPlace, GoodStms, GoodTs, GoodTx, GoodTxs, KnowsAt}
+use Rattle.tg_shapes.proofs.Keeping.{Asks, Where, access_on, bind, cond_on, given, held_on, onward, place_on, stay, stms_on, ts_on, tx_on, txs_on}
+use Rattle.tg_shapes.proofs.Keeping.{want_on, Ready, Step, Yields, GoodWant, GoodCond, GoodHeld, GoodMade, GoodPlace, GoodStms, GoodTs, GoodTx}
+use Rattle.tg_shapes.proofs.Keeping.{GoodTxs, KnowsAt}
 use Rattle.tg_shapes.proofs.Wanting as wanting
 use Rattle.tg_shapes.proofs.Constructing as constructing
 use Rattle.tg_shapes.proofs.Scoping as scoping

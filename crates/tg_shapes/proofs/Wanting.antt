@@ -4,9 +4,11 @@ use Rattle.tg_tree.specs.Tree.{Const, Temp, After, Cond, Ts, Stms, no_stms, stm}
 use Rattle.tg_translate.specs.declared.wants.Want.{Want}
 use Rattle.tg_translate.specs.declared.wants.Want.TheVariants as want
 use Rattle.tg_translate.specs.States.{TranslationState, Drawn, after, give, fresh}
-use Rattle.tg_translate.specs.Wants.{Made, value, done, test, truth_into, value_of, put_in, dropped, test_of, arms, as_statement, taken_from, deliver, followed, value_behind, done_behind, behind_some, behind}
+use Rattle.tg_translate.specs.Wants.{Made, value, done, test, truth_into, value_of, put_in, dropped, test_of, arms, as_statement, taken_from, deliver}
+use Rattle.tg_translate.specs.Wants.{followed, value_behind, done_behind, behind_some, behind}
 use Rattle.tg_shapes.proofs.Fine.{join_fine_stms}
-use Rattle.tg_shapes.proofs.Keeping.{Asks, Where, bind, cond_on, draws_temp, given, stms_on, want_on, Ready, Yields, GoodTx, GoodTs, GoodStms, GoodCond, GoodMade, GoodWant, KnowsAt}
+use Rattle.tg_shapes.proofs.Keeping.{Asks, Where, bind, cond_on, draws_temp, given, stms_on, want_on, Ready, Yields, GoodTx, GoodTs, GoodStms}
+use Rattle.tg_shapes.proofs.Keeping.{GoodCond, GoodMade, GoodWant, KnowsAt}
 
 module _ (asks : Asks) where
   truth_good : (n : ℕ) (s : TranslationState) (i : ℕ) (d : Cond) → (asks.temps → i < s.frame.temps) → GoodCond asks n s d → GoodTs asks n s

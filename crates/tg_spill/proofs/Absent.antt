@@ -1,5 +1,6 @@
 -- A temporary that went to a slot occurs no more, and one that doesn't occur isn't spilled.
-use Rattle.std.proofs.Common.{ℕ, zero, suc, ◌≡◌, ◌≢◌, ◌≤◌, ◌<◌, ◌+◌, ◌-◌, ◌&&◌, ◌||◌, List, [], ◌∷◌, ◌++◌, Bool, true, false, not, Option, Some, None, refl, ap, sym, subst, ◌∙◌, arith, ◌⊎◌, inl, inr, ⊎_elim}
+use Rattle.std.proofs.Common.{ℕ, zero, suc, ◌≡◌, ◌≢◌, ◌≤◌, ◌<◌, ◌+◌, ◌-◌, ◌&&◌, ◌||◌, List, [], ◌∷◌, ◌++◌, Bool, true, false, not, Option, Some, None}
+use Rattle.std.proofs.Common.{refl, ap, sym, subst, ◌∙◌, arith, ◌⊎◌, inl, inr, ⊎_elim}
 use Rattle.std.specs.Prelude.{All, ◌==◌, map, slice_index, slice_index_or, slice_get, if◌then◌else◌}
 use Rattle.std.specs.List.{AllByRecursion, list_any}
 use Rattle.std.proofs.lemmas.Bool.{le-ltb}
@@ -201,7 +202,8 @@ module _ (slot_of : ℕ → Option ℕ) (t : ℕ) where
   instruction_avoids : (one : Instr) (next : ℕ) → t < next → (is_in t one ≡ false) ⊎ HasSlot → occurs (instruction_rewritten slot_of one next) t ≡ false
   instruction_avoids one next l f =
       none_in (loads (first_use slot_of one next).operand (first_use slot_of one next).slot)
-      (loads (second_use slot_of one next).operand (second_use slot_of one next).slot ++ (y ∷ stores (target slot_of one next).operand (target slot_of one next).slot))
+      (loads (second_use slot_of one next).operand (second_use slot_of one next).slot ++
+      (y ∷ stores (target slot_of one next).operand (target slot_of one next).slot))
       b.loads_other
       (none_in (loads (second_use slot_of one next).operand (second_use slot_of one next).slot)
       (y ∷ stores (target slot_of one next).operand (target slot_of one next).slot) c.loads_other

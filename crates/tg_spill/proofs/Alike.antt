@@ -11,7 +11,8 @@ use Rattle.tg_instr.specs.Renaming.{named, renamed}
 use Rattle.tg_instr.proofs.Tests.{left_holds, right_holds}
 use Rattle.tg_spill.specs.Below.{is_option_below}
 use Rattle.tg_spill.specs.declared.placing.Placed.{Placed}
-use Rattle.tg_spill.specs.Rewriting.{loads, stores, drawn, in_slot, placed, target, first_use, second_use, next_after, instruction_rewritten, code_rewritten, temps_after}
+use Rattle.tg_spill.specs.Rewriting.{loads, stores, drawn, in_slot, placed, target, first_use, second_use, next_after, instruction_rewritten}
+use Rattle.tg_spill.specs.Rewriting.{code_rewritten, temps_after}
 use Rattle.tg_spill.proofs.Naming.{to_below, first_below, second_below}
 
 abbrev pub AreAlike : ℕ → (f g : ℕ → Option ℕ) → Type 0

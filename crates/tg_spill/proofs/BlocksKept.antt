@@ -1,6 +1,7 @@
 -- A round that gives slots to blocks leaves blocks.
 use Rattle.std.proofs.Common.{lit≤}
-use Rattle.std.proofs.Common.{ℕ, ◌≡◌, ◌≤◌, ◌<◌, ◌+◌, List, [], ◌∷◌, ◌++◌, Bool, true, false, cond, Option, Some, None, length, refl, ap, sym, subst, ◌∙◌, arith, ⊎_elim, append_assoc}
+use Rattle.std.proofs.Common.{ℕ, ◌≡◌, ◌≤◌, ◌<◌, ◌+◌, List, [], ◌∷◌, ◌++◌, Bool, true, false, cond, Option, Some, None, length, refl, ap, sym, subst}
+use Rattle.std.proofs.Common.{◌∙◌, arith, ⊎_elim, append_assoc}
 use Rattle.std.specs.Prelude.{IsTrue, IsFalse, nat_lt}
 use Rattle.std.proofs.lemmas.Bool.{le-ltb}
 use Rattle.std.proofs.lemmas.List.{length-append}
@@ -12,9 +13,11 @@ use Rattle.tg_instr.specs.declared.renaming.Named.{Named}
 use Rattle.tg_instr.specs.Renaming.{names, named, renamed}
 use Rattle.tg_instr.specs.Lengths.{words}
 use Rattle.tg_spill.specs.declared.placing.Placed.{Placed}
-use Rattle.tg_spill.specs.Rewriting.{loads, stores, drawn_for, drawn, in_slot, placed, target, first_use, second_use, next_after, instruction_rewritten, code_rewritten, temps_after}
+use Rattle.tg_spill.specs.Rewriting.{loads, stores, drawn_for, drawn, in_slot, placed, target, first_use, second_use, next_after}
+use Rattle.tg_spill.specs.Rewriting.{instruction_rewritten, code_rewritten, temps_after}
 use Rattle.tg_spill.proofs.Renamed.{temp, is_move, replaced, named_placed, words_renamed, move_renamed, temps_append, temps_rise, code_append}
-use Rattle.tg_spill.proofs.Blocks.{is_outer, Known, IsClosed, IsOpen, IsFinal, AreFinal, IsFit, IsFitNamed, operands, outer_in, outers, IsCore, IsBlock, AreBlocks}
+use Rattle.tg_spill.proofs.Blocks.{is_outer, Known, IsClosed, IsOpen, IsFinal, AreFinal, IsFit, IsFitNamed, operands, outer_in, outers, IsCore}
+use Rattle.tg_spill.proofs.Blocks.{IsBlock, AreBlocks}
 use Rattle.tg_spill.proofs.Blocks.{slot_at, IsSlotting, unless_slotted, if_outer, partner_between, partner_kept, partner_made, ArePartners, Follows}
 use Rattle.tg_spill.proofs.Blocks.IsFinal.{load, store, between}
 use Rattle.tg_spill.proofs.Blocks.IsFit.{outer, closed}
@@ -123,7 +126,8 @@ module _ (n : ℕ) (slot_of : ℕ → Option ℕ) (k k' : Known) (fits : IsSlott
         ap (temps_after slot_of rest) s.1 ∙ r.1,
       )
 
-  partners_behind : (xs ys : List Instr) (at : ℕ) → ArePartners n slot_of (xs ++ ys) at k'.partner → ArePartners n slot_of ys (temps_after slot_of xs at) k'.partner
+  partners_behind : (xs ys : List Instr) (at : ℕ) → ArePartners n slot_of (xs ++ ys) at k'.partner →
+      ArePartners n slot_of ys (temps_after slot_of xs at) k'.partner
   partners_behind [] ys at p = p
   partners_behind (x ∷ xs) ys at p = partners_behind xs ys (next_after slot_of x at) p.1
 
@@ -459,7 +463,8 @@ module _ (n : ℕ) (slot_of : ℕ → Option ℕ) (k k' : Known) (fits : IsSlott
     straight_goes : (one core : Instr) (before after : List Instr) → IsFalse (is_move one) → IsCore n k one core →
         AreFinal n k before → AreFinal n k after → length before + length after + outers n (named core) ≤ operands (named one) →
         ArePartners n slot_of (before ++ (core ∷ after)) next k'.partner → temps_after slot_of (before ++ (core ∷ after)) next ≤ k'.bound →
-        Goes n k' one (code_rewritten slot_of (before ++ (core ∷ after)) next) next (temps_after slot_of (before ++ (core ∷ after)) next) (outers n (named core))
+        Goes n k' one (code_rewritten slot_of (before ++ (core ∷ after)) next) next (temps_after slot_of (before ++ (core ∷ after)) next)
+        (outers n (named core))
     straight_goes one core before after calm h hb ha count p b =
         subst (λ e. Goes n k' one (code_rewritten slot_of (before ++ (core ∷ after)) next) next e (outers n (named core))) (sym end)
         (subst (λ xs. Goes n k' one xs next (next_after slot_of core next) (outers n (named core))) (sym list)
@@ -468,7 +473,8 @@ module _ (n : ℕ) (slot_of : ℕ → Option ℕ) (k k' : Known) (fits : IsSlott
         kept : (code_rewritten slot_of before next ≡ before) × (temps_after slot_of before next ≡ next)
         kept = finals_stay before next hb
 
-        behind : (code_rewritten slot_of after (next_after slot_of core next) ≡ after) × (temps_after slot_of after (next_after slot_of core next) ≡ next_after slot_of core next)
+        behind : (code_rewritten slot_of after (next_after slot_of core next) ≡ after) ×
+            (temps_after slot_of after (next_after slot_of core next) ≡ next_after slot_of core next)
         behind = finals_stay after (next_after slot_of core next) ha
 
         end : temps_after slot_of (before ++ (core ∷ after)) next ≡ next_after slot_of core next

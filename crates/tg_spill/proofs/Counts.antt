@@ -65,13 +65,20 @@ sum_words base one x y z a b c n ha hb hc hn =
 
 through_words : (base : ℕ) (one : Instr) (x y z : Opnd) →
     words (loaded base 8 (named one).first ++ (loaded base 9 (named one).second ++ (renamed one x y z ∷ stored base 8 (named one).to))) ≤ 10
-through_words base (FrameLoad to k) x y z = let h = sum_words base (FrameLoad to k) x y z 0 0 3 3 (lit≤ tt) (lit≤ tt) (stored_few base 8 (Some to)).1 (lit≤ tt) in omega arith
-through_words base (FrameStore from k) x y z = let h = sum_words base (FrameStore from k) x y z 3 0 0 3 (loaded_few base 8 (Some from)).1 (lit≤ tt) (lit≤ tt) (lit≤ tt) in omega arith
-through_words base (FrameAddress to) x y z = let h = sum_words base (FrameAddress to) x y z 0 0 3 3 (lit≤ tt) (lit≤ tt) (stored_few base 8 (Some to)).1 (lit≤ tt) in omega arith
-through_words base (Address to label) x y z = let h = sum_words base (Address to label) x y z 0 0 3 2 (lit≤ tt) (lit≤ tt) (stored_few base 8 (Some to)).1 (lit≤ tt) in omega arith
-through_words base (Branch test m) x y z = let h = sum_words base (Branch test m) x y z 3 3 0 2 (loaded_few base 8 (Some test.left)).1 (loaded_few base 9 (Some test.right)).1 (lit≤ tt) (lit≤ tt) in omega arith
+through_words base (FrameLoad to k) x y z =
+    let h = sum_words base (FrameLoad to k) x y z 0 0 3 3 (lit≤ tt) (lit≤ tt) (stored_few base 8 (Some to)).1 (lit≤ tt) in omega arith
+through_words base (FrameStore from k) x y z =
+    let h = sum_words base (FrameStore from k) x y z 3 0 0 3 (loaded_few base 8 (Some from)).1 (lit≤ tt) (lit≤ tt) (lit≤ tt) in omega arith
+through_words base (FrameAddress to) x y z =
+    let h = sum_words base (FrameAddress to) x y z 0 0 3 3 (lit≤ tt) (lit≤ tt) (stored_few base 8 (Some to)).1 (lit≤ tt) in omega arith
+through_words base (Address to label) x y z =
+    let h = sum_words base (Address to label) x y z 0 0 3 2 (lit≤ tt) (lit≤ tt) (stored_few base 8 (Some to)).1 (lit≤ tt) in omega arith
+through_words base (Branch test m) x y z =
+    let h = sum_words base (Branch test m) x y z 3 3 0 2 (loaded_few base 8 (Some test.left)).1 (loaded_few base 9 (Some test.right)).1 (lit≤ tt) (lit≤ tt) in
+    omega arith
 through_words base Return x y z = lit≤ tt
-through_words base one x y z = let h = sum_words base one x y z 3 3 3 1 (loaded_few base 8 (named one).first).1 (loaded_few base 9 (named one).second).1 (stored_few base 8 (named one).to).1 (lit≤ tt) in h
+through_words base one x y z =
+    let h = sum_words base one x y z 3 3 3 1 (loaded_few base 8 (named one).first).1 (loaded_few base 9 (named one).second).1 (stored_few base 8 (named one).to).1 (lit≤ tt) in h
 
 one_words : (base : ℕ) (one : Instr) → words (instruction_in_frame base one) ≤ 10
 one_words base (Move to from) = (moved_few base to from).1

@@ -1,7 +1,8 @@
 -- How much of a code comes of each instruction: the blocks of the first code, those behind each
 -- round, and what painting leaves of the last.
 use Rattle.std.proofs.Common.{lit≤}
-use Rattle.std.proofs.Common.{ℕ, suc, ◌≡◌, ◌≤◌, ◌<◌, ◌+◌, ◌*◌, List, [], ◌∷◌, ◌++◌, Bool, true, false, cond, Option, Some, None, length, refl, ap, sym, subst, ◌∙◌, arith, ◌⊎◌, inl, inr, append-nil}
+use Rattle.std.proofs.Common.{ℕ, suc, ◌≡◌, ◌≤◌, ◌<◌, ◌+◌, ◌*◌, List, [], ◌∷◌, ◌++◌, Bool, true, false, cond, Option, Some, None, length, refl, ap}
+use Rattle.std.proofs.Common.{sym, subst, ◌∙◌, arith, ◌⊎◌, inl, inr, append-nil}
 use Rattle.std.specs.Prelude.{IsTrue, IsFalse, nat_lt, not, filter, map, sum_by, if◌then◌else◌}
 use Rattle.std.specs.List.{list_all}
 use Rattle.std.proofs.lemmas.Bool.{lt-ltb, le-ltb}
@@ -259,7 +260,8 @@ module _ (colour : ℕ → ℕ) where
       let w = h.short in
       record { few = omega (arith, a, l); short = omega (arith, b, w) }
 
-  blocks_small : {n : ℕ} {k : Known} {originals list : List Instr} {left : ℕ} → AreBlocks n k originals list left → AreSmall originals (code_painted colour list)
+  blocks_small : {n : ℕ} {k : Known} {originals list : List Instr} {left : ℕ} → AreBlocks n k originals list left →
+      AreSmall originals (code_painted colour list)
   blocks_small no_blocks = none
   blocks_small {n} {k} (also_block one block rest rest' left lefts h hs) =
       subst (AreSmall (one ∷ rest)) (sym (painted_append block rest'))

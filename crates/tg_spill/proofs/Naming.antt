@@ -6,7 +6,9 @@ use Rattle.tg_tree.specs.declared.operators.Rel.TheVariants.{Equal, NotEqual, Le
 use Rattle.tg_instr.specs.declared.operands.Opnd.{Opnd}
 use Rattle.tg_instr.specs.declared.operands.Opnd.TheVariants.{Temp, Reg}
 use Rattle.tg_instr.specs.declared.instr.Instr.{Instr}
-use Rattle.tg_instr.specs.declared.instr.Instr.TheVariants.{Sll, Srl, Sra, Mfhi, Mflo, Mult, Div, Add, Sub, Addu, Subu, And, Or, Xor, Nor, Slt, Sltu, Addi, Addiu, Slti, Sltiu, Andi, Ori, Xori, Lui, Lb, Lbu, Lw, Sb, Sw, Move, FrameLoad, FrameStore, FrameAddress, Address, Branch}
+use Rattle.tg_instr.specs.declared.instr.Instr.TheVariants.{Sll, Srl, Sra, Mfhi, Mflo, Mult, Div, Add, Sub, Addu, Subu, And, Or, Xor, Nor, Slt, Sltu}
+use Rattle.tg_instr.specs.declared.instr.Instr.TheVariants.{Addi, Addiu, Slti, Sltiu, Andi, Ori, Xori, Lui, Lb, Lbu, Lw, Sb, Sw, Move, FrameLoad}
+use Rattle.tg_instr.specs.declared.instr.Instr.TheVariants.{FrameStore, FrameAddress, Address, Branch}
 use Rattle.tg_instr.specs.Codes.{has_temps_below}
 use Rattle.tg_instr.specs.Operands.{is_one_row, is_zero}
 use Rattle.tg_instr.specs.Renaming.{named, stays_one_row}

@@ -1,5 +1,6 @@
 -- The registers and the slots that painted code names.
-use Rattle.std.proofs.Common.{ℕ, ◌≡◌, ◌<◌, ◌≤◌, List, [], ◌∷◌, Bool, true, false, Option, Some, None, length, map, take, drop, ◌-◌, ◌∙◌, refl, ap, subst, sym, ⊎_elim}
+use Rattle.std.proofs.Common.{ℕ, ◌≡◌, ◌<◌, ◌≤◌, List, [], ◌∷◌, Bool, true, false, Option, Some, None, length, map, take, drop, ◌-◌, ◌∙◌, refl, ap}
+use Rattle.std.proofs.Common.{subst, sym, ⊎_elim}
 use Rattle.std.specs.Prelude.{IsTrue, cond, not}
 use Rattle.std.specs.List.{list_all, range_with_len}
 use Rattle.std.proofs.lemmas.Bool.{cases_lt}
@@ -50,7 +51,8 @@ module _ (colour : ℕ → ℕ) where
   one_alone one =
       let f = stays_painted colour one in
       rw (painted_is (named one).to, painted_is (named one).first, painted_is (named one).second)
-      (alone_renamed one (number (named one).to) (number (named one).first) (number (named one).second) (rw (← painted_is (named one).first, ← painted_is (named one).second) f))
+      (alone_renamed one (number (named one).to) (number (named one).first) (number (named one).second)
+      (rw (← painted_is (named one).first, ← painted_is (named one).second) f))
 
   -- a colour's register is one of the allocator's
   register_allowed : (c : ℕ) → IsTrue (is_allocated (register_of c))

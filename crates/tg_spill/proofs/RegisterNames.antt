@@ -7,7 +7,9 @@ use Rattle.tg_instr.specs.declared.operands.Opnd.{Opnd}
 use Rattle.tg_instr.specs.declared.operands.Opnd.TheVariants.{Temp, Reg}
 use Rattle.tg_instr.specs.declared.instr.Test.{Test}
 use Rattle.tg_instr.specs.declared.instr.Instr.{Instr}
-use Rattle.tg_instr.specs.declared.instr.Instr.TheVariants.{Sll, Srl, Sra, Mfhi, Mflo, Mult, Div, Add, Sub, Addu, Subu, And, Or, Xor, Nor, Slt, Sltu, Addi, Addiu, Slti, Sltiu, Andi, Ori, Xori, Lui, Lb, Lbu, Lw, Sb, Sw, Move, FrameLoad, FrameStore, FrameAddress, Address, Branch}
+use Rattle.tg_instr.specs.declared.instr.Instr.TheVariants.{Sll, Srl, Sra, Mfhi, Mflo, Mult, Div, Add, Sub, Addu, Subu, And, Or, Xor, Nor, Slt, Sltu}
+use Rattle.tg_instr.specs.declared.instr.Instr.TheVariants.{Addi, Addiu, Slti, Sltiu, Andi, Ori, Xori, Lui, Lb, Lbu, Lw, Sb, Sw, Move, FrameLoad}
+use Rattle.tg_instr.specs.declared.instr.Instr.TheVariants.{FrameStore, FrameAddress, Address, Branch}
 use Rattle.tg_instr.specs.Operands.{is_one_row}
 use Rattle.tg_instr.specs.Renaming.{named, renamed, tested}
 use Rattle.tg_instr.proofs.Tests.{left_holds, right_holds, both_hold}
@@ -26,7 +28,8 @@ module _ (p q : ℕ → Bool) (weaker : (r : ℕ) → p r ≡ true → q r ≡ t
   names_weaker one h =
       let rest = right_holds (has_register p (named one).to) _ h in
       both_hold _ _ (register_weaker (named one).to (left_holds _ _ h))
-      (both_hold _ _ (register_weaker (named one).first (left_holds _ _ rest)) (register_weaker (named one).second (right_holds (has_register p (named one).first) _ rest)))
+      (both_hold _ _ (register_weaker (named one).first (left_holds _ _ rest))
+      (register_weaker (named one).second (right_holds (has_register p (named one).first) _ rest)))
 
 first_tested : (allowed : ℕ → Bool) (rel : Rel) (y z : Opnd) (fits : Bool) (e : is_one_row rel y z ≡ fits) (test : Test) →
     IsTrue (has_register allowed (Some test.left)) → IsTrue (has_register allowed (Some y)) →
@@ -132,4 +135,5 @@ pub names_renamed : (allowed : ℕ → Bool) (one : Instr) (x y z : Opnd) → Is
 names_renamed allowed one x y z h hx hy hz =
     let rest = right_holds (has_register allowed (named one).to) _ h in
     both_hold _ _ (to_renamed allowed one x y z hx)
-    (both_hold _ _ (first_renamed allowed one x y z (left_holds _ _ rest) hy) (second_renamed allowed one x y z (right_holds (has_register allowed (named one).first) _ rest) hz))
+    (both_hold _ _ (first_renamed allowed one x y z (left_holds _ _ rest) hy)
+    (second_renamed allowed one x y z (right_holds (has_register allowed (named one).first) _ rest) hz))

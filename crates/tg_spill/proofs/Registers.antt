@@ -53,7 +53,9 @@ pub alone_below : (n : ℕ) (list : List Instr) → IsTrue (list_all has_registe
 alone_below n [] h = refl
 alone_below n (one ∷ rest) h =
     let here : IsTrue (has_registers_alone one) = left_holds _ _ h in
-    both_hold _ _ (both_hold _ _ (registers_below n (uses_of one) (left_holds _ _ here)) (registers_below n (defs_of one) (right_holds (list_all is_register (uses_of one)) _ here))) (alone_below n rest (right_holds (has_registers_alone one) _ h))
+    both_hold _ _ (both_hold _ _ (registers_below n (uses_of one) (left_holds _ _ here))
+    (registers_below n (defs_of one) (right_holds (list_all is_register (uses_of one)) _ here)))
+    (alone_below n rest (right_holds (has_registers_alone one) _ h))
 
 -- a renamed instruction's slots are those that it had
 slots_renamed : (base temps : ℕ) (one : Instr) (x y z : Opnd) → IsTrue (has_slots_below base one) → IsTrue (has_slots_below (base + temps) (renamed one x y z))
@@ -66,7 +68,8 @@ slot_below base temps t h = grind (arith, nat_tests)
 
 -- what holds of the loads, the renamed instruction and the stores holds of all
 abbrev Good : (Instr → Bool) → ℕ → ℕ → Type 0
-Good p base temps = (r t : ℕ) → IsTrue (is_allocated r) → IsTrue (nat_lt t temps) → IsTrue (p (FrameLoad (Reg r) (base + t))) × IsTrue (p (FrameStore (Reg r) (base + t)))
+Good p base temps = (r t : ℕ) → IsTrue (is_allocated r) → IsTrue (nat_lt t temps) → IsTrue (p (FrameLoad (Reg r) (base + t))) ×
+    IsTrue (p (FrameStore (Reg r) (base + t)))
 
 good_loaded : (p : Instr → Bool) (base temps r : ℕ) → Good p base temps → IsTrue (is_allocated r) → (o : Option Opnd) → IsTrue (is_option_below temps o) →
     IsTrue (list_all p (loaded base r o))
@@ -102,20 +105,23 @@ good_one : (p : Instr → Bool) (base temps : ℕ) → Good p base temps →
     IsTrue (p (renamed one (through_named 8 (named one).to) (through_named 8 (named one).first) (through_named 9 (named one).second))) →
     IsTrue (list_all p (instruction_in_frame base one))
 good_one p base temps good m (Move to from) below fixed here =
-    good_moved p base temps good to from (to_below temps (Move to from) below) (first_below temps (Move to from) below) (left_holds _ _ fixed) (left_holds _ _ (right_holds (has_register is_fixed (Some to)) _ fixed)) m
+    good_moved p base temps good to from (to_below temps (Move to from) below) (first_below temps (Move to from) below)
+    (left_holds _ _ fixed) (left_holds _ _ (right_holds (has_register is_fixed (Some to)) _ fixed)) m
 good_one p base temps good m one below fixed here = good_through p base temps good one below here
 
 -- a test that loads, stores and moves pass, and each renamed instruction
 pub good_code : (p q : Instr → Bool) (base temps : ℕ) → Good p base temps →
     ((r q : ℕ) → IsTrue (is_allocated r) → IsTrue (is_allocated q) → IsTrue (p (Move (Reg r) (Reg q)))) →
-    ((one : Instr) → IsTrue (q one) → IsTrue (names_registers is_fixed one) → IsTrue (p (renamed one (through_named 8 (named one).to) (through_named 8 (named one).first) (through_named 9 (named one).second)))) →
+    ((one : Instr) → IsTrue (q one) → IsTrue (names_registers is_fixed one) →
+    IsTrue (p (renamed one (through_named 8 (named one).to) (through_named 8 (named one).first) (through_named 9 (named one).second)))) →
     (list : List Instr) → IsTrue (list_all (has_temps_below temps) list) → IsTrue (list_all (names_registers is_fixed) list) → IsTrue (list_all q list) →
     IsTrue (list_all p (code_in_frame base list))
 good_code p q base temps good m here [] below fixed h = refl
 good_code p q base temps good m here (one ∷ rest) below fixed h =
     all_append p (instruction_in_frame base one) (code_in_frame base rest)
     (good_one p base temps good m one (left_holds _ _ below) (left_holds _ _ fixed) (here one (left_holds _ _ h) (left_holds _ _ fixed)))
-    (good_code p q base temps good m here rest (right_holds (has_temps_below temps one) _ below) (right_holds (names_registers is_fixed one) _ fixed) (right_holds (q one) _ h))
+    (good_code p q base temps good m here rest (right_holds (has_temps_below temps one) _ below)
+    (right_holds (names_registers is_fixed one) _ fixed) (right_holds (q one) _ h))
 
 abbrev always : Instr → Bool
 always one = true
@@ -129,12 +135,15 @@ renamed_alone : (one : Instr) →
     IsTrue (has_registers_alone (renamed one (through_named 8 (named one).to) (through_named 8 (named one).first) (through_named 9 (named one).second)))
 renamed_alone one =
     let f = stays one in
-    rw (through_is 8 (named one).to, through_is 8 (named one).first, through_is 9 (named one).second) (alone_renamed one (number 8 (named one).to) (number 8 (named one).first) (number 9 (named one).second) (rw (← through_is 8 (named one).first, ← through_is 9 (named one).second) f))
+    rw (through_is 8 (named one).to, through_is 8 (named one).first, through_is 9 (named one).second)
+    (alone_renamed one (number 8 (named one).to) (number 8 (named one).first) (number 9 (named one).second)
+    (rw (← through_is 8 (named one).first, ← through_is 9 (named one).second) f))
 
 pub registers_alone : (base temps : ℕ) (list : List Instr) → IsTrue (list_all (has_temps_below temps) list) →
     IsTrue (list_all (names_registers is_fixed) list) → IsTrue (list_all has_registers_alone (code_in_frame base list))
 registers_alone base temps list below fixed =
-    good_code has_registers_alone always base temps (λ r t a h. (refl, refl)) (λ r q a b. refl) (λ one h g. renamed_alone one) list below fixed (all_always list)
+    good_code has_registers_alone always base temps (λ r t a h. (refl, refl)) (λ r q a b. refl) (λ one h g. renamed_alone one)
+    list below fixed (all_always list)
 
 through_allocated : (r : ℕ) → IsTrue (is_allocated r) → (o : Option Opnd) → IsTrue (has_register is_fixed o) →
     IsTrue (has_register is_allocated (Some (through_named r o)))
@@ -143,19 +152,24 @@ through_allocated r free (Some (Reg q)) h = fixed_allocated q h
 through_allocated r free None h = free
 
 renamed_names : (one : Instr) → IsTrue (names_registers is_fixed one) →
-    IsTrue (names_registers is_allocated (renamed one (through_named 8 (named one).to) (through_named 8 (named one).first) (through_named 9 (named one).second)))
+    IsTrue (names_registers is_allocated (renamed one (through_named 8 (named one).to) (through_named 8 (named one).first)
+    (through_named 9 (named one).second)))
 renamed_names one h =
     let rest = right_holds (has_register is_fixed (named one).to) _ h in
     names_renamed is_allocated one _ _ _ (names_weaker is_fixed is_allocated fixed_allocated one h)
-    (through_allocated 8 refl (named one).to (left_holds _ _ h)) (through_allocated 8 refl (named one).first (left_holds _ _ rest)) (through_allocated 9 refl (named one).second (right_holds (has_register is_fixed (named one).first) _ rest))
+    (through_allocated 8 refl (named one).to (left_holds _ _ h)) (through_allocated 8 refl (named one).first (left_holds _ _ rest))
+    (through_allocated 9 refl (named one).second (right_holds (has_register is_fixed (named one).first) _ rest))
 
 pub registers_allocated : (base temps : ℕ) (list : List Instr) → IsTrue (list_all (has_temps_below temps) list) →
     IsTrue (list_all (names_registers is_fixed) list) → IsTrue (list_all (names_registers is_allocated) (code_in_frame base list))
 registers_allocated base temps list below fixed =
-    good_code (names_registers is_allocated) always base temps (λ r t a h. (both_hold _ _ a refl, both_hold _ _ refl (both_hold _ _ a refl))) (λ r q a b. both_hold _ _ a (both_hold _ _ b refl)) (λ one h g. renamed_names one g) list below fixed (all_always list)
+    good_code (names_registers is_allocated) always base temps (λ r t a h. (both_hold _ _ a refl, both_hold _ _ refl (both_hold _ _ a refl)))
+    (λ r q a b. both_hold _ _ a (both_hold _ _ b refl)) (λ one h g. renamed_names one g) list below fixed (all_always list)
 
 pub slots_below : (base temps : ℕ) (list : List Instr) → IsTrue (list_all (has_temps_below temps) list) →
     IsTrue (list_all (names_registers is_fixed) list) → IsTrue (list_all (has_slots_below base) list) →
     IsTrue (list_all (has_slots_below (base + temps)) (code_in_frame base list))
 slots_below base temps list below fixed h =
-    good_code (has_slots_below (base + temps)) (has_slots_below base) base temps (λ r t a lt. (slot_below base temps t lt, slot_below base temps t lt)) (λ r q a b. refl) (λ one k g. slots_renamed base temps one _ _ _ k) list below fixed h
+    good_code (has_slots_below (base + temps)) (has_slots_below base) base temps
+    (λ r t a lt. (slot_below base temps t lt, slot_below base temps t lt)) (λ r q a b. refl)
+    (λ one k g. slots_renamed base temps one _ _ _ k) list below fixed h

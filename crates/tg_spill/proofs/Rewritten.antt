@@ -43,14 +43,16 @@ module _ (slot_of : ℕ → Option ℕ) where
       append_assoc (loads first.operand first.slot) (loads second.operand second.slot) (renamed x to.operand first.operand second.operand ∷ after) in
       subst (λ l. Replaces x l) e
       (around x to.operand first.operand second.operand before after
-      (all_append is_access (loads first.operand first.slot) (loads second.operand second.slot) (loads_are_accesses first.operand first.slot) (loads_are_accesses second.operand second.slot))
+      (all_append is_access (loads first.operand first.slot) (loads second.operand second.slot)
+      (loads_are_accesses first.operand first.slot) (loads_are_accesses second.operand second.slot))
       (stores_are_accesses to.operand to.slot)
       (λ h. e ∙ end_alone x next h))
 
   pub are_replaced : (list : List Instr) (next : ℕ) → AreReplaced list (code_rewritten slot_of list next)
   are_replaced [] next = none
   are_replaced (x ∷ rest) next =
-      also x (instruction_rewritten slot_of x next) rest (code_rewritten slot_of rest (next_after slot_of x next)) (replaced x next) (are_replaced rest (next_after slot_of x next))
+      also x (instruction_rewritten slot_of x next) rest (code_rewritten slot_of rest (next_after slot_of x next))
+      (replaced x next) (are_replaced rest (next_after slot_of x next))
 
   -- One instruction after another.
   pub rewritten_more : (xs : List Instr) (x : Instr) (next : ℕ) →
@@ -58,7 +60,8 @@ module _ (slot_of : ℕ → Option ℕ) where
   rewritten_more [] x next = append-nil (instruction_rewritten slot_of x next)
   rewritten_more (y ∷ xs) x next =
       ap (λ l. instruction_rewritten slot_of y next ++ l) (rewritten_more xs x (next_after slot_of y next))
-      ∙ sym (append_assoc (instruction_rewritten slot_of y next) (code_rewritten slot_of xs (next_after slot_of y next)) (instruction_rewritten slot_of x (temps_after slot_of (y ∷ xs) next)))
+      ∙ sym (append_assoc (instruction_rewritten slot_of y next) (code_rewritten slot_of xs (next_after slot_of y next))
+      (instruction_rewritten slot_of x (temps_after slot_of (y ∷ xs) next)))
 
   pub temps_more : (xs : List Instr) (x : Instr) (next : ℕ) → temps_after slot_of (xs ++ x ∷ []) next ≡ next_after slot_of x (temps_after slot_of xs next)
   temps_more [] x next = refl

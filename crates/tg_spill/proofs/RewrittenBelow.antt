@@ -15,7 +15,8 @@ use Rattle.tg_instr.specs.Renaming.{named, renamed, tested}
 use Rattle.tg_instr.specs.Uses.{uses_of, defs_of}
 use Rattle.tg_instr.proofs.Tests.{left_holds, right_holds, both_hold, all_append}
 use Rattle.tg_spill.specs.Below.{is_option_below}
-use Rattle.tg_spill.specs.Rewriting.{loads, stores, drawn_for, drawn, in_slot, placed, target, first_use, second_use, next_after, instruction_rewritten, code_rewritten, temps_after}
+use Rattle.tg_spill.specs.Rewriting.{loads, stores, drawn_for, drawn, in_slot, placed, target, first_use, second_use, next_after}
+use Rattle.tg_spill.specs.Rewriting.{instruction_rewritten, code_rewritten, temps_after}
 use Rattle.tg_spill.proofs.Naming.{to_below, first_below, second_below}
 
 -- what holds of each element by a weaker test too
@@ -129,7 +130,8 @@ module _ (slot_of : ℕ → Option ℕ) where
       IsTrue (list_all (has_temps_below (temps_after slot_of list next)) (code_rewritten slot_of list next))
   temps_below list next h =
       all_below (temps_after slot_of list next) list next
-      (all_weaker (has_temps_below next) (has_temps_below (temps_after slot_of list next)) (temps_weaker next (temps_after slot_of list next) (temps_grow list next)) list h)
+      (all_weaker (has_temps_below next) (has_temps_below (temps_after slot_of list next))
+      (temps_weaker next (temps_after slot_of list next) (temps_grow list next)) list h)
       (omega arith)
 
   pub slots_below : (m : ℕ) → ((t : ℕ) → AreSlotsBelow m (slot_of t)) → (list : List Instr) (next : ℕ) → IsTrue (list_all (has_slots_below m) list) →
@@ -140,7 +142,10 @@ module _ (slot_of : ℕ → Option ℕ) where
       let first = first_use slot_of x next in
       let second = second_use slot_of x next in
       all_append (has_slots_below m) (instruction_rewritten slot_of x next) (code_rewritten slot_of rest (next_after slot_of x next))
-      (all_append (has_slots_below m) (loads first.operand first.slot) _ (loads_slots m first.operand first.slot (placed_slots m f (named x).first (next + drawn to)))
-      (all_append (has_slots_below m) (loads second.operand second.slot) _ (loads_slots m second.operand second.slot (placed_slots m f (named x).second (next + drawn to + drawn first)))
-      (both_hold _ _ (slots_renamed m x to.operand first.operand second.operand (left_holds _ _ h)) (stores_slots m to.operand to.slot (placed_slots m f (named x).to next)))))
+      (all_append (has_slots_below m) (loads first.operand first.slot) _
+      (loads_slots m first.operand first.slot (placed_slots m f (named x).first (next + drawn to)))
+      (all_append (has_slots_below m) (loads second.operand second.slot) _
+      (loads_slots m second.operand second.slot (placed_slots m f (named x).second (next + drawn to + drawn first)))
+      (both_hold _ _ (slots_renamed m x to.operand first.operand second.operand (left_holds _ _ h))
+      (stores_slots m to.operand to.slot (placed_slots m f (named x).to next)))))
       (slots_below m f rest (next_after slot_of x next) (right_holds (has_slots_below m x) _ h))

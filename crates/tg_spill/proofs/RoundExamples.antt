@@ -15,18 +15,21 @@ abbrev all_spilled : List (Option ℕ)
 all_spilled = Some 5 ∷ Some 6 ∷ Some 7 ∷ []
 
 -- an addition whose operands all have slots
-operands : code_rewritten (slot_in all_spilled) (Add (t 0) (t 1) (t 2) ∷ []) 3 ≡ FrameLoad (t 4) 6 ∷ FrameLoad (t 5) 7 ∷ Add (t 3) (t 4) (t 5) ∷ FrameStore (t 3) 5 ∷ []
+operands : code_rewritten (slot_in all_spilled) (Add (t 0) (t 1) (t 2) ∷ []) 3 ≡ FrameLoad (t 4) 6 ∷ FrameLoad (t 5) 7 ∷
+    Add (t 3) (t 4) (t 5) ∷ FrameStore (t 3) 5 ∷ []
 operands = refl
 
 three_made : temps_after (slot_in all_spilled) (Add (t 0) (t 1) (t 2) ∷ []) 3 ≡ 6
 three_made = refl
 
 -- a move whose ends both have slots
-move_in_slots : code_rewritten (slot_in all_spilled) (Move (t 0) (t 1) ∷ Move (t 3) (t 2) ∷ []) 4 ≡ FrameLoad (t 5) 6 ∷ Move (t 4) (t 5) ∷ FrameStore (t 4) 5 ∷ FrameLoad (t 6) 7 ∷ Move (t 3) (t 6) ∷ []
+move_in_slots : code_rewritten (slot_in all_spilled) (Move (t 0) (t 1) ∷ Move (t 3) (t 2) ∷ []) 4 ≡ FrameLoad (t 5) 6 ∷
+    Move (t 4) (t 5) ∷ FrameStore (t 4) 5 ∷ FrameLoad (t 6) 7 ∷ Move (t 3) (t 6) ∷ []
 move_in_slots = refl
 
 -- a move between equal registers falls away
-idle_moves : code_painted (colour_in (Some 0 ∷ Some 0 ∷ Some 24 ∷ [])) (Move (t 0) (t 1) ∷ Move (t 2) (t 0) ∷ Move (t 1) (Reg 2) ∷ []) ≡ Move (Reg 31) (Reg 2) ∷ []
+idle_moves : code_painted (colour_in (Some 0 ∷ Some 0 ∷ Some 24 ∷ [])) (Move (t 0) (t 1) ∷ Move (t 2) (t 0) ∷ Move (t 1) (Reg 2) ∷ []) ≡
+    Move (Reg 31) (Reg 2) ∷ []
 idle_moves = refl
 
 -- two classes, of which one is of made temporaries alone

@@ -1,7 +1,8 @@
 -- Each round but the last leaves fewer temporaries in the code, so there are few rounds and slots;
 -- and every temporary goes to the frame exactly where the last round spills made ones alone.
 use Rattle.std.proofs.Common.{lit≤, Option, None}
-use Rattle.std.proofs.Common.{ℕ, zero, suc, ◌≡◌, ◌≢◌, ◌≤◌, ◌<◌, ◌+◌, ◌-◌, ◌||◌, List, [], ◌∷◌, Bool, true, false, Some, length, refl, ap, sym, subst, ◌∙◌, arith, ◌⊎◌, inl, inr}
+use Rattle.std.proofs.Common.{ℕ, zero, suc, ◌≡◌, ◌≢◌, ◌≤◌, ◌<◌, ◌+◌, ◌-◌, ◌||◌, List, [], ◌∷◌, Bool, true, false, Some, length, refl, ap, sym, subst}
+use Rattle.std.proofs.Common.{◌∙◌, arith, ◌⊎◌, inl, inr}
 use Rattle.std.specs.Prelude.{All, IsTrue, nat_eq, nat_le, nat_lt, filter, get_or, cond, if◌then◌else◌}
 use Rattle.std.specs.List.{AllByRecursion, IsDistinct, cons_option, list_any, position_from}
 use Rattle.std.specs.Option.{option_map}
@@ -254,7 +255,12 @@ module _ (rule : Rule) (n t : ℕ) (l : t < n) where
 
 pub allocations_are_short : AllocationsAreShort
 allocations_are_short rule code frame a h =
-    record { rounds = let f = all.few in omega (arith, f, most); slots = by a.all_in_frame refl; once = λ t l. one_given rule code.temps t l h.rounds code.temps_below (omega arith) }
+    record {
+      rounds = let f = all.few in omega (arith, f, most);
+      slots = by a.all_in_frame refl;
+      once =
+          λ t l. one_given rule code.temps t l h.rounds code.temps_below (omega arith);
+    }
   where
     all : Shrinks code.temps (stage_of code frame.slots) h.end a.rounds
     all = shrinks rule code.temps h.rounds code.temps_below (omega arith)

@@ -1,5 +1,6 @@
 -- The numbers of uses and of moves of a code, and the nodes that its moves end in.
-use Rattle.std.proofs.Common.{ℕ, zero, suc, ◌≡◌, ◌<◌, ◌≤◌, ◌+◌, ◌-◌, ◌*◌, List, [], ◌∷◌, Bool, true, false, Option, Some, None, cond, length, map, count_by, refl, subst, arith, zero-add}
+use Rattle.std.proofs.Common.{ℕ, zero, suc, ◌≡◌, ◌<◌, ◌≤◌, ◌+◌, ◌-◌, ◌*◌, List, [], ◌∷◌, Bool, true, false, Option, Some, None, cond, length, map}
+use Rattle.std.proofs.Common.{count_by, refl, subst, arith, zero-add}
 use Rattle.std.specs.Prelude.{All, IsTrue, nat_le, nat_lt}
 use Rattle.std.specs.List.{list_all, sum_by, range_with_len, cons_option}
 use Rattle.std.proofs.lemmas.Bool.{ltb-true}
@@ -47,7 +48,8 @@ sum_splits f g h e (x ∷ xs) =
 
 count_more : (n : ℕ) (xs : List Opnd) → 25 ≤ n → count_by (is_below_node (n + 1)) xs ≡ count_by (is_below_node n) xs + count_by (is_same (temp (n - 25))) xs
 count_more n xs h =
-    sum_splits (λ x. cond (is_below_node (n + 1) x) 1 0) (λ x. cond (is_below_node n x) 1 0) (λ x. cond (is_same (temp (n - 25)) x) 1 0) (λ x. operand_more n x h) xs
+    sum_splits (λ x. cond (is_below_node (n + 1) x) 1 0) (λ x. cond (is_below_node n x) 1 0) (λ x. cond (is_same (temp (n - 25)) x) 1 0)
+    (λ x. operand_more n x h) xs
 
 total_more : (n : ℕ) (list : List Instr) → 25 ≤ n → sum_by (total (n + 1)) list ≡ sum_by (total n) list + occurrences (temp (n - 25)) list
 total_more n list h =
@@ -58,7 +60,8 @@ mark_uses : (list : List Instr) (originals n : ℕ) → (mark_of list originals 
 mark_uses list originals n = by (is_register n)
   where
     by : (b : Bool) →
-        (cond {A = Mark} b (record { uses = 0; made = false }) (record { uses = occurrences (temp (n - 25)) list; made = nat_le originals (n - 25) })).uses ≤ occurrences (temp (n - 25)) list
+        (cond {A = Mark} b (record { uses = 0; made = false }) (record { uses = occurrences (temp (n - 25)) list; made = nat_le originals (n - 25) })).uses ≤
+        occurrences (temp (n - 25)) list
     by true = omega arith
     by false = omega arith
 
@@ -71,7 +74,8 @@ few_in list originals (suc n) =
     let mark = mark_uses list originals (25 + n) in
     let all = total_more (25 + n) list (omega arith) in
     let before = few_in list originals n in
-    subst (λ k. sum_by (λ (m : Mark). m.uses) (map (mark_of list originals) (range_with_len 0 k)) ≤ sum_by (total k) list) e (omega (arith, more, mark, all, before))
+    subst (λ k. sum_by (λ (m : Mark). m.uses) (map (mark_of list originals) (range_with_len 0 k)) ≤ sum_by (total k) list)
+    e (omega (arith, more, mark, all, before))
 
 holder_few : (h : Holder) → length (operand_of h) ≤ 1
 holder_few (Operand x) = omega arith
@@ -127,7 +131,8 @@ between_below n None b f g m e = cc
 
 shape_below : (temps : ℕ) (s : Shape) → IsTrue (list_all (is_below temps) (uses s)) → IsTrue (list_all (is_below temps) (defs s)) → (m : Move) →
     move_of s ≡ Some m → AreEnds (25 + temps) m
-shape_below temps (Copy to from) u d m e = between_below (25 + temps) (node_of to) (node_of from) (node_below temps to (left_holds _ _ d)) (node_below temps from (left_holds _ _ u)) m e
+shape_below temps (Copy to from) u d m e = between_below (25 + temps) (node_of to) (node_of from)
+    (node_below temps to (left_holds _ _ d)) (node_below temps from (left_holds _ _ u)) m e
 shape_below temps _ u d m e = cc
 
 cons_below : (n : ℕ) (o : Option Move) (ms : List Move) → ((m : Move) → o ≡ Some m → AreEnds n m) → All (AreEnds n) ms → All (AreEnds n) (cons_option o ms)

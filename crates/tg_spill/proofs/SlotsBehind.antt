@@ -1,5 +1,6 @@
 -- The slots of temporaries behind a round.
-use Rattle.std.proofs.Common.{ℕ, ◌≡◌, ◌<◌, ◌+◌, ◌-◌, List, Option, Some, None, length, map, take, drop, ◌++◌, get_or, refl, ap, subst, sym, ◌∙◌, arith, length-drop}
+use Rattle.std.proofs.Common.{ℕ, ◌≡◌, ◌<◌, ◌+◌, ◌-◌, List, Option, Some, None, length, map, take, drop, ◌++◌, get_or, refl, ap, subst, sym, ◌∙◌}
+use Rattle.std.proofs.Common.{arith, length-drop}
 use Rattle.std.specs.Prelude.{All, nat_eq}
 use Rattle.std.specs.List.{position}
 use Rattle.std.specs.Option.{option_map}

@@ -1,6 +1,7 @@
 -- A round gives slots so that blocks stay blocks: to no closed temporary, and to one with a partner
 -- only together with that.
-use Rattle.std.proofs.Common.{ℕ, ◌≡◌, ◌≢◌, ◌≤◌, ◌<◌, ◌+◌, ◌-◌, ◌&&◌, List, [], ◌∷◌, ◌++◌, Bool, true, false, Option, Some, None, length, refl, ap, sym, subst, ◌∙◌, arith, ◌⊎◌, inl, inr}
+use Rattle.std.proofs.Common.{ℕ, ◌≡◌, ◌≢◌, ◌≤◌, ◌<◌, ◌+◌, ◌-◌, ◌&&◌, List, [], ◌∷◌, ◌++◌, Bool, true, false, Option, Some, None, length, refl, ap}
+use Rattle.std.proofs.Common.{sym, subst, ◌∙◌, arith, ◌⊎◌, inl, inr}
 use Rattle.std.specs.Prelude.{All, IsTrue, IsFalse, nat_eq, nat_le, is_none, filter, get_or, if◌then◌else◌}
 use Rattle.std.specs.List.{AllByRecursion, position, cons_option}
 use Rattle.std.specs.Option.{option_map}

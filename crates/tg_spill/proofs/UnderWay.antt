@@ -1,5 +1,6 @@
 -- How far an allocation has come between two rounds: whatever rounds follow, the whole is one.
-use Rattle.std.proofs.Common.{ℕ, zero, suc, ◌≡◌, ◌≢◌, ◌<◌, ◌≤◌, ◌+◌, List, [], ◌∷◌, ◌++◌, Option, Some, None, length, map, replicate, refl, ap, sym, subst, ◌∙◌, arith, append_assoc}
+use Rattle.std.proofs.Common.{ℕ, zero, suc, ◌≡◌, ◌≢◌, ◌<◌, ◌≤◌, ◌+◌, List, [], ◌∷◌, ◌++◌, Option, Some, None, length, map, replicate, refl, ap, sym}
+use Rattle.std.proofs.Common.{subst, ◌∙◌, arith, append_assoc}
 use Rattle.std.specs.Prelude.{IsTrue, IsFalse, IfOk, Bool, true, false, Result, Ok, Err}
 use Rattle.std.specs.List.{range_with_len}
 use Rattle.std.specs.Option.{option_or}
@@ -103,7 +104,8 @@ module _ (rule : Rule) (code : Code) (frame : Frame) where
       stand = λ t l round' later.
           ap (λ rs. home_by code.temps frame.slots rs t) (append_assoc rounds (round ∷ []) (round' ∷ later))
           ∙ (so_far.stand t l round (round' ∷ later)
-          ∙ (two_slots (slot_in homes t) (slot_after code.temps now.slots round t) (home_by code.temps (now.slots + length (slotted code.temps round)) (round' ∷ later) t)
+          ∙ (two_slots (slot_in homes t) (slot_after code.temps now.slots round t)
+          (home_by code.temps (now.slots + length (slotted code.temps round)) (round' ∷ later) t)
           ∙ (ap (λ o. home_after o (home_by code.temps (now.slots + length (slotted code.temps round)) (round' ∷ later) t)) (sym (f.stand t l))
           ∙ ap (λ s. home_after (slot_in homes' t) (home_by code.temps s (round' ∷ later) t)) (sym f.slots))));
     }

@@ -13,7 +13,8 @@ use Rattle.tg_instr.specs.declared.instr.Instr.TheVariants.{Branch}
 use Rattle.tg_instr.specs.Operands.{is_one_row}
 use Rattle.tg_instr.specs.Renaming.{named, renamed, tested}
 use Rattle.tg_spill.specs.declared.placing.Placed.{Placed}
-use Rattle.tg_spill.specs.Rewriting.{loads, stores, drawn, staying, placed, target, first_use, second_use, next_after, instruction_rewritten, code_rewritten, temps_after, slot_in}
+use Rattle.tg_spill.specs.Rewriting.{loads, stores, drawn, staying, placed, target, first_use, second_use, next_after, instruction_rewritten}
+use Rattle.tg_spill.specs.Rewriting.{code_rewritten, temps_after, slot_in}
 
 abbrev operand : Option Opnd → Opnd
 operand (Some x) = x
@@ -56,8 +57,10 @@ around_placed one to first second =
 instruction_stays : (x : Instr) (next : ℕ) → instruction_rewritten nowhere x next ≡ x ∷ []
 instruction_stays x next =
     ap (λ p. around_placed x p (first_use nowhere x next) (second_use nowhere x next)) (placed_stays (named x).to next)
-    ∙ (ap (λ p. around_placed x (staying (operand (named x).to)) p (second_use nowhere x next)) (placed_stays (named x).first (next + drawn (target nowhere x next)))
-    ∙ (ap (λ p. around_placed x (staying (operand (named x).to)) (staying (operand (named x).first)) p) (placed_stays (named x).second (next + drawn (target nowhere x next) + drawn (first_use nowhere x next)))
+    ∙ (ap (λ p. around_placed x (staying (operand (named x).to)) p (second_use nowhere x next))
+    (placed_stays (named x).first (next + drawn (target nowhere x next)))
+    ∙ (ap (λ p. around_placed x (staying (operand (named x).to)) (staying (operand (named x).first)) p)
+    (placed_stays (named x).second (next + drawn (target nowhere x next) + drawn (first_use nowhere x next)))
     ∙ ap (λ y. y ∷ []) (renamed_itself x)))
 
 pub code_stays : (list : List Instr) (next : ℕ) → code_rewritten nowhere list next ≡ list

@@ -11,7 +11,8 @@ use Rattle.tg_grammar.proofs.Orders.{apart}
 use Rattle.tg_grammar.proofs.Begun.{in_order}
 use Rattle.tg_tests.specs.Texts.{IsCheckable}
 
-pub checkable : {names : List (List ℕ)} {text : List ℕ} {tokens : List Spanned} (body : Exp) → Lexes names 0 text tokens → IsProgram tokens body → IsCheckable names body
+pub checkable : {names : List (List ℕ)} {text : List ℕ} {tokens : List Spanned} (body : Exp) → Lexes names 0 text tokens →
+    IsProgram tokens body → IsCheckable names body
 checkable {names = names} {text = text} {tokens = tokens} body lexed parsed = record {
   named = all_named names text tokens body lexed parsed;
   apart = apart (beginnings body []) (in_order tokens body (tokens_stand lexed) parsed);

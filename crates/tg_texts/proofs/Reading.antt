@@ -13,9 +13,17 @@ use Rattle.tg_syntax.specs.declared.tokens.Spanned.{Spanned}
 use Rattle.tg_syntax.specs.declared.tokens.Ident.{Ident}
 use Rattle.tg_syntax.specs.declared.trees.Param.{Param}
 use Rattle.tg_syntax.specs.declared.trees.Op.{Op}
-use Rattle.tg_syntax.specs.Tree.{Form, Exp, LValue, Exps, no_exps, exp, Inits, no_inits, init, Decs, no_decs, types, variable, functions, FunDecs, no_functions, function}
+use Rattle.tg_syntax.specs.Tree.{Form, Exp, LValue, Exps, no_exps, exp, Inits, no_inits, init, Decs, no_decs, types, variable, functions, FunDecs}
+use Rattle.tg_syntax.specs.Tree.{no_functions, function}
 use Rattle.tg_syntax.specs.Groups.{snoc, snoc_init, Dec, one_type, one_variable, one_function, alone, snoc_function, behind_functions, snoc_dec}
-use Rattle.tg_syntax.specs.Grammar.{Level, or_op, and_op, rel_op, sum_op, term_op, IsSign, IsWord, IsIdent, AreFields, one_field, more_fields, AreAnyFields, no_fields, some_fields, IsForm, alias, fields, array, IsAnnotation, not_annotated, annotated, Reads, whole_assign, whole_up, or_up, or_more, and_up, and_more, cmp_up, cmp_two, sum_up, sum_more, term_up, term_more, unary_minus, unary_primary, unary_tail, primary_place, primary_nil, primary_int, primary_text, primary_break, primary_sequence, primary_call, primary_record, primary_let, tail_then, tail_else, tail_while, tail_for, tail_fill, IsPlace, place_simple, place_field, place_index, AreMany, many_one, many_more, AreAny, any_none, any_many, AreInits, one_init, more_inits, AreAnyInits, any_no_inits, any_inits, IsDec, dec_type, dec_variable, dec_function, AreDecs, decs_none, decs_more, IsProgram, program}
+use Rattle.tg_syntax.specs.Grammar.{Level, or_op, and_op, rel_op, sum_op, term_op, IsSign, IsWord, IsIdent, AreFields, one_field, more_fields}
+use Rattle.tg_syntax.specs.Grammar.{AreAnyFields, no_fields, some_fields, IsForm, alias, fields, array, IsAnnotation, not_annotated, annotated, Reads}
+use Rattle.tg_syntax.specs.Grammar.{whole_assign, whole_up, or_up, or_more, and_up, and_more, cmp_up, cmp_two, sum_up, sum_more, term_up, term_more}
+use Rattle.tg_syntax.specs.Grammar.{unary_minus, unary_primary, unary_tail, primary_place, primary_nil, primary_int, primary_text, primary_break}
+use Rattle.tg_syntax.specs.Grammar.{primary_sequence, primary_call, primary_record, primary_let, tail_then, tail_else, tail_while, tail_for}
+use Rattle.tg_syntax.specs.Grammar.{tail_fill, IsPlace, place_simple, place_field, place_index, AreMany, many_one, many_more, AreAny, any_none}
+use Rattle.tg_syntax.specs.Grammar.{any_many, AreInits, one_init, more_inits, AreAnyInits, any_no_inits, any_inits, IsDec, dec_type, dec_variable}
+use Rattle.tg_syntax.specs.Grammar.{dec_function, AreDecs, decs_none, decs_more, IsProgram, program}
 use Rattle.tg_shapes.specs.Strings.{strings, place_strings, exps_strings, inits_strings, decs_strings, bodies_strings}
 use Rattle.tg_texts.specs.TokenStrings.{string_of, strings_of, spaced_length}
 use Rattle.tg_texts.proofs.Spelling.{least_bytes, least_length}

@@ -19,7 +19,8 @@ use Rattle.tg_munch.specs.Choosing.{◌>>=◌}
 use Rattle.tg_munch.specs.Bodies.{munched}
 use Rattle.tg_spill.specs.InFrame.{code_in_frame}
 use Rattle.tg_emit.specs.Lines.{entry, code_lines, words}
-use Rattle.tg_words.specs.Laws.{param_count, entry_words, unit_words, besides_words, node_words, parameter_words, function_words, node_bytes, parameter_bytes, function_bytes}
+use Rattle.tg_words.specs.Laws.{param_count, entry_words, unit_words, besides_words, node_words, parameter_words, function_words, node_bytes}
+use Rattle.tg_words.specs.Laws.{parameter_bytes, function_bytes}
 
 abbrev sp : Span
 sp = record { from = 0; to = 0 }

@@ -32,7 +32,8 @@ use Rattle.tg_spill.specs.declared.allocations.Allocation.{Allocation}
 use Rattle.tg_emit.specs.Lines.{size_of, is_long, function_lines, functions_lines, literals_lines, words}
 use Rattle.tg_image.proofs.CodeLines.{words_append}
 use Rattle.tg_words.specs.Allocating.{IsAllocationOf, codes_of, has_small_frame}
-use Rattle.tg_words.specs.Laws.{unit_words, besides_words, node_words, function_words, most_node_words, most_runtime_words, CodeIsShort, FramesAreSmall, FunctionsArePaid, FitsSegment, ProgramCodeFits, ProgramFramesAreSmall}
+use Rattle.tg_words.specs.Laws.{unit_words, besides_words, node_words, function_words, most_node_words, most_runtime_words, CodeIsShort}
+use Rattle.tg_words.specs.Laws.{FramesAreSmall, FunctionsArePaid, FitsSegment, ProgramCodeFits, ProgramFramesAreSmall}
 use Rattle.tg_words.proofs.Functions.{all_counted, counted, counted_within}
 
 -- What the functions of an accepted program, and of the runtime, are.

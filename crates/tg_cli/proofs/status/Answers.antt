@@ -11,7 +11,8 @@ either : (before after status : ℕ) → before ≡ 0 → EndsWith 70 before aft
 either before after status e (inl h) = let P : ℕ → Type 0 = λ n. EndsWith 70 n after status in no_memory after (subst P e h)
 either before after status e (inr h) = let P : ℕ → Type 0 = λ n. EndsWith 64 n after status in not_text after (subst P e h)
 
-called : (words : List (List ℕ)) (files reads writes errors files' reads' writes' errors' status : ℕ) → files ≡ 0 → reads ≡ 0 → writes ≡ 0 → errors ≡ 0 → AnswersWords words files reads writes errors files' reads' writes' errors' status → IsStatus status
+called : (words : List (List ℕ)) (files reads writes errors files' reads' writes' errors' status : ℕ) → files ≡ 0 →
+    reads ≡ 0 → writes ≡ 0 → errors ≡ 0 → AnswersWords words files reads writes errors files' reads' writes' errors' status → IsStatus status
 called words files reads writes errors files' reads' writes' errors' status f r w e h =
     let P : ℕ → ℕ → ℕ → ℕ → Type 0 = λ a b c d. AnswersWords words a b c d files' reads' writes' errors' status in
     let from_files = subst (λ a. P a reads writes errors) f h in
@@ -21,7 +22,8 @@ called words files reads writes errors files' reads' writes' errors' status f r 
 
 -- what the top call answers by the rule of `LeastUse`
 by_rule : (rule : Rule) (words : List (List ℕ)) (files reads writes errors files' reads' writes' errors' status : ℕ) → rule ≡ least_use
-    → Answers (call_of rule words (shelf_of (λ s. None) (λ s name. s) files files') (untold reads reads') (untold writes writes') (untold errors errors')) status
+    → Answers (call_of rule words (shelf_of (λ s. None) (λ s name. s) files files') (untold reads reads') (untold writes writes') (untold errors errors'))
+    status
     → AnswersWords words files reads writes errors files' reads' writes' errors' status
 by_rule rule words files reads writes errors files' reads' writes' errors' status is h =
     let P : Rule → Type 0 = λ r. Answers (call_of r words (shelf_of (λ s. None) (λ s name. s) files files') (untold reads reads') (untold writes writes') (untold errors errors')) status in
@@ -40,4 +42,5 @@ returns-in_default-new c = either _ _ _ c.new-err.ensures (inl c.refusal-in_defa
 pub returns : goal.returns
 returns c =
     let is = read_made own-1 (own-1.entry (inl tt)) _ refl _ (λ entry policy. entry.1.rule policy) _ _ _ c.into_dyn_box.ensures.1 in
-    called _ _ _ _ _ _ _ _ _ _ c.new-shelf.ensures c.new-input.ensures c.new-out.ensures c.new-err.ensures (by_rule _ _ _ _ _ _ _ _ _ _ _ is c.tiger.ensures.answers)
+    called _ _ _ _ _ _ _ _ _ _ c.new-shelf.ensures c.new-input.ensures c.new-out.ensures c.new-err.ensures
+    (by_rule _ _ _ _ _ _ _ _ _ _ _ is c.tiger.ensures.answers)

@@ -4,7 +4,8 @@ use Rattle.tg_canon.proofs.laws.meaning_stays.Goals as goal
 
 pub returns : goal.returns
 returns c = record {
-  bodies = λ functions functions' literals size floor room body temps own. bodies_carried functions functions' literals size floor room joins_are_paid body temps own;
+  bodies = λ functions functions' literals size floor room body temps own. bodies_carried functions functions' literals
+      size floor room joins_are_paid body temps own;
   calls = λ code size floor room n own. calls_are_carried joins_are_paid code size floor room n own;
   programs = λ code size floor room body input own. programs_are_preserved joins_are_paid code size floor room body input own;
 }

@@ -3,7 +3,10 @@ use Rattle.tg_tree.specs.Plain.{plain_tx, plain_cond, plain_ts}
 use Rattle.tg_tree.specs.Lists.{txs_of, stms_of}
 use Rattle.tg_canon.specs.Canon.{deeper, inside}
 use Rattle.tg_canon.specs.Breaking.{leads}
-use Rattle.tg_canon.proofs.Arms.{constant_lifts, address_lifts, temporary_lifts, frame_lifts, binary_lifts, load_lifts, byte_lifts, call_lifts, service_lifts, after_lifts, word_lifts, operands_lift, compare_tests, not_tests, both_tests, either_tests, compare_leaves, not_leaves, move_goes, store_goes, store_byte_goes, do_goes, if_goes, if_goes_by_parts, loop_goes, break_goes, fault_goes, sequence_goes, return_goes}
+use Rattle.tg_canon.proofs.Arms.{constant_lifts, address_lifts, temporary_lifts, frame_lifts, binary_lifts, load_lifts, byte_lifts, call_lifts}
+use Rattle.tg_canon.proofs.Arms.{service_lifts, after_lifts, word_lifts, operands_lift, compare_tests, not_tests, both_tests, either_tests}
+use Rattle.tg_canon.proofs.Arms.{compare_leaves, not_leaves, move_goes, store_goes, store_byte_goes, do_goes, if_goes, if_goes_by_parts, loop_goes}
+use Rattle.tg_canon.proofs.Arms.{break_goes, fault_goes, sequence_goes, return_goes}
 use Rattle.tg_canon.proofs.Cases.{lifts_as, word_as, both_as, tests_as, leaves_as, goes_as, call_as, sequence_as}
 use Rattle.tg_canon.proofs.Walks.{statements_begin, statement_more, arguments_begin, argument_more, ends_with, none_left}
 use Rattle.tg_canon.proofs.pass.+canon.Goals as goal
@@ -26,29 +29,37 @@ lift-returns-in-FrameAddress t c =
 
 pub lift-returns-in_ok-operate-in-Binary : goal.lift-returns-in_ok-operate-in-Binary
 lift-returns-in_ok-operate-in-Binary t c =
-    lifts_as (leads c.args.breaks.now) c.in-Binary.is (binary_lifts (leads c.args.breaks.now) c.in-Binary.op (plain_tx c.in-Binary.x.value) (plain_tx c.in-Binary.y.value)
+    lifts_as (leads c.args.breaks.now) c.in-Binary.is (binary_lifts (leads c.args.breaks.now) c.in-Binary.op
+    (plain_tx c.in-Binary.x.value) (plain_tx c.in-Binary.y.value)
     (both_as (leads c.args.breaks.now) (sym c.into_inner.ensures) (sym c.into_inner-in-Binary.ensures) c.in_ok-both-in-Binary.ensures)
     c.in_ok-operate-in-Binary.ensures)
 
 pub lift-returns-in_ok-load_from-in-Load : goal.lift-returns-in_ok-load_from-in-Load
 lift-returns-in_ok-load_from-in-Load t c =
-    lifts_as (leads c.args.breaks.now) c.in-Load.is (load_lifts (leads c.args.breaks.now) (plain_tx c.in-Load.x.value) (word_as (leads c.args.breaks.now) (sym c.into_inner-in-Load.ensures) c.in_ok-a-in-Load.ensures) c.in_ok-load_from-in-Load.ensures)
+    lifts_as (leads c.args.breaks.now) c.in-Load.is (load_lifts (leads c.args.breaks.now) (plain_tx c.in-Load.x.value)
+    (word_as (leads c.args.breaks.now) (sym c.into_inner-in-Load.ensures) c.in_ok-a-in-Load.ensures) c.in_ok-load_from-in-Load.ensures)
 
 pub lift-returns-in_ok-load_byte_from-in-LoadByte : goal.lift-returns-in_ok-load_byte_from-in-LoadByte
 lift-returns-in_ok-load_byte_from-in-LoadByte t c =
-    lifts_as (leads c.args.breaks.now) c.in-LoadByte.is (byte_lifts (leads c.args.breaks.now) (plain_tx c.in-LoadByte.x.value) (word_as (leads c.args.breaks.now) (sym c.into_inner-in-LoadByte.ensures) c.in_ok-a-in-LoadByte.ensures) c.in_ok-load_byte_from-in-LoadByte.ensures)
+    lifts_as (leads c.args.breaks.now) c.in-LoadByte.is (byte_lifts (leads c.args.breaks.now) (plain_tx c.in-LoadByte.x.value)
+    (word_as (leads c.args.breaks.now) (sym c.into_inner-in-LoadByte.ensures) c.in_ok-a-in-LoadByte.ensures) c.in_ok-load_byte_from-in-LoadByte.ensures)
 
 pub lift-returns-in_ok-serve-in-Service : goal.lift-returns-in_ok-serve-in-Service
 lift-returns-in_ok-serve-in-Service t c =
-    lifts_as (leads c.args.breaks.now) c.in-Service.is (service_lifts (leads c.args.breaks.now) c.in-Service.number (plain_tx c.in-Service.x.value) (word_as (leads c.args.breaks.now) (sym c.into_inner-in-Service.ensures) c.in_ok-a-in-Service.ensures) c.in_ok-serve-in-Service.ensures)
+    lifts_as (leads c.args.breaks.now) c.in-Service.is (service_lifts (leads c.args.breaks.now) c.in-Service.number
+    (plain_tx c.in-Service.x.value) (word_as (leads c.args.breaks.now) (sym c.into_inner-in-Service.ensures) c.in_ok-a-in-Service.ensures)
+    c.in_ok-serve-in-Service.ensures)
 
 pub lift-returns-in_ok-all-in-Call : goal.lift-returns-in_ok-all-in-Call
 lift-returns-in_ok-all-in-Call t c =
-    call_as (leads c.args.breaks.now) c.in-Call.label c.in-Call.xs c.in-Call.is (call_lifts (leads c.args.breaks.now) c.in-Call.label.0 (txs_of c.in-Call.xs.items.items) c.in_ok-all-in-Call.ensures c.call_of.ensures)
+    call_as (leads c.args.breaks.now) c.in-Call.label c.in-Call.xs c.in-Call.is
+    (call_lifts (leads c.args.breaks.now) c.in-Call.label.0 (txs_of c.in-Call.xs.items.items) c.in_ok-all-in-Call.ensures c.call_of.ensures)
 
 pub lift-returns-in_ok-behind-in-After : goal.lift-returns-in_ok-behind-in-After
 lift-returns-in_ok-behind-in-After t c =
-    lifts_as (leads c.args.breaks.now) c.in-After.is (after_lifts (leads c.args.breaks.now) (plain_ts c.in-After.s.value) (plain_tx c.in-After.x.value) (lifts_as (leads c.args.breaks.now) (sym c.into_inner-in-After.ensures) c.in_ok-a-in-After.ensures) (goes_as (leads c.args.breaks.now) (sym c.into_inner-in-After-2.ensures) c.in_ok-p-in-After.ensures) c.in_ok-behind-in-After.ensures)
+    lifts_as (leads c.args.breaks.now) c.in-After.is (after_lifts (leads c.args.breaks.now) (plain_ts c.in-After.s.value)
+    (plain_tx c.in-After.x.value) (lifts_as (leads c.args.breaks.now) (sym c.into_inner-in-After.ensures) c.in_ok-a-in-After.ensures)
+    (goes_as (leads c.args.breaks.now) (sym c.into_inner-in-After-2.ensures) c.in_ok-p-in-After.ensures) c.in_ok-behind-in-After.ensures)
 
 pub lift_word-returns : goal.lift_word-returns
 lift_word-returns t c =
@@ -72,35 +83,45 @@ lift_all-returns t c =
 
 pub condition-returns-in_ok-compare_both-in-Compare : goal.condition-returns-in_ok-compare_both-in-Compare
 condition-returns-in_ok-compare_both-in-Compare t c =
-    tests_as (leads c.args.breaks.now) c.in-Compare.is (compare_tests (leads c.args.breaks.now) c.in-Compare.rel (plain_tx c.in-Compare.x.value) (plain_tx c.in-Compare.y.value)
+    tests_as (leads c.args.breaks.now) c.in-Compare.is (compare_tests (leads c.args.breaks.now) c.in-Compare.rel
+    (plain_tx c.in-Compare.x.value) (plain_tx c.in-Compare.y.value)
     (both_as (leads c.args.breaks.now) (sym c.into_inner.ensures) (sym c.into_inner-in-Compare.ensures) c.in_ok-both-in-Compare.ensures)
     c.in_ok-compare_both-in-Compare.ensures)
 
 pub condition-returns-in_ok-opposite-in-Not : goal.condition-returns-in_ok-opposite-in-Not
 condition-returns-in_ok-opposite-in-Not t c =
-    tests_as (leads c.args.breaks.now) c.in-Not.is (not_tests (leads c.args.breaks.now) (plain_cond c.in-Not.c.value) (tests_as (leads c.args.breaks.now) (sym c.into_inner-in-Not.ensures) c.in_ok-t-in-Not.ensures) c.in_ok-opposite-in-Not.ensures)
+    tests_as (leads c.args.breaks.now) c.in-Not.is (not_tests (leads c.args.breaks.now) (plain_cond c.in-Not.c.value)
+    (tests_as (leads c.args.breaks.now) (sym c.into_inner-in-Not.ensures) c.in_ok-t-in-Not.ensures) c.in_ok-opposite-in-Not.ensures)
 
 pub condition-returns-in_ok-and-in-Both : goal.condition-returns-in_ok-and-in-Both
 condition-returns-in_ok-and-in-Both t c =
-    tests_as (leads c.args.breaks.now) c.in-Both.is (both_tests (leads c.args.breaks.now) (plain_cond c.in-Both.c.value) (plain_cond c.in-Both.d.value) (tests_as (leads c.args.breaks.now) (sym c.into_inner-in-Both.ensures) c.in_ok-u-in-Both.ensures) (tests_as (leads c.args.breaks.now) (sym c.into_inner-in-Both-2.ensures) c.in_ok-t-in-Both.ensures) c.in_ok-and-in-Both.ensures)
+    tests_as (leads c.args.breaks.now) c.in-Both.is (both_tests (leads c.args.breaks.now) (plain_cond c.in-Both.c.value)
+    (plain_cond c.in-Both.d.value) (tests_as (leads c.args.breaks.now) (sym c.into_inner-in-Both.ensures) c.in_ok-u-in-Both.ensures)
+    (tests_as (leads c.args.breaks.now) (sym c.into_inner-in-Both-2.ensures) c.in_ok-t-in-Both.ensures) c.in_ok-and-in-Both.ensures)
 
 pub condition-returns-in_ok-or-in-Either : goal.condition-returns-in_ok-or-in-Either
 condition-returns-in_ok-or-in-Either t c =
-    tests_as (leads c.args.breaks.now) c.in-Either.is (either_tests (leads c.args.breaks.now) (plain_cond c.in-Either.c.value) (plain_cond c.in-Either.d.value) (tests_as (leads c.args.breaks.now) (sym c.into_inner-in-Either.ensures) c.in_ok-u-in-Either.ensures) (tests_as (leads c.args.breaks.now) (sym c.into_inner-in-Either-2.ensures) c.in_ok-t-in-Either.ensures) c.in_ok-or-in-Either.ensures)
+    tests_as (leads c.args.breaks.now) c.in-Either.is (either_tests (leads c.args.breaks.now) (plain_cond c.in-Either.c.value)
+    (plain_cond c.in-Either.d.value) (tests_as (leads c.args.breaks.now) (sym c.into_inner-in-Either.ensures) c.in_ok-u-in-Either.ensures)
+    (tests_as (leads c.args.breaks.now) (sym c.into_inner-in-Either-2.ensures) c.in_ok-t-in-Either.ensures) c.in_ok-or-in-Either.ensures)
 
 pub leave-returns-in_ok-exit_where-in-Compare : goal.leave-returns-in_ok-exit_where-in-Compare
 leave-returns-in_ok-exit_where-in-Compare t c =
-    leaves_as (leads c.args.breaks.now) c.args.when c.args.loops c.in-Compare.is (compare_leaves (leads c.args.breaks.now) c.args.when c.args.loops c.in-Compare.rel (plain_tx c.in-Compare.x.value) (plain_tx c.in-Compare.y.value)
+    leaves_as (leads c.args.breaks.now) c.args.when c.args.loops c.in-Compare.is
+    (compare_leaves (leads c.args.breaks.now) c.args.when c.args.loops c.in-Compare.rel (plain_tx c.in-Compare.x.value) (plain_tx c.in-Compare.y.value)
     (both_as (leads c.args.breaks.now) (sym c.into_inner.ensures) (sym c.into_inner-in-Compare.ensures) c.in_ok-both-in-Compare.ensures)
     c.in_ok-t-in-Compare.ensures c.in_ok-exit_where-in-Compare.ensures)
 
 pub leave-returns-in_ok-leave-in-Not : goal.leave-returns-in_ok-leave-in-Not
 leave-returns-in_ok-leave-in-Not t c =
-    leaves_as (leads c.args.breaks.now) c.args.when c.args.loops c.in-Not.is (not_leaves (leads c.args.breaks.now) c.args.when c.args.loops (plain_cond c.in-Not.c.value) (leaves_as (leads c.args.breaks.now) (not c.args.when) c.args.loops (sym c.into_inner-in-Not.ensures) c.in_ok-leave-in-Not.ensures))
+    leaves_as (leads c.args.breaks.now) c.args.when c.args.loops c.in-Not.is
+    (not_leaves (leads c.args.breaks.now) c.args.when c.args.loops (plain_cond c.in-Not.c.value)
+    (leaves_as (leads c.args.breaks.now) (not c.args.when) c.args.loops (sym c.into_inner-in-Not.ensures) c.in_ok-leave-in-Not.ensures))
 
 pub linear-returns-in_ok-move_to-in-Move : goal.linear-returns-in_ok-move_to-in-Move
 linear-returns-in_ok-move_to-in-Move t c =
-    goes_as (leads c.args.breaks.now) c.in-Move.is (move_goes (leads c.args.breaks.now) c.in-Move.temp.0 (plain_tx c.in-Move.x) c.in_ok-a-in-Move.ensures c.in_ok-move_to-in-Move.ensures)
+    goes_as (leads c.args.breaks.now) c.in-Move.is (move_goes (leads c.args.breaks.now) c.in-Move.temp.0 (plain_tx c.in-Move.x)
+    c.in_ok-a-in-Move.ensures c.in_ok-move_to-in-Move.ensures)
 
 pub linear-returns-in_ok-store-in-Store : goal.linear-returns-in_ok-store-in-Store
 linear-returns-in_ok-store-in-Store t c =
@@ -110,19 +131,23 @@ linear-returns-in_ok-store-in-Store t c =
 pub linear-returns-in_ok-store_byte-in-StoreByte : goal.linear-returns-in_ok-store_byte-in-StoreByte
 linear-returns-in_ok-store_byte-in-StoreByte t c =
     goes_as (leads c.args.breaks.now) c.in-StoreByte.is
-    (store_byte_goes (leads c.args.breaks.now) (plain_tx c.in-StoreByte.x) (plain_tx c.in-StoreByte.y) c.in_ok-both-in-StoreByte.ensures c.in_ok-store_byte-in-StoreByte.ensures)
+    (store_byte_goes (leads c.args.breaks.now) (plain_tx c.in-StoreByte.x) (plain_tx c.in-StoreByte.y)
+    c.in_ok-both-in-StoreByte.ensures c.in_ok-store_byte-in-StoreByte.ensures)
 
 pub linear-returns-in_ok-drop_value-in-Do : goal.linear-returns-in_ok-drop_value-in-Do
 linear-returns-in_ok-drop_value-in-Do t c =
-    goes_as (leads c.args.breaks.now) c.in-Do.is (do_goes (leads c.args.breaks.now) (plain_tx c.in-Do.x) c.in_ok-a-in-Do.ensures c.in_ok-drop_value-in-Do.ensures)
+    goes_as (leads c.args.breaks.now) c.in-Do.is (do_goes (leads c.args.breaks.now) (plain_tx c.in-Do.x) c.in_ok-a-in-Do.ensures
+    c.in_ok-drop_value-in-Do.ensures)
 
 pub linear-returns-in_ok-return_of-in-Return : goal.linear-returns-in_ok-return_of-in-Return
 linear-returns-in_ok-return_of-in-Return t c =
-    goes_as (leads c.args.breaks.now) c.in-Return.is (return_goes (leads c.args.breaks.now) (plain_tx c.in-Return.x) c.in_ok-a-in-Return.ensures c.in_ok-return_of-in-Return.ensures)
+    goes_as (leads c.args.breaks.now) c.in-Return.is (return_goes (leads c.args.breaks.now) (plain_tx c.in-Return.x)
+    c.in_ok-a-in-Return.ensures c.in_ok-return_of-in-Return.ensures)
 
 pub linear-returns-in_ok-repeated-in-Loop : goal.linear-returns-in_ok-repeated-in-Loop
 linear-returns-in_ok-repeated-in-Loop t c =
-    goes_as (leads c.args.breaks.now) c.in-Loop.is (loop_goes (leads c.args.breaks.now) (plain_ts c.in-Loop.s.value) (goes_as (inside (leads c.args.breaks.now)) (sym c.into_inner.ensures) c.in_ok-p-in-Loop.ensures) c.in_ok-repeated-in-Loop.ensures)
+    goes_as (leads c.args.breaks.now) c.in-Loop.is (loop_goes (leads c.args.breaks.now) (plain_ts c.in-Loop.s.value)
+    (goes_as (inside (leads c.args.breaks.now)) (sym c.into_inner.ensures) c.in_ok-p-in-Loop.ensures) c.in_ok-repeated-in-Loop.ensures)
 
 pub linear-returns-in_ok-further-in-Break : goal.linear-returns-in_ok-further-in-Break
 linear-returns-in_ok-further-in-Break t c =
@@ -134,17 +159,23 @@ linear-returns-in-Fault t c =
 
 pub linear-returns-in_ok-all-in-Seq : goal.linear-returns-in_ok-all-in-Seq
 linear-returns-in_ok-all-in-Seq t c =
-    sequence_as (leads c.args.breaks.now) c.in-Seq.ss c.in-Seq.is (sequence_goes (leads c.args.breaks.now) (stms_of c.in-Seq.ss.items.items) c.in_ok-all-in-Seq.ensures c.in_turn.ensures)
+    sequence_as (leads c.args.breaks.now) c.in-Seq.ss c.in-Seq.is
+    (sequence_goes (leads c.args.breaks.now) (stms_of c.in-Seq.ss.items.items) c.in_ok-all-in-Seq.ensures c.in_turn.ensures)
 
 pub linear-returns-in_ok-choose-in-If : goal.linear-returns-in_ok-choose-in-If
 linear-returns-in_ok-choose-in-If t c =
-    goes_as (leads c.args.breaks.now) c.in-If.is (if_goes (leads c.args.breaks.now) (plain_cond c.in-If.test) (plain_ts c.in-If.this.value) (plain_ts c.in-If.other.value) (sym c.is_whole.ensures ∙ c.if-is_whole.true)
-    (goes_as (leads c.args.breaks.now) (sym c.into_inner-other.ensures) c.in_ok-q-in-If.ensures) (goes_as (leads c.args.breaks.now) (sym c.into_inner-this.ensures) c.in_ok-p-in-If.ensures) c.in_ok-t-in-If.ensures c.in_ok-choose-in-If.ensures)
+    goes_as (leads c.args.breaks.now) c.in-If.is (if_goes (leads c.args.breaks.now) (plain_cond c.in-If.test)
+    (plain_ts c.in-If.this.value) (plain_ts c.in-If.other.value) (sym c.is_whole.ensures ∙ c.if-is_whole.true)
+    (goes_as (leads c.args.breaks.now) (sym c.into_inner-other.ensures) c.in_ok-q-in-If.ensures)
+    (goes_as (leads c.args.breaks.now) (sym c.into_inner-this.ensures) c.in_ok-p-in-If.ensures) c.in_ok-t-in-If.ensures c.in_ok-choose-in-If.ensures)
 
 pub linear-returns-in_ok-choose_by_parts-in-If : goal.linear-returns-in_ok-choose_by_parts-in-If
 linear-returns-in_ok-choose_by_parts-in-If t c =
-    goes_as (leads c.args.breaks.now) c.in-If.is (if_goes_by_parts (leads c.args.breaks.now) (plain_cond c.in-If.test) (plain_ts c.in-If.this.value) (plain_ts c.in-If.other.value) (sym c.is_whole.ensures ∙ c.if-is_whole.false)
-    (goes_as (deeper 1 (leads c.args.breaks.now)) (sym c.into_inner-other.ensures) c.in_ok-q-in-If-2.ensures) (goes_as (deeper 2 (leads c.args.breaks.now)) (sym c.into_inner-this.ensures) c.in_ok-p-in-If-2.ensures) c.in_ok-t-in-If-2.ensures c.in_ok-choose_by_parts-in-If.ensures)
+    goes_as (leads c.args.breaks.now) c.in-If.is (if_goes_by_parts (leads c.args.breaks.now) (plain_cond c.in-If.test)
+    (plain_ts c.in-If.this.value) (plain_ts c.in-If.other.value) (sym c.is_whole.ensures ∙ c.if-is_whole.false)
+    (goes_as (deeper 1 (leads c.args.breaks.now)) (sym c.into_inner-other.ensures) c.in_ok-q-in-If-2.ensures)
+    (goes_as (deeper 2 (leads c.args.breaks.now)) (sym c.into_inner-this.ensures) c.in_ok-p-in-If-2.ensures)
+    c.in_ok-t-in-If-2.ensures c.in_ok-choose_by_parts-in-If.ensures)
 
 pub linear_all-loop-s-init : goal.linear_all-loop-s-init
 linear_all-loop-s-init t c =

@@ -16,7 +16,8 @@ returns c =
     let checked = c.args.checked.now in
     let tree : tree_of c.append.new.self.items c.append-2.new.self.items ≡ fragments_of checked.notes (plain checked.program.body) =
     translated_whole checked.notes (plain checked.program.body) c.in_ok-escaping.escaping one.functions.items two.functions.items c.append.new.self.items
-    one.literals.items two.literals.items c.append-2.new.self.items c.in_ok-escaping.ensures c.in_ok-program.ensures c.in_ok-append.ensures.items c.in_ok-append-2.ensures.items c.in_ok-below.ensures in
+    one.literals.items two.literals.items c.append-2.new.self.items c.in_ok-escaping.ensures c.in_ok-program.ensures
+    c.in_ok-append.ensures.items c.in_ok-append-2.ensures.items c.in_ok-below.ensures in
     let body = plain checked.program.body in
     let Q : Code Ts → Type 0 = λ t. IsLinked names t in
     let P : List (Function Ts) → Type 0 = λ fs. All IsWellFormed fs in

@@ -8,4 +8,5 @@ returns-in-Ok-clause-due g c =
     let streams = streams_of
     (stream_of g.I.Source.left g.I.Source.faults c.args.streams.input.now c.execute.new.streams.0)
     (stream_of g.O.Sink.taken g.O.Sink.faults c.args.streams.out.now c.execute.new.streams.1.0) in
-    executed streams (asked_of c.args.command.now) c.args.text.now c.in-Ok.image c.execute.result c.if-text-gt-LONGEST.false c.in-Ok.ensures.image c.execute.ensures.runs
+    executed streams (asked_of c.args.command.now) c.args.text.now c.in-Ok.image c.execute.result c.if-text-gt-LONGEST.false
+    c.in-Ok.ensures.image c.execute.ensures.runs

@@ -11,7 +11,8 @@ returns-in-Ok-clause-due g c =
     let input : List ℕ → PlainBytes = λ l. record { left = l; calls = 0 } in
     let empty : c.new-input.result ≡ input [] = c.new-input.ensures ∙ ap input c.new.ensures.items in
     let due = c.run_and_sum_up.ensures.sums_up c.args.image.now c.args.command.now.heap c.args.command.now.stack c.in-Ok.ensures empty in
-    or_memory (SumsUpRun out c.args.command.now.number c.args.bytes c.args.image.now c.args.command.now.heap c.args.command.now.stack c.args.command.now.steps) c.run_and_sum_up.result due
+    or_memory (SumsUpRun out c.args.command.now.number c.args.bytes c.args.image.now c.args.command.now.heap
+    c.args.command.now.stack c.args.command.now.steps) c.run_and_sum_up.result due
 
 pub returns-in-Ok-clause-before_start : goal.returns-in-Ok-clause-before_start
 returns-in-Ok-clause-before_start g c =

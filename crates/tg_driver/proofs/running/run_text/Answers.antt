@@ -14,7 +14,8 @@ returns-in-Ok-clause-due g c =
     let streams = streams_of
     (stream_of g.I.Source.left g.I.Source.faults c.args.streams.input.now c.run_assembly.new.streams.0)
     (stream_of g.O.Sink.taken g.O.Sink.faults c.args.streams.out.now c.run_assembly.new.streams.1.0) in
-    ends_built _ (HasRun streams) (asked_of c.args.command.now) _ _ c.run_assembly.result (builds _ _ _ _ c.in-Ok.ensures.compiled) (rw c.deref.ensures.value at c.run_assembly.ensures.runs)
+    ends_built _ (HasRun streams) (asked_of c.args.command.now) _ _ c.run_assembly.result (builds _ _ _ _ c.in-Ok.ensures.compiled)
+    (rw c.deref.ensures.value at c.run_assembly.ensures.runs)
 
 pub returns-in-Err-clause-due : goal.returns-in-Err-clause-due
 returns-in-Err-clause-due g c =

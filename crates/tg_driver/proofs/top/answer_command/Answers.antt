@@ -25,7 +25,8 @@ returns-in-Build-clause-due g c =
     (stream_of g.O.Sink.taken g.O.Sink.faults c.args.streams.out.now c.answer_written.new.streams.1.0) in
     let asked = asked_of c.args.command.now in
     in_mode _ Build shelf streams asked c.answer_written.result c.in-Build.is
-    (by_writing shelf streams (Builds _) asked c.answer_written.result c.answer_written.ensures.unread c.answer_written.ensures.before_start c.answer_written.ensures.due)
+    (by_writing shelf streams (Builds _) asked c.answer_written.result c.answer_written.ensures.unread
+    c.answer_written.ensures.before_start c.answer_written.ensures.due)
 
 pub returns-in-Run-clause-due : goal.returns-in-Run-clause-due
 returns-in-Run-clause-due g c =
@@ -55,7 +56,8 @@ returns-in-Alloc-clause-due g c =
     (stream_of g.O.Sink.taken g.O.Sink.faults c.args.streams.out.now c.answer_written-in-Alloc.new.streams.1.0) in
     let asked = asked_of c.args.command.now in
     in_mode _ Alloc shelf streams asked c.answer_written-in-Alloc.result c.in-Alloc.is
-    (by_writing shelf streams (Lists _) asked c.answer_written-in-Alloc.result c.answer_written-in-Alloc.ensures.unread c.answer_written-in-Alloc.ensures.before_start c.answer_written-in-Alloc.ensures.due)
+    (by_writing shelf streams (Lists _) asked c.answer_written-in-Alloc.result c.answer_written-in-Alloc.ensures.unread
+    c.answer_written-in-Alloc.ensures.before_start c.answer_written-in-Alloc.ensures.due)
 
 pub returns-in-Gen-clause-due : goal.returns-in-Gen-clause-due
 returns-in-Gen-clause-due g c =

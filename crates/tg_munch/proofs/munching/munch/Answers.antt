@@ -4,7 +4,8 @@ use Rattle.tg_munch.proofs.munching.munch.Goals as goal
 
 pub finish-requires-clause-marks_differ : goal.finish-requires-clause-marks_differ
 finish-requires-clause-marks_differ c =
-    (keeps c.args.frame.now (code_of c.args.code.now) _ _ c.requires.marked c.requires.drawn c.in_ok-draft.ensures.list c.in_ok-draft.ensures.temps).marks_differ
+    (keeps c.args.frame.now (code_of c.args.code.now) _ _ c.requires.marked c.requires.drawn c.in_ok-draft.ensures.list
+    c.in_ok-draft.ensures.temps).marks_differ
 
 pub finish-requires-clause-marks_stand : goal.finish-requires-clause-marks_stand
 finish-requires-clause-marks_stand c =

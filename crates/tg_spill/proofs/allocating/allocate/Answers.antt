@@ -38,7 +38,8 @@ returns-else-is_empty-2-clause-allocation g c =
     in_frame_if rule code c.args.frame
     (stage_of by.code by.slots) by.homes.items c.rounds.rounds.items round c.rounds.invariant.under_way is_round none c.all_in_frame.result
     (λ e. something (ap length (c.as_slice.ensures ∙ e)))
-    c.all_in_frame.ensures.frame c.all_in_frame.ensures.rounds c.all_in_frame.ensures.code c.all_in_frame.ensures.homes c.all_in_frame.ensures.slots c.all_in_frame.ensures.all
+    c.all_in_frame.ensures.frame c.all_in_frame.ensures.rounds c.all_in_frame.ensures.code c.all_in_frame.ensures.homes
+    c.all_in_frame.ensures.slots c.all_in_frame.ensures.all
 
 pub rounds-preserved : goal.rounds-preserved
 rounds-preserved g c =

@@ -16,10 +16,17 @@ loop-one-preserved c =
     let more = take_more list c.loop-one.one-index c.one-item.result c.loop-one-test.true in
     let few = draws_few slot_of c.one-item.result c.loop-one.next in
     record {
-      list = c.in_ok-put_rewritten.ensures.list ∙ (ap (λ l. l ++ instruction_rewritten slot_of c.one-item.result c.loop-one.next) c.loop-one.invariant.list ∙ (ap (λ x. code_rewritten slot_of front start ++ instruction_rewritten slot_of x c.loop-one.next) c.one-item.is ∙ (ap (λ n. code_rewritten slot_of front start ++ instruction_rewritten slot_of one n) c.loop-one.invariant.next ∙ (sym (rewritten_more slot_of front one start) ∙ ap (λ l. code_rewritten slot_of l start) (sym more)))));
-      next = c.in_ok-put_rewritten.ensures.next ∙ (ap (λ x. next_after slot_of x c.loop-one.next) c.one-item.is ∙ (ap (next_after slot_of one) c.loop-one.invariant.next ∙ (sym (temps_more slot_of front one start) ∙ ap (λ l. temps_after slot_of l start) (sym more))));
+      list = c.in_ok-put_rewritten.ensures.list
+          ∙ (ap (λ l. l ++ instruction_rewritten slot_of c.one-item.result c.loop-one.next) c.loop-one.invariant.list
+          ∙ (ap (λ x. code_rewritten slot_of front start ++ instruction_rewritten slot_of x c.loop-one.next) c.one-item.is
+          ∙ (ap (λ n. code_rewritten slot_of front start ++ instruction_rewritten slot_of one n) c.loop-one.invariant.next
+          ∙ (sym (rewritten_more slot_of front one start) ∙ ap (λ l. code_rewritten slot_of l start) (sym more)))));
+      next = c.in_ok-put_rewritten.ensures.next ∙ (ap (λ x. next_after slot_of x c.loop-one.next) c.one-item.is
+          ∙ (ap (next_after slot_of one) c.loop-one.invariant.next
+          ∙ (sym (temps_more slot_of front one start) ∙ ap (λ l. temps_after slot_of l start) (sym more))));
       room = let new = c.in_ok-put_rewritten.ensures.next in omega (arith, few, new);
     }
 
 pub put_rewritten-requires-clause-below : goal.put_rewritten-requires-clause-below
-put_rewritten-requires-clause-below c = rw c.one-item.is (all_at (has_temps_below (length c.args.slots.now)) c.args.code.now c.loop-one.one-index c.one-item.result c.loop-one-test.true c.requires.below)
+put_rewritten-requires-clause-below c = rw c.one-item.is (all_at (has_temps_below (length c.args.slots.now)) c.args.code.now
+    c.loop-one.one-index c.one-item.result c.loop-one-test.true c.requires.below)

@@ -19,6 +19,8 @@ invariant_of-result c =
     record {
       marks_differ = subst (λ (l : List Instr). IsTrue (marks_differ l)) e (same_differing r ∙ code.marks_differ);
       marks_stand = subst (λ (l : List Instr). IsTrue (list_all (leads_to_marks l) l)) e (marks_stand r code.marks_stand);
-      temps_below = subst (λ (m : ℕ). IsTrue (list_all (has_temps_below m) c.from_vec.result)) n (subst (λ (l : List Instr). IsTrue (list_all (has_temps_below (temps_after slot_of code.list code.temps)) l)) e (temps_below slot_of code.list code.temps code.temps_below));
+      temps_below = subst (λ (m : ℕ). IsTrue (list_all (has_temps_below m) c.from_vec.result)) n
+          (subst (λ (l : List Instr). IsTrue (list_all (has_temps_below (temps_after slot_of code.list code.temps)) l)) e
+          (temps_below slot_of code.list code.temps code.temps_below));
       ends_well = subst (λ (l : List Instr). IsTrue (ends_well l)) e (still_ends r code.ends_well);
     }

@@ -47,7 +47,8 @@ color-requires-clause-few_uses g c =
 pub returns-clause-round : goal.returns-clause-round
 returns-clause-round g c =
     IfOk-weaker c.color.result _ _
-    (λ round h. round_of _ c.args.originals 0 c.args.code.now c.in_ok-graph.graph _ _ round c.in_ok-graph.ensures (c.as_slice.ensures ∙ c.in_ok-moves.ensures) (c.as_slice-2.ensures ∙ c.in_ok-marks.ensures) h)
+    (λ round h. round_of _ c.args.originals 0 c.args.code.now c.in_ok-graph.graph _ _ round c.in_ok-graph.ensures
+    (c.as_slice.ensures ∙ c.in_ok-moves.ensures) (c.as_slice-2.ensures ∙ c.in_ok-marks.ensures) h)
     c.color.ensures.round
 
 pub returns-clause-nodes : goal.returns-clause-nodes

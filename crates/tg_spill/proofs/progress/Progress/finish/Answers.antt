@@ -14,7 +14,8 @@ use Rattle.tg_spill.proofs.progress.Progress.finish.Goals as goal
 pub returns-clause-list : goal.returns-clause-list
 returns-clause-list c =
     c.from_vec.ensures
-    ∙ (c.in_ok-list.ensures ∙ painted_behind c.args.round c.as_slice.result.now c.args.self.code.list c.as_slice-2.result.now c.as_slice.ensures c.as_slice-2.ensures)
+    ∙ (c.in_ok-list.ensures ∙ painted_behind c.args.round c.as_slice.result.now c.args.self.code.list c.as_slice-2.result.now
+    c.as_slice.ensures c.as_slice-2.ensures)
 
 pub returns-clause-homes : goal.returns-clause-homes
 returns-clause-homes c =
@@ -26,7 +27,8 @@ invariant_of-result c =
     let code = c.args.self.code in
     let colour = colour_of c.args.round in
     let e : code_painted colour code.list ≡ c.from_vec.result =
-    sym (c.from_vec.ensures ∙ (c.in_ok-list.ensures ∙ painted_behind c.args.round c.as_slice.result.now code.list c.as_slice-2.result.now c.as_slice.ensures c.as_slice-2.ensures)) in
+    sym (c.from_vec.ensures ∙ (c.in_ok-list.ensures ∙ painted_behind c.args.round c.as_slice.result.now code.list
+    c.as_slice-2.result.now c.as_slice.ensures c.as_slice-2.ensures)) in
     let r = are_painted colour code.list in
     record {
       marks_differ = subst (λ (l : List Instr). IsTrue (marks_differ l)) e (same_differing r ∙ code.marks_differ);
@@ -42,7 +44,8 @@ invariant_of-result-2 c =
     let code = c.args.self.code in
     let colour = colour_of c.args.round in
     let e : code_painted colour code.list ≡ c.from_vec.result =
-    sym (c.from_vec.ensures ∙ (c.in_ok-list.ensures ∙ painted_behind c.args.round c.as_slice.result.now code.list c.as_slice-2.result.now c.as_slice.ensures c.as_slice-2.ensures)) in
+    sym (c.from_vec.ensures ∙ (c.in_ok-list.ensures ∙ painted_behind c.args.round c.as_slice.result.now code.list
+    c.as_slice-2.result.now c.as_slice.ensures c.as_slice-2.ensures)) in
     record {
       registers_alone = subst (λ (l : List Instr). IsTrue (list_all has_registers_alone l)) e (names_alone colour code.list c.args.self.registers);
       slots_below =
@@ -55,5 +58,6 @@ returns-clause-registers c =
     let code = c.args.self.code in
     let colour = colour_of c.args.round in
     let e : code_painted colour code.list ≡ c.from_vec.result =
-    sym (c.from_vec.ensures ∙ (c.in_ok-list.ensures ∙ painted_behind c.args.round c.as_slice.result.now code.list c.as_slice-2.result.now c.as_slice.ensures c.as_slice-2.ensures)) in
+    sym (c.from_vec.ensures ∙ (c.in_ok-list.ensures ∙ painted_behind c.args.round c.as_slice.result.now code.list
+    c.as_slice-2.result.now c.as_slice.ensures c.as_slice-2.ensures)) in
     subst (λ (l : List Instr). IsTrue (list_all (names_registers is_allocated) l)) e (names_allocated colour code.list c.args.self.registers)

@@ -26,7 +26,9 @@ returns-clause-list c =
     let code = c.args.self.code in
     c.in_ok-code.ensures.list
     ∙ code_alike code.temps (slot_in c.deref.result.now) (slot_after (length c.args.self.homes.items) c.args.self.slots c.args.round.now)
-    (alike c.args.round.now code.temps c.requires.nodes c.as_slice-aliases.result.now c.as_slice-aliases.ensures (length c.args.self.homes.items) c.args.self.slots c.args.classes.now c.deref.result.now c.requires.classes (c.deref.ensures.value ∙ c.in_ok-slots.ensures))
+    (alike c.args.round.now code.temps c.requires.nodes c.as_slice-aliases.result.now c.as_slice-aliases.ensures
+    (length c.args.self.homes.items) c.args.self.slots c.args.classes.now c.deref.result.now c.requires.classes
+    (c.deref.ensures.value ∙ c.in_ok-slots.ensures))
     code.list code.temps code.temps_below
 
 pub returns-clause-temps : goal.returns-clause-temps
@@ -34,7 +36,9 @@ returns-clause-temps c =
     let code = c.args.self.code in
     c.in_ok-code.ensures.temps
     ∙ temps_alike code.temps (slot_in c.deref.result.now) (slot_after (length c.args.self.homes.items) c.args.self.slots c.args.round.now)
-    (alike c.args.round.now code.temps c.requires.nodes c.as_slice-aliases.result.now c.as_slice-aliases.ensures (length c.args.self.homes.items) c.args.self.slots c.args.classes.now c.deref.result.now c.requires.classes (c.deref.ensures.value ∙ c.in_ok-slots.ensures))
+    (alike c.args.round.now code.temps c.requires.nodes c.as_slice-aliases.result.now c.as_slice-aliases.ensures
+    (length c.args.self.homes.items) c.args.self.slots c.args.classes.now c.deref.result.now c.requires.classes
+    (c.deref.ensures.value ∙ c.in_ok-slots.ensures))
     code.list code.temps code.temps_below
 
 pub invariant_of-result : goal.invariant_of-result
@@ -47,7 +51,8 @@ invariant_of-result c =
     let e : c.in_ok-code.code.list ≡ code_rewritten slot_of code.list code.temps =
     c.in_ok-code.ensures.list
     ∙ code_alike code.temps (slot_in c.deref.result.now) slot_of
-    (alike round code.temps c.requires.nodes c.as_slice-aliases.result.now c.as_slice-aliases.ensures originals base c.args.classes.now c.deref.result.now c.requires.classes (c.deref.ensures.value ∙ c.in_ok-slots.ensures))
+    (alike round code.temps c.requires.nodes c.as_slice-aliases.result.now c.as_slice-aliases.ensures originals base
+    c.args.classes.now c.deref.result.now c.requires.classes (c.deref.ensures.value ∙ c.in_ok-slots.ensures))
     code.list code.temps code.temps_below in
     let end : c.in_ok-end.end ≡ base + length (slotted originals round) = c.in_ok-end.ensures ∙ ap (λ (cs : List ℕ). base + length cs) c.requires.classes in
     record {
@@ -58,7 +63,8 @@ invariant_of-result c =
           subst (λ (m : ℕ). IsTrue (list_all (has_slots_below m) c.in_ok-code.code.list)) (sym end)
           (subst (λ (l : List Instr). IsTrue (list_all (has_slots_below (base + length (slotted originals round))) l)) (sym e)
           (slots_below slot_of (base + length (slotted originals round)) (slots_taken originals base round) code.list code.temps
-          (all_weaker (has_slots_below base) (has_slots_below (base + length (slotted originals round))) (slots_weaker base (base + length (slotted originals round)) (omega arith)) code.list c.args.self.slots_below)));
+          (all_weaker (has_slots_below base) (has_slots_below (base + length (slotted originals round)))
+          (slots_weaker base (base + length (slotted originals round)) (omega arith)) code.list c.args.self.slots_below)));
     }
 
 pub returns-clause-homes : goal.returns-clause-homes
