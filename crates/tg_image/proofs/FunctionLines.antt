@@ -70,9 +70,9 @@ pub record IsGiven (w : ℕ) (lines : List Line) (name : List ℕ) : Type 0 wher
   pub stands : Stands (labels_from w lines) name (AtWord word)
 
 -- and among the labels of two parts
-given_in : (w : ℕ) (xs ys : List Line) (name : List ℕ) (word : ℕ) → word < w + words xs + words ys →
+given_there : (w : ℕ) (xs ys : List Line) (name : List ℕ) (word : ℕ) → word < w + words xs + words ys →
     Stands (labels_from w xs ++ labels_from (w + words xs) ys) name (AtWord word) → IsGiven w (xs ++ ys) name
-given_in w xs ys name word l s =
+given_there w xs ys name word l s =
     let e = words_append xs ys in
     record {
       word = word;
@@ -83,11 +83,11 @@ given_in w xs ys name word l s =
 pub given_left : (w : ℕ) (xs ys : List Line) (name : List ℕ) → IsGiven w xs name → IsGiven w (xs ++ ys) name
 given_left w xs ys name g =
     let b = g.below in
-    given_in w xs ys name g.word (omega arith) (stands_left (labels_from w xs) (labels_from (w + words xs) ys) name (AtWord g.word) g.stands)
+    given_there w xs ys name g.word (omega arith) (stands_left (labels_from w xs) (labels_from (w + words xs) ys) name (AtWord g.word) g.stands)
 
 pub given_right : (w : ℕ) (xs ys : List Line) (name : List ℕ) → IsGiven (w + words xs) ys name → IsGiven w (xs ++ ys) name
 given_right w xs ys name g =
-    given_in w xs ys name g.word g.below (stands_right (labels_from w xs) (labels_from (w + words xs) ys) name (AtWord g.word) g.stands)
+    given_there w xs ys name g.word g.below (stands_right (labels_from w xs) (labels_from (w + words xs) ys) name (AtWord g.word) g.stands)
 
 pub in_code : (ps : Positions) (n w : ℕ) (lines : List Line) (name : List ℕ) → w + words lines ≤ n → Finds ps (labels_from w lines) → IsGiven w lines name →
     IsInCode ps n name

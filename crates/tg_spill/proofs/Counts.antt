@@ -1,4 +1,4 @@
--- How long code in the frame is, and how many words.
+-- How long code in the frame is.
 use Rattle.std.proofs.Common.{ℕ, ◌≡◌, ◌≤◌, ◌+◌, ◌*◌, suc, List, [], ◌∷◌, ◌++◌, Option, Some, None, length, refl, arith, length-append, lit≤}
 use Rattle.std.proofs.lemmas.List.Sums.{sum_by-append}
 use Rattle.tg_instr.specs.declared.operands.Opnd.{Opnd}
@@ -9,37 +9,37 @@ use Rattle.tg_instr.specs.Lengths.{words_of, words}
 use Rattle.tg_instr.specs.Renaming.{named, renamed}
 use Rattle.tg_spill.specs.InFrame.{through_named, loaded, stored, moved, through_slots, instruction_in_frame, code_in_frame}
 
-loaded_few : (base r : ℕ) (o : Option Opnd) → (length (loaded base r o) ≤ 1) × (words (loaded base r o) ≤ 3)
-loaded_few base r (Some (Temp t)) = (lit≤ tt, lit≤ tt)
-loaded_few base r (Some (Reg q)) = (lit≤ tt, lit≤ tt)
-loaded_few base r None = (lit≤ tt, lit≤ tt)
+loaded_length : (base r : ℕ) (o : Option Opnd) → length (loaded base r o) ≤ 1
+loaded_length base r (Some (Temp t)) = lit≤ tt
+loaded_length base r (Some (Reg q)) = lit≤ tt
+loaded_length base r None = lit≤ tt
 
-stored_few : (base r : ℕ) (o : Option Opnd) → (length (stored base r o) ≤ 1) × (words (stored base r o) ≤ 3)
-stored_few base r (Some (Temp t)) = (lit≤ tt, lit≤ tt)
-stored_few base r (Some (Reg q)) = (lit≤ tt, lit≤ tt)
-stored_few base r None = (lit≤ tt, lit≤ tt)
+stored_length : (base r : ℕ) (o : Option Opnd) → length (stored base r o) ≤ 1
+stored_length base r (Some (Temp t)) = lit≤ tt
+stored_length base r (Some (Reg q)) = lit≤ tt
+stored_length base r None = lit≤ tt
 
-moved_few : (base : ℕ) (to from : Opnd) → (length (moved base to from) ≤ 4) × (words (moved base to from) ≤ 10)
-moved_few base (Temp t) (Temp s) = (lit≤ tt, lit≤ tt)
-moved_few base (Temp t) (Reg q) = (lit≤ tt, lit≤ tt)
-moved_few base (Reg r) (Temp s) = (lit≤ tt, lit≤ tt)
-moved_few base (Reg r) (Reg q) = (lit≤ tt, lit≤ tt)
+moved_length : (base : ℕ) (to from : Opnd) → length (moved base to from) ≤ 4
+moved_length base (Temp t) (Temp s) = lit≤ tt
+moved_length base (Temp t) (Reg q) = lit≤ tt
+moved_length base (Reg r) (Temp s) = lit≤ tt
+moved_length base (Reg r) (Reg q) = lit≤ tt
 
 through_length : (base : ℕ) (one : Instr) → length (through_slots base one (named one)) ≤ 4
 through_length base one =
     let a = loaded base 8 (named one).first in
     let b = loaded base 9 (named one).second in
     let c = renamed one (through_named 8 (named one).to) (through_named 8 (named one).first) (through_named 9 (named one).second) ∷ stored base 8 (named one).to in
-    let h = (loaded_few base 8 (named one).first).0 in
-    let k = (loaded_few base 9 (named one).second).0 in
-    let l = (stored_few base 8 (named one).to).0 in
+    let h = loaded_length base 8 (named one).first in
+    let k = loaded_length base 9 (named one).second in
+    let l = stored_length base 8 (named one).to in
     let e : length (a ++ (b ++ c)) ≡ length a + length (b ++ c) = length-append a (b ++ c) in
     let f : length (b ++ c) ≡ length b + length c = length-append b c in
     let g : length c ≡ suc (length (stored base 8 (named one).to)) = refl in
     omega arith
 
 one_length : (base : ℕ) (one : Instr) → length (instruction_in_frame base one) ≤ 4
-one_length base (Move to from) = (moved_few base to from).0
+one_length base (Move to from) = moved_length base to from
 one_length base one = through_length base one
 
 pub few : (base : ℕ) (list : List Instr) → length (code_in_frame base list) ≤ 4 * length list
@@ -49,6 +49,23 @@ few base (one ∷ rest) =
     let h = one_length base one in
     let k = few base rest in
     omega arith
+
+-- words of code
+loaded_words : (base r : ℕ) (o : Option Opnd) → words (loaded base r o) ≤ 3
+loaded_words base r (Some (Temp t)) = lit≤ tt
+loaded_words base r (Some (Reg q)) = lit≤ tt
+loaded_words base r None = lit≤ tt
+
+stored_words : (base r : ℕ) (o : Option Opnd) → words (stored base r o) ≤ 3
+stored_words base r (Some (Temp t)) = lit≤ tt
+stored_words base r (Some (Reg q)) = lit≤ tt
+stored_words base r None = lit≤ tt
+
+moved_words : (base : ℕ) (to from : Opnd) → words (moved base to from) ≤ 10
+moved_words base (Temp t) (Temp s) = lit≤ tt
+moved_words base (Temp t) (Reg q) = lit≤ tt
+moved_words base (Reg r) (Temp s) = lit≤ tt
+moved_words base (Reg r) (Reg q) = lit≤ tt
 
 -- with so many words of the instruction, and at most so many before and behind it
 sum_words : (base : ℕ) (one : Instr) (x y z : Opnd) (a b c n : ℕ) → words (loaded base 8 (named one).first) ≤ a →
@@ -66,22 +83,22 @@ sum_words base one x y z a b c n ha hb hc hn =
 through_words : (base : ℕ) (one : Instr) (x y z : Opnd) →
     words (loaded base 8 (named one).first ++ (loaded base 9 (named one).second ++ (renamed one x y z ∷ stored base 8 (named one).to))) ≤ 10
 through_words base (FrameLoad to k) x y z =
-    let h = sum_words base (FrameLoad to k) x y z 0 0 3 3 (lit≤ tt) (lit≤ tt) (stored_few base 8 (Some to)).1 (lit≤ tt) in omega arith
+    let h = sum_words base (FrameLoad to k) x y z 0 0 3 3 (lit≤ tt) (lit≤ tt) (stored_words base 8 (Some to)) (lit≤ tt) in omega arith
 through_words base (FrameStore from k) x y z =
-    let h = sum_words base (FrameStore from k) x y z 3 0 0 3 (loaded_few base 8 (Some from)).1 (lit≤ tt) (lit≤ tt) (lit≤ tt) in omega arith
+    let h = sum_words base (FrameStore from k) x y z 3 0 0 3 (loaded_words base 8 (Some from)) (lit≤ tt) (lit≤ tt) (lit≤ tt) in omega arith
 through_words base (FrameAddress to) x y z =
-    let h = sum_words base (FrameAddress to) x y z 0 0 3 3 (lit≤ tt) (lit≤ tt) (stored_few base 8 (Some to)).1 (lit≤ tt) in omega arith
+    let h = sum_words base (FrameAddress to) x y z 0 0 3 3 (lit≤ tt) (lit≤ tt) (stored_words base 8 (Some to)) (lit≤ tt) in omega arith
 through_words base (Address to label) x y z =
-    let h = sum_words base (Address to label) x y z 0 0 3 2 (lit≤ tt) (lit≤ tt) (stored_few base 8 (Some to)).1 (lit≤ tt) in omega arith
+    let h = sum_words base (Address to label) x y z 0 0 3 2 (lit≤ tt) (lit≤ tt) (stored_words base 8 (Some to)) (lit≤ tt) in omega arith
 through_words base (Branch test m) x y z =
-    let h = sum_words base (Branch test m) x y z 3 3 0 2 (loaded_few base 8 (Some test.left)).1 (loaded_few base 9 (Some test.right)).1 (lit≤ tt) (lit≤ tt) in
+    let h = sum_words base (Branch test m) x y z 3 3 0 2 (loaded_words base 8 (Some test.left)) (loaded_words base 9 (Some test.right)) (lit≤ tt) (lit≤ tt) in
     omega arith
 through_words base Return x y z = lit≤ tt
 through_words base one x y z =
-    let h = sum_words base one x y z 3 3 3 1 (loaded_few base 8 (named one).first).1 (loaded_few base 9 (named one).second).1 (stored_few base 8 (named one).to).1 (lit≤ tt) in h
+    let h = sum_words base one x y z 3 3 3 1 (loaded_words base 8 (named one).first) (loaded_words base 9 (named one).second) (stored_words base 8 (named one).to) (lit≤ tt) in h
 
 one_words : (base : ℕ) (one : Instr) → words (instruction_in_frame base one) ≤ 10
-one_words base (Move to from) = (moved_few base to from).1
+one_words base (Move to from) = moved_words base to from
 one_words base one = through_words base one (through_named 8 (named one).to) (through_named 8 (named one).first) (through_named 9 (named one).second)
 
 pub few_words : (base : ℕ) (list : List Instr) → words (code_in_frame base list) ≤ 10 * length list

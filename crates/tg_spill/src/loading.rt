@@ -2,17 +2,16 @@ ghost use Rattle.std.specs.Prelude.{◌≡◌, ◌<◌, ◌^◌, ◌+◌, ◌++�
 ghost use Rattle.tg_instr.specs.Codes.{has_temps_below};
 ghost use Rattle.tg_spill.specs.Below.{is_option_below};
 ghost use Rattle.tg_instr.specs.Renaming.{named};
-ghost use Rattle.tg_spill.specs.Rewriting.{loads, stores};
 ghost use Rattle.tg_spill.specs.InFrame.{
   instruction_in_frame,
   loaded,
   moved,
   stored,
+  through as through_register,
   through_named,
   through_slots,
 };
 
-use crate::placing::{Placed, put_placed};
 use tg_base::Memory;
 use tg_instr::{Instr, Opnd, push_instr};
 use tg_isa::Reg;
@@ -43,10 +42,13 @@ fn put_through(list: &mut Vec<Instr>, base: u32, temps: u32, one: &Instr) -> Res
         (list.new.items ≡ list.old.items ++ through_slots base one.now (named one.now)) }
 {
     let named = one.named();
-    let to = through(base, temps, FIRST, named.to);
-    let first = through(base, temps, FIRST, named.first);
-    let second = through(base, temps, SECOND, named.second);
-    put_placed(list, one, to, first, second)
+    load(list, base, temps, FIRST, named.first)?;
+    load(list, base, temps, SECOND, named.second)?;
+    let to = through_or(FIRST, named.to);
+    let first = through_or(FIRST, named.first);
+    let second = through_or(SECOND, named.second);
+    push_instr(list, one.renamed(to, first, second))?;
+    store(list, base, temps, FIRST, named.to)
 }
 
 /// Puts a move.
@@ -73,22 +75,71 @@ fn put_move(
     }
 }
 
-/// The place through which an operand goes: a register of its own, or this one, which has a
-/// temporary's slot.
-fn through(base: u32, temps: u32, register: u8, one: Option<Opnd>) -> Placed
+/// The register through which an operand goes: its own, or the one for temporaries.
+fn through(register: u8, one: Opnd) -> Opnd
+    requires { register < 32 }
+    ensures { result ≡ through_register register one }
+{
+    match one {
+        Opnd::Temp(_) => Opnd::Reg(Reg::new(register)),
+        Opnd::Reg(_) => one,
+    }
+}
+
+fn through_or(register: u8, one: Option<Opnd>) -> Opnd
+    requires { register < 32 }
+    ensures { result ≡ through_named register one }
+{
+    match one {
+        Some(one) => through(register, one),
+        None => Opnd::Reg(Reg::new(register)),
+    }
+}
+
+/// Puts the load of a temporary into a register.
+fn load(
+    list: &mut Vec<Instr>,
+    base: u32,
+    temps: u32,
+    register: u8,
+    one: Option<Opnd>,
+) -> Result<(), Memory>
     requires register { register < 32 }
     requires below { IsTrue (is_option_below temps one) }
     requires fits { base + temps < 2 ^ 32 }
-    ensures operand { result.operand ≡ through_named register one }
-    ensures load { loads result.operand result.slot ≡ loaded base register one }
-    ensures store { stores result.operand result.slot ≡ stored base register one }
+    ensures { OnOk result (list.new.items ≡ list.old.items ++ loaded base register one) }
 {
     match one {
-        Some(Opnd::Temp(temp)) => Placed {
-            operand: Opnd::Reg(Reg::new(register)),
-            slot: Some(base + temp.0),
-        },
-        Some(Opnd::Reg(own)) => Placed::staying(Opnd::Reg(own)),
-        None => Placed::staying(Opnd::Reg(Reg::new(register))),
+        Some(Opnd::Temp(temp)) => {
+            push_instr(
+                list,
+                Instr::FrameLoad(Opnd::Reg(Reg::new(register)), base + temp.0),
+            )
+        }
+        _ => Ok(()),
+    }
+}
+
+/// Puts the store of a register into a temporary.
+fn store(
+    list: &mut Vec<Instr>,
+    base: u32,
+    temps: u32,
+    register: u8,
+    one: Option<Opnd>,
+) -> Result<(), Memory>
+    requires register { register < 32 }
+    requires below { IsTrue (is_option_below temps one) }
+    requires fits { base + temps < 2 ^ 32 }
+    ensures { OnOk result (list.new.items ≡ list.old.items ++ stored base register one) }
+{
+    match one {
+        Some(Opnd::Temp(temp)) => {
+            push_instr(
+                list,
+                Instr::FrameStore(Opnd::Reg(Reg::new(register)), base + temp.0),
+            )
+        }
+        _ => Ok(()),
     }
 }

@@ -1,7 +1,6 @@
-ghost use Rattle.std.specs.Prelude.{◌≡◌, ◌<◌, ◌+◌, ◌++◌, ◌∷◌, ◌^◌, IsTrue, OnOk, length};
+ghost use Rattle.std.specs.Prelude.{◌≡◌, ◌<◌, ◌+◌, ◌++◌, ◌^◌, IsTrue, OnOk, length};
 ghost use Rattle.tg_instr.specs.declared.operands.Opnd.TheVariants.{Temp as TempOf};
 ghost use Rattle.tg_instr.specs.Codes.{is_below};
-ghost use Rattle.tg_instr.specs.Renaming.{renamed};
 ghost use Rattle.tg_spill.specs.Below.{is_option_below};
 ghost use Rattle.tg_spill.specs.Rewriting.{drawn, in_slot, loads, placed, slot_in, staying, stores};
 
@@ -19,8 +18,7 @@ pub struct Placed {
 }
 
 impl Placed {
-    /// An operand that stands where it is.
-    pub fn staying(operand: Opnd) -> Placed
+    fn staying(operand: Opnd) -> Placed
         ensures { result ≡ staying operand }
     {
         Placed {
@@ -30,7 +28,7 @@ impl Placed {
     }
 
     /// Puts the load before the instruction, where the operand has a slot.
-    fn put_load(self, list: &mut Vec<Instr>) -> Result<(), Memory>
+    pub fn put_load(self, list: &mut Vec<Instr>) -> Result<(), Memory>
         ensures { OnOk result (list.new.items ≡ list.old.items ++ loads self.operand self.slot) }
     {
         match self.slot {
@@ -40,7 +38,7 @@ impl Placed {
     }
 
     /// Puts the store behind the instruction, where the operand has a slot.
-    fn put_store(self, list: &mut Vec<Instr>) -> Result<(), Memory>
+    pub fn put_store(self, list: &mut Vec<Instr>) -> Result<(), Memory>
         ensures { OnOk result (list.new.items ≡ list.old.items ++ stores self.operand self.slot) }
     {
         match self.slot {
@@ -48,27 +46,6 @@ impl Placed {
             None => Ok(()),
         }
     }
-}
-
-/// Puts an instruction with these in the places of its operands at the end of a list, their loads
-/// before it and the store behind it.
-pub fn put_placed(
-    list: &mut Vec<Instr>,
-    one: &Instr,
-    to: Placed,
-    first: Placed,
-    second: Placed,
-) -> Result<(), Memory>
-    ensures { OnOk result (list.new.items ≡ list.old.items ++ (loads first.operand first.slot
-        ++ (loads second.operand second.slot
-        ++ (renamed one.now to.operand first.operand second.operand
-        ∷ stores to.operand to.slot)))) }
-{
-    let (target, left, right) = (to.operand, first.operand, second.operand);
-    first.put_load(list)?;
-    second.put_load(list)?;
-    push_instr(list, one.renamed(target, left, right))?;
-    to.put_store(list)
 }
 
 /// Places an operand that an instruction names, or none; `next` is the number of the next temporary

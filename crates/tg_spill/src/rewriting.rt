@@ -20,10 +20,10 @@ ghost use Rattle.tg_spill.specs.Rewriting.{
   temps_after,
 };
 
-use crate::placing::{place, put_placed};
+use crate::placing::place;
 use std::alloc::Global;
 use tg_base::Memory;
-use tg_instr::{Code, Instr, Instrs};
+use tg_instr::{Code, Instr, Instrs, push_instr};
 
 /// The code behind a round that spills, given the slot of each temporary that has one.
 pub fn rewrite(alloc: Global, code: &Code, slots: &[Option<u32>]) -> Result<Code, Memory>
@@ -78,5 +78,9 @@ fn put_rewritten(
     let to = place(slots, named.to, next);
     let first = place(slots, named.first, next);
     let second = place(slots, named.second, next);
-    put_placed(list, one, to, first, second)
+    let (target, left, right) = (to.operand, first.operand, second.operand);
+    first.put_load(list)?;
+    second.put_load(list)?;
+    push_instr(list, one.renamed(target, left, right))?;
+    to.put_store(list)
 }
