@@ -4,6 +4,7 @@
 #![tactic(auto)]
 
 mod answers;
+mod building;
 mod checking;
 mod compiling;
 mod endings;
@@ -12,6 +13,7 @@ mod faults;
 mod generating;
 mod images;
 mod laws;
+mod listing;
 mod reading;
 mod refusals;
 mod running;

@@ -41,7 +41,13 @@ fn escaping_bytes(alloc: Global, text: &str) -> Result<Vec<u32>, Fail> {
     let source = read(alloc, text)?;
     let checked = check(alloc, &source.program, &source.names)?;
     let found = escapes(alloc, &checked)?;
-    Ok((0..200u32).filter(|at| found.has(*at)).collect(alloc)?)
+    let mut bytes = Vec::new(alloc);
+    for at in 0..200u32 {
+        if found.has(at) {
+            bytes.push(at)?;
+        }
+    }
+    Ok(bytes)
 }
 
 #[test]
@@ -94,7 +100,13 @@ fn linking_bytes(alloc: Global, text: &str) -> Result<Vec<u32>, Fail> {
     let source = read(alloc, text)?;
     let checked = check(alloc, &source.program, &source.names)?;
     let found = links(alloc, &checked)?;
-    Ok((0..200u32).filter(|at| found.has(*at)).collect(alloc)?)
+    let mut bytes = Vec::new(alloc);
+    for at in 0..200u32 {
+        if found.has(at) {
+            bytes.push(at)?;
+        }
+    }
+    Ok(bytes)
 }
 
 #[test]
