@@ -1,5 +1,6 @@
 -- The line of an instruction is read as that instruction.
-use Rattle.std.proofs.Common.{◌≡◌, ◌<◌, ◌≤◌, ◌+◌, ◌^◌, ℕ, true, false, List, [], ◌∷◌, ◌++◌, length, Option, Some, Result, Ok, Err, IfOk, OnOk, IsTrue}
+use Rattle.std.proofs.Common.{◌≡◌, ◌<◌, ◌≤◌, ◌+◌, ◌^◌, ℕ, true, false, List, [], ◌∷◌, ◌++◌, length, Bool, Option, Some}
+use Rattle.std.proofs.Common.{Result, Ok, Err, IfOk, OnOk, IsTrue}
 use Rattle.std.proofs.Common.{Vec, refl, sym, ap, subst, ◌∙◌, arith, lit≤}
 use Rattle.std.specs.Fmt.{decimal}
 use Rattle.std.specs.declared.alloc.Global.{Global}
@@ -36,7 +37,42 @@ pub record Ready (k : Keyword) (c : ℕ) (word : List ℕ) : Type 0 where
   pub stands : stands_in k Code ≡ true
   pub same : (os : List Operand) → item k os ≡ instruction k os
 
-known : (k : Keyword) (os : List Operand) (o : Option Keyword) → o ≡ Some k → stands_in k Code ≡ true → read_known Code [] os o ≡ with_labels [] (item k os)
+-- what the tests of a word find, and what they find of a word that names an instruction
+record Tests : Type 0 where
+  letter : Bool
+  label : Bool
+  ends : Bool
+  newlines : Bool
+  found : Option Keyword
+  stands : Bool
+
+abbrev tests : Keyword → ℕ → List ℕ → Tests
+tests k c word = record {
+  letter = begins_label c;
+  label = none_of is_past_label word;
+  ends = none_of is_end (c ∷ word);
+  newlines = none_of is_newline (c ∷ word);
+  found = keyword (c ∷ word);
+  stands = stands_in k Code;
+}
+
+abbrev passed : Keyword → Tests
+passed k = record { letter = true; label = true; ends = true; newlines = true; found = Some k; stands = true }
+
+pub ready : {k : Keyword} {c : ℕ} {word : List ℕ} → tests k c word ≡ passed k →
+    ((os : List Operand) → item k os ≡ instruction k os) → Ready k c word
+ready e same = record {
+  letter = ap (λ t. t.letter) e;
+  label = ap (λ t. t.label) e;
+  ends = ap (λ t. t.ends) e;
+  newlines = ap (λ t. t.newlines) e;
+  found = ap (λ t. t.found) e;
+  stands = ap (λ t. t.stands) e;
+  same = same;
+}
+
+known : (k : Keyword) (os : List Operand) (o : Option Keyword) → o ≡ Some k → stands_in k Code ≡ true →
+    read_known Code [] os o ≡ with_labels [] (item k os)
 known k os o e h = ap (read_known Code [] os) e ∙ stands
   where
     stands : read_known Code [] os (Some k) ≡ with_labels [] (item k os)
@@ -102,7 +138,8 @@ plain n = record { negative = false; size = n }
 fills_three : (rd rs rt : ℕ) (x y z : List ℕ) → register x ≡ Some rd → register y ≡ Some rs → register z ≡ Some rt →
     fill_all (Rd ∷ Rs ∷ Rt ∷ []) (Plain x ∷ Plain y ∷ Plain z ∷ []) unfilled ≡ Some (fields rd rs rt nothing [])
 fills_three rd rs rt x y z a b c =
-    step Rd (Rs ∷ Rt ∷ []) (Plain x) (Plain y ∷ Plain z ∷ []) (fields 31 0 0 nothing []) (fields rd 0 0 nothing []) (rd_in x rd (fields 31 0 0 nothing []) a)
+    step Rd (Rs ∷ Rt ∷ []) (Plain x) (Plain y ∷ Plain z ∷ []) (fields 31 0 0 nothing []) (fields rd 0 0 nothing [])
+    (rd_in x rd (fields 31 0 0 nothing []) a)
     ∙ step Rs (Rt ∷ []) (Plain y) (Plain z ∷ []) (fields rd 0 0 nothing []) (fields rd rs 0 nothing []) (rs_in y rs (fields rd 0 0 nothing []) b)
     ∙ step Rt ([]) (Plain z) ([]) (fields rd rs 0 nothing []) (fields rd rs rt nothing []) (rt_in z rt (fields rd rs 0 nothing []) c)
 
@@ -182,265 +219,192 @@ small_text n limit h k = decimal_text n (omega (arith, h, k))
 below_within : (n limit : ℕ) → n < limit + 1 → is_within 0 limit (plain n) ≡ true
 below_within n limit h = plain_within n limit (omega (arith, h))
 
+-- three registers
+three : {one : Mips} {target : List ℕ} (k : Keyword) (c : ℕ) (word : List ℕ) (rd rs rt : ℕ) → Ready k c word → (rd < 32) × (rs < 32) × (rt < 32) →
+    slots k 3 ≡ Rd ∷ Rs ∷ Rt ∷ [] → is_within (least k) (greatest k) nothing ≡ true →
+    coded k (fields rd rs rt nothing []) ≡ coded_row one target ∷ [] →
+    ReadsBack one target ((c ∷ word) ++ joined (name_of rd ∷ name_of rs ∷ name_of rt ∷ []))
+three {one = one} {target = target} k c word rd rs rt r h s w e =
+    back_of one target k c word (name_of rd ∷ name_of rs ∷ name_of rt ∷ []) (fields rd rs rt nothing []) r
+    (name_word rd h.0, (name_word rs h.1, (name_word rt h.2, tt)))
+    (ap (λ ss. fill_all ss (Plain (name_of rd) ∷ Plain (name_of rs) ∷ Plain (name_of rt) ∷ []) unfilled) s
+    ∙ fills_three rd rs rt (name_of rd) (name_of rs) (name_of rt) (register_named rd h.0) (register_named rs h.1) (register_named rt h.2)) w e
+
+-- two registers and a number of bits
+shift : {one : Mips} {target : List ℕ} (k : Keyword) (c : ℕ) (word : List ℕ) (rd rt n : ℕ) → Ready k c word → (rd < 32) × (rt < 32) × (n < 32) →
+    slots k 3 ≡ Rd ∷ Rt ∷ Number ∷ [] → is_within (least k) (greatest k) (plain n) ≡ true →
+    coded k (fields rd 0 rt (plain n) []) ≡ coded_row one target ∷ [] →
+    ReadsBack one target ((c ∷ word) ++ joined (name_of rd ∷ name_of rt ∷ decimal n ∷ []))
+shift {one = one} {target = target} k c word rd rt n r h s w e =
+    back_of one target k c word (name_of rd ∷ name_of rt ∷ decimal n ∷ []) (fields rd 0 rt (plain n) []) r
+    (name_word rd h.0, (name_word rt h.1, ((small_text n 32 h.2 (lit≤ tt)).word, tt)))
+    (ap (λ ss. fill_all ss (Plain (name_of rd) ∷ Plain (name_of rt) ∷ Plain (decimal n) ∷ []) unfilled) s
+    ∙ fills_shift rd rt (plain n) (name_of rd) (name_of rt) (decimal n) (register_named rd h.0) (register_named rt h.1)
+    (small_text n 32 h.2 (lit≤ tt)).read) w e
+
+-- two registers that are read
+two : {one : Mips} {target : List ℕ} (k : Keyword) (c : ℕ) (word : List ℕ) (rs rt : ℕ) → Ready k c word → (rs < 32) × (rt < 32) →
+    slots k 2 ≡ Rs ∷ Rt ∷ [] → is_within (least k) (greatest k) nothing ≡ true →
+    coded k (fields 31 rs rt nothing []) ≡ coded_row one target ∷ [] →
+    ReadsBack one target ((c ∷ word) ++ joined (name_of rs ∷ name_of rt ∷ []))
+two {one = one} {target = target} k c word rs rt r h s w e =
+    back_of one target k c word (name_of rs ∷ name_of rt ∷ []) (fields 31 rs rt nothing []) r
+    (name_word rs h.0, (name_word rt h.1, tt))
+    (ap (λ ss. fill_all ss (Plain (name_of rs) ∷ Plain (name_of rt) ∷ []) unfilled) s
+    ∙ fills_two rs rt (name_of rs) (name_of rt) (register_named rs h.0) (register_named rt h.1)) w e
+
+-- the register that a half of a product goes to
+from_half : {one : Mips} {target : List ℕ} (k : Keyword) (c : ℕ) (word : List ℕ) (rd : ℕ) → Ready k c word → rd < 32 →
+    slots k 1 ≡ Rd ∷ [] → is_within (least k) (greatest k) nothing ≡ true →
+    coded k (fields rd 0 0 nothing []) ≡ coded_row one target ∷ [] →
+    ReadsBack one target ((c ∷ word) ++ joined (name_of rd ∷ []))
+from_half {one = one} {target = target} k c word rd r h s w e =
+    back_of one target k c word (name_of rd ∷ []) (fields rd 0 0 nothing []) r
+    (name_word rd h, tt)
+    (ap (λ ss. fill_all ss (Plain (name_of rd) ∷ []) unfilled) s
+    ∙ fills_rd rd (name_of rd) (register_named rd h)) w e
+
+-- two registers and a number with a sign
+signed : {one : Mips} {target : List ℕ} (k : Keyword) (c : ℕ) (word : List ℕ) (rt rs n : ℕ) → Ready k c word →
+    (rt < 32) × (rs < 32) × (n < 2 ^ 16) → slots k 3 ≡ Rt ∷ Rs ∷ Number ∷ [] → is_within (least k) (greatest k) (signed_of n) ≡ true →
+    coded k (fields 31 rs rt (signed_of n) []) ≡ coded_row one target ∷ [] →
+    ReadsBack one target ((c ∷ word) ++ joined (name_of rt ∷ name_of rs ∷ signed_text n ∷ []))
+signed {one = one} {target = target} k c word rt rs n r h s w e =
+    back_of one target k c word (name_of rt ∷ name_of rs ∷ signed_text n ∷ []) (fields 31 rs rt (signed_of n) []) r
+    (name_word rt h.0, (name_word rs h.1, ((signed_number n h.2).word, tt)))
+    (ap (λ ss. fill_all ss (Plain (name_of rt) ∷ Plain (name_of rs) ∷ Plain (signed_text n) ∷ []) unfilled) s
+    ∙ fills_numbered rt rs (signed_of n) (name_of rt) (name_of rs) (signed_text n)
+    (register_named rt h.0) (register_named rs h.1) (signed_number n h.2).read) w e
+
+-- two registers and a number without a sign
+unsigned : {one : Mips} {target : List ℕ} (k : Keyword) (c : ℕ) (word : List ℕ) (rt rs n : ℕ) → Ready k c word → (rt < 32) × (rs < 32) × (n < 65536) →
+    slots k 3 ≡ Rt ∷ Rs ∷ Number ∷ [] → is_within (least k) (greatest k) (plain n) ≡ true →
+    coded k (fields 31 rs rt (plain n) []) ≡ coded_row one target ∷ [] →
+    ReadsBack one target ((c ∷ word) ++ joined (name_of rt ∷ name_of rs ∷ decimal n ∷ []))
+unsigned {one = one} {target = target} k c word rt rs n r h s w e =
+    back_of one target k c word (name_of rt ∷ name_of rs ∷ decimal n ∷ []) (fields 31 rs rt (plain n) []) r
+    (name_word rt h.0, (name_word rs h.1, ((small_text n 65536 h.2 (lit≤ tt)).word, tt)))
+    (ap (λ ss. fill_all ss (Plain (name_of rt) ∷ Plain (name_of rs) ∷ Plain (decimal n) ∷ []) unfilled) s
+    ∙ fills_numbered rt rs (plain n) (name_of rt) (name_of rs) (decimal n)
+    (register_named rt h.0) (register_named rs h.1) (small_text n 65536 h.2 (lit≤ tt)).read) w e
+
+-- a register and a number beside a base
+offset : {one : Mips} {target : List ℕ} (k : Keyword) (c : ℕ) (word : List ℕ) (rt n rs : ℕ) → Ready k c word → (rt < 32) × (n < 2 ^ 16) × (rs < 32) →
+    slots k 2 ≡ Rt ∷ Based ∷ [] → is_within (least k) (greatest k) (signed_of n) ≡ true →
+    coded k (fields 31 rs rt (signed_of n) []) ≡ coded_row one target ∷ [] →
+    ReadsBack one target ((c ∷ word) ++ joined (name_of rt ∷ based_text n rs ∷ []))
+offset {one = one} {target = target} k c word rt n rs r h s w e =
+    back_of one target k c word (name_of rt ∷ based_text n rs ∷ []) (fields 31 rs rt (signed_of n) []) r
+    (name_word rt h.0, (based_word n rs h.1 h.2, tt))
+    (ap (λ ss. fill_all ss (Plain (name_of rt) ∷ Plain (based_text n rs) ∷ []) unfilled) s
+    ∙ fills_based rt rs (signed_of n) (name_of rt) (based_text n rs) (register_named rt h.0) (based_read n rs h.1 h.2)) w e
+
+-- a label
+jump : {one : Mips} {target : List ℕ} (k : Keyword) (c : ℕ) (word : List ℕ) → Ready k c word → is_label target ≡ true →
+    slots k 1 ≡ Label ∷ [] → is_within (least k) (greatest k) nothing ≡ true →
+    coded k (fields 31 0 0 nothing target) ≡ coded_row one target ∷ [] →
+    ReadsBack one target ((c ∷ word) ++ joined (target ∷ []))
+jump {one = one} {target = target} k c word r h s w e =
+    back_of one target k c word (target ∷ []) (fields 31 0 0 nothing target) r
+    (label_word target h, tt)
+    (ap (λ ss. fill_all ss (Plain target ∷ []) unfilled) s
+    ∙ fills_jump target h) w e
+
+-- a register and a label
+branch : {one : Mips} {target : List ℕ} (k : Keyword) (c : ℕ) (word : List ℕ) (rs : ℕ) → Ready k c word → (rs < 32) × (is_label target ≡ true) →
+    slots k 2 ≡ Rs ∷ Label ∷ [] → is_within (least k) (greatest k) nothing ≡ true →
+    coded k (fields 31 rs 0 nothing target) ≡ coded_row one target ∷ [] →
+    ReadsBack one target ((c ∷ word) ++ joined (name_of rs ∷ target ∷ []))
+branch {one = one} {target = target} k c word rs r h s w e =
+    back_of one target k c word (name_of rs ∷ target ∷ []) (fields 31 rs 0 nothing target) r
+    (name_word rs h.0, (label_word target h.1, tt))
+    (ap (λ ss. fill_all ss (Plain (name_of rs) ∷ Plain target ∷ []) unfilled) s
+    ∙ fills_branch rs (name_of rs) target (register_named rs h.0) h.1) w e
+
+-- two registers and a label
+branch_two : {one : Mips} {target : List ℕ} (k : Keyword) (c : ℕ) (word : List ℕ) (rs rt : ℕ) → Ready k c word →
+    (rs < 32) × (rt < 32) × (is_label target ≡ true) →
+    slots k 3 ≡ Rs ∷ Rt ∷ Label ∷ [] → is_within (least k) (greatest k) nothing ≡ true →
+    coded k (fields 31 rs rt nothing target) ≡ coded_row one target ∷ [] →
+    ReadsBack one target ((c ∷ word) ++ joined (name_of rs ∷ name_of rt ∷ target ∷ []))
+branch_two {one = one} {target = target} k c word rs rt r h s w e =
+    back_of one target k c word (name_of rs ∷ name_of rt ∷ target ∷ []) (fields 31 rs rt nothing target) r
+    (name_word rs h.0, (name_word rt h.1, (label_word target h.2, tt)))
+    (ap (λ ss. fill_all ss (Plain (name_of rs) ∷ Plain (name_of rt) ∷ Plain target ∷ []) unfilled) s
+    ∙ fills_branch_two rs rt (name_of rs) (name_of rt) target (register_named rs h.0) (register_named rt h.1) h.2) w e
+
 pub reads : (one : Mips) (target : List ℕ) → IsRow (unlabelled_row one) → (takes_label one ≡ true → is_label target ≡ true) →
     ReadsBack one target (line_of one target)
-reads (row.Sll rd rt n) target h l = back_of (row.Sll rd rt n) target Sll 115 (108 ∷ 108 ∷ []) (name_of rd ∷ name_of rt ∷
-    decimal n ∷ []) (fields rd 0 rt (plain n) []) (record {
-      letter = refl;
-      label = refl;
-      ends = refl;
-      newlines = refl;
-      found = refl;
-      stands = refl;
-      same = λ os. refl;
-    }) (name_word rd h.0, (name_word rt h.1, ((small_text n 32 h.2 (lit≤ tt)).word, tt)))
-    (fills_shift rd rt (plain n) (name_of rd) (name_of rt) (decimal n) (register_named rd h.0) (register_named rt h.1)
-    (small_text n 32 h.2 (lit≤ tt)).read) (below_within n 31 h.2) (ap (λ m. Fixed (row.Sll rd rt m) ∷ []) (plain_field 5 n h.2))
-reads (row.Srl rd rt n) target h l = back_of (row.Srl rd rt n) target Srl 115 (114 ∷ 108 ∷ []) (name_of rd ∷ name_of rt ∷
-    decimal n ∷ []) (fields rd 0 rt (plain n) []) (record {
-      letter = refl;
-      label = refl;
-      ends = refl;
-      newlines = refl;
-      found = refl;
-      stands = refl;
-      same = λ os. refl;
-    }) (name_word rd h.0, (name_word rt h.1, ((small_text n 32 h.2 (lit≤ tt)).word, tt)))
-    (fills_shift rd rt (plain n) (name_of rd) (name_of rt) (decimal n) (register_named rd h.0) (register_named rt h.1)
-    (small_text n 32 h.2 (lit≤ tt)).read) (below_within n 31 h.2) (ap (λ m. Fixed (row.Srl rd rt m) ∷ []) (plain_field 5 n h.2))
-reads (row.Sra rd rt n) target h l = back_of (row.Sra rd rt n) target Sra 115 (114 ∷ 97 ∷ []) (name_of rd ∷ name_of rt ∷
-    decimal n ∷ []) (fields rd 0 rt (plain n) []) (record {
-      letter = refl;
-      label = refl;
-      ends = refl;
-      newlines = refl;
-      found = refl;
-      stands = refl;
-      same = λ os. refl;
-    }) (name_word rd h.0, (name_word rt h.1, ((small_text n 32 h.2 (lit≤ tt)).word, tt)))
-    (fills_shift rd rt (plain n) (name_of rd) (name_of rt) (decimal n) (register_named rd h.0) (register_named rt h.1)
-    (small_text n 32 h.2 (lit≤ tt)).read) (below_within n 31 h.2) (ap (λ m. Fixed (row.Sra rd rt m) ∷ []) (plain_field 5 n h.2))
+reads (row.Sll rd rt n) target h l = shift Sll 115 (108 ∷ 108 ∷ []) rd rt n (ready refl (λ os. refl)) h refl
+    (below_within n 31 h.2) (ap (λ m. Fixed (row.Sll rd rt m) ∷ []) (plain_field 5 n h.2))
+reads (row.Srl rd rt n) target h l = shift Srl 115 (114 ∷ 108 ∷ []) rd rt n (ready refl (λ os. refl)) h refl
+    (below_within n 31 h.2) (ap (λ m. Fixed (row.Srl rd rt m) ∷ []) (plain_field 5 n h.2))
+reads (row.Sra rd rt n) target h l = shift Sra 115 (114 ∷ 97 ∷ []) rd rt n (ready refl (λ os. refl)) h refl
+    (below_within n 31 h.2) (ap (λ m. Fixed (row.Sra rd rt m) ∷ []) (plain_field 5 n h.2))
 reads (row.Jr rs) target h l = back_of (row.Jr rs) target Jr 106 (114 ∷ []) (name_of rs ∷ []) (fields 31 rs 0 nothing [])
-    (record { letter = refl; label = refl; ends = refl; newlines = refl; found = refl; stands = refl; same = λ os. refl })
-    (name_word rs h, tt) (fills_rs rs (name_of rs) (register_named rs h)) refl refl
+    (ready refl (λ os. refl)) (name_word rs h, tt) (fills_rs rs (name_of rs) (register_named rs h)) refl refl
 reads (row.Jalr rd rs) target h l = back_of (row.Jalr rd rs) target Jalr 106 (97 ∷ 108 ∷ 114 ∷ []) (name_of rd ∷ name_of rs ∷ [])
-    (fields rd rs 0 nothing []) (record { letter = refl; label = refl; ends = refl; newlines = refl; found = refl; stands = refl; same = λ os. refl })
-    (name_word rd h.0, (name_word rs h.1, tt)) (fills_linked rd rs (name_of rd) (name_of rs) (register_named rd h.0) (register_named rs h.1)) refl refl
+    (fields rd rs 0 nothing []) (ready refl (λ os. refl)) (name_word rd h.0, (name_word rs h.1, tt))
+    (fills_linked rd rs (name_of rd) (name_of rs) (register_named rd h.0) (register_named rs h.1)) refl refl
 reads row.Syscall target h l = back_of row.Syscall target Syscall 115 (121 ∷ 115 ∷ 99 ∷ 97 ∷ 108 ∷ 108 ∷ []) [] unfilled
-    (record { letter = refl; label = refl; ends = refl; newlines = refl; found = refl; stands = refl; same = λ os. refl }) tt refl refl refl
+    (ready refl (λ os. refl)) tt refl refl refl
 reads (row.Break n) target h l = back_of (row.Break n) target Break 98 (114 ∷ 101 ∷ 97 ∷ 107 ∷ []) (decimal n ∷ [])
-    (fields 31 0 0 (plain n) []) (record { letter = refl; label = refl; ends = refl; newlines = refl; found = refl; stands = refl; same = λ os. refl })
+    (fields 31 0 0 (plain n) []) (ready refl (λ os. refl))
     ((small_text n 1048576 h (lit≤ tt)).word, tt) (fills_code (plain n) (decimal n) (small_text n 1048576 h (lit≤ tt)).read)
     (below_within n 1048575 h) (ap (λ m. Fixed (row.Break m) ∷ []) (plain_field 20 n h))
-reads (row.Mfhi rd) target h l = back_of (row.Mfhi rd) target Mfhi 109 (102 ∷ 104 ∷ 105 ∷ []) (name_of rd ∷ [])
-    (fields rd 0 0 nothing []) (record { letter = refl; label = refl; ends = refl; newlines = refl; found = refl; stands = refl; same = λ os. refl })
-    (name_word rd h, tt) (fills_rd rd (name_of rd) (register_named rd h)) refl refl
-reads (row.Mflo rd) target h l = back_of (row.Mflo rd) target Mflo 109 (102 ∷ 108 ∷ 111 ∷ []) (name_of rd ∷ [])
-    (fields rd 0 0 nothing []) (record { letter = refl; label = refl; ends = refl; newlines = refl; found = refl; stands = refl; same = λ os. refl })
-    (name_word rd h, tt) (fills_rd rd (name_of rd) (register_named rd h)) refl refl
-reads (row.Mult rs rt) target h l = back_of (row.Mult rs rt) target Mult 109 (117 ∷ 108 ∷ 116 ∷ []) (name_of rs ∷ name_of rt ∷ [])
-    (fields 31 rs rt nothing []) (record { letter = refl; label = refl; ends = refl; newlines = refl; found = refl; stands = refl; same = λ os. refl })
-    (name_word rs h.0, (name_word rt h.1, tt)) (fills_two rs rt (name_of rs) (name_of rt) (register_named rs h.0) (register_named rt h.1)) refl refl
-reads (row.Div rs rt) target h l = back_of (row.Div rs rt) target Div 100 (105 ∷ 118 ∷ []) (name_of rs ∷ name_of rt ∷ [])
-    (fields 31 rs rt nothing []) (record { letter = refl; label = refl; ends = refl; newlines = refl; found = refl; stands = refl; same = λ os. refl })
-    (name_word rs h.0, (name_word rt h.1, tt)) (fills_two rs rt (name_of rs) (name_of rt) (register_named rs h.0) (register_named rt h.1)) refl refl
-reads (row.Add rd rs rt) target h l = back_of (row.Add rd rs rt) target Add 97 (100 ∷ 100 ∷ []) (name_of rd ∷ name_of rs ∷
-    name_of rt ∷ []) (fields rd rs rt nothing []) (record {
-      letter = refl;
-      label = refl;
-      ends = refl;
-      newlines = refl;
-      found = refl;
-      stands = refl;
-      same = λ os. refl;
-    }) (name_word rd h.0, (name_word rs h.1, (name_word rt h.2, tt)))
-    (fills_three rd rs rt (name_of rd) (name_of rs) (name_of rt) (register_named rd h.0) (register_named rs h.1) (register_named rt h.2)) refl refl
-reads (row.Sub rd rs rt) target h l = back_of (row.Sub rd rs rt) target Sub 115 (117 ∷ 98 ∷ []) (name_of rd ∷ name_of rs ∷
-    name_of rt ∷ []) (fields rd rs rt nothing []) (record {
-      letter = refl;
-      label = refl;
-      ends = refl;
-      newlines = refl;
-      found = refl;
-      stands = refl;
-      same = λ os. refl;
-    }) (name_word rd h.0, (name_word rs h.1, (name_word rt h.2, tt)))
-    (fills_three rd rs rt (name_of rd) (name_of rs) (name_of rt) (register_named rd h.0) (register_named rs h.1) (register_named rt h.2)) refl refl
-reads (row.Addu rd rs rt) target h l = back_of (row.Addu rd rs rt) target Addu 97 (100 ∷ 100 ∷ 117 ∷ [])
-    (name_of rd ∷ name_of rs ∷ name_of rt ∷ []) (fields rd rs rt nothing [])
-    (record { letter = refl; label = refl; ends = refl; newlines = refl; found = refl; stands = refl; same = λ os. refl })
-    (name_word rd h.0, (name_word rs h.1, (name_word rt h.2, tt))) (fills_three rd rs rt (name_of rd) (name_of rs) (name_of rt)
-    (register_named rd h.0) (register_named rs h.1) (register_named rt h.2)) refl refl
-reads (row.Subu rd rs rt) target h l = back_of (row.Subu rd rs rt) target Subu 115 (117 ∷ 98 ∷ 117 ∷ [])
-    (name_of rd ∷ name_of rs ∷ name_of rt ∷ []) (fields rd rs rt nothing [])
-    (record { letter = refl; label = refl; ends = refl; newlines = refl; found = refl; stands = refl; same = λ os. refl })
-    (name_word rd h.0, (name_word rs h.1, (name_word rt h.2, tt))) (fills_three rd rs rt (name_of rd) (name_of rs) (name_of rt)
-    (register_named rd h.0) (register_named rs h.1) (register_named rt h.2)) refl refl
-reads (row.And rd rs rt) target h l = back_of (row.And rd rs rt) target And 97 (110 ∷ 100 ∷ []) (name_of rd ∷ name_of rs ∷
-    name_of rt ∷ []) (fields rd rs rt nothing []) (record {
-      letter = refl;
-      label = refl;
-      ends = refl;
-      newlines = refl;
-      found = refl;
-      stands = refl;
-      same = λ os. refl;
-    }) (name_word rd h.0, (name_word rs h.1, (name_word rt h.2, tt)))
-    (fills_three rd rs rt (name_of rd) (name_of rs) (name_of rt) (register_named rd h.0) (register_named rs h.1) (register_named rt h.2)) refl refl
-reads (row.Or rd rs rt) target h l = back_of (row.Or rd rs rt) target Or 111 (114 ∷ []) (name_of rd ∷ name_of rs ∷ name_of rt ∷ [])
-    (fields rd rs rt nothing []) (record { letter = refl; label = refl; ends = refl; newlines = refl; found = refl; stands = refl; same = λ os. refl })
-    (name_word rd h.0, (name_word rs h.1, (name_word rt h.2, tt))) (fills_three rd rs rt (name_of rd) (name_of rs) (name_of rt)
-    (register_named rd h.0) (register_named rs h.1) (register_named rt h.2)) refl refl
-reads (row.Xor rd rs rt) target h l = back_of (row.Xor rd rs rt) target Xor 120 (111 ∷ 114 ∷ []) (name_of rd ∷ name_of rs ∷
-    name_of rt ∷ []) (fields rd rs rt nothing []) (record {
-      letter = refl;
-      label = refl;
-      ends = refl;
-      newlines = refl;
-      found = refl;
-      stands = refl;
-      same = λ os. refl;
-    }) (name_word rd h.0, (name_word rs h.1, (name_word rt h.2, tt)))
-    (fills_three rd rs rt (name_of rd) (name_of rs) (name_of rt) (register_named rd h.0) (register_named rs h.1) (register_named rt h.2)) refl refl
-reads (row.Nor rd rs rt) target h l = back_of (row.Nor rd rs rt) target Nor 110 (111 ∷ 114 ∷ []) (name_of rd ∷ name_of rs ∷
-    name_of rt ∷ []) (fields rd rs rt nothing []) (record {
-      letter = refl;
-      label = refl;
-      ends = refl;
-      newlines = refl;
-      found = refl;
-      stands = refl;
-      same = λ os. refl;
-    }) (name_word rd h.0, (name_word rs h.1, (name_word rt h.2, tt)))
-    (fills_three rd rs rt (name_of rd) (name_of rs) (name_of rt) (register_named rd h.0) (register_named rs h.1) (register_named rt h.2)) refl refl
-reads (row.Slt rd rs rt) target h l = back_of (row.Slt rd rs rt) target Slt 115 (108 ∷ 116 ∷ []) (name_of rd ∷ name_of rs ∷
-    name_of rt ∷ []) (fields rd rs rt nothing []) (record {
-      letter = refl;
-      label = refl;
-      ends = refl;
-      newlines = refl;
-      found = refl;
-      stands = refl;
-      same = λ os. refl;
-    }) (name_word rd h.0, (name_word rs h.1, (name_word rt h.2, tt)))
-    (fills_three rd rs rt (name_of rd) (name_of rs) (name_of rt) (register_named rd h.0) (register_named rs h.1) (register_named rt h.2)) refl refl
-reads (row.Sltu rd rs rt) target h l = back_of (row.Sltu rd rs rt) target Sltu 115 (108 ∷ 116 ∷ 117 ∷ [])
-    (name_of rd ∷ name_of rs ∷ name_of rt ∷ []) (fields rd rs rt nothing [])
-    (record { letter = refl; label = refl; ends = refl; newlines = refl; found = refl; stands = refl; same = λ os. refl })
-    (name_word rd h.0, (name_word rs h.1, (name_word rt h.2, tt))) (fills_three rd rs rt (name_of rd) (name_of rs) (name_of rt)
-    (register_named rd h.0) (register_named rs h.1) (register_named rt h.2)) refl refl
-reads (row.J n) target h l = back_of (row.J n) target J 106 [] (target ∷ []) (fields 31 0 0 nothing target)
-    (record { letter = refl; label = refl; ends = refl; newlines = refl; found = refl; stands = refl; same = λ os. refl })
-    (label_word target (l refl), tt) (fills_jump target (l refl)) refl refl
-reads (row.Jal n) target h l = back_of (row.Jal n) target Jal 106 (97 ∷ 108 ∷ []) (target ∷ []) (fields 31 0 0 nothing target)
-    (record { letter = refl; label = refl; ends = refl; newlines = refl; found = refl; stands = refl; same = λ os. refl })
-    (label_word target (l refl), tt) (fills_jump target (l refl)) refl refl
-reads (row.Beq rs rt n) target h l = back_of (row.Beq rs rt n) target Beq 98 (101 ∷ 113 ∷ []) (name_of rs ∷ name_of rt ∷
-    target ∷ []) (fields 31 rs rt nothing target) (record {
-      letter = refl;
-      label = refl;
-      ends = refl;
-      newlines = refl;
-      found = refl;
-      stands = refl;
-      same = λ os. refl;
-    }) (name_word rs h.0, (name_word rt h.1, (label_word target (l refl), tt)))
-    (fills_branch_two rs rt (name_of rs) (name_of rt) target (register_named rs h.0) (register_named rt h.1) (l refl)) refl refl
-reads (row.Bne rs rt n) target h l = back_of (row.Bne rs rt n) target Bne 98 (110 ∷ 101 ∷ []) (name_of rs ∷ name_of rt ∷
-    target ∷ []) (fields 31 rs rt nothing target) (record {
-      letter = refl;
-      label = refl;
-      ends = refl;
-      newlines = refl;
-      found = refl;
-      stands = refl;
-      same = λ os. refl;
-    }) (name_word rs h.0, (name_word rt h.1, (label_word target (l refl), tt)))
-    (fills_branch_two rs rt (name_of rs) (name_of rt) target (register_named rs h.0) (register_named rt h.1) (l refl)) refl refl
-reads (row.Blez rs n) target h l = back_of (row.Blez rs n) target Blez 98 (108 ∷ 101 ∷ 122 ∷ []) (name_of rs ∷ target ∷ [])
-    (fields 31 rs 0 nothing target) (record { letter = refl; label = refl; ends = refl; newlines = refl; found = refl; stands = refl; same = λ os. refl })
-    (name_word rs h.0, (label_word target (l refl), tt)) (fills_branch rs (name_of rs) target (register_named rs h.0) (l refl)) refl refl
-reads (row.Bgtz rs n) target h l = back_of (row.Bgtz rs n) target Bgtz 98 (103 ∷ 116 ∷ 122 ∷ []) (name_of rs ∷ target ∷ [])
-    (fields 31 rs 0 nothing target) (record { letter = refl; label = refl; ends = refl; newlines = refl; found = refl; stands = refl; same = λ os. refl })
-    (name_word rs h.0, (label_word target (l refl), tt)) (fills_branch rs (name_of rs) target (register_named rs h.0) (l refl)) refl refl
-reads (row.Bltz rs n) target h l = back_of (row.Bltz rs n) target Bltz 98 (108 ∷ 116 ∷ 122 ∷ []) (name_of rs ∷ target ∷ [])
-    (fields 31 rs 0 nothing target) (record { letter = refl; label = refl; ends = refl; newlines = refl; found = refl; stands = refl; same = λ os. refl })
-    (name_word rs h.0, (label_word target (l refl), tt)) (fills_branch rs (name_of rs) target (register_named rs h.0) (l refl)) refl refl
-reads (row.Bgez rs n) target h l = back_of (row.Bgez rs n) target Bgez 98 (103 ∷ 101 ∷ 122 ∷ []) (name_of rs ∷ target ∷ [])
-    (fields 31 rs 0 nothing target) (record { letter = refl; label = refl; ends = refl; newlines = refl; found = refl; stands = refl; same = λ os. refl })
-    (name_word rs h.0, (label_word target (l refl), tt)) (fills_branch rs (name_of rs) target (register_named rs h.0) (l refl)) refl refl
-reads (row.Addi rt rs n) target h l = back_of (row.Addi rt rs n) target Addi 97 (100 ∷ 100 ∷ 105 ∷ [])
-    (name_of rt ∷ name_of rs ∷ signed_text n ∷ []) (fields 31 rs rt (signed_of n) [])
-    (record { letter = refl; label = refl; ends = refl; newlines = refl; found = refl; stands = refl; same = λ os. refl })
-    (name_word rt h.0, (name_word rs h.1, ((signed_number n h.2).word, tt)))
-    (fills_numbered rt rs (signed_of n) (name_of rt) (name_of rs) (signed_text n) (register_named rt h.0) (register_named rs h.1) (signed_number n h.2).read)
+reads (row.Mfhi rd) target h l = from_half Mfhi 109 (102 ∷ 104 ∷ 105 ∷ []) rd (ready refl (λ os. refl)) h refl refl refl
+reads (row.Mflo rd) target h l = from_half Mflo 109 (102 ∷ 108 ∷ 111 ∷ []) rd (ready refl (λ os. refl)) h refl refl refl
+reads (row.Mult rs rt) target h l = two Mult 109 (117 ∷ 108 ∷ 116 ∷ []) rs rt (ready refl (λ os. refl)) h refl refl refl
+reads (row.Div rs rt) target h l = two Div 100 (105 ∷ 118 ∷ []) rs rt (ready refl (λ os. refl)) h refl refl refl
+reads (row.Add rd rs rt) target h l = three Add 97 (100 ∷ 100 ∷ []) rd rs rt (ready refl (λ os. refl)) h refl refl refl
+reads (row.Sub rd rs rt) target h l = three Sub 115 (117 ∷ 98 ∷ []) rd rs rt (ready refl (λ os. refl)) h refl refl refl
+reads (row.Addu rd rs rt) target h l = three Addu 97 (100 ∷ 100 ∷ 117 ∷ []) rd rs rt (ready refl (λ os. refl)) h refl refl refl
+reads (row.Subu rd rs rt) target h l = three Subu 115 (117 ∷ 98 ∷ 117 ∷ []) rd rs rt (ready refl (λ os. refl)) h refl refl refl
+reads (row.And rd rs rt) target h l = three And 97 (110 ∷ 100 ∷ []) rd rs rt (ready refl (λ os. refl)) h refl refl refl
+reads (row.Or rd rs rt) target h l = three Or 111 (114 ∷ []) rd rs rt (ready refl (λ os. refl)) h refl refl refl
+reads (row.Xor rd rs rt) target h l = three Xor 120 (111 ∷ 114 ∷ []) rd rs rt (ready refl (λ os. refl)) h refl refl refl
+reads (row.Nor rd rs rt) target h l = three Nor 110 (111 ∷ 114 ∷ []) rd rs rt (ready refl (λ os. refl)) h refl refl refl
+reads (row.Slt rd rs rt) target h l = three Slt 115 (108 ∷ 116 ∷ []) rd rs rt (ready refl (λ os. refl)) h refl refl refl
+reads (row.Sltu rd rs rt) target h l = three Sltu 115 (108 ∷ 116 ∷ 117 ∷ []) rd rs rt (ready refl (λ os. refl)) h refl refl refl
+reads (row.J n) target h l = jump J 106 [] (ready refl (λ os. refl)) (l refl) refl refl refl
+reads (row.Jal n) target h l = jump Jal 106 (97 ∷ 108 ∷ []) (ready refl (λ os. refl)) (l refl) refl refl refl
+reads (row.Beq rs rt n) target h l = branch_two Beq 98 (101 ∷ 113 ∷ []) rs rt (ready refl (λ os. refl))
+    (h.0, h.1, l refl) refl refl refl
+reads (row.Bne rs rt n) target h l = branch_two Bne 98 (110 ∷ 101 ∷ []) rs rt (ready refl (λ os. refl))
+    (h.0, h.1, l refl) refl refl refl
+reads (row.Blez rs n) target h l = branch Blez 98 (108 ∷ 101 ∷ 122 ∷ []) rs (ready refl (λ os. refl)) (h.0, l refl) refl refl refl
+reads (row.Bgtz rs n) target h l = branch Bgtz 98 (103 ∷ 116 ∷ 122 ∷ []) rs (ready refl (λ os. refl)) (h.0, l refl) refl refl refl
+reads (row.Bltz rs n) target h l = branch Bltz 98 (108 ∷ 116 ∷ 122 ∷ []) rs (ready refl (λ os. refl)) (h.0, l refl) refl refl refl
+reads (row.Bgez rs n) target h l = branch Bgez 98 (103 ∷ 101 ∷ 122 ∷ []) rs (ready refl (λ os. refl)) (h.0, l refl) refl refl refl
+reads (row.Addi rt rs n) target h l = signed Addi 97 (100 ∷ 100 ∷ 105 ∷ []) rt rs n (ready refl (λ os. refl)) h refl
     (signed_within n h.2) (ap (λ m. Fixed (row.Addi rt rs m) ∷ []) (signed_field n h.2))
-reads (row.Addiu rt rs n) target h l = back_of (row.Addiu rt rs n) target Addiu 97 (100 ∷ 100 ∷ 105 ∷ 117 ∷ [])
-    (name_of rt ∷ name_of rs ∷ signed_text n ∷ []) (fields 31 rs rt (signed_of n) [])
-    (record { letter = refl; label = refl; ends = refl; newlines = refl; found = refl; stands = refl; same = λ os. refl })
-    (name_word rt h.0, (name_word rs h.1, ((signed_number n h.2).word, tt)))
-    (fills_numbered rt rs (signed_of n) (name_of rt) (name_of rs) (signed_text n) (register_named rt h.0) (register_named rs h.1) (signed_number n h.2).read)
+reads (row.Addiu rt rs n) target h l = signed Addiu 97 (100 ∷ 100 ∷ 105 ∷ 117 ∷ []) rt rs n (ready refl (λ os. refl)) h refl
     (signed_within n h.2) (ap (λ m. Fixed (row.Addiu rt rs m) ∷ []) (signed_field n h.2))
-reads (row.Slti rt rs n) target h l = back_of (row.Slti rt rs n) target Slti 115 (108 ∷ 116 ∷ 105 ∷ [])
-    (name_of rt ∷ name_of rs ∷ signed_text n ∷ []) (fields 31 rs rt (signed_of n) [])
-    (record { letter = refl; label = refl; ends = refl; newlines = refl; found = refl; stands = refl; same = λ os. refl })
-    (name_word rt h.0, (name_word rs h.1, ((signed_number n h.2).word, tt)))
-    (fills_numbered rt rs (signed_of n) (name_of rt) (name_of rs) (signed_text n) (register_named rt h.0) (register_named rs h.1) (signed_number n h.2).read)
+reads (row.Slti rt rs n) target h l = signed Slti 115 (108 ∷ 116 ∷ 105 ∷ []) rt rs n (ready refl (λ os. refl)) h refl
     (signed_within n h.2) (ap (λ m. Fixed (row.Slti rt rs m) ∷ []) (signed_field n h.2))
-reads (row.Sltiu rt rs n) target h l = back_of (row.Sltiu rt rs n) target Sltiu 115 (108 ∷ 116 ∷ 105 ∷ 117 ∷ [])
-    (name_of rt ∷ name_of rs ∷ signed_text n ∷ []) (fields 31 rs rt (signed_of n) [])
-    (record { letter = refl; label = refl; ends = refl; newlines = refl; found = refl; stands = refl; same = λ os. refl })
-    (name_word rt h.0, (name_word rs h.1, ((signed_number n h.2).word, tt)))
-    (fills_numbered rt rs (signed_of n) (name_of rt) (name_of rs) (signed_text n) (register_named rt h.0) (register_named rs h.1) (signed_number n h.2).read)
+reads (row.Sltiu rt rs n) target h l = signed Sltiu 115 (108 ∷ 116 ∷ 105 ∷ 117 ∷ []) rt rs n (ready refl (λ os. refl)) h refl
     (signed_within n h.2) (ap (λ m. Fixed (row.Sltiu rt rs m) ∷ []) (signed_field n h.2))
-reads (row.Andi rt rs n) target h l = back_of (row.Andi rt rs n) target Andi 97 (110 ∷ 100 ∷ 105 ∷ [])
-    (name_of rt ∷ name_of rs ∷ decimal n ∷ []) (fields 31 rs rt (plain n) [])
-    (record { letter = refl; label = refl; ends = refl; newlines = refl; found = refl; stands = refl; same = λ os. refl })
-    (name_word rt h.0, (name_word rs h.1, ((small_text n 65536 h.2 (lit≤ tt)).word, tt)))
-    (fills_numbered rt rs (plain n) (name_of rt) (name_of rs) (decimal n) (register_named rt h.0) (register_named rs h.1)
-    (small_text n 65536 h.2 (lit≤ tt)).read) (below_within n 65535 h.2) (ap (λ m. Fixed (row.Andi rt rs m) ∷ []) (plain_field 16 n h.2))
-reads (row.Ori rt rs n) target h l = back_of (row.Ori rt rs n) target Ori 111 (114 ∷ 105 ∷ []) (name_of rt ∷ name_of rs ∷
-    decimal n ∷ []) (fields 31 rs rt (plain n) []) (record {
-      letter = refl;
-      label = refl;
-      ends = refl;
-      newlines = refl;
-      found = refl;
-      stands = refl;
-      same = λ os. refl;
-    }) (name_word rt h.0, (name_word rs h.1, ((small_text n 65536 h.2 (lit≤ tt)).word, tt)))
-    (fills_numbered rt rs (plain n) (name_of rt) (name_of rs) (decimal n) (register_named rt h.0) (register_named rs h.1)
-    (small_text n 65536 h.2 (lit≤ tt)).read) (below_within n 65535 h.2) (ap (λ m. Fixed (row.Ori rt rs m) ∷ []) (plain_field 16 n h.2))
-reads (row.Xori rt rs n) target h l = back_of (row.Xori rt rs n) target Xori 120 (111 ∷ 114 ∷ 105 ∷ [])
-    (name_of rt ∷ name_of rs ∷ decimal n ∷ []) (fields 31 rs rt (plain n) [])
-    (record { letter = refl; label = refl; ends = refl; newlines = refl; found = refl; stands = refl; same = λ os. refl })
-    (name_word rt h.0, (name_word rs h.1, ((small_text n 65536 h.2 (lit≤ tt)).word, tt)))
-    (fills_numbered rt rs (plain n) (name_of rt) (name_of rs) (decimal n) (register_named rt h.0) (register_named rs h.1)
-    (small_text n 65536 h.2 (lit≤ tt)).read) (below_within n 65535 h.2) (ap (λ m. Fixed (row.Xori rt rs m) ∷ []) (plain_field 16 n h.2))
+reads (row.Andi rt rs n) target h l = unsigned Andi 97 (110 ∷ 100 ∷ 105 ∷ []) rt rs n (ready refl (λ os. refl)) h refl
+    (below_within n 65535 h.2) (ap (λ m. Fixed (row.Andi rt rs m) ∷ []) (plain_field 16 n h.2))
+reads (row.Ori rt rs n) target h l = unsigned Ori 111 (114 ∷ 105 ∷ []) rt rs n (ready refl (λ os. refl)) h refl
+    (below_within n 65535 h.2) (ap (λ m. Fixed (row.Ori rt rs m) ∷ []) (plain_field 16 n h.2))
+reads (row.Xori rt rs n) target h l = unsigned Xori 120 (111 ∷ 114 ∷ 105 ∷ []) rt rs n (ready refl (λ os. refl)) h refl
+    (below_within n 65535 h.2) (ap (λ m. Fixed (row.Xori rt rs m) ∷ []) (plain_field 16 n h.2))
 reads (row.Lui rt n) target h l = back_of (row.Lui rt n) target Lui 108 (117 ∷ 105 ∷ []) (name_of rt ∷ decimal n ∷ [])
-    (fields 31 0 rt (plain n) []) (record { letter = refl; label = refl; ends = refl; newlines = refl; found = refl; stands = refl; same = λ os. refl })
+    (fields 31 0 rt (plain n) []) (ready refl (λ os. refl))
     (name_word rt h.0, ((small_text n 65536 h.1 (lit≤ tt)).word, tt)) (fills_upper rt (plain n) (name_of rt) (decimal n)
-    (register_named rt h.0) (small_text n 65536 h.1 (lit≤ tt)).read) (below_within n 65535 h.1) (ap (λ m. Fixed (row.Lui rt m) ∷ []) (plain_field 16 n h.1))
-reads (row.Lb rt n rs) target h l = back_of (row.Lb rt n rs) target Lb 108 (98 ∷ []) (name_of rt ∷ based_text n rs ∷ [])
-    (fields 31 rs rt (signed_of n) []) (record { letter = refl; label = refl; ends = refl; newlines = refl; found = refl; stands = refl; same = λ os. refl })
-    (name_word rt h.0, (based_word n rs h.1 h.2, tt)) (fills_based rt rs (signed_of n) (name_of rt) (based_text n rs)
-    (register_named rt h.0) (based_read n rs h.1 h.2)) (signed_within n h.1) (ap (λ m. Fixed (row.Lb rt m rs) ∷ []) (signed_field n h.1))
-reads (row.Lbu rt n rs) target h l = back_of (row.Lbu rt n rs) target Lbu 108 (98 ∷ 117 ∷ []) (name_of rt ∷ based_text n rs ∷ [])
-    (fields 31 rs rt (signed_of n) []) (record { letter = refl; label = refl; ends = refl; newlines = refl; found = refl; stands = refl; same = λ os. refl })
-    (name_word rt h.0, (based_word n rs h.1 h.2, tt)) (fills_based rt rs (signed_of n) (name_of rt) (based_text n rs)
-    (register_named rt h.0) (based_read n rs h.1 h.2)) (signed_within n h.1) (ap (λ m. Fixed (row.Lbu rt m rs) ∷ []) (signed_field n h.1))
-reads (row.Lw rt n rs) target h l = back_of (row.Lw rt n rs) target Lw 108 (119 ∷ []) (name_of rt ∷ based_text n rs ∷ [])
-    (fields 31 rs rt (signed_of n) []) (record { letter = refl; label = refl; ends = refl; newlines = refl; found = refl; stands = refl; same = λ os. refl })
-    (name_word rt h.0, (based_word n rs h.1 h.2, tt)) (fills_based rt rs (signed_of n) (name_of rt) (based_text n rs)
-    (register_named rt h.0) (based_read n rs h.1 h.2)) (signed_within n h.1) (ap (λ m. Fixed (row.Lw rt m rs) ∷ []) (signed_field n h.1))
-reads (row.Sb rt n rs) target h l = back_of (row.Sb rt n rs) target Sb 115 (98 ∷ []) (name_of rt ∷ based_text n rs ∷ [])
-    (fields 31 rs rt (signed_of n) []) (record { letter = refl; label = refl; ends = refl; newlines = refl; found = refl; stands = refl; same = λ os. refl })
-    (name_word rt h.0, (based_word n rs h.1 h.2, tt)) (fills_based rt rs (signed_of n) (name_of rt) (based_text n rs)
-    (register_named rt h.0) (based_read n rs h.1 h.2)) (signed_within n h.1) (ap (λ m. Fixed (row.Sb rt m rs) ∷ []) (signed_field n h.1))
-reads (row.Sw rt n rs) target h l = back_of (row.Sw rt n rs) target Sw 115 (119 ∷ []) (name_of rt ∷ based_text n rs ∷ [])
-    (fields 31 rs rt (signed_of n) []) (record { letter = refl; label = refl; ends = refl; newlines = refl; found = refl; stands = refl; same = λ os. refl })
-    (name_word rt h.0, (based_word n rs h.1 h.2, tt)) (fills_based rt rs (signed_of n) (name_of rt) (based_text n rs)
-    (register_named rt h.0) (based_read n rs h.1 h.2)) (signed_within n h.1) (ap (λ m. Fixed (row.Sw rt m rs) ∷ []) (signed_field n h.1))
+    (register_named rt h.0) (small_text n 65536 h.1 (lit≤ tt)).read) (below_within n 65535 h.1)
+    (ap (λ m. Fixed (row.Lui rt m) ∷ []) (plain_field 16 n h.1))
+reads (row.Lb rt n rs) target h l = offset Lb 108 (98 ∷ []) rt n rs (ready refl (λ os. refl)) h refl
+    (signed_within n h.1) (ap (λ m. Fixed (row.Lb rt m rs) ∷ []) (signed_field n h.1))
+reads (row.Lbu rt n rs) target h l = offset Lbu 108 (98 ∷ 117 ∷ []) rt n rs (ready refl (λ os. refl)) h refl
+    (signed_within n h.1) (ap (λ m. Fixed (row.Lbu rt m rs) ∷ []) (signed_field n h.1))
+reads (row.Lw rt n rs) target h l = offset Lw 108 (119 ∷ []) rt n rs (ready refl (λ os. refl)) h refl
+    (signed_within n h.1) (ap (λ m. Fixed (row.Lw rt m rs) ∷ []) (signed_field n h.1))
+reads (row.Sb rt n rs) target h l = offset Sb 115 (98 ∷ []) rt n rs (ready refl (λ os. refl)) h refl
+    (signed_within n h.1) (ap (λ m. Fixed (row.Sb rt m rs) ∷ []) (signed_field n h.1))
+reads (row.Sw rt n rs) target h l = offset Sw 115 (119 ∷ []) rt n rs (ready refl (λ os. refl)) h refl
+    (signed_within n h.1) (ap (λ m. Fixed (row.Sw rt m rs) ∷ []) (signed_field n h.1))
 
 pub line_reads : (one : Mips) (target : List ℕ) (r : Result (Vec ℕ Global) Memory) → IfOk r (λ l. l.items ≡ line_of one target) →
     OnOk r (IsRow (unlabelled_row one)) → (IsTrue (takes_label one) → IsTrue (is_label target)) → IfOk r (λ l. ReadsBack one target l.items)

@@ -29,7 +29,7 @@ use Rattle.tg_isa.proofs.PlacedTexts.{assembled_so}
 use Rattle.tg_isa.proofs.WordCuts.{visible, skipped, and_true, none_of, is_newline, none_append, none_cons, front_until, back_until, lines_alone}
 use Rattle.tg_isa.proofs.WordCuts.{AreWords, plains, next_operands, cut_unlabelled, newlines_joined}
 use Rattle.tg_isa.proofs.OperandTexts.{register_named, name_word, decimal_text, label_word, none_past, label_end, letter_in}
-use Rattle.tg_isa.proofs.ReadBack.{Ready, words_read, words_line, reads, step, rt_in, label_in, fields}
+use Rattle.tg_isa.proofs.ReadBack.{Ready, ready, words_read, words_line, reads, step, rt_in, label_in, fields}
 
 -- a line and the text behind its newline
 abbrev is_some_line : List (List ℕ) → Bool
@@ -109,7 +109,7 @@ label_lines name h = lines_alone (name ++ 58 ∷ []) (none_append is_newline nam
 
 -- the line of `la`
 la_ready : Ready word.La 108 (97 ∷ [])
-la_ready = record { letter = refl; label = refl; ends = refl; newlines = refl; found = refl; stands = refl; same = λ os. refl }
+la_ready = ready refl (λ os. refl)
 
 la_fills : (r : ℕ) (label : List ℕ) → r < 32 → is_label label ≡ true → fill_all (slot.Rt ∷ slot.Label ∷ [])
     (Plain (name_of r) ∷ Plain label ∷ []) unfilled ≡ Some (fields 31 0 r nothing label)
