@@ -27,6 +27,7 @@ use Rattle.tg_instr.specs.declared.codes.Code.{Code as Instructions}
 use Rattle.tg_munch.specs.Bodies.{munched, outs}
 use Rattle.tg_rounds.specs.Policies.{Rule}
 use Rattle.tg_spill.specs.declared.allocations.Allocation.{Allocation}
+use Rattle.tg_spill.specs.Allocations.{codes_of}
 use Rattle.tg_canon.specs.Drawing.{Drawn, Gives}
 use Rattle.tg_canon.specs.Canon.{linearized}
 use Rattle.tg_trace.specs.Block.{Block}
@@ -38,7 +39,7 @@ use Rattle.tg_image.specs.Programs.{IsProgram, AreTyped}
 use Rattle.tg_image.specs.Images.{program_written}
 use Rattle.tg_image.proofs.Soundness.{program_has_image}
 use Rattle.tg_compile.specs.declared.programs.Placement.{Placement}
-use Rattle.tg_compile.specs.Compiling.{fragments_of, with_statements, flattened, Chooses, CompilesFunction, CompileFunctions, codes_of, HasImage, Compiles}
+use Rattle.tg_compile.specs.Compiling.{fragments_of, with_statements, flattened, Chooses, CompilesFunction, CompileFunctions, HasImage, Compiles}
 use Rattle.tg_compile.specs.Passes.{allocation_of, CompileApart}
 
 -- a program's functions and literals, before the runtime is behind them

@@ -18,13 +18,12 @@ use Rattle.tg_canon.specs.Canon.{linearized}
 use Rattle.tg_trace.specs.Cutting.{blocks_of}
 use Rattle.tg_trace.specs.Laying.{traced}
 use Rattle.tg_isa.specs.Assembly.{Assembled, assembled}
-use Rattle.tg_instr.specs.declared.codes.Allocated.{Allocated}
 use Rattle.tg_instr.specs.declared.codes.Code.{Code as Instructions}
 use Rattle.tg_munch.specs.Choosing.{Chosen}
 use Rattle.tg_munch.specs.Bodies.{munched, outs}
 use Rattle.tg_rounds.specs.Policies.{Rule}
 use Rattle.tg_spill.specs.declared.allocations.Allocation.{Allocation}
-use Rattle.tg_spill.specs.Allocations.{IsAllocation}
+use Rattle.tg_spill.specs.Allocations.{IsAllocation, codes_of}
 use Rattle.tg_spill.specs.Conditions.{is_allocated, names_registers}
 use Rattle.tg_emit.specs.Lines.{assembly_of}
 use Rattle.tg_emit.specs.Text.{text_of}
@@ -81,10 +80,6 @@ module _ (rule : Rule) where
   -- each function has its allocation, in their order
   abbrev pub CompileFunctions : List (Function Ts) → List Allocation → Type 0
   CompileFunctions functions allocations = AllZip CompilesFunction functions allocations
-
--- the code over registers of each allocation
-abbrev pub codes_of : List Allocation → List Allocated
-codes_of allocations = map (λ (a : Allocation). a.done) allocations
 
 -- a text that is assembled without a fault
 pub record HasImage (text : List ℕ) : Type 0 where

@@ -4,7 +4,7 @@ use Rattle.tg_rounds.specs.declared.rounds.Round.{Round}
 use Rattle.tg_rounds.specs.Policies.{Rule}
 use Rattle.tg_rounds.proofs.Explaining.{moves_are_explained}
 use Rattle.tg_spill.specs.Rewriting.{slotted}
-use Rattle.tg_spill.specs.Rounds.{Stage, IsRoundOf, AreRounds, slots_of, last_round}
+use Rattle.tg_spill.specs.Rounds.{Stage, IsRoundOf, AreRounds, slots_by, last_round}
 use Rattle.tg_spill.specs.Rounds.AreRounds.{last, more}
 use Rattle.tg_spill.specs.Explained.{problem_of, MovesOfAllocationsStayForACause}
 use Rattle.tg_spill.proofs.RewrittenBelow.{temps_below}
@@ -27,7 +27,7 @@ module _ (rule : Rule) (originals : ℕ) where
   ends (last s round r e) h = record { below = h; is_round = r; nothing_slotted = e }
   ends (more s t round rounds r ne rest) h =
       subst (Ends t) (sym (same_last rest round))
-      (ends rest (temps_below (slots_of rule originals s round) s.list s.temps h))
+      (ends rest (temps_below (slots_by originals s round) s.list s.temps h))
 
 pub moves_stay_for_a_cause : MovesOfAllocationsStayForACause
 moves_stay_for_a_cause rule code frame a h =

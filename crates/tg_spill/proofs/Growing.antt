@@ -24,7 +24,7 @@ use Rattle.tg_spill.specs.Below.{is_option_below}
 use Rattle.tg_spill.specs.InFrame.{instruction_in_frame, code_in_frame}
 use Rattle.tg_spill.specs.Rewriting.{next_after, temps_after}
 use Rattle.tg_spill.specs.Painting.{is_idle, painted_named, instruction_painted, code_painted, colour_of}
-use Rattle.tg_spill.specs.Rounds.{Stage, stage_of, AreRounds, slots_of, last_round}
+use Rattle.tg_spill.specs.Rounds.{Stage, stage_of, AreRounds, slots_by, last_round}
 use Rattle.tg_spill.specs.Rounds.AreRounds.{last, more}
 use Rattle.tg_spill.specs.Growth.{most_words, IsSmall, AreSmall, AllocationsGrowLittle}
 use Rattle.tg_spill.specs.Growth.AreSmall.{none, also}
@@ -162,7 +162,7 @@ module _ (rule : Rule) (n : ℕ) (originals : List Instr) where
   rounds_grow (last s round r e) below some partner left h = record { partner = partner; still = left; blocks = h; budget = omega arith }
   rounds_grow (more s t round rounds r ne rest) below some partner left h =
       let k : Known = record { bound = s.temps; partner = partner } in
-      let slot_of = slots_of rule n s round in
+      let slot_of = slots_by n s round in
       let after = partner_after n slot_of s.list s.temps (λ m. partner_kept n slot_of (partner m)) in
       let k' : Known = record { bound = temps_after slot_of s.list s.temps; partner = after } in
       let rises = temps_rise slot_of s.list s.temps in

@@ -30,7 +30,7 @@ use Rattle.tg_rounds.proofs.Within.{class_is}
 use Rattle.tg_rounds.proofs.Bare.{spilled_name_classes}
 use Rattle.tg_interference.specs.Marks.{occurrences, mark_of, marks_of}
 use Rattle.tg_spill.specs.Rewriting.{slot_after, is_original, slotted, slot_by}
-use Rattle.tg_spill.specs.Rounds.{Stage, stage_of, IsRoundOf, AreRounds, slots_of, next_stage, last_round}
+use Rattle.tg_spill.specs.Rounds.{Stage, stage_of, IsRoundOf, AreRounds, slots_by, next_stage, last_round}
 use Rattle.tg_spill.specs.Rounds.AreRounds.{last, more}
 use Rattle.tg_spill.specs.Explained.{problem_of}
 use Rattle.tg_spill.specs.Growth.{slots_given, AllocationsAreShort, SpillsMadeAlone, AllInFrameIsLast}
@@ -159,7 +159,7 @@ module _ (rule : Rule) (n : ℕ) (s : Stage) (round : Round) (r : IsRoundOf rule
           absurd (absent_unspilled rule n s round r below some (x - 25) (omega (arith, lo, u)) h i d l (e ∙ sym t))
 
   abbrev gone : ℕ → Bool
-  gone t = occurs (next_stage rule n s round).list t
+  gone t = occurs (next_stage n s round).list t
 
   -- each class that takes a slot leaves the code
   each_leaves : AllByRecursion (λ x. Leaves n (occurs s.list) gone x) (slotted n round)
@@ -181,13 +181,13 @@ module _ (rule : Rule) (n : ℕ) (s : Stage) (round : Round) (r : IsRoundOf rule
               low = k.0;
               high = hi;
               was = k.2 hi;
-              goes = code_avoids (slots_of rule n s round) (x - 25) s.list s.temps (omega (arith, lo, hi, some))
+              goes = code_avoids (slots_by n s round) (x - 25) s.list s.temps (omega (arith, lo, hi, some))
                   (inr (f.0, ap (slot_by (slotted n round) s.slots) (ap (class_of round) t ∙ k.1) ∙ f.1));
             },
             leaving xs a.1 b.1,
           )
 
-  pub leaves : count (occurs (next_stage rule n s round).list) n + length (slotted n round) ≤ count (occurs s.list) n
+  pub leaves : count (occurs (next_stage n s round).list) n + length (slotted n round) ≤ count (occurs s.list) n
   leaves =
       count_leaves n gone (slotted n round) (occurs s.list) (distinct_filtered (is_original n) round.spilled names_classes.once) each_leaves
       (λ t l e. was_there t l (tells (occurs s.list t)) e)
@@ -195,7 +195,7 @@ module _ (rule : Rule) (n : ℕ) (s : Stage) (round : Round) (r : IsRoundOf rule
       was_there : (t : ℕ) → t < n → (occurs s.list t ≡ true) ⊎ (occurs s.list t ≡ false) → gone t ≡ true → occurs s.list t ≡ true
       was_there t l (inl h) e = h
       was_there t l (inr h) e =
-          absurd (clash e (code_avoids (slots_of rule n s round) t s.list s.temps (omega (arith, l, some)) (inl h)))
+          absurd (clash e (code_avoids (slots_by n s round) t s.list s.temps (omega (arith, l, some)) (inl h)))
 
 -- All rounds.
 
@@ -213,8 +213,8 @@ module _ (rule : Rule) (n : ℕ) where
   shrinks (more s t round rounds r ne rest) below some =
       let a = leaves rule n s round r below some in
       let b = some_in (slotted n round) ne in
-      let rises = temps_rise (slots_of rule n s round) s.list s.temps in
-      let behind = shrinks rest (temps_below (slots_of rule n s round) s.list s.temps below) (omega (arith, some, rises)) in
+      let rises = temps_rise (slots_by n s round) s.list s.temps in
+      let behind = shrinks rest (temps_below (slots_by n s round) s.list s.temps below) (omega (arith, some, rises)) in
       let f = behind.few in
       let g = behind.slots in
       record { few = omega (arith, a, b, f); slots = omega (arith, a, g) }
@@ -226,11 +226,11 @@ module _ (rule : Rule) (n t : ℕ) (l : t < n) where
   none_given (last s round r e) below some h =
       subst (λ o. length (cons_option o []) ≤ 0) (sym (absent_slotless rule n s round r below some t l h)) (lit≤ tt)
   none_given (more s u round rounds r ne rest) below some h =
-      let rises = temps_rise (slots_of rule n s round) s.list s.temps in
+      let rises = temps_rise (slots_by n s round) s.list s.temps in
       subst (λ o. length (cons_option o (slots_given n (s.slots + length (slotted n round)) rounds t)) ≤ 0)
       (sym (absent_slotless rule n s round r below some t l h))
-      (none_given rest (temps_below (slots_of rule n s round) s.list s.temps below) (omega (arith, some, rises))
-      (code_avoids (slots_of rule n s round) t s.list s.temps (omega (arith, l, some)) (inl h)))
+      (none_given rest (temps_below (slots_by n s round) s.list s.temps below) (omega (arith, some, rises))
+      (code_avoids (slots_by n s round) t s.list s.temps (omega (arith, l, some)) (inl h)))
 
   one_given : {s u : Stage} {rounds : List Round} → AreRounds rule n s rounds u → HasTempsBelow s → n ≤ s.temps →
       length (slots_given n s.slots rounds t) ≤ 1
@@ -240,11 +240,11 @@ module _ (rule : Rule) (n t : ℕ) (l : t < n) where
       one_last None = lit≤ tt
       one_last (Some j) = lit≤ tt
   one_given (more s u round rounds r ne rest) below some =
-      let rises = temps_rise (slots_of rule n s round) s.list s.temps in
-      let still = temps_below (slots_of rule n s round) s.list s.temps below in
+      let rises = temps_rise (slots_by n s round) s.list s.temps in
+      let still = temps_below (slots_by n s round) s.list s.temps below in
       by (slot_after n s.slots round t) refl (one_given rest still (omega (arith, some, rises)))
       (λ j e. none_given rest still (omega (arith, some, rises))
-      (code_avoids (slots_of rule n s round) t s.list s.temps (omega (arith, l, some)) (inr (j, e))))
+      (code_avoids (slots_by n s round) t s.list s.temps (omega (arith, l, some)) (inr (j, e))))
     where
       by : (o : Option ℕ) → slot_after n s.slots round t ≡ o →
           length (slots_given n (s.slots + length (slotted n round)) rounds t) ≤ 1 →
@@ -337,7 +337,7 @@ module _ (rule : Rule) (n : ℕ) (s : Stage) (round : Round) (r : IsRoundOf rule
 more_temps : (rule : Rule) (n : ℕ) {s t : Stage} {rounds : List Round} → AreRounds rule n s rounds t → n ≤ s.temps → n ≤ t.temps
 more_temps rule n (last s round r e) some = some
 more_temps rule n (more s t round rounds r ne rest) some =
-    let rises = temps_rise (slots_of rule n s round) s.list s.temps in
+    let rises = temps_rise (slots_by n s round) s.list s.temps in
     more_temps rule n rest (omega (arith, some, rises))
 
 pub all_in_frame_is_last : AllInFrameIsLast

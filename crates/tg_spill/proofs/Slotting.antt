@@ -28,7 +28,7 @@ use Rattle.tg_rounds.proofs.Bare.{registers_stand_above}
 use Rattle.tg_interference.specs.Nodes.{node_of}
 use Rattle.tg_interference.specs.Moves.{between, move_of, moves_of}
 use Rattle.tg_spill.specs.Rewriting.{is_original, slotted, slot_by, slot_after}
-use Rattle.tg_spill.specs.Rounds.{Stage, IsRoundOf, slots_of}
+use Rattle.tg_spill.specs.Rounds.{Stage, IsRoundOf, slots_by}
 use Rattle.tg_spill.specs.Explained.{problem_of}
 use Rattle.tg_spill.proofs.Sizes.{node_below}
 use Rattle.tg_spill.proofs.Renamed.{temp, is_move}
@@ -302,5 +302,5 @@ module _ (rule : Rule) (n : ℕ) (s : Stage) (round : Round) (r : IsRoundOf rule
         by None e = inl (joined 0 (omega arith) (λ j p. absurd (nothing_is (sym e ∙ p))))
         by (Some i) e = let l = node_below 0 (Reg q) refl i e in inl (joined i (omega arith) (λ j p. some_is (sym p ∙ e)))
 
-    pub is_slotting : IsSlotting n (record { bound = s.temps; partner = partner }) (slots_of rule n s round)
+    pub is_slotting : IsSlotting n (record { bound = s.temps; partner = partner }) (slots_by n s round)
     is_slotting = record { closed = closed_unslotted; beside = beside_unslotted }

@@ -13,7 +13,7 @@ use Rattle.tg_rounds.specs.Policies.{Rule}
 use Rattle.tg_spill.specs.InFrame.{through_named, loaded, stored, moved, through_slots, instruction_in_frame, code_in_frame}
 use Rattle.tg_spill.specs.Rewriting.{loads, stores, target, first_use, second_use, next_after, instruction_rewritten, code_rewritten}
 use Rattle.tg_spill.specs.Painting.{colour_of, is_idle, instruction_painted, code_painted}
-use Rattle.tg_spill.specs.Rounds.{Stage, AreRounds, slots_of, last_round}
+use Rattle.tg_spill.specs.Rounds.{Stage, AreRounds, slots_by, last_round}
 use Rattle.tg_spill.specs.Rounds.AreRounds.{last, more}
 use Rattle.tg_spill.specs.Explained.{IgnoresOperands, AllocationsKeepTests}
 
@@ -97,7 +97,7 @@ module _ (test : Instr → Bool) (ignores : IgnoresOperands test) where
       Pass s.list → Pass t.list
   rounds_pass rule originals (last s round r e) h = h
   rounds_pass rule originals (more s t round rounds r e rest) h =
-      rounds_pass rule originals rest (rewritten_passes (slots_of rule originals s round) s.list s.temps h)
+      rounds_pass rule originals rest (rewritten_passes (slots_by originals s round) s.list s.temps h)
 
 pub allocations_keep_tests : AllocationsKeepTests
 allocations_keep_tests rule code frame a h test ignores p = by a.all_in_frame refl

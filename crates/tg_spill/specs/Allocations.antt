@@ -1,8 +1,9 @@
 -- What an allocation of a code is (George and Appel 1996, section 4): its rounds, and the code over
 -- registers behind them.
-use Rattle.std.specs.Prelude.{◌≡◌, ◌≢◌, ◌+◌, IsTrue, IsFalse, [], map}
+use Rattle.std.specs.Prelude.{◌≡◌, ◌≢◌, ◌+◌, IsTrue, IsFalse, List, [], map}
 use Rattle.std.specs.List.{range_with_len}
 use Rattle.tg_frame.specs.declared.frames.Frame.{Frame}
+use Rattle.tg_instr.specs.declared.codes.Allocated.{Allocated}
 use Rattle.tg_instr.specs.declared.codes.Code.{Code}
 use Rattle.tg_rounds.specs.Policies.{Rule}
 use Rattle.tg_spill.specs.declared.allocations.Allocation.{Allocation}
@@ -41,3 +42,7 @@ module _ (rule : Rule) (code : Code) (frame : Frame) (a : Allocation) where
     pub has_frame : HasFrame frame a
     pub coloured : IsFalse a.all_in_frame → IsColoured end
     pub in_frame : IsTrue a.all_in_frame → IsAllInFrame
+
+-- the code over registers of each allocation
+abbrev pub codes_of : List Allocation → List Allocated
+codes_of allocations = map (λ (a : Allocation). a.done) allocations

@@ -42,6 +42,20 @@ pub record Stage : Type 0 where
 abbrev pub stage_of : Code → (slots : ℕ) → Stage
 stage_of code slots = record { list = code.list; temps = code.temps; slots = slots }
 
+-- with so many temporaries in the code that was handed in
+module _ (originals : ℕ) where
+  -- the slot of a temporary that a round spills
+  abbrev pub slots_by : Stage → Round → ℕ → Option ℕ
+  slots_by s round = slot_after originals s.slots round
+
+  -- the code that a round is followed by
+  abbrev pub next_stage : Stage → Round → Stage
+  next_stage s round = record {
+    list = code_rewritten (slots_by s round) s.list s.temps;
+    temps = temps_after (slots_by s round) s.list s.temps;
+    slots = s.slots + length (slotted originals round);
+  }
+
 -- by a policy's rule, with so many temporaries in the code that was handed in
 module _ (rule : Rule) (originals : ℕ) where
   pub record IsRoundOf (s : Stage) (round : Round) : Type 0 where
@@ -49,16 +63,6 @@ module _ (rule : Rule) (originals : ℕ) where
     pub exact : IsInterference s.list s.temps graph
     pub run : IsRound
         (problem (graph_of graph) (moves_of s.list) (marks_of s.list s.temps originals) rule) round
-
-  abbrev pub slots_of : Stage → Round → ℕ → Option ℕ
-  slots_of s round = slot_after originals s.slots round
-
-  abbrev pub next_stage : Stage → Round → Stage
-  next_stage s round = record {
-    list = code_rewritten (slots_of s round) s.list s.temps;
-    temps = temps_after (slots_of s round) s.list s.temps;
-    slots = s.slots + length (slotted originals round);
-  }
 
   -- from the first code to the last, which no round follows
   pub data AreRounds : Stage → List Round → Stage → Type 0 where
@@ -69,7 +73,7 @@ module _ (rule : Rule) (originals : ℕ) where
     more : (s t : Stage) (round : Round) (rounds : List Round) →
         IsRoundOf s round →
         slotted originals round ≢ [] →
-        AreRounds (next_stage s round) rounds t →
+        AreRounds (next_stage originals s round) rounds t →
         AreRounds s (round ∷ rounds) t
 
 -- the last of some rounds; of none, a round of nothing

@@ -29,9 +29,10 @@ use Rattle.tg_instr.specs.declared.codes.Allocated.{Allocated}
 use Rattle.tg_instr.proofs.Tests.{all_at, both_hold}
 use Rattle.tg_rounds.specs.Policies.{Rule}
 use Rattle.tg_spill.specs.declared.allocations.Allocation.{Allocation}
+use Rattle.tg_spill.specs.Allocations.{codes_of}
 use Rattle.tg_emit.specs.Lines.{size_of, is_long, function_lines, functions_lines, literals_lines, words}
 use Rattle.tg_image.proofs.CodeLines.{words_append}
-use Rattle.tg_words.specs.Allocating.{IsAllocationOf, codes_of, has_small_frame}
+use Rattle.tg_words.specs.Allocating.{IsAllocationOf, has_small_frame}
 use Rattle.tg_words.specs.Laws.{unit_words, besides_words, node_words, function_words, most_node_words, most_runtime_words, CodeIsShort}
 use Rattle.tg_words.specs.Laws.{FramesAreSmall, FunctionsArePaid, FitsSegment, ProgramCodeFits, ProgramFramesAreSmall}
 use Rattle.tg_words.proofs.Functions.{all_counted, counted, counted_within}

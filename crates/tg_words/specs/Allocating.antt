@@ -1,5 +1,5 @@
 -- An allocation of a function of trees, and what of it takes words of code and bytes of the stack.
-use Rattle.std.specs.Prelude.{◌≡◌, ◌^◌, Bool, nat_lt, List, map}
+use Rattle.std.specs.Prelude.{◌≡◌, ◌^◌, Bool, nat_lt}
 use Rattle.tg_frame.specs.declared.frames.Frame.{Frame}
 use Rattle.tg_tree.specs.Tree.{Ts, Function}
 use Rattle.tg_carried.specs.Flattened.{flattened}
@@ -21,10 +21,6 @@ pub record IsAllocationOf (rule : Rule) (f : Function Ts) (a : Allocation) : Typ
   pub list : code.list ≡ (munched (flattened f)).code
   pub temps : code.temps ≡ (munched (flattened f)).drawn.temp
   pub allocation : IsAllocation rule code frame a
-
--- the code over registers of each allocation
-abbrev pub codes_of : List Allocation → List Allocated
-codes_of allocations = map (λ (a : Allocation). a.done) allocations
 
 -- a frame below 2 ^ 29 bytes
 abbrev pub has_small_frame : Allocated → Bool

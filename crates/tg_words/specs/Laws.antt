@@ -31,6 +31,7 @@ use Rattle.tg_instr.specs.Lengths as instr
 use Rattle.tg_munch.specs.Lengths.{kept_count}
 use Rattle.tg_rounds.specs.Policies.{Rule}
 use Rattle.tg_spill.specs.declared.allocations.Allocation.{Allocation}
+use Rattle.tg_spill.specs.Allocations.{codes_of}
 use Rattle.tg_emit.specs.Lines.{
   words,
   function_lines,
@@ -39,7 +40,7 @@ use Rattle.tg_emit.specs.Lines.{
   is_long,
   assembly_of,
 }
-use Rattle.tg_words.specs.Allocating.{IsAllocationOf, codes_of, has_small_frame}
+use Rattle.tg_words.specs.Allocating.{IsAllocationOf, has_small_frame}
 
 -- The functions of a text. A declaration is a node of the body that it stands in, and so is each of
 -- its parameters; and the body that it declares is a node at least.
