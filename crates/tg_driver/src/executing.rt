@@ -1,4 +1,5 @@
 ghost use Rattle.std.specs.Prelude.{◌≡◌, ◌≤◌, ⊤, length};
+ghost use Rattle.tg_base.specs.State.{most_bytes, most_words};
 ghost use Rattle.tg_command.specs.Commands.{KeepsLimits, asked_of};
 ghost use Rattle.tg_driver.specs.Calls.{shelf_of, stream_of, streams_of};
 ghost use Rattle.tg_driver.specs.ExecMode.{IsExecuted};
@@ -76,8 +77,8 @@ pub(crate) fn execute<I: Source, O: Sink>(
     streams: Streams<I, O>,
 ) -> Answer
     requires limits { KeepsLimits (asked_of command.now) }
-    requires code { length image.now.code ≤ 66060288 }
-    requires statics { length image.now.statics ≤ 16711680 }
+    requires code { length image.now.code ≤ most_words }
+    requires statics { length image.now.statics ≤ most_bytes }
     ensures runs { IsRunOrMemory (streams_of
         (stream_of I.left I.faults streams.entry.input.now streams.exit.0.now)
         (stream_of O.taken O.faults streams.entry.out.now streams.exit.1.0.now))

@@ -1,6 +1,7 @@
 ghost use Rattle.std.specs.Prelude.{◌≡◌, ◌++◌, ◌≤◌, ◌<◌, ℕ, ⊤, [], length};
 ghost use Rattle.std.specs.Fmt.{decimal};
 ghost use Rattle.tg_base.specs.Causes.{HasCause};
+ghost use Rattle.tg_base.specs.State.{most_bytes, most_words};
 ghost use Rattle.tg_base.specs.Writes.{TakesAll};
 ghost use Rattle.tg_isa.specs.declared.images.Image.{Image as ImageOf};
 ghost use Rattle.tg_machine.specs.Machines.{loaded};
@@ -83,8 +84,8 @@ fn execute_generated<O: Sink>(
     out: &mut O,
 ) -> Answer
     requires limits { KeepsLimits (asked_of command.now) }
-    requires code { length image.now.code ≤ 66060288 }
-    requires statics { length image.now.statics ≤ 16711680 }
+    requires code { length image.now.code ≤ most_words }
+    requires statics { length image.now.statics ≤ most_bytes }
     ensures due { OrMemory ⊤ (SumsUpRun (stream_of O.taken O.faults out.old out.new)
         command.now.number bytes image.now command.now.heap command.now.stack command.now.steps)
         result }

@@ -1,4 +1,5 @@
 ghost use Rattle.std.specs.Prelude.{◌≡◌, ◌≤◌, IfOk, length};
+ghost use Rattle.tg_base.specs.State.{most_bytes, most_words};
 ghost use Rattle.tg_isa.specs.Assembly.{assembled};
 ghost use Rattle.tg_asm.specs.Images as meant;
 ghost use Rattle.tg_compile.specs.Compiling.{HasImage};
@@ -12,8 +13,8 @@ use tg_isa::Image;
 pub(crate) fn image_of(alloc: Global, assembly: &[u8]) -> Result<Image, Memory>
     requires { HasImage assembly.now }
     ensures image { IfOk result (λ i. assembled assembly.now ≡ Ok (meant.image_of i)) }
-    ensures code { IfOk result (λ i. length i.code ≤ 66060288) }
-    ensures statics { IfOk result (λ i. length i.statics ≤ 16711680) }
+    ensures code { IfOk result (λ i. length i.code ≤ most_words) }
+    ensures statics { IfOk result (λ i. length i.statics ≤ most_bytes) }
 {
     match assemble(alloc, assembly) {
         Ok(image) => Ok(image),

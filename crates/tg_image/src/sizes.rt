@@ -3,14 +3,9 @@ ghost use Rattle.tg_base.specs.State.{most_bytes, most_words, padded};
 ghost use Rattle.tg_emit.specs.Lines.{words};
 ghost use Rattle.tg_image.specs.Programs.{bytes_of};
 
+use tg_base::{MOST_BYTES, MOST_WORDS};
 use tg_emit::{Assembly, Line, is_above};
 use tg_tree::Literal;
-
-/// The greatest number of words of the code.
-const WORDS: usize = 66060287;
-
-/// The greatest number of bytes of the statics.
-const BYTES: usize = 16711680;
 
 /// Whether the code of an assembly and the statics of literals fit their segments. The test takes
 /// time in proportion to the code.
@@ -25,14 +20,14 @@ pub fn fit_segments(assembly: &Assembly, literals: &[Literal]) -> bool
 fn is_short(lines: &[Line]) -> bool
     ensures { result ≡ nat_lt (words lines.now) most_words }
 {
-    !is_above(lines, WORDS)
+    !is_above(lines, MOST_WORDS as usize - 1)
 }
 
 /// Whether literals are no more bytes than the statics hold.
 fn are_few(literals: &[Literal]) -> bool
     ensures { result ≡ nat_le (bytes_of literals.now) most_bytes }
 {
-    let mut left = BYTES;
+    let mut left = MOST_BYTES as usize;
     for one in literals.iter() {
         let bytes = padded_length(one.text.as_slice());
         if left < bytes {
