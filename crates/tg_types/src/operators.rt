@@ -45,7 +45,8 @@ fn equated(state: &mut CheckingState, left: Ty, at: u32, left_at: u32) -> Result
     Ok(left)
 }
 
-fn counted(left: Ty, left_at: u32) -> Result<Ty, TypeFault>
+// The left side of an operator that calculates an int.
+fn calculated(left: Ty, left_at: u32) -> Result<Ty, TypeFault>
     ensures { (n : Noted) → Gives result (λ t. t) n (typing.left_side Plus left 0 left_at n) }
 {
     expected(Ty::int(), left, left_at)?;
@@ -69,7 +70,7 @@ pub(crate) fn left_side(
             ordered(state, left, at, left_at)
         }
         Op::Equal | Op::NotEqual => equated(state, left, at, left_at),
-        _ => counted(left, left_at),
+        _ => calculated(left, left_at),
     }
 }
 

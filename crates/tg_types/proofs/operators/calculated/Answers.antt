@@ -1,7 +1,7 @@
 use Rattle.std.proofs.Common.{sym, ap, ◌∙◌}
 use Rattle.tg_types.proofs.Steps.{step, given_is, fails_first, ended, last_fails}
 use Rattle.tg_types.specs.Typing.{expect}
-use Rattle.tg_types.proofs.operators.counted.Goals as goal
+use Rattle.tg_types.proofs.operators.calculated.Goals as goal
 
 pub returns-in_err-expected : goal.returns-in_err-expected
 returns-in_err-expected c =
