@@ -1,10 +1,10 @@
 -- Nothing that was done is taken back.
-use Rattle.std.proofs.Common.{◌≡◌, ℕ, zero, suc, ◌+◌, max, List, [], ◌++◌, Option, Some, None, Bool, true, false, nat_lt, refl, sym, ap, ◌∙◌, append_assoc}
+use Rattle.std.proofs.Common.{◌≡◌, ◌≤◌, ℕ, zero, suc, ◌+◌, max, List, [], ◌++◌, Option, Some, None, Bool, true, false, nat_lt, refl, sym, ap, ◌∙◌, append_assoc}
 use Rattle.std.proofs.Common.{arith, le_trans, take, drop}
 use Rattle.std.specs.Prelude.{if◌then◌else◌}
 use Rattle.std.proofs.lemmas.List.{append-nil, take-append-drop}
-use Rattle.tg_runs.specs.Outcomes.{End, ended, Outcome}
-use Rattle.tg_meaning.specs.Values.{Value, by_heap, add_heap, add_weight, go_deeper, Ending}
+use Rattle.tg_runs.specs.Outcomes.{End, ended, stuck, Outcome}
+use Rattle.tg_meaning.specs.Values.{Value, normal, by_heap, add_heap, add_weight, go_deeper, Ending}
 use Rattle.tg_meaning.specs.Evaluation.{eval, meaning, Job}
 use Rattle.tg_meaning.specs.Direct.{RunState, Result, gives, breaks, is_over, Direct, after, after_body, returned, fuelled, found, changed}
 use Rattle.tg_meaning.specs.Direct.{first_past, past_limit}
@@ -81,17 +81,16 @@ pub fuelled_keeps : (n : ℕ) (s : RunState) (m : Direct Value) → Keeps Value 
 fuelled_keeps zero s m g = goes_on (so_far s)
 fuelled_keeps (suc n) s m g = g (record s { fuel = n })
 
+-- where nothing is read and written, the counts may have grown
+grown : (o o' : Outcome Ending) → o'.output ≡ o.output → o'.input ≡ o.input → o.heap ≤ o'.heap → o.cost ≤ o'.cost →
+    ((past : List ℕ) → o.output_past_limit ≡ Some past → o'.output_past_limit ≡ Some past) → o.deepest ≤ o'.deepest → GoesOn o o'
+grown o o' w i h c p d = record { output = ([], w ∙ sym (append-nil o.output)); input = ([], sym i); heap = h; cost = c; past_limit = p; deepest = d }
+
 take_keeps : (full : Bool) (bytes : ℕ) (s : RunState) →
     GoesOn (so_far s) (now {A = Unit {0}} (if full then is_over (ended by_heap) s else changed tt (add_heap bytes) s))
 take_keeps true bytes s = goes_on (so_far s)
-take_keeps false bytes s = record {
-  output = ([], sym (append-nil s.trace.output));
-  input = ([], refl);
-  heap = omega arith;
-  cost = omega arith;
-  past_limit = λ past e. e;
-  deepest = omega arith;
-}
+take_keeps false bytes s =
+    grown (so_far s) (so_far (record s { world = add_heap bytes s.world })) refl refl (omega arith) (omega arith) (λ past e. e) (omega arith)
 
 read_keeps : (s : RunState) → GoesOn (so_far s) (so_far (record s { world = record s.world { input = drop 1 s.world.input } }))
 read_keeps s = record {
@@ -114,39 +113,24 @@ write_keeps bytes s = record {
 }
 
 spend_keeps : (k : ℕ) (s : RunState) → GoesOn (so_far s) (so_far (record s { trace = record s.trace { cost = s.trace.cost + k } }))
-spend_keeps k s = record {
-  output = ([], sym (append-nil s.trace.output));
-  input = ([], refl);
-  heap = omega arith;
-  cost = omega arith;
-  past_limit = λ past e. e;
-  deepest = omega arith;
-}
+spend_keeps k s =
+    grown (so_far s) (so_far (record s { trace = record s.trace { cost = s.trace.cost + k } })) refl refl
+    (omega arith) (omega arith) (λ past e. e) (omega arith)
 
 first_stays : (p : Option (List ℕ)) (above : Bool) (output past : List ℕ) → p ≡ Some past → first_past p above output ≡ Some past
 first_stays (Some q) above output past e = e
 first_stays None above output past e = cc
 
 weigh_keeps : (k : ℕ) (above : Bool) (s : RunState) → GoesOn (so_far s) (so_far (record s { world = add_weight k s.world; trace = past_limit above s.trace }))
-weigh_keeps k above s = record {
-  output = ([], sym (append-nil s.trace.output));
-  input = ([], refl);
-  heap = omega arith;
-  cost = omega arith;
-  past_limit = λ past e. first_stays s.trace.output_past_limit above s.trace.output past e;
-  deepest = omega arith;
-}
+weigh_keeps k above s =
+    grown (so_far s) (so_far (record s { world = add_weight k s.world; trace = past_limit above s.trace })) refl refl (omega arith) (omega arith)
+    (λ past e. first_stays s.trace.output_past_limit above s.trace.output past e) (omega arith)
 
 descend_keeps : (s : RunState) →
     GoesOn (so_far s) (so_far (record s { world = go_deeper s.world; trace = record s.trace { deepest = max s.trace.deepest (s.world.depth + 1) } }))
-descend_keeps s = record {
-  output = ([], sym (append-nil s.trace.output));
-  input = ([], refl);
-  heap = omega arith;
-  cost = omega arith;
-  past_limit = λ past e. e;
-  deepest = omega arith;
-}
+descend_keeps s =
+    grown (so_far s) (so_far (record s { world = go_deeper s.world; trace = record s.trace { deepest = max s.trace.deepest (s.world.depth + 1) } })) refl refl
+    (omega arith) (omega arith) (λ past e. e) (omega arith)
 
 module _ (heap stack : ℕ) where
   pub all_keep : Related Direct Direct (direct heap stack) (direct heap stack) Keep
@@ -176,10 +160,13 @@ module _ (heap stack : ℕ) where
   meaning_keeps n job =
       meaning_same Direct Direct (direct heap stack) (direct heap stack) Keep all_keep (λ m m' g s. fuelled_keeps s.fuel s m g) n job
 
+told_keeps : (o : Outcome Ending) (e : End Ending) (s : RunState) → GoesOn o (so_far s) → GoesOn o (told e s)
+told_keeps o e s g = record { output = g.output; input = g.input; heap = g.heap; cost = g.cost; past_limit = g.past_limit; deepest = g.deepest }
+
 outcome_keeps : (o : Outcome Ending) (r : Result Value) → GoesOn o (now r) → GoesOn o (outcome r)
-outcome_keeps o (gives v s) g = record { output = g.output; input = g.input; heap = g.heap; cost = g.cost; past_limit = g.past_limit; deepest = g.deepest }
-outcome_keeps o (breaks s) g = record { output = g.output; input = g.input; heap = g.heap; cost = g.cost; past_limit = g.past_limit; deepest = g.deepest }
-outcome_keeps o (is_over e s) g = record { output = g.output; input = g.input; heap = g.heap; cost = g.cost; past_limit = g.past_limit; deepest = g.deepest }
+outcome_keeps o (gives v s) g = told_keeps o (ended normal) s g
+outcome_keeps o (breaks s) g = told_keeps o stuck s g
+outcome_keeps o (is_over e s) g = told_keeps o e s g
 
 pub nothing_taken_back : NothingIsTakenBack
 nothing_taken_back heap stack bound e env s =

@@ -29,6 +29,16 @@ since t o = record {
   deepest = max t.deepest o.deepest;
 }
 
+-- two outcomes are the same where they differ in nothing of this
+same_parts : {e : End Ending} {input output output' : List ℕ} {heap cost cost' deepest deepest' : ℕ} {past past' : Option (List ℕ)} →
+    output ≡ output' → cost ≡ cost' → past ≡ past' → deepest ≡ deepest' →
+    ◌≡◌ {A = Outcome Ending}
+    (record { end = e; output = output; input = input; heap = heap; cost = cost; output_past_limit = past; deepest = deepest })
+    (record { end = e; output = output'; input = input; heap = heap; cost = cost'; output_past_limit = past'; deepest = deepest' })
+same_parts {e} {input} {output} {output'} {heap} {cost} {cost'} {deepest} {deepest'} {past} {past'} o c p d =
+    ap₂ (λ x y. record { end = e; output = x; input = input; heap = heap; cost = y; output_past_limit = past; deepest = deepest }) o c ∙
+    ap₂ (λ x y. record { end = e; output = output'; input = input; heap = heap; cost = cost'; output_past_limit = x; deepest = y }) p d
+
 -- a result, and then what comes next
 abbrev finished : {A : Type 0} → Result A → (A → Rest) → Rest → Outcome Ending
 finished (gives a s) go out = since s.trace (go a s.world s.fuel)
@@ -73,43 +83,17 @@ earlier_written None output bytes None = refl
 earlier_written None output bytes (Some q) = ap Some (append_assoc output bytes q)
 
 write_same : (t : Trace) (bytes : List ℕ) (o : Outcome Ending) → since (record t { output = t.output ++ bytes }) o ≡ since t (writes bytes o)
-write_same t bytes o =
-    ap₂ (λ x y. record {
-      end = o.end;
-      output = x;
-      input = o.input;
-      heap = o.heap;
-      cost = t.cost + o.cost;
-      output_past_limit = y;
-      deepest = max t.deepest o.deepest;
-    })
-    (append_assoc t.output bytes o.output) (earlier_written t.output_past_limit t.output bytes o.output_past_limit)
+write_same t bytes o = same_parts (append_assoc t.output bytes o.output) refl (earlier_written t.output_past_limit t.output bytes o.output_past_limit) refl
 
 spend_same : (t : Trace) (k : ℕ) (o : Outcome Ending) → since (record t { cost = t.cost + k }) o ≡ since t (costs k o)
 spend_same t k o =
     let e : t.cost + k + o.cost ≡ t.cost + (k + o.cost) = omega arith in
-    ap (λ x. record {
-      end = o.end;
-      output = t.output ++ o.output;
-      input = o.input;
-      heap = o.heap;
-      cost = x;
-      output_past_limit = earlier t.output_past_limit t.output o.output_past_limit;
-      deepest = max t.deepest o.deepest;
-    }) e
+    same_parts refl e refl refl
 
 deeper_same : (t : Trace) (d : ℕ) (o : Outcome Ending) → since (record t { deepest = max t.deepest d }) o ≡ since t (reaches d o)
 deeper_same t d o =
     let e : max (max t.deepest d) o.deepest ≡ max t.deepest (max d o.deepest) = omega arith in
-    ap (λ x. record {
-      end = o.end;
-      output = t.output ++ o.output;
-      input = o.input;
-      heap = o.heap;
-      cost = t.cost + o.cost;
-      output_past_limit = earlier t.output_past_limit t.output o.output_past_limit;
-      deepest = x;
-    }) e
+    same_parts refl refl refl e
 
 earlier_past : (past : Option (List ℕ)) (above : Bool) (output : List ℕ) (later : Option (List ℕ)) →
     earlier (first_past past above output) output later ≡ earlier past output (if above then Some [] else later)
@@ -118,17 +102,7 @@ earlier_past None true output later = ap Some (sym (append-nil output))
 earlier_past None false output later = refl
 
 weigh_same : (t : Trace) (above : Bool) (o : Outcome Ending) → since (past_limit above t) o ≡ since t (passes_limit above o)
-weigh_same t above o =
-    ap (λ x. record {
-      end = o.end;
-      output = t.output ++ o.output;
-      input = o.input;
-      heap = o.heap;
-      cost = t.cost + o.cost;
-      output_past_limit = x;
-      deepest = max t.deepest o.deepest;
-    })
-    (earlier_past t.output_past_limit above t.output o.output_past_limit)
+weigh_same t above o = same_parts refl refl (earlier_past t.output_past_limit above t.output o.output_past_limit) refl
 
 turn_same : (n : ℕ) (s : RunState) (m : Direct Value) (m' : Passing Value) (go : Value → Rest) (out : Rest) → Same Value m m' →
     finished (fuelled n s m) go out ≡ since s.trace (with_turn (m' go out) s.world n)
@@ -172,24 +146,7 @@ told_same : (e : End Ending) (s : RunState) → told e s ≡ since s.trace (over
 told_same e s =
     let c : s.trace.cost ≡ s.trace.cost + 0 = omega arith in
     let d : s.trace.deepest ≡ max s.trace.deepest 0 = omega arith in
-    ap₂ (λ x y. record {
-      end = e;
-      output = x;
-      input = s.world.input;
-      heap = s.world.heap;
-      cost = y;
-      output_past_limit = s.trace.output_past_limit;
-      deepest = s.trace.deepest;
-    }) (sym (append-nil s.trace.output)) c ∙
-    ap₂ (λ x y. record {
-      end = e;
-      output = s.trace.output ++ [];
-      input = s.world.input;
-      heap = s.world.heap;
-      cost = s.trace.cost + 0;
-      output_past_limit = x;
-      deepest = y;
-    }) (earlier_none s.trace.output_past_limit s.trace.output) d
+    same_parts (sym (append-nil s.trace.output)) c (earlier_none s.trace.output_past_limit s.trace.output) d
 
 outcome_same : (r : Result Value) → outcome r ≡ finished r (λ v. ends (ended normal)) (ends stuck)
 outcome_same (gives v s) = told_same (ended normal) s
@@ -204,17 +161,7 @@ since_start : (o : Outcome Ending) → since (record { output = []; cost = 0; ou
 since_start o =
     let c : 0 + o.cost ≡ o.cost = omega arith in
     let d : max 0 o.deepest ≡ o.deepest = omega arith in
-    ap₂ (λ x y. record {
-      end = o.end;
-      output = o.output;
-      input = o.input;
-      heap = o.heap;
-      cost = x;
-      output_past_limit = first_written [] o.output_past_limit;
-      deepest = y;
-    }) c d ∙
-    ap (λ x. record { end = o.end; output = o.output; input = o.input; heap = o.heap; cost = o.cost; output_past_limit = x; deepest = o.deepest })
-    (first_nothing o.output_past_limit)
+    same_parts {e = o.end} {input = o.input} {output = o.output} {heap = o.heap} refl c (first_nothing o.output_past_limit) d
 
 pub twins : (names : List (List ℕ)) (body : Exp) (input : List ℕ) (heap stack fuel : ℕ) →
     evaluate names body input heap stack fuel ≡ evaluate_passing names body input heap stack fuel
