@@ -37,7 +37,7 @@ use crate::faults::Refused;
 use crate::fields::{Fields, fill_all, is_label};
 use crate::numbers::{Signed, number};
 use crate::rows::row;
-use crate::words::{greatest, least, slots};
+use crate::words::{slots, takes};
 use std::alloc::Global;
 use tg_base::Memory;
 use tg_isa::{AsmRule, Bits, Keyword, Mips, Reg, Segment};
@@ -160,7 +160,7 @@ fn instruction<'a>(keyword: Keyword, operands: &[Operand<'a>]) -> Result<Item<'a
 {
     match fill_all(slots(keyword, operands.len()), operands) {
         Some(fields) => {
-            if fields.number.is_within(least(keyword), greatest(keyword)) {
+            if takes(keyword, fields.number) {
                 Ok(Item::Code(code_words(keyword, &fields)))
             } else {
                 Err(Refused::Rule(AsmRule::A7))
@@ -218,8 +218,8 @@ fn datum_fits(keyword: Keyword, datum: &Datum<'_>) -> bool
     ensures { result ≡ items.datum_fits keyword (datum_of datum.now) }
 {
     match datum {
-        Datum::Value(number) => number.is_within(least(keyword), greatest(keyword)),
-        Datum::Single(number) => number.is_within(least(keyword), greatest(keyword)),
+        Datum::Value(number) => takes(keyword, *number),
+        Datum::Single(number) => takes(keyword, *number),
         _ => true,
     }
 }
@@ -373,7 +373,7 @@ fn size(keyword: Keyword, operands: &[Operand<'_>]) -> Result<u32, Refused>
     };
     match number(text) {
         Some(number) => {
-            if number.is_within(least(keyword), greatest(keyword)) {
+            if takes(keyword, number) {
                 Ok(number.size as u32)
             } else {
                 Err(Refused::Rule(AsmRule::A7))

@@ -1,4 +1,4 @@
-ghost use Rattle.std.specs.Prelude.{◌≡◌, ◌≤◌, ◌<◌, ◌^◌};
+ghost use Rattle.std.specs.Prelude.{◌≡◌, ◌≤◌, ◌<◌, ◌^◌, ◌-◌, ◌%◌, if◌then◌else◌};
 ghost use Rattle.tg_isa.specs.Operands as operands;
 ghost use Rattle.tg_asm.specs.Numbers.{found_number, signed_of};
 
@@ -32,62 +32,55 @@ impl Signed {
         }
     }
 
+    /// What the number is modulo so many values.
+    fn residue(self, values: u64) -> u64
+        requires { 0 < values }
+        ensures value { result
+            ≡ (if self.negative then (values - self.size % values) % values
+            else self.size % values) }
+        ensures bound { result < values }
+    {
+        let low = self.size % values;
+        if self.negative {
+            (values - low) % values
+        } else {
+            low
+        }
+    }
+
     /// The number's bits in a field of 5.
     pub(crate) fn field5(self) -> Bits<5>
         ensures { result ≡ operands.field 5 (signed_of self) }
     {
-        let low = (self.size % 32) as u32;
-        Bits::new(if self.negative { (32 - low) % 32 } else { low })
+        Bits::new(self.residue(32) as u32)
     }
 
     /// The number's bits in a field of 8.
     pub(crate) fn field8(self) -> u8
         ensures { result ≡ operands.field 8 (signed_of self) }
     {
-        let low = self.size % 256;
-        let bits = if self.negative {
-            (256 - low) % 256
-        } else {
-            low
-        };
-        bits as u8
+        self.residue(256) as u8
     }
 
     /// The number's bits in a field of 16.
     pub(crate) fn field16(self) -> Bits<16>
         ensures { result ≡ operands.field 16 (signed_of self) }
     {
-        let low = (self.size % 65536) as u32;
-        Bits::new(if self.negative {
-            (65536 - low) % 65536
-        } else {
-            low
-        })
+        Bits::new(self.residue(65536) as u32)
     }
 
     /// The number's bits in a field of 20.
     pub(crate) fn field20(self) -> Bits<20>
         ensures { result ≡ operands.field 20 (signed_of self) }
     {
-        let low = (self.size % 1048576) as u32;
-        Bits::new(if self.negative {
-            (1048576 - low) % 1048576
-        } else {
-            low
-        })
+        Bits::new(self.residue(1048576) as u32)
     }
 
     /// The number's bits in a word.
     pub(crate) fn field32(self) -> u32
         ensures { result ≡ operands.field 32 (signed_of self) }
     {
-        let low = self.size % 4294967296;
-        let bits = if self.negative {
-            (4294967296 - low) % 4294967296
-        } else {
-            low
-        };
-        bits as u32
+        self.residue(4294967296) as u32
     }
 }
 

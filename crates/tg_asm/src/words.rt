@@ -1,8 +1,11 @@
 ghost use Rattle.std.specs.Prelude.{◌≡◌, ◌≢◌, MatchOption};
 ghost use Rattle.tg_isa.specs.Items as items;
 ghost use Rattle.tg_isa.specs.Items.{spelling};
+ghost use Rattle.tg_isa.specs.Operands.{is_within};
 ghost use Rattle.tg_isa.specs.declared.keywords.Keyword.{Keyword};
+ghost use Rattle.tg_asm.specs.Numbers.{signed_of};
 
+use crate::numbers::Signed;
 use tg_base::MOST_BYTES;
 use tg_isa::{Keyword, Segment, Slot};
 
@@ -124,11 +127,13 @@ pub(crate) fn slots(keyword: Keyword, count: usize) -> &'static [Slot]
     }
 }
 
-/// Minus the least number that an item takes.
-pub(crate) fn least(keyword: Keyword) -> u64
-    ensures { result ≡ items.least keyword }
+/// The numbers that an item takes: minus the least one, and the greatest one.
+fn bounds(keyword: Keyword) -> (u64, u64)
+    ensures { result ≡ (items.least keyword, items.greatest keyword) }
 {
     match keyword {
+        Keyword::Sll | Keyword::Srl | Keyword::Sra => (0, 31),
+        Keyword::Break => (0, 1048575),
         Keyword::Addi
         | Keyword::Addiu
         | Keyword::Slti
@@ -137,36 +142,23 @@ pub(crate) fn least(keyword: Keyword) -> u64
         | Keyword::Lbu
         | Keyword::Lw
         | Keyword::Sb
-        | Keyword::Sw => 32768,
-        Keyword::Li | Keyword::Word => 2147483648,
-        Keyword::Byte => 128,
-        _ => 0,
+        | Keyword::Sw => (32768, 32767),
+        Keyword::Andi | Keyword::Ori | Keyword::Xori | Keyword::Lui => (0, 65535),
+        Keyword::Li | Keyword::Word => (2147483648, 4294967295),
+        Keyword::Byte => (128, 255),
+        Keyword::Space => (0, u64::from(MOST_BYTES)),
+        Keyword::Align => (0, 3),
+        _ => (0, 0),
     }
 }
 
-/// The greatest number that an item takes.
-pub(crate) fn greatest(keyword: Keyword) -> u64
-    ensures { result ≡ items.greatest keyword }
+/// Whether an item takes a number.
+pub(crate) fn takes(keyword: Keyword, number: Signed) -> bool
+    ensures { result
+        ≡ is_within (items.least keyword) (items.greatest keyword) (signed_of number) }
 {
-    match keyword {
-        Keyword::Sll | Keyword::Srl | Keyword::Sra => 31,
-        Keyword::Break => 1048575,
-        Keyword::Addi
-        | Keyword::Addiu
-        | Keyword::Slti
-        | Keyword::Sltiu
-        | Keyword::Lb
-        | Keyword::Lbu
-        | Keyword::Lw
-        | Keyword::Sb
-        | Keyword::Sw => 32767,
-        Keyword::Andi | Keyword::Ori | Keyword::Xori | Keyword::Lui => 65535,
-        Keyword::Li | Keyword::Word => 4294967295,
-        Keyword::Byte => 255,
-        Keyword::Space => u64::from(MOST_BYTES),
-        Keyword::Align => 3,
-        _ => 0,
-    }
+    let (least, greatest) = bounds(keyword);
+    number.is_within(least, greatest)
 }
 
 /// Whether an item may stand in a segment.
