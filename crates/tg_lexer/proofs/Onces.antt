@@ -212,57 +212,27 @@ place_once names bytes n m d e f = by (order n m)
 same_text : (inside other meant meaning : List ℕ) → IsQuoted inside meant → IsQuoted other meaning → inside ++ 34 ∷ [] ≡ other ++ 34 ∷ [] → meant ≡ meaning
 same_text inside other meant meaning q q' e = (quoted_once q q' [] [] e).meant_is
 
+-- no bytes spell two tokens of different kinds
+kinds_differ : (names : List (List ℕ)) (bytes : List ℕ) {one other : Token} → (kind one == kind other) ≡ false → Spells names bytes one →
+    Spells names bytes other → one ≡ other
+kinds_differ names bytes {one = one} {other = other} d h k =
+    absurd (differ (kind one) (kind other) d (sym (spells_kind names bytes one h) ∙ spells_kind names bytes other k))
+
 pub spells_once : (names : List (List ℕ)) (bytes : List ℕ) (one other : Token) → AreDistinct names → Spells names bytes one →
     Spells names bytes other → one ≡ other
 spells_once names bytes (token.Word w) (token.Word w') d h k = ap token.Word (sym (word_of-text w) ∙ ap word_of (sym h ∙ k) ∙ word_of-text w')
 spells_once names bytes (token.Word w) (token.Ident n') d h k = absurd (k.1 w h)
-spells_once names bytes (token.Word w) (token.Int n') d h k =
-    absurd (differ 0 1 refl (sym (spells_kind names bytes (token.Word w) h) ∙ spells_kind names bytes (token.Int n') k))
-spells_once names bytes (token.Word w) (token.Text t') d h k =
-    absurd (differ 0 2 refl (sym (spells_kind names bytes (token.Word w) h) ∙ spells_kind names bytes (token.Text t') k))
-spells_once names bytes (token.Word w) (token.Sign s') d h k =
-    absurd (differ 0 3 refl (sym (spells_kind names bytes (token.Word w) h) ∙ spells_kind names bytes (token.Sign s') k))
-spells_once names bytes (token.Word w) token.End d h k = absurd k
+spells_once names bytes (token.Word w) _ d h k = kinds_differ names bytes refl h k
 spells_once names bytes (token.Ident n) (token.Word w') d h k = absurd (h.1 w' k)
 spells_once names bytes (token.Ident n) (token.Ident n') d h k = ap (λ m. token.Ident (record { 0 = m })) (place_once names bytes n.0 n'.0 d h.2 k.2)
-spells_once names bytes (token.Ident n) (token.Int n') d h k =
-    absurd (differ 0 1 refl (sym (spells_kind names bytes (token.Ident n) h) ∙ spells_kind names bytes (token.Int n') k))
-spells_once names bytes (token.Ident n) (token.Text t') d h k =
-    absurd (differ 0 2 refl (sym (spells_kind names bytes (token.Ident n) h) ∙ spells_kind names bytes (token.Text t') k))
-spells_once names bytes (token.Ident n) (token.Sign s') d h k =
-    absurd (differ 0 3 refl (sym (spells_kind names bytes (token.Ident n) h) ∙ spells_kind names bytes (token.Sign s') k))
-spells_once names bytes (token.Ident n) token.End d h k = absurd k
-spells_once names bytes (token.Int n) (token.Word w') d h k =
-    absurd (differ 1 0 refl (sym (spells_kind names bytes (token.Int n) h) ∙ spells_kind names bytes (token.Word w') k))
-spells_once names bytes (token.Int n) (token.Ident n') d h k =
-    absurd (differ 1 0 refl (sym (spells_kind names bytes (token.Int n) h) ∙ spells_kind names bytes (token.Ident n') k))
+spells_once names bytes (token.Ident n) _ d h k = kinds_differ names bytes refl h k
 spells_once names bytes (token.Int n) (token.Int n') d h k = ap token.Int (h.1 ∙ sym k.1)
-spells_once names bytes (token.Int n) (token.Text t') d h k =
-    absurd (differ 1 2 refl (sym (spells_kind names bytes (token.Int n) h) ∙ spells_kind names bytes (token.Text t') k))
-spells_once names bytes (token.Int n) (token.Sign s') d h k =
-    absurd (differ 1 3 refl (sym (spells_kind names bytes (token.Int n) h) ∙ spells_kind names bytes (token.Sign s') k))
-spells_once names bytes (token.Int n) token.End d h k = absurd k
-spells_once names bytes (token.Text t) (token.Word w') d h k =
-    absurd (differ 2 0 refl (sym (spells_kind names bytes (token.Text t) h) ∙ spells_kind names bytes (token.Word w') k))
-spells_once names bytes (token.Text t) (token.Ident n') d h k =
-    absurd (differ 2 0 refl (sym (spells_kind names bytes (token.Text t) h) ∙ spells_kind names bytes (token.Ident n') k))
-spells_once names bytes (token.Text t) (token.Int n') d h k =
-    absurd (differ 2 1 refl (sym (spells_kind names bytes (token.Text t) h) ∙ spells_kind names bytes (token.Int n') k))
+spells_once names bytes (token.Int n) _ d h k = kinds_differ names bytes refl h k
 spells_once names bytes (token.Text t) (token.Text t') d h k = ap token.Text (same_text h.0 k.0 t t' h.2 k.2 (tail_is (sym h.1 ∙ k.1)))
-spells_once names bytes (token.Text t) (token.Sign s') d h k =
-    absurd (differ 2 3 refl (sym (spells_kind names bytes (token.Text t) h) ∙ spells_kind names bytes (token.Sign s') k))
-spells_once names bytes (token.Text t) token.End d h k = absurd k
-spells_once names bytes (token.Sign s) (token.Word w') d h k =
-    absurd (differ 3 0 refl (sym (spells_kind names bytes (token.Sign s) h) ∙ spells_kind names bytes (token.Word w') k))
-spells_once names bytes (token.Sign s) (token.Ident n') d h k =
-    absurd (differ 3 0 refl (sym (spells_kind names bytes (token.Sign s) h) ∙ spells_kind names bytes (token.Ident n') k))
-spells_once names bytes (token.Sign s) (token.Int n') d h k =
-    absurd (differ 3 1 refl (sym (spells_kind names bytes (token.Sign s) h) ∙ spells_kind names bytes (token.Int n') k))
-spells_once names bytes (token.Sign s) (token.Text t') d h k =
-    absurd (differ 3 2 refl (sym (spells_kind names bytes (token.Sign s) h) ∙ spells_kind names bytes (token.Text t') k))
+spells_once names bytes (token.Text t) _ d h k = kinds_differ names bytes refl h k
 spells_once names bytes (token.Sign s) (token.Sign s') d h k = ap token.Sign (sym (sign_of-text s) ∙ ap sign_of (sym h ∙ k) ∙ sign_of-text s')
-spells_once names bytes (token.Sign s) token.End d h k = absurd k
-spells_once names bytes token.End other d h k = absurd h
+spells_once names bytes (token.Sign s) _ d h k = kinds_differ names bytes refl h k
+spells_once names bytes token.End _ d h k = absurd h
 
 -- what has the form of a token begins with a byte that is no blank
 sign_blank : (s : Sign) → begins is_blank (sign_text s) ≡ false
