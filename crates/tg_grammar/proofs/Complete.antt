@@ -254,6 +254,37 @@ moved : {j : Job} {s : Steps (Of j)} {r : Answer (Of j)} (a : List Spanned) (t :
     Does j s (a ++ t ∷ (b ++ z)) r → Does j s ((a ++ t ∷ b) ++ z) r
 moved {j = j} {s = s} {r = r} a t b z h = subst (λ w. Does j s w r) (sym (append_assoc a (t ∷ b) z)) h
 
+-- the heights of a chain's level and of its right operands'
+heights : (k : Level) → IsChain k → (1 < height k) × (height k < height (below k))
+heights Disjunction c = (omega arith, omega arith)
+heights Conjunction c = (omega arith, omega arith)
+heights Sum c = (omega arith, omega arith)
+heights Term c = (omega arith, omega arith)
+heights _ c = absurd c
+
+-- a chain begins with this expression, whatever more of it follows
+abbrev Leads : Level → List Spanned → Exp → Spanned → List Spanned → Type 0
+Leads k s x t rest = Ends (below k) x t.token → (e : Exp) (z : List Spanned) → Follows k x (t ∷ rest) e z → Reaches k s e z
+
+leads_one : (k : Level) → IsChain k → {s : List Spanned} {x : Exp} {t : Spanned} {rest : List Spanned} →
+    (Ends (below k) x t.token → Reaches (below k) s x (t ∷ rest)) → Leads k s x t rest
+leads_one k c {s = s} {x = x} {t = t} {rest = rest} h n e z d = up k c s x (t ∷ rest) e z (h n) d
+
+leads_more : (k : Level) → IsChain k → (a b : List Spanned) {s : Spanned} {o : Op} {l r : Exp} {t : Spanned} {rest : List Spanned} →
+    ends_tail l ≡ false → op_of k s.token ≡ Some o → Leads k (a ++ s ∷ (b ++ t ∷ rest)) l s (b ++ t ∷ rest) →
+    (Ends (below k) r t.token → Reaches (below k) (b ++ t ∷ rest) r (t ∷ rest)) → Leads k ((a ++ s ∷ b) ++ t ∷ rest) (binary o s.span.from l r) t rest
+leads_more k c a b {s = s} {o = o} {l = l} {r = r} {t = t} {rest = rest} n q h g m e z d =
+    let w = heights k c in
+    moved a s b (t ∷ rest) (h (ends_left k (below k) l s.token o w.1 w.0 n q) e z (more k l r s o (b ++ t ∷ rest) (t ∷ rest) e z n q
+    (g (ends_right (below k) (below k) (binary o s.span.from l r) r t.token (omega arith) refl refl m)) d))
+
+-- nothing more of it follows
+leads_whole : (k : Level) → IsChain k → {s : List Spanned} {x : Exp} {t : Spanned} {rest : List Spanned} → Leads k s x t rest →
+    Ends k x t.token → Reaches k s x (t ∷ rest)
+leads_whole k c {x = x} {t = t} {rest = rest} h e =
+    let w = (heights k c).1 in
+    h (ends_lower k (below k) x t.token (omega arith) e) x (t ∷ rest) (stop k x t rest (no_op k t.token e.weak))
+
 comparing_stop : (l : Exp) (t : Spanned) (s : List Spanned) → strength t.token < 4 → Does (At Comparison) (comparing l) (t ∷ s) (Got l (t ∷ s))
 comparing_stop l t s h = by_test (ends_tail l) (λ b. test_yes (At Comparison) b (give_got (At Comparison)))
     (λ b. test_no (At Comparison) b (oper_no (At Comparison) (no_rel t.token h) (give_got (At Comparison))))
@@ -501,22 +532,12 @@ mutual
       (give_got (At Whole)))))
   complete (whole_up {a = a} {e = x} h) t rest e = call_got (At Whole) (At Disjunction)
       (complete h t rest (ends_lower Whole Disjunction x t.token (omega arith) e)) (assigning_stop x t rest e.weak)
-  complete (or_up {a = a} {e = x} h) t rest e = up Disjunction tt (a ++ t ∷ rest) x (t ∷ rest) x (t ∷ rest)
-      (complete h t rest (ends_lower Disjunction Conjunction x t.token (omega arith) e)) (stop Disjunction x t rest (no_op Disjunction t.token e.weak))
-  complete (or_more {a = a} {b = b} s {o = o} {l = l} {r = r} h n d g) t rest e =
-      moved a s b (t ∷ rest) (reaches h tt s (b ++ t ∷ rest) (ends_left Disjunction Conjunction l s.token o (omega arith) (omega arith) n d)
-      (binary o s.span.from l r) (t ∷ rest)
-      (more Disjunction l r s o (b ++ t ∷ rest) (t ∷ rest) (binary o s.span.from l r) (t ∷ rest) n d
-      (complete g t rest (ends_right Disjunction Conjunction (binary o s.span.from l r) r t.token (omega arith) refl refl e))
-      (stop Disjunction (binary o s.span.from l r) t rest (no_op Disjunction t.token e.weak))))
-  complete (and_up {a = a} {e = x} h) t rest e = up Conjunction tt (a ++ t ∷ rest) x (t ∷ rest) x (t ∷ rest)
-      (complete h t rest (ends_lower Conjunction Comparison x t.token (omega arith) e)) (stop Conjunction x t rest (no_op Conjunction t.token e.weak))
-  complete (and_more {a = a} {b = b} s {o = o} {l = l} {r = r} h n d g) t rest e =
-      moved a s b (t ∷ rest) (reaches h tt s (b ++ t ∷ rest) (ends_left Conjunction Comparison l s.token o (omega arith) (omega arith) n d)
-      (binary o s.span.from l r) (t ∷ rest)
-      (more Conjunction l r s o (b ++ t ∷ rest) (t ∷ rest) (binary o s.span.from l r) (t ∷ rest) n d
-      (complete g t rest (ends_right Conjunction Comparison (binary o s.span.from l r) r t.token (omega arith) refl refl e))
-      (stop Conjunction (binary o s.span.from l r) t rest (no_op Conjunction t.token e.weak))))
+  complete (or_up h) t rest e = leads_whole Disjunction tt (leads_one Disjunction tt (complete h t rest)) e
+  complete (or_more {a = a} {b = b} s h n d g) t rest e =
+      leads_whole Disjunction tt (leads_more Disjunction tt a b n d (reaches h tt s (b ++ t ∷ rest)) (complete g t rest)) e
+  complete (and_up h) t rest e = leads_whole Conjunction tt (leads_one Conjunction tt (complete h t rest)) e
+  complete (and_more {a = a} {b = b} s h n d g) t rest e =
+      leads_whole Conjunction tt (leads_more Conjunction tt a b n d (reaches h tt s (b ++ t ∷ rest)) (complete g t rest)) e
   complete (cmp_up {a = a} {e = x} h) t rest e = call_got (At Comparison) (At Sum)
       (complete h t rest (ends_lower Comparison Sum x t.token (omega arith) e)) (comparing_stop x t rest e.weak)
   complete (cmp_two {a = a} {b = b} s {o = o} {l = l} {r = r} h n d g) t rest e =
@@ -526,22 +547,12 @@ mutual
       (oper_yes (At Comparison) o d
       (call_got (At Comparison) (At Sum) (complete g t rest (ends_right Comparison Sum (binary o s.span.from l r) r t.token (omega arith) refl refl e))
       (give_got (At Comparison))))))
-  complete (sum_up {a = a} {e = x} h) t rest e = up Sum tt (a ++ t ∷ rest) x (t ∷ rest) x (t ∷ rest)
-      (complete h t rest (ends_lower Sum Term x t.token (omega arith) e)) (stop Sum x t rest (no_op Sum t.token e.weak))
-  complete (sum_more {a = a} {b = b} s {o = o} {l = l} {r = r} h n d g) t rest e =
-      moved a s b (t ∷ rest) (reaches h tt s (b ++ t ∷ rest) (ends_left Sum Term l s.token o (omega arith) (omega arith) n d)
-      (binary o s.span.from l r) (t ∷ rest)
-      (more Sum l r s o (b ++ t ∷ rest) (t ∷ rest) (binary o s.span.from l r) (t ∷ rest) n d
-      (complete g t rest (ends_right Sum Term (binary o s.span.from l r) r t.token (omega arith) refl refl e))
-      (stop Sum (binary o s.span.from l r) t rest (no_op Sum t.token e.weak))))
-  complete (term_up {a = a} {e = x} h) t rest e = up Term tt (a ++ t ∷ rest) x (t ∷ rest) x (t ∷ rest)
-      (complete h t rest (ends_lower Term Unary x t.token (omega arith) e)) (stop Term x t rest (no_op Term t.token e.weak))
-  complete (term_more {a = a} {b = b} s {o = o} {l = l} {r = r} h n d g) t rest e =
-      moved a s b (t ∷ rest) (reaches h tt s (b ++ t ∷ rest) (ends_left Term Unary l s.token o (omega arith) (omega arith) n d)
-      (binary o s.span.from l r) (t ∷ rest)
-      (more Term l r s o (b ++ t ∷ rest) (t ∷ rest) (binary o s.span.from l r) (t ∷ rest) n d
-      (complete g t rest (ends_right Term Unary (binary o s.span.from l r) r t.token (omega arith) refl refl e))
-      (stop Term (binary o s.span.from l r) t rest (no_op Term t.token e.weak))))
+  complete (sum_up h) t rest e = leads_whole Sum tt (leads_one Sum tt (complete h t rest)) e
+  complete (sum_more {a = a} {b = b} s h n d g) t rest e =
+      leads_whole Sum tt (leads_more Sum tt a b n d (reaches h tt s (b ++ t ∷ rest)) (complete g t rest)) e
+  complete (term_up h) t rest e = leads_whole Term tt (leads_one Term tt (complete h t rest)) e
+  complete (term_more {a = a} {b = b} s h n d g) t rest e =
+      leads_whole Term tt (leads_more Term tt a b n d (reaches h tt s (b ++ t ∷ rest)) (complete g t rest)) e
   complete (unary_minus {a = a} {e = x} m d h) t rest e =
       by_first m (token.Sign sign.Minus) (a ++ t ∷ rest) _ d (λ s. refl)
       (want_got (At Unary) d
@@ -636,29 +647,16 @@ mutual
       (call_got (At Unary) (At Whole) (complete g t rest (ends_last Tail (Fill (joined q.span (span_of x)) k n x) x t.token refl refl e))
       (give_got (At Unary)))))))))))
 
-  reaches : {k : Level} {u : List Spanned} {l : Exp} → Reads k u l → IsChain k → (t : Spanned) (rest : List Spanned) →
-      Ends (below k) l t.token → (e : Exp) (z : List Spanned) → Follows k l (t ∷ rest) e z → Reaches k (u ++ t ∷ rest) e z
-  reaches (or_up {a = a} {e = x} h) c t rest n e z d = up Disjunction tt (a ++ t ∷ rest) x (t ∷ rest) e z (complete h t rest n) d
-  reaches (or_more {a = a} {b = b} s {o = o} {l = l} {r = r} h n q g) c t rest m e z d =
-      moved a s b (t ∷ rest) (reaches h tt s (b ++ t ∷ rest) (ends_left Disjunction Conjunction l s.token o (omega arith) (omega arith) n q) e z
-      (more Disjunction l r s o (b ++ t ∷ rest) (t ∷ rest) e z n q
-      (complete g t rest (ends_right Conjunction Conjunction (binary o s.span.from l r) r t.token (omega arith) refl refl m)) d))
-  reaches (and_up {a = a} {e = x} h) c t rest n e z d = up Conjunction tt (a ++ t ∷ rest) x (t ∷ rest) e z (complete h t rest n) d
-  reaches (and_more {a = a} {b = b} s {o = o} {l = l} {r = r} h n q g) c t rest m e z d =
-      moved a s b (t ∷ rest) (reaches h tt s (b ++ t ∷ rest) (ends_left Conjunction Comparison l s.token o (omega arith) (omega arith) n q) e z
-      (more Conjunction l r s o (b ++ t ∷ rest) (t ∷ rest) e z n q
-      (complete g t rest (ends_right Comparison Comparison (binary o s.span.from l r) r t.token (omega arith) refl refl m)) d))
-  reaches (sum_up {a = a} {e = x} h) c t rest n e z d = up Sum tt (a ++ t ∷ rest) x (t ∷ rest) e z (complete h t rest n) d
-  reaches (sum_more {a = a} {b = b} s {o = o} {l = l} {r = r} h n q g) c t rest m e z d =
-      moved a s b (t ∷ rest) (reaches h tt s (b ++ t ∷ rest) (ends_left Sum Term l s.token o (omega arith) (omega arith) n q) e z
-      (more Sum l r s o (b ++ t ∷ rest) (t ∷ rest) e z n q
-      (complete g t rest (ends_right Term Term (binary o s.span.from l r) r t.token (omega arith) refl refl m)) d))
-  reaches (term_up {a = a} {e = x} h) c t rest n e z d = up Term tt (a ++ t ∷ rest) x (t ∷ rest) e z (complete h t rest n) d
-  reaches (term_more {a = a} {b = b} s {o = o} {l = l} {r = r} h n q g) c t rest m e z d =
-      moved a s b (t ∷ rest) (reaches h tt s (b ++ t ∷ rest) (ends_left Term Unary l s.token o (omega arith) (omega arith) n q) e z
-      (more Term l r s o (b ++ t ∷ rest) (t ∷ rest) e z n q
-      (complete g t rest (ends_right Unary Unary (binary o s.span.from l r) r t.token (omega arith) refl refl m)) d))
-  reaches _ c t rest n e z d = absurd c
+  reaches : {k : Level} {u : List Spanned} {l : Exp} → Reads k u l → IsChain k → (t : Spanned) (rest : List Spanned) → Leads k (u ++ t ∷ rest) l t rest
+  reaches (or_up h) c t rest = leads_one Disjunction tt (complete h t rest)
+  reaches (or_more {a = a} {b = b} s h n q g) c t rest = leads_more Disjunction tt a b n q (reaches h tt s (b ++ t ∷ rest)) (complete g t rest)
+  reaches (and_up h) c t rest = leads_one Conjunction tt (complete h t rest)
+  reaches (and_more {a = a} {b = b} s h n q g) c t rest = leads_more Conjunction tt a b n q (reaches h tt s (b ++ t ∷ rest)) (complete g t rest)
+  reaches (sum_up h) c t rest = leads_one Sum tt (complete h t rest)
+  reaches (sum_more {a = a} {b = b} s h n q g) c t rest = leads_more Sum tt a b n q (reaches h tt s (b ++ t ∷ rest)) (complete g t rest)
+  reaches (term_up h) c t rest = leads_one Term tt (complete h t rest)
+  reaches (term_more {a = a} {b = b} s h n q g) c t rest = leads_more Term tt a b n q (reaches h tt s (b ++ t ∷ rest)) (complete g t rest)
+  reaches _ c t rest = absurd c
 
   place_reaches : {u : List Spanned} {s : Span} {v : LValue} → IsPlace u s v → (t : Spanned) (rest : List Spanned) →
       strength t.token ≤ limit v → (e : Span × LValue) (z : List Spanned) → Does (Suffix s v) (suffixes s v) (t ∷ rest) (Got e z) →
