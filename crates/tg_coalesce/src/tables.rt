@@ -15,7 +15,6 @@ ghost use Rattle.std.specs.Prelude.{
   slice_index,
   sum,
 };
-ghost use Rattle.std.specs.List.{range_with_len};
 ghost use Rattle.tg_graph.specs.Keeping.{lists_of};
 ghost use Rattle.tg_rounds.specs.States as states;
 ghost use Rattle.tg_coalesce.specs.Lists.{list_at, lowered, moved_sum};
@@ -38,7 +37,7 @@ use std::alloc::Global;
 use std::collections::VecDeque;
 use std::marker::Model;
 use tg_base::Memory;
-use tg_graph::empty_lists;
+use tg_graph::{empty_lists, numbers};
 use tg_rounds::{Move, MoveState};
 
 /// The moves of a round, their states, and those that are to be tried. For each class it lists the
@@ -74,7 +73,7 @@ impl MoveTable {
         Ok(MoveTable {
             moves: Vec::from_slice(alloc, moves)?,
             states: vec![in alloc; MoveState::Ready; moves.len()]?,
-            ready: queue(alloc, moves.len() as u32)?,
+            ready: VecDeque::from(numbers(alloc, moves.len() as u32)?),
             touching: list_ends(alloc, moves, nodes)?,
             unsettled: count_ends(alloc, moves, nodes)?,
         })
@@ -262,15 +261,4 @@ fn move_count(counts: &mut [usize], to: u32, from: u32)
     let more = counts[from as usize];
     counts[from as usize] = 0;
     counts[to as usize] += more;
-}
-
-/// The numbers below a number, in rising order.
-fn queue(alloc: Global, count: u32) -> Result<VecDeque<u32>, Memory>
-    ensures { IfOk result (λ q. q.items ≡ range_with_len 0 count) }
-{
-    let mut queue = VecDeque::new(alloc);
-    for number in 0..count {
-        queue.push_back(number)?;
-    }
-    Ok(queue)
 }

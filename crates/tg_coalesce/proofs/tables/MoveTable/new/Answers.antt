@@ -1,4 +1,4 @@
-use Rattle.std.proofs.Common.{◌≡◌, length, replicate, rules}
+use Rattle.std.proofs.Common.{◌≡◌, ◌∙◌, length, replicate, rules}
 use Rattle.tg_rounds.specs.declared.moves.MoveState.TheVariants.{Ready}
 use Rattle.tg_coalesce.specs.Tables.{started}
 use Rattle.tg_coalesce.proofs.Tabling.{started_table, same_table}
@@ -9,4 +9,4 @@ invariant_of-result c =
     let s = started c.args.moves.now c.args.nodes in
     let states : c.in_ok-vec.field-0.items ≡ replicate (length c.args.moves.now) Ready = search rules in
     same_table s (started_table c.args.moves.now c.args.nodes c.requires.few c.requires.ends)
-    _ _ _ _ _ c.in_ok-from_slice.ensures.items states c.in_ok-queue.ensures c.in_ok-list_ends.ensures c.in_ok-count_ends.ensures
+    _ _ _ _ _ c.in_ok-from_slice.ensures.items states (c.from.ensures.0 ∙ c.in_ok-numbers.ensures) c.in_ok-list_ends.ensures c.in_ok-count_ends.ensures
