@@ -135,24 +135,28 @@ module _ (OfIdent : Ident → Type 0) (OfByte : (at : ℕ) → Type 0) where
   of_annotation (annotated c t i j) k = ident t j k.1.0
 
   -- two operands and the operator between them
-  of_two : (a b : List Spanned) (t : Spanned) (l r : Exp) → AllGive (a ++ t ∷ b) → Throughout OfIdent OfByte l → Throughout OfIdent OfByte r →
+  of_two : (a b : List Spanned) (t : Spanned) (l r : Exp) → AllGive (a ++ t ∷ b) → (AllGive a → Throughout OfIdent OfByte l) →
+      (AllGive b → Throughout OfIdent OfByte r) →
       OfByte (span_of l).from × OfByte t.span.from × Throughout OfIdent OfByte l × Throughout OfIdent OfByte r
-  of_two a b t l r k first last = (at_start l first, (right a (t ∷ b) k).0.1, first, last)
+  of_two a b t l r k of_left of_right =
+      let first = of_left (left a (t ∷ b) k) in
+      let rest = right a (t ∷ b) k in
+      (at_start l first, rest.0.1, first, of_right rest.1)
 
   mutual
     of_exp : {l : Level} {a : List Spanned} {e : Exp} → Reads l a e → AllGive a → Throughout OfIdent OfByte e
     of_exp (whole_assign {a} {b} t p i r) k = (place_start p (left a (t ∷ b) k), of_place p (left a (t ∷ b) k), of_exp r (right a (t ∷ b) k).1)
     of_exp (whole_up r) k = of_exp r k
     of_exp (or_up r) k = of_exp r k
-    of_exp (or_more {a} {b} t {l = l} {r = e} m closed o r) k = of_two a b t l e k (of_exp m (left a (t ∷ b) k)) (of_exp r (right a (t ∷ b) k).1)
+    of_exp (or_more {a} {b} t {l = l} {r = e} m closed o r) k = of_two a b t l e k (of_exp m) (of_exp r)
     of_exp (and_up r) k = of_exp r k
-    of_exp (and_more {a} {b} t {l = l} {r = e} m closed o r) k = of_two a b t l e k (of_exp m (left a (t ∷ b) k)) (of_exp r (right a (t ∷ b) k).1)
+    of_exp (and_more {a} {b} t {l = l} {r = e} m closed o r) k = of_two a b t l e k (of_exp m) (of_exp r)
     of_exp (cmp_up r) k = of_exp r k
-    of_exp (cmp_two {a} {b} t {l = l} {r = e} m closed o r) k = of_two a b t l e k (of_exp m (left a (t ∷ b) k)) (of_exp r (right a (t ∷ b) k).1)
+    of_exp (cmp_two {a} {b} t {l = l} {r = e} m closed o r) k = of_two a b t l e k (of_exp m) (of_exp r)
     of_exp (sum_up r) k = of_exp r k
-    of_exp (sum_more {a} {b} t {l = l} {r = e} m closed o r) k = of_two a b t l e k (of_exp m (left a (t ∷ b) k)) (of_exp r (right a (t ∷ b) k).1)
+    of_exp (sum_more {a} {b} t {l = l} {r = e} m closed o r) k = of_two a b t l e k (of_exp m) (of_exp r)
     of_exp (term_up r) k = of_exp r k
-    of_exp (term_more {a} {b} t {l = l} {r = e} m closed o r) k = of_two a b t l e k (of_exp m (left a (t ∷ b) k)) (of_exp r (right a (t ∷ b) k).1)
+    of_exp (term_more {a} {b} t {l = l} {r = e} m closed o r) k = of_two a b t l e k (of_exp m) (of_exp r)
     of_exp (unary_minus t i r) k = (k.0.1, of_exp r k.1)
     of_exp (unary_primary r) k = of_exp r k
     of_exp (unary_tail r) k = of_exp r k
