@@ -670,7 +670,8 @@ mutual
       (name_got (Suffix s v) g (call_got (Suffix s v) (Suffix (joined s x.span) (Field v x))
       (subst (λ p. Does (Suffix (joined s p) (Field v x)) (suffixes (joined s p) (Field v x)) (t ∷ rest) (Got e z)) g.span d) (give_got (Suffix s v))))))
   place_reaches (place_index {a = a} {b = b} {s = s} {v = v} {e = x} l r h f g k) t rest n e z d =
-      let inner : Reaches Whole (b ++ r ∷ t ∷ rest) x (r ∷ t ∷ rest) = complete g r (t ∷ rest) (ends_mark x r.token (token.Sign RightBracket) k (omega arith) (λ y. cc)) in
+      let ends = ends_mark x r.token (token.Sign RightBracket) k (omega arith) (λ y. cc) in
+      let inner : Reaches Whole (b ++ r ∷ t ∷ rest) x (r ∷ t ∷ rest) = complete g r (t ∷ rest) ends in
       subst (λ w. Reaches Unary w (reading e) z)
       (sym (append_assoc a (l ∷ (b ++ r ∷ [])) (t ∷ rest) ∙ ap (λ w. a ++ l ∷ w) (append_assoc b (r ∷ []) (t ∷ rest))))
       (place_or_name v

@@ -1,5 +1,5 @@
 -- The names of a tree are those of its tokens.
-use Rattle.std.proofs.Common.{ℕ, ◌+◌, ◌<◌, List, [], ◌∷◌, length, subst}
+use Rattle.std.proofs.Common.{ℕ, ◌+◌, ◌<◌, List, length, subst}
 use Rattle.tg_syntax.specs.declared.tokens.Token.{Token}
 use Rattle.tg_syntax.specs.declared.tokens.Token.TheVariants as token
 use Rattle.tg_syntax.specs.declared.tokens.Spanned.{Spanned}
