@@ -12,7 +12,7 @@ use Rattle.tg_syntax.specs.declared.faults.LexRule.{LexRule}
 use Rattle.tg_syntax.specs.declared.faults.LexRule.TheVariants.{L1, L2, L5}
 use Rattle.std.specs.Str.Parse.{IsNumeral, digits_value}
 use Rattle.tg_syntax.proofs.Numerals.{is_digit_from, digits_of_bytes, none_is_numeral}
-use Rattle.tg_syntax.specs.Spellings.{sign_text, word_text, is_blank, is_letter, is_digit, is_name_byte, AllAre, IsName, IsQuoted, HasTokenForm, name}
+use Rattle.tg_syntax.specs.Spellings.{sign_text, word_text, is_blank, is_letter, is_digit, is_name_byte, IsName, IsQuoted, HasTokenForm, name}
 use Rattle.tg_syntax.specs.Spellings.{sign, digits, quoted}
 use Rattle.tg_syntax.specs.Lexing.{OpensComment, Closes, IsLongest}
 use Rattle.tg_syntax.specs.LexicalFaults.{FaultAt, illegal_byte, comment_not_closed, large_int}
