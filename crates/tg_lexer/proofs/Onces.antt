@@ -123,28 +123,16 @@ one_front a b c d e s l s' l' = by (two_fronts a b c d e)
 
 -- bytes spell one token
 abbrev word_of : List ℕ → Word
-word_of bytes = cond (bytes_eq bytes (codes "array")) WArray (cond (bytes_eq bytes (codes "break")) WBreak
-    (cond (bytes_eq bytes
-    (codes "do")) WDo (cond (bytes_eq bytes (codes "else")) WElse (cond (bytes_eq bytes (codes "end")) WEnd (cond (bytes_eq bytes (codes "for")) WFor (cond (bytes_eq bytes (codes "function")) WFunction (cond (bytes_eq bytes (codes "if")) WIf (cond (bytes_eq bytes (codes "in")) WIn (cond (bytes_eq bytes (codes "let")) WLet (cond (bytes_eq bytes (codes "nil")) WNil (cond (bytes_eq bytes (codes "of")) WOf (cond (bytes_eq bytes (codes "then")) WThen (cond (bytes_eq bytes (codes "to")) WTo (cond (bytes_eq bytes (codes "type")) WType (cond (bytes_eq bytes (codes "var")) WVar (WWhile))))))))))))))))
+word_of bytes = cond (bytes_eq bytes (codes "array")) WArray
+    (cond (bytes_eq bytes (codes "break")) WBreak (cond (bytes_eq bytes (codes "do")) WDo (cond (bytes_eq bytes (codes "else")) WElse
+    (cond (bytes_eq bytes (codes "end")) WEnd (cond (bytes_eq bytes (codes "for")) WFor (cond (bytes_eq bytes (codes "function")) WFunction
+    (cond (bytes_eq bytes (codes "if")) WIf (cond (bytes_eq bytes (codes "in")) WIn (cond (bytes_eq bytes (codes "let")) WLet
+    (cond (bytes_eq bytes (codes "nil")) WNil (cond (bytes_eq bytes (codes "of")) WOf (cond (bytes_eq bytes (codes "then")) WThen
+    (cond (bytes_eq bytes (codes "to")) WTo (cond (bytes_eq bytes (codes "type")) WType (cond (bytes_eq bytes (codes "var")) WVar WWhile)))))))))))))))
 
 word_of-text : (w : Word) → word_of (word_text w) ≡ w
 word_of-text WArray = refl
-word_of-text WBreak = refl
-word_of-text WDo = refl
-word_of-text WElse = refl
-word_of-text WEnd = refl
-word_of-text WFor = refl
-word_of-text WFunction = refl
-word_of-text WIf = refl
-word_of-text WIn = refl
-word_of-text WLet = refl
-word_of-text WNil = refl
-word_of-text WOf = refl
-word_of-text WThen = refl
-word_of-text WTo = refl
-word_of-text WType = refl
-word_of-text WVar = refl
-word_of-text WWhile = refl
+word_of-text _ = refl
 
 abbrev sign_of : List ℕ → Sign
 sign_of bytes = cond (bytes_eq bytes (codes ",")) Comma
@@ -164,28 +152,7 @@ sign_of bytes = cond (bytes_eq bytes (codes ",")) Comma
 
 sign_of-text : (s : Sign) → sign_of (sign_text s) ≡ s
 sign_of-text Comma = refl
-sign_of-text Colon = refl
-sign_of-text Semicolon = refl
-sign_of-text LeftParen = refl
-sign_of-text RightParen = refl
-sign_of-text LeftBracket = refl
-sign_of-text RightBracket = refl
-sign_of-text LeftBrace = refl
-sign_of-text RightBrace = refl
-sign_of-text Dot = refl
-sign_of-text Plus = refl
-sign_of-text Minus = refl
-sign_of-text Times = refl
-sign_of-text Divide = refl
-sign_of-text Equal = refl
-sign_of-text NotEqual = refl
-sign_of-text Less = refl
-sign_of-text LessEqual = refl
-sign_of-text Greater = refl
-sign_of-text GreaterEqual = refl
-sign_of-text And = refl
-sign_of-text Or = refl
-sign_of-text Assign = refl
+sign_of-text _ = refl
 
 order : (n m : ℕ) → (n < m) ⊎ ((n ≡ m) ⊎ (m < n))
 order zero zero = inr (inl refl)
