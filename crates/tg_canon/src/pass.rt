@@ -52,13 +52,8 @@ fn lift(x: Tx, supply: &mut Supply, breaks: &Breaks, height: u32) -> Result<Lift
         Tx::Temp(temp) => Ok(whole(supply.alloc, Tx::Temp(temp))),
         Tx::FrameAddress => Ok(whole(supply.alloc, Tx::FrameAddress)),
         Tx::Binary(op, x, y) => {
-            let both = lift_both(
-                Box::into_inner(x),
-                Box::into_inner(y),
-                supply,
-                breaks,
-                lower,
-            )?;
+            let (x, y) = (Box::into_inner(x), Box::into_inner(y));
+            let both = lift_both(x, y, supply, breaks, lower)?;
             Ok(operate(supply.alloc, op, both)?)
         }
         Tx::Load(x) => {
@@ -148,13 +143,8 @@ fn condition(
     let lower = descend(height)?;
     match test {
         Cond::Compare(rel, x, y) => {
-            let both = lift_both(
-                Box::into_inner(x),
-                Box::into_inner(y),
-                supply,
-                breaks,
-                lower,
-            )?;
+            let (x, y) = (Box::into_inner(x), Box::into_inner(y));
+            let both = lift_both(x, y, supply, breaks, lower)?;
             Ok(compare_both(supply.alloc, rel, both)?)
         }
         Cond::Not(c) => {
@@ -190,13 +180,8 @@ fn leave(
     let lower = descend(height)?;
     match test {
         Cond::Compare(rel, x, y) => {
-            let both = lift_both(
-                Box::into_inner(x),
-                Box::into_inner(y),
-                supply,
-                breaks,
-                lower,
-            )?;
+            let (x, y) = (Box::into_inner(x), Box::into_inner(y));
+            let both = lift_both(x, y, supply, breaks, lower)?;
             let t = compare_both(supply.alloc, rel, both)?;
             Ok(t.exit_where(supply.alloc, when, loops)?)
         }

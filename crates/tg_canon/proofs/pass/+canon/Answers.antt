@@ -31,13 +31,13 @@ pub lift-returns-in_ok-operate-in-Binary : goal.lift-returns-in_ok-operate-in-Bi
 lift-returns-in_ok-operate-in-Binary t c =
     lifts_as (leads c.args.breaks.now) c.in-Binary.is (binary_lifts (leads c.args.breaks.now) c.in-Binary.op
     (plain_tx c.in-Binary.x.value) (plain_tx c.in-Binary.y.value)
-    (both_as (leads c.args.breaks.now) (sym c.into_inner.ensures) (sym c.into_inner-in-Binary.ensures) c.in_ok-both-in-Binary.ensures)
+    (both_as (leads c.args.breaks.now) (sym c.into_inner-x.ensures) (sym c.into_inner-y.ensures) c.in_ok-both-in-Binary.ensures)
     c.in_ok-operate-in-Binary.ensures)
 
 pub lift-returns-in_ok-load_from-in-Load : goal.lift-returns-in_ok-load_from-in-Load
 lift-returns-in_ok-load_from-in-Load t c =
     lifts_as (leads c.args.breaks.now) c.in-Load.is (load_lifts (leads c.args.breaks.now) (plain_tx c.in-Load.x.value)
-    (word_as (leads c.args.breaks.now) (sym c.into_inner-in-Load.ensures) c.in_ok-a-in-Load.ensures) c.in_ok-load_from-in-Load.ensures)
+    (word_as (leads c.args.breaks.now) (sym c.into_inner.ensures) c.in_ok-a-in-Load.ensures) c.in_ok-load_from-in-Load.ensures)
 
 pub lift-returns-in_ok-load_byte_from-in-LoadByte : goal.lift-returns-in_ok-load_byte_from-in-LoadByte
 lift-returns-in_ok-load_byte_from-in-LoadByte t c =
@@ -85,13 +85,13 @@ pub condition-returns-in_ok-compare_both-in-Compare : goal.condition-returns-in_
 condition-returns-in_ok-compare_both-in-Compare t c =
     tests_as (leads c.args.breaks.now) c.in-Compare.is (compare_tests (leads c.args.breaks.now) c.in-Compare.rel
     (plain_tx c.in-Compare.x.value) (plain_tx c.in-Compare.y.value)
-    (both_as (leads c.args.breaks.now) (sym c.into_inner.ensures) (sym c.into_inner-in-Compare.ensures) c.in_ok-both-in-Compare.ensures)
+    (both_as (leads c.args.breaks.now) (sym c.into_inner-x.ensures) (sym c.into_inner-y.ensures) c.in_ok-both-in-Compare.ensures)
     c.in_ok-compare_both-in-Compare.ensures)
 
 pub condition-returns-in_ok-opposite-in-Not : goal.condition-returns-in_ok-opposite-in-Not
 condition-returns-in_ok-opposite-in-Not t c =
     tests_as (leads c.args.breaks.now) c.in-Not.is (not_tests (leads c.args.breaks.now) (plain_cond c.in-Not.c.value)
-    (tests_as (leads c.args.breaks.now) (sym c.into_inner-in-Not.ensures) c.in_ok-t-in-Not.ensures) c.in_ok-opposite-in-Not.ensures)
+    (tests_as (leads c.args.breaks.now) (sym c.into_inner.ensures) c.in_ok-t-in-Not.ensures) c.in_ok-opposite-in-Not.ensures)
 
 pub condition-returns-in_ok-and-in-Both : goal.condition-returns-in_ok-and-in-Both
 condition-returns-in_ok-and-in-Both t c =
@@ -109,14 +109,14 @@ pub leave-returns-in_ok-exit_where-in-Compare : goal.leave-returns-in_ok-exit_wh
 leave-returns-in_ok-exit_where-in-Compare t c =
     leaves_as (leads c.args.breaks.now) c.args.when c.args.loops c.in-Compare.is
     (compare_leaves (leads c.args.breaks.now) c.args.when c.args.loops c.in-Compare.rel (plain_tx c.in-Compare.x.value) (plain_tx c.in-Compare.y.value)
-    (both_as (leads c.args.breaks.now) (sym c.into_inner.ensures) (sym c.into_inner-in-Compare.ensures) c.in_ok-both-in-Compare.ensures)
+    (both_as (leads c.args.breaks.now) (sym c.into_inner-x.ensures) (sym c.into_inner-y.ensures) c.in_ok-both-in-Compare.ensures)
     c.in_ok-t-in-Compare.ensures c.in_ok-exit_where-in-Compare.ensures)
 
 pub leave-returns-in_ok-leave-in-Not : goal.leave-returns-in_ok-leave-in-Not
 leave-returns-in_ok-leave-in-Not t c =
     leaves_as (leads c.args.breaks.now) c.args.when c.args.loops c.in-Not.is
     (not_leaves (leads c.args.breaks.now) c.args.when c.args.loops (plain_cond c.in-Not.c.value)
-    (leaves_as (leads c.args.breaks.now) (not c.args.when) c.args.loops (sym c.into_inner-in-Not.ensures) c.in_ok-leave-in-Not.ensures))
+    (leaves_as (leads c.args.breaks.now) (not c.args.when) c.args.loops (sym c.into_inner.ensures) c.in_ok-leave-in-Not.ensures))
 
 pub linear-returns-in_ok-move_to-in-Move : goal.linear-returns-in_ok-move_to-in-Move
 linear-returns-in_ok-move_to-in-Move t c =
