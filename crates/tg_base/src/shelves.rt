@@ -59,6 +59,7 @@ impl Model for PlainShelf {
 }
 
 impl PlainShelf {
+    /// A shelf of these files, by their names, none of them read so far.
     pub fn new(files: BTreeMap<String, Vec<u8>>) -> PlainShelf
         ensures { result ≡ record { held = named files; calls = 0; faults = 0 } }
     {
@@ -131,6 +132,7 @@ impl Model for MapShelf {
 }
 
 impl MapShelf {
+    /// A shelf of these files, by their names, whose reads fail at the listed calls.
     pub fn new(files: BTreeMap<String, Vec<u8>>, fails: Vec<u64>) -> MapShelf
         ensures { result ≡ record { held = named files; counts = none_so_far fails.items } }
     {

@@ -45,6 +45,7 @@ impl Model for RoomSink {
 }
 
 impl RoomSink {
+    /// An empty sink with room for so many bytes, whose writes fail at the listed calls.
     pub fn new(alloc: Global, room: usize, fails: Vec<u64>) -> Result<RoomSink, Memory>
         ensures { IfOk result (λ s. s ≡ empty_room room fails.items) }
     {

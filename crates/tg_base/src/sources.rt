@@ -62,6 +62,7 @@ impl Model for PlainSource {
 }
 
 impl PlainSource {
+    /// A source of these bytes, none of them read so far.
     pub fn new(bytes: Vec<u8>) -> PlainSource
         ensures { result ≡ record { left = bytes.items; calls = 0 } }
     {
@@ -119,6 +120,7 @@ impl Model for ListSource {
 }
 
 impl ListSource {
+    /// A source of these bytes, none of them read so far, whose reads fail at the listed calls.
     pub fn new(bytes: Vec<u8>, fails: Vec<u64>) -> ListSource
         ensures { result ≡ record { left = bytes.items; counts = none_so_far fails.items } }
     {

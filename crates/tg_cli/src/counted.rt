@@ -18,6 +18,7 @@ impl<T> Model for Counted<T> {
 }
 
 impl<T> Counted<T> {
+    /// A part without a fault so far.
     pub fn new(part: T) -> Counted<T>
         ensures { result ≡ 0 }
     {

@@ -18,20 +18,28 @@ impl Model for Reg {
 }
 
 impl Reg {
+    /// `$zero`, which reads as 0 and keeps no word.
     pub const ZERO: Reg = Reg(0);
 
+    /// `$v0`, of a call's result, and of the number of a service.
     pub const V0: Reg = Reg(2);
 
+    /// `$a0`, of the first argument of a call, and of a service.
     pub const A0: Reg = Reg(4);
 
+    /// `$t0`, the first of the registers that a call needn't keep.
     pub const T0: Reg = Reg(8);
 
+    /// `$t1`, the second of them.
     pub const T1: Reg = Reg(9);
 
+    /// `$t2`, the third of them.
     pub const T2: Reg = Reg(10);
 
+    /// `$sp`, the lowest address of the stack that is in use.
     pub const SP: Reg = Reg(29);
 
+    /// `$ra`, the address that a call returns to.
     pub const RA: Reg = Reg(31);
 
     /// The register with a number.
