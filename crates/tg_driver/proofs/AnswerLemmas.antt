@@ -183,12 +183,6 @@ executed s a text image (Finished end) short is run = record { short = short; im
 executed s a text image OutOfMemory short is run = tt
 executed s a text image _ short is run = absurd run
 
-pub executed_untouched : {I O : Type 0} (s : Streams I O) (image : Image) (heap stack steps : ℕ) (answer : Answer) →
-    IsRunOrMemory s image heap stack steps answer → UntouchedBeforeStart s answer
-executed_untouched s image heap stack steps (Finished end) run = tt
-executed_untouched s image heap stack steps OutOfMemory run = run
-executed_untouched s image heap stack steps _ run = absurd run
-
 -- a mode's answer to its file, and what it leaves alone
 pub by_check : {H I O : Type 0} (shelf : Shelved H) (s : Streams I O) (a : Asked) (answer : Answer) → Untouched s →
     OrMemory (Unit {0}) (OfFile shelf a.file 262145 IsChecked) answer → OrMemory (Untouched s) (ByCheck shelf s a) answer

@@ -22,6 +22,9 @@ use Rattle.tg_driver.specs.Meanings.{SourcesAreNeverStuck}
 use Rattle.tg_driver.specs.Sources.{IsSource, IsSourceOf}
 use Rattle.tg_driver.specs.Builds.{CompilesTo, Builds}
 use Rattle.tg_driver.specs.AllocMode.{Lists}
+use Rattle.tg_driver.specs.declared.writing.Wanted.{Wanted}
+use Rattle.tg_driver.specs.declared.writing.Wanted.TheVariants.{Assembly, Allocations}
+use Rattle.tg_driver.specs.Texts.{wanted_text, writes_of}
 use Rattle.tg_driver.specs.Readings.{HasNamedTree, IsTypeFaultOf}
 use Rattle.tg_compile.proofs.NotesAlike.{compiles_alike}
 
@@ -67,6 +70,12 @@ builds rule text allocations assembly h = record { allocations = allocations; co
 pub lists : (rule : SpillRule) (text : List ℕ) (allocations : List Allocation) (assembly : List ℕ) →
     CompilesTo rule text allocations assembly → Lists rule text (listed allocations)
 lists rule text allocations assembly h = record { allocations = allocations; assembly = assembly; compiles = h; listing_is = refl }
+
+-- and what is wanted of a source is a text that may be written of it
+pub writes_wanted : (w : Wanted) (rule : SpillRule) (text : List ℕ) (allocations : List Allocation) (assembly : List ℕ) →
+    CompilesTo rule text allocations assembly → writes_of w rule text (wanted_text w allocations assembly)
+writes_wanted Assembly rule text allocations assembly h = builds rule text allocations assembly h
+writes_wanted Allocations rule text allocations assembly h = lists rule text allocations assembly h
 
 pub has_image : (rule : SpillRule) (text : List ℕ) (allocations : List Allocation) (assembly : List ℕ) →
     CompilesTo rule text allocations assembly → HasImage assembly

@@ -6,9 +6,9 @@ use Rattle.tg_spill.specs.declared.allocations.Allocation.{Allocation}
 use Rattle.tg_listing.specs.Listing.{listed}
 use Rattle.tg_command.specs.Commands.{Asked}
 use Rattle.tg_driver.specs.declared.answers.Answer.{Answer}
-use Rattle.tg_driver.specs.Calls.{Shelved, Stream, Streams}
+use Rattle.tg_driver.specs.Calls.{Shelved, Streams}
 use Rattle.tg_driver.specs.Builds.{CompilesTo}
-use Rattle.tg_driver.specs.Writing.{IsWritten, ByWriting}
+use Rattle.tg_driver.specs.Writing.{ByWriting}
 
 -- the source is compiled to allocations, of which this is the text
 pub record Lists (rule : SpillRule) (text listing : List ℕ) : Type 0 where
@@ -16,10 +16,6 @@ pub record Lists (rule : SpillRule) (text listing : List ℕ) : Type 0 where
   pub assembly : List ℕ
   pub compiles : CompilesTo rule text allocations assembly
   pub listing_is : listing ≡ listed allocations
-
--- to a text: its first fault, or what came of writing the text of its allocations
-abbrev pub IsListed : {O : Type 0} → SpillRule → Stream O → List ℕ → Answer → Type 0
-IsListed rule out text answer = IsWritten out (Lists rule) text answer
 
 abbrev pub ByAlloc :
     {H I O : Type 0} → SpillRule → Shelved H → Streams I O → Asked → Answer → Type 0

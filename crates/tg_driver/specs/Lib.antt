@@ -10,6 +10,7 @@ pub mod BuildMode
 pub mod RunMode
 pub mod ExecMode
 pub mod AllocMode
+pub mod Texts
 pub mod GenMode
 pub mod Modes
 pub mod Answered

@@ -83,6 +83,9 @@ pub(crate) fn execute<I: Source, O: Sink>(
         (stream_of I.left I.faults streams.entry.input.now streams.exit.0.now)
         (stream_of O.taken O.faults streams.entry.out.now streams.exit.1.0.now))
         image.now command.now.heap command.now.stack command.now.steps result }
+    ensures before_start { UntouchedBeforeStart (streams_of
+        (stream_of I.left I.faults streams.entry.input.now streams.exit.0.now)
+        (stream_of O.taken O.faults streams.entry.out.now streams.exit.1.0.now)) result }
 {
     match load(alloc, image, command.heap, command.stack) {
         Ok(mut machine) => {

@@ -4,7 +4,6 @@
 #![tactic(auto)]
 
 mod answers;
-mod building;
 mod checking;
 mod compiling;
 mod endings;
@@ -13,7 +12,6 @@ mod faults;
 mod generating;
 mod images;
 mod laws;
-mod listing;
 mod reading;
 mod refusals;
 mod running;

@@ -3,22 +3,19 @@ ghost use Rattle.tg_command.specs.Counts.{IsWithin, function_limits};
 ghost use Rattle.tg_command.specs.Commands.{KeepsLimits, asked_of};
 ghost use Rattle.tg_driver.specs.Answered.{Answers, IsDue};
 ghost use Rattle.tg_driver.specs.Calls.{Untouched, call_of, shelf_of, stream_of, streams_of};
-ghost use Rattle.tg_driver.specs.AllocMode.{IsListed};
-ghost use Rattle.tg_driver.specs.BuildMode.{IsBuilt};
 ghost use Rattle.tg_driver.specs.GenMode.{IsGenerated};
 ghost use Rattle.tg_driver.specs.Modes.{InMode};
 ghost use Rattle.tg_driver.specs.OfFiles.{OfFile, OrMemory, StaysBeforeStart};
 
 use crate::answers::Answer;
-use crate::building::answer_build;
 use crate::checking::answer_check;
 use crate::executing::answer_exec;
 use crate::generating::answer_gen;
-use crate::listing::answer_alloc;
 use crate::running::answer_run;
 use crate::streams::Streams;
 use crate::telling::report;
 use crate::tools::Tools;
+use crate::writing::{Wanted, answer_written};
 use std::alloc::Global;
 use tg_base::{Shelf, Sink, Source};
 use tg_command::{Command, CommandFault, Mode, read_words};
@@ -94,54 +91,12 @@ fn answer_command<H: Shelf, I: Source, O: Sink>(
 {
     match command.mode {
         Mode::Check => answer_check(alloc, command, shelf),
-        Mode::Build => build_to(alloc, command, shelf, streams, policy),
+        Mode::Build => answer_written(alloc, command, shelf, streams, policy, Wanted::Assembly),
         Mode::Run => answer_run(alloc, command, shelf, streams, policy),
         Mode::Exec => answer_exec(alloc, command, shelf, streams),
-        Mode::Alloc => list_to(alloc, command, shelf, streams, policy),
+        Mode::Alloc => answer_written(alloc, command, shelf, streams, policy, Wanted::Allocations),
         Mode::Gen => generate_to(alloc, command, streams, policy),
     }
-}
-
-/// The answer of the mode `build`, which writes to the output alone.
-fn build_to<H: Shelf, I: Source, O: Sink>(
-    alloc: Global,
-    command: &Command,
-    shelf: &mut H,
-    streams: Streams<I, O>,
-    policy: &mut dyn SpillPolicy,
-) -> Answer
-    ensures due { OrMemory ⊤ (OfFile (shelf_of H.files H.faults shelf.old shelf.new)
-        (asked_of command.now).file 262145
-        (IsBuilt (rule policy.old)
-        (stream_of O.taken O.faults streams.entry.out.now streams.exit.1.0.now))) result }
-    ensures before_start { StaysBeforeStart
-        (stream_of O.taken O.faults streams.entry.out.now streams.exit.1.0.now) result }
-    ensures unread { streams.exit.0.now ≡ streams.entry.input.now }
-    ensures files { H.files shelf.new ≡ H.files shelf.old }
-{
-    let Streams { input: _, out } = streams;
-    answer_build(alloc, command, shelf, out, policy)
-}
-
-/// The answer of the mode `alloc`, which writes to the output alone.
-fn list_to<H: Shelf, I: Source, O: Sink>(
-    alloc: Global,
-    command: &Command,
-    shelf: &mut H,
-    streams: Streams<I, O>,
-    policy: &mut dyn SpillPolicy,
-) -> Answer
-    ensures due { OrMemory ⊤ (OfFile (shelf_of H.files H.faults shelf.old shelf.new)
-        (asked_of command.now).file 262145
-        (IsListed (rule policy.old)
-        (stream_of O.taken O.faults streams.entry.out.now streams.exit.1.0.now))) result }
-    ensures before_start { StaysBeforeStart
-        (stream_of O.taken O.faults streams.entry.out.now streams.exit.1.0.now) result }
-    ensures unread { streams.exit.0.now ≡ streams.entry.input.now }
-    ensures files { H.files shelf.new ≡ H.files shelf.old }
-{
-    let Streams { input: _, out } = streams;
-    answer_alloc(alloc, command, shelf, out, policy)
 }
 
 /// The answer of the mode `gen`, which writes to the output alone.

@@ -1,12 +1,118 @@
-ghost use Rattle.tg_driver.specs.Calls.{stream_of};
-ghost use Rattle.tg_driver.specs.OfFiles.{HasStarted};
-ghost use Rattle.tg_driver.specs.Writing.{TakesText};
+ghost use Rattle.std.specs.Prelude.{◌≡◌, ⊤, IfOk};
+ghost use Rattle.tg_command.specs.Commands.{asked_of};
+ghost use Rattle.tg_driver.specs.Calls.{shelf_of, stream_of};
+ghost use Rattle.tg_driver.specs.OfFiles.{HasStarted, OfFile, OrMemory, StaysBeforeStart};
+ghost use Rattle.tg_driver.specs.Texts.{wanted_text, writes_of};
+ghost use Rattle.tg_driver.specs.Writing.{IsWritten, TakesText};
 
-use crate::answers::Answer;
-use tg_base::{Sink, write_all};
+use crate::answers::{Answer, unread};
+use crate::checking::refused;
+use crate::compiling::compile;
+use crate::reading::LONGEST;
+use crate::streams::Streams;
+use std::alloc::Global;
+use tg_base::{Memory, Shelf, Sink, Source, write_all};
+use tg_command::Command;
+use tg_compile::Compiled;
+use tg_listing::list;
+use tg_rounds::SpillPolicy;
+
+/// Which text of a source a mode writes to the output.
+#[derive(Clone, Copy)]
+pub(crate) enum Wanted {
+    /// Its assembly text: the mode `build`.
+    Assembly,
+    /// What the register allocator did in each function: the mode `alloc`.
+    Allocations,
+}
+
+/// The answer of a mode that reads a source and writes a text of it to the output alone.
+pub(crate) fn answer_written<H: Shelf, I: Source, O: Sink>(
+    alloc: Global,
+    command: &Command,
+    shelf: &mut H,
+    streams: Streams<I, O>,
+    policy: &mut dyn SpillPolicy,
+    wanted: Wanted,
+) -> Answer
+    ensures due { OrMemory ⊤ (OfFile (shelf_of H.files H.faults shelf.old shelf.new)
+        (asked_of command.now).file 262145
+        (IsWritten (stream_of O.taken O.faults streams.entry.out.now streams.exit.1.0.now)
+        (writes_of wanted (rule policy.old)))) result }
+    ensures before_start { StaysBeforeStart
+        (stream_of O.taken O.faults streams.entry.out.now streams.exit.1.0.now) result }
+    ensures unread { streams.exit.0.now ≡ streams.entry.input.now }
+    ensures files { H.files shelf.new ≡ H.files shelf.old }
+{
+    let Streams { input: _, out } = streams;
+    write_file(alloc, command, shelf, out, policy, wanted)
+}
+
+/// The answer of the source in the command's file, of which a text is to be written.
+fn write_file<H: Shelf, O: Sink>(
+    alloc: Global,
+    command: &Command,
+    shelf: &mut H,
+    out: &mut O,
+    policy: &mut dyn SpillPolicy,
+    wanted: Wanted,
+) -> Answer
+    ensures due { OrMemory ⊤ (OfFile (shelf_of H.files H.faults shelf.old shelf.new)
+        (asked_of command.now).file 262145
+        (IsWritten (stream_of O.taken O.faults out.old out.new)
+        (writes_of wanted (rule policy.old)))) result }
+    ensures before_start { StaysBeforeStart (stream_of O.taken O.faults out.old out.new) result }
+    ensures files { H.files shelf.new ≡ H.files shelf.old }
+{
+    match shelf.read_file(alloc, command.file.as_str(), LONGEST + 1) {
+        Ok(text) => write_source(alloc, &text, out, policy, wanted),
+        Err(fault) => unread(fault),
+    }
+}
+
+/// The answer of a source of which a text is to be written.
+fn write_source<O: Sink>(
+    alloc: Global,
+    text: &[u8],
+    out: &mut O,
+    policy: &mut dyn SpillPolicy,
+    wanted: Wanted,
+) -> Answer
+    ensures due { OrMemory ⊤ (IsWritten (stream_of O.taken O.faults out.old out.new)
+        (writes_of wanted (rule policy.old)) text.now) result }
+    ensures before_start { StaysBeforeStart (stream_of O.taken O.faults out.old out.new) result }
+{
+    match compile(alloc, text, policy) {
+        Ok(compiled) => write_compiled(alloc, compiled, out, wanted),
+        Err(refusal) => refused(text, refusal),
+    }
+}
+
+/// Writes the wanted text of a source that was compiled to the output.
+fn write_compiled<O: Sink>(alloc: Global, compiled: Compiled, out: &mut O, wanted: Wanted) -> Answer
+    ensures takes { OrMemory ⊤ (TakesText (stream_of O.taken O.faults out.old out.new)
+        (wanted_text wanted compiled.allocations.items compiled.text.items)) result }
+    ensures before_start { StaysBeforeStart (stream_of O.taken O.faults out.old out.new) result }
+{
+    match wanted_text(alloc, compiled, wanted) {
+        Ok(text) => write_text(out, &text),
+        Err(_) => Answer::OutOfMemory,
+    }
+}
+
+/// The wanted text of a source that was compiled.
+fn wanted_text(alloc: Global, compiled: Compiled, wanted: Wanted) -> Result<Vec<u8>, Memory>
+    ensures { IfOk result (λ text. text.items
+        ≡ wanted_text wanted compiled.allocations.items compiled.text.items) }
+{
+    match wanted {
+        Wanted::Assembly => Ok(compiled.text),
+        Wanted::Allocations => list(alloc, &compiled.allocations),
+    }
+}
 
 /// Writes the text that is due to the output.
-pub(crate) fn write_text<O: Sink>(out: &mut O, text: &[u8]) -> Answer
+fn write_text<O: Sink>(out: &mut O, text: &[u8]) -> Answer
     ensures takes { TakesText (stream_of O.taken O.faults out.old out.new) text.now result }
     ensures started { HasStarted result }
 {

@@ -1,5 +1,5 @@
 use Rattle.tg_driver.specs.Calls.{stream_of, streams_of}
-use Rattle.tg_driver.proofs.AnswerLemmas.{assembled_run, executed_untouched}
+use Rattle.tg_driver.proofs.AnswerLemmas.{assembled_run}
 use Rattle.tg_driver.proofs.running.run_assembly.Goals as goal
 
 pub returns-in-Ok-clause-runs : goal.returns-in-Ok-clause-runs
@@ -8,10 +8,3 @@ returns-in-Ok-clause-runs g c =
     (stream_of g.I.Source.left g.I.Source.faults c.args.streams.input.now c.execute.new.streams.0)
     (stream_of g.O.Sink.taken g.O.Sink.faults c.args.streams.out.now c.execute.new.streams.1.0) in
     assembled_run streams _ c.in-Ok.image _ _ _ c.execute.result c.in-Ok.ensures.image c.execute.ensures.runs
-
-pub returns-in-Ok-clause-before_start : goal.returns-in-Ok-clause-before_start
-returns-in-Ok-clause-before_start g c =
-    let streams = streams_of
-    (stream_of g.I.Source.left g.I.Source.faults c.args.streams.input.now c.execute.new.streams.0)
-    (stream_of g.O.Sink.taken g.O.Sink.faults c.args.streams.out.now c.execute.new.streams.1.0) in
-    executed_untouched streams c.in-Ok.image c.args.command.now.heap c.args.command.now.stack c.args.command.now.steps c.execute.result c.execute.ensures.runs

@@ -19,13 +19,14 @@ returns-in-Check-clause-due g c =
 
 pub returns-in-Build-clause-due : goal.returns-in-Build-clause-due
 returns-in-Build-clause-due g c =
-    let shelf = shelf_of g.H.Shelf.files g.H.Shelf.faults c.args.shelf.now c.build_to.new.shelf in
+    let shelf = shelf_of g.H.Shelf.files g.H.Shelf.faults c.args.shelf.now c.answer_written.new.shelf in
     let streams = streams_of
-    (stream_of g.I.Source.left g.I.Source.faults c.args.streams.input.now c.build_to.new.streams.0)
-    (stream_of g.O.Sink.taken g.O.Sink.faults c.args.streams.out.now c.build_to.new.streams.1.0) in
+    (stream_of g.I.Source.left g.I.Source.faults c.args.streams.input.now c.answer_written.new.streams.0)
+    (stream_of g.O.Sink.taken g.O.Sink.faults c.args.streams.out.now c.answer_written.new.streams.1.0) in
     let asked = asked_of c.args.command.now in
-    in_mode _ Build shelf streams asked c.build_to.result c.in-Build.is
-    (by_writing shelf streams (Builds _) asked c.build_to.result c.build_to.ensures.unread c.build_to.ensures.before_start c.build_to.ensures.due)
+    in_mode _ Build shelf streams asked c.answer_written.result c.in-Build.is
+    (by_writing shelf streams (Builds _) asked c.answer_written.result c.answer_written.ensures.unread
+    c.answer_written.ensures.before_start c.answer_written.ensures.due)
 
 pub returns-in-Run-clause-due : goal.returns-in-Run-clause-due
 returns-in-Run-clause-due g c =
@@ -49,13 +50,14 @@ returns-in-Exec-clause-due g c =
 
 pub returns-in-Alloc-clause-due : goal.returns-in-Alloc-clause-due
 returns-in-Alloc-clause-due g c =
-    let shelf = shelf_of g.H.Shelf.files g.H.Shelf.faults c.args.shelf.now c.list_to.new.shelf in
+    let shelf = shelf_of g.H.Shelf.files g.H.Shelf.faults c.args.shelf.now c.answer_written-in-Alloc.new.shelf in
     let streams = streams_of
-    (stream_of g.I.Source.left g.I.Source.faults c.args.streams.input.now c.list_to.new.streams.0)
-    (stream_of g.O.Sink.taken g.O.Sink.faults c.args.streams.out.now c.list_to.new.streams.1.0) in
+    (stream_of g.I.Source.left g.I.Source.faults c.args.streams.input.now c.answer_written-in-Alloc.new.streams.0)
+    (stream_of g.O.Sink.taken g.O.Sink.faults c.args.streams.out.now c.answer_written-in-Alloc.new.streams.1.0) in
     let asked = asked_of c.args.command.now in
-    in_mode _ Alloc shelf streams asked c.list_to.result c.in-Alloc.is
-    (by_writing shelf streams (Lists _) asked c.list_to.result c.list_to.ensures.unread c.list_to.ensures.before_start c.list_to.ensures.due)
+    in_mode _ Alloc shelf streams asked c.answer_written-in-Alloc.result c.in-Alloc.is
+    (by_writing shelf streams (Lists _) asked c.answer_written-in-Alloc.result c.answer_written-in-Alloc.ensures.unread
+    c.answer_written-in-Alloc.ensures.before_start c.answer_written-in-Alloc.ensures.due)
 
 pub returns-in-Gen-clause-due : goal.returns-in-Gen-clause-due
 returns-in-Gen-clause-due g c =

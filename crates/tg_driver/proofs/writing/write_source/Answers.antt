@@ -1,18 +1,19 @@
 use Rattle.std.proofs.Common.{refl}
-use Rattle.tg_listing.specs.Listing.{listed}
-use Rattle.tg_driver.specs.AllocMode.{Lists}
 use Rattle.tg_driver.specs.Calls.{stream_of}
+use Rattle.tg_driver.specs.Texts.{wanted_text, writes_of}
 use Rattle.tg_driver.proofs.AnswerLemmas.{written_of_refused, refused_stays, writes_text}
-use Rattle.tg_driver.proofs.Typings.{lists}
-use Rattle.tg_driver.proofs.listing.list_text.Goals as goal
+use Rattle.tg_driver.proofs.Typings.{writes_wanted}
+use Rattle.tg_driver.proofs.writing.write_source.Goals as goal
 
 pub returns-in-Ok-clause-due : goal.returns-in-Ok-clause-due
 returns-in-Ok-clause-due g c =
-    let out = stream_of g.O.Sink.taken g.O.Sink.faults c.args.out.now c.write_listing.new.out in
+    let out = stream_of g.O.Sink.taken g.O.Sink.faults c.args.out.now c.write_compiled.new.out in
     let rule = (goal.SpillPolicy-dyn g c.args.policy.now).rule c.args.policy.now.1 in
     let allocations = c.in-Ok.compiled.allocations.items in
-    writes_text out (Lists rule) c.args.text.now (listed allocations) c.write_listing.result
-    (lists rule c.args.text.now allocations c.in-Ok.compiled.text.items c.in-Ok.ensures.compiled) (rw c.deref.ensures.value at c.write_listing.ensures.takes)
+    let assembly = c.in-Ok.compiled.text.items in
+    let written = wanted_text c.args.wanted allocations assembly in
+    writes_text out (writes_of c.args.wanted rule) c.args.text.now written c.write_compiled.result
+    (writes_wanted c.args.wanted rule c.args.text.now allocations assembly c.in-Ok.ensures.compiled) c.write_compiled.ensures.takes
 
 pub returns-in-Err-clause-due : goal.returns-in-Err-clause-due
 returns-in-Err-clause-due g c =
