@@ -148,6 +148,24 @@ pub(crate) fn is_answered(
     Ok(())
 }
 
+/// Each row is a status, a blank, the line on the error sink but for `tiger: ` and the newline, a
+/// `|`, the output, a `|`, and the text that a line of words answers so.
+pub(crate) fn are_answered(
+    rt: &impl Abort,
+    alloc: Global,
+    words: &str,
+    rows: &[&str],
+) -> Result<(), Fail> {
+    for row in rows {
+        let (status, more) = status_of(row)?;
+        let (line, more) = parts_of(more)?;
+        let (out, text) = parts_of(more)?;
+        let seen = call(alloc, words, Outside::of(text.as_bytes()))?;
+        is_answered(rt, alloc, &seen, status, line, out)?;
+    }
+    Ok(())
+}
+
 /// A line of words has this status and this line for a text, and leaves input and output alone.
 pub(crate) fn answers(
     rt: &impl Abort,

@@ -298,30 +298,24 @@ fn faults_of_sources(rt: HostRuntime) -> Result<(), Fail> {
 }
 
 // A text, another so many times behind it, and a last one, with the line that refuses them.
-static LONG_FAULTS: [(&str, &str, usize, &str, &str); 10] = [
-    ("exit(1)", " ", 262138, "", "1:1: L7 source too long"),
-    ("", "\n?", 200000, "", "1:1: L7 source too long"),
-    ("", "(", 257, "", "1:257: S2 nesting too deep"),
-    ("", "(", 256, "", "1:257: S1 unexpected token"),
-    ("", "(", 256, ":=", "1:257: S1 unexpected token"),
-    (")", "(", 300, "", "1:1: S1 unexpected token"),
-    ("\n", "(\n", 300, "", "258:1: S2 nesting too deep"),
-    ("1", "+1", 257, "", "1:514: S2 nesting too deep"),
-    ("exit(1", "+1", 256, ")", "1:517: S2 nesting too deep"),
-    ("(", "0;", 4095, "0)", "1:1: T21 function too large"),
+static LONG_FAULTS: [(&[u8], &[u8], usize, &[u8], &str); 10] = [
+    (b"exit(1)", b" ", 262138, b"", "1:1: L7 source too long"),
+    (b"", b"\n?", 200000, b"", "1:1: L7 source too long"),
+    (b"", b"(", 257, b"", "1:257: S2 nesting too deep"),
+    (b"", b"(", 256, b"", "1:257: S1 unexpected token"),
+    (b"", b"(", 256, b":=", "1:257: S1 unexpected token"),
+    (b")", b"(", 300, b"", "1:1: S1 unexpected token"),
+    (b"\n", b"(\n", 300, b"", "258:1: S2 nesting too deep"),
+    (b"1", b"+1", 257, b"", "1:514: S2 nesting too deep"),
+    (b"exit(1", b"+1", 256, b")", "1:517: S2 nesting too deep"),
+    (b"(", b"0;", 4095, b"0)", "1:1: T21 function too large"),
 ];
 
 #[test]
 fn long_and_deep_faults(rt: HostRuntime) -> Result<(), Fail> {
     let alloc = rt.alloc();
     for (first, more, times, last, line) in LONG_FAULTS {
-        let text = repeated(
-            alloc,
-            first.as_bytes(),
-            more.as_bytes(),
-            times,
-            last.as_bytes(),
-        )?;
+        let text = repeated(alloc, first, more, times, last)?;
         refused(&rt, alloc, &text, line)?;
     }
     Ok(())

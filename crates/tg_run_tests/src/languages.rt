@@ -1,4 +1,4 @@
-use crate::calls::{Outside, Seen, call, is_answered, parts_of, status_of};
+use crate::calls::{Outside, Seen, are_answered, call, is_answered};
 use std::alloc::Global;
 use std::process::Abort;
 use std::test::Fail;
@@ -52,15 +52,7 @@ static RUN: &str = "tiger|run|FILE|--heap|65536|--stack|65536|--steps|1000000";
 
 #[test]
 fn programs_run_as_they_mean(rt: HostRuntime) -> Result<(), Fail> {
-    let alloc = rt.alloc();
-    for row in PROGRAMS {
-        let (status, more) = status_of(row)?;
-        let (line, more) = parts_of(more)?;
-        let (out, text) = parts_of(more)?;
-        let seen = call(alloc, RUN, Outside::of(text.as_bytes()))?;
-        is_answered(&rt, alloc, &seen, status, line, out)?;
-    }
-    Ok(())
+    are_answered(&rt, rt.alloc(), RUN, &PROGRAMS)
 }
 
 /// The assembly text of a source, by `build` into a sink of so many bytes.

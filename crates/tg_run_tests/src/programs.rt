@@ -92,10 +92,10 @@ fn functions_in_one_another(rt: HostRuntime) -> Result<(), Fail> {
 
 // A body has 4,096 nodes at most: here the program's, and a function's. The last is a chain as deep
 // as may be.
-static LONG_PROGRAMS: [(&str, &str, usize, &str); 3] = [
-    ("(", "0;", 4094, "0)"),
-    ("let function f()=(", "0;", 4094, "()) in () end"),
-    ("1", "+1", 256, ""),
+static LONG_PROGRAMS: [(&[u8], &[u8], usize, &[u8]); 3] = [
+    (b"(", b"0;", 4094, b"0)"),
+    (b"let function f()=(", b"0;", 4094, b"()) in () end"),
+    (b"1", b"+1", 256, b""),
 ];
 
 // Seven functions of 4,096 nodes, and a body of as many around them: a program has 32,768 nodes at
@@ -105,13 +105,7 @@ fn programs_as_large_as_may_be(rt: HostRuntime) -> Result<(), Fail> {
     let alloc = rt.alloc();
     let check = "tiger|check|FILE";
     for (first, more, times, last) in LONG_PROGRAMS {
-        let text = repeated(
-            alloc,
-            first.as_bytes(),
-            more.as_bytes(),
-            times,
-            last.as_bytes(),
-        )?;
+        let text = repeated(alloc, first, more, times, last)?;
         answers(&rt, alloc, check, &text, 0, "")?;
     }
     let body = repeated(alloc, b"let function f()=(", b"0;", 4095, b"()) in () end")?;

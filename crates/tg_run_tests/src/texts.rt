@@ -1,4 +1,4 @@
-use crate::calls::{Outside, call, is_answered, parts_of, status_of};
+use crate::calls::{Outside, are_answered, call, is_answered};
 use std::test::Fail;
 
 // A status, a blank, the line on the error sink but for `tiger: ` and the newline, a `|`, the
@@ -56,15 +56,7 @@ static EXEC: &str = "tiger|exec|FILE|--steps|1000";
 
 #[test]
 fn texts_end_as_they_must(rt: HostRuntime) -> Result<(), Fail> {
-    let alloc = rt.alloc();
-    for row in ENDS {
-        let (status, more) = status_of(row)?;
-        let (line, more) = parts_of(more)?;
-        let (out, text) = parts_of(more)?;
-        let seen = call(alloc, EXEC, Outside::of(text.as_bytes()))?;
-        is_answered(&rt, alloc, &seen, status, line, out)?;
-    }
-    Ok(())
+    are_answered(&rt, rt.alloc(), EXEC, &ENDS)
 }
 
 #[test]

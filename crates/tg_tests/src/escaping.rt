@@ -41,13 +41,7 @@ fn escaping_bytes(alloc: Global, text: &str) -> Result<Vec<u32>, Fail> {
     let source = read(alloc, text)?;
     let checked = check(alloc, &source.program, &source.names)?;
     let found = escapes(alloc, &checked)?;
-    let mut bytes = Vec::new(alloc);
-    for at in 0..200u32 {
-        if found.has(at) {
-            bytes.push(at)?;
-        }
-    }
-    Ok(bytes)
+    Ok((0..200u32).filter(|at| found.has(*at)).collect(alloc)?)
 }
 
 #[test]
@@ -100,13 +94,7 @@ fn linking_bytes(alloc: Global, text: &str) -> Result<Vec<u32>, Fail> {
     let source = read(alloc, text)?;
     let checked = check(alloc, &source.program, &source.names)?;
     let found = links(alloc, &checked)?;
-    let mut bytes = Vec::new(alloc);
-    for at in 0..200u32 {
-        if found.has(at) {
-            bytes.push(at)?;
-        }
-    }
-    Ok(bytes)
+    Ok((0..200u32).filter(|at| found.has(*at)).collect(alloc)?)
 }
 
 #[test]
