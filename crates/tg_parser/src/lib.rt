@@ -5,7 +5,7 @@
 //! of `reading` does exactly what the descent in `tg_grammar` does.
 #![tactic(auto)]
 
-mod built;
+mod building;
 mod ends;
 mod faults;
 mod forms;

@@ -46,9 +46,9 @@ ghost use Rattle.tg_parser.specs.Ranks.{level_of};
 ghost use Rattle.tg_parser.specs.Opens.{BeginsJob, BeginsTwo, Completes};
 ghost use Rattle.tg_parser.specs.Heads.{one_of};
 
-use crate::built::{
-    assigned, called, chosen, chosen_of_two, combined, counted, declared, enclosed, filled, joined,
-    looped, made, negated,
+use crate::building::{
+    build_array, build_assignment, build_call, build_choice, build_choice_of_two, build_for,
+    build_let, build_negation, build_operation, build_record, build_sequence, build_while, join,
 };
 use crate::faults::Stop;
 use crate::forms::type_dec;
@@ -128,7 +128,7 @@ fn assignment(alloc: Global, span: Span, place: Var, tokens: &[Spanned]) -> Read
         return Ok((read(span, place), tokens));
     };
     let (value, rest) = whole(alloc, after)?;
-    let e = assigned(alloc, span, place, value)?;
+    let e = build_assignment(alloc, span, place, value)?;
     Ok((e, rest))
 }
 
@@ -155,7 +155,7 @@ fn operators(alloc: Global, rank: Rank, left: Exp, tokens: &[Spanned]) -> Readin
         return Ok((left, tokens));
     };
     let (right, rest) = at(alloc, below(rank), after)?;
-    let e = combined(alloc, operator.op, operator.at, left, right)?;
+    let e = build_operation(alloc, operator.op, operator.at, left, right)?;
     operators(alloc, rank, e, rest)
 }
 
@@ -171,7 +171,7 @@ fn comparison(alloc: Global, left: Exp, tokens: &[Spanned]) -> Reading<Exp>
         return Ok((first, rest));
     };
     let (right, rest) = at(alloc, Rank::Sum, after)?;
-    let e = combined(alloc, operator.op, operator.at, first, right)?;
+    let e = build_operation(alloc, operator.op, operator.at, first, right)?;
     Ok((e, rest))
 }
 
@@ -206,7 +206,7 @@ fn negating(alloc: Global, tokens: &[Spanned]) -> Reading<Exp>
 {
     let (first, rest) = take(Mark::OfSign(Sign::Minus), tokens)?;
     let (a, rest) = unary(alloc, rest)?;
-    let e = negated(alloc, first, a)?;
+    let e = build_negation(alloc, first, a)?;
     Ok((e, rest))
 }
 
@@ -219,7 +219,7 @@ fn grouping(alloc: Global, tokens: &[Spanned]) -> Reading<Exp>
     let (first, rest) = take(Mark::OfSign(Sign::LeftParen), tokens)?;
     let close = Mark::OfSign(Sign::RightParen);
     let (items, last, rest) = listed(alloc, Sign::Semicolon, close, rest)?;
-    Ok((enclosed(first, items, last), rest))
+    Ok((build_sequence(first, items, last), rest))
 }
 
 #[cycle(descent)]
@@ -232,11 +232,11 @@ fn choosing(alloc: Global, tokens: &[Spanned]) -> Reading<Exp>
     let (_, this, rest) = clause(alloc, Mark::OfWord(Word::WThen), rest)?;
     let goes_on = wants_else(&this, rest)?;
     if !goes_on {
-        let e = chosen(alloc, first, test, this)?;
+        let e = build_choice(alloc, first, test, this)?;
         return Ok((e, rest));
     }
     let (_, other, rest) = clause(alloc, Mark::OfWord(Word::WElse), rest)?;
-    let e = chosen_of_two(alloc, first, test, this, other)?;
+    let e = build_choice_of_two(alloc, first, test, this, other)?;
     Ok((e, rest))
 }
 
@@ -248,7 +248,7 @@ fn looping(alloc: Global, tokens: &[Spanned]) -> Reading<Exp>
 {
     let (first, test, rest) = clause(alloc, Mark::OfWord(Word::WWhile), tokens)?;
     let (_, body, rest) = clause(alloc, Mark::OfWord(Word::WDo), rest)?;
-    let e = looped(alloc, first, test, body)?;
+    let e = build_while(alloc, first, test, body)?;
     Ok((e, rest))
 }
 
@@ -262,7 +262,7 @@ fn counting(alloc: Global, tokens: &[Spanned]) -> Reading<Exp>
     let (_, low, rest) = clause(alloc, Mark::OfSign(Sign::Assign), rest)?;
     let (_, high, rest) = clause(alloc, Mark::OfWord(Word::WTo), rest)?;
     let (_, body, rest) = clause(alloc, Mark::OfWord(Word::WDo), rest)?;
-    let e = counted(alloc, first, variable, low, high, body)?;
+    let e = build_for(alloc, first, variable, low, high, body)?;
     Ok((e, rest))
 }
 
@@ -276,7 +276,7 @@ fn declaring(alloc: Global, tokens: &[Spanned]) -> Reading<Exp>
     let (decs, rest) = declarations(alloc, rest)?;
     let (_, rest) = take(Mark::OfWord(Word::WIn), rest)?;
     let (body, last, rest) = listed(alloc, Sign::Semicolon, Mark::OfWord(Word::WEnd), rest)?;
-    Ok((declared(first, decs, body, last), rest))
+    Ok((build_let(first, decs, body, last), rest))
 }
 
 /// What a name begins: a call, a record, an array or an l-value.
@@ -290,11 +290,11 @@ fn naming(alloc: Global, tokens: &[Spanned]) -> Reading<Exp>
     if let Some((_, after)) = skip(Mark::OfSign(Sign::LeftParen), rest)? {
         let close = Mark::OfSign(Sign::RightParen);
         let (arguments, last, behind) = listed(alloc, Sign::Comma, close, after)?;
-        return Ok((called(name, arguments, last), behind));
+        return Ok((build_call(name, arguments, last), behind));
     }
     if let Some((_, after)) = skip(Mark::OfSign(Sign::LeftBrace), rest)? {
         let (inits, last, behind) = listed_inits(alloc, after)?;
-        return Ok((made(name, inits, last), behind));
+        return Ok((build_record(name, inits, last), behind));
     }
     if let Some((_, after)) = skip(Mark::OfSign(Sign::LeftBracket), rest)? {
         return indexing(alloc, name, after);
@@ -314,11 +314,11 @@ fn indexing(alloc: Global, name: Ident, tokens: &[Spanned]) -> Reading<Exp>
     let (last, rest) = take(Mark::OfSign(Sign::RightBracket), rest)?;
     if let Some((_, after)) = skip(Mark::OfWord(Word::WOf), rest)? {
         let (value, behind) = whole(alloc, after)?;
-        let e = filled(alloc, name, inside, value)?;
+        let e = build_array(alloc, name, inside, value)?;
         return Ok((e, behind));
     }
     let place = index(alloc, Var::Simple(name), inside)?;
-    let (span, place, rest) = suffixes(alloc, joined(name.span, last), place, rest)?;
+    let (span, place, rest) = suffixes(alloc, join(name.span, last), place, rest)?;
     Ok((read(span, place), rest))
 }
 
@@ -338,13 +338,13 @@ fn suffixes(
     if let Some((_, after)) = skip(Mark::OfSign(Sign::Dot), tokens)? {
         let (name, rest) = take_name(after)?;
         let place = field(alloc, place, name)?;
-        return suffixes(alloc, joined(span, name.span), place, rest);
+        return suffixes(alloc, join(span, name.span), place, rest);
     }
     if let Some((_, after)) = skip(Mark::OfSign(Sign::LeftBracket), tokens)? {
         let (inside, rest) = whole(alloc, after)?;
         let (last, rest) = take(Mark::OfSign(Sign::RightBracket), rest)?;
         let place = index(alloc, place, inside)?;
-        return suffixes(alloc, joined(span, last), place, rest);
+        return suffixes(alloc, join(span, last), place, rest);
     }
     Ok((span, place, tokens))
 }

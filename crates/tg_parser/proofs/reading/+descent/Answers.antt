@@ -179,7 +179,7 @@ grouping-returns-in_err-items-clause-given t c = ended _ _ _ _ _ _ c.from_residu
     (want_then (At Unary) c.in_ok-first.ensures.given (call_stops (At Unary) (Listed Semicolon (OfSign RightParen)) c.in_err-items.ensures.given))
 
 pub grouping-returns-clause-given : goal.grouping-returns-clause-given
-grouping-returns-clause-given t c = got_is (At Unary) c.enclosed.ensures (want_on (At Unary) c.in_ok-first.ensures.given
+grouping-returns-clause-given t c = got_is (At Unary) c.build_sequence.ensures (want_on (At Unary) c.in_ok-first.ensures.given
     (call_got (At Unary) (Listed Semicolon (OfSign RightParen)) c.in_ok-items.ensures.given (give_got (At Unary))))
 
 pub choosing-returns-in_err-first-clause-given : goal.choosing-returns-in_err-first-clause-given
@@ -270,7 +270,7 @@ declaring-returns-in_err-body-clause-given t c = ended _ _ _ _ _ _ c.from_residu
     (want_then (At Unary) c.in_ok-rest.ensures.given (call_stops (At Unary) (Listed Semicolon (OfWord WEnd)) c.in_err-body.ensures.given))))
 
 pub declaring-returns-clause-given : goal.declaring-returns-clause-given
-declaring-returns-clause-given t c = got_is (At Unary) c.declared.ensures (want_on (At Unary) c.in_ok-first.ensures.given
+declaring-returns-clause-given t c = got_is (At Unary) c.build_let.ensures (want_on (At Unary) c.in_ok-first.ensures.given
     (call_got (At Unary) (MoreDecs no_decs) c.in_ok-decs.ensures.given (want_on (At Unary) c.in_ok-rest.ensures.given
     (call_got (At Unary) (Listed Semicolon (OfWord WEnd)) c.in_ok-body.ensures.given (give_got (At Unary))))))
 
@@ -287,7 +287,7 @@ naming-returns-in_err-arguments-clause-given t c = ended _ _ _ _ _ _ c.from_resi
     (call_stops (At Unary) (Listed Comma (OfSign RightParen)) c.in_err-arguments.ensures.given))
 
 pub naming-returns-in-Some-clause-given : goal.naming-returns-in-Some-clause-given
-naming-returns-in-Some-clause-given t c = got_is (At Unary) c.called.ensures
+naming-returns-in-Some-clause-given t c = got_is (At Unary) c.build_call.ensures
     (gives (then (name_leads (At Unary) c.in_ok-name.ensures.given)
     (then (some_leads _ _ c.in_ok-after.ensures.given c.in-Some.is (At Unary) _ _)
     (call_leads (At Unary) (Listed Comma (OfSign RightParen)) c.in_ok-arguments.ensures.given))))
@@ -304,7 +304,7 @@ naming-returns-in_err-inits-clause-given t c = ended _ _ _ _ _ _ c.from_residual
     (some_leads _ _ c.in_ok-after-2.ensures.given c.in-Some-2.is (At Unary) _ _))) (call_stops (At Unary) ListedInits c.in_err-inits.ensures.given))
 
 pub naming-returns-in-Some-2-clause-given : goal.naming-returns-in-Some-2-clause-given
-naming-returns-in-Some-2-clause-given t c = got_is (At Unary) c.made.ensures
+naming-returns-in-Some-2-clause-given t c = got_is (At Unary) c.build_record.ensures
     (gives (then (name_leads (At Unary) c.in_ok-name.ensures.given)
     (then (none_leads _ _ c.in_ok-after.ensures.given c.in_default.is (At Unary) _ _)
     (then (some_leads _ _ c.in_ok-after-2.ensures.given c.in-Some-2.is (At Unary) _ _) (call_leads (At Unary) ListedInits c.in_ok-inits.ensures.given)))))
@@ -364,14 +364,14 @@ pub indexing-returns-in_err-span-clause-given : goal.indexing-returns-in_err-spa
 indexing-returns-in_err-span-clause-given t c = ended _ _ _ _ _ _ c.from_residual-in_err-span.ensures
     (raise (then (call_leads (At Unary) (At Whole) c.in_ok-inside.ensures.given)
     (then (want_leads (At Unary) c.in_ok-last.ensures.given) (none_leads _ _ c.in_ok-after.ensures.given c.in_default.is (At Unary) _ _)))
-    (call_stops (At Unary) (Suffix _ _) (suffix_refuses c.joined.ensures c.in_ok-place.ensures c.in_err-span.ensures.given)))
+    (call_stops (At Unary) (Suffix _ _) (suffix_refuses c.join.ensures c.in_ok-place.ensures c.in_err-span.ensures.given)))
 
 pub indexing-returns-clause-given : goal.indexing-returns-clause-given
 indexing-returns-clause-given t c = got_is (At Unary) c.read.ensures
     (gives (then (call_leads (At Unary) (At Whole) c.in_ok-inside.ensures.given)
     (then (want_leads (At Unary) c.in_ok-last.ensures.given)
     (then (none_leads _ _ c.in_ok-after.ensures.given c.in_default.is (At Unary) _ _)
-    (call_leads (At Unary) (Suffix _ _) (suffix_does c.joined.ensures c.in_ok-place.ensures c.in_ok-span.ensures.given))))))
+    (call_leads (At Unary) (Suffix _ _) (suffix_does c.join.ensures c.in_ok-place.ensures c.in_ok-span.ensures.given))))))
 
 pub indexing-returns-in_err-e-clause-given : goal.indexing-returns-in_err-e-clause-given
 indexing-returns-in_err-e-clause-given t c = ended _ _ _ _ _ _ c.from_residual-in_err-e.ensures (no_memory (At Unary))
@@ -391,7 +391,7 @@ pub suffixes-returns-in-Some-clause-given : goal.suffixes-returns-in-Some-clause
 suffixes-returns-in-Some-clause-given t c = carry c.suffixes.result _ _
     (then (some_leads _ _ c.in_ok-after.ensures.given c.in-Some.is (Suffix c.args.span (plain_place c.args.place)) _ _)
     (name_leads (Suffix c.args.span (plain_place c.args.place)) c.in_ok-name.ensures.given))
-    (suffix_same c.suffixes.result _ _ _ _ _ _ _ _ _ c.joined.ensures c.in_ok-place.ensures c.suffixes.ensures.given)
+    (suffix_same c.suffixes.result _ _ _ _ _ _ _ _ _ c.join.ensures c.in_ok-place.ensures c.suffixes.ensures.given)
 
 pub suffixes-returns-in_err-after-2-clause-given : goal.suffixes-returns-in_err-after-2-clause-given
 suffixes-returns-in_err-after-2-clause-given t c = ended _ _ _ _ _ _ c.from_residual-in_err-after-2.ensures
@@ -420,7 +420,7 @@ suffixes-returns-in-Some-2-clause-given t c = carry c.suffixes-in-Some-2.result 
     (then (some_leads _ _ c.in_ok-after-2.ensures.given c.in-Some-2.is (Suffix c.args.span (plain_place c.args.place)) _ _)
     (then (call_leads (Suffix c.args.span (plain_place c.args.place)) (At Whole) c.in_ok-inside.ensures.given)
     (want_leads (Suffix c.args.span (plain_place c.args.place)) c.in_ok-last.ensures.given))))
-    (suffix_same c.suffixes-in-Some-2.result _ _ _ _ _ _ _ _ _ c.joined-in-Some-2.ensures c.in_ok-place-2.ensures c.suffixes-in-Some-2.ensures.given)
+    (suffix_same c.suffixes-in-Some-2.result _ _ _ _ _ _ _ _ _ c.join-in-Some-2.ensures c.in_ok-place-2.ensures c.suffixes-in-Some-2.ensures.given)
 
 pub suffixes-returns-clause-given : goal.suffixes-returns-clause-given
 suffixes-returns-clause-given t c =

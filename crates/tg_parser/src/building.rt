@@ -25,7 +25,7 @@ use tg_syntax::{
 };
 
 /// From one's first byte to another's last.
-pub(crate) fn joined(first: Span, last: Span) -> Span
+pub(crate) fn join(first: Span, last: Span) -> Span
     ensures { result ≡ joined_span first last }
 {
     Span {
@@ -44,12 +44,12 @@ fn span_of(e: &Exp) -> Span
 fn up_to(first: Span, last: &Exp) -> Span
     ensures { result ≡ joined_span first (plain_span_of (plain last.now)) }
 {
-    joined(first, span_of(last))
+    join(first, span_of(last))
 }
 
 /// An expression behind a minus sign, which spans from the sign on, as the others here span from
 /// their first token to the end of their last expression.
-pub(crate) fn negated(alloc: Global, first: Span, a: Exp) -> Result<Exp, Memory>
+pub(crate) fn build_negation(alloc: Global, first: Span, a: Exp) -> Result<Exp, Memory>
     ensures { IfOk result
         (λ e. plain e ≡ PlainNeg (joined_span first (plain_span_of (plain a))) (plain a)) }
 {
@@ -58,7 +58,13 @@ pub(crate) fn negated(alloc: Global, first: Span, a: Exp) -> Result<Exp, Memory>
 }
 
 /// Two operands and the operator between them, whose first byte is `at`.
-pub(crate) fn combined(alloc: Global, op: Op, at: u32, left: Exp, right: Exp) -> Result<Exp, Memory>
+pub(crate) fn build_operation(
+    alloc: Global,
+    op: Op,
+    at: u32,
+    left: Exp,
+    right: Exp,
+) -> Result<Exp, Memory>
     ensures { IfOk result (λ e. plain e ≡ plain_binary op at (plain left) (plain right)) }
 {
     let span = up_to(span_of(&left), &right);
@@ -66,7 +72,12 @@ pub(crate) fn combined(alloc: Global, op: Op, at: u32, left: Exp, right: Exp) ->
 }
 
 /// An assignment.
-pub(crate) fn assigned(alloc: Global, first: Span, place: Var, value: Exp) -> Result<Exp, Memory>
+pub(crate) fn build_assignment(
+    alloc: Global,
+    first: Span,
+    place: Var,
+    value: Exp,
+) -> Result<Exp, Memory>
     ensures { IfOk result (λ e. plain e
         ≡ PlainAssign (joined_span first (plain_span_of (plain value)))
         (plain_place place) (plain value)) }
@@ -76,7 +87,7 @@ pub(crate) fn assigned(alloc: Global, first: Span, place: Var, value: Exp) -> Re
 }
 
 /// An array that is made.
-pub(crate) fn filled(alloc: Global, name: Ident, size: Exp, value: Exp) -> Result<Exp, Memory>
+pub(crate) fn build_array(alloc: Global, name: Ident, size: Exp, value: Exp) -> Result<Exp, Memory>
     ensures { IfOk result (λ e. plain e
         ≡ PlainFill (joined_span name.span (plain_span_of (plain value)))
         name (plain size) (plain value)) }
@@ -86,7 +97,7 @@ pub(crate) fn filled(alloc: Global, name: Ident, size: Exp, value: Exp) -> Resul
 }
 
 /// An `if` without `else`.
-pub(crate) fn chosen(alloc: Global, first: Span, test: Exp, this: Exp) -> Result<Exp, Memory>
+pub(crate) fn build_choice(alloc: Global, first: Span, test: Exp, this: Exp) -> Result<Exp, Memory>
     ensures { IfOk result (λ e. plain e
         ≡ PlainWhen (joined_span first (plain_span_of (plain this))) (plain test) (plain this)) }
 {
@@ -95,7 +106,7 @@ pub(crate) fn chosen(alloc: Global, first: Span, test: Exp, this: Exp) -> Result
 }
 
 /// An `if` with `else`.
-pub(crate) fn chosen_of_two(
+pub(crate) fn build_choice_of_two(
     alloc: Global,
     first: Span,
     test: Exp,
@@ -111,7 +122,7 @@ pub(crate) fn chosen_of_two(
 }
 
 /// A `while` loop.
-pub(crate) fn looped(alloc: Global, first: Span, test: Exp, body: Exp) -> Result<Exp, Memory>
+pub(crate) fn build_while(alloc: Global, first: Span, test: Exp, body: Exp) -> Result<Exp, Memory>
     ensures { IfOk result (λ e. plain e
         ≡ PlainWhile (joined_span first (plain_span_of (plain body))) (plain test) (plain body)) }
 {
@@ -120,7 +131,7 @@ pub(crate) fn looped(alloc: Global, first: Span, test: Exp, body: Exp) -> Result
 }
 
 /// A `for` loop.
-pub(crate) fn counted(
+pub(crate) fn build_for(
     alloc: Global,
     first: Span,
     variable: Ident,
@@ -137,30 +148,30 @@ pub(crate) fn counted(
 }
 
 /// A sequence, between the tokens that enclose it.
-pub(crate) fn enclosed(first: Span, items: Vec<Exp>, last: Span) -> Exp
+pub(crate) fn build_sequence(first: Span, items: Vec<Exp>, last: Span) -> Exp
     ensures { plain result ≡ PlainSeq (joined_span first last) (exps_of items.items) }
 {
-    sequence(joined(first, last), items)
+    sequence(join(first, last), items)
 }
 
 /// A call, up to the token that ends it.
-pub(crate) fn called(name: Ident, arguments: Vec<Exp>, last: Span) -> Exp
+pub(crate) fn build_call(name: Ident, arguments: Vec<Exp>, last: Span) -> Exp
     ensures { plain result ≡ PlainCall (joined_span name.span last) name (exps_of arguments.items) }
 {
-    call(joined(name.span, last), name, arguments)
+    call(join(name.span, last), name, arguments)
 }
 
 /// A record that is made, up to the token that ends it.
-pub(crate) fn made(name: Ident, inits: Vec<Init>, last: Span) -> Exp
+pub(crate) fn build_record(name: Ident, inits: Vec<Init>, last: Span) -> Exp
     ensures { plain result ≡ PlainMake (joined_span name.span last) name (inits_of inits.items) }
 {
-    make(joined(name.span, last), name, inits)
+    make(join(name.span, last), name, inits)
 }
 
 /// Declarations and the expressions that see them, between the tokens that enclose them.
-pub(crate) fn declared(first: Span, decs: Vec<Dec>, body: Vec<Exp>, last: Span) -> Exp
+pub(crate) fn build_let(first: Span, decs: Vec<Dec>, body: Vec<Exp>, last: Span) -> Exp
     ensures { plain result
         ≡ PlainLet (joined_span first last) (decs_of decs.items) (exps_of body.items) }
 {
-    let_in(joined(first, last), decs, body)
+    let_in(join(first, last), decs, body)
 }
