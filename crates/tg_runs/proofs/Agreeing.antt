@@ -7,7 +7,8 @@ use Rattle.tg_runs.specs.Runs.{Run}
 use Rattle.tg_runs.specs.Ran.{Ran, Stop, Ended, WantsFuel, Wrong, IsOver, StaysOver}
 use Rattle.tg_runs.specs.Preserving.{DoesTheSame, Preserves}
 use Rattle.tg_runs.specs.Outcomes.{End, ended, out_of_fuel, stuck}
-use Rattle.tg_runs.specs.Agreement.{Source, least_frame, IsPrefix, Fits, Matches, same, cut, unsaid, Follows, IsCut, IsSame, Ends, Agrees, FillsStack}
+use Rattle.tg_runs.specs.Bytes.{IsPrefix, least_frame}
+use Rattle.tg_runs.specs.Agreement.{Source, Fits, Matches, same, cut, unsaid, Follows, IsCut, IsSame, Ends, Agrees, FillsStack}
 use Rattle.tg_runs.specs.Laws.{NeverEndsFull, NeverStuck}
 
 spread : (k a b x : ℕ) → k * (a * x + b) ≡ k * a * x + k * b

@@ -6,7 +6,8 @@ use Rattle.tg_runs.specs.Runs.{Run, turn}
 use Rattle.tg_runs.specs.Ran.{Ran, Ended, WantsFuel, stops, writes, works}
 use Rattle.tg_runs.specs.Outcomes as outcome
 use Rattle.tg_runs.specs.Outcomes.{out_of_fuel, stuck, first_written, costs, passes_limit, reaches}
-use Rattle.tg_runs.specs.Agreement.{Source, least_frame, IsPrefix, Fits, Matches, same, cut, unsaid, Follows}
+use Rattle.tg_runs.specs.Bytes.{IsPrefix, least_frame}
+use Rattle.tg_runs.specs.Agreement.{Source, Fits, Matches, same, cut, unsaid, Follows}
 
 module _ (stack a : ℕ) where
   longer_front : (bytes xs ys : List ℕ) → IsPrefix xs ys → IsPrefix (bytes ++ xs) (bytes ++ ys)

@@ -41,6 +41,49 @@ simulates_working a r n k c d h i le s =
     let w = x.2.work in
     (x.0, x.1, record { output = x.2.output; input = x.2.input; stop = x.2.stop; work = omega arith })
 
+-- credit for credit
+traded : (a k l r s v w : ℕ) → s + l ≤ r + a * k → v ≤ a * w + s → l + v ≤ a * (k + w) + r
+traded a k l r s v w le h = let e = mul-add a k w in omega arith
+
+unpaid : (a k r s v w : ℕ) → r + a * k ≤ s → v ≤ a * (k + w) + r → v ≤ a * w + s
+unpaid a k r s v w le h = let e = mul-add a k w in omega arith
+
+untraded : (a k l r s v w : ℕ) → r + a * k ≤ s + l → l + v ≤ a * (k + w) + r → v ≤ a * w + s
+untraded a k l r s v w le h = let e = mul-add a k w in omega arith
+
+pub simulates_trading : (a r s n k l : ℕ) (c d : Run Ran) → s + l ≤ r + a * k →
+    Simulates a s n c d → Simulates a r n (λ i. works k (c i)) (λ j. works l (d j))
+simulates_trading a r s n k l c d le h i li ne =
+    let x = h i li ne in
+    let m = traded a k l r s (d x.0).work (c i).work le x.2.work in
+    (x.0, x.1, record { output = x.2.output; input = x.2.input; stop = x.2.stop; work = m })
+
+pub simulates_unpaid : (a r s n k : ℕ) (c d : Run Ran) → r + a * k ≤ s → Simulates a r n (λ i. works k (c i)) d → Simulates a s n c d
+simulates_unpaid a r s n k c d le h i li ne =
+    let x = h i li ne in
+    let m = unpaid a k r s (d x.0).work (c i).work le x.2.work in
+    (x.0, x.1, record { output = x.2.output; input = x.2.input; stop = x.2.stop; work = m })
+
+pub simulates_reworking : (a r s n k l : ℕ) (c d : Run Ran) → s + l ≤ r + k →
+    Simulates a s n c (λ j. works k (d j)) → Simulates a r n c (λ j. works l (d j))
+simulates_reworking a r s n k l c d le h i li ne =
+    let x = h i li ne in
+    let w = x.2.work in
+    (x.0, x.1, record { output = x.2.output; input = x.2.input; stop = x.2.stop; work = omega arith })
+
+pub simulates_working_less : (a r n k : ℕ) (c d : Run Ran) → Simulates a r n c (λ j. works k (d j)) → Simulates a r n c d
+simulates_working_less a r n k c d h i li ne =
+    let x = h i li ne in
+    let w = x.2.work in
+    (x.0, x.1, record { output = x.2.output; input = x.2.input; stop = x.2.stop; work = omega arith })
+
+pub simulates_untraded : (a r s n k l : ℕ) (c d : Run Ran) → r + a * k ≤ s + l →
+    Simulates a r n (λ i. works k (c i)) (λ j. works l (d j)) → Simulates a s n c d
+simulates_untraded a r s n k l c d le h i li ne =
+    let x = h i li ne in
+    let m = untraded a k l r s (d x.0).work (c i).work le x.2.work in
+    (x.0, x.1, record { output = x.2.output; input = x.2.input; stop = x.2.stop; work = m })
+
 pub simulates_wrong : (a r n : ℕ) (c d : Run Ran) → ((i : ℕ) → (c i).stop ≡ Wrong) → Simulates a r n c d
 simulates_wrong a r n c d h i le s = absurd (s (h i))
 

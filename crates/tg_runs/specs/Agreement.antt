@@ -1,7 +1,8 @@
 -- When the runs of code agree with those of a source program.
-use Rattle.std.specs.Prelude.{ℕ, ◌+◌, ◌*◌, ◌≡◌, ◌≢◌, ◌≤◌, ◌<◌, ◌⊎◌, List, ◌++◌, Some}
+use Rattle.std.specs.Prelude.{ℕ, ◌+◌, ◌*◌, ◌≡◌, ◌≢◌, ◌≤◌, ◌<◌, ◌⊎◌, List, Some}
 use Rattle.tg_base.specs.declared.ends.RunEnd.{RunEnd}
 use Rattle.tg_base.specs.declared.ends.RunEnd.TheVariants.{StackFull}
+use Rattle.tg_runs.specs.Bytes.{IsPrefix, least_frame}
 use Rattle.tg_runs.specs.Runs.{Run}
 use Rattle.tg_runs.specs.Ran.{Stop, Ended, WantsFuel, Wrong, Ran}
 use Rattle.tg_runs.specs.Outcomes.{End, ended, out_of_fuel, stuck, Outcome}
@@ -9,15 +10,6 @@ use Rattle.tg_runs.specs.Outcomes.{End, ended, out_of_fuel, stuck, Outcome}
 -- what comes of a source program, with the end of the machine that stands for each ending
 abbrev pub Source : Type 0
 Source = Outcome RunEnd
-
--- the bytes of stack that an open activation has at least: a frame of two words
-abbrev pub least_frame : ℕ
-least_frame = 8
-
--- a front of a list
-pub record IsPrefix (xs ys : List ℕ) : Type 0 where
-  pub more : List ℕ
-  pub whole : ys ≡ xs ++ more
 
 -- the code stops as the program is over
 abbrev pub Fits : End RunEnd → Stop → Type 0

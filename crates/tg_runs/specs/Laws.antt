@@ -6,7 +6,8 @@ use Rattle.tg_runs.specs.Ran.{Ran, Ended, WantsFuel, stops, writes, works, Stays
 use Rattle.tg_runs.specs.Preserving.{Preserves}
 use Rattle.tg_runs.specs.Outcomes as outcome
 use Rattle.tg_runs.specs.Outcomes.{ended, out_of_fuel, stuck, costs, passes_limit, reaches}
-use Rattle.tg_runs.specs.Agreement.{Source, least_frame, Follows, Agrees, FillsStack}
+use Rattle.tg_runs.specs.Bytes.{least_frame}
+use Rattle.tg_runs.specs.Agreement.{Source, Follows, Agrees, FillsStack}
 
 -- what two passes promise, one behind the other
 abbrev pub PassesCompose : Type 0

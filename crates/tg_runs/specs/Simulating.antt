@@ -63,6 +63,43 @@ SimulatesWorking =
     Simulates a r n c d →
     Simulates a (r + k) n c (λ j. works k (d j))
 
+-- Credit for credit: both work, and what was paid, or was allowed to the code behind, is taken back
+-- as credit.
+
+abbrev pub SimulatesTrading : Type 0
+SimulatesTrading =
+    (a r s n k l : ℕ) (c d : Run Ran) →
+    s + l ≤ r + a * k →
+    Simulates a s n c d →
+    Simulates a r n (λ i. works k (c i)) (λ j. works l (d j))
+
+abbrev pub SimulatesUnpaid : Type 0
+SimulatesUnpaid =
+    (a r s n k : ℕ) (c d : Run Ran) →
+    r + a * k ≤ s →
+    Simulates a r n (λ i. works k (c i)) d →
+    Simulates a s n c d
+
+abbrev pub SimulatesReworking : Type 0
+SimulatesReworking =
+    (a r s n k l : ℕ) (c d : Run Ran) →
+    s + l ≤ r + k →
+    Simulates a s n c (λ j. works k (d j)) →
+    Simulates a r n c (λ j. works l (d j))
+
+abbrev pub SimulatesWorkingLess : Type 0
+SimulatesWorkingLess =
+    (a r n k : ℕ) (c d : Run Ran) →
+    Simulates a r n c (λ j. works k (d j)) →
+    Simulates a r n c d
+
+abbrev pub SimulatesUntraded : Type 0
+SimulatesUntraded =
+    (a r s n k l : ℕ) (c d : Run Ran) →
+    r + a * k ≤ s + l →
+    Simulates a r n (λ i. works k (c i)) (λ j. works l (d j)) →
+    Simulates a s n c d
+
 -- of a run that goes wrong nothing is said
 abbrev pub SimulatesWrong : Type 0
 SimulatesWrong =

@@ -25,6 +25,11 @@ ghost use Rattle.tg_runs.specs.Simulating.{
   SimulatesTurnBehind,
   SimulatesPaying,
   SimulatesWorking,
+  SimulatesTrading,
+  SimulatesUnpaid,
+  SimulatesReworking,
+  SimulatesWorkingLess,
+  SimulatesUntraded,
   SimulatesWrong,
   SimulatesLess,
   SimulatesWithCredit,
@@ -89,6 +94,16 @@ pub fn passes_simulate()
     ensures credit { SimulatesWithCredit }
     ensures along { SimulatesAlong }
     ensures coming { SimulatesComing }
+{}
+
+/// The laws of credit: both sides of a simulation work, and what was paid by the code before the
+/// pass, or wasn't done by the code behind it, is credit again.
+pub fn credit_is_traded()
+    ensures trading { SimulatesTrading }
+    ensures unpaid { SimulatesUnpaid }
+    ensures reworking { SimulatesReworking }
+    ensures less { SimulatesWorkingLess }
+    ensures untraded { SimulatesUntraded }
 {}
 
 /// The laws of a run that comes to another by steps of its own, as a loop of the runtime does round

@@ -7,5 +7,6 @@
 mod laws;
 
 pub use laws::{
-    agreement_goes_on, following_agrees, passes_compose, passes_simulate, runs_come, steps_follow,
+    agreement_goes_on, credit_is_traded, following_agrees, passes_compose, passes_simulate,
+    runs_come, steps_follow,
 };

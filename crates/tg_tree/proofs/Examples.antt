@@ -14,6 +14,7 @@ use Rattle.tg_tree.specs.Tree.{Return'}
 use Rattle.tg_tree.specs.Units.{Trees}
 use Rattle.tg_tree.specs.Forms.{txs, sequence, nothing}
 use Rattle.tg_tree.specs.Operators.{word, stops_by, operate, holds}
+use Rattle.tg_tree.specs.Memory.{string_block}
 use Rattle.tg_tree.specs.Running.{tree_run}
 use Rattle.tg_tree.specs.Flat.{flat_run}
 
@@ -305,3 +306,7 @@ call_works = refl
 flat_code_works : (flat_run (record { functions = fun 32 [] 0 flat_counts ∷ []; literals = [] }) (λ label. 64) (stack_top - 256) 8 32 [] 4).work ≡
     (2 + 2) + 1 + 4 * (2 + 2) + 3 * (5 + (2 + 1 + 2) + 1) + (14 + 2)
 flat_code_works = refl
+
+-- a string as a literal and in memory: its length, its bytes, and zeros up to whole words
+string_is_laid : string_block (codes "tiger") ≡ 5 ∷ 0 ∷ 0 ∷ 0 ∷ 116 ∷ 105 ∷ 103 ∷ 101 ∷ 114 ∷ 0 ∷ 0 ∷ 0 ∷ []
+string_is_laid = refl

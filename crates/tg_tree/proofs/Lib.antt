@@ -10,7 +10,7 @@ pub mod FlatRuns
 pub mod FlatValues
 pub mod ListLaws
 pub mod Flatness
-pub mod CallsLess
 pub mod Linking
+pub mod Linked
 pub mod Alikes
 pub mod Opposites

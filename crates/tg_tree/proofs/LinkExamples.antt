@@ -1,5 +1,5 @@
 -- Static links that are right, and one that isn't, each computed by the definition itself.
-use Rattle.std.proofs.Common.{◌≡◌, ℕ, ◌-◌, List, [], ◌∷◌, refl}
+use Rattle.std.proofs.Common.{◌≡◌, ℕ, ◌-◌, List, [], ◌∷◌, ◌++◌, ap, refl}
 use Rattle.std.specs.Prelude.{pos}
 use Rattle.tg_base.specs.declared.ends.RunEnd.TheVariants.{Exit}
 use Rattle.tg_base.specs.State.{stack_top}
@@ -11,7 +11,7 @@ use Rattle.tg_tree.specs.Tree.{Tx, Const, FrameAddress, Binary, Load, Call, Serv
 use Rattle.tg_tree.specs.Units.{Trees}
 use Rattle.tg_tree.specs.Forms.{txs, sequence}
 use Rattle.tg_tree.specs.Running.{tree_run}
-use Rattle.tg_tree.specs.Links.{linked_run}
+use Rattle.tg_tree.specs.Links.{linked_run, LinksAreRight}
 
 abbrev fun : (label : ℕ) → List Access → Ts → Function Ts
 fun label params body = record { label = label; params = params; slots = 1; temps = 0; out = 0; body = body }
@@ -52,6 +52,19 @@ wrong_link_of_a_sibling = refl
 -- the caller's own link, where its frame address is due
 wrong_link : linked (λ label. label - 32) (Load home) ≡ Wrong
 wrong_link = refl
+
+-- What another body of the same code would do doesn't matter: that of 35 follows no link, so its links are right.
+abbrev beside : Code Ts
+beside = record (program (Load home)) { functions = (program (Load home)).functions ++ fun 35 [] (Return (Const 0)) ∷ [] }
+
+right_beside_wrong : LinksAreRight Trees beside (λ label. 8) (stack_top - 256) 8 (λ label. label - 32) 35 []
+right_beside_wrong n = refl
+
+not_all_are_right : LinksAreRight Trees beside (λ label. 8) (stack_top - 256) 8 (λ label. label - 32) 32 [] → ⊥
+not_all_are_right h = by (ap seen (h 2))
+  where
+    by : Wrong ≡ Ended (Exit (pos 0)) → ⊥
+    by e = cc
 
 wrong_link_runs : plainly (Load home) ≡ Ended (Exit (pos 0))
 wrong_link_runs = refl

@@ -94,7 +94,7 @@ module _ {A B : Type 0} (a e : ℕ) (size : ℕ → ℕ) (floor : ℕ) (units un
       paid a e n (units (length vs)) (units' (length vs)) r _ _ (pays (length vs))
       (found n (fuelled runner) (fuelled runner')
       (λ s s' carried r1 act b b' w1 t1 hb. simulates_turn a (r1 + e) n w1.input _ _
-      (λ m lt. carried m r1 act b b' w1 t1 (below m lt) (backs_less a r1 m n b b' (omega arith) hb)))
+      (λ m lt. carried m r1 act b b' w1 t1 (λ j le. below j (omega (arith, le, lt))) (backs_less a r1 m n b b' (omega arith) hb)))
       functions functions' c label vs top back back' w r h)
 
   calls_below : Pay → Carried functions functions' → (n m : ℕ) → m < n → Calls m
@@ -106,5 +106,5 @@ module _ {A B : Type 0} (a e : ℕ) (size : ℕ → ℕ) (floor : ℕ) (units un
 
   pub programs_carried : ProgramsCarried a e size floor units units' runner runner' functions functions'
   programs_carried pays c n label vs top back back' w r h =
-      found n runner runner' (λ s s' carried r1 act b b' w1 t1 hb. carried n r1 act b b' w1 t1 (calls_carried pays c n) hb)
+      found n runner runner' (λ s s' carried r1 act b b' w1 t1 hb. carried n r1 act b b' w1 t1 (λ m le. calls_carried pays c m) hb)
       functions functions' c label vs top back back' w r h

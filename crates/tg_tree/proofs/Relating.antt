@@ -144,7 +144,7 @@ module _ (R : Related) (W : RelatedWorlds) (T : RelatedTemps) where
           AlikeAround n (record e { out = leaving g e.out }) (record e' { out = leaving g' e'.out })
       keep_around e e' g g' (around a o o' b b' ho hb) hg = around a _ _ b b' (keep_leaving g g' o o' hg ho) hb
 
-      keep_service : (room asked a : ℕ) (w w' : World) (p q : Back) → W w w' → AlikeBack n p q → R n w (service room asked a w p) (service room asked a w' q)
+      pub keep_service : (room asked a : ℕ) (w w' : World) (p q : Back) → W w w' → AlikeBack n p q → R n w (service room asked a w p) (service room asked a w' q)
       keep_service room asked a w w' p q r h =
           keep_if (asked == 1) w _ _ _ _ (keeps.write n (signed_decimal (signed a)) w (p asked w) (q asked w') (h asked w w' r))
           (keep_if (asked == 4) w _ _ _ _ (keeps.text n a w w' _ _ r (h asked w w' r))

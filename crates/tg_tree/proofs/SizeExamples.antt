@@ -1,5 +1,5 @@
 -- What texts name, their lengths and rooms, and sizes of frames, each computed by the definition itself.
-use Rattle.std.proofs.Common.{◌≡◌, ℕ, zero, suc, ◌+◌, List, [], ◌∷◌, map, refl, arith}
+use Rattle.std.proofs.Common.{◌≡◌, ℕ, zero, suc, ◌+◌, ◌^◌, List, [], ◌∷◌, map, refl, arith}
 use Rattle.tg_frame.specs.declared.accesses.Access.TheVariants.{InFrame}
 use Rattle.tg_tree.specs.declared.operators.Bin.TheVariants.{Add, Sub, Mul, Div, And, Or, Xor, ShiftLeft, ShiftRight, ShiftSigned, AddTrap, SubTrap, MulHigh}
 use Rattle.tg_tree.specs.declared.operators.Rel.TheVariants.{Equal, NotEqual, Less}
@@ -7,7 +7,7 @@ use Rattle.tg_tree.specs.Tree.{Tx, Const, Address, Temp, FrameAddress, Binary, L
 use Rattle.tg_tree.specs.Tree.{Both, Either, Ts, Move, Store, StoreByte, Do, If, Loop, Break, Fault, Seq, Return, Stms, Function, Linear, Mark, Do'}
 use Rattle.tg_tree.specs.Tree.{Jump, Branch, Fault', Return'}
 use Rattle.tg_tree.specs.Forms.{stms, sequence, nothing}
-use Rattle.tg_tree.specs.Named.{function, literal, fault, temporary, named_ts, named_flat}
+use Rattle.tg_tree.specs.Named.{function, literal, fault, temporary, constant, named_ts, named_flat, HasWords}
 use Rattle.tg_tree.specs.FrameSizes.{IsSizeOf}
 use Rattle.tg_tree.specs.Units.{Trees, Canonical, operator_units, expression_units, argument_units, condition_units, statement_units, element_units}
 use Rattle.tg_tree.specs.Units.{entry_units, marked_entry_units}
@@ -22,7 +22,8 @@ abbrev body : Stms
 body =
     stms (If (Compare Less (Temp 0) (Const 2)) (Move 1 (Call 34 (tx (Address 40) no_txs))) (Fault 6) ∷ Return (Temp 1) ∷ [])
 
-names_in_order : named_ts (Seq body) [] ≡ temporary 0 ∷ temporary 1 ∷ function 34 ∷ literal 40 ∷ fault 6 ∷ temporary 1 ∷ []
+names_in_order : named_ts (Seq body) [] ≡
+    temporary 0 ∷ constant 2 ∷ temporary 1 ∷ function 34 ∷ literal 40 ∷ fault 6 ∷ temporary 1 ∷ []
 names_in_order = refl
 
 -- each pass makes the text shorter in this measure
@@ -40,11 +41,20 @@ abbrev flat_body : List Linear
 flat_body = Branch Less (Temp 0) (Const 2) 1 ∷ Jump 2 ∷ Mark 1 ∷ Do' (Move 1 (Call 34 (tx (Address 40) no_txs))) ∷
     Return' (Temp 1) ∷ Mark 2 ∷ Return' (Const 0) ∷ []
 
-flat_names : named_flat flat_body [] ≡ temporary 0 ∷ temporary 1 ∷ function 34 ∷ literal 40 ∷ temporary 1 ∷ []
+flat_names : named_flat flat_body [] ≡
+    temporary 0 ∷ constant 2 ∷ temporary 1 ∷ function 34 ∷ literal 40 ∷ temporary 1 ∷ constant 0 ∷ []
 flat_names = refl
 
 lengths_as_flat_code : flat_length (fun flat_body) ≡ 6 + (2 + 2) + 1 + 1 + (2 + (2 + (4 + 1))) + 14 + 1 + (14 + 2)
 lengths_as_flat_code = refl
+
+-- the number of a service is a constant, too
+service_names : named_ts (Do (Service 11 (Const 7))) [] ≡ constant 11 ∷ constant 7 ∷ []
+service_names = refl
+
+-- a constant that is no word: a word that it is stored to holds another
+too_much : HasWords (λ s. named_ts s []) (record { functions = fun (Return (Const (2 ^ 32))) ∷ []; literals = [] }) → ⊥
+too_much h = let e = h _ (2 ^ 32) (0, omega arith, refl) (0, omega arith, refl) in omega arith
 
 rooms_as_statements : canonical_room (fun body) ≡ 3 + 2 + (1 + (0 + 1)) + (1 + 1 + (2 + 1)) + 0
 rooms_as_statements = refl

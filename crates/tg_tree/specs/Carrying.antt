@@ -30,11 +30,12 @@ module _
       EntersSimulate a 0 n
       (call_in units size floor runner functions) (call_in units' size floor runner' functions')
 
-  -- a body is carried: it does what it did, with e units more, if calls do what they did
+  -- a body is carried: it does what it did, with e units more, if calls with as much fuel or less do
+  -- what they did
   abbrev pub BodyCarried : A → B → Type 0
   BodyCarried s s' =
       (n r : ℕ) (activation : Activation) (back back' : Back) (w : World) (t : Temps) →
-      CallsSimulate n →
+      ((m : ℕ) → m ≤ n → CallsSimulate m) →
       BacksSimulate a r n back back' →
       Simulates a (r + e) n
       (runner s (outermost activation back) w t) (runner' s' (outermost activation back') w t)

@@ -1,10 +1,10 @@
 -- Static links (Appel, chapter 6). The first argument of a call of a declared function is the frame
 -- address of the current activation of the function around it in the text. A run that goes wrong at
--- any other first argument is the run, where the links are right.
-use Rattle.std.specs.Prelude.{ℕ, ◌-◌, ◌≡◌, ◌==◌, List, [], ◌∷◌, length, drop, Bool, false, nat_lt}
-use Rattle.std.specs.Prelude.{if◌then◌else◌}
+-- any other first argument is the run, where the links are right: unless it goes wrong.
+use Rattle.std.specs.Prelude.{ℕ, ◌-◌, ◌≡◌, ◌≢◌, ◌==◌, List, [], ◌∷◌, length, drop, Bool, false}
+use Rattle.std.specs.Prelude.{nat_lt, if◌then◌else◌}
 use Rattle.tg_runs.specs.Runs.{Run, again}
-use Rattle.tg_runs.specs.Ran.{Ran, WantsFuel, stops}
+use Rattle.tg_runs.specs.Ran.{Ran, WantsFuel, Wrong, stops, StaysOver}
 use Rattle.tg_tree.specs.Tree.{Ts, Code}
 use Rattle.tg_tree.specs.Units.{Stage, marked_entry_units}
 use Rattle.tg_tree.specs.Actions.{wrong}
@@ -49,12 +49,38 @@ module _ (stage : Stage) (code : Code Ts) (size : ℕ → ℕ) (floor room : ℕ
       (λ q. with_fuel q.world (later (record { point = q; frames = p.frames })))
       p.point.statement p.point.around p.point.next p.point.world p.point.temps
 
-  abbrev pub linked_run : (body : ℕ) → (input : List ℕ) → Run Ran
-  linked_run body input =
-      program size floor (run_linked_body (again (stops [] WantsFuel) linked_step) [])
-      code body input
+  abbrev pub linked_going : LinkedPoint → Run Ran
+  linked_going = again (stops [] WantsFuel) linked_step
 
-  abbrev pub LinksAreRight : Type 0
-  LinksAreRight =
-      (body : ℕ) (input : List ℕ) (n : ℕ) →
-      linked_run body input n ≡ tree_run stage code size floor room body input n
+  abbrev pub linked_run : (body : ℕ) → (input : List ℕ) → Run Ran
+  linked_run body input = program size floor (run_linked_body linked_going []) code body input
+
+  -- of one body on one input: whatever the fuel, the run that looks at links is the run
+  abbrev pub LinksAreRight : (body : ℕ) → (input : List ℕ) → Type 0
+  LinksAreRight body input =
+      (n : ℕ) → linked_run body input n ≡ tree_run stage code size floor room body input n
+
+-- The laws of linked runs: each is its own step,
+abbrev pub LinkedRunsStep : Type 0
+LinkedRunsStep =
+    (stage : Stage) (code : Code Ts) (size : ℕ → ℕ) (floor room : ℕ) (level : ℕ → ℕ)
+    (p : LinkedPoint) (n : ℕ) →
+    linked_going stage code size floor room level p n ≡
+    linked_step stage code size floor room level (linked_going stage code size floor room level) p n
+
+-- more fuel changes nothing of one that is over,
+abbrev pub LinkedRunsStayOver : Type 0
+LinkedRunsStayOver =
+    (stage : Stage) (code : Code Ts) (size : ℕ → ℕ) (floor room : ℕ) (level : ℕ → ℕ)
+    (body : ℕ) (input : List ℕ) →
+    StaysOver (linked_run stage code size floor room level body input)
+
+-- and one that doesn't go wrong is the run of the trees. So where none goes wrong, the links are
+-- right.
+abbrev pub LinkedRunsAreRuns : Type 0
+LinkedRunsAreRuns =
+    (stage : Stage) (code : Code Ts) (size : ℕ → ℕ) (floor room : ℕ) (level : ℕ → ℕ)
+    (body : ℕ) (input : List ℕ) (n : ℕ) →
+    (linked_run stage code size floor room level body input n).stop ≢ Wrong →
+    linked_run stage code size floor room level body input n ≡
+    tree_run stage code size floor room body input n

@@ -2,6 +2,7 @@
 -- open activations.
 use Rattle.std.specs.Prelude.{ℕ, zero, suc, ◌+◌, ◌-◌, ◌*◌, ◌/◌, ◌%◌, ◌^◌, ◌==◌, List, [], ◌∷◌, ◌++◌}
 use Rattle.std.specs.Prelude.{length, slice_index, slice_set, Option, Some, None, if◌then◌else◌}
+use Rattle.std.specs.Int.{to_le_bytes, w32}
 use Rattle.tg_base.specs.State.{offset, word_at, set_word, padded, statics_base, heap_base}
 use Rattle.tg_tree.specs.Tree.{Literal}
 
@@ -105,6 +106,14 @@ slot base k = base - 4 * (k + 1)
 abbrev pub lay : (base slots : ℕ) → Cell → Memory → Memory
 lay base zero c m = m
 lay base (suc n) c m = put (slot base n) c (lay base n c m)
+
+-- Strings: a word of length and the bytes, and where they stand in memory zeros behind, up to a
+-- multiple of 4.
+abbrev pub string_text : List ℕ → List ℕ
+string_text bytes = to_le_bytes w32 (length bytes) ++ bytes
+
+abbrev pub string_block : List ℕ → List ℕ
+string_block bytes = padded (string_text bytes)
 
 -- Literals stand in the statics in their order, each at a multiple of 4.
 abbrev pub statics_of : List Literal → List ℕ

@@ -1,6 +1,6 @@
 -- What texts name: the functions that they call, the literals whose addresses they take, the
--- numbers of their faults, and their temporaries.
-use Rattle.std.specs.Prelude.{◌≢◌, ◌<◌, ℕ, List, [], ◌∷◌, ◌++◌, map}
+-- numbers of their faults, their temporaries, and their constants.
+use Rattle.std.specs.Prelude.{◌≢◌, ◌<◌, ◌^◌, ℕ, List, [], ◌∷◌, ◌++◌, map}
 use Rattle.std.specs.List.{Contains, AllPairs}
 use Rattle.tg_tree.specs.Tree.{Tx, Const, Address, Temp, FrameAddress, Binary, Load, LoadByte, Call}
 use Rattle.tg_tree.specs.Tree.{Service, After, Txs, no_txs, tx, Cond, Compare, Not, Both, Either}
@@ -9,12 +9,12 @@ use Rattle.tg_tree.specs.Tree.{Stms, no_stms, stm, Linear, Mark, Do', Jump, Bran
 use Rattle.tg_tree.specs.Tree.{Function, Code}
 
 pub data Named : Type 0 where
-  function literal fault temporary : ℕ → Named
+  function literal fault temporary constant : ℕ → Named
 
 -- what a part names, before what comes after it
 abbrev mutual
   pub named_tx : Tx → List Named → List Named
-  named_tx (Const _) after = after
+  named_tx (Const n) after = constant n ∷ after
   named_tx (Address label) after = literal label ∷ after
   named_tx (Temp i) after = temporary i ∷ after
   named_tx FrameAddress after = after
@@ -22,7 +22,7 @@ abbrev mutual
   named_tx (Load x) after = named_tx x after
   named_tx (LoadByte x) after = named_tx x after
   named_tx (Call label xs) after = function label ∷ named_txs xs after
-  named_tx (Service _ x) after = named_tx x after
+  named_tx (Service k x) after = constant k ∷ named_tx x after
   named_tx (After s x) after = named_ts s (named_tx x after)
 
   pub named_txs : Txs → List Named → List Named
@@ -75,6 +75,8 @@ module _ {Body : Type 0} (named : Body → List Named) where
         (label : ℕ) →
         Contains (named after) (literal label) → Contains (named before) (literal label)
     pub faults : (n : ℕ) → Contains (named after) (fault n) → Contains (named before) (fault n)
+    pub constants :
+        (n : ℕ) → Contains (named after) (constant n) → Contains (named before) (constant n)
 
   -- the labels of functions and literals
   abbrev pub function_labels : Code Body → List ℕ
@@ -99,3 +101,9 @@ module _ {Body : Type 0} (named : Body → List Named) where
     pub faults :
         (f : Function Body) (n : ℕ) →
         Contains code.functions f → Contains (named f.body) (fault n) → n < 1048576
+
+  -- each constant is a word
+  abbrev pub HasWords : Code Body → Type 0
+  HasWords code =
+      (f : Function Body) (n : ℕ) →
+      Contains code.functions f → Contains (named f.body) (constant n) → n < 2 ^ 32

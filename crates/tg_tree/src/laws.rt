@@ -1,5 +1,6 @@
 ghost use Rattle.tg_tree.specs.Carrying.{FunctionsCarryCalls, FunctionsCarryPrograms};
 ghost use Rattle.tg_tree.specs.FlatValue.{FlatRunsAsValue, FlatSpendsLength, FlatWordSpendsAll};
+ghost use Rattle.tg_tree.specs.Links.{LinkedRunsStep, LinkedRunsStayOver, LinkedRunsAreRuns};
 ghost use Rattle.tg_tree.specs.Laws.{
   TreesStep,
   TreesStayOver,
@@ -21,7 +22,15 @@ pub fn trees_run()
     ensures on { TreesOnlyGoOn }
 {}
 
-/// The same laws of runs of flat code.
+/// The laws of runs that look at static links: each is its own step, one that is over stays so
+/// with more fuel, and one that doesn't go wrong is the run of the trees.
+pub fn linked_trees_run()
+    ensures step { LinkedRunsStep }
+    ensures over { LinkedRunsStayOver }
+    ensures runs { LinkedRunsAreRuns }
+{}
+
+/// The laws of runs of flat code: as those of runs of trees.
 pub fn flat_code_runs()
     ensures step { FlatCodeSteps }
     ensures over { FlatCodeStaysOver }

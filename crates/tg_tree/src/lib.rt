@@ -13,7 +13,7 @@ mod trees;
 pub use fragments::{Fragment, Fragments, Literal};
 pub use laws::{
     flat_code_runs, flat_expressions_run, full_stack_ends_the_call, functions_carry,
-    nothing_else_is_read, trees_run,
+    linked_trees_run, nothing_else_is_read, trees_run,
 };
 pub use linear::Linear;
 pub use making::{
