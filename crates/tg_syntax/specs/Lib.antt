@@ -15,3 +15,4 @@ pub mod Functions
 pub mod Beginnings
 pub mod Throughout
 pub mod NamesWithin
+pub mod OfWords

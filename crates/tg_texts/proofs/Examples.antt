@@ -1,5 +1,5 @@
 -- A text of two strings, the second with escapes: `"a"="\066\n"`, of 12 bytes.
-use Rattle.std.proofs.Common.{ℕ, ◌≡◌, List, [], ◌∷◌, ◌++◌, None, true, false, refl, sym, ap, subst, ◌∙◌, arith}
+use Rattle.std.proofs.Common.{ℕ, ◌≡◌, ◌<◌, List, [], ◌∷◌, ◌++◌, None, true, false, refl, sym, ap, subst, ◌∙◌, arith}
 use Rattle.std.specs.Prelude.{codes, ◌==◌}
 use Rattle.std.specs.List.{sum_by}
 use Rattle.std.specs.Str.Parse.{IsNumeral}
@@ -9,7 +9,8 @@ use Rattle.tg_syntax.specs.declared.tokens.Sign.TheVariants.{Comma, Equal}
 use Rattle.tg_syntax.specs.declared.tokens.Token.TheVariants as token
 use Rattle.tg_syntax.specs.declared.tokens.Spanned.{Spanned}
 use Rattle.tg_syntax.specs.declared.trees.Op.TheVariants as op
-use Rattle.tg_syntax.specs.Tree.{Exp, Text, Binary}
+use Rattle.tg_syntax.specs.Tree.{Exp, Int, Text, Binary}
+use Rattle.tg_syntax.specs.OfWords.{OfWords}
 use Rattle.tg_syntax.specs.Spellings.{sign_text, IsName, HasTokenForm, Escape, IsQuoted, nothing, plain, escaped, is_plain}
 use Rattle.tg_syntax.specs.Lexing.{Lexes, spanned, IsLongest}
 use Rattle.tg_syntax.specs.Grammar.{Sum, Reads, whole_up, or_up, and_up, cmp_two, sum_up, term_up, unary_primary, primary_text, program}
@@ -126,3 +127,10 @@ findings = record { meaning = λ at. None; escapes = λ at. false; keeps_link = 
 
 in_statics : statics_length (with_runtime (translated findings body)).literals ≡ 16
 in_statics = refl
+
+-- a greater int stands in no text, nor does a greater byte in a string of one
+no_word : OfWords (Int (span 0 10) 5000000000) → ⊥
+no_word h = omega (arith, h)
+
+no_byte : OfWords (Text (span 0 3) (300 ∷ [])) → ⊥
+no_byte h = let k : 300 < 256 = h 0 0 (omega arith) in omega (arith, k)

@@ -3,3 +3,5 @@ mod Spelling
 mod Fitting
 mod Literals
 mod Examples
+mod WordTokens
+mod WordTrees

@@ -5,7 +5,7 @@ use Rattle.std.proofs.lemmas.List.{length-map, length-replicate}
 use Rattle.std.proofs.lemmas.List.Sums.{sum_by-cons}
 use Rattle.tg_base.specs.State.{padded}
 use Rattle.tg_syntax.specs.Tree.{Exp}
-use Rattle.tg_translate.specs.Constructs.{string_text}
+use Rattle.tg_tree.specs.Memory.{string_text}
 use Rattle.tg_translate.specs.Scopes.{Findings}
 use Rattle.tg_translate.specs.Translate.{translated}
 use Rattle.tg_shapes.specs.Strings.{strings}

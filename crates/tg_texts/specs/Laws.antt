@@ -6,6 +6,7 @@ use Rattle.tg_syntax.specs.declared.tokens.Spanned.{Spanned}
 use Rattle.tg_syntax.specs.Tree.{Exp}
 use Rattle.tg_syntax.specs.Lexing.{Lexes}
 use Rattle.tg_syntax.specs.Grammar.{IsProgram}
+use Rattle.tg_syntax.specs.OfWords.{OfWords}
 use Rattle.tg_tree.specs.Tree.{Literal}
 use Rattle.tg_translate.specs.Scopes.{Findings}
 use Rattle.tg_translate.specs.Translate.{translated}
@@ -18,6 +19,12 @@ pub record IsTextOf (names : List (List ℕ)) (text : List ℕ) (body : Exp) : T
   pub tokens : List Spanned
   pub lexed : Lexes names 0 text tokens
   pub parsed : IsProgram tokens body
+
+-- The ints of a text's tree are below 2^31, and its strings are bytes: for any text, since what
+-- stands in a string as it is, is at most 255 as the token relation says.
+abbrev pub TreesAreOfWords : Type 0
+TreesAreOfWords =
+    (names : List (List ℕ)) (text : List ℕ) (body : Exp) → IsTextOf names text body → OfWords body
 
 -- The strings of a program's tree are those of its tokens, in the order of the text.
 abbrev pub StringsAreTokens : Type 0

@@ -6,9 +6,16 @@ ghost use Rattle.tg_texts.specs.Laws.{
   StringsAreShort,
   StringsAreTokens,
   StringsFitText,
+  TreesAreOfWords,
 };
 
 use tg_shapes::literals_are_strings;
+
+/// The law that the ints of a text's tree are below 2^31, and its strings are bytes. It does
+/// nothing.
+pub fn trees_are_of_words()
+    ensures { TreesAreOfWords }
+{}
 
 /// The law that the strings of a program's tree are those of its tokens, in the order of the text.
 /// It does nothing.

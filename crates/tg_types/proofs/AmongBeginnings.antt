@@ -42,8 +42,8 @@ module _ (marks : Noted → List ℕ) (are : AreMarks marks) where
   among_form : {at : ℕ} {form : Form} {g h : Noted} {ys : List ℕ} → AddsForm at form g h → Some_of (marks g) ys →
       Some_of (marks h) (form_beginnings form (at ∷ ys))
   among_form alias s = skip _ (skip _ s)
-  among_form (fields {ps = ps} shape) s = among_params ps (are.shaped _ shape _ s)
-  among_form (array shape) s = skip _ (are.shaped _ shape _ s)
+  among_form (fields {ps = ps} shape v) s = among_params ps (are.shaped _ shape _ s)
+  among_form (array shape v) s = skip _ (are.shaped _ shape _ s)
 
   among_forms : {ds : List TypeDec} {g h : Noted} {ys : List ℕ} → AddsForms ds g h → Some_of (marks g) ys → Some_of (marks h) (type_beginnings ds ys)
   among_forms end_forms s = s
@@ -98,14 +98,14 @@ module _ (marks : Noted → List ℕ) (are : AreMarks marks) where
     among_decs : {ds : Decs} {scope inner : Scope} {g h : Noted} {ys : List ℕ} → CheckedDecs ds scope inner g h → Some_of (marks g) ys →
         Some_of (marks h) (decs_beginnings ds ys)
     among_decs end_decs s = s
-    among_decs (type_names names forms rest) s = among_decs rest (among_forms forms s)
-    among_decs (variables {kind = kind} t u e f rest) s = among_decs rest (among e (among_kind kind (skip _ s)))
+    among_decs (type_names names v forms rest) s = among_decs rest (among_forms forms s)
+    among_decs (variables {kind = kind} t u v e f rest) s = among_decs rest (among e (among_kind kind (skip _ s)))
     among_decs (group ss distinct bodies rest) s = among_decs rest (among_bodies bodies s)
 
     among_bodies : {fs : FunDecs} {ss : List Signature} {scope : Scope} {g h : Noted} {ys : List ℕ} → CheckedBodies fs ss scope g h →
         Some_of (marks g) ys → Some_of (marks h) (function_beginnings fs ys)
     among_bodies end_bodies s = s
-    among_bodies (a_body {ps = ps} {r = r} u n body f rest) s = among_bodies rest (among body (among_kind r (among_params ps (skip _ s))))
+    among_bodies (a_body {ps = ps} {r = r} u n v body f rest) s = among_bodies rest (among body (among_kind r (among_params ps (skip _ s))))
 
 -- where an element of the one stands in the other
 place_in : {xs ys : List ℕ} → Some_of xs ys → (j : ℕ) → j < length xs → (k : ℕ) × (k < length ys) × ((d : ℕ) → slice_index_or xs j d ≡ slice_index_or ys k d)

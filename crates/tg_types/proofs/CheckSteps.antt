@@ -20,6 +20,7 @@ use Rattle.tg_types.specs.Faults.{rule_and_byte}
 use Rattle.tg_types.specs.Accepted.{finding, finding_of, within_limits}
 use Rattle.tg_types.specs.Answered.{Accepts, IsAt}
 use Rattle.tg_types.proofs.Rising.{rises}
+use Rattle.tg_types.proofs.NamedValues.{standard_values}
 
 abbrev begin : Noted
 begin = record { shapes = []; notes = [] }
@@ -57,4 +58,5 @@ pub accepts : (names : List (List ℕ)) (body : Exp) (t : Ty) (h : Noted) (limit
     IsNonDecreasingBy (λ (n : Note). n.at) sorted → notes ≡ sorted → Accepts (finding names body) notes
 accepts names body t h limit sorted notes e n l b p r i =
     let f = found names body t h (rule_and_byte None) e (ap rule_and_byte (sym n) ∙ l) in
-    subst (λ ns. Accepts (finding names body) ns) (sym i) (subst (λ f. Accepts f sorted) (sym f) (p, rises body (outermost names) t h sorted b e p r))
+    let rising = rises body (outermost names) (standard_values 0 names) t h sorted b e p r in
+    subst (λ ns. Accepts (finding names body) ns) (sym i) (subst (λ f. Accepts f sorted) (sym f) (p, rising))

@@ -15,14 +15,15 @@ use Rattle.tg_types.specs.Checks.{Noted}
 use Rattle.tg_types.specs.Scopes.{Signature, Binding, variable_at, Scope, name_of, at_of, bound, binding, in_a_loop, in_no_loop}
 use Rattle.tg_types.specs.Groups.{with_functions, with_params}
 use Rattle.tg_types.specs.Typing.{placed}
-use Rattle.tg_types.specs.Has.{Fits, Callee, use_of, Apart}
+use Rattle.tg_types.specs.Has.{Fits, Callee, use_of, Apart, HasValues, HaveValues, ShapeHasValues}
 use Rattle.tg_types.proofs.Inversion.{noting, shaping, Sides, Notes}
+use Rattle.tg_types.proofs.NamedValues.{NameValues}
 
 -- the shape of a form that is declared at a byte, and those of a group
 pub data AddsForm (at : ℕ) : Form → Noted → Noted → Type 0 where
   alias : {x : Ident} {g : Noted} → AddsForm at (Alias x) g g
-  fields : {ps : List Param} {g : Noted} (s : Shape) → AddsForm at (Fields ps) g (shaping at s g)
-  array : {x : Ident} {g : Noted} (s : Shape) → AddsForm at (Array x) g (shaping at s g)
+  fields : {ps : List Param} {g : Noted} (s : Shape) → ShapeHasValues s → AddsForm at (Fields ps) g (shaping at s g)
+  array : {x : Ident} {g : Noted} (s : Shape) → ShapeHasValues s → AddsForm at (Array x) g (shaping at s g)
 
 pub data AddsForms : List TypeDec → Noted → Noted → Type 0 where
   end_forms : {g : Noted} → AddsForms [] g g
@@ -101,11 +102,11 @@ mutual
   pub data CheckedDecs : Decs → Scope → Scope → (before after : Noted) → Type 0 where
     end_decs : {scope : Scope} {g : Noted} → CheckedDecs no_decs scope scope g g
     type_names :
-        {ds : List TypeDec} {rest : Decs} {scope inner : Scope} {g k h : Noted} (names : List (ℕ × Ty)) → AddsForms ds g k →
-        CheckedDecs rest (record scope { types = names }) inner k h → CheckedDecs (types ds rest) scope inner g h
+        {ds : List TypeDec} {rest : Decs} {scope inner : Scope} {g k h : Noted} (names : List (ℕ × Ty)) → NameValues names →
+        AddsForms ds g k → CheckedDecs rest (record scope { types = names }) inner k h → CheckedDecs (types ds rest) scope inner g h
     variables :
-        {x : Ident} {kind : Option Ident} {e : Exp} {rest : Decs} {scope inner : Scope} {g k h : Noted} (t u : Ty) → Checked e scope u g k → Fits u t →
-        CheckedDecs rest (binding x (variable_at (at_of x) t false) scope) inner k h → CheckedDecs (variable x kind e rest) scope inner g h
+        {x : Ident} {kind : Option Ident} {e : Exp} {rest : Decs} {scope inner : Scope} {g k h : Noted} (t u : Ty) → HasValues t → Checked e scope u g k →
+        Fits u t → CheckedDecs rest (binding x (variable_at (at_of x) t false) scope) inner k h → CheckedDecs (variable x kind e rest) scope inner g h
     group :
         {fs : FunDecs} {rest : Decs} {scope inner : Scope} {g k h : Noted} (ss : List Signature) → Apart fs →
         CheckedBodies fs ss (in_no_loop (with_functions fs ss scope)) g k → CheckedDecs rest (with_functions fs ss scope) inner k h →
@@ -115,5 +116,5 @@ mutual
     end_bodies : {scope : Scope} {g : Noted} → CheckedBodies no_functions [] scope g g
     a_body :
         {f : Ident} {ps : List Param} {r : Option Ident} {body : Exp} {rest : FunDecs} {s : Signature} {ss : List Signature} {scope : Scope} {g k h : Noted}
-        (u : Ty) → length ps ≡ length s.params → Checked body (with_params ps s.params scope) u g k → Fits u s.result → CheckedBodies rest ss scope k h →
-        CheckedBodies (function f ps r body rest) (s ∷ ss) scope g h
+        (u : Ty) → length ps ≡ length s.params → HaveValues s.params → Checked body (with_params ps s.params scope) u g k → Fits u s.result →
+        CheckedBodies rest ss scope k h → CheckedBodies (function f ps r body rest) (s ∷ ss) scope g h

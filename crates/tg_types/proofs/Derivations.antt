@@ -3,7 +3,6 @@ use Rattle.std.proofs.Common.{◌≡◌, ◌≢◌, ℕ, List, [], Option, Some,
 use Rattle.std.proofs.lemmas.List.Sorted.{Contains-permutation}
 use Rattle.tg_syntax.specs.Tree.{Exp}
 use Rattle.tg_syntax.specs.Beginnings.{BeginsApart}
-use Rattle.tg_syntax.specs.Plain.{plain}
 use Rattle.tg_types.specs.declared.faults.TypeRule.{TypeRule}
 use Rattle.tg_types.specs.declared.notes.Note.{Note}
 use Rattle.tg_types.specs.Types.{Ty}
@@ -15,6 +14,7 @@ use Rattle.tg_types.specs.Accepted.{Finding, accepted, at_fault, finding, findin
 use Rattle.tg_types.specs.Answered.{Accepts}
 use Rattle.tg_types.specs.Derivations.{Derivation}
 use Rattle.tg_types.specs.Laws.{CheckedHasType}
+use Rattle.tg_types.proofs.NamedValues.{standard_values}
 use Rattle.tg_types.proofs.TreeInversion.{checked}
 use Rattle.tg_types.proofs.AmongBeginnings.{nothing, among, pairs}
 use Rattle.tg_types.proofs.Derived.{AreIn, derived}
@@ -36,11 +36,11 @@ by_checks : (names : List (List ℕ)) (body : Exp) (notes : List Note) (c : Chec
     AcceptsAmong (finding_of body c) notes → BeginsApart body → Derivation names body notes
 by_checks names body notes (fault rule at) is e a = absurd e
 by_checks names body notes (fine t noted) is e a =
-    let c = checked body (outermost names) t begin noted is in
+    let c = checked body (outermost names) (standard_values 0 names) t begin noted is in
     let apart = apart_by_keys noted.shapes (pairs (λ a b. a ≢ b) (among bytes_of shape_marks c nothing) a) in
     let l = by_limits noted.notes notes (limit_fault body) e in
-    let d = derived noted.shapes notes apart c (record { more = []; are = refl; among = l.1 }) in
-    record { shapes = noted.shapes; apart = apart; type = t; has = d.0; limits = l.0 }
+    let d = derived noted.shapes notes apart c (record { more = []; are = refl; formed = λ v. v; among = l.1 }) in
+    record { shapes = noted.shapes; apart = apart; formed = d.1.formed tt; type = t; has = d.0; limits = l.0 }
 
 -- a tree, and notes in any order
 pub derivation : (names : List (List ℕ)) (body : Exp) (notes : List Note) → AcceptsAmong (finding names body) notes → BeginsApart body →
@@ -57,4 +57,4 @@ among_sorted (accepted notes) sorted a = λ n c. Contains-permutation notes sort
 among_sorted (at_fault rule at) sorted a = absurd a
 
 pub checked_has_type : CheckedHasType
-checked_has_type p a = derivation p.names (plain p.program.body) p.notes (among_sorted _ p.notes a.accepted) a.apart
+checked_has_type p a = derivation p.names p.body p.notes (among_sorted _ p.notes a.accepted) a.apart

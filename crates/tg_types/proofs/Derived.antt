@@ -14,7 +14,7 @@ use Rattle.tg_types.specs.Types.{Ty, int_type, Shape}
 use Rattle.tg_types.specs.Checks.{Noted}
 use Rattle.tg_types.specs.Scopes.{Signature, Scope}
 use Rattle.tg_types.specs.Has as Has
-use Rattle.tg_types.specs.Has.{AreApart, SaysOf, Says, records, arrays, nil_and, and_nil}
+use Rattle.tg_types.specs.Has.{AreApart, ShapeHasValues, ShapesHaveValues, SaysOf, Says, records, arrays, nil_and, and_nil}
 use Rattle.tg_types.proofs.Inversion.{noting, shaping, compared, Sides, both_ints, both_strings, both_same, Notes, one_note, no_note}
 use Rattle.tg_types.proofs.CheckedParts.{AddsForm, alias, fields, array, AddsForms, end_forms, a_form, Checked, nil, int, text, break, read, call}
 use Rattle.tg_types.proofs.CheckedParts.{neg, binary, make, fill, assign, if_else, when, while, for, block, seq, CheckedPlace, simple, field, index}
@@ -26,23 +26,35 @@ abbrev pub AreIn : List Note → List Note → Type 0
 AreIn few all = (n : Note) → Contains few n → Contains all n
 
 module _ (shapes : List (ℕ × Shape)) (notes : List Note) (apart : AreApart shapes) where
-  -- the shapes so far are the end of all, and the notes so far are among all
+  -- the shapes so far are the end of all, which have values if these have, and the notes so far are among all
   pub record Ends (g : Noted) : Type 0 where
     pub more : List (ℕ × Shape)
     pub are : shapes ≡ more ++ g.shapes
+    pub formed : ShapesHaveValues g.shapes → ShapesHaveValues shapes
     pub among : AreIn g.notes notes
 
   before : (at : ℕ) (m : Means) (g : Noted) → Ends (noting at m g) → Ends g
-  before at m g x = record { more = x.more; are = x.are; among = λ n c. x.among n (Contains-append_left g.notes (record { at = at; means = m } ∷ []) n c) }
+  before at m g x =
+      record {
+        more = x.more;
+        are = x.are;
+        formed = x.formed;
+        among = λ n c. x.among n (Contains-append_left g.notes (record { at = at; means = m } ∷ []) n c);
+      }
 
   said : (at : ℕ) (m : Means) (g : Noted) → Ends (noting at m g) → Says notes at m
   said at m g x =
       let n : Note = record { at = at; means = m } in
       x.among n (Contains-append_right g.notes (n ∷ []) n (0, omega arith, refl))
 
-  before_shape : (at : ℕ) (s : Shape) (g : Noted) → Ends (shaping at s g) → Ends g
-  before_shape at s g x =
-      record { more = x.more ++ (at, s) ∷ []; are = x.are ∙ sym (append_assoc x.more ((at, s) ∷ []) g.shapes); among = x.among }
+  before_shape : (at : ℕ) (s : Shape) (g : Noted) → ShapeHasValues s → Ends (shaping at s g) → Ends g
+  before_shape at s g v x =
+      record {
+        more = x.more ++ (at, s) ∷ [];
+        are = x.are ∙ sym (append_assoc x.more ((at, s) ∷ []) g.shapes);
+        formed = λ vs. x.formed (v, vs);
+        among = x.among;
+      }
 
   named_later : (more l : List (ℕ × Shape)) (at : ℕ) (s : Shape) → AreApart (more ++ l) → named at l ≡ Some s → named at (more ++ l) ≡ Some s
   named_later [] l at s a e = e
@@ -61,8 +73,8 @@ module _ (shapes : List (ℕ × Shape)) (notes : List Note) (apart : AreApart sh
 
   form_back : {at : ℕ} {form : Form} {g h : Noted} → AddsForm at form g h → Ends h → Ends g
   form_back alias x = x
-  form_back {at = at} {g = g} (fields s) x = before_shape at s g x
-  form_back {at = at} {g = g} (array s) x = before_shape at s g x
+  form_back {at = at} {g = g} (fields s v) x = before_shape at s g v x
+  form_back {at = at} {g = g} (array s v) x = before_shape at s g v x
 
   forms_back : {ds : List TypeDec} {g h : Noted} → AddsForms ds g h → Ends h → Ends g
   forms_back end_forms x = x
@@ -169,11 +181,11 @@ module _ (shapes : List (ℕ × Shape)) (notes : List Note) (apart : AreApart sh
     derived_decs : {ds : Decs} {scope inner : Scope} {g h : Noted} → CheckedDecs ds scope inner g h → Ends h →
         Has.HasDecs shapes notes ds scope inner × Ends g
     derived_decs end_decs x = (Has.end_decs, x)
-    derived_decs (type_names names forms rest) x = let k = derived_decs rest x in (Has.type_names names k.0, forms_back forms k.1)
-    derived_decs (variables t u e f rest) x =
+    derived_decs (type_names names v forms rest) x = let k = derived_decs rest x in (Has.type_names names k.0, forms_back forms k.1)
+    derived_decs (variables t u v e f rest) x =
         let k = derived_decs rest x in
         let l = derived e k.1 in
-        (Has.variables t u l.0 f k.0, l.1)
+        (Has.variables t u v l.0 f k.0, l.1)
     derived_decs (group ss distinct bodies rest) x =
         let k = derived_decs rest x in
         let l = derived_bodies bodies k.1 in
@@ -182,7 +194,7 @@ module _ (shapes : List (ℕ × Shape)) (notes : List Note) (apart : AreApart sh
     derived_bodies : {fs : FunDecs} {ss : List Signature} {scope : Scope} {g h : Noted} → CheckedBodies fs ss scope g h → Ends h →
         Has.HasBodies shapes notes fs ss scope × Ends g
     derived_bodies end_bodies x = (Has.end_bodies, x)
-    derived_bodies (a_body u n body f rest) x =
+    derived_bodies (a_body u n v body f rest) x =
         let k = derived_bodies rest x in
         let l = derived body k.1 in
-        (Has.a_body u n l.0 f k.0, l.1)
+        (Has.a_body u n v l.0 f k.0, l.1)

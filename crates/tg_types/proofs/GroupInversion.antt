@@ -7,14 +7,16 @@ use Rattle.tg_syntax.specs.declared.trees.Param.{Param}
 use Rattle.tg_syntax.specs.Tree.{Form, Alias, Fields, Array, TypeDec, Exp, LValue, Simple, Field, Index, FunDecs, no_functions, function}
 use Rattle.tg_meaning.specs.Environments.{function_named}
 use Rattle.tg_types.specs.declared.faults.TypeRule.{TypeRule}
-use Rattle.tg_types.specs.Types.{Ty, none_type}
+use Rattle.tg_types.specs.Types.{Ty, none_type, same}
 use Rattle.tg_types.specs.Checks.{Noted, fine}
 use Rattle.tg_types.specs.Scopes.{Signature, Scope, name_of, at_of}
 use Rattle.tg_types.specs.Groups.{stands_in, no_repeats, declare_types, known_fields, known_form, known_forms, names_of, chains_end, with_group}
 use Rattle.tg_types.specs.Groups.{type_at_end, chain_of, add_form, add_forms, function_names, param_types, result_type, headers}
 use Rattle.tg_types.specs.Typing.{body_fits, own_type, assignable}
-use Rattle.tg_types.specs.Has.{Fits, the_same, Apart}
+use Rattle.tg_types.specs.Has.{Fits, the_same, Apart, HasValues, HaveValues}
 use Rattle.tg_types.proofs.Inversion.{steps, kept, given, presented, shape_added, expected, expected_none}
+use Rattle.tg_types.proofs.NamedValues.{NameValues, IsFormKnown, AreFormsKnown, DoEnd, forms_known, chains_do_end, names_of_group, fields_values}
+use Rattle.tg_types.proofs.NamedValues.{element_values}
 use Rattle.tg_types.proofs.CheckedParts.{AddsForm, alias, fields, array, AddsForms, end_forms, a_form}
 
 -- names that don't repeat
@@ -103,18 +105,22 @@ group_scope group [] outer inner = refl
 group_scope group (d ∷ ds) outer inner =
     group_scope group ds outer (record inner { types = (name_of d.name, type_at_end (chain_of group d.name) outer) ∷ inner.types })
 
-params_count : (scope : Scope) (earlier : List Ident) (ps : List Param) (ts : List Ty) (g h : Noted) → param_types scope earlier ps g ≡ fine ts h →
-    (length ps ≡ length ts) × (g ≡ h)
-params_count scope earlier [] ts g h e =
+params_got : (scope : Scope) → NameValues scope.types → (earlier : List Ident) (ps : List Param) (ts : List Ty) (g h : Noted) →
+    param_types scope earlier ps g ≡ fine ts h → (length ps ≡ length ts) × (g ≡ h) × HaveValues ts
+params_got scope vs earlier [] ts g h e =
     let p = given _ _ _ _ e in
-    (ap (λ y. length y) p.0, p.1)
-params_count scope earlier (p ∷ ps) ts g h e =
+    (ap (λ y. length y) p.0, p.1, subst (λ y. HaveValues y) p.0 tt)
+params_got scope vs earlier (p ∷ ps) ts g h e =
     let a = steps e in
     let b = steps a.onward in
     let c = steps b.onward in
     let d = given _ _ _ _ c.onward in
-    let r = params_count scope (p.name ∷ earlier) ps c.value b.between c.between c.first in
-    (ap suc r.0 ∙ ap (λ y. length y) d.0, (kept _ _ _ _ _ _ a.first).1 ∙ (presented _ _ _ _ _ _ b.first).1 ∙ r.1 ∙ d.1)
+    let n = presented _ _ _ _ _ _ b.first in
+    let r = params_got scope vs (p.name ∷ earlier) ps c.value b.between c.between c.first in (
+      ap suc r.0 ∙ ap (λ y. length y) d.0,
+      (kept _ _ _ _ _ _ a.first).1 ∙ n.1 ∙ r.1 ∙ d.1,
+      subst (λ y. HaveValues y) d.0 (vs (name_of p.kind) b.value n.0, r.2),
+    )
 
 result_got : (scope : Scope) (r : Option Ident) (t : Ty) (g h : Noted) → result_type scope r g ≡ fine t h → (r ≡ None → t ≡ none_type) × (g ≡ h)
 result_got scope None t g h e = let p = given _ _ _ _ e in ((λ n. sym p.0), p.1)
@@ -124,21 +130,22 @@ result_got scope (Some x) t g h e = ((λ n. cc), (presented _ _ _ _ _ _ e).1)
 pub data Headed : FunDecs → List Signature → Type 0 where
   no_heads : Headed no_functions []
   a_head : {f : Ident} {ps : List Param} {r : Option Ident} {body : Exp} {rest : FunDecs} {s : Signature} {ss : List Signature} →
-      length ps ≡ length s.params → (r ≡ None → s.result ≡ none_type) → Headed rest ss → Headed (function f ps r body rest) (s ∷ ss)
+      length ps ≡ length s.params → HaveValues s.params → (r ≡ None → s.result ≡ none_type) → Headed rest ss → Headed (function f ps r body rest) (s ∷ ss)
 
-pub headed : (fs : FunDecs) (scope : Scope) (ss : List Signature) (g h : Noted) → headers fs scope g ≡ fine ss h → Headed fs ss × (g ≡ h)
-headed no_functions scope ss g h e =
+pub headed : (fs : FunDecs) (scope : Scope) → NameValues scope.types → (ss : List Signature) (g h : Noted) → headers fs scope g ≡ fine ss h →
+    Headed fs ss × (g ≡ h)
+headed no_functions scope vs ss g h e =
     let p = given _ _ _ _ e in
     (subst (λ y. Headed no_functions y) p.0 no_heads, p.1)
-headed (function f ps r body rest) scope ss g h e =
+headed (function f ps r body rest) scope vs ss g h e =
     let a = steps e in
     let b = steps a.onward in
     let c = steps b.onward in
     let d = given _ _ _ _ c.onward in
-    let n = params_count scope [] ps a.value g a.between a.first in
+    let n = params_got scope vs [] ps a.value g a.between a.first in
     let m = result_got scope r b.value a.between b.between b.first in
-    let k = headed rest scope c.value b.between c.between c.first in
-    (subst (λ y. Headed (function f ps r body rest) y) d.0 (a_head n.0 m.0 k.0), n.1 ∙ m.1 ∙ k.1 ∙ d.1)
+    let k = headed rest scope vs c.value b.between c.between c.first in
+    (subst (λ y. Headed (function f ps r body rest) y) d.0 (a_head n.0 n.2 m.0 k.0), n.1 ∙ m.1 ∙ k.1 ∙ d.1)
 
 pub body_got : (r : Option Ident) (result got : Ty) (at : ℕ) (x : Unit {0}) (g h : Noted) → (r ≡ None → result ≡ none_type) →
     body_fits r result got at g ≡ fine x h → Fits got result × (g ≡ h)
@@ -157,38 +164,53 @@ both true true e = (refl, refl)
 both true false e = cc
 both false d e = cc
 
-pub own_got : (t : Ty) (at : ℕ) (u : Ty) (g h : Noted) → own_type t at g ≡ fine u h → (t ≡ u) × (g ≡ h)
+not_none : (t : Ty) → not (same t none_type) ≡ true → HasValues t
+not_none t e n = let no : not (same none_type none_type) ≡ true = subst (λ w. not (same w none_type) ≡ true) n e in cc
+
+pub own_got : (t : Ty) (at : ℕ) (u : Ty) (g h : Noted) → own_type t at g ≡ fine u h → (t ≡ u) × (g ≡ h) × HasValues u
 own_got t at u g h e =
     let a = steps e in
     let b = steps a.onward in
     let c = given _ _ _ _ b.onward in
-    (c.0, (kept _ _ _ _ _ _ a.first).1 ∙ (kept _ _ _ _ _ _ b.first).1 ∙ c.1)
+    let k = kept _ _ _ _ _ _ a.first in
+    (c.0, k.1 ∙ (kept _ _ _ _ _ _ b.first).1 ∙ c.1, subst (λ w. HasValues w) c.0 (not_none t k.0))
 
--- the shapes of a group
-form_added : (scope : Scope) (at : ℕ) (form : Form) (x : Unit {0}) (g h : Noted) → add_form scope at form g ≡ fine x h → AddsForm at form g h
-form_added scope at (Alias y) x g h e = subst (λ k. AddsForm at (Alias y) g k) (given _ _ _ _ e).1 alias
-form_added scope at (Fields ps) x g h e = subst (λ k. AddsForm at (Fields ps) g k) (shape_added _ _ _ _ _ e) (fields _)
-form_added scope at (Array y) x g h e = subst (λ k. AddsForm at (Array y) g k) (shape_added _ _ _ _ _ e) (array _)
+-- the shapes of a group: with its names, where each is known and each chain has an end
+module _ (group : List TypeDec) (scope : Scope) (vs : NameValues scope.types) (known : AreFormsKnown group scope group) (ends : DoEnd group group) where
+  abbrev behind : Scope
+  behind = with_group group group scope scope
 
-forms_added : (scope : Scope) (ds : List TypeDec) (x : Unit {0}) (g h : Noted) → add_forms scope ds g ≡ fine x h → AddsForms ds g h
-forms_added scope [] x g h e = subst (λ k. AddsForms [] g k) (given _ _ _ _ e).1 end_forms
-forms_added scope (d ∷ ds) x g h e =
-    let a = steps e in
-    a_form (form_added scope (at_of d.name) d.form a.value g a.between a.first) (forms_added scope ds x a.between h a.onward)
+  form_added : (at : ℕ) (form : Form) → IsFormKnown group scope form → (x : Unit {0}) (g h : Noted) → add_form behind at form g ≡ fine x h →
+      AddsForm at form g h
+  form_added at (Alias y) k x g h e = subst (λ k. AddsForm at (Alias y) g k) (given _ _ _ _ e).1 alias
+  form_added at (Fields ps) k x g h e =
+      subst (λ k. AddsForm at (Fields ps) g k) (shape_added _ _ _ _ _ e) (fields _ (fields_values group scope vs known ends ps k))
+  form_added at (Array y) k x g h e =
+      subst (λ k. AddsForm at (Array y) g k) (shape_added _ _ _ _ _ e) (array _ (element_values group scope vs known ends y k))
 
-pub types_got : (ds : List TypeDec) (scope inner : Scope) (g h : Noted) → declare_types ds scope g ≡ fine inner h →
-    (names : List (ℕ × Ty)) × (inner ≡ record scope { types = names }) × AddsForms ds g h
-types_got ds scope inner g h e =
+  forms_added : (ds : List TypeDec) → AreFormsKnown group scope ds → (x : Unit {0}) (g h : Noted) → add_forms behind ds g ≡ fine x h → AddsForms ds g h
+  forms_added [] k x g h e = subst (λ k. AddsForms [] g k) (given _ _ _ _ e).1 end_forms
+  forms_added (d ∷ ds) k x g h e =
+      let a = steps e in
+      a_form (form_added (at_of d.name) d.form k.0 a.value g a.between a.first) (forms_added ds k.1 x a.between h a.onward)
+
+pub types_got : (ds : List TypeDec) (scope inner : Scope) → NameValues scope.types → (g h : Noted) → declare_types ds scope g ≡ fine inner h →
+    (names : List (ℕ × Ty)) × (inner ≡ record scope { types = names }) × AddsForms ds g h × NameValues names
+types_got ds scope inner vs g h e =
     let a = steps e in
     let b = steps a.onward in
     let c = steps b.onward in
     let d = steps c.onward in
     let f = given _ _ _ _ d.onward in
     let w = with_group ds ds scope scope in
+    let known = forms_known ds ds scope b.value a.between b.between b.first in
+    let ends = chains_do_end ds ds c.value b.between c.between c.first in
     let same : g ≡ c.between =
     no_repeats_keep _ [] (names_of ds) a.value g a.between a.first ∙ known_forms_keep ds ds scope b.value a.between b.between b.first
-    ∙ chains_keep ds ds c.value b.between c.between c.first in (
+    ∙ chains_keep ds ds c.value b.between c.between c.first in
+    let forms = forms_added ds scope vs known ends ds known d.value c.between d.between d.first in (
       w.types,
       sym f.0 ∙ group_scope ds ds scope scope,
-      subst (λ k. AddsForms ds g k) f.1 (subst (λ k. AddsForms ds k d.between) (sym same) (forms_added w ds d.value c.between d.between d.first)),
+      subst (λ k. AddsForms ds g k) f.1 (subst (λ k. AddsForms ds k d.between) (sym same) forms),
+      names_of_group ds scope vs known ends,
     )

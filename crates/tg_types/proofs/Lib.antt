@@ -28,3 +28,5 @@ pub mod CheckSteps
 pub mod Derivations
 pub mod NeverStuck
 pub mod NotesFound
+pub mod NamedValues
+pub mod HasExamples

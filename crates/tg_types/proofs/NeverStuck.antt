@@ -2,7 +2,6 @@
 use Rattle.std.proofs.Common.{◌≡◌, ◌≢◌, ℕ, List, refl}
 use Rattle.tg_syntax.specs.Tree.{Exp}
 use Rattle.tg_syntax.specs.Beginnings.{BeginsApart}
-use Rattle.tg_syntax.specs.Plain.{plain}
 use Rattle.tg_runs.specs.Outcomes.{stuck}
 use Rattle.tg_meaning.specs.Direct.{evaluate}
 use Rattle.tg_meaning.specs.Environments.{outermost as entries_of}
@@ -25,4 +24,4 @@ pub accepted_never_stuck : (names : List (List ℕ)) (body : Exp) (notes : List 
 accepted_never_stuck names body notes e a = typed_never_stuck names body notes (derivation names body notes (among_themselves _ notes e) a)
 
 pub never_stuck : IsNeverStuck
-never_stuck p a = typed_never_stuck p.names (plain p.program.body) p.notes (checked_has_type p a)
+never_stuck p a = typed_never_stuck p.names p.body p.notes (checked_has_type p a)

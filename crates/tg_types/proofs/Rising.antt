@@ -14,6 +14,7 @@ use Rattle.tg_types.specs.Checks.{Noted, fine}
 use Rattle.tg_types.specs.Scopes.{Scope}
 use Rattle.tg_types.specs.Typing.{typed}
 use Rattle.tg_types.specs.Answered.{AreRising}
+use Rattle.tg_types.proofs.NamedValues.{NameValues}
 use Rattle.tg_types.proofs.TreeInversion.{checked}
 use Rattle.tg_types.proofs.AmongBeginnings.{nothing, among, pairs}
 use Rattle.tg_types.proofs.NoteBytes.{marks, note_marks}
@@ -25,10 +26,10 @@ flips : (x y : ℕ) → eqb x y ≡ eqb y x
 flips x y = grind arith
 
 -- the notes of a text stand at bytes of their own
-apart : (body : Exp) (scope : Scope) (t : Ty) (h : Noted) → BeginsApart body → typed body scope (record { shapes = []; notes = [] }) ≡ fine t h →
-    IsDistinct eqb (marks h)
-apart body scope t h b e =
-    let s = among marks note_marks (checked body scope t (record { shapes = []; notes = [] }) h e) nothing in
+apart : (body : Exp) (scope : Scope) → NameValues scope.types → (t : Ty) (h : Noted) → BeginsApart body →
+    typed body scope (record { shapes = []; notes = [] }) ≡ fine t h → IsDistinct eqb (marks h)
+apart body scope vs t h b e =
+    let s = among marks note_marks (checked body scope vs t (record { shapes = []; notes = [] }) h e) nothing in
     let p : AllPairs (λ x y. x ≢ y) (marks h) = pairs (λ x y. x ≢ y) s b in
     IsDistinct-from_apart eqb (marks h) (λ i j d l m. ne_eqb _ _ (p i j d l m))
 
@@ -52,7 +53,7 @@ strictly sorted n d i j x l m =
     strict : (a b : ℕ) → eqb a b ≡ false → a ≤ b → a < b
     strict a b e l = grind arith
 
-pub rises : (body : Exp) (scope : Scope) (t : Ty) (h : Noted) (sorted : List Note) → BeginsApart body →
+pub rises : (body : Exp) (scope : Scope) → NameValues scope.types → (t : Ty) (h : Noted) (sorted : List Note) → BeginsApart body →
     typed body scope (record { shapes = []; notes = [] }) ≡ fine t h → IsPermutation h.notes sorted → IsNonDecreasingBy (λ (n : Note). n.at) sorted →
     AreRising sorted
-rises body scope t h sorted b e p n = strictly sorted n (sorted_apart h.notes sorted p (apart body scope t h b e))
+rises body scope vs t h sorted b e p n = strictly sorted n (sorted_apart h.notes sorted p (apart body scope vs t h b e))

@@ -51,7 +51,7 @@ module _ (shapes : List (ℕ × Shape)) (notes : List Note) where
   in_loop_same : (ds : Decs) (scope inner : Scope) → Has.HasDecs shapes notes ds scope inner → inner.in_loop ≡ scope.in_loop
   in_loop_same _ scope _ Has.end_decs = refl
   in_loop_same _ scope inner (Has.type_names {rest = rest} names hs) = in_loop_same rest (record scope { types = names }) inner hs
-  in_loop_same _ scope inner (Has.variables {x = x} {rest = rest} t u h fit hs) = in_loop_same rest (binding x (variable_at (at_of x) t false) scope) inner hs
+  in_loop_same _ scope inner (Has.variables {x = x} {rest = rest} t u _ h fit hs) = in_loop_same rest (binding x (variable_at (at_of x) t false) scope) inner hs
   in_loop_same _ scope inner (Has.group {fs = fs} {rest = rest} ss apart hb hs) =
       in_loop_same rest (with_functions fs ss scope) inner hs ∙ loop_of_functions fs ss scope
 
@@ -498,7 +498,7 @@ module _ (shapes : List (ℕ × Shape)) (notes : List Note) where
           declare_kept _ env scope _ s Has.end_decs v = give v
           declare_kept _ env scope inner s (Has.type_names {rest = rest} names hs) v =
               paid λ w g. declare_kept rest env (record scope { types = names }) inner w hs (Worlds.sees_on shapes notes s w env.entries scope.bindings g v)
-          declare_kept _ env scope inner s (Has.variables {x = x} {e = e} {rest = rest} t u h fit hs) v =
+          declare_kept _ env scope inner s (Has.variables {x = x} {e = e} {rest = rest} t u _ h fit hs) v =
               paid λ w g. let v' = Worlds.sees_on shapes notes s w env.entries scope.bindings g v in
               onward (eval_kept e env scope u w h v') λ y k a p. onward (L.news y scope.in_loop a t (Worlds.fitting y.objs a u t fit p)) λ z i place q.
               declare_kept rest (with_variable (name_of x) place env) (binding x (variable_at (at_of x) t false) scope) inner z hs

@@ -5,13 +5,14 @@ use Rattle.tg_types.specs.declared.notes.Note.{Note}
 use Rattle.tg_types.specs.Types.{Ty, Shape}
 use Rattle.tg_types.specs.Scopes.{outermost}
 use Rattle.tg_types.specs.Limits.{limit_fault}
-use Rattle.tg_types.specs.Has.{AreApart, Has}
+use Rattle.tg_types.specs.Has.{AreApart, ShapesHaveValues, Has}
 
--- the body has a type in the outermost scope, where these are all shapes of the program and its
--- notes, and no limit is exceeded
+-- the body has a type in the outermost scope, where these are all shapes of the program, whose
+-- fields and elements have values, and its notes, and no limit is exceeded
 pub record Derivation (names : List (List ℕ)) (body : Exp) (notes : List Note) : Type 0 where
   pub shapes : List (ℕ × Shape)
   pub apart : AreApart shapes
+  pub formed : ShapesHaveValues shapes
   pub type : Ty
   pub has : Has shapes notes body (outermost names) type
   pub limits : limit_fault body ≡ None

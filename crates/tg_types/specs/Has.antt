@@ -1,6 +1,7 @@
 -- The types of parts as a relation, with all shapes of the program known and the notes that it
 -- carries: what the checks, one after another, come to (Appel, chapter 5 and appendix A).
-use Rattle.std.specs.Prelude.{◌≡◌, ℕ, List, [], ◌∷◌, length, Option, Some, None, Bool, true, false}
+use Rattle.std.specs.Prelude.{◌≡◌, ◌≢◌, ℕ, List, [], ◌∷◌, length, Option, Some, None, Bool, true}
+use Rattle.std.specs.Prelude.{false}
 use Rattle.std.specs.List.{Contains}
 use Rattle.tg_base.specs.declared.ids.Span.{Span}
 use Rattle.tg_syntax.specs.declared.tokens.Ident.{Ident}
@@ -80,6 +81,26 @@ Apart (function f _ _ _ rest) = (function_named (name_of f) rest ≡ None) × Ap
 abbrev pub AreApart : List (ℕ × Shape) → Type 0
 AreApart [] = Unit {0}
 AreApart (one ∷ rest) = (named one.0 rest ≡ None) × AreApart rest
+
+-- there are values of the type: so it is of each variable, parameter, field and element
+abbrev pub HasValues : Ty → Type 0
+HasValues t = t ≢ none_type
+
+abbrev pub HaveValues : List Ty → Type 0
+HaveValues [] = Unit {0}
+HaveValues (t ∷ ts) = HasValues t × HaveValues ts
+
+abbrev pub FieldsHaveValues : List (ℕ × Ty) → Type 0
+FieldsHaveValues [] = Unit {0}
+FieldsHaveValues (field ∷ fs) = HasValues field.1 × FieldsHaveValues fs
+
+abbrev pub ShapeHasValues : Shape → Type 0
+ShapeHasValues (record_shape fs) = FieldsHaveValues fs
+ShapeHasValues (array_shape t) = HasValues t
+
+abbrev pub ShapesHaveValues : List (ℕ × Shape) → Type 0
+ShapesHaveValues [] = Unit {0}
+ShapesHaveValues (one ∷ rest) = ShapeHasValues one.1 × ShapesHaveValues rest
 
 module _ (shapes : List (ℕ × Shape)) (notes : List Note) where
   mutual
@@ -238,6 +259,7 @@ module _ (shapes : List (ℕ × Shape)) (notes : List Note) where
       variables :
           {x : Ident} {kind : Option Ident} {e : Exp} {rest : Decs} {scope inner : Scope}
           (t u : Ty) →
+          HasValues t →
           Has e scope u →
           Fits u t →
           HasDecs rest (binding x (variable_at (at_of x) t false) scope) inner →
@@ -256,6 +278,7 @@ module _ (shapes : List (ℕ × Shape)) (notes : List Note) where
           {f : Ident} {ps : List Param} {r : Option Ident} {body : Exp} {rest : FunDecs}
           {s : Signature} {ss : List Signature} {scope : Scope} (u : Ty) →
           length ps ≡ length s.params →
+          HaveValues s.params →
           Has body (with_params ps s.params scope) u →
           Fits u s.result →
           HasBodies rest ss scope →

@@ -1,7 +1,6 @@
 -- Laws of typing and evaluation.
 use Rattle.std.specs.Prelude.{◌≡◌, ◌≢◌, ◌↔◌, ℕ, List, Some, Bool, IsTrue}
 use Rattle.tg_syntax.specs.Tree.{Exp}
-use Rattle.tg_syntax.specs.Plain.{plain}
 use Rattle.tg_runs.specs.Outcomes.{stuck}
 use Rattle.tg_meaning.specs.Direct.{evaluate}
 use Rattle.tg_types.specs.declared.faults.TypeRule.{TypeRule}
@@ -16,7 +15,7 @@ use Rattle.tg_types.specs.BeginWithin.{BeginsWithin}
 -- a checked program has a type by the relation of typed parts, with the notes that it carries
 abbrev pub CheckedHasType : Type 0
 CheckedHasType =
-    (p : CheckedProgram) → IsAccepted p → Derivation p.names (plain p.program.body) p.notes
+    (p : CheckedProgram) → IsAccepted p → Derivation p.names p.body p.notes
 
 -- what is noted at a byte of a checked program is what a search of its notes finds there
 abbrev pub NotesAreFound : Type 0
@@ -29,7 +28,7 @@ NotesAreFound =
 abbrev pub IsNeverStuck : Type 0
 IsNeverStuck =
     (p : CheckedProgram) → IsAccepted p → (input : List ℕ) (heap stack fuel : ℕ) →
-    (evaluate p.names (plain p.program.body) input heap stack fuel).end ≢ stuck
+    (evaluate p.names p.body input heap stack fuel).end ≢ stuck
 
 -- a fault of types stands where a part of the program begins: at one of any bytes at which all its
 -- parts begin

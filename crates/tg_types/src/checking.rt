@@ -91,16 +91,17 @@ pub struct Checked<'a> {
 }
 
 impl<'a> Model for Checked<'a> {
-    ghost use Rattle.tg_types.specs.Programs.{CheckedProgram, checked_code, IsAccepted};
+    ghost use Rattle.tg_types.specs.Programs.{CheckedTree, checked_code, plain_checked};
+    ghost use Rattle.tg_types.specs.Programs.{IsAccepted};
 
-    ghost Value = { CheckedProgram };
+    ghost Value = { CheckedTree };
 
     ghost coded = { checked_code };
 
     ghost view = { λ c. record { program = c.program.now; names = c.names.now; notes = c.notes } };
 
-    ghost invariant = { λ c. IsAccepted
-        (record { program = c.program.now; names = c.names.now; notes = c.notes }) };
+    ghost invariant = { λ c. IsAccepted (plain_checked
+        (record { program = c.program.now; names = c.names.now; notes = c.notes })) };
 }
 
 /// Types a program, whose identifiers are numbered by a list of names.

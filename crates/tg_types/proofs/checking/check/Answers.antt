@@ -6,6 +6,7 @@ use Rattle.tg_types.specs.Checks.{fine}
 use Rattle.tg_types.specs.Scopes.{outermost}
 use Rattle.tg_types.specs.States.{Fails, noted_of}
 use Rattle.tg_types.proofs.Rising.{rises}
+use Rattle.tg_types.proofs.NamedValues.{standard_values}
 use Rattle.tg_types.proofs.CheckSteps.{at_first, passed, accepts}
 use Rattle.tg_types.proofs.checking.check.Goals as goal
 
@@ -24,7 +25,8 @@ from_vec-requires c =
     let n = c.new-state.ensures in
     let noted = noted_of c.typed.new.state in
     let is = at_first names body c.new-state.result (λ x. x ≡ fine c.in_ok-typed.field-0 noted) n.bindings n.types n.noted c.in_ok-typed.ensures.given in
-    rises body (outermost names) c.in_ok-typed.field-0 noted c.sort_by_key.new.self.items c.requires.apart is c.in_ok-sort_by_key.ensures.permutation
+    rises body (outermost names) (standard_values 0 names) c.in_ok-typed.field-0 noted c.sort_by_key.new.self.items c.requires.apart is
+    c.in_ok-sort_by_key.ensures.permutation
     (IsNonDecreasingBy-from_sort_by_key (λ (n : Note). n.at) _ c.in_ok-sort_by_key.ensures.sorted (λ a r q k. search rules))
 
 pub invariant_of-result : goal.invariant_of-result
