@@ -597,7 +597,7 @@ module _ (z : Scene) (pay : JoinsPay) (again : (out : ℕ → ℕ) (s : Ts) (k :
     lift_at (Load x) out k h le = load_lift z out x k (word (lift out x) k).it (word (lift out x) k).next (word_at out x k le (lift_at x out k h le))
     lift_at (LoadByte x) out k h le = load_byte_lift z out x k (word (lift out x) k).it (word (lift out x) k).next (word_at out x k le (lift_at x out k h le))
     lift_at (Call label xs) out k h le = call_at out label xs k (lift_all_at xs out k h.1 le)
-    lift_at (Service n x) out k h le = service_lift z out n x k (word (lift out x) k).it (word (lift out x) k).next (word_at out x k le (lift_at x out k h le))
+    lift_at (Service n x) out k h le = service_lift z out n x k (word (lift out x) k).it (word (lift out x) k).next (word_at out x k le (lift_at x out k h.1 le))
     lift_at (After s x) out k h le = after_at out s x k le (lift_at x out k h.1 le) (λ j lj. linear_at s out j h.0 lj)
 
     lift_all_at : (xs : Txs) (out : ℕ → ℕ) (k : ℕ) → TxsPass (below z.own) xs → z.own ≤ k → ArgumentsAt out xs k

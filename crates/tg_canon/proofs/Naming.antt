@@ -4,7 +4,7 @@ use Rattle.std.proofs.lemmas.Bool.{ltb-true, lt-ltb}
 use Rattle.tg_tree.specs.declared.operators.Bin.{Bin}
 use Rattle.tg_tree.specs.Tree.{Tx, Const, Address, Temp, FrameAddress, Binary, Load, LoadByte, Call, Service, After, Txs, no_txs, tx, Cond, Compare}
 use Rattle.tg_tree.specs.Tree.{Not, Both, Either, Ts, Move, Store, StoreByte, Do, If, Loop, Break, Fault, Seq, Return, Stms, no_stms, stm}
-use Rattle.tg_tree.specs.Named.{Named, function, literal, fault, temporary, named_ts, named_stms}
+use Rattle.tg_tree.specs.Named.{Named, function, literal, fault, temporary, constant, named_ts, named_stms}
 use Rattle.tg_canon.specs.Drawing.{Draws, give, ◌>>=◌}
 use Rattle.tg_canon.specs.Canon.{Part, still, nothing, is_nothing, first_then, ◌before◌, loop_of, block, Parts, in_front, in_turn, Lifted, Two}
 use Rattle.tg_canon.specs.Canon.{Arguments, behind, hold, is_side, hold_side, word, stays, hold_unless, hold_but_offset, hold_for, hold_before}
@@ -181,7 +181,7 @@ module _ (allowed : Named → Bool) (from top : ℕ) (drawn : AllowsDrawn allowe
 
   mutual
     lift_passes : (out : ℕ → ℕ) (x : Tx) → TxPasses allowed x → Keeps LiftedPasses (lift out x)
-    lift_passes out (Const i) h = given (record { front = tt; rest = tt })
+    lift_passes out (Const i) h = given (record { front = tt; rest = h })
     lift_passes out (Address i) h = given (record { front = tt; rest = h })
     lift_passes out (Temp i) h = given (record { front = tt; rest = h })
     lift_passes out FrameAddress h = given (record { front = tt; rest = tt })
@@ -192,8 +192,8 @@ module _ (allowed : Named → Bool) (from top : ℕ) (drawn : AllowsDrawn allowe
         (λ a w. record { front = w.front; rest = w.rest })
     lift_passes out (Call f xs) h = made (lift_all out xs) (over_all (Call f)) (lift_all_pass out xs h.1)
         (λ a w. record { front = w.front; rest = (h.0, w.rest) })
-    lift_passes out (Service i x) h = one_passes (lift out x) (over (Service i)) (lift_grows out x) (lift_passes out x h)
-        (λ a w. record { front = w.front; rest = w.rest })
+    lift_passes out (Service i x) h = one_passes (lift out x) (over (Service i)) (lift_grows out x) (lift_passes out x h.1)
+        (λ a w. record { front = w.front; rest = (h.0, w.rest) })
     lift_passes out (After s x) h = in_turn_pass (lift out x) (linear out s) (λ a p. behind p a) (lift_grows out x)
         (linear_grows out s) (lift_passes out x h.1) (linear_passes out s h.0) (λ a p w l. behind_passes p a l.part w)
 
@@ -301,12 +301,14 @@ below n (temporary i) = ltb i n
 below n (function label) = true
 below n (literal label) = true
 below n (fault i) = true
+below n (constant i) = true
 
 pub below_more : (m n : ℕ) (names : List Named) → m ≤ n → AreTempsBelow m names → AreAllowed (below n) names
 below_more m n names le h (temporary j) d = let lt : j < m = h j d in lt-ltb j n (omega arith)
 below_more m n names le h (function label) d = refl
 below_more m n names le h (literal label) d = refl
 below_more m n names le h (fault j) d = refl
+below_more m n names le h (constant j) d = refl
 
 pub temporaries_below : (body : Ts) (temps : ℕ) → AreTempsBelow temps (named_ts body []) →
     AreTempsBelow (linearized body temps).next (named_stms (linearized body temps).it [])

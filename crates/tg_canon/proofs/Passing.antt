@@ -4,7 +4,7 @@ use Rattle.std.specs.Prelude.{IsTrue}
 use Rattle.std.specs.List.{Contains}
 use Rattle.tg_tree.specs.Tree.{Tx, Const, Address, Temp, FrameAddress, Binary, Load, LoadByte, Call, Service, After, Txs, no_txs, tx, Cond, Compare}
 use Rattle.tg_tree.specs.Tree.{Not, Both, Either, Ts, Move, Store, StoreByte, Do, If, Loop, Break, Fault, Seq, Return, Stms, no_stms, stm}
-use Rattle.tg_tree.specs.Named.{Named, function, literal, fault, temporary, named_tx, named_txs, named_cond, named_ts, named_stms}
+use Rattle.tg_tree.specs.Named.{Named, function, literal, fault, temporary, constant, named_tx, named_txs, named_cond, named_ts, named_stms}
 use Rattle.tg_canon.specs.Laws.{AreAllowed}
 
 module _ (allowed : Named → Bool) where
@@ -13,7 +13,7 @@ module _ (allowed : Named → Bool) where
 
   abbrev mutual
     pub TxPasses : Tx → Type 0
-    TxPasses (Const _) = Unit {0}
+    TxPasses (Const n) = Passes (constant n)
     TxPasses (Address label) = Passes (literal label)
     TxPasses (Temp i) = Passes (temporary i)
     TxPasses FrameAddress = Unit {0}
@@ -21,7 +21,7 @@ module _ (allowed : Named → Bool) where
     TxPasses (Load x) = TxPasses x
     TxPasses (LoadByte x) = TxPasses x
     TxPasses (Call label xs) = Passes (function label) × TxsPass xs
-    TxPasses (Service _ x) = TxPasses x
+    TxPasses (Service n x) = Passes (constant n) × TxPasses x
     TxPasses (After s x) = TsPasses s × TxPasses x
 
     pub TxsPass : Txs → Type 0
@@ -56,7 +56,7 @@ module _ (allowed : Named → Bool) where
 
   mutual
     tx_passes : (x : Tx) (after : List Named) → AllPass (named_tx x after) → TxPasses x × AllPass after
-    tx_passes (Const n) after h = (tt, h)
+    tx_passes (Const n) after h = h
     tx_passes (Address label) after h = h
     tx_passes (Temp i) after h = h
     tx_passes FrameAddress after h = (tt, h)
@@ -65,7 +65,7 @@ module _ (allowed : Named → Bool) where
     tx_passes (Load x) after h = tx_passes x after h
     tx_passes (LoadByte x) after h = tx_passes x after h
     tx_passes (Call label xs) after h = let a = txs_pass xs after h.1 in ((h.0, a.0), a.1)
-    tx_passes (Service n x) after h = tx_passes x after h
+    tx_passes (Service n x) after h = let a = tx_passes x after h.1 in ((h.0, a.0), a.1)
     tx_passes (After s x) after h =
         let a = ts_passes s (named_tx x after) h in let b = tx_passes x after a.1 in ((a.0, b.0), b.1)
 
@@ -108,7 +108,7 @@ module _ (allowed : Named → Bool) where
 
   mutual
     tx_names : (x : Tx) (after : List Named) → TxPasses x → AllPass after → AllPass (named_tx x after)
-    tx_names (Const n) after h k = k
+    tx_names (Const n) after h k = (h, k)
     tx_names (Address label) after h k = (h, k)
     tx_names (Temp i) after h k = (h, k)
     tx_names FrameAddress after h k = k
@@ -116,7 +116,7 @@ module _ (allowed : Named → Bool) where
     tx_names (Load x) after h k = tx_names x after h k
     tx_names (LoadByte x) after h k = tx_names x after h k
     tx_names (Call label xs) after h k = (h.0, txs_names xs after h.1 k)
-    tx_names (Service n x) after h k = tx_names x after h k
+    tx_names (Service n x) after h k = (h.0, tx_names x after h.1 k)
     tx_names (After s x) after h k = ts_names s (named_tx x after) h.0 (tx_names x after h.1 k)
 
     txs_names : (xs : Txs) (after : List Named) → TxsPass xs → AllPass after → AllPass (named_txs xs after)

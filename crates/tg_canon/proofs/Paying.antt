@@ -3,6 +3,7 @@ use Rattle.std.proofs.Common.{◌≡◌, ℕ, ◌+◌, ◌≤◌, sym, subst, ar
 use Rattle.tg_runs.specs.Runs.{Run}
 use Rattle.tg_runs.specs.Ran.{Ran}
 use Rattle.tg_runs.specs.Simulating.{Simulates}
+use Rattle.tg_runs.proofs.Simulations.{simulates_trading, simulates_unpaid, simulates_reworking, simulates_untraded, simulates_with_credit}
 use Rattle.tg_tree.specs.Actions.{charged}
 use Rattle.tg_tree.proofs.FlatValues.{works_none, works_add}
 
@@ -13,10 +14,7 @@ Sim r n c d = Simulates 1 r n c d
 module _ (n : ℕ) where
   -- both work
   pub trade : (r s k l : ℕ) (c d : Run Ran) → s + l ≤ r + k → Sim s n c d → Sim r n (charged k c) (charged l d)
-  trade r s k l c d le h i li ne =
-      let x = h i li ne in
-      let w = x.2.work in
-      (x.0, x.1, record { output = x.2.output; input = x.2.input; stop = x.2.stop; work = omega arith })
+  trade r s k l c d le h = simulates_trading 1 r s n k l c d (omega (arith, le)) h
 
   -- the first, or the second
   pub pays : (r s k : ℕ) (c d : Run Ran) → s ≤ r + k → Sim s n c d → Sim r n (charged k c) d
@@ -33,28 +31,16 @@ module _ (n : ℕ) where
 
   -- what is paid is credit, and so is what isn't worked
   pub unpaid : (r s k : ℕ) (c d : Run Ran) → r + k ≤ s → Sim r n (charged k c) d → Sim s n c d
-  unpaid r s k c d le h i li ne =
-      let x = h i li ne in
-      let w = x.2.work in
-      (x.0, x.1, record { output = x.2.output; input = x.2.input; stop = x.2.stop; work = omega arith })
+  unpaid r s k c d le h = simulates_unpaid 1 r s n k c d (omega (arith, le)) h
 
   pub reworked : (r s k l : ℕ) (c d : Run Ran) → s + l ≤ r + k → Sim s n c (charged k d) → Sim r n c (charged l d)
-  reworked r s k l c d le h i li ne =
-      let x = h i li ne in
-      let w = x.2.work in
-      (x.0, x.1, record { output = x.2.output; input = x.2.input; stop = x.2.stop; work = omega arith })
+  reworked r s k l c d le h = simulates_reworking 1 r s n k l c d le h
 
   pub untraded : (r s k l : ℕ) (c d : Run Ran) → r + k ≤ s + l → Sim r n (charged k c) (charged l d) → Sim s n c d
-  untraded r s k l c d le h i li ne =
-      let x = h i li ne in
-      let w = x.2.work in
-      (x.0, x.1, record { output = x.2.output; input = x.2.input; stop = x.2.stop; work = omega arith })
+  untraded r s k l c d le h = simulates_untraded 1 r s n k l c d (omega (arith, le)) h
 
   pub credit : (r s : ℕ) (c d : Run Ran) → r ≤ s → Sim r n c d → Sim s n c d
-  credit r s c d le h i li ne =
-      let x = h i li ne in
-      let w = x.2.work in
-      (x.0, x.1, record { output = x.2.output; input = x.2.input; stop = x.2.stop; work = omega arith })
+  credit r s c d le h = simulates_with_credit 1 r s n c d le h
 
   -- equal runs
   pub along : (r : ℕ) (c c' d d' : Run Ran) → c' ≡ c → d' ≡ d → Sim r n c d → Sim r n c' d'

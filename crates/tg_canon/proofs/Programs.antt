@@ -17,7 +17,6 @@ use Rattle.tg_tree.specs.Running.{with_fuel, outermost, body_point, enter, step,
 use Rattle.tg_tree.specs.Carrying.{CallsSimulate, EntriesPay, BodyCarried, AllCarried, none, one}
 use Rattle.tg_tree.specs.Named.{named_ts}
 use Rattle.tg_tree.proofs.TreeRuns.{trees_step}
-use Rattle.tg_tree.proofs.CallsLess.{enters_less}
 use Rattle.tg_tree.proofs.Linking.{calls_carried, programs_carried}
 use Rattle.tg_canon.specs.Canon.{statements_of, inside, linear, linearized}
 use Rattle.tg_canon.specs.Laws.{AreTempsBelow}
@@ -57,11 +56,13 @@ module _ (functions functions' : List (Function Ts)) (literals : List Literal) (
   goes' = going Canonical code' size floor room
 
   abbrev Calls : ℕ → Type 0
-  Calls n = CallsSimulate 1 added_work size floor marked_entry_units marked_entry_units (runner Trees functions literals size floor room)
-      (runner Canonical functions' literals size floor room) functions functions' n
+  Calls n =
+      (m : ℕ) → m ≤ n →
+      CallsSimulate 1 added_work size floor marked_entry_units marked_entry_units (runner Trees functions literals size floor room)
+      (runner Canonical functions' literals size floor room) functions functions' m
 
   calls_less : (m n : ℕ) → m ≤ n → Calls n → Calls m
-  calls_less m n le h = enters_less Trees code size floor room 1 0 m n (enter Canonical code' size floor room goes') le h
+  calls_less m n le h k lk = h k (omega (arith, le, lk))
 
   abbrev scene : (own n : ℕ) → Calls n → Scene
   scene own n calls = record {
@@ -73,7 +74,7 @@ module _ (functions functions' : List (Function Ts)) (literals : List Literal) (
     later = λ q. with_fuel q.world (goes q);
     later' = λ q. with_fuel q.world (goes' q);
     own = own;
-    calls = calls;
+    calls = calls n (omega arith);
   }
 
   module _ (pay : JoinsPay) (own : ℕ) where

@@ -27,8 +27,8 @@ abbrev pub AllowsDrawn : (allowed : Named → Bool) → (before after : ℕ) →
 AllowsDrawn allowed before after =
     (i : ℕ) → before ≤ i → i < after → IsTrue (allowed (temporary i))
 
--- The statements name no function, literal, fault or temporary that the body doesn't name, but for
--- the temporaries that are drawn: whatever test all these pass, their names pass.
+-- The statements name no function, literal, fault, constant or temporary that the body doesn't name,
+-- but for the temporaries that are drawn: whatever test all these pass, their names pass.
 abbrev pub NamesStay : Type 0
 NamesStay =
     (allowed : Named → Bool) (body : Ts) (temps : ℕ) →

@@ -1,25 +1,20 @@
 -- The passes one behind the other, over whole programs, and their sizes.
-use Rattle.std.proofs.Common.{◌≡◌, ◌≤◌, ◌<◌, ℕ, zero, suc, ◌+◌, ◌*◌, List, [], ◌∷◌, length, map, refl, arith}
+use Rattle.std.proofs.Common.{List, [], ◌∷◌, map, refl, arith}
 use Rattle.std.specs.List.{Contains, AllByRecursion}
 use Rattle.std.proofs.lemmas.List.Elements.{Contains-append_right}
-use Rattle.tg_runs.specs.Preserving.{Preserves}
 use Rattle.tg_runs.proofs.Agreeing.{passes_compose}
-use Rattle.tg_tree.specs.Tree.{Ts, Stms, Linear, Function, Code}
-use Rattle.tg_tree.specs.Units.{Trees}
-use Rattle.tg_tree.specs.Running.{tree_run, canonical_run}
-use Rattle.tg_tree.specs.Flat.{flat_run}
+use Rattle.tg_tree.specs.Tree.{Function}
 use Rattle.tg_canon.specs.Canon.{linearized}
 use Rattle.tg_canon.specs.Laws.{GivesCanonical, GivesClosed}
 use Rattle.tg_canon.specs.Meaning as canon
-use Rattle.tg_canon.specs.Meaning.{canonical, canonical_code, HasOwnTemps}
+use Rattle.tg_canon.specs.Meaning.{canonical, canonical_code}
 use Rattle.tg_trace.specs.Block.{Block}
 use Rattle.tg_trace.specs.Laws as trace
 use Rattle.tg_trace.specs.Laws.{BlocksAreWhole}
 use Rattle.tg_trace.specs.Heads.{BlocksAreEntered}
-use Rattle.tg_trace.specs.Meaning.{block_run}
 use Rattle.tg_trace.specs.Carried.{in_blocks, code_in_blocks, IsCanonicalFunction, BlocksKeepPrograms}
-use Rattle.tg_trace.specs.Traced.{MayBeLaid, laid_all, TracesKeepPrograms}
-use Rattle.tg_carried.specs.Flattened.{MayBeFlattened, flattened_code}
+use Rattle.tg_trace.specs.Traced.{MayBeLaid, TracesKeepPrograms}
+use Rattle.tg_carried.specs.Flattened.{MayBeFlattened}
 use Rattle.tg_carried.specs.Laws.{TreesArePreserved, LengthStays, RoomStays}
 
 -- what holds of each function, and of what it becomes

@@ -1,2 +1,3 @@
 mod Examples
 pub mod Functions
+pub mod Constants

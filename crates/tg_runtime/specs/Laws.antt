@@ -1,5 +1,5 @@
 -- The laws of the runtime's functions: what passes ask of them, and how large they are.
-use Rattle.std.specs.Prelude.{◌≡◌, ◌≤◌, ℕ, List, [], ◌∷◌, Bool, false, nat_lt, IsTrue}
+use Rattle.std.specs.Prelude.{◌≡◌, ◌≤◌, ◌^◌, ℕ, List, [], ◌∷◌, Bool, false, nat_lt, IsTrue}
 use Rattle.std.specs.List.{list_all}
 use Rattle.tg_tree.specs.Tree.{Ts, Function}
 use Rattle.tg_tree.specs.Shapes.{IsClosed}
@@ -9,8 +9,10 @@ use Rattle.tg_tree.specs.Named.{
   literal,
   fault,
   temporary,
+  constant,
   named_ts,
   function_labels,
+  HasWords,
 }
 use Rattle.tg_tree.specs.Sizes.{tree_length, tree_room}
 use Rattle.tg_runtime.specs.Routines.{runtime}
@@ -22,12 +24,13 @@ LabelsInOrder =
     0 ∷ 1 ∷ 2 ∷ 3 ∷ 4 ∷ 5 ∷ 6 ∷ 7 ∷ 8 ∷ 9 ∷ 10 ∷ 11 ∷ 12 ∷ []
 
 -- what a function may name: none of the functions, so that none is open within another one, and no
--- literal; faults that have a code; and temporaries that its frame has
+-- literal; faults that have a code; temporaries that its frame has; and constants that are words
 abbrev pub is_own : (temps : ℕ) → Named → Bool
 is_own temps (function label) = false
 is_own temps (literal label) = false
 is_own temps (fault n) = nat_lt n 1048576
 is_own temps (temporary i) = nat_lt i temps
+is_own temps (constant n) = nat_lt n (2 ^ 32)
 
 -- the most of length and of room that a function has
 abbrev pub most_length : ℕ
@@ -48,3 +51,7 @@ AreRoutines (f ∷ fs) = IsRoutine f × AreRoutines fs
 
 abbrev pub AllAreRoutines : Type 0
 AllAreRoutines = AreRoutines runtime.functions
+
+-- the same of constants, as of any code
+abbrev pub RuntimeHasWords : Type 0
+RuntimeHasWords = HasWords (λ body. named_ts body []) runtime

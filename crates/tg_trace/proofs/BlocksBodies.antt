@@ -20,7 +20,6 @@ use Rattle.tg_tree.specs.Meaning.{run_all}
 use Rattle.tg_tree.specs.Running.{Runner, with_fuel, enter, outermost, run_body, body_point, going, in_sequence, canonical_run}
 use Rattle.tg_tree.specs.Carrying.{BacksSimulate, CallsSimulate, AllCarried, none, one, ProgramsCarried}
 use Rattle.tg_tree.proofs.TreeRuns.{trees_step}
-use Rattle.tg_tree.proofs.CallsLess.{enters_less}
 use Rattle.tg_tree.proofs.Linking.{programs_carried}
 use Rattle.tg_trace.specs.Block.{Block}
 use Rattle.tg_trace.specs.Cutting.{Cut, draw, leads, next_mark, seal, branch, leaves, cut, cut_all, start, entered_by, placed_all, blocks_of}
@@ -90,8 +89,9 @@ module _ (functions : List (Function Ts)) (functions' : List (Function (List Blo
 
   abbrev Calls : ℕ → Type 0
   Calls n =
+      (m : ℕ) → m ≤ n →
       CallsSimulate 1 added_work size floor marked_entry_units entry_units (run_body Canonical code size floor room (going Canonical code size floor room))
-      (run_block_body code' size floor room (block_going code' size floor room)) functions functions' n
+      (run_block_body code' size floor room (block_going code' size floor room)) functions functions' m
 
   module _
       (ss : Stms) (can : AreCanonical ss) (closed : AreClosed ss) (n r : ℕ) (activation : Activation) (back back' : Back) (calls : Calls n)
@@ -116,10 +116,10 @@ module _ (functions : List (Function Ts)) (functions' : List (Function (List Blo
         Simulates 1 r n (runs w t) (opens code' size floor room c.places laid (outermost activation back') j c.body c.end w t)
     done laid f =
         let scene : Scene functions functions' ls size floor room c.places laid activation back back' n r
-        (λ m le. enters_less Canonical code size floor room 1 0 m n _ le calls) returns n r 0 (length laid) [] no_out =
+        calls returns n r 0 (length laid) [] no_out =
         record { fuel = omega arith; owed = omega arith; within = omega arith; ways = λ k lt. absurd (omega arith) } in
         all_carry functions functions' ls size floor room c.places laid activation back back' n r
-        (λ m le. enters_less Canonical code size floor room 1 0 m n _ le calls) returns ss can n r (length laid) [] no_out last start closed.breaks scene
+        calls returns ss can n r (length laid) [] no_out last start closed.breaks scene
         (λ j a b w t. simulates_wrong 1 r n _ _ (λ i. refl)) f
 
     -- the first block does, with its mark

@@ -35,7 +35,7 @@ module _ (allowed : Named → Bool) where
     split_tx (Load x) after = split_tx x after
     split_tx (LoadByte x) after = split_tx x after
     split_tx (Call label xs) after = let h = split_txs xs after in omega (arith, h)
-    split_tx (Service n x) after = split_tx x after
+    split_tx (Service n x) after = let h = split_tx x after in omega (arith, h)
     split_tx (After s x) after =
         let h = split_ts s (named_tx x after) in let k = split_tx x after in let l = split_ts s (named_tx x []) in omega (arith, h, k, l)
 

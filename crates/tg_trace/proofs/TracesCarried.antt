@@ -4,7 +4,6 @@ use Rattle.std.specs.Prelude.{Option, Some, None, slice_set, pos}
 use Rattle.std.specs.List.{AllByRecursion}
 use Rattle.tg_base.specs.declared.ends.RunEnd.TheVariants.{Exit}
 use Rattle.tg_base.specs.State.{stack_top}
-use Rattle.tg_runs.specs.Runs.{IsSameTo}
 use Rattle.tg_runs.specs.Ran.{Ended}
 use Rattle.tg_runs.specs.Preserving.{Preserves}
 use Rattle.tg_runs.specs.Simulating.{Simulates}
@@ -18,16 +17,15 @@ use Rattle.tg_tree.specs.Carrying.{BacksSimulate, CallsSimulate, BodyCarried, Al
 use Rattle.tg_tree.specs.Flat.{behind, run_flat, flat_going, flat_run}
 use Rattle.tg_tree.proofs.Linking.{programs_carried}
 use Rattle.tg_tree.proofs.Relating.{AlikeAround, around, around_down}
-use Rattle.tg_tree.proofs.Going.{one as one_of, OneWorld, OneTemps, Same, same_keeps}
+use Rattle.tg_tree.proofs.Going.{one as one_of, OneWorld, OneTemps}
 use Rattle.tg_tree.proofs.FlatRuns.{flat_code_steps}
-use Rattle.tg_tree.proofs.CallsLess.{IsLocal, calls_less}
 use Rattle.tg_trace.specs.Block.{Block}
 use Rattle.tg_trace.specs.Laying.{Order, put, block_at, onward, follow, traces, traced}
 use Rattle.tg_trace.specs.Shapes.{LeadsBelow}
-use Rattle.tg_trace.specs.Meaning.{block_going, block_run, enter_blocks}
+use Rattle.tg_trace.specs.Meaning.{block_run}
 use Rattle.tg_trace.specs.Traced.{MayBeLaid, laid, laid_all, block_runner, flat_runner}
 use Rattle.tg_trace.proofs.Marks.{each}
-use Rattle.tg_trace.proofs.BlocksRuns.{blocks_step, blocks_relate, keep_enter}
+use Rattle.tg_trace.proofs.BlocksRuns.{blocks_step}
 use Rattle.tg_trace.proofs.BlocksFlat.{keeps_simulating}
 use Rattle.tg_trace.proofs.TracesCode.{laid_code, traced_is}
 use Rattle.tg_trace.proofs.TracesStands.{all_stand}
@@ -69,18 +67,9 @@ module _
   after = record { functions = flat; literals = literals }
 
   abbrev Calls : ℕ → Type 0
-  Calls n = CallsSimulate 1 0 size floor entry_units entry_units (block_runner size floor room before) (flat_runner size floor room after) functions flat n
-
-  calls_are_local : (m : ℕ) → IsLocal m (enter_blocks before size floor room (block_going before size floor room))
-  calls_are_local m label vs top back back' w h =
-      keep_enter Same OneWorld OneTemps same_keeps before size floor room m _ _
-      (λ k lt x y r. blocks_relate before size floor room Same OneWorld OneTemps same_keeps k x y r) label vs top back back' w w (one_of w) by
-    where
-      by : (v : ℕ) (x y : World) → OneWorld x y → IsSameTo m (back v x) (back' v y)
-      by v x y (one_of z) = h v z
-
-  with_less : (m n : ℕ) → m ≤ n → Calls n → Calls m
-  with_less m n le calls = calls_less 1 0 m n _ _ le (calls_are_local m) calls
+  Calls n =
+      (m : ℕ) → m ≤ n →
+      CallsSimulate 1 0 size floor entry_units entry_units (block_runner size floor room before) (flat_runner size floor room after) functions flat m
 
   module _ (bs : List Block) (may : MayBeLaid bs) where
     abbrev Carries : (e e' : Around) (r n p : ℕ) → Type 0
@@ -90,9 +79,9 @@ module _
         Carries e e' r n p
     all_do zero n lt calls r e e' he p h = absurd (omega arith)
     all_do (suc k) n lt calls r e e' he p h =
-        places_do functions flat literals size floor room bs (traced bs) n calls r e e' he (all_stand bs may.entered)
+        places_do functions flat literals size floor room bs (traced bs) n (calls n (omega arith)) r e e' he (all_stand bs may.entered)
         (each (LeadsBelow (length bs)) tt bs may.whole.within)
-        (λ m mn q hq. all_do k m (omega arith) (with_less m n (omega arith) calls) r e e'
+        (λ m mn q hq. all_do k m (omega arith) (λ i li. calls i (omega (arith, li, mn))) r e e'
         (around_down (SameWork r) OneWorld OneTemps (keeps_simulating r) m n e e' (omega arith) he) q hq)
         (length bs) p (omega arith) h
 

@@ -8,6 +8,7 @@ use Rattle.tg_runs.specs.Runs.{Run}
 use Rattle.tg_runs.specs.Ran.{Ran, Ended, WantsFuel, Wrong, stops}
 use Rattle.tg_runs.specs.Simulating.{Simulates}
 use Rattle.tg_runs.proofs.Simulations.{simulates_turn, simulates_turn_behind, simulates_paying, simulates_working, simulates_with_credit, simulates_along}
+use Rattle.tg_runs.proofs.Simulations.{simulates_trading, simulates_unpaid, simulates_working_less}
 use Rattle.tg_tree.specs.declared.operators.Rel.{Rel}
 use Rattle.tg_tree.specs.Tree.{Tx, Stms, no_stms, stm, Linear, Mark, Function, Literal, Code}
 use Rattle.tg_tree.specs.Operators.{holds, opposite}
@@ -35,25 +36,13 @@ abbrev pub SameWork : (r : ℕ) → Related
 SameWork r n w c d = Simulates 1 r n c d
 
 both_pay : (r n j k : ℕ) (c d : Run Ran) → k ≤ j → Simulates 1 (r + (j - k)) n c d → Simulates 1 r n (charged j c) (charged k d)
-both_pay r n j k c d le h =
-    simulates_paying 1 r n j c (charged k d)
-    (simulates_with_credit 1 (r + (j - k) + k) (r + 1 * j) n c (charged k d) (omega arith) (simulates_working 1 (r + (j - k)) n k c d h))
+both_pay r n j k c d le h = simulates_trading 1 r (r + (j - k)) n j k c d (omega arith) h
 
 pays_alone : (r n j : ℕ) (c d : Run Ran) → Simulates 1 r n c d → Simulates 1 r n (charged j c) d
 pays_alone r n j c d h = simulates_paying 1 r n j c d (simulates_with_credit 1 r (r + 1 * j) n c d (omega arith) h)
 
--- where the code behind works less, or the code before pays for more
-works_less : (r n k : ℕ) (c d : Run Ran) → Simulates 1 r n c (charged k d) → Simulates 1 r n c d
-works_less r n k c d h i le s =
-    let x = h i le s in
-    let w = x.2.work in
-    (x.0, x.1, record { output = x.2.output; input = x.2.input; stop = x.2.stop; work = omega (arith, w) })
-
 unpaid : (r n k : ℕ) (c d : Run Ran) → Simulates 1 r n (charged k c) d → Simulates 1 (r + k) n c d
-unpaid r n k c d h i le s =
-    let x = h i le s in
-    let w = x.2.work in
-    (x.0, x.1, record { output = x.2.output; input = x.2.input; stop = x.2.stop; work = omega (arith, w) })
+unpaid r n k c d h = simulates_unpaid 1 r (r + k) n k c d (omega arith) h
 
 more_credit : (r k n : ℕ) (c d : Run Ran) → Simulates 1 r n c d → Simulates 1 (r + k) n c d
 more_credit r k n c d h = simulates_with_credit 1 r (r + k) n c d (omega arith) h
@@ -144,7 +133,7 @@ module _
           (simulates_turn_behind 1 r n (stops w.input WantsFuel) _ _
           (simulates_along 1 r n _ _ _ _ (λ i. refl) (flat_code_steps after size floor room
           (record { whole = whole; rest = rest; around = e'; world = w; temps = t }))
-          (works_less r n 1 _ _ (does rest stands w t))))
+          (simulates_working_less 1 r n 1 _ _ (does rest stands w t))))
 
       jumps_back : (q : ℕ) (rest : List Linear) → behind q whole ≡ Some rest → q < length bs → (w : World) (t : Temps) → Simulates 1 r n
           (return_to before size floor room blocks_go bs q e tt w t) (jump_to after size floor room flat_goes whole (behind q whole) e' tt w t)
@@ -154,7 +143,7 @@ module _
           (λ m lt. simulates_along 1 r m _ _ _ _
           (blocks_step before size floor room (record { whole = bs; place = q; around = e; world = w; temps = t }))
           (flat_code_steps after size floor room (record { whole = whole; rest = rest; around = e'; world = w; temps = t }))
-          (works_less r m 1 _ _ (below m lt q h rest stands w t))))
+          (simulates_working_less 1 r m 1 _ _ (below m lt q h rest stands w t))))
 
   module _ (n : ℕ) (calls : CallsSimulate 1 0 size floor entry_units entry_units (block_runner size floor room before)
       (flat_runner size floor room after) functions flat n) where

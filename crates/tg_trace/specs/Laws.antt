@@ -42,8 +42,8 @@ RoomStays =
     (ss : Stms) →
     code_room in_canonical (traced (blocks_of ss)) ≤ statements_room in_canonical ss
 
--- The code names no function, literal, temporary or fault that the statements don't name, but for a
--- fault 0: whatever test all their names pass, its names pass.
+-- The code names no function, literal, temporary, constant or fault that the statements don't name,
+-- but for a fault 0: whatever test all their names pass, its names pass.
 abbrev pub AreAllowed : (allowed : Named → Bool) → List Named → Type 0
 AreAllowed allowed names = (x : Named) → Contains names x → IsTrue (allowed x)
 
