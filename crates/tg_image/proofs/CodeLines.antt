@@ -14,18 +14,8 @@ use Rattle.tg_isa.specs.Texts as texts
 use Rattle.tg_emit.specs.declared.assembly.Line.{Line}
 use Rattle.tg_emit.specs.declared.assembly.Line.TheVariants.{Label, One, La, Statics}
 use Rattle.tg_emit.specs.Lines.{words}
-use Rattle.tg_image.specs.Images.{written_line}
+use Rattle.tg_image.specs.Images.{written_line, IsCode, AreCode}
 use Rattle.tg_image.proofs.Apart.{names_of}
-
--- a line that may stand in the code, and whose fields fit
-abbrev pub IsCode : Line → Type 0
-IsCode (Label name) = IsTrue (is_label name)
-IsCode (One one target) = IsRow one × (IsTrue (takes_label one) → IsTrue (is_label target))
-IsCode (La register target) = (register < 32) × IsTrue (is_label target)
-IsCode (Statics bytes) = ⊥
-
-abbrev pub AreCode : List Line → Type 0
-AreCode ls = AllByRecursion IsCode ls
 
 abbrev pub coded_in : List Line → List Coded
 coded_in [] = []

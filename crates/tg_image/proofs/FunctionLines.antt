@@ -22,7 +22,8 @@ use Rattle.tg_emit.specs.Lines.{alone, lowered, size_of, instruction_lines, code
 use Rattle.tg_image.specs.Programs.{names_those, calls_those}
 use Rattle.tg_image.proofs.NameTexts.{function_label}
 use Rattle.tg_image.proofs.Apart.{Stands, stands_left, stands_right, each_append}
-use Rattle.tg_image.proofs.CodeLines.{IsCode, AreCode, coded_in, labels_from, given_in, given_append, words_append, coded_append, coded_words, labels_append}
+use Rattle.tg_image.specs.Images.{IsCode, AreCode}
+use Rattle.tg_image.proofs.CodeLines.{coded_in, labels_from, given_in, given_append, words_append, coded_append, coded_words, labels_append}
 use Rattle.tg_image.proofs.CodeLines.{reach_append}
 use Rattle.tg_image.proofs.PlainLines.{IsPlain, ArePlain, plain_code, plain_given, plain_reach, lowered_plain}
 use Rattle.tg_image.proofs.InstructionLines.{tail_of, code_of_instruction, given_of_instruction, reach_of_instruction, end_words, IsInCode, Surrounds, Finds}

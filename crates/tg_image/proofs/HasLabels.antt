@@ -12,9 +12,8 @@ use Rattle.tg_emit.specs.declared.assembly.Line.TheVariants.{Label, One, La, Sta
 use Rattle.tg_emit.specs.Conditions.{has_labels, only_if}
 use Rattle.tg_emit.specs.Lines.{functions_lines, literals_lines, is_long}
 use Rattle.tg_emit.specs.Ranges.{FunctionFits, LiteralFits}
-use Rattle.tg_image.specs.Images.{EmittedHasLabels}
+use Rattle.tg_image.specs.Images.{EmittedHasLabels, IsCode, AreCode}
 use Rattle.tg_image.proofs.NameTexts.{literal_label}
-use Rattle.tg_image.proofs.CodeLines.{IsCode, AreCode}
 use Rattle.tg_image.proofs.ProgramLines.{all_emitted, code_of_functions}
 
 where_taken : (b c : Bool) → (IsTrue b → IsTrue c) → IsTrue (only_if b c)

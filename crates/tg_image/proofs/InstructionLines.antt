@@ -24,7 +24,8 @@ use Rattle.tg_emit.specs.Lines.{alone, above_stack, branch_lines, instruction_li
 use Rattle.tg_image.specs.Programs.{is_among, names_those}
 use Rattle.tg_image.proofs.NameTexts.{function_label, mark_label, behind_label, literal_label}
 use Rattle.tg_image.proofs.Apart.{Stands}
-use Rattle.tg_image.proofs.CodeLines.{AreCode, coded_in, labels_from, given_in, words_append}
+use Rattle.tg_image.specs.Images.{AreCode}
+use Rattle.tg_image.proofs.CodeLines.{coded_in, labels_from, given_in, words_append}
 use Rattle.tg_image.proofs.PlainLines.{plain_code, plain_given, plain_reach, plain_instruction}
 
 -- branches

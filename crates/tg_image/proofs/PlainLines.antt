@@ -17,7 +17,8 @@ use Rattle.tg_emit.specs.Rows.{register_of, row_of}
 use Rattle.tg_emit.specs.Ranges.{InstructionFits}
 use Rattle.tg_emit.specs.Conditions.{has_code}
 use Rattle.tg_emit.specs.Lines.{alone, in_at, above_stack, lowered, load_at, store_at, slot_offset, row_lines, instruction_lines}
-use Rattle.tg_image.proofs.CodeLines.{AreCode, coded_in, given_in}
+use Rattle.tg_image.specs.Images.{AreCode}
+use Rattle.tg_image.proofs.CodeLines.{coded_in, given_in}
 use Rattle.tg_image.proofs.Apart.{each_append}
 
 abbrev pub IsPlain : Line → Type 0

@@ -11,7 +11,8 @@ use Rattle.tg_emit.specs.Conditions.{is_emittable}
 use Rattle.tg_emit.specs.Lines.{function_lines, functions_lines, words}
 use Rattle.tg_image.specs.Programs.{function_labels, is_among, calls_those}
 use Rattle.tg_image.proofs.Apart.{each_append}
-use Rattle.tg_image.proofs.CodeLines.{IsCode, AreCode, coded_in, labels_from, words_append}
+use Rattle.tg_image.specs.Images.{IsCode, AreCode}
+use Rattle.tg_image.proofs.CodeLines.{coded_in, labels_from, words_append}
 use Rattle.tg_image.proofs.InstructionLines.{Surrounds, Finds}
 use Rattle.tg_image.proofs.FunctionLines.{IsEmitted, emitted, code_of_function, function_given, reach_of_function, IsGiven, given_left, given_right, finds_left}
 use Rattle.tg_image.proofs.FunctionLines.{finds_right, reach_lines, or_right}

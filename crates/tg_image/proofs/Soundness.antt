@@ -21,9 +21,10 @@ use Rattle.tg_emit.specs.Names.{function_name, literal_name}
 use Rattle.tg_emit.specs.Ranges.{FunctionFits, LiteralFits}
 use Rattle.tg_emit.specs.Lines.{function_lines, functions_lines, is_long, words}
 use Rattle.tg_image.specs.Programs.{function_labels, literal_labels, is_among, bytes_of, IsProgram, AreTyped}
-use Rattle.tg_image.specs.Images.{statics_written, program_written, words_before, ProgramHasImage, ProgramEntersBody}
+use Rattle.tg_image.specs.Images.{statics_written, program_written, words_before, AreCode, ProgramIsCode, ProgramIsSound}
+use Rattle.tg_image.specs.Images.{ProgramHasImage, ProgramEntersBody}
 use Rattle.tg_image.proofs.Apart.{Differ, differ_append, pairs_differ, Stands, stands_left, stands_right, names_of, found}
-use Rattle.tg_image.proofs.CodeLines.{AreCode, coded_in, labels_from, labels_append, given_in, coded_words, code_stands, code_words, code_positions}
+use Rattle.tg_image.proofs.CodeLines.{coded_in, labels_from, labels_append, given_in, coded_words, code_stands, code_words, code_positions}
 use Rattle.tg_image.proofs.CodeLines.{code_bytes, code_items}
 use Rattle.tg_image.proofs.CodeLines.{code_labels}
 use Rattle.tg_image.proofs.InstructionLines.{IsInCode, jump_there, Surrounds, Finds}
@@ -156,6 +157,12 @@ is_sound fs ls k =
 
 written_stands : (fs : List Allocated) (ls : List Literal) → Known fs ls → texts.AreLines Code (program_written fs ls)
 written_stands fs ls k = (tt, (refl, code_stands (code_of fs) (statics_written ls) k.code (statics_stand ls k.literals)))
+
+pub program_is_code : ProgramIsCode
+program_is_code fs ls p t = (known fs ls p t).code
+
+pub program_is_sound : ProgramIsSound
+program_is_sound fs ls p t = is_sound fs ls (known fs ls p t)
 
 pub program_has_image : ProgramHasImage
 program_has_image fs ls p t =

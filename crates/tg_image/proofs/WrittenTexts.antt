@@ -14,8 +14,7 @@ use Rattle.tg_emit.specs.declared.assembly.Line.TheVariants.{Label, One, La, Sta
 use Rattle.tg_emit.specs.Names.{literal_name}
 use Rattle.tg_emit.specs.Lines.{literals_lines, functions_lines, assembly_of, is_long}
 use Rattle.tg_emit.specs.Text.{further_numbers, bytes_text, line_text, is_in_statics, switched, lines_text, text_of}
-use Rattle.tg_image.specs.Images.{bytes_line, written_line, literals_written, statics_written, program_written}
-use Rattle.tg_image.proofs.CodeLines.{IsCode, AreCode}
+use Rattle.tg_image.specs.Images.{bytes_line, written_line, literals_written, statics_written, program_written, IsCode, AreCode}
 
 further_same : (bytes : List ℕ) → further_numbers bytes ≡ further (map decimal bytes)
 further_same [] = refl

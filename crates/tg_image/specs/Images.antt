@@ -1,11 +1,14 @@
 -- The lines of a program in the words of the assembler, and the image that they are.
-use Rattle.std.specs.Prelude.{ℕ, ◌+◌, ◌*◌, ◌≡◌, ◌==◌, Bool, List, [], ◌∷◌, ◌++◌, map, codes}
+use Rattle.std.specs.Prelude.{ℕ, ◌+◌, ◌*◌, ◌≡◌, ◌==◌, ◌<◌, Bool, List, [], ◌∷◌, ◌++◌, map, codes}
 use Rattle.std.specs.Prelude.{Ok, IsTrue, if◌then◌else◌}
-use Rattle.std.specs.List.{list_all}
+use Rattle.std.specs.List.{list_all, AllByRecursion}
 use Rattle.tg_base.specs.State.{padded, code_base}
 use Rattle.tg_isa.specs.declared.keywords.Segment.TheVariants.{Code, Statics as InStatics}
+use Rattle.tg_isa.specs.Table.{IsRow}
+use Rattle.tg_isa.specs.Operands.{is_label}
+use Rattle.tg_isa.specs.Writing.{takes_label}
 use Rattle.tg_isa.specs.Assembly.{assembled}
-use Rattle.tg_isa.specs.Placement.{image_of}
+use Rattle.tg_isa.specs.Placement.{IsSound, image_of}
 use Rattle.tg_isa.specs.Texts as texts
 use Rattle.tg_tree.specs.declared.fragments.Literal.{Literal}
 use Rattle.tg_instr.specs.declared.codes.Allocated.{Allocated}
@@ -43,6 +46,16 @@ program_written fs ls =
     texts.Enter Code ∷ texts.Globl (codes "main")
     ∷ map written_line (functions_lines (is_long fs) fs) ++ statics_written ls
 
+-- a line that may stand in the code, and whose fields fit
+abbrev pub IsCode : Line → Type 0
+IsCode (Label name) = IsTrue (is_label name)
+IsCode (One one target) = IsRow one × (IsTrue (takes_label one) → IsTrue (is_label target))
+IsCode (La register target) = (register < 32) × IsTrue (is_label target)
+IsCode (Statics bytes) = ⊥
+
+abbrev pub AreCode : List Line → Type 0
+AreCode lines = AllByRecursion IsCode lines
+
 -- the words of code before a function
 abbrev pub words_before : (turned : Bool) → (label : ℕ) → List Allocated → ℕ
 words_before turned label [] = 0
@@ -56,6 +69,18 @@ EmittedHasLabels =
     (fs : List Allocated) (ls : List Literal) →
     IsTrue (list_all is_emittable fs) → AreTyped fs ls →
     IsTrue (list_all has_labels (assembly_of fs ls))
+
+-- the lines of a program's functions are code
+abbrev pub ProgramIsCode : Type 0
+ProgramIsCode =
+    (fs : List Allocated) (ls : List Literal) → IsProgram fs ls → AreTyped fs ls →
+    AreCode (functions_lines (is_long fs) fs)
+
+-- nothing of what is read of a program is wrong
+abbrev pub ProgramIsSound : Type 0
+ProgramIsSound =
+    (fs : List Allocated) (ls : List Literal) → IsProgram fs ls → AreTyped fs ls →
+    IsSound (texts.readings_of (program_written fs ls))
 
 -- the text of a program is assembled without a fault
 abbrev pub ProgramHasImage : Type 0

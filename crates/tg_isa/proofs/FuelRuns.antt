@@ -1,12 +1,13 @@
 -- The machine's run by fuel is what so many steps come to.
 use Rattle.std.proofs.Common.{◌≡◌, ◌≤◌, ◌+◌, ℕ, zero, suc, List, [], ◌∷◌, ◌++◌, Option, arith, refl, sym, ap, ◌∙◌, subst, append_assoc, append-nil}
+use Rattle.tg_base.specs.declared.ends.RunEnd.{RunEnd}
 use Rattle.tg_base.specs.State.{MachineState}
 use Rattle.tg_base.specs.Services.{Step, Goes, Ends, Reads, Writes, answered}
 use Rattle.tg_runs.specs.Ran as ran
 use Rattle.tg_runs.specs.Ran.{Ran, Stop, stops, writes, works, IsOver, StaysOver, GoesOn, OnlyGoesOn}
 use Rattle.tg_isa.specs.Effects.{step}
 use Rattle.tg_isa.specs.Runs.{Execution, Progress, Running, Ended, proceed, run, answers, first_answer, later_answers}
-use Rattle.tg_isa.specs.ImageRuns.{first_byte, later_bytes, machine_run, IsRunOf, RunsByFuel, MachineStaysOver, MachineGoesOn}
+use Rattle.tg_isa.specs.ImageRuns.{first_byte, later_bytes, machine_run, IsRunOf, RunsByFuel, MachineStaysOver, MachineGoesOn, MachineEndsByItsWork}
 
 -- one step
 abbrev stepped : (input : List ℕ) → ℕ → Step → Ran
@@ -142,3 +143,33 @@ goes_on (suc i) (suc j) s input l =
 
 pub machine_goes_on : MachineGoesOn
 machine_goes_on s input i j l = goes_on i j s input l
+
+-- what has ended did so in as many steps as it has worked
+abbrev ByItsWork : ℕ → MachineState → List ℕ → RunEnd → Type 0
+ByItsWork n s input e =
+    (machine_run s input n).stop ≡ ran.Ended e → machine_run s input (machine_run s input n).work ≡ machine_run s input n
+
+-- the same of a run that is one step
+abbrev StepByItsWork : MachineState → List ℕ → RunEnd → Ran → Type 0
+StepByItsWork s input e r = r.stop ≡ ran.Ended e → machine_run s input r.work ≡ r
+
+wants_no_end : {e : RunEnd} → ran.WantsFuel ≡ ran.Ended e → ⊥
+wants_no_end q = cc
+
+pub machine_ends_by_its_work : MachineEndsByItsWork
+machine_ends_by_its_work zero s input e h = absurd (wants_no_end h)
+machine_ends_by_its_work (suc n) s input e h =
+    subst (StepByItsWork s input e) (sym (machine_run-suc s input n))
+    (λ g.
+    let k = (stepped input n (step s)).work in
+    let one_more : 1 + k ≡ suc k = omega arith in
+    ap (machine_run s input) one_more ∙ machine_run-suc s input k
+    ∙ ap (works 1) (by (step s) (λ t i. machine_ends_by_its_work n t i e) g))
+    h
+  where
+    by : (d : Step) → ((t : MachineState) (i : List ℕ) → ByItsWork n t i e) → (stepped input n d).stop ≡ ran.Ended e →
+        stepped input (stepped input n d).work d ≡ stepped input n d
+    by (Goes t) ih g = ih t input g
+    by (Ends f) ih g = refl
+    by (Reads t) ih g = ih (answered t (first_byte input)) (later_bytes input) g
+    by (Writes bytes t) ih g = ap (writes bytes) (ih t input g)

@@ -11,3 +11,4 @@ pub mod SecondPass
 pub mod PlacedTexts
 pub mod TextLines
 pub mod FuelRuns
+pub mod Anywhere

@@ -1,6 +1,7 @@
 -- The machine's run of an image as a run by fuel: a step takes a unit of fuel, and is a unit of
 -- work.
 use Rattle.std.specs.Prelude.{ℕ, zero, suc, ◌≡◌, ◌≤◌, List, [], ◌∷◌, Option, Some, None}
+use Rattle.tg_base.specs.declared.ends.RunEnd.{RunEnd}
 use Rattle.tg_base.specs.State.{MachineState, start}
 use Rattle.tg_base.specs.Services.{Goes, Ends, Reads, Writes, answered}
 use Rattle.tg_runs.specs.Runs.{Run}
@@ -50,3 +51,10 @@ MachineStaysOver = (s : MachineState) (input : List ℕ) → StaysOver (machine_
 
 abbrev pub MachineGoesOn : Type 0
 MachineGoesOn = (s : MachineState) (input : List ℕ) → OnlyGoesOn (machine_run s input)
+
+-- a machine that has ended did so in as many steps as it has worked
+abbrev pub MachineEndsByItsWork : Type 0
+MachineEndsByItsWork =
+    (n : ℕ) (s : MachineState) (input : List ℕ) (e : RunEnd) →
+    (machine_run s input n).stop ≡ ran.Ended e →
+    machine_run s input (machine_run s input n).work ≡ machine_run s input n

@@ -3,6 +3,7 @@ pub mod Table
 pub mod Effects
 pub mod Runs
 pub mod ImageRuns
+pub mod Anywhere
 pub mod Lines
 pub mod Operands
 pub mod Items

@@ -1,4 +1,6 @@
-ghost use Rattle.tg_isa.specs.ImageRuns.{MachineGoesOn, MachineStaysOver, RunsByFuel};
+ghost use Rattle.tg_isa.specs.Anywhere.{EffectsAreAnywhere};
+ghost use Rattle.tg_isa.specs.ImageRuns.{MachineEndsByItsWork, MachineGoesOn};
+ghost use Rattle.tg_isa.specs.ImageRuns.{MachineStaysOver, RunsByFuel};
 ghost use Rattle.tg_isa.specs.Laws.{LinesHaveImage, ReadingsHaveImage};
 
 /// The law of an assembly text: its image is that of its readings. The code and the statics are the
@@ -16,9 +18,17 @@ pub fn lines_have_image()
 {}
 
 /// The laws of the machine's run by fuel: it is what so many steps come to, what has ended stays so
-/// with more fuel, and with more fuel a run goes on from what it was.
+/// with more fuel and did so in as many steps as it has worked, and with more fuel a run goes on
+/// from what it was.
 pub fn machine_runs_by_fuel()
     ensures run { RunsByFuel }
     ensures over { MachineStaysOver }
     ensures goes_on { MachineGoesOn }
+    ensures work { MachineEndsByItsWork }
+{}
+
+/// The law of the effects of rows: one that neither jumps nor branches does the same wherever the
+/// code and the place are.
+pub fn effects_are_anywhere()
+    ensures { EffectsAreAnywhere }
 {}

@@ -19,7 +19,7 @@ pub use decoding::decode;
 pub use encoding::encode;
 pub use images::Image;
 pub use keywords::{AsmRule, Keyword, Segment, Slot};
-pub use laws::{lines_have_image, machine_runs_by_fuel, text_is_placed};
+pub use laws::{effects_are_anywhere, lines_have_image, machine_runs_by_fuel, text_is_placed};
 pub use mips::Mips;
 pub use names::name;
 pub use registers::Reg;

@@ -1,5 +1,10 @@
-use Rattle.tg_image.proofs.Soundness.{program_has_image, program_enters_body}
+use Rattle.tg_image.proofs.Soundness.{program_is_code, program_is_sound, program_has_image, program_enters_body}
 use Rattle.tg_image.proofs.laws.program_has_image.Goals as goal
 
 pub returns : goal.returns
-returns c = record { image = program_has_image; entry = program_enters_body }
+returns c = record {
+  code = program_is_code;
+  sound = program_is_sound;
+  image = program_has_image;
+  entry = program_enters_body;
+}
