@@ -1,11 +1,14 @@
--- What the uses and definitions of an instruction say of its effect.
+-- What the uses and definitions of an instruction say of its effect, and the laws of runs.
 use Rattle.std.specs.Prelude.{ℕ, ◌≡◌, ⊤, List, [], ◌∷◌, ◌++◌, map, if◌then◌else◌}
+use Rattle.tg_runs.specs.Ran.{StaysOver, OnlyGoesOn}
 use Rattle.tg_tree.specs.Actions.{World}
-use Rattle.tg_tree.specs.Tree.{Literal}
+use Rattle.tg_tree.specs.Tree.{Literal, Code}
+use Rattle.tg_instr.specs.declared.instr.Instr.{Instr}
 use Rattle.tg_instr.specs.Shapes.{Holder, Operand, Hi, Lo, Shape, From1, Halves, Calls}
 use Rattle.tg_instr.specs.Uses.{uses, defs}
 use Rattle.tg_instr.specs.Contents.{Nothing, Contents, is_among}
 use Rattle.tg_instr.specs.Meaning.{Next, Enter, Around, act}
+use Rattle.tg_instr.specs.Running.{Units, CodePoint, code_step, code_going, code_run}
 
 -- hi and lo, where an instruction reads or changes them
 abbrev pub half_read : Shape → List Holder
@@ -53,3 +56,28 @@ ReadsUses =
     ((m : ℕ) (w1 : World) → e.jumps m w1 s ≡ e.jumps m w1 t) →
     act room literals enter one e (λ w1 s1. next w1 (only (changes one) s1)) w s
     ≡ act room literals enter one e (λ w1 s1. next w1 (only (changes one) s1)) w t
+
+-- Laws of runs, for any units that instructions are charged.
+
+-- a run is its own step: what comes of a place is a step from it, and then what comes of the places
+-- behind it
+abbrev pub CodeSteps : Type 0
+CodeSteps =
+    (units : Units) (code : Code (List Instr)) (size : ℕ → ℕ) (floor room : ℕ)
+    (p : CodePoint) (n : ℕ) →
+    code_going units code size floor room p n
+    ≡ code_step units code size floor room (code_going units code size floor room) p n
+
+-- more fuel changes nothing of a run that is over
+abbrev pub CodeStaysOver : Type 0
+CodeStaysOver =
+    (units : Units) (code : Code (List Instr)) (size : ℕ → ℕ)
+    (floor room body : ℕ) (input : List ℕ) →
+    StaysOver (code_run units code size floor room body input)
+
+-- and any other run goes on with it
+abbrev pub CodeOnlyGoesOn : Type 0
+CodeOnlyGoesOn =
+    (units : Units) (code : Code (List Instr)) (size : ℕ → ℕ)
+    (floor room body : ℕ) (input : List ℕ) →
+    OnlyGoesOn (code_run units code size floor room body input)

@@ -1,8 +1,9 @@
--- How many words of code an instruction is at most (MIPS I manual; large offsets go through $at).
+-- How many words of code an instruction is at most (MIPS I manual; large offsets go through $at), and
+-- how many come of it by register allocation.
 use Rattle.std.specs.Prelude.{ℕ, List, sum_by}
 use Rattle.tg_instr.specs.declared.instr.Instr.{Instr}
 use Rattle.tg_instr.specs.declared.instr.Instr.TheVariants.{FrameLoad, FrameStore, FrameAddress}
-use Rattle.tg_instr.specs.declared.instr.Instr.TheVariants.{Address, Mark, Branch, Return}
+use Rattle.tg_instr.specs.declared.instr.Instr.TheVariants.{Address, Mark, Branch, Return, Move}
 
 abbrev pub words_of : Instr → ℕ
 words_of (FrameLoad _ _) = 3
@@ -16,3 +17,10 @@ words_of _ = 1
 
 abbrev pub words : List Instr → ℕ
 words list = sum_by words_of list
+
+-- The most words that stand for an instruction, whatever its operands become: a word, or loads and
+-- stores of slots round it. A mark is no word, and stays as it is.
+abbrev pub most_words : Instr → ℕ
+most_words (Move _ _) = 13
+most_words (Mark _) = 0
+most_words _ = 10

@@ -1,7 +1,7 @@
 -- Runs of instructions. A jump, a branch that is taken and a call take a unit of fuel each, and the
 -- first activation of a program takes none.
 use Rattle.std.specs.Prelude.{ℕ, zero, suc, ◌+◌, ◌-◌, ◌*◌, ◌==◌, List, [], ◌∷◌, Option, Some, None}
-use Rattle.std.specs.Prelude.{nat_lt, pos, if◌then◌else◌}
+use Rattle.std.specs.Prelude.{nat_lt, pos, length, if◌then◌else◌}
 use Rattle.tg_base.specs.declared.ends.RunEnd.TheVariants.{Exit, StackFull}
 use Rattle.tg_base.specs.State.{stack_top}
 use Rattle.tg_runs.specs.Runs.{Run, again}
@@ -42,9 +42,18 @@ pub record CodePoint : Type 0 where
   pub world : World
   pub contents : Contents
 
--- For the units that an instruction is charged, a size of each frame by its function's label, the
+-- The units that an instruction is charged, told by its place: the label of its function, and how
+-- many instructions of its code are left behind it.
+abbrev pub Units : Type 0
+Units = (label left : ℕ) → Instr → ℕ
+
+-- the same at every place
+abbrev pub everywhere : (Instr → ℕ) → Units
+everywhere units label left one = units one
+
+-- For the units that instructions are charged, a size of each frame by its function's label, the
 -- stack's floor, and the heap's room.
-module _ (units : Instr → ℕ) (code : Code (List Instr)) (size : ℕ → ℕ) (floor room : ℕ) where
+module _ (units : Units) (code : Code (List Instr)) (size : ℕ → ℕ) (floor room : ℕ) where
   abbrev pub begin_code :
       (CodePoint → Run Ran) → Option (Function (List Instr)) → Contents → (top : ℕ) →
       Back → World → Run Ran
@@ -92,7 +101,7 @@ module _ (units : Instr → ℕ) (code : Code (List Instr)) (size : ℕ → ℕ)
     abbrev pub run_code : List Instr → Activation → Back → World → Contents → Run Ran
     run_code [] a back w s = wrong w
     run_code (one ∷ rest) a back w s =
-        charged (units one)
+        charged (units f.label (length rest) one)
         (act room code.literals (enter_code later) (shape one) (around a back)
         (λ w1 s1. run_code rest a back w1 s1) w s)
 

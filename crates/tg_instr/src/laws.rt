@@ -1,4 +1,10 @@
-ghost use Rattle.tg_instr.specs.Laws.{ChangesDefinitions, ReadsUses};
+ghost use Rattle.tg_instr.specs.Laws.{
+  ChangesDefinitions,
+  ReadsUses,
+  CodeSteps,
+  CodeStaysOver,
+  CodeOnlyGoesOn,
+};
 
 /// The laws that `uses` and `defs` are those of the meaning: an instruction changes what its
 /// definitions hold alone (and hi and lo, as its row says), and what they hold behind it, and where
@@ -6,4 +12,12 @@ ghost use Rattle.tg_instr.specs.Laws.{ChangesDefinitions, ReadsUses};
 pub fn effects_are_told()
     ensures changes { ChangesDefinitions }
     ensures reads { ReadsUses }
+{}
+
+/// The laws of runs of instructions, whatever instructions are charged: each run is its own step,
+/// one that is over stays so with more fuel, and any other goes on.
+pub fn code_runs()
+    ensures step { CodeSteps }
+    ensures over { CodeStaysOver }
+    ensures on { CodeOnlyGoesOn }
 {}

@@ -1,7 +1,7 @@
 //! Instructions over temporaries and registers (Appel, chapter 9), and the code that register
 //! allocation makes of them. Promises what each instruction uses and defines, and code that keeps
 //! in its type what every later pass asks of it. The meaning of instructions stands in `specs/`,
-//! with the law that uses and definitions are those of its effect.
+//! with the laws that uses and definitions are those of its effect, and of runs.
 #![tactic(auto)]
 
 mod building;
@@ -15,6 +15,6 @@ mod uses;
 pub use building::push_instr;
 pub use codes::{Allocated, Code};
 pub use instr::{Instr, Instrs, Test};
-pub use laws::effects_are_told;
+pub use laws::{code_runs, effects_are_told};
 pub use operands::Opnd;
 pub use renaming::Named;
