@@ -11,7 +11,6 @@ use Rattle.tg_syntax.specs.Measures.{size, place_size, exps_size, inits_size, de
 use Rattle.tg_syntax.specs.Measures.{inner_decs, inner_functions}
 use Rattle.tg_syntax.specs.Functions.{Measures, Levels, own, own_params, own_functions, own_decs, declared, declared_place, declared_exps}
 use Rattle.tg_syntax.specs.Functions.{declared_inits, declared_decs, declared_functions, program_functions, program_size}
-use Rattle.tg_syntax.specs.Plain.{plain}
 use Rattle.tg_syntax.specs.Spans.{span_of}
 use Rattle.tg_syntax.proofs.FunctionLaws.{program_size_is}
 use Rattle.tg_tree.specs.Tree.{Ts, Function}
@@ -21,10 +20,11 @@ use Rattle.tg_types.specs.Laws.{CheckedHasType}
 use Rattle.tg_types.specs.Limits.{above, first_above}
 use Rattle.tg_translate.specs.Scopes.{found}
 use Rattle.tg_translate.specs.Translate.{translated}
-use Rattle.tg_shapes.specs.Laws.{IsWithin, IsSmall, CheckedFramesAreSmall}
+use Rattle.tg_shapes.specs.Laws.{IsWithin, IsSmall, CheckedFramesAreSmall, CheckedConstantsAreWords}
 use Rattle.tg_shapes.proofs.Fine.{Each, each_append, each_contained}
 use Rattle.tg_shapes.proofs.Near.{wider}
 use Rattle.tg_shapes.proofs.Measured.{functions_are_within}
+use Rattle.tg_shapes.proofs.WordWalk.{constants_are_words}
 
 -- No function has more nodes than the bodies of the program.
 module _ (most : ℕ) where
@@ -122,7 +122,7 @@ all_small (m ∷ ms) (f ∷ fs) h e k =
 
 pub checked_frames_are_small : CheckedHasType → CheckedFramesAreSmall
 checked_frames_are_small typed p escapes links f a c =
-    let body = plain p.program.body in
+    let body = p.body in
     let findings = found p.notes escapes links in
     let limit = within_limit T22 (span_of body).from (program_size body) 32768 (first_above (program_functions body)) (typed p a).limits in
     let nodes : size body + inner body ≤ 32768 = subst (λ n. n ≤ 32768) (program_size_is body) limit.0 in
@@ -130,3 +130,10 @@ checked_frames_are_small typed p escapes links f a c =
     (all_small (program_functions body) (translated findings body).functions (omega (arith, nodes), few_nodes 32768 0 [] body nodes) limit.1
     (functions_are_within findings body))
     f c
+
+pub checked_constants_are_words : CheckedHasType → CheckedConstantsAreWords
+checked_constants_are_words typed p escapes links a o fields =
+    let body = p.body in
+    let limit = within_limit T22 (span_of body).from (program_size body) 32768 (first_above (program_functions body)) (typed p a).limits in
+    let nodes : size body + inner body ≤ 32768 = subst (λ n. n ≤ 32768) (program_size_is body) limit.0 in
+    constants_are_words (found p.notes escapes links) fields body o (omega (arith, nodes))

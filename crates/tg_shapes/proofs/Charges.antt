@@ -11,7 +11,8 @@ use Rattle.tg_types.specs.declared.notes.Means.{Means}
 use Rattle.tg_types.specs.declared.notes.Means.TheVariants as means
 use Rattle.tg_tree.specs.declared.operators.Bin.TheVariants as bin
 use Rattle.tg_tree.specs.Tree as tree
-use Rattle.tg_tree.specs.Tree.{Tx, Const, Temp, FrameAddress, Binary, After, Txs, Cond, Ts, Move, Return, Stms, no_stms, stm}
+use Rattle.tg_tree.specs.Tree.{Tx, Const, Temp, FrameAddress, Binary, After, Txs, Cond, Ts, Move, Stms, no_stms, stm}
+use Rattle.tg_tree.specs.Memory.{string_text}
 use Rattle.tg_translate.specs.declared.homes.Within.{Within}
 use Rattle.tg_translate.specs.declared.operands.Operand.{Operand}
 use Rattle.tg_translate.specs.declared.operands.Operand.TheVariants.{Number, Kept}
@@ -25,13 +26,15 @@ use Rattle.tg_translate.specs.Wants.{value_behind, done_behind, behind_some, beh
 use Rattle.tg_translate.specs.Constructs.{Storage, in_temp, at_address, operand, keep, hold, HeldAll, hold_next, own_place, store_at, want_for}
 use Rattle.tg_translate.specs.Constructs.{assign, hold_base, hold_address, held_in_temp, held_at, hold_place, read_held, place_held, field_of}
 use Rattle.tg_translate.specs.Constructs.{field_place, element_of, element_place, call_routine, record_of, make_record, product_of, quotient_of}
-use Rattle.tg_translate.specs.Constructs.{checked_quotient, minus_one, quotient, comparison, operation, count_of, count, string_text}
+use Rattle.tg_translate.specs.Constructs.{checked_quotient, minus_one, quotient, comparison, operation, count_of, count}
 use Rattle.tg_translate.specs.Choices.{tested, chosen}
 use Rattle.tg_translate.specs.Scopes.{no_value, nowhere, home_place, variable_place, compares_strings, routine_of, call_declared, call, literal}
 use Rattle.tg_translate.specs.Scopes.{declare_variable}
+use Rattle.tg_translate.specs.Returning.{given_back}
 use Rattle.tg_translate.specs.Functions.{at_of, declare_functions, gives_nothing, closing}
 use Rattle.tg_translate.specs.Translate.{connective, with_left, chosen_arm, choice, assignment, declaration_of}
 use Rattle.tg_shapes.specs.Escaped.{one_of}
+use Rattle.tg_shapes.proofs.Returning.{given_back_near}
 use Rattle.tg_shapes.proofs.Near.{IsTx, AreTxs, IsCond, IsTs, AreStms, IsMade, IsPlace, followed_near, truth_near, put_near, dropped_near, test_near}
 use Rattle.tg_shapes.proofs.Near.{statement_near, deliver_near, tested_near, chosen_near, own_place_near, home_near, store_near, held_address_near}
 use Rattle.tg_shapes.proofs.Near.{read_held_near, wider_tx, field_near, element_near, record_near, product_near, quotient_near, comparison_near}
@@ -178,7 +181,7 @@ module _ (n : ℕ) where
   call_takes c (Some other) xs s l h = gives s no_value tt
 
   pub closing_takes : (has_result : Bool) (m : Made) (s : TranslationState) → IsMade n m → Takes (draws 1) (IsTs n) s (closing has_result m s)
-  closing_takes true m s h = then_quiet (values_takes m s h) λ x s g. gives s (Return x) g
+  closing_takes true m s h = then_quiet (values_takes m s h) λ x s g. gives s (given_back x) (given_back_near n x g)
   closing_takes false m s h = more (omega arith) (gives s (gives_nothing m) (dropped_near n m h, (tt, tt)))
 
   pub literal_takes : (bytes : List ℕ) (s : TranslationState) → Takes (adds (bytes ∷ []) [] []) (IsMade n) s (literal bytes s)

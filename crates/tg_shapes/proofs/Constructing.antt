@@ -24,7 +24,7 @@ use Rattle.tg_translate.specs.Constructs.{minus_one, least_int, plus, operand, H
 use Rattle.tg_translate.specs.Constructs.{in_temp, at_address, place_in, own_place, after_all, read, store_at, want_for, assign, held_address}
 use Rattle.tg_translate.specs.Constructs.{hold_base, hold_address, HeldPlace, held_in_temp, held_at, hold_place, read_held, place_held, nil_check}
 use Rattle.tg_translate.specs.Constructs.{index_check, zero_check, product_check, quotient_check, field_of, field_place, element_of, element_place}
-use Rattle.tg_translate.specs.Constructs.{call_routine, store_field, store_fields, call_for_record, record_of, make_record, make_array, comparison}
+use Rattle.tg_translate.specs.Constructs.{call_routine, store_field, store_fields, space_for_record, record_of, make_record, make_array, comparison}
 use Rattle.tg_translate.specs.Constructs.{product_of, product, quotient_of, checked_quotient, quotient, operation, negation, repeat_while}
 use Rattle.tg_translate.specs.Constructs.{first_minus_one, assign_value, turn_of, turns, count_of, count}
 use Rattle.tg_shapes.proofs.Keeping.{Asks, Where, access_on, bind, draws_temp, given, held_on, onward, operand_on, operands_on, stms_on, ts_on, tx_on}
@@ -129,9 +129,9 @@ module _ (asks : Asks) where
 
     record_good : (r : ℕ) (all : HeldAll) → (asks.temps → r < s.frame.temps) → GoodHeld asks n s all → GoodMade asks n s (record_of r all)
     record_good r all i h = (
-      store_fields_good (followed all.before (Move r (call_for_record (length all.operands)))) r 0 all.operands i
-          (wanting.followed_good asks n s all.before (Move r (call_for_record (length all.operands))) h.0
-          (i, (routine_below routine.MakeRecord, (tt, tt)))) h.1,
+      store_fields_good (followed all.before (Move r (space_for_record (length all.operands)))) r 0 all.operands i
+          (wanting.followed_good asks n s all.before (Move r (space_for_record (length all.operands))) h.0
+          (i, (tt, tt))) h.1,
       i,
     )
 

@@ -5,7 +5,7 @@ use Rattle.std.specs.List.{Contains}
 use Rattle.tg_tree.specs.Tree.{Tx, Const, Address, Temp, FrameAddress, Binary, Load, LoadByte, Call, Service, After, Txs, no_txs, tx, Cond, Compare}
 use Rattle.tg_tree.specs.Tree.{Not, Both, Either, Ts, Move, Store, StoreByte, Do, If, Loop, Break, Fault, Seq, Return, Stms, no_stms, stm}
 use Rattle.tg_tree.specs.Lists.{join_txs, join_stms}
-use Rattle.tg_tree.specs.Named.{Named, function, literal, fault, temporary, named_tx, named_txs, named_cond, named_ts, named_stms}
+use Rattle.tg_tree.specs.Named.{Named, function, literal, fault, temporary, constant, named_tx, named_txs, named_cond, named_ts, named_stms}
 use Rattle.tg_tree.specs.Shapes.{BreaksWithin, BreaksWithinStms, BreaksWithinTx, BreaksWithinTxs, BreaksWithinCond}
 
 -- each of a list, part by part
@@ -37,7 +37,7 @@ module _ (B : Type 0) (A : Named → Type 0) where
     FineStms n (stm s ss) = FineTs n s × FineStms n ss
 
     pub FineTx : (loops : ℕ) → Tx → Type 0
-    FineTx n (Const _) = Unit {0}
+    FineTx n (Const k) = A (constant k)
     FineTx n (Address label) = A (literal label)
     FineTx n (Temp i) = A (temporary i)
     FineTx n FrameAddress = Unit {0}
@@ -45,7 +45,7 @@ module _ (B : Type 0) (A : Named → Type 0) where
     FineTx n (Load x) = FineTx n x
     FineTx n (LoadByte x) = FineTx n x
     FineTx n (Call label xs) = A (function label) × FineTxs n xs
-    FineTx n (Service _ x) = FineTx n x
+    FineTx n (Service k x) = A (constant k) × FineTx n x
     FineTx n (After s x) = FineTs n s × FineTx n x
 
     pub FineTxs : (loops : ℕ) → Txs → Type 0
@@ -94,7 +94,7 @@ module _ (B : Type 0) (A : Named → Type 0) where
       breaks_tx n (Load x) h = breaks_tx n x h
       breaks_tx n (LoadByte x) h = breaks_tx n x h
       breaks_tx n (Call _ xs) h = breaks_txs n xs h.1
-      breaks_tx n (Service _ x) h = breaks_tx n x h
+      breaks_tx n (Service _ x) h = breaks_tx n x h.1
       breaks_tx n (After s x) h = (breaks_ts n s h.0, breaks_tx n x h.1)
 
       breaks_txs : (n : ℕ) (xs : Txs) → FineTxs n xs → BreaksWithinTxs n xs
@@ -128,7 +128,7 @@ module _ (B : Type 0) (A : Named → Type 0) where
     names_stms n (stm s ss) after h k = names_ts n s (named_stms ss after) h.0 (names_stms n ss after h.1 k)
 
     names_tx : (n : ℕ) (x : Tx) (after : List Named) → FineTx n x → Each A after → Each A (named_tx x after)
-    names_tx n (Const _) after h k = k
+    names_tx n (Const _) after h k = (h, k)
     names_tx n (Address _) after h k = (h, k)
     names_tx n (Temp _) after h k = (h, k)
     names_tx n FrameAddress after h k = k
@@ -136,7 +136,7 @@ module _ (B : Type 0) (A : Named → Type 0) where
     names_tx n (Load x) after h k = names_tx n x after h k
     names_tx n (LoadByte x) after h k = names_tx n x after h k
     names_tx n (Call _ xs) after h k = (h.0, names_txs n xs after h.1 k)
-    names_tx n (Service _ x) after h k = names_tx n x after h k
+    names_tx n (Service _ x) after h k = (h.0, names_tx n x after h.1 k)
     names_tx n (After s x) after h k = names_ts n s (named_tx x after) h.0 (names_tx n x after h.1 k)
 
     names_txs : (n : ℕ) (xs : Txs) (after : List Named) → FineTxs n xs → Each A after → Each A (named_txs xs after)
@@ -169,7 +169,7 @@ module _ (B : Type 0) (A W : Named → Type 0) (more : (x : Named) → A x → W
     widen_stms n (stm s ss) h = (widen_ts n s h.0, widen_stms n ss h.1)
 
     pub widen_tx : (n : ℕ) (x : Tx) → FineTx B A n x → FineTx B W n x
-    widen_tx n (Const _) h = tt
+    widen_tx n (Const k) h = more (constant k) h
     widen_tx n (Address label) h = more (literal label) h
     widen_tx n (Temp i) h = more (temporary i) h
     widen_tx n FrameAddress h = tt
@@ -177,7 +177,7 @@ module _ (B : Type 0) (A W : Named → Type 0) (more : (x : Named) → A x → W
     widen_tx n (Load x) h = widen_tx n x h
     widen_tx n (LoadByte x) h = widen_tx n x h
     widen_tx n (Call label xs) h = (more (function label) h.0, widen_txs n xs h.1)
-    widen_tx n (Service _ x) h = widen_tx n x h
+    widen_tx n (Service k x) h = (more (constant k) h.0, widen_tx n x h.1)
     widen_tx n (After s x) h = (widen_ts n s h.0, widen_tx n x h.1)
 
     pub widen_txs : (n : ℕ) (xs : Txs) → FineTxs B A n xs → FineTxs B W n xs

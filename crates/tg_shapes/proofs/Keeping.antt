@@ -7,7 +7,7 @@ use Rattle.tg_frame.specs.declared.accesses.Access.{Access}
 use Rattle.tg_frame.specs.declared.accesses.Access.TheVariants.{InTemp, InFrame}
 use Rattle.tg_frame.specs.Homes.{is_slot}
 use Rattle.tg_tree.specs.Tree.{Tx, Txs, Cond, Ts, Stms, Function}
-use Rattle.tg_tree.specs.Named.{Named, function, literal, fault, temporary}
+use Rattle.tg_tree.specs.Named.{Named, function, literal, fault, temporary, constant}
 use Rattle.tg_tree.specs.Shapes.{EndsFunction}
 use Rattle.tg_translate.specs.declared.homes.Home.{Home}
 use Rattle.tg_translate.specs.declared.homes.Within.{Within}
@@ -58,6 +58,7 @@ module _ (asks : Asks) where
   Knows cs ls n (literal l) = Contains ls l
   Knows cs ls n (fault k) = k < 1048576
   Knows cs ls n (temporary i) = asks.temps → i < n
+  Knows cs ls n (constant k) = Unit {0}
 
   abbrev pub KnowsAt : TranslationState → Named → Type 0
   KnowsAt s = Knows (callee_labels s) (literal_labels s) s.frame.temps
@@ -113,6 +114,7 @@ module _ (asks : Asks) where
   know_more cs ls ds ms n m f g h (literal l) k = g l k
   know_more cs ls ds ms n m f g h (fault j) k = k
   know_more cs ls ds ms n m f g h (temporary i) k = λ t. let j = k t in omega (arith, j, h)
+  know_more cs ls ds ms n m f g h (constant j) k = tt
 
   pub knows_on : (kept : List ℕ) (s t : TranslationState) → Step kept s t → (x : Named) → KnowsAt s x → KnowsAt t x
   knows_on kept s t h x k =

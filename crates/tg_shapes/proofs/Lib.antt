@@ -1,6 +1,9 @@
 mod Examples
 pub mod Actions
 pub mod Fine
+pub mod Returning
+pub mod Spreading
+pub mod GivingBack
 pub mod Counts
 pub mod Keeping
 pub mod Wanting
@@ -20,4 +23,7 @@ pub mod Updating
 pub mod Charges
 pub mod Measured
 pub mod Bounding
+pub mod Words
+pub mod WordActions
+pub mod WordWalk
 pub mod Shaping

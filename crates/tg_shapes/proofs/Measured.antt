@@ -17,12 +17,13 @@ use Rattle.tg_tree.specs.Tree as tree
 use Rattle.tg_tree.specs.Tree.{Tx, Const, Txs, no_txs, tx, Ts, Stms, no_stms}
 use Rattle.tg_tree.specs.Forms.{nothing}
 use Rattle.tg_tree.specs.Lists.{join_txs}
+use Rattle.tg_tree.specs.Memory.{string_text}
 use Rattle.tg_translate.specs.declared.wants.Want.{Want}
 use Rattle.tg_translate.specs.declared.wants.Want.TheVariants as want
 use Rattle.tg_translate.specs.declared.homes.Within.{Within}
 use Rattle.tg_translate.specs.States.{TranslationState, Drawn, drawn, after, give}
 use Rattle.tg_translate.specs.Wants.{Made, value, done, value_of, test_of, dropped, followed}
-use Rattle.tg_translate.specs.Constructs.{HeldAll, none_held, read, make_array, negation, repeat_while, in_body, in_test, string_text}
+use Rattle.tg_translate.specs.Constructs.{HeldAll, none_held, read, make_array, negation, repeat_while, in_body, in_test}
 use Rattle.tg_translate.specs.Choices.{left_want}
 use Rattle.tg_translate.specs.Scopes.{Findings, field_number}
 use Rattle.tg_translate.specs.Purity.{assigns_nothing, inits_assign_nothing}

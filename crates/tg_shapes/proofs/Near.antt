@@ -25,7 +25,7 @@ use Rattle.tg_translate.specs.declared.wants.Want.TheVariants as want
 use Rattle.tg_translate.specs.Wants.{Made, value, done, test, truth_into, put_in, dropped, test_of, as_statement, taken_from, deliver, followed}
 use Rattle.tg_translate.specs.Constructs.{Storage, in_temp, at_address, operand, HeldAll, frame_out, place_in, own_place, read, store_at}
 use Rattle.tg_translate.specs.Constructs.{held_address, HeldPlace, held_in_temp, held_at, read_held, place_held, plus, nil_check, field_of}
-use Rattle.tg_translate.specs.Constructs.{index_check, element_of, store_field, store_fields, call_for_record, record_of, product_check, product_of}
+use Rattle.tg_translate.specs.Constructs.{index_check, element_of, store_field, store_fields, space_for_record, record_of, product_check, product_of}
 use Rattle.tg_translate.specs.Constructs.{zero_check, quotient_check, quotient_of, least_int, negation, assign_value, first_minus_one, turn_of, turns}
 use Rattle.tg_translate.specs.Constructs.{count_of, comparison}
 use Rattle.tg_translate.specs.Choices.{connected, tested, chosen}
@@ -196,8 +196,8 @@ module _ (n : ℕ) where
 
   pub record_near : (r : ℕ) (all : HeldAll) → AreStms all.before → IsMade (record_of r all)
   record_near r all h =
-      let call : Ts = Move r (call_for_record (length all.operands)) in
-      (stored_near (followed all.before call) r 0 all.operands (followed_near all.before call h (tt, tt)), tt)
+      let call : Ts = Move r (space_for_record (length all.operands)) in
+      (stored_near (followed all.before call) r 0 all.operands (followed_near all.before call h tt), tt)
 
   pub product_near : (p : ℕ) (ss : Stms) (l r : Operand) → AreStms ss → IsMade (product_of p ss (operand l) (operand r))
   product_near p ss l r h =

@@ -5,18 +5,20 @@ use Rattle.std.proofs.lemmas.List.Elements.{Contains-append_left, Contains-appen
 use Rattle.tg_syntax.specs.declared.trees.Param.{Param}
 use Rattle.tg_syntax.specs.Tree.{FunDecs, no_functions, function}
 use Rattle.tg_frame.specs.Homes.{temps_of}
-use Rattle.tg_tree.specs.Tree.{Ts, Return}
+use Rattle.tg_tree.specs.Tree.{Ts}
 use Rattle.tg_tree.specs.Shapes.{EndsFunction}
 use Rattle.tg_translate.specs.declared.homes.Within.{Within}
 use Rattle.tg_translate.specs.declared.wants.Want.{Want}
 use Rattle.tg_translate.specs.States.{TranslationState, Acts, Drawn, drawn, after}
 use Rattle.tg_translate.specs.Wants.{Made}
+use Rattle.tg_translate.specs.Returning.{given_back}
 use Rattle.tg_translate.specs.Functions.{at_of, asked, parameters, own_homes, frame_for, declare_functions, with_body, finished, finish, opened}
 use Rattle.tg_translate.specs.Functions.{result_want, inside, gives_nothing, closing, body}
 use Rattle.tg_shapes.specs.Standing.{AreApart, params_of}
 use Rattle.tg_shapes.proofs.Fine.{each_append}
+use Rattle.tg_shapes.proofs.Returning.{fine_parts, given_back_holds, given_back_ends}
 use Rattle.tg_shapes.proofs.Counts.{times, times-append, same, below, below-next}
-use Rattle.tg_shapes.proofs.Keeping.{Asks, Where, callee_labels, literal_labels, stands, bind, given, onward, Ready, Step, Yields, GoodTs, GoodMade}
+use Rattle.tg_shapes.proofs.Keeping.{Asks, Where, callee_labels, literal_labels, stands, bind, given, onward, Ready, Step, Yields, GoodTs, GoodMade, KnowsAt}
 use Rattle.tg_shapes.proofs.Keeping.{FineFunction, GoodWant, functions_on, Grows, grows_none, grows_on, grows_for}
 use Rattle.tg_shapes.proofs.Wanting as wanting
 use Rattle.tg_shapes.proofs.Scoping.{more_contained}
@@ -41,7 +43,8 @@ module _ (asks : Asks) where
       Yields asks c s (IsWhole c.loops) (closing has_result m s)
   closing_yields c s true m r h =
       bind (wanting.value_yields m r h)
-      (λ x t st r' k. given (Return x) r' (k, tt))
+      (λ x t st r' k. given (given_back x) r'
+      (given_back_holds _ _ _ _ (fine_parts asks.breaks (KnowsAt asks t) c.loops) x k, given_back_ends x))
   closing_yields c s false m r h =
       given (gives_nothing m) r
       ((wanting.dropped_good asks c.loops s m h, (tt, tt)), tt)

@@ -11,10 +11,11 @@ use Rattle.tg_frame.specs.Homes.{is_slot}
 use Rattle.tg_tree.specs.Tree.{Txs}
 use Rattle.tg_types.specs.declared.notes.Means.{Means}
 use Rattle.tg_types.specs.declared.notes.Means.TheVariants as means
+use Rattle.tg_tree.specs.Memory.{string_text}
 use Rattle.tg_translate.specs.declared.homes.Home.{Home}
 use Rattle.tg_translate.specs.declared.homes.Callee.{Callee}
 use Rattle.tg_translate.specs.States.{TranslationState}
-use Rattle.tg_translate.specs.Constructs.{Storage, string_text}
+use Rattle.tg_translate.specs.Constructs.{Storage}
 use Rattle.tg_translate.specs.Scopes.{frame_at, nowhere, no_value, home_place, variable_place, routine_of, call_declared, call, literal}
 use Rattle.tg_shapes.specs.Standing.{IsInReach}
 use Rattle.tg_shapes.proofs.Counts.{times-append, same, same_not, below-next, contained_counts, counted_contains}

@@ -10,10 +10,9 @@ use Rattle.std.proofs.lemmas.List.Elements.{All-contains, Contains-append_left, 
 use Rattle.std.proofs.lemmas.Bool.{or_left, or_right}
 use Rattle.std.proofs.lemmas.Bool.Decides.{nat_tests}
 use Rattle.std.proofs.lemmas.List.Sums.{AllPass-from_list_all, sum_by-cons}
-use Rattle.tg_syntax.specs.Plain.{plain}
 use Rattle.tg_syntax.specs.Beginnings.{beginnings}
 use Rattle.tg_tree.specs.Tree.{Ts, Function}
-use Rattle.tg_tree.specs.Named.{Named, function, literal, fault, temporary}
+use Rattle.tg_tree.specs.Named.{Named, function, literal, fault, temporary, constant}
 use Rattle.tg_escape.specs.Uses.{Use, uses_of}
 use Rattle.tg_escape.specs.Escaping.{escapes_by, escapes_of}
 use Rattle.tg_meaning.specs.declared.standards.Standard.{Standard}
@@ -24,7 +23,7 @@ use Rattle.tg_types.specs.Laws.{CheckedHasType, NotesAreFound}
 use Rattle.tg_types.specs.Scopes.{Binding, variable_at, standard_one, standard_of, standard_bindings, entry, outermost}
 use Rattle.tg_runtime.specs.Laws.{AreRoutines, is_own, LabelsInOrder, AllAreRoutines}
 use Rattle.tg_runtime.specs.Routines.{runtime}
-use Rattle.tg_translate.specs.Constructs.{string_text}
+use Rattle.tg_tree.specs.Memory.{string_text}
 use Rattle.tg_translate.specs.Scopes.{found}
 use Rattle.tg_translate.specs.Translate.{translated}
 use Rattle.tg_shapes.specs.Laws.{names, ProgramsAreLinked, LabelsAreAbove, BodiesAreClosed, CheckedBodiesAreClosed, TemporariesAreDrawn}
@@ -50,6 +49,7 @@ own_is n (function l) e = cc
 own_is n (literal l) e = cc
 own_is n (fault j) e = (λ l i. cc, λ l i. cc, λ k i. let h : j ≡ k = cc in subst (λ m. m < 1048576) h (fault_below j e))
 own_is n (temporary j) e = (λ l i. cc, λ l i. cc, λ k i. cc)
+own_is n (constant j) e = (λ l i. cc, λ l i. cc, λ k i. cc)
 
 routines_own : (fs : List (Function Ts)) → AreRoutines fs → (f : Function Ts) → Contains fs f → (x : Named) → Contains
     (names f.body) x → NamesOwn x
@@ -77,8 +77,8 @@ bodies_are_closed findings e f h =
 pub checked_bodies_are_closed : CheckedHasType → CheckedBodiesAreClosed
 checked_bodies_are_closed typed p escapes links f a =
     let d = typed p a in
-    bodies_are_closed (found p.notes escapes links) (plain p.program.body) f
-    (breaks_stand d.shapes p.notes (plain p.program.body) (outermost p.names) d.type false refl d.has)
+    bodies_are_closed (found p.notes escapes links) p.body f
+    (breaks_stand d.shapes p.notes p.body (outermost p.names) d.type false refl d.has)
 
 pub temporaries_are_drawn : TemporariesAreDrawn
 temporaries_are_drawn findings e f h =
@@ -124,7 +124,7 @@ each_shown (u ∷ us) P h = (
 
 pub checked_reaches : CheckedHasType → NotesAreFound → CheckedReaches
 checked_reaches typed noted p links a =
-    let body = plain p.program.body in
+    let body = p.body in
     let d = typed p a in
     let set : FinSet nat_cmp = from_list (escapes_of body) in
     (reaches d.shapes p.notes (findings_in p links) (λ at m s. (noted p a at m).0 s) body (outermost p.names) d.type
@@ -140,7 +140,7 @@ checked_reaches typed noted p links a =
 
 pub checked_temporaries_are_drawn : CheckedHasType → NotesAreFound → CheckedTemporariesAreDrawn
 checked_temporaries_are_drawn typed noted p links f a =
-    temporaries_are_drawn (findings_in p links) (plain p.program.body) f (checked_reaches typed noted p links a)
+    temporaries_are_drawn (findings_in p links) p.body f (checked_reaches typed noted p links a)
 
 pub literals_are_strings : LiteralsAreStrings
 literals_are_strings findings e = literals_are findings e

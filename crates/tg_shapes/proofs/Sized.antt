@@ -15,8 +15,10 @@ use Rattle.tg_types.specs.declared.notes.Means.TheVariants as means
 use Rattle.tg_tree.specs.declared.operators.Bin.{Bin}
 use Rattle.tg_tree.specs.declared.operators.Bin.TheVariants as bin
 use Rattle.tg_tree.specs.Tree as tree
-use Rattle.tg_tree.specs.Tree.{Tx, Const, Temp, FrameAddress, After, Txs, no_txs, tx, Cond, Ts, Move, Return, Stms, no_stms, stm}
+use Rattle.tg_tree.specs.Tree.{Tx, Const, Temp, FrameAddress, After, Txs, no_txs, tx, Cond, Ts, Move, Stms, no_stms, stm}
 use Rattle.tg_tree.specs.Forms.{nothing}
+use Rattle.tg_tree.specs.Units.{Trees}
+use Rattle.tg_tree.specs.Sizes.{statement_length, in_trees, statement_room}
 use Rattle.tg_tree.specs.Lists.{join_txs}
 use Rattle.tg_translate.specs.declared.homes.Within.{Within}
 use Rattle.tg_translate.specs.declared.operands.Operand.TheVariants.{Number, Kept}
@@ -36,13 +38,16 @@ use Rattle.tg_translate.specs.Scopes.{Findings, no_value, nowhere, home_place, v
 use Rattle.tg_translate.specs.Scopes.{call_declared, call, declare_variable}
 use Rattle.tg_translate.specs.Purity.{assigns_nothing, inits_assign_nothing}
 use Rattle.tg_translate.specs.Updates.{begins_with}
+use Rattle.tg_translate.specs.Returning.{given_back}
 use Rattle.tg_translate.specs.Functions.{at_of, gives_nothing, closing, declare_functions}
 use Rattle.tg_translate.specs.Translate.{connective, with_left, chosen_arm, choice, is_conjunction, assignment, declaration_of, Begun, expression}
 use Rattle.tg_translate.specs.Translate.{behind_read, locate, values, fields, sequence, declarations, bodies}
 use Rattle.tg_translate.specs.Constructs as constructs
-use Rattle.tg_shapes.specs.Depths.{tx_depth, txs_depth, cond_depth, ts_depth, stms_depth}
+use Rattle.tg_shapes.specs.Depths as depths
 use Rattle.tg_shapes.proofs.Actions.{answer}
-use Rattle.tg_shapes.proofs.Sizing.{tx_length, tx_room, cond_length, cond_room, ts_length, ts_room, stms_length, stms_room, most_arguments, txs_room}
+use Rattle.tg_shapes.proofs.Spreading.{tx_length, tx_room, cond_length, cond_room, ts_length, ts_room, stms_length, stms_room, txs_room}
+use Rattle.tg_shapes.proofs.Spreading.{tx_depth, txs_depth, cond_depth, ts_depth, stms_depth, less_ts, given_back_most}
+use Rattle.tg_shapes.proofs.Sizing.{most_arguments}
 use Rattle.tg_shapes.proofs.Sizing.{made_length, made_room, made_depth, place_length, place_room, place_depth, held_length, held_room, followed_size}
 use Rattle.tg_shapes.proofs.Sizing.{joined_size, put_size, dropped_size, test_size, statement_size, deliver_size, behind_size, tested_size}
 use Rattle.tg_shapes.proofs.Sizing.{chosen_size, own_place_size, home_size, read_size, store_size, operand_size, read_held_size, field_size}
@@ -85,7 +90,8 @@ abbrev pub Paid : ℕ → Made → Type 0
 Paid n m = Most (made_length m + 6) (made_room m + 2) (made_depth m) (145 * n) (201 * n) (8 * n + 60)
 
 abbrev pub SmallBody : ℕ → Ts → Type 0
-SmallBody n s = Most (ts_length s) (ts_room s) (ts_depth s) (145 * n + 12) (201 * n) (8 * n + 62)
+SmallBody n s =
+    Most (statement_length Trees s) (statement_room in_trees s) (depths.ts_depth s) (145 * n + 12) (201 * n) (8 * n + 62)
 
 abbrev PaidPlace : ℕ → Storage → Type 0
 PaidPlace n p = Most (place_length p) (place_room p) (place_depth p) (145 * n) (201 * n) (8 * n + 60)
@@ -168,9 +174,9 @@ paid_next n direct all x s h =
 
 abbrev Added : (length room : ℕ) (x y : Tx) → Made → Type 0
 Added k r x y m = Most (made_length m) (made_room m) (made_depth m) (tx_length x + (tx_length y + k)) (tx_room x + (tx_room y + r))
-    (max (tx_depth x) (tx_depth y) + 6)
+    (max (tx_depth x) (tx_depth y) + 7)
 
-product_added : (direct : Bool) (x y : Tx) (s : TranslationState) → Gives (Added 56 50 x y) (product direct x y s)
+product_added : (direct : Bool) (x y : Tx) (s : TranslationState) → Gives (Added 88 52 x y) (product direct x y s)
 product_added direct x y s =
     bind (hold_size direct no_stms x s) λ l s h. bind (hold_size true l.before y s) λ r s k. bind (anything (fresh s)) λ p s u.
     given s (product_of p r.before (operand l.operand) (operand r.operand))
@@ -179,7 +185,7 @@ product_added direct x y s =
     let b = operand_size r.operand in
     (omega (arith, i.0, h.0, k.0), omega (arith, i.1, h.1, k.1, a.1, b.1), omega (arith, i.2, h.2, k.2)))
 
-checked_added : (direct : Bool) (x y : Tx) (s : TranslationState) → Gives (Added 56 50 x y) (checked_quotient direct x y s)
+checked_added : (direct : Bool) (x y : Tx) (s : TranslationState) → Gives (Added 88 52 x y) (checked_quotient direct x y s)
 checked_added direct x y s =
     bind (hold_size direct no_stms x s) λ l s h. bind (hold_size true l.before y s) λ r s k.
     given s (quotient_of r.before (operand l.operand) (operand r.operand))
@@ -189,20 +195,20 @@ checked_added direct x y s =
     (omega (arith, i.0, h.0, k.0, b.0), omega (arith, i.1, h.1, k.1, a.1, b.1), omega (arith, i.2, h.2, k.2)))
 
 by_number : (direct : Bool) (x : Tx) (k : ℕ) (b : Bool) (s : TranslationState) →
-    Gives (Added 56 50 x (Const k)) ((if b then checked_quotient direct x (Const k) else give (value (tree.Binary bin.Div x (Const k)))) s)
+    Gives (Added 88 52 x (Const k)) ((if b then checked_quotient direct x (Const k) else give (value (tree.Binary bin.Div x (Const k)))) s)
 by_number direct x k true s = checked_added direct x (Const k) s
 by_number direct x k false s =
     given s (value (tree.Binary bin.Div x (Const k))) (let h = divide_size x (Const k) in (omega (arith, h.0), omega (arith, h.1), omega (arith, h.2)))
 
-quotient_added : (direct : Bool) (x y : Tx) (s : TranslationState) → Gives (Added 56 50 x y) (quotient direct x y s)
+quotient_added : (direct : Bool) (x y : Tx) (s : TranslationState) → Gives (Added 88 52 x y) (quotient direct x y s)
 quotient_added direct x (Const k) s = by_number direct x k (k == 0 || k == minus_one) s
 quotient_added direct x y s = checked_added direct x y s
 
-compared : (o : Op) (of_strings : Bool) (x y : Tx) (s : TranslationState) → Gives (Added 56 50 x y) (give (test (comparison o of_strings x y)) s)
+compared : (o : Op) (of_strings : Bool) (x y : Tx) (s : TranslationState) → Gives (Added 88 52 x y) (give (test (comparison o of_strings x y)) s)
 compared o of_strings x y s =
     given s (test (comparison o of_strings x y)) (let h = comparison_size o of_strings x y in (omega (arith, h.0), omega (arith, h.1), omega (arith, h.2)))
 
-operation_added : (o : Op) (of_strings direct : Bool) (x y : Tx) (s : TranslationState) → Gives (Added 56 50 x y) (operation o of_strings direct x y s)
+operation_added : (o : Op) (of_strings direct : Bool) (x y : Tx) (s : TranslationState) → Gives (Added 88 52 x y) (operation o of_strings direct x y s)
 operation_added op.Plus of_strings direct x y s =
     given s (value (tree.Binary bin.AddTrap x y)) (let h = binary_size x y in (omega (arith, h.0), omega arith, omega arith))
 operation_added op.Minus of_strings direct x y s =
@@ -400,8 +406,11 @@ paid_count n m k home x y turn s h i j =
     given s (count_of r.before home l.operand r.operand turn)
     (let e = count_size r.before home l.operand r.operand turn in
     let p = operand_size l.operand in
-    let q = operand_size r.operand in
-    (omega (arith, h.0, i.0, j.0, e.0, a.0, b.0, p.0), omega (arith, h.1, i.1, j.1, e.1, a.1, b.1, p.1, q.1), omega (arith, h.2, i.2, j.2, e.2, a.2, b.2)))
+    let q = operand_size r.operand in (
+      omega (arith, h.0, i.0, j.0, e.0, a.0, b.0, p.0),
+      omega (arith, h.1, i.1, j.1, e.1, a.1, b.1, p.1, q.1),
+      omega (arith, h.0, h.2, i.2, j.2, e.2, a.2, b.2),
+    ))
 
 module _ (findings : Findings) where
   mutual
@@ -513,7 +522,10 @@ module _ (findings : Findings) where
       Gives (SmallBody (size e)) (after (expression findings e w c s) (closing has_result))
   body_size e w true c s l =
       bind (walk e w c s l) λ m s h. bind (value_size m s) λ x s k.
-      given s (Return x) (omega (arith, h.0, k.0), omega (arith, h.1, k.1), omega (arith, h.2, k.2))
+      given s (given_back x)
+      (let g = given_back_most x in (omega (arith, g.0, h.0, k.0), omega (arith, g.1, h.1, k.1), omega (arith, g.2, h.2, k.2)))
   body_size e w false c s l =
       bind (walk e w c s l) λ m s h. given s (gives_nothing m)
-      (let k = dropped_size m in (omega (arith, h.0, k.0), omega (arith, h.1, k.1), omega (arith, h.2, k.2)))
+      (let k = dropped_size m in
+      let g = less_ts (dropped m) in
+      (omega (arith, g.0, h.0, k.0), omega (arith, g.1, h.1, k.1), omega (arith, g.2, h.2, k.2)))

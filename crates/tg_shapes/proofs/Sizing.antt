@@ -15,8 +15,7 @@ use Rattle.tg_tree.specs.Forms.{when}
 use Rattle.tg_tree.specs.Lists.{join_txs}
 use Rattle.tg_tree.specs.Units.{Trees, lifted_units, joined_units, operator_units}
 use Rattle.tg_tree.specs.Shapes.{is_flat, are_flat, is_flat_condition}
-use Rattle.tg_tree.specs.Sizes.{expression_length, arguments_length, condition_length, statement_length, statements_length, in_trees, shift_room}
-use Rattle.tg_tree.specs.Sizes.{expression_room, arguments_room, condition_room, statement_room, statements_room}
+use Rattle.tg_tree.specs.Sizes.{in_trees, shift_room}
 use Rattle.tg_translate.specs.declared.homes.Home.{Home}
 use Rattle.tg_translate.specs.declared.homes.Callee.{Callee}
 use Rattle.tg_translate.specs.declared.homes.Within.{Within}
@@ -29,63 +28,35 @@ use Rattle.tg_translate.specs.declared.wants.Want.TheVariants as want
 use Rattle.tg_translate.specs.Wants.{Made, value, done, test, put_in, dropped, test_of, as_statement, taken_from, deliver, followed, done_behind}
 use Rattle.tg_translate.specs.Constructs.{Storage, in_temp, at_address, operand, frame_out, place_in, own_place, read, store_at, held_address}
 use Rattle.tg_translate.specs.Constructs.{HeldPlace, held_in_temp, held_at, read_held, plus, nil_check, field_of, index_check, element, element_of}
-use Rattle.tg_translate.specs.Constructs.{call_routine, store_field, store_fields, call_for_record, record_of, HeldAll, product_check, product_of}
+use Rattle.tg_translate.specs.Constructs.{call_routine, store_field, store_fields, space_for_record, record_of, HeldAll, product_check, product_of}
 use Rattle.tg_translate.specs.Constructs.{zero_check, quotient_check, quotient_of, least_int, negation, make_array, turn_of, turns, count_of}
 use Rattle.tg_translate.specs.Constructs.{comparison, repeat_while}
 use Rattle.tg_translate.specs.Choices.{connected, tested, chosen}
 use Rattle.tg_translate.specs.Scopes.{frame_at, home_place, call_declared}
-use Rattle.tg_shapes.specs.Depths.{tx_depth, txs_depth, cond_depth, ts_depth, stms_depth}
-
--- Short names: lengths and rooms of trees.
-
-abbrev pub tx_length : Tx → ℕ
-tx_length x = expression_length Trees x
-
-abbrev pub tx_room : Tx → ℕ
-tx_room x = expression_room in_trees x
-
-abbrev pub cond_length : Cond → ℕ
-cond_length c = condition_length Trees c
-
-abbrev pub cond_room : Cond → ℕ
-cond_room c = condition_room in_trees c
-
-abbrev pub ts_length : Ts → ℕ
-ts_length s = statement_length Trees s
-
-abbrev pub ts_room : Ts → ℕ
-ts_room s = statement_room in_trees s
-
-abbrev pub stms_length : Stms → ℕ
-stms_length ss = statements_length Trees ss
-
-abbrev pub stms_room : Stms → ℕ
-stms_room ss = statements_room in_trees ss
+use Rattle.tg_shapes.proofs.Spreading.{tx_length, txs_length, cond_length, ts_length, stms_length, tx_room, txs_room, cond_room, ts_room, stms_room}
+use Rattle.tg_shapes.proofs.Spreading.{tx_depth, txs_depth, cond_depth, ts_depth, stms_depth}
 
 -- arguments, each with what it may have to be lifted
 abbrev pub most_arguments : Txs → ℕ
 most_arguments no_txs = 0
 most_arguments (tx x xs) = 6 + (tx_length x + most_arguments xs)
 
-abbrev pub txs_room : Txs → ℕ
-txs_room xs = arguments_room in_trees xs
-
 -- as a value, of what is made
 abbrev pub made_length : Made → ℕ
 made_length (value x) = tx_length x
 made_length (done s) = ts_length s + 2
-made_length (test c) = cond_length c + 12
+made_length (test c) = cond_length c + 28
 
 abbrev pub made_room : Made → ℕ
 made_room (value x) = tx_room x
 made_room (done s) = ts_room s + 2
-made_room (test c) = cond_room c + 5
+made_room (test c) = cond_room c + 6
 
 -- or one that is a little deeper
 abbrev pub made_depth : Made → ℕ
 made_depth (value x) = tx_depth x
 made_depth (done s) = ts_depth s + 2
-made_depth (test c) = cond_depth c + 4
+made_depth (test c) = cond_depth c + 5
 
 abbrev pub place_depth : Storage → ℕ
 place_depth (in_temp t) = 0
@@ -122,7 +93,7 @@ pub joined_size : (xs : Txs) (x : Tx) →
 joined_size no_txs x = (omega arith, omega arith, omega arith)
 joined_size (tx y xs) x = let h = joined_size xs x in (omega (arith, h.0), omega (arith, h.1), omega (arith, h.2))
 
-arguments_at_most : (xs : Txs) → arguments_length Trees xs ≤ most_arguments xs
+arguments_at_most : (xs : Txs) → txs_length xs ≤ most_arguments xs
 arguments_at_most no_txs = omega arith
 arguments_at_most (tx x xs) = let h = arguments_at_most xs in let k = lifted_at_most (are_flat xs) in omega (arith, h, k)
 
@@ -184,16 +155,16 @@ connected_size op.And c d = let h = joined_at_most (is_flat_condition d) in (ome
 connected_size o c d = let h = joined_at_most (is_flat_condition d) in (omega (arith, h), omega arith, omega arith)
 
 pub tested_size : (o : Op) (c : Cond) (m : Made) →
-    (made_length (tested o c m) ≤ cond_length c + (made_length m + 49)) × (made_room (tested o c m) ≤ cond_room c + (made_room m + 19)) ×
-    (made_depth (tested o c m) ≤ max (cond_depth c) (made_depth m + 2) + 5)
+    (made_length (tested o c m) ≤ cond_length c + (made_length m + 65)) × (made_room (tested o c m) ≤ cond_room c + (made_room m + 20)) ×
+    (made_depth (tested o c m) ≤ max (cond_depth c) (made_depth m + 2) + 6)
 tested_size o c m =
     let h = test_size m in
     let k = connected_size o c (test_of m) in
     (omega (arith, h.0, k.0), omega (arith, h.1, k.1), omega (arith, h.2, k.2))
 
 pub chosen_size : (o : Op) (w : Want) (c : Cond) (m : Made) →
-    (ts_length (chosen o w c m) ≤ cond_length c + (made_length m + 10)) × (ts_room (chosen o w c m) ≤ cond_room c + (made_room m + 2)) ×
-    (ts_depth (chosen o w c m) ≤ max (cond_depth c) (made_depth m) + 3)
+    (ts_length (chosen o w c m) ≤ cond_length c + (made_length m + 26)) × (ts_room (chosen o w c m) ≤ cond_room c + (made_room m + 3)) ×
+    (ts_depth (chosen o w c m) ≤ max (cond_depth c) (made_depth m) + 4)
 chosen_size op.And w c m =
     let h = statement_size w m in
     let k = statement_size w (value (Const 0)) in
@@ -279,16 +250,16 @@ plus_size : (o : Operand) (k : ℕ) → (tx_length (plus (operand o) k) ≤ tx_l
 plus_size o zero = let h = operand_size o in (omega arith, omega arith, omega (arith, h.2))
 plus_size o (suc k) = let h = operand_size o in (omega arith, omega arith, omega (arith, h.2))
 
-nil_check_size : (r : Operand) → (ts_length (nil_check (operand r)) ≤ tx_length (operand r) + 13) ×
-    (ts_room (nil_check (operand r)) ≤ tx_room (operand r) + 8) ×
-    (ts_depth (nil_check (operand r)) ≤ 3)
+nil_check_size : (r : Operand) → (ts_length (nil_check (operand r)) ≤ tx_length (operand r) + 29) ×
+    (ts_room (nil_check (operand r)) ≤ tx_room (operand r) + 9) ×
+    (ts_depth (nil_check (operand r)) ≤ 4)
 nil_check_size (Number k) = (omega arith, omega arith, omega arith)
 nil_check_size (Kept t) = (omega arith, omega arith, omega arith)
 
 pub field_size : (k : ℕ) (ss : Stms) (r : Operand) →
-    (place_length (field_of k ss (operand r)) ≤ stms_length ss + (2 * tx_length (operand r) + 16)) ×
-    (place_room (field_of k ss (operand r)) ≤ stms_room ss + (2 * tx_room (operand r) + 12)) ×
-    (place_depth (field_of k ss (operand r)) ≤ max (stms_depth ss) 3)
+    (place_length (field_of k ss (operand r)) ≤ stms_length ss + (2 * tx_length (operand r) + 32)) ×
+    (place_room (field_of k ss (operand r)) ≤ stms_room ss + (2 * tx_room (operand r) + 13)) ×
+    (place_depth (field_of k ss (operand r)) ≤ max (stms_depth ss) 4)
 field_size k ss r =
     let h = nil_check_size r in
     let i = followed_size ss (nil_check (operand r)) in
@@ -296,9 +267,9 @@ field_size k ss r =
     (omega (arith, h.0, i.0, j.0), omega (arith, h.1, i.1, j.1), omega (arith, h.2, i.2, j.2))
 
 index_check_size : (a i : Operand) →
-    (ts_length (index_check (operand a) (operand i)) ≤ tx_length (operand a) + (tx_length (operand i) + 12)) ×
-    (ts_room (index_check (operand a) (operand i)) ≤ tx_room (operand a) + (tx_room (operand i) + 8)) ×
-    (ts_depth (index_check (operand a) (operand i)) ≤ 4)
+    (ts_length (index_check (operand a) (operand i)) ≤ tx_length (operand a) + (tx_length (operand i) + 28)) ×
+    (ts_room (index_check (operand a) (operand i)) ≤ tx_room (operand a) + (tx_room (operand i) + 9)) ×
+    (ts_depth (index_check (operand a) (operand i)) ≤ 5)
 index_check_size (Number k) (Number l) = (omega arith, omega arith, omega arith)
 index_check_size (Number k) (Kept t) = (omega arith, omega arith, omega arith)
 index_check_size (Kept t) (Number l) = (omega arith, omega arith, omega arith)
@@ -314,9 +285,9 @@ address_size (Kept t) (Number l) = (omega arith, omega arith, omega arith)
 address_size (Kept t) (Kept u) = (omega arith, omega arith, omega arith)
 
 pub element_size : (ss : Stms) (a i : Operand) →
-    (place_length (element_of ss (operand a) (operand i)) ≤ stms_length ss + (2 * tx_length (operand a) + (2 * tx_length (operand i) + 19))) ×
-    (place_room (element_of ss (operand a) (operand i)) ≤ stms_room ss + (2 * tx_room (operand a) + (2 * tx_room (operand i) + 20))) ×
-    (place_depth (element_of ss (operand a) (operand i)) ≤ max (stms_depth ss) 4)
+    (place_length (element_of ss (operand a) (operand i)) ≤ stms_length ss + (2 * tx_length (operand a) + (2 * tx_length (operand i) + 35))) ×
+    (place_room (element_of ss (operand a) (operand i)) ≤ stms_room ss + (2 * tx_room (operand a) + (2 * tx_room (operand i) + 21))) ×
+    (place_depth (element_of ss (operand a) (operand i)) ≤ max (stms_depth ss) 5)
 element_size ss a i =
     let h = index_check_size a i in
     let j = followed_size ss (index_check (operand a) (operand i)) in
@@ -350,7 +321,7 @@ held_room all = stms_room all.before + 7 * length all.operands
 pub record_size : (r : ℕ) (all : HeldAll) → (made_length (record_of r all) ≤ held_length all + 12) × (made_room (record_of r all) ≤ held_room all + 8) ×
     (made_depth (record_of r all) ≤ max (stms_depth all.before) 3 + 2)
 record_size r all =
-    let call : Ts = Move r (call_for_record (length all.operands)) in
+    let call : Ts = Move r (space_for_record (length all.operands)) in
     let h = followed_size all.before call in
     let k = stored_size (followed all.before call) r 0 all.operands in
     (omega (arith, h.0, k.0), omega (arith, h.1, k.1), omega (arith, h.2, k.2))
@@ -376,9 +347,9 @@ pub binary_size : (x y : Tx) →
 binary_size x y = let h = lifted_at_most (is_flat y) in (omega (arith, h), omega (arith, h))
 
 product_check_size : (p : ℕ) (l r : Operand) →
-    (ts_length (product_check (operand l) (operand r) (Temp p)) ≤ tx_length (operand l) + (tx_length (operand r) + 18)) ×
-    (ts_room (product_check (operand l) (operand r) (Temp p)) ≤ tx_room (operand l) + (tx_room (operand r) + 21)) ×
-    (ts_depth (product_check (operand l) (operand r) (Temp p)) ≤ 4)
+    (ts_length (product_check (operand l) (operand r) (Temp p)) ≤ tx_length (operand l) + (tx_length (operand r) + 34)) ×
+    (ts_room (product_check (operand l) (operand r) (Temp p)) ≤ tx_room (operand l) + (tx_room (operand r) + 22)) ×
+    (ts_depth (product_check (operand l) (operand r) (Temp p)) ≤ 5)
 product_check_size p (Number k) (Number l) = (omega arith, omega arith, omega arith)
 product_check_size p (Number k) (Kept t) = (omega arith, omega arith, omega arith)
 product_check_size p (Kept t) (Number l) = (omega arith, omega arith, omega arith)
@@ -394,9 +365,9 @@ factors_size p (Kept t) (Number l) = (omega arith, omega arith, omega arith)
 factors_size p (Kept t) (Kept u) = (omega arith, omega arith, omega arith)
 
 pub product_size : (p : ℕ) (ss : Stms) (l r : Operand) →
-    (made_length (product_of p ss (operand l) (operand r)) ≤ stms_length ss + (2 * tx_length (operand l) + (2 * tx_length (operand r) + 22))) ×
-    (made_room (product_of p ss (operand l) (operand r)) ≤ stms_room ss + (2 * tx_room (operand l) + (2 * tx_room (operand r) + 24))) ×
-    (made_depth (product_of p ss (operand l) (operand r)) ≤ max (stms_depth ss) 4 + 2)
+    (made_length (product_of p ss (operand l) (operand r)) ≤ stms_length ss + (2 * tx_length (operand l) + (2 * tx_length (operand r) + 38))) ×
+    (made_room (product_of p ss (operand l) (operand r)) ≤ stms_room ss + (2 * tx_room (operand l) + (2 * tx_room (operand r) + 25))) ×
+    (made_depth (product_of p ss (operand l) (operand r)) ≤ max (stms_depth ss) 5 + 2)
 product_size p ss l r =
     let multiply : Ts = Move p (Binary bin.Mul (operand l) (operand r)) in
     let h = factors_size p l r in
@@ -405,16 +376,16 @@ product_size p ss l r =
     let k = followed_size (followed ss multiply) (product_check (operand l) (operand r) (Temp p)) in
     (omega (arith, h.0, i.0, j.0, k.0), omega (arith, h.1, i.1, j.1, k.1), omega (arith, h.2, i.2, j.2, k.2))
 
-zero_check_size : (r : Operand) → (ts_length (zero_check (operand r)) ≤ tx_length (operand r) + 13) ×
-    (ts_room (zero_check (operand r)) ≤ tx_room (operand r) + 8) ×
-    (ts_depth (zero_check (operand r)) ≤ 3)
+zero_check_size : (r : Operand) → (ts_length (zero_check (operand r)) ≤ tx_length (operand r) + 29) ×
+    (ts_room (zero_check (operand r)) ≤ tx_room (operand r) + 9) ×
+    (ts_depth (zero_check (operand r)) ≤ 4)
 zero_check_size (Number k) = (omega arith, omega arith, omega arith)
 zero_check_size (Kept t) = (omega arith, omega arith, omega arith)
 
 quotient_check_size : (l r : Operand) →
-    (ts_length (quotient_check (operand l) (operand r)) ≤ tx_length (operand l) + (tx_length (operand r) + 35)) ×
-    (ts_room (quotient_check (operand l) (operand r)) ≤ tx_room (operand l) + (tx_room (operand r) + 28)) ×
-    (ts_depth (quotient_check (operand l) (operand r)) ≤ 4)
+    (ts_length (quotient_check (operand l) (operand r)) ≤ tx_length (operand l) + (tx_length (operand r) + 51)) ×
+    (ts_room (quotient_check (operand l) (operand r)) ≤ tx_room (operand l) + (tx_room (operand r) + 29)) ×
+    (ts_depth (quotient_check (operand l) (operand r)) ≤ 5)
 quotient_check_size (Number k) (Number l) = (omega arith, omega arith, omega arith)
 quotient_check_size (Number k) (Kept t) = (omega arith, omega arith, omega arith)
 quotient_check_size (Kept t) (Number l) = (omega arith, omega arith, omega arith)
@@ -435,9 +406,9 @@ divided_size (Kept t) (Number l) = (omega arith, omega arith, omega arith)
 divided_size (Kept t) (Kept u) = (omega arith, omega arith, omega arith)
 
 pub quotient_size : (ss : Stms) (l r : Operand) →
-    (made_length (quotient_of ss (operand l) (operand r)) ≤ stms_length ss + (2 * tx_length (operand l) + (3 * tx_length (operand r) + 50))) ×
-    (made_room (quotient_of ss (operand l) (operand r)) ≤ stms_room ss + (2 * tx_room (operand l) + (3 * tx_room (operand r) + 38))) ×
-    (made_depth (quotient_of ss (operand l) (operand r)) ≤ max (stms_depth ss) 4 + 2)
+    (made_length (quotient_of ss (operand l) (operand r)) ≤ stms_length ss + (2 * tx_length (operand l) + (3 * tx_length (operand r) + 82))) ×
+    (made_room (quotient_of ss (operand l) (operand r)) ≤ stms_room ss + (2 * tx_room (operand l) + (3 * tx_room (operand r) + 40))) ×
+    (made_depth (quotient_of ss (operand l) (operand r)) ≤ max (stms_depth ss) 5 + 2)
 quotient_size ss l r =
     let h = zero_check_size r in
     let i = quotient_check_size l r in
@@ -464,24 +435,24 @@ negation_size x = minus_size x
 
 -- Loops.
 
-pub while_size : (c : Cond) (s : Ts) → (ts_length (repeat_while c s) ≤ cond_length c + (ts_length s + 11)) ×
-    (ts_room (repeat_while c s) ≤ cond_room c + ts_room s) ×
-    (ts_depth (repeat_while c s) ≤ max (cond_depth c) (ts_depth s) + 3)
+pub while_size : (c : Cond) (s : Ts) → (ts_length (repeat_while c s) ≤ cond_length c + (ts_length s + 27)) ×
+    (ts_room (repeat_while c s) ≤ cond_room c + (ts_room s + 1)) ×
+    (ts_depth (repeat_while c s) ≤ max (cond_depth c) (ts_depth s) + 4)
 while_size c s = (omega arith, omega arith, omega arith)
 
 turn_size : (i : Access) (high : Operand) (turn : Ts) →
-    (ts_length (turn_of i high turn) ≤ ts_length turn + (tx_length (operand high) + 29)) ×
-    (ts_room (turn_of i high turn) ≤ ts_room turn + (tx_room (operand high) + 32)) ×
-    (ts_depth (turn_of i high turn) ≤ max (ts_depth turn) 5 + 1)
+    (ts_length (turn_of i high turn) ≤ ts_length turn + (tx_length (operand high) + 45)) ×
+    (ts_room (turn_of i high turn) ≤ ts_room turn + (tx_room (operand high) + 33)) ×
+    (ts_depth (turn_of i high turn) ≤ max (ts_depth turn) 6 + 1)
 turn_size (InTemp t) (Number k) turn = (omega arith, omega arith, omega arith)
 turn_size (InTemp t) (Kept u) turn = (omega arith, omega arith, omega arith)
 turn_size (InFrame s) (Number k) turn = (omega arith, omega arith, omega arith)
 turn_size (InFrame s) (Kept u) turn = (omega arith, omega arith, omega arith)
 
 turns_size : (i : Access) (low high : Operand) (turn : Ts) →
-    (ts_length (turns i low high turn) ≤ ts_length turn + (tx_length (operand high) + 41)) ×
-    (ts_room (turns i low high turn) ≤ ts_room turn + (tx_room (operand high) + 43)) ×
-    (ts_depth (turns i low high turn) ≤ max (ts_depth turn) 5 + 3)
+    (ts_length (turns i low high turn) ≤ ts_length turn + (tx_length (operand high) + 57)) ×
+    (ts_room (turns i low high turn) ≤ ts_room turn + (tx_room (operand high) + 44)) ×
+    (ts_depth (turns i low high turn) ≤ max (ts_depth turn) 6 + 3)
 turns_size (InTemp t) (Number k) high turn = let h = turn_size (InTemp t) high turn in (omega (arith, h.0), omega (arith, h.1), omega (arith, h.2))
 turns_size (InTemp t) (Kept u) high turn = let h = turn_size (InTemp t) high turn in (omega (arith, h.0), omega (arith, h.1), omega (arith, h.2))
 turns_size (InFrame s) (Number k) high turn = let h = turn_size (InFrame s) high turn in (omega (arith, h.0), omega (arith, h.1), omega (arith, h.2))
@@ -495,9 +466,9 @@ bounds_size (Number k) high = let h = operand_size high in (omega arith, omega a
 bounds_size (Kept t) high = let h = operand_size high in (omega arith, omega arith, omega (arith, h.2))
 
 pub count_size : (ss : Stms) (i : Access) (low high : Operand) (turn : Ts) →
-    (ts_length (count_of ss i low high turn) ≤ stms_length ss + (ts_length turn + (2 * tx_length (operand high) + (tx_length (operand low) + 49)))) ×
-    (ts_room (count_of ss i low high turn) ≤ stms_room ss + (ts_room turn + (2 * tx_room (operand high) + (tx_room (operand low) + 49)))) ×
-    (ts_depth (count_of ss i low high turn) ≤ max (stms_depth ss) (max (ts_depth turn) 5 + 4) + 1)
+    (ts_length (count_of ss i low high turn) ≤ stms_length ss + (ts_length turn + (2 * tx_length (operand high) + (tx_length (operand low) + 81)))) ×
+    (ts_room (count_of ss i low high turn) ≤ stms_room ss + (ts_room turn + (2 * tx_room (operand high) + (tx_room (operand low) + 51)))) ×
+    (ts_depth (count_of ss i low high turn) ≤ max (stms_depth ss) (max (ts_depth turn) 6 + 5) + 1)
 count_size ss i low high turn =
     let looping : Ts = when (Compare rel.GreaterEqual (operand high) (operand low)) (turns i low high turn) in
     let h = bounds_size low high in

@@ -5,7 +5,7 @@ use Rattle.std.specs.List.{AllZip}
 use Rattle.std.proofs.lemmas.List.{map-append}
 use Rattle.tg_syntax.specs.Functions.{Measures}
 use Rattle.tg_tree.specs.Tree.{Ts, Function}
-use Rattle.tg_translate.specs.Constructs.{string_text}
+use Rattle.tg_tree.specs.Memory.{string_text}
 use Rattle.tg_translate.specs.States.{TranslationState, Drawn, drawn, Acts, after, give, fresh}
 use Rattle.tg_translate.specs.Functions.{with_body, finish}
 use Rattle.tg_shapes.specs.Accesses.{AccessesWithin}

@@ -91,7 +91,7 @@ module _ (shapes : List (ℕ × Shape)) (notes : List Note) where
     decs_stand _ scope _ b i Has.end_decs = (tt, i)
     decs_stand _ scope inner b i (Has.type_names {rest = rest} names hs) = decs_stand rest
         (record scope { types = names }) inner b i hs
-    decs_stand _ scope inner b i (Has.variables {x = x} {e = e} {rest = rest} t u h fit hs) =
+    decs_stand _ scope inner b i (Has.variables {x = x} {e = e} {rest = rest} t u _ h fit hs) =
         let d = decs_stand rest (binding x (variable_at (at_of x) t false) scope) inner b i hs in
         ((breaks_stand e scope u b i h, d.0), d.1)
     decs_stand _ scope inner b i (Has.group {fs = fs} {rest = rest} ss apart bs hs) =
@@ -101,7 +101,7 @@ module _ (shapes : List (ℕ × Shape)) (notes : List Note) where
     bodies_stand : (fs : FunDecs) (ss : List Signature) (scope : Scope) → scope.in_loop ≡ false → Has.HasBodies shapes
         notes fs ss scope → BreaksStandBodies fs
     bodies_stand _ _ scope i Has.end_bodies = tt
-    bodies_stand _ _ scope i (Has.a_body {ps = ps} {body = body} {rest = rest} {s = s} {ss = ss} u l h fit hs) = (
+    bodies_stand _ _ scope i (Has.a_body {ps = ps} {body = body} {rest = rest} {s = s} {ss = ss} u l _ h fit hs) = (
       breaks_stand body (with_params ps s.params scope) u false (loop_params ps s.params scope ∙ i) h,
       bodies_stand
           rest ss scope i hs,

@@ -1,11 +1,13 @@
 -- Laws of the trees that programs are translated to.
-use Rattle.std.specs.Prelude.{◌≡◌, ◌≤◌, ◌+◌, ◌*◌, ◌-◌, ℕ, suc, List, [], ◌++◌, length, map, false}
+use Rattle.std.specs.Prelude.{◌≡◌, ◌≤◌, ◌<◌, ◌+◌, ◌*◌, ◌-◌, ◌^◌, ℕ, suc, List, [], ◌++◌}
+use Rattle.std.specs.Prelude.{length, map, false}
 use Rattle.std.specs.List.{AllZip, Contains, sum_by}
 use Rattle.std.specs.Ordering.{nat_cmp}
 use Rattle.std.specs.FinSet.{FinSet, from_list}
 use Rattle.tg_syntax.specs.Tree.{Exp}
-use Rattle.tg_syntax.specs.Plain.{plain}
 use Rattle.tg_syntax.specs.Functions.{Measures, program_functions}
+use Rattle.tg_syntax.specs.Measures.{size, inner}
+use Rattle.tg_syntax.specs.OfWords.{OfWords}
 use Rattle.tg_escape.specs.Escaping.{escapes_of}
 use Rattle.tg_types.specs.Programs.{CheckedProgram, IsAccepted}
 use Rattle.tg_tree.specs.Tree.{Ts, Function}
@@ -17,10 +19,11 @@ use Rattle.tg_tree.specs.Named.{
   function_labels,
   literal_labels,
   HasItsTemps,
+  HasWords,
   IsLinked,
 }
-use Rattle.tg_translate.specs.Constructs.{string_text}
-use Rattle.tg_translate.specs.Scopes.{Findings, found}
+use Rattle.tg_tree.specs.Memory.{string_text}
+use Rattle.tg_translate.specs.Scopes.{Findings, found, field_number}
 use Rattle.tg_translate.specs.Translate.{translated}
 use Rattle.tg_shapes.specs.Standing.{BreaksStand, Reaches}
 use Rattle.tg_shapes.specs.Strings.{strings}
@@ -56,7 +59,7 @@ abbrev pub CheckedBodiesAreClosed : Type 0
 CheckedBodiesAreClosed =
     (p : CheckedProgram) (escapes links : FinSet nat_cmp) (f : Function Ts) →
     IsAccepted p →
-    Contains (translated (found p.notes escapes links) (plain p.program.body)).functions f →
+    Contains (translated (found p.notes escapes links) p.body).functions f →
     IsClosed f.body
 
 -- a body's temporaries are its frame's where each variable that a text uses is in its reach
@@ -67,18 +70,18 @@ TemporariesAreDrawn =
 
 -- which is so in a checked program, with the variables that escape
 abbrev pub findings_in : CheckedProgram → (links : FinSet nat_cmp) → Findings
-findings_in p links = found p.notes (from_list (escapes_of (plain p.program.body))) links
+findings_in p links = found p.notes (from_list (escapes_of p.body)) links
 
 abbrev pub CheckedReaches : Type 0
 CheckedReaches =
     (p : CheckedProgram) (links : FinSet nat_cmp) →
-    IsAccepted p → Reaches (findings_in p links) [] [] (plain p.program.body)
+    IsAccepted p → Reaches (findings_in p links) [] [] p.body
 
 abbrev pub CheckedTemporariesAreDrawn : Type 0
 CheckedTemporariesAreDrawn =
     (p : CheckedProgram) (links : FinSet nat_cmp) (f : Function Ts) →
     IsAccepted p →
-    Contains (translated (findings_in p links) (plain p.program.body)).functions f →
+    Contains (translated (findings_in p links) p.body).functions f →
     HasItsTemps names f
 
 -- One literal for each string of the text, in its order: its length as a word, and its bytes.
@@ -166,5 +169,23 @@ abbrev pub CheckedFramesAreSmall : Type 0
 CheckedFramesAreSmall =
     (p : CheckedProgram) (escapes links : FinSet nat_cmp) (f : Function Ts) →
     IsAccepted p →
-    Contains (translated (found p.notes escapes links) (plain p.program.body)).functions f →
+    Contains (translated (found p.notes escapes links) p.body).functions f →
     IsSmall f
+
+-- Each constant of the trees is a word: where the ints of the text are, each number of a field is
+-- less than a fourth of all words, and so are the nodes.
+abbrev pub FieldsAreFew : Findings → Type 0
+FieldsAreFew findings = (at : ℕ) → 4 * field_number (findings.meaning at) < 2 ^ 32
+
+abbrev pub ConstantsAreWords : Type 0
+ConstantsAreWords =
+    (findings : Findings) (e : Exp) →
+    FieldsAreFew findings → OfWords e → size e + inner e < 1073741823 →
+    HasWords names (translated findings e)
+
+-- A program that is accepted has few nodes.
+abbrev pub CheckedConstantsAreWords : Type 0
+CheckedConstantsAreWords =
+    (p : CheckedProgram) (escapes links : FinSet nat_cmp) →
+    IsAccepted p → OfWords p.body → FieldsAreFew (found p.notes escapes links) →
+    HasWords names (translated (found p.notes escapes links) p.body)

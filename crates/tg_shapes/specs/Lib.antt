@@ -5,3 +5,4 @@ pub mod Accesses
 pub mod Depths
 pub mod Programs
 pub mod Laws
+pub mod GivingBack

@@ -1,9 +1,12 @@
+ghost use Rattle.tg_shapes.specs.GivingBack.{LinkedTreesGiveBack, TreesGiveBack};
 ghost use Rattle.tg_shapes.specs.Laws.{
   BodiesAreClosed,
   CheckedBodiesAreClosed,
+  CheckedConstantsAreWords,
   CheckedFramesAreSmall,
   CheckedReaches,
   CheckedTemporariesAreDrawn,
+  ConstantsAreWords,
   FunctionsAreWithin,
   LabelsAreAbove,
   LiteralsAreShort,
@@ -68,6 +71,24 @@ pub fn frames_are_small()
     ensures slots { SlotsAreFew }
     ensures within { FunctionsAreWithin }
     ensures checked { CheckedFramesAreSmall }
+{
+    checked_has_type();
+}
+
+/// Laws of what gives a value back from the arms of its choices, in every tree: it does what a
+/// return of the value does, with as much fuel, the same output, input left and end, and no more
+/// work; and so it does in a run that looks at static links.
+pub fn values_are_given_back()
+    ensures trees { TreesGiveBack }
+    ensures linked { LinkedTreesGiveBack }
+{}
+
+/// Laws of constants: each of the trees is a word, where the ints of the text are words, the
+/// numbers of fields are below a fourth of all words, and nodes are as few; and so it is in a
+/// program that the checker accepts, whose nodes are few.
+pub fn constants_are_words()
+    ensures text { ConstantsAreWords }
+    ensures checked { CheckedConstantsAreWords }
 {
     checked_has_type();
 }

@@ -6,6 +6,6 @@
 mod laws;
 
 pub use laws::{
-    bodies_are_closed, frames_are_small, literals_are_strings, programs_are_linked,
-    temporaries_are_drawn,
+    bodies_are_closed, constants_are_words, frames_are_small, literals_are_strings,
+    programs_are_linked, temporaries_are_drawn, values_are_given_back,
 };

@@ -1,6 +1,6 @@
 -- Programs that are translated and run, each computed by the definitions themselves. Above each stands its text. An
 -- identifier is its byte, and each use has the byte of what it means.
-use Rattle.std.proofs.Common.{◌≡◌, ℕ, ◌-◌, ◌++◌, List, [], ◌∷◌, Option, Some, None, Bool, true, false, refl}
+use Rattle.std.proofs.Common.{◌≡◌, ℕ, ◌-◌, ◌++◌, List, [], ◌∷◌, drop, map, Option, Some, None, Bool, true, false, refl}
 use Rattle.std.specs.Prelude.{codes, pos}
 use Rattle.std.specs.List.{list_any}
 use Rattle.std.specs.Prelude.{nat_eq}
@@ -20,10 +20,16 @@ use Rattle.tg_syntax.specs.Tree.{no_functions, function}
 use Rattle.tg_meaning.specs.declared.standards.Standard.TheVariants as standard
 use Rattle.tg_types.specs.declared.notes.Means.{Means}
 use Rattle.tg_types.specs.declared.notes.Means.TheVariants as means
+use Rattle.tg_tree.specs.declared.operators.Rel.TheVariants as rel
+use Rattle.tg_tree.specs.Tree as tree
+use Rattle.tg_tree.specs.Tree.{Tx, Const, Temp, Service, After, Compare, Ts, Move, Do, Loop, Return}
+use Rattle.tg_tree.specs.Forms.{sequence}
 use Rattle.tg_tree.specs.Units.{Trees}
 use Rattle.tg_tree.specs.Running.{tree_run}
 use Rattle.tg_runtime.specs.Routines.{runtime}
 use Rattle.tg_translate.specs.Scopes.{Findings}
+use Rattle.tg_translate.specs.Returning.{returning}
+use Rattle.tg_translate.specs.Constructs.{space_for_record}
 use Rattle.tg_translate.specs.Translate.{translated}
 use Rattle.tg_translate.specs.Updates.{begins_with}
 
@@ -304,3 +310,47 @@ chosen_condition :
     (While sp (If sp (binary op.Less (get x) (num 5)) (binary op.NotEqual (get x) (num 3)) (num 0)) (set x (plus (get x) (num 1))) ∷ exit (get x) ∷ [])) 9 ≡
     ends 3
 chosen_condition = refl
+
+-- let function f(x:int):int = if x<2 then 1 else if x then (g(); x) else x<3 in f(4) end, where g has no meaning: each arm
+-- returns, a choice in an arm from its own arms
+abbrev arms_of_f : Exp
+arms_of_f =
+    If sp (binary op.Less (get x) (num 2)) (num 1) (If sp (get x) (seq (call 99 [] ∷ get x ∷ [])) (binary op.Less (get x) (num 3)))
+
+abbrev body_of_f : Exp → List Ts
+body_of_f e =
+    let code =
+    translated (findings [] [])
+    (block (functions (function (id f) (params (x ∷ [])) (Some (id 0)) e no_functions) no_decs) (call f (num 4 ∷ []) ∷ [])) in
+    map (λ g. g.body) (drop 1 code.functions)
+
+arms_return :
+    body_of_f arms_of_f ≡
+    returning (Compare rel.Less (Temp 1) (Const 2)) (Return (Const 1))
+    (returning (Compare rel.NotEqual (Temp 1) (Const 0)) (sequence (Do (Const 0) ∷ Return (Temp 1) ∷ []))
+    (returning (Compare rel.Less (Temp 1) (Const 3)) (Return (Const 1)) (Return (Const 0)))) ∷ []
+arms_return = refl
+
+-- behind a loop it returns at its end alone
+abbrev looping : Exp → Exp
+looping e = seq (While sp (num 0) (seq []) ∷ e ∷ [])
+
+loops_return_once :
+    body_of_f (looping (If sp (get x) (num 1) (num 2))) ≡
+    Return (After (sequence (Loop (tree.If (Compare rel.NotEqual (Const 0) (Const 0)) (Do (Const 0)) (tree.Break 0)) ∷ []))
+    (After (tree.If (Compare rel.NotEqual (Temp 1) (Const 0)) (Move 2 (Const 1)) (Move 2 (Const 2))) (Temp 2))) ∷ []
+loops_return_once = refl
+
+-- let type r={a:int} var x:r:=r{a=7} in exit(x.a) end: a record needs no function of the runtime but exit
+records_stand_alone : space_for_record 0 ≡ Service 9 (Const 4)
+records_stand_alone = refl
+
+abbrev does_without_runtime : Exp → (fuel : ℕ) → List ℕ × Stop
+does_without_runtime e fuel =
+    let code = translated (findings [] []) e in
+    seen (tree_run Trees (record { functions = code.functions; literals = code.literals }) (λ label. 64) (stack_top - 1024) 64 32 [] fuel)
+
+made_without_runtime :
+    does_without_runtime (block (let_var x (Make sp (id 0) (init (id 20) (num 7) no_inits)) no_decs)
+    (binary op.Divide (num 1) (binary op.Minus (Read sp (Field (Simple (id x)) (id 20))) (num 7)) ∷ [])) 9 ≡ breaks 7
+made_without_runtime = refl

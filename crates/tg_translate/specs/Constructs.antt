@@ -2,7 +2,6 @@
 -- links and slots, checks, arithmetic that ends the program by overflow, records and arrays.
 use Rattle.std.specs.Prelude.{ℕ, zero, suc, ◌+◌, ◌*◌, ◌==◌, max}
 use Rattle.std.specs.Prelude.{Bool, true, false, ◌||◌, if◌then◌else◌, List, [], ◌∷◌, ◌++◌, length}
-use Rattle.std.specs.Int.{to_le_bytes, w32}
 use Rattle.tg_base.specs.Words.{sub}
 use Rattle.tg_frame.specs.declared.accesses.Access.{Access}
 use Rattle.tg_frame.specs.declared.accesses.Access.TheVariants.{InTemp, InFrame}
@@ -16,7 +15,7 @@ use Rattle.tg_tree.specs.declared.operators.Bin.TheVariants.{Add, Sub, Mul, Div,
 use Rattle.tg_tree.specs.declared.operators.Bin.TheVariants.{ShiftSigned, AddTrap, SubTrap, MulHigh}
 use Rattle.tg_tree.specs.declared.operators.Rel.{Rel}
 use Rattle.tg_tree.specs.declared.operators.Rel.TheVariants as rel
-use Rattle.tg_tree.specs.Tree.{Tx, Const, Temp, FrameAddress, Binary, Load, Call, After}
+use Rattle.tg_tree.specs.Tree.{Tx, Const, Temp, FrameAddress, Binary, Load, Call, Service, After}
 use Rattle.tg_tree.specs.Tree.{Txs, no_txs, tx, Cond, Compare, Both}
 use Rattle.tg_tree.specs.Tree.{Ts, Move, Store, Do, If, Loop, Break, Fault, Seq, Stms, no_stms, stm}
 use Rattle.tg_tree.specs.Forms.{nothing, when}
@@ -242,9 +241,6 @@ element_place direct x y = do
 abbrev pub call_routine : Routine → Txs → Tx
 call_routine one xs = Call (label_of one) xs
 
-abbrev pub one_tx : Tx → Txs
-one_tx x = tx x no_txs
-
 abbrev pub two_txs : Tx → Tx → Txs
 two_txs x y = tx x (tx y no_txs)
 
@@ -261,14 +257,15 @@ store_fields before r k [] = before
 store_fields before r k (x ∷ xs) =
     store_fields (followed before (store_field r k x)) r (suc k) xs
 
-abbrev pub call_for_record : (fields : ℕ) → Tx
-call_for_record n = call_routine routine.MakeRecord (one_tx (Const (record_bytes n)))
+-- the heap's service is asked for them where the record is made
+abbrev pub space_for_record : (fields : ℕ) → Tx
+space_for_record n = Service 9 (Const (record_bytes n))
 
 -- the values of the fields are kept, the record is made, and then they are stored in it
 abbrev pub record_of : (record_ : ℕ) → HeldAll → Made
 record_of r all =
     value_behind
-    (store_fields (followed all.before (Move r (call_for_record (length all.operands))))
+    (store_fields (followed all.before (Move r (space_for_record (length all.operands))))
     r 0 all.operands)
     (Temp r)
 
@@ -385,7 +382,3 @@ count i x y turn = do
   l ← hold false no_stms x
   h ← keep l.before y
   give (count_of h.before i l.operand h.operand turn)
-
--- Strings: a word of length and the bytes; zeros up to a multiple of 4 follow where it is laid out.
-abbrev pub string_text : List ℕ → List ℕ
-string_text bytes = to_le_bytes w32 (length bytes) ++ bytes

@@ -23,6 +23,7 @@ use Rattle.tg_translate.specs.States.{
   declare_callee,
 }
 use Rattle.tg_translate.specs.Wants.{Made, value_of, dropped}
+use Rattle.tg_translate.specs.Returning.{given_back}
 
 abbrev pub at_of : Ident → ℕ
 at_of x = x.span.from
@@ -117,7 +118,7 @@ gives_nothing m = Seq (stm (dropped m) (stm (Return (Const 0)) no_stms))
 abbrev pub closing : (has_result : Bool) → Made → Acts Ts
 closing true m = do
   x ← value_of m
-  give (Return x)
+  give (given_back x)
 closing false m = give (gives_nothing m)
 
 abbrev pub body_in :

@@ -1,5 +1,6 @@
 pub mod States
 pub mod Wants
+pub mod Returning
 pub mod Constructs
 pub mod Scopes
 pub mod Functions

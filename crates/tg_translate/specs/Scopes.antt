@@ -13,6 +13,7 @@ use Rattle.std.specs.Ordering.{nat_cmp}
 use Rattle.std.specs.FinSet.{FinSet, contains}
 use Rattle.tg_types.specs.declared.notes.Note.{Note}
 use Rattle.tg_types.specs.Answered.{meaning_at}
+use Rattle.tg_tree.specs.Memory.{string_text}
 use Rattle.tg_translate.specs.declared.findings.Findings.{Findings as CodeFindings}
 use Rattle.tg_translate.specs.declared.homes.Home.{Home}
 use Rattle.tg_translate.specs.declared.homes.Callee.{Callee}
@@ -36,7 +37,6 @@ use Rattle.tg_translate.specs.Constructs.{
   place_in,
   frame_out,
   call_routine,
-  string_text,
 }
 
 -- what is noted at a byte, whether the variable of a byte escapes, and whether the function of a

@@ -1,9 +1,9 @@
 ghost use Rattle.std.specs.Prelude.{◌≡◌, IfOk};
 ghost use Rattle.tg_tree.specs.Plain.{plain_tx};
 ghost use Rattle.tg_tree.specs.Lists.{txs_of};
+ghost use Rattle.tg_tree.specs.Memory as memory;
 ghost use Rattle.tg_translate.specs.States.{drawn, state_of};
 ghost use Rattle.tg_translate.specs.Wants.{plain_made};
-ghost use Rattle.tg_translate.specs.Constructs as constructs;
 ghost use Rattle.tg_translate.specs.Scopes as scopes;
 
 use crate::homes::{Callee, Within};
@@ -86,7 +86,7 @@ pub(crate) fn literal(state: &mut TranslationState, bytes: &Bytes) -> Result<Mad
 }
 
 fn string_text(alloc: Global, bytes: &[u8]) -> Result<Bytes, Memory>
-    ensures { IfOk result (λ text. text ≡ constructs.string_text bytes.now) }
+    ensures { IfOk result (λ text. text ≡ memory.string_text bytes.now) }
 {
     let length = u32::try_from(bytes.len()).map_err(|_| Memory)?;
     let mut text = Vec::from_slice(alloc, &length.to_le_bytes())?;

@@ -150,14 +150,6 @@ pub(crate) fn element(alloc: Global, array: Tx, index: Tx) -> Result<Tx, Memory>
     Ok(binary(alloc, Bin::Add, before, Tx::Const(4))?)
 }
 
-/// A call of the runtime with one argument.
-pub(crate) fn call_with_one(alloc: Global, one: Routine, argument: Tx) -> Result<Tx, Memory>
-    ensures { IfOk result (λ x. plain_tx x ≡
-        constructs.call_routine one (constructs.one_tx (plain_tx argument))) }
-{
-    Ok(call(one.label(), vec![in alloc; argument]?))
-}
-
 /// A call of the runtime with two arguments.
 pub(crate) fn call_with_two(
     alloc: Global,

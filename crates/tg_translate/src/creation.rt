@@ -5,14 +5,16 @@ ghost use Rattle.tg_translate.specs.States.{drawn, state_of};
 ghost use Rattle.tg_translate.specs.Wants.{plain_made};
 ghost use Rattle.tg_translate.specs.Constructs as constructs;
 
-use crate::constructs::{bytes_of, call_with_one, plus};
+use crate::constructs::{bytes_of, plus};
 use crate::operands::Operand;
 use crate::states::{TranslationState, next};
 use crate::wants::{Made, push, value_behind};
 use std::alloc::Global;
 use tg_base::{Memory, Temp};
-use tg_runtime::Routine;
-use tg_tree::{Ts, Tx};
+use tg_tree::{Ts, Tx, service};
+
+/// The service of the machine that hands out bytes of the heap.
+const TAKE: u32 = 9;
 
 /// The bytes of a record of so many fields: 4 for each, and 4 at least.
 fn record_bytes(fields: usize) -> Result<u32, Memory>
@@ -46,17 +48,18 @@ fn record_of(
         constructs.record_of to.0
         (record { before = stms_of done.items; operands = operands.now })) }
 {
-    let made = call_for_record(alloc, operands.len())?;
+    let made = space_for_record(alloc, operands.len())?;
     push(&mut done, Ts::Move(to, made))?;
     store_fields(alloc, &mut done, to, operands)?;
     Ok(value_behind(alloc, done, Tx::Temp(to))?)
 }
 
-fn call_for_record(alloc: Global, fields: usize) -> Result<Tx, Memory>
-    ensures { IfOk result (λ x. plain_tx x ≡ constructs.call_for_record fields) }
+/// The heap's service is asked for the bytes of a record.
+fn space_for_record(alloc: Global, fields: usize) -> Result<Tx, Memory>
+    ensures { IfOk result (λ x. plain_tx x ≡ constructs.space_for_record fields) }
 {
     let bytes = Tx::Const(record_bytes(fields)?);
-    Ok(call_with_one(alloc, Routine::MakeRecord, bytes)?)
+    Ok(service(alloc, TAKE, bytes)?)
 }
 
 /// The fields are stored, one after another.

@@ -8,6 +8,7 @@ ghost use Rattle.tg_translate.specs.Functions as functions;
 
 use crate::findings::Findings;
 use crate::homes::{Callee, Home, Within};
+use crate::returning::give_back;
 use crate::states::{Outer, TranslationState, frame_of, next};
 use crate::wants::{Made, Want, dropped, value_of};
 use std::alloc::Global;
@@ -130,7 +131,8 @@ pub(crate) fn closing(
         drawn (plain_ts s) (state_of state.new)) }
 {
     if has_result {
-        return Ok(Ts::Return(value_of(state, made)?));
+        let value = value_of(state, made)?;
+        return Ok(give_back(state.alloc, value)?);
     }
     let alloc = state.alloc;
     let done = dropped(alloc, made)?;

@@ -17,6 +17,7 @@ mod operators;
 mod places;
 mod programs;
 mod purity;
+mod returning;
 mod states;
 mod updates;
 mod wants;
