@@ -1,8 +1,8 @@
 -- The instructions of a function are at most as many as its flat code is long, and twelve words for each unit of it may come of them.
-use Rattle.std.proofs.Common.{◌≤◌, ◌+◌, ◌-◌, ◌*◌, ℕ, Option, Some, None, List, [], ◌∷◌, length, sum_by, arith}
+use Rattle.std.proofs.Common.{◌≤◌, ◌+◌, ◌*◌, ℕ, Option, Some, None, List, [], ◌∷◌, length, sum_by, arith}
 use Rattle.std.proofs.Math.Dec.{lit≤}
 use Rattle.std.proofs.lemmas.List.Sums.{sum_by-le-sum_by}
-use Rattle.std.specs.Prelude.{◌==◌, nat_lt}
+use Rattle.std.specs.Prelude.{◌≡◌, ◌==◌, nat_lt, Bool, true, false, not, refl, if◌then◌else◌}
 use Rattle.tg_frame.specs.declared.accesses.Access.{Access}
 use Rattle.tg_frame.specs.declared.accesses.Access.TheVariants.{InTemp, InFrame}
 use Rattle.tg_tree.specs.declared.operators.Bin.TheVariants as bin
@@ -14,16 +14,17 @@ use Rattle.tg_tree.specs.Sizes.{expression_length, arguments_length, statement_l
 use Rattle.tg_instr.specs.declared.operands.Opnd.{Opnd}
 use Rattle.tg_instr.specs.declared.instr.Instr.{Instr}
 use Rattle.tg_instr.specs.declared.instr.Instr.TheVariants.{Move}
-use Rattle.tg_munch.specs.Choosing.{Choice}
+use Rattle.tg_munch.specs.Arguments.{is_in_register, is_in_frame, is_anywhere, one_may_end, ordered}
+use Rattle.tg_munch.specs.Choosing.{Choice, ◌>>◌, give}
 use Rattle.tg_munch.specs.Tiles.{slot, offset, offset_by}
 use Rattle.tg_munch.specs.Comparing.{short_side, is_turned, turned}
 use Rattle.tg_munch.specs.Munching.{kept_registers, temp, argument, constant_in, answer_in, store_far, store_low, passed, asked as asked_for}
 use Rattle.tg_munch.specs.Munching.{given_back, expression, arguments, left_side, based_at, valued, effect, stored, stored_byte, statement, compared}
 use Rattle.tg_munch.specs.Munching.{branch, compared_in_hi, branch_behind, element, elements}
 use Rattle.tg_munch.specs.Products.{is_in_hi}
-use Rattle.tg_munch.specs.Bodies.{munched, kept, from_caller, parameter, parameters, body}
+use Rattle.tg_munch.specs.Bodies.{munched, kept, load_above, from_word, from_words, from_register, parameters, body}
 use Rattle.tg_munch.specs.Lengths.{InstructionsAreFew, CountsWords, WordsAreFew}
-use Rattle.tg_munch.proofs.Draws.{Draws, Within, most_words, both, more, either, gives, puts, puts_move, defines, defines_move, draws_temp, chooses}
+use Rattle.tg_munch.proofs.Draws.{Draws, Within, most_counted, both, more, either, gives, puts, puts_move, defines, defines_move, draws_temp, chooses}
 use Rattle.tg_munch.proofs.Draws.{constant_draws, asked, moved_draws, tiled_draws, based_draws, loaded_draws, byte_draws, against_draws}
 
 -- Single choices.
@@ -65,10 +66,52 @@ given_draws : (t : ℕ) (rs : List ℕ) → Draws (length rs) 0 (13 * length rs)
 given_draws t [] = gives tt
 given_draws t (r ∷ rs) = more (omega arith) (omega arith) (omega arith) (both (puts_move _ _) λ u. given_draws (t + 1) rs)
 
-module _ (slots : ℕ) where
-  abbrev len : Tx → ℕ
-  len x = expression_length Canonical x
+abbrev len : Tx → ℕ
+len x = expression_length Canonical x
 
+-- one choice behind another, each within its units
+both_within : {n m : ℕ} {first next : Choice (Unit {0})} → Within n first → Within m next → Within (n + m) (first >> next)
+both_within h k = more (omega arith) (omega arith) (omega arith) (both h λ u. k)
+
+-- What is counted of arguments that a test of their places picks: what all count, by those in registers and those in the frame.
+abbrev picked_units : Bool → ℕ → ℕ
+picked_units true n = n
+picked_units false n = 0
+
+picked_draws : (n : ℕ) (b : Bool) {choice : Choice (Unit {0})} → Within n choice → Within (picked_units b n) (if b then choice else give tt)
+picked_draws n true h = h
+picked_draws n false h = gives tt
+
+abbrev picked_length : (picks : ℕ → Bool) → (i : ℕ) → Txs → ℕ
+picked_length picks i no_txs = 0
+picked_length picks i (tx x xs) = picked_units (picks i) (len x + 4) + picked_length picks (i + 1) xs
+
+all_length : (i : ℕ) (xs : Txs) → picked_length is_anywhere i xs ≡ arguments_length Canonical xs
+all_length i no_txs = refl
+all_length i (tx x xs) = let h = all_length (i + 1) xs in omega (arith, h)
+
+either_length : (b : Bool) (n : ℕ) → picked_units (not b) n + picked_units b n ≡ n
+either_length true n = omega arith
+either_length false n = omega arith
+
+both_lengths : (i : ℕ) (xs : Txs) → picked_length is_in_frame i xs + picked_length is_in_register i xs ≡ arguments_length Canonical xs
+both_lengths i no_txs = refl
+both_lengths i (tx x xs) =
+    let h = both_lengths (i + 1) xs in
+    let e = either_length (nat_lt i 4) (len x + 4) in
+    omega (arith, h, e)
+
+ordered_draws : (b : Bool) (choice : (ℕ → Bool) → Choice (Unit {0})) (xs : Txs) →
+    ((picks : ℕ → Bool) → Within (picked_length picks 0 xs) (choice picks)) →
+    Within (arguments_length Canonical xs) (ordered b choice)
+ordered_draws true choice xs h =
+    let e = all_length 0 xs in
+    more (omega (arith, e)) (omega (arith, e)) (omega (arith, e)) (h is_anywhere)
+ordered_draws false choice xs h =
+    let e = both_lengths 0 xs in
+    more (omega (arith, e)) (omega (arith, e)) (omega (arith, e)) (both_within (h is_in_frame) (h is_in_register))
+
+module _ (slots : ℕ) where
   mutual
     expression_draws : (x : Tx) (dest : Option Opnd) → Gives (len x) dest (expression slots x dest)
     expression_draws (tree.Const n) dest = more (omega arith) (omega arith) (omega arith) (constant_in_draws n dest)
@@ -95,16 +138,17 @@ module _ (slots : ℕ) where
         more (omega arith) (omega arith) (omega arith)
         (byte_draws dest (based_draws None (expression_draws x None) (expression_draws x None)))
     expression_draws (tree.Call label xs) dest =
-        more (omega arith) (omega arith) (omega arith) (both (both (arguments_draw 0 xs) λ u. puts _ (lit≤ tt)) λ u. answer_draws dest)
+        more (omega arith) (omega arith) (omega arith)
+        (both (both (ordered_draws (one_may_end 0 xs) _ xs (λ picks. arguments_draw picks 0 xs)) λ u. puts _ (lit≤ tt)) λ u. answer_draws dest)
     expression_draws (tree.Service n x) dest =
         more (omega arith) (omega arith) (omega arith) (both (service_draws n (expression_draws x (Some _))) λ u. answer_draws dest)
     expression_draws (tree.After s x) dest = more (omega arith) (omega arith) (omega arith) (expression_draws x dest)
 
-    arguments_draw : (i : ℕ) (xs : Txs) → Within (arguments_length Canonical xs) (arguments slots i xs)
-    arguments_draw i no_txs = gives tt
-    arguments_draw i (tx x xs) =
-        more (omega arith) (omega arith) (omega arith)
-        (both (passed_draws (len x) i (expression slots x) (λ dest. expression_draws x dest)) λ u. arguments_draw (i + 1) xs)
+    arguments_draw : (picks : ℕ → Bool) (i : ℕ) (xs : Txs) → Within (picked_length picks i xs) (arguments slots picks i xs)
+    arguments_draw picks i no_txs = gives tt
+    arguments_draw picks i (tx x xs) =
+        both_within (picked_draws (len x + 4) (picks i) (passed_draws (len x) i (expression slots x) (λ dest. expression_draws x dest)))
+        (arguments_draw picks (i + 1) xs)
 
   value_draws : (x : Tx) → Within (len x) (expression slots x None)
   value_draws x = unasked (omega arith) (expression_draws x None)
@@ -120,7 +164,9 @@ module _ (slots : ℕ) where
   valued_draws x = more (omega arith) (omega arith) (omega arith) (both (value_draws x) λ v. gives tt)
 
   effect_draws : (x : Tx) → Within (len x) (effect slots x)
-  effect_draws (tree.Call label xs) = more (omega arith) (omega arith) (omega arith) (both (arguments_draw 0 xs) λ u. puts _ (lit≤ tt))
+  effect_draws (tree.Call label xs) =
+      more (omega arith) (omega arith) (omega arith)
+      (both (ordered_draws (one_may_end 0 xs) _ xs (λ picks. arguments_draw picks 0 xs)) λ u. puts _ (lit≤ tt))
   effect_draws (tree.Service n x) = more (omega arith) (omega arith) (omega arith) (service_draws n (expression_draws x (Some _)))
   effect_draws x = valued_draws x
 
@@ -174,25 +220,34 @@ module _ (slots : ℕ) where
       more (omega arith) (omega arith) (omega arith)
       (both (element_draws keeps before e) λ u. elements_draw keeps (Some e) rest)
 
-  -- The entry of a function.
+-- The entry of a function.
 
-  from_caller_draws : (i : ℕ) (dest : Option Opnd) → Draws 5 5 58 (expression slots (from_caller i) dest)
-  from_caller_draws i dest =
-      let place : Tx = tree.Binary bin.Add tree.FrameAddress (tree.Const (4 * (i - 4))) in
-      more (omega arith) (omega arith) (omega arith)
-      (loaded_draws dest (based_draws (offset place) (unasked (omega arith) (expression_draws tree.FrameAddress None)) (value_draws place)) None)
+load_above_draws : (above : Opnd) (n : ℕ) (to : Opnd) → Draws 4 0 40 (load_above above n to)
+load_above_draws above n to =
+    either (nat_lt n 32768) (more (omega arith) (omega arith) (omega arith) (puts _ (lit≤ tt)))
+    (more (omega arith) (omega arith) (omega arith) (both (constant_draws to n) λ u. both (puts _ (lit≤ tt)) λ u. puts _ (lit≤ tt)))
 
-  parameter_draws : (i : ℕ) (home : Access) → Within 6 (parameter slots i home)
-  parameter_draws i (InTemp t) =
-      either (nat_lt i 4) (more (omega arith) (omega arith) (omega arith) (puts_move _ _))
-      (more (omega arith) (omega arith) (omega arith) (both (from_caller_draws i (Some (temp t.0))) λ v. gives tt))
-  parameter_draws i (InFrame k) =
-      either (nat_lt i 4) (more (omega arith) (omega arith) (omega arith) (puts _ (lit≤ tt)))
-      (more (omega arith) (omega arith) (omega arith) (both (from_caller_draws i None) λ v. puts _ (lit≤ tt)))
+from_word_draws : (above : Opnd) (i : ℕ) (home : Access) → Draws 5 1 50 (from_word above i home)
+from_word_draws above i (InTemp t) = more (omega arith) (omega arith) (omega arith) (load_above_draws above _ _)
+from_word_draws above i (InFrame k) =
+    more (omega arith) (omega arith) (omega arith) (both draws_temp λ v. both (load_above_draws above _ v) λ u. puts _ (lit≤ tt))
 
-  parameters_draw : (i : ℕ) (homes : List Access) → Within (6 * length homes) (parameters slots i homes)
-  parameters_draw i [] = more (omega arith) (omega arith) (omega arith) (gives tt)
-  parameters_draw i (home ∷ homes) = more (omega arith) (omega arith) (omega arith) (both (parameter_draws i home) λ u. parameters_draw (i + 1) homes)
+from_words_draw : (above : Opnd) (i : ℕ) (homes : List Access) →
+    Draws (5 * length homes) (length homes) (50 * length homes) (from_words above i homes)
+from_words_draw above i [] = gives tt
+from_words_draw above i (home ∷ homes) =
+    more (omega arith) (omega arith) (omega arith) (both (from_word_draws above i home) λ u. from_words_draw above (i + 1) homes)
+
+register_draws : (i : ℕ) (home : Access) → Within 6 (from_register i home)
+register_draws i (InTemp t) = more (omega arith) (omega arith) (omega arith) (puts_move _ _)
+register_draws i (InFrame k) = more (omega arith) (omega arith) (omega arith) (puts _ (lit≤ tt))
+
+parameters_draw : (i : ℕ) (homes : List Access) → Within (6 * length homes) (parameters i homes)
+parameters_draw i [] = gives tt
+parameters_draw i (home ∷ homes) =
+    either (nat_lt i 4) (more (omega arith) (omega arith) (omega arith) (both (register_draws i home) λ u. parameters_draw (i + 1) homes))
+    (more (omega arith) (omega arith) (omega arith)
+    (both draws_temp λ above. both (puts _ (lit≤ tt)) λ u. from_words_draw above i (home ∷ homes)))
 
 kept_draws : (rs : List ℕ) → Draws (length rs) (length rs) (13 * length rs) (kept rs)
 kept_draws [] = gives tt
@@ -201,18 +256,18 @@ kept_draws (r ∷ rs) = more (omega arith) (omega arith) (omega arith) (both (bo
 body_draws : (f : Function (List Linear)) → Draws (flat_length f + 9) (flat_length f + 9) (12 * flat_length f + 117) (body f)
 body_draws f =
     more (omega arith) (omega arith) (omega arith)
-    (both (kept_draws kept_registers) λ u. both (parameters_draw f.slots 0 f.params) λ u. elements_draw f.slots f.temps None f.body)
+    (both (kept_draws kept_registers) λ u. both (parameters_draw 0 f.params) λ u. elements_draw f.slots f.temps None f.body)
 
 pub few : InstructionsAreFew
 few f =
     let h = body_draws f in
     record { code = h.code _; temps = h.temps _; marks = h.marks _ }
 
-most : {count : Instr → ℕ} → CountsWords count → (one : Instr) → count one ≤ most_words one
+most : {count : Instr → ℕ} → CountsWords count → (one : Instr) → count one ≤ most_counted one
 most h (Move to from) = h.moves to from
 most h one = h.others one (λ to from e. cc)
 
 pub words_few : WordsAreFew
 words_few count f h =
-    let w : sum_by most_words (munched f).code ≤ 12 * flat_length f + 117 = (body_draws f).words _ in
-    omega (arith, sum_by-le-sum_by count most_words (munched f).code (most h), w)
+    let w : sum_by most_counted (munched f).code ≤ 12 * flat_length f + 117 = (body_draws f).words _ in
+    omega (arith, sum_by-le-sum_by count most_counted (munched f).code (most h), w)

@@ -27,16 +27,16 @@ use Rattle.tg_munch.specs.Tiles.{shift_bit, shift_bits, shifted, moved, operated
 use Rattle.tg_munch.specs.Comparing.{order, flag, field_flag, on_flag, on_less, on_less_field, branch_on, against_zero, branch_short, against}
 
 -- the most words that may come of an instruction, as `CountsWords` has it
-abbrev pub most_words : Instr → ℕ
-most_words (Move to from) = 13
-most_words _ = 10
+abbrev pub most_counted : Instr → ℕ
+most_counted (Move to from) = 13
+most_counted _ = 10
 
 -- at most n instructions, k temporaries, k marks, and w words
 pub record Draws {A : Type 0} (n k w : ℕ) (choice : Choice A) : Type 0 where
   pub code : (d : Drawn) → length (choice d).code ≤ n
   pub temps : (d : Drawn) → (choice d).drawn.temp ≤ d.temp + k
   pub marks : (d : Drawn) → (choice d).drawn.mark ≤ d.mark + k
-  pub words : (d : Drawn) → sum_by most_words (choice d).code ≤ w
+  pub words : (d : Drawn) → sum_by most_counted (choice d).code ≤ w
 
 -- so many units of flat code: an instruction, and what it draws, and twelve words each
 abbrev pub Within : {A : Type 0} (units : ℕ) → Choice A → Type 0
@@ -58,7 +58,7 @@ both {first = first} {onward = onward} h f = record {
       let one = first d in
       let i = h.words d in
       let j = (f one.value).words one.drawn in
-      let e = sum_by-append most_words one.code (onward one.value one.drawn).code in
+      let e = sum_by-append most_counted one.code (onward one.value one.drawn).code in
       omega (arith, i, j, e);
 }
 
@@ -78,17 +78,17 @@ pub gives : {A : Type 0} (a : A) → Draws 0 0 0 (give a)
 gives a = record { code = λ d. omega arith; temps = λ d. omega arith; marks = λ d. omega arith; words = λ d. lit≤ tt }
 
 -- an instruction: at most ten words, but for a move
-module _ {w : ℕ} (one : Instr) (h : most_words one ≤ w) where
+module _ {w : ℕ} (one : Instr) (h : most_counted one ≤ w) where
   writes : Draws 1 0 w (put one)
   writes = record { code = λ d. omega arith; temps = λ d. omega arith; marks = λ d. omega arith; words = λ d. omega (arith, h) }
 
   writes_to : (to : Opnd) → Draws 1 0 w (defining one to)
   writes_to to = record { code = λ d. omega arith; temps = λ d. omega arith; marks = λ d. omega arith; words = λ d. omega (arith, h) }
 
-pub puts : (one : Instr) → most_words one ≤ 10 → Draws 1 0 10 (put one)
+pub puts : (one : Instr) → most_counted one ≤ 10 → Draws 1 0 10 (put one)
 puts one h = writes one h
 
-pub defines : (one : Instr) (to : Opnd) → most_words one ≤ 10 → Draws 1 0 10 (defining one to)
+pub defines : (one : Instr) (to : Opnd) → most_counted one ≤ 10 → Draws 1 0 10 (defining one to)
 defines one to h = writes_to one h to
 
 pub puts_move : (to from : Opnd) → Draws 1 0 13 (put (Move to from))
@@ -125,7 +125,7 @@ pub moved_draws : (dest : Option Opnd) (from : Opnd) → Draws (asked dest) 0 (1
 moved_draws (Some to) from = defines_move to from
 moved_draws None from = gives from
 
-shift_words : (op : Bin) (to : Opnd) (n : ℕ) → most_words (shift_by op to n) ≤ 10
+shift_words : (op : Bin) (to : Opnd) (n : ℕ) → most_counted (shift_by op to n) ≤ 10
 shift_words bin.ShiftLeft to n = lit≤ tt
 shift_words bin.ShiftRight to n = lit≤ tt
 shift_words op to n = lit≤ tt
@@ -178,7 +178,7 @@ counts_one bin.ShiftSigned y = omega arith
 counts_one op y = omega arith
 
 -- what the fields of instructions hold
-field_words : (one : Immediate) (to x : Opnd) → most_words (instruction one to x) ≤ 10
+field_words : (one : Immediate) (to x : Opnd) → most_counted (instruction one to x) ≤ 10
 field_words (in_field.Add n) to x = lit≤ tt
 field_words (in_field.AddTrap n) to x = lit≤ tt
 field_words (in_field.And n) to x = lit≤ tt
@@ -231,15 +231,15 @@ module _ {n k w : ℕ} (dest : Option Opnd) {place : Choice Base} (h : Draws n k
 
 -- Comparisons.
 
-flag_words : (signed : Bool) (to x y : Opnd) → most_words (flag signed to x y) ≤ 10
+flag_words : (signed : Bool) (to x y : Opnd) → most_counted (flag signed to x y) ≤ 10
 flag_words true to x y = lit≤ tt
 flag_words false to x y = lit≤ tt
 
-field_flag_words : (signed : Bool) (to x : Opnd) (n : ℕ) → most_words (field_flag signed to x n) ≤ 10
+field_flag_words : (signed : Bool) (to x : Opnd) (n : ℕ) → most_counted (field_flag signed to x n) ≤ 10
 field_flag_words true to x n = lit≤ tt
 field_flag_words false to x n = lit≤ tt
 
-on_flag_words : (holds : Bool) (x : Opnd) (m : ℕ) → most_words (on_flag holds x m) ≤ 10
+on_flag_words : (holds : Bool) (x : Opnd) (m : ℕ) → most_counted (on_flag holds x m) ≤ 10
 on_flag_words true x m = lit≤ tt
 on_flag_words false x m = lit≤ tt
 

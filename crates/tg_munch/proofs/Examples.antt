@@ -6,7 +6,7 @@ use Rattle.tg_tree.specs.declared.operators.Bin.TheVariants as bin
 use Rattle.tg_tree.specs.declared.operators.Rel.TheVariants.{Equal, NotEqual, Less, LessEqual, Greater, NotBelow}
 use Rattle.tg_tree.specs.Tree as tree
 use Rattle.tg_tree.specs.Tree.{Tx, Const, FrameAddress, Binary, Load, Txs, no_txs, tx, Linear, Mark, Do', Return', Function}
-use Rattle.tg_tree.specs.Sizes.{flat_length}
+use Rattle.tg_tree.specs.Sizes.{flat_length, flat_room}
 use Rattle.tg_instr.specs.declared.operands.Opnd.{Opnd}
 use Rattle.tg_instr.specs.declared.operands.Opnd.TheVariants.{Reg}
 use Rattle.tg_instr.specs.declared.instr.Instr.{Instr}
@@ -15,9 +15,9 @@ use Rattle.tg_instr.specs.declared.instr.Instr.TheVariants.{Addiu, Addi, Add, Ad
 use Rattle.tg_instr.specs.declared.instr.Instr.TheVariants.{FrameLoad, FrameStore, Branch, Call, Service, Mult, Mflo, Mfhi, Sra, Return}
 use Rattle.tg_munch.specs.Choosing.{Drawn, ◌>>=◌}
 use Rattle.tg_munch.specs.Munching.{temp, expression, statement, branch, elements}
-use Rattle.tg_munch.specs.Bodies.{munched, outs}
+use Rattle.tg_munch.specs.Bodies.{munched, outs, load_above, parameters}
 use Rattle.tg_munch.specs.Lengths.{kept_count, CountsWords}
-use Rattle.tg_munch.proofs.Draws.{most_words}
+use Rattle.tg_munch.proofs.Draws.{most_counted}
 
 abbrev start : Drawn
 start = record { temp = 9; mark = 5 }
@@ -107,12 +107,20 @@ index : (branch 2 NotBelow (t 1) (Load (t 2)) 7 start).code ≡ Lw (temp 9) 0 (t
 unfolding ◌>>=◌
 index = refl
 
--- a call of five arguments, whose fifth stands in the frame
+-- a call of five arguments, whose fifth stands in the frame: it goes there first
 call : (statement 2 (tree.Move 3 (tree.Call 40 (tx FrameAddress (tx (t 1) (tx (Const 0) (tx (t 2) (tx (t 1) no_txs))))))) start).code ≡
-    instr.FrameAddress (Reg 4) ∷ Move (Reg 5) (temp 1) ∷ Addiu (Reg 6) (Reg 0) 0 ∷ Move (Reg 7) (temp 2) ∷ Sw (temp 1) 0 (Reg 29) ∷
+    Sw (temp 1) 0 (Reg 29) ∷ instr.FrameAddress (Reg 4) ∷ Move (Reg 5) (temp 1) ∷ Addiu (Reg 6) (Reg 0) 0 ∷ Move (Reg 7) (temp 2) ∷
     Call (record { 0 = 40 }) ∷ Move (temp 3) (Reg 2) ∷ []
 unfolding ◌>>=◌
 call = refl
+
+-- but not where one of the first four may end the run
+call_that_may_end :
+    (statement 2 (tree.Do (tree.Call 40 (tx (Binary bin.AddTrap (t 1) (Const 1)) (tx (t 1) (tx (t 1) (tx (t 1) (tx (t 2) no_txs))))))) start).code ≡
+    Addi (Reg 4) (temp 1) 1 ∷ Move (Reg 5) (temp 1) ∷ Move (Reg 6) (temp 1) ∷ Move (Reg 7) (temp 1) ∷ Sw (temp 2) 0 (Reg 29) ∷
+    Call (record { 0 = 40 }) ∷ []
+unfolding ◌>>=◌
+call_that_may_end = refl
 
 service : (statement 2 (tree.Do (tree.Service 11 (t 1))) start).code ≡ Move (Reg 4) (temp 1) ∷ Addiu (Reg 2) (Reg 0) 11 ∷ Service ∷ []
 unfolding ◌>>=◌
@@ -142,15 +150,27 @@ function : (munched next).code ≡ Move (temp 1) (Reg 16) ∷ Move (temp 2) (Reg
 unfolding ◌>>=◌
 function = refl
 
+-- parameters past the fourth are loaded by one frame address, the last of them through its slot
+incoming : (parameters 3 (InFrame 0 ∷ InTemp (record { 0 = 4 }) ∷ InFrame 1 ∷ []) start).code ≡
+    FrameStore (Reg 7) 0 ∷ instr.FrameAddress (temp 9) ∷ Lw (temp 4) 0 (temp 9) ∷ Lw (temp 10) 4 (temp 9) ∷ FrameStore (temp 10) 1 ∷ []
+unfolding ◌>>=◌
+incoming = refl
+
+-- and where the offset is no field of 15 bits, by an address
+incoming_far : (load_above (temp 9) 32768 (temp 4) start).code ≡
+    Ori (temp 4) (Reg 0) 32768 ∷ Addu (temp 4) (temp 4) (temp 9) ∷ Lw (temp 4) 0 (temp 4) ∷ []
+unfolding ◌>>=◌
+incoming_far = refl
+
 -- Twelve words a unit: a count that gives to a move thirteen, and ten to all else,
-counts_ten : (one : Instr) → ((to from : Opnd) → one ≢ Move to from) → most_words one ≤ 10
+counts_ten : (one : Instr) → ((to from : Opnd) → one ≢ Move to from) → most_counted one ≤ 10
 counts_ten (Move to from) h = elim (h to from refl) [ ]
 counts_ten one h = lit≤ tt
 
-counts_words : CountsWords most_words
+counts_words : CountsWords most_counted
 counts_words = record { moves = λ to from. lit≤ tt; others = counts_ten }
 
-words_of_next : (flat_length next ≡ 29) × (sum_by most_words (munched next).code ≡ 277)
+words_of_next : (flat_length next ≡ 29) × (sum_by most_counted (munched next).code ≡ 277)
 unfolding ◌>>=◌
 words_of_next = (refl, refl)
 
@@ -166,7 +186,7 @@ two_calls = record {
       Do' (tree.Do (Binary bin.Add (tree.Call 40 no_txs) (tree.Call 41 no_txs))) ∷ [];
 }
 
-words_of_calls : (flat_length two_calls ≡ 5) × (sum_by most_words (munched two_calls).code ≡ 13 * kept_count + 56)
+words_of_calls : (flat_length two_calls ≡ 5) × (sum_by most_counted (munched two_calls).code ≡ 13 * kept_count + 56)
 unfolding ◌>>=◌
 words_of_calls = (refl, refl)
 
@@ -204,3 +224,19 @@ apart : checked (Do' (tree.Move 3 (Binary bin.Mul (t 1) (t 2))) ∷ Mark 4 ∷ c
     ∷ Mult (temp 1) (temp 2) ∷ Mfhi (temp 9) ∷ Sra (temp 10) (temp 3) 31 ∷ unless_same 9 10 ∷ []
 unfolding ◌>>=◌
 apart = refl
+
+-- The room of flat code alone isn't enough for its temporaries: a shift by a word draws six, of which it counts three.
+abbrev shifting : Function (List Linear)
+shifting = record {
+  label = 33;
+  params = [];
+  slots = 0;
+  temps = 0;
+  out = 0;
+  body =
+      Do' (tree.Move 0 (Binary bin.ShiftLeft (t 0) (t 1))) ∷ [];
+}
+
+temporaries_of_a_shift : ((munched shifting).drawn.temp ≡ 6 + kept_count) × (flat_room shifting ≡ 3)
+unfolding ◌>>=◌
+temporaries_of_a_shift = (refl, refl)

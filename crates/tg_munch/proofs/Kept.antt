@@ -41,7 +41,7 @@ pub moves_stay : (f : Function (List Linear)) (t s : ℕ) → Contains f.body (t
 unfolding ◌>>=◌
 moves_stay f t s h =
     let one = kept kept_registers (record { temp = f.temps; mark = mark_above f.body }) in
-    let two = parameters f.slots 0 f.params one.drawn in
+    let two = parameters 0 f.params one.drawn in
     let move = Move (temp t) (temp s) in
     Contains-append_right one.code _ _ (Contains-append_right two.code _ _
     (elements_have f.slots f.temps None f.body (tree.Do' (tree.Move t (tree.Temp s))) move (λ before d. in_one move) h two.drawn))
@@ -82,6 +82,6 @@ pub code_ends : (f : Function (List Linear)) → EndsCode f.body → IsTrue (end
 unfolding ◌>>=◌
 code_ends f h =
     let one = kept kept_registers (record { temp = f.temps; mark = mark_above f.body }) in
-    let two = parameters f.slots 0 f.params one.drawn in
+    let two = parameters 0 f.params one.drawn in
     let rest = (elements f.slots f.temps None f.body two.drawn).code in
     ends_behind one.code (two.code ++ rest) (ends_behind two.code rest (elements_end f.slots f.temps None f.body h two.drawn))

@@ -10,7 +10,10 @@ pub mod NamingCode
 pub mod NamingLaws
 pub mod Passing
 mod ProductRuns
+mod Rooms
 pub mod Scopes
+mod Shifts
+mod Temporaries
 pub mod Walking
 pub mod Whole
 pub mod Writing

@@ -10,6 +10,7 @@ use Rattle.tg_tree.specs.Named.{function, literal, temporary}
 use Rattle.tg_instr.proofs.Tests.{both_hold}
 use Rattle.tg_instr.specs.declared.operands.Opnd.{Opnd}
 use Rattle.tg_instr.specs.declared.operands.Opnd.TheVariants.{Reg}
+use Rattle.tg_munch.specs.Arguments.{is_in_register, is_in_frame, is_anywhere, one_may_end, ordered}
 use Rattle.tg_munch.specs.Choosing.{Drawn, Choice, ◌>>=◌, ◌>>◌, give}
 use Rattle.tg_munch.specs.Naming.{is_written}
 use Rattle.tg_munch.specs.Tiles.{nothing, is_slot, slot, offset, offset_by, tile}
@@ -126,6 +127,13 @@ fits_asked : (w : Scope) (n : ℕ) (part : Choice Opnd) (d : Drawn) → Fits (is
 fits_asked w n part d h =
     fits_then _ h (λ e v a b. fits_then _ (fits_constant w (Reg 2) n e refl) (λ f u a' b'. fits_put w _ f refl))
 
+-- arguments in their order, or those in the frame first
+fits_ordered : (w : Scope) (ends : Bool) (choice : (ℕ → Bool) → Choice (Unit {0})) →
+    ((picks : ℕ → Bool) (e : Drawn) → Fits anything w (choice picks) e) →
+    (d : Drawn) → Fits anything w (ordered ends choice) d
+fits_ordered w true choice h d = h is_anywhere d
+fits_ordered w false choice h d = fits_then _ (h is_in_frame d) (λ e u a b. h is_in_register e)
+
 mutual
   pub fits_expression : (w : Scope) (x : Tx) → Passes w x → Value w (expression w.slots x)
   fits_expression w (tree.Const n) p asked d h = fits_constant_in w n asked d h
@@ -157,19 +165,20 @@ mutual
       (fits_based w None (expression w.slots x None) (expression w.slots x None)
       (λ f. fits_expression w x p None f refl) (λ f. fits_expression w x p None f refl) e))
   fits_expression w (tree.Call label xs) p asked d h =
-      fits_then _ (fits_then _ (fits_arguments w 0 xs p.1 d) (λ e u a b. fits_put w _ e p.0))
+      fits_then _ (fits_then _ (fits_ordered w (one_may_end 0 xs) _ (λ picks e. fits_arguments w picks 0 xs p.1 e) d) (λ e u a b. fits_put w _ e p.0))
       (λ e u a b. fits_answer_in w asked e (asked_on w a asked h))
   fits_expression w (tree.Service n x) p asked d h =
       fits_then _ (fits_asked w n _ d (fits_expression w x p (Some (Reg 4)) d refl))
       (λ e u a b. fits_answer_in w asked e (asked_on w a asked h))
   fits_expression w (tree.After s x) p asked d h = fits_expression w x p asked d h
 
-  pub fits_arguments : (w : Scope) (i : ℕ) (xs : Txs) → AllPass w xs → (d : Drawn) →
-      Fits anything w (arguments w.slots i xs) d
-  fits_arguments w i no_txs p d = fits_give anything w tt d refl
-  fits_arguments w i (tx x xs) p d =
-      fits_then _ (fits_passed_by w i (expression w.slots x) (fits_expression w x p.0) d (nat_lt i 4) refl)
-      (λ e u a b. fits_arguments w (i + 1) xs p.1 e)
+  pub fits_arguments : (w : Scope) (picks : ℕ → Bool) (i : ℕ) (xs : Txs) → AllPass w xs → (d : Drawn) →
+      Fits anything w (arguments w.slots picks i xs) d
+  fits_arguments w picks i no_txs p d = fits_give anything w tt d refl
+  fits_arguments w picks i (tx x xs) p d =
+      fits_then _
+      (fits_if (picks i) (fits_passed_by w i (expression w.slots x) (fits_expression w x p.0) d (nat_lt i 4) refl) (fits_give anything w tt d refl))
+      (λ e u a b. fits_arguments w picks (i + 1) xs p.1 e)
 
 -- the left side of an address, and an address
 fits_left_side : (w : Scope) (x : Tx) → Passes w x → Part w (left_side w.slots x)
@@ -185,7 +194,8 @@ fits_valued : (w : Scope) (x : Tx) → Passes w x → (d : Drawn) → Fits anyth
 fits_valued w x p d = fits_then _ (fits_expression w x p None d refl) (λ e v a b. fits_give anything w tt e refl)
 
 fits_effect : (w : Scope) (x : Tx) → Passes w x → (d : Drawn) → Fits anything w (effect w.slots x) d
-fits_effect w (tree.Call label xs) p d = fits_then _ (fits_arguments w 0 xs p.1 d) (λ e u a b. fits_put w _ e p.0)
+fits_effect w (tree.Call label xs) p d =
+    fits_then _ (fits_ordered w (one_may_end 0 xs) _ (λ picks e. fits_arguments w picks 0 xs p.1 e) d) (λ e u a b. fits_put w _ e p.0)
 fits_effect w (tree.Service n x) p d = fits_asked w n _ d (fits_expression w x p (Some (Reg 4)) d refl)
 fits_effect w x p d = fits_valued w x p d
 

@@ -1,10 +1,9 @@
 -- What the instructions of branches, elements and a whole function name, and their marks.
-use Rattle.std.proofs.Common.{ℕ, ◌≡◌, ◌<◌, ◌≤◌, ◌+◌, List, [], ◌∷◌, ◌++◌, Option, Some, None, Bool, true, false, length, nat_lt, refl, sym, ◌∙◌}
+use Rattle.std.proofs.Common.{ℕ, ◌≡◌, ◌<◌, ◌≤◌, ◌+◌, ◌-◌, ◌*◌, List, [], ◌∷◌, ◌++◌, Option, Some, None, Bool, true, false, length, nat_lt, refl, sym, ◌∙◌}
 use Rattle.std.proofs.Common.{subst, arith, zero-add}
 use Rattle.std.proofs.lemmas.Bool.Decides.{nat_tests}
 use Rattle.std.specs.Prelude.{IsTrue, nat_le, nat_eq, if◌then◌else◌}
 use Rattle.std.specs.List.{list_all}
-use Rattle.tg_base.specs.declared.ids.Temp.{Temp}
 use Rattle.tg_frame.specs.declared.accesses.Access.{Access}
 use Rattle.tg_frame.specs.declared.accesses.Access.TheVariants.{InTemp, InFrame}
 use Rattle.tg_tree.specs.declared.operators.Rel.{Rel}
@@ -15,20 +14,19 @@ use Rattle.tg_tree.specs.Named.{fault, temporary}
 use Rattle.tg_instr.proofs.Tests.{left_holds, right_holds, both_hold, all_append}
 use Rattle.tg_instr.specs.declared.operands.Opnd.{Opnd}
 use Rattle.tg_instr.specs.declared.operands.Opnd.TheVariants.{Reg}
-use Rattle.tg_instr.specs.declared.instr.Instr.TheVariants.{Move, FrameStore}
 use Rattle.tg_munch.specs.declared.orders.Order.{Order}
 use Rattle.tg_munch.specs.declared.orders.Short.{Short}
 use Rattle.tg_munch.specs.declared.orders.Short.TheVariants.{Zero, Field}
-use Rattle.tg_munch.specs.Choosing.{Drawn, Choice, ◌>>=◌, ◌>>◌, give, put}
+use Rattle.tg_munch.specs.Choosing.{Drawn, Choice, ◌>>=◌, ◌>>◌, give}
 use Rattle.tg_munch.specs.Comparing.{on_flag, flag, field_flag, on_less, on_less_field, branch_on, against_zero, against, short_side, is_turned, turned, order}
-use Rattle.tg_munch.specs.Munching.{temp, argument, kept_registers, expression, given_back, compared, branch, compared_in_hi, branch_behind, returned}
+use Rattle.tg_munch.specs.Munching.{temp, kept_registers, expression, given_back, compared, branch, compared_in_hi, branch_behind, returned}
 use Rattle.tg_munch.specs.Munching.{element, elements}
 use Rattle.tg_munch.specs.Products.{is_in_hi}
-use Rattle.tg_munch.specs.Bodies.{kept_register, kept, from_caller, parameter, parameters}
+use Rattle.tg_munch.specs.Bodies.{kept_register, kept, from_register, load_above, from_word, from_words, by_frame_address, parameters}
 use Rattle.tg_munch.specs.Naming.{is_written, is_read}
 use Rattle.tg_munch.proofs.Scopes.{Scope, Grows, grows_on, is_readable, may_name, may_put, Readable, Writable, or_left, or_right, readable_on}
 use Rattle.tg_munch.proofs.Scopes.{writable_on, readable, all_on, counted, occurs, spanned, occurs_append, span_join}
-use Rattle.tg_munch.proofs.Drawing.{Fits, anything, fits_then, fits_give, fits_put, fits_fresh, fits_if, one_named, two_named, three_named}
+use Rattle.tg_munch.proofs.Drawing.{Fits, anything, fits_then, fits_give, fits_put, fits_fresh, fits_if, fits_constant, one_named, two_named, three_named}
 use Rattle.tg_munch.proofs.Naming.{Passes, StatementPasses, temp_writable, fits_expression, fits_statement}
 
 -- branches to a mark that may be led to
@@ -280,37 +278,57 @@ HomesPass w (home ∷ homes) = HomePasses w home × HomesPass w homes
 argument_read : (i : ℕ) → nat_lt i 4 ≡ true → IsTrue (is_read (4 + i))
 argument_read i e = grind (arith, nat_tests)
 
-fits_in_temp : (w : Scope) (i : ℕ) (t : Temp) → IsTrue (w.is_name (temporary t.0)) → (d : Drawn) → (b : Bool) →
-    nat_lt i 4 ≡ b →
-    Fits anything w (if b then put (Move (temp t.0) (argument i))
-    else (expression w.slots (from_caller i) (Some (temp t.0)) >> give tt)) d
-fits_in_temp w i t h d true e = fits_put w _ d (two_named _ _ (temp_writable w d t.0 h) (argument_read i e))
-fits_in_temp w i t h d false e =
-    fits_then _ (fits_expression w (from_caller i) (tt, tt) (Some (temp t.0)) d (temp_writable w d t.0 h))
-    (λ f v a b. fits_give anything w tt f refl)
+fits_from_register : (w : Scope) (i : ℕ) (home : Access) → HomePasses w home → nat_lt i 4 ≡ true → (d : Drawn) →
+    Fits anything w (from_register i home) d
+fits_from_register w i (InTemp t) p e d = fits_put w _ d (two_named _ _ (temp_writable w d t.0 p) (argument_read i e))
+fits_from_register w i (InFrame k) p e d = fits_put w _ d (both_hold _ _ (argument_read i e) p)
 
-fits_in_frame : (w : Scope) (i k : ℕ) → IsTrue (w.is_slot k) → (d : Drawn) → (b : Bool) → nat_lt i 4 ≡ b →
-    Fits anything w (if b then put (FrameStore (argument i) k)
-    else (expression w.slots (from_caller i) None >>= (λ v. put (FrameStore v k)))) d
-fits_in_frame w i k h d true e = fits_put w _ d (both_hold _ _ (argument_read i e) h)
-fits_in_frame w i k h d false e =
-    fits_then _ (fits_expression w (from_caller i) (tt, tt) None d refl) (λ f v a b. fits_put w _ f (both_hold _ _ b h))
+fits_load_above : (w : Scope) (above : Opnd) (n : ℕ) (to : Opnd) (d : Drawn) → Readable w d above → Writable w d to →
+    Fits anything w (load_above above n to) d
+fits_load_above w above n to d h k =
+    fits_if (nat_lt n 32768) (fits_put w _ d (two_named _ _ k h))
+    (fits_then _ (fits_constant w to n d k) (λ e u a b.
+    fits_then _ (fits_put w _ e (three_named _ _ _ (writable_on w a to k) (readable w e to (writable_on w a to k)) (readable_on w a above h)))
+    (λ f v a' b'.
+    let l = writable_on w (grows_on a a') to k in
+    fits_put w _ f (two_named _ _ l (readable w f to l)))))
 
-fits_parameter : (w : Scope) (i : ℕ) (home : Access) → HomePasses w home → (d : Drawn) →
-    Fits anything w (parameter w.slots i home) d
-fits_parameter w i (InTemp t) p d = fits_in_temp w i t p d (nat_lt i 4) refl
-fits_parameter w i (InFrame k) p d = fits_in_frame w i k p d (nat_lt i 4) refl
+fits_from_word : (w : Scope) (above : Opnd) (i : ℕ) (home : Access) → HomePasses w home → (d : Drawn) → Readable w d above →
+    Fits anything w (from_word above i home) d
+fits_from_word w above i (InTemp t) p d h = fits_load_above w above (4 * (i - 4)) (temp t.0) d h (temp_writable w d t.0 p)
+fits_from_word w above i (InFrame k) p d h =
+    fits_then _ (fits_fresh w d) (λ e v a b.
+    fits_then _ (fits_load_above w above (4 * (i - 4)) v e (readable_on w a above h) b) (λ f u a' b'.
+    fits_put w _ f (both_hold _ _ (readable w f v (writable_on w a' v b)) p)))
+
+fits_from_words : (w : Scope) (above : Opnd) (i : ℕ) (homes : List Access) → HomesPass w homes → (d : Drawn) → Readable w d above →
+    Fits anything w (from_words above i homes) d
+fits_from_words w above i [] p d h = fits_give anything w tt d refl
+fits_from_words w above i (home ∷ homes) p d h =
+    fits_then _ (fits_from_word w above i home p.0 d h) (λ e u a b. fits_from_words w above (i + 1) homes p.1 e (readable_on w a above h))
+
+fits_by_frame_address : (w : Scope) (i : ℕ) (homes : List Access) → HomesPass w homes → (d : Drawn) →
+    Fits anything w (by_frame_address i homes) d
+fits_by_frame_address w i homes p d =
+    fits_then _ (fits_fresh w d) (λ e above a b.
+    fits_then _ (fits_put w _ e (one_named _ b)) (λ f u a' b'.
+    fits_from_words w above i homes p f (readable w f above (writable_on w a' above b))))
 
 fits_parameters : (w : Scope) (i : ℕ) (homes : List Access) → HomesPass w homes → (d : Drawn) →
-    Fits anything w (parameters w.slots i homes) d
+    Fits anything w (parameters i homes) d
 fits_parameters w i [] p d = fits_give anything w tt d refl
 fits_parameters w i (home ∷ homes) p d =
-    fits_then _ (fits_parameter w i home p.0 d) (λ e u a b. fits_parameters w (i + 1) homes p.1 e)
+    by_place (nat_lt i 4) refl (λ e. fits_parameters w (i + 1) homes p.1 e)
+  where
+    by_place : (b : Bool) → nat_lt i 4 ≡ b → ((e : Drawn) → Fits anything w (parameters (i + 1) homes) e) →
+        Fits anything w (if b then (from_register i home >> parameters (i + 1) homes) else by_frame_address i (home ∷ homes)) d
+    by_place true e rest = fits_then _ (fits_from_register w i home p.0 e d) (λ f u a b. rest f)
+    by_place false e rest = fits_by_frame_address w i (home ∷ homes) p d
 
 -- a whole function
 pub lays_body : (w : Scope) (homes : List Access) (code : List Linear) → HomesPass w homes → CodePasses w code →
     (d : Drawn) →
-    Lays w (stands w.mark code) (kept kept_registers >> (parameters w.slots 0 homes >> elements w.slots d.temp None code)) d
+    Lays w (stands w.mark code) (kept kept_registers >> (parameters 0 homes >> elements w.slots d.temp None code)) d
 lays_body w homes code p q d =
     lays_behind w (fits_all_kept w d) (λ e u a b. lays_behind w (fits_parameters w 0 homes p e) (λ f v g t.
     let h : d.temp + 9 ≤ e.temp = at_most (d.temp + 9) e.temp b in

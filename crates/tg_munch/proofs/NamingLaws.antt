@@ -7,7 +7,7 @@ use Rattle.tg_frame.specs.declared.accesses.Access.{Access}
 use Rattle.tg_frame.specs.declared.accesses.Access.TheVariants.{InTemp, InFrame}
 use Rattle.tg_frame.specs.Homes.{slot_bound, temp_bound}
 use Rattle.tg_tree.specs.Tree.{Linear, Function}
-use Rattle.tg_tree.specs.Named.{Named, function, literal, fault, temporary, named_flat, HasItsTemps}
+use Rattle.tg_tree.specs.Named.{Named, function, literal, fault, temporary, constant, named_flat, HasItsTemps}
 use Rattle.tg_instr.proofs.Tests.{left_holds, right_holds, both_hold}
 use Rattle.tg_instr.specs.declared.operands.Opnd.{Opnd}
 use Rattle.tg_instr.specs.declared.operands.Opnd.TheVariants.{Temp, Reg}
@@ -131,6 +131,7 @@ label_allowed allowed (function label) h = h
 label_allowed allowed (literal label) h = h
 label_allowed allowed (fault n) h = h
 label_allowed allowed (temporary i) h = refl
+label_allowed allowed (constant n) h = h
 
 names_reached : (f : Function (List Linear)) (allowed : Named → Bool) (d : Drawn) (one : Instr) →
     IsTrue (reaches (scope f any_slot (labels_alone allowed) (λ k h. refl)) d one) → IsTrue (names_allowed allowed one)
@@ -259,6 +260,7 @@ temp_allowed temps names h (function label) c = refl
 temp_allowed temps names h (literal label) c = refl
 temp_allowed temps names h (fault n) c = refl
 temp_allowed temps names h (temporary i) c = is_less i temps (h i c)
+temp_allowed temps names h (constant n) c = refl
 
 pub temps_are_below : (f : Function (List Linear)) → temp_bound f.params ≤ f.temps →
     HasItsTemps (λ body. named_flat body []) f →

@@ -31,7 +31,7 @@ module _ (w : Scope) where
 
   mutual
     pass_tx : (x : Tx) (after : List Named) → Pass (named_tx x after) → Passes w x × Pass after
-    pass_tx (tree.Const n) after h = (tt, h)
+    pass_tx (tree.Const n) after h = (tt, behind w.is_name _ after h)
     pass_tx (tree.Address label) after h = (front w.is_name _ after h, behind w.is_name _ after h)
     pass_tx (tree.Temp i) after h = (front w.is_name _ after h, behind w.is_name _ after h)
     pass_tx tree.FrameAddress after h = (tt, h)
@@ -42,7 +42,7 @@ module _ (w : Scope) where
     pass_tx (tree.Call label xs) after h =
         let a = pass_txs xs after (behind w.is_name _ (named_txs xs after) h) in
         ((front w.is_name _ (named_txs xs after) h, a.0), a.1)
-    pass_tx (tree.Service n x) after h = pass_tx x after h
+    pass_tx (tree.Service n x) after h = pass_tx x after (behind w.is_name _ (named_tx x after) h)
     pass_tx (tree.After s x) after h = pass_tx x after (rest_ts s (named_tx x after) h)
 
     pass_txs : (xs : Txs) (after : List Named) → Pass (named_txs xs after) → AllPass w xs × Pass after

@@ -8,7 +8,7 @@ use Rattle.tg_tree.specs.declared.operators.Bin.TheVariants.{Mul, MulHigh, Shift
 use Rattle.tg_tree.specs.declared.operators.Rel.TheVariants.{Equal}
 use Rattle.tg_tree.specs.Tree.{Temp, Const, Binary, Service, Move, Do, Linear, Do', Branch, Fault', Mark, Return', Function}
 use Rattle.tg_tree.specs.Flat.{flat_run}
-use Rattle.tg_instr.specs.Running.{code_run}
+use Rattle.tg_instr.specs.Running.{everywhere, code_run}
 use Rattle.tg_munch.specs.Choosing.{◌>>=◌}
 use Rattle.tg_munch.specs.Bodies.{munched}
 
@@ -29,7 +29,7 @@ as_flat to x y =
 abbrev as_instructions : (to x y : ℕ) → Ran
 as_instructions to x y =
     let chosen = munched (exits_by_product to x y) in
-    code_run (λ one. 1) (record { functions = made chosen.drawn.temp chosen.code ∷ []; literals = [] }) (λ l. 16) (stack_top - 32) 8 32 [] 4
+    code_run (everywhere (λ one. 1)) (record { functions = made chosen.drawn.temp chosen.code ∷ []; literals = [] }) (λ l. 16) (stack_top - 32) 8 32 [] 4
 
 abbrev BothEnd : (to x y : ℕ) → RunEnd → Type 0
 BothEnd to x y e = ((as_flat to x y).stop ≡ Ended e) × ((as_instructions to x y).stop ≡ Ended e)

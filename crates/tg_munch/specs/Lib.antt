@@ -1,3 +1,4 @@
+pub mod Arguments
 pub mod Bodies
 pub mod Choosing
 pub mod Comparing

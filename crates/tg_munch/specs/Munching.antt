@@ -1,7 +1,7 @@
 -- Maximal munch: the instructions of expressions, statements and elements of flat code (Appel,
 -- chapter 9).
 use Rattle.std.specs.Prelude.{ℕ, ◌+◌, ◌-◌, ◌*◌, ◌==◌, nat_lt, List, [], ◌∷◌, Option, Some, None}
-use Rattle.std.specs.Prelude.{if◌then◌else◌}
+use Rattle.std.specs.Prelude.{Bool, if◌then◌else◌}
 use Rattle.tg_tree.specs.declared.operators.Rel.{Rel}
 use Rattle.tg_base.specs.declared.ids.Label.{Label}
 use Rattle.tg_tree.specs.Tree as tree
@@ -12,6 +12,7 @@ use Rattle.tg_instr.specs.declared.instr.Instr.TheVariants.{Addu, Sw, Sb, Move, 
 use Rattle.tg_instr.specs.declared.instr.Instr.TheVariants.{FrameAddress, Address, Mark, Jump, Call}
 use Rattle.tg_instr.specs.declared.instr.Instr.TheVariants.{Service, Fault, Return, Mfhi}
 use Rattle.tg_munch.specs.Choosing.{Choice, ◌>>=◌, ◌>>◌, give, put, fresh, choose, defining}
+use Rattle.tg_munch.specs.Arguments.{one_may_end, ordered}
 use Rattle.tg_munch.specs.declared.tiles.Base.{Base}
 use Rattle.tg_munch.specs.Tiles.{nothing, constant, slot, offset, offset_by, based, loaded}
 use Rattle.tg_munch.specs.Tiles.{loaded_byte, tile, tiled, moved}
@@ -91,15 +92,17 @@ module _ (slots : ℕ) where
         choose dest >>= (λ to.
         loaded_byte (based None (expression x None) (expression x None)) to)
     expression (tree.Call label xs) dest =
-        arguments 0 xs >> put (Call (record { 0 = label })) >> answer_in dest
+        ordered (one_may_end 0 xs) (λ picks. arguments picks 0 xs)
+        >> put (Call (record { 0 = label })) >> answer_in dest
     expression (tree.Service n x) dest = asked n (expression x (Some (Reg 4))) >> answer_in dest
     -- (canonical code has none)
     expression (tree.After s x) dest = expression x dest
 
-    -- the arguments of a call from one on
-    pub arguments : (i : ℕ) → Txs → Choice (Unit {0})
-    arguments i no_txs = give tt
-    arguments i (tx x xs) = passed i (expression x) >> arguments (i + 1) xs
+    -- the arguments of a call from one on, those that a test of their places picks
+    pub arguments : (picks : ℕ → Bool) → (i : ℕ) → Txs → Choice (Unit {0})
+    arguments picks i no_txs = give tt
+    arguments picks i (tx x xs) =
+        (if picks i then passed i (expression x) else give tt) >> arguments picks (i + 1) xs
 
   -- the left side of an operator, and an address: an operand and a number of bytes behind it
   abbrev pub left_side : Tx → Choice Opnd
@@ -117,7 +120,9 @@ module _ (slots : ℕ) where
 
   -- a call or a service, whose answer is let go
   abbrev pub effect : Tx → Choice (Unit {0})
-  effect (tree.Call label xs) = arguments 0 xs >> put (Call (record { 0 = label }))
+  effect (tree.Call label xs) =
+      ordered (one_may_end 0 xs) (λ picks. arguments picks 0 xs)
+      >> put (Call (record { 0 = label }))
   effect (tree.Service n x) = asked n (expression x (Some (Reg 4)))
   effect x = valued x
 

@@ -1,4 +1,4 @@
-ghost use Rattle.std.specs.Prelude.{◌≡◌, ◌<◌, ◌+◌, ◌^◌, OnOk, IfOk, IsTrue, length, nat_lt};
+ghost use Rattle.std.specs.Prelude.{◌≡◌, ◌<◌, ◌+◌, ◌^◌, OnOk, IsTrue, length, nat_lt};
 ghost use Rattle.std.specs.Prelude.{None, option_map};
 ghost use Rattle.std.specs.List.{list_all};
 ghost use Rattle.tg_tree.specs.Lists.{code_of};
@@ -10,12 +10,11 @@ ghost use Rattle.tg_munch.specs.Munching as munching;
 use crate::drafts::Draft;
 use crate::expressions::{expression, low_bytes};
 use crate::statements::{branch_behind, statement};
-use std::alloc::Global;
 use tg_base::{Memory, Temp};
 use tg_frame::Access;
 use tg_instr::{Instr, Opnd};
-use tg_isa::Reg;
-use tg_tree::{Bin, Linear, Tx, binary, load};
+use tg_isa::{Bits, Reg};
+use tg_tree::{Linear, Tx};
 
 /// The registers that a function gives back: `$s0` to `$s7` and `$ra`.
 pub(crate) const KEPT: [u8; 9] = [16, 17, 18, 19, 20, 21, 22, 23, 31];
@@ -55,84 +54,98 @@ fn give_back(draft: &mut Draft, keeps: u32, registers: &[u8]) -> Result<(), Memo
     Ok(())
 }
 
-/// The parameters go to their homes, from the one with a number on.
-pub(crate) fn parameters(
-    alloc: Global,
-    draft: &mut Draft,
-    slots: u32,
-    homes: &[Access],
-) -> Result<(), Memory>
-    ensures { OnOk result
-        (Writes (bodies.parameters slots 0 homes.now) draft.old draft.new tt) }
+/// The parameters go to their homes, those past the fourth all by one frame address.
+pub(crate) fn parameters(draft: &mut Draft, homes: &[Access]) -> Result<(), Memory>
+    ensures { OnOk result (Writes (bodies.parameters 0 homes.now) draft.old draft.new tt) }
 {
     for (i, &home) in homes.iter().enumerate() {
-        parameter(alloc, draft, slots, i, home)?;
+        if i >= 4 {
+            by_frame_address(draft, i, &homes[i..])?;
+            return Ok(());
+        }
+        from_register(draft, i, home)?;
     }
     Ok(())
 }
 
-/// Parameter i goes to its home.
-fn parameter(
-    alloc: Global,
-    draft: &mut Draft,
-    slots: u32,
-    i: usize,
-    home: Access,
-) -> Result<(), Memory>
-    ensures { OnOk result (Writes (bodies.parameter slots i home) draft.old draft.new tt) }
+/// Parameter i goes from its register to its home.
+fn from_register(draft: &mut Draft, i: usize, home: Access) -> Result<(), Memory>
+    requires { i < 4 }
+    ensures { OnOk result (Writes (bodies.from_register i home) draft.old draft.new tt) }
 {
+    let from = Opnd::Reg(Reg::new(4 + i as u8));
     match home {
-        Access::InTemp(temp) => parameter_in_temp(alloc, draft, slots, i, temp),
-        Access::InFrame(slot) => parameter_in_frame(alloc, draft, slots, i, slot),
+        Access::InTemp(temp) => draft.put(Instr::Move(Opnd::Temp(temp), from)),
+        Access::InFrame(slot) => draft.put(Instr::FrameStore(from, slot)),
     }
 }
 
-fn parameter_in_temp(
-    alloc: Global,
-    draft: &mut Draft,
-    slots: u32,
-    i: usize,
-    temp: Temp,
-) -> Result<(), Memory>
-    ensures { OnOk result (Writes (bodies.parameter_in_temp slots i temp) draft.old draft.new tt) }
+/// The parameters from one past the fourth on go to their homes.
+fn by_frame_address(draft: &mut Draft, first: usize, homes: &[Access]) -> Result<(), Memory>
+    requires past { 3 < first }
+    requires fits { first + length homes.now < 2 ^ 64 }
+    ensures { OnOk result
+        (Writes (bodies.by_frame_address first homes.now) draft.old draft.new tt) }
 {
-    let home = Opnd::Temp(temp);
-    if i < 4 {
-        let from = Opnd::Reg(Reg::new(4 + i as u8));
-        return draft.put(Instr::Move(home, from));
-    }
-    let x = from_caller(alloc, i)?;
-    expression(draft, slots, &x, Some(home))?;
+    let above = draft.fresh()?;
+    let target = above;
+    draft.put(Instr::FrameAddress(target))?;
+    from_words(draft, above, first, homes)?;
     Ok(())
 }
 
-fn parameter_in_frame(
-    alloc: Global,
-    draft: &mut Draft,
-    slots: u32,
-    i: usize,
-    slot: u32,
-) -> Result<(), Memory>
-    ensures { OnOk result (Writes (bodies.parameter_in_frame slots i slot) draft.old draft.new tt) }
+fn from_words(draft: &mut Draft, above: Opnd, first: usize, homes: &[Access]) -> Result<(), Memory>
+    requires past { 3 < first }
+    requires fits { first + length homes.now < 2 ^ 64 }
+    ensures { OnOk result
+        (Writes (bodies.from_words above first homes.now) draft.old draft.new tt) }
 {
-    if i < 4 {
-        let from = Opnd::Reg(Reg::new(4 + i as u8));
-        return draft.put(Instr::FrameStore(from, slot));
+    for (k, &home) in homes.iter().enumerate() {
+        let base = above;
+        from_word(draft, base, first + k, home)?;
     }
-    let x = from_caller(alloc, i)?;
-    let value = expression(draft, slots, &x, None)?;
-    draft.put(Instr::FrameStore(value, slot))?;
     Ok(())
 }
 
-/// Parameter i, where its caller put it.
-fn from_caller(alloc: Global, i: usize) -> Result<Tx, Memory>
+/// Parameter i goes from the word where its caller put it to its home.
+fn from_word(draft: &mut Draft, above: Opnd, i: usize, home: Access) -> Result<(), Memory>
     requires { 3 < i }
-    ensures { IfOk result (λ x. plain_tx x ≡ bodies.from_caller i) }
+    ensures { OnOk result (Writes (bodies.from_word above i home) draft.old draft.new tt) }
 {
     let bytes = low_bytes(i)?;
-    let address = binary(alloc, Bin::Add, Tx::FrameAddress, Tx::Const(bytes))?;
-    load(alloc, address)
+    match home {
+        Access::InTemp(temp) => load_above(draft, above, bytes, Opnd::Temp(temp)),
+        Access::InFrame(slot) => {
+            let value = draft.fresh()?;
+            let to = value;
+            load_above(draft, above, bytes, to)?;
+            draft.put(Instr::FrameStore(value, slot))?;
+            Ok(())
+        }
+    }
+}
+
+/// An operand gets the word so many bytes above the frame address, which another holds.
+fn load_above(draft: &mut Draft, above: Opnd, bytes: u32, to: Opnd) -> Result<(), Memory>
+    ensures { OnOk result (Writes (bodies.load_above above bytes to) draft.old draft.new tt) }
+{
+    if bytes < 32768 {
+        return draft.put(Instr::Lw(to, Bits::new(bytes), above));
+    }
+    load_far(draft, above, bytes, to)
+}
+
+fn load_far(draft: &mut Draft, above: Opnd, bytes: u32, to: Opnd) -> Result<(), Memory>
+    ensures { OnOk result (Writes (bodies.load_far above bytes to) draft.old draft.new tt) }
+{
+    let target = to;
+    draft.constant(target, bytes)?;
+    let target = to;
+    let source = to;
+    draft.put(Instr::Addu(target, source, above))?;
+    let base = to;
+    draft.put(Instr::Lw(to, Bits::new(0), base))?;
+    Ok(())
 }
 
 /// The elements of flat code, where the kept registers stand in temporaries from a number on.

@@ -1,11 +1,14 @@
-ghost use Rattle.std.specs.Prelude.{◌≡◌, ◌<◌, ◌*◌, ◌-◌, OnOk, IfOk};
+ghost use Rattle.std.specs.Prelude.{◌≡◌, ◌<◌, ◌*◌, ◌-◌, OnOk, IfOk, nat_lt, if◌then◌else◌};
 ghost use Rattle.tg_tree.specs.Lists.{txs_of};
 ghost use Rattle.tg_tree.specs.Plain.{plain_tx};
 ghost use Rattle.tg_tree.specs.Tree as tree;
+ghost use Rattle.tg_munch.specs.Arguments.{one_may_end, ordered};
+ghost use Rattle.tg_munch.specs.Choosing.{give};
 ghost use Rattle.tg_munch.specs.Drafts.{Writes};
 ghost use Rattle.tg_munch.specs.Munching as munching;
 ghost use Rattle.tg_munch.specs.Tiles as tiles;
 
+use crate::arguments::one_may_end;
 use crate::drafts::Draft;
 use crate::operators::{operate, shift_into};
 use crate::tiles::{Base, Immediate, Tile};
@@ -189,15 +192,56 @@ pub(crate) fn call(draft: &mut Draft, slots: u32, label: Label, items: &Txs) -> 
     Ok(())
 }
 
-/// The arguments of a call.
+/// The arguments of a call: those past the fourth first, so that `$a0` to `$a3` are free meanwhile.
+/// Where one of the first four may end the run, all stand in their order.
 #[cycle(munching)]
 fn arguments(draft: &mut Draft, slots: u32, items: &Txs) -> Result<(), Memory>
     ensures { OnOk result
-        (Writes (munching.arguments slots 0 (txs_of items.now.items.items))
+        (Writes (ordered (one_may_end 0 (txs_of items.now.items.items))
+        (λ picks. munching.arguments slots picks 0 (txs_of items.now.items.items)))
+        draft.old draft.new tt) }
+{
+    if one_may_end(&items.items) {
+        pass_those(draft, slots, items, true, true)?;
+        return Ok(());
+    }
+    pass_those(draft, slots, items, false, true)?;
+    pass_those(draft, slots, items, true, false)?;
+    Ok(())
+}
+
+/// The arguments that go to registers, or to the frame, where these are wanted.
+#[cycle(munching)]
+fn pass_those(
+    draft: &mut Draft,
+    slots: u32,
+    items: &Txs,
+    registers: bool,
+    frame: bool,
+) -> Result<(), Memory>
+    ensures { OnOk result
+        (Writes (munching.arguments slots (λ i. if nat_lt i 4 then registers else frame) 0
+        (txs_of items.now.items.items))
         draft.old draft.new tt) }
 {
     for (i, x) in items.items.iter().enumerate() {
+        let wanted = is_wanted(i, registers, frame);
+        pass_where(draft, slots, wanted, i, x)?;
+    }
+    Ok(())
+}
+
+/// Argument i, where it is wanted.
+#[cycle(munching)]
+fn pass_where(draft: &mut Draft, slots: u32, wanted: bool, i: usize, x: &Tx) -> Result<(), Memory>
+    ensures { OnOk result
+        (Writes
+        (if wanted then munching.passed i (munching.expression slots (plain_tx x.now)) else give tt)
+        draft.old draft.new tt) }
+{
+    if wanted {
         pass(draft, slots, i, x)?;
+        return Ok(());
     }
     Ok(())
 }
@@ -219,6 +263,13 @@ fn pass(draft: &mut Draft, slots: u32, i: usize, x: &Tx) -> Result<(), Memory>
     let value = expression(draft, slots, x, None)?;
     store_low(draft, bytes, value)?;
     Ok(())
+}
+
+/// Whether an argument goes where it is wanted: the first four to registers, others to the frame.
+fn is_wanted(i: usize, registers: bool, frame: bool) -> bool
+    ensures { result ≡ (if nat_lt i 4 then registers else frame) }
+{
+    if i < 4 { registers } else { frame }
 }
 
 /// Where argument i stands at the low end of the frame of its caller, in bytes.

@@ -1,4 +1,9 @@
-ghost use Rattle.tg_munch.specs.Lengths.{InstructionsAreFew, WordsAreFew};
+ghost use Rattle.tg_munch.specs.Lengths.{
+  InstructionsAreFew,
+  WordsAreFew,
+  TemporariesAreFew,
+  ShiftsAreLong,
+};
 ghost use Rattle.tg_munch.specs.Laws.{
   MovesStay,
   CodeEndsWell,
@@ -43,4 +48,12 @@ pub fn code_is_marked()
 pub fn code_is_short()
     ensures few { InstructionsAreFew }
     ensures words { WordsAreFew }
+{}
+
+/// Laws of the temporaries that are drawn and of the words for the arguments of calls: with the
+/// slots they are at most the room of the flat code, three for each shift by a word, and nine for
+/// the registers that are kept; and a shift by a word counts 21 in the length of the flat code.
+pub fn temporaries_are_few()
+    ensures few { TemporariesAreFew }
+    ensures shifts { ShiftsAreLong }
 {}

@@ -2,6 +2,7 @@
 //! over temporaries and registers. Promises exactly the code that `specs/` computes.
 #![tactic(auto)]
 
+mod arguments;
 mod bodies;
 mod comparing;
 mod drafts;
@@ -16,5 +17,7 @@ mod statements;
 mod tiles;
 mod tiling;
 
-pub use laws::{code_is_kept, code_is_marked, code_is_short, code_names_its_own};
+pub use laws::{
+    code_is_kept, code_is_marked, code_is_short, code_names_its_own, temporaries_are_few,
+};
 pub use munching::munch;

@@ -54,7 +54,7 @@ fn body(alloc: Global, code: &[Linear], frame: &Frame, mark: u32) -> Result<Draf
     }
     let mut draft = Draft::new(alloc, frame.temps, mark);
     keep(&mut draft, &KEPT)?;
-    parameters(alloc, &mut draft, frame.slots, frame.params.as_slice())?;
+    parameters(&mut draft, frame.params.as_slice())?;
     elements(&mut draft, frame.slots, frame.temps, code)?;
     Ok(draft)
 }

@@ -30,7 +30,7 @@ use Rattle.tg_isa.specs.Texts as texts
 use Rattle.tg_base.specs.State.{start}
 use Rattle.tg_instr.specs.declared.instr.Instr.{Instr}
 use Rattle.tg_instr.specs.Lengths.{words_of}
-use Rattle.tg_instr.specs.Running.{code_run}
+use Rattle.tg_instr.specs.Running.{everywhere, code_run}
 use Rattle.tg_munch.specs.Bodies.{munched, outs}
 use Rattle.tg_spill.specs.InFrame.{code_in_frame}
 use Rattle.tg_emit.specs.Lines.{entry, code_lines}
@@ -151,10 +151,11 @@ module _ (program : Exp) (found : Findings) where
   as_flat fuel = flat_run flat size bottom 64 32 [] fuel
 
   abbrev pub as_instructions : (fuel : ℕ) → Ran
-  as_instructions fuel = code_run words_of instructions size bottom 64 32 [] fuel
+  as_instructions fuel = code_run (everywhere words_of) instructions size bottom 64 32 [] fuel
 
   abbrev pub as_in_frames : (fuel : ℕ) → Ran
-  as_in_frames fuel = code_run words_of in_frames size bottom 64 32 [] fuel
+  as_in_frames fuel =
+      code_run (everywhere words_of) in_frames size bottom 64 32 [] fuel
 
   abbrev pub as_image : (fuel : ℕ) → Ran
   as_image fuel =

@@ -1,11 +1,15 @@
-use Rattle.std.proofs.Common.{None, ◌≡◌, ◌+◌, length, arith, refl, ap, sym, ◌∙◌, subst}
+use Rattle.std.proofs.Common.{ℕ, Bool, true, false, None, ◌≡◌, ◌+◌, length, arith, refl, ap, sym, ◌∙◌, subst}
 use Rattle.std.specs.Prelude.{IfOk}
+use Rattle.tg_tree.specs.Lists.{txs_of}
 use Rattle.tg_tree.specs.Plain.{plain_tx}
 use Rattle.tg_tree.proofs.ListLaws.{plain_tx-Call}
+use Rattle.tg_munch.specs.Arguments.{one_may_end, ordered}
+use Rattle.tg_munch.specs.Choosing.{Choice}
 use Rattle.tg_munch.specs.Drafts.{Writes}
-use Rattle.tg_munch.specs.Munching.{expression, based_at, left_side}
+use Rattle.tg_munch.specs.Munching.{expression, arguments, based_at, left_side}
 use Rattle.tg_munch.specs.Tiles.{based, loaded}
-use Rattle.tg_munch.proofs.Walking.{leads_on, leads_end, argument_each, passed_low, passed_high, by_word, on_operands, load_is, load_byte_is}
+use Rattle.tg_munch.proofs.Walking.{leads_on, leads_end, argument_each, picked, picks_all, picks_frame, picks_registers, passed_low, passed_high}
+use Rattle.tg_munch.proofs.Walking.{by_word, on_operands, load_is, load_byte_is}
 use Rattle.tg_munch.proofs.Writing.{writes_then, writes_none}
 use Rattle.tg_munch.proofs.expressions.+munching.Goals as goal
 
@@ -28,18 +32,38 @@ service-returns t c =
 pub call-returns : goal.call-returns
 call-returns t c = writes_then _ c.in_ok-arguments.ensures c.in_ok-put.ensures
 
-pub arguments-loop-i-preserved : goal.arguments-loop-i-preserved
-arguments-loop-i-preserved t c =
-    let i = c.loop-i.i in
-    leads_on (argument_each c.args.slots) c.args.items.now.items.items 0 i i
-    (rw c.deref-x-items.ensures.value at c.loop-i-test.true) (rw c.deref-x-items.ensures.value at c.x-item.is)
-    c.loop-i.invariant c.in_ok-pass.ensures
+pub arguments-returns-then-one_may_end : goal.arguments-returns-then-one_may_end
+arguments-returns-then-one_may_end t c =
+    let xs = txs_of c.args.items.now.items.items in
+    let value : (ℕ → Bool) → Choice (Unit {0}) = λ picks. arguments c.args.slots picks 0 xs in
+    let ends : one_may_end 0 xs ≡ true = subst (λ ys. one_may_end 0 (txs_of ys) ≡ true) c.deref.ensures.value
+    (sym c.one_may_end.ensures ∙ c.if-one_may_end.true) in
+    subst (λ b. Writes (ordered b value) c.args.draft.now c.pass_those.new.draft tt) (sym ends)
+    (subst (λ picks. Writes (value picks) c.args.draft.now c.pass_those.new.draft tt) picks_all c.in_ok-pass_those.ensures)
 
 pub arguments-returns : goal.arguments-returns
 arguments-returns t c =
+    let xs = txs_of c.args.items.now.items.items in
+    let value : (ℕ → Bool) → Choice (Unit {0}) = λ picks. arguments c.args.slots picks 0 xs in
+    let ends : one_may_end 0 xs ≡ false = subst (λ ys. one_may_end 0 (txs_of ys) ≡ false) c.deref.ensures.value
+    (sym c.one_may_end.ensures ∙ c.if-one_may_end.false) in
+    subst (λ b. Writes (ordered b value) c.args.draft.now c.pass_those-3.new.draft tt) (sym ends)
+    (writes_then _
+    (subst (λ picks. Writes (value picks) c.args.draft.now c.pass_those-2.new.draft tt) picks_frame c.in_ok-pass_those-2.ensures)
+    (subst (λ picks. Writes (value picks) c.pass_those-2.new.draft c.pass_those-3.new.draft tt) picks_registers c.in_ok-pass_those-3.ensures))
+
+pub pass_those-loop-i-preserved : goal.pass_those-loop-i-preserved
+pass_those-loop-i-preserved t c =
+    let i = c.loop-i.i in
+    leads_on (argument_each c.args.slots (picked c.args.registers c.args.frame)) c.args.items.now.items.items 0 i i
+    (rw c.deref-x-items.ensures.value at c.loop-i-test.true) (rw c.deref-x-items.ensures.value at c.x-item.is)
+    c.loop-i.invariant (rw c.is_wanted-wanted.ensures at c.in_ok-pass_where.ensures)
+
+pub pass_those-returns : goal.pass_those-returns
+pass_those-returns t c =
     let i = c.loop-i.i in
     let over : i ≡ length c.deref-x-items.result.now = omega (arith, c.loop-i.auto.i-end, c.loop-i-test.false) in
-    leads_end (argument_each c.args.slots) c.args.items.now.items.items 0 i i
+    leads_end (argument_each c.args.slots (picked c.args.registers c.args.frame)) c.args.items.now.items.items 0 i i
     (over ∙ ap length c.deref-x-items.ensures.value) c.loop-i.invariant
 
 pub base-returns-in_ok-operand-in-Some : goal.base-returns-in_ok-operand-in-Some
