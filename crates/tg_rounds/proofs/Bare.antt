@@ -1,24 +1,23 @@
 -- A temporary without moves and without pairs gets the first colour; and a spilled class is named
 -- once, by the node under which it stands.
-use Rattle.std.proofs.Common.{◌≡◌, ◌≢◌, ℕ, ◌+◌, ◌<◌, Bool, true, false, not, ◌&&◌, ◌||◌, ◌⊎◌, inl, inr, refl, sym, ap, subst, ◌∙◌}
-use Rattle.std.proofs.Common.{arith, ⊎_elim, List, [], ◌∷◌, ◌++◌, Option, Some, None}
-use Rattle.std.specs.Prelude.{All, IsFalse, nat_lt, nat_eq, ◌==◌, if◌then◌else◌, find, fold, is_none, slice_get}
+use Rattle.std.proofs.Common.{◌≡◌, ◌≢◌, ℕ, ◌<◌, Bool, true, false, ◌&&◌, ◌⊎◌, inl, inr, refl, sym, ap, subst, ◌∙◌}
+use Rattle.std.proofs.Common.{arith, ⊎_elim, List, [], ◌∷◌, ◌++◌, Option, Some}
+use Rattle.std.specs.Prelude.{All, nat_lt, nat_eq, ◌==◌, if◌then◌else◌, find, fold, is_none}
 use Rattle.std.specs.List.{AllByRecursion, IsDistinct, list_any, range_with_len}
 use Rattle.std.proofs.lemmas.Bool.{ltb-true, lt-ltb}
 use Rattle.std.proofs.lemmas.List.Elements.{All-from_recursion}
 use Rattle.tg_rounds.specs.declared.steps.Step.{Step}
 use Rattle.tg_rounds.specs.declared.steps.Step.TheVariants.{Simplify, Same, Constrain, Coalesce, Freeze, Spill}
 use Rattle.tg_rounds.specs.declared.rounds.Round.{Round}
-use Rattle.tg_rounds.specs.Graphs.{colour_count, is_register, IsGraph, some}
+use Rattle.tg_rounds.specs.Graphs.{colour_count, some}
 use Rattle.tg_rounds.specs.States.{Problem, RoundState, start, low, remains}
 use Rattle.tg_rounds.specs.Steps.{can, after, after_all, AreTaken}
 use Rattle.tg_rounds.specs.Selection.{Colouring, has_colour, precoloured, sees, is_free, pop, select}
 use Rattle.tg_rounds.specs.Rounds.{end, IsRound}
-use Rattle.tg_rounds.specs.Laws.{AreNodes, IsTemporary, is_stacked}
-use Rattle.tg_rounds.specs.Classes.{class_of, IsAlone, IsUntouched, BareAreFirstColoured, NamesClasses, SpilledNameClasses, RegistersStandAbove}
+use Rattle.tg_rounds.specs.Laws.{IsTemporary, is_stacked}
+use Rattle.tg_rounds.specs.Classes.{IsAlone, BareAreFirstColoured, SpilledNameClasses, RegistersStandAbove}
 use Rattle.tg_rounds.proofs.Deciding.{clash, both, and_true, either, or_left, or_right, neither, tells, never, not_true, from_false}
 use Rattle.tg_rounds.proofs.Deciding.{same_node, same_test, some_is}
-use Rattle.tg_rounds.proofs.Counting.{was_in}
 use Rattle.tg_rounds.proofs.Classes.{Holds, holds_at_start, holds_after, holds_from_start}
 use Rattle.tg_rounds.proofs.Selecting.{any_is}
 use Rattle.tg_rounds.proofs.Answering.{answered}

@@ -16,6 +16,7 @@ pub mod Selecting
 pub mod Within
 pub mod Bare
 pub mod ProperColouring
+pub mod Coloured
 pub mod Shrinking
 pub mod Running
 pub mod Degrees

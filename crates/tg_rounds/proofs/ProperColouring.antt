@@ -141,7 +141,7 @@ module _ (g : Problem) (s : RoundState) where
       (not_true free)
 
   module _ (h : Holds g s) (symmetric : (x y : ℕ) → g.graph.pairs x y ≡ g.graph.pairs y x) where
-    two_classes : (x y : ℕ) → x < g.graph.nodes → y < g.graph.nodes → g.graph.pairs x y ≡ true → s.alias x ≢ s.alias y
+    pub two_classes : (x y : ℕ) → x < g.graph.nodes → y < g.graph.nodes → g.graph.pairs x y ≡ true → s.alias x ≢ s.alias y
     two_classes x y lx ly p e =
         clash (subst (λ w. s.pairs (s.alias x) w ≡ true) (sym e) (h.keeps x y lx ly p))
         (h.sound.irreflexive (s.alias x))

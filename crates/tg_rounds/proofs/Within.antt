@@ -1,19 +1,18 @@
 -- The classes of a round stay within sets of nodes that no move leads out of.
-use Rattle.std.proofs.Common.{◌≡◌, ◌≢◌, ℕ, ◌+◌, ◌<◌, Bool, true, false, ◌&&◌, ◌||◌, ◌⊎◌, inl, inr, refl, sym, ap, subst, ◌∙◌}
+use Rattle.std.proofs.Common.{◌≡◌, ◌≢◌, ℕ, ◌<◌, Bool, true, false, ◌&&◌, ◌||◌, ◌⊎◌, inl, inr, refl, sym, ap, subst, ◌∙◌}
 use Rattle.std.proofs.Common.{⊎_elim, List, [], ◌∷◌, length}
-use Rattle.std.specs.Prelude.{All, nat_lt, nat_eq, ◌==◌, if◌then◌else◌, slice_index_or}
+use Rattle.std.specs.Prelude.{nat_lt, nat_eq, ◌==◌, if◌then◌else◌, slice_index_or}
 use Rattle.std.proofs.lemmas.Bool.{ltb-true}
 use Rattle.std.proofs.lemmas.Bool.Decides.{eqb_tells}
 use Rattle.std.proofs.lemmas.Option.{get_or_from_slice_get}
 use Rattle.tg_rounds.specs.declared.steps.Step.{Step}
 use Rattle.tg_rounds.specs.declared.steps.Step.TheVariants.{Simplify, Same, Constrain, Coalesce, Freeze, Spill}
-use Rattle.tg_rounds.specs.declared.moves.Move.{Move}
 use Rattle.tg_rounds.specs.declared.rounds.Round.{Round}
 use Rattle.tg_rounds.specs.Graphs.{Set}
 use Rattle.tg_rounds.specs.States.{Problem, RoundState, start, move_at, to, from, is_unsettled}
-use Rattle.tg_rounds.specs.Steps.{is_same, is_safe, stands_under, can, after, after_all, AreTaken}
+use Rattle.tg_rounds.specs.Steps.{is_safe, stands_under, can, after, after_all, AreTaken}
 use Rattle.tg_rounds.specs.Rounds.{end, IsRound}
-use Rattle.tg_rounds.specs.Classes.{class_of, HasWholeMoves, ClassesStayWithin, IsAlone, IsUntouched, UntouchedStandAlone}
+use Rattle.tg_rounds.specs.Classes.{class_of, HasWholeMoves, ClassesStayWithin, IsUntouched, UntouchedStandAlone}
 use Rattle.tg_rounds.specs.Classes.{IsTouchedFrom, OneNeighbourIsJoined}
 use Rattle.tg_rounds.proofs.Deciding.{clash, both, either, tells, never, not_true, same_node, same_test}
 use Rattle.tg_rounds.proofs.Answering.{listed_at}

@@ -1,7 +1,7 @@
 -- Which nodes a round puts into one class (George and Appel 1996, section 4): those alone that
 -- moves lead to from one another. So a node without moves stands alone, and one without pairs too
 -- gets the first colour.
-use Rattle.std.specs.Prelude.{◌≡◌, ◌≢◌, ◌<◌, ◌⊎◌, ℕ, nat_eq, IsTrue, IsFalse, List, All, Some}
+use Rattle.std.specs.Prelude.{◌≡◌, ◌≢◌, ◌<◌, ◌⊎◌, ℕ, nat_eq, IsTrue, IsFalse, All, Some}
 use Rattle.std.specs.Prelude.{slice_get, slice_index_or}
 use Rattle.std.specs.List.{IsDistinct}
 use Rattle.tg_rounds.specs.declared.rounds.Round.{Round}
@@ -39,6 +39,17 @@ abbrev pub RegistersStandAbove : Type 0
 RegistersStandAbove =
     OfEachRound
     (λ g round. (x : ℕ) → x < g.graph.nodes → IsTrue (is_register x) → class_of round x ≡ x)
+
+-- nodes that interfere are of two classes, also where a class is spilled and has no colour
+abbrev pub ClassesAreApart : Type 0
+ClassesAreApart =
+    OfEachRound
+    (λ g round.
+    (x y : ℕ) →
+    x < g.graph.nodes →
+    y < g.graph.nodes →
+    IsTrue (g.graph.pairs x y) →
+    class_of round x ≢ class_of round y)
 
 -- no move ends in the node
 abbrev pub IsUntouched : Problem → ℕ → Type 0

@@ -116,6 +116,16 @@ ColoursAreRegisters =
     slice_get round.colours x ≡ Some (Some a) →
     IsTrue (is_register a)
 
+-- where nothing is spilled, each node has a colour
+abbrev pub EachIsColoured : Type 0
+EachIsColoured =
+    OfEachRound
+    (λ g round.
+    round.spilled ≡ [] →
+    (x : ℕ) →
+    x < g.graph.nodes →
+    (a : ℕ) × (slice_get round.colours x ≡ Some (Some a)))
+
 -- Steps.
 
 -- the temporaries that remain and the unsettled moves

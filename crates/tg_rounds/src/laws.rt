@@ -4,6 +4,7 @@ ghost use Rattle.tg_rounds.specs.Laws.{
   ColoursDiffer,
   RegistersAreColoured,
   ColoursAreRegisters,
+  EachIsColoured,
   StepsShrink,
   FirstAreTaken,
   RunsGoOn,
@@ -19,6 +20,7 @@ ghost use Rattle.tg_rounds.specs.Laws.{
   RoundsAreOfNodes,
 };
 ghost use Rattle.tg_rounds.specs.Classes.{
+  ClassesAreApart,
   ClassesStayWithin,
   UntouchedStandAlone,
   OneNeighbourIsJoined,
@@ -41,11 +43,12 @@ pub fn moves_are_explained()
 {}
 
 /// The laws of the colours that a round answers: two nodes that interfere have two, where both have
-/// one, and each register has its own.
+/// one, each register has its own, and where nothing is spilled each node has one.
 pub fn colours_are_proper()
     ensures differ { ColoursDiffer }
     ensures registers { RegistersAreColoured }
     ensures below { ColoursAreRegisters }
+    ensures each { EachIsColoured }
 {}
 
 /// The laws of steps: that a round ends, which steps are taken, how a run goes on, and where it is
@@ -95,12 +98,14 @@ pub fn rounds_are_of_nodes()
 
 /// The laws of which nodes come into one class: a class stays within a set of nodes that no move
 /// leads out of, so a node without moves stands alone, and one whose moves all lead to one other
-/// stands alone or with that. A register's class stands under the register.
+/// stands alone or with that. A register's class stands under the register, and nodes that
+/// interfere are of two classes.
 pub fn classes_follow_moves()
     ensures within { ClassesStayWithin }
     ensures untouched { UntouchedStandAlone }
     ensures joined { OneNeighbourIsJoined }
     ensures registers { RegistersStandAbove }
+    ensures apart { ClassesAreApart }
 {}
 
 /// The laws of what is spilled: no temporary without moves and without pairs, which gets the first

@@ -1,6 +1,6 @@
 -- What stands, behind rounds, for an instruction that was handed in: its block.
 use Rattle.std.proofs.Common.{ℕ, ◌≡◌, ◌≤◌, ◌<◌, ◌+◌, List, [], ◌∷◌, ◌++◌, Bool, cond, Option, Some, None, length, ◌⊎◌}
-use Rattle.std.specs.Prelude.{IsTrue, IsFalse, nat_lt}
+use Rattle.std.specs.Prelude.{IsTrue, IsFalse, nat_lt, flat_map}
 use Rattle.std.specs.List.{AllByRecursion}
 use Rattle.tg_instr.specs.declared.operands.Opnd.{Opnd}
 use Rattle.tg_instr.specs.declared.operands.Opnd.TheVariants.{Temp, Reg}
@@ -9,7 +9,8 @@ use Rattle.tg_instr.specs.declared.instr.Instr.TheVariants.{Move, FrameLoad, Fra
 use Rattle.tg_instr.specs.declared.renaming.Named.{Named}
 use Rattle.tg_instr.specs.Codes.{is_below}
 use Rattle.tg_instr.specs.Renaming.{named}
-use Rattle.tg_instr.specs.Lengths.{words_of, words}
+use Rattle.tg_instr.specs.Lengths.{words_of}
+use Rattle.tg_spill.specs.Growth.{most_steps, steps}
 use Rattle.tg_spill.specs.Rewriting.{next_after}
 use Rattle.tg_spill.proofs.Renamed.{temp, is_move}
 
@@ -74,6 +75,7 @@ outers n x = outer_in n x.to + outer_in n x.first + outer_in n x.second
 pub record IsCore (n : ℕ) (k : Known) (one core : Instr) : Type 0 where
   pub no_move : IsFalse (is_move core)
   pub words : words_of core ≡ words_of one
+  pub steps : most_steps core ≡ most_steps one
   pub to : IsFitNamed n k (named core).to
   pub first : IsFitNamed n k (named core).first
   pub second : IsFitNamed n k (named core).second
@@ -93,16 +95,20 @@ pub data IsBlock (n : ℕ) (k : Known) : Instr → List Instr → ℕ → Type 0
   whole : (to from x y : Opnd) → IsTrue (is_outer n x) → IsTrue (is_outer n y) → IsBlock n k (Move to from) (Move x y ∷ []) 4
   loaded : (to from a : Opnd) (m slot : ℕ) → IsOpen n k m a → IsBlock n k (Move to from) (FrameLoad (temp m) slot ∷ Move a (temp m) ∷ []) 3
   stored : (to from a : Opnd) (m slot : ℕ) → IsOpen n k m a → IsBlock n k (Move to from) (Move (temp m) a ∷ FrameStore (temp m) slot ∷ []) 3
-  final : (to from : Opnd) (list : List Instr) → AreFinal n k list → length list ≤ 5 → words list ≤ 13 → IsBlock n k (Move to from) list 0
+  final : (to from : Opnd) (list : List Instr) → AreFinal n k list → length list ≤ 5 → steps list ≤ 13 → IsBlock n k (Move to from) list 0
 
--- the blocks of a code's instructions, in their order
-pub data AreBlocks (n : ℕ) (k : Known) : List Instr → List Instr → ℕ → Type 0 where
+-- a block for each instruction of a code
+pub data AreBlocks (n : ℕ) (k : Known) : List Instr → List (List Instr) → ℕ → Type 0 where
   none : AreBlocks n k [] [] 0
   also :
-      (one : Instr) (block rest rest' : List Instr) (left lefts : ℕ) →
+      (one : Instr) (block rest : List Instr) (blocks : List (List Instr)) (left lefts : ℕ) →
       IsBlock n k one block left →
-      AreBlocks n k rest rest' lefts →
-      AreBlocks n k (one ∷ rest) (block ++ rest') (left + lefts)
+      AreBlocks n k rest blocks lefts →
+      AreBlocks n k (one ∷ rest) (block ∷ blocks) (left + lefts)
+
+-- the code that the blocks are
+abbrev pub code_of : List (List Instr) → List Instr
+code_of blocks = flat_map (λ block. block) blocks
 
 -- What a round has to give slots to, so that blocks stay blocks.
 

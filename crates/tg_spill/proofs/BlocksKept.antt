@@ -11,13 +11,13 @@ use Rattle.tg_instr.specs.declared.instr.Instr.{Instr}
 use Rattle.tg_instr.specs.declared.instr.Instr.TheVariants.{Move, FrameLoad, FrameStore}
 use Rattle.tg_instr.specs.declared.renaming.Named.{Named}
 use Rattle.tg_instr.specs.Renaming.{names, named, renamed}
-use Rattle.tg_instr.specs.Lengths.{words}
 use Rattle.tg_spill.specs.declared.placing.Placed.{Placed}
+use Rattle.tg_spill.specs.Growth.{steps, blocks_rewritten}
 use Rattle.tg_spill.specs.Rewriting.{loads, stores, drawn_for, drawn, in_slot, placed, target, first_use, second_use, next_after}
 use Rattle.tg_spill.specs.Rewriting.{instruction_rewritten, code_rewritten, temps_after}
-use Rattle.tg_spill.proofs.Renamed.{temp, is_move, replaced, named_placed, words_renamed, move_renamed, temps_append, temps_rise, code_append}
+use Rattle.tg_spill.proofs.Renamed.{temp, is_move, replaced, named_placed, words_renamed, steps_renamed, move_renamed, temps_append, temps_rise, code_append}
 use Rattle.tg_spill.proofs.Blocks.{is_outer, Known, IsClosed, IsOpen, IsFinal, AreFinal, IsFit, IsFitNamed, operands, outer_in, outers, IsCore}
-use Rattle.tg_spill.proofs.Blocks.{IsBlock, AreBlocks}
+use Rattle.tg_spill.proofs.Blocks.{IsBlock, AreBlocks, code_of}
 use Rattle.tg_spill.proofs.Blocks.{slot_at, IsSlotting, unless_slotted, if_outer, partner_between, partner_kept, partner_made, ArePartners, Follows}
 use Rattle.tg_spill.proofs.Blocks.IsFinal.{load, store, between}
 use Rattle.tg_spill.proofs.Blocks.IsFit.{outer, closed}
@@ -287,7 +287,7 @@ module _ (n : ℕ) (slot_of : ℕ → Option ℕ) (k k' : Known) (fits : IsSlott
         let q = partners_behind (Move (temp m) (Reg r) ∷ []) (FrameStore (temp m) slot ∷ []) next p in
         stored_by to from (Reg r) m slot h (slot_of m) None refl refl p.0 q.0 l
 
-    final_goes : (to from : Opnd) (list : List Instr) → AreFinal n k list → length list ≤ 5 → words list ≤ 13 →
+    final_goes : (to from : Opnd) (list : List Instr) → AreFinal n k list → length list ≤ 5 → steps list ≤ 13 →
         Goes n k' (Move to from) (code_rewritten slot_of list next) next (temps_after slot_of list next) 0
     final_goes to from list h l w =
         let s = finals_stay list next h in
@@ -430,6 +430,7 @@ module _ (n : ℕ) (slot_of : ℕ → Option ℕ) (k k' : Known) (fits : IsSlott
         is_core = record {
           no_move = move_renamed core _ _ _ ∙ h.no_move;
           words = words_renamed core _ _ _ ∙ h.words;
+          steps = steps_renamed core _ _ _ ∙ h.steps;
           to = subst (λ (x : Named). IsFitNamed n k' x.to) (sym named_is) c1.fit;
           first = subst (λ (x : Named). IsFitNamed n k' x.first) (sym named_is) c2.fit;
           second = subst (λ (x : Named). IsFitNamed n k' x.second) (sym named_is) c3.fit;
@@ -503,27 +504,27 @@ module _ (n : ℕ) (slot_of : ℕ → Option ℕ) (k k' : Known) (fits : IsSlott
 
   -- All blocks.
 
-  pub record AllGo (originals list : List Instr) (next end left : ℕ) : Type 0 where
+  pub record AllGo (originals : List Instr) (blocks : List (List Instr)) (next end left : ℕ) : Type 0 where
     pub still : ℕ
-    pub blocks : AreBlocks n k' originals list still
+    pub are_blocks : AreBlocks n k' originals blocks still
     pub budget : still + end ≤ left + next
 
-  pub blocks_go : {originals list : List Instr} {left : ℕ} → AreBlocks n k originals list left → (next : ℕ) → k.bound ≤ next →
-      ArePartners n slot_of list next k'.partner → temps_after slot_of list next ≤ k'.bound →
-      AllGo originals (code_rewritten slot_of list next) next (temps_after slot_of list next) left
-  blocks_go none next f p b = record { still = 0; blocks = none; budget = omega arith }
-  blocks_go (also one block rest rest' left lefts h hs) next f p b =
-      let e = temps_append slot_of block rest' next in
+  pub blocks_go : {originals : List Instr} {blocks : List (List Instr)} {left : ℕ} → AreBlocks n k originals blocks left → (next : ℕ) →
+      k.bound ≤ next → ArePartners n slot_of (code_of blocks) next k'.partner → temps_after slot_of (code_of blocks) next ≤ k'.bound →
+      AllGo originals (blocks_rewritten slot_of blocks next) next (temps_after slot_of (code_of blocks) next) left
+  blocks_go none next f p b = record { still = 0; are_blocks = none; budget = omega arith }
+  blocks_go (also one block rest blocks left lefts h hs) next f p b =
+      let e = temps_append slot_of block (code_of blocks) next in
       let middle = temps_after slot_of block next in
       let rises = temps_rise slot_of block next in
-      let rises' = temps_rise slot_of rest' middle in
-      let here = block_goes next f h (partners_before block rest' next p) (omega (arith, e, rises', b)) in
-      let behind = blocks_go hs middle (omega (arith, rises, f)) (partners_behind block rest' next p) (omega (arith, e, b)) in
+      let rises' = temps_rise slot_of (code_of blocks) middle in
+      let here = block_goes next f h (partners_before block (code_of blocks) next p) (omega (arith, e, rises', b)) in
+      let behind = blocks_go hs middle (omega (arith, rises, f)) (partners_behind block (code_of blocks) next p) (omega (arith, e, b)) in
       let budget1 = here.budget in
       let budget2 = behind.budget in
       record {
         still = here.still + behind.still;
-        blocks = subst (λ xs. AreBlocks n k' (one ∷ rest) xs (here.still + behind.still)) (sym (code_append slot_of block rest' next))
-            (also one (code_rewritten slot_of block next) rest (code_rewritten slot_of rest' middle) here.still behind.still here.is_block behind.blocks);
+        are_blocks = also one (code_rewritten slot_of block next) rest (blocks_rewritten slot_of blocks middle) here.still behind.still
+            here.is_block behind.are_blocks;
         budget = omega (arith, e, budget1, budget2);
       }

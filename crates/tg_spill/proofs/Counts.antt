@@ -1,12 +1,15 @@
 -- How long code in the frame is.
 use Rattle.std.proofs.Common.{ℕ, ◌≡◌, ◌≤◌, ◌+◌, ◌*◌, suc, List, [], ◌∷◌, ◌++◌, Option, Some, None, length, refl, arith, length-append, lit≤}
-use Rattle.std.proofs.lemmas.List.Sums.{sum_by-append}
+use Rattle.std.proofs.lemmas.List.Sums.{sum_by-append, sum_by-cons}
 use Rattle.tg_instr.specs.declared.operands.Opnd.{Opnd}
 use Rattle.tg_instr.specs.declared.operands.Opnd.TheVariants.{Temp, Reg}
 use Rattle.tg_instr.specs.declared.instr.Instr.{Instr}
-use Rattle.tg_instr.specs.declared.instr.Instr.TheVariants.{Move, FrameLoad, FrameStore, FrameAddress, Address, Branch, Return}
-use Rattle.tg_instr.specs.Lengths.{words_of, words}
+use Rattle.tg_instr.specs.declared.instr.Instr.TheVariants.{Move, Mark, FrameLoad, FrameStore, FrameAddress, Address, Branch, Return}
+use Rattle.tg_instr.specs.Lengths.{words_of, words, most_words}
 use Rattle.tg_instr.specs.Renaming.{named, renamed}
+use Rattle.tg_spill.specs.Growth.{most_steps, steps}
+use Rattle.tg_spill.proofs.Renamed.{steps_renamed}
+use Rattle.tg_spill.proofs.Blocks.{count_of, operands}
 use Rattle.tg_spill.specs.InFrame.{through_named, loaded, stored, moved, through_slots, instruction_in_frame, code_in_frame}
 
 loaded_length : (base r : ℕ) (o : Option Opnd) → length (loaded base r o) ≤ 1
@@ -38,7 +41,7 @@ through_length base one =
     let g : length c ≡ suc (length (stored base 8 (named one).to)) = refl in
     omega arith
 
-one_length : (base : ℕ) (one : Instr) → length (instruction_in_frame base one) ≤ 4
+pub one_length : (base : ℕ) (one : Instr) → length (instruction_in_frame base one) ≤ 4
 one_length base (Move to from) = moved_length base to from
 one_length base one = through_length base one
 
@@ -100,6 +103,40 @@ through_words base one x y z =
 one_words : (base : ℕ) (one : Instr) → words (instruction_in_frame base one) ≤ 10
 one_words base (Move to from) = moved_words base to from
 one_words base one = through_words base one (through_named 8 (named one).to) (through_named 8 (named one).first) (through_named 9 (named one).second)
+
+-- steps: those of the instruction, and three for each operand that it names
+loaded_steps : (base r : ℕ) (o : Option Opnd) → steps (loaded base r o) ≤ 3 * count_of o
+loaded_steps base r (Some (Temp t)) = lit≤ tt
+loaded_steps base r (Some (Reg q)) = lit≤ tt
+loaded_steps base r None = lit≤ tt
+
+stored_steps : (base r : ℕ) (o : Option Opnd) → steps (stored base r o) ≤ 3 * count_of o
+stored_steps base r (Some (Temp t)) = lit≤ tt
+stored_steps base r (Some (Reg q)) = lit≤ tt
+stored_steps base r None = lit≤ tt
+
+pub named_steps : (one : Instr) → 3 * operands (named one) + most_steps one ≤ most_words one
+named_steps (Mark m) = lit≤ tt
+named_steps _ = lit≤ tt
+
+pub through_steps : (base : ℕ) (one : Instr) → steps (through_slots base one (named one)) ≤ most_words one
+through_steps base one =
+    let x = through_named 8 (named one).to in
+    let y = through_named 8 (named one).first in
+    let z = through_named 9 (named one).second in
+    let p = loaded base 8 (named one).first in
+    let q = loaded base 9 (named one).second in
+    let r = renamed one x y z ∷ stored base 8 (named one).to in
+    let e : steps (p ++ (q ++ r)) ≡ steps p + steps (q ++ r) = sum_by-append most_steps p (q ++ r) in
+    let f : steps (q ++ r) ≡ steps q + steps r = sum_by-append most_steps q r in
+    let g : steps r ≡ most_steps (renamed one x y z) + steps (stored base 8 (named one).to) =
+    sum_by-cons most_steps (renamed one x y z) (stored base 8 (named one).to) in
+    let w = steps_renamed one x y z in
+    let a = loaded_steps base 8 (named one).first in
+    let b = loaded_steps base 9 (named one).second in
+    let c = stored_steps base 8 (named one).to in
+    let l = named_steps one in
+    omega (arith, e, f, g, w, a, b, c, l)
 
 pub few_words : (base : ℕ) (list : List Instr) → words (code_in_frame base list) ≤ 10 * length list
 few_words base [] = lit≤ tt

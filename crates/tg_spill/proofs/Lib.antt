@@ -1,31 +1,31 @@
 mod Absent
 mod Alike
-mod Blocks
+pub mod Blocks
 mod BlocksKept
 mod Causes
 mod Counts
 mod Examples
 mod Framed
-mod Growing
+pub mod Growing
 mod Making
-mod Naming
-mod OneRound
-mod Painted
+pub mod Naming
+pub mod OneRound
+pub mod Painted
 mod PaintedNames
 mod RegisterNames
 mod Registers
-mod Renamed
+pub mod Renamed
 mod Replacing
-mod Rewritten
-mod RewrittenBelow
+pub mod Rewritten
+pub mod RewrittenBelow
 mod RewrittenNames
 mod RoundExamples
 mod RoundsOf
 mod Shortness
-mod Sizes
+pub mod Sizes
 mod Slots
-mod SlotsBehind
-mod Slotting
+pub mod SlotsBehind
+pub mod Slotting
 mod TestsKept
 mod UnderWay
 mod Unspilled

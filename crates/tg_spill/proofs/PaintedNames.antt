@@ -8,12 +8,12 @@ use Rattle.std.proofs.lemmas.List.{get_or-drop, get_or_past}
 use Rattle.tg_instr.specs.declared.operands.Opnd.{Opnd}
 use Rattle.tg_instr.specs.declared.operands.Opnd.TheVariants.{Temp, Reg}
 use Rattle.tg_instr.specs.declared.instr.Instr.{Instr}
-use Rattle.tg_instr.specs.Codes.{has_registers_alone, has_slots_below}
+use Rattle.tg_instr.specs.Codes.{has_registers_alone, has_slots_below, is_allocated, has_register, names_registers}
 use Rattle.tg_instr.specs.Renaming.{named}
 use Rattle.tg_instr.proofs.Tests.{left_holds, right_holds, both_hold, all_at}
 use Rattle.tg_live.specs.Interference.{colours}
 use Rattle.tg_rounds.specs.declared.rounds.Round.{Round}
-use Rattle.tg_spill.specs.Conditions.{is_fixed, is_allocated, has_register, names_registers}
+use Rattle.tg_spill.specs.Conditions.{is_fixed}
 use Rattle.tg_spill.specs.Painting.{register_of, colour_or_first, colour_of, colour_in, is_idle, painted_named, instruction_painted, code_painted}
 use Rattle.tg_spill.specs.Rewriting.{slot_in}
 use Rattle.tg_spill.specs.Rounds.{home_in, homes_in}

@@ -13,7 +13,8 @@ use Rattle.tg_instr.specs.declared.instr.Instr.TheVariants.{FrameStore, FrameAdd
 use Rattle.tg_instr.specs.Operands.{is_one_row}
 use Rattle.tg_instr.specs.Renaming.{named, renamed, tested}
 use Rattle.tg_instr.proofs.Tests.{left_holds, right_holds, both_hold}
-use Rattle.tg_spill.specs.Conditions.{is_fixed, is_allocated, has_register, names_registers}
+use Rattle.tg_instr.specs.Codes.{is_allocated, has_register, names_registers}
+use Rattle.tg_spill.specs.Conditions.{is_fixed}
 
 pub fixed_allocated : (q : ℕ) → is_fixed q ≡ true → is_allocated q ≡ true
 fixed_allocated q h = grind (arith, nat_tests)

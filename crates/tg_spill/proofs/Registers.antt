@@ -10,12 +10,12 @@ use Rattle.tg_instr.specs.declared.instr.Test.{Test}
 use Rattle.tg_instr.specs.declared.instr.Instr.{Instr}
 use Rattle.tg_instr.specs.declared.instr.Instr.TheVariants.{Move, FrameLoad, FrameStore, Branch}
 use Rattle.tg_instr.specs.Operands.{is_one_row}
-use Rattle.tg_instr.specs.Codes.{is_below, is_register, has_temps_below, has_registers_alone, has_slots_below}
+use Rattle.tg_instr.specs.Codes.{is_below, is_register, has_temps_below, has_registers_alone, has_slots_below, is_allocated, has_register, names_registers}
 use Rattle.tg_instr.specs.Renaming.{named, renamed, tested, stays_one_row}
 use Rattle.tg_instr.specs.Uses.{uses_of, defs_of}
 use Rattle.tg_instr.proofs.Tests.{left_holds, right_holds, both_hold, all_append}
 use Rattle.tg_spill.specs.Below.{is_option_below}
-use Rattle.tg_spill.specs.Conditions.{is_fixed, is_allocated, has_register, names_registers}
+use Rattle.tg_spill.specs.Conditions.{is_fixed}
 use Rattle.tg_spill.specs.InFrame.{through_named, loaded, stored, moved, through_slots, instruction_in_frame, code_in_frame}
 use Rattle.tg_spill.proofs.Naming.{to_below, first_below, second_below, stays}
 use Rattle.tg_spill.proofs.RegisterNames.{fixed_allocated, names_weaker, names_renamed}

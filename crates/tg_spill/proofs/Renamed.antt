@@ -13,6 +13,7 @@ use Rattle.tg_instr.specs.Renaming.{names, named, renamed, tested, stays_one_row
 use Rattle.tg_instr.specs.Lengths.{words_of}
 use Rattle.tg_instr.specs.Uses.{uses_of, defs_of}
 use Rattle.tg_live.specs.Live.{is_among}
+use Rattle.tg_spill.specs.Growth.{most_steps}
 use Rattle.tg_spill.specs.Rewriting.{drawn, placed, target, first_use, second_use, next_after, instruction_rewritten, code_rewritten, temps_after}
 
 abbrev pub temp : ℕ → Opnd
@@ -36,6 +37,10 @@ named_renamed _ x y z h = refl
 pub words_renamed : (one : Instr) (x y z : Opnd) → words_of (renamed one x y z) ≡ words_of one
 words_renamed (Mark m) x y z = refl
 words_renamed _ x y z = refl
+
+pub steps_renamed : (one : Instr) (x y z : Opnd) → most_steps (renamed one x y z) ≡ most_steps one
+steps_renamed (Mark m) x y z = refl
+steps_renamed _ x y z = refl
 
 abbrev pub is_move : Instr → Bool
 is_move (Move to from) = true

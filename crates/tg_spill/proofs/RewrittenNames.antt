@@ -7,7 +7,7 @@ use Rattle.tg_instr.specs.declared.operands.Opnd.TheVariants.{Temp, Reg}
 use Rattle.tg_instr.specs.declared.instr.Instr.{Instr}
 use Rattle.tg_instr.specs.Renaming.{named}
 use Rattle.tg_instr.proofs.Tests.{left_holds, right_holds, both_hold, all_append}
-use Rattle.tg_spill.specs.Conditions.{has_register, names_registers}
+use Rattle.tg_instr.specs.Codes.{has_register, names_registers}
 use Rattle.tg_spill.specs.Rewriting.{loads, stores, drawn, in_slot, placed, target, first_use, second_use, next_after, instruction_rewritten, code_rewritten}
 use Rattle.tg_spill.proofs.RegisterNames.{names_renamed}
 

@@ -32,7 +32,7 @@ use Rattle.tg_spill.specs.Rounds.{Stage, IsRoundOf, slots_by}
 use Rattle.tg_spill.specs.Explained.{problem_of}
 use Rattle.tg_spill.proofs.Sizes.{node_below}
 use Rattle.tg_spill.proofs.Renamed.{temp, is_move}
-use Rattle.tg_spill.proofs.Blocks.{is_outer, Known, IsClosed, IsOpen, IsFinal, AreFinal, IsBlock, AreBlocks, slot_at, IsSlotting}
+use Rattle.tg_spill.proofs.Blocks.{is_outer, Known, IsClosed, IsOpen, IsFinal, AreFinal, IsBlock, AreBlocks, code_of, slot_at, IsSlotting}
 use Rattle.tg_spill.proofs.Blocks.IsFinal.{load, store, between as closed_move}
 use Rattle.tg_spill.proofs.Blocks.IsBlock.{straight, whole, loaded, stored, final}
 use Rattle.tg_spill.proofs.Blocks.AreBlocks.{none, also}
@@ -123,9 +123,10 @@ module _ (n : ℕ) (k : Known) where
   block_ends (stored to from a m slot h) = (out_of m a h, (tt, tt))
   block_ends (final to from list h l w) = finals_ends list h
 
-  pub blocks_ends : {originals list : List Instr} {left : ℕ} → AreBlocks n k originals list left → AllByRecursion (EndsFit n k) list
+  pub blocks_ends : {originals : List Instr} {blocks : List (List Instr)} {left : ℕ} → AreBlocks n k originals blocks left →
+      AllByRecursion (EndsFit n k) (code_of blocks)
   blocks_ends none = tt
-  blocks_ends (also one block rest rest' left lefts h hs) = both_ends block rest' (block_ends h) (blocks_ends hs)
+  blocks_ends (also one block rest blocks left lefts h hs) = both_ends block (code_of blocks) (block_ends h) (blocks_ends hs)
 
   -- an operand that was handed in is no made temporary
   not_made : (x : Opnd) (m : ℕ) → IsTrue (is_outer n x) → x ≡ temp m → n ≤ m → ⊥

@@ -1,8 +1,8 @@
 ghost use Rattle.std.specs.Prelude.{[], ◌≡◌, ◌<◌, ◌++◌, ◌∷◌, IsTrue, IfOk};
 ghost use Rattle.std.specs.List.{list_all};
-ghost use Rattle.tg_instr.specs.Codes.{has_slots_below};
+ghost use Rattle.tg_instr.specs.Codes.{has_slots_below, is_allocated, names_registers};
 ghost use Rattle.tg_spill.specs.Allocations.{HasFrame, IsAllocation};
-ghost use Rattle.tg_spill.specs.Conditions.{is_allocated, is_fixed, names_registers};
+ghost use Rattle.tg_spill.specs.Conditions.{is_fixed};
 ghost use Rattle.tg_spill.specs.InFrame.{code_in_frame, homes_from};
 
 use crate::allocations::{Allocation, Rounds};

@@ -1,7 +1,12 @@
 ghost use Rattle.std.specs.Prelude.{[], ◌≡◌, ◌<◌, ◌+◌, ◌^◌, IsTrue, IfOk, cond};
 ghost use Rattle.std.specs.List.{list_all};
-ghost use Rattle.tg_instr.specs.Codes.{has_slots_below, has_temps_below};
-ghost use Rattle.tg_spill.specs.Conditions.{is_allocated, is_fixed, names_registers};
+ghost use Rattle.tg_instr.specs.Codes.{
+  has_slots_below,
+  has_temps_below,
+  is_allocated,
+  names_registers,
+};
+ghost use Rattle.tg_spill.specs.Conditions.{is_fixed};
 ghost use Rattle.tg_spill.specs.InFrame.{code_in_frame, homes_from};
 
 use crate::allocations::{Allocation, Home, Homes, Rounds};

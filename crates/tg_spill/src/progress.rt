@@ -17,9 +17,9 @@ ghost use Rattle.std.specs.Prelude.{
 };
 ghost use Rattle.std.specs.List.{list_all, range_with_len};
 ghost use Rattle.std.specs.Option.{option_or};
-ghost use Rattle.tg_instr.specs.Codes.{has_slots_below};
+ghost use Rattle.tg_instr.specs.Codes.{has_slots_below, is_allocated, names_registers};
 ghost use Rattle.tg_spill.specs.Allocations.{HasFrame};
-ghost use Rattle.tg_spill.specs.Conditions.{is_allocated, is_fixed, names_registers};
+ghost use Rattle.tg_spill.specs.Conditions.{is_fixed};
 ghost use Rattle.tg_spill.specs.Painting.{
   code_painted,
   colour_of,

@@ -1,8 +1,8 @@
 ghost use Rattle.std.specs.Prelude.{◌≡◌, ◌<◌, IfOk, IsTrue};
 ghost use Rattle.std.specs.List.{list_all};
 ghost use Rattle.tg_instr.specs.declared.operands.Opnd.TheVariants.{Reg as RegOf, Temp as TempOf};
-ghost use Rattle.tg_instr.specs.Codes.{has_slots_below};
-ghost use Rattle.tg_spill.specs.Conditions.{is_fixed, names_registers};
+ghost use Rattle.tg_instr.specs.Codes.{has_slots_below, names_registers};
+ghost use Rattle.tg_spill.specs.Conditions.{is_fixed};
 
 use std::alloc::Global;
 use std::str;

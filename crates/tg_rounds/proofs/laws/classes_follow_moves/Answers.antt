@@ -1,5 +1,6 @@
 use Rattle.tg_rounds.proofs.Bare.{registers_stand_above}
 use Rattle.tg_rounds.proofs.Within.{classes_stay_within, untouched_stand_alone, one_neighbour_is_joined}
+use Rattle.tg_rounds.proofs.Coloured.{classes_are_apart}
 use Rattle.tg_rounds.proofs.laws.classes_follow_moves.Goals as goal
 
 pub returns-clause-within : goal.returns-clause-within
@@ -13,3 +14,6 @@ returns-clause-joined c = one_neighbour_is_joined
 
 pub returns-clause-registers : goal.returns-clause-registers
 returns-clause-registers c = registers_stand_above
+
+pub returns-clause-apart : goal.returns-clause-apart
+returns-clause-apart c = classes_are_apart

@@ -1,4 +1,5 @@
 use Rattle.tg_rounds.proofs.ProperColouring.{colours_differ, registers_are_coloured, colours_are_registers}
+use Rattle.tg_rounds.proofs.Coloured.{each_is_coloured}
 use Rattle.tg_rounds.proofs.laws.colours_are_proper.Goals as goal
 
 pub returns-clause-differ : goal.returns-clause-differ
@@ -9,3 +10,6 @@ returns-clause-registers c = registers_are_coloured
 
 pub returns-clause-below : goal.returns-clause-below
 returns-clause-below c = colours_are_registers
+
+pub returns-clause-each : goal.returns-clause-each
+returns-clause-each c = each_is_coloured

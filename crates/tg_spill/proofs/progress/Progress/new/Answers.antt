@@ -3,8 +3,8 @@ use Rattle.std.proofs.lemmas.Grind.{common_steps}
 use Rattle.std.specs.Prelude.{IsTrue}
 use Rattle.std.specs.List.{list_all}
 use Rattle.tg_instr.specs.declared.instr.Instr.{Instr}
-use Rattle.tg_instr.specs.Codes.{has_slots_below}
-use Rattle.tg_spill.specs.Conditions.{is_fixed, names_registers}
+use Rattle.tg_instr.specs.Codes.{has_slots_below, names_registers}
+use Rattle.tg_spill.specs.Conditions.{is_fixed}
 use Rattle.tg_spill.specs.Rewriting.{code_rewritten, temps_after, slot_in}
 use Rattle.tg_spill.proofs.Unspilled.{nowhere, code_stays, temps_stay, has_none}
 use Rattle.tg_spill.proofs.progress.Progress.new.Goals as goal

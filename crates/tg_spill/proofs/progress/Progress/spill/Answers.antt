@@ -2,9 +2,9 @@ use Rattle.std.proofs.Common.{ℕ, ◌≡◌, ◌+◌, List, length, refl, ap, s
 use Rattle.std.specs.Prelude.{IsTrue}
 use Rattle.std.specs.List.{list_all}
 use Rattle.tg_instr.specs.declared.instr.Instr.{Instr}
-use Rattle.tg_instr.specs.Codes.{has_slots_below}
+use Rattle.tg_instr.specs.Codes.{has_slots_below, names_registers}
 use Rattle.std.specs.Option.{option_or}
-use Rattle.tg_spill.specs.Conditions.{is_fixed, names_registers}
+use Rattle.tg_spill.specs.Conditions.{is_fixed}
 use Rattle.tg_spill.specs.Rewriting.{code_rewritten, slot_after, slot_in, slotted}
 use Rattle.tg_spill.proofs.Alike.{AreAlike, code_alike, temps_alike}
 use Rattle.tg_spill.proofs.RewrittenBelow.{all_weaker, slots_weaker, slots_below}
