@@ -39,7 +39,9 @@ use Rattle.tg_image.specs.Programs.{IsProgram, AreTyped}
 use Rattle.tg_image.specs.Images.{program_written}
 use Rattle.tg_image.proofs.Soundness.{program_has_image}
 use Rattle.tg_compile.specs.declared.programs.Placement.{Placement}
-use Rattle.tg_compile.specs.Compiling.{fragments_of, with_statements, flattened, Chooses, CompilesFunction, CompileFunctions, HasImage, Compiles}
+use Rattle.tg_carried.specs.Flattened.{flattened}
+use Rattle.tg_words.specs.Allocating.{Chooses, IsAllocationOf}
+use Rattle.tg_compile.specs.Compiling.{fragments_of, CompileFunctions, HasImage, Compiles}
 use Rattle.tg_compile.specs.Passes.{allocation_of, CompileApart}
 
 -- a program's functions and literals, before the runtime is behind them
@@ -69,7 +71,7 @@ placement_of a = record { registers = a.registers; rounds = a.rounds; all_in_fra
 
 -- one more function
 compile_more : (rule : Rule) (fs : List (Function Ts)) (codes : List Allocated) (ps : List Placement) (f : Function Ts)
-    (code : Allocated) (p : Placement) → CompileApart rule fs codes ps → CompilesFunction rule f (allocation_of (code, p)) →
+    (code : Allocated) (p : Placement) → CompileApart rule fs codes ps → IsAllocationOf rule f (allocation_of (code, p)) →
     CompileApart rule (fs ++ f ∷ []) (codes ++ code ∷ []) (ps ++ p ∷ [])
 compile_more rule [] [] [] f code p h k = (k, tt)
 compile_more rule [] [] (q ∷ ps) f code p h k = absurd h
@@ -80,7 +82,7 @@ compile_more rule (g ∷ fs) (c ∷ codes) (q ∷ ps) f code p h k = (h.0, compi
 
 -- and its code and placement behind the others
 pub compile_one_more : (rule : Rule) (fs : List Fragment) (one : Fragment) (codes all : List Allocated) (ps every : List Placement) (a : Allocation) →
-    CompileApart rule (map plain_fragment fs) codes ps → CompilesFunction rule (plain_fragment one) a →
+    CompileApart rule (map plain_fragment fs) codes ps → IsAllocationOf rule (plain_fragment one) a →
     all ≡ codes ++ a.done ∷ [] → every ≡ ps ++ placement_of a ∷ [] → CompileApart rule (map plain_fragment (fs ++ one ∷ [])) all every
 compile_one_more rule fs one codes all ps every a h k e d =
     let before = map plain_fragment fs in
@@ -106,8 +108,8 @@ together rule (f ∷ fs) (c ∷ codes) (p ∷ ps) h =
 pub compiles_whole : (rule : Rule) (notes : List Note) (body : Exp) (functions : List Fragment) (literals : List Literal)
     (codes : List Allocated) (ps : List Placement) (all : List Allocation) (text : List ℕ) →
     tree_of functions literals ≡ fragments_of notes body → CompileApart rule (map plain_fragment functions) codes ps → all ≡ map allocation_of (zip codes ps) →
-    text ≡ text_of (assembly_of codes literals) → HasImage text → Compiles rule notes body all text
-compiles_whole rule notes body functions literals codes ps all text tree apart joins written image =
+    text ≡ text_of (assembly_of codes literals) → IsProgram codes literals → AreTyped codes literals → Compiles rule notes body all text
+compiles_whole rule notes body functions literals codes ps all text tree apart joins written whole typed =
     let both = together rule (map plain_fragment functions) codes ps apart in
     let P : List Allocation → Type 0 = λ xs. CompileFunctions rule (map plain_fragment functions) xs in
     let Q : List (Function Ts) → Type 0 = λ fs. CompileFunctions rule fs all in
@@ -117,15 +119,26 @@ compiles_whole rule notes body functions literals codes ps all text tree apart j
       functions_are = subst Q (ap (λ (c : Code Ts). c.functions) tree) (subst P (sym joins) both.0);
       literals_are = ap (λ (c : Code Ts). c.literals) tree;
       text_is = written ∙ ap (λ (cs : List Allocated). text_of (assembly_of cs literals)) same;
-      has_image = image;
+      program = subst (λ (cs : List Allocated). IsProgram cs literals) same whole;
+      typed = subst (λ (cs : List Allocated). AreTyped cs literals) same typed;
     }
+
+-- a function with such canonical statements, cut into blocks that are laid in traces
+abbrev with_statements : Function Ts → Drawn Stms → Function (List Linear)
+with_statements f lifted = record {
+  label = f.label;
+  params = f.params;
+  slots = f.slots;
+  temps = lifted.next;
+  out = f.out;
+  body = traced (blocks_of lifted.it);
+}
 
 -- canonical statements, blocks and traces give flat code
 pub flattens : (frame new : Frame) (body : Ts) (statements : Stms) (blocks : List Block) (flat : List Linear) →
     Gives (linearized body) frame.temps statements new.temps →
     new.label ≡ frame.label → new.params ≡ frame.params → new.slots ≡ frame.slots → new.out ≡ frame.out → blocks ≡ blocks_of statements → flat ≡ traced blocks →
     plain_function new flat ≡ flattened (plain_function frame body)
-unfolding flattened
 flattens frame new body statements blocks flat lifted label params slots out cut laid =
     let one : Function (List Linear) = plain_function new flat in
     let lines : flat ≡ traced (blocks_of statements) = laid ∙ ap traced cut in
@@ -134,15 +147,12 @@ flattens frame new body statements blocks flat lifted label params slots out cut
     named ∙ ap (λ (d : Drawn Stms). with_statements (plain_function frame body) d) (sym lifted.is)
 
 flat_label : (f : Function Ts) → (flattened f).label ≡ f.label
-unfolding flattened
 flat_label f = refl
 
 flat_params : (f : Function Ts) → (flattened f).params ≡ f.params
-unfolding flattened
 flat_params f = refl
 
 flat_slots : (f : Function Ts) → (flattened f).slots ≡ f.slots
-unfolding flattened
 flat_slots f = refl
 
 -- and the instructions that are chosen for it
@@ -162,8 +172,12 @@ chooses f between new flat code is label params slots drawn out list temps few =
       few = few;
     }
 
--- the text of a program is assembled to the image of its lines
-pub written_image : (codes : List Allocated) (literals : List Literal) (text : List ℕ) → text ≡ text_of (assembly_of codes literals) →
-    IsProgram codes literals → AreTyped codes literals → HasImage text
-written_image codes literals text is whole typed =
-    record { image = image_of (readings_of (program_written codes literals)); assembles = ap assembled is ∙ program_has_image codes literals whole typed }
+-- what a program is compiled to is assembled to the image of its lines
+pub compiled_has_image : (rule : Rule) (notes : List Note) (program : Exp) (allocations : List Allocation) (text : List ℕ) →
+    Compiles rule notes program allocations text → HasImage text
+compiled_has_image rule notes program allocations text c =
+    let codes = codes_of allocations in
+    record {
+      image = image_of (readings_of (program_written codes c.literals));
+      assembles = ap assembled c.text_is ∙ program_has_image codes c.literals c.program c.typed;
+    }

@@ -11,7 +11,7 @@ use Rattle.tg_tree.specs.declared.fragments.Literal.{Literal}
 use Rattle.tg_tree.specs.Tree as tree
 use Rattle.tg_tree.specs.Tree.{Ts, Function, Code}
 use Rattle.tg_tree.specs.Plain.{plain_literal}
-use Rattle.tg_tree.specs.Named.{Named, function, literal, fault, temporary, IsLinked}
+use Rattle.tg_tree.specs.Named.{Named, function, literal, fault, temporary, constant, IsLinked}
 use Rattle.tg_instr.specs.declared.operands.Opnd.{Opnd}
 use Rattle.tg_instr.specs.declared.instr.Instr.{Instr}
 use Rattle.tg_instr.specs.declared.instr.Instr.TheVariants.{Sll, Address, Call, Fault}
@@ -30,7 +30,8 @@ use Rattle.tg_emit.specs.Conditions.{has_code, is_emittable}
 use Rattle.tg_image.specs.Programs.{IsProgram, bytes_of, function_labels, literal_labels, is_among, labels_differ, names_those, calls_those}
 use Rattle.tg_words.specs.Allocating.{has_small_frame}
 use Rattle.tg_compile.specs.declared.programs.Placement.{Placement}
-use Rattle.tg_compile.specs.Compiling.{flattened, CompilesFunction}
+use Rattle.tg_carried.specs.Flattened.{flattened}
+use Rattle.tg_words.specs.Allocating.{IsAllocationOf}
 use Rattle.tg_compile.specs.Passes.{CompileApart, allocation_of, is_there, have_codes, CodeNamesNoMore, AreLinked, AreSmall}
 
 -- other operands change no name
@@ -46,7 +47,6 @@ names_ignore_operands p =
 
 -- the law of all passes
 pub names_no_more : canon.NamesStay → trace.NamesStay → munch.NamesStay → AllocationsKeepTests → CodeNamesNoMore
-unfolding flattened
 names_no_more lifts lays picks keeps p temps zeros f h rule a c =
     let lifted = linearized f.body f.temps in
     let canonical = lifts p f.body f.temps h (λ i low high. temps i) in
@@ -139,7 +139,7 @@ names_pass allowed a = list_all (names_allowed allowed) a.code.list
 
 codes_pass : (rule : Rule) (allowed : Named → Bool) (fs : List (Function Ts)) (codes : List Allocated) (ps : List Placement) →
     CompileApart rule fs codes ps →
-    ((f : Function Ts) → Contains fs f → (a : Allocation) → CompilesFunction rule f a → names_pass allowed a.done ≡ true) →
+    ((f : Function Ts) → Contains fs f → (a : Allocation) → IsAllocationOf rule f a → names_pass allowed a.done ≡ true) →
     list_all (names_pass allowed) codes ≡ true
 codes_pass rule allowed [] [] [] h each = refl
 codes_pass rule allowed [] [] (p ∷ ps) h each = absurd h
@@ -159,6 +159,7 @@ allowed_there program linked f c (function label) k = among (map (λ (g : Functi
 allowed_there program linked f c (literal label) k = among (map (λ (l : tree.Literal). l.label) program.literals) label (linked.addresses f label c k)
 allowed_there program linked f c (fault n) k = lt-ltb n 1048576 (linked.faults f n c k)
 allowed_there program linked f c (temporary i) k = refl
+allowed_there program linked f c (constant n) k = refl
 
 -- so the code of a linked program is linked
 pub links : CodeNamesNoMore →

@@ -9,45 +9,46 @@ use Rattle.tg_instr.specs.declared.operands.Opnd.TheVariants.{Temp, Reg}
 use Rattle.tg_instr.specs.Renaming.{named}
 use Rattle.tg_munch.specs.Naming as munch
 use Rattle.tg_munch.specs.Laws.{RegistersAreFixed, SlotsAreBelow}
-use Rattle.tg_spill.specs.Conditions as spill
-use Rattle.tg_compile.specs.Compiling.{flattened, chosen}
+use Rattle.tg_instr.specs.Codes.{has_register, names_registers}
+use Rattle.tg_spill.specs.Conditions.{is_fixed}
+use Rattle.tg_carried.specs.Flattened.{flattened}
+use Rattle.tg_words.specs.Allocating.{chosen}
 use Rattle.tg_compile.specs.Passes.{CodeNamesItsOwn}
 
 -- a register that is read, or written, is one that code names before allocation
 read_is : (one : Option Opnd) → munch.has_register munch.is_read one ≡ true →
-    spill.has_register spill.is_fixed one ≡ true
+    has_register is_fixed one ≡ true
 read_is (Some (Reg r)) e = e
 read_is (Some (Temp t)) e = refl
 read_is None e = refl
 
 written_is : (one : Option Opnd) → munch.has_register munch.is_written one ≡ true →
-    spill.has_register spill.is_fixed one ≡ true
+    has_register is_fixed one ≡ true
 written_is (Some (Reg r)) e =
     or_right (r == 0) (r == 29 || munch.is_written r) (or_right (r == 29) (munch.is_written r) e)
 written_is (Some (Temp t)) e = refl
 written_is None e = refl
 
-one_is : (one : Instr) → munch.names_registers one ≡ true → spill.names_registers spill.is_fixed one ≡ true
+one_is : (one : Instr) → munch.names_registers one ≡ true → names_registers is_fixed one ≡ true
 one_is one e =
     let n = named one in
     let to = munch.has_register munch.is_written n.to in
     let first = munch.has_register munch.is_read n.first in
     let second = munch.has_register munch.is_read n.second in
     let reads = (and_parts to (first && second) e).1 in
-    and_from (spill.has_register spill.is_fixed n.to) (spill.has_register spill.is_fixed n.first && spill.has_register spill.is_fixed n.second)
+    and_from (has_register is_fixed n.to) (has_register is_fixed n.first && has_register is_fixed n.second)
     (written_is n.to (and_parts to (first && second) e).0)
-    (and_from (spill.has_register spill.is_fixed n.first) (spill.has_register spill.is_fixed n.second)
+    (and_from (has_register is_fixed n.first) (has_register is_fixed n.second)
     (read_is n.first (and_parts first second reads).0) (read_is n.second (and_parts first second reads).1))
 
 all_are : (code : List Instr) → list_all munch.names_registers code ≡ true →
-    list_all (spill.names_registers spill.is_fixed) code ≡ true
+    list_all (names_registers is_fixed) code ≡ true
 all_are [] e = refl
 all_are (one ∷ rest) e =
-    and_from (spill.names_registers spill.is_fixed one) (list_all (spill.names_registers spill.is_fixed) rest)
+    and_from (names_registers is_fixed one) (list_all (names_registers is_fixed) rest)
     (one_is one (and_parts (munch.names_registers one) (list_all munch.names_registers rest) e).0)
     (all_are rest (and_parts (munch.names_registers one) (list_all munch.names_registers rest) e).1)
 
 pub own_names : RegistersAreFixed → SlotsAreBelow → CodeNamesItsOwn
-unfolding flattened
 own_names fixed below f h =
     record { registers = all_are (chosen f).code (fixed (flattened f)); slots = below (flattened f) h }

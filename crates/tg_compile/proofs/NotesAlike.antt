@@ -61,5 +61,6 @@ compiles_alike rule notes sorted program allocations text p r c =
       functions_are = subst P (ap (λ (t : Code Ts). t.functions) same) c.functions_are;
       literals_are = c.literals_are ∙ ap (λ (t : Code Ts). t.literals) same;
       text_is = c.text_is;
-      has_image = c.has_image;
+      program = c.program;
+      typed = c.typed;
     }

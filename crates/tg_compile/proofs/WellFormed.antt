@@ -7,14 +7,13 @@ use Rattle.std.proofs.lemmas.List.{get_or-map, length-map}
 use Rattle.std.proofs.lemmas.Bool.{lt-ltb, ltb-true, and_parts}
 use Rattle.std.proofs.lemmas.List.Elements.{All-append, All-weaker, All-contains, All-contains_itself}
 use Rattle.std.proofs.lemmas.List.Sums.{AllPass-from_list_all}
-use Rattle.tg_syntax.specs.Plain.{plain}
 use Rattle.tg_types.specs.Programs.{CheckedProgram, IsAccepted}
 use Rattle.tg_escape.specs.Escaping.{escapes_of}
 use Rattle.tg_escape.specs.Links.{links_of}
 use Rattle.tg_tree.specs.declared.fragments.Fragment.{Fragment}
 use Rattle.tg_tree.specs.Plain.{plain_fragment}
 use Rattle.tg_tree.specs.Tree.{Ts, Function}
-use Rattle.tg_tree.specs.Named.{Named, function, literal, fault, temporary, named_stms, named_flat, HasItsTemps}
+use Rattle.tg_tree.specs.Named.{Named, function, literal, fault, temporary, constant, named_stms, named_flat, HasItsTemps}
 use Rattle.tg_tree.specs.Shapes.{IsClosed, IsWellMarked}
 use Rattle.tg_translate.specs.Translate.{translated}
 use Rattle.tg_runtime.specs.Laws.{AreRoutines, is_own, AllAreRoutines}
@@ -24,7 +23,8 @@ use Rattle.tg_canon.specs.Laws.{GivesClosed, AreTempsBelow, TempsStay}
 use Rattle.tg_canon.specs.Canon.{linearized}
 use Rattle.tg_trace.specs.Cutting.{blocks_of}
 use Rattle.tg_trace.specs.Laws as trace
-use Rattle.tg_compile.specs.Compiling.{findings_of, fragments_of, flattened}
+use Rattle.tg_carried.specs.Flattened.{flattened}
+use Rattle.tg_compile.specs.Compiling.{findings_of, fragments_of}
 use Rattle.tg_compile.specs.Passes.{IsWellFormed, FlatCodeIsWellMarked}
 
 -- a function of the runtime, which has no slot
@@ -50,9 +50,9 @@ each_is fs h = All-weaker (Contains fs) IsWellFormed h fs (All-contains_itself f
 -- the functions of an accepted program, and behind them the runtime's
 pub functions_are : (p : CheckedProgram) → IsAccepted p → CheckedBodiesAreClosed → CheckedTemporariesAreDrawn →
     CheckedFramesAreSmall → AllAreRoutines →
-    All IsWellFormed (fragments_of p.notes (plain p.program.body)).functions
+    All IsWellFormed (fragments_of p.notes p.body).functions
 functions_are p accepted closed drawn small routines =
-    let body = plain p.program.body in
+    let body = p.body in
     let escapes = from_list (escapes_of body) in
     let links = from_list (links_of body) in
     let own = (translated (findings_of p.notes body) body).functions in
@@ -78,23 +78,23 @@ is_below n (function label) = true
 is_below n (literal label) = true
 is_below n (fault k) = true
 is_below n (temporary i) = nat_lt i n
+is_below n (constant k) = true
 
 all_below : (n : ℕ) (xs : List Named) → AreTempsBelow n xs → (x : Named) → Contains xs x → IsTrue (is_below n x)
 all_below n xs h (function label) c = refl
 all_below n xs h (literal label) c = refl
 all_below n xs h (fault k) c = refl
 all_below n xs h (temporary i) c = lt-ltb i n (h i c)
+all_below n xs h (constant k) c = refl
 
 flat_marked : GivesClosed → trace.BlocksAreWhole → trace.CodeIsWellMarked → (f : Function Ts) → IsClosed f.body →
     IsWellMarked (flattened f).body
-unfolding flattened
 flat_marked closed whole marked f h =
     let lifted = linearized f.body f.temps in
     marked (blocks_of lifted.it) (whole lifted.it (closed f.body f.temps h))
 
 flat_drawn : TempsStay → trace.NamesStay → (f : Function Ts) → HasItsTemps names f →
     HasItsTemps (λ e. named_flat e []) (flattened f)
-unfolding flattened
 flat_drawn stay kept f h i c =
     let lifted = linearized f.body f.temps in
     let below = all_below lifted.next (named_stms lifted.it []) (stay f.body f.temps h) in

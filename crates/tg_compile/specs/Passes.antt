@@ -5,14 +5,15 @@ use Rattle.tg_base.specs.State.{most_words}
 use Rattle.tg_frame.specs.Homes.{slot_bound}
 use Rattle.tg_tree.specs.declared.fragments.Literal.{Literal}
 use Rattle.tg_tree.specs.Tree.{Ts, Linear, Function}
-use Rattle.tg_tree.specs.Named.{Named, function, literal, fault, temporary, named_flat, HasItsTemps}
+use Rattle.tg_tree.specs.Named.{Named, function, literal, fault, temporary, constant}
+use Rattle.tg_tree.specs.Named.{named_flat, HasItsTemps}
 use Rattle.tg_tree.specs.Shapes.{IsClosed, IsWellMarked}
 use Rattle.tg_shapes.specs.Laws.{names}
-use Rattle.tg_instr.specs.Codes.{has_slots_below}
+use Rattle.tg_instr.specs.Codes.{has_slots_below, names_registers}
 use Rattle.tg_instr.specs.declared.codes.Allocated.{Allocated}
 use Rattle.tg_munch.specs.Naming.{names_allowed}
 use Rattle.tg_rounds.specs.Policies.{Rule}
-use Rattle.tg_spill.specs.Conditions.{is_fixed, names_registers}
+use Rattle.tg_spill.specs.Conditions.{is_fixed}
 use Rattle.tg_spill.specs.declared.allocations.Allocation.{Allocation}
 use Rattle.tg_emit.specs.Conditions.{has_code}
 use Rattle.tg_emit.specs.Lines.{words, functions_lines, is_long, assembly_of}
@@ -23,9 +24,9 @@ use Rattle.tg_image.specs.Programs.{
   labels_differ,
   calls_those,
 }
-use Rattle.tg_words.specs.Allocating.{has_small_frame}
+use Rattle.tg_words.specs.Allocating.{chosen, IsAllocationOf, has_small_frame}
+use Rattle.tg_carried.specs.Flattened.{flattened}
 use Rattle.tg_compile.specs.declared.programs.Placement.{Placement}
-use Rattle.tg_compile.specs.Compiling.{flattened, chosen, CompilesFunction}
 
 -- a function whose body is closed, whose temporaries its frame has drawn, and whose slots are few
 pub record IsWellFormed (f : Function Ts) : Type 0 where
@@ -52,13 +53,14 @@ pub record NamesItsOwn (f : Function Ts) : Type 0 where
 abbrev pub CodeNamesItsOwn : Type 0
 CodeNamesItsOwn = (f : Function Ts) → slot_bound f.params ≤ f.slots → NamesItsOwn f
 
--- what a program may name: functions and literals that are there, and faults whose numbers have 20
--- bits
+-- what a program may name: functions and literals that are there, faults whose numbers have 20
+-- bits, and any temporaries and constants
 abbrev pub is_there : (functions literals : List ℕ) → Named → Bool
 is_there functions literals (function label) = is_among functions label
 is_there functions literals (literal label) = is_among literals label
 is_there functions literals (fault n) = nat_lt n (2 ^ 20)
 is_there functions literals (temporary i) = true
+is_there functions literals (constant n) = true
 
 -- The law that code over registers names no more than its function does: whatever test all names of
 -- the body pass, and each temporary and the fault 0, those of the code pass, by every rule.
@@ -67,7 +69,7 @@ CodeNamesNoMore =
     (allowed : Named → Bool) →
     ((i : ℕ) → IsTrue (allowed (temporary i))) → IsTrue (allowed (fault 0)) →
     (f : Function Ts) → ((x : Named) → Contains (names f.body) x → IsTrue (allowed x)) →
-    (rule : Rule) (a : Allocation) → CompilesFunction rule f a →
+    (rule : Rule) (a : Allocation) → IsAllocationOf rule f a →
     IsTrue (list_all (names_allowed allowed) a.done.code.list)
 
 -- code whose faults have 20 bits
@@ -106,7 +108,7 @@ module _ (rule : Rule) where
   abbrev pub CompileApart : List (Function Ts) → List Allocated → List Placement → Type 0
   CompileApart [] [] [] = Unit {0}
   CompileApart (f ∷ functions) (code ∷ codes) (p ∷ placements) =
-      CompilesFunction rule f (allocation_of (code, p)) × CompileApart functions codes placements
+      IsAllocationOf rule f (allocation_of (code, p)) × CompileApart functions codes placements
   CompileApart _ _ _ = ⊥
 
 -- the law that functions are compiled to small ones, whatever the policy

@@ -1,7 +1,8 @@
 ghost use Rattle.std.specs.Prelude.{◌≡◌, IfOk};
 ghost use Rattle.tg_tree.specs.Lists.{code_of};
 ghost use Rattle.tg_tree.specs.Plain.{plain_fragment, plain_function, plain_ts};
-ghost use Rattle.tg_compile.specs.Compiling.{Chooses, CompilesFunction, flattened};
+ghost use Rattle.tg_carried.specs.Flattened.{flattened};
+ghost use Rattle.tg_words.specs.Allocating.{Chooses, IsAllocationOf};
 ghost use Rattle.tg_compile.specs.Passes.{IsWellFormed};
 
 use crate::laws::{flat_code_is_well_marked, instructions_name_their_own};
@@ -25,7 +26,7 @@ pub(crate) fn compile_function(
 ) -> Result<Allocation, Memory>
     requires { IsWellFormed (plain_fragment one) }
     ensures compiles { IfOk result
-        (λ a. CompilesFunction (rule policy.old) (plain_fragment one) a) }
+        (λ a. IsAllocationOf (rule policy.old) (plain_fragment one) a) }
     ensures same { rule policy.new ≡ rule policy.old }
 {
     let Fragment { frame, body } = one;

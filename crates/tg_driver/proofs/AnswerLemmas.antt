@@ -19,11 +19,11 @@ use Rattle.tg_command.specs.declared.modes.Mode.TheVariants.{Check, Build, Run, 
 use Rattle.tg_command.specs.Commands.{Asked, Ask}
 use Rattle.tg_driver.specs.declared.answers.Answer.{Answer}
 use Rattle.tg_driver.specs.declared.answers.Answer.TheVariants.{Faulty, Written, Unwritten, OutOfMemory, Finished}
-use Rattle.tg_driver.specs.Builds.{RunRelation, Builds}
+use Rattle.tg_driver.specs.Builds.{Builds}
 use Rattle.tg_driver.specs.Calls.{Stream, stream_of, Streams, Stays, Untouched, Shelved, IsUnread, Call, Takes, all, part}
 use Rattle.tg_driver.specs.OfFiles.{OfFile, unreadable, read, OrMemory, unread_answer, HasStarted, StaysBeforeStart, UntouchedBeforeStart}
 use Rattle.tg_driver.specs.Found.{IsRefused}
-use Rattle.tg_driver.specs.Runs.{HasRun, IsRunOrMemory}
+use Rattle.tg_driver.specs.Runs.{RunRelation, HasRun, IsRunOrMemory}
 use Rattle.tg_driver.specs.CheckMode.{IsChecked, ByCheck}
 use Rattle.tg_driver.specs.Writing.{TakesText, TextRelation, IsWritten, ByWriting}
 use Rattle.tg_driver.specs.RunMode.{EndsAssembled, IsRun, ByRun}

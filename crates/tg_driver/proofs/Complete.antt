@@ -15,8 +15,8 @@ use Rattle.tg_driver.specs.declared.answers.Answer.{Answer}
 use Rattle.tg_driver.specs.declared.answers.Answer.TheVariants.{Faulty, BadLine, TooLong, Written, Unwritten, Finished, OutOfMemory}
 use Rattle.tg_driver.specs.Calls.{Stream, stream_of, streams_of, HasFailed, Streams, Shelved, IsUnread, Call, Takes, all, part}
 use Rattle.tg_driver.specs.OfFiles.{OfFile, unreadable, read}
-use Rattle.tg_driver.specs.Builds.{RunRelation, EndsBuilt}
-use Rattle.tg_driver.specs.Runs.{HasRun}
+use Rattle.tg_driver.specs.Builds.{EndsBuilt}
+use Rattle.tg_driver.specs.Runs.{RunRelation, HasRun}
 use Rattle.tg_driver.specs.Sources.{IsSource}
 use Rattle.tg_driver.specs.Writing.{TextRelation, IsWritten}
 use Rattle.tg_driver.specs.RunMode.{IsRun}

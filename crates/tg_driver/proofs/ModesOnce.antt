@@ -12,7 +12,7 @@ use Rattle.tg_command.specs.Commands.{Asked}
 use Rattle.tg_driver.specs.declared.answers.Answer.{Answer}
 use Rattle.tg_driver.specs.declared.answers.Answer.TheVariants.{Faulty, BadLine, TooLong, Accepted, Written, Unwritten, Finished}
 use Rattle.tg_driver.specs.OfFiles.{HasStarted}
-use Rattle.tg_driver.specs.Builds.{RunRelation}
+use Rattle.tg_driver.specs.Runs.{RunRelation}
 use Rattle.tg_driver.specs.CheckMode.{IsChecked}
 use Rattle.tg_driver.specs.Writing.{IsWritable}
 use Rattle.tg_driver.specs.RunMode.{IsRun}

@@ -5,7 +5,8 @@ use Rattle.tg_rounds.specs.Policies.{Rule as SpillRule}
 use Rattle.tg_spill.specs.declared.allocations.Allocation.{Allocation}
 use Rattle.tg_driver.specs.declared.faults.Fault.{Fault}
 use Rattle.tg_driver.specs.Sources.{IsFaultOf, IsSource}
-use Rattle.tg_driver.specs.Builds.{RunRelation, CompilesTo, Builds, EndsBuilt}
+use Rattle.tg_driver.specs.Builds.{CompilesTo, Builds, EndsBuilt}
+use Rattle.tg_driver.specs.Runs.{RunRelation}
 use Rattle.tg_driver.specs.AllocMode.{Lists}
 use Rattle.tg_driver.proofs.FaultsOnce.{source_excludes}
 

@@ -26,6 +26,7 @@ use Rattle.tg_driver.specs.declared.writing.Wanted.{Wanted}
 use Rattle.tg_driver.specs.declared.writing.Wanted.TheVariants.{Assembly, Allocations}
 use Rattle.tg_driver.specs.Texts.{wanted_text, writes_of}
 use Rattle.tg_driver.specs.Readings.{HasNamedTree, IsTypeFaultOf}
+use Rattle.tg_compile.proofs.Chain.{compiled_has_image}
 use Rattle.tg_compile.proofs.NotesAlike.{compiles_alike}
 
 pub names_within : (text : List ℕ) (names : List (List ℕ)) (program : Exp) → HasNamedTree text names program → NamesWithin (length names) program
@@ -79,7 +80,8 @@ writes_wanted Allocations rule text allocations assembly h = lists rule text all
 
 pub has_image : (rule : SpillRule) (text : List ℕ) (allocations : List Allocation) (assembly : List ℕ) →
     CompilesTo rule text allocations assembly → HasImage assembly
-has_image rule text allocations assembly h = h.compiles.has_image
+has_image rule text allocations assembly h =
+    compiled_has_image rule h.source.notes h.program allocations assembly h.compiles
 
 pub is_source : (text : List ℕ) (names : List (List ℕ)) (program : Exp) (sorted : List Note) → HasNamedTree text names program →
     Accepts (finding names program) sorted → IsSource text

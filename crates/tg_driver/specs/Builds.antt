@@ -10,6 +10,7 @@ use Rattle.tg_rounds.specs.Policies.{Rule as SpillRule}
 use Rattle.tg_spill.specs.declared.allocations.Allocation.{Allocation}
 use Rattle.tg_compile.specs.Compiling.{Compiles}
 use Rattle.tg_driver.specs.Sources.{IsSourceOf}
+use Rattle.tg_driver.specs.Runs.{RunRelation}
 
 -- The text is a source, and this is what it is compiled to by the notes of its typing and the rule
 -- of a policy: allocations of its functions, and an assembly text.
@@ -25,10 +26,6 @@ pub record CompilesTo (rule : SpillRule) (text : List ℕ)
 pub record Builds (rule : SpillRule) (text assembly : List ℕ) : Type 0 where
   pub allocations : List Allocation
   pub compiles : CompilesTo rule text allocations assembly
-
--- what may be said of a run of an image with these sizes and steps that ends so
-abbrev pub RunRelation : Type 1
-RunRelation = Image → (heap stack steps : ℕ) → RunEnd → Type 0
 
 -- the image of an assembly text runs so with these sizes and steps
 pub record RunsAssembled (runs : RunRelation)

@@ -10,8 +10,7 @@ use Rattle.tg_driver.specs.declared.answers.Answer.{Answer}
 use Rattle.tg_driver.specs.declared.answers.Answer.TheVariants.{BadLine, TooLong, Finished}
 use Rattle.tg_driver.specs.Calls.{Shelved, Streams}
 use Rattle.tg_driver.specs.OfFiles.{OfFile, UntouchedBeforeStart}
-use Rattle.tg_driver.specs.Builds.{RunRelation}
-use Rattle.tg_driver.specs.Runs.{HasRun}
+use Rattle.tg_driver.specs.Runs.{RunRelation, HasRun}
 
 -- the text isn't too long, and this is its first fault
 pub record IsBadLine (text : List ℕ) (rule : AsmRule) (line : ℕ) : Type 0 where

@@ -10,8 +10,8 @@ use Rattle.tg_driver.specs.declared.answers.Answer.{Answer}
 use Rattle.tg_driver.specs.declared.answers.Answer.TheVariants.{Faulty, Written, Finished}
 use Rattle.tg_driver.specs.Calls.{HasFailed, Streams, Shelved, IsUnread, Call}
 use Rattle.tg_driver.specs.Sources.{IsFaultOf, IsSource}
-use Rattle.tg_driver.specs.Builds.{RunRelation, EndsBuilt}
-use Rattle.tg_driver.specs.Runs.{end_in, outcome_on}
+use Rattle.tg_driver.specs.Builds.{EndsBuilt}
+use Rattle.tg_driver.specs.Runs.{RunRelation, end_in, outcome_on}
 use Rattle.tg_driver.specs.CheckMode.{IsChecked}
 use Rattle.tg_driver.specs.RunMode.{IsRun}
 use Rattle.tg_driver.specs.ExecMode.{IsExecuted}

@@ -7,7 +7,7 @@ use Rattle.tg_command.specs.declared.modes.Mode.TheVariants.{Check, Build, Run, 
 use Rattle.tg_command.specs.Commands.{Asked}
 use Rattle.tg_driver.specs.declared.answers.Answer.{Answer}
 use Rattle.tg_driver.specs.Calls.{Shelved, Streams}
-use Rattle.tg_driver.specs.Builds.{RunRelation}
+use Rattle.tg_driver.specs.Runs.{RunRelation}
 use Rattle.tg_driver.specs.CheckMode.{IsChecked, ByCheck}
 use Rattle.tg_driver.specs.Writing.{IsWritable}
 use Rattle.tg_driver.specs.BuildMode.{ByBuild}

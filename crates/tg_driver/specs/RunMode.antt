@@ -7,8 +7,8 @@ use Rattle.tg_driver.specs.declared.answers.Answer.TheVariants.{Faulty, OutOfMem
 use Rattle.tg_driver.specs.Calls.{Shelved, Streams}
 use Rattle.tg_driver.specs.OfFiles.{OfFile, UntouchedBeforeStart}
 use Rattle.tg_driver.specs.Sources.{IsFaultOf}
-use Rattle.tg_driver.specs.Builds.{RunRelation, RunsAssembled, EndsBuilt}
-use Rattle.tg_driver.specs.Runs.{HasRun}
+use Rattle.tg_driver.specs.Builds.{RunsAssembled, EndsBuilt}
+use Rattle.tg_driver.specs.Runs.{RunRelation, HasRun}
 
 -- the answer is the end of such a run, or memory was wanting for it
 abbrev pub EndsAssembled :

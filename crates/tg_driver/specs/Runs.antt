@@ -12,6 +12,10 @@ use Rattle.tg_driver.specs.declared.answers.Answer.{Answer}
 use Rattle.tg_driver.specs.declared.answers.Answer.TheVariants.{OutOfMemory, Finished}
 use Rattle.tg_driver.specs.Calls.{Streams, Untouched}
 
+-- what may be said of a run of an image with these sizes and steps that ends so
+abbrev pub RunRelation : Type 1
+RunRelation = Image → (heap stack steps : ℕ) → RunEnd → Type 0
+
 -- the machine ran the image on the streams with these sizes and steps, and it ended so
 pub record HasRun {I O : Type 0} (s : Streams I O)
     (image : Image) (heap stack steps : ℕ) (end : RunEnd) : Type 0 where

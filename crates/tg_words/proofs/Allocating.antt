@@ -10,7 +10,8 @@ use Rattle.tg_instr.specs.declared.instr.Instr.{Instr}
 use Rattle.tg_instr.specs.declared.instr.Instr.TheVariants as instr
 use Rattle.tg_munch.specs.Bodies.{count, out_of, out_of_statement, out_of_element, outs, munched}
 use Rattle.tg_munch.specs.Lengths.{InstructionsAreFew, CountsWords, WordsAreFew}
-use Rattle.tg_spill.specs.Growth.{most_words, AllocationsAreShort, AllocationsGrowLittle}
+use Rattle.tg_instr.specs.Lengths.{most_words}
+use Rattle.tg_spill.specs.Growth.{AllocationsAreShort, AllocationsGrowLittle}
 use Rattle.tg_words.specs.Laws.{LinesAreShort, CodeIsShort, FramesAreSmall, FunctionsArePaid}
 
 -- the words for the arguments of a call are no more than its length
@@ -52,7 +53,7 @@ frames_are_small length_stays room_stays few short rule f a may h =
     let slots = h.allocation.has_frame.slots in
     let out = h.allocation.has_frame.out in
     let same : g.slots ≡ f.slots = refl in
-    omega (arith, long, room, drawn, spilled, slots, out, same, frame_in_room g, outs_in_length g, h.slots, h.out, h.temps)
+    omega (arith, long, room, drawn, spilled, slots, out, same, frame_in_room g, outs_in_length g, h.chooses.slots, h.chooses.out, h.chooses.temps)
 
 -- a move, and any other instruction, in an allocation
 others_short : (one : Instr) → ((to from : Opnd) → one ≢ instr.Move to from) → most_words one ≤ 10
@@ -67,7 +68,7 @@ code_is_short lines length_stays grow words_few rule f a may h turned =
     let long = length_stays f may in
     let written = lines turned a.done in
     let grown = (grow rule h.code h.frame a h.allocation).short in
-    let same : sum_by most_words h.code.list ≡ sum_by most_words (munched (flattened f)).code = ap (sum_by most_words) h.list in
+    let same : sum_by most_words h.code.list ≡ sum_by most_words (munched (flattened f)).code = ap (sum_by most_words) h.chooses.list in
     let few = words_few most_words (flattened f) counts_words in
     omega (arith, long, written, grown, same, few)
 

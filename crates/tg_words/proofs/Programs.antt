@@ -7,7 +7,6 @@ use Rattle.std.specs.FinSet.{FinSet, from_list}
 use Rattle.std.proofs.lemmas.Bool.{lt-ltb, ltb-true}
 use Rattle.std.proofs.lemmas.List.Elements.{All-weaker, All-contains_itself, recursion_from_All}
 use Rattle.std.proofs.lemmas.List.Sums.{sum_by-cons}
-use Rattle.tg_syntax.specs.Plain.{plain}
 use Rattle.tg_syntax.specs.Spans.{span_of}
 use Rattle.tg_syntax.specs.Functions.{Measures, program_functions, program_size}
 use Rattle.tg_types.specs.declared.faults.TypeRule.TheVariants.{T20, T21, T22}
@@ -54,9 +53,9 @@ routines_bounded (f ∷ fs) h =
     (record { may = record { closed = h.0.closed; temps = below }; short = omega (arith, s); small = omega (arith, r) }, routines_bounded fs h.1)
 
 program_bounded : CheckedBodiesAreClosed → CheckedTemporariesAreDrawn → CheckedFramesAreSmall → (p : CheckedProgram) (links : FinSet nat_cmp) → IsAccepted p →
-    (f : Function Ts) → Contains (translated (findings_in p links) (plain p.program.body)).functions f → IsBounded f
+    (f : Function Ts) → Contains (translated (findings_in p links) p.body).functions f → IsBounded f
 program_bounded closed drawn small p links accepted f c =
-    let escapes = from_list (escapes_of (plain p.program.body)) in
+    let escapes = from_list (escapes_of p.body) in
     let h = small p escapes links f accepted c in
     record {
       may = record { closed = closed p escapes links f accepted c; temps = drawn p links f accepted c };
@@ -148,7 +147,7 @@ within_segment nodes codes few short =
 pub program_code_fits : CodeIsShort → FunctionsArePaid → CheckedHasType → CheckedBodiesAreClosed → CheckedTemporariesAreDrawn →
     CheckedFramesAreSmall → FunctionsAreWithin → AllAreRoutines → ProgramCodeFits
 program_code_fits law paid typed closed drawn small within routines rule p links allocations accepted are =
-    let body = plain p.program.body in
+    let body = p.body in
     let functions = (translated (findings_in p links) body).functions in
     let limit = within_limit T22 (span_of body).from (program_size body) 32768 (first_above (program_functions body)) (typed p accepted).limits in
     let few = limit.0 in
@@ -163,7 +162,7 @@ program_code_fits law paid typed closed drawn small within routines rule p links
 pub program_frames_are_small : FramesAreSmall → CheckedBodiesAreClosed → CheckedTemporariesAreDrawn → CheckedFramesAreSmall → AllAreRoutines →
     ProgramFramesAreSmall
 program_frames_are_small law closed drawn small routines rule p links allocations accepted are =
-    let functions = (translated (findings_in p links) (plain p.program.body)).functions in
+    let functions = (translated (findings_in p links) p.body).functions in
     let bounded = each_bounded functions (program_bounded closed drawn small p links accepted) in
     let last = routines_bounded runtime.functions routines in
     frames_small rule law (functions ++ runtime.functions) allocations (both_bounded functions runtime.functions bounded last) are

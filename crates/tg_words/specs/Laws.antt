@@ -5,7 +5,6 @@ use Rattle.std.specs.Ordering.{nat_cmp}
 use Rattle.std.specs.FinSet.{FinSet}
 use Rattle.tg_base.specs.State.{most_words as segment_words}
 use Rattle.tg_syntax.specs.Tree.{Exp}
-use Rattle.tg_syntax.specs.Plain.{plain}
 use Rattle.tg_syntax.specs.Functions.{Measures, program_functions, program_size}
 use Rattle.tg_types.specs.Programs.{CheckedProgram, IsAccepted}
 use Rattle.tg_tree.specs.Tree.{Ts, Function}
@@ -123,7 +122,7 @@ FunctionsArePaid =
 abbrev pub AreAllocationsOf : Rule → CheckedProgram → FinSet nat_cmp → List Allocation → Type 0
 AreAllocationsOf rule p links allocations =
     AllZip (IsAllocationOf rule)
-    (with_runtime (translated (findings_in p links) (plain p.program.body))).functions
+    (with_runtime (translated (findings_in p links) p.body)).functions
     allocations
 
 -- The most words of code that a node of a program takes, with what its functions have besides, and
@@ -147,7 +146,7 @@ abbrev pub ProgramCodeFits : Type 0
 ProgramCodeFits =
     (rule : Rule) (p : CheckedProgram) (links : FinSet nat_cmp) (allocations : List Allocation) →
     IsAccepted p → AreAllocationsOf rule p links allocations →
-    FitsSegment (program_size (plain p.program.body)) (codes_of allocations)
+    FitsSegment (program_size p.body) (codes_of allocations)
 
 abbrev pub ProgramFramesAreSmall : Type 0
 ProgramFramesAreSmall =

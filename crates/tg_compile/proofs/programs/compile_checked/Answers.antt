@@ -16,7 +16,9 @@ returns-clause-compiles g c =
     compiles_whole rule checked.notes (plain checked.program.body) fragments.functions.items fragments.literals.items
     functions.codes.items functions.placements.items c.in_ok-join.field-0.items c.in_ok-written.written.items
     c.in_ok-bodies.ensures.fragments c.in_ok-functions.ensures.compile c.in_ok-join.ensures
-    (rw c.deref.ensures.value at (rw c.deref-2.ensures.value at written.text)) written.image
+    (rw c.deref.ensures.value at (rw c.deref-2.ensures.value at written.text))
+    (rw c.deref.ensures.value at (rw c.deref-2.ensures.value at written.program))
+    (rw c.deref.ensures.value at (rw c.deref-2.ensures.value at written.typed))
 
 pub write-requires : goal.write-requires
 write-requires g c =

@@ -6,7 +6,7 @@ use Rattle.std.proofs.lemmas.Iterator.Consumers.{YieldsList-turn}
 use Rattle.tg_tree.specs.declared.fragments.Fragment.{Fragment}
 use Rattle.tg_tree.specs.Plain.{plain_fragment}
 use Rattle.tg_rounds.specs.Policies.{Rule}
-use Rattle.tg_compile.specs.Compiling.{CompilesFunction}
+use Rattle.tg_words.specs.Allocating.{IsAllocationOf}
 use Rattle.tg_compile.specs.Passes.{CompileApart, IsWellFormed}
 use Rattle.tg_compile.proofs.Chain.{compile_one_more}
 use Rattle.tg_compile.proofs.WellFormed.{one_is}
@@ -23,7 +23,7 @@ compile_function-requires g c =
 pub loop-one-preserved : goal.loop-one-preserved
 loop-one-preserved g c =
     let rule = (goal.SpillPolicy-dyn g c.args.policy.now).rule c.args.policy.now.1 in
-    let F : Rule → Type 0 = λ r. CompilesFunction r (plain_fragment c.in-Some.one) c.in_ok-done.field-0 in
+    let F : Rule → Type 0 = λ r. IsAllocationOf r (plain_fragment c.in-Some.one) c.in_ok-done.field-0 in
     record {
       compile = compile_one_more rule c.loop-one.yielded c.in-Some.one c.loop-one.codes.items c.push.new.self.items
           c.loop-one.placements.items c.push-in-loop-one.new.self.items c.in_ok-done.field-0 c.loop-one.invariant.compile

@@ -8,7 +8,6 @@ use Rattle.tg_emit.specs.Lines.{words}
 use Rattle.tg_emit.specs.Text.{text_of}
 use Rattle.tg_image.specs.Programs.{AreTyped}
 use Rattle.tg_image.proofs.HasLabels.{emitted_has_labels}
-use Rattle.tg_compile.proofs.Chain.{written_image}
 use Rattle.tg_compile.proofs.Linking.{emittable, whole_program}
 use Rattle.tg_compile.proofs.programs.write.Goals as goal
 
@@ -37,5 +36,6 @@ returns c =
     let same = c.in_ok-text.ensures ∙ ap text_of written.lines in
     record {
       text = same;
-      image = written_image c.args.codes.now c.args.literals.now c.in_ok-text.field-0.items same whole typed;
+      program = whole;
+      typed = typed;
     }
