@@ -1,0 +1,10 @@
+pub mod Named
+pub mod Frames
+pub mod Painting
+pub mod Rewriting
+pub mod InFrame
+pub mod Used
+pub mod Nodes
+pub mod Regrouped
+pub mod Sequence
+pub mod Programs
