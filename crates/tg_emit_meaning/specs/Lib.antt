@@ -1,0 +1,4 @@
+pub mod Setting
+pub mod Standing
+pub mod Emission
+pub mod Situation

@@ -1,0 +1,37 @@
+ghost use Rattle.tg_emit_meaning.specs.Emission.{
+  EmissionAgrees,
+  EmissionKeeps,
+  EmissionKeepsRuns,
+};
+
+use tg_image::program_has_image;
+use tg_isa::machine_runs_by_fuel;
+use tg_lines::{lines_run_on_the_machine, places_are_returns};
+
+/// The law of the first half: the lines of functions over registers do what the functions do,
+/// whatever words stand for the places behind their calls, for at most a row a word of the
+/// instructions.
+pub fn emission_keeps_runs()
+    ensures { EmissionKeepsRuns }
+{}
+
+/// The law of emission: the machine's run of the image does what the functions over registers do.
+pub fn emission_keeps()
+    ensures { EmissionKeeps }
+{
+    emission_keeps_runs();
+    program_has_image();
+    lines_run_on_the_machine();
+    places_are_returns();
+}
+
+/// The law of emission both ways, over the image of the text: where no run of the functions goes
+/// wrong, the machine has the same outputs, input left and ends, in at least as many steps as they
+/// take turns, and ends no other way.
+pub fn emission_agrees()
+    ensures { EmissionAgrees }
+{
+    emission_keeps();
+    program_has_image();
+    machine_runs_by_fuel();
+}
