@@ -1,0 +1,23 @@
+ghost use Rattle.tg_weight.specs.Weights.{FramesAreLight, ProgramFramesAreLight};
+
+use tg_carried::sizes_stay;
+use tg_munch::temporaries_are_few;
+use tg_runtime::routines_are_closed;
+use tg_shapes::{bodies_are_closed, temporaries_are_drawn};
+use tg_spill::allocations_are_short;
+use tg_words::functions_are_short;
+
+/// Laws of the frames of functions that are allocated, by any policy, where their trees are light:
+/// 256 bytes a node, 64 a level that is crossed, and 1,024; 4,096 for each of the runtime.
+pub fn frames_are_light()
+    ensures frames { FramesAreLight }
+    ensures programs { ProgramFramesAreLight }
+{
+    sizes_stay();
+    temporaries_are_few();
+    allocations_are_short();
+    functions_are_short();
+    bodies_are_closed();
+    temporaries_are_drawn();
+    routines_are_closed();
+}
