@@ -259,7 +259,7 @@ module _ (shapes : List (ℕ × Shape)) (notes : List Note) (findings : Findings
       Has.HasBodies shapes notes fs ss inner → Agrees scope.bindings seen level own →
       Agrees (with_functions fs ss scope).bindings (declare_functions level fs seen) level own
   agree_functions _ _ inner scope seen level own Has.end_bodies h = h
-  agree_functions _ _ inner scope seen level own (Has.a_body {f = f} {rest = rest} {s = s} {ss = ss} u l _ b fit hs) h =
+  agree_functions _ _ inner scope seen level own (Has.a_body {f = f} {rest = rest} {s = s} {ss = ss} u l _ _ b fit hs) h =
       agree_functions rest ss inner (binding f (function_at (at_of f) s) scope) ((name_of f, a_function level) ∷ seen)
       level own hs
       (with_function (name_of f) (at_of f) s scope.bindings seen level own h)
@@ -551,7 +551,7 @@ module _ (shapes : List (ℕ × Shape)) (notes : List Note) (findings : Findings
           ReachesBodies findings (h.own ++ h.around) fs × AllEscape after
       bodies_reach _ _ scope h after Has.end_bodies s d u = (tt, u)
       bodies_reach _ _ scope h after (Has.a_body {f = f} {ps = ps} {r = result} {body = body} {rest = rest} {s = sig}
-          {ss = ss} v l _ k fit hs) s d u =
+          {ss = ss} v l _ _ k fit hs) s d u =
           let start = f.span.from ∷ h.before in
           let b1 = param_beginnings ps start in
           let b2 = kind_beginnings result b1 in

@@ -101,7 +101,7 @@ module _ (shapes : List (ℕ × Shape)) (notes : List Note) where
     bodies_stand : (fs : FunDecs) (ss : List Signature) (scope : Scope) → scope.in_loop ≡ false → Has.HasBodies shapes
         notes fs ss scope → BreaksStandBodies fs
     bodies_stand _ _ scope i Has.end_bodies = tt
-    bodies_stand _ _ scope i (Has.a_body {ps = ps} {body = body} {rest = rest} {s = s} {ss = ss} u l _ h fit hs) = (
+    bodies_stand _ _ scope i (Has.a_body {ps = ps} {body = body} {rest = rest} {s = s} {ss = ss} u l _ _ h fit hs) = (
       breaks_stand body (with_params ps s.params scope) u false (loop_params ps s.params scope ∙ i) h,
       bodies_stand
           rest ss scope i hs,

@@ -217,7 +217,7 @@ module _ (findings : Findings) (table : Table) (weight : (at : ℕ) → ℕ) (sh
       AllHave level fs →
       Agrees scope.bindings seen level → Agrees (with_functions fs ss scope).bindings (declare_functions level fs seen) level
   agree_functions _ _ inner scope seen level Has.end_bodies has h = h
-  agree_functions _ _ inner scope seen level (Has.a_body {f = f} {rest = rest} {s = s} {ss = ss} u l v b fit hs) has h =
+  agree_functions _ _ inner scope seen level (Has.a_body {f = f} {rest = rest} {s = s} {ss = ss} u l v _ b fit hs) has h =
       agree_functions rest ss inner (binding f (function_at (at_of f) s) scope) ((name_of f, a_function level) ∷ seen) level hs has.1
       (with_one (name_of f) (function_at (at_of f) s) (a_function level) scope.bindings seen level (level, refl, omega arith, has.0) h)
 
@@ -438,7 +438,7 @@ module _ (findings : Findings) (table : Table) (weight : (at : ℕ) → ℕ) (sh
           DeclaresFunctions (HasVariable table) (IsWeighed table weight) (length h.within) h.levels fs → AllFound (functions_uses fs h.within h.seen after) →
           CoversFunctions findings table weight (length h.within) h.keeps h.levels fs × AllFound after
       covers_bodies _ _ scope h after Has.end_bodies s d u = (tt, u)
-      covers_bodies _ _ scope h after (Has.a_body {f = f} {ps = ps} {body = body} {rest = rest} {s = sig} {ss = ss} v l w k fit hs) s d u =
+      covers_bodies _ _ scope h after (Has.a_body {f = f} {ps = ps} {body = body} {rest = rest} {s = sig} {ss = ss} v l w _ k fit hs) s d u =
           let inner = h.within ++ f.span.from ∷ [] in
           let deep : length inner ≡ suc (length h.within) = omega (arith, length-append h.within (f.span.from ∷ [])) in
           let keeps : Keeping = with_level (suc (length h.within)) (findings.keeps_link (at_of f)) h.keeps in

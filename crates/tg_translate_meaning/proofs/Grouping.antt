@@ -17,7 +17,7 @@ use Rattle.std.proofs.lemmas.List.Elements.{Contains-append_right}
 use Rattle.tg_types.specs.Scopes.{Scope, Signature, function_at, name_of, binding, in_no_loop}
 use Rattle.tg_types.specs.Groups.{with_functions}
 use Rattle.tg_types.specs.Has as has
-use Rattle.tg_types.specs.Has.{HasBodies, Apart}
+use Rattle.tg_types.specs.Has.{HasBodies, Apart, GivesBack}
 use Rattle.tg_tree.specs.Tree.{Ts, Function}
 use Rattle.tg_tree.specs.Running.{function_of}
 use Rattle.tg_translate.specs.declared.homes.Callee.{Callee}
@@ -27,7 +27,7 @@ use Rattle.tg_translate.specs.Functions.{at_of, asked, frame_for, opened, with_b
 use Rattle.tg_translate.specs.Translate.{expression, bodies}
 use Rattle.tg_translate_meaning.specs.Covered.{Keeping, CoversFunctions}
 use Rattle.tg_translate_meaning.specs.Tables.{Later, IsMoment, HasFound}
-use Rattle.tg_translate_meaning.specs.Situations.{Program, Part, Setting, IsDone, AreDone, GivesBack}
+use Rattle.tg_translate_meaning.specs.Situations.{Program, Part, Setting, IsDone, AreDone}
 use Rattle.tg_translate_meaning.proofs.States.{made_in, state_in, after_inv, behind_none, behind_on, front_none, later_none, later_on, moment_before, found_later}
 use Rattle.tg_translate_meaning.proofs.Pieces.{StatesGrow}
 use Rattle.tg_translate_meaning.proofs.Growing.{bodies_grow, grows_by, frame_by, text_grows}
@@ -62,7 +62,7 @@ declared_later level (function f ps r x rest) s a u e = later_on s (one_declared
 
 many_bodies : (P : Program) (fs : FunDecs) (ss : List Signature) (scope : Scope) → HasBodies P.shapes P.notes fs ss scope → length ss ≡ count fs
 many_bodies P _ _ scope has.end_bodies = refl
-many_bodies P (function f ps r e rest) (s ∷ ss) scope (has.a_body u many values typed fits more) = ap suc (many_bodies P rest ss scope more)
+many_bodies P (function f ps r e rest) (s ∷ ss) scope (has.a_body u many values result typed fits more) = ap suc (many_bodies P rest ss scope more)
 
 in_there : {A : Type 0} (xs : List A) (y : A) (ys : List A) → Contains (xs ++ y ∷ ys) y
 in_there xs y ys = Contains-append_right xs (y ∷ ys) y (0, omega arith, refl)
@@ -176,7 +176,7 @@ module _ (P : Program) (set : Setting P) where
       AreDone P scope level keeps seen fs ss
   done_all scope level keeps seen within is _ _ label s b v has.end_bodies results words covers tabled made found m = tt
   done_all scope level keeps seen within is (function f ps r e rest) (sig ∷ ss) label s b v
-      (has.a_body ty many values typed fits more) results words covers tabled made found m =
+      (has.a_body ty many values result typed fits more) results words covers tabled made found m =
       let i = after_inv (body label P.findings.escapes P.findings.keeps_link (at_of f) (is_some r) ps
       (λ w o. expression P.findings e w o) within s) _ b v made in
       let l2 : Later i.1 v = grows_by (bodies_grow P.findings rest (label + 1) within i.1) i.3 in

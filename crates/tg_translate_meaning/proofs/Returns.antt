@@ -6,7 +6,7 @@ use Rattle.tg_meaning.specs.Values.{Value, SourceWorld}
 use Rattle.tg_meaning.specs.Passing.{Rest}
 use Rattle.tg_meaning.specs.MachineEnds.{rest_run}
 use Rattle.tg_types.specs.Types.{Ty, none_type}
-use Rattle.tg_types.specs.Has.{Fits, the_same, nil_for}
+use Rattle.tg_types.specs.Has.{Fits, GivesBack, the_same, nil_for}
 use Rattle.tg_tree.specs.Tree.{Tx, Ts}
 use Rattle.tg_tree.specs.Actions.{World, Temps, Go, Next, charged}
 use Rattle.tg_translate.specs.declared.wants.Want.TheVariants as want
@@ -16,7 +16,7 @@ use Rattle.tg_translate.specs.Functions.{closing, result_want}
 use Rattle.tg_translate.specs.Returning.{given_back}
 use Rattle.tg_translate_meaning.specs.Tables.{Later}
 use Rattle.tg_translate_meaning.specs.Worlds.{Holdings, Stands, a_nil, a_nil_record, GrowsTo, temporary, nowhere}
-use Rattle.tg_translate_meaning.specs.Situations.{Program, Part, Holds, Extends, GivesBack, statement_runs}
+use Rattle.tg_translate_meaning.specs.Situations.{Program, Part, Holds, Extends, statement_runs}
 use Rattle.tg_translate_meaning.specs.Shown.{FollowsHere, MadeFollows, IsWantable, work_factor}
 use Rattle.tg_translate_meaning.proofs.States.{made_in, state_in, after_inv, later_none, later_value}
 use Rattle.tg_translate_meaning.proofs.Making.{value_follows, dropped_follows, worked}

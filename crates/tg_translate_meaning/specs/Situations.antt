@@ -22,11 +22,11 @@ use Rattle.tg_meaning.specs.Levels.{levels_of, function_weight}
 use Rattle.tg_meaning.specs.Evaluation.{count}
 use Rattle.tg_types.specs.declared.notes.Note.{Note}
 use Rattle.tg_types.specs.declared.notes.Means.{Means}
-use Rattle.tg_types.specs.Types.{Ty, Shape, none_type, int_type}
+use Rattle.tg_types.specs.Types.{Ty, Shape, int_type}
 use Rattle.tg_types.specs.Scopes.{Scope, Binding, variable_at, standard_bindings, Signature, at_of}
 use Rattle.tg_types.specs.Scopes.{in_no_loop}
 use Rattle.tg_types.specs.Groups.{with_functions, with_params}
-use Rattle.tg_types.specs.Has.{Has, HasValues, HaveValues, Fits, Says, Apart}
+use Rattle.tg_types.specs.Has.{Has, HasValues, HaveValues, GivesBack, Fits, Says, Apart}
 use Rattle.tg_types.specs.Has.{ShapesHaveValues}
 use Rattle.tg_tree.specs.Tree.{Tx, Txs, Cond, Ts, Stms, Temp, Literal, Function, Code}
 use Rattle.tg_tree.specs.Units.{Trees}
@@ -97,11 +97,6 @@ pub record Part : Type 0 where
   pub places : Places
   pub others : AllTemps  -- the temporaries of the callers
   pub around : Around
-
--- a function's result has values where its text says that there is one, and none else
-abbrev pub GivesBack : (has_result : Bool) → Ty → Type 0
-GivesBack true t = HasValues t
-GivesBack false t = t ≡ none_type
 
 module _ (P : Program) where
   abbrev pub floor : ℕ

@@ -105,7 +105,7 @@ module _ (marks : Noted → List ℕ) (are : AreMarks marks) where
     among_bodies : {fs : FunDecs} {ss : List Signature} {scope : Scope} {g h : Noted} {ys : List ℕ} → CheckedBodies fs ss scope g h →
         Some_of (marks g) ys → Some_of (marks h) (function_beginnings fs ys)
     among_bodies end_bodies s = s
-    among_bodies (a_body {ps = ps} {r = r} u n v body f rest) s = among_bodies rest (among body (among_kind r (among_params ps (skip _ s))))
+    among_bodies (a_body {ps = ps} {r = r} u n v b body f rest) s = among_bodies rest (among body (among_kind r (among_params ps (skip _ s))))
 
 -- where an element of the one stands in the other
 place_in : {xs ys : List ℕ} → Some_of xs ys → (j : ℕ) → j < length xs → (k : ℕ) × (k < length ys) × ((d : ℕ) → slice_index_or xs j d ≡ slice_index_or ys k d)

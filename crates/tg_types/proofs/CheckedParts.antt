@@ -1,6 +1,7 @@
 -- The checks of a part that all came out fine, as a relation: its type, and what is gathered before it and behind it. It is the
 -- relation of typed parts with what is gathered threaded through, so that what checks come to is shown by cases on it.
 use Rattle.std.proofs.Common.{◌≡◌, ℕ, List, [], ◌∷◌, length, Option, Some, Bool, true, false}
+use Rattle.std.specs.Prelude.{is_some}
 use Rattle.tg_base.specs.declared.ids.Span.{Span}
 use Rattle.tg_syntax.specs.declared.tokens.Ident.{Ident}
 use Rattle.tg_syntax.specs.declared.trees.Op.{Op}
@@ -15,7 +16,7 @@ use Rattle.tg_types.specs.Checks.{Noted}
 use Rattle.tg_types.specs.Scopes.{Signature, Binding, variable_at, Scope, name_of, at_of, bound, binding, in_a_loop, in_no_loop}
 use Rattle.tg_types.specs.Groups.{with_functions, with_params}
 use Rattle.tg_types.specs.Typing.{placed}
-use Rattle.tg_types.specs.Has.{Fits, Callee, use_of, Apart, HasValues, HaveValues, ShapeHasValues}
+use Rattle.tg_types.specs.Has.{Fits, Callee, use_of, Apart, HasValues, HaveValues, GivesBack, ShapeHasValues}
 use Rattle.tg_types.proofs.Inversion.{noting, shaping, Sides, Notes}
 use Rattle.tg_types.proofs.NamedValues.{NameValues}
 
@@ -116,5 +117,5 @@ mutual
     end_bodies : {scope : Scope} {g : Noted} → CheckedBodies no_functions [] scope g g
     a_body :
         {f : Ident} {ps : List Param} {r : Option Ident} {body : Exp} {rest : FunDecs} {s : Signature} {ss : List Signature} {scope : Scope} {g k h : Noted}
-        (u : Ty) → length ps ≡ length s.params → HaveValues s.params → Checked body (with_params ps s.params scope) u g k → Fits u s.result →
+        (u : Ty) → length ps ≡ length s.params → HaveValues s.params → GivesBack (is_some r) s.result → Checked body (with_params ps s.params scope) u g k → Fits u s.result →
         CheckedBodies rest ss scope k h → CheckedBodies (function f ps r body rest) (s ∷ ss) scope g h

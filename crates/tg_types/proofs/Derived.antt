@@ -194,7 +194,7 @@ module _ (shapes : List (ℕ × Shape)) (notes : List Note) (apart : AreApart sh
     derived_bodies : {fs : FunDecs} {ss : List Signature} {scope : Scope} {g h : Noted} → CheckedBodies fs ss scope g h → Ends h →
         Has.HasBodies shapes notes fs ss scope × Ends g
     derived_bodies end_bodies x = (Has.end_bodies, x)
-    derived_bodies (a_body u n v body f rest) x =
+    derived_bodies (a_body u n v b body f rest) x =
         let k = derived_bodies rest x in
         let l = derived body k.1 in
-        (Has.a_body u n v l.0 f k.0, l.1)
+        (Has.a_body u n v b l.0 f k.0, l.1)

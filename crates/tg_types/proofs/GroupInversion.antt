@@ -1,6 +1,6 @@
 -- What the checks of a group of types or functions that came out fine say of it.
 use Rattle.std.proofs.Common.{◌≡◌, ℕ, suc, List, [], ◌∷◌, length, Option, Some, None, Bool, true, false, refl, sym, ap, ◌∙◌, subst}
-use Rattle.std.specs.Prelude.{not, ◌&&◌, ◌||◌, ◌==◌, if◌then◌else◌}
+use Rattle.std.specs.Prelude.{is_some, not, ◌&&◌, ◌||◌, ◌==◌, if◌then◌else◌}
 use Rattle.std.proofs.lemmas.Bool.{eqb-true, eq-eqb}
 use Rattle.tg_syntax.specs.declared.tokens.Ident.{Ident}
 use Rattle.tg_syntax.specs.declared.trees.Param.{Param}
@@ -13,7 +13,7 @@ use Rattle.tg_types.specs.Scopes.{Signature, Scope, name_of, at_of}
 use Rattle.tg_types.specs.Groups.{stands_in, no_repeats, declare_types, known_fields, known_form, known_forms, names_of, chains_end, with_group}
 use Rattle.tg_types.specs.Groups.{type_at_end, chain_of, add_form, add_forms, function_names, param_types, result_type, headers}
 use Rattle.tg_types.specs.Typing.{body_fits, own_type, assignable}
-use Rattle.tg_types.specs.Has.{Fits, the_same, Apart, HasValues, HaveValues}
+use Rattle.tg_types.specs.Has.{Fits, the_same, Apart, HasValues, HaveValues, GivesBack}
 use Rattle.tg_types.proofs.Inversion.{steps, kept, given, presented, shape_added, expected, expected_none}
 use Rattle.tg_types.proofs.NamedValues.{NameValues, IsFormKnown, AreFormsKnown, DoEnd, forms_known, chains_do_end, names_of_group, fields_values}
 use Rattle.tg_types.proofs.NamedValues.{element_values}
@@ -122,15 +122,16 @@ params_got scope vs earlier (p ∷ ps) ts g h e =
       subst (λ y. HaveValues y) d.0 (vs (name_of p.kind) b.value n.0, r.2),
     )
 
-result_got : (scope : Scope) (r : Option Ident) (t : Ty) (g h : Noted) → result_type scope r g ≡ fine t h → (r ≡ None → t ≡ none_type) × (g ≡ h)
-result_got scope None t g h e = let p = given _ _ _ _ e in ((λ n. sym p.0), p.1)
-result_got scope (Some x) t g h e = ((λ n. cc), (presented _ _ _ _ _ _ e).1)
+result_got : (scope : Scope) → NameValues scope.types → (r : Option Ident) (t : Ty) (g h : Noted) → result_type scope r g ≡ fine t h →
+    GivesBack (is_some r) t × (g ≡ h)
+result_got scope vs None t g h e = let p = given _ _ _ _ e in (sym p.0, p.1)
+result_got scope vs (Some x) t g h e = let p = presented _ _ _ _ _ _ e in (vs (name_of x) t p.0, p.1)
 
 -- the headers of a group
 pub data Headed : FunDecs → List Signature → Type 0 where
   no_heads : Headed no_functions []
   a_head : {f : Ident} {ps : List Param} {r : Option Ident} {body : Exp} {rest : FunDecs} {s : Signature} {ss : List Signature} →
-      length ps ≡ length s.params → HaveValues s.params → (r ≡ None → s.result ≡ none_type) → Headed rest ss → Headed (function f ps r body rest) (s ∷ ss)
+      length ps ≡ length s.params → HaveValues s.params → GivesBack (is_some r) s.result → Headed rest ss → Headed (function f ps r body rest) (s ∷ ss)
 
 pub headed : (fs : FunDecs) (scope : Scope) → NameValues scope.types → (ss : List Signature) (g h : Noted) → headers fs scope g ≡ fine ss h →
     Headed fs ss × (g ≡ h)
@@ -143,15 +144,15 @@ headed (function f ps r body rest) scope vs ss g h e =
     let c = steps b.onward in
     let d = given _ _ _ _ c.onward in
     let n = params_got scope vs [] ps a.value g a.between a.first in
-    let m = result_got scope r b.value a.between b.between b.first in
+    let m = result_got scope vs r b.value a.between b.between b.first in
     let k = headed rest scope vs c.value b.between c.between c.first in
     (subst (λ y. Headed (function f ps r body rest) y) d.0 (a_head n.0 n.2 m.0 k.0), n.1 ∙ m.1 ∙ k.1 ∙ d.1)
 
-pub body_got : (r : Option Ident) (result got : Ty) (at : ℕ) (x : Unit {0}) (g h : Noted) → (r ≡ None → result ≡ none_type) →
+pub body_got : (r : Option Ident) (result got : Ty) (at : ℕ) (x : Unit {0}) (g h : Noted) → GivesBack (is_some r) result →
     body_fits r result got at g ≡ fine x h → Fits got result × (g ≡ h)
 body_got None result got at x g h n e =
     let p = expected_none got at x g h e in
-    (subst (λ y. Fits got y) (p.0 ∙ sym (n refl)) the_same, p.1)
+    (subst (λ y. Fits got y) (p.0 ∙ sym n) the_same, p.1)
 body_got (Some y) result got at x g h n e = expected result got at x g h e
 
 pub assignable_keep : (v : LValue) (scope : Scope) (x : Unit {0}) (g h : Noted) → assignable v scope g ≡ fine x h → g ≡ h

@@ -253,5 +253,5 @@ mutual
       let p = steps e in
       let q = steps p.onward in
       let b = body_got r s.result p.value _ q.value p.between q.between m q.first in
-      a_body p.value n v (to refl b.1 (checked body (with_params ps s.params scope) (with_params_names ps s.params scope vs) p.value g p.between p.first)) b.0
+      a_body p.value n v m (to refl b.1 (checked body (with_params ps s.params scope) (with_params_names ps s.params scope vs) p.value g p.between p.first)) b.0
       (checked_bodies rest ss scope vs y q.between h hd q.onward)

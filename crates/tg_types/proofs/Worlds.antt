@@ -320,7 +320,7 @@ module _ (shapes : List (ℕ × Shape)) (notes : List Note) where
   in_group : (x : ℕ) (fs : FunDecs) (ss : List Signature) (scope inner : Scope) (b : Binding) → Apart fs → HasBodies shapes notes fs ss inner →
       named x (with_functions fs ss scope).bindings ≡ Some b → InGroup x fs scope.bindings inner b
   in_group x _ _ scope inner b a end_bodies e = not_there refl e
-  in_group x (function f ps r body rest) _ scope inner b a (a_body {s = s} {ss = ss} u l v h fit hs) e =
+  in_group x (function f ps r body rest) _ scope inner b a (a_body {s = s} {ss = ss} u l v back h fit hs) e =
       later (in_group x rest ss (binding f (function_at (at_of f) s) scope) inner b a.1 hs e)
     where
       here : (c : Bool) → (name_of f == x) ≡ c → function_named x rest ≡ None →

@@ -1,7 +1,7 @@
 -- The types of parts as a relation, with all shapes of the program known and the notes that it
 -- carries: what the checks, one after another, come to (Appel, chapter 5 and appendix A).
 use Rattle.std.specs.Prelude.{◌≡◌, ◌≢◌, ℕ, List, [], ◌∷◌, length, Option, Some, None, Bool, true}
-use Rattle.std.specs.Prelude.{false}
+use Rattle.std.specs.Prelude.{false, is_some}
 use Rattle.std.specs.List.{Contains}
 use Rattle.tg_base.specs.declared.ids.Span.{Span}
 use Rattle.tg_syntax.specs.declared.tokens.Ident.{Ident}
@@ -89,6 +89,11 @@ HasValues t = t ≢ none_type
 abbrev pub HaveValues : List Ty → Type 0
 HaveValues [] = Unit {0}
 HaveValues (t ∷ ts) = HasValues t × HaveValues ts
+
+-- a function's result has values where its text says that there is one, and none else
+abbrev pub GivesBack : (has_result : Bool) → Ty → Type 0
+GivesBack true t = HasValues t
+GivesBack false t = t ≡ none_type
 
 abbrev pub FieldsHaveValues : List (ℕ × Ty) → Type 0
 FieldsHaveValues [] = Unit {0}
@@ -279,6 +284,7 @@ module _ (shapes : List (ℕ × Shape)) (notes : List Note) where
           {s : Signature} {ss : List Signature} {scope : Scope} (u : Ty) →
           length ps ≡ length s.params →
           HaveValues s.params →
+          GivesBack (is_some r) s.result →
           Has body (with_params ps s.params scope) u →
           Fits u s.result →
           HasBodies rest ss scope →
