@@ -1,5 +1,5 @@
 -- Every expression does what it means: by induction on the tree, and on the fuel that is left.
-use Rattle.std.proofs.Common.{◌≡◌, ◌≢◌, ℕ, zero, suc, ◌<◌, ◌≤◌, List, [], ◌∷◌, Some, Bool, refl, sym, ap, ◌∙◌, arith, subst, inl, inr}
+use Rattle.std.proofs.Common.{◌≡◌, ℕ, zero, suc, ◌<◌, ◌≤◌, Some, Bool, true, false, refl, sym, arith, subst, inl, inr}
 use Rattle.std.proofs.lemmas.Bool.{cases_lt}
 use Rattle.tg_base.specs.declared.ids.Span.{Span}
 use Rattle.tg_syntax.specs.declared.tokens.Ident.{Ident}
@@ -9,23 +9,24 @@ use Rattle.tg_symbols.specs.Tables.{named}
 use Rattle.tg_meaning.specs.declared.standards.Standard.{Standard}
 use Rattle.tg_meaning.specs.declared.standards.Standard.TheVariants as standard
 use Rattle.tg_meaning.specs.Environments.{find, to_standard}
-use Rattle.tg_types.specs.declared.notes.Means.TheVariants as means
-use Rattle.tg_types.specs.Types.{Ty, int_type, string_type, none_type, array_type, array_shape}
-use Rattle.tg_types.specs.Scopes.{Scope, bound, name_of, at_of, standard_one, signature}
+use Rattle.tg_types.specs.Types.{Ty, int_type, string_type, array_type, array_shape}
+use Rattle.tg_types.specs.Scopes.{Scope, name_of, standard_one, signature}
 use Rattle.tg_types.specs.Has as has
-use Rattle.tg_types.specs.Has.{Has, HasAll, HasValues, HaveValues, Fits, Says}
+use Rattle.tg_types.specs.Has.{Has, HasValues, HaveValues, Fits}
 use Rattle.tg_translate.specs.Purity.{assigns_nothing}
+use Rattle.tg_translate.specs.Updates.{begins_with}
 use Rattle.tg_translate_meaning.specs.Situations.{Program, Part, Setting, MayAssign}
-use Rattle.tg_translate_meaning.specs.Shown.{Shown, Situation, IsShown, ExpressionFollows}
-use Rattle.tg_translate_meaning.proofs.Pieces.{StatesGrow, Piece}
+use Rattle.tg_translate_meaning.specs.Shown.{Shown, IsShown, ExpressionFollows}
+use Rattle.tg_translate_meaning.proofs.Pieces.{StatesGrow}
 use Rattle.tg_translate_meaning.proofs.Growing.{states_grow}
 use Rattle.tg_translate_meaning.proofs.Needed.{needs}
 use Rattle.tg_translate_meaning.proofs.Locating.{PlaceShown}
 use Rattle.tg_translate_meaning.proofs.Places.{IndicesShown, place_shown}
-use Rattle.tg_translate_meaning.proofs.Standards.{Owns}
+use Rattle.tg_translate_meaning.proofs.Standards.{Owns, objects_are_owned}
 use Rattle.tg_translate_meaning.proofs.Seeing.{is_seen}
 use Rattle.tg_translate_meaning.proofs.Sides.{both_true}
 use Rattle.tg_translate_meaning.proofs.Rights.{RightsShown}
+use Rattle.tg_translate_meaning.proofs.Assigning.{assign_shown}
 use Rattle.tg_translate_meaning.proofs.Simple.{nil_shown, int_shown, break_shown}
 use Rattle.tg_translate_meaning.proofs.Texts.{text_shown}
 use Rattle.tg_translate_meaning.proofs.Reading.{read_shown}
@@ -49,6 +50,20 @@ use Rattle.tg_translate_meaning.proofs.StandardCalls.{standard_call_shown}
 abbrev pub AssignmentsShown : Program → Type 0
 AssignmentsShown P =
     (n : ℕ) (sp : Span) (v : LValue) (e : Exp) → PlaceShown P n v → Shown P n e → RightsShown P n e → Shown P n (Assign sp v e)
+
+-- and of those whose value begins with a read of their place
+abbrev pub UpdatesShown : Program → Type 0
+UpdatesShown P =
+    (n : ℕ) (sp : Span) (v : LValue) (e : Exp) → begins_with P.findings.meaning e v ≡ true → PlaceShown P n v → Shown P n e →
+    RightsShown P n e → Shown P n (Assign sp v e)
+
+-- the others are plain
+pub assignments_shown : (P : Program) → Setting P → UpdatesShown P → AssignmentsShown P
+assignments_shown P set updates n sp v e place value rights x = by (begins_with P.findings.meaning e v) refl
+  where
+    by : (b : Bool) → begins_with P.findings.meaning e v ≡ b → IsShown P n (Assign sp v e) x
+    by true is = updates n sp v e is place value rights x
+    by false is = assign_shown P set (needs P set) (states_grow P) n sp v e place value x is
 
 -- with less fuel, or with this
 at_most : (P : Program) (n : ℕ) (inner : (m : ℕ) → m < n → (e : Exp) → Shown P m e) (e : Exp) → Shown P n e → (m : ℕ) → m ≤ n → Shown P m e
@@ -119,7 +134,10 @@ module _ (P : Program) (set : Setting P) (grow : StatesGrow P) (owns : Owns P) (
       (record { shown = show_item; typed = y.item_typed; words = x.words.1; covers = x.covers.1; may_assign = may.1 })
 
 -- By induction on the tree, with everything shown for less fuel.
-module _ (P : Program) (set : Setting P) (owns : Owns P) (assignments : AssignmentsShown P) (n : ℕ) (inner : (m : ℕ) → m < n → (e : Exp) → Shown P m e) where
+module _ (P : Program) (set : Setting P) (assignments : AssignmentsShown P) (n : ℕ) (inner : (m : ℕ) → m < n → (e : Exp) → Shown P m e) where
+  abbrev owns : Owns P
+  owns = objects_are_owned P
+
   abbrev grow : StatesGrow P
   grow = states_grow P
 
@@ -164,11 +182,13 @@ module _ (P : Program) (set : Setting P) (owns : Owns P) (assignments : Assignme
         let all = all_shown es in
         λ x. seq_shown P set grow n sp es all x
 
+    -- the expressions of an l-value
     indices_shown : (v : LValue) → IndicesShown P n v
     indices_shown (Simple x) = tt
     indices_shown (Field v f) = indices_shown v
     indices_shown (Index v e) = (indices_shown v, expression_shown e)
 
+    -- the right operands along the left spine
     rights_shown : (e : Exp) → RightsShown P n e
     rights_shown (Binary sp o at a b) = (rights_shown a, expression_shown b)
     rights_shown _ = tt
@@ -188,14 +208,15 @@ module _ (P : Program) (set : Setting P) (owns : Owns P) (assignments : Assignme
     decs_shown (functions fs rest) = decs_shown rest
 
 -- By induction on the fuel.
-module _ (P : Program) (set : Setting P) (owns : Owns P) (assignments : AssignmentsShown P) where
+module _ (P : Program) (set : Setting P) (assignments : AssignmentsShown P) where
   below_shown : (n m : ℕ) → m < n → (e : Exp) → Shown P m e
   below_shown zero m lt e = absurd (omega (arith, lt))
   below_shown (suc n) m lt e =
-      expression_shown P set owns assignments m (λ k less o. below_shown n k (omega (arith, lt, less)) o) e
+      expression_shown P set assignments m (λ k less o. below_shown n k (omega (arith, lt, less)) o) e
 
   pub all_expressions_shown : (n : ℕ) (e : Exp) → Shown P n e
-  all_expressions_shown n e = expression_shown P set owns assignments n (below_shown n) e
+  all_expressions_shown n e = expression_shown P set assignments n (below_shown n) e
 
-pub expressions_follow : ((P : Program) → Setting P → Owns P) → ((P : Program) → Setting P → AssignmentsShown P) → (P : Program) (n : ℕ) → ExpressionFollows P n
-expressions_follow owns assignments P n set e = all_expressions_shown P set (owns P set) (assignments P set) n e
+-- where updates do, each expression does what it means
+pub expressions_follow : ((P : Program) → Setting P → UpdatesShown P) → (P : Program) (n : ℕ) → ExpressionFollows P n
+expressions_follow updates P n set e = all_expressions_shown P set (assignments_shown P set (updates P set)) n e

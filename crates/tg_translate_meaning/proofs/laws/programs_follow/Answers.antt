@@ -1,5 +1,4 @@
 use Rattle.tg_translate_meaning.proofs.Whole.{meaning_is_kept}
-use Rattle.tg_translate_meaning.proofs.Expressions.{expressions_follow}
 use Rattle.tg_translate_meaning.proofs.laws.programs_follow.Goals as goal
 
 pub returns : goal.returns
