@@ -40,6 +40,7 @@ pub mod Idle
 pub mod Joining
 pub mod Laying
 pub mod LetBlocks
+pub mod Lefts
 pub mod Letting
 pub mod Linking
 pub mod Locating
