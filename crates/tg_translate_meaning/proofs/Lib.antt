@@ -32,6 +32,7 @@ pub mod Framing
 pub mod Grouping
 pub mod Groups
 pub mod Growing
+pub mod HeldPlaces
 pub mod HeldSides
 pub mod Holding
 pub mod Homes
@@ -39,8 +40,8 @@ pub mod Identities
 pub mod Idle
 pub mod Joining
 pub mod Laying
-pub mod LetBlocks
 pub mod Lefts
+pub mod LetBlocks
 pub mod Letting
 pub mod Linking
 pub mod Locating
@@ -63,11 +64,13 @@ pub mod Records
 pub mod RecordsMade
 pub mod Returning
 pub mod Returns
+pub mod Rights
 pub mod Routines
 pub mod Seeing
 pub mod Sequencing
 pub mod Sides
 pub mod Simple
+pub mod Spines
 pub mod StandardCalls
 pub mod Standards
 pub mod Standing
@@ -79,6 +82,7 @@ pub mod Tabling
 pub mod Texts
 pub mod Unworked
 pub mod Updates
+pub mod Updating
 pub mod Walking
 pub mod Whiling
 pub mod Whole
