@@ -220,7 +220,7 @@ module _ (P : Program) (set : Setting P) (needs : Needs P) (grow : StatesGrow P)
       value_at : (g : Holdings) (ms : List Ty) (l : Location) (u : ℕ) (s : SourceWorld) (w : World) (t : Temps) → GrowsTo x.h g → Extends x.types ms → Holds P x.p g ms s w t →
           IsAt P x.p.places g ms l typed_.t u → AddressIs P x.p w t (held_address hd.address) u → IsFound P n v leaf_.w leaf_.same x.p.env s l → (go' : Go ℕ) →
           Onward P {A = ℕ} n (x.r + 150 + 56) x.p g ms (λ h2 val z. Stands h2 val typed_.u z) (writes l) go' →
-          FollowsHere P (x.r + 154) n (rest_run (evaluated l) s) (value_runs P x.p y x.p.around go' w t)
+          FollowsHere P (x.r + 150 + 4) n (rest_run (evaluated l) s) (value_runs P x.p y x.p.around go' w t)
       value_at g ms l u s w t gg ee hh at is found go' onward =
           let begins : SituationBy P n e (λ w1 within. behind_read P.findings e (Load (held_address hd.address)) w1 within) = record {
             ty = typed_.u;
@@ -281,7 +281,7 @@ module _ (P : Program) (set : Setting P) (needs : Needs P) (grow : StatesGrow P)
           (λ drew. x.ready.temps_free s1.frame.temps l1.temps (omega (arith, drew, l3.temps, l34.temps)))
           j go'
           (λ g ms l u sx w1 t1 gg ee hh at is found.
-          more P (x.r + 154) (x.r + 150 + left_over) n (rest_run (evaluated l) sx) (go' u w1 t1) (omega arith)
+          more P (x.r + 150 + 4) (x.r + 150 + left_over) n (rest_run (evaluated l) sx) (go' u w1 t1) (omega arith)
           (value_at g ms l u sx w1 t1 gg ee hh at is found (stores u)
           (λ g2 ms2 val z s5 w5 t5 gg2 ee2 hh2 st.
           let at2 = is_at_grows P x.p.places g g2 ms ms2 l typed_.t u gg2 ee2 at in
@@ -291,7 +291,7 @@ module _ (P : Program) (set : Setting P) (needs : Needs P) (grow : StatesGrow P)
           (λ i. o.does (λ k. x.go nothing) x.out i) (λ i. refl)
           (subst (λ k. FollowsHere P (x.r + 150 + 56) n (rest_run (x.go nothing) o.s1) (with_memory k w5 (λ w3. next w3 t5))) (sym o.stored)
           (more P (x.r + left_over) (x.r + 150 + 56) n (rest_run (x.go nothing) o.s1) (next (record w5 { memory = o.m1 }) t5) (omega arith)
-          (onward g2 ms2 nothing 0 o.s1 (record w5 { memory = o.m1 }) t5 (grows_on x.h g g2 gg gg2) (extends_on x.types ms ms2 ee ee2) o.after tt)))))))))
+          (onward g2 ms2 nothing 0 o.s1 (record w5 { memory = o.m1 }) t5 (grows_on x.h g g2 gg gg2) (extends_on x.types ms ms2 ee ee2) o.after tt))))))))
 
       update_made : drawn (done (store_at hd.before (held_address hd.address) y)) s4 ≡ drawn x.m x.τ → IsShown P n E x
       update_made all =
