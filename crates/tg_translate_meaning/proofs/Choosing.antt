@@ -32,7 +32,7 @@ use Rattle.tg_translate_meaning.specs.Shown.{Shown, IsShown, Situation, Situatio
 use Rattle.tg_translate_meaning.proofs.States.{made_in, state_in, after_inv, later_none, later_on, behind_none, front_none}
 use Rattle.tg_translate_meaning.proofs.Making.{by_made, worked, wanted_of, holds_with_temp, set_here, IsLoose, grows_on}
 use Rattle.tg_translate_meaning.proofs.Lefts.{LeftSide, plain_left}
-use Rattle.tg_translate_meaning.proofs.Pieces.{StatesGrow, Piece, LeftPiece, first_condition, Moment, Behind, at_begin, at_then, from, sub_condition, sub_arm, sub_dropped, more, paid, extends_on}
+use Rattle.tg_translate_meaning.proofs.Pieces.{StatesGrow, Piece, LeftPiece, first_condition, Moment, Behind, at_begin, at_then, from, sub_arm, sub_dropped, more, paid, extends_on}
 use Rattle.tg_translate_meaning.proofs.Standing.{test_int, set_suc, stands_fit, fits_has_values, int_has_values}
 use Rattle.tg_translate_meaning.proofs.Sides.{both_true}
 

@@ -1,17 +1,14 @@
 -- Places that are read first and then assigned: what their addresses are made of is kept, and what comes
 -- next may count on the address.
-use Rattle.std.proofs.Common.{◌≡◌, ℕ, zero, suc, ◌+◌, ◌-◌, ◌*◌, ◌%◌, ◌^◌, ◌<◌, ◌≤◌, List, Some, Bool, true, false, refl, sym, ap, ◌∙◌, arith, subst}
+use Rattle.std.proofs.Common.{◌≡◌, ℕ, zero, suc, ◌+◌, ◌-◌, ◌*◌, ◌%◌, ◌^◌, ◌<◌, ◌≤◌, Bool, true, false, refl, sym, ap, ◌∙◌, arith, subst}
 use Rattle.tg_base.specs.Words.{add, shift_left}
 use Rattle.tg_syntax.specs.declared.tokens.Ident.{Ident}
 use Rattle.tg_syntax.specs.Tree.{Exp, LValue, Simple, Field, Index}
 use Rattle.tg_runs.specs.Runs.{Run}
-use Rattle.tg_runs.specs.Ran.{Ran}
 use Rattle.tg_runs.specs.Agreement.{Source}
-use Rattle.tg_meaning.specs.Values.{SourceWorld}
-use Rattle.tg_meaning.specs.Evaluation.{Location, in_variable}
+use Rattle.tg_meaning.specs.Evaluation.{in_variable}
 use Rattle.tg_meaning.specs.MachineEnds.{rest_run}
 use Rattle.tg_types.specs.declared.notes.Means.TheVariants as means
-use Rattle.tg_types.specs.Types.{Ty}
 use Rattle.tg_types.specs.Scopes.{at_of, name_of}
 use Rattle.tg_frame.specs.declared.accesses.Access.{Access}
 use Rattle.tg_frame.specs.declared.accesses.Access.TheVariants.{InTemp, InFrame}
@@ -28,24 +25,24 @@ use Rattle.tg_translate.specs.declared.held.HeldAddress.{HeldAddress}
 use Rattle.tg_translate.specs.declared.held.HeldAddress.TheVariants.{InOwnFrame, Beside, At}
 use Rattle.tg_translate.specs.declared.operands.Operand.{Operand}
 use Rattle.tg_translate.specs.declared.operands.Operand.TheVariants.{Number, Kept}
-use Rattle.tg_translate.specs.States.{TranslationState, Acts, Drawn, drawn, after, with_frame, one_temp}
+use Rattle.tg_translate.specs.States.{TranslationState, Acts, drawn, after, with_frame, one_temp}
 use Rattle.tg_translate.specs.Wants.{followed}
 use Rattle.tg_translate.specs.Constructs.{Storage, in_temp, at_address, place_in, frame_out, link_of, slot_address, read, plus, nil_check, after_all, element}
-use Rattle.tg_translate.specs.Constructs.{field_place, field_of, hold, Held, operand, HeldAt, hold_address, held_address}
+use Rattle.tg_translate.specs.Constructs.{field_place, field_of, Held, operand, HeldAt, hold_address, held_address}
 use Rattle.tg_translate.specs.Scopes.{frame_at, field_number}
 use Rattle.tg_translate.specs.Translate.{locate}
 use Rattle.tg_translate_meaning.specs.Tables.{Later}
-use Rattle.tg_translate_meaning.specs.Worlds.{Holdings, temporary, nowhere, cell, IsOf, GrowsTo}
-use Rattle.tg_translate_meaning.specs.Situations.{Program, Part, Setting, Holds, Extends, key_of, value_runs, statements_run}
+use Rattle.tg_translate_meaning.specs.Worlds.{temporary, nowhere, cell, IsOf}
+use Rattle.tg_translate_meaning.specs.Situations.{Program, Part, Setting, key_of, value_runs, statements_run}
 use Rattle.tg_translate_meaning.specs.Shown.{Shown, FollowsHere, left_over}
 use Rattle.tg_translate_meaning.proofs.States.{made_in, state_in, after_inv, later_none}
 use Rattle.tg_translate_meaning.proofs.Making.{worked, set_here, holds_with_temp, grows_none}
-use Rattle.tg_translate_meaning.proofs.Pieces.{StatesGrow, more, extends_none}
+use Rattle.tg_translate_meaning.proofs.Pieces.{StatesGrow, extends_none}
 use Rattle.tg_translate_meaning.proofs.Placing.{of_is_used}
 use Rattle.tg_translate_meaning.proofs.Linking.{flat_follows}
 use Rattle.tg_translate_meaning.proofs.LetBlocks.{joined_runs}
 use Rattle.tg_translate_meaning.proofs.Holding.{OperandIs, kept_later, held_as, holding}
-use Rattle.tg_translate_meaning.proofs.Locating.{IsAt, a_slot, SeenVariable, AddressIs, ToldOnward, ToldFollows, Needs, PlaceSituation, PlaceShown, place_source}
+use Rattle.tg_translate_meaning.proofs.Locating.{a_slot, SeenVariable, AddressIs, ToldFollows, Needs, PlaceSituation, PlaceShown, place_source}
 use Rattle.tg_tree.specs.Memory.{slot}
 use Rattle.tg_translate_meaning.proofs.Locating as locating
 use Rattle.tg_translate_meaning.proofs.Locating.{slot_is, slot_flat, slot_length}

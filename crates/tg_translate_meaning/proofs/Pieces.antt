@@ -28,10 +28,10 @@ use Rattle.tg_translate_meaning.specs.Worlds.{Holdings, Stands, GrowsTo, Places,
 use Rattle.tg_translate_meaning.specs.Situations as situations
 use Rattle.tg_translate_meaning.specs.Situations.{Program, Part, Setting, Holds, IsReady, IsCovered, MayAssign, Extends, Along}
 use Rattle.tg_translate_meaning.specs.Situations.{value_runs, test_runs, statement_runs}
-use Rattle.tg_translate_meaning.specs.Shown.{Shown, SituationBy, IsShown, IsWantable, IsWanted, left_over, is_set, work_factor, evaluates, FollowsHere}
+use Rattle.tg_translate_meaning.specs.Shown.{Shown, SituationBy, IsWantable, IsWanted, left_over, is_set, work_factor, evaluates, FollowsHere}
 use Rattle.tg_translate_meaning.specs.Shown.{Onward, MadeFollows, IsNamed}
 use Rattle.tg_translate_meaning.proofs.States.{made_in, state_in, after_inv, later_none, later_on, later_value, moment_before, found_later}
-use Rattle.tg_translate_meaning.proofs.Lefts.{LeftSide, plain_left}
+use Rattle.tg_translate_meaning.proofs.Lefts.{LeftSide}
 use Rattle.tg_translate_meaning.proofs.Making.{value_follows, condition_follows, arm_follows, dropped_follows, grows_none, grows_on}
 
 -- the states of a translation only grow

@@ -1,6 +1,6 @@
 -- Expressions that begin with a read whose value is known: operators, the left one of the left one and
 -- so on, up to that read. Each is shown as it is translated behind the read.
-use Rattle.std.proofs.Common.{◌≡◌, ℕ, ◌+◌, ◌<◌, ◌≤◌, List, Bool, true, false, refl, sym, ap, ◌∙◌, arith, subst}
+use Rattle.std.proofs.Common.{◌≡◌, ℕ, ◌+◌, ◌≤◌, List, Bool, true, false, refl, sym, ap, ◌∙◌, arith, subst}
 use Rattle.tg_base.specs.declared.ids.Span.{Span}
 use Rattle.tg_syntax.specs.declared.trees.Op.{Op}
 use Rattle.tg_syntax.specs.declared.trees.Op.TheVariants as op
@@ -13,7 +13,7 @@ use Rattle.tg_meaning.specs.Evaluation.{Location}
 use Rattle.tg_meaning.specs.Passing.{Rest}
 use Rattle.tg_meaning.specs.MachineEnds.{rest_run}
 use Rattle.tg_types.specs.declared.notes.Means.TheVariants as means
-use Rattle.tg_types.specs.Types.{Ty, int_type, string_type, nil_type, record_type, array_type}
+use Rattle.tg_types.specs.Types.{Ty, int_type, string_type}
 use Rattle.tg_types.specs.Scopes.{Scope}
 use Rattle.tg_types.specs.Has as has
 use Rattle.tg_types.specs.Has.{Has, SaysOf, Alike, records, arrays, nil_and, and_nil}
@@ -23,11 +23,8 @@ use Rattle.tg_tree.specs.Sizes.{expression_length}
 use Rattle.tg_tree.specs.Shapes.{IsFlat}
 use Rattle.tg_tree.specs.Memory.{load}
 use Rattle.tg_tree.specs.FlatValue.{or_wrong, onward}
-use Rattle.tg_tree.specs.Actions.{World, Temps, Go}
-use Rattle.tg_translate.specs.declared.homes.Within.{Within}
-use Rattle.tg_translate.specs.declared.wants.Want.{Want}
-use Rattle.tg_translate.specs.Wants.{Made, value}
-use Rattle.tg_translate.specs.States.{TranslationState, drawn}
+use Rattle.tg_tree.specs.Actions.{World, Temps}
+use Rattle.tg_translate.specs.Wants.{value}
 use Rattle.tg_translate.specs.Updates.{begins_with, is_same_place}
 use Rattle.tg_translate.specs.Translate.{behind_read}
 use Rattle.tg_translate_meaning.specs.Worlds.{Holdings, Stands}

@@ -1,6 +1,6 @@
 -- Assignments in all cases. Where the value begins with a read of the place, this is held, and the value
 -- begins at the very address that was found.
-use Rattle.std.proofs.Common.{◌≡◌, ◌≢◌, ℕ, suc, ◌+◌, ◌*◌, ◌<◌, ◌≤◌, List, Option, Some, None, Bool, true, false, refl, sym, ap, ◌∙◌, arith, subst, inl, inr}
+use Rattle.std.proofs.Common.{◌≡◌, ◌≢◌, ℕ, ◌+◌, ◌<◌, ◌≤◌, List, Bool, true, false, refl, sym, ap, ◌∙◌, arith, subst, inr}
 use Rattle.tg_base.specs.declared.ids.Span.{Span}
 use Rattle.tg_syntax.specs.Tree.{Exp, Read, Assign, LValue, Simple, Field, Index}
 use Rattle.tg_runs.specs.Runs.{Run}
@@ -12,10 +12,10 @@ use Rattle.tg_meaning.specs.Evaluation.{Location}
 use Rattle.tg_meaning.specs.Passing.{Rest}
 use Rattle.tg_meaning.specs.MachineEnds.{rest_run, as_source}
 use Rattle.tg_types.specs.Types.{Ty, int_type, none_type}
-use Rattle.tg_types.specs.Scopes.{Scope, at_of}
+use Rattle.tg_types.specs.Scopes.{at_of}
 use Rattle.tg_types.specs.Has as has
 use Rattle.tg_types.specs.Has.{Has, HasPlace, Fits}
-use Rattle.tg_tree.specs.Tree.{Tx, Ts, Const, Load, Stms, no_stms}
+use Rattle.tg_tree.specs.Tree.{Tx, Ts, Load, Stms, no_stms}
 use Rattle.tg_tree.specs.Units.{Trees, lifted_units}
 use Rattle.tg_tree.specs.Sizes.{expression_length}
 use Rattle.tg_tree.specs.Shapes.{IsFlat, is_flat}
@@ -25,29 +25,28 @@ use Rattle.tg_tree.specs.declared.operators.Bin.TheVariants as bin
 use Rattle.tg_tree.specs.Actions.{World, Temps, Go, Next, charged, with_memory}
 use Rattle.tg_translate.specs.declared.held.HeldAddress.{HeldAddress}
 use Rattle.tg_translate.specs.declared.held.HeldAddress.TheVariants.{InOwnFrame, Beside, At}
-use Rattle.tg_translate.specs.declared.operands.Operand.{Operand}
 use Rattle.tg_translate.specs.declared.operands.Operand.TheVariants.{Number, Kept}
 use Rattle.tg_translate.specs.declared.wants.Want.{Want}
 use Rattle.tg_translate.specs.declared.wants.Want.TheVariants as want
 use Rattle.tg_translate.specs.States.{TranslationState, Drawn, drawn, Acts, after}
-use Rattle.tg_translate.specs.Wants.{Made, value, done, value_of, value_from}
-use Rattle.tg_translate.specs.Constructs.{Storage, in_temp, at_address, read, field_place, element_place, HeldAt, HeldPlace, hold_address, held_address, operand, store_at}
-use Rattle.tg_translate.specs.Constructs.{Held, hold, field_of, element_of, held_at, held_in_temp, read_held, place_held, want_for}
+use Rattle.tg_translate.specs.Wants.{Made, done, value_of, value_from}
+use Rattle.tg_translate.specs.Constructs.{Storage, in_temp, at_address, read, field_place, element_place, HeldAt, hold_address, held_address, store_at}
+use Rattle.tg_translate.specs.Constructs.{hold}
 use Rattle.tg_translate.specs.Constructs as constructs
 use Rattle.tg_translate.specs.Purity.{assigns_nothing}
 use Rattle.tg_translate.specs.Scopes.{field_number}
 use Rattle.tg_translate.specs.Updates.{begins_with, is_same_place}
-use Rattle.tg_translate.specs.Translate.{expression, locate, assignment, assigned, updated, behind_read}
+use Rattle.tg_translate.specs.Translate.{expression, locate, assignment, updated, behind_read}
 use Rattle.tg_translate_meaning.specs.Tables.{Later}
 use Rattle.tg_translate_meaning.specs.Worlds.{Holdings, Stands, temporary, nowhere, GrowsTo}
-use Rattle.tg_translate_meaning.specs.Situations.{Program, Part, Setting, IsCovered, Holds, Extends, value_runs, statement_runs, statements_run}
+use Rattle.tg_translate_meaning.specs.Situations.{Program, Setting, IsCovered, Holds, Extends, value_runs, statement_runs, statements_run}
 use Rattle.tg_translate_meaning.specs.Shown.{Shown, IsShown, Situation, SituationBy, FollowsHere, Onward, MadeFollows, IsWantable, IsLeft, left_over, work_factor, evaluates}
 use Rattle.tg_translate_meaning.proofs.States.{made_in, state_in, after_inv, later_none, later_on, later_value}
 use Rattle.tg_translate_meaning.proofs.Making.{by_made, source_of, grows_on, value_follows}
 use Rattle.tg_translate_meaning.proofs.Pieces.{StatesGrow, more, paid, extends_on, ready_part}
 use Rattle.tg_translate_meaning.proofs.Sides.{lifted_small}
 use Rattle.tg_translate_meaning.proofs.Standing.{stands_fit, fits_has_values}
-use Rattle.tg_translate_meaning.proofs.Locating.{IsAt, is_at_grows, AddressIs, Needs, PlaceSituation, PlaceShown, place_source, locates, writes_to}
+use Rattle.tg_translate_meaning.proofs.Locating.{IsAt, is_at_grows, AddressIs, Needs, PlaceSituation, PlaceShown, place_source, locates}
 use Rattle.tg_translate_meaning.proofs.Accessing.{write_at}
 use Rattle.tg_translate_meaning.proofs.Places.{IndicesShown, place_shown}
 use Rattle.tg_translate_meaning.proofs.HeldPlaces.{hold_of, HasAddress, HeldShown, held_shown}

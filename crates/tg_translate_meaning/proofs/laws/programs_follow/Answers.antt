@@ -1,4 +1,3 @@
-use Rattle.tg_translate_meaning.proofs.Updating.{assign_shown}
 use Rattle.tg_translate_meaning.proofs.Whole.{meaning_is_kept}
 use Rattle.tg_translate_meaning.proofs.laws.programs_follow.Goals as goal
 
