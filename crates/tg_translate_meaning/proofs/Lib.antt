@@ -23,6 +23,7 @@ pub mod Declaring
 pub mod Delivering
 pub mod Elements
 pub mod Entering
+pub mod Expressions
 pub mod FieldStores
 pub mod Fields
 pub mod Filling
@@ -52,6 +53,7 @@ pub mod Multiplying
 pub mod Needed
 pub mod Negating
 pub mod Objects
+pub mod Operations
 pub mod Over
 pub mod Pieces
 pub mod Places
