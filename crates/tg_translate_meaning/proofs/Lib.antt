@@ -88,3 +88,4 @@ pub mod Updating
 pub mod Walking
 pub mod Whiling
 pub mod Whole
+pub mod Sizing
