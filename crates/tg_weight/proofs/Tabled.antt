@@ -42,14 +42,17 @@ named_here at a xs = ap (λ t. if t then Some a else named at xs) (eq-eqb at at 
 tail_is : {A : Type 0} {x y : A} {xs ys : List A} → x ∷ xs ≡ y ∷ ys → xs ≡ ys
 tail_is e = cc
 
-padded_once : {A : Type 0} (at : ℕ) (o : Option A) (a : A) (xs : List (ℕ × A)) → named at xs ≡ o → Once xs → Once (padded at o a xs)
-padded_once at (Some b) a xs e once = once
-padded_once at None a xs e once k c [] rest is there = ap (λ l. named k l) is ∙ there
-padded_once at None a xs e once k c (m ∷ more) rest is there = by (at == k) refl (once k c more rest (tail_is is) there)
+one_more_once : {A : Type 0} (at : ℕ) (a : A) (xs : List (ℕ × A)) → named at xs ≡ None → Once xs → Once ((at, a) ∷ xs)
+one_more_once at a xs e once k c [] rest is there = ap (λ l. named k l) is ∙ there
+one_more_once at a xs e once k c (m ∷ more) rest is there = by (at == k) refl (once k c more rest (tail_is is) there)
   where
     by : (t : Bool) → (at == k) ≡ t → named k xs ≡ Some c → (if t then Some a else named k xs) ≡ Some c
     by true i h = let same : at ≡ k = eqb-true at k i in let none : named k xs ≡ None = ap (λ j. named j xs) (sym same) ∙ e in cc
     by false i h = h
+
+padded_once : {A : Type 0} (at : ℕ) (o : Option A) (a : A) (xs : List (ℕ × A)) → named at xs ≡ o → Once xs → Once (padded at o a xs)
+padded_once at (Some b) a xs e once = once
+padded_once at None a xs e once = one_more_once at a xs e once
 
 -- the level of what is found, and 0 for what isn't
 
@@ -62,7 +65,7 @@ callee_level (Some callee) = callee.level
 callee_level None = 0
 
 abbrev no_home : Home
-no_home = record { level = 0; access = InTemp 0 }
+no_home = record { level = 0; access = InTemp (record { 0 = 0 }) }
 
 abbrev no_callee : Callee
 no_callee = record { level = 0; label = record { 0 = 0 } }
