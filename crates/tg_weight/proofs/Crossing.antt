@@ -1,10 +1,8 @@
 -- The walk over a text that leads: its trees, and the functions that it declares, are paid by its
 -- nodes and the levels that it crosses.
-use Rattle.std.proofs.Common.{◌≡◌, ◌≤◌, ◌+◌, ◌*◌, ◌==◌, ℕ, zero, suc, Bool, true, false, Option, Some, List, [], ◌∷◌, ◌++◌, length, map, arith}
-use Rattle.std.proofs.Common.{refl, sym, ap, ◌∙◌, subst}
+use Rattle.std.proofs.Common.{◌≡◌, ◌≤◌, ◌+◌, ℕ, zero, suc, Bool, true, false, Option, List, [], ◌∷◌, length, map, arith, refl, sym, ap, ◌∙◌, subst}
 use Rattle.std.specs.Prelude.{is_some}
 use Rattle.std.specs.List.{AllZip}
-use Rattle.tg_symbols.specs.Tables.{named}
 use Rattle.tg_frame.specs.Homes.{homes_from, homes_of}
 use Rattle.tg_syntax.specs.declared.trees.Param.{Param}
 use Rattle.tg_syntax.specs.Measures.{size, place_size, exps_size, inits_size, decs_size}
@@ -18,22 +16,20 @@ use Rattle.tg_syntax.specs.Tree.{Field, Index, Exps, no_exps, exp, Inits, no_ini
 use Rattle.tg_syntax.specs.Tree.{no_functions, function}
 use Rattle.tg_types.specs.declared.notes.Means.{Means}
 use Rattle.tg_tree.specs.Tree as tree
-use Rattle.tg_tree.specs.Tree.{Tx, Const, Txs, no_txs, tx, Ts, Function, Stms, no_stms}
+use Rattle.tg_tree.specs.Tree.{Tx, Const, Txs, no_txs, tx, Ts, Stms, no_stms}
 use Rattle.tg_tree.specs.Forms.{nothing}
 use Rattle.tg_tree.specs.Lists.{join_txs}
-use Rattle.tg_translate.specs.declared.homes.Home.{Home}
-use Rattle.tg_translate.specs.declared.homes.Callee.{Callee}
 use Rattle.tg_translate.specs.declared.homes.Within.{Within}
 use Rattle.tg_translate.specs.declared.wants.Want.{Want}
 use Rattle.tg_translate.specs.declared.wants.Want.TheVariants as want
-use Rattle.tg_translate.specs.States.{TranslationState, Drawn, drawn, after, give}
+use Rattle.tg_translate.specs.States.{TranslationState, Drawn, drawn, give}
 use Rattle.tg_translate.specs.Wants.{value, done, followed}
 use Rattle.tg_translate.specs.Constructs.{HeldAll, none_held, read, record_of, make_array, negation, repeat_while, in_body, in_test}
 use Rattle.tg_translate.specs.Choices.{left_want}
 use Rattle.tg_translate.specs.Scopes.{Findings, field_number}
 use Rattle.tg_translate.specs.Purity.{assigns_nothing, inits_assign_nothing}
 use Rattle.tg_translate.specs.Updates.{begins_with}
-use Rattle.tg_translate.specs.Functions.{at_of, asked, begun, inside, result_want, outermost, beginning, frame_for, closing, program}
+use Rattle.tg_translate.specs.Functions.{at_of, asked, begun, inside, result_want, outermost, beginning, frame_for, program}
 use Rattle.tg_translate.specs.Translate.{is_zero, is_conjunction, expression, behind_read, locate, values, fields, sequence, declarations, bodies}
 use Rattle.tg_translate.specs.Translate.{program_body, translated}
 use Rattle.tg_shapes.proofs.Updating.{same_is_quiet}
@@ -41,7 +37,7 @@ use Rattle.tg_shapes.proofs.Sizing.{negation_size, record_size, make_array_size,
 use Rattle.tg_weight.proofs.Leading.{LevelTable, Keeps, Crosses, AreAt, AreParamsAt, Leads, LeadsPlace, LeadsExps, LeadsInits, LeadsDecs, LeadsBodies}
 use Rattle.tg_weight.proofs.Giving.{Gives, IsPaid, IsPaidBody, adds_none, bind, then_quiet, given, weaken, any_fresh, any_declared, any_functions}
 use Rattle.tg_weight.proofs.Giving.{begun_keeps, paid_function, finish_paid}
-use Rattle.tg_weight.proofs.Paying.{Weight, weight, one, Paid, PaidTx, PaidPlace, PaidTxs, PaidFields, PaidBegun, PaidStms, of_value, of_test, of_statement}
+use Rattle.tg_weight.proofs.Paying.{weight, one, Paid, PaidTx, PaidPlace, PaidTxs, PaidFields, PaidBegun, PaidStms, of_value, of_test, of_statement}
 use Rattle.tg_weight.proofs.Paying.{paid_next, paid_field, paid_element, paid_assignment, paid_declaration, paid_behind, paid_variable, paid_call}
 use Rattle.tg_weight.proofs.Paying.{left_paid, choice_paid, paid_read, paid_count, closed_body}
 

@@ -24,26 +24,26 @@ use Rattle.tg_translate.specs.declared.operands.Operand.TheVariants.{Number, Kep
 use Rattle.tg_translate.specs.declared.held.HeldAddress.TheVariants.{InOwnFrame, Beside, At}
 use Rattle.tg_translate.specs.declared.wants.Want.{Want}
 use Rattle.tg_translate.specs.declared.wants.Want.TheVariants as want
-use Rattle.tg_translate.specs.States.{TranslationState, Drawn, drawn, Acts, after, give, fresh}
+use Rattle.tg_translate.specs.States.{TranslationState, Drawn, Acts, after, give}
 use Rattle.tg_translate.specs.Wants.{Made, value, done, test, truth_into, value_of, put_in, dropped, test_of, as_statement, arms, deliver, followed}
 use Rattle.tg_translate.specs.Wants.{behind, behind_some, value_behind, done_behind}
 use Rattle.tg_translate.specs.Constructs as constructs
-use Rattle.tg_translate.specs.Constructs.{Storage, in_temp, at_address, operand, Held, keep, hold, HeldAll, hold_next, own_place, read, store_at, want_for}
-use Rattle.tg_translate.specs.Constructs.{assign, held_address, HeldAt, hold_base, hold_address, HeldPlace, held_in_temp, held_at, hold_place, read_held}
-use Rattle.tg_translate.specs.Constructs.{place_held, field_of, field_place, element_of, element_place, product_of, product, quotient_of, checked_quotient}
-use Rattle.tg_translate.specs.Constructs.{minus_one, quotient, comparison, operation, count_of, count, place_in, frame_out}
-use Rattle.tg_translate.specs.Choices.{left_want, tested, chosen}
+use Rattle.tg_translate.specs.Constructs.{Storage, in_temp, at_address, operand, Held, keep, hold, HeldAll, hold_next, own_place, read, store_at}
+use Rattle.tg_translate.specs.Constructs.{want_for, assign, held_address, HeldAt, hold_base, hold_address, HeldPlace, held_in_temp, held_at}
+use Rattle.tg_translate.specs.Constructs.{hold_place, read_held, place_held, field_of, field_place, element_of, element_place, product_of, product}
+use Rattle.tg_translate.specs.Constructs.{quotient_of, checked_quotient, minus_one, quotient, comparison, operation, count_of, count, place_in}
+use Rattle.tg_translate.specs.Constructs.{frame_out}
+use Rattle.tg_translate.specs.Choices.{tested, chosen}
 use Rattle.tg_translate.specs.Scopes.{no_value, nowhere, frame_at, home_place, variable_place, compares_strings, routine_of, call_declared, call}
-use Rattle.tg_translate.specs.Scopes.{declare_variable}
 use Rattle.tg_translate.specs.Returning.{given_back}
 use Rattle.tg_translate.specs.Functions.{gives_nothing, closing}
 use Rattle.tg_translate.specs.Translate.{connective, with_left, chosen_arm, choice, assignment, declaration_of, Begun}
 use Rattle.tg_shapes.proofs.Spreading.{tx_length, tx_room, cond_length, cond_room, ts_length, ts_room, stms_length, stms_room, txs_length, txs_room}
 use Rattle.tg_shapes.proofs.Spreading.{less_ts, given_back_most}
 use Rattle.tg_shapes.proofs.Sizing.{most_arguments, made_length, made_room, place_length, place_room, held_length, held_room, followed_size, put_size}
-use Rattle.tg_shapes.proofs.Sizing.{dropped_size, test_size, statement_size, deliver_size, behind_size, tested_size, chosen_size, own_place_size, read_size}
-use Rattle.tg_shapes.proofs.Sizing.{store_size, operand_size, read_held_size, field_size, element_size, routine_size, comparison_size, binary_size}
-use Rattle.tg_shapes.proofs.Sizing.{product_size, divide_size, quotient_size, count_size}
+use Rattle.tg_shapes.proofs.Sizing.{dropped_size, test_size, statement_size, deliver_size, behind_size, tested_size, chosen_size, own_place_size}
+use Rattle.tg_shapes.proofs.Sizing.{read_size, store_size, operand_size, read_held_size, field_size, element_size, routine_size, comparison_size}
+use Rattle.tg_shapes.proofs.Sizing.{binary_size, product_size, divide_size, quotient_size, count_size}
 use Rattle.tg_weight.proofs.Leading.{LevelTable, Keeps, Crosses}
 use Rattle.tg_weight.proofs.Giving.{Gives, bind, then_quiet, given, weaken, any_fresh, any_arms, any_declared, IsPaidBody}
 
