@@ -1,4 +1,5 @@
 pub mod Compiled
+pub mod Fields
 pub mod Constants
 pub mod RuntimeFrames
 pub mod Choosing

@@ -17,8 +17,7 @@ use Rattle.tg_tree.specs.FrameSizes.{IsSizeOf, IsNested}
 use Rattle.tg_instr.specs.declared.instr.Instr.{Instr}
 use Rattle.tg_rounds.specs.Policies.{Rule}
 use Rattle.tg_spill.specs.declared.allocations.Allocation.{Allocation}
-use Rattle.tg_shapes.specs.Laws.{FieldsAreFew}
-use Rattle.tg_compile.specs.Compiling.{findings_of, fragments_of, Compiles}
+use Rattle.tg_compile.specs.Compiling.{fragments_of, Compiles}
 use Rattle.tg_emit_meaning.specs.Emission.{MayRun, FitRegions}
 use Rattle.tg_agreement.specs.Laws.{tree_work, tree_besides, unit_words, kept_words}
 use Rattle.tg_agreement.specs.Laws.{most_work, most_besides}
@@ -108,11 +107,10 @@ pub record IsTranslated (program : CheckedProgram) (p : Compilation) : Type 0 wh
       (tree_form p input heap stack)
 
 -- The constants of an accepted program's trees, with the runtime's, are words, where those of its
--- text are and its records have few fields.
+-- text are.
 abbrev pub FragmentsHaveWords : Type 0
 FragmentsHaveWords =
     (program : CheckedProgram) → IsAccepted program → OfWords program.body →
-    FieldsAreFew (findings_of program.notes program.body) →
     HasWords (λ body. named_ts body []) (fragments_of program.notes program.body)
 
 -- An accepted program is compiled to a text whose image does what the program means.

@@ -26,7 +26,7 @@ use tg_shapes::{
 };
 use tg_spill_meaning::programs_of_allocations_keep;
 use tg_tree::trees_run;
-use tg_types::never_stuck;
+use tg_types::{checked_has_type, never_stuck};
 use tg_words::functions_are_short;
 
 /// The laws of what is compiled: it may be run, and its frames have sizes that the forms before it
@@ -50,6 +50,7 @@ pub fn runtime_frames_fit()
 pub fn fragments_have_words()
     ensures { FragmentsHaveWords }
 {
+    checked_has_type();
     constants_are_words();
     routines_are_closed();
 }
