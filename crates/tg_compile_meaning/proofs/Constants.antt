@@ -1,5 +1,5 @@
 -- Constants of a program's trees and of the runtime's are words.
-use Rattle.std.proofs.Common.{◌≤◌, ◌+◌, ℕ, zero, suc, ◌<◌, ◌^◌, List, [], ◌∷◌, ◌++◌, ◌⊎◌, inl, inr, subst, arith}
+use Rattle.std.proofs.Common.{◌≤◌, ◌+◌, zero, suc, ◌<◌, ◌^◌, List, [], ◌∷◌, ◌++◌, ◌⊎◌, inl, inr, subst, arith}
 use Rattle.std.specs.List.{Contains}
 use Rattle.std.specs.FinSet.{from_list}
 use Rattle.tg_syntax.specs.Functions.{program_functions, program_size}

@@ -1,8 +1,8 @@
 -- The number of each field that an accepted program names is less than the nodes of its text: a shape has the fields of a
 -- declaration, each of which is a node, and a field is noted by its place in a shape that was gathered.
-use Rattle.std.proofs.Common.{◌≡◌, ◌≤◌, ◌<◌, ◌+◌, ◌*◌, ℕ, zero, suc, List, [], ◌∷◌, ◌++◌, length, map, Option, Some, None}
+use Rattle.std.proofs.Common.{◌≡◌, ◌≤◌, ◌<◌, ◌+◌, ℕ, suc, List, [], ◌∷◌, ◌++◌, length, map, Option, Some, None}
 use Rattle.std.proofs.Common.{Bool, true, false, refl, ap, subst, arith}
-use Rattle.std.specs.Prelude.{◌==◌, if◌then◌else◌, not, sum_by}
+use Rattle.std.specs.Prelude.{◌==◌, if◌then◌else◌, sum_by}
 use Rattle.std.specs.List.{AllByRecursion}
 use Rattle.std.proofs.lemmas.List.{length-map}
 use Rattle.std.proofs.lemmas.List.Sums.{sum_by-cons}
@@ -24,20 +24,20 @@ use Rattle.tg_types.specs.declared.notes.Means.TheVariants as means
 use Rattle.tg_types.specs.declared.notes.Note.{Note}
 use Rattle.tg_types.specs.Types.{Ty, int_type, string_type, nil_type, none_type, record_type, Shape, record_shape, array_shape, same}
 use Rattle.tg_types.specs.Types.{array_type, joined}
-use Rattle.tg_types.specs.Checks.{Noted, CheckResult, fine, fault, Check, give, refuse, keep, present, note, shape_at, add_shape, ◌>>=◌, ◌>>◌}
+use Rattle.tg_types.specs.Checks.{Noted, CheckResult, fine, fault, Check, give, refuse, keep, present, note, shape_at, add_shape, ◌>>=◌}
 use Rattle.tg_types.specs.Scopes.{Signature, Binding, variable_at, function_at, standard_one, Scope, name_of, at_of, bound, binding, in_a_loop}
 use Rattle.tg_types.specs.Scopes.{in_no_loop, outermost, signature}
-use Rattle.tg_types.specs.Groups.{no_repeats, type_named, declare_types, function_names, headers, with_functions, with_params, known, known_form}
+use Rattle.tg_types.specs.Groups.{no_repeats, type_named, declare_types, function_names, headers, with_functions, with_params, known_form}
 use Rattle.tg_types.specs.Groups.{known_fields, known_forms, chains_end, add_form, add_forms, with_group, param_types, result_type, names_of}
 use Rattle.tg_types.specs.Groups.{known_type}
 use Rattle.tg_types.specs.Typing.{typed, typed_place, typed_last, expect_all, expect_fields, declare, bodies, expect, expect_none, needs_value}
-use Rattle.tg_types.specs.Typing.{variable_of, function_of, assignable, fields_in, fields_of, element_in, element_of, placed, select, compares}
+use Rattle.tg_types.specs.Typing.{variable_of, function_of, assignable, fields_in, fields_of, element_in, element_of, placed, select}
 use Rattle.tg_types.specs.Typing.{ordered, equated, left_side, equal_sides, right_side, own_type, body_fits, start_of, place_start}
 use Rattle.tg_types.specs.Accepted.{finding_of, within_limits}
 use Rattle.tg_types.specs.Answered.{Accepts, meaning_at}
 use Rattle.tg_types.specs.Limits.{limit_fault}
 use Rattle.tg_types.specs.Programs.{CheckedProgram, IsAccepted}
-use Rattle.tg_types.proofs.Inversion.{steps, kept, given, presented, refused, noting, shaping, shape_added, shape_found}
+use Rattle.tg_types.proofs.Inversion.{steps, kept, given, presented, refused, noting, shape_added, shape_found}
 use Rattle.tg_translate.specs.Scopes.{field_number}
 
 -- a place in a list of fields is one of them

@@ -1,9 +1,9 @@
 -- The frames of a compiled program have sizes that a run of its trees allows: each function of the text is within its weight, the
 -- runtime's are within 4,096 bytes, and no tree has words for arguments.
-use Rattle.std.proofs.Common.{◌≡◌, ◌≢◌, ◌≤◌, ◌<◌, ◌+◌, ℕ, zero, suc, List, [], ◌∷◌, ◌++◌, ◌⊎◌, inl, inr, length, map, Some, true, false}
+use Rattle.std.proofs.Common.{◌≡◌, ◌≢◌, ◌≤◌, ◌<◌, ◌+◌, ℕ, zero, suc, List, [], ◌∷◌, ◌++◌, ◌⊎◌, inl, inr, length, map, Some}
 use Rattle.std.proofs.Common.{refl, sym, ap, ◌∙◌, subst, arith, eq-eqb, ne_eqb}
 use Rattle.std.specs.Prelude.{if◌then◌else◌}
-use Rattle.std.specs.List.{AllZip, AllByRecursion, AllPairs, Contains}
+use Rattle.std.specs.List.{AllZip, AllPairs, Contains}
 use Rattle.std.specs.FinSet.{from_list}
 use Rattle.std.proofs.lemmas.List.{get_or-map, length-map, length-append}
 use Rattle.std.proofs.lemmas.List.Elements.{Contains-append_left, Contains-append_cases}
@@ -27,7 +27,6 @@ use Rattle.tg_translate_meaning.specs.Bounds.{measures_of, bound_by}
 use Rattle.tg_translate_meaning.specs.Laws.{findings_of, trees_of, bound_in}
 use Rattle.tg_rounds.specs.Policies.{Rule}
 use Rattle.tg_spill.specs.declared.allocations.Allocation.{Allocation}
-use Rattle.tg_spill.specs.Allocations.{codes_of}
 use Rattle.tg_emit.specs.Lines.{size_of}
 use Rattle.tg_image.specs.Programs.{bytes_of}
 use Rattle.tg_words.specs.Allocating.{IsAllocationOf}

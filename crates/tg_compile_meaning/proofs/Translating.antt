@@ -1,16 +1,14 @@
 -- The translation of an accepted program that is compiled keeps its promise: its constants are words, and its trees follow the program
 -- on every input, with frames of the sizes that its allocations have.
-use Rattle.std.proofs.Common.{ℕ, ◌≤◌, length, sym, subst, arith, ap}
+use Rattle.std.proofs.Common.{◌≤◌, length, subst, arith}
 use Rattle.std.specs.FinSet.{from_list}
 use Rattle.tg_base.specs.State.{most_bytes}
-use Rattle.tg_syntax.specs.OfWords.{OfWords}
 use Rattle.tg_escape.specs.Links.{links_of}
-use Rattle.tg_types.specs.Programs.{CheckedProgram, IsAccepted}
 use Rattle.tg_tree.specs.Memory.{statics_of}
 use Rattle.tg_shapes.specs.Laws.{ProgramsAreLinked}
 use Rattle.tg_translate_meaning.specs.Laws.{MeaningIsKept, trees_of}
 use Rattle.tg_weight.specs.Weights.{ProgramFramesAreLight}
-use Rattle.tg_compile_meaning.specs.Forms.{Compilation, IsCompiled, frames}
+use Rattle.tg_compile_meaning.specs.Forms.{Compilation, frames}
 use Rattle.tg_compile_meaning.specs.Laws.{compilation_of, FramesAreSizesOfTrees, RuntimeFramesFit, FragmentsHaveWords, TreesOfAcceptedAreLight}
 use Rattle.tg_compile_meaning.specs.Laws.{ProgramsAreTranslated}
 use Rattle.tg_compile_meaning.proofs.Sizes.{sizes_are_allowed, statics_are}
