@@ -30,7 +30,7 @@ routine_in (g ∷ fs) h f (zero, l, e) = subst IsRoutine e h.0
 routine_in (g ∷ fs) h f (suc k, l, e) = routine_in fs h.1 f (k, omega (arith, l), e)
 
 -- the label of a function is among the labels
-label_in : (fs : List (Function Ts)) (more : List ℕ) (f : Function Ts) → Contains fs f →
+pub label_in : (fs : List (Function Ts)) (more : List ℕ) (f : Function Ts) → Contains fs f →
     Contains (map (λ (g : Function Ts). g.label) fs ++ more) f.label
 label_in [] more f c = let l = c.1 in absurd (omega (arith, l))
 label_in (g ∷ fs) more f (zero, l, e) = (0, omega arith, ap (λ (x : Function Ts). x.label) e)

@@ -34,6 +34,7 @@ use Rattle.tg_emit_meaning.proofs.Known.{sizes_there}
 use Rattle.tg_weight.specs.Weights.{IsLight, IsWithinWeight, TreesAreLight, AreWithinWeight, ProgramFramesAreLight}
 use Rattle.tg_compile_meaning.specs.Forms.{Compilation, IsCompiled, registers, frames}
 use Rattle.tg_compile_meaning.specs.Laws.{compilation_of, FramesAreSizesOfTrees, RuntimeFramesFit}
+use Rattle.tg_compile_meaning.proofs.RuntimeFrames.{label_in}
 
 -- a function's frame has as many bytes as that of its allocation
 abbrev HasSizeOf : (size : ℕ → ℕ) → Function Ts → Allocation → Type 0
@@ -48,16 +49,6 @@ sized rule size (f ∷ fs) (a ∷ made) h there =
     let label : a.done.frame.label.0 ≡ f.label = ap (λ x. x.0) h.0.allocation.has_frame.label ∙ h.0.chooses.label in
     (ap size (sym label) ∙ there a (0, omega arith, refl),
     sized rule size fs made h.1 (λ b c. let l = c.1 in there b (suc c.0, omega (arith, l), c.2)))
-
--- the label of a function is among the labels
-label_there : (fs : List (Function Ts)) (more : List ℕ) (f : Function Ts) → Contains fs f →
-    Contains (map (λ (g : Function Ts). g.label) fs ++ more) f.label
-label_there [] more f c = let l = c.1 in absurd (omega (arith, l))
-label_there (g ∷ fs) more f (zero, l, e) = (0, omega arith, ap (λ (x : Function Ts). x.label) e)
-label_there (g ∷ fs) more f (suc k, l, e) =
-    let t = label_there fs more f (k, omega (arith, l), e) in
-    let m = t.1 in
-    (suc t.0, omega (arith, m), t.2)
 
 abbrev AreApart : List ℕ → Type 0
 AreApart labels = AllPairs (λ a b. a ≢ b) labels
@@ -80,7 +71,7 @@ bounded size (m ∷ ms) (g ∷ fs) rs (a ∷ own) rest more light within sizes a
     (subst (λ o. size g.label ≤ bound_by o) (sym found) low)
 bounded size (m ∷ ms) (g ∷ fs) rs (a ∷ own) rest more light within sizes apart f (suc k, l, e) =
     let c : Contains fs f = (k, omega (arith, l), e) in
-    let t = label_there (fs ++ rs) more f (Contains-append_left fs rs f c) in
+    let t = label_in (fs ++ rs) more f (Contains-append_left fs rs f c) in
     let short = t.1 in
     let other : g.label ≢ f.label =
     λ q. apart zero (suc t.0) f.label (omega arith) (omega (arith, short)) (q ∙ sym t.2) in
@@ -123,7 +114,7 @@ module _ (sizes_of_trees : FramesAreSizesOfTrees) (fits : RuntimeFramesFit) (wei
       (each_append PassesNothing own_functions runtime.functions (nothing_is_passed (findings_of program) program.body) runtime_passes) f there
 
   weighed : AreWithinWeight (program_functions program.body) allocations
-  weighed = weigh rule program (from_list (links_of program.body)) allocations accepted light c.functions
+  weighed = weigh rule program (from_list (links_of program.body)) allocations accepted c.functions
 
   -- an allocation's frame
   frame_there : (a : Allocation) → Contains allocations a → frames p a.done.frame.label.0 ≡ size_of a.done.frame

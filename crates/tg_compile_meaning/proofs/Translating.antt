@@ -7,13 +7,13 @@ use Rattle.tg_escape.specs.Links.{links_of}
 use Rattle.tg_tree.specs.Memory.{statics_of}
 use Rattle.tg_shapes.specs.Laws.{ProgramsAreLinked}
 use Rattle.tg_translate_meaning.specs.Laws.{MeaningIsKept, trees_of}
-use Rattle.tg_weight.specs.Weights.{ProgramFramesAreLight}
+use Rattle.tg_weight.specs.Weights.{AcceptedTreesAreLight, ProgramFramesAreLight}
 use Rattle.tg_compile_meaning.specs.Forms.{Compilation, frames}
-use Rattle.tg_compile_meaning.specs.Laws.{compilation_of, FramesAreSizesOfTrees, RuntimeFramesFit, FragmentsHaveWords, TreesOfAcceptedAreLight}
+use Rattle.tg_compile_meaning.specs.Laws.{compilation_of, FramesAreSizesOfTrees, RuntimeFramesFit, FragmentsHaveWords}
 use Rattle.tg_compile_meaning.specs.Laws.{ProgramsAreTranslated}
 use Rattle.tg_compile_meaning.proofs.Sizes.{sizes_are_allowed, statics_are}
 
-pub programs_are_translated : MeaningIsKept → TreesOfAcceptedAreLight → ProgramFramesAreLight → ProgramsAreLinked → FramesAreSizesOfTrees →
+pub programs_are_translated : MeaningIsKept → AcceptedTreesAreLight → ProgramFramesAreLight → ProgramsAreLinked → FramesAreSizesOfTrees →
     RuntimeFramesFit → FragmentsHaveWords → ProgramsAreTranslated
 programs_are_translated kept light weigh linked sizes fits words rule program allocations literals accepted of_words c =
     let p : Compilation = compilation_of rule program allocations literals in

@@ -1,8 +1,6 @@
 -- What is compiled does what the source means, where the passes keep what they promise of it.
 use Rattle.std.specs.Prelude.{ℕ, ◌≡◌, ◌≤◌, List, [], map, Ok}
 use Rattle.std.specs.List.{Contains, sum}
-use Rattle.std.specs.Ordering.{nat_cmp}
-use Rattle.std.specs.FinSet.{FinSet}
 use Rattle.tg_syntax.specs.OfWords.{OfWords}
 use Rattle.tg_runs.specs.Bytes.{AreBytes}
 use Rattle.tg_runs.specs.Runs.{Run}
@@ -19,7 +17,6 @@ use Rattle.tg_tree.specs.FrameSizes.{IsSizeOf, IsNested}
 use Rattle.tg_instr.specs.declared.instr.Instr.{Instr}
 use Rattle.tg_rounds.specs.Policies.{Rule}
 use Rattle.tg_spill.specs.declared.allocations.Allocation.{Allocation}
-use Rattle.tg_weight.specs.Weights.{TreesAreLight}
 use Rattle.tg_compile.specs.Compiling.{fragments_of, Compiles}
 use Rattle.tg_emit_meaning.specs.Emission.{MayRun, FitRegions}
 use Rattle.tg_agreement.specs.Laws.{tree_work, tree_besides, unit_words, kept_words}
@@ -117,12 +114,6 @@ ProgramsAreTranslated =
     IsAccepted program → OfWords program.body →
     IsCompiled (compilation_of rule program allocations literals) →
     IsTranslated program (compilation_of rule program allocations literals)
-
--- The trees of every accepted program are light.
-abbrev pub TreesOfAcceptedAreLight : Type 0
-TreesOfAcceptedAreLight =
-    (program : CheckedProgram) (links : FinSet nat_cmp) →
-    IsAccepted program → TreesAreLight program links
 
 -- The constants of an accepted program's trees, with the runtime's, are words, where those of its
 -- text are.

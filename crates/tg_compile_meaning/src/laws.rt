@@ -1,4 +1,3 @@
-ghost use Rattle.tg_translate_meaning.specs.Laws.{MeaningIsKept};
 ghost use Rattle.tg_compile_meaning.specs.Laws.{
   AllocationIsKept,
   ChoiceIsKept,
@@ -7,7 +6,6 @@ ghost use Rattle.tg_compile_meaning.specs.Laws.{
   CompiledMayRun,
   FragmentsHaveWords,
   ProgramsAreTranslated,
-  TreesOfAcceptedAreLight,
   RuntimeFramesFit,
   FramesAreSizes,
   FramesAreSizesOfTrees,
@@ -29,8 +27,9 @@ use tg_shapes::{
 };
 use tg_spill_meaning::programs_of_allocations_keep;
 use tg_tree::trees_run;
+use tg_translate_meaning::meaning_is_kept;
 use tg_types::{checked_has_type, never_stuck};
-use tg_weight::frames_are_light;
+use tg_weight::{frames_are_light, trees_are_light};
 use tg_words::functions_are_short;
 
 /// The laws of what is compiled: it may be run, and its frames have sizes that the forms before it
@@ -94,8 +93,10 @@ pub fn compiled_agrees()
 /// The law of the translation of compiled programs: their constants are words, and their trees
 /// follow the program, with frames of the sizes that their allocations have.
 pub fn programs_are_translated()
-    ensures { MeaningIsKept → TreesOfAcceptedAreLight → ProgramsAreTranslated }
+    ensures { ProgramsAreTranslated }
 {
+    meaning_is_kept();
+    trees_are_light();
     frames_are_light();
     programs_are_linked();
     compiled_may_run();
@@ -106,7 +107,7 @@ pub fn programs_are_translated()
 /// The headline: an accepted program whose ints are words is compiled to a text whose image does
 /// what the program means.
 pub fn compiled_is_as_meant()
-    ensures { MeaningIsKept → TreesOfAcceptedAreLight → CompiledIsAsMeant }
+    ensures { CompiledIsAsMeant }
 {
     programs_are_translated();
     compiled_agrees();

@@ -12,7 +12,7 @@ use tg_words::functions_are_short;
 /// Law of the trees of an accepted program: each takes as much room and length as its nodes and the
 /// levels that it crosses pay for.
 pub fn trees_are_light()
-    ensures trees { AcceptedTreesAreLight }
+    ensures { AcceptedTreesAreLight }
 {
     frames_are_small();
 }
