@@ -49,20 +49,20 @@ use Rattle.tg_weight.proofs.Giving.{Gives, bind, then_quiet, given, weaken, any_
 
 -- How many nodes a text has, and how many levels it crosses.
 pub record Weight : Type 0 where
-  nodes : ℕ
-  hops : ℕ
+  pub nodes : ℕ
+  pub hops : ℕ
 
 abbrev pub weight : (nodes hops : ℕ) → Weight
 weight n h = record { nodes = n; hops = h }
 
-abbrev pub w1 : Weight → Weight
-w1 n = weight (1 + n.nodes) n.hops
+abbrev pub one_node : Weight → Weight
+one_node n = weight (1 + n.nodes) n.hops
 
-abbrev pub w2 : (n m : Weight) → Weight
-w2 n m = weight (1 + n.nodes + m.nodes) (n.hops + m.hops)
+abbrev pub two_parts : (n m : Weight) → Weight
+two_parts n m = weight (1 + n.nodes + m.nodes) (n.hops + m.hops)
 
-abbrev pub w3 : (n m k : Weight) → Weight
-w3 n m k = weight (1 + n.nodes + m.nodes + k.nodes) (n.hops + m.hops + k.hops)
+abbrev pub three_parts : (n m k : Weight) → Weight
+three_parts n m k = weight (1 + n.nodes + m.nodes + k.nodes) (n.hops + m.hops + k.hops)
 
 abbrev pub one : Weight
 one = weight 1 0
@@ -175,7 +175,7 @@ module _ (table : LevelTable) where
   hold_size direct before x s sound = keep_size before x s sound
 
   pub paid_next : (n : Weight) (direct : Bool) (all : HeldAll) (x : Tx) (s : TranslationState) → Keeps table s → PaidTx n x →
-      Gives table s [] (PaidFields (w1 n) all) (hold_next direct all x s)
+      Gives table s [] (PaidFields (one_node n) all) (hold_next direct all x s)
   paid_next n direct all x s sound h =
       bind table (hold_size direct all.before x s sound) λ one s sound k.
       given table s sound (record { before = one.before; operands = all.operands ++ one.operand ∷ [] })
@@ -235,7 +235,7 @@ module _ (table : LevelTable) where
   -- Places, assignments, and what stands behind statements.
 
   pub paid_field : (n : Weight) (k : ℕ) (x : Tx) (s : TranslationState) → Keeps table s → PaidRead n x →
-      Gives table s [] (PaidPlace (w1 n)) (field_place k x s)
+      Gives table s [] (PaidPlace (one_node n)) (field_place k x s)
   paid_field n k x s sound h =
       bind table (hold_size true no_stms x s sound) λ r s sound i.
       given table s sound (field_of k r.before (operand r.operand))
@@ -244,7 +244,7 @@ module _ (table : LevelTable) where
       (omega (arith, h.0, j.0, i.0), omega (arith, h.1, j.1, i.1, a.1)))
 
   pub paid_element : (n m : Weight) (direct : Bool) (x y : Tx) (s : TranslationState) → Keeps table s → PaidRead n x → PaidTx m y →
-      Gives table s [] (PaidPlace (w2 n m)) (element_place direct x y s)
+      Gives table s [] (PaidPlace (two_parts n m)) (element_place direct x y s)
   paid_element n m direct x y s sound h k =
       bind table (hold_size direct no_stms x s sound) λ a s sound i. bind table (hold_size true a.before y s sound) λ b s sound j.
       given table s sound (element_of b.before (operand a.operand) (operand b.operand))
@@ -302,7 +302,7 @@ module _ (table : LevelTable) where
       (behind : Tx → Want → Acts Made) (s : TranslationState) → Keeps table s →
       PaidPlace n p → ((w : Want) (t : TranslationState) → Keeps table t → Gives table t ms (Paid m) (e w t)) →
       (reads_first ≡ true → (x : Tx) (w : Want) (t : TranslationState) → Keeps table t → PaidTx one x → Gives table t ms (Paid m) (behind x w t)) →
-      Gives table s ms (λ y. Paid (w2 n m) (done y)) (assignment reads_first p e behind s)
+      Gives table s ms (λ y. Paid (two_parts n m) (done y)) (assignment reads_first p e behind s)
   paid_assignment n m true p e behind s sound h f g =
       bind table (hold_place_size p s sound) λ q s sound j.
       then_quiet table (g refl (read_held q) (want_for (place_held q)) s sound (short_read q)) λ x s sound k.
@@ -314,7 +314,7 @@ module _ (table : LevelTable) where
   pub paid_declaration : {ms : List Measures} (n : Weight) (escapes : ℕ → Bool) (level at : ℕ) (e : Want → Acts Made) (s : TranslationState) →
       Keeps table s → level ≡ table.variables at →
       ((w : Want) (t : TranslationState) → Keeps table t → Gives table t ms (Paid n) (e w t)) →
-      Gives table s ms (PaidTs (w1 n)) (declaration_of escapes level at e s)
+      Gives table s ms (PaidTs (one_node n)) (declaration_of escapes level at e s)
   paid_declaration n escapes level at e s sound table_is f =
       bind table (any_declared table (escapes at) level at s sound table_is) λ home s sound u.
       then_quiet table (f (want_for (own_place home)) s sound) λ m s sound h.
@@ -346,7 +346,7 @@ module _ (table : LevelTable) where
 
   pub paid_behind : (n : Weight) (w : Want) (b : Begun) (s : TranslationState) → Keeps table s →
       PaidBegun n no_stms b →
-      Gives table s [] (Paid (w1 n)) (behind w b.before b.last s)
+      Gives table s [] (Paid (one_node n)) (behind w b.before b.last s)
   paid_behind n w b s sound h = weaken table (any_behind w b.before b.last s sound) λ x k. (omega (arith, h.0, k.0), omega (arith, h.1, k.1))
 
   -- Names.
@@ -407,7 +407,7 @@ module _ (table : LevelTable) where
   module _ {ms : List Measures} (n m : Weight) (right : Want → Acts Made)
       (f : (w : Want) (t : TranslationState) → Keeps table t → Gives table t ms (Paid m) (right w t)) where
     into_paid : (o : Op) (w : Want) (c : Cond) (s : TranslationState) → Keeps table s → PaidCond n c →
-        Gives table s ms (Paid (w2 n m)) (after (arms w s) (λ a t. after (right a t) (λ x. give (deliver w a (chosen o a c x)))))
+        Gives table s ms (Paid (two_parts n m)) (after (arms w s) (λ a t. after (right a t) (λ x. give (deliver w a (chosen o a c x)))))
     into_paid o w c s sound h =
         bind table (any_arms table w s sound) λ a s sound u. then_quiet table (f a s sound) λ x s sound k.
         given table s sound (deliver w a (chosen o a c x))
@@ -416,7 +416,7 @@ module _ (table : LevelTable) where
         (omega (arith, h.0, k.0, i.0, j.0), omega (arith, h.1, k.1, i.1, j.1)))
 
     connective_paid : (o : Op) (w : Want) (c : Cond) (s : TranslationState) → Keeps table s → PaidCond n c →
-        Gives table s ms (Paid (w2 n m)) (connective o w c right s)
+        Gives table s ms (Paid (two_parts n m)) (connective o w c right s)
     connective_paid o want.Test c s sound h =
         then_quiet table (f want.Test s sound) λ x s sound k. given table s sound (tested o c x)
         (let i = tested_size o c x in (omega (arith, h.0, k.0, i.0), omega (arith, h.1, k.1, i.1)))
@@ -425,7 +425,7 @@ module _ (table : LevelTable) where
     connective_paid o want.Dropped c s sound h = into_paid o want.Dropped c s sound h
 
     operator_paid : (o : Op) (of_strings direct : Bool) (l : Made) (s : TranslationState) → Keeps table s → Paid n l →
-        Gives table s ms (Paid (w2 n m))
+        Gives table s ms (Paid (two_parts n m))
         (after (value_of l s) (λ x t. after (after (right want.Value t) value_of) (λ y. operation o of_strings direct x y)))
     operator_paid o of_strings direct l s sound h =
         bind table (paid_value n l s sound h) λ x s sound i. then_quiet table (of_value m (f want.Value s sound)) λ y s sound j.
@@ -436,7 +436,7 @@ module _ (table : LevelTable) where
     left_condition l h = let i = test_size l in (omega (arith, h.0, i.0), omega (arith, h.1, i.1))
 
     pub left_paid : (o : Op) (meaning : Option Means) (direct : Bool) (w : Want) (l : Made) (s : TranslationState) → Keeps table s → Paid n l →
-        Gives table s ms (Paid (w2 n m)) (with_left o meaning direct w l right s)
+        Gives table s ms (Paid (two_parts n m)) (with_left o meaning direct w l right s)
     left_paid op.And meaning direct w l s sound h = connective_paid op.And w (test_of l) s sound (left_condition l h)
     left_paid op.Or meaning direct w l s sound h = connective_paid op.Or w (test_of l) s sound (left_condition l h)
     left_paid o meaning direct w l s sound h = operator_paid o (compares_strings meaning) direct l s sound h
@@ -447,7 +447,7 @@ module _ (table : LevelTable) where
       (f : (w : Want) (t : TranslationState) → Keeps table t → Gives table t ms (Paid m) (this w t))
       (g : (w : Want) (t : TranslationState) → Keeps table t → Gives table t ks (Paid k) (other w t)) where
     arms_paid : (w : Want) (c : Cond) (s : TranslationState) → Keeps table s → PaidCond n c →
-        Gives table s (ms ++ ks) (Paid (w3 n m k)) (chosen_arm w c this other s)
+        Gives table s (ms ++ ks) (Paid (three_parts n m k)) (chosen_arm w c this other s)
     arms_paid w c s sound h =
         bind table (any_arms table w s sound) λ v s sound u. bind table (of_arm m (f v s sound) v) λ p s sound i.
         then_quiet table (of_arm k (g v s sound) v) λ q s sound j.
@@ -456,10 +456,10 @@ module _ (table : LevelTable) where
 
     pub choice_paid : (conjunction : Bool) → (conjunction ≡ true → ks ≡ []) → (w : Want) (c : Cond) (s : TranslationState) → Keeps table s →
         PaidCond n c →
-        Gives table s (ms ++ ks) (Paid (w3 n m k)) (choice conjunction w c this other s)
+        Gives table s (ms ++ ks) (Paid (three_parts n m k)) (choice conjunction w c this other s)
     choice_paid true none w c s sound h =
         let e : ms ≡ ms ++ ks = sym (ap (λ l. ms ++ l) (none refl) ∙ append-nil ms) in
-        subst (λ l. Gives table s l (Paid (w3 n m k)) (connective op.And w c this s)) e
+        subst (λ l. Gives table s l (Paid (three_parts n m k)) (connective op.And w c this s)) e
         (weaken table (connective_paid n m this f op.And w c s sound h) λ x i. (omega (arith, i.0), omega (arith, i.1)))
     choice_paid false none w c s sound h = arms_paid w c s sound h
 
