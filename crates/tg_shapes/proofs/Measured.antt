@@ -37,11 +37,12 @@ use Rattle.tg_shapes.specs.Escaped.{place_escaping_inside, exps_escaping_inside,
 use Rattle.tg_shapes.specs.Escaped.{program_escaping}
 use Rattle.tg_shapes.specs.Strings.{strings, place_strings, exps_strings, inits_strings, decs_strings, bodies_strings}
 use Rattle.tg_shapes.specs.Laws.{IsWithin}
+use Rattle.tg_shapes.proofs.Fine.{Each}
 use Rattle.tg_shapes.proofs.Near.{IsTx, AreTxs, IsCond, IsTs, AreStms, IsMade, IsPlace, join_txs_near, followed_near, dropped_near, test_near}
 use Rattle.tg_shapes.proofs.Near.{read_near, negation_near}
 use Rattle.tg_shapes.proofs.Sized.{Gives, SmallBody, body_size}
 use Rattle.tg_shapes.proofs.Taking.{Cost, costs, draws, adds, HasSlots, Takes, both, at_most, more, then_draws, then_quiet, draws_then, quiet_then}
-use Rattle.tg_shapes.proofs.Taking.{adds_then, gives, within_frame, finished}
+use Rattle.tg_shapes.proofs.Taking.{adds_then, gives, within_frame, finished, PassesNothing}
 use Rattle.tg_shapes.proofs.Updating.{same_is_quiet}
 use Rattle.tg_shapes.proofs.Charges.{declares, declares_functions, values_takes, behind_takes, hold_next_takes, assignment_takes, field_takes}
 use Rattle.tg_shapes.proofs.Charges.{element_takes, count_takes, record_takes, place_takes, call_takes, closing_takes, literal_takes}
@@ -374,11 +375,17 @@ module _ (findings : Findings) where
     subst (λ fs. AllZip IsWithin m.functions fs) (sym h.functions.behind) h.functions.within,
   )
 
+  program_passes : {m : Cost} {V : Ts → Type 0} (d : Drawn Ts) → Takes m V start d → Each PassesNothing (program d).functions
+  program_passes (drawn x u) h = (h.out, subst (λ fs. Each PassesNothing fs) (sym h.functions.behind) h.functions.passing)
+
   pub literals_are : (e : Exp) → map (λ l. l.text) (translated findings e).literals ≡ map string_text (strings e)
   literals_are e = program_texts (program_body findings e start) (walked e)
 
   pub slots_are_few : (e : Exp) → AllZip HasSlots (program_escaping findings.escapes e) (translated findings e).functions
   slots_are_few e = program_slots (program_body findings e start) (walked e)
+
+  pub nothing_is_passed : (e : Exp) → Each PassesNothing (translated findings e).functions
+  nothing_is_passed e = program_passes (program_body findings e start) (walked e)
 
   pub functions_are_within : (e : Exp) → AllZip IsWithin (program_functions e) (translated findings e).functions
   functions_are_within e =

@@ -11,6 +11,7 @@ use Rattle.tg_translate.specs.Functions.{with_body, finish}
 use Rattle.tg_shapes.specs.Accesses.{AccessesWithin}
 use Rattle.tg_shapes.specs.Laws.{IsWithin}
 use Rattle.tg_shapes.proofs.Actions.{answer, left}
+use Rattle.tg_shapes.proofs.Fine.{Each, each_append}
 use Rattle.tg_shapes.proofs.Sized.{Gives, SmallBody}
 
 -- of a text: the slots and temporaries of its frame, its strings, and of the functions that it declares how many
@@ -47,12 +48,17 @@ texts s = map (λ l. l.text) s.literals
 abbrev pub HasSlots : ℕ → Function Ts → Type 0
 HasSlots n f = f.slots ≤ n + 1
 
+-- frames of trees have no words for arguments
+abbrev pub PassesNothing : Function Ts → Type 0
+PassesNothing f = f.out ≡ 0
+
 -- functions are added, function by function within what their texts allow
 pub record Adds (counts : List ℕ) (ms : List Measures) (s t : TranslationState) : Type 0 where
   pub added : List (Function Ts)
   pub behind : t.functions ≡ s.functions ++ added
   pub slots : AllZip HasSlots counts added
   pub within : AllZip IsWithin ms added
+  pub passing : Each PassesNothing added
 
 pub record Takes {A : Type 0} (m : Cost) (V : A → Type 0) (s : TranslationState) (d : Drawn A) : Type 0 where
   pub value : V (answer d)
@@ -82,10 +88,11 @@ adds_on s t u xs ys ms ns h k = record {
   behind = k.behind ∙ (ap (λ fs. fs ++ k.added) h.behind ∙ append_assoc s.functions h.added k.added);
   slots = zip_append HasSlots xs ys h.added k.added h.slots k.slots;
   within = zip_append IsWithin ms ns h.added k.added h.within k.within;
+  passing = each_append PassesNothing h.added k.added h.passing k.passing;
 }
 
 pub adds_none : (s t : TranslationState) → t.functions ≡ s.functions → Adds [] [] s t
-adds_none s t e = record { added = []; behind = e ∙ sym (append-nil s.functions); slots = tt; within = tt }
+adds_none s t e = record { added = []; behind = e ∙ sym (append-nil s.functions); slots = tt; within = tt; passing = tt }
 
 -- Actions follow one another.
 
@@ -180,15 +187,16 @@ abbrev pub enclosed : (count : ℕ) → Measures → Cost → Cost
 enclosed count i m = adds m.texts (count ∷ m.counts) (i ∷ m.functions)
 
 added_first : (s t u : TranslationState) (x : Ts) (counts : List ℕ) (ms : List Measures) (count : ℕ) (i : Measures) →
-    t.functions ≡ [] → u.frame.slots ≤ count + 1 →
+    t.functions ≡ [] → u.frame.slots ≤ count + 1 → u.frame.out ≡ 0 →
     IsWithin i (with_body u.frame x) → Adds counts ms t u → Adds (count ∷ counts) (i ∷ ms) s (left (finish s (drawn x u)))
-added_first s t u x counts ms count i e l w h =
+added_first s t u x counts ms count i e l o w h =
     let f : Function Ts = with_body u.frame x in
     record {
       added = f ∷ h.added;
       behind = ap (λ fs. s.functions ++ f ∷ fs) (h.behind ∙ ap (λ fs. fs ++ h.added) e);
       slots = (l, h.slots);
       within = (w, h.within);
+      passing = (o, h.passing);
     }
 
 -- what a function has is within what its text allows, where its body is
@@ -225,6 +233,6 @@ finished {m = m} s t {d = drawn x u} own i e q p o l k j small h =
       out = refl;
       texts = h.texts ∙ ap (λ ls. map (λ l. l.text) ls ++ map string_text m.texts) q;
       functions =
-          added_first s t u x m.counts m.functions (own + m.slots) i e slots
+          added_first s t u x m.counts m.functions (own + m.slots) i e slots (h.out ∙ o)
           (within_frame t i p o (omega (arith, l, k)) j (λ n. (small n).value) h) h.functions;
     }

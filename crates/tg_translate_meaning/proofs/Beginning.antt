@@ -252,6 +252,7 @@ module _ (P : Program) (set : Setting P) (n size weight : ℕ) (input : List ℕ
     words = λ a v e.
         word_stored ls n a v (a % 4 == 0) (offset a statics_base (length (m0 ls n).statics)) (offset a heap_base (length (m0 ls n).heap)) e;
     once_laid = λ a b r i e f. absurd (never_part ls n (m0 ls n).statics (a % 4 == 0) (offset a statics_base (length (m0 ls n).statics)) r i e);
+    owned = λ a r i e. absurd (never_part ls n (m0 ls n).statics (a % 4 == 0) (offset a statics_base (length (m0 ls n).statics)) r i e);
     laid = λ r o e. cc;
     objects = refl;
     variables = refl;

@@ -17,8 +17,8 @@ use Rattle.tg_translate_meaning.specs.Worlds as worlds
 use Rattle.tg_translate_meaning.specs.Worlds.{Holdings, Stored, unknown, word, part, Made, GrowsTo, IsLaid, laid_record, laid_array, Stands, Invariant, Places, AllTemps, Key, cell, temporary, Content, nowhere, free, variable, kept, fixed, HoldsAt, HoldsVariable, word_of}
 use Rattle.tg_translate_meaning.proofs.Standing.{stands_grows}
 
--- What the invariant doesn't say of objects: a part is one of an object that there is, and an object begins in the heap
--- that is taken.
+-- What a block that is made relies on: a part is one of an object that there is, and an object begins in the heap that is
+-- taken.
 pub record AreOwned (h : Holdings) (taken : ℕ) : Type 0 where
   pub owned : (a r i : ℕ) → h.at a ≡ part r i → r < length h.objects
   pub below : (r : ℕ) (o : ℕ × Made) → slice_get h.objects r ≡ Some o → o.0 < heap_base + taken
@@ -217,13 +217,19 @@ module _ (shapes : List (ℕ × Shape)) (room floor : ℕ) (p : Places) (h : Hol
   same_objects r o e = e
 
   -- a block of words, which a string has: no object more
-  pub with_words : Invariant shapes room floor p (with_objects h.objects) types (add_heap (length block) s) (with_block block w) ts
-  with_words = record {
+  pub with_words : ((o r i : ℕ) → new o ≡ part r i → ⊥) →
+      Invariant shapes room floor p (with_objects h.objects) types (add_heap (length block) s) (with_block block w) ts
+  with_words none = record {
     holds = λ k. holds_on h.objects same_objects (add_heap (length block) s) refl k (p k) refl (inv.holds k);
     once = inv.once;
     above = inv.above;
     words = words_on h.objects same_objects;
     once_laid = once_on h.objects same_objects;
+    owned = λ a r i e.
+        elim (cases_lt a start) [
+          | inl lt ↦ own.owned a r i (sym (below_is a lt) ∙ e)
+          | inr le ↦ absurd (none (a - start) r i (sym (above_is a le) ∙ e))
+        ];
     laid = λ r o e.
         let x = inv.laid r o e in
         (x.0, x.1, laid_on h.objects same_objects r o.0 o.1 x.0 x.2);
@@ -236,20 +242,6 @@ module _ (shapes : List (ℕ × Shape)) (room floor : ℕ) (p : Places) (h : Hol
     heap = heap_on;
     input = inv.input;
     input_bytes = inv.input_bytes;
-  }
-
-  pub words_owned : ((o r i : ℕ) → new o ≡ part r i → ⊥) →
-      AreOwned (with_objects h.objects) (length (w.memory.heap ++ block))
-  words_owned none = record {
-    owned = λ a r i e.
-        elim (cases_lt a start) [
-          | inl lt ↦ own.owned a r i (sym (below_is a lt) ∙ e)
-          | inr le ↦ absurd (none (a - start) r i (sym (above_is a le) ∙ e))
-        ];
-    below = λ r o e.
-        let lt = own.below r o e in
-        let long = length-append w.memory.heap block in
-        omega (arith, lt, long);
   }
 
   -- a block of a new object's parts
@@ -312,6 +304,12 @@ module _ (shapes : List (ℕ × Shape)) (room floor : ℕ) (p : Places) (h : Hol
         above = inv.above;
         words = words_on objects_more kept_front;
         once_laid = once_on objects_more kept_front;
+        owned = λ a r i e.
+            let more = length-append h.objects ((start, made) ∷ []) in
+            elim (cases_lt a start) [
+              | inl lt ↦ let o = own.owned a r i (sym (below_is a lt) ∙ e) in omega (arith, o, more)
+              | inr le ↦ let o = fills.parts (a - start) r i (sym (above_is a le) ∙ e) in omega (arith, o, more)
+            ];
         laid = laid_more;
         objects =
             let a = length-append h.objects ((start, made) ∷ []) in
@@ -327,20 +325,3 @@ module _ (shapes : List (ℕ × Shape)) (room floor : ℕ) (p : Places) (h : Hol
         input = inv.input;
         input_bytes = inv.input_bytes;
       }
-
-      pub object_owned : 0 < length block → AreOwned (with_objects objects_more) (length (w.memory.heap ++ block))
-      object_owned some =
-          let long = length-append w.memory.heap block in
-          let more = length-append h.objects ((start, made) ∷ []) in
-          record {
-            owned = λ a r i e.
-                elim (cases_lt a start) [
-                  | inl lt ↦ let o = own.owned a r i (sym (below_is a lt) ∙ e) in omega (arith, o, more)
-                  | inr le ↦ let o = fills.parts (a - start) r i (sym (above_is a le) ∙ e) in omega (arith, o, more)
-                ];
-            below = λ r o e.
-                elim (get_split h.objects (start, made) r o e) [
-                  | inl f ↦ let lt = own.below r o f in omega (arith, lt, long)
-                  | inr f ↦ subst (λ j. j < heap_base + length (w.memory.heap ++ block)) (ap (λ (j : ℕ × Made). j.0) f.1) (omega (arith, some, long))
-                ];
-          }

@@ -207,6 +207,7 @@ module _ (shapes : List (ℕ × Shape)) (room floor : ℕ) (over_heap : heap_bas
         above = above;
         words = λ a v e. alike a (λ f. let g = sym e ∙ f in cc) ∙ inv.words a v e;
         once_laid = inv.once_laid;
+        owned = inv.owned;
         laid = λ r o e. let x = inv.laid r o e in
             (x.0, ap (λ l. slice_get l r) objects ∙ x.1, laid_same h shapes w.memory w1.memory r o.0 o.1 x.0 alike x.2);
         objects = inv.objects ∙ sym (ap (λ l. length l) objects);

@@ -23,6 +23,7 @@ pub mod Declaring
 pub mod Delivering
 pub mod Elements
 pub mod Entering
+pub mod Expressions
 pub mod FieldStores
 pub mod Fields
 pub mod Filling
@@ -50,6 +51,7 @@ pub mod Multiplying
 pub mod Needed
 pub mod Negating
 pub mod Objects
+pub mod Operations
 pub mod Over
 pub mod Pieces
 pub mod Places
@@ -62,6 +64,7 @@ pub mod Records
 pub mod RecordsMade
 pub mod Returning
 pub mod Returns
+pub mod Rights
 pub mod Routines
 pub mod Seeing
 pub mod Sequencing

@@ -155,6 +155,7 @@ module _ (h : Holdings) (types : List Ty) (s : SourceWorld) (m : Memory) (places
         above = v.above;
         words = v.words;
         once_laid = v.once_laid;
+        owned = v.owned;
         laid = v.laid;
         objects = v.objects;
         variables = v.variables;

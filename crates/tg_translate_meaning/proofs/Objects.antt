@@ -195,6 +195,7 @@ module _ (shapes : List (ℕ × Shape)) (room floor : ℕ) (p : Places) (h : Hol
     above = inv.above;
     words = λ b x e. apart b (λ f. not_word r k x (sym is_part ∙ ap h.at (sym f) ∙ e)) ∙ inv.words b x e;
     once_laid = inv.once_laid;
+    owned = inv.owned;
     laid = λ q o e. laid_at q o e (r == q) refl;
     objects = inv.objects ∙ sym (set_length s.objects r y);
     variables = inv.variables;

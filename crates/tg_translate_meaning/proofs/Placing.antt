@@ -195,6 +195,7 @@ module _ (shapes : List (ℕ × Shape)) (room floor : ℕ) (p : Places) (h : Hol
     above = λ a ne. above_at a ne (x.put (cell a));
     words = λ b v e. x.elsewhere (cell b) (x.apart b (λ f. word_known v (sym e ∙ f))) ∙ inv.words b v e;
     once_laid = inv.once_laid;
+    owned = inv.owned;
     laid = λ r o e.
         let y = inv.laid r o e in (
           y.0,

@@ -250,7 +250,7 @@ operands_many [] (u ∷ us) t have = absurd have
 operands_many (l ∷ os) [] t have = absurd have
 operands_many (l ∷ os) (u ∷ us) t have = ap suc (operands_many os us t have.1)
 
-shape_values : (at : ℕ) (shapes : List (ℕ × Shape)) (one : Shape) → ShapesHaveValues shapes → named at shapes ≡ Some one → ShapeHasValues one
+pub shape_values : (at : ℕ) (shapes : List (ℕ × Shape)) (one : Shape) → ShapesHaveValues shapes → named at shapes ≡ Some one → ShapeHasValues one
 shape_values at [] one all e = cc
 shape_values at (first ∷ rest) one all e = by (first.0 == at) (λ g. shape_values at rest one all.1 g) e
   where

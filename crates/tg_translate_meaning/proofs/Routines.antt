@@ -63,6 +63,7 @@ weight_is shapes room floor p h types s w ts k inv = record {
   above = inv.above;
   words = inv.words;
   once_laid = inv.once_laid;
+  owned = inv.owned;
   laid = inv.laid;
   objects = inv.objects;
   variables = inv.variables;

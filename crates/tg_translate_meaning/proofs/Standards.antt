@@ -43,12 +43,14 @@ use Rattle.tg_translate_meaning.proofs.Pieces.{more, stop_follows}
 use Rattle.tg_translate_meaning.proofs.Standing.{text_grows}
 use Rattle.tg_translate_meaning.proofs.Routines.{host, served, top_of, weighed, routine_follows, follows_coming, string_stands, weight_is}
 
--- What the statement has yet to say wherever something holds: parts are those of objects that there are, and objects begin
--- in the heap that is taken.
+-- Wherever something holds, parts are those of objects that there are, and objects begin in the heap that is taken.
 abbrev pub Owns : Program → Type 0
 Owns P =
     (p : Part) (h : Holdings) (types : List Ty) (s : SourceWorld) (w : World) (t : Temps) → Holds P p h types s w t →
     AreOwned h (length w.memory.heap)
+
+pub objects_are_owned : (P : Program) → Owns P
+objects_are_owned P p h types s w t x = record { owned = x.invariant.owned; below = λ r o e. (x.invariant.in_heap r o e).1 }
 
 -- only the weight is another
 pub holds_weight : (P : Program) (p : Part) (h : Holdings) (types : List Ty) (s : SourceWorld) (w : World) (t : Temps) (k : ℕ) →
@@ -105,6 +107,10 @@ string_here bytes k lt =
     ap (λ b. word_where b (4 * k % 4 == 0) (word_at (string_block bytes) (4 * k))) (lt-ltb (4 * k) (length (string_block bytes)) lt) ∙
     ap (λ b. word_where true b (word_at (string_block bytes) (4 * k))) (eq-eqb (4 * k % 4) 0 even)
 
+string_has_no_part : (bytes : List ℕ) (o r i : ℕ) → string_at bytes o ≡ part r i → ⊥
+string_has_no_part bytes o r i e =
+    where_no_part (nat_lt o (length (string_block bytes))) (o % 4 == 0) (word_at (string_block bytes) o) r i e
+
 -- A new string, behind the taken heap: it stands there, and all that held does.
 pub record HasString (P : Program) (p : Part) (h : Holdings) (types : List Ty) (s : SourceWorld) (w : World) (t : Temps)
     (bytes : List ℕ) : Type 0 where
@@ -145,7 +151,8 @@ string_added P set p h types s w t x own bytes small few fits =
       };
       holds = record {
         invariant =
-            with_words P.shapes P.heap (floor P) p.places h types s w ts x.invariant own high block even bs fits new fills;
+            with_words P.shapes P.heap (floor P) p.places h types s w ts x.invariant own high block even bs fits new fills
+            (λ o r i e. string_has_no_part bytes o r i e);
         weight = x.weight;
         depth = x.depth;
         statics = x.statics;
@@ -394,6 +401,7 @@ module _ (P : Program) (set : Setting P) (p : Part) (scene : IsScene (floor P) P
       above = x.invariant.above;
       words = x.invariant.words;
       once_laid = x.invariant.once_laid;
+      owned = x.invariant.owned;
       laid = x.invariant.laid;
       objects = x.invariant.objects;
       variables = x.invariant.variables;

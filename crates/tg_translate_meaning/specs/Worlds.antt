@@ -147,6 +147,7 @@ pub record Invariant (shapes : List (ℕ × Shape)) (room floor : ℕ) (places :
   -- the heap and the statics
   pub words : (a v : ℕ) → h.at a ≡ word v → load w.memory a ≡ Some v
   pub once_laid : (a b r i : ℕ) → h.at a ≡ part r i → h.at b ≡ part r i → a ≡ b
+  pub owned : (a r i : ℕ) → h.at a ≡ part r i → r < length h.objects
   pub laid :
       (r : ℕ) (o : ℕ × Made) → slice_get h.objects r ≡ Some o →
       (x : Object) × (slice_get s.objects r ≡ Some x) × IsLaid h shapes w.memory r o.0 o.1 x

@@ -1,6 +1,6 @@
 -- A variable and a parameter of no type have no derivation: `let var x := () in end`, and a function whose one parameter is so;
 -- nor has a function that names no result, but whose result is an int.
-use Rattle.std.proofs.Common.{ℕ, List, [], ◌∷◌, Option, None, refl}
+use Rattle.std.proofs.Common.{◌≡◌, ℕ, List, [], ◌∷◌, Option, None, refl}
 use Rattle.tg_base.specs.declared.ids.Span.{Span}
 use Rattle.tg_syntax.specs.declared.tokens.Ident.{Ident}
 use Rattle.tg_syntax.specs.declared.trees.Param.{Param}
