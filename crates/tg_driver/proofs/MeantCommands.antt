@@ -1,9 +1,7 @@
 -- Good words for a file that is there, with no fault of a count, are answered by the meaning of the source, or by want of memory.
-use Rattle.std.proofs.Common.{ℕ, ◌≡◌, ◌≤◌, ◌⊎◌, inl, inr, List, Option, Some, None, take, refl, sym, subst, arith}
+use Rattle.std.proofs.Common.{ℕ, ◌≡◌, ◌⊎◌, inl, inr, List, Option, Some, None, take, refl, sym, subst, arith}
 use Rattle.std.specs.Io.KnownBytes.{Appends}
-use Rattle.tg_base.specs.declared.ends.RunEnd.{RunEnd}
 use Rattle.tg_base.specs.declared.ends.RunEnd.TheVariants.{WriteFault}
-use Rattle.tg_command.specs.declared.counts.Limits.{Limits}
 use Rattle.tg_command.specs.declared.modes.Mode.{Mode}
 use Rattle.tg_command.specs.declared.modes.Mode.TheVariants.{Check, Build, Run, Exec, Alloc, Gen}
 use Rattle.tg_command.specs.Counts.{IsWithin, GivesCount, heap_limits, stack_limits}
@@ -27,20 +25,24 @@ use Rattle.tg_driver.proofs.Complete.{to_text, given, passed, rose_later, write_
 use Rattle.tg_driver.proofs.MeantEnds.{runs_are_meant, generated_are_meant}
 
 -- the sizes that the words ask for
-within : (limits : Limits) (o : Option (List ℕ)) (n : ℕ) → IsWithin limits limits.default → GivesCount limits o n → IsWithin limits n
-within limits None n d g = let P : ℕ → Type 0 = λ k. IsWithin limits k in subst P (sym g) d
-within limits (Some text) n d g = g.within
-
 heap_default : IsWithin heap_limits heap_limits.default
 heap_default = record { least = omega arith; most = omega arith; whole = refl }
 
 stack_default : IsWithin stack_limits stack_limits.default
 stack_default = record { least = omega arith; most = omega arith; whole = refl }
 
+in_heap : (o : Option (List ℕ)) (n : ℕ) → GivesCount heap_limits o n → IsWithin heap_limits n
+in_heap None n g = let P : ℕ → Type 0 = λ k. IsWithin heap_limits k in subst P (sym g) heap_default
+in_heap (Some text) n g = g.within
+
+in_stack : (o : Option (List ℕ)) (n : ℕ) → GivesCount stack_limits o n → IsWithin stack_limits n
+in_stack None n g = let P : ℕ → Type 0 = λ k. IsWithin stack_limits k in subst P (sym g) stack_default
+in_stack (Some text) n g = g.within
+
 sizes_of : (words : List (List ℕ)) (a : Asked) → Ask words a → AreSizes a.heap a.stack
 sizes_of words a ask =
-    let heap = within heap_limits _ a.heap heap_default ask.heap in
-    let stack = within stack_limits _ a.stack stack_default ask.stack in
+    let heap = in_heap _ a.heap ask.heap in
+    let stack = in_stack _ a.stack ask.stack in
     record {
       heap_words = heap.whole;
       heap_most = heap.most;

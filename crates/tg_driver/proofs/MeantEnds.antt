@@ -9,25 +9,21 @@ use Rattle.tg_base.specs.declared.ends.RunEnd.{RunEnd}
 use Rattle.tg_base.specs.declared.ends.RunEnd.TheVariants.{ReadFault, WriteFault}
 use Rattle.tg_base.specs.State.{start}
 use Rattle.tg_runs.specs.Bytes.{AreBytes}
-use Rattle.tg_meaning.specs.Values.{Ending, normal, by_nil, by_index, by_division, by_chr}
+use Rattle.tg_meaning.specs.Values.{normal, by_nil, by_index, by_division, by_chr}
 use Rattle.tg_meaning.specs.Values.{by_substring, by_size, by_heap, by_overflow, by_exit}
-use Rattle.tg_meaning.specs.MachineEnds.{machine_end}
 use Rattle.tg_meaning.specs.Direct.{evaluate}
 use Rattle.tg_isa.specs.declared.images.Image.{Image}
 use Rattle.tg_isa.specs.Assembly.{Assembled, Fault as AsmFault, assembled}
-use Rattle.tg_isa.specs.Runs.{Execution, Progress, Running, Ended, begun, answers}
+use Rattle.tg_isa.specs.Runs.{Execution, begun, answers}
 use Rattle.tg_asm.specs.Images.{image_of}
 use Rattle.tg_machine.specs.Ran.{Stops, still, ended, read_failed, write_failed, Tells}
-use Rattle.tg_agreement.specs.Meant.{AreSizes, runs_to}
+use Rattle.tg_agreement.specs.Meant.{AreSizes}
 use Rattle.tg_meant.specs.Ends.{EndIsMeant}
 use Rattle.tg_meant.specs.Meant.{IsAsMeant}
 use Rattle.tg_meant.specs.Laws.{EndedIsMeant, RunningIsMeant}
-use Rattle.tg_driver.specs.Calls.{Stream, Streams}
-use Rattle.tg_driver.specs.Endings.{end_status}
-use Rattle.tg_driver.specs.GenMode.{no_input, SumsUpMeant}
-use Rattle.tg_driver.specs.MeantRuns.{RunsAssembled, EndsAsMeant}
-use Rattle.tg_driver.specs.MeantEnds.{EndsByMeaning, RunsAreMeant, GeneratedAreMeant, streams_until, ending_status}
-use Rattle.tg_driver.specs.MeantEnds.{IsOfWord, StatusesAreMeant}
+use Rattle.tg_driver.specs.Calls.{Streams}
+use Rattle.tg_driver.specs.MeantEnds.{EndsByMeaning, RunsAreMeant, GeneratedAreMeant, streams_until}
+use Rattle.tg_driver.specs.MeantEnds.{StatusesAreMeant}
 use Rattle.tg_driver.specs.Runs.{HasRun}
 
 -- a text has one image

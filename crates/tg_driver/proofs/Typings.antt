@@ -1,5 +1,5 @@
 -- Trees of a text are typed under the conditions that the checker asks for, and what it answers is the text's.
-use Rattle.std.proofs.Common.{ℕ, ◌≡◌, List, [], length, refl}
+use Rattle.std.proofs.Common.{ℕ, ◌≡◌, List, length, refl}
 use Rattle.std.specs.List.Sorted.{IsPermutation}
 use Rattle.tg_syntax.specs.Tree.{Exp}
 use Rattle.tg_syntax.specs.NamesWithin.{NamesWithin}

@@ -9,8 +9,8 @@ use Rattle.tg_meaning.specs.Values.{Ending, normal, by_nil, by_index, by_divisio
 use Rattle.tg_meaning.specs.Values.{by_substring, by_size, by_heap, by_overflow, by_exit}
 use Rattle.tg_meaning.specs.MachineEnds.{machine_end}
 use Rattle.tg_meaning.specs.Direct.{evaluate}
-use Rattle.tg_isa.specs.Runs.{Execution, Progress, Running, Ended}
-use Rattle.tg_agreement.specs.Meant.{EndsAs, IsCutShort, runs_to}
+use Rattle.tg_isa.specs.Runs.{Execution, Progress, Ended}
+use Rattle.tg_agreement.specs.Meant.{EndsAs, IsCutShort}
 use Rattle.tg_agreement.specs.Ends.{TellsMeaning, EndsTellMeaning}
 use Rattle.tg_meant.specs.Ends.{EndsSo, EndIsMeant}
 use Rattle.tg_meant.specs.Laws.{EndedIsMeant, RunningIsMeant}

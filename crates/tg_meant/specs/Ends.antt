@@ -1,5 +1,5 @@
 -- What the end of a run says of the meaning of its program.
-use Rattle.std.specs.Prelude.{ℕ, ◌≡◌, ◌<◌, ◌%◌, List}
+use Rattle.std.specs.Prelude.{ℕ, ◌≡◌, ◌<◌}
 use Rattle.tg_base.specs.declared.ends.RunEnd.{RunEnd}
 use Rattle.tg_base.specs.declared.ends.RunEnd.TheVariants.{StackFull, StepLimit, BadAddress}
 use Rattle.tg_base.specs.declared.ends.RunEnd.TheVariants.{Unaligned, BadWord, BadService}

@@ -1,5 +1,5 @@
 -- What is built of a source does what the source means, and what the ends of its runs say.
-use Rattle.std.specs.Prelude.{ℕ, ◌≡◌, ◌<◌, ◌%◌, ◌^◌, List}
+use Rattle.std.specs.Prelude.{ℕ, ◌≡◌, List}
 use Rattle.tg_base.specs.declared.ends.RunEnd.{RunEnd}
 use Rattle.tg_runs.specs.Bytes.{AreBytes}
 use Rattle.tg_meaning.specs.Direct.{evaluate}
