@@ -24,7 +24,7 @@ use Rattle.tg_agreement.specs.Meant.{AreSizes}
 use Rattle.tg_compile_meaning.specs.Forms.{Compilation, IsCompiled, registers, frames, tree_form, flat_form}
 use Rattle.tg_compile_meaning.specs.Forms.{instruction_form, register_form, machine_form}
 use Rattle.tg_compile_meaning.specs.Laws.{CompiledMayRun, ChoiceIsKept, AllocationIsKept, CompiledAgrees}
-use Rattle.tg_compile_meaning.specs.Laws.{CompiledIsAsMeant, compilation_of}
+use Rattle.tg_compile_meaning.specs.Laws.{CompiledIsAsMeant, compilation_of, IsTranslated, ProgramsAreTranslated}
 
 pub compiled_agrees : CompiledMayRun → TreesArePreserved → EmissionKeeps → TreesStayOver → MachineStaysOver →
     PassesAgree →
@@ -53,13 +53,13 @@ fit heap stack s = record { heap_most = s.heap_most; stack_words = s.stack_words
 
 pub compiled_is_as_meant :
     CompiledAgrees → ProgramHasImage → AgreementIsMeant → FormsAgree → NoEndingIsFull → OnlyStuckIsStuck →
-    IsNeverStuck →
+    IsNeverStuck → ProgramsAreTranslated →
     ((program : CheckedProgram) → IsAccepted program →
     All IsWellFormed (fragments_of program.notes program.body).functions) →
     CompiledIsAsMeant
-compiled_is_as_meant agrees text meant forms full only never formed rule program allocations assembly accepted
+compiled_is_as_meant agrees text meant forms full only never carried formed rule program allocations assembly accepted
     compiles
-    carried = (
+    of_words = (
       emitted_image (registers p) p.literals,
       ap assembled compiles.text_is ∙ text (registers p) p.literals compiles.program compiles.typed,
       λ input heap stack bytes sizes.
@@ -69,7 +69,7 @@ compiled_is_as_meant agrees text meant forms full only never formed rule program
           (fit heap stack sizes) (λ n. full (passing n))
           (λ n e. never program accepted input heap stack n
           (ap (λ o. o.end) (forms program.names program.body input heap stack n) ∙ only (passing n) e))
-          (carried.follows input heap stack bytes sizes) carried.words in
+          (promised.follows input heap stack bytes sizes) promised.words in
           meant program.names program.body (emitted_image (registers p) p.literals) input heap stack both.0 both.1,
     )
   where
@@ -87,3 +87,6 @@ compiled_is_as_meant agrees text meant forms full only never formed rule program
       typed = compiles.typed;
       may_be_flat = λ f c. may_be_flat f (All-contains IsWellFormed p.trees.functions f (formed program accepted) c);
     }
+
+    promised : IsTranslated program p
+    promised = carried rule program allocations compiles.literals accepted of_words compiled

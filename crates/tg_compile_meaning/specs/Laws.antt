@@ -1,6 +1,8 @@
 -- What is compiled does what the source means, where the passes keep what they promise of it.
 use Rattle.std.specs.Prelude.{ℕ, ◌≡◌, ◌≤◌, List, [], map, Ok}
 use Rattle.std.specs.List.{Contains, sum}
+use Rattle.std.specs.Ordering.{nat_cmp}
+use Rattle.std.specs.FinSet.{FinSet}
 use Rattle.tg_syntax.specs.OfWords.{OfWords}
 use Rattle.tg_runs.specs.Bytes.{AreBytes}
 use Rattle.tg_runs.specs.Runs.{Run}
@@ -17,8 +19,8 @@ use Rattle.tg_tree.specs.FrameSizes.{IsSizeOf, IsNested}
 use Rattle.tg_instr.specs.declared.instr.Instr.{Instr}
 use Rattle.tg_rounds.specs.Policies.{Rule}
 use Rattle.tg_spill.specs.declared.allocations.Allocation.{Allocation}
-use Rattle.tg_shapes.specs.Laws.{FieldsAreFew}
-use Rattle.tg_compile.specs.Compiling.{findings_of, fragments_of, Compiles}
+use Rattle.tg_weight.specs.Weights.{TreesAreLight}
+use Rattle.tg_compile.specs.Compiling.{fragments_of, Compiles}
 use Rattle.tg_emit_meaning.specs.Emission.{MayRun, FitRegions}
 use Rattle.tg_agreement.specs.Laws.{tree_work, tree_besides, unit_words, kept_words}
 use Rattle.tg_agreement.specs.Laws.{most_work, most_besides}
@@ -107,20 +109,35 @@ pub record IsTranslated (program : CheckedProgram) (p : Compilation) : Type 0 wh
       (program_run program.names program.body input heap stack)
       (tree_form p input heap stack)
 
+-- it does, where an accepted program's ints are words and it is compiled
+abbrev pub ProgramsAreTranslated : Type 0
+ProgramsAreTranslated =
+    (rule : Rule) (program : CheckedProgram) (allocations : List Allocation)
+    (literals : List Literal) →
+    IsAccepted program → OfWords program.body →
+    IsCompiled (compilation_of rule program allocations literals) →
+    IsTranslated program (compilation_of rule program allocations literals)
+
+-- The trees of every accepted program are light.
+abbrev pub TreesOfAcceptedAreLight : Type 0
+TreesOfAcceptedAreLight =
+    (program : CheckedProgram) (links : FinSet nat_cmp) →
+    IsAccepted program → TreesAreLight program links
+
 -- The constants of an accepted program's trees, with the runtime's, are words, where those of its
--- text are and its records have few fields.
+-- text are.
 abbrev pub FragmentsHaveWords : Type 0
 FragmentsHaveWords =
     (program : CheckedProgram) → IsAccepted program → OfWords program.body →
-    FieldsAreFew (findings_of program.notes program.body) →
     HasWords (λ body. named_ts body []) (fragments_of program.notes program.body)
 
--- An accepted program is compiled to a text whose image does what the program means.
+-- An accepted program whose ints are words is compiled to a text whose image does what the program
+-- means.
 abbrev pub CompiledIsAsMeant : Type 0
 CompiledIsAsMeant =
     (rule : Rule) (program : CheckedProgram) (allocations : List Allocation) (text : List ℕ) →
     IsAccepted program →
-    (compiles : Compiles rule program.notes program.body allocations text) →
-    IsTranslated program (compilation_of rule program allocations compiles.literals) →
+    Compiles rule program.notes program.body allocations text →
+    OfWords program.body →
     (image : Assembled) × (assembled text ≡ Ok image)
     × DoesWhatIsMeant program.names program.body image

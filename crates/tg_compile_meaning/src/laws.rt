@@ -1,3 +1,4 @@
+ghost use Rattle.tg_translate_meaning.specs.Laws.{MeaningIsKept};
 ghost use Rattle.tg_compile_meaning.specs.Laws.{
   AllocationIsKept,
   ChoiceIsKept,
@@ -5,6 +6,8 @@ ghost use Rattle.tg_compile_meaning.specs.Laws.{
   CompiledIsAsMeant,
   CompiledMayRun,
   FragmentsHaveWords,
+  ProgramsAreTranslated,
+  TreesOfAcceptedAreLight,
   RuntimeFramesFit,
   FramesAreSizes,
   FramesAreSizesOfTrees,
@@ -26,7 +29,8 @@ use tg_shapes::{
 };
 use tg_spill_meaning::programs_of_allocations_keep;
 use tg_tree::trees_run;
-use tg_types::never_stuck;
+use tg_types::{checked_has_type, never_stuck};
+use tg_weight::frames_are_light;
 use tg_words::functions_are_short;
 
 /// The laws of what is compiled: it may be run, and its frames have sizes that the forms before it
@@ -50,6 +54,7 @@ pub fn runtime_frames_fit()
 pub fn fragments_have_words()
     ensures { FragmentsHaveWords }
 {
+    checked_has_type();
     constants_are_words();
     routines_are_closed();
 }
@@ -86,11 +91,24 @@ pub fn compiled_agrees()
     passes_agree();
 }
 
-/// The headline over the promise of the translation: an accepted program is compiled to a text
-/// whose image does what the program means.
-pub fn compiled_is_as_meant()
-    ensures { CompiledIsAsMeant }
+/// The law of the translation of compiled programs: their constants are words, and their trees
+/// follow the program, with frames of the sizes that their allocations have.
+pub fn programs_are_translated()
+    ensures { MeaningIsKept → TreesOfAcceptedAreLight → ProgramsAreTranslated }
 {
+    frames_are_light();
+    programs_are_linked();
+    compiled_may_run();
+    runtime_frames_fit();
+    fragments_have_words();
+}
+
+/// The headline: an accepted program whose ints are words is compiled to a text whose image does
+/// what the program means.
+pub fn compiled_is_as_meant()
+    ensures { MeaningIsKept → TreesOfAcceptedAreLight → CompiledIsAsMeant }
+{
+    programs_are_translated();
     compiled_agrees();
     program_has_image();
     image_agrees();

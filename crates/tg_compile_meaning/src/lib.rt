@@ -1,5 +1,5 @@
-//! A compiled program does what its source means (the headline), where its trees follow the source:
-//! the passes' laws, one behind the other, over the forms that a program has between source and
+//! A compiled program does what its source means (the headline): the laws of the translation and of
+//! the passes behind it, one behind the other, over the forms that a program has between source and
 //! machine.
 #![tactic(auto)]
 
@@ -7,5 +7,5 @@ mod laws;
 
 pub use laws::{
     allocation_is_kept, choice_is_kept, compiled_agrees, compiled_is_as_meant, compiled_may_run,
-    fragments_have_words, runtime_frames_fit,
+    fragments_have_words, programs_are_translated, runtime_frames_fit,
 };

@@ -83,7 +83,7 @@ module _ (P : Program) (set : Setting P) (needs : Needs P) (grow : StatesGrow P)
     abbrev pub E : Exp
     E = Assign sp v e
 
-    abbrev typed_ : AssignTyped v e x.p x.ty
+    abbrev pub typed_ : AssignTyped v e x.p x.ty
     typed_ = assign_typed sp v e x.p x.ty x.typed
 
     pub may_all : (j place u : ℕ) → x.p.places (temporary x.p.scene.depth j) ≢ kept place u
@@ -103,10 +103,10 @@ module _ (P : Program) (set : Setting P) (needs : Needs P) (grow : StatesGrow P)
     piece = record { shown = show_e; typed = typed_.value_typed; words = x.words.1; covers = x.covers.1; may_assign = inr may_all }
 
     -- what the source does with the location and the value
-    abbrev writes_value : Location → Value → Rest
+    abbrev pub writes_value : Location → Value → Rest
     writes_value l val = writes_to P l val (λ o. x.go nothing) x.out
 
-    abbrev with_location : Location → Rest
+    abbrev pub with_location : Location → Rest
     with_location l = evaluates P e x.p.env (writes_value l) x.out
 
     -- the l-value
@@ -227,7 +227,7 @@ module _ (P : Program) (set : Setting P) (needs : Needs P) (grow : StatesGrow P)
     abbrev E_of : Want → Acts Made
     E_of w = λ s. expression P.findings e w x.p.within s
 
-    by_place : (storage : Storage) (s1 : TranslationState) → locate P.findings v x.p.within x.σ ≡ drawn storage s1 →
+    pub by_place : (storage : Storage) (s1 : TranslationState) → locate P.findings v x.p.within x.σ ≡ drawn storage s1 →
         after (assigned storage E_of s1) (λ st u. drawn (done st) u) ≡ drawn x.m x.τ → IsShown P n E x
     by_place (in_temp i) s1 made rest =
         let i1 = after_inv (assigned (in_temp i) E_of s1) _ x.m x.τ rest in

@@ -18,6 +18,7 @@ use Rattle.tg_tree.specs.Forms.{nothing as nothing_done}
 use Rattle.tg_tree.specs.Tree as tree
 use Rattle.tg_tree.specs.Tree.{Tx, Temp, Cond, Ts}
 use Rattle.tg_tree.specs.Actions.{World, Temps, set_temp, Go, Next, with_word}
+use Rattle.tg_translate.specs.declared.homes.Within.{Within}
 use Rattle.tg_translate.specs.declared.wants.Want.{Want}
 use Rattle.tg_translate.specs.declared.wants.Want.TheVariants as want
 use Rattle.tg_translate.specs.States.{TranslationState, drawn, Acts, after, with_frame, one_temp}
@@ -27,10 +28,11 @@ use Rattle.tg_translate.specs.Translate.{expression, chosen_arm, choice, is_conj
 use Rattle.tg_translate_meaning.specs.Tables.{Later}
 use Rattle.tg_translate_meaning.specs.Worlds.{Holdings, Stands, an_int, no_value, temporary, nowhere, GrowsTo}
 use Rattle.tg_translate_meaning.specs.Situations.{Program, Setting, Part, MayAssign, value_runs, test_runs, statement_runs}
-use Rattle.tg_translate_meaning.specs.Shown.{Shown, IsShown, Situation, FollowsHere, left_over, evaluates, Onward, IsWanted, IsWantable, IsLeft, MadeFollows, is_set, put_where}
+use Rattle.tg_translate_meaning.specs.Shown.{Shown, IsShown, Situation, SituationBy, FollowsHere, left_over, evaluates, Onward, IsWanted, IsWantable, IsLeft, MadeFollows, is_set, put_where}
 use Rattle.tg_translate_meaning.proofs.States.{made_in, state_in, after_inv, later_none, later_on, behind_none, front_none}
 use Rattle.tg_translate_meaning.proofs.Making.{by_made, worked, wanted_of, holds_with_temp, set_here, IsLoose, grows_on}
-use Rattle.tg_translate_meaning.proofs.Pieces.{StatesGrow, Piece, Moment, Behind, at_begin, at_then, from, sub_condition, sub_arm, sub_dropped, more, paid, extends_on}
+use Rattle.tg_translate_meaning.proofs.Lefts.{LeftSide, plain_left}
+use Rattle.tg_translate_meaning.proofs.Pieces.{StatesGrow, Piece, LeftPiece, first_condition, Moment, Behind, at_begin, at_then, from, sub_arm, sub_dropped, more, paid, extends_on}
 use Rattle.tg_translate_meaning.proofs.Standing.{test_int, set_suc, stands_fit, fits_has_values, int_has_values}
 use Rattle.tg_translate_meaning.proofs.Sides.{both_true}
 
@@ -44,11 +46,15 @@ later_fresh s = record { temps = omega arith; slots = omega arith; homes = behin
 
 module _ (P : Program) (set : Setting P) (grow : StatesGrow P) (n : ℕ) where
   -- A test and what it leads to: one of two statements, from 200 units on.
-  module _ (E c : Exp) (x : Situation P n E) (piece_c : Piece P set grow n E x c int_type) where
-    abbrev pub k0 : Moment P set grow n E x
-    k0 = at_begin P set grow n E x (x.r + 200) (omega arith)
+  module _ (E c : Exp) (side : LeftSide P n c) {made_by : Want → Within → Acts Made} (x : SituationBy P n E made_by)
+      (piece_c : LeftPiece P set grow n E x c side int_type) where
+    pub low : x.r ≤ x.r + 200
+    low = omega arith
 
-    pub test_follows : (cond : Cond) (τ : TranslationState) → condition_from (λ s. expression P.findings c want.Test x.p.within s) x.σ ≡ drawn cond τ → Later τ x.τ →
+    abbrev pub k0 : Moment P set grow n E x
+    k0 = at_begin P set grow n E x (x.r + 200) low
+
+    pub test_follows : (cond : Cond) (τ : TranslationState) → condition_from (λ s. side.by want.Test x.p.within s) x.σ ≡ drawn cond τ → Later τ x.τ →
         (this other : (Value → Rest) → Rest → Rest) (s t : Ts) (next : Next) →
         ((b : Behind P set grow n E x k0) → Later x.σ τ → FollowsHere P (x.r + 256) n (rest_run (this x.go x.out) b.s) (statement_runs P x.p s x.p.around next b.w b.t)) →
         ((b : Behind P set grow n E x k0) → Later x.σ τ → FollowsHere P (x.r + 256) n (rest_run (other x.go x.out) b.s) (statement_runs P x.p t x.p.around next b.w b.t)) →
@@ -58,7 +64,7 @@ module _ (P : Program) (set : Setting P) (grow : StatesGrow P) (n : ℕ) where
         let go : Value → Rest = λ v. chooses P v this other x.go x.out in
         let branches : Go Bool = λ b w1 t1. (if b then statement_runs P x.p s else statement_runs P x.p t) x.p.around next w1 t1 in
         worked P (x.r + 204) (x.r + 208) 4 n (rest_run (evaluates P c x.p.env go x.out) x.s) (test_runs P x.p cond x.p.around branches x.w x.t) (omega arith)
-        (sub_condition P set grow n E x k0 c piece_c (x.r + 204) (omega arith) cond τ made last go branches
+        (first_condition P set grow n E x (x.r + 200) low c side int_type piece_c (x.r + 204) (omega arith) refl cond τ made last go branches
         (λ b v u l wanted.
         let i = test_int b.h v u wanted in
         subst (λ z. FollowsHere P (x.r + 200 + 56) n (rest_run (go z) b.s) (branches (is_set u) b.w b.t)) (sym i.1)
@@ -117,7 +123,7 @@ module _ (P : Program) (set : Setting P) (grow : StatesGrow P) (n : ℕ) where
         (onward b.h b.types (int k) 0 b.s b.w b.t b.grows b.extends b.holds tt))
 
   -- What both arms lead to, as what is wanted of the choice.
-  module _ (E : Exp) (x : Situation P n E) where
+  module _ (E : Exp) {made_by : Want → Within → Acts Made} (x : SituationBy P n E made_by) where
     -- the statement of the choice, whose value goes into a temporary; or is dropped
     abbrev pub FollowsInto : Run Source → (into : ℕ) → Ts → Type 0
     FollowsInto source into s =
@@ -183,8 +189,11 @@ module _ (P : Program) (set : Setting P) (grow : StatesGrow P) (n : ℕ) where
         (inl i.0, inl j.0, inl j.1)
     may_parts (inr f) = (inr f, inr f, inr f)
 
-    abbrev pub piece_c : Piece P set grow n E_ x c int_type
-    piece_c = record { shown = show_c; typed = types_.2; words = x.words.0; covers = x.covers.0; may_assign = (may_parts x.may_assign).0 }
+    abbrev pub side_c : LeftSide P n c
+    side_c = plain_left P n c (grow c) show_c
+
+    abbrev pub piece_c : LeftPiece P set grow n E_ x c side_c int_type
+    piece_c = record { begun = tt; typed = types_.2; words = x.words.0; covers = x.covers.0; may_assign = (may_parts x.may_assign).0 }
 
     abbrev pub piece_a : Piece P set grow n E_ x a types_.0
     piece_a = record { shown = show_a; typed = types_.3; words = x.words.1; covers = x.covers.1; may_assign = (may_parts x.may_assign).1 }
@@ -228,9 +237,9 @@ module _ (P : Program) (set : Setting P) (grow : StatesGrow P) (n : ℕ) where
         let lb : Later q.τa q.τb = subst (λ o. Later q.τa o) (ap state_in ib.3) (grow b (want.Into (record { 0 = into })) x.p.within ib.0 q.τa ib.1 ib.2) in
         let lx : Later q.τb x.τ = subst (λ o. Later q.τb o) (ap state_in q.whole) (later_none q.τb) in
         let l1 : Later σ1 x.τ = later_on σ1 q.τa x.τ la (later_on q.τa q.τb x.τ lb lx) in
-        test_follows E_ c x piece_c cond τc made_c (later_on τc σ1 x.τ drew l1) (λ g o. evaluates P a x.p.env g o) (λ g o. evaluates P b x.p.env g o) q.sa q.sb next
-        (λ d l. expression_into E_ c x piece_c a types_.0 piece_a types_.5 able into q.sa σ1 q.τa (later_on x.σ τc σ1 l drew) q.made_a (later_on q.τa q.τb x.τ lb lx) next onward d)
-        (λ d l. expression_into E_ c x piece_c b types_.1 piece_b types_.6 able into q.sb q.τa q.τb (later_on x.σ τc q.τa l (later_on τc σ1 q.τa drew la)) q.made_b lx next onward d)
+        test_follows E_ c side_c x piece_c cond τc made_c (later_on τc σ1 x.τ drew l1) (λ g o. evaluates P a x.p.env g o) (λ g o. evaluates P b x.p.env g o) q.sa q.sb next
+        (λ d l. expression_into E_ c side_c x piece_c a types_.0 piece_a types_.5 able into q.sa σ1 q.τa (later_on x.σ τc σ1 l drew) q.made_a (later_on q.τa q.τb x.τ lb lx) next onward d)
+        (λ d l. expression_into E_ c side_c x piece_c b types_.1 piece_b types_.6 able into q.sb q.τa q.τb (later_on x.σ τc q.τa l (later_on τc σ1 q.τa drew la)) q.made_b lx next onward d)
 
     -- both arms, dropped
     record ArmsDropped (σ1 : TranslationState) (F : Ts → Ts → Made) : Type 0 where
@@ -258,9 +267,9 @@ module _ (P : Program) (set : Setting P) (grow : StatesGrow P) (n : ℕ) where
         let la : Later σ1 q.τa = subst (λ o. Later σ1 o) (ap state_in ia.3) (grow a want.Dropped x.p.within ia.0 σ1 ia.1 ia.2) in
         let lb : Later q.τa q.τb = subst (λ o. Later q.τa o) (ap state_in ib.3) (grow b want.Dropped x.p.within ib.0 q.τa ib.1 ib.2) in
         let lx : Later q.τb x.τ = subst (λ o. Later q.τb o) (ap state_in q.whole) (later_none q.τb) in
-        test_follows E_ c x piece_c cond σ1 made_c (later_on σ1 q.τa x.τ la (later_on q.τa q.τb x.τ lb lx)) (λ g o. evaluates P a x.p.env g o) (λ g o. evaluates P b x.p.env g o) q.sa q.sb next
-        (λ d l. expression_dropped E_ c x piece_c a types_.0 piece_a q.sa σ1 q.τa l q.made_a (later_on q.τa q.τb x.τ lb lx) next onward d)
-        (λ d l. expression_dropped E_ c x piece_c b types_.1 piece_b q.sb q.τa q.τb (later_on x.σ σ1 q.τa l la) q.made_b lx next onward d)
+        test_follows E_ c side_c x piece_c cond σ1 made_c (later_on σ1 q.τa x.τ la (later_on q.τa q.τb x.τ lb lx)) (λ g o. evaluates P a x.p.env g o) (λ g o. evaluates P b x.p.env g o) q.sa q.sb next
+        (λ d l. expression_dropped E_ c side_c x piece_c a types_.0 piece_a q.sa σ1 q.τa l q.made_a (later_on q.τa q.τb x.τ lb lx) next onward d)
+        (λ d l. expression_dropped E_ c side_c x piece_c b types_.1 piece_b q.sb q.τa q.τb (later_on x.σ σ1 q.τa l la) q.made_b lx next onward d)
 
     -- the temporary that is drawn behind the test is in no use
     fresh_idle : (cond : Cond) (σ1 : TranslationState) → condition_from (λ s. expression P.findings c want.Test x.p.within s) x.σ ≡ drawn cond σ1 →

@@ -35,7 +35,7 @@ use Rattle.tg_translate.specs.Constructs.{Storage, in_temp, at_address, read, op
 use Rattle.tg_translate.specs.Purity.{assigns_nothing, place_assigns_nothing}
 use Rattle.tg_translate.specs.Translate.{expression, locate}
 use Rattle.tg_translate_meaning.specs.Tables.{Later}
-use Rattle.tg_translate_meaning.specs.Worlds.{Holdings, unknown, part, Stands, an_int, an_array, array_of, temporary, IsOf, kept}
+use Rattle.tg_translate_meaning.specs.Worlds.{Holdings, unknown, part, GrowsTo, Stands, an_int, an_array, array_of, temporary, IsOf, kept}
 use Rattle.tg_translate_meaning.specs.Situations.{Program, Part, Setting, Holds, MayAssign, Extends, value_runs, statement_runs, statements_run}
 use Rattle.tg_translate_meaning.specs.Shown.{Shown, FollowsHere, left_over, work_factor, evaluates}
 use Rattle.tg_translate_meaning.proofs.States.{made_in, state_in, after_inv, later_none, later_on, later_value}
@@ -167,21 +167,17 @@ module _ (P : Program) (set : Setting P) (needs : Needs P) (grow : StatesGrow P)
   within_or b r z go out = (if b then (λ (g : Location → Rest) (o2 : Rest). g (in_element r z)) else evaluation.end_program Passing
       (passing P.heap P.stack) by_index) go out
 
-  element_found : (n q j : ℕ) (p : Part) (h : Holdings) (types : List Ty) (s : SourceWorld) (w : World) (t : Temps) (v b : Value) (at u z : ℕ)
-      (ty : Ty) (l o : Operand) (go : Location → Rest) (out : Rest) (go' : Go ℕ) →
+  element_found : (n q : ℕ) (p : Part) (h : Holdings) (types : List Ty) (s : SourceWorld) (w : World) (t : Temps) (v b : Value) (at u z : ℕ)
+      (ty : Ty) (l o : Operand) (go : Location → Rest) (out : Rest) (next : Next) →
       Holds P p h types s w t → Stands h v (array_type at) u → Stands h b int_type z → OperandIs l u t → OperandIs o z t →
-      named at P.shapes ≡ Some (array_shape ty) →
-      ((k : Location) (e : ℕ) → IsAt P p.places h types k ty e → FollowsHere P q n (rest_run (go k) s) (go' e w t)) →
-      FollowsHere P (q + j + 30) n (rest_run (element_located v b go out) s)
-      (statements_run P p (stm (index_check (operand l) (operand o)) no_stms) p.around (λ w1 t1. charged j (value_runs P p (element (operand l)
-      (operand o)) p.around go' w1 t1)) w t)
-  element_found n q j p h types s w t _ _ _ _ _ ty l o go out go' hh (an_array r at count a has) (an_int z zs) is_l is_o shape onward =
+      named at P.shapes ≡ Some (array_shape ty) → 3 ≤ q →
+      ((k : Location) → IsAt P p.places h types k ty (u + 4 + 4 * z) → z < 2 ^ 26 → u + 4 + 4 * z < 2 ^ 32 → FollowsHere P q n (rest_run (go k) s) (next w t)) →
+      FollowsHere P (q + 16) n (rest_run (element_located v b go out) s)
+      (statements_run P p (stm (index_check (operand l) (operand o)) no_stms) p.around next w t)
+  element_found n q p h types s w t _ _ _ _ _ ty l o go out next hh (an_array r at count a has) (an_int z zs) is_l is_o shape enough onward =
       let x = array_at p h types s w t r at a count hh has in
       by x (nat_lt z (length x.values)) refl
     where
-      next : Next
-      next w1 t1 = charged j (value_runs P p (element (operand l) (operand o)) p.around go' w1 t1)
-
       located : (x : ArrayAt s w r a count) (b : Bool) → nat_lt z (length x.values) ≡ b → (i : ℕ) →
           rest_run (element_located (reference r) (int z) go out) s i ≡ rest_run (within_or b r z go out) s i
       located x b e i =
@@ -189,7 +185,7 @@ module _ (P : Program) (set : Setting P) (needs : Needs P) (grow : StatesGrow P)
           ap (λ b2. rest_run (within_or b2 r z go out) s i) (below_word z (length x.values) x.few ∙ e)
 
       by : (x : ArrayAt s w r a count) (b : Bool) → nat_lt z (length x.values) ≡ b →
-          FollowsHere P (q + j + 30) n (rest_run (element_located (reference r) (int z) go out) s) (statements_run P p (stm (index_check (operand l)
+          FollowsHere P (q + 16) n (rest_run (element_located (reference r) (int z) go out) s) (statements_run P p (stm (index_check (operand l)
           (operand o)) no_stms) p.around next w t)
       by x true e =
           let lt : z < length x.values = ltb-true z (length x.values) e in
@@ -200,26 +196,23 @@ module _ (P : Program) (set : Setting P) (needs : Needs P) (grow : StatesGrow P)
           let under = heap_below P set needs p h types s w t hh in
           let source : Run Source = rest_run (go (in_element r z)) s in
           let target : Run Ran = statements_run P p (stm (index_check (operand l) (operand o)) no_stms) p.around next w t in
-          follows_along P.stack work_factor (q + j + 30) n source (rest_run (element_located (reference r) (int z) go out) s) target target
+          follows_along P.stack work_factor (q + 16) n source (rest_run (element_located (reference r) (int z) go out) s) target target
           (λ i. located x true e i) (λ i. refl)
-          (more P (q + j + 14 + 16) (q + j + 30) n source target (omega arith)
-          (checked p l o a z (length x.values) (q + j + 14) n source next w t is_l is_o x.len
-          (subst (λ b2. FollowsHere P (q + j + 14) n source ((if not b2 then statement_runs P p
+          (checked p l o a z (length x.values) q n source next w t is_l is_o x.len
+          (subst (λ b2. FollowsHere P q n source ((if not b2 then statement_runs P p
           (Fault 3) else statement_runs P p nothing_done) p.around next w t)) (sym e)
-          (worked P (q + j + 14) (q + j + 14) 0 n source (next w t) (omega arith)
-          (worked P (q + 14) (q + j + 14) j n source (value_runs P p (element (operand l) (operand o)) p.around go' w t) (omega arith)
-          (addressed p l o a z q n source go' w t is_l is_o (omega (arith, lt, few)) (omega (arith, known.1, under))
-          (onward (in_element r z) (a + 4 + 4 * z) (an_element r z at a count ty has shape (omega (arith, lt, counted))))))))))
+          (worked P q q 0 n source (next w t) (omega arith)
+          (onward (in_element r z) (an_element r z at a count ty has shape (omega (arith, lt, counted))) (omega (arith, lt, few)) (omega (arith, known.1, under))))))
       by x false e =
           let source : Run Source = rest_run (within_or false r z go out) s in
           let target : Run Ran = statements_run P p (stm (index_check (operand l) (operand o)) no_stms) p.around next w t in
-          follows_along P.stack work_factor (q + j + 30) n source (rest_run (element_located (reference r) (int z) go out) s) target target
+          follows_along P.stack work_factor (q + 16) n source (rest_run (element_located (reference r) (int z) go out) s) target target
           (λ i. located x false e i) (λ i. refl)
-          (more P (q + j + 14 + 16) (q + j + 30) n source target (omega arith)
-          (checked p l o a z (length x.values) (q + j + 14) n source next w t is_l is_o x.len
-          (subst (λ b2. FollowsHere P (q + j + 14) n source ((if not b2 then statement_runs P p
+          (more P (3 + 16) (q + 16) n source target (omega (arith, enough))
+          (checked p l o a z (length x.values) 3 n source next w t is_l is_o x.len
+          (subst (λ b2. FollowsHere P 3 n source ((if not b2 then statement_runs P p
           (Fault 3) else statement_runs P p nothing_done) p.around next w t)) (sym e)
-          (more P 3 (q + j + 14) n source _ (omega arith) (worked P 0 3 3 n source _ (omega arith) (stop_follows P 0 n by_index s w hh.invariant.input))))))
+          (worked P 0 3 3 n source _ (omega arith) (stop_follows P 0 n by_index s w hh.invariant.input)))))
 
   pub record ElementTyped (v : LValue) (e : Exp) (p : Part) (t : Ty) : Type 0 where
     pub at : ℕ
@@ -305,28 +298,44 @@ module _ (P : Program) (set : Setting P) (needs : Needs P) (grow : StatesGrow P)
     }
 
     -- what is made of its parts
-    abbrev lh_of : (storage : Storage) → LeftHeld (assigns_nothing e) (read storage)
+    abbrev pub lh_of : (storage : Storage) → LeftHeld (assigns_nothing e) (read storage)
     lh_of storage = left_held (assigns_nothing e) storage
 
-    abbrev sh_of : Storage → TranslationState → TranslationState
+    abbrev pub sh_of : Storage → TranslationState → TranslationState
     sh_of storage s3 = left_state (assigns_nothing e) (read storage) s3 (lh_of storage)
 
-    abbrev le_of : Storage → TranslationState → Stms
+    abbrev pub le_of : Storage → TranslationState → Stms
     le_of storage s3 = left_extra (assigns_nothing e) (read storage) s3 (lh_of storage)
 
-    abbrev lo_of : Storage → TranslationState → Operand
+    abbrev pub lo_of : Storage → TranslationState → Operand
     lo_of storage s3 = left_operand (assigns_nothing e) (read storage) s3 (lh_of storage)
 
-    abbrev made_of : (storage : Storage) (s3 : TranslationState) (y : Tx) → Storage
+    abbrev pub ro_of : Storage → TranslationState → Tx → Operand
+    ro_of storage s3 y = (held_as y (sh_of storage s3) (holding y)).operand
+
+    abbrev pub checks_of : Storage → TranslationState → Tx → Stms
+    checks_of storage s3 y =
+        join_stms (join_stms (le_of storage s3) (held_as y (sh_of storage s3) (holding y)).extra) (stm (index_check (operand (lo_of storage s3)) (operand (ro_of storage s3 y))) no_stms)
+
+    abbrev pub made_of : (storage : Storage) (s3 : TranslationState) (y : Tx) → Storage
     made_of storage s3 y =
         element_of (join_stms (le_of storage s3) (held_as y (sh_of storage s3) (holding y)).extra) (operand (lo_of storage s3)) (operand (held_as y
         (sh_of storage s3) (holding y)).operand)
 
-    made_follows : (storage : Storage) (s1 s2 s3 : TranslationState) (m : Made) (y : Tx) → locate P.findings v x.p.within x.σ ≡ drawn storage s1 →
+    -- what comes next behind the check of the index, by both operands
+    abbrev pub TailOnward : (j : ℕ) → (Operand → Operand → Next) → Type 0
+    TailOnward j tail =
+        (g : Holdings) (ms : List Ty) (s4 : SourceWorld) (w4 : World) (t4 : Temps) (l o : Operand) (u z : ℕ) (k : Location) → GrowsTo x.h g → Extends x.types ms →
+        Holds P x.p g ms s4 w4 t4 → IsAt P x.p.places g ms k x.ty (u + 4 + 4 * z) → OperandIs l u t4 → OperandIs o z t4 → z < 2 ^ 26 → u + 4 + 4 * z < 2 ^ 32 →
+        FollowsHere P (x.r + left_over + j + 40) n (rest_run (x.go k) s4) (tail l o w4 t4)
+
+    pub tail_follows : (storage : Storage) (s1 s2 s3 : TranslationState) (m : Made) (y : Tx) → locate P.findings v x.p.within x.σ ≡ drawn storage s1 →
         expression P.findings e want.Value x.p.within s1 ≡ drawn m s2 →
         value_of m s2 ≡ drawn y s3 → Later (held_as y (sh_of storage s3) (holding y)).after x.τ → Later s1 x.τ →
-        StorageFollows P n x.r x.p x.h x.types x.ty x.go (place_source P n (Index v e) x) x.s x.w x.t (made_of storage s3 y)
-    made_follows storage s1 s2 s3 m y made made_e made_y last last1 j go' onward =
+        (j : ℕ) (tail : Operand → Operand → Next) → TailOnward j tail →
+        FollowsHere P (x.r + j) n (place_source P n (Index v e) x)
+        (statements_run P x.p (checks_of storage s3 y) x.p.around (tail (lo_of storage s3) (ro_of storage s3 y)) x.w x.t)
+    tail_follows storage s1 s2 s3 m y made made_e made_y last last1 j tail onward =
         let sh : TranslationState = sh_of storage s3 in
         let hd : Holding y = holding y in
         let le : Stms = le_of storage s3 in
@@ -334,7 +343,6 @@ module _ (P : Program) (set : Setting P) (needs : Needs P) (grow : StatesGrow P)
         let lo : Operand = lo_of storage s3 in
         let ro : Operand = (held_as y sh hd).operand in
         let check_ : Operand → Operand → Ts = λ l o. index_check (operand l) (operand o) in
-        let tail : Operand → Operand → Next = λ l o w1 t1. charged j (value_runs P x.p (element (operand l) (operand o)) x.p.around go' w1 t1) in
         let next : Operand → Operand → Next = λ l o w1 t1. statements_run P x.p (stm (check_ l o) no_stms) x.p.around (tail l o) w1 t1 in
         let last_sh : Later sh x.τ = later_on sh (held_as y sh hd).after x.τ (held_as y sh hd).later last in
         let fresh : IsAnother y hd → sh.frame.temps < x.τ.frame.temps = λ an. let a = another_later y sh hd an in let b = last.temps in omega
@@ -348,12 +356,12 @@ module _ (P : Program) (set : Setting P) (needs : Needs P) (grow : StatesGrow P)
         (both_follow P set grow n stands e (array_type typed_.at) int_type int_has_values show_e typed_.index_typed x.words.1 x.covers.1 may_e s1 s2
         s3 sh m y made_e made_y
         (needs.place_grows v x.p.within storage x.σ s1 made) (left_later (assigns_nothing e) (read storage) s3 (lh_of storage)) last_sh hd fresh
-        (x.r + j + 100) (omega arith) with_both next
+        (x.r + j + 150) (omega arith) with_both next
         (assigns_nothing e) (read storage) (lh_of storage) s3 (x.r + j + 180 + 1) inner (later_none s3) refl
         (λ go2 on.
         read_follows P set needs n (x.r + j + 180) x.p x.h x.types (array_type typed_.at) with_array x.out inner x.s x.w x.t storage x.holds (show_v
         (inner_at j storage s1 made last1)) go2
-        (λ g ms a u s4 w4 t4 gg ee hh st. more P (x.r + j + 100 + 6) (x.r + j + 180 + left_over) n (rest_run (with_array a) s4) (go2 u w4 t4)
+        (λ g ms a u s4 w4 t4 gg ee hh st. more P (x.r + j + 150 + 6) (x.r + j + 180 + left_over) n (rest_run (with_array a) s4) (go2 u w4 t4)
         (omega arith) (on g ms a u s4 w4 t4 gg ee hh st)))
         (λ d i e2.
         let own : IsOwn P n (x.r + j + 180) x.p x.types (array_type typed_.at) (λ l. reads P l with_array x.out) inner x.s i =
@@ -362,16 +370,42 @@ module _ (P : Program) (set : Setting P) (needs : Needs P) (grow : StatesGrow P)
         (own.place, own.is_of))
         (λ f. f)
         (λ g ms a b u z s4 w4 t4 l o gg ee hh sta stb is_l is_o right.
-        more P (x.r + left_over + j + 30) (x.r + j + 100) n (rest_run (with_both a b) s4) (next l o w4 t4) (omega arith)
-        (element_found n (x.r + left_over) j x.p g ms s4 w4 t4 a b typed_.at u z x.ty l o x.go x.out go' hh sta stb is_l is_o typed_.shape
-        (λ k2 e2 at. onward g ms k2 e2 s4 w4 t4 gg ee hh at))))))
+        more P (x.r + left_over + j + 40 + 16) (x.r + j + 150) n (rest_run (with_both a b) s4) (next l o w4 t4) (omega arith)
+        (element_found n (x.r + left_over + j + 40) x.p g ms s4 w4 t4 a b typed_.at u z x.ty l o x.go x.out (tail l o) hh sta stb is_l is_o typed_.shape (omega arith)
+        (λ k2 at few fits. onward g ms s4 w4 t4 l o u z k2 gg ee hh at is_l is_o few fits))))))
+
+    made_follows : (storage : Storage) (s1 s2 s3 : TranslationState) (m : Made) (y : Tx) → locate P.findings v x.p.within x.σ ≡ drawn storage s1 →
+        expression P.findings e want.Value x.p.within s1 ≡ drawn m s2 →
+        value_of m s2 ≡ drawn y s3 → Later (held_as y (sh_of storage s3) (holding y)).after x.τ → Later s1 x.τ →
+        StorageFollows P n x.r x.p x.h x.types x.ty x.go (place_source P n (Index v e) x) x.s x.w x.t (made_of storage s3 y)
+    made_follows storage s1 s2 s3 m y made made_e made_y last last1 j go' onward =
+        tail_follows storage s1 s2 s3 m y made made_e made_y last last1 j
+        (λ l o w1 t1. charged j (value_runs P x.p (element (operand l) (operand o)) x.p.around go' w1 t1))
+        (λ g ms s4 w4 t4 l o u z k gg ee hh at is_l is_o few fits.
+        worked P (x.r + left_over + 14) (x.r + left_over + j + 40) j n (rest_run (x.go k) s4) (value_runs P x.p (element (operand l) (operand o)) x.p.around go' w4 t4) (omega arith)
+        (addressed x.p l o u z (x.r + left_over) n (rest_run (x.go k) s4) go' w4 t4 is_l is_o few fits (onward g ms k (u + 4 + 4 * z) s4 w4 t4 gg ee hh at)))
 
     -- the index is held behind the array
     abbrev after_hold : Stms → Operand → Tx → Acts Storage
     after_hold before a y s = after (hold true before y s) (λ (h : Held) s2. drawn (element_of h.before (operand a) (operand h.operand)) s2)
 
-    pub element_shown : StorageFollows P n x.r x.p x.h x.types x.ty x.go (place_source P n (Index v e) x) x.s x.w x.t x.storage
-    element_shown =
+    -- what its translation is
+    pub record ElementMade : Type 0 where
+      pub storage : Storage
+      pub s1 : TranslationState
+      pub s2 : TranslationState
+      pub s3 : TranslationState
+      pub m : Made
+      pub y : Tx
+      pub made : locate P.findings v x.p.within x.σ ≡ drawn storage s1
+      pub made_e : expression P.findings e want.Value x.p.within s1 ≡ drawn m s2
+      pub made_y : value_of m s2 ≡ drawn y s3
+      pub all : drawn (made_of storage s3 y) (held_as y (sh_of storage s3) (holding y)).after ≡ drawn x.storage x.τ
+      pub last : Later (held_as y (sh_of storage s3) (holding y)).after x.τ
+      pub from_array : Later s1 x.τ
+
+    pub element_made : ElementMade
+    element_made =
         let i = after_inv (locate P.findings v x.p.within x.σ) _ x.storage x.τ x.is_made in
         let storage : Storage = i.0 in
         let s1 : TranslationState = i.1 in
@@ -389,4 +423,23 @@ module _ (P : Program) (set : Setting P) (needs : Needs P) (grow : StatesGrow P)
         let l1 : Later s1 s3 = later_on s1 k.1 s3 (grow e want.Value x.p.within k.0 s1 k.1 k.2) (later_value k.0 k.1 s3 y k.3) in
         let l2 : Later s1 x.τ = later_on s1 s3 x.τ l1 (later_on s3 sh x.τ (left_later (assigns_nothing e) (read storage) s3 (lh_of storage))
         (later_on sh r2.after x.τ r2.later last)) in
-        by_storage P n (Index v e) x (made_of storage s3 y) r2.after all (made_follows storage s1 k.1 s3 k.0 y i.2 k.2 k.3 last l2)
+        record {
+          storage = storage;
+          s1 = s1;
+          s2 = k.1;
+          s3 = s3;
+          m = k.0;
+          y = y;
+          made = i.2;
+          made_e = k.2;
+          made_y = k.3;
+          all = all;
+          last = last;
+          from_array = l2;
+        }
+
+    pub element_shown : StorageFollows P n x.r x.p x.h x.types x.ty x.go (place_source P n (Index v e) x) x.s x.w x.t x.storage
+    element_shown =
+        let q = element_made in
+        by_storage P n (Index v e) x (made_of q.storage q.s3 q.y) (held_as q.y (sh_of q.storage q.s3) (holding q.y)).after q.all
+        (made_follows q.storage q.s1 q.s2 q.s3 q.m q.y q.made q.made_e q.made_y q.last q.from_array)

@@ -1,5 +1,5 @@
 -- Every expression does what it means: by induction on the tree, and on the fuel that is left.
-use Rattle.std.proofs.Common.{◌≡◌, ℕ, zero, suc, ◌<◌, ◌≤◌, Some, Bool, true, false, refl, sym, arith, subst, inl, inr}
+use Rattle.std.proofs.Common.{◌≡◌, ℕ, zero, suc, ◌<◌, ◌≤◌, Some, refl, sym, arith, subst, inl, inr}
 use Rattle.std.proofs.lemmas.Bool.{cases_lt}
 use Rattle.tg_base.specs.declared.ids.Span.{Span}
 use Rattle.tg_syntax.specs.declared.tokens.Ident.{Ident}
@@ -14,19 +14,17 @@ use Rattle.tg_types.specs.Scopes.{Scope, name_of, standard_one, signature}
 use Rattle.tg_types.specs.Has as has
 use Rattle.tg_types.specs.Has.{Has, HasValues, HaveValues, Fits}
 use Rattle.tg_translate.specs.Purity.{assigns_nothing}
-use Rattle.tg_translate.specs.Updates.{begins_with}
 use Rattle.tg_translate_meaning.specs.Situations.{Program, Part, Setting, MayAssign}
-use Rattle.tg_translate_meaning.specs.Shown.{Shown, IsShown, ExpressionFollows}
+use Rattle.tg_translate_meaning.specs.Shown.{Shown, ExpressionFollows}
 use Rattle.tg_translate_meaning.proofs.Pieces.{StatesGrow}
 use Rattle.tg_translate_meaning.proofs.Growing.{states_grow}
 use Rattle.tg_translate_meaning.proofs.Needed.{needs}
-use Rattle.tg_translate_meaning.proofs.Locating.{PlaceShown}
 use Rattle.tg_translate_meaning.proofs.Places.{IndicesShown, place_shown}
 use Rattle.tg_translate_meaning.proofs.Standards.{Owns, objects_are_owned}
 use Rattle.tg_translate_meaning.proofs.Seeing.{is_seen}
 use Rattle.tg_translate_meaning.proofs.Sides.{both_true}
 use Rattle.tg_translate_meaning.proofs.Rights.{RightsShown}
-use Rattle.tg_translate_meaning.proofs.Assigning.{assign_shown}
+use Rattle.tg_translate_meaning.proofs.Updating.{assign_shown}
 use Rattle.tg_translate_meaning.proofs.Simple.{nil_shown, int_shown, break_shown}
 use Rattle.tg_translate_meaning.proofs.Texts.{text_shown}
 use Rattle.tg_translate_meaning.proofs.Reading.{read_shown}
@@ -45,25 +43,6 @@ use Rattle.tg_translate_meaning.proofs.Delivering.{seq_shown}
 use Rattle.tg_translate_meaning.proofs.Calls as calls
 use Rattle.tg_translate_meaning.proofs.Calls.{arguments_known, call_shown, StandardShown}
 use Rattle.tg_translate_meaning.proofs.StandardCalls.{standard_call_shown}
-
--- what is shown of assignments
-abbrev pub AssignmentsShown : Program → Type 0
-AssignmentsShown P =
-    (n : ℕ) (sp : Span) (v : LValue) (e : Exp) → PlaceShown P n v → Shown P n e → RightsShown P n e → Shown P n (Assign sp v e)
-
--- and of those whose value begins with a read of their place
-abbrev pub UpdatesShown : Program → Type 0
-UpdatesShown P =
-    (n : ℕ) (sp : Span) (v : LValue) (e : Exp) → begins_with P.findings.meaning e v ≡ true → PlaceShown P n v → Shown P n e →
-    RightsShown P n e → Shown P n (Assign sp v e)
-
--- the others are plain
-pub assignments_shown : (P : Program) → Setting P → UpdatesShown P → AssignmentsShown P
-assignments_shown P set updates n sp v e place value rights x = by (begins_with P.findings.meaning e v) refl
-  where
-    by : (b : Bool) → begins_with P.findings.meaning e v ≡ b → IsShown P n (Assign sp v e) x
-    by true is = updates n sp v e is place value rights x
-    by false is = assign_shown P set (needs P set) (states_grow P) n sp v e place value x is
 
 -- with less fuel, or with this
 at_most : (P : Program) (n : ℕ) (inner : (m : ℕ) → m < n → (e : Exp) → Shown P m e) (e : Exp) → Shown P n e → (m : ℕ) → m ≤ n → Shown P m e
@@ -134,7 +113,7 @@ module _ (P : Program) (set : Setting P) (grow : StatesGrow P) (owns : Owns P) (
       (record { shown = show_item; typed = y.item_typed; words = x.words.1; covers = x.covers.1; may_assign = may.1 })
 
 -- By induction on the tree, with everything shown for less fuel.
-module _ (P : Program) (set : Setting P) (assignments : AssignmentsShown P) (n : ℕ) (inner : (m : ℕ) → m < n → (e : Exp) → Shown P m e) where
+module _ (P : Program) (set : Setting P) (n : ℕ) (inner : (m : ℕ) → m < n → (e : Exp) → Shown P m e) where
   abbrev owns : Owns P
   owns = objects_are_owned P
 
@@ -162,7 +141,10 @@ module _ (P : Program) (set : Setting P) (assignments : AssignmentsShown P) (n :
         λ x. make_shown P set grow owns n sp name inits all x
     expression_shown (Fill sp name size item) = array_shown P set grow owns n sp name size item (expression_shown size) (expression_shown item)
     expression_shown (Assign sp v e) =
-        assignments n sp v e (place_shown P set (needs P set) grow n v (indices_shown v)) (expression_shown e) (rights_shown e)
+        let places = indices_shown v in
+        let shown_e = expression_shown e in
+        let rights = rights_shown e in
+        λ x. assign_shown P set (needs P set) grow n sp v e places shown_e rights x
     expression_shown (If sp c a b) = if_shown P set grow n sp c a b (expression_shown c) (expression_shown a) (expression_shown b)
     expression_shown (When sp c a) = when_shown P set grow n sp c a (expression_shown c) (expression_shown a)
     expression_shown (While sp c a) =
@@ -208,15 +190,15 @@ module _ (P : Program) (set : Setting P) (assignments : AssignmentsShown P) (n :
     decs_shown (functions fs rest) = decs_shown rest
 
 -- By induction on the fuel.
-module _ (P : Program) (set : Setting P) (assignments : AssignmentsShown P) where
+module _ (P : Program) (set : Setting P) where
   below_shown : (n m : ℕ) → m < n → (e : Exp) → Shown P m e
   below_shown zero m lt e = absurd (omega (arith, lt))
   below_shown (suc n) m lt e =
-      expression_shown P set assignments m (λ k less o. below_shown n k (omega (arith, lt, less)) o) e
+      expression_shown P set m (λ k less o. below_shown n k (omega (arith, lt, less)) o) e
 
   pub all_expressions_shown : (n : ℕ) (e : Exp) → Shown P n e
-  all_expressions_shown n e = expression_shown P set assignments n (below_shown n) e
+  all_expressions_shown n e = expression_shown P set n (below_shown n) e
 
--- where updates do, each expression does what it means
-pub expressions_follow : ((P : Program) → Setting P → UpdatesShown P) → (P : Program) (n : ℕ) → ExpressionFollows P n
-expressions_follow updates P n set e = all_expressions_shown P set (assignments_shown P set (updates P set)) n e
+-- each expression does what it means
+pub expressions_follow : (P : Program) (n : ℕ) → ExpressionFollows P n
+expressions_follow P n set e = all_expressions_shown P set n e

@@ -22,6 +22,9 @@ use Rattle.tg_types.specs.Scopes.{name_of, at_of}
 use Rattle.tg_types.specs.Has as has
 use Rattle.tg_types.specs.Has.{HasPlace, Says}
 use Rattle.tg_tree.specs.Tree.{Tx, Temp, Const, Load, After, Move, Ts, Fault, Stms, no_stms, stm}
+use Rattle.tg_tree.specs.declared.operators.Bin.TheVariants.{Add}
+use Rattle.tg_tree.specs.Operators.{word, operate}
+use Rattle.tg_tree.specs.FlatValue.{or_wrong, onward}
 use Rattle.tg_tree.specs.Forms.{nothing as nothing_done}
 use Rattle.tg_tree.specs.Actions.{World, Temps, set_temp, Go, Next, charged, with_word}
 use Rattle.tg_translate.specs.States.{TranslationState, Drawn, drawn, after, with_frame, one_temp}
@@ -35,7 +38,7 @@ use Rattle.tg_translate_meaning.specs.Shown.{FollowsHere, left_over, work_factor
 use Rattle.tg_translate_meaning.proofs.States.{made_in, state_in, after_inv, later_none, later_on, behind_none, front_none}
 use Rattle.tg_translate_meaning.proofs.Making.{worked, set_here, holds_with_temp, grows_none, grows_on}
 use Rattle.tg_translate_meaning.proofs.Pieces.{more, paid, extends_none, extends_on, ready_part, stop_follows}
-use Rattle.tg_translate_meaning.proofs.Locating.{IsAt, a_field, Needs, PlaceSituation, PlaceShown, PlaceOnward, StorageFollows, IsOwn, reads, locates, place_source, by_storage}
+use Rattle.tg_translate_meaning.proofs.Locating.{IsAt, a_field, AddressIs, ToldFollows, untold, Needs, PlaceSituation, PlaceShown, PlaceOnward, StorageFollows, IsOwn, reads, locates, place_source, by_storage}
 use Rattle.tg_translate_meaning.proofs.Accessing.{field_at, heap_below}
 use Rattle.tg_translate_meaning.proofs.Reading.{own_value, read_follows}
 
@@ -63,6 +66,12 @@ module _ (P : Program) where
       (worked P q (q + 2) 2 n c (go' (add a (suc m)) w t) (omega arith)
       (subst (λ o. FollowsHere P q n c (go' o w t)) (sym sum) f))))
 
+  pub plus_is : (p : Part) (i a m : ℕ) (w : World) (t : Temps) → t i ≡ Some a → a + m < 2 ^ 32 → AddressIs P p w t (plus (Temp i) m) (a + m)
+  plus_is p i a zero w t has small = let e : a ≡ a + 0 = omega arith in ap or_wrong has ∙ ap word e
+  plus_is p i a (suc m) w t has small =
+      let sum : add a (suc m) ≡ a + suc m = omega (arith, small) in
+      ap (λ o. onward (or_wrong o) (λ u. onward (word (suc m)) (λ v. operate Add u v))) has ∙ ap word sum
+
   -- the check for nil, by whether the word is 0
   pub nil_checked : (p : Part) (i u q n : ℕ) (c : Run Source) (next : Next) (w : World) (t : Temps) → t i ≡ Some u →
       FollowsHere P q n c ((if u == 0 then statement_runs P p (Fault 2) else statement_runs P p nothing_done) p.around next w t) →
@@ -84,7 +93,7 @@ module _ (P : Program) (set : Setting P) (needs : Needs P) where
   pub field_found : (n q j : ℕ) (p : Part) (h : Holdings) (types : List Ty) (s : SourceWorld) (w : World) (t : Temps) (v : Value) (at name k i u : ℕ) (ty : Ty) (fs : List (ℕ × Ty))
       (go : Location → Rest) (out : Rest) (go' : Go ℕ) → Holds P p h types s w t → Stands h v (record_type at) u → t i ≡ Some u →
       named at P.shapes ≡ Some (record_shape fs) → placed name 0 fs ≡ Some (k, ty) →
-      ((l : Location) (z : ℕ) → IsAt P p.places h types l ty z → FollowsHere P q n (rest_run (go l) s) (go' z w t)) →
+      ((l : Location) (z : ℕ) → IsAt P p.places h types l ty z → AddressIs P p w t (plus (Temp i) (4 * k)) z → FollowsHere P q n (rest_run (go l) s) (go' z w t)) →
       FollowsHere P (q + j + 20) n (rest_run (located v name go out) s)
       (statements_run P p (stm (nil_check (Temp i)) no_stms) p.around (λ w1 t1. charged j (value_runs P p (plus (Temp i) (4 * k)) p.around go' w1 t1)) w t)
   field_found n q j p h types s w t _ _ name k i _ ty fs go out go' hh (a_nil_record at) has shape field onward =
@@ -92,7 +101,7 @@ module _ (P : Program) (set : Setting P) (needs : Needs P) where
       more P (q + 5 + 10) (q + j + 20) n (rest_run (located nil name go out) s) _ (omega arith)
       (nil_checked P p i 0 (q + 5) n (rest_run (located nil name go out) s) next w t has
       (more P 3 (q + 5) n _ _ (omega arith) (worked P 0 3 3 n _ _ (omega arith) (stop_follows P 0 n by_nil s w hh.invariant.input))))
-  field_found n q j p h types s w t _ _ name k i _ ty fs go out go' hh (a_record r at a object) has shape field onward =
+  field_found n q j p h types s w t _ _ name k i _ ty fs go out go' hh (a_record r at a object) has shape field onward_ =
       let next : Next = λ w1 t1. charged j (value_runs P p (plus (Temp i) (4 * k)) p.around go' w1 t1) in
       let x = field_at P set needs p h types s w t hh r name at a k ty fs object shape field in
       let low = (hh.invariant.in_heap r (a, record_of at) object).0 in
@@ -106,7 +115,8 @@ module _ (P : Program) (set : Setting P) (needs : Needs P) where
       (worked P (q + 3 + j) (q + 3 + j) 0 n source (next w t) (omega arith)
       (worked P (q + 3) (q + 3 + j) j n source (value_runs P p (plus (Temp i) (4 * k)) p.around go' w t) (omega arith)
       (plus_follows P p i a (4 * k) q n source go' w t has (omega (arith, known.1, under))
-      (onward (in_field r name) (a + 4 * k) (a_field r name at a k ty fs object shape field)))))))
+      (onward_ (in_field r name) (a + 4 * k) (a_field r name at a k ty fs object shape field)
+      (plus_is P p i a (4 * k) w t has (omega (arith, known.1, under)))))))))
 
   pub record FieldTyped (v : LValue) (f : Ident) (p : Part) (t : Ty) : Type 0 where
     pub at : ℕ
@@ -117,11 +127,11 @@ module _ (P : Program) (set : Setting P) (needs : Needs P) where
     pub field : placed (name_of f) 0 fs ≡ Some (k, t)
     pub says : Says P.notes (at_of f) (means.Field k)
 
-  field_typed : (v : LValue) (f : Ident) (p : Part) (t : Ty) → HasPlace P.shapes P.notes (Field v f) p.scope t → FieldTyped v f p t
+  pub field_typed : (v : LValue) (f : Ident) (p : Part) (t : Ty) → HasPlace P.shapes P.notes (Field v f) p.scope t → FieldTyped v f p t
   field_typed v f p t (has.field at fs k hv shape is field says) = record { at = at; fs = fs; k = k; record_typed = hv; shape = shape; field = field; says = says }
 
   module _ (n : ℕ) (v : LValue) (f : Ident) (show_v : PlaceShown P n v) (x : PlaceSituation P n (Field v f)) where
-    abbrev typed_ : FieldTyped v f x.p x.ty
+    abbrev pub typed_ : FieldTyped v f x.p x.ty
     typed_ = field_typed v f x.p x.ty x.typed
 
     abbrev name : ℕ
@@ -161,9 +171,9 @@ module _ (P : Program) (set : Setting P) (needs : Needs P) where
     }
 
     -- where the record stands in a temporary of its own
-    loaded : (t1 : ℕ) (storage : Storage) (s1 : TranslationState) → x.p.places (temporary x.p.scene.depth t1) ≡ nowhere → locate P.findings v x.p.within x.σ ≡ drawn storage s1 → Later s1 x.τ →
-        StorageFollows P n x.r x.p x.h x.types x.ty x.go (place_source P n (Field v f) x) x.s x.w x.t
-        (at_address (stm (Move t1 (read storage)) (stm (nil_check (Temp t1)) no_stms)) (plus (Temp t1) (4 * typed_.k)))
+    pub loaded : (t1 : ℕ) (storage : Storage) (s1 : TranslationState) → x.p.places (temporary x.p.scene.depth t1) ≡ nowhere → locate P.findings v x.p.within x.σ ≡ drawn storage s1 → Later s1 x.τ →
+        ToldFollows P n x.r x.p x.h x.types x.ty x.go (place_source P n (Field v f) x) x.w x.t
+        (stm (Move t1 (read storage)) (stm (nil_check (Temp t1)) no_stms)) (plus (Temp t1) (4 * typed_.k))
     loaded t1 storage s1 idle made last j go' onward =
         let next : Next = λ w1 t1_. charged j (value_runs P x.p (plus (Temp t1) (4 * typed_.k)) x.p.around go' w1 t1_) in
         let go2 : Go ℕ = λ u w1 t2. statements_run P x.p (stm (nil_check (Temp t1)) no_stms) x.p.around next w1 (set_temp t1 u t2) in
@@ -174,12 +184,12 @@ module _ (P : Program) (set : Setting P) (needs : Needs P) where
         let hh2 : Holds P x.p g ms s2 w2 (set_temp t1 u t2) = holds_with_temp P x.p g ms s2 w2 t2 t1 u idle hh in
         more P (x.r + left_over + j + 20) (x.r + j + 150 + left_over) n (rest_run (with_record val) s2) (go2 u w2 t2) (omega arith)
         (field_found n (x.r + left_over) j x.p g ms s2 w2 (set_temp t1 u t2) val typed_.at name typed_.k t1 u x.ty typed_.fs x.go x.out go' hh2 st (set_here t1 u t2) typed_.shape typed_.field
-        (λ l z at. onward g ms l z s2 w2 (set_temp t1 u t2) gg ee hh2 at)))))
+        (λ l z at is. onward g ms l z s2 w2 (set_temp t1 u t2) gg ee hh2 at is)))))
 
     -- where it stands in its variable's
-    direct : (i : ℕ) (s1 : TranslationState) → locate P.findings v x.p.within x.σ ≡ drawn (in_temp i) s1 → Later s1 x.τ →
-        StorageFollows P n x.r x.p x.h x.types x.ty x.go (place_source P n (Field v f) x) x.s x.w x.t
-        (at_address (stm (nil_check (Temp i)) no_stms) (plus (Temp i) (4 * typed_.k)))
+    pub direct : (i : ℕ) (s1 : TranslationState) → locate P.findings v x.p.within x.σ ≡ drawn (in_temp i) s1 → Later s1 x.τ →
+        ToldFollows P n x.r x.p x.h x.types x.ty x.go (place_source P n (Field v f) x) x.w x.t
+        (stm (nil_check (Temp i)) no_stms) (plus (Temp i) (4 * typed_.k))
     direct i s1 made last j go' onward =
         let own : IsOwn P n (x.r + j + 150) x.p x.types (record_type typed_.at) (λ l. reads P l with_record x.out) inner x.s i = show_v (inner_at j (in_temp i) s1 made last) in
         let y = own_value P set needs x.p x.h x.types x.s x.w x.t (record_type typed_.at) own.place i x.holds own.is_of own.type_is in
@@ -192,7 +202,7 @@ module _ (P : Program) (set : Setting P) (needs : Needs P) where
         (λ c. ap (λ o. rest_run (with_found o with_record) x.s c) y.has) (λ c. refl)
         (more P (x.r + left_over + j + 20) (x.r + j + 150 + 256) n (rest_run (with_record y.v) x.s) target (omega arith)
         (field_found n (x.r + left_over) j x.p x.h x.types x.s x.w x.t y.v typed_.at name typed_.k i y.word x.ty typed_.fs x.go x.out go' x.holds y.stands y.there typed_.shape typed_.field
-        (λ l z at. onward x.h x.types l z x.s x.w x.t (grows_none x.h) (extends_none x.types) x.holds at))))))
+        (λ l z at is. onward x.h x.types l z x.s x.w x.t (grows_none x.h) (extends_none x.types) x.holds at is))))))
 
     abbrev kept_state : TranslationState → TranslationState
     kept_state s = with_frame (one_temp s.frame) s
@@ -201,7 +211,8 @@ module _ (P : Program) (set : Setting P) (needs : Needs P) where
         StorageFollows P n x.r x.p x.h x.types x.ty x.go (place_source P n (Field v f) x) x.s x.w x.t x.storage
     by_place (in_temp i) s1 made rest =
         let last : Later s1 x.τ = subst (λ o. Later s1 o) (ap state_in rest) (later_none s1) in
-        by_storage P n (Field v f) x (at_address (stm (nil_check (Temp i)) no_stms) (plus (Temp i) (4 * typed_.k))) s1 rest (direct i s1 made last)
+        by_storage P n (Field v f) x (at_address (stm (nil_check (Temp i)) no_stms) (plus (Temp i) (4 * typed_.k))) s1 rest
+        (untold P n x.r x.p x.h x.types x.ty x.go (place_source P n (Field v f) x) x.s x.w x.t (stm (nil_check (Temp i)) no_stms) (plus (Temp i) (4 * typed_.k)) (direct i s1 made last))
     by_place (at_address b a) s1 made rest =
         let t1 : ℕ = s1.frame.temps in
         let before = needs.place_grows v x.p.within (at_address b a) x.σ s1 made in
@@ -218,7 +229,8 @@ module _ (P : Program) (set : Setting P) (needs : Needs P) where
         let last : Later s1 x.τ = subst (λ o. Later s1 o) (ap state_in all) to_kept in
         let drawn_one : t1 < x.τ.frame.temps = subst (λ (o : TranslationState). t1 < o.frame.temps) (ap state_in all) (omega arith) in
         by_storage P n (Field v f) x (at_address (stm (Move t1 (after_all b (Load a))) (stm (nil_check (Temp t1)) no_stms)) (plus (Temp t1) (4 * typed_.k))) (kept_state s1) all
-        (loaded t1 (at_address b a) s1 (x.ready.temps_free t1 before.temps drawn_one) made last)
+        (untold P n x.r x.p x.h x.types x.ty x.go (place_source P n (Field v f) x) x.s x.w x.t (stm (Move t1 (after_all b (Load a))) (stm (nil_check (Temp t1)) no_stms)) (plus (Temp t1) (4 * typed_.k))
+        (loaded t1 (at_address b a) s1 (x.ready.temps_free t1 before.temps drawn_one) made last))
 
     pub field_shown : StorageFollows P n x.r x.p x.h x.types x.ty x.go (place_source P n (Field v f) x) x.s x.w x.t x.storage
     field_shown =

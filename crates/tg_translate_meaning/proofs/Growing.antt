@@ -157,7 +157,7 @@ assign_grows (at_address ss a) m s = then_grows (value_grows m s) (λ x t. stays
 base_grows : (ss : Stms) (x : Tx) (address : Operand → HeldAddress) (s : TranslationState) → Growing (hold_base ss x address s) s
 base_grows ss x address s = then_grows (hold_grows true ss x s) (λ h t. stays)
 
-hold_address_grows : (ss : Stms) (a : Tx) (s : TranslationState) → Growing (hold_address ss a s) s
+pub hold_address_grows : (ss : Stms) (a : Tx) (s : TranslationState) → Growing (hold_address ss a s) s
 hold_address_grows ss (tree.Binary o FrameAddress (Const k)) s = stays
 hold_address_grows ss (tree.Binary o x (Const k)) s = base_grows ss x (λ p. Beside p o k) s
 hold_address_grows ss a s = base_grows ss a (λ p. At p) s
@@ -416,7 +416,7 @@ module _ (findings : Findings) where
     expression_grows (Seq _ es) w within s =
         then_grows (sequence_grows es w no_stms within s) (λ begun t. behind_grows w begun.before begun.last t)
 
-    behind_grows_read : (e : Exp) (x : Tx) (w : Want) (within : Within) (s : TranslationState) → Growing (behind_read findings e x w within s) s
+    pub behind_grows_read : (e : Exp) (x : Tx) (w : Want) (within : Within) (s : TranslationState) → Growing (behind_read findings e x w within s) s
     behind_grows_read (Binary _ o at a b) x w within s =
         then_grows (behind_grows_read a x (left_want o) within s)
         (λ left t. with_left_grows (λ v u. expression_grows b v within u) o (findings.meaning at) (assigns_nothing b) w left t)

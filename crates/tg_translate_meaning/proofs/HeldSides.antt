@@ -24,12 +24,13 @@ use Rattle.tg_translate.specs.Translate.{expression}
 use Rattle.tg_translate_meaning.specs.Tables.{Later}
 use Rattle.tg_translate_meaning.specs.Worlds.{Holdings, GrowsTo, Stands, temporary, IsOf}
 use Rattle.tg_translate_meaning.specs.Situations.{Program, Part, Setting, Holds, Extends, statements_run}
-use Rattle.tg_translate_meaning.specs.Shown.{Shown, Situation, FollowsHere, IsNamed, left_over, evaluates}
+use Rattle.tg_translate_meaning.specs.Shown.{Shown, SituationBy, FollowsHere, IsNamed, left_over, evaluates}
 use Rattle.tg_translate_meaning.proofs.States.{made_in, after_inv, later_none, later_on, later_value}
-use Rattle.tg_translate_meaning.proofs.Pieces.{StatesGrow, more, extends_none, ready_part}
+use Rattle.tg_translate_meaning.proofs.Lefts.{LeftSide, binary_by}
+use Rattle.tg_translate_meaning.proofs.Pieces.{StatesGrow, LeftPiece, first_value, first_named, from, more, extends_none, ready_part}
 use Rattle.tg_translate_meaning.proofs.Standing.{int_has_values}
 use Rattle.tg_translate_meaning.proofs.Sides.{Sides, may_left, may_right}
-use Rattle.tg_translate_meaning.proofs.Asking.{Standing, Asked, asked_value, asked_named, asked_source}
+use Rattle.tg_translate_meaning.proofs.Asking.{Standing, Asked, asked_named, asked_source}
 use Rattle.tg_translate_meaning.proofs.Holding.{Holding, HeldAs, holding, holding_plain, OperandIs, IsAnother, a_number, a_temp, always, another, held_as, kept_later}
 use Rattle.tg_translate_meaning.proofs.Over.{LeftHeld, as_number, as_variable, as_kept, left_extra, left_operand, left_state, both_follow}
 
@@ -73,13 +74,16 @@ named_temp P n r p s go source (value z) s1 s2 y i e is named =
 named_temp P n r p s go source (done z) s1 s2 y i e is named = let f = ap made_in e ∙ is in cc
 named_temp P n r p s go source (test c) s1 s2 y i e is named = let f = ap made_in e ∙ is in cc
 
-module _ (P : Program) (set : Setting P) (grow : StatesGrow P) (n : ℕ) (sp : Span) (o : Op) (at : ℕ) (a b : Exp) (show_a : Shown P n a) (show_b : Shown P n b)
-    (x : Situation P n (Binary sp o at a b)) (type_a : Has P.shapes P.notes a x.p.scope int_type) (type_b : Has P.shapes P.notes b x.p.scope int_type) where
+module _ (P : Program) (set : Setting P) (grow : StatesGrow P) (n : ℕ) (sp : Span) (o : Op) (at : ℕ) (a b : Exp) (show_a : LeftSide P n a) (show_b : Shown P n b)
+    (x : SituationBy P n (Binary sp o at a b) (binary_by P o at b show_a.by)) (starts : show_a.here x.p x.h x.types x.s x.w x.t) (type_a : Has P.shapes P.notes a x.p.scope int_type) (type_b : Has P.shapes P.notes b x.p.scope int_type) where
   abbrev pub operator : Exp
   operator = Binary sp o at a b
 
   abbrev pub direct : Bool
   direct = assigns_nothing b
+
+  abbrev left_piece : LeftPiece P set grow n operator x a show_a int_type
+  left_piece = record { begun = starts; typed = type_a; words = x.words.0; covers = x.covers.0; may_assign = may_left P x.p sp o at a b x.may_assign }
 
   -- what is made of both sides, where they are held
   abbrev pub held_first : (Stms → Tx → Tx → Acts Made) → Tx → Tx → Acts Made
@@ -87,7 +91,7 @@ module _ (P : Program) (set : Setting P) (grow : StatesGrow P) (n : ℕ) (sp : S
       after (hold direct no_stms l s) (λ (h : Held) s1. after (hold true h.before r s1) (λ (g : Held) s2. last g.before (operand h.operand) (operand g.operand) s2))
 
   abbrev pub BothSides : (Stms → Tx → Tx → Acts Made) → Type 0
-  BothSides last = Sides P set grow n operator a b x (held_first last)
+  BothSides last = Sides P set grow n operator a b show_a x (held_first last)
 
   -- where a side stands
   abbrev side_stands : (σ : TranslationState) → Later x.σ σ → Later σ x.τ → (r : ℕ) → x.r ≤ r → Standing P set grow n
@@ -131,8 +135,8 @@ module _ (P : Program) (set : Setting P) (grow : StatesGrow P) (n : ℕ) (sp : S
 
     pub left_later : Later x.σ q.τa
     left_later =
-        let i = after_inv (expression P.findings a want.Value x.p.within x.σ) value_of q.left q.τa q.made_left in
-        later_on x.σ i.1 q.τa (grow a want.Value x.p.within i.0 x.σ i.1 i.2) (later_value i.0 i.1 q.τa q.left i.3)
+        let i = after_inv (show_a.by want.Value x.p.within x.σ) value_of q.left q.τa q.made_left in
+        later_on x.σ i.1 q.τa (show_a.grows want.Value x.p.within i.0 x.σ i.1 i.2) (later_value i.0 i.1 q.τa q.left i.3)
 
     pub right_later : Later q.τa q.τb
     right_later =
@@ -145,11 +149,9 @@ module _ (P : Program) (set : Setting P) (grow : StatesGrow P) (n : ℕ) (sp : S
     module _ (rest : Later right_as.after x.τ) where
       pub left_named : (i : ℕ) → q.left ≡ Temp i → (place : ℕ) × IsOf place (x.p.places (temporary x.p.scene.depth i))
       left_named i is =
-          let k = after_inv (expression P.findings a want.Value x.p.within x.σ) value_of q.left q.τa q.made_left in
-          let st = side_stands x.σ (later_none x.σ) (later_on x.σ q.τa x.τ left_later (later_on q.τa q.τb x.τ right_later (later_on q.τb right_as.after x.τ both_later rest))) x.r (omega arith) in
-          let asked : Asked P set grow n st a int_type = record { shown = show_a; typed = type_a; words = x.words.0; covers = x.covers.0; may_assign = may_left P x.p sp o at a b x.may_assign } in
-          named_temp P n x.r x.p x.s (λ v. x.out) (asked_source P set grow n st a int_type asked (λ v. x.out)) k.0 k.1 q.τa q.left i k.3 is
-          (asked_named P set grow n st a int_type asked (λ v. x.out) want.Value k.0 k.1 int_has_values
+          let k = after_inv (show_a.by want.Value x.p.within x.σ) value_of q.left q.τa q.made_left in
+          named_temp P n x.r x.p x.s (λ v. x.out) (from P set grow n operator x a (λ v. x.out) x.s) k.0 k.1 q.τa q.left i k.3 is
+          (first_named P set grow n operator x x.r (omega arith) a show_a int_type left_piece want.Value k.0 k.1 (λ v. x.out) int_has_values
           (later_on k.1 q.τa x.τ (later_value k.0 k.1 q.τa q.left k.3) (later_on q.τa q.τb x.τ right_later (later_on q.τb right_as.after x.τ both_later rest))) k.2)
 
       pub right_named : (i : ℕ) → q.right ≡ Temp i → (place : ℕ) × IsOf place (x.p.places (temporary x.p.scene.depth i))
@@ -174,19 +176,17 @@ module _ (P : Program) (set : Setting P) (grow : StatesGrow P) (n : ℕ) (sp : S
           FollowsHere P (x.r + 255) n (rest_run (evaluates P a x.p.env (λ v. evaluates P b x.p.env (λ y. go v y) x.out) x.out) x.s)
           (statements_run P x.p left_before x.p.around (λ w1 t1. statements_run P x.p right_as.extra x.p.around (next left_is right_as.operand) w1 t1) x.w x.t)
       sides_held go next onward =
-          let i = after_inv (expression P.findings a want.Value x.p.within x.σ) value_of q.left q.τa q.made_left in
           let j = after_inv (expression P.findings b want.Value x.p.within q.τa) value_of q.right q.τb q.made_right in
           let whole_later : Later q.τa x.τ = later_on q.τa q.τb x.τ right_later (later_on q.τb right_as.after x.τ both_later rest) in
           let source : Run Source = rest_run (evaluates P a x.p.env (λ v. evaluates P b x.p.env (λ y. go v y) x.out) x.out) x.s in
-          let st = side_stands x.σ (later_none x.σ) (later_on x.σ q.τa x.τ left_later whole_later) (x.r + 249) (omega arith) in
-          let asked : Asked P set grow n st a int_type = record { shown = show_a; typed = type_a; words = x.words.0; covers = x.covers.0; may_assign = may_left P x.p sp o at a b x.may_assign } in
           let new : IsAnother q.right (holding q.right) → between.frame.temps < x.τ.frame.temps = λ an. let f = another_later q.right between (holding q.right) an in let g = rest.temps in omega (arith, f, g) in
           more P (x.r + 249 + 4 + 2) (x.r + 255) n source _ (omega arith)
           (both_follow P set grow n begun b int_type int_type int_has_values show_b type_b x.words.1 x.covers.1 (may_right P x.p sp o at a b x.may_assign)
           q.τa j.1 q.τb between j.0 q.right j.2 j.3 left_later (side_later direct q.left q.τb left_as) (later_on between right_as.after x.τ right_as.later rest) (holding q.right) new
           (x.r + 290) (omega arith) go next direct q.left left_as q.τb (x.r + 249 + 4) source (later_none q.τb) refl
           (λ go2 on.
-          asked_value P set grow n st a int_type asked (λ v. evaluates P b x.p.env (λ y. go v y) x.out) want.Value i.0 i.1 q.left q.τa tt int_has_values i.2 i.3 whole_later go2
-          (λ g ms v u s w t gg ee hh is. more P (x.r + 290 + 6) (x.r + 249 + 56) n _ _ (omega arith) (on g ms v u s w t gg ee hh is)))
+          first_value P set grow n operator x (x.r + 249) (omega arith) a show_a int_type left_piece (x.r + 249 + 4) (omega arith) int_has_values
+          q.left q.τa q.made_left whole_later (λ v. evaluates P b x.p.env (λ y. go v y) x.out) go2
+          (λ c v u l is. more P (x.r + 290 + 6) (x.r + 249 + 56) n _ _ (omega arith) (on c.h c.types v u c.s c.w c.t c.grows c.extends c.holds is)))
           (λ _. left_named) (λ f. f)
           (λ g ms v y u z s w t l r gg ee hh sv sy il ir right. onward g ms v y u z s w t l r gg ee hh sv sy il ir))

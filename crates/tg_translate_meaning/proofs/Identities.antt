@@ -43,6 +43,7 @@ use Rattle.tg_translate_meaning.specs.Situations.{Program, Setting, Holds, test_
 use Rattle.tg_translate_meaning.specs.Shown.{Situation, IsShown, FollowsHere, work_factor, left_over, evaluates, Onward, IsTold}
 use Rattle.tg_translate_meaning.proofs.States.{after_inv, state_in, later_none}
 use Rattle.tg_translate_meaning.proofs.Making.{by_made, worked, truth_is_set}
+use Rattle.tg_translate_meaning.proofs.Lefts.{LeftSide, plain_left}
 use Rattle.tg_translate_meaning.proofs.Pieces.{StatesGrow, Piece, Behind, at_begin, more, paid}
 use Rattle.tg_translate_meaning.proofs.Sides.{Sides, sides_of, sides_follow, lifted_small}
 use Rattle.tg_translate_meaning.proofs.Standing.{told_truth}
@@ -163,13 +164,16 @@ module _ (P : Program) (set : Setting P) (grow : StatesGrow P) (n : ℕ) (sp : S
   abbrev makes : Tx → Tx → Acts Made
   makes l r = give (test (comparison o (compares_strings (P.findings.meaning at)) l r))
 
-  sides : Sides P set grow n E_ a b x makes
+  abbrev left_side : LeftSide P n a
+  left_side = plain_left P n a (grow a) piece_a.shown
+
+  sides : Sides P set grow n E_ a b left_side x makes
   sides =
       let right : Want → Acts Made = λ v. expression P.findings b v x.p.within in
       let meaning = P.findings.meaning at in
       let i = after_inv (expression P.findings a (left_want o) x.p.within x.σ)
       (λ left. with_left o meaning (assigns_nothing b) x.wanted left right) x.m x.τ x.is_made in
-      sides_of P set grow n E_ a b x makes
+      sides_of P set grow n E_ a b left_side x makes
       (ap (λ v. after (expression P.findings a v x.p.within x.σ) (λ m s. both_made o meaning m right s)) (sym (wants_value o comp)) ∙
       (ap (λ d. after d (λ m s. both_made o meaning m right s)) i.2 ∙
       (sym (made_both o comp meaning (assigns_nothing b) x.wanted i.0 right i.1) ∙ i.3)))
@@ -201,7 +205,8 @@ module _ (P : Program) (set : Setting P) (grow : StatesGrow P) (n : ℕ) (sp : S
       (paid P x.r n sides_run whole
       (worked P (x.r + 246 + 4) (x.r + 256) (4 + lifted_units Trees (is_flat q.right)) n sides_run _
       (let small = lifted_small (is_flat q.right) in omega (arith, small))
-      (sides_follow P set grow n E_ a b x makes q ta tb piece_a piece_b (alike_left ta tb alike) (alike_right ta tb alike)
+      (sides_follow P set grow n E_ a b left_side x makes q ta tb
+      (record { begun = tt; typed = piece_a.typed; words = piece_a.words; covers = piece_a.covers; may_assign = piece_a.may_assign }) piece_b (alike_left ta tb alike) (alike_right ta tb alike)
       (subst (λ s. Later q.τb s) (ap state_in q.whole) (later_none q.τb)) (x.r + 246) (omega arith) goes_on
       (λ u k w2 t2. go' (holds one u k) w2 t2)
       (λ c v y u k l st st2.

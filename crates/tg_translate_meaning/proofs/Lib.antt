@@ -33,6 +33,7 @@ pub mod Framing
 pub mod Grouping
 pub mod Groups
 pub mod Growing
+pub mod HeldPlaces
 pub mod HeldSides
 pub mod Holding
 pub mod Homes
@@ -40,6 +41,7 @@ pub mod Identities
 pub mod Idle
 pub mod Joining
 pub mod Laying
+pub mod Lefts
 pub mod LetBlocks
 pub mod Letting
 pub mod Linking
@@ -70,6 +72,7 @@ pub mod Seeing
 pub mod Sequencing
 pub mod Sides
 pub mod Simple
+pub mod Spines
 pub mod StandardCalls
 pub mod Standards
 pub mod Standing
@@ -81,6 +84,8 @@ pub mod Tabling
 pub mod Texts
 pub mod Unworked
 pub mod Updates
+pub mod Updating
 pub mod Walking
 pub mod Whiling
 pub mod Whole
+pub mod Sizing

@@ -185,6 +185,22 @@ module _ (P : Program) where
       (g : Holdings) (ms : List Ty) (l : Location) (u : ℕ) (s : SourceWorld) (w : World) (t : Temps) → GrowsTo h g → Extends types ms → Holds P p g ms s w t →
       IsAt P p.places g ms l ty u → FollowsHere P r n (rest_run (go l) s) (go' u w t)
 
+  -- an address has this word
+  abbrev pub AddressIs : Part → World → Temps → Tx → ℕ → Type 0
+  AddressIs p w t a u = flat_value P.code.literals p.around.activation.base w.memory t a ≡ word u
+
+  -- the same, where what comes next may count on the address
+  abbrev pub ToldOnward : (n r : ℕ) → Part → Holdings → List Ty → Ty → Tx → (Location → Rest) → Go ℕ → Type 0
+  ToldOnward n r p h types ty a go go' =
+      (g : Holdings) (ms : List Ty) (l : Location) (u : ℕ) (s : SourceWorld) (w : World) (t : Temps) → GrowsTo h g → Extends types ms → Holds P p g ms s w t →
+      IsAt P p.places g ms l ty u → AddressIs p w t a u → FollowsHere P r n (rest_run (go l) s) (go' u w t)
+
+  -- what follows of an address behind checks, where what comes next may count on it
+  abbrev pub ToldFollows : (n r : ℕ) → Part → Holdings → List Ty → Ty → (Location → Rest) → Run Source → World → Temps → Stms → Tx → Type 0
+  ToldFollows n r p h types ty go source w t before a =
+      (j : ℕ) (go' : Go ℕ) → ToldOnward n (r + left_over) p h types ty a go go' →
+      FollowsHere P (r + j) n source (statements_run P p before p.around (λ w1 t1. charged j (value_runs P p a p.around go' w1 t1)) w t)
+
   -- a variable in a temporary of this activation, which evaluation does nothing but find
   pub record IsOwn (n r : ℕ) (p : Part) (types : List Ty) (ty : Ty) (go : Location → Rest) (source : Run Source) (s : SourceWorld) (i : ℕ) : Type 0 where
     pub place : ℕ
@@ -200,6 +216,11 @@ module _ (P : Program) where
   StorageFollows n r p h types ty go source s w t (at_address before a) =
       (j : ℕ) (go' : Go ℕ) → PlaceOnward n (r + left_over) p h types ty go go' →
       FollowsHere P (r + j) n source (statements_run P p before p.around (λ w1 t1. charged j (value_runs P p a p.around go' w1 t1)) w t)
+
+  pub untold : (n r : ℕ) (p : Part) (h : Holdings) (types : List Ty) (ty : Ty) (go : Location → Rest) (source : Run Source) (s : SourceWorld) (w : World) (t : Temps)
+      (before : Stms) (a : Tx) → ToldFollows n r p h types ty go source w t before a → StorageFollows n r p h types ty go source s w t (at_address before a)
+  untold n r p h types ty go source s w t before a f j go' onward =
+      f j go' (λ g ms l u s1 w1 t1 gg ee hh at is. onward g ms l u s1 w1 t1 gg ee hh at)
 
   abbrev pub place_source : (n : ℕ) (v : LValue) → PlaceSituation n v → Run Source
   place_source n v x = rest_run (locates v x.p.env x.go x.out) x.s
@@ -272,18 +293,18 @@ module _ (P : Program) where
   pub slot_flat : (p : Part) (level k : ℕ) → IsFlat (slot_address (frame_at p.within level) k)
   slot_flat p level k = (frame_is_flat p.within.link_in_slot (p.within.level - level), tt)
 
-  slot_length : (p : Part) (level k : ℕ) → expression_length Trees (slot_address (frame_at p.within level) k) ≤ 4 * (p.within.level - level) + 8
+  pub slot_length : (p : Part) (level k : ℕ) → expression_length Trees (slot_address (frame_at p.within level) k) ≤ 4 * (p.within.level - level) + 8
   slot_length p level k = let x = frame_length p.within.link_in_slot (p.within.level - level) in omega (arith, x)
 
   module _ (set : Setting P) (needs : Needs P) (n : ℕ) (v : Ident) (x : PlaceSituation n (Simple v)) where
-    abbrev typed_ : NameTyped v x.p x.ty
+    abbrev pub typed_ : NameTyped v x.p x.ty
     typed_ = name_typed v x.p x.ty x.typed
 
-    abbrev seen : SeenVariable P x.p x.types (name_of v) typed_.at x.ty
+    abbrev pub seen : SeenVariable P x.p x.types (name_of v) typed_.at x.ty
     seen = needs.sees x.p x.types x.σ x.τ v typed_.at x.ty typed_.loop x.ready x.covers typed_.is_bound typed_.says
 
     -- where it stands, by the translation
-    is_place : drawn (place_in (frame_at x.p.within seen.home.level) seen.home.access) x.σ ≡ drawn x.storage x.τ
+    pub is_place : drawn (place_in (frame_at x.p.within seen.home.level) seen.home.access) x.σ ≡ drawn x.storage x.τ
     is_place =
         let home_is : named typed_.at x.σ.homes ≡ Some seen.home = found_home P.table x.σ x.p.scope.bindings (name_of v) typed_.at x.ty typed_.loop x.ready.found typed_.is_bound ∙ seen.tabled in
         sym (ap (λ o. drawn (home_place x.p.within o) x.σ) home_is) ∙
@@ -295,7 +316,7 @@ module _ (P : Program) where
         ap (λ o. costs 1 (rest_run (with_found o
         (λ b w2 k. costs (levels_out x.p.env.level b) (evaluation.locate_variable Passing (passing P.heap P.stack) b x.go x.out w2 k))) x.s i)) seen.found
 
-    source_paid : (k q : ℕ) (d : Run Ran) → k ≤ q + 256 + 256 * (x.p.env.level - seen.level) → FollowsHere P k n (rest_run (x.go (in_variable seen.place)) x.s) d →
+    pub source_paid : (k q : ℕ) (d : Run Ran) → k ≤ q + 256 + 256 * (x.p.env.level - seen.level) → FollowsHere P k n (rest_run (x.go (in_variable seen.place)) x.s) d →
         FollowsHere P q n (place_source n (Simple v) x) d
     source_paid k q d le f =
         follows_along P.stack work_factor q n (λ i. costs 1 (costs (x.p.env.level - seen.level) (rest_run (x.go (in_variable seen.place)) x.s i))) (place_source n (Simple v) x) d d

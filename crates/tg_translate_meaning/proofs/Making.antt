@@ -27,6 +27,7 @@ use Rattle.tg_tree.specs.Tree.{Tx, Const, Temp, After, Cond, Ts, Move, Literal, 
 use Rattle.tg_tree.specs.Units.{Trees}
 use Rattle.tg_tree.specs.Actions.{World, Temps, set_temp, Around, Go, Next, with_word}
 use Rattle.tg_tree.specs.Meaning.{Enter, Point, value as value_runs, test as test_runs, run as runs}
+use Rattle.tg_translate.specs.declared.homes.Within.{Within}
 use Rattle.tg_translate.specs.declared.wants.Want.{Want}
 use Rattle.tg_translate.specs.declared.wants.Want.TheVariants as want
 use Rattle.tg_translate.specs.States.{TranslationState, Drawn, drawn, Acts, after}
@@ -175,14 +176,14 @@ module _ (P : Program) where
   abbrev pub Situation : ℕ → Exp → Type 0
   Situation = shown.Situation P
 
-  abbrev pub source_of : (n : ℕ) (e : Exp) → Situation n e → Run Source
+  abbrev pub source_of : {made_by : Want → Within → Acts Made} → (n : ℕ) (e : Exp) → shown.SituationBy P n e made_by → Run Source
   source_of n e x = rest_run (eval Passing (passing P.heap P.stack) (behind P.heap P.stack) e x.p.env x.go x.out) x.s
 
-  abbrev pub Made_follows : (n : ℕ) (e : Exp) → Situation n e → Made → Type 0
+  abbrev pub Made_follows : {made_by : Want → Within → Acts Made} → (n : ℕ) (e : Exp) → shown.SituationBy P n e made_by → Made → Type 0
   Made_follows n e x m = shown.MadeFollows P n x.r x.p x.h x.types x.wanted x.ty x.go (source_of n e x) x.w x.t m
 
   -- a case that is made this
-  pub by_made : (n : ℕ) (e : Exp) (x : Situation n e) (m : Made) (s : TranslationState) → drawn m s ≡ drawn x.m x.τ → shown.IsNamed P n x.r x.p x.s x.go (source_of n e x) m → Made_follows n e x m → shown.IsShown P n e x
+  pub by_made : {made_by : Want → Within → Acts Made} → (n : ℕ) (e : Exp) (x : shown.SituationBy P n e made_by) (m : Made) (s : TranslationState) → drawn m s ≡ drawn x.m x.τ → shown.IsNamed P n x.r x.p x.s x.go (source_of n e x) m → Made_follows n e x m → shown.IsShown P n e x
   by_made n e x m s eq named f = (subst (λ o. shown.IsNamed P n x.r x.p x.s x.go (source_of n e x) o) (ap made_in eq) named, subst (λ o. Made_follows n e x o) (ap made_in eq) f)
 
   abbrev pub vals : Part → Tx → Around → Go ℕ → World → Temps → Run Ran

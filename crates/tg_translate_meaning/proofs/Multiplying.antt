@@ -35,9 +35,10 @@ use Rattle.tg_translate.specs.Purity.{assigns_nothing}
 use Rattle.tg_translate_meaning.specs.Tables.{Later}
 use Rattle.tg_translate_meaning.specs.Worlds.{Holdings, GrowsTo, Stands, an_int, temporary, nowhere, IsOf}
 use Rattle.tg_translate_meaning.specs.Situations.{Program, Setting, Holds, Extends, value_runs, statement_runs, statements_run}
-use Rattle.tg_translate_meaning.specs.Shown.{Shown, IsShown, Situation, FollowsHere, Onward, IsWanted, left_over, evaluates}
+use Rattle.tg_translate_meaning.specs.Shown.{Shown, IsShown, Situation, SituationBy, FollowsHere, Onward, IsWanted, left_over, evaluates}
 use Rattle.tg_translate_meaning.proofs.States.{state_in, later_none, later_on}
 use Rattle.tg_translate_meaning.proofs.Making.{by_made, wanted_of, worked, set_here, holds_with_temp}
+use Rattle.tg_translate_meaning.proofs.Lefts.{LeftSide, plain_left, binary_by}
 use Rattle.tg_translate_meaning.proofs.Pieces.{StatesGrow, more, paid}
 use Rattle.tg_translate_meaning.proofs.Placing.{of_is_used}
 use Rattle.tg_translate_meaning.proofs.Standing.{stands_int}
@@ -101,7 +102,8 @@ right_free _ s (a_temp i) p le apart = ne_eqb i p (apart i refl)
 right_free y s (always _) p le apart = ne_eqb s.frame.temps p (λ f. omega (arith, le, f))
 right_free y s (another _ e) p le apart = ne_eqb s.frame.temps p (λ f. omega (arith, le, f))
 
-module _ (P : Program) (set : Setting P) (grow : StatesGrow P) (n : ℕ) (sp : Span) (at : ℕ) (a b : Exp) (show_a : Shown P n a) (show_b : Shown P n b) (x : Situation P n (Binary sp op.Times at a b))
+module _ (P : Program) (set : Setting P) (grow : StatesGrow P) (n : ℕ) (sp : Span) (at : ℕ) (a b : Exp) (show_a : LeftSide P n a) (show_b : Shown P n b)
+    (x : SituationBy P n (Binary sp op.Times at a b) (binary_by P op.Times at b show_a.by)) (starts : show_a.here x.p x.h x.types x.s x.w x.t)
     (is_int : x.ty ≡ int_type) (type_a : Has P.shapes P.notes a x.p.scope int_type) (type_b : Has P.shapes P.notes b x.p.scope int_type) where
   abbrev Product_ : Exp
   Product_ = Binary sp op.Times at a b
@@ -199,25 +201,25 @@ module _ (P : Program) (set : Setting P) (grow : StatesGrow P) (n : ℕ) (sp : S
 
   pub times_follows : IsShown P n Product_ x
   times_follows =
-      let q = sides_of P set grow n Product_ a b x (held_first P set grow n sp op.Times at a b show_a show_b x type_a type_b times_last) x.is_made in
-      let le : Stms = left_before P set grow n sp op.Times at a b show_a show_b x type_a type_b times_last q in
-      let lo : Operand = left_is P set grow n sp op.Times at a b show_a show_b x type_a type_b times_last q in
-      let held = right_as P set grow n sp op.Times at a b show_a show_b x type_a type_b times_last q in
-      let whole = whole_held P set grow n sp op.Times at a b show_a show_b x type_a type_b times_last q in
+      let q = sides_of P set grow n Product_ a b show_a x (held_first P set grow n sp op.Times at a b show_a show_b x starts type_a type_b times_last) x.is_made in
+      let le : Stms = left_before P set grow n sp op.Times at a b show_a show_b x starts type_a type_b times_last q in
+      let lo : Operand = left_is P set grow n sp op.Times at a b show_a show_b x starts type_a type_b times_last q in
+      let held = right_as P set grow n sp op.Times at a b show_a show_b x starts type_a type_b times_last q in
+      let whole = whole_held P set grow n sp op.Times at a b show_a show_b x starts type_a type_b times_last q in
       let p : ℕ = held.after.frame.temps in
       let final : TranslationState = with_frame (one_temp held.after.frame) held.after in
       let last : Later final x.τ = subst (λ s. Later final s) (ap state_in whole) (later_none final) in
       let rest : Later held.after x.τ = later_on held.after final x.τ (kept_later held.after) last in
-      let l1 = left_later P set grow n sp op.Times at a b show_a show_b x type_a type_b times_last q in
-      let l2 = right_later P set grow n sp op.Times at a b show_a show_b x type_a type_b times_last q in
-      let l3 = both_later P set grow n sp op.Times at a b show_a show_b x type_a type_b times_last q in
+      let l1 = left_later P set grow n sp op.Times at a b show_a show_b x starts type_a type_b times_last q in
+      let l2 = right_later P set grow n sp op.Times at a b show_a show_b x starts type_a type_b times_last q in
+      let l3 = both_later P set grow n sp op.Times at a b show_a show_b x starts type_a type_b times_last q in
       let idle : x.p.places (temporary x.p.scene.depth p) ≡ nowhere = x.ready.temps_free p (let f = l1.temps in let g = l2.temps in let h = l3.temps in omega (arith, f, g, h)) (let f = last.temps in omega (arith, f)) in
       let apart : (i : ℕ) → (place : ℕ) × IsOf place (x.p.places (temporary x.p.scene.depth i)) → i ≢ p =
       λ i named f. of_is_used named.0 (x.p.places (temporary x.p.scene.depth i)) named.1 (ap (λ o. x.p.places (temporary x.p.scene.depth o)) f ∙ idle) in
-      let free_l : touches p lo ≡ false = left_free (assigns_nothing b) q.left q.τb (left_as P set grow n sp op.Times at a b show_a show_b x type_a type_b times_last q) p (held.later.temps)
-      (λ i e. apart i (left_named P set grow n sp op.Times at a b show_a show_b x type_a type_b times_last q rest i e)) in
-      let free_r : touches p held.operand ≡ false = right_free q.right (between P set grow n sp op.Times at a b show_a show_b x type_a type_b times_last q) (holding q.right) p (omega arith)
-      (λ i e. apart i (right_named P set grow n sp op.Times at a b show_a show_b x type_a type_b times_last q rest i e)) in
+      let free_l : touches p lo ≡ false = left_free (assigns_nothing b) q.left q.τb (left_as P set grow n sp op.Times at a b show_a show_b x starts type_a type_b times_last q) p (held.later.temps)
+      (λ i e. apart i (left_named P set grow n sp op.Times at a b show_a show_b x starts type_a type_b times_last q rest i e)) in
+      let free_r : touches p held.operand ≡ false = right_free q.right (between P set grow n sp op.Times at a b show_a show_b x starts type_a type_b times_last q) (holding q.right) p (omega arith)
+      (λ i e. apart i (right_named P set grow n sp op.Times at a b show_a show_b x starts type_a type_b times_last q rest i e)) in
       let both : (touches p lo || touches p held.operand) ≡ false = ap (λ o. o || touches p held.operand) free_l ∙ free_r in
       let source : Run Source = rest_run (evaluates P a x.p.env (λ v. evaluates P b x.p.env (λ y. multiplies v y) x.out) x.out) x.s in
       let moves : Stms = stm (Move p (tree.Binary bin.Mul (operand lo) (operand held.operand))) no_stms in
@@ -231,13 +233,19 @@ module _ (P : Program) (set : Setting P) (grow : StatesGrow P) (n : ℕ) (sp : S
       (worked P (x.r + 255) (x.r + 255) 0 n source _ (omega arith)
       (subst (λ o. FollowsHere P (x.r + 255) n source o) (sym runs)
       (subst (λ o. FollowsHere P (x.r + 255) n source (statements_run P x.p le x.p.around (λ w1 t1. statements_run P x.p held.extra x.p.around (beside p idle go' onward o lo held.operand) w1 t1) x.w x.t)) both
-      (sides_held P set grow n sp op.Times at a b show_a show_b x type_a type_b times_last q rest multiplies (λ l r. beside p idle go' onward (touches p l || touches p r) l r)
+      (sides_held P set grow n sp op.Times at a b show_a show_b x starts type_a type_b times_last q rest multiplies (λ l r. beside p idle go' onward (touches p l || touches p r) l r)
       (λ g ms v y u z s w t l r gg ee hh sv sy il ir.
       let i = stands_int g v u sv in
       let j = stands_int g y z sy in
       subst (λ o. FollowsHere P (x.r + 290) n (rest_run o s) (beside p idle go' onward (touches p l || touches p r) l r w t)) (sym (ap (λ o. multiplies o y) i.0 ∙ ap (λ o. multiplies (int u) o) j.0))
       (beside_follows p idle go' onward g ms u z s w t l r gg ee hh i.1 j.1 il ir (touches p l || touches p r) refl))))))))
 
+pub times_by : (P : Program) (set : Setting P) (grow : StatesGrow P) (n : ℕ) (sp : Span) (at : ℕ) (a b : Exp) (left : LeftSide P n a) → Shown P n b →
+    (x : SituationBy P n (Binary sp op.Times at a b) (binary_by P op.Times at b left.by)) → left.here x.p x.h x.types x.s x.w x.t →
+    x.ty ≡ int_type → Has P.shapes P.notes a x.p.scope int_type → Has P.shapes P.notes b x.p.scope int_type → IsShown P n (Binary sp op.Times at a b) x
+times_by P set grow n sp at a b show_a show_b x starts is_int type_a type_b = times_follows P set grow n sp at a b show_a show_b x starts is_int type_a type_b
+
 pub times_shown : (P : Program) (set : Setting P) (grow : StatesGrow P) (n : ℕ) (sp : Span) (at : ℕ) (a b : Exp) → Shown P n a → Shown P n b → (x : Situation P n (Binary sp op.Times at a b)) →
     x.ty ≡ int_type → Has P.shapes P.notes a x.p.scope int_type → Has P.shapes P.notes b x.p.scope int_type → IsShown P n (Binary sp op.Times at a b) x
-times_shown P set grow n sp at a b show_a show_b x is_int type_a type_b = times_follows P set grow n sp at a b show_a show_b x is_int type_a type_b
+times_shown P set grow n sp at a b show_a show_b x is_int type_a type_b =
+    times_by P set grow n sp at a b (plain_left P n a (grow a) show_a) show_b x tt is_int type_a type_b

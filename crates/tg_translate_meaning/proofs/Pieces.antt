@@ -17,6 +17,7 @@ use Rattle.tg_types.specs.Scopes.{Binding}
 use Rattle.tg_types.specs.Has.{Has}
 use Rattle.tg_tree.specs.Tree.{Tx, Cond, Ts}
 use Rattle.tg_tree.specs.Actions.{World, Temps, set_temp, Go, Next, over}
+use Rattle.tg_translate.specs.declared.homes.Within.{Within}
 use Rattle.tg_translate.specs.declared.wants.Want.{Want}
 use Rattle.tg_translate.specs.declared.wants.Want.TheVariants as want
 use Rattle.tg_translate.specs.States.{TranslationState, drawn, Acts}
@@ -27,9 +28,10 @@ use Rattle.tg_translate_meaning.specs.Worlds.{Holdings, Stands, GrowsTo, Places,
 use Rattle.tg_translate_meaning.specs.Situations as situations
 use Rattle.tg_translate_meaning.specs.Situations.{Program, Part, Setting, Holds, IsReady, IsCovered, MayAssign, Extends, Along}
 use Rattle.tg_translate_meaning.specs.Situations.{value_runs, test_runs, statement_runs}
-use Rattle.tg_translate_meaning.specs.Shown.{Shown, Situation, IsWantable, IsWanted, left_over, is_set, work_factor, evaluates, FollowsHere}
-use Rattle.tg_translate_meaning.specs.Shown.{Onward, MadeFollows}
+use Rattle.tg_translate_meaning.specs.Shown.{Shown, SituationBy, IsWantable, IsWanted, left_over, is_set, work_factor, evaluates, FollowsHere}
+use Rattle.tg_translate_meaning.specs.Shown.{Onward, MadeFollows, IsNamed}
 use Rattle.tg_translate_meaning.proofs.States.{made_in, state_in, after_inv, later_none, later_on, later_value, moment_before, found_later}
+use Rattle.tg_translate_meaning.proofs.Lefts.{LeftSide}
 use Rattle.tg_translate_meaning.proofs.Making.{value_follows, condition_follows, arm_follows, dropped_follows, grows_none, grows_on}
 
 -- the states of a translation only grow
@@ -84,7 +86,8 @@ extends_none types i a e = e
 pub extends_on : (types ms ns : List Ty) → Extends types ms → Extends ms ns → Extends types ns
 extends_on types ms ns a b i t e = b i t (a i t e)
 
-module _ (P : Program) (set : Setting P) (grow : StatesGrow P) (n : ℕ) (E : Exp) (x : Situation P n E) where
+module _ (P : Program) (set : Setting P) (grow : StatesGrow P) (n : ℕ) (E : Exp) {made_by : Want → Within → Acts Made}
+    (x : SituationBy P n E made_by) where
   -- what is known of a part of the expression, whenever it is evaluated
   pub record Piece (e : Exp) (ty : Ty) : Type 0 where
     pub shown : Shown P n e
@@ -258,3 +261,83 @@ module _ (P : Program) (set : Setting P) (grow : StatesGrow P) (n : ℕ) (E : Ex
       (dropped_follows P n k.r x.p k.h k.types ty go (from e go k.s) k.w k.t m next
       (part_follows k e ty want.Dropped τ m go piece tt l1 last made_m)
       (λ g ms v u s w t0 gg ee hh st. onward (record { h = g; types = ms; s = s; w = w; t = t0; grows = gg; extends = ee; holds = hh }) v l1)))
+
+  -- A left side, which is evaluated where the whole begins.
+  pub record LeftPiece (a : Exp) (left : LeftSide P n a) (ty : Ty) : Type 0 where
+    pub begun : left.here x.p x.h x.types x.s x.w x.t
+    pub typed : Has P.shapes P.notes a x.p.scope ty
+    pub words : OfWords a
+    pub covers : IsCovered P x.p a
+    pub may_assign : MayAssign P x.p a
+
+  module _ (r : ℕ) (le : x.r ≤ r) (a : Exp) (left : LeftSide P n a) (ty : Ty) (piece : LeftPiece a left ty) where
+    abbrev first_at : (wanted : Want) (m : Made) (t : TranslationState) (go : Value → Rest) → IsWantable wanted ty → Later t x.τ →
+        left.by wanted x.p.within x.σ ≡ drawn m t → SituationBy P n a left.by
+    first_at wanted m t go able last made = record {
+      ty = ty;
+      wanted = wanted;
+      p = x.p;
+      σ = x.σ;
+      τ = t;
+      m = m;
+      h = x.h;
+      types = x.types;
+      r = r;
+      go = go;
+      out = x.out;
+      s = x.s;
+      w = x.w;
+      t = x.t;
+      typed = piece.typed;
+      words = piece.words;
+      covers = piece.covers;
+      wantable = able;
+      may_assign = piece.may_assign;
+      ready = ready_part P set x.p x.types x.types x.σ x.τ x.σ t (extends_none x.types) (later_none x.σ) (left.grows wanted x.p.within m x.σ t made) last x.ready;
+      is_made = made;
+      outward = λ g ms s2 w2 t2 l g2 e2 h2.
+          more P (x.r + left_over) (r + left_over) n (rest_run x.out s2) (x.p.around.out x.p.within.leave w2 t2) (omega (arith, le)) (x.outward g ms s2 w2 t2 l g2 e2 h2);
+      holds = x.holds;
+    }
+
+    pub first_named : (wanted : Want) (m : Made) (t : TranslationState) (go : Value → Rest) → IsWantable wanted ty → Later t x.τ →
+        left.by wanted x.p.within x.σ ≡ drawn m t → IsNamed P n r x.p x.s go (from a go x.s) m
+    first_named wanted m t go able last made = (left.shown (first_at wanted m t go able last made) piece.begun).0
+
+    first_made : (wanted : Want) (m : Made) (t : TranslationState) (go : Value → Rest) → IsWantable wanted ty → Later t x.τ →
+        left.by wanted x.p.within x.σ ≡ drawn m t → MadeFollows P n r x.p x.h x.types wanted ty go (from a go x.s) x.w x.t m
+    first_made wanted m t go able last made = (left.shown (first_at wanted m t go able last made) piece.begun).1
+
+    pub first_value : (q : ℕ) → r + 4 ≤ q → ty ≢ none_type → (y : Tx) (τ : TranslationState) →
+        value_from (λ s. left.by want.Value x.p.within s) x.σ ≡ drawn y τ → Later τ x.τ → (go : Value → Rest) (go' : Go ℕ) →
+        ((b : Behind (at_begin r le)) (v : Value) (u : ℕ) → Later x.σ τ → Stands b.h v ty u → FollowsHere P (r + 56) n (rest_run (go v) b.s) (go' u b.w b.t)) →
+        FollowsHere P q n (from a go x.s) (value_runs P x.p y x.p.around go' x.w x.t)
+    first_value q enough able y τ made last go go' onward =
+        let i = after_inv (left.by want.Value x.p.within x.σ) value_of y τ made in
+        let m : Made = i.0 in
+        let t : TranslationState = i.1 in
+        let l1 : Later x.σ t = left.grows want.Value x.p.within m x.σ t i.2 in
+        let l2 : Later t τ = later_value m t τ y i.3 in
+        more P (r + 4) q n (from a go x.s) (value_runs P x.p y x.p.around go' x.w x.t) enough
+        (value_follows P n r x.p x.h x.types want.Value ty go (from a go x.s) x.w x.t m t τ y go' tt i.3
+        (λ j c d. x.ready.temps_free j (omega (arith, l1.temps, c)) (omega (arith, d, last.temps)))
+        (first_made want.Value m t go able (later_on t τ x.τ l2 last) i.2)
+        (λ g ms v u s w t0 gg ee hh st. onward (record { h = g; types = ms; s = s; w = w; t = t0; grows = gg; extends = ee; holds = hh }) v u (later_on x.σ t τ l1 l2) st))
+
+    pub first_condition : (q : ℕ) → r + 4 ≤ q → ty ≡ int_type → (c : Cond) (τ : TranslationState) →
+        condition_from (λ s. left.by want.Test x.p.within s) x.σ ≡ drawn c τ → Later τ x.τ → (go : Value → Rest) (go' : Go Bool) →
+        ((b : Behind (at_begin r le)) (v : Value) (u : ℕ) → Later x.σ τ → IsWanted b.h want.Test v ty u → FollowsHere P (r + 56) n (rest_run (go v) b.s) (go' (is_set u) b.w b.t)) →
+        FollowsHere P q n (from a go x.s) (test_runs P x.p c x.p.around go' x.w x.t)
+    first_condition q enough able c τ made last go go' onward =
+        let i = after_inv (left.by want.Test x.p.within x.σ) _ c τ made in
+        let m : Made = i.0 in
+        let same_state : i.1 ≡ τ = ap state_in i.3 in
+        let made_m : left.by want.Test x.p.within x.σ ≡ drawn m τ = i.2 ∙ ap (λ o. drawn m o) same_state in
+        let l1 : Later x.σ τ = left.grows want.Test x.p.within m x.σ τ made_m in
+        more P (r + 4) q n (from a go x.s) (test_runs P x.p c x.p.around go' x.w x.t) enough
+        (subst (λ o. FollowsHere P (r + 4) n (from a go x.s) (test_runs P x.p o x.p.around go' x.w x.t)) (ap made_in i.3)
+        (condition_follows P n r x.p x.h x.types want.Test ty go (from a go x.s) x.w x.t m go' tt
+        (first_made want.Test m τ go able last made_m)
+        (λ g ms v b s w t0 gg ee hh st.
+        subst (λ o. FollowsHere P (r + 56) n (rest_run (go v) s) (go' o w t0)) (sym st.2)
+        (onward (record { h = g; types = ms; s = s; w = w; t = t0; grows = gg; extends = ee; holds = hh }) v st.0 l1 st.1))))

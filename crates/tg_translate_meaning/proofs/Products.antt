@@ -40,9 +40,10 @@ use Rattle.tg_translate.specs.Purity.{assigns_nothing}
 use Rattle.tg_translate_meaning.specs.Tables.{Later}
 use Rattle.tg_translate_meaning.specs.Worlds.{Holdings, GrowsTo, Stands, an_int}
 use Rattle.tg_translate_meaning.specs.Situations.{Program, Part, Setting, Holds, Extends, value_runs, test_runs, statement_runs, statements_run}
-use Rattle.tg_translate_meaning.specs.Shown.{Shown, IsShown, Situation, FollowsHere, Onward, IsWanted, left_over, evaluates}
+use Rattle.tg_translate_meaning.specs.Shown.{Shown, IsShown, Situation, SituationBy, FollowsHere, Onward, IsWanted, left_over, evaluates}
 use Rattle.tg_translate_meaning.proofs.States.{state_in, later_none}
 use Rattle.tg_translate_meaning.proofs.Making.{by_made, wanted_of, worked}
+use Rattle.tg_translate_meaning.proofs.Lefts.{LeftSide, plain_left, binary_by}
 use Rattle.tg_translate_meaning.proofs.Pieces.{StatesGrow, more, paid, stop_follows}
 use Rattle.tg_translate_meaning.proofs.Standing.{stands_int, int_has_values}
 use Rattle.tg_translate_meaning.proofs.Sides.{Sides, sides_of, sides_follow, lifted_small}
@@ -181,7 +182,8 @@ module _ (P : Program) (set : Setting P) (grow : StatesGrow P) where
       (operand_follows P set grow p r (suc k) q n c (λ j w2 t2. with_given (operate bin.Div u j) w2 (λ v. go' v w2 t2)) w t is_r
       (subst (λ b. FollowsHere P q n c (with_given (if b then stops_by Wrong else word (quot u (suc k))) w (λ v. go' v w t))) (sym (eqb-suc-zero k)) f)))
 
-  module _ (n : ℕ) (sp : Span) (at : ℕ) (a b : Exp) (show_a : Shown P n a) (show_b : Shown P n b) (x : Situation P n (Binary sp op.Divide at a b))
+  module _ (n : ℕ) (sp : Span) (at : ℕ) (a b : Exp) (show_a : LeftSide P n a) (show_b : Shown P n b)
+      (x : SituationBy P n (Binary sp op.Divide at a b) (binary_by P op.Divide at b show_a.by)) (starts : show_a.here x.p x.h x.types x.s x.w x.t)
       (is_int : x.ty ≡ int_type) (type_a : Has P.shapes P.notes a x.p.scope int_type) (type_b : Has P.shapes P.notes b x.p.scope int_type) where
     abbrev Quotient_ : Exp
     Quotient_ = Binary sp op.Divide at a b
@@ -281,12 +283,12 @@ module _ (P : Program) (set : Setting P) (grow : StatesGrow P) where
     checked_last before l r = give (quotient_of before l r)
 
     -- a quotient whose divisor is checked
-    checked_shown : (q : Sides P set grow n Quotient_ a b x (held_first P set grow n sp op.Divide at a b show_a show_b x type_a type_b checked_last)) → IsShown P n Quotient_ x
+    checked_shown : (q : Sides P set grow n Quotient_ a b show_a x (held_first P set grow n sp op.Divide at a b show_a show_b x starts type_a type_b checked_last)) → IsShown P n Quotient_ x
     checked_shown q =
-        let le : Stms = left_before P set grow n sp op.Divide at a b show_a show_b x type_a type_b checked_last q in
-        let lo : Operand = left_is P set grow n sp op.Divide at a b show_a show_b x type_a type_b checked_last q in
-        let held = right_as P set grow n sp op.Divide at a b show_a show_b x type_a type_b checked_last q in
-        let whole = whole_held P set grow n sp op.Divide at a b show_a show_b x type_a type_b checked_last q in
+        let le : Stms = left_before P set grow n sp op.Divide at a b show_a show_b x starts type_a type_b checked_last q in
+        let lo : Operand = left_is P set grow n sp op.Divide at a b show_a show_b x starts type_a type_b checked_last q in
+        let held = right_as P set grow n sp op.Divide at a b show_a show_b x starts type_a type_b checked_last q in
+        let whole = whole_held P set grow n sp op.Divide at a b show_a show_b x starts type_a type_b checked_last q in
         let rest : Later held.after x.τ = subst (λ s. Later held.after s) (ap state_in whole) (later_none held.after) in
         let z : Stms = stm (zero_check (operand held.operand)) no_stms in
         let k : Stms = stm (quotient_check (operand lo) (operand held.operand)) no_stms in
@@ -301,7 +303,7 @@ module _ (P : Program) (set : Setting P) (grow : StatesGrow P) where
         (worked P (x.r + 255) (x.r + 256) 0 n source _ (omega arith)
         (worked P (x.r + 255) (x.r + 255) 0 n source _ (omega arith)
         (subst (λ o. FollowsHere P (x.r + 255) n source o) (sym runs)
-        (sides_held P set grow n sp op.Divide at a b show_a show_b x type_a type_b checked_last q rest divides (quotient_next go')
+        (sides_held P set grow n sp op.Divide at a b show_a show_b x starts type_a type_b checked_last q rest divides (quotient_next go')
         (λ g ms v y u z s w t l r gg ee hh sv sy il ir.
         let i = stands_int g v u sv in
         let j = stands_int g y z sy in
@@ -337,7 +339,7 @@ module _ (P : Program) (set : Setting P) (grow : StatesGrow P) where
       abbrev chosen_run : Tx → Bool → Run Ran
       chosen_run y b = value_runs P x.p y x.p.around (λ u w1 t1 i. works 2 (by_number b u (suc k) w1 t1 i)) x.w x.t
 
-      number_follows : (q : Sides P set grow n Quotient_ a b x (λ l r. quotient (assigns_nothing b) l r)) → q.right ≡ Const (suc k) → Later q.τb x.τ → ToValue go' →
+      number_follows : (q : Sides P set grow n Quotient_ a b show_a x (λ l r. quotient (assigns_nothing b) l r)) → q.right ≡ Const (suc k) → Later q.τb x.τ → ToValue go' →
           FollowsHere P (x.r + 256) n (rest_run (evaluates P a x.p.env (λ v. evaluates P b x.p.env (λ y. divides v y) x.out) x.out) x.s)
           (value_runs P x.p (tree.Binary bin.Div q.left (Const (suc k))) x.p.around go' x.w x.t)
       number_follows q is last onward =
@@ -347,15 +349,15 @@ module _ (P : Program) (set : Setting P) (grow : StatesGrow P) where
           (subst (λ o. FollowsHere P (x.r + 240 + 4) n source (number_run q.left o)) (sym (eqb-suc-zero k))
           (subst (λ o. FollowsHere P (x.r + 240 + 4) n source (chosen_run q.left o)) (eq-eqb (suc k) (suc k) refl)
           (subst (λ o. FollowsHere P (x.r + 240 + 4) n source (value_runs P x.p q.left x.p.around (λ u w1 t1. value_runs P x.p o x.p.around (λ j w2 t2. by_number (j == suc k) u j w2 t2) w1 t1) x.w x.t)) is
-          (sides_follow P set grow n Quotient_ a b x (λ l r. quotient (assigns_nothing b) l r) q int_type int_type
-          (piece_a P set grow n sp op.Divide at a b show_a show_b x is_int type_a type_b) (piece_b P set grow n sp op.Divide at a b show_a show_b x is_int type_a type_b)
+          (sides_follow P set grow n Quotient_ a b show_a x (λ l r. quotient (assigns_nothing b) l r) q int_type int_type
+          (piece_a P set grow n sp op.Divide at a b show_a show_b x starts is_int type_a type_b) (piece_b P set grow n sp op.Divide at a b show_a show_b x starts is_int type_a type_b)
           int_has_values int_has_values last (x.r + 240) (omega arith) divides (λ u j w2 t2. by_number (j == suc k) u j w2 t2)
           (λ c v y u j l st st2.
           more P (x.r + 290) (x.r + 240 + 108) n (rest_run (divides v y) c.s) (by_number (j == suc k) u j c.w c.t) (omega arith)
           (number_divides c.h c.types v y u j c.s c.w c.t c.grows c.extends c.holds st st2 onward (j == suc k) refl))))))
 
     -- a quotient, whatever its divisor is
-    module _ (q : Sides P set grow n Quotient_ a b x (λ l r. quotient (assigns_nothing b) l r)) where
+    module _ (q : Sides P set grow n Quotient_ a b show_a x (λ l r. quotient (assigns_nothing b) l r)) where
       as_checked : checked_quotient (assigns_nothing b) q.left q.right q.τb ≡ quotient (assigns_nothing b) q.left q.right q.τb → IsShown P n Quotient_ x
       as_checked e = checked_shown (record {
         left = q.left;
@@ -398,9 +400,15 @@ module _ (P : Program) (set : Setting P) (grow : StatesGrow P) where
 
     pub divide_follows : IsShown P n Quotient_ x
     divide_follows =
-        let q = sides_of P set grow n Quotient_ a b x (λ l r. quotient (assigns_nothing b) l r) x.is_made in
+        let q = sides_of P set grow n Quotient_ a b show_a x (λ l r. quotient (assigns_nothing b) l r) x.is_made in
         by_right q q.right refl
+
+  pub divide_by : (n : ℕ) (sp : Span) (at : ℕ) (a b : Exp) (left : LeftSide P n a) → Shown P n b →
+      (x : SituationBy P n (Binary sp op.Divide at a b) (binary_by P op.Divide at b left.by)) → left.here x.p x.h x.types x.s x.w x.t →
+      x.ty ≡ int_type → Has P.shapes P.notes a x.p.scope int_type → Has P.shapes P.notes b x.p.scope int_type → IsShown P n (Binary sp op.Divide at a b) x
+  divide_by n sp at a b show_a show_b x starts is_int type_a type_b = divide_follows n sp at a b show_a show_b x starts is_int type_a type_b
 
   pub divide_shown : (n : ℕ) (sp : Span) (at : ℕ) (a b : Exp) → Shown P n a → Shown P n b → (x : Situation P n (Binary sp op.Divide at a b)) →
       x.ty ≡ int_type → Has P.shapes P.notes a x.p.scope int_type → Has P.shapes P.notes b x.p.scope int_type → IsShown P n (Binary sp op.Divide at a b) x
-  divide_shown n sp at a b show_a show_b x is_int type_a type_b = divide_follows n sp at a b show_a show_b x is_int type_a type_b
+  divide_shown n sp at a b show_a show_b x is_int type_a type_b =
+      divide_by n sp at a b (plain_left P n a (grow a) show_a) show_b x tt is_int type_a type_b

@@ -47,6 +47,7 @@ use Rattle.tg_translate_meaning.specs.Situations.{Program, Setting, Holds, test_
 use Rattle.tg_translate_meaning.specs.Shown.{Situation, IsShown, FollowsHere, work_factor, left_over, evaluates, Onward, IsTold}
 use Rattle.tg_translate_meaning.proofs.States.{after_inv, state_in, later_none}
 use Rattle.tg_translate_meaning.proofs.Making.{by_made, truth_is_set}
+use Rattle.tg_translate_meaning.proofs.Lefts.{LeftSide, plain_left}
 use Rattle.tg_translate_meaning.proofs.Pieces.{StatesGrow, Piece, Moment, Behind, at_begin, more, paid}
 use Rattle.tg_translate_meaning.proofs.Standing.{stands_string, told_truth, string_has_values}
 use Rattle.tg_translate_meaning.proofs.Sides.{Sides, sides_of}
@@ -162,13 +163,16 @@ module _ (P : Program) (set : Setting P) (grow : StatesGrow P) (owns : Owns P) (
   abbrev makes : Tx → Tx → Acts Made
   makes l r = give (test (comparison o (compares_strings (P.findings.meaning at)) l r))
 
-  sides : Sides P set grow n E_ a b x makes
+  abbrev left_side : LeftSide P n a
+  left_side = plain_left P n a (grow a) piece_a.shown
+
+  sides : Sides P set grow n E_ a b left_side x makes
   sides =
       let right : Want → Acts Made = λ v. expression P.findings b v x.p.within in
       let meaning = P.findings.meaning at in
       let i = after_inv (expression P.findings a (left_want o) x.p.within x.σ)
       (λ left. with_left o meaning (assigns_nothing b) x.wanted left right) x.m x.τ x.is_made in
-      sides_of P set grow n E_ a b x makes
+      sides_of P set grow n E_ a b left_side x makes
       (ap (λ v. after (expression P.findings a v x.p.within x.σ) (λ m s. both_made o meaning m right s))
       (sym (wants_value o comp)) ∙
       (ap (λ d. after d (λ m s. both_made o meaning m right s)) i.2 ∙

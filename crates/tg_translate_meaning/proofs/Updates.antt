@@ -194,7 +194,7 @@ module _ (P : Program) (set : Setting P) (needs : Needs P) (n : ℕ) (sp : Span)
   own_update_shown plain begins own = variable_update_shown P n sp v e x plain begins (own_stays own)
 
 -- The same location, by its parts.
-abbrev is_location : (l k : Location) → Bool
+abbrev pub is_location : (l k : Location) → Bool
 is_location (in_variable i) (in_variable j) = i == j
 is_location (in_field r f) (in_field q g) = (r == q) && (f == g)
 is_location (in_element r i) (in_element q j) = (r == q) && (i == j)
@@ -225,7 +225,7 @@ own_location (in_variable i) = eq-eqb i i refl
 own_location (in_field r f) = ap (λ b. b && (f == f)) (eq-eqb r r refl) ∙ eq-eqb f f refl
 own_location (in_element r f) = ap (λ b. b && (f == f)) (eq-eqb r r refl) ∙ eq-eqb f f refl
 
-abbrev is_met : Option Location → Location → Bool
+abbrev pub is_met : Option Location → Location → Bool
 is_met (Some k) l = is_location k l
 is_met None l = false
 
@@ -245,7 +245,7 @@ module _ (P : Program) (n : ℕ) (v w : LValue) (same : is_same_place P.findings
   IsFound env s l = reached (again env s) ≡ Some l
 
   -- what comes next, where it is found there
-  abbrev where_found : Env → (Location → Rest) → Location → Rest
+  abbrev pub where_found : Env → (Location → Rest) → Location → Rest
   where_found env go l s = (if is_met (reached (again env s)) l then go l else ends stuck) s
 
   found_same : (env : Env) (go : Location → Rest) (s : SourceWorld) (i : ℕ) (o : Idle Location) → reached (again env s) ≡ reached o →
@@ -254,12 +254,12 @@ module _ (P : Program) (n : ℕ) (v w : LValue) (same : is_same_place P.findings
   found_same env go s i (gives a) e = ap (λ b. (if b then go a else ends stuck) s i) (ap (λ z. is_met z a) e ∙ own_location a)
   found_same env go s i (costing k o) e = ap (λ z. costs k z) (found_same env go s i o e)
 
-  located_same : (env : Env) (go : Location → Rest) (out : Rest) (s : SourceWorld) (i : ℕ) → locates P v env go out s i ≡ locates P v env (where_found env go) out s i
+  pub located_same : (env : Env) (go : Location → Rest) (out : Rest) (s : SourceWorld) (i : ℕ) → locates P v env go out s i ≡ locates P v env (where_found env go) out s i
   located_same env go out s i =
       let x = place_idle P.heap P.stack P.findings.meaning v w same env s in
       x.does go out i ∙ (sym (found_same env go s i (again env s) refl) ∙ sym (x.does (where_found env go) out i))
 
-  where_follows : (env : Env) (go : Location → Rest) (r : ℕ) (l : Location) (s : SourceWorld) (d : Run Ran) → (IsFound env s l → FollowsHere P r n (rest_run (go l) s) d) →
+  pub where_follows : (env : Env) (go : Location → Rest) (r : ℕ) (l : Location) (s : SourceWorld) (d : Run Ran) → (IsFound env s l → FollowsHere P r n (rest_run (go l) s) d) →
       FollowsHere P r n (rest_run (where_found env go l) s) d
   where_follows env go r l s d f = by (is_met (reached (again env s)) l) refl
     where

@@ -1,12 +1,14 @@
 -- The translation, with the runtime, keeps the meaning of the source.
-use Rattle.std.specs.Prelude.{ℕ, ◌+◌, ◌-◌, ◌==◌, ◌≡◌, ◌≢◌, ◌≤◌, ◌<◌, List, [], ◌∷◌, length, All}
-use Rattle.std.specs.Prelude.{Option, Some, None, if◌then◌else◌}
+use Rattle.std.specs.Prelude.{ℕ, ◌-◌, ◌≡◌, ◌≢◌, ◌≤◌, ◌<◌, ◌⊎◌, List, length, All, Option}
 use Rattle.std.specs.FinSet.{from_list}
+use Rattle.tg_base.specs.declared.ends.RunEnd.{RunEnd}
+use Rattle.tg_base.specs.declared.ends.RunEnd.TheVariants.{StackFull}
 use Rattle.tg_base.specs.State.{stack_top, most_room, most_bytes}
 use Rattle.tg_syntax.specs.OfWords.{OfWords}
 use Rattle.tg_syntax.specs.Functions.{Measures, program_functions}
 use Rattle.tg_runs.specs.Runs.{Run}
-use Rattle.tg_runs.specs.Ran.{Ran, Wrong, StaysOver}
+use Rattle.tg_runs.specs.Bytes.{IsPrefix}
+use Rattle.tg_runs.specs.Ran.{Ran, Ended}
 use Rattle.tg_runs.specs.Agreement.{Source, Follows, Agrees, FillsStack}
 use Rattle.tg_meaning.specs.MachineEnds.{program_run}
 use Rattle.tg_types.specs.Programs.{CheckedProgram, IsAccepted}
@@ -98,3 +100,32 @@ abbrev pub MeaningIsKept : Type 0
 MeaningIsKept =
     (p : CheckedProgram) (size : ℕ → ℕ) (heap stack : ℕ) (input : List ℕ) →
     MayRun p size heap stack input → IsKept p size heap stack input
+
+-- The static link of each call of a declared function is the frame address of the current
+-- activation of the function that declares it: the run that looks at links is the run.
+abbrev pub LinksOfCallsAreRight : Type 0
+LinksOfCallsAreRight =
+    (p : CheckedProgram) (size : ℕ → ℕ) (heap stack : ℕ) (input : List ℕ) →
+    MayRun p size heap stack input →
+    LinksAreRight Trees (trees_of p) size (stack_top - stack) heap (level_in p) 32 input
+
+-- With other sizes of frames a run ends in the same way, with the same output and input left; or
+-- the stack is full, and what was written is a front of that output.
+pub record EndsAlike (p : Ran) (other : Ran) : Type 0 where
+  pub stops : other.stop ≡ p.stop
+  pub output : other.output ≡ p.output
+  pub input : other.input ≡ p.input
+
+pub record IsFullBefore (p : Ran) (other : Ran) : Type 0 where
+  pub full : other.stop ≡ Ended StackFull
+  pub front : IsPrefix other.output p.output
+
+abbrev pub SizesTellNothing : Type 0
+SizesTellNothing =
+    (p : CheckedProgram) (one other : ℕ → ℕ) (heap stack : ℕ) (input : List ℕ) →
+    MayRun p one heap stack input → MayRun p other heap stack input →
+    (m : ℕ) (e : RunEnd) →
+    (trees_run p one heap stack input m).stop ≡ Ended e → e ≢ StackFull →
+    (k : ℕ) ×
+    (EndsAlike (trees_run p one heap stack input m) (trees_run p other heap stack input k) ⊎
+    IsFullBefore (trees_run p one heap stack input m) (trees_run p other heap stack input k))

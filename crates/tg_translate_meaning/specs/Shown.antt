@@ -18,7 +18,8 @@ use Rattle.tg_tree.specs.Tree.{Temp}
 use Rattle.tg_tree.specs.Actions.{World, Temps, set_temp, Go, Next}
 use Rattle.tg_translate.specs.declared.wants.Want.{Want}
 use Rattle.tg_translate.specs.declared.wants.Want.TheVariants as want
-use Rattle.tg_translate.specs.States.{TranslationState, drawn}
+use Rattle.tg_translate.specs.declared.homes.Within.{Within}
+use Rattle.tg_translate.specs.States.{TranslationState, Acts, drawn}
 use Rattle.tg_translate.specs.Wants.{Made, value, done, test}
 use Rattle.tg_translate.specs.Translate.{expression}
 use Rattle.tg_translate_meaning.specs.Worlds.{Holdings, Stands, temporary, IsOf, GrowsTo}
@@ -119,8 +120,8 @@ module _ (P : Program) where
       Onward n (r + left_over) p h types (λ g v b. IsTold wanted v ty b) go go' →
       FollowsHere r n source (test_runs P p c p.around go' w t)
 
-  -- an expression where it stands, for so much fuel
-  pub record Situation (n : ℕ) (e : Exp) : Type 0 where
+  -- an expression where it stands, for so much fuel, and what translates it there
+  pub record SituationBy (n : ℕ) (e : Exp) (made_by : Want → Within → Acts Made) : Type 0 where
     pub ty : Ty
     pub wanted : Want
     pub p : Part
@@ -141,9 +142,13 @@ module _ (P : Program) where
     pub wantable : IsWantable wanted ty
     pub may_assign : MayAssign P p e
     pub ready : IsReady P p types σ τ
-    pub is_made : expression P.findings e wanted p.within σ ≡ drawn m τ
+    pub is_made : made_by wanted p.within σ ≡ drawn m τ
     pub outward : Outward n (r + left_over) p h types out
     pub holds : Holds P p h types s w t
+
+  -- translated as it is
+  abbrev pub Situation : (n : ℕ) → Exp → Type 0
+  Situation n e = SituationBy n e (λ w v. expression P.findings e w v)
 
   -- A temporary that an expression is made is a variable's of this activation, and evaluation does
   -- nothing but read it. So it may be used later, where it is kept.
@@ -163,7 +168,8 @@ module _ (P : Program) where
   IsNamed n r p s go source _ = Unit {0}
 
   -- what is shown of it
-  abbrev pub IsShown : (n : ℕ) (e : Exp) → Situation n e → Type 0
+  abbrev pub IsShown : {made_by : Want → Within → Acts Made} → (n : ℕ) (e : Exp) →
+      SituationBy n e made_by → Type 0
   IsShown n e x =
       IsNamed n x.r x.p x.s x.go (rest_run (evaluates e x.p.env x.go x.out) x.s) x.m ×
       MadeFollows n x.r x.p x.h x.types x.wanted x.ty x.go

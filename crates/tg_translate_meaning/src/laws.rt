@@ -1,11 +1,20 @@
-ghost use Rattle.std.specs.Prelude.{ℕ};
-ghost use Rattle.tg_translate_meaning.specs.Situations.{Program};
-ghost use Rattle.tg_translate_meaning.specs.Shown.{ExpressionFollows};
-ghost use Rattle.tg_translate_meaning.specs.Laws.{MeaningIsKept};
+ghost use Rattle.tg_translate_meaning.specs.Laws.{
+  LinksOfCallsAreRight,
+  MeaningIsKept,
+  SizesTellNothing,
+};
 
-/// Where each expression does what it means, programs do: the trees of a checked program, with the
-/// runtime's, agree with its meaning, fill the stack where its calls are too deep, and each of
-/// their calls has the right static link.
-pub fn programs_follow()
-    ensures { ((P : Program) → (n : ℕ) → ExpressionFollows P n) → MeaningIsKept }
+/// The trees of a checked program, with the runtime's, agree with its meaning, fill the stack where
+/// its calls are too deep, and each of their calls has the right static link.
+pub fn meaning_is_kept()
+    ensures { MeaningIsKept }
 {}
+
+/// What comes of it: the static link of each call is right, and runs with other sizes of frames end
+/// in the same way, but for a full stack.
+pub fn runs_are_alike()
+    ensures links { LinksOfCallsAreRight }
+    ensures sizes { SizesTellNothing }
+{
+    meaning_is_kept();
+}

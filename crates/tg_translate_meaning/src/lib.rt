@@ -4,4 +4,4 @@
 
 mod laws;
 
-pub use laws::programs_follow;
+pub use laws::{meaning_is_kept, runs_are_alike};

@@ -23,7 +23,7 @@ use Rattle.tg_emit.specs.Lines.{size_of}
 use Rattle.tg_words.specs.Allocating.{IsAllocationOf}
 use Rattle.tg_words.specs.Laws.{FramesAreSmall}
 use Rattle.tg_munch.specs.Lengths.{TemporariesAreFew, ShiftsAreLong}
-use Rattle.tg_weight.specs.Weights.{IsLight, FramesAreLight, FitsRuntime, AreWithinWeight, ProgramFramesAreLight}
+use Rattle.tg_weight.specs.Weights.{IsLight, FramesAreLight, FitsRuntime, AreWithinWeight, AcceptedTreesAreLight, ProgramFramesAreLight}
 
 pub frames_are_light : carried.LengthStays → carried.RoomStays → TemporariesAreFew → ShiftsAreLong →
     AllocationsAreShort → FramesAreLight
@@ -89,8 +89,8 @@ module _ (rule : Rule) where
       }
 
 pub programs_are_light : FramesAreLight → FramesAreSmall → CheckedBodiesAreClosed → CheckedTemporariesAreDrawn →
-    AllAreRoutines → ProgramFramesAreLight
-programs_are_light light small closed drawn routines rule p links allocations accepted trees are =
+    AllAreRoutines → AcceptedTreesAreLight → ProgramFramesAreLight
+programs_are_light light small closed drawn routines trees rule p links allocations accepted are =
     let fs = (translated (findings_in p links) p.body).functions in
     let escapes = from_list (escapes_of p.body) in
     let may : AllByRecursion MayBeFlattened fs =
@@ -98,4 +98,4 @@ programs_are_light light small closed drawn routines rule p links allocations ac
     (All-weaker (Contains fs) MayBeFlattened
     (λ f c. record { closed = closed p escapes links f accepted c; temps = drawn p links f accepted c }) fs
     (All-contains_itself fs)) in
-    split rule light small (program_functions p.body) fs runtime.functions allocations trees may routines are
+    split rule light small (program_functions p.body) fs runtime.functions allocations (trees p links accepted) may routines are

@@ -54,9 +54,14 @@ abbrev pub TreesAreLight : CheckedProgram → FinSet nat_cmp → Type 0
 TreesAreLight p links =
     AllZip IsLight (program_functions p.body) (translated (findings_in p links) p.body).functions
 
+-- which those of an accepted program are
+abbrev pub AcceptedTreesAreLight : Type 0
+AcceptedTreesAreLight =
+    (p : CheckedProgram) (links : FinSet nat_cmp) → IsAccepted p → TreesAreLight p links
+
 -- the law of programs
 abbrev pub ProgramFramesAreLight : Type 0
 ProgramFramesAreLight =
     (rule : Rule) (p : CheckedProgram) (links : FinSet nat_cmp) (allocations : List Allocation) →
-    IsAccepted p → TreesAreLight p links → AreAllocationsOf rule p links allocations →
+    IsAccepted p → AreAllocationsOf rule p links allocations →
     AreWithinWeight (program_functions p.body) allocations

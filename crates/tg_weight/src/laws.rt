@@ -1,14 +1,25 @@
-ghost use Rattle.tg_weight.specs.Weights.{FramesAreLight, ProgramFramesAreLight};
+ghost use Rattle.tg_weight.specs.Weights.{
+    AcceptedTreesAreLight, FramesAreLight, ProgramFramesAreLight,
+};
 
 use tg_carried::sizes_stay;
 use tg_munch::temporaries_are_few;
 use tg_runtime::routines_are_closed;
-use tg_shapes::{bodies_are_closed, temporaries_are_drawn};
+use tg_shapes::{bodies_are_closed, frames_are_small, temporaries_are_drawn};
 use tg_spill::allocations_are_short;
 use tg_words::functions_are_short;
 
-/// Laws of the frames of functions that are allocated, by any policy, where their trees are light:
-/// 256 bytes a node, 64 a level that is crossed, and 1,024; 4,096 for each of the runtime.
+/// Law of the trees of an accepted program: each takes as much room and length as its nodes and the
+/// levels that it crosses pay for.
+pub fn trees_are_light()
+    ensures trees { AcceptedTreesAreLight }
+{
+    frames_are_small();
+}
+
+/// Laws of the frames of functions that are allocated, by any policy, where their trees are light,
+/// as those of an accepted program are: 256 bytes a node, 64 a level that is crossed, and 1,024;
+/// 4,096 for each of the runtime.
 pub fn frames_are_light()
     ensures frames { FramesAreLight }
     ensures programs { ProgramFramesAreLight }
@@ -20,4 +31,5 @@ pub fn frames_are_light()
     bodies_are_closed();
     temporaries_are_drawn();
     routines_are_closed();
+    trees_are_light();
 }

@@ -4,7 +4,9 @@ use Rattle.tg_compile_meaning.proofs.laws.compiled_is_as_meant.Goals as goal
 
 pub returns : goal.returns
 returns c =
+    λ kept light.
     compiled_is_as_meant c.compiled_agrees.ensures c.program_has_image.ensures.image c.image_agrees.ensures
     c.forms_agree.ensures c.programs_as_sources.ensures.full c.programs_as_sources.ensures.stuck c.never_stuck.ensures
+    (c.programs_are_translated.ensures kept light)
     (λ program accepted. functions_are program accepted c.bodies_are_closed.ensures.checked
     c.temporaries_are_drawn.ensures.checked c.frames_are_small.ensures.checked c.routines_are_closed.ensures.routines)

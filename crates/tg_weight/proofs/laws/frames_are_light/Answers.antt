@@ -11,5 +11,5 @@ returns c =
       frames = frames;
       programs =
           programs_are_light frames c.functions_are_short.ensures.frames c.bodies_are_closed.ensures.checked
-          c.temporaries_are_drawn.ensures.checked c.routines_are_closed.ensures.routines;
+          c.temporaries_are_drawn.ensures.checked c.routines_are_closed.ensures.routines c.trees_are_light.ensures.trees;
     }
