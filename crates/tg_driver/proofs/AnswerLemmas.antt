@@ -19,7 +19,7 @@ use Rattle.tg_command.specs.declared.modes.Mode.TheVariants.{Check, Build, Run, 
 use Rattle.tg_command.specs.Commands.{Asked, Ask}
 use Rattle.tg_driver.specs.declared.answers.Answer.{Answer}
 use Rattle.tg_driver.specs.declared.answers.Answer.TheVariants.{Faulty, Written, Unwritten, OutOfMemory, Finished}
-use Rattle.tg_driver.specs.Builds.{Builds}
+use Rattle.tg_meant.specs.Meant.{IsAsMeant}
 use Rattle.tg_driver.specs.Calls.{Stream, stream_of, Streams, Stays, Untouched, Shelved, IsUnread, Call, Takes, all, part}
 use Rattle.tg_driver.specs.OfFiles.{OfFile, unreadable, read, OrMemory, unread_answer, HasStarted, StaysBeforeStart, UntouchedBeforeStart}
 use Rattle.tg_driver.specs.Found.{IsRefused}
@@ -27,7 +27,7 @@ use Rattle.tg_driver.specs.Runs.{RunRelation, HasRun, IsRunOrMemory}
 use Rattle.tg_driver.specs.CheckMode.{IsChecked, ByCheck}
 use Rattle.tg_driver.specs.Writing.{TakesText, TextRelation, IsWritten, ByWriting}
 use Rattle.tg_driver.specs.RunMode.{EndsAssembled, IsRun, ByRun}
-use Rattle.tg_driver.specs.GenMode.{summary, TakesSummary, SumsUpRun, SumsUpBuilt, IsGenerated, ByGen}
+use Rattle.tg_driver.specs.GenMode.{summary, TakesSummary, SumsUpRun, SumsUpMeant, IsGenerated, ByGen}
 use Rattle.tg_driver.specs.Endings.{end_status}
 use Rattle.tg_driver.specs.ExecMode.{IsExecuted, ByExec}
 use Rattle.tg_driver.specs.Modes.{InMode}
@@ -58,11 +58,11 @@ written_of_refused out writes text (Faulty f) r = r
 written_of_refused out writes text OutOfMemory r = tt
 written_of_refused out writes text _ r = absurd r
 
-pub run_of_refused : (rule : SpillRule) (runs : RunRelation) (a : Asked) (text : List ℕ) (answer : Answer) →
-    IsRefused text answer → OrMemory (Unit {0}) (IsRun rule runs a text) answer
-run_of_refused rule runs a text (Faulty f) r = r
-run_of_refused rule runs a text OutOfMemory r = tt
-run_of_refused rule runs a text _ r = absurd r
+pub run_of_refused : (runs : RunRelation) (a : Asked) (text : List ℕ) (answer : Answer) →
+    IsRefused text answer → OrMemory (Unit {0}) (IsRun runs a text) answer
+run_of_refused runs a text (Faulty f) r = r
+run_of_refused runs a text OutOfMemory r = tt
+run_of_refused runs a text _ r = absurd r
 
 -- a refusal leaves the streams alone
 pub refused_stays : {T : Type 0} (out : Stream T) (text : List ℕ) (answer : Answer) → IsRefused text answer → Stays out → StaysBeforeStart out answer
@@ -100,12 +100,12 @@ started_stays out Written h = tt
 started_stays out Unwritten h = tt
 started_stays out _ h = absurd h
 
--- a run of what a source is built to
-pub ends_built : (rule : SpillRule) (runs : RunRelation) (a : Asked) (text assembly : List ℕ) (answer : Answer) →
-    Builds rule text assembly → EndsAssembled runs assembly a.heap a.stack a.steps answer → OrMemory (Unit {0}) (IsRun rule runs a text) answer
-ends_built rule runs a text assembly (Finished end) b r = record { assembly = assembly; builds = b; ran = r }
-ends_built rule runs a text assembly OutOfMemory b r = tt
-ends_built rule runs a text assembly _ b r = absurd r
+-- a run of what does what a source means
+pub ends_as_meant : (runs : RunRelation) (a : Asked) (text assembly : List ℕ) (answer : Answer) →
+    IsAsMeant text assembly → EndsAssembled runs assembly a.heap a.stack a.steps answer → OrMemory (Unit {0}) (IsRun runs a text) answer
+ends_as_meant runs a text assembly (Finished end) b r = record { assembly = assembly; meant = b; ran = r }
+ends_as_meant runs a text assembly OutOfMemory b r = tt
+ends_as_meant runs a text assembly _ b r = absurd r
 
 pub assembled_run : {I O : Type 0} (s : Streams I O) (assembly : List ℕ) (image : Image) (heap stack steps : ℕ) (answer : Answer) →
     assembled assembly ≡ Ok (image_of image) → IsRunOrMemory s image heap stack steps answer → EndsAssembled (HasRun s) assembly heap stack steps answer
@@ -113,14 +113,14 @@ assembled_run s assembly image heap stack steps (Finished end) is run = record {
 assembled_run s assembly image heap stack steps OutOfMemory is run = tt
 assembled_run s assembly image heap stack steps _ is run = absurd run
 
--- a run of what a generated source is built to, and its summary
-pub sums_up_built : {O : Type 0} (rule : SpillRule) (out : Stream O) (functions : ℕ) (text assembly : List ℕ) (image : Image)
-    (heap stack steps : ℕ) (answer : Answer) → Builds rule text assembly → assembled assembly ≡ Ok (image_of image) →
+-- a run of what does what a generated source means, and its summary
+pub sums_up_meant : {O : Type 0} (out : Stream O) (functions : ℕ) (text assembly : List ℕ) (image : Image)
+    (heap stack steps : ℕ) (answer : Answer) → IsAsMeant text assembly → assembled assembly ≡ Ok (image_of image) →
     OrMemory (Unit {0}) (SumsUpRun out functions (length text) image heap stack steps) answer →
-    OrMemory (Unit {0}) (SumsUpBuilt rule out functions text heap stack steps) answer
-sums_up_built rule out functions text assembly image heap stack steps OutOfMemory b is h = tt
-sums_up_built rule out functions text assembly image heap stack steps _ b is h =
-    record { end = h.end; ends = record { assembly = assembly; builds = b; ran = record { image = image; assembles = is; run = h.sums_up } } }
+    OrMemory (Unit {0}) (SumsUpMeant out functions text heap stack steps) answer
+sums_up_meant out functions text assembly image heap stack steps OutOfMemory b is h = tt
+sums_up_meant out functions text assembly image heap stack steps _ b is h =
+    record { end = h.end; ends = record { assembly = assembly; meant = b; ran = record { image = image; assembles = is; run = h.sums_up } } }
 
 -- what holds of an answer holds of it unless memory is wanting
 pub or_memory : (due : Answer → Type 0) (answer : Answer) → due answer → OrMemory (Unit {0}) due answer
@@ -168,11 +168,11 @@ takes_summary out functions source written ReadFault answer other h = h
 pub summary_some : (functions source written status : ℕ) → 0 < length (summary functions source written status)
 summary_some functions source written status = omega arith
 
-pub in_number : {O : Type 0} (rule : SpillRule) (out : Stream O) (functions : ℕ) (text other : List ℕ) (heap stack steps : ℕ) (answer : Answer) →
-    text ≡ other → OrMemory (Unit {0}) (SumsUpBuilt rule out functions text heap stack steps) answer →
-    OrMemory (Unit {0}) (SumsUpBuilt rule out functions other heap stack steps) answer
-in_number rule out functions text other heap stack steps answer is h =
-    let P : List ℕ → Type 0 = λ t. OrMemory (Unit {0}) (SumsUpBuilt rule out functions t heap stack steps) answer in
+pub in_number : {O : Type 0} (out : Stream O) (functions : ℕ) (text other : List ℕ) (heap stack steps : ℕ) (answer : Answer) →
+    text ≡ other → OrMemory (Unit {0}) (SumsUpMeant out functions text heap stack steps) answer →
+    OrMemory (Unit {0}) (SumsUpMeant out functions other heap stack steps) answer
+in_number out functions text other heap stack steps answer is h =
+    let P : List ℕ → Type 0 = λ t. OrMemory (Unit {0}) (SumsUpMeant out functions t heap stack steps) answer in
     subst P is h
 
 -- a run of an image that was assembled
@@ -202,17 +202,17 @@ pub by_writing : {H I O : Type 0} (shelf : Shelved H) (s : Streams I O) (writes 
 by_writing shelf s writes a OutOfMemory i o h = (i, o)
 by_writing shelf s writes a answer i o h = (i, before_start s answer i o, h)
 
-pub by_gen : {H I O : Type 0} (rule : SpillRule) (shelf : Shelved H) (s : Streams I O) (a : Asked) (answer : Answer) →
-    shelf.after ≡ shelf.before → Stays s.input → StaysBeforeStart s.out answer → OrMemory (Unit {0}) (IsGenerated rule s.out a) answer →
-    OrMemory (Untouched s) (ByGen rule shelf s a) answer
-by_gen rule shelf s a OutOfMemory same i o h = (i, o)
-by_gen rule shelf s a answer same i o h = (same, i, before_start s answer i o, h)
+pub by_gen : {H I O : Type 0} (shelf : Shelved H) (s : Streams I O) (a : Asked) (answer : Answer) →
+    shelf.after ≡ shelf.before → Stays s.input → StaysBeforeStart s.out answer → OrMemory (Unit {0}) (IsGenerated s.out a) answer →
+    OrMemory (Untouched s) (ByGen shelf s a) answer
+by_gen shelf s a OutOfMemory same i o h = (i, o)
+by_gen shelf s a answer same i o h = (same, i, before_start s answer i o, h)
 
-pub by_run : {H I O : Type 0} (rule : SpillRule) (shelf : Shelved H) (s : Streams I O) (a : Asked) (answer : Answer) →
-    UntouchedBeforeStart s answer → OrMemory (Unit {0}) (OfFile shelf a.file 262145 (IsRun rule (HasRun s) a)) answer →
-    OrMemory (Untouched s) (ByRun rule shelf s a) answer
-by_run rule shelf s a OutOfMemory u h = u
-by_run rule shelf s a _ u h = (u, h)
+pub by_run : {H I O : Type 0} (shelf : Shelved H) (s : Streams I O) (a : Asked) (answer : Answer) →
+    UntouchedBeforeStart s answer → OrMemory (Unit {0}) (OfFile shelf a.file 262145 (IsRun (HasRun s) a)) answer →
+    OrMemory (Untouched s) (ByRun shelf s a) answer
+by_run shelf s a OutOfMemory u h = u
+by_run shelf s a _ u h = (u, h)
 
 pub by_exec : {H I O : Type 0} (shelf : Shelved H) (s : Streams I O) (a : Asked) (answer : Answer) → UntouchedBeforeStart s answer →
     OrMemory (Unit {0}) (OfFile shelf a.file 67108865 (IsExecuted (HasRun s) a)) answer → OrMemory (Untouched s) (ByExec shelf s a) answer

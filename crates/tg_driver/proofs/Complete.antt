@@ -6,7 +6,6 @@ use Rattle.tg_base.specs.declared.ends.RunEnd.{RunEnd}
 use Rattle.tg_base.specs.declared.ends.RunEnd.TheVariants.{Exit, Break, Overflow, HeapFull, StackFull, StepLimit, BadAddress, Unaligned, BadWord}
 use Rattle.tg_base.specs.declared.ends.RunEnd.TheVariants.{BadService, ReadFault, WriteFault}
 use Rattle.tg_isa.specs.declared.images.Image.{Image}
-use Rattle.tg_rounds.specs.Policies.{Rule as SpillRule}
 use Rattle.tg_command.specs.declared.modes.Mode.{Mode}
 use Rattle.tg_command.specs.declared.modes.Mode.TheVariants.{Check, Build, Run, Exec, Alloc, Gen}
 use Rattle.tg_command.specs.Commands.{Asked}
@@ -15,9 +14,9 @@ use Rattle.tg_driver.specs.declared.answers.Answer.{Answer}
 use Rattle.tg_driver.specs.declared.answers.Answer.TheVariants.{Faulty, BadLine, TooLong, Written, Unwritten, Finished, OutOfMemory}
 use Rattle.tg_driver.specs.Calls.{Stream, stream_of, streams_of, HasFailed, Streams, Shelved, IsUnread, Call, Takes, all, part}
 use Rattle.tg_driver.specs.OfFiles.{OfFile, unreadable, read}
-use Rattle.tg_driver.specs.Builds.{EndsBuilt}
+use Rattle.tg_driver.specs.MeantRuns.{EndsAsMeant}
 use Rattle.tg_driver.specs.Runs.{RunRelation, HasRun}
-use Rattle.tg_driver.specs.Sources.{IsSource}
+use Rattle.tg_meant.specs.Sources.{IsSource}
 use Rattle.tg_driver.specs.Writing.{TextRelation, IsWritten}
 use Rattle.tg_driver.specs.RunMode.{IsRun}
 use Rattle.tg_driver.specs.ExecMode.{IsExecuted}
@@ -27,7 +26,7 @@ use Rattle.tg_driver.specs.Telling.{IsTold}
 use Rattle.tg_driver.specs.Answered.{IsDue, usage, no_memory, asked, Answers}
 use Rattle.tg_driver.specs.Laws.{HoldsFile, ReadsFile, IsGood, Gives, EndsAsTold, IsFaultyOrWritten, EndsGenerated, Settles, IsSettled}
 use Rattle.tg_driver.proofs.ExactRuns.{ends_as_told, ends_faultless}
-use Rattle.tg_driver.proofs.SourcesOnce.{built_source, listed_source}
+use Rattle.tg_driver.proofs.SourcesOnce.{meant_source, listed_source}
 
 -- the front of a file that the shelf holds
 front_is : (files : Files) (name : List ℕ) (most : ℕ) (text file : List ℕ) (at : List ℕ → Option (List ℕ)) → files ≡ Some at →
@@ -40,7 +39,7 @@ front_is files name most text file at tells holds front =
     held at front holds = rw holds at front
 
 -- the answer to the text of the file, where that can be read
-to_text : {H : Type 0} (shelf : Shelved H) (name : List ℕ) (most : ℕ) (due : List ℕ → Answer → Type 0) (file : List ℕ) (answer : Answer) →
+pub to_text : {H : Type 0} (shelf : Shelved H) (name : List ℕ) (most : ℕ) (due : List ℕ → Answer → Type 0) (file : List ℕ) (answer : Answer) →
     HoldsFile shelf name file → (IsUnread shelf name → ⊥) → OfFile shelf name most due answer → due (take most file) answer
 to_text shelf name most due file answer there readable (unreadable is u) = absurd (readable u)
 to_text shelf name most due file answer there readable (read text front h) =
@@ -48,11 +47,11 @@ to_text shelf name most due file answer there readable (read text front h) =
     subst P (front_is _ name most text file there.at there.tells there.holds front) h
 
 -- what is said of runs may be said more weakly
-ends_more : (rule : SpillRule) (runs others : RunRelation) (text : List ℕ) (heap stack steps : ℕ) (end : RunEnd) →
-    ((image : Image) → runs image heap stack steps end → others image heap stack steps end) → EndsBuilt rule runs text heap stack steps end →
-    EndsBuilt rule others text heap stack steps end
-ends_more rule runs others text heap stack steps end more e =
-    record { assembly = e.assembly; builds = e.builds; ran = record { image = e.ran.image; assembles = e.ran.assembles; run = more e.ran.image e.ran.run } }
+ends_more : (runs others : RunRelation) (text : List ℕ) (heap stack steps : ℕ) (end : RunEnd) →
+    ((image : Image) → runs image heap stack steps end → others image heap stack steps end) → EndsAsMeant runs text heap stack steps end →
+    EndsAsMeant others text heap stack steps end
+ends_more runs others text heap stack steps end more e =
+    record { assembly = e.assembly; meant = e.meant; ran = record { image = e.ran.image; assembles = e.ran.assembles; run = more e.ran.image e.ran.run } }
 
 of_written : {O : Type 0} (out : Stream O) (writes : TextRelation) (source : List ℕ) (answer : Answer) → (HasFailed out → ⊥) →
     ((text : List ℕ) → writes source text → IsSource source) → IsWritten out writes source answer → IsFaultyOrWritten source answer
@@ -65,13 +64,13 @@ of_written out writes source Unwritten written is h = failed h.takes
     failed (part same some f front) = written f
 of_written out writes source _ written is h = absurd h
 
-of_run : {I O : Type 0} (rule : SpillRule) (s : Streams I O) (a : Asked) (text : List ℕ) (answer : Answer) →
-    (HasFailed s.input → ⊥) → (HasFailed s.out → ⊥) → IsRun rule (HasRun s) a text answer → IsRun rule (EndsAsTold (s.input.told s.input.before)) a text answer
-of_run rule s a text (Faulty f) r w h = h
-of_run rule s a text (Finished end) r w h =
-    ends_more rule (HasRun s) (EndsAsTold (s.input.told s.input.before)) text a.heap a.stack a.steps end
+of_run : {I O : Type 0} (s : Streams I O) (a : Asked) (text : List ℕ) (answer : Answer) →
+    (HasFailed s.input → ⊥) → (HasFailed s.out → ⊥) → IsRun (HasRun s) a text answer → IsRun (EndsAsTold (s.input.told s.input.before)) a text answer
+of_run s a text (Faulty f) r w h = h
+of_run s a text (Finished end) r w h =
+    ends_more (HasRun s) (EndsAsTold (s.input.told s.input.before)) text a.heap a.stack a.steps end
     (λ image run. ends_faultless s image a.heap a.stack a.steps end r w run) h
-of_run rule s a text _ r w h = absurd h
+of_run s a text _ r w h = absurd h
 
 of_exec : {I O : Type 0} (s : Streams I O) (a : Asked) (text : List ℕ) (answer : Answer) → (HasFailed s.input → ⊥) →
     (HasFailed s.out → ⊥) → IsExecuted (HasRun s) a text answer → IsExecuted (EndsAsTold (s.input.told s.input.before)) a text answer
@@ -82,7 +81,7 @@ of_exec s a text (Finished end) r w h =
 of_exec s a text _ r w h = absurd h
 
 -- counts over a run and a summary
-rose_later : (a b c : ℕ) → a ≤ b → Rose b c → Rose a c
+pub rose_later : (a b c : ℕ) → a ≤ b → Rose b c → Rose a c
 rose_later a b c h r = omega (arith, h, r)
 
 -- a summary that the sink took, after a run whose writes all passed
@@ -95,7 +94,7 @@ taken : {O : Type 0} (out : Stream O) (due : List ℕ) (end : RunEnd) (answer : 
 taken out due end answer kept other (all is a) = record { finished = is; written = other }
 taken out due end answer kept other (part is some f front) = absurd (kept f)
 
-passed : {O : Type 0} (out : Stream O) (functions source written : ℕ) (end : RunEnd) (answer : Answer) → (HasFailed out → ⊥) →
+pub passed : {O : Type 0} (out : Stream O) (functions source written : ℕ) (end : RunEnd) (answer : Answer) → (HasFailed out → ⊥) →
     (end ≡ WriteFault → ⊥) → TakesSummary out functions source written end answer → Passed end answer
 passed out functions source written WriteFault answer kept other h = absurd (other refl)
 passed out functions source written (Exit n) answer kept other h = taken out _ (Exit n) answer kept other h
@@ -111,7 +110,7 @@ passed out functions source written (BadService n) answer kept other h = taken o
 passed out functions source written ReadFault answer kept other h = taken out _ ReadFault answer kept other h
 
 -- a run that ended at a failed write leaves a sink that has failed
-write_failed : {O : Type 0} (out : Stream O) (between : O) (functions source written : ℕ) (end : RunEnd) (answer : Answer) →
+pub write_failed : {O : Type 0} (out : Stream O) (between : O) (functions source written : ℕ) (end : RunEnd) (answer : Answer) →
     end ≡ WriteFault → Rose (out.faults out.before) (out.faults between) →
     TakesSummary (stream_of out.told out.faults between out.after) functions source written end answer → HasFailed out
 write_failed {O} out between functions source written end answer is rose h =
@@ -123,19 +122,19 @@ write_failed {O} out between functions source written end answer is rose h =
 no_read : Rose 0 0 → ⊥
 no_read r = absurd (omega (arith, r))
 
-of_gen : {O : Type 0} (rule : SpillRule) (out : Stream O) (a : Asked) (answer : Answer) → (HasFailed out → ⊥) →
-    IsGenerated rule out a answer → EndsGenerated rule a answer
-of_gen rule out a answer kept h =
+of_gen : {O : Type 0} (out : Stream O) (a : Asked) (answer : Answer) → (HasFailed out → ⊥) →
+    IsGenerated out a answer → EndsGenerated a answer
+of_gen out a answer kept h =
     let sums = h.ends.ran.run in
     let s = streams_of (no_input sums.input) (stream_of out.told out.faults out.before sums.between) in
     let other : h.end ≡ WriteFault → ⊥ = λ is. kept (write_failed out sums.between _ _ _ h.end answer is (sums.run.ran.write_cause is) sums.sums_up) in
     let last = passed (stream_of out.told out.faults sums.between out.after) _ _ _ h.end answer
     (λ f. kept (rose_later _ _ _ sums.run.ran.writes_later f)) other sums.sums_up in
-    let P : Answer → Type 0 = λ x. EndsGenerated rule a x in
+    let P : Answer → Type 0 = λ x. EndsGenerated a x in
     subst P (sym last.finished)
     (record {
       assembly = h.ends.assembly;
-      builds = h.ends.builds;
+      meant = h.ends.meant;
       ran = record {
         image = h.ends.ran.image;
         assembles = h.ends.ran.assembles;
@@ -145,20 +144,20 @@ of_gen rule out a answer kept h =
 
 settled : {H I O E : Type 0} (c : Call H I O E) (a : Asked) (file : List ℕ) (mode : Mode) (answer : Answer) → IsGood c a file →
     (ReadsFile mode → ReadsFile a.mode) → InMode c.rule mode c.shelf c.streams a answer →
-    Settles c.rule (c.streams.input.told c.streams.input.before) mode a (take (most_of mode) file) answer
+    Settles (c.streams.input.told c.streams.input.before) mode a (take (most_of mode) file) answer
 settled c a file Check answer good reads h = to_text c.shelf a.file 262145 _ file answer (good.there (reads tt)) good.readable h.1
-settled c a file Build answer good reads h = of_written c.streams.out _ _ answer good.all_written (built_source c.rule _)
+settled c a file Build answer good reads h = of_written c.streams.out _ _ answer good.all_written (meant_source _)
     (to_text c.shelf a.file 262145 _ file answer (good.there (reads tt)) good.readable h.2)
-settled c a file Run answer good reads h = of_run c.rule c.streams a _ answer good.all_read good.all_written
+settled c a file Run answer good reads h = of_run c.streams a _ answer good.all_read good.all_written
     (to_text c.shelf a.file 262145 _ file answer (good.there (reads tt)) good.readable h.1)
 settled c a file Exec answer good reads h = of_exec c.streams a _ answer good.all_read good.all_written
     (to_text c.shelf a.file 67108865 _ file answer (good.there (reads tt)) good.readable h.1)
 settled c a file Alloc answer good reads h = of_written c.streams.out _ _ answer good.all_written (listed_source c.rule _)
     (to_text c.shelf a.file 262145 _ file answer (good.there (reads tt)) good.readable h.2)
-settled c a file Gen answer good reads h = of_gen c.rule c.streams.out a answer good.all_written h.3
+settled c a file Gen answer good reads h = of_gen c.streams.out a answer good.all_written h.3
 
 -- the line was told
-given : {H I O E : Type 0} (c : Call H I O E) (status : ℕ) (a : Asked) (file : List ℕ) (answer : Answer) → IsGood c a file →
+pub given : {H I O E : Type 0} (c : Call H I O E) (status : ℕ) (a : Asked) (file : List ℕ) (answer : Answer) → IsGood c a file →
     IsTold c.err answer status → Gives c status answer
 given c status a file answer good (all is line) = record { status_is = is; line_is = line }
 given c status a file answer good (part is some failed front) = absurd (good.all_told failed)

@@ -15,7 +15,8 @@ use Rattle.tg_types.specs.Accepted.{Finding, finding, accepted, at_fault}
 use Rattle.tg_driver.specs.declared.faults.Rule.{Rule}
 use Rattle.tg_driver.specs.declared.faults.Rule.TheVariants.{Lexical, Syntactic, Typed}
 use Rattle.tg_driver.specs.declared.faults.Fault.{Fault}
-use Rattle.tg_driver.specs.Sources.{HasTokens, HasTree, IsSourceOf, HasFault, lexical, syntactic, ill_typed, IsFaultOf}
+use Rattle.tg_meant.specs.Sources.{HasTokens, HasTree, IsSourceOf}
+use Rattle.tg_driver.specs.Faults.{HasFault, lexical, syntactic, ill_typed, IsFaultOf}
 use Rattle.tg_driver.proofs.TokensOnce.{tokens_once, AreOne}
 
 -- one rule at one byte

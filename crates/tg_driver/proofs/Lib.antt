@@ -7,6 +7,8 @@ pub mod FaultsOnce
 pub mod SourcesOnce
 pub mod ModesOnce
 pub mod ExactRuns
+pub mod MeantEnds
 pub mod Complete
+pub mod MeantCommands
 pub mod AnswerLemmas
 mod Pieces

@@ -5,7 +5,6 @@ use Rattle.tg_base.specs.declared.ends.RunEnd.{RunEnd}
 use Rattle.tg_isa.specs.declared.images.Image.{Image}
 use Rattle.tg_isa.specs.Assembly.{Assembled, Fault as AsmFault, assembled}
 use Rattle.tg_asm.specs.Images.{image_of}
-use Rattle.tg_rounds.specs.Policies.{Rule as SpillRule}
 use Rattle.tg_command.specs.declared.modes.Mode.{Mode}
 use Rattle.tg_command.specs.declared.modes.Mode.TheVariants.{Check, Build, Run, Exec, Alloc, Gen}
 use Rattle.tg_command.specs.Commands.{Asked}
@@ -20,7 +19,7 @@ use Rattle.tg_driver.specs.GenMode.{IsGenerable}
 use Rattle.tg_driver.specs.ExecMode.{EndsImage, IsExecuted}
 use Rattle.tg_driver.specs.Modes.{IsDueOfText}
 use Rattle.tg_driver.proofs.FaultsOnce.{fault_once_told}
-use Rattle.tg_driver.proofs.SourcesOnce.{no_fault, no_fault_of_built}
+use Rattle.tg_driver.proofs.SourcesOnce.{no_fault, no_fault_of_meant}
 
 checked_once : (text : List ℕ) (a b : Answer) → IsChecked text a → IsChecked text b → a ≡ b
 checked_once text (Faulty f) (Faulty g) p q = ap Faulty (fault_once_told text f g p q)
@@ -47,15 +46,15 @@ written_alike text Unwritten Unwritten p q = inr (tt, tt)
 written_alike text Unwritten _ p q = absurd q
 written_alike text _ b p q = absurd p
 
-run_alike : (rule other : SpillRule) (runs : RunRelation) (asked : Asked) (text : List ℕ) (a b : Answer) →
-    IsRun rule runs asked text a → IsRun other runs asked text b → (a ≡ b) ⊎ (HasStarted a × HasStarted b)
-run_alike rule other runs asked text (Faulty f) (Faulty g) p q = inl (ap Faulty (fault_once_told text f g p q))
-run_alike rule other runs asked text (Faulty f) (Finished e) p q = absurd (no_fault_of_built other runs text asked.heap asked.stack asked.steps f e p q)
-run_alike rule other runs asked text (Faulty f) _ p q = absurd q
-run_alike rule other runs asked text (Finished d) (Faulty f) p q = absurd (no_fault_of_built rule runs text asked.heap asked.stack asked.steps f d q p)
-run_alike rule other runs asked text (Finished d) (Finished e) p q = inr (tt, tt)
-run_alike rule other runs asked text (Finished d) _ p q = absurd q
-run_alike rule other runs asked text _ b p q = absurd p
+run_alike : (runs : RunRelation) (asked : Asked) (text : List ℕ) (a b : Answer) →
+    IsRun runs asked text a → IsRun runs asked text b → (a ≡ b) ⊎ (HasStarted a × HasStarted b)
+run_alike runs asked text (Faulty f) (Faulty g) p q = inl (ap Faulty (fault_once_told text f g p q))
+run_alike runs asked text (Faulty f) (Finished e) p q = absurd (no_fault_of_meant runs text asked.heap asked.stack asked.steps f e p q)
+run_alike runs asked text (Faulty f) _ p q = absurd q
+run_alike runs asked text (Finished d) (Faulty f) p q = absurd (no_fault_of_meant runs text asked.heap asked.stack asked.steps f d q p)
+run_alike runs asked text (Finished d) (Finished e) p q = inr (tt, tt)
+run_alike runs asked text (Finished d) _ p q = absurd q
+run_alike runs asked text _ b p q = absurd p
 
 generated_alike : (a b : Answer) → IsGenerable a → IsGenerable b → (a ≡ b) ⊎ (HasStarted a × HasStarted b)
 generated_alike (Finished d) (Finished e) p q = inr (tt, tt)
@@ -139,14 +138,14 @@ executed_once runs others asked text a b alike p q = by a b p q (executed_alike 
     by a b p q (inr both) = absurd (both.0)
 
 -- whatever the mode
-pub due_alike : (rule other : SpillRule) (runs : RunRelation) (mode : Mode) (asked : Asked) (text : List ℕ) (a b : Answer) →
-    IsDueOfText rule runs mode asked text a → IsDueOfText other runs mode asked text b → (a ≡ b) ⊎ (HasStarted a × HasStarted b)
-due_alike rule other runs Check asked text a b p q = inl (checked_once text a b p q)
-due_alike rule other runs Build asked text a b p q = written_alike text a b p q
-due_alike rule other runs Run asked text a b p q = run_alike rule other runs asked text a b p q
-due_alike rule other runs Exec asked text a b p q = executed_alike runs runs asked text a b p q
-due_alike rule other runs Alloc asked text a b p q = written_alike text a b p q
-due_alike rule other runs Gen asked text a b p q = generated_alike a b p q
+pub due_alike : (runs : RunRelation) (mode : Mode) (asked : Asked) (text : List ℕ) (a b : Answer) →
+    IsDueOfText runs mode asked text a → IsDueOfText runs mode asked text b → (a ≡ b) ⊎ (HasStarted a × HasStarted b)
+due_alike runs Check asked text a b p q = inl (checked_once text a b p q)
+due_alike runs Build asked text a b p q = written_alike text a b p q
+due_alike runs Run asked text a b p q = run_alike runs asked text a b p q
+due_alike runs Exec asked text a b p q = executed_alike runs runs asked text a b p q
+due_alike runs Alloc asked text a b p q = written_alike text a b p q
+due_alike runs Gen asked text a b p q = generated_alike a b p q
 
 pub exec_once : (runs others : RunRelation) (asked : Asked) (text : List ℕ) (a b : Answer) →
     ((image : Image) (d e : RunEnd) → runs image asked.heap asked.stack asked.steps d → others image asked.heap asked.stack asked.steps e → d ≡ e) →

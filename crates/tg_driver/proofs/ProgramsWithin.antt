@@ -11,7 +11,7 @@ use Rattle.tg_types.specs.declared.faults.TypeRule.{TypeRule}
 use Rattle.tg_types.specs.Accepted.{finding, at_fault}
 use Rattle.tg_types.specs.BeginWithin.{IdentBegins, IsHere, BeginsWithin}
 use Rattle.tg_types.proofs.FaultBytes.{faults_stand_within}
-use Rattle.tg_driver.specs.Sources.{HasTokens}
+use Rattle.tg_meant.specs.Sources.{HasTokens}
 
 -- each token begins at this byte or before it
 abbrev pub AreWithin : (end : ℕ) → List Spanned → Type 0

@@ -1,13 +1,9 @@
 -- Trees of a text are typed under the conditions that the checker asks for, and what it answers is the text's.
-use Rattle.std.proofs.Common.{ℕ, ◌≡◌, List, [], length, refl}
+use Rattle.std.proofs.Common.{ℕ, ◌≡◌, List, length, refl}
 use Rattle.std.specs.List.Sorted.{IsPermutation}
 use Rattle.tg_syntax.specs.Tree.{Exp}
 use Rattle.tg_syntax.specs.NamesWithin.{NamesWithin}
-use Rattle.tg_syntax.specs.Beginnings.{BeginsApart, beginnings}
-use Rattle.tg_grammar.proofs.NamesKnown.{all_named}
-use Rattle.tg_grammar.proofs.Standing.{tokens_stand}
-use Rattle.tg_grammar.proofs.Orders.{apart}
-use Rattle.tg_grammar.proofs.Begun.{in_order}
+use Rattle.tg_syntax.specs.Beginnings.{BeginsApart}
 use Rattle.tg_types.specs.declared.faults.TypeFault.{TypeFault}
 use Rattle.tg_types.specs.declared.faults.TypeFault.TheVariants.{Bad, Memory}
 use Rattle.tg_types.specs.declared.notes.Note.{Note}
@@ -19,21 +15,23 @@ use Rattle.tg_spill.specs.declared.allocations.Allocation.{Allocation}
 use Rattle.tg_listing.specs.Listing.{listed}
 use Rattle.tg_compile.specs.Compiling.{Compiles, HasImage}
 use Rattle.tg_driver.specs.Meanings.{SourcesAreNeverStuck}
-use Rattle.tg_driver.specs.Sources.{IsSource, IsSourceOf}
-use Rattle.tg_driver.specs.Builds.{CompilesTo, Builds}
+use Rattle.tg_meant.specs.Sources.{IsSource, IsSourceOf}
+use Rattle.tg_meant.specs.Meant.{IsAsMeant}
+use Rattle.tg_meant.specs.Builds.{CompilesTo}
+use Rattle.tg_meant.specs.Laws.{BuiltIsAsMeant}
+use Rattle.tg_meant.proofs.Building as built
 use Rattle.tg_driver.specs.AllocMode.{Lists}
 use Rattle.tg_driver.specs.declared.writing.Wanted.{Wanted}
 use Rattle.tg_driver.specs.declared.writing.Wanted.TheVariants.{Assembly, Allocations}
 use Rattle.tg_driver.specs.Texts.{wanted_text, writes_of}
 use Rattle.tg_driver.specs.Readings.{HasNamedTree, IsTypeFaultOf}
 use Rattle.tg_compile.proofs.Chain.{compiled_has_image}
-use Rattle.tg_compile.proofs.NotesAlike.{compiles_alike}
 
 pub names_within : (text : List ℕ) (names : List (List ℕ)) (program : Exp) → HasNamedTree text names program → NamesWithin (length names) program
-names_within text names program t = all_named names text t.tokens program t.tree.has_tokens.lexed t.tree.parsed
+names_within text names program t = built.names_within text names t.tokens program t.tree
 
 pub begins_apart : (text : List ℕ) (names : List (List ℕ)) (program : Exp) → HasNamedTree text names program → BeginsApart program
-begins_apart text names program t = apart (beginnings program []) (in_order t.tokens program (tokens_stand t.tree.has_tokens.lexed) t.tree.parsed)
+begins_apart text names program t = built.begins_apart text names t.tokens program t.tree
 
 -- the notes of a program that is accepted, in the order of the finding
 noted : (f : Finding) (sorted : List Note) → Accepts f sorted → (notes : List Note) × ((f ≡ accepted notes) × (IsPermutation notes sorted × AreRising sorted))
@@ -60,28 +58,30 @@ compiles_to rule text names program sorted allocations assembly t h compiles =
       tokens = t.tokens;
       program = program;
       source = source_of text names program t n.0 n.1.0;
-      compiles = compiles_alike rule n.0 sorted program allocations assembly n.1.1.0 n.1.1.1 compiles;
+      notes = sorted;
+      accepted = h;
+      compiles = compiles;
     }
 
--- so it is built to that, the allocations are listed, and the assembly text is assembled without a fault
-pub builds : (rule : SpillRule) (text : List ℕ) (allocations : List Allocation) (assembly : List ℕ) →
-    CompilesTo rule text allocations assembly → Builds rule text assembly
-builds rule text allocations assembly h = record { allocations = allocations; compiles = h }
+-- so that does what the source means, the allocations are listed, and the assembly text is assembled without a fault
+pub as_meant : BuiltIsAsMeant → (rule : SpillRule) (text : List ℕ) (allocations : List Allocation) (assembly : List ℕ) →
+    CompilesTo rule text allocations assembly → IsAsMeant text assembly
+as_meant meant rule text allocations assembly h = meant rule text assembly (record { allocations = allocations; compiles = h })
 
 pub lists : (rule : SpillRule) (text : List ℕ) (allocations : List Allocation) (assembly : List ℕ) →
     CompilesTo rule text allocations assembly → Lists rule text (listed allocations)
 lists rule text allocations assembly h = record { allocations = allocations; assembly = assembly; compiles = h; listing_is = refl }
 
 -- and what is wanted of a source is a text that may be written of it
-pub writes_wanted : (w : Wanted) (rule : SpillRule) (text : List ℕ) (allocations : List Allocation) (assembly : List ℕ) →
+pub writes_wanted : BuiltIsAsMeant → (w : Wanted) (rule : SpillRule) (text : List ℕ) (allocations : List Allocation) (assembly : List ℕ) →
     CompilesTo rule text allocations assembly → writes_of w rule text (wanted_text w allocations assembly)
-writes_wanted Assembly rule text allocations assembly h = builds rule text allocations assembly h
-writes_wanted Allocations rule text allocations assembly h = lists rule text allocations assembly h
+writes_wanted meant Assembly rule text allocations assembly h = as_meant meant rule text allocations assembly h
+writes_wanted meant Allocations rule text allocations assembly h = lists rule text allocations assembly h
 
 pub has_image : (rule : SpillRule) (text : List ℕ) (allocations : List Allocation) (assembly : List ℕ) →
     CompilesTo rule text allocations assembly → HasImage assembly
 has_image rule text allocations assembly h =
-    compiled_has_image rule h.source.notes h.program allocations assembly h.compiles
+    compiled_has_image rule h.notes h.program allocations assembly h.compiles
 
 pub is_source : (text : List ℕ) (names : List (List ℕ)) (program : Exp) (sorted : List Note) → HasNamedTree text names program →
     Accepts (finding names program) sorted → IsSource text

@@ -7,7 +7,7 @@ use Rattle.tg_listing.specs.Listing.{listed}
 use Rattle.tg_command.specs.Commands.{Asked}
 use Rattle.tg_driver.specs.declared.answers.Answer.{Answer}
 use Rattle.tg_driver.specs.Calls.{Shelved, Streams}
-use Rattle.tg_driver.specs.Builds.{CompilesTo}
+use Rattle.tg_meant.specs.Builds.{CompilesTo}
 use Rattle.tg_driver.specs.Writing.{ByWriting}
 
 -- the source is compiled to allocations, of which this is the text

@@ -2,7 +2,7 @@
 use Rattle.std.specs.Prelude.{ℕ, List}
 use Rattle.tg_driver.specs.declared.answers.Answer.{Answer}
 use Rattle.tg_driver.specs.declared.answers.Answer.TheVariants.{Faulty, OutOfMemory}
-use Rattle.tg_driver.specs.Sources.{IsFaultOf}
+use Rattle.tg_driver.specs.Faults.{IsFaultOf}
 
 -- a fault, or want of memory
 abbrev pub IsRefused : List ℕ → Answer → Type 0

@@ -1,19 +1,19 @@
--- The mode `gen`: generates a source of as many functions as asked for, runs the image of an
--- assembly text of it on an empty input, and writes a summary line. It reads no file and no input.
+-- The mode `gen`: generates a source of as many functions as asked for, runs on an empty input the
+-- image of an assembly text that does what the source means, and writes a summary line. It reads no
+-- file and no input.
 use Rattle.std.specs.Prelude.{◌≡◌, ℕ, List, [], ◌∷◌, ◌++◌, length, codes, Some}
 use Rattle.std.specs.Fmt.{decimal}
 use Rattle.tg_base.specs.InMemory.{PlainBytes}
 use Rattle.tg_base.specs.declared.ends.RunEnd.{RunEnd}
 use Rattle.tg_base.specs.declared.ends.RunEnd.TheVariants.{WriteFault}
 use Rattle.tg_isa.specs.declared.images.Image.{Image}
-use Rattle.tg_rounds.specs.Policies.{Rule as SpillRule}
 use Rattle.tg_generate.specs.Generated.{generated}
 use Rattle.tg_command.specs.Commands.{Asked}
 use Rattle.tg_driver.specs.declared.answers.Answer.{Answer}
 use Rattle.tg_driver.specs.declared.answers.Answer.TheVariants.{Unwritten, Finished}
 use Rattle.tg_driver.specs.Calls.{Shelved, Stream, Streams, stream_of, streams_of, Stays, Takes}
 use Rattle.tg_driver.specs.OfFiles.{UntouchedBeforeStart}
-use Rattle.tg_driver.specs.Builds.{EndsBuilt}
+use Rattle.tg_driver.specs.MeantRuns.{EndsAsMeant}
 use Rattle.tg_driver.specs.Endings.{end_status}
 use Rattle.tg_driver.specs.Runs.{HasRun}
 
@@ -60,22 +60,22 @@ pub record SumsUpRun {O : Type 0} (out : Stream O) (functions source : ℕ)
   pub end : RunEnd
   pub sums_up : SumsUp out functions source answer image heap stack steps end
 
--- and so did that of an assembly text that a source of so many functions is built to
-pub record SumsUpBuilt {O : Type 0} (rule : SpillRule) (out : Stream O)
+-- and so did that of an assembly text that does what a source of so many functions means
+pub record SumsUpMeant {O : Type 0} (out : Stream O)
     (functions : ℕ) (text : List ℕ) (heap stack steps : ℕ) (answer : Answer) : Type 0 where
   pub end : RunEnd
-  pub ends : EndsBuilt rule (SumsUp out functions (length text) answer) text heap stack steps end
+  pub ends : EndsAsMeant (SumsUp out functions (length text) answer) text heap stack steps end
 
 -- what comes of a generated source
-abbrev pub IsGenerated : {O : Type 0} → SpillRule → Stream O → Asked → Answer → Type 0
-IsGenerated rule out asked answer =
-    SumsUpBuilt rule out asked.number (generated asked.number)
+abbrev pub IsGenerated : {O : Type 0} → Stream O → Asked → Answer → Type 0
+IsGenerated out asked answer =
+    SumsUpMeant out asked.number (generated asked.number)
     asked.heap asked.stack asked.steps answer
 
-abbrev pub ByGen : {H I O : Type 0} → SpillRule → Shelved H → Streams I O → Asked → Answer → Type 0
-ByGen rule shelf s asked answer =
+abbrev pub ByGen : {H I O : Type 0} → Shelved H → Streams I O → Asked → Answer → Type 0
+ByGen shelf s asked answer =
     (shelf.after ≡ shelf.before) × Stays s.input × UntouchedBeforeStart s answer
-    × IsGenerated rule s.out asked answer
+    × IsGenerated s.out asked answer
 
 -- whatever the sink takes: an end of the run, or that the summary failed
 abbrev pub IsGenerable : Answer → Type 0

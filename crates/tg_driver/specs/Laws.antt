@@ -1,7 +1,6 @@
 -- What the answers to a call amount to.
 use Rattle.std.specs.Prelude.{ℕ, ◌≡◌, List, [], Option, Some}
 use Rattle.std.specs.Io.KnownBytes.{Appends}
-use Rattle.tg_rounds.specs.Policies.{Rule as SpillRule}
 use Rattle.tg_generate.specs.Generated.{generated}
 use Rattle.tg_command.specs.declared.modes.Mode.{Mode}
 use Rattle.tg_command.specs.declared.modes.Mode.TheVariants.{Check, Build, Run, Exec, Alloc, Gen}
@@ -9,8 +8,9 @@ use Rattle.tg_command.specs.Commands.{Asked, Ask}
 use Rattle.tg_driver.specs.declared.answers.Answer.{Answer}
 use Rattle.tg_driver.specs.declared.answers.Answer.TheVariants.{Faulty, Written, Finished}
 use Rattle.tg_driver.specs.Calls.{HasFailed, Streams, Shelved, IsUnread, Call}
-use Rattle.tg_driver.specs.Sources.{IsFaultOf, IsSource}
-use Rattle.tg_driver.specs.Builds.{EndsBuilt}
+use Rattle.tg_meant.specs.Sources.{IsSource}
+use Rattle.tg_driver.specs.Faults.{IsFaultOf}
+use Rattle.tg_driver.specs.MeantRuns.{EndsAsMeant}
 use Rattle.tg_driver.specs.Runs.{RunRelation, end_in, outcome_on}
 use Rattle.tg_driver.specs.CheckMode.{IsChecked}
 use Rattle.tg_driver.specs.RunMode.{IsRun}
@@ -60,27 +60,27 @@ IsFaultyOrWritten text (Faulty fault) = IsFaultOf text fault
 IsFaultyOrWritten text Written = IsSource text
 IsFaultyOrWritten text _ = ⊥
 
--- the end of a run of what a generated source is built to, on an empty input
-abbrev pub EndsGenerated : SpillRule → Asked → Answer → Type 0
-EndsGenerated rule asked (Finished end) =
-    EndsBuilt rule (EndsAsTold (Some [])) (generated asked.number)
+-- the end of a run of what does what a generated source means, on an empty input
+abbrev pub EndsGenerated : Asked → Answer → Type 0
+EndsGenerated asked (Finished end) =
+    EndsAsMeant (EndsAsTold (Some [])) (generated asked.number)
     asked.heap asked.stack asked.steps end
-EndsGenerated rule asked _ = ⊥
+EndsGenerated asked _ = ⊥
 
 -- what text and input settle where no read or write fails
 abbrev pub Settles :
-    SpillRule → (told : Option (List ℕ)) → Mode → Asked → (text : List ℕ) → Answer → Type 0
-Settles rule told Check asked text answer = IsChecked text answer
-Settles rule told Build asked text answer = IsFaultyOrWritten text answer
-Settles rule told Run asked text answer = IsRun rule (EndsAsTold told) asked text answer
-Settles rule told Exec asked text answer = IsExecuted (EndsAsTold told) asked text answer
-Settles rule told Alloc asked text answer = IsFaultyOrWritten text answer
-Settles rule told Gen asked text answer = EndsGenerated rule asked answer
+    (told : Option (List ℕ)) → Mode → Asked → (text : List ℕ) → Answer → Type 0
+Settles told Check asked text answer = IsChecked text answer
+Settles told Build asked text answer = IsFaultyOrWritten text answer
+Settles told Run asked text answer = IsRun (EndsAsTold told) asked text answer
+Settles told Exec asked text answer = IsExecuted (EndsAsTold told) asked text answer
+Settles told Alloc asked text answer = IsFaultyOrWritten text answer
+Settles told Gen asked text answer = EndsGenerated asked answer
 
 -- the status and the line are those of an answer that is so settled
 pub record IsSettled {H I O E : Type 0} (c : Call H I O E)
     (status : ℕ) (asked : Asked) (text : List ℕ) : Type 0 where
   pub answer : Answer
   pub settled :
-      Settles c.rule (c.streams.input.told c.streams.input.before) asked.mode asked text answer
+      Settles (c.streams.input.told c.streams.input.before) asked.mode asked text answer
   pub gives : Gives c status answer

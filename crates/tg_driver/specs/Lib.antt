@@ -1,9 +1,9 @@
-pub mod Sources
+pub mod Faults
 pub mod Statuses
 pub mod Calls
 pub mod OfFiles
-pub mod Builds
 pub mod Runs
+pub mod MeantRuns
 pub mod CheckMode
 pub mod Writing
 pub mod BuildMode
@@ -12,9 +12,11 @@ pub mod ExecMode
 pub mod AllocMode
 pub mod Texts
 pub mod GenMode
+pub mod MeantEnds
 pub mod Modes
 pub mod Answered
 pub mod Laws
+pub mod MeantCommands
 pub mod Readings
 pub mod Telling
 pub mod Meanings

@@ -16,24 +16,24 @@ use Rattle.tg_driver.specs.ExecMode.{IsExecuted, ByExec}
 use Rattle.tg_driver.specs.AllocMode.{ByAlloc}
 use Rattle.tg_driver.specs.GenMode.{IsGenerable, ByGen}
 
--- the answer is due in the mode, by the rule of the call's policy
+-- the answer is due in the mode; what `alloc` lists is by the rule of the call's policy
 abbrev pub InMode :
     {H I O : Type 0} → SpillRule → Mode → Shelved H → Streams I O → Asked → Answer → Type 0
 InMode rule Check shelf s asked answer = ByCheck shelf s asked answer
-InMode rule Build shelf s asked answer = ByBuild rule shelf s asked answer
-InMode rule Run shelf s asked answer = ByRun rule shelf s asked answer
+InMode rule Build shelf s asked answer = ByBuild shelf s asked answer
+InMode rule Run shelf s asked answer = ByRun shelf s asked answer
 InMode rule Exec shelf s asked answer = ByExec shelf s asked answer
 InMode rule Alloc shelf s asked answer = ByAlloc rule shelf s asked answer
-InMode rule Gen shelf s asked answer = ByGen rule shelf s asked answer
+InMode rule Gen shelf s asked answer = ByGen shelf s asked answer
 
 -- the answer is due to the text of the file, by what is said of runs
-abbrev pub IsDueOfText : SpillRule → RunRelation → Mode → Asked → List ℕ → Answer → Type 0
-IsDueOfText rule runs Check asked text answer = IsChecked text answer
-IsDueOfText rule runs Build asked text answer = IsWritable text answer
-IsDueOfText rule runs Run asked text answer = IsRun rule runs asked text answer
-IsDueOfText rule runs Exec asked text answer = IsExecuted runs asked text answer
-IsDueOfText rule runs Alloc asked text answer = IsWritable text answer
-IsDueOfText rule runs Gen asked text answer = IsGenerable answer
+abbrev pub IsDueOfText : RunRelation → Mode → Asked → List ℕ → Answer → Type 0
+IsDueOfText runs Check asked text answer = IsChecked text answer
+IsDueOfText runs Build asked text answer = IsWritable text answer
+IsDueOfText runs Run asked text answer = IsRun runs asked text answer
+IsDueOfText runs Exec asked text answer = IsExecuted runs asked text answer
+IsDueOfText runs Alloc asked text answer = IsWritable text answer
+IsDueOfText runs Gen asked text answer = IsGenerable answer
 
 -- the bytes that a mode asks the shelf for: one more than its file may have
 abbrev pub most_of : Mode → ℕ

@@ -20,8 +20,9 @@ use Rattle.tg_driver.specs.declared.refusals.Refusal.{Refusal}
 use Rattle.tg_driver.specs.declared.refusals.Refusal.TheVariants as refusal
 use Rattle.tg_driver.specs.declared.faults.Rule.TheVariants.{Lexical, Syntactic, Typed}
 use Rattle.tg_compile.specs.declared.compiled.Compiled.{Compiled}
-use Rattle.tg_driver.specs.Sources.{HasTokens, HasTree, HasFault}
-use Rattle.tg_driver.specs.Builds.{CompilesTo}
+use Rattle.tg_meant.specs.Sources.{HasTokens, HasTree}
+use Rattle.tg_driver.specs.Faults.{HasFault}
+use Rattle.tg_meant.specs.Builds.{CompilesTo}
 
 -- the text's lexical fault; want of memory says nothing of the text
 abbrev pub IsLexFaultOf : List ℕ → LexFault → Type 0

@@ -5,7 +5,8 @@ use Rattle.tg_driver.specs.declared.answers.Answer.{Answer}
 use Rattle.tg_driver.specs.declared.answers.Answer.TheVariants.{Faulty, Written, Unwritten}
 use Rattle.tg_driver.specs.Calls.{Shelved, Stream, Streams, Stays, Takes}
 use Rattle.tg_driver.specs.OfFiles.{OfFile, UntouchedBeforeStart}
-use Rattle.tg_driver.specs.Sources.{IsFaultOf, IsSource}
+use Rattle.tg_meant.specs.Sources.{IsSource}
+use Rattle.tg_driver.specs.Faults.{IsFaultOf}
 
 -- the sink took a text, whole, or a write of it failed
 abbrev pub TakesText : {O : Type 0} → Stream O → List ℕ → Answer → Type 0

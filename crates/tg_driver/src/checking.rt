@@ -6,7 +6,7 @@ ghost use Rattle.tg_driver.specs.CheckMode.{IsChecked};
 ghost use Rattle.tg_driver.specs.Found.{IsRefused};
 ghost use Rattle.tg_driver.specs.OfFiles.{OfFile, OrMemory};
 ghost use Rattle.tg_driver.specs.Readings.{HasNamedTree, IsRefusalOf};
-ghost use Rattle.tg_driver.specs.Sources.{HasFault};
+ghost use Rattle.tg_driver.specs.Faults.{HasFault};
 
 use crate::answers::{Answer, unread};
 use crate::faults::{Fault, Rule};

@@ -11,7 +11,7 @@ ghost use Rattle.tg_driver.specs.Calls.{stream_of};
 ghost use Rattle.tg_driver.specs.Endings.{end_status};
 ghost use Rattle.tg_driver.specs.GenMode.{
   IsGenerated,
-  SumsUpBuilt,
+  SumsUpMeant,
   SumsUpRun,
   TakesSummary,
   counts,
@@ -29,6 +29,7 @@ use tg_command::Command;
 use tg_generate::generate;
 use tg_isa::Image;
 use tg_machine::{Machine, load};
+use tg_meant::built_is_as_meant;
 use tg_rounds::SpillPolicy;
 
 /// The answer of the mode `gen`: generates a source, compiles it, runs it on an empty input, and
@@ -41,8 +42,8 @@ pub(crate) fn answer_gen<O: Sink>(
 ) -> Answer
     requires limits { KeepsLimits (asked_of command.now) }
     requires number { IsWithin function_limits command.now.number }
-    ensures due { OrMemory ⊤ (IsGenerated (rule policy.old)
-        (stream_of O.taken O.faults out.old out.new) (asked_of command.now)) result }
+    ensures due { OrMemory ⊤ (IsGenerated (stream_of O.taken O.faults out.old out.new)
+        (asked_of command.now)) result }
     ensures before_start { StaysBeforeStart (stream_of O.taken O.faults out.old out.new) result }
 {
     match generate(alloc, command.number) {
@@ -60,11 +61,11 @@ fn run_generated<O: Sink>(
     policy: &mut dyn SpillPolicy,
 ) -> Answer
     requires { KeepsLimits (asked_of command.now) }
-    ensures due { OrMemory ⊤ (SumsUpBuilt (rule policy.old)
-        (stream_of O.taken O.faults out.old out.new)
+    ensures due { OrMemory ⊤ (SumsUpMeant (stream_of O.taken O.faults out.old out.new)
         command.now.number text.now command.now.heap command.now.stack command.now.steps) result }
     ensures before_start { StaysBeforeStart (stream_of O.taken O.faults out.old out.new) result }
 {
+    built_is_as_meant();
     match compile(alloc, text, policy) {
         Ok(compiled) => match image_of(alloc, &compiled.text) {
             Ok(image) => execute_generated(alloc, command, &image, text.len(), out),

@@ -1,7 +1,6 @@
 ghost use Rattle.std.specs.Prelude.{◌≡◌, ◌⊎◌, ℕ, List, take};
 ghost use Rattle.tg_base.specs.declared.ends.RunEnd.{RunEnd};
 ghost use Rattle.tg_isa.specs.declared.images.Image.{Image};
-ghost use Rattle.tg_rounds.specs.Policies.{Rule as SpillRule};
 ghost use Rattle.tg_command.specs.Commands.{Asked};
 ghost use Rattle.tg_driver.specs.declared.answers.Answer.{Answer};
 ghost use Rattle.tg_driver.specs.declared.answers.Answer.TheVariants.{OutOfMemory};
@@ -10,19 +9,23 @@ ghost use Rattle.tg_driver.specs.Calls.{Call, Streams};
 ghost use Rattle.tg_driver.specs.ExecMode.{IsExecuted};
 ghost use Rattle.tg_driver.specs.Laws.{Gives, IsFaultless, IsGood, IsSettled};
 ghost use Rattle.tg_driver.specs.Meanings.{SourcesAreNeverStuck};
+ghost use Rattle.tg_driver.specs.MeantCommands.{DoesAsMeant};
+ghost use Rattle.tg_driver.specs.MeantEnds.{GeneratedAreMeant, RunsAreMeant, StatusesAreMeant};
 ghost use Rattle.tg_driver.specs.Modes.{IsDueOfText, most_of};
 ghost use Rattle.tg_driver.specs.OfFiles.{HasStarted};
 ghost use Rattle.tg_driver.specs.Runs.{HasRun, IsExact};
+
+use tg_meant::ends_are_as_meant;
 
 /// The law that a command has at most one answer for a text, but where the streams were touched: an
 /// end of a run, which the input decides too, or whether the output took what was written. So each
 /// refusal comes exactly where its cause stands, whatever the policies, or want of memory. It does
 /// nothing.
 pub fn one_answer<I, O>()
-    ensures { (rule other : SpillRule) (s : Streams I O) (asked : Asked) (text : List ℕ)
+    ensures { (s : Streams I O) (asked : Asked) (text : List ℕ)
         (a b : Answer)
-        → IsDueOfText rule (HasRun s) asked.mode asked text a
-        → IsDueOfText other (HasRun s) asked.mode asked text b
+        → IsDueOfText (HasRun s) asked.mode asked text a
+        → IsDueOfText (HasRun s) asked.mode asked text b
         → (a ≡ b) ⊎ (HasStarted a × HasStarted b) }
 {}
 
@@ -61,3 +64,27 @@ pub fn answers_are_complete<H, I, O, E>()
 pub fn sources_are_never_stuck()
     ensures { SourcesAreNeverStuck }
 {}
+
+/// Laws of the ends of `run` and of `gen`: where the input tells its bytes and no read or write
+/// ended the run, the end, what was written and what is left of the input are the meaning of the
+/// source; and the status of each ending. They do nothing.
+pub fn runs_are_as_meant<I, O>()
+    ensures runs { RunsAreMeant I O }
+    ensures generated { GeneratedAreMeant O }
+    ensures statuses { StatusesAreMeant }
+{
+    ends_are_as_meant();
+}
+
+/// The headline of commands: with good words for a file that is there, and where no count of faults
+/// rose, `build` writes an assembly text that does what its source means, and `run` and `gen` end by
+/// the meaning of theirs; a source with a fault is answered by its first; or memory was wanting. It
+/// does nothing.
+pub fn commands_are_as_meant<H, I, O, E>()
+    ensures { (c : Call H I O E) (status : ℕ) (asked : Asked) (file : List ℕ)
+        → Answers c status → IsGood c asked file
+        → DoesAsMeant c status asked (take (most_of asked.mode) file)
+        ⊎ Gives c status OutOfMemory }
+{
+    ends_are_as_meant();
+}

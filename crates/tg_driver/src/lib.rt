@@ -1,6 +1,6 @@
 //! The passes joined together, and the top call `tiger`, which reads the words of a command and
-//! answers a status. Promises every answer with its cause, by the rule of the policy that it is
-//! handed, and that the status of a run is that of the machine.
+//! answers a status. Promises every answer with its cause, that what it builds does what the source
+//! means, and that a run ends by that meaning.
 #![tactic(auto)]
 
 mod answers;
@@ -24,7 +24,8 @@ mod writing;
 pub use answers::usage;
 pub use compiling::compile;
 pub use laws::{
-    answers_are_complete, answers_are_exact, one_answer, runs_are_exact, sources_are_never_stuck,
+    answers_are_complete, answers_are_exact, commands_are_as_meant, one_answer, runs_are_as_meant,
+    runs_are_exact, sources_are_never_stuck,
 };
 pub use refusals::Refusal;
 pub use tg_compile::Compiled;

@@ -16,6 +16,7 @@ use crate::streams::Streams;
 use std::alloc::Global;
 use tg_base::{Shelf, Sink, Source};
 use tg_command::Command;
+use tg_meant::built_is_as_meant;
 use tg_rounds::SpillPolicy;
 
 /// The answer of the mode `run`.
@@ -29,7 +30,7 @@ pub(crate) fn answer_run<H: Shelf, I: Source, O: Sink>(
     requires { KeepsLimits (asked_of command.now) }
     ensures due { OrMemory ⊤ (OfFile (shelf_of H.files H.faults shelf.old shelf.new)
         (asked_of command.now).file 262145
-        (IsRun (rule policy.old) (HasRun (streams_of
+        (IsRun (HasRun (streams_of
         (stream_of I.left I.faults streams.entry.input.now streams.exit.0.now)
         (stream_of O.taken O.faults streams.entry.out.now streams.exit.1.0.now)))
         (asked_of command.now))) result }
@@ -53,7 +54,7 @@ fn run_text<I: Source, O: Sink>(
     policy: &mut dyn SpillPolicy,
 ) -> Answer
     requires { KeepsLimits (asked_of command.now) }
-    ensures due { OrMemory ⊤ (IsRun (rule policy.old) (HasRun (streams_of
+    ensures due { OrMemory ⊤ (IsRun (HasRun (streams_of
         (stream_of I.left I.faults streams.entry.input.now streams.exit.0.now)
         (stream_of O.taken O.faults streams.entry.out.now streams.exit.1.0.now)))
         (asked_of command.now) text.now) result }
@@ -61,6 +62,7 @@ fn run_text<I: Source, O: Sink>(
         (stream_of I.left I.faults streams.entry.input.now streams.exit.0.now)
         (stream_of O.taken O.faults streams.entry.out.now streams.exit.1.0.now)) result }
 {
+    built_is_as_meant();
     match compile(alloc, text, policy) {
         Ok(compiled) => run_assembly(alloc, command, &compiled.text, streams),
         Err(refusal) => refused(text, refusal),

@@ -108,7 +108,7 @@ fn generate_to<I: Source, O: Sink>(
 ) -> Answer
     requires limits { KeepsLimits (asked_of command.now) }
     requires number { IsWithin function_limits command.now.number }
-    ensures due { OrMemory ⊤ (IsGenerated (rule policy.old)
+    ensures due { OrMemory ⊤ (IsGenerated
         (stream_of O.taken O.faults streams.entry.out.now streams.exit.1.0.now)
         (asked_of command.now)) result }
     ensures before_start { StaysBeforeStart

@@ -2,7 +2,7 @@ use Rattle.std.proofs.Common.{refl}
 use Rattle.tg_command.specs.declared.modes.Mode.TheVariants.{Check, Build, Run, Exec, Alloc, Gen}
 use Rattle.tg_command.specs.Commands.{asked_of}
 use Rattle.tg_driver.specs.Calls.{shelf_of, stream_of, streams_of}
-use Rattle.tg_driver.specs.Builds.{Builds}
+use Rattle.tg_meant.specs.Meant.{IsAsMeant}
 use Rattle.tg_driver.specs.AllocMode.{Lists}
 use Rattle.tg_driver.proofs.AnswerLemmas.{by_check, by_writing, by_run, by_exec, by_gen, in_mode}
 use Rattle.tg_driver.proofs.top.answer_command.Goals as goal
@@ -25,7 +25,7 @@ returns-in-Build-clause-due g c =
     (stream_of g.O.Sink.taken g.O.Sink.faults c.args.streams.out.now c.answer_written.new.streams.1.0) in
     let asked = asked_of c.args.command.now in
     in_mode _ Build shelf streams asked c.answer_written.result c.in-Build.is
-    (by_writing shelf streams (Builds _) asked c.answer_written.result c.answer_written.ensures.unread
+    (by_writing shelf streams IsAsMeant asked c.answer_written.result c.answer_written.ensures.unread
     c.answer_written.ensures.before_start c.answer_written.ensures.due)
 
 pub returns-in-Run-clause-due : goal.returns-in-Run-clause-due
@@ -36,7 +36,7 @@ returns-in-Run-clause-due g c =
     (stream_of g.O.Sink.taken g.O.Sink.faults c.args.streams.out.now c.answer_run.new.streams.1.0) in
     let asked = asked_of c.args.command.now in
     in_mode _ Run shelf streams asked c.answer_run.result c.in-Run.is
-    (by_run _ shelf streams asked c.answer_run.result c.answer_run.ensures.before_start c.answer_run.ensures.due)
+    (by_run shelf streams asked c.answer_run.result c.answer_run.ensures.before_start c.answer_run.ensures.due)
 
 pub returns-in-Exec-clause-due : goal.returns-in-Exec-clause-due
 returns-in-Exec-clause-due g c =
@@ -67,7 +67,7 @@ returns-in-Gen-clause-due g c =
     (stream_of g.O.Sink.taken g.O.Sink.faults c.args.streams.out.now c.generate_to.new.streams.1.0) in
     let asked = asked_of c.args.command.now in
     in_mode _ Gen shelf streams asked c.generate_to.result c.in-Gen.is
-    (by_gen _ shelf streams asked c.generate_to.result refl c.generate_to.ensures.unread c.generate_to.ensures.before_start c.generate_to.ensures.due)
+    (by_gen shelf streams asked c.generate_to.result refl c.generate_to.ensures.unread c.generate_to.ensures.before_start c.generate_to.ensures.due)
 
 pub generate_to-requires-clause-number : goal.generate_to-requires-clause-number
 generate_to-requires-clause-number g c = c.requires.number c.in-Gen.is

@@ -1,0 +1,111 @@
+-- Runs of what does what a source means end by its meaning.
+use Rattle.std.specs.Prelude.{Result, Ok, Err}
+use Rattle.std.proofs.Common.{ℕ, ◌≡◌, ◌<◌, List, [], ◌++◌, ◌%◌, Option, Some, refl, sym, ap, subst, ◌∙◌, append-nil, arith, w32}
+use Rattle.std.proofs.lemmas.Int.{of_z-to_z}
+use Rattle.std.proofs.lemmas.List.Elements.{All-nil}
+use Rattle.std.specs.Io.KnownBytes.{Appends}
+use Rattle.tg_base.specs.Causes.{Rose}
+use Rattle.tg_base.specs.declared.ends.RunEnd.{RunEnd}
+use Rattle.tg_base.specs.declared.ends.RunEnd.TheVariants.{ReadFault, WriteFault}
+use Rattle.tg_base.specs.State.{start}
+use Rattle.tg_runs.specs.Bytes.{AreBytes}
+use Rattle.tg_meaning.specs.Values.{normal, by_nil, by_index, by_division, by_chr}
+use Rattle.tg_meaning.specs.Values.{by_substring, by_size, by_heap, by_overflow, by_exit}
+use Rattle.tg_meaning.specs.Direct.{evaluate}
+use Rattle.tg_isa.specs.declared.images.Image.{Image}
+use Rattle.tg_isa.specs.Assembly.{Assembled, Fault as AsmFault, assembled}
+use Rattle.tg_isa.specs.Runs.{Execution, begun, answers}
+use Rattle.tg_asm.specs.Images.{image_of}
+use Rattle.tg_machine.specs.Ran.{Stops, still, ended, read_failed, write_failed, Tells}
+use Rattle.tg_agreement.specs.Meant.{AreSizes}
+use Rattle.tg_meant.specs.Ends.{EndIsMeant}
+use Rattle.tg_meant.specs.Meant.{IsAsMeant}
+use Rattle.tg_meant.specs.Laws.{EndedIsMeant, RunningIsMeant}
+use Rattle.tg_driver.specs.Calls.{Streams}
+use Rattle.tg_driver.specs.MeantEnds.{EndsByMeaning, RunsAreMeant, GeneratedAreMeant, streams_until}
+use Rattle.tg_driver.specs.MeantEnds.{StatusesAreMeant}
+use Rattle.tg_driver.specs.Runs.{HasRun}
+
+-- a text has one image
+the_image : Result Assembled AsmFault → Assembled → Assembled
+the_image (Ok image) otherwise = image
+the_image (Err e) otherwise = otherwise
+
+one_image : (text : List ℕ) (i j : Assembled) → assembled text ≡ Ok i → assembled text ≡ Ok j → i ≡ j
+unfolding the_image
+one_image text i j p q = ap (λ (r : Result Assembled AsmFault). the_image r i) (sym p ∙ q)
+
+-- nothing was written past the last world
+no_front : (n : ℕ) (w : Execution) (e : RunEnd) (last : Execution) (front : List ℕ) → (e ≡ ReadFault → ⊥) → (e ≡ WriteFault → ⊥) →
+    Stops n w e last front → front ≡ []
+no_front n w e last front r s (still q p f) = f
+no_front n w e last front r s (ended q f) = f
+no_front n w e last front r s (read_failed i l q p d f) = absurd (r d)
+no_front n w e last front r s (write_failed i rest l q p d) = absurd (s d)
+
+module _ (ends : EndedIsMeant) (goes_on : RunningIsMeant) where
+  -- a run of the machine whose reads and writes all passed
+  by_stop : (text assembly : List ℕ) (m : IsAsMeant text assembly) (bytes : List ℕ) (heap stack steps : ℕ) (e : RunEnd)
+      (last : Execution) (front : List ℕ) → AreBytes bytes → AreSizes heap stack → (e ≡ ReadFault → ⊥) → (e ≡ WriteFault → ⊥) →
+      Stops steps (begun (start m.image.code m.image.statics m.image.entry heap stack) (answers bytes)) e last front →
+      EndIsMeant (λ turns. evaluate m.names m.program bytes heap stack turns) steps e last
+  by_stop text assembly m bytes heap stack steps e last front are sizes r s (still q p f) =
+      let P : RunEnd → Type 0 = λ x. EndIsMeant (λ turns. evaluate m.names m.program bytes heap stack turns) steps x last in
+      subst P (sym p) (goes_on text assembly m bytes heap stack steps last are sizes q)
+  by_stop text assembly m bytes heap stack steps e last front are sizes r s (ended q f) =
+      ends text assembly m bytes heap stack steps e last are sizes q
+  by_stop text assembly m bytes heap stack steps e last front are sizes r s (read_failed i l q p d f) = absurd (r d)
+  by_stop text assembly m bytes heap stack steps e last front are sizes r s (write_failed i rest l q p d) = absurd (s d)
+
+  by_run : {I O : Type 0} (s : Streams I O) (text assembly : List ℕ) (m : IsAsMeant text assembly) (image : Image)
+      (heap stack steps : ℕ) (end : RunEnd) (bytes : List ℕ) → assembled assembly ≡ Ok (image_of image) →
+      HasRun s image heap stack steps end → s.input.told s.input.before ≡ Some bytes → AreBytes bytes → AreSizes heap stack →
+      (end ≡ ReadFault → ⊥) → (end ≡ WriteFault → ⊥) → EndsByMeaning s text heap stack steps end bytes
+  by_run s text assembly m image heap stack steps end bytes assembles h tells are sizes read written =
+      let r = h.ran in
+      let T : Option (List ℕ) → Type 0 = λ o. Tells o r.input_before in
+      let same : r.input_before ≡ answers bytes = subst T tells r.told in
+      let S : List (Option ℕ) → Type 0 = λ i. Stops steps (begun (start image.code image.statics image.entry heap stack) i) end r.last r.front in
+      let Q : Assembled → Type 0 = λ (i : Assembled). Stops steps (begun (start i.code i.statics i.entry heap stack) (answers bytes)) end r.last r.front in
+      let stops = subst Q (one_image assembly (image_of image) m.image assembles m.assembles) (subst S same r.stops) in
+      let W : List ℕ → Type 0 = λ w. Appends (s.out.told s.out.before) (s.out.told s.out.after) w in
+      let none = no_front steps _ end r.last r.front read written r.stops in
+      record {
+        names = m.names;
+        tokens = m.tokens;
+        program = m.program;
+        source = m.source;
+        last = r.last;
+        writes = subst W (ap (λ f. r.last.output ++ f) none ∙ append-nil r.last.output) r.writes;
+        rest = r.rest;
+        meant = by_stop text assembly m bytes heap stack steps end r.last r.front are sizes read written stops;
+      }
+
+  pub runs_are_meant : {I O : Type 0} → RunsAreMeant I O
+  runs_are_meant s text heap stack steps end bytes e tells are sizes read written =
+      by_run s text e.assembly e.meant e.ran.image heap stack steps end bytes e.ran.assembles e.ran.run tells are sizes read written
+
+  no_bytes : AreBytes []
+  no_bytes = All-nil (λ b. b < 256)
+
+  no_read : Rose 0 0 → ⊥
+  no_read r = absurd (omega (arith, r))
+
+  pub generated_are_meant : {O : Type 0} → GeneratedAreMeant O
+  generated_are_meant out functions text heap stack steps answer g sizes written =
+      let sums = g.ends.ran.run in
+      by_run (streams_until out sums.input sums.between) text g.ends.assembly g.ends.meant g.ends.ran.image heap stack steps g.end []
+          g.ends.ran.assembles sums.run refl no_bytes sizes (λ is. no_read (sums.run.ran.read_cause is)) written
+
+-- each ending has its status
+pub statuses_are_meant : StatusesAreMeant
+statuses_are_meant normal w = refl
+statuses_are_meant (by_exit code) w = ap (λ n. n % 256) (of_z-to_z w32 code w)
+statuses_are_meant by_nil w = refl
+statuses_are_meant by_index w = refl
+statuses_are_meant by_division w = refl
+statuses_are_meant by_chr w = refl
+statuses_are_meant by_substring w = refl
+statuses_are_meant by_size w = refl
+statuses_are_meant by_heap w = refl
+statuses_are_meant by_overflow w = refl

@@ -1,0 +1,86 @@
+-- What the end of a run says of the meaning of its source, in `run` and in `gen`.
+use Rattle.std.specs.Prelude.{ℕ, ◌≡◌, ◌≢◌, ◌<◌, ◌%◌, ◌^◌, List, [], Some}
+use Rattle.std.specs.Io.KnownBytes.{Appends}
+use Rattle.tg_base.specs.declared.ends.RunEnd.{RunEnd}
+use Rattle.tg_base.specs.declared.ends.RunEnd.TheVariants.{ReadFault, WriteFault}
+use Rattle.tg_base.specs.InMemory.{PlainBytes}
+use Rattle.tg_syntax.specs.declared.tokens.Spanned.{Spanned}
+use Rattle.tg_syntax.specs.Tree.{Exp}
+use Rattle.tg_runs.specs.Bytes.{AreBytes}
+use Rattle.tg_meaning.specs.Values.{Ending, normal, by_nil, by_index, by_division, by_chr}
+use Rattle.tg_meaning.specs.Values.{by_substring, by_size, by_heap, by_overflow, by_exit}
+use Rattle.tg_meaning.specs.MachineEnds.{machine_end}
+use Rattle.tg_meaning.specs.Direct.{evaluate}
+use Rattle.tg_isa.specs.Runs.{Execution}
+use Rattle.tg_machine.specs.Ran.{Tells}
+use Rattle.tg_agreement.specs.Meant.{AreSizes}
+use Rattle.tg_meant.specs.Sources.{IsSourceOf}
+use Rattle.tg_meant.specs.Ends.{EndIsMeant}
+use Rattle.tg_driver.specs.declared.answers.Answer.{Answer}
+use Rattle.tg_driver.specs.Calls.{Stream, stream_of, Streams, streams_of}
+use Rattle.tg_driver.specs.Endings.{end_status}
+use Rattle.tg_driver.specs.GenMode.{no_input, SumsUpMeant}
+use Rattle.tg_driver.specs.MeantRuns.{EndsAsMeant}
+use Rattle.tg_driver.specs.Runs.{HasRun}
+
+-- The text is a source of a program. What was written to the sink, what is left of the input, and
+-- the end, are what so many steps for the program on these bytes may come to by its meaning.
+pub record EndsByMeaning {I O : Type 0} (s : Streams I O)
+    (text : List ℕ) (heap stack steps : ℕ) (end : RunEnd) (bytes : List ℕ) : Type 0 where
+  pub names : List (List ℕ)
+  pub tokens : List Spanned
+  pub program : Exp
+  pub source : IsSourceOf text names tokens program
+  pub last : Execution
+  pub writes : Appends (s.out.told s.out.before) (s.out.told s.out.after) last.output
+  pub rest : Tells (s.input.told s.input.after) last.input
+  pub meant :
+      EndIsMeant (λ turns. evaluate names program bytes heap stack turns) steps end last
+
+-- Where the input tells its bytes, and no read or write ended the run, `run` ends by the meaning of
+-- its source.
+abbrev pub RunsAreMeant : (I O : Type 0) → Type 0
+RunsAreMeant I O =
+    (s : Streams I O) (text : List ℕ) (heap stack steps : ℕ) (end : RunEnd) (bytes : List ℕ) →
+    EndsAsMeant (HasRun s) text heap stack steps end →
+    s.input.told s.input.before ≡ Some bytes →
+    AreBytes bytes → AreSizes heap stack → end ≢ ReadFault → end ≢ WriteFault →
+    EndsByMeaning s text heap stack steps end bytes
+
+-- the streams of a run in `gen`: an empty input, and the output before the summary
+abbrev pub streams_until :
+    {O : Type 0} → Stream O → (input : PlainBytes) → (between : O) → Streams PlainBytes O
+streams_until out input between =
+    streams_of (no_input input) (stream_of out.told out.faults out.before between)
+
+-- And so does the run in `gen`, on its empty input, where no write ended it.
+abbrev pub GeneratedAreMeant : (O : Type 0) → Type 0
+GeneratedAreMeant O =
+    (out : Stream O) (functions : ℕ) (text : List ℕ) (heap stack steps : ℕ) (answer : Answer)
+    (g : SumsUpMeant out functions text heap stack steps answer) →
+    AreSizes heap stack → g.end ≢ WriteFault →
+    EndsByMeaning (streams_until out g.ends.ran.run.input g.ends.ran.run.between)
+    text heap stack steps g.end []
+
+-- the status of each ending; an exit's is its code modulo 256
+abbrev pub ending_status : Ending → ℕ
+ending_status normal = 0
+ending_status (by_exit code) = code % 256
+ending_status by_nil = 101
+ending_status by_index = 102
+ending_status by_division = 103
+ending_status by_chr = 104
+ending_status by_substring = 105
+ending_status by_size = 106
+ending_status by_heap = 107
+ending_status by_overflow = 110
+
+-- the codes of exits are words
+abbrev pub IsOfWord : Ending → Type 0
+IsOfWord (by_exit code) = code < 2 ^ 32
+IsOfWord _ = Unit {0}
+
+-- It is the status of the machine's end that stands for it.
+abbrev pub StatusesAreMeant : Type 0
+StatusesAreMeant =
+    (ending : Ending) → IsOfWord ending → end_status (machine_end ending) ≡ ending_status ending

@@ -1,0 +1,22 @@
+ghost use Rattle.tg_meant.specs.Laws.{BuiltIsAsMeant, EndedIsMeant, RunningIsMeant};
+
+use tg_agreement::ends_tell;
+use tg_compile_meaning::compiled_is_as_meant;
+use tg_texts::trees_are_of_words;
+
+/// The headline: an assembly text that a source is built to has an image that does what the source
+/// means. It does nothing.
+pub fn built_is_as_meant()
+    ensures { BuiltIsAsMeant }
+{
+    trees_are_of_words();
+    compiled_is_as_meant();
+}
+
+/// Laws of the ends of such a text's runs: each is as the source means. They do nothing.
+pub fn ends_are_as_meant()
+    ensures ended { EndedIsMeant }
+    ensures running { RunningIsMeant }
+{
+    ends_tell();
+}
