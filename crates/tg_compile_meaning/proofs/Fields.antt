@@ -138,9 +138,11 @@ module _ (n : ℕ) where
   notes_it : (at : ℕ) (m : Means) → field_number (Some m) ≤ n → Keeps Any (note at m)
   notes_it at m l =
       record {
-        goes = λ g h x few e.
-            (tt, subst (λ y. IsFew y) (note_is at m x g h e)
-            (record { shapes = few.shapes; notes = one_more g.notes (record { at = at; means = m }) few.notes l }));
+        goes = λ g h x few e. (
+          tt,
+          subst (λ y. IsFew y) (note_is at m x g h e)
+              (record { shapes = few.shapes; notes = one_more g.notes (record { at = at; means = m }) few.notes l }),
+        );
       }
 
   shapes_it : (at : ℕ) (s : Shape) → HasFew s → Keeps Any (add_shape at s)

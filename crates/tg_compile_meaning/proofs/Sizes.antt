@@ -46,9 +46,10 @@ sized rule size [] [] h there = tt
 sized rule size [] (a ∷ made) h there = absurd h
 sized rule size (f ∷ fs) [] h there = absurd h
 sized rule size (f ∷ fs) (a ∷ made) h there =
-    let label : a.done.frame.label.0 ≡ f.label = ap (λ x. x.0) h.0.allocation.has_frame.label ∙ h.0.chooses.label in
-    (ap size (sym label) ∙ there a (0, omega arith, refl),
-    sized rule size fs made h.1 (λ b c. let l = c.1 in there b (suc c.0, omega (arith, l), c.2)))
+    let label : a.done.frame.label.0 ≡ f.label = ap (λ x. x.0) h.0.allocation.has_frame.label ∙ h.0.chooses.label in (
+      ap size (sym label) ∙ there a (0, omega arith, refl),
+      sized rule size fs made h.1 (λ b c. let l = c.1 in there b (suc c.0, omega (arith, l), c.2)),
+    )
 
 abbrev AreApart : List ℕ → Type 0
 AreApart labels = AllPairs (λ a b. a ≢ b) labels
@@ -83,9 +84,37 @@ bounded size (m ∷ ms) (g ∷ fs) rs (a ∷ own) rest more light within sizes a
 
 -- The runtime's functions have labels below 32, and pass nothing.
 runtime_low : Each (λ (f : Function Ts). f.label < 32) runtime.functions
-runtime_low =
-    (omega arith, (omega arith, (omega arith, (omega arith, (omega arith, (omega arith, (omega arith, (omega arith, (omega arith, (omega arith,
-    (omega arith, (omega arith, (omega arith, tt)))))))))))))
+runtime_low = (
+  omega arith,
+  (
+    omega arith,
+    (
+      omega arith,
+      (
+        omega arith,
+        (
+          omega arith,
+          (
+            omega arith,
+            (
+              omega arith,
+              (
+                omega arith,
+                (
+                  omega arith,
+                  (
+                    omega arith,
+                    (omega arith, (omega arith, (omega arith, tt))),
+                  ),
+                ),
+              ),
+            ),
+          ),
+        ),
+      ),
+    ),
+  ),
+)
 
 runtime_passes : Each PassesNothing runtime.functions
 runtime_passes =

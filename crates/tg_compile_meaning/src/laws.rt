@@ -26,8 +26,8 @@ use tg_shapes::{
     temporaries_are_drawn,
 };
 use tg_spill_meaning::programs_of_allocations_keep;
-use tg_tree::trees_run;
 use tg_translate_meaning::meaning_is_kept;
+use tg_tree::trees_run;
 use tg_types::{checked_has_type, never_stuck};
 use tg_weight::{frames_are_light, trees_are_light};
 use tg_words::functions_are_short;

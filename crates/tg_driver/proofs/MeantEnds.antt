@@ -95,7 +95,7 @@ module _ (ends : EndedIsMeant) (goes_on : RunningIsMeant) where
   generated_are_meant out functions text heap stack steps answer g sizes written =
       let sums = g.ends.ran.run in
       by_run (streams_until out sums.input sums.between) text g.ends.assembly g.ends.meant g.ends.ran.image heap stack steps g.end []
-          g.ends.ran.assembles sums.run refl no_bytes sizes (λ is. no_read (sums.run.ran.read_cause is)) written
+      g.ends.ran.assembles sums.run refl no_bytes sizes (λ is. no_read (sums.run.ran.read_cause is)) written
 
 -- each ending has its status
 pub statuses_are_meant : StatusesAreMeant

@@ -47,9 +47,9 @@ compiled_as_meant : TreesAreOfWords → CompiledIsAsMeant →
 compiled_as_meant words meant rule text allocations assembly c =
     let tree = c.source.tree in
     let is = meant rule (checked c) allocations assembly (is_accepted rule text allocations assembly c)
-        c.compiles
-        (words c.names text c.program
-        (record { tokens = c.tokens; lexed = tree.has_tokens.lexed; parsed = tree.parsed })) in
+    c.compiles
+    (words c.names text c.program
+    (record { tokens = c.tokens; lexed = tree.has_tokens.lexed; parsed = tree.parsed })) in
     record {
       names = c.names;
       tokens = c.tokens;

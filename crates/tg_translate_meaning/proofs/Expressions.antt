@@ -47,7 +47,7 @@ use Rattle.tg_translate_meaning.proofs.StandardCalls.{standard_call_shown}
 -- with less fuel, or with this
 at_most : (P : Program) (n : ℕ) (inner : (m : ℕ) → m < n → (e : Exp) → Shown P m e) (e : Exp) → Shown P n e → (m : ℕ) → m ≤ n → Shown P m e
 at_most P n inner e here m le = elim (cases_lt m n) [
-  inl lt ↦ inner m lt e
+  | inl lt ↦ inner m lt e
   | inr more ↦ let same : n ≡ m = omega (arith, le, more) in subst (λ k. Shown P k e) same here
 ]
 

@@ -119,7 +119,7 @@ PaidStms n before ss =
 abbrev pub PaidBegun : Weight → Stms → Begun → Type 0
 PaidBegun n before b =
     Most (stms_length b.before + made_length b.last) (stms_room b.before + made_room b.last)
-        (stms_length before + ((90 * n.nodes + 4 * n.hops) + 2)) (stms_room before + ((44 * n.nodes + 6 * n.hops) + 2))
+    (stms_length before + ((90 * n.nodes + 4 * n.hops) + 2)) (stms_room before + ((44 * n.nodes + 6 * n.hops) + 2))
 
 module _ (table : LevelTable) where
   -- Values.

@@ -1,5 +1,7 @@
 ghost use Rattle.tg_weight.specs.Weights.{
-    AcceptedTreesAreLight, FramesAreLight, ProgramFramesAreLight,
+  AcceptedTreesAreLight,
+  FramesAreLight,
+  ProgramFramesAreLight,
 };
 
 use tg_carried::sizes_stay;
