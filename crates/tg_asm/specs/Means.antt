@@ -58,10 +58,10 @@ abbrev pub meant_by : (escaped : Bool) → ℕ → Option ℕ
 meant_by escaped c = if escaped then escape c else plain c
 
 -- A call gives what the definition does, or its fault; or memory was wanting.
-abbrev pub Gives : {S T : Type 0} → (S → T) → Result T AsmRule → Result S Refused → Type 0
-Gives view meant (Ok x) = meant ≡ Ok (view x)
-Gives view meant (Err (refused.Rule r)) = meant ≡ Err r
-Gives view meant (Err refused.Memory) = ⊤
+abbrev pub GivesMeant : {S T : Type 0} → (S → T) → Result T AsmRule → Result S Refused → Type 0
+GivesMeant view meant (Ok x) = meant ≡ Ok (view x)
+GivesMeant view meant (Err (refused.Rule r)) = meant ≡ Err r
+GivesMeant view meant (Err refused.Memory) = ⊤
 
 -- A call that changes a value leaves what the definition gives, or tells its fault; or memory was
 -- wanting.

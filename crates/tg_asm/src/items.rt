@@ -21,7 +21,7 @@ ghost use Rattle.tg_isa.specs.declared.keywords.Keyword.{Keyword};
 ghost use Rattle.tg_isa.specs.Operands as strings;
 ghost use Rattle.tg_asm.specs.Cuts.{operand_of};
 ghost use Rattle.tg_asm.specs.Means.{
-  Gives,
+  GivesMeant,
   bytes_of,
   datum_found,
   datum_of,
@@ -156,7 +156,7 @@ fn code_words<'a>(keyword: Keyword, fields: &Fields<'a>) -> Words<'a>
 
 /// An instruction.
 fn instruction<'a>(keyword: Keyword, operands: &[Operand<'a>]) -> Result<Item<'a>, Refused>
-    ensures { Gives item_of (items.instruction keyword (map operand_of operands.now)) result }
+    ensures { GivesMeant item_of (items.instruction keyword (map operand_of operands.now)) result }
 {
     match fill_all(slots(keyword, operands.len()), operands) {
         Some(fields) => {
@@ -243,7 +243,7 @@ fn values<'a>(
     align: Align,
     operands: &[Operand<'a>],
 ) -> Result<Item<'a>, Refused>
-    ensures { Gives item_of
+    ensures { GivesMeant item_of
         (items.values keyword (bytes_of align) (map operand_of operands.now)) result }
 {
     if operands.is_empty() {
@@ -326,7 +326,7 @@ fn string(alloc: Global, text: &[u8]) -> Result<Option<Vec<u8>>, Memory>
 
 /// The bytes of `.ascii`, or of `.asciiz`, which end with 0.
 fn text<'a>(alloc: Global, operands: &[Operand<'a>], ended: bool) -> Result<Item<'a>, Refused>
-    ensures { Gives item_of
+    ensures { GivesMeant item_of
         (items.text_of (if ended then 0 ∷ [] else []) (map operand_of operands.now)) result }
 {
     let inside = match operands {
@@ -341,7 +341,7 @@ fn text<'a>(alloc: Global, operands: &[Operand<'a>], ended: bool) -> Result<Item
 
 /// Bytes as an item, with a 0 behind them where they are ended.
 fn text_item<'a>(alloc: Global, bytes: Vec<u8>, ended: bool) -> Result<Item<'a>, Refused>
-    ensures { Gives item_of
+    ensures { GivesMeant item_of
         (items.text_item (if ended then 0 ∷ [] else []) (Some bytes.items)) result }
 {
     let mut bytes = bytes;
@@ -364,7 +364,8 @@ fn only<'a>(alloc: Global, datum: Datum<'a>) -> Result<Vec<Datum<'a>>, Memory>
 fn size(keyword: Keyword, operands: &[Operand<'_>]) -> Result<u32, Refused>
     requires least { items.least keyword ≡ 0 }
     requires greatest { items.greatest keyword < 2 ^ 32 }
-    ensures size { Gives (λ n. n) (items.size_of keyword (map operand_of operands.now)) result }
+    ensures size { GivesMeant (λ n. n) (items.size_of keyword
+        (map operand_of operands.now)) result }
     ensures bound { IfOk result (λ n. n ≤ items.greatest keyword) }
 {
     let text = match operands {
@@ -385,7 +386,7 @@ fn size(keyword: Keyword, operands: &[Operand<'_>]) -> Result<u32, Refused>
 
 /// `.space`.
 fn space<'a>(alloc: Global, operands: &[Operand<'a>]) -> Result<Item<'a>, Refused>
-    ensures { Gives item_of
+    ensures { GivesMeant item_of
         (items.zeros (items.size_of Keyword.Space (map operand_of operands.now))) result }
 {
     let size = size(Keyword::Space, operands)?;
@@ -394,7 +395,7 @@ fn space<'a>(alloc: Global, operands: &[Operand<'a>]) -> Result<Item<'a>, Refuse
 
 /// `.align`.
 fn alignment<'a>(alloc: Global, operands: &[Operand<'a>]) -> Result<Item<'a>, Refused>
-    ensures { Gives item_of
+    ensures { GivesMeant item_of
         (items.aligned (items.size_of Keyword.Align (map operand_of operands.now))) result }
 {
     let align = power(size(Keyword::Align, operands)?);
@@ -417,7 +418,7 @@ fn power(exponent: u32) -> Align
 
 /// An item without operands.
 fn alone<'a>(operands: &[Operand<'a>], item: Item<'a>) -> Result<Item<'a>, Refused>
-    ensures { Gives item_of
+    ensures { GivesMeant item_of
         (items.alone (map operand_of operands.now) (item_of item.entry)) result }
 {
     if operands.is_empty() {
@@ -429,7 +430,7 @@ fn alone<'a>(operands: &[Operand<'a>], item: Item<'a>) -> Result<Item<'a>, Refus
 
 /// `.globl`.
 fn named<'a>(operands: &[Operand<'a>]) -> Result<Item<'a>, Refused>
-    ensures { Gives item_of (items.named (map operand_of operands.now)) result }
+    ensures { GivesMeant item_of (items.named (map operand_of operands.now)) result }
 {
     match operands {
         [Operand::Plain(text)] if is_label(text) => Ok(Item::Nothing),
@@ -443,7 +444,7 @@ pub(crate) fn read_item<'a>(
     keyword: Keyword,
     operands: &[Operand<'a>],
 ) -> Result<Item<'a>, Refused>
-    ensures { Gives item_of (items.item keyword (map operand_of operands.now)) result }
+    ensures { GivesMeant item_of (items.item keyword (map operand_of operands.now)) result }
 {
     match keyword {
         Keyword::Text => alone(operands, Item::Section(Segment::Code)),

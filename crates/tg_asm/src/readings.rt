@@ -1,7 +1,7 @@
 ghost use Rattle.std.specs.Prelude.{◌≡◌, Some};
 ghost use Rattle.tg_isa.specs.Assembly as assembly;
 ghost use Rattle.tg_asm.specs.Cuts.{cut_of};
-ghost use Rattle.tg_asm.specs.Means.{Gives};
+ghost use Rattle.tg_asm.specs.Means.{GivesMeant};
 ghost use Rattle.tg_asm.specs.Readings.{reading_of};
 
 use crate::cuts::{Cut, cut_line};
@@ -20,7 +20,7 @@ pub(crate) struct Reading<'a> {
 
 /// What the parts of a line are that stands in a segment.
 fn read_cut<'a>(alloc: Global, segment: Segment, cut: Cut<'a>) -> Result<Reading<'a>, Refused>
-    ensures { Gives reading_of (assembly.read_cut segment (Some (cut_of cut.entry))) result }
+    ensures { GivesMeant reading_of (assembly.read_cut segment (Some (cut_of cut.entry))) result }
 {
     if cut.word.is_empty() {
         return Ok(Reading {
@@ -49,7 +49,7 @@ pub(crate) fn read_line<'a>(
     segment: Segment,
     line: &'a [u8],
 ) -> Result<Reading<'a>, Refused>
-    ensures { Gives reading_of (assembly.reading segment line.now) result }
+    ensures { GivesMeant reading_of (assembly.reading segment line.now) result }
 {
     match cut_line(alloc, line)? {
         Some(cut) => read_cut(alloc, segment, cut),

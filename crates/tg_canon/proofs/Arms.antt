@@ -4,7 +4,7 @@ use Rattle.tg_tree.specs.declared.operators.Bin.{Bin}
 use Rattle.tg_tree.specs.declared.operators.Rel.{Rel}
 use Rattle.tg_tree.specs.Tree.{Tx, Const, Address, Temp, FrameAddress, Binary, Load, LoadByte, Call, Service, After, Txs, Cond, Compare, Not, Both}
 use Rattle.tg_tree.specs.Tree.{Either, Ts, Move, Store, StoreByte, Do, If, Loop, Break, Fault, Seq, Return, Stms}
-use Rattle.tg_canon.specs.Drawing.{Draws, give, ◌>>=◌, Gives}
+use Rattle.tg_canon.specs.Drawing.{Draws, give, ◌>>=◌, DrawsFrom}
 use Rattle.tg_canon.specs.Canon.{Part, still, assigning, ◌before◌, loop_of, block, Parts, in_turn, Lifted, Two, Arguments, whole, behind, is_side}
 use Rattle.tg_canon.specs.Canon.{hold_side, word, side_by_side, over, over_two, over_all, with_one, with_two, dropped, is_whole, Tested, compared}
 use Rattle.tg_canon.specs.Canon.{opposite, joined, choice, exit_where, wide_choice, deeper, inside, choose, lift, lift_all, condition, leave, linear}
@@ -12,145 +12,145 @@ use Rattle.tg_canon.specs.Canon.{linear_all, operands}
 use Rattle.tg_canon.proofs.Steps.{given, on, ends, same}
 
 -- expressions
-pub constant_lifts : (out : ℕ → ℕ) (n : ℕ) {k : ℕ} {r : Lifted} → r ≡ whole (Const n) → Gives (lift out (Const n)) k r k
+pub constant_lifts : (out : ℕ → ℕ) (n : ℕ) {k : ℕ} {r : Lifted} → r ≡ whole (Const n) → DrawsFrom (lift out (Const n)) k r k
 constant_lifts out n e = same (given _ _) e
 
-pub address_lifts : (out : ℕ → ℕ) (n : ℕ) {k : ℕ} {r : Lifted} → r ≡ whole (Address n) → Gives (lift out (Address n)) k r k
+pub address_lifts : (out : ℕ → ℕ) (n : ℕ) {k : ℕ} {r : Lifted} → r ≡ whole (Address n) → DrawsFrom (lift out (Address n)) k r k
 address_lifts out n e = same (given _ _) e
 
-pub temporary_lifts : (out : ℕ → ℕ) (n : ℕ) {k : ℕ} {r : Lifted} → r ≡ whole (Temp n) → Gives (lift out (Temp n)) k r k
+pub temporary_lifts : (out : ℕ → ℕ) (n : ℕ) {k : ℕ} {r : Lifted} → r ≡ whole (Temp n) → DrawsFrom (lift out (Temp n)) k r k
 temporary_lifts out n e = same (given _ _) e
 
-pub frame_lifts : (out : ℕ → ℕ) {k : ℕ} {r : Lifted} → r ≡ whole FrameAddress → Gives (lift out FrameAddress) k r k
+pub frame_lifts : (out : ℕ → ℕ) {k : ℕ} {r : Lifted} → r ≡ whole FrameAddress → DrawsFrom (lift out FrameAddress) k r k
 frame_lifts out e = same (given _ _) e
 
-pub binary_lifts : (out : ℕ → ℕ) (op : Bin) (x y : Tx) {k l : ℕ} {both : Two} {r : Lifted} → Gives (operands out x y) k both l →
-    r ≡ over_two (Binary op) both → Gives (lift out (Binary op x y)) k r l
+pub binary_lifts : (out : ℕ → ℕ) (op : Bin) (x y : Tx) {k l : ℕ} {both : Two} {r : Lifted} → DrawsFrom (operands out x y) k both l →
+    r ≡ over_two (Binary op) both → DrawsFrom (lift out (Binary op x y)) k r l
 binary_lifts out op x y g e = ends (over_two (Binary op)) g e
 
-pub load_lifts : (out : ℕ → ℕ) (x : Tx) {k l : ℕ} {a r : Lifted} → Gives (word (lift out x)) k a l → r ≡ over Load a → Gives (lift out (Load x)) k r l
+pub load_lifts : (out : ℕ → ℕ) (x : Tx) {k l : ℕ} {a r : Lifted} → DrawsFrom (word (lift out x)) k a l → r ≡ over Load a → DrawsFrom (lift out (Load x)) k r l
 load_lifts out x g e = ends (over Load) g e
 
-pub byte_lifts : (out : ℕ → ℕ) (x : Tx) {k l : ℕ} {a r : Lifted} → Gives (word (lift out x)) k a l → r ≡ over LoadByte a → Gives (lift out (LoadByte x)) k r l
+pub byte_lifts : (out : ℕ → ℕ) (x : Tx) {k l : ℕ} {a r : Lifted} → DrawsFrom (word (lift out x)) k a l → r ≡ over LoadByte a → DrawsFrom (lift out (LoadByte x)) k r l
 byte_lifts out x g e = ends (over LoadByte) g e
 
-pub call_lifts : (out : ℕ → ℕ) (f : ℕ) (xs : Txs) {k l : ℕ} {all : Arguments} {r : Lifted} → Gives (lift_all out xs) k all l →
-    r ≡ over_all (Call f) all → Gives (lift out (Call f xs)) k r l
+pub call_lifts : (out : ℕ → ℕ) (f : ℕ) (xs : Txs) {k l : ℕ} {all : Arguments} {r : Lifted} → DrawsFrom (lift_all out xs) k all l →
+    r ≡ over_all (Call f) all → DrawsFrom (lift out (Call f xs)) k r l
 call_lifts out f xs g e = ends (over_all (Call f)) g e
 
-pub service_lifts : (out : ℕ → ℕ) (n : ℕ) (x : Tx) {k l : ℕ} {a r : Lifted} → Gives (word (lift out x)) k a l →
-    r ≡ over (Service n) a → Gives (lift out (Service n x)) k r l
+pub service_lifts : (out : ℕ → ℕ) (n : ℕ) (x : Tx) {k l : ℕ} {a r : Lifted} → DrawsFrom (word (lift out x)) k a l →
+    r ≡ over (Service n) a → DrawsFrom (lift out (Service n x)) k r l
 service_lifts out n x g e = ends (over (Service n)) g e
 
-pub after_lifts : (out : ℕ → ℕ) (s : Ts) (x : Tx) {k l n : ℕ} {a r : Lifted} {p : Part} → Gives (lift out x) k a l →
-    Gives (linear out s) l p n → r ≡ behind p a → Gives (lift out (After s x)) k r n
+pub after_lifts : (out : ℕ → ℕ) (s : Ts) (x : Tx) {k l n : ℕ} {a r : Lifted} {p : Part} → DrawsFrom (lift out x) k a l →
+    DrawsFrom (linear out s) l p n → r ≡ behind p a → DrawsFrom (lift out (After s x)) k r n
 after_lifts out s x {a = a} g h e = on (λ b. linear out s >>= λ p. give (behind p b)) g (ends (λ p. behind p a) h e)
 
-pub word_lifts : (out : ℕ → ℕ) (x : Tx) {k l n : ℕ} {a b : Lifted} → Gives (lift out x) k a l →
-    Gives (hold_side (is_side a.rest) a) l b n → Gives (word (lift out x)) k b n
+pub word_lifts : (out : ℕ → ℕ) (x : Tx) {k l n : ℕ} {a b : Lifted} → DrawsFrom (lift out x) k a l →
+    DrawsFrom (hold_side (is_side a.rest) a) l b n → DrawsFrom (word (lift out x)) k b n
 word_lifts out x g h = on (λ a. hold_side (is_side a.rest) a) g h
 
-pub operands_lift : (out : ℕ → ℕ) (x y : Tx) {k l m n : ℕ} {a b : Lifted} {both : Two} → Gives (word (lift out y)) k b l →
-    Gives (word (lift out x)) l a m → Gives (side_by_side a b) m both n → Gives (operands out x y) k both n
+pub operands_lift : (out : ℕ → ℕ) (x y : Tx) {k l m n : ℕ} {a b : Lifted} {both : Two} → DrawsFrom (word (lift out y)) k b l →
+    DrawsFrom (word (lift out x)) l a m → DrawsFrom (side_by_side a b) m both n → DrawsFrom (operands out x y) k both n
 operands_lift out x y {b = b} g h i = on (λ d. word (lift out x) >>= λ c. side_by_side c d) g (on (λ c. side_by_side c b) h i)
 
 -- conditions that stay whole
-pub compare_tests : (out : ℕ → ℕ) (rel : Rel) (x y : Tx) {k l : ℕ} {both : Two} {t : Tested} → Gives (operands out x y) k both l →
-    t ≡ compared (Compare rel) both → Gives (condition out (Compare rel x y)) k t l
+pub compare_tests : (out : ℕ → ℕ) (rel : Rel) (x y : Tx) {k l : ℕ} {both : Two} {t : Tested} → DrawsFrom (operands out x y) k both l →
+    t ≡ compared (Compare rel) both → DrawsFrom (condition out (Compare rel x y)) k t l
 compare_tests out rel x y g e = ends (compared (Compare rel)) g e
 
-pub not_tests : (out : ℕ → ℕ) (c : Cond) {k l : ℕ} {t u : Tested} → Gives (condition out c) k t l → u ≡ opposite t → Gives (condition out (Not c)) k u l
+pub not_tests : (out : ℕ → ℕ) (c : Cond) {k l : ℕ} {t u : Tested} → DrawsFrom (condition out c) k t l → u ≡ opposite t → DrawsFrom (condition out (Not c)) k u l
 not_tests out c g e = ends opposite g e
 
-pub both_tests : (out : ℕ → ℕ) (c d : Cond) {k l n : ℕ} {t u r : Tested} → Gives (condition out d) k u l →
-    Gives (condition out c) l t n → r ≡ joined Both t u → Gives (condition out (Both c d)) k r n
+pub both_tests : (out : ℕ → ℕ) (c d : Cond) {k l n : ℕ} {t u r : Tested} → DrawsFrom (condition out d) k u l →
+    DrawsFrom (condition out c) l t n → r ≡ joined Both t u → DrawsFrom (condition out (Both c d)) k r n
 both_tests out c d {u = u} g h e = on (λ v. condition out c >>= λ t. give (joined Both t v)) g (ends (λ t. joined Both t u) h e)
 
-pub either_tests : (out : ℕ → ℕ) (c d : Cond) {k l n : ℕ} {t u r : Tested} → Gives (condition out d) k u l →
-    Gives (condition out c) l t n → r ≡ joined Either t u → Gives (condition out (Either c d)) k r n
+pub either_tests : (out : ℕ → ℕ) (c d : Cond) {k l n : ℕ} {t u r : Tested} → DrawsFrom (condition out d) k u l →
+    DrawsFrom (condition out c) l t n → r ≡ joined Either t u → DrawsFrom (condition out (Either c d)) k r n
 either_tests out c d {u = u} g h e = on (λ v. condition out c >>= λ t. give (joined Either t v)) g (ends (λ t. joined Either t u) h e)
 
 -- conditions part by part
 pub compare_leaves : (out : ℕ → ℕ) (w : Bool) (n : ℕ) (rel : Rel) (x y : Tx) {k l : ℕ} {both : Two} {t : Tested} {p : Part} →
-    Gives (operands out x y) k both l → t ≡ compared (Compare rel) both → p ≡ exit_where w n t → Gives (leave out w n (Compare rel x y)) k p l
+    DrawsFrom (operands out x y) k both l → t ≡ compared (Compare rel) both → p ≡ exit_where w n t → DrawsFrom (leave out w n (Compare rel x y)) k p l
 compare_leaves out w n rel x y g e f = ends (λ ab. exit_where w n (compared (Compare rel) ab)) g (f ∙ ap (exit_where w n) e)
 
-pub not_leaves : (out : ℕ → ℕ) (w : Bool) (n : ℕ) (c : Cond) {k l : ℕ} {p : Part} → Gives (leave out (not w) n c) k p l → Gives (leave out w n (Not c)) k p l
+pub not_leaves : (out : ℕ → ℕ) (w : Bool) (n : ℕ) (c : Cond) {k l : ℕ} {p : Part} → DrawsFrom (leave out (not w) n c) k p l → DrawsFrom (leave out w n (Not c)) k p l
 not_leaves out w n c g = g
 
-pub both_fails : (out : ℕ → ℕ) (n : ℕ) (c d : Cond) {k l m : ℕ} {p q r : Part} → Gives (leave out false n d) k q l →
-    Gives (leave out false n c) l p m → r ≡ p before q → Gives (leave out false n (Both c d)) k r m
+pub both_fails : (out : ℕ → ℕ) (n : ℕ) (c d : Cond) {k l m : ℕ} {p q r : Part} → DrawsFrom (leave out false n d) k q l →
+    DrawsFrom (leave out false n c) l p m → r ≡ p before q → DrawsFrom (leave out false n (Both c d)) k r m
 both_fails out n c d {q = q} g h e = on (λ y. leave out false n c >>= λ x. give (x before y)) g (ends (λ x. x before q) h e)
 
-pub either_holds : (out : ℕ → ℕ) (n : ℕ) (c d : Cond) {k l m : ℕ} {p q r : Part} → Gives (leave out true n d) k q l →
-    Gives (leave out true n c) l p m → r ≡ p before q → Gives (leave out true n (Either c d)) k r m
+pub either_holds : (out : ℕ → ℕ) (n : ℕ) (c d : Cond) {k l m : ℕ} {p q r : Part} → DrawsFrom (leave out true n d) k q l →
+    DrawsFrom (leave out true n c) l p m → r ≡ p before q → DrawsFrom (leave out true n (Either c d)) k r m
 either_holds out n c d {q = q} g h e = on (λ y. leave out true n c >>= λ x. give (x before y)) g (ends (λ x. x before q) h e)
 
 pub both_holds : (out : ℕ → ℕ) (n : ℕ) (c d : Cond) {k l m further : ℕ} {p q s r : Part} → further ≡ n + 1 →
-    Gives (leave (deeper 1 out) true further d) k q l → Gives (leave (deeper 1 out) false 0 c) l p m → s ≡ p before q →
-    r ≡ block s → Gives (leave out true n (Both c d)) k r m
+    DrawsFrom (leave (deeper 1 out) true further d) k q l → DrawsFrom (leave (deeper 1 out) false 0 c) l p m → s ≡ p before q →
+    r ≡ block s → DrawsFrom (leave out true n (Both c d)) k r m
 both_holds out n c d {k = k} {l = l} {q = q} u g h e f =
     on (λ y. leave (deeper 1 out) false 0 c >>= λ x. give (block (x before y))) (record { is = ap (λ j. leave (deeper 1 out) true j d k) (sym u) ∙ g.is })
     (ends (λ x. block (x before q)) h (f ∙ ap block e))
 
 pub either_fails : (out : ℕ → ℕ) (n : ℕ) (c d : Cond) {k l m further : ℕ} {p q s r : Part} → further ≡ n + 1 →
-    Gives (leave (deeper 1 out) false further d) k q l → Gives (leave (deeper 1 out) true 0 c) l p m → s ≡ p before q →
-    r ≡ block s → Gives (leave out false n (Either c d)) k r m
+    DrawsFrom (leave (deeper 1 out) false further d) k q l → DrawsFrom (leave (deeper 1 out) true 0 c) l p m → s ≡ p before q →
+    r ≡ block s → DrawsFrom (leave out false n (Either c d)) k r m
 either_fails out n c d {k = k} {q = q} u g h e f =
     on (λ y. leave (deeper 1 out) true 0 c >>= λ x. give (block (x before y))) (record { is = ap (λ j. leave (deeper 1 out) false j d k) (sym u) ∙ g.is })
     (ends (λ x. block (x before q)) h (f ∙ ap block e))
 
 -- statements
-pub move_goes : (out : ℕ → ℕ) (i : ℕ) (x : Tx) {k l : ℕ} {a : Lifted} {p : Part} → Gives (lift out x) k a l →
-    p ≡ with_one (λ v. assigning i (Move i v)) a → Gives (linear out (Move i x)) k p l
+pub move_goes : (out : ℕ → ℕ) (i : ℕ) (x : Tx) {k l : ℕ} {a : Lifted} {p : Part} → DrawsFrom (lift out x) k a l →
+    p ≡ with_one (λ v. assigning i (Move i v)) a → DrawsFrom (linear out (Move i x)) k p l
 move_goes out i x g e = ends (with_one (λ v. assigning i (Move i v))) g e
 
-pub store_goes : (out : ℕ → ℕ) (x y : Tx) {k l : ℕ} {both : Two} {p : Part} → Gives (operands out x y) k both l →
-    p ≡ with_two Store both → Gives (linear out (Store x y)) k p l
+pub store_goes : (out : ℕ → ℕ) (x y : Tx) {k l : ℕ} {both : Two} {p : Part} → DrawsFrom (operands out x y) k both l →
+    p ≡ with_two Store both → DrawsFrom (linear out (Store x y)) k p l
 store_goes out x y g e = ends (with_two Store) g e
 
-pub store_byte_goes : (out : ℕ → ℕ) (x y : Tx) {k l : ℕ} {both : Two} {p : Part} → Gives (operands out x y) k both l →
-    p ≡ with_two StoreByte both → Gives (linear out (StoreByte x y)) k p l
+pub store_byte_goes : (out : ℕ → ℕ) (x y : Tx) {k l : ℕ} {both : Two} {p : Part} → DrawsFrom (operands out x y) k both l →
+    p ≡ with_two StoreByte both → DrawsFrom (linear out (StoreByte x y)) k p l
 store_byte_goes out x y g e = ends (with_two StoreByte) g e
 
-pub do_goes : (out : ℕ → ℕ) (x : Tx) {k l : ℕ} {a : Lifted} {p : Part} → Gives (lift out x) k a l → p ≡ with_one dropped a → Gives (linear out (Do x)) k p l
+pub do_goes : (out : ℕ → ℕ) (x : Tx) {k l : ℕ} {a : Lifted} {p : Part} → DrawsFrom (lift out x) k a l → p ≡ with_one dropped a → DrawsFrom (linear out (Do x)) k p l
 do_goes out x g e = ends (with_one dropped) g e
 
 -- one of two ways
-this_way : {b : Bool} {m : Draws Part} (n : Draws Part) {k l : ℕ} {p : Part} → b ≡ true → Gives m k p l → Gives (choose b m n) k p l
+this_way : {b : Bool} {m : Draws Part} (n : Draws Part) {k l : ℕ} {p : Part} → b ≡ true → DrawsFrom m k p l → DrawsFrom (choose b m n) k p l
 this_way {m = m} n {k = k} e g = record { is = ap (λ b. choose b m n k) e ∙ g.is }
 
-that_way : {b : Bool} (m : Draws Part) {n : Draws Part} {k l : ℕ} {p : Part} → b ≡ false → Gives n k p l → Gives (choose b m n) k p l
+that_way : {b : Bool} (m : Draws Part) {n : Draws Part} {k l : ℕ} {p : Part} → b ≡ false → DrawsFrom n k p l → DrawsFrom (choose b m n) k p l
 that_way m {n = n} {k = k} e g = record { is = ap (λ b. choose b m n k) e ∙ g.is }
 
 pub if_goes : (out : ℕ → ℕ) (c : Cond) (s t : Ts) {k l m n : ℕ} {p q r : Part} {tested : Tested} → is_whole c ≡ true →
-    Gives (linear out t) k q l → Gives (linear out s) l p m → Gives (condition out c) m tested n → r ≡ choice tested p q → Gives (linear out (If c s t)) k r n
+    DrawsFrom (linear out t) k q l → DrawsFrom (linear out s) l p m → DrawsFrom (condition out c) m tested n → r ≡ choice tested p q → DrawsFrom (linear out (If c s t)) k r n
 if_goes out c s t {p = p} {q = q} w g h i e =
     this_way (linear (deeper 1 out) t >>= λ y. linear (deeper 2 out) s >>= λ x. leave (deeper 2 out) false 0 c >>= λ u. give (wide_choice u x y))
     w (on (λ y. linear out s >>= λ x. condition out c >>= λ u. give (choice u x y)) g
     (on (λ x. condition out c >>= λ u. give (choice u x q)) h (ends (λ u. choice u p q) i e)))
 
 pub if_goes_by_parts : (out : ℕ → ℕ) (c : Cond) (s t : Ts) {k l m n : ℕ} {p q r test : Part} → is_whole c ≡ false →
-    Gives (linear (deeper 1 out) t) k q l → Gives (linear (deeper 2 out) s) l p m → Gives (leave (deeper 2 out) false 0 c) m test n →
-    r ≡ wide_choice test p q → Gives (linear out (If c s t)) k r n
+    DrawsFrom (linear (deeper 1 out) t) k q l → DrawsFrom (linear (deeper 2 out) s) l p m → DrawsFrom (leave (deeper 2 out) false 0 c) m test n →
+    r ≡ wide_choice test p q → DrawsFrom (linear out (If c s t)) k r n
 if_goes_by_parts out c s t {p = p} {q = q} w g h i e =
     that_way (linear out t >>= λ y. linear out s >>= λ x. condition out c >>= λ u. give (choice u x y)) w
     (on (λ y. linear (deeper 2 out) s >>= λ x. leave (deeper 2 out) false 0 c >>= λ u. give (wide_choice u x y)) g
     (on (λ x. leave (deeper 2 out) false 0 c >>= λ u. give (wide_choice u x q)) h (ends (λ u. wide_choice u p q) i e)))
 
-pub loop_goes : (out : ℕ → ℕ) (s : Ts) {k l : ℕ} {p r : Part} → Gives (linear (inside out) s) k p l → r ≡ loop_of p → Gives (linear out (Loop s)) k r l
+pub loop_goes : (out : ℕ → ℕ) (s : Ts) {k l : ℕ} {p r : Part} → DrawsFrom (linear (inside out) s) k p l → r ≡ loop_of p → DrawsFrom (linear out (Loop s)) k r l
 loop_goes out s g e = ends loop_of g e
 
-pub break_goes : (out : ℕ → ℕ) (n : ℕ) {k target : ℕ} {p : Part} → target ≡ out n → p ≡ still (Break target) → Gives (linear out (Break n)) k p k
+pub break_goes : (out : ℕ → ℕ) (n : ℕ) {k target : ℕ} {p : Part} → target ≡ out n → p ≡ still (Break target) → DrawsFrom (linear out (Break n)) k p k
 break_goes out n u e = same (given _ _) (e ∙ ap (λ j. still (Break j)) u)
 
-pub fault_goes : (out : ℕ → ℕ) (n : ℕ) {k : ℕ} {p : Part} → p ≡ still (Fault n) → Gives (linear out (Fault n)) k p k
+pub fault_goes : (out : ℕ → ℕ) (n : ℕ) {k : ℕ} {p : Part} → p ≡ still (Fault n) → DrawsFrom (linear out (Fault n)) k p k
 fault_goes out n e = same (given _ _) e
 
-pub sequence_goes : (out : ℕ → ℕ) (ss : Stms) {k l : ℕ} {all : Parts} {p : Part} → Gives (linear_all out ss) k all l →
-    p ≡ in_turn all → Gives (linear out (Seq ss)) k p l
+pub sequence_goes : (out : ℕ → ℕ) (ss : Stms) {k l : ℕ} {all : Parts} {p : Part} → DrawsFrom (linear_all out ss) k all l →
+    p ≡ in_turn all → DrawsFrom (linear out (Seq ss)) k p l
 sequence_goes out ss g e = ends in_turn g e
 
-pub return_goes : (out : ℕ → ℕ) (x : Tx) {k l : ℕ} {a : Lifted} {p : Part} → Gives (word (lift out x)) k a l →
-    p ≡ with_one (λ v. still (Return v)) a → Gives (linear out (Return x)) k p l
+pub return_goes : (out : ℕ → ℕ) (x : Tx) {k l : ℕ} {a : Lifted} {p : Part} → DrawsFrom (word (lift out x)) k a l →
+    p ≡ with_one (λ v. still (Return v)) a → DrawsFrom (linear out (Return x)) k p l
 return_goes out x g e = ends (with_one (λ v. still (Return v))) g e

@@ -10,40 +10,40 @@ use Rattle.tg_tree.specs.Tree as tree
 use Rattle.tg_tree.specs.Lists.{txs_of, stms_of}
 use Rattle.tg_tree.proofs.ListLaws.{plain_tx-Call, plain_ts-Seq}
 use Rattle.tg_tree.specs.Plain.{plain_tx, plain_cond, plain_ts}
-use Rattle.tg_canon.specs.Drawing.{Draws, Gives}
+use Rattle.tg_canon.specs.Drawing.{Draws, DrawsFrom}
 use Rattle.tg_canon.specs.Canon.{Part, Lifted, Two, Tested, word, lift, condition, leave, linear, operands}
 
 -- what equal trees draw
-alike : {A Tree : Type 0} (draw : Tree → Draws A) {s t : Tree} {k l : ℕ} {a : A} → s ≡ t → Gives (draw t) k a l → Gives (draw s) k a l
+alike : {A Tree : Type 0} (draw : Tree → Draws A) {s t : Tree} {k l : ℕ} {a : A} → s ≡ t → DrawsFrom (draw t) k a l → DrawsFrom (draw s) k a l
 alike draw {k = k} e g = record { is = ap (λ t. draw t k) e ∙ g.is }
 
-pub lifts_as : (out : ℕ → ℕ) {x y : CodeTx} {k l : ℕ} {a : Lifted} → x ≡ y → Gives (lift out (plain_tx y)) k a l → Gives (lift out (plain_tx x)) k a l
+pub lifts_as : (out : ℕ → ℕ) {x y : CodeTx} {k l : ℕ} {a : Lifted} → x ≡ y → DrawsFrom (lift out (plain_tx y)) k a l → DrawsFrom (lift out (plain_tx x)) k a l
 lifts_as out e g = alike (λ x. lift out (plain_tx x)) e g
 
-pub word_as : (out : ℕ → ℕ) {x y : CodeTx} {k l : ℕ} {a : Lifted} → x ≡ y → Gives (word (lift out (plain_tx y))) k a l →
-    Gives (word (lift out (plain_tx x))) k a l
+pub word_as : (out : ℕ → ℕ) {x y : CodeTx} {k l : ℕ} {a : Lifted} → x ≡ y → DrawsFrom (word (lift out (plain_tx y))) k a l →
+    DrawsFrom (word (lift out (plain_tx x))) k a l
 word_as out e g = alike (λ x. word (lift out (plain_tx x))) e g
 
-pub both_as : (out : ℕ → ℕ) {x x' y y' : CodeTx} {k l : ℕ} {both : Two} → x ≡ x' → y ≡ y' → Gives (operands out (plain_tx x') (plain_tx y')) k both l →
-    Gives (operands out (plain_tx x) (plain_tx y)) k both l
+pub both_as : (out : ℕ → ℕ) {x x' y y' : CodeTx} {k l : ℕ} {both : Two} → x ≡ x' → y ≡ y' → DrawsFrom (operands out (plain_tx x') (plain_tx y')) k both l →
+    DrawsFrom (operands out (plain_tx x) (plain_tx y)) k both l
 both_as out {x' = x'} {y = y} d e g = alike (λ x. operands out (plain_tx x) (plain_tx y)) d (alike (λ y. operands out (plain_tx x') (plain_tx y)) e g)
 
-pub tests_as : (out : ℕ → ℕ) {c d : CodeCond} {k l : ℕ} {t : Tested} → c ≡ d → Gives (condition out (plain_cond d)) k t l →
-    Gives (condition out (plain_cond c)) k t l
+pub tests_as : (out : ℕ → ℕ) {c d : CodeCond} {k l : ℕ} {t : Tested} → c ≡ d → DrawsFrom (condition out (plain_cond d)) k t l →
+    DrawsFrom (condition out (plain_cond c)) k t l
 tests_as out e g = alike (λ c. condition out (plain_cond c)) e g
 
 pub leaves_as : (out : ℕ → ℕ) (w : Bool) (n : ℕ) {c d : CodeCond} {k l : ℕ} {p : Part} → c ≡ d →
-    Gives (leave out w n (plain_cond d)) k p l → Gives (leave out w n (plain_cond c)) k p l
+    DrawsFrom (leave out w n (plain_cond d)) k p l → DrawsFrom (leave out w n (plain_cond c)) k p l
 leaves_as out w n e g = alike (λ c. leave out w n (plain_cond c)) e g
 
-pub goes_as : (out : ℕ → ℕ) {s t : CodeTs} {k l : ℕ} {p : Part} → s ≡ t → Gives (linear out (plain_ts t)) k p l → Gives (linear out (plain_ts s)) k p l
+pub goes_as : (out : ℕ → ℕ) {s t : CodeTs} {k l : ℕ} {p : Part} → s ≡ t → DrawsFrom (linear out (plain_ts t)) k p l → DrawsFrom (linear out (plain_ts s)) k p l
 goes_as out e g = alike (λ s. linear out (plain_ts s)) e g
 
 -- a call, and statements in turn
 pub call_as : (out : ℕ → ℕ) {x : CodeTx} (label : Label) (xs : CodeTxs) {k l : ℕ} {a : Lifted} → x ≡ Call label xs →
-    Gives (lift out (tree.Call label.0 (txs_of xs.items.items))) k a l → Gives (lift out (plain_tx x)) k a l
+    DrawsFrom (lift out (tree.Call label.0 (txs_of xs.items.items))) k a l → DrawsFrom (lift out (plain_tx x)) k a l
 call_as out label xs {k = k} e g = record { is = ap (λ x. lift out x k) (ap plain_tx e ∙ plain_tx-Call label xs) ∙ g.is }
 
 pub sequence_as : (out : ℕ → ℕ) {s : CodeTs} (ss : CodeStms) {k l : ℕ} {p : Part} → s ≡ Seq ss →
-    Gives (linear out (tree.Seq (stms_of ss.items.items))) k p l → Gives (linear out (plain_ts s)) k p l
+    DrawsFrom (linear out (tree.Seq (stms_of ss.items.items))) k p l → DrawsFrom (linear out (plain_ts s)) k p l
 sequence_as out ss {k = k} e g = record { is = ap (λ s. linear out s k) (ap plain_ts e ∙ plain_ts-Seq ss) ∙ g.is }

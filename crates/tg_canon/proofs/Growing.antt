@@ -3,7 +3,7 @@ use Rattle.std.proofs.Common.{ℕ, ◌+◌, ◌≤◌, ◌&&◌, Bool, true, fal
 use Rattle.tg_tree.specs.declared.operators.Bin.{Bin}
 use Rattle.tg_tree.specs.Tree.{Tx, Const, Address, Temp, FrameAddress, Binary, Load, LoadByte, Call, Service, After, Txs, no_txs, tx, Cond, Compare}
 use Rattle.tg_tree.specs.Tree.{Not, Both, Either, Ts, Move, Store, StoreByte, Do, If, Loop, Break, Fault, Seq, Return, Stms, no_stms, stm}
-use Rattle.tg_canon.specs.Drawing.{Draws, Drawn, give, fresh, ◌>>=◌, Gives}
+use Rattle.tg_canon.specs.Drawing.{Draws, Drawn, give, fresh, ◌>>=◌, DrawsFrom}
 use Rattle.tg_canon.specs.Canon.{Part, still, assigning, is_nothing, ◌before◌, loop_of, block, no_parts, in_front, in_turn, Lifted, Arguments}
 use Rattle.tg_canon.specs.Canon.{no_arguments, whole, behind, hold, is_side, hold_side, word, stays, hold_unless, is_constant, is_sum}
 use Rattle.tg_canon.specs.Canon.{hold_but_offset, hold_for, hold_before, in_front_of, side_by_side, argument, over, over_two, over_all, with_one}
@@ -158,7 +158,7 @@ mutual
   linear_all_grows out no_stms = stays_at no_parts
   linear_all_grows out (stm s ss) = in_turn_grow (linear_all out ss) (linear out s) (λ all p. in_front p all) (linear_all_grows out ss) (linear_grows out s)
 
-pub body_grows : (body : Ts) {k l : ℕ} {p : Part} → Gives (linear (λ k. k) body) k p l → k ≤ l
+pub body_grows : (body : Ts) {k l : ℕ} {p : Part} → DrawsFrom (linear (λ k. k) body) k p l → k ≤ l
 body_grows body {k = k} g = subst (λ (d : Drawn Part). k ≤ d.next) g.is ((linear_grows (λ k. k) body).at k)
 
 pub linearized_grows : (body : Ts) (k : ℕ) → k ≤ (linearized body k).next

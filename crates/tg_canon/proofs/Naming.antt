@@ -4,14 +4,14 @@ use Rattle.std.proofs.lemmas.Bool.{ltb-true, lt-ltb}
 use Rattle.tg_tree.specs.declared.operators.Bin.{Bin}
 use Rattle.tg_tree.specs.Tree.{Tx, Const, Address, Temp, FrameAddress, Binary, Load, LoadByte, Call, Service, After, Txs, no_txs, tx, Cond, Compare}
 use Rattle.tg_tree.specs.Tree.{Not, Both, Either, Ts, Move, Store, StoreByte, Do, If, Loop, Break, Fault, Seq, Return, Stms, no_stms, stm}
-use Rattle.tg_tree.specs.Named.{Named, function, literal, fault, temporary, constant, named_ts, named_stms}
+use Rattle.tg_tree.specs.Named.{NamesAreAllowed, Named, function, literal, fault, temporary, constant, named_ts, named_stms}
 use Rattle.tg_canon.specs.Drawing.{Draws, give, ◌>>=◌}
 use Rattle.tg_canon.specs.Canon.{Part, still, nothing, is_nothing, first_then, ◌before◌, loop_of, block, Parts, in_front, in_turn, Lifted, Two}
 use Rattle.tg_canon.specs.Canon.{Arguments, behind, hold, is_side, hold_side, word, stays, hold_unless, hold_but_offset, hold_for, hold_before}
 use Rattle.tg_canon.specs.Canon.{in_front_of, side_by_side, argument, over, over_two, over_all, with_one, with_two, assigning, acts, dropped}
 use Rattle.tg_canon.specs.Canon.{is_whole, Tested, compared, opposite, joined, choice, exit_where, wide_choice, deeper, inside, choose, lift}
 use Rattle.tg_canon.specs.Canon.{lift_all, condition, leave, linear, linear_all, statements_of, linearized}
-use Rattle.tg_canon.specs.Laws.{AreAllowed, AllowsDrawn, AreTempsBelow}
+use Rattle.tg_canon.specs.Laws.{AllowsDrawn, AreTempsBelow}
 use Rattle.tg_canon.proofs.Always.{one_of_two}
 use Rattle.tg_canon.proofs.Growing as growing
 use Rattle.tg_canon.proofs.Growing.{Grows, two, hold_side_grows, word_grows, side_by_side_grows, argument_grows, lift_grows, condition_grows}
@@ -289,8 +289,8 @@ module _ (allowed : Named → Bool) (from top : ℕ) (drawn : AllowsDrawn allowe
   statements_keep : (body : Ts) → TsPasses allowed body → (linearized body from).next ≤ top → StmsPass allowed (linearized body from).it
   statements_keep body h high = statements_pass (linear (λ i. i) body from).it.statement ((linear_passes (λ i. i) body h).at from (omega arith) high).part
 
-pub linearized_names : (allowed : Named → Bool) (body : Ts) (temps : ℕ) → AreAllowed allowed (named_ts body []) →
-    AllowsDrawn allowed temps (linearized body temps).next → AreAllowed allowed (named_stms (linearized body temps).it [])
+pub linearized_names : (allowed : Named → Bool) (body : Ts) (temps : ℕ) → NamesAreAllowed allowed (named_ts body []) →
+    AllowsDrawn allowed temps (linearized body temps).next → NamesAreAllowed allowed (named_stms (linearized body temps).it [])
 linearized_names allowed body temps h drawn =
     statements_allowed allowed (linearized body temps).it (statements_keep allowed temps (linearized body temps).next
     drawn body (body_passes allowed body h) (omega arith))
@@ -303,7 +303,7 @@ below n (literal label) = true
 below n (fault i) = true
 below n (constant i) = true
 
-pub below_more : (m n : ℕ) (names : List Named) → m ≤ n → AreTempsBelow m names → AreAllowed (below n) names
+pub below_more : (m n : ℕ) (names : List Named) → m ≤ n → AreTempsBelow m names → NamesAreAllowed (below n) names
 below_more m n names le h (temporary j) d = let lt : j < m = h j d in lt-ltb j n (omega arith)
 below_more m n names le h (function label) d = refl
 below_more m n names le h (literal label) d = refl

@@ -3,7 +3,7 @@ use Rattle.std.proofs.Common.{◌≡◌, ℕ, refl, Box, Global, ap, ◌∙◌}
 use Rattle.tg_tree.specs.declared.operators.Bin.{Bin}
 use Rattle.tg_tree.specs.declared.trees.Tx.{Tx as CodeTx, Const, Address, Temp, FrameAddress, Binary, Binary', Load', LoadByte', Call', Service', After'}
 use Rattle.tg_tree.specs.Plain.{plain_tx}
-use Rattle.tg_canon.specs.Drawing.{Draws, Gives}
+use Rattle.tg_canon.specs.Drawing.{Draws, DrawsFrom}
 use Rattle.tg_canon.specs.Canon.{Part, Lifted, stays, hold_unless, hold_for}
 
 other_held : (p : Part) (x : CodeTx) → ((op : Bin) (a b : Box CodeTx Global) → x ≡ Binary op a b → ⊥) →
@@ -22,5 +22,5 @@ other_held p (After' _ _ _ _) h = refl
 
 pub other_gives :
     (p : Part) (x : CodeTx) {k l : ℕ} {a : Lifted} → ((op : Bin) (a b : Box CodeTx Global) → x ≡ Binary op a b → ⊥) →
-    Gives (hold_unless (stays p (plain_tx x)) (plain_tx x)) k a l → Gives (hold_for p (plain_tx x)) k a l
+    DrawsFrom (hold_unless (stays p (plain_tx x)) (plain_tx x)) k a l → DrawsFrom (hold_for p (plain_tx x)) k a l
 other_gives p x {k = k} h g = record { is = ap (λ (m : Draws Lifted). m k) (other_held p x h) ∙ g.is }

@@ -23,5 +23,5 @@ abbrev pub fresh : Draws ℕ
 fresh k = record { it = k; next = k + 1 }
 
 -- from a number on this is drawn, and that is the next number behind it
-pub record Gives {A : Type 0} (m : Draws A) (before : ℕ) (drawn : A) (after : ℕ) : Type 0 where
+pub record DrawsFrom {A : Type 0} (m : Draws A) (before : ℕ) (drawn : A) (after : ℕ) : Type 0 where
   pub is : m before ≡ record { it = drawn; next = after }

@@ -3,7 +3,7 @@ use Rattle.std.specs.Prelude.{◌<◌, ◌≤◌, ℕ, Bool, IsTrue, List, []}
 use Rattle.std.specs.List.{Contains}
 use Rattle.tg_tree.specs.Tree.{Ts}
 use Rattle.tg_tree.specs.Shapes.{AreCanonical, IsClosed, AreClosed}
-use Rattle.tg_tree.specs.Named.{Named, temporary, named_ts, named_stms}
+use Rattle.tg_tree.specs.Named.{Named, NamesAreAllowed, temporary, named_ts, named_stms}
 use Rattle.tg_canon.specs.Canon.{linearized}
 
 -- their expressions are flat, but for calls and services that are whole right sides
@@ -18,11 +18,7 @@ GivesClosed = (body : Ts) (temps : ℕ) → IsClosed body → AreClosed (lineari
 abbrev pub TempsGrow : Type 0
 TempsGrow = (body : Ts) (temps : ℕ) → temps ≤ (linearized body temps).next
 
--- Tests of names: one that each of these passes, and one that the temporaries from a number up to
--- another pass.
-abbrev pub AreAllowed : (allowed : Named → Bool) → List Named → Type 0
-AreAllowed allowed names = (x : Named) → Contains names x → IsTrue (allowed x)
-
+-- the temporaries from a number up to another pass a test of names
 abbrev pub AllowsDrawn : (allowed : Named → Bool) → (before after : ℕ) → Type 0
 AllowsDrawn allowed before after =
     (i : ℕ) → before ≤ i → i < after → IsTrue (allowed (temporary i))
@@ -32,9 +28,9 @@ AllowsDrawn allowed before after =
 abbrev pub NamesStay : Type 0
 NamesStay =
     (allowed : Named → Bool) (body : Ts) (temps : ℕ) →
-    AreAllowed allowed (named_ts body []) →
+    NamesAreAllowed allowed (named_ts body []) →
     AllowsDrawn allowed temps (linearized body temps).next →
-    AreAllowed allowed (named_stms (linearized body temps).it [])
+    NamesAreAllowed allowed (named_stms (linearized body temps).it [])
 
 -- each temporary among them is below a number
 abbrev pub AreTempsBelow : (temps : ℕ) → List Named → Type 0

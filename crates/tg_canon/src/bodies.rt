@@ -2,7 +2,7 @@ ghost use Rattle.std.specs.Prelude.{◌≡◌, ◌≤◌, IfOk};
 ghost use Rattle.tg_tree.specs.Plain.{plain_ts};
 ghost use Rattle.tg_tree.specs.Lists.{stms_of};
 ghost use Rattle.tg_canon.specs.Canon.{linearized, statements_of};
-ghost use Rattle.tg_canon.specs.Drawing.{Gives};
+ghost use Rattle.tg_canon.specs.Drawing.{DrawsFrom};
 
 use crate::pass::linear_body;
 use crate::supply::Supply;
@@ -26,7 +26,7 @@ fn statements(alloc: Global, statement: Ts) -> Result<Vec<Ts>, Memory>
 /// temporaries that are drawn. It is out of memory also where temporaries run out and where trees
 /// are nested too deep.
 pub fn linearize(alloc: Global, frame: &mut Frame, body: Ts) -> Result<Vec<Ts>, Memory>
-    ensures statements { IfOk result (λ ss. Gives (linearized (plain_ts body))
+    ensures statements { IfOk result (λ ss. DrawsFrom (linearized (plain_ts body))
         frame.old.temps (stms_of ss.items) frame.new.temps) }
     ensures label { frame.new.label ≡ frame.old.label }
     ensures params { frame.new.params ≡ frame.old.params }

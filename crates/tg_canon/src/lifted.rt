@@ -2,7 +2,7 @@ ghost use Rattle.std.specs.Prelude.{◌≡◌, IfOk};
 ghost use Rattle.tg_tree.specs.Plain.{plain_tx};
 ghost use Rattle.tg_tree.specs.Tree as tree;
 ghost use Rattle.tg_canon.specs.Canon as canon;
-ghost use Rattle.tg_canon.specs.Drawing.{Gives};
+ghost use Rattle.tg_canon.specs.Drawing.{DrawsFrom};
 ghost use Rattle.tg_canon.specs.Views.{plain_part, plain_lifted, plain_two, plain_arguments};
 
 use crate::parts::{Part, is_nothing, nothing};
@@ -67,7 +67,7 @@ pub(crate) fn behind(alloc: Global, first: Part, a: Lifted) -> Result<Lifted, Me
 // An expression is held in a fresh temporary.
 fn hold(supply: &mut Supply, x: Tx) -> Result<Lifted, Memory>
     ensures { IfOk result (λ a.
-        Gives (canon.hold (plain_tx x)) supply.old.next (plain_lifted a) supply.new.next) }
+        DrawsFrom (canon.hold (plain_tx x)) supply.old.next (plain_lifted a) supply.new.next) }
 {
     let temp = supply.fresh()?;
     Ok(Lifted {
@@ -84,7 +84,7 @@ fn is_side(x: &Tx) -> bool
 
 /// The word of a call or service is held.
 pub(crate) fn word(supply: &mut Supply, a: Lifted) -> Result<Lifted, Memory>
-    ensures { IfOk result (λ b. Gives
+    ensures { IfOk result (λ b. DrawsFrom
         (canon.hold_side (canon.is_side (plain_tx a.rest)) (plain_lifted a))
         supply.old.next (plain_lifted b) supply.new.next) }
 {
@@ -110,7 +110,7 @@ fn stays(part: &Part, x: &Tx) -> bool
 }
 
 fn hold_unless_it_stays(supply: &mut Supply, part: &Part, x: Tx) -> Result<Lifted, Memory>
-    ensures { IfOk result (λ a. Gives
+    ensures { IfOk result (λ a. DrawsFrom
         (canon.hold_unless (canon.stays (plain_part part.now) (plain_tx x)) (plain_tx x))
         supply.old.next (plain_lifted a) supply.new.next) }
 {
@@ -141,7 +141,7 @@ fn hold_for_sum(
     left: Tx,
     right: Tx,
 ) -> Result<Lifted, Memory>
-    ensures { IfOk result (λ a. Gives
+    ensures { IfOk result (λ a. DrawsFrom
         (canon.hold_for (plain_part part.now) (tree.Binary op (plain_tx left) (plain_tx right)))
         supply.old.next (plain_lifted a) supply.new.next) }
 {
@@ -158,7 +158,7 @@ fn hold_for_sum(
 }
 
 fn hold_for(supply: &mut Supply, part: &Part, x: Tx) -> Result<Lifted, Memory>
-    ensures { IfOk result (λ a. Gives (canon.hold_for (plain_part part.now) (plain_tx x))
+    ensures { IfOk result (λ a. DrawsFrom (canon.hold_for (plain_part part.now) (plain_tx x))
         supply.old.next (plain_lifted a) supply.new.next) }
 {
     match x {
@@ -173,7 +173,7 @@ fn hold_for(supply: &mut Supply, part: &Part, x: Tx) -> Result<Lifted, Memory>
 
 // An expression in front of a part.
 fn in_front_of(supply: &mut Supply, part: &Part, a: Lifted) -> Result<Lifted, Memory>
-    ensures { IfOk result (λ b. Gives (canon.in_front_of (plain_part part.now) (plain_lifted a))
+    ensures { IfOk result (λ b. DrawsFrom (canon.in_front_of (plain_part part.now) (plain_lifted a))
         supply.old.next (plain_lifted b) supply.new.next) }
 {
     if is_nothing(&part.statement) {
@@ -187,7 +187,7 @@ fn in_front_of(supply: &mut Supply, part: &Part, a: Lifted) -> Result<Lifted, Me
 
 /// Two expressions, of which the right one is lifted before the left one.
 pub(crate) fn side_by_side(supply: &mut Supply, left: Lifted, right: Lifted) -> Result<Two, Memory>
-    ensures { IfOk result (λ both. Gives
+    ensures { IfOk result (λ both. DrawsFrom
         (canon.side_by_side (plain_lifted left) (plain_lifted right))
         supply.old.next (plain_two both) supply.new.next) }
 {
@@ -205,7 +205,7 @@ pub(crate) fn argument(
     first: Lifted,
     others: Arguments,
 ) -> Result<Arguments, Memory>
-    ensures { IfOk result (λ all. Gives
+    ensures { IfOk result (λ all. DrawsFrom
         (canon.argument (plain_lifted first) (plain_arguments others))
         supply.old.next (plain_arguments all) supply.new.next) }
 {

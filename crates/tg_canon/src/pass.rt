@@ -3,7 +3,7 @@ ghost use Rattle.tg_tree.specs.Plain.{plain_tx, plain_cond, plain_ts};
 ghost use Rattle.tg_tree.specs.Lists.{txs_of, stms_of};
 ghost use Rattle.tg_canon.specs.Canon as canon;
 ghost use Rattle.tg_canon.specs.Breaking.{leads};
-ghost use Rattle.tg_canon.specs.Drawing.{Gives};
+ghost use Rattle.tg_canon.specs.Drawing.{DrawsFrom};
 ghost use Rattle.tg_canon.specs.Views.{
   plain_part,
   plain_parts,
@@ -42,7 +42,7 @@ fn descend(height: u32) -> Result<u32, Memory>
 // What is lifted out of an expression, and what is left of it.
 #[cycle(canon)]
 fn lift(x: Tx, supply: &mut Supply, breaks: &Breaks, height: u32) -> Result<Lifted, Memory>
-    ensures { IfOk result (λ a. Gives (canon.lift (leads breaks.now) (plain_tx x))
+    ensures { IfOk result (λ a. DrawsFrom (canon.lift (leads breaks.now) (plain_tx x))
         supply.old.next (plain_lifted a) supply.new.next) }
 {
     let lower = descend(height)?;
@@ -83,7 +83,7 @@ fn lift(x: Tx, supply: &mut Supply, breaks: &Breaks, height: u32) -> Result<Lift
 // The same, as a word.
 #[cycle(canon)]
 fn lift_word(x: Tx, supply: &mut Supply, breaks: &Breaks, height: u32) -> Result<Lifted, Memory>
-    ensures { IfOk result (λ a. Gives (canon.word (canon.lift (leads breaks.now) (plain_tx x)))
+    ensures { IfOk result (λ a. DrawsFrom (canon.word (canon.lift (leads breaks.now) (plain_tx x)))
         supply.old.next (plain_lifted a) supply.new.next) }
 {
     let lower = descend(height)?;
@@ -100,7 +100,7 @@ fn lift_both(
     breaks: &Breaks,
     height: u32,
 ) -> Result<Two, Memory>
-    ensures { IfOk result (λ both. Gives
+    ensures { IfOk result (λ both. DrawsFrom
         (canon.operands (leads breaks.now) (plain_tx left) (plain_tx right))
         supply.old.next (plain_two both) supply.new.next) }
 {
@@ -117,7 +117,8 @@ fn lift_all(
     breaks: &Breaks,
     height: u32,
 ) -> Result<Arguments, Memory>
-    ensures { IfOk result (λ all. Gives (canon.lift_all (leads breaks.now) (txs_of xs.items.items))
+    ensures { IfOk result (λ all. DrawsFrom (canon.lift_all (leads breaks.now)
+        (txs_of xs.items.items))
         supply.old.next (plain_arguments all) supply.new.next) }
 {
     let lower = descend(height)?;
@@ -137,7 +138,7 @@ fn condition(
     breaks: &Breaks,
     height: u32,
 ) -> Result<Tested, Memory>
-    ensures { IfOk result (λ t. Gives (canon.condition (leads breaks.now) (plain_cond test))
+    ensures { IfOk result (λ t. DrawsFrom (canon.condition (leads breaks.now) (plain_cond test))
         supply.old.next (plain_tested t) supply.new.next) }
 {
     let lower = descend(height)?;
@@ -174,7 +175,8 @@ fn leave(
     loops: u32,
     height: u32,
 ) -> Result<Part, Memory>
-    ensures { IfOk result (λ p. Gives (canon.leave (leads breaks.now) when loops (plain_cond test))
+    ensures { IfOk result (λ p. DrawsFrom (canon.leave (leads breaks.now) when loops
+        (plain_cond test))
         supply.old.next (plain_part p) supply.new.next) }
 {
     let lower = descend(height)?;
@@ -220,7 +222,7 @@ fn leave(
 // A statement in canonical form.
 #[cycle(canon)]
 fn linear(s: Ts, supply: &mut Supply, breaks: &Breaks, height: u32) -> Result<Part, Memory>
-    ensures { IfOk result (λ p. Gives (canon.linear (leads breaks.now) (plain_ts s))
+    ensures { IfOk result (λ p. DrawsFrom (canon.linear (leads breaks.now) (plain_ts s))
         supply.old.next (plain_part p) supply.new.next) }
 {
     let lower = descend(height)?;
@@ -288,7 +290,7 @@ fn linear_all(
     height: u32,
 ) -> Result<Parts, Memory>
     ensures { IfOk result (λ all.
-        Gives (canon.linear_all (leads breaks.now) (stms_of ss.items.items))
+        DrawsFrom (canon.linear_all (leads breaks.now) (stms_of ss.items.items))
         supply.old.next (plain_parts all) supply.new.next) }
 {
     let lower = descend(height)?;
@@ -302,7 +304,7 @@ fn linear_all(
 
 /// A body in canonical form: the statement that the pass makes of it.
 pub(crate) fn linear_body(body: Ts, supply: &mut Supply) -> Result<Part, Memory>
-    ensures { IfOk result (λ p. Gives (canon.linear (λ k. k) (plain_ts body))
+    ensures { IfOk result (λ p. DrawsFrom (canon.linear (λ k. k) (plain_ts body))
         supply.old.next (plain_part p) supply.new.next) }
 {
     let breaks = Breaks::Body;

@@ -1,5 +1,5 @@
 ghost use Rattle.std.specs.Prelude.{IfOk};
-ghost use Rattle.tg_canon.specs.Drawing.{Gives, fresh};
+ghost use Rattle.tg_canon.specs.Drawing.{DrawsFrom, fresh};
 
 use std::alloc::Global;
 use tg_base::{Memory, Temp};
@@ -18,7 +18,7 @@ pub(crate) struct Supply {
 impl Supply {
     /// A temporary that nothing else uses.
     pub(crate) fn fresh(&mut self) -> Result<Temp, Memory>
-        ensures { IfOk result (λ t. Gives fresh self.old.next t.0 self.new.next) }
+        ensures { IfOk result (λ t. DrawsFrom fresh self.old.next t.0 self.new.next) }
     {
         if self.next >= MOST_TEMPORARIES {
             return Err(Memory);

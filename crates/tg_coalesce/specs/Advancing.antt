@@ -14,13 +14,13 @@ use Rattle.tg_coalesce.specs.Works.{Work, started}
 use Rattle.tg_coalesce.specs.Standing.{graph_of, IsOrderly, IsRunOf, left_to_do, is_done, answer_of}
 
 -- the work goes on in order, and less is left to do
-pub record GoesOn (w v : Work) : Type 0 where
+pub record WorkGoesOn (w v : Work) : Type 0 where
   pub orderly : IsOrderly v
   pub less : left_to_do v < left_to_do w
 
 -- and so does every run that it is of
 pub record Advances (w v : Work) : Type 0 where
-  pub on : GoesOn w v
+  pub on : WorkGoesOn w v
   pub run : (g : Problem) → IsRunOf g w → IsRunOf g v
 
 -- the first temporary that may be simplified
@@ -52,7 +52,7 @@ FreezeAdvances =
 
 -- where there is none, a candidate that the rule allows
 pub record Spills (w v : Work) (place : ℕ) : Type 0 where
-  pub on : GoesOn w v
+  pub on : WorkGoesOn w v
   pub run : (g : Problem) → IsTrue (g.rule (candidates w) place) → IsRunOf g w → IsRunOf g v
 
 abbrev pub SpillAdvances : Type 0
@@ -67,7 +67,7 @@ SpillAdvances =
 
 -- what each of these makes of the work, and of every run by this rule that it is of
 pub record Progresses (rule : Rule) (w v : Work) : Type 0 where
-  pub on : GoesOn w v
+  pub on : WorkGoesOn w v
   pub run : (g : Problem) → g.rule ≡ rule → IsRunOf g w → IsRunOf g v
 
 -- what a round is given: a graph, moves between its nodes, and a mark for each node

@@ -28,14 +28,14 @@ use Rattle.tg_munch.specs.Bodies.{munched, outs}
 use Rattle.tg_rounds.specs.Policies.{Rule}
 use Rattle.tg_spill.specs.declared.allocations.Allocation.{Allocation}
 use Rattle.tg_spill.specs.Allocations.{codes_of}
-use Rattle.tg_canon.specs.Drawing.{Drawn, Gives}
+use Rattle.tg_canon.specs.Drawing.{Drawn, DrawsFrom}
 use Rattle.tg_canon.specs.Canon.{linearized}
 use Rattle.tg_trace.specs.Block.{Block}
 use Rattle.tg_trace.specs.Cutting.{blocks_of}
 use Rattle.tg_trace.specs.Laying.{traced}
 use Rattle.tg_emit.specs.Lines.{assembly_of}
 use Rattle.tg_emit.specs.Text.{text_of}
-use Rattle.tg_image.specs.Programs.{IsProgram, AreTyped}
+use Rattle.tg_image.specs.Programs.{IsWholeProgram, AreTyped}
 use Rattle.tg_image.specs.Images.{program_written}
 use Rattle.tg_image.proofs.Soundness.{program_has_image}
 use Rattle.tg_compile.specs.declared.programs.Placement.{Placement}
@@ -108,7 +108,7 @@ together rule (f ∷ fs) (c ∷ codes) (p ∷ ps) h =
 pub compiles_whole : (rule : Rule) (notes : List Note) (body : Exp) (functions : List Fragment) (literals : List Literal)
     (codes : List Allocated) (ps : List Placement) (all : List Allocation) (text : List ℕ) →
     tree_of functions literals ≡ fragments_of notes body → CompileApart rule (map plain_fragment functions) codes ps → all ≡ map allocation_of (zip codes ps) →
-    text ≡ text_of (assembly_of codes literals) → IsProgram codes literals → AreTyped codes literals → Compiles rule notes body all text
+    text ≡ text_of (assembly_of codes literals) → IsWholeProgram codes literals → AreTyped codes literals → Compiles rule notes body all text
 compiles_whole rule notes body functions literals codes ps all text tree apart joins written whole typed =
     let both = together rule (map plain_fragment functions) codes ps apart in
     let P : List Allocation → Type 0 = λ xs. CompileFunctions rule (map plain_fragment functions) xs in
@@ -119,7 +119,7 @@ compiles_whole rule notes body functions literals codes ps all text tree apart j
       functions_are = subst Q (ap (λ (c : Code Ts). c.functions) tree) (subst P (sym joins) both.0);
       literals_are = ap (λ (c : Code Ts). c.literals) tree;
       text_is = written ∙ ap (λ (cs : List Allocated). text_of (assembly_of cs literals)) same;
-      program = subst (λ (cs : List Allocated). IsProgram cs literals) same whole;
+      program = subst (λ (cs : List Allocated). IsWholeProgram cs literals) same whole;
       typed = subst (λ (cs : List Allocated). AreTyped cs literals) same typed;
     }
 
@@ -136,7 +136,7 @@ with_statements f lifted = record {
 
 -- canonical statements, blocks and traces give flat code
 pub flattens : (frame new : Frame) (body : Ts) (statements : Stms) (blocks : List Block) (flat : List Linear) →
-    Gives (linearized body) frame.temps statements new.temps →
+    DrawsFrom (linearized body) frame.temps statements new.temps →
     new.label ≡ frame.label → new.params ≡ frame.params → new.slots ≡ frame.slots → new.out ≡ frame.out → blocks ≡ blocks_of statements → flat ≡ traced blocks →
     plain_function new flat ≡ flattened (plain_function frame body)
 flattens frame new body statements blocks flat lifted label params slots out cut laid =

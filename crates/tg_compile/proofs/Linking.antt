@@ -27,7 +27,7 @@ use Rattle.tg_rounds.specs.Policies.{Rule}
 use Rattle.tg_spill.specs.declared.allocations.Allocation.{Allocation}
 use Rattle.tg_spill.specs.Explained.{IgnoresOperands, AllocationsKeepTests}
 use Rattle.tg_emit.specs.Conditions.{has_code, is_emittable}
-use Rattle.tg_image.specs.Programs.{IsProgram, bytes_of, function_labels, literal_labels, is_among, labels_differ, names_those, calls_those}
+use Rattle.tg_image.specs.Programs.{IsWholeProgram, bytes_of, function_labels, literal_labels, is_among, labels_differ, names_those, calls_those}
 use Rattle.tg_words.specs.Allocating.{has_small_frame}
 use Rattle.tg_compile.specs.declared.programs.Placement.{Placement}
 use Rattle.tg_carried.specs.Flattened.{flattened}
@@ -205,7 +205,7 @@ within a b e = grind (arith, nat_tests, e)
 
 -- small ones, with statics that fit their segment, make a program of them
 pub whole_program : (codes : List Allocated) (literals : List Literal) → AreLinked codes literals → AreSmall codes →
-    nat_le (bytes_of literals) most_bytes ≡ true → IsProgram codes literals
+    nat_le (bytes_of literals) most_bytes ≡ true → IsWholeProgram codes literals
 whole_program codes literals linked small few =
     record {
       emittable = emittable codes small.frames linked.faults;

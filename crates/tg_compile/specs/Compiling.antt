@@ -19,7 +19,7 @@ use Rattle.tg_spill.specs.Allocations.{codes_of}
 use Rattle.tg_words.specs.Allocating.{IsAllocationOf}
 use Rattle.tg_emit.specs.Lines.{assembly_of}
 use Rattle.tg_emit.specs.Text.{text_of}
-use Rattle.tg_image.specs.Programs.{IsProgram, AreTyped}
+use Rattle.tg_image.specs.Programs.{IsWholeProgram, AreTyped}
 
 -- what is found of a program whose notes are these, before it is translated
 abbrev pub findings_of : List Note → Exp → Findings
@@ -50,5 +50,5 @@ pub record Compiles (rule : Rule) (notes : List Note) (body : Exp)
       CompileFunctions rule (fragments_of notes body).functions allocations
   pub literals_are : map plain_literal literals ≡ (fragments_of notes body).literals
   pub text_is : text ≡ text_of (assembly_of (codes_of allocations) literals)
-  pub program : IsProgram (codes_of allocations) literals
+  pub program : IsWholeProgram (codes_of allocations) literals
   pub typed : AreTyped (codes_of allocations) literals

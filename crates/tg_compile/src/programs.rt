@@ -7,7 +7,7 @@ ghost use Rattle.tg_tree.specs.Named.{IsLinked};
 ghost use Rattle.tg_shapes.specs.Laws.{names};
 ghost use Rattle.tg_emit.specs.Lines.{assembly_of, words};
 ghost use Rattle.tg_emit.specs.Text.{text_of};
-ghost use Rattle.tg_image.specs.Programs.{AreTyped, IsProgram, bytes_of};
+ghost use Rattle.tg_image.specs.Programs.{AreTyped, IsWholeProgram, bytes_of};
 ghost use Rattle.tg_compile.specs.Compiling.{Compiles, fragments_of};
 ghost use Rattle.tg_compile.specs.Passes.{
   AreLinked,
@@ -131,7 +131,7 @@ fn write(alloc: Global, codes: &[Allocated], literals: &[Literal]) -> Result<Vec
     requires linked { AreLinked codes.now literals.now }
     requires small { AreSmall codes.now }
     ensures text { IfOk result (λ t. t.items ≡ text_of (assembly_of codes.now literals.now)) }
-    ensures program { IfOk result (λ t. IsProgram codes.now literals.now) }
+    ensures program { IfOk result (λ t. IsWholeProgram codes.now literals.now) }
     ensures typed { IfOk result (λ t. AreTyped codes.now literals.now) }
 {
     let assembly = emit(alloc, codes, literals)?;

@@ -20,7 +20,7 @@ use Rattle.tg_munch_meaning.specs.Chosen.{chosen_code}
 use Rattle.tg_rounds.specs.Policies.{Rule}
 use Rattle.tg_spill.specs.declared.allocations.Allocation.{Allocation}
 use Rattle.tg_spill.specs.Allocations.{codes_of}
-use Rattle.tg_image.specs.Programs.{IsProgram, AreTyped}
+use Rattle.tg_image.specs.Programs.{IsWholeProgram, AreTyped}
 use Rattle.tg_compile.specs.Compiling.{CompileFunctions}
 use Rattle.tg_emit_meaning.specs.Emission.{sizes_of, registers_run, emitted_image, assembled_run}
 
@@ -37,7 +37,7 @@ module _ (p : Compilation) where
   pub record IsCompiled : Type 0 where
     pub functions : CompileFunctions p.rule p.trees.functions p.allocations
     pub literals : map plain_literal p.literals ≡ p.trees.literals
-    pub program : IsProgram (codes_of p.allocations) p.literals
+    pub program : IsWholeProgram (codes_of p.allocations) p.literals
     pub typed : AreTyped (codes_of p.allocations) p.literals
     pub may_be_flat : (f : Function Ts) → Contains p.trees.functions f → MayBeFlattened f
 

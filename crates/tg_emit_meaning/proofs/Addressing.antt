@@ -24,7 +24,7 @@ use Rattle.tg_emit.specs.Lines.{alone}
 use Rattle.tg_instr.specs.Codes.{is_allocated}
 use Rattle.tg_lines.specs.LinesRun.{address_from, goes_halfway}
 use Rattle.tg_emit_meaning.specs.Setting.{Setting, from}
-use Rattle.tg_emit_meaning.specs.Situation.{onward, Follows, GoesOn}
+use Rattle.tg_emit_meaning.specs.Situation.{onward, LinesFollow, InstructionGoesOn}
 use Rattle.tg_emit_meaning.proofs.Basics.{no_true}
 use Rattle.tg_emit_meaning.proofs.Each.{fits_here}
 use Rattle.tg_emit_meaning.proofs.Registers.{sizes_stay, memory_stays, with_number, numbered}
@@ -34,7 +34,7 @@ use Rattle.tg_emit_meaning.proofs.Onward.{own, behind, puts}
 use Rattle.tg_emit_meaning.proofs.Straight.{names}
 
 -- the address of a literal
-pub address_goes : (g : Setting) (to : Opnd) (label : Label) → GoesOn g (instr.Address to label)
+pub address_goes : (g : Setting) (to : Opnd) (label : Label) → InstructionGoesOn g (instr.Address to label)
 address_goes g (Temp t) label k = absurd (no_true (names g (instr.Address (Temp t) label) k))
 address_goes g (Reg r) label k = by (literal_address g.program.literals label.0) refl
   where
@@ -63,7 +63,7 @@ address_goes g (Reg r) label k = by (literal_address g.program.literals label.0)
         (ap machine_does.Goes (set_halves k.state r a k.stands.registers.count (below r named) f)))
 
     by : (o : Option ℕ) → literal_address g.program.literals label.0 ≡ o →
-        Follows g it k
+        LinesFollow g it k
         (charged 2 (with_word o k.world
         (λ a. if r == 29 then (λ i. stops k.world.input Wrong) else onward g it k k.world
         (set (Operand (Reg r)) (Word a) k.contents))))
@@ -74,7 +74,7 @@ address_goes g (Reg r) label k = by (literal_address g.program.literals label.0)
         k.stands.memory k.stands.input (comes a h.0 h.1)
 
 -- the frame address
-pub frame_address_goes : (g : Setting) (to : Opnd) → GoesOn g (instr.FrameAddress to)
+pub frame_address_goes : (g : Setting) (to : Opnd) → InstructionGoesOn g (instr.FrameAddress to)
 frame_address_goes g (Temp t) k = absurd (no_true (names g (instr.FrameAddress (Temp t)) k))
 frame_address_goes g (Reg r) k =
     puts g it k 3 3 k.world t r base (Word base) (omega arith) named refl fits

@@ -35,7 +35,7 @@ use Rattle.tg_lines.specs.LinesRun.{behind as lines_behind, calls, left}
 use Rattle.tg_emit_meaning.specs.Setting.{Setting, from, back_to, going_to, later, begin_with}
 use Rattle.tg_emit_meaning.specs.Standing.{Finds, IsHeld, IsHanded, HasRegisters, HasMemory, HasFrame, FunctionStands}
 use Rattle.tg_emit_meaning.specs.Standing.{BackGoesOn, Stands}
-use Rattle.tg_emit_meaning.specs.Situation.{HasSize, point, At, onward, Follows, GoesOn}
+use Rattle.tg_emit_meaning.specs.Situation.{HasSize, point, At, onward, LinesFollow, InstructionGoesOn}
 use Rattle.tg_emit_meaning.proofs.Basics.{no_true}
 use Rattle.tg_emit_meaning.proofs.Registers.{not_at, other_register, sizes_stay, memory_stays, moved_count}
 use Rattle.tg_emit_meaning.proofs.Registers.{moved_words, moved_stack, moved_other}
@@ -373,13 +373,13 @@ module _ (g : Setting) (label : _) (k : At g (instr.Call label)) (f : Function (
       (word_at k.state.stack (top - bytes - floor k.state))
       (ap (λ n. load_word here (n - bytes)) top_is ∙ loads)
 
-  pub found_call_goes : Follows g it k
+  pub found_call_goes : LinesFollow g it k
       (charged 5 (begin_with g (λ p. with_fuel p.world (later g p)) (Some f) (at_entry k.contents) top
       (λ d w1. onward g it k w1 (after_call d k.contents)) k.world))
   found_call_goes = by (nat_lt top (stack_top - g.stack + bytes)) refl
     where
       by : (b : Bool) → nat_lt top (stack_top - g.stack + bytes) ≡ b →
-          Follows g it k
+          LinesFollow g it k
           (charged 5 (if b then over (Ended StackFull) k.world else with_fuel begun.world (later g begun)))
       by true e =
           let low : top < stack_top - g.stack + bytes = grind (arith, nat_tests, e) in
@@ -393,11 +393,11 @@ module _ (g : Setting) (label : _) (k : At g (instr.Call label)) (f : Function (
           (λ m lt. k.less m lt finds_there found_there begun inside_lines there (enters fits)
           (comes_back m (omega (arith, lt))))
 
-pub call_goes : (g : Setting) (label : _) → GoesOn g (instr.Call label)
+pub call_goes : (g : Setting) (label : _) → InstructionGoesOn g (instr.Call label)
 call_goes g label k = by (function_of label.0 g.program.functions) refl
   where
     by : (o : Option (Function (List Instr))) → function_of label.0 g.program.functions ≡ o →
-        Follows g (instr.Call label) k
+        LinesFollow g (instr.Call label) k
         (charged 5 (begin_with g (λ p. with_fuel p.world (later g p)) o (at_entry k.contents)
         (k.activation.base - k.activation.size)
         (λ d w1. onward g (instr.Call label) k w1 (after_call d k.contents)) k.world))

@@ -24,7 +24,7 @@ use Rattle.tg_emit.specs.Ranges.{InstructionFits}
 use Rattle.tg_emit.specs.Rows.{register_of}
 use Rattle.tg_instr.specs.Codes.{is_allocated, is_register_of}
 use Rattle.tg_emit_meaning.specs.Setting.{Setting, from}
-use Rattle.tg_emit_meaning.specs.Situation.{At, GoesOn}
+use Rattle.tg_emit_meaning.specs.Situation.{At, InstructionGoesOn}
 use Rattle.tg_emit_meaning.proofs.Basics.{some_is}
 use Rattle.tg_emit_meaning.proofs.Reaching.{load_there, load_byte_there, store_there, store_byte_there}
 use Rattle.tg_emit_meaning.proofs.Registers.{IsNamed, given_step}
@@ -77,7 +77,7 @@ stop_is : (s t : Stop) → stops_by s ≡ stops_by t → t ≡ s
 stop_is s t h = cc
 
 module _ (g : Setting) where
-  pub add_goes : (to x y : Opnd) → GoesOn g (instr.Add to x y)
+  pub add_goes : (to x y : Opnd) → InstructionGoesOn g (instr.Add to x y)
   add_goes to x y k =
       let n = three_named x y to (names g (instr.Add to x y) k) in
       let u = register k.state (register_of x) in
@@ -89,7 +89,7 @@ module _ (g : Setting) where
       (record { lines = refl; straight = refl }) (exact_is k.state (register_of to) (exact_sum u v))
       (exact_fits (signed u +ℤ signed v))
 
-  pub sub_goes : (to x y : Opnd) → GoesOn g (instr.Sub to x y)
+  pub sub_goes : (to x y : Opnd) → InstructionGoesOn g (instr.Sub to x y)
   sub_goes to x y k =
       let n = three_named x y to (names g (instr.Sub to x y) k) in
       let u = register k.state (register_of x) in
@@ -101,7 +101,7 @@ module _ (g : Setting) where
       (record { lines = refl; straight = refl }) (exact_is k.state (register_of to) (exact_difference u v))
       (exact_fits (signed u -ℤ signed v))
 
-  pub addu_goes : (to x y : Opnd) → GoesOn g (instr.Addu to x y)
+  pub addu_goes : (to x y : Opnd) → InstructionGoesOn g (instr.Addu to x y)
   addu_goes to x y k =
       let n = three_named x y to (names g (instr.Addu to x y) k) in
       let u = register k.state (register_of x) in
@@ -112,7 +112,7 @@ module _ (g : Setting) where
       (row.Addu (register_of to) (register_of x) (register_of y)) n.2 n.0 n.1
       (record { lines = refl; straight = refl }) (refl) (omega arith)
 
-  pub subu_goes : (to x y : Opnd) → GoesOn g (instr.Subu to x y)
+  pub subu_goes : (to x y : Opnd) → InstructionGoesOn g (instr.Subu to x y)
   subu_goes to x y k =
       let n = three_named x y to (names g (instr.Subu to x y) k) in
       let u = register k.state (register_of x) in
@@ -123,7 +123,7 @@ module _ (g : Setting) where
       (row.Subu (register_of to) (register_of x) (register_of y)) n.2 n.0 n.1
       (record { lines = refl; straight = refl }) (refl) (omega arith)
 
-  pub and_goes : (to x y : Opnd) → GoesOn g (instr.And to x y)
+  pub and_goes : (to x y : Opnd) → InstructionGoesOn g (instr.And to x y)
   and_goes to x y k =
       let n = three_named x y to (names g (instr.And to x y) k) in
       let u = register k.state (register_of x) in
@@ -134,7 +134,7 @@ module _ (g : Setting) where
       (row.And (register_of to) (register_of x) (register_of y)) n.2 n.0 n.1
       (record { lines = refl; straight = refl }) (refl) (and_fits u v h)
 
-  pub or_goes : (to x y : Opnd) → GoesOn g (instr.Or to x y)
+  pub or_goes : (to x y : Opnd) → InstructionGoesOn g (instr.Or to x y)
   or_goes to x y k =
       let n = three_named x y to (names g (instr.Or to x y) k) in
       let u = register k.state (register_of x) in
@@ -145,7 +145,7 @@ module _ (g : Setting) where
       (row.Or (register_of to) (register_of x) (register_of y)) n.2 n.0 n.1
       (record { lines = refl; straight = refl }) (refl) (or_fits u v h i)
 
-  pub xor_goes : (to x y : Opnd) → GoesOn g (instr.Xor to x y)
+  pub xor_goes : (to x y : Opnd) → InstructionGoesOn g (instr.Xor to x y)
   xor_goes to x y k =
       let n = three_named x y to (names g (instr.Xor to x y) k) in
       let u = register k.state (register_of x) in
@@ -156,7 +156,7 @@ module _ (g : Setting) where
       (row.Xor (register_of to) (register_of x) (register_of y)) n.2 n.0 n.1
       (record { lines = refl; straight = refl }) (refl) (xor_fits u v h i)
 
-  pub nor_goes : (to x y : Opnd) → GoesOn g (instr.Nor to x y)
+  pub nor_goes : (to x y : Opnd) → InstructionGoesOn g (instr.Nor to x y)
   nor_goes to x y k =
       let n = three_named x y to (names g (instr.Nor to x y) k) in
       let u = register k.state (register_of x) in
@@ -167,7 +167,7 @@ module _ (g : Setting) where
       (row.Nor (register_of to) (register_of x) (register_of y)) n.2 n.0 n.1
       (record { lines = refl; straight = refl }) (refl) (neither_fits u v)
 
-  pub slt_goes : (to x y : Opnd) → GoesOn g (instr.Slt to x y)
+  pub slt_goes : (to x y : Opnd) → InstructionGoesOn g (instr.Slt to x y)
   slt_goes to x y k =
       let n = three_named x y to (names g (instr.Slt to x y) k) in
       let u = register k.state (register_of x) in
@@ -178,7 +178,7 @@ module _ (g : Setting) where
       (row.Slt (register_of to) (register_of x) (register_of y)) n.2 n.0 n.1
       (record { lines = refl; straight = refl }) (refl) (flag_fits (less u v))
 
-  pub sltu_goes : (to x y : Opnd) → GoesOn g (instr.Sltu to x y)
+  pub sltu_goes : (to x y : Opnd) → InstructionGoesOn g (instr.Sltu to x y)
   sltu_goes to x y k =
       let n = three_named x y to (names g (instr.Sltu to x y) k) in
       let u = register k.state (register_of x) in
@@ -189,7 +189,7 @@ module _ (g : Setting) where
       (row.Sltu (register_of to) (register_of x) (register_of y)) n.2 n.0 n.1
       (record { lines = refl; straight = refl }) (refl) (flag_fits (nat_lt u v))
 
-  pub sll_goes : (to x : Opnd) (n : ℕ) → GoesOn g (instr.Sll to x n)
+  pub sll_goes : (to x : Opnd) (n : ℕ) → InstructionGoesOn g (instr.Sll to x n)
   sll_goes to x n k =
       let m = two_named x to (names g (instr.Sll to x n) k) in
       let u = register k.state (register_of x) in
@@ -199,7 +199,7 @@ module _ (g : Setting) where
       (row.Sll (register_of to) (register_of x) n) m.1 m.0
       (record { lines = refl; straight = refl }) (refl) (omega arith)
 
-  pub srl_goes : (to x : Opnd) (n : ℕ) → GoesOn g (instr.Srl to x n)
+  pub srl_goes : (to x : Opnd) (n : ℕ) → InstructionGoesOn g (instr.Srl to x n)
   srl_goes to x n k =
       let m = two_named x to (names g (instr.Srl to x n) k) in
       let u = register k.state (register_of x) in
@@ -209,7 +209,7 @@ module _ (g : Setting) where
       (row.Srl (register_of to) (register_of x) n) m.1 m.0
       (record { lines = refl; straight = refl }) (refl) (shift_right_fits u n h)
 
-  pub sra_goes : (to x : Opnd) (n : ℕ) → GoesOn g (instr.Sra to x n)
+  pub sra_goes : (to x : Opnd) (n : ℕ) → InstructionGoesOn g (instr.Sra to x n)
   sra_goes to x n k =
       let m = two_named x to (names g (instr.Sra to x n) k) in
       let u = register k.state (register_of x) in
@@ -219,7 +219,7 @@ module _ (g : Setting) where
       (row.Sra (register_of to) (register_of x) n) m.1 m.0
       (record { lines = refl; straight = refl }) (refl) (shift_signed_fits u n h)
 
-  pub addi_goes : (to x : Opnd) (n : ℕ) → GoesOn g (instr.Addi to x n)
+  pub addi_goes : (to x : Opnd) (n : ℕ) → InstructionGoesOn g (instr.Addi to x n)
   addi_goes to x n k =
       let m = two_named x to (names g (instr.Addi to x n) k) in
       let u = register k.state (register_of x) in
@@ -230,7 +230,7 @@ module _ (g : Setting) where
       (record { lines = refl; straight = refl }) (exact_is k.state (register_of to) (exact_sum u (extended n)))
       (exact_fits (signed u +ℤ signed (extended n)))
 
-  pub addiu_goes : (to x : Opnd) (n : ℕ) → GoesOn g (instr.Addiu to x n)
+  pub addiu_goes : (to x : Opnd) (n : ℕ) → InstructionGoesOn g (instr.Addiu to x n)
   addiu_goes to x n k =
       let m = two_named x to (names g (instr.Addiu to x n) k) in
       let u = register k.state (register_of x) in
@@ -240,7 +240,7 @@ module _ (g : Setting) where
       (row.Addiu (register_of to) (register_of x) n) m.1 m.0
       (record { lines = refl; straight = refl }) (refl) (omega arith)
 
-  pub slti_goes : (to x : Opnd) (n : ℕ) → GoesOn g (instr.Slti to x n)
+  pub slti_goes : (to x : Opnd) (n : ℕ) → InstructionGoesOn g (instr.Slti to x n)
   slti_goes to x n k =
       let m = two_named x to (names g (instr.Slti to x n) k) in
       let u = register k.state (register_of x) in
@@ -250,7 +250,7 @@ module _ (g : Setting) where
       (row.Slti (register_of to) (register_of x) n) m.1 m.0
       (record { lines = refl; straight = refl }) (refl) (flag_fits (less u (extended n)))
 
-  pub sltiu_goes : (to x : Opnd) (n : ℕ) → GoesOn g (instr.Sltiu to x n)
+  pub sltiu_goes : (to x : Opnd) (n : ℕ) → InstructionGoesOn g (instr.Sltiu to x n)
   sltiu_goes to x n k =
       let m = two_named x to (names g (instr.Sltiu to x n) k) in
       let u = register k.state (register_of x) in
@@ -260,7 +260,7 @@ module _ (g : Setting) where
       (row.Sltiu (register_of to) (register_of x) n) m.1 m.0
       (record { lines = refl; straight = refl }) (refl) (flag_fits (nat_lt u (extended n)))
 
-  pub andi_goes : (to x : Opnd) (n : ℕ) → GoesOn g (instr.Andi to x n)
+  pub andi_goes : (to x : Opnd) (n : ℕ) → InstructionGoesOn g (instr.Andi to x n)
   andi_goes to x n k =
       let m = two_named x to (names g (instr.Andi to x n) k) in
       let u = register k.state (register_of x) in
@@ -270,7 +270,7 @@ module _ (g : Setting) where
       (row.Andi (register_of to) (register_of x) n) m.1 m.0
       (record { lines = refl; straight = refl }) (refl) (and_fits u n h)
 
-  pub ori_goes : (to x : Opnd) (n : ℕ) → GoesOn g (instr.Ori to x n)
+  pub ori_goes : (to x : Opnd) (n : ℕ) → InstructionGoesOn g (instr.Ori to x n)
   ori_goes to x n k =
       let m = two_named x to (names g (instr.Ori to x n) k) in
       let u = register k.state (register_of x) in
@@ -280,7 +280,7 @@ module _ (g : Setting) where
       (row.Ori (register_of to) (register_of x) n) m.1 m.0
       (record { lines = refl; straight = refl }) (refl) (or_fits u n h (half_fits n i))
 
-  pub xori_goes : (to x : Opnd) (n : ℕ) → GoesOn g (instr.Xori to x n)
+  pub xori_goes : (to x : Opnd) (n : ℕ) → InstructionGoesOn g (instr.Xori to x n)
   xori_goes to x n k =
       let m = two_named x to (names g (instr.Xori to x n) k) in
       let u = register k.state (register_of x) in
@@ -290,7 +290,7 @@ module _ (g : Setting) where
       (row.Xori (register_of to) (register_of x) n) m.1 m.0
       (record { lines = refl; straight = refl }) (refl) (xor_fits u n h (half_fits n i))
 
-  pub lui_goes : (to : Opnd) (n : ℕ) → GoesOn g (instr.Lui to n)
+  pub lui_goes : (to : Opnd) (n : ℕ) → InstructionGoesOn g (instr.Lui to n)
   lui_goes to n k =
       let m = names g (instr.Lui to n) k in
       let i = (fits_here g (instr.Lui to n) k).row.1 in
@@ -298,19 +298,19 @@ module _ (g : Setting) where
       (left_holds (is_register_of is_allocated to) true m)
       (record { lines = refl; straight = refl }) refl (omega (arith, i))
 
-  pub mfhi_goes : (to : Opnd) → GoesOn g (instr.Mfhi to)
+  pub mfhi_goes : (to : Opnd) → InstructionGoesOn g (instr.Mfhi to)
   mfhi_goes to k =
       from_high g (instr.Mfhi to) k to (row.Mfhi (register_of to))
       (left_holds (is_register_of is_allocated to) true (names g (instr.Mfhi to) k))
       (record { lines = refl; straight = refl }) refl
 
-  pub mflo_goes : (to : Opnd) → GoesOn g (instr.Mflo to)
+  pub mflo_goes : (to : Opnd) → InstructionGoesOn g (instr.Mflo to)
   mflo_goes to k =
       from_low g (instr.Mflo to) k to (row.Mflo (register_of to))
       (left_holds (is_register_of is_allocated to) true (names g (instr.Mflo to) k))
       (record { lines = refl; straight = refl }) refl
 
-  pub move_goes : (to x : Opnd) → GoesOn g (instr.Move to x)
+  pub move_goes : (to x : Opnd) → InstructionGoesOn g (instr.Move to x)
   move_goes to x k =
       let n = two_named x to (names g (instr.Move to x) k) in
       let h = word_of g (instr.Move to x) k (register_of x) in
@@ -322,7 +322,7 @@ module _ (g : Setting) where
       (ap (λ v. machine_does.Goes (set_register k.state (register_of to) v)) same)
 
   -- loads and stores
-  pub lw_goes : (to : Opnd) (n : ℕ) (base : Opnd) → GoesOn g (instr.Lw to n base)
+  pub lw_goes : (to : Opnd) (n : ℕ) (base : Opnd) → InstructionGoesOn g (instr.Lw to n base)
   lw_goes to n base k =
       let m = two_named base to (names g (instr.Lw to n base) k) in
       loads g (instr.Lw to n base) k to base (extended n) memory.load
@@ -334,7 +334,7 @@ module _ (g : Setting) where
       (add (register k.state (register_of base)) (extended n)) v e in
       (ap (put k.state (register_of to)) t.0, t.1))
 
-  pub lbu_goes : (to : Opnd) (n : ℕ) (base : Opnd) → GoesOn g (instr.Lbu to n base)
+  pub lbu_goes : (to : Opnd) (n : ℕ) (base : Opnd) → InstructionGoesOn g (instr.Lbu to n base)
   lbu_goes to n base k =
       let m = two_named base to (names g (instr.Lbu to n base) k) in
       loads g (instr.Lbu to n base) k to base (extended n) memory.load_byte
@@ -346,7 +346,7 @@ module _ (g : Setting) where
       (add (register k.state (register_of base)) (extended n)) v e in
       let f = t.1 in (ap (put k.state (register_of to)) t.0, omega (arith, f)))
 
-  pub lb_goes : (to : Opnd) (n : ℕ) (base : Opnd) → GoesOn g (instr.Lb to n base)
+  pub lb_goes : (to : Opnd) (n : ℕ) (base : Opnd) → InstructionGoesOn g (instr.Lb to n base)
   lb_goes to n base k =
       let m = two_named base to (names g (instr.Lb to n base) k) in
       loads g (instr.Lb to n base) k to base (extended n) (λ m a. with_sign (memory.load_byte m a))
@@ -369,7 +369,7 @@ module _ (g : Setting) where
             subst (λ w. w < 2 ^ 32) x (sign_fits b t.1),
           )
 
-  pub sw_goes : (from : Opnd) (n : ℕ) (base : Opnd) → GoesOn g (instr.Sw from n base)
+  pub sw_goes : (from : Opnd) (n : ℕ) (base : Opnd) → InstructionGoesOn g (instr.Sw from n base)
   sw_goes from n base k =
       let m = two_named from base (names g (instr.Sw from n base) k) in
       saves g (instr.Sw from n base) k from base (extended n) memory.store
@@ -382,7 +382,7 @@ module _ (g : Setting) where
       (word_of g (instr.Sw from n base) k (register_of from)) e in
       (t.0, ap stored t.1, t.2))
 
-  pub sb_goes : (from : Opnd) (n : ℕ) (base : Opnd) → GoesOn g (instr.Sb from n base)
+  pub sb_goes : (from : Opnd) (n : ℕ) (base : Opnd) → InstructionGoesOn g (instr.Sb from n base)
   sb_goes from n base k =
       let m = two_named from base (names g (instr.Sb from n base) k) in
       saves g (instr.Sb from n base) k from base (extended n) memory.store_byte
@@ -395,7 +395,7 @@ module _ (g : Setting) where
       (t.0, ap stored t.1, t.2))
 
   -- products and quotients
-  pub mult_goes : (x y : Opnd) → GoesOn g (instr.Mult x y)
+  pub mult_goes : (x y : Opnd) → InstructionGoesOn g (instr.Mult x y)
   mult_goes x y k =
       let n = two_named x y (names g (instr.Mult x y) k) in
       let a = register k.state (register_of x) in
@@ -416,7 +416,7 @@ module _ (g : Setting) where
       ))
       (λ s e. cc) (λ s e. cc)
 
-  pub div_goes : (x y : Opnd) → GoesOn g (instr.Div x y)
+  pub div_goes : (x y : Opnd) → InstructionGoesOn g (instr.Div x y)
   div_goes x y k =
       let n = two_named x y (names g (instr.Div x y) k) in
       halves g (instr.Div x y) k x y (unless_zero quot) (unless_zero rem)
@@ -450,7 +450,7 @@ module _ (g : Setting) where
             subst (λ z. z < 2 ^ 32) q (rem_fits a b h),
           )
 
-  pub fault_goes : (n : ℕ) → GoesOn g (instr.Fault n)
+  pub fault_goes : (n : ℕ) → InstructionGoesOn g (instr.Fault n)
   fault_goes n k =
       ends_there g (instr.Fault n) k (row.Break n) (Break n) 1 (omega arith)
       (record { lines = refl; straight = refl }) refl

@@ -9,7 +9,7 @@ use Rattle.tg_tree.specs.Tree.{Function}
 use Rattle.tg_instr.specs.declared.instr.Instr.{Instr}
 use Rattle.tg_instr.specs.Running.{lay_out, with_frame}
 use Rattle.tg_emit_meaning.specs.Setting.{later}
-use Rattle.tg_emit_meaning.specs.Standing.{Finds, IsWithin, IsCell, HasMemory, HasFrame}
+use Rattle.tg_emit_meaning.specs.Standing.{Finds, IsStackWord, IsCell, HasMemory, HasFrame}
 use Rattle.tg_emit_meaning.proofs.Basics.{no_true, same_number}
 
 -- whether an address is a slot of a frame, or a word at its low end
@@ -104,14 +104,14 @@ module _ (f : Function (List Instr)) (a : Activation) (s : MachineState) (found 
   abbrev with_found : Finds
   with_found = found_in a.base f.slots found finds
 
-  slot_within : HasFrame a f s → (b : ℕ) → is_slot a.base f.slots b ≡ true → IsWithin s b
+  slot_within : HasFrame a f s → (b : ℕ) → is_slot a.base f.slots b ≡ true → IsStackWord s b
   slot_within h b e =
       let t = slot_is a.base f.slots b e in
       let k = t.1 in let p = t.2 in
       let w = h.words in let z = h.holds in let l = h.above in let u = h.below in
       (omega (arith, k, p, w, z, l, u), omega (arith, k, p, w, z, l, u), omega (arith, k, p, w, z, l, u))
 
-  low_within : HasFrame a f s → (b : ℕ) → is_low (a.base - a.size) f.out b ≡ true → IsWithin s b
+  low_within : HasFrame a f s → (b : ℕ) → is_low (a.base - a.size) f.out b ≡ true → IsStackWord s b
   low_within h b e =
       let t = low_is (a.base - a.size) f.out b e in
       let k = t.1 in let p = t.2 in

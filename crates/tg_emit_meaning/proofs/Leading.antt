@@ -36,7 +36,7 @@ use Rattle.tg_lines.specs.LinesRun.{behind as lines_behind, leads_if, leads_unle
 use Rattle.tg_lines.specs.LinesRun.{Untaken}
 use Rattle.tg_emit_meaning.specs.Setting.{Setting, from, jump_in, around}
 use Rattle.tg_emit_meaning.specs.Standing.{BackGoesOn, Stands}
-use Rattle.tg_emit_meaning.specs.Situation.{point, At, onward, acts, Follows, GoesOn}
+use Rattle.tg_emit_meaning.specs.Situation.{point, At, onward, acts, LinesFollow, InstructionGoesOn}
 use Rattle.tg_emit_meaning.proofs.Registers.{IsNamed}
 use Rattle.tg_emit_meaning.proofs.Basics.{some_is}
 use Rattle.tg_emit_meaning.proofs.Rows.{Turns, done, comes_by, turns_once, turns_more, turns_by, turn_goes_on}
@@ -131,11 +131,11 @@ module _ (g : Setting) (one : Instr) (k : At g one) where
   pub arrives : (m units : ℕ) →
       ((inside : List Line) → lines_behind (mark_name k.function.label m) g.lines ≡ Some (left inside) →
       Turns units (from g k.here k.state k.world.input) (from g inside k.state k.world.input)) →
-      Follows g one k (charged units (jumps m))
+      LinesFollow g one k (charged units (jumps m))
   arrives m units to = by (code.behind m k.function.body) refl
     where
       by : (o : Option (List Instr)) → code.behind m k.function.body ≡ o →
-          Follows g one k (charged units (jump_in g k.function o k.activation k.back k.world k.contents))
+          LinesFollow g one k (charged units (jump_in g k.function o k.activation k.back k.world k.contents))
       by None e = simulates_wrong 1 k.credit k.fuel _ _ (λ i. refl)
       by (Some rest) e =
           let t = target m rest e in
@@ -163,7 +163,7 @@ module _ (g : Setting) (one : Instr) (k : At g one) where
   -- nothing is done and some rows come behind it
   pub goes_behind : (units rows : ℕ) → rows ≤ units →
       Comes rows (from g k.here k.state k.world.input) (from g (behind g one k) k.state k.world.input) →
-      Follows g one k (charged units (onward g one k k.world k.contents))
+      LinesFollow g one k (charged units (onward g one k k.world k.contents))
   goes_behind units rows enough comes =
       comes_behind g one k rows units k.world k.contents k.state enough k.stands.sizes k.stands.registers
       k.stands.memory k.stands.input
@@ -172,13 +172,13 @@ module _ (g : Setting) (one : Instr) (k : At g one) where
 
   -- an operand that is read
   pub reads_operand : (x : Opnd) → IsNamed x → (units : ℕ) (go : ℕ → Run Ran) →
-      Follows g one k (charged units (go (register k.state (register_of x)))) →
-      Follows g one k (charged units (with_content_word (held k.activation k.contents (Operand x)) k.world go))
+      LinesFollow g one k (charged units (go (register k.state (register_of x)))) →
+      LinesFollow g one k (charged units (with_content_word (held k.activation k.contents (Operand x)) k.world go))
   reads_operand (Temp t) n units go h = cc
   reads_operand (Reg r) n units go h = reads_register g one k r units go n h
 
 -- a mark is no row
-pub mark_goes : (g : Setting) (m : ℕ) → GoesOn g (instr.Mark m)
+pub mark_goes : (g : Setting) (m : ℕ) → InstructionGoesOn g (instr.Mark m)
 mark_goes g m k =
     goes_behind g (instr.Mark m) k 0 0 (omega arith)
     (subst (λ c. Comes 0 c (from g rest k.state k.world.input)) (sym same)
@@ -195,7 +195,7 @@ mark_goes g m k =
     same : from g k.here k.state k.world.input ≡ from g rest k.state k.world.input
     same = same_runs _ _ (λ n. ap (λ l. from g l k.state k.world.input n) (here_is g (instr.Mark m) k) ∙ label_is n)
 
-pub jump_goes : (g : Setting) (m : ℕ) → GoesOn g (instr.Jump m)
+pub jump_goes : (g : Setting) (m : ℕ) → InstructionGoesOn g (instr.Jump m)
 jump_goes g m k =
     arrives g (instr.Jump m) k m 1
     (λ inside e. turns_once _ _
@@ -329,7 +329,7 @@ module _ (g : Setting) (test : Test) (m : ℕ) (k : At g (instr.Branch test m)) 
       ∙ sym (append_assoc k.stands.before (One (opposite_branch_of test) past ∷ One (row.J 0) there ∷ [])
       (Label past ∷ rest))))
 
-  holds_so : (t : Bool) → g.turned ≡ t → holds test.rel x y ≡ true → Follows g it k (charged 2 (jumps g it k m))
+  holds_so : (t : Bool) → g.turned ≡ t → holds test.rel x y ≡ true → LinesFollow g it k (charged 2 (jumps g it k m))
   holds_so false e h =
       arrives g it k m 2
       (λ inside l. turns_more 1 2 _ _ (omega arith) (turns_once _ _
@@ -344,7 +344,7 @@ module _ (g : Setting) (test : Test) (m : ℕ) (k : At g (instr.Branch test m)) 
       (row_does (Leads o k.state) (row.J 0) (Label past ∷ rest) k.state))) l)))
 
   fails_so : (t : Bool) → g.turned ≡ t → holds test.rel x y ≡ false →
-      Follows g it k (charged 2 (onward g it k k.world k.contents))
+      LinesFollow g it k (charged 2 (onward g it k k.world k.contents))
   fails_so false e h =
       goes_behind g it k 2 1 (omega arith)
       (λ i. (
@@ -367,13 +367,13 @@ module _ (g : Setting) (test : Test) (m : ℕ) (k : At g (instr.Branch test m)) 
             (other_taken (One (row.J 0) there ∷ Label past ∷ rest) h) (around_leads e) i,
       ))
 
-  pub branch_goes : Follows g it k (charged 2 (acts g it k (shape it)))
+  pub branch_goes : LinesFollow g it k (charged 2 (acts g it k (shape it)))
   branch_goes =
       let n = two_named test.left test.right (names g it k) in
       reads_operand g it k test.left n.0 2 _ (reads_operand g it k test.right n.1 2 _ (by (holds test.rel x y) refl))
     where
       by : (b : Bool) → holds test.rel x y ≡ b →
-          Follows g it k
+          LinesFollow g it k
           (charged 2 ((if b then jump m else skip)
           (around g
           k.function k.activation k.back)

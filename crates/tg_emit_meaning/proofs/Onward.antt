@@ -17,7 +17,7 @@ use Rattle.tg_runs.specs.Bytes.{AreBytes}
 use Rattle.tg_instr.specs.Codes.{is_allocated}
 use Rattle.tg_emit_meaning.specs.Setting.{Setting, from}
 use Rattle.tg_emit_meaning.specs.Standing.{IsHeld, HasRegisters, HasMemory, HasSizes, Stands}
-use Rattle.tg_emit_meaning.specs.Situation.{point, At, onward, Follows}
+use Rattle.tg_emit_meaning.specs.Situation.{point, At, onward, LinesFollow}
 use Rattle.tg_emit_meaning.proofs.Registers.{got, sizes_stay, memory_stays}
 
 -- lines that are a part of lines
@@ -81,7 +81,7 @@ module _ (g : Setting) (one : Instr) (k : At g one) where
       HasSizes g t → HasRegisters k.found k.activation contents t → HasMemory k.finds w.memory t →
       AreBytes w.input →
       Comes m (from g (own ++ behind) k.state k.world.input) (from g behind t w.input) →
-      Follows g one k (charged units (onward g one k w contents))
+      LinesFollow g one k (charged units (onward g one k w contents))
   comes_behind m units w contents t h sizes registers memory input comes =
       let goes = k.next w contents behind t (stands_behind w contents t sizes registers memory input) in
       simulates_paying 1 k.credit k.fuel units _ _
@@ -113,12 +113,12 @@ module _ (g : Setting) (one : Instr) (k : At g one) where
       HasSizes g t → HasRegisters k.found k.activation k.contents t → HasMemory k.finds w.memory t →
       AreBytes w.input →
       Comes m (from g (own ++ behind) k.state k.world.input) (from g behind (set_register t r v) w.input) →
-      Follows g one k (charged units
+      LinesFollow g one k (charged units
       (if r == 29 then (λ i. stops w.input Wrong) else onward g one k w (set (Operand (Reg r)) c k.contents)))
   puts m units w t r v c h named is fits sizes registers memory input comes = by (r == 29) refl
     where
       by : (b : Bool) → (r == 29) ≡ b →
-          Follows g one k (charged units
+          LinesFollow g one k (charged units
           (if b then (λ i. stops w.input Wrong) else onward g one k w (set (Operand (Reg r)) c k.contents)))
       by true e = simulates_wrong 1 k.credit k.fuel _ _ (λ i. refl)
       by false e =

@@ -13,7 +13,7 @@ use Rattle.tg_tree.specs.Memory.{Memory, Cell, Closed, Unset, Has, Kept, or_heap
 use Rattle.tg_tree.specs.Memory.{cell_byte, store_in, store_byte_in, put_open, put_byte, put}
 use Rattle.tg_tree.specs.Memory.{byte_of, with_byte}
 use Rattle.tg_emit_meaning.specs.Setting.{Setting}
-use Rattle.tg_emit_meaning.specs.Standing.{Finds, IsWithin, is_at, IsCell, HasMemory, HasSizes}
+use Rattle.tg_emit_meaning.specs.Standing.{Finds, IsStackWord, is_at, IsCell, HasMemory, HasSizes}
 use Rattle.tg_emit_meaning.proofs.Basics.{some_is}
 use Rattle.tg_emit_meaning.proofs.Regions.{offset_is, offset_in, offset_below, byte_fits, word_fits, byte_in_word}
 use Rattle.tg_emit_meaning.proofs.Regions.{set_length, set_bytes, set_word_length, set_word_bytes}
@@ -198,17 +198,17 @@ module _ (g : Setting) (finds : Finds) (m : Memory) (s : MachineState) (has : Ha
 
   -- a cell is as before where its word is
   cell_stays : (found : ℕ → ℕ) (b : List ℕ) (a : ℕ) (c : Cell) → length b ≡ length s.stack →
-      (IsWithin s a → word_at b (a - floor s) ≡ word_at s.stack (a - floor s)) → IsCell found s a c →
+      (IsStackWord s a → word_at b (a - floor s) ≡ word_at s.stack (a - floor s)) → IsCell found s a c →
       IsCell found (with_stack b) a c
   cell_stays found b a c l same is = by c is
     where
       f : floor (with_stack b) ≡ floor s
       f = ap (λ n. stack_top - n) l
 
-      within : IsWithin s a → IsWithin (with_stack b) a
+      within : IsStackWord s a → IsStackWord (with_stack b) a
       within w = (w.0, subst (λ n. n ≤ a) (sym f) w.1, w.2)
 
-      word : IsWithin s a → is_at (with_stack b) a ≡ is_at s a
+      word : IsStackWord s a → is_at (with_stack b) a ≡ is_at s a
       word w = ap (λ n. word_at b (a - n)) f ∙ same w
 
       by : (c : Cell) → IsCell found s a c → IsCell found (with_stack b) a c
@@ -219,7 +219,7 @@ module _ (g : Setting) (finds : Finds) (m : Memory) (s : MachineState) (has : Ha
 
   stored_cell : (b : List ℕ) (a : ℕ) (v : Cell) → length b ≡ length s.stack → All (λ x. x < 256) b →
       IsCell (finds a) (with_stack b) a v →
-      ((c : ℕ) → c ≢ a → IsWithin s c → word_at b (c - floor s) ≡ word_at s.stack (c - floor s)) →
+      ((c : ℕ) → c ≢ a → IsStackWord s c → word_at b (c - floor s) ≡ word_at s.stack (c - floor s)) →
       IsStored g finds (put a v m) s (with_stack b)
   stored_cell b a v l h here apart = record {
     memory = record {
@@ -240,7 +240,7 @@ module _ (g : Setting) (finds : Finds) (m : Memory) (s : MachineState) (has : Ha
       by c true e = subst (λ n. IsCell (finds n) (with_stack b) n v) (sym (eqb-true c a e)) here
       by c false e = cell_stays (finds c) b c (m.stack c) l (apart c (not_same a c e)) (has.cells c)
 
-  within_there : (b : List ℕ) (a : ℕ) → length b ≡ length s.stack → IsWithin s a → IsWithin (with_stack b) a
+  within_there : (b : List ℕ) (a : ℕ) → length b ≡ length s.stack → IsStackWord s a → IsStackWord (with_stack b) a
   within_there b a l w = (w.0, subst (λ n. n ≤ a) (sym (ap (λ n. stack_top - n) l)) w.1, w.2)
 
   word_is_at : (b : List ℕ) (a v : ℕ) → length b ≡ length s.stack → word_at b (a - floor s) ≡ v →
@@ -248,15 +248,15 @@ module _ (g : Setting) (finds : Finds) (m : Memory) (s : MachineState) (has : Ha
   word_is_at b a v l e = let k : floor (with_stack b) ≡ floor s = ap (λ n. stack_top - n) l in
       ap (λ n. word_at b (a - n)) k ∙ e
 
-  stored_stack : (b : List ℕ) (a v : ℕ) → length b ≡ length s.stack → All (λ x. x < 256) b → IsWithin s a →
+  stored_stack : (b : List ℕ) (a v : ℕ) → length b ≡ length s.stack → All (λ x. x < 256) b → IsStackWord s a →
       v < 2 ^ 32 → word_at b (a - floor s) ≡ v →
-      ((c : ℕ) → c ≢ a → IsWithin s c → word_at b (c - floor s) ≡ word_at s.stack (c - floor s)) →
+      ((c : ℕ) → c ≢ a → IsStackWord s c → word_at b (c - floor s) ≡ word_at s.stack (c - floor s)) →
       IsStored g finds (put a (Has v) m) s (with_stack b)
   stored_stack b a v l h w f is apart =
       stored_cell b a (Has v) l h (within_there b a l w, f, word_is_at b a v l is) apart
 
   -- a word of the stack, whatever its cell
-  pub load_cell : (a : ℕ) → IsWithin s a → (machine.load_word s a ≡ Ok (is_at s a)) × (is_at s a < 2 ^ 32)
+  pub load_cell : (a : ℕ) → IsStackWord s a → (machine.load_word s a ≡ Ok (is_at s a)) × (is_at s a < 2 ^ 32)
   load_cell a w =
       let t : (a % 4 == 0) ≡ true = rw w.0 refl in
       let high = w.2 in (
@@ -264,8 +264,8 @@ module _ (g : Setting) (finds : Finds) (m : Memory) (s : MachineState) (has : Ha
         word_fits s.stack (a - floor s) has.stack,
       )
 
-  pub store_cell : (a v : ℕ) (c : Cell) → IsWithin s a → v < 2 ^ 32 →
-      ((t : MachineState) → IsWithin t a → is_at t a ≡ v → IsCell (finds a) t a c) →
+  pub store_cell : (a v : ℕ) (c : Cell) → IsStackWord s a → v < 2 ^ 32 →
+      ((t : MachineState) → IsStackWord t a → is_at t a ≡ v → IsCell (finds a) t a c) →
       (t : MachineState) × (machine.store_word s a v ≡ Ok t) × IsStored g finds (put a c m) s t
   store_cell a v c w f cell =
       let t : (a % 4 == 0) ≡ true = rw w.0 refl in
@@ -288,7 +288,7 @@ module _ (g : Setting) (finds : Finds) (m : Memory) (s : MachineState) (has : Ha
       (t : MachineState) × (machine.store_word s a v ≡ Ok t) × IsStored g finds n s t
   store_there a v n f h = by (a % 4 == 0) refl h
     where
-      in_stack_there : IsWithin s a → Some (put a (Has v) m) ≡ Some n →
+      in_stack_there : IsStackWord s a → Some (put a (Has v) m) ≡ Some n →
           (t : MachineState) × (set_word_there s (machine.spot s a) v ≡ Ok t) × IsStored g finds n s t
       in_stack_there w h =
           let low = w.1 in let high = w.2 in let z = w.0 in

@@ -24,7 +24,7 @@ use Rattle.tg_instr.specs.Codes.{is_allocated}
 use Rattle.tg_lines.specs.LinesRun.{goes_to, Place}
 use Rattle.tg_emit_meaning.specs.Setting.{Setting, from, back_to, going_to}
 use Rattle.tg_emit_meaning.specs.Standing.{IsHeld, IsHanded, HasRegisters, IsBack}
-use Rattle.tg_emit_meaning.specs.Situation.{At, acts, Follows}
+use Rattle.tg_emit_meaning.specs.Situation.{At, acts, LinesFollow}
 use Rattle.tg_emit_meaning.proofs.Registers.{not_at, sizes_stay, memory_stays, moved, moved_count, moved_words}
 use Rattle.tg_emit_meaning.proofs.Registers.{moved_stack, moved_other}
 use Rattle.tg_emit_meaning.proofs.Offsets.{above_comes}
@@ -156,11 +156,11 @@ module _ (g : Setting) (k : At g instr.Return) where
       sum)
       (jr_comes 31 rest after_frame k.world.input))
 
-  pub return_goes : Follows g instr.Return k (charged 4 (acts g instr.Return k (shape instr.Return)))
+  pub return_goes : LinesFollow g instr.Return k (charged 4 (acts g instr.Return k (shape instr.Return)))
   return_goes = by (gives_back given_back k.contents) refl
     where
       by : (b : Bool) → gives_back given_back k.contents ≡ b →
-          Follows g instr.Return k
+          LinesFollow g instr.Return k
           (charged 4 (if b then k.back (handed (k.contents (Operand (Reg 2)))) k.world else
           (λ i. stops k.world.input Wrong)))
       by false given = simulates_wrong 1 k.credit k.fuel _ _ (λ i. refl)

@@ -34,7 +34,7 @@ use Rattle.tg_instr.specs.Contents.{Word, set}
 use Rattle.tg_lines.specs.LinesRun.{onward as does_onward, left}
 use Rattle.tg_emit_meaning.specs.Setting.{Setting, from}
 use Rattle.tg_emit_meaning.specs.Standing.{Finds, HasRegisters, HasMemory, HasSizes}
-use Rattle.tg_emit_meaning.specs.Situation.{At, onward, Follows, GoesOn}
+use Rattle.tg_emit_meaning.specs.Situation.{At, onward, LinesFollow, InstructionGoesOn}
 use Rattle.tg_emit_meaning.proofs.Rows.{done}
 use Rattle.tg_emit_meaning.proofs.Onward.{own, behind, here_is, stands_behind, puts}
 use Rattle.tg_emit_meaning.proofs.Reaching.{load_byte_there}
@@ -173,7 +173,7 @@ module _ (g : Setting) (k : At g instr.Service) where
 
   -- what is written and leaves its own number in $v0
   writes_on : (bytes : List ℕ) → effect row.Syscall s ≡ machine_does.Writes bytes s →
-      Follows g one k (charged 1 (written bytes (gives_it asked w)))
+      LinesFollow g one k (charged 1 (written bytes (gives_it asked w)))
   writes_on bytes does =
       let has = got k.found k.activation k.contents s k.stands.registers 2 asked (Word asked) refl refl refl
       (word_of g one k 2) in
@@ -202,7 +202,7 @@ module _ (g : Setting) (k : At g instr.Service) where
   -- a text up to its 0 byte
   texts : (o : Option (List ℕ)) → code.text_from (2 ^ 32) w.memory argument ≡ o → effect row.Syscall s
       ≡ write_text s (text_at s argument) →
-      Follows g one k (charged 1 (with_text o w (gives_it asked w)))
+      LinesFollow g one k (charged 1 (with_text o w (gives_it asked w)))
   texts None e does = simulates_wrong 1 k.credit k.fuel _ _ (λ i. refl)
   texts (Some bytes) e does =
       writes_on bytes (does ∙ ap (write_text s)
@@ -221,7 +221,7 @@ module _ (g : Setting) (k : At g instr.Service) where
 
   heaps : (b : Bool) → nat_lt g.room (length w.memory.heap + bytes_more) ≡ b →
       effect row.Syscall s ≡ machine_does.take_heap s bytes_more →
-      Follows g one k
+      LinesFollow g one k
       (charged 1 (if b then over (Ended HeapFull) w else gives_it (heap_base + length w.memory.heap) more_world))
   heaps b e does = by b (same ∙ e)
     where
@@ -257,7 +257,7 @@ module _ (g : Setting) (k : At g instr.Service) where
           }
 
       by : (b : Bool) → nat_lt s.room (length s.heap + bytes_more) ≡ b →
-          Follows g one k
+          LinesFollow g one k
           (charged 1 (if b then over (Ended HeapFull) w else gives_it (heap_base + length w.memory.heap) more_world))
       by true f =
           ends_there g one k row.Syscall HeapFull 1 (omega arith) is_row
@@ -290,7 +290,7 @@ module _ (g : Setting) (k : At g instr.Service) where
 
   -- a byte of input, or -1
   reads_on : (input : List ℕ) → w.input ≡ input → effect row.Syscall s ≡ machine_does.Reads s →
-      Follows g one k (charged 1 (read_byte input w gives_it))
+      LinesFollow g one k (charged 1 (read_byte input w gives_it))
   reads_on input e does = by input e
     where
       here : k.here ≡ alone row.Syscall ∷ behind g one k
@@ -306,7 +306,7 @@ module _ (g : Setting) (k : At g instr.Service) where
         ap (λ d. works 1 (done g w.input i (does_onward d (left (behind g one k))))) does,
       )
 
-      by : (input : List ℕ) → w.input ≡ input → Follows g one k (charged 1 (read_byte input w gives_it))
+      by : (input : List ℕ) → w.input ≡ input → LinesFollow g one k (charged 1 (read_byte input w gives_it))
       by [] e =
           puts g one k 1 1 w s 2 4294967295 (Word 4294967295) (omega arith) refl refl (omega arith)
           k.stands.sizes k.stands.registers k.stands.memory k.stands.input
@@ -322,7 +322,7 @@ module _ (g : Setting) (k : At g instr.Service) where
           (subst (λ l. Comes 1 (from g (own g one k ++ behind g one k) s w.input)
           (from g (behind g one k) (answered s (first_byte l)) (later_bytes l))) e comes)
 
-  serves : Follows g one k (charged 1 (code.service g.room asked argument w gives_it))
+  serves : LinesFollow g one k (charged 1 (code.service g.room asked argument w gives_it))
   serves =
       by (asked == 1) (asked == 4) (asked == 9) (asked == 10) (asked == 11) (asked == 12) (asked == 17) refl
     where
@@ -335,7 +335,7 @@ module _ (g : Setting) (k : At g instr.Service) where
           if b11 then machine_does.Writes (argument % 256 ∷ []) s else
           if b12 then machine_does.Reads s else
           if b17 then machine_does.Ends (Exit (signed argument)) else machine_does.Ends (BadService asked)) →
-          Follows g one k
+          LinesFollow g one k
           (charged 1 (if b1 then written (signed_decimal (signed argument)) (gives_it asked w) else
           if b4 then with_text (code.text_from (2 ^ 32) w.memory argument) w (gives_it asked w) else
           if b9 then take_heap g.room (whole_words argument) w gives_it else
@@ -355,6 +355,6 @@ module _ (g : Setting) (k : At g instr.Service) where
       by false false false false false false false does =
           ends_there g one k row.Syscall (BadService asked) 1 (omega arith) is_row does
 
-pub service_goes : (g : Setting) → GoesOn g instr.Service
+pub service_goes : (g : Setting) → InstructionGoesOn g instr.Service
 service_goes g k =
     reads_register g instr.Service k 2 1 _ refl (reads_register g instr.Service k 4 1 _ refl (serves g k))

@@ -26,8 +26,8 @@ use Rattle.tg_instr.proofs.Tests.{left_holds}
 use Rattle.tg_emit.specs.Lines.{load_at, store_at, slot_offset}
 use Rattle.tg_instr.specs.Codes.{is_allocated}
 use Rattle.tg_emit_meaning.specs.Setting.{Setting, from}
-use Rattle.tg_emit_meaning.specs.Standing.{IsHeld, HasRegisters, IsWithin, is_at, IsCell, HasMemory, HasSizes}
-use Rattle.tg_emit_meaning.specs.Situation.{At, onward, Follows, GoesOn}
+use Rattle.tg_emit_meaning.specs.Standing.{IsHeld, HasRegisters, IsStackWord, is_at, IsCell, HasMemory, HasSizes}
+use Rattle.tg_emit_meaning.specs.Situation.{At, onward, LinesFollow, InstructionGoesOn}
 use Rattle.tg_emit_meaning.proofs.Registers.{not_at, other_register, at_free}
 use Rattle.tg_emit_meaning.proofs.Rows.{row_comes}
 use Rattle.tg_emit_meaning.proofs.Offsets.{with_at, far_load, far_store}
@@ -83,9 +83,9 @@ module _ (g : Setting) (one : Instr) (k : At g one) where
 
   -- a slot is loaded
   loaded : (r j : ℕ) (c : Content) → IsTrue (is_allocated r) → own g one k ≡ load_at r (offset j) → IsSlot j →
-      IsWithin k.state (slot k.activation.base j) →
+      IsStackWord k.state (slot k.activation.base j) →
       IsHeld k.found c (is_at k.state (slot k.activation.base j)) →
-      Follows g one k (charged 3 (if r == 29 then (λ i. stops k.world.input Wrong) else onward g one k k.world
+      LinesFollow g one k (charged 3 (if r == 29 then (λ i. stops k.world.input Wrong) else onward g one k k.world
       (set (Operand (Reg r)) c k.contents)))
   loaded r j c named mine i within is = by (nat_lt (offset j) 32768) refl
     where
@@ -109,7 +109,7 @@ module _ (g : Setting) (one : Instr) (k : At g one) where
           (from g (behind g one k) t k.world.input)) (sym mine)
 
       by : (b : Bool) → nat_lt (offset j) 32768 ≡ b →
-          Follows g one k (charged 3 (if r == 29 then (λ i. stops k.world.input Wrong) else onward g one k k.world
+          LinesFollow g one k (charged 3 (if r == 29 then (λ i. stops k.world.input Wrong) else onward g one k k.world
           (set (Operand (Reg r)) c k.contents)))
       by true near =
           let does : effect (row.Lw r (offset j) 29) k.state ≡ machine_does.Goes (set_register k.state r v) =
@@ -130,11 +130,11 @@ module _ (g : Setting) (one : Instr) (k : At g one) where
 
   -- a slot is stored to
   saved : (r j : ℕ) (c : Content) → IsTrue (is_allocated r) → own g one k ≡ store_at r (offset j) → IsSlot j →
-      IsWithin k.state (slot k.activation.base j) →
-      ((t : MachineState) → IsWithin t (slot k.activation.base j) → is_at t (slot k.activation.base j)
+      IsStackWord k.state (slot k.activation.base j) →
+      ((t : MachineState) → IsStackWord t (slot k.activation.base j) → is_at t (slot k.activation.base j)
       ≡ register k.state r →
       IsCell (k.finds (slot k.activation.base j)) t (slot k.activation.base j) (cell_of c)) →
-      Follows g one k
+      LinesFollow g one k
       (charged 3 (onward g one k (record k.world {
         memory =
             memory.put (slot k.activation.base j) (cell_of c) k.world.memory;
@@ -180,7 +180,7 @@ module _ (g : Setting) (one : Instr) (k : At g one) where
       same = other_register up 1 r (add (register up 1) (register up 29)) (not_at r named)
           ∙ other_register k.state 1 r upper (not_at r named)
 
-      by : (b : Bool) → nat_lt (offset j) 32768 ≡ b → Follows g one k (charged 3 (onward g one k w k.contents))
+      by : (b : Bool) → nat_lt (offset j) 32768 ≡ b → LinesFollow g one k (charged 3 (onward g one k w k.contents))
       by true near =
           let d = store_cell g k.finds k.world.memory k.state k.stands.memory k.stands.sizes k.known.room_most
           k.known.stack_most
@@ -205,7 +205,7 @@ module _ (g : Setting) (one : Instr) (k : At g one) where
           (ap (λ b. machine.store_word (at_state j) b (register (at_state j) r)) i.it ∙ d.1)))
 
 -- A slot is loaded where it holds a word, or what was found in a register.
-pub frame_load_goes : (g : Setting) (to : Opnd) (j : ℕ) → GoesOn g (instr.FrameLoad to j)
+pub frame_load_goes : (g : Setting) (to : Opnd) (j : ℕ) → InstructionGoesOn g (instr.FrameLoad to j)
 frame_load_goes g (Temp t) j k = absurd (not_named (names g (instr.FrameLoad (Temp t) j) k))
   where
     not_named : false ≡ true → ⊥
@@ -222,7 +222,7 @@ frame_load_goes g (Reg r) j k = by (nat_lt j k.function.slots) refl
     a = slot k.activation.base j
 
     goes : IsSlot g it k j → k.finds a ≡ k.found → (c : Cell) → IsCell (k.finds a) k.state a c →
-        Follows g it k
+        LinesFollow g it k
         (charged 3 (with_content (content_of c) k.world
         (λ d. if r == 29 then (λ i. stops k.world.input Wrong) else onward g it k k.world
         (set (Operand (Reg r)) d k.contents))))
@@ -232,7 +232,7 @@ frame_load_goes g (Reg r) j k = by (nat_lt j k.function.slots) refl
     goes i owns (Kept q) is = loaded g it k r j (Found q) named refl i is.0 (is.1 ∙ ap (λ f. f q) owns)
 
     by : (b : Bool) → nat_lt j k.function.slots ≡ b →
-        Follows g it k
+        LinesFollow g it k
         (charged 3 (if b then with_content (content_of (k.world.memory.stack a)) k.world
         (λ d. if r == 29 then (λ i. stops k.world.input Wrong) else onward g it k k.world
         (set (Operand (Reg r)) d k.contents)) else wrong k.world))
@@ -242,7 +242,7 @@ frame_load_goes g (Reg r) j k = by (nat_lt j k.function.slots) refl
         goes (is_slot g it k j e) (k.stands.owns j l) (k.world.memory.stack a) (k.stands.memory.cells a)
 
 -- A slot is stored to.
-pub frame_store_goes : (g : Setting) (from : Opnd) (j : ℕ) → GoesOn g (instr.FrameStore from j)
+pub frame_store_goes : (g : Setting) (from : Opnd) (j : ℕ) → InstructionGoesOn g (instr.FrameStore from j)
 frame_store_goes g (Temp t) j k = absurd (not_named (names g (instr.FrameStore (Temp t) j) k))
   where
     not_named : false ≡ true → ⊥
@@ -258,24 +258,24 @@ frame_store_goes g (Reg r) j k = by (held k.activation k.contents (Operand (Reg 
     a : ℕ
     a = slot k.activation.base j
 
-    within : nat_lt j k.function.slots ≡ true → IsWithin k.state a
+    within : nat_lt j k.function.slots ≡ true → IsStackWord k.state a
     within e =
         let l : j < k.function.slots = grind (arith, nat_tests, e) in
         let f = k.stands.frame in
         let w = f.words in let z = f.holds in let u = f.above in let t = f.below in
         (omega (arith, l, w, z, u, t), omega (arith, l, w, z, u, t), omega (arith, l, w, z, u, t))
 
-    stores : (c : Content) → ((t : MachineState) → nat_lt j k.function.slots ≡ true → IsWithin t a →
+    stores : (c : Content) → ((t : MachineState) → nat_lt j k.function.slots ≡ true → IsStackWord t a →
         is_at t a ≡ register k.state r → IsCell (k.finds a) t a (cell_of c)) →
         (b : Bool) → nat_lt j k.function.slots ≡ b →
-        Follows g it k
+        LinesFollow g it k
         (charged 3 (if b then onward g it k (record k.world { memory = memory.put a (cell_of c) k.world.memory })
         k.contents else wrong k.world))
     stores c cell false e = simulates_wrong 1 k.credit k.fuel _ _ (λ i. refl)
     stores c cell true e = saved g it k r j c named refl (is_slot g it k j e) (within e) (λ t w x. cell t e w x)
 
     by : (c : Content) → IsHeld k.found c (register k.state r) →
-        Follows g it k
+        LinesFollow g it k
         (charged 3 (with_content c k.world (λ d. if nat_lt j k.function.slots then
         onward g it k (record k.world { memory = memory.put a (cell_of d) k.world.memory }) k.contents else wrong
         k.world)))

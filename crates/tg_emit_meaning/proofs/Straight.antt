@@ -31,7 +31,7 @@ use Rattle.tg_instr.specs.Codes.{is_allocated, is_of_colours}
 use Rattle.tg_lines.specs.LinesRun.{way, Straight}
 use Rattle.tg_emit_meaning.specs.Setting.{Setting, from}
 use Rattle.tg_emit_meaning.specs.Standing.{IsHeld, HasRegisters}
-use Rattle.tg_emit_meaning.specs.Situation.{At, onward, acts, Follows}
+use Rattle.tg_emit_meaning.specs.Situation.{At, onward, acts, LinesFollow}
 use Rattle.tg_emit_meaning.proofs.Basics.{no_true}
 use Rattle.tg_emit_meaning.proofs.Rows.{row_comes, row_ends, ends_so}
 use Rattle.tg_emit_meaning.proofs.Onward.{own, behind, here_is, comes_behind, puts}
@@ -78,7 +78,7 @@ module _ (g : Setting) (one : Instr) (k : At g one) where
 
   pub ends_there : (m : Mips) (e : RunEnd) (units : ℕ) → 1 ≤ units → IsRowOf m →
       effect m k.state ≡ machine_does.Ends e →
-      Follows g one k (charged units (λ i. stops k.world.input (Ended e)))
+      LinesFollow g one k (charged units (λ i. stops k.world.input (Ended e)))
   ends_there m e units some is does =
       let here : k.here ≡ alone m ∷ behind g one k = here_is g one k ∙ ap (λ o. o ++ behind g one k) is.lines in
       ends_so k.credit k.fuel units 1 k.world.input (Ended e) _ some
@@ -88,7 +88,7 @@ module _ (g : Setting) (one : Instr) (k : At g one) where
   -- a register gets what an operator gives
   pub gives : (m : Mips) (r : ℕ) (v : Given) → IsRowOf m → IsTrue (is_allocated r) →
       effect m k.state ≡ given_step k.state r v → IsGivenWord v →
-      Follows g one k
+      LinesFollow g one k
       (charged 1 (with_given v k.world
       (λ u. if r == 29 then (λ i. stops k.world.input Wrong) else onward g one k k.world
       (set (Operand (Reg r)) (Word u) k.contents))))
@@ -102,15 +102,15 @@ module _ (g : Setting) (one : Instr) (k : At g one) where
 
   -- what is read is a word, which is there
   pub reads : (c : Content) (v units : ℕ) (go : ℕ → Run Ran) → IsHeld k.found c v →
-      Follows g one k (charged units (go v)) →
-      Follows g one k (charged units (with_content_word c k.world go))
+      LinesFollow g one k (charged units (go v)) →
+      LinesFollow g one k (charged units (with_content_word c k.world go))
   reads Nothing v units go h goes = simulates_wrong 1 k.credit k.fuel _ _ (λ i. refl)
   reads (Found r) v units go h goes = simulates_wrong 1 k.credit k.fuel _ _ (λ i. refl)
-  reads (Word u) v units go h goes = subst (λ x. Follows g one k (charged units (go x))) h goes
+  reads (Word u) v units go h goes = subst (λ x. LinesFollow g one k (charged units (go x))) h goes
 
   pub reads_register : (x units : ℕ) (go : ℕ → Run Ran) → IsTrue (is_allocated x) →
-      Follows g one k (charged units (go (register k.state x))) →
-      Follows g one k (charged units (with_content_word (held k.activation k.contents (Operand (Reg x))) k.world go))
+      LinesFollow g one k (charged units (go (register k.state x))) →
+      LinesFollow g one k (charged units (with_content_word (held k.activation k.contents (Operand (Reg x))) k.world go))
   reads_register x units go n goes =
       reads (held k.activation k.contents (Operand (Reg x))) (register k.state x) units go
       (k.stands.registers.each x n) goes
@@ -118,7 +118,7 @@ module _ (g : Setting) (one : Instr) (k : At g one) where
   -- The shapes.
   pub from_none : (to : Opnd) (n : ℕ) (m : Mips) → IsNamed to → IsRowOf m →
       effect m k.state ≡ machine_does.Goes (set_register k.state (register_of to) n) → n < 2 ^ 32 →
-      Follows g one k (charged 1 (acts g one k (From0 to n)))
+      LinesFollow g one k (charged 1 (acts g one k (From0 to n)))
   from_none (Temp t) n m named is does fits = absurd (no_true named)
   from_none (Reg r) n m named is does fits = gives m r (word n) is named does fits
 
@@ -126,7 +126,7 @@ module _ (g : Setting) (one : Instr) (k : At g one) where
       IsRowOf m →
       effect m k.state ≡ given_step k.state (register_of to) (f (register k.state (register_of from))) →
       IsGivenWord (f (register k.state (register_of from))) →
-      Follows g one k (charged 1 (acts g one k (From1 to (Operand from) f)))
+      LinesFollow g one k (charged 1 (acts g one k (From1 to (Operand from) f)))
   from_one (Temp t) y f m named reads is does fits = absurd (no_true named)
   from_one (Reg r) (Temp t) f m named reads is does fits = absurd (no_true reads)
   from_one (Reg r) (Reg x) f m named read is does fits =
@@ -134,7 +134,7 @@ module _ (g : Setting) (one : Instr) (k : At g one) where
 
   pub from_high : (to : Opnd) (m : Mips) → IsNamed to → IsRowOf m →
       effect m k.state ≡ machine_does.Goes (set_register k.state (register_of to) k.state.hi) →
-      Follows g one k (charged 1 (acts g one k (From1 to Hi (λ a. word a))))
+      LinesFollow g one k (charged 1 (acts g one k (From1 to Hi (λ a. word a))))
   from_high (Temp t) m named is does = absurd (no_true named)
   from_high (Reg r) m named is does =
       reads (k.contents Hi) k.state.hi 1 _ k.stands.registers.high
@@ -142,7 +142,7 @@ module _ (g : Setting) (one : Instr) (k : At g one) where
 
   pub from_low : (to : Opnd) (m : Mips) → IsNamed to → IsRowOf m →
       effect m k.state ≡ machine_does.Goes (set_register k.state (register_of to) k.state.lo) →
-      Follows g one k (charged 1 (acts g one k (From1 to Lo (λ a. word a))))
+      LinesFollow g one k (charged 1 (acts g one k (From1 to Lo (λ a. word a))))
   from_low (Temp t) m named is does = absurd (no_true named)
   from_low (Reg r) m named is does =
       reads (k.contents Lo) k.state.lo 1 _ k.stands.registers.low
@@ -153,7 +153,7 @@ module _ (g : Setting) (one : Instr) (k : At g one) where
       effect m k.state ≡ given_step k.state (register_of to)
       (f (register k.state (register_of x)) (register k.state (register_of y))) →
       IsGivenWord (f (register k.state (register_of x)) (register k.state (register_of y))) →
-      Follows g one k (charged 1 (acts g one k (From2 to x y f)))
+      LinesFollow g one k (charged 1 (acts g one k (From2 to x y f)))
   from_two (Temp t) x y f m named reads others is does fits = absurd (no_true named)
   from_two (Reg r) (Temp t) y f m named reads others is does fits = absurd (no_true reads)
   from_two (Reg r) (Reg p) (Temp t) f m named reads others is does fits = absurd (no_true others)
@@ -165,14 +165,14 @@ module _ (g : Setting) (one : Instr) (k : At g one) where
   pub copies : (to from : Opnd) (m : Mips) → IsNamed to → IsNamed from → IsRowOf m →
       effect m k.state ≡ machine_does.Goes
       (set_register k.state (register_of to) (register k.state (register_of from))) →
-      Follows g one k (charged 1 (acts g one k (Copy to from)))
+      LinesFollow g one k (charged 1 (acts g one k (Copy to from)))
   copies (Temp t) y m named read is does = absurd (no_true named)
   copies (Reg r) (Temp t) m named read is does = absurd (no_true read)
   copies (Reg r) (Reg x) m named read is does =
       by (held k.activation k.contents (Operand (Reg x))) (k.stands.registers.each x read)
     where
       by : (c : Content) → IsHeld k.found c (register k.state x) →
-          Follows g one k
+          LinesFollow g one k
           (charged 1 (with_content c k.world
           (λ d. if r == 29 then (λ i. stops k.world.input Wrong) else onward g one k k.world
           (set (Operand (Reg r)) d k.contents))))
@@ -191,14 +191,14 @@ module _ (g : Setting) (one : Instr) (k : At g one) where
       IsNamed base → IsRowOf m →
       ((v : ℕ) → f k.world.memory (add (register k.state (register_of base)) n) ≡ Some v →
       (effect m k.state ≡ machine_does.Goes (set_register k.state (register_of to) v)) × (v < 2 ^ 32)) →
-      Follows g one k (charged 1 (acts g one k (Loads to base n f)))
+      LinesFollow g one k (charged 1 (acts g one k (Loads to base n f)))
   loads (Temp t) b n f m named read is does = absurd (no_true named)
   loads (Reg r) (Temp t) n f m named read is does = absurd (no_true read)
   loads (Reg r) (Reg x) n f m named read is does =
       reads_register x 1 _ read (by (f k.world.memory (add (register k.state x) n)) refl)
     where
       by : (o : Option ℕ) → f k.world.memory (add (register k.state x) n) ≡ o →
-          Follows g one k
+          LinesFollow g one k
           (charged 1 (with_word o k.world
           (λ v. if r == 29 then (λ i. stops k.world.input Wrong) else onward g one k k.world
           (set (Operand (Reg r)) (Word v) k.contents))))
@@ -227,7 +227,7 @@ module _ (g : Setting) (one : Instr) (k : At g one) where
       ((after : Memory) → f k.world.memory (add (register k.state (register_of base)) n)
       (register k.state (register_of from)) ≡ Some after →
       (t : MachineState) × (effect m k.state ≡ machine_does.Goes t) × IsStored g k.finds after k.state t) →
-      Follows g one k (charged 1 (acts g one k (Stores from base n f)))
+      LinesFollow g one k (charged 1 (acts g one k (Stores from base n f)))
   saves (Temp t) b n f m named read is does = absurd (no_true named)
   saves (Reg r) (Temp t) n f m named read is does = absurd (no_true read)
   saves (Reg r) (Reg x) n f m named read is does =
@@ -235,7 +235,7 @@ module _ (g : Setting) (one : Instr) (k : At g one) where
       (by (f k.world.memory (add (register k.state x) n) (register k.state r)) refl))
     where
       by : (o : Option Memory) → f k.world.memory (add (register k.state x) n) (register k.state r) ≡ o →
-          Follows g one k (charged 1 (with_memory o k.world (λ w. onward g one k w k.contents)))
+          LinesFollow g one k (charged 1 (with_memory o k.world (λ w. onward g one k w k.contents)))
       by None e = simulates_wrong 1 k.credit k.fuel _ _ (λ i. refl)
       by (Some after) e =
           let d = does after e in
@@ -252,7 +252,7 @@ module _ (g : Setting) (one : Instr) (k : At g one) where
       s ≡ Wrong) →
       ((s : Stop) → high (register k.state (register_of x)) (register k.state (register_of y)) ≡ stops_by s →
       s ≡ Wrong) →
-      Follows g one k (charged 1 (acts g one k (Halves x y low high)))
+      LinesFollow g one k (charged 1 (acts g one k (Halves x y low high)))
   halves (Temp t) y low high m named read is does p q = absurd (no_true named)
   halves (Reg x) (Temp t) low high m named read is does p q = absurd (no_true read)
   halves (Reg x) (Reg y) low high m named read is does p q =
@@ -261,7 +261,7 @@ module _ (g : Setting) (one : Instr) (k : At g one) where
     where
       by : (a : Given) → low (register k.state x) (register k.state y) ≡ a → (b : Given) →
           high (register k.state x) (register k.state y) ≡ b →
-          Follows g one k (charged 1 (with_given a k.world (λ l. with_given b k.world
+          LinesFollow g one k (charged 1 (with_given a k.world (λ l. with_given b k.world
           (λ h. onward g one k k.world (set Lo (Word l) (set Hi (Word h) k.contents))))))
       by (stops_by s) e b f = simulates_wrong 1 k.credit k.fuel _ _ (λ i. p s e)
       by (word u) e (stops_by s) f = simulates_wrong 1 k.credit k.fuel _ _ (λ i. q s f)

@@ -23,7 +23,7 @@ use Rattle.tg_instr.specs.Running.{code_run}
 use Rattle.tg_emit.specs.declared.assembly.Line.{Line}
 use Rattle.tg_emit.specs.Lines.{size_of, functions_lines, is_long, assembly_of}
 use Rattle.tg_emit.specs.Text.{text_of}
-use Rattle.tg_image.specs.Programs.{IsProgram, AreTyped}
+use Rattle.tg_image.specs.Programs.{IsWholeProgram, AreTyped}
 use Rattle.tg_image.specs.Images.{program_written}
 use Rattle.tg_lines.specs.LinesRun.{Returns, calls, lines_run}
 use Rattle.tg_lines.specs.Laws.{AreReturns}
@@ -51,7 +51,7 @@ sizes_of (f ∷ fs) label = if f.frame.label.0 == label then size_of f.frame els
 
 -- A program whose code may be run: it names $zero, $sp and the colours alone.
 pub record MayRun (fs : List Allocated) (ls : List Literal) : Type 0 where
-  pub program : IsProgram fs ls
+  pub program : IsWholeProgram fs ls
   pub typed : AreTyped fs ls
   pub registers : IsTrue (list_all (λ (f : Allocated). list_all is_of_colours f.code.list) fs)
 

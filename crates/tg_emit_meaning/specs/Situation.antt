@@ -13,7 +13,7 @@ use Rattle.tg_tree.specs.Running.{function_of}
 use Rattle.tg_tree.specs.Tree.{Function}
 use Rattle.tg_instr.specs.declared.instr.Instr.{Instr}
 use Rattle.tg_instr.specs.Codes.{is_of_colours}
-use Rattle.tg_instr.specs.Shapes.{Shape, shape}
+use Rattle.tg_instr.specs.Shapes.{InstructionShape, shape}
 use Rattle.tg_instr.specs.Contents.{Contents}
 use Rattle.tg_instr.specs.Meaning.{Back, act}
 use Rattle.tg_instr.specs.Running.{CodePoint}
@@ -110,18 +110,19 @@ module _ (g : Setting) (one : Instr) (k : At g one) where
   onward w contents = code_from g k.function k.rest k.activation k.back w contents
 
   -- what the code does from here, by the instruction's shape
-  abbrev pub acts : Shape → Run Ran
+  abbrev pub acts : InstructionShape → Run Ran
   acts way =
       act g.room g.program.literals (enter g) way (around g k.function k.activation k.back)
       onward k.world k.contents
 
   -- the lines follow this run
-  abbrev pub Follows : Run Ran → Type 0
-  Follows c = Simulates 1 k.credit k.fuel c (from g k.here k.state k.world.input)
+  abbrev pub LinesFollow : Run Ran → Type 0
+  LinesFollow c = Simulates 1 k.credit k.fuel c (from g k.here k.state k.world.input)
 
 -- what is asked of an instruction, and of all
-abbrev pub GoesOn : Setting → Instr → Type 0
-GoesOn g one = (k : At g one) → Follows g one k (charged (steps_of one) (acts g one k (shape one)))
+abbrev pub InstructionGoesOn : Setting → Instr → Type 0
+InstructionGoesOn g one =
+    (k : At g one) → LinesFollow g one k (charged (steps_of one) (acts g one k (shape one)))
 
 abbrev pub InstructionsGoOn : Setting → Type 0
-InstructionsGoOn g = (one : Instr) → GoesOn g one
+InstructionsGoOn g = (one : Instr) → InstructionGoesOn g one

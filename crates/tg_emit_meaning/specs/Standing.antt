@@ -56,17 +56,17 @@ pub record HasRegisters (found : ℕ → ℕ) (a : Activation) (contents : Conte
   pub low_word : s.lo < 2 ^ 32
 
 -- a word of the stack
-abbrev pub IsWithin : MachineState → (address : ℕ) → Type 0
-IsWithin s a = (a % 4 ≡ 0) × (floor s ≤ a) × (a + 4 ≤ stack_top)
+abbrev pub IsStackWord : MachineState → (address : ℕ) → Type 0
+IsStackWord s a = (a % 4 ≡ 0) × (floor s ≤ a) × (a + 4 ≤ stack_top)
 
 abbrev pub is_at : MachineState → (address : ℕ) → ℕ
 is_at s a = word_at s.stack (a - floor s)
 
 abbrev pub IsCell : (found : ℕ → ℕ) → MachineState → (address : ℕ) → Cell → Type 0
 IsCell found s a Closed = Unit {0}
-IsCell found s a Unset = IsWithin s a
-IsCell found s a (Has v) = IsWithin s a × (v < 2 ^ 32) × (is_at s a ≡ v)
-IsCell found s a (Kept r) = IsWithin s a × (is_at s a ≡ found r)
+IsCell found s a Unset = IsStackWord s a
+IsCell found s a (Has v) = IsStackWord s a × (v < 2 ^ 32) × (is_at s a ≡ v)
+IsCell found s a (Kept r) = IsStackWord s a × (is_at s a ≡ found r)
 
 -- bytes, in whole words
 abbrev pub AreWhole : List ℕ → Type 0

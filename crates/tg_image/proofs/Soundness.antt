@@ -20,7 +20,7 @@ use Rattle.tg_emit.specs.declared.assembly.Line.{Line}
 use Rattle.tg_emit.specs.Names.{function_name, literal_name}
 use Rattle.tg_emit.specs.Ranges.{FunctionFits, LiteralFits}
 use Rattle.tg_emit.specs.Lines.{function_lines, functions_lines, is_long, words}
-use Rattle.tg_image.specs.Programs.{function_labels, literal_labels, is_among, bytes_of, IsProgram, AreTyped}
+use Rattle.tg_image.specs.Programs.{function_labels, literal_labels, is_among, bytes_of, IsWholeProgram, AreTyped}
 use Rattle.tg_image.specs.Images.{statics_written, program_written, words_before, AreCode, ProgramIsCode, ProgramIsSound}
 use Rattle.tg_image.specs.Images.{ProgramHasImage, ProgramEntersBody}
 use Rattle.tg_image.proofs.Apart.{Differ, differ_append, pairs_differ, Stands, stands_left, stands_right, names_of, found}
@@ -67,12 +67,12 @@ not_above a b h = grind (arith, nat_tests)
 
 -- what is known of a program
 record Known (fs : List Allocated) (ls : List Literal) : Type 0 where
-  program : IsProgram fs ls
+  program : IsWholeProgram fs ls
   emitted : AllByRecursion IsEmitted fs
   literals : AllByRecursion LiteralFits ls
   code : AreCode (functions_lines (is_long fs) fs)
 
-known : (fs : List Allocated) (ls : List Literal) → IsProgram fs ls → AreTyped fs ls → Known fs ls
+known : (fs : List Allocated) (ls : List Literal) → IsWholeProgram fs ls → AreTyped fs ls → Known fs ls
 known fs ls p t =
     let k = all_emitted fs p.emittable (recursion_from_All FunctionFits fs t.functions) in
     record { program = p; emitted = k; literals = recursion_from_All LiteralFits ls t.literals; code = code_of_functions (is_long fs) fs k }

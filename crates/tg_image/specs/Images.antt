@@ -18,7 +18,7 @@ use Rattle.tg_emit.specs.Names.{literal_name}
 use Rattle.tg_emit.specs.Lines.{words, function_lines, functions_lines, is_long, assembly_of}
 use Rattle.tg_emit.specs.Text.{text_of}
 use Rattle.tg_emit.specs.Conditions.{has_labels, is_emittable}
-use Rattle.tg_image.specs.Programs.{IsProgram, AreTyped}
+use Rattle.tg_image.specs.Programs.{IsWholeProgram, AreTyped}
 
 -- bytes of the statics; none at all are still an item
 abbrev pub bytes_line : List ℕ → texts.Line
@@ -73,25 +73,25 @@ EmittedHasLabels =
 -- the lines of a program's functions are code
 abbrev pub ProgramIsCode : Type 0
 ProgramIsCode =
-    (fs : List Allocated) (ls : List Literal) → IsProgram fs ls → AreTyped fs ls →
+    (fs : List Allocated) (ls : List Literal) → IsWholeProgram fs ls → AreTyped fs ls →
     AreCode (functions_lines (is_long fs) fs)
 
 -- nothing of what is read of a program is wrong
 abbrev pub ProgramIsSound : Type 0
 ProgramIsSound =
-    (fs : List Allocated) (ls : List Literal) → IsProgram fs ls → AreTyped fs ls →
+    (fs : List Allocated) (ls : List Literal) → IsWholeProgram fs ls → AreTyped fs ls →
     IsSound (texts.readings_of (program_written fs ls))
 
 -- the text of a program is assembled without a fault
 abbrev pub ProgramHasImage : Type 0
 ProgramHasImage =
-    (fs : List Allocated) (ls : List Literal) → IsProgram fs ls → AreTyped fs ls →
+    (fs : List Allocated) (ls : List Literal) → IsWholeProgram fs ls → AreTyped fs ls →
     assembled (text_of (assembly_of fs ls))
     ≡ Ok (image_of (texts.readings_of (program_written fs ls)))
 
 -- and runs from the first word of its body on
 abbrev pub ProgramEntersBody : Type 0
 ProgramEntersBody =
-    (fs : List Allocated) (ls : List Literal) → IsProgram fs ls → AreTyped fs ls →
+    (fs : List Allocated) (ls : List Literal) → IsWholeProgram fs ls → AreTyped fs ls →
     (image_of (texts.readings_of (program_written fs ls))).entry
     ≡ code_base + 4 * words_before (is_long fs) 32 fs

@@ -41,7 +41,7 @@ bytes_of [] = 0
 bytes_of (l ∷ ls) = length (padded l.text) + bytes_of ls
 
 -- What is emitted of them is a whole text: 32 is the program's body.
-pub record IsProgram (fs : List Allocated) (ls : List Literal) : Type 0 where
+pub record IsWholeProgram (fs : List Allocated) (ls : List Literal) : Type 0 where
   pub emittable : IsTrue (list_all is_emittable fs)
   pub functions_differ : IsTrue (labels_differ (function_labels fs))
   pub literals_differ : IsTrue (labels_differ (literal_labels ls))

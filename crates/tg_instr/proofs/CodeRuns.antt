@@ -21,7 +21,7 @@ use Rattle.tg_instr.specs.declared.operands.Opnd.{Opnd}
 use Rattle.tg_instr.specs.declared.operands.Opnd.TheVariants.{Reg}
 use Rattle.tg_instr.specs.declared.instr.Instr.{Instr}
 use Rattle.tg_instr.specs.Operands.{is_same}
-use Rattle.tg_instr.specs.Shapes.{Operand, Hi, Lo, Shape, From0, From1, From2, Halves, Copy, Loads, Stores, FromSlot, ToSlot, Base, AddressOf}
+use Rattle.tg_instr.specs.Shapes.{Operand, Hi, Lo, InstructionShape, From0, From1, From2, Halves, Copy, Loads, Stores, FromSlot, ToSlot, Base, AddressOf}
 use Rattle.tg_instr.specs.Shapes.{Here, Goes, Tests, Calls, Asks, Fails, Returns, shape}
 use Rattle.tg_instr.specs.Uses.{given_back}
 use Rattle.tg_instr.specs.Contents.{Content, Nothing, Word, Found, Contents, no_contents, set, held, handed, at_entry, after_call, gives_back}
@@ -106,7 +106,7 @@ module _ (R : Related) (keeps : Keeps R OneWorld OneTemps) where
           (if is_same to (Reg 29) then wrong w else next' w (set (Operand to) c s))
       puts to c w s = either (is_same to (Reg 29)) w _ _ _ _ (wrongs w) (next_same w (set (Operand to) c s))
 
-      pub keep_act : (i : Shape) (w : World) (s : Contents) →
+      pub keep_act : (i : InstructionShape) (w : World) (s : Contents) →
           R n w (act room literals enter i e next w s) (act room literals enter' i e' next' w s)
       keep_act (From0 to k) w s = puts to (Word k) w s
       keep_act (From1 to from f) w s =

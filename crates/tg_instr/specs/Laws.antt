@@ -4,28 +4,28 @@ use Rattle.tg_runs.specs.Ran.{StaysOver, OnlyGoesOn}
 use Rattle.tg_tree.specs.Actions.{World}
 use Rattle.tg_tree.specs.Tree.{Literal, Code}
 use Rattle.tg_instr.specs.declared.instr.Instr.{Instr}
-use Rattle.tg_instr.specs.Shapes.{Holder, Operand, Hi, Lo, Shape, From1, Halves, Calls}
+use Rattle.tg_instr.specs.Shapes.{Holder, Operand, Hi, Lo, InstructionShape, From1, Halves, Calls}
 use Rattle.tg_instr.specs.Uses.{uses, defs}
 use Rattle.tg_instr.specs.Contents.{Nothing, Contents, is_among}
 use Rattle.tg_instr.specs.Meaning.{Next, Enter, Around, act}
 use Rattle.tg_instr.specs.Running.{Units, CodePoint, code_step, code_going, code_run}
 
 -- hi and lo, where an instruction reads or changes them
-abbrev pub half_read : Shape → List Holder
+abbrev pub half_read : InstructionShape → List Holder
 half_read (From1 to (Operand x) f) = []
 half_read (From1 to half f) = half ∷ []
 half_read _ = []
 
-abbrev pub halves_changed : Shape → List Holder
+abbrev pub halves_changed : InstructionShape → List Holder
 halves_changed (Halves left right low high) = Hi ∷ Lo ∷ []
 halves_changed (Calls label) = Hi ∷ Lo ∷ []
 halves_changed _ = []
 
 -- what an instruction reads, moves or hands on, and what holds something else behind it
-abbrev pub reads : Shape → List Holder
+abbrev pub reads : InstructionShape → List Holder
 reads one = map (λ x. Operand x) (uses one) ++ half_read one
 
-abbrev pub changes : Shape → List Holder
+abbrev pub changes : InstructionShape → List Holder
 changes one = map (λ x. Operand x) (defs one) ++ halves_changed one
 
 -- the one at these holders, and the other elsewhere
@@ -42,7 +42,7 @@ Agree (x ∷ xs) s t = (s x ≡ t x) × Agree xs s t
 -- behind an instruction all but its definitions is as before it
 abbrev pub ChangesDefinitions : Type 0
 ChangesDefinitions =
-    (room : ℕ) (literals : List Literal) (enter : Enter) (one : Shape) (e : Around)
+    (room : ℕ) (literals : List Literal) (enter : Enter) (one : InstructionShape) (e : Around)
     (next : Next) (w : World) (s : Contents) →
     act room literals enter one e next w s
     ≡ act room literals enter one e (λ w1 s1. next w1 (within (changes one) s1 s)) w s
@@ -50,7 +50,7 @@ ChangesDefinitions =
 -- what its definitions are behind it, and where it goes on, is told by what its uses are
 abbrev pub ReadsUses : Type 0
 ReadsUses =
-    (room : ℕ) (literals : List Literal) (enter : Enter) (one : Shape) (e : Around)
+    (room : ℕ) (literals : List Literal) (enter : Enter) (one : InstructionShape) (e : Around)
     (next : Next) (w : World) (s t : Contents) →
     Agree (reads one) s t →
     ((m : ℕ) (w1 : World) → e.jumps m w1 s ≡ e.jumps m w1 t) →

@@ -13,7 +13,8 @@ use Rattle.tg_tree.specs.Tree.{Literal}
 use Rattle.tg_instr.specs.declared.operands.Opnd.{Opnd}
 use Rattle.tg_instr.specs.declared.operands.Opnd.TheVariants.{Reg}
 use Rattle.tg_instr.specs.Operands.{is_same}
-use Rattle.tg_instr.specs.Shapes.{Holder, Operand, Hi, Lo, Shape, From0, From1, From2, Halves, Copy}
+use Rattle.tg_instr.specs.Shapes.{Holder, Operand, Hi, Lo, InstructionShape, From0, From1, From2}
+use Rattle.tg_instr.specs.Shapes.{Halves, Copy}
 use Rattle.tg_instr.specs.Shapes.{Loads, Stores, FromSlot, ToSlot, Base, AddressOf, Here, Goes}
 use Rattle.tg_instr.specs.Shapes.{Tests, Calls, Asks, Fails, Returns}
 use Rattle.tg_instr.specs.Uses.{given_back}
@@ -47,37 +48,37 @@ pub record Around : Type 0 where
 
 -- Actions, each of which is passed what comes next.
 
-abbrev pub Acts : Type 0 → Type 0
-Acts K = Around → K → World → Contents → Run Ran
+abbrev pub Executes : Type 0 → Type 0
+Executes K = Around → K → World → Contents → Run Ran
 
 infixl 10 ◌>>=◌
 infixl 10 ◌>>◌
-abbrev pub ◌>>=◌ : {A K : Type 0} → Acts (Go A) → (A → Acts K) → Acts K
+abbrev pub ◌>>=◌ : {A K : Type 0} → Executes (Go A) → (A → Executes K) → Executes K
 ◌>>=◌ first onward e k w s = first e (λ a w1 s1. onward a e k w1 s1) w s
 
-abbrev pub ◌>>◌ : {K : Type 0} → Acts Next → Acts K → Acts K
+abbrev pub ◌>>◌ : {K : Type 0} → Executes Next → Executes K → Executes K
 ◌>>◌ first onward e k w s = first e (λ w1 s1. onward e k w1 s1) w s
 
-abbrev pub skip : Acts Next
+abbrev pub skip : Executes Next
 skip e next w s = next w s
 
-abbrev pub stop : Stop → Acts Next
+abbrev pub stop : Stop → Executes Next
 stop end e next w s = over end w
 
 -- a word that has to be there: in itself, as what an operator gives, in memory
-abbrev pub known : Option ℕ → Acts (Go ℕ)
+abbrev pub known : Option ℕ → Executes (Go ℕ)
 known o e go w s = with_word o w (λ v. go v w s)
 
-abbrev pub given : Given → Acts (Go ℕ)
+abbrev pub given : Given → Executes (Go ℕ)
 given g e go w s = with_given g w (λ v. go v w s)
 
-abbrev pub read_memory : (Memory → Option ℕ) → Acts (Go ℕ)
+abbrev pub read_memory : (Memory → Option ℕ) → Executes (Go ℕ)
 read_memory f e go w s = with_word (f w.memory) w (λ v. go v w s)
 
-abbrev pub write_memory : (Memory → Option Memory) → Acts Next
+abbrev pub write_memory : (Memory → Option Memory) → Executes Next
 write_memory f e next w s = with_memory (f w.memory) w (λ w1. next w1 s)
 
-abbrev pub frame_address : Acts (Go ℕ)
+abbrev pub frame_address : Executes (Go ℕ)
 frame_address e go w s = go e.activation.base w s
 
 -- what a holder has: a word, or also what is only moved
@@ -89,50 +90,50 @@ abbrev pub with_content : Content → World → (Content → Run Ran) → Run Ra
 with_content Nothing w go = wrong w
 with_content c w go = go c
 
-abbrev pub read : Holder → Acts (Go ℕ)
+abbrev pub read : Holder → Executes (Go ℕ)
 read x e go w s = with_content_word (held e.activation s x) w (λ v. go v w s)
 
-abbrev pub pick : Opnd → Acts (Go Content)
+abbrev pub pick : Opnd → Executes (Go Content)
 pick x e go w s = with_content (held e.activation s (Operand x)) w (λ c. go c w s)
 
-abbrev pub write : Holder → Content → Acts Next
+abbrev pub write : Holder → Content → Executes Next
 write x c e next w s = next w (set x c s)
 
 -- an operand but $sp, which no instruction writes
-abbrev pub put_in : Opnd → Content → Acts Next
+abbrev pub put_in : Opnd → Content → Executes Next
 put_in x c e next w s =
     if is_same x (Reg 29) then wrong w else next w (set (Operand x) c s)
 
 -- a slot of the frame
-abbrev pub pick_slot : (slot : ℕ) → Acts (Go Content)
+abbrev pub pick_slot : (slot : ℕ) → Executes (Go Content)
 pick_slot k e go w s =
     if nat_lt k e.slots then
     with_content (content_of (w.memory.stack (slot e.activation.base k))) w (λ c. go c w s)
     else wrong w
 
-abbrev pub put_slot : (slot : ℕ) → Content → Acts Next
+abbrev pub put_slot : (slot : ℕ) → Content → Executes Next
 put_slot k c e next w s =
     if nat_lt k e.slots then
     next (record w { memory = put (slot e.activation.base k) (cell_of c) w.memory }) s
     else wrong w
 
-abbrev pub jump : (mark : ℕ) → Acts Next
+abbrev pub jump : (mark : ℕ) → Executes Next
 jump m e next w s = e.jumps m w s
 
-abbrev pub go_back : Acts Next
+abbrev pub go_back : Executes Next
 go_back e next w s =
     if gives_back given_back s then e.back (handed (s (Operand (Reg 2)))) w else wrong w
 
 module _ (room : ℕ) (literals : List Literal) (enter : Enter) where
-  abbrev pub call : (label : ℕ) → Acts Next
+  abbrev pub call : (label : ℕ) → Executes Next
   call label e next w s =
       enter label (at_entry s) (e.activation.base - e.activation.size)
       (λ c w1. next w1 (after_call c s)) w
 
-  abbrev pub ask : (asked argument : ℕ) → Acts (Go ℕ)
+  abbrev pub ask : (asked argument : ℕ) → Executes (Go ℕ)
   ask n u e go w s = service room n u w (λ v w1. go v w1 s)
 
-  abbrev pub act : Shape → Acts Next
+  abbrev pub act : InstructionShape → Executes Next
   act (From0 to n) = put_in to (Word n)
   act (From1 to from f) = do
     u ← read from

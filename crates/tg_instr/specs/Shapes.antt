@@ -24,31 +24,31 @@ pub data Holder : Type 0 where
   Operand : Opnd → Holder
   Hi Lo : Holder
 
-pub data Shape : Type 0 where
+pub data InstructionShape : Type 0 where
   -- `to` gets a word; a word of one or of two words
-  From0 : (to : Opnd) → ℕ → Shape
-  From1 : (to : Opnd) → (from : Holder) → (ℕ → Given) → Shape
-  From2 : (to left right : Opnd) → (ℕ → ℕ → Given) → Shape
+  From0 : (to : Opnd) → ℕ → InstructionShape
+  From1 : (to : Opnd) → (from : Holder) → (ℕ → Given) → InstructionShape
+  From2 : (to left right : Opnd) → (ℕ → ℕ → Given) → InstructionShape
   -- hi and lo get words of two words
-  Halves : (left right : Opnd) → (low high : ℕ → ℕ → Given) → Shape
+  Halves : (left right : Opnd) → (low high : ℕ → ℕ → Given) → InstructionShape
   -- `to` gets whatever `from` holds
-  Copy : (to from : Opnd) → Shape
+  Copy : (to from : Opnd) → InstructionShape
   -- memory at so many bytes behind `base`
-  Loads : (to base : Opnd) → (bytes : ℕ) → (Memory → ℕ → Option ℕ) → Shape
-  Stores : (from base : Opnd) → (bytes : ℕ) → (Memory → ℕ → ℕ → Option Memory) → Shape
+  Loads : (to base : Opnd) → (bytes : ℕ) → (Memory → ℕ → Option ℕ) → InstructionShape
+  Stores : (from base : Opnd) → (bytes : ℕ) → (Memory → ℕ → ℕ → Option Memory) → InstructionShape
   -- a slot of the frame, the frame address, and the address of a literal
-  FromSlot : (to : Opnd) → (slot : ℕ) → Shape
-  ToSlot : (from : Opnd) → (slot : ℕ) → Shape
-  Base : (to : Opnd) → Shape
-  AddressOf : (to : Opnd) → (label : ℕ) → Shape
+  FromSlot : (to : Opnd) → (slot : ℕ) → InstructionShape
+  ToSlot : (from : Opnd) → (slot : ℕ) → InstructionShape
+  Base : (to : Opnd) → InstructionShape
+  AddressOf : (to : Opnd) → (label : ℕ) → InstructionShape
   -- a mark, and what leads elsewhere
-  Here : (mark : ℕ) → Shape
-  Goes : (mark : ℕ) → Shape
-  Tests : Rel → (left right : Opnd) → (mark : ℕ) → Shape
-  Calls : (label : ℕ) → Shape
-  Asks : Shape
-  Fails : (code : ℕ) → Shape
-  Returns : Shape
+  Here : (mark : ℕ) → InstructionShape
+  Goes : (mark : ℕ) → InstructionShape
+  Tests : Rel → (left right : Opnd) → (mark : ℕ) → InstructionShape
+  Calls : (label : ℕ) → InstructionShape
+  Asks : InstructionShape
+  Fails : (code : ℕ) → InstructionShape
+  Returns : InstructionShape
 
 -- a word that goes wrong where the divisor is 0
 abbrev pub unless_zero : (ℕ → ℕ → ℕ) → ℕ → ℕ → Given
@@ -59,7 +59,7 @@ abbrev pub with_sign : Option ℕ → Option ℕ
 with_sign (Some b) = Some (extended_byte b)
 with_sign None = None
 
-abbrev pub shape : Instr → Shape
+abbrev pub shape : Instr → InstructionShape
 shape (Sll rd rt n) = From1 rd (Operand rt) (λ a. word (shift_left a n))
 shape (Srl rd rt n) = From1 rd (Operand rt) (λ a. word (shift_right a n))
 shape (Sra rd rt n) = From1 rd (Operand rt) (λ a. word (shift_signed a n))

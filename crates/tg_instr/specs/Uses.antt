@@ -3,7 +3,8 @@ use Rattle.std.specs.Prelude.{ℕ, List, [], ◌∷◌}
 use Rattle.tg_instr.specs.declared.operands.Opnd.{Opnd}
 use Rattle.tg_instr.specs.declared.instr.Instr.{Instr}
 use Rattle.tg_instr.specs.Operands.{registers}
-use Rattle.tg_instr.specs.Shapes.{Holder, Operand, Hi, Lo, Shape, From0, From1, From2, Halves, Copy}
+use Rattle.tg_instr.specs.Shapes.{Holder, Operand, Hi, Lo, InstructionShape, From0, From1, From2}
+use Rattle.tg_instr.specs.Shapes.{Halves, Copy}
 use Rattle.tg_instr.specs.Shapes.{Loads, Stores, FromSlot, ToSlot, Base, AddressOf, Here, Goes}
 use Rattle.tg_instr.specs.Shapes.{Tests, Calls, Asks, Fails, Returns, shape}
 
@@ -25,7 +26,7 @@ operand_of Hi = []
 operand_of Lo = []
 
 -- the operands that it reads, moves or hands on
-abbrev pub uses : Shape → List Opnd
+abbrev pub uses : InstructionShape → List Opnd
 uses (From0 to n) = []
 uses (From1 to from f) = operand_of from
 uses (From2 to left right f) = left ∷ right ∷ []
@@ -46,7 +47,7 @@ uses (Fails n) = []
 uses Returns = registers (2 ∷ given_back)
 
 -- the operands that hold something else behind it
-abbrev pub defs : Shape → List Opnd
+abbrev pub defs : InstructionShape → List Opnd
 defs (From0 to n) = to ∷ []
 defs (From1 to from f) = to ∷ []
 defs (From2 to left right f) = to ∷ []

@@ -5,7 +5,7 @@ use Rattle.std.proofs.lemmas.Bool.{and_parts, and_from, or_cases, or_left, or_ri
 use Rattle.tg_instr.specs.declared.instr.Instr.{Instr}
 use Rattle.tg_instr.specs.declared.operands.Opnd.{Opnd}
 use Rattle.tg_instr.specs.Operands.{is_same}
-use Rattle.tg_instr.specs.Shapes.{Shape, Copy, shape}
+use Rattle.tg_instr.specs.Shapes.{InstructionShape, Copy, shape}
 use Rattle.tg_instr.specs.Uses.{defs, defs_of}
 use Rattle.tg_graph.specs.Interference.{Interference, interferes, is_register}
 use Rattle.tg_live.specs.Live.{Sets, set_at, is_among, AreLiveSets}
@@ -59,7 +59,7 @@ between_is None b x y = refl
 between_is (Some t) None x y = never (x == t)
 between_is (Some t) (Some f) x y = refl
 
-moves_is : (s : Shape) (x y : ℕ) → is_move (move_of s) x y ≡ moves s (operand_at x) (operand_at y)
+moves_is : (s : InstructionShape) (x y : ℕ) → is_move (move_of s) x y ≡ moves s (operand_at x) (operand_at y)
 moves_is (Copy to from) x y =
     between_is (node_of to) (node_of from) x y
     ∙ (ap (λ b. b && is_at (node_of from) y) (sym (same_at x to))

@@ -11,7 +11,7 @@ use Rattle.std.proofs.lemmas.List.Sums.{sum_by_more, sum_by_more_le_part, sum_by
 use Rattle.tg_instr.specs.declared.instr.Instr.{Instr}
 use Rattle.tg_instr.specs.declared.operands.Opnd.{Opnd}
 use Rattle.tg_instr.specs.Operands.{is_same}
-use Rattle.tg_instr.specs.Shapes.{Holder, Operand, Hi, Lo, Shape, From1, Calls, shape}
+use Rattle.tg_instr.specs.Shapes.{Holder, Operand, Hi, Lo, InstructionShape, From1, Calls, shape}
 use Rattle.tg_instr.specs.Uses.{operand_of, uses, defs, uses_of, defs_of}
 use Rattle.tg_graph.specs.Interference.{is_register}
 use Rattle.tg_rounds.specs.declared.moves.Move.{Move}
@@ -65,11 +65,11 @@ operand_few (Operand x) = omega arith
 operand_few Hi = omega arith
 operand_few Lo = omega arith
 
-pub few_uses : (s : Shape) → length (uses s) ≤ 24
+pub few_uses : (s : InstructionShape) → length (uses s) ≤ 24
 few_uses (From1 to from f) = operand_few from
 few_uses _ = omega arith
 
-pub few_defs : (s : Shape) → length (defs s) ≤ 24
+pub few_defs : (s : InstructionShape) → length (defs s) ≤ 24
 few_defs (Calls label) = omega arith
 few_defs _ = omega arith
 

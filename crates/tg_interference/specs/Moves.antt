@@ -2,7 +2,7 @@
 use Rattle.std.specs.Prelude.{ℕ, List, Option, Some, None}
 use Rattle.std.specs.List.{filter_map}
 use Rattle.tg_instr.specs.declared.instr.Instr.{Instr}
-use Rattle.tg_instr.specs.Shapes.{Shape, Copy, shape}
+use Rattle.tg_instr.specs.Shapes.{InstructionShape, Copy, shape}
 use Rattle.tg_rounds.specs.declared.moves.Move.{Move}
 use Rattle.tg_interference.specs.Nodes.{node_of}
 
@@ -12,7 +12,7 @@ between (Some to) (Some from) = Some (record { to = to; from = from })
 between (Some to) None = None
 between None from = None
 
-abbrev pub move_of : Shape → Option Move
+abbrev pub move_of : InstructionShape → Option Move
 move_of (Copy to from) = between (node_of to) (node_of from)
 move_of _ = None
 

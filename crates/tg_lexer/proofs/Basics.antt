@@ -5,7 +5,7 @@ use Rattle.std.specs.Prelude.{◌==◌}
 use Rattle.std.proofs.lemmas.Bool.{eq-eqb}
 use Rattle.std.proofs.lemmas.List.{take_more, drop_more, drop_all, take_all, take_at, drop_at, drop-drop}
 use Rattle.tg_syntax.specs.Spellings.{AllAre}
-use Rattle.tg_lexer.specs.Fronts.{IsRun}
+use Rattle.tg_lexer.specs.Fronts.{IsStretch}
 
 pub clash : {b : Bool} → b ≡ false → b ≡ true → ⊥
 clash x y = cc
@@ -87,7 +87,7 @@ pub run_more : (class : ℕ → Bool) (text : List ℕ) (size : ℕ) → size < 
 run_more class text size lt a h = rw (take_more text size 0 lt) (AllAre-append class (take size text) (get_or text size 0 ∷ []) a (h, tt))
 
 pub run_stops : (class : ℕ → Bool) (text : List ℕ) (size : ℕ) → size < length text → AllAre class (take size text) →
-    class (get_or text size 0) ≡ false → IsRun class text size
+    class (get_or text size 0) ≡ false → IsStretch class text size
 run_stops class text size lt a h =
     record {
       within = omega arith;
@@ -95,7 +95,7 @@ run_stops class text size lt a h =
       stops = λ b after e. let same : get_or text size 0 ≡ b = cc (drop_more text size 0 lt) in rw same at h;
     }
 
-pub run_ends : (class : ℕ → Bool) (text : List ℕ) (size : ℕ) → length text ≤ size → AllAre class (take size text) → IsRun class text (length text)
+pub run_ends : (class : ℕ → Bool) (text : List ℕ) (size : ℕ) → length text ≤ size → AllAre class (take size text) → IsStretch class text (length text)
 run_ends class text size le a =
     record {
       within = omega arith;

@@ -11,7 +11,7 @@ use Rattle.tg_syntax.specs.Spellings.{Escape, newline, tab, quote, backslash, co
 use Rattle.tg_syntax.specs.LexicalFaults.{IsBegun, Misfits}
 use Rattle.tg_lexer.specs.declared.escapes.Escaped.{Escaped}
 use Rattle.tg_lexer.specs.declared.escapes.Escaped.TheVariants.{Cut, Bad}
-use Rattle.tg_lexer.specs.Fronts.{IsCut, ended, line, IsBad, bad, IsEscape, IsMisfit, IsRun}
+use Rattle.tg_lexer.specs.Fronts.{IsCut, ended, line, IsBad, bad, IsEscape, IsMisfit, IsStretch}
 use Rattle.tg_lexer.proofs.Basics.{head_is, tail_is, not_cons, differ, apart, clash, AllAre_right}
 
 -- the bytes of a text, by its places
@@ -232,7 +232,7 @@ digits_whole text a b c n e h f k g l w m =
     (decimal a b c (digits_of_bytes (a ∷ b ∷ c ∷ []) (h, (k, (l, tt)))) (subst (λ v. v ≤ 255) w m)))
 
 -- blanks
-run_some : (text : List ℕ) (size a : ℕ) → IsRun is_blank text size → slice_get text 0 ≡ Some a → is_blank a ≡ true →
+run_some : (text : List ℕ) (size a : ℕ) → IsStretch is_blank text size → slice_get text 0 ≡ Some a → is_blank a ≡ true →
     (more : List ℕ) × (take size text ≡ a ∷ more)
 run_some [] size a r e h = cc
 run_some (b ∷ text) zero a r e h = let same : b ≡ a = cc in absurd (clash (r.stops b text refl) (ap is_blank same ∙ h))
@@ -256,19 +256,19 @@ stop_byte [] (suc size) b e = cc
 stop_byte (x ∷ text) zero b e = cc
 stop_byte (x ∷ text) (suc size) b e = stop_byte text size b e
 
-begun_blanks : (text : List ℕ) (size a : ℕ) → IsRun is_blank text size → slice_get text 0 ≡ Some a → is_blank a ≡ true → IsBegun (take size text)
+begun_blanks : (text : List ℕ) (size a : ℕ) → IsStretch is_blank text size → slice_get text 0 ≡ Some a → is_blank a ≡ true → IsBegun (take size text)
 begun_blanks text size a r e h =
     let m = run_some text size a r e h in
     subst IsBegun (sym m.1) (IsBegun.blanks a m.0 (subst (AllAre is_blank) m.1 r.all))
 
-pub blanks_ended : (text : List ℕ) (size a : ℕ) → IsRun is_blank text size → slice_get text 0 ≡ Some a → is_blank a ≡ true →
+pub blanks_ended : (text : List ℕ) (size a : ℕ) → IsStretch is_blank text size → slice_get text 0 ≡ Some a → is_blank a ≡ true →
     None ≡ slice_get text size → IsCut text
 blanks_ended text size a r e h f = subst IsCut (past_end text size f) (ended (take size text) (begun_blanks text size a r e h))
 
 escape_blanks : (front : List ℕ) (a : ℕ) (more : List ℕ) → front ≡ a ∷ more → AllAre is_blank front → Escape (front ++ 92 ∷ []) []
 escape_blanks front a more e h = subst (λ l. Escape (l ++ 92 ∷ []) []) (sym e) (blanks a more (subst (AllAre is_blank) e h))
 
-pub blanks_whole : (text : List ℕ) (size a : ℕ) → IsRun is_blank text size → slice_get text 0 ≡ Some a → is_blank a ≡ true →
+pub blanks_whole : (text : List ℕ) (size a : ℕ) → IsStretch is_blank text size → slice_get text 0 ≡ Some a → is_blank a ≡ true →
     Some 92 ≡ slice_get text size → (size + 1 ≤ length text) × Escape (take (size + 1) text) []
 blanks_whole text size a r e h f =
     let m = run_some text size a r e h in
@@ -313,7 +313,7 @@ misfits_blanks a more b h n s =
       ends = λ meant g. differ b 92 s (blank_escape g a more b refl h.0);
     }
 
-pub blanks_bad : (text : List ℕ) (size a b : ℕ) → IsRun is_blank text size → slice_get text 0 ≡ Some a → is_blank a ≡ true →
+pub blanks_bad : (text : List ℕ) (size a b : ℕ) → IsStretch is_blank text size → slice_get text 0 ≡ Some a → is_blank a ≡ true →
     Some b ≡ slice_get text size → (b == 92) ≡ false → IsBad text
 blanks_bad text size a b r e h f s =
     let m = run_some text size a r e h in

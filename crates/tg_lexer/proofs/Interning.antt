@@ -11,7 +11,7 @@ use Rattle.tg_syntax.specs.declared.tokens.Word.{Word}
 use Rattle.tg_syntax.specs.declared.tokens.Spanned.{Spanned}
 use Rattle.tg_syntax.specs.Spellings.{word_text, is_letter, is_name_byte}
 use Rattle.tg_syntax.proofs.Longest.{name_longest}
-use Rattle.tg_lexer.specs.Fronts.{IsRun, IsToken, BeginsWith}
+use Rattle.tg_lexer.specs.Fronts.{IsStretch, IsToken, BeginsWith}
 use Rattle.tg_lexer.specs.Numbering.{named, all_named, idents, ident_text}
 use Rattle.tg_lexer.proofs.Readings.{name_of, no_slash, stopped}
 
@@ -40,7 +40,7 @@ interned_named old new t n h = by (is_among t old) h
     by false h = h.0
 
 pub ident_token : (old new : List (List ℕ)) (text : List ℕ) (size : ℕ) (n : Name) → BeginsWith is_letter text →
-    IsRun is_name_byte text size → ((w : Word) → take size text ≢ word_text w) → IsInterned old (take size text) new n.0 → IsToken new text (token.Ident n) size
+    IsStretch is_name_byte text size → ((w : Word) → take size text ≢ word_text w) → IsInterned old (take size text) new n.0 → IsToken new text (token.Ident n) size
 ident_token old new text size n h r no_word i =
     record {
       bytes = take size text;

@@ -17,7 +17,7 @@ use Rattle.tg_syntax.specs.Spellings.{sign, digits, quoted}
 use Rattle.tg_syntax.specs.Lexing.{OpensComment, Closes, IsLongest}
 use Rattle.tg_syntax.specs.LexicalFaults.{FaultAt, illegal_byte, comment_not_closed, large_int}
 use Rattle.tg_syntax.proofs.Longest.{begins, is_mark, form_of_mark, name_longest, digits_longest}
-use Rattle.tg_lexer.specs.Fronts.{IsRun, NeverCloses, IsSignFront, IsString, IsGap, blank, comment, IsToken, BeginsWith, BeginsQuote, BeginsOther, is_other}
+use Rattle.tg_lexer.specs.Fronts.{IsStretch, NeverCloses, IsSignFront, IsString, IsGap, blank, comment, IsToken, BeginsWith, BeginsQuote, BeginsOther, is_other}
 use Rattle.tg_lexer.proofs.Basics.{head_is, tail_is, apart, clash}
 use Rattle.tg_lexer.proofs.Closings.{two_bytes}
 use Rattle.tg_lexer.proofs.Quotings.{quoted_once}
@@ -41,7 +41,7 @@ no_slash class (b ∷ []) c h o = o
 no_slash class (b ∷ x ∷ text) c h o = apart class 47 b c h (sym o.0)
 
 -- runs of a class with which a text begins
-run_begins : (class : ℕ → Bool) (text : List ℕ) (size : ℕ) → BeginsWith class text → IsRun class text size → (b : ℕ) ×
+run_begins : (class : ℕ → Bool) (text : List ℕ) (size : ℕ) → BeginsWith class text → IsStretch class text size → (b : ℕ) ×
     (more : List ℕ) × (take size text ≡ b ∷ more)
 run_begins class [] size h r = absurd h
 run_begins class (b ∷ text) zero h r = absurd (clash (r.stops b text refl) h)
@@ -51,12 +51,12 @@ pub stopped : (class : ℕ → Bool) (text : List ℕ) → ((b : ℕ) (after : L
 stopped class [] h = refl
 stopped class (b ∷ text) h = h b text refl
 
-digits_run : (text : List ℕ) (size : ℕ) → BeginsWith is_digit text → IsRun is_digit text size → IsNumeral 10 (take size text)
+digits_run : (text : List ℕ) (size : ℕ) → BeginsWith is_digit text → IsStretch is_digit text size → IsNumeral 10 (take size text)
 digits_run text size h r =
     let m = run_begins is_digit text size h r in
     (subst (λ bytes. 0 < length bytes) (sym m.2) (omega arith), digits_of_bytes (take size text) r.all)
 
-pub int_token : (n : List (List ℕ)) (text : List ℕ) (size value : ℕ) → BeginsWith is_digit text → IsRun is_digit text size →
+pub int_token : (n : List (List ℕ)) (text : List ℕ) (size value : ℕ) → BeginsWith is_digit text → IsStretch is_digit text size →
     value ≡ digits_value 10 (take size text) → value ≤ 2147483647 → IsToken n text (token.Int value) size
 int_token n text size value h r e le =
     let d = digits_run text size h r in
@@ -70,7 +70,7 @@ int_token n text size value h r e le =
       no_comment = no_slash is_digit text refl h;
     }
 
-pub int_large : (at : ℕ) (text : List ℕ) (size : ℕ) → BeginsWith is_digit text → IsRun is_digit text size →
+pub int_large : (at : ℕ) (text : List ℕ) (size : ℕ) → BeginsWith is_digit text → IsStretch is_digit text size →
     2147483647 < digits_value 10 (take size text) → FaultAt at text L5 at
 int_large at text size h r lt =
     let d = digits_run text size h r in
@@ -85,13 +85,13 @@ begins_name : (text : List ℕ) → BeginsWith is_letter text → BeginsWith is_
 begins_name [] h = h
 begins_name (b ∷ text) h = letter_name b h
 
-pub name_of : (text : List ℕ) (size : ℕ) → BeginsWith is_letter text → IsRun is_name_byte text size → IsName (take size text)
+pub name_of : (text : List ℕ) (size : ℕ) → BeginsWith is_letter text → IsStretch is_name_byte text size → IsName (take size text)
 name_of [] size h r = absurd h
 name_of (b ∷ text) zero h r = absurd (clash (r.stops b text refl) (letter_name b h))
 name_of (b ∷ text) (suc size) h r = (h, r.all.1)
 
 pub word_token : (n : List (List ℕ)) (text : List ℕ) (size : ℕ) (w : Word) → BeginsWith is_letter text →
-    IsRun is_name_byte text size → take size text ≡ word_text w → IsToken n text (token.Word w) size
+    IsStretch is_name_byte text size → take size text ≡ word_text w → IsToken n text (token.Word w) size
 word_token n text size w h r e =
     record {
       bytes = take size text;

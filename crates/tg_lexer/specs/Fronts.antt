@@ -22,7 +22,7 @@ use Rattle.tg_lexer.specs.declared.fronts.Front.{Front}
 use Rattle.tg_lexer.specs.declared.fronts.Front.TheVariants.{Gap, One}
 
 -- so many bytes of a class stand first, and none of it follows
-pub record IsRun (class : ℕ → Bool) (text : List ℕ) (size : ℕ) : Type 0 where
+pub record IsStretch (class : ℕ → Bool) (text : List ℕ) (size : ℕ) : Type 0 where
   pub within : size ≤ length text
   pub all : AllAre class (take size text)
   pub stops : (b : ℕ) (after : List ℕ) → drop size text ≡ b ∷ after → class b ≡ false

@@ -5,7 +5,7 @@ ghost use Rattle.tg_syntax.specs.Spellings.{
   is_letter as letter,
   is_name_byte as name_byte,
 };
-ghost use Rattle.tg_lexer.specs.Fronts.{IsRun, in_class};
+ghost use Rattle.tg_lexer.specs.Fronts.{IsStretch, in_class};
 
 // A tab, a newline, a form feed, a carriage return or a space.
 pub(crate) fn is_blank(byte: u8) -> bool
@@ -60,7 +60,7 @@ fn is_in(class: Class, byte: u8) -> bool
 
 // How many bytes of a class a text begins with.
 pub(crate) fn count_run(class: Class, text: &[u8]) -> usize
-    ensures { IsRun (in_class class) text.now result }
+    ensures { IsStretch (in_class class) text.now result }
 {
     for (size, byte) in text.iter().enumerate() {
         if !is_in(class, *byte) {

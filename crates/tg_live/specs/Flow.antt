@@ -6,7 +6,7 @@ use Rattle.std.specs.Ordering.{nat_cmp, then_cmp, on}
 use Rattle.std.specs.declared.cmp.Ordering.{Ordering}
 use Rattle.std.specs.FinSet as set
 use Rattle.tg_instr.specs.declared.instr.Instr.{Instr}
-use Rattle.tg_instr.specs.Shapes.{Shape, Goes, Tests, Fails, Returns, shape}
+use Rattle.tg_instr.specs.Shapes.{InstructionShape, Goes, Tests, Fails, Returns, shape}
 use Rattle.tg_instr.specs.Codes.{is_mark}
 
 -- the order of pairs of places
@@ -23,7 +23,7 @@ place_of m (one ∷ rest) = if is_mark m one then 0 else suc (place_of m rest)
 
 -- where an instruction of this shape at a place goes on: a jump at its mark, a branch at its mark
 -- and at the next place, a fault and a return nowhere, each other at the next place
-abbrev pub onward : List Instr → (at : ℕ) → Shape → List ℕ
+abbrev pub onward : List Instr → (at : ℕ) → InstructionShape → List ℕ
 onward all at (Goes m) = place_of m all ∷ []
 onward all at (Tests rel left right m) = place_of m all ∷ suc at ∷ []
 onward all at (Fails code) = []

@@ -7,7 +7,7 @@ use Rattle.tg_instr.specs.declared.instr.Instr.{Instr}
 use Rattle.tg_instr.specs.declared.operands.Opnd.{Opnd}
 use Rattle.tg_instr.specs.declared.operands.Opnd.TheVariants.{Temp as TempOf, Reg}
 use Rattle.tg_instr.specs.Operands.{is_same}
-use Rattle.tg_instr.specs.Shapes.{Shape, Copy, shape}
+use Rattle.tg_instr.specs.Shapes.{InstructionShape, Copy, shape}
 use Rattle.tg_instr.specs.Uses.{defs}
 use Rattle.tg_live.specs.Live.{is_among, IsLiveOut}
 
@@ -26,12 +26,12 @@ abbrev pub is_node : Opnd → Bool
 is_node (Reg r) = is_colour (Reg r)
 is_node (TempOf t) = true
 
-abbrev pub moves : Shape → (to from : Opnd) → Bool
+abbrev pub moves : InstructionShape → (to from : Opnd) → Bool
 moves (Copy to from) d x = is_same d to && is_same x from
 moves _ d x = false
 
 -- an instruction of this shape defines the one, and would have the other in its way
-abbrev pub defines_beside : Shape → (d x : Opnd) → Bool
+abbrev pub defines_beside : InstructionShape → (d x : Opnd) → Bool
 defines_beside one d x = is_among d (defs one) && (not (is_same d x) && not (moves one d x))
 
 abbrev pub defines_beside_at : Option Instr → (d x : Opnd) → Bool

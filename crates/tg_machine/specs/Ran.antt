@@ -61,7 +61,8 @@ abbrev pub saturating_sum : ℕ → ℕ → ℕ
 saturating_sum n more = min (n + more) (2 ^ 64 - 1)
 
 -- all steps were made, and the machine goes on from the last world
-pub record GoesOn (n : ℕ) (w last : Execution) (new : Simulated) (front : List ℕ) : Type 0 where
+pub record AllStepsMade (n : ℕ) (w last : Execution) (new : Simulated)
+    (front : List ℕ) : Type 0 where
   pub running : run n w ≡ Running last
   pub end : new.end ≡ None
   pub state : new.state ≡ last.machine
@@ -91,6 +92,6 @@ pub record IsSimulation {I O : Type 0}
   pub read_cause : e ≡ ReadFault → Rose (read_faults input) (read_faults input')
   pub write_cause : e ≡ WriteFault → Rose (write_faults out) (write_faults out')
   -- the machine goes on from the last world, or keeps its end
-  pub goes_on : e ≡ StepLimit → GoesOn n (begun old.state input_before) last new front
+  pub goes_on : e ≡ StepLimit → AllStepsMade n (begun old.state input_before) last new front
   pub keeps : e ≢ StepLimit → new.end ≡ Some e
   pub written : new.written ≡ saturating_sum old.written (length last.output)

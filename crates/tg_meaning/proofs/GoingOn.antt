@@ -9,10 +9,10 @@ use Rattle.tg_meaning.specs.Evaluation.{eval, meaning, Job}
 use Rattle.tg_meaning.specs.Direct.{RunState, Result, gives, breaks, is_over, Direct, after, after_body, returned, fuelled, found, changed}
 use Rattle.tg_meaning.specs.Direct.{first_past, past_limit}
 use Rattle.tg_meaning.specs.Direct.{direct, told, outcome}
-use Rattle.tg_meaning.specs.Laws.{GoesOn, so_far, NothingIsTakenBack}
+use Rattle.tg_meaning.specs.Laws.{OutcomeGoesOn, so_far, NothingIsTakenBack}
 use Rattle.tg_meaning.proofs.Related.{Related, eval_same, meaning_same}
 
-pub goes_on : (o : Outcome Ending) → GoesOn o o
+pub goes_on : (o : Outcome Ending) → OutcomeGoesOn o o
 goes_on o = record {
   output = ([], sym (append-nil o.output));
   input = ([], refl);
@@ -22,7 +22,7 @@ goes_on o = record {
   deepest = omega arith;
 }
 
-pub goes_on_on : (a b c : Outcome Ending) → GoesOn a b → GoesOn b c → GoesOn a c
+pub goes_on_on : (a b c : Outcome Ending) → OutcomeGoesOn a b → OutcomeGoesOn b c → OutcomeGoesOn a c
 goes_on_on a b c g h = record {
   output = (g.output.0 ++ h.output.0, h.output.1 ∙ ap (λ x. x ++ h.output.0) g.output.1 ∙ append_assoc a.output g.output.0 h.output.0);
   input = (g.input.0 ++ h.input.0, g.input.1 ∙ ap (λ x. g.input.0 ++ x) h.input.1 ∙ sym (append_assoc g.input.0 h.input.0 c.input));
@@ -33,7 +33,7 @@ goes_on_on a b c g h = record {
 }
 
 -- the end doesn't matter
-pub whatever_end : (e e' : End Ending) (s s' : RunState) → GoesOn (so_far s) (so_far s') → GoesOn (told e s) (told e' s')
+pub whatever_end : (e e' : End Ending) (s s' : RunState) → OutcomeGoesOn (so_far s) (so_far s') → OutcomeGoesOn (told e s) (told e' s')
 whatever_end e e' s s' g = record {
   output = g.output;
   input = g.input;
@@ -52,47 +52,47 @@ abbrev pub now : {A : Type 0} → Result A → Outcome Ending
 now r = so_far (state_of r)
 
 abbrev pub Keeps : (A : Type 0) → Direct A → Type 0
-Keeps A m = (s : RunState) → GoesOn (so_far s) (now (m s))
+Keeps A m = (s : RunState) → OutcomeGoesOn (so_far s) (now (m s))
 
 abbrev pub Keep : (A : Type 0) → Direct A → Direct A → Type 0
 Keep A m m' = Keeps A m
 
-pub after_keeps : {A B : Type 0} (o : Outcome Ending) (r : Result A) (f : A → Direct B) → GoesOn o (now r) → ((a : A) → Keeps B (f a)) →
-    GoesOn o (now (after r f))
+pub after_keeps : {A B : Type 0} (o : Outcome Ending) (r : Result A) (f : A → Direct B) → OutcomeGoesOn o (now r) → ((a : A) → Keeps B (f a)) →
+    OutcomeGoesOn o (now (after r f))
 after_keeps o (gives a s) f g h = goes_on_on o (so_far s) (now (f a s)) g (h a s)
 after_keeps o (breaks s) f g h = g
 after_keeps o (is_over e s) f g h = g
 
-pub loop_keeps : (o : Outcome Ending) (r : Result Value) (k : Direct Value) → GoesOn o (now r) → Keeps Value k → GoesOn o (now (after_body r k))
+pub loop_keeps : (o : Outcome Ending) (r : Result Value) (k : Direct Value) → OutcomeGoesOn o (now r) → Keeps Value k → OutcomeGoesOn o (now (after_body r k))
 loop_keeps o (gives v s) k g h = goes_on_on o (so_far s) (now (k s)) g (h s)
 loop_keeps o (breaks s) k g h = g
 loop_keeps o (is_over e s) k g h = g
 
-pub returned_keeps : (o : Outcome Ending) (r : Result Value) → GoesOn o (now r) → GoesOn o (now (returned r))
+pub returned_keeps : (o : Outcome Ending) (r : Result Value) → OutcomeGoesOn o (now r) → OutcomeGoesOn o (now (returned r))
 returned_keeps o (gives v s) g = g
 returned_keeps o (breaks s) g = g
 returned_keeps o (is_over e s) g = g
 
-found_keeps : {A : Type 0} (o : Option A) (s : RunState) → GoesOn (so_far s) (now (found o s))
+found_keeps : {A : Type 0} (o : Option A) (s : RunState) → OutcomeGoesOn (so_far s) (now (found o s))
 found_keeps (Some a) s = goes_on (so_far s)
 found_keeps None s = goes_on (so_far s)
 
-pub fuelled_keeps : (n : ℕ) (s : RunState) (m : Direct Value) → Keeps Value m → GoesOn (so_far s) (now (fuelled n s m))
+pub fuelled_keeps : (n : ℕ) (s : RunState) (m : Direct Value) → Keeps Value m → OutcomeGoesOn (so_far s) (now (fuelled n s m))
 fuelled_keeps zero s m g = goes_on (so_far s)
 fuelled_keeps (suc n) s m g = g (record s { fuel = n })
 
 -- where nothing is read and written, the counts may have grown
 grown : (o o' : Outcome Ending) → o'.output ≡ o.output → o'.input ≡ o.input → o.heap ≤ o'.heap → o.cost ≤ o'.cost →
-    ((past : List ℕ) → o.output_past_limit ≡ Some past → o'.output_past_limit ≡ Some past) → o.deepest ≤ o'.deepest → GoesOn o o'
+    ((past : List ℕ) → o.output_past_limit ≡ Some past → o'.output_past_limit ≡ Some past) → o.deepest ≤ o'.deepest → OutcomeGoesOn o o'
 grown o o' w i h c p d = record { output = ([], w ∙ sym (append-nil o.output)); input = ([], sym i); heap = h; cost = c; past_limit = p; deepest = d }
 
 take_keeps : (full : Bool) (bytes : ℕ) (s : RunState) →
-    GoesOn (so_far s) (now {A = Unit {0}} (if full then is_over (ended by_heap) s else changed tt (add_heap bytes) s))
+    OutcomeGoesOn (so_far s) (now {A = Unit {0}} (if full then is_over (ended by_heap) s else changed tt (add_heap bytes) s))
 take_keeps true bytes s = goes_on (so_far s)
 take_keeps false bytes s =
     grown (so_far s) (so_far (record s { world = add_heap bytes s.world })) refl refl (omega arith) (omega arith) (λ past e. e) (omega arith)
 
-read_keeps : (s : RunState) → GoesOn (so_far s) (so_far (record s { world = record s.world { input = drop 1 s.world.input } }))
+read_keeps : (s : RunState) → OutcomeGoesOn (so_far s) (so_far (record s { world = record s.world { input = drop 1 s.world.input } }))
 read_keeps s = record {
   output = ([], sym (append-nil s.trace.output));
   input = (take 1 s.world.input, sym (take-append-drop 1 s.world.input));
@@ -102,7 +102,7 @@ read_keeps s = record {
   deepest = omega arith;
 }
 
-write_keeps : (bytes : List ℕ) (s : RunState) → GoesOn (so_far s) (so_far (record s { trace = record s.trace { output = s.trace.output ++ bytes } }))
+write_keeps : (bytes : List ℕ) (s : RunState) → OutcomeGoesOn (so_far s) (so_far (record s { trace = record s.trace { output = s.trace.output ++ bytes } }))
 write_keeps bytes s = record {
   output = (bytes, refl);
   input = ([], refl);
@@ -112,7 +112,7 @@ write_keeps bytes s = record {
   deepest = omega arith;
 }
 
-spend_keeps : (k : ℕ) (s : RunState) → GoesOn (so_far s) (so_far (record s { trace = record s.trace { cost = s.trace.cost + k } }))
+spend_keeps : (k : ℕ) (s : RunState) → OutcomeGoesOn (so_far s) (so_far (record s { trace = record s.trace { cost = s.trace.cost + k } }))
 spend_keeps k s =
     grown (so_far s) (so_far (record s { trace = record s.trace { cost = s.trace.cost + k } })) refl refl
     (omega arith) (omega arith) (λ past e. e) (omega arith)
@@ -121,13 +121,13 @@ first_stays : (p : Option (List ℕ)) (above : Bool) (output past : List ℕ) �
 first_stays (Some q) above output past e = e
 first_stays None above output past e = cc
 
-weigh_keeps : (k : ℕ) (above : Bool) (s : RunState) → GoesOn (so_far s) (so_far (record s { world = add_weight k s.world; trace = past_limit above s.trace }))
+weigh_keeps : (k : ℕ) (above : Bool) (s : RunState) → OutcomeGoesOn (so_far s) (so_far (record s { world = add_weight k s.world; trace = past_limit above s.trace }))
 weigh_keeps k above s =
     grown (so_far s) (so_far (record s { world = add_weight k s.world; trace = past_limit above s.trace })) refl refl (omega arith) (omega arith)
     (λ past e. first_stays s.trace.output_past_limit above s.trace.output past e) (omega arith)
 
 descend_keeps : (s : RunState) →
-    GoesOn (so_far s) (so_far (record s { world = go_deeper s.world; trace = record s.trace { deepest = max s.trace.deepest (s.world.depth + 1) } }))
+    OutcomeGoesOn (so_far s) (so_far (record s { world = go_deeper s.world; trace = record s.trace { deepest = max s.trace.deepest (s.world.depth + 1) } }))
 descend_keeps s =
     grown (so_far s) (so_far (record s { world = go_deeper s.world; trace = record s.trace { deepest = max s.trace.deepest (s.world.depth + 1) } })) refl refl
     (omega arith) (omega arith) (λ past e. e) (omega arith)
@@ -160,10 +160,10 @@ module _ (heap stack : ℕ) where
   meaning_keeps n job =
       meaning_same Direct Direct (direct heap stack) (direct heap stack) Keep all_keep (λ m m' g s. fuelled_keeps s.fuel s m g) n job
 
-told_keeps : (o : Outcome Ending) (e : End Ending) (s : RunState) → GoesOn o (so_far s) → GoesOn o (told e s)
+told_keeps : (o : Outcome Ending) (e : End Ending) (s : RunState) → OutcomeGoesOn o (so_far s) → OutcomeGoesOn o (told e s)
 told_keeps o e s g = record { output = g.output; input = g.input; heap = g.heap; cost = g.cost; past_limit = g.past_limit; deepest = g.deepest }
 
-outcome_keeps : (o : Outcome Ending) (r : Result Value) → GoesOn o (now r) → GoesOn o (outcome r)
+outcome_keeps : (o : Outcome Ending) (r : Result Value) → OutcomeGoesOn o (now r) → OutcomeGoesOn o (outcome r)
 outcome_keeps o (gives v s) g = told_keeps o (ended normal) s g
 outcome_keeps o (breaks s) g = told_keeps o stuck s g
 outcome_keeps o (is_over e s) g = told_keeps o e s g

@@ -10,7 +10,7 @@ use Rattle.tg_meaning.specs.Environments.{outermost}
 use Rattle.tg_meaning.specs.Evaluation.{meaning, program, Job}
 use Rattle.tg_meaning.specs.Direct.{RunState, Result, gives, breaks, is_over, Direct, after, after_body, returned, fuelled, found, changed, direct, begin, told}
 use Rattle.tg_meaning.specs.Direct.{outcome, evaluate}
-use Rattle.tg_meaning.specs.Laws.{GoesOn, so_far, MoreFuelIsIdle, MoreFuelGoesOn, HasOneOutcome}
+use Rattle.tg_meaning.specs.Laws.{OutcomeGoesOn, so_far, MoreFuelIsIdle, MoreFuelGoesOn, HasOneOutcome}
 use Rattle.tg_meaning.proofs.Related.{Related, run_same, run_program_same}
 use Rattle.tg_meaning.proofs.GoingOn.{goes_on, whatever_end, now, Keeps, after_keeps, loop_keeps, returned_keeps, fuelled_keeps, all_keep, meaning_keeps}
 
@@ -24,7 +24,7 @@ Longer d n (gives a s) r = (r ≡ gives a (more d s)) × (s.fuel ≤ n)
 Longer d n (breaks s) r = (r ≡ breaks (more d s)) × (s.fuel ≤ n)
 Longer d n (is_over (ended e) s) r = r ≡ is_over (ended e) (more d s)
 Longer d n (is_over stuck s) r = r ≡ is_over stuck (more d s)
-Longer d n (is_over out_of_fuel s) r = GoesOn (so_far s) (now r)
+Longer d n (is_over out_of_fuel s) r = OutcomeGoesOn (so_far s) (now r)
 
 -- with at most k units of fuel the second, given d more, goes on as the first; and it takes nothing back
 abbrev Longers : (d k : ℕ) → (A : Type 0) → Direct A → Direct A → Type 0
@@ -148,15 +148,15 @@ outcome_idle d n (is_over (ended e) s) r' g h = ap outcome g
 outcome_idle d n (is_over stuck s) r' g h = ap outcome g
 outcome_idle d n (is_over out_of_fuel s) r' g h = absurd (h refl)
 
-outcome_now : (e : End Ending) (s : RunState) (r : Result Value) → GoesOn (so_far s) (now r) → GoesOn (told e s) (outcome r)
+outcome_now : (e : End Ending) (s : RunState) (r : Result Value) → OutcomeGoesOn (so_far s) (now r) → OutcomeGoesOn (told e s) (outcome r)
 outcome_now e s (gives v s') g = whatever_end e (ended normal) s s' g
 outcome_now e s (breaks s') g = whatever_end e stuck s s' g
 outcome_now e s (is_over e' s') g = whatever_end e e' s s' g
 
-equal_goes_on : (o o' : Outcome Ending) → o' ≡ o → GoesOn o o'
-equal_goes_on o o' e = subst (λ x. GoesOn o x) (sym e) (goes_on o)
+equal_goes_on : (o o' : Outcome Ending) → o' ≡ o → OutcomeGoesOn o o'
+equal_goes_on o o' e = subst (λ x. OutcomeGoesOn o x) (sym e) (goes_on o)
 
-outcome_goes_on : (d n : ℕ) (r r' : Result Value) → Longer d n r r' → GoesOn (outcome r) (outcome r')
+outcome_goes_on : (d n : ℕ) (r r' : Result Value) → Longer d n r r' → OutcomeGoesOn (outcome r) (outcome r')
 outcome_goes_on d n (gives v s) r' g = equal_goes_on _ _ (ap outcome g.0)
 outcome_goes_on d n (breaks s) r' g = equal_goes_on _ _ (ap outcome g.0)
 outcome_goes_on d n (is_over (ended e) s) r' g = equal_goes_on _ _ (ap outcome g)

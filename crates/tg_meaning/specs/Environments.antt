@@ -16,7 +16,7 @@ abbrev pub name_of : Ident → ℕ
 name_of x = x.name.0
 
 -- a declared function
-pub record Function : Type 0 where
+pub record SourceFunction : Type 0 where
   pub params : List Param
   pub body : Exp
 
@@ -24,16 +24,17 @@ pub record Function : Type 0 where
 -- it, and with the entries that it sees
 pub data Bound : Type 0 where
   to_variable : (level place : ℕ) → Bound
-  to_function : (level : ℕ) → Function → List Entry → Bound
+  to_function : (level : ℕ) → SourceFunction → List Entry → Bound
   to_standard : Standard → Bound
 
-abbrev pub function_named : ℕ → FunDecs → Option Function
+abbrev pub function_named : ℕ → FunDecs → Option SourceFunction
 function_named x no_functions = None
 function_named x (function f params _ body rest) =
     if name_of f == x then Some (record { params = params; body = body }) else function_named x rest
 
 -- a function of the group in front, or what is found beyond it
-abbrev pub or_beyond : Option Function → (level : ℕ) → List Entry → Option Bound → Option Bound
+abbrev pub or_beyond : Option SourceFunction → (level : ℕ) → List Entry → Option Bound →
+    Option Bound
 or_beyond (Some f) level seen beyond = Some (to_function level f seen)
 or_beyond None level seen beyond = beyond
 

@@ -26,7 +26,7 @@ use Rattle.tg_meaning.specs.Values.{elements, Entry, variable, group, Env, Endin
 use Rattle.tg_meaning.specs.Values.{by_division, by_chr, by_substring, by_size, by_overflow}
 use Rattle.tg_meaning.specs.Values.{by_exit}
 use Rattle.tg_meaning.specs.Actions.{Actions}
-use Rattle.tg_meaning.specs.Environments.{name_of, Function, Bound, to_variable, to_function}
+use Rattle.tg_meaning.specs.Environments.{name_of, SourceFunction, Bound, to_variable, to_function}
 use Rattle.tg_meaning.specs.Environments.{to_standard, find, levels_out}
 use Rattle.tg_meaning.specs.Levels.{program_weight, function_weight, runtime_weight}
 use Rattle.tg_meaning.specs.Operators.{exact_quotient, is_below, string_less, comparison, identity}
@@ -41,7 +41,7 @@ pub data Location : Type 0 where
 
 -- what stands behind a unit of fuel: a function's run on its arguments, or a loop from its head on
 pub data Job : Type 0 where
-  run_function : (level : ℕ) → Function → List Entry → List Value → Job
+  run_function : (level : ℕ) → SourceFunction → List Entry → List Value → Job
   repeat_while : (test body : Exp) → Env → Job
   repeat_for : (place high : ℕ) → (body : Exp) → Env → Job
 

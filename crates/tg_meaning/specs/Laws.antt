@@ -16,7 +16,7 @@ FormsAgree =
 
 -- the first goes on as the second: more is written, more of the input is read, the heap, the cost
 -- and the greatest depth don't fall, and what was written when the limit was passed stays
-pub record GoesOn (o o' : Outcome Ending) : Type 0 where
+pub record OutcomeGoesOn (o o' : Outcome Ending) : Type 0 where
   pub output : (more : List ℕ) × (o'.output ≡ o.output ++ more)
   pub input : (read : List ℕ) × (o.input ≡ read ++ o'.input)
   pub heap : o.heap ≤ o'.heap
@@ -35,7 +35,7 @@ abbrev pub NothingIsTakenBack : Type 0
 NothingIsTakenBack =
     (heap stack bound : ℕ) (e : Exp) (env : Env) (s : RunState) →
     let after_turn : Job → Direct Value = λ job. meaning Direct (direct heap stack) bound job in
-    GoesOn (so_far s) (outcome (eval Direct (direct heap stack) after_turn e env s))
+    OutcomeGoesOn (so_far s) (outcome (eval Direct (direct heap stack) after_turn e env s))
 
 -- a run that isn't out of fuel is the same with more fuel
 abbrev pub MoreFuelIsIdle : Type 0
@@ -48,7 +48,7 @@ MoreFuelIsIdle =
 abbrev pub MoreFuelGoesOn : Type 0
 MoreFuelGoesOn =
     (names : List (List ℕ)) (body : Exp) (input : List ℕ) (heap stack fuel more : ℕ) →
-    GoesOn
+    OutcomeGoesOn
     (evaluate names body input heap stack fuel)
     (evaluate names body input heap stack (fuel + more))
 

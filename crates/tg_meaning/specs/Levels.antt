@@ -5,7 +5,7 @@ use Rattle.std.specs.Prelude.{ℕ, suc, ◌+◌, ◌*◌, List, [], ◌∷◌}
 use Rattle.tg_syntax.specs.Tree.{Exp}
 use Rattle.tg_syntax.specs.Functions.{Levels, own_functions, function_nodes, function_hops}
 use Rattle.tg_meaning.specs.Values.{Entry, variable, group, standard}
-use Rattle.tg_meaning.specs.Environments.{Function}
+use Rattle.tg_meaning.specs.Environments.{SourceFunction}
 
 -- the levels at which entries are declared
 abbrev pub levels_of : List Entry → Levels
@@ -24,7 +24,7 @@ abbrev pub program_weight : Exp → ℕ
 program_weight body = activation (function_nodes [] body) (function_hops 0 [] [] body)
 
 -- of a function that is declared at this level and sees these entries
-abbrev pub function_weight : (level : ℕ) → Function → List Entry → ℕ
+abbrev pub function_weight : (level : ℕ) → SourceFunction → List Entry → ℕ
 function_weight level f seen =
     activation
     (function_nodes f.params f.body)

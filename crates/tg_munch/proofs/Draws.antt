@@ -21,7 +21,7 @@ use Rattle.tg_munch.specs.declared.tiles.Tile.TheVariants.{ByWord, Operands}
 use Rattle.tg_munch.specs.declared.orders.Order.{Order}
 use Rattle.tg_munch.specs.declared.orders.Short.{Short}
 use Rattle.tg_munch.specs.declared.orders.Short.TheVariants.{Zero, Field}
-use Rattle.tg_munch.specs.Choosing.{Drawn, Choice, ◌>>=◌, give, put, fresh, fresh_mark, choose, defining}
+use Rattle.tg_munch.specs.Choosing.{NumbersDrawn, Choice, ◌>>=◌, give, put, fresh, fresh_mark, choose, defining}
 use Rattle.tg_munch.specs.Tiles.{is_small, constant, based, loaded, loaded_byte, is_shift, first_tile, constant_side, exchanged_side, tile, shift_by}
 use Rattle.tg_munch.specs.Tiles.{shift_bit, shift_bits, shifted, moved, operated, shifted_into, instruction, with_field, tiled}
 use Rattle.tg_munch.specs.Comparing.{order, flag, field_flag, on_flag, on_less, on_less_field, branch_on, against_zero, branch_short, against}
@@ -33,10 +33,10 @@ most_counted _ = 10
 
 -- at most n instructions, k temporaries, k marks, and w words
 pub record Draws {A : Type 0} (n k w : ℕ) (choice : Choice A) : Type 0 where
-  pub code : (d : Drawn) → length (choice d).code ≤ n
-  pub temps : (d : Drawn) → (choice d).drawn.temp ≤ d.temp + k
-  pub marks : (d : Drawn) → (choice d).drawn.mark ≤ d.mark + k
-  pub words : (d : Drawn) → sum_by most_counted (choice d).code ≤ w
+  pub code : (d : NumbersDrawn) → length (choice d).code ≤ n
+  pub temps : (d : NumbersDrawn) → (choice d).drawn.temp ≤ d.temp + k
+  pub marks : (d : NumbersDrawn) → (choice d).drawn.mark ≤ d.mark + k
+  pub words : (d : NumbersDrawn) → sum_by most_counted (choice d).code ≤ w
 
 -- so many units of flat code: an instruction, and what it draws, and twelve words each
 abbrev pub Within : {A : Type 0} (units : ℕ) → Choice A → Type 0

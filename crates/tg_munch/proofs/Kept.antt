@@ -10,7 +10,7 @@ use Rattle.tg_instr.specs.Codes.{ends_well}
 use Rattle.tg_instr.specs.declared.operands.Opnd.TheVariants.{Reg}
 use Rattle.tg_instr.specs.declared.instr.Instr.{Instr}
 use Rattle.tg_instr.specs.declared.instr.Instr.TheVariants.{Move, Return}
-use Rattle.tg_munch.specs.Choosing.{Drawn, ◌>>=◌}
+use Rattle.tg_munch.specs.Choosing.{NumbersDrawn, ◌>>=◌}
 use Rattle.tg_munch.specs.Munching.{temp, expression, kept_registers, given_back, element, elements}
 use Rattle.tg_munch.specs.Bodies.{kept, parameters, mark_above, munched}
 
@@ -26,8 +26,8 @@ in_either first rest one (inl p) f g = Contains-append_left first rest one (f p)
 in_either first rest one (inr q) f g = Contains-append_right first rest one (g q)
 
 elements_have : (slots keeps : ℕ) (before : Option Linear) (code : List Linear) (e : Linear) (one : Instr) →
-    ((before : Option Linear) (d : Drawn) → Contains (element slots keeps before e d).code one) → Contains code e →
-    (d : Drawn) → Contains (elements slots keeps before code d).code one
+    ((before : Option Linear) (d : NumbersDrawn) → Contains (element slots keeps before e d).code one) → Contains code e →
+    (d : NumbersDrawn) → Contains (elements slots keeps before code d).code one
 unfolding ◌>>=◌
 elements_have slots keeps before [] e one h c d = let no : ⊥ = omega (arith, c.1) in absurd no
 elements_have slots keeps before (x ∷ rest) e one h c d =
@@ -53,7 +53,7 @@ ends_behind (x ∷ []) [] h = cc
 ends_behind (x ∷ []) (y ∷ ys) h = h
 ends_behind (x ∷ z ∷ xs) ys h = ends_behind (z ∷ xs) ys h
 
-end_element : (slots keeps : ℕ) (before : Option Linear) (e : Linear) → EndsCode (e ∷ []) → (d : Drawn) →
+end_element : (slots keeps : ℕ) (before : Option Linear) (e : Linear) → EndsCode (e ∷ []) → (d : NumbersDrawn) →
     IsTrue (ends_well (element slots keeps before e d).code)
 unfolding ◌>>=◌
 end_element slots keeps before (tree.Jump m) h d = refl
@@ -67,7 +67,7 @@ end_element slots keeps before _ h d = absurd h
 ends_tail : (e y : Linear) (rest : List Linear) → EndsCode (e ∷ y ∷ rest) → EndsCode (y ∷ rest)
 ends_tail _ y rest h = h
 
-elements_end : (slots keeps : ℕ) (before : Option Linear) (code : List Linear) → EndsCode code → (d : Drawn) →
+elements_end : (slots keeps : ℕ) (before : Option Linear) (code : List Linear) → EndsCode code → (d : NumbersDrawn) →
     IsTrue (ends_well (elements slots keeps before code d).code)
 unfolding ◌>>=◌
 elements_end slots keeps before [] h d = absurd h

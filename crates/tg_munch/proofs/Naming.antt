@@ -11,7 +11,7 @@ use Rattle.tg_instr.proofs.Tests.{both_hold}
 use Rattle.tg_instr.specs.declared.operands.Opnd.{Opnd}
 use Rattle.tg_instr.specs.declared.operands.Opnd.TheVariants.{Reg}
 use Rattle.tg_munch.specs.Arguments.{is_in_register, is_in_frame, is_anywhere, one_may_end, ordered}
-use Rattle.tg_munch.specs.Choosing.{Drawn, Choice, ◌>>=◌, ◌>>◌, give}
+use Rattle.tg_munch.specs.Choosing.{NumbersDrawn, Choice, ◌>>=◌, ◌>>◌, give}
 use Rattle.tg_munch.specs.Naming.{is_written}
 use Rattle.tg_munch.specs.Tiles.{nothing, is_slot, slot, offset, offset_by, tile}
 use Rattle.tg_munch.specs.Munching.{temp, argument, constant_in, address_in, frame_address_in, answer_in, store_far, store_low, asked, expression}
@@ -46,28 +46,28 @@ StatementPasses w (tree.Do x) = Passes w x
 StatementPasses w _ = Unit {0}
 
 -- a temporary of the flat code
-pub temp_writable : (w : Scope) (d : Drawn) (t : ℕ) → IsTrue (w.is_name (temporary t)) → Writable w d (temp t)
+pub temp_writable : (w : Scope) (d : NumbersDrawn) (t : ℕ) → IsTrue (w.is_name (temporary t)) → Writable w d (temp t)
 temp_writable w d t h = or_left (w.is_name (temporary t)) _ h
 
-fits_constant_in : (w : Scope) (n : ℕ) (asked : Option Opnd) (d : Drawn) → Asked w d asked →
+fits_constant_in : (w : Scope) (n : ℕ) (asked : Option Opnd) (d : NumbersDrawn) → Asked w d asked →
     Fits (is_readable w) w (constant_in n asked) d
 fits_constant_in w n (Some to) d h = fits_constant w to n d h
 fits_constant_in w n None d h =
     fits_if (n == 0) (fits_give (is_readable w) w nothing d refl)
     (fits_then _ (fits_fresh w d) (λ e to a b. fits_constant w to n e b))
 
-fits_address_in : (w : Scope) (label : Label) (asked : Option Opnd) (d : Drawn) → IsTrue (w.is_name (literal label.0)) →
+fits_address_in : (w : Scope) (label : Label) (asked : Option Opnd) (d : NumbersDrawn) → IsTrue (w.is_name (literal label.0)) →
     Asked w d asked →
     Fits (is_readable w) w (address_in label asked) d
 fits_address_in w label asked d k h =
     fits_then _ (fits_choose w asked d h) (λ e to a b. fits_define w _ to e (both_hold _ _ b k) b)
 
-fits_frame_address_in : (w : Scope) (asked : Option Opnd) (d : Drawn) → Asked w d asked →
+fits_frame_address_in : (w : Scope) (asked : Option Opnd) (d : NumbersDrawn) → Asked w d asked →
     Fits (is_readable w) w (frame_address_in asked) d
 fits_frame_address_in w asked d h =
     fits_then _ (fits_choose w asked d h) (λ e to a b. fits_define w _ to e (one_named _ b) b)
 
-fits_answer_in : (w : Scope) (asked : Option Opnd) (d : Drawn) → Asked w d asked →
+fits_answer_in : (w : Scope) (asked : Option Opnd) (d : NumbersDrawn) → Asked w d asked →
     Fits (is_readable w) w (answer_in asked) d
 fits_answer_in w asked d h =
     fits_then _ (fits_choose w asked d h) (λ e to a b. fits_define w _ to e (two_named _ true b refl) b)
@@ -93,7 +93,7 @@ slot_passes w None h = refl
 slot_fits : (w : Scope) (x : Tx) → IsTrue (is_option_slot w (slot w.slots x))
 slot_fits w x = slot_passes w (slot w.slots x) (slot_named w.slots x)
 
-fits_store_far : (w : Scope) (n : ℕ) (x : Opnd) (d : Drawn) → Readable w d x → Fits anything w (store_far n x) d
+fits_store_far : (w : Scope) (n : ℕ) (x : Opnd) (d : NumbersDrawn) → Readable w d x → Fits anything w (store_far n x) d
 fits_store_far w n x d h =
     fits_then _ (fits_fresh w d) (λ e t a b.
     fits_then _ (fits_constant w t n e b) (λ f u a' b'.
@@ -102,18 +102,18 @@ fits_store_far w n x d h =
     fits_put w _ i (two_named _ _ (readable_on w (grows_on a (grows_on a' a'')) x h)
     (readable w i t (writable_on w a'' t k))))))
 
-fits_store_low : (w : Scope) (n : ℕ) (x : Opnd) (d : Drawn) → Readable w d x → Fits anything w (store_low n x) d
+fits_store_low : (w : Scope) (n : ℕ) (x : Opnd) (d : NumbersDrawn) → Readable w d x → Fits anything w (store_low n x) d
 fits_store_low w n x d h = fits_if (nat_lt n 32768) (fits_put w _ d (two_named _ true h refl))
     (fits_store_far w n x d h)
 
 -- an expression in whatever is asked for
 abbrev pub Value : Scope → (Option Opnd → Choice Opnd) → Type 0
-Value w q = (asked : Option Opnd) (d : Drawn) → Asked w d asked → Fits (is_readable w) w (q asked) d
+Value w q = (asked : Option Opnd) (d : NumbersDrawn) → Asked w d asked → Fits (is_readable w) w (q asked) d
 
 argument_written : (i : ℕ) → nat_lt i 4 ≡ true → IsTrue (is_written (4 + i))
 argument_written i e = grind (arith, nat_tests)
 
-fits_passed_by : (w : Scope) (i : ℕ) (value : Option Opnd → Choice Opnd) → Value w value → (d : Drawn) → (b : Bool) →
+fits_passed_by : (w : Scope) (i : ℕ) (value : Option Opnd → Choice Opnd) → Value w value → (d : NumbersDrawn) → (b : Bool) →
     nat_lt i 4 ≡ b →
     Fits anything w (if b then (value (Some (argument i)) >> give tt)
     else (value None >>= (λ v. store_low (4 * (i - 4)) v))) d
@@ -122,15 +122,15 @@ fits_passed_by w i value part d true e =
 fits_passed_by w i value part d false e =
     fits_then _ (part None d refl) (λ f v a b. fits_store_low w (4 * (i - 4)) v f b)
 
-fits_asked : (w : Scope) (n : ℕ) (part : Choice Opnd) (d : Drawn) → Fits (is_readable w) w part d →
+fits_asked : (w : Scope) (n : ℕ) (part : Choice Opnd) (d : NumbersDrawn) → Fits (is_readable w) w part d →
     Fits anything w (asked n part) d
 fits_asked w n part d h =
     fits_then _ h (λ e v a b. fits_then _ (fits_constant w (Reg 2) n e refl) (λ f u a' b'. fits_put w _ f refl))
 
 -- arguments in their order, or those in the frame first
 fits_ordered : (w : Scope) (ends : Bool) (choice : (ℕ → Bool) → Choice (Unit {0})) →
-    ((picks : ℕ → Bool) (e : Drawn) → Fits anything w (choice picks) e) →
-    (d : Drawn) → Fits anything w (ordered ends choice) d
+    ((picks : ℕ → Bool) (e : NumbersDrawn) → Fits anything w (choice picks) e) →
+    (d : NumbersDrawn) → Fits anything w (ordered ends choice) d
 fits_ordered w true choice h d = h is_anywhere d
 fits_ordered w false choice h d = fits_then _ (h is_in_frame d) (λ e u a b. h is_in_register e)
 
@@ -172,7 +172,7 @@ mutual
       (λ e u a b. fits_answer_in w asked e (asked_on w a asked h))
   fits_expression w (tree.After s x) p asked d h = fits_expression w x p asked d h
 
-  pub fits_arguments : (w : Scope) (picks : ℕ → Bool) (i : ℕ) (xs : Txs) → AllPass w xs → (d : Drawn) →
+  pub fits_arguments : (w : Scope) (picks : ℕ → Bool) (i : ℕ) (xs : Txs) → AllPass w xs → (d : NumbersDrawn) →
       Fits anything w (arguments w.slots picks i xs) d
   fits_arguments w picks i no_txs p d = fits_give anything w tt d refl
   fits_arguments w picks i (tx x xs) p d =
@@ -185,22 +185,22 @@ fits_left_side : (w : Scope) (x : Tx) → Passes w x → Part w (left_side w.slo
 fits_left_side w (tree.Binary op x y) p d = fits_expression w x p.0 None d refl
 fits_left_side w x p d = fits_expression w x p None d refl
 
-fits_based_at : (w : Scope) (x : Tx) → Passes w x → (d : Drawn) → Fits (is_base w) w (based_at w.slots x) d
+fits_based_at : (w : Scope) (x : Tx) → Passes w x → (d : NumbersDrawn) → Fits (is_base w) w (based_at w.slots x) d
 fits_based_at w x p d =
     fits_based w (offset x) (left_side w.slots x) (expression w.slots x None) (fits_left_side w x p)
     (λ e. fits_expression w x p None e refl) d
 
-fits_valued : (w : Scope) (x : Tx) → Passes w x → (d : Drawn) → Fits anything w (valued w.slots x) d
+fits_valued : (w : Scope) (x : Tx) → Passes w x → (d : NumbersDrawn) → Fits anything w (valued w.slots x) d
 fits_valued w x p d = fits_then _ (fits_expression w x p None d refl) (λ e v a b. fits_give anything w tt e refl)
 
-fits_effect : (w : Scope) (x : Tx) → Passes w x → (d : Drawn) → Fits anything w (effect w.slots x) d
+fits_effect : (w : Scope) (x : Tx) → Passes w x → (d : NumbersDrawn) → Fits anything w (effect w.slots x) d
 fits_effect w (tree.Call label xs) p d =
     fits_then _ (fits_ordered w (one_may_end 0 xs) _ (λ picks e. fits_arguments w picks 0 xs p.1 e) d) (λ e u a b. fits_put w _ e p.0)
 fits_effect w (tree.Service n x) p d = fits_asked w n _ d (fits_expression w x p (Some (Reg 4)) d refl)
 fits_effect w x p d = fits_valued w x p d
 
 fits_stored : (w : Scope) (k : Option ℕ) → IsTrue (is_option_slot w k) → (x y : Tx) → Passes w x → Passes w y →
-    (d : Drawn) →
+    (d : NumbersDrawn) →
     Fits anything w (stored w.slots k x y) d
 fits_stored w (Some k) s x y p q d =
     fits_then _ (fits_expression w y q None d refl) (λ e v a b. fits_put w _ e (both_hold _ _ b s))
@@ -209,14 +209,14 @@ fits_stored w None s x y p q d =
     fits_then _ (fits_expression w y q None e refl) (λ f v a' b'.
     fits_put w _ f (two_named _ _ b' (readable_on w a' place.operand b))))
 
-fits_stored_byte : (w : Scope) (x y : Tx) → Passes w x → Passes w y → (d : Drawn) →
+fits_stored_byte : (w : Scope) (x y : Tx) → Passes w x → Passes w y → (d : NumbersDrawn) →
     Fits anything w (stored_byte w.slots x y) d
 fits_stored_byte w x y p q d =
     fits_then _ (fits_based_at w x p d) (λ e place a b.
     fits_then _ (fits_expression w y q None e refl) (λ f v a' b'.
     fits_put w _ f (two_named _ _ b' (readable_on w a' place.operand b))))
 
-pub fits_statement : (w : Scope) (s : Ts) → StatementPasses w s → (d : Drawn) → Fits anything w (statement w.slots s) d
+pub fits_statement : (w : Scope) (s : Ts) → StatementPasses w s → (d : NumbersDrawn) → Fits anything w (statement w.slots s) d
 fits_statement w (tree.Move t x) p d =
     fits_then _ (fits_expression w x p.1 (Some (temp t)) d (temp_writable w d t p.0))
     (λ e v a b. fits_give anything w tt e refl)

@@ -7,7 +7,7 @@ use Rattle.tg_frame.specs.declared.accesses.Access.{Access}
 use Rattle.tg_frame.specs.declared.accesses.Access.TheVariants.{InTemp, InFrame}
 use Rattle.tg_frame.specs.Homes.{slot_bound, temp_bound}
 use Rattle.tg_tree.specs.Tree.{Linear, Function}
-use Rattle.tg_tree.specs.Named.{Named, function, literal, fault, temporary, constant, named_flat, HasItsTemps}
+use Rattle.tg_tree.specs.Named.{NamesAreAllowed, Named, function, literal, fault, temporary, constant, named_flat, HasItsTemps}
 use Rattle.tg_instr.proofs.Tests.{left_holds, right_holds, both_hold}
 use Rattle.tg_instr.specs.declared.operands.Opnd.{Opnd}
 use Rattle.tg_instr.specs.declared.operands.Opnd.TheVariants.{Temp, Reg}
@@ -17,9 +17,9 @@ use Rattle.tg_instr.specs.declared.instr.Instr.TheVariants.{Addi, Addiu, Slti, S
 use Rattle.tg_instr.specs.declared.instr.Instr.TheVariants.{FrameStore, FrameAddress, Address, Branch, Call, Fault}
 use Rattle.tg_instr.specs.Codes.{is_below, has_temps_below, has_slots_below}
 use Rattle.tg_instr.specs.Renaming.{named}
-use Rattle.tg_munch.specs.Choosing.{Drawn}
+use Rattle.tg_munch.specs.Choosing.{NumbersDrawn}
 use Rattle.tg_munch.specs.Bodies.{mark_above, munched}
-use Rattle.tg_munch.specs.Naming.{is_written, is_read, has_register, names_registers, names_allowed, AreAllowed}
+use Rattle.tg_munch.specs.Naming.{is_written, is_read, has_register, names_registers, names_allowed}
 use Rattle.tg_munch.proofs.Scopes.{Scope, is_readable, is_writable, is_option, is_temp, reaches, may_name, below_on}
 use Rattle.tg_munch.proofs.NamingCode.{HomePasses, HomesPass, lays_body}
 use Rattle.tg_munch.proofs.Passing.{pass_code, slots_pass, temps_pass, all_homes_pass}
@@ -31,7 +31,7 @@ all_imply p q f [] h = refl
 all_imply p q f (x ∷ xs) h = both_hold _ _ (f x (left_holds _ _ h)) (all_imply p q f xs (right_holds (p x) _ h))
 
 -- a function's drawing begins behind its temporaries and marks
-abbrev pub start : Function (List Linear) → Drawn
+abbrev pub start : Function (List Linear) → NumbersDrawn
 start f = record { temp = f.temps; mark = mark_above f.body }
 
 -- the tests of names and slots that are asked for, and marks that are led to in code
@@ -55,26 +55,26 @@ any_name x = true
 
 named_in : (f : Function (List Linear)) (is_slot : ℕ → Bool) (is_name : Named → Bool)
     (has : (k : ℕ) → IsTrue (nat_lt k f.slots) → IsTrue (is_slot k)) →
-    AreAllowed is_name (named_flat f.body []) → HomesPass (scope f is_slot is_name has) f.params →
+    NamesAreAllowed is_name (named_flat f.body []) → HomesPass (scope f is_slot is_name has) f.params →
     IsTrue (list_all (may_name (scope f is_slot is_name has) (munched f).drawn) (munched f).code)
 named_in f is_slot is_name has names homes =
     let w = scope f is_slot is_name has in
     (lays_body w f.params f.body homes (pass_code w f.body names (λ m c. refl)) (start f)).code (omega arith)
 
 -- registers
-written : (w : Scope) (d : Drawn) (x : Option Opnd) → IsTrue (is_option (is_writable w d) x) →
+written : (w : Scope) (d : NumbersDrawn) (x : Option Opnd) → IsTrue (is_option (is_writable w d) x) →
     IsTrue (has_register is_written x)
 written w d (Some (Temp t)) h = refl
 written w d (Some (Reg r)) h = h
 written w d None h = refl
 
-read : (w : Scope) (d : Drawn) (x : Option Opnd) → IsTrue (is_option (is_readable w d) x) →
+read : (w : Scope) (d : NumbersDrawn) (x : Option Opnd) → IsTrue (is_option (is_readable w d) x) →
     IsTrue (has_register is_read x)
 read w d (Some (Temp t)) h = refl
 read w d (Some (Reg r)) h = h
 read w d None h = refl
 
-registers_named : (w : Scope) (d : Drawn) (one : Instr) → IsTrue (may_name w d one) → IsTrue (names_registers one)
+registers_named : (w : Scope) (d : NumbersDrawn) (one : Instr) → IsTrue (may_name w d one) → IsTrue (names_registers one)
 registers_named w d one h =
     let r = right_holds (is_option (is_writable w d) (named one).to) _ h in
     let s = right_holds (is_option (is_readable w d) (named one).first) _ r in
@@ -93,7 +93,7 @@ registers_are_fixed f =
     (named_in f any_slot any_name (λ k h. refl) (λ x c. refl) (all_homes_pass w f.params (any_home f)))
 
 -- slots
-pub reached : (w : Scope) (d : Drawn) (one : Instr) → IsTrue (may_name w d one) → IsTrue (reaches w d one)
+pub reached : (w : Scope) (d : NumbersDrawn) (one : Instr) → IsTrue (may_name w d one) → IsTrue (reaches w d one)
 reached w d one h =
     let r = right_holds (is_option (is_writable w d) (named one).to) _ h in
     let s = right_holds (is_option (is_readable w d) (named one).first) _ r in
@@ -102,7 +102,7 @@ reached w d one h =
 abbrev is_below_slots : ℕ → ℕ → Bool
 is_below_slots slots k = nat_lt k slots
 
-slots_reached : (f : Function (List Linear)) (d : Drawn) (one : Instr) →
+slots_reached : (f : Function (List Linear)) (d : NumbersDrawn) (one : Instr) →
     IsTrue (reaches (scope f (is_below_slots f.slots) any_name (λ k h. h)) d one) → IsTrue (has_slots_below f.slots one)
 slots_reached f d (FrameLoad to k) h = h
 slots_reached f d (FrameStore from k) h = h
@@ -133,7 +133,7 @@ label_allowed allowed (fault n) h = h
 label_allowed allowed (temporary i) h = refl
 label_allowed allowed (constant n) h = h
 
-names_reached : (f : Function (List Linear)) (allowed : Named → Bool) (d : Drawn) (one : Instr) →
+names_reached : (f : Function (List Linear)) (allowed : Named → Bool) (d : NumbersDrawn) (one : Instr) →
     IsTrue (reaches (scope f any_slot (labels_alone allowed) (λ k h. refl)) d one) → IsTrue (names_allowed allowed one)
 names_reached f allowed d (Call label) h = h
 names_reached f allowed d (Address to label) h = h
@@ -145,7 +145,7 @@ name_home : (f : Function (List Linear)) (allowed : Named → Bool) (home : Acce
 name_home f allowed (InTemp t) = refl
 name_home f allowed (InFrame k) = refl
 
-pub names_stay : (allowed : Named → Bool) (f : Function (List Linear)) → AreAllowed allowed (named_flat f.body []) →
+pub names_stay : (allowed : Named → Bool) (f : Function (List Linear)) → NamesAreAllowed allowed (named_flat f.body []) →
     IsTrue (list_all (names_allowed allowed) (munched f).code)
 names_stay allowed f names =
     let w = scope f any_slot (labels_alone allowed) (λ k h. refl) in
@@ -164,7 +164,7 @@ either_below : (t m n : ℕ) → m ≤ n → (b : Bool) → nat_lt t m ≡ b →
 either_below t m n le true e h = below_on m n t le e
 either_below t m n le false e h = h
 
-module _ (w : Scope) (d : Drawn) (temps : ℕ)
+module _ (w : Scope) (d : NumbersDrawn) (temps : ℕ)
     (same : (i : ℕ) → w.is_name (temporary i) ≡ nat_lt i temps) (grows : temps ≤ d.temp) where
   temp_below : (t : ℕ) → IsTrue (is_temp w d t) → IsTrue (nat_lt t d.temp)
   temp_below t h =
@@ -255,7 +255,7 @@ module _ (w : Scope) (d : Drawn) (temps : ℕ)
   one_below _ h = refl
 
 temp_allowed : (temps : ℕ) (names : List Named) → ((i : ℕ) → Contains names (temporary i) → i < temps) →
-    AreAllowed (temps_below temps) names
+    NamesAreAllowed (temps_below temps) names
 temp_allowed temps names h (function label) c = refl
 temp_allowed temps names h (literal label) c = refl
 temp_allowed temps names h (fault n) c = refl

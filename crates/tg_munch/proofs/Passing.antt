@@ -8,9 +8,8 @@ use Rattle.tg_frame.specs.declared.accesses.Access.TheVariants.{InTemp, InFrame}
 use Rattle.tg_frame.specs.Homes.{slot_bound, temp_bound}
 use Rattle.tg_tree.specs.Tree as tree
 use Rattle.tg_tree.specs.Tree.{Tx, Txs, no_txs, tx, Cond, Ts, Stms, no_stms, stm, Linear}
-use Rattle.tg_tree.specs.Named.{Named, temporary, named_tx, named_txs, named_cond, named_ts, named_stms, named_flat}
+use Rattle.tg_tree.specs.Named.{NamesAreAllowed, Named, temporary, named_tx, named_txs, named_cond, named_ts, named_stms, named_flat}
 use Rattle.tg_tree.specs.Shapes.{targets}
-use Rattle.tg_munch.specs.Naming.{AreAllowed}
 use Rattle.tg_munch.proofs.Scopes.{Scope}
 use Rattle.tg_munch.proofs.Naming.{Passes, AllPass, StatementPasses}
 use Rattle.tg_munch.proofs.NamingCode.{CodePasses, HomePasses, HomesPass}
@@ -27,7 +26,7 @@ behind p x xs h y c = h y (Contains-append_right (x ∷ []) xs y c)
 
 module _ (w : Scope) where
   abbrev Pass : List Named → Type 0
-  Pass names = AreAllowed w.is_name names
+  Pass names = NamesAreAllowed w.is_name names
 
   mutual
     pass_tx : (x : Tx) (after : List Named) → Pass (named_tx x after) → Passes w x × Pass after

@@ -10,7 +10,7 @@ use Rattle.tg_tree.specs.Tree.{Tx}
 use Rattle.tg_tree.specs.Sizes.{in_canonical, shift_room}
 use Rattle.tg_instr.specs.declared.operands.Opnd.{Opnd}
 use Rattle.tg_instr.specs.declared.instr.Instr.{Instr}
-use Rattle.tg_munch.specs.Choosing.{Drawn, Choice, ◌>>=◌, give, put, fresh, fresh_mark, choose, defining}
+use Rattle.tg_munch.specs.Choosing.{NumbersDrawn, Choice, ◌>>=◌, give, put, fresh, fresh_mark, choose, defining}
 use Rattle.tg_munch.specs.Tiles.{is_small, field, constant, based, loaded, loaded_byte, first_tile, constant_side, exchanged_side, tile}
 use Rattle.tg_munch.specs.Tiles.{shift_bit, shift_bits, shifted, moved, operated, shifted_into, with_field, tiled}
 use Rattle.tg_munch.specs.Comparing.{order, on_less, on_less_field, branch_on, against_zero, against, short_side}
@@ -19,7 +19,7 @@ use Rattle.tg_munch.specs.Lengths.{by_word}
 
 -- at most n temporaries are drawn, of which so many words of the frame may be taken besides
 pub record Takes {A : Type 0} (out n : ℕ) (choice : Choice A) : Type 0 where
-  pub temps : (d : Drawn) → (choice d).drawn.temp + out ≤ d.temp + n
+  pub temps : (d : NumbersDrawn) → (choice d).drawn.temp + out ≤ d.temp + n
 
 pub both : {A B : Type 0} {n m : ℕ} {first : Choice A} {onward : A → Choice B} →
     Takes 0 n first → ((a : A) → Takes 0 m (onward a)) → Takes 0 (n + m) (first >>= onward)

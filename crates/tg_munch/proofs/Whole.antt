@@ -2,11 +2,11 @@
 use Rattle.std.proofs.Common.{ℕ, ◌≡◌, List, [], ◌++◌, ap, ◌∙◌}
 use Rattle.tg_tree.specs.Tree.{Linear, Function}
 use Rattle.tg_munch.specs.declared.drafts.Draft.{Draft}
-use Rattle.tg_munch.specs.Choosing.{Drawn}
+use Rattle.tg_munch.specs.Choosing.{NumbersDrawn}
 use Rattle.tg_munch.specs.Bodies.{body, mark_above, munched}
 use Rattle.tg_munch.specs.Drafts.{Writes, drawn_in}
 
-abbrev drawn : ℕ → ℕ → Drawn
+abbrev drawn : ℕ → ℕ → NumbersDrawn
 drawn t m = record { temp = t; mark = m }
 
 pub whole : (f : Function (List Linear)) (a b : Draft) → a.list.items ≡ [] → a.temp ≡ f.temps → a.mark ≡ mark_above f.body → Writes (body f) a b tt →

@@ -6,17 +6,17 @@ use Rattle.tg_instr.specs.declared.operands.Opnd.TheVariants.{Temp}
 use Rattle.tg_instr.specs.declared.instr.Instr.{Instr}
 
 -- the next temporary and the next mark
-pub record Drawn : Type 0 where
+pub record NumbersDrawn : Type 0 where
   pub temp : ℕ
   pub mark : ℕ
 
 pub record Chosen (A : Type 0) : Type 0 where
   pub value : A
   pub code : List Instr
-  pub drawn : Drawn
+  pub drawn : NumbersDrawn
 
 abbrev pub Choice : Type 0 → Type 0
-Choice A = Drawn → Chosen A
+Choice A = NumbersDrawn → Chosen A
 
 infixl 10 ◌>>=◌
 infixl 10 ◌>>◌

@@ -1,9 +1,9 @@
 -- What a choice does to a draft of a code.
 use Rattle.std.specs.Prelude.{◌≡◌, ◌++◌}
 use Rattle.tg_munch.specs.declared.drafts.Draft.{Draft}
-use Rattle.tg_munch.specs.Choosing.{Drawn, Choice}
+use Rattle.tg_munch.specs.Choosing.{NumbersDrawn, Choice}
 
-abbrev pub drawn_in : Draft → Drawn
+abbrev pub drawn_in : Draft → NumbersDrawn
 drawn_in d = record { temp = d.temp; mark = d.mark }
 
 -- the instructions of a choice stand at the end, and what it draws is drawn

@@ -5,13 +5,13 @@ use Rattle.tg_frame.specs.Homes.{slot_bound, temp_bound}
 use Rattle.tg_tree.specs.Shapes.{EndsCode, IsWellMarked}
 use Rattle.tg_tree.specs.Tree as tree
 use Rattle.tg_tree.specs.Tree.{Linear, Function}
-use Rattle.tg_tree.specs.Named.{Named, named_flat, HasItsTemps}
+use Rattle.tg_tree.specs.Named.{NamesAreAllowed, Named, named_flat, HasItsTemps}
 use Rattle.tg_instr.specs.Codes.{marks_differ, leads_to_marks, ends_well, has_temps_below}
 use Rattle.tg_instr.specs.Codes.{has_slots_below}
 use Rattle.tg_instr.specs.declared.instr.Instr.TheVariants.{Move}
 use Rattle.tg_munch.specs.Munching.{temp}
 use Rattle.tg_munch.specs.Bodies.{munched}
-use Rattle.tg_munch.specs.Naming.{names_registers, names_allowed, AreAllowed}
+use Rattle.tg_munch.specs.Naming.{names_registers, names_allowed}
 
 -- a move from one temporary to another stays one
 abbrev pub MovesStay : Type 0
@@ -50,7 +50,7 @@ TempsAreBelow =
 abbrev pub NamesStay : Type 0
 NamesStay =
     (allowed : Named → Bool) (f : Function (List Linear)) →
-    AreAllowed allowed (named_flat f.body []) →
+    NamesAreAllowed allowed (named_flat f.body []) →
     IsTrue (list_all (names_allowed allowed) (munched f).code)
 
 -- where those of the flat code differ and stand where they are led to, theirs do

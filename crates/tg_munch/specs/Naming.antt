@@ -1,7 +1,6 @@
 -- What the instructions of a code name: registers, temporaries, slots, labels and faults.
-use Rattle.std.specs.Prelude.{ℕ, ◌&&◌, ◌||◌, ◌==◌, nat_lt, nat_le, Bool, true, IsTrue, Option, Some}
-use Rattle.std.specs.Prelude.{None, List}
-use Rattle.std.specs.List.{Contains}
+use Rattle.std.specs.Prelude.{ℕ, ◌&&◌, ◌||◌, ◌==◌, nat_lt, nat_le, Bool, true, Option, Some}
+use Rattle.std.specs.Prelude.{None}
 use Rattle.tg_tree.specs.Named.{Named, function, literal, fault}
 use Rattle.tg_instr.specs.declared.operands.Opnd.{Opnd}
 use Rattle.tg_instr.specs.declared.operands.Opnd.TheVariants.{Temp, Reg}
@@ -34,7 +33,3 @@ names_allowed allowed (Call label) = allowed (function label.0)
 names_allowed allowed (Address to label) = allowed (literal label.0)
 names_allowed allowed (Fault n) = allowed (fault n)
 names_allowed allowed _ = true
-
--- each of some names passes a test
-abbrev pub AreAllowed : (allowed : Named → Bool) → List Named → Type 0
-AreAllowed allowed names = (x : Named) → Contains names x → IsTrue (allowed x)

@@ -28,7 +28,7 @@ use Rattle.tg_instr.specs.declared.instr.Instr.{Instr}
 use Rattle.tg_instr.specs.Codes.{marks_differ}
 use Rattle.tg_instr.specs.Contents.{Contents}
 use Rattle.tg_instr.specs.Meaning.{Back}
-use Rattle.tg_munch.specs.Choosing.{Choice, Drawn, ◌>>=◌, ◌>>◌, give}
+use Rattle.tg_munch.specs.Choosing.{Choice, NumbersDrawn, ◌>>=◌, ◌>>◌, give}
 use Rattle.tg_munch.specs.Munching.{kept_registers, expression, elements}
 use Rattle.tg_munch.specs.Bodies.{munched, outs}
 use Rattle.tg_munch.specs.Lengths.{kept_count}
@@ -79,7 +79,7 @@ pub record Activated : Type 0 where
   pub back : TreeBack
   pub back_behind : Back
   -- what is drawn before its elements
-  pub start : Drawn
+  pub start : NumbersDrawn
   pub may : MayBeChosen function
   pub room : HasRoom program.code program.size program.floor program.room
   pub sized : IsSizeOf (chosen function) (program.size function.label)
@@ -94,7 +94,7 @@ pub record Activated : Type 0 where
   pub moves : AllByRecursion (MovesBelow function.temps) function.body
 
 -- one choice behind another
-pub in_two : {A B : Type 0} (first : Choice A) (next : A → Choice B) (d : Drawn) (tail : List Instr) →
+pub in_two : {A B : Type 0} (first : Choice A) (next : A → Choice B) (d : NumbersDrawn) (tail : List Instr) →
     ((first >>= next) d).code ++ tail ≡
     (first d).code ++ ((next (first d).value (first d).drawn).code ++ tail)
 unfolding ◌>>=◌
@@ -175,7 +175,7 @@ module _ (a : Activated) where
     pub outs : outs rest ≤ outs a.function.body
 
   -- an element with what is left to choose
-  pub record Left (before : Option Linear) (rest : List Linear) (d : Drawn) : Type 0 where
+  pub record Left (before : Option Linear) (rest : List Linear) (d : NumbersDrawn) : Type 0 where
     pub remains : Remains rest
     pub part : IsPart place (elements a.function.slots a.function.temps before rest d).code
     pub drawn : a.function.temps + kept_count ≤ d.temp
@@ -184,7 +184,7 @@ module _ (a : Activated) where
   abbrev pub Matches : (r n : ℕ) → Run Ran → World → List Instr → Contents → Type 0
   Matches r n c x code s = IsPart place code → Simulates 1 r n c (goes place x code s)
 
-  abbrev pub GoesOn : (r n : ℕ) → Option Linear → List Linear → Drawn → Type 0
+  abbrev pub GoesOn : (r n : ℕ) → Option Linear → List Linear → NumbersDrawn → Type 0
   GoesOn r n before rest d =
       (w x : World) (t : Temps) (s : Contents) → InBody before w x t s →
       Matches r n (flat_goes rest w t) x (elements a.function.slots a.function.temps before rest d).code s
@@ -194,11 +194,11 @@ module _ (a : Activated) where
     pub calls : (m : ℕ) → m ≤ n → EntersMatch a.program m
     pub backs : BacksMatch a.program r n within a.back a.back_behind
     pub jumps :
-        (k : ℕ) → k < n → (before : Option Linear) (rest : List Linear) (d : Drawn) → Left before rest d →
+        (k : ℕ) → k < n → (before : Option Linear) (rest : List Linear) (d : NumbersDrawn) → Left before rest d →
         GoesOn r k before rest d
 
   -- instructions one behind another
-  pub in_turn : {A B : Type 0} (first : Choice A) (next : A → Choice B) (d : Drawn) (tail : List Instr) (r n : ℕ)
+  pub in_turn : {A B : Type 0} (first : Choice A) (next : A → Choice B) (d : NumbersDrawn) (tail : List Instr) (r n : ℕ)
       (c : Run Ran) (x : World) (s : Contents) →
       Matches r n c x ((first d).code ++ ((next (first d).value (first d).drawn).code ++ tail)) s →
       Matches r n c x (((first >>= next) d).code ++ tail) s
@@ -208,7 +208,7 @@ module _ (a : Activated) where
   abbrev pub done : Choice (Unit {0})
   done = give tt
 
-  pub let_go : {A : Type 0} (first : Choice A) (d : Drawn) (tail : List Instr) (r n : ℕ) (c : Run Ran) (x : World)
+  pub let_go : {A : Type 0} (first : Choice A) (d : NumbersDrawn) (tail : List Instr) (r n : ℕ) (c : Run Ran) (x : World)
       (s : Contents) →
       Matches r n c x ((first d).code ++ tail) s → Matches r n c x (((first >> done) d).code ++ tail) s
   let_go first d tail r n c x s h = in_turn first (λ y. done) d tail r n c x s h
@@ -266,9 +266,9 @@ module _ (a : Activated) where
   }
 
   -- an expression, by whatever its instructions do, and what is done with its word
-  pub worth_matches : {A : Type 0} (c : Choice A) (d : Drawn) (e : Tx) (tail : List Instr) (go : Go ℕ)
+  pub worth_matches : {A : Type 0} (c : Choice A) (d : NumbersDrawn) (e : Tx) (tail : List Instr) (go : Go ℕ)
       (r n k credit : ℕ) (w x : World) (t : Temps) (s : Contents)
-      (Q : A → Drawn → ℕ → Contents → Type 0) →
+      (Q : A → NumbersDrawn → ℕ → Contents → Type 0) →
       IsFlat e → w.input ≡ x.input → credit + k ≤ r + spends w t e →
       Behaves place x c d s k (worth w t e) Q →
       ((v : ℕ) (s1 : Contents) → worth w t e ≡ word v → Q (c d).value (c d).drawn v s1 →
@@ -295,7 +295,7 @@ module _ (a : Activated) where
       ap (λ g. works (spends w t e) (with_given g w (λ v. go v w t) i)) is) (λ i. refl)
       (pays r n (spends w t e) credit (go u w t) d le h)
 
-  pub expression_matches : (e : Tx) (dest : Option Opnd) (d : Drawn) (tail : List Instr) (go : Go ℕ) (r n credit : ℕ)
+  pub expression_matches : (e : Tx) (dest : Option Opnd) (d : NumbersDrawn) (tail : List Instr) (go : Go ℕ) (r n credit : ℕ)
       (w x : World) (t : Temps) (s : Contents) →
       AlikeIn w x → TempsAlike a.function.temps t s → a.function.temps ≤ d.temp →
       IsFlat e → HasWords e → IsAskable dest → credit + extra dest ≤ r →
@@ -331,7 +331,7 @@ module _ (a : Activated) where
 
 module _ (a : Activated) where
   -- worlds and contents that changed, but for temporaries that the body may read
-  pub passes : (before : Option Linear) (e : Linear) (d : Drawn) (w x w1 x1 : World) (t : Temps) (s s1 : Contents) →
+  pub passes : (before : Option Linear) (e : Linear) (d : NumbersDrawn) (w x w1 x1 : World) (t : Temps) (s s1 : Contents) →
       ((u v : Tx) → leaves_product (Some e) u v ≡ false) → a.function.temps + kept_count ≤ d.temp →
       InBody a before w x t s → AlikeIn a w1 x1 → SameTemps d.temp s s1 → InBody a (Some e) w1 x1 t s1
   passes before e d w x w1 x1 t s s1 none le h alike same = record {

@@ -18,7 +18,7 @@ use Rattle.tg_instr.specs.Codes.{marks_differ}
 use Rattle.tg_instr.specs.Contents.{Word, Contents, at_entry, handed}
 use Rattle.tg_instr.specs.Meaning.{Back}
 use Rattle.tg_instr.specs.Running.{with_frame}
-use Rattle.tg_munch.specs.Choosing.{Drawn, ◌>>=◌}
+use Rattle.tg_munch.specs.Choosing.{NumbersDrawn, ◌>>=◌}
 use Rattle.tg_munch.specs.Munching.{kept_registers, elements}
 use Rattle.tg_munch.specs.Bodies.{kept, parameters, munched, mark_above, outs}
 use Rattle.tg_munch.specs.Lengths.{kept_count}
@@ -46,7 +46,7 @@ module _ (a : Activated) (r : ℕ) where
   backs_less m n le h v w x word_v alike = simulates_less 1 r m n _ _ le (h v w x word_v alike)
 
   goes_on_below : (n : ℕ) → ((m : ℕ) → m ≤ n → EntersMatch a.program m) → Backs n → (k : ℕ) → k < n →
-      (before : Option Linear) (rest : List Linear) (d : Drawn) → Left a before rest d → GoesOn a r k before rest d
+      (before : Option Linear) (rest : List Linear) (d : NumbersDrawn) → Left a before rest d → GoesOn a r k before rest d
   goes_on_below zero calls backs k lt = absurd (omega (arith, lt))
   goes_on_below (suc n) calls backs k lt =
       left_goes_on a r k
@@ -61,13 +61,13 @@ module _ (a : Activated) (r : ℕ) where
   fuelled n calls backs = record { calls = calls; backs = backs; jumps = goes_on_below n calls backs }
 
 -- where the elements begin
-abbrev pub first_drawn : Function (List Linear) → Drawn
+abbrev pub first_drawn : Function (List Linear) → NumbersDrawn
 first_drawn f = record { temp = f.temps; mark = mark_above f.body }
 
-abbrev pub kept_drawn : Function (List Linear) → Drawn
+abbrev pub kept_drawn : Function (List Linear) → NumbersDrawn
 kept_drawn f = (kept kept_registers (first_drawn f)).drawn
 
-abbrev pub start_drawn : Function (List Linear) → Drawn
+abbrev pub start_drawn : Function (List Linear) → NumbersDrawn
 start_drawn f = (parameters 0 f.params (kept_drawn f)).drawn
 
 body_is : (f : Function (List Linear)) →

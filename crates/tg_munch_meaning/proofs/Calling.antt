@@ -16,7 +16,7 @@ use Rattle.tg_instr.specs.declared.instr.Instr.TheVariants as instr
 use Rattle.tg_instr.specs.Shapes.{Operand}
 use Rattle.tg_instr.specs.Contents.{Word, Contents, set, after_call}
 use Rattle.tg_instr.specs.Meaning.{with_content}
-use Rattle.tg_munch.specs.Choosing.{Drawn, ◌>>◌, give, put, defining}
+use Rattle.tg_munch.specs.Choosing.{NumbersDrawn, ◌>>◌, give, put, defining}
 use Rattle.tg_munch.specs.Arguments.{one_may_end, ordered}
 use Rattle.tg_munch.specs.Munching.{temp, expression, arguments, asked, answer_in}
 use Rattle.tg_munch.specs.Bodies.{outs, out_of}
@@ -46,7 +46,7 @@ pub answer_there : (i v : ℕ) (s : Contents) → set (Operand (temp i)) (Word v
 answer_there i v s = ap (λ (b : Bool). if b then Word v else s (Operand (temp i))) (itself i)
 
 module _ (a : Activated) (r n : ℕ) where
-  pub answer_matches : (i v : ℕ) (d : Drawn) (tail : List Instr) (c : Run Ran) (x : World) (s : Contents) →
+  pub answer_matches : (i v : ℕ) (d : NumbersDrawn) (tail : List Instr) (c : Run Ran) (x : World) (s : Contents) →
       s (Operand (Reg 2)) ≡ Word v →
       Matches a r n c x tail (set (Operand (temp i)) (Word v) s) →
       Matches a (r + 1) n c x ((answer_in (Some (temp i)) d).code ++ tail) s
@@ -88,7 +88,7 @@ module _ (a : Activated) (r n : ℕ) where
 
   -- A call, behind its arguments.
   module _ (fuelled : Fuelled a r n) (l : ℕ) (xs : Txs) (flat : AreFlat xs) (small : HaveWords xs)
-      (few : out_of (tree.Call l xs) ≤ outs a.function.body) (d : Drawn) (tail : List Instr) (credit : ℕ)
+      (few : out_of (tree.Call l xs) ≤ outs a.function.body) (d : NumbersDrawn) (tail : List Instr) (credit : ℕ)
       (w x : World) (t : Temps) (s : Contents) (alike : AlikeIn a w x) (temps : TempsAlike a.function.temps t s)
       (le : a.function.temps + kept_count ≤ d.temp) (go : Go ℕ)
       (next : (v : ℕ) (w1 x1 : World) (s1 : Contents) → IsWord v → AlikeIn a w1 x1 → SameTemps d.temp s s1 →
@@ -139,7 +139,7 @@ module _ (a : Activated) (r n : ℕ) where
       Runs a r n before (tree.Do' (tree.Move i (tree.Call l xs)))
   calling_moves fuelled before i l xs flat small lt fits rest d tail w x t s h le next part =
       let e = tree.Call l xs in
-      let call = (λ (z : Drawn). (ordered (one_may_end 0 xs) (λ picks. arguments a.function.slots picks 0 xs) >>
+      let call = (λ (z : NumbersDrawn). (ordered (one_may_end 0 xs) (λ picks. arguments a.function.slots picks 0 xs) >>
       put (instr.Call (record { 0 = l }))) z) in
       pays r n 0 r _ _ (omega arith) (pays r n 2 (r + 1) _ _ (omega arith)
       (let_go a (expression a.function.slots e (Some (temp i))) d tail (r + 1) n _ x s

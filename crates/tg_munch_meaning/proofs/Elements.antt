@@ -29,7 +29,7 @@ use Rattle.tg_instr.specs.declared.instr.Instr.TheVariants as instr
 use Rattle.tg_instr.specs.Shapes.{Operand}
 use Rattle.tg_instr.specs.Contents.{Word, Contents, held, handed}
 use Rattle.tg_instr.specs.Running.{CodePoint, jump_to}
-use Rattle.tg_munch.specs.Choosing.{Choice, Drawn, ◌>>=◌, ◌>>◌, put}
+use Rattle.tg_munch.specs.Choosing.{Choice, NumbersDrawn, ◌>>=◌, ◌>>◌, put}
 use Rattle.tg_munch.specs.Munching.{kept_registers, expression, branch, compared_in_hi, given_back, element, elements}
 use Rattle.tg_munch.specs.Bodies.{outs, out_of, out_of_element}
 use Rattle.tg_munch.specs.Lengths.{kept_count}
@@ -271,7 +271,7 @@ module _ (a : Activated) (r n : ℕ) (fuelled : Fuelled a r n) where
 
   -- by whatever instructions compare
   module _ (before : Option Linear) (rel : Rel) (y z : Tx) (m : ℕ) (fy : IsFlat y) (fz : IsFlat z) (rest : List Linear)
-      (d : Drawn) (tail : List Instr) (w x : World) (t : Temps) (s : Contents) (h : InBody a before w x t s)
+      (d : NumbersDrawn) (tail : List Instr) (w x : World) (t : Temps) (s : Contents) (h : InBody a before w x t s)
       (le : a.function.temps + kept_count ≤ d.temp)
       (next : (w1 x1 : World) (t1 : Temps) (s1 : Contents) → InBody a (Some (tree.Branch rel y z m)) w1 x1 t1 s1 →
       Matches a r n (flat_goes a rest w1 t1) x1 tail s1) where
@@ -389,7 +389,7 @@ module _ (a : Activated) (r n : ℕ) (fuelled : Fuelled a r n) where
   lets_go before (tree.After z y) f h le rest d tail = absurd f
 
   -- an element, and what is left behind it
-  step : (before : Option Linear) (e : Linear) (rest : List Linear) (d : Drawn) → Left a before (e ∷ rest) d →
+  step : (before : Option Linear) (e : Linear) (rest : List Linear) (d : NumbersDrawn) → Left a before (e ∷ rest) d →
       IsFlatCode rest → Runs a r n before e →
       (Left a (Some e) rest (element a.function.slots a.function.temps before e d).drawn →
       GoesOn a r n (Some e) rest (element a.function.slots a.function.temps before e d).drawn) →
@@ -413,11 +413,11 @@ module _ (a : Activated) (r n : ℕ) (fuelled : Fuelled a r n) where
       } in
       runs rest d code w x t s h left.drawn (λ w1 x1 t1 s1 h1. next behind_it w1 x1 t1 s1 h1) part
 
-  out_fits : (before : Option Linear) (e : Linear) (rest : List Linear) (d : Drawn) → Left a before (e ∷ rest) d →
+  out_fits : (before : Option Linear) (e : Linear) (rest : List Linear) (d : NumbersDrawn) → Left a before (e ∷ rest) d →
       out_of_element e ≤ outs a.function.body
   out_fits before e rest d left = let most = left.remains.outs in omega (arith, most)
 
-  pub left_goes_on : (before : Option Linear) (rest : List Linear) (d : Drawn) → Left a before rest d →
+  pub left_goes_on : (before : Option Linear) (rest : List Linear) (d : NumbersDrawn) → Left a before rest d →
       GoesOn a r n before rest d
   left_goes_on before [] d left = λ w x t s h part. simulates_wrong 1 r n (over Wrong w) _ (λ i. refl)
   left_goes_on before (tree.Mark m ∷ rest) d left =

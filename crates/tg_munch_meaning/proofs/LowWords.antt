@@ -22,7 +22,7 @@ use Rattle.tg_instr.specs.Operands as operands
 use Rattle.tg_instr.specs.Shapes.{Operand, Stores, shape}
 use Rattle.tg_instr.specs.Contents.{Word, Contents, set, held}
 use Rattle.tg_instr.specs.Meaning.{with_content_word}
-use Rattle.tg_munch.specs.Choosing.{Drawn, ◌>>◌, put as puts, fresh}
+use Rattle.tg_munch.specs.Choosing.{NumbersDrawn, ◌>>◌, put as puts, fresh}
 use Rattle.tg_munch.specs.Tiles.{constant}
 use Rattle.tg_munch.specs.Munching.{temp, store_low, store_far}
 use Rattle.tg_munch.specs.Bodies.{outs}
@@ -164,7 +164,7 @@ module _ (a : Activated) where
 
   module _ (n : ℕ) where
     -- a store of an operand to a word at the low end, in at most four instructions
-    pub low_stored : (k v : ℕ) (y : Opnd) (d : Drawn) (tail : List Instr) (r credit : ℕ) (c : Run Ran) (w x : World) (s : Contents) →
+    pub low_stored : (k v : ℕ) (y : Opnd) (d : NumbersDrawn) (tail : List Instr) (r credit : ℕ) (c : Run Ran) (w x : World) (s : Contents) →
         k < outs a.function.body → IsOld d.temp y → held a.activation s (Operand y) ≡ Word v → credit + 4 ≤ r →
         AlikeIn a w x →
         ((s1 : Contents) → Stay d.temp None s s1 → Matches a credit n c (with_put (low + 4 * k) (Has v) x) tail s1) →

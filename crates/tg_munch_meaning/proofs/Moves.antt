@@ -8,7 +8,7 @@ use Rattle.tg_tree.specs.Actions.{Temps, set_temp}
 use Rattle.tg_instr.specs.declared.operands.Opnd.TheVariants.{Reg}
 use Rattle.tg_instr.specs.Shapes.{Operand}
 use Rattle.tg_instr.specs.Contents.{Word, Contents}
-use Rattle.tg_munch.specs.Choosing.{Drawn}
+use Rattle.tg_munch.specs.Choosing.{NumbersDrawn}
 use Rattle.tg_munch.specs.Munching.{temp}
 use Rattle.tg_munch_values.specs.Values.{Known, Stay}
 use Rattle.tg_munch_values.specs.Words.{IsWord}
@@ -34,7 +34,7 @@ temp_same n but s s1 stay i lt other = stay (temp i) lt other
 pub same_on : (m n : ℕ) (s s1 s2 : Contents) → m ≤ n → SameTemps m s s1 → SameTemps n s1 s2 → SameTemps m s s2
 same_on m n s s1 s2 le h k i lt = k i (omega (arith, le, lt)) ∙ h i lt
 
-pub knows : (temps : ℕ) (t : Temps) (d : Drawn) (s : Contents) → temps ≤ d.temp → TempsAlike temps t s → Known t d s
+pub knows : (temps : ℕ) (t : Temps) (d : NumbersDrawn) (s : Contents) → temps ≤ d.temp → TempsAlike temps t s → Known t d s
 knows temps t d s le h i v e =
     let q = h i v e in
     let lt = q.0 in

@@ -25,7 +25,7 @@ use Rattle.tg_instr.specs.Operands as operands
 use Rattle.tg_instr.specs.Shapes.{Operand, Base}
 use Rattle.tg_instr.specs.Contents.{Content, Word, Contents, set, held, cell_of}
 use Rattle.tg_instr.specs.Meaning.{with_content, with_content_word}
-use Rattle.tg_munch.specs.Choosing.{Drawn, ◌>>=◌, ◌>>◌, put as puts, fresh}
+use Rattle.tg_munch.specs.Choosing.{NumbersDrawn, ◌>>=◌, ◌>>◌, put as puts, fresh}
 use Rattle.tg_munch.specs.Tiles.{constant}
 use Rattle.tg_munch.specs.Munching.{temp, argument, kept_registers}
 use Rattle.tg_munch.specs.Bodies.{from_register, load_far, load_above, from_word, from_words, parameters}
@@ -202,7 +202,7 @@ module _ (a : Activated) (n : ℕ) where
   far_address m small = grind (arith, common_steps)
 
   -- the word that stands so far above goes to a temporary, in at most four instructions
-  load_matches : (above j m v : ℕ) (d : Drawn) (tail : List Instr) (r credit : ℕ) (c : Run Ran) (w x : World) (s : Contents) →
+  load_matches : (above j m v : ℕ) (d : NumbersDrawn) (tail : List Instr) (r credit : ℕ) (c : Run Ran) (w x : World) (s : Contents) →
       AlikeIn a w x → base + 4 * m < stack_top → x.memory.stack (base + 4 * m) ≡ Has v →
       s (Operand (temp above)) ≡ Word base → (above == j) ≡ false → credit + 4 ≤ r →
       ((s1 : Contents) → ((y : Opnd) → operands.is_same y (temp j) ≡ false → s1 (Operand y) ≡ s (Operand y)) →
@@ -288,7 +288,7 @@ module _ (a : Activated) (n : ℕ) where
   -- parameters past the fourth, where the frame address stands in a temporary
   words_match : (above i : ℕ) (homes : List Access) (vs : List ℕ) (w w1 : World) (t t1 : Temps) →
       IsPlaced base homes vs w t w1 t1 → slot_bound homes ≤ a.function.slots → temp_bound homes ≤ a.function.temps →
-      (d : Drawn) (tail : List Instr) (r credit : ℕ) (c : Run Ran) (x : World) (s : Contents) →
+      (d : NumbersDrawn) (tail : List Instr) (r credit : ℕ) (c : Run Ran) (x : World) (s : Contents) →
       credit + 5 * length vs ≤ r → above < d.temp → a.function.temps + kept_count ≤ above → 4 ≤ i →
       s (Operand (temp above)) ≡ Word base → Placing d.temp i vs w x t s → Next credit c tail w1 t1 →
       Matches a r n c x ((from_words (temp above) i homes d).code ++ tail) s
@@ -315,7 +315,7 @@ module _ (a : Activated) (n : ℕ) where
       at h next =
       let fits = h.fits in
       let other = below_differs above d.temp lt in
-      let d1 : Drawn = record d { temp = d.temp + 1 } in
+      let d1 : NumbersDrawn = record d { temp = d.temp + 1 } in
       in_turn a (from_word (temp above) i (InFrame k)) (λ z. from_words (temp above) (i + 1) hs) d tail r n c x s
       (in_turn a fresh (λ y. load_above (temp above) (4 * (i - 4)) y >> puts (FrameStore y k)) d _ r n c x s
       (in_turn a (load_above (temp above) (4 * (i - 4)) (temp d.temp)) (λ z. puts (FrameStore (temp d.temp) k)) d1 _ r n c x s
@@ -345,11 +345,11 @@ module _ (a : Activated) (n : ℕ) where
   -- past the fourth all by one frame address
   far_match : (i : ℕ) (homes : List Access) (vs : List ℕ) (w w1 : World) (t t1 : Temps) →
       IsPlaced base homes vs w t w1 t1 → slot_bound homes ≤ a.function.slots → temp_bound homes ≤ a.function.temps →
-      (d : Drawn) (tail : List Instr) (r credit : ℕ) (c : Run Ran) (x : World) (s : Contents) →
+      (d : NumbersDrawn) (tail : List Instr) (r credit : ℕ) (c : Run Ran) (x : World) (s : Contents) →
       credit + 5 * length vs + 1 ≤ r → 4 ≤ i → Placing d.temp i vs w x t s → Next credit c tail w1 t1 →
       Matches a r n c x (((fresh >>= (λ above. puts (FrameAddress above) >> from_words above i homes)) d).code ++ tail) s
   far_match i homes vs w w1 t t1 p slots temps d tail r credit c x s le four h next =
-      let d1 : Drawn = record d { temp = d.temp + 1 } in
+      let d1 : NumbersDrawn = record d { temp = d.temp + 1 } in
       let drawn = h.drawn in
       in_turn a fresh (λ above. puts (FrameAddress above) >> from_words above i homes) d tail r n c x s
       (in_turn a (puts (FrameAddress (temp d.temp))) (λ z. from_words (temp d.temp) i homes) d1 tail r n c x s
@@ -376,7 +376,7 @@ module _ (a : Activated) (n : ℕ) where
 
   pub parameters_match : (i : ℕ) (homes : List Access) (vs : List ℕ) (w w1 : World) (t t1 : Temps) →
       IsPlaced base homes vs w t w1 t1 → slot_bound homes ≤ a.function.slots → temp_bound homes ≤ a.function.temps →
-      (d : Drawn) (tail : List Instr) (r credit : ℕ) (c : Run Ran) (x : World) (s : Contents) →
+      (d : NumbersDrawn) (tail : List Instr) (r credit : ℕ) (c : Run Ran) (x : World) (s : Contents) →
       credit + 6 * length vs ≤ r → Placing d.temp i vs w x t s → Next credit c tail w1 t1 →
       Matches a r n c x ((parameters i homes d).code ++ tail) s
   parameters_match i homes vs w w1 t t1 (placed_all w2 t2) slots temps d tail r credit c x s le h next =

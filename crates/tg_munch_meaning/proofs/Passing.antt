@@ -19,7 +19,7 @@ use Rattle.tg_instr.specs.declared.operands.Opnd.TheVariants.{Reg}
 use Rattle.tg_instr.specs.declared.instr.Instr.{Instr}
 use Rattle.tg_instr.specs.Shapes.{Operand}
 use Rattle.tg_instr.specs.Contents.{Word, Contents, held}
-use Rattle.tg_munch.specs.Choosing.{Choice, Drawn, ◌>>=◌, ◌>>◌, give}
+use Rattle.tg_munch.specs.Choosing.{Choice, NumbersDrawn, ◌>>=◌, ◌>>◌, give}
 use Rattle.tg_munch.specs.Arguments.{is_in_register, is_in_frame, is_anywhere, one_may_end, ordered}
 use Rattle.tg_munch.specs.Munching.{argument, expression, store_low, passed, arguments}
 use Rattle.tg_munch.specs.Bodies.{outs, count}
@@ -75,8 +75,8 @@ module _ (a : Activated) where
   -- where the arguments come to stand, before flat code that hasn't moved
   module _ (n : ℕ) where
     -- what comes of a given word, before flat code that hasn't moved
-    given_matches : {A : Type 0} (c : Choice A) (d : Drawn) (e : Tx) (tail : List Instr) (r k credit : ℕ)
-        (go : ℕ → Run Ran) (w x : World) (t : Temps) (s : Contents) (Q : A → Drawn → ℕ → Contents → Type 0) →
+    given_matches : {A : Type 0} (c : Choice A) (d : NumbersDrawn) (e : Tx) (tail : List Instr) (r k credit : ℕ)
+        (go : ℕ → Run Ran) (w x : World) (t : Temps) (s : Contents) (Q : A → NumbersDrawn → ℕ → Contents → Type 0) →
         w.input ≡ x.input → credit + k ≤ r → Behaves (place a) x c d s k (worth a w t e) Q →
         ((v : ℕ) (s1 : Contents) → worth a w t e ≡ word v → Q (c d).value (c d).drawn v s1 → Matches a credit n (go v) x tail s1) →
         Matches a r n (with_given (worth a w t e) w go) x ((c d).code ++ tail) s
@@ -162,7 +162,7 @@ module _ (a : Activated) where
       -- the arguments that are left
       abbrev Rest : ℕ → Txs → List Instr → ℕ → Type 0
       Rest i ys tail credit =
-          (d : Drawn) (r : ℕ) (go : List ℕ → Run Ran) (x : World) (s : Contents) →
+          (d : NumbersDrawn) (r : ℕ) (go : List ℕ → Run Ran) (x : World) (s : Contents) →
           credit + cost_of i ys ≤ r → a.function.temps + kept_count ≤ d.temp → AlikeIn a w x →
           TempsAlike a.function.temps t s → Given_next i ys d.temp credit go x s tail →
           Matches a r n (with_list (list_of ys) w go) x ((arguments a.function.slots picks i ys d).code ++ tail) s
@@ -183,7 +183,7 @@ module _ (a : Activated) where
       is_past i e = grind (arith, nat_tests)
 
       module _ (i : ℕ) (y : Tx) (ys : Txs) (fy : IsFlat y) (hy : HasWords y) (few : (i + suc (count ys)) - 4 ≤ outs a.function.body)
-          (only : picks i ≡ false → OnlyWrong (worth a w t y)) (d : Drawn) (tail : List Instr) (r credit : ℕ)
+          (only : picks i ≡ false → OnlyWrong (worth a w t y)) (d : NumbersDrawn) (tail : List Instr) (r credit : ℕ)
           (go : List ℕ → Run Ran) (x : World) (s : Contents)
           (le : credit + cost_of i (tx y ys) ≤ r) (drawn : a.function.temps + kept_count ≤ d.temp) (alike : AlikeIn a w x)
           (temps : TempsAlike a.function.temps t s) (next : Given_next i (tx y ys) d.temp credit go x s tail)
@@ -224,7 +224,7 @@ module _ (a : Activated) where
         unpicked e (stops_by WantsFuel) is = absurd (subst OnlyWrong is (only e))
 
         -- one in a register
-        in_register_next : picks i ≡ true → (lt : i < 4) → (o : Opnd) (d1 d2 : Drawn) (v : ℕ) (s1 : Contents) →
+        in_register_next : picks i ≡ true → (lt : i < 4) → (o : Opnd) (d1 d2 : NumbersDrawn) (v : ℕ) (s1 : Contents) →
             worth a w t y ≡ word v → d.temp ≤ d2.temp →
             Result a.activation d (Some (argument i)) s o d1 v s1 →
             Matches a (credit + after_word (worth a w t y) left) n (with_list (list_of ys) w (later v)) x
@@ -250,7 +250,7 @@ module _ (a : Activated) where
             (same, (λ k other. q.stay (Reg (4 + k)) tt (registers_differ k i other)), (λ k lo other. refl)) spares))
 
         -- one in the frame
-        in_frame_next : picks i ≡ true → (lo : 4 ≤ i) → (o : Opnd) (d1 d2 d3 : Drawn) (v : ℕ) (s1 : Contents) →
+        in_frame_next : picks i ≡ true → (lo : 4 ≤ i) → (o : Opnd) (d1 d2 d3 : NumbersDrawn) (v : ℕ) (s1 : Contents) →
             worth a w t y ≡ word v → d.temp ≤ d3.temp →
             Result a.activation d None s o d1 v s1 →
             Matches a (credit + after_word (worth a w t y) left + 4) n (with_list (list_of ys) w (later v)) x
@@ -394,7 +394,7 @@ module _ (a : Activated) where
           same : all_words vs ≡ all_words us → vs ≡ us
           same q = cc
 
-      pub arguments_match : (d : Drawn) (tail : List Instr) (r credit : ℕ) (go : List ℕ → Run Ran) (x : World) (s : Contents) →
+      pub arguments_match : (d : NumbersDrawn) (tail : List Instr) (r credit : ℕ) (go : List ℕ → Run Ran) (x : World) (s : Contents) →
           credit + spends_all ≤ r → a.function.temps + kept_count ≤ d.temp → AlikeIn a w x → TempsAlike a.function.temps t s →
           ((vs : List ℕ) (x1 : World) (s1 : Contents) → all_of ≡ all_words vs → AlikeIn a w x1 → Passed vs d.temp s s1 x1 →
           Matches a credit n (go vs) x1 tail s1) →
@@ -410,7 +410,7 @@ module _ (a : Activated) where
               (λ vs x1 s1 so alike1 given spares.
               next vs x1 s1 so alike1 (record { arguments = passed_from 0 vs s1 x1.memory given; temps = spares.temps }))
 
-          registers_next : (d1 : Drawn) (x1 : World) (s1 : Contents) (vs : List ℕ) → d.temp ≤ d1.temp → all_of ≡ all_words vs →
+          registers_next : (d1 : NumbersDrawn) (x1 : World) (s1 : Contents) (vs : List ℕ) → d.temp ≤ d1.temp → all_of ≡ all_words vs →
               AlikeIn a w x1 → AreGiven is_in_frame s1 x1.memory 0 vs → SameTemps d.temp s s1 →
               Matches a (credit + picked_spend (literals a) a.activation.base w.memory t is_in_register 0 xs) n (go vs) x1
               ((arguments a.function.slots is_in_register 0 xs d1).code ++ tail) s1

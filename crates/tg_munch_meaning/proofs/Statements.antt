@@ -27,7 +27,7 @@ use Rattle.tg_instr.specs.declared.instr.Instr.TheVariants.{Sw, Sb, FrameStore, 
 use Rattle.tg_instr.specs.Shapes.{Operand, Stores, shape}
 use Rattle.tg_instr.specs.Contents.{Word, Contents, set, held, cell_of}
 use Rattle.tg_instr.specs.Meaning.{with_content_word, with_content}
-use Rattle.tg_munch.specs.Choosing.{Choice, Drawn, ◌>>=◌, ◌>>◌, put as puts}
+use Rattle.tg_munch.specs.Choosing.{Choice, NumbersDrawn, ◌>>=◌, ◌>>◌, put as puts}
 use Rattle.tg_munch.specs.Tiles as tiles
 use Rattle.tg_munch.specs.Tiles.{constant}
 use Rattle.tg_munch.specs.Munching.{temp, kept_registers, expression, based_at, stored, asked, element}
@@ -91,7 +91,7 @@ module _ (a : Activated) (r n : ℕ) where
   -- what an element does, given what the next ones do
   abbrev pub Runs : Option Linear → Linear → Type 0
   Runs before e =
-      (rest : List Linear) (d : Drawn) (tail : List Instr) (w x : World) (t : Temps) (s : Contents) →
+      (rest : List Linear) (d : NumbersDrawn) (tail : List Instr) (w x : World) (t : Temps) (s : Contents) →
       InBody a before w x t s → a.function.temps + kept_count ≤ d.temp →
       ((w1 x1 : World) (t1 : Temps) (s1 : Contents) → InBody a (Some e) w1 x1 t1 s1 →
       Matches a r n (flat_goes a rest w1 t1) x1 tail s1) →
@@ -99,7 +99,7 @@ module _ (a : Activated) (r n : ℕ) where
       ((element a.function.slots a.function.temps before e d).code ++ tail) s
 
   -- what is known behind a move
-  pub moved : (i v : ℕ) (e : Tx) (before : Option Linear) (d : Drawn) (w x w1 x1 : World) (t : Temps) (s s1 : Contents) →
+  pub moved : (i v : ℕ) (e : Tx) (before : Option Linear) (d : NumbersDrawn) (w x w1 x1 : World) (t : Temps) (s s1 : Contents) →
       i < a.function.temps → a.function.temps + kept_count ≤ d.temp → IsWord v → SameTempsBut i d.temp s s1 →
       s1 (Operand (temp i)) ≡ Word v → AlikeIn a w1 x1 →
       HiIsThere (Some (tree.Do' (tree.Move i e))) (literals a) a.activation.base w1.memory (set_temp i v t) s1 →
@@ -165,7 +165,7 @@ module _ (a : Activated) (r n : ℕ) where
 
   -- an expression whose word is let go
   pub worth_runs : (before : Option Linear) (e : Tx) → IsFlat e → HasWords e →
-      (d : Drawn) (tail : List Instr) (rest : List Linear) (w x : World) (t : Temps) (s : Contents) →
+      (d : NumbersDrawn) (tail : List Instr) (rest : List Linear) (w x : World) (t : Temps) (s : Contents) →
       InBody a before w x t s → a.function.temps + kept_count ≤ d.temp →
       ((w1 x1 : World) (t1 : Temps) (s1 : Contents) → InBody a (Some (tree.Do' (tree.Do e))) w1 x1 t1 s1 →
       Matches a r n (flat_goes a rest w1 t1) x1 tail s1) →
@@ -182,7 +182,7 @@ module _ (a : Activated) (r n : ℕ) where
       part))
 
   -- a store's address
-  pub left_does : (e : Tx) (d : Drawn) (w x : World) (t : Temps) (s : Contents) (alike : AlikeIn a w x)
+  pub left_does : (e : Tx) (d : NumbersDrawn) (w x : World) (t : Temps) (s : Contents) (alike : AlikeIn a w x)
       (temps : TempsAlike a.function.temps t s) → a.function.temps ≤ d.temp → IsFlat e → HasWords e →
       LeftDoes (scene_in a w x t s alike temps) e d s
   left_does (tree.Binary op y z) d w x t s alike temps le flat small =
@@ -233,17 +233,17 @@ module _ (a : Activated) (r n : ℕ) where
       (is : (from base : Opnd) (bytes : ℕ) → shape (one from bytes base) ≡ Stores from base (extended bytes) f)
       (before : Option Linear) (element : Linear) (y z : Tx)
       (none : (u v : Tx) → leaves_product (Some element) u v ≡ false) (fy : IsFlat y) (fz : IsFlat z) (hy : HasWords y)
-      (hz : HasWords z) (rest : List Linear) (d : Drawn) (tail : List Instr) (w x : World) (t : Temps) (s : Contents)
+      (hz : HasWords z) (rest : List Linear) (d : NumbersDrawn) (tail : List Instr) (w x : World) (t : Temps) (s : Contents)
       (h : InBody a before w x t s) (le : a.function.temps + kept_count ≤ d.temp)
       (next : (w1 x1 : World) (t1 : Temps) (s1 : Contents) → InBody a (Some element) w1 x1 t1 s1 →
       Matches a r n (flat_goes a rest w1 t1) x1 tail s1) where
     abbrev scene : Scene
     scene = scene_in a w x t s h.alike h.temps
 
-    abbrev IsPlace : ℕ → Opnd → Drawn → ℕ → Contents → Type 0
+    abbrev IsPlace : ℕ → Opnd → NumbersDrawn → ℕ → Contents → Type 0
     IsPlace bytes base d1 u s1 = Located scene d s bytes base d1 u s1
 
-    value_stored : (from : Opnd) (bytes : ℕ) (base : Opnd) (d1 d2 : Drawn) (u v : ℕ) (s1 s2 : Contents) →
+    value_stored : (from : Opnd) (bytes : ℕ) (base : Opnd) (d1 d2 : NumbersDrawn) (u v : ℕ) (s1 s2 : Contents) →
         IsPlace bytes base d1 u s1 → IsWord v → Result a.activation d1 None s1 from d2 v s2 →
         Matches a (r + 1) n (with_memory (f w.memory u v) w (λ w3. flat_goes a rest w3 t)) x
         (one from bytes base ∷ tail) s2
@@ -256,7 +256,7 @@ module _ (a : Activated) (r n : ℕ) where
         (passes a before element d w x w1 x1 t s s2 none le h alike
         (same_on d.temp d1.temp s s1 s2 first (stay_same d.temp s s1 q.stay) (stay_same d1.temp s1 s2 p.stay))))
 
-    value_next : (bytes : ℕ) (base : Opnd) (d1 : Drawn) (u : ℕ) (s1 : Contents) → IsPlace bytes base d1 u s1 →
+    value_next : (bytes : ℕ) (base : Opnd) (d1 : NumbersDrawn) (u : ℕ) (s1 : Contents) → IsPlace bytes base d1 u s1 →
         Matches a (r + 1) n
         (flat_worth a z (λ v w2 t2. with_memory (f w2.memory u v) w2 (λ w3. flat_goes a rest w3 t2)) w t) x
         (((expression a.function.slots z None >>= (λ v. puts (one v bytes base))) d1).code ++ tail) s1
@@ -309,11 +309,11 @@ module _ (a : Activated) (r n : ℕ) where
   is_below k m lt = grind (arith, nat_tests)
 
   module _ (before : Option Linear) (y z : Tx) (fy : IsFlat y) (fz : IsFlat z) (hz : HasWords z) (k : ℕ)
-      (rest : List Linear) (d : Drawn) (tail : List Instr) (w x : World) (t : Temps) (s : Contents)
+      (rest : List Linear) (d : NumbersDrawn) (tail : List Instr) (w x : World) (t : Temps) (s : Contents)
       (h : InBody a before w x t s) (le : a.function.temps + kept_count ≤ d.temp)
       (next : (w1 x1 : World) (t1 : Temps) (s1 : Contents) → InBody a (Some (tree.Do' (tree.Store y z))) w1 x1 t1 s1 →
       Matches a r n (flat_goes a rest w1 t1) x1 tail s1) where
-    slot_last : (from : Opnd) (d1 : Drawn) (v : ℕ) (s1 : Contents) → k < a.function.slots → IsWord v →
+    slot_last : (from : Opnd) (d1 : NumbersDrawn) (v : ℕ) (s1 : Contents) → k < a.function.slots → IsWord v →
         Result a.activation d None s from d1 v s1 →
         Matches a (r + 1) n
         (with_memory (store w.memory (sub a.activation.base (4 * (k + 1))) v) w (λ w3. flat_goes a rest w3 t)) x
@@ -401,8 +401,8 @@ module _ (a : Activated) (r n : ℕ) where
 -- Services.
 module _ (a : Activated) (n : ℕ) where
   -- a choice that gives a word whatever happens, before what flat code does next
-  pub choice_matches : {A : Type 0} (c : Choice A) (d : Drawn) (tail : List Instr) (r k credit u : ℕ) (flat : Run Ran)
-      (x : World) (s : Contents) (Q : A → Drawn → ℕ → Contents → Type 0) → credit + k ≤ r →
+  pub choice_matches : {A : Type 0} (c : Choice A) (d : NumbersDrawn) (tail : List Instr) (r k credit u : ℕ) (flat : Run Ran)
+      (x : World) (s : Contents) (Q : A → NumbersDrawn → ℕ → Contents → Type 0) → credit + k ≤ r →
       Behaves (place a) x c d s k (word u) Q →
       ((s1 : Contents) → Q (c d).value (c d).drawn u s1 → Matches a credit n flat x tail s1) →
       Matches a r n flat x ((c d).code ++ tail) s
@@ -414,7 +414,7 @@ module _ (a : Activated) (n : ℕ) where
       (next q.contents (subst (λ i. Q (c d).value (c d).drawn i q.contents) (sym (same_word u v q.holds.0)) q.holds.1)
       (later_part (place a) (c d).code tail part))))
 
-  module _ (e : Tx) (asks : ℕ) (flat : IsFlat e) (small : HasWords e) (word_asks : IsWord asks) (d : Drawn)
+  module _ (e : Tx) (asks : ℕ) (flat : IsFlat e) (small : HasWords e) (word_asks : IsWord asks) (d : NumbersDrawn)
       (tail : List Instr) (r credit : ℕ) (fits : credit + 4 ≤ r) (w x : World) (t : Temps) (s : Contents)
       (alike : AlikeIn a w x) (temps : TempsAlike a.function.temps t s) (le : a.function.temps + kept_count ≤ d.temp)
       (go : Go ℕ)
@@ -443,7 +443,7 @@ module _ (a : Activated) (n : ℕ) where
         (later_part (place a) (Service ∷ []) tail part))
         asks u w x word_asks alike (bytes_seen w x alike.holds)))
 
-    number_next : (u : ℕ) (d1 : Drawn) (s1 : Contents) → SameTemps d.temp s s1 → s1 (Operand (Reg 4)) ≡ Word u →
+    number_next : (u : ℕ) (d1 : NumbersDrawn) (s1 : Contents) → SameTemps d.temp s s1 → s1 (Operand (Reg 4)) ≡ Word u →
         Matches a (credit + 3) n (service a.program.room asks u w goes_next) x
         (((constant (Reg 2) asks >> puts Service) d1).code ++ tail) s1
     number_next u d1 s1 same four =

@@ -13,7 +13,7 @@ use Rattle.tg_instr.specs.declared.instr.Instr.TheVariants.{Move, Return}
 use Rattle.tg_instr.specs.Shapes.{Operand}
 use Rattle.tg_instr.specs.Contents.{Content, Found, Contents, set, held, handed}
 use Rattle.tg_instr.specs.Meaning.{with_content, put_in}
-use Rattle.tg_munch.specs.Choosing.{Drawn, ◌>>=◌}
+use Rattle.tg_munch.specs.Choosing.{NumbersDrawn, ◌>>=◌}
 use Rattle.tg_munch.specs.Bodies.{kept}
 use Rattle.tg_munch.specs.Munching.{temp, given_back, kept_registers}
 use Rattle.tg_munch_values.specs.Places.{Place, goes}
@@ -42,7 +42,7 @@ module _ (p : Place) where
   still_held i c [] s h = tt
   still_held i c (r ∷ rs) s h = (h.0, still_held i c rs s h.1)
 
-  pub kept_runs : (rs : List ℕ) (d : Drawn) (rest : List Instr) (w : World) (s : Contents) (n : ℕ) → AreHeld rs s →
+  pub kept_runs : (rs : List ℕ) (d : NumbersDrawn) (rest : List Instr) (w : World) (s : Contents) (n : ℕ) → AreHeld rs s →
       goes p w ((kept rs d).code ++ rest) s n ≡ works (length rs) (goes p w rest (kept_in d.temp rs s) n)
   unfolding ◌>>=◌
   kept_runs [] d rest w s n h = sym (works_none (goes p w rest s n))
@@ -99,7 +99,7 @@ module _ (p : Place) where
   still_kept r t c [] s h = tt
   still_kept r t c (q ∷ rs) s h = (h.0, still_kept r (t + 1) c rs s h.1)
 
-  given_runs : (rs : List ℕ) (t : ℕ) (d : Drawn) (rest : List Instr) (w : World) (s : Contents) (n : ℕ) → NoneIsStack
+  given_runs : (rs : List ℕ) (t : ℕ) (d : NumbersDrawn) (rest : List Instr) (w : World) (s : Contents) (n : ℕ) → NoneIsStack
       rs → AreKept t rs s →
       goes p w ((given_back t rs d).code ++ rest) s n ≡ works (length rs) (goes p w rest (given_in rs s) n)
   unfolding ◌>>=◌
@@ -114,7 +114,7 @@ module _ (p : Place) where
       one_more k = omega arith
 
   -- A return behind them is one: what is found is what was, by computing.
-  pub returns : (t : ℕ) (d : Drawn) (rest : List Instr) (w : World) (s : Contents) (n : ℕ) → AreKept t kept_registers s →
+  pub returns : (t : ℕ) (d : NumbersDrawn) (rest : List Instr) (w : World) (s : Contents) (n : ℕ) → AreKept t kept_registers s →
       goes p w ((given_back t kept_registers d).code ++ Return ∷ rest) s n ≡ works 10 (p.back (handed (s (Operand (Reg
       2)))) w n)
   returns t d rest w s n h =

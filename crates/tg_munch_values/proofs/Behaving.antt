@@ -14,11 +14,11 @@ use Rattle.tg_tree.specs.Actions.{World, with_given, with_word, wrong}
 use Rattle.tg_instr.specs.declared.operands.Opnd.{Opnd}
 use Rattle.tg_instr.specs.declared.operands.Opnd.TheVariants.{Temp, Reg}
 use Rattle.tg_instr.specs.declared.instr.Instr.{Instr}
-use Rattle.tg_instr.specs.Shapes.{Holder, Operand, Hi, Lo, Shape, From1, From2, Halves, Copy, shape}
+use Rattle.tg_instr.specs.Shapes.{Holder, Operand, Hi, Lo, InstructionShape, From1, From2, Halves, Copy, shape}
 use Rattle.tg_instr.specs.Contents.{Content, Word, Contents, set, held}
 use Rattle.tg_instr.specs.Meaning.{Around, with_content_word, with_content, put_in, act}
 use Rattle.tg_instr.specs.Running.{code_going, around, enter_code}
-use Rattle.tg_munch.specs.Choosing.{Choice, Drawn, ◌>>=◌}
+use Rattle.tg_munch.specs.Choosing.{Choice, NumbersDrawn, ◌>>=◌}
 use Rattle.tg_munch_values.specs.Places.{each_one, Does, gives, ends, unsaid}
 use Rattle.tg_munch_values.proofs.Does.{does_within, does_onward}
 
@@ -31,7 +31,7 @@ abbrev pub here : Place → Around
 here p = around each_one p.code p.size p.floor p.room (code_going each_one p.code p.size p.floor p.room) p.function
     p.activation p.back
 
-abbrev pub acts : Place → Shape → World → List Instr → Contents → Run Ran
+abbrev pub acts : Place → InstructionShape → World → List Instr → Contents → Run Ran
 acts p h x rest s =
     act p.room p.code.literals (enter_code each_one p.code p.size p.floor p.room (code_going each_one p.code p.size
     p.floor p.room)) h (here p)
@@ -45,9 +45,9 @@ does_is : (x : World) (P : ℕ → Run Ran → Type 0) (k : ℕ) (c : Run Ran) (
 does_is x P k c g h e b = subst (λ y. Does x P k c y) e b
 
 module _ (p : Place) (x : World) where
-  pub bind : {A B : Type 0} (first : Choice A) (next : A → Choice B) (d : Drawn) (s : Contents) (k l n : ℕ) (g :
+  pub bind : {A B : Type 0} (first : Choice A) (next : A → Choice B) (d : NumbersDrawn) (s : Contents) (k l n : ℕ) (g :
       Given) (h : ℕ → Given)
-      (Q : A → Drawn → ℕ → Contents → Type 0) (R : B → Drawn → ℕ → Contents → Type 0) →
+      (Q : A → NumbersDrawn → ℕ → Contents → Type 0) (R : B → NumbersDrawn → ℕ → Contents → Type 0) →
       k + after_word g l ≤ n →
       Behaves p x first d s k g Q →
       ((v : ℕ) (s1 : Contents) → Q (first d).value (first d).drawn v s1 → Behaves p x (next (first d).value) (first
@@ -66,7 +66,7 @@ module _ (p : Place) (x : World) where
       (λ v e q. subst (λ c. Does x (λ v e. Lands p x (R b.value b.drawn v) rest e) l c (h v)) (sym q.is)
       (two v q.contents q.holds rest (later_part p a.code (b.code ++ rest) there)))))
 
-  pub weaker : {A : Type 0} (c : Choice A) (d : Drawn) (s : Contents) (k n : ℕ) (g h : Given) (Q : A → Drawn → ℕ →
+  pub weaker : {A : Type 0} (c : Choice A) (d : NumbersDrawn) (s : Contents) (k n : ℕ) (g h : Given) (Q : A → NumbersDrawn → ℕ →
       Contents → Type 0) → k ≤ n → g ≡ h →
       Behaves p x c d s k g Q → Behaves p x c d s n h Q
   weaker c d s k n g h Q le e b rest part = does_within x _ k n _ h le (does_is x _ k _ g h e (b rest part))
@@ -78,7 +78,7 @@ module _ (p : Place) (x : World) where
   does_so k c g (ends i b e h) f = ends i b e h
   does_so k c g (unsaid i b) f = unsaid i b
 
-  pub so : {A : Type 0} (c : Choice A) (d : Drawn) (s : Contents) (k : ℕ) (g : Given) (Q R : A → Drawn → ℕ → Contents
+  pub so : {A : Type 0} (c : Choice A) (d : NumbersDrawn) (s : Contents) (k : ℕ) (g : Given) (Q R : A → NumbersDrawn → ℕ → Contents
       → Type 0) →
       ((v : ℕ) (s1 : Contents) → Q (c d).value (c d).drawn v s1 → R (c d).value (c d).drawn v s1) → Behaves p x c d s
       k g Q → Behaves p x c d s k g R
@@ -92,7 +92,7 @@ module _ (p : Place) (x : World) where
   does_known k c g (ends i b e h) = ends i b e h
   does_known k c g (unsaid i b) = unsaid i b
 
-  pub known : {A : Type 0} (c : Choice A) (d : Drawn) (s : Contents) (k : ℕ) (g : Given) (Q : A → Drawn → ℕ →
+  pub known : {A : Type 0} (c : Choice A) (d : NumbersDrawn) (s : Contents) (k : ℕ) (g : Given) (Q : A → NumbersDrawn → ℕ →
       Contents → Type 0) →
       Behaves p x c d s k g Q → Behaves p x c d s k g (λ y e v s1. (g ≡ word v) × Q y e v s1)
   known c d s k g Q b rest part =
@@ -135,7 +135,7 @@ module _ (p : Place) (x : World) where
   given_put (stops_by z) to rest s n h = refl
 
   -- the instruction, by its shape
-  pub sets : (one : Instr) (to : Opnd) (h : Shape) (g : Given) (rest : List Instr) (s : Contents) → shape one ≡ h →
+  pub sets : (one : Instr) (to : Opnd) (h : InstructionShape) (g : Given) (rest : List Instr) (s : Contents) → shape one ≡ h →
       IsSettable to → IsSaid g →
       ((n : ℕ) → acts p h x rest s n ≡ with_given g x (λ r. put_in to (Word r) (here p) (λ w1 s1. goes p w1 rest s1)
       x s) n) →

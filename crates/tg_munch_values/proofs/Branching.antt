@@ -18,7 +18,7 @@ use Rattle.tg_instr.specs.declared.instr.Instr.TheVariants as instr
 use Rattle.tg_instr.specs.Shapes.{Operand, Tests, shape}
 use Rattle.tg_instr.specs.Contents.{Content, Word, Contents, set, held}
 use Rattle.tg_instr.specs.Meaning.{with_content_word}
-use Rattle.tg_munch.specs.Choosing.{Choice, Drawn, ◌>>=◌, give, put}
+use Rattle.tg_munch.specs.Choosing.{Choice, NumbersDrawn, ◌>>=◌, give, put}
 use Rattle.tg_munch.specs.Tiles.{nothing, is_small, field, if_equal, unless_equal}
 use Rattle.tg_munch.specs.Comparing as comparing
 use Rattle.tg_munch.specs.Comparing.{on_flag, field_flag, on_less, on_less_field, order, branch_on, against_zero}
@@ -40,7 +40,7 @@ none_is_some : {I : Type 0} (a : I) → None ≡ Some a → ⊥
 none_is_some a e = cc
 
 -- instructions that come to that, and write no operand that stood before
-abbrev pub Forks : Place → World → Choice (Unit {0}) → Drawn → Contents → ℕ → Bool → ℕ → Type 0
+abbrev pub Forks : Place → World → Choice (Unit {0}) → NumbersDrawn → Contents → ℕ → Bool → ℕ → Type 0
 Forks p x c d s k b m =
     (rest : List Instr) → (s1 : Contents) × (Stay d.temp None s s1) × Comes k (goes p x ((c d).code ++ rest) s) (fork
     p x b m rest s1)
@@ -57,7 +57,7 @@ module _ (p : Place) (x : World) where
       ap (λ c. works 1 (with_content_word c x (λ j. fork p x (holds r u j) m rest s) n)) hb)
 
   -- one branch
-  one_forks : (one : Instr) (r : Rel) (a b : Opnd) (m u v : ℕ) (k : Bool) (d : Drawn) (s : Contents) → shape one ≡
+  one_forks : (one : Instr) (r : Rel) (a b : Opnd) (m u v : ℕ) (k : Bool) (d : NumbersDrawn) (s : Contents) → shape one ≡
       Tests r a b m →
       held p.activation s (Operand a) ≡ Word u → held p.activation s (Operand b) ≡ Word v → holds r u v ≡ k → Forks p
       x (put one) d s 2 k m
@@ -97,7 +97,7 @@ module _ (p : Place) (x : World) where
       tests (if_equal (temp i) nothing m) rel.Equal (temp i) nothing m (flag l) 0 rest s n refl e refl ∙
       ap (λ b. works 1 (fork p x b m rest s n)) (flag_holds false l)
 
-  flag_forks : (one : Instr) (h l : Bool) (m : ℕ) (d : Drawn) (s : Contents) →
+  flag_forks : (one : Instr) (h l : Bool) (m : ℕ) (d : NumbersDrawn) (s : Contents) →
       ((rest : List Instr) (n : ℕ) → goes p x (one ∷ rest) s n ≡ works 1 (goes p x rest (set (Operand (temp d.temp))
       (Word (flag l)) s) n)) →
       (rest : List Instr) → (s1 : Contents) × (Stay d.temp None s s1) ×
@@ -149,11 +149,11 @@ module _ (p : Place) (x : World) where
       ap (λ c. works 1 (with_content_word c x (λ y. goes p x rest (set (Operand (temp i)) (Word (flag (nat_lt y
       (extended f)))) s)) n)) ha
 
-  forks_as : (c : Choice (Unit {0})) (d : Drawn) (s : Contents) (k : ℕ) (b e : Bool) (m : ℕ) → b ≡ e → Forks p x c d
+  forks_as : (c : Choice (Unit {0})) (d : NumbersDrawn) (s : Contents) (k : ℕ) (b e : Bool) (m : ℕ) → b ≡ e → Forks p x c d
       s k b m → Forks p x c d s k e m
   forks_as c d s k b e m same h = subst (λ z. Forks p x c d s k z m) same h
 
-  less_forks : (signed h : Bool) (a b : Opnd) (m u v : ℕ) (d : Drawn) (s : Contents) → held p.activation s (Operand
+  less_forks : (signed h : Bool) (a b : Opnd) (m u v : ℕ) (d : NumbersDrawn) (s : Contents) → held p.activation s (Operand
       a) ≡ Word u → held p.activation s (Operand b) ≡ Word v →
       Forks p x (on_less (order signed h) a b m) d s 2 (if h then below_tests signed u v else not (below_tests signed
       u v)) m
@@ -162,7 +162,7 @@ module _ (p : Place) (x : World) where
       flag_forks (comparing.flag signed (temp d.temp) a b) h (below_tests signed u v) m d s (λ more n. two_below
       signed d.temp u v a b more s n ha hb) rest
 
-  field_forks : (signed h : Bool) (a : Opnd) (f m u : ℕ) (d : Drawn) (s : Contents) → held p.activation s (Operand a)
+  field_forks : (signed h : Bool) (a : Opnd) (f m u : ℕ) (d : NumbersDrawn) (s : Contents) → held p.activation s (Operand a)
       ≡ Word u →
       Forks p x (on_less_field (order signed h) f a m) d s 2 (if h then below_tests signed u (extended f) else not
       (below_tests signed u (extended f))) m
@@ -172,7 +172,7 @@ module _ (p : Place) (x : World) where
       field_below signed d.temp u f a more s n ha) rest
 
   -- two operands, by every relation
-  pub branch_on_forks : (r : Rel) (a b : Opnd) (m u v : ℕ) (d : Drawn) (s : Contents) → held p.activation s (Operand
+  pub branch_on_forks : (r : Rel) (a b : Opnd) (m u v : ℕ) (d : NumbersDrawn) (s : Contents) → held p.activation s (Operand
       a) ≡ Word u → held p.activation s (Operand b) ≡ Word v →
       Forks p x (branch_on r a b m) d s 2 (holds r u v) m
   branch_on_forks rel.Equal a b m u v d s ha hb = one_forks (if_equal a b m) rel.Equal a b m u v (holds rel.Equal u
@@ -190,7 +190,7 @@ module _ (p : Place) (x : World) where
   none_below : (u : ℕ) → nat_lt u 0 ≡ false
   none_below u = grind (arith, nat_tests)
 
-  pub zero_forks : (r : Rel) (a : Opnd) (m u : ℕ) (d : Drawn) (s : Contents) → held p.activation s (Operand a) ≡ Word
+  pub zero_forks : (r : Rel) (a : Opnd) (m u : ℕ) (d : NumbersDrawn) (s : Contents) → held p.activation s (Operand a) ≡ Word
       u → Forks p x (against_zero r a m) d s 2 (holds r u 0) m
   zero_forks rel.Equal a m u d s ha = one_forks (if_equal a nothing m) rel.Equal a nothing m u 0 (holds rel.Equal u
       0) d s refl ha refl refl
@@ -216,7 +216,7 @@ module _ (p : Place) (x : World) where
       true) × (n ≢ 2147483647)
   next_small n e h = grind (arith, nat_tests)
 
-  pub short_forks : (r : Rel) (n : ℕ) (one : _) (a : Opnd) (m u : ℕ) (d : Drawn) (s : Contents) → IsWord n → IsWord u
+  pub short_forks : (r : Rel) (n : ℕ) (one : _) (a : Opnd) (m u : ℕ) (d : NumbersDrawn) (s : Contents) → IsWord n → IsWord u
       → short_field r n ≡ Some one →
       held p.activation s (Operand a) ≡ Word u → Forks p x (branch_short r one a m) d s 2 (holds r u n) m
   short_forks rel.Less n one a m u d s hn hu e ha =

@@ -13,7 +13,7 @@ use Rattle.tg_instr.specs.declared.instr.Instr.TheVariants as instr
 use Rattle.tg_instr.specs.Operands.{is_same}
 use Rattle.tg_instr.specs.Shapes.{Operand}
 use Rattle.tg_instr.specs.Contents.{Word, Contents, set, held}
-use Rattle.tg_munch.specs.Choosing.{Choice, Drawn, ◌>>=◌, ◌>>◌, give, put, defining}
+use Rattle.tg_munch.specs.Choosing.{Choice, NumbersDrawn, ◌>>=◌, ◌>>◌, give, put, defining}
 use Rattle.tg_munch.specs.Tiles.{is_shift, shift_bit, shift_bits, shifted, shifted_into, moved}
 use Rattle.tg_munch.specs.Munching.{temp}
 use Rattle.tg_munch_values.specs.Places.{Place, Behaves, Walks}
@@ -46,7 +46,7 @@ shift_operates bin.MulHigh u b e = absurd (no e)
 
 module _ (p : Place) (x : World) (walks : Walks p) where
   -- a value that is moved, or given as it is
-  pub moved_does : (dest : Option Opnd) (y : Opnd) (d : Drawn) (s0 s : Contents) (d0 : Drawn) (u : ℕ) → IsAskable
+  pub moved_does : (dest : Option Opnd) (y : Opnd) (d : NumbersDrawn) (s0 s : Contents) (d0 : NumbersDrawn) (u : ℕ) → IsAskable
       dest → d0.temp ≤ d.temp → Stay d0.temp None s0 s →
       IsOld d.temp y → held p.activation s (Operand y) ≡ Word u → Behaves p x (moved dest y) d s (extra dest) (word
       u) (Result p.activation d0 dest s0)
@@ -67,7 +67,7 @@ module _ (p : Place) (x : World) (walks : Walks p) where
   module _ (op : Bin) (shifts : is_shift op ≡ true) (j u b : ℕ) (y : Opnd) (word_u : IsWord u) (other : is_same y
       (temp j) ≡ false) where
     -- what stands where a bit is looked at
-    pub record Begins (k : ℕ) (d : Drawn) (s : Contents) : Type 0 where
+    pub record Begins (k : ℕ) (d : NumbersDrawn) (s : Contents) : Type 0 where
       pub below : j < d.temp
       pub old : IsOld d.temp y
       pub amount : held p.activation s (Operand y) ≡ Word b
@@ -78,7 +78,7 @@ module _ (p : Place) (x : World) (walks : Walks p) where
     bit_adds n k true = let e : k ≡ k + 0 = omega arith in ap (shifted_as op u) e
     bit_adds n k false = twice_shifted op u k n word_u
 
-    one_more : (n k : ℕ) (d : Drawn) (s : Contents) → Begins k d s →
+    one_more : (n k : ℕ) (d : NumbersDrawn) (s : Contents) → Begins k d s →
         Behaves p x (shift_bit op (temp j) y n) d s 4 (word 0) (λ a d1 w s1. Partly p x walks j d s (shifted_as op u
         (k + part b n)) d1 s1)
     one_more n k d s q =
@@ -86,7 +86,7 @@ module _ (p : Place) (x : World) (walks : Walks p) where
         s1)) (bit_adds n k (bit_and b n == 0))
         (bit_does p x walks op j n (shifted_as op u k) b y d s q.below q.amount q.so_far)
 
-    begins_on : (k l : ℕ) (d d1 : Drawn) (s s1 : Contents) → Begins k d s → Partly p x walks j d s (shifted_as op u
+    begins_on : (k l : ℕ) (d d1 : NumbersDrawn) (s s1 : Contents) → Begins k d s → Partly p x walks j d s (shifted_as op u
         l) d1 s1 → Begins l d1 s1
     begins_on k l d d1 s s1 q h =
         let le = h.drawn in
@@ -98,7 +98,7 @@ module _ (p : Place) (x : World) (walks : Walks p) where
           so_far = h.holds;
         }
 
-    partly_on : (r l : ℕ) (d d1 d2 : Drawn) (s s1 s2 : Contents) → Partly p x walks j d s l d1 s1 → Partly p x walks
+    partly_on : (r l : ℕ) (d d1 d2 : NumbersDrawn) (s s1 s2 : Contents) → Partly p x walks j d s l d1 s1 → Partly p x walks
         j d1 s1 r d2 s2 → Partly p x walks j d s r d2 s2
     partly_on r l d d1 d2 s s1 s2 h k =
         let le = h.drawn in
@@ -109,8 +109,8 @@ module _ (p : Place) (x : World) (walks : Walks p) where
           drawn = omega (arith, le, le2);
         }
 
-    then_bits : (n k l r : ℕ) (next : Choice (Unit {0})) (d : Drawn) (s : Contents) → Begins k d s →
-        ((d1 : Drawn) (s1 : Contents) → Begins (k + part b n) d1 s1 → Behaves p x next d1 s1 l (word 0) (λ a d2 w s2.
+    then_bits : (n k l r : ℕ) (next : Choice (Unit {0})) (d : NumbersDrawn) (s : Contents) → Begins k d s →
+        ((d1 : NumbersDrawn) (s1 : Contents) → Begins (k + part b n) d1 s1 → Behaves p x next d1 s1 l (word 0) (λ a d2 w s2.
         Partly p x walks j d1 s1 r d2 s2)) →
         Behaves p x (shift_bit op (temp j) y n >> next) d s (4 + l) (word 0) (λ a d2 w s2. Partly p x walks j d s r
         d2 s2)
@@ -125,7 +125,7 @@ module _ (p : Place) (x : World) (walks : Walks p) where
         (λ w s2 g. partly_on r (shifted_as op u (k + part b n)) d d1 (next d1).drawn s s1 s2 e g)
         (h d1 s1 (begins_on k (k + part b n) d d1 s s1 q e)))
 
-    pub bits_do : (d : Drawn) (s : Contents) → Begins 0 d s →
+    pub bits_do : (d : NumbersDrawn) (s : Contents) → Begins 0 d s →
         Behaves p x (shift_bits op (temp j) y) d s 20 (word 0) (λ a d1 w s1. Partly p x walks j d s (shifted_as op u
         (b % 32)) d1 s1)
     bits_do d s q =
@@ -139,7 +139,7 @@ module _ (p : Place) (x : World) (walks : Walks p) where
         (one_more 16 (0 + part b 1 + part b 2 + part b 4 + part b 8) d4 s4 q4)))))
 
   -- a word in a temporary of its own, shifted there
-  pub shifted_does : (op : Bin) (a y : Opnd) (d : Drawn) (s : Contents) (u b : ℕ) → is_shift op ≡ true → IsWord u →
+  pub shifted_does : (op : Bin) (a y : Opnd) (d : NumbersDrawn) (s : Contents) (u b : ℕ) → is_shift op ≡ true → IsWord u →
       IsOld d.temp y →
       held p.activation s (Operand a) ≡ Word u → held p.activation s (Operand y) ≡ Word b →
       Behaves p x (shifted op a y) d s 21 (word (shifted_as op u (b % 32))) (Result p.activation d None s)
@@ -154,7 +154,7 @@ module _ (p : Place) (x : World) (walks : Walks p) where
       same_word : (i k : ℕ) → word i ≡ word k → k ≡ i
       same_word i k e = cc
 
-      in_own : (to : Opnd) (d1 : Drawn) → Target d None to d1 →
+      in_own : (to : Opnd) (d1 : NumbersDrawn) → Target d None to d1 →
           Behaves p x (put (instr.Move to a) >> (shift_bits op to y >> give to)) d1 s 21 (word (shifted_as op u (b %
           32))) (Result p.activation d None s)
       in_own to d1 own =
@@ -202,11 +202,11 @@ module _ (p : Place) (x : World) (walks : Walks p) where
               }))
 
   -- the tile
-  pub by_word_tile : (op : Bin) (dest : Option Opnd) (left right : Choice Opnd) (d : Drawn) (s : Contents) (k l : ℕ)
+  pub by_word_tile : (op : Bin) (dest : Option Opnd) (left right : Choice Opnd) (d : NumbersDrawn) (s : Contents) (k l : ℕ)
       (g h : Given) →
       is_shift op ≡ true → IsAskable dest → ((u : ℕ) → g ≡ word u → IsWord u) →
       Behaves p x left d s k g (Result p.activation d None s) →
-      ((d2 : Drawn) (s1 : Contents) → d.temp ≤ d2.temp → Stay d.temp None s s1 → Behaves p x right d2 s1 l h (Result
+      ((d2 : NumbersDrawn) (s1 : Contents) → d.temp ≤ d2.temp → Stay d.temp None s s1 → Behaves p x right d2 s1 l h (Result
       p.activation d2 None s1)) →
       Behaves p x (left >>= (λ a. right >>= (λ y. shifted_into op dest a y))) d s
       (k + after_word g (l + after_word h (21 + extra dest))) (onward g (λ u. onward h (λ v. operate op u v)))
@@ -218,7 +218,7 @@ module _ (p : Place) (x : World) (walks : Walks p) where
       (known p x left d s k g (Result p.activation d None s) hl)
       (λ u s1 q. behind_left u s1 (left d).value (left d).drawn q.0 q.1)
     where
-      last : (u b : ℕ) (s1 s2 : Contents) (a y : Opnd) (d2 d3 : Drawn) → g ≡ word u → Result p.activation d None s a
+      last : (u b : ℕ) (s1 s2 : Contents) (a y : Opnd) (d2 d3 : NumbersDrawn) → g ≡ word u → Result p.activation d None s a
           d2 u s1 → Result p.activation d2 None s1 y d3 b s2 →
           Behaves p x (shifted_into op dest a y) d3 s2 (21 + extra dest) (operate op u b) (Result p.activation d dest s)
       last u b s1 s2 a y d2 d3 eg q r =
@@ -242,7 +242,7 @@ module _ (p : Place) (x : World) (walks : Walks p) where
           (stay_on d.temp d3.temp s s2 s3 (omega (arith, le, le2)) (stay_on d.temp d2.temp s s1 s2 le q.stay r.stay)
           c.stay) c.there c.holds))
 
-      behind_left : (u : ℕ) (s1 : Contents) (a : Opnd) (d2 : Drawn) → g ≡ word u → Result p.activation d None s a d2
+      behind_left : (u : ℕ) (s1 : Contents) (a : Opnd) (d2 : NumbersDrawn) → g ≡ word u → Result p.activation d None s a d2
           u s1 →
           Behaves p x (right >>= (λ y. shifted_into op dest a y)) d2 s1 (l + after_word h (21 + extra dest)) (onward
           h (λ v. operate op u v)) (Result p.activation d dest s)

@@ -32,7 +32,7 @@ use Rattle.tg_munch_values.proofs.Does.{does_within, does_onward}
 use Rattle.tg_munch_values.proofs.Expressions.{known_on, onward_same, value, spent}
 use Rattle.tg_munch_values.proofs.Loading.{expression_does, as_side}
 use Rattle.tg_munch_values.proofs.Results.{finish, own, stay_on, survives}
-use Rattle.tg_munch.specs.Choosing.{Choice, Drawn, ◌>>=◌}
+use Rattle.tg_munch.specs.Choosing.{Choice, NumbersDrawn, ◌>>=◌}
 use Rattle.tg_munch.specs.Comparing.{against, short_side, short_field, branch_short, branch_on, turned, can_turn}
 use Rattle.tg_munch.specs.Comparing.{is_constant, is_turned}
 use Rattle.tg_munch.specs.Munching.{expression, compared_with, compared, branch}
@@ -45,7 +45,7 @@ flag_is true = refl
 flag_is false = refl
 
 module _ (p : Place) (x : World) where
-  forks_compare : (c : Choice (Unit {0})) (d : Drawn) (s : Contents) (k : ℕ) (b : Bool) (m : ℕ) → Forks p x c d s k b
+  forks_compare : (c : Choice (Unit {0})) (d : NumbersDrawn) (s : Contents) (k : ℕ) (b : Bool) (m : ℕ) → Forks p x c d s k b
       m → Compares p x c d s k (word (flag b)) m
   forks_compare c d s k b m h rest part =
       let q = h rest in
@@ -53,7 +53,7 @@ module _ (p : Place) (x : World) where
       (record { contents = q.0; stay = q.1; is = ap (λ i. fork p x i m rest q.0) (flag_is b) })
 
   -- behind a side
-  side_then : (first : Choice Opnd) (next : Opnd → Choice (Unit {0})) (d : Drawn) (s : Contents) (k l : ℕ) (g :
+  side_then : (first : Choice Opnd) (next : Opnd → Choice (Unit {0})) (d : NumbersDrawn) (s : Contents) (k l : ℕ) (g :
       Given) (h : ℕ → Given) (m : ℕ) →
       Behaves p x first d s k g (Result p.activation d None s) →
       ((v : ℕ) (s1 : Contents) → g ≡ word v → Result p.activation d None s (first d).value (first d).drawn v s1 →
@@ -114,7 +114,7 @@ module _ (scene : Scene) where
   units e = spent scene e
 
   -- an operand and a right side
-  with_right : (r : Rel) (a : Opnd) (y : Tx) (mark u : ℕ) (d : Drawn) (s : Contents) → IsFlat y → HasWords y → IsWord
+  with_right : (r : Rel) (a : Opnd) (y : Tx) (mark u : ℕ) (d : NumbersDrawn) (s : Contents) → IsFlat y → HasWords y → IsWord
       u → Known temps d s →
       IsOld d.temp a → held place.activation s (Operand a) ≡ Word u →
       Compares place world (compared_with slots r a y mark) d s (units y + after_word (val y) 2) (onward (val y) (λ v. word
@@ -175,7 +175,7 @@ module _ (scene : Scene) where
           (survives place.activation d.temp a (Word u) s s1 old q.stay ha) q.holds))
 
   -- both sides
-  pub compared_does : (r : Rel) (a b : Tx) (mark : ℕ) (d : Drawn) (s : Contents) → IsFlat a → IsFlat b → HasWords a →
+  pub compared_does : (r : Rel) (a b : Tx) (mark : ℕ) (d : NumbersDrawn) (s : Contents) → IsFlat a → IsFlat b → HasWords a →
       HasWords b → Known temps d s →
       Compares place world (compared slots r a b mark) d s (units a + after_word (val a) (units b + after_word (val b) 2))
       (onward (val a) (λ u. onward (val b) (λ v. word (flag (holds r u v))))) mark
@@ -213,7 +213,7 @@ module _ (scene : Scene) where
   both_are true false k e = absurd (no e)
   both_are false j k e = absurd (no e)
 
-  compares_as : (c : Choice (Unit {0})) (d : Drawn) (s : Contents) (k l : ℕ) (g h : Given) (mark : ℕ) → k ≤ l → g ≡ h →
+  compares_as : (c : Choice (Unit {0})) (d : NumbersDrawn) (s : Contents) (k l : ℕ) (g h : Given) (mark : ℕ) → k ≤ l → g ≡ h →
       Compares place world c d s k g mark → Compares place world c d s l h mark
   compares_as c d s k l g h mark le e f rest part = subst (λ i. Does world (λ w z. Forked place world (w == 1) mark rest d s z) l
       (goes place world ((c d).code ++ rest) s) i) e (does_within world _ k l _ g le (f rest part))
@@ -223,7 +223,7 @@ module _ (scene : Scene) where
   after_four (stops_by z) = omega arith
 
   -- a branch, with two units for itself at most
-  pub branch_does : (r : Rel) (a b : Tx) (mark : ℕ) (d : Drawn) (s : Contents) → IsFlat a → IsFlat b → HasWords a →
+  pub branch_does : (r : Rel) (a b : Tx) (mark : ℕ) (d : NumbersDrawn) (s : Contents) → IsFlat a → IsFlat b → HasWords a →
       HasWords b → Known temps d s →
       Compares place world (branch slots r a b mark) d s (units a + after_word (val a) (units b + after_word (val b) 2))
       (onward (val a) (λ u. onward (val b) (λ v. word (flag (holds r u v))))) mark
@@ -257,7 +257,7 @@ module _ (scene : Scene) where
       by false e = compared_does r a b mark d s fa fb ha hb known
 
   -- A comparison whose left side is in hi: a move from there, and the right side.
-  pub in_hi_does : (r : Rel) (y : Tx) (mark u : ℕ) (d : Drawn) (s : Contents) →
+  pub in_hi_does : (r : Rel) (y : Tx) (mark u : ℕ) (d : NumbersDrawn) (s : Contents) →
       IsFlat y → HasWords y → IsWord u → Known temps d s → s Hi ≡ Word u →
       Compares place world (compared_in_hi slots r y mark) d s (1 + (units y + after_word (val y) 2))
       (onward (val y) (λ v. word (flag (holds r u v)))) mark
@@ -271,7 +271,7 @@ module _ (scene : Scene) where
           (onward (word u) (λ i. onward (val y) (λ v. word (flag (holds r u v))))) mark
       in_own =
           let to = temp d.temp in
-          let d1 : Drawn = record d { temp = d.temp + 1 } in
+          let d1 : NumbersDrawn = record d { temp = d.temp + 1 } in
           side_then place world (λ e. defining (Mfhi to) to d1) (λ a. compared_with slots r a y mark) d s 1 (units y + after_word (val y) 2)
           (word u) (λ i. onward (val y) (λ v. word (flag (holds r u v)))) mark
           (so place world (λ e. defining (Mfhi to) to d1) d s 1 (word u) (λ a e v s1. s1 ≡ set (Operand to) (Word v) s)

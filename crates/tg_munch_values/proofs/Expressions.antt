@@ -20,7 +20,7 @@ use Rattle.tg_instr.specs.declared.instr.Instr.TheVariants as instr
 use Rattle.tg_instr.specs.Shapes.{Base, AddressOf}
 use Rattle.tg_instr.specs.Contents.{Word, Contents}
 use Rattle.tg_instr.specs.Meaning.{put_in}
-use Rattle.tg_munch.specs.Choosing.{Drawn, ◌>>=◌, give, choose, defining}
+use Rattle.tg_munch.specs.Choosing.{NumbersDrawn, ◌>>=◌, give, choose, defining}
 use Rattle.tg_munch.specs.Tiles.{nothing, constant, immediate, constant_side, exchanged_side, first_tile, tiled}
 use Rattle.tg_munch.specs.Tiles.{is_shift, commutes, moved, operated, shifted_into, with_field}
 use Rattle.tg_munch.specs.Munching.{temp, expression, fresh_constant}
@@ -106,7 +106,7 @@ left_is op x one e = by (commutes op) refl e
     by true c h = (c, h)
     by false c h = absurd (none_is_some _ h)
 
-pub known_on : (t : Temps) (d d1 : Drawn) (s s1 : Contents) → d.temp ≤ d1.temp → Stay d.temp None s s1 → Known t d s
+pub known_on : (t : Temps) (d d1 : NumbersDrawn) (s s1 : Contents) → d.temp ≤ d1.temp → Stay d.temp None s s1 → Known t d s
     → Known t d1 s1
 known_on t d d1 s s1 le stay h i v e =
     let q = h i v e in
@@ -141,12 +141,12 @@ module _ (scene : Scene) where
   abbrev pub spent : Tx → ℕ
   spent e = flat_spent Canonical place.code.literals place.activation.base memory temps e
 
-  abbrev pub Comes_to : Tx → Option Opnd → Drawn → Contents → Type 0
+  abbrev pub Comes_to : Tx → Option Opnd → NumbersDrawn → Contents → Type 0
   Comes_to e dest d s = Behaves place world (expression slots e dest) d s (spent e + extra dest) (value e) (Result
       place.activation d dest s)
 
   -- constants and addresses
-  in_target : (n : ℕ) (dest : Option Opnd) (d : Drawn) (s : Contents) (to : Opnd) (d1 : Drawn) → IsWord n → Target d
+  in_target : (n : ℕ) (dest : Option Opnd) (d : NumbersDrawn) (s : Contents) (to : Opnd) (d1 : NumbersDrawn) → IsWord n → Target d
       dest to d1 →
       Behaves place world (constant to n) d1 s 2 (word n) (Result place.activation d dest s)
   in_target n dest d s to d1 small target =
@@ -155,7 +155,7 @@ module _ (scene : Scene) where
       target (omega arith) (λ y i j. refl) e)
       (constant_does place world to n d1 s (target_settable d dest to d1 target) small)
 
-  pub const_does : (n : ℕ) (dest : Option Opnd) (d : Drawn) (s : Contents) → IsWord n → IsAskable dest → Comes_to
+  pub const_does : (n : ℕ) (dest : Option Opnd) (d : NumbersDrawn) (s : Contents) → IsWord n → IsAskable dest → Comes_to
       (tree.Const n) dest d s
   const_does n (Some to) d s small askable =
       weaker place world (constant to n) d s 2 3 (word n) (word n) (Result place.activation d (Some to) s) (omega arith) refl
@@ -176,8 +176,8 @@ module _ (scene : Scene) where
           (choosing place world (λ to. constant to n) None d s 2 (word n) (Result place.activation d None s) tt
           (λ to d1 target. in_target n None d s to d1 small target))
 
-  one_defined : (one : Opnd → Instr) (dest : Option Opnd) (d : Drawn) (s : Contents) (g : Given) → IsAskable dest →
-      ((to : Opnd) (d1 : Drawn) → Target d dest to d1 → Behaves place world (defining (one to) to) d1 s 1 g (Sets to d1 s)) →
+  one_defined : (one : Opnd → Instr) (dest : Option Opnd) (d : NumbersDrawn) (s : Contents) (g : Given) → IsAskable dest →
+      ((to : Opnd) (d1 : NumbersDrawn) → Target d dest to d1 → Behaves place world (defining (one to) to) d1 s 1 g (Sets to d1 s)) →
       Behaves place world (choose dest >>= (λ to. defining (one to) to)) d s (1 + extra dest) g (Result place.activation d dest s)
   one_defined one dest d s g askable h =
       choosing place world (λ to. defining (one to) to) dest d s (1 + extra dest) g (Result place.activation d dest s) askable
@@ -187,7 +187,7 @@ module _ (scene : Scene) where
       (λ v s1 e. finish_sets place.activation d dest to d1 d1 v s s s1 to d1 target (omega arith) (λ y i j. refl) e) (h
       to d1 target)))
 
-  pub address_does : (label : ℕ) (dest : Option Opnd) (d : Drawn) (s : Contents) → IsAskable dest → Comes_to
+  pub address_does : (label : ℕ) (dest : Option Opnd) (d : NumbersDrawn) (s : Contents) → IsAskable dest → Comes_to
       (tree.Address label) dest d s
   address_does label dest d s askable =
       let one = (λ (to : Opnd). instr.Address to (record { 0 = label })) in
@@ -198,7 +198,7 @@ module _ (scene : Scene) where
       target) (said_or place world o)
       (λ n. with_or place world o (λ v. put_in to (Word v) (here place) (λ w1 s1. goes place w1 rest s1) world s) n)))
 
-  pub frame_does : (dest : Option Opnd) (d : Drawn) (s : Contents) → IsAskable dest → Comes_to tree.FrameAddress dest
+  pub frame_does : (dest : Option Opnd) (d : NumbersDrawn) (s : Contents) → IsAskable dest → Comes_to tree.FrameAddress dest
       d s
   frame_does dest d s askable =
       one_defined (λ to. instr.FrameAddress to) dest d s (word place.activation.base) askable
@@ -206,7 +206,7 @@ module _ (scene : Scene) where
       (λ rest. sets place world (instr.FrameAddress to) to (Base to) (word place.activation.base) rest s refl (target_settable d
       dest to d1 target) tt (λ n. refl)))
 
-  pub temp_does : (i : ℕ) (dest : Option Opnd) (d : Drawn) (s : Contents) → IsAskable dest → Known temps d s → Comes_to
+  pub temp_does : (i : ℕ) (dest : Option Opnd) (d : NumbersDrawn) (s : Contents) → IsAskable dest → Known temps d s → Comes_to
       (tree.Temp i) dest d s
   temp_does i dest d s askable known = by (temps i) refl
     where
@@ -220,8 +220,8 @@ module _ (scene : Scene) where
           (moved_does place world walks dest (temp i) d s s d v askable (omega arith) (λ y j k. refl) q.0 q.1)
 
   -- operators, where their sides do
-  abbrev pub Sides : Tx → Drawn → Contents → Type 0
-  Sides e d s = (d1 : Drawn) (s1 : Contents) → d.temp ≤ d1.temp → Stay d.temp None s s1 → Behaves place world (expression
+  abbrev pub Sides : Tx → NumbersDrawn → Contents → Type 0
+  Sides e d s = (d1 : NumbersDrawn) (s1 : Contents) → d.temp ≤ d1.temp → Stay d.temp None s s1 → Behaves place world (expression
       slots e None) d1 s1 (spent e) (value e) (Result place.activation d1 None s1)
 
   -- no side stands in a field
@@ -230,7 +230,7 @@ module _ (scene : Scene) where
   sums (word i) h k l u v e le = let less = after_within h v (u + e) le in omega (arith, less)
   sums (stops_by z) h k l u v e le = omega arith
 
-  two_sides : (op : Bin) (a b : Tx) (dest : Option Opnd) (d : Drawn) (s : Contents) → IsFlat a → IsFlat b → HasWords
+  two_sides : (op : Bin) (a b : Tx) (dest : Option Opnd) (d : NumbersDrawn) (s : Contents) → IsFlat a → IsFlat b → HasWords
       a → HasWords b → IsAskable dest →
       Sides a d s → Sides b d s → is_shift op ≡ false →
       Behaves place world (choose dest >>= (λ to. expression slots a None >>= (λ y. expression slots b None >>= (λ z.
@@ -248,7 +248,7 @@ module _ (scene : Scene) where
       a) (value b) other askable
       (λ u e. sees.words a u fa ha e) (λ v e. sees.words b v fb hb e) (λ d1 le. da d1 s le (λ y i j. refl)) db)
 
-  by_word : (op : Bin) (a b : Tx) (dest : Option Opnd) (d : Drawn) (s : Contents) → IsFlat a → HasWords a → IsAskable
+  by_word : (op : Bin) (a b : Tx) (dest : Option Opnd) (d : NumbersDrawn) (s : Contents) → IsFlat a → HasWords a → IsAskable
       dest →
       Sides a d s → Sides b d s → is_shift op ≡ true → constant_side op b ≡ None →
       Behaves place world (expression slots a None >>= (λ y. expression slots b None >>= (λ z. shifted_into op dest y z))) d s
@@ -266,7 +266,7 @@ module _ (scene : Scene) where
       (value a) (value b) shifts askable
       (λ u e. sees.words a u fa ha e) (da d s (omega arith) (λ y i j. refl)) db)
 
-  operands_do : (op : Bin) (a b : Tx) (dest : Option Opnd) (d : Drawn) (s : Contents) → IsFlat a → IsFlat b →
+  operands_do : (op : Bin) (a b : Tx) (dest : Option Opnd) (d : NumbersDrawn) (s : Contents) → IsFlat a → IsFlat b →
       HasWords a → HasWords b → IsAskable dest →
       Sides a d s → Sides b d s → constant_side op b ≡ None →
       Behaves place world (tiled op (first_tile op None None) dest (expression slots a None) (expression slots b None)) d s
@@ -298,7 +298,7 @@ module _ (scene : Scene) where
   operands_do bin.ShiftSigned a b dest d s fa fb ha hb askable da db none = by_word bin.ShiftSigned a b dest d s fa
       ha askable da db refl none
 
-  pub binary_does : (op : Bin) (a b : Tx) (dest : Option Opnd) (d : Drawn) (s : Contents) → IsFlat a → IsFlat b →
+  pub binary_does : (op : Bin) (a b : Tx) (dest : Option Opnd) (d : NumbersDrawn) (s : Contents) → IsFlat a → IsFlat b →
       HasWords a → HasWords b → IsAskable dest →
       Sides a d s → Sides b d s → Comes_to (tree.Binary op a b) dest d s
   binary_does op a b dest d s fa fb ha hb askable da db = by (constant_side op b) refl (exchanged_side op a) refl

@@ -12,7 +12,7 @@ use Rattle.tg_tree.specs.declared.operators.Rel.TheVariants as rel
 use Rattle.tg_instr.specs.declared.operands.Opnd.{Opnd}
 use Rattle.tg_instr.specs.declared.operands.Opnd.TheVariants.{Reg}
 use Rattle.tg_instr.specs.declared.instr.Instr.{Instr}
-use Rattle.tg_munch.specs.Choosing.{Choice, Drawn, ◌>>=◌, give, put, fresh, fresh_mark, choose, defining}
+use Rattle.tg_munch.specs.Choosing.{Choice, NumbersDrawn, ◌>>=◌, give, put, fresh, fresh_mark, choose, defining}
 use Rattle.tg_munch.specs.Arguments.{is_in_register, is_in_frame, is_anywhere, one_may_end, ordered}
 use Rattle.tg_munch.specs.Tiles.{nothing, is_small, slot, constant, offset, based, loaded, loaded_byte, moved}
 use Rattle.tg_munch.specs.Tiles.{constant_side, exchanged_side, first_tile, tile, tiled, operated, with_field}
@@ -28,7 +28,7 @@ use Rattle.tg_munch.specs.Bodies.{kept, from_register, load_above, from_word, fr
 use Rattle.tg_munch_values.proofs.Fields.{taken}
 
 pub record Grows {A : Type 0} (choice : Choice A) : Type 0 where
-  pub temps : (d : Drawn) → d.temp ≤ (choice d).drawn.temp
+  pub temps : (d : NumbersDrawn) → d.temp ≤ (choice d).drawn.temp
 
 pub behind_it : {A B : Type 0} {first : Choice A} {onward : A → Choice B} → Grows first → ((a : A) → Grows (onward a)) →
     Grows (first >>= onward)

@@ -18,7 +18,7 @@ use Rattle.tg_instr.specs.declared.instr.Instr.TheVariants as instr
 use Rattle.tg_instr.specs.Shapes.{Operand, Loads, FromSlot, shape}
 use Rattle.tg_instr.specs.Contents.{Word, Contents, held, content_of}
 use Rattle.tg_instr.specs.Meaning.{put_in, with_content_word, with_content}
-use Rattle.tg_munch.specs.Choosing.{Drawn, ◌>>=◌, give, defining}
+use Rattle.tg_munch.specs.Choosing.{NumbersDrawn, ◌>>=◌, give, defining}
 use Rattle.tg_munch.specs.Tiles as tiles
 use Rattle.tg_munch.specs.Tiles.{is_small, field, negated, field_of, offset_by, based, behind, loaded, loaded_byte}
 use Rattle.tg_munch.specs.Munching.{expression, based_at, loaded_at, byte_at}
@@ -63,11 +63,11 @@ module _ (scene : Scene) where
   abbrev pub units : Tx → ℕ
   units e = spent scene e
 
-  abbrev pub SideDoes : Tx → Drawn → Contents → Type 0
+  abbrev pub SideDoes : Tx → NumbersDrawn → Contents → Type 0
   SideDoes e d s = Sides scene e d s
 
   -- an address: an operand with a word and so many bytes behind it
-  pub record Located (d : Drawn) (s : Contents) (bytes : ℕ) (y : Opnd) (d1 : Drawn) (v : ℕ) (s1 : Contents) : Type 0
+  pub record Located (d : NumbersDrawn) (s : Contents) (bytes : ℕ) (y : Opnd) (d1 : NumbersDrawn) (v : ℕ) (s1 : Contents) : Type 0
     where
       pub address : ℕ
       pub holds : held place.activation s1 (Operand y) ≡ Word address
@@ -88,7 +88,7 @@ module _ (scene : Scene) where
       ap word (sym (sub_is_add u c h))))
   offset_is _ _ n u h e = absurd (none_is_some _ e)
 
-  whole_based : (e : Tx) (d : Drawn) (s : Contents) → IsFlat e → HasWords e → SideDoes e d s →
+  whole_based : (e : Tx) (d : NumbersDrawn) (s : Contents) → IsFlat e → HasWords e → SideDoes e d s →
       Behaves place world (expression slots e None >>= (λ b. give (behind 0 b))) d s (units e) (val e) (λ b d1 v s1. Located
       d s b.bytes b.operand d1 v s1)
   whole_based e d s flat small side =
@@ -116,7 +116,7 @@ module _ (scene : Scene) where
       itself_on (word v) = refl
       itself_on (stops_by z) = refl
 
-  left_based : (op : Bin) (a b : Tx) (n : ℕ) (d : Drawn) (s : Contents) → HasWords b → offset_by op b ≡ Some n →
+  left_based : (op : Bin) (a b : Tx) (n : ℕ) (d : NumbersDrawn) (s : Contents) → HasWords b → offset_by op b ≡ Some n →
       SideDoes a d s →
       Behaves place world (expression slots a None >>= (λ y. give (behind n y))) d s (units (tree.Binary op a b)) (val
       (tree.Binary op a b))
@@ -137,11 +137,11 @@ module _ (scene : Scene) where
       (record { address = u; holds = q.holds; is = refl; stay = q.stay; there = q.there; drawn = q.drawn })))
 
   -- what an address needs of its parts
-  abbrev pub LeftDoes : Tx → Drawn → Contents → Type 0
+  abbrev pub LeftDoes : Tx → NumbersDrawn → Contents → Type 0
   LeftDoes (tree.Binary op a b) d s = SideDoes a d s
   LeftDoes _ d s = Unit {0}
 
-  pub located : (e : Tx) (d : Drawn) (s : Contents) → IsFlat e → HasWords e → SideDoes e d s → LeftDoes e d s →
+  pub located : (e : Tx) (d : NumbersDrawn) (s : Contents) → IsFlat e → HasWords e → SideDoes e d s → LeftDoes e d s →
       Behaves place world (based_at slots e) d s (units e) (val e) (λ y d1 v s1. Located d s y.bytes y.operand d1 v s1)
   located (tree.Binary op a b) d s flat small side left = by (offset_by op b) refl
     where
@@ -163,7 +163,7 @@ module _ (scene : Scene) where
 
   -- a load from there
   from_there : (f : Memory → ℕ → Option ℕ) (one : Instr) (to y : Opnd) (bytes v : ℕ) (dest : Option Opnd) (d d1 d2 :
-      Drawn) (s s1 : Contents) →
+      NumbersDrawn) (s s1 : Contents) →
       shape one ≡ Loads to y (extended bytes) f → ((a r : ℕ) → f memory a ≡ Some r → f world.memory a ≡ Some r) → Target d
       dest to d1 → Located d1 s bytes y d2 v s1 →
       Behaves place world (defining one to) d2 s1 1 (or_wrong (f memory v)) (Result place.activation d dest s)
@@ -201,7 +201,7 @@ module _ (scene : Scene) where
       by false b q = absurd (none_is_some k q)
   slot_is _ k e = absurd (none_is_some k e)
 
-  from_slot : (k : ℕ) (to : Opnd) (dest : Option Opnd) (d d1 : Drawn) (s : Contents) → k < slots → Target d dest to d1 →
+  from_slot : (k : ℕ) (to : Opnd) (dest : Option Opnd) (d d1 : NumbersDrawn) (s : Contents) → k < slots → Target d dest to d1 →
       Behaves place world (defining (instr.FrameLoad to k) to) d1 s 1 (or_wrong (load memory (sub place.activation.base (4 * (k +
       1))))) (Result place.activation d dest s)
   from_slot k to dest d d1 s lt target = by (load memory (sub place.activation.base (4 * (k + 1)))) refl
@@ -225,8 +225,8 @@ module _ (scene : Scene) where
           (sees.slot_loads k r lt e))))
 
   -- a word, or a byte, at an address
-  load_does : (e : Tx) (dest : Option Opnd) (d : Drawn) (s : Contents) → IsFlat e → HasWords e → IsAskable dest →
-      ((d1 : Drawn) → d.temp ≤ d1.temp → SideDoes e d1 s) → ((d1 : Drawn) → d.temp ≤ d1.temp → LeftDoes e d1 s) →
+  load_does : (e : Tx) (dest : Option Opnd) (d : NumbersDrawn) (s : Contents) → IsFlat e → HasWords e → IsAskable dest →
+      ((d1 : NumbersDrawn) → d.temp ≤ d1.temp → SideDoes e d1 s) → ((d1 : NumbersDrawn) → d.temp ≤ d1.temp → LeftDoes e d1 s) →
       Behaves place world (loaded_at slots e dest) d s (1 + units e + extra dest) (val (tree.Load e)) (Result place.activation d
       dest s)
   load_does e dest d s flat small askable side left =
@@ -234,7 +234,7 @@ module _ (scene : Scene) where
       (tree.Load e)) (Result place.activation d dest s) askable
       (λ to d1 target. by to d1 target (tiles.slot slots e) refl)
     where
-      by : (to : Opnd) (d1 : Drawn) → Target d dest to d1 → (o : Option ℕ) → tiles.slot slots e ≡ o →
+      by : (to : Opnd) (d1 : NumbersDrawn) → Target d dest to d1 → (o : Option ℕ) → tiles.slot slots e ≡ o →
           Behaves place world (loaded o (based_at slots e) to) d1 s (1 + units e + extra dest) (val (tree.Load e)) (Result
           place.activation d dest s)
       by to d1 target (Some k) at =
@@ -254,8 +254,8 @@ module _ (scene : Scene) where
           from_there load (instr.Lw to y.bytes y.operand) to y.operand y.bytes v dest d d1 (based_at slots e
           d1).drawn s s1 refl sees.loads target q)
 
-  byte_does : (e : Tx) (dest : Option Opnd) (d : Drawn) (s : Contents) → IsFlat e → HasWords e → IsAskable dest →
-      ((d1 : Drawn) → d.temp ≤ d1.temp → SideDoes e d1 s) → ((d1 : Drawn) → d.temp ≤ d1.temp → LeftDoes e d1 s) →
+  byte_does : (e : Tx) (dest : Option Opnd) (d : NumbersDrawn) (s : Contents) → IsFlat e → HasWords e → IsAskable dest →
+      ((d1 : NumbersDrawn) → d.temp ≤ d1.temp → SideDoes e d1 s) → ((d1 : NumbersDrawn) → d.temp ≤ d1.temp → LeftDoes e d1 s) →
       Behaves place world (byte_at slots e dest) d s (1 + units e + extra dest) (val (tree.LoadByte e)) (Result place.activation
       d dest s)
   byte_does e dest d s flat small askable side left =
@@ -273,15 +273,15 @@ module _ (scene : Scene) where
 
   -- Each flat expression.
   abbrev pub DoesIt : Tx → Type 0
-  DoesIt e = (dest : Option Opnd) (d : Drawn) (s : Contents) → IsAskable dest → Known temps d s → Comes_to scene e dest d s
+  DoesIt e = (dest : Option Opnd) (d : NumbersDrawn) (s : Contents) → IsAskable dest → Known temps d s → Comes_to scene e dest d s
 
-  pub as_side : (e : Tx) (d : Drawn) (s : Contents) → Known temps d s → DoesIt e → SideDoes e d s
+  pub as_side : (e : Tx) (d : NumbersDrawn) (s : Contents) → Known temps d s → DoesIt e → SideDoes e d s
   as_side e d s known does d1 s1 le stay =
       weaker place world (expression slots e None) d1 s1 (units e + 0) (units e) (val e) (val e) (Result place.activation d1 None
       s1) (omega arith) refl
       (does None d1 s1 tt (known_on temps d d1 s s1 le stay known))
 
-  loads_it : (e : Tx) → IsFlat e → HasWords e → DoesIt e → ((d : Drawn) (s : Contents) → Known temps d s → LeftDoes e d
+  loads_it : (e : Tx) → IsFlat e → HasWords e → DoesIt e → ((d : NumbersDrawn) (s : Contents) → Known temps d s → LeftDoes e d
       s) → DoesIt (tree.Load e)
   loads_it e flat small does left dest d s askable known =
       subst (λ c. Behaves place world c d s (1 + units e + extra dest) (val (tree.Load e)) (Result place.activation d dest s))
@@ -290,7 +290,7 @@ module _ (scene : Scene) where
       (λ d1 le. as_side e d1 s (known_on temps d d1 s s le (λ y i j. refl) known) does)
       (λ d1 le. left d1 s (known_on temps d d1 s s le (λ y i j. refl) known)))
 
-  bytes_it : (e : Tx) → IsFlat e → HasWords e → DoesIt e → ((d : Drawn) (s : Contents) → Known temps d s → LeftDoes e d
+  bytes_it : (e : Tx) → IsFlat e → HasWords e → DoesIt e → ((d : NumbersDrawn) (s : Contents) → Known temps d s → LeftDoes e d
       s) → DoesIt (tree.LoadByte e)
   bytes_it e flat small does left dest d s askable known =
       subst (λ c. Behaves place world c d s (1 + units e + extra dest) (val (tree.LoadByte e)) (Result place.activation d dest

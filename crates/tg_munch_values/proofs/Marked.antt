@@ -12,7 +12,7 @@ use Rattle.tg_instr.specs.declared.instr.Instr.{Instr}
 use Rattle.tg_instr.specs.declared.instr.Instr.TheVariants.{Mark}
 use Rattle.tg_instr.specs.Codes.{is_mark, marks_differ}
 use Rattle.tg_instr.specs.Running.{behind}
-use Rattle.tg_munch.specs.Choosing.{Drawn, ◌>>=◌}
+use Rattle.tg_munch.specs.Choosing.{NumbersDrawn, ◌>>=◌}
 use Rattle.tg_munch.specs.Munching.{element, elements}
 use Rattle.tg_munch_values.proofs.Growing.{element_grows}
 
@@ -24,14 +24,14 @@ none_is x e = cc
 
 module _ (slots keeps : ℕ) where
   -- the instructions of elements, with a mark and what is behind it
-  pub record Found (m : ℕ) (before : Option Linear) (es rest : List Linear) (d : Drawn) : Type 0 where
-    pub drawn : Drawn
+  pub record Found (m : ℕ) (before : Option Linear) (es rest : List Linear) (d : NumbersDrawn) : Type 0 where
+    pub drawn : NumbersDrawn
     pub front : List Instr
     pub grows : d.temp ≤ drawn.temp
     pub is : (elements slots keeps before es d).code ≡ front ++ (Mark m ∷ (elements slots keeps (Some (tree.Mark m))
         rest drawn).code)
 
-  pub further : (m : ℕ) (before : Option Linear) (e : Linear) (es rest : List Linear) (d : Drawn) →
+  pub further : (m : ℕ) (before : Option Linear) (e : Linear) (es rest : List Linear) (d : NumbersDrawn) →
       Found m (Some e) es rest (element slots keeps before e d).drawn → Found m before (e ∷ es) rest d
   unfolding ◌>>=◌
   further m before e es rest d f = record {
@@ -46,7 +46,7 @@ module _ (slots keeps : ℕ) where
         (tree.Mark m)) rest f.drawn).code));
   }
 
-  here : (m : ℕ) (before : Option Linear) (es rest : List Linear) (d : Drawn) → es ≡ rest → Found m before (tree.Mark
+  here : (m : ℕ) (before : Option Linear) (es rest : List Linear) (d : NumbersDrawn) → es ≡ rest → Found m before (tree.Mark
       m ∷ es) rest d
   unfolding ◌>>=◌
   here m before es rest d e = record {
@@ -56,7 +56,7 @@ module _ (slots keeps : ℕ) where
     is = ap (λ xs. Mark m ∷ (elements slots keeps (Some (tree.Mark m)) xs d).code) e;
   }
 
-  at_mark : (m k : ℕ) (before : Option Linear) (es rest : List Linear) (d : Drawn) (b : Bool) → (k == m) ≡ b →
+  at_mark : (m k : ℕ) (before : Option Linear) (es rest : List Linear) (d : NumbersDrawn) (b : Bool) → (k == m) ≡ b →
       (if b then Some es else flat.behind m es) ≡ Some rest →
       (flat.behind m es ≡ Some rest → Found m (Some (tree.Mark k)) es rest (element slots keeps before (tree.Mark k)
       d).drawn) →
@@ -66,7 +66,7 @@ module _ (slots keeps : ℕ) where
       es rest h))
   at_mark m k before es rest d false e h next = further m before (tree.Mark k) es rest d (next h)
 
-  pub found : (m : ℕ) (before : Option Linear) (es rest : List Linear) (d : Drawn) → flat.behind m es ≡ Some rest →
+  pub found : (m : ℕ) (before : Option Linear) (es rest : List Linear) (d : NumbersDrawn) → flat.behind m es ≡ Some rest →
       Found m before es rest d
   found m before [] rest d h = absurd (none_is rest h)
   found m before (tree.Mark k ∷ es) rest d h = at_mark m k before es rest d (k == m) refl h (λ g. found m (Some

@@ -15,7 +15,7 @@ use Rattle.tg_instr.specs.declared.instr.Instr.{Instr}
 use Rattle.tg_instr.specs.declared.instr.Instr.TheVariants as instr
 use Rattle.tg_instr.specs.Shapes.{Operand, Hi, Lo, From2, shape, unless_zero}
 use Rattle.tg_instr.specs.Contents.{Word, Contents, set, held}
-use Rattle.tg_munch.specs.Choosing.{Choice, Drawn, ◌>>=◌, choose, put, defining}
+use Rattle.tg_munch.specs.Choosing.{Choice, NumbersDrawn, ◌>>=◌, choose, put, defining}
 use Rattle.tg_munch.specs.Tiles.{operated, is_shift}
 use Rattle.tg_munch_values.specs.Places.{unsaid, Place, Behaves}
 use Rattle.tg_munch_values.specs.Values.{IsSettable, Result, Stay, IsAskable}
@@ -31,7 +31,7 @@ no e = cc
 
 module _ (p : Place) (x : World) where
   -- by one instruction
-  by_one : (op : Bin) (one : Instr) (to a b : Opnd) (f : ℕ → ℕ → Given) (d : Drawn) (s : Contents) (u v : ℕ) → shape
+  by_one : (op : Bin) (one : Instr) (to a b : Opnd) (f : ℕ → ℕ → Given) (d : NumbersDrawn) (s : Contents) (u v : ℕ) → shape
       one ≡ From2 to a b f →
       IsSettable to → f u v ≡ operate op u v → held p.activation s (Operand a) ≡ Word u → held p.activation s
       (Operand b) ≡ Word v →
@@ -42,7 +42,7 @@ module _ (p : Place) (x : World) where
       (λ rest. from2 p x one to a b f u v rest s is settable (subst (λ g. IsSaid g) (sym same) (said op u v)) ha hb))
 
   -- a product, whose lower or upper word is wanted
-  low_does : (to a b : Opnd) (d : Drawn) (s : Contents) (u v : ℕ) → IsSettable to → IsWord u → IsWord v →
+  low_does : (to a b : Opnd) (d : NumbersDrawn) (s : Contents) (u v : ℕ) → IsSettable to → IsWord u → IsWord v →
       held p.activation s (Operand a) ≡ Word u → held p.activation s (Operand b) ≡ Word v →
       Behaves p x (operated bin.Mul to a b) d s 2 (word (mul u v)) (Sets to d s)
   low_does to a b d s u v settable wu wv ha hb =
@@ -56,7 +56,7 @@ module _ (p : Place) (x : World) where
       (λ rest. from1 p x (instr.Mflo to) to Lo (λ i. word i) l rest (set Lo (Word l) (set Hi (Word h) s)) refl
       settable tt refl))
 
-  high_does : (to a b : Opnd) (d : Drawn) (s : Contents) (u v : ℕ) → IsSettable to →
+  high_does : (to a b : Opnd) (d : NumbersDrawn) (s : Contents) (u v : ℕ) → IsSettable to →
       held p.activation s (Operand a) ≡ Word u → held p.activation s (Operand b) ≡ Word v →
       Behaves p x (operated bin.MulHigh to a b) d s 2 (word (product_high u v)) (Sets to d s)
   high_does to a b d s u v settable ha hb =
@@ -69,7 +69,7 @@ module _ (p : Place) (x : World) where
       settable tt refl)
 
   -- a quotient: a division by 0 has gone wrong
-  quotient_does : (to a b : Opnd) (d : Drawn) (s : Contents) (u v : ℕ) → IsSettable to →
+  quotient_does : (to a b : Opnd) (d : NumbersDrawn) (s : Contents) (u v : ℕ) → IsSettable to →
       held p.activation s (Operand a) ≡ Word u → held p.activation s (Operand b) ≡ Word v →
       Behaves p x (operated bin.Div to a b) d s 2 (operate bin.Div u v) (Sets to d s)
   quotient_does to a b d s u v settable ha hb = by (v == 0) refl
@@ -86,7 +86,7 @@ module _ (p : Place) (x : World) where
           (λ rest. from1 p x (instr.Mflo to) to Lo (λ i. word i) (quot u v) rest (set Lo (Word (quot u v)) (set Hi
           (Word (rem u v)) s)) refl settable tt refl)
 
-  pub operated_does : (op : Bin) (y : Tx) (to a b : Opnd) (d : Drawn) (s : Contents) (u v : ℕ) → is_shift op ≡ false
+  pub operated_does : (op : Bin) (y : Tx) (to a b : Opnd) (d : NumbersDrawn) (s : Contents) (u v : ℕ) → is_shift op ≡ false
       → IsSettable to → IsWord u → IsWord v →
       held p.activation s (Operand a) ≡ Word u → held p.activation s (Operand b) ≡ Word v →
       Behaves p x (operated op to a b) d s (operator_units op y) (operate op u v) (Sets to d s)
@@ -116,14 +116,14 @@ module _ (p : Place) (x : World) where
   Behind g h More s = (u : ℕ) × ((v : ℕ) × ((g ≡ word u) × (h ≡ word v) × More u v s))
 
   -- an operator on two sides
-  pub operands_leave : (op : Bin) (units : ℕ) (dest : Option Opnd) (left right : Choice Opnd) (d : Drawn) (s : Contents)
+  pub operands_leave : (op : Bin) (units : ℕ) (dest : Option Opnd) (left right : Choice Opnd) (d : NumbersDrawn) (s : Contents)
       (k l : ℕ) (g h : Given) (More : ℕ → ℕ → Contents → Type 0) →
-      ((to a b : Opnd) (d1 : Drawn) (s1 : Contents) (u v : ℕ) → IsSettable to → IsWord u → IsWord v →
+      ((to a b : Opnd) (d1 : NumbersDrawn) (s1 : Contents) (u v : ℕ) → IsSettable to → IsWord u → IsWord v →
       held p.activation s1 (Operand a) ≡ Word u → held p.activation s1 (Operand b) ≡ Word v →
       Behaves p x (operated op to a b) d1 s1 units (operate op u v) (λ z e w s2. Sets to d1 s1 z e w s2 × More u v s2)) →
       IsAskable dest → ((u : ℕ) → g ≡ word u → IsWord u) → ((v : ℕ) → h ≡ word v → IsWord v) →
-      ((d1 : Drawn) → d.temp ≤ d1.temp → Behaves p x left d1 s k g (Result p.activation d1 None s)) →
-      ((d2 : Drawn) (s1 : Contents) → d.temp ≤ d2.temp → Stay d.temp None s s1 →
+      ((d1 : NumbersDrawn) → d.temp ≤ d1.temp → Behaves p x left d1 s k g (Result p.activation d1 None s)) →
+      ((d2 : NumbersDrawn) (s1 : Contents) → d.temp ≤ d2.temp → Stay d.temp None s s1 →
       Behaves p x right d2 s1 l h (Result p.activation d2 None s1)) →
       Behaves p x (choose dest >>= (λ to. left >>= (λ a. right >>= (λ b. operated op to a b)))) d s
       (k + after_word g (l + after_word h units)) (onward g (λ u. onward h (λ v. operate op u v)))
@@ -133,7 +133,7 @@ module _ (p : Place) (x : World) where
       (onward g (λ u. onward h (λ v. operate op u v))) (λ z e w s2. Result p.activation d dest s z e w s2 × Behind g h More s2)
       askable behind_choice
     where
-      last : (to : Opnd) (d1 : Drawn) → Target d dest to d1 → (u v : ℕ) (s1 s2 : Contents) (a b : Opnd) (d2 d3 : Drawn) →
+      last : (to : Opnd) (d1 : NumbersDrawn) → Target d dest to d1 → (u v : ℕ) (s1 s2 : Contents) (a b : Opnd) (d2 d3 : NumbersDrawn) →
           g ≡ word u → h ≡ word v →
           Result p.activation d1 None s a d2 u s1 → Result p.activation d2 None s1 b d3 v s2 →
           Behaves p x (operated op to a b) d3 s2 units (operate op u v)
@@ -151,7 +151,7 @@ module _ (p : Place) (x : World) where
           (does to a b d3 s2 u v (target_settable d dest to d1 target) (wg u eg) (wh v eh)
           (survives p.activation d2.temp a (Word u) s1 s2 q.there r.stay q.holds) r.holds)
 
-      behind_left : (to : Opnd) (d1 : Drawn) → Target d dest to d1 → (u : ℕ) (s1 : Contents) (a : Opnd) (d2 : Drawn) →
+      behind_left : (to : Opnd) (d1 : NumbersDrawn) → Target d dest to d1 → (u : ℕ) (s1 : Contents) (a : Opnd) (d2 : NumbersDrawn) →
           g ≡ word u → Result p.activation d1 None s a d2 u s1 →
           Behaves p x (right >>= (λ b. operated op to a b)) d2 s1 (l + after_word h units)
           (onward h (λ v. operate op u v)) (λ z e w s3. Result p.activation d dest s z e w s3 × Behind g h More s3)
@@ -165,7 +165,7 @@ module _ (p : Place) (x : World) where
           (hr d2 s1 (omega (arith, first, le)) (stay_less d.temp d1.temp s s1 first q.stay)))
           (λ v s2 r. last to d1 target u v s1 s2 a (right d2).value d2 (right d2).drawn eg r.0 q r.1)
 
-      behind_choice : (to : Opnd) (d1 : Drawn) → Target d dest to d1 →
+      behind_choice : (to : Opnd) (d1 : NumbersDrawn) → Target d dest to d1 →
           Behaves p x (left >>= (λ a. right >>= (λ b. operated op to a b))) d1 s (k + after_word g (l + after_word h units))
           (onward g (λ u. onward h (λ v. operate op u v)))
           (λ z e w s3. Result p.activation d dest s z e w s3 × Behind g h More s3)
@@ -177,11 +177,11 @@ module _ (p : Place) (x : World) where
           (known p x left d1 s k g (Result p.activation d1 None s) (hl d1 (target_drawn d dest to d1 target)))
           (λ u s1 q. behind_left to d1 target u s1 (left d1).value (left d1).drawn q.0 q.1)
 
-  pub operands_tile : (op : Bin) (y : Tx) (dest : Option Opnd) (left right : Choice Opnd) (d : Drawn) (s : Contents)
+  pub operands_tile : (op : Bin) (y : Tx) (dest : Option Opnd) (left right : Choice Opnd) (d : NumbersDrawn) (s : Contents)
       (k l : ℕ) (g h : Given) →
       is_shift op ≡ false → IsAskable dest → ((u : ℕ) → g ≡ word u → IsWord u) → ((v : ℕ) → h ≡ word v → IsWord v) →
-      ((d1 : Drawn) → d.temp ≤ d1.temp → Behaves p x left d1 s k g (Result p.activation d1 None s)) →
-      ((d2 : Drawn) (s1 : Contents) → d.temp ≤ d2.temp → Stay d.temp None s s1 →
+      ((d1 : NumbersDrawn) → d.temp ≤ d1.temp → Behaves p x left d1 s k g (Result p.activation d1 None s)) →
+      ((d2 : NumbersDrawn) (s1 : Contents) → d.temp ≤ d2.temp → Stay d.temp None s s1 →
       Behaves p x right d2 s1 l h (Result p.activation d2 None s1)) →
       Behaves p x (choose dest >>= (λ to. left >>= (λ a. right >>= (λ b. operated op to a b)))) d s
       (k + after_word g (l + after_word h (operator_units op y))) (onward g (λ u. onward h (λ v. operate op u v)))
@@ -199,7 +199,7 @@ module _ (p : Place) (x : World) where
       askable wg wh hl hr)
 
   -- a product leaves its upper word in hi
-  pub product_leaves : (to a b : Opnd) (d : Drawn) (s : Contents) (u v : ℕ) → IsSettable to → IsWord u → IsWord v →
+  pub product_leaves : (to a b : Opnd) (d : NumbersDrawn) (s : Contents) (u v : ℕ) → IsSettable to → IsWord u → IsWord v →
       held p.activation s (Operand a) ≡ Word u → held p.activation s (Operand b) ≡ Word v →
       Behaves p x (operated bin.Mul to a b) d s 2 (word (mul u v))
       (λ z e w s1. Sets to d s z e w s1 × (s1 Hi ≡ Word (product_high u v)))
@@ -207,7 +207,7 @@ module _ (p : Place) (x : World) where
       let l = product_low u v in
       let h = product_high u v in
       let halves : Contents = set Lo (Word l) (set Hi (Word h) s) in
-      let Leaves = (λ (z : Opnd) (e : Drawn) (w : ℕ) (s1 : Contents). Sets to d s z e w s1 × (s1 Hi ≡ Word h)) in
+      let Leaves = (λ (z : Opnd) (e : NumbersDrawn) (w : ℕ) (s1 : Contents). Sets to d s z e w s1 × (s1 Hi ≡ Word h)) in
       weaker p x (operated bin.Mul to a b) d s 2 2 (word l) (word (mul u v)) Leaves (omega arith)
       (ap word (sym (low_product u v wu wv)))
       (bind p x (put (instr.Mult a b)) (λ y. defining (instr.Mflo to) to) d s 1 1 2 (word 0) (λ i. word l)

@@ -13,7 +13,7 @@ use Rattle.tg_tree.specs.Actions.{World, Temps}
 use Rattle.tg_instr.specs.declared.operands.Opnd.{Opnd}
 use Rattle.tg_instr.specs.Shapes.{Hi}
 use Rattle.tg_instr.specs.Contents.{Word, Contents}
-use Rattle.tg_munch.specs.Choosing.{Drawn, ◌>>=◌, choose}
+use Rattle.tg_munch.specs.Choosing.{NumbersDrawn, ◌>>=◌, choose}
 use Rattle.tg_munch.specs.Tiles.{constant_side, first_tile, tiled, operated}
 use Rattle.tg_munch.specs.Munching.{expression}
 use Rattle.tg_munch_values.specs.Places.{Place, Behaves, Walks}
@@ -60,7 +60,7 @@ module _ (scene : Scene) where
   abbrev units : Tx → ℕ
   units e = spent scene e
 
-  pub product_does : (a b : Tx) (dest : Option Opnd) (d : Drawn) (s : Contents) → IsFlat a → IsFlat b → HasWords a →
+  pub product_does : (a b : Tx) (dest : Option Opnd) (d : NumbersDrawn) (s : Contents) → IsFlat a → IsFlat b → HasWords a →
       HasWords b → IsAskable dest → Known temps d s →
       Behaves place world (expression slots (tree.Binary bin.Mul a b) dest) d s
       (units (tree.Binary bin.Mul a b) + extra dest) (val (tree.Binary bin.Mul a b))

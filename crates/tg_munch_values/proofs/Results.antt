@@ -10,13 +10,13 @@ use Rattle.tg_instr.specs.declared.operands.Opnd.TheVariants.{Temp, Reg}
 use Rattle.tg_instr.specs.Operands.{is_same}
 use Rattle.tg_instr.specs.Shapes.{Operand}
 use Rattle.tg_instr.specs.Contents.{Content, Word, Contents, set, held}
-use Rattle.tg_munch.specs.Choosing.{Choice, Drawn, ◌>>=◌, choose}
+use Rattle.tg_munch.specs.Choosing.{Choice, NumbersDrawn, ◌>>=◌, choose}
 use Rattle.tg_munch.specs.Munching.{temp}
 use Rattle.tg_munch_values.specs.Places.{Place, Behaves}
 use Rattle.tg_munch_values.specs.Values.{IsSettable}
 
 -- the operand that is chosen to be written
-pub data Target (d : Drawn) : Option Opnd → Opnd → Drawn → Type 0 where
+pub data Target (d : NumbersDrawn) : Option Opnd → Opnd → NumbersDrawn → Type 0 where
   asked : (to : Opnd) → IsSettable to → Target d (Some to) to d
   own : Target d None (temp d.temp) (record d { temp = d.temp + 1 })
 
@@ -39,21 +39,21 @@ set_holds act (Reg r) v s s1 h e =
     (ap (λ (b : Bool). if b then Word (act.base - act.size) else s1 (Operand (Reg r))) h.1 ∙
     (e (Reg r) ∙ ap (λ (b : Bool). if b then Word v else s (Operand (Reg r))) (itself r)))
 
-pub target_settable : (d : Drawn) (dest : Option Opnd) (to : Opnd) (d1 : Drawn) → Target d dest to d1 → IsSettable to
+pub target_settable : (d : NumbersDrawn) (dest : Option Opnd) (to : Opnd) (d1 : NumbersDrawn) → Target d dest to d1 → IsSettable to
 target_settable d dest to d1 (asked o h) = h
 target_settable d dest to d1 own = tt
 
-pub target_drawn : (d : Drawn) (dest : Option Opnd) (to : Opnd) (d1 : Drawn) → Target d dest to d1 → d.temp ≤ d1.temp
+pub target_drawn : (d : NumbersDrawn) (dest : Option Opnd) (to : Opnd) (d1 : NumbersDrawn) → Target d dest to d1 → d.temp ≤ d1.temp
 target_drawn d dest to d1 (asked o h) = omega arith
 target_drawn d dest to d1 own = omega arith
 
-target_other : (d : Drawn) (dest : Option Opnd) (to : Opnd) (d1 : Drawn) (y : Opnd) → Target d dest to d1 → IsOld
+target_other : (d : NumbersDrawn) (dest : Option Opnd) (to : Opnd) (d1 : NumbersDrawn) (y : Opnd) → Target d dest to d1 → IsOld
     d.temp y → IsOther dest y → is_same y to ≡ false
 target_other d dest to d1 y (asked o h) old other = other
 target_other d dest to d1 (Temp i) own old other = below_differs i.0 d.temp old
 target_other d dest to d1 (Reg r) own old other = refl
 
-target_there : (d : Drawn) (dest : Option Opnd) (to : Opnd) (d1 : Drawn) (n : ℕ) → Target d dest to d1 → d1.temp ≤ n
+target_there : (d : NumbersDrawn) (dest : Option Opnd) (to : Opnd) (d1 : NumbersDrawn) (n : ℕ) → Target d dest to d1 → d1.temp ≤ n
     → IsThereAs dest n to
 target_there d dest to d1 n (asked o h) le = refl
 target_there d dest to d1 n own le = omega arith
@@ -81,7 +81,7 @@ survives_other act n dest (Temp i) c s s1 old other stay e = stay (Temp i) old o
 survives_other act n dest (Reg r) c s s1 old other stay e =
     ap (λ u. if r == 0 then Word 0 else if r == 29 then Word (act.base - act.size) else u) (stay (Reg r) old other) ∙ e
 
-pub finish : (act : Activation) (d : Drawn) (dest : Option Opnd) (to : Opnd) (d1 d2 : Drawn) (v : ℕ) (s s1 s2 :
+pub finish : (act : Activation) (d : NumbersDrawn) (dest : Option Opnd) (to : Opnd) (d1 d2 : NumbersDrawn) (v : ℕ) (s s1 s2 :
     Contents) →
     Target d dest to d1 → d1.temp ≤ d2.temp → Stay d1.temp None s s1 → SetTo to v s1 s2 → Result act d dest s to d2 v s2
 finish act d dest to d1 d2 v s s1 s2 target le stay sets =
@@ -97,10 +97,10 @@ finish act d dest to d1 d2 v s s1 s2 target le stay sets =
     }
 
 -- the operand is chosen first
-pub choosing : (p : Place) (x : World) {A : Type 0} (next : Opnd → Choice A) (dest : Option Opnd) (d : Drawn) (s :
+pub choosing : (p : Place) (x : World) {A : Type 0} (next : Opnd → Choice A) (dest : Option Opnd) (d : NumbersDrawn) (s :
     Contents) (k : ℕ) (g : Given)
-    (Q : A → Drawn → ℕ → Contents → Type 0) → IsAskable dest →
-    ((to : Opnd) (d1 : Drawn) → Target d dest to d1 → Behaves p x (next to) d1 s k g Q) → Behaves p x (choose dest
+    (Q : A → NumbersDrawn → ℕ → Contents → Type 0) → IsAskable dest →
+    ((to : Opnd) (d1 : NumbersDrawn) → Target d dest to d1 → Behaves p x (next to) d1 s k g Q) → Behaves p x (choose dest
     >>= next) d s k g Q
 unfolding ◌>>=◌
 choosing p x next None d s k g Q askable h rest part = h (temp d.temp) (record d { temp = d.temp + 1 }) own rest part

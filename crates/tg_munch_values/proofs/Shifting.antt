@@ -24,7 +24,7 @@ use Rattle.tg_instr.specs.Shapes.{Operand}
 use Rattle.tg_instr.specs.Contents.{Content, Word, Contents, set, held}
 use Rattle.tg_instr.specs.Meaning.{with_content_word, jump, skip}
 use Rattle.tg_instr.specs.Running.{behind, code_going, jump_to}
-use Rattle.tg_munch.specs.Choosing.{Drawn, ◌>>=◌}
+use Rattle.tg_munch.specs.Choosing.{NumbersDrawn, ◌>>=◌}
 use Rattle.tg_munch.specs.Tiles.{nothing, if_equal, shift_by, shift_bit}
 use Rattle.tg_munch.specs.Munching.{temp}
 use Rattle.tg_munch_values.specs.Places.{each_one, gives, Place, Behaves, goes}
@@ -187,7 +187,7 @@ module _ (p : Place) (x : World) (walks : Walks p) where
       four q = ap (works 1) (ap (works 1) (works_add 1 1 q) ∙ works_add 1 2 q) ∙ works_add 1 3 q
 
   -- what is known behind a bit: the word so far, and what stays
-  pub record Partly (j : ℕ) (d : Drawn) (s : Contents) (r : ℕ) (d1 : Drawn) (s1 : Contents) : Type 0 where
+  pub record Partly (j : ℕ) (d : NumbersDrawn) (s : Contents) (r : ℕ) (d1 : NumbersDrawn) (s1 : Contents) : Type 0 where
     pub holds : s1 (Operand (temp j)) ≡ Word r
     pub stay : Stay d.temp (Some (temp j)) s s1
     pub drawn : d.temp ≤ d1.temp
@@ -209,7 +209,7 @@ module _ (p : Place) (x : World) (walks : Walks p) where
   bit_holds op i j n v b s false lt e = this_is j (Word (shifted_as op v n)) (set (Operand (temp i)) (Word (bit_and b
       n)) s)
 
-  pub bit_does : (op : Bin) (j n v b : ℕ) (y : Opnd) (d : Drawn) (s : Contents) → j < d.temp → held p.activation s
+  pub bit_does : (op : Bin) (j n v b : ℕ) (y : Opnd) (d : NumbersDrawn) (s : Contents) → j < d.temp → held p.activation s
       (Operand y) ≡ Word b → s (Operand (temp j)) ≡ Word v →
       Behaves p x (shift_bit op (temp j) y n) d s 4 (word 0) (λ a d1 w s1. Partly j d s (by_bit op (bit_and b n == 0)
       v n) d1 s1)

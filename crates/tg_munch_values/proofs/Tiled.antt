@@ -14,7 +14,7 @@ use Rattle.tg_instr.specs.declared.instr.Instr.TheVariants as instr
 use Rattle.tg_instr.specs.Operands.{is_same}
 use Rattle.tg_instr.specs.Shapes.{Operand, Hi, Lo, From0}
 use Rattle.tg_instr.specs.Contents.{Word, Contents, set, held}
-use Rattle.tg_munch.specs.Choosing.{Choice, Drawn, ◌>>=◌, ◌>>◌, put, defining}
+use Rattle.tg_munch.specs.Choosing.{Choice, NumbersDrawn, ◌>>=◌, ◌>>◌, put, defining}
 use Rattle.tg_munch.specs.Tiles.{nothing, is_small, field, constant, halves, instruction, with_field}
 use Rattle.tg_munch_values.specs.Places.{Does, Place, Behaves, Lands, goes}
 use Rattle.tg_munch_values.specs.Values.{IsSettable, Result, Stay, IsAskable}
@@ -60,11 +60,11 @@ twice to y v w s = by (is_same y to)
     by false = refl
 
 -- what a choice whose one instruction writes an operand, and which gives that, comes to
-abbrev pub Sets : Opnd → Drawn → Contents → Opnd → Drawn → ℕ → Contents → Type 0
+abbrev pub Sets : Opnd → NumbersDrawn → Contents → Opnd → NumbersDrawn → ℕ → Contents → Type 0
 Sets to d s y d1 v s1 = (y ≡ to) × SetTo to v s s1 × (d.temp ≤ d1.temp)
 
-pub finish_sets : (act : Activation) (d : Drawn) (dest : Option Opnd) (to : Opnd) (d1 d2 : Drawn) (v : ℕ) (s s1 s2 :
-    Contents) (y : Opnd) (d3 : Drawn) →
+pub finish_sets : (act : Activation) (d : NumbersDrawn) (dest : Option Opnd) (to : Opnd) (d1 d2 : NumbersDrawn) (v : ℕ) (s s1 s2 :
+    Contents) (y : Opnd) (d3 : NumbersDrawn) →
     Target d dest to d1 → d1.temp ≤ d2.temp → Stay d1.temp None s s1 → Sets to d2 s1 y d3 v s2 → Result act d dest s
     y d3 v s2
 finish_sets act d dest to d1 d2 v s s1 s2 y d3 target le stay e =
@@ -77,7 +77,7 @@ finish_sets act d dest to d1 d2 v s s1 s2 y d3 target le stay e =
 
 module _ (p : Place) (x : World) where
   -- one instruction
-  pub defined : (one : Instr) (to : Opnd) (d : Drawn) (s : Contents) (k : ℕ) (g : Given) →
+  pub defined : (one : Instr) (to : Opnd) (d : NumbersDrawn) (s : Contents) (k : ℕ) (g : Given) →
       ((rest : List Instr) → Does x (λ v e. Lands p x (λ s1. s1 ≡ set (Operand to) (Word v) s) rest e) k (goes p x
       (one ∷ rest) s) g) →
       Behaves p x (defining one to) d s k g (Sets to d s)
@@ -86,10 +86,10 @@ module _ (p : Place) (x : World) where
       (λ v s1 e. (refl, λ y. ap (λ (c : Contents). c (Operand y)) e, omega arith)) (λ rest part. h rest)
 
   -- an instruction that writes both, and then the one that reads one of them
-  abbrev SetsHalves : ℕ → ℕ → Contents → Unit {0} → Drawn → ℕ → Contents → Type 0
+  abbrev SetsHalves : ℕ → ℕ → Contents → Unit {0} → NumbersDrawn → ℕ → Contents → Type 0
   SetsHalves l h s y d v s1 = s1 ≡ set Lo (Word l) (set Hi (Word h) s)
 
-  pub two_halves : (one two : Instr) (to : Opnd) (d : Drawn) (s : Contents) (l h : ℕ) (r : ℕ) →
+  pub two_halves : (one two : Instr) (to : Opnd) (d : NumbersDrawn) (s : Contents) (l h : ℕ) (r : ℕ) →
       ((rest : List Instr) → Does x (λ v e. Lands p x (λ s1. s1 ≡ set Lo (Word l) (set Hi (Word h) s)) rest e) 1
       (goes p x (one ∷ rest) s) (word 0)) →
       ((rest : List Instr) → Does x (λ v e. Lands p x (λ s1. s1 ≡ set (Operand to) (Word v) (set Lo (Word l) (set Hi
@@ -106,7 +106,7 @@ module _ (p : Place) (x : World) where
       (λ w s2 q. q) (defined two to d (set Lo (Word l) (set Hi (Word h) s)) 1 (word r) second)))
 
   -- a constant
-  pub constant_does : (to : Opnd) (n : ℕ) (d : Drawn) (s : Contents) → IsSettable to → IsWord n → Behaves p x
+  pub constant_does : (to : Opnd) (n : ℕ) (d : NumbersDrawn) (s : Contents) → IsSettable to → IsWord n → Behaves p x
       (constant to n) d s 2 (word n) (Sets to d s)
   constant_does to n d s settable small = by (is_small n) (nat_lt n 65536) (n % 65536 == 0) refl refl refl
     where
@@ -165,10 +165,10 @@ module _ (p : Place) (x : World) where
           (λ v s1 e. lower v s1 (sym (same_word (field (n / 65536) * 65536) v e.0)) e.1)
 
   -- a tile with a field
-  pub field_tile : (op : Bin) (n : ℕ) (one : _) (dest : Option Opnd) (side : Choice Opnd) (d : Drawn) (s : Contents)
+  pub field_tile : (op : Bin) (n : ℕ) (one : _) (dest : Option Opnd) (side : Choice Opnd) (d : NumbersDrawn) (s : Contents)
       (k : ℕ) (g : Given) →
       DoesAs op n (instruction one) → IsAskable dest →
-      ((d1 : Drawn) → d.temp ≤ d1.temp → Behaves p x side d1 s k g (Result p.activation d1 None s)) →
+      ((d1 : NumbersDrawn) → d.temp ≤ d1.temp → Behaves p x side d1 s k g (Result p.activation d1 None s)) →
       Behaves p x (with_field one dest side) d s (k + after_word g 1) (onward g (λ u. operate op u n)) (Result
       p.activation d dest s)
   field_tile op n one dest side d s k g does askable h =
@@ -181,7 +181,7 @@ module _ (p : Place) (x : World) where
       (Result p.activation d dest s) (omega arith) (h d1 (target_drawn d dest to d1 target))
       (λ u s1 q. last to d1 target u s1 (side d1).value (side d1).drawn q))
     where
-      last : (to : Opnd) (d1 : Drawn) → Target d dest to d1 → (u : ℕ) (s1 : Contents) (y : Opnd) (d2 : Drawn) →
+      last : (to : Opnd) (d1 : NumbersDrawn) → Target d dest to d1 → (u : ℕ) (s1 : Contents) (y : Opnd) (d2 : NumbersDrawn) →
           Result p.activation d1 None s y d2 u s1 →
           Behaves p x (defining (instruction one to y) to) d2 s1 1 (operate op u n) (Result p.activation d dest s)
       last to d1 target u s1 y d2 q =

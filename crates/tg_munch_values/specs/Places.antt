@@ -12,7 +12,7 @@ use Rattle.tg_instr.specs.declared.instr.Instr.TheVariants.{Mark}
 use Rattle.tg_instr.specs.Contents.{Contents}
 use Rattle.tg_instr.specs.Meaning.{Back}
 use Rattle.tg_instr.specs.Running.{Units, CodePoint, behind, run_code, code_step, code_going}
-use Rattle.tg_munch.specs.Choosing.{Choice, Drawn}
+use Rattle.tg_munch.specs.Choosing.{Choice, NumbersDrawn}
 
 -- each instruction counts a unit
 abbrev pub each_one : Units
@@ -72,8 +72,8 @@ pub record Lands
 -- A choice's instructions, before any others in the function's code, come in at most k units from
 -- contents to such as a fact holds of, with what the choice gives, what is drawn and the word.
 abbrev pub Behaves :
-    Place → World → {A : Type 0} → Choice A → Drawn → Contents → (k : ℕ) → Given →
-    (A → Drawn → ℕ → Contents → Type 0) → Type 0
+    Place → World → {A : Type 0} → Choice A → NumbersDrawn → Contents → (k : ℕ) → Given →
+    (A → NumbersDrawn → ℕ → Contents → Type 0) → Type 0
 Behaves p x c d s k g Q =
     (rest : List Instr) → IsPart p ((c d).code ++ rest) →
     Does x (λ v e. Lands p x (Q (c d).value (c d).drawn v) rest e) k

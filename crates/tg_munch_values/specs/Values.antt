@@ -20,7 +20,7 @@ use Rattle.tg_instr.specs.Shapes.{Operand}
 use Rattle.tg_instr.specs.Contents.{Word, Contents, held}
 use Rattle.tg_instr.specs.Meaning.{jump, skip}
 use Rattle.tg_instr.specs.Running.{code_going, around}
-use Rattle.tg_munch.specs.Choosing.{Choice, Drawn}
+use Rattle.tg_munch.specs.Choosing.{Choice, NumbersDrawn}
 use Rattle.tg_munch.specs.Munching.{temp, expression, branch}
 use Rattle.tg_munch_values.specs.Words.{IsWord, HasWords}
 use Rattle.tg_munch_values.specs.Places.{each_one, Place, goes, IsPart, Walks, Does, Behaves}
@@ -57,8 +57,8 @@ IsThereAs (Some to) n y = y ≡ to
 
 -- an operand with a word, behind what may be drawn and written for it
 pub record Result
-    (act : Activation) (d : Drawn) (dest : Option Opnd) (s : Contents)
-    (y : Opnd) (d1 : Drawn) (v : ℕ) (s1 : Contents) : Type 0 where
+    (act : Activation) (d : NumbersDrawn) (dest : Option Opnd) (s : Contents)
+    (y : Opnd) (d1 : NumbersDrawn) (v : ℕ) (s1 : Contents) : Type 0 where
   pub holds : held act s1 (Operand y) ≡ Word v
   pub stay : Stay d.temp dest s s1
   pub there : IsThereAs dest d1.temp y
@@ -96,7 +96,7 @@ pub record Scene : Type 0 where
   pub sees : Sees place world memory temps slots
 
 -- temporaries that are set stand in those of the same number
-abbrev pub Known : Temps → Drawn → Contents → Type 0
+abbrev pub Known : Temps → NumbersDrawn → Contents → Type 0
 Known t d s = (i v : ℕ) → t i ≡ Some v → (i < d.temp) × (s (Operand (temp i)) ≡ Word v)
 
 -- a mark is gone to, or what is left goes on
@@ -109,14 +109,15 @@ fork p x b m rest s =
 
 -- where a comparison comes to: its mark where the word is 1, and what is left where it is 0
 pub record Forked
-    (p : Place) (x : World) (b : Bool) (m : ℕ) (rest : List Instr) (d : Drawn)
+    (p : Place) (x : World) (b : Bool) (m : ℕ) (rest : List Instr) (d : NumbersDrawn)
     (s : Contents) (e : Run Ran) : Type 0 where
   pub contents : Contents
   pub stay : Stay d.temp None s contents
   pub is : e ≡ fork p x b m rest contents
 
 abbrev pub Compares :
-    Place → World → Choice (Unit {0}) → Drawn → Contents → (k : ℕ) → Given → (mark : ℕ) → Type 0
+    Place → World → Choice (Unit {0}) → NumbersDrawn → Contents → (k : ℕ) → Given →
+    (mark : ℕ) → Type 0
 Compares p x c d s k g m =
     (rest : List Instr) → IsPart p ((c d).code ++ rest) →
     Does x (λ w e. Forked p x (w == 1) m rest d s e) k (goes p x ((c d).code ++ rest) s) g
@@ -134,7 +135,7 @@ spent_in a e =
 -- one more where an operand is asked for.
 abbrev pub ExpressionsGiveValues : Type 0
 ExpressionsGiveValues =
-    (a : Scene) (e : Tx) (dest : Option Opnd) (d : Drawn) (s : Contents) →
+    (a : Scene) (e : Tx) (dest : Option Opnd) (d : NumbersDrawn) (s : Contents) →
     IsFlat e → HasWords e → IsAskable dest → Known a.temps d s →
     Behaves a.place a.world (expression a.slots e dest) d s
     (spent_in a e + extra dest) (value_in a e) (Result a.place.activation d dest s)
@@ -143,7 +144,7 @@ ExpressionsGiveValues =
 -- units besides.
 abbrev pub BranchesCompare : Type 0
 BranchesCompare =
-    (a : Scene) (r : Rel) (x y : Tx) (mark : ℕ) (d : Drawn) (s : Contents) →
+    (a : Scene) (r : Rel) (x y : Tx) (mark : ℕ) (d : NumbersDrawn) (s : Contents) →
     IsFlat x → IsFlat y → HasWords x → HasWords y → Known a.temps d s →
     Compares a.place a.world (branch a.slots r x y mark) d s
     (spent_in a x + after_word (value_in a x) (spent_in a y + after_word (value_in a y) 2))

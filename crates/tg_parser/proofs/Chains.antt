@@ -13,7 +13,7 @@ use Rattle.tg_grammar.specs.Reading.{Does, job, give_got, want_got, want_bad, wa
 use Rattle.tg_grammar.specs.Reading.{call_got, call_bad, call_out}
 use Rattle.tg_parser.specs.declared.faults.Stop.{Stop}
 use Rattle.tg_parser.specs.declared.faults.Stop.TheVariants.{Wrong, More}
-use Rattle.tg_parser.specs.Given.{Gives, Refuses, refuses, wants, no_memory}
+use Rattle.tg_parser.specs.Given.{AnswersJob, Refuses, refuses, wants, no_memory}
 
 -- the first token
 pub take_yes : (m : Mark) (ts : List Spanned) (t : Spanned) (rest : List Spanned) → ts ≡ t ∷ rest → t.token ≡ token_of m →
@@ -125,6 +125,6 @@ pub no_truth : IsTrue false → ⊥
 no_truth h = cc
 
 pub ended : {X : Type 0} (j : Job) (value : X → Of j) (rest : X → List Spanned) (result : Result X Stop) (s : Steps (Of j))
-    (ts : List Spanned) {e : Stop} → IsErr result × IsErrAnd result (λ x. x ≡ e) → Refuses e j s ts → Gives j value rest result s ts
+    (ts : List Spanned) {e : Stop} → IsErr result × IsErrAnd result (λ x. x ≡ e) → Refuses e j s ts → AnswersJob j value rest result s ts
 ended j value rest (Ok x) s ts h d = absurd (no_truth h.0)
 ended j value rest (Err x) s ts h d = subst (λ y. Refuses y j s ts) (sym h.1) d

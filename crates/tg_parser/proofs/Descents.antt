@@ -13,7 +13,7 @@ use Rattle.tg_syntax.specs.Grammar.{Level}
 use Rattle.tg_parser.specs.declared.faults.Stop.{Stop}
 use Rattle.tg_parser.specs.declared.faults.Stop.TheVariants.{Wrong, More}
 use Rattle.tg_parser.specs.declared.heads.DeclarationKind.{DeclarationKind}
-use Rattle.tg_parser.specs.Given.{Refuses, refuses, wants, Gives}
+use Rattle.tg_parser.specs.Given.{Refuses, refuses, wants, AnswersJob}
 use Rattle.tg_parser.specs.Opens.{Leads, Skips, Operates, Elses}
 use Rattle.tg_parser.specs.Heads.{one_of, Declares}
 use Rattle.tg_parser.proofs.Leading.{last_after, last_suffix}
@@ -36,8 +36,8 @@ pub level_refuses : {a b : Level} {ts : List Spanned} {e : Stop} → a ≡ b →
 level_refuses {ts = ts} {e = e} p d = subst (λ k. Refuses e (At k) (job (At k)) ts) p d
 
 pub after_same : {X : Type 0} (r : Result X Stop) (k : Level) (m : Exp) (l n : Exp) (value : X → Exp) (rest : X → List Spanned) (ts : List Spanned) →
-    l ≡ n → Gives (After k l) value rest r (job (After k l)) ts → Gives (After k m) value rest r (last (After k n)) ts
-after_same r k m l n value rest ts e h = subst (λ x. Gives (After k m) value rest r (last (After k x)) ts) e (last_after r k m k l value rest ts h)
+    l ≡ n → AnswersJob (After k l) value rest r (job (After k l)) ts → AnswersJob (After k m) value rest r (last (After k n)) ts
+after_same r k m l n value rest ts e h = subst (λ x. AnswersJob (After k m) value rest r (last (After k x)) ts) e (last_after r k m k l value rest ts h)
 
 pub suffix_does : {s z : Span} {v w : LValue} {x : Span × LValue} {ts rest : List Spanned} → s ≡ z → v ≡ w →
     Does (Suffix s v) (job (Suffix s v)) ts (Got x rest) → Does (Suffix z w) (job (Suffix z w)) ts (Got x rest)
@@ -50,11 +50,11 @@ suffix_refuses {s} {z} {v} {w} {ts} {e} p h d = subst (λ a. Refuses e (Suffix a
     (subst (λ b. Refuses e (Suffix s b) (job (Suffix s b)) ts) h d)
 
 pub suffix_same : {X : Type 0} (r : Result X Stop) (s : Span) (v : LValue) (z a : Span) (w b : LValue) (value : X →
-    Span × LValue) (rest : X → List Spanned) (ts : List Spanned) → z ≡ a → w ≡ b → Gives (Suffix z w) value rest r (job (Suffix z w)) ts →
-    Gives (Suffix s v) value rest r (last (Suffix a b)) ts
+    Span × LValue) (rest : X → List Spanned) (ts : List Spanned) → z ≡ a → w ≡ b → AnswersJob (Suffix z w) value rest r (job (Suffix z w)) ts →
+    AnswersJob (Suffix s v) value rest r (last (Suffix a b)) ts
 suffix_same r s v z a w b value rest ts e h d =
-    subst (λ x. Gives (Suffix s v) value rest r (last (Suffix x b)) ts) e
-    (subst (λ y. Gives (Suffix s v) value rest r (last (Suffix z y)) ts) h (last_suffix r s v z w value rest ts d))
+    subst (λ x. AnswersJob (Suffix s v) value rest r (last (Suffix x b)) ts) e
+    (subst (λ y. AnswersJob (Suffix s v) value rest r (last (Suffix z y)) ts) h (last_suffix r s v z w value rest ts d))
 
 -- a mark that may stand
 pub some_leads : {X : Type 0} (value : X → Span) (rest : X → List Spanned) {o : Option X} {x : X} {m : Mark} {ts : List Spanned} →

@@ -13,7 +13,7 @@ use Rattle.tg_syntax.specs.Grammar.{Level}
 use Rattle.tg_parser.specs.declared.faults.Stop.{Stop}
 use Rattle.tg_parser.specs.declared.faults.Stop.TheVariants.{More}
 use Rattle.tg_parser.specs.declared.heads.DeclarationKind.{DeclarationKind}
-use Rattle.tg_parser.specs.Given.{Refuses, refuses, wants, no_memory, Gives}
+use Rattle.tg_parser.specs.Given.{Refuses, refuses, wants, no_memory, AnswersJob}
 use Rattle.tg_parser.specs.Opens.{Leads, BeginsJob, BeginsTwo, Skips, Operates, Elses}
 use Rattle.tg_parser.specs.Heads.{Declares}
 use Rattle.tg_parser.proofs.Chains.{want_on, name_on, call_stops, no_truth}
@@ -37,7 +37,7 @@ raise h (wants d) = wants (h.goes Out d)
 raise h (no_memory _) = no_memory _
 
 pub carry : {X : Type 0} (r : Result X Stop) {j : Job} (value : X → Of j) (rest : X → List Spanned) {s z : Steps (Of j)}
-    {ts us : List Spanned} → Leads j s ts z us → Gives j value rest r z us → Gives j value rest r s ts
+    {ts us : List Spanned} → Leads j s ts z us → AnswersJob j value rest r z us → AnswersJob j value rest r s ts
 carry (Ok x) value rest h d = h.goes (Got (value x) (rest x)) d
 carry (Err e) value rest h d = raise h d
 
@@ -55,17 +55,17 @@ call_leads j i h = record { goes = λ r d. call_got j i h d }
 
 -- a job last
 pub last_at : {X : Type 0} (r : Result X Stop) (k i : Level) (l : Exp) (value : X → Exp) (rest : X → List Spanned) (ts : List Spanned) →
-    Gives (After i l) value rest r (job (After i l)) ts → Gives (At k) value rest r (last (After i l)) ts
+    AnswersJob (After i l) value rest r (job (After i l)) ts → AnswersJob (At k) value rest r (last (After i l)) ts
 last_at (Ok x) k i l value rest ts h = call_got (At k) (After i l) h (give_got (At k))
 last_at (Err e) k i l value rest ts h = call_stops (At k) (After i l) h
 
 pub last_after : {X : Type 0} (r : Result X Stop) (k : Level) (m : Exp) (i : Level) (l : Exp) (value : X → Exp)
-    (rest : X → List Spanned) (ts : List Spanned) → Gives (After i l) value rest r (job (After i l)) ts → Gives (After k m) value rest r (last (After i l)) ts
+    (rest : X → List Spanned) (ts : List Spanned) → AnswersJob (After i l) value rest r (job (After i l)) ts → AnswersJob (After k m) value rest r (last (After i l)) ts
 last_after (Ok x) k m i l value rest ts h = call_got (After k m) (After i l) h (give_got (After k m))
 last_after (Err e) k m i l value rest ts h = call_stops (After k m) (After i l) h
 
 pub last_suffix : {X : Type 0} (r : Result X Stop) (s : Span) (v : LValue) (z : Span) (w : LValue) (value : X → Span × LValue)
-    (rest : X → List Spanned) (ts : List Spanned) → Gives (Suffix z w) value rest r (job (Suffix z w)) ts → Gives (Suffix s v) value rest r (last (Suffix z w)) ts
+    (rest : X → List Spanned) (ts : List Spanned) → AnswersJob (Suffix z w) value rest r (job (Suffix z w)) ts → AnswersJob (Suffix s v) value rest r (last (Suffix z w)) ts
 last_suffix (Ok x) s v z w value rest ts h = call_got (Suffix s v) (Suffix z w) h (give_got (Suffix s v))
 last_suffix (Err e) s v z w value rest ts h = call_stops (Suffix s v) (Suffix z w) h
 

@@ -17,9 +17,9 @@ pub data Refuses : Stop → (j : Job) → Steps (Of j) → List Spanned → Type
   no_memory : (j : Job) {s : Steps (Of j)} {ts : List Spanned} → Refuses Memory j s ts
 
 -- what a result says that a program does
-abbrev pub Gives :
+abbrev pub AnswersJob :
     {X : Type 0} (j : Job) →
     (X → Of j) → (X → List Spanned) → Result X Stop → Steps (Of j) → List Spanned →
     Type 0
-Gives j value rest (Ok x) s ts = Does j s ts (Got (value x) (rest x))
-Gives j value rest (Err e) s ts = Refuses e j s ts
+AnswersJob j value rest (Ok x) s ts = Does j s ts (Got (value x) (rest x))
+AnswersJob j value rest (Err e) s ts = Refuses e j s ts

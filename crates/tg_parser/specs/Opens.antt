@@ -8,7 +8,7 @@ use Rattle.tg_syntax.specs.Tree.{Exp}
 use Rattle.tg_syntax.specs.Tails.{ends_tail, is_short}
 use Rattle.tg_syntax.specs.Grammar.{Level, Unary}
 use Rattle.tg_parser.specs.declared.faults.Stop.{Stop}
-use Rattle.tg_parser.specs.Given.{Refuses, Gives}
+use Rattle.tg_parser.specs.Given.{Refuses, AnswersJob}
 use Rattle.tg_grammar.specs.declared.marks.Mark.{Mark}
 use Rattle.tg_grammar.specs.declared.marks.Mark.TheVariants.{OfWord}
 use Rattle.tg_grammar.specs.Steps.{Job, Of, At, Steps, Answer, Got, split, want, test, oper}
@@ -99,4 +99,4 @@ abbrev pub Completes :
     Type 0
 Completes k value rest r s l ts =
     (start : List Spanned) → Does (At Unary) (job (At Unary)) start (Got l ts) →
-    Gives (At k) value rest r s start
+    AnswersJob (At k) value rest r s start

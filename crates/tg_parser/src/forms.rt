@@ -1,7 +1,7 @@
 ghost use Rattle.std.specs.Prelude.{◌≡◌, ◌<◌, ◌≤◌, IfOk, length, ◌∷◌, []};
 ghost use Rattle.tg_syntax.specs.Plain.{plain_form, plain_type};
 ghost use Rattle.tg_syntax.specs.Groups.{one_type};
-ghost use Rattle.tg_parser.specs.Given.{Gives};
+ghost use Rattle.tg_parser.specs.Given.{AnswersJob};
 ghost use Rattle.tg_grammar.specs.Reading.{
   one_param,
   more_params,
@@ -27,7 +27,7 @@ use tg_grammar::Mark;
 use tg_syntax::{Form, Ident, Param, Params, Sign, Spanned, TypeDec, Word};
 
 fn one_param(tokens: &[Spanned]) -> Reading<Param>
-    ensures given { Gives OneParam (λ x. x.0) (λ x. x.1.now) result one_param tokens.now }
+    ensures given { AnswersJob OneParam (λ x. x.0) (λ x. x.1.now) result one_param tokens.now }
     ensures shorter { IfOk result (λ x. length x.1.now < length tokens.now) }
 {
     let (name, rest) = take_name(tokens)?;
@@ -37,7 +37,7 @@ fn one_param(tokens: &[Spanned]) -> Reading<Param>
 }
 
 fn more_params(first: Param, alloc: Global, tokens: &[Spanned]) -> Reading<Vec<Param>>
-    ensures given { Gives (MoreParams (first ∷ [])) (λ x. x.0.items) (λ x. x.1.now) result
+    ensures given { AnswersJob (MoreParams (first ∷ [])) (λ x. x.0.items) (λ x. x.1.now) result
         (more_params (first ∷ [])) tokens.now }
     ensures shorter { IfOk result (λ x. length x.1.now ≤ length tokens.now) }
 {
@@ -57,7 +57,7 @@ fn more_params(first: Param, alloc: Global, tokens: &[Spanned]) -> Reading<Vec<P
 
 /// Parameters, or a record's fields, up to a mark that ends them.
 pub fn listed_params(alloc: Global, close: Mark, tokens: &[Spanned]) -> Reading<Params>
-    ensures given { Gives (ListedParams close) (λ x. x.0) (λ x. x.1.now) result
+    ensures given { AnswersJob (ListedParams close) (λ x. x.0) (λ x. x.1.now) result
         (listed_params close) tokens.now }
     ensures shorter { IfOk result (λ x. length x.1.now < length tokens.now) }
 {
@@ -72,7 +72,8 @@ pub fn listed_params(alloc: Global, close: Mark, tokens: &[Spanned]) -> Reading<
 }
 
 fn one_form(alloc: Global, tokens: &[Spanned]) -> Reading<Form>
-    ensures given { Gives OneForm (λ x. plain_form x.0) (λ x. x.1.now) result one_form tokens.now }
+    ensures given { AnswersJob OneForm (λ x. plain_form x.0)
+        (λ x. x.1.now) result one_form tokens.now }
     ensures shorter { IfOk result (λ x. length x.1.now < length tokens.now) }
 {
     let (token, after) = next(tokens)?;
@@ -91,7 +92,7 @@ fn one_form(alloc: Global, tokens: &[Spanned]) -> Reading<Form>
 
 /// The type that may stand behind a name.
 pub fn annotation(tokens: &[Spanned]) -> Reading<Option<Ident>>
-    ensures given { Gives Annotation (λ x. x.0) (λ x. x.1.now) result annotation tokens.now }
+    ensures given { AnswersJob Annotation (λ x. x.0) (λ x. x.1.now) result annotation tokens.now }
     ensures shorter { IfOk result (λ x. length x.1.now ≤ length tokens.now) }
 {
     let (token, after) = next(tokens)?;
@@ -104,7 +105,7 @@ pub fn annotation(tokens: &[Spanned]) -> Reading<Option<Ident>>
 
 /// What follows `type`.
 pub fn type_dec(alloc: Global, tokens: &[Spanned]) -> Reading<TypeDec>
-    ensures given { Gives TypeDecJob (λ x. one_type (plain_type x.0)) (λ x. x.1.now) result
+    ensures given { AnswersJob TypeDecJob (λ x. one_type (plain_type x.0)) (λ x. x.1.now) result
         type_dec tokens.now }
     ensures shorter { IfOk result (λ x. length x.1.now < length tokens.now) }
 {

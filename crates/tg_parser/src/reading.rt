@@ -41,7 +41,7 @@ ghost use Rattle.tg_grammar.specs.Reading.{
   naming as naming_steps,
   indexing as indexing_steps,
 };
-ghost use Rattle.tg_parser.specs.Given.{Gives};
+ghost use Rattle.tg_parser.specs.Given.{AnswersJob};
 ghost use Rattle.tg_parser.specs.Ranks.{level_of};
 ghost use Rattle.tg_parser.specs.Opens.{BeginsJob, BeginsTwo, Completes};
 ghost use Rattle.tg_parser.specs.Heads.{one_of};
@@ -66,7 +66,7 @@ use tg_syntax::{Dec, Exp, FunDec, Ident, Init, Sign, Spanned, Var, Word, field, 
 
 /// A program: one expression, and the end.
 pub(crate) fn program(alloc: Global, tokens: &[Spanned]) -> Reading<Exp>
-    ensures given { Gives Whole_program (λ x. plain x.0) (λ x. x.1.now) result
+    ensures given { AnswersJob Whole_program (λ x. plain x.0) (λ x. x.1.now) result
         (job Whole_program) tokens.now }
     ensures shorter { IfOk result (λ x. length x.1.now < length tokens.now) }
 {
@@ -78,7 +78,7 @@ pub(crate) fn program(alloc: Global, tokens: &[Spanned]) -> Reading<Exp>
 /// An expression of a rank.
 #[cycle(descent)]
 fn at(alloc: Global, rank: Rank, tokens: &[Spanned]) -> Reading<Exp>
-    ensures given { Gives (At (level_of rank)) (λ x. plain x.0) (λ x. x.1.now) result
+    ensures given { AnswersJob (At (level_of rank)) (λ x. plain x.0) (λ x. x.1.now) result
         (job (At (level_of rank))) tokens.now }
     ensures shorter { IfOk result (λ x. length x.1.now < length tokens.now) }
 {
@@ -106,7 +106,7 @@ fn onward(alloc: Global, rank: Rank, left: Exp, tokens: &[Spanned]) -> Reading<E
 /// An expression, which may be an assignment.
 #[cycle(descent)]
 fn whole(alloc: Global, tokens: &[Spanned]) -> Reading<Exp>
-    ensures given { Gives (At WholeLevel) (λ x. plain x.0) (λ x. x.1.now) result
+    ensures given { AnswersJob (At WholeLevel) (λ x. plain x.0) (λ x. x.1.now) result
         (job (At WholeLevel)) tokens.now }
     ensures shorter { IfOk result (λ x. length x.1.now < length tokens.now) }
 {
@@ -120,7 +120,7 @@ fn whole(alloc: Global, tokens: &[Spanned]) -> Reading<Exp>
 /// An l-value alone, or what is assigned to it.
 #[cycle(descent)]
 fn assignment(alloc: Global, span: Span, place: Var, tokens: &[Spanned]) -> Reading<Exp>
-    ensures given { Gives (At WholeLevel) (λ x. plain x.0) (λ x. x.1.now) result
+    ensures given { AnswersJob (At WholeLevel) (λ x. plain x.0) (λ x. x.1.now) result
         (assigning (Read span (plain_place place))) tokens.now }
     ensures shorter { IfOk result (λ x. length x.1.now ≤ length tokens.now) }
 {
@@ -147,7 +147,7 @@ fn operands(alloc: Global, rank: Rank, left: Exp, tokens: &[Spanned]) -> Reading
 /// What follows a left operand of a rank that groups to the left.
 #[cycle(descent)]
 fn operators(alloc: Global, rank: Rank, left: Exp, tokens: &[Spanned]) -> Reading<Exp>
-    ensures given { Gives (After (level_of rank) (plain left)) (λ x. plain x.0) (λ x. x.1.now)
+    ensures given { AnswersJob (After (level_of rank) (plain left)) (λ x. plain x.0) (λ x. x.1.now)
         result (job (After (level_of rank) (plain left))) tokens.now }
     ensures shorter { IfOk result (λ x. length x.1.now ≤ length tokens.now) }
 {
@@ -178,7 +178,7 @@ fn comparison(alloc: Global, left: Exp, tokens: &[Spanned]) -> Reading<Exp>
 /// What binds more tightly than the operators with two operands.
 #[cycle(descent)]
 fn unary(alloc: Global, tokens: &[Spanned]) -> Reading<Exp>
-    ensures given { Gives (At UnaryLevel) (λ x. plain x.0) (λ x. x.1.now) result
+    ensures given { AnswersJob (At UnaryLevel) (λ x. plain x.0) (λ x. x.1.now) result
         (job (At UnaryLevel)) tokens.now }
     ensures shorter { IfOk result (λ x. length x.1.now < length tokens.now) }
 {
@@ -200,7 +200,7 @@ fn unary(alloc: Global, tokens: &[Spanned]) -> Reading<Exp>
 
 #[cycle(descent)]
 fn negating(alloc: Global, tokens: &[Spanned]) -> Reading<Exp>
-    ensures given { Gives (At UnaryLevel) (λ x. plain x.0) (λ x. x.1.now) result
+    ensures given { AnswersJob (At UnaryLevel) (λ x. plain x.0) (λ x. x.1.now) result
         negating_steps tokens.now }
     ensures shorter { IfOk result (λ x. length x.1.now < length tokens.now) }
 {
@@ -212,7 +212,7 @@ fn negating(alloc: Global, tokens: &[Spanned]) -> Reading<Exp>
 
 #[cycle(descent)]
 fn grouping(alloc: Global, tokens: &[Spanned]) -> Reading<Exp>
-    ensures given { Gives (At UnaryLevel) (λ x. plain x.0) (λ x. x.1.now) result
+    ensures given { AnswersJob (At UnaryLevel) (λ x. plain x.0) (λ x. x.1.now) result
         grouping_steps tokens.now }
     ensures shorter { IfOk result (λ x. length x.1.now < length tokens.now) }
 {
@@ -224,7 +224,7 @@ fn grouping(alloc: Global, tokens: &[Spanned]) -> Reading<Exp>
 
 #[cycle(descent)]
 fn choosing(alloc: Global, tokens: &[Spanned]) -> Reading<Exp>
-    ensures given { Gives (At UnaryLevel) (λ x. plain x.0) (λ x. x.1.now) result
+    ensures given { AnswersJob (At UnaryLevel) (λ x. plain x.0) (λ x. x.1.now) result
         choosing_steps tokens.now }
     ensures shorter { IfOk result (λ x. length x.1.now < length tokens.now) }
 {
@@ -242,7 +242,7 @@ fn choosing(alloc: Global, tokens: &[Spanned]) -> Reading<Exp>
 
 #[cycle(descent)]
 fn looping(alloc: Global, tokens: &[Spanned]) -> Reading<Exp>
-    ensures given { Gives (At UnaryLevel) (λ x. plain x.0) (λ x. x.1.now) result
+    ensures given { AnswersJob (At UnaryLevel) (λ x. plain x.0) (λ x. x.1.now) result
         looping_steps tokens.now }
     ensures shorter { IfOk result (λ x. length x.1.now < length tokens.now) }
 {
@@ -254,7 +254,7 @@ fn looping(alloc: Global, tokens: &[Spanned]) -> Reading<Exp>
 
 #[cycle(descent)]
 fn counting(alloc: Global, tokens: &[Spanned]) -> Reading<Exp>
-    ensures given { Gives (At UnaryLevel) (λ x. plain x.0) (λ x. x.1.now) result
+    ensures given { AnswersJob (At UnaryLevel) (λ x. plain x.0) (λ x. x.1.now) result
         counting_steps tokens.now }
     ensures shorter { IfOk result (λ x. length x.1.now < length tokens.now) }
 {
@@ -268,7 +268,7 @@ fn counting(alloc: Global, tokens: &[Spanned]) -> Reading<Exp>
 
 #[cycle(descent)]
 fn declaring(alloc: Global, tokens: &[Spanned]) -> Reading<Exp>
-    ensures given { Gives (At UnaryLevel) (λ x. plain x.0) (λ x. x.1.now) result
+    ensures given { AnswersJob (At UnaryLevel) (λ x. plain x.0) (λ x. x.1.now) result
         declaring_steps tokens.now }
     ensures shorter { IfOk result (λ x. length x.1.now < length tokens.now) }
 {
@@ -282,7 +282,7 @@ fn declaring(alloc: Global, tokens: &[Spanned]) -> Reading<Exp>
 /// What a name begins: a call, a record, an array or an l-value.
 #[cycle(descent)]
 fn naming(alloc: Global, tokens: &[Spanned]) -> Reading<Exp>
-    ensures given { Gives (At UnaryLevel) (λ x. plain x.0) (λ x. x.1.now) result
+    ensures given { AnswersJob (At UnaryLevel) (λ x. plain x.0) (λ x. x.1.now) result
         (name naming_steps) tokens.now }
     ensures shorter { IfOk result (λ x. length x.1.now < length tokens.now) }
 {
@@ -306,7 +306,7 @@ fn naming(alloc: Global, tokens: &[Spanned]) -> Reading<Exp>
 /// What follows a name and an opening bracket.
 #[cycle(descent)]
 fn indexing(alloc: Global, name: Ident, tokens: &[Spanned]) -> Reading<Exp>
-    ensures given { Gives (At UnaryLevel) (λ x. plain x.0) (λ x. x.1.now) result
+    ensures given { AnswersJob (At UnaryLevel) (λ x. plain x.0) (λ x. x.1.now) result
         (indexing_steps name) tokens.now }
     ensures shorter { IfOk result (λ x. length x.1.now < length tokens.now) }
 {
@@ -330,7 +330,7 @@ fn suffixes(
     place: Var,
     tokens: &[Spanned],
 ) -> Result<(Span, Var, &[Spanned]), Stop>
-    ensures given { Gives (Suffix span (plain_place place)) (λ x. (x.0, plain_place x.1))
+    ensures given { AnswersJob (Suffix span (plain_place place)) (λ x. (x.0, plain_place x.1))
         (λ x. x.2.now) result
         (job (Suffix span (plain_place place))) tokens.now }
     ensures shorter { IfOk result (λ x. length x.2.now ≤ length tokens.now) }
@@ -369,7 +369,7 @@ fn listed(
     close: Mark,
     tokens: &[Spanned],
 ) -> Result<(Vec<Exp>, Span, &[Spanned]), Stop>
-    ensures given { Gives (Listed separator close) (λ x. (exps_of x.0.items, x.1))
+    ensures given { AnswersJob (Listed separator close) (λ x. (exps_of x.0.items, x.1))
         (λ x. x.2.now) result
         (job (Listed separator close)) tokens.now }
     ensures shorter { IfOk result (λ x. length x.2.now < length tokens.now) }
@@ -386,7 +386,8 @@ fn listed(
 /// An expression and those that follow it.
 #[cycle(descent)]
 fn items(alloc: Global, separator: Sign, first: Exp, tokens: &[Spanned]) -> Reading<Vec<Exp>>
-    ensures given { Gives (Items separator (exp (plain first) no_exps)) (λ x. exps_of x.0.items)
+    ensures given { AnswersJob (Items separator (exp (plain first) no_exps))
+        (λ x. exps_of x.0.items)
         (λ x. x.1.now) result
         (job (Items separator (exp (plain first) no_exps))) tokens.now }
     ensures shorter { IfOk result (λ x. length x.1.now ≤ length tokens.now) }
@@ -407,7 +408,7 @@ fn items(alloc: Global, separator: Sign, first: Exp, tokens: &[Spanned]) -> Read
 /// A field's value.
 #[cycle(descent)]
 fn one_init(alloc: Global, tokens: &[Spanned]) -> Reading<Init>
-    ensures given { Gives OneInit (λ x. (x.0.field, plain x.0.value)) (λ x. x.1.now) result
+    ensures given { AnswersJob OneInit (λ x. (x.0.field, plain x.0.value)) (λ x. x.1.now) result
         (job OneInit) tokens.now }
     ensures shorter { IfOk result (λ x. length x.1.now < length tokens.now) }
 {
@@ -419,7 +420,7 @@ fn one_init(alloc: Global, tokens: &[Spanned]) -> Reading<Init>
 /// Fields' values, up to the brace that ends them.
 #[cycle(descent)]
 fn listed_inits(alloc: Global, tokens: &[Spanned]) -> Result<(Vec<Init>, Span, &[Spanned]), Stop>
-    ensures given { Gives ListedInits (λ x. (inits_of x.0.items, x.1)) (λ x. x.2.now) result
+    ensures given { AnswersJob ListedInits (λ x. (inits_of x.0.items, x.1)) (λ x. x.2.now) result
         (job ListedInits) tokens.now }
     ensures shorter { IfOk result (λ x. length x.2.now < length tokens.now) }
 {
@@ -436,7 +437,7 @@ fn listed_inits(alloc: Global, tokens: &[Spanned]) -> Result<(Vec<Init>, Span, &
 /// A field's value and those that follow it.
 #[cycle(descent)]
 fn inits(alloc: Global, first: Init, tokens: &[Spanned]) -> Reading<Vec<Init>>
-    ensures given { Gives (MoreInits (init first.field (plain first.value) no_inits))
+    ensures given { AnswersJob (MoreInits (init first.field (plain first.value) no_inits))
         (λ x. inits_of x.0.items) (λ x. x.1.now) result
         (job (MoreInits (init first.field (plain first.value) no_inits))) tokens.now }
     ensures shorter { IfOk result (λ x. length x.1.now ≤ length tokens.now) }
@@ -457,7 +458,7 @@ fn inits(alloc: Global, first: Init, tokens: &[Spanned]) -> Reading<Vec<Init>>
 /// Declarations, as many as follow.
 #[cycle(descent)]
 fn declarations(alloc: Global, tokens: &[Spanned]) -> Reading<Vec<Dec>>
-    ensures given { Gives (MoreDecs no_decs) (λ x. decs_of x.0.items) (λ x. x.1.now) result
+    ensures given { AnswersJob (MoreDecs no_decs) (λ x. decs_of x.0.items) (λ x. x.1.now) result
         (job (MoreDecs no_decs)) tokens.now }
     ensures shorter { IfOk result (λ x. length x.1.now ≤ length tokens.now) }
 {

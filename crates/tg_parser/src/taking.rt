@@ -1,6 +1,6 @@
 ghost use Rattle.std.specs.Prelude.{◌≡◌, ◌<◌, ◌+◌, ◌↔◌, IsTrue, IfOk, MatchResult, [], ◌∷◌, length};
 ghost use Rattle.tg_parser.specs.declared.faults.Stop.TheVariants.{More};
-ghost use Rattle.tg_parser.specs.Given.{Gives};
+ghost use Rattle.tg_parser.specs.Given.{AnswersJob};
 ghost use Rattle.tg_grammar.specs.Steps.{token_of, want, name, give, OneSpan, OneName};
 
 use crate::faults::Stop;
@@ -39,7 +39,7 @@ pub(crate) fn next(tokens: &[Spanned]) -> Result<(&Spanned, &[Spanned]), Stop>
 /// The span of a mark that has to stand at the front.
 #[tactic(auto, using(crate::proofs::Chains::take_yes, crate::proofs::Chains::take_no, crate::proofs::Chains::take_none))]
 pub(crate) fn take(mark: Mark, tokens: &[Spanned]) -> Reading<Span>
-    ensures given { Gives OneSpan (λ x. x.0) (λ x. x.1.now) result
+    ensures given { AnswersJob OneSpan (λ x. x.0) (λ x. x.1.now) result
         (want mark (λ s. give s)) tokens.now }
     ensures shorter { IfOk result (λ x. length x.1.now < length tokens.now) }
 {
@@ -58,7 +58,8 @@ pub(crate) fn take(mark: Mark, tokens: &[Spanned]) -> Reading<Span>
 /// An identifier that has to stand at the front.
 #[tactic(auto, using(crate::proofs::Chains::name_is, crate::proofs::Chains::name_not, crate::proofs::Chains::name_none))]
 pub(crate) fn take_name(tokens: &[Spanned]) -> Reading<Ident>
-    ensures given { Gives OneName (λ x. x.0) (λ x. x.1.now) result (name (λ x. give x)) tokens.now }
+    ensures given { AnswersJob OneName (λ x. x.0) (λ x. x.1.now) result (name
+        (λ x. give x)) tokens.now }
     ensures shorter { IfOk result (λ x. length x.1.now < length tokens.now) }
 {
     match tokens.split_first() {

@@ -16,7 +16,7 @@ use Rattle.tg_tree.specs.Memory.{Memory, put, slot, literal_address}
 use Rattle.tg_instr.specs.declared.operands.Opnd.{Opnd}
 use Rattle.tg_instr.specs.declared.operands.Opnd.TheVariants.{Reg}
 use Rattle.tg_instr.specs.Operands.{is_same}
-use Rattle.tg_instr.specs.Shapes.{Operand, Hi, Lo, Shape, From0, From1, From2, Halves, Copy, Loads, Stores}
+use Rattle.tg_instr.specs.Shapes.{Operand, Hi, Lo, InstructionShape, From0, From1, From2, Halves, Copy, Loads, Stores}
 use Rattle.tg_instr.specs.Shapes.{FromSlot, ToSlot, Base, AddressOf}
 use Rattle.tg_instr.specs.Shapes.{Here, Goes, Tests, Calls, Asks, Fails, Returns}
 use Rattle.tg_instr.specs.Uses.{arguments, given_back, uses, defs}
@@ -51,7 +51,7 @@ second_side a e = record { activation = a; slots = e.slots'; jumps = e.jumps'; b
 
 module _ (a : Activation) (W : World → World → Type 0) (same_input : (w v : World) → W w v → v.input ≡ w.input) (E : Sides) where
   -- what an instruction asks of worlds that are alike
-  abbrev pub Asked : Shape → Type 0
+  abbrev pub Asked : InstructionShape → Type 0
   Asked (Loads to base n f) = (w v : World) (b x : ℕ) → W w v → f w.memory b ≡ Some x → f v.memory b ≡ Some x
   Asked (Stores from base n f) =
       (w v : World) (b x : ℕ) (m : Memory) → W w v → f w.memory b x ≡ Some m →
@@ -83,7 +83,7 @@ module _ (a : Activation) (W : World → World → Type 0) (same_input : (w v : 
   Same s t o x = (held a t (Operand x) ≡ held a s (Operand o)) ⊎ (held a s (Operand o) ≡ Nothing)
 
   -- what is read
-  pub record Reads (q : Shape) (x y : Opnd) (s t : Contents) : Type 0 where
+  pub record Reads (q : InstructionShape) (x y : Opnd) (s t : Contents) : Type 0 where
     pub first : (o : Opnd) → first_of q ≡ Some o → Same s t o x
     pub second : (o : Opnd) → second_of q ≡ Some o → Same s t o y
     pub hi : t Hi ≡ s Hi
@@ -92,7 +92,7 @@ module _ (a : Activation) (W : World → World → Type 0) (same_input : (w v : 
         (Operand (Reg r))
 
   -- what comes next, by what the instruction does to the contents
-  pub record Onward (q : Shape) (z : Opnd) (next next' : Next) (s t : Contents) : Type 0 where
+  pub record Onward (q : InstructionShape) (z : Opnd) (next next' : Next) (s t : Contents) : Type 0 where
     pub not_sp : (d : Opnd) → to_of q ≡ Some d → is_same d (Reg 29) ≡ false → is_same z (Reg 29) ≡ false
     pub defines :
         (d : Opnd) → to_of q ≡ Some d → passes q ≡ true → ((x : Opnd) → list_any (is_same x) (defs q) ≡
@@ -110,7 +110,7 @@ module _ (a : Activation) (W : World → World → Type 0) (same_input : (w v : 
         Simulates (next w (set (Operand (Reg 2)) (Word x) s)) (next' v (set (Operand (Reg 2)) (Word x) t))
 
   -- the definition itself
-  pub puts : (q : Shape) (z : Opnd) (next next' : Next) (s t : Contents) → Onward q z next next' s t →
+  pub puts : (q : InstructionShape) (z : Opnd) (next next' : Next) (s t : Contents) → Onward q z next next' s t →
       (d : Opnd) → to_of q ≡ Some d → passes q ≡ true → ((x : Opnd) → list_any (is_same x) (defs q) ≡
       (is_same x d || false)) → (c : Content) → c ≢ Nothing →
       ((x : Opnd) → (moves q d x ≡ false) ⊎ (held a s (Operand x) ≡ c)) → (w v : World) → W w v →
@@ -128,7 +128,7 @@ module _ (a : Activation) (W : World → World → Type 0) (same_input : (w v : 
   word_is_set : (n : ℕ) → Word n ≢ Nothing
   word_is_set n z = cc
 
-  pub step : (q : Shape) → Asked q → (z x y : Opnd) (next next' : Next) (s t : Contents) → Reads q x y s t →
+  pub step : (q : InstructionShape) → Asked q → (z x y : Opnd) (next next' : Next) (s t : Contents) → Reads q x y s t →
       Onward q z next next' s t →
       (w v : World) → W w v → Simulates (act E.room E.literals E.enter q (first_side a E) next w s) (act E.room E.literals E.enter'
       (reshaped q z x y) (second_side a E) next' v t)

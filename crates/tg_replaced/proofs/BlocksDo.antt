@@ -15,7 +15,7 @@ use Rattle.tg_instr.specs.declared.operands.Opnd.TheVariants.{Temp, Reg}
 use Rattle.tg_instr.specs.declared.instr.Instr.{Instr}
 use Rattle.tg_instr.specs.declared.instr.Instr.TheVariants.{FrameLoad, FrameStore}
 use Rattle.tg_instr.specs.Operands.{is_same}
-use Rattle.tg_instr.specs.Shapes.{Operand, Hi, Lo, Shape, From0, From1, From2, Halves, Copy, Loads, Stores}
+use Rattle.tg_instr.specs.Shapes.{Operand, Hi, Lo, InstructionShape, From0, From1, From2, Halves, Copy, Loads, Stores}
 use Rattle.tg_instr.specs.Shapes.{FromSlot, ToSlot, Base, AddressOf}
 use Rattle.tg_instr.specs.Shapes.{Here, Goes, Tests, Calls, Asks, Fails, Returns, shape}
 use Rattle.tg_instr.specs.Uses.{uses, defs}
@@ -49,14 +49,14 @@ pub data Fetched (Clear : Type 0) (z : Opnd) (t : Contents) : Contents → Type 
   with_slot : Clear → (d : Content) → Fetched Clear z t (set (Operand z) d t)
 
 -- a named operand is used
-first_used : (q : Shape) (o : Opnd) → first_of q ≡ Some o → list_any (is_same o) (uses q) ≡ true
+first_used : (q : InstructionShape) (o : Opnd) → first_of q ≡ Some o → list_any (is_same o) (uses q) ≡ true
 first_used q o e = by q e
   where
     head : (x : Opnd) (xs : List Opnd) → Some x ≡ Some o → list_any (is_same o) (x ∷ xs) ≡ true
     head x xs h = let same : x ≡ o = cc in subst (λ y. list_any (is_same o) (y ∷ xs) ≡ true) (sym same) (ap (λ b.
         b || list_any (is_same o) xs) (same_itself o))
 
-    by : (q : Shape) → first_of q ≡ Some o → list_any (is_same o) (uses q) ≡ true
+    by : (q : InstructionShape) → first_of q ≡ Some o → list_any (is_same o) (uses q) ≡ true
     by (From0 to k) h = cc
     by (From1 to (Operand x) f) h = head x [] h
     by (From1 to Hi f) h = cc
@@ -78,7 +78,7 @@ first_used q o e = by q e
     by (Fails k) h = cc
     by Returns h = cc
 
-second_used : (q : Shape) (o : Opnd) → second_of q ≡ Some o → list_any (is_same o) (uses q) ≡ true
+second_used : (q : InstructionShape) (o : Opnd) → second_of q ≡ Some o → list_any (is_same o) (uses q) ≡ true
 second_used q o e = by q e
   where
     or_right : (b c : Bool) → c ≡ true → (b || c) ≡ true
@@ -91,7 +91,7 @@ second_used q o e = by q e
         or_right (is_same o x) (is_same o y || false) (ap (λ b. b || false) (ap (λ z. is_same o z) same
         ∙ same_itself o))
 
-    by : (q : Shape) → second_of q ≡ Some o → list_any (is_same o) (uses q) ≡ true
+    by : (q : InstructionShape) → second_of q ≡ Some o → list_any (is_same o) (uses q) ≡ true
     by (From0 to k) h = cc
     by (From1 to x f) h = cc
     by (From2 to x y f) h = behind x y h
@@ -124,7 +124,7 @@ module _ (place : Opnd → Place) where
   kept_calls z (In y) = tt
   kept_calls z (At k) = (inl refl, tt)
 
-  no_call : (q : Shape) (z x y d : Opnd) → to_of q ≡ Some d → IsNoCall (reshaped q z x y)
+  no_call : (q : InstructionShape) (z x y d : Opnd) → to_of q ≡ Some d → IsNoCall (reshaped q z x y)
   no_call (Calls label) z x y d e = absurd (never e)
     where
       never : None ≡ Some d → ⊥
@@ -257,7 +257,7 @@ module _
 
   module _ (it : Moment) where
     -- short names for its parts
-    abbrev q : Shape
+    abbrev q : InstructionShape
     q = shape it.one
 
     abbrev B : Opnd → Type 0

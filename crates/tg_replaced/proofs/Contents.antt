@@ -6,7 +6,7 @@ use Rattle.tg_tree.specs.Actions.{Activation}
 use Rattle.tg_instr.specs.declared.operands.Opnd.{Opnd}
 use Rattle.tg_instr.specs.declared.operands.Opnd.TheVariants.{Temp, Reg}
 use Rattle.tg_instr.specs.Operands.{is_same}
-use Rattle.tg_instr.specs.Shapes.{Holder, Operand, Hi, Lo, Shape, Goes, Tests}
+use Rattle.tg_instr.specs.Shapes.{Holder, Operand, Hi, Lo, InstructionShape, Goes, Tests}
 use Rattle.tg_instr.specs.Uses.{arguments}
 use Rattle.tg_instr.specs.Contents.{Content, Word, Contents, set, held, handed, is_in, at_entry, is_found, gives_back}
 use Rattle.tg_instr.proofs.Same.{same_itself}
@@ -17,7 +17,7 @@ plain_not_sp (Temp t) h = refl
 plain_not_sp (Reg r) h = h.1
 
 -- a jump or a branch to a mark
-abbrev pub leads : Shape → ℕ → Type 0
+abbrev pub leads : InstructionShape → ℕ → Type 0
 leads (Goes m) k = k ≡ m
 leads (Tests rel left right m) k = k ≡ m
 leads _ k = ⊥

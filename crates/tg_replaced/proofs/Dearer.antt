@@ -17,14 +17,14 @@ use Rattle.tg_instr.specs.declared.operands.Opnd.{Opnd}
 use Rattle.tg_instr.specs.declared.operands.Opnd.TheVariants.{Reg}
 use Rattle.tg_instr.specs.declared.instr.Instr.{Instr}
 use Rattle.tg_instr.specs.Operands.{is_same}
-use Rattle.tg_instr.specs.Shapes.{Operand, Hi, Lo, Shape, From0, From1, From2, Halves, Copy, Loads, Stores, FromSlot, ToSlot, Base, AddressOf}
+use Rattle.tg_instr.specs.Shapes.{Operand, Hi, Lo, InstructionShape, From0, From1, From2, Halves, Copy, Loads, Stores, FromSlot, ToSlot, Base, AddressOf}
 use Rattle.tg_instr.specs.Shapes.{Here, Goes, Tests, Calls, Asks, Fails, Returns, shape}
 use Rattle.tg_instr.specs.Contents.{Content, Nothing, Word, Found, Contents, set, held, cell_of, content_of}
 use Rattle.tg_instr.specs.Meaning.{Next, Enter, Around, act, with_content_word, with_content, put_in, jump, skip}
 use Rattle.tg_replaced.specs.Blocks.{Charge, spent}
 use Rattle.tg_replaced.proofs.Simulating.{IsDearer, does_itself, writes_too}
 
-abbrev pub IsNoCall : Shape → Type 0
+abbrev pub IsNoCall : InstructionShape → Type 0
 IsNoCall (Calls label) = ⊥
 IsNoCall _ = Unit {0}
 
@@ -104,7 +104,7 @@ module _ (k : ℕ) where
     dearer_jump true m w s = still (e.jumps m w s)
     dearer_jump false m w s = onward w s
 
-    dearer_act : (q : Shape) → IsNoCall q → (w : World) (s : Contents) →
+    dearer_act : (q : InstructionShape) → IsNoCall q → (w : World) (s : Contents) →
         IsDearer k (act room literals enter q e next w s) (act room literals enter q e next' w s)
     dearer_act (From0 to n) h w s = dearer_put to (Word n) w s
     dearer_act (From1 to from f) h w s =

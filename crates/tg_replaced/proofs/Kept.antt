@@ -10,7 +10,7 @@ use Rattle.tg_tree.specs.Running.{function_of}
 use Rattle.tg_instr.specs.declared.operands.Opnd.{Opnd}
 use Rattle.tg_instr.specs.declared.operands.Opnd.TheVariants.{Temp, Reg}
 use Rattle.tg_instr.specs.declared.instr.Instr.{Instr}
-use Rattle.tg_instr.specs.Shapes.{Operand, Hi, Lo, Shape, From0, From1, From2, Halves, Copy, Loads, Stores}
+use Rattle.tg_instr.specs.Shapes.{Operand, Hi, Lo, InstructionShape, From0, From1, From2, Halves, Copy, Loads, Stores}
 use Rattle.tg_instr.specs.Shapes.{FromSlot, ToSlot, Base, AddressOf}
 use Rattle.tg_instr.specs.Shapes.{Here, Goes, Tests, Calls, Asks, Fails, Returns, shape}
 use Rattle.tg_replaced.specs.Blocks.{Blocks, code_of, Charge, Covers}
@@ -52,7 +52,7 @@ none_needed : (z : Opnd) (op : Option Opnd) (B : Opnd → Type 0) → NeedsFor o
 none_needed z None B = tt
 none_needed z (Some o) B = tt
 
-reshaped_itself : (q : Shape) → q ≡ reshaped q (through_for own_place z0 (to_of q)) (through_for own_place z0
+reshaped_itself : (q : InstructionShape) → q ≡ reshaped q (through_for own_place z0 (to_of q)) (through_for own_place z0
     (first_of q)) (through_for own_place z1 (second_of q))
 reshaped_itself (From0 to k) = refl
 reshaped_itself (From1 to (Operand o) f) = refl

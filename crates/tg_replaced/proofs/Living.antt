@@ -11,7 +11,7 @@ use Rattle.tg_instr.specs.declared.instr.Instr.{Instr}
 use Rattle.tg_instr.specs.declared.instr.Instr.TheVariants.{Mark}
 use Rattle.tg_instr.specs.Operands.{is_same}
 use Rattle.tg_instr.specs.Codes.{is_mark}
-use Rattle.tg_instr.specs.Shapes.{Shape, Goes, Tests, Fails, Returns, shape}
+use Rattle.tg_instr.specs.Shapes.{InstructionShape, Goes, Tests, Fails, Returns, shape}
 use Rattle.tg_instr.specs.Uses.{uses, defs, uses_of, defs_of}
 use Rattle.tg_instr.specs.Running.{behind}
 use Rattle.tg_instr.proofs.Same.{same_itself, same_is}
@@ -59,7 +59,7 @@ or_last : (b c : Bool) → c ≡ true → (b || c) ≡ true
 or_last true c e = refl
 or_last false c e = e
 
-passes_on : (all : List Instr) (at : ℕ) (q : Shape) → passes q ≡ true → list_any (nat_eq (suc at))
+passes_on : (all : List Instr) (at : ℕ) (q : InstructionShape) → passes q ≡ true → list_any (nat_eq (suc at))
     (onward all at q) ≡ true
 passes_on all at (Goes m) e = absurd (true≢false (sym e))
 passes_on all at (Tests rel l r m) e = or_last (nat_eq (suc at) (place_of m all)) _ (ap (λ b. b || false) (eq_self
@@ -68,7 +68,7 @@ passes_on all at (Fails n) e = absurd (true≢false (sym e))
 passes_on all at Returns e = absurd (true≢false (sym e))
 passes_on all at _ e = ap (λ b. b || false) (eq_self (suc at))
 
-defs_pass : (d : Opnd) (q : Shape) → list_any (is_same d) (defs q) ≡ true → passes q ≡ true
+defs_pass : (d : Opnd) (q : InstructionShape) → list_any (is_same d) (defs q) ≡ true → passes q ≡ true
 defs_pass d (Goes m) e = absurd (true≢false (sym e))
 defs_pass d (Fails n) e = absurd (true≢false (sym e))
 defs_pass d Returns e = absurd (true≢false (sym e))
@@ -172,7 +172,7 @@ module _ (all : List Instr) where
   behind_is m [] r e = cc
   behind_is m (x ∷ l) r e = mark_at m x l r (λ z. behind_is m l r z) e
 
-  goes_mark : (at m : ℕ) (q : Shape) → leads q m → list_any (nat_eq (place_of m all)) (onward all at q) ≡ true
+  goes_mark : (at m : ℕ) (q : InstructionShape) → leads q m → list_any (nat_eq (place_of m all)) (onward all at q) ≡ true
   goes_mark at m (Goes k) l =
       subst (λ i. list_any (nat_eq (place_of m all)) (place_of i all ∷ []) ≡ true) l (ap (λ b. b || false)
       (eq_self (place_of m all)))
@@ -181,7 +181,7 @@ module _ (all : List Instr) where
       (ap (λ b. b || list_any (nat_eq (place_of m all)) (suc at ∷ [])) (eq_self (place_of m all)))
   goes_mark at m _ l = absurd l
 
-  leads_defs : (m : ℕ) (q : Shape) → leads q m → (o : Opnd) → list_any (is_same o) (defs q) ≡ false
+  leads_defs : (m : ℕ) (q : InstructionShape) → leads q m → (o : Opnd) → list_any (is_same o) (defs q) ≡ false
   leads_defs m (Goes k) l o = refl
   leads_defs m (Tests rel x y k) l o = refl
   leads_defs m _ l o = absurd l

@@ -5,7 +5,7 @@ use Rattle.std.specs.Prelude.{if◌then◌else◌}
 use Rattle.tg_instr.specs.declared.operands.Opnd.{Opnd}
 use Rattle.tg_instr.specs.declared.instr.Instr.{Instr}
 use Rattle.tg_instr.specs.declared.instr.Instr.TheVariants.{Mark}
-use Rattle.tg_instr.specs.Shapes.{Shape, From0, From1, From2, Halves, Copy, Loads, Stores, FromSlot, ToSlot}
+use Rattle.tg_instr.specs.Shapes.{InstructionShape, From0, From1, From2, Halves, Copy, Loads, Stores, FromSlot, ToSlot}
 use Rattle.tg_instr.specs.Shapes.{Base, AddressOf}
 use Rattle.tg_instr.specs.Shapes.{Here, Goes, Tests, Calls, Asks, Fails, Returns, shape}
 use Rattle.tg_instr.specs.Running.{behind}
@@ -15,7 +15,7 @@ use Rattle.tg_replaced.specs.Places.{Place, In, At, fetched, kept, fetched_for, 
 use Rattle.tg_replaced.specs.Places.{load, store, both, Stands, nothing, a_block}
 use Rattle.tg_replaced.proofs.Suffixes.{IsRest, next, some_is}
 
-not_here : (q : Shape) (z x y : Opnd) (m : ℕ) → Here m ≡ reshaped q z x y → Here m ≡ q
+not_here : (q : InstructionShape) (z x y : Opnd) (m : ℕ) → Here m ≡ reshaped q z x y → Here m ≡ q
 not_here (From0 to k) z x y m h = cc
 not_here (From1 to o f) z x y m h = cc
 not_here (From2 to l r f) z x y m h = cc

@@ -9,7 +9,7 @@ use Rattle.tg_instr.specs.declared.instr.Instr.TheVariants.{Slt, Sltu, Addi, Add
 use Rattle.tg_instr.specs.declared.instr.Instr.TheVariants.{Lb, Lbu, Lw, Sb, Sw, Move}
 use Rattle.tg_instr.specs.declared.instr.Instr.TheVariants.{FrameLoad, FrameStore, FrameAddress, Address, Mark, Jump}
 use Rattle.tg_instr.specs.declared.instr.Instr.TheVariants.{Branch, Call, Service, Fault, Return}
-use Rattle.tg_instr.specs.Shapes.{Shape, Calls, Returns, shape, with_sign}
+use Rattle.tg_instr.specs.Shapes.{InstructionShape, Calls, Returns, shape, with_sign}
 use Rattle.tg_instr.specs.Contents.{content_of, cell_of}
 use Rattle.tg_replaced.proofs.Apart.{Sides, Asked}
 use Rattle.tg_replaced.proofs.Worlds.{load_too, load_byte_too, store_too, store_byte_too, put_too}
@@ -21,7 +21,7 @@ sign_too None o' x f h = cc
 sign_too (Some b) o' x f h = ap with_sign (f b refl) ∙ h
 
 module _ (a : Activation) (added : ℕ → Bool) (cells : ℕ → Cell) (E : Sides) where
-  abbrev pub AskedOfWorlds : Shape → Type 0
+  abbrev pub AskedOfWorlds : InstructionShape → Type 0
   AskedOfWorlds q = Asked a (Worlds added cells) (λ w v r. r.input) E q
 
   -- the first's slots are slots of the second, and no added ones

@@ -10,7 +10,7 @@ use Rattle.tg_tree.specs.Memory.{Cell, slot, set_cell}
 use Rattle.tg_instr.specs.declared.operands.Opnd.{Opnd}
 use Rattle.tg_instr.specs.declared.operands.Opnd.TheVariants.{Temp, Reg}
 use Rattle.tg_instr.specs.Operands.{is_same}
-use Rattle.tg_instr.specs.Shapes.{Operand, Hi, Lo, Shape, Calls}
+use Rattle.tg_instr.specs.Shapes.{Operand, Hi, Lo, InstructionShape, Calls}
 use Rattle.tg_instr.specs.Uses.{clobbered, uses, defs}
 use Rattle.tg_instr.specs.Contents.{Content, Nothing, Word, Found, Contents, set, held, is_in, after_call, cell_of}
 use Rattle.tg_instr.specs.Contents.{content_of}
@@ -71,7 +71,7 @@ module _ (a : Activation) (P : Places) where
 
   -- What is live before and behind an instruction and behind the marks; what is live stands apart from what is
   -- defined.
-  pub record Flows (q : Shape) (B A : Opnd → Type 0) (J : ℕ → Opnd → Type 0) : Type 0 where
+  pub record Flows (q : InstructionShape) (B A : Opnd → Type 0) (J : ℕ → Opnd → Type 0) : Type 0 where
     pub used : (x : Opnd) → list_any (is_same x) (uses q) ≡ true → B x
     pub on : passes q ≡ true → (x : Opnd) → A x → list_any (is_same x) (defs q) ≡ false → B x
     pub across : (m : ℕ) → leads q m → (x : Opnd) → J m x → B x

@@ -6,7 +6,7 @@ use Rattle.tg_runs.specs.Ran.{Ran, Wrong}
 use Rattle.tg_tree.specs.Tree.{Literal}
 use Rattle.tg_tree.specs.Actions.{World}
 use Rattle.tg_instr.specs.declared.operands.Opnd.{Opnd}
-use Rattle.tg_instr.specs.Shapes.{Operand, Hi, Lo, Shape, From0, From1, From2, Halves, Copy, Loads, Stores}
+use Rattle.tg_instr.specs.Shapes.{Operand, Hi, Lo, InstructionShape, From0, From1, From2, Halves, Copy, Loads, Stores}
 use Rattle.tg_instr.specs.Shapes.{FromSlot, ToSlot, Base, AddressOf}
 use Rattle.tg_instr.specs.Shapes.{Here, Goes, Tests, Calls, Asks, Fails, Returns}
 use Rattle.tg_instr.specs.Contents.{Content, Nothing, Word, Found, Contents, held}
@@ -14,7 +14,7 @@ use Rattle.tg_replaced.specs.Named.{first_of, second_of}
 use Rattle.tg_instr.specs.Meaning.{Next, Enter, Around, act, with_content_word, with_content}
 
 module _ (e : Around) (room : ℕ) (literals : List Literal) (enter : Enter) (next : Next) (w : World) (s : Contents) (n : ℕ) where
-  abbrev GoesWrong : Shape → Type 0
+  abbrev GoesWrong : InstructionShape → Type 0
   GoesWrong q = (act room literals enter q e next w s n).stop ≡ Wrong
 
   no_word : (c : Content) (go : ℕ → Run Ran) → c ≡ Nothing → (with_content_word c w go n).stop ≡ Wrong
@@ -33,7 +33,7 @@ module _ (e : Around) (room : ℕ) (literals : List Literal) (enter : Enter) (ne
   same_operand x o h u = let same : x ≡ o = cc in ap (λ z. held e.activation s (Operand z)) same ∙ u
 
   -- an operand that is named and isn't set goes wrong
-  pub unset_first : (q : Shape) (o : Opnd) → first_of q ≡ Some o → held e.activation s (Operand o) ≡ Nothing → GoesWrong q
+  pub unset_first : (q : InstructionShape) (o : Opnd) → first_of q ≡ Some o → held e.activation s (Operand o) ≡ Nothing → GoesWrong q
   unset_first (From0 to k) o h u = cc
   unset_first (From1 to (Operand x) f) o h u = no_word _ _ (same_operand x o h u)
   unset_first (From1 to Hi f) o h u = cc
@@ -56,7 +56,7 @@ module _ (e : Around) (room : ℕ) (literals : List Literal) (enter : Enter) (ne
   unset_first (Fails k) o h u = cc
   unset_first Returns o h u = cc
 
-  pub unset_second : (q : Shape) (o : Opnd) → second_of q ≡ Some o → held e.activation s (Operand o) ≡ Nothing → GoesWrong q
+  pub unset_second : (q : InstructionShape) (o : Opnd) → second_of q ≡ Some o → held e.activation s (Operand o) ≡ Nothing → GoesWrong q
   unset_second (From0 to k) o h u = cc
   unset_second (From1 to x f) o h u = cc
   unset_second (From2 to x y f) o h u = both_wrong (held e.activation s (Operand x)) (held e.activation s (Operand y)) _

@@ -2,12 +2,13 @@
 -- call, a service and a return name none: what they use and define is fixed.
 use Rattle.std.specs.Prelude.{Bool, true, false, Option, Some, None}
 use Rattle.tg_instr.specs.declared.operands.Opnd.{Opnd}
-use Rattle.tg_instr.specs.Shapes.{Holder, Operand, Hi, Lo, Shape, From0, From1, From2, Halves, Copy}
+use Rattle.tg_instr.specs.Shapes.{Holder, Operand, Hi, Lo, InstructionShape, From0, From1, From2}
+use Rattle.tg_instr.specs.Shapes.{Halves, Copy}
 use Rattle.tg_instr.specs.Shapes.{Loads, Stores, FromSlot, ToSlot, Base, AddressOf, Tests}
 use Rattle.tg_instr.specs.Shapes.{Goes, Fails, Returns}
 
 -- what it defines
-abbrev pub to_of : Shape → Option Opnd
+abbrev pub to_of : InstructionShape → Option Opnd
 to_of (From0 to n) = Some to
 to_of (From1 to from f) = Some to
 to_of (From2 to left right f) = Some to
@@ -19,7 +20,7 @@ to_of (AddressOf to label) = Some to
 to_of _ = None
 
 -- the others, as they stand in the instruction's text
-abbrev pub first_of : Shape → Option Opnd
+abbrev pub first_of : InstructionShape → Option Opnd
 first_of (From1 to (Operand from) f) = Some from
 first_of (From2 to left right f) = Some left
 first_of (Halves left right low high) = Some left
@@ -30,7 +31,7 @@ first_of (ToSlot from k) = Some from
 first_of (Tests rel left right m) = Some left
 first_of _ = None
 
-abbrev pub second_of : Shape → Option Opnd
+abbrev pub second_of : InstructionShape → Option Opnd
 second_of (From2 to left right f) = Some right
 second_of (Halves left right low high) = Some right
 second_of (Stores from base n f) = Some base
@@ -43,7 +44,7 @@ other_holder Hi y = Hi
 other_holder Lo y = Lo
 
 -- the shape with others in the places of these
-abbrev pub reshaped : Shape → (to first second : Opnd) → Shape
+abbrev pub reshaped : InstructionShape → (to first second : Opnd) → InstructionShape
 reshaped (From0 to n) z x y = From0 z n
 reshaped (From1 to from f) z x y = From1 z (other_holder from x) f
 reshaped (From2 to left right f) z x y = From2 z x y f
@@ -59,7 +60,7 @@ reshaped (Tests rel left right m) z x y = Tests rel x y m
 reshaped one z x y = one
 
 -- the next instruction may come behind it
-abbrev pub passes : Shape → Bool
+abbrev pub passes : InstructionShape → Bool
 passes (Goes m) = false
 passes (Fails n) = false
 passes Returns = false

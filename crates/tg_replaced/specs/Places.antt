@@ -8,7 +8,7 @@ use Rattle.tg_instr.specs.declared.operands.Opnd.TheVariants.{Temp, Reg}
 use Rattle.tg_instr.specs.declared.instr.Instr.{Instr}
 use Rattle.tg_instr.specs.declared.instr.Instr.TheVariants.{FrameLoad, FrameStore}
 use Rattle.tg_instr.specs.Operands.{is_same}
-use Rattle.tg_instr.specs.Shapes.{Shape, Copy, shape}
+use Rattle.tg_instr.specs.Shapes.{InstructionShape, Copy, shape}
 use Rattle.tg_replaced.specs.Blocks.{Blocks}
 use Rattle.tg_replaced.specs.Named.{to_of, first_of, second_of, reshaped}
 
@@ -93,7 +93,7 @@ module _ (place : Opnd → Place) where
 
     -- the three scratch operands of an instruction: for what it defines, and for what it names
     -- first and second
-    pub record Scratch (q : Shape) (z0 z1 z2 : Opnd) : Type 0 where
+    pub record Scratch (q : InstructionShape) (z0 z1 z2 : Opnd) : Type 0 where
       pub to : NeedsFor z0 (to_of q)
       pub first : NeedsFor z1 (first_of q)
       pub second : NeedsFor z2 (second_of q)

@@ -1,8 +1,8 @@
 -- What an action of the translation leaves: an answer and a state.
-use Rattle.tg_translate.specs.States.{TranslationState, Drawn, drawn}
+use Rattle.tg_translate.specs.States.{TranslationState, Translated, drawn}
 
-abbrev pub answer : {A : Type 0} → Drawn A → A
+abbrev pub answer : {A : Type 0} → Translated A → A
 answer (drawn a s) = a
 
-abbrev pub left : {A : Type 0} → Drawn A → TranslationState
+abbrev pub left : {A : Type 0} → Translated A → TranslationState
 left (drawn a s) = s

@@ -20,7 +20,7 @@ use Rattle.tg_types.specs.Laws.{CheckedHasType}
 use Rattle.tg_types.specs.Limits.{above, first_above}
 use Rattle.tg_translate.specs.Scopes.{found}
 use Rattle.tg_translate.specs.Translate.{translated}
-use Rattle.tg_shapes.specs.Laws.{IsWithin, IsSmall, CheckedFramesAreSmall, CheckedConstantsAreWords}
+use Rattle.tg_shapes.specs.Laws.{FunctionIsWithin, FunctionIsSmall, CheckedFramesAreSmall, CheckedConstantsAreWords}
 use Rattle.tg_shapes.proofs.Fine.{Each, each_append, each_contained}
 use Rattle.tg_shapes.proofs.Near.{wider}
 use Rattle.tg_shapes.proofs.Measured.{functions_are_within}
@@ -95,7 +95,7 @@ pub within_limit : (rule : TypeRule) (at number limit : ℕ) (otherwise : Option
     above rule at number limit otherwise ≡ None → (number ≤ limit) × (otherwise ≡ None)
 within_limit rule at number limit otherwise h = not_above (nat_lt limit number) number limit (rule, at) otherwise refl h
 
-small : (m : Measures) (f : Function Ts) → m.nodes ≤ 32768 → m.level ≤ 32 → m.size ≤ 4096 → IsWithin m f → IsSmall f
+small : (m : Measures) (f : Function Ts) → m.nodes ≤ 32768 → m.level ≤ 32 → m.size ≤ 4096 → FunctionIsWithin m f → FunctionIsSmall f
 small m f n l k h =
     let s = h.slots in
     let t = h.temps in
@@ -111,7 +111,7 @@ small m f n l k h =
       shallow = omega (arith, deep, k);
     }
 
-all_small : (ms : List Measures) (fs : List (Function Ts)) → Each (Few 32768) ms → first_above ms ≡ None → AllZip IsWithin ms fs → Each IsSmall fs
+all_small : (ms : List Measures) (fs : List (Function Ts)) → Each (Few 32768) ms → first_above ms ≡ None → AllZip FunctionIsWithin ms fs → Each FunctionIsSmall fs
 all_small [] [] h e k = tt
 all_small [] (f ∷ fs) h e k = absurd k
 all_small (m ∷ ms) [] h e k = absurd k
@@ -126,7 +126,7 @@ checked_frames_are_small typed p escapes links f a c =
     let findings = found p.notes escapes links in
     let limit = within_limit T22 (span_of body).from (program_size body) 32768 (first_above (program_functions body)) (typed p a).limits in
     let nodes : size body + inner body ≤ 32768 = subst (λ n. n ≤ 32768) (program_size_is body) limit.0 in
-    each_contained IsSmall (translated findings body).functions
+    each_contained FunctionIsSmall (translated findings body).functions
     (all_small (program_functions body) (translated findings body).functions (omega (arith, nodes), few_nodes 32768 0 [] body nodes) limit.1
     (functions_are_within findings body))
     f c

@@ -20,7 +20,7 @@ use Rattle.tg_translate.specs.declared.held.HeldAddress.{HeldAddress}
 use Rattle.tg_translate.specs.declared.held.HeldAddress.TheVariants.{InOwnFrame, Beside, At}
 use Rattle.tg_translate.specs.declared.wants.Want.{Want}
 use Rattle.tg_translate.specs.declared.wants.Want.TheVariants as want
-use Rattle.tg_translate.specs.States.{TranslationState, Drawn, Acts, after, give}
+use Rattle.tg_translate.specs.States.{TranslationState, Translated, Translates, after, give}
 use Rattle.tg_translate.specs.Wants.{Made, value, done, test, truth_into, value_of, put_in, dropped, test_of, arms, as_statement, deliver, followed}
 use Rattle.tg_translate.specs.Wants.{value_behind, done_behind, behind_some, behind}
 use Rattle.tg_translate.specs.Constructs.{Storage, in_temp, at_address, operand, keep, hold, HeldAll, hold_next, own_place, store_at, want_for}
@@ -117,7 +117,7 @@ module _ (n : ℕ) where
       gives s (held_at one.before one.address) (g, held_address_near n one.address)
 
   -- an assignment draws two more than its value, read first or not
-  pub assignment_takes : {m : Cost} (reads_first : Bool) (p : Storage) (e : Want → Acts Made) (behind : Tx → Want → Acts Made) (s : TranslationState) →
+  pub assignment_takes : {m : Cost} (reads_first : Bool) (p : Storage) (e : Want → Translates Made) (behind : Tx → Want → Translates Made) (s : TranslationState) →
       IsPlace n p → ((w : Want) (t : TranslationState) → Takes m (IsMade n) t (e w t)) →
       (reads_first ≡ true → (x : Tx) (w : Want) (t : TranslationState) → IsTx n x → Takes m (IsMade n) t (behind x w t)) →
       Takes (record m { temps = 1 + (m.temps + 1) }) (IsTs n) s (assignment reads_first p e behind s)
@@ -195,7 +195,7 @@ module _ (n : ℕ) where
     functions = adds_none s (left (literal bytes s)) refl;
   }
 
-  pub declaration_takes : {m : Cost} (escapes : ℕ → Bool) (level at : ℕ) (e : Want → Acts Made) (s : TranslationState) →
+  pub declaration_takes : {m : Cost} (escapes : ℕ → Bool) (level at : ℕ) (e : Want → Translates Made) (s : TranslationState) →
       ((w : Want) (t : TranslationState) → Takes m (IsMade n) t (e w t)) →
       Takes (record m { slots = one_of (escapes at) + m.slots; temps = 1 + (m.temps + 1) }) (IsTs n) s (declaration_of escapes level at e s)
   declaration_takes escapes level at e s f =
@@ -203,7 +203,7 @@ module _ (n : ℕ) where
       assign_takes (own_place home) x s (own_place_near n home) k
 
   -- Where the right side of an operator draws so many, the whole draws five more at most.
-  module _ {m : Cost} (right : Want → Acts Made) (f : (w : Want) (t : TranslationState) → Takes m (IsMade n) t (right w t)) where
+  module _ {m : Cost} (right : Want → Translates Made) (f : (w : Want) (t : TranslationState) → Takes m (IsMade n) t (right w t)) where
     into_takes : (o : Op) (w : Want) (c : Cond) (s : TranslationState) → IsCond n c →
         Takes (record m { temps = 1 + m.temps }) (IsMade n) s (after (arms w s) (λ a t. after (right a t) (λ x. give (deliver w a (chosen o a c x)))))
     into_takes o w c s h =
@@ -233,11 +233,11 @@ module _ (n : ℕ) where
 
   -- A choice draws one more than its arms; where it is a conjunction, the other arm takes nothing.
 
-  arm_takes : {m : Cost} {s : TranslationState} {d : Drawn Made} (w : Want) → Takes m (IsMade n) s d →
+  arm_takes : {m : Cost} {s : TranslationState} {d : Translated Made} (w : Want) → Takes m (IsMade n) s d →
       Takes m (IsTs n) s (after d (λ x. give (as_statement w x)))
   arm_takes w h = then_quiet h λ x s k. gives s (as_statement w x) (statement_near n w x k)
 
-  module _ {m k : Cost} (this other : Want → Acts Made) (f : (w : Want) (t : TranslationState) → Takes m (IsMade n) t (this w t))
+  module _ {m k : Cost} (this other : Want → Translates Made) (f : (w : Want) (t : TranslationState) → Takes m (IsMade n) t (this w t))
       (g : (w : Want) (t : TranslationState) → Takes k (IsMade n) t (other w t)) where
     arms_take : (w : Want) (c : Cond) (s : TranslationState) → IsCond n c →
         Takes (record (and m k) { temps = 1 + (m.temps + k.temps) }) (IsMade n) s (chosen_arm w c this other s)

@@ -18,7 +18,7 @@ use Rattle.tg_translate.specs.declared.operands.Operand.{Operand}
 use Rattle.tg_translate.specs.declared.operands.Operand.TheVariants.{Number, Kept}
 use Rattle.tg_translate.specs.declared.held.HeldAddress.{HeldAddress}
 use Rattle.tg_translate.specs.declared.held.HeldAddress.TheVariants.{InOwnFrame, Beside, At}
-use Rattle.tg_translate.specs.States.{TranslationState, Acts, after, give, fresh}
+use Rattle.tg_translate.specs.States.{TranslationState, Translates, after, give, fresh}
 use Rattle.tg_translate.specs.Wants.{Made, value, test, put_in, followed}
 use Rattle.tg_translate.specs.Constructs.{minus_one, least_int, plus, operand, Held, keep, hold, HeldAll, hold_next, own_link, frame_out, Storage}
 use Rattle.tg_translate.specs.Constructs.{in_temp, at_address, place_in, own_place, after_all, read, store_at, want_for, assign, held_address}
@@ -302,7 +302,7 @@ module _ {asks : Asks} {c : Where} where
       (field_good asks c.loops t k held.before (operand held.operand) j.0 (operand_good asks c.loops t held.operand j.1)))
 
   -- two values are held, one behind the other
-  module _ {A : Type 0} (W : TranslationState → A → Type 0) (direct : Bool) (x y : Tx) (next : Held → Held → Acts A)
+  module _ {A : Type 0} (W : TranslationState → A → Type 0) (direct : Bool) (x y : Tx) (next : Held → Held → Translates A)
       (made : (l h : Held) (t : TranslationState) → Ready asks c t → GoodOperand asks t l.operand → HeldWell asks c.loops t h → Yields asks c t W
       (next l h t)) where
     both_held : {s : TranslationState} → Ready asks c s → GoodTx asks c.loops s x → GoodTx asks c.loops s y →

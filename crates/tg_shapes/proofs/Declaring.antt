@@ -9,7 +9,7 @@ use Rattle.tg_frame.specs.declared.accesses.Access.{Access}
 use Rattle.tg_frame.specs.declared.accesses.Access.TheVariants.{InTemp, InFrame}
 use Rattle.tg_frame.specs.Homes.{is_slot, homes_from, homes_of, temps_of}
 use Rattle.tg_translate.specs.declared.homes.Home.{Home}
-use Rattle.tg_translate.specs.States.{TranslationState, Frame, Drawn, drawn, one_temp, one_slot}
+use Rattle.tg_translate.specs.States.{TranslationState, Frame, Translated, drawn, one_temp, one_slot}
 use Rattle.tg_translate.specs.Constructs.{in_body, in_test}
 use Rattle.tg_translate.specs.Scopes.{declare_variable}
 use Rattle.tg_translate.specs.Functions.{at_of, asked, parameters, own_homes}
@@ -53,14 +53,14 @@ module _ {asks : Asks} where
     loops = r.loops;
   }
 
-  pub leave_with : {A : Type 0} {c d : Where} {s : TranslationState} {V : TranslationState → A → Type 0} {dr : Drawn A} → d.kept ≡ c.kept →
+  pub leave_with : {A : Type 0} {c d : Where} {s : TranslationState} {V : TranslationState → A → Type 0} {dr : Translated A} → d.kept ≡ c.kept →
       ((at : ℕ) → Contains c.own at → Contains d.own at) →
       Ready asks c s → Yields asks d s V dr → Yields asks c s (λ t a. V t a × Ready asks d t) dr
   leave_with {s = s} {dr = dr} e f r h =
       let st = subst (λ k. Step asks k s (left dr)) e h.step in
       record { step = st; ready = leave f st.grows.temps r h.ready; value = (h.value, h.ready) }
 
-  pub leave_yields : {A : Type 0} {c d : Where} {s : TranslationState} {V : TranslationState → A → Type 0} {dr : Drawn A} → d.kept ≡ c.kept →
+  pub leave_yields : {A : Type 0} {c d : Where} {s : TranslationState} {V : TranslationState → A → Type 0} {dr : Translated A} → d.kept ≡ c.kept →
       ((at : ℕ) → Contains c.own at → Contains d.own at) →
       Ready asks c s → Yields asks d s V dr → Yields asks c s V dr
   leave_yields e f r h = let k = leave_with e f r h in record { step = k.step; ready = k.ready; value = k.value.0 }

@@ -15,7 +15,7 @@ use Rattle.tg_translate.specs.declared.wants.Want.{Want}
 use Rattle.tg_translate.specs.declared.wants.Want.TheVariants as want
 use Rattle.tg_translate.specs.declared.operands.Operand.{Operand}
 use Rattle.tg_translate.specs.declared.operands.Operand.TheVariants.{Number, Kept}
-use Rattle.tg_translate.specs.States.{TranslationState, Frame, Acts, Drawn, drawn, after, give, with_frame, fresh, one_temp}
+use Rattle.tg_translate.specs.States.{TranslationState, Frame, Translates, Translated, drawn, after, give, with_frame, fresh, one_temp}
 use Rattle.tg_translate.specs.Wants.{Made, value, done, test}
 use Rattle.tg_translate.specs.Constructs.{Storage, in_temp, at_address, HeldAll}
 use Rattle.tg_shapes.proofs.Fine.{Each, FineTs, FineStms, FineTx, FineTxs, FineCond, widen_ts, widen_stms, widen_tx, widen_txs, widen_cond}
@@ -100,7 +100,7 @@ module _ (asks : Asks) where
     pub loops : asks.breaks → c.in_loop ≡ true → c.within.leave < c.loops
 
   -- an action takes a step, from where a part may go on, and what it gives is fine there
-  pub record Yields {A : Type 0} (c : Where) (s : TranslationState) (V : TranslationState → A → Type 0) (d : Drawn A) : Type 0 where
+  pub record Yields {A : Type 0} (c : Where) (s : TranslationState) (V : TranslationState → A → Type 0) (d : Translated A) : Type 0 where
     pub step : Step c.kept s (left d)
     pub ready : Ready c (left d)
     pub value : V (left d) (answer d)
@@ -253,7 +253,7 @@ module _ {asks : Asks} where
   }
 
   pub bind : {A C : Type 0} {c : Where} {s : TranslationState} {V : TranslationState → A → Type 0} {W : TranslationState →
-      C → Type 0} {d : Drawn A} {next : A → Acts C} →
+      C → Type 0} {d : Translated A} {next : A → Translates C} →
       Yields asks c s V d → ((a : A) (t : TranslationState) → Step asks c.kept s t → Ready asks c t → V t a → Yields asks c t W (next a t)) →
       Yields asks c s W (after d next)
   bind {d = drawn a t} h k =

@@ -21,7 +21,7 @@ use Rattle.tg_tree.specs.Memory.{string_text}
 use Rattle.tg_translate.specs.declared.wants.Want.{Want}
 use Rattle.tg_translate.specs.declared.wants.Want.TheVariants as want
 use Rattle.tg_translate.specs.declared.homes.Within.{Within}
-use Rattle.tg_translate.specs.States.{TranslationState, Drawn, drawn, after, give}
+use Rattle.tg_translate.specs.States.{TranslationState, Translated, drawn, after, give}
 use Rattle.tg_translate.specs.Wants.{Made, value, done, value_of, test_of, dropped, followed}
 use Rattle.tg_translate.specs.Constructs.{HeldAll, none_held, read, make_array, negation, repeat_while, in_body, in_test}
 use Rattle.tg_translate.specs.Choices.{left_want}
@@ -36,7 +36,7 @@ use Rattle.tg_shapes.specs.Escaped.{one_of, params_escaping, escaping, place_esc
 use Rattle.tg_shapes.specs.Escaped.{place_escaping_inside, exps_escaping_inside, inits_escaping_inside, decs_escaping_inside, functions_escaping}
 use Rattle.tg_shapes.specs.Escaped.{program_escaping}
 use Rattle.tg_shapes.specs.Strings.{strings, place_strings, exps_strings, inits_strings, decs_strings, bodies_strings}
-use Rattle.tg_shapes.specs.Laws.{IsWithin}
+use Rattle.tg_shapes.specs.Laws.{FunctionIsWithin}
 use Rattle.tg_shapes.proofs.Fine.{Each}
 use Rattle.tg_shapes.proofs.Near.{IsTx, AreTxs, IsCond, IsTs, AreStms, IsMade, IsPlace, join_txs_near, followed_near, dropped_near, test_near}
 use Rattle.tg_shapes.proofs.Near.{read_near, negation_near}
@@ -212,7 +212,7 @@ module _ (findings : Findings) where
   abbrev of_functions : (n : ℕ) → Levels → FunDecs → Cost
   of_functions n seen fs = adds (bodies_strings fs) (functions_escaping findings.escapes fs) (declared_functions n seen fs)
 
-  module _ {m : Cost} (n : ℕ) {s : TranslationState} {d : Drawn Made} (h : Takes m (IsMade n) s d) where
+  module _ {m : Cost} (n : ℕ) {s : TranslationState} {d : Translated Made} (h : Takes m (IsMade n) s d) where
     of_value : Takes (record m { temps = m.temps + 1 }) (IsTx n) s (after d value_of)
     of_value = then_draws h λ x s k. values_takes n x s k
 
@@ -360,22 +360,22 @@ module _ (findings : Findings) where
   walked : (e : Exp) → Takes (record (of_exp 0 [] e) { temps = drawn_by e + 1 }) (IsTs 0) start (program_body findings e start)
   walked e = then_draws (walk e want.Dropped outermost 0 [] start (omega arith)) λ m s h. closing_takes 0 false m s h
 
-  program_texts : {m : Cost} {V : Ts → Type 0} (d : Drawn Ts) → Takes m V start d → map (λ l. l.text) (program d).literals ≡ map string_text m.texts
+  program_texts : {m : Cost} {V : Ts → Type 0} (d : Translated Ts) → Takes m V start d → map (λ l. l.text) (program d).literals ≡ map string_text m.texts
   program_texts (drawn x u) h = h.texts
 
-  program_slots : {m : Cost} {V : Ts → Type 0} (d : Drawn Ts) → Takes m V start d → AllZip HasSlots (m.slots ∷ m.counts) (program d).functions
+  program_slots : {m : Cost} {V : Ts → Type 0} (d : Translated Ts) → Takes m V start d → AllZip HasSlots (m.slots ∷ m.counts) (program d).functions
   program_slots {m} (drawn x u) h =
       let k = h.slots in
       (omega (arith, k), subst (λ fs. AllZip HasSlots m.counts fs) (sym h.functions.behind) h.functions.slots)
 
-  program_within : {m : Cost} (i : Measures) (d : Drawn Ts) → m.slots ≤ i.nodes → m.temps ≤ 6 * i.nodes + 1 → (i.level ≤ 32 → Gives (SmallBody i.size) d) →
-      Takes m (AccessesWithin (suc i.level)) start d → AllZip IsWithin (i ∷ m.functions) (program d).functions
+  program_within : {m : Cost} (i : Measures) (d : Translated Ts) → m.slots ≤ i.nodes → m.temps ≤ 6 * i.nodes + 1 → (i.level ≤ 32 → Gives (SmallBody i.size) d) →
+      Takes m (AccessesWithin (suc i.level)) start d → AllZip FunctionIsWithin (i ∷ m.functions) (program d).functions
   program_within {m} i (drawn x u) a b small h = (
     within_frame start i (omega arith) refl (omega (arith, a)) (omega (arith, b)) (λ n. (small n).value) h,
-    subst (λ fs. AllZip IsWithin m.functions fs) (sym h.functions.behind) h.functions.within,
+    subst (λ fs. AllZip FunctionIsWithin m.functions fs) (sym h.functions.behind) h.functions.within,
   )
 
-  program_passes : {m : Cost} {V : Ts → Type 0} (d : Drawn Ts) → Takes m V start d → Each PassesNothing (program d).functions
+  program_passes : {m : Cost} {V : Ts → Type 0} (d : Translated Ts) → Takes m V start d → Each PassesNothing (program d).functions
   program_passes (drawn x u) h = (h.out, subst (λ fs. Each PassesNothing fs) (sym h.functions.behind) h.functions.passing)
 
   pub literals_are : (e : Exp) → map (λ l. l.text) (translated findings e).literals ≡ map string_text (strings e)
@@ -387,7 +387,7 @@ module _ (findings : Findings) where
   pub nothing_is_passed : (e : Exp) → Each PassesNothing (translated findings e).functions
   nothing_is_passed e = program_passes (program_body findings e start) (walked e)
 
-  pub functions_are_within : (e : Exp) → AllZip IsWithin (program_functions e) (translated findings e).functions
+  pub functions_are_within : (e : Exp) → AllZip FunctionIsWithin (program_functions e) (translated findings e).functions
   functions_are_within e =
       let bounds = few findings.escapes e in
       program_within (measures (span_of e).from 0 [] [] e) (program_body findings e start) (omega (arith, bounds.1)) (omega (arith, bounds.0))

@@ -9,7 +9,7 @@ use Rattle.tg_tree.specs.Tree.{Ts}
 use Rattle.tg_tree.specs.Shapes.{EndsFunction}
 use Rattle.tg_translate.specs.declared.homes.Within.{Within}
 use Rattle.tg_translate.specs.declared.wants.Want.{Want}
-use Rattle.tg_translate.specs.States.{TranslationState, Acts, Drawn, drawn, after}
+use Rattle.tg_translate.specs.States.{TranslationState, Translates, Translated, drawn, after}
 use Rattle.tg_translate.specs.Wants.{Made}
 use Rattle.tg_translate.specs.Returning.{given_back}
 use Rattle.tg_translate.specs.Functions.{at_of, asked, parameters, own_homes, frame_for, declare_functions, with_body, finished, finish, opened}
@@ -144,10 +144,10 @@ module _ (asks : Asks) where
       }
 
   -- what a body of a group leaves
-  abbrev pub Placed : (c : Where) → (from to : ℕ) → TranslationState → Drawn (Unit {0}) → Type 0
+  abbrev pub Placed : (c : Where) → (from to : ℕ) → TranslationState → Translated (Unit {0}) → Type 0
   Placed c from to s (drawn _ t) = Places (c.own ++ c.kept) from to s t × Ready asks c t
 
-  finished_placed : (c : Where) (s : TranslationState) (label : ℕ) (kept : Bool) (params : List Param) (d : Drawn Ts) →
+  finished_placed : (c : Where) (s : TranslationState) (label : ℕ) (kept : Bool) (params : List Param) (d : Translated Ts) →
       (asks.temps → AreApart (params_of params) (c.own ++ c.kept)) → Ready asks c s →
       Yields asks (nested kept params c) (begun_state label kept params c s) (IsWhole 0) d → Placed c label (label + 1) s
       (finish s d)
@@ -159,7 +159,7 @@ module _ (asks : Asks) where
   result_good s false = tt
 
   pub body_placed : (c : Where) (s : TranslationState) (label at : ℕ) (has_result : Bool) (params : List Param)
-      (text : Want → Within → Acts Made) →
+      (text : Want → Within → Translates Made) →
       (asks.temps → AreApart (params_of params) (c.own ++ c.kept)) → Ready asks c s →
       ((t : TranslationState) (w : Want) → Ready asks (nested (asks.findings.keeps_link at) params c) t → GoodWant asks t w →
       Yields asks (nested (asks.findings.keeps_link at) params c) t (λ u m. GoodMade asks 0 u m)
@@ -186,7 +186,7 @@ module _ (asks : Asks) where
     pub label : t.label ≡ end
     pub stays : (n : ℕ) → stands n t ≡ stands n s
 
-  abbrev pub Opened : (c : Where) → (end : ℕ) → TranslationState → Drawn (Unit {0}) → Type 0
+  abbrev pub Opened : (c : Where) → (end : ℕ) → TranslationState → Translated (Unit {0}) → Type 0
   Opened c end s (drawn _ t) = Opens c.kept end s t × Ready asks c t
 
   abbrev with_callee : (at level : ℕ) → TranslationState → TranslationState
@@ -226,7 +226,7 @@ module _ (asks : Asks) where
     homes = λ t x k. refl;
   }
 
-  opened_more : (c : Where) (end at level : ℕ) (s : TranslationState) (d : Drawn (Unit {0})) → Opened c end
+  opened_more : (c : Where) (end at level : ℕ) (s : TranslationState) (d : Translated (Unit {0})) → Opened c end
       (with_callee at level s) d → Opened c end s d
   opened_more c end at level s (drawn u t) h =
       (record { grows = grows_on (callee_grows c.kept s at level) h.0.grows; label = h.0.label; stays = h.0.stays }, h.1)
@@ -251,8 +251,8 @@ module _ (asks : Asks) where
         omega (arith, p, q, i);
   }
 
-  placed_next : {A : Type 0} (c : Where) (end : ℕ) (s t : TranslationState) (V : TranslationState → A → Type 0) (d : Drawn (Unit {0}))
-      (next : Acts A) →
+  placed_next : {A : Type 0} (c : Where) (end : ℕ) (s t : TranslationState) (V : TranslationState → A → Type 0) (d : Translated (Unit {0}))
+      (next : Translates A) →
       Opens c.kept end s t → Placed c s.label end t d →
       ((u : TranslationState) → Step asks c.kept s u → Ready asks c u → Yields asks c u V (next u)) → Yields asks c s V (after d (λ _. next))
   placed_next c end s t V (drawn a u) next o h k =
@@ -260,16 +260,16 @@ module _ (asks : Asks) where
       let g = k u st h.1 in
       record { step = onward st g.step; ready = g.ready; value = g.value }
 
-  pub group_yields : {A : Type 0} (c : Where) (end : ℕ) (s : TranslationState) (V : TranslationState → A → Type 0) (d : Drawn (Unit {0}))
-      (bodies : Acts (Unit {0})) (next : Acts A) →
+  pub group_yields : {A : Type 0} (c : Where) (end : ℕ) (s : TranslationState) (V : TranslationState → A → Type 0) (d : Translated (Unit {0}))
+      (bodies : Translates (Unit {0})) (next : Translates A) →
       Opened c end s d → ((t : TranslationState) → Ready asks c t → Placed c s.label end t (bodies t)) →
       ((u : TranslationState) → Step asks c.kept s u → Ready asks c u → Yields asks c u V (next u)) →
       Yields asks c s V (after d (λ _ t. after (bodies t) (λ _. next)))
   group_yields c end s V (drawn a t) bodies next o f k = placed_next c end s t V (bodies t) next o.0 (f t o.1) k
 
-  pub placed_then : (c : Where) (a b end : ℕ) (s : TranslationState) (d : Drawn (Unit {0})) (next : Acts (Unit {0})) →
+  pub placed_then : (c : Where) (a b end : ℕ) (s : TranslationState) (d : Translated (Unit {0})) (next : Translates (Unit {0})) →
       Placed c a b s d → ((t : TranslationState) → Ready asks c t → Placed c b end t (next t)) → Placed c a end s (after d (λ _. next))
   placed_then c a b end s (drawn u t) next h k = placed_on (next t) (k t h.1)
     where
-      placed_on : (d : Drawn (Unit {0})) → Placed c b end t d → Placed c a end s d
+      placed_on : (d : Translated (Unit {0})) → Placed c b end t d → Placed c a end s d
       placed_on (drawn v q) g = (places_more (c.own ++ c.kept) a b end s t q h.0 g.0, g.1)

@@ -10,7 +10,7 @@ use Rattle.tg_tree.specs.Tree.{Ts, Function, Code}
 use Rattle.tg_tree.specs.Named.{Named, function, literal, fault, temporary, function_labels, literal_labels, HasItsTemps, IsLinked}
 use Rattle.tg_tree.specs.Shapes.{IsClosed}
 use Rattle.tg_translate.specs.declared.wants.Want.TheVariants as want
-use Rattle.tg_translate.specs.States.{TranslationState, Drawn, drawn}
+use Rattle.tg_translate.specs.States.{TranslationState, Translated, drawn}
 use Rattle.tg_translate.specs.Functions.{with_body, beginning, frame_for, outermost, program}
 use Rattle.tg_translate.specs.Translate.{program_body, translated}
 use Rattle.tg_shapes.specs.Laws.{names}
@@ -57,7 +57,7 @@ module _ (asks : Asks) (e : Exp) where
     pub end : ℕ
     pub shaped : Shaped code callees end
 
-  shaped_of : (d : Drawn Ts) → Yields asks top first (nesting.IsWhole asks 0) d →
+  shaped_of : (d : Translated Ts) → Yields asks top first (nesting.IsWhole asks 0) d →
       HasShape (program d)
   shaped_of (drawn x t) h = record {
     callees = callee_labels t;

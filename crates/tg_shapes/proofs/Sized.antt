@@ -25,7 +25,7 @@ use Rattle.tg_translate.specs.declared.operands.Operand.TheVariants.{Number, Kep
 use Rattle.tg_translate.specs.declared.held.HeldAddress.TheVariants.{InOwnFrame, Beside, At}
 use Rattle.tg_translate.specs.declared.wants.Want.{Want}
 use Rattle.tg_translate.specs.declared.wants.Want.TheVariants as want
-use Rattle.tg_translate.specs.States.{TranslationState, Drawn, drawn, Acts, after, give, fresh}
+use Rattle.tg_translate.specs.States.{TranslationState, Translated, drawn, Translates, after, give, fresh}
 use Rattle.tg_translate.specs.Wants.{Made, value, done, test, truth_into, value_of, put_in, dropped, test_of, as_statement, arms, deliver, followed}
 use Rattle.tg_translate.specs.Wants.{behind, behind_some, value_behind, done_behind}
 use Rattle.tg_translate.specs.Constructs.{Storage, in_temp, at_address, operand, Held, keep, hold, HeldAll, none_held, hold_next, own_place, read}
@@ -56,20 +56,20 @@ use Rattle.tg_shapes.proofs.Sizing.{quotient_size, negation_size, while_size, co
 
 -- What actions give, whatever state they begin in.
 
-pub record Gives {A : Type 0} (V : A → Type 0) (d : Drawn A) : Type 0 where
+pub record Gives {A : Type 0} (V : A → Type 0) (d : Translated A) : Type 0 where
   pub value : V (answer d)
 
-bind : {A B : Type 0} {V : A → Type 0} {W : B → Type 0} {d : Drawn A} {next : A → Acts B} → Gives V d →
+bind : {A B : Type 0} {V : A → Type 0} {W : B → Type 0} {d : Translated A} {next : A → Translates B} → Gives V d →
     ((a : A) (s : TranslationState) → V a → Gives W (next a s)) → Gives W (after d next)
 bind {d = drawn a s} h k = k a s h.value
 
 given : {A : Type 0} {V : A → Type 0} (s : TranslationState) (a : A) → V a → Gives V (give a s)
 given s a v = record { value = v }
 
-weaken : {A : Type 0} {V W : A → Type 0} {d : Drawn A} → Gives V d → ((a : A) → V a → W a) → Gives W d
+weaken : {A : Type 0} {V W : A → Type 0} {d : Translated A} → Gives V d → ((a : A) → V a → W a) → Gives W d
 weaken {d = d} h k = record { value = k (answer d) h.value }
 
-anything : {A : Type 0} (d : Drawn A) → Gives (λ a. Unit {0}) d
+anything : {A : Type 0} (d : Translated A) → Gives (λ a. Unit {0}) d
 anything d = record { value = tt }
 
 -- What a text of so many nodes pays for.
@@ -131,7 +131,7 @@ value_size (test c) s = bind (anything (fresh s)) λ t s u. given s (After (trut
 paid_value : (n : ℕ) (m : Made) (s : TranslationState) → Paid n m → Gives (PaidTx n) (value_of m s)
 paid_value n m s h = weaken (value_size m s) λ x k. (omega (arith, h.0, k.0), omega (arith, h.1, k.1), omega (arith, h.2, k.2))
 
-module _ (n : ℕ) {d : Drawn Made} (h : Gives (Paid n) d) where
+module _ (n : ℕ) {d : Translated Made} (h : Gives (Paid n) d) where
   of_value : Gives (PaidTx n) (after d value_of)
   of_value = bind h λ m s k. paid_value n m s k
 
@@ -284,7 +284,7 @@ hold_place_size (at_address ss a) s =
 short_read : (q : HeldPlace) → PaidTx 1 (read_held q)
 short_read q = let h = read_held_size q in (omega (arith, h.0), omega (arith, h.1), omega (arith, h.2))
 
-paid_assignment : (n m : ℕ) (reads_first : Bool) (p : Storage) (e : Want → Acts Made) (behind : Tx → Want → Acts Made) (s : TranslationState) →
+paid_assignment : (n m : ℕ) (reads_first : Bool) (p : Storage) (e : Want → Translates Made) (behind : Tx → Want → Translates Made) (s : TranslationState) →
     PaidPlace n p → ((w : Want) (t : TranslationState) → Gives (Paid m) (e w t)) →
     ((x : Tx) (w : Want) (t : TranslationState) → PaidTx 1 x → Gives (Paid m) (behind x w t)) →
     Gives (λ y. Paid (1 + n + m) (done y)) (assignment reads_first p e behind s)
@@ -295,7 +295,7 @@ paid_assignment n m false p e behind s h f g =
     bind (f (want_for p) s) λ x s k.
     weaken (assign_size p x s) λ y i. (omega (arith, h.0, k.0, i.0), omega (arith, h.1, k.1, i.1), omega (arith, h.2, k.2, i.2))
 
-paid_declaration : (n : ℕ) (escapes : ℕ → Bool) (level at : ℕ) (e : Want → Acts Made) (s : TranslationState) →
+paid_declaration : (n : ℕ) (escapes : ℕ → Bool) (level at : ℕ) (e : Want → Translates Made) (s : TranslationState) →
     ((w : Want) (t : TranslationState) → Gives (Paid n) (e w t)) → Gives (PaidTs (1 + n)) (declaration_of escapes level at e s)
 paid_declaration n escapes level at e s f =
     bind (anything (declare_variable (escapes at) level at s)) λ home s u. bind (f (want_for (own_place home)) s) λ m s h.
@@ -348,7 +348,7 @@ paid_call n c (Some (means.Function at)) xs s l h =
 paid_call n c (Some other) xs s l h = given s no_value (omega arith, omega arith, omega arith)
 
 -- Operators: the left side is made, and the right one is translated for what it is to be.
-module _ (n m : ℕ) (right : Want → Acts Made) (f : (w : Want) (t : TranslationState) → Gives (Paid m) (right w t)) where
+module _ (n m : ℕ) (right : Want → Translates Made) (f : (w : Want) (t : TranslationState) → Gives (Paid m) (right w t)) where
   into_paid : (o : Op) (w : Want) (c : Cond) (s : TranslationState) → PaidCond n c →
       Gives (Paid (1 + n + m)) (after (arms w s) (λ a t. after (right a t) (λ x. give (deliver w a (chosen o a c x)))))
   into_paid o w c s h =
@@ -382,7 +382,7 @@ module _ (n m : ℕ) (right : Want → Acts Made) (f : (w : Want) (t : Translati
   left_paid o meaning direct w l s h = operator_paid o (compares_strings meaning) direct l s h
 
 -- Choices, of two arms that are translated for what they are to be.
-module _ (n m k : ℕ) (this other : Want → Acts Made) (f : (w : Want) (t : TranslationState) → Gives (Paid m) (this w t))
+module _ (n m k : ℕ) (this other : Want → Translates Made) (f : (w : Want) (t : TranslationState) → Gives (Paid m) (this w t))
     (g : (w : Want) (t : TranslationState) → Gives (Paid k) (other w t)) where
   arms_paid : (w : Want) (c : Cond) (s : TranslationState) → PaidCond n c → Gives (Paid (1 + n + m + k)) (chosen_arm w c this other s)
   arms_paid w c s h =

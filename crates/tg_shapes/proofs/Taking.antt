@@ -6,10 +6,10 @@ use Rattle.std.proofs.lemmas.List.{map-append}
 use Rattle.tg_syntax.specs.Functions.{Measures}
 use Rattle.tg_tree.specs.Tree.{Ts, Function}
 use Rattle.tg_tree.specs.Memory.{string_text}
-use Rattle.tg_translate.specs.States.{TranslationState, Drawn, drawn, Acts, after, give, fresh}
+use Rattle.tg_translate.specs.States.{TranslationState, Translated, drawn, Translates, after, give, fresh}
 use Rattle.tg_translate.specs.Functions.{with_body, finish}
 use Rattle.tg_shapes.specs.Accesses.{AccessesWithin}
-use Rattle.tg_shapes.specs.Laws.{IsWithin}
+use Rattle.tg_shapes.specs.Laws.{FunctionIsWithin}
 use Rattle.tg_shapes.proofs.Actions.{answer, left}
 use Rattle.tg_shapes.proofs.Fine.{Each, each_append}
 use Rattle.tg_shapes.proofs.Sized.{Gives, SmallBody}
@@ -57,10 +57,10 @@ pub record Adds (counts : List ℕ) (ms : List Measures) (s t : TranslationState
   pub added : List (Function Ts)
   pub behind : t.functions ≡ s.functions ++ added
   pub slots : AllZip HasSlots counts added
-  pub within : AllZip IsWithin ms added
+  pub within : AllZip FunctionIsWithin ms added
   pub passing : Each PassesNothing added
 
-pub record Takes {A : Type 0} (m : Cost) (V : A → Type 0) (s : TranslationState) (d : Drawn A) : Type 0 where
+pub record Takes {A : Type 0} (m : Cost) (V : A → Type 0) (s : TranslationState) (d : Translated A) : Type 0 where
   pub value : V (answer d)
   pub slots : (left d).frame.slots ≤ s.frame.slots + m.slots
   pub temps : (left d).frame.temps ≤ s.frame.temps + m.temps
@@ -87,7 +87,7 @@ adds_on s t u xs ys ms ns h k = record {
   added = h.added ++ k.added;
   behind = k.behind ∙ (ap (λ fs. fs ++ k.added) h.behind ∙ append_assoc s.functions h.added k.added);
   slots = zip_append HasSlots xs ys h.added k.added h.slots k.slots;
-  within = zip_append IsWithin ms ns h.added k.added h.within k.within;
+  within = zip_append FunctionIsWithin ms ns h.added k.added h.within k.within;
   passing = each_append PassesNothing h.added k.added h.passing k.passing;
 }
 
@@ -96,7 +96,7 @@ adds_none s t e = record { added = []; behind = e ∙ sym (append-nil s.function
 
 -- Actions follow one another.
 
-pub both : {A B : Type 0} {m k : Cost} {V : A → Type 0} {W : B → Type 0} {s : TranslationState} {d : Drawn A} {next : A → Acts B} → Takes m V s d →
+pub both : {A B : Type 0} {m k : Cost} {V : A → Type 0} {W : B → Type 0} {s : TranslationState} {d : Translated A} {next : A → Translates B} → Takes m V s d →
     ((a : A) (t : TranslationState) → V a → Takes k W t (next a t)) → Takes (and m k) W s (after d next)
 both {m = m} {k = k} {s = s} {d = drawn a t} {next = next} h f =
     let g = f a t h.value in
@@ -112,7 +112,7 @@ both {m = m} {k = k} {s = s} {d = drawn a t} {next = next} h f =
     }
 
 -- What costs as much, or less.
-pub at_most : {A : Type 0} {V : A → Type 0} {s : TranslationState} {d : Drawn A} (m k : Cost) → m.slots ≤ k.slots → m.temps ≤ k.temps →
+pub at_most : {A : Type 0} {V : A → Type 0} {s : TranslationState} {d : Translated A} (m k : Cost) → m.slots ≤ k.slots → m.temps ≤ k.temps →
     m.texts ≡ k.texts → m.counts ≡ k.counts → m.functions ≡ k.functions → Takes m V s d → Takes k V s d
 at_most {s = s} {d = d} m k l i e c f h =
     let u : TranslationState = left d in
@@ -126,32 +126,32 @@ at_most {s = s} {d = d} m k l i e c f h =
       functions = subst (λ xs. Adds xs k.functions s u) c (subst (λ ms. Adds m.counts ms s u) f h.functions);
     }
 
-pub more : {A : Type 0} {m : Cost} {k : ℕ} {V : A → Type 0} {s : TranslationState} {d : Drawn A} → m.temps ≤ k →
+pub more : {A : Type 0} {m : Cost} {k : ℕ} {V : A → Type 0} {s : TranslationState} {d : Translated A} → m.temps ≤ k →
     Takes m V s d → Takes (record m { temps = k }) V s d
 more {m = m} {k = k} l h = at_most m (record m { temps = k }) (omega arith) l refl refl refl h
 
-pub then_draws : {A B : Type 0} {m : Cost} {k : ℕ} {V : A → Type 0} {W : B → Type 0} {s : TranslationState} {d : Drawn A} {next : A → Acts B} → Takes m V s d →
+pub then_draws : {A B : Type 0} {m : Cost} {k : ℕ} {V : A → Type 0} {W : B → Type 0} {s : TranslationState} {d : Translated A} {next : A → Translates B} → Takes m V s d →
     ((a : A) (t : TranslationState) → V a → Takes (draws k) W t (next a t)) → Takes (record m { temps = m.temps + k }) W s (after d next)
 then_draws {m = m} {k = k} h f =
     at_most (and m (draws k)) (record m { temps = m.temps + k })
     (omega arith) (omega arith) (append-nil m.texts) (append-nil m.counts) (append-nil m.functions) (both h f)
 
-pub then_quiet : {A B : Type 0} {m : Cost} {V : A → Type 0} {W : B → Type 0} {s : TranslationState} {d : Drawn A} {next : A → Acts B} → Takes m V s d →
+pub then_quiet : {A B : Type 0} {m : Cost} {V : A → Type 0} {W : B → Type 0} {s : TranslationState} {d : Translated A} {next : A → Translates B} → Takes m V s d →
     ((a : A) (t : TranslationState) → V a → Takes (draws 0) W t (next a t)) → Takes m W s (after d next)
 then_quiet {m = m} h f = at_most (record m { temps = m.temps + 0 }) m (omega arith) (omega arith) refl refl refl (then_draws h f)
 
-pub draws_then : {A B : Type 0} {m : Cost} {k : ℕ} {V : A → Type 0} {W : B → Type 0} {s : TranslationState} {d : Drawn A} {next : A → Acts B} →
+pub draws_then : {A B : Type 0} {m : Cost} {k : ℕ} {V : A → Type 0} {W : B → Type 0} {s : TranslationState} {d : Translated A} {next : A → Translates B} →
     Takes (draws k) V s d →
     ((a : A) (t : TranslationState) → V a → Takes m W t (next a t)) → Takes (record m { temps = k + m.temps }) W s (after d next)
 draws_then {m = m} {k = k} h f = at_most (and (draws k) m) (record m { temps = k + m.temps }) (omega arith) (omega arith) refl refl refl (both h f)
 
-pub quiet_then : {A B : Type 0} {m : Cost} {V : A → Type 0} {W : B → Type 0} {s : TranslationState} {d : Drawn A} {next : A → Acts B} → Takes (draws 0) V s d →
+pub quiet_then : {A B : Type 0} {m : Cost} {V : A → Type 0} {W : B → Type 0} {s : TranslationState} {d : Translated A} {next : A → Translates B} → Takes (draws 0) V s d →
     ((a : A) (t : TranslationState) → V a → Takes m W t (next a t)) → Takes m W s (after d next)
 quiet_then {m = m} h f = at_most (record m { temps = 0 + m.temps }) m (omega arith) (omega arith) refl refl refl (draws_then h f)
 
 pub adds_then : {A B : Type 0} {m : Cost} {texts : List (List ℕ)} {counts : List ℕ} {functions : List Measures} {V : A →
     Type 0} {W : B → Type 0} {s : TranslationState}
-    {d : Drawn A} {next : A → Acts B} → Takes (adds texts counts functions) V s d →
+    {d : Translated A} {next : A → Translates B} → Takes (adds texts counts functions) V s d →
     ((a : A) (t : TranslationState) → V a → Takes m W t (next a t)) →
     Takes (record m { texts = texts ++ m.texts; counts = counts ++ m.counts; functions = functions ++ m.functions }) W s (after d next)
 adds_then {m = m} {texts = texts} {counts = counts} {functions = functions} h f =
@@ -188,7 +188,7 @@ enclosed count i m = adds m.texts (count ∷ m.counts) (i ∷ m.functions)
 
 added_first : (s t u : TranslationState) (x : Ts) (counts : List ℕ) (ms : List Measures) (count : ℕ) (i : Measures) →
     t.functions ≡ [] → u.frame.slots ≤ count + 1 → u.frame.out ≡ 0 →
-    IsWithin i (with_body u.frame x) → Adds counts ms t u → Adds (count ∷ counts) (i ∷ ms) s (left (finish s (drawn x u)))
+    FunctionIsWithin i (with_body u.frame x) → Adds counts ms t u → Adds (count ∷ counts) (i ∷ ms) s (left (finish s (drawn x u)))
 added_first s t u x counts ms count i e l o w h =
     let f : Function Ts = with_body u.frame x in
     record {
@@ -203,7 +203,7 @@ added_first s t u x counts ms count i e l o w h =
 pub within_frame : {m : Cost} (t : TranslationState) {x : Ts} {u : TranslationState} (i : Measures) →
     length t.frame.params ≤ i.nodes - i.size + 1 → t.frame.out ≡ 0 → t.frame.slots + m.slots ≤ i.nodes + 1 →
     t.frame.temps + m.temps ≤ 6 * i.nodes + 1 → (i.level ≤ 32 → SmallBody i.size x) →
-    Takes m (AccessesWithin (suc i.level)) t (drawn x u) → IsWithin i (with_body u.frame x)
+    Takes m (AccessesWithin (suc i.level)) t (drawn x u) → FunctionIsWithin i (with_body u.frame x)
 within_frame t i p o a b small h =
     let c = h.slots in
     let e = h.temps in
@@ -218,7 +218,7 @@ within_frame t i p o a b small h =
       shallow = λ l. let k = small l in omega (arith, k.2);
     }
 
-pub finished : {m : Cost} (s t : TranslationState) {d : Drawn Ts} (own : ℕ) (i : Measures) → t.functions ≡ [] → t.literals ≡ s.literals →
+pub finished : {m : Cost} (s t : TranslationState) {d : Translated Ts} (own : ℕ) (i : Measures) → t.functions ≡ [] → t.literals ≡ s.literals →
     length t.frame.params ≤ i.nodes - i.size + 1 → t.frame.out ≡ 0 → t.frame.slots ≤ own + 1 →
     own + m.slots ≤ i.nodes → t.frame.temps + m.temps ≤ 6 * i.nodes + 1 → (i.level ≤ 32 → Gives (SmallBody i.size) d) →
     Takes m (AccessesWithin (suc i.level)) t d → Takes (enclosed (own + m.slots) i m) (λ x. Unit {0}) s (finish s d)

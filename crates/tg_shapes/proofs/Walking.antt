@@ -14,7 +14,7 @@ use Rattle.tg_tree.specs.Lists.{join_txs}
 use Rattle.tg_types.specs.declared.notes.Means.{Means}
 use Rattle.tg_translate.specs.declared.wants.Want.{Want}
 use Rattle.tg_translate.specs.declared.wants.Want.TheVariants as want
-use Rattle.tg_translate.specs.States.{TranslationState, Acts, after, give}
+use Rattle.tg_translate.specs.States.{TranslationState, Translates, after, give}
 use Rattle.tg_translate.specs.Wants.{Made, value, done, test_of, value_of, dropped, arms, deliver, followed}
 use Rattle.tg_translate.specs.Constructs.{Storage, HeldAll, none_held, own_place, read, want_for, read_held, place_held, make_array, operation}
 use Rattle.tg_translate.specs.Constructs.{negation, repeat_while}
@@ -69,11 +69,11 @@ module _ (asks : Asks) where
     wanting.statement_good asks n s w m g k,
   )
 
-  abbrev RightYields : Where → TranslationState → (Want → Acts Made) → Type 0
+  abbrev RightYields : Where → TranslationState → (Want → Translates Made) → Type 0
   RightYields c s right =
       (t : TranslationState) (w : Want) → Step asks c.kept s t → Ready asks c t → GoodWant asks t w → Yields asks c t (GoodMade asks c.loops) (right w t)
 
-  module _ (c : Where) (s : TranslationState) (right : Want → Acts Made) (then_right : RightYields c s right) where
+  module _ (c : Where) (s : TranslationState) (right : Want → Translates Made) (then_right : RightYields c s right) where
     into_arms : (o : Op) (w : Want) (d : Cond) → Ready asks c s → GoodWant asks s w → GoodCond asks c.loops s d →
         Yields asks c s (GoodMade asks c.loops) (after (arms w s) (λ a t. after (right a t) (λ m. give (deliver w a (chosen o a d m)))))
     into_arms o w d r g h =
@@ -118,7 +118,7 @@ module _ (asks : Asks) where
         (wanting.test_good asks c.loops s left h)
     left_yields o meaning direct w left r g h = operator_yields o (compares_strings meaning) direct left r h
 
-  module _ (c : Where) (s : TranslationState) (this other : Want → Acts Made) (then_this : RightYields c s this) (then_other : RightYields c s other) where
+  module _ (c : Where) (s : TranslationState) (this other : Want → Translates Made) (then_this : RightYields c s this) (then_other : RightYields c s other) where
     chosen_yields : (w : Want) (d : Cond) → Ready asks c s → GoodWant asks s w → GoodCond asks c.loops s d →
         Yields asks c s (GoodMade asks c.loops) (chosen_arm w d this other s)
     chosen_yields w d r g h =
@@ -143,7 +143,7 @@ module _ (asks : Asks) where
     choice_yields false w d r g h = chosen_yields w d r g h
 
   -- an assignment, where its value is translated to what is fine, also behind a read that is fine
-  assignment_yields : (c : Where) (s : TranslationState) (reads_first : Bool) (p : Storage) (e : Want → Acts Made) (behind : Tx → Want → Acts Made) →
+  assignment_yields : (c : Where) (s : TranslationState) (reads_first : Bool) (p : Storage) (e : Want → Translates Made) (behind : Tx → Want → Translates Made) →
       Ready asks c s → GoodPlace asks c.loops s p → RightYields c s e →
       ((t : TranslationState) (x : Tx) (w : Want) → Ready asks c t → Step asks c.kept s t → GoodTx asks c.loops t x → GoodWant asks t w →
       Yields asks c t (GoodMade asks c.loops) (behind x w t)) →
@@ -167,7 +167,7 @@ module _ (asks : Asks) where
   left_want_good s o = tt
 
   -- a declaration, where its value is translated to what is fine
-  declaration_yields : (c : Where) (s : TranslationState) (at : ℕ) (e : Want → Acts Made) → Ready asks c s →
+  declaration_yields : (c : Where) (s : TranslationState) (at : ℕ) (e : Want → Translates Made) → Ready asks c s →
       (asks.temps → AreApart (at ∷ []) c.kept) →
       ((t : TranslationState) (w : Want) → Ready asks (owning at c) t → GoodWant asks t w → Yields asks (owning at c) t (GoodMade asks c.loops) (e w t)) →
       Yields asks c s (λ t x. GoodTs asks c.loops t x × Ready asks (owning at c) t)
@@ -182,7 +182,7 @@ module _ (asks : Asks) where
       (λ m u su ru k. constructing.assign_yields (own_place home) m ru
       (place_on su c.loops (own_place home) p) k)))
 
-  abbrev Walks : Where → TranslationState → (Want → Acts Made) → Type 0
+  abbrev Walks : Where → TranslationState → (Want → Translates Made) → Type 0
   Walks c s e = (w : Want) → Ready asks c s → GoodWant asks s w → Yields asks c s (GoodMade asks c.loops) (e w s)
 
   of_value : (e : Exp) (c : Where) (s : TranslationState) → Yields asks c s (GoodMade asks c.loops) (expression asks.findings e want.Value c.within s) →

@@ -3,7 +3,7 @@ use Rattle.std.proofs.Common.{◌<◌, ℕ}
 use Rattle.tg_tree.specs.Tree.{Const, Temp, After, Cond, Ts, Stms, no_stms, stm}
 use Rattle.tg_translate.specs.declared.wants.Want.{Want}
 use Rattle.tg_translate.specs.declared.wants.Want.TheVariants as want
-use Rattle.tg_translate.specs.States.{TranslationState, Drawn, after, give, fresh}
+use Rattle.tg_translate.specs.States.{TranslationState, Translated, after, give, fresh}
 use Rattle.tg_translate.specs.Wants.{Made, value, done, test, truth_into, value_of, put_in, dropped, test_of, arms, as_statement, taken_from, deliver}
 use Rattle.tg_translate.specs.Wants.{followed, value_behind, done_behind, behind_some, behind}
 use Rattle.tg_shapes.proofs.Fine.{join_fine_stms}
@@ -106,7 +106,7 @@ module _ {asks : Asks} {c : Where} where
   behind_yields w (stm x ss) m r g h k = behind_some_yields w (stm x ss) m r g h k
 
   -- what an expression's place makes of what it became
-  module _ {s : TranslationState} {d : Drawn Made} (h : Yields asks c s (λ t m. GoodMade asks c.loops t m) d) where
+  module _ {s : TranslationState} {d : Translated Made} (h : Yields asks c s (λ t m. GoodMade asks c.loops t m) d) where
     pub value_from_yields : Yields asks c s (λ t x. GoodTx asks c.loops t x) (after d value_of)
     value_from_yields =
         bind h

@@ -21,7 +21,7 @@ use Rattle.tg_translate.specs.declared.held.HeldAddress.{HeldAddress}
 use Rattle.tg_translate.specs.declared.held.HeldAddress.TheVariants.{InOwnFrame, Beside, At}
 use Rattle.tg_translate.specs.declared.wants.Want.{Want}
 use Rattle.tg_translate.specs.declared.wants.Want.TheVariants as want
-use Rattle.tg_translate.specs.States.{TranslationState, Drawn, drawn, Acts, after, give, fresh}
+use Rattle.tg_translate.specs.States.{TranslationState, Translated, drawn, Translates, after, give, fresh}
 use Rattle.tg_translate.specs.Wants.{Made, value, done, test, truth_into, value_of, put_in, dropped, followed}
 use Rattle.tg_translate.specs.Wants.{behind, behind_some, value_behind, done_behind}
 use Rattle.tg_translate.specs.Constructs.{Storage, in_temp, at_address, operand, Held, keep, hold, HeldAll, hold_next}
@@ -54,12 +54,12 @@ pub record Standing (s : TranslationState) : Type 0 where
   pub functions : Each BodyOfWords s.functions
 
 -- an action takes so many slots at most, and what it gives and leaves has words
-pub record Goes {A : Type 0} (budget : ℕ) (V : A → Type 0) (s : TranslationState) (d : Drawn A) : Type 0 where
+pub record Goes {A : Type 0} (budget : ℕ) (V : A → Type 0) (s : TranslationState) (d : Translated A) : Type 0 where
   pub value : V (answer d)
   pub slots : (left d).frame.slots ≤ s.frame.slots + budget
   pub standing : Standing (left d)
 
-pub bind : {A B : Type 0} {a b : ℕ} {V : A → Type 0} {W : B → Type 0} {s : TranslationState} {d : Drawn A} {next : A → Acts B} → Goes a V s d →
+pub bind : {A B : Type 0} {a b : ℕ} {V : A → Type 0} {W : B → Type 0} {s : TranslationState} {d : Translated A} {next : A → Translates B} → Goes a V s d →
     ((x : A) (t : TranslationState) → Standing t → t.frame.slots ≤ s.frame.slots + a → V x → Goes b W t (next x t)) → Goes (a + b) W s (after d next)
 bind {d = drawn x t} h k =
     let l = h.slots in
@@ -70,7 +70,7 @@ bind {d = drawn x t} h k =
 pub given : {A : Type 0} {V : A → Type 0} (s : TranslationState) (x : A) → Standing s → V x → Goes 0 V s (give x s)
 given s x st v = record { value = v; slots = omega arith; standing = st }
 
-pub fits : {A : Type 0} {a b : ℕ} {V : A → Type 0} {s : TranslationState} {d : Drawn A} → Goes a V s d → a ≤ b → Goes b V s d
+pub fits : {A : Type 0} {a b : ℕ} {V : A → Type 0} {s : TranslationState} {d : Translated A} → Goes a V s d → a ≤ b → Goes b V s d
 fits h l = let k = h.slots in record { value = h.value; slots = omega (arith, k, l); standing = h.standing }
 
 one_near : (b : Bool) (e : Home) (o : Option Home) (h : Home) → WordAccess e.access → ((k : Home) → o ≡ Some k → WordAccess k.access) →

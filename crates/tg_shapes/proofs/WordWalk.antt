@@ -24,7 +24,7 @@ use Rattle.tg_translate.specs.declared.homes.Home.{Home}
 use Rattle.tg_translate.specs.declared.homes.Within.{Within}
 use Rattle.tg_translate.specs.declared.wants.Want.{Want}
 use Rattle.tg_translate.specs.declared.wants.Want.TheVariants as want
-use Rattle.tg_translate.specs.States.{TranslationState, Drawn, drawn, Acts, after, give}
+use Rattle.tg_translate.specs.States.{TranslationState, Translated, drawn, Translates, after, give}
 use Rattle.tg_translate.specs.Wants.{Made, value, done, value_of, dropped, test_of, as_statement, arms, deliver, followed}
 use Rattle.tg_translate.specs.Wants.{behind}
 use Rattle.tg_translate.specs.Constructs.{Storage, HeldAll, none_held, own_place, read}
@@ -52,10 +52,10 @@ use Rattle.tg_shapes.proofs.WordActions.{assign_goes, hold_place_goes, field_goe
 use Rattle.tg_shapes.proofs.WordActions.{call_goes, literal_goes, closing_goes, declared_goes, declares_functions}
 
 -- what is translated for some want, from a state that has so many slots at most
-abbrev Part : (most budget : ℕ) → (Want → Acts Made) → Type 0
+abbrev Part : (most budget : ℕ) → (Want → Translates Made) → Type 0
 Part l k f = (w : Want) (t : TranslationState) → Standing t → t.frame.slots ≤ l → Goes k WordMade t (f w t)
 
-module _ {k : ℕ} {s : TranslationState} {d : Drawn Made} (h : Goes k WordMade s d) where
+module _ {k : ℕ} {s : TranslationState} {d : Translated Made} (h : Goes k WordMade s d) where
   of_value : Goes k WordTx s (after d value_of)
   of_value = fits (bind h λ m t st _ g. values_go m t st g) (omega arith)
 
@@ -74,7 +74,7 @@ arms_go (want.Into i) s st = given s (want.Into i) st tt
 arms_go want.Dropped s st = given s want.Dropped st tt
 arms_go want.Test s st = bind (draws s st) λ i t st _ _. given t (want.Into (record { 0 = i })) st tt
 
-module _ (l k : ℕ) (right : Want → Acts Made) (part : Part l k right) where
+module _ (l k : ℕ) (right : Want → Translates Made) (part : Part l k right) where
   arms_connected : (o : Op) (w : Want) (c : Cond) (s : TranslationState) → Standing s → s.frame.slots ≤ l → WordCond c →
       Goes k WordMade s (after (arms w s) (λ a t. after (right a t) (λ m. give (deliver w a (chosen o a c m)))))
   arms_connected o w c s st e h =
@@ -107,7 +107,7 @@ module _ (l k : ℕ) (right : Want → Acts Made) (part : Part l k right) where
       Goes k WordTs s (after (right (want_for p) s) (assign p))
   assigned_goes p s st e h = fits (bind (part (want_for p) s st e) λ m t st _ g. assign_goes p m t st h g) (omega arith)
 
-assignment_goes : (l k : ℕ) (reads_first : Bool) (p : Storage) (e : Want → Acts Made) (behind : Tx → Want → Acts Made) (s : TranslationState) →
+assignment_goes : (l k : ℕ) (reads_first : Bool) (p : Storage) (e : Want → Translates Made) (behind : Tx → Want → Translates Made) (s : TranslationState) →
     Standing s → s.frame.slots ≤ l → WordPlace p → Part l k e → ((x : Tx) → WordTx x → Part l k (behind x)) →
     Goes k WordTs s (assignment reads_first p e behind s)
 assignment_goes l k true p e behind s st i h f g =
@@ -115,13 +115,13 @@ assignment_goes l k true p e behind s st i h f g =
     assigned_goes l k (behind (read_held q)) (g (read_held q) (read_held_words q j)) (place_held q) t st (omega (arith, i, m)) j) (omega arith)
 assignment_goes l k false p e behind s st i h f g = assigned_goes l k e f p s st i h
 
-declaration_goes : (l k : ℕ) (escapes : ℕ → Bool) (level at : ℕ) (e : Want → Acts Made) (s : TranslationState) → Standing s →
+declaration_goes : (l k : ℕ) (escapes : ℕ → Bool) (level at : ℕ) (e : Want → Translates Made) (s : TranslationState) → Standing s →
     s.frame.slots < 1073741823 → s.frame.slots + 1 ≤ l → Part l k e → Goes (1 + k) WordTs s (declaration_of escapes level at e s)
 declaration_goes l k escapes level at e s st i j f =
     bind (declared_goes (escapes at) level at s st i) λ home t st m a.
     assigned_goes l k e f (own_place home) t st (omega (arith, j, m)) (own_place_words home a)
 
-module _ (l m a b : ℕ) (this other : Want → Acts Made) (part : Part l a this) (rest : Part m b other) where
+module _ (l m a b : ℕ) (this other : Want → Translates Made) (part : Part l a this) (rest : Part m b other) where
   arms_chosen : (w : Want) (c : Cond) (s : TranslationState) → Standing s → s.frame.slots ≤ l → s.frame.slots + a ≤ m → WordCond c →
       Goes (a + b) WordMade s (chosen_arm w c this other s)
   arms_chosen w c s st i j h =
@@ -160,7 +160,7 @@ slots_few (false ∷ asked) = let h = slots_few asked in omega (arith, h)
 asked_length : (escapes : ℕ → Bool) (kept : Bool) (params : List Param) → length (asked escapes kept params) ≡ 1 + length params
 asked_length escapes kept params = let h = length-map params (λ p. escapes (at_of p.name)) in omega (arith, h)
 
-finished_goes : {k : ℕ} (s t : TranslationState) {d : Drawn Ts} → Standing s → Goes k WordTs t d → Goes 0 (λ x. Unit {0}) s (finish s d)
+finished_goes : {k : ℕ} (s t : TranslationState) {d : Translated Ts} → Standing s → Goes k WordTs t d → Goes 0 (λ x. Unit {0}) s (finish s d)
 finished_goes s t {d = drawn x u} st h =
     record {
       value = tt;
@@ -172,7 +172,7 @@ finished_goes s t {d = drawn x u} st h =
           };
     }
 
-few_more : {a b c : ℕ} {s : TranslationState} {d : Drawn HeldAll} → a ≤ c → Goes b (HeldAllWords a) s d → Goes b (HeldAllWords c) s d
+few_more : {a b c : ℕ} {s : TranslationState} {d : Translated HeldAll} → a ≤ c → Goes b (HeldAllWords a) s d → Goes b (HeldAllWords c) s d
 few_more l h =
     let v = h.value in
     let m = v.2 in
@@ -314,7 +314,7 @@ module _ (findings : Findings) (fields_fit : (at : ℕ) → 4 * field_number (fi
         walk_functions rest (label + 1) c u st p.1 (omega (arith, l))) (omega arith)
 
   -- each body of the program has words
-  done_words : {k : ℕ} {s : TranslationState} (d : Drawn Ts) → Goes k WordTs s d → Each BodyOfWords (program d).functions
+  done_words : {k : ℕ} {s : TranslationState} (d : Translated Ts) → Goes k WordTs s d → Each BodyOfWords (program d).functions
   done_words (drawn x u) h = (h.value, h.standing.functions)
 
   pub bodies_of_words : (e : Exp) → OfWords e → size e + inner e ≤ 1073741822 → Each BodyOfWords (translated findings e).functions

@@ -141,7 +141,7 @@ paid node parameter function m = node * m.size + parameter * (m.nodes - m.size) 
 -- further out at most one static link a level, so at most as many accesses of memory stand one
 -- within another, and one more, for the variable itself. So its length, its room and its depth are
 -- at most what its nodes and its parameters pay for.
-pub record IsWithin (m : Measures) (f : Function Ts) : Type 0 where
+pub record FunctionIsWithin (m : Measures) (f : Function Ts) : Type 0 where
   pub slots : f.slots ≤ m.nodes + 1
   pub temps : f.temps ≤ 6 * m.nodes + 1
   pub accesses : AccessesWithin (suc m.level) f.body
@@ -153,11 +153,11 @@ pub record IsWithin (m : Measures) (f : Function Ts) : Type 0 where
 abbrev pub FunctionsAreWithin : Type 0
 FunctionsAreWithin =
     (findings : Findings) (e : Exp) →
-    AllZip IsWithin (program_functions e) (translated findings e).functions
+    AllZip FunctionIsWithin (program_functions e) (translated findings e).functions
 
 -- An accepted program has 32,768 nodes and 32 levels at most, and the body of each of its functions
 -- 4,096 nodes.
-pub record IsSmall (f : Function Ts) : Type 0 where
+pub record FunctionIsSmall (f : Function Ts) : Type 0 where
   pub slots : f.slots ≤ 32769
   pub temps : f.temps ≤ 196609
   pub accesses : AccessesWithin 33 f.body
@@ -170,7 +170,7 @@ CheckedFramesAreSmall =
     (p : CheckedProgram) (escapes links : FinSet nat_cmp) (f : Function Ts) →
     IsAccepted p →
     Contains (translated (found p.notes escapes links) p.body).functions f →
-    IsSmall f
+    FunctionIsSmall f
 
 -- Each constant of the trees is a word: where the ints of the text are, each number of a field is
 -- less than a fourth of all words, and so are the nodes.

@@ -30,7 +30,7 @@ use Rattle.tg_interference.specs.Nodes.{operand_at, node_of, temp_at}
 use Rattle.tg_spill.specs.declared.placing.Placed.{Placed}
 use Rattle.tg_spill.specs.Rewriting.{loads, stores, drawn, in_slot, placed, target, first_use, second_use, next_after, instruction_rewritten, code_rewritten}
 use Rattle.tg_spill.specs.Rewriting.{is_original, slotted, slot_after}
-use Rattle.tg_spill.specs.Rounds.{Stage, IsRoundOf}
+use Rattle.tg_spill.specs.Rounds.{BetweenRounds, IsRoundOf}
 use Rattle.tg_spill.specs.Explained.{problem_of}
 use Rattle.tg_spill.proofs.Renamed.{temp, replaced, named_placed, here, uses_named, defs_named}
 use Rattle.tg_spill.proofs.Slotting.{is_temp, ends_of, all_moves, slot_none}
@@ -112,7 +112,7 @@ filtered_too P p (x ∷ xs) h = by (p x) (filtered_too P p xs h.1)
     by true r = (h.0, r)
     by false r = r
 
-module _ (rule : Rule) (n : ℕ) (s : Stage) (round : Round) (r : IsRoundOf rule n s round) (below : HasTempsBelow s) (some : n ≤ s.temps) where
+module _ (rule : Rule) (n : ℕ) (s : BetweenRounds) (round : Round) (r : IsRoundOf rule n s round) (below : HasTempsBelow s) (some : n ≤ s.temps) where
   no_pairs : (t : ℕ) → occurs s.list t ≡ false → (y : ℕ) → interferes r.graph (25 + t) y ≡ false
   no_pairs t h y =
       never (λ e. no_interference t (operand_at y) s.list h

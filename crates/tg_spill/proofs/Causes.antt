@@ -4,25 +4,25 @@ use Rattle.tg_rounds.specs.declared.rounds.Round.{Round}
 use Rattle.tg_rounds.specs.Policies.{Rule}
 use Rattle.tg_rounds.proofs.Explaining.{moves_are_explained}
 use Rattle.tg_spill.specs.Rewriting.{slotted}
-use Rattle.tg_spill.specs.Rounds.{Stage, IsRoundOf, AreRounds, slots_by, last_round}
+use Rattle.tg_spill.specs.Rounds.{BetweenRounds, IsRoundOf, AreRounds, slots_by, last_round}
 use Rattle.tg_spill.specs.Rounds.AreRounds.{last, more}
 use Rattle.tg_spill.specs.Explained.{problem_of, MovesOfAllocationsStayForACause}
 use Rattle.tg_spill.proofs.RewrittenBelow.{temps_below}
 use Rattle.tg_spill.proofs.OneRound.{HasTempsBelow, are_nodes}
 
 module _ (rule : Rule) (originals : ℕ) where
-  pub same_last : {s t : Stage} {rounds : List Round} → AreRounds rule originals s rounds t → (round : Round) →
+  pub same_last : {s t : BetweenRounds} {rounds : List Round} → AreRounds rule originals s rounds t → (round : Round) →
       last_round (round ∷ rounds) ≡ last_round rounds
   same_last (last s round r e) first = refl
   same_last (more s t round rounds r ne rest) first = refl
 
   -- the last round is on the last code
-  pub record Ends (t : Stage) (round : Round) : Type 0 where
+  pub record Ends (t : BetweenRounds) (round : Round) : Type 0 where
     pub below : HasTempsBelow t
     pub is_round : IsRoundOf rule originals t round
     pub nothing_slotted : slotted originals round ≡ []
 
-  pub ends : {s t : Stage} {rounds : List Round} → AreRounds rule originals s rounds t → HasTempsBelow s →
+  pub ends : {s t : BetweenRounds} {rounds : List Round} → AreRounds rule originals s rounds t → HasTempsBelow s →
       Ends t (last_round rounds)
   ends (last s round r e) h = record { below = h; is_round = r; nothing_slotted = e }
   ends (more s t round rounds r ne rest) h =

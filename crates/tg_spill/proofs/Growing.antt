@@ -27,9 +27,9 @@ use Rattle.tg_spill.specs.Below.{is_option_below}
 use Rattle.tg_spill.specs.InFrame.{moved, instruction_in_frame, code_in_frame}
 use Rattle.tg_spill.specs.Rewriting.{next_after, code_rewritten, temps_after}
 use Rattle.tg_spill.specs.Painting.{is_idle, painted_named, instruction_painted, code_painted, colour_of}
-use Rattle.tg_spill.specs.Rounds.{Stage, stage_of, AreRounds, slots_by, next_stage, last_round}
+use Rattle.tg_spill.specs.Rounds.{BetweenRounds, stage_of, AreRounds, slots_by, next_stage, last_round}
 use Rattle.tg_spill.specs.Rounds.AreRounds.{last, more}
-use Rattle.tg_spill.specs.Growth.{most_steps, steps, blocks_rewritten, blocks_behind, blocks_of, IsSmall, AreSmall, AllocationsGrowLittle}
+use Rattle.tg_spill.specs.Growth.{most_steps, steps, blocks_rewritten, blocks_behind, blocks_of, BlockIsSmall, AreSmall, AllocationsGrowLittle}
 use Rattle.tg_spill.specs.Growth.AreSmall.{none, also}
 use Rattle.tg_spill.proofs.Counts.{one_length, named_steps, through_steps}
 use Rattle.tg_spill.proofs.Naming.{to_below, first_below, second_below}
@@ -186,10 +186,10 @@ module _ (n : ℕ) (k : Known) where
       omega (arith, a, b, e)
 
   -- few instructions and steps are few words
-  small : (one : Instr) (block : List Instr) → length block ≤ 5 → steps block ≤ most_words one → IsSmall one block
+  small : (one : Instr) (block : List Instr) → length block ≤ 5 → steps block ≤ most_words one → BlockIsSmall one block
   small one block l s = let w = words_are_steps block in record { few = l; short = omega (arith, w, s); quick = s }
 
-  block_small : {one : Instr} {block : List Instr} {left : ℕ} → IsBlock n k one block left → IsSmall one block
+  block_small : {one : Instr} {block : List Instr} {left : ℕ} → IsBlock n k one block left → BlockIsSmall one block
   block_small (straight one core before after calm h hb ha count) =
       let a = finals_steps before hb in
       let b = finals_steps after ha in
@@ -248,7 +248,7 @@ module _ (colour : ℕ → ℕ) where
       ap (filter (λ one. not (is_idle one))) (map-append (instruction_painted colour) xs ys) ∙
       filter-append (λ one. not (is_idle one)) (map (instruction_painted colour) xs) (map (instruction_painted colour) ys)
 
-  painted_small : (one : Instr) (xs : List Instr) → IsSmall one xs → IsSmall one (code_painted colour xs)
+  painted_small : (one : Instr) (xs : List Instr) → BlockIsSmall one xs → BlockIsSmall one (code_painted colour xs)
   painted_small one xs h =
       let a = painted_length xs in
       let b = painted_words xs in
@@ -280,7 +280,7 @@ code_of_rewritten slot_of (block ∷ blocks) next =
     sym (code_append slot_of block (code_of blocks) next)
 
 -- the blocks behind the rounds
-record Grown (n : ℕ) (originals : List Instr) (s t : Stage) (rounds : List Round) (blocks : List (List Instr)) (left : ℕ) : Type 0 where
+record Grown (n : ℕ) (originals : List Instr) (s t : BetweenRounds) (rounds : List Round) (blocks : List (List Instr)) (left : ℕ) : Type 0 where
   small : AreSmall originals (blocks_behind n s rounds blocks)
   whole : code_of (blocks_behind n s rounds blocks) ≡ code_painted (colour_of (last_round rounds)) t.list
   still : ℕ
@@ -288,14 +288,14 @@ record Grown (n : ℕ) (originals : List Instr) (s t : Stage) (rounds : List Rou
 
 module _ (rule : Rule) (n : ℕ) (originals : List Instr) where
   -- a round that another follows
-  goes_on : (s : Stage) {t u : Stage} {rounds : List Round} → AreRounds rule n u rounds t → (round : Round) (blocks : List (List Instr)) →
+  goes_on : (s : BetweenRounds) {t u : BetweenRounds} {rounds : List Round} → AreRounds rule n u rounds t → (round : Round) (blocks : List (List Instr)) →
       (last_round (round ∷ rounds) ≡ last_round rounds) ×
       (blocks_behind n s (round ∷ rounds) blocks ≡
       blocks_behind n (next_stage n s round) rounds (blocks_rewritten (slots_by n s round) blocks s.temps))
   goes_on s (last u first r e) round blocks = (refl, refl)
   goes_on s (more u t first rounds r ne rest) round blocks = (refl, refl)
 
-  rounds_grow : {s t : Stage} {rounds : List Round} → AreRounds rule n s rounds t → HasTempsBelow s → n ≤ s.temps →
+  rounds_grow : {s t : BetweenRounds} {rounds : List Round} → AreRounds rule n s rounds t → HasTempsBelow s → n ≤ s.temps →
       (partner : ℕ → Option Opnd) (left : ℕ) (blocks : List (List Instr)) → code_of blocks ≡ s.list →
       AreBlocks n (record { bound = s.temps; partner = partner }) originals blocks left →
       Grown n originals s t rounds blocks left

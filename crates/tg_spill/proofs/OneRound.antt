@@ -15,7 +15,7 @@ use Rattle.tg_rounds.proofs.GreedyColouring.{part}
 use Rattle.tg_rounds.proofs.Selecting.{colourable_never_spills}
 use Rattle.tg_interference.specs.Pairs.{IsInterference}
 use Rattle.tg_coalesce.specs.Standing.{graph_of}
-use Rattle.tg_spill.specs.Rounds.{Stage, stage_of, IsRoundOf, AreRounds, last_round}
+use Rattle.tg_spill.specs.Rounds.{BetweenRounds, stage_of, IsRoundOf, AreRounds, last_round}
 use Rattle.tg_spill.specs.Rounds.AreRounds.{last, more}
 use Rattle.tg_spill.specs.Explained.{problem_of, IsColourable, ColourableNeedsOneRound}
 use Rattle.tg_spill.proofs.Sizes.{moves_below}
@@ -24,10 +24,10 @@ pub is_graph : (graph : Interference) → IsGraph (graph_of graph)
 is_graph graph = record { symmetric = either_way graph; irreflexive = λ x. not_itself graph x x refl }
 
 -- a stage whose code has temporaries below its number
-abbrev pub HasTempsBelow : Stage → Type 0
+abbrev pub HasTempsBelow : BetweenRounds → Type 0
 HasTempsBelow s = IsTrue (list_all (has_temps_below s.temps) s.list)
 
-pub are_nodes : (rule : Rule) (originals : ℕ) (s : Stage) (graph : Interference) → IsInterference s.list s.temps graph →
+pub are_nodes : (rule : Rule) (originals : ℕ) (s : BetweenRounds) (graph : Interference) → IsInterference s.list s.temps graph →
     HasTempsBelow s → AreNodes (problem_of rule originals s graph)
 are_nodes rule originals s graph exact h =
     subst (λ n. All (λ m. (m.to < n) × (m.from < n)) (problem_of rule originals s graph).moves) (sym exact.nodes)
@@ -44,14 +44,14 @@ colourable_alike list temps graph other exact exact' h =
     (λ x l t. t) (λ x y lx ly tx ty p. (exact.pairs x y).1 ((exact'.pairs x y).0 p)))
 
 -- some rounds are one, after which the code is as before
-record IsOne (s t : Stage) (all : List Round) : Type 0 where
+record IsOne (s t : BetweenRounds) (all : List Round) : Type 0 where
   pub round : Round
   pub rounds : all ≡ round ∷ []
   pub nothing_spilled : SpillsNothing round
   pub end : t ≡ s
 
 module _ (rule : Rule) (originals : ℕ) where
-  one_round : {s t : Stage} {rounds : List Round} → AreRounds rule originals s rounds t →
+  one_round : {s t : BetweenRounds} {rounds : List Round} → AreRounds rule originals s rounds t →
       ((round : Round) → IsRoundOf rule originals s round → SpillsNothing round) → IsOne s t rounds
   one_round (last s round r e) f = record { round = round; rounds = refl; nothing_spilled = f round r; end = refl }
   one_round (more s t round rounds r ne rest) f =
@@ -67,7 +67,7 @@ colourable_needs_one_round rule code frame a graph exact colourable h =
       rounds = one.rounds;
       nothing_spilled = one.nothing_spilled;
       coloured = coloured;
-      slots = let e = (h.coloured coloured).slots in let k = ap (λ (s : Stage). s.slots) one.end in omega arith;
+      slots = let e = (h.coloured coloured).slots in let k = ap (λ (s : BetweenRounds). s.slots) one.end in omega arith;
     }
   where
     spills_nothing : (round : Round) → IsRoundOf rule code.temps (stage_of code frame.slots) round → SpillsNothing round

@@ -30,7 +30,7 @@ use Rattle.tg_rounds.proofs.Within.{class_is}
 use Rattle.tg_rounds.proofs.Bare.{spilled_name_classes}
 use Rattle.tg_interference.specs.Marks.{occurrences, mark_of, marks_of}
 use Rattle.tg_spill.specs.Rewriting.{slot_after, is_original, slotted, slot_by}
-use Rattle.tg_spill.specs.Rounds.{Stage, stage_of, IsRoundOf, AreRounds, slots_by, next_stage, last_round}
+use Rattle.tg_spill.specs.Rounds.{BetweenRounds, stage_of, IsRoundOf, AreRounds, slots_by, next_stage, last_round}
 use Rattle.tg_spill.specs.Rounds.AreRounds.{last, more}
 use Rattle.tg_spill.specs.Explained.{problem_of}
 use Rattle.tg_spill.specs.Growth.{slots_given, AllocationsAreShort, SpillsMadeAlone, AllInFrameIsLast}
@@ -131,7 +131,7 @@ in_filtered p (x ∷ xs) (suc i) d l h e = by (p x) e (λ q. in_filtered p xs i 
 
 -- One round.
 
-module _ (rule : Rule) (n : ℕ) (s : Stage) (round : Round) (r : IsRoundOf rule n s round) (below : HasTempsBelow s) (some : n ≤ s.temps) where
+module _ (rule : Rule) (n : ℕ) (s : BetweenRounds) (round : Round) (r : IsRoundOf rule n s round) (below : HasTempsBelow s) (some : n ≤ s.temps) where
   abbrev g : Problem
   g = problem_of rule n s r.graph
 
@@ -199,7 +199,7 @@ module _ (rule : Rule) (n : ℕ) (s : Stage) (round : Round) (r : IsRoundOf rule
 
 -- All rounds.
 
-record Shrinks (n : ℕ) (s t : Stage) (rounds : List Round) : Type 0 where
+record Shrinks (n : ℕ) (s t : BetweenRounds) (rounds : List Round) : Type 0 where
   few : length rounds ≤ count (occurs s.list) n + 1
   slots : t.slots ≤ s.slots + count (occurs s.list) n
 
@@ -208,7 +208,7 @@ some_in [] h = absurd (h refl)
 some_in (x ∷ xs) h = omega arith
 
 module _ (rule : Rule) (n : ℕ) where
-  shrinks : {s t : Stage} {rounds : List Round} → AreRounds rule n s rounds t → HasTempsBelow s → n ≤ s.temps → Shrinks n s t rounds
+  shrinks : {s t : BetweenRounds} {rounds : List Round} → AreRounds rule n s rounds t → HasTempsBelow s → n ≤ s.temps → Shrinks n s t rounds
   shrinks (last s round r e) below some = record { few = omega arith; slots = omega arith }
   shrinks (more s t round rounds r ne rest) below some =
       let a = leaves rule n s round r below some in
@@ -221,7 +221,7 @@ module _ (rule : Rule) (n : ℕ) where
 
 -- an original gets one slot at most, and none where it doesn't occur
 module _ (rule : Rule) (n t : ℕ) (l : t < n) where
-  none_given : {s u : Stage} {rounds : List Round} → AreRounds rule n s rounds u → HasTempsBelow s → n ≤ s.temps → occurs s.list t ≡ false →
+  none_given : {s u : BetweenRounds} {rounds : List Round} → AreRounds rule n s rounds u → HasTempsBelow s → n ≤ s.temps → occurs s.list t ≡ false →
       length (slots_given n s.slots rounds t) ≤ 0
   none_given (last s round r e) below some h =
       subst (λ o. length (cons_option o []) ≤ 0) (sym (absent_slotless rule n s round r below some t l h)) (lit≤ tt)
@@ -232,7 +232,7 @@ module _ (rule : Rule) (n t : ℕ) (l : t < n) where
       (none_given rest (temps_below (slots_by n s round) s.list s.temps below) (omega (arith, some, rises))
       (code_avoids (slots_by n s round) t s.list s.temps (omega (arith, l, some)) (inl h)))
 
-  one_given : {s u : Stage} {rounds : List Round} → AreRounds rule n s rounds u → HasTempsBelow s → n ≤ s.temps →
+  one_given : {s u : BetweenRounds} {rounds : List Round} → AreRounds rule n s rounds u → HasTempsBelow s → n ≤ s.temps →
       length (slots_given n s.slots rounds t) ≤ 1
   one_given (last s round r e) below some = one_last (slot_after n s.slots round t)
     where
@@ -274,7 +274,7 @@ allocations_are_short rule code frame a h =
 
 -- The last round.
 
-module _ (rule : Rule) (n : ℕ) (s : Stage) (round : Round) (r : IsRoundOf rule n s round) (below : HasTempsBelow s) (some : n ≤ s.temps)
+module _ (rule : Rule) (n : ℕ) (s : BetweenRounds) (round : Round) (r : IsRoundOf rule n s round) (below : HasTempsBelow s) (some : n ≤ s.temps)
     (nothing : slotted n round ≡ []) where
   abbrev p : Problem
   p = problem_of rule n s r.graph
@@ -334,7 +334,7 @@ module _ (rule : Rule) (n : ℕ) (s : Stage) (round : Round) (r : IsRoundOf rule
           (subst (λ w. (mark_at p (end p round) w).made ≡ true) (sym under) made)) handed_in
 
 -- the temporaries of the last code are those handed in and more
-more_temps : (rule : Rule) (n : ℕ) {s t : Stage} {rounds : List Round} → AreRounds rule n s rounds t → n ≤ s.temps → n ≤ t.temps
+more_temps : (rule : Rule) (n : ℕ) {s t : BetweenRounds} {rounds : List Round} → AreRounds rule n s rounds t → n ≤ s.temps → n ≤ t.temps
 more_temps rule n (last s round r e) some = some
 more_temps rule n (more s t round rounds r ne rest) some =
     let rises = temps_rise (slots_by n s round) s.list s.temps in

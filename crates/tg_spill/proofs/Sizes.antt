@@ -13,7 +13,7 @@ use Rattle.tg_instr.specs.declared.operands.Opnd.TheVariants.{Temp, Reg}
 use Rattle.tg_instr.specs.declared.instr.Instr.{Instr}
 use Rattle.tg_instr.specs.Codes.{is_below, has_temps_below}
 use Rattle.tg_instr.specs.Operands.{is_same}
-use Rattle.tg_instr.specs.Shapes.{Holder, Operand, Shape, From1, Copy, shape}
+use Rattle.tg_instr.specs.Shapes.{Holder, Operand, InstructionShape, From1, Copy, shape}
 use Rattle.tg_instr.specs.Uses.{operand_of, uses, defs, uses_of, defs_of}
 use Rattle.tg_instr.proofs.Tests.{left_holds, right_holds}
 use Rattle.tg_graph.specs.Interference.{is_register}
@@ -81,7 +81,7 @@ holder_few : (h : Holder) → length (operand_of h) ≤ 1
 holder_few (Operand x) = omega arith
 holder_few _ = omega arith
 
-shape_few : (s : Shape) → length (uses s) + length (defs s) ≤ 48
+shape_few : (s : InstructionShape) → length (uses s) + length (defs s) ≤ 48
 shape_few (From1 to from f) = let h = holder_few from in omega arith
 shape_few _ = omega arith
 
@@ -129,7 +129,7 @@ between_below n (Some to) (Some from) f g m e = subst (AreEnds n) (some_is e) (f
 between_below n (Some to) None f g m e = cc
 between_below n None b f g m e = cc
 
-shape_below : (temps : ℕ) (s : Shape) → IsTrue (list_all (is_below temps) (uses s)) → IsTrue (list_all (is_below temps) (defs s)) → (m : Move) →
+shape_below : (temps : ℕ) (s : InstructionShape) → IsTrue (list_all (is_below temps) (uses s)) → IsTrue (list_all (is_below temps) (defs s)) → (m : Move) →
     move_of s ≡ Some m → AreEnds (25 + temps) m
 shape_below temps (Copy to from) u d m e = between_below (25 + temps) (node_of to) (node_of from)
     (node_below temps to (left_holds _ _ d)) (node_below temps from (left_holds _ _ u)) m e

@@ -28,7 +28,7 @@ use Rattle.tg_rounds.proofs.Bare.{registers_stand_above}
 use Rattle.tg_interference.specs.Nodes.{node_of}
 use Rattle.tg_interference.specs.Moves.{between, move_of, moves_of}
 use Rattle.tg_spill.specs.Rewriting.{is_original, slotted, slot_by, slot_after}
-use Rattle.tg_spill.specs.Rounds.{Stage, IsRoundOf, slots_by}
+use Rattle.tg_spill.specs.Rounds.{BetweenRounds, IsRoundOf, slots_by}
 use Rattle.tg_spill.specs.Explained.{problem_of}
 use Rattle.tg_spill.proofs.Sizes.{node_below}
 use Rattle.tg_spill.proofs.Renamed.{temp, is_move}
@@ -207,7 +207,7 @@ module _ (classes : List ℕ) (base x : ℕ) (other : (i : ℕ) → i < length c
           let h = position-Some (nat_eq x) classes i 0 e in
           absurd (other i h.0 (sym (same_node x _ h.1)))
 
-module _ (rule : Rule) (n : ℕ) (s : Stage) (round : Round) (r : IsRoundOf rule n s round) (below : HasTempsBelow s) (some : n ≤ s.temps)
+module _ (rule : Rule) (n : ℕ) (s : BetweenRounds) (round : Round) (r : IsRoundOf rule n s round) (below : HasTempsBelow s) (some : n ≤ s.temps)
     (partner : ℕ → Option Opnd) where
   abbrev k : Known
   k = record { bound = s.temps; partner = partner }

@@ -13,7 +13,7 @@ use Rattle.tg_rounds.specs.Policies.{Rule}
 use Rattle.tg_spill.specs.InFrame.{through_named, loaded, stored, moved, through_slots, instruction_in_frame, code_in_frame}
 use Rattle.tg_spill.specs.Rewriting.{loads, stores, target, first_use, second_use, next_after, instruction_rewritten, code_rewritten}
 use Rattle.tg_spill.specs.Painting.{colour_of, is_idle, instruction_painted, code_painted}
-use Rattle.tg_spill.specs.Rounds.{Stage, AreRounds, slots_by, last_round}
+use Rattle.tg_spill.specs.Rounds.{BetweenRounds, AreRounds, slots_by, last_round}
 use Rattle.tg_spill.specs.Rounds.AreRounds.{last, more}
 use Rattle.tg_spill.specs.Explained.{IgnoresOperands, AllocationsKeepTests}
 
@@ -93,7 +93,7 @@ module _ (test : Instr → Bool) (ignores : IgnoresOperands test) where
       unless_idle (is_idle (instruction_painted colour one)) (instruction_painted colour one) (code_painted colour rest)
       (renamed_passes one _ _ _ (left_holds _ _ h)) (painted_passes colour rest (right_holds (test one) _ h))
 
-  pub rounds_pass : (rule : Rule) (originals : ℕ) {s t : Stage} {rounds : List Round} → AreRounds rule originals s rounds t →
+  pub rounds_pass : (rule : Rule) (originals : ℕ) {s t : BetweenRounds} {rounds : List Round} → AreRounds rule originals s rounds t →
       Pass s.list → Pass t.list
   rounds_pass rule originals (last s round r e) h = h
   rounds_pass rule originals (more s t round rounds r e rest) h =

@@ -15,7 +15,7 @@ use Rattle.tg_spill.specs.declared.allocations.Home.TheVariants.{Colour, Slot}
 use Rattle.tg_spill.specs.InFrame.{code_in_frame, homes_from}
 use Rattle.tg_spill.specs.Painting.{code_painted, colour_of}
 use Rattle.tg_spill.specs.Rewriting.{slotted, slot_after, slot_in, code_rewritten, temps_after}
-use Rattle.tg_spill.specs.Rounds.{Stage, stage_of, IsRoundOf, AreRounds, last_round, home_in, home_by}
+use Rattle.tg_spill.specs.Rounds.{BetweenRounds, stage_of, IsRoundOf, AreRounds, last_round, home_in, home_by}
 use Rattle.tg_spill.specs.Rounds.AreRounds.{last, more}
 use Rattle.tg_spill.specs.Allocations.{HasFrame, IsAllocation}
 use Rattle.tg_spill.proofs.RewrittenBelow.{temps_grow}
@@ -36,7 +36,7 @@ in_colour : (a : Option ℕ) (c : ℕ) → home_after a (Colour c) ≡ home_in a
 in_colour None c = refl
 in_colour (Some k) c = refl
 
-same_stage : (s t : Stage) → s.list ≡ t.list → s.temps ≡ t.temps → s.slots ≡ t.slots → s ≡ t
+same_stage : (s t : BetweenRounds) → s.list ≡ t.list → s.temps ≡ t.temps → s.slots ≡ t.slots → s ≡ t
 same_stage s t l m n = λ i. record { list = l i; temps = m i; slots = n i }
 
 last_is : (rounds : List Round) (round : Round) → last_round (rounds ++ round ∷ []) ≡ round
@@ -54,7 +54,7 @@ clash {b = true} e f = cc
 clash {b = false} e f = cc
 
 -- what a round that spills makes of a stage, and of the homes with so many originals
-pub record Follows (originals : ℕ) (round : Round) (now next : Stage) (homes homes' : List (Option ℕ)) : Type 0 where
+pub record Follows (originals : ℕ) (round : Round) (now next : BetweenRounds) (homes homes' : List (Option ℕ)) : Type 0 where
   pub list : next.list ≡ code_rewritten (slot_after originals now.slots round) now.list now.temps
   pub temps : next.temps ≡ temps_after (slot_after originals now.slots round) now.list now.temps
   pub slots : next.slots ≡ now.slots + length (slotted originals round)
@@ -68,16 +68,16 @@ again rule rule' originals slots code round e h =
     subst (λ (q : Rule). IsRoundOf q originals (stage_of code slots) round) e (record { graph = h.graph; exact = h.exact; run = h.run })
 
 module _ (rule : Rule) (code : Code) (frame : Frame) where
-  pub record IsUnderWay (now : Stage) (homes : List (Option ℕ)) (rounds : List Round) : Type 0 where
+  pub record IsUnderWay (now : BetweenRounds) (homes : List (Option ℕ)) (rounds : List Round) : Type 0 where
     pub size : length homes ≡ code.temps
     pub more_temps : code.temps ≤ now.temps
     pub more_slots : frame.slots ≤ now.slots
-    pub whole : (later : List Round) (end : Stage) → AreRounds rule code.temps now later end →
+    pub whole : (later : List Round) (end : BetweenRounds) → AreRounds rule code.temps now later end →
         AreRounds rule code.temps (stage_of code frame.slots) (rounds ++ later) end
     pub stand : (t : ℕ) → t < code.temps → (round : Round) (later : List Round) →
         home_by code.temps frame.slots (rounds ++ round ∷ later) t ≡ home_after (slot_in homes t) (home_by code.temps now.slots (round ∷ later) t)
 
-  pub begins : (now : Stage) (homes : List (Option ℕ)) → now.list ≡ code.list → now.temps ≡ code.temps → now.slots ≡ frame.slots →
+  pub begins : (now : BetweenRounds) (homes : List (Option ℕ)) → now.list ≡ code.list → now.temps ≡ code.temps → now.slots ≡ frame.slots →
       homes ≡ replicate code.temps None → IsUnderWay now homes []
   begins now homes l m n h = record {
     size = ap length h ∙ length-replicate {A = Option ℕ} code.temps None;
@@ -89,9 +89,9 @@ module _ (rule : Rule) (code : Code) (frame : Frame) where
         ∙ ap (λ o. home_after o (home_by code.temps now.slots (round ∷ later) t)) (sym (ap (λ hs. slot_in hs t) h ∙ ap (λ f. f t) (has_none code.temps)));
   }
 
-  module _ (now : Stage) (homes : List (Option ℕ)) (rounds : List Round) (round : Round) (so_far : IsUnderWay now homes rounds)
+  module _ (now : BetweenRounds) (homes : List (Option ℕ)) (rounds : List Round) (round : Round) (so_far : IsUnderWay now homes rounds)
       (is_round : IsRoundOf rule code.temps now round) where
-    pub goes_on : (next : Stage) (homes' : List (Option ℕ)) → slotted code.temps round ≢ [] → Follows code.temps round now next homes homes' →
+    pub goes_on : (next : BetweenRounds) (homes' : List (Option ℕ)) → slotted code.temps round ≢ [] → Follows code.temps round now next homes homes' →
         IsUnderWay next homes' (rounds ++ round ∷ [])
     goes_on next homes' some f = record {
       size = f.size ∙ so_far.size;

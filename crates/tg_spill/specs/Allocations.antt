@@ -9,7 +9,7 @@ use Rattle.tg_rounds.specs.Policies.{Rule}
 use Rattle.tg_spill.specs.declared.allocations.Allocation.{Allocation}
 use Rattle.tg_spill.specs.InFrame.{code_in_frame, homes_from}
 use Rattle.tg_spill.specs.Painting.{code_painted, colour_of}
-use Rattle.tg_spill.specs.Rounds.{Stage, stage_of, AreRounds, home_by, last_round}
+use Rattle.tg_spill.specs.Rounds.{BetweenRounds, stage_of, AreRounds, home_by, last_round}
 
 -- the frame that was handed in, with slots added
 pub record HasFrame (frame : Frame) (a : Allocation) : Type 0 where
@@ -21,7 +21,7 @@ pub record HasFrame (frame : Frame) (a : Allocation) : Type 0 where
 
 module _ (rule : Rule) (code : Code) (frame : Frame) (a : Allocation) where
   -- every temporary that is left has a colour
-  pub record IsColoured (end : Stage) : Type 0 where
+  pub record IsColoured (end : BetweenRounds) : Type 0 where
     pub nothing_spilled : (last_round a.rounds).spilled ≡ []
     pub list : a.done.code.list ≡ code_painted (colour_of (last_round a.rounds)) end.list
     pub registers :
@@ -37,7 +37,7 @@ module _ (rule : Rule) (code : Code) (frame : Frame) (a : Allocation) where
     pub slots : a.slots ≡ code.temps
 
   pub record IsAllocation : Type 0 where
-    pub end : Stage
+    pub end : BetweenRounds
     pub rounds : AreRounds rule code.temps (stage_of code frame.slots) a.rounds end
     pub has_frame : HasFrame frame a
     pub coloured : IsFalse a.all_in_frame → IsColoured end

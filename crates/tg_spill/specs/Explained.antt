@@ -22,7 +22,7 @@ use Rattle.tg_interference.specs.Moves.{moves_of}
 use Rattle.tg_interference.specs.Marks.{marks_of}
 use Rattle.tg_coalesce.specs.Standing.{graph_of}
 use Rattle.tg_spill.specs.declared.allocations.Allocation.{Allocation}
-use Rattle.tg_spill.specs.Rounds.{Stage, last_round}
+use Rattle.tg_spill.specs.Rounds.{BetweenRounds, last_round}
 use Rattle.tg_spill.specs.Allocations.{IsAllocation}
 
 -- a test of instructions whatever operands they name, which loads and stores of slots pass
@@ -70,13 +70,14 @@ ColourableNeedsOneRound =
 -- Moves.
 
 -- what a round is given: an interference graph of the code with its moves and marks, and the rule
-abbrev pub problem_of : Rule → (originals : ℕ) → Stage → Interference → Problem
+abbrev pub problem_of : Rule → (originals : ℕ) → BetweenRounds → Interference → Problem
 problem_of rule originals s graph =
     problem (graph_of graph) (moves_of s.list) (marks_of s.list s.temps originals) rule
 
 -- each move of the code whose ends have two colours was constrained, or frozen when no Simplify was
 -- possible and every unsettled move failed its test
-pub record HasCauses (rule : Rule) (originals : ℕ) (s : Stage) (round : Round) : Type 0 where
+pub record HasCauses (rule : Rule) (originals : ℕ) (s : BetweenRounds)
+    (round : Round) : Type 0 where
   pub graph : Interference
   pub exact : IsInterference s.list s.temps graph
   pub cause :

@@ -15,7 +15,7 @@ use Rattle.tg_spill.specs.declared.allocations.Allocation.{Allocation}
 use Rattle.tg_spill.specs.InFrame.{instruction_in_frame}
 use Rattle.tg_spill.specs.Painting.{colour_of, code_painted}
 use Rattle.tg_spill.specs.Rewriting.{slotted, slot_after, code_rewritten, temps_after}
-use Rattle.tg_spill.specs.Rounds.{Stage, stage_of, slots_by, next_stage, last_round}
+use Rattle.tg_spill.specs.Rounds.{BetweenRounds, stage_of, slots_by, next_stage, last_round}
 use Rattle.tg_spill.specs.Allocations.{IsAllocation}
 
 -- Rounds and slots.
@@ -67,7 +67,7 @@ blocks_rewritten slot_of (block ∷ blocks) next =
 
 -- behind these rounds, from the blocks of a code on
 abbrev pub blocks_behind :
-    (originals : ℕ) → Stage → List Round → List (List Instr) → List (List Instr)
+    (originals : ℕ) → BetweenRounds → List Round → List (List Instr) → List (List Instr)
 blocks_behind n s [] blocks = blocks
 blocks_behind n s (round ∷ []) blocks = map (code_painted (colour_of round)) blocks
 blocks_behind n s (round ∷ round' ∷ rounds) blocks =
@@ -89,7 +89,7 @@ abbrev pub steps : List Instr → ℕ
 steps list = sum_by most_steps list
 
 -- a block is at most so many instructions, words and steps
-pub record IsSmall (one : Instr) (block : List Instr) : Type 0 where
+pub record BlockIsSmall (one : Instr) (block : List Instr) : Type 0 where
   pub few : length block ≤ 5
   pub short : words block ≤ most_words one
   pub quick : steps block ≤ most_words one
@@ -99,7 +99,7 @@ pub data AreSmall : List Instr → List (List Instr) → Type 0 where
   none : AreSmall [] []
   also :
       (one : Instr) (block rest : List Instr) (blocks : List (List Instr)) →
-      IsSmall one block →
+      BlockIsSmall one block →
       AreSmall rest blocks →
       AreSmall (one ∷ rest) (block ∷ blocks)
 

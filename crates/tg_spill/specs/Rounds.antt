@@ -21,7 +21,7 @@ use Rattle.tg_spill.specs.Rewriting.{slotted, slot_after, slot_in, code_rewritte
 use Rattle.tg_spill.specs.Painting.{colour_of, colour_in}
 
 -- the nodes and the uses of a code of this size have numbers
-pub record IsSmall (code : Code) : Type 0 where
+pub record CodeIsNumbered (code : Code) : Type 0 where
   pub temps : code.temps ≤ 16777216
   pub instructions : length code.list ≤ 89478485
 
@@ -34,22 +34,22 @@ pub record IsOfTemps (temps : ℕ) (round : Round) : Type 0 where
   pub spilled : All (λ x. x < 25 + temps) round.spilled
 
 -- a code between rounds: its instructions and temporaries, and the frame's next slot
-pub record Stage : Type 0 where
+pub record BetweenRounds : Type 0 where
   pub list : List Instr
   pub temps : ℕ
   pub slots : ℕ
 
-abbrev pub stage_of : Code → (slots : ℕ) → Stage
+abbrev pub stage_of : Code → (slots : ℕ) → BetweenRounds
 stage_of code slots = record { list = code.list; temps = code.temps; slots = slots }
 
 -- with so many temporaries in the code that was handed in
 module _ (originals : ℕ) where
   -- the slot of a temporary that a round spills
-  abbrev pub slots_by : Stage → Round → ℕ → Option ℕ
+  abbrev pub slots_by : BetweenRounds → Round → ℕ → Option ℕ
   slots_by s round = slot_after originals s.slots round
 
   -- the code that a round is followed by
-  abbrev pub next_stage : Stage → Round → Stage
+  abbrev pub next_stage : BetweenRounds → Round → BetweenRounds
   next_stage s round = record {
     list = code_rewritten (slots_by s round) s.list s.temps;
     temps = temps_after (slots_by s round) s.list s.temps;
@@ -58,19 +58,19 @@ module _ (originals : ℕ) where
 
 -- by a policy's rule, with so many temporaries in the code that was handed in
 module _ (rule : Rule) (originals : ℕ) where
-  pub record IsRoundOf (s : Stage) (round : Round) : Type 0 where
+  pub record IsRoundOf (s : BetweenRounds) (round : Round) : Type 0 where
     pub graph : Interference
     pub exact : IsInterference s.list s.temps graph
     pub run : IsRound
         (problem (graph_of graph) (moves_of s.list) (marks_of s.list s.temps originals) rule) round
 
   -- from the first code to the last, which no round follows
-  pub data AreRounds : Stage → List Round → Stage → Type 0 where
-    last : (s : Stage) (round : Round) →
+  pub data AreRounds : BetweenRounds → List Round → BetweenRounds → Type 0 where
+    last : (s : BetweenRounds) (round : Round) →
         IsRoundOf s round →
         slotted originals round ≡ [] →
         AreRounds s (round ∷ []) s
-    more : (s t : Stage) (round : Round) (rounds : List Round) →
+    more : (s t : BetweenRounds) (round : Round) (rounds : List Round) →
         IsRoundOf s round →
         slotted originals round ≢ [] →
         AreRounds (next_stage originals s round) rounds t →

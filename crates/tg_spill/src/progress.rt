@@ -32,7 +32,7 @@ ghost use Rattle.tg_spill.specs.Rewriting.{
   slotted,
   temps_after,
 };
-ghost use Rattle.tg_spill.specs.Rounds.{IsOfTemps, IsSmall, home_in, homes_in};
+ghost use Rattle.tg_spill.specs.Rounds.{IsOfTemps, CodeIsNumbered, home_in, homes_in};
 
 use crate::allocations::{Allocation, Home, Homes, Rounds};
 use crate::painting::{colour_or_first, paint};
@@ -73,7 +73,7 @@ impl Progress {
 
     /// Behind a round that gives slots to these classes.
     pub fn spill(self, alloc: Global, round: &Round, classes: &[u32]) -> Result<Progress, Memory>
-        requires small { IsSmall self.code }
+        requires small { CodeIsNumbered self.code }
         requires homes { length self.homes.items ≤ self.code.temps }
         requires nodes { IsOfTemps self.code.temps round.now }
         requires classes { classes.now ≡ slotted (length self.homes.items) round.now }

@@ -15,7 +15,7 @@ ghost use Rattle.std.specs.Prelude.{
   slice_index_or,
 };
 ghost use Rattle.tg_spill.specs.Rewriting.{slot_by, slotted};
-ghost use Rattle.tg_spill.specs.Rounds.{IsOfTemps, IsRoundOf, IsSmall, stage_of};
+ghost use Rattle.tg_spill.specs.Rounds.{IsOfTemps, IsRoundOf, CodeIsNumbered, stage_of};
 
 use std::alloc::Global;
 use tg_base::Memory;
@@ -34,7 +34,7 @@ const MOST_INSTRUCTIONS: usize = 89_478_485;
 
 /// That nodes, uses and made temporaries of a code have numbers, or else `Memory`.
 pub fn check_size(code: &Code) -> Result<(), Memory>
-    ensures { OnOk result (IsSmall code.now) }
+    ensures { OnOk result (CodeIsNumbered code.now) }
 {
     if code.temps > MOST_TEMPS || code.list.as_slice().len() > MOST_INSTRUCTIONS {
         return Err(Memory);
@@ -53,7 +53,7 @@ pub fn color_code(
     ensures round { IfOk result (λ round.
         IsRoundOf (rule policy.old) originals (stage_of code.now 0) round) }
     ensures nodes { IfOk result (λ round. IsOfTemps code.now.temps round) }
-    ensures small { OnOk result (IsSmall code.now) }
+    ensures small { OnOk result (CodeIsNumbered code.now) }
     ensures same { rule policy.new ≡ rule policy.old }
 {
     check_size(code)?;

@@ -10,7 +10,7 @@ use Rattle.tg_instr.specs.declared.instr.Test.{Test}
 use Rattle.tg_instr.specs.declared.instr.Instr.TheVariants.{Branch}
 use Rattle.tg_instr.specs.Operands.{is_one_row, is_zero}
 use Rattle.tg_instr.specs.Renaming.{named, renamed, tested, stays_one_row}
-use Rattle.tg_instr.specs.Shapes.{Operand, Hi, Lo, Shape, From0, From1, From2, Halves, Copy, Loads, Stores}
+use Rattle.tg_instr.specs.Shapes.{Operand, Hi, Lo, InstructionShape, From0, From1, From2, Halves, Copy, Loads, Stores}
 use Rattle.tg_instr.specs.Shapes.{FromSlot, ToSlot, Base, AddressOf}
 use Rattle.tg_instr.specs.Shapes.{Here, Goes, Tests, Calls, Asks, Fails, Returns, shape}
 use Rattle.tg_replaced.specs.Named.{to_of, first_of, second_of, reshaped}
@@ -40,7 +40,7 @@ renamed_shape (Branch test m) z a b h = tested_shape test.rel a b _ refl test m 
 renamed_shape _ z a b h = refl
 
 -- what no text names doesn't matter
-pub reshaped_same : (q : Shape) (z z' a a' b b' : Opnd) → ((d : Opnd) → to_of q ≡ Some d → z ≡ z') → ((o : Opnd) →
+pub reshaped_same : (q : InstructionShape) (z z' a a' b b' : Opnd) → ((d : Opnd) → to_of q ≡ Some d → z ≡ z') → ((o : Opnd) →
     first_of q ≡ Some o → a ≡ a') →
     ((o : Opnd) → second_of q ≡ Some o → b ≡ b') → reshaped q z a b ≡ reshaped q z' a' b'
 reshaped_same (From0 to k) z z' a a' b b' f g h = ap (λ i. From0 i k) (f to refl)

@@ -30,7 +30,7 @@ use Rattle.tg_interference.specs.Nodes.{operand_at, node_of}
 use Rattle.tg_interference.specs.Laws.{NoOtherStands, NodesExist}
 use Rattle.tg_spill.specs.Rewriting.{slotted, slot_by}
 use Rattle.tg_spill.specs.Painting.{colour_or_first, colour_of, register_of, painted}
-use Rattle.tg_spill.specs.Rounds.{Stage, IsRoundOf, slots_by}
+use Rattle.tg_spill.specs.Rounds.{BetweenRounds, IsRoundOf, slots_by}
 use Rattle.tg_spill.specs.Explained.{problem_of}
 use Rattle.tg_spill.proofs.OneRound.{HasTempsBelow, is_graph, are_nodes}
 use Rattle.tg_spill.proofs.Sizes.{node_below}
@@ -103,7 +103,7 @@ defined_below n (x ∷ rest) zero d o h k =
     among_all (is_below n) d (defs_of x) (and_parts (list_all (is_below n) (uses_of x)) _ (and_parts _ _ h).0).1 (and_parts _ _ k).0
 defined_below n (x ∷ rest) (suc at) d o h k = defined_below n rest at d o (and_parts (has_temps_below n x) _ h).1 k
 
-module _ (alone : NoOtherStands) (exist : NodesExist) (rule : Rule) (n : ℕ) (s : Stage) (round : Round) (r : IsRoundOf rule n s round)
+module _ (alone : NoOtherStands) (exist : NodesExist) (rule : Rule) (n : ℕ) (s : BetweenRounds) (round : Round) (r : IsRoundOf rule n s round)
     (below : HasTempsBelow s) where
   abbrev g : Problem
   g = problem_of rule n s r.graph

@@ -17,7 +17,7 @@ use Rattle.tg_spill.specs.Growth.{blocks_rewritten, blocks_behind}
 use Rattle.tg_spill.specs.InFrame.{code_in_frame, instruction_in_frame}
 use Rattle.tg_spill.specs.Painting.{colour_of, code_painted}
 use Rattle.tg_spill.specs.Rewriting.{slotted}
-use Rattle.tg_spill.specs.Rounds.{Stage, stage_of, slots_by, next_stage, IsRoundOf, AreRounds, last_round}
+use Rattle.tg_spill.specs.Rounds.{BetweenRounds, stage_of, slots_by, next_stage, IsRoundOf, AreRounds, last_round}
 use Rattle.tg_spill.specs.Rounds.AreRounds.{last, more}
 use Rattle.tg_spill.proofs.OneRound.{HasTempsBelow}
 use Rattle.tg_spill.proofs.RewrittenBelow.{temps_below}
@@ -33,12 +33,12 @@ abbrev F : Type 0
 F = Function (List Instr)
 
 -- the function with the code between rounds
-abbrev at_stage : F → Stage → F
+abbrev at_stage : F → BetweenRounds → F
 at_stage f s = record f { body = s.list; slots = s.slots }
 
 module _ (alone : NoOtherStands) (exist : NodesExist) (rule : Rule) (n : ℕ) (f : Function (List Instr)) where
   -- the next code of a round stands in the place of the code before
-  round_keeps : (s : Stage) (round : Round) (r : IsRoundOf rule n s round) → HasTempsBelow s →
+  round_keeps : (s : BetweenRounds) (round : Round) (r : IsRoundOf rule n s round) → HasTempsBelow s →
       Keeps (each_rewritten (slots_by n s round) s.list s.temps) (at_stage f s) (at_stage f (next_stage n s round))
   round_keeps s round r below =
       rewriting_keeps (slots_by n s round) (at_stage f s) (at_stage f (next_stage n s round)) s.temps (length (slotted n round))
@@ -46,7 +46,7 @@ module _ (alone : NoOtherStands) (exist : NodesExist) (rule : Rule) (n : ℕ) (f
       (λ l x h. live_is_low s.temps s.list below l x h) (slots_are_apart alone exist rule n s round r below)
 
   -- and the painted code of the last in the place of its
-  last_keeps : (s : Stage) (round : Round) (r : IsRoundOf rule n s round) → HasTempsBelow s → round.spilled ≡ [] → (g : F) →
+  last_keeps : (s : BetweenRounds) (round : Round) (r : IsRoundOf rule n s round) → HasTempsBelow s → round.spilled ≡ [] → (g : F) →
       g.label ≡ f.label → g.out ≡ f.out → g.slots ≡ s.slots → g.body ≡ code_painted (colour_of round) s.list →
       Keeps (each_painted (colour_of round) s.list) (at_stage f s) g
   last_keeps s round r below nothing g label out slots body =
@@ -54,14 +54,14 @@ module _ (alone : NoOtherStands) (exist : NodesExist) (rule : Rule) (n : ℕ) (f
       (colours_are_proper alone exist rule n s round r below nothing) (colours_are_apart alone exist rule n s round r below nothing)
 
   -- a round that another follows
-  goes_on : (s : Stage) {t u : Stage} {rounds : List Round} → AreRounds rule n u rounds t → (round : Round) (blocks : Blocks) →
+  goes_on : (s : BetweenRounds) {t u : BetweenRounds} {rounds : List Round} → AreRounds rule n u rounds t → (round : Round) (blocks : Blocks) →
       (last_round (round ∷ rounds) ≡ last_round rounds) ×
       (blocks_behind n s (round ∷ rounds) blocks ≡
       blocks_behind n (next_stage n s round) rounds (blocks_rewritten (slots_by n s round) blocks s.temps))
   goes_on s (last u first r e) round blocks = (refl, refl)
   goes_on s (more u t first rounds r ne rest) round blocks = (refl, refl)
 
-  rounds_keep : {s t : Stage} {rounds : List Round} → AreRounds rule n s rounds t → HasTempsBelow s → (blocks : Blocks) →
+  rounds_keep : {s t : BetweenRounds} {rounds : List Round} → AreRounds rule n s rounds t → HasTempsBelow s → (blocks : Blocks) →
       Keeps blocks f (at_stage f s) → (last_round rounds).spilled ≡ [] → (g : F) → g.label ≡ f.label → g.out ≡ f.out →
       g.slots ≡ t.slots → g.body ≡ code_painted (colour_of (last_round rounds)) t.list → Keeps (blocks_behind n s rounds blocks) f g
   rounds_keep (last s round r e) below blocks k nothing g label out slots body =

@@ -7,40 +7,40 @@ use Rattle.tg_syntax.specs.Throughout.{ThroughParams, ThroughForm, ThroughTypes,
 use Rattle.tg_syntax.specs.Throughout.{Throughout, ThroughPlace, ThroughExps, ThroughInits}
 use Rattle.tg_syntax.specs.Throughout.{ThroughDecs, ThroughFunctions}
 
-abbrev pub IsWithin : (length : ℕ) → Ident → Type 0
-IsWithin n x = x.name.0 < n
+abbrev pub NameIsWithin : (length : ℕ) → Ident → Type 0
+NameIsWithin n x = x.name.0 < n
 
 -- of a byte nothing is said
 abbrev pub AnyByte : (at : ℕ) → Type 0
 AnyByte at = Unit {0}
 
 abbrev pub NamesWithin : (length : ℕ) → Exp → Type 0
-NamesWithin n e = Throughout (IsWithin n) AnyByte e
+NamesWithin n e = Throughout (NameIsWithin n) AnyByte e
 
 -- the same of the parts of a tree
 abbrev pub ParamsWithin : (length : ℕ) → List Param → Type 0
-ParamsWithin n ps = ThroughParams (IsWithin n) AnyByte ps
+ParamsWithin n ps = ThroughParams (NameIsWithin n) AnyByte ps
 
 abbrev pub FormWithin : (length : ℕ) → Form → Type 0
-FormWithin n f = ThroughForm (IsWithin n) AnyByte f
+FormWithin n f = ThroughForm (NameIsWithin n) AnyByte f
 
 abbrev pub TypesWithin : (length : ℕ) → List TypeDec → Type 0
-TypesWithin n ds = ThroughTypes (IsWithin n) AnyByte ds
+TypesWithin n ds = ThroughTypes (NameIsWithin n) AnyByte ds
 
 abbrev pub KindWithin : (length : ℕ) → Option Ident → Type 0
-KindWithin n kind = ThroughKind (IsWithin n) AnyByte kind
+KindWithin n kind = ThroughKind (NameIsWithin n) AnyByte kind
 
 abbrev pub PlaceWithin : (length : ℕ) → LValue → Type 0
-PlaceWithin n v = ThroughPlace (IsWithin n) AnyByte v
+PlaceWithin n v = ThroughPlace (NameIsWithin n) AnyByte v
 
 abbrev pub ExpsWithin : (length : ℕ) → Exps → Type 0
-ExpsWithin n es = ThroughExps (IsWithin n) AnyByte es
+ExpsWithin n es = ThroughExps (NameIsWithin n) AnyByte es
 
 abbrev pub InitsWithin : (length : ℕ) → Inits → Type 0
-InitsWithin n inits = ThroughInits (IsWithin n) AnyByte inits
+InitsWithin n inits = ThroughInits (NameIsWithin n) AnyByte inits
 
 abbrev pub DecsWithin : (length : ℕ) → Decs → Type 0
-DecsWithin n ds = ThroughDecs (IsWithin n) AnyByte ds
+DecsWithin n ds = ThroughDecs (NameIsWithin n) AnyByte ds
 
 abbrev pub FunctionsWithin : (length : ℕ) → FunDecs → Type 0
-FunctionsWithin n fs = ThroughFunctions (IsWithin n) AnyByte fs
+FunctionsWithin n fs = ThroughFunctions (NameIsWithin n) AnyByte fs

@@ -8,29 +8,29 @@ use Rattle.std.proofs.Math.Seq.{drop-length}
 use Rattle.tg_tree.specs.declared.trees.Ts.{Ts as CodeTs}
 use Rattle.tg_tree.specs.Plain.{plain_ts}
 use Rattle.tg_tree.specs.Lists.{stms_of}
-use Rattle.tg_trace.specs.Cutting.{Cut, cut, cut_all, leaves}
+use Rattle.tg_trace.specs.Cutting.{CutBlocks, cut, cut_all, leaves}
 use Rattle.tg_trace.specs.Plains.{come_to}
 
-abbrev pub back : (exits : List ℕ) → List CodeTs → Cut → Cut
+abbrev pub back : (exits : List ℕ) → List CodeTs → CutBlocks → CutBlocks
 back exits [] c = c
 back exits (s ∷ ss) c = cut exits (plain_ts s) (back exits ss c)
 
-leaving : (b : Bool) (exits : List ℕ) (s : CodeTs) (ss : List CodeTs) (c : Cut) → cut_all exits (stms_of ss) c ≡
+leaving : (b : Bool) (exits : List ℕ) (s : CodeTs) (ss : List CodeTs) (c : CutBlocks) → cut_all exits (stms_of ss) c ≡
     back exits (take (come_to ss) ss) c → cut exits (plain_ts s) (if b then c else cut_all exits (stms_of ss) c) ≡
     back exits (take (if b then 1 else suc (come_to ss)) (s ∷ ss)) c
 leaving true exits s ss c h = refl
 leaving false exits s ss c h = ap (cut exits (plain_ts s)) h
 
-pub cut_all_is : (exits : List ℕ) (ss : List CodeTs) (c : Cut) → cut_all exits (stms_of ss) c ≡ back exits (take (come_to ss) ss) c
+pub cut_all_is : (exits : List ℕ) (ss : List CodeTs) (c : CutBlocks) → cut_all exits (stms_of ss) c ≡ back exits (take (come_to ss) ss) c
 cut_all_is exits [] c = refl
 cut_all_is exits (s ∷ ss) c = leaving (leaves (plain_ts s)) exits s ss c (cut_all_is exits ss c)
 
-pub back_last : (exits : List ℕ) (ss : List CodeTs) (s : CodeTs) (c : Cut) → back exits (ss ++ s ∷ []) c ≡ back exits ss (cut exits (plain_ts s) c)
+pub back_last : (exits : List ℕ) (ss : List CodeTs) (s : CodeTs) (c : CutBlocks) → back exits (ss ++ s ∷ []) c ≡ back exits ss (cut exits (plain_ts s) c)
 back_last exits [] s c = refl
 back_last exits (first ∷ ss) s c = ap (cut exits (plain_ts first)) (back_last exits ss s c)
 
 -- the last statement, which is come to, and one that isn't
-pub back_in : (exits : List ℕ) (n : ℕ) (ss all : List CodeTs) (s : CodeTs) (c : Cut) → all ≡ ss ++ s ∷ [] → length ss < n →
+pub back_in : (exits : List ℕ) (n : ℕ) (ss all : List CodeTs) (s : CodeTs) (c : CutBlocks) → all ≡ ss ++ s ∷ [] → length ss < n →
     back exits (take n ss) (cut exits (plain_ts s) c) ≡ back exits (take n all) c
 back_in exits n ss all s c e h =
     let k : length (ss ++ s ∷ []) ≤ n = omega (arith, length-append ss (s ∷ [])) in
@@ -38,7 +38,7 @@ back_in exits n ss all s c e h =
     ap (λ xs. back exits xs (cut exits (plain_ts s) c)) (take_all n ss k')
     ∙ (sym (back_last exits ss s c) ∙ ap (λ xs. back exits xs c) (sym (take_all n (ss ++ s ∷ []) k) ∙ ap (take n) (sym e)))
 
-pub back_out : (exits : List ℕ) (n : ℕ) (ss all : List CodeTs) (s : CodeTs) (c : Cut) → all ≡ ss ++ s ∷ [] → n ≤ length ss →
+pub back_out : (exits : List ℕ) (n : ℕ) (ss all : List CodeTs) (s : CodeTs) (c : CutBlocks) → all ≡ ss ++ s ∷ [] → n ≤ length ss →
     back exits (take n ss) c ≡ back exits (take n all) c
 back_out exits n ss all s c e h = ap (λ xs. back exits xs c) (sym (take-append-le n ss (s ∷ []) h) ∙ ap (take n) (sym e))
 
@@ -73,7 +73,7 @@ take_nothing n none e =
     let h : length none ≤ n = subst (λ (xs : List CodeTs). length xs ≤ n) (sym e) (omega arith) in
     take_all n none h
 
-pub back_none : (exits : List ℕ) (n : ℕ) (ss : List CodeTs) (c whole : Cut) → length ss ≤ 0 → back exits (take n ss) c ≡ whole → c ≡ whole
+pub back_none : (exits : List ℕ) (n : ℕ) (ss : List CodeTs) (c whole : CutBlocks) → length ss ≤ 0 → back exits (take n ss) c ≡ whole → c ≡ whole
 back_none exits n ss c whole h e =
     let none : ss ≡ [] = none_there ss h in
     sym (ap (λ xs. back exits xs c) (take_nothing n ss none ∙ none)) ∙ e

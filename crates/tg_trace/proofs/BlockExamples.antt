@@ -12,7 +12,7 @@ use Rattle.tg_tree.specs.Forms.{txs, stms, sequence, nothing}
 use Rattle.tg_tree.specs.Tree as tree
 use Rattle.tg_tree.specs.Tree.{Tx, Const, Temp, Binary, Call, Service, Cond, Compare, Ts, Move, Do, If, Loop, Break, Function, Code}
 use Rattle.tg_tree.specs.Running.{canonical_run}
-use Rattle.tg_trace.specs.Block.{End, Jump, Return, Block}
+use Rattle.tg_trace.specs.Block.{BlockEnd, Jump, Return, Block}
 use Rattle.tg_trace.specs.Cutting.{blocks_of}
 use Rattle.tg_trace.specs.Meaning.{block_run}
 
@@ -84,7 +84,7 @@ call_wants : does calls 0 ≡ ([], WantsFuel)
 call_wants = refl
 
 -- a place that isn't there goes wrong
-abbrev block : End → List Ts → Block
+abbrev block : BlockEnd → List Ts → Block
 block e ss = record { body = stms ss; end = e }
 
 nowhere : does (fun 32 [] (block (Jump 3) (print (Const 6) ∷ []) ∷ block (Return (Const 0)) [] ∷ []) ∷ []) 4 ≡ (6 ∷ [], Wrong)

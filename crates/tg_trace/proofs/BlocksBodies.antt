@@ -22,7 +22,7 @@ use Rattle.tg_tree.specs.Carrying.{BacksSimulate, CallsSimulate, AllCarried, non
 use Rattle.tg_tree.proofs.TreeRuns.{trees_step}
 use Rattle.tg_tree.proofs.Linking.{programs_carried}
 use Rattle.tg_trace.specs.Block.{Block}
-use Rattle.tg_trace.specs.Cutting.{Cut, draw, leads, next_mark, seal, branch, leaves, cut, cut_all, start, entered_by, placed_all, blocks_of}
+use Rattle.tg_trace.specs.Cutting.{CutBlocks, draw, leads, next_mark, seal, branch, leaves, cut, cut_all, start, entered_by, placed_all, blocks_of}
 use Rattle.tg_trace.specs.Meaning.{run_block_body, block_going, block_run}
 use Rattle.tg_trace.specs.Carried.{added_work, in_blocks, code_in_blocks, IsCanonicalFunction, BlocksCarryBodies, BlocksKeepPrograms}
 use Rattle.tg_trace.proofs.Rests.{take_all}
@@ -31,7 +31,7 @@ use Rattle.tg_trace.proofs.BlocksKept.{Keeps, turn, turn_keeps, cut_keeps, get_f
 use Rattle.tg_trace.proofs.BlocksCarried.{lighter, paying, working, leads_only, Scene, all_carry}
 
 -- What only jumps, outside of every loop, leads to the block that was laid last.
-abbrev IsLast : Cut → Type 0
+abbrev IsLast : CutBlocks → Type 0
 IsLast c = (m : ℕ) → leads c.body c.end ≡ Some m → slice_index c.places m + 1 ≡ length c.laid
 
 none_some : {A : Type 0} {m : ℕ} → None ≡ Some m → A
@@ -40,13 +40,13 @@ none_some e = cc
 some_is : {k m : ℕ} → Some k ≡ Some m → k ≡ m
 some_is e = cc
 
-branch_last : (d : Cond) (yes' no' : ℕ) (c : Cut) → IsLast (branch d yes' no' c)
+branch_last : (d : Cond) (yes' no' : ℕ) (c : CutBlocks) → IsLast (branch d yes' no' c)
 branch_last (Compare rel x y) yes' no' c = λ m e. none_some e
 branch_last (Not d) yes' no' c = branch_last d no' yes' c
 branch_last (Both d e) yes' no' c = branch_last d (next_mark (branch e yes' no' c)) no' (seal (branch e yes' no' c))
 branch_last (Either d e) yes' no' c = branch_last d yes' (next_mark (branch e yes' no' c)) (seal (branch e yes' no' c))
 
-loop_last : (exits : List ℕ) (s : Ts) (c : Cut) → IsLast (cut exits (Loop s) c)
+loop_last : (exits : List ℕ) (s : Ts) (c : CutBlocks) → IsLast (cut exits (Loop s) c)
 loop_last exits s c m e =
     let c1 = seal c in
     let c3 = turn exits s c in
@@ -59,12 +59,12 @@ loop_last exits s c m e =
     ap (λ x. slice_index (slice_set c3.places (length c1.places) (length c3.laid)) x) (sym (some_is e)) ∙ here in
     omega (arith, same, length-append c3.laid (b ∷ []))
 
-either_last : (v : Bool) (c d : Cut) → IsLast c → IsLast d → IsLast (if v then c else d)
+either_last : (v : Bool) (c d : CutBlocks) → IsLast c → IsLast d → IsLast (if v then c else d)
 either_last true c d g h = g
 either_last false c d g h = h
 
 mutual
-  cut_last : (s : Ts) (c : Cut) → BreaksWithin 0 s → IsLast c → IsLast (cut [] s c)
+  cut_last : (s : Ts) (c : CutBlocks) → BreaksWithin 0 s → IsLast c → IsLast (cut [] s c)
   cut_last (Move i x) c b h = λ m e. none_some e
   cut_last (Store x y) c b h = λ m e. none_some e
   cut_last (StoreByte x y) c b h = λ m e. none_some e
@@ -76,7 +76,7 @@ mutual
   cut_last (Seq ss) c b h = all_last ss c b h
   cut_last (tree.Return x) c b h = λ m e. none_some e
 
-  all_last : (ss : Stms) (c : Cut) → BreaksWithinStms 0 ss → IsLast c → IsLast (cut_all [] ss c)
+  all_last : (ss : Stms) (c : CutBlocks) → BreaksWithinStms 0 ss → IsLast c → IsLast (cut_all [] ss c)
   all_last no_stms c b h = h
   all_last (stm s ss) c b h = cut_last s (if leaves s then c else cut_all [] ss c) b.0 (either_last (leaves s) c (cut_all [] ss c) h (all_last ss c b.1 h))
 
@@ -96,7 +96,7 @@ module _ (functions : List (Function Ts)) (functions' : List (Function (List Blo
   module _
       (ss : Stms) (can : AreCanonical ss) (closed : AreClosed ss) (n r : ℕ) (activation : Activation) (back back' : Back) (calls : Calls n)
       (returns : BacksSimulate 1 r n back back') where
-    abbrev c : Cut
+    abbrev c : CutBlocks
     c = cut_all [] ss start
 
     abbrev no_out : Out

@@ -22,8 +22,8 @@ use Rattle.tg_tree.specs.Running.{with_fuel, outermost, enter, going}
 use Rattle.tg_tree.specs.Flat.{Last}
 use Rattle.tg_tree.specs.Carrying.{BacksSimulate, EntersSimulate}
 use Rattle.tg_tree.proofs.TreeRuns.{trees_step}
-use Rattle.tg_trace.specs.Block.{End, Jump, Branch, Fault, Return, Block}
-use Rattle.tg_trace.specs.Cutting.{Cut, open_at, in_front, draw, leads, mark_by, seal_by, next_mark, seal, branch, head, exit_of, leaves, cut}
+use Rattle.tg_trace.specs.Block.{BlockEnd, Jump, Branch, Fault, Return, Block}
+use Rattle.tg_trace.specs.Cutting.{CutBlocks, open_at, in_front, draw, leads, mark_by, seal_by, next_mark, seal, branch, head, exit_of, leaves, cut}
 use Rattle.tg_trace.specs.Cutting.{cut_all, place_of}
 use Rattle.tg_trace.specs.Meaning.{enter_blocks, block_going}
 use Rattle.tg_trace.proofs.BlocksFlat.{pays_less, no_later, word_simulates, statement_simulates}
@@ -48,7 +48,7 @@ false_true : {A : Type 0} → false ≡ true → A
 false_true e = cc
 
 -- only a jump without statements leads on
-pub leads_only : (body : Stms) (z : End) (m : ℕ) → leads body z ≡ Some m → (body ≡ no_stms) × (z ≡ Jump m)
+pub leads_only : (body : Stms) (z : BlockEnd) (m : ℕ) → leads body z ≡ Some m → (body ≡ no_stms) × (z ≡ Jump m)
 leads_only no_stms (Jump k) m e = (refl, ap Jump (some_is e))
   where
     some_is : {k m : ℕ} → Some k ≡ Some m → k ≡ m
@@ -109,7 +109,7 @@ module _
   abbrev lead : ℕ → (mark : ℕ) → Next
   lead j m = leads_to code' size floor room places laid behind j m
 
-  abbrev opening : ℕ → Stms → End → Next
+  abbrev opening : ℕ → Stms → BlockEnd → Next
   opening j body z = opens code' size floor room places laid behind j body z
 
   abbrev block_from : ℕ → Next
@@ -123,7 +123,7 @@ module _
   Leads n r least most m next = (j : ℕ) → least ≤ j → j ≤ most → Does n r next (lead j m)
 
   -- What is open does what comes next, wherever it is laid there.
-  abbrev Opens : (n r most : ℕ) → Cut → Next → Type 0
+  abbrev Opens : (n r most : ℕ) → CutBlocks → Next → Type 0
   Opens n r most c next = (j : ℕ) → length c.laid ≤ j → j ≤ most → Does n r next (opening j c.body c.end)
 
   abbrev Exits : (n r least most : ℕ) → List ℕ → Out → Type 0
@@ -135,7 +135,7 @@ module _
   leads_on n k r s least least' most most' m next le lr ll lm h j a b w t =
       simulates_less 1 s k n _ _ le (simulates_with_credit 1 r s n _ _ lr (h j (omega (arith, ll, a)) (omega (arith, b, lm)) w t))
 
-  opens_on : (n k r s most most' : ℕ) (c : Cut) (next : Next) → k ≤ n → r ≤ s → most' ≤ most → Opens n r most c next → Opens k s most' c next
+  opens_on : (n k r s most most' : ℕ) (c : CutBlocks) (next : Next) → k ≤ n → r ≤ s → most' ≤ most → Opens n r most c next → Opens k s most' c next
   opens_on n k r s most most' c next le lr lm h j a b w t =
       simulates_less 1 s k n _ _ le (simulates_with_credit 1 r s n _ _ lr (h j a (omega (arith, b, lm)) w t))
 
@@ -145,12 +145,12 @@ module _
   exits_on n k r s least least' most most' exits out le lr ll lm h i lt =
       leads_on n k (r + 2) (s + 2) least least' most most' (exit_of exits i) (out i) le (omega (arith, lr)) ll lm (h i lt)
 
-  jump_opens : (n r s most m : ℕ) (c : Cut) (next : Next) → r + 1 ≤ s → Leads n r (length c.laid) most m next → Opens n s most (open_at (Jump m) c) next
+  jump_opens : (n r s most m : ℕ) (c : CutBlocks) (next : Next) → r + 1 ≤ s → Leads n r (length c.laid) most m next → Opens n s most (open_at (Jump m) c) next
   jump_opens n r s most m c next le h j a b w t = working 1 r s n _ _ le (h j a b w t)
 
   -- what is sealed, where its mark leads
   laid_leads :
-      (n r most i m : ℕ) (body : Stms) (z : End) (next : Next) → most ≤ length laid → Stands places laid m i body z → Does n r next (opening i body z) →
+      (n r most i m : ℕ) (body : Stms) (z : BlockEnd) (next : Next) → most ≤ length laid → Stands places laid m i body z → Does n r next (opening i body z) →
       Leads n (r + 1) (i + 1) most m next
   laid_leads n r most i m body z next within st h j a b w t =
       let lt : i < length laid = slice_get_within laid i (record { body = body; end = z }) st.block in
@@ -161,7 +161,7 @@ module _
       (sym (first_is code' size floor room places laid behind i (record { body = body; end = z }) lt st.block w t)) one)
 
   seal_by_leads :
-      (o : Option ℕ) (n r most : ℕ) (c : Cut) (next : Next) → leads c.body c.end ≡ o → most ≤ length laid → Opens n r most c next → Fits places laid c
+      (o : Option ℕ) (n r most : ℕ) (c : CutBlocks) (next : Next) → leads c.body c.end ≡ o → most ≤ length laid → Opens n r most c next → Fits places laid c
       (seal_by o c) →
       Leads n (r + 1) (length (seal_by o c).laid) most (mark_by o c) next
   seal_by_leads (Some m) n r most c next e within h f j a b w t =
@@ -177,7 +177,7 @@ module _
       (λ w1 t1. h i (omega arith) (omega (arith, more, a, b)) w1 t1) j (omega (arith, more, a)) b w t
 
   seal_leads :
-      (n r most : ℕ) (c : Cut) (next : Next) → most ≤ length laid → Opens n r most c next → Fits places laid c (seal c) →
+      (n r most : ℕ) (c : CutBlocks) (next : Next) → most ≤ length laid → Opens n r most c next → Fits places laid c (seal c) →
       Leads n (r + 1) (length (seal c).laid) most (next_mark c) next
   seal_leads n r most c next within h f = seal_by_leads (leads c.body c.end) n r most c next refl within h f
 
@@ -219,12 +219,12 @@ module _
     either_leads false n s j yes' no' go h k w t = k w t
 
     -- the second test of two that are joined, sealed in front of the first
-    second_kept : (d : Cond) (yes' no' : ℕ) (c : Cut) → Keeps c (seal (branch d yes' no' c))
+    second_kept : (d : Cond) (yes' no' : ℕ) (c : CutBlocks) → Keeps c (seal (branch d yes' no' c))
     second_kept d yes' no' c =
         keeps_on c (branch d yes' no' c) (seal (branch d yes' no' c)) (branch_keeps d yes' no' c) (seal_keeps (branch d yes' no' c))
 
     second_leads :
-        (d : Cond) (n r most : ℕ) → most ≤ length laid → (yes' no' : ℕ) (c all : Cut) (next : Next) → Keeps (seal (branch d yes' no' c)) all →
+        (d : Cond) (n r most : ℕ) → most ≤ length laid → (yes' no' : ℕ) (c all : CutBlocks) (next : Next) → Keeps (seal (branch d yes' no' c)) all →
         Fits places laid c all → (Fits places laid c (branch d yes' no' c) → Opens n r most (branch d yes' no' c) next) →
         Leads n (r + 1) (length (seal (branch d yes' no' c)).laid) most (next_mark (branch d yes' no' c)) next
     second_leads d n r most lw yes' no' c all next keeps f opened =
@@ -234,7 +234,7 @@ module _
         (fits_first places laid second (seal second) all keeps (fits_rest places laid c second all (branch_keeps d yes' no' c) f))
 
     branch_opens :
-        (d : Cond) → IsFlatCond d → (n r most : ℕ) → n ≤ limit → debt ≤ r → most ≤ length laid → (yes' no' : ℕ) (c : Cut) (out : Out) (go : Go Bool) →
+        (d : Cond) → IsFlatCond d → (n r most : ℕ) → n ≤ limit → debt ≤ r → most ≤ length laid → (yes' no' : ℕ) (c : CutBlocks) (out : Out) (go : Go Bool) →
         Leads n (r + 1) (length c.laid) most yes' (go true) → Leads n (r + 1) (length c.laid) most no' (go false) → Fits places laid c (branch d yes' no' c) →
         Opens n r most (branch d yes' no' c) (tests d out go)
     branch_opens (Compare rel x y) flat n r most le lo lw yes' no' c out go h k f j a b w t =
@@ -269,19 +269,19 @@ module _
 
     -- statements that leave don't come to what is open behind them
     break_opens :
-        (n r least most k : ℕ) (exits : List ℕ) (out : Out) (next : Next) (c : Cut) → k < length exits → Scene n r (length c.laid) most exits out →
+        (n r least most k : ℕ) (exits : List ℕ) (out : Out) (next : Next) (c : CutBlocks) → k < length exits → Scene n r (length c.laid) most exits out →
         Opens n r most (open_at (Jump (exit_of exits k)) c) (runs (Break k) out next)
     break_opens n r least most k exits out next c lt sc j a b w t =
         paying 3 r (r + 3) n _ _ (omega arith) (jump_opens n (r + 2) (r + 3) most (exit_of exits k) c (out k) (omega arith) (sc.ways k lt) j a b w t)
 
     return_opens :
-        (n r least most : ℕ) (x : Tx) (exits : List ℕ) (out : Out) (next : Next) (c : Cut) → IsFlat x → Scene n r least most exits out →
+        (n r least most : ℕ) (x : Tx) (exits : List ℕ) (out : Out) (next : Next) (c : CutBlocks) → IsFlat x → Scene n r least most exits out →
         Opens n r most (open_at (Return x) c) (runs (tree.Return x) out next)
     return_opens n r least most x exits out next c flat sc j a b w t =
         pays_less r n 16 14 _ _ (omega arith) (words n r sc.fuel sc.owed x flat out _ _ (λ v w1 t1. returns_at n r sc.fuel sc.owed v w1) w t)
 
     leaving_opens :
-        (s : Ts) → leaves s ≡ true → IsCanonical s → (n r most : ℕ) (exits : List ℕ) (out : Out) (next : Next) (c : Cut) → BreaksWithin (length exits) s →
+        (s : Ts) → leaves s ≡ true → IsCanonical s → (n r most : ℕ) (exits : List ℕ) (out : Out) (next : Next) (c : CutBlocks) → BreaksWithin (length exits) s →
         Scene n r (length c.laid) most exits out → Opens n r most (cut exits s c) (runs s out next)
     leaving_opens (Break k) e can n r most exits out next c b sc = break_opens n r (length c.laid) most k exits out next c b sc
     leaving_opens (tree.Fault k) e can n r most exits out next c b sc =
@@ -298,16 +298,16 @@ module _
     -- A statement is carried: where what is open does what comes next, so it does with the statement in front of it.
     abbrev Carried : Ts → Type 0
     Carried s =
-        (n r most : ℕ) (exits : List ℕ) (out : Out) (next : Next) (c : Cut) → BreaksWithin (length exits) s → Scene n r (length c.laid) most exits out →
+        (n r most : ℕ) (exits : List ℕ) (out : Out) (next : Next) (c : CutBlocks) → BreaksWithin (length exits) s → Scene n r (length c.laid) most exits out →
         Opens n r most c next → Fits places laid c (cut exits s c) → Opens n r most (cut exits s c) (runs s out next)
 
     abbrev AllCarried : Stms → Type 0
     AllCarried ss =
-        (n r most : ℕ) (exits : List ℕ) (out : Out) (next : Next) (c : Cut) → BreaksWithinStms (length exits) ss → Scene n r (length c.laid) most exits out →
+        (n r most : ℕ) (exits : List ℕ) (out : Out) (next : Next) (c : CutBlocks) → BreaksWithinStms (length exits) ss → Scene n r (length c.laid) most exits out →
         Opens n r most c next → Fits places laid c (cut_all exits ss c) → Opens n r most (cut_all exits ss c) (runs_all ss out next)
 
     front_opens :
-        (s : Ts) → IsFlatStatement s → (n r most : ℕ) (exits : List ℕ) (out : Out) (next : Next) (c : Cut) → Scene n r (length c.laid) most exits out →
+        (s : Ts) → IsFlatStatement s → (n r most : ℕ) (exits : List ℕ) (out : Out) (next : Next) (c : CutBlocks) → Scene n r (length c.laid) most exits out →
         Opens n r most c next → Opens n r most (in_front s c) (runs s out next)
     front_opens s flat n r most exits out next c sc h j a b w t =
         statement_simulates room ls enters enters' n r (calls n sc.fuel) activation back back' (returns_at n r sc.fuel sc.owed) later out s flat next
@@ -315,7 +315,7 @@ module _
 
     -- a side of a choice, in front of a join
     side_leads :
-        (s : Ts) → Carried s → (n r most join : ℕ) (exits : List ℕ) (out : Out) (next : Next) (c : Cut) → BreaksWithin (length exits) s → Scene n (r + 2)
+        (s : Ts) → Carried s → (n r most join : ℕ) (exits : List ℕ) (out : Out) (next : Next) (c : CutBlocks) → BreaksWithin (length exits) s → Scene n (r + 2)
         (length c.laid) most exits out →
         Leads n (r + 1) (length c.laid) most join next → Fits places laid c (seal (side exits join s c)) →
         Leads n (r + 3) (length (seal (side exits join s c)).laid) most (next_mark (side exits join s c)) (runs s out next)
@@ -370,7 +370,7 @@ module _
     -- one statement in front of others
     stm_carried :
         (s : Ts) (ss : Stms) (v : Bool) → leaves s ≡ v → IsCanonical s → Carried s → AllCarried ss →
-        (n r most : ℕ) (exits : List ℕ) (out : Out) (next : Next) (c : Cut) → BreaksWithin (length exits) s → BreaksWithinStms (length exits) ss →
+        (n r most : ℕ) (exits : List ℕ) (out : Out) (next : Next) (c : CutBlocks) → BreaksWithin (length exits) s → BreaksWithinStms (length exits) ss →
         Scene n r (length c.laid) most exits out →
         Opens n r most c next → Fits places laid c (cut exits s (if v then c else cut_all exits ss c)) → Opens n r most
         (cut exits s (if v then c else cut_all exits ss c)) (runs s out (runs_all ss out next))
@@ -384,19 +384,19 @@ module _
 
     -- A loop, by its turn. The way back to its head takes fuel on both sides.
     module _
-        (s : Ts) (carried : Carried s) (n r most : ℕ) (exits : List ℕ) (out : Out) (next : Next) (c : Cut) (b : BreaksWithin (length exits) (Loop s))
+        (s : Ts) (carried : Carried s) (n r most : ℕ) (exits : List ℕ) (out : Out) (next : Next) (c : CutBlocks) (b : BreaksWithin (length exits) (Loop s))
         (sc : Scene n r (length c.laid) most exits out)
         (h : Opens n r most c next) (f : Fits places laid c (cut exits (Loop s) c)) where
-      abbrev c1 : Cut
+      abbrev c1 : CutBlocks
       c1 = seal c
 
       abbrev mark : ℕ
       mark = length c1.places
 
-      abbrev c2 : Cut
+      abbrev c2 : CutBlocks
       c2 = open_at (Jump mark) (draw 0 c1)
 
-      abbrev c3 : Cut
+      abbrev c3 : CutBlocks
       c3 = turn exits s c
 
       abbrev here : ℕ

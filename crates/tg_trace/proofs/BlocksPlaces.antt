@@ -10,7 +10,7 @@ use Rattle.tg_tree.specs.Tree.{Stms, Code}
 use Rattle.tg_tree.specs.Actions.{World, Temps, Around, Acts, Next, ◌>>◌, charged}
 use Rattle.tg_tree.specs.Running.{with_fuel}
 use Rattle.tg_tree.specs.Flat.{Last}
-use Rattle.tg_trace.specs.Block.{End, Block}
+use Rattle.tg_trace.specs.Block.{BlockEnd, Block}
 use Rattle.tg_trace.specs.Cutting.{place_of, placed_end, placed, placed_all}
 use Rattle.tg_trace.specs.Laying.{no_block}
 use Rattle.tg_trace.specs.Meaning.{BlockPoint, run_within, finish, return_to, run_from, block_going}
@@ -53,7 +53,7 @@ module _ (code : Code (List Block)) (size : ℕ → ℕ) (floor room : ℕ) (pla
   leads_to i m w t = at i (place_of places (length laid - 1) m) e tt w t
 
   -- a block in front of so many, behind its mark
-  abbrev pub opens : ℕ → Stms → End → Next
+  abbrev pub opens : ℕ → Stms → BlockEnd → Next
   opens i body z w t = (run_within code size floor room goes body >> finish code size floor room goes (at i) (placed_end places (length laid - 1) z)) e tt w t
 
   -- the block that was laid behind so many

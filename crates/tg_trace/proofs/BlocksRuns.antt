@@ -16,7 +16,7 @@ use Rattle.tg_tree.proofs.Relating.{keep_back, keep_value, keep_all}
 use Rattle.tg_tree.proofs.Going.{one, OneWorld, OneTemps, Same, same_keeps, Onward, onward_keeps}
 use Rattle.tg_tree.proofs.Entering.{BodiesKeep, keep_call_in, stays_over, only_goes_on}
 use Rattle.tg_tree.proofs.TreeRuns.{same_around}
-use Rattle.tg_trace.specs.Block.{End, Jump, Branch, Fault, Return, Block}
+use Rattle.tg_trace.specs.Block.{BlockEnd, Jump, Branch, Fault, Return, Block}
 use Rattle.tg_trace.specs.Meaning.{BlockPoint, end_units, run_block_body, enter_blocks, finish, return_to, run_from, block_step, block_going, block_run}
 
 module _ (R : Related) (W : RelatedWorlds) (T : RelatedTemps) where
@@ -53,7 +53,7 @@ module _ (R : Related) (W : RelatedWorlds) (T : RelatedTemps) where
             keeps.fuel n w x _ _ r (λ m lt. later m lt _ _ (alike_blocks whole p e e' w x t u (around_down R W T keeps m n e e' (omega arith) he) r s))
 
         keep_finish :
-            (at at' : ℕ → Acts Last) → ((p : ℕ) → KeepsLast (at p) (at' p)) → (z : End) →
+            (at at' : ℕ → Acts Last) → ((p : ℕ) → KeepsLast (at p) (at' p)) → (z : BlockEnd) →
             KeepsLast (finish code size floor room c at z) (finish code size floor room d at' z)
         keep_finish at at' h (Jump p) w x t u r s = keeps.work n (end_units (Jump p)) w _ _ (h p w x t u r s)
         keep_finish at at' h (Branch rel a b p q) w x t u r s =

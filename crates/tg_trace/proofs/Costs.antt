@@ -7,8 +7,8 @@ use Rattle.std.proofs.lemmas.List.{reverse-append}
 use Rattle.tg_tree.specs.Tree as tree
 use Rattle.tg_tree.specs.Tree.{Tx, Cond, Compare, Not, Both, Either, Ts, Move, Store, StoreByte, Do, If, Loop, Break, Seq, Stms, no_stms, stm, Linear}
 use Rattle.tg_tree.specs.Tree.{Mark, Do'}
-use Rattle.tg_trace.specs.Block.{End, Jump, Branch, Fault, Return, Block}
-use Rattle.tg_trace.specs.Cutting.{Cut, open_at, draw, stand, lay, leads, seal_by, next_mark, seal, branch, head, leaves, cut, cut_all, start}
+use Rattle.tg_trace.specs.Block.{BlockEnd, Jump, Branch, Fault, Return, Block}
+use Rattle.tg_trace.specs.Cutting.{CutBlocks, open_at, draw, stand, lay, leads, seal_by, next_mark, seal, branch, head, leaves, cut, cut_all, start}
 use Rattle.tg_trace.specs.Cutting.{entered_by, entered, placed_end, placed, blocks_of}
 use Rattle.tg_trace.specs.Laying.{no_block, block_at, is_next, jump_unless, branch_by, end_code, body_code, block_code, code_in, traces, traced}
 use Rattle.tg_trace.proofs.Places.{traces_keep}
@@ -19,7 +19,7 @@ module _ (m j : ℕ) (s : Ts → ℕ) (b : Tx → Tx → ℕ) (r : Tx → ℕ) (
   body_cost no_stms = 0
   body_cost (stm t ts) = s t + body_cost ts
 
-  abbrev pub end_cost : End → ℕ
+  abbrev pub end_cost : BlockEnd → ℕ
   end_cost (Jump _) = j
   end_cost (Branch _ x y _ _) = b x y + j
   end_cost (Fault n) = f n
@@ -32,10 +32,10 @@ module _ (m j : ℕ) (s : Ts → ℕ) (b : Tx → Tx → ℕ) (r : Tx → ℕ) (
   blocks_cost [] = 0
   blocks_cost (a ∷ as') = block_cost a + blocks_cost as'
 
-  abbrev open_cost : Cut → ℕ
+  abbrev open_cost : CutBlocks → ℕ
   open_cost c = body_cost c.body + end_cost c.end
 
-  abbrev cut_cost : Cut → ℕ
+  abbrev cut_cost : CutBlocks → ℕ
   cut_cost c = blocks_cost c.laid + open_cost c
 
   -- what statements count
@@ -66,17 +66,17 @@ module _ (m j : ℕ) (s : Ts → ℕ) (b : Tx → Tx → ℕ) (r : Tx → ℕ) (
   blocks_cost_joined [] ys = omega arith
   blocks_cost_joined (x ∷ xs) ys = let h = blocks_cost_joined xs ys in omega (arith, h)
 
-  lay_cost : (mark : ℕ) (c : Cut) → blocks_cost (lay mark c).laid ≡ cut_cost c + m
+  lay_cost : (mark : ℕ) (c : CutBlocks) → blocks_cost (lay mark c).laid ≡ cut_cost c + m
   lay_cost mark c = let h = blocks_cost_joined c.laid (record { body = c.body; end = c.end } ∷ []) in omega (arith, h)
 
-  seal_by_cost : (o : Option ℕ) (c : Cut) → blocks_cost (seal_by o c).laid ≤ cut_cost c + m
+  seal_by_cost : (o : Option ℕ) (c : CutBlocks) → blocks_cost (seal_by o c).laid ≤ cut_cost c + m
   seal_by_cost (Some mark) c = omega arith
   seal_by_cost None c = let h = lay_cost (length c.places) (draw (length c.laid) c) in omega (arith, h)
 
-  seal_cost : (c : Cut) → blocks_cost (seal c).laid ≤ cut_cost c + m
+  seal_cost : (c : CutBlocks) → blocks_cost (seal c).laid ≤ cut_cost c + m
   seal_cost c = seal_by_cost (leads c.body c.end) c
 
-  branch_cost : (d : Cond) (yes' no' : ℕ) (c : Cut) → cut_cost (branch d yes' no' c) ≤ blocks_cost c.laid + (condition_cost d + j)
+  branch_cost : (d : Cond) (yes' no' : ℕ) (c : CutBlocks) → cut_cost (branch d yes' no' c) ≤ blocks_cost c.laid + (condition_cost d + j)
   branch_cost (Compare rel x y) yes' no' c = omega arith
   branch_cost (Not d) yes' no' c = branch_cost d no' yes' c
   branch_cost (Both d e) yes' no' c =
@@ -92,12 +92,12 @@ module _ (m j : ℕ) (s : Ts → ℕ) (b : Tx → Tx → ℕ) (r : Tx → ℕ) (
       let l = branch_cost d yes' (next_mark second) (seal second) in
       omega (arith, h, k, l)
 
-  head_cost : (mark : ℕ) (c : Cut) → cut_cost (head mark c) ≤ cut_cost c + (m + j)
+  head_cost : (mark : ℕ) (c : CutBlocks) → cut_cost (head mark c) ≤ cut_cost c + (m + j)
   head_cost mark c = let h = lay_cost mark (stand mark (length c.laid) c) in omega (arith, h)
 
   sides_cost :
-      (exits : List ℕ) (d : Cond) (t u : Ts) (c : Cut) →
-      ((a : Cut) → cut_cost (cut exits u a) ≤ cut_cost a + statement_cost u) → ((a : Cut) → cut_cost (cut exits t a) ≤ cut_cost a + statement_cost t) →
+      (exits : List ℕ) (d : Cond) (t u : Ts) (c : CutBlocks) →
+      ((a : CutBlocks) → cut_cost (cut exits u a) ≤ cut_cost a + statement_cost u) → ((a : CutBlocks) → cut_cost (cut exits t a) ≤ cut_cost a + statement_cost t) →
       cut_cost (cut exits (If d t u) c) ≤ cut_cost c + statement_cost (If d t u)
   sides_cost exits d t u c cost_u cost_t =
       let join = next_mark c in
@@ -114,8 +114,8 @@ module _ (m j : ℕ) (s : Ts → ℕ) (b : Tx → Tx → ℕ) (r : Tx → ℕ) (
       omega (arith, h1, h2, h3, h4, h5, h6)
 
   turn_cost :
-      (exits : List ℕ) (t : Ts) (c : Cut) →
-      ((a : Cut) → cut_cost (cut (exits ++ next_mark c ∷ []) t a) ≤ cut_cost a + statement_cost t) →
+      (exits : List ℕ) (t : Ts) (c : CutBlocks) →
+      ((a : CutBlocks) → cut_cost (cut (exits ++ next_mark c ∷ []) t a) ≤ cut_cost a + statement_cost t) →
       cut_cost (cut exits (Loop t) c) ≤ cut_cost c + statement_cost (Loop t)
   turn_cost exits t c cost_t =
       let c1 = seal c in
@@ -127,12 +127,12 @@ module _ (m j : ℕ) (s : Ts → ℕ) (b : Tx → Tx → ℕ) (r : Tx → ℕ) (
       let h3 = head_cost mark c3 in
       omega (arith, h1, h2, h3)
 
-  either_cost : (v : Bool) (c d : Cut) (n : ℕ) → cut_cost d ≤ cut_cost c + n → cut_cost (if v then c else d) ≤ cut_cost c + n
+  either_cost : (v : Bool) (c d : CutBlocks) (n : ℕ) → cut_cost d ≤ cut_cost c + n → cut_cost (if v then c else d) ≤ cut_cost c + n
   either_cost true c d n h = omega arith
   either_cost false c d n h = h
 
   mutual
-    cut_costs : (exits : List ℕ) (t : Ts) (c : Cut) → cut_cost (cut exits t c) ≤ cut_cost c + statement_cost t
+    cut_costs : (exits : List ℕ) (t : Ts) (c : CutBlocks) → cut_cost (cut exits t c) ≤ cut_cost c + statement_cost t
     cut_costs exits (Move i x) c = omega arith
     cut_costs exits (Store x y) c = omega arith
     cut_costs exits (StoreByte x y) c = omega arith
@@ -144,7 +144,7 @@ module _ (m j : ℕ) (s : Ts → ℕ) (b : Tx → Tx → ℕ) (r : Tx → ℕ) (
     cut_costs exits (Seq ts) c = all_cost exits ts c
     cut_costs exits (tree.Return x) c = omega arith
 
-    all_cost : (exits : List ℕ) (ts : Stms) (c : Cut) → cut_cost (cut_all exits ts c) ≤ cut_cost c + statements_cost ts
+    all_cost : (exits : List ℕ) (ts : Stms) (c : CutBlocks) → cut_cost (cut_all exits ts c) ≤ cut_cost c + statements_cost ts
     all_cost exits no_stms c = omega arith
     all_cost exits (stm t ts) c =
         let behind = cut_all exits ts c in
@@ -158,7 +158,7 @@ module _ (m j : ℕ) (s : Ts → ℕ) (b : Tx → Tx → ℕ) (r : Tx → ℕ) (
   taken_cost zero (x ∷ xs) = omega arith
   taken_cost (suc n) (x ∷ xs) = let h = taken_cost n xs in omega (arith, h)
 
-  entered_cost : (o : Option ℕ) (c : Cut) → blocks_cost (entered_by o c) ≤ cut_cost c + m
+  entered_cost : (o : Option ℕ) (c : CutBlocks) → blocks_cost (entered_by o c) ≤ cut_cost c + m
   entered_cost (Some mark) c = let h = taken_cost (slice_index c.places mark + 1) c.laid in omega (arith, h)
   entered_cost None c = let h = blocks_cost_joined c.laid (record { body = c.body; end = c.end } ∷ []) in omega (arith, h)
 
@@ -170,7 +170,7 @@ module _ (m j : ℕ) (s : Ts → ℕ) (b : Tx → Tx → ℕ) (r : Tx → ℕ) (
       let k = reversed_cost xs in
       omega (arith, e, h, k)
 
-  end_placed_cost : (places : List ℕ) (last : ℕ) (e : End) → end_cost (placed_end places last e) ≡ end_cost e
+  end_placed_cost : (places : List ℕ) (last : ℕ) (e : BlockEnd) → end_cost (placed_end places last e) ≡ end_cost e
   end_placed_cost places last (Jump p) = refl
   end_placed_cost places last (Branch rel x y p q) = refl
   end_placed_cost places last (Fault n) = refl
@@ -222,7 +222,7 @@ module _ (m j : ℕ) (s : Ts → ℕ) (b : Tx → Tx → ℕ) (r : Tx → ℕ) (
   branch_code_cost true next rel x y p q = omega arith
   branch_code_cost false next rel x y p q = let h = jump_code_cost (is_next next q) q in omega (arith, h)
 
-  end_code_cost : (next : Option ℕ) (e : End) → code_cost (end_code next e) ≤ end_cost e
+  end_code_cost : (next : Option ℕ) (e : BlockEnd) → code_cost (end_code next e) ≤ end_cost e
   end_code_cost next (Jump p) = jump_code_cost (is_next next p) p
   end_code_cost next (Branch rel x y p q) = branch_code_cost (is_next next p) next rel x y p q
   end_code_cost next (Fault n) = omega arith

@@ -4,7 +4,7 @@ use Rattle.tg_tree.specs.declared.operators.Rel.TheVariants.{Less, GreaterEqual,
 use Rattle.tg_tree.specs.Forms.{stms, sequence, nothing, when}
 use Rattle.tg_tree.specs.Tree as tree
 use Rattle.tg_tree.specs.Tree.{Const, Temp, Cond, Compare, Not, Both, Either, Ts, Move, If, Loop, Break, Linear, Mark, Do'}
-use Rattle.tg_trace.specs.Block.{End, Jump, Branch, Fault, Return, Block}
+use Rattle.tg_trace.specs.Block.{BlockEnd, Jump, Branch, Fault, Return, Block}
 use Rattle.tg_trace.specs.Cutting.{blocks_of}
 use Rattle.tg_trace.specs.Laying.{traced}
 
@@ -21,13 +21,13 @@ abbrev done : Ts
 done = tree.Return (Const 0)
 
 -- a block by its end
-abbrev block : End → List Ts → Block
+abbrev block : BlockEnd → List Ts → Block
 block e ss = record { body = stms ss; end = e }
 
-abbrev on_less : (yes' no' : ℕ) → End
+abbrev on_less : (yes' no' : ℕ) → BlockEnd
 on_less = Branch Less (Temp 0) (Const 3)
 
-abbrev on_equal : (yes' no' : ℕ) → End
+abbrev on_equal : (yes' no' : ℕ) → BlockEnd
 on_equal = Branch Equal (Temp 0) (Const 4)
 
 -- a loop with its test at its head

@@ -6,7 +6,7 @@ use Rattle.std.specs.List.{Contains, AllPairs, AllByRecursion}
 use Rattle.tg_tree.specs.Tree as tree
 use Rattle.tg_tree.specs.Tree.{Stms, no_stms, stm, Linear, Mark, Do'}
 use Rattle.tg_tree.specs.Shapes.{IsFlatCode, IsWellMarked, EndsCode, marks, targets}
-use Rattle.tg_trace.specs.Block.{End, Jump, Branch, Fault, Return, Block}
+use Rattle.tg_trace.specs.Block.{BlockEnd, Jump, Branch, Fault, Return, Block}
 use Rattle.tg_trace.specs.Laying.{no_block, block_at, traces, is_next, jump_unless, branch_by, end_code, body_code, block_code, code_in, traced}
 use Rattle.tg_trace.specs.Shapes.{AreFlatStatements, IsFlatEnd, IsFlatBlock, AreFlatBlocks, EndsBelow, LeadsBelow, AreWhole}
 use Rattle.tg_trace.proofs.Places.{traces_keep, all_there}
@@ -47,7 +47,7 @@ flat_branch : (b : Bool) (next : Option ℕ) (rel : _) (x y : tree.Tx) (p q : �
 flat_branch true next rel x y p q h = (h.0, h.1, tt)
 flat_branch false next rel x y p q h = (h.0, h.1, flat_jump (is_next next q) q)
 
-flat_end : (next : Option ℕ) (e : End) → IsFlatEnd e → IsFlatCode (end_code next e)
+flat_end : (next : Option ℕ) (e : BlockEnd) → IsFlatEnd e → IsFlatCode (end_code next e)
 flat_end next (Jump p) h = flat_jump (is_next next p) p
 flat_end next (Branch rel x y p q) h = flat_branch (is_next next p) next rel x y p q h
 flat_end next (Fault n) h = tt
@@ -78,7 +78,7 @@ marks_behind_branch : (b : Bool) (next : Option ℕ) (rel : _) (x y : tree.Tx) (
 marks_behind_branch true next rel x y p q rest = refl
 marks_behind_branch false next rel x y p q rest = marks_behind_jump (is_next next q) q rest
 
-pub marks_behind_end : (next : Option ℕ) (e : End) (rest : List Linear) → marks (end_code next e ++ rest) ≡ marks rest
+pub marks_behind_end : (next : Option ℕ) (e : BlockEnd) (rest : List Linear) → marks (end_code next e ++ rest) ≡ marks rest
 marks_behind_end next (Jump p) rest = marks_behind_jump (is_next next p) p rest
 marks_behind_end next (Branch rel x y p q) rest = marks_behind_branch (is_next next p) next rel x y p q rest
 marks_behind_end next (Fault n) rest = refl
@@ -113,7 +113,7 @@ module _ (n : ℕ) where
   below_behind_branch true next rel x y p q rest h i k = (i, k)
   below_behind_branch false next rel x y p q rest h i k = (h, below_behind_jump (is_next next q) q rest i k)
 
-  below_behind_end : (next : Option ℕ) (e : End) (rest : List Linear) → EndsBelow n e → AllBelow (targets rest) → AllBelow (targets (end_code next e ++ rest))
+  below_behind_end : (next : Option ℕ) (e : BlockEnd) (rest : List Linear) → EndsBelow n e → AllBelow (targets rest) → AllBelow (targets (end_code next e ++ rest))
   below_behind_end next (Jump p) rest h k = below_behind_jump (is_next next p) p rest h k
   below_behind_end next (Branch rel x y p q) rest h k = below_behind_branch (is_next next p) next rel x y p q rest h.0 h.1 k
   below_behind_end next (Fault _) rest h k = k
@@ -153,7 +153,7 @@ ends_behind : (xs ys : List Linear) → EndsCode ys → EndsCode (xs ++ ys)
 ends_behind [] ys h = h
 ends_behind (x ∷ xs) ys h = ends_cons x (xs ++ ys) (ends_behind xs ys h)
 
-last_ends : (e : End) → EndsCode (end_code None e)
+last_ends : (e : BlockEnd) → EndsCode (end_code None e)
 last_ends (Jump p) = tt
 last_ends (Branch rel x y p q) = tt
 last_ends (Fault n) = tt

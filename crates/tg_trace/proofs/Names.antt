@@ -5,10 +5,9 @@ use Rattle.std.specs.List.{Contains}
 use Rattle.tg_tree.specs.Tree as tree
 use Rattle.tg_tree.specs.Tree.{Tx, Const, Address, Temp, FrameAddress, Binary, Load, LoadByte, Call, Service, After, Txs, no_txs, tx, Cond, Compare}
 use Rattle.tg_tree.specs.Tree.{Not, Both, Either, Ts, Move, Store, StoreByte, Do, If, Loop, Break, Seq, Stms, no_stms, stm, Linear, Mark, Do'}
-use Rattle.tg_tree.specs.Named.{Named, fault, named_tx, named_txs, named_cond, named_ts, named_stms, named_flat}
+use Rattle.tg_tree.specs.Named.{NamesAreAllowed, Named, fault, named_tx, named_txs, named_cond, named_ts, named_stms, named_flat}
 use Rattle.tg_trace.specs.Cutting.{blocks_of}
 use Rattle.tg_trace.specs.Laying.{traced}
-use Rattle.tg_trace.specs.Laws.{AreAllowed}
 use Rattle.tg_trace.proofs.Costs.{condition_cost, statement_cost, statements_cost, code_cost, traced_cost_no_more}
 
 module _ (allowed : Named → Bool) where
@@ -143,7 +142,7 @@ module _ (allowed : Named → Bool) where
   allowed_is true e = refl
   allowed_is false e = cc
 
-  none_strange : (xs : List Named) → AreAllowed allowed xs → strange xs ≡ 0
+  none_strange : (xs : List Named) → NamesAreAllowed allowed xs → strange xs ≡ 0
   none_strange [] h = refl
   none_strange (x ∷ xs) h =
       let k : strange xs ≡ 0 = none_strange xs (λ y c. h y (in_rest x xs y c)) in
@@ -157,12 +156,12 @@ module _ (allowed : Named → Bool) where
   is_allowed true e = refl
   is_allowed false e = absurd (omega arith)
 
-  all_allowed : (xs : List Named) → strange xs ≡ 0 → AreAllowed allowed xs
+  all_allowed : (xs : List Named) → strange xs ≡ 0 → NamesAreAllowed allowed xs
   all_allowed [] h y (k, l, e) = absurd (omega arith)
   all_allowed (x ∷ xs) h y (zero, l, e) = subst (λ v. allowed v ≡ true) e (is_allowed (allowed x) (omega arith))
   all_allowed (x ∷ xs) h y (suc k, l, e) = all_allowed xs (omega arith) y (k, omega arith, e)
 
-  pub names_stay : (ss : Stms) → IsTrue (allowed (fault 0)) → AreAllowed allowed (named_stms ss []) → AreAllowed allowed (named_flat (traced (blocks_of ss)) [])
+  pub names_stay : (ss : Stms) → IsTrue (allowed (fault 0)) → NamesAreAllowed allowed (named_stms ss []) → NamesAreAllowed allowed (named_flat (traced (blocks_of ss)) [])
   names_stay ss z h =
       let k = no_more_names ss in
       let l : strange (named_stms ss []) ≡ 0 = none_strange (named_stms ss []) h in

@@ -7,7 +7,7 @@ use Rattle.std.proofs.lemmas.List.{length-replicate}
 use Rattle.std.proofs.lemmas.Option.{slice_get_within}
 use Rattle.std.proofs.lemmas.List.Elements.{Contains-get_or, Contains-append_left, Contains-append_right, Contains-append_cases}
 use Rattle.std.proofs.lemmas.List.Quantifiers.{all_pairs_push}
-use Rattle.tg_trace.specs.Block.{End, Jump, Branch, Fault, Return, Block}
+use Rattle.tg_trace.specs.Block.{BlockEnd, Jump, Branch, Fault, Return, Block}
 use Rattle.tg_trace.specs.Laying.{Order, put, unless, unless_laid, onward, block_at, follow, traces}
 
 pub same_or_not : (a b : ℕ) → (a ≡ b) ⊎ (a ≢ b)
@@ -88,7 +88,7 @@ unless_free laid p other (Some false) e h = e
 pub free_or : (laid : List Bool) (p : ℕ) (other : Option ℕ) → IsFree laid other → IsFree laid (unless_laid laid p other)
 free_or laid p other h = unless_free laid p other (slice_get laid p) refl h
 
-pub onward_free : (laid : List Bool) (e : End) → IsFree laid (onward laid e)
+pub onward_free : (laid : List Bool) (e : BlockEnd) → IsFree laid (onward laid e)
 onward_free laid (Jump p) = free_or laid p None tt
 onward_free laid (Branch _ _ _ p q) = free_or laid p (unless_laid laid q None) (free_or laid q None tt)
 onward_free laid (Fault _) = tt

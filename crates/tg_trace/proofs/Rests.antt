@@ -9,8 +9,8 @@ use Rattle.tg_tree.specs.Tree.{no_stms, Linear, Do'}
 use Rattle.tg_tree.specs.Plain.{plain_ts, plain_linear}
 use Rattle.tg_tree.specs.Lists.{stms_of, code_of}
 use Rattle.tg_trace.specs.declared.flows.Block.{Block as CodeBlock}
-use Rattle.tg_trace.specs.Block.{End, Block}
-use Rattle.tg_trace.specs.Cutting.{Cut, leads, entered_by, placed}
+use Rattle.tg_trace.specs.Block.{BlockEnd, Block}
+use Rattle.tg_trace.specs.Cutting.{CutBlocks, leads, entered_by, placed}
 use Rattle.tg_trace.specs.Laying.{Order, no_block, block_at, follow, put, onward, block_code, code_in, body_code}
 use Rattle.tg_trace.specs.Plains.{plain_block, plain_blocks}
 
@@ -26,11 +26,11 @@ take_all (suc n) (x ∷ xs) h =
     ap (λ ys. x ∷ ys) (take_all n xs k)
 
 -- only a block of no statements leads on
-leads_some : (xs : List CodeTs) (e : End) → 0 < length xs → leads (stms_of xs) e ≡ None
+leads_some : (xs : List CodeTs) (e : BlockEnd) → 0 < length xs → leads (stms_of xs) e ≡ None
 leads_some [] e h = absurd (omega arith)
 leads_some (x ∷ xs) e h = refl
 
-pub leads_full : (body : List CodeTs) (e : End) → 0 < length body → None ≡ leads (stms_of (reverse body)) e
+pub leads_full : (body : List CodeTs) (e : BlockEnd) → 0 < length body → None ≡ leads (stms_of (reverse body)) e
 leads_full body e h =
     let k : 0 < length (reverse body) = omega (arith, length-reverse body) in
     sym (leads_some (reverse body) e k)
@@ -39,12 +39,12 @@ pub none_there : {A : Type 0} (xs : List A) → length xs ≤ 0 → xs ≡ []
 none_there [] h = refl
 none_there (x ∷ xs) h = absurd (omega arith)
 
-pub leads_empty : (body : List CodeTs) (e : End) (m : Option ℕ) → length body ≤ 0 → m ≡ leads no_stms e → m ≡ leads (stms_of (reverse body)) e
+pub leads_empty : (body : List CodeTs) (e : BlockEnd) (m : Option ℕ) → length body ≤ 0 → m ≡ leads no_stms e → m ≡ leads (stms_of (reverse body)) e
 leads_empty body e m h k = k ∙ ap (λ xs. leads (stms_of (reverse xs)) e) (sym (none_there body h))
 
 -- the first blocks from where the open one leads
 pub enter_front :
-    (laid laid' : List CodeBlock) (c : Cut) (mark place : ℕ) (m : Option ℕ) →
+    (laid laid' : List CodeBlock) (c : CutBlocks) (mark place : ℕ) (m : Option ℕ) →
     Some mark ≡ m → plain_blocks laid ≡ c.laid → place ≡ slice_index c.places mark → laid' ≡ take (place + 1) laid → plain_blocks laid' ≡ entered_by m c
 enter_front laid laid' c mark place m e l p t =
     ap plain_blocks t ∙ (sym (take-map plain_block (place + 1) laid)

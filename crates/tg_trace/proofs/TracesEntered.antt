@@ -9,35 +9,35 @@ use Rattle.tg_tree.specs.Tree.{Cond, Compare, Not, Both, Either, Ts, Move, Store
 use Rattle.tg_tree.specs.Shapes.{BreaksWithin, BreaksWithinStms}
 use Rattle.tg_trace.specs.Block.{Jump, Branch, Fault, Return}
 use Rattle.tg_trace.specs.Heads.{LeadsTo}
-use Rattle.tg_trace.specs.Cutting.{Cut, open_at, leads, next_mark, seal, branch, exit_of, leaves, cut, cut_all}
+use Rattle.tg_trace.specs.Cutting.{CutBlocks, open_at, leads, next_mark, seal, branch, exit_of, leaves, cut, cut_all}
 use Rattle.tg_trace.proofs.BlocksKept.{get_front, get_seam, side, turn}
 use Rattle.tg_trace.proofs.TracesLoops.{same_index, UsableIn, CutState, Step, step_usable, step_on, stays, opens, fronts, Sealed, seals, begun}
 use Rattle.tg_trace.proofs.TracesLoops.{begun_starts, FromOutside, begun_state, from_outside, turns}
 
 -- the marks behind the loops around
-abbrev Exits : (L P : ℕ) (Out : ℕ → Type 0) (starts : List ℕ) (c : Cut) (exits : List ℕ) → Type 0
+abbrev Exits : (L P : ℕ) (Out : ℕ → Type 0) (starts : List ℕ) (c : CutBlocks) (exits : List ℕ) → Type 0
 Exits L P Out starts c exits = (k : ℕ) → k < length exits → UsableIn L P Out starts c (slice_index exits k)
 
 module _ (L P : ℕ) (Out : ℕ → Type 0) where
-  abbrev Here : List ℕ → Cut → Type 0
+  abbrev Here : List ℕ → CutBlocks → Type 0
   Here starts c = CutState L P Out starts c
 
-  abbrev Goes : List ℕ → Cut → Cut → Type 0
+  abbrev Goes : List ℕ → CutBlocks → CutBlocks → Type 0
   Goes starts c d = Step L P Out starts c d
 
-  abbrev Ready : List ℕ → Cut → Cut → ℕ → Type 0
+  abbrev Ready : List ℕ → CutBlocks → CutBlocks → ℕ → Type 0
   Ready starts c d mark = Sealed L P Out starts c d mark
 
   -- and then the seal
-  then_seal : (starts : List ℕ) (c d : Cut) → Goes starts c d → Ready starts c (seal d) (next_mark d)
+  then_seal : (starts : List ℕ) (c d : CutBlocks) → Goes starts c d → Ready starts c (seal d) (next_mark d)
   then_seal starts c d s =
       let t = seals L P Out s.starts' d s.state (leads d.body d.end) refl in
       record { step = step_on L P Out starts c d (seal d) s t.step; usable = t.usable }
 
-  jump_to : (starts : List ℕ) (c : Cut) (p : ℕ) → UsableIn L P Out starts c p → (m : ℕ) → LeadsTo (Jump p) m → UsableIn L P Out starts c m
+  jump_to : (starts : List ℕ) (c : CutBlocks) (p : ℕ) → UsableIn L P Out starts c p → (m : ℕ) → LeadsTo (Jump p) m → UsableIn L P Out starts c m
   jump_to starts c p u m e = subst (UsableIn L P Out starts c) e u
 
-  branch_step : (d : Cond) (yes' no' : ℕ) (starts : List ℕ) (c : Cut) → Here starts c → UsableIn L P Out starts c yes' → UsableIn L P Out starts c no' →
+  branch_step : (d : Cond) (yes' no' : ℕ) (starts : List ℕ) (c : CutBlocks) → Here starts c → UsableIn L P Out starts c yes' → UsableIn L P Out starts c no' →
       Goes starts c (branch d yes' no' c)
   branch_step (Compare rel x y) yes' no' starts c h u v =
       opens L P Out starts (Branch rel x y yes' no') c h (λ m l. elim l [
@@ -57,18 +57,18 @@ module _ (L P : ℕ) (Out : ℕ → Type 0) where
       step_on L P Out starts c (seal second) _ s.step
       (branch_step d yes' (next_mark second) s.step.starts' (seal second) s.step.state (step_usable L P Out starts c (seal second) h s.step yes' u) s.usable)
 
-  either_step : (b : Bool) (starts : List ℕ) (c d : Cut) → Here starts c → Goes starts c d → Goes starts c (if b then c else d)
+  either_step : (b : Bool) (starts : List ℕ) (c d : CutBlocks) → Here starts c → Goes starts c d → Goes starts c (if b then c else d)
   either_step true starts c d h s = stays L P Out starts c h
   either_step false starts c d h s = s
 
-  exits_on : (starts : List ℕ) (c d : Cut) (exits : List ℕ) → Here starts c → (s : Goes starts c d) → Exits L P Out starts c exits →
+  exits_on : (starts : List ℕ) (c d : CutBlocks) (exits : List ℕ) → Here starts c → (s : Goes starts c d) → Exits L P Out starts c exits →
       Exits L P Out s.starts' d exits
   exits_on starts c d exits h s x k l = step_usable L P Out starts c d h s (slice_index exits k) (x k l)
 
   -- a side of a choice in front of a join
   side_step :
-      (exits : List ℕ) (join : ℕ) (s : Ts) (starts : List ℕ) (c : Cut) → Here starts c → UsableIn L P Out starts c join →
-      ((b : Cut) → Here starts b → Exits L P Out starts b exits → Goes starts b (cut exits s b)) → Exits L P Out starts c exits →
+      (exits : List ℕ) (join : ℕ) (s : Ts) (starts : List ℕ) (c : CutBlocks) → Here starts c → UsableIn L P Out starts c join →
+      ((b : CutBlocks) → Here starts b → Exits L P Out starts b exits → Goes starts b (cut exits s b)) → Exits L P Out starts c exits →
       Ready starts c (seal (side exits join s c)) (next_mark (side exits join s c))
   side_step exits join s starts c h u cuts x =
       let o = opens L P Out starts (Jump join) c h (jump_to starts c join u) in
@@ -77,7 +77,7 @@ module _ (L P : ℕ) (Out : ℕ → Type 0) where
 
 -- the exits around a loop's turn, and its own
 turn_exits :
-    (L P : ℕ) (Out : ℕ → Type 0) (starts : List ℕ) (c : Cut) (exits : List ℕ) (exit : ℕ) →
+    (L P : ℕ) (Out : ℕ → Type 0) (starts : List ℕ) (c : CutBlocks) (exits : List ℕ) (exit : ℕ) →
     ((k : ℕ) → k < length exits → UsableIn L P Out starts c (slice_index exits k)) → UsableIn L P Out starts c exit →
     (k : ℕ) → k < length (exits ++ exit ∷ []) → UsableIn L P Out starts c (slice_index (exits ++ exit ∷ []) k)
 turn_exits L P Out starts c exits exit x u k h =
@@ -91,7 +91,7 @@ turn_exits L P Out starts c exits exit x u k h =
 
 mutual
   pub cut_step :
-      (s : Ts) (L P : ℕ) (Out : ℕ → Type 0) (exits starts : List ℕ) (c : Cut) → CutState L P Out starts c → Exits L P Out starts c exits → BreaksWithin
+      (s : Ts) (L P : ℕ) (Out : ℕ → Type 0) (exits starts : List ℕ) (c : CutBlocks) → CutState L P Out starts c → Exits L P Out starts c exits → BreaksWithin
       (length exits) s →
       Step L P Out starts c (cut exits s c)
   cut_step (Move i x) L P Out exits starts c h xs b = fronts L P Out starts (Move i x) c h
@@ -137,7 +137,7 @@ mutual
   cut_step (tree.Return x) L P Out exits starts c h xs b = opens L P Out starts (Return x) c h (λ m l. absurd l)
 
   pub all_step :
-      (ss : Stms) (L P : ℕ) (Out : ℕ → Type 0) (exits starts : List ℕ) (c : Cut) → CutState L P Out starts c → Exits L P Out starts c exits → BreaksWithinStms
+      (ss : Stms) (L P : ℕ) (Out : ℕ → Type 0) (exits starts : List ℕ) (c : CutBlocks) → CutState L P Out starts c → Exits L P Out starts c exits → BreaksWithinStms
       (length exits) ss →
       Step L P Out starts c (cut_all exits ss c)
   all_step no_stms L P Out exits starts c h xs b = stays L P Out starts c h

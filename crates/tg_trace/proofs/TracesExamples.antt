@@ -9,11 +9,11 @@ use Rattle.tg_tree.specs.declared.operators.Rel.TheVariants.{Less}
 use Rattle.tg_tree.specs.Forms.{stms}
 use Rattle.tg_tree.specs.Tree.{Tx, Const, Temp, Binary, Service, Ts, Move, Do, Code}
 use Rattle.tg_tree.specs.Flat.{flat_run}
-use Rattle.tg_trace.specs.Block.{End, Jump, Branch, Return, Block}
+use Rattle.tg_trace.specs.Block.{BlockEnd, Jump, Branch, Return, Block}
 use Rattle.tg_trace.specs.Meaning.{block_run}
 use Rattle.tg_trace.specs.Traced.{laid_all}
 
-abbrev block : End → List Ts → Block
+abbrev block : BlockEnd → List Ts → Block
 block e ss = record { body = stms ss; end = e }
 
 abbrev write : Tx → Ts

@@ -6,11 +6,11 @@ use Rattle.std.proofs.lemmas.Bool.{cases_lt}
 use Rattle.std.proofs.lemmas.List.{length-map, length-reverse, length-take, get_or-reverse, get_or-take, get_or-map}
 use Rattle.tg_tree.specs.Tree.{Stms}
 use Rattle.tg_tree.specs.Shapes.{AreClosed}
-use Rattle.tg_trace.specs.Block.{End, Jump, Branch, Fault, Return, Block}
+use Rattle.tg_trace.specs.Block.{BlockEnd, Jump, Branch, Fault, Return, Block}
 use Rattle.tg_trace.specs.Laying.{no_block, block_at}
 use Rattle.tg_trace.specs.Heads.{LeadsTo, PassesBy, begins, goes_on, AreEnteredAtHeads}
 use Rattle.tg_trace.specs.Traced.{MayBeLaid}
-use Rattle.tg_trace.specs.Cutting.{Cut, leads, cut_all, start, entered_by, place_of, placed_end, placed, placed_all, blocks_of}
+use Rattle.tg_trace.specs.Cutting.{CutBlocks, leads, cut_all, start, entered_by, place_of, placed_end, placed, placed_all, blocks_of}
 use Rattle.tg_trace.proofs.Wholes.{blocks_are_whole}
 use Rattle.tg_trace.proofs.TracesNested.{outer, free, Known}
 use Rattle.tg_trace.proofs.TracesLoops.{UsableIn, CutState, LeadsOf, laid_leads, one_laid, leads_there}
@@ -26,7 +26,7 @@ pub record Loops (all : List Block) (place start : ℕ → ℕ) : Type 0 where
   pub back : (i m : ℕ) → i < length all → LeadsTo (block_at all i).end m → i ≤ place m → start m ≤ i
 
 -- an end by places, and by marks
-led_by : (places : List ℕ) (last : ℕ) (e : End) (r : ℕ) → LeadsTo (placed_end places last e) r → (m : ℕ) × LeadsTo e m × (r ≡ place_of places last m)
+led_by : (places : List ℕ) (last : ℕ) (e : BlockEnd) (r : ℕ) → LeadsTo (placed_end places last e) r → (m : ℕ) × LeadsTo e m × (r ≡ place_of places last m)
 led_by places last (Jump m) r h = (m, refl, sym h)
 led_by places last (Branch rel x y m k) r h = elim h [ inl e ↦ (m, inl refl, sym e) | inr e ↦ (k, inr refl, sym e) ]
 led_by places last (Fault n) r h = absurd h
@@ -90,7 +90,7 @@ module _ (places : List ℕ) (all : List Block) where
 abbrev Nothing : ℕ → Type 0
 Nothing m = ⊥
 
-module _ (c : Cut) (starts : List ℕ) (state : CutState 0 0 Nothing starts c) where
+module _ (c : CutBlocks) (starts : List ℕ) (state : CutState 0 0 Nothing starts c) where
   abbrev IsDrawn : ℕ → Type 0
   IsDrawn m = (m < length c.places) × (slice_index c.places m < length c.laid)
 

@@ -6,7 +6,7 @@ use Rattle.std.specs.List.{Contains}
 use Rattle.tg_tree.specs.Tree as tree
 use Rattle.tg_tree.specs.Tree.{Stms, no_stms, stm, Linear, Mark}
 use Rattle.tg_tree.specs.declared.operators.Rel.{Rel}
-use Rattle.tg_trace.specs.Block.{End, Jump, Branch, Fault, Return, Block}
+use Rattle.tg_trace.specs.Block.{BlockEnd, Jump, Branch, Fault, Return, Block}
 use Rattle.tg_trace.specs.Laying.{Order, put, unless, unless_laid, onward, block_at, follow, traces, is_next, jump_unless, branch_by, end_code}
 use Rattle.tg_trace.specs.Laying.{body_code, traced}
 use Rattle.tg_trace.specs.Shapes.{EndsBelow, LeadsBelow, AreWhole}
@@ -37,14 +37,14 @@ true_false : {A : Type 0} → true ≡ false → A
 true_false e = cc
 
 -- Of an end behind which a next block comes: a jump that is left goes to a place that is laid.
-abbrev LedTo : (laid : List ℕ) (next : Option ℕ) → End → Type 0
+abbrev LedTo : (laid : List ℕ) (next : Option ℕ) → BlockEnd → Type 0
 LedTo laid next (Jump p) = is_next next p ≡ false → Contains laid p
 LedTo laid next (Branch _ _ _ p q) = is_next next p ≡ false → is_next next q ≡ false → Contains laid q
 LedTo laid next (Fault _) = Unit {0}
 LedTo laid next (Return _) = Unit {0}
 
 -- where nothing comes next, anything may
-led_anyhow : (laid : List ℕ) (next : Option ℕ) (e : End) → LedTo laid None e → LedTo laid next e
+led_anyhow : (laid : List ℕ) (next : Option ℕ) (e : BlockEnd) → LedTo laid None e → LedTo laid next e
 led_anyhow laid next (Jump p) h = λ n. h refl
 led_anyhow laid next (Branch _ _ _ p q) h = λ n m. h refl refl
 led_anyhow laid next (Fault _) h = tt
@@ -64,7 +64,7 @@ module _ (laid : List Bool) (places : List ℕ) (there : (p : ℕ) → slice_get
   led_to_other (Some true) p q h i e n m = led_to_one (slice_get laid q) q i refl m
   led_to_other (Some false) p q h i e n m = absurd (true_false (sym (eq-eqb p p refl) ∙ n))
 
-  led_onward : (n : ℕ) (e : End) → length laid ≡ n → EndsBelow n e → LedTo places (onward laid e) e
+  led_onward : (n : ℕ) (e : BlockEnd) → length laid ≡ n → EndsBelow n e → LedTo places (onward laid e) e
   led_onward n (Jump p) c h = led_to_one (slice_get laid p) p (omega (arith, c, h)) refl
   led_onward n (Branch rel x y p q) c h = led_to_other (slice_get laid p) p q (omega (arith, c, h.0)) (omega (arith, c, h.1)) refl
   led_onward n (Fault k) c h = tt
@@ -142,7 +142,7 @@ module _ (bs : List Block) where
   branch_back earlier true next rel x y p q rest c h = h
   branch_back earlier false next rel x y p q rest c h = jump_back earlier (is_next next q) q rest (c refl) h
 
-  end_back : (earlier : List ℕ) (next : Option ℕ) (e : End) (rest : List Linear) → LedTo earlier next e → JumpsGoBack earlier rest → JumpsGoBack earlier
+  end_back : (earlier : List ℕ) (next : Option ℕ) (e : BlockEnd) (rest : List Linear) → LedTo earlier next e → JumpsGoBack earlier rest → JumpsGoBack earlier
       (end_code next e ++ rest)
   end_back earlier next (Jump p) rest c h = jump_back earlier (is_next next p) p rest c h
   end_back earlier next (Branch rel x y p q) rest c h = branch_back earlier (is_next next p) next rel x y p q rest c h

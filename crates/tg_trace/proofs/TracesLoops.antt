@@ -5,10 +5,10 @@ use Rattle.std.proofs.Math.ListN.{length-set}
 use Rattle.std.proofs.lemmas.Bool.{cases_lt}
 use Rattle.std.proofs.lemmas.Option.{get_or_from_slice_get}
 use Rattle.tg_tree.specs.Tree.{Ts, Stms, no_stms, stm}
-use Rattle.tg_trace.specs.Block.{End, Jump, Branch, Fault, Return, Block}
+use Rattle.tg_trace.specs.Block.{BlockEnd, Jump, Branch, Fault, Return, Block}
 use Rattle.tg_trace.specs.Laying.{no_block, block_at}
 use Rattle.tg_trace.specs.Heads.{LeadsTo}
-use Rattle.tg_trace.specs.Cutting.{Cut, open_at, in_front, draw, lay, leads, mark_by, seal_by, head}
+use Rattle.tg_trace.specs.Cutting.{CutBlocks, open_at, in_front, draw, lay, leads, mark_by, seal_by, head}
 use Rattle.tg_trace.proofs.BlocksKept.{get_front, get_seam, set_own, set_other, Keeps, keeps_itself, keeps_on, opened_keeps, front_keeps, draw_keeps}
 use Rattle.tg_trace.proofs.BlocksKept.{seal_by_keeps, head_keeps}
 use Rattle.tg_trace.proofs.TracesNested.{Usable, outer, free, Nested, usable_on, one_more, lay_nested, lay_usable, loop_nested, head_usable, starts_since}
@@ -23,39 +23,39 @@ same_index (x ∷ xs) [] (suc i) d e = same_index xs [] i d e
 same_index (x ∷ xs) (y ∷ ys) zero d e = cc
 same_index (x ∷ xs) (y ∷ ys) (suc i) d e = same_index xs ys i d e
 
-abbrev pub LeadsOf : Cut → ℕ → ℕ → Type 0
+abbrev pub LeadsOf : CutBlocks → ℕ → ℕ → Type 0
 LeadsOf c i m = LeadsTo (block_at c.laid i).end m
 
-same_leads : (c d : Cut) (i m : ℕ) → slice_get d.laid i ≡ slice_get c.laid i → LeadsOf d i m → LeadsOf c i m
+same_leads : (c d : CutBlocks) (i m : ℕ) → slice_get d.laid i ≡ slice_get c.laid i → LeadsOf d i m → LeadsOf c i m
 same_leads c d i m e l = subst (λ (b : Block). LeadsTo b.end m) (same_index d.laid c.laid i no_block e) l
 
 module _ (L P : ℕ) (Out : ℕ → Type 0) where
-  abbrev pub UsableIn : (starts : List ℕ) (c : Cut) (m : ℕ) → Type 0
+  abbrev pub UsableIn : (starts : List ℕ) (c : CutBlocks) (m : ℕ) → Type 0
   UsableIn starts c m = Usable L P Out (length c.laid) (length c.places) (λ k. slice_index c.places k) (λ k. slice_index starts k) m
 
-  abbrev NestedIn : (starts : List ℕ) (c : Cut) → Type 0
+  abbrev NestedIn : (starts : List ℕ) (c : CutBlocks) → Type 0
   NestedIn starts c = Nested L P Out (length c.laid) (length c.places) (λ k. slice_index c.places k) (λ k. slice_index starts k) (LeadsOf c)
 
   -- with the starts of the marks that are drawn
-  pub record CutState (starts : List ℕ) (c : Cut) : Type 0 where
+  pub record CutState (starts : List ℕ) (c : CutBlocks) : Type 0 where
     pub count : length starts ≡ length c.places
     pub nested : NestedIn starts c
     pub end' : (m : ℕ) → LeadsTo c.end m → UsableIn starts c m
 
   -- from one cut to another
-  pub record Step (starts : List ℕ) (c d : Cut) : Type 0 where
+  pub record Step (starts : List ℕ) (c d : CutBlocks) : Type 0 where
     pub starts' : List ℕ
     pub state : CutState starts' d
     pub keeps : Keeps c d
     pub same_start : (m : ℕ) → m < length c.places → slice_get starts' m ≡ slice_get starts m
     pub new_start : (h : ℕ) → length c.places ≤ h → h < length d.places → length c.laid ≤ slice_index starts' h
 
-  pub step_usable : (starts : List ℕ) (c d : Cut) → CutState starts c → (s : Step starts c d) → (m : ℕ) → UsableIn starts c m → UsableIn s.starts' d m
+  pub step_usable : (starts : List ℕ) (c d : CutBlocks) → CutState starts c → (s : Step starts c d) → (m : ℕ) → UsableIn starts c m → UsableIn s.starts' d m
   step_usable starts c d state s =
       usable_on L P Out (length c.laid) (length c.places) _ _ (LeadsOf c) state.nested (length d.laid) (length d.places) _ _ s.keeps.drawn
       (λ m h. same_index d.places c.places m 0 (s.keeps.marks m h)) (λ m h. same_index s.starts' starts m 0 (s.same_start m h)) s.new_start
 
-  abbrev pub step_on : (starts : List ℕ) (c d e : Cut) → (s : Step starts c d) → Step s.starts' d e → Step starts c e
+  abbrev pub step_on : (starts : List ℕ) (c d e : CutBlocks) → (s : Step starts c d) → Step s.starts' d e → Step starts c e
   step_on starts c d e s t = record {
     starts' = t.starts';
     state = t.state;
@@ -71,7 +71,7 @@ module _ (L P : ℕ) (Out : ℕ → Type 0) where
           omega (arith, same, n)
       later h le lt (inr k) = let n = t.new_start h k lt in omega (arith, n, s.keeps.laid)
 
-  abbrev pub stays : (starts : List ℕ) (c : Cut) → CutState starts c → Step starts c c
+  abbrev pub stays : (starts : List ℕ) (c : CutBlocks) → CutState starts c → Step starts c c
   stays starts c state = record {
     starts' = starts;
     state = state;
@@ -80,7 +80,7 @@ module _ (L P : ℕ) (Out : ℕ → Type 0) where
     new_start = λ h le lt. absurd (omega arith);
   }
 
-  abbrev pub opens : (starts : List ℕ) (e : End) (c : Cut) → CutState starts c → ((m : ℕ) → LeadsTo e m → UsableIn starts c m) → Step starts c (open_at e c)
+  abbrev pub opens : (starts : List ℕ) (e : BlockEnd) (c : CutBlocks) → CutState starts c → ((m : ℕ) → LeadsTo e m → UsableIn starts c m) → Step starts c (open_at e c)
   opens starts e c state h = record {
     starts' = starts;
     state = record { count = state.count; nested = state.nested; end' = h };
@@ -89,7 +89,7 @@ module _ (L P : ℕ) (Out : ℕ → Type 0) where
     new_start = λ h le lt. absurd (omega arith);
   }
 
-  abbrev pub fronts : (starts : List ℕ) (s : Ts) (c : Cut) → CutState starts c → Step starts c (in_front s c)
+  abbrev pub fronts : (starts : List ℕ) (s : Ts) (c : CutBlocks) → CutState starts c → Step starts c (in_front s c)
   fronts starts s c state = record {
     starts' = starts;
     state = record { count = state.count; nested = state.nested; end' = state.end' };
@@ -99,11 +99,11 @@ module _ (L P : ℕ) (Out : ℕ → Type 0) where
   }
 
   -- What comes next has a mark that is usable.
-  pub record Sealed (starts : List ℕ) (c d : Cut) (mark : ℕ) : Type 0 where
+  pub record Sealed (starts : List ℕ) (c d : CutBlocks) (mark : ℕ) : Type 0 where
     pub step : Step starts c d
     pub usable : UsableIn step.starts' d mark
 
-  pub leads_there : (body : Stms) (e : End) (mark : ℕ) → leads body e ≡ Some mark → LeadsTo e mark
+  pub leads_there : (body : Stms) (e : BlockEnd) (mark : ℕ) → leads body e ≡ Some mark → LeadsTo e mark
   leads_there no_stms (Jump m) mark h = cc
   leads_there no_stms (Branch rel x y m k) mark h = cc
   leads_there no_stms (Fault n) mark h = cc
@@ -119,8 +119,8 @@ module _ (L P : ℕ) (Out : ℕ → Type 0) where
   nested_of n n' q q' place start Leads e f h = subst (λ k. Nested L P Out k q' place start Leads) e (subst (λ k. Nested L P Out n k place start Leads) f h)
 
   -- The open block is laid, and its mark drawn.
-  module _ (starts : List ℕ) (c : Cut) (state : CutState starts c) where
-    abbrev pub laid_cut : Cut
+  module _ (starts : List ℕ) (c : CutBlocks) (state : CutState starts c) where
+    abbrev pub laid_cut : CutBlocks
     laid_cut = lay (length c.places) (draw (length c.laid) c)
 
     abbrev its_block : Block
@@ -202,11 +202,11 @@ module _ (L P : ℕ) (Out : ℕ → Type 0) where
     seals None e = lays
 
 -- A loop's turn begins with the mark of its head, and what was usable is known from outside.
-module _ (L P : ℕ) (Out : ℕ → Type 0) (starts : List ℕ) (c : Cut) (state : CutState L P Out starts c) where
+module _ (L P : ℕ) (Out : ℕ → Type 0) (starts : List ℕ) (c : CutBlocks) (state : CutState L P Out starts c) where
   abbrev mark : ℕ
   mark = length c.places
 
-  abbrev pub begun : Cut
+  abbrev pub begun : CutBlocks
   begun = open_at (Jump mark) (draw 0 c)
 
   abbrev pub begun_starts : List ℕ
@@ -236,8 +236,8 @@ module _ (L P : ℕ) (Out : ℕ → Type 0) (starts : List ℕ) (c : Cut) (state
   from_outside m (outer h o) = let d = state.nested.drawn in outer (omega (arith, d)) (inl (outer h o))
   from_outside m (free h k f) = outer (omega arith) (inl (free h k f))
 
-  module _ (d : Cut) (turn : Step (length c.laid) (suc mark) FromOutside begun_starts begun d) where
-    abbrev turned : Cut
+  module _ (d : CutBlocks) (turn : Step (length c.laid) (suc mark) FromOutside begun_starts begun d) where
+    abbrev turned : CutBlocks
     turned = head mark d
 
     abbrev its_starts : List ℕ

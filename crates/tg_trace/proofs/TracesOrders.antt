@@ -5,7 +5,7 @@ use Rattle.std.specs.Prelude.{Option, Some, None, slice_get, slice_set}
 use Rattle.std.specs.List.{Contains}
 use Rattle.std.proofs.lemmas.List.Elements.{Contains-append_left, Contains-append_right, Contains-push}
 use Rattle.std.proofs.lemmas.Bool.{cases_lt}
-use Rattle.tg_trace.specs.Block.{End, Jump, Branch, Fault, Return, Block}
+use Rattle.tg_trace.specs.Block.{BlockEnd, Jump, Branch, Fault, Return, Block}
 use Rattle.tg_trace.specs.Laying.{Order, put, unless, unless_laid, onward, block_at, follow, traces}
 use Rattle.tg_trace.specs.Heads.{LeadsTo, PassesBy, begins, goes_on, AreEnteredAtHeads}
 use Rattle.tg_trace.proofs.Places.{same_or_not, traces_keep, all_laid}
@@ -45,7 +45,7 @@ unless_is (Some false) p other r e = inl cc
 pub only_first : (v : Option Bool) (p r : ℕ) → unless v p None ≡ Some r → p ≡ r
 only_first v p r e = elim (unless_is v p None r e) [ inl s ↦ s | inr n ↦ none_some n ]
 
-pub onward_leads : (laid : List Bool) (e : End) (r : ℕ) → onward laid e ≡ Some r → LeadsTo e r
+pub onward_leads : (laid : List Bool) (e : BlockEnd) (r : ℕ) → onward laid e ≡ Some r → LeadsTo e r
 onward_leads laid (Jump p) r h = only_first (slice_get laid p) p r h
 onward_leads laid (Branch rel x y p q) r h =
     elim (unless_is (slice_get laid p) p (unless_laid laid q None) r h) [ inl s ↦ inl s | inr n ↦ inr (only_first (slice_get laid q) q r n) ]

@@ -21,7 +21,7 @@ use Rattle.tg_tree.proofs.Relating.{Related, AlikeAround, around, Alike, alike, 
 use Rattle.tg_tree.proofs.Going.{one, OneWorld, OneTemps}
 use Rattle.tg_tree.proofs.Opposites.{opposite_holds}
 use Rattle.tg_tree.proofs.FlatRuns.{flat_code_steps}
-use Rattle.tg_trace.specs.Block.{End, Jump, Branch, Fault, Return, Block}
+use Rattle.tg_trace.specs.Block.{BlockEnd, Jump, Branch, Fault, Return, Block}
 use Rattle.tg_trace.specs.Laying.{no_block, block_at, is_next, jump_unless, branch_by, end_code, body_code}
 use Rattle.tg_trace.specs.Shapes.{EndsBelow, LeadsBelow}
 use Rattle.tg_trace.specs.Heads.{LeadsTo}
@@ -230,7 +230,7 @@ module _
             (more_credit r 1 n _ _ (jumps i hi w2 t2)) (unpaid r n 1 _ _ (jump_or_fall (is_next next j) j refl lj hj w2 t2))) w1 t1) w t)
 
         ends_do :
-            (end : End) → ((q : ℕ) → LeadsTo end q → LeadsTo (block_at bs p).end q) → EndsBelow (length bs) end → (w : World) (t : Temps) →
+            (end : BlockEnd) → ((q : ℕ) → LeadsTo end q → LeadsTo (block_at bs p).end q) → EndsBelow (length bs) end → (w : World) (t : Temps) →
             Simulates 1 r n (finish before size floor room blocks_go (choice p) end e tt w t) (code (end_code next end ++ more) e' tt w t)
         ends_do (Jump q) leads h w t = jump_or_fall (is_next next q) q refl (leads q refl) h w t
         ends_do (Branch rel x y i j) leads h w t = leads_branch (is_next next i) rel x y i j refl (leads i (inl refl)) (leads j (inr refl)) h.0 h.1 w t

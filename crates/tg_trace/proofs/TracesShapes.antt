@@ -4,7 +4,7 @@ use Rattle.std.specs.Prelude.{◌==◌, Some, slice_get}
 use Rattle.tg_tree.specs.Tree as tree
 use Rattle.tg_tree.specs.Tree.{Stms, no_stms, stm, Linear, Mark}
 use Rattle.tg_tree.specs.declared.operators.Rel.{Rel}
-use Rattle.tg_trace.specs.Block.{End, Jump, Branch, Fault, Return, Block}
+use Rattle.tg_trace.specs.Block.{BlockEnd, Jump, Branch, Fault, Return, Block}
 use Rattle.tg_trace.specs.Laying.{block_at, traces, is_next, jump_unless, branch_by, end_code, body_code, traced}
 use Rattle.tg_trace.specs.Heads.{LeadOn, BranchesLeadOn}
 use Rattle.tg_trace.proofs.TracesCode.{laid_code, traced_is}
@@ -35,7 +35,7 @@ module _ (bs : List Block) where
   branch_leads [] rel x y p q h = (tt, tt)
   branch_leads (m ∷ ps) rel x y p q h = branch_marked (m == p) m rel x y p q _ h
 
-  end_leads : (ps : List ℕ) (e : End) → BranchesLeadOn (laid_code bs ps) → BranchesLeadOn (end_code (slice_get ps 0) e ++ laid_code bs ps)
+  end_leads : (ps : List ℕ) (e : BlockEnd) → BranchesLeadOn (laid_code bs ps) → BranchesLeadOn (end_code (slice_get ps 0) e ++ laid_code bs ps)
   end_leads ps (Jump p) h = behind_jump (is_next (slice_get ps 0) p) p (laid_code bs ps) h
   end_leads ps (Branch rel x y p q) h = branch_leads ps rel x y p q h
   end_leads ps (Fault n) h = h

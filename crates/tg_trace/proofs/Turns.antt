@@ -3,11 +3,11 @@ use Rattle.std.proofs.Common.{◌≡◌, ℕ, ◌-◌, List, [], ◌∷◌, ◌+
 use Rattle.std.proofs.lemmas.List.{take-append-le}
 use Rattle.tg_tree.specs.Tree.{Ts, Loop}
 use Rattle.tg_trace.specs.Block.{Jump}
-use Rattle.tg_trace.specs.Cutting.{Cut, open_at, draw, next_mark, seal, head, cut}
+use Rattle.tg_trace.specs.Cutting.{CutBlocks, open_at, draw, next_mark, seal, head, cut}
 use Rattle.tg_trace.proofs.Rests.{take_all}
 
 pub turned_is :
-    (exits : List ℕ) (s : Ts) (c c1 c2 c3 c4 c5 : Cut) (exit mark : ℕ) →
+    (exits : List ℕ) (s : Ts) (c c1 c2 c3 c4 c5 : CutBlocks) (exit mark : ℕ) →
     exit ≡ next_mark c → c1 ≡ seal c → mark ≡ length c1.places → c2 ≡ draw 0 c1 → c3 ≡ open_at (Jump mark) c2 → c4 ≡ cut
     (exits ++ exit ∷ []) s c3 → c5 ≡ head mark c4 →
     c5 ≡ cut exits (Loop s) c

@@ -6,26 +6,26 @@ use Rattle.std.proofs.lemmas.List.{length-take, length-map, length-reverse}
 use Rattle.tg_tree.specs.Tree as tree
 use Rattle.tg_tree.specs.Tree.{Cond, Compare, Not, Both, Either, Ts, Move, Store, StoreByte, Do, If, Loop, Break, Seq, Stms, no_stms, stm}
 use Rattle.tg_tree.specs.Shapes.{BreaksWithin, BreaksWithinStms, AreClosed}
-use Rattle.tg_trace.specs.Block.{End, Jump, Branch, Fault, Return, Block}
-use Rattle.tg_trace.specs.Cutting.{Cut, open_at, draw, stand, lay, leads, seal_by, next_mark, seal, branch, head, leaves, cut, cut_all, start}
+use Rattle.tg_trace.specs.Block.{BlockEnd, Jump, Branch, Fault, Return, Block}
+use Rattle.tg_trace.specs.Cutting.{CutBlocks, open_at, draw, stand, lay, leads, seal_by, next_mark, seal, branch, head, leaves, cut, cut_all, start}
 use Rattle.tg_trace.specs.Cutting.{entered_by, entered, placed_end, placed, placed_all, blocks_of}
 use Rattle.tg_trace.specs.Shapes.{EndsBelow, LeadsBelow, AreWhole}
 
 -- No block that is laid is lost.
-abbrev Grows : Cut → Cut → Type 0
+abbrev Grows : CutBlocks → CutBlocks → Type 0
 Grows c d = length c.laid ≤ length d.laid
 
-lay_grows : (mark : ℕ) (c : Cut) → length c.laid < length (lay mark c).laid
+lay_grows : (mark : ℕ) (c : CutBlocks) → length c.laid < length (lay mark c).laid
 lay_grows mark c = omega (arith, length-append c.laid (record { body = c.body; end = c.end } ∷ []))
 
-seal_by_grows : (m : Option ℕ) (c : Cut) → Grows c (seal_by m c)
+seal_by_grows : (m : Option ℕ) (c : CutBlocks) → Grows c (seal_by m c)
 seal_by_grows (Some mark) c = omega arith
 seal_by_grows None c = let h = lay_grows (length c.places) (draw (length c.laid) c) in omega (arith, h)
 
-seal_grows : (c : Cut) → Grows c (seal c)
+seal_grows : (c : CutBlocks) → Grows c (seal c)
 seal_grows c = seal_by_grows (leads c.body c.end) c
 
-branch_grows : (d : Cond) (yes' no' : ℕ) (c : Cut) → Grows c (branch d yes' no' c)
+branch_grows : (d : Cond) (yes' no' : ℕ) (c : CutBlocks) → Grows c (branch d yes' no' c)
 branch_grows (Compare rel x y) yes' no' c = omega arith
 branch_grows (Not d) yes' no' c = branch_grows d no' yes' c
 branch_grows (Both d e) yes' no' c =
@@ -41,20 +41,20 @@ branch_grows (Either d e) yes' no' c =
     let l : Grows (seal second) (branch d yes' (next_mark second) (seal second)) = branch_grows d yes' (next_mark second) (seal second) in
     omega (arith, h, k, l)
 
-head_grows : (mark : ℕ) (c : Cut) → Grows c (head mark c)
+head_grows : (mark : ℕ) (c : CutBlocks) → Grows c (head mark c)
 head_grows mark c = let h = lay_grows mark (stand mark (length c.laid) c) in omega (arith, h)
 
-either_grows : (b : Bool) (c d : Cut) → Grows c d → Grows c (if b then c else d)
+either_grows : (b : Bool) (c d : CutBlocks) → Grows c d → Grows c (if b then c else d)
 either_grows true c d h = omega arith
 either_grows false c d h = h
 
-onto : (a b c : Cut) → Grows a b → Grows b c → Grows a c
+onto : (a b c : CutBlocks) → Grows a b → Grows b c → Grows a c
 onto a b c h k = omega arith
 
 -- a choice, and a loop, behind what is laid of what comes next
 sides_grow :
-    (exits : List ℕ) (d : Cond) (s t : Ts) (c : Cut) →
-    ((b : Cut) → Grows b (cut exits t b)) → ((b : Cut) → Grows b (cut exits s b)) → Grows (seal c) (cut exits (If d s t) c)
+    (exits : List ℕ) (d : Cond) (s t : Ts) (c : CutBlocks) →
+    ((b : CutBlocks) → Grows b (cut exits t b)) → ((b : CutBlocks) → Grows b (cut exits s b)) → Grows (seal c) (cut exits (If d s t) c)
 sides_grow exits d s t c grow_t grow_s =
     let join = next_mark c in
     let c1 = open_at (Jump join) (seal c) in
@@ -66,7 +66,7 @@ sides_grow exits d s t c grow_t grow_s =
     (onto c3 c4 (cut exits (If d s t) c) (grow_s c3)
     (onto c4 (seal c4) (cut exits (If d s t) c) (seal_grows c4) (branch_grows d (next_mark c4) (next_mark c2) (seal c4)))))
 
-turn_grows : (exits : List ℕ) (s : Ts) (c : Cut) → ((b : Cut) → Grows b (cut (exits ++ next_mark c ∷ []) s b)) → Grows (seal c) (cut exits (Loop s) c)
+turn_grows : (exits : List ℕ) (s : Ts) (c : CutBlocks) → ((b : CutBlocks) → Grows b (cut (exits ++ next_mark c ∷ []) s b)) → Grows (seal c) (cut exits (Loop s) c)
 turn_grows exits s c grow_s =
     let c1 = seal c in
     let mark = length c1.places in
@@ -75,7 +75,7 @@ turn_grows exits s c grow_s =
     onto c1 c3 (cut exits (Loop s) c) (grow_s c2) (head_grows mark c3)
 
 mutual
-  cut_grows : (exits : List ℕ) (s : Ts) (c : Cut) → Grows c (cut exits s c)
+  cut_grows : (exits : List ℕ) (s : Ts) (c : CutBlocks) → Grows c (cut exits s c)
   cut_grows exits (Move i x) c = omega arith
   cut_grows exits (Store x y) c = omega arith
   cut_grows exits (StoreByte x y) c = omega arith
@@ -87,7 +87,7 @@ mutual
   cut_grows exits (Seq ss) c = all_grow exits ss c
   cut_grows exits (tree.Return x) c = omega arith
 
-  all_grow : (exits : List ℕ) (ss : Stms) (c : Cut) → Grows c (cut_all exits ss c)
+  all_grow : (exits : List ℕ) (ss : Stms) (c : CutBlocks) → Grows c (cut_all exits ss c)
   all_grow exits no_stms c = omega arith
   all_grow exits (stm s ss) c =
       let behind = cut_all exits ss c in
@@ -95,20 +95,20 @@ mutual
       (cut_grows exits s (if leaves s then c else behind))
 
 -- What is open leads to a block that is laid.
-abbrev IsGrounded : Cut → Type 0
+abbrev IsGrounded : CutBlocks → Type 0
 IsGrounded c = (m : ℕ) → leads c.body c.end ≡ Some m → 0 < length c.laid
 
-seal_by_full : (m : Option ℕ) (c : Cut) → leads c.body c.end ≡ m → IsGrounded c → 0 < length (seal_by m c).laid
+seal_by_full : (m : Option ℕ) (c : CutBlocks) → leads c.body c.end ≡ m → IsGrounded c → 0 < length (seal_by m c).laid
 seal_by_full (Some mark) c e g = g mark e
 seal_by_full None c e g = let h = lay_grows (length c.places) (draw (length c.laid) c) in omega (arith, h)
 
-seal_full : (c : Cut) → IsGrounded c → 0 < length (seal c).laid
+seal_full : (c : CutBlocks) → IsGrounded c → 0 < length (seal c).laid
 seal_full c g = seal_by_full (leads c.body c.end) c refl g
 
-full : (c d : Cut) → 0 < length c.laid → Grows c d → IsGrounded d
+full : (c d : CutBlocks) → 0 < length c.laid → Grows c d → IsGrounded d
 full c d h k m e = omega arith
 
-either_grounded : (b : Bool) (c d : Cut) → IsGrounded c → IsGrounded d → IsGrounded (if b then c else d)
+either_grounded : (b : Bool) (c d : CutBlocks) → IsGrounded c → IsGrounded d → IsGrounded (if b then c else d)
 either_grounded true c d g h = g
 either_grounded false c d g h = h
 
@@ -117,7 +117,7 @@ some_none e = cc
 
 -- outside of every loop
 mutual
-  cut_grounded : (s : Ts) (c : Cut) → BreaksWithin 0 s → IsGrounded c → IsGrounded (cut [] s c)
+  cut_grounded : (s : Ts) (c : CutBlocks) → BreaksWithin 0 s → IsGrounded c → IsGrounded (cut [] s c)
   cut_grounded (Move i x) c h g = λ m e. some_none e
   cut_grounded (Store x y) c h g = λ m e. some_none e
   cut_grounded (StoreByte x y) c h g = λ m e. some_none e
@@ -129,18 +129,18 @@ mutual
   cut_grounded (Seq ss) c h g = all_grounded ss c h g
   cut_grounded (tree.Return x) c h g = λ m e. some_none e
 
-  all_grounded : (ss : Stms) (c : Cut) → BreaksWithinStms 0 ss → IsGrounded c → IsGrounded (cut_all [] ss c)
+  all_grounded : (ss : Stms) (c : CutBlocks) → BreaksWithinStms 0 ss → IsGrounded c → IsGrounded (cut_all [] ss c)
   all_grounded no_stms c h g = g
   all_grounded (stm s ss) c h g =
       let behind = cut_all [] ss c in
       cut_grounded s (if leaves s then c else behind) h.0 (either_grounded (leaves s) c behind g (all_grounded ss c h.1 g))
 
-entered_full : (m : Option ℕ) (c : Cut) → leads c.body c.end ≡ m → IsGrounded c → 0 < length (entered_by m c)
+entered_full : (m : Option ℕ) (c : CutBlocks) → leads c.body c.end ≡ m → IsGrounded c → 0 < length (entered_by m c)
 entered_full (Some mark) c e g = let h : 0 < length c.laid = g mark e in omega (arith, length-take (slice_index c.places mark + 1) c.laid)
 entered_full None c e g = omega (arith, length-append c.laid (record { body = c.body; end = c.end } ∷ []))
 
 -- the places to which ends lead
-end_below : (places : List ℕ) (n : ℕ) (e : End) → 0 < n → EndsBelow n (placed_end places (n - 1) e)
+end_below : (places : List ℕ) (n : ℕ) (e : BlockEnd) → 0 < n → EndsBelow n (placed_end places (n - 1) e)
 end_below places n (Jump m) h = omega arith
 end_below places n (Branch rel x y m k) h = (omega arith, omega arith)
 end_below places n (Fault _) h = tt

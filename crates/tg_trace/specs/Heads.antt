@@ -5,13 +5,13 @@ use Rattle.std.specs.List.{Contains}
 use Rattle.tg_tree.specs.Tree as tree
 use Rattle.tg_tree.specs.Tree.{Stms, Linear, Mark}
 use Rattle.tg_tree.specs.Shapes.{AreClosed}
-use Rattle.tg_trace.specs.Block.{End, Jump, Branch, Fault, Return, Block}
+use Rattle.tg_trace.specs.Block.{BlockEnd, Jump, Branch, Fault, Return, Block}
 use Rattle.tg_trace.specs.Cutting.{blocks_of}
 use Rattle.tg_trace.specs.Laying.{block_at, traced}
 use Rattle.tg_trace.specs.Shapes.{AreWhole}
 
 -- where control may go from a block's end
-abbrev pub LeadsTo : End → (place : ℕ) → Type 0
+abbrev pub LeadsTo : BlockEnd → (place : ℕ) → Type 0
 LeadsTo (Jump p) r = p ≡ r
 LeadsTo (Branch _ _ _ p q) r = (p ≡ r) ⊎ (q ≡ r)
 LeadsTo (Fault _) r = ⊥

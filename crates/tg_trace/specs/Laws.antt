@@ -1,12 +1,11 @@
 -- What the passes promise of their answers' shapes.
 use Rattle.std.specs.Prelude.{ℕ, ◌+◌, ◌≤◌, Bool, IsTrue, List, []}
-use Rattle.std.specs.List.{Contains}
 use Rattle.tg_tree.specs.Tree.{Stms}
 use Rattle.tg_tree.specs.Shapes.{AreCanonical, AreClosed, IsFlatCode, IsWellMarked}
 use Rattle.tg_tree.specs.Units.{Canonical}
 use Rattle.tg_tree.specs.Sizes.{in_canonical, statements_length, code_length, statements_room}
 use Rattle.tg_tree.specs.Sizes.{code_room}
-use Rattle.tg_tree.specs.Named.{Named, fault, named_stms, named_flat}
+use Rattle.tg_tree.specs.Named.{Named, NamesAreAllowed, fault, named_stms, named_flat}
 use Rattle.tg_trace.specs.Block.{Block}
 use Rattle.tg_trace.specs.Cutting.{blocks_of}
 use Rattle.tg_trace.specs.Laying.{traced}
@@ -44,11 +43,8 @@ RoomStays =
 
 -- The code names no function, literal, temporary, constant or fault that the statements don't name,
 -- but for a fault 0: whatever test all their names pass, its names pass.
-abbrev pub AreAllowed : (allowed : Named → Bool) → List Named → Type 0
-AreAllowed allowed names = (x : Named) → Contains names x → IsTrue (allowed x)
-
 abbrev pub NamesStay : Type 0
 NamesStay =
     (allowed : Named → Bool) (ss : Stms) →
-    IsTrue (allowed (fault 0)) → AreAllowed allowed (named_stms ss []) →
-    AreAllowed allowed (named_flat (traced (blocks_of ss)) [])
+    IsTrue (allowed (fault 0)) → NamesAreAllowed allowed (named_stms ss []) →
+    NamesAreAllowed allowed (named_flat (traced (blocks_of ss)) [])

@@ -7,7 +7,7 @@ use Rattle.tg_tree.specs.declared.operators.Rel.{Rel}
 use Rattle.tg_tree.specs.Tree as tree
 use Rattle.tg_tree.specs.Tree.{Stms, no_stms, stm, Linear, Mark, Do'}
 use Rattle.tg_tree.specs.Operators.{opposite}
-use Rattle.tg_trace.specs.Block.{End, Jump, Branch, Fault, Return, Block}
+use Rattle.tg_trace.specs.Block.{BlockEnd, Jump, Branch, Fault, Return, Block}
 
 -- what stands where there is no block
 abbrev pub no_block : Block
@@ -32,7 +32,7 @@ abbrev pub unless_laid : List Bool → (place : ℕ) → Option ℕ → Option �
 unless_laid laid place other = unless (slice_get laid place) place other
 
 -- what comes behind a block: where it leads that isn't laid, the true side of a branch first
-abbrev pub onward : List Bool → End → Option ℕ
+abbrev pub onward : List Bool → BlockEnd → Option ℕ
 onward laid (Jump p) = unless_laid laid p None
 onward laid (Branch _ _ _ p q) = unless_laid laid p (unless_laid laid q None)
 onward laid (Fault _) = None
@@ -71,7 +71,7 @@ branch_by true next rel x y p q = tree.Branch (opposite rel) x y q ∷ []
 branch_by false next rel x y p q = tree.Branch rel x y p ∷ jump_unless (is_next next q) q
 
 -- an end, by the block that comes next
-abbrev pub end_code : (next : Option ℕ) → End → List Linear
+abbrev pub end_code : (next : Option ℕ) → BlockEnd → List Linear
 end_code next (Jump p) = jump_unless (is_next next p) p
 end_code next (Branch rel x y p q) = branch_by (is_next next p) next rel x y p q
 end_code next (Fault n) = tree.Fault' n ∷ []

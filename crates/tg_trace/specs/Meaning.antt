@@ -13,11 +13,11 @@ use Rattle.tg_tree.specs.Actions.{go_back, wrong}
 use Rattle.tg_tree.specs.Meaning.{Enter, value, run_all}
 use Rattle.tg_tree.specs.Running.{Runner, with_fuel, call_in, program}
 use Rattle.tg_tree.specs.Flat.{Last}
-use Rattle.tg_trace.specs.Block.{End, Jump, Branch, Fault, Return, Block}
+use Rattle.tg_trace.specs.Block.{BlockEnd, Jump, Branch, Fault, Return, Block}
 
 -- An end counts what the flat code that is made of it counts at most: a branch is followed by a
 -- jump to its false side.
-abbrev pub end_units : End → ℕ
+abbrev pub end_units : BlockEnd → ℕ
 end_units (Jump p) = element_units (tree.Jump p)
 end_units (Branch rel x y p q) =
     element_units (tree.Branch rel x y p) + element_units (tree.Jump q)
@@ -50,7 +50,7 @@ module _ (code : Code (List Block)) (size : ℕ → ℕ) (floor room : ℕ) wher
         run_all Canonical room code.literals (enter_blocks later) (λ p. wrong p.world) ss
 
     -- an end, by what it is to go on at a place
-    abbrev pub finish : (at : ℕ → Acts Last) → End → Acts Last
+    abbrev pub finish : (at : ℕ → Acts Last) → BlockEnd → Acts Last
     finish at (Jump p) = do
       pay (end_units (Jump p))
       at p

@@ -8,11 +8,11 @@ use Rattle.tg_trace.specs.declared.flows.End.TheVariants as code
 use Rattle.tg_trace.specs.declared.flows.Block.{Block as CodeBlock}
 use Rattle.tg_trace.specs.declared.cuts.Cut.{Cut as CodeCut}
 use Rattle.tg_trace.specs.declared.orders.Order.{Order as CodeOrder}
-use Rattle.tg_trace.specs.Block.{End, Jump, Branch, Fault, Return, Block}
-use Rattle.tg_trace.specs.Cutting.{Cut, leaves}
+use Rattle.tg_trace.specs.Block.{BlockEnd, Jump, Branch, Fault, Return, Block}
+use Rattle.tg_trace.specs.Cutting.{CutBlocks, leaves}
 use Rattle.tg_trace.specs.Laying.{Order}
 
-abbrev pub plain_end : CodeEnd → End
+abbrev pub plain_end : CodeEnd → BlockEnd
 plain_end (code.Jump p) = Jump p
 plain_end (code.Branch rel a b p q) = Branch rel (plain_tx a) (plain_tx b) p q
 plain_end (code.Fault n) = Fault n
@@ -25,7 +25,7 @@ abbrev pub plain_blocks : List CodeBlock → List Block
 plain_blocks bs = map plain_block bs
 
 -- the code has what is laid, and the statements of the open block, from the last on
-abbrev pub plain_cut : CodeCut → Cut
+abbrev pub plain_cut : CodeCut → CutBlocks
 plain_cut c = record {
   laid = plain_blocks c.laid.items;
   places = c.places.items;
@@ -37,7 +37,7 @@ abbrev pub plain_order : CodeOrder → Order
 plain_order o = record { places = o.places.items; laid = o.laid.items }
 
 -- a step, which leaves the marks behind loops as they are
-pub record Cuts (old new : CodeCut) (step : Cut → Cut) : Type 0 where
+pub record Cuts (old new : CodeCut) (step : CutBlocks → CutBlocks) : Type 0 where
   pub exits : new.exits.items ≡ old.exits.items
   pub cut : plain_cut new ≡ step (plain_cut old)
 

@@ -3,7 +3,7 @@ use Rattle.std.proofs.Common.{◌≡◌, ap, ◌∙◌, Bool, true, false}
 use Rattle.tg_syntax.specs.Tree.{Exp, LValue}
 use Rattle.tg_tree.specs.Tree.{Ts}
 use Rattle.tg_translate.specs.declared.homes.Within.{Within}
-use Rattle.tg_translate.specs.States.{TranslationState, Acts, drawn, after, give}
+use Rattle.tg_translate.specs.States.{TranslationState, Translates, drawn, after, give}
 use Rattle.tg_translate.specs.Wants.{Made, done}
 use Rattle.tg_translate.specs.Constructs.{Storage}
 use Rattle.tg_translate.specs.Scopes.{Findings}
@@ -12,13 +12,13 @@ use Rattle.tg_translate.specs.Updates.{begins_with}
 use Rattle.tg_translate.specs.Parts.{assigned_in, updated_in}
 
 module _ (findings : Findings) (v : LValue) (e : Exp) (within : Within) where
-  abbrev assigned_if : Bool → Storage → Acts Made
+  abbrev assigned_if : Bool → Storage → Translates Made
   assigned_if reads_first place s =
       after
       (assignment reads_first place (λ w. expression findings e w within) (λ x w. behind_read findings e x w within) s)
       (λ x. give (done x))
 
-  abbrev pub assigned_by : Storage → Acts Made
+  abbrev pub assigned_by : Storage → Translates Made
   assigned_by place s = assigned_if (begins_with findings.meaning e v) place s
 
   module _ (place : Storage) (s : TranslationState) (x : Ts) (t : TranslationState) where

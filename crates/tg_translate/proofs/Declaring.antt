@@ -35,7 +35,7 @@ use Rattle.tg_tree.specs.Tree.{Stms}
 use Rattle.tg_translate.specs.declared.homes.Home.{Home}
 use Rattle.tg_translate.specs.declared.homes.Callee.{Callee}
 use Rattle.tg_translate.specs.declared.operands.Operand.{Operand}
-use Rattle.tg_translate.specs.States.{TranslationState, Drawn, drawn}
+use Rattle.tg_translate.specs.States.{TranslationState, Translated, drawn}
 use Rattle.tg_translate.specs.Wants.{followed}
 use Rattle.tg_translate.specs.Constructs.{store_field, store_fields}
 use Rattle.tg_translate.specs.Functions.{at_of, asked, parameters, own_homes, declare_functions}
@@ -93,7 +93,7 @@ abbrev pub with_callee : (at : ℕ) → Callee → TranslationState → Translat
 with_callee at callee s = record s { label = s.label + 1; callees = (at, callee) ∷ s.callees }
 
 pub function_on :
-    (level : ℕ) (fs : List CodeFunDec) (k : ℕ) (all : Drawn (Unit {0})) (s t : TranslationState) (f : CodeFunDec) →
+    (level : ℕ) (fs : List CodeFunDec) (k : ℕ) (all : Translated (Unit {0})) (s t : TranslationState) (f : CodeFunDec) →
     all ≡ declare_functions level (functions_of (drop k fs)) s → k < length fs → f ≡ get_or fs k f →
     with_callee (at_of f.name) (record { level = level; label = record { 0 = s.label } }) s ≡ t →
     all ≡ declare_functions level (functions_of (drop (k + 1) fs)) t
@@ -101,7 +101,7 @@ function_on level fs k all s t f w l i m =
     w ∙ (ap (λ gs. declare_functions level (functions_of gs) s) (from_here fs k f l i) ∙ ap (declare_functions level (functions_of (drop (k + 1) fs))) m)
 
 pub functions_end :
-    (level : ℕ) (fs : List CodeFunDec) (k : ℕ) (all : Drawn (Unit {0})) (s : TranslationState) →
+    (level : ℕ) (fs : List CodeFunDec) (k : ℕ) (all : Translated (Unit {0})) (s : TranslationState) →
     all ≡ declare_functions level (functions_of (drop k fs)) s → k ≡ length fs → all ≡ drawn tt s
 functions_end level fs k all s w e = w ∙ ap (λ gs. declare_functions level (functions_of gs) s) (none_left fs k e)
 

@@ -1,8 +1,8 @@
 -- Actions, one after another: what is drawn by the first is handed to the next.
 use Rattle.std.proofs.Common.{◌≡◌, ap, ◌∙◌}
-use Rattle.tg_translate.specs.States.{TranslationState, Acts, Drawn, drawn, after}
+use Rattle.tg_translate.specs.States.{TranslationState, Translates, Translated, drawn, after}
 
 pub step :
-    {A B : Type 0} {x : Drawn A} {a : A} {s : TranslationState} {d : Drawn B} (next : A → Acts B) →
+    {A B : Type 0} {x : Translated A} {a : A} {s : TranslationState} {d : Translated B} (next : A → Translates B) →
     x ≡ drawn a s → next a s ≡ d → after x next ≡ d
 step next h k = ap (λ y. after y next) h ∙ k

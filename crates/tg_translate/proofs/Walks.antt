@@ -17,7 +17,7 @@ use Rattle.tg_tree.specs.Tree.{Tx, Const, Txs, no_txs, tx, Ts, Stms, no_stms}
 use Rattle.tg_tree.specs.Lists.{join_txs}
 use Rattle.tg_translate.specs.declared.homes.Within.{Within}
 use Rattle.tg_translate.specs.declared.wants.Want.{Want}
-use Rattle.tg_translate.specs.States.{TranslationState, Acts, Drawn, drawn, after, ◌>>=◌, ◌>>◌, give}
+use Rattle.tg_translate.specs.States.{TranslationState, Translates, Translated, drawn, after, ◌>>=◌, ◌>>◌, give}
 use Rattle.tg_translate.specs.Wants.{Made, value, followed}
 use Rattle.tg_translate.specs.Constructs.{HeldAll, hold_next}
 use Rattle.tg_translate.specs.Functions.{at_of, declare_functions}
@@ -28,25 +28,25 @@ use Rattle.tg_translate.proofs.Steps.{step}
 
 -- one action and then another is the two together
 pub together :
-    {A B C : Type 0} (f : A → Acts C) (g : A → Acts B) (h : B → Acts C) (d : Drawn A) → ((a : A) (s : TranslationState) → f a s ≡ after (g a s) h) →
+    {A B C : Type 0} (f : A → Translates C) (g : A → Translates B) (h : B → Translates C) (d : Translated A) → ((a : A) (s : TranslationState) → f a s ≡ after (g a s) h) →
     after d f ≡ after (after d g) h
 together f g h (drawn a s) e = e a s
 
-pub alike : {A B : Type 0} (f g : A → Acts B) (d : Drawn A) → ((a : A) (s : TranslationState) → f a s ≡ g a s) → after d f ≡ after d g
+pub alike : {A B : Type 0} (f g : A → Translates B) (d : Translated A) → ((a : A) (s : TranslationState) → f a s ≡ g a s) → after d f ≡ after d g
 alike f g (drawn a s) e = e a s
 
 thrice :
-    {A B C D : Type 0} (f : A → Acts D) (g : A → Acts B) (h : B → Acts C) (k : C → Acts D) (d : Drawn A) →
+    {A B C D : Type 0} (f : A → Translates D) (g : A → Translates B) (h : B → Translates C) (k : C → Translates D) (d : Translated A) →
     ((a : A) (s : TranslationState) → f a s ≡ after (after (g a s) h) k) → after d f ≡ after (after (after d g) h) k
 thrice f g h k (drawn a s) e = e a s
 
 -- an action for each of a list, which hands on what was made so far
-abbrev pub in_turn : {X B : Type 0} → (X → B → Acts B) → List X → B → Acts B
+abbrev pub in_turn : {X B : Type 0} → (X → B → Translates B) → List X → B → Translates B
 in_turn f [] b = give b
 in_turn f (x ∷ xs) b = f x b >>= in_turn f xs
 
 -- a walk over a list, up to a part of it
-abbrev pub WalkedTo : {X B : Type 0} → (X → B → Acts B) → List X → (k : ℕ) → (first : B) → TranslationState → (now : B) → TranslationState → Type 0
+abbrev pub WalkedTo : {X B : Type 0} → (X → B → Translates B) → List X → (k : ℕ) → (first : B) → TranslationState → (now : B) → TranslationState → Type 0
 WalkedTo f xs k b s c t = in_turn f xs b s ≡ in_turn f (drop k xs) c t
 
 from_here : {A : Type 0} (xs : List A) (k : ℕ) (x : A) → k < length xs → x ≡ get_or xs k x → drop k xs ≡ x ∷ drop (k + 1) xs
@@ -56,27 +56,27 @@ none_left : {A : Type 0} (xs : List A) (k : ℕ) → k ≡ length xs → drop k 
 none_left xs k e = ap (λ j. drop j xs) e ∙ drop-length xs
 
 pub walk_on :
-    {X B : Type 0} (f : X → B → Acts B) (xs : List X) (k : ℕ) (b c d : B) (s t u : TranslationState) (x : X) →
+    {X B : Type 0} (f : X → B → Translates B) (xs : List X) (k : ℕ) (b c d : B) (s t u : TranslationState) (x : X) →
     WalkedTo f xs k b s c t → k < length xs → x ≡ get_or xs k x → f x c t ≡ drawn d u → WalkedTo f xs (k + 1) b s d u
 walk_on f xs k b c d s t u x w l i m =
     w ∙ (ap (λ ys. in_turn f ys c t) (from_here xs k x l i) ∙ step (in_turn f (drop (k + 1) xs)) m refl)
 
 pub walk_ends :
-    {X B : Type 0} (f : X → B → Acts B) (xs : List X) (k : ℕ) (b c : B) (s t : TranslationState) →
+    {X B : Type 0} (f : X → B → Translates B) (xs : List X) (k : ℕ) (b c : B) (s t : TranslationState) →
     WalkedTo f xs k b s c t → k ≡ length xs → in_turn f xs b s ≡ drawn c t
 walk_ends f xs k b c s t w e = w ∙ ap (λ ys. in_turn f ys c t) (none_left xs k e)
 
 module _ (findings : Findings) (within : Within) where
-  abbrev pub value_step : CodeExp → Txs → Acts Txs
+  abbrev pub value_step : CodeExp → Txs → Translates Txs
   value_step e before = value_in findings (plain e) within >>= λ x. give (join_txs before (tx x no_txs))
 
-  abbrev pub field_step : (direct : Bool) → CodeInit → HeldAll → Acts HeldAll
+  abbrev pub field_step : (direct : Bool) → CodeInit → HeldAll → Translates HeldAll
   field_step direct i before = value_in findings (plain i.value) within >>= λ x. hold_next direct before x
 
-  abbrev pub declaration_step : CodeDec → Stms → Acts Stms
+  abbrev pub declaration_step : CodeDec → Stms → Translates Stms
   declaration_step d before = declarations findings (plain_dec d no_decs) before within
 
-  abbrev pub body_step : CodeFunDec → ℕ → Acts ℕ
+  abbrev pub body_step : CodeFunDec → ℕ → Translates ℕ
   body_step f label = body_in findings f label within >>= λ _. give (label + 1)
 
   values_in : (es : List CodeExp) (before : Txs) (s : TranslationState) → values findings (exps_of es) before within s ≡ in_turn value_step es before s
@@ -141,7 +141,7 @@ module _ (findings : Findings) (within : Within) where
   bodies_are fs label s = ap (λ x. bodies findings x label within s) (plain_functions-items fs) ∙ bodies_in (out-FunDecs fs).items.items label s
 
   -- what is left of a sequence, and where nothing is left what its last expression became
-  abbrev pub left_of : Exps → Want → Stms → Made → Acts Begun
+  abbrev pub left_of : Exps → Want → Stms → Made → Translates Begun
   left_of no_exps w before last = give (record { before = before; last = last })
   left_of (exp e rest) w before last = sequence findings (exp e rest) w before within
 

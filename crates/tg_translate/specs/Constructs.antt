@@ -32,7 +32,7 @@ use Rattle.tg_translate.specs.declared.operands.Operand.TheVariants.{Number, Kep
 use Rattle.tg_translate.specs.declared.wants.Want.{Want}
 use Rattle.tg_translate.specs.declared.wants.Want.TheVariants as want
 use Rattle.tg_translate.specs.declared.homes.Within.{Within}
-use Rattle.tg_translate.specs.States.{Acts, ◌>>=◌, give, fresh}
+use Rattle.tg_translate.specs.States.{Translates, ◌>>=◌, give, fresh}
 use Rattle.tg_translate.specs.Wants.{Made, value, test, put_in, value_of, is_none, followed}
 use Rattle.tg_translate.specs.Wants.{value_behind}
 
@@ -59,12 +59,12 @@ pub record Held : Type 0 where
 
 -- A value is kept for its uses. A variable's temporary may be used itself where nothing assigns it
 -- meanwhile.
-abbrev pub keep : Stms → Tx → Acts Held
+abbrev pub keep : Stms → Tx → Translates Held
 keep before x = do
   t ← fresh
   give (record { before = followed before (Move t x); operand = Kept (record { 0 = t }) })
 
-abbrev pub hold : (direct : Bool) → Stms → Tx → Acts Held
+abbrev pub hold : (direct : Bool) → Stms → Tx → Translates Held
 hold direct before (Const n) = give (record { before = before; operand = Number n })
 hold true before (Temp t) =
     give (record { before = before; operand = Kept (record { 0 = t }) })
@@ -78,7 +78,7 @@ pub record HeldAll : Type 0 where
 abbrev pub none_held : HeldAll
 none_held = record { before = no_stms; operands = [] }
 
-abbrev pub hold_next : (direct : Bool) → HeldAll → Tx → Acts HeldAll
+abbrev pub hold_next : (direct : Bool) → HeldAll → Tx → Translates HeldAll
 hold_next direct all x = do
   h ← hold direct all.before x
   give (record { before = h.before; operands = all.operands ++ h.operand ∷ [] })
@@ -136,7 +136,7 @@ want_for (in_temp t) = want.Into (record { 0 = t })
 want_for (at_address before a) = want.Value
 
 -- what was made is assigned; a statement has put it there already where the place is a temporary
-abbrev pub assign : Storage → Made → Acts Ts
+abbrev pub assign : Storage → Made → Translates Ts
 assign (in_temp t) m = give (put_in t m)
 assign (at_address before a) m = do
   x ← value_of m
@@ -153,12 +153,12 @@ pub record HeldAt : Type 0 where
   pub before : Stms
   pub address : HeldAddress
 
-abbrev pub hold_base : Stms → Tx → (Operand → HeldAddress) → Acts HeldAt
+abbrev pub hold_base : Stms → Tx → (Operand → HeldAddress) → Translates HeldAt
 hold_base before x address = do
   h ← hold true before x
   give (record { before = h.before; address = address h.operand })
 
-abbrev pub hold_address : Stms → Tx → Acts HeldAt
+abbrev pub hold_address : Stms → Tx → Translates HeldAt
 hold_address before (Binary op FrameAddress (Const n)) =
     give (record { before = before; address = InOwnFrame op n })
 hold_address before (Binary op x (Const n)) = hold_base before x (λ o. Beside o op n)
@@ -172,7 +172,7 @@ abbrev pub plain_held : CodeHeldPlace → HeldPlace
 plain_held (held.InTemp t) = held_in_temp t.0
 plain_held (held.AtAddress before a) = held_at (stms_of before.items) a
 
-abbrev pub hold_place : Storage → Acts HeldPlace
+abbrev pub hold_place : Storage → Translates HeldPlace
 hold_place (in_temp t) = give (held_in_temp t)
 hold_place (at_address before a) = do
   h ← hold_address before a
@@ -220,7 +220,7 @@ quotient_check left right =
 abbrev pub field_of : (field : ℕ) → Stms → (record_ : Tx) → Storage
 field_of k before r = at_address (followed before (nil_check r)) (plus r (4 * k))
 
-abbrev pub field_place : (field : ℕ) → (record_ : Tx) → Acts Storage
+abbrev pub field_place : (field : ℕ) → (record_ : Tx) → Translates Storage
 field_place k x = do
   r ← hold true no_stms x
   give (field_of k r.before (operand r.operand))
@@ -232,7 +232,7 @@ element array index =
 abbrev pub element_of : Stms → (array index : Tx) → Storage
 element_of before a i = at_address (followed before (index_check a i)) (element a i)
 
-abbrev pub element_place : (direct : Bool) → (array index : Tx) → Acts Storage
+abbrev pub element_place : (direct : Bool) → (array index : Tx) → Translates Storage
 element_place direct x y = do
   a ← hold direct no_stms x
   i ← hold true a.before y
@@ -269,7 +269,7 @@ record_of r all =
     r 0 all.operands)
     (Temp r)
 
-abbrev pub make_record : HeldAll → Acts Made
+abbrev pub make_record : HeldAll → Translates Made
 make_record all = do
   r ← fresh
   give (record_of r all)
@@ -299,7 +299,7 @@ product_of p before l r =
     (followed (followed before (Move p (Binary Mul l r))) (product_check l r (Temp p)))
     (Temp p)
 
-abbrev pub product : (direct : Bool) → (left right : Tx) → Acts Made
+abbrev pub product : (direct : Bool) → (left right : Tx) → Translates Made
 product direct x y = do
   l ← hold direct no_stms x
   r ← hold true l.before y
@@ -310,20 +310,20 @@ abbrev pub quotient_of : Stms → (left right : Tx) → Made
 quotient_of before l r =
     value_behind (followed (followed before (zero_check r)) (quotient_check l r)) (Binary Div l r)
 
-abbrev pub checked_quotient : (direct : Bool) → (left right : Tx) → Acts Made
+abbrev pub checked_quotient : (direct : Bool) → (left right : Tx) → Translates Made
 checked_quotient direct x y = do
   l ← hold direct no_stms x
   r ← hold true l.before y
   give (quotient_of r.before (operand l.operand) (operand r.operand))
 
 -- a number other than 0 and -1 divides without a check
-abbrev pub quotient : (direct : Bool) → (left right : Tx) → Acts Made
+abbrev pub quotient : (direct : Bool) → (left right : Tx) → Translates Made
 quotient direct x (Const n) =
     if n == 0 || n == minus_one then checked_quotient direct x (Const n)
     else give (value (Binary Div x (Const n)))
 quotient direct x y = checked_quotient direct x y
 
-abbrev pub operation : Op → (of_strings direct : Bool) → (left right : Tx) → Acts Made
+abbrev pub operation : Op → (of_strings direct : Bool) → (left right : Tx) → Translates Made
 operation op.Plus of_strings direct x y = give (value (Binary AddTrap x y))
 operation op.Minus of_strings direct x y = give (value (Binary SubTrap x y))
 operation op.Times of_strings direct x y = product direct x y
@@ -377,7 +377,7 @@ count_of before i low high turn =
     Seq (followed before
     (when (Compare rel.GreaterEqual (operand high) (operand low)) (turns i low high turn)))
 
-abbrev pub count : (variable : Access) → (low high : Tx) → Ts → Acts Ts
+abbrev pub count : (variable : Access) → (low high : Tx) → Ts → Translates Ts
 count i x y turn = do
   l ← hold false no_stms x
   h ← keep l.before y

@@ -13,8 +13,8 @@ use Rattle.tg_translate.specs.declared.wants.Want.TheVariants as want
 use Rattle.tg_translate.specs.States.{
   TranslationState,
   Frame,
-  Acts,
-  Drawn,
+  Translates,
+  Translated,
   drawn,
   ◌>>=◌,
   ◌>>◌,
@@ -40,7 +40,7 @@ parameters level (p ∷ params) (home ∷ homes) seen =
     ((at_of p.name, record { level = level; access = home }) ∷ seen)
 parameters level _ _ seen = seen
 
-abbrev pub declare_params : (level : ℕ) → List Param → List Access → Acts (Unit {0})
+abbrev pub declare_params : (level : ℕ) → List Param → List Access → Translates (Unit {0})
 declare_params level params homes =
     λ s. drawn tt (record s { homes = parameters level params homes s.homes })
 
@@ -50,7 +50,7 @@ own_homes [] = []
 own_homes (link ∷ homes) = homes
 
 -- the functions of a group may call each other; each draws a label
-abbrev pub declare_functions : (level : ℕ) → FunDecs → Acts (Unit {0})
+abbrev pub declare_functions : (level : ℕ) → FunDecs → Translates (Unit {0})
 declare_functions level no_functions = give tt
 declare_functions level (function f _ _ _ rest) = do
   label ← draw_label
@@ -75,7 +75,7 @@ finished before outer inner body = record inner {
   frame = outer;
 }
 
-abbrev pub finish : TranslationState → Drawn Ts → Drawn (Unit {0})
+abbrev pub finish : TranslationState → Translated Ts → Translated (Unit {0})
 finish outer (drawn body inner) =
     drawn tt (finished outer.functions outer.frame inner body)
 
@@ -93,7 +93,7 @@ abbrev pub opened : TranslationState → Frame → TranslationState
 opened s f = record s { functions = []; frame = f }
 
 -- a function's text is translated with a frame of its own
-abbrev pub in_frame : Frame → Acts Ts → Acts (Unit {0})
+abbrev pub in_frame : Frame → Translates Ts → Translates (Unit {0})
 in_frame f body = λ s. finish s (body (opened s f))
 
 -- a function's text begins: with a frame of its own, and with its parameters declared
@@ -115,7 +115,7 @@ inside within kept = record { level = within.level + 1; link_in_slot = kept; lea
 abbrev pub gives_nothing : Made → Ts
 gives_nothing m = Seq (stm (dropped m) (stm (Return (Const 0)) no_stms))
 
-abbrev pub closing : (has_result : Bool) → Made → Acts Ts
+abbrev pub closing : (has_result : Bool) → Made → Translates Ts
 closing true m = do
   x ← value_of m
   give (given_back x)
@@ -123,7 +123,7 @@ closing false m = give (gives_nothing m)
 
 abbrev pub body_in :
     Frame → List Param → (link_in_slot has_result : Bool) →
-    (text : Want → Within → Acts Made) → Within → Acts Ts
+    (text : Want → Within → Translates Made) → Within → Translates Ts
 body_in f params kept has_result text within = do
   declare_params (within.level + 1) params (own_homes f.params)
   m ← text (result_want has_result) (inside within kept)
@@ -131,7 +131,7 @@ body_in f params kept has_result text within = do
 
 abbrev pub body :
     (label : ℕ) → (escapes keeps_link : ℕ → Bool) → (at : ℕ) → (has_result : Bool) →
-    List Param → (text : Want → Within → Acts Made) → Within → Acts (Unit {0})
+    List Param → (text : Want → Within → Translates Made) → Within → Translates (Unit {0})
 body label escapes keeps_link at has_result params text within =
     let f = frame_for label (asked escapes (keeps_link at) params) in
     in_frame f (body_in f params (keeps_link at) has_result text within)
@@ -158,5 +158,5 @@ program_of s body = record {
   literals = s.literals;
 }
 
-abbrev pub program : Drawn Ts → Code Ts
+abbrev pub program : Translated Ts → Code Ts
 program (drawn body s) = program_of s body

@@ -19,7 +19,7 @@ use Rattle.tg_translate.specs.declared.homes.Home.{Home}
 use Rattle.tg_translate.specs.declared.homes.Callee.{Callee}
 use Rattle.tg_translate.specs.declared.homes.Within.{Within}
 use Rattle.tg_translate.specs.States.{
-  Acts,
+  Translates,
   ◌>>=◌,
   ◌>>◌,
   give,
@@ -71,7 +71,7 @@ abbrev pub home_place : Within → Option Home → Storage
 home_place within (Some home) = place_in (frame_at within home.level) home.access
 home_place within None = nowhere
 
-abbrev pub variable_place : Within → Option Means → Acts Storage
+abbrev pub variable_place : Within → Option Means → Translates Storage
 variable_place within (Some (means.Variable at)) = do
   home ← home_at at
   give (home_place within home)
@@ -103,21 +103,21 @@ call_declared within xs (Some callee) =
     Call callee.label.0 (tx (frame_at within callee.level) xs)
 call_declared within xs None = no_value
 
-abbrev pub call : Within → Option Means → Txs → Acts Tx
+abbrev pub call : Within → Option Means → Txs → Translates Tx
 call within (Some (means.Standard f)) xs = give (call_routine (routine_of f) xs)
 call within (Some (means.Function at)) xs = do
   callee ← callee_at at
   give (call_declared within xs callee)
 call within _ xs = give no_value
 
-abbrev pub literal : List ℕ → Acts Made
+abbrev pub literal : List ℕ → Translates Made
 literal bytes = do
   label ← draw_label
   add_literal (record { label = label; text = string_text bytes })
   give (value (Address label))
 
 -- a variable of the function at work
-abbrev pub declare_variable : (escapes : Bool) → (level at : ℕ) → Acts Access
+abbrev pub declare_variable : (escapes : Bool) → (level at : ℕ) → Translates Access
 declare_variable escapes level at = do
   access ← local escapes
   declare_home at (record { level = level; access = access })

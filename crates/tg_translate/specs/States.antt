@@ -35,24 +35,24 @@ state_of s = record {
   frame = plain_function s.frame tt;
 }
 
-pub data Drawn (A : Type 0) : Type 0 where
-  drawn : A → TranslationState → Drawn A
+pub data Translated (A : Type 0) : Type 0 where
+  drawn : A → TranslationState → Translated A
 
-abbrev pub Acts : Type 0 → Type 0
-Acts A = TranslationState → Drawn A
+abbrev pub Translates : Type 0 → Type 0
+Translates A = TranslationState → Translated A
 
-abbrev pub after : {A B : Type 0} → Drawn A → (A → Acts B) → Drawn B
+abbrev pub after : {A B : Type 0} → Translated A → (A → Translates B) → Translated B
 after (drawn a s) next = next a s
 
 infixl 10 ◌>>=◌
 infixl 10 ◌>>◌
-abbrev pub ◌>>=◌ : {A B : Type 0} → Acts A → (A → Acts B) → Acts B
+abbrev pub ◌>>=◌ : {A B : Type 0} → Translates A → (A → Translates B) → Translates B
 ◌>>=◌ m next = λ s. after (m s) next
 
-abbrev pub ◌>>◌ : {A B : Type 0} → Acts A → Acts B → Acts B
+abbrev pub ◌>>◌ : {A B : Type 0} → Translates A → Translates B → Translates B
 ◌>>◌ m next = m >>= λ _. next
 
-abbrev pub give : {A : Type 0} → A → Acts A
+abbrev pub give : {A : Type 0} → A → Translates A
 give a = λ s. drawn a s
 
 abbrev pub with_frame : Frame → TranslationState → TranslationState
@@ -65,33 +65,33 @@ abbrev pub one_slot : Frame → Frame
 one_slot f = record f { slots = f.slots + 1 }
 
 -- a fresh temporary
-abbrev pub fresh : Acts ℕ
+abbrev pub fresh : Translates ℕ
 fresh = λ s. drawn s.frame.temps (with_frame (one_temp s.frame) s)
 
 -- a home for a local variable, in the frame where it escapes
-abbrev pub local : (escapes : Bool) → Acts Access
+abbrev pub local : (escapes : Bool) → Translates Access
 local escapes =
     λ s. drawn (next_home escapes s.frame.slots s.frame.temps)
     (with_frame (if escapes then one_slot s.frame else one_temp s.frame) s)
 
-abbrev pub next_label : Acts ℕ
+abbrev pub next_label : Translates ℕ
 next_label = λ s. drawn s.label s
 
-abbrev pub draw_label : Acts ℕ
+abbrev pub draw_label : Translates ℕ
 draw_label = λ s. drawn s.label (record s { label = s.label + 1 })
 
-abbrev pub add_literal : Literal → Acts (Unit {0})
+abbrev pub add_literal : Literal → Translates (Unit {0})
 add_literal l = λ s. drawn tt (record s { literals = s.literals ++ l ∷ [] })
 
 -- what is declared at a byte
-abbrev pub declare_home : (at : ℕ) → Home → Acts (Unit {0})
+abbrev pub declare_home : (at : ℕ) → Home → Translates (Unit {0})
 declare_home at home = λ s. drawn tt (record s { homes = (at, home) ∷ s.homes })
 
-abbrev pub declare_callee : (at : ℕ) → Callee → Acts (Unit {0})
+abbrev pub declare_callee : (at : ℕ) → Callee → Translates (Unit {0})
 declare_callee at callee = λ s. drawn tt (record s { callees = (at, callee) ∷ s.callees })
 
-abbrev pub home_at : (at : ℕ) → Acts (Option Home)
+abbrev pub home_at : (at : ℕ) → Translates (Option Home)
 home_at at = λ s. drawn (named at s.homes) s
 
-abbrev pub callee_at : (at : ℕ) → Acts (Option Callee)
+abbrev pub callee_at : (at : ℕ) → Translates (Option Callee)
 callee_at at = λ s. drawn (named at s.callees) s

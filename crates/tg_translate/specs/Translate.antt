@@ -50,7 +50,7 @@ use Rattle.tg_types.specs.declared.notes.Means.{Means}
 use Rattle.tg_translate.specs.declared.wants.Want.{Want}
 use Rattle.tg_translate.specs.declared.wants.Want.TheVariants as want
 use Rattle.tg_translate.specs.declared.homes.Within.{Within}
-use Rattle.tg_translate.specs.States.{Acts, ◌>>=◌, ◌>>◌, give, next_label}
+use Rattle.tg_translate.specs.States.{Translates, ◌>>=◌, ◌>>◌, give, next_label}
 use Rattle.tg_translate.specs.Wants.{
   Made,
   value,
@@ -112,7 +112,7 @@ use Rattle.tg_translate.specs.Functions.{
   program,
 }
 
-abbrev pub connective : Op → Want → tree.Cond → (right : Want → Acts Made) → Acts Made
+abbrev pub connective : Op → Want → tree.Cond → (right : Want → Translates Made) → Translates Made
 connective op want.Test c right = do
   m ← right want.Test
   give (tested op c m)
@@ -123,7 +123,8 @@ connective op w c right = do
 
 -- an operator whose left side is translated
 abbrev pub with_left :
-    Op → Option Means → (direct : Bool) → Want → Made → (right : Want → Acts Made) → Acts Made
+    Op → Option Means → (direct : Bool) → Want → Made → (right : Want → Translates Made) →
+    Translates Made
 with_left And meaning direct w left right = connective And w (test_of left) right
 with_left Or meaning direct w left right = connective Or w (test_of left) right
 with_left op meaning direct w left right = do
@@ -134,7 +135,7 @@ with_left op meaning direct w left right = do
 -- A choice between two arms. Where a condition is wanted and the second arm is 0, it is one of two
 -- conditions, as `&` is.
 abbrev pub chosen_arm :
-    Want → tree.Cond → (this other : Want → Acts Made) → Acts Made
+    Want → tree.Cond → (this other : Want → Translates Made) → Translates Made
 chosen_arm w c this other = do
   v ← arms w
   s ← arm_from v (this v)
@@ -150,26 +151,27 @@ is_conjunction want.Test b = is_zero b
 is_conjunction _ b = false
 
 abbrev pub choice :
-    (conjunction : Bool) → Want → tree.Cond → (this other : Want → Acts Made) → Acts Made
+    (conjunction : Bool) → Want → tree.Cond → (this other : Want → Translates Made) →
+    Translates Made
 choice true w c this other = connective And w c this
 choice false w c this other = chosen_arm w c this other
 
 -- A value is assigned to a place. Where it begins with a read of that place, as in `v := v + 1`,
 -- the place is found and checked once.
-abbrev pub assigned : Storage → (value : Want → Acts Made) → Acts Ts
+abbrev pub assigned : Storage → (value : Want → Translates Made) → Translates Ts
 assigned place e = do
   m ← e (want_for place)
   assign place m
 
-abbrev pub updated : Storage → (value : (read : Tx) → Want → Acts Made) → Acts Ts
+abbrev pub updated : Storage → (value : (read : Tx) → Want → Translates Made) → Translates Ts
 updated place e = do
   held ← hold_place place
   m ← e (read_held held) (want_for (place_held held))
   assign (place_held held) m
 
 abbrev pub assignment :
-    (reads_first : Bool) → Storage → (value : Want → Acts Made) →
-    (value_behind : (read : Tx) → Want → Acts Made) → Acts Ts
+    (reads_first : Bool) → Storage → (value : Want → Translates Made) →
+    (value_behind : (read : Tx) → Want → Translates Made) → Translates Ts
 assignment true place e behind = updated place behind
 assignment false place e behind = assigned place e
 
@@ -178,7 +180,8 @@ pub record Begun : Type 0 where
   pub last : Made
 
 -- a variable is declared, and becomes a value that doesn't see it
-abbrev pub declaration_of : (escapes : ℕ → Bool) → (level at : ℕ) → (Want → Acts Made) → Acts Ts
+abbrev pub declaration_of : (escapes : ℕ → Bool) → (level at : ℕ) → (Want → Translates Made) →
+    Translates Ts
 declaration_of escapes level at e = do
   home ← declare_variable (escapes at) level at
   m ← e (want_for (own_place home))
@@ -186,7 +189,7 @@ declaration_of escapes level at e = do
 
 module _ (findings : Findings) where
   abbrev mutual
-    pub expression : Exp → Want → Within → Acts Made
+    pub expression : Exp → Want → Within → Translates Made
     expression (Nil _) w within = give (value (Const 0))
     expression (Int _ n) w within = give (value (Const n))
     expression (Break _) w within = give (done (tree.Break within.leave))
@@ -243,13 +246,13 @@ module _ (findings : Findings) where
       behind w begun.before begun.last
 
     -- an expression that begins with a read, whose value is known
-    pub behind_read : Exp → (read : Tx) → Want → Within → Acts Made
+    pub behind_read : Exp → (read : Tx) → Want → Within → Translates Made
     behind_read (Binary _ op at a b) x w within = do
       left ← behind_read a x (left_want op) within
       with_left op (findings.meaning at) (assigns_nothing b) w left (λ v. expression b v within)
     behind_read _ x w within = give (value x)
 
-    pub locate : source.LValue → Within → Acts Storage
+    pub locate : source.LValue → Within → Translates Storage
     locate (Simple x) within = variable_place within (findings.meaning (at_of x))
     locate (Field v f) within = do
       place ← locate v within
@@ -260,14 +263,14 @@ module _ (findings : Findings) where
       element_place (assigns_nothing e) (read place) y
 
     -- arguments, from the left, behind those before them
-    pub values : Exps → Txs → Within → Acts Txs
+    pub values : Exps → Txs → Within → Translates Txs
     values no_exps before within = give before
     values (exp e rest) before within = do
       x ← value_from (expression e want.Value within)
       values rest (join_txs before (tx x no_txs)) within
 
     -- fields of a creation, from the left, which are kept behind those before them
-    pub fields : Inits → (direct : Bool) → HeldAll → Within → Acts HeldAll
+    pub fields : Inits → (direct : Bool) → HeldAll → Within → Translates HeldAll
     fields no_inits direct before within = give before
     fields (init _ e rest) direct before within = do
       x ← value_from (expression e want.Value within)
@@ -275,7 +278,7 @@ module _ (findings : Findings) where
       fields rest direct more within
 
     -- all but the last are dropped; the last is what its place wants
-    pub sequence : Exps → Want → Stms → Within → Acts Begun
+    pub sequence : Exps → Want → Stms → Within → Translates Begun
     sequence no_exps w before within =
         give (record { before = before; last = value (Const 0) })
     sequence (exp e no_exps) w before within = do
@@ -285,7 +288,7 @@ module _ (findings : Findings) where
       s ← statement_from (expression e want.Dropped within)
       sequence (exp f rest) w (followed before s) within
 
-    pub declarations : Decs → Stms → Within → Acts Stms
+    pub declarations : Decs → Stms → Within → Translates Stms
     declarations no_decs before within = give before
     declarations (types _ rest) before within = declarations rest before within
     declarations (variable x _ e rest) before within = do
@@ -298,14 +301,14 @@ module _ (findings : Findings) where
       declarations rest before within
 
     -- the functions of a group, whose labels go up from this one
-    pub bodies : FunDecs → (label : ℕ) → Within → Acts (Unit {0})
+    pub bodies : FunDecs → (label : ℕ) → Within → Translates (Unit {0})
     bodies no_functions label within = give tt
     bodies (function f params result e rest) label within = do
       body label findings.escapes findings.keeps_link (at_of f) (is_some result) params
           (λ w v. expression e w v) within
       bodies rest (label + 1) within
 
-abbrev pub program_body : Findings → Exp → Acts Ts
+abbrev pub program_body : Findings → Exp → Translates Ts
 program_body findings e = do
   m ← expression findings e want.Dropped outermost
   closing false m

@@ -25,7 +25,7 @@ use Rattle.tg_translate.specs.declared.wants.Want.{Want}
 use Rattle.tg_translate.specs.declared.wants.Want.TheVariants.{Into, Dropped}
 use Rattle.tg_translate.specs.declared.wants.Made.{Made as CodeMade}
 use Rattle.tg_translate.specs.declared.wants.Made.TheVariants as code
-use Rattle.tg_translate.specs.States.{Acts, ◌>>=◌, give, fresh}
+use Rattle.tg_translate.specs.States.{Translates, ◌>>=◌, give, fresh}
 
 -- a statement has no value, or it has put it where it was wanted
 pub data Made : Type 0 where
@@ -42,7 +42,7 @@ plain_made (code.Test c) = test (plain_cond c)
 abbrev pub truth_into : (temp : ℕ) → Cond → Ts
 truth_into t c = If c (Move t (Const 1)) (Move t (Const 0))
 
-abbrev pub value_of : Made → Acts Tx
+abbrev pub value_of : Made → Translates Tx
 value_of (value x) = give x
 value_of (done s) = give (After s (Const 0))
 value_of (test c) = do
@@ -69,7 +69,7 @@ test_of (done s) = is_true (After s (Const 0))
 test_of (test c) = c
 
 -- What stands in one of several ways, as the arms of an `if`, goes into a temporary or is dropped.
-abbrev pub arms : Want → Acts Want
+abbrev pub arms : Want → Translates Want
 arms (Into t) = give (Into t)
 arms Dropped = give Dropped
 arms _ = do
@@ -105,26 +105,26 @@ abbrev pub done_behind : Want → Stms → Made → Made
 done_behind want ss m = done (Seq (followed ss (as_statement want m)))
 
 -- what was made, behind statements
-abbrev pub behind_some : Want → Stms → Made → Acts Made
+abbrev pub behind_some : Want → Stms → Made → Translates Made
 behind_some (Into t) ss m = give (done_behind (Into t) ss m)
 behind_some Dropped ss m = give (done_behind Dropped ss m)
 behind_some _ ss m = do
   x ← value_of m
   give (value_behind ss x)
 
-abbrev pub behind : Want → Stms → Made → Acts Made
+abbrev pub behind : Want → Stms → Made → Translates Made
 behind want ss m = if is_none ss then give m else behind_some want ss m
 
 -- what an expression's place makes of it
 
-abbrev pub value_from : Acts Made → Acts Tx
+abbrev pub value_from : Translates Made → Translates Tx
 value_from m = m >>= value_of
 
-abbrev pub condition_from : Acts Made → Acts Cond
+abbrev pub condition_from : Translates Made → Translates Cond
 condition_from m = m >>= λ c. give (test_of c)
 
-abbrev pub arm_from : (arms : Want) → Acts Made → Acts Ts
+abbrev pub arm_from : (arms : Want) → Translates Made → Translates Ts
 arm_from arms m = m >>= λ s. give (as_statement arms s)
 
-abbrev pub statement_from : Acts Made → Acts Ts
+abbrev pub statement_from : Translates Made → Translates Ts
 statement_from m = m >>= λ s. give (dropped s)

@@ -23,7 +23,7 @@ use Rattle.tg_types.proofs.Derivations.{checked_has_type}
 use Rattle.tg_types.proofs.NotesFound.{notes_are_found}
 use Rattle.tg_shapes.proofs.Counts.{same, times, times-append, same_self, same_not}
 use Rattle.tg_translate.specs.declared.wants.Want.TheVariants as want
-use Rattle.tg_translate.specs.States.{TranslationState, Drawn}
+use Rattle.tg_translate.specs.States.{TranslationState, Translated}
 use Rattle.tg_translate.specs.Scopes.{Findings}
 use Rattle.tg_translate.specs.Wants.{Made}
 use Rattle.tg_translate.specs.Functions as functions
@@ -194,7 +194,7 @@ module _ (findings : Findings) (table : Table) (weight : (at : ℕ) → ℕ) (sh
 -- An accepted program.
 module _ (p : CheckedProgram) (a : IsAccepted p) where
   -- the translation of its body, the last state, and what that has found
-  abbrev pub body_drawn : Drawn Made
+  abbrev pub body_drawn : Translated Made
   body_drawn = expression (findings_of p) p.body want.Dropped functions.outermost first_state
 
   abbrev pub last : TranslationState

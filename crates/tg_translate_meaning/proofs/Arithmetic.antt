@@ -32,7 +32,7 @@ use Rattle.tg_tree.specs.Operators.{exactly, holds}
 use Rattle.tg_tree.specs.Actions.{World, Temps, Go, with_given}
 use Rattle.tg_translate.specs.declared.homes.Within.{Within}
 use Rattle.tg_translate.specs.declared.wants.Want.{Want}
-use Rattle.tg_translate.specs.States.{TranslationState, drawn, Acts, give}
+use Rattle.tg_translate.specs.States.{TranslationState, drawn, Translates, give}
 use Rattle.tg_translate.specs.Wants.{Made, value, test}
 use Rattle.tg_translate.specs.Constructs.{comparison, operation}
 use Rattle.tg_translate.specs.Scopes.{compares_strings}
@@ -62,7 +62,7 @@ within_small z v e = by (is_word z) refl e
 
 module _ (P : Program) (set : Setting P) (grow : StatesGrow P) where
   -- a word that is exact, or overflow
-  pub exactly_follows : {made_by : Want → Within → Acts Made} → (n : ℕ) (E : Exp) (x : SituationBy P n E made_by) (r0 k : ℕ) (le0 : x.r ≤ r0) (c : Behind P set grow n E x (at_begin P set grow n E x r0 le0)) (go' : Go ℕ) (o : Option ℕ) →
+  pub exactly_follows : {made_by : Want → Within → Translates Made} → (n : ℕ) (E : Exp) (x : SituationBy P n E made_by) (r0 k : ℕ) (le0 : x.r ≤ r0) (c : Behind P set grow n E x (at_begin P set grow n E x r0 le0)) (go' : Go ℕ) (o : Option ℕ) →
       x.r + left_over ≤ k → x.ty ≡ int_type → ((v : ℕ) → o ≡ Some v → v < 2 ^ 32) →
       Onward P {A = ℕ} n (x.r + left_over) x.p x.h x.types (λ g v u. IsWanted g x.wanted v x.ty u) x.go go' →
       FollowsHere P k n (rest_run (evaluation.exactly Passing (passing P.heap P.stack) o x.go x.out) c.s) (with_given (exactly o) c.w (λ v. go' v c.w c.t))

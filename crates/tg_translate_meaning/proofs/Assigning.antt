@@ -23,7 +23,7 @@ use Rattle.tg_tree.specs.Actions as actions
 use Rattle.tg_tree.proofs.Alikes.{runs_in_turn}
 use Rattle.tg_translate.specs.declared.wants.Want.{Want}
 use Rattle.tg_translate.specs.declared.wants.Want.TheVariants as want
-use Rattle.tg_translate.specs.States.{TranslationState, drawn, Acts, after}
+use Rattle.tg_translate.specs.States.{TranslationState, drawn, Translates, after}
 use Rattle.tg_translate.specs.Wants.{Made, value, done, value_of, put_in, followed, as_statement, value_from, arm_from}
 use Rattle.tg_translate.specs.Constructs.{Storage, in_temp, at_address, want_for, assign, store_at}
 use Rattle.tg_translate.specs.Updates.{begins_with}
@@ -224,7 +224,7 @@ module _ (P : Program) (set : Setting P) (needs : Needs P) (grow : StatesGrow P)
           literals = b.holds.literals;
         }) tt)))))
 
-    abbrev E_of : Want → Acts Made
+    abbrev E_of : Want → Translates Made
     E_of w = λ s. expression P.findings e w x.p.within s
 
     pub by_place : (storage : Storage) (s1 : TranslationState) → locate P.findings v x.p.within x.σ ≡ drawn storage s1 →

@@ -12,7 +12,7 @@ use Rattle.tg_runs.specs.Runs.{Run}
 use Rattle.tg_runs.specs.Agreement.{Source}
 use Rattle.tg_runs.proofs.Following.{follows_along}
 use Rattle.tg_meaning.specs.Values.{Value, SourceWorld, add_weight, drop_weight, go_deeper, go_back}
-use Rattle.tg_meaning.specs.Environments.{Function as SourceFunction}
+use Rattle.tg_meaning.specs.Environments.{SourceFunction}
 use Rattle.tg_meaning.specs.Evaluation as evaluation
 use Rattle.tg_meaning.specs.Evaluation.{Job, run_function}
 use Rattle.tg_meaning.specs.Levels.{function_weight}

@@ -14,7 +14,7 @@ use Rattle.tg_runs.specs.Outcomes.{out_of_fuel, passes_limit, reaches}
 use Rattle.tg_runs.specs.Agreement.{Source}
 use Rattle.tg_runs.proofs.Following.{follows_working, follows_passing, follows_reaching, follows_full, follows_turn, follows_less, follows_along}
 use Rattle.tg_meaning.specs.Values.{Value, SourceWorld, add_weight, go_deeper}
-use Rattle.tg_meaning.specs.Environments.{to_function, Function as SourceFunction}
+use Rattle.tg_meaning.specs.Environments.{to_function, SourceFunction}
 use Rattle.tg_meaning.specs.Evaluation as evaluation
 use Rattle.tg_meaning.specs.Evaluation.{Job, run_function}
 use Rattle.tg_meaning.specs.Passing.{Rest, Passing, passing, with_turn, over_in}

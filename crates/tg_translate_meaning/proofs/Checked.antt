@@ -29,7 +29,7 @@ use Rattle.tg_runtime_meaning.proofs.Running.{with_runtime_behind}
 use Rattle.tg_translate.specs.declared.homes.Home.{Home}
 use Rattle.tg_translate.specs.declared.homes.Callee.{Callee}
 use Rattle.tg_translate.specs.declared.wants.Want.TheVariants as want
-use Rattle.tg_translate.specs.States.{TranslationState, Drawn, drawn, after}
+use Rattle.tg_translate.specs.States.{TranslationState, Translated, drawn, after}
 use Rattle.tg_translate.specs.Wants.{Made}
 use Rattle.tg_translate.specs.Functions as functions
 use Rattle.tg_translate.specs.Functions.{with_body, gives_nothing, closing, program, program_of}
@@ -163,13 +163,13 @@ slot_is (InTemp t) h = cc
 slot_is (InFrame k) h = (k, refl)
 
 -- what a translated body leaves
-whole_program : (d : Drawn Made) → program (after d (λ m. closing false m)) ≡ program_of (state_in d) (gives_nothing (made_in d))
+whole_program : (d : Translated Made) → program (after d (λ m. closing false m)) ≡ program_of (state_in d) (gives_nothing (made_in d))
 whole_program (drawn m t) = refl
 
-pub drawn_is : (d : Drawn Made) → d ≡ drawn (made_in d) (state_in d)
+pub drawn_is : (d : Translated Made) → d ≡ drawn (made_in d) (state_in d)
 drawn_is (drawn m t) = refl
 
-ready_left : (asks : Asks) (c : Where) (s : TranslationState) (V : TranslationState → Made → Type 0) (d : Drawn Made) → Yields asks c s V d →
+ready_left : (asks : Asks) (c : Where) (s : TranslationState) (V : TranslationState → Made → Type 0) (d : Translated Made) → Yields asks c s V d →
     Ready asks c (state_in d)
 ready_left asks c s V (drawn m t) h = h.ready
 

@@ -21,7 +21,7 @@ use Rattle.tg_tree.specs.Actions.{World, Temps, set_temp, Go, Next, with_word}
 use Rattle.tg_translate.specs.declared.homes.Within.{Within}
 use Rattle.tg_translate.specs.declared.wants.Want.{Want}
 use Rattle.tg_translate.specs.declared.wants.Want.TheVariants as want
-use Rattle.tg_translate.specs.States.{TranslationState, drawn, Acts, after, with_frame, one_temp}
+use Rattle.tg_translate.specs.States.{TranslationState, drawn, Translates, after, with_frame, one_temp}
 use Rattle.tg_translate.specs.Wants.{Made, value, done, test, arms, arm_from, deliver, condition_from, statement_from}
 use Rattle.tg_translate.specs.Purity.{assigns_nothing}
 use Rattle.tg_translate.specs.Translate.{expression, chosen_arm, choice, is_conjunction}
@@ -46,7 +46,7 @@ later_fresh s = record { temps = omega arith; slots = omega arith; homes = behin
 
 module _ (P : Program) (set : Setting P) (grow : StatesGrow P) (n : ℕ) where
   -- A test and what it leads to: one of two statements, from 200 units on.
-  module _ (E c : Exp) (side : LeftSide P n c) {made_by : Want → Within → Acts Made} (x : SituationBy P n E made_by)
+  module _ (E c : Exp) (side : LeftSide P n c) {made_by : Want → Within → Translates Made} (x : SituationBy P n E made_by)
       (piece_c : LeftPiece P set grow n E x c side int_type) where
     pub low : x.r ≤ x.r + 200
     low = omega arith
@@ -123,7 +123,7 @@ module _ (P : Program) (set : Setting P) (grow : StatesGrow P) (n : ℕ) where
         (onward b.h b.types (int k) 0 b.s b.w b.t b.grows b.extends b.holds tt))
 
   -- What both arms lead to, as what is wanted of the choice.
-  module _ (E : Exp) {made_by : Want → Within → Acts Made} (x : SituationBy P n E made_by) where
+  module _ (E : Exp) {made_by : Want → Within → Translates Made} (x : SituationBy P n E made_by) where
     -- the statement of the choice, whose value goes into a temporary; or is dropped
     abbrev pub FollowsInto : Run Source → (into : ℕ) → Ts → Type 0
     FollowsInto source into s =

@@ -21,7 +21,7 @@ use Rattle.tg_tree.specs.Shapes.{is_flat}
 use Rattle.tg_tree.specs.Units.{Trees, lifted_units}
 use Rattle.tg_tree.specs.Operators.{holds}
 use Rattle.tg_tree.specs.Actions.{Go}
-use Rattle.tg_translate.specs.States.{drawn, Acts, give}
+use Rattle.tg_translate.specs.States.{drawn, Translates, give}
 use Rattle.tg_translate.specs.Wants.{Made, test}
 use Rattle.tg_translate.specs.Constructs.{comparison}
 use Rattle.tg_translate.specs.Scopes.{compares_strings}
@@ -47,7 +47,7 @@ module _ (P : Program) (set : Setting P) (grow : StatesGrow P) (n : ℕ) (sp : S
     abbrev pub E_ : Exp
     E_ = Binary sp o at a b
 
-    abbrev pub F_ : Tx → Tx → Acts Made
+    abbrev pub F_ : Tx → Tx → Translates Made
     F_ l r = give (test (comparison o (compares_strings (P.findings.meaning at)) l r))
 
     abbrev pub goes_on : Value → Value → Rest

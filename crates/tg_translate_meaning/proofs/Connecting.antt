@@ -15,7 +15,7 @@ use Rattle.tg_tree.specs.Tree as tree
 use Rattle.tg_tree.specs.Tree.{Temp, Const, Cond, Ts}
 use Rattle.tg_translate.specs.declared.wants.Want.{Want}
 use Rattle.tg_translate.specs.declared.wants.Want.TheVariants as want
-use Rattle.tg_translate.specs.States.{TranslationState, drawn, Acts, after, with_frame, one_temp}
+use Rattle.tg_translate.specs.States.{TranslationState, drawn, Translates, after, with_frame, one_temp}
 use Rattle.tg_translate.specs.Wants.{Made, value, done, test, test_of, put_in, dropped, condition_from}
 use Rattle.tg_translate.specs.Translate.{expression, connective}
 use Rattle.tg_translate_meaning.specs.Tables.{Later}

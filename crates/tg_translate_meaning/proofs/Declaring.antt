@@ -30,7 +30,7 @@ use Rattle.tg_tree.specs.Actions.{World, Temps, set_temp, Go, Next, with_memory}
 use Rattle.tg_translate.specs.declared.homes.Home.{Home}
 use Rattle.tg_translate.specs.declared.wants.Want.{Want}
 use Rattle.tg_translate.specs.declared.wants.Want.TheVariants as want
-use Rattle.tg_translate.specs.States.{TranslationState, drawn, Acts, after, one_temp, one_slot}
+use Rattle.tg_translate.specs.States.{TranslationState, drawn, Translates, after, one_temp, one_slot}
 use Rattle.tg_translate.specs.Wants.{Made, value_of, put_in}
 use Rattle.tg_translate.specs.Constructs.{slot_address}
 use Rattle.tg_translate.specs.Translate.{expression, declaration_of}
@@ -174,7 +174,7 @@ module _ (P : Program) (set : Setting P) where
     to_slot : Later k.σ slot_state
     to_slot = record { temps = omega arith; slots = omega arith; homes = record { more = (at_of x, record { level = k.p.within.level; access = InFrame k.σ.frame.slots }) ∷ []; whole_is = refl }; callees = behind_none; literals = front_none; functions = front_none }
 
-    abbrev E_of : Want → Acts Made
+    abbrev E_of : Want → Translates Made
     E_of v = λ s. expression P.findings e v k.p.within s
 
     in_temporary : (one : Ts) (u : TranslationState) → declaration_of (λ _. false) k.p.within.level (at_of x) E_of k.σ ≡ drawn one u → Later u k.τ → (rest : (place : ℕ) → Rest) (next : Next) → DeclaredOnward u rest next →

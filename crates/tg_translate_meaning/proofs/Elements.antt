@@ -29,7 +29,7 @@ use Rattle.tg_tree.specs.Actions.{World, Temps, Go, Next, charged, with_word}
 use Rattle.tg_runtime_meaning.proofs.Signs.{not_negative}
 use Rattle.tg_translate.specs.declared.operands.Operand.{Operand}
 use Rattle.tg_translate.specs.declared.wants.Want.TheVariants as want
-use Rattle.tg_translate.specs.States.{TranslationState, Acts, drawn, after}
+use Rattle.tg_translate.specs.States.{TranslationState, Translates, drawn, after}
 use Rattle.tg_translate.specs.Wants.{Made, value_of, value_from}
 use Rattle.tg_translate.specs.Constructs.{Storage, in_temp, at_address, read, operand, index_check, element, element_place, element_of, hold, keep, after_all, Held}
 use Rattle.tg_translate.specs.Purity.{assigns_nothing, place_assigns_nothing}
@@ -386,7 +386,7 @@ module _ (P : Program) (set : Setting P) (needs : Needs P) (grow : StatesGrow P)
         (addressed x.p l o u z (x.r + left_over) n (rest_run (x.go k) s4) go' w4 t4 is_l is_o few fits (onward g ms k (u + 4 + 4 * z) s4 w4 t4 gg ee hh at)))
 
     -- the index is held behind the array
-    abbrev after_hold : Stms → Operand → Tx → Acts Storage
+    abbrev after_hold : Stms → Operand → Tx → Translates Storage
     after_hold before a y s = after (hold true before y s) (λ (h : Held) s2. drawn (element_of h.before (operand a) (operand h.operand)) s2)
 
     -- what its translation is

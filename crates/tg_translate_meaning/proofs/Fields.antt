@@ -27,7 +27,7 @@ use Rattle.tg_tree.specs.Operators.{word, operate}
 use Rattle.tg_tree.specs.FlatValue.{or_wrong, onward}
 use Rattle.tg_tree.specs.Forms.{nothing as nothing_done}
 use Rattle.tg_tree.specs.Actions.{World, Temps, set_temp, Go, Next, charged, with_word}
-use Rattle.tg_translate.specs.States.{TranslationState, Drawn, drawn, after, with_frame, one_temp}
+use Rattle.tg_translate.specs.States.{TranslationState, Translated, drawn, after, with_frame, one_temp}
 use Rattle.tg_translate.specs.Constructs.{Storage, in_temp, at_address, read, plus, nil_check, field_place, field_of, hold, keep, after_all, Held, operand}
 use Rattle.tg_translate.specs.Scopes.{field_number}
 use Rattle.tg_translate.specs.Translate.{locate}

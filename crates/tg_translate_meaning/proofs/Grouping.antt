@@ -22,7 +22,7 @@ use Rattle.tg_tree.specs.Tree.{Ts, Function}
 use Rattle.tg_tree.specs.Running.{function_of}
 use Rattle.tg_translate.specs.declared.homes.Callee.{Callee}
 use Rattle.tg_translate.specs.declared.homes.Within.{Within}
-use Rattle.tg_translate.specs.States.{TranslationState, Frame, Drawn, drawn, after}
+use Rattle.tg_translate.specs.States.{TranslationState, Frame, Translated, drawn, after}
 use Rattle.tg_translate.specs.Functions.{at_of, asked, frame_for, opened, with_body, finish, finished, body, body_in, declare_functions}
 use Rattle.tg_translate.specs.Translate.{expression, bodies}
 use Rattle.tg_translate_meaning.specs.Covered.{Keeping, CoversFunctions}
@@ -147,7 +147,7 @@ module _ (P : Program) (set : Setting P) where
       frame : Frame
       frame = frame_for label (asked P.findings.escapes (P.findings.keeps_link (at_of f)) ps)
 
-      by : (d : Drawn Ts) → body_in frame ps kept has_result (λ w v. expression P.findings e w v) within (opened s frame) ≡ d →
+      by : (d : Translated Ts) → body_in frame ps kept has_result (λ w v. expression P.findings e w v) within (opened s frame) ≡ d →
           finish s d ≡ drawn c s2 → TextDone label f ps has_result e within s
       by (drawn text last) is e2 =
           let here : IsMoment P.table P.code (finished s.functions s.frame last text) = subst (λ o. IsMoment P.table P.code o) (sym (ap state_in e2)) m in

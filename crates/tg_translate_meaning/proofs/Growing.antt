@@ -25,7 +25,7 @@ use Rattle.tg_translate.specs.declared.held.HeldAddress.{HeldAddress}
 use Rattle.tg_translate.specs.declared.held.HeldAddress.TheVariants.{Beside, At}
 use Rattle.tg_translate.specs.declared.wants.Want.{Want}
 use Rattle.tg_translate.specs.declared.wants.Want.TheVariants as want
-use Rattle.tg_translate.specs.States.{TranslationState, Acts, Drawn, drawn, after, give, Frame, with_frame, one_temp, local}
+use Rattle.tg_translate.specs.States.{TranslationState, Translates, Translated, drawn, after, give, Frame, with_frame, one_temp, local}
 use Rattle.tg_translate.specs.Wants.{Made, value, done, test, value_of, test_of, dropped}
 use Rattle.tg_translate.specs.Wants.{arms, as_statement, deliver, behind, behind_some, value_behind, followed}
 use Rattle.tg_translate.specs.Constructs.{Storage, in_temp, at_address, HeldAll, none_held, hold, hold_next, assign, hold_base, hold_address, hold_place}
@@ -57,7 +57,7 @@ frame_same : {s t : TranslationState} → t.frame.label ≡ s.frame.label → t.
 frame_same a b c = record { label = a; params = b; out = c }
 
 -- what is drawn from a state on leaves a later one
-pub record Growing {A : Type 0} (d : Drawn A) (s : TranslationState) : Type 0 where
+pub record Growing {A : Type 0} (d : Translated A) (s : TranslationState) : Type 0 where
   pub on : Later s (state_in d)
   pub frame : FrameStays s (state_in d)
 
@@ -69,7 +69,7 @@ pub nothing_grows : {A : Type 0} {a : A} {s : TranslationState} → Growing (dra
 nothing_grows = stays
 
 -- actions, one after another
-pub then_grows : {A B : Type 0} {s : TranslationState} {d : Drawn A} {next : A → Acts B} → Growing d s →
+pub then_grows : {A B : Type 0} {s : TranslationState} {d : Translated A} {next : A → Translates B} → Growing d s →
     ((a : A) (t : TranslationState) → Growing (next a t) t) →
     Growing (after d next) s
 then_grows {s = s} {d = drawn a t} {next = next} h k = record {
@@ -126,7 +126,7 @@ behind_grows : (w : Want) (ss : Stms) (m : Made) (s : TranslationState) → Grow
 behind_grows w no_stms m s = stays
 behind_grows w (stm x ss) m s = behind_some_grows w (stm x ss) m s
 
-module _ {s : TranslationState} {d : Drawn Made} (h : Growing d s) where
+module _ {s : TranslationState} {d : Translated Made} (h : Growing d s) where
   value_from_grows : Growing (after d value_of) s
   value_from_grows = then_grows h (λ m t. value_grows m t)
 
@@ -214,7 +214,7 @@ pub home_grows : (escapes : Bool) (s : TranslationState) → Growing (local esca
 home_grows escapes s = local_grows escapes s
 
 -- with these homes before those that there are
-pub homes_grow : {A : Type 0} {d : Drawn A} (s : TranslationState) (homes : List (ℕ × Home)) → IsBehind homes s.homes →
+pub homes_grow : {A : Type 0} {d : Translated A} (s : TranslationState) (homes : List (ℕ × Home)) → IsBehind homes s.homes →
     Growing d (record s { homes = homes }) → Growing d s
 homes_grow {d = drawn a t} s homes h k = record {
   on =
@@ -244,7 +244,7 @@ call_grows within (Some (means.Function at)) xs s = stays
 call_grows within (Some (means.Standard f)) xs s = stays
 call_grows within m xs s = stays
 
-pub callee_grows : {A : Type 0} {d : Drawn A} (s : TranslationState) (at : ℕ) (callee : Callee) →
+pub callee_grows : {A : Type 0} {d : Translated A} (s : TranslationState) (at : ℕ) (callee : Callee) →
     Growing d (record s { label = s.label + 1; callees = (at, callee) ∷ s.callees }) → Growing d s
 callee_grows {d = drawn a t} s at callee k = record {
   on =
@@ -278,7 +278,7 @@ closing_grows true m s = then_grows (value_grows m s) (λ x t. stays)
 closing_grows false m s = stays
 
 -- a text inside, and the function that is made of it
-pub done_grows : (s : TranslationState) (label : ℕ) (asks : List Bool) (d : Drawn Ts) → Growing d (opened s (frame_for label asks)) →
+pub done_grows : (s : TranslationState) (label : ℕ) (asks : List Bool) (d : Translated Ts) → Growing d (opened s (frame_for label asks)) →
     Growing (finish s d) s
 done_grows s label asks (drawn x u) h = record {
   on =
@@ -294,7 +294,7 @@ done_grows s label asks (drawn x u) h = record {
 }
 
 -- Everything that takes a part's translation grows where the part does.
-module _ {right : Want → Acts Made} (grows : (w : Want) (s : TranslationState) → Growing (right w s) s) where
+module _ {right : Want → Translates Made} (grows : (w : Want) (s : TranslationState) → Growing (right w s) s) where
   into_arms_grow : (o : Op) (w : Want) (c : Cond) (s : TranslationState) →
       Growing (after (arms w s) (λ a t. after (right a t) (λ m. give (deliver w a (chosen o a c m))))) s
   into_arms_grow o w c s = then_grows (arms_grow w s) (λ a t. then_grows (grows a t) (λ m u. stays))
@@ -323,7 +323,7 @@ module _ {right : Want → Acts Made} (grows : (w : Want) (s : TranslationState)
   declaration_grows escapes level at s =
       then_grows (declare_grows (escapes at) level at s) (λ home t. then_grows (grows (want_for (own_place home)) t) (λ m u. assign_grows (own_place home) m u))
 
-module _ {this other : Want → Acts Made} (this_grows : (w : Want) (s : TranslationState) → Growing (this w s) s)
+module _ {this other : Want → Translates Made} (this_grows : (w : Want) (s : TranslationState) → Growing (this w s) s)
     (other_grows : (w : Want) (s : TranslationState) → Growing (other w s) s) where
   chosen_grows : (w : Want) (c : Cond) (s : TranslationState) → Growing (chosen_arm w c this other s) s
   chosen_grows w c s =
@@ -334,20 +334,20 @@ module _ {this other : Want → Acts Made} (this_grows : (w : Want) (s : Transla
   choice_grows true w c s = connective_grows this_grows op.And w c s
   choice_grows false w c s = chosen_grows w c s
 
-updated_grows : {right : Tx → Want → Acts Made} → ((x : Tx) (w : Want) (s : TranslationState) → Growing (right x w s) s) →
+updated_grows : {right : Tx → Want → Translates Made} → ((x : Tx) (w : Want) (s : TranslationState) → Growing (right x w s) s) →
     (p : Storage) (s : TranslationState) →
     Growing (updated p right s) s
 updated_grows grows p s =
     then_grows (hold_place_grows p s) (λ held t. then_grows (grows (read_held held) (want_for (place_held held)) t) (λ m u. assign_grows (place_held held) m u))
 
-assignment_grows : {right : Want → Acts Made} {again : Tx → Want → Acts Made} → ((w : Want) (s : TranslationState) → Growing (right w s) s) →
+assignment_grows : {right : Want → Translates Made} {again : Tx → Want → Translates Made} → ((w : Want) (s : TranslationState) → Growing (right w s) s) →
     ((x : Tx) (w : Want) (s : TranslationState) → Growing (again x w s) s) → (first : Bool) (p : Storage) (s : TranslationState) →
     Growing (assignment first p right again s) s
 assignment_grows h k true p s = updated_grows k p s
 assignment_grows h k false p s = assigned_grows h p s
 
 -- a function's text, from its begin
-body_in_grows : {text : Want → Within → Acts Made} → ((w : Want) (within : Within) (s : TranslationState) → Growing (text w within s) s) →
+body_in_grows : {text : Want → Within → Translates Made} → ((w : Want) (within : Within) (s : TranslationState) → Growing (text w within s) s) →
     (f : Frame) (ps : List Param) (kept has_result : Bool) (within : Within) (s : TranslationState) →
     Growing (body_in f ps kept has_result text within s) s
 body_in_grows grows f ps kept has_result within s =
@@ -356,7 +356,7 @@ body_in_grows grows f ps kept has_result within s =
     (then_grows (grows (result_want has_result) (inside within kept) (record s { homes = homes })) (λ m u. closing_grows has_result m u))
 
 -- and in a frame of its own
-body_grows : {text : Want → Within → Acts Made} → ((w : Want) (within : Within) (s : TranslationState) → Growing (text w within s) s) →
+body_grows : {text : Want → Within → Translates Made} → ((w : Want) (within : Within) (s : TranslationState) → Growing (text w within s) s) →
     (label : ℕ) (escapes keeps : ℕ → Bool) (at : ℕ) (has_result : Bool) (ps : List Param) (within : Within) (s : TranslationState) →
     Growing (body label escapes keeps at has_result ps text within s) s
 body_grows grows label escapes keeps at has_result ps within s =
@@ -465,10 +465,10 @@ module _ (findings : Findings) where
         (λ _ t. bodies_grow rest (label + 1) within t)
 
 -- from the translation's equation
-pub grows_by : {A : Type 0} {s t : TranslationState} {a : A} {d : Drawn A} → Growing d s → d ≡ drawn a t → Later s t
+pub grows_by : {A : Type 0} {s t : TranslationState} {a : A} {d : Translated A} → Growing d s → d ≡ drawn a t → Later s t
 grows_by {s = s} h e = subst (λ o. Later s (state_in o)) e h.on
 
-pub frame_by : {A : Type 0} {s t : TranslationState} {a : A} {d : Drawn A} → Growing d s → d ≡ drawn a t → FrameStays s t
+pub frame_by : {A : Type 0} {s t : TranslationState} {a : A} {d : Translated A} → Growing d s → d ≡ drawn a t → FrameStays s t
 frame_by {s = s} h e = subst (λ o. FrameStays s (state_in o)) e h.frame
 
 pub states_grow : (P : Program) → StatesGrow P

@@ -25,7 +25,7 @@ use Rattle.tg_translate.specs.declared.held.HeldAddress.{HeldAddress}
 use Rattle.tg_translate.specs.declared.held.HeldAddress.TheVariants.{InOwnFrame, Beside, At}
 use Rattle.tg_translate.specs.declared.operands.Operand.{Operand}
 use Rattle.tg_translate.specs.declared.operands.Operand.TheVariants.{Number, Kept}
-use Rattle.tg_translate.specs.States.{TranslationState, Acts, drawn, after, with_frame, one_temp}
+use Rattle.tg_translate.specs.States.{TranslationState, Translates, drawn, after, with_frame, one_temp}
 use Rattle.tg_translate.specs.Wants.{followed}
 use Rattle.tg_translate.specs.Constructs.{Storage, in_temp, at_address, place_in, frame_out, link_of, slot_address, read, plus, nil_check, after_all, element}
 use Rattle.tg_translate.specs.Constructs.{field_place, field_of, Held, operand, HeldAt, hold_address, held_address}
@@ -96,7 +96,7 @@ base_length (Kept i) (Number k) = omega arith
 base_length (Kept i) (Kept j) = omega arith
 
 -- how an address is held, by its storage
-abbrev pub hold_of : Storage → Acts HeldAt
+abbrev pub hold_of : Storage → Translates HeldAt
 hold_of (in_temp i) s = drawn (record { before = no_stms; address = At (Number 0) }) s
 hold_of (at_address b a) s = hold_address b a s
 

@@ -16,7 +16,7 @@ use Rattle.tg_tree.specs.Lists.{join_stms}
 use Rattle.tg_tree.specs.Actions.{World, Temps, Next}
 use Rattle.tg_translate.specs.declared.operands.Operand.{Operand}
 use Rattle.tg_translate.specs.declared.wants.Want.TheVariants as want
-use Rattle.tg_translate.specs.States.{TranslationState, Acts, drawn, after}
+use Rattle.tg_translate.specs.States.{TranslationState, Translates, drawn, after}
 use Rattle.tg_translate.specs.Wants.{Made, value, done, test, value_of}
 use Rattle.tg_translate.specs.Constructs.{operand, hold, Held}
 use Rattle.tg_translate.specs.Purity.{assigns_nothing}
@@ -86,11 +86,11 @@ module _ (P : Program) (set : Setting P) (grow : StatesGrow P) (n : ℕ) (sp : S
   left_piece = record { begun = starts; typed = type_a; words = x.words.0; covers = x.covers.0; may_assign = may_left P x.p sp o at a b x.may_assign }
 
   -- what is made of both sides, where they are held
-  abbrev pub held_first : (Stms → Tx → Tx → Acts Made) → Tx → Tx → Acts Made
+  abbrev pub held_first : (Stms → Tx → Tx → Translates Made) → Tx → Tx → Translates Made
   held_first last l r s =
       after (hold direct no_stms l s) (λ (h : Held) s1. after (hold true h.before r s1) (λ (g : Held) s2. last g.before (operand h.operand) (operand g.operand) s2))
 
-  abbrev pub BothSides : (Stms → Tx → Tx → Acts Made) → Type 0
+  abbrev pub BothSides : (Stms → Tx → Tx → Translates Made) → Type 0
   BothSides last = Sides P set grow n operator a b show_a x (held_first last)
 
   -- where a side stands
@@ -112,7 +112,7 @@ module _ (P : Program) (set : Setting P) (grow : StatesGrow P) (n : ℕ) (sp : S
     holds = x.holds;
   }
 
-  module _ (last : Stms → Tx → Tx → Acts Made) (q : BothSides last) where
+  module _ (last : Stms → Tx → Tx → Translates Made) (q : BothSides last) where
     abbrev pub left_as : LeftHeld direct q.left
     left_as = side_held direct q.left
 

@@ -33,7 +33,7 @@ use Rattle.tg_translate.specs.Choices.{left_want}
 use Rattle.tg_translate.specs.Constructs.{comparison, relation}
 use Rattle.tg_translate.specs.Purity.{assigns_nothing}
 use Rattle.tg_translate.specs.Scopes.{compares_strings}
-use Rattle.tg_translate.specs.States.{drawn, Acts, after, give}
+use Rattle.tg_translate.specs.States.{drawn, Translates, after, give}
 use Rattle.tg_translate.specs.Translate.{expression, with_left}
 use Rattle.tg_translate.specs.Wants.{Made, test}
 use Rattle.tg_translate_meaning.specs.Tables.{Later}
@@ -161,7 +161,7 @@ module _ (P : Program) (set : Setting P) (grow : StatesGrow P) (n : ℕ) (sp : S
   comp : Compares o
   comp = identifies_compares o identifies
 
-  abbrev makes : Tx → Tx → Acts Made
+  abbrev makes : Tx → Tx → Translates Made
   makes l r = give (test (comparison o (compares_strings (P.findings.meaning at)) l r))
 
   abbrev left_side : LeftSide P n a
@@ -169,7 +169,7 @@ module _ (P : Program) (set : Setting P) (grow : StatesGrow P) (n : ℕ) (sp : S
 
   sides : Sides P set grow n E_ a b left_side x makes
   sides =
-      let right : Want → Acts Made = λ v. expression P.findings b v x.p.within in
+      let right : Want → Translates Made = λ v. expression P.findings b v x.p.within in
       let meaning = P.findings.meaning at in
       let i = after_inv (expression P.findings a (left_want o) x.p.within x.σ)
       (λ left. with_left o meaning (assigns_nothing b) x.wanted left right) x.m x.τ x.is_made in

@@ -24,7 +24,7 @@ use Rattle.tg_tree.specs.Actions.{World, Temps, set_temp, Go, Next}
 use Rattle.tg_translate.specs.declared.homes.Within.{Within}
 use Rattle.tg_translate.specs.declared.wants.Want.{Want}
 use Rattle.tg_translate.specs.declared.wants.Want.TheVariants as want
-use Rattle.tg_translate.specs.States.{TranslationState, drawn, Acts, after, with_frame, one_temp}
+use Rattle.tg_translate.specs.States.{TranslationState, drawn, Translates, after, with_frame, one_temp}
 use Rattle.tg_translate.specs.Wants.{Made, value, done, test, test_of, put_in, dropped, arm_from, condition_from, statement_from}
 use Rattle.tg_translate.specs.Purity.{assigns_nothing}
 use Rattle.tg_translate.specs.Translate.{expression, choice, is_conjunction, is_zero, connective}
@@ -67,7 +67,7 @@ module _ (P : Program) (set : Setting P) (grow : StatesGrow P) (n : ℕ) where
       let i = after_inv (side.by want.Test p.within s) _ c τ made in
       subst (λ o. Later s o) (ap state_in i.3) (side.grows want.Test p.within i.0 s i.1 i.2)
 
-  module _ (E a b : Exp) (side : LeftSide P n a) {made_by : Want → Within → Acts Made} (x : SituationBy P n E made_by)
+  module _ (E a b : Exp) (side : LeftSide P n a) {made_by : Want → Within → Translates Made} (x : SituationBy P n E made_by)
       (piece_a : LeftPiece P set grow n E x a side int_type) (piece_b : Piece P set grow n E x b int_type) where
     abbrev pub right_ : (Value → Rest) → Rest → Rest
     right_ g o = evaluates P b x.p.env g o

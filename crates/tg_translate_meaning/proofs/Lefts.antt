@@ -10,7 +10,7 @@ use Rattle.tg_translate.specs.declared.homes.Within.{Within}
 use Rattle.tg_translate.specs.declared.wants.Want.{Want}
 use Rattle.tg_translate.specs.Choices.{left_want}
 use Rattle.tg_translate.specs.Purity.{assigns_nothing}
-use Rattle.tg_translate.specs.States.{TranslationState, Acts, drawn, after}
+use Rattle.tg_translate.specs.States.{TranslationState, Translates, drawn, after}
 use Rattle.tg_translate.specs.Translate.{expression, with_left}
 use Rattle.tg_translate.specs.Wants.{Made}
 use Rattle.tg_translate_meaning.specs.Tables.{Later}
@@ -20,12 +20,12 @@ use Rattle.tg_translate_meaning.specs.Shown.{SituationBy, IsShown, Shown}
 
 module _ (P : Program) where
   -- states only grow, by what translates an expression
-  abbrev pub GrowsBy : (Want → Within → Acts Made) → Type 0
+  abbrev pub GrowsBy : (Want → Within → Translates Made) → Type 0
   GrowsBy by = (wanted : Want) (within : Within) (m : Made) (s t : TranslationState) → by wanted within s ≡ drawn m t → Later s t
 
   -- what is shown of a left side, where it may begin
   pub record LeftSide (n : ℕ) (e : Exp) : Type 1 where
-    pub by : Want → Within → Acts Made
+    pub by : Want → Within → Translates Made
     pub grows : GrowsBy by
     pub here : Part → Holdings → List Ty → SourceWorld → World → Temps → Type 0
     pub shown : (y : SituationBy P n e by) → here y.p y.h y.types y.s y.w y.t → IsShown P n e y
@@ -40,7 +40,7 @@ module _ (P : Program) where
   }
 
   -- an operator whose left side is translated so
-  abbrev pub binary_by : (op : Op) (at : ℕ) (b : Exp) → (Want → Within → Acts Made) → Want → Within → Acts Made
+  abbrev pub binary_by : (op : Op) (at : ℕ) (b : Exp) → (Want → Within → Translates Made) → Want → Within → Translates Made
   binary_by op at b by w within =
       λ s. after (by (left_want op) within s)
       (λ left. with_left op (P.findings.meaning at) (assigns_nothing b) w left (λ v. expression P.findings b v within))

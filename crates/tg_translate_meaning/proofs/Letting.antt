@@ -32,7 +32,7 @@ use Rattle.tg_translate.specs.declared.homes.Within.{Within}
 use Rattle.tg_translate.specs.declared.wants.Want.{Want}
 use Rattle.tg_translate.specs.declared.wants.Want.TheVariants as want
 use Rattle.tg_frame.specs.declared.accesses.Access.TheVariants.{InTemp, InFrame}
-use Rattle.tg_translate.specs.States.{TranslationState, drawn, Acts, one_temp, one_slot}
+use Rattle.tg_translate.specs.States.{TranslationState, drawn, Translates, one_temp, one_slot}
 use Rattle.tg_translate.specs.Wants.{Made, value_of, followed}
 use Rattle.tg_translate.specs.Functions.{declare_functions}
 use Rattle.tg_translate.specs.Translate.{expression, declarations, declaration_of, bodies}

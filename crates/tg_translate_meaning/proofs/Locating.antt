@@ -41,7 +41,7 @@ use Rattle.tg_tree.specs.Memory.{load, slot}
 use Rattle.tg_tree.specs.Actions.{World, Temps, Go, charged, with_word}
 use Rattle.tg_translate.specs.declared.homes.Home.{Home}
 use Rattle.tg_translate.specs.declared.homes.Within.{Within}
-use Rattle.tg_translate.specs.States.{TranslationState, Drawn, drawn, after}
+use Rattle.tg_translate.specs.States.{TranslationState, Translated, drawn, after}
 use Rattle.tg_translate.specs.Wants.{is_none}
 use Rattle.tg_translate.specs.Constructs.{Storage, in_temp, at_address, place_in, frame_out, slot_address, read}
 use Rattle.tg_translate.specs.Scopes.{home_place, frame_at, variable_place}

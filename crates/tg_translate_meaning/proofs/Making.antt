@@ -30,7 +30,7 @@ use Rattle.tg_tree.specs.Meaning.{Enter, Point, value as value_runs, test as tes
 use Rattle.tg_translate.specs.declared.homes.Within.{Within}
 use Rattle.tg_translate.specs.declared.wants.Want.{Want}
 use Rattle.tg_translate.specs.declared.wants.Want.TheVariants as want
-use Rattle.tg_translate.specs.States.{TranslationState, Drawn, drawn, Acts, after}
+use Rattle.tg_translate.specs.States.{TranslationState, Translated, drawn, Translates, after}
 use Rattle.tg_translate.specs.Wants.{Made, value, done, test, value_of}
 use Rattle.tg_translate.specs.Scopes.{Findings}
 use Rattle.tg_translate_meaning.specs.Worlds.{Holdings, Stands, an_int, GrowsTo, unknown, Invariant, Key, cell, temporary, nowhere, free, HoldsAt, word_of, variable, kept, fixed, Content, Places, AllTemps}
@@ -176,14 +176,14 @@ module _ (P : Program) where
   abbrev pub Situation : ℕ → Exp → Type 0
   Situation = shown.Situation P
 
-  abbrev pub source_of : {made_by : Want → Within → Acts Made} → (n : ℕ) (e : Exp) → shown.SituationBy P n e made_by → Run Source
+  abbrev pub source_of : {made_by : Want → Within → Translates Made} → (n : ℕ) (e : Exp) → shown.SituationBy P n e made_by → Run Source
   source_of n e x = rest_run (eval Passing (passing P.heap P.stack) (behind P.heap P.stack) e x.p.env x.go x.out) x.s
 
-  abbrev pub Made_follows : {made_by : Want → Within → Acts Made} → (n : ℕ) (e : Exp) → shown.SituationBy P n e made_by → Made → Type 0
+  abbrev pub Made_follows : {made_by : Want → Within → Translates Made} → (n : ℕ) (e : Exp) → shown.SituationBy P n e made_by → Made → Type 0
   Made_follows n e x m = shown.MadeFollows P n x.r x.p x.h x.types x.wanted x.ty x.go (source_of n e x) x.w x.t m
 
   -- a case that is made this
-  pub by_made : {made_by : Want → Within → Acts Made} → (n : ℕ) (e : Exp) (x : shown.SituationBy P n e made_by) (m : Made) (s : TranslationState) → drawn m s ≡ drawn x.m x.τ → shown.IsNamed P n x.r x.p x.s x.go (source_of n e x) m → Made_follows n e x m → shown.IsShown P n e x
+  pub by_made : {made_by : Want → Within → Translates Made} → (n : ℕ) (e : Exp) (x : shown.SituationBy P n e made_by) (m : Made) (s : TranslationState) → drawn m s ≡ drawn x.m x.τ → shown.IsNamed P n x.r x.p x.s x.go (source_of n e x) m → Made_follows n e x m → shown.IsShown P n e x
   by_made n e x m s eq named f = (subst (λ o. shown.IsNamed P n x.r x.p x.s x.go (source_of n e x) o) (ap made_in eq) named, subst (λ o. Made_follows n e x o) (ap made_in eq) f)
 
   abbrev pub vals : Part → Tx → Around → Go ℕ → World → Temps → Run Ran

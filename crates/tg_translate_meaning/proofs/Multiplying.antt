@@ -28,7 +28,7 @@ use Rattle.tg_tree.specs.Operators.{operate}
 use Rattle.tg_tree.specs.Actions.{World, Temps, set_temp, Go, Next, with_given, with_word}
 use Rattle.tg_translate.specs.declared.operands.Operand.{Operand}
 use Rattle.tg_translate.specs.declared.operands.Operand.TheVariants.{Number, Kept}
-use Rattle.tg_translate.specs.States.{TranslationState, Acts, give, fresh, ◌>>=◌, with_frame, one_temp}
+use Rattle.tg_translate.specs.States.{TranslationState, Translates, give, fresh, ◌>>=◌, with_frame, one_temp}
 use Rattle.tg_translate.specs.Wants.{Made}
 use Rattle.tg_translate.specs.Constructs.{operand, product_check, overflow, product_of}
 use Rattle.tg_translate.specs.Purity.{assigns_nothing}
@@ -196,7 +196,7 @@ module _ (P : Program) (set : Setting P) (grow : StatesGrow P) (n : ℕ) (sp : S
         let f = or_false (touches p l) (touches p r) e in
         words_multiplied g ms u z s w t l r gg ee hh hu hz il ir (untouched p (mul u z) u t l f.0 il) (untouched p (mul u z) z t r f.1 ir)
 
-  abbrev times_last : Stms → Tx → Tx → Acts Made
+  abbrev times_last : Stms → Tx → Tx → Translates Made
   times_last before l r = fresh >>= (λ p. give (product_of p before l r))
 
   pub times_follows : IsShown P n Product_ x

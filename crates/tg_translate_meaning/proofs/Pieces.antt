@@ -20,7 +20,7 @@ use Rattle.tg_tree.specs.Actions.{World, Temps, set_temp, Go, Next, over}
 use Rattle.tg_translate.specs.declared.homes.Within.{Within}
 use Rattle.tg_translate.specs.declared.wants.Want.{Want}
 use Rattle.tg_translate.specs.declared.wants.Want.TheVariants as want
-use Rattle.tg_translate.specs.States.{TranslationState, drawn, Acts}
+use Rattle.tg_translate.specs.States.{TranslationState, drawn, Translates}
 use Rattle.tg_translate.specs.Wants.{Made, value_of, test_of, put_in, dropped, value_from, condition_from, arm_from, statement_from}
 use Rattle.tg_translate.specs.Translate.{expression}
 use Rattle.tg_translate_meaning.specs.Tables.{Later, IsMoment}
@@ -86,7 +86,7 @@ extends_none types i a e = e
 pub extends_on : (types ms ns : List Ty) → Extends types ms → Extends ms ns → Extends types ns
 extends_on types ms ns a b i t e = b i t (a i t e)
 
-module _ (P : Program) (set : Setting P) (grow : StatesGrow P) (n : ℕ) (E : Exp) {made_by : Want → Within → Acts Made}
+module _ (P : Program) (set : Setting P) (grow : StatesGrow P) (n : ℕ) (E : Exp) {made_by : Want → Within → Translates Made}
     (x : SituationBy P n E made_by) where
   -- what is known of a part of the expression, whenever it is evaluated
   pub record Piece (e : Exp) (ty : Ty) : Type 0 where

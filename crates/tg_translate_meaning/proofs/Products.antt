@@ -33,7 +33,7 @@ use Rattle.tg_tree.specs.Operators.{word, exactly, operate, stops_by}
 use Rattle.tg_tree.specs.Actions.{World, Temps, Go, Next, with_given}
 use Rattle.tg_translate.specs.declared.operands.Operand.{Operand}
 use Rattle.tg_translate.specs.declared.operands.Operand.TheVariants.{Number}
-use Rattle.tg_translate.specs.States.{TranslationState, Drawn, drawn, Acts, give}
+use Rattle.tg_translate.specs.States.{TranslationState, Translated, drawn, Translates, give}
 use Rattle.tg_translate.specs.Wants.{Made, value}
 use Rattle.tg_translate.specs.Constructs.{operand, zero_check, quotient_check, overflow, minus_one, least_int, quotient, checked_quotient, quotient_of}
 use Rattle.tg_translate.specs.Purity.{assigns_nothing}
@@ -279,7 +279,7 @@ module _ (P : Program) (set : Setting P) (grow : StatesGrow P) where
         by true false hd he = turn (ap (λ o. o && u == least_int) hd ∙ he) (on true false hd he refl)
         by false e hd he = turn (ap (λ o. o && u == least_int) hd) (on false e hd he refl)
 
-    abbrev checked_last : Stms → Tx → Tx → Acts Made
+    abbrev checked_last : Stms → Tx → Tx → Translates Made
     checked_last before l r = give (quotient_of before l r)
 
     -- a quotient whose divisor is checked
@@ -373,7 +373,7 @@ module _ (P : Program) (set : Setting P) (grow : StatesGrow P) where
           checked_quotient (assigns_nothing b) q.left q.right q.τb ≡ quotient (assigns_nothing b) q.left q.right q.τb
       checked_as y is e = ap (λ o. checked_quotient (assigns_nothing b) q.left o q.τb) is ∙ (e ∙ sym (ap (λ o. quotient (assigns_nothing b) q.left o q.τb) is))
 
-      abbrev number_made : Bool → (k : ℕ) → TranslationState → Drawn Made
+      abbrev number_made : Bool → (k : ℕ) → TranslationState → Translated Made
       number_made c k s = (if c then checked_quotient (assigns_nothing b) q.left (Const k) else give (value (tree.Binary bin.Div q.left (Const k)))) s
 
       by_check : (k : ℕ) → q.right ≡ Const (suc k) → (c : Bool) → (suc k == minus_one) ≡ c → IsShown P n Quotient_ x

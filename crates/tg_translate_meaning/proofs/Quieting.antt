@@ -16,7 +16,7 @@ use Rattle.tg_translate.specs.declared.held.HeldAddress.{HeldAddress}
 use Rattle.tg_translate.specs.declared.held.HeldAddress.TheVariants.{Beside, At}
 use Rattle.tg_translate.specs.declared.wants.Want.{Want}
 use Rattle.tg_translate.specs.declared.wants.Want.TheVariants as want
-use Rattle.tg_translate.specs.States.{TranslationState, Acts, Drawn, drawn, after, give, with_frame, one_temp, local}
+use Rattle.tg_translate.specs.States.{TranslationState, Translates, Translated, drawn, after, give, with_frame, one_temp, local}
 use Rattle.tg_translate.specs.Wants.{Made, value, done, test, value_of, test_of, dropped, arms, as_statement, behind, behind_some, value_behind}
 use Rattle.tg_translate.specs.Constructs.{Storage, in_temp, at_address, HeldAll, hold, hold_next, assign, hold_base, hold_address, hold_place}
 use Rattle.tg_translate.specs.Constructs.{field_place, element_place, make_record, operation, quotient}
@@ -28,7 +28,7 @@ use Rattle.tg_translate_meaning.proofs.States.{state_in}
 use Rattle.tg_translate_meaning.proofs.Growing.{Growing, then_grows, nothing_grows, fresh_grows, home_grows, literal_grows}
 
 -- what is drawn from a state on leaves its homes, callees and functions as they are
-pub record Quiet {A : Type 0} (d : Drawn A) (s : TranslationState) : Type 0 where
+pub record Quiet {A : Type 0} (d : Translated A) (s : TranslationState) : Type 0 where
   pub grows : Growing d s
   pub homes : (state_in d).homes ≡ s.homes
   pub callees : (state_in d).callees ≡ s.callees
@@ -37,7 +37,7 @@ pub record Quiet {A : Type 0} (d : Drawn A) (s : TranslationState) : Type 0 wher
 pub stays : {A : Type 0} {a : A} {s : TranslationState} → Quiet (drawn a s) s
 stays = record { grows = nothing_grows; homes = refl; callees = refl; functions = refl }
 
-pub then_quiet : {A B : Type 0} {s : TranslationState} {d : Drawn A} {next : A → Acts B} → Quiet d s →
+pub then_quiet : {A B : Type 0} {s : TranslationState} {d : Translated A} {next : A → Translates B} → Quiet d s →
     ((a : A) (t : TranslationState) → Quiet (next a t) t) → Quiet (after d next) s
 then_quiet {s = s} {d = drawn a t} {next = next} h k =
     let g = k a t in
@@ -78,7 +78,7 @@ pub behind_quiet : (w : Want) (ss : Stms) (m : Made) (s : TranslationState) → 
 behind_quiet w no_stms m s = stays
 behind_quiet w (stm x ss) m s = behind_some_quiet w (stm x ss) m s
 
-module _ {s : TranslationState} {d : Drawn Made} (h : Quiet d s) where
+module _ {s : TranslationState} {d : Translated Made} (h : Quiet d s) where
   pub value_from_quiet : Quiet (after d value_of) s
   value_from_quiet = then_quiet h (λ m t. value_quiet m t)
 

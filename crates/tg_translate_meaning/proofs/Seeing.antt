@@ -16,7 +16,7 @@ use Rattle.tg_symbols.specs.Tables.{named}
 use Rattle.tg_meaning.specs.declared.standards.Standard.{Standard}
 use Rattle.tg_meaning.specs.Values.{Entry, variable, group, standard}
 use Rattle.tg_meaning.specs.Levels.{levels_of, function_weight}
-use Rattle.tg_meaning.specs.Environments.{Function, to_variable, to_function, to_standard, function_named, or_beyond, find, standards, standards_of}
+use Rattle.tg_meaning.specs.Environments.{SourceFunction, to_variable, to_function, to_standard, function_named, or_beyond, find, standards, standards_of}
 use Rattle.tg_meaning.specs.Environments.{standard_text, outermost_from}
 use Rattle.tg_types.specs.declared.notes.Means.TheVariants as means
 use Rattle.tg_types.specs.Types.{Ty}
@@ -103,7 +103,7 @@ module _ (P : Program) where
     one_of_group f ps has_result e sig rest beyond false d w r is n h =
         not_there (ap (λ o. if o then Some (record { params = ps; body = e }) else function_named x rest) is ∙ n) h
 
-    not_first : (f : Ident) (g : Function) (rest : FunDecs) (o : Option Function) (c : Bool) → (name_of f == x) ≡ c →
+    not_first : (f : Ident) (g : SourceFunction) (rest : FunDecs) (o : Option SourceFunction) (c : Bool) → (name_of f == x) ≡ c →
         function_named (name_of f) rest ≡ None → function_named x rest ≡ Some g →
         (if c then o else function_named x rest) ≡ Some g
     not_first f g rest o true is a e =

@@ -17,7 +17,7 @@ use Rattle.tg_tree.specs.Actions.{World, Temps, Go}
 use Rattle.tg_translate.specs.declared.homes.Within.{Within}
 use Rattle.tg_translate.specs.declared.wants.Want.{Want}
 use Rattle.tg_translate.specs.declared.wants.Want.TheVariants as want
-use Rattle.tg_translate.specs.States.{TranslationState, drawn, Acts, after}
+use Rattle.tg_translate.specs.States.{TranslationState, drawn, Translates, after}
 use Rattle.tg_translate.specs.Wants.{Made, value_of, value_from}
 use Rattle.tg_translate.specs.Purity.{assigns_nothing}
 use Rattle.tg_translate.specs.Translate.{expression}
@@ -49,9 +49,9 @@ may_right P p sp o at a b (inl e) = inl (both_true (assigns_nothing a) (assigns_
 may_right P p sp o at a b (inr f) = inr f
 
 module _ (P : Program) (set : Setting P) (grow : StatesGrow P) (n : ℕ) (E a b : Exp) (side : LeftSide P n a)
-    {made_by : Want → Within → Acts Made} (x : SituationBy P n E made_by) where
+    {made_by : Want → Within → Translates Made} (x : SituationBy P n E made_by) where
   -- what the sides are made, one behind the other, and what is made of them
-  pub record Sides (F : Tx → Tx → Acts Made) : Type 0 where
+  pub record Sides (F : Tx → Tx → Translates Made) : Type 0 where
     pub left : Tx
     pub τa : TranslationState
     pub made_left : value_from (λ s. side.by want.Value x.p.within s) x.σ ≡ drawn left τa
@@ -60,7 +60,7 @@ module _ (P : Program) (set : Setting P) (grow : StatesGrow P) (n : ℕ) (E a b 
     pub made_right : value_from (λ s. expression P.findings b want.Value x.p.within s) τa ≡ drawn right τb
     pub whole : F left right τb ≡ drawn x.m x.τ
 
-  pub sides_of : (F : Tx → Tx → Acts Made) →
+  pub sides_of : (F : Tx → Tx → Translates Made) →
       after (side.by want.Value x.p.within x.σ)
       (λ m s. after (value_of m s) (λ l s1. after (value_from (λ s2. expression P.findings b want.Value x.p.within s2) s1) (λ r s3. F l r s3))) ≡ drawn x.m x.τ → Sides F
   sides_of F e =
@@ -77,13 +77,13 @@ module _ (P : Program) (set : Setting P) (grow : StatesGrow P) (n : ℕ) (E a b 
         whole = i3.3;
       }
 
-  value_later : (F : Tx → Tx → Acts Made) (q : Sides F) → Later q.τa q.τb
+  value_later : (F : Tx → Tx → Translates Made) (q : Sides F) → Later q.τa q.τb
   value_later F q =
       let i = after_inv (expression P.findings b want.Value x.p.within q.τa) value_of q.right q.τb q.made_right in
       later_on q.τa i.1 q.τb (grow b want.Value x.p.within i.0 q.τa i.1 i.2) (later_value i.0 i.1 q.τb q.right i.3)
 
   -- Both are evaluated from so many units and four more on; what comes next has 108 more.
-  pub sides_follow : (F : Tx → Tx → Acts Made) (q : Sides F) (ta tb : Ty) → LeftPiece P set grow n E x a side ta → Piece P set grow n E x b tb → ta ≢ none_type → tb ≢ none_type →
+  pub sides_follow : (F : Tx → Tx → Translates Made) (q : Sides F) (ta tb : Ty) → LeftPiece P set grow n E x a side ta → Piece P set grow n E x b tb → ta ≢ none_type → tb ≢ none_type →
       Later q.τb x.τ → (r0 : ℕ) (le : x.r ≤ r0) (go : Value → Value → Rest) (next : ℕ → ℕ → World → Temps → Run Ran) →
       ((c : Behind P set grow n E x (at_begin P set grow n E x r0 le)) (v y : Value) (u k : ℕ) → Later x.σ q.τb →
       Stands c.h v ta u → Stands c.h y tb k → FollowsHere P (r0 + 108) n (rest_run (go v y) c.s) (next u k c.w c.t)) →

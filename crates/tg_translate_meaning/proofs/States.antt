@@ -10,21 +10,21 @@ use Rattle.tg_types.specs.Scopes.{Binding, variable_at, function_at, standard_on
 use Rattle.tg_tree.specs.Tree.{Tx, Ts, Function, Code}
 use Rattle.tg_translate.specs.declared.homes.Home.{Home}
 use Rattle.tg_translate.specs.declared.homes.Callee.{Callee}
-use Rattle.tg_translate.specs.States.{TranslationState, Drawn, drawn, Acts, after}
+use Rattle.tg_translate.specs.States.{TranslationState, Translated, drawn, Translates, after}
 use Rattle.tg_translate.specs.Wants.{Made, value, done, test, value_of}
 use Rattle.tg_translate_meaning.specs.Tables.{Table, IsBehind, IsFront, IsMoment, Later, HasFound}
 use Rattle.tg_translate_meaning.specs.Situations.{Program, Setting}
 
 -- Translations, one after another.
 
-abbrev pub made_in : {A : Type 0} → Drawn A → A
+abbrev pub made_in : {A : Type 0} → Translated A → A
 made_in (drawn a s) = a
 
-abbrev pub state_in : {A : Type 0} → Drawn A → TranslationState
+abbrev pub state_in : {A : Type 0} → Translated A → TranslationState
 state_in (drawn a s) = s
 
 -- what is drawn first
-pub after_inv : {A B : Type 0} (d : Drawn A) (next : A → Acts B) (b : B) (u : TranslationState) → after d next ≡ drawn b u →
+pub after_inv : {A B : Type 0} (d : Translated A) (next : A → Translates B) (b : B) (u : TranslationState) → after d next ≡ drawn b u →
     (a : A) × (s : TranslationState) × (d ≡ drawn a s) × (next a s ≡ drawn b u)
 after_inv (drawn a s) next b u e = (a, s, refl, e)
 

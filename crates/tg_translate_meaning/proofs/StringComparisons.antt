@@ -38,7 +38,7 @@ use Rattle.tg_translate.specs.Choices.{left_want}
 use Rattle.tg_translate.specs.Constructs.{comparison, relation, call_routine, two_txs}
 use Rattle.tg_translate.specs.Purity.{assigns_nothing}
 use Rattle.tg_translate.specs.Scopes.{compares_strings}
-use Rattle.tg_translate.specs.States.{TranslationState, drawn, Acts, after, give}
+use Rattle.tg_translate.specs.States.{TranslationState, drawn, Translates, after, give}
 use Rattle.tg_translate.specs.Translate.{expression, with_left}
 use Rattle.tg_translate.specs.Wants.{Made, test, value_of, value_from}
 use Rattle.tg_translate_meaning.specs.Tables.{Later}
@@ -113,12 +113,12 @@ told_order o c y z =
 
 -- An operator that compares takes both of its sides, there and here.
 
-abbrev pub both_made : Op → Option Means → Made → (right : Want → Acts Made) → Acts Made
+abbrev pub both_made : Op → Option Means → Made → (right : Want → Translates Made) → Translates Made
 both_made o meaning left right s =
     after (value_of left s) (λ l s1. after (value_from (right want.Value) s1)
     (λ r. give (test (comparison o (compares_strings meaning) l r))))
 
-pub made_both : (o : Op) → Compares o → (meaning : Option Means) (direct : Bool) (w : Want) (left : Made) (right : Want → Acts Made)
+pub made_both : (o : Op) → Compares o → (meaning : Option Means) (direct : Bool) (w : Want) (left : Made) (right : Want → Translates Made)
     (s : TranslationState) → with_left o meaning direct w left right s ≡ both_made o meaning left right s
 made_both op.Equal c meaning direct w left right s = refl
 made_both op.NotEqual c meaning direct w left right s = refl
@@ -160,7 +160,7 @@ module _ (P : Program) (set : Setting P) (grow : StatesGrow P) (owns : Owns P) (
   abbrev E_ : Exp
   E_ = Binary sp o at a b
 
-  abbrev makes : Tx → Tx → Acts Made
+  abbrev makes : Tx → Tx → Translates Made
   makes l r = give (test (comparison o (compares_strings (P.findings.meaning at)) l r))
 
   abbrev left_side : LeftSide P n a
@@ -168,7 +168,7 @@ module _ (P : Program) (set : Setting P) (grow : StatesGrow P) (owns : Owns P) (
 
   sides : Sides P set grow n E_ a b left_side x makes
   sides =
-      let right : Want → Acts Made = λ v. expression P.findings b v x.p.within in
+      let right : Want → Translates Made = λ v. expression P.findings b v x.p.within in
       let meaning = P.findings.meaning at in
       let i = after_inv (expression P.findings a (left_want o) x.p.within x.σ)
       (λ left. with_left o meaning (assigns_nothing b) x.wanted left right) x.m x.τ x.is_made in

@@ -25,7 +25,7 @@ use Rattle.tg_translate.specs.declared.homes.Home.{Home}
 use Rattle.tg_translate.specs.declared.homes.Callee.{Callee}
 use Rattle.tg_translate.specs.declared.wants.Want.{Want}
 use Rattle.tg_translate.specs.declared.wants.Want.TheVariants as want
-use Rattle.tg_translate.specs.States.{TranslationState, Acts, Drawn, drawn, after, give}
+use Rattle.tg_translate.specs.States.{TranslationState, Translates, Translated, drawn, after, give}
 use Rattle.tg_translate.specs.Wants.{Made, value_of, test_of, arms, deliver, behind}
 use Rattle.tg_translate.specs.Constructs.{Storage, own_place, want_for, read_held, place_held, operation}
 use Rattle.tg_translate.specs.Choices.{chosen}
@@ -70,7 +70,7 @@ module _ (table : Table) (weight : (at : ℕ) → ℕ) where
     pub homes_once : Once table.homes
     pub callees_once : Once table.callees
 
-  before_it : {A : Type 0} {d : Drawn A} {s : TranslationState} → Growing d s → InTable (state_in d) → InTable s
+  before_it : {A : Type 0} {d : Translated A} {s : TranslationState} → Growing d s → InTable (state_in d) → InTable s
   before_it g h = record {
     homes = behind_on h.homes g.on.homes;
     callees = behind_on h.callees g.on.callees;
@@ -112,7 +112,7 @@ module _ (table : Table) (weight : (at : ℕ) → ℕ) where
 
   -- What is drawn from a state on, for a text that declares so many bytes and these functions, of
   -- whose declarations this holds.
-  pub record Shows {A : Type 0} (N : ℕ → ℕ) (M : List Measures) (D : Type 0) (d : Drawn A) (s : TranslationState) : Type 0 where
+  pub record Shows {A : Type 0} (N : ℕ → ℕ) (M : List Measures) (D : Type 0) (d : Translated A) (s : TranslationState) : Type 0 where
     pub grows : Growing d s
     pub counts : (k : ℕ) → found_times k (state_in d) ≤ found_times k s + N k
     pub owned : IsOwned M s (state_in d)
@@ -120,7 +120,7 @@ module _ (table : Table) (weight : (at : ℕ) → ℕ) where
 
   -- One after another.
 
-  pub both : {A B : Type 0} {N L : ℕ → ℕ} {M K : List Measures} {D E : Type 0} {s : TranslationState} {d : Drawn A} {next : A → Acts B} → Shows N M D d s →
+  pub both : {A B : Type 0} {N L : ℕ → ℕ} {M K : List Measures} {D E : Type 0} {s : TranslationState} {d : Translated A} {next : A → Translates B} → Shows N M D d s →
       ((a : A) (t : TranslationState) → Shows L K E (next a t) t) → Shows (λ k. N k + L k) (M ++ K) (D × E) (after d next) s
   both {N = N} {L = L} {M = M} {K = K} {s = s} {d = drawn a t} {next = next} h f =
       let g = f a t in
@@ -140,7 +140,7 @@ module _ (table : Table) (weight : (at : ℕ) → ℕ) where
             ((x.0, y.0), tied_on M K s.functions t.functions (state_in (next a t)).functions x.1 y.1);
       }
 
-  pub quiet_then : {A B : Type 0} {N : ℕ → ℕ} {M : List Measures} {D : Type 0} {s : TranslationState} {d : Drawn A} {next : A → Acts B} → Quiet d s →
+  pub quiet_then : {A B : Type 0} {N : ℕ → ℕ} {M : List Measures} {D : Type 0} {s : TranslationState} {d : Translated A} {next : A → Translates B} → Quiet d s →
       ((a : A) (t : TranslationState) → Shows N M D (next a t) t) → Shows N M D (after d next) s
   quiet_then {N = N} {M = M} {D = D} {s = s} {d = drawn a t} {next = next} h f =
       let g = f a t in
@@ -157,7 +157,7 @@ module _ (table : Table) (weight : (at : ℕ) → ℕ) where
             (y.0, subst (λ l. AreTied M l (state_in (next a t)).functions) h.functions y.1);
       }
 
-  pub then_stays : {A B : Type 0} {N : ℕ → ℕ} {M : List Measures} {D : Type 0} {s : TranslationState} {d : Drawn A} {next : A → Acts B} → Shows N M D d s →
+  pub then_stays : {A B : Type 0} {N : ℕ → ℕ} {M : List Measures} {D : Type 0} {s : TranslationState} {d : Translated A} {next : A → Translates B} → Shows N M D d s →
       ((a : A) (t : TranslationState) → Quiet (next a t) t) → Shows N M D (after d next) s
   then_stays {N = N} {M = M} {D = D} {s = s} {d = drawn a t} {next = next} h f =
       let g = f a t in
@@ -180,7 +180,7 @@ module _ (table : Table) (weight : (at : ℕ) → ℕ) where
       }
 
   -- what declares nothing
-  pub shows_none : {A : Type 0} {d : Drawn A} {s : TranslationState} → Quiet d s → Shows (λ k. 0) [] (Unit {0}) d s
+  pub shows_none : {A : Type 0} {d : Translated A} {s : TranslationState} → Quiet d s → Shows (λ k. 0) [] (Unit {0}) d s
   shows_none {d = d} {s = s} h = record {
     grows = h.grows;
     counts = λ k.
@@ -192,7 +192,7 @@ module _ (table : Table) (weight : (at : ℕ) → ℕ) where
   }
 
   -- said of the same in other words
-  pub told : {A : Type 0} {N : ℕ → ℕ} {M : List Measures} {D : Type 0} {d : Drawn A} {s : TranslationState} (L : ℕ → ℕ) (K : List Measures) (E : Type 0) →
+  pub told : {A : Type 0} {N : ℕ → ℕ} {M : List Measures} {D : Type 0} {d : Translated A} {s : TranslationState} (L : ℕ → ℕ) (K : List Measures) (E : Type 0) →
       ((k : ℕ) → N k ≤ L k) → M ≡ K → (D → E) → Shows N M D d s → Shows L K E d s
   told {N = N} {M = M} {d = d} {s = s} L K E few same on h = record {
     grows = h.grows;
@@ -262,7 +262,7 @@ module _ (table : Table) (weight : (at : ℕ) → ℕ) where
 
   -- with parameters declared before it
   pub with_params : {A : Type 0} {N : ℕ →
-      ℕ} {M : List Measures} {D : Type 0} {d : Drawn A} (level : ℕ) (ps : List Param) (homes : List Access) (s : TranslationState) →
+      ℕ} {M : List Measures} {D : Type 0} {d : Translated A} (level : ℕ) (ps : List Param) (homes : List Access) (s : TranslationState) →
       length homes ≡ length ps → Shows N M D d (record s { homes = parameters level ps homes s.homes }) →
       Shows (λ k. params_declare k ps + N k) M (DeclareParams (HasVariable table) (IsWeighed table weight) level ps × D) d s
   with_params {N = N} {M = M} {d = drawn a t} level ps homes s e h = record {
@@ -339,14 +339,14 @@ module _ (table : Table) (weight : (at : ℕ) → ℕ) where
       let first = measures f.span.from (suc n) seen ps e in
       (i.0, Contains-append_right (first ∷ inner) (declared_functions n seen rest) i.0 i.1, i.2)
 
-  group_then : {A : Type 0} {d : Drawn A} (level : ℕ) (fs : FunDecs) (s : TranslationState) → Growing d (state_by level fs s) → Growing d s
+  group_then : {A : Type 0} {d : Translated A} (level : ℕ) (fs : FunDecs) (s : TranslationState) → Growing d (state_by level fs s) → Growing d s
   group_then level no_functions s g = g
   group_then level (function f ps r e rest) s g =
       callee_grows s (at_of f) (record { level = level; label = record { 0 = s.label } }) (group_then level rest (with_callee level f s) g)
 
   -- Bodies of a group, whose names are declared.
 
-  pub record ShowsBodies (n label : ℕ) (seen : Levels) (fs : FunDecs) (d : Drawn (Unit {0})) (s : TranslationState) : Type 0 where
+  pub record ShowsBodies (n label : ℕ) (seen : Levels) (fs : FunDecs) (d : Translated (Unit {0})) (s : TranslationState) : Type 0 where
     pub grows : Growing d s
     pub counts : (k : ℕ) → found_times k (state_in d) ≤ found_times k s + bodies_declare k fs
     pub owned : IsOwned (declared_functions n seen fs) s (state_in d)
@@ -356,7 +356,7 @@ module _ (table : Table) (weight : (at : ℕ) → ℕ) where
 
   -- a group, and what comes behind it
   pub group_shows : {A : Type 0} {L : ℕ →
-      ℕ} {K : List Measures} {E : Type 0} (n : ℕ) (seen : Levels) (fs : FunDecs) (s : TranslationState) (d : Drawn (Unit {0})) (next : Unit {0} → Acts A) →
+      ℕ} {K : List Measures} {E : Type 0} (n : ℕ) (seen : Levels) (fs : FunDecs) (s : TranslationState) (d : Translated (Unit {0})) (next : Unit {0} → Translates A) →
       ShowsBodies n s.label seen fs d (state_by n fs s) → ((t : TranslationState) → Shows L K E (next tt t) t) →
       Shows (λ k. names_declare k fs + (bodies_declare k fs + L k)) (declared_functions n seen fs ++ K)
       (DeclaresFunctions (HasVariable table) (IsWeighed table weight) n seen fs × E) (after d next) s
@@ -389,10 +389,10 @@ module _ (table : Table) (weight : (at : ℕ) → ℕ) where
 
   -- A body in a frame of its own.
 
-  frame_of : {A : Type 0} → Drawn A → List (Function Ts)
+  frame_of : {A : Type 0} → Translated A → List (Function Ts)
   frame_of d = (state_in d).functions
 
-  body_shows : {N : ℕ → ℕ} {M : List Measures} {D : Type 0} {d : Drawn Ts} (n label : ℕ) (asks : List Bool) (m : Measures) (s : TranslationState) →
+  body_shows : {N : ℕ → ℕ} {M : List Measures} {D : Type 0} {d : Translated Ts} (n label : ℕ) (asks : List Bool) (m : Measures) (s : TranslationState) →
       m.level ≡ suc n →
       Shows N M D d (opened s (frame_for label asks)) →
       (InTable (state_in (finish s d)) → named m.at table.callees ≡ Some (record { level = n; label = record { 0 = label } })) →
@@ -412,19 +412,19 @@ module _ (table : Table) (weight : (at : ℕ) → ℕ) where
         },
       )
 
-  one_body : {N : ℕ → ℕ} {M : List Measures} {D : Type 0} {d : Drawn Ts} (label : ℕ) (asks : List Bool) (s : TranslationState) →
+  one_body : {N : ℕ → ℕ} {M : List Measures} {D : Type 0} {d : Translated Ts} (label : ℕ) (asks : List Bool) (s : TranslationState) →
       Shows N M D d (opened s (frame_for label asks)) → (k : ℕ) → found_times k (state_in (finish s d)) ≤ found_times k s + N k
   one_body {d = drawn x u} label asks s h k = h.counts k
 
-  one_owned_body : {N : ℕ → ℕ} {M : List Measures} {D : Type 0} {d : Drawn Ts} (label : ℕ) (asks : List Bool) (s : TranslationState) →
+  one_owned_body : {N : ℕ → ℕ} {M : List Measures} {D : Type 0} {d : Translated Ts} (label : ℕ) (asks : List Bool) (s : TranslationState) →
       Shows N M D d (opened s (frame_for label asks)) → IsOwned M s (state_in (finish s d))
   one_owned_body {d = drawn x u} label asks s h = h.owned
 
   -- a body, and those behind it
   pub bodies_then : {N : ℕ →
-      ℕ} {D : Type 0} {d : Drawn Ts} (n label : ℕ) (seen : Levels) (f : Ident) (ps : List Param) (r : Option Ident) (e : Exp) (rest : FunDecs)
+      ℕ} {D : Type 0} {d : Translated Ts} (n label : ℕ) (seen : Levels) (f : Ident) (ps : List Param) (r : Option Ident) (e : Exp) (rest : FunDecs)
       (asks : List Bool)
-      (s : TranslationState) (next : Acts (Unit {0})) →
+      (s : TranslationState) (next : Translates (Unit {0})) →
       Shows N (declared (suc n) (own_params (suc n) ps seen) e) D d (opened s (frame_for label asks)) →
       ((k : ℕ) → N k ≤ params_declare k ps + declares k e) →
       (D → DeclareParams (HasVariable table) (IsWeighed table weight) (suc n) ps × Declares (HasVariable table) (IsWeighed table weight) (suc n)
@@ -432,7 +432,7 @@ module _ (table : Table) (weight : (at : ℕ) → ℕ) where
       ((t : TranslationState) → ShowsBodies n (label + 1) seen rest (next t) t) →
       ShowsBodies n label seen (function f ps r e rest) (after (finish s d) (λ _. next)) s
   bodies_then {N = N} {d = drawn x u} n label seen f ps r e rest asks s next h few on more =
-      let d : Drawn Ts = drawn x u in
+      let d : Translated Ts = drawn x u in
       let t = state_in (finish s d) in
       let g = more t in
       let m = measures f.span.from (suc n) seen ps e in
@@ -468,7 +468,7 @@ module _ (table : Table) (weight : (at : ℕ) → ℕ) where
   }
 
   -- Everything that takes a part's translation shows what the part shows.
-  module _ {N : ℕ → ℕ} {M : List Measures} {D : Type 0} {right : Want → Acts Made} (shows : (w : Want) (s : TranslationState) → Shows N M D (right w s) s) where
+  module _ {N : ℕ → ℕ} {M : List Measures} {D : Type 0} {right : Want → Translates Made} (shows : (w : Want) (s : TranslationState) → Shows N M D (right w s) s) where
     arms_shows : (o : Op) (w : Want) (c : Cond) (s : TranslationState) →
         Shows N M D (after (arms w s) (λ a t. after (right a t) (λ m. give (deliver w a (chosen o a c m))))) s
     arms_shows o w c s = quiet_then (arms_quiet w s) (λ a t. then_stays (shows a t) (λ m u. stays))
@@ -502,7 +502,7 @@ module _ (table : Table) (weight : (at : ℕ) → ℕ) where
         both (declared_variable (escapes at) level at s)
         (λ home t. then_stays (shows (want_for (own_place home)) t) (λ m u. assign_quiet (own_place home) m u))
 
-  module _ {N L : ℕ → ℕ} {M K : List Measures} {D E : Type 0} {this other : Want → Acts Made} (this_shows : (w : Want) (s : TranslationState) →
+  module _ {N L : ℕ → ℕ} {M K : List Measures} {D E : Type 0} {this other : Want → Translates Made} (this_shows : (w : Want) (s : TranslationState) →
       Shows N M D (this w s) s)
       (other_shows : (w : Want) (s : TranslationState) → Shows L K E (other w s) s) where
     pub chosen_shows : (w : Want) (c : Cond) (s : TranslationState) → Shows (λ k. N k + L k) (M ++ K) (D × E) (chosen_arm w c this other s) s
@@ -510,7 +510,7 @@ module _ (table : Table) (weight : (at : ℕ) → ℕ) where
         quiet_then (arms_quiet w s)
         (λ v t. both (then_stays (this_shows v t) (λ m u. stays)) (λ x u. then_stays (then_stays (other_shows v u) (λ m o. stays)) (λ y o. stays)))
 
-  pub updated_shows : {N : ℕ → ℕ} {M : List Measures} {D : Type 0} {right : Tx → Want → Acts Made} →
+  pub updated_shows : {N : ℕ → ℕ} {M : List Measures} {D : Type 0} {right : Tx → Want → Translates Made} →
       ((x : Tx) (w : Want) (s : TranslationState) → Shows N M D (right x w s) s) →
       (p : Storage) (s : TranslationState) → Shows N M D (updated p right s) s
   updated_shows shows p s =

@@ -30,7 +30,7 @@ use Rattle.tg_tree.specs.Tree.{Const, FrameAddress, Stms, no_stms, stm}
 use Rattle.tg_tree.specs.Actions.{World, Temps, Go, charged}
 use Rattle.tg_translate.specs.declared.wants.Want.{Want}
 use Rattle.tg_translate.specs.declared.homes.Within.{Within}
-use Rattle.tg_translate.specs.States.{TranslationState, Acts, drawn, after}
+use Rattle.tg_translate.specs.States.{TranslationState, Translates, drawn, after}
 use Rattle.tg_translate.specs.Wants.{Made, value, done}
 use Rattle.tg_translate.specs.Constructs.{Storage, in_temp, at_address, place_in, frame_out, slot_address, read}
 use Rattle.tg_translate.specs.Constructs as tg_constructs
@@ -133,7 +133,7 @@ module _ (findings : Findings) (within : Within) where
       by (stm y ys) none found = cc
 
 module _ (P : Program) (n : ℕ) (sp : Span) (v : Ident) (e : Exp) (x : Situation P n (Assign sp (Simple v) e)) where
-  abbrev E_of : Want → Acts Made
+  abbrev E_of : Want → Translates Made
   E_of w = λ s. expression P.findings e w x.p.within s
 
   -- what is shown of assignments that are made plainly, by the storage of their place

@@ -28,7 +28,7 @@ use Rattle.tg_translate.specs.declared.held.HeldAddress.TheVariants.{InOwnFrame,
 use Rattle.tg_translate.specs.declared.operands.Operand.TheVariants.{Number, Kept}
 use Rattle.tg_translate.specs.declared.wants.Want.{Want}
 use Rattle.tg_translate.specs.declared.wants.Want.TheVariants as want
-use Rattle.tg_translate.specs.States.{TranslationState, Drawn, drawn, Acts, after}
+use Rattle.tg_translate.specs.States.{TranslationState, Translated, drawn, Translates, after}
 use Rattle.tg_translate.specs.Wants.{Made, done, value_of, value_from}
 use Rattle.tg_translate.specs.Constructs.{Storage, in_temp, at_address, read, field_place, element_place, HeldAt, hold_address, held_address, store_at}
 use Rattle.tg_translate.specs.Constructs.{hold}
@@ -91,7 +91,7 @@ held_short (At (Number k)) = omega arith
 held_short (At (Kept i)) = omega arith
 
 -- what is drawn first of two steps
-after_twice : {A B C : Type 0} (d : Drawn A) (f : A → Acts B) (g : B → Acts C) (c : C) (u : TranslationState) → after (after d f) g ≡ drawn c u →
+after_twice : {A B C : Type 0} (d : Translated A) (f : A → Translates B) (g : B → Translates C) (c : C) (u : TranslationState) → after (after d f) g ≡ drawn c u →
     (a : A) × (s : TranslationState) × (d ≡ drawn a s) × (after (f a s) g ≡ drawn c u)
 after_twice (drawn a s) f g c u e = (a, s, refl, e)
 
@@ -162,7 +162,7 @@ module _ (P : Program) (set : Setting P) (needs : Needs P) (grow : StatesGrow P)
   abbrev evaluated : Location → Rest
   evaluated = assigning.with_location P set needs grow n sp v e show_v show_e x
 
-  abbrev B_of : Tx → Want → Acts Made
+  abbrev B_of : Tx → Want → Translates Made
   B_of r w = λ s. behind_read P.findings e r w x.p.within s
 
   -- where the value begins with a read of the place
@@ -312,7 +312,7 @@ module _ (P : Program) (set : Setting P) (needs : Needs P) (grow : StatesGrow P)
         let all : drawn (done (store_at j.0.before (held_address j.0.address) l.0)) l.1 ≡ drawn x.m x.τ = ap (λ o. after o (λ st u. drawn (done st) u)) l.3 ∙ i.3 in
         update_made b a s1 j.1 k.1 l.1 j.0 k.0 l.0 made j.2 k.2 l.2 (subst (λ o. Later l.1 o) (ap state_in all) (later_none l.1)) all
 
-  abbrev E_of : Want → Acts Made
+  abbrev E_of : Want → Translates Made
   E_of w = λ s. expression P.findings e w x.p.within s
 
   pub assign_shown : IsShown P n E x

@@ -13,7 +13,7 @@ use Rattle.tg_tree.specs.Lists.{join_txs}
 use Rattle.tg_translate.specs.declared.homes.Within.{Within}
 use Rattle.tg_translate.specs.declared.wants.Want.{Want}
 use Rattle.tg_translate.specs.declared.wants.Want.TheVariants as want
-use Rattle.tg_translate.specs.States.{TranslationState, Acts, Drawn, drawn, after}
+use Rattle.tg_translate.specs.States.{TranslationState, Translates, Translated, drawn, after}
 use Rattle.tg_translate.specs.Wants.{Made, value, done, test_of, dropped, behind, followed}
 use Rattle.tg_translate.specs.Constructs.{Storage, HeldAll, none_held, read, in_body, in_test}
 use Rattle.tg_translate.specs.Choices.{left_want}
@@ -73,7 +73,7 @@ module _ (table : Table) (weight : (at : ℕ) → ℕ) (findings : Findings) whe
   conjunction_zero (want.Into i) b e = cc
   conjunction_zero want.Dropped b e = cc
 
-  choice_shows : {N L : ℕ → ℕ} {M : List Measures} {D : Type 0} (n : ℕ) (seen : Levels) (b : Exp) (this other : Want → Acts Made) →
+  choice_shows : {N L : ℕ → ℕ} {M : List Measures} {D : Type 0} (n : ℕ) (seen : Levels) (b : Exp) (this other : Want → Translates Made) →
       ((w : Want) (s : TranslationState) → Shows table weight N M D (this w s) s) →
       ((w : Want) (s : TranslationState) → Shows table weight L (declared n seen b) (Fits n seen b) (other w s) s) →
       (conjunction : Bool) (w : Want) → is_conjunction w b ≡ conjunction → (c : Cond) (s : TranslationState) →
@@ -86,11 +86,11 @@ module _ (table : Table) (weight : (at : ℕ) → ℕ) (findings : Findings) whe
   choice_shows n seen b this other this_shows other_shows false w e c s = chosen_shows table weight this_shows other_shows w c s
 
   -- from the state behind an action without a value
-  from_state : {A : Type 0} {N : ℕ → ℕ} {M : List Measures} {D : Type 0} {s : TranslationState} (d : Drawn (Unit {0})) (next : Unit {0} → Acts A) →
+  from_state : {A : Type 0} {N : ℕ → ℕ} {M : List Measures} {D : Type 0} {s : TranslationState} (d : Translated (Unit {0})) (next : Unit {0} → Translates A) →
       Shows table weight N M D (next tt (state_in d)) s → Shows table weight N M D (after d next) s
   from_state (drawn x u) next h = h
 
-  assignment_shows : {N : ℕ → ℕ} {M : List Measures} {D : Type 0} {right : Want → Acts Made} {again : Tx → Want → Acts Made} (first : Bool) →
+  assignment_shows : {N : ℕ → ℕ} {M : List Measures} {D : Type 0} {right : Want → Translates Made} {again : Tx → Want → Translates Made} (first : Bool) →
       ((w : Want) (s : TranslationState) → Shows table weight N M D (right w s) s) →
       (first ≡ true → (x : Tx) (w : Want) (s : TranslationState) → Shows table weight N M D (again x w s) s) → (p : Storage) (s : TranslationState) →
       Shows table weight N M D (assignment first p right again s) s

@@ -19,7 +19,7 @@ use Rattle.tg_tree.specs.Actions.{World, Temps, set_temp, Go, Next}
 use Rattle.tg_translate.specs.declared.wants.Want.{Want}
 use Rattle.tg_translate.specs.declared.wants.Want.TheVariants as want
 use Rattle.tg_translate.specs.declared.homes.Within.{Within}
-use Rattle.tg_translate.specs.States.{TranslationState, Acts, drawn}
+use Rattle.tg_translate.specs.States.{TranslationState, Translates, drawn}
 use Rattle.tg_translate.specs.Wants.{Made, value, done, test}
 use Rattle.tg_translate.specs.Translate.{expression}
 use Rattle.tg_translate_meaning.specs.Worlds.{Holdings, Stands, temporary, IsOf, GrowsTo}
@@ -121,7 +121,8 @@ module _ (P : Program) where
       FollowsHere r n source (test_runs P p c p.around go' w t)
 
   -- an expression where it stands, for so much fuel, and what translates it there
-  pub record SituationBy (n : ℕ) (e : Exp) (made_by : Want → Within → Acts Made) : Type 0 where
+  pub record SituationBy (n : ℕ) (e : Exp) (made_by : Want → Within → Translates Made) :
+      Type 0 where
     pub ty : Ty
     pub wanted : Want
     pub p : Part
@@ -168,7 +169,7 @@ module _ (P : Program) where
   IsNamed n r p s go source _ = Unit {0}
 
   -- what is shown of it
-  abbrev pub IsShown : {made_by : Want → Within → Acts Made} → (n : ℕ) (e : Exp) →
+  abbrev pub IsShown : {made_by : Want → Within → Translates Made} → (n : ℕ) (e : Exp) →
       SituationBy n e made_by → Type 0
   IsShown n e x =
       IsNamed n x.r x.p x.s x.go (rest_run (evaluates e x.p.env x.go x.out) x.s) x.m ×

@@ -1,6 +1,6 @@
 -- What texts name: the functions that they call, the literals whose addresses they take, the
 -- numbers of their faults, their temporaries, and their constants.
-use Rattle.std.specs.Prelude.{◌≢◌, ◌<◌, ◌^◌, ℕ, List, [], ◌∷◌, ◌++◌, map}
+use Rattle.std.specs.Prelude.{◌≢◌, ◌<◌, ◌^◌, ℕ, List, [], ◌∷◌, ◌++◌, map, Bool, IsTrue}
 use Rattle.std.specs.List.{Contains, AllPairs}
 use Rattle.tg_tree.specs.Tree.{Tx, Const, Address, Temp, FrameAddress, Binary, Load, LoadByte, Call}
 use Rattle.tg_tree.specs.Tree.{Service, After, Txs, no_txs, tx, Cond, Compare, Not, Both, Either}
@@ -10,6 +10,10 @@ use Rattle.tg_tree.specs.Tree.{Function, Code}
 
 pub data Named : Type 0 where
   function literal fault temporary constant : ℕ → Named
+
+-- each of some names passes a test
+abbrev pub NamesAreAllowed : (allowed : Named → Bool) → List Named → Type 0
+NamesAreAllowed allowed names = (x : Named) → Contains names x → IsTrue (allowed x)
 
 -- what a part names, before what comes after it
 abbrev mutual

@@ -14,7 +14,7 @@ use Rattle.tg_syntax.specs.declared.trees.Form.{Form as CodeForm}
 use Rattle.tg_syntax.specs.declared.trees.Form.TheVariants.{Alias as AliasOf, Fields as FieldsOf, Array as ArrayOf}
 use Rattle.tg_syntax.specs.Tree.{Form, TypeDec, Alias, Fields, Array}
 use Rattle.tg_syntax.specs.Plain.{plain_type, plain_form}
-use Rattle.tg_syntax.specs.NamesWithin.{TypesWithin, FormWithin, IsWithin}
+use Rattle.tg_syntax.specs.NamesWithin.{TypesWithin, FormWithin, NameIsWithin}
 use Rattle.tg_types.specs.declared.chains.Chain.{Chain as CodeChain}
 use Rattle.tg_types.specs.declared.chains.Chain.TheVariants.{Outside, EndsAt, Onward}
 use Rattle.tg_types.specs.Scopes.{name_of}
@@ -217,13 +217,13 @@ stand_leads n k (Alias _) l = l
 stand_leads n k (Fields _) l = tt
 stand_leads n k (Array _) l = tt
 
-start_within_at : (n : ℕ) (ds : List TypeDec) (x : Ident) → IsWithin n x → (o : Option ℕ) → place_in (name_of x) ds ≡ o → ChainWithin n ds (start_in ds x)
+start_within_at : (n : ℕ) (ds : List TypeDec) (x : Ident) → NameIsWithin n x → (o : Option ℕ) → place_in (name_of x) ds ≡ o → ChainWithin n ds (start_in ds x)
 start_within_at n ds x w None e = subst (λ c. ChainWithin n ds c) (sym (started_outside ds x e)) w
 start_within_at n ds x w (Some k) e =
     let s = at_place (name_of x) ds k e in
     subst (λ c. ChainWithin n ds c) (sym (started ds x k s.declared e s.there)) (stand_within n ds k s.declared.form (place_below (name_of x) ds k e))
 
-pub start_within : (n : ℕ) (ds : List TypeDec) (x : Ident) → IsWithin n x → ChainWithin n ds (start_in ds x)
+pub start_within : (n : ℕ) (ds : List TypeDec) (x : Ident) → NameIsWithin n x → ChainWithin n ds (start_in ds x)
 start_within n ds x w = start_within_at n ds x w (place_in (name_of x) ds) refl
 
 start_leads_at : (ds : List TypeDec) (x : Ident) (o : Option ℕ) → place_in (name_of x) ds ≡ o → LeadsWithin (length ds) (start_in ds x)

@@ -17,7 +17,7 @@ use Rattle.tg_syntax.specs.declared.trees.Param.{Param}
 use Rattle.tg_syntax.specs.declared.trees.TypeDec.{TypeDec as CodeTypeDec}
 use Rattle.tg_syntax.specs.Tree.{TypeDec}
 use Rattle.tg_syntax.specs.Plain.{plain_type, plain_form}
-use Rattle.tg_syntax.specs.NamesWithin.{TypesWithin, FormWithin, ParamsWithin, IsWithin}
+use Rattle.tg_syntax.specs.NamesWithin.{TypesWithin, FormWithin, ParamsWithin, NameIsWithin}
 use Rattle.tg_types.specs.declared.faults.TypeRule.TheVariants.{T16, T18, T19}
 use Rattle.tg_types.specs.declared.faults.TypeFault.{TypeFault}
 use Rattle.tg_types.specs.declared.faults.TypeFault.TheVariants.{Bad}
@@ -32,7 +32,7 @@ use Rattle.tg_types.specs.declared.states.CheckingState.{CheckingState}
 use Rattle.tg_types.specs.declared.chains.Chain.{Chain as CodeChain}
 use Rattle.tg_types.specs.declared.chains.Chain.TheVariants.{Outside, EndsAt, Onward}
 use Rattle.tg_types.proofs.ChainSteps.{there}
-use Rattle.tg_types.specs.States.{Fails, bad, Gives, Keeps, Opens, scope_of, noted_of}
+use Rattle.tg_types.specs.States.{Fails, bad, AnswersCheck, Keeps, Opens, scope_of, noted_of}
 use Rattle.tg_types.proofs.Steps.{step, fails_first, fails_then, last_fails, kept_true, kept_false, keeps_both, same_scope, given_is, opens_keep, opens_both}
 use Rattle.tg_types.proofs.TreeSteps.{from_here, none_left}
 
@@ -243,7 +243,7 @@ field_at ps k = get_or ps k (record { name = no_name; kind = no_name })
 pub field_is : (ps : List Param) (k : ℕ) → k < length ps → field_at ps k ≡ get_or ps k (field_at ps k)
 field_is ps k l = get_or_default ps k _ _ l
 
-pub field_within : (n : ℕ) (ps : List Param) (k : ℕ) → ParamsWithin n ps → k < length ps → IsWithin n (field_at ps k).kind
+pub field_within : (n : ℕ) (ps : List Param) (k : ℕ) → ParamsWithin n ps → k < length ps → NameIsWithin n (field_at ps k).kind
 field_within n [] k h l = absurd (omega (arith, l))
 field_within n (p ∷ ps) zero h l = h.1
 field_within n (p ∷ ps) (suc k) h l = field_within n ps k h.2 (omega (arith, l))
@@ -506,8 +506,8 @@ shape_is at shape old e = ap (λ (x : List (ℕ × Shape)). fine tt (record old 
 
 -- behind the last check, the scope is given
 pub scope_after : (r : Result (Unit {0}) TypeFault) (names : List (List ℕ)) (in_loop : Bool) (mid new : CheckingState) (inner : Scope) (m : Check (Unit {0}))
-    (n : Noted) → inner ≡ scope_of names mid in_loop → OnOk r (Keeps mid new) → Gives r (λ _. tt) (noted_of new) (m n) →
-    Gives r (λ _. scope_of names new in_loop) (noted_of new) ((m >>= λ _. give inner) n)
+    (n : Noted) → inner ≡ scope_of names mid in_loop → OnOk r (Keeps mid new) → AnswersCheck r (λ _. tt) (noted_of new) (m n) →
+    AnswersCheck r (λ _. scope_of names new in_loop) (noted_of new) ((m >>= λ _. give inner) n)
 scope_after (Ok x) names in_loop mid new inner m n h k g = step _ _ g (given_is (sym (same_scope names k h)))
 scope_after (Err e) names in_loop mid new inner m n h k g = fails_first _ _ g
 

@@ -13,7 +13,7 @@ use Rattle.tg_syntax.specs.declared.trees.FunDecs.{FunDecs as CodeFunDecs, out-F
 use Rattle.tg_syntax.specs.Tree.{FunDecs, function, Exp}
 use Rattle.tg_syntax.specs.Plain.{plain, plain_functions}
 use Rattle.tg_syntax.specs.Lists.{functions_of}
-use Rattle.tg_syntax.specs.NamesWithin.{IsWithin, ParamsWithin, KindWithin, FunctionsWithin}
+use Rattle.tg_syntax.specs.NamesWithin.{NameIsWithin, ParamsWithin, KindWithin, FunctionsWithin}
 use Rattle.tg_syntax.proofs.ListLaws.{plain_functions-items}
 use Rattle.tg_types.specs.declared.faults.TypeRule.{TypeRule}
 use Rattle.tg_types.specs.declared.faults.TypeRule.TheVariants.{T18}
@@ -129,9 +129,9 @@ unfolding give
 types_all {ps = ps} {ts = ts} {k = k} a e scope in_loop d n =
     a.gives scope in_loop d n [] (ap (λ x. param_types scope a.earlier x n) (none_left ps k e)) ∙ ap (λ x. fine x n) (append-nil ts)
 
-pub kind_below : (n : ℕ) (ps : List Param) (k : ℕ) (p : Param) → ParamsWithin n ps → k < length ps → p ≡ get_or ps k p → IsWithin n p.kind
+pub kind_below : (n : ℕ) (ps : List Param) (k : ℕ) (p : Param) → ParamsWithin n ps → k < length ps → p ≡ get_or ps k p → NameIsWithin n p.kind
 kind_below n [] k p h l i = absurd (omega (arith, l))
-kind_below n (x ∷ ps) zero p h l i = subst (λ y. IsWithin n y.kind) (sym i) h.1
+kind_below n (x ∷ ps) zero p h l i = subst (λ y. NameIsWithin n y.kind) (sym i) h.1
 kind_below n (x ∷ ps) (suc k) p h l i = kind_below n ps k p h.2 (omega (arith, l)) i
 
 -- a header, and those behind it

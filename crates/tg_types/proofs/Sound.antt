@@ -14,7 +14,7 @@ use Rattle.tg_meaning.specs.declared.standards.Standard.{Standard}
 use Rattle.tg_meaning.specs.declared.standards.Standard.TheVariants.{Print, Flush, Getchar, Ord, Chr, Size, Substring, Concat, Not, Exit}
 use Rattle.tg_meaning.specs.Values.{Value, int, string, nothing, Object, fields, Entry, group, Env, Ending, by_chr, by_index}
 use Rattle.tg_meaning.specs.Actions.{Actions}
-use Rattle.tg_meaning.specs.Environments.{Function, Bound, find}
+use Rattle.tg_meaning.specs.Environments.{SourceFunction, Bound, find}
 use Rattle.tg_meaning.specs.Operators.{exact_quotient, is_below, string_less, comparison, identity, field_in, element_in, with_field, with_element}
 use Rattle.tg_meaning.specs.Evaluation as E
 use Rattle.tg_meaning.specs.Evaluation.{Location, in_variable, in_field, in_element, Job, run_function, repeat_while, repeat_for, with_variable, count}
@@ -70,7 +70,7 @@ module _ (shapes : List (ℕ × Shape)) (notes : List Note) where
 
   -- what stands behind a unit of fuel, with the type of its value, and whether it may break out of a loop
   pub data IsJob (s : Worlds.Stores) : Job → Ty → Bool → Type 0 where
-    a_function : {level : ℕ} {f : Function} {seen : List Entry} {args : List Value} {sig : Signature} {b : Bool} (scope : Scope) →
+    a_function : {level : ℕ} {f : SourceFunction} {seen : List Entry} {args : List Value} {sig : Signature} {b : Bool} (scope : Scope) →
         Worlds.IsTyped shapes notes f sig (in_no_loop scope) → Worlds.Each (Worlds.IsValue s.objs) args sig.params →
         Worlds.Sees shapes notes s.vars seen scope.bindings → IsJob s (run_function level f seen args) sig.result b
     a_while : {test body : Exp} {env : Env} (scope : Scope) → Has.Has shapes notes test scope int_type →

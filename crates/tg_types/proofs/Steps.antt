@@ -11,7 +11,7 @@ use Rattle.tg_types.specs.declared.notes.Means.{Means}
 use Rattle.tg_types.specs.Types.{Ty, Shape}
 use Rattle.tg_types.specs.Checks.{Check, Noted, CheckResult, fine, fault, on_fine, keep, give, refuse, note, ◌>>=◌}
 use Rattle.tg_types.specs.Scopes.{Scope, Binding, binding, standard_bindings, standard_types, in_no_loop}
-use Rattle.tg_types.specs.States.{Fails, bad, no_memory, Gives, Leads, Keeps, Opens, scope_of}
+use Rattle.tg_types.specs.States.{Fails, bad, no_memory, AnswersCheck, Leads, Keeps, Opens, scope_of}
 
 no_truth : IsTrue false → ⊥
 no_truth h = cc
@@ -62,7 +62,7 @@ two_fail_then m f g n {e = e} d h = subst (λ x. Fails e x) (sym (grouped (m n) 
 
 -- what a `?` returns
 pub ended : {X A : Type 0} (r : Result X TypeFault) (value : X → A) (after : Noted) {c : CheckResult A} {e : TypeFault} → IsErr r × IsErrAnd r (λ x. x ≡ e) →
-    Fails e c → Gives r value after c
+    Fails e c → AnswersCheck r value after c
 ended (Ok x) value after h f = absurd (no_truth h.0)
 ended (Err x) value after {c = c} h f = subst (λ y. Fails y c) (sym h.1) f
 
@@ -72,9 +72,9 @@ leads_ended (Ok x) scope after onward h f = absurd (no_truth h.0)
 leads_ended (Err x) scope after onward {c = c} h f = subst (λ y. Fails y c) (sym h.1) f
 
 -- an answer that is handed on
-pub carry : {X A : Type 0} (r : Result X TypeFault) (value : X → A) (after : Noted) {c c' : CheckResult A} → c ≡ c' → Gives r value after c' →
-    Gives r value after c
-carry r value after d g = subst (λ c. Gives r value after c) (sym d) g
+pub carry : {X A : Type 0} (r : Result X TypeFault) (value : X → A) (after : Noted) {c c' : CheckResult A} → c ≡ c' → AnswersCheck r value after c' →
+    AnswersCheck r value after c
+carry r value after d g = subst (λ c. AnswersCheck r value after c) (sym d) g
 
 pub last_fails : {A : Type 0} {c c' : CheckResult A} {e : TypeFault} → c ≡ c' → Fails e c' → Fails e c
 last_fails {e = e} d f = subst (λ c. Fails e c) (sym d) f

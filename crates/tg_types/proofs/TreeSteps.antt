@@ -31,7 +31,7 @@ use Rattle.tg_types.specs.Typing.{start_of, count, expect_all, expect_fields, bo
 use Rattle.tg_types.specs.Selections.{init_count, function_count}
 use Rattle.tg_types.specs.Trees.{fitting, choice, second_way, idle, one_body, IsAmong}
 use Rattle.tg_syntax.specs.NamesWithin.{NamesWithin, ExpsWithin, InitsWithin, DecsWithin, FunctionsWithin}
-use Rattle.tg_types.specs.States.{Fails, Gives, Leads, Keeps, Opens, scope_of, noted_of}
+use Rattle.tg_types.specs.States.{Fails, AnswersCheck, Leads, Keeps, Opens, scope_of, noted_of}
 use Rattle.tg_types.proofs.LimitFaults.{span_is}
 use Rattle.tg_types.proofs.Steps.{step, two_steps, fails_first, two_fail_first, two_fail_then, last_fails, same_scope, keeps_both, keeps_same}
 use Rattle.tg_types.proofs.Steps.{opens_keep, opens_both}
@@ -316,14 +316,14 @@ pub leads_carry : {X A : Type 0} (r : Result X TypeFault) (scope : Scope) (after
 leads_carry r scope after onward d g = subst (λ c. Leads r scope after onward c) (sym d) g
 
 pub leads_on : {X A : Type 0} (r : Result X TypeFault) (scope : Scope) (after : Noted) (m : Check Scope) (onward : Scope → Check A) (n : Noted) →
-    Gives r (λ _. scope) after (m n) → Leads r scope after onward ((m >>= onward) n)
+    AnswersCheck r (λ _. scope) after (m n) → Leads r scope after onward ((m >>= onward) n)
 unfolding ◌>>=◌
 leads_on (Ok x) scope after m onward n g = ap (λ y. on_fine y onward) g
 leads_on (Err e) scope after m onward n g = fails_first m onward g
 
 pub leads_kept : {X A : Type 0} (r : Result X TypeFault) (names : List (List ℕ)) (in_loop : Bool) (old new : CheckingState) (m : Check (Unit {0}))
     (onward : Scope → Check A) (n : Noted) (inner : Scope) → inner ≡ scope_of names old in_loop → OnOk r (Keeps old new) →
-    Gives r (λ _. tt) (noted_of new) (m n) → Leads r (scope_of names new in_loop) (noted_of new) onward ((m >>= λ _. onward inner) n)
+    AnswersCheck r (λ _. tt) (noted_of new) (m n) → Leads r (scope_of names new in_loop) (noted_of new) onward ((m >>= λ _. onward inner) n)
 unfolding ◌>>=◌
 leads_kept (Ok x) names in_loop old new m onward n inner e k g =
     ap (λ y. on_fine y (λ _. onward inner)) g ∙ ap (λ s. onward s (noted_of new)) (same_scope names k e)

@@ -7,7 +7,7 @@ use Rattle.tg_syntax.specs.Tree.{FunDecs, function}
 use Rattle.tg_meaning.specs.Values.{Value, int, string, nil, reference, nothing, Object, fields, elements, Entry, variable, group, standard}
 use Rattle.tg_meaning.specs.Values.{SourceWorld, start, add_variable, put_variable, add_object, put_object}
 use Rattle.tg_meaning.specs.Operators.{get_field, set_field, field_in, element_in, with_field, with_element}
-use Rattle.tg_meaning.specs.Environments.{Function, Bound, to_variable, to_function, to_standard, function_named, or_beyond, find}
+use Rattle.tg_meaning.specs.Environments.{SourceFunction, Bound, to_variable, to_function, to_standard, function_named, or_beyond, find}
 use Rattle.tg_types.specs.Types.{Ty, int_type, string_type, nil_type, none_type, record_type, array_type, Shape, record_shape, array_shape}
 use Rattle.tg_symbols.specs.Tables.{named}
 use Rattle.tg_types.specs.Scopes.{Signature, Binding, variable_at, function_at, standard_one, Scope, name_of, at_of, binding, in_no_loop}
@@ -294,7 +294,7 @@ module _ (shapes : List (ℕ × Shape)) (notes : List Note) where
   sees_on v w _ _ g (sees_standard {x} {f} {es} {bs} s) = sees_standard (sees_on v w es bs g s)
 
   -- a function of a group with its types
-  pub record IsTyped (f : Function) (s : Signature) (scope : Scope) : Type 0 where
+  pub record IsTyped (f : SourceFunction) (s : Signature) (scope : Scope) : Type 0 where
     pub body_type : Ty
     pub counts : length f.params ≡ length s.params
     pub body : Has shapes notes f.body (with_params f.params s.params scope) body_type
@@ -303,7 +303,7 @@ module _ (shapes : List (ℕ × Shape)) (notes : List Note) where
   pub data Means (vars : List Ty) : Bound → Binding → Type 0 where
     means_variable : {level place at : ℕ} {t : Ty} {loop : Bool} → slice_get vars place ≡ Some t →
         Means vars (to_variable level place) (variable_at at t loop)
-    means_function : {level at : ℕ} {f : Function} {seen : List Entry} {s : Signature} (scope : Scope) → IsTyped f s (in_no_loop scope) →
+    means_function : {level at : ℕ} {f : SourceFunction} {seen : List Entry} {s : Signature} (scope : Scope) → IsTyped f s (in_no_loop scope) →
         Sees vars seen scope.bindings → Means vars (to_function level f seen) (function_at at s)
     means_standard : {f : _} → Means vars (to_standard f) (standard_one f)
 
@@ -314,7 +314,7 @@ module _ (shapes : List (ℕ × Shape)) (notes : List Note) where
 
   -- a name is one of a group's functions, or stands for the same beyond it
   pub data InGroup (x : ℕ) (fs : FunDecs) (beyond : List (ℕ × Binding)) (inner : Scope) (b : Binding) : Type 0 where
-    there : (f : Function) (s : Signature) (at : ℕ) → function_named x fs ≡ Some f → b ≡ function_at at s → IsTyped f s inner → InGroup x fs beyond inner b
+    there : (f : SourceFunction) (s : Signature) (at : ℕ) → function_named x fs ≡ Some f → b ≡ function_at at s → IsTyped f s inner → InGroup x fs beyond inner b
     not_there : function_named x fs ≡ None → named x beyond ≡ Some b → InGroup x fs beyond inner b
 
   in_group : (x : ℕ) (fs : FunDecs) (ss : List Signature) (scope inner : Scope) (b : Binding) → Apart fs → HasBodies shapes notes fs ss inner →
@@ -324,7 +324,7 @@ module _ (shapes : List (ℕ × Shape)) (notes : List Note) where
       later (in_group x rest ss (binding f (function_at (at_of f) s) scope) inner b a.1 hs e)
     where
       here : (c : Bool) → (name_of f == x) ≡ c → function_named x rest ≡ None →
-          (if c then Some (function_at (at_of f) s) else named x scope.bindings) ≡ Some b → (o : Option Function) →
+          (if c then Some (function_at (at_of f) s) else named x scope.bindings) ≡ Some b → (o : Option SourceFunction) →
           o ≡ (if c then Some (record { params = ps; body = body }) else function_named x rest) → function_named x (function f ps r body rest) ≡ o →
           InGroup x (function f ps r body rest) scope.bindings inner b
       here true is n e o eo fo =
@@ -332,7 +332,7 @@ module _ (shapes : List (ℕ × Shape)) (notes : List Note) where
           (record { body_type = u; counts = l; body = h; fits = fit })
       here false is n e o eo fo = not_there (fo ∙ eo ∙ n) e
 
-      not_here : (c : Bool) → (name_of f == x) ≡ c → (g : Function) → function_named x rest ≡ Some g →
+      not_here : (c : Bool) → (name_of f == x) ≡ c → (g : SourceFunction) → function_named x rest ≡ Some g →
           (if c then Some (record { params = ps; body = body }) else function_named x rest) ≡ Some g
       not_here true is g e' =
           let same : name_of f ≡ x = eqb-true (name_of f) x is in

@@ -14,7 +14,7 @@ use Rattle.tg_types.specs.Scopes.{name_of}
 use Rattle.tg_types.specs.Groups.{Chain, outside, ends_at, endless, stands_in}
 use Rattle.tg_types.specs.declared.chains.Chain.{Chain as CodeChain}
 use Rattle.tg_types.specs.declared.chains.Chain.TheVariants.{Outside, EndsAt, Onward}
-use Rattle.tg_syntax.specs.NamesWithin.{IsWithin}
+use Rattle.tg_syntax.specs.NamesWithin.{NameIsWithin}
 
 -- a set holds the names of identifiers
 abbrev pub HasNames : {S : Type 0} → HashSet ℕ S → List Ident → Type 0
@@ -37,7 +37,7 @@ chain_from ds (Onward k) = endless
 
 -- a chain names places of a group, and names within a list
 abbrev pub ChainWithin : (count : ℕ) → List TypeDec → CodeChain → Type 0
-ChainWithin n ds (Outside x) = IsWithin n x
+ChainWithin n ds (Outside x) = NameIsWithin n x
 ChainWithin n ds (EndsAt k) = k < length ds
 ChainWithin n ds (Onward k) = k < length ds
 

@@ -27,10 +27,11 @@ pub data Fails {A : Type 0} : TypeFault → CheckResult A → Type 0 where
   no_memory : {c : CheckResult A} → Fails Memory c
 
 -- an answer is what a check gives, with what is noted after it
-abbrev pub Gives : {X A : Type 0} → Result X TypeFault → (X → A) → (after : Noted) → CheckResult A →
+abbrev pub AnswersCheck : {X A : Type 0} → Result X TypeFault → (X → A) → (after : Noted) →
+    CheckResult A →
     Type 0
-Gives (Ok x) value after c = c ≡ fine (value x) after
-Gives (Err e) value after c = Fails e c
+AnswersCheck (Ok x) value after c = c ≡ fine (value x) after
+AnswersCheck (Err e) value after c = Fails e c
 
 -- an answer is that a check goes on behind a scope, or its fault
 abbrev pub Leads : {X A : Type 0} → Result X TypeFault → Scope → (after : Noted) →
@@ -39,18 +40,18 @@ Leads (Ok x) scope after onward c = c ≡ onward scope after
 Leads (Err e) scope after onward c = Fails e c
 
 -- a call that moves the state on answers what a check gives, in the scope of the state before
-abbrev pub Follows : {X A : Type 0} → (names : List (List ℕ)) → (old new : CheckingState) →
+abbrev pub MovesOn : {X A : Type 0} → (names : List (List ℕ)) → (old new : CheckingState) →
     (in_loop : Bool) → Result X TypeFault → (X → A) → (Scope → Check A) → Type 0
-Follows names old new in_loop result value check =
+MovesOn names old new in_loop result value check =
     (scope : Scope) → scope ≡ scope_of names old in_loop →
-    Gives result value (noted_of new) (check scope (noted_of old))
+    AnswersCheck result value (noted_of new) (check scope (noted_of old))
 
 -- the same of a call that only looks at the state, whatever is noted
 abbrev pub Judges : {X A : Type 0} → (names : List (List ℕ)) → CheckingState →
     Result X TypeFault → (X → A) → (Scope → Check A) → Type 0
 Judges names state result value check =
     (scope : Scope) (in_loop : Bool) → scope ≡ scope_of names state in_loop →
-    (n : Noted) → Gives result value n (check scope n)
+    (n : Noted) → AnswersCheck result value n (check scope n)
 
 -- a call declares what stands before the rest of a list of declarations, which goes on behind it
 abbrev pub Declares : {X : Type 0} → (names : List (List ℕ)) → (old new : CheckingState) →

@@ -2,7 +2,7 @@ ghost use Rattle.std.specs.Prelude.{◌≡◌, ◌<◌, ℕ, length, map, slice_
 ghost use Rattle.tg_syntax.specs.Plain.{plain_type, plain_form};
 ghost use Rattle.tg_types.specs.declared.chains.Chain.{Chain as Place};
 ghost use Rattle.tg_types.specs.declared.chains.Chain.TheVariants.{Onward};
-ghost use Rattle.tg_syntax.specs.NamesWithin.{TypesWithin, IsWithin};
+ghost use Rattle.tg_syntax.specs.NamesWithin.{TypesWithin, NameIsWithin};
 ghost use Rattle.tg_types.specs.Groups as groups;
 ghost use Rattle.tg_types.specs.Declaring.{
   HasPlaces,
@@ -101,7 +101,7 @@ fn link_of(places: &HashMap<u32, usize>, group: &[TypeDec], at: usize, form: &Fo
 
 fn start_of(places: &HashMap<u32, usize>, group: &[TypeDec], x: Ident) -> Chain
     requires places { HasPlaces places.now (map plain_type group.now) }
-    ensures within { (n : ℕ) → TypesWithin n (map plain_type group.now) → IsWithin n x →
+    ensures within { (n : ℕ) → TypesWithin n (map plain_type group.now) → NameIsWithin n x →
         ChainWithin n (map plain_type group.now) result }
     ensures chain { result ≡ start_in (map plain_type group.now) x }
 {

@@ -3,14 +3,14 @@ ghost use Rattle.std.specs.Prelude.{OnOk, IfOk};
 ghost use Rattle.tg_syntax.specs.declared.tokens.Ident.{Ident as PlainIdent};
 ghost use Rattle.tg_syntax.specs.Plain.{plain_type, plain_form};
 ghost use Rattle.tg_syntax.specs.Tree.{TypeDec as PlainTypeDec};
-ghost use Rattle.tg_syntax.specs.NamesWithin.{TypesWithin, FormWithin, ParamsWithin, IsWithin};
+ghost use Rattle.tg_syntax.specs.NamesWithin.{TypesWithin, FormWithin, ParamsWithin, NameIsWithin};
 ghost use Rattle.tg_types.specs.declared.faults.TypeRule.TheVariants.{T16};
 ghost use Rattle.tg_types.specs.Checks.{Noted, keep, add_shape};
 ghost use Rattle.tg_types.specs.Scopes.{Scope};
 ghost use Rattle.tg_types.specs.Groups as groups;
 ghost use Rattle.tg_types.specs.Declaring.{HasNames, HasPlaces, AreDifferent, chain_from};
 ghost use Rattle.tg_types.specs.Declaring.{ChainWithin, named_types};
-ghost use Rattle.tg_types.specs.States.{Gives, Follows, Keeps, Opens, scope_of, noted_of};
+ghost use Rattle.tg_types.specs.States.{AnswersCheck, MovesOn, Keeps, Opens, scope_of, noted_of};
 
 use crate::chains::{Chain, ends_of};
 use crate::faults::{TypeFault, TypeRule};
@@ -32,7 +32,7 @@ pub(crate) fn declare_types(
     group: &[TypeDec],
 ) -> Result<(), TypeFault>
     requires { TypesWithin (length names.now) (map plain_type group.now) }
-    ensures given { (in_loop : Bool) → Follows names.now state.old state.new in_loop result
+    ensures given { (in_loop : Bool) → MovesOn names.now state.old state.new in_loop result
         (λ _. scope_of names.now state.new in_loop)
         (groups.declare_types (map plain_type group.now)) }
     ensures opens { OnOk result (Opens state.old state.new) }
@@ -48,7 +48,7 @@ pub(crate) fn declare_types(
 
 // The places of the names of a group, which are all different.
 fn places_of(alloc: Global, group: &[TypeDec]) -> Result<HashMap<u32, usize>, TypeFault>
-    ensures given { (n : Noted) → Gives result (λ _. tt) n
+    ensures given { (n : Noted) → AnswersCheck result (λ _. tt) n
         (groups.no_repeats T16 [] (groups.names_of (map plain_type group.now)) n) }
     ensures places { IfOk result (λ p. HasPlaces p (map plain_type group.now)) }
     ensures different { OnOk result (AreDifferent (map plain_type group.now)) }
@@ -73,11 +73,11 @@ fn known(
     places: &HashMap<u32, usize>,
     x: Ident,
 ) -> Result<(), TypeFault>
-    requires { IsWithin (length names.now) x }
+    requires { NameIsWithin (length names.now) x }
     ensures { (group : List PlainTypeDec) (scope : Scope) (in_loop : Bool) →
         HasPlaces places.now group →
         scope ≡ scope_of names.now state.now in_loop → (n : Noted) →
-        Gives result (λ _. tt) n (groups.known group scope x n) }
+        AnswersCheck result (λ _. tt) n (groups.known group scope x n) }
 {
     let is_known = places.contains_key(&x.name.0) || type_of(names, state, x).is_some();
     kept(TypeRule::T3, x.span.from, is_known)
@@ -93,7 +93,8 @@ fn known_forms(
     ensures { (whole : List PlainTypeDec) (scope : Scope) (in_loop : Bool) →
         HasPlaces places.now whole →
         scope ≡ scope_of names.now state.now in_loop → (n : Noted) →
-        Gives result (λ _. tt) n (groups.known_forms whole (map plain_type group.now) scope n) }
+        AnswersCheck result (λ _. tt) n (groups.known_forms whole
+            (map plain_type group.now) scope n) }
 {
     for dec in group {
         known_form(names, state, places, &dec.form)?;
@@ -111,7 +112,7 @@ fn known_form(
     ensures { (whole : List PlainTypeDec) (scope : Scope) (in_loop : Bool) →
         HasPlaces places.now whole →
         scope ≡ scope_of names.now state.now in_loop → (n : Noted) →
-        Gives result (λ _. tt) n (groups.known_form whole scope (plain_form form.now) n) }
+        AnswersCheck result (λ _. tt) n (groups.known_form whole scope (plain_form form.now) n) }
 {
     match form {
         Form::Alias(x) => known(names, state, places, *x),
@@ -130,7 +131,7 @@ fn known_fields(
     ensures { (whole : List PlainTypeDec) (scope : Scope) (in_loop : Bool) →
         HasPlaces places.now whole →
         scope ≡ scope_of names.now state.now in_loop → (n : Noted) →
-        Gives result (λ _. tt) n (groups.known_fields whole scope [] fields.now n) }
+        AnswersCheck result (λ _. tt) n (groups.known_fields whole scope [] fields.now n) }
 {
     let mut earlier = HashSet::new(state.alloc);
     for field in fields {
@@ -143,7 +144,8 @@ fn known_fields(
 /// A name that isn't among those before it.
 pub(crate) fn fresh(earlier: &mut HashSet<u32>, rule: TypeRule, x: Ident) -> Result<(), TypeFault>
     ensures given { (seen : List PlainIdent) → HasNames earlier.old seen → (n : Noted) →
-        Gives result (λ _. tt) n (keep rule x.span.from (not (groups.stands_in x.name.0 seen)) n) }
+        AnswersCheck result (λ _. tt) n (keep rule x.span.from (not
+            (groups.stands_in x.name.0 seen)) n) }
     ensures seen { (seen : List PlainIdent) → HasNames earlier.old seen →
         OnOk result (HasNames earlier.new (x ∷ seen)) }
 {
@@ -156,7 +158,7 @@ fn chains_end(ends: &[Chain], group: &[TypeDec]) -> Result<(), TypeFault>
     requires within { (count : ℕ) × All (ChainWithin count (map plain_type group.now)) ends.now }
     ensures { let whole = map plain_type group.now in
         map (chain_from whole) ends.now ≡ map (λ d. groups.chain_of whole d.name) whole →
-        (n : Noted) → Gives result (λ _. tt) n (groups.chains_end whole whole n) }
+        (n : Noted) → AnswersCheck result (λ _. tt) n (groups.chains_end whole whole n) }
 {
     let mut at = 0;
     for dec in group {
@@ -235,7 +237,7 @@ fn open_types(state: &mut CheckingState, types: &[Ty], group: &[TypeDec]) -> Res
 fn add_forms(names: &Names, state: &mut CheckingState, group: &[TypeDec]) -> Result<(), TypeFault>
     requires { TypesWithin (length names.now) (map plain_type group.now) }
     ensures given { (in_loop : Bool) →
-        Follows names.now state.old state.new in_loop result (λ _. tt)
+        MovesOn names.now state.old state.new in_loop result (λ _. tt)
         (λ scope. groups.add_forms scope (map plain_type group.now)) }
     ensures kept { OnOk result (Keeps state.old state.new) }
 {
@@ -248,7 +250,7 @@ fn add_forms(names: &Names, state: &mut CheckingState, group: &[TypeDec]) -> Res
 fn add_form(names: &Names, state: &mut CheckingState, dec: &TypeDec) -> Result<(), TypeFault>
     requires { FormWithin (length names.now) (plain_form dec.now.form) }
     ensures given { (in_loop : Bool) →
-        Follows names.now state.old state.new in_loop result (λ _. tt)
+        MovesOn names.now state.old state.new in_loop result (λ _. tt)
         (λ scope. groups.add_form scope dec.now.name.span.from (plain_form dec.now.form)) }
     ensures kept { OnOk result (Keeps state.old state.new) }
 {
@@ -266,7 +268,7 @@ fn add_form(names: &Names, state: &mut CheckingState, dec: &TypeDec) -> Result<(
 }
 
 fn add_shape(state: &mut CheckingState, at: u32, shape: Shape) -> Result<(), TypeFault>
-    ensures given { Gives result (λ _. tt) (noted_of state.new)
+    ensures given { AnswersCheck result (λ _. tt) (noted_of state.new)
         (add_shape at shape (noted_of state.old)) }
     ensures kept { OnOk result (Keeps state.old state.new) }
 {
@@ -291,7 +293,7 @@ fn fields_of(names: &Names, state: &CheckingState, fields: &[Param]) -> Result<T
 }
 
 fn known_type(names: &Names, state: &CheckingState, x: Ident) -> Ty
-    requires { IsWithin (length names.now) x }
+    requires { NameIsWithin (length names.now) x }
     ensures { (scope : Scope) (in_loop : Bool) → scope ≡ scope_of names.now state.now in_loop →
         result ≡ groups.known_type scope x }
 {

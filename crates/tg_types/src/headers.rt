@@ -6,7 +6,7 @@ ghost use Rattle.tg_types.specs.Scopes.{Scope};
 ghost use Rattle.tg_types.specs.Groups as groups;
 ghost use Rattle.tg_types.specs.Selections.{function_count, header_of};
 ghost use Rattle.tg_syntax.specs.NamesWithin.{FunctionsWithin, ParamsWithin, KindWithin};
-ghost use Rattle.tg_types.specs.States.{Gives, Judges, Opens, scope_of, noted_of};
+ghost use Rattle.tg_types.specs.States.{AnswersCheck, Judges, Opens, scope_of, noted_of};
 
 use crate::bindings::{Binding, Signature};
 use crate::faults::{TypeFault, TypeRule};
@@ -20,7 +20,7 @@ use tg_syntax::{FunDec, FunDecs, Ident, Param};
 
 /// The functions of a group have different names.
 pub(crate) fn all_fresh(state: &CheckingState, functions: &FunDecs) -> Result<(), TypeFault>
-    ensures { (n : Noted) → Gives result (λ _. tt) n
+    ensures { (n : Noted) → AnswersCheck result (λ _. tt) n
         (groups.no_repeats T17 [] (groups.function_names (plain_functions functions.now)) n) }
 {
     let mut earlier = HashSet::new(state.alloc);

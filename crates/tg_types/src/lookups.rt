@@ -4,7 +4,7 @@ ghost use Rattle.tg_symbols.specs.Tables.{named};
 ghost use Rattle.tg_types.specs.Scopes.{Scope, bound, standard_types};
 ghost use Rattle.tg_types.specs.Groups as groups;
 ghost use Rattle.tg_types.specs.Typing as typing;
-ghost use Rattle.tg_types.specs.States.{Follows, Judges, Keeps, scope_of};
+ghost use Rattle.tg_types.specs.States.{MovesOn, Judges, Keeps, scope_of};
 
 use crate::bindings::Signature;
 use crate::faults::{TypeFault, TypeRule};
@@ -40,7 +40,7 @@ pub(crate) fn type_named(names: &Names, state: &CheckingState, x: Ident) -> Resu
 /// A variable that is used.
 pub(crate) fn variable(names: &Names, state: &mut CheckingState, x: Ident) -> Result<Ty, TypeFault>
     requires { x.name.0 < length names.now }
-    ensures given { (in_loop : Bool) → Follows names.now state.old state.new in_loop result (λ t. t)
+    ensures given { (in_loop : Bool) → MovesOn names.now state.old state.new in_loop result (λ t. t)
         (λ scope. typing.variable_of x (bound x scope)) }
     ensures kept { Keeps state.old state.new }
 {
@@ -66,7 +66,7 @@ pub(crate) fn function(
     f: Ident,
 ) -> Result<Signature, TypeFault>
     requires { f.name.0 < length names.now }
-    ensures given { (in_loop : Bool) → Follows names.now state.old state.new in_loop result (λ s. s)
+    ensures given { (in_loop : Bool) → MovesOn names.now state.old state.new in_loop result (λ s. s)
         (λ scope. typing.function_of f (bound f scope)) }
     ensures kept { Keeps state.old state.new }
 {

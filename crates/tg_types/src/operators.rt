@@ -1,5 +1,5 @@
 ghost use Rattle.tg_types.specs.Typing as typing;
-ghost use Rattle.tg_types.specs.States.{Gives, Keeps, noted_of};
+ghost use Rattle.tg_types.specs.States.{AnswersCheck, Keeps, noted_of};
 ghost use Rattle.tg_syntax.specs.declared.trees.Op.TheVariants.{Plus};
 ghost use Rattle.tg_types.specs.Checks.{Noted};
 
@@ -12,7 +12,7 @@ use tg_syntax::Op;
 
 // Notes whether strings or anything else are compared.
 fn compares(state: &mut CheckingState, at: u32, ty: Ty) -> Result<(), TypeFault>
-    ensures given { Gives result (λ _. tt) (noted_of state.new)
+    ensures given { AnswersCheck result (λ _. tt) (noted_of state.new)
         (typing.compares at ty (noted_of state.old)) }
     ensures kept { Keeps state.old state.new }
 {
@@ -25,7 +25,7 @@ fn compares(state: &mut CheckingState, at: u32, ty: Ty) -> Result<(), TypeFault>
 }
 
 fn ordered(state: &mut CheckingState, left: Ty, at: u32, left_at: u32) -> Result<Ty, TypeFault>
-    ensures given { Gives result (λ t. t) (noted_of state.new)
+    ensures given { AnswersCheck result (λ t. t) (noted_of state.new)
         (typing.ordered left at left_at (noted_of state.old)) }
     ensures kept { Keeps state.old state.new }
 {
@@ -36,7 +36,7 @@ fn ordered(state: &mut CheckingState, left: Ty, at: u32, left_at: u32) -> Result
 }
 
 fn equated(state: &mut CheckingState, left: Ty, at: u32, left_at: u32) -> Result<Ty, TypeFault>
-    ensures given { Gives result (λ t. t) (noted_of state.new)
+    ensures given { AnswersCheck result (λ t. t) (noted_of state.new)
         (typing.equated left at left_at (noted_of state.old)) }
     ensures kept { Keeps state.old state.new }
 {
@@ -47,7 +47,8 @@ fn equated(state: &mut CheckingState, left: Ty, at: u32, left_at: u32) -> Result
 
 // The left side of an operator that calculates an int.
 fn calculated(left: Ty, left_at: u32) -> Result<Ty, TypeFault>
-    ensures { (n : Noted) → Gives result (λ t. t) n (typing.left_side Plus left 0 left_at n) }
+    ensures { (n : Noted) → AnswersCheck result (λ t. t) n
+        (typing.left_side Plus left 0 left_at n) }
 {
     expected(Ty::int(), left, left_at)?;
     Ok(Ty::int())
@@ -61,7 +62,7 @@ pub(crate) fn left_side(
     at: u32,
     left_at: u32,
 ) -> Result<Ty, TypeFault>
-    ensures given { Gives result (λ t. t) (noted_of state.new)
+    ensures given { AnswersCheck result (λ t. t) (noted_of state.new)
         (typing.left_side op left at left_at (noted_of state.old)) }
     ensures kept { Keeps state.old state.new }
 {
@@ -75,7 +76,7 @@ pub(crate) fn left_side(
 }
 
 fn equal_sides(left: Ty, right: Ty, right_at: u32, whole: u32) -> Result<(), TypeFault>
-    ensures { (n : Noted) → Gives result (λ _. tt) n
+    ensures { (n : Noted) → AnswersCheck result (λ _. tt) n
         (typing.equal_sides left right right_at whole n) }
 {
     value_needed(right, right_at)?;
@@ -91,7 +92,7 @@ pub(crate) fn right_side(
     right_at: u32,
     whole: u32,
 ) -> Result<(), TypeFault>
-    ensures { (n : Noted) → Gives result (λ _. tt) n
+    ensures { (n : Noted) → AnswersCheck result (λ _. tt) n
         (typing.right_side op left right right_at whole n) }
 {
     match op {

@@ -2,7 +2,7 @@ ghost use Rattle.std.specs.Prelude.{◌≡◌, IfOk, length};
 ghost use Rattle.tg_syntax.specs.Plain.{plain_inits};
 ghost use Rattle.tg_types.specs.Typing as typing;
 ghost use Rattle.tg_types.specs.Selections.{init_count, selected_of, placed_of, made_fields};
-ghost use Rattle.tg_types.specs.States.{Gives, Keeps, noted_of};
+ghost use Rattle.tg_types.specs.States.{AnswersCheck, Keeps, noted_of};
 
 use crate::faults::{TypeFault, TypeRule};
 use crate::kinds::Ty;
@@ -14,7 +14,7 @@ use tg_syntax::{Ident, Inits};
 
 /// The fields of a type, which is that of the part at a byte.
 fn fields_of(state: &CheckingState, ty: Ty, at: u32) -> Result<&Table<Ty>, TypeFault>
-    ensures { Gives result (λ t. t.now) (noted_of state.now)
+    ensures { AnswersCheck result (λ t. t.now) (noted_of state.now)
         (typing.fields_of ty at (noted_of state.now)) }
 {
     let fault = TypeFault::Bad {
@@ -35,7 +35,7 @@ fn fields_of(state: &CheckingState, ty: Ty, at: u32) -> Result<&Table<Ty>, TypeF
 
 /// The type of the elements of a type, which is that of the part at a byte.
 pub(crate) fn element_of(state: &CheckingState, ty: Ty, at: u32) -> Result<Ty, TypeFault>
-    ensures { Gives result (λ t. t) (noted_of state.now)
+    ensures { AnswersCheck result (λ t. t) (noted_of state.now)
         (typing.element_of ty at (noted_of state.now)) }
 {
     let fault = TypeFault::Bad {
@@ -61,7 +61,7 @@ pub(crate) fn selected(
     at: u32,
     field: Ident,
 ) -> Result<Ty, TypeFault>
-    ensures given { Gives result (λ t. t) (noted_of state.new)
+    ensures given { AnswersCheck result (λ t. t) (noted_of state.new)
         (selected_of ty at field (noted_of state.old)) }
     ensures kept { Keeps state.old state.new }
 {
@@ -72,7 +72,7 @@ pub(crate) fn selected(
 
 // The place and the type of a field.
 fn placed(state: &CheckingState, ty: Ty, at: u32, field: Ident) -> Result<(u32, Ty), TypeFault>
-    ensures { Gives result (λ p. p) (noted_of state.now)
+    ensures { AnswersCheck result (λ p. p) (noted_of state.now)
         (placed_of ty at field (noted_of state.now)) }
 {
     let fields = fields_of(state, ty, at)?;
@@ -96,7 +96,7 @@ pub(crate) fn made(
     at: u32,
     inits: &Inits,
 ) -> Result<Vec<(u32, Ty)>, TypeFault>
-    ensures given { Gives result (λ fs. fs.items) (noted_of state.now)
+    ensures given { AnswersCheck result (λ fs. fs.items) (noted_of state.now)
         (made_fields ty at (plain_inits inits.now) (noted_of state.now)) }
     ensures as_many { IfOk result (λ fs. length fs.items ≡ init_count (plain_inits inits.now)) }
 {

@@ -1,6 +1,6 @@
 ghost use Rattle.tg_types.specs.Checks.{Noted, keep};
 ghost use Rattle.tg_types.specs.Typing as typing;
-ghost use Rattle.tg_types.specs.States.{Gives};
+ghost use Rattle.tg_types.specs.States.{AnswersCheck};
 
 use crate::faults::{TypeFault, TypeRule};
 use crate::kinds::Ty;
@@ -8,7 +8,7 @@ use tg_syntax::Ident;
 
 /// A fault of a rule at a byte, where the rule isn't kept.
 pub(crate) fn kept(rule: TypeRule, at: u32, is_kept: bool) -> Result<(), TypeFault>
-    ensures { (n : Noted) → Gives result (λ _. tt) n (keep rule at is_kept n) }
+    ensures { (n : Noted) → AnswersCheck result (λ _. tt) n (keep rule at is_kept n) }
 {
     if is_kept {
         Ok(())
@@ -19,14 +19,14 @@ pub(crate) fn kept(rule: TypeRule, at: u32, is_kept: bool) -> Result<(), TypeFau
 
 /// A value is needed.
 pub(crate) fn value_needed(ty: Ty, at: u32) -> Result<(), TypeFault>
-    ensures { (n : Noted) → Gives result (λ _. tt) n (typing.needs_value ty at n) }
+    ensures { (n : Noted) → AnswersCheck result (λ _. tt) n (typing.needs_value ty at n) }
 {
     kept(TypeRule::T12, at, !ty.same(Ty::nothing()))
 }
 
 /// A value of a type that fits is needed.
 pub(crate) fn expected(wanted: Ty, got: Ty, at: u32) -> Result<(), TypeFault>
-    ensures { (n : Noted) → Gives result (λ _. tt) n (typing.expect wanted got at n) }
+    ensures { (n : Noted) → AnswersCheck result (λ _. tt) n (typing.expect wanted got at n) }
 {
     value_needed(got, at)?;
     kept(TypeRule::T6, at, got.fits(wanted))
@@ -34,14 +34,14 @@ pub(crate) fn expected(wanted: Ty, got: Ty, at: u32) -> Result<(), TypeFault>
 
 /// No value may stand here.
 pub(crate) fn nothing_expected(got: Ty, at: u32) -> Result<(), TypeFault>
-    ensures { (n : Noted) → Gives result (λ _. tt) n (typing.expect_none got at n) }
+    ensures { (n : Noted) → AnswersCheck result (λ _. tt) n (typing.expect_none got at n) }
 {
     kept(TypeRule::T6, at, got.same(Ty::nothing()))
 }
 
 /// The type of a variable that is declared without one.
 pub(crate) fn own_type(ty: Ty, at: u32) -> Result<Ty, TypeFault>
-    ensures { (n : Noted) → Gives result (λ t. t) n (typing.own_type ty at n) }
+    ensures { (n : Noted) → AnswersCheck result (λ t. t) n (typing.own_type ty at n) }
 {
     value_needed(ty, at)?;
     kept(TypeRule::T13, at, !ty.same(Ty::nil()))?;
@@ -50,7 +50,8 @@ pub(crate) fn own_type(ty: Ty, at: u32) -> Result<Ty, TypeFault>
 
 /// A function's body has the type that its declaration names, or no value.
 pub(crate) fn body_fits(kind: Option<Ident>, outcome: Ty, got: Ty, at: u32) -> Result<(), TypeFault>
-    ensures { (n : Noted) → Gives result (λ _. tt) n (typing.body_fits kind outcome got at n) }
+    ensures { (n : Noted) → AnswersCheck result (λ _. tt) n
+        (typing.body_fits kind outcome got at n) }
 {
     match kind {
         Some(_) => expected(outcome, got, at),

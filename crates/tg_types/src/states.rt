@@ -1,6 +1,6 @@
 ghost use Rattle.std.specs.Prelude.{◌≡◌, [], List, ℕ};
 ghost use Rattle.tg_types.specs.Checks.{note, Noted};
-ghost use Rattle.tg_types.specs.States.{Gives, Keeps, noted_of};
+ghost use Rattle.tg_types.specs.States.{AnswersCheck, Keeps, noted_of};
 
 use crate::bindings::Binding;
 use crate::faults::TypeFault;
@@ -38,7 +38,7 @@ impl CheckingState {
 
     /// A note behind the others.
     pub(crate) fn note(&mut self, at: u32, means: Means) -> Result<(), TypeFault>
-        ensures given { Gives result (λ _. tt) (noted_of self.new)
+        ensures given { AnswersCheck result (λ _. tt) (noted_of self.new)
             (note at means (noted_of self.old)) }
         ensures kept { Keeps self.old self.new }
     {

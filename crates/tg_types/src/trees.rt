@@ -18,8 +18,8 @@ ghost use Rattle.tg_types.specs.Trees.{nowhere, fitting, without_value, left_ope
 ghost use Rattle.tg_types.specs.Trees.{right_operand, filled, second_way, choice, idle, counting};
 ghost use Rattle.tg_types.specs.Trees.{one_body, IsAmong};
 ghost use Rattle.tg_syntax.specs.NamesWithin.{NamesWithin, PlaceWithin, ExpsWithin, InitsWithin};
-ghost use Rattle.tg_syntax.specs.NamesWithin.{DecsWithin, FunctionsWithin, IsWithin};
-ghost use Rattle.tg_types.specs.States.{Gives, Follows, Judges, Declares, Keeps, Opens};
+ghost use Rattle.tg_syntax.specs.NamesWithin.{DecsWithin, FunctionsWithin, NameIsWithin};
+ghost use Rattle.tg_types.specs.States.{AnswersCheck, MovesOn, Judges, Declares, Keeps, Opens};
 ghost use Rattle.tg_types.specs.States.{scope_of, noted_of};
 
 use crate::bindings::{Binding, Signature};
@@ -44,7 +44,7 @@ pub(crate) fn typed(
     in_loop: bool,
 ) -> Result<Ty, TypeFault>
     requires { NamesWithin (length names.now) (plain e.now) }
-    ensures given { Follows names.now state.old state.new in_loop result (λ t. t)
+    ensures given { MovesOn names.now state.old state.new in_loop result (λ t. t)
         (typing.typed (plain e.now)) }
     ensures kept { OnOk result (Keeps state.old state.new) }
 {
@@ -108,7 +108,8 @@ pub(crate) fn typed(
 
 fn broken(at: u32, in_loop: bool) -> Result<Ty, TypeFault>
     ensures { (scope : Scope) → scope.in_loop ≡ in_loop → (n : Noted) →
-        Gives result (λ t. t) n (typing.typed (tree.Break (record { from = at; to = 0 })) scope n) }
+        AnswersCheck result (λ t. t) n (typing.typed (tree.Break
+            (record { from = at; to = 0 })) scope n) }
 {
     kept(TypeRule::T14, at, in_loop)?;
     Ok(Ty::nothing())
@@ -124,7 +125,7 @@ fn fitting(
     in_loop: bool,
 ) -> Result<(), TypeFault>
     requires { NamesWithin (length names.now) (plain e.now) }
-    ensures given { Follows names.now state.old state.new in_loop result (λ _. tt)
+    ensures given { MovesOn names.now state.old state.new in_loop result (λ _. tt)
         (fitting (plain e.now) wanted) }
     ensures kept { OnOk result (Keeps state.old state.new) }
 {
@@ -141,7 +142,7 @@ fn fitting_int(
     in_loop: bool,
 ) -> Result<(), TypeFault>
     requires { NamesWithin (length names.now) (plain e.now) }
-    ensures given { Follows names.now state.old state.new in_loop result (λ _. tt)
+    ensures given { MovesOn names.now state.old state.new in_loop result (λ _. tt)
         (fitting (plain e.now) int_type) }
     ensures kept { OnOk result (Keeps state.old state.new) }
 {
@@ -157,7 +158,7 @@ fn without_value(
     in_loop: bool,
 ) -> Result<(), TypeFault>
     requires { NamesWithin (length names.now) (plain e.now) }
-    ensures given { Follows names.now state.old state.new in_loop result (λ _. tt)
+    ensures given { MovesOn names.now state.old state.new in_loop result (λ _. tt)
         (without_value (plain e.now)) }
     ensures kept { OnOk result (Keeps state.old state.new) }
 {
@@ -173,7 +174,7 @@ fn typed_place(
     in_loop: bool,
 ) -> Result<Ty, TypeFault>
     requires { PlaceWithin (length names.now) (plain_place place.now) }
-    ensures given { Follows names.now state.old state.new in_loop result (λ t. t)
+    ensures given { MovesOn names.now state.old state.new in_loop result (λ t. t)
         (typing.typed_place (plain_place place.now)) }
     ensures kept { OnOk result (Keeps state.old state.new) }
 {
@@ -210,9 +211,9 @@ fn called(
     arguments: &Exps,
     in_loop: bool,
 ) -> Result<Ty, TypeFault>
-    requires f { IsWithin (length names.now) f }
+    requires f { NameIsWithin (length names.now) f }
     requires arguments { ExpsWithin (length names.now) (plain_exps arguments.now) }
-    ensures given { Follows names.now state.old state.new in_loop result (λ t. t)
+    ensures given { MovesOn names.now state.old state.new in_loop result (λ t. t)
         (typing.typed (tree.Call nowhere f (plain_exps arguments.now))) }
     ensures kept { OnOk result (Keeps state.old state.new) }
 {
@@ -240,7 +241,7 @@ fn typed_all(
 ) -> Result<(), TypeFault>
     requires names { ExpsWithin (length names.now) (plain_exps arguments.now) }
     requires as_many { typing.count (plain_exps arguments.now) ≡ length params.now }
-    ensures given { Follows names.now state.old state.new in_loop result (λ _. tt)
+    ensures given { MovesOn names.now state.old state.new in_loop result (λ _. tt)
         (typing.expect_all (plain_exps arguments.now) params.now) }
     ensures kept { OnOk result (Keeps state.old state.new) }
 {
@@ -261,7 +262,7 @@ fn negated(
     in_loop: bool,
 ) -> Result<Ty, TypeFault>
     requires { NamesWithin (length names.now) (plain a.now) }
-    ensures given { Follows names.now state.old state.new in_loop result (λ t. t)
+    ensures given { MovesOn names.now state.old state.new in_loop result (λ t. t)
         (typing.typed (tree.Neg nowhere (plain a.now))) }
     ensures kept { OnOk result (Keeps state.old state.new) }
 {
@@ -280,7 +281,7 @@ fn left_operand(
     in_loop: bool,
 ) -> Result<Ty, TypeFault>
     requires { NamesWithin (length names.now) (plain a.now) }
-    ensures given { Follows names.now state.old state.new in_loop result (λ t. t)
+    ensures given { MovesOn names.now state.old state.new in_loop result (λ t. t)
         (left_operand op at (plain a.now)) }
     ensures kept { OnOk result (Keeps state.old state.new) }
 {
@@ -300,7 +301,7 @@ fn right_operand(
     in_loop: bool,
 ) -> Result<Ty, TypeFault>
     requires { NamesWithin (length names.now) (plain b.now) }
-    ensures given { Follows names.now state.old state.new in_loop result (λ t. t)
+    ensures given { MovesOn names.now state.old state.new in_loop result (λ t. t)
         (right_operand op left (plain b.now) whole) }
     ensures kept { OnOk result (Keeps state.old state.new) }
 {
@@ -320,7 +321,7 @@ fn filled(
     in_loop: bool,
 ) -> Result<Ty, TypeFault>
     requires { NamesWithin (length names.now) (plain value.now) }
-    ensures given { Follows names.now state.old state.new in_loop result (λ t. t)
+    ensures given { MovesOn names.now state.old state.new in_loop result (λ t. t)
         (filled whole wanted (plain value.now)) }
     ensures kept { OnOk result (Keeps state.old state.new) }
 {
@@ -338,7 +339,7 @@ fn joined(
     in_loop: bool,
 ) -> Result<Ty, TypeFault>
     requires { NamesWithin (length names.now) (plain other.now) }
-    ensures given { Follows names.now state.old state.new in_loop result (λ t. t)
+    ensures given { MovesOn names.now state.old state.new in_loop result (λ t. t)
         (second_way ty (plain other.now)) }
     ensures kept { OnOk result (Keeps state.old state.new) }
 {
@@ -351,7 +352,7 @@ fn joined(
 #[cycle(typing)]
 fn idle(names: &Names, state: &mut CheckingState, e: &Exp, in_loop: bool) -> Result<Ty, TypeFault>
     requires { NamesWithin (length names.now) (plain e.now) }
-    ensures given { Follows names.now state.old state.new in_loop result (λ t. t)
+    ensures given { MovesOn names.now state.old state.new in_loop result (λ t. t)
         (idle (plain e.now)) }
     ensures kept { OnOk result (Keeps state.old state.new) }
 {
@@ -369,7 +370,7 @@ fn counted(
     in_loop: bool,
 ) -> Result<Ty, TypeFault>
     requires { NamesWithin (length names.now) (plain body.now) }
-    ensures given { Follows names.now state.old state.new in_loop result (λ t. t)
+    ensures given { MovesOn names.now state.old state.new in_loop result (λ t. t)
         (counting x (plain body.now)) }
     ensures kept { OnOk result (Keeps state.old state.new) }
 {
@@ -388,9 +389,9 @@ fn made_record(
     inits: &Inits,
     in_loop: bool,
 ) -> Result<Ty, TypeFault>
-    requires x { IsWithin (length names.now) x }
+    requires x { NameIsWithin (length names.now) x }
     requires inits { InitsWithin (length names.now) (plain_inits inits.now) }
-    ensures given { Follows names.now state.old state.new in_loop result (λ t. t)
+    ensures given { MovesOn names.now state.old state.new in_loop result (λ t. t)
         (typing.typed (tree.Make nowhere x (plain_inits inits.now))) }
     ensures kept { OnOk result (Keeps state.old state.new) }
 {
@@ -411,7 +412,7 @@ fn typed_fields(
 ) -> Result<(), TypeFault>
     requires names { InitsWithin (length names.now) (plain_inits inits.now) }
     requires as_many { init_count (plain_inits inits.now) ≡ length fields.now }
-    ensures given { Follows names.now state.old state.new in_loop result (λ _. tt)
+    ensures given { MovesOn names.now state.old state.new in_loop result (λ _. tt)
         (typing.expect_fields (plain_inits inits.now) fields.now) }
     ensures kept { OnOk result (Keeps state.old state.new) }
 {
@@ -451,7 +452,7 @@ fn typed_last(
     in_loop: bool,
 ) -> Result<Ty, TypeFault>
     requires { ExpsWithin (length names.now) (plain_exps items.now) }
-    ensures given { Follows names.now state.old state.new in_loop result (λ t. t)
+    ensures given { MovesOn names.now state.old state.new in_loop result (λ t. t)
         (typing.typed_last none_type (plain_exps items.now)) }
     ensures kept { OnOk result (Keeps state.old state.new) }
 {
@@ -472,7 +473,7 @@ fn declared(
     in_loop: bool,
 ) -> Result<(), TypeFault>
     requires { DecsWithin (length names.now) (decs_of decs.now.items.items) }
-    ensures given { Follows names.now state.old state.new in_loop result
+    ensures given { MovesOn names.now state.old state.new in_loop result
         (λ _. scope_of names.now state.new in_loop)
         (typing.declare (decs_of decs.now.items.items)) }
     ensures opens { OnOk result (Opens state.old state.new) }
@@ -535,7 +536,7 @@ fn typed_variable(
     value: &Exp,
     in_loop: bool,
 ) -> Result<(), TypeFault>
-    requires kind { IsWithin (length names.now) kind }
+    requires kind { NameIsWithin (length names.now) kind }
     requires value { NamesWithin (length names.now) (plain value.now) }
     ensures given { Declares names.now state.old state.new in_loop result
         (tree.variable x (Some kind) (plain value.now)) }
@@ -596,7 +597,7 @@ fn bodies(
 ) -> Result<(), TypeFault>
     requires names { FunctionsWithin (length names.now) (plain_functions group.now) }
     requires as_many { function_count (plain_functions group.now) ≡ length signatures.now }
-    ensures given { Follows names.now state.old state.new false result (λ _. tt)
+    ensures given { MovesOn names.now state.old state.new false result (λ _. tt)
         (typing.bodies (plain_functions group.now) signatures.now) }
     ensures kept { OnOk result (Keeps state.old state.new) }
 {
@@ -617,7 +618,7 @@ fn body(
     signature: &Signature,
 ) -> Result<(), TypeFault>
     requires names { NamesWithin (length names.now) (plain function.now.body) }
-    ensures given { Follows names.now state.old state.new false result (λ _. tt)
+    ensures given { MovesOn names.now state.old state.new false result (λ _. tt)
         (one_body function.now.params function.now.result (plain function.now.body) signature.now) }
     ensures kept { OnOk result (Keeps state.old state.new) }
 {

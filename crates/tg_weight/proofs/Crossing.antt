@@ -22,7 +22,7 @@ use Rattle.tg_tree.specs.Lists.{join_txs}
 use Rattle.tg_translate.specs.declared.homes.Within.{Within}
 use Rattle.tg_translate.specs.declared.wants.Want.{Want}
 use Rattle.tg_translate.specs.declared.wants.Want.TheVariants as want
-use Rattle.tg_translate.specs.States.{TranslationState, Drawn, drawn, give}
+use Rattle.tg_translate.specs.States.{TranslationState, Translated, drawn, give}
 use Rattle.tg_translate.specs.Wants.{value, done, followed}
 use Rattle.tg_translate.specs.Constructs.{HeldAll, none_held, read, record_of, make_array, negation, repeat_while, in_body, in_test}
 use Rattle.tg_translate.specs.Choices.{left_want}
@@ -247,7 +247,7 @@ module _ (table : LevelTable) (findings : Findings) where
   start_keeps : Keeps table start
   start_keeps = record { home = λ at k e. cc; callee = λ at k e. cc }
 
-  program_paid : {ms : List Measures} (i : Measures) (d : Drawn Ts) → i.size ≤ i.nodes + 1 → Gives table start ms (IsPaidBody i.size i.hops) d →
+  program_paid : {ms : List Measures} (i : Measures) (d : Translated Ts) → i.size ≤ i.nodes + 1 → Gives table start ms (IsPaidBody i.size i.hops) d →
       AllZip IsPaid (i ∷ ms) (program d).functions
   program_paid {ms = ms} i (drawn x u) few h =
       (paid_function table start i x u refl (omega (arith, few)) h, subst (λ fs. AllZip IsPaid ms fs) (sym h.functions.behind) h.functions.paid)

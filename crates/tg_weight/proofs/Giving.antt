@@ -16,7 +16,7 @@ use Rattle.tg_translate.specs.declared.homes.Home.{Home}
 use Rattle.tg_translate.specs.declared.homes.Callee.{Callee}
 use Rattle.tg_translate.specs.declared.wants.Want.{Want}
 use Rattle.tg_translate.specs.declared.wants.Want.TheVariants as want
-use Rattle.tg_translate.specs.States.{TranslationState, Drawn, drawn, Acts, after, give, fresh}
+use Rattle.tg_translate.specs.States.{TranslationState, Translated, drawn, Translates, after, give, fresh}
 use Rattle.tg_translate.specs.Wants.{arms}
 use Rattle.tg_translate.specs.Scopes.{declare_variable}
 use Rattle.tg_translate.specs.Functions.{at_of, asked, parameters, own_homes, frame_for, begun, with_body, finish, declare_functions}
@@ -63,7 +63,7 @@ module _ (table : LevelTable) where
   Keeps s = leading.Keeps table s
 
   -- from a state on, with the functions that a text declares
-  pub record Gives {A : Type 0} (s : TranslationState) (ms : List Measures) (V : A → Type 0) (d : Drawn A) : Type 0 where
+  pub record Gives {A : Type 0} (s : TranslationState) (ms : List Measures) (V : A → Type 0) (d : Translated A) : Type 0 where
     pub value : V (answer d)
     pub kept : Keeps (left d)
     pub params : (left d).frame.params ≡ s.frame.params
@@ -72,7 +72,7 @@ module _ (table : LevelTable) where
 
   -- Actions follow one another.
 
-  pub bind : {A B : Type 0} {s : TranslationState} {ms ns : List Measures} {V : A → Type 0} {W : B → Type 0} {d : Drawn A} {next : A → Acts B} →
+  pub bind : {A B : Type 0} {s : TranslationState} {ms ns : List Measures} {V : A → Type 0} {W : B → Type 0} {d : Translated A} {next : A → Translates B} →
       Gives s ms V d → ((a : A) (t : TranslationState) → Keeps t → V a → Gives t ns W (next a t)) → Gives s (ms ++ ns) W (after d next)
   bind {s = s} {ms = ms} {ns = ns} {d = drawn a t} {next = next} h k =
       let g = k a t h.kept h.value in
@@ -86,7 +86,7 @@ module _ (table : LevelTable) where
       }
 
   -- what follows declares nothing
-  pub then_quiet : {A B : Type 0} {s : TranslationState} {ms : List Measures} {V : A → Type 0} {W : B → Type 0} {d : Drawn A} {next : A → Acts B} →
+  pub then_quiet : {A B : Type 0} {s : TranslationState} {ms : List Measures} {V : A → Type 0} {W : B → Type 0} {d : Translated A} {next : A → Translates B} →
       Gives s ms V d → ((a : A) (t : TranslationState) → Keeps t → V a → Gives t [] W (next a t)) → Gives s ms W (after d next)
   then_quiet {s = s} {ms = ms} {W = W} {d = d} {next = next} h k =
       subst (λ l. Gives s l W (after d next)) (append-nil ms) (bind h k)
@@ -94,7 +94,7 @@ module _ (table : LevelTable) where
   pub given : {A : Type 0} {V : A → Type 0} (s : TranslationState) → Keeps s → (a : A) → V a → Gives s [] V (give a s)
   given s sound a v = record { value = v; kept = sound; params = refl; out = refl; functions = adds_none s.functions }
 
-  pub weaken : {A : Type 0} {s : TranslationState} {ms : List Measures} {V W : A → Type 0} {d : Drawn A} →
+  pub weaken : {A : Type 0} {s : TranslationState} {ms : List Measures} {V W : A → Type 0} {d : Translated A} →
       Gives s ms V d → ((a : A) → V a → W a) → Gives s ms W d
   weaken {d = d} h k = record {
     value = k (answer d) h.value;
@@ -207,7 +207,7 @@ module _ (table : LevelTable) where
       record { out = h.out ∙ out; params = omega (arith, e, few); short = h.value.0; small = h.value.1 }
 
   -- a function stands before those that its text adds
-  pub finish_paid : (s t : TranslationState) (i : Measures) {ms : List Measures} {d : Drawn Ts} → t.functions ≡ [] → t.frame.out ≡ 0 →
+  pub finish_paid : (s t : TranslationState) (i : Measures) {ms : List Measures} {d : Translated Ts} → t.functions ≡ [] → t.frame.out ≡ 0 →
       length t.frame.params + i.size ≤ i.nodes + 1 → Gives t ms (IsPaidBody i.size i.hops) d → Gives s (i ∷ ms) (λ a. Unit {0}) (finish s d)
   finish_paid s t i {d = drawn x u} none out few h =
       let f : Function Ts = with_body u.frame x in

@@ -6,13 +6,13 @@ use Rattle.tg_syntax.specs.Tree.{Exp}
 use Rattle.tg_tree.specs.Tree.{Ts, Function}
 use Rattle.tg_translate.specs.Scopes.{Findings}
 use Rattle.tg_translate.specs.Translate.{translated}
-use Rattle.tg_shapes.specs.Laws.{IsWithin, FunctionsAreWithin}
+use Rattle.tg_shapes.specs.Laws.{FunctionIsWithin, FunctionsAreWithin}
 use Rattle.tg_weight.specs.Weights.{IsLight}
 use Rattle.tg_weight.proofs.Leading.{LevelTable, Leads}
 use Rattle.tg_weight.proofs.Giving.{IsPaid}
 use Rattle.tg_weight.proofs.Crossing.{functions_are_paid}
 
-light_by : (m : Measures) (f : Function Ts) → IsWithin m f → IsPaid m f → IsLight m f
+light_by : (m : Measures) (f : Function Ts) → FunctionIsWithin m f → IsPaid m f → IsLight m f
 light_by m f within paid =
     let slots = within.slots in
     let temps = within.temps in
@@ -22,7 +22,7 @@ light_by m f within paid =
     let small = paid.small in
     record { light = omega (arith, slots, temps, out, params, short, small) }
 
-all_light : (ms : List Measures) (fs : List (Function Ts)) → AllZip IsWithin ms fs → AllZip IsPaid ms fs → AllZip IsLight ms fs
+all_light : (ms : List Measures) (fs : List (Function Ts)) → AllZip FunctionIsWithin ms fs → AllZip IsPaid ms fs → AllZip IsLight ms fs
 all_light [] [] h k = tt
 all_light [] (f ∷ fs) h k = absurd h
 all_light (m ∷ ms) [] h k = absurd h

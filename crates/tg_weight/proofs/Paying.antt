@@ -24,7 +24,7 @@ use Rattle.tg_translate.specs.declared.operands.Operand.TheVariants.{Number, Kep
 use Rattle.tg_translate.specs.declared.held.HeldAddress.TheVariants.{InOwnFrame, Beside, At}
 use Rattle.tg_translate.specs.declared.wants.Want.{Want}
 use Rattle.tg_translate.specs.declared.wants.Want.TheVariants as want
-use Rattle.tg_translate.specs.States.{TranslationState, Drawn, Acts, after, give}
+use Rattle.tg_translate.specs.States.{TranslationState, Translated, Translates, after, give}
 use Rattle.tg_translate.specs.Wants.{Made, value, done, test, truth_into, value_of, put_in, dropped, test_of, as_statement, arms, deliver, followed}
 use Rattle.tg_translate.specs.Wants.{behind, behind_some, value_behind, done_behind}
 use Rattle.tg_translate.specs.Constructs as constructs
@@ -137,7 +137,7 @@ module _ (table : LevelTable) where
   paid_value : (n : Weight) (m : Made) (s : TranslationState) → Keeps table s → Paid n m → Gives table s [] (PaidTx n) (value_of m s)
   paid_value n m s sound h = weaken table (value_size m s sound) λ x k. (omega (arith, h.0, k.0), omega (arith, h.1, k.1))
 
-  module _ (n : Weight) {s : TranslationState} {ms : List Measures} {d : Drawn Made} (h : Gives table s ms (Paid n) d) where
+  module _ (n : Weight) {s : TranslationState} {ms : List Measures} {d : Translated Made} (h : Gives table s ms (Paid n) d) where
     pub of_value : Gives table s ms (PaidTx n) (after d value_of)
     of_value = then_quiet table h λ m s sound k. paid_value n m s sound k
 
@@ -298,8 +298,8 @@ module _ (table : LevelTable) where
   short_read : (q : HeldPlace) → PaidTx one (read_held q)
   short_read q = let h = read_held_size q in (omega (arith, h.0), omega (arith, h.1))
 
-  pub paid_assignment : {ms : List Measures} (n m : Weight) (reads_first : Bool) (p : Storage) (e : Want → Acts Made)
-      (behind : Tx → Want → Acts Made) (s : TranslationState) → Keeps table s →
+  pub paid_assignment : {ms : List Measures} (n m : Weight) (reads_first : Bool) (p : Storage) (e : Want → Translates Made)
+      (behind : Tx → Want → Translates Made) (s : TranslationState) → Keeps table s →
       PaidPlace n p → ((w : Want) (t : TranslationState) → Keeps table t → Gives table t ms (Paid m) (e w t)) →
       (reads_first ≡ true → (x : Tx) (w : Want) (t : TranslationState) → Keeps table t → PaidTx one x → Gives table t ms (Paid m) (behind x w t)) →
       Gives table s ms (λ y. Paid (two_parts n m) (done y)) (assignment reads_first p e behind s)
@@ -311,7 +311,7 @@ module _ (table : LevelTable) where
       then_quiet table (f (want_for p) s sound) λ x s sound k.
       weaken table (assign_size p x s sound) λ y i. (omega (arith, h.0, k.0, i.0), omega (arith, h.1, k.1, i.1))
 
-  pub paid_declaration : {ms : List Measures} (n : Weight) (escapes : ℕ → Bool) (level at : ℕ) (e : Want → Acts Made) (s : TranslationState) →
+  pub paid_declaration : {ms : List Measures} (n : Weight) (escapes : ℕ → Bool) (level at : ℕ) (e : Want → Translates Made) (s : TranslationState) →
       Keeps table s → level ≡ table.variables at →
       ((w : Want) (t : TranslationState) → Keeps table t → Gives table t ms (Paid n) (e w t)) →
       Gives table s ms (PaidTs (one_node n)) (declaration_of escapes level at e s)
@@ -404,7 +404,7 @@ module _ (table : LevelTable) where
   paid_call n c most (Some other) xs s sound l h = given table s sound no_value (omega arith, omega arith)
 
   -- Operators: the left side is made, and the right one is translated for what it is to be.
-  module _ {ms : List Measures} (n m : Weight) (right : Want → Acts Made)
+  module _ {ms : List Measures} (n m : Weight) (right : Want → Translates Made)
       (f : (w : Want) (t : TranslationState) → Keeps table t → Gives table t ms (Paid m) (right w t)) where
     into_paid : (o : Op) (w : Want) (c : Cond) (s : TranslationState) → Keeps table s → PaidCond n c →
         Gives table s ms (Paid (two_parts n m)) (after (arms w s) (λ a t. after (right a t) (λ x. give (deliver w a (chosen o a c x)))))
@@ -443,7 +443,7 @@ module _ (table : LevelTable) where
 
   -- Choices, of two arms that are translated for what they are to be. The second arm of a conjunction
   -- is 0, and declares nothing.
-  module _ {ms ks : List Measures} (n m k : Weight) (this other : Want → Acts Made)
+  module _ {ms ks : List Measures} (n m k : Weight) (this other : Want → Translates Made)
       (f : (w : Want) (t : TranslationState) → Keeps table t → Gives table t ms (Paid m) (this w t))
       (g : (w : Want) (t : TranslationState) → Keeps table t → Gives table t ks (Paid k) (other w t)) where
     arms_paid : (w : Want) (c : Cond) (s : TranslationState) → Keeps table s → PaidCond n c →
@@ -480,7 +480,7 @@ module _ (table : LevelTable) where
       (omega (arith, h.0, i.0, j.0, e.0, a.0, b.0, p.0), omega (arith, h.1, i.1, j.1, e.1, a.1, b.1, p.1, q.1)))
 
   -- a function's body gives back what it is
-  pub closed_body : {s : TranslationState} {ms : List Measures} (has_result : Bool) (n : Weight) {d : Drawn Made} →
+  pub closed_body : {s : TranslationState} {ms : List Measures} (has_result : Bool) (n : Weight) {d : Translated Made} →
       Gives table s ms (Paid n) d → Gives table s ms (IsPaidBody n.nodes n.hops) (after d (closing has_result))
   closed_body true n g =
       then_quiet table g λ m s sound h. bind table (value_size m s sound) λ x s sound k.

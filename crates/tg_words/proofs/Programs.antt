@@ -21,7 +21,7 @@ use Rattle.tg_tree.specs.declared.fragments.Literal.{Literal}
 use Rattle.tg_runtime.specs.Routines.{runtime}
 use Rattle.tg_runtime.specs.Laws.{AreRoutines, AllAreRoutines, is_own, most_length}
 use Rattle.tg_translate.specs.Translate.{translated}
-use Rattle.tg_shapes.specs.Laws.{names, findings_in, IsWithin, FunctionsAreWithin, CheckedBodiesAreClosed, CheckedTemporariesAreDrawn, CheckedFramesAreSmall}
+use Rattle.tg_shapes.specs.Laws.{names, findings_in, FunctionIsWithin, FunctionsAreWithin, CheckedBodiesAreClosed, CheckedTemporariesAreDrawn, CheckedFramesAreSmall}
 use Rattle.tg_shapes.proofs.Bounding.{within_limit}
 use Rattle.tg_carried.specs.Flattened.{MayBeFlattened}
 use Rattle.tg_instr.specs.declared.codes.Allocated.{Allocated}
@@ -103,7 +103,7 @@ module _ (rule : Rule) where
       omega (arith, s, one, others, words_append (function_lines turned a.done) (functions_lines turned (codes_of rest)))
 
   functions_short : CodeIsShort → FunctionsArePaid → (turned : Bool) (ms : List Measures) (fs rs : List (Function Ts)) (allocations : List Allocation) →
-      first_above ms ≡ None → AllZip IsWithin ms fs → AllByRecursion IsBounded fs → AreRoutines rs → AllByRecursion IsBounded rs →
+      first_above ms ≡ None → AllZip FunctionIsWithin ms fs → AllByRecursion IsBounded fs → AreRoutines rs → AllByRecursion IsBounded rs →
       AllZip (IsAllocationOf rule) (fs ++ rs) allocations →
       2 * words (functions_lines turned (codes_of allocations)) ≤
       2 * node_words * sum_by (λ m. m.size) ms + function_words * all_counted ms + 2 * routine_words * length rs

@@ -12,7 +12,7 @@ use Rattle.tg_tree.specs.Sizes.{tree_length, tree_room}
 use Rattle.tg_tree.specs.declared.fragments.Literal.{Literal}
 use Rattle.tg_translate.specs.Translate.{translated}
 use Rattle.tg_shapes.specs.Laws.{
-  IsWithin,
+  FunctionIsWithin,
   paid,
   node_length,
   node_room,
@@ -114,7 +114,8 @@ pub record IsPaid (m : Measures) (code : Allocated) : Type 0 where
 
 abbrev pub FunctionsArePaid : Type 0
 FunctionsArePaid =
-    (rule : Rule) (m : Measures) (f : Function Ts) (a : Allocation) → m.level ≤ 32 → IsWithin m f →
+    (rule : Rule) (m : Measures) (f : Function Ts) (a : Allocation) → m.level ≤ 32 →
+    FunctionIsWithin m f →
     MayBeFlattened f → IsAllocationOf rule f a →
     IsPaid m a.done
 

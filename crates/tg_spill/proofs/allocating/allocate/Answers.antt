@@ -4,7 +4,7 @@ use Rattle.std.proofs.lemmas.List.{nil_from_length}
 use Rattle.tg_rounds.specs.declared.rounds.Round.{Round}
 use Rattle.tg_rounds.specs.Policies.{Rule}
 use Rattle.tg_spill.specs.Rewriting.{slotted}
-use Rattle.tg_spill.specs.Rounds.{Stage, stage_of, IsRoundOf}
+use Rattle.tg_spill.specs.Rounds.{BetweenRounds, stage_of, IsRoundOf}
 use Rattle.tg_spill.proofs.UnderWay.{Follows, IsUnderWay, again, goes_on, coloured_if, in_frame_if}
 use Rattle.tg_spill.proofs.allocating.allocate.Goals as goal
 
@@ -48,8 +48,8 @@ rounds-preserved g c =
     let round = c.in_ok-round.round in
     let by = c.rounds.progress in
     let next = c.in_ok-progress-2.progress in
-    let now : Stage = stage_of by.code by.slots in
-    let then : Stage = stage_of next.code next.slots in
+    let now : BetweenRounds = stage_of by.code by.slots in
+    let then : BetweenRounds = stage_of next.code next.slots in
     let so_far : IsUnderWay rule code c.args.frame now by.homes.items c.rounds.rounds.items = c.rounds.invariant.under_way in
     let is_round : IsRoundOf rule code.temps now round = again _ rule code.temps by.slots by.code round c.rounds.invariant.same c.in_ok-round.ensures.round in
     let some : length c.in_ok-classes.classes.items ≢ 0 = grind (arith, common_steps, c.is_empty.ensures, c.if-is_empty.false) in

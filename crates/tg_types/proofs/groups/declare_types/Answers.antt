@@ -3,7 +3,7 @@ use Rattle.std.specs.List.{All}
 use Rattle.tg_syntax.specs.Plain.{plain_type}
 use Rattle.tg_types.specs.Declaring.{ChainWithin, chain_from}
 use Rattle.tg_types.specs.Groups as groups
-use Rattle.tg_types.specs.States.{Gives, no_memory, noted_of}
+use Rattle.tg_types.specs.States.{AnswersCheck, no_memory, noted_of}
 use Rattle.tg_types.proofs.Steps.{ended, step, fails_first, fails_then, carry}
 use Rattle.std.proofs.lemmas.List.{length-map}
 use Rattle.tg_types.proofs.GroupSteps.{types_are, group_scope, scope_after, opens_types, opens_after}
@@ -70,7 +70,7 @@ returns-clause-given c = λ in_loop scope h.
     let types = types_are ds c.deref-2.result.now c.deref-3.result.now scope chains_too (c.deref-3.ensures.value ∙ c.in_ok-types.ensures scope in_loop h) in
     let opened = group_scope names in_loop old mid c.args.group.now c.deref-3.result.now scope h types c.in_ok-open_types.ensures.types
     c.in_ok-open_types.ensures.bindings in
-    let last = subst (λ m. Gives c.add_forms.result (λ _. tt) (noted_of new) (groups.add_forms inner ds m)) c.in_ok-open_types.ensures.noted
+    let last = subst (λ m. AnswersCheck c.add_forms.result (λ _. tt) (noted_of new) (groups.add_forms inner ds m)) c.in_ok-open_types.ensures.noted
     (c.add_forms.ensures.given in_loop inner opened) in
     carry c.add_forms.result _ _ (step _ _ (c.in_ok-places.ensures.given n)
     (step _ _ (c.in_ok-known_forms.ensures ds scope in_loop c.in_ok-places.ensures.places h n) (step _ _ (c.in_ok-chains_end.ensures chains n) refl)))
