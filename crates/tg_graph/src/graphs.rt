@@ -113,7 +113,6 @@ impl Graph {
         requires second { b < self.now.nodes }
         ensures { result ≡ graph.interferes self.now a b }
     {
-        let _nodes = self.nodes;
         let high = a.max(b);
         a != b && (high < COLOURS || has_pair(&self.pairs, pair_place(a.min(b), high)))
     }

@@ -3,6 +3,7 @@ pub mod Interning
 pub mod Onces
 pub mod Excludes
 pub mod TokenEnds
+pub mod Readings
 -- this crate's own
 mod Basics
 mod Closings
@@ -12,7 +13,6 @@ mod EscapeSteps
 mod StringSteps
 mod Numerals
 mod SignSteps
-mod Readings
 mod Scans
 mod StringFaults
 mod Spelled

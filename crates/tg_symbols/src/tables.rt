@@ -61,6 +61,7 @@ impl<V: Drop> Table<V> {
     pub fn get(&self, name: u32) -> Option<&V>
         ensures { option_copied result ≡ named name self.now }
     {
+        // (the slice tells the proof how many entries there may be)
         let _ = self.entries.as_slice();
         match self.top.get(&name) {
             Some(at) => Some(&self.entries[*at as usize].value),
@@ -72,6 +73,7 @@ impl<V: Drop> Table<V> {
     pub fn find(&self, name: u32) -> Option<u32>
         ensures { result ≡ placed_at name 0 self.now }
     {
+        // (the slice tells the proof how many entries there may be)
         let _ = self.entries.as_slice();
         match self.top.get(&name) {
             Some(at) => Some(self.entries.len() as u32 - 1 - *at),
