@@ -8,7 +8,7 @@ use Rattle.std.proofs.lemmas.Bool.{cases_eq, cases_lt, eq-eqb, ne_eqb, lt-ltb, l
 use Rattle.std.proofs.lemmas.List.Folds.{list_any-append}
 use Rattle.tg_graph.specs.Interference.{is_among}
 use Rattle.tg_graph.specs.Lists.{without, after}
-use Rattle.tg_graph.specs.Chains.{AreLinked}
+use Rattle.tg_graph.specs.Chains.{LeadsAlong}
 use Rattle.tg_graph.proofs.Runs.{without_same, without_other}
 
 abbrev pub bit : Bool → ℕ
@@ -101,12 +101,12 @@ some_below y n m e =
     (λ (h : n ≤ y). subst (λ (o : Option ℕ). IfSome o (λ x. x < m)) (sym (at_end n y h)) tt)
     (cases_lt y n)
 
-pub front_of : (next : ℕ → ℕ) (n end y : ℕ) (xs : List ℕ) → n ≤ end → AreLinked next n y xs end →
+pub front_of : (next : ℕ → ℕ) (n end y : ℕ) (xs : List ℕ) → n ≤ end → LeadsAlong next n y xs end →
     then_some (nat_lt y n) y ≡ slice_get xs 0
 front_of next n end y [] h r = at_end n y (omega (arith, h, r))
 front_of next n end y (x ∷ xs) h r = at_node n y (omega (arith, r.0, r.1)) ∙ ap Some r.0
 
-pub behind_of : (next : ℕ → ℕ) (n end x y : ℕ) (xs : List ℕ) → n ≤ end → AreLinked next n y xs end → is_among x xs ≡ true →
+pub behind_of : (next : ℕ → ℕ) (n end x y : ℕ) (xs : List ℕ) → n ≤ end → LeadsAlong next n y xs end → is_among x xs ≡ true →
     then_some (nat_lt (next x) n) (next x) ≡ after x xs
 behind_of next n end x y [] h r t = absurd (none t)
   where

@@ -11,7 +11,7 @@ use Rattle.tg_graph.specs.declared.worklists.Worklist.{Worklist}
 use Rattle.tg_graph.specs.declared.worklists.Worklist.TheVariants.{Fixed, Simplify, Freeze, Spill, Stacked, Merged}
 use Rattle.tg_graph.specs.Interference.{colours, most_nodes, is_among}
 use Rattle.tg_graph.specs.Lists.{lists_by, nodes_in, number, without, started_in}
-use Rattle.tg_graph.specs.Chains.{AreInverse, AreLinked, Relinks, joined_to}
+use Rattle.tg_graph.specs.Chains.{AreInverse, LeadsAlong, Relinks, joined_to}
 use Rattle.tg_graph.specs.Linking.{AreLinked, list_from, total}
 use Rattle.tg_graph.proofs.Runs.{follows}
 use Rattle.tg_graph.proofs.Members.{bit, among_without_same, among_without_other, length_without, among_added_same, among_added_other, among_below}
@@ -78,8 +78,8 @@ joined_by_number : (n i j : ℕ) (added xs : List ℕ) →
     joined_to (n + i) added xs (n + j) ≡ xs ++ (if j == i then added else [])
 joined_by_number n i j added xs = ap (λ b. xs ++ (if b then added else [])) (same_number n j i)
 
-run_of : (next : ℕ → ℕ) (n y end : ℕ) (xs ys : List ℕ) → xs ≡ ys → AreLinked next n y xs end → AreLinked next n y ys end
-run_of next n y end xs ys p r = subst (λ (zs : List ℕ). AreLinked next n y zs end) p r
+run_of : (next : ℕ → ℕ) (n y end : ℕ) (xs ys : List ℕ) → xs ≡ ys → LeadsAlong next n y xs end → LeadsAlong next n y ys end
+run_of next n y end xs ys p r = subst (λ (zs : List ℕ). LeadsAlong next n y zs end) p r
 
 -- A node moved.
 
@@ -241,7 +241,7 @@ start_linked n second third prev h k s t first next i = record {
   runs = λ w.
       let within : n + number w < n + 6 = omega (arith, number_fits w) in
       let size = length-range_with_len 0 (n + 6) in
-      let empty : AreLinked (slice_index (range_with_len 0 (n + 6))) n
+      let empty : LeadsAlong (slice_index (range_with_len 0 (n + 6))) n
       (slice_index (range_with_len 0 (n + 6)) (n + number w)) [] (n + number w) =
       itself (n + 6) (n + number w) within in
       let one = run_of (slice_index second) n (slice_index second (n + number w)) (n + number w) _ _

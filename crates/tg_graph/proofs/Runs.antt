@@ -5,12 +5,12 @@ use Rattle.std.proofs.lemmas.Bool.{cases_eq, eq-eqb, ne_eqb, cond-true, cond-fal
 use Rattle.std.proofs.lemmas.List.{get_or-set_same, get_or-set_other, length-set, append-nil}
 use Rattle.std.specs.List.{range_with_len}
 use Rattle.tg_graph.specs.Lists.{without}
-use Rattle.tg_graph.specs.Chains.{AreInverse, follow, AreLinked, joined_to}
+use Rattle.tg_graph.specs.Chains.{AreInverse, follow, LeadsAlong, joined_to}
 
-run_at : (next : ℕ → ℕ) (n end : ℕ) (y z : ℕ) (xs ys : List ℕ) → y ≡ z → xs ≡ ys → AreLinked next n y xs end →
-    AreLinked next n z ys end
+run_at : (next : ℕ → ℕ) (n end : ℕ) (y z : ℕ) (xs ys : List ℕ) → y ≡ z → xs ≡ ys → LeadsAlong next n y xs end →
+    LeadsAlong next n z ys end
 run_at next n end y z xs ys p q r =
-    subst (λ (ws : List ℕ). AreLinked next n z ws end) q (subst (λ (v : ℕ). AreLinked next n v xs end) p r)
+    subst (λ (ws : List ℕ). LeadsAlong next n z ws end) q (subst (λ (v : ℕ). LeadsAlong next n v xs end) p r)
 
 -- Without a node.
 
@@ -38,10 +38,10 @@ abbrev Skips : (next new : ℕ → ℕ) (n x : ℕ) → Type 0
 Skips next new n x = (u : ℕ) → u < n → x ≢ u → new u ≡ skipped next x (next u)
 
 unlinked : (next new : ℕ → ℕ) (n x end : ℕ) → Skips next new n x → x < n → n ≤ end → (xs : List ℕ) (y : ℕ) →
-    AreLinked next n y xs end → AreLinked new n (skipped next x y) (without x xs) end
+    LeadsAlong next n y xs end → LeadsAlong new n (skipped next x y) (without x xs) end
 unlinked next new n x end s l h [] y r = skipped_other next x y (λ p. omega (arith, p, r, l, h)) ∙ r
 unlinked next new n x end s l h (u ∷ us) y r =
-    let later : AreLinked new n (skipped next x (next u)) (without x us) end =
+    let later : LeadsAlong new n (skipped next x (next u)) (without x us) end =
     unlinked next new n x end s l h us (next u) r.2 in
     ⊎_elim
     (λ (p : x ≡ u).
@@ -78,7 +78,7 @@ joined_other end x e xs p = let t : eqb e end ≡ false = ne_eqb e end p in rw t
 
 linked : (next new : ℕ → ℕ) (n x end e : ℕ) → Leads next new n x end → x < n → n ≤ end → n ≤ e → (xs : List ℕ) (y : ℕ) →
     x ≢ y →
-    AreLinked next n y xs e → AreLinked new n (led end x y) (joined_to end (x ∷ []) xs e) e
+    LeadsAlong next n y xs e → LeadsAlong new n (led end x y) (joined_to end (x ∷ []) xs e) e
 linked next new n x end e s l h k [] y a r =
     ⊎_elim
     (λ (p : e ≡ end). run_at new n e _ _ _ _ (sym (led_same end x y (r ∙ p))) (sym (joined_same end x e [] p))
@@ -88,7 +88,7 @@ linked next new n x end e s l h k [] y a r =
     (cases_eq e end)
 linked next new n x end e s l h k (u ∷ us) y a r =
     let b : x ≢ u = λ p. a (p ∙ sym r.0) in
-    let later : AreLinked new n (led end x (next u)) (joined_to end (x ∷ []) us e) e =
+    let later : LeadsAlong new n (led end x (next u)) (joined_to end (x ∷ []) us e) e =
     linked next new n x end e s l h k us (next u) (s.apart u r.1 b) r.2 in (
       led_other end x y (λ q. omega (arith, q, r.0, r.1, h))
           ∙ r.0,
@@ -120,8 +120,8 @@ unlinked_at next prev x u i l m p =
 
 pub unlink_runs : (next prev : List ℕ) (x n end : ℕ) (xs : List ℕ) → AreInverse next prev → x < length next → x < n →
     n ≤ end → end < length next →
-    AreLinked (slice_index next) n (slice_index next end) xs end →
-    AreLinked (slice_index (next_unlinked next prev x)) n (slice_index (next_unlinked next prev x) end) (without x xs) end
+    LeadsAlong (slice_index next) n (slice_index next end) xs end →
+    LeadsAlong (slice_index (next_unlinked next prev x)) n (slice_index (next_unlinked next prev x) end) (without x xs) end
 unlink_runs next prev x n end xs i l h k m r =
     run_at _ n end _ _ _ _ (sym (unlinked_at next prev x end i l m (λ p. omega (arith, p, h, k)))) refl
     (unlinked (slice_index next) (slice_index (next_unlinked next prev x)) n x end
@@ -156,8 +156,8 @@ apart_from next prev x u i l a m p = λ q.
 pub link_runs : (next prev : List ℕ) (x end n e : ℕ) (xs : List ℕ) → AreInverse next prev → end < length next →
     x < length next → get_or next x 0 ≡ x →
     x < n → n ≤ end → n ≤ e → e < length next →
-    AreLinked (slice_index next) n (slice_index next e) xs e →
-    AreLinked (slice_index (next_linked next prev x end)) n (slice_index (next_linked next prev x end) e)
+    LeadsAlong (slice_index next) n (slice_index next e) xs e →
+    LeadsAlong (slice_index (next_linked next prev x end)) n (slice_index (next_linked next prev x end) e)
     (joined_to end (x ∷ []) xs e) e
 link_runs next prev x end n e xs i l b a h k o m r =
     let y : x ≢ e = λ p. omega (arith, p, h, o) in
@@ -198,7 +198,7 @@ joined_more end a k xs e =
 
 -- What is found by following links.
 
-pub follows : (next : ℕ → ℕ) (n end : ℕ) → n ≤ end → (xs : List ℕ) (k y : ℕ) → length xs ≤ k → AreLinked next n y xs end →
+pub follows : (next : ℕ → ℕ) (n end : ℕ) → n ≤ end → (xs : List ℕ) (k y : ℕ) → length xs ≤ k → LeadsAlong next n y xs end →
     follow next n k y ≡ xs
 follows next n end h [] zero y l r = refl
 follows next n end h [] (suc k) y l r = cond-false _ _ _ (le-ltb y n (omega (arith, r, h)))

@@ -18,16 +18,16 @@ follow next n zero y = []
 follow next n (suc k) y = if nat_lt y n then y ∷ follow next n k (next y) else []
 
 -- from a place on stand these nodes, and then this end
-abbrev pub AreLinked : (ℕ → ℕ) → (nodes : ℕ) → ℕ → List ℕ → (end : ℕ) → Type 0
-AreLinked next n y [] end = y ≡ end
-AreLinked next n y (x ∷ xs) end = (y ≡ x) × (x < n) × AreLinked next n (next x) xs end
+abbrev pub LeadsAlong : (ℕ → ℕ) → (nodes : ℕ) → ℕ → List ℕ → (end : ℕ) → Type 0
+LeadsAlong next n y [] end = y ≡ end
+LeadsAlong next n y (x ∷ xs) end = (y ≡ x) × (x < n) × LeadsAlong next n (next x) xs end
 
 -- each list that is linked by the one vector is another that is linked by the other
 abbrev pub Relinks : (old new : List ℕ) → (nodes : ℕ) → (List ℕ → ℕ → List ℕ) → Type 0
 Relinks old new n change =
     (end : ℕ) (xs : List ℕ) → n ≤ end → end < length old →
-    AreLinked (slice_index old) n (slice_index old end) xs end →
-    AreLinked (slice_index new) n (slice_index new end) (change xs end) end
+    LeadsAlong (slice_index old) n (slice_index old end) xs end →
+    LeadsAlong (slice_index new) n (slice_index new end) (change xs end) end
 
 -- nodes put last in the list of an end
 abbrev pub joined_to : (end : ℕ) → (added : List ℕ) → List ℕ → ℕ → List ℕ

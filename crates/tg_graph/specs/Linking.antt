@@ -5,7 +5,7 @@ use Rattle.tg_graph.specs.declared.worklists.Worklist.{Worklist}
 use Rattle.tg_graph.specs.declared.worklists.Worklist.TheVariants.{Fixed}
 use Rattle.tg_graph.specs.Interference.{colours, most_nodes, is_among}
 use Rattle.tg_graph.specs.Lists.{Lists, lists_by, number}
-use Rattle.tg_graph.specs.Chains.{AreInverse, follow, AreLinked}
+use Rattle.tg_graph.specs.Chains.{AreInverse, follow, LeadsAlong}
 
 abbrev pub list_from : ℕ → List ℕ → Worklist → List ℕ
 list_from n next list = follow (slice_index next) n n (slice_index next (n + number list))
@@ -24,7 +24,7 @@ pub record AreLinked
   pub placed : length places ≡ n
   pub inverse : AreInverse next prev
   pub runs : (list : Worklist) →
-      AreLinked (slice_index next) n (slice_index next (n + number list)) (lists list)
+      LeadsAlong (slice_index next) n (slice_index next (n + number list)) (lists list)
       (n + number list)
   pub told : (list : Worklist) (x : ℕ) → x < n →
       is_among x (lists list) ≡ (number list == number (slice_index_or places x Fixed))

@@ -1,12 +1,12 @@
 use Rattle.std.proofs.Common.{◌≡◌, ℕ, suc, ◌+◌, ◌-◌, List, [], ◌∷◌, slice_index, sym, ap, ◌∙◌, subst, arith}
 use Rattle.std.specs.List.{range_with_len}
-use Rattle.tg_graph.specs.Chains.{AreLinked, joined_to}
+use Rattle.tg_graph.specs.Chains.{LeadsAlong, joined_to}
 use Rattle.tg_graph.proofs.Runs.{joined_more, joined_none}
 use Rattle.tg_graph.proofs.links.link_range.Goals as goal
 
-at_lists : (new : List ℕ) (n end y : ℕ) (xs ys : List ℕ) → xs ≡ ys → AreLinked (slice_index new) n y xs end →
-    AreLinked (slice_index new) n y ys end
-at_lists new n end y xs ys p r = subst (λ (vs : List ℕ). AreLinked (slice_index new) n y vs end) p r
+at_lists : (new : List ℕ) (n end y : ℕ) (xs ys : List ℕ) → xs ≡ ys → LeadsAlong (slice_index new) n y xs end →
+    LeadsAlong (slice_index new) n y ys end
+at_lists new n end y xs ys p r = subst (λ (vs : List ℕ). LeadsAlong (slice_index new) n y vs end) p r
 
 pub loop-node-init : goal.loop-node-init
 loop-node-init c = record {
