@@ -94,7 +94,7 @@ fn known_forms(
         HasPlaces places.now whole →
         scope ≡ scope_of names.now state.now in_loop → (n : Noted) →
         AnswersCheck result (λ _. tt) n (groups.known_forms whole
-            (map plain_type group.now) scope n) }
+        (map plain_type group.now) scope n) }
 {
     for dec in group {
         known_form(names, state, places, &dec.form)?;
@@ -145,7 +145,7 @@ fn known_fields(
 pub(crate) fn fresh(earlier: &mut HashSet<u32>, rule: TypeRule, x: Ident) -> Result<(), TypeFault>
     ensures given { (seen : List PlainIdent) → HasNames earlier.old seen → (n : Noted) →
         AnswersCheck result (λ _. tt) n (keep rule x.span.from (not
-            (groups.stands_in x.name.0 seen)) n) }
+        (groups.stands_in x.name.0 seen)) n) }
     ensures seen { (seen : List PlainIdent) → HasNames earlier.old seen →
         OnOk result (HasNames earlier.new (x ∷ seen)) }
 {

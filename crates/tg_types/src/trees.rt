@@ -109,7 +109,7 @@ pub(crate) fn typed(
 fn broken(at: u32, in_loop: bool) -> Result<Ty, TypeFault>
     ensures { (scope : Scope) → scope.in_loop ≡ in_loop → (n : Noted) →
         AnswersCheck result (λ t. t) n (typing.typed (tree.Break
-            (record { from = at; to = 0 })) scope n) }
+        (record { from = at; to = 0 })) scope n) }
 {
     kept(TypeRule::T14, at, in_loop)?;
     Ok(Ty::nothing())
