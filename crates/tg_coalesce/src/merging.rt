@@ -90,6 +90,7 @@ impl Coalescer {
         requires room { degree_at self.old kept ≤ self.old.graph.nodes }
         ensures { OnOk result (self.new ≡ merged kept gone self.old) }
     {
+        // (read so that this is known to be a graph of at most `most_nodes`)
         let _nodes = self.graph.nodes();
         self.lists.move_to(gone, Worklist::Merged);
         self.classes.join(kept, gone)?;

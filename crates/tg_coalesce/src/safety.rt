@@ -49,6 +49,7 @@ impl Coalescer {
         requires second { colours ≤ other }
         ensures { result ≡ passes_briggs self.now one other }
     {
+        // (read so that it is known to be at most `most_nodes`: the sum fits)
         let _nodes = self.graph.nodes();
         self.high_around(one) + self.high_apart(other, one) < COLOURS
     }
