@@ -23,6 +23,7 @@ use Rattle.tg_shapes.specs.Laws.{names, ProgramsAreLinked}
 use Rattle.tg_shapes.proofs.Fine.{Each, each_append, each_contained}
 use Rattle.tg_shapes.proofs.Taking.{PassesNothing}
 use Rattle.tg_shapes.proofs.Measured.{nothing_is_passed}
+use Rattle.tg_runtime_meaning.proofs.Running.{IsLow, runtime_low}
 use Rattle.tg_translate_meaning.specs.Bounds.{measures_of, bound_by}
 use Rattle.tg_translate_meaning.specs.Laws.{findings_of, trees_of, bound_in}
 use Rattle.tg_rounds.specs.Policies.{Rule}
@@ -82,40 +83,7 @@ bounded size (m ∷ ms) (g ∷ fs) rs (a ∷ own) rest more light within sizes a
     (bounded size ms fs rs own rest more light.1 within.1 sizes.1
     (λ i j d below inside. apart (suc i) (suc j) d (omega (arith, below)) (omega (arith, inside))) f c)
 
--- The runtime's functions have labels below 32, and pass nothing.
-runtime_low : Each (λ (f : Function Ts). f.label < 32) runtime.functions
-runtime_low = (
-  omega arith,
-  (
-    omega arith,
-    (
-      omega arith,
-      (
-        omega arith,
-        (
-          omega arith,
-          (
-            omega arith,
-            (
-              omega arith,
-              (
-                omega arith,
-                (
-                  omega arith,
-                  (
-                    omega arith,
-                    (omega arith, (omega arith, (omega arith, tt))),
-                  ),
-                ),
-              ),
-            ),
-          ),
-        ),
-      ),
-    ),
-  ),
-)
-
+-- The runtime's functions pass nothing.
 runtime_passes : Each PassesNothing runtime.functions
 runtime_passes =
     (refl, (refl, (refl, (refl, (refl, (refl, (refl, (refl, (refl, (refl, (refl, (refl, (refl, tt)))))))))))))
@@ -166,7 +134,7 @@ module _ (sizes_of_trees : FramesAreSizesOfTrees) (fits : RuntimeFramesFit) (wei
       frames p f.label ≤ bound_in program f.label
   by_own f high (inl there) = weight_bounds f there
   by_own f high (inr there) =
-      let low = each_contained (λ (g : Function Ts). g.label < 32) runtime.functions runtime_low f there in absurd (omega (arith, high, low))
+      let low = each_contained IsLow runtime.functions runtime_low f there in absurd (omega (arith, high, low))
 
   pub sizes_are_allowed : AreAllowed names (trees_of program).functions (bound_in program) (frames p)
   sizes_are_allowed = record {

@@ -1,9 +1,9 @@
 -- Runs of trees run bodies by steps, with static links and without, so their calls of the runtime are served; a code
--- with
--- the runtime behind it has it; and what memory has to be.
+-- with the runtime behind it has it; and what memory has to be.
 use Rattle.std.proofs.Common.{◌≡◌, ℕ, suc, arith, List, [], ◌∷◌, ◌++◌, Some, refl, sym, ap, ◌∙◌, All, ◌<◌, ◌≤◌, ◌+◌}
 use Rattle.std.proofs.Common.{inl, inr, ne_eqb}
 use Rattle.std.specs.Prelude.{if◌then◌else◌}
+use Rattle.std.specs.List.{AllByRecursion}
 use Rattle.std.proofs.lemmas.Bool.{cases_eq}
 use Rattle.tg_base.specs.State.{word_at, statics_base, heap_base}
 use Rattle.tg_runs.specs.Runs.{Run, again}
@@ -48,14 +48,14 @@ pub linked_are_served : LinkedAreServed
 linked_are_served code size floor room level w may =
     runtime_serves (linked_host code size floor room level) w (linked_runs_by_steps code size floor room level) may
 
--- Functions of which none has a label of the runtime have it, with it behind them.
+-- The runtime's functions have labels below 32; functions of which none has such a label have the runtime, with it
+-- behind them.
 
-abbrev AreLow : List (Function Ts) → Type 0
-AreLow [] = Unit {0}
-AreLow (f ∷ fs) = (f.label < 32) × AreLow fs
+abbrev pub IsLow : Function Ts → Type 0
+IsLow f = f.label < 32
 
-found_low : (label : ℕ) (fs : List (Function Ts)) (f : Function Ts) → AreLow fs → function_of label fs ≡ Some f →
-    label < 32
+found_low : (label : ℕ) (fs : List (Function Ts)) (f : Function Ts) → AllByRecursion IsLow fs →
+    function_of label fs ≡ Some f → label < 32
 found_low label [] f low e = cc
 found_low label (g ∷ fs) f low e =
     elim (cases_eq g.label label) [
@@ -65,7 +65,7 @@ found_low label (g ∷ fs) f low e =
           (ne_eqb g.label label ne)) ∙ e)
     ]
 
-runtime_low : AreLow runtime.functions
+pub runtime_low : AllByRecursion IsLow runtime.functions
 runtime_low = (
   omega arith,
   (

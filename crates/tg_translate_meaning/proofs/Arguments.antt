@@ -25,10 +25,11 @@ use Rattle.tg_translate.specs.Scopes.{Findings}
 use Rattle.tg_translate.specs.States.{TranslationState, drawn, after}
 use Rattle.tg_translate.specs.Translate.{expression, values as made_values}
 use Rattle.tg_translate.specs.Wants.{value_from}
+use Rattle.tg_agreement.specs.Laws.{tree_work}
 use Rattle.tg_translate_meaning.specs.Tables.{Later}
 use Rattle.tg_translate_meaning.specs.Worlds.{Holdings, Stands}
 use Rattle.tg_translate_meaning.specs.Situations.{Program, Setting, value_runs, values_run}
-use Rattle.tg_translate_meaning.specs.Shown.{Situation, FollowsHere, work_factor}
+use Rattle.tg_translate_meaning.specs.Shown.{Situation, FollowsHere}
 use Rattle.tg_translate_meaning.proofs.States.{after_inv, made_in, state_in, later_none, later_on, later_value}
 use Rattle.tg_translate_meaning.proofs.Pieces.{StatesGrow, Piece, Moment, Behind, at_then, sub_value, more, extends_none, extends_on}
 use Rattle.tg_translate_meaning.proofs.Making.{grows_none, grows_on}
@@ -161,7 +162,7 @@ module _ (P : Program) (set : Setting P) (grow : StatesGrow P) (n : ℕ) (E : Ex
       let go_e' : Go ℕ = λ v w1 t1. values_run P x.p ys x.p.around (λ vs w2 t2. go' (v ∷ vs) w2 t2) w1 t1 in
       more P (k.r + 4 + units) (k.r + 10) n (rest_run (evaluates_all (exp e rest) go) k.s)
       (values_run P x.p (tx y ys) x.p.around go' k.w k.t) (omega (arith, small))
-      (follows_working P.stack work_factor (k.r + 4) n units (rest_run (evaluates_all (exp e rest) go) k.s)
+      (follows_working P.stack tree_work (k.r + 4) n units (rest_run (evaluates_all (exp e rest) go) k.s)
       (value_runs P x.p y x.p.around go_e' k.w k.t)
       (sub_value P set grow n E x k e known.0.ty known.0.piece (k.r + 4) (omega arith)
       (fits_has_values known.0.ty r known.0.fits known.0.value) y t is (later_on t u x.τ rest_later last) go_e go_e'

@@ -28,10 +28,11 @@ use Rattle.tg_translate.specs.Wants.{Made, value, done, value_of, put_in, follow
 use Rattle.tg_translate.specs.Constructs.{Storage, in_temp, at_address, want_for, assign, store_at}
 use Rattle.tg_translate.specs.Updates.{begins_with}
 use Rattle.tg_translate.specs.Translate.{expression, locate, assignment, assigned, behind_read}
+use Rattle.tg_agreement.specs.Laws.{tree_work}
 use Rattle.tg_translate_meaning.specs.Tables.{Later}
 use Rattle.tg_translate_meaning.specs.Worlds.{Holdings, unknown, Stands, GrowsTo, Key, cell, temporary, IsOf, variable, kept}
 use Rattle.tg_translate_meaning.specs.Situations.{Program, Part, Setting, Holds, MayAssign, Extends, with_temps, floor, value_runs, statement_runs, statements_run, calling, heads, frames_at}
-use Rattle.tg_translate_meaning.specs.Shown.{Shown, IsShown, Situation, FollowsHere, Onward, MadeFollows, IsWantable, IsLeft, left_over, work_factor, evaluates}
+use Rattle.tg_translate_meaning.specs.Shown.{Shown, IsShown, Situation, FollowsHere, Onward, MadeFollows, IsWantable, IsLeft, left_over, evaluates}
 use Rattle.tg_translate_meaning.proofs.States.{made_in, state_in, after_inv, later_none, later_on, later_value}
 use Rattle.tg_translate_meaning.proofs.Making.{by_made, source_of, worked, grows_none, grows_on}
 use Rattle.tg_translate_meaning.proofs.Pieces.{StatesGrow, Piece, Moment, Behind, more, paid, extends_none, extends_on, sub_value, sub_arm, ready_part}
@@ -173,7 +174,7 @@ module _ (P : Program) (set : Setting P) (needs : Needs P) (grow : StatesGrow P)
         (λ b val z later st.
         let at2 = is_at_grows P x.p.places g b.h ms b.types l typed_.t u b.grows b.extends at in
         let q = write_at P set needs x.p b.h b.types b.s b.w b.t b.holds l typed_.t u val z at2 has_values (stands_fit b.h val typed_.u typed_.t z typed_.fits st) in
-        follows_along P.stack work_factor (x.r + 150 + 56) n (rest_run (x.go nothing) q.s1) (rest_run (writes_value l val) b.s) (stores u z b.w b.t) (stores u z b.w b.t)
+        follows_along P.stack tree_work (x.r + 150 + 56) n (rest_run (x.go nothing) q.s1) (rest_run (writes_value l val) b.s) (stores u z b.w b.t) (stores u z b.w b.t)
         (λ i. q.does (λ o. x.go nothing) x.out i) (λ i. refl)
         (subst (λ o. FollowsHere P (x.r + 150 + 56) n (rest_run (x.go nothing) q.s1) (with_memory o b.w (λ w3. next w3 b.t))) (sym q.stored)
         (more P (x.r + left_over) (x.r + 150 + 56) n (rest_run (x.go nothing) q.s1) (next (record b.w { memory = q.m1 }) b.t) (omega arith)
@@ -209,7 +210,7 @@ module _ (P : Program) (set : Setting P) (needs : Needs P) (grow : StatesGrow P)
         (λ b val z later st.
         let type_is = b.extends own.place typed_.t own.type_is in
         let o = own_value P set needs x.p b.h b.types b.s b.w b.t typed_.t own.place i b.holds own.is_of type_is in
-        follows_along P.stack work_factor (x.r + 250 + 56) n (rest_run (x.go nothing) (put_variable own.place val b.s)) (rest_run (writes_value (in_variable own.place) val) b.s)
+        follows_along P.stack tree_work (x.r + 250 + 56) n (rest_run (x.go nothing) (put_variable own.place val b.s)) (rest_run (writes_value (in_variable own.place) val) b.s)
         (next b.w (set_temp i z b.t)) (next b.w (set_temp i z b.t))
         (λ c. ap (λ q. rest_run (with_found q (λ v2 w2. x.go nothing (put_variable own.place val w2))) b.s c) o.has) (λ c. refl)
         (more P (x.r + left_over) (x.r + 250 + 56) n (rest_run (x.go nothing) (put_variable own.place val b.s)) (next b.w (set_temp i z b.t)) (omega arith)

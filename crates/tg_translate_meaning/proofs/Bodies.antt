@@ -40,13 +40,14 @@ use Rattle.tg_translate.specs.States.{TranslationState, drawn}
 use Rattle.tg_translate.specs.Wants.{Made, done}
 use Rattle.tg_translate.specs.Functions.{asked, own_homes, frame_for, opened as opened_state, inside, closing, result_want, with_body, parameters}
 use Rattle.tg_translate.specs.Translate.{expression}
+use Rattle.tg_agreement.specs.Laws.{tree_work}
 use Rattle.tg_translate_meaning.specs.Covered.{with_level, Covers}
 use Rattle.tg_translate_meaning.specs.Tables.{IsMoment, Later, HasFound}
 use Rattle.tg_translate_meaning.specs.Worlds.{Holdings, Stands, Places, Key, cell, temporary, nowhere, fixed}
 use Rattle.tg_translate_meaning.specs.Worlds.{AllTemps, GrowsTo, Scene, IsScene}
 use Rattle.tg_translate_meaning.specs.Situations.{Program, Setting, Part, floor, with_temps, Extends, Holds, IsReady}
 use Rattle.tg_translate_meaning.specs.Situations.{frames_of, frames_at, calling, heads, going, statement_runs}
-use Rattle.tg_translate_meaning.specs.Shown.{FollowsHere, Shown, evaluates, work_factor}
+use Rattle.tg_translate_meaning.specs.Shown.{FollowsHere, Shown, evaluates}
 use Rattle.tg_translate_meaning.proofs.States.{after_inv, moment_before}
 use Rattle.tg_translate_meaning.proofs.Pieces.{StatesGrow}
 use Rattle.tg_translate_meaning.proofs.Laying.{put_place, put_here}
@@ -524,7 +525,7 @@ module _ (P : Program) (set : Setting P) (grow : StatesGrow P) (x : Called P) wh
         function_follows n r go out vs shown args onward =
             let job : Job = run_function K.l source_function K.seen vs in
             let runs : Run Source = rest_run (evaluation.run Passing (passing P.heap P.stack) (behind P.heap P.stack) job go out) s1 in
-            follows_along P.stack work_factor (r + 20) n runs (rest_run (behind P.heap P.stack job go out) s1) (going P point_in) (going P point_in)
+            follows_along P.stack tree_work (r + 20) n runs (rest_run (behind P.heap P.stack job go out) s1) (going P point_in) (going P point_in)
             (λ i. ap as_source (fuel_unfolds P.heap P.stack job go out s1 i)) (λ i. refl)
             (params_bound P set frame c1 (suc K.l) refl chain_here K.ps bools sig.params vs us args
             (link_slots kept_link) (link_temps kept_link)
@@ -536,7 +537,7 @@ module _ (P : Program) (set : Setting P) (grow : StatesGrow P) (x : Called P) wh
             found_tabled.1 (λ env. evaluation.eval Passing (passing P.heap P.stack) (behind P.heap P.stack) K.e env
             (λ v s2. go v (drop_weight weight (go_back s2))) (ends stuck)) out
             (r + 20) n (going P point_in)
-            (λ B. follows_along P.stack work_factor (r + 20) n (rest_run (evaluates P K.e (part B back).env (goes_on B back go) (ends stuck)) B.s)
+            (λ B. follows_along P.stack tree_work (r + 20) n (rest_run (evaluates P K.e (part B back).env (goes_on B back go) (ends stuck)) B.s)
             (rest_run (evaluates P K.e (part B back).env (goes_on B back go) (ends stuck)) B.s)
             (statement_runs P (part B back) K.done.text around_it (λ w2 t2. wrong w2) world_in temps_in) (going P point_in) (λ i. refl)
             (λ i. runs_is (λ w2 t2. wrong w2) (frames_at P (part B back))

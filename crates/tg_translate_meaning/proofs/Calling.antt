@@ -32,11 +32,12 @@ use Rattle.tg_tree.specs.Links.{LinkedPoint, first_is, frames_around, run_linked
 use Rattle.tg_runtime_meaning.proofs.Calling.{placed_world, placed_temps, placed_is}
 use Rattle.tg_translate.specs.Wants.{done}
 use Rattle.tg_types.specs.Has.{HaveValues}
+use Rattle.tg_agreement.specs.Laws.{tree_work}
 use Rattle.tg_translate_meaning.specs.Worlds.{Holdings}
 use Rattle.tg_translate_meaning.specs.Worlds.{Scene, IsScene}
 use Rattle.tg_translate_meaning.specs.Situations.{Program, Setting, Part, floor, Holds}
 use Rattle.tg_translate_meaning.specs.Situations.{frames_of, frames_at, calling, going}
-use Rattle.tg_translate_meaning.specs.Shown.{FollowsHere, Shown, work_factor}
+use Rattle.tg_translate_meaning.specs.Shown.{FollowsHere, Shown}
 use Rattle.tg_translate_meaning.proofs.Pieces.{StatesGrow, more}
 use Rattle.tg_translate_meaning.proofs.Arguments.{StandAll}
 use Rattle.tg_translate_meaning.proofs.Seeing.{IsSeenFunction}
@@ -175,13 +176,13 @@ module _ (P : Program) (set : Setting P) (grow : StatesGrow P) (x : Called P) wh
         let input : s2.input ≡ w2.input =
         sym (placed_input top (own_homes_are) us in_link ∙ bodies.link_input P set grow x fits kept_link ∙ holds.invariant.input) in
         subst (λ o. FollowsHere P (r + 20) n (turn_run go out) o) (sym target_is)
-        (follows_along P.stack work_factor (r + 20) n (turn (as_source (over_in s2 out_of_fuel)) (rest_run (behind P.heap P.stack job go out) s2))
+        (follows_along P.stack tree_work (r + 20) n (turn (as_source (over_in s2 out_of_fuel)) (rest_run (behind P.heap P.stack job go out) s2))
         (turn_run go out)
         (with_fuel w2 (going P point)) (with_fuel w2 (going P point)) (λ i. turns_as_source (behind P.heap P.stack job go out) s2 i) (λ i. refl)
-        (follows_turn P.stack work_factor (r + 20) n (as_source (over_in s2 out_of_fuel)) w2.input (rest_run (behind P.heap P.stack job go out) s2)
+        (follows_turn P.stack tree_work (r + 20) n (as_source (over_in s2 out_of_fuel)) w2.input (rest_run (behind P.heap P.stack job go out) s2)
         (going P point) refl refl input refl
         (λ m lt. bodies.function_follows P set grow x fits us back m r go out vs (shown m lt) args
-        (λ g types1 v u s3 w3 gg ee hh st. follows_less P.stack work_factor (r + 38) m n (rest_run (go v) s3) (back u w3) (omega (arith, lt))
+        (λ g types1 v u s3 w3 gg ee hh st. follows_less P.stack tree_work (r + 38) m n (rest_run (go v) s3) (back u w3) (omega (arith, lt))
         (onward g types1 v u s3 w3 gg ee hh st)))))
       where
         own_homes_are : List Access
@@ -206,7 +207,7 @@ module _ (P : Program) (set : Setting P) (grow : StatesGrow P) (x : Called P) wh
         (to_function K.l source_function K.seen) vs go out) s in
         subst (λ o. FollowsHere P q n source o) (sym call_is)
         (more P (r + 20 + units) q n source (charged units entered_run) enough
-        (follows_working P.stack work_factor (r + 20) n units source entered_run (by_stack (cases_lt top (floor P + size)) args)))
+        (follows_working P.stack tree_work (r + 20) n units source entered_run (by_stack (cases_lt top (floor P + size)) args)))
       where
         by_stack : (top < floor P + size) ⊎ (floor P + size ≤ top) → IsGiven h K.ps bools sig.params vs us →
             FollowsHere P (r + 20) n (rest_run (evaluation.call Passing (passing P.heap P.stack) (behind P.heap P.stack)
@@ -226,7 +227,7 @@ module _ (P : Program) (set : Setting P) (grow : StatesGrow P) (x : Called P) wh
             let rest : Run Source = λ i. reaches (s.depth + 1) (turn_run go out i) in
             subst (λ o. FollowsHere P (r + 20) n (λ i. passes_limit (nat_lt P.stack (s.weight + weight)) (rest i)) o) (sym target)
             (subst (λ b. FollowsHere P (r + 20) n (λ i. passes_limit b (rest i)) (over (Ended StackFull) w)) (sym past)
-            (follows_full P.stack work_factor (r + 20) n w.input rest))
+            (follows_full P.stack tree_work (r + 20) n w.input rest))
         by_stack (inr fits) args =
             let deep = scene.deep in
             let least = (bodies.sized P set grow x).least in
@@ -234,7 +235,7 @@ module _ (P : Program) (set : Setting P) (grow : StatesGrow P) (x : Called P) wh
             let inner = scene.within in
             let depth = holds.depth in
             let rest : Run Source = λ i. reaches (s.depth + 1) (turn_run go out i) in
-            follows_passing P.stack work_factor (r + 20) n (nat_lt P.stack (s.weight + weight)) rest entered_run
-            (follows_reaching P.stack work_factor (r + 20) n (s.depth + 1) (turn_run go out) entered_run
+            follows_passing P.stack tree_work (r + 20) n (nat_lt P.stack (s.weight + weight)) rest entered_run
+            (follows_reaching P.stack tree_work (r + 20) n (s.depth + 1) (turn_run go out) entered_run
             (omega (arith, deep, least, here, inner, depth, fits))
             (enters fits n r go out shown args onward))

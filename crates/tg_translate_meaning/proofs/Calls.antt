@@ -44,13 +44,14 @@ use Rattle.tg_translate.specs.Scopes as scopes
 use Rattle.tg_translate.specs.Constructs.{frame_out}
 use Rattle.tg_translate.specs.Purity.{assigns_nothing, all_assign_nothing}
 use Rattle.tg_translate.specs.Translate.{values as made_values}
+use Rattle.tg_agreement.specs.Laws.{tree_work}
 use Rattle.tg_translate_meaning.specs.Covered.{CoversExps, CoversUse, LinksLead}
 use Rattle.tg_translate_meaning.specs.Tables.{Later, HasFound}
 use Rattle.tg_translate_meaning.specs.Worlds.{Holdings, Stands, Places, Scene, temporary, kept}
 use Rattle.tg_translate_meaning.specs.Situations.{Program, Setting, Extends, MayAssign, frames_at, calling}
 use Rattle.tg_translate_meaning.specs.Situations.{value_runs, values_run}
 use Rattle.tg_translate_meaning.specs.Shown.{FollowsHere, Shown, Situation, IsShown, IsWanted, IsWantable, Onward, evaluates}
-use Rattle.tg_translate_meaning.specs.Shown.{left_over, work_factor}
+use Rattle.tg_translate_meaning.specs.Shown.{left_over}
 use Rattle.tg_translate_meaning.proofs.States.{after_inv, state_in, later_none, found_later}
 use Rattle.tg_translate_meaning.proofs.Making.{grows_on, wanted_of, by_made}
 use Rattle.tg_translate_meaning.proofs.Pieces.{StatesGrow, Moment, Behind, at_begin, more, along_on, extends_on}
@@ -303,14 +304,14 @@ module _ (P : Program) (set : Setting P) (grow : StatesGrow P) (n : ℕ) where
           (x.p.around.activation.base - x.p.around.activation.size) (λ v w3. go' v w3 t1) w1 in
           let rest : Go ℕ = λ v w1 t1. values_run P x.p call_made.xs x.p.around (λ vs w2 t2. all (v ∷ vs) w2 t2) w1 t1 in
           let run : Run Ran = value_runs P x.p (tree.Call callee.label.0 (tx link call_made.xs)) x.p.around go' x.w x.t in
-          follows_along P.stack work_factor x.r n (λ i. costs 1 (costs hops (evaluated i)))
+          follows_along P.stack tree_work x.r n (λ i. costs 1 (costs hops (evaluated i)))
           (rest_run (evaluates P (Call sp f args) x.p.env x.go x.out) x.s) run run source_is (λ i. refl)
-          (follows_paying P.stack work_factor x.r n 1 (λ i. costs hops (evaluated i)) run
-          (follows_paying P.stack work_factor (x.r + work_factor * 1) n hops evaluated run
-          (more P (x.r + 80 + len + units + 4) (x.r + work_factor * 1 + work_factor * hops) n evaluated run (omega (arith, small, few, hops_))
-          (follows_working P.stack work_factor (x.r + 80 + len + units) n 4 evaluated
+          (follows_paying P.stack tree_work x.r n 1 (λ i. costs hops (evaluated i)) run
+          (follows_paying P.stack tree_work (x.r + tree_work * 1) n hops evaluated run
+          (more P (x.r + 80 + len + units + 4) (x.r + tree_work * 1 + tree_work * hops) n evaluated run (omega (arith, small, few, hops_))
+          (follows_working P.stack tree_work (x.r + 80 + len + units) n 4 evaluated
           (values_run P x.p (tx link call_made.xs) x.p.around all x.w x.t)
-          (follows_working P.stack work_factor (x.r + 80 + len) n units evaluated (value_runs P x.p link x.p.around rest x.w x.t)
+          (follows_working P.stack tree_work (x.r + 80 + len) n units evaluated (value_runs P x.p link x.p.around rest x.w x.t)
           (flat_follows P x.p link (x.p.scene.chain K.l) (x.r + 80) (x.r + 80 + len) n rest x.w x.t evaluated
           (frame_is_flat x.p.within.link_in_slot link_hops) link_word (omega arith)
           (more P (x.r + 70 + 10) (x.r + 80) n evaluated (rest (x.p.scene.chain K.l) x.w x.t) (omega arith)

@@ -13,7 +13,7 @@ use Rattle.tg_types.proofs.NeverStuck.{never_stuck}
 use Rattle.tg_tree.specs.Units.{Trees}
 use Rattle.tg_tree.proofs.TreeRuns.{trees_stay_over}
 use Rattle.tg_tree.proofs.Linked.{linked_stays_over, linked_is_trees}
-use Rattle.tg_translate_meaning.specs.Shown.{work_factor, work_besides}
+use Rattle.tg_agreement.specs.Laws.{tree_work, tree_besides}
 use Rattle.tg_translate_meaning.specs.Laws.{LinkedTreesFollow, MeaningIsKept, MayRun, source_run, trees_run, with_links, trees_of, level_in}
 
 module _ (p : CheckedProgram) (size : ℕ → ℕ) (heap stack : ℕ) (input : List ℕ) (may : MayRun p size heap stack input) where
@@ -32,18 +32,18 @@ kept_by_simulation follow p size heap stack input may =
     let c = source_run p heap stack input in
     let linked = with_links p size heap stack input in
     let d = trees_run p size heap stack input in
-    let agreed : Agrees work_factor work_besides c linked =
-    following_agrees stack work_factor work_besides c linked (never_ends_full p size heap stack input may) (unstuck p size heap stack input may)
+    let agreed : Agrees tree_work tree_besides c linked =
+    following_agrees stack tree_work tree_besides c linked (never_ends_full p size heap stack input may) (unstuck p size heap stack input may)
     (linked_stays_over Trees (trees_of p) size (stack_top - stack) heap (level_in p) 32 input) (follow p size heap stack input may) in
     let same : (n : ℕ) → linked n ≡ d n =
     λ n. linked_is_trees Trees (trees_of p) size (stack_top - stack) heap (level_in p) 32 input n (agreed.never_wrong n) in
-    let follows : (n : ℕ) → Follows stack work_factor work_besides n c d =
-    λ n. follows_along stack work_factor work_besides n c c linked d (λ i. refl) (λ i. sym (same i)) (follow p size heap stack input may n) in
+    let follows : (n : ℕ) → Follows stack tree_work tree_besides n c d =
+    λ n. follows_along stack tree_work tree_besides n c c linked d (λ i. refl) (λ i. sym (same i)) (follow p size heap stack input may n) in
     record {
       follows = follows;
       agrees =
-          following_agrees stack work_factor work_besides c d (never_ends_full p size heap stack input may) (unstuck p size heap stack input may)
+          following_agrees stack tree_work tree_besides c d (never_ends_full p size heap stack input may) (unstuck p size heap stack input may)
           (trees_stay_over Trees (trees_of p) size (stack_top - stack) heap 32 input) follows;
-      fills = following_fills stack work_factor work_besides c d (unstuck p size heap stack input may) follows;
+      fills = following_fills stack tree_work tree_besides c d (unstuck p size heap stack input may) follows;
       links = same;
     }

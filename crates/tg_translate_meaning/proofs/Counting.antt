@@ -32,10 +32,11 @@ use Rattle.tg_translate.specs.States.{TranslationState, drawn}
 use Rattle.tg_translate.specs.Wants.{Made, dropped}
 use Rattle.tg_translate.specs.Constructs.{read, own_place, assign_value, turn_of, in_body, operand}
 use Rattle.tg_translate.specs.Translate.{expression}
+use Rattle.tg_agreement.specs.Laws.{tree_work}
 use Rattle.tg_translate_meaning.specs.Tables.{Later}
 use Rattle.tg_translate_meaning.specs.Worlds.{Holdings, unknown, Stands, an_int, GrowsTo, Key, cell, temporary, Content, nowhere, variable, kept, fixed, Places, IsOf, HoldsAt, HoldsVariable, word_of}
 use Rattle.tg_translate_meaning.specs.Situations.{Program, Part, Setting, Holds, IsReady, Extends, with_temps, floor, value_runs, statement_runs, statements_run, heads, frames_at}
-use Rattle.tg_translate_meaning.specs.Shown.{Shown, Situation, FollowsHere, Onward, Outward, left_over, work_factor, evaluates}
+use Rattle.tg_translate_meaning.specs.Shown.{Shown, Situation, FollowsHere, Onward, Outward, left_over, evaluates}
 use Rattle.tg_translate_meaning.proofs.States.{later_none}
 use Rattle.tg_translate_meaning.proofs.Making.{worked, grows_none, grows_on}
 use Rattle.tg_translate_meaning.proofs.Pieces.{StatesGrow, more, extends_none, extends_on}
@@ -184,7 +185,7 @@ module _ (P : Program) (set : Setting P) (grow : StatesGrow P) (n : ℕ) (c : Co
         let go2 : Go ℕ = λ k1 w1 t1. with_word (t1 c.bound) w1 (λ h1. arms_ (not (k1 == h1)) w1 t1) in
         let target : Run Ran = statement_runs P c.p (tree.If (tree.Compare rel.NotEqual (read (own_place c.access)) (Temp c.bound)) nothing_done
         (tree.Break 0)) inside_loop head_ w t in
-        follows_along P.stack work_factor (c.r + 94) m source (rest_run (behind_body v) s) target target
+        follows_along P.stack tree_work (c.r + 94) m source (rest_run (behind_body v) s) target target
         (λ i. ap (λ o. rest_run (with_found o (λ z. evaluation.int_of Passing (passing P.heap P.stack) z (λ k2. decided
         (k2 == c.high) k2) c.out)) s i) has) (λ i. refl)
         (worked P (c.r + 90) (c.r + 94) 4 m source _ (omega arith)
@@ -199,7 +200,7 @@ module _ (P : Program) (set : Setting P) (grow : StatesGrow P) (n : ℕ) (c : Co
             FollowsHere P (c.r + 80) m (rest_run (decided b k) s) (arms_ (not b) w t)
         by k word has true e =
             worked P (c.r + left_over) (c.r + 80) 3 m (rest_run (c.go nothing) s) (c.next w t) (omega arith)
-            (follows_less P.stack work_factor (c.r + left_over) m n (rest_run (c.go nothing) s) (c.next w t) le (turns.onward g ms s w t gg ee
+            (follows_less P.stack tree_work (c.r + left_over) m n (rest_run (c.go nothing) s) (c.next w t) le (turns.onward g ms s w t gg ee
             (turns.back g ms s w t hh)))
         by k word has false e =
             let s2 : SourceWorld = put_variable c.place (int (add k 1)) s in
@@ -262,7 +263,7 @@ module _ (P : Program) (set : Setting P) (grow : StatesGrow P) (n : ℕ) (c : Co
           ready = turns.ready ms ee type_is;
           outward = λ g3 ms3 s3 w3 t3 l gg3 ee3 hh3.
               more P (c.r + left_over) (c.r + 38 + left_over) m (rest_run (c.go nothing) s3) (c.next w3 t3) (omega arith)
-              (follows_less P.stack work_factor (c.r + left_over) m n (rest_run (c.go nothing) s3) (c.next w3 t3) le
+              (follows_less P.stack tree_work (c.r + left_over) m n (rest_run (c.go nothing) s3) (c.next w3 t3) le
               (turns.onward g3 ms3 s3 w3 t3 (grows_on c.h g g3 gg gg3) (extends_on c.types ms ms3 ee ee3) (turns.back g3 ms3 s3 w3 t3 hh3)));
           holds = hb;
         } in

@@ -21,10 +21,11 @@ use Rattle.tg_translate.specs.declared.wants.Want.TheVariants as want
 use Rattle.tg_translate.specs.States.{TranslationState, drawn}
 use Rattle.tg_translate.specs.Wants.{Made, value, done, test, value_of, put_in, dropped, behind, behind_some}
 use Rattle.tg_translate.specs.Translate.{sequence}
+use Rattle.tg_agreement.specs.Laws.{tree_work}
 use Rattle.tg_translate_meaning.specs.Tables.{Later}
 use Rattle.tg_translate_meaning.specs.Worlds.{Holdings, Stands}
 use Rattle.tg_translate_meaning.specs.Situations.{Program, Part, Setting, MayAssign, value_runs, statement_runs, statements_run}
-use Rattle.tg_translate_meaning.specs.Shown.{IsShown, Situation, IsWantable, IsWanted, IsNamed, FollowsHere, Onward, MadeFollows, left_over, work_factor, put_where}
+use Rattle.tg_translate_meaning.specs.Shown.{IsShown, Situation, IsWantable, IsWanted, IsNamed, FollowsHere, Onward, MadeFollows, left_over, put_where}
 use Rattle.tg_translate_meaning.proofs.States.{made_in, state_in, after_inv, later_none, later_value}
 use Rattle.tg_translate_meaning.proofs.Making.{by_made, source_of, worked}
 use Rattle.tg_translate_meaning.proofs.Pieces.{StatesGrow, more, paid}

@@ -34,10 +34,11 @@ use Rattle.tg_translate.specs.Wants.{Made, value_of, value_from}
 use Rattle.tg_translate.specs.Constructs.{Storage, in_temp, at_address, read, operand, index_check, element, element_place, element_of, hold, keep, after_all, Held}
 use Rattle.tg_translate.specs.Purity.{assigns_nothing, place_assigns_nothing}
 use Rattle.tg_translate.specs.Translate.{expression, locate}
+use Rattle.tg_agreement.specs.Laws.{tree_work}
 use Rattle.tg_translate_meaning.specs.Tables.{Later}
 use Rattle.tg_translate_meaning.specs.Worlds.{Holdings, unknown, part, GrowsTo, Stands, an_int, an_array, array_of, temporary, IsOf, kept}
 use Rattle.tg_translate_meaning.specs.Situations.{Program, Part, Setting, Holds, MayAssign, Extends, value_runs, statement_runs, statements_run}
-use Rattle.tg_translate_meaning.specs.Shown.{Shown, FollowsHere, left_over, work_factor, evaluates}
+use Rattle.tg_translate_meaning.specs.Shown.{Shown, FollowsHere, left_over, evaluates}
 use Rattle.tg_translate_meaning.proofs.States.{made_in, state_in, after_inv, later_none, later_on, later_value}
 use Rattle.tg_translate_meaning.proofs.Making.{worked}
 use Rattle.tg_translate_meaning.proofs.Pieces.{StatesGrow, more, paid, extends_none, ready_part, stop_follows}
@@ -196,7 +197,7 @@ module _ (P : Program) (set : Setting P) (needs : Needs P) (grow : StatesGrow P)
           let under = heap_below P set needs p h types s w t hh in
           let source : Run Source = rest_run (go (in_element r z)) s in
           let target : Run Ran = statements_run P p (stm (index_check (operand l) (operand o)) no_stms) p.around next w t in
-          follows_along P.stack work_factor (q + 16) n source (rest_run (element_located (reference r) (int z) go out) s) target target
+          follows_along P.stack tree_work (q + 16) n source (rest_run (element_located (reference r) (int z) go out) s) target target
           (λ i. located x true e i) (λ i. refl)
           (checked p l o a z (length x.values) q n source next w t is_l is_o x.len
           (subst (λ b2. FollowsHere P q n source ((if not b2 then statement_runs P p
@@ -206,7 +207,7 @@ module _ (P : Program) (set : Setting P) (needs : Needs P) (grow : StatesGrow P)
       by x false e =
           let source : Run Source = rest_run (within_or false r z go out) s in
           let target : Run Ran = statements_run P p (stm (index_check (operand l) (operand o)) no_stms) p.around next w t in
-          follows_along P.stack work_factor (q + 16) n source (rest_run (element_located (reference r) (int z) go out) s) target target
+          follows_along P.stack tree_work (q + 16) n source (rest_run (element_located (reference r) (int z) go out) s) target target
           (λ i. located x false e i) (λ i. refl)
           (more P (3 + 16) (q + 16) n source target (omega (arith, enough))
           (checked p l o a z (length x.values) 3 n source next w t is_l is_o x.len

@@ -31,10 +31,11 @@ use Rattle.tg_translate.specs.States.{TranslationState, Translated, drawn, after
 use Rattle.tg_translate.specs.Constructs.{Storage, in_temp, at_address, read, plus, nil_check, field_place, field_of, hold, keep, after_all, Held, operand}
 use Rattle.tg_translate.specs.Scopes.{field_number}
 use Rattle.tg_translate.specs.Translate.{locate}
+use Rattle.tg_agreement.specs.Laws.{tree_work}
 use Rattle.tg_translate_meaning.specs.Tables.{Later}
 use Rattle.tg_translate_meaning.specs.Worlds.{Holdings, unknown, Stands, a_nil_record, a_record, record_of, temporary, nowhere, part}
 use Rattle.tg_translate_meaning.specs.Situations.{Program, Part, Setting, Holds, Extends, value_runs, statement_runs, statements_run}
-use Rattle.tg_translate_meaning.specs.Shown.{FollowsHere, left_over, work_factor}
+use Rattle.tg_translate_meaning.specs.Shown.{FollowsHere, left_over}
 use Rattle.tg_translate_meaning.proofs.States.{made_in, state_in, after_inv, later_none, later_on, behind_none, front_none}
 use Rattle.tg_translate_meaning.proofs.Making.{worked, set_here, holds_with_temp, grows_none, grows_on}
 use Rattle.tg_translate_meaning.proofs.Pieces.{more, paid, extends_none, extends_on, ready_part, stop_follows}
@@ -198,7 +199,7 @@ module _ (P : Program) (set : Setting P) (needs : Needs P) where
         paid P (x.r + j) n inner target
         (more P (x.r + j + 150) (x.r + j + 256) n inner target (omega arith)
         (own.pays target
-        (follows_along P.stack work_factor (x.r + j + 150 + 256) n (rest_run (with_record y.v) x.s) (rest_run (reads P (in_variable own.place) with_record x.out) x.s) target target
+        (follows_along P.stack tree_work (x.r + j + 150 + 256) n (rest_run (with_record y.v) x.s) (rest_run (reads P (in_variable own.place) with_record x.out) x.s) target target
         (λ c. ap (λ o. rest_run (with_found o with_record) x.s c) y.has) (λ c. refl)
         (more P (x.r + left_over + j + 20) (x.r + j + 150 + 256) n (rest_run (with_record y.v) x.s) target (omega arith)
         (field_found n (x.r + left_over) j x.p x.h x.types x.s x.w x.t y.v typed_.at name typed_.k i y.word x.ty typed_.fs x.go x.out go' x.holds y.stands y.there typed_.shape typed_.field

@@ -37,10 +37,11 @@ use Rattle.tg_translate.specs.States.{TranslationState, drawn, after, give}
 use Rattle.tg_translate.specs.Translate.{expression}
 use Rattle.tg_translate.specs.Wants.{value, value_from}
 use Rattle.tg_translate.specs.declared.wants.Want.TheVariants as want
+use Rattle.tg_agreement.specs.Laws.{tree_work}
 use Rattle.tg_translate_meaning.specs.Tables.{Later}
 use Rattle.tg_translate_meaning.specs.Worlds.{Holdings, Stands, an_array, array_of, IsScene}
 use Rattle.tg_translate_meaning.specs.Situations.{Program, Part, Setting, Holds, floor, value_runs, values_run, calling, frames_at}
-use Rattle.tg_translate_meaning.specs.Shown.{Situation, IsShown, FollowsHere, work_factor, evaluates}
+use Rattle.tg_translate_meaning.specs.Shown.{Situation, IsShown, FollowsHere, evaluates}
 use Rattle.tg_translate_meaning.proofs.States.{after_inv, state_in, later_none}
 use Rattle.tg_translate_meaning.proofs.Making.{by_made, wanted_of, grows_on}
 use Rattle.tg_translate_meaning.proofs.Pieces.{StatesGrow, Piece, Moment, Behind, at_begin, more, paid, stop_follows}
@@ -140,7 +141,7 @@ module _ (P : Program) (set : Setting P) (p : Part) (scene : IsScene (floor P) P
         (λ d comes.
         subst (λ b. FollowsHere P (r + 252) n (rest_run (making k v b) s1) d) (sym sign)
         (subst (λ b. FollowsHere P (r + 252) n (rest_run (room_tested k v next_on b) s1) d) (sym enough)
-        (follows_paying P.stack work_factor (r + 252) n k c d
+        (follows_paying P.stack tree_work (r + 252) n k c d
         (follows_coming P (r + 64) (r + 252 + 256 * k) (call_units + turn_units * k) n c d (go' a w3 t) (omega arith) comes
         (onward added.g s3 w3 added.grown holds3 value_is a (an_array (length s.objects) at k a added.there))))))
 
@@ -240,11 +241,11 @@ module _ (P : Program) (set : Setting P) (grow : StatesGrow P) (owns : Owns P) (
       let xs : Txs = two_txs q.left q.right in
       let d : Run Ran = values_run P x.p xs x.p.around (enters go') x.w x.t in
       let whole : Run Ran = value_runs P x.p (make_array q.left q.right) x.p.around go' x.w x.t in
-      follows_along P.stack work_factor x.r n (λ i. costs 1 (c i)) (rest_run (evaluates P E_ x.p.env x.go x.out) x.s) whole whole
+      follows_along P.stack tree_work x.r n (λ i. costs 1 (c i)) (rest_run (evaluates P E_ x.p.env x.go x.out) x.s) whole whole
       (λ i. refl) (λ i. refl)
       (paid P x.r n c whole
       (more P (x.r + 252 + 4) (x.r + 256) n c whole (omega arith)
-      (follows_working P.stack work_factor (x.r + 252) n 4 c d
+      (follows_working P.stack tree_work (x.r + 252) n 4 c d
       (more P (x.r + 242 + 10) (x.r + 252) n c d (omega arith)
       (arguments_follow P set grow n E_ x start both types_ known xs q.s q.made last made_of (enters go')
       (λ b vs us later all.

@@ -36,11 +36,12 @@ use Rattle.tg_translate.specs.Scopes.{compares_strings}
 use Rattle.tg_translate.specs.States.{drawn, Translates, after, give}
 use Rattle.tg_translate.specs.Translate.{expression, with_left}
 use Rattle.tg_translate.specs.Wants.{Made, test}
+use Rattle.tg_agreement.specs.Laws.{tree_work}
 use Rattle.tg_translate_meaning.specs.Tables.{Later}
 use Rattle.tg_translate_meaning.specs.Worlds as worlds
 use Rattle.tg_translate_meaning.specs.Worlds.{Holdings, Stands, a_nil, a_nil_record, a_record, an_array}
 use Rattle.tg_translate_meaning.specs.Situations.{Program, Setting, Holds, test_runs}
-use Rattle.tg_translate_meaning.specs.Shown.{Situation, IsShown, FollowsHere, work_factor, left_over, evaluates, Onward, IsTold}
+use Rattle.tg_translate_meaning.specs.Shown.{Situation, IsShown, FollowsHere, left_over, evaluates, Onward, IsTold}
 use Rattle.tg_translate_meaning.proofs.States.{after_inv, state_in, later_none}
 use Rattle.tg_translate_meaning.proofs.Making.{by_made, worked, truth_is_set}
 use Rattle.tg_translate_meaning.proofs.Lefts.{LeftSide, plain_left}
@@ -200,7 +201,7 @@ module _ (P : Program) (set : Setting P) (grow : StatesGrow P) (n : ℕ) (sp : S
       tt
       (λ go' onward.
       let whole : Run Ran = test_runs P x.p (tree.Compare one q.left q.right) x.p.around go' x.w x.t in
-      follows_along P.stack work_factor x.r n (λ i. costs 1 (sides_run i)) (rest_run (evaluates P E_ x.p.env x.go x.out) x.s) whole whole
+      follows_along P.stack tree_work x.r n (λ i. costs 1 (sides_run i)) (rest_run (evaluates P E_ x.p.env x.go x.out) x.s) whole whole
       source_is (λ i. refl)
       (paid P x.r n sides_run whole
       (worked P (x.r + 246 + 4) (x.r + 256) (4 + lifted_units Trees (is_flat q.right)) n sides_run _

@@ -30,11 +30,12 @@ use Rattle.tg_translate.specs.declared.wants.Want.TheVariants as want
 use Rattle.tg_translate.specs.States.{TranslationState, drawn}
 use Rattle.tg_translate.specs.Wants.{Made, value, done, test, value_of, put_in, dropped, behind}
 use Rattle.tg_translate.specs.Translate.{declarations, sequence}
+use Rattle.tg_agreement.specs.Laws.{tree_work}
 use Rattle.tg_translate_meaning.specs.Covered.{CoversDecs, CoversExps}
 use Rattle.tg_translate_meaning.specs.Tables.{Later}
 use Rattle.tg_translate_meaning.specs.Worlds.{Holdings, Stands, GrowsTo, Places, temporary, kept}
 use Rattle.tg_translate_meaning.specs.Situations.{Program, Part, Setting, Holds, MayAssign, Extends, value_runs, test_runs, statement_runs, statements_run, calling, heads, frames_at}
-use Rattle.tg_translate_meaning.specs.Shown.{IsShown, Situation, IsWantable, IsWanted, IsLeft, IsTold, IsNamed, FollowsHere, Onward, left_over, work_factor, put_where}
+use Rattle.tg_translate_meaning.specs.Shown.{IsShown, Situation, IsWantable, IsWanted, IsLeft, IsTold, IsNamed, FollowsHere, Onward, left_over, put_where}
 use Rattle.tg_translate_meaning.proofs.States.{made_in, state_in, after_inv, later_none, later_on}
 use Rattle.tg_translate_meaning.proofs.Making.{by_made, grows_none, grows_on}
 use Rattle.tg_translate_meaning.proofs.Pieces.{StatesGrow, more, extends_none, extends_on}
@@ -132,8 +133,8 @@ module _ (P : Program) (set : Setting P) (grow : StatesGrow P) (groups : Groups 
         env = x.env;
         opened = opened_further P set grow n k (types ts rest) rest scope inner k.σ u k.p.env x.env k.p.places k.p.places k.h k.h k.types k.types k.s k.s k.w k.w k.t k.t (grows_none k.h) (extends_none k.types) refl ready hh back refl x.opened;
         leads = λ go q d f.
-            follows_paying P.stack work_factor q n (length ts) (rest_run (declares P set grow rest k.p.env go k.out) k.s) d
-            (more P q (q + work_factor * length ts) n (rest_run (declares P set grow rest k.p.env go k.out) k.s) d (omega arith) (x.leads go q d f));
+            follows_paying P.stack tree_work q n (length ts) (rest_run (declares P set grow rest k.p.env go k.out) k.s) d
+            (more P q (q + tree_work * length ts) n (rest_run (declares P set grow rest k.p.env go k.out) k.s) d (omega arith) (x.leads go q d f));
       }
   quiet n k _ inner _ u (a_variable _ x kind e rest _ one σ1 ss _ first made) none typed words covers plain last = absurd (no_statement one ss none)
   quiet n k _ inner _ u (some_functions _ fs rest _ σ1 σ2 a b ss _ first second made) none (has.group sigs apart bodies_typed typed) words covers plain last =
@@ -155,8 +156,8 @@ module _ (P : Program) (set : Setting P) (grow : StatesGrow P) (groups : Groups 
         opened = opened_further P set grow n k (functions fs rest) rest scope inner σ2 u env x.env k.p.places k.p.places k.h k.h k.types k.types k.s k.s k.w k.w k.t k.t (grows_none k.h) (extends_none k.types) loop ready hh back
             (ap (λ o2. own_decs level rest o2) seen_is) x.opened;
         leads = λ go q d f.
-            follows_paying P.stack work_factor q n (count fs) (rest_run (declares P set grow rest env go k.out) k.s) d
-            (more P q (q + work_factor * count fs) n (rest_run (declares P set grow rest env go k.out) k.s) d (omega arith) (x.leads go q d f));
+            follows_paying P.stack tree_work q n (count fs) (rest_run (declares P set grow rest env go k.out) k.s) d
+            (more P q (q + tree_work * count fs) n (rest_run (declares P set grow rest env go k.out) k.s) d (omega arith) (x.leads go q d f));
       }
 
   -- A block.

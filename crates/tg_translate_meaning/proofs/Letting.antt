@@ -36,12 +36,13 @@ use Rattle.tg_translate.specs.States.{TranslationState, drawn, Translates, one_t
 use Rattle.tg_translate.specs.Wants.{Made, value_of, followed}
 use Rattle.tg_translate.specs.Functions.{declare_functions}
 use Rattle.tg_translate.specs.Translate.{expression, declarations, declaration_of, bodies}
+use Rattle.tg_agreement.specs.Laws.{tree_work}
 use Rattle.tg_translate_meaning.specs.Covered.{CoversDecs, CoversFunctions}
 use Rattle.tg_translate_meaning.specs.Tables.{Later, HasFound}
 use Rattle.tg_translate_meaning.specs.Worlds.{Holdings, GrowsTo, Key, temporary, variable, kept, Places}
 use Rattle.tg_translate_meaning.specs.Situations as situations
 use Rattle.tg_translate_meaning.specs.Situations.{Program, Part, Setting, Holds, IsReady, AreDone, Extends, statement_runs, statements_run}
-use Rattle.tg_translate_meaning.specs.Shown.{Shown, FollowsHere, left_over, work_factor}
+use Rattle.tg_translate_meaning.specs.Shown.{Shown, FollowsHere, left_over}
 use Rattle.tg_translate_meaning.proofs.States.{made_in, state_in, after_inv, later_none, later_on, later_value, behind_none, front_none}
 use Rattle.tg_translate_meaning.proofs.Making.{grows_none, grows_on}
 use Rattle.tg_translate_meaning.proofs.Pieces.{StatesGrow, more, extends_none, extends_on}
@@ -306,8 +307,8 @@ module _ (P : Program) (set : Setting P) (grow : StatesGrow P) where
       λ g3 ms3 s3 w3 t3 h3. same_back k.p scope k.p.env g3 ms3 s3 w3 t3 h3 in
       let source : Run Source = rest_run (declares rest k.p.env go k.out) k.s in
       let target : Run Ran = statements_run P k.p ss k.p.around next k.w k.t in
-      follows_paying P.stack work_factor k.r n (length ts) source target
-      (more P k.r (k.r + work_factor * length ts) n source target (omega arith)
+      follows_paying P.stack tree_work k.r n (length ts) source target
+      (more P k.r (k.r + tree_work * length ts) n source target (omega arith)
       (declare_all groups n
       (stands_inside n k scope k.σ k.p.env k.p.places k.h k.types k.s k.w k.t k.r (omega arith) (grows_none k.h) (extends_none k.types) refl ready hh back)
       rest inner ss u made typed shown words covers plain last go next
@@ -349,8 +350,8 @@ module _ (P : Program) (set : Setting P) (grow : StatesGrow P) where
       let seen_is : levels_of env.entries ≡ own_functions level fs (levels_of k.p.env.entries) = ap (λ o. own_functions o fs (levels_of k.p.env.entries)) k.ready.same_level in
       let source : Run Source = rest_run (declares rest env go k.out) k.s in
       let target : Run Ran = statements_run P k.p ss k.p.around next k.w k.t in
-      follows_paying P.stack work_factor k.r n (count fs) source target
-      (more P k.r (k.r + work_factor * count fs) n source target (omega arith)
+      follows_paying P.stack tree_work k.r n (count fs) source target
+      (more P k.r (k.r + tree_work * count fs) n source target (omega arith)
       (declare_all groups n
       (stands_inside n k scope σ2 env k.p.places k.h k.types k.s k.w k.t k.r (omega arith) (grows_none k.h) (extends_none k.types) loop ready hh back)
       rest inner ss u made typed shown words.1

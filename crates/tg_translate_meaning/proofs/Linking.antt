@@ -20,10 +20,11 @@ use Rattle.tg_tree.specs.FlatValue.{flat_value, or_wrong, onward}
 use Rattle.tg_tree.specs.Actions.{World, Temps, Go, charged, with_given}
 use Rattle.tg_tree.proofs.FlatValues.{flat_runs, word_spends}
 use Rattle.tg_translate.specs.Constructs.{link_of, own_link, frame_out}
+use Rattle.tg_agreement.specs.Laws.{tree_work}
 use Rattle.tg_translate_meaning.specs.Covered.{LinksLead}
 use Rattle.tg_translate_meaning.specs.Worlds.{Holdings, IsScene, HoldsAt, cell, temporary, fixed, AllTemps, word_of, Key}
 use Rattle.tg_translate_meaning.specs.Situations.{Program, Part, Holds, with_temps, floor, value_runs, calling, heads, frames_at}
-use Rattle.tg_translate_meaning.specs.Shown.{FollowsHere, work_factor}
+use Rattle.tg_translate_meaning.specs.Shown.{FollowsHere}
 use Rattle.tg_translate_meaning.proofs.Pieces.{more}
 use Rattle.tg_runs.proofs.Following.{follows_working}
 
@@ -94,12 +95,12 @@ module _ (P : Program) where
   flat_follows p x u r q n go w t c f_x is le f =
       let l = expression_length Trees x in
       more P (r + l) q n c (value_runs P p x p.around go w t) le
-      (follows_along P.stack work_factor (r + l) n c c (charged l (go u w t)) (value_runs P p x p.around go w t) (λ i. refl)
+      (follows_along P.stack tree_work (r + l) n c c (charged l (go u w t)) (value_runs P p x p.around go w t) (λ i. refl)
       (λ i. flat_runs Trees P.heap P.code.literals (calling P (frames_at P p)) (heads P (frames_at P p)) x p.around go w t i f_x ∙
       (ap (λ k. works k (with_given (flat_value P.code.literals p.around.activation.base w.memory t x) w (λ v. go v w t) i))
       (word_spends Trees P.code.literals p.around.activation.base w.memory t x u f_x is) ∙
       ap (λ g. works l (with_given g w (λ v. go v w t) i)) is))
-      (follows_working P.stack work_factor r n l c (go u w t) f))
+      (follows_working P.stack tree_work r n l c (go u w t) f))
 
   -- what a key that is fixed holds
   fixed_word : (p : Part) (h : Holdings) (types : List Ty) (s : SourceWorld) (w : World) (t : Temps) (k : Key) (u : ℕ) →

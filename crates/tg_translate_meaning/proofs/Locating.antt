@@ -47,12 +47,13 @@ use Rattle.tg_translate.specs.Constructs.{Storage, in_temp, at_address, place_in
 use Rattle.tg_translate.specs.Scopes.{home_place, frame_at, variable_place}
 use Rattle.tg_translate.specs.Purity.{place_assigns_nothing}
 use Rattle.tg_translate.specs.Translate.{locate, sequence, declarations, Begun}
+use Rattle.tg_agreement.specs.Laws.{tree_work}
 use Rattle.tg_translate_meaning.specs.Tables.{Table, Later, HasFound}
 use Rattle.tg_translate_meaning.specs.Covered.{CoversPlace, CoversName, LinksLead}
 use Rattle.tg_translate_meaning.specs.Worlds.{Holdings, Stands, GrowsTo, record_of, array_of, Key, cell, temporary, Content, nowhere, variable, kept, Places, IsOf, AllTemps}
 use Rattle.tg_translate_meaning.specs.Worlds.{word_of, HoldsVariable, HoldsAt, IsLaid}
 use Rattle.tg_translate_meaning.specs.Situations.{Program, Part, Setting, Holds, IsReady, IsNear, key_of, Extends, with_temps, floor, value_runs, statements_run}
-use Rattle.tg_translate_meaning.specs.Shown.{FollowsHere, Outward, left_over, work_factor}
+use Rattle.tg_translate_meaning.specs.Shown.{FollowsHere, Outward, left_over}
 use Rattle.tg_translate_meaning.proofs.States.{made_in, state_in, later_none}
 use Rattle.tg_translate_meaning.proofs.Making.{worked, grows_none}
 use Rattle.tg_translate_meaning.proofs.Pieces.{more, paid, extends_none}
@@ -319,11 +320,11 @@ module _ (P : Program) where
     pub source_paid : (k q : ℕ) (d : Run Ran) → k ≤ q + 256 + 256 * (x.p.env.level - seen.level) → FollowsHere P k n (rest_run (x.go (in_variable seen.place)) x.s) d →
         FollowsHere P q n (place_source n (Simple v) x) d
     source_paid k q d le f =
-        follows_along P.stack work_factor q n (λ i. costs 1 (costs (x.p.env.level - seen.level) (rest_run (x.go (in_variable seen.place)) x.s i))) (place_source n (Simple v) x) d d
+        follows_along P.stack tree_work q n (λ i. costs 1 (costs (x.p.env.level - seen.level) (rest_run (x.go (in_variable seen.place)) x.s i))) (place_source n (Simple v) x) d d
         source_goes (λ i. refl)
         (paid P q n _ d
-        (follows_paying P.stack work_factor (q + 256) n (x.p.env.level - seen.level) (rest_run (x.go (in_variable seen.place)) x.s) d
-        (more P k (q + 256 + work_factor * (x.p.env.level - seen.level)) n (rest_run (x.go (in_variable seen.place)) x.s) d le f)))
+        (follows_paying P.stack tree_work (q + 256) n (x.p.env.level - seen.level) (rest_run (x.go (in_variable seen.place)) x.s) d
+        (more P k (q + 256 + tree_work * (x.p.env.level - seen.level)) n (rest_run (x.go (in_variable seen.place)) x.s) d le f)))
 
     in_a_temporary : (i : ℕ) → seen.home.access ≡ InTemp (record { 0 = i }) → IsOwn n x.r x.p x.types x.ty x.go (place_source n (Simple v) x) x.s i
     in_a_temporary i e = record {

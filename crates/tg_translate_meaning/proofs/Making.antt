@@ -33,6 +33,7 @@ use Rattle.tg_translate.specs.declared.wants.Want.TheVariants as want
 use Rattle.tg_translate.specs.States.{TranslationState, Translated, drawn, Translates, after}
 use Rattle.tg_translate.specs.Wants.{Made, value, done, test, value_of}
 use Rattle.tg_translate.specs.Scopes.{Findings}
+use Rattle.tg_agreement.specs.Laws.{tree_work}
 use Rattle.tg_translate_meaning.specs.Worlds.{Holdings, Stands, an_int, GrowsTo, unknown, Invariant, Key, cell, temporary, nowhere, free, HoldsAt, word_of, variable, kept, fixed, Content, Places, AllTemps}
 use Rattle.tg_translate_meaning.specs.Situations as situations
 use Rattle.tg_translate_meaning.proofs.States.{made_in, state_in}
@@ -41,7 +42,6 @@ use Rattle.tg_translate_meaning.specs.Shown as shown
 use Rattle.tg_translate_meaning.specs.Tables.{Table}
 use Rattle.tg_translate_meaning.specs.Situations.{with_temps, Extends}
 use Rattle.tg_translate_meaning.specs.Shown.{IsWanted, IsTold, IsLeft, IsWantable, is_set, left_over, put_where}
-use Rattle.tg_translate_meaning.specs.Shown.{work_factor}
 
 -- Holdings and types grow.
 
@@ -196,7 +196,7 @@ module _ (P : Program) where
   does = situations.statement_runs P
 
   abbrev pub Fol : (r n : ℕ) → Run Source → Run Ran → Type 0
-  Fol r n c d = Follows P.stack work_factor r n c d
+  Fol r n c d = Follows P.stack tree_work r n c d
 
   abbrev pub Holds : Part → Holdings → List Ty → SourceWorld → World → Temps → Type 0
   Holds = situations.Holds P
@@ -209,10 +209,10 @@ module _ (P : Program) where
 
   -- with more credit, or behind work
   pub more : (r q n : ℕ) (c : Run Source) (d : Run Ran) → r ≤ q → Fol r n c d → Fol q n c d
-  more r q n c d le f = follows_with_credit P.stack work_factor r q n c d le f
+  more r q n c d le f = follows_with_credit P.stack tree_work r q n c d le f
 
   pub worked : (r q k n : ℕ) (c : Run Source) (d : Run Ran) → r + k ≤ q → Fol r n c d → Fol q n c (λ j. works k (d j))
-  worked r q k n c d le f = more (r + k) q n c (λ j. works k (d j)) le (follows_working P.stack work_factor r n k c d f)
+  worked r q k n c d le f = more (r + k) q n c (λ j. works k (d j)) le (follows_working P.stack tree_work r n k c d f)
 
   pub holds_with_temp : (p : Part) (h : Holdings) (types : List Ty) (s : SourceWorld) (w : World) (t : Temps) (i u : ℕ) → p.places (temporary p.scene.depth i) ≡ nowhere →
       Holds p h types s w t → Holds p h types s w (set_temp i u t)
@@ -337,7 +337,7 @@ module _ (P : Program) where
       by_made n (Int sp k) x (value (Const k)) x.σ x.is_made tt
       (λ go' onward.
       let st : Stands x.h (int k) x.ty k = subst (λ t. Stands x.h (int k) t k) (sym (int_typed sp k x.p.scope x.ty x.typed)) (an_int k (omega (arith, x.words))) in
-      follows_paying P.stack work_factor x.r n 1 (rest_run (x.go (int k)) x.s) (vals x.p (Const k) x.p.around go' x.w x.t)
-      (follows_with_credit P.stack work_factor (x.r + left_over + 2) (x.r + work_factor * 1) n (rest_run (x.go (int k)) x.s) _ (omega arith)
-      (follows_working P.stack work_factor (x.r + left_over) n 2 (rest_run (x.go (int k)) x.s) (go' k x.w x.t)
+      follows_paying P.stack tree_work x.r n 1 (rest_run (x.go (int k)) x.s) (vals x.p (Const k) x.p.around go' x.w x.t)
+      (follows_with_credit P.stack tree_work (x.r + left_over + 2) (x.r + tree_work * 1) n (rest_run (x.go (int k)) x.s) _ (omega arith)
+      (follows_working P.stack tree_work (x.r + left_over) n 2 (rest_run (x.go (int k)) x.s) (go' k x.w x.t)
       (onward x.h x.types (int k) k x.s x.w x.t (grows_none x.h) (λ i a e. e) x.holds (wanted_of x.h x.wanted (int k) x.ty k st)))))

@@ -23,12 +23,13 @@ use Rattle.tg_translate.specs.declared.wants.Want.TheVariants as want
 use Rattle.tg_translate.specs.States.{TranslationState, drawn, Translates}
 use Rattle.tg_translate.specs.Wants.{Made, value_of, test_of, put_in, dropped, value_from, condition_from, arm_from, statement_from}
 use Rattle.tg_translate.specs.Translate.{expression}
+use Rattle.tg_agreement.specs.Laws.{tree_work}
 use Rattle.tg_translate_meaning.specs.Tables.{Later, IsMoment}
 use Rattle.tg_translate_meaning.specs.Worlds.{Holdings, Stands, GrowsTo, Places, Scene, Key, IsOf}
 use Rattle.tg_translate_meaning.specs.Situations as situations
 use Rattle.tg_translate_meaning.specs.Situations.{Program, Part, Setting, Holds, IsReady, IsCovered, MayAssign, Extends, Along}
 use Rattle.tg_translate_meaning.specs.Situations.{value_runs, test_runs, statement_runs}
-use Rattle.tg_translate_meaning.specs.Shown.{Shown, SituationBy, IsWantable, IsWanted, left_over, is_set, work_factor, evaluates, FollowsHere}
+use Rattle.tg_translate_meaning.specs.Shown.{Shown, SituationBy, IsWantable, IsWanted, left_over, is_set, evaluates, FollowsHere}
 use Rattle.tg_translate_meaning.specs.Shown.{Onward, MadeFollows, IsNamed}
 use Rattle.tg_translate_meaning.proofs.States.{made_in, state_in, after_inv, later_none, later_on, later_value, moment_before, found_later}
 use Rattle.tg_translate_meaning.proofs.Lefts.{LeftSide}
@@ -42,11 +43,11 @@ StatesGrow P =
 
 -- with more credit, or behind work
 pub more : (P : Program) (r q n : ℕ) (c : Run Source) (d : Run Ran) → r ≤ q → FollowsHere P r n c d → FollowsHere P q n c d
-more P r q n c d le f = follows_with_credit P.stack work_factor r q n c d le f
+more P r q n c d le f = follows_with_credit P.stack tree_work r q n c d le f
 
 -- a unit of cost pays
 pub paid : (P : Program) (r n : ℕ) (c : Run Source) (d : Run Ran) → FollowsHere P (r + 256) n c d → FollowsHere P r n (λ i. costs 1 (c i)) d
-paid P r n c d f = follows_paying P.stack work_factor r n 1 c d (more P (r + 256) (r + work_factor * 1) n c d (omega arith) f)
+paid P r n c d f = follows_paying P.stack tree_work r n 1 c d (more P (r + 256) (r + tree_work * 1) n c d (omega arith) f)
 
 -- both runs end
 pub stop_follows : (P : Program) (k n : ℕ) (e : Ending) (s : SourceWorld) (w : World) → w.input ≡ s.input →

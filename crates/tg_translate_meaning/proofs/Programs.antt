@@ -38,12 +38,13 @@ use Rattle.tg_translate.specs.Wants.{Made, dropped}
 use Rattle.tg_translate.specs.Functions as functions
 use Rattle.tg_translate.specs.Functions.{beginning, frame_for, with_body, gives_nothing}
 use Rattle.tg_translate.specs.Translate.{expression}
+use Rattle.tg_agreement.specs.Laws.{tree_work, tree_besides}
 use Rattle.tg_translate_meaning.specs.Tables.{IsMoment}
 use Rattle.tg_translate_meaning.specs.Covered.{Covers}
 use Rattle.tg_translate_meaning.specs.Worlds.{cell, temporary, kept, free}
 use Rattle.tg_translate_meaning.specs.Situations as situations
 use Rattle.tg_translate_meaning.specs.Situations.{Program, Part, Setting, Holds, IsReady, floor, statement_runs, nothing_declared, with_temps}
-use Rattle.tg_translate_meaning.specs.Shown.{ExpressionFollows, Situation, FollowsHere, work_factor, work_besides, evaluates}
+use Rattle.tg_translate_meaning.specs.Shown.{ExpressionFollows, Situation, FollowsHere, evaluates}
 use Rattle.tg_translate_meaning.proofs.Making.{dropped_follows}
 use Rattle.tg_translate_meaning.proofs.Growing.{expression_grows, frame_by, FrameStays}
 use Rattle.std.specs.Str.{bytes_eq}
@@ -192,7 +193,7 @@ module _ (P : Program) (set : Setting P) (names : List (List ℕ)) (body : Exp) 
     never_kept i place u e = cc
 
     -- the body's statement, and the return behind it
-    body_follows : (n : ℕ) → ExpressionFollows P n → FollowsHere P work_besides n source (statement_runs P part f.body around (λ w t. wrong w) world no_temps)
+    body_follows : (n : ℕ) → ExpressionFollows P n → FollowsHere P tree_besides n source (statement_runs P part f.body around (λ w t. wrong w) world no_temps)
     body_follows n follows =
         let x : Situation P n body = record {
           ty = begun.ty;
@@ -219,8 +220,8 @@ module _ (P : Program) (set : Setting P) (names : List (List ℕ)) (body : Exp) 
           outward = λ g ms s2 w2 t2 l g2 e2 h2. absurd (no_loop l);
           holds = first_holds;
         } in
-        follows_with_credit P.stack work_factor 4 work_besides n source (statement_runs P part f.body around (λ w t. wrong w) world no_temps) (omega arith)
-        (follows_working P.stack work_factor 4 n 0 source (statement_runs P part (dropped begun.made) around ending world no_temps)
+        follows_with_credit P.stack tree_work 4 tree_besides n source (statement_runs P part f.body around (λ w t. wrong w) world no_temps) (omega arith)
+        (follows_working P.stack tree_work 4 n 0 source (statement_runs P part (dropped begun.made) around ending world no_temps)
         (dropped_follows P n 0 part x.h [] begun.ty go source world no_temps begun.made ending ((follows set body x).1)
         (λ g ms v u s w t gg ee hh st. end_follows s w t hh.invariant.input)))
       where
@@ -232,9 +233,9 @@ module _ (P : Program) (set : Setting P) (names : List (List ℕ)) (body : Exp) 
 
         end_follows : (s : SourceWorld) (w : World) (t : Temps) → w.input ≡ s.input → FollowsHere P 56 n (rest_run (ends (ended normal)) s) (ending w t)
         end_follows s w t input_is =
-            follows_with_credit P.stack work_factor 18 56 n (rest_run (ends (ended normal)) s) (ending w t) (omega arith)
-            (follows_working P.stack work_factor 2 n 16 (rest_run (ends (ended normal)) s) (λ j. works 2 (over (Ended (Exit (pos 0))) w j))
-            (follows_working P.stack work_factor 0 n 2 (rest_run (ends (ended normal)) s) (over (Ended (Exit (pos 0))) w)
+            follows_with_credit P.stack tree_work 18 56 n (rest_run (ends (ended normal)) s) (ending w t) (omega arith)
+            (follows_working P.stack tree_work 2 n 16 (rest_run (ends (ended normal)) s) (λ j. works 2 (over (Ended (Exit (pos 0))) w j))
+            (follows_working P.stack tree_work 0 n 2 (rest_run (ends (ended normal)) s) (over (Ended (Exit (pos 0))) w)
             (stop_follows P 0 n normal s w input_is)))
 
   -- the linked run from its begin
@@ -253,20 +254,20 @@ module _ (P : Program) (set : Setting P) (names : List (List ℕ)) (body : Exp) 
 
   -- what the frame's size tells
   by_size : (n : ℕ) → ExpressionFollows P n → (full : Bool) → nat_lt stack_top (floor P + size) ≡ full →
-      FollowsHere P work_besides n (λ i. passes_limit (nat_lt P.stack (0 + weight)) (source i))
+      FollowsHere P tree_besides n (λ i. passes_limit (nat_lt P.stack (0 + weight)) (source i))
       (if full then over (Ended StackFull) (record { memory = begin P.code.literals; input = input })
       else placed stack_top f.params [] world no_temps
       (runner f.body around))
   by_size n follows true is =
-      subst (λ t. FollowsHere P work_besides n (λ i. passes_limit t (source i))
+      subst (λ t. FollowsHere P tree_besides n (λ i. passes_limit t (source i))
       (over (Ended StackFull) (record { memory = begin P.code.literals; input = input })))
       (sym (too_large (λ le. let lt = ltb-true stack_top (floor P + size) is in omega (arith, lt, le))))
-      (follows_full P.stack work_factor work_besides n input source)
+      (follows_full P.stack tree_work tree_besides n input source)
   by_size n follows false is =
-      follows_passing P.stack work_factor work_besides n (nat_lt P.stack (0 + weight)) source
+      follows_passing P.stack tree_work tree_besides n (nat_lt P.stack (0 + weight)) source
       (placed stack_top f.params [] world no_temps (runner f.body around))
-      (subst (λ ps. FollowsHere P work_besides n source (placed stack_top ps [] world no_temps (runner f.body around))) (sym stays.params)
-      (follows_along P.stack work_factor work_besides n source source (statement_runs P part f.body around (λ w t. wrong w) world no_temps)
+      (subst (λ ps. FollowsHere P tree_besides n source (placed stack_top ps [] world no_temps (runner f.body around))) (sym stays.params)
+      (follows_along P.stack tree_work tree_besides n source source (statement_runs P part f.body around (λ w t. wrong w) world no_temps)
       (runner f.body around world no_temps)
       (λ i. refl)
       (λ i. linked_own Trees P.code P.size (floor P) P.heap P.level
@@ -281,10 +282,10 @@ module _ (P : Program) (set : Setting P) (names : List (List ℕ)) (body : Exp) 
 
   -- the program's run is followed
   pub program_follows : (n : ℕ) → ExpressionFollows P n →
-      Follows P.stack work_factor work_besides n (program_run names body input P.heap P.stack)
+      Follows P.stack tree_work tree_besides n (program_run names body input P.heap P.stack)
       (linked_run Trees P.code P.size (floor P) P.heap P.level 32 input)
   program_follows n follows =
-      follows_along P.stack work_factor work_besides n (λ i. passes_limit (nat_lt P.stack (0 + weight)) (source i))
+      follows_along P.stack tree_work tree_besides n (λ i. passes_limit (nat_lt P.stack (0 + weight)) (source i))
       (program_run names body input P.heap P.stack)
       (entering (Some f)) (linked_run Trees P.code P.size (floor P) P.heap P.level 32 input)
       (λ i. ap as_source (program_unfolds names body input P.heap P.stack i))

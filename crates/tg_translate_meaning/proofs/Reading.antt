@@ -23,10 +23,11 @@ use Rattle.tg_translate.specs.Wants.{Made, value}
 use Rattle.tg_translate.specs.Constructs.{Storage, in_temp, at_address, read, after_all}
 use Rattle.tg_translate.specs.Purity.{place_assigns_nothing}
 use Rattle.tg_translate.specs.Translate.{locate}
+use Rattle.tg_agreement.specs.Laws.{tree_work}
 use Rattle.tg_translate_meaning.specs.Tables.{Later}
 use Rattle.tg_translate_meaning.specs.Worlds.{Holdings, Stands, GrowsTo, temporary, IsOf, word_of, HoldsVariable}
 use Rattle.tg_translate_meaning.specs.Situations.{Program, Part, Setting, Holds, IsReady, MayAssign, Extends, with_temps, value_runs, statements_run}
-use Rattle.tg_translate_meaning.specs.Shown.{Shown, IsShown, Situation, FollowsHere, Onward, IsWanted, IsVariables, IsNamed, left_over, work_factor}
+use Rattle.tg_translate_meaning.specs.Shown.{Shown, IsShown, Situation, FollowsHere, Onward, IsWanted, IsVariables, IsNamed, left_over}
 use Rattle.tg_translate_meaning.proofs.States.{state_in, after_inv}
 use Rattle.tg_translate_meaning.proofs.Making.{by_made, source_of, wanted_of, worked, grows_none}
 use Rattle.tg_translate_meaning.proofs.Pieces.{more, paid, extends_none}
@@ -71,7 +72,7 @@ module _ (P : Program) (set : Setting P) (needs : Needs P) where
       (own.pays (value_runs P p (Temp i) p.around go' w t)
       (worked P (r + 256) (r + 256) 0 n _ _ (omega arith)
       (subst (λ o. FollowsHere P (r + 256) n (rest_run (reads P (in_variable own.place) go out) s) (with_word o w (λ u. go' u w t))) (sym y.there)
-      (follows_along P.stack work_factor (r + 256) n (rest_run (go y.v) s) (rest_run (reads P (in_variable own.place) go out) s) (go' y.word w t) (go' y.word w t)
+      (follows_along P.stack tree_work (r + 256) n (rest_run (go y.v) s) (rest_run (reads P (in_variable own.place) go out) s) (go' y.word w t) (go' y.word w t)
       (λ k. ap (λ o. rest_run (with_found o go) s k) y.has) (λ k. refl)
       (more P (r + left_over) (r + 256) n (rest_run (go y.v) s) (go' y.word w t) (omega arith)
       (onward h types y.v y.word s w t (grows_none h) (extends_none types) hh y.stands))))))
@@ -81,7 +82,7 @@ module _ (P : Program) (set : Setting P) (needs : Needs P) where
       (follows 1 go2
       (λ g ms l u s1 w1 t1 gg ee hh1 at.
       let x = read_at P set needs p g ms s1 w1 t1 hh1 l ty u at in
-      follows_along P.stack work_factor (r + left_over) n (rest_run (go x.v) s1) (rest_run (reads P l go out) s1) (go2 u w1 t1) (go2 u w1 t1) (λ k. x.gives go out k) (λ k. refl)
+      follows_along P.stack tree_work (r + left_over) n (rest_run (go x.v) s1) (rest_run (reads P l go out) s1) (go2 u w1 t1) (go2 u w1 t1) (λ k. x.gives go out k) (λ k. refl)
       (subst (λ o. FollowsHere P (r + left_over) n (rest_run (go x.v) s1) (with_word o w1 (λ v. go' v w1 t1))) (sym x.there)
       (onward g ms x.v x.word s1 w1 t1 gg ee hh1 x.stands))))
     where
@@ -159,7 +160,7 @@ module _ (P : Program) (set : Setting P) (needs : Needs P) where
                   paid P x.r n (rest_run (locates P v x.p.env (λ l. reads P l x.go x.out) x.out) x.s) d
                   (more P (x.r + 190) (x.r + 256) n _ d (omega arith)
                   (own.pays d
-                  (follows_along P.stack work_factor (x.r + 190 + 256) n (rest_run (x.go y.v) x.s) (rest_run (reads P (in_variable own.place) x.go x.out) x.s) d d
+                  (follows_along P.stack tree_work (x.r + 190 + 256) n (rest_run (x.go y.v) x.s) (rest_run (reads P (in_variable own.place) x.go x.out) x.s) d d
                   (λ k. ap (λ o. rest_run (with_found o x.go) x.s k) y.has) (λ k. refl)
                   (more P (x.r + 256) (x.r + 190 + 256) n (rest_run (x.go y.v) x.s) d (omega arith) f))));
             }

@@ -39,11 +39,12 @@ use Rattle.tg_translate.specs.Wants.{Made, value, value_of, value_from}
 use Rattle.tg_translate.specs.Constructs.{hold_next, none_held, record_of, make_record, space_for_record, Held, HeldAll}
 use Rattle.tg_translate.specs.Purity.{assigns_nothing, inits_assign_nothing}
 use Rattle.tg_translate.specs.Translate.{expression, fields as made_fields}
+use Rattle.tg_agreement.specs.Laws.{tree_work}
 use Rattle.tg_translate_meaning.specs.Covered.{Covers, CoversInits}
 use Rattle.tg_translate_meaning.specs.Tables.{Later}
 use Rattle.tg_translate_meaning.specs.Worlds.{Holdings, Stands, GrowsTo, temporary, nowhere, Places, Scene}
 use Rattle.tg_translate_meaning.specs.Situations.{Program, Part, Setting, Holds, MayAssign, Extends, value_runs, statements_run}
-use Rattle.tg_translate_meaning.specs.Shown.{Shown, IsShown, Situation, FollowsHere, left_over, work_factor, evaluates}
+use Rattle.tg_translate_meaning.specs.Shown.{Shown, IsShown, Situation, FollowsHere, left_over, evaluates}
 use Rattle.tg_translate_meaning.proofs.States.{after_inv, made_in, state_in, later_none, later_on, later_value}
 use Rattle.tg_translate_meaning.proofs.Making.{worked, grows_none, grows_on, by_made, wanted_of, set_here}
 use Rattle.tg_translate_meaning.proofs.Pieces.{StatesGrow, more, paid, extends_none, extends_on}
@@ -366,7 +367,7 @@ module _ (P : Program) (set : Setting P) (grow : StatesGrow P) (owns : Owns P) (
           let c : Run Source = rest_run (evaluates_fields P set grow owns n inits x.p.env makes x.out) x.s in
           let d : Run Ran = value_runs P x.p (After (Seq (join_stms h.extra (stores_of j h.operands))) (Temp j)) x.p.around go' x.w x.t in
           let inner : Run Ran = statements_run P x.p (join_stms h.extra (stores_of j h.operands)) x.p.around tail x.w x.t in
-          follows_along P.stack work_factor x.r n (λ i. costs 1 (c i)) (rest_run (evaluates P E_ x.p.env x.go x.out) x.s) d d
+          follows_along P.stack tree_work x.r n (λ i. costs 1 (c i)) (rest_run (evaluates P E_ x.p.env x.go x.out) x.s) d d
           (λ i. refl) (λ i. refl)
           (paid P x.r n c d
           (worked P (x.r + 250) (x.r + 256) 0 n c _ (omega arith)

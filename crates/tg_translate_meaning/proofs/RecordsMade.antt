@@ -24,9 +24,10 @@ use Rattle.tg_tree.specs.Actions.{World, Temps, set_temp, Next, over}
 use Rattle.tg_translate.specs.declared.operands.Operand.{Operand}
 use Rattle.tg_translate.specs.Constructs.{space_for_record}
 use Rattle.tg_runtime_meaning.specs.Serving.{with_block}
+use Rattle.tg_agreement.specs.Laws.{tree_work}
 use Rattle.tg_translate_meaning.specs.Worlds.{Holdings, Stands, GrowsTo, a_record, record_of, temporary, nowhere}
 use Rattle.tg_translate_meaning.specs.Situations.{Program, Part, Setting, Holds, statements_run}
-use Rattle.tg_translate_meaning.specs.Shown.{FollowsHere, work_factor}
+use Rattle.tg_translate_meaning.specs.Shown.{FollowsHere}
 use Rattle.tg_translate_meaning.proofs.Blocks.{AreOwned}
 use Rattle.tg_translate_meaning.proofs.CreatedRecords.{FieldsStand, fields_many, record_block, record_length, record_added}
 use Rattle.tg_translate_meaning.proofs.FieldStores.{own_stores, OperandsHave, stores_follow}
@@ -151,8 +152,8 @@ module _ (P : Program) (set : Setting P) (p : Part) (q n : ℕ) (go : Value → 
       let above = nat_lt P.stack (s.weight + runtime_weight) in
       let Q : ℕ = q + 12 * length us in
       let after : FollowsHere P Q n source d =
-      follows_along P.stack work_factor Q n (λ j. passes_limit above (rest_run making s1 j)) source d d
+      follows_along P.stack tree_work Q n (λ j. passes_limit above (rest_run making s1 j)) source d d
       (λ j. weighed_is P set making s j) (λ j. refl)
-      (follows_passing P.stack work_factor Q n above (rest_run making s1) d (made_follows onward)) in
+      (follows_passing P.stack tree_work Q n above (rest_run making s1) d (made_follows onward)) in
       worked P (Q + 9) (Q + 16) 2 n source _ (omega arith)
       (worked P (Q + 2) (Q + 9) 7 n source _ (omega arith) (worked P Q (Q + 2) 2 n source d (omega arith) after))

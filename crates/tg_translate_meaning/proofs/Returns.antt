@@ -14,10 +14,11 @@ use Rattle.tg_translate.specs.States.{TranslationState, drawn}
 use Rattle.tg_translate.specs.Wants.{Made, value_of, dropped}
 use Rattle.tg_translate.specs.Functions.{closing, result_want}
 use Rattle.tg_translate.specs.Returning.{given_back}
+use Rattle.tg_agreement.specs.Laws.{tree_work}
 use Rattle.tg_translate_meaning.specs.Tables.{Later}
 use Rattle.tg_translate_meaning.specs.Worlds.{Holdings, Stands, a_nil, a_nil_record, GrowsTo, temporary, nowhere}
 use Rattle.tg_translate_meaning.specs.Situations.{Program, Part, Holds, Extends, statement_runs}
-use Rattle.tg_translate_meaning.specs.Shown.{FollowsHere, MadeFollows, IsWantable, work_factor}
+use Rattle.tg_translate_meaning.specs.Shown.{FollowsHere, MadeFollows, IsWantable}
 use Rattle.tg_translate_meaning.proofs.States.{made_in, state_in, after_inv, later_none, later_value}
 use Rattle.tg_translate_meaning.proofs.Making.{value_follows, dropped_follows, worked}
 use Rattle.tg_translate_meaning.proofs.Returning.{given_back_follows}
@@ -64,7 +65,7 @@ module _ (P : Program) (n r : ℕ) (p : Part) (h : Holdings) (types : List Ty) (
       let back : Go ℕ = λ v w1 t1. p.around.back v w1 in
       subst (λ o. FollowsHere P (r + 20) n source (statement_runs P p o p.around next w t)) (ap made_in i.3)
       (more P (r + 4 + 16) (r + 20) n source (statement_runs P p (given_back y) p.around next w t) (omega arith)
-      (given_back_follows P p P.stack work_factor (r + 4) n source y p.around next w t
+      (given_back_follows P p P.stack tree_work (r + 4) n source y p.around next w t
       (value_follows P n r p h types want.Value ty go source w t m σ i.1 y back tt i.2 (λ j le lt. idle j le) follows
       (λ g types1 v u s1 w1 t1 gg ee hh st. more P (r + 38) (r + 56) n (rest_run (go v) s1) (p.around.back u w1) (omega arith)
       (onward g types1 v u s1 w1 t1 gg ee hh (λ ne. fitting_stands g v ty result u fits st))))))

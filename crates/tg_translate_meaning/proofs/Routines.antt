@@ -32,9 +32,10 @@ use Rattle.tg_runtime_meaning.specs.Settings.{Host}
 use Rattle.tg_runtime_meaning.proofs.Calling.{around_body}
 use Rattle.tg_runtime_meaning.proofs.Running.{linked_are_served}
 use Rattle.tg_runtime_meaning.proofs.Strings.{block_length}
+use Rattle.tg_agreement.specs.Laws.{tree_work}
 use Rattle.tg_translate_meaning.specs.Worlds.{Holdings, IsText, Invariant, IsScene, Places, AllTemps, unknown}
 use Rattle.tg_translate_meaning.specs.Situations.{Program, Part, Setting, Holds, floor, going, calling, frames_at}
-use Rattle.tg_translate_meaning.specs.Shown.{FollowsHere, work_factor}
+use Rattle.tg_translate_meaning.specs.Shown.{FollowsHere}
 use Rattle.tg_translate_meaning.proofs.Pieces.{more}
 
 -- what is followed is followed through units of work that come before it
@@ -48,9 +49,9 @@ follows_coming P r q k n c d e le comes f i li =
     let then_ = y.1 in (
       y.0,
       omega (arith, first, then_),
-      subst (λ o. Matches P.stack work_factor q (c i) o) (sym y.4)
-          (match_credit P.stack work_factor (r + y.2) q (c i) (works y.2 (e x.0)) (omega (arith, small, le))
-          (match_works P.stack work_factor r y.2 (c i) (e x.0) x.2)),
+      subst (λ o. Matches P.stack tree_work q (c i) o) (sym y.4)
+          (match_credit P.stack tree_work (r + y.2) q (c i) (works y.2 (e x.0)) (omega (arith, small, le))
+          (match_works P.stack tree_work r y.2 (c i) (e x.0) x.2)),
     )
 
 -- only its weight is another
@@ -206,13 +207,13 @@ module _ (P : Program) (set : Setting P) where
         let k : ℕ = marked_entry_units (length vs) in
         let c : Run Source = λ i. passes_limit true (rest_run m (add_weight runtime_weight s) i) in
         let d : Run Ran = charged k (over (Ended StackFull) w) in
-        follows_along P.stack work_factor q n c (rest_run (weighed m) s) d (calls host one vs top back w)
+        follows_along P.stack tree_work q n c (rest_run (weighed m) s) d (calls host one vs top back w)
         (λ i. weighed_is m s i ∙ ap (λ b. passes_limit b (rest_run m (add_weight runtime_weight s) i)) over_limit)
         (λ i. ap (λ o. works k (entered P.size (floor P) (fuelled runner) o vs top back w i)) there ∙
         ap (λ b. works k ((if b then over (Ended StackFull) w else laid) i)) no_room)
         (more P (0 + k) q n c d (omega (arith, units))
-        (follows_working P.stack work_factor 0 n k c (over (Ended StackFull) w)
-        (follows_full P.stack work_factor 0 n w.input (rest_run m (add_weight runtime_weight s)))))
+        (follows_working P.stack tree_work 0 n k c (over (Ended StackFull) w)
+        (follows_full P.stack tree_work 0 n w.input (rest_run m (add_weight runtime_weight s)))))
 
     -- A call of the runtime is followed by whatever follows what the function comes to.
     pub routine_follows : (turns : ℕ) (what : Back → Run Ran) → Serves host turns one vs w what →
@@ -220,14 +221,14 @@ module _ (P : Program) (set : Setting P) where
         FollowsHere P q n (rest_run m (add_weight runtime_weight s)) d) →
         FollowsHere P q n (rest_run (weighed m) s) (calling P (frames_at P p) (label_of one) vs top back w)
     routine_follows turns what serves goes =
-        follows_along P.stack work_factor q n (rest_run (weighed m) s) (rest_run (weighed m) s) (calls host one vs top back w)
+        follows_along P.stack tree_work q n (rest_run (weighed m) s) (rest_run (weighed m) s) (calls host one vs top back w)
         (calling P (frames_at P p) (label_of one) vs top back w) (λ i. refl) (λ i. in_runtime p one vs back w i)
         (elim (cases_lt top (floor P + P.size (label_of one))) [
           | inl lt ↦ full_follows lt
           | inr le ↦
-              follows_along P.stack work_factor q n (λ i. passes_limit above (rest_run m (add_weight runtime_weight s) i))
+              follows_along P.stack tree_work q n (λ i. passes_limit above (rest_run m (add_weight runtime_weight s) i))
               (rest_run (weighed m) s) (calls host one vs top back w) (calls host one vs top back w)
               (λ i. weighed_is m s i) (λ i. refl)
-              (follows_passing P.stack work_factor q n above (rest_run m (add_weight runtime_weight s)) (calls host one vs top back w)
+              (follows_passing P.stack tree_work q n above (rest_run m (add_weight runtime_weight s)) (calls host one vs top back w)
               (goes (calls host one vs top back w) (serves top back le)))
         ])

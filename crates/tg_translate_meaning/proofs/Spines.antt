@@ -27,9 +27,10 @@ use Rattle.tg_tree.specs.Actions.{World, Temps}
 use Rattle.tg_translate.specs.Wants.{value}
 use Rattle.tg_translate.specs.Updates.{begins_with, is_same_place}
 use Rattle.tg_translate.specs.Translate.{behind_read}
+use Rattle.tg_agreement.specs.Laws.{tree_work}
 use Rattle.tg_translate_meaning.specs.Worlds.{Holdings, Stands}
 use Rattle.tg_translate_meaning.specs.Situations.{Program, Part, Setting, IsCovered, value_runs}
-use Rattle.tg_translate_meaning.specs.Shown.{SituationBy, IsShown, Shown, FollowsHere, left_over, work_factor, evaluates}
+use Rattle.tg_translate_meaning.specs.Shown.{SituationBy, IsShown, Shown, FollowsHere, left_over, evaluates}
 use Rattle.tg_translate_meaning.proofs.Making.{by_made, wanted_of, grows_none}
 use Rattle.tg_translate_meaning.proofs.Pieces.{StatesGrow, extends_none}
 use Rattle.tg_translate_meaning.proofs.Lefts.{LeftSide, binary_by}
@@ -180,7 +181,7 @@ module _ (P : Program) (set : Setting P) (needs : Needs P) (grow : StatesGrow P)
       (λ go' onward_.
       let d : Run Ran = value_runs P y.p (Load address) y.p.around go' y.w y.t in
       c.gives y.r y.go y.out d
-      (follows_along P.stack work_factor (y.r + 256) n (rest_run (y.go z.v) y.s) (rest_run (reads P c.location y.go y.out) y.s) d d (λ i. z.gives y.go y.out i) (λ i. refl)
+      (follows_along P.stack tree_work (y.r + 256) n (rest_run (y.go z.v) y.s) (rest_run (reads P c.location y.go y.out) y.s) d d (λ i. z.gives y.go y.out i) (λ i. refl)
       (flat_follows P y.p (Load address) z.word (y.r + left_over) (y.r + 256) n go' y.w y.t (rest_run (y.go z.v) y.s) flat loaded (omega (arith, short))
       (onward_ y.h y.types z.v z.word y.s y.w y.t (grows_none y.h) (extends_none y.types) y.holds
       (wanted_of y.h y.wanted z.v y.ty z.word (subst (λ o. Stands y.h z.v o z.word) (c.typed y.ty y.typed) z.stands))))))

@@ -33,10 +33,11 @@ use Rattle.tg_translate.specs.Scopes.{call, routine_of}
 use Rattle.tg_translate.specs.States.{TranslationState, drawn, after, give}
 use Rattle.tg_translate.specs.Translate.{values}
 use Rattle.tg_translate.specs.Wants.{value}
+use Rattle.tg_agreement.specs.Laws.{tree_work}
 use Rattle.tg_translate_meaning.specs.Tables.{Later}
 use Rattle.tg_translate_meaning.specs.Worlds.{Holdings, Stands, IsText, IsScene}
 use Rattle.tg_translate_meaning.specs.Situations.{Program, Part, Setting, Holds, floor, value_runs, values_run, calling, frames_at}
-use Rattle.tg_translate_meaning.specs.Shown.{Situation, IsShown, work_factor, evaluates}
+use Rattle.tg_translate_meaning.specs.Shown.{Situation, IsShown, evaluates}
 use Rattle.tg_translate_meaning.proofs.States.{after_inv, state_in, later_none}
 use Rattle.tg_translate_meaning.proofs.Making.{by_made, wanted_of, grows_on}
 use Rattle.tg_translate_meaning.proofs.Pieces.{StatesGrow, Moment, at_begin, more, paid}
@@ -243,12 +244,12 @@ module _ (P : Program) (set : Setting P) (grow : StatesGrow P) (owns : Owns P) (
       let c : Run Source = rest_run (evaluates_all P set grow n E_ x args calls_it) x.s in
       let d : Run Ran = values_run P x.p q.xs x.p.around enter x.w x.t in
       let whole : Run Ran = value_runs P x.p (call_routine (routine_of one) q.xs) x.p.around go' x.w x.t in
-      follows_along P.stack work_factor x.r n (λ i. costs 1 (costs 0 (c i))) (rest_run (evaluates P E_ x.p.env x.go x.out) x.s)
+      follows_along P.stack tree_work x.r n (λ i. costs 1 (costs 0 (c i))) (rest_run (evaluates P E_ x.p.env x.go x.out) x.s)
       whole whole source_is (λ i. refl)
       (paid P x.r n (λ i. costs 0 (c i)) whole
-      (follows_paying P.stack work_factor (x.r + 256) n 0 c whole
-      (more P (x.r + 252 + 4) (x.r + 256 + work_factor * 0) n c whole (omega arith)
-      (follows_working P.stack work_factor (x.r + 252) n 4 c d
+      (follows_paying P.stack tree_work (x.r + 256) n 0 c whole
+      (more P (x.r + 252 + 4) (x.r + 256 + tree_work * 0) n c whole (omega arith)
+      (follows_working P.stack tree_work (x.r + 252) n 4 c d
       (more P (x.r + 242 + 10) (x.r + 252) n c d (omega arith)
       (arguments_follow P set grow n E_ x k0 args (signature one).params known q.xs q.s q.made last calls_it enter
       (λ b vs us later all.

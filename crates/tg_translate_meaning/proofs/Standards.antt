@@ -34,9 +34,10 @@ use Rattle.tg_runtime_meaning.specs.Serving.{Serves, Makes, ServesWell, with_blo
 use Rattle.tg_runtime_meaning.specs.Memories.{IsStringAt}
 use Rattle.tg_runtime_meaning.proofs.Strings.{block_length, block_small, string_ends}
 use Rattle.tg_runtime_meaning.proofs.Signs.{below_lt, neither_of}
+use Rattle.tg_agreement.specs.Laws.{tree_work}
 use Rattle.tg_translate_meaning.specs.Worlds.{Holdings, Stored, unknown, word, part, Stands, an_int, a_string, no_value, GrowsTo, IsText, IsScene, Invariant}
 use Rattle.tg_translate_meaning.specs.Situations.{Program, Part, Setting, Holds, floor, calling, frames_at, with_temps}
-use Rattle.tg_translate_meaning.specs.Shown.{FollowsHere, work_factor}
+use Rattle.tg_translate_meaning.specs.Shown.{FollowsHere}
 use Rattle.tg_translate_meaning.proofs.Blocks.{AreOwned, Fills, with_words, with_objects, grows, in_block}
 use Rattle.tg_translate_meaning.proofs.Making.{grows_none}
 use Rattle.tg_translate_meaning.proofs.Pieces.{more, stop_follows}
@@ -218,7 +219,7 @@ module _ (P : Program) (set : Setting P) (p : Part) (scene : IsScene (floor P) P
   -- the cost of so many bytes
   pub spends : (k : ℕ) (rest : Rest) (d : Run Ran) → FollowsHere P (r + 252 + 256 * k) n (rest_run rest opened) d →
       FollowsHere P (r + 252) n (rest_run (λ s1 i. costs k (rest s1 i)) opened) d
-  spends k rest d f = follows_paying P.stack work_factor (r + 252) n k (rest_run rest opened) d f
+  spends k rest d f = follows_paying P.stack tree_work (r + 252) n k (rest_run rest opened) d f
 
   free : (rest : Rest) (d : Run Ran) → FollowsHere P (r + 252 + 0) n (rest_run rest opened) d →
       FollowsHere P (r + 252) n (rest_run rest opened) d
@@ -243,7 +244,7 @@ module _ (P : Program) (set : Setting P) (p : Part) (scene : IsScene (floor P) P
       (rest_run (λ s1 i. writes bytes (go_on nothing s1 i)) opened) (omega arith) (omega arith)
       (well.prints a bytes (stands_there a bytes text))
       (λ d f. spends k (λ s1 i. writes bytes (go_on nothing s1 i)) d f)
-      (follows_writing P.stack work_factor (r + 64) n bytes (rest_run (go nothing) (drop_weight runtime_weight opened)) (go' 0 w t)
+      (follows_writing P.stack tree_work (r + 64) n bytes (rest_run (go nothing) (drop_weight runtime_weight opened)) (go' 0 w t)
       (onward h (drop_weight runtime_weight opened) w (grows_none h) closed nothing 0 (no_value 0)))
 
   pub flush_acts : Onwards none_type →
@@ -380,7 +381,7 @@ module _ (P : Program) (set : Setting P) (p : Part) (scene : IsScene (floor P) P
         (λ b. b at w3) (makes.made fits)
         (λ d comes. pays d
         (subst (λ b. FollowsHere P (r + 252 + paid) n (rest_run (λ s2. tested b s2) s1) d) (sym enough)
-        (follows_paying P.stack work_factor (r + 252 + paid) n k c d
+        (follows_paying P.stack tree_work (r + 252 + paid) n k c d
         (follows_coming P (r + 64) (r + 252 + paid + 256 * k) (call_units + turn_units * turns) n c d (go' at w3 t)
         (omega (arith, le)) comes
         (onward added.g s3 w3 added.grown holds3 (string bytes) at (a_string bytes at added.text))))))

@@ -41,10 +41,11 @@ use Rattle.tg_translate.specs.Scopes.{compares_strings}
 use Rattle.tg_translate.specs.States.{TranslationState, drawn, Translates, after, give}
 use Rattle.tg_translate.specs.Translate.{expression, with_left}
 use Rattle.tg_translate.specs.Wants.{Made, test, value_of, value_from}
+use Rattle.tg_agreement.specs.Laws.{tree_work}
 use Rattle.tg_translate_meaning.specs.Tables.{Later}
 use Rattle.tg_translate_meaning.specs.Worlds.{Holdings, Stands}
 use Rattle.tg_translate_meaning.specs.Situations.{Program, Setting, Holds, test_runs, value_runs, values_run, calling, frames_at}
-use Rattle.tg_translate_meaning.specs.Shown.{Situation, IsShown, FollowsHere, work_factor, left_over, evaluates, Onward, IsTold}
+use Rattle.tg_translate_meaning.specs.Shown.{Situation, IsShown, FollowsHere, left_over, evaluates, Onward, IsTold}
 use Rattle.tg_translate_meaning.proofs.States.{after_inv, state_in, later_none}
 use Rattle.tg_translate_meaning.proofs.Making.{by_made, truth_is_set}
 use Rattle.tg_translate_meaning.proofs.Lefts.{LeftSide, plain_left}
@@ -237,7 +238,7 @@ module _ (P : Program) (set : Setting P) (grow : StatesGrow P) (owns : Owns P) (
       (let s1 : SourceWorld = drop_weight runtime_weight (add_weight runtime_weight e.s) in
       let c1 : Run Source = rest_run (x.go (truth b)) s1 in
       more P (x.r + 64 + 2) (x.r + 8 + 64) n c1 (tests go' (order_of y z) e.w e.t) (omega arith)
-      (follows_working P.stack work_factor (x.r + 64) n 2 c1 (go' b e.w e.t)
+      (follows_working P.stack tree_work (x.r + 64) n 2 c1 (go' b e.w e.t)
       (onward e.h e.types (truth b) b s1 e.w e.t e.grows e.extends
       (closed P set x.p x.ready.scene x.ready.activation (x.r + 8) n x.go x.out (tests go') e.h e.types e.s e.w e.t e.holds own)
       (told_truth x.wanted x.ty b is_int (truth_is_set b))))))))
@@ -263,13 +264,13 @@ module _ (P : Program) (set : Setting P) (grow : StatesGrow P) (owns : Owns P) (
       let c : Run Source = rest_run (evaluates_all P set grow n E_ x both operated) x.s in
       let d : Run Ran = values_run P x.p (two_txs q.left q.right) x.p.around (enters go') x.w x.t in
       let whole : Run Ran = test_runs P x.p (tree.Compare (relation o) call (Const 0)) x.p.around go' x.w x.t in
-      follows_along P.stack work_factor x.r n (λ i. costs 1 (c i)) (rest_run (evaluates P E_ x.p.env x.go x.out) x.s) whole whole
+      follows_along P.stack tree_work x.r n (λ i. costs 1 (c i)) (rest_run (evaluates P E_ x.p.env x.go x.out) x.s) whole whole
       source_is (λ i. refl)
       (paid P x.r n c whole
       (more P (x.r + 252 + 4) (x.r + 256) n c whole (omega arith)
-      (follows_working P.stack work_factor (x.r + 252) n 4 c (value_runs P x.p call x.p.around (tests go') x.w x.t)
+      (follows_working P.stack tree_work (x.r + 252) n 4 c (value_runs P x.p call x.p.around (tests go') x.w x.t)
       (more P (x.r + 248 + 4) (x.r + 252) n c (value_runs P x.p call x.p.around (tests go') x.w x.t) (omega arith)
-      (follows_working P.stack work_factor (x.r + 248) n 4 c d
+      (follows_working P.stack tree_work (x.r + 248) n 4 c d
       (more P (x.r + 238 + 10) (x.r + 248) n c d (omega arith)
       (arguments_follow P set grow n E_ x start both (string_type ∷ string_type ∷ []) known
       (two_txs q.left q.right) q.τb made last

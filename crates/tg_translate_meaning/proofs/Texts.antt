@@ -19,9 +19,10 @@ use Rattle.tg_tree.specs.Memory.{literal_from, literal_address, string_text}
 use Rattle.tg_tree.specs.Actions.{Go, with_word}
 use Rattle.tg_translate.specs.States.{drawn}
 use Rattle.tg_translate.specs.Wants.{value}
+use Rattle.tg_agreement.specs.Laws.{tree_work}
 use Rattle.tg_translate_meaning.specs.Worlds.{Stands, a_string}
 use Rattle.tg_translate_meaning.specs.Situations.{Program, value_runs}
-use Rattle.tg_translate_meaning.specs.Shown.{Situation, Shown, left_over, FollowsHere, work_factor}
+use Rattle.tg_translate_meaning.specs.Shown.{Situation, Shown, left_over, FollowsHere}
 use Rattle.tg_translate_meaning.proofs.States.{state_in}
 use Rattle.tg_translate_meaning.proofs.Making.{by_made, worked, wanted_of, grows_none}
 use Rattle.tg_translate_meaning.proofs.Pieces.{more, paid, extends_none}

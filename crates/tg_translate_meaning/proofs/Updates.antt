@@ -39,9 +39,10 @@ use Rattle.tg_translate.specs.Choices.{left_want}
 use Rattle.tg_translate.specs.Purity.{assigns_nothing}
 use Rattle.tg_translate.specs.Updates.{is_same_variable, is_same_place, begins_with}
 use Rattle.tg_translate.specs.Translate.{expression, locate, assignment, assigned, updated, behind_read, with_left}
+use Rattle.tg_agreement.specs.Laws.{tree_work}
 use Rattle.tg_translate_meaning.specs.Worlds.{Holdings, temporary, IsOf, GrowsTo}
 use Rattle.tg_translate_meaning.specs.Situations.{Program, Part, Setting, Holds, Extends, value_runs, statements_run}
-use Rattle.tg_translate_meaning.specs.Shown.{Situation, IsShown, FollowsHere, evaluates, left_over, work_factor}
+use Rattle.tg_translate_meaning.specs.Shown.{Situation, IsShown, FollowsHere, evaluates, left_over}
 use Rattle.tg_translate_meaning.proofs.States.{made_in, state_in, after_inv}
 use Rattle.tg_translate_meaning.proofs.Locating.{Needs, SeenVariable, NameTyped, name_typed, found_home, IsAt, PlaceSituation, PlaceShown, StorageFollows, place_source, locates, reads}
 use Rattle.tg_translate_meaning.proofs.Pieces.{more, paid}
@@ -266,7 +267,7 @@ module _ (P : Program) (n : ℕ) (v w : LValue) (same : is_same_place P.findings
       by : (b : Bool) → is_met (reached (again env s)) l ≡ b → FollowsHere P r n (rest_run (where_found env go l) s) d
       by true e = subst (λ b. FollowsHere P r n (rest_run (λ s2. (if b then go l else ends stuck) s2) s) d) (sym e) (f (met_is (reached (again env s)) l e))
       by false e = subst (λ b. FollowsHere P r n (rest_run (λ s2. (if b then go l else ends stuck) s2) s) d) (sym e)
-          (follows_stuck P.stack work_factor r n (rest_run (ends stuck) s) d (λ i. refl))
+          (follows_stuck P.stack tree_work r n (rest_run (ends stuck) s) d (λ i. refl))
 
   -- What comes next on both sides, where the location stands at an address and is found again.
   abbrev pub AgainOnward : (r : ℕ) → Part → Holdings → List Ty → Ty → (Location → Rest) → Go ℕ → Type 0
@@ -296,7 +297,7 @@ module _ (P : Program) (n : ℕ) (v w : LValue) (same : is_same_place P.findings
 
       along : (r : ℕ) (d : Run Ran) → FollowsHere P r n before_it d → FollowsHere P r n (place_source P n v x) d
       along r d f =
-          follows_along P.stack work_factor r n before_it (place_source P n v x) d d (λ i. ap (λ z. as_source z) (located_same x.p.env x.go x.out x.s i)) (λ i. refl) f
+          follows_along P.stack tree_work r n before_it (place_source P n v x) d d (λ i. ap (λ z. as_source z) (located_same x.p.env x.go x.out x.s i)) (λ i. refl) f
 
       by : (storage : Storage) → StorageFollows P n x.r x.p x.h x.types x.ty (where_found x.p.env x.go) before_it x.s x.w x.t storage →
           StorageAgain x.r x.p x.h x.types x.ty x.go (place_source P n v x) x.s x.w x.t storage
@@ -318,15 +319,15 @@ module _ (P : Program) (n : ℕ) (v w : LValue) (same : is_same_place P.findings
   carried_follows r go l s d (stops a) e f = cc
   carried_follows r go l s d (gives a) e f = subst (λ k. FollowsHere P r n (rest_run (go k) s) d) (sym (some_same a l e)) f
   carried_follows r go l s d (costing k o) e f =
-      follows_paying P.stack work_factor r n k (rest_run (carried o go) s) d
-      (more P r (r + work_factor * k) n (rest_run (carried o go) s) d (omega arith) (carried_follows r go l s d o e f))
+      follows_paying P.stack tree_work r n k (rest_run (carried o go) s) d
+      (more P r (r + tree_work * k) n (rest_run (carried o go) s) d (omega arith) (carried_follows r go l s d o e f))
 
   -- The other l-value, which is told to be the same, is found there too.
   pub found_again : (env : Env) → location_of P.heap P.stack v env ≡ location_of P.heap P.stack w env → (r : ℕ) (go : Location → Rest) (out : Rest) (l : Location) (s : SourceWorld) (d : Run Ran) →
       IsFound env s l → FollowsHere P r n (rest_run (go l) s) d → FollowsHere P r n (rest_run (locates P w env go out) s) d
   found_again env alike r go out l s d found f =
       let x = place_idle P.heap P.stack P.findings.meaning v w same env s in
-      follows_along P.stack work_factor r n (rest_run (carried (again env s) go) s) (rest_run (locates P w env go out) s) d d
+      follows_along P.stack tree_work r n (rest_run (carried (again env s) go) s) (rest_run (locates P w env go out) s) d d
       (λ i. ap (λ (m : Passing Location). as_source (m go out s i)) (sym alike) ∙ ap (λ z. as_source z) (x.does go out i)) (λ i. refl)
       (carried_follows r go l s d (again env s) found f)
 

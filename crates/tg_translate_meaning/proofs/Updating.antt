@@ -37,10 +37,11 @@ use Rattle.tg_translate.specs.Purity.{assigns_nothing}
 use Rattle.tg_translate.specs.Scopes.{field_number}
 use Rattle.tg_translate.specs.Updates.{begins_with, is_same_place}
 use Rattle.tg_translate.specs.Translate.{expression, locate, assignment, updated, behind_read}
+use Rattle.tg_agreement.specs.Laws.{tree_work}
 use Rattle.tg_translate_meaning.specs.Tables.{Later}
 use Rattle.tg_translate_meaning.specs.Worlds.{Holdings, Stands, temporary, nowhere, GrowsTo}
 use Rattle.tg_translate_meaning.specs.Situations.{Program, Setting, IsCovered, Holds, Extends, value_runs, statement_runs, statements_run}
-use Rattle.tg_translate_meaning.specs.Shown.{Shown, IsShown, Situation, SituationBy, FollowsHere, Onward, MadeFollows, IsWantable, IsLeft, left_over, work_factor, evaluates}
+use Rattle.tg_translate_meaning.specs.Shown.{Shown, IsShown, Situation, SituationBy, FollowsHere, Onward, MadeFollows, IsWantable, IsLeft, left_over, evaluates}
 use Rattle.tg_translate_meaning.proofs.States.{made_in, state_in, after_inv, later_none, later_on, later_value}
 use Rattle.tg_translate_meaning.proofs.Making.{by_made, source_of, grows_on, value_follows}
 use Rattle.tg_translate_meaning.proofs.Pieces.{StatesGrow, more, paid, extends_on, ready_part}
@@ -123,7 +124,7 @@ module _ (P : Program) (n : ℕ) (v w : LValue) (same : is_same_place P.findings
   held_again shown x has hd τ2 held idle j go' onward =
       let before_it : Run Source = rest_run (locates P v x.p.env (where_found P n v w same x.p.env x.go) x.out) x.s in
       let target : Run Ran = statements_run P x.p hd.before x.p.around (λ w1 t1. charged j (value_runs P x.p (held_address hd.address) x.p.around go' w1 t1)) x.w x.t in
-      follows_along P.stack work_factor (x.r + j) n before_it (place_source P n v x) target target
+      follows_along P.stack tree_work (x.r + j) n before_it (place_source P n v x) target target
       (λ i. ap (λ z. as_source z) (located_same P n v w same x.p.env x.go x.out x.s i)) (λ i. refl)
       (shown (record x { go = where_found P n v w same x.p.env x.go }) has hd τ2 held idle j go'
       (λ g ms l u s1 w1 t1 gg ee hh at is.
@@ -286,7 +287,7 @@ module _ (P : Program) (set : Setting P) (needs : Needs P) (grow : StatesGrow P)
           let at2 = is_at_grows P x.p.places g g2 ms ms2 l typed_.t u gg2 ee2 at in
           let o = write_at P set needs x.p g2 ms2 s5 w5 t5 hh2 l typed_.t u val z at2 (has_values P set needs grow n sp v e show_v show_e x)
           (stands_fit g2 val typed_.u typed_.t z typed_.fits st) in
-          follows_along P.stack work_factor (x.r + 150 + 56) n (rest_run (x.go nothing) o.s1) (rest_run (writes l val) s5) (stores u z w5 t5) (stores u z w5 t5)
+          follows_along P.stack tree_work (x.r + 150 + 56) n (rest_run (x.go nothing) o.s1) (rest_run (writes l val) s5) (stores u z w5 t5) (stores u z w5 t5)
           (λ i. o.does (λ k. x.go nothing) x.out i) (λ i. refl)
           (subst (λ k. FollowsHere P (x.r + 150 + 56) n (rest_run (x.go nothing) o.s1) (with_memory k w5 (λ w3. next w3 t5))) (sym o.stored)
           (more P (x.r + left_over) (x.r + 150 + 56) n (rest_run (x.go nothing) o.s1) (next (record w5 { memory = o.m1 }) t5) (omega arith)

@@ -31,10 +31,11 @@ use Rattle.tg_translate.specs.States.{TranslationState, drawn}
 use Rattle.tg_translate.specs.Wants.{Made, done, test_of, dropped, condition_from, statement_from}
 use Rattle.tg_translate.specs.Constructs.{repeat_while, in_body, in_test}
 use Rattle.tg_translate.specs.Translate.{expression}
+use Rattle.tg_agreement.specs.Laws.{tree_work}
 use Rattle.tg_translate_meaning.specs.Tables.{Later}
 use Rattle.tg_translate_meaning.specs.Worlds.{Holdings, GrowsTo, temporary, kept}
 use Rattle.tg_translate_meaning.specs.Situations.{Program, Part, Setting, Holds, IsReady, MayAssign, Extends, floor, statement_runs, test_runs, going_on, frames_at, heads}
-use Rattle.tg_translate_meaning.specs.Shown.{Shown, IsShown, Situation, IsWantable, FollowsHere, Onward, MadeFollows, IsWanted, left_over, is_set, work_factor, evaluates}
+use Rattle.tg_translate_meaning.specs.Shown.{Shown, IsShown, Situation, IsWantable, FollowsHere, Onward, MadeFollows, IsWanted, left_over, is_set, evaluates}
 use Rattle.tg_translate_meaning.proofs.States.{made_in, state_in, after_inv, later_none, later_on}
 use Rattle.tg_translate_meaning.proofs.Making.{by_made, source_of, worked, grows_none, grows_on}
 use Rattle.tg_translate_meaning.proofs.Pieces.{StatesGrow, more, paid, extends_none, extends_on, ready_part}
@@ -59,11 +60,11 @@ module _ (P : Program) (set : Setting P) (grow : StatesGrow P) where
       let point : Point = record { statement = tree.Loop turn_; around = p.around; next = next; world = w; temps = t } in
       let from : Run Source = rest_run (behind P.heap P.stack job go out) s in
       let inside : Run Ran = going_on P (frames_at P p) point in
-      follows_along P.stack work_factor r m (turn (as_source (over_in s out_of_fuel)) from) (rest_run (with_turn (behind P.heap P.stack job go out)) s) (heads P (frames_at P p) point) (heads P (frames_at P p) point)
+      follows_along P.stack tree_work r m (turn (as_source (over_in s out_of_fuel)) from) (rest_run (with_turn (behind P.heap P.stack job go out)) s) (heads P (frames_at P p) point) (heads P (frames_at P p) point)
       (λ i. turns_as_source (behind P.heap P.stack job go out) s i) (λ i. refl)
-      (follows_turn P.stack work_factor r m (as_source (over_in s out_of_fuel)) w.input from inside refl refl (sym input) refl
+      (follows_turn P.stack tree_work r m (as_source (over_in s out_of_fuel)) w.input from inside refl refl (sym input) refl
       (λ j lt.
-      follows_along P.stack work_factor r j (rest_run (evaluation.run Passing (passing P.heap P.stack) (behind P.heap P.stack) job go out) s) from (statement_runs P p (tree.Loop turn_) p.around next w t) inside
+      follows_along P.stack tree_work r j (rest_run (evaluation.run Passing (passing P.heap P.stack) (behind P.heap P.stack) job go out) s) from (statement_runs P p (tree.Loop turn_) p.around next w t) inside
       (λ i. ap as_source (fuel_unfolds P.heap P.stack job go out s i))
       (λ i. linked_own Trees P.code P.size (floor P) P.heap P.level (record { point = point; frames = frames_at P p }) i) (again j lt)))
 
@@ -164,7 +165,7 @@ module _ (P : Program) (set : Setting P) (grow : StatesGrow P) where
       -- behind the loop
       goes_on : (m : ℕ) → m ≤ n → (g : Holdings) (ms : List Ty) (s : SourceWorld) (w : World) (t : Temps) → GrowsTo x.h g → Extends x.types ms → Holds P x.p g ms s w t →
           FollowsHere P (x.r + left_over) m (rest_run (x.go nothing) s) (next w t)
-      goes_on m le g ms s w t gg ee hh = follows_less P.stack work_factor (x.r + left_over) m n (rest_run (x.go nothing) s) (next w t) le (onward g ms nothing 0 s w t gg ee hh tt)
+      goes_on m le g ms s w t gg ee hh = follows_less P.stack tree_work (x.r + left_over) m n (rest_run (x.go nothing) s) (next w t) le (onward g ms nothing 0 s w t gg ee hh tt)
 
       holds_test : (g : Holdings) (ms : List Ty) (s : SourceWorld) (w : World) (t : Temps) → Holds P x.p g ms s w t → Holds P test_part g ms s w t
       holds_test g ms s w t hh = record { invariant = hh.invariant; weight = hh.weight; depth = hh.depth; statics = hh.statics; literals = hh.literals }
@@ -224,7 +225,7 @@ module _ (P : Program) (set : Setting P) (grow : StatesGrow P) where
         outward = λ g2 ms2 s2 w2 t2 l gg2 ee2 hh2.
             subst (λ (o : World → Temps → Run Ran). FollowsHere P (x.r + 12 + left_over) m (rest_run x.out s2) (o w2 t2)) (sym (leaving_on next x.p.around.out x.p.within.leave))
             (more P (x.r + left_over) (x.r + 12 + left_over) m (rest_run x.out s2) (x.p.around.out x.p.within.leave w2 t2) (omega arith)
-            (follows_less P.stack work_factor (x.r + left_over) m n (rest_run x.out s2) (x.p.around.out x.p.within.leave w2 t2) le
+            (follows_less P.stack tree_work (x.r + left_over) m n (rest_run x.out s2) (x.p.around.out x.p.within.leave w2 t2) le
             (x.outward g2 ms2 s2 w2 t2 l (grows_on x.h g g2 gg gg2) (extends_on x.types ms ms2 ee ee2) (test_holds g2 ms2 s2 w2 t2 hh2))));
         holds = holds_test g ms s w t hh;
       }

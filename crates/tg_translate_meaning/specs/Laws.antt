@@ -24,7 +24,7 @@ use Rattle.tg_translate.specs.Scopes.{Findings, found}
 use Rattle.tg_translate.specs.Translate.{translated}
 use Rattle.tg_shapes.specs.Laws.{names}
 use Rattle.tg_shapes.specs.Programs.{with_runtime}
-use Rattle.tg_translate_meaning.specs.Shown.{work_factor, work_besides}
+use Rattle.tg_agreement.specs.Laws.{tree_work, tree_besides}
 use Rattle.tg_translate_meaning.specs.Bounds.{measures_of, bound_by, level_by}
 
 -- a checked program, and what is found of it
@@ -78,7 +78,7 @@ LinkedTreesFollow =
     (p : CheckedProgram) (size : ℕ → ℕ) (heap stack : ℕ) (input : List ℕ) →
     MayRun p size heap stack input →
     (n : ℕ) →
-    Follows stack work_factor work_besides n (source_run p heap stack input)
+    Follows stack tree_work tree_besides n (source_run p heap stack input)
     (with_links p size heap stack input)
 
 -- The trees agree with the source, both ways, and never go wrong; calls too deep fill the stack;
@@ -88,10 +88,10 @@ pub record IsKept (p : CheckedProgram) (size : ℕ → ℕ) (heap stack : ℕ) (
   where
     pub follows :
         (n : ℕ) →
-        Follows stack work_factor work_besides n (source_run p heap stack input)
+        Follows stack tree_work tree_besides n (source_run p heap stack input)
         (trees_run p size heap stack input)
     pub agrees :
-        Agrees work_factor work_besides (source_run p heap stack input)
+        Agrees tree_work tree_besides (source_run p heap stack input)
         (trees_run p size heap stack input)
     pub fills : FillsStack stack (source_run p heap stack input) (trees_run p size heap stack input)
     pub links : LinksAreRight Trees (trees_of p) size (stack_top - stack) heap (level_in p) 32 input

@@ -22,17 +22,11 @@ use Rattle.tg_translate.specs.declared.homes.Within.{Within}
 use Rattle.tg_translate.specs.States.{TranslationState, Translates, drawn}
 use Rattle.tg_translate.specs.Wants.{Made, value, done, test}
 use Rattle.tg_translate.specs.Translate.{expression}
+use Rattle.tg_agreement.specs.Laws.{tree_work}
 use Rattle.tg_translate_meaning.specs.Worlds.{Holdings, Stands, temporary, IsOf, GrowsTo}
 use Rattle.tg_translate_meaning.specs.Situations.{Program, Part, Holds, IsReady, MayAssign}
 use Rattle.tg_translate_meaning.specs.Situations.{IsCovered, Extends, Setting, value_runs}
 use Rattle.tg_translate_meaning.specs.Situations.{test_runs, statement_runs}
-
--- a unit of the program's cost pays for so many units of work, and a program has so many besides
-abbrev pub work_factor : ℕ
-work_factor = 256
-
-abbrev pub work_besides : ℕ
-work_besides = 64
 
 -- what an expression leaves of its units
 abbrev pub left_over : ℕ
@@ -78,7 +72,7 @@ module _ (P : Program) where
       eval Passing (passing P.heap P.stack) (behind P.heap P.stack) e env go out
 
   abbrev pub FollowsHere : (r n : ℕ) → Run Source → Run Ran → Type 0
-  FollowsHere r n c d = Follows P.stack work_factor r n c d
+  FollowsHere r n c d = Follows P.stack tree_work r n c d
 
   -- What comes next on both sides, at every grown heap: behind a value and what stands for it, and
   -- behind a break.

@@ -1,6 +1,6 @@
-//! Frames of compiled functions are within the weight of an activation, by which the meaning of a
-//! program counts its stack. Promises it of functions whose trees are light, as those of accepted
-//! programs are.
+//! The weight of an activation, by which the meaning of a program counts its stack, is enough for
+//! the frame that is compiled. Promises that the trees of an accepted program are light, and that
+//! functions with light trees have frames within it, whatever the policy of spilling.
 #![tactic(auto)]
 
 mod laws;
