@@ -3,6 +3,7 @@
 //! `specs/Flow.antt` and `specs/Live.antt`.
 #![tactic(auto)]
 
+mod definitions;
 mod edges;
 mod flows;
 mod laws;

@@ -2,6 +2,7 @@ ghost use Rattle.std.specs.Prelude.{◌≡◌, IfOk};
 ghost use Rattle.tg_live.specs.Flow.{flow_of};
 ghost use Rattle.tg_live.specs.Live.{AreLiveSets};
 
+use crate::definitions::definitions;
 use crate::flows::Flow;
 use crate::operands::operand_of;
 use crate::searches::Search;
@@ -24,10 +25,11 @@ pub fn live(alloc: Global, code: &Code, flow: &Flow) -> Result<LiveSets, Memory>
         return Err(Memory);
     }
     let sites = use_sites(alloc, code)?;
+    let defs = definitions(alloc, list)?;
     let mut search = Search::new(alloc, list.len())?;
     for number in 0..sites.len() {
         let one = operand_of(number);
-        search.run(alloc, list, flow.before(), &one, sites.row(number))?;
+        search.run(list, &defs, flow.before(), &one, sites.row(number))?;
     }
     Ok(LiveSets::new(search.into_sets()))
 }

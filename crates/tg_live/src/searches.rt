@@ -5,6 +5,7 @@ ghost use Rattle.std.specs.Prelude.{
   ℕ,
   false,
   length,
+  map,
   replicate,
   slice_index,
   nat_lt,
@@ -14,7 +15,8 @@ ghost use Rattle.std.specs.Prelude.{
   IfOk,
 };
 ghost use Rattle.std.specs.List.{list_any, list_all};
-ghost use Rattle.tg_live.specs.Live.{set_at, is_used, is_defined};
+ghost use Rattle.tg_instr.specs.Uses.{defs_of};
+ghost use Rattle.tg_live.specs.Live.{set_at, is_used};
 ghost use Rattle.tg_live.specs.Tables.{row, have_rows_below, IsBefore};
 ghost use Rattle.tg_live.specs.Search.{ends_in, enter, enter_all, enter_before, visit, AreSearched};
 ghost use Rattle.tg_live.specs.Search as search;
@@ -63,12 +65,13 @@ impl Search {
     /// Enters an operand at each place that it is live out of, given the places that use it.
     pub(crate) fn run(
         &mut self,
-        alloc: Global,
         list: &[Instr],
+        defs: &Table<Opnd>,
         before: &Table<u32>,
         one: &Opnd,
         sites: &[u32],
     ) -> Result<(), Memory>
+        requires defs { defs.now ≡ map defs_of list.now }
         requires before { IsBefore list.now before.now }
         requires size { length self.old.sets ≡ length list.now }
         requires fresh { (at : ℕ) → ends_in one.now (set_at self.old.sets at) ≡ false }
@@ -80,7 +83,7 @@ impl Search {
         let mut done = 0;
         while done < self.count() {
             let place = self.place(done);
-            self.visit(alloc, list, before, one, place)?;
+            self.visit(list, defs, before, one, place)?;
             done += 1;
         }
         Ok(())
@@ -108,17 +111,18 @@ impl Search {
     /// Goes on from a place at which the operand was entered, unless it is defined there.
     fn visit(
         &mut self,
-        alloc: Global,
         list: &[Instr],
+        defs: &Table<Opnd>,
         before: &Table<u32>,
         one: &Opnd,
         place: u32,
     ) -> Result<(), Memory>
+        requires defs { defs.now ≡ map defs_of list.now }
         requires place { place < length list.now }
         requires within { IsTrue (have_rows_below (length self.old.sets) before.now) }
         ensures { OnOk result (self.new ≡ visit list.now one.now before.now place self.old) }
     {
-        if defines(alloc, list, place, one) {
+        if is_among(one, defs.row(place as usize)) {
             return Ok(());
         }
         self.enter_all(one, before.row(place as usize))
@@ -162,12 +166,4 @@ impl Search {
         self.places.push(at)?;
         Ok(())
     }
-}
-
-fn defines(alloc: Global, list: &[Instr], place: u32, one: &Opnd) -> bool
-    requires { place < length list.now }
-    ensures { result ≡ is_defined list.now one.now place }
-{
-    let defs = list[place as usize].defs(alloc);
-    is_among(one, defs.as_slice())
 }

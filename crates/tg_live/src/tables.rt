@@ -1,4 +1,4 @@
-ghost use Rattle.std.specs.Prelude.{◌≡◌, ◌<◌, [], length, replicate, OnOk, IfOk};
+ghost use Rattle.std.specs.Prelude.{◌≡◌, ◌<◌, [], ◌∷◌, ◌++◌, length, replicate, OnOk, IfOk};
 ghost use Rattle.tg_live.specs.Tables.{row, push_at};
 
 use std::alloc::Global;
@@ -54,6 +54,16 @@ impl<T: Drop> Table<T> {
         ensures { OnOk result (self.new ≡ push_at self.old at item) }
     {
         self.rows[at].push(item)?;
+        Ok(())
+    }
+}
+
+impl<T: Copy> Table<T> {
+    /// Puts a row of these items behind the last row.
+    pub(crate) fn push_row(&mut self, alloc: Global, items: &[T]) -> Result<(), Memory>
+        ensures { OnOk result (self.new ≡ self.old ++ items.now ∷ []) }
+    {
+        self.rows.push(Vec::from_slice(alloc, items)?)?;
         Ok(())
     }
 }
