@@ -1,12 +1,12 @@
 -- What the instructions of a program name is there: the passes name no more than its trees do.
 use Rattle.std.proofs.Common.{◌≡◌, ◌≢◌, ◌<◌, ℕ, zero, suc, Bool, true, false, List, [], ◌∷◌, ◌++◌, refl, sym, ap, subst, ◌∙◌, arith, eq-eqb, get_or}
 use Rattle.std.proofs.Common.{length, inl, inr, ◌≤◌}
-use Rattle.std.specs.Prelude.{◌||◌, ◌==◌, nat_le, map, not, IsTrue}
-use Rattle.std.specs.List.{Contains, AllPairs, list_all}
+use Rattle.std.specs.Prelude.{◌||◌, ◌==◌, ◌+◌, map, not, IsTrue}
+use Rattle.std.specs.List.{Contains, AllPairs, list_all, sum_by}
 use Rattle.std.proofs.lemmas.Bool.{lt-ltb, and_from, and_parts, or_left, or_right}
 use Rattle.std.proofs.lemmas.Bool.Decides.{eqb_tells, nat_tests}
 use Rattle.tg_base.specs.declared.ids.Label.{Label}
-use Rattle.tg_base.specs.State.{most_bytes}
+use Rattle.tg_base.specs.State.{most_bytes, padded}
 use Rattle.tg_tree.specs.declared.fragments.Literal.{Literal}
 use Rattle.tg_tree.specs.Tree as tree
 use Rattle.tg_tree.specs.Tree.{Ts, Function, Code}
@@ -200,13 +200,10 @@ emittable (c ∷ codes) e d =
     (and_parts (have_codes c) (list_all have_codes codes) d).0)
     (emittable codes (and_parts (has_small_frame c) (list_all has_small_frame codes) e).1 (and_parts (have_codes c) (list_all have_codes codes) d).1)
 
-within : (a b : ℕ) → nat_le a b ≡ true → a ≤ b
-within a b e = grind (arith, nat_tests, e)
-
 -- small ones, with statics that fit their segment, make a program of them
 pub whole_program : (codes : List Allocated) (literals : List Literal) → AreLinked codes literals → AreSmall codes →
-    nat_le (bytes_of literals) most_bytes ≡ true → IsWholeProgram codes literals
-whole_program codes literals linked small few =
+    bytes_of literals ≤ most_bytes → IsWholeProgram codes literals
+whole_program codes literals linked small fit =
     record {
       emittable = emittable codes small.frames linked.faults;
       functions_differ = linked.functions_differ;
@@ -214,5 +211,10 @@ whole_program codes literals linked small few =
       has_body = linked.has_body;
       names = linked.names;
       code_fits = small.functions;
-      statics_fit = within (bytes_of literals) most_bytes few;
+      statics_fit = fit;
     }
+
+-- the statics of literals are as long as those of their plain forms
+pub bytes_are : (literals : List Literal) → sum_by (λ l. length (padded l.text)) (map plain_literal literals) ≡ bytes_of literals
+bytes_are [] = refl
+bytes_are (l ∷ ls) = ap (λ n. length (padded l.text) + n) (bytes_are ls)

@@ -1,7 +1,8 @@
 -- What a program is compiled to, pass after pass (Appel, chapters 6 to 12).
-use Rattle.std.specs.Prelude.{◌≡◌, ℕ, List, map, Ok}
-use Rattle.std.specs.List.{AllZip}
+use Rattle.std.specs.Prelude.{◌≡◌, ◌≤◌, ℕ, List, length, map, Ok}
+use Rattle.std.specs.List.{AllZip, sum_by}
 use Rattle.std.specs.FinSet.{from_list}
+use Rattle.tg_base.specs.State.{most_bytes, padded}
 use Rattle.tg_syntax.specs.Tree.{Exp}
 use Rattle.tg_types.specs.declared.notes.Note.{Note}
 use Rattle.tg_escape.specs.Escaping.{escapes_of}
@@ -29,6 +30,11 @@ findings_of notes program =
 -- the functions and literals that a program is translated to, with the runtime's
 abbrev pub fragments_of : List Note → Exp → Code Ts
 fragments_of notes program = with_runtime (translated (findings_of notes program) program)
+
+-- the literals of a program, with the runtime's, fit the segment of the statics
+abbrev pub LiteralsFit : List Note → Exp → Type 0
+LiteralsFit notes program =
+    sum_by (λ l. length (padded l.text)) (fragments_of notes program).literals ≤ most_bytes
 
 -- each function has its allocation by a policy's rule, in their order
 abbrev pub CompileFunctions : Rule → List (Function Ts) → List Allocation → Type 0

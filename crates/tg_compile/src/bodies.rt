@@ -36,8 +36,10 @@ pub(crate) fn compile_function(
     Ok(allocate(alloc, &code, frame, policy)?)
 }
 
-/// The instructions of a body.
-fn choose(alloc: Global, frame: &mut Frame, body: Ts) -> Result<Code, Memory>
+/// The instructions of a body, over temporaries: those of its canonical statements, cut into basic
+/// blocks and laid in traces (Appel, chapters 8 and 9). The frame draws temporaries and gets its
+/// outgoing words.
+pub fn choose(alloc: Global, frame: &mut Frame, body: Ts) -> Result<Code, Memory>
     requires { IsWellFormed (plain_function frame.old (plain_ts body)) }
     ensures { IfOk result (Chooses (plain_function frame.old (plain_ts body)) frame.new) }
 {

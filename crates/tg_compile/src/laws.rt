@@ -42,8 +42,9 @@ pub(crate) fn flat_code_is_well_marked()
     tg_trace::names_stay();
 }
 
-/// The instructions of a function name registers and slots that they may name before allocation.
-pub(crate) fn instructions_name_their_own()
+/// The law that the instructions of a function name registers and slots that they may name before
+/// allocation. It does nothing.
+pub fn instructions_name_their_own()
     ensures { CodeNamesItsOwn }
 {
     code_names_its_own();

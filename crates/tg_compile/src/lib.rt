@@ -7,5 +7,7 @@ mod compiled;
 mod laws;
 mod programs;
 
+pub use bodies::choose;
 pub use compiled::Compiled;
-pub use programs::compile_checked;
+pub use laws::instructions_name_their_own;
+pub use programs::{compile_checked, fragments};

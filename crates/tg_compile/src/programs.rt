@@ -1,14 +1,14 @@
-ghost use Rattle.std.specs.Prelude.{◌≡◌, ◌<◌, All, IfOk, map, nat_le};
+ghost use Rattle.std.specs.Prelude.{◌≡◌, ◌≤◌, All, IfOk, map};
 ghost use Rattle.std.specs.List.{zip};
-ghost use Rattle.tg_base.specs.State.{most_bytes, most_words};
+ghost use Rattle.tg_base.specs.State.{most_bytes};
 ghost use Rattle.tg_syntax.specs.Plain.{plain};
 ghost use Rattle.tg_tree.specs.Plain.{plain_fragment, plain_fragments};
 ghost use Rattle.tg_tree.specs.Named.{IsLinked};
 ghost use Rattle.tg_shapes.specs.Laws.{names};
-ghost use Rattle.tg_emit.specs.Lines.{assembly_of, words};
+ghost use Rattle.tg_emit.specs.Lines.{assembly_of};
 ghost use Rattle.tg_emit.specs.Text.{text_of};
 ghost use Rattle.tg_image.specs.Programs.{AreTyped, IsWholeProgram, bytes_of};
-ghost use Rattle.tg_compile.specs.Compiling.{Compiles, fragments_of};
+ghost use Rattle.tg_compile.specs.Compiling.{Compiles, LiteralsFit, fragments_of};
 ghost use Rattle.tg_compile.specs.Passes.{
   AreLinked,
   AreSmall,
@@ -22,9 +22,8 @@ use crate::compiled::Compiled;
 use crate::laws::{code_names_no_more, compiled_is_small, functions_are_well_formed};
 use std::alloc::Global;
 use tg_base::Memory;
-use tg_emit::{Assembly, emit, text};
+use tg_emit::{emit, text};
 use tg_escape::escapes;
-use tg_image::fit_segments;
 use tg_instr::Allocated;
 use tg_rounds::SpillPolicy;
 use tg_runtime::runtime;
@@ -51,12 +50,14 @@ struct Functions {
 }
 
 /// Compiles a program that has no fault: its functions and the runtime's become assembly text. The
-/// policy is asked in each function in turn; after `Memory` it may have been asked.
+/// policy is asked in each function in turn; after `Memory` it may have been asked. The literals of
+/// a text's program fit their segment by a law of texts; a checked tree alone may stand for none.
 pub fn compile_checked(
     alloc: Global,
     checked: &Checked,
     policy: &mut dyn SpillPolicy,
 ) -> Result<Compiled, Memory>
+    requires { LiteralsFit checked.now.notes (plain checked.now.program.body) }
     ensures compiles { IfOk result
         (λ c. Compiles (rule policy.old) checked.now.notes (plain checked.now.program.body)
         c.allocations.items c.text.items) }
@@ -76,8 +77,9 @@ pub fn compile_checked(
     })
 }
 
-/// The functions and literals of a program, and behind them the runtime's.
-fn fragments(alloc: Global, checked: &Checked) -> Result<Fragments, Memory>
+/// The functions and literals of a program, its body first, and behind them the runtime's (Appel,
+/// chapter 7).
+pub fn fragments(alloc: Global, checked: &Checked) -> Result<Fragments, Memory>
     ensures fragments { IfOk result (λ f. plain_fragments f ≡
         fragments_of checked.now.notes (plain checked.now.program.body)) }
     ensures formed { IfOk result (λ f. All IsWellFormed (plain_fragments f).functions) }
@@ -125,29 +127,17 @@ fn compile_functions(
     Ok(Functions { codes, placements })
 }
 
-/// The assembly text of functions and literals. `Memory` comes too where the statics don't fit
-/// their segment.
+/// The assembly text of functions and literals.
 fn write(alloc: Global, codes: &[Allocated], literals: &[Literal]) -> Result<Vec<u8>, Memory>
     requires linked { AreLinked codes.now literals.now }
     requires small { AreSmall codes.now }
+    requires fit { bytes_of literals.now ≤ most_bytes }
     ensures text { IfOk result (λ t. t.items ≡ text_of (assembly_of codes.now literals.now)) }
     ensures program { IfOk result (λ t. IsWholeProgram codes.now literals.now) }
     ensures typed { IfOk result (λ t. AreTyped codes.now literals.now) }
 {
     let assembly = emit(alloc, codes, literals)?;
-    let fit = statics_fit(&assembly, literals);
-    if !fit {
-        return Err(Memory);
-    }
     Ok(text(alloc, &assembly)?)
-}
-
-/// Whether the statics of literals fit their segment, where the code of an assembly does.
-fn statics_fit(assembly: &Assembly, literals: &[Literal]) -> bool
-    requires { words assembly.now < most_words }
-    ensures { result ≡ nat_le (bytes_of literals.now) most_bytes }
-{
-    fit_segments(assembly, literals)
 }
 
 /// The allocations of compiled functions.

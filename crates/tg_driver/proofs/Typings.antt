@@ -13,7 +13,8 @@ use Rattle.tg_types.proofs.NeverStuck.{accepted_never_stuck}
 use Rattle.tg_rounds.specs.Policies.{Rule as SpillRule}
 use Rattle.tg_spill.specs.declared.allocations.Allocation.{Allocation}
 use Rattle.tg_listing.specs.Listing.{listed}
-use Rattle.tg_compile.specs.Compiling.{Compiles, HasImage}
+use Rattle.tg_texts.specs.Laws.{StaticsFitSegment}
+use Rattle.tg_compile.specs.Compiling.{LiteralsFit, findings_of, Compiles, HasImage}
 use Rattle.tg_driver.specs.Meanings.{SourcesAreNeverStuck}
 use Rattle.tg_meant.specs.Sources.{IsSource, IsSourceOf}
 use Rattle.tg_meant.specs.Meant.{IsAsMeant}
@@ -46,6 +47,13 @@ pub typed_fault : (text : List ℕ) (names : List (List ℕ)) (program : Exp) (f
     IsAt (finding names program) fault → IsTypeFaultOf text fault
 typed_fault text names program (Bad rule at) t h = record { names = names; tokens = t.tokens; program = program; tree = t.tree; fault = h }
 typed_fault text names program Memory t h = tt
+
+-- the literals of a source's program fit their segment, whatever its notes
+pub literals_fit : StaticsFitSegment → (text : List ℕ) (names : List (List ℕ)) (program : Exp) → HasNamedTree text names program →
+    (notes : List Note) → LiteralsFit notes program
+literals_fit law text names program t notes =
+    law (findings_of notes program) names text program (record { tokens = t.tokens; lexed = t.tree.has_tokens.lexed; parsed = t.tree.parsed })
+    t.tree.has_tokens.short
 
 -- a program that was compiled, and what the text is compiled to
 pub compiles_to : (rule : SpillRule) (text : List ℕ) (names : List (List ℕ)) (program : Exp) (sorted : List Note)

@@ -7,6 +7,7 @@ use crate::refusals::Refusal;
 use std::alloc::Global;
 use tg_compile::{Compiled, compile_checked};
 use tg_rounds::SpillPolicy;
+use tg_texts::literals_fit_text;
 use tg_types::check;
 
 /// Compiles a source: the code of its functions and its assembly text. The policy is asked what to
@@ -39,6 +40,7 @@ fn compile_program(
         → IsCompiled (rule policy.old) text result }
     ensures same { rule policy.new ≡ rule policy.old }
 {
+    literals_fit_text();
     match check(alloc, &source.program, &source.names) {
         Ok(checked) => Ok(compile_checked(alloc, &checked, policy)?),
         Err(fault) => Err(ill_typed(fault)),

@@ -59,7 +59,7 @@ fn bodies(alloc: Global, functions: &[Allocated], turned: bool) -> Result<Vec<Li
 }
 
 /// Whether lines are more words of code than so many.
-pub fn is_above(list: &[Line], most: usize) -> bool
+fn is_above(list: &[Line], most: usize) -> bool
     ensures { result ≡ nat_lt most (words list.now) }
 {
     let mut left = most;

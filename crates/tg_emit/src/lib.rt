@@ -12,5 +12,5 @@ mod rows;
 mod writing;
 
 pub use assembly::{Assembly, Line};
-pub use emitting::{emit, is_above};
+pub use emitting::emit;
 pub use writing::text;

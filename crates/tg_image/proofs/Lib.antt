@@ -11,4 +11,3 @@ pub mod WrittenTexts
 pub mod HasLabels
 pub mod Soundness
 mod Examples
-mod StaticsBytes

@@ -1,1 +1,2 @@
 pub mod Checkable
+pub mod Framed

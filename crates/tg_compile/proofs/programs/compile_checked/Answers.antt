@@ -1,9 +1,12 @@
-use Rattle.std.proofs.Common.{List, refl, ap, subst}
+use Rattle.std.proofs.Common.{◌≤◌, List, length, refl, sym, ap, subst}
+use Rattle.std.specs.List.{sum_by}
+use Rattle.tg_base.specs.State.{most_bytes, padded}
 use Rattle.tg_syntax.specs.Plain.{plain}
-use Rattle.tg_tree.specs.Tree.{Ts, Function, Code}
+use Rattle.tg_tree.specs.Tree.{Ts, Function, Code, Literal}
+use Rattle.tg_image.specs.Programs.{bytes_of}
 use Rattle.tg_compile.specs.Passes.{CompileApart}
 use Rattle.tg_compile.proofs.Chain.{tree_of, compiles_whole}
-use Rattle.tg_compile.proofs.Linking.{links}
+use Rattle.tg_compile.proofs.Linking.{links, bytes_are}
 use Rattle.tg_compile.proofs.programs.compile_checked.Goals as goal
 
 pub returns-clause-compiles : goal.returns-clause-compiles
@@ -27,7 +30,11 @@ write-requires g c =
     let functions = c.in_ok-functions.functions in
     let P : List (Function Ts) → Type 0 = λ fs. CompileApart rule fs functions.codes.items functions.placements.items in
     let apart = subst P (ap (λ (t : Code Ts). t.functions) c.in_ok-bodies.ensures.fragments) c.in_ok-functions.ensures.compile in
+    let few : bytes_of fragments.literals.items ≤ most_bytes =
+    subst (λ n. n ≤ most_bytes) (bytes_are fragments.literals.items)
+    (subst (λ (t : Code Ts). sum_by (λ (l : Literal). length (padded l.text)) t.literals ≤ most_bytes) (sym c.in_ok-bodies.ensures.fragments) c.requires) in
     record {
+      fit = rw c.deref-2.ensures.value few;
       linked = rw (c.deref.ensures.value, c.deref-2.ensures.value)
           (links c.code_names_no_more.ensures rule (tree_of fragments.functions.items fragments.literals.items) functions.codes.items functions.placements.items
           fragments.literals.items c.in_ok-bodies.ensures.linked refl c.in_ok-functions.ensures.compile);

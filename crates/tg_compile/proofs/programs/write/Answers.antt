@@ -14,11 +14,6 @@ use Rattle.tg_compile.proofs.programs.write.Goals as goal
 pub emit-requires : goal.emit-requires
 emit-requires c = emittable c.args.codes.now c.requires.small.frames c.requires.linked.faults
 
-pub statics_fit-fit-requires : goal.statics_fit-fit-requires
-statics_fit-fit-requires c =
-    let P : List Line → Type 0 = λ lines. words lines < most_words in
-    subst P (sym c.in_ok-assembly.ensures.lines) (c.requires.small.assembly c.args.literals.now)
-
 pub text-requires : goal.text-requires
 text-requires c =
     let written = c.in_ok-assembly.ensures in
@@ -30,8 +25,7 @@ text-requires c =
 pub returns : goal.returns
 returns c =
     let written = c.in_ok-assembly.ensures in
-    let few = sym c.statics_fit-fit.ensures ∙ c.if-not-fit.false in
-    let whole = whole_program c.args.codes.now c.args.literals.now c.requires.linked c.requires.small few in
+    let whole = whole_program c.args.codes.now c.args.literals.now c.requires.linked c.requires.small c.requires.fit in
     let typed : AreTyped c.args.codes.now c.args.literals.now = record { functions = written.functions; literals = written.literals } in
     let same = c.in_ok-text.ensures ∙ ap text_of written.lines in
     record {
