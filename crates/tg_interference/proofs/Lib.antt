@@ -1,6 +1,7 @@
 mod Operands
 mod Colours
 mod Joining
+mod Marking
 mod Alive
 mod Interfering
 mod Occurring

@@ -1,5 +1,6 @@
 pub mod Nodes
 pub mod Moves
 pub mod Pairs
+pub mod Crossing
 pub mod Marks
 pub mod Laws

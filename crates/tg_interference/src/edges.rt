@@ -22,7 +22,9 @@ ghost use Rattle.tg_live.specs.Live.{AreLiveSets};
 ghost use Rattle.tg_interference.specs.Nodes.{most_temps, operand_at};
 ghost use Rattle.tg_interference.specs.Moves.{move_of};
 ghost use Rattle.tg_interference.specs.Pairs.{IsInterference, has, is_apart, joins_both};
+ghost use Rattle.tg_interference.specs.Crossing.{HaveCrossed};
 
+use crate::crossing::mark_crossing;
 use crate::moves::move_of;
 use crate::nodes::node_of;
 use std::alloc::Global;
@@ -45,11 +47,46 @@ pub fn interference(alloc: Global, code: &Code, live: &LiveSets) -> Result<Graph
         return Err(Memory);
     }
     registers_interfere();
-    let mut graph = Graph::new(alloc, COLOURS + code.temps)?;
+    let nodes = COLOURS + code.temps;
+    let mut graph = Graph::new(alloc, nodes)?;
+    let mut marks = vec![in alloc; false; nodes as usize]?;
+    let crossed = marks.as_mut_slice();
     for at in 0..list.len() {
-        join_definitions(alloc, &list[at], live.live_out(at as u32), &mut graph)?;
+        let behind = live.live_out(at as u32);
+        join_behind(alloc, &list[at], behind, crossed, &mut graph)?;
     }
     Ok(graph)
+}
+
+// Joins what an instruction defines to what is live out of it. All calls define the same registers,
+// so that a node which was live out of an earlier one, and is marked, is joined to them already.
+fn join_behind(
+    alloc: Global,
+    one: &Instr,
+    live: &[Opnd],
+    crossed: &mut [bool],
+    graph: &mut Graph,
+) -> Result<(), Memory>
+    requires low { colours ≤ graph.old.nodes }
+    requires few { graph.old.nodes ≤ most_nodes }
+    requires temps { IsTrue (has_temps_below (graph.old.nodes - colours) one.now) }
+    requires live { IsTrue (list_all (is_below (graph.old.nodes - colours)) live.now) }
+    requires sized { length crossed.old ≡ graph.old.nodes }
+    requires crossed { HaveCrossed crossed.old graph.old }
+    ensures nodes { OnOk result (graph.new.nodes ≡ graph.old.nodes) }
+    ensures pairs { OnOk result ((x y : ℕ) → interferes graph.new x y
+        ≡ (joins_both (move_of (shape one.now)) (has (defs_of one.now)) (has live.now) x y
+        || interferes graph.old x y)) }
+    ensures sized { length crossed.new ≡ length crossed.old }
+    ensures crossed { OnOk result (HaveCrossed crossed.new graph.new) }
+{
+    match one {
+        Instr::Call(_) => {
+            let first = mark_crossing(alloc, live, crossed)?;
+            join_definitions(alloc, one, first.as_slice(), graph)
+        }
+        _ => join_definitions(alloc, one, live, graph),
+    }
 }
 
 // Joins what an instruction defines to what is live out of it.

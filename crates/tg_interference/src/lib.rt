@@ -4,6 +4,7 @@
 //! `specs/`.
 #![tactic(auto)]
 
+mod crossing;
 mod edges;
 mod laws;
 mod marks;

@@ -1,15 +1,19 @@
-use Rattle.std.proofs.Common.{◌≡◌, ◌-◌, ◌||◌, List, length, ap, ◌∙◌, arith}
+use Rattle.std.proofs.Common.{rules, ◌≡◌, ◌-◌, ◌+◌, ◌||◌, Bool, false, replicate, List, length, sym, ap, ◌∙◌, subst, arith}
 use Rattle.std.specs.List.{list_all}
+use Rattle.std.proofs.lemmas.List.{length-replicate}
 use Rattle.tg_instr.specs.declared.instr.Instr.{Instr}
 use Rattle.tg_instr.specs.Codes.{has_temps_below, is_below}
 use Rattle.tg_interference.proofs.Operands.{all_read}
 use Rattle.tg_interference.proofs.Alive.{live_below}
 use Rattle.tg_interference.proofs.Joining.{joined_more}
+use Rattle.tg_interference.specs.Crossing.{HaveCrossed}
+use Rattle.tg_interference.proofs.Marking.{none_crossed}
+use Rattle.tg_graph.specs.Interference.{Interference, interferes}
 use Rattle.tg_interference.proofs.Interfering.{are_registers, joined_below, joined_step, interference_of}
 use Rattle.tg_interference.proofs.edges.interference.Goals as goal
 
-pub join_definitions-requires-clause-temps : goal.join_definitions-requires-clause-temps
-join_definitions-requires-clause-temps c =
+pub join_behind-requires-clause-temps : goal.join_behind-requires-clause-temps
+join_behind-requires-clause-temps c =
     let code = c.args.code.now in
     let temps : c.loop-at.graph.nodes - 25 ≡ code.temps = omega (arith, c.loop-at.invariant.nodes) in
     ap (λ n. has_temps_below n c.index-list-at.result) temps
@@ -17,20 +21,37 @@ join_definitions-requires-clause-temps c =
     c.loop-at-test.true c.index-list-at.is
     (ap (list_all (has_temps_below code.temps)) c.as_slice-list.ensures ∙ code.temps_below)
 
-pub join_definitions-requires-clause-live : goal.join_definitions-requires-clause-live
-join_definitions-requires-clause-live c =
+pub join_behind-requires-clause-live : goal.join_behind-requires-clause-live
+join_behind-requires-clause-live c =
     let code = c.args.code.now in
     let temps : c.loop-at.graph.nodes - 25 ≡ code.temps = omega (arith, c.loop-at.invariant.nodes) in
-    ap (λ n. list_all (is_below n) c.live_out.result.now) temps
-    ∙ (ap (list_all (is_below code.temps)) c.live_out.ensures
+    ap (λ n. list_all (is_below n) c.live_out-behind.result.now) temps
+    ∙ (ap (list_all (is_below code.temps)) c.live_out-behind.ensures
     ∙ live_below code.temps code.list c.args.live.now c.requires.live code.temps_below c.loop-at.at)
+
+pub loop-at-init : goal.loop-at-init
+loop-at-init c =
+    let n = 25 + c.args.code.now.temps in
+    let none : c.in_ok-marks.marks.items ≡ replicate n false =
+    c.in_ok-marks.ensures.items_if_clones_equal (λ y h. search rules) in
+    let all = c.as_mut_slice-crossed.ensures.value ∙ none in
+    record {
+      nodes = ap (λ (g : Interference). g.nodes) c.in_ok-graph.ensures;
+      pairs = λ x y. ap (λ (g : Interference). interferes g x y) c.in_ok-graph.ensures
+          ∙ c.registers_interfere.ensures n x y;
+      sized = ap (λ (marks : List Bool). length marks) all ∙ length-replicate n false;
+      crossed = subst (λ (marks : List Bool). HaveCrossed marks c.in_ok-graph.graph) (sym all)
+          (none_crossed n c.in_ok-graph.graph);
+    }
 
 pub loop-at-preserved : goal.loop-at-preserved
 loop-at-preserved c = record {
-  nodes = c.in_ok-join_definitions.ensures.nodes ∙ c.loop-at.invariant.nodes;
-  pairs = λ x y. joined_more _ _ _ _ _ _ (c.in_ok-join_definitions.ensures.pairs x y) (c.loop-at.invariant.pairs x y)
+  nodes = c.in_ok-join_behind.ensures.nodes ∙ c.loop-at.invariant.nodes;
+  pairs = λ x y. joined_more _ _ _ _ _ _ (c.in_ok-join_behind.ensures.pairs x y) (c.loop-at.invariant.pairs x y)
       (joined_step c.as_slice-list.result.now c.args.live.now c.loop-at.at c.index-list-at.result
-      c.live_out.result.now x y c.loop-at-test.true c.index-list-at.is c.live_out.ensures);
+      c.live_out-behind.result.now x y c.loop-at-test.true c.index-list-at.is c.live_out-behind.ensures);
+  sized = c.join_behind.ensures.sized ∙ c.loop-at.invariant.sized;
+  crossed = c.in_ok-join_behind.ensures.crossed;
 }
 
 pub returns : goal.returns
