@@ -1,6 +1,7 @@
 -- From the answers of a text to those of a call.
 use Rattle.std.specs.Prelude.{Ok, Err, IsErrOf, ◌≤◌, length}
-use Rattle.std.proofs.Common.{ℕ, ◌≡◌, ◌<◌, List, [], Option, Some, None, refl, sym, ap, subst, arith}
+use Rattle.std.specs.Io.KnownBytes.{Appends}
+use Rattle.std.proofs.Common.{ℕ, ◌≡◌, ◌<◌, List, [], ◌∷◌, Option, Some, None, refl, sym, ap, subst, ◌∙◌, arith}
 use Rattle.tg_base.specs.declared.ends.RunEnd.{RunEnd}
 use Rattle.tg_base.specs.declared.ends.RunEnd.TheVariants.{Exit, Break, Overflow, HeapFull, StackFull, StepLimit, BadAddress, Unaligned, BadWord}
 use Rattle.tg_base.specs.declared.ends.RunEnd.TheVariants.{BadService, ReadFault, WriteFault}
@@ -17,10 +18,11 @@ use Rattle.tg_rounds.specs.Policies.{Rule as SpillRule}
 use Rattle.tg_command.specs.declared.modes.Mode.{Mode}
 use Rattle.tg_command.specs.declared.modes.Mode.TheVariants.{Check, Build, Run, Exec, Alloc, Gen}
 use Rattle.tg_command.specs.Commands.{Asked, Ask}
+use Rattle.tg_command.proofs.CommandLemmas.{asked_once}
 use Rattle.tg_driver.specs.declared.answers.Answer.{Answer}
 use Rattle.tg_driver.specs.declared.answers.Answer.TheVariants.{Faulty, Written, Unwritten, OutOfMemory, Finished}
 use Rattle.tg_meant.specs.Meant.{IsAsMeant}
-use Rattle.tg_driver.specs.Calls.{Stream, stream_of, Streams, Stays, Untouched, Shelved, IsUnread, Call, Takes, all, part}
+use Rattle.tg_driver.specs.Calls.{Stream, stream_of, Streams, Stays, Untouched, Shelved, IsUnread, Call, Takes, nothing, all, part}
 use Rattle.tg_driver.specs.OfFiles.{OfFile, unreadable, read, OrMemory, unread_answer, HasStarted, StaysBeforeStart, UntouchedBeforeStart}
 use Rattle.tg_driver.specs.Found.{IsRefused}
 use Rattle.tg_driver.specs.Runs.{RunRelation, HasRun, IsRunOrMemory}
@@ -30,9 +32,10 @@ use Rattle.tg_driver.specs.RunMode.{EndsAssembled, IsRun, ByRun}
 use Rattle.tg_driver.specs.GenMode.{summary, TakesSummary, SumsUpRun, SumsUpMeant, IsGenerated, ByGen}
 use Rattle.tg_driver.specs.Endings.{end_status}
 use Rattle.tg_driver.specs.ExecMode.{IsExecuted, ByExec}
-use Rattle.tg_driver.specs.Modes.{InMode}
+use Rattle.tg_driver.specs.Modes.{InMode, LeavesAlone}
+use Rattle.tg_driver.specs.Laws.{ReadsFile}
 use Rattle.tg_driver.specs.Telling.{IsBeforeStart, IsReported, itself, no_memory}
-use Rattle.tg_driver.specs.Answered.{IsDue, usage, asked, Answers}
+use Rattle.tg_driver.specs.Answered.{IsDue, StaysInGen, usage, asked, Answers}
 use Rattle.tg_driver.specs.Answered as answered
 
 -- the answer is due to the front of a file, or the file wasn't read
@@ -75,12 +78,21 @@ refused_untouched s text (Faulty f) r h = h
 refused_untouched s text OutOfMemory r h = h
 refused_untouched s text _ r h = absurd r
 
+-- what a write of the whole text left
+pub took_all : {T A : Type 0} (sink : Stream T) (due : List ℕ) (whole failed : A) → (length due ≡ 0 → Stays sink) →
+    Appends (sink.told sink.before) (sink.told sink.after) due → Takes sink due whole failed whole
+took_all sink [] whole failed none_due a = nothing refl refl (none_due refl)
+took_all sink (x ∷ xs) whole failed none_due a = all (omega arith) refl a
+
 -- a sink took a text of a source, or failed
 written : {O : Type 0} (out : Stream O) (writes : TextRelation) (source text : List ℕ) (answer : Answer) → writes source text →
     TakesText out text answer → IsWritten out writes source answer
-written out writes source text answer b (all is a) =
+written out writes source text answer b (nothing none is stays) =
     let P : Answer → Type 0 = λ x. IsWritten out writes source x in
-    subst P (sym is) (record { written = text; is_of = b; takes = all refl a })
+    subst P (sym is) (record { written = text; is_of = b; takes = nothing none refl stays })
+written out writes source text answer b (all some is a) =
+    let P : Answer → Type 0 = λ x. IsWritten out writes source x in
+    subst P (sym is) (record { written = text; is_of = b; takes = all some refl a })
 written out writes source text answer b (part is p f t) =
     let P : Answer → Type 0 = λ x. IsWritten out writes source x in
     subst P (sym is) (record { written = text; is_of = b; takes = part refl p f t })
@@ -221,9 +233,19 @@ by_exec shelf s a _ u h = (u, h)
 
 -- the answer to a command is the answer to its words
 pub due_of_mode : {H I O : Type 0} (rule : SpillRule) (words : List (List ℕ)) (shelf : Shelved H) (s : Streams I O) (a : Asked) (answer : Answer) →
-    Ask words a → OrMemory (Untouched s) (InMode rule a.mode shelf s a) answer → IsDue rule words shelf s answer
-due_of_mode rule words shelf s a OutOfMemory ask h = answered.no_memory refl h
+    Ask words a → OrMemory (LeavesAlone a.mode shelf s) (InMode rule a.mode shelf s a) answer → IsDue rule words shelf s answer
+due_of_mode rule words shelf s a OutOfMemory ask h =
+    answered.no_memory refl (λ b other gen. h.0 (ap (λ (x : Asked). x.mode) (asked_once words a b ask other) ∙ gen)) h.1
 due_of_mode rule words shelf s a _ ask h = asked a ask h
+
+-- whatever the answer, `gen` leaves the shelf as it was
+stays_in_gen : {H I O : Type 0} (rule : SpillRule) (words : List (List ℕ)) (shelf : Shelved H) (s : Streams I O) (answer : Answer) →
+    IsDue rule words shelf s answer → StaysInGen words shelf
+stays_in_gen rule words shelf s answer (usage is fault same u) = λ a ask gen. same
+stays_in_gen rule words shelf s answer (answered.no_memory is kept u) = kept
+stays_in_gen rule words shelf s answer (asked a ask h) = λ b other gen.
+    let P : Mode → Type 0 = λ m. InMode rule m shelf s a answer in
+    (subst P (ap (λ (x : Asked). x.mode) (asked_once words a b ask other) ∙ gen) h).0
 
 -- before that nothing was touched
 untouched : {I O : Type 0} (s : Streams I O) (answer : Answer) → IsBeforeStart answer → UntouchedBeforeStart s answer → Untouched s
@@ -244,7 +266,7 @@ left_in rule Gen shelf s a answer b h = untouched s answer b h.2
 left_alone : {H I O : Type 0} (rule : SpillRule) (words : List (List ℕ)) (shelf : Shelved H) (s : Streams I O) (answer : Answer) →
     IsBeforeStart answer → IsDue rule words shelf s answer → Untouched s
 left_alone rule words shelf s answer b (usage is fault same u) = u
-left_alone rule words shelf s answer b (answered.no_memory is u) = u
+left_alone rule words shelf s answer b (answered.no_memory is kept u) = u
 left_alone rule words shelf s answer b (asked a ask h) = left_in rule a.mode shelf s a answer b h
 
 -- the answer that was told
@@ -252,7 +274,12 @@ pub answers_of : {H I O E : Type 0} (c : Call H I O E) (status : ℕ) (answer : 
     IsReported c.err answer status → Answers c status
 answers_of c status answer due (itself told) = record { answer = answer; due = due; told = told }
 answers_of c status answer due (no_memory before told) =
-    record { answer = OutOfMemory; due = answered.no_memory refl (left_alone c.rule c.words c.shelf c.streams answer before due); told = told }
+    record {
+      answer = OutOfMemory;
+      due = answered.no_memory refl (stays_in_gen c.rule c.words c.shelf c.streams answer due)
+          (left_alone c.rule c.words c.shelf c.streams answer before due);
+      told = told;
+    }
 
 -- and so by the rule of the policy in the box
 pub answers_by : {H I O E : Type 0} (rule : SpillRule) (c : Call H I O E) (status : ℕ) (answer : Answer) → rule ≡ c.rule →
@@ -263,7 +290,22 @@ answers_by rule c status answer is due told =
 
 -- the answer in the mode of a command
 pub in_mode : {H I O : Type 0} (rule : SpillRule) (m : Mode) (shelf : Shelved H) (s : Streams I O) (a : Asked) (answer : Answer) →
-    a.mode ≡ m → OrMemory (Untouched s) (InMode rule m shelf s a) answer → OrMemory (Untouched s) (InMode rule a.mode shelf s a) answer
-in_mode rule m shelf s a answer is h =
-    let P : Mode → Type 0 = λ x. OrMemory (Untouched s) (InMode rule x shelf s a) answer in
-    subst P (sym is) h
+    (m ≡ Gen → shelf.after ≡ shelf.before) → a.mode ≡ m → OrMemory (Untouched s) (InMode rule m shelf s a) answer →
+    OrMemory (LeavesAlone a.mode shelf s) (InMode rule a.mode shelf s a) answer
+in_mode rule m shelf s a answer kept is h =
+    let P : Mode → Type 0 = λ x. OrMemory (LeavesAlone x shelf s) (InMode rule x shelf s a) answer in
+    subst P (sym is) (with_shelf answer h)
+  where
+    with_shelf : (answer : Answer) → OrMemory (Untouched s) (InMode rule m shelf s a) answer →
+        OrMemory (LeavesAlone m shelf s) (InMode rule m shelf s a) answer
+    with_shelf OutOfMemory h = (kept, h)
+    with_shelf _ h = h
+
+-- the other modes
+pub no_gen : (m : Mode) → ReadsFile m → {A : Type 0} → m ≡ Gen → A
+no_gen Check other is = absurd (cc)
+no_gen Build other is = absurd (cc)
+no_gen Run other is = absurd (cc)
+no_gen Exec other is = absurd (cc)
+no_gen Alloc other is = absurd (cc)
+no_gen Gen other is = absurd other

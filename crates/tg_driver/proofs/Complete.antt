@@ -1,5 +1,6 @@
 -- Good words for a file that is there, with no fault of a count, are answered as text and input settle, or by want of memory.
-use Rattle.std.proofs.Common.{ℕ, ◌≡◌, ◌≤◌, ◌⊎◌, inl, inr, List, Option, Some, take, refl, sym, subst, arith}
+use Rattle.std.proofs.Common.{ℕ, ◌≡◌, ◌≤◌, ◌⊎◌, inl, inr, List, [], Option, Some, None, take, append-nil, refl, sym, subst, arith}
+use Rattle.std.specs.Io.KnownBytes.{Appends}
 use Rattle.tg_base.specs.Causes.{Rose}
 use Rattle.tg_base.specs.Files.{Files, IsFrontOf}
 use Rattle.tg_base.specs.declared.ends.RunEnd.{RunEnd}
@@ -12,7 +13,7 @@ use Rattle.tg_command.specs.Commands.{Asked}
 use Rattle.tg_command.proofs.CommandLemmas.{asked_once, asked_no_fault}
 use Rattle.tg_driver.specs.declared.answers.Answer.{Answer}
 use Rattle.tg_driver.specs.declared.answers.Answer.TheVariants.{Faulty, BadLine, TooLong, Written, Unwritten, Finished, OutOfMemory}
-use Rattle.tg_driver.specs.Calls.{Stream, stream_of, streams_of, HasFailed, Streams, Shelved, IsUnread, Call, Takes, all, part}
+use Rattle.tg_driver.specs.Calls.{Stream, stream_of, streams_of, Stays, HasFailed, Streams, Shelved, IsUnread, Call, Takes, nothing, all, part}
 use Rattle.tg_driver.specs.OfFiles.{OfFile, unreadable, read}
 use Rattle.tg_driver.specs.MeantRuns.{EndsAsMeant}
 use Rattle.tg_driver.specs.Runs.{RunRelation, HasRun}
@@ -22,6 +23,7 @@ use Rattle.tg_driver.specs.RunMode.{IsRun}
 use Rattle.tg_driver.specs.ExecMode.{IsExecuted}
 use Rattle.tg_driver.specs.GenMode.{no_input, TakesSummary, IsGenerated}
 use Rattle.tg_driver.specs.Modes.{InMode, most_of}
+use Rattle.tg_driver.specs.Statuses.{line_of}
 use Rattle.tg_driver.specs.Telling.{IsTold}
 use Rattle.tg_driver.specs.Answered.{IsDue, usage, no_memory, asked, Answers}
 use Rattle.tg_driver.specs.Laws.{HoldsFile, ReadsFile, IsGood, Gives, EndsAsTold, IsFaultyOrWritten, EndsGenerated, Settles, IsSettled}
@@ -60,7 +62,8 @@ of_written out writes source Written written is h = is h.written h.is_of
 of_written out writes source Unwritten written is h = failed h.takes
   where
     failed : {text : List ℕ} → Takes out text Written Unwritten Unwritten → ⊥
-    failed (all same a) = absurd (cc)
+    failed (nothing none same stays) = absurd (cc)
+    failed (all some same a) = absurd (cc)
     failed (part same some f front) = written f
 of_written out writes source _ written is h = absurd h
 
@@ -91,7 +94,8 @@ pub record Passed (end : RunEnd) (answer : Answer) : Type 0 where
 
 taken : {O : Type 0} (out : Stream O) (due : List ℕ) (end : RunEnd) (answer : Answer) → (HasFailed out → ⊥) →
     (end ≡ WriteFault → ⊥) → Takes out due (Finished end) Unwritten answer → Passed end answer
-taken out due end answer kept other (all is a) = record { finished = is; written = other }
+taken out due end answer kept other (nothing none is stays) = record { finished = is; written = other }
+taken out due end answer kept other (all some is a) = record { finished = is; written = other }
 taken out due end answer kept other (part is some f front) = absurd (kept f)
 
 pub passed : {O : Type 0} (out : Stream O) (functions source written : ℕ) (end : RunEnd) (answer : Answer) → (HasFailed out → ⊥) →
@@ -156,10 +160,23 @@ settled c a file Alloc answer good reads h = of_written c.streams.out _ _ answer
     (to_text c.shelf a.file 262145 _ file answer (good.there (reads tt)) good.readable h.2)
 settled c a file Gen answer good reads h = of_gen c.streams.out a answer good.all_written h.3
 
+-- a sink that is as it was took a text that is empty
+none_appended : (told : Option (List ℕ)) → Appends told told []
+none_appended None = tt
+none_appended (Some bytes) = sym (append-nil bytes)
+
+pub none_taken : {T : Type 0} (sink : Stream T) (due : List ℕ) → due ≡ [] → Stays sink →
+    Appends (sink.told sink.before) (sink.told sink.after) due
+none_taken {T} sink due none stays =
+    let P : List ℕ → Type 0 = λ d. Appends (sink.told sink.before) (sink.told sink.before) d in
+    let Q : T → Type 0 = λ x. Appends (sink.told sink.before) (sink.told x) due in
+    subst Q (sym stays) (subst P (sym none) (none_appended (sink.told sink.before)))
+
 -- the line was told
 pub given : {H I O E : Type 0} (c : Call H I O E) (status : ℕ) (a : Asked) (file : List ℕ) (answer : Answer) → IsGood c a file →
     IsTold c.err answer status → Gives c status answer
-given c status a file answer good (all is line) = record { status_is = is; line_is = line }
+given c status a file answer good (nothing none is stays) = record { status_is = is; line_is = none_taken c.err (line_of answer) none stays }
+given c status a file answer good (all some is line) = record { status_is = is; line_is = line }
 given c status a file answer good (part is some failed front) = absurd (good.all_told failed)
 
 pub complete : {H I O E : Type 0} (c : Call H I O E) (status : ℕ) (a : Asked) (file : List ℕ) → Answers c status →
@@ -169,7 +186,7 @@ complete c status a file h good = by h.answer (given c status a file h.answer go
     by : (found : Answer) → Gives c status found → IsDue c.rule c.words c.shelf c.streams found →
         IsSettled c status a (take (most_of a.mode) file) ⊎ Gives c status OutOfMemory
     by found gives (usage is fault same u) = absurd (asked_no_fault c.words a good.ask fault)
-    by found gives (no_memory is u) = let P : Answer → Type 0 = λ x. Gives c status x in inr (subst P is gives)
+    by found gives (no_memory is kept u) = let P : Answer → Type 0 = λ x. Gives c status x in inr (subst P is gives)
     by found gives (asked b ask h) =
         let P : Asked → Type 0 = λ x. InMode c.rule x.mode c.shelf c.streams x found in
         let in_mode = subst P (asked_once c.words b a ask good.ask) h in

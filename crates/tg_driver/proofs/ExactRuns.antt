@@ -1,5 +1,5 @@
 -- Runs whose reads and writes all succeed are those of the definition.
-use Rattle.std.proofs.Common.{ℕ, ◌≡◌, List, [], ◌++◌, Option, sym, ap, subst, ◌∙◌, append-nil}
+use Rattle.std.proofs.Common.{ℕ, ◌≡◌, List, [], ◌++◌, Option, Some, sym, ap, subst, ◌∙◌, append-nil}
 use Rattle.std.specs.Io.KnownBytes.{Appends}
 use Rattle.tg_base.specs.declared.ends.RunEnd.{RunEnd}
 use Rattle.tg_base.specs.declared.ends.RunEnd.TheVariants.{ReadFault, WriteFault}
@@ -8,8 +8,9 @@ use Rattle.tg_isa.specs.declared.images.Image.{Image}
 use Rattle.tg_isa.specs.Runs.{Execution, run, begun, answers}
 use Rattle.tg_machine.specs.Ran.{Stops, still, ended, read_failed, write_failed, Tells}
 use Rattle.tg_driver.specs.Calls.{Streams, HasFailed}
-use Rattle.tg_driver.specs.Runs.{HasRun, end_in, world_in, IsExact}
+use Rattle.tg_driver.specs.Runs.{RunRelation, HasRun, end_in, world_in, IsExact}
 use Rattle.tg_driver.specs.Laws.{IsFaultless, EndsAsTold}
+use Rattle.tg_driver.specs.declared.answers.Answer.TheVariants.{Finished}
 
 -- the outcome, by its parts
 record Comes (n : ℕ) (w : Execution) (e : RunEnd) (last : Execution) (front : List ℕ) : Type 0 where
@@ -28,13 +29,14 @@ whole : (written front : List ℕ) → front ≡ [] → written ++ front ≡ wri
 whole written front e = ap (λ f. written ++ f) e ∙ append-nil written
 
 pub exact_run : {I O : Type 0} (s : Streams I O) (image : Image) (heap stack steps : ℕ) (end : RunEnd) (bytes : List ℕ) →
-    HasRun s image heap stack steps end → IsFaultless s bytes → IsExact s image heap stack steps end bytes
-exact_run s image heap stack steps end bytes h f =
+    HasRun s image heap stack steps end → s.input.told s.input.before ≡ Some bytes → IsFaultless (Finished end) →
+    IsExact s image heap stack steps end bytes
+exact_run s image heap stack steps end bytes h tells f =
     let r = h.ran in
     let T : Option (List ℕ) → Type 0 = λ o. Tells o r.input_before in
-    let same : r.input_before ≡ answers bytes = subst T f.tells r.told in
+    let same : r.input_before ≡ answers bytes = subst T tells r.told in
     let S : List (Option ℕ) → Type 0 = λ i. Stops steps (begun (start image.code image.statics image.entry heap stack) i) end r.last r.front in
-    let c = comes steps _ end r.last r.front (λ d. f.all_read (r.read_cause d)) (λ d. f.all_written (r.write_cause d)) (subst S same r.stops) in
+    let c = comes steps _ end r.last r.front (λ d. f.all_read (ap Finished d)) (λ d. f.all_written (ap Finished d)) (subst S same r.stops) in
     let W : List ℕ → Type 0 = λ w. Appends (s.out.told s.out.before) (s.out.told s.out.after) w in
     let R : Execution → Type 0 = λ w. Tells (s.input.told s.input.after) w.input in
     record {
@@ -43,11 +45,16 @@ exact_run s image heap stack steps end bytes h f =
       rest = subst R c.last_is r.rest;
     }
 
+-- such a run, as what is said of runs
+abbrev pub FaultlessRun : {I O : Type 0} → Streams I O → RunRelation
+FaultlessRun s image heap stack steps end = HasRun s image heap stack steps end × IsFaultless (Finished end)
+
 -- two such runs on the same bytes end alike
 pub exact_alike : {I O J P : Type 0} (s : Streams I O) (t : Streams J P) (bytes : List ℕ) (image : Image) (heap stack steps : ℕ) (d e : RunEnd) →
-    IsFaultless s bytes → IsFaultless t bytes → HasRun s image heap stack steps d → HasRun t image heap stack steps e → d ≡ e
-exact_alike s t bytes image heap stack steps d e f g p q =
-    (exact_run s image heap stack steps d bytes p f).ends ∙ sym ((exact_run t image heap stack steps e bytes q g).ends)
+    s.input.told s.input.before ≡ Some bytes → t.input.told t.input.before ≡ Some bytes →
+    HasRun s image heap stack steps d → IsFaultless (Finished d) → HasRun t image heap stack steps e → IsFaultless (Finished e) → d ≡ e
+exact_alike s t bytes image heap stack steps d e first second p f q g =
+    (exact_run s image heap stack steps d bytes p first f).ends ∙ sym ((exact_run t image heap stack steps e bytes q second g).ends)
 
 -- such a run ends as it does on the bytes that its input tells
 pub ends_as_told : {I O : Type 0} (s : Streams I O) (image : Image) (heap stack steps : ℕ) (end : RunEnd) →

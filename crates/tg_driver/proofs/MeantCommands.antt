@@ -12,7 +12,7 @@ use Rattle.tg_meant.specs.Meant.{IsAsMeant}
 use Rattle.tg_meant.specs.Laws.{EndedIsMeant, RunningIsMeant}
 use Rattle.tg_driver.specs.declared.answers.Answer.{Answer}
 use Rattle.tg_driver.specs.declared.answers.Answer.TheVariants.{Faulty, Written, Unwritten, Finished, OutOfMemory}
-use Rattle.tg_driver.specs.Calls.{Stream, stream_of, HasFailed, Streams, Call, Takes, all, part}
+use Rattle.tg_driver.specs.Calls.{Stream, stream_of, HasFailed, Streams, Call, Takes, nothing, all, part}
 use Rattle.tg_driver.specs.Runs.{HasRun}
 use Rattle.tg_driver.specs.Writing.{IsWritten}
 use Rattle.tg_driver.specs.RunMode.{IsRun}
@@ -21,7 +21,7 @@ use Rattle.tg_driver.specs.Modes.{InMode, most_of}
 use Rattle.tg_driver.specs.Answered.{IsDue, usage, no_memory, asked, Answers}
 use Rattle.tg_driver.specs.Laws.{ReadsFile, IsGood, Gives}
 use Rattle.tg_driver.specs.MeantCommands.{BuildsByMeaning, RunsByMeaning, GeneratesByMeaning, ByMeaning, DoesAsMeant}
-use Rattle.tg_driver.proofs.Complete.{to_text, given, passed, rose_later, write_failed}
+use Rattle.tg_driver.proofs.Complete.{to_text, given, none_taken, passed, rose_later, write_failed}
 use Rattle.tg_driver.proofs.MeantEnds.{runs_are_meant, generated_are_meant}
 
 -- the sizes that the words ask for
@@ -54,11 +54,13 @@ sizes_of words a ask =
 -- what was written whole
 whole : {O : Type 0} (out : Stream O) (due : List ℕ) → (HasFailed out → ⊥) → Takes out due Written Unwritten Written →
     Appends (out.told out.before) (out.told out.after) due
-whole out due kept (all is a) = a
+whole out due kept (nothing none is stays) = none_taken out due none stays
+whole out due kept (all some is a) = a
 whole out due kept (part is some f front) = absurd (kept f)
 
 unwritten : {O : Type 0} (out : Stream O) (due : List ℕ) → (HasFailed out → ⊥) → Takes out due Written Unwritten Unwritten → ⊥
-unwritten out due kept (all is a) = absurd (cc)
+unwritten out due kept (nothing none is stays) = absurd (cc)
+unwritten out due kept (all some is a) = absurd (cc)
 unwritten out due kept (part is some f front) = kept f
 
 builds_so : {O : Type 0} (out : Stream O) (text : List ℕ) (answer : Answer) → (HasFailed out → ⊥) →
@@ -110,7 +112,7 @@ module _ (ends : EndedIsMeant) (goes_on : RunningIsMeant) where
       by : (found : Answer) → Gives c status found → IsDue c.rule c.words c.shelf c.streams found →
           DoesAsMeant c status a (take (most_of a.mode) file) ⊎ Gives c status OutOfMemory
       by found gives (usage is fault same u) = absurd (asked_no_fault c.words a good.ask fault)
-      by found gives (no_memory is u) = let P : Answer → Type 0 = λ x. Gives c status x in inr (subst P is gives)
+      by found gives (no_memory is kept u) = let P : Answer → Type 0 = λ x. Gives c status x in inr (subst P is gives)
       by found gives (asked b ask h) =
           let P : Asked → Type 0 = λ x. InMode c.rule x.mode c.shelf c.streams x found in
           let in_mode = subst P (asked_once c.words b a ask good.ask) h in

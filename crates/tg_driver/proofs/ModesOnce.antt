@@ -11,13 +11,16 @@ use Rattle.tg_command.specs.Commands.{Asked}
 use Rattle.tg_driver.specs.declared.answers.Answer.{Answer}
 use Rattle.tg_driver.specs.declared.answers.Answer.TheVariants.{Faulty, BadLine, TooLong, Accepted, Written, Unwritten, Finished}
 use Rattle.tg_driver.specs.OfFiles.{HasStarted}
-use Rattle.tg_driver.specs.Runs.{RunRelation}
+use Rattle.tg_driver.specs.Calls.{Streams}
+use Rattle.tg_driver.specs.Runs.{RunRelation, HasRun}
+use Rattle.tg_driver.specs.Laws.{IsFaultless}
 use Rattle.tg_driver.specs.CheckMode.{IsChecked}
 use Rattle.tg_driver.specs.Writing.{IsWritable}
 use Rattle.tg_driver.specs.RunMode.{IsRun}
 use Rattle.tg_driver.specs.GenMode.{IsGenerable}
 use Rattle.tg_driver.specs.ExecMode.{EndsImage, IsExecuted}
 use Rattle.tg_driver.specs.Modes.{IsDueOfText}
+use Rattle.tg_driver.proofs.ExactRuns.{FaultlessRun}
 use Rattle.tg_driver.proofs.FaultsOnce.{fault_once_told}
 use Rattle.tg_driver.proofs.SourcesOnce.{no_fault, no_fault_of_meant}
 
@@ -136,6 +139,15 @@ executed_once runs others asked text a b alike p q = by a b p q (executed_alike 
     by Written b p q (inr both) = absurd p
     by Unwritten b p q (inr both) = absurd p
     by a b p q (inr both) = absurd (both.0)
+
+-- an answer that no read and no write ended is that of such a run
+pub executed_faultless : {I O : Type 0} (s : Streams I O) (asked : Asked) (text : List ℕ) (a : Answer) → IsFaultless a →
+    IsExecuted (HasRun s) asked text a → IsExecuted (FaultlessRun s) asked text a
+executed_faultless s asked text TooLong f h = h
+executed_faultless s asked text (BadLine r n) f h = h
+executed_faultless s asked text (Finished e) f h =
+    record { short = h.short; image = h.image; assembles = h.assembles; run = (h.run, f) }
+executed_faultless s asked text _ f h = absurd h
 
 -- whatever the mode
 pub due_alike : (runs : RunRelation) (mode : Mode) (asked : Asked) (text : List ℕ) (a b : Answer) →

@@ -1,6 +1,7 @@
 -- What the program answers to a call.
 use Rattle.std.specs.Prelude.{ℕ, ◌≡◌, List}
 use Rattle.tg_rounds.specs.Policies.{Rule as SpillRule}
+use Rattle.tg_command.specs.declared.modes.Mode.TheVariants.{Gen}
 use Rattle.tg_command.specs.Commands.{Asked, Ask, IsUsageFault}
 use Rattle.tg_driver.specs.declared.answers.Answer.{Answer}
 use Rattle.tg_driver.specs.declared.answers.Answer.TheVariants.{Usage, OutOfMemory}
@@ -8,8 +9,14 @@ use Rattle.tg_driver.specs.Calls.{Shelved, Streams, Untouched, Call}
 use Rattle.tg_driver.specs.Modes.{InMode}
 use Rattle.tg_driver.specs.Telling.{IsTold}
 
--- The answer is due: the words are no command; memory was wanting, before anything was read or
--- written; or the mode that the words ask for gives it.
+-- where the words ask for `gen`, the shelf is as it was
+abbrev pub StaysInGen : {H : Type 0} → (words : List (List ℕ)) → Shelved H → Type 0
+StaysInGen words shelf =
+    (a : Asked) → Ask words a → a.mode ≡ Gen → shelf.after ≡ shelf.before
+
+-- The answer is due: the words are no command; memory was wanting, before anything was read from
+-- the input or written, and in `gen` no file was asked for; or the mode that the words ask for gives
+-- it.
 pub data IsDue {H I O : Type 0} (rule : SpillRule) (words : List (List ℕ))
     (shelf : Shelved H) (s : Streams I O) (answer : Answer) : Type 0 where
   usage :
@@ -18,7 +25,11 @@ pub data IsDue {H I O : Type 0} (rule : SpillRule) (words : List (List ℕ))
       shelf.after ≡ shelf.before →
       Untouched s →
       IsDue rule words shelf s answer
-  no_memory : answer ≡ OutOfMemory → Untouched s → IsDue rule words shelf s answer
+  no_memory :
+      answer ≡ OutOfMemory →
+      StaysInGen words shelf →
+      Untouched s →
+      IsDue rule words shelf s answer
   asked :
       (a : Asked) →
       Ask words a →

@@ -1,5 +1,5 @@
 -- A call of the program: what it was made on, and what it left of the outside.
-use Rattle.std.specs.Prelude.{ℕ, ◌≡◌, ◌<◌, List, length, Option}
+use Rattle.std.specs.Prelude.{ℕ, ◌≡◌, ◌<◌, List, [], length, Option}
 use Rattle.std.specs.Io.KnownBytes.{Appends}
 use Rattle.tg_base.specs.Causes.{Rose}
 use Rattle.tg_base.specs.Files.{Files}
@@ -72,11 +72,13 @@ call_of rule words shelf input out err = record {
   err = err;
 }
 
--- A sink took the text that is due, whole, and this is the result; or a write failed, it took a
--- front, and that is the result.
+-- Nothing was due, the sink is as it was, and this is the result; or it took the text that is due,
+-- whole, with the same result; or a write failed, it took a front, and that is the result.
 pub data Takes {T A : Type 0}
     (sink : Stream T) (due : List ℕ) (whole failed result : A) : Type 0 where
+  nothing : due ≡ [] → result ≡ whole → Stays sink → Takes sink due whole failed result
   all :
+      0 < length due →
       result ≡ whole →
       Appends (sink.told sink.before) (sink.told sink.after) due →
       Takes sink due whole failed result

@@ -1,13 +1,14 @@
 -- What the answers to a call amount to.
-use Rattle.std.specs.Prelude.{ℕ, ◌≡◌, List, [], Option, Some}
+use Rattle.std.specs.Prelude.{ℕ, ◌≡◌, ◌≢◌, List, [], Option, Some}
 use Rattle.std.specs.Io.KnownBytes.{Appends}
+use Rattle.tg_base.specs.declared.ends.RunEnd.TheVariants.{ReadFault, WriteFault}
 use Rattle.tg_generate.specs.Generated.{generated}
 use Rattle.tg_command.specs.declared.modes.Mode.{Mode}
 use Rattle.tg_command.specs.declared.modes.Mode.TheVariants.{Check, Build, Run, Exec, Alloc, Gen}
 use Rattle.tg_command.specs.Commands.{Asked, Ask}
 use Rattle.tg_driver.specs.declared.answers.Answer.{Answer}
 use Rattle.tg_driver.specs.declared.answers.Answer.TheVariants.{Faulty, Written, Finished}
-use Rattle.tg_driver.specs.Calls.{HasFailed, Streams, Shelved, IsUnread, Call}
+use Rattle.tg_driver.specs.Calls.{HasFailed, Shelved, IsUnread, Call}
 use Rattle.tg_meant.specs.Sources.{IsSource}
 use Rattle.tg_driver.specs.Faults.{IsFaultOf}
 use Rattle.tg_driver.specs.MeantRuns.{EndsAsMeant}
@@ -17,11 +18,10 @@ use Rattle.tg_driver.specs.RunMode.{IsRun}
 use Rattle.tg_driver.specs.ExecMode.{IsExecuted}
 use Rattle.tg_driver.specs.Statuses.{status_of, line_of}
 
--- the input tells these bytes, and no read or write failed
-pub record IsFaultless {I O : Type 0} (s : Streams I O) (bytes : List ℕ) : Type 0 where
-  pub tells : s.input.told s.input.before ≡ Some bytes
-  pub all_read : HasFailed s.input → ⊥
-  pub all_written : HasFailed s.out → ⊥
+-- no read and no write ended the run of the answer
+pub record IsFaultless (answer : Answer) : Type 0 where
+  pub all_read : answer ≢ Finished ReadFault
+  pub all_written : answer ≢ Finished WriteFault
 
 -- the shelf tells the files, and the named one has these bytes
 pub record HoldsFile {H : Type 0} (shelf : Shelved H) (name bytes : List ℕ) : Type 0 where

@@ -1,12 +1,12 @@
 -- The modes: each has a file of its own, which says whether it reads a file, what is due, and which
 -- streams it touches.
-use Rattle.std.specs.Prelude.{ℕ, List}
+use Rattle.std.specs.Prelude.{ℕ, ◌≡◌, List}
 use Rattle.tg_rounds.specs.Policies.{Rule as SpillRule}
 use Rattle.tg_command.specs.declared.modes.Mode.{Mode}
 use Rattle.tg_command.specs.declared.modes.Mode.TheVariants.{Check, Build, Run, Exec, Alloc, Gen}
 use Rattle.tg_command.specs.Commands.{Asked}
 use Rattle.tg_driver.specs.declared.answers.Answer.{Answer}
-use Rattle.tg_driver.specs.Calls.{Shelved, Streams}
+use Rattle.tg_driver.specs.Calls.{Shelved, Streams, Untouched}
 use Rattle.tg_driver.specs.Runs.{RunRelation}
 use Rattle.tg_driver.specs.CheckMode.{IsChecked, ByCheck}
 use Rattle.tg_driver.specs.Writing.{IsWritable}
@@ -25,6 +25,10 @@ InMode rule Run shelf s asked answer = ByRun shelf s asked answer
 InMode rule Exec shelf s asked answer = ByExec shelf s asked answer
 InMode rule Alloc shelf s asked answer = ByAlloc rule shelf s asked answer
 InMode rule Gen shelf s asked answer = ByGen shelf s asked answer
+
+-- what a mode left alone where memory was wanting: the streams, and in `gen` the shelf
+abbrev pub LeavesAlone : {H I O : Type 0} → Mode → Shelved H → Streams I O → Type 0
+LeavesAlone mode shelf s = (mode ≡ Gen → shelf.after ≡ shelf.before) × Untouched s
 
 -- the answer is due to the text of the file, by what is said of runs
 abbrev pub IsDueOfText : RunRelation → Mode → Asked → List ℕ → Answer → Type 0

@@ -107,6 +107,7 @@ pub(crate) fn write_end<E: Sink>(err: &mut E, end: RunEnd) -> Result<(), Failed>
     ensures line { TakesAll (E.taken err.old) (E.taken err.new) result (end_line end) }
     ensures cause { HasCause (E.faults err.old) (E.faults err.new) result }
     ensures some { IfErr result (λ _. 0 < length (end_line end)) }
+    ensures empty { length (end_line end) ≡ 0 → err.new ≡ err.old }
 {
     match end {
         RunEnd::Break(code) => write_break(err, code),

@@ -1,9 +1,9 @@
-ghost use Rattle.std.specs.Prelude.{◌≡◌, ◌⊎◌, ℕ, List, take};
+ghost use Rattle.std.specs.Prelude.{◌≡◌, ◌⊎◌, ℕ, List, Some, take};
 ghost use Rattle.tg_base.specs.declared.ends.RunEnd.{RunEnd};
 ghost use Rattle.tg_isa.specs.declared.images.Image.{Image};
 ghost use Rattle.tg_command.specs.Commands.{Asked};
 ghost use Rattle.tg_driver.specs.declared.answers.Answer.{Answer};
-ghost use Rattle.tg_driver.specs.declared.answers.Answer.TheVariants.{OutOfMemory};
+ghost use Rattle.tg_driver.specs.declared.answers.Answer.TheVariants.{Finished, OutOfMemory};
 ghost use Rattle.tg_driver.specs.Answered.{Answers};
 ghost use Rattle.tg_driver.specs.Calls.{Call, Streams};
 ghost use Rattle.tg_driver.specs.ExecMode.{IsExecuted};
@@ -30,21 +30,24 @@ pub fn one_answer<I, O>()
 {}
 
 /// The law that a run ends exactly as the definition's run does on the same bytes, where the input
-/// tells them and no read or write failed: it writes what that one writes, and leaves what it
-/// leaves. It does nothing.
+/// tells them and no read or write ended it: it writes what that one writes, and leaves what it
+/// leaves, whatever the counts of faults did. So no failed read or write is passed over. It does
+/// nothing.
 pub fn runs_are_exact<I, O>()
     ensures { (s : Streams I O) (image : Image) (heap stack steps : ℕ) (end : RunEnd)
         (bytes : List ℕ)
-        → HasRun s image heap stack steps end → IsFaultless s bytes
+        → HasRun s image heap stack steps end
+        → s.input.told s.input.before ≡ Some bytes → IsFaultless (Finished end)
         → IsExact s image heap stack steps end bytes }
 {}
 
 /// The law that two calls that run one assembly text have one answer where their inputs tell the
-/// same bytes and no read or write failed, besides want of memory. It does nothing.
+/// same bytes and no read or write ended a run, besides want of memory. It does nothing.
 pub fn answers_are_exact<I, O, J, P>()
     ensures { (s : Streams I O) (t : Streams J P) (asked : Asked) (text bytes : List ℕ)
         (a b : Answer)
-        → IsFaultless s bytes → IsFaultless t bytes
+        → s.input.told s.input.before ≡ Some bytes → t.input.told t.input.before ≡ Some bytes
+        → IsFaultless a → IsFaultless b
         → IsExecuted (HasRun s) asked text a
         → IsExecuted (HasRun t) asked text b
         → a ≡ b }

@@ -2,9 +2,9 @@ ghost use Rattle.std.specs.Prelude.{◌≡◌, ◌≤◌, ⊤, map, string_bytes
 ghost use Rattle.tg_command.specs.Counts.{IsWithin, function_limits};
 ghost use Rattle.tg_command.specs.Commands.{KeepsLimits, asked_of};
 ghost use Rattle.tg_driver.specs.Answered.{Answers, IsDue};
-ghost use Rattle.tg_driver.specs.Calls.{Untouched, call_of, shelf_of, stream_of, streams_of};
+ghost use Rattle.tg_driver.specs.Calls.{call_of, shelf_of, stream_of, streams_of};
 ghost use Rattle.tg_driver.specs.GenMode.{IsGenerated};
-ghost use Rattle.tg_driver.specs.Modes.{InMode};
+ghost use Rattle.tg_driver.specs.Modes.{InMode, LeavesAlone};
 ghost use Rattle.tg_driver.specs.OfFiles.{OfFile, OrMemory, StaysBeforeStart};
 
 use crate::answers::Answer;
@@ -78,7 +78,9 @@ fn answer_command<H: Shelf, I: Source, O: Sink>(
     policy: &mut dyn SpillPolicy,
 ) -> Answer
     requires { KeepsLimits (asked_of command.now) }
-    ensures due { let left_alone = Untouched (streams_of
+    ensures due { let left_alone = LeavesAlone command.now.mode
+        (shelf_of H.files H.faults shelf.old shelf.new)
+        (streams_of
         (stream_of I.left I.faults streams.entry.input.now streams.exit.0.now)
         (stream_of O.taken O.faults streams.entry.out.now streams.exit.1.0.now)) in
         OrMemory left_alone (InMode (rule policy.old) command.now.mode

@@ -4,7 +4,7 @@ use Rattle.tg_command.specs.Commands.{asked_of}
 use Rattle.tg_driver.specs.Calls.{shelf_of, stream_of, streams_of}
 use Rattle.tg_meant.specs.Meant.{IsAsMeant}
 use Rattle.tg_driver.specs.AllocMode.{Lists}
-use Rattle.tg_driver.proofs.AnswerLemmas.{by_check, by_writing, by_run, by_exec, by_gen, in_mode}
+use Rattle.tg_driver.proofs.AnswerLemmas.{by_check, by_writing, by_run, by_exec, by_gen, in_mode, no_gen}
 use Rattle.tg_driver.proofs.top.answer_command.Goals as goal
 
 pub returns-in-Check-clause-due : goal.returns-in-Check-clause-due
@@ -14,7 +14,7 @@ returns-in-Check-clause-due g c =
     (stream_of g.I.Source.left g.I.Source.faults c.args.streams.input.now c.args.streams.input.now)
     (stream_of g.O.Sink.taken g.O.Sink.faults c.args.streams.out.now c.args.streams.out.now) in
     let asked = asked_of c.args.command.now in
-    in_mode _ Check shelf streams asked c.answer_check.result c.in-Check.is
+    in_mode _ Check shelf streams asked c.answer_check.result (no_gen Check tt) c.in-Check.is
     (by_check shelf streams asked c.answer_check.result (refl, refl) c.answer_check.ensures.due)
 
 pub returns-in-Build-clause-due : goal.returns-in-Build-clause-due
@@ -24,7 +24,7 @@ returns-in-Build-clause-due g c =
     (stream_of g.I.Source.left g.I.Source.faults c.args.streams.input.now c.answer_written.new.streams.0)
     (stream_of g.O.Sink.taken g.O.Sink.faults c.args.streams.out.now c.answer_written.new.streams.1.0) in
     let asked = asked_of c.args.command.now in
-    in_mode _ Build shelf streams asked c.answer_written.result c.in-Build.is
+    in_mode _ Build shelf streams asked c.answer_written.result (no_gen Build tt) c.in-Build.is
     (by_writing shelf streams IsAsMeant asked c.answer_written.result c.answer_written.ensures.unread
     c.answer_written.ensures.before_start c.answer_written.ensures.due)
 
@@ -35,7 +35,7 @@ returns-in-Run-clause-due g c =
     (stream_of g.I.Source.left g.I.Source.faults c.args.streams.input.now c.answer_run.new.streams.0)
     (stream_of g.O.Sink.taken g.O.Sink.faults c.args.streams.out.now c.answer_run.new.streams.1.0) in
     let asked = asked_of c.args.command.now in
-    in_mode _ Run shelf streams asked c.answer_run.result c.in-Run.is
+    in_mode _ Run shelf streams asked c.answer_run.result (no_gen Run tt) c.in-Run.is
     (by_run shelf streams asked c.answer_run.result c.answer_run.ensures.before_start c.answer_run.ensures.due)
 
 pub returns-in-Exec-clause-due : goal.returns-in-Exec-clause-due
@@ -45,7 +45,7 @@ returns-in-Exec-clause-due g c =
     (stream_of g.I.Source.left g.I.Source.faults c.args.streams.input.now c.answer_exec.new.streams.0)
     (stream_of g.O.Sink.taken g.O.Sink.faults c.args.streams.out.now c.answer_exec.new.streams.1.0) in
     let asked = asked_of c.args.command.now in
-    in_mode _ Exec shelf streams asked c.answer_exec.result c.in-Exec.is
+    in_mode _ Exec shelf streams asked c.answer_exec.result (no_gen Exec tt) c.in-Exec.is
     (by_exec shelf streams asked c.answer_exec.result c.answer_exec.ensures.before_start c.answer_exec.ensures.due)
 
 pub returns-in-Alloc-clause-due : goal.returns-in-Alloc-clause-due
@@ -55,7 +55,7 @@ returns-in-Alloc-clause-due g c =
     (stream_of g.I.Source.left g.I.Source.faults c.args.streams.input.now c.answer_written-in-Alloc.new.streams.0)
     (stream_of g.O.Sink.taken g.O.Sink.faults c.args.streams.out.now c.answer_written-in-Alloc.new.streams.1.0) in
     let asked = asked_of c.args.command.now in
-    in_mode _ Alloc shelf streams asked c.answer_written-in-Alloc.result c.in-Alloc.is
+    in_mode _ Alloc shelf streams asked c.answer_written-in-Alloc.result (no_gen Alloc tt) c.in-Alloc.is
     (by_writing shelf streams (Lists _) asked c.answer_written-in-Alloc.result c.answer_written-in-Alloc.ensures.unread
     c.answer_written-in-Alloc.ensures.before_start c.answer_written-in-Alloc.ensures.due)
 
@@ -66,7 +66,7 @@ returns-in-Gen-clause-due g c =
     (stream_of g.I.Source.left g.I.Source.faults c.args.streams.input.now c.generate_to.new.streams.0)
     (stream_of g.O.Sink.taken g.O.Sink.faults c.args.streams.out.now c.generate_to.new.streams.1.0) in
     let asked = asked_of c.args.command.now in
-    in_mode _ Gen shelf streams asked c.generate_to.result c.in-Gen.is
+    in_mode _ Gen shelf streams asked c.generate_to.result (λ _. refl) c.in-Gen.is
     (by_gen shelf streams asked c.generate_to.result refl c.generate_to.ensures.unread c.generate_to.ensures.before_start c.generate_to.ensures.due)
 
 pub generate_to-requires-clause-number : goal.generate_to-requires-clause-number

@@ -9,3 +9,6 @@ returns-in-Ok-clause-due g c = due_of_mode _ _ _ _ _ _ c.in-Ok.ensures.ok c.answ
 pub returns-in-Err-Usage-clause-due : goal.returns-in-Err-Usage-clause-due
 returns-in-Err-Usage-clause-due g c =
     answered.usage refl (rw c.in-Err-Usage.field-0-is at c.in-Err-Usage.ensures.usage) refl (refl, refl)
+
+pub returns-in-Err-Memory-clause-due : goal.returns-in-Err-Memory-clause-due
+returns-in-Err-Memory-clause-due g c = answered.no_memory refl (λ a ask gen. refl) (refl, refl)
