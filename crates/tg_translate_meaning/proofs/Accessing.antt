@@ -236,8 +236,11 @@ module _ (P : Program) (set : Setting P) (needs : Needs P) (p : Part) (h : Holdi
     literals = hh.literals;
   }
 
-  pub write_at : (l : Location) (ty : Ty) (u : ℕ) (v : Value) (word : ℕ) → IsAt P p.places h types l ty u → HasValues ty → Stands h v ty word → WroteAt l v u word
-  write_at _ _ _ v word (a_slot place u ty is_of type_is) values st =
+  -- a variable in a slot has another value
+  pub slot_assigned : (place u : ℕ) (ty : Ty) (v : Value) (word : ℕ) → IsOf place (p.places (cell u)) → slice_get types place ≡ Some ty → Stands h v ty word →
+      (store w.memory u word ≡ Some (put u (Has word) w.memory)) × (load (put u (Has word) w.memory) u ≡ Some word) ×
+      Holds P p h types (put_variable place v s) (record w { memory = put u (Has word) w.memory }) t
+  slot_assigned place u ty v word is_of type_is st =
       let ts = with_temps p.scene.depth t p.others in
       let here : p.places (cell u) ≡ variable place = plainly (p.places (cell u)) place (needs.cells_are_plain p h types s w t hh u) is_of in
       let used : p.places (cell u) ≢ nowhere = of_is_used place (p.places (cell u)) is_of in
@@ -247,19 +250,27 @@ module _ (P : Program) (set : Setting P) (needs : Needs P) (p : Part) (h : Holdi
       let high : heap_base + length w.memory.heap ≤ u = omega (arith, under, up.0) in
       let is_open : w.memory.stack u ≢ Closed = holds_open h types s w.memory ts u (p.places (cell u)) hh.invariant.memory.whole even high used (hh.invariant.holds (cell u)) in
       let x = slot_written w.memory u word ts hh.invariant.memory.whole even high is_open in
-      let w1 : World = record w { memory = put u (Has word) w.memory } in
-      record {
-        s1 = put_variable place v s;
-        m1 = put u (Has word) w.memory;
-        stored = x.0;
-        after = record {
+      let w1 : World = record w { memory = put u (Has word) w.memory } in (
+        x.0,
+        x.1.there,
+        record {
           invariant = assigned P.shapes P.heap (floor P) p.places h types s w w1 ts ts hh.invariant (cell u) word x.1 refl
               (λ b known. known_apart b u known up.0) (λ a e. subst (λ o. (floor P ≤ o) × (o < stack_top) × (o % 4 ≡ 0)) (ap index_of e) up) place v ty here type_is st;
           weight = hh.weight;
           depth = hh.depth;
           statics = hh.statics;
           literals = hh.literals;
-        };
+        },
+      )
+
+  pub write_at : (l : Location) (ty : Ty) (u : ℕ) (v : Value) (word : ℕ) → IsAt P p.places h types l ty u → HasValues ty → Stands h v ty word → WroteAt l v u word
+  write_at _ _ _ v word (a_slot place u ty is_of type_is) values st =
+      let x = slot_assigned place u ty v word is_of type_is st in
+      record {
+        s1 = put_variable place v s;
+        m1 = put u (Has word) w.memory;
+        stored = x.0;
+        after = x.2;
         does = λ go out i. (read_at (in_variable place) ty u (a_slot place u ty is_of type_is)).gives (λ _ w2. go tt (put_variable place v w2)) out i;
       }
   write_at _ _ _ v word (a_field r name at a k ty fs has shape field) values st =

@@ -1,5 +1,6 @@
 pub mod Accepted
 pub mod Accessing
+pub mod Activations
 pub mod Arguments
 pub mod Arithmetic
 pub mod Asking

@@ -4,4 +4,5 @@ pub mod Worlds
 pub mod Situations
 pub mod Shown
 pub mod Bounds
+pub mod Activations
 pub mod Laws

@@ -1,3 +1,7 @@
+ghost use Rattle.tg_translate_meaning.specs.Activations.{
+  AssignmentsFindTheirActivation,
+  TemporariesAreOwn,
+};
 ghost use Rattle.tg_translate_meaning.specs.Laws.{
   LinksOfCallsAreRight,
   MeaningIsKept,
@@ -18,3 +22,11 @@ pub fn runs_are_alike()
 {
     meaning_is_kept();
 }
+
+/// A variable that a nested function changes is the one in its activation: static links lead to the
+/// current activation of the function that declares it, and the word there changes alone. Those in
+/// temporaries are the function's own.
+pub fn assignments_find_their_activation()
+    ensures frames { AssignmentsFindTheirActivation }
+    ensures temporaries { TemporariesAreOwn }
+{}

@@ -4,4 +4,4 @@
 
 mod laws;
 
-pub use laws::{meaning_is_kept, runs_are_alike};
+pub use laws::{assignments_find_their_activation, meaning_is_kept, runs_are_alike};
