@@ -1,6 +1,6 @@
 -- Runs of what does what a source means end by its meaning.
 use Rattle.std.specs.Prelude.{Result, Ok, Err}
-use Rattle.std.proofs.Common.{ℕ, ◌≡◌, ◌<◌, List, [], ◌++◌, ◌%◌, Option, Some, refl, sym, ap, subst, ◌∙◌, append-nil, arith, w32}
+use Rattle.std.proofs.Common.{ℕ, ◌≡◌, ◌<◌, ◌^◌, List, [], ◌++◌, ◌%◌, Option, Some, refl, sym, ap, subst, ◌∙◌, append-nil, arith, w32}
 use Rattle.std.proofs.lemmas.Int.{of_z-to_z}
 use Rattle.std.proofs.lemmas.List.Elements.{All-nil}
 use Rattle.std.specs.Io.KnownBytes.{Appends}
@@ -9,8 +9,10 @@ use Rattle.tg_base.specs.declared.ends.RunEnd.{RunEnd}
 use Rattle.tg_base.specs.declared.ends.RunEnd.TheVariants.{ReadFault, WriteFault}
 use Rattle.tg_base.specs.State.{start}
 use Rattle.tg_runs.specs.Bytes.{AreBytes}
-use Rattle.tg_meaning.specs.Values.{normal, by_nil, by_index, by_division, by_chr}
+use Rattle.tg_runs.specs.Outcomes as over
+use Rattle.tg_meaning.specs.Values.{Ending, normal, by_nil, by_index, by_division, by_chr}
 use Rattle.tg_meaning.specs.Values.{by_substring, by_size, by_heap, by_overflow, by_exit}
+use Rattle.tg_meaning.specs.MachineEnds.{machine_end}
 use Rattle.tg_meaning.specs.Direct.{evaluate}
 use Rattle.tg_isa.specs.declared.images.Image.{Image}
 use Rattle.tg_isa.specs.Assembly.{Assembled, Fault as AsmFault, assembled}
@@ -20,10 +22,11 @@ use Rattle.tg_machine.specs.Ran.{Stops, still, ended, read_failed, write_failed,
 use Rattle.tg_agreement.specs.Meant.{AreSizes}
 use Rattle.tg_meant.specs.Ends.{EndIsMeant}
 use Rattle.tg_meant.specs.Meant.{IsAsMeant}
-use Rattle.tg_meant.specs.Laws.{EndedIsMeant, RunningIsMeant}
+use Rattle.tg_meant.specs.Laws.{EndedIsMeant, RunningIsMeant, ExitsAreWords}
 use Rattle.tg_driver.specs.Calls.{Streams}
 use Rattle.tg_driver.specs.MeantEnds.{EndsByMeaning, RunsAreMeant, GeneratedAreMeant, streams_until}
-use Rattle.tg_driver.specs.MeantEnds.{StatusesAreMeant}
+use Rattle.tg_driver.specs.MeantEnds.{ending_status, StatusesAreMeant}
+use Rattle.tg_driver.specs.Endings.{end_status}
 use Rattle.tg_driver.specs.Runs.{HasRun}
 
 -- a text has one image
@@ -97,15 +100,28 @@ module _ (ends : EndedIsMeant) (goes_on : RunningIsMeant) where
       by_run (streams_until out sums.input sums.between) text g.ends.assembly g.ends.meant g.ends.ran.image heap stack steps g.end []
       g.ends.ran.assembles sums.run refl no_bytes sizes (λ is. no_read (sums.run.ran.read_cause is)) written
 
--- each ending has its status
-pub statuses_are_meant : StatusesAreMeant
-statuses_are_meant normal w = refl
-statuses_are_meant (by_exit code) w = ap (λ n. n % 256) (of_z-to_z w32 code w)
-statuses_are_meant by_nil w = refl
-statuses_are_meant by_index w = refl
-statuses_are_meant by_division w = refl
-statuses_are_meant by_chr w = refl
-statuses_are_meant by_substring w = refl
-statuses_are_meant by_size w = refl
-statuses_are_meant by_heap w = refl
-statuses_are_meant by_overflow w = refl
+-- each ending whose code is a word has its status
+abbrev IsOfWord : Ending → Type 0
+IsOfWord (by_exit code) = code < 2 ^ 32
+IsOfWord _ = Unit {0}
+
+status_is : (ending : Ending) → IsOfWord ending → end_status (machine_end ending) ≡ ending_status ending
+status_is normal w = refl
+status_is (by_exit code) w = ap (λ n. n % 256) (of_z-to_z w32 code w)
+status_is by_nil w = refl
+status_is by_index w = refl
+status_is by_division w = refl
+status_is by_chr w = refl
+status_is by_substring w = refl
+status_is by_size w = refl
+status_is by_heap w = refl
+status_is by_overflow w = refl
+
+of_word : (ending : Ending) → ((code : ℕ) → ending ≡ by_exit code → code < 2 ^ 32) → IsOfWord ending
+of_word (by_exit code) h = h code refl
+of_word _ h = tt
+
+pub statuses_are_meant : ExitsAreWords → StatusesAreMeant
+statuses_are_meant exits text names tokens program source input heap stack turns ending bytes sizes e =
+    status_is ending
+    (of_word ending (λ code is. exits text names tokens program source input heap stack turns code bytes sizes (e ∙ ap (λ o. over.ended o) is)))

@@ -1,5 +1,5 @@
 -- What the end of a run says of the meaning of its source, in `run` and in `gen`.
-use Rattle.std.specs.Prelude.{ℕ, ◌≡◌, ◌≢◌, ◌<◌, ◌%◌, ◌^◌, List, [], Some}
+use Rattle.std.specs.Prelude.{ℕ, ◌≡◌, ◌≢◌, ◌%◌, List, [], Some}
 use Rattle.std.specs.Io.KnownBytes.{Appends}
 use Rattle.tg_base.specs.declared.ends.RunEnd.{RunEnd}
 use Rattle.tg_base.specs.declared.ends.RunEnd.TheVariants.{ReadFault, WriteFault}
@@ -7,6 +7,7 @@ use Rattle.tg_base.specs.InMemory.{PlainBytes}
 use Rattle.tg_syntax.specs.declared.tokens.Spanned.{Spanned}
 use Rattle.tg_syntax.specs.Tree.{Exp}
 use Rattle.tg_runs.specs.Bytes.{AreBytes}
+use Rattle.tg_runs.specs.Outcomes.{ended}
 use Rattle.tg_meaning.specs.Values.{Ending, normal, by_nil, by_index, by_division, by_chr}
 use Rattle.tg_meaning.specs.Values.{by_substring, by_size, by_heap, by_overflow, by_exit}
 use Rattle.tg_meaning.specs.MachineEnds.{machine_end}
@@ -75,12 +76,12 @@ ending_status by_size = 106
 ending_status by_heap = 107
 ending_status by_overflow = 110
 
--- the codes of exits are words
-abbrev pub IsOfWord : Ending → Type 0
-IsOfWord (by_exit code) = code < 2 ^ 32
-IsOfWord _ = Unit {0}
-
--- It is the status of the machine's end that stands for it.
+-- Where evaluation of a source ends, it is the status of the machine's end that stands for that.
 abbrev pub StatusesAreMeant : Type 0
 StatusesAreMeant =
-    (ending : Ending) → IsOfWord ending → end_status (machine_end ending) ≡ ending_status ending
+    (text : List ℕ) (names : List (List ℕ)) (tokens : List Spanned) (program : Exp) →
+    IsSourceOf text names tokens program →
+    (input : List ℕ) (heap stack turns : ℕ) (ending : Ending) →
+    AreBytes input → AreSizes heap stack →
+    (evaluate names program input heap stack turns).end ≡ ended ending →
+    end_status (machine_end ending) ≡ ending_status ending

@@ -15,7 +15,7 @@ ghost use Rattle.tg_driver.specs.Modes.{IsDueOfText, most_of};
 ghost use Rattle.tg_driver.specs.OfFiles.{HasStarted};
 ghost use Rattle.tg_driver.specs.Runs.{HasRun, IsExact};
 
-use tg_meant::ends_are_as_meant;
+use tg_meant::{ends_are_as_meant, exits_are_words};
 
 /// The law that a command has at most one answer for a text, but where the streams were touched: an
 /// end of a run, which the input decides too, or whether the output took what was written. So each
@@ -77,6 +77,7 @@ pub fn runs_are_as_meant<I, O>()
     ensures statuses { StatusesAreMeant }
 {
     ends_are_as_meant();
+    exits_are_words();
 }
 
 /// The headline of commands: with good words for a file that is there, and where no count of faults

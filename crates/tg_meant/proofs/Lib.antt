@@ -1,2 +1,5 @@
 pub mod Building
 pub mod Ending
+pub mod SmallValues
+pub mod SmallRuns
+pub mod ExitCodes

@@ -1,7 +1,11 @@
 -- What is built of a source does what the source means, and what the ends of its runs say.
-use Rattle.std.specs.Prelude.{ℕ, ◌≡◌, List}
+use Rattle.std.specs.Prelude.{ℕ, ◌≡◌, ◌<◌, ◌^◌, List}
 use Rattle.tg_base.specs.declared.ends.RunEnd.{RunEnd}
+use Rattle.tg_syntax.specs.declared.tokens.Spanned.{Spanned}
+use Rattle.tg_syntax.specs.Tree.{Exp}
 use Rattle.tg_runs.specs.Bytes.{AreBytes}
+use Rattle.tg_runs.specs.Outcomes.{ended}
+use Rattle.tg_meaning.specs.Values.{by_exit}
 use Rattle.tg_meaning.specs.Direct.{evaluate}
 use Rattle.tg_isa.specs.Runs.{Execution, Running, Ended}
 use Rattle.tg_rounds.specs.Policies.{Rule as SpillRule}
@@ -10,6 +14,7 @@ use Rattle.tg_agreement.specs.Meant.{AreSizes, runs_to}
 use Rattle.tg_meant.specs.Builds.{Builds}
 use Rattle.tg_meant.specs.Ends.{EndIsMeant}
 use Rattle.tg_meant.specs.Meant.{IsAsMeant}
+use Rattle.tg_meant.specs.Sources.{IsSourceOf}
 
 -- The headline: whatever the policy, an assembly text that a source is built to has an image that
 -- does what the source means.
@@ -35,3 +40,11 @@ RunningIsMeant =
     AreBytes input → AreSizes heap stack →
     runs_to m.image input heap stack steps ≡ Running last →
     EndIsMeant (λ turns. evaluate m.names m.program input heap stack turns) steps StepLimit last
+
+-- Where evaluation of a source ends by an exit, its code is a word.
+abbrev pub ExitsAreWords : Type 0
+ExitsAreWords =
+    (text : List ℕ) (names : List (List ℕ)) (tokens : List Spanned) (program : Exp) →
+    IsSourceOf text names tokens program →
+    (input : List ℕ) (heap stack turns code : ℕ) → AreBytes input → AreSizes heap stack →
+    (evaluate names program input heap stack turns).end ≡ ended (by_exit code) → code < 2 ^ 32

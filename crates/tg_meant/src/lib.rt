@@ -4,4 +4,4 @@
 
 mod laws;
 
-pub use laws::{built_is_as_meant, ends_are_as_meant};
+pub use laws::{built_is_as_meant, ends_are_as_meant, exits_are_words};

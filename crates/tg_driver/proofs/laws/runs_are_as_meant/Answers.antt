@@ -8,4 +8,4 @@ pub returns-clause-generated : goal.returns-clause-generated
 returns-clause-generated g c = generated_are_meant c.ends_are_as_meant.ensures.ended c.ends_are_as_meant.ensures.running
 
 pub returns-clause-statuses : goal.returns-clause-statuses
-returns-clause-statuses g c = statuses_are_meant
+returns-clause-statuses g c = statuses_are_meant c.exits_are_words.ensures
