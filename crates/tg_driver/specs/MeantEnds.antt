@@ -76,7 +76,7 @@ ending_status by_size = 106
 ending_status by_heap = 107
 ending_status by_overflow = 110
 
--- Where evaluation of a source ends, it is the status of the machine's end that stands for that.
+-- Where evaluation of a source ends, the machine's end that stands for its ending has this status.
 abbrev pub StatusesAreMeant : Type 0
 StatusesAreMeant =
     (text : List ℕ) (names : List (List ℕ)) (tokens : List Spanned) (program : Exp) →
