@@ -11,32 +11,32 @@ PROGRAM = os.environ.get("TIGER", os.path.join(TOP, "tiger"))
 FAULT = re.compile(rb"tiger: (\d+):(\d+): ([LST]\d+) (.*)\n")
 LINE_FAULT = re.compile(rb"tiger: line (\d+): (A\d+) (.*)\n")
 NAMED = {"T1", "T2", "T3", "T4", "T5", "T7", "T8", "T10", "T11", "T15", "T16", "T17", "T18", "S1", "L1"}
-NO_SEMICOLON = "`;` stands only between expressions in `( .. )` or `in .. end`"
 
-# Frequent slips: the rule, what stands before the mark on its line and the lines above, what stands at it, and the cure.
+# Frequent slips of docs/FAULTS.md: the rule, what stands before the mark, what stands at it, and what the row begins with.
 SLIPS = [
-    ("L1", r"^$", r"\xef\xbb\xbf", "The file begins with a byte order mark: save it as UTF-8 without one."),
-    ("L1", r"", r"!=", "Unequal is `<>`."),
-    ("L1", r"", r"#", "A comment stands between `/*` and `*/`."),
-    ("L1", r"", r"'", 'A string stands between `"`; there are no characters.'),
-    ("T2", r"", r"print_?[a-z]+\b", "`print` writes a string; examples/merge.tig has a function that writes an int by it and `chr`."),
-    ("T6", r"\bprint\(\s*$", r"", "`print` takes a string; examples/merge.tig has a function that writes an int."),
-    ("S1", r";\s*$", r"else\b", f"No `;` stands before `else`: {NO_SEMICOLON}."),
-    ("S1", r"", r";\s*else\b", f"No `;` stands before `else`: {NO_SEMICOLON}."),
-    ("S1", r";\s*$", r"(end\b|\))", f"No `;` stands behind the last expression: {NO_SEMICOLON}."),
-    ("S1", r"\b(var|type)\b[^;]*$", r";", "No `;` stands behind a declaration."),
-    ("S1", r"\b(do|then|else)\b[^;]*$", r";", f"A loop and an `if` take one expression: write `( .. ; .. )`, since {NO_SEMICOLON}."),
-    ("S1", r"", r";", f"{NO_SEMICOLON}.".capitalize()),
-    ("S1", r"=$", r"=", "`=` compares: there is no `==`."),
-    ("S1", r"\bvar\s+\w+\s*(:\s*\w+\s*)?$", r"=", "A variable begins by `:=`, as in `var x := 3`."),
-    ("S1", r"/$", r"/", "A comment stands between `/*` and `*/`."),
-    ("S1", r"", r"//", "A comment stands between `/*` and `*/`."),
-    ("S1", r"", r"array\b", "An array is made of a type with a name: `type row = array of int`, and then `row [10] of 0`."),
-    ("S1", r"", r"(and|or)\b", "Write `&` and `|`."),
-    ("S1", r"\bnot\s+$", r"", "`not` is a function: `not(a)`."),
-    ("S1", r"\breturn\s+$", r"", "The value of a function is that of its body; there is no `return`."),
-    ("S1", r"", r"\{", "A body stands behind `=`, `then` or `do`, and `( .. ; .. )` makes a sequence."),
-    ("S1", r"\(\s*(\w+\s*:\s*\w+\s*,\s*)*\w+\s*$", r"[,)]", "A parameter has a type, as in `f(x: int)`; a call names a declared function."),
+    ("L1", r"^$", r"\xef\xbb\xbf", "a byte order mark at the begin"),
+    ("L1", r"", r"!=", "a != b"),
+    ("L1", r"", r"#", "f(x) + 1 # a remark"),
+    ("L1", r"", r"'", "print('a')"),
+    ("T2", r"", r"print_?[a-z]+\b", "print_int(3)"),
+    ("T6", r"\bprint\(\s*$", r"", "print(1)"),
+    ("S1", r";\s*$", r"else\b", "(if 1 then (); else ())"),
+    ("S1", r"", r";\s*else\b", "(if 1 then (); else ())"),
+    ("S1", r";\s*$", r"(end\b|\))", "let in 1; end"),
+    ("S1", r"\b(var|type|function)\b((?!\b(do|then|else)\b)[^;])*$", r";", "let var x := 3; var y := 4 in end"),
+    ("S1", r"\b(do|then|else)\b((?!\b(var|type|function)\b)[^;])*$", r";", "while 1 do (); ()"),
+    ("S1", r"=$", r"=", "if a == 1 then ()"),
+    ("S1", r"\bvar\s+\w+\s*(:\s*\w+\s*)?$", r"=", "let var x = 3 in x end"),
+    ("S1", r"/$", r"/", "// a remark"),
+    ("S1", r"", r"//", "// a remark"),
+    ("S1", r"", r"array\b", "let var a := array[10] of 0 in end"),
+    ("S1", r"", r"(and|or)\b", "if a and b then ()"),
+    ("S1", r"\bnot\s+$", r"", "not a"),
+    ("S1", r"\breturn\s+$", r"", "return 1"),
+    ("S1", r"\)\s*$", r"\{", "let function f(x: int) { x } in end"),
+    ("S1", r"", r"\{", "if (a) { b }"),
+    ("S1", r"\bfunction\s+\w+\s*\([^)]*$", r"[,)]", "let function f(x) = () in end"),
+    ("S1", r"[=<>][^;()]*$", r"[=<>]", "S1"),
 ]
 
 
@@ -44,20 +44,24 @@ def cures():
     """What docs/FAULTS.md has in the last column for each rule, and for each line of an end."""
     with open(os.path.join(TOP, "docs", "FAULTS.md"), encoding="utf-8") as page:
         rows = [re.findall(r"(?:[^|`]|`[^`]*`)+", line) for line in page if line.startswith("| ")]
-    return {row[0].strip(" `"): re.sub(r"\[(\S+)\]\(\S+\)", r"docs/\1", row[-2]).strip() for row in rows if len(row) > 2}
+    texts = {row[0].strip(" `"): re.sub(r"\[(\S+)\]\(\S+\)", r"docs/\1", row[-2]) for row in rows if len(row) > 2}
+    return {row: text.strip().replace("\\|", "|") for row, text in texts.items()}
 
 
 def cure_of(rule, before, at):
-    for its, behind, ahead, cure in SLIPS:
+    """What to do about a fault, by what stands before it and at it."""
+    for its, behind, ahead, row in SLIPS:
         if its == rule and re.search(behind, before) and re.match(ahead, at):
-            return cure
+            return cures()[row]
+    if rule == "S1":
+        return "docs/FAULTS.md has the frequent slips" if at else "more is wanted here: an expression, `end` or a closing bracket"
     return cures()[rule]
 
 
 def shown(place, words, line, column, cure):
     """The lines that tell a fault, of which the mark has the tabs that the line has."""
     mark = "".join("\t" if it == "\t" else " " for it in line[: column - 1])
-    return f"{place}: {words}\n{line}\n{mark}^\n{cure}\n"
+    return f"{place}: {words}\n{line}\n{mark}^\ncure: {cure}\n"
 
 
 def source_fault(path, line, column, rule, words):
@@ -65,7 +69,7 @@ def source_fault(path, line, column, rule, words):
         lines = (file.read() + "\n").split("\n")
     text = lines[line - 1].rstrip("\r")
     at, before = text[column - 1 :], "\n".join([*lines[: line - 1], text[: column - 1]])
-    name = re.match(r"\w+|[:<>]?=|<>|[^\w\s]", at) if rule in NAMED else None
+    name = re.match(r"[A-Za-z0-9_]+|[:<>]?=|<>|[!-~]", at) if rule in NAMED else None
     named = f"{rule} {words}" + (f" {name[0]}" if name else "" if at or rule != "S1" else ", at the line's end")
     return shown(f"{path}:{line}:{column}", named, text, column, cure_of(rule, before, at))
 
