@@ -33,7 +33,7 @@ SLIPS = [
     ("S1", r"", r"(and|or)\b", "if a and b then ()"),
     ("S1", r"\bnot\s+$", r"", "not a"),
     ("S1", r"\breturn\s+$", r"", "return 1"),
-    ("S1", r"\)\s*$", r"\{", "let function f(x: int) { x } in end"),
+    ("S1", r"\bfunction\s+\w+\s*\([^)]*\)\s*(:\s*\w+\s*)?$", r"\{", "let function f(x: int) { x } in end"),
     ("S1", r"", r"\{", "if (a) { b }"),
     ("S1", r"\bfunction\s+\w+\s*\([^)]*$", r"[,)]", "let function f(x) = () in end"),
     ("S1", r"[=<>][^;()]*$", r"[=<>]", "S1"),
@@ -55,7 +55,7 @@ def cure_of(rule, before, at):
             return cures()[row]
     if rule == "S1":
         return "docs/FAULTS.md has the frequent slips" if at else "more is wanted here: an expression, `end` or a closing bracket"
-    return cures()[rule]
+    return "docs/FAULTS.md has the cases of T6" if rule == "T6" else cures()[rule]
 
 
 def shown(place, words, line, column, cure):
