@@ -1,0 +1,17 @@
+mod Examples
+pub mod Product
+pub mod Walks
+pub mod Handing
+pub mod Words
+pub mod Sides
+pub mod Passes
+pub mod Naming
+pub mod Closing
+pub mod Shaping
+pub mod Shrinking
+pub mod Sizing
+pub mod Leaving
+pub mod Paying
+pub mod Copying
+pub mod Doing
+pub mod Bodies

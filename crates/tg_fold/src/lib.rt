@@ -1,0 +1,15 @@
+//! Folding on trees: operators on constants, conditions that are known, and copies between
+//! temporaries. What the pass makes of a body is defined in `specs/Folding.antt`, a function on
+//! plain trees; a folded body does what the body did and is no larger. No command runs it yet.
+#![tactic(auto)]
+
+mod constants;
+mod laws;
+mod pass;
+mod passing;
+mod reading;
+mod renaming;
+mod tests;
+
+pub use laws::{folding_is_folded, meaning_stays, shapes_stay, sizes_stay};
+pub use pass::fold;

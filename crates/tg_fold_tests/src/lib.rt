@@ -1,0 +1,6 @@
+//! Tests of folding, and nothing but tests. They stand apart from the crate that they call, since a
+//! crate with tests is proved twice.
+#![tactic(auto)]
+
+#[cfg(test)]
+mod bodies;
