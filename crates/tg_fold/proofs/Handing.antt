@@ -11,11 +11,11 @@ use Rattle.tg_fold.specs.Copies.{copy}
 use Rattle.tg_fold.specs.Folding.{passed, passed_on}
 
 -- one more
-pub one_passed : {done old left more : List CodeTs} {before after : Option (ℕ × ℕ)} {all : Stms} (s next : CodeTs) →
+pub one_passed : (done left : List CodeTs) (before : Option (ℕ × ℕ)) {old more : List CodeTs} {after : Option (ℕ × ℕ)} {all : Stms} (s next : CodeTs) →
     join_stms (stms_of done) (passed_on before (stms_of (reverse old))) ≡ all → old ≡ left ++ s ∷ [] →
     plain_ts next ≡ passed before (plain_ts s) → more ≡ done ++ next ∷ [] → after ≡ copy (plain_ts next) →
     join_stms (stms_of more) (passed_on after (stms_of (reverse left))) ≡ all
-one_passed {done = done} {left = left} {before = before} {after = after} s next inv e n m b =
+one_passed done left before {after = after} s next inv e n m b =
     ap (λ ss. join_stms (stms_of ss) (passed_on after (stms_of (reverse left)))) m ∙
     (ap (λ ts. join_stms ts (passed_on after (stms_of (reverse left)))) (stms_of-push done next) ∙
     (join_stms-assoc (stms_of done) (stm (plain_ts next) no_stms) (passed_on after (stms_of (reverse left))) ∙
@@ -24,7 +24,7 @@ one_passed {done = done} {left = left} {before = before} {after = after} s next 
     (sym (ap (λ ss. join_stms (stms_of done) (passed_on before (stms_of ss))) (ap reverse e ∙ reverse-append left (s ∷ []))) ∙ inv)))))
 
 -- all
-pub all_passed : {done left : List CodeTs} {before : Option (ℕ × ℕ)} {all : Stms} →
+pub all_passed : (done : List CodeTs) (before : Option (ℕ × ℕ)) {left : List CodeTs} {all : Stms} →
     join_stms (stms_of done) (passed_on before (stms_of (reverse left))) ≡ all → left ≡ [] → stms_of done ≡ all
-all_passed {done = done} {before = before} inv e =
+all_passed done before inv e =
     sym (join_stms-none (stms_of done)) ∙ (sym (ap (λ ss. join_stms (stms_of done) (passed_on before (stms_of (reverse ss)))) e) ∙ inv)

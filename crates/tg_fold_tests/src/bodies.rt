@@ -61,36 +61,34 @@ fn comparisons_choose(rt: HostRuntime) -> Result<(), Fail> {
     Ok(())
 }
 
+// Whether a statement copies the temporary 0.
+fn copies_first(statement: &Ts) -> bool {
+    matches!(statement, Ts::Move(_, Tx::Temp(Temp(0))))
+}
+
 // A chain of 20,000 copies, each of the one before: all come to be of the first.
 #[test]
 fn copies_go_through_a_long_body(rt: HostRuntime) -> Result<(), Fail> {
     let alloc = rt.alloc();
     let mut items = Vec::new(alloc);
-    for i in 0..20_000u32 {
-        items.push(Ts::Move(Temp(i + 1), Tx::Temp(Temp(i))))?;
+    for i in 1..=20_000u32 {
+        items.push(Ts::Move(Temp(i), Tx::Temp(Temp(i - 1))))?;
     }
-    items.push(Ts::Return(Tx::Const(0)))?;
-    let mut first = 0;
-    if let Ts::Seq(folded) = fold(alloc, sequence(items))? {
-        for statement in &folded.items {
-            if let Ts::Move(_, Tx::Temp(Temp(0))) = statement {
-                first += 1;
-            }
-        }
-    }
-    assert_eq!(rt; first, 20_000);
+    let Ts::Seq(folded) = fold(alloc, sequence(items))? else {
+        return Err(Fail::from("no sequence"));
+    };
+    let copies = folded.items.iter().filter(|one| copies_first(one)).count();
+    assert_eq!(rt; copies, 20_000);
     Ok(())
 }
 
 #[test]
 fn the_runtime_folds(rt: HostRuntime) -> Result<(), Fail> {
     let alloc = rt.alloc();
-    let mut all = runtime(alloc)?;
-    let mut folded = 0;
-    while let Some(function) = all.functions.pop() {
+    let all = runtime(alloc)?;
+    assert_eq!(rt; all.functions.len(), 13);
+    for function in all.functions {
         fold(alloc, function.body)?;
-        folded += 1;
     }
-    assert_eq!(rt; folded, 13);
     Ok(())
 }
