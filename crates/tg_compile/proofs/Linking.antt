@@ -5,6 +5,7 @@ use Rattle.std.specs.Prelude.{◌||◌, ◌==◌, ◌+◌, map, not, IsTrue}
 use Rattle.std.specs.List.{Contains, AllPairs, list_all, sum_by}
 use Rattle.std.proofs.lemmas.Bool.{lt-ltb, and_from, and_parts, or_left, or_right}
 use Rattle.std.proofs.lemmas.Bool.Decides.{eqb_tells, nat_tests}
+use Rattle.std.proofs.lemmas.List.Sums.{sum_by-cons}
 use Rattle.tg_base.specs.declared.ids.Label.{Label}
 use Rattle.tg_base.specs.State.{most_bytes, padded}
 use Rattle.tg_tree.specs.declared.fragments.Literal.{Literal}
@@ -217,4 +218,6 @@ whole_program codes literals linked small fit =
 -- the statics of literals are as long as those of their plain forms
 pub bytes_are : (literals : List Literal) → sum_by (λ l. length (padded l.text)) (map plain_literal literals) ≡ bytes_of literals
 bytes_are [] = refl
-bytes_are (l ∷ ls) = ap (λ n. length (padded l.text) + n) (bytes_are ls)
+bytes_are (l ∷ ls) =
+    sum_by-cons (λ (m : tree.Literal). length (padded m.text)) (plain_literal l) (map plain_literal ls)
+    ∙ ap (λ n. length (padded l.text) + n) (bytes_are ls)
