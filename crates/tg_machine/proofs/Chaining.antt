@@ -10,8 +10,11 @@ use Rattle.tg_isa.specs.Effects.{step}
 use Rattle.tg_isa.specs.Runs.{Execution, Progress, Running, Ended, proceed, run, begun, first_answer, later_answers}
 use Rattle.tg_machine.specs.Ran.{Tells, StillTells, IsReading, IsWriting, ComesToRead, ComesToWrite, Stops, still, ended, read_failed, write_failed}
 use Rattle.tg_machine.specs.Ran.{saturating_sum}
-use Rattle.tg_machine.specs.Laws.{CallsChain}
+use Rattle.tg_machine.specs.declared.fetches.Seen.{Seen}
+use Rattle.tg_machine.specs.Fetches.{seen_at, fetches, fetches_until}
+use Rattle.tg_machine.specs.Laws.{CallsChain, WatchedCallsChain}
 use Rattle.tg_machine.proofs.Runs.{go_on, run_suc, run_add, running_same}
+use Rattle.tg_machine.proofs.Fetching.{see_on, fetches_suc, fetches_add, until_all}
 use Rattle.tg_machine.proofs.Reached.{saturating_sum-add, rose_later}
 
 abbrev world : MachineState → List (Option ℕ) → List ℕ → Execution
@@ -42,6 +45,17 @@ run-behind (suc n) front w =
     on (Running v) ih = ih v
     on (Ended e v) ih = refl
 
+see_on-behind : (n : ℕ) (front : List ℕ) → ((v : Execution) → fetches n (behind front v) ≡ fetches n v) → (o : Progress) →
+    see_on n (all_behind front o) ≡ see_on n o
+see_on-behind n front ih (Running v) = ih v
+see_on-behind n front ih (Ended e v) = refl
+
+fetches-behind : (n : ℕ) (front : List ℕ) (w : Execution) → fetches n (behind front w) ≡ fetches n w
+fetches-behind zero front w = refl
+fetches-behind (suc n) front w =
+    fetches_suc n (behind front w) ∙ ap (λ o. seen_at w.machine ++ see_on n o) (proceed-behind front w (step w.machine))
+    ∙ ap (λ l. seen_at w.machine ++ l) (see_on-behind n front (fetches-behind n front) (proceed w (step w.machine))) ∙ sym (fetches_suc n w)
+
 -- A run does the same on the answers that it reads, whatever follows them.
 abbrev given : Execution → List (Option ℕ) → Execution
 given w input = world w.machine input w.output
@@ -51,6 +65,7 @@ record Replayed (k : ℕ) (w last : Execution) : Type 0 where
   comes : (rest : List (Option ℕ)) → run k (given w (read ++ rest)) ≡ Running (given last rest)
   along : (rest : List (Option ℕ)) (i : ℕ) (v : Execution) → i < k → run i w ≡ Running v → (u : Execution) ×
       (run i (given w (read ++ rest)) ≡ Running u) × (u.machine ≡ v.machine)
+  seen : (rest : List (Option ℕ)) → fetches k (given w (read ++ rest)) ≡ fetches k w
 
 replayed_on : (k : ℕ) (w v last : Execution) (front : List (Option ℕ)) →
     ((x : List (Option ℕ)) → proceed (given w (front ++ x)) (step w.machine) ≡ Running (given v x)) →
@@ -59,6 +74,7 @@ replayed_on k w v last front to from r = record {
   read = front ++ r.read;
   comes = λ rest. next rest k ∙ r.comes rest;
   along = along;
+  seen = seen;
 }
   where
     next : (rest : List (Option ℕ)) (j : ℕ) → run (suc j) (given w ((front ++ r.read) ++ rest)) ≡ run j (given v (r.read ++ rest))
@@ -75,11 +91,18 @@ replayed_on k w v last front to from r = record {
         let a = r.along rest i u below there in
         (a.0, next rest i ∙ a.1, a.2)
 
+    seen : (rest : List (Option ℕ)) → fetches (suc k) (given w ((front ++ r.read) ++ rest)) ≡ fetches (suc k) w
+    seen rest =
+        ap (λ x. fetches (suc k) (given w x)) (append_assoc front r.read rest) ∙ fetches_suc k (given w (front ++ (r.read ++ rest)))
+        ∙ ap (λ o. seen_at w.machine ++ see_on k o) (to (r.read ++ rest)) ∙ ap (λ l. seen_at w.machine ++ l) (r.seen rest)
+        ∙ sym (fetches_suc k w ∙ ap (λ o. seen_at w.machine ++ see_on k o) from)
+
 replay : (k : ℕ) (w last : Execution) → run k w ≡ Running last → Replayed k w last
 replay zero w last h = record {
   read = [];
   comes = λ rest. ap (λ x. Running (given x rest)) (running_same w last h);
   along = λ rest i v lt e. absurd (omega (arith, lt));
+  seen = λ rest. refl;
 }
 replay (suc k) w last h = by (step w.machine) refl (λ v. replay k v last)
   where
@@ -108,6 +131,7 @@ record Joined (k : ℕ) (left : Option (List ℕ)) (old mid : MachineState) (fir
   comes : run k (begun old input) ≡ Running (world mid second output)
   reads : ComesToRead k (begun old first) → ComesToRead k (begun old input)
   writes : ComesToWrite k (begun old first) → ComesToWrite k (begun old input)
+  seen : fetches k (begun old first) ≡ fetches k (begun old input)
 
 same_world : (s s' : MachineState) (l l' : List (Option ℕ)) (output : List ℕ) → s ≡ s' → l ≡ l' → Running (world s l output) ≡ Running (world s' l' output)
 same_world s s' l l' output e f = rw (e, f) refl
@@ -121,6 +145,7 @@ joined k (Some bytes) (Some bytes') old mid first second last h m t t' s u = rec
   comes = h ∙ same_world last.machine mid last.input second last.output (sym m) (t' ∙ sym u);
   reads = λ c. c;
   writes = λ c. c;
+  seen = refl;
 }
 joined k (Some bytes) None old mid first second last h m t t' s u = let n = s refl in cc
 joined k None left' old mid first second last h m t t' s u =
@@ -143,6 +168,7 @@ joined k None left' old mid first second last h m t t' s u =
             writing =
                 subst (λ x. IsWriting x c.bytes) (sym a.2) c.writing;
           };
+      seen = sym (r.seen second);
     }
 
 -- behind so many steps a run goes on as from its start, with the output so far in front
@@ -164,6 +190,27 @@ stops_on k n old mid input second output e last front h (read_failed i lt r d p 
 stops_on k n old mid input second output e last front h (write_failed i rest lt r d p) =
     let below : k + i < k + n = omega (arith, lt) in
     write_failed (k + i) rest below (comes_on k i old mid input second output h ∙ ap (all_behind output) r) d p
+
+-- what such a run fetches: what the steps before fetch, and what is fetched from there on
+fetches_on : (k i : ℕ) (old mid : MachineState) (input second : List (Option ℕ)) (output : List ℕ) → run k (begun old input) ≡
+    Running (world mid second output) → fetches (k + i) (begun old input) ≡ fetches k (begun old input) ++ fetches i (begun mid second)
+fetches_on k i old mid input second output h =
+    fetches_add k i (world mid second output) (begun old input) h
+    ∙ ap (λ o. fetches k (begun old input) ++ fetches i (world mid second o)) (sym (append-nil output))
+    ∙ ap (λ l. fetches k (begun old input) ++ l) (fetches-behind i output (begun mid second))
+
+fetches_until_on : (k n : ℕ) (old mid : MachineState) (input second : List (Option ℕ)) (output : List ℕ) (e : RunEnd) (last : Execution) (front : List ℕ)
+    (h : run k (begun old input) ≡ Running (world mid second output)) (s : Stops n (begun mid second) e last front) →
+    fetches_until (stops_on k n old mid input second output e last front h s) ≡ fetches k (begun old input) ++ fetches_until s
+unfolding stops_on
+fetches_until_on k n old mid input second output e last front h (still r p f) = fetches_on k n old mid input second output h
+fetches_until_on k n old mid input second output e last front h (ended r f) = fetches_on k n old mid input second output h
+fetches_until_on k n old mid input second output e last front h (read_failed i lt r d p f) =
+    let same : k + i + 1 ≡ k + (i + 1) = omega arith in
+    ap (λ m. fetches m (begun old input)) same ∙ fetches_on k (i + 1) old mid input second output h
+fetches_until_on k n old mid input second output e last front h (write_failed i rest lt r d p) =
+    let same : k + i + 1 ≡ k + (i + 1) = omega arith in
+    ap (λ m. fetches m (begun old input)) same ∙ fetches_on k (i + 1) old mid input second output h
 
 -- what was touched by one of the two
 touched : {T : Type 0} (A B C : Type 0) (x y z : T) → (y ≡ x) ⊎ A → (z ≡ y) ⊎ B → (A → C) → (B → C) → (z ≡ x) ⊎ C
@@ -246,4 +293,18 @@ calls_chain left read_faults taken write_faults k n old mid new first input inpu
       keeps = b.keeps;
       written = b.written ∙ ap (λ w. saturating_sum w (length b.last.output)) a.written ∙ saturating_sum-add old.written
           (length output) (length b.last.output) ∙ ap (saturating_sum old.written) (sym size);
+    }
+
+pub watched_calls_chain : {I O : Type 0} → WatchedCallsChain I O
+unfolding calls_chain
+watched_calls_chain left read_faults taken write_faults k n old mid new first input input' start out out' e s t a b =
+    let x = a.simulation in
+    let y = b.simulation in
+    let g = x.goes_on refl in
+    let j = joined k (left first) (left input) old.state mid.state x.input_before y.input_before x.last g.running g.state x.told x.rest x.tells y.told in
+    record {
+      simulation = calls_chain left read_faults taken write_faults k n old mid new first input input' start out out' e x y;
+      seen_is =
+          ap (λ l. l ++ t) (a.seen_is ∙ until_all x.stops refl g.running ∙ j.seen) ∙ ap (λ l. fetches k (begun old.state j.input) ++ l) b.seen_is
+          ∙ sym (fetches_until_on k n old.state mid.state j.input y.input_before x.last.output e y.last y.front j.comes y.stops);
     }

@@ -3,4 +3,9 @@ mod WrittenWords
 pub mod Texts
 pub mod Runs
 pub mod Reached
+pub mod Fetching
 pub mod Chaining
+pub mod CodeStays
+pub mod Lasting
+mod Ending
+mod FetchExamples

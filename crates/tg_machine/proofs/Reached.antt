@@ -238,13 +238,13 @@ given : {A : Type 0} (left : Option (List ℕ)) (read rest : List (Option ℕ)) 
 given left read rest P t (inl a) = inl a
 given left read rest P t (inr f) = inr (f rest t)
 
-touched_read : {A : Type 0} (n m : ℕ) (w : Execution) → n ≤ m → A ⊎ ComesToRead n w → A ⊎ ComesToRead m w
+pub touched_read : {A : Type 0} (n m : ℕ) (w : Execution) → n ≤ m → A ⊎ ComesToRead n w → A ⊎ ComesToRead m w
 touched_read n m w le (inl a) = inl a
 touched_read n m w le (inr c) =
     let within : c.steps < m = omega (arith, c.within) in
     inr (record { steps = c.steps; world = c.world; within = within; comes = c.comes; reading = c.reading })
 
-touched_write : {A : Type 0} (n m : ℕ) (w : Execution) → n ≤ m → A ⊎ ComesToWrite n w → A ⊎ ComesToWrite m w
+pub touched_write : {A : Type 0} (n m : ℕ) (w : Execution) → n ≤ m → A ⊎ ComesToWrite n w → A ⊎ ComesToWrite m w
 touched_write n m w le (inl a) = inl a
 touched_write n m w le (inr c) =
     let within : c.steps < m = omega (arith, c.within) in

@@ -3,4 +3,5 @@ pub mod Inside
 pub mod Ran
 pub mod Layout
 pub mod Moves
+pub mod Fetches
 pub mod Laws

@@ -5,6 +5,7 @@
 
 mod cores;
 mod effects;
+mod fetches;
 mod laws;
 mod loading;
 mod machines;
@@ -15,7 +16,8 @@ mod steps;
 mod words;
 
 pub use cores::Core;
-pub use laws::calls_chain;
+pub use fetches::Seen;
+pub use laws::{calls_chain, ends_again, watched_calls_chain};
 pub use loading::load;
 pub use machines::Machine;
 pub use status::Status;

@@ -4,7 +4,7 @@ use std::test::Fail;
 use tg_asm::{AsmFault, assemble};
 use tg_base::{Bytes, ListSource, PlainSource, RoomSink, Words};
 use tg_isa::Image;
-use tg_machine::{Machine, RunEnd, load};
+use tg_machine::{Machine, RunEnd, Status, load};
 
 /// How programs end on a machine with 16 bytes of heap and 64 of stack.
 const ENDS: [&str; 48] = [
@@ -134,6 +134,7 @@ fn reads(rt: HostRuntime) -> Result<(), Fail> {
         let mut run = program(&rt, alloc, READER)?;
         assert_eq!(rt; run.run(&mut input, &mut out, 20), want);
         assert_eq!(rt; run.run(&mut input, &mut out, 20), want);
+        assert_eq!(rt; run.step(&mut input, &mut out), Status::Ended(want));
     }
     assert_eq!(rt; input.calls(), 5);
     Ok(())

@@ -1,0 +1,6 @@
+mod Vectors
+mod Seeing
+mod CoveredPlaces
+mod LastFetches
+mod RowCounts
+mod WatchedRuns

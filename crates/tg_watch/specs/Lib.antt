@@ -1,0 +1,5 @@
+pub mod Watching
+pub mod Words
+pub mod Reports
+pub mod Counting
+pub mod Standing
