@@ -1,0 +1,15 @@
+mod Signs
+mod Strings
+mod Lexemes
+mod Lines
+mod Names
+mod Trees
+mod Parsed
+mod Tokens
+mod Nesting
+mod Bodies
+mod Groups
+mod Typed
+mod Limits
+mod Lengths
+mod Accepted
