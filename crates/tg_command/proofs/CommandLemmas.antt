@@ -9,7 +9,7 @@ use Rattle.tg_command.specs.declared.CommandFault.{CommandFault}
 use Rattle.tg_command.specs.declared.CommandFault.TheVariants.{Usage, Memory}
 use Rattle.tg_command.specs.Commands.{Ask, Asked, Blames, IsUsageFault, heap, mode, number, refused, stack, steps}
 use Rattle.tg_command.specs.declared.modes.Mode.{Mode}
-use Rattle.tg_command.specs.declared.modes.Mode.TheVariants.{Check, Build, Run, Exec, Alloc, Gen}
+use Rattle.tg_command.specs.declared.modes.Mode.TheVariants.{Check, Build, Run, Exec, Alloc, Gen, Format}
 
 given_once : (limits : Limits) (o : Option (List ℕ)) (m n : ℕ) → GivesCount limits o m → GivesCount limits o n → m ≡ n
 given_once limits None m n p q = p ∙ sym q
@@ -22,6 +22,7 @@ number_same Run file a b p q = p ∙ sym q
 number_same Exec file a b p q = p ∙ sym q
 number_same Alloc file a b p q = p ∙ sym q
 number_same Gen file a b p q = p.value ∙ sym q.value
+number_same Format file a b p q = p ∙ sym q
 
 number_once : (m n : Mode) (f g : List ℕ) (a b : ℕ) → m ≡ n → f ≡ g → GivesNumber m f a → GivesNumber n g b → a ≡ b
 number_once m n f g a b same_mode same_file p q =
@@ -34,7 +35,7 @@ mode_named : List ℕ → Mode
 mode_named [] = Check
 mode_named (first ∷ rest) =
     if first == 99 then Check else if first == 98 then Build else if first == 114 then Run else if first == 101 then Exec
-    else if first == 97 then Alloc else Gen
+    else if first == 97 then Alloc else if first == 102 then Format else Gen
 
 mode_named-name_of : (m : Mode) → mode_named (name_of m) ≡ m
 unfolding mode_named
@@ -44,6 +45,7 @@ mode_named-name_of Run = refl
 mode_named-name_of Exec = refl
 mode_named-name_of Alloc = refl
 mode_named-name_of Gen = refl
+mode_named-name_of Format = refl
 
 pub name_once : (a b : Mode) → name_of a ≡ name_of b → a ≡ b
 name_once a b e = sym (mode_named-name_of a) ∙ ap mode_named e ∙ mode_named-name_of b

@@ -16,6 +16,8 @@ pub enum Mode {
     Alloc,
     /// Generates a source of as many functions as FILE says, compiles it and runs it.
     Gen,
+    /// Writes the canonical text of a source.
+    Format,
 }
 
 /// The mode of this name, in its one spelling. Here and in `name_of` stand the names of the modes.
@@ -30,6 +32,7 @@ pub(crate) fn named(name: &str) -> Option<Mode>
         "exec" => Some(Mode::Exec),
         "alloc" => Some(Mode::Alloc),
         "gen" => Some(Mode::Gen),
+        "format" => Some(Mode::Format),
         _ => None,
     }
 }

@@ -16,7 +16,7 @@ use Rattle.tg_isa.specs.Assembly.{assembled}
 use Rattle.tg_asm.specs.Images.{image_of}
 use Rattle.tg_rounds.specs.Policies.{Rule as SpillRule}
 use Rattle.tg_command.specs.declared.modes.Mode.{Mode}
-use Rattle.tg_command.specs.declared.modes.Mode.TheVariants.{Check, Build, Run, Exec, Alloc, Gen}
+use Rattle.tg_command.specs.declared.modes.Mode.TheVariants.{Check, Build, Run, Exec, Alloc, Gen, Format}
 use Rattle.tg_command.specs.Commands.{Asked, Ask}
 use Rattle.tg_command.proofs.CommandLemmas.{asked_once}
 use Rattle.tg_driver.specs.declared.answers.Answer.{Answer}
@@ -33,6 +33,7 @@ use Rattle.tg_driver.specs.GenMode.{summary, TakesSummary, SumsUpRun, SumsUpMean
 use Rattle.tg_driver.specs.Endings.{end_status}
 use Rattle.tg_driver.specs.ExecMode.{IsExecuted, ByExec}
 use Rattle.tg_driver.specs.Modes.{InMode, LeavesAlone}
+use Rattle.tg_driver.specs.FormatMode.{IsFormatted, ByFormat}
 use Rattle.tg_driver.specs.Laws.{ReadsFile}
 use Rattle.tg_driver.specs.Telling.{IsBeforeStart, IsReported, itself, no_memory}
 use Rattle.tg_driver.specs.Answered.{IsDue, StaysInGen, usage, asked, Answers}
@@ -214,6 +215,12 @@ pub by_writing : {H I O : Type 0} (shelf : Shelved H) (s : Streams I O) (writes 
 by_writing shelf s writes a OutOfMemory i o h = (i, o)
 by_writing shelf s writes a answer i o h = (i, before_start s answer i o, h)
 
+pub by_format : {H I O : Type 0} (shelf : Shelved H) (s : Streams I O) (a : Asked) (answer : Answer) →
+    Stays s.input → StaysBeforeStart s.out answer → OrMemory (Unit {0}) (OfFile shelf a.file 262145 (IsFormatted s.out)) answer →
+    OrMemory (Untouched s) (ByFormat shelf s a) answer
+by_format shelf s a OutOfMemory i o h = (i, o)
+by_format shelf s a answer i o h = (i, before_start s answer i o, h)
+
 pub by_gen : {H I O : Type 0} (shelf : Shelved H) (s : Streams I O) (a : Asked) (answer : Answer) →
     shelf.after ≡ shelf.before → Stays s.input → StaysBeforeStart s.out answer → OrMemory (Unit {0}) (IsGenerated s.out a) answer →
     OrMemory (Untouched s) (ByGen shelf s a) answer
@@ -239,7 +246,7 @@ due_of_mode rule words shelf s a OutOfMemory ask h =
 due_of_mode rule words shelf s a _ ask h = asked a ask h
 
 -- whatever the answer, `gen` leaves the shelf as it was
-stays_in_gen : {H I O : Type 0} (rule : SpillRule) (words : List (List ℕ)) (shelf : Shelved H) (s : Streams I O) (answer : Answer) →
+pub stays_in_gen : {H I O : Type 0} (rule : SpillRule) (words : List (List ℕ)) (shelf : Shelved H) (s : Streams I O) (answer : Answer) →
     IsDue rule words shelf s answer → StaysInGen words shelf
 stays_in_gen rule words shelf s answer (usage is fault same u) = λ a ask gen. same
 stays_in_gen rule words shelf s answer (answered.no_memory is kept u) = kept
@@ -262,8 +269,9 @@ left_in rule Run shelf s a answer b h = untouched s answer b h.0
 left_in rule Exec shelf s a answer b h = untouched s answer b h.0
 left_in rule Alloc shelf s a answer b h = untouched s answer b h.1
 left_in rule Gen shelf s a answer b h = untouched s answer b h.2
+left_in rule Format shelf s a answer b h = untouched s answer b h.1
 
-left_alone : {H I O : Type 0} (rule : SpillRule) (words : List (List ℕ)) (shelf : Shelved H) (s : Streams I O) (answer : Answer) →
+pub left_alone : {H I O : Type 0} (rule : SpillRule) (words : List (List ℕ)) (shelf : Shelved H) (s : Streams I O) (answer : Answer) →
     IsBeforeStart answer → IsDue rule words shelf s answer → Untouched s
 left_alone rule words shelf s answer b (usage is fault same u) = u
 left_alone rule words shelf s answer b (answered.no_memory is kept u) = u
@@ -309,3 +317,4 @@ no_gen Run other is = absurd (cc)
 no_gen Exec other is = absurd (cc)
 no_gen Alloc other is = absurd (cc)
 no_gen Gen other is = absurd other
+no_gen Format other is = absurd (cc)

@@ -8,7 +8,7 @@ use Rattle.tg_base.specs.declared.ends.RunEnd.TheVariants.{Exit, Break, Overflow
 use Rattle.tg_base.specs.declared.ends.RunEnd.TheVariants.{BadService, ReadFault, WriteFault}
 use Rattle.tg_isa.specs.declared.images.Image.{Image}
 use Rattle.tg_command.specs.declared.modes.Mode.{Mode}
-use Rattle.tg_command.specs.declared.modes.Mode.TheVariants.{Check, Build, Run, Exec, Alloc, Gen}
+use Rattle.tg_command.specs.declared.modes.Mode.TheVariants.{Check, Build, Run, Exec, Alloc, Gen, Format}
 use Rattle.tg_command.specs.Commands.{Asked}
 use Rattle.tg_command.proofs.CommandLemmas.{asked_once, asked_no_fault}
 use Rattle.tg_driver.specs.declared.answers.Answer.{Answer}
@@ -21,7 +21,8 @@ use Rattle.tg_meant.specs.Sources.{IsSource}
 use Rattle.tg_driver.specs.Writing.{TextRelation, IsWritten}
 use Rattle.tg_driver.specs.RunMode.{IsRun}
 use Rattle.tg_driver.specs.ExecMode.{IsExecuted}
-use Rattle.tg_driver.specs.GenMode.{no_input, TakesSummary, IsGenerated}
+use Rattle.tg_driver.specs.GenMode.{no_input, summary, TakesSummary, IsGenerated}
+use Rattle.tg_driver.specs.Endings.{end_status}
 use Rattle.tg_driver.specs.Modes.{InMode, most_of}
 use Rattle.tg_driver.specs.Statuses.{line_of}
 use Rattle.tg_driver.specs.Telling.{IsTold}
@@ -29,6 +30,7 @@ use Rattle.tg_driver.specs.Answered.{IsDue, usage, no_memory, asked, Answers}
 use Rattle.tg_driver.specs.Laws.{HoldsFile, ReadsFile, IsGood, Gives, EndsAsTold, IsFaultyOrWritten, EndsGenerated, Settles, IsSettled}
 use Rattle.tg_driver.proofs.ExactRuns.{ends_as_told, ends_faultless}
 use Rattle.tg_driver.proofs.SourcesOnce.{meant_source, listed_source}
+use Rattle.tg_driver.proofs.CanonicalTexts.{of_formatted}
 
 -- the front of a file that the shelf holds
 front_is : (files : Files) (name : List ℕ) (most : ℕ) (text file : List ℕ) (at : List ℕ → Option (List ℕ)) → files ≡ Some at →
@@ -98,20 +100,34 @@ taken out due end answer kept other (nothing none is stays) = record { finished 
 taken out due end answer kept other (all some is a) = record { finished = is; written = other }
 taken out due end answer kept other (part is some f front) = absurd (kept f)
 
+-- what came of a summary: after a run that a failed write ended the sink took nothing more
+pub data Summed {O : Type 0} (out : Stream O) (functions source written : ℕ) (end : RunEnd) (answer : Answer) : Type 0 where
+  cut : end ≡ WriteFault → Stays out → answer ≡ Finished WriteFault → Summed out functions source written end answer
+  summed : (end ≡ WriteFault → ⊥) → Takes out (summary functions source written (end_status end)) (Finished end) Unwritten answer →
+      Summed out functions source written end answer
+
+pub summed_by : {O : Type 0} (out : Stream O) (functions source written : ℕ) (end : RunEnd) (answer : Answer) →
+    TakesSummary out functions source written end answer → Summed out functions source written end answer
+summed_by out functions source written WriteFault answer h = cut refl h.0 h.1
+summed_by out functions source written (Exit n) answer h = summed (λ e. absurd (cc)) h
+summed_by out functions source written (Break n) answer h = summed (λ e. absurd (cc)) h
+summed_by out functions source written Overflow answer h = summed (λ e. absurd (cc)) h
+summed_by out functions source written HeapFull answer h = summed (λ e. absurd (cc)) h
+summed_by out functions source written StackFull answer h = summed (λ e. absurd (cc)) h
+summed_by out functions source written StepLimit answer h = summed (λ e. absurd (cc)) h
+summed_by out functions source written (BadAddress n) answer h = summed (λ e. absurd (cc)) h
+summed_by out functions source written (Unaligned n) answer h = summed (λ e. absurd (cc)) h
+summed_by out functions source written (BadWord n) answer h = summed (λ e. absurd (cc)) h
+summed_by out functions source written (BadService n) answer h = summed (λ e. absurd (cc)) h
+summed_by out functions source written ReadFault answer h = summed (λ e. absurd (cc)) h
+
 pub passed : {O : Type 0} (out : Stream O) (functions source written : ℕ) (end : RunEnd) (answer : Answer) → (HasFailed out → ⊥) →
     (end ≡ WriteFault → ⊥) → TakesSummary out functions source written end answer → Passed end answer
-passed out functions source written WriteFault answer kept other h = absurd (other refl)
-passed out functions source written (Exit n) answer kept other h = taken out _ (Exit n) answer kept other h
-passed out functions source written (Break n) answer kept other h = taken out _ (Break n) answer kept other h
-passed out functions source written Overflow answer kept other h = taken out _ Overflow answer kept other h
-passed out functions source written HeapFull answer kept other h = taken out _ HeapFull answer kept other h
-passed out functions source written StackFull answer kept other h = taken out _ StackFull answer kept other h
-passed out functions source written StepLimit answer kept other h = taken out _ StepLimit answer kept other h
-passed out functions source written (BadAddress n) answer kept other h = taken out _ (BadAddress n) answer kept other h
-passed out functions source written (Unaligned n) answer kept other h = taken out _ (Unaligned n) answer kept other h
-passed out functions source written (BadWord n) answer kept other h = taken out _ (BadWord n) answer kept other h
-passed out functions source written (BadService n) answer kept other h = taken out _ (BadService n) answer kept other h
-passed out functions source written ReadFault answer kept other h = taken out _ ReadFault answer kept other h
+passed out functions source written end answer kept other h = by (summed_by out functions source written end answer h)
+  where
+    by : Summed out functions source written end answer → Passed end answer
+    by (cut is stays answered) = absurd (other is)
+    by (summed same takes) = taken out _ end answer kept other takes
 
 -- a run that ended at a failed write leaves a sink that has failed
 pub write_failed : {O : Type 0} (out : Stream O) (between : O) (functions source written : ℕ) (end : RunEnd) (answer : Answer) →
@@ -123,7 +139,7 @@ write_failed {O} out between functions source written end answer is rose h =
     let Q : O → Type 0 = λ x. Rose (out.faults out.before) (out.faults x) in
     subst Q (sym stays) rose
 
-no_read : Rose 0 0 → ⊥
+pub no_read : Rose 0 0 → ⊥
 no_read r = absurd (omega (arith, r))
 
 of_gen : {O : Type 0} (out : Stream O) (a : Asked) (answer : Answer) → (HasFailed out → ⊥) →
@@ -159,6 +175,8 @@ settled c a file Exec answer good reads h = of_exec c.streams a _ answer good.al
 settled c a file Alloc answer good reads h = of_written c.streams.out _ _ answer good.all_written (listed_source c.rule _)
     (to_text c.shelf a.file 262145 _ file answer (good.there (reads tt)) good.readable h.2)
 settled c a file Gen answer good reads h = of_gen c.streams.out a answer good.all_written h.3
+settled c a file Format answer good reads h = of_formatted c.streams.out _ answer good.all_written
+    (to_text c.shelf a.file 262145 _ file answer (good.there (reads tt)) good.readable h.2)
 
 -- a sink that is as it was took a text that is empty
 none_appended : (told : Option (List ℕ)) → Appends told told []

@@ -15,7 +15,7 @@ use Rattle.tg_types.specs.Accepted.{Finding, finding, accepted, at_fault}
 use Rattle.tg_driver.specs.declared.faults.Rule.{Rule}
 use Rattle.tg_driver.specs.declared.faults.Rule.TheVariants.{Lexical, Syntactic, Typed}
 use Rattle.tg_driver.specs.declared.faults.Fault.{Fault}
-use Rattle.tg_meant.specs.Sources.{HasTokens, HasTree, IsSourceOf}
+use Rattle.tg_meant.specs.Sources.{HasTokens, HasTree, IsSource, IsSourceOf}
 use Rattle.tg_driver.specs.Faults.{HasFault, lexical, syntactic, ill_typed, IsFaultOf}
 use Rattle.tg_driver.proofs.TokensOnce.{tokens_once, AreOne}
 
@@ -38,7 +38,7 @@ finding_once text n m a b p q s r =
     ap (λ x. finding x p) one.names ∙ ap (λ x. finding m x) one.same
 
 -- a fault of syntax in a text that is a tree
-no_tree : (text : List ℕ) (n m : List (List ℕ)) (a b : List Spanned) (p : SyntaxRule) (at : ℕ) (program : Exp) →
+pub no_tree : (text : List ℕ) (n m : List (List ℕ)) (a b : List Spanned) (p : SyntaxRule) (at : ℕ) (program : Exp) →
     HasTokens text n a → HasSyntaxFault a p at → HasTree text m b program → ⊥
 no_tree text n m a b p at program h f t =
     let one = tokens_once text n m a b h t.has_tokens in
@@ -99,6 +99,9 @@ source_excludes text rule at names tokens program (lexical f) s = fault_excludes
 source_excludes text rule at names tokens program (syntactic {names = n} {tokens = a} {rule = p} h f) s = no_tree text n names a tokens p at program h f s.tree
 source_excludes text rule at names tokens program (ill_typed {names = n} {tokens = a} {program = x} {rule = p} h f) s =
     not_accepted _ s.notes p at (finding_once text n names a tokens x program h s.tree ∙ s.well_typed) f
+
+pub never_refused : (text : List ℕ) (rule : Rule) (at : ℕ) → IsSource text → HasFault text rule at → ⊥
+never_refused text rule at s f = source_excludes text rule at s.names s.tokens s.program f s.source
 
 -- a source is one program, by one list of names
 pub source_once : (text : List ℕ) (n m : List (List ℕ)) (a b : List Spanned) (p q : Exp) → IsSourceOf text n a p → IsSourceOf text m b q → AreOne n m p q

@@ -5,6 +5,7 @@ pub mod LineLemmas
 pub mod TokensOnce
 pub mod FaultsOnce
 pub mod SourcesOnce
+pub mod CanonicalTexts
 pub mod ModesOnce
 pub mod ExactRuns
 pub mod MeantEnds
@@ -12,3 +13,4 @@ pub mod Complete
 pub mod MeantCommands
 pub mod AnswerLemmas
 mod Pieces
+mod Safety

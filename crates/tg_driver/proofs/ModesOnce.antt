@@ -6,7 +6,7 @@ use Rattle.tg_isa.specs.declared.images.Image.{Image}
 use Rattle.tg_isa.specs.Assembly.{Assembled, Fault as AsmFault, assembled}
 use Rattle.tg_asm.specs.Images.{image_of}
 use Rattle.tg_command.specs.declared.modes.Mode.{Mode}
-use Rattle.tg_command.specs.declared.modes.Mode.TheVariants.{Check, Build, Run, Exec, Alloc, Gen}
+use Rattle.tg_command.specs.declared.modes.Mode.TheVariants.{Check, Build, Run, Exec, Alloc, Gen, Format}
 use Rattle.tg_command.specs.Commands.{Asked}
 use Rattle.tg_driver.specs.declared.answers.Answer.{Answer}
 use Rattle.tg_driver.specs.declared.answers.Answer.TheVariants.{Faulty, BadLine, TooLong, Accepted, Written, Unwritten, Finished}
@@ -23,6 +23,7 @@ use Rattle.tg_driver.specs.Modes.{IsDueOfText}
 use Rattle.tg_driver.proofs.ExactRuns.{FaultlessRun}
 use Rattle.tg_driver.proofs.FaultsOnce.{fault_once_told}
 use Rattle.tg_driver.proofs.SourcesOnce.{no_fault, no_fault_of_meant}
+use Rattle.tg_driver.proofs.CanonicalTexts.{formattable_alike}
 
 checked_once : (text : List ℕ) (a b : Answer) → IsChecked text a → IsChecked text b → a ≡ b
 checked_once text (Faulty f) (Faulty g) p q = ap Faulty (fault_once_told text f g p q)
@@ -158,6 +159,7 @@ due_alike runs Run asked text a b p q = run_alike runs asked text a b p q
 due_alike runs Exec asked text a b p q = executed_alike runs runs asked text a b p q
 due_alike runs Alloc asked text a b p q = written_alike text a b p q
 due_alike runs Gen asked text a b p q = generated_alike a b p q
+due_alike runs Format asked text a b p q = formattable_alike text a b p q
 
 pub exec_once : (runs others : RunRelation) (asked : Asked) (text : List ℕ) (a b : Answer) →
     ((image : Image) (d e : RunEnd) → runs image asked.heap asked.stack asked.steps d → others image asked.heap asked.stack asked.steps e → d ≡ e) →

@@ -15,8 +15,8 @@ StaysInGen words shelf =
     (a : Asked) → Ask words a → a.mode ≡ Gen → shelf.after ≡ shelf.before
 
 -- The answer is due: the words are no command; memory was wanting, before anything was read from
--- the input or written, and in `gen` no file was asked for; or the mode that the words ask for gives
--- it.
+-- the input or written, and in `gen` no file was asked for; or the mode that the words ask for
+-- gives it.
 pub data IsDue {H I O : Type 0} (rule : SpillRule) (words : List (List ℕ))
     (shelf : Shelved H) (s : Streams I O) (answer : Answer) : Type 0 where
   usage :

@@ -5,6 +5,7 @@ use Rattle.tg_base.specs.declared.ends.RunEnd.TheVariants.{ReadFault, WriteFault
 use Rattle.tg_generate.specs.Generated.{generated}
 use Rattle.tg_command.specs.declared.modes.Mode.{Mode}
 use Rattle.tg_command.specs.declared.modes.Mode.TheVariants.{Check, Build, Run, Exec, Alloc, Gen}
+use Rattle.tg_command.specs.declared.modes.Mode.TheVariants.{Format}
 use Rattle.tg_command.specs.Commands.{Asked, Ask}
 use Rattle.tg_driver.specs.declared.answers.Answer.{Answer}
 use Rattle.tg_driver.specs.declared.answers.Answer.TheVariants.{Faulty, Written, Finished}
@@ -16,6 +17,7 @@ use Rattle.tg_driver.specs.Runs.{RunRelation, end_in, outcome_on}
 use Rattle.tg_driver.specs.CheckMode.{IsChecked}
 use Rattle.tg_driver.specs.RunMode.{IsRun}
 use Rattle.tg_driver.specs.ExecMode.{IsExecuted}
+use Rattle.tg_driver.specs.FormatMode.{IsFaultyOrFormatted}
 use Rattle.tg_driver.specs.Statuses.{status_of, line_of}
 
 -- no read and no write ended the run of the answer
@@ -76,6 +78,7 @@ Settles told Run asked text answer = IsRun (EndsAsTold told) asked text answer
 Settles told Exec asked text answer = IsExecuted (EndsAsTold told) asked text answer
 Settles told Alloc asked text answer = IsFaultyOrWritten text answer
 Settles told Gen asked text answer = EndsGenerated asked answer
+Settles told Format asked text answer = IsFaultyOrFormatted text answer
 
 -- the status and the line are those of an answer that is so settled
 pub record IsSettled {H I O E : Type 0} (c : Call H I O E)

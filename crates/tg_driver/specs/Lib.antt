@@ -10,12 +10,14 @@ pub mod BuildMode
 pub mod RunMode
 pub mod ExecMode
 pub mod AllocMode
+pub mod FormatMode
 pub mod Texts
 pub mod GenMode
 pub mod MeantEnds
 pub mod Modes
 pub mod Answered
 pub mod Laws
+pub mod Safe
 pub mod MeantCommands
 pub mod Readings
 pub mod Telling

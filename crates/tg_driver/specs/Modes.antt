@@ -4,6 +4,7 @@ use Rattle.std.specs.Prelude.{ℕ, ◌≡◌, List}
 use Rattle.tg_rounds.specs.Policies.{Rule as SpillRule}
 use Rattle.tg_command.specs.declared.modes.Mode.{Mode}
 use Rattle.tg_command.specs.declared.modes.Mode.TheVariants.{Check, Build, Run, Exec, Alloc, Gen}
+use Rattle.tg_command.specs.declared.modes.Mode.TheVariants.{Format}
 use Rattle.tg_command.specs.Commands.{Asked}
 use Rattle.tg_driver.specs.declared.answers.Answer.{Answer}
 use Rattle.tg_driver.specs.Calls.{Shelved, Streams, Untouched}
@@ -15,6 +16,7 @@ use Rattle.tg_driver.specs.RunMode.{IsRun, ByRun}
 use Rattle.tg_driver.specs.ExecMode.{IsExecuted, ByExec}
 use Rattle.tg_driver.specs.AllocMode.{ByAlloc}
 use Rattle.tg_driver.specs.GenMode.{IsGenerable, ByGen}
+use Rattle.tg_driver.specs.FormatMode.{IsFormattable, ByFormat}
 
 -- the answer is due in the mode; what `alloc` lists is by the rule of the call's policy
 abbrev pub InMode :
@@ -25,6 +27,7 @@ InMode rule Run shelf s asked answer = ByRun shelf s asked answer
 InMode rule Exec shelf s asked answer = ByExec shelf s asked answer
 InMode rule Alloc shelf s asked answer = ByAlloc rule shelf s asked answer
 InMode rule Gen shelf s asked answer = ByGen shelf s asked answer
+InMode rule Format shelf s asked answer = ByFormat shelf s asked answer
 
 -- what a mode left alone where memory was wanting: the streams, and in `gen` the shelf
 abbrev pub LeavesAlone : {H I O : Type 0} → Mode → Shelved H → Streams I O → Type 0
@@ -38,6 +41,7 @@ IsDueOfText runs Run asked text answer = IsRun runs asked text answer
 IsDueOfText runs Exec asked text answer = IsExecuted runs asked text answer
 IsDueOfText runs Alloc asked text answer = IsWritable text answer
 IsDueOfText runs Gen asked text answer = IsGenerable answer
+IsDueOfText runs Format asked text answer = IsFormattable text answer
 
 -- the bytes that a mode asks the shelf for: one more than its file may have
 abbrev pub most_of : Mode → ℕ

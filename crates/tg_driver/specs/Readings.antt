@@ -1,6 +1,7 @@
 -- What reading a text answers.
 use Rattle.std.specs.Prelude.{ℕ, ◌≡◌, List, Result, Ok, Err}
 use Rattle.tg_syntax.specs.declared.tokens.Spanned.{Spanned}
+use Rattle.tg_syntax.specs.declared.trees.Program.{Program}
 use Rattle.tg_syntax.specs.LexicalFaults.{HasLexicalFault}
 use Rattle.tg_syntax.specs.Plain.{plain}
 use Rattle.tg_syntax.specs.Tree.{Exp}
@@ -16,6 +17,7 @@ use Rattle.tg_types.specs.declared.faults.TypeFault.{TypeFault}
 use Rattle.tg_types.specs.declared.faults.TypeFault.TheVariants as typed
 use Rattle.tg_types.specs.Accepted.{finding, at_fault}
 use Rattle.tg_driver.specs.declared.reading.NamedProgram.{NamedProgram}
+use Rattle.tg_driver.specs.declared.reading.NamedTokens.{NamedTokens}
 use Rattle.tg_driver.specs.declared.refusals.Refusal.{Refusal}
 use Rattle.tg_driver.specs.declared.refusals.Refusal.TheVariants as refusal
 use Rattle.tg_driver.specs.declared.faults.Rule.TheVariants.{Lexical, Syntactic, Typed}
@@ -63,6 +65,25 @@ IsRefusalOf text refusal.Memory = Unit {0}
 pub record HasNamedTree (text : List ℕ) (names : List (List ℕ)) (program : Exp) : Type 0 where
   pub tokens : List Spanned
   pub tree : HasTree text names tokens program
+
+-- no fault of types
+abbrev pub IsUntypedRefusal : Refusal → Type 0
+IsUntypedRefusal (refusal.Typing rule at) = ⊥
+IsUntypedRefusal _ = Unit {0}
+
+-- the text's first fault, which isn't one of types
+pub record IsUntypedRefusalOf (text : List ℕ) (why : Refusal) : Type 0 where
+  pub is_of : IsRefusalOf text why
+  pub is_untyped : IsUntypedRefusal why
+
+abbrev pub IsLexed : List ℕ → Result NamedTokens Refusal → Type 0
+IsLexed text (Ok s) = HasTokens text s.names s.tokens.items
+IsLexed text (Err why) = IsUntypedRefusalOf text why
+
+-- what parsing the tokens of a text answers
+abbrev pub IsParsedFrom : List ℕ → NamedTokens → Result Program Refusal → Type 0
+IsParsedFrom text s (Ok p) = HasTree text s.names s.tokens.items (plain p.body)
+IsParsedFrom text s (Err why) = IsUntypedRefusalOf text why
 
 abbrev pub IsParsed : List ℕ → Result NamedProgram Refusal → Type 0
 IsParsed text (Ok s) = HasNamedTree text s.names (plain s.program.body)

@@ -1,10 +1,13 @@
-ghost use Rattle.std.specs.Prelude.{◌≡◌, ℕ, List};
+ghost use Rattle.std.specs.Prelude.{◌≡◌, ℕ, List, IfOk};
 ghost use Rattle.tg_syntax.specs.Plain.{plain};
+ghost use Rattle.tg_meant.specs.Builds.{CompilesTo};
+ghost use Rattle.tg_meant.specs.Sources.{IsSource};
 ghost use Rattle.tg_driver.specs.Readings.{HasNamedTree, IsCompiled};
 
 use crate::reading::{NamedProgram, ill_typed, parse_source};
 use crate::refusals::Refusal;
 use std::alloc::Global;
+use tg_base::Memory;
 use tg_compile::{Compiled, compile_checked};
 use tg_rounds::SpillPolicy;
 use tg_texts::literals_fit_text;
@@ -25,6 +28,27 @@ pub fn compile(
 {
     let source = parse_source(alloc, text)?;
     compile_program(alloc, &source, policy)
+}
+
+/// Compiles a text that is a program, as a generated one is. The policy is asked as by `compile`.
+#[tactic(auto, using(crate::proofs::FaultsOnce::never_refused))]
+pub(crate) fn compile_accepted(
+    alloc: Global,
+    text: &[u8],
+    policy: &mut dyn SpillPolicy,
+) -> Result<Compiled, Memory>
+    requires { IsSource text.now }
+    ensures compiled { IfOk result
+        (λ c. CompilesTo (rule policy.old) text.now c.allocations.items c.text.items) }
+    ensures same { rule policy.new ≡ rule policy.old }
+{
+    match compile(alloc, text, policy) {
+        Ok(compiled) => Ok(compiled),
+        Err(Refusal::Memory) => Err(Memory),
+        Err(Refusal::Lex { rule: _, at: _ }) => unreachable!(),
+        Err(Refusal::Syntax { rule: _, at: _ }) => unreachable!(),
+        Err(Refusal::Typing { rule: _, at: _ }) => unreachable!(),
+    }
 }
 
 /// Types the tree of a source and compiles it.

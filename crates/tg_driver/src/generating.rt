@@ -7,6 +7,7 @@ ghost use Rattle.tg_isa.specs.declared.images.Image.{Image as ImageOf};
 ghost use Rattle.tg_machine.specs.Machines.{loaded};
 ghost use Rattle.tg_command.specs.Counts.{IsWithin, function_limits};
 ghost use Rattle.tg_command.specs.Commands.{KeepsLimits, asked_of};
+ghost use Rattle.tg_meant.specs.Sources.{IsSource};
 ghost use Rattle.tg_driver.specs.Calls.{stream_of};
 ghost use Rattle.tg_driver.specs.Endings.{end_status};
 ghost use Rattle.tg_driver.specs.GenMode.{
@@ -20,13 +21,14 @@ ghost use Rattle.tg_driver.specs.GenMode.{
 ghost use Rattle.tg_driver.specs.OfFiles.{HasStarted, OrMemory, StaysBeforeStart};
 
 use crate::answers::Answer;
-use crate::compiling::compile;
+use crate::compiling::compile_accepted;
 use crate::endings::end_status;
 use crate::images::image_of;
 use std::alloc::Global;
 use tg_base::{Failed, PlainSource, RunEnd, Sink, write_all};
 use tg_command::Command;
 use tg_generate::generate;
+use tg_generated::generated_is_accepted;
 use tg_isa::Image;
 use tg_machine::{Machine, load};
 use tg_meant::built_is_as_meant;
@@ -46,13 +48,14 @@ pub(crate) fn answer_gen<O: Sink>(
         (asked_of command.now)) result }
     ensures before_start { StaysBeforeStart (stream_of O.taken O.faults out.old out.new) result }
 {
+    generated_is_accepted();
     match generate(alloc, command.number) {
         Ok(text) => run_generated(alloc, command, &text, out, policy),
         Err(_) => Answer::OutOfMemory,
     }
 }
 
-/// The answer of a generated source. A refusal of it is told as want of memory.
+/// The answer of a generated source.
 fn run_generated<O: Sink>(
     alloc: Global,
     command: &Command,
@@ -60,13 +63,14 @@ fn run_generated<O: Sink>(
     out: &mut O,
     policy: &mut dyn SpillPolicy,
 ) -> Answer
-    requires { KeepsLimits (asked_of command.now) }
+    requires limits { KeepsLimits (asked_of command.now) }
+    requires source { IsSource text.now }
     ensures due { OrMemory ⊤ (SumsUpMeant (stream_of O.taken O.faults out.old out.new)
         command.now.number text.now command.now.heap command.now.stack command.now.steps) result }
     ensures before_start { StaysBeforeStart (stream_of O.taken O.faults out.old out.new) result }
 {
     built_is_as_meant();
-    match compile(alloc, text, policy) {
+    match compile_accepted(alloc, text, policy) {
         Ok(compiled) => match image_of(alloc, &compiled.text) {
             Ok(image) => execute_generated(alloc, command, &image, text.len(), out),
             Err(_) => Answer::OutOfMemory,

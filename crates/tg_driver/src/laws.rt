@@ -3,10 +3,11 @@ ghost use Rattle.tg_base.specs.declared.ends.RunEnd.{RunEnd};
 ghost use Rattle.tg_isa.specs.declared.images.Image.{Image};
 ghost use Rattle.tg_command.specs.Commands.{Asked};
 ghost use Rattle.tg_driver.specs.declared.answers.Answer.{Answer};
-ghost use Rattle.tg_driver.specs.declared.answers.Answer.TheVariants.{Finished, OutOfMemory};
+ghost use Rattle.tg_driver.specs.declared.answers.Answer.TheVariants.{Finished, OutOfMemory, Written};
 ghost use Rattle.tg_driver.specs.Answered.{Answers};
-ghost use Rattle.tg_driver.specs.Calls.{Call, Streams};
+ghost use Rattle.tg_driver.specs.Calls.{Call, Stream, Streams};
 ghost use Rattle.tg_driver.specs.ExecMode.{IsExecuted};
+ghost use Rattle.tg_driver.specs.FormatMode.{Formats, IsFormatted, TakeOneText};
 ghost use Rattle.tg_driver.specs.Laws.{Gives, IsFaultless, IsGood, IsSettled};
 ghost use Rattle.tg_driver.specs.Meanings.{SourcesAreNeverStuck};
 ghost use Rattle.tg_driver.specs.MeantCommands.{DoesAsMeant};
@@ -14,6 +15,7 @@ ghost use Rattle.tg_driver.specs.MeantEnds.{GeneratedAreMeant, RunsAreMeant, Sta
 ghost use Rattle.tg_driver.specs.Modes.{IsDueOfText, most_of};
 ghost use Rattle.tg_driver.specs.OfFiles.{HasStarted};
 ghost use Rattle.tg_driver.specs.Runs.{HasRun, IsExact};
+ghost use Rattle.tg_driver.specs.Safe.{IsSafe};
 
 use tg_meant::{ends_are_as_meant, exits_are_words};
 
@@ -51,6 +53,14 @@ pub fn answers_are_exact<I, O, J, P>()
         → IsExecuted (HasRun s) asked text a
         → IsExecuted (HasRun t) asked text b
         → a ≡ b }
+{}
+
+/// The law of what a call leaves, whatever it is given: a refusal touches no stream, what a mode
+/// doesn't read is as it was, what the output took is a front of what was to be written, and each
+/// failed read or write has a count as its cause. It does nothing.
+pub fn answers_are_safe<H, I, O, E>()
+    ensures { (c : Call H I O E) (status : ℕ) (given : Answers c status)
+        → IsSafe c status given.answer }
 {}
 
 /// The law that a call with good words for a file that is there, in which no count of faults rose,
@@ -92,3 +102,13 @@ pub fn commands_are_as_meant<H, I, O, E>()
 {
     ends_are_as_meant();
 }
+
+/// Laws of `format`: a source has at most one canonical text; so two calls that write one of one
+/// source write the same, whatever the policies. They do nothing.
+pub fn formats_once<O, P>()
+    ensures text { (source one other : List ℕ) → Formats source one → Formats source other
+        → one ≡ other }
+    ensures calls { (out : Stream O) (other : Stream P) (source : List ℕ)
+        → IsFormatted out source Written → IsFormatted other source Written
+        → TakeOneText out other }
+{}

@@ -9,6 +9,7 @@ mod compiling;
 mod endings;
 mod executing;
 mod faults;
+mod formatting;
 mod generating;
 mod images;
 mod laws;
@@ -24,8 +25,8 @@ mod writing;
 pub use answers::usage;
 pub use compiling::compile;
 pub use laws::{
-    answers_are_complete, answers_are_exact, commands_are_as_meant, one_answer, runs_are_as_meant,
-    runs_are_exact, sources_are_never_stuck,
+    answers_are_complete, answers_are_exact, answers_are_safe, commands_are_as_meant, formats_once,
+    one_answer, runs_are_as_meant, runs_are_exact, sources_are_never_stuck,
 };
 pub use refusals::Refusal;
 pub use tg_compile::Compiled;

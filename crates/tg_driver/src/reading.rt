@@ -1,18 +1,22 @@
 ghost use Rattle.std.specs.Prelude.{ℕ, List};
 ghost use Rattle.tg_driver.specs.Readings.{
   IsLexFaultOf,
+  IsLexed,
   IsParsed,
+  IsParsedFrom,
   IsRefusalOf,
   IsSyntaxFaultOf,
   IsTypeFaultOf,
+  IsUntypedRefusalOf,
 };
+ghost use Rattle.tg_meant.specs.Sources.{HasTokens};
 
 use crate::refusals::Refusal;
 use std::alloc::Global;
 use tg_base::Names;
 use tg_lexer::{LexFault, lex};
 use tg_parser::{SyntaxFault, parse};
-use tg_syntax::Program;
+use tg_syntax::{Program, Spanned};
 use tg_types::TypeFault;
 
 /// The most bytes of a source.
@@ -26,24 +30,52 @@ pub(crate) struct NamedProgram {
     pub(crate) names: Names,
 }
 
+/// The tokens of a text with its names.
+#[derive(Drop)]
+pub(crate) struct NamedTokens {
+    pub(crate) tokens: Vec<Spanned>,
+    /// The texts of its identifiers, which the tokens have by their numbers.
+    pub(crate) names: Names,
+}
+
 /// The tree of a text, whose types aren't looked at, or its first fault of lexemes or syntax.
 pub(crate) fn parse_source(alloc: Global, text: &[u8]) -> Result<NamedProgram, Refusal>
     ensures { IsParsed text.now result }
 {
+    let source = lex_source(alloc, text)?;
+    let program = parse_tokens(alloc, &source)?;
+    Ok(NamedProgram {
+        program,
+        names: source.names,
+    })
+}
+
+/// The tokens of a text, or its first fault of lexemes.
+pub(crate) fn lex_source(alloc: Global, text: &[u8]) -> Result<NamedTokens, Refusal>
+    ensures { IsLexed text.now result }
+{
     let mut names = Names::new(alloc);
-    let tokens = match lex(alloc, text, &mut names) {
-        Ok(tokens) => tokens,
-        Err(fault) => return Err(lexical(fault)),
-    };
-    match parse(alloc, &tokens) {
-        Ok(program) => Ok(NamedProgram { program, names }),
+    match lex(alloc, text, &mut names) {
+        Ok(tokens) => Ok(NamedTokens { tokens, names }),
+        Err(fault) => Err(lexical(fault)),
+    }
+}
+
+/// The tree of the tokens of a text, or its first fault of syntax.
+pub(crate) fn parse_tokens(alloc: Global, source: &NamedTokens) -> Result<Program, Refusal>
+    requires { (text : List ℕ) × HasTokens text source.now.names source.now.tokens.items }
+    ensures { (text : List ℕ) → HasTokens text source.now.names source.now.tokens.items
+        → IsParsedFrom text source.now result }
+{
+    match parse(alloc, &source.tokens) {
+        Ok(program) => Ok(program),
         Err(fault) => Err(syntactic(fault)),
     }
 }
 
 /// The refusal of a text that has a lexical fault.
 fn lexical(fault: LexFault) -> Refusal
-    ensures { (text : List ℕ) → IsLexFaultOf text fault → IsRefusalOf text result }
+    ensures { (text : List ℕ) → IsLexFaultOf text fault → IsUntypedRefusalOf text result }
 {
     match fault {
         LexFault::Bad { rule, at } => Refusal::Lex { rule, at },
@@ -53,7 +85,7 @@ fn lexical(fault: LexFault) -> Refusal
 
 /// The refusal of a text whose tokens have a fault of syntax.
 fn syntactic(fault: SyntaxFault) -> Refusal
-    ensures { (text : List ℕ) → IsSyntaxFaultOf text fault → IsRefusalOf text result }
+    ensures { (text : List ℕ) → IsSyntaxFaultOf text fault → IsUntypedRefusalOf text result }
 {
     match fault {
         SyntaxFault::Bad { rule, at } => Refusal::Syntax { rule, at },

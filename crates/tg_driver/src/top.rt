@@ -10,6 +10,7 @@ ghost use Rattle.tg_driver.specs.OfFiles.{OfFile, OrMemory, StaysBeforeStart};
 use crate::answers::Answer;
 use crate::checking::answer_check;
 use crate::executing::answer_exec;
+use crate::formatting::answer_format;
 use crate::generating::answer_gen;
 use crate::running::answer_run;
 use crate::streams::Streams;
@@ -98,6 +99,7 @@ fn answer_command<H: Shelf, I: Source, O: Sink>(
         Mode::Exec => answer_exec(alloc, command, shelf, streams),
         Mode::Alloc => answer_written(alloc, command, shelf, streams, policy, Wanted::Allocations),
         Mode::Gen => generate_to(alloc, command, streams, policy),
+        Mode::Format => answer_format(alloc, command, shelf, streams),
     }
 }
 

@@ -114,7 +114,7 @@ fn wanted_text(alloc: Global, compiled: Compiled, wanted: Wanted) -> Result<Vec<
 }
 
 /// Writes the text that is due to the output.
-fn write_text<O: Sink>(out: &mut O, text: &[u8]) -> Answer
+pub(crate) fn write_text<O: Sink>(out: &mut O, text: &[u8]) -> Answer
     ensures takes { TakesText (stream_of O.taken O.faults out.old out.new) text.now result }
     ensures started { HasStarted result }
 {

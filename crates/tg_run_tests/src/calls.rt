@@ -2,7 +2,7 @@ use std::alloc::{AllocError, Global};
 use std::collections::BTreeMap;
 use std::process::Abort;
 use std::test::Fail;
-use tg_base::{ListSource, MapShelf, RoomSink};
+use tg_base::{ListSource, MapShelf, RoomSink, Source};
 use tg_driver::{Tools, tiger};
 use tg_rounds::{LeastUse, SpillPolicy};
 
@@ -34,18 +34,22 @@ impl<'a> Outside<'a> {
     }
 }
 
-/// What a call left: the status, the bytes of the sinks, and the counts of calls and faults.
+/// What a call left: the status, the bytes of the sinks, how many of the input were taken, and the
+/// counts of calls and faults.
 #[derive(Drop)]
 pub(crate) struct Seen {
     pub(crate) status: u8,
     pub(crate) error: Vec<u8>,
     pub(crate) out: Vec<u8>,
+    pub(crate) read: usize,
     pub(crate) files_asked: u64,
     pub(crate) files_failed: u64,
     pub(crate) reads: u64,
+    pub(crate) reads_failed: u64,
     pub(crate) writes: u64,
-    pub(crate) lines_failed: u64,
     pub(crate) writes_failed: u64,
+    pub(crate) lines: u64,
+    pub(crate) lines_failed: u64,
 }
 
 /// The words of a line, with a `|` between them.
@@ -105,10 +109,23 @@ pub(crate) fn call_with(
         files_asked: shelf.calls(),
         files_failed: shelf.faults(),
         reads: input.calls(),
+        reads_failed: input.faults(),
         writes: out.calls(),
-        lines_failed: err.faults(),
         writes_failed: out.faults(),
+        lines: err.calls(),
+        lines_failed: err.faults(),
+        read: outside.input.len().saturating_sub(left_in(input)?),
     })
+}
+
+/// How many bytes a source has left, at most 64; the next read of it doesn't fail.
+fn left_in(input: ListSource) -> Result<usize, Fail> {
+    let mut input = input;
+    let mut rest = [0; 64];
+    match input.read(&mut rest) {
+        Ok(left) => Ok(left),
+        Err(_) => Err(Fail::from("no read")),
+    }
 }
 
 /// The status that a row begins with, and what stands behind the blank.

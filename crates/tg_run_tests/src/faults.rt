@@ -5,7 +5,7 @@ use std::test::Fail;
 
 // The line of a fault of tokens, but for `tiger: ` and the newline, a `|`, and a text that has it.
 // The last of them have several.
-static TOKEN_FAULTS: [&str; 56] = [
+pub(crate) static TOKEN_FAULTS: [&str; 56] = [
     "1:1: L1 illegal character|?",
     "2:2: L1 illegal character|exit(1)\n @",
     "1:1: L1 illegal character|_a",
@@ -65,7 +65,7 @@ static TOKEN_FAULTS: [&str; 56] = [
 ];
 
 // The same of a fault of grammar.
-static GRAMMAR_FAULTS: [&str; 47] = [
+pub(crate) static GRAMMAR_FAULTS: [&str; 47] = [
     "1:1: S1 unexpected token|",
     "1:4: S1 unexpected token|   ",
     "2:1: S1 unexpected token|/* only */\r\n",
@@ -116,7 +116,7 @@ static GRAMMAR_FAULTS: [&str; 47] = [
 ];
 
 // The same of a fault of types.
-static TYPE_FAULTS: [&str; 156] = [
+pub(crate) static TYPE_FAULTS: [&str; 156] = [
     "1:67: T6 type mismatch|let type a={x:int} type b={x:int} var p:a:=nil var q:b:=nil \
      in p:=q end",
     "1:10: T19 type cycle|let type a=b type b=a in end",

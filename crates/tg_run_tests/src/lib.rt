@@ -6,7 +6,11 @@
 #[cfg(test)]
 mod calls;
 #[cfg(test)]
+mod failures;
+#[cfg(test)]
 mod faults;
+#[cfg(test)]
+mod formats;
 #[cfg(test)]
 mod languages;
 #[cfg(test)]

@@ -1,4 +1,5 @@
 use crate::calls::{answers, refused, repeated};
+use std::alloc::{AllocError, Global};
 use std::test::Fail;
 
 // Texts of programs that have types.
@@ -64,18 +65,23 @@ static QUEENS: [&str; 19] = [
     "in try(0) end",
 ];
 
+/// The file of the eight queens.
+pub(crate) fn queens(alloc: Global) -> Result<Vec<u8>, AllocError> {
+    let mut text = Vec::new(alloc);
+    for line in QUEENS {
+        text.extend_from_slice(line.as_bytes())?;
+        text.push(b'\n')?;
+    }
+    Ok(text)
+}
+
 #[test]
 fn programs_with_types(rt: HostRuntime) -> Result<(), Fail> {
     let alloc = rt.alloc();
     for text in ACCEPTED {
         answers(&rt, alloc, "tiger|check|FILE", text.as_bytes(), 0, "")?;
     }
-    let mut queens = Vec::new(alloc);
-    for line in QUEENS {
-        queens.extend_from_slice(line.as_bytes())?;
-        queens.push(b'\n')?;
-    }
-    answers(&rt, alloc, "tiger|check|FILE", &queens, 0, "")
+    answers(&rt, alloc, "tiger|check|FILE", &queens(alloc)?, 0, "")
 }
 
 // So many functions, each but the first declared in the body of another.

@@ -138,12 +138,13 @@ static LINES: [&str; 37] = [
 
 // The mode, the heap, the stack, the steps and the file that a command line asks for, with blanks
 // between them, a `|`, and the line.
-static TAKEN: [&str; 25] = [
+static TAKEN: [&str; 26] = [
     "run 16777216 67108864 1000000000 a.tig|tiger|run|a.tig",
     "check 16777216 67108864 1000000000 a.tig|tiger|check|a.tig",
     "exec 16777216 67108864 10 a.s|tiger|exec|a.s|--steps|10",
     "build 16777216 67108864 1000000000 a|tiger|build|a",
     "alloc 16777216 67108864 1000000000 a|tiger|alloc|a",
+    "format 16777216 67108864 1000000000 a|tiger|format|a",
     "gen 16777216 67108864 1000000000 0017|tiger|gen|0017",
     "gen 16777216 67108864 1000000000 1000|tiger|gen|1000",
     "run 16777216 67108864 1000000000 a.s|tiger|run|a.s",
@@ -205,6 +206,7 @@ fn told(alloc: Global, command: &Command) -> Result<String, AllocError> {
         Mode::Exec => "exec",
         Mode::Alloc => "alloc",
         Mode::Gen => "gen",
+        Mode::Format => "format",
     };
     let file = command.file.as_str();
     let (heap, stack, steps) = (command.heap, command.stack, command.steps);

@@ -1,6 +1,12 @@
 use Rattle.tg_driver.specs.Calls.{stream_of}
+use Rattle.tg_meant.specs.Sources.{IsSource}
 use Rattle.tg_driver.proofs.AnswerLemmas.{in_number}
 use Rattle.tg_driver.proofs.generating.answer_gen.Goals as goal
+
+pub run_generated-requires-clause-source : goal.run_generated-requires-clause-source
+run_generated-requires-clause-source g c =
+    let is : IsSource _ = c.generated_is_accepted.ensures c.args.command.now.number c.requires.number.least c.requires.number.most in
+    rw (c.deref.ensures.value, c.in-Ok.ensures) is
 
 pub returns-in-Ok-clause-due : goal.returns-in-Ok-clause-due
 returns-in-Ok-clause-due g c =

@@ -1,10 +1,10 @@
 use Rattle.std.proofs.Common.{refl}
-use Rattle.tg_command.specs.declared.modes.Mode.TheVariants.{Check, Build, Run, Exec, Alloc, Gen}
+use Rattle.tg_command.specs.declared.modes.Mode.TheVariants.{Check, Build, Run, Exec, Alloc, Gen, Format}
 use Rattle.tg_command.specs.Commands.{asked_of}
 use Rattle.tg_driver.specs.Calls.{shelf_of, stream_of, streams_of}
 use Rattle.tg_meant.specs.Meant.{IsAsMeant}
 use Rattle.tg_driver.specs.AllocMode.{Lists}
-use Rattle.tg_driver.proofs.AnswerLemmas.{by_check, by_writing, by_run, by_exec, by_gen, in_mode, no_gen}
+use Rattle.tg_driver.proofs.AnswerLemmas.{by_check, by_writing, by_run, by_exec, by_gen, by_format, in_mode, no_gen}
 use Rattle.tg_driver.proofs.top.answer_command.Goals as goal
 
 pub returns-in-Check-clause-due : goal.returns-in-Check-clause-due
@@ -58,6 +58,16 @@ returns-in-Alloc-clause-due g c =
     in_mode _ Alloc shelf streams asked c.answer_written-in-Alloc.result (no_gen Alloc tt) c.in-Alloc.is
     (by_writing shelf streams (Lists _) asked c.answer_written-in-Alloc.result c.answer_written-in-Alloc.ensures.unread
     c.answer_written-in-Alloc.ensures.before_start c.answer_written-in-Alloc.ensures.due)
+
+pub returns-in-Format-clause-due : goal.returns-in-Format-clause-due
+returns-in-Format-clause-due g c =
+    let shelf = shelf_of g.H.Shelf.files g.H.Shelf.faults c.args.shelf.now c.answer_format.new.shelf in
+    let streams = streams_of
+    (stream_of g.I.Source.left g.I.Source.faults c.args.streams.input.now c.answer_format.new.streams.0)
+    (stream_of g.O.Sink.taken g.O.Sink.faults c.args.streams.out.now c.answer_format.new.streams.1.0) in
+    let asked = asked_of c.args.command.now in
+    in_mode _ Format shelf streams asked c.answer_format.result (no_gen Format tt) c.in-Format.is
+    (by_format shelf streams asked c.answer_format.result c.answer_format.ensures.unread c.answer_format.ensures.before_start c.answer_format.ensures.due)
 
 pub returns-in-Gen-clause-due : goal.returns-in-Gen-clause-due
 returns-in-Gen-clause-due g c =
