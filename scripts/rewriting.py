@@ -122,7 +122,7 @@ def text_of(quoted):
 
     def meant(found):
         it = found[1]
-        return chr(int(it[1:], 16)) if it[0] in "xX" else chr(int(it, 8)) if it[0] in "01234567" else NAMED.get(it, it)
+        return chr(int(it[1:], 16)) if it[0] in "xX" else chr(int(it, 8) % 256) if it[0] in "01234567" else NAMED.get(it, it)
 
     return ESCAPE.sub(meant, quoted[1:-1])
 
@@ -152,16 +152,18 @@ def operands(rest):
     return found
 
 
-def rewritten(text):
+def rewritten(text, is_marked=False):
     """The rewriting of a text, with routines where it asks for a service that they answer."""
-    plain = Rewriting(text)
-    return Rewriting(text, True) if plain.services & BY_ROUTINES else plain
+    plain = Rewriting(text, is_marked=is_marked)
+    return Rewriting(text, True, is_marked) if plain.services & BY_ROUTINES else plain
 
 
 class Rewriting:
-    """The rewritten lines, and for each the number of the line that it came from."""
+    """The rewritten lines, and for each the number of the line that it came from. Where the text is marked each instruction
+    writes the number of its line first, in two bytes."""
 
-    def __init__(self, text, has_routines=False):
+    def __init__(self, text, has_routines=False, is_marked=False):
+        self.is_marked = is_marked
         self.lines, self.origins, self.at, self.locals = [], [], 0, 0
         self.constants, self.service, self.services, self.has_routines = {}, None, set(), has_routines
         self.source = text.splitlines()
@@ -202,8 +204,11 @@ class Rewriting:
         """The operands of a directive as numbers and labels, with `value:count` written out."""
         for it in given:
             value, _, count = it.partition(":") if it[0] != "'" else (it, "", "")
-            for _ in range(int(count, 0) if count else 1):
-                yield number(value) if number(value) is not None else value
+            times = number(count) if count else 1
+            if times is None or number(value) is None:
+                yield it
+            else:
+                yield from [number(value)] * times
 
     def directive(self, word, given, rest):
         if word in (".text", ".data", ".rdata", ".sdata"):
@@ -235,6 +240,7 @@ class Rewriting:
         main begins at its first instruction, as in MARS."""
         self.put(*["main:"] * (not self.has_main))
         self.has_main = True
+        self.put(*self.mark() if self.is_marked else [])
         ways = (self.known, self.branches, self.sums, self.products, self.comparisons, self.shifts, self.accesses)
         for way in ways:
             try:
@@ -247,6 +253,10 @@ class Rewriting:
         else:
             self.put(" ".join([word, ", ".join(given)]))
         self.note_service(word, given)
+
+    def mark(self):
+        saved, back = ["move $k0, $a0", "move $k1, $v0", "li $v0, 11"], ["move $a0, $k0", "move $v0, $k1"]
+        return [*saved, *(it for byte in divmod(self.at, 256) for it in (f"li $a0, {byte % 256}", "syscall")), *back]
 
     def note_service(self, word, given):
         """Keeps the number in $v0, where the lines so far tell it."""
@@ -263,6 +273,7 @@ class Rewriting:
         return (operand, []) if value is None else ("$zero", []) if value == 0 else ("$at", [f"li $at, {value}"])
 
     def known(self, word, *given):
+        """A service that a routine may answer, `li` of a character, and what takes two registers."""
         if word == "syscall" and self.has_routines and (self.service is None or self.service in BY_ROUTINES):
             back = self.local()
             return [f"la $k1, {back}", "j spim_service", f"{back}:"]
@@ -277,6 +288,7 @@ class Rewriting:
         return None
 
     def branches(self, word, *given):
+        """Branches by an order, by a number, or always."""
         kind = word.removesuffix("u")
         if word == "b":
             return [f"beq $zero, $zero, {given[0]}"]
@@ -310,6 +322,7 @@ class Rewriting:
         return [f"li $at, {value}", f"{long} {into}, {one}, $at"]
 
     def products(self, word, *given):
+        """Products, quotients and remainders in a register; a divisor of 0 ends the run."""
         if word in ("mul", "mulo") and len(given) == 3:
             into, one, other = given
             other, load = self.register(other)
@@ -323,6 +336,7 @@ class Rewriting:
         return None
 
     def comparisons(self, word, *given):
+        """Comparisons that give 0 or 1."""
         kind = word.removesuffix("u")
         if word not in ("seq", "sne") and kind not in COMPARED:
             return None
@@ -336,7 +350,11 @@ class Rewriting:
         return [*load, f"slt{'u' if word != kind else ''} {into}, {pair}", *[f"xori {into}, {into}, 1"] * is_negated]
 
     def shifts(self, word, *given):
-        """A shift by a register: bit by bit."""
+        """A turn by a number, or a shift by a register: bit by bit."""
+        if word in ("rol", "ror") and number(given[-1]) is not None:
+            into, one, count = given
+            left = number(count) % 32 if word == "rol" else -number(count) % 32
+            return [f"sll $at, {one}, {left}", f"srl {into}, {one}, {-left % 32}", f"or {into}, {into}, $at"]
         kind = word.removesuffix("v")
         if kind not in ("sll", "srl", "sra"):
             return None

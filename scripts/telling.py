@@ -58,10 +58,10 @@ def cure_of(rule, before, at):
     return "docs/FAULTS.md has the cases of T6" if rule == "T6" else cures()[rule]
 
 
-def shown(place, words, line, column, cure):
+def shown(path, place, words, line, column, cure):
     """The lines that tell a fault, of which the mark has the tabs that the line has."""
     mark = "".join("\t" if it == "\t" else " " for it in line[: column - 1])
-    return f"{place}: {words}\n{line}\n{mark}^\ncure: {cure}\n"
+    return os.fsencode(path) + f":{place}: {words}\n{line}\n{mark}^\ncure: {cure}\n".encode("latin-1", "replace")
 
 
 def source_fault(path, line, column, rule, words):
@@ -71,7 +71,7 @@ def source_fault(path, line, column, rule, words):
     at, before = text[column - 1 :], "\n".join([*lines[: line - 1], text[: column - 1]])
     name = re.match(r"[A-Za-z0-9_]+|[:<>]?=|<>|[!-~]", at) if rule in NAMED else None
     named = f"{rule} {words}" + (f" {name[0]}" if name else "" if at or rule != "S1" else ", at the line's end")
-    return shown(f"{path}:{line}:{column}", named, text, column, cure_of(rule, before, at))
+    return shown(path, f"{line}:{column}", named, text, column, cure_of(rule, before, at))
 
 
 def text_fault(path, line, rule, words, origins):
@@ -83,7 +83,8 @@ def text_fault(path, line, rule, words, origins):
     last = re.search(r"([\w.$]+)\s*(?:#.*)?$", text)
     name = item[1] if rule == "A2" else last[1] if rule == "A5" and last else ""
     column = (last.start(1) if rule == "A5" and last else item.start(1)) + 1
-    return shown(f"{path}:{line}", f"{rule} {words} {name}".rstrip(), text, column, cures()[rule])
+    cure = "docs/SPIM.md says what is there" if origins and rule == "A2" else cures()[rule]
+    return shown(path, line, f"{rule} {words} {name}".rstrip(), text, column, cure)
 
 
 def end_of(told):
@@ -92,24 +93,24 @@ def end_of(told):
     return words[1] if words and words[1] in cures() else None
 
 
-def tell(told, path, origins, is_open):
+def tell(told, path, origins, is_open, locate):
     """Writes a line of the program, with what is known of it."""
     found, in_text, end = FAULT.fullmatch(told), LINE_FAULT.fullmatch(told), end_of(told)
     if found:
         line, column, *words = (it.decode("latin-1") for it in found.groups())
-        told = source_fault(path, int(line), int(column), *words).encode("latin-1")
+        told = source_fault(path, int(line), int(column), *words)
     elif in_text:
         line, *words = (it.decode("latin-1") for it in in_text.groups())
-        told = text_fault(path, int(line), *words, origins).encode("latin-1")
+        told = text_fault(path, int(line), *words, origins)
     elif end:
-        told = b"\n" * is_open + told + f"{cures()[end]}\n".encode()
+        told = b"\n" * is_open + told + locate() + f"{cures()[end]}\n".encode()
     sys.stderr.buffer.write(told)
     sys.stderr.buffer.flush()
 
 
-def run(words, path, origins=None):
+def run(words, path, origins=None, locate=bytes):
     """Runs the program on the caller's input; output passes through. Returns the status. Faults are those of the file at
-    the path; where its text was rewritten, `origins` has the line of each rewritten one."""
+    the path; where its text was rewritten, `origins` has the line of each rewritten one. `locate` tells where a run ended."""
     command = subprocess.Popen([PROGRAM, *words], stdout=subprocess.PIPE, stderr=subprocess.PIPE)
     told = []
 
@@ -130,5 +131,5 @@ def run(words, path, origins=None):
         sys.stdout.buffer.flush()
     listener.join()
     for line in told:
-        tell(line, path, origins, last != b"\n")
+        tell(line, path, origins, last != b"\n", locate)
     return command.wait()
