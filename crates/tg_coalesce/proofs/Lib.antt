@@ -5,6 +5,7 @@ pub mod Keeping
 pub mod Examples
 pub mod Folds
 pub mod Left
+mod Limits
 pub mod Stepping
 pub mod Edges
 pub mod Ends

@@ -1,4 +1,4 @@
-ghost use Rattle.std.specs.Prelude.{◌≡◌, ◌<◌, ◌≤◌, ◌⊎◌};
+ghost use Rattle.std.specs.Prelude.{◌≡◌, ◌<◌, ◌≤◌, ◌⊎◌, min};
 ghost use Rattle.tg_graph.specs.Interference.{colours};
 ghost use Rattle.tg_coalesce.specs.Passing.{
   high_apart,
@@ -37,7 +37,7 @@ impl Coalescer {
         requires temporary { colours ≤ temporary }
         ensures { result ≡ passes_george self.now register temporary }
     {
-        self.high_apart(temporary, register) == 0
+        self.high_apart(temporary, register, 1) == 0
     }
 
     /// Whether the class that two temporaries would make has fewer high neighbours than there are
@@ -49,41 +49,50 @@ impl Coalescer {
         requires second { colours ≤ other }
         ensures { result ≡ passes_briggs self.now one other }
     {
-        // (read so that it is known to be at most `most_nodes`: the sum fits)
-        let _nodes = self.graph.nodes();
-        self.high_around(one) + self.high_apart(other, one) < COLOURS
+        let room = COLOURS - self.high_around(one, COLOURS);
+        if room == 0 {
+            return false;
+        }
+        self.high_apart(other, one, room) < room
     }
 
-    /// How many high neighbours a temporary has.
-    fn high_around(&self, node: u32) -> u32
+    /// How many high neighbours a temporary has, counted up to a limit.
+    fn high_around(&self, node: u32, limit: u32) -> u32
         requires node { node < self.now.graph.nodes }
         requires temporary { colours ≤ node }
-        ensures value { result ≡ high_around self.now node }
-        ensures bound { result ≤ self.now.graph.nodes }
+        requires limit { 0 < limit }
+        ensures value { result ≡ min (high_around self.now node) limit }
+        ensures bound { result ≤ limit }
     {
         let mut count = 0;
-        for place in 0..self.graph.degree(node) {
-            let other = self.graph.neighbours(node)[place as usize];
-            if self.is_high(other) {
+        for other in self.graph.neighbours(node) {
+            if self.is_high(*other) {
                 count += 1;
+                if count == limit {
+                    return limit;
+                }
             }
         }
         count
     }
 
-    /// How many high neighbours a temporary has that do not interfere with another node.
-    fn high_apart(&self, node: u32, apart: u32) -> u32
+    /// How many high neighbours a temporary has that do not interfere with another node, counted up
+    /// to a limit.
+    fn high_apart(&self, node: u32, apart: u32, limit: u32) -> u32
         requires node { node < self.now.graph.nodes }
         requires apart { apart < self.now.graph.nodes }
         requires temporary { colours ≤ node }
-        ensures value { result ≡ high_apart self.now node apart }
-        ensures bound { result ≤ self.now.graph.nodes }
+        requires limit { 0 < limit }
+        ensures value { result ≡ min (high_apart self.now node apart) limit }
+        ensures bound { result ≤ limit }
     {
         let mut count = 0;
-        for place in 0..self.graph.degree(node) {
-            let other = self.graph.neighbours(node)[place as usize];
-            if self.is_high(other) && !self.graph.interferes(apart, other) {
+        for other in self.graph.neighbours(node) {
+            if self.is_high(*other) && !self.graph.interferes(apart, *other) {
                 count += 1;
+                if count == limit {
+                    return limit;
+                }
             }
         }
         count
