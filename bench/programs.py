@@ -1,5 +1,6 @@
 """The program that the benchmarks run, and the time that it takes."""
 import os
+import re
 import resource
 import subprocess
 import sys
@@ -34,3 +35,10 @@ def accepted_time(command):
 def least_times(commands, turns):
     """The least time of each command, which take turns, so that a busy moment of the machine falls on all."""
     return [min(times) for times in zip(*([accepted_time(command) for command in commands] for _ in range(turns)))]
+
+
+def instructions(command):
+    """The processor's instructions that a command takes, counted by valgrind's callgrind: the same in every run."""
+    words = ["valgrind", "--tool=callgrind", "--callgrind-out-file=/dev/null", *command]
+    ran = subprocess.run(words, stdin=subprocess.DEVNULL, stdout=subprocess.DEVNULL, stderr=subprocess.PIPE)
+    return int(re.search(rb"Collected : (\d+)", ran.stderr)[1])
