@@ -149,8 +149,8 @@ depth_after depth one =
     if opens one then depth + 1 else if closes one then depth - 1 else depth
 
 -- what the next token is written behind, after this one
-abbrev pub after : Behind → Token → Behind
-after b one = record {
+abbrev pub behind_one : Behind → Token → Behind
+behind_one b one = record {
   before = Some one;
   is_unary = is_unary_minus b.before one;
   depth = depth_after b.depth one;
@@ -169,9 +169,9 @@ abbrev pub are_close : (a : Token) → (is_unary : Bool) → (one : Token) → B
 are_close a is_unary one =
     is_close_before one || (is_close_behind a || (is_unary || (is_bracket one && takes_bracket a)))
 
-abbrev pub between : (a : Token) → (is_unary : Bool) → (depth : ℕ) → Token → List ℕ
-between a is_unary depth End = 10 ∷ []
-between a is_unary depth one =
+abbrev pub between_tokens : (a : Token) → (is_unary : Bool) → (depth : ℕ) → Token → List ℕ
+between_tokens a is_unary depth End = 10 ∷ []
+between_tokens a is_unary depth one =
     if begins_line one || ends_line a then line depth one
     else if are_close a is_unary one then []
     else 32 ∷ []
@@ -179,7 +179,7 @@ between a is_unary depth one =
 -- what stands between the token before and this one; nothing stands before the first
 abbrev pub gap_behind : Option Token → (is_unary : Bool) → (depth : ℕ) → Token → List ℕ
 gap_behind None is_unary depth one = []
-gap_behind (Some a) is_unary depth one = between a is_unary depth one
+gap_behind (Some a) is_unary depth one = between_tokens a is_unary depth one
 
 abbrev pub gap : Behind → Token → List ℕ
 gap b one = gap_behind b.before b.is_unary b.depth one
@@ -189,7 +189,7 @@ gap b one = gap_behind b.before b.is_unary b.depth one
 abbrev pub text_behind : (names : List (List ℕ)) → Behind → List Token → List ℕ
 text_behind names b [] = []
 text_behind names b (one ∷ tokens) =
-    gap b one ++ (spelling names one ++ text_behind names (after b one) tokens)
+    gap b one ++ (spelling names one ++ text_behind names (behind_one b one) tokens)
 
 abbrev pub canonical : (names : List (List ℕ)) → List Token → List ℕ
 canonical names tokens = text_behind names start tokens

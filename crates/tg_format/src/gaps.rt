@@ -30,7 +30,7 @@ impl<'a> Behind<'a> {
     /// What the next token is written behind, after this one.
     pub(crate) fn after(self, one: &'a Token) -> Behind<'a>
         requires { self.depth + 1 < 2 ^ 64 }
-        ensures after { behind_of result ≡ canonical.after (behind_of self.entry) one.now }
+        ensures after { behind_of result ≡ canonical.behind_one (behind_of self.entry) one.now }
         ensures depth { result.depth ≤ self.entry.depth + 1 }
     {
         Behind {
@@ -85,7 +85,7 @@ fn put_between(
     one: &Token,
 ) -> Result<(), Memory>
     ensures { OnOk result (text.new.items
-        ≡ text.old.items ++ canonical.between before.now is_unary depth one.now) }
+        ≡ text.old.items ++ canonical.between_tokens before.now is_unary depth one.now) }
 {
     if matches!(one, Token::End) {
         text.push(b'\n')?;

@@ -20,7 +20,7 @@ use Rattle.tg_syntax.specs.Lexing.{IsLongest, OpensComment}
 use Rattle.tg_syntax.proofs.Longest.{begins, form_of_mark, mark_longest, name_longest, digits_longest, is_mark}
 use Rattle.tg_syntax.proofs.Numerals.{bytes_of_digits, none_is_numeral}
 use Rattle.tg_lexer.proofs.Readings.{string_longest}
-use Rattle.tg_format.specs.Canonical.{quoted_text, spelling, is_close_before, is_close_behind, is_bracket, is_minus, takes_bracket, are_close, between, line}
+use Rattle.tg_format.specs.Canonical.{quoted_text, spelling, is_close_before, is_close_behind, is_bracket, is_minus, takes_bracket, are_close, between_tokens, line}
 use Rattle.tg_format.specs.Canonical.{begins_line, ends_line}
 use Rattle.tg_format.specs.Writable.{HasSpelling}
 use Rattle.tg_formatted.proofs.Quoting.{text_quoted}
@@ -232,7 +232,7 @@ module _ (names : List (List ℕ)) (a : Token) (unary : Bool) (depth : ℕ) (min
   between_stands one rest false true e = close_stands one rest e
   between_stands one rest false false e = inl refl
 
-  pub behind_stands : (one : Token) (rest : List ℕ) → MayFollow a (between a unary depth one ++ (spelling names one ++ rest))
+  pub behind_stands : (one : Token) (rest : List ℕ) → MayFollow a (between_tokens a unary depth one ++ (spelling names one ++ rest))
   behind_stands (Word w) rest = between_stands (Word w) rest (begins_line (Word w) || ends_line a) (are_close a unary (Word w)) refl
   behind_stands (Sign s) rest = between_stands (Sign s) rest (begins_line (Sign s) || ends_line a) (are_close a unary (Sign s)) refl
   behind_stands (Ident n) rest = between_stands (Ident n) rest (begins_line (Ident n) || ends_line a) (are_close a unary (Ident n)) refl

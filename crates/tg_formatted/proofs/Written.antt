@@ -7,7 +7,7 @@ use Rattle.tg_syntax.specs.declared.tokens.Spanned.{Spanned}
 use Rattle.tg_syntax.specs.Spellings.{AllAre, is_blank}
 use Rattle.tg_syntax.specs.Lexing.{Lexes, ends, blank, token, spanned}
 use Rattle.tg_lexer.proofs.Onces.{lexes_once}
-use Rattle.tg_format.specs.Canonical.{canonical, tokens_of, text_behind, start, after, gap, gap_behind, between, line, indentation, spelling, Behind}
+use Rattle.tg_format.specs.Canonical.{canonical, tokens_of, text_behind, start, behind_one, gap, gap_behind, line, indentation, spelling, Behind}
 use Rattle.tg_format.specs.Canonical.{is_minus, is_unary_minus, ends_operand, begins_line, ends_line, are_close, depth_after}
 use Rattle.tg_format.specs.Writable.{HasSpelling, AreWritable}
 use Rattle.tg_formatted.specs.Laws.{ReadsAgain, SameTokens, FormattingAgain}
@@ -44,18 +44,18 @@ unary_is_minus None one h = h
 unary_is_minus (Some a) one h = and_left (is_minus one) (not (ends_operand a)) h
 
 next_stands : (names : List (List ℕ)) (b : Behind) (one : Token) (more : List Token) → AreWritable names more →
-    MayFollow one (text_behind names (after b one) more)
+    MayFollow one (text_behind names (behind_one b one) more)
 next_stands names b one [] h = absurd h
 next_stands names b one (t ∷ more) h =
     behind_stands names one (is_unary_minus b.before one) (depth_after b.depth one) (unary_is_minus b.before one) t
-    (text_behind names (after (after b one) t) more)
+    (text_behind names (behind_one (behind_one b one) t) more)
 
 one_again : (names : List (List ℕ)) (b : Behind) (one : Token) (more : List Token) → HasSpelling names one → AreWritable names more →
-    ((at : ℕ) → ReadsAgain names at (text_behind names (after b one) more) more) → (at : ℕ) → ReadsAgain names at (text_behind names b (one ∷ more)) (one ∷ more)
+    ((at : ℕ) → ReadsAgain names at (text_behind names (behind_one b one) more) more) → (at : ℕ) → ReadsAgain names at (text_behind names b (one ∷ more)) (one ∷ more)
 one_again names b one more h hs again at =
     let from = at + length (gap b one) in
     let bytes = spelling names one in
-    let rest = text_behind names (after b one) more in
+    let rest = text_behind names (behind_one b one) more in
     let next = again (from + length bytes) in
     let stands = next_stands names b one more hs in
     record {
@@ -76,11 +76,11 @@ text_again names b (End ∷ []) h at =
       same = refl;
     }
 text_again names b (End ∷ one ∷ tokens) h at = absurd h.0
-text_again names b (Word w ∷ tokens) h at = one_again names b (Word w) tokens h.0 h.1 (text_again names (after b (Word w)) tokens h.1) at
-text_again names b (Sign s ∷ tokens) h at = one_again names b (Sign s) tokens h.0 h.1 (text_again names (after b (Sign s)) tokens h.1) at
-text_again names b (Ident n ∷ tokens) h at = one_again names b (Ident n) tokens h.0 h.1 (text_again names (after b (Ident n)) tokens h.1) at
-text_again names b (Int n ∷ tokens) h at = one_again names b (Int n) tokens h.0 h.1 (text_again names (after b (Int n)) tokens h.1) at
-text_again names b (Text bytes ∷ tokens) h at = one_again names b (Text bytes) tokens h.0 h.1 (text_again names (after b (Text bytes)) tokens h.1) at
+text_again names b (Word w ∷ tokens) h at = one_again names b (Word w) tokens h.0 h.1 (text_again names (behind_one b (Word w)) tokens h.1) at
+text_again names b (Sign s ∷ tokens) h at = one_again names b (Sign s) tokens h.0 h.1 (text_again names (behind_one b (Sign s)) tokens h.1) at
+text_again names b (Ident n ∷ tokens) h at = one_again names b (Ident n) tokens h.0 h.1 (text_again names (behind_one b (Ident n)) tokens h.1) at
+text_again names b (Int n ∷ tokens) h at = one_again names b (Int n) tokens h.0 h.1 (text_again names (behind_one b (Int n)) tokens h.1) at
+text_again names b (Text bytes ∷ tokens) h at = one_again names b (Text bytes) tokens h.0 h.1 (text_again names (behind_one b (Text bytes)) tokens h.1) at
 
 pub same_tokens : SameTokens
 same_tokens names tokens h = text_again names start tokens h 0
