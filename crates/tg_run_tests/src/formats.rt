@@ -1,4 +1,4 @@
-use crate::calls::{Outside, Seen, answers, are_answered, call, is_answered, parts_of};
+use crate::calls::{Outside, Seen, answers, are_answered, call, parts_of};
 use crate::faults::{GRAMMAR_FAULTS, TOKEN_FAULTS, TYPE_FAULTS};
 use std::alloc::Global;
 use std::process::Abort;
@@ -69,18 +69,4 @@ fn faults_of_types_are_formatted(rt: HostRuntime) -> Result<(), Fail> {
     are_refused(&rt, alloc, &TOKEN_FAULTS)?;
     are_refused(&rt, alloc, &GRAMMAR_FAULTS)?;
     are_kept(&rt, alloc, &TYPE_FAULTS)
-}
-
-#[test]
-fn room_for_a_front(rt: HostRuntime) -> Result<(), Fail> {
-    let alloc = rt.alloc();
-    let source = Outside::of(b"let var a:=1 in end");
-    let text = "let\n  var a := 1\nin\nend\n";
-    for room in 0..text.len() {
-        let seen = call(alloc, FORMAT, Outside { room, ..source })?;
-        let front = &text[..room];
-        is_answered(&rt, alloc, &seen, 74, "read or write failed", front)?;
-    }
-    let seen = call(alloc, FORMAT, source)?;
-    is_answered(&rt, alloc, &seen, 0, "", text)
 }
