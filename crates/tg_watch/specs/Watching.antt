@@ -1,6 +1,6 @@
 -- What watchers stand for, and what their calls promise.
-use Rattle.std.specs.Prelude.{ℕ, ◌≡◌, ◌<◌, ◌≤◌, ◌+◌, ◌*◌, ◌%◌, ◌^◌, List, [], ◌∷◌, ◌++◌, length, map}
-use Rattle.std.specs.Prelude.{take, slice_get, All, Option, Some, None}
+use Rattle.std.specs.Prelude.{ℕ, ◌≡◌, ◌<◌, ◌≤◌, ◌+◌, ◌*◌, ◌%◌, ◌^◌, List, [], ◌∷◌, ◌++◌, length}
+use Rattle.std.specs.Prelude.{map, take, slice_get, All, Option, Some, None}
 use Rattle.tg_base.specs.State.{code_base}
 use Rattle.tg_machine.specs.declared.fetches.Seen.{Seen}
 

@@ -1,4 +1,5 @@
-ghost use Rattle.std.specs.Prelude.{◌≡◌, ◌<◌, ◌≤◌, ◌^◌, [], List, All, length, map, None, IfSome, OnOk};
+ghost use Rattle.std.specs.Prelude.{◌≡◌, ◌<◌, ◌≤◌, ◌^◌, [], List, All, length, map, None};
+ghost use Rattle.std.specs.Prelude.{IfSome, OnOk};
 ghost use Rattle.tg_machine.specs.declared.fetches.Seen.{Seen};
 ghost use Rattle.tg_machine.specs.Fetches.{IsWatched, seen_next};
 ghost use Rattle.tg_machine.specs.Machines.{HasEnded};
@@ -62,7 +63,8 @@ pub fn run_watched<I: Source, O: Sink>(
 /// Shows each watcher what the next step fetches, if its place is in the code.
 #[inline(always)]
 fn show_next(machine: &Machine, watchers: &mut Vec<Box<dyn Watcher>>)
-    requires { IfSome (seen_next machine.now) (λ x. CanAllSee (λ w. stands w) watchers.old.items x) }
+    requires { IfSome (seen_next machine.now)
+        (λ x. CanAllSee (λ w. stands w) watchers.old.items x) }
     ensures { HaveAllSeen (λ w. stands w) (λ w. report w) watchers.old.items watchers.new.items
         (seen_next machine.now) }
 {
@@ -75,7 +77,8 @@ fn show_next(machine: &Machine, watchers: &mut Vec<Box<dyn Watcher>>)
 #[inline(always)]
 fn see_all(watchers: &mut Vec<Box<dyn Watcher>>, seen: &Seen)
     requires { CanAllSee (λ w. stands w) watchers.old.items seen.now }
-    ensures { AllSee (λ w. stands w) (λ w. report w) watchers.old.items watchers.new.items seen.now }
+    ensures { AllSee (λ w. stands w) (λ w. report w) watchers.old.items watchers.new.items
+        seen.now }
 {
     for watcher in watchers.iter_mut() {
         see_one(watcher, seen);
