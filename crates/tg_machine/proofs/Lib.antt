@@ -3,6 +3,7 @@ mod WrittenWords
 pub mod Texts
 pub mod Runs
 pub mod Reached
+pub mod Pausing
 pub mod Fetching
 pub mod Chaining
 pub mod CodeStays

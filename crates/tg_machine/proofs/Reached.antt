@@ -133,7 +133,7 @@ same_world : (s s' : MachineState) (l l' : List (Option ℕ)) (output : List ℕ
     Running (record { machine = s; input = l; output = output }) ≡ Running (record { machine = s'; input = l'; output = output })
 same_world s s' l l' output e f = rw (e, f) refl
 
-reached_goes : {I O : Type 0} (left : I → Option (List ℕ)) (read_faults : I → ℕ) (taken : O → Option (List ℕ)) (write_faults : O → ℕ)
+pub reached_goes : {I O : Type 0} (left : I → Option (List ℕ)) (read_faults : I → ℕ) (taken : O → Option (List ℕ)) (write_faults : O → ℕ)
     (n : ℕ) (old mid new : MachineState) (first input : I) (start out : O) (before written : ℕ) →
     Reached left read_faults taken write_faults n old mid first input start out before written →
     step mid ≡ Goes new →
@@ -250,7 +250,7 @@ touched_write n m w le (inr c) =
     let within : c.steps < m = omega (arith, c.within) in
     inr (record { steps = c.steps; world = c.world; bytes = c.bytes; within = within; comes = c.comes; writing = c.writing })
 
-own_limit : (e : RunEnd) → IsOwn e → e ≡ StepLimit → ⊥
+pub own_limit : (e : RunEnd) → IsOwn e → e ≡ StepLimit → ⊥
 own_limit e own h = subst IsOwn h own
 
 own_read : (e : RunEnd) → IsOwn e → e ≡ ReadFault → ⊥
@@ -287,7 +287,7 @@ ran_all left read_faults taken write_faults n old new input input' out out' writ
       written = r.counts;
     }
 
-ran_ended : {I O : Type 0} (left : I → Option (List ℕ)) (read_faults : I → ℕ) (taken : O → Option (List ℕ)) (write_faults : O → ℕ)
+pub ran_ended : {I O : Type 0} (left : I → Option (List ℕ)) (read_faults : I → ℕ) (taken : O → Option (List ℕ)) (write_faults : O → ℕ)
     (steps n : ℕ) (old mid new : MachineState) (input input' : I) (out out' : O) (written written' : ℕ) (e : RunEnd) → n < steps →
     Reached left read_faults taken write_faults n old mid input input' out out' written written' →
     step mid ≡ Ends e → IsOwn e →

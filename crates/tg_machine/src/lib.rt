@@ -9,6 +9,7 @@ mod fetches;
 mod laws;
 mod loading;
 mod machines;
+mod pauses;
 mod services;
 mod stacks;
 mod status;

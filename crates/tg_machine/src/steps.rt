@@ -5,13 +5,12 @@ ghost use Rattle.tg_machine.specs.Moves.{Moved};
 ghost use Rattle.tg_machine.specs.Ran.{IsSimulation};
 
 use crate::cores::Core;
+use crate::pauses::Pause;
 use crate::status::Status;
 use tg_base::{RunEnd, Sink, Source};
-use tg_isa::Mips;
 
 impl Core {
     /// Makes one step.
-    #[inline(always)]
     pub fn step<I: Source, O: Sink>(
         &mut self,
         input: &mut I,
@@ -21,11 +20,10 @@ impl Core {
         ensures { Moved I.left I.faults O.taken O.faults (step self.old) result
             self.new input.old input.new out.old out.new written.old written.new }
     {
-        let one = self.fetch()?;
-        self.go(self.place().wrapping_add(4));
-        match one {
-            Mips::Syscall => self.service(input, out, written),
-            _ => self.execute(one),
+        match self.run_alone(1) {
+            Pause::Due(_) => self.service(input, out, written),
+            Pause::Ended(end) => Err(end),
+            Pause::Made => Ok(()),
         }
     }
 
@@ -43,9 +41,17 @@ impl Core {
             (simulated self.old None written.old) (simulated self.new (kept result) written.new)
             input.old input.new out.old out.new (end_of result) }
     {
-        for _ in 0..steps {
-            if let Err(end) = self.step(input, out, written) {
-                return Status::Ended(end);
+        let mut made = 0;
+        while made < steps {
+            match self.run_alone(steps - made) {
+                Pause::Due(more) => {
+                    if let Err(end) = self.service(input, out, written) {
+                        return Status::Ended(end);
+                    }
+                    made += more + 1;
+                }
+                Pause::Ended(end) => return Status::Ended(end),
+                Pause::Made => return Status::Running,
             }
         }
         Status::Running
