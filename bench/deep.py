@@ -1,5 +1,7 @@
 """Sources as deep and as wide as may be, by a size, and assembly texts of a size, for bench/hostile."""
 
+import itertools
+
 MOST = 4200
 
 
@@ -81,9 +83,18 @@ def labels(size):
     return b"".join(b"l%07x:\n" % n for n in range(size // 10))
 
 
+def short_labels(size):
+    """The same, of the shortest labels: as many as there are of four bytes, in their order."""
+    others = sorted(b"ABCDEFGHIJKLMNOPQRSTUVWXYZ_abcdefghijklmnopqrstuvwxyz0123456789.")
+    firsts = [byte for byte in others if bytes([byte]).isalpha() or byte == ord("_")]
+    names = itertools.product(firsts, others, others, others)
+    return b":\n".join(map(bytes, itertools.islice(names, (size - 2) // 6))) + b":\n"
+
+
 TEXTS = {
     "no-ops": repeated(b"nop\n", b"main:\n"),
     "labels": labels,
+    "short labels": short_labels,
     "commas": repeated(b",", b"main: add "),
     "one string": repeated(b"a", b".data\ns: .ascii \"", b"\"\n.text\nmain: jr $ra\n"),
     "one line of blanks": repeated(b" ", b"main: jr $ra"),
@@ -94,6 +105,7 @@ TEXTS = {
     "spaces": repeated(b".space 0\n", b".data\n", b".text\nmain: jr $ra\n"),
     "bytes": repeated(b".byte 0\n", b".data\n", b".text\nmain: jr $ra\n"),
     "one line of bytes": repeated(b", 0", b".data\n.byte 0", b"\n.text\nmain: jr $ra\n"),
+    "one line of short operands": repeated(b" 0", b".data\n.byte", b"\n.text\nmain: jr $ra\n"),
     "jumps to one label": repeated(b"j main\n", b"main: jr $ra\n"),
     "colons": repeated(b"a:", b""),
     "zeros": repeated(b"\0"),

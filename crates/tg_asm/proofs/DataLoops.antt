@@ -1,70 +1,87 @@
 -- Data and strings are read one by one.
-use Rattle.std.proofs.Common.{◌≡◌, ◌<◌, ◌≤◌, ◌+◌, ℕ, suc, Bool, true, false, not, List, [], ◌∷◌, ◌++◌, length, map, drop, get_or, Option, Some, None}
-use Rattle.std.proofs.Common.{refl, sym, ap, ◌∙◌, append-nil, append_assoc, drop-cons, add-one}
+use Rattle.std.proofs.Common.{◌≡◌, ◌<◌, ◌≤◌, ◌+◌, ℕ, suc, Bool, true, false, not, List, [], ◌∷◌, ◌++◌, length, map, drop, get_or, Option, Some, None, Ok, Err}
+use Rattle.std.proofs.Common.{refl, sym, ap, ◌∙◌, arith, append-nil, append_assoc, drop-cons, add-one}
 use Rattle.std.specs.Prelude.{slice_index, ◌&&◌, ◌==◌}
-use Rattle.std.proofs.lemmas.List.{drop_all, map-append}
+use Rattle.std.proofs.lemmas.List.{drop_all}
 use Rattle.tg_isa.specs.declared.keywords.Keyword.{Keyword}
+use Rattle.tg_isa.specs.declared.keywords.AsmRule.TheVariants.{A3, A7}
 use Rattle.tg_isa.specs.Items as items
+use Rattle.tg_isa.specs.Lines as lines
 use Rattle.tg_isa.specs.Operands.{string, before_string}
 use Rattle.tg_asm.specs.Cuts.{operand_of}
-use Rattle.tg_asm.specs.Means.{datum_of, meant_by}
+use Rattle.tg_asm.specs.Means.{all_values, datum_stored, is_value, meant_by}
 use Rattle.tg_asm.specs.declared.cuts.Operand.{Operand}
-use Rattle.tg_asm.specs.declared.items.Datum.{Datum}
 
--- operands to data
-abbrev pub all_before_data : List items.Datum → Option (List items.Datum) → Option (List items.Datum)
-all_before_data list (Some more) = Some (list ++ more)
-all_before_data list None = None
+-- operands that are of their kind
+pub record AllValues (k : Keyword) (os : List Operand) (at : ℕ) : Type 0 where
+  pub same : all_values k (map operand_of os) ≡ all_values k (map operand_of (drop at os))
 
-pub record InData (k : Keyword) (os : List Operand) (list : List Datum) (at : ℕ) : Type 0 where
-  pub same : items.all_data k (map operand_of os) ≡ all_before_data (map datum_of list) (items.all_data k (map operand_of (drop at os)))
+next_value : (k : Keyword) (os : List Operand) (at : ℕ) (z : Operand) → AllValues k os at → at < length os →
+    all_values k (map operand_of os) ≡ (is_value (items.datum k (operand_of (get_or os at z))) && all_values k (map operand_of (drop (suc at) os)))
+next_value k os at z f h = f.same ∙ ap (λ o. all_values k (map operand_of o)) (drop-cons os at z h)
 
-all_before_nothing : (o : Option (List items.Datum)) → o ≡ all_before_data [] o
-all_before_nothing (Some os) = refl
-all_before_nothing None = refl
+pub value_more : (k : Keyword) (os : List Operand) (at : ℕ) (z : Operand) (d : items.Datum) → AllValues k os at → at < length os →
+    Some d ≡ items.datum k (operand_of (get_or os at z)) → AllValues k os (at + 1)
+value_more k os at z d f h e = record { same = rw add-one (next_value k os at z f h ∙ rw (← e) refl) }
 
-pub data_begin : (k : Keyword) (os : List Operand) (list : List Datum) → list ≡ [] → InData k os list 0
-data_begin k os list e = record { same = rw e (all_before_nothing _) }
+pub value_none : (k : Keyword) (os : List Operand) (at : ℕ) (z : Operand) → AllValues k os at → at < length os →
+    None ≡ items.datum k (operand_of (get_or os at z)) → false ≡ all_values k (map operand_of os)
+value_none k os at z f h e = sym (next_value k os at z f h ∙ rw (← e) refl)
 
-all_before_more : (list : List items.Datum) (d : items.Datum) (more : Option (List items.Datum)) →
-    all_before_data list (items.before_data (Some d) more) ≡ all_before_data (list ++ d ∷ []) more
-all_before_more list d (Some more) = rw append_assoc refl
-all_before_more list d None = refl
+pub values_end : (k : Keyword) (os : List Operand) (at : ℕ) → AllValues k os at → length os ≤ at → true ≡ all_values k (map operand_of os)
+values_end k os at f h = sym (f.same ∙ ap (λ o. all_values k (map operand_of o)) (drop_all at os h))
 
-pub data_more : (k : Keyword) (os : List Operand) (list list' : List Datum) (d : Datum) (at : ℕ) (z : Operand) →
-    InData k os list at → at < length os → Some (datum_of d) ≡ items.datum k (operand_of (get_or os at z)) → list' ≡ list ++ d ∷ [] → InData k os list' (at + 1)
-data_more k os list list' d at z i h e l =
-    let more : map datum_of list' ≡ map datum_of list ++ datum_of d ∷ [] = ap (map datum_of) l ∙ map-append datum_of list (d ∷ []) in
-    record {
-      same = rw (add-one, more) (i.same ∙ ap (λ o. all_before_data (map datum_of list) (items.all_data k (map operand_of o)))
-          (drop-cons os at z h) ∙ ap (λ o. all_before_data (map datum_of list) (items.before_data o (items.all_data k (map operand_of (drop (suc at) os))))) (sym e)
-          ∙ all_before_more _ _ _);
-    }
+-- what such operands put into the statics
+all_stored : (k : Keyword) (os : List lines.Operand) → all_values k os ≡ true → items.all_data k os ≡ Some (map (datum_stored k) os)
+all_stored k [] e = refl
+all_stored k (o ∷ os) e = by (items.datum k o) refl (all_stored k os)
+  where
+    by : (d : Option items.Datum) → items.datum k o ≡ d → (all_values k os ≡ true → items.all_data k os ≡ Some (map (datum_stored k) os)) →
+        items.all_data k (o ∷ os) ≡ Some (map (datum_stored k) (o ∷ os))
+    by (Some d) h ih = rw (h, ih (rw h at e)) refl
+    by None h ih = let s = rw h at e in cc
 
-pub data_none : (k : Keyword) (os : List Operand) (list : List Datum) (at : ℕ) (z : Operand) → InData k os list at →
-    at < length os → None ≡ items.datum k (operand_of (get_or os at z)) → items.all_data k (map operand_of os) ≡ None
-data_none k os list at z i h e = i.same ∙ ap (λ o. all_before_data (map datum_of list) (items.all_data k (map operand_of o)))
-    (drop-cons os at z h) ∙ ap (λ o. all_before_data (map datum_of list) (items.before_data o (items.all_data k (map operand_of (drop (suc at) os))))) (sym e)
+none_stored : (k : Keyword) (os : List lines.Operand) → all_values k os ≡ false → items.all_data k os ≡ None
+none_stored k [] e = cc
+none_stored k (o ∷ os) e = by (items.datum k o) refl (none_stored k os)
+  where
+    by : (d : Option items.Datum) → items.datum k o ≡ d → (all_values k os ≡ false → items.all_data k os ≡ None) → items.all_data k (o ∷ os) ≡ None
+    by (Some d) h ih = rw (h, ih (rw h at e)) refl
+    by None h ih = rw h refl
 
-pub data_end : (k : Keyword) (os : List Operand) (list : List Datum) (at : ℕ) → InData k os list at → length os ≤ at →
-    items.all_data k (map operand_of os) ≡ Some (map datum_of list)
-data_end k os list at i h = i.same ∙ ap (λ o. all_before_data (map datum_of list) (items.all_data k (map operand_of o))) (drop_all at os h)
-    ∙ ap Some (append-nil _)
+pub values_bad : (k : Keyword) (align : ℕ) (os : List lines.Operand) → false ≡ all_values k os → items.values k align os ≡ Err A3
+values_bad k align [] e = cc
+values_bad k align (o ∷ os) e = ap (items.within_data k align) (none_stored k (o ∷ os) (sym e))
+
+pub values_unfit : (k : Keyword) (align : ℕ) (os : List lines.Operand) → true ≡ all_values k os → false ≡ items.data_fit k (map (datum_stored k) os) →
+    items.values k align os ≡ Err A7
+values_unfit k align [] e f = cc
+values_unfit k align (o ∷ os) e f = ap (items.within_data k align) (all_stored k (o ∷ os) (sym e)) ∙ rw (← f) refl
+
+pub values_made : (k : Keyword) (align : ℕ) (os : List Operand) → 0 < length os → true ≡ all_values k (map operand_of os) →
+    true ≡ items.data_fit k (map (datum_stored k) (map operand_of os)) →
+    items.values k align (map operand_of os) ≡ Ok (items.Data' align (map (datum_stored k) (map operand_of os)))
+values_made k align [] l e f = absurd (let n : ⊥ = omega (arith, l) in n)
+values_made k align (o ∷ os) l e f = ap (items.within_data k align) (all_stored k (map operand_of (o ∷ os)) (sym e)) ∙ rw (← f) refl
 
 -- ranges of data
-pub record Fits (k : Keyword) (ds : List Datum) (at : ℕ) : Type 0 where
-  pub same : items.data_fit k (map datum_of ds) ≡ items.data_fit k (map datum_of (drop at ds))
+pub record Fits (k : Keyword) (os : List Operand) (at : ℕ) : Type 0 where
+  pub same : items.data_fit k (map (datum_stored k) (map operand_of os)) ≡ items.data_fit k (map (datum_stored k) (map operand_of (drop at os)))
 
-pub fits_more : (k : Keyword) (ds : List Datum) (at : ℕ) (z : Datum) → Fits k ds at → at < length ds →
-    true ≡ items.datum_fits k (datum_of (get_or ds at z)) → Fits k ds (at + 1)
-fits_more k ds at z f h e = record { same = rw add-one (f.same ∙ ap (λ o. items.data_fit k (map datum_of o)) (drop-cons ds at z h) ∙ rw (← e) refl) }
+pub fits_more : (k : Keyword) (os : List Operand) (at : ℕ) (z : Operand) (d : items.Datum) → Fits k os at → at < length os →
+    d ≡ datum_stored k (operand_of (get_or os at z)) → true ≡ items.datum_fits k d → Fits k os (at + 1)
+fits_more k os at z d f h s e =
+    let t : items.datum_fits k (datum_stored k (operand_of (get_or os at z))) ≡ true = ap (items.datum_fits k) (sym s) ∙ sym e in
+    record { same = rw add-one (f.same ∙ ap (λ o. items.data_fit k (map (datum_stored k) (map operand_of o))) (drop-cons os at z h) ∙ rw t refl) }
 
-pub fits_not : (k : Keyword) (ds : List Datum) (at : ℕ) (z : Datum) → Fits k ds at → at < length ds →
-    false ≡ items.datum_fits k (datum_of (get_or ds at z)) → false ≡ items.data_fit k (map datum_of ds)
-fits_not k ds at z f h e = sym (f.same ∙ ap (λ o. items.data_fit k (map datum_of o)) (drop-cons ds at z h) ∙ rw (← e) refl)
+pub fits_not : (k : Keyword) (os : List Operand) (at : ℕ) (z : Operand) (d : items.Datum) → Fits k os at → at < length os →
+    d ≡ datum_stored k (operand_of (get_or os at z)) → false ≡ items.datum_fits k d → false ≡ items.data_fit k (map (datum_stored k) (map operand_of os))
+fits_not k os at z d f h s e =
+    let t : items.datum_fits k (datum_stored k (operand_of (get_or os at z))) ≡ false = ap (items.datum_fits k) (sym s) ∙ sym e in
+    sym (f.same ∙ ap (λ o. items.data_fit k (map (datum_stored k) (map operand_of o))) (drop-cons os at z h) ∙ rw t refl)
 
-pub fits_end : (k : Keyword) (ds : List Datum) (at : ℕ) → Fits k ds at → length ds ≤ at → true ≡ items.data_fit k (map datum_of ds)
-fits_end k ds at f h = sym (f.same ∙ ap (λ o. items.data_fit k (map datum_of o)) (drop_all at ds h))
+pub fits_end : (k : Keyword) (os : List Operand) (at : ℕ) → Fits k os at → length os ≤ at → true ≡ items.data_fit k (map (datum_stored k) (map operand_of os))
+fits_end k os at f h = sym (f.same ∙ ap (λ o. items.data_fit k (map (datum_stored k) (map operand_of o))) (drop_all at os h))
 
 -- strings
 abbrev pub all_before_string : List ℕ → Option (List ℕ) → Option (List ℕ)

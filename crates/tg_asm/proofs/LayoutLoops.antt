@@ -7,24 +7,30 @@ use Rattle.tg_isa.specs.declared.keywords.AsmRule.{AsmRule}
 use Rattle.tg_isa.specs.Items as items
 use Rattle.tg_isa.specs.Assembly.{Layout, LabelTarget, spot_of, add_label, add_new, add_one, add_labels}
 use Rattle.tg_asm.specs.Layouts.{IsSmall}
-use Rattle.tg_asm.specs.Cuts.{texts}
-use Rattle.tg_asm.specs.Means.{datum_of}
-use Rattle.tg_asm.specs.declared.items.Datum.{Datum}
+use Rattle.tg_isa.specs.declared.keywords.Keyword.{Keyword}
+use Rattle.tg_asm.specs.Cuts.{operand_of, texts}
+use Rattle.tg_asm.specs.Means.{datum_stored}
+use Rattle.tg_asm.specs.declared.cuts.Operand.{Operand}
 
 -- widths
-pub record Summed (ds : List Datum) (total at : ℕ) : Type 0 where
-  pub same : min (items.widths (map datum_of ds)) 1099511627776 ≡ min (total + items.widths (map datum_of (drop at ds))) 1099511627776
+abbrev stored : Keyword → List Operand → List items.Datum
+stored k os = map (datum_stored k) (map operand_of os)
+
+pub record Summed (k : Keyword) (os : List Operand) (total at : ℕ) : Type 0 where
+  pub same : min (items.widths (stored k os)) 1099511627776 ≡ min (total + items.widths (stored k (drop at os))) 1099511627776
   pub small : total ≤ 1099511627776
 
-pub summed_more : (ds : List Datum) (total at w : ℕ) (z : Datum) → Summed ds total at → at < length ds →
-    w ≡ items.width (datum_of (get_or ds at z)) → Summed ds (min (total + w) 1099511627776) (at + 1)
-summed_more ds total at w z s h e =
-    let cons : items.widths (map datum_of (drop at ds)) ≡ items.width (datum_of (get_or ds at z)) + items.widths (map datum_of (drop (suc at) ds)) = ap (λ o. items.widths (map datum_of o)) (drop-cons ds at z h) in
-    record { same = rw add-one (s.same ∙ rw cons (rw (← e) (omega arith))); small = omega arith }
+pub summed_more : (k : Keyword) (os : List Operand) (total at w : ℕ) (z : Operand) (d : items.Datum) → Summed k os total at → at < length os →
+    d ≡ datum_stored k (operand_of (get_or os at z)) → w ≡ items.width d → Summed k os (min (total + w) 1099511627776) (at + 1)
+summed_more k os total at w z d s h t e =
+    let wide : items.width (datum_stored k (operand_of (get_or os at z))) ≡ w = ap items.width (sym t) ∙ sym e in
+    let cons : items.widths (stored k (drop at os)) ≡ w + items.widths (stored k (drop (suc at) os)) =
+    ap (λ o. items.widths (stored k o)) (drop-cons os at z h) ∙ ap (λ v. v + items.widths (stored k (drop (suc at) os))) wide in
+    record { same = rw add-one (s.same ∙ rw cons (omega arith)); small = omega arith }
 
-pub summed_end : (ds : List Datum) (total at : ℕ) → Summed ds total at → length ds ≤ at → total ≡ min (items.widths (map datum_of ds)) 1099511627776
-summed_end ds total at s h =
-    let none : items.widths (map datum_of (drop at ds)) ≡ 0 = ap (λ o. items.widths (map datum_of o)) (drop_all at ds h) in
+pub summed_end : (k : Keyword) (os : List Operand) (total at : ℕ) → Summed k os total at → length os ≤ at → total ≡ min (items.widths (stored k os)) 1099511627776
+summed_end k os total at s h =
+    let none : items.widths (stored k (drop at os)) ≡ 0 = ap (λ o. items.widths (stored k o)) (drop_all at os h) in
     let b = s.small in
     sym (s.same ∙ rw none (omega (arith, b)))
 

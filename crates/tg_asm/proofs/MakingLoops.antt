@@ -5,8 +5,12 @@ use Rattle.std.proofs.lemmas.List.{drop_all}
 use Rattle.tg_isa.specs.declared.keywords.AsmRule.{AsmRule}
 use Rattle.tg_isa.specs.Items as items
 use Rattle.tg_isa.specs.Assembly.{Layout, Made, make_words, make_data, word, datum_bytes, round_up}
-use Rattle.tg_asm.specs.Means.{datum_of}
-use Rattle.tg_asm.specs.declared.items.Datum.{Datum}
+use Rattle.tg_isa.specs.declared.keywords.Keyword.{Keyword}
+use Rattle.tg_asm.specs.Cuts.{operand_of}
+use Rattle.tg_asm.specs.Means.{Leaves, datum_stored}
+use Rattle.tg_asm.specs.declared.faults.Refused.{Refused}
+use Rattle.tg_asm.specs.declared.faults.Refused.TheVariants as refused
+use Rattle.tg_asm.specs.declared.cuts.Operand.{Operand}
 
 -- words behind one word
 pub word_made : (l : Layout) (m k : Made) (c : items.Coded) (cs : List items.Coded) → make_words l m (c ∷ []) ≡ Ok k →
@@ -46,24 +50,35 @@ datum_bad l m d ds r e = by (datum_bytes l d) refl
     by (Ok b) h = let o = rw (h, make_data) at e in cc
     by (Err q) h = let o = rw (h, make_data) at e in rw (h, make_data) o
 
-pub record InMakingData (l : Layout) (first : Made) (ds : List Datum) (m : Made) (at : ℕ) : Type 0 where
-  pub same : make_data l first (map datum_of ds) ≡ make_data l m (map datum_of (drop at ds))
+pub record InMakingData (l : Layout) (first : Made) (k : Keyword) (os : List Operand) (m : Made) (at : ℕ) : Type 0 where
+  pub same : make_data l first (map (datum_stored k) (map operand_of os)) ≡ make_data l m (map (datum_stored k) (map operand_of (drop at os)))
 
-next_datum : (l : Layout) (first : Made) (ds : List Datum) (m : Made) (at : ℕ) (z : Datum) → InMakingData l first ds m at →
-    at < length ds → make_data l first (map datum_of ds) ≡ make_data l m (datum_of (get_or ds at z) ∷ map datum_of (drop (suc at) ds))
-next_datum l first ds m at z s h = s.same ∙ ap (λ o. make_data l m (map datum_of o)) (drop-cons ds at z h)
+next_datum : (l : Layout) (first : Made) (k : Keyword) (os : List Operand) (m : Made) (at : ℕ) (z : Operand) → InMakingData l first k os m at →
+    at < length os → make_data l first (map (datum_stored k) (map operand_of os)) ≡
+    make_data l m (datum_stored k (operand_of (get_or os at z)) ∷ map (datum_stored k) (map operand_of (drop (suc at) os)))
+next_datum l first k os m at z s h = s.same ∙ ap (λ o. make_data l m (map (datum_stored k) (map operand_of o))) (drop-cons os at z h)
 
-pub data_made : (l : Layout) (first : Made) (ds : List Datum) (m k : Made) (at : ℕ) (z : Datum) → InMakingData l first ds m at →
-    at < length ds → make_data l m (datum_of (get_or ds at z) ∷ []) ≡ Ok k → InMakingData l first ds k (at + 1)
-data_made l first ds m k at z s h e = record { same = rw add-one (next_datum l first ds m at z s h ∙ datum_made l m k _ (map datum_of (drop (suc at) ds)) e) }
+pub data_made : (l : Layout) (first : Made) (k : Keyword) (os : List Operand) (m n : Made) (at : ℕ) (z : Operand) → InMakingData l first k os m at →
+    at < length os → make_data l m (datum_stored k (operand_of (get_or os at z)) ∷ []) ≡ Ok n → InMakingData l first k os n (at + 1)
+data_made l first k os m n at z s h e =
+    record { same = rw add-one (next_datum l first k os m at z s h ∙ datum_made l m n _ (map (datum_stored k) (map operand_of (drop (suc at) os))) e) }
 
-pub data_bad : (l : Layout) (first : Made) (ds : List Datum) (m : Made) (at : ℕ) (z : Datum) (r : AsmRule) →
-    InMakingData l first ds m at → at < length ds → make_data l m (datum_of (get_or ds at z) ∷ []) ≡ Err r → make_data l first (map datum_of ds) ≡ Err r
-data_bad l first ds m at z r s h e = next_datum l first ds m at z s h ∙ datum_bad l m _ (map datum_of (drop (suc at) ds)) r e
+data_bad : (l : Layout) (first : Made) (k : Keyword) (os : List Operand) (m : Made) (at : ℕ) (z : Operand) (r : AsmRule) →
+    InMakingData l first k os m at → at < length os → make_data l m (datum_stored k (operand_of (get_or os at z)) ∷ []) ≡ Err r →
+    make_data l first (map (datum_stored k) (map operand_of os)) ≡ Err r
+data_bad l first k os m at z r s h e =
+    next_datum l first k os m at z s h ∙ datum_bad l m _ (map (datum_stored k) (map operand_of (drop (suc at) os))) r e
 
-pub data_end : (l : Layout) (first : Made) (ds : List Datum) (m : Made) (at : ℕ) → InMakingData l first ds m at →
-    length ds ≤ at → make_data l first (map datum_of ds) ≡ Ok m
-data_end l first ds m at s h = s.same ∙ ap (λ o. make_data l m (map datum_of o)) (drop_all at ds h)
+pub value_bad : (S : Type 0) (l : Layout) (first : Made) (k : Keyword) (os : List Operand) (m n : Made) (at : ℕ) (z : Operand) (e : Refused) →
+    InMakingData l first k os m at → at < length os →
+    Leaves {S = S} (make_data l m (datum_stored k (operand_of (get_or os at z)) ∷ [])) (Err e) n →
+    Leaves {S = S} (make_data l first (map (datum_stored k) (map operand_of os))) (Err e) n
+value_bad S l first k os m n at z (refused.Rule r) s h e = data_bad l first k os m at z r s h e
+value_bad S l first k os m n at z refused.Memory s h e = tt
+
+pub data_end : (l : Layout) (first : Made) (k : Keyword) (os : List Operand) (m : Made) (at : ℕ) → InMakingData l first k os m at →
+    length os ≤ at → make_data l first (map (datum_stored k) (map operand_of os)) ≡ Ok m
+data_end l first k os m at s h = s.same ∙ ap (λ o. make_data l m (map (datum_stored k) (map operand_of o))) (drop_all at os h)
 
 -- padding
 pub padding : (n multiple : ℕ) → round_up n multiple - n ≡ (multiple - n % multiple) % multiple

@@ -1,9 +1,12 @@
 -- Items of the code, as the definition has them.
-use Rattle.std.specs.Prelude.{ℕ, ◌≡◌, ⊤, List, [], ◌∷◌, map, Bool, if◌then◌else◌, Option, Some}
-use Rattle.std.specs.Prelude.{None, Result, Ok, Err}
+use Rattle.std.specs.Prelude.{ℕ, ◌≡◌, ⊤, List, [], ◌∷◌, map, Bool, true, false, ◌&&◌, Option}
+use Rattle.std.specs.Prelude.{Some, None, Result, Ok, Err, if◌then◌else◌}
 use Rattle.tg_isa.specs.Items as items
+use Rattle.tg_isa.specs.Lines as lines
 use Rattle.tg_isa.specs.Operands.{escape, plain}
 use Rattle.tg_isa.specs.declared.keywords.AsmRule.{AsmRule}
+use Rattle.tg_isa.specs.declared.keywords.Keyword.{Keyword}
+use Rattle.tg_asm.specs.Cuts.{operand_of}
 use Rattle.tg_asm.specs.Numbers.{signed_of}
 use Rattle.tg_asm.specs.declared.faults.Refused.{Refused}
 use Rattle.tg_asm.specs.declared.faults.Refused.TheVariants as refused
@@ -12,8 +15,9 @@ use Rattle.tg_asm.specs.declared.items.Coded.TheVariants.{Fixed, Branch, Jump, U
 use Rattle.tg_asm.specs.declared.items.Words.{Words}
 use Rattle.tg_asm.specs.declared.items.Words.TheVariants.{One, Two}
 use Rattle.tg_asm.specs.declared.items.Datum.{Datum}
-use Rattle.tg_asm.specs.declared.items.Datum.TheVariants.{Value, AddressOfLabel, Single, Bytes}
-use Rattle.tg_asm.specs.declared.items.Datum.TheVariants.{Zeros}
+use Rattle.tg_asm.specs.declared.items.Datum.TheVariants.{Value, AddressOfLabel, Single}
+use Rattle.tg_asm.specs.declared.items.Contents.{Contents}
+use Rattle.tg_asm.specs.declared.items.Contents.TheVariants as contents
 use Rattle.tg_asm.specs.declared.items.Align.{Align}
 use Rattle.tg_asm.specs.declared.items.Align.TheVariants as one
 use Rattle.tg_asm.specs.declared.items.Item.{Item}
@@ -34,12 +38,33 @@ abbrev pub datum_of : Datum → items.Datum
 datum_of (Value n) = items.Value (signed_of n)
 datum_of (AddressOfLabel label) = items.AddressOfLabel label.now
 datum_of (Single n) = items.Single (signed_of n)
-datum_of (Bytes bytes) = items.Bytes bytes.items
-datum_of (Zeros n) = items.Zeros n
 
 abbrev pub datum_found : Option Datum → Option items.Datum
 datum_found (Some d) = Some (datum_of d)
 datum_found None = None
+
+-- whether all operands of `.word` or `.byte` are of its kind
+abbrev pub is_value : Option items.Datum → Bool
+is_value (Some d) = true
+is_value None = false
+
+abbrev pub all_values : Keyword → List lines.Operand → Bool
+all_values k [] = true
+all_values k (o ∷ os) = is_value (items.datum k o) && all_values k os
+
+-- what an operand puts into the statics, which is a byte of 0 where it is of another kind
+abbrev pub or_zero : Option items.Datum → items.Datum
+or_zero (Some d) = d
+or_zero None = items.Single (record { negative = false; size = 0 })
+
+abbrev pub datum_stored : Keyword → lines.Operand → items.Datum
+datum_stored k o = or_zero (items.datum k o)
+
+abbrev pub data_of : Contents → List items.Datum
+data_of contents.Nothing = []
+data_of (contents.Bytes bytes) = items.Bytes bytes.items ∷ []
+data_of (contents.Zeros n) = items.Zeros n ∷ []
+data_of (contents.Operands k os) = map (datum_stored k) (map operand_of os.items)
 
 abbrev pub bytes_of : Align → ℕ
 bytes_of one.One = 1
@@ -51,7 +76,7 @@ abbrev pub item_of : Item → items.Item
 item_of Nothing = items.Nothing
 item_of (Section segment) = items.Section segment
 item_of (Code ws) = items.Words (words_of ws)
-item_of (Data align ds) = items.Data' (bytes_of align) (map datum_of ds.items)
+item_of (Data align c) = items.Data' (bytes_of align) (data_of c)
 
 -- the byte that a byte of a string means
 abbrev pub meant_by : (escaped : Bool) → ℕ → Option ℕ

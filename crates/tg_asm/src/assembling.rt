@@ -14,7 +14,7 @@ use tg_base::{Bytes, Words};
 use tg_isa::{AsmRule, Image};
 
 /// The place of `main`, where that is in the code and not at its end.
-fn entry(layout: &Layout) -> Option<u32>
+fn entry(layout: &Layout<'_>) -> Option<u32>
     ensures { result ≡ assembly.entry (layout_of layout.now) }
 {
     match layout.labels.find(b"main") {

@@ -22,11 +22,13 @@ ghost use Rattle.tg_isa.specs.Operands as strings;
 ghost use Rattle.tg_asm.specs.Cuts.{operand_of};
 ghost use Rattle.tg_asm.specs.Means.{
   GivesMeant,
+  all_values,
   bytes_of,
   datum_found,
   datum_of,
   item_of,
   meant_by,
+  datum_stored,
   words_of,
 };
 ghost use Rattle.tg_asm.specs.Numbers.{signed_of};
@@ -64,8 +66,8 @@ pub(crate) enum Words<'a> {
     Two(Coded<'a>, Coded<'a>),
 }
 
-/// Data of the statics.
-#[derive(Drop)]
+/// What an operand puts into the statics.
+#[derive(Clone, Copy)]
 pub(crate) enum Datum<'a> {
     /// A number in four bytes.
     Value(Signed),
@@ -73,10 +75,19 @@ pub(crate) enum Datum<'a> {
     AddressOfLabel(&'a [u8]),
     /// A number in one byte.
     Single(Signed),
+}
+
+/// What an item puts into the statics.
+#[derive(Drop)]
+pub(crate) enum Contents<'a> {
+    Nothing,
     /// Bytes.
     Bytes(Vec<u8>),
     /// So many zeros.
     Zeros(u32),
+    /// The operands of `.word` or `.byte`, each a number or a label. What they put there is read
+    /// where it is wanted, since a list of it would be many times as long as the text.
+    Operands(Keyword, Vec<Operand<'a>>),
 }
 
 /// What the statics are padded to a multiple of.
@@ -113,7 +124,7 @@ pub(crate) enum Item<'a> {
     /// It puts words into the code.
     Code(Words<'a>),
     /// It pads the statics and puts data there.
-    Data(Align, Vec<Datum<'a>>),
+    Data(Align, Contents<'a>),
 }
 
 /// A number for a register, by the fewest instructions.
@@ -192,25 +203,28 @@ fn read_datum<'a>(keyword: Keyword, operand: Operand<'a>) -> Option<Datum<'a>>
     }
 }
 
-/// The operands of `.word` or `.byte`; none where one is of another kind.
-fn all_data<'a>(
-    alloc: Global,
-    keyword: Keyword,
-    operands: &[Operand<'a>],
-) -> Result<Option<Vec<Datum<'a>>>, Memory>
-    ensures { IfOk result (λ found. MatchOption found
-        (items.all_data keyword (map operand_of operands.now) ≡ None)
-        (λ list. items.all_data keyword (map operand_of operands.now)
-        ≡ Some (map datum_of list.items))) }
+/// What an operand of `.word` or `.byte` puts into the statics. For one of another kind, which no
+/// item has, that is a byte of 0.
+pub(crate) fn stored_datum<'a>(keyword: Keyword, operand: Operand<'a>) -> Datum<'a>
+    ensures { datum_of result ≡ datum_stored keyword (operand_of operand.entry) }
 {
-    let mut list = Vec::with_capacity(alloc, operands.len())?;
+    match read_datum(keyword, operand) {
+        Some(datum) => datum,
+        None => Datum::Single(Signed::NOTHING),
+    }
+}
+
+/// Whether all operands of `.word` or `.byte` are of its kind.
+fn are_values(keyword: Keyword, operands: &[Operand<'_>]) -> bool
+    ensures { result ≡ all_values keyword (map operand_of operands.now) }
+{
     for operand in operands {
         match read_datum(keyword, *operand) {
-            Some(datum) => list.push(datum)?,
-            None => return Ok(None),
+            Some(_) => {}
+            None => return false,
         }
     }
-    Ok(Some(list))
+    true
 }
 
 /// Whether a number of the statics is in its range.
@@ -220,16 +234,17 @@ fn datum_fits(keyword: Keyword, datum: &Datum<'_>) -> bool
     match datum {
         Datum::Value(number) => takes(keyword, *number),
         Datum::Single(number) => takes(keyword, *number),
-        _ => true,
+        Datum::AddressOfLabel(_) => true,
     }
 }
 
 /// Whether all numbers of the statics are in their range.
-fn data_fit(keyword: Keyword, data: &[Datum<'_>]) -> bool
-    ensures { result ≡ items.data_fit keyword (map datum_of «data».now) }
+fn data_fit(keyword: Keyword, operands: &[Operand<'_>]) -> bool
+    ensures { result
+        ≡ items.data_fit keyword (map (datum_stored keyword) (map operand_of operands.now)) }
 {
-    for datum in data {
-        if !datum_fits(keyword, datum) {
+    for operand in operands {
+        if !datum_fits(keyword, &stored_datum(keyword, *operand)) {
             return false;
         }
     }
@@ -237,28 +252,25 @@ fn data_fit(keyword: Keyword, data: &[Datum<'_>]) -> bool
 }
 
 /// An item of `.word` or `.byte`.
+#[tactic(auto, using(crate::proofs::DataLoops::values_bad, crate::proofs::DataLoops::values_unfit, crate::proofs::DataLoops::values_made))]
 fn values<'a>(
-    alloc: Global,
     keyword: Keyword,
     align: Align,
-    operands: &[Operand<'a>],
+    operands: Vec<Operand<'a>>,
 ) -> Result<Item<'a>, Refused>
     ensures { GivesMeant item_of
-        (items.values keyword (bytes_of align) (map operand_of operands.now)) result }
+        (items.values keyword (bytes_of align) (map operand_of operands.entry.items)) result }
 {
     if operands.is_empty() {
         return Err(Refused::Rule(AsmRule::A3));
     }
-    match all_data(alloc, keyword, operands)? {
-        Some(data) => {
-            if data_fit(keyword, &data) {
-                Ok(Item::Data(align, data))
-            } else {
-                Err(Refused::Rule(AsmRule::A7))
-            }
-        }
-        None => Err(Refused::Rule(AsmRule::A3)),
+    if !are_values(keyword, &operands) {
+        return Err(Refused::Rule(AsmRule::A3));
     }
+    if !data_fit(keyword, &operands) {
+        return Err(Refused::Rule(AsmRule::A7));
+    }
+    Ok(Item::Data(align, Contents::Operands(keyword, operands)))
 }
 
 /// The byte of an escape, from behind its `\`.
@@ -334,13 +346,13 @@ fn text<'a>(alloc: Global, operands: &[Operand<'a>], ended: bool) -> Result<Item
         _ => return Err(Refused::Rule(AsmRule::A3)),
     };
     match string(alloc, inside)? {
-        Some(bytes) => text_item(alloc, bytes, ended),
+        Some(bytes) => text_item(bytes, ended),
         None => Err(Refused::Rule(AsmRule::A3)),
     }
 }
 
 /// Bytes as an item, with a 0 behind them where they are ended.
-fn text_item<'a>(alloc: Global, bytes: Vec<u8>, ended: bool) -> Result<Item<'a>, Refused>
+fn text_item<'a>(bytes: Vec<u8>, ended: bool) -> Result<Item<'a>, Refused>
     ensures { GivesMeant item_of
         (items.text_item (if ended then 0 ∷ [] else []) (Some bytes.items)) result }
 {
@@ -348,16 +360,7 @@ fn text_item<'a>(alloc: Global, bytes: Vec<u8>, ended: bool) -> Result<Item<'a>,
     if ended {
         bytes.push(0)?;
     }
-    Ok(Item::Data(Align::One, only(alloc, Datum::Bytes(bytes))?))
-}
-
-/// A list of one datum.
-fn only<'a>(alloc: Global, datum: Datum<'a>) -> Result<Vec<Datum<'a>>, Memory>
-    ensures { IfOk result (λ list. list.items ≡ datum.entry ∷ []) }
-{
-    let mut list = Vec::with_capacity(alloc, 1)?;
-    list.push(datum)?;
-    Ok(list)
+    Ok(Item::Data(Align::One, Contents::Bytes(bytes)))
 }
 
 /// The number of `.space` or `.align`.
@@ -385,21 +388,21 @@ fn size(keyword: Keyword, operands: &[Operand<'_>]) -> Result<u32, Refused>
 }
 
 /// `.space`.
-fn space<'a>(alloc: Global, operands: &[Operand<'a>]) -> Result<Item<'a>, Refused>
+fn space<'a>(operands: &[Operand<'a>]) -> Result<Item<'a>, Refused>
     ensures { GivesMeant item_of
         (items.zeros (items.size_of Keyword.Space (map operand_of operands.now))) result }
 {
     let size = size(Keyword::Space, operands)?;
-    Ok(Item::Data(Align::One, only(alloc, Datum::Zeros(size))?))
+    Ok(Item::Data(Align::One, Contents::Zeros(size)))
 }
 
 /// `.align`.
-fn alignment<'a>(alloc: Global, operands: &[Operand<'a>]) -> Result<Item<'a>, Refused>
+fn alignment<'a>(operands: &[Operand<'a>]) -> Result<Item<'a>, Refused>
     ensures { GivesMeant item_of
         (items.aligned (items.size_of Keyword.Align (map operand_of operands.now))) result }
 {
     let align = power(size(Keyword::Align, operands)?);
-    Ok(Item::Data(align, Vec::new(alloc)))
+    Ok(Item::Data(align, Contents::Nothing))
 }
 
 /// A power of 2.
@@ -442,20 +445,20 @@ fn named<'a>(operands: &[Operand<'a>]) -> Result<Item<'a>, Refused>
 pub(crate) fn read_item<'a>(
     alloc: Global,
     keyword: Keyword,
-    operands: &[Operand<'a>],
+    operands: Vec<Operand<'a>>,
 ) -> Result<Item<'a>, Refused>
-    ensures { GivesMeant item_of (items.item keyword (map operand_of operands.now)) result }
+    ensures { GivesMeant item_of (items.item keyword (map operand_of operands.entry.items)) result }
 {
     match keyword {
-        Keyword::Text => alone(operands, Item::Section(Segment::Code)),
-        Keyword::Data => alone(operands, Item::Section(Segment::Statics)),
-        Keyword::Globl => named(operands),
-        Keyword::Word => values(alloc, Keyword::Word, Align::Four, operands),
-        Keyword::Byte => values(alloc, Keyword::Byte, Align::One, operands),
-        Keyword::Ascii => text(alloc, operands, false),
-        Keyword::Asciiz => text(alloc, operands, true),
-        Keyword::Space => space(alloc, operands),
-        Keyword::Align => alignment(alloc, operands),
-        _ => instruction(keyword, operands),
+        Keyword::Text => alone(&operands, Item::Section(Segment::Code)),
+        Keyword::Data => alone(&operands, Item::Section(Segment::Statics)),
+        Keyword::Globl => named(&operands),
+        Keyword::Word => values(Keyword::Word, Align::Four, operands),
+        Keyword::Byte => values(Keyword::Byte, Align::One, operands),
+        Keyword::Ascii => text(alloc, &operands, false),
+        Keyword::Asciiz => text(alloc, &operands, true),
+        Keyword::Space => space(&operands),
+        Keyword::Align => alignment(&operands),
+        _ => instruction(keyword, &operands),
     }
 }

@@ -2,36 +2,39 @@ ghost use Rattle.std.specs.Prelude.{◌≡◌, ◌++◌, ◌∷◌, [], None, On
 ghost use Rattle.tg_isa.specs.Assembly.{spot_among};
 ghost use Rattle.tg_asm.specs.Spots.{found_spot, spot_of};
 
-use crate::spots::LabelTarget;
-use indexmap::IndexMap;
+use crate::spots::{LabelTarget, NumberedSpot};
 use std::alloc::Global;
+use std::collections::BTreeMap;
 use std::marker::Model;
 use tg_base::Memory;
 
 /// The labels of a text, which contracts see as the list of their names and spots in the order of
-/// the text.
+/// the text. They are kept in the order of their names, so that no choice of names makes a search
+/// long; each has its number in the text.
 #[derive(Drop)]
-pub(crate) struct Labels {
-    spots: IndexMap<Vec<u8>, LabelTarget>,
+pub(crate) struct Labels<'a> {
+    spots: BTreeMap<&'a [u8], NumberedSpot>,
 }
 
-impl Model for Labels {
+impl<'a> Model for Labels<'a> {
     ghost use Rattle.std.specs.Prelude.{ℕ, List};
     ghost use Rattle.tg_isa.specs.Assembly as assembly;
-    ghost use Rattle.tg_asm.specs.Entries.{entries_of};
+    ghost use Rattle.tg_asm.specs.Entries.{entries_of, AreNumbered};
 
     ghost Value = { List (List ℕ × assembly.LabelTarget) };
 
     ghost view = { λ l. entries_of l.spots.entries };
+
+    ghost invariant = { λ l. AreNumbered l.spots.entries };
 }
 
-impl Labels {
+impl<'a> Labels<'a> {
     /// No labels.
-    pub(crate) fn new(alloc: Global) -> Labels
+    pub(crate) fn new(alloc: Global) -> Labels<'a>
         ensures { result ≡ [] }
     {
         Labels {
-            spots: IndexMap::new(alloc),
+            spots: BTreeMap::new(alloc),
         }
     }
 
@@ -39,16 +42,19 @@ impl Labels {
     pub(crate) fn find(&self, name: &[u8]) -> Option<LabelTarget>
         ensures { found_spot result ≡ spot_among self.now name.now }
     {
-        self.spots.get(name).copied()
+        match self.spots.get(name) {
+            Some(numbered) => Some(numbered.spot),
+            None => None,
+        }
     }
 
     /// Adds a label that isn't there yet.
-    pub(crate) fn add(&mut self, name: &[u8], spot: LabelTarget) -> Result<(), Memory>
+    pub(crate) fn add(&mut self, name: &'a [u8], spot: LabelTarget) -> Result<(), Memory>
         requires { spot_among self.old name.now ≡ None }
         ensures { OnOk result (self.new ≡ self.old ++ (name.now, spot_of spot) ∷ []) }
     {
-        let owned = Vec::from_slice(*self.spots.allocator(), name)?;
-        self.spots.insert(owned, spot)?;
+        let number = u32::try_from(self.spots.len()).map_err(|_| Memory)?;
+        self.spots.insert(name, NumberedSpot { number, spot })?;
         Ok(())
     }
 }

@@ -12,12 +12,13 @@ use tg_base::{CODE_BASE, STATICS_BASE, add, mul};
 use tg_isa::{AsmRule, Bits, Mips, Reg, encode};
 
 /// The place of a spot.
-pub(crate) fn address(layout: &Layout, spot: LabelTarget) -> u32
+pub(crate) fn address(layout: &Layout<'_>, spot: LabelTarget) -> u32
     ensures { result ≡ assembly.address (layout_of layout.now) (spot_of spot) }
 {
     match spot {
         LabelTarget::InCode(at) => add(CODE_BASE, mul(4, at)),
         LabelTarget::InStatics(at) => {
+            let at = at as usize;
             if at < layout.starts.len() {
                 add(STATICS_BASE, layout.starts[at])
             } else {
@@ -28,7 +29,7 @@ pub(crate) fn address(layout: &Layout, spot: LabelTarget) -> u32
 }
 
 /// The place of a label, or that there is none.
-pub(crate) fn place_of(layout: &Layout, label: &[u8]) -> Result<u32, AsmRule>
+pub(crate) fn place_of(layout: &Layout<'_>, label: &[u8]) -> Result<u32, AsmRule>
     ensures { result ≡ assembly.address_of (layout_of layout.now)
         (assembly.spot_of (layout_of layout.now) label.now) }
 {
@@ -84,7 +85,7 @@ fn branch_word(one: Mips, at: usize, to: u32) -> Result<u32, AsmRule>
     Ok(encode(&with_offset(one, Bits::new(65536 - behind as u32))))
 }
 
-fn branch_to(layout: &Layout, one: Mips, at: usize, label: &[u8]) -> Result<u32, AsmRule>
+fn branch_to(layout: &Layout<'_>, one: Mips, at: usize, label: &[u8]) -> Result<u32, AsmRule>
     requires { at < 2 ^ 63 }
     ensures { result ≡ assembly.branch_to one at
         (assembly.spot_of (layout_of layout.now) label.now) }
@@ -96,7 +97,7 @@ fn branch_to(layout: &Layout, one: Mips, at: usize, label: &[u8]) -> Result<u32,
     }
 }
 
-fn jump_to(layout: &Layout, one: Mips, label: &[u8]) -> Result<u32, AsmRule>
+fn jump_to(layout: &Layout<'_>, one: Mips, label: &[u8]) -> Result<u32, AsmRule>
     requires { IsSmall (layout_of layout.now) }
     ensures { result ≡ assembly.jump_to (layout_of layout.now) one
         (assembly.spot_of (layout_of layout.now) label.now) }
@@ -115,7 +116,7 @@ fn jump_to(layout: &Layout, one: Mips, label: &[u8]) -> Result<u32, AsmRule>
 }
 
 /// The upper half of a label's place for a register.
-fn upper(layout: &Layout, rt: Reg, label: &[u8]) -> Result<u32, AsmRule>
+fn upper(layout: &Layout<'_>, rt: Reg, label: &[u8]) -> Result<u32, AsmRule>
     ensures { result ≡ assembly.word (layout_of layout.now) 0
         (items.Upper rt label.now) }
 {
@@ -126,7 +127,7 @@ fn upper(layout: &Layout, rt: Reg, label: &[u8]) -> Result<u32, AsmRule>
 }
 
 /// The lower half.
-fn lower(layout: &Layout, rt: Reg, label: &[u8]) -> Result<u32, AsmRule>
+fn lower(layout: &Layout<'_>, rt: Reg, label: &[u8]) -> Result<u32, AsmRule>
     ensures { result ≡ assembly.word (layout_of layout.now) 0
         (items.Lower rt label.now) }
 {
@@ -137,7 +138,7 @@ fn lower(layout: &Layout, rt: Reg, label: &[u8]) -> Result<u32, AsmRule>
 }
 
 /// A word of the code that stands at a place of it.
-pub(crate) fn word(layout: &Layout, at: usize, coded: &Coded<'_>) -> Result<u32, AsmRule>
+pub(crate) fn word(layout: &Layout<'_>, at: usize, coded: &Coded<'_>) -> Result<u32, AsmRule>
     requires small { IsSmall (layout_of layout.now) }
     requires at { at < 2 ^ 63 }
     ensures { result ≡ assembly.word (layout_of layout.now) at (coded_of coded.now) }

@@ -1,20 +1,31 @@
 ghost use Rattle.std.specs.Prelude.{◌≡◌, ◌++◌, ◌∷◌, [], map, replicate, IfOk, OnOk, Ok};
 ghost use Rattle.tg_isa.specs.Assembly as assembly;
 ghost use Rattle.tg_isa.specs.Lines.{lines};
+ghost use Rattle.tg_asm.specs.Cuts.{operand_of};
 ghost use Rattle.tg_asm.specs.Images.{GivesMade, made_of};
 ghost use Rattle.tg_asm.specs.Layouts.{IsSmall, layout_of};
-ghost use Rattle.tg_asm.specs.Means.{Leaves, bytes_of, coded_of, datum_of, item_of, words_of};
+ghost use Rattle.tg_asm.specs.Means.{
+  Leaves,
+  bytes_of,
+  coded_of,
+  data_of,
+  datum_of,
+  item_of,
+  datum_stored,
+  words_of,
+};
 
 use crate::bytes::split_line;
+use crate::cuts::Operand;
 use crate::faults::{AsmFault, Refused};
-use crate::items::{Align, Coded, Datum, Item, Words};
+use crate::items::{Align, Coded, Contents, Datum, Item, Words, stored_datum};
 use crate::layouts::Layout;
 use crate::makers::{place_of, word};
 use crate::readings::read_line;
 use byteorder::{ByteOrder, LittleEndian};
 use std::alloc::Global;
 use tg_base::Memory;
-use tg_isa::Segment;
+use tg_isa::{Keyword, Segment};
 
 /// The code and the statics, as far as the lines were made.
 #[derive(Drop)]
@@ -26,7 +37,7 @@ pub(crate) struct Made {
 
 impl Made {
     /// Nothing is made yet, but there is room for all that a layout has.
-    fn unmade(alloc: Global, layout: &Layout) -> Result<Made, Memory>
+    fn unmade(alloc: Global, layout: &Layout<'_>) -> Result<Made, Memory>
         ensures { IfOk result (λ m. made_of m ≡ assembly.unmade) }
     {
         Ok(Made {
@@ -37,7 +48,7 @@ impl Made {
     }
 
     /// Adds a word of the code.
-    fn add_word(&mut self, layout: &Layout, coded: &Coded<'_>) -> Result<(), Refused>
+    fn add_word(&mut self, layout: &Layout<'_>, coded: &Coded<'_>) -> Result<(), Refused>
         requires { IsSmall (layout_of layout.now) }
         ensures { Leaves (assembly.make_words (layout_of layout.now) (made_of self.old)
             (coded_of coded.now ∷ [])) result (made_of self.new) }
@@ -53,7 +64,7 @@ impl Made {
 
     /// Adds the words of an item.
     #[tactic(auto, using(crate::proofs::MakingLoops::word_made, crate::proofs::MakingLoops::word_bad))]
-    fn add_words(&mut self, layout: &Layout, words: &Words<'_>) -> Result<(), Refused>
+    fn add_words(&mut self, layout: &Layout<'_>, words: &Words<'_>) -> Result<(), Refused>
         requires { IsSmall (layout_of layout.now) }
         ensures { Leaves (assembly.make_words (layout_of layout.now) (made_of self.old)
             (words_of words.now)) result (made_of self.new) }
@@ -89,7 +100,7 @@ impl Made {
     }
 
     /// Adds a datum to the statics.
-    fn add_datum(&mut self, layout: &Layout, datum: &Datum<'_>) -> Result<(), Refused>
+    fn add_datum(&mut self, layout: &Layout<'_>, datum: &Datum<'_>) -> Result<(), Refused>
         ensures { Leaves (assembly.make_data (layout_of layout.now) (made_of self.old)
             (datum_of datum.now ∷ [])) result (made_of self.new) }
     {
@@ -100,21 +111,50 @@ impl Made {
                 Err(rule) => Err(Refused::Rule(rule)),
             },
             Datum::Single(number) => self.add_bytes(&[number.field8()]),
-            Datum::Bytes(bytes) => self.add_bytes(bytes),
-            Datum::Zeros(count) => self.add_zeros(*count),
         }
     }
 
-    /// Adds data to the statics, in order.
-    #[tactic(auto, using(crate::proofs::MakingLoops::data_made, crate::proofs::MakingLoops::data_bad, crate::proofs::MakingLoops::data_end))]
-    fn add_data(&mut self, layout: &Layout, data: &[Datum<'_>]) -> Result<(), Refused>
+    /// Adds what an operand of `.word` or `.byte` says to the statics.
+    fn add_value(
+        &mut self,
+        layout: &Layout<'_>,
+        keyword: Keyword,
+        operand: Operand<'_>,
+    ) -> Result<(), Refused>
         ensures { Leaves (assembly.make_data (layout_of layout.now) (made_of self.old)
-            (map datum_of «data».now)) result (made_of self.new) }
+            (datum_stored keyword (operand_of operand.entry) ∷ [])) result (made_of self.new) }
     {
-        for datum in data {
-            self.add_datum(layout, datum)?;
+        self.add_datum(layout, &stored_datum(keyword, operand))
+    }
+
+    /// Adds what operands of `.word` or `.byte` say to the statics, in order.
+    #[tactic(auto, using(crate::proofs::MakingLoops::data_made, crate::proofs::MakingLoops::data_end))]
+    fn add_values(
+        &mut self,
+        layout: &Layout<'_>,
+        keyword: Keyword,
+        operands: &[Operand<'_>],
+    ) -> Result<(), Refused>
+        ensures { Leaves (assembly.make_data (layout_of layout.now) (made_of self.old)
+            (map (datum_stored keyword) (map operand_of operands.now))) result (made_of self.new) }
+    {
+        for operand in operands {
+            self.add_value(layout, keyword, *operand)?;
         }
         Ok(())
+    }
+
+    /// Adds data to the statics.
+    fn add_data(&mut self, layout: &Layout<'_>, contents: &Contents<'_>) -> Result<(), Refused>
+        ensures { Leaves (assembly.make_data (layout_of layout.now) (made_of self.old)
+            (data_of contents.now)) result (made_of self.new) }
+    {
+        match contents {
+            Contents::Nothing => Ok(()),
+            Contents::Bytes(bytes) => self.add_bytes(bytes),
+            Contents::Zeros(count) => self.add_zeros(*count),
+            Contents::Operands(keyword, operands) => self.add_values(layout, *keyword, operands),
+        }
     }
 
     /// Pads the statics with zeros.
@@ -128,7 +168,7 @@ impl Made {
     }
 
     /// Adds an item.
-    fn add_item(&mut self, layout: &Layout, item: &Item<'_>) -> Result<(), Refused>
+    fn add_item(&mut self, layout: &Layout<'_>, item: &Item<'_>) -> Result<(), Refused>
         requires { IsSmall (layout_of layout.now) }
         ensures { Leaves (assembly.make_item (layout_of layout.now) (made_of self.old)
             (item_of item.now)) result (made_of self.new) }
@@ -140,15 +180,15 @@ impl Made {
                 Ok(())
             }
             Item::Code(words) => self.add_words(layout, words),
-            Item::Data(align, data) => {
+            Item::Data(align, contents) => {
                 self.pad(*align)?;
-                self.add_data(layout, data)
+                self.add_data(layout, contents)
             }
         }
     }
 
     /// Adds what a line makes.
-    fn add_line(&mut self, alloc: Global, layout: &Layout, line: &[u8]) -> Result<(), Refused>
+    fn add_line(&mut self, alloc: Global, layout: &Layout<'_>, line: &[u8]) -> Result<(), Refused>
         requires { IsSmall (layout_of layout.now) }
         ensures { Leaves (assembly.make_line (layout_of layout.now) (made_of self.old) line.now)
             result (made_of self.new) }
@@ -169,7 +209,7 @@ fn word_bytes(word: u32) -> [u8; 4]
 
 /// What the lines of a text make, or the first fault of A5 and A6.
 #[tactic(auto, using(crate::proofs::MakingPass::made_first, crate::proofs::MakingPass::made_more, crate::proofs::MakingPass::made_last, crate::proofs::MakingPass::made_bad))]
-pub(crate) fn make(alloc: Global, layout: &Layout, text: &[u8]) -> Result<Made, AsmFault>
+pub(crate) fn make(alloc: Global, layout: &Layout<'_>, text: &[u8]) -> Result<Made, AsmFault>
     requires { IsSmall (layout_of layout.now) }
     ensures { GivesMade (assembly.make 1 (layout_of layout.now) assembly.unmade
         (lines text.now)) result }

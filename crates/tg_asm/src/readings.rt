@@ -22,22 +22,24 @@ pub(crate) struct Reading<'a> {
 fn read_cut<'a>(alloc: Global, segment: Segment, cut: Cut<'a>) -> Result<Reading<'a>, Refused>
     ensures { GivesMeant reading_of (assembly.read_cut segment (Some (cut_of cut.entry))) result }
 {
-    if cut.word.is_empty() {
+    let Cut {
+        labels,
+        word,
+        operands,
+    } = cut;
+    if word.is_empty() {
         return Ok(Reading {
-            labels: cut.labels,
+            labels,
             item: Item::Nothing,
         });
     }
-    match keyword(cut.word) {
+    match keyword(word) {
         Some(keyword) => {
             if !stands_in(keyword, segment) {
                 return Err(Refused::Rule(AsmRule::A1));
             }
-            let item = read_item(alloc, keyword, &cut.operands)?;
-            Ok(Reading {
-                labels: cut.labels,
-                item,
-            })
+            let item = read_item(alloc, keyword, operands)?;
+            Ok(Reading { labels, item })
         }
         None => Err(Refused::Rule(AsmRule::A2)),
     }
