@@ -10,7 +10,8 @@ use Rattle.tg_asm.specs.declared.spots.NumberedSpot.{NumberedSpot}
 use Rattle.tg_asm.specs.Spots.{spot_of}
 
 -- entries by their numbers: one more is put before the first of a greater number
-abbrev pub put_entry : (Bor (List ℕ) × NumberedSpot) → List (Bor (List ℕ) × NumberedSpot) → List (Bor (List ℕ) × NumberedSpot)
+abbrev pub put_entry : (Bor (List ℕ) × NumberedSpot) →
+    List (Bor (List ℕ) × NumberedSpot) → List (Bor (List ℕ) × NumberedSpot)
 put_entry e [] = e ∷ []
 put_entry e (f ∷ fs) = if nat_lt e.1.number f.1.number then e ∷ f ∷ fs else f ∷ put_entry e fs
 
