@@ -42,3 +42,17 @@ def instructions(command):
     words = ["valgrind", "--tool=callgrind", "--callgrind-out-file=/dev/null", *command]
     ran = subprocess.run(words, stdin=subprocess.DEVNULL, stdout=subprocess.DEVNULL, stderr=subprocess.PIPE)
     return int(re.search(rb"Collected : (\d+)", ran.stderr)[1])
+
+
+def least_steps(command, most):
+    """The least number of steps with which a run ends by itself, by bisection, and that run."""
+
+    def run(steps):
+        return subprocess.run([*command, "--steps", str(steps)], stdin=subprocess.DEVNULL, capture_output=True)
+
+    low, high = 0, most
+    ran = run(high)
+    while high - low > 1:
+        middle = (low + high) // 2
+        low, high = (middle, high) if run(middle).returncode == 109 else (low, middle)
+    return high, ran
