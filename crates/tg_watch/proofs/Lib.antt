@@ -1,4 +1,6 @@
 mod Vectors
+pub mod Pieces
+pub mod Telling
 mod Seeing
 mod CoveredPlaces
 mod LastFetches

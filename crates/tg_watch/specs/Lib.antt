@@ -1,5 +1,6 @@
 pub mod Watching
 pub mod Words
+pub mod Told
 pub mod Reports
 pub mod Counting
 pub mod Standing

@@ -6,6 +6,7 @@
 mod covering;
 mod lines;
 mod profiling;
+mod reporting;
 mod rows;
 mod running;
 mod tracing;
@@ -14,6 +15,7 @@ mod watchers;
 pub use covering::Coverage;
 pub use lines::word_text;
 pub use profiling::Profile;
+pub use reporting::write_reports;
 pub use running::{begin_all, run_watched};
 pub use tracing::Trace;
 pub use watchers::Watcher;
