@@ -3,10 +3,10 @@
 //! and tell nothing of what the system's files hold.
 #![tactic(auto)]
 
-ghost use Rattle.std.specs.Prelude.{◌≡◌, ◌≢◌, ◌⊎◌};
+ghost use Rattle.std.specs.Prelude.{◌≡◌, ◌≢◌, ◌⊎◌, MatchResult};
 ghost use Rattle.std.specs.IoError.{error_kind};
 ghost use Rattle.std.specs.Io.KnownBytes.{Appends};
-ghost use Rattle.tg_cli.specs.Ends.{EndsWith, IsStatus};
+ghost use Rattle.tg_cli.specs.Ends.{EndsWith, IsAnswered, IsStatus};
 
 mod counted;
 mod files;
@@ -14,18 +14,20 @@ mod readers;
 mod writers;
 
 use counted::Counted;
+use std::alloc::{AllocError, Global};
 use std::env;
-use std::io::{self, ErrorKind};
+use std::io::{self, ErrorKind, Write};
 use std::process::ExitCode;
 use tg_base::{Sink, write_all};
 use tg_driver::{Tools, tiger, usage};
 use tg_rounds::LeastUse;
+use tg_watch::{Coverage, Profile, Trace, Watcher};
 
 fn main(rt: HostRuntime) -> ExitCode {
     ExitCode::from(status(&rt))
 }
 
-/// Reads the words, and hands them with the real outside and the policy `LeastUse` to the top call.
+/// Reads the words, and asks the top call.
 fn status(rt: &HostRuntime) -> u8
     ensures { IsStatus result }
 {
@@ -38,16 +40,35 @@ fn status(rt: &HostRuntime) -> u8
     let Ok(words) = words else {
         return refusal(&mut err, OUT_OF_MEMORY, 70);
     };
-    let Ok(policy) = Box::new(alloc, LeastUse) else {
+    let Ok(status) = ask(rt, alloc, &words, &mut err) else {
         return refusal(&mut err, OUT_OF_MEMORY, 70);
     };
-    let tools = Tools { policy };
+    status
+}
+
+/// Hands the words with the real outside, the policy `LeastUse` and a watcher of each kind to the top
+/// call.
+fn ask<W: Write>(
+    rt: &HostRuntime,
+    alloc: Global,
+    words: &[String],
+    err: &mut Counted<W>,
+) -> Result<u8, AllocError>
+    ensures { MatchResult result (λ status. IsAnswered err.old err.new status)
+        (λ _. err.new ≡ err.old) }
+{
+    let policy = Box::new(alloc, LeastUse)?;
+    let mut watchers: Vec<Box<dyn Watcher>> = Vec::new(alloc);
+    watchers.push(Box::new(alloc, Profile::new(alloc))?)?;
+    watchers.push(Box::new(alloc, Coverage::new(alloc))?)?;
+    watchers.push(Box::new(alloc, Trace::new(alloc))?)?;
+    let tools = Tools { policy, watchers };
     let mut shelf = Counted::new(rt);
     let mut input = Counted::new(rt.stdin());
     let mut out = Counted::new(rt.stdout());
-    tiger(
-        alloc, &words, &mut shelf, &mut input, &mut out, &mut err, tools,
-    )
+    Ok(tiger(
+        alloc, words, &mut shelf, &mut input, &mut out, err, tools,
+    ))
 }
 
 const OUT_OF_MEMORY: &str = "tiger: out of memory\n";

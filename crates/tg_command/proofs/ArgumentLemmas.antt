@@ -10,11 +10,11 @@ use Rattle.clap.specs.declared.builder.command.Command.{Command}
 use Rattle.clap.specs.declared.builder.command.Command.TheViews.{out-Command as fields_of}
 use Rattle.clap.specs.declared.parser.matches.ArgMatches.{ArgMatches}
 use Rattle.clap.proofs.CallerLemmas.{required_in_chain}
-use Rattle.tg_command.specs.Simple.{IsArgument, IsGiven, positional, option}
+use Rattle.tg_command.specs.Simple.{IsArgument, IsGiven, IsValued, flag, option, positional}
 
 -- the names of the arguments
 abbrev names : List Text
-names = codes "mode" ∷ codes "file" ∷ codes "heap" ∷ codes "stack" ∷ codes "steps" ∷ []
+names = codes "mode" ∷ codes "file" ∷ codes "heap" ∷ codes "stack" ∷ codes "steps" ∷ codes "watch" ∷ []
 
 place : Text → ℕ
 place name = position_or_len (λ x. bytes_eq x name) names
@@ -42,10 +42,11 @@ fits rule a h named no_help no_version =
       ]),
     )
 
-module _ (a b d e f : Arg) (is_a : IsArgument (positional (codes "mode")) a) (is_b : IsArgument (positional (codes "file")) b)
-    (is_d : IsArgument (option (codes "heap")) d) (is_e : IsArgument (option (codes "stack")) e) (is_f : IsArgument (option (codes "steps")) f) where
+module _ (a b d e f w : Arg) (is_a : IsArgument (positional (codes "mode")) a) (is_b : IsArgument (positional (codes "file")) b)
+    (is_d : IsArgument (option (codes "heap")) d) (is_e : IsArgument (option (codes "stack")) e) (is_f : IsArgument (option (codes "steps")) f)
+    (is_w : IsArgument (flag (codes "watch")) w) where
   abbrev pub chain : List Arg
-  chain = a ∷ b ∷ d ∷ e ∷ f ∷ []
+  chain = a ∷ b ∷ d ∷ e ∷ f ∷ w ∷ []
 
   all_fit : All FitsChain chain
   all_fit zero x lt = fits _ a is_a refl refl refl
@@ -53,7 +54,8 @@ module _ (a b d e f : Arg) (is_a : IsArgument (positional (codes "mode")) a) (is
   all_fit (suc (suc zero)) x lt = fits _ d is_d refl refl refl
   all_fit (suc (suc (suc zero))) x lt = fits _ e is_e refl refl refl
   all_fit (suc (suc (suc (suc zero)))) x lt = fits _ f is_f refl refl refl
-  all_fit (suc (suc (suc (suc (suc k))))) x lt = absurd (omega arith)
+  all_fit (suc (suc (suc (suc (suc zero))))) x lt = fits _ w is_w refl refl refl
+  all_fit (suc (suc (suc (suc (suc (suc k)))))) x lt = absurd (omega arith)
 
   -- each argument stands in the place of its name
   stands : (k : ℕ) (x : Arg) → k < length chain → place (slice_index_or chain k x).id.now ≡ k
@@ -63,7 +65,8 @@ module _ (a b d e f : Arg) (is_a : IsArgument (positional (codes "mode")) a) (is
   stands (suc (suc zero)) x lt = rw (id_is _ d is_d) refl
   stands (suc (suc (suc zero))) x lt = rw (id_is _ e is_e) refl
   stands (suc (suc (suc (suc zero)))) x lt = rw (id_is _ f is_f) refl
-  stands (suc (suc (suc (suc (suc k))))) x lt = absurd (omega arith)
+  stands (suc (suc (suc (suc (suc zero))))) x lt = rw (id_is _ w is_w) refl
+  stands (suc (suc (suc (suc (suc (suc k)))))) x lt = absurd (omega arith)
 
   distinct : HasDistinctIds chain
   distinct j k y x low_j low_k same =
@@ -71,12 +74,12 @@ module _ (a b d e f : Arg) (is_a : IsArgument (positional (codes "mode")) a) (is
 
   module _ (start cmd : Command) (m : ArgMatches) (adds : AddsInTurn AddsArg start chain cmd) (args : args_of start ≡ []) (groups : groups_of start ≡ [])
       (globals : (fields_of start).has_globals ≡ false) (negates : (fields_of start).subcommand_negates_reqs ≡ false) (parsed : IsParsedFrom cmd m) where
-    takes : (name : Text) (x : Arg) → IsArgument (positional name) x → TakesValue x
-    takes name x h = (ap (λ (r : Rule). r.required) h.rule_is, ap (λ (r : Rule). r.action) h.rule_is, h.undivided, h.filled)
+    takes : (name : Text) (x : Arg) → IsArgument (positional name) x → IsValued x → TakesValue x
+    takes name x h v = (ap (λ (r : Rule). r.required) h.rule_is, ap (λ (r : Rule). r.action) h.rule_is, v.undivided, v.filled)
 
-    given : (k : ℕ) (name : Text) (x : Arg) → k < length chain → slice_index_or chain k x ≡ x → IsArgument (positional name) x → IsGiven name m
-    given k name x low at is = subst (λ t. IsGiven t m) (ap (λ (y : Arg). y.id.now) at ∙ id_is _ x is)
-        (required_in_chain start cmd chain k x m adds args groups globals negates all_fit distinct low (subst TakesValue (sym at) (takes name x is)) parsed)
+    given : (k : ℕ) (name : Text) (x : Arg) → k < length chain → slice_index_or chain k x ≡ x → IsArgument (positional name) x → IsValued x → IsGiven name m
+    given k name x low at is values = subst (λ t. IsGiven t m) (ap (λ (y : Arg). y.id.now) at ∙ id_is _ x is)
+        (required_in_chain start cmd chain k x m adds args groups globals negates all_fit distinct low (subst TakesValue (sym at) (takes name x is values)) parsed)
 
-    pub required_given : IsGiven (codes "mode") m × IsGiven (codes "file") m
-    required_given = (given 0 (codes "mode") a (omega arith) refl is_a, given 1 (codes "file") b (omega arith) refl is_b)
+    pub required_given : IsValued a → IsValued b → IsGiven (codes "mode") m × IsGiven (codes "file") m
+    required_given of_a of_b = (given 0 (codes "mode") a (omega arith) refl is_a of_a, given 1 (codes "file") b (omega arith) refl is_b of_b)

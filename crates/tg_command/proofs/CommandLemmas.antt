@@ -1,13 +1,15 @@
 -- Words ask for one thing at most, and then are no usage fault.
 use Rattle.std.specs.Prelude.{◌==◌, if◌then◌else◌, Result, Ok, Err, IfErr}
-use Rattle.std.proofs.Common.{◌≡◌, ◌∙◌, ℕ, List, [], ◌∷◌, Option, Some, None, refl, sym, ap, subst}
+use Rattle.std.proofs.Common.{◌≡◌, ◌∙◌, ℕ, List, [], ◌∷◌, Option, Some, None, true, false, refl, sym, ap, subst}
 use Rattle.std.specs.Option.{unwrap_or}
 use Rattle.tg_command.specs.Counts.{GivesCount, GivesNumber}
 use Rattle.tg_command.specs.declared.counts.Limits.{Limits}
+use Rattle.tg_command.specs.Flagged.{flags_fit}
 use Rattle.tg_command.specs.Modes.{name_of}
 use Rattle.tg_command.specs.declared.CommandFault.{CommandFault}
 use Rattle.tg_command.specs.declared.CommandFault.TheVariants.{Usage, Memory}
-use Rattle.tg_command.specs.Commands.{Ask, Asked, Blames, IsUsageFault, heap, mode, number, refused, stack, steps}
+use Rattle.tg_command.specs.Commands.{Ask, Asked, Blames, IsUsageFault, flags, heap, mode, number, refused, stack, steps}
+use Rattle.tg_command.specs.declared.flags.Flags.{Flags}
 use Rattle.tg_command.specs.declared.modes.Mode.{Mode}
 use Rattle.tg_command.specs.declared.modes.Mode.TheVariants.{Check, Build, Run, Exec, Alloc, Gen, Format}
 
@@ -61,7 +63,11 @@ asked_once words a b p q =
     let heaps = given_once _ _ a.heap b.heap p.heap q.heap in
     let stacks = given_once _ _ a.stack b.stack p.stack q.stack in
     let steps = given_once _ _ a.steps b.steps p.steps q.steps in
-    λ i. record { mode = modes i; file = files i; number = numbers i; heap = heaps i; stack = stacks i; steps = steps i }
+    let flags = p.flags.given ∙ sym q.flags.given in
+    λ i. record { mode = modes i; file = files i; number = numbers i; heap = heaps i; stack = stacks i; steps = steps i; flags = flags i }
+
+no_truth : false ≡ true → ⊥
+no_truth h = cc
 
 pub asked_no_fault : (words : List (List ℕ)) (a : Asked) → Ask words a → IsUsageFault words → ⊥
 asked_no_fault words a p (refused h) = h p.taken
@@ -75,6 +81,11 @@ asked_no_fault words a p (number m file named given h) =
 asked_no_fault words a p (heap h) = h a.heap p.heap
 asked_no_fault words a p (stack h) = h a.stack p.stack
 asked_no_fault words a p (steps h) = h a.steps p.steps
+asked_no_fault words a p (flags m named misfit) =
+    let modes = name_once a.mode m (some_once _ _ (sym p.mode ∙ named)) in
+    let fit = subst (λ (one : Mode). flags_fit one a.flags ≡ true) modes p.flags.fit in
+    let same = subst (λ (f : Flags). flags_fit m f ≡ true) p.flags.given fit in
+    no_truth (sym misfit ∙ same)
 
 -- words that have a usage fault are blamed by every error
 pub all_blamed : {T : Type 0} (r : Result T CommandFault) (words : List (List ℕ)) → IsUsageFault words → IfErr r (λ fault. Blames fault words)

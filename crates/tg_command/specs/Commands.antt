@@ -1,17 +1,19 @@
 -- What the words of a command line ask for.
-use Rattle.std.specs.Prelude.{◌≡◌, ℕ, List, Some, codes, string_bytes}
+use Rattle.std.specs.Prelude.{◌≡◌, ℕ, List, Some, true, false, codes, string_bytes}
 use Rattle.tg_command.specs.Counts.{GivesCount, GivesNumber, IsWithin, function_limits, heap_limits}
 use Rattle.tg_command.specs.Counts.{stack_limits, step_limits}
+use Rattle.tg_command.specs.Flagged.{GivesFlags, flags_fit, flags_of}
 use Rattle.tg_command.specs.Modes.{name_of}
 use Rattle.tg_command.specs.Simple.{IsTaken, value_of}
 use Rattle.tg_command.specs.declared.Command.{Command}
 use Rattle.tg_command.specs.declared.CommandFault.{CommandFault}
 use Rattle.tg_command.specs.declared.CommandFault.TheVariants.{Usage, Memory}
+use Rattle.tg_command.specs.declared.flags.Flags.{Flags}
 use Rattle.tg_command.specs.declared.modes.Mode.{Mode}
 use Rattle.tg_command.specs.declared.modes.Mode.TheVariants.{Gen}
 
 -- what a command line can ask for: a mode, a file by its name, the number of functions in `gen`,
--- the bytes of heap and of stack, and the steps
+-- the bytes of heap and of stack, the steps, and the flags
 pub record Asked : Type 0 where
   pub mode : Mode
   pub file : List ℕ
@@ -19,6 +21,7 @@ pub record Asked : Type 0 where
   pub heap : ℕ
   pub stack : ℕ
   pub steps : ℕ
+  pub flags : Flags
 
 -- what a command asks for
 abbrev pub asked_of : Command → Asked
@@ -29,14 +32,17 @@ asked_of c = record {
   heap = c.heap;
   stack = c.stack;
   steps = c.steps;
+  flags = c.flags;
 }
 
--- the number of functions of `gen`, the sizes and the steps keep their limits
+-- the number of functions of `gen`, the sizes and the steps keep their limits, and the mode takes
+-- the flags
 pub record KeepsLimits (a : Asked) : Type 0 where
   pub number : a.mode ≡ Gen → IsWithin function_limits a.number
   pub heap : IsWithin heap_limits a.heap
   pub stack : IsWithin stack_limits a.stack
   pub steps : IsWithin step_limits a.steps
+  pub flags : flags_fit a.mode a.flags ≡ true
 
 -- the words ask for this
 pub record Ask (words : List (List ℕ)) (a : Asked) : Type 0 where
@@ -47,9 +53,10 @@ pub record Ask (words : List (List ℕ)) (a : Asked) : Type 0 where
   pub heap : GivesCount heap_limits (value_of (codes "heap") words) a.heap
   pub stack : GivesCount stack_limits (value_of (codes "stack") words) a.stack
   pub steps : GivesCount step_limits (value_of (codes "steps") words) a.steps
+  pub flags : GivesFlags words a.mode a.flags
 
--- the words ask for nothing: the simple command refuses them, no mode has the name, or a value, in
--- `gen` FILE too, is no number within its limits
+-- the words ask for nothing: the simple command refuses them, no mode has the name, a value, in
+-- `gen` FILE too, is no number within its limits, or the mode doesn't take the flags
 pub data IsUsageFault (words : List (List ℕ)) : Type 0 where
   refused : (IsTaken words → ⊥) → IsUsageFault words
   mode : ((m : Mode) → value_of (codes "mode") words ≡ Some (name_of m) → ⊥) → IsUsageFault words
@@ -67,6 +74,11 @@ pub data IsUsageFault (words : List (List ℕ)) : Type 0 where
       IsUsageFault words
   steps :
       ((n : ℕ) → GivesCount step_limits (value_of (codes "steps") words) n → ⊥) →
+      IsUsageFault words
+  flags :
+      (m : Mode) →
+      value_of (codes "mode") words ≡ Some (name_of m) →
+      flags_fit m (flags_of words) ≡ false →
       IsUsageFault words
 
 -- what a fault says of the words; want of memory says nothing

@@ -1,5 +1,6 @@
 pub mod Counts
 pub mod Modes
 pub mod Simple
+pub mod Flagged
 pub mod Values
 pub mod Commands

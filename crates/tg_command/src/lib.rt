@@ -1,8 +1,10 @@
-//! The command line: `MODE FILE [--heap BYTES] [--stack BYTES] [--steps COUNT]`. Promises the mode,
-//! the file and the three numbers that the words ask for, or that they ask for none.
+//! The command line: `MODE FILE [--heap BYTES] [--stack BYTES] [--steps COUNT] [--watch]`. Promises
+//! the mode, the file, the three numbers and the flags that the words ask for, or that they ask for
+//! none.
 #![tactic(auto)]
 
 mod counts;
+mod flags;
 mod laws;
 mod modes;
 mod simple;
@@ -12,6 +14,8 @@ ghost use Rattle.tg_command.specs.declared.CommandFault.TheVariants.{Memory};
 ghost use Rattle.tg_command.specs.Commands.{Ask, Blames, IsUsageFault, KeepsLimits, asked_of};
 
 use counts::{HEAP, STACK, STEPS, count_or_default, number_for};
+pub use flags::Flags;
+use flags::flags_fit;
 pub use laws::asks_once;
 pub use modes::Mode;
 use modes::named;
@@ -32,6 +36,8 @@ pub struct Command {
     pub stack: u32,
     /// The most steps that a run takes: from 1 to 4,611,686,018,427,387,904.
     pub steps: u64,
+    /// The flags, which the mode takes.
+    pub flags: Flags,
 }
 
 /// Why a command line gives no command.
@@ -55,7 +61,8 @@ impl From<AllocError> for CommandFault {
 ///
 /// A repeated option, an abbreviated one, one without a value and a separate value that begins with
 /// `-` are usage faults. After `--` every word is MODE or FILE, and so is a lone `-`. An option
-/// that the mode doesn't use is read and tested as any other. `Usage` is answered only at a usage
+/// that the mode doesn't use is read and tested as any other; a flag that it doesn't take is a usage
+/// fault, and so is a repeated flag or one with a value. `Usage` is answered only at a usage
 /// fault, and a usage fault is never `Ok`; `Memory` may come in place of any answer.
 pub fn read_words(alloc: Global, words: &[String]) -> Result<Command, CommandFault>
     ensures ok { IfOk result (λ c. Ask (map string_bytes words.now) (asked_of c)) }
@@ -65,6 +72,9 @@ pub fn read_words(alloc: Global, words: &[String]) -> Result<Command, CommandFau
 {
     let values = take_words(alloc, words)?;
     let mode = named(values.mode).ok_or(CommandFault::Usage)?;
+    if !flags_fit(mode, values.flags) {
+        return Err(CommandFault::Usage);
+    }
     let number = number_for(mode, values.file)?;
     let heap = count_or_default(values.heap, HEAP).ok_or(CommandFault::Usage)?;
     let stack = count_or_default(values.stack, STACK).ok_or(CommandFault::Usage)?;
@@ -76,5 +86,6 @@ pub fn read_words(alloc: Global, words: &[String]) -> Result<Command, CommandFau
         heap: heap as u32,
         stack: stack as u32,
         steps,
+        flags: values.flags,
     })
 }

@@ -1,12 +1,16 @@
-ghost use Rattle.std.specs.Prelude.{◌≡◌, ◌≢◌, IfOk, map, string_bytes};
-ghost use Rattle.clap.specs.Words.{app_of, kind_of};
+ghost use Rattle.std.specs.Prelude.{◌≡◌, ◌≢◌, IfOk, codes, false, map, string_bytes};
+ghost use Rattle.std.specs.Option.{option_map_or};
+ghost use Rattle.std.specs.Str.{bytes_eq};
+ghost use Rattle.clap.specs.Words.{app_of, first_value, found_of, kind_of};
 ghost use Rattle.tg_command.specs.Simple as specs;
 ghost use Rattle.tg_command.specs.Values.{AreValuesOf};
-ghost use Rattle.tg_command.specs.Simple.{GivesRequired, IsArgument, IsTaken, simple_command};
+ghost use Rattle.tg_command.specs.Simple.{GivesRequired, IsArgument, IsTaken, IsValued};
+ghost use Rattle.tg_command.specs.Simple.{simple_command};
 
 use crate::CommandFault;
+use crate::flags::Flags;
 use clap::error::ErrorKind;
-use clap::{Arg, ArgAction, Command, Error};
+use clap::{Arg, ArgAction, ArgMatches, Command, Error};
 use std::alloc::{AllocError, Global};
 
 /// The values of the arguments, as they stand in the words.
@@ -17,11 +21,13 @@ pub(crate) struct Values<'a> {
     pub(crate) heap: Option<&'a str>,
     pub(crate) stack: Option<&'a str>,
     pub(crate) steps: Option<&'a str>,
+    pub(crate) flags: Flags,
 }
 
 // A positional that must be there.
 fn positional<'a>(alloc: Global, name: &'a str) -> Arg<'a>
-    ensures { IsArgument (specs.positional name.entry.now) result }
+    ensures argument { IsArgument (specs.positional name.entry.now) result }
+    ensures values { IsValued result }
 {
     Arg::new(alloc, name).required(true).action(ArgAction::Set)
 }
@@ -31,6 +37,13 @@ fn option<'a>(alloc: Global, name: &'a str) -> Arg<'a>
     ensures { IsArgument (specs.option name.entry.now) result }
 {
     Arg::new(alloc, name).long(name).action(ArgAction::Set)
+}
+
+// A flag.
+fn flag<'a>(alloc: Global, name: &'a str) -> Arg<'a>
+    ensures { IsArgument (specs.flag name.entry.now) result }
+{
+    Arg::new(alloc, name).long(name).action(ArgAction::SetTrue)
 }
 
 // The simple command.
@@ -45,7 +58,8 @@ fn command<'a>(alloc: Global) -> Result<Command<'a>, AllocError>
         .arg(positional(alloc, "file"))?
         .arg(option(alloc, "heap"))?
         .arg(option(alloc, "stack"))?
-        .arg(option(alloc, "steps"))
+        .arg(option(alloc, "steps"))?
+        .arg(flag(alloc, "watch"))
 }
 
 // The kind of fault that an error of the parse is.
@@ -56,6 +70,14 @@ fn fault_of(error: &Error) -> CommandFault
         ErrorKind::OutOfMemory => CommandFault::Memory,
         _ => CommandFault::Usage,
     }
+}
+
+/// Whether a flag stands in the words of a parse: its value is `true` then, and else `false`.
+fn has_flag(matches: &ArgMatches, name: &str) -> bool
+    ensures { result ≡ option_map_or (λ t. bytes_eq t (codes "true"))
+        (first_value (found_of matches.now) name.now) false }
+{
+    matches.get_str(name) == Some("true")
 }
 
 /// The values that the simple command takes from the words, of which the first is the program's
@@ -76,5 +98,8 @@ pub(crate) fn take_words<'a>(alloc: Global, words: &'a [String]) -> Result<Value
         heap: matches.get_str("heap"),
         stack: matches.get_str("stack"),
         steps: matches.get_str("steps"),
+        flags: Flags {
+            watch: has_flag(&matches, "watch"),
+        },
     })
 }

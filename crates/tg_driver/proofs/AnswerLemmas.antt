@@ -25,7 +25,7 @@ use Rattle.tg_meant.specs.Meant.{IsAsMeant}
 use Rattle.tg_driver.specs.Calls.{Stream, stream_of, Streams, Stays, Untouched, Shelved, IsUnread, Call, Takes, nothing, all, part}
 use Rattle.tg_driver.specs.OfFiles.{OfFile, unreadable, read, OrMemory, unread_answer, HasStarted, StaysBeforeStart, UntouchedBeforeStart}
 use Rattle.tg_driver.specs.Found.{IsRefused}
-use Rattle.tg_driver.specs.Runs.{RunRelation, HasRun, IsRunOrMemory}
+use Rattle.tg_driver.specs.Runs.{RunRelation, IsRunOrMemory}
 use Rattle.tg_driver.specs.CheckMode.{IsChecked, ByCheck}
 use Rattle.tg_driver.specs.Writing.{TakesText, TextRelation, IsWritten, ByWriting}
 use Rattle.tg_driver.specs.RunMode.{EndsAssembled, IsRun, ByRun}
@@ -36,7 +36,8 @@ use Rattle.tg_driver.specs.Modes.{InMode, LeavesAlone}
 use Rattle.tg_driver.specs.FormatMode.{IsFormatted, ByFormat}
 use Rattle.tg_driver.specs.Laws.{ReadsFile}
 use Rattle.tg_driver.specs.Telling.{IsBeforeStart, IsReported, itself, no_memory}
-use Rattle.tg_driver.specs.Answered.{IsDue, StaysInGen, usage, asked, Answers}
+use Rattle.tg_driver.specs.Answered.{IsDue, StaysInGen, NoneUnasked, told_runs, usage, asked, Answers}
+use Rattle.tg_driver.specs.Watching.{NoneBeforeEnd}
 use Rattle.tg_driver.specs.Answered as answered
 
 -- the answer is due to the front of a file, or the file wasn't read
@@ -120,11 +121,11 @@ ends_as_meant runs a text assembly (Finished end) b r = record { assembly = asse
 ends_as_meant runs a text assembly OutOfMemory b r = tt
 ends_as_meant runs a text assembly _ b r = absurd r
 
-pub assembled_run : {I O : Type 0} (s : Streams I O) (assembly : List ℕ) (image : Image) (heap stack steps : ℕ) (answer : Answer) →
-    assembled assembly ≡ Ok (image_of image) → IsRunOrMemory s image heap stack steps answer → EndsAssembled (HasRun s) assembly heap stack steps answer
-assembled_run s assembly image heap stack steps (Finished end) is run = record { image = image; assembles = is; run = run }
-assembled_run s assembly image heap stack steps OutOfMemory is run = tt
-assembled_run s assembly image heap stack steps _ is run = absurd run
+pub assembled_run : {I O : Type 0} (runs : RunRelation) (s : Streams I O) (assembly : List ℕ) (image : Image) (heap stack steps : ℕ) (answer : Answer) →
+    assembled assembly ≡ Ok (image_of image) → IsRunOrMemory runs s image heap stack steps answer → EndsAssembled runs assembly heap stack steps answer
+assembled_run runs s assembly image heap stack steps (Finished end) is run = record { image = image; assembles = is; run = run }
+assembled_run runs s assembly image heap stack steps OutOfMemory is run = tt
+assembled_run runs s assembly image heap stack steps _ is run = absurd run
 
 -- a run of what does what a generated source means, and its summary
 pub sums_up_meant : {O : Type 0} (out : Stream O) (functions : ℕ) (text assembly : List ℕ) (image : Image)
@@ -189,12 +190,12 @@ in_number out functions text other heap stack steps answer is h =
     subst P is h
 
 -- a run of an image that was assembled
-pub executed : {I O : Type 0} (s : Streams I O) (a : Asked) (text : List ℕ) (image : Image) (answer : Answer) →
-    length text ≤ 67108864 → assembled text ≡ Ok (image_of image) → IsRunOrMemory s image a.heap a.stack a.steps answer →
-    OrMemory (Unit {0}) (IsExecuted (HasRun s) a text) answer
-executed s a text image (Finished end) short is run = record { short = short; image = image; assembles = is; run = run }
-executed s a text image OutOfMemory short is run = tt
-executed s a text image _ short is run = absurd run
+pub executed : {I O : Type 0} (runs : RunRelation) (s : Streams I O) (a : Asked) (text : List ℕ) (image : Image) (answer : Answer) →
+    length text ≤ 67108864 → assembled text ≡ Ok (image_of image) → IsRunOrMemory runs s image a.heap a.stack a.steps answer →
+    OrMemory (Unit {0}) (IsExecuted runs a text) answer
+executed runs s a text image (Finished end) short is run = record { short = short; image = image; assembles = is; run = run }
+executed runs s a text image OutOfMemory short is run = tt
+executed runs s a text image _ short is run = absurd run
 
 -- a mode's answer to its file, and what it leaves alone
 pub by_check : {H I O : Type 0} (shelf : Shelved H) (s : Streams I O) (a : Asked) (answer : Answer) → Untouched s →
@@ -227,31 +228,32 @@ pub by_gen : {H I O : Type 0} (shelf : Shelved H) (s : Streams I O) (a : Asked) 
 by_gen shelf s a OutOfMemory same i o h = (i, o)
 by_gen shelf s a answer same i o h = (same, i, before_start s answer i o, h)
 
-pub by_run : {H I O : Type 0} (shelf : Shelved H) (s : Streams I O) (a : Asked) (answer : Answer) →
-    UntouchedBeforeStart s answer → OrMemory (Unit {0}) (OfFile shelf a.file 262145 (IsRun (HasRun s) a)) answer →
-    OrMemory (Untouched s) (ByRun shelf s a) answer
-by_run shelf s a OutOfMemory u h = u
-by_run shelf s a _ u h = (u, h)
+pub by_run : {H I O : Type 0} (runs : RunRelation) (shelf : Shelved H) (s : Streams I O) (a : Asked) (answer : Answer) →
+    UntouchedBeforeStart s answer → OrMemory (Unit {0}) (OfFile shelf a.file 262145 (IsRun runs a)) answer →
+    OrMemory (Untouched s) (ByRun runs shelf s a) answer
+by_run runs shelf s a OutOfMemory u h = u
+by_run runs shelf s a _ u h = (u, h)
 
-pub by_exec : {H I O : Type 0} (shelf : Shelved H) (s : Streams I O) (a : Asked) (answer : Answer) → UntouchedBeforeStart s answer →
-    OrMemory (Unit {0}) (OfFile shelf a.file 67108865 (IsExecuted (HasRun s) a)) answer → OrMemory (Untouched s) (ByExec shelf s a) answer
-by_exec shelf s a OutOfMemory u h = u
-by_exec shelf s a _ u h = (u, h)
+pub by_exec : {H I O : Type 0} (runs : RunRelation) (shelf : Shelved H) (s : Streams I O) (a : Asked) (answer : Answer) → UntouchedBeforeStart s answer →
+    OrMemory (Unit {0}) (OfFile shelf a.file 67108865 (IsExecuted runs a)) answer → OrMemory (Untouched s) (ByExec runs shelf s a) answer
+by_exec runs shelf s a OutOfMemory u h = u
+by_exec runs shelf s a _ u h = (u, h)
 
 -- the answer to a command is the answer to its words
-pub due_of_mode : {H I O : Type 0} (rule : SpillRule) (words : List (List ℕ)) (shelf : Shelved H) (s : Streams I O) (a : Asked) (answer : Answer) →
-    Ask words a → OrMemory (LeavesAlone a.mode shelf s) (InMode rule a.mode shelf s a) answer → IsDue rule words shelf s answer
-due_of_mode rule words shelf s a OutOfMemory ask h =
+pub due_of_mode : {H I O : Type 0} (rule : SpillRule) (runs : Asked → RunRelation) (words : List (List ℕ)) (shelf : Shelved H) (s : Streams I O)
+    (a : Asked) (answer : Answer) → Ask words a → OrMemory (LeavesAlone a.mode shelf s) (InMode rule (runs a) a.mode shelf s a) answer →
+    IsDue rule runs words shelf s answer
+due_of_mode rule runs words shelf s a OutOfMemory ask h =
     answered.no_memory refl (λ b other gen. h.0 (ap (λ (x : Asked). x.mode) (asked_once words a b ask other) ∙ gen)) h.1
-due_of_mode rule words shelf s a _ ask h = asked a ask h
+due_of_mode rule runs words shelf s a _ ask h = asked a ask h
 
 -- whatever the answer, `gen` leaves the shelf as it was
-pub stays_in_gen : {H I O : Type 0} (rule : SpillRule) (words : List (List ℕ)) (shelf : Shelved H) (s : Streams I O) (answer : Answer) →
-    IsDue rule words shelf s answer → StaysInGen words shelf
-stays_in_gen rule words shelf s answer (usage is fault same u) = λ a ask gen. same
-stays_in_gen rule words shelf s answer (answered.no_memory is kept u) = kept
-stays_in_gen rule words shelf s answer (asked a ask h) = λ b other gen.
-    let P : Mode → Type 0 = λ m. InMode rule m shelf s a answer in
+pub stays_in_gen : {H I O : Type 0} (rule : SpillRule) (runs : Asked → RunRelation) (words : List (List ℕ)) (shelf : Shelved H) (s : Streams I O)
+    (answer : Answer) → IsDue rule runs words shelf s answer → StaysInGen words shelf
+stays_in_gen rule runs words shelf s answer (usage is fault same u) = λ a ask gen. same
+stays_in_gen rule runs words shelf s answer (answered.no_memory is kept u) = kept
+stays_in_gen rule runs words shelf s answer (asked a ask h) = λ b other gen.
+    let P : Mode → Type 0 = λ m. InMode rule (runs a) m shelf s a answer in
     (subst P (ap (λ (x : Asked). x.mode) (asked_once words a b ask other) ∙ gen) h).0
 
 -- before that nothing was touched
@@ -261,51 +263,49 @@ untouched s Written b u = absurd b
 untouched s Unwritten b u = absurd b
 untouched s _ b u = u
 
-left_in : {H I O : Type 0} (rule : SpillRule) (mode : Mode) (shelf : Shelved H) (s : Streams I O) (a : Asked) (answer : Answer) →
-    IsBeforeStart answer → InMode rule mode shelf s a answer → Untouched s
-left_in rule Check shelf s a answer b h = h.0
-left_in rule Build shelf s a answer b h = untouched s answer b h.1
-left_in rule Run shelf s a answer b h = untouched s answer b h.0
-left_in rule Exec shelf s a answer b h = untouched s answer b h.0
-left_in rule Alloc shelf s a answer b h = untouched s answer b h.1
-left_in rule Gen shelf s a answer b h = untouched s answer b h.2
-left_in rule Format shelf s a answer b h = untouched s answer b h.1
+left_in : {H I O : Type 0} (rule : SpillRule) (runs : RunRelation) (mode : Mode) (shelf : Shelved H) (s : Streams I O) (a : Asked) (answer : Answer) →
+    IsBeforeStart answer → InMode rule runs mode shelf s a answer → Untouched s
+left_in rule runs Check shelf s a answer b h = h.0
+left_in rule runs Build shelf s a answer b h = untouched s answer b h.1
+left_in rule runs Run shelf s a answer b h = untouched s answer b h.0
+left_in rule runs Exec shelf s a answer b h = untouched s answer b h.0
+left_in rule runs Alloc shelf s a answer b h = untouched s answer b h.1
+left_in rule runs Gen shelf s a answer b h = untouched s answer b h.2
+left_in rule runs Format shelf s a answer b h = untouched s answer b h.1
 
-pub left_alone : {H I O : Type 0} (rule : SpillRule) (words : List (List ℕ)) (shelf : Shelved H) (s : Streams I O) (answer : Answer) →
-    IsBeforeStart answer → IsDue rule words shelf s answer → Untouched s
-left_alone rule words shelf s answer b (usage is fault same u) = u
-left_alone rule words shelf s answer b (answered.no_memory is kept u) = u
-left_alone rule words shelf s answer b (asked a ask h) = left_in rule a.mode shelf s a answer b h
+pub left_alone : {H I O : Type 0} (rule : SpillRule) (runs : Asked → RunRelation) (words : List (List ℕ)) (shelf : Shelved H) (s : Streams I O)
+    (answer : Answer) → IsBeforeStart answer → IsDue rule runs words shelf s answer → Untouched s
+left_alone rule runs words shelf s answer b (usage is fault same u) = u
+left_alone rule runs words shelf s answer b (answered.no_memory is kept u) = u
+left_alone rule runs words shelf s answer b (asked a ask h) = left_in rule (runs a) a.mode shelf s a answer b h
 
 -- the answer that was told
-pub answers_of : {H I O E : Type 0} (c : Call H I O E) (status : ℕ) (answer : Answer) → IsDue c.rule c.words c.shelf c.streams answer →
-    IsReported c.err answer status → Answers c status
-answers_of c status answer due (itself told) = record { answer = answer; due = due; told = told }
-answers_of c status answer due (no_memory before told) =
+pub answers_of : {H I O E : Type 0} (c : Call H I O E) (status : ℕ) (reports : List ℕ) (answer : Answer) →
+    IsDue c.rule (told_runs c reports) c.words c.shelf c.streams answer → NoneBeforeEnd reports answer → NoneUnasked c.words reports →
+    IsReported c.err reports answer status → Answers c status
+answers_of c status reports answer due before_end unasked (itself told) =
+    record { answer = answer; reports = reports; due = due; before_end = before_end; unasked = unasked; told = told }
+answers_of c status reports answer due before_end unasked (no_memory before told) =
     record {
       answer = OutOfMemory;
-      due = answered.no_memory refl (stays_in_gen c.rule c.words c.shelf c.streams answer due)
-          (left_alone c.rule c.words c.shelf c.streams answer before due);
+      reports = [];
+      due = answered.no_memory refl (stays_in_gen c.rule (told_runs c reports) c.words c.shelf c.streams answer due)
+          (left_alone c.rule (told_runs c reports) c.words c.shelf c.streams answer before due);
+      before_end = refl;
+      unasked = λ a ask off. refl;
       told = told;
     }
 
--- and so by the rule of the policy in the box
-pub answers_by : {H I O E : Type 0} (rule : SpillRule) (c : Call H I O E) (status : ℕ) (answer : Answer) → rule ≡ c.rule →
-    IsDue rule c.words c.shelf c.streams answer → IsReported c.err answer status → Answers c status
-answers_by rule c status answer is due told =
-    let P : SpillRule → Type 0 = λ r. IsDue r c.words c.shelf c.streams answer in
-    answers_of c status answer (subst P is due) told
-
 -- the answer in the mode of a command
-pub in_mode : {H I O : Type 0} (rule : SpillRule) (m : Mode) (shelf : Shelved H) (s : Streams I O) (a : Asked) (answer : Answer) →
-    (m ≡ Gen → shelf.after ≡ shelf.before) → a.mode ≡ m → OrMemory (Untouched s) (InMode rule m shelf s a) answer →
-    OrMemory (LeavesAlone a.mode shelf s) (InMode rule a.mode shelf s a) answer
-in_mode rule m shelf s a answer kept is h =
-    let P : Mode → Type 0 = λ x. OrMemory (LeavesAlone x shelf s) (InMode rule x shelf s a) answer in
+pub in_mode : {H I O : Type 0} (rule : SpillRule) (runs : RunRelation) (m : Mode) (shelf : Shelved H) (s : Streams I O) (a : Asked) (answer : Answer) →
+    (m ≡ Gen → shelf.after ≡ shelf.before) → a.mode ≡ m → OrMemory (Untouched s) (InMode rule runs m shelf s a) answer →
+    OrMemory (LeavesAlone a.mode shelf s) (InMode rule runs a.mode shelf s a) answer
+in_mode rule runs m shelf s a answer kept is h =
+    let P : Mode → Type 0 = λ x. OrMemory (LeavesAlone x shelf s) (InMode rule runs x shelf s a) answer in
     subst P (sym is) (with_shelf answer h)
   where
-    with_shelf : (answer : Answer) → OrMemory (Untouched s) (InMode rule m shelf s a) answer →
-        OrMemory (LeavesAlone m shelf s) (InMode rule m shelf s a) answer
+    with_shelf : (answer : Answer) → OrMemory (Untouched s) (InMode rule runs m shelf s a) answer →
+        OrMemory (LeavesAlone m shelf s) (InMode rule runs m shelf s a) answer
     with_shelf OutOfMemory h = (kept, h)
     with_shelf _ h = h
 

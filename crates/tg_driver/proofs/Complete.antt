@@ -1,5 +1,5 @@
 -- Good words for a file that is there, with no fault of a count, are answered as text and input settle, or by want of memory.
-use Rattle.std.proofs.Common.{ℕ, ◌≡◌, ◌≤◌, ◌⊎◌, inl, inr, List, [], Option, Some, None, take, append-nil, refl, sym, subst, arith}
+use Rattle.std.proofs.Common.{ℕ, ◌≡◌, ◌≤◌, ◌⊎◌, inl, inr, List, [], ◌++◌, Option, Some, None, take, append-nil, refl, sym, subst, arith}
 use Rattle.std.specs.Io.KnownBytes.{Appends}
 use Rattle.tg_base.specs.Causes.{Rose}
 use Rattle.tg_base.specs.Files.{Files, IsFrontOf}
@@ -7,6 +7,7 @@ use Rattle.tg_base.specs.declared.ends.RunEnd.{RunEnd}
 use Rattle.tg_base.specs.declared.ends.RunEnd.TheVariants.{Exit, Break, Overflow, HeapFull, StackFull, StepLimit, BadAddress, Unaligned, BadWord}
 use Rattle.tg_base.specs.declared.ends.RunEnd.TheVariants.{BadService, ReadFault, WriteFault}
 use Rattle.tg_isa.specs.declared.images.Image.{Image}
+use Rattle.tg_watch.specs.Watching.{Report}
 use Rattle.tg_command.specs.declared.modes.Mode.{Mode}
 use Rattle.tg_command.specs.declared.modes.Mode.TheVariants.{Check, Build, Run, Exec, Alloc, Gen, Format}
 use Rattle.tg_command.specs.Commands.{Asked}
@@ -24,11 +25,12 @@ use Rattle.tg_driver.specs.ExecMode.{IsExecuted}
 use Rattle.tg_driver.specs.GenMode.{no_input, summary, TakesSummary, IsGenerated}
 use Rattle.tg_driver.specs.Endings.{end_status}
 use Rattle.tg_driver.specs.Modes.{InMode, most_of}
-use Rattle.tg_driver.specs.Statuses.{line_of}
-use Rattle.tg_driver.specs.Telling.{IsTold}
-use Rattle.tg_driver.specs.Answered.{IsDue, usage, no_memory, asked, Answers}
-use Rattle.tg_driver.specs.Laws.{HoldsFile, ReadsFile, IsGood, Gives, EndsAsTold, IsFaultyOrWritten, EndsGenerated, Settles, IsSettled}
-use Rattle.tg_driver.proofs.ExactRuns.{ends_as_told, ends_faultless}
+use Rattle.tg_driver.specs.Statuses.{status_of, line_of}
+use Rattle.tg_driver.specs.Watching.{HasToldRun, if_watched, run_in}
+use Rattle.tg_driver.specs.Answered.{IsDue, told_runs, usage, no_memory, asked, Answers}
+use Rattle.tg_driver.specs.Laws.{HoldsFile, ReadsFile, IsGood, Gives, EndsAsTold, EndsAndTells, IsFaultyOrWritten, EndsGenerated, Settles, settled_runs, IsSettled}
+use Rattle.tg_driver.proofs.ExactRuns.{ends_as_told, ends_faultless, exact_reports}
+use Rattle.tg_driver.proofs.Watched.{run_more, exec_more}
 use Rattle.tg_driver.proofs.SourcesOnce.{meant_source, listed_source}
 use Rattle.tg_driver.proofs.CanonicalTexts.{of_formatted}
 
@@ -50,13 +52,6 @@ to_text shelf name most due file answer there readable (read text front h) =
     let P : List ℕ → Type 0 = λ t. due t answer in
     subst P (front_is _ name most text file there.at there.tells there.holds front) h
 
--- what is said of runs may be said more weakly
-ends_more : (runs others : RunRelation) (text : List ℕ) (heap stack steps : ℕ) (end : RunEnd) →
-    ((image : Image) → runs image heap stack steps end → others image heap stack steps end) → EndsAsMeant runs text heap stack steps end →
-    EndsAsMeant others text heap stack steps end
-ends_more runs others text heap stack steps end more e =
-    record { assembly = e.assembly; meant = e.meant; ran = record { image = e.ran.image; assembles = e.ran.assembles; run = more e.ran.image e.ran.run } }
-
 of_written : {O : Type 0} (out : Stream O) (writes : TextRelation) (source : List ℕ) (answer : Answer) → (HasFailed out → ⊥) →
     ((text : List ℕ) → writes source text → IsSource source) → IsWritten out writes source answer → IsFaultyOrWritten source answer
 of_written out writes source (Faulty f) written is h = h
@@ -69,21 +64,17 @@ of_written out writes source Unwritten written is h = failed h.takes
     failed (part same some f front) = written f
 of_written out writes source _ written is h = absurd h
 
-of_run : {I O : Type 0} (s : Streams I O) (a : Asked) (text : List ℕ) (answer : Answer) →
-    (HasFailed s.input → ⊥) → (HasFailed s.out → ⊥) → IsRun (HasRun s) a text answer → IsRun (EndsAsTold (s.input.told s.input.before)) a text answer
-of_run s a text (Faulty f) r w h = h
-of_run s a text (Finished end) r w h =
-    ends_more (HasRun s) (EndsAsTold (s.input.told s.input.before)) text a.heap a.stack a.steps end
-    (λ image run. ends_faultless s image a.heap a.stack a.steps end r w run) h
-of_run s a text _ r w h = absurd h
-
-of_exec : {I O : Type 0} (s : Streams I O) (a : Asked) (text : List ℕ) (answer : Answer) → (HasFailed s.input → ⊥) →
-    (HasFailed s.out → ⊥) → IsExecuted (HasRun s) a text answer → IsExecuted (EndsAsTold (s.input.told s.input.before)) a text answer
-of_exec s a text TooLong r w h = h
-of_exec s a text (BadLine rule line) r w h = h
-of_exec s a text (Finished end) r w h =
-    record { short = h.short; image = h.image; assembles = h.assembles; run = ends_faultless s h.image a.heap a.stack a.steps end r w h.run }
-of_exec s a text _ r w h = absurd h
+-- a run whose reads and writes all passed, and its reports
+ends_and_tells : {I O : Type 0} (s : Streams I O) (reporters : List Report) (reports : List ℕ) (image : Image) (heap stack steps : ℕ) (end : RunEnd) →
+    (HasFailed s.input → ⊥) → (HasFailed s.out → ⊥) → HasToldRun s reporters reports image heap stack steps end →
+    EndsAndTells (s.input.told s.input.before) reporters reports image heap stack steps end
+ends_and_tells s reporters reports image heap stack steps end r w h =
+    let run = run_in s reporters reports image heap stack steps end h in
+    record {
+      ends = ends_faultless s image heap stack steps end r w run;
+      tells = λ bytes tells. exact_reports s reporters reports image heap stack steps end bytes (λ d. r (run.ran.read_cause d))
+          (λ d. w (run.ran.write_cause d)) h tells;
+    }
 
 -- counts over a run and a summary
 pub rose_later : (a b c : ℕ) → a ≤ b → Rose b c → Rose a c
@@ -162,20 +153,22 @@ of_gen out a answer kept h =
       };
     })
 
-settled : {H I O E : Type 0} (c : Call H I O E) (a : Asked) (file : List ℕ) (mode : Mode) (answer : Answer) → IsGood c a file →
-    (ReadsFile mode → ReadsFile a.mode) → InMode c.rule mode c.shelf c.streams a answer →
-    Settles (c.streams.input.told c.streams.input.before) mode a (take (most_of mode) file) answer
-settled c a file Check answer good reads h = to_text c.shelf a.file 262145 _ file answer (good.there (reads tt)) good.readable h.1
-settled c a file Build answer good reads h = of_written c.streams.out _ _ answer good.all_written (meant_source _)
+settled : {H I O E : Type 0} (c : Call H I O E) (a : Asked) (file : List ℕ) (mode : Mode) (reports : List ℕ) (answer : Answer) → IsGood c a file →
+    (ReadsFile mode → ReadsFile a.mode) → InMode c.rule (told_runs c reports a) mode c.shelf c.streams a answer →
+    Settles (settled_runs c reports a) mode a (take (most_of mode) file) answer
+settled c a file Check reports answer good reads h = to_text c.shelf a.file 262145 _ file answer (good.there (reads tt)) good.readable h.1
+settled c a file Build reports answer good reads h = of_written c.streams.out _ _ answer good.all_written (meant_source _)
     (to_text c.shelf a.file 262145 _ file answer (good.there (reads tt)) good.readable h.2)
-settled c a file Run answer good reads h = of_run c.streams a _ answer good.all_read good.all_written
+settled c a file Run reports answer good reads h = run_more (told_runs c reports a) (settled_runs c reports a) a _ answer
+    (λ image end is. ends_and_tells c.streams (if_watched a.flags c.reporters) reports image a.heap a.stack a.steps end good.all_read good.all_written)
     (to_text c.shelf a.file 262145 _ file answer (good.there (reads tt)) good.readable h.1)
-settled c a file Exec answer good reads h = of_exec c.streams a _ answer good.all_read good.all_written
+settled c a file Exec reports answer good reads h = exec_more (told_runs c reports a) (settled_runs c reports a) a _ answer
+    (λ image end is. ends_and_tells c.streams (if_watched a.flags c.reporters) reports image a.heap a.stack a.steps end good.all_read good.all_written)
     (to_text c.shelf a.file 67108865 _ file answer (good.there (reads tt)) good.readable h.1)
-settled c a file Alloc answer good reads h = of_written c.streams.out _ _ answer good.all_written (listed_source c.rule _)
+settled c a file Alloc reports answer good reads h = of_written c.streams.out _ _ answer good.all_written (listed_source c.rule _)
     (to_text c.shelf a.file 262145 _ file answer (good.there (reads tt)) good.readable h.2)
-settled c a file Gen answer good reads h = of_gen c.streams.out a answer good.all_written h.3
-settled c a file Format answer good reads h = of_formatted c.streams.out _ answer good.all_written
+settled c a file Gen reports answer good reads h = of_gen c.streams.out a answer good.all_written h.3
+settled c a file Format reports answer good reads h = of_formatted c.streams.out _ answer good.all_written
     (to_text c.shelf a.file 262145 _ file answer (good.there (reads tt)) good.readable h.2)
 
 -- a sink that is as it was took a text that is empty
@@ -190,22 +183,42 @@ none_taken {T} sink due none stays =
     let Q : T → Type 0 = λ x. Appends (sink.told sink.before) (sink.told x) due in
     subst Q (sym stays) (subst P (sym none) (none_appended (sink.told sink.before)))
 
--- the line was told
-pub given : {H I O E : Type 0} (c : Call H I O E) (status : ℕ) (a : Asked) (file : List ℕ) (answer : Answer) → IsGood c a file →
-    IsTold c.err answer status → Gives c status answer
-given c status a file answer good (nothing none is stays) = record { status_is = is; line_is = none_taken c.err (line_of answer) none stays }
-given c status a file answer good (all some is line) = record { status_is = is; line_is = line }
-given c status a file answer good (part is some failed front) = absurd (good.all_told failed)
+-- the reports and the line were told
+took : {T : Type 0} (sink : Stream T) (due : List ℕ) (whole status : ℕ) → (HasFailed sink → ⊥) → Takes sink due whole 74 status →
+    (status ≡ whole) × Appends (sink.told sink.before) (sink.told sink.after) due
+took sink due whole status kept (nothing none is stays) = (is, none_taken sink due none stays)
+took sink due whole status kept (all some is line) = (is, line)
+took sink due whole status kept (part is some failed front) = absurd (kept failed)
+
+pub given : {H I O E : Type 0} (c : Call H I O E) (status : ℕ) (a : Asked) (file : List ℕ) (h : Answers c status) → IsGood c a file →
+    Gives c status h.reports h.answer
+given c status a file h good =
+    let t = took c.err (h.reports ++ line_of h.answer) (status_of h.answer) status good.all_told h.told in
+    record { status_is = t.0; text_is = t.1; before_end = h.before_end; unasked = h.unasked }
+
+-- want of memory was told
+pub given_memory : {H I O E : Type 0} (c : Call H I O E) (status : ℕ) (reports : List ℕ) (answer : Answer) → answer ≡ OutOfMemory →
+    Gives c status reports answer → Gives c status [] OutOfMemory
+given_memory c status reports answer is g =
+    let P : Answer → Type 0 = λ x. Gives c status reports x in
+    let Q : List ℕ → Type 0 = λ r. Gives c status r OutOfMemory in
+    let m = subst P is g in
+    subst Q m.before_end m
 
 pub complete : {H I O E : Type 0} (c : Call H I O E) (status : ℕ) (a : Asked) (file : List ℕ) → Answers c status →
-    IsGood c a file → IsSettled c status a (take (most_of a.mode) file) ⊎ Gives c status OutOfMemory
-complete c status a file h good = by h.answer (given c status a file h.answer good h.told) h.due
+    IsGood c a file → IsSettled c status a (take (most_of a.mode) file) ⊎ Gives c status [] OutOfMemory
+complete c status a file h good = by h.due
   where
-    by : (found : Answer) → Gives c status found → IsDue c.rule c.words c.shelf c.streams found →
-        IsSettled c status a (take (most_of a.mode) file) ⊎ Gives c status OutOfMemory
-    by found gives (usage is fault same u) = absurd (asked_no_fault c.words a good.ask fault)
-    by found gives (no_memory is kept u) = let P : Answer → Type 0 = λ x. Gives c status x in inr (subst P is gives)
-    by found gives (asked b ask h) =
-        let P : Asked → Type 0 = λ x. InMode c.rule x.mode c.shelf c.streams x found in
-        let in_mode = subst P (asked_once c.words b a ask good.ask) h in
-        inl (record { answer = found; settled = settled c a file a.mode found good (λ r. r) in_mode; gives = gives })
+    by : IsDue c.rule (told_runs c h.reports) c.words c.shelf c.streams h.answer →
+        IsSettled c status a (take (most_of a.mode) file) ⊎ Gives c status [] OutOfMemory
+    by (usage is fault same u) = absurd (asked_no_fault c.words a good.ask fault)
+    by (no_memory is kept u) = inr (given_memory c status h.reports h.answer is (given c status a file h good))
+    by (asked b ask in_its) =
+        let P : Asked → Type 0 = λ x. InMode c.rule (told_runs c h.reports x) x.mode c.shelf c.streams x h.answer in
+        let in_mode = subst P (asked_once c.words b a ask good.ask) in_its in
+        inl (record {
+          answer = h.answer;
+          reports = h.reports;
+          settled = settled c a file a.mode h.reports h.answer good (λ r. r) in_mode;
+          gives = given c status a file h good;
+        })

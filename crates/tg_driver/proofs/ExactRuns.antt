@@ -1,5 +1,5 @@
 -- Runs whose reads and writes all succeed are those of the definition.
-use Rattle.std.proofs.Common.{ℕ, ◌≡◌, List, [], ◌++◌, Option, Some, sym, ap, subst, ◌∙◌, append-nil}
+use Rattle.std.proofs.Common.{ℕ, ◌≡◌, List, [], ◌++◌, Option, Some, refl, sym, ap, subst, ◌∙◌, append-nil, length}
 use Rattle.std.specs.Io.KnownBytes.{Appends}
 use Rattle.tg_base.specs.declared.ends.RunEnd.{RunEnd}
 use Rattle.tg_base.specs.declared.ends.RunEnd.TheVariants.{ReadFault, WriteFault}
@@ -7,8 +7,12 @@ use Rattle.tg_base.specs.State.{start}
 use Rattle.tg_isa.specs.declared.images.Image.{Image}
 use Rattle.tg_isa.specs.Runs.{Execution, run, begun, answers}
 use Rattle.tg_machine.specs.Ran.{Stops, still, ended, read_failed, write_failed, Tells}
+use Rattle.tg_machine.specs.Fetches.{fetches, fetches_until}
+use Rattle.tg_watch.specs.Told.{reports_text}
+use Rattle.tg_watch.specs.Watching.{Report}
 use Rattle.tg_driver.specs.Calls.{Streams, HasFailed}
 use Rattle.tg_driver.specs.Runs.{RunRelation, HasRun, end_in, world_in, IsExact}
+use Rattle.tg_driver.specs.Watching.{HasToldRun, reports_on}
 use Rattle.tg_driver.specs.Laws.{IsFaultless, EndsAsTold}
 use Rattle.tg_driver.specs.declared.answers.Answer.TheVariants.{Finished}
 
@@ -70,3 +74,23 @@ pub ends_faultless : {I O : Type 0} (s : Streams I O) (image : Image) (heap stac
     (HasFailed s.input → ⊥) → (HasFailed s.out → ⊥) → HasRun s image heap stack steps end → EndsAsTold (s.input.told s.input.before) image heap stack steps end
 ends_faultless s image heap stack steps end read written h = ends_as_told s image heap stack steps end
     (λ d. read (h.ran.read_cause d)) (λ d. written (h.ran.write_cause d)) h
+
+-- what a run fetches whose reads and writes all pass
+fetched : (n : ℕ) (w : Execution) (e : RunEnd) (last : Execution) (front : List ℕ) (stops : Stops n w e last front) → (e ≡ ReadFault → ⊥) →
+    (e ≡ WriteFault → ⊥) → fetches_until stops ≡ fetches n w
+fetched n w e last front (still q p f) r s = refl
+fetched n w e last front (ended q f) r s = refl
+fetched n w e last front (read_failed i l q p d f) r s = absurd (r d)
+fetched n w e last front (write_failed i rest l q p d) r s = absurd (s d)
+
+-- and the reports of it
+pub exact_reports : {I O : Type 0} (s : Streams I O) (reporters : List Report) (reports : List ℕ) (image : Image) (heap stack steps : ℕ) (end : RunEnd)
+    (bytes : List ℕ) → (end ≡ ReadFault → ⊥) → (end ≡ WriteFault → ⊥) → HasToldRun s reporters reports image heap stack steps end →
+    s.input.told s.input.before ≡ Some bytes → reports ≡ reports_on reporters image heap stack steps bytes
+exact_reports s reporters reports image heap stack steps end bytes read written h tells =
+    let r = h.watched.simulation in
+    let T : Option (List ℕ) → Type 0 = λ o. Tells o r.input_before in
+    let same : r.input_before ≡ answers bytes = subst T tells r.told in
+    let first = start image.code image.statics image.entry heap stack in
+    let seen = h.watched.seen_is ∙ fetched steps _ end r.last r.front r.stops read written ∙ ap (λ i. fetches steps (begun first i)) same in
+    h.reports_are ∙ ap (λ l. reports_text reporters l (length image.code)) seen

@@ -12,5 +12,5 @@ pub mod MeantEnds
 pub mod Complete
 pub mod MeantCommands
 pub mod AnswerLemmas
-mod Pieces
+pub mod Watched
 mod Safety

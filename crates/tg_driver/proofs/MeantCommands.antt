@@ -1,5 +1,5 @@
 -- Good words for a file that is there, with no fault of a count, are answered by the meaning of the source, or by want of memory.
-use Rattle.std.proofs.Common.{ℕ, ◌≡◌, ◌⊎◌, inl, inr, List, Option, Some, None, take, refl, sym, subst, arith}
+use Rattle.std.proofs.Common.{ℕ, ◌≡◌, ◌⊎◌, inl, inr, List, [], Option, Some, None, take, refl, sym, subst, arith}
 use Rattle.std.specs.Io.KnownBytes.{Appends}
 use Rattle.tg_base.specs.declared.ends.RunEnd.TheVariants.{WriteFault}
 use Rattle.tg_command.specs.declared.modes.Mode.{Mode}
@@ -14,14 +14,16 @@ use Rattle.tg_driver.specs.declared.answers.Answer.{Answer}
 use Rattle.tg_driver.specs.declared.answers.Answer.TheVariants.{Faulty, Written, Unwritten, Finished, OutOfMemory}
 use Rattle.tg_driver.specs.Calls.{Stream, stream_of, HasFailed, Streams, Call, Takes, nothing, all, part}
 use Rattle.tg_driver.specs.Runs.{HasRun}
+use Rattle.tg_driver.specs.Watching.{if_watched, run_in}
 use Rattle.tg_driver.specs.Writing.{IsWritten}
 use Rattle.tg_driver.specs.RunMode.{IsRun}
 use Rattle.tg_driver.specs.GenMode.{IsGenerated}
 use Rattle.tg_driver.specs.Modes.{InMode, most_of}
-use Rattle.tg_driver.specs.Answered.{IsDue, usage, no_memory, asked, Answers}
+use Rattle.tg_driver.specs.Answered.{IsDue, told_runs, usage, no_memory, asked, Answers}
 use Rattle.tg_driver.specs.Laws.{ReadsFile, IsGood, Gives}
 use Rattle.tg_driver.specs.MeantCommands.{BuildsByMeaning, RunsByMeaning, GeneratesByMeaning, ByMeaning, DoesAsMeant}
-use Rattle.tg_driver.proofs.Complete.{to_text, given, none_taken, passed, rose_later, write_failed}
+use Rattle.tg_driver.proofs.Complete.{to_text, given, given_memory, none_taken, passed, rose_later, write_failed}
+use Rattle.tg_driver.proofs.Watched.{in_mode_more}
 use Rattle.tg_driver.proofs.MeantEnds.{runs_are_meant, generated_are_meant}
 
 -- the sizes that the words ask for
@@ -94,7 +96,7 @@ module _ (ends : EndedIsMeant) (goes_on : RunningIsMeant) where
       })
 
   means : {H I O E : Type 0} (c : Call H I O E) (a : Asked) (file : List ℕ) (mode : Mode) (answer : Answer) → IsGood c a file →
-      (ReadsFile mode → ReadsFile a.mode) → InMode c.rule mode c.shelf c.streams a answer →
+      (ReadsFile mode → ReadsFile a.mode) → InMode c.rule (HasRun c.streams) mode c.shelf c.streams a answer →
       ByMeaning c.streams mode a (take (most_of mode) file) answer
   means c a file Check answer good reads h = tt
   means c a file Build answer good reads h = builds_so c.streams.out _ answer good.all_written
@@ -107,14 +109,21 @@ module _ (ends : EndedIsMeant) (goes_on : RunningIsMeant) where
   means c a file Gen answer good reads h = generates_so c.streams.out a answer (sizes_of c.words a good.ask) good.all_written h.3
 
   pub does_as_meant : {H I O E : Type 0} (c : Call H I O E) (status : ℕ) (a : Asked) (file : List ℕ) → Answers c status →
-      IsGood c a file → DoesAsMeant c status a (take (most_of a.mode) file) ⊎ Gives c status OutOfMemory
-  does_as_meant c status a file h good = by h.answer (given c status a file h.answer good h.told) h.due
+      IsGood c a file → DoesAsMeant c status a (take (most_of a.mode) file) ⊎ Gives c status [] OutOfMemory
+  does_as_meant c status a file h good = by h.due
     where
-      by : (found : Answer) → Gives c status found → IsDue c.rule c.words c.shelf c.streams found →
-          DoesAsMeant c status a (take (most_of a.mode) file) ⊎ Gives c status OutOfMemory
-      by found gives (usage is fault same u) = absurd (asked_no_fault c.words a good.ask fault)
-      by found gives (no_memory is kept u) = let P : Answer → Type 0 = λ x. Gives c status x in inr (subst P is gives)
-      by found gives (asked b ask h) =
-          let P : Asked → Type 0 = λ x. InMode c.rule x.mode c.shelf c.streams x found in
-          let in_mode = subst P (asked_once c.words b a ask good.ask) h in
-          inl (record { answer = found; means = means c a file a.mode found good (λ r. r) in_mode; gives = gives })
+      by : IsDue c.rule (told_runs c h.reports) c.words c.shelf c.streams h.answer →
+          DoesAsMeant c status a (take (most_of a.mode) file) ⊎ Gives c status [] OutOfMemory
+      by (usage is fault same u) = absurd (asked_no_fault c.words a good.ask fault)
+      by (no_memory is kept u) = inr (given_memory c status h.reports h.answer is (given c status a file h good))
+      by (asked b ask in_its) =
+          let P : Asked → Type 0 = λ x. InMode c.rule (told_runs c h.reports x) x.mode c.shelf c.streams x h.answer in
+          let told = subst P (asked_once c.words b a ask good.ask) in_its in
+          let in_mode = in_mode_more c.rule (told_runs c h.reports a) (HasRun c.streams) a.mode c.shelf c.streams a h.answer
+          (λ image end is. run_in c.streams (if_watched a.flags c.reporters) h.reports image a.heap a.stack a.steps end) told in
+          inl (record {
+            answer = h.answer;
+            reports = h.reports;
+            means = means c a file a.mode h.answer good (λ r. r) in_mode;
+            gives = given c status a file h good;
+          })

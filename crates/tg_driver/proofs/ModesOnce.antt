@@ -5,6 +5,7 @@ use Rattle.tg_base.specs.declared.ends.RunEnd.{RunEnd}
 use Rattle.tg_isa.specs.declared.images.Image.{Image}
 use Rattle.tg_isa.specs.Assembly.{Assembled, Fault as AsmFault, assembled}
 use Rattle.tg_asm.specs.Images.{image_of}
+use Rattle.tg_watch.specs.Watching.{Report}
 use Rattle.tg_command.specs.declared.modes.Mode.{Mode}
 use Rattle.tg_command.specs.declared.modes.Mode.TheVariants.{Check, Build, Run, Exec, Alloc, Gen, Format}
 use Rattle.tg_command.specs.Commands.{Asked}
@@ -12,7 +13,8 @@ use Rattle.tg_driver.specs.declared.answers.Answer.{Answer}
 use Rattle.tg_driver.specs.declared.answers.Answer.TheVariants.{Faulty, BadLine, TooLong, Accepted, Written, Unwritten, Finished}
 use Rattle.tg_driver.specs.OfFiles.{HasStarted}
 use Rattle.tg_driver.specs.Calls.{Streams}
-use Rattle.tg_driver.specs.Runs.{RunRelation, HasRun}
+use Rattle.tg_driver.specs.Runs.{RunRelation}
+use Rattle.tg_driver.specs.Watching.{HasToldRun, run_in}
 use Rattle.tg_driver.specs.Laws.{IsFaultless}
 use Rattle.tg_driver.specs.CheckMode.{IsChecked}
 use Rattle.tg_driver.specs.Writing.{IsWritable}
@@ -50,15 +52,15 @@ written_alike text Unwritten Unwritten p q = inr (tt, tt)
 written_alike text Unwritten _ p q = absurd q
 written_alike text _ b p q = absurd p
 
-run_alike : (runs : RunRelation) (asked : Asked) (text : List ℕ) (a b : Answer) →
-    IsRun runs asked text a → IsRun runs asked text b → (a ≡ b) ⊎ (HasStarted a × HasStarted b)
-run_alike runs asked text (Faulty f) (Faulty g) p q = inl (ap Faulty (fault_once_told text f g p q))
-run_alike runs asked text (Faulty f) (Finished e) p q = absurd (no_fault_of_meant runs text asked.heap asked.stack asked.steps f e p q)
-run_alike runs asked text (Faulty f) _ p q = absurd q
-run_alike runs asked text (Finished d) (Faulty f) p q = absurd (no_fault_of_meant runs text asked.heap asked.stack asked.steps f d q p)
-run_alike runs asked text (Finished d) (Finished e) p q = inr (tt, tt)
-run_alike runs asked text (Finished d) _ p q = absurd q
-run_alike runs asked text _ b p q = absurd p
+run_alike : (runs others : RunRelation) (asked : Asked) (text : List ℕ) (a b : Answer) →
+    IsRun runs asked text a → IsRun others asked text b → (a ≡ b) ⊎ (HasStarted a × HasStarted b)
+run_alike runs others asked text (Faulty f) (Faulty g) p q = inl (ap Faulty (fault_once_told text f g p q))
+run_alike runs others asked text (Faulty f) (Finished e) p q = absurd (no_fault_of_meant others text asked.heap asked.stack asked.steps f e p q)
+run_alike runs others asked text (Faulty f) _ p q = absurd q
+run_alike runs others asked text (Finished d) (Faulty f) p q = absurd (no_fault_of_meant runs text asked.heap asked.stack asked.steps f d q p)
+run_alike runs others asked text (Finished d) (Finished e) p q = inr (tt, tt)
+run_alike runs others asked text (Finished d) _ p q = absurd q
+run_alike runs others asked text _ b p q = absurd p
 
 generated_alike : (a b : Answer) → IsGenerable a → IsGenerable b → (a ≡ b) ⊎ (HasStarted a × HasStarted b)
 generated_alike (Finished d) (Finished e) p q = inr (tt, tt)
@@ -142,24 +144,28 @@ executed_once runs others asked text a b alike p q = by a b p q (executed_alike 
     by a b p q (inr both) = absurd (both.0)
 
 -- an answer that no read and no write ended is that of such a run
-pub executed_faultless : {I O : Type 0} (s : Streams I O) (asked : Asked) (text : List ℕ) (a : Answer) → IsFaultless a →
-    IsExecuted (HasRun s) asked text a → IsExecuted (FaultlessRun s) asked text a
-executed_faultless s asked text TooLong f h = h
-executed_faultless s asked text (BadLine r n) f h = h
-executed_faultless s asked text (Finished e) f h =
-    record { short = h.short; image = h.image; assembles = h.assembles; run = (h.run, f) }
-executed_faultless s asked text _ f h = absurd h
+pub executed_faultless : {I O : Type 0} (s : Streams I O) (reporters : List Report) (reports : List ℕ) (asked : Asked) (text : List ℕ) (a : Answer) →
+    IsFaultless a → IsExecuted (HasToldRun s reporters reports) asked text a → IsExecuted (FaultlessRun s) asked text a
+executed_faultless s reporters reports asked text TooLong f h = h
+executed_faultless s reporters reports asked text (BadLine r n) f h = h
+executed_faultless s reporters reports asked text (Finished e) f h = record {
+  short = h.short;
+  image = h.image;
+  assembles = h.assembles;
+  run = (run_in s reporters reports h.image asked.heap asked.stack asked.steps e h.run, f);
+}
+executed_faultless s reporters reports asked text _ f h = absurd h
 
 -- whatever the mode
-pub due_alike : (runs : RunRelation) (mode : Mode) (asked : Asked) (text : List ℕ) (a b : Answer) →
-    IsDueOfText runs mode asked text a → IsDueOfText runs mode asked text b → (a ≡ b) ⊎ (HasStarted a × HasStarted b)
-due_alike runs Check asked text a b p q = inl (checked_once text a b p q)
-due_alike runs Build asked text a b p q = written_alike text a b p q
-due_alike runs Run asked text a b p q = run_alike runs asked text a b p q
-due_alike runs Exec asked text a b p q = executed_alike runs runs asked text a b p q
-due_alike runs Alloc asked text a b p q = written_alike text a b p q
-due_alike runs Gen asked text a b p q = generated_alike a b p q
-due_alike runs Format asked text a b p q = formattable_alike text a b p q
+pub due_alike : (runs others : RunRelation) (mode : Mode) (asked : Asked) (text : List ℕ) (a b : Answer) →
+    IsDueOfText runs mode asked text a → IsDueOfText others mode asked text b → (a ≡ b) ⊎ (HasStarted a × HasStarted b)
+due_alike runs others Check asked text a b p q = inl (checked_once text a b p q)
+due_alike runs others Build asked text a b p q = written_alike text a b p q
+due_alike runs others Run asked text a b p q = run_alike runs others asked text a b p q
+due_alike runs others Exec asked text a b p q = executed_alike runs others asked text a b p q
+due_alike runs others Alloc asked text a b p q = written_alike text a b p q
+due_alike runs others Gen asked text a b p q = generated_alike a b p q
+due_alike runs others Format asked text a b p q = formattable_alike text a b p q
 
 pub exec_once : (runs others : RunRelation) (asked : Asked) (text : List ℕ) (a b : Answer) →
     ((image : Image) (d e : RunEnd) → runs image asked.heap asked.stack asked.steps d → others image asked.heap asked.stack asked.steps e → d ≡ e) →

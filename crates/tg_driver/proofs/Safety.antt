@@ -28,21 +28,23 @@ use Rattle.tg_driver.specs.OfFiles.{OfFile, unreadable, read, HasStarted}
 use Rattle.tg_driver.specs.Statuses.{status_of}
 use Rattle.tg_driver.specs.Endings.{end_status, break_status}
 use Rattle.tg_driver.specs.Runs.{HasRun, world_in}
+use Rattle.tg_driver.specs.Watching.{if_watched, run_in}
 use Rattle.tg_driver.specs.CheckMode.{IsChecked}
 use Rattle.tg_driver.specs.Writing.{TextRelation, IsWritten}
 use Rattle.tg_driver.specs.RunMode.{IsRun}
 use Rattle.tg_driver.specs.ExecMode.{IsExecuted}
 use Rattle.tg_driver.specs.GenMode.{no_input, summary, IsGenerated}
 use Rattle.tg_driver.specs.FormatMode.{Formats, IsFormatted}
-use Rattle.tg_driver.specs.Modes.{InMode, most_of}
+use Rattle.tg_driver.specs.Modes.{InMode, ReadsNoInput, most_of}
 use Rattle.tg_driver.specs.Laws.{ReadsFile}
 use Rattle.tg_driver.specs.Telling.{IsTold}
-use Rattle.tg_driver.specs.Answered.{IsDue, usage, no_memory, asked, Answers}
-use Rattle.tg_driver.specs.Safe.{ReadsNoInput, LeavesUnread, IsFileUnread, IsImageOf, IsOutput, HasToWrite, WritesFront}
+use Rattle.tg_driver.specs.Answered.{IsDue, told_runs, usage, no_memory, asked, Answers}
+use Rattle.tg_driver.specs.Safe.{LeavesUnread, IsFileUnread, IsImageOf, IsOutput, HasToWrite, WritesFront}
 use Rattle.tg_driver.specs.Safe.{IsCausedEnd, IsCaused, IsExit, SomeFailed, IsSafe}
 use Rattle.tg_driver.proofs.AnswerLemmas.{left_alone, stays_in_gen}
+use Rattle.tg_driver.proofs.Watched.{due_more}
 use Rattle.tg_driver.proofs.Complete.{none_taken, rose_later, no_read, Summed, cut, summed, summed_by}
-use Rattle.tg_driver.proofs.Pieces.{front_later}
+use Rattle.tg_watch.proofs.Pieces.{front_later}
 
 -- a sink that took a text took a front of it
 takes_front : {T A : Type 0} (sink : Stream T) (due : List ℕ) (whole failed result : A) → Takes sink due whole failed result →
@@ -217,7 +219,7 @@ module _ {H I O : Type 0} (rule : SpillRule) (shelf : Shelved H) (s : Streams I 
             (summed_by (stream_of s.out.told s.out.faults sums.between s.out.after) _ _ _ h.end answer sums.sums_up);
       }
 
-  wrote : (mode : Mode) (answer : Answer) → HasStarted answer → InMode rule mode shelf s a answer → Wrote rule mode shelf s a
+  wrote : (mode : Mode) (answer : Answer) → HasStarted answer → InMode rule (HasRun s) mode shelf s a answer → Wrote rule mode shelf s a
   wrote Check answer started h = of_file shelf a.file 262145 IsChecked answer started h.1 (λ text front due. checked answer text started due)
     where
       checked : (answer : Answer) (text : List ℕ) → HasStarted answer → IsChecked text answer → Wrote rule Check shelf s a
@@ -313,7 +315,7 @@ for_file shelf name most due answer G none (unreadable is u) then = subst G (sym
 for_file shelf name most due answer G none (read text front h) then = then text h
 
 caused : {H I O : Type 0} (rule : SpillRule) (mode : Mode) (shelf : Shelved H) (s : Streams I O) (a : Asked) (answer : Answer) →
-    InMode rule mode shelf s a answer → IsCaused s answer
+    InMode rule (HasRun s) mode shelf s a answer → IsCaused s answer
 caused rule Check shelf s a answer h = for_file shelf a.file 262145 _ answer (IsCaused s) tt h.1 (λ text due. caused_check s text answer due)
 caused rule Build shelf s a answer h = for_file shelf a.file 262145 _ answer (IsCaused s) tt h.2 (λ text due. caused_text s _ text answer due)
 caused rule Run shelf s a answer h = for_file shelf a.file 262145 _ answer (IsCaused s) tt h.1 (λ text due. caused_run s a text answer due)
@@ -345,7 +347,7 @@ record Unread {H : Type 0} (mode : Mode) (shelf : Shelved H) (a : Asked) : Type 
   unread : IsUnread shelf a.file
 
 unread_in : {H I O : Type 0} (rule : SpillRule) (mode : Mode) (shelf : Shelved H) (s : Streams I O) (a : Asked) →
-    InMode rule mode shelf s a Unreadable → Unread mode shelf a
+    InMode rule (HasRun s) mode shelf s a Unreadable → Unread mode shelf a
 unread_in rule Check shelf s a h = record { reads = tt; unread = file_of shelf a.file 262145 _ (λ text due. due) h.1 }
 unread_in rule Build shelf s a h = record { reads = tt; unread = file_of shelf a.file 262145 _ (λ text due. due) h.2 }
 unread_in rule Run shelf s a h = record { reads = tt; unread = file_of shelf a.file 262145 _ (λ text due. due) h.1 }
@@ -355,7 +357,7 @@ unread_in rule Gen shelf s a h = absurd (no_generated s.out a h.3)
 unread_in rule Format shelf s a h = record { reads = tt; unread = file_of shelf a.file 262145 _ (λ text due. due) h.2 }
 
 input_stays : {H I O : Type 0} (rule : SpillRule) (mode : Mode) (shelf : Shelved H) (s : Streams I O) (a : Asked) (answer : Answer) →
-    ReadsNoInput mode → InMode rule mode shelf s a answer → Stays s.input
+    ReadsNoInput mode → InMode rule (HasRun s) mode shelf s a answer → Stays s.input
 input_stays rule Check shelf s a answer none h = h.0.0
 input_stays rule Build shelf s a answer none h = h.0
 input_stays rule Run shelf s a answer none h = absurd none
@@ -380,37 +382,37 @@ blamed c Unwritten e h = inr (inr (inl h))
 blamed c (Finished end) e h = blamed_end c end e h
 blamed c _ e h = absurd (omega (arith, e))
 
-told_74 : {H I O E : Type 0} (c : Call H I O E) (status : ℕ) (answer : Answer) → IsCaused c.streams answer → IsTold c.err answer status →
-    status ≡ 74 → IsExit answer ⊎ SomeFailed c
-told_74 c status answer h (nothing none is stays) e = blamed c answer (sym is ∙ e) h
-told_74 c status answer h (all some is line) e = blamed c answer (sym is ∙ e) h
-told_74 c status answer h (part is some f front) e = inr (inr (inr f))
+told_74 : {H I O E : Type 0} (c : Call H I O E) (status : ℕ) (reports : List ℕ) (answer : Answer) → IsCaused c.streams answer →
+    IsTold c.err reports answer status → status ≡ 74 → IsExit answer ⊎ SomeFailed c
+told_74 c status reports answer h (nothing none is stays) e = blamed c answer (sym is ∙ e) h
+told_74 c status reports answer h (all some is line) e = blamed c answer (sym is ∙ e) h
+told_74 c status reports answer h (part is some f front) e = inr (inr (inr f))
 
 module _ {H I O E : Type 0} (c : Call H I O E) (answer : Answer) where
-  caused_due : IsDue c.rule c.words c.shelf c.streams answer → IsCaused c.streams answer
+  caused_due : IsDue c.rule (λ _. HasRun c.streams) c.words c.shelf c.streams answer → IsCaused c.streams answer
   caused_due (usage is fault same u) = subst (IsCaused c.streams) (sym is) tt
   caused_due (no_memory is kept u) = subst (IsCaused c.streams) (sym is) tt
   caused_due (asked a ask h) = caused c.rule a.mode c.shelf c.streams a answer h
 
-  unread_due : IsDue c.rule c.words c.shelf c.streams answer → (b : Asked) → Ask c.words b → LeavesUnread c b
+  unread_due : IsDue c.rule (λ _. HasRun c.streams) c.words c.shelf c.streams answer → (b : Asked) → Ask c.words b → LeavesUnread c b
   unread_due (usage is fault same u) b other = record { input = λ _. u.0; shelf = λ _. same }
   unread_due (no_memory is kept u) b other = record { input = λ _. u.0; shelf = kept b other }
   unread_due (asked a ask h) b other =
       let P : Asked → Type 0 = λ x. ReadsNoInput x.mode → Stays c.streams.input in
       record {
         input = subst P (asked_once c.words a b ask other) (λ none. input_stays c.rule a.mode c.shelf c.streams a answer none h);
-        shelf = stays_in_gen c.rule c.words c.shelf c.streams answer (asked a ask h) b other;
+        shelf = stays_in_gen c.rule (λ _. HasRun c.streams) c.words c.shelf c.streams answer (asked a ask h) b other;
       }
 
-  unreadable_due : IsDue c.rule c.words c.shelf c.streams answer → answer ≡ Unreadable → IsFileUnread c
+  unreadable_due : IsDue c.rule (λ _. HasRun c.streams) c.words c.shelf c.streams answer → answer ≡ Unreadable → IsFileUnread c
   unreadable_due (usage is fault same u) e = let no : Usage ≡ Unreadable = sym is ∙ e in absurd (cc)
   unreadable_due (no_memory is kept u) e = let no : OutOfMemory ≡ Unreadable = sym is ∙ e in absurd (cc)
   unreadable_due (asked a ask h) e =
-      let P : Answer → Type 0 = λ x. InMode c.rule a.mode c.shelf c.streams a x in
+      let P : Answer → Type 0 = λ x. InMode c.rule (HasRun c.streams) a.mode c.shelf c.streams a x in
       let it = unread_in c.rule a.mode c.shelf c.streams a (subst P e h) in
       record { asked = a; ask = ask; reads = it.reads; unread = it.unread }
 
-  front_due : IsDue c.rule c.words c.shelf c.streams answer → HasStarted answer → WritesFront c
+  front_due : IsDue c.rule (λ _. HasRun c.streams) c.words c.shelf c.streams answer → HasStarted answer → WritesFront c
   front_due (usage is fault same u) started = absurd (subst HasStarted is started)
   front_due (no_memory is kept u) started = absurd (subst HasStarted is started)
   front_due (asked a ask h) started =
@@ -426,15 +428,17 @@ module _ {H I O E : Type 0} (c : Call H I O E) (answer : Answer) where
         takes = it.takes;
       }
 
-pub safe : {H I O E : Type 0} (c : Call H I O E) (status : ℕ) (given : Answers c status) → IsSafe c status given.answer
+pub safe : {H I O E : Type 0} (c : Call H I O E) (status : ℕ) (given : Answers c status) → IsSafe c status given.reports given.answer
 safe c status given =
-    let caused = caused_due c given.answer given.due in
+    let due = due_more c.rule (told_runs c given.reports) (λ _. HasRun c.streams) c.words c.shelf c.streams given.answer
+    (λ a image end is. run_in c.streams (if_watched a.flags c.reporters) given.reports image a.heap a.stack a.steps end) given.due in
+    let caused = caused_due c given.answer due in
     record {
-      refused = λ before. left_alone c.rule c.words c.shelf c.streams given.answer before given.due;
-      unread = unread_due c given.answer given.due;
-      unreadable = unreadable_due c given.answer given.due;
-      front = front_due c given.answer given.due;
+      refused = λ before. left_alone c.rule (λ _. HasRun c.streams) c.words c.shelf c.streams given.answer before due;
+      unread = unread_due c given.answer due;
+      unreadable = unreadable_due c given.answer due;
+      front = front_due c given.answer due;
       caused = caused;
       told = given.told;
-      failed = told_74 c status given.answer caused given.told;
+      failed = told_74 c status given.reports given.answer caused given.told;
     }

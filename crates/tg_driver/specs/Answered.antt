@@ -1,5 +1,5 @@
 -- What the program answers to a call.
-use Rattle.std.specs.Prelude.{ℕ, ◌≡◌, List}
+use Rattle.std.specs.Prelude.{ℕ, ◌≡◌, List, [], false}
 use Rattle.tg_rounds.specs.Policies.{Rule as SpillRule}
 use Rattle.tg_command.specs.declared.modes.Mode.TheVariants.{Gen}
 use Rattle.tg_command.specs.Commands.{Asked, Ask, IsUsageFault}
@@ -7,7 +7,9 @@ use Rattle.tg_driver.specs.declared.answers.Answer.{Answer}
 use Rattle.tg_driver.specs.declared.answers.Answer.TheVariants.{Usage, OutOfMemory}
 use Rattle.tg_driver.specs.Calls.{Shelved, Streams, Untouched, Call}
 use Rattle.tg_driver.specs.Modes.{InMode}
+use Rattle.tg_driver.specs.Runs.{RunRelation}
 use Rattle.tg_driver.specs.Telling.{IsTold}
+use Rattle.tg_driver.specs.Watching.{HasToldRun, NoneBeforeEnd, if_watched}
 
 -- where the words ask for `gen`, the shelf is as it was
 abbrev pub StaysInGen : {H : Type 0} → (words : List (List ℕ)) → Shelved H → Type 0
@@ -16,29 +18,41 @@ StaysInGen words shelf =
 
 -- The answer is due: the words are no command; memory was wanting, before anything was read from
 -- the input or written, and in `gen` no file was asked for; or the mode that the words ask for
--- gives it.
-pub data IsDue {H I O : Type 0} (rule : SpillRule) (words : List (List ℕ))
-    (shelf : Shelved H) (s : Streams I O) (answer : Answer) : Type 0 where
+-- gives it, by what is said of runs where they ask for this.
+pub data IsDue {H I O : Type 0} (rule : SpillRule) (runs : Asked → RunRelation)
+    (words : List (List ℕ)) (shelf : Shelved H) (s : Streams I O) (answer : Answer) : Type 0 where
   usage :
       answer ≡ Usage →
       IsUsageFault words →
       shelf.after ≡ shelf.before →
       Untouched s →
-      IsDue rule words shelf s answer
+      IsDue rule runs words shelf s answer
   no_memory :
       answer ≡ OutOfMemory →
       StaysInGen words shelf →
       Untouched s →
-      IsDue rule words shelf s answer
+      IsDue rule runs words shelf s answer
   asked :
       (a : Asked) →
       Ask words a →
-      InMode rule a.mode shelf s a answer →
-      IsDue rule words shelf s answer
+      InMode rule (runs a) a.mode shelf s a answer →
+      IsDue rule runs words shelf s answer
 
--- The answer is due. The error sink took its line, and the status is its own; or the line failed,
--- and the status is 74.
+-- without the flag no reports are told
+abbrev pub NoneUnasked : (words : List (List ℕ)) → (reports : List ℕ) → Type 0
+NoneUnasked words reports =
+    (a : Asked) → Ask words a → a.flags.watch ≡ false → reports ≡ []
+
+-- what is said of the runs of a call whose reports are these
+abbrev pub told_runs : {H I O E : Type 0} → Call H I O E → (reports : List ℕ) → Asked → RunRelation
+told_runs c reports a = HasToldRun c.streams (if_watched a.flags c.reporters) reports
+
+-- The answer is due. The error sink took the reports of its run and its line, and the status is its
+-- own; or a write of these failed, and the status is 74.
 pub record Answers {H I O E : Type 0} (c : Call H I O E) (status : ℕ) : Type 0 where
   pub answer : Answer
-  pub due : IsDue c.rule c.words c.shelf c.streams answer
-  pub told : IsTold c.err answer status
+  pub reports : List ℕ
+  pub due : IsDue c.rule (told_runs c reports) c.words c.shelf c.streams answer
+  pub before_end : NoneBeforeEnd reports answer
+  pub unasked : NoneUnasked c.words reports
+  pub told : IsTold c.err reports answer status

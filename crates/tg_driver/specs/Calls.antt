@@ -5,6 +5,7 @@ use Rattle.tg_base.specs.Causes.{Rose}
 use Rattle.tg_base.specs.Files.{Files}
 use Rattle.tg_base.specs.Writes.{TakesFront}
 use Rattle.tg_rounds.specs.Policies.{Rule as SpillRule}
+use Rattle.tg_watch.specs.Watching.{Report}
 
 -- a source or a sink: what it tells of its bytes, its count of faults, and itself before and after
 pub record Stream (T : Type 0) : Type 0 where
@@ -52,20 +53,22 @@ shelf_of files faults before after =
 abbrev pub IsUnread : {H : Type 0} → Shelved H → (name : List ℕ) → Type 0
 IsUnread h name = Rose (h.faults h.before name) (h.faults h.after name)
 
--- a call of the program: the rule of its policy, its words, the files, the streams of its run, and
--- the error sink
+-- a call of the program: the rule of its policy, the reports of its watchers, its words, the files,
+-- the streams of its run, and the error sink
 pub record Call (H I O E : Type 0) : Type 0 where
   pub rule : SpillRule
+  pub reporters : List Report
   pub words : List (List ℕ)
   pub shelf : Shelved H
   pub streams : Streams I O
   pub err : Stream E
 
 abbrev pub call_of :
-    {H I O E : Type 0} → SpillRule → List (List ℕ) →
+    {H I O E : Type 0} → SpillRule → List Report → List (List ℕ) →
     Shelved H → Stream I → Stream O → Stream E → Call H I O E
-call_of rule words shelf input out err = record {
+call_of rule reporters words shelf input out err = record {
   rule = rule;
+  reporters = reporters;
   words = words;
   shelf = shelf;
   streams = streams_of input out;

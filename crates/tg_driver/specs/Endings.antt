@@ -1,6 +1,5 @@
 -- The status and the line of each end of a run.
-use Rattle.std.specs.Prelude.{ℕ, ◌+◌, ◌/◌, ◌%◌, ◌==◌, List, [], ◌∷◌, ◌++◌, codes, nat_lt}
-use Rattle.std.specs.Prelude.{if◌then◌else◌}
+use Rattle.std.specs.Prelude.{ℕ, ◌%◌, ◌==◌, List, [], ◌∷◌, ◌++◌, codes, if◌then◌else◌}
 use Rattle.std.specs.Fmt.{decimal}
 use Rattle.tg_base.specs.declared.ends.RunEnd.{RunEnd}
 use Rattle.tg_base.specs.declared.ends.RunEnd.TheVariants.{Exit, Break, Overflow, HeapFull}
@@ -8,6 +7,7 @@ use Rattle.tg_base.specs.declared.ends.RunEnd.TheVariants.{StackFull, StepLimit,
 use Rattle.tg_base.specs.declared.ends.RunEnd.TheVariants.{Unaligned, BadWord, BadService}
 use Rattle.tg_base.specs.declared.ends.RunEnd.TheVariants.{ReadFault, WriteFault}
 use Rattle.tg_base.specs.Words.{unsigned}
+use Rattle.tg_watch.specs.Words.{word_text}
 
 -- by the code of `break`: what a compiled program tests for, and any other
 abbrev pub break_status : (code : ℕ) → ℕ
@@ -32,18 +32,6 @@ end_status WriteFault = 74
 
 abbrev pub ended : List ℕ → List ℕ
 ended text = codes "tiger: " ++ (text ++ 10 ∷ [])
-
--- a digit of base 16, in lower case; a word as `0x` and eight of them
-abbrev pub hex_digit : ℕ → ℕ
-hex_digit d = if nat_lt d 10 then d + 48 else d + 87
-
-abbrev pub word_text : ℕ → List ℕ
-word_text w =
-    48 ∷ 120
-    ∷ hex_digit (w / 268435456 % 16) ∷ hex_digit (w / 16777216 % 16)
-    ∷ hex_digit (w / 1048576 % 16) ∷ hex_digit (w / 65536 % 16)
-    ∷ hex_digit (w / 4096 % 16) ∷ hex_digit (w / 256 % 16)
-    ∷ hex_digit (w / 16 % 16) ∷ hex_digit (w % 16) ∷ []
 
 abbrev pub break_text : (code : ℕ) → List ℕ
 break_text n =

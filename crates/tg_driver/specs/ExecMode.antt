@@ -10,7 +10,7 @@ use Rattle.tg_driver.specs.declared.answers.Answer.{Answer}
 use Rattle.tg_driver.specs.declared.answers.Answer.TheVariants.{BadLine, TooLong, Finished}
 use Rattle.tg_driver.specs.Calls.{Shelved, Streams}
 use Rattle.tg_driver.specs.OfFiles.{OfFile, UntouchedBeforeStart}
-use Rattle.tg_driver.specs.Runs.{RunRelation, HasRun}
+use Rattle.tg_driver.specs.Runs.{RunRelation}
 
 -- the text isn't too long, and this is its first fault
 pub record IsBadLine (text : List ℕ) (rule : AsmRule) (line : ℕ) : Type 0 where
@@ -32,7 +32,8 @@ IsExecuted runs asked text (BadLine rule line) = IsBadLine text rule line
 IsExecuted runs asked text (Finished end) = EndsImage runs asked text end
 IsExecuted runs asked text _ = ⊥
 
-abbrev pub ByExec : {H I O : Type 0} → Shelved H → Streams I O → Asked → Answer → Type 0
-ByExec shelf s asked answer =
+abbrev pub ByExec :
+    {H I O : Type 0} → (runs : RunRelation) → Shelved H → Streams I O → Asked → Answer → Type 0
+ByExec runs shelf s asked answer =
     UntouchedBeforeStart s answer
-    × OfFile shelf asked.file 67108865 (IsExecuted (HasRun s) asked) answer
+    × OfFile shelf asked.file 67108865 (IsExecuted runs asked) answer

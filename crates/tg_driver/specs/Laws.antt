@@ -1,7 +1,10 @@
 -- What the answers to a call amount to.
-use Rattle.std.specs.Prelude.{ℕ, ◌≡◌, ◌≢◌, List, [], Option, Some}
+use Rattle.std.specs.Prelude.{ℕ, ◌≡◌, ◌≢◌, List, [], ◌++◌, Option, Some}
 use Rattle.std.specs.Io.KnownBytes.{Appends}
+use Rattle.tg_base.specs.declared.ends.RunEnd.{RunEnd}
 use Rattle.tg_base.specs.declared.ends.RunEnd.TheVariants.{ReadFault, WriteFault}
+use Rattle.tg_isa.specs.declared.images.Image.{Image}
+use Rattle.tg_watch.specs.Watching.{Report}
 use Rattle.tg_generate.specs.Generated.{generated}
 use Rattle.tg_command.specs.declared.modes.Mode.{Mode}
 use Rattle.tg_command.specs.declared.modes.Mode.TheVariants.{Check, Build, Run, Exec, Alloc, Gen}
@@ -19,6 +22,8 @@ use Rattle.tg_driver.specs.RunMode.{IsRun}
 use Rattle.tg_driver.specs.ExecMode.{IsExecuted}
 use Rattle.tg_driver.specs.FormatMode.{IsFaultyOrFormatted}
 use Rattle.tg_driver.specs.Statuses.{status_of, line_of}
+use Rattle.tg_driver.specs.Watching.{NoneBeforeEnd, if_watched, reports_on}
+use Rattle.tg_driver.specs.Answered.{NoneUnasked}
 
 -- no read and no write ended the run of the answer
 pub record IsFaultless (answer : Answer) : Type 0 where
@@ -46,15 +51,28 @@ pub record IsGood {H I O E : Type 0} (c : Call H I O E)
   pub all_written : HasFailed c.streams.out → ⊥
   pub all_told : HasFailed c.err → ⊥
 
--- the status is that of the answer, and the error sink took its line
-pub record Gives {H I O E : Type 0} (c : Call H I O E) (status : ℕ) (answer : Answer) : Type 0 where
+-- the status is that of the answer, and the error sink took its reports and its line; only a run
+-- that was to be watched has reports
+pub record Gives {H I O E : Type 0} (c : Call H I O E)
+    (status : ℕ) (reports : List ℕ) (answer : Answer) : Type 0 where
   pub status_is : status ≡ status_of answer
-  pub line_is : Appends (c.err.told c.err.before) (c.err.told c.err.after) (line_of answer)
+  pub text_is :
+      Appends (c.err.told c.err.before) (c.err.told c.err.after) (reports ++ line_of answer)
+  pub before_end : NoneBeforeEnd reports answer
+  pub unasked : NoneUnasked c.words reports
 
 -- where an input tells its bytes, a run of the image ends so on these
 abbrev pub EndsAsTold : Option (List ℕ) → RunRelation
 EndsAsTold told image heap stack steps end =
     (bytes : List ℕ) → told ≡ Some bytes → end ≡ end_in (outcome_on image heap stack steps bytes)
+
+-- and these are the reports of what it fetches
+pub record EndsAndTells (told : Option (List ℕ)) (reporters : List Report) (reports : List ℕ)
+    (image : Image) (heap stack steps : ℕ) (end : RunEnd) : Type 0 where
+  pub ends : EndsAsTold told image heap stack steps end
+  pub tells :
+      (bytes : List ℕ) → told ≡ Some bytes →
+      reports ≡ reports_on reporters image heap stack steps bytes
 
 -- to a source: its first fault, or that a text of it was written
 abbrev pub IsFaultyOrWritten : List ℕ → Answer → Type 0
@@ -70,20 +88,25 @@ EndsGenerated asked (Finished end) =
 EndsGenerated asked _ = ⊥
 
 -- what text and input settle where no read or write fails
-abbrev pub Settles :
-    (told : Option (List ℕ)) → Mode → Asked → (text : List ℕ) → Answer → Type 0
-Settles told Check asked text answer = IsChecked text answer
-Settles told Build asked text answer = IsFaultyOrWritten text answer
-Settles told Run asked text answer = IsRun (EndsAsTold told) asked text answer
-Settles told Exec asked text answer = IsExecuted (EndsAsTold told) asked text answer
-Settles told Alloc asked text answer = IsFaultyOrWritten text answer
-Settles told Gen asked text answer = EndsGenerated asked answer
-Settles told Format asked text answer = IsFaultyOrFormatted text answer
+abbrev pub Settles : (runs : RunRelation) → Mode → Asked → (text : List ℕ) → Answer → Type 0
+Settles runs Check asked text answer = IsChecked text answer
+Settles runs Build asked text answer = IsFaultyOrWritten text answer
+Settles runs Run asked text answer = IsRun runs asked text answer
+Settles runs Exec asked text answer = IsExecuted runs asked text answer
+Settles runs Alloc asked text answer = IsFaultyOrWritten text answer
+Settles runs Gen asked text answer = EndsGenerated asked answer
+Settles runs Format asked text answer = IsFaultyOrFormatted text answer
 
--- the status and the line are those of an answer that is so settled
+-- what text and input settle of a run of the call whose reports are these
+abbrev pub settled_runs : {H I O E : Type 0} → Call H I O E → (reports : List ℕ) → Asked → RunRelation
+settled_runs c reports asked =
+    EndsAndTells (c.streams.input.told c.streams.input.before)
+    (if_watched asked.flags c.reporters) reports
+
+-- the status, the reports and the line are those of an answer that is so settled
 pub record IsSettled {H I O E : Type 0} (c : Call H I O E)
     (status : ℕ) (asked : Asked) (text : List ℕ) : Type 0 where
   pub answer : Answer
-  pub settled :
-      Settles (c.streams.input.told c.streams.input.before) asked.mode asked text answer
-  pub gives : Gives c status answer
+  pub reports : List ℕ
+  pub settled : Settles (settled_runs c reports asked) asked.mode asked text answer
+  pub gives : Gives c status reports answer

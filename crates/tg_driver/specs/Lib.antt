@@ -3,6 +3,7 @@ pub mod Statuses
 pub mod Calls
 pub mod OfFiles
 pub mod Runs
+pub mod Watching
 pub mod MeantRuns
 pub mod CheckMode
 pub mod Writing

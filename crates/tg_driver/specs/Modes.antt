@@ -18,16 +18,18 @@ use Rattle.tg_driver.specs.AllocMode.{ByAlloc}
 use Rattle.tg_driver.specs.GenMode.{IsGenerable, ByGen}
 use Rattle.tg_driver.specs.FormatMode.{IsFormattable, ByFormat}
 
--- the answer is due in the mode; what `alloc` lists is by the rule of the call's policy
+-- the answer is due in the mode; what `alloc` lists is by the rule of the call's policy, and of the
+-- runs of `run` and of `exec` this is said
 abbrev pub InMode :
-    {H I O : Type 0} → SpillRule → Mode → Shelved H → Streams I O → Asked → Answer → Type 0
-InMode rule Check shelf s asked answer = ByCheck shelf s asked answer
-InMode rule Build shelf s asked answer = ByBuild shelf s asked answer
-InMode rule Run shelf s asked answer = ByRun shelf s asked answer
-InMode rule Exec shelf s asked answer = ByExec shelf s asked answer
-InMode rule Alloc shelf s asked answer = ByAlloc rule shelf s asked answer
-InMode rule Gen shelf s asked answer = ByGen shelf s asked answer
-InMode rule Format shelf s asked answer = ByFormat shelf s asked answer
+    {H I O : Type 0} → SpillRule → (runs : RunRelation) →
+    Mode → Shelved H → Streams I O → Asked → Answer → Type 0
+InMode rule runs Check shelf s asked answer = ByCheck shelf s asked answer
+InMode rule runs Build shelf s asked answer = ByBuild shelf s asked answer
+InMode rule runs Run shelf s asked answer = ByRun runs shelf s asked answer
+InMode rule runs Exec shelf s asked answer = ByExec runs shelf s asked answer
+InMode rule runs Alloc shelf s asked answer = ByAlloc rule shelf s asked answer
+InMode rule runs Gen shelf s asked answer = ByGen shelf s asked answer
+InMode rule runs Format shelf s asked answer = ByFormat shelf s asked answer
 
 -- what a mode left alone where memory was wanting: the streams, and in `gen` the shelf
 abbrev pub LeavesAlone : {H I O : Type 0} → Mode → Shelved H → Streams I O → Type 0
@@ -42,6 +44,12 @@ IsDueOfText runs Exec asked text answer = IsExecuted runs asked text answer
 IsDueOfText runs Alloc asked text answer = IsWritable text answer
 IsDueOfText runs Gen asked text answer = IsGenerable answer
 IsDueOfText runs Format asked text answer = IsFormattable text answer
+
+-- all modes but `run` and `exec` read no input
+abbrev pub ReadsNoInput : Mode → Type 0
+ReadsNoInput Run = ⊥
+ReadsNoInput Exec = ⊥
+ReadsNoInput _ = Unit {0}
 
 -- the bytes that a mode asks the shelf for: one more than its file may have
 abbrev pub most_of : Mode → ℕ

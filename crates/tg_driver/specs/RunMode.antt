@@ -8,7 +8,7 @@ use Rattle.tg_driver.specs.Calls.{Shelved, Streams}
 use Rattle.tg_driver.specs.OfFiles.{OfFile, UntouchedBeforeStart}
 use Rattle.tg_driver.specs.Faults.{IsFaultOf}
 use Rattle.tg_driver.specs.MeantRuns.{RunsAssembled, EndsAsMeant}
-use Rattle.tg_driver.specs.Runs.{RunRelation, HasRun}
+use Rattle.tg_driver.specs.Runs.{RunRelation}
 
 -- the answer is the end of such a run, or memory was wanting for it
 abbrev pub EndsAssembled :
@@ -25,7 +25,8 @@ IsRun runs asked text (Finished end) =
     EndsAsMeant runs text asked.heap asked.stack asked.steps end
 IsRun runs asked text _ = ⊥
 
-abbrev pub ByRun : {H I O : Type 0} → Shelved H → Streams I O → Asked → Answer → Type 0
-ByRun shelf s asked answer =
+abbrev pub ByRun :
+    {H I O : Type 0} → (runs : RunRelation) → Shelved H → Streams I O → Asked → Answer → Type 0
+ByRun runs shelf s asked answer =
     UntouchedBeforeStart s answer
-    × OfFile shelf asked.file 262145 (IsRun (HasRun s) asked) answer
+    × OfFile shelf asked.file 262145 (IsRun runs asked) answer

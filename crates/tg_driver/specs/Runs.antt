@@ -27,10 +27,10 @@ pub record HasRun {I O : Type 0} (s : Streams I O)
 
 -- the answer is the end of such a run; or memory was wanting for it, and nothing was touched
 abbrev pub IsRunOrMemory :
-    {I O : Type 0} → Streams I O → Image → (heap stack steps : ℕ) → Answer → Type 0
-IsRunOrMemory s image heap stack steps (Finished end) = HasRun s image heap stack steps end
-IsRunOrMemory s image heap stack steps OutOfMemory = Untouched s
-IsRunOrMemory s image heap stack steps _ = ⊥
+    {I O : Type 0} → RunRelation → Streams I O → Image → (heap stack steps : ℕ) → Answer → Type 0
+IsRunOrMemory runs s image heap stack steps (Finished end) = runs image heap stack steps end
+IsRunOrMemory runs s image heap stack steps OutOfMemory = Untouched s
+IsRunOrMemory runs s image heap stack steps _ = ⊥
 
 -- the end of an outcome, and its world: the steps are used up where the machine still runs
 abbrev pub end_in : Progress → RunEnd

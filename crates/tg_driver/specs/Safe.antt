@@ -24,16 +24,10 @@ use Rattle.tg_driver.specs.OfFiles.{HasStarted}
 use Rattle.tg_driver.specs.AllocMode.{Lists}
 use Rattle.tg_driver.specs.FormatMode.{Formats}
 use Rattle.tg_driver.specs.GenMode.{summary}
-use Rattle.tg_driver.specs.Modes.{most_of}
+use Rattle.tg_driver.specs.Modes.{ReadsNoInput, most_of}
 use Rattle.tg_driver.specs.Runs.{world_in}
 use Rattle.tg_driver.specs.Laws.{ReadsFile}
 use Rattle.tg_driver.specs.Telling.{IsBeforeStart, IsTold}
-
--- all modes but `run` and `exec` read no input
-abbrev pub ReadsNoInput : Mode → Type 0
-ReadsNoInput Run = ⊥
-ReadsNoInput Exec = ⊥
-ReadsNoInput _ = Unit {0}
 
 -- what the mode doesn't read is as it was: the input, and in `gen` the shelf
 pub record LeavesUnread {H I O E : Type 0} (c : Call H I O E) (asked : Asked) : Type 0 where
@@ -136,14 +130,14 @@ SomeFailed c = HasFailed c.streams.input ⊎ HasFailed c.streams.out ⊎ HasFail
 -- What a call with this answer and this status leaves. A refusal touches no stream. Each mode
 -- leaves alone what it doesn't read. A file is unreadable where its count rose. What was written is
 -- a front of what was to be written. A failed read or write has its count as its cause. The error
--- sink took the line of the answer whole, and the status is its own; or its count rose, it took a
--- front, and the status is 74.
+-- sink took the reports and the line of the answer whole, and the status is its own; or its count
+-- rose, it took a front, and the status is 74.
 pub record IsSafe {H I O E : Type 0} (c : Call H I O E)
-    (status : ℕ) (answer : Answer) : Type 0 where
+    (status : ℕ) (reports : List ℕ) (answer : Answer) : Type 0 where
   pub refused : IsBeforeStart answer → Untouched c.streams
   pub unread : (asked : Asked) → Ask c.words asked → LeavesUnread c asked
   pub unreadable : answer ≡ Unreadable → IsFileUnread c
   pub front : HasStarted answer → WritesFront c
   pub caused : IsCaused c.streams answer
-  pub told : IsTold c.err answer status
+  pub told : IsTold c.err reports answer status
   pub failed : status ≡ 74 → IsExit answer ⊎ SomeFailed c

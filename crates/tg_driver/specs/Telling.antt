@@ -1,5 +1,5 @@
 -- How an answer is reported.
-use Rattle.std.specs.Prelude.{ℕ}
+use Rattle.std.specs.Prelude.{ℕ, List, [], ◌++◌}
 use Rattle.tg_driver.specs.declared.answers.Answer.{Answer}
 use Rattle.tg_driver.specs.declared.answers.Answer.TheVariants.{Faulty, BadLine, Written, Unwritten}
 use Rattle.tg_driver.specs.declared.answers.Answer.TheVariants.{Finished, OutOfMemory}
@@ -20,12 +20,18 @@ IsBeforeStart Written = ⊥
 IsBeforeStart Unwritten = ⊥
 IsBeforeStart answer = Unit {0}
 
--- the sink took the line of the answer, and the status is its own; or the line failed, and the
--- status is 74
-abbrev pub IsTold : {E : Type 0} → Stream E → Answer → (status : ℕ) → Type 0
-IsTold err answer status = Takes err (line_of answer) (status_of answer) 74 status
+-- the sink took the reports and then the line of the answer, and the status is its own; or a write
+-- of them failed, and the status is 74
+abbrev pub IsTold :
+    {E : Type 0} → Stream E → (reports : List ℕ) → Answer → (status : ℕ) → Type 0
+IsTold err reports answer status =
+    Takes err (reports ++ line_of answer) (status_of answer) 74 status
 
 -- the answer is told as it is, or, before anything was read or written, as want of memory
-pub data IsReported {E : Type 0} (err : Stream E) (answer : Answer) (status : ℕ) : Type 0 where
-  itself : IsTold err answer status → IsReported err answer status
-  no_memory : IsBeforeStart answer → IsTold err OutOfMemory status → IsReported err answer status
+pub data IsReported {E : Type 0} (err : Stream E) (reports : List ℕ)
+    (answer : Answer) (status : ℕ) : Type 0 where
+  itself : IsTold err reports answer status → IsReported err reports answer status
+  no_memory :
+      IsBeforeStart answer →
+      IsTold err [] OutOfMemory status →
+      IsReported err reports answer status

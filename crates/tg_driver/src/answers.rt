@@ -37,7 +37,7 @@ pub(crate) enum Answer {
 pub fn usage() -> &'static str
     ensures { result.now ≡ line_of Answer.Usage }
 {
-    "tiger: usage: tiger MODE FILE [--heap BYTES] [--stack BYTES] [--steps COUNT]\n"
+    "tiger: usage: tiger MODE FILE [--heap BYTES] [--stack BYTES] [--steps COUNT] [--watch]\n"
 }
 
 /// The line on the error sink of an answer whose line is a text of its own; an accepted source

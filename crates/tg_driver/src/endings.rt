@@ -1,16 +1,16 @@
-ghost use Rattle.std.specs.Prelude.{◌≡◌, [], ◌∷◌, ◌++◌, ◌%◌, ◌<◌, IfErr, length};
+ghost use Rattle.std.specs.Prelude.{◌≡◌, [], ◌∷◌, ◌++◌, ◌<◌, IfErr, length};
 ghost use Rattle.tg_base.specs.Causes.{HasCause};
 ghost use Rattle.tg_base.specs.Writes.{TakesAll};
 ghost use Rattle.tg_driver.specs.Endings.{
   break_status,
   end_line,
   end_status,
-  hex_digit,
-  word_text,
 };
+ghost use Rattle.tg_watch.specs.Words.{word_text};
 ghost use Rattle.tg_driver.specs.Plainly.{IsPlain, IsOwnBreak};
 
 use tg_base::{Failed, RunEnd, Sink, write_all};
+use tg_watch::word_text;
 
 /// The exit status of an end of the machine.
 pub(crate) fn end_status(end: RunEnd) -> u8
@@ -74,32 +74,6 @@ fn break_line(code: u32) -> &'static str
         6 => "tiger: negative size\n",
         _ => unreachable!(),
     }
-}
-
-/// A digit of base 16, in lower case.
-fn hex_digit(number: u32) -> u8
-    ensures { result ≡ hex_digit (number % 16) }
-{
-    let digit = (number % 16) as u8;
-    if digit < 10 { digit + 48 } else { digit + 87 }
-}
-
-/// A word as `0x` and eight digits of base 16.
-fn word_text(word: u32) -> [u8; 10]
-    ensures { result ≡ word_text word }
-{
-    [
-        b'0',
-        b'x',
-        hex_digit(word / 0x1000_0000),
-        hex_digit(word / 0x100_0000),
-        hex_digit(word / 0x10_0000),
-        hex_digit(word / 0x1_0000),
-        hex_digit(word / 0x1000),
-        hex_digit(word / 0x100),
-        hex_digit(word / 0x10),
-        hex_digit(word),
-    ]
 }
 
 /// Writes the line of an end of the machine, piece by piece, so that it takes no memory.

@@ -1,19 +1,23 @@
-ghost use Rattle.std.specs.Prelude.{◌≡◌, ◌≤◌, ⊤, length};
+ghost use Rattle.std.specs.Prelude.{◌≡◌, ◌≤◌, ◌<◌, ◌^◌, ℕ, ⊤, [], All, length};
 ghost use Rattle.tg_base.specs.State.{most_bytes, most_words};
+ghost use Rattle.tg_isa.specs.declared.images.Image.{Image as ImageOf};
+ghost use Rattle.tg_machine.specs.Machines.{loaded};
 ghost use Rattle.tg_command.specs.Commands.{KeepsLimits, asked_of};
 ghost use Rattle.tg_driver.specs.Calls.{shelf_of, stream_of, streams_of};
 ghost use Rattle.tg_driver.specs.ExecMode.{IsExecuted};
 ghost use Rattle.tg_driver.specs.OfFiles.{OfFile, OrMemory, UntouchedBeforeStart};
-ghost use Rattle.tg_driver.specs.Runs.{HasRun, IsRunOrMemory};
+ghost use Rattle.tg_driver.specs.Runs.{IsRunOrMemory};
+ghost use Rattle.tg_driver.specs.Watching.{HasWatchedRun};
 
 use crate::answers::{Answer, unread};
 use crate::streams::Streams;
 use std::alloc::Global;
 use tg_asm::{AsmFault, assemble};
-use tg_base::{Shelf, Sink, Source};
+use tg_base::{RunEnd, Shelf, Sink, Source};
 use tg_command::Command;
 use tg_isa::Image;
-use tg_machine::load;
+use tg_machine::{Machine, load};
+use tg_watch::{Watcher, begin_all, run_watched};
 
 /// The most bytes of assembly text.
 const LONGEST: usize = 67_108_864;
@@ -24,11 +28,13 @@ pub(crate) fn answer_exec<H: Shelf, I: Source, O: Sink>(
     command: &Command,
     shelf: &mut H,
     streams: Streams<I, O>,
+    watchers: &mut Vec<Box<dyn Watcher>>,
 ) -> Answer
     requires { KeepsLimits (asked_of command.now) }
     ensures due { OrMemory ⊤ (OfFile (shelf_of H.files H.faults shelf.old shelf.new)
         (asked_of command.now).file 67108865
-        (IsExecuted (HasRun (streams_of
+        (IsExecuted (HasWatchedRun (λ w. stands w) (λ w. report w)
+        watchers.old.items watchers.new.items (streams_of
         (stream_of I.left I.faults streams.entry.input.now streams.exit.0.now)
         (stream_of O.taken O.faults streams.entry.out.now streams.exit.1.0.now)))
         (asked_of command.now))) result }
@@ -38,7 +44,7 @@ pub(crate) fn answer_exec<H: Shelf, I: Source, O: Sink>(
     ensures files { H.files shelf.new ≡ H.files shelf.old }
 {
     match shelf.read_file(alloc, command.file.as_str(), LONGEST + 1) {
-        Ok(text) => execute_text(alloc, command, &text, streams),
+        Ok(text) => execute_text(alloc, command, &text, streams, watchers),
         Err(fault) => unread(fault),
     }
 }
@@ -49,9 +55,11 @@ fn execute_text<I: Source, O: Sink>(
     command: &Command,
     text: &[u8],
     streams: Streams<I, O>,
+    watchers: &mut Vec<Box<dyn Watcher>>,
 ) -> Answer
     requires { KeepsLimits (asked_of command.now) }
-    ensures due { OrMemory ⊤ (IsExecuted (HasRun (streams_of
+    ensures due { OrMemory ⊤ (IsExecuted (HasWatchedRun (λ w. stands w) (λ w. report w)
+        watchers.old.items watchers.new.items (streams_of
         (stream_of I.left I.faults streams.entry.input.now streams.exit.0.now)
         (stream_of O.taken O.faults streams.entry.out.now streams.exit.1.0.now)))
         (asked_of command.now) text.now) result }
@@ -63,7 +71,7 @@ fn execute_text<I: Source, O: Sink>(
         return Answer::TooLong;
     }
     match assemble(alloc, text) {
-        Ok(image) => execute(alloc, command, &image, streams),
+        Ok(image) => execute(alloc, command, &image, streams, watchers),
         Err(AsmFault::Bad { rule, line }) => Answer::BadLine(rule, line),
         Err(AsmFault::Memory) => Answer::OutOfMemory,
     }
@@ -75,11 +83,16 @@ pub(crate) fn execute<I: Source, O: Sink>(
     command: &Command,
     image: &Image,
     streams: Streams<I, O>,
+    watchers: &mut Vec<Box<dyn Watcher>>,
 ) -> Answer
     requires limits { KeepsLimits (asked_of command.now) }
     requires code { length image.now.code ≤ most_words }
     requires statics { length image.now.statics ≤ most_bytes }
-    ensures runs { IsRunOrMemory (streams_of
+    ensures runs { IsRunOrMemory (HasWatchedRun (λ w. stands w) (λ w. report w)
+        watchers.old.items watchers.new.items (streams_of
+        (stream_of I.left I.faults streams.entry.input.now streams.exit.0.now)
+        (stream_of O.taken O.faults streams.entry.out.now streams.exit.1.0.now)))
+        (streams_of
         (stream_of I.left I.faults streams.entry.input.now streams.exit.0.now)
         (stream_of O.taken O.faults streams.entry.out.now streams.exit.1.0.now))
         image.now command.now.heap command.now.stack command.now.steps result }
@@ -88,10 +101,37 @@ pub(crate) fn execute<I: Source, O: Sink>(
         (stream_of O.taken O.faults streams.entry.out.now streams.exit.1.0.now)) result }
 {
     match load(alloc, image, command.heap, command.stack) {
-        Ok(mut machine) => {
-            let Streams { input, out } = streams;
-            Answer::Finished(machine.run(input, out, command.steps))
-        }
+        Ok(machine) => match begin_all(watchers, image.code.as_slice().len() as u32) {
+            Ok(()) => Answer::Finished(run_begun(machine, streams, watchers, command.steps)),
+            Err(_) => Answer::OutOfMemory,
+        },
         Err(_) => Answer::OutOfMemory,
+    }
+}
+
+/// Runs a machine that was loaded, and shows its fetches to the watchers, which have begun. Where
+/// there are none it runs as fast as a machine can.
+fn run_begun<I: Source, O: Sink>(
+    machine: Machine,
+    streams: Streams<I, O>,
+    watchers: &mut Vec<Box<dyn Watcher>>,
+    steps: u64,
+) -> RunEnd
+    requires some { 0 < steps }
+    requires few { steps ≤ 2 ^ 62 }
+    requires begun { All (λ w. stands w [] (length machine.state.code)) watchers.old.items }
+    ensures { (image : ImageOf) (heap stack : ℕ) → machine ≡ loaded image heap stack
+        → HasWatchedRun (λ w. stands w) (λ w. report w)
+        watchers.old.items watchers.new.items (streams_of
+        (stream_of I.left I.faults streams.entry.input.now streams.exit.0.now)
+        (stream_of O.taken O.faults streams.entry.out.now streams.exit.1.0.now))
+        image heap stack steps result }
+{
+    let mut machine = machine;
+    let Streams { input, out } = streams;
+    if watchers.is_empty() {
+        machine.run(input, out, steps)
+    } else {
+        run_watched(&mut machine, watchers, input, out, steps)
     }
 }

@@ -1,6 +1,7 @@
-ghost use Rattle.std.specs.Prelude.{◌≡◌, ◌⊎◌, ℕ, List, Some, take};
+ghost use Rattle.std.specs.Prelude.{◌≡◌, ◌⊎◌, ℕ, List, [], Some, take};
 ghost use Rattle.tg_base.specs.declared.ends.RunEnd.{RunEnd};
 ghost use Rattle.tg_isa.specs.declared.images.Image.{Image};
+ghost use Rattle.tg_watch.specs.Watching.{Report};
 ghost use Rattle.tg_command.specs.Commands.{Asked};
 ghost use Rattle.tg_driver.specs.declared.answers.Answer.{Answer};
 ghost use Rattle.tg_driver.specs.declared.answers.Answer.TheVariants.{Finished, OutOfMemory, Written};
@@ -16,6 +17,7 @@ ghost use Rattle.tg_driver.specs.Modes.{IsDueOfText, most_of};
 ghost use Rattle.tg_driver.specs.OfFiles.{HasStarted};
 ghost use Rattle.tg_driver.specs.Runs.{HasRun, IsExact};
 ghost use Rattle.tg_driver.specs.Safe.{IsSafe};
+ghost use Rattle.tg_driver.specs.Watching.{HasToldRun, reports_on};
 
 use tg_meant::{ends_are_as_meant, exits_are_words};
 
@@ -24,10 +26,10 @@ use tg_meant::{ends_are_as_meant, exits_are_words};
 /// refusal comes exactly where its cause stands, whatever the policies, or want of memory. It does
 /// nothing.
 pub fn one_answer<I, O>()
-    ensures { (s : Streams I O) (asked : Asked) (text : List ℕ)
-        (a b : Answer)
-        → IsDueOfText (HasRun s) asked.mode asked text a
-        → IsDueOfText (HasRun s) asked.mode asked text b
+    ensures { (s : Streams I O) (reporters others : List Report) (reports told : List ℕ)
+        (asked : Asked) (text : List ℕ) (a b : Answer)
+        → IsDueOfText (HasToldRun s reporters reports) asked.mode asked text a
+        → IsDueOfText (HasToldRun s others told) asked.mode asked text b
         → (a ≡ b) ⊎ (HasStarted a × HasStarted b) }
 {}
 
@@ -43,15 +45,26 @@ pub fn runs_are_exact<I, O>()
         → IsExact s image heap stack steps end bytes }
 {}
 
+/// The law that what watchers tell of a run are the reports of exactly what the definition's run
+/// fetches on the same bytes, where the input tells them and no read or write ended it. It does
+/// nothing.
+pub fn reports_are_exact<I, O>()
+    ensures { (s : Streams I O) (reporters : List Report) (reports : List ℕ)
+        (image : Image) (heap stack steps : ℕ) (end : RunEnd) (bytes : List ℕ)
+        → HasToldRun s reporters reports image heap stack steps end
+        → s.input.told s.input.before ≡ Some bytes → IsFaultless (Finished end)
+        → reports ≡ reports_on reporters image heap stack steps bytes }
+{}
+
 /// The law that two calls that run one assembly text have one answer where their inputs tell the
 /// same bytes and no read or write ended a run, besides want of memory. It does nothing.
 pub fn answers_are_exact<I, O, J, P>()
-    ensures { (s : Streams I O) (t : Streams J P) (asked : Asked) (text bytes : List ℕ)
-        (a b : Answer)
+    ensures { (s : Streams I O) (t : Streams J P) (reporters others : List Report)
+        (reports told : List ℕ) (asked : Asked) (text bytes : List ℕ) (a b : Answer)
         → s.input.told s.input.before ≡ Some bytes → t.input.told t.input.before ≡ Some bytes
         → IsFaultless a → IsFaultless b
-        → IsExecuted (HasRun s) asked text a
-        → IsExecuted (HasRun t) asked text b
+        → IsExecuted (HasToldRun s reporters reports) asked text a
+        → IsExecuted (HasToldRun t others told) asked text b
         → a ≡ b }
 {}
 
@@ -60,7 +73,7 @@ pub fn answers_are_exact<I, O, J, P>()
 /// failed read or write has a count as its cause. It does nothing.
 pub fn answers_are_safe<H, I, O, E>()
     ensures { (c : Call H I O E) (status : ℕ) (given : Answers c status)
-        → IsSafe c status given.answer }
+        → IsSafe c status given.reports given.answer }
 {}
 
 /// The law that a call with good words for a file that is there, in which no count of faults rose,
@@ -69,7 +82,7 @@ pub fn answers_are_complete<H, I, O, E>()
     ensures { (c : Call H I O E) (status : ℕ) (asked : Asked) (file : List ℕ)
         → Answers c status → IsGood c asked file
         → IsSettled c status asked (take (most_of asked.mode) file)
-        ⊎ Gives c status OutOfMemory }
+        ⊎ Gives c status [] OutOfMemory }
 {}
 
 /// The law that the evaluation of an accepted source is never stuck: it meets no value of the wrong
@@ -98,7 +111,7 @@ pub fn commands_are_as_meant<H, I, O, E>()
     ensures { (c : Call H I O E) (status : ℕ) (asked : Asked) (file : List ℕ)
         → Answers c status → IsGood c asked file
         → DoesAsMeant c status asked (take (most_of asked.mode) file)
-        ⊎ Gives c status OutOfMemory }
+        ⊎ Gives c status [] OutOfMemory }
 {
     ends_are_as_meant();
 }

@@ -4,7 +4,7 @@ ghost use Rattle.tg_compile.specs.Compiling.{HasImage};
 ghost use Rattle.tg_driver.specs.Calls.{shelf_of, stream_of, streams_of};
 ghost use Rattle.tg_driver.specs.OfFiles.{OfFile, OrMemory, UntouchedBeforeStart};
 ghost use Rattle.tg_driver.specs.RunMode.{EndsAssembled, IsRun};
-ghost use Rattle.tg_driver.specs.Runs.{HasRun};
+ghost use Rattle.tg_driver.specs.Watching.{HasWatchedRun};
 
 use crate::answers::{Answer, unread};
 use crate::checking::refused;
@@ -18,6 +18,7 @@ use tg_base::{Shelf, Sink, Source};
 use tg_command::Command;
 use tg_meant::built_is_as_meant;
 use tg_rounds::SpillPolicy;
+use tg_watch::Watcher;
 
 /// The answer of the mode `run`.
 pub(crate) fn answer_run<H: Shelf, I: Source, O: Sink>(
@@ -26,11 +27,13 @@ pub(crate) fn answer_run<H: Shelf, I: Source, O: Sink>(
     shelf: &mut H,
     streams: Streams<I, O>,
     policy: &mut dyn SpillPolicy,
+    watchers: &mut Vec<Box<dyn Watcher>>,
 ) -> Answer
     requires { KeepsLimits (asked_of command.now) }
     ensures due { OrMemory ⊤ (OfFile (shelf_of H.files H.faults shelf.old shelf.new)
         (asked_of command.now).file 262145
-        (IsRun (HasRun (streams_of
+        (IsRun (HasWatchedRun (λ w. stands w) (λ w. report w)
+        watchers.old.items watchers.new.items (streams_of
         (stream_of I.left I.faults streams.entry.input.now streams.exit.0.now)
         (stream_of O.taken O.faults streams.entry.out.now streams.exit.1.0.now)))
         (asked_of command.now))) result }
@@ -40,7 +43,7 @@ pub(crate) fn answer_run<H: Shelf, I: Source, O: Sink>(
     ensures files { H.files shelf.new ≡ H.files shelf.old }
 {
     match shelf.read_file(alloc, command.file.as_str(), LONGEST + 1) {
-        Ok(text) => run_text(alloc, command, &text, streams, policy),
+        Ok(text) => run_text(alloc, command, &text, streams, policy, watchers),
         Err(fault) => unread(fault),
     }
 }
@@ -52,9 +55,11 @@ fn run_text<I: Source, O: Sink>(
     text: &[u8],
     streams: Streams<I, O>,
     policy: &mut dyn SpillPolicy,
+    watchers: &mut Vec<Box<dyn Watcher>>,
 ) -> Answer
     requires { KeepsLimits (asked_of command.now) }
-    ensures due { OrMemory ⊤ (IsRun (HasRun (streams_of
+    ensures due { OrMemory ⊤ (IsRun (HasWatchedRun (λ w. stands w) (λ w. report w)
+        watchers.old.items watchers.new.items (streams_of
         (stream_of I.left I.faults streams.entry.input.now streams.exit.0.now)
         (stream_of O.taken O.faults streams.entry.out.now streams.exit.1.0.now)))
         (asked_of command.now) text.now) result }
@@ -64,7 +69,7 @@ fn run_text<I: Source, O: Sink>(
 {
     built_is_as_meant();
     match compile(alloc, text, policy) {
-        Ok(compiled) => run_assembly(alloc, command, &compiled.text, streams),
+        Ok(compiled) => run_assembly(alloc, command, &compiled.text, streams, watchers),
         Err(refusal) => refused(text, refusal),
     }
 }
@@ -75,10 +80,12 @@ fn run_assembly<I: Source, O: Sink>(
     command: &Command,
     assembly: &[u8],
     streams: Streams<I, O>,
+    watchers: &mut Vec<Box<dyn Watcher>>,
 ) -> Answer
     requires limits { KeepsLimits (asked_of command.now) }
     requires image { HasImage assembly.now }
-    ensures runs { EndsAssembled (HasRun (streams_of
+    ensures runs { EndsAssembled (HasWatchedRun (λ w. stands w) (λ w. report w)
+        watchers.old.items watchers.new.items (streams_of
         (stream_of I.left I.faults streams.entry.input.now streams.exit.0.now)
         (stream_of O.taken O.faults streams.entry.out.now streams.exit.1.0.now)))
         assembly.now command.now.heap command.now.stack command.now.steps result }
@@ -87,7 +94,7 @@ fn run_assembly<I: Source, O: Sink>(
         (stream_of O.taken O.faults streams.entry.out.now streams.exit.1.0.now)) result }
 {
     match image_of(alloc, assembly) {
-        Ok(image) => execute(alloc, command, &image, streams),
+        Ok(image) => execute(alloc, command, &image, streams, watchers),
         Err(_) => Answer::OutOfMemory,
     }
 }

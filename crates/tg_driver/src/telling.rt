@@ -1,31 +1,45 @@
-ghost use Rattle.std.specs.Prelude.{◌≡◌, ◌≤◌};
+ghost use Rattle.std.specs.Prelude.{◌≡◌, ◌≤◌, ◌++◌, [], ℕ, List};
+ghost use Rattle.tg_watch.specs.Told.{HasTold, StandForOne};
 ghost use Rattle.tg_driver.specs.Calls.{stream_of};
+ghost use Rattle.tg_driver.specs.Endings.{end_line};
 ghost use Rattle.tg_driver.specs.Statuses.{line_of};
 ghost use Rattle.tg_driver.specs.Telling.{IsReported, IsTold};
+ghost use Rattle.tg_driver.specs.Watching.{Tell, TellAfter};
 
 use crate::answers::{Answer, line, status};
 use crate::endings::{end_status, write_end};
 use crate::faults::{Fault, bad_line, fault_line};
 use std::alloc::Global;
 use tg_asm::AsmRule;
-use tg_base::{RunEnd, Sink, write_all};
+use tg_base::{Failed, RunEnd, Sink, write_all};
+use tg_watch::{Watcher, write_reports};
 
-/// Reports an answer on the error sink, and answers its status. After a run it takes no memory.
-pub(crate) fn report<E: Sink>(alloc: Global, err: &mut E, answer: Answer) -> u8
-    ensures reports { IsReported (stream_of E.taken E.faults err.old err.new) answer result }
+/// Reports an answer on the error sink, behind a run what its watchers tell first, and answers its
+/// status. After a run it takes no memory.
+pub(crate) fn report<E: Sink>(
+    alloc: Global,
+    err: &mut E,
+    watchers: &[Box<dyn Watcher>],
+    answer: Answer,
+) -> u8
+    requires { (reports : List ℕ)
+        × TellAfter (λ w. stands w) (λ w. report w) watchers.now answer reports }
+    ensures reports { (reports : List ℕ)
+        → TellAfter (λ w. stands w) (λ w. report w) watchers.now answer reports
+        → IsReported (stream_of E.taken E.faults err.old err.new) reports answer result }
     ensures later { E.faults err.old ≤ E.faults err.new }
 {
     match answer {
         Answer::Faulty(fault) => report_fault(alloc, err, fault),
         Answer::BadLine(rule, line) => report_line(alloc, err, rule, line),
-        Answer::Finished(end) => tell_end(err, end),
+        Answer::Finished(end) => tell_run(err, watchers, end),
         _ => tell(err, answer, line(answer)),
     }
 }
 
 /// Reports a fault of a source, or want of memory where the fault's line finds none.
 fn report_fault<E: Sink>(alloc: Global, err: &mut E, fault: Fault) -> u8
-    ensures reports { IsReported (stream_of E.taken E.faults err.old err.new)
+    ensures reports { IsReported (stream_of E.taken E.faults err.old err.new) []
         (Answer.Faulty fault) result }
     ensures later { E.faults err.old ≤ E.faults err.new }
 {
@@ -37,7 +51,7 @@ fn report_fault<E: Sink>(alloc: Global, err: &mut E, fault: Fault) -> u8
 
 /// Reports a fault of assembly text, or want of memory where its line finds none.
 fn report_line<E: Sink>(alloc: Global, err: &mut E, rule: AsmRule, at: u64) -> u8
-    ensures reports { IsReported (stream_of E.taken E.faults err.old err.new)
+    ensures reports { IsReported (stream_of E.taken E.faults err.old err.new) []
         (Answer.BadLine rule at) result }
     ensures later { E.faults err.old ≤ E.faults err.new }
 {
@@ -50,7 +64,7 @@ fn report_line<E: Sink>(alloc: Global, err: &mut E, rule: AsmRule, at: u64) -> u
 /// Writes the line of an answer, and answers its status, or 74 where the write fails.
 fn tell<E: Sink>(err: &mut E, answer: Answer, line: &str) -> u8
     requires { line.now ≡ line_of answer }
-    ensures told { IsTold (stream_of E.taken E.faults err.old err.new) answer result }
+    ensures told { IsTold (stream_of E.taken E.faults err.old err.new) [] answer result }
     ensures later { E.faults err.old ≤ E.faults err.new }
 {
     match write_all(err, line.as_bytes()) {
@@ -59,14 +73,27 @@ fn tell<E: Sink>(err: &mut E, answer: Answer, line: &str) -> u8
     }
 }
 
-/// Writes the line of an end of the machine, and answers its status, or 74 where the write fails.
-fn tell_end<E: Sink>(err: &mut E, end: RunEnd) -> u8
-    ensures told { IsTold (stream_of E.taken E.faults err.old err.new)
+/// Writes what the watchers of a run tell, and the line of its end, and answers its status, or 74
+/// where a write fails.
+fn tell_run<E: Sink>(err: &mut E, watchers: &[Box<dyn Watcher>], end: RunEnd) -> u8
+    requires { StandForOne (λ w. stands w) watchers.now }
+    ensures told { (reports : List ℕ) → Tell (λ w. stands w) (λ w. report w) watchers.now reports
+        → IsTold (stream_of E.taken E.faults err.old err.new) reports
         (Answer.Finished end) result }
     ensures later { E.faults err.old ≤ E.faults err.new }
 {
-    match write_end(err, end) {
+    match write_run(err, watchers, end) {
         Ok(()) => end_status(end),
         Err(_) => 74,
     }
+}
+
+/// Writes what the watchers of a run tell, and the line of its end.
+fn write_run<E: Sink>(err: &mut E, watchers: &[Box<dyn Watcher>], end: RunEnd) -> Result<(), Failed>
+    requires { StandForOne (λ w. stands w) watchers.now }
+    ensures { (reports : List ℕ) → Tell (λ w. stands w) (λ w. report w) watchers.now reports
+        → HasTold E.taken E.faults err.old err.new result (reports ++ end_line end) }
+{
+    write_reports(watchers, err)?;
+    write_end(err, end)
 }

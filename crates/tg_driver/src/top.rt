@@ -1,11 +1,12 @@
-ghost use Rattle.std.specs.Prelude.{◌≡◌, ◌≤◌, ⊤, map, string_bytes};
+ghost use Rattle.std.specs.Prelude.{◌≡◌, ◌≤◌, ⊤, [], map, string_bytes};
 ghost use Rattle.tg_command.specs.Counts.{IsWithin, function_limits};
-ghost use Rattle.tg_command.specs.Commands.{KeepsLimits, asked_of};
+ghost use Rattle.tg_command.specs.Commands.{Ask, Asked, KeepsLimits, asked_of};
 ghost use Rattle.tg_driver.specs.Answered.{Answers, IsDue};
 ghost use Rattle.tg_driver.specs.Calls.{call_of, shelf_of, stream_of, streams_of};
 ghost use Rattle.tg_driver.specs.GenMode.{IsGenerated};
-ghost use Rattle.tg_driver.specs.Modes.{InMode, LeavesAlone};
-ghost use Rattle.tg_driver.specs.OfFiles.{OfFile, OrMemory, StaysBeforeStart};
+ghost use Rattle.tg_driver.specs.Modes.{InMode, LeavesAlone, ReadsNoInput};
+ghost use Rattle.tg_driver.specs.OfFiles.{HasStarted, OfFile, OrMemory, StaysBeforeStart};
+ghost use Rattle.tg_driver.specs.Watching.{HasWatchedRun, if_watched};
 
 use crate::answers::Answer;
 use crate::checking::answer_check;
@@ -19,11 +20,14 @@ use crate::tools::Tools;
 use crate::writing::{Wanted, answer_written};
 use std::alloc::Global;
 use tg_base::{Shelf, Sink, Source};
-use tg_command::{Command, CommandFault, Mode, read_words};
+use tg_command::{Command, CommandFault, Flags, Mode, read_words};
 use tg_rounds::SpillPolicy;
+use tg_watch::Watcher;
 
 /// The program: reads the words of a command, does what they ask, and answers the exit status. What
-/// it compiles is compiled by the policy of the tools, which is dropped at the end.
+/// it compiles is compiled by the policy of the tools. With `--watch` their watchers see the run, and
+/// each tells its report, line by line, on the error sink before the line of the status. The tools
+/// are dropped by the end.
 pub fn tiger<H: Shelf, I: Source, O: Sink, E: Sink>(
     alloc: Global,
     words: &[String],
@@ -33,7 +37,8 @@ pub fn tiger<H: Shelf, I: Source, O: Sink, E: Sink>(
     err: &mut E,
     tools: Tools,
 ) -> u8
-    ensures answers { Answers (call_of (rule tools.policy) (map string_bytes words.now)
+    ensures answers { Answers (call_of (rule tools.policy)
+        (map (λ w. report w) tools.watchers.items) (map string_bytes words.now)
         (shelf_of H.files H.faults shelf.old shelf.new)
         (stream_of I.left I.faults input.old input.new)
         (stream_of O.taken O.faults out.old out.new)
@@ -43,8 +48,15 @@ pub fn tiger<H: Shelf, I: Source, O: Sink, E: Sink>(
 {
     let mut tools = tools;
     let streams = Streams { input, out };
-    let answer = answer_words(alloc, words, shelf, streams, &mut *tools.policy);
-    report(alloc, err, answer)
+    let answer = answer_words(
+        alloc,
+        words,
+        shelf,
+        streams,
+        &mut *tools.policy,
+        &mut tools.watchers,
+    );
+    report(alloc, err, &tools.watchers, answer)
 }
 
 /// The answer that is due for the words.
@@ -54,17 +66,25 @@ fn answer_words<H: Shelf, I: Source, O: Sink>(
     shelf: &mut H,
     streams: Streams<I, O>,
     policy: &mut dyn SpillPolicy,
+    watchers: &mut Vec<Box<dyn Watcher>>,
 ) -> Answer
-    ensures due { IsDue (rule policy.old) (map string_bytes words.now)
+    ensures due { IsDue (rule policy.old)
+        (λ a. HasWatchedRun (λ w. stands w) (λ w. report w)
+        (if_watched a.flags watchers.old.items) watchers.new.items (streams_of
+        (stream_of I.left I.faults streams.entry.input.now streams.exit.0.now)
+        (stream_of O.taken O.faults streams.entry.out.now streams.exit.1.0.now)))
+        (map string_bytes words.now)
         (shelf_of H.files H.faults shelf.old shelf.new)
         (streams_of
         (stream_of I.left I.faults streams.entry.input.now streams.exit.0.now)
         (stream_of O.taken O.faults streams.entry.out.now streams.exit.1.0.now))
         result }
+    ensures unwatched { HasStarted result → (a : Asked) → Ask (map string_bytes words.now) a
+        → ReadsNoInput a.mode → watchers.new.items ≡ [] }
     ensures files { H.files shelf.new ≡ H.files shelf.old }
 {
     match read_words(alloc, words) {
-        Ok(command) => answer_command(alloc, &command, shelf, streams, policy),
+        Ok(command) => answer_command(alloc, &command, shelf, streams, policy, watchers),
         Err(CommandFault::Usage) => Answer::Usage,
         Err(CommandFault::Memory) => Answer::OutOfMemory,
     }
@@ -77,6 +97,7 @@ fn answer_command<H: Shelf, I: Source, O: Sink>(
     shelf: &mut H,
     streams: Streams<I, O>,
     policy: &mut dyn SpillPolicy,
+    watchers: &mut Vec<Box<dyn Watcher>>,
 ) -> Answer
     requires { KeepsLimits (asked_of command.now) }
     ensures due { let left_alone = LeavesAlone command.now.mode
@@ -84,22 +105,37 @@ fn answer_command<H: Shelf, I: Source, O: Sink>(
         (streams_of
         (stream_of I.left I.faults streams.entry.input.now streams.exit.0.now)
         (stream_of O.taken O.faults streams.entry.out.now streams.exit.1.0.now)) in
-        OrMemory left_alone (InMode (rule policy.old) command.now.mode
+        let runs = HasWatchedRun (λ w. stands w) (λ w. report w)
+        (if_watched command.now.flags watchers.old.items) watchers.new.items (streams_of
+        (stream_of I.left I.faults streams.entry.input.now streams.exit.0.now)
+        (stream_of O.taken O.faults streams.entry.out.now streams.exit.1.0.now)) in
+        OrMemory left_alone (InMode (rule policy.old) runs command.now.mode
         (shelf_of H.files H.faults shelf.old shelf.new)
         (streams_of
         (stream_of I.left I.faults streams.entry.input.now streams.exit.0.now)
         (stream_of O.taken O.faults streams.entry.out.now streams.exit.1.0.now))
         (asked_of command.now)) result }
+    ensures unwatched { ReadsNoInput command.now.mode → watchers.new.items ≡ [] }
     ensures files { H.files shelf.new ≡ H.files shelf.old }
 {
+    keep_asked(command.flags, watchers);
     match command.mode {
         Mode::Check => answer_check(alloc, command, shelf),
         Mode::Build => answer_written(alloc, command, shelf, streams, policy, Wanted::Assembly),
-        Mode::Run => answer_run(alloc, command, shelf, streams, policy),
-        Mode::Exec => answer_exec(alloc, command, shelf, streams),
+        Mode::Run => answer_run(alloc, command, shelf, streams, policy, watchers),
+        Mode::Exec => answer_exec(alloc, command, shelf, streams, watchers),
         Mode::Alloc => answer_written(alloc, command, shelf, streams, policy, Wanted::Allocations),
         Mode::Gen => generate_to(alloc, command, streams, policy),
         Mode::Format => answer_format(alloc, command, shelf, streams),
+    }
+}
+
+/// Lets go of the watchers where the flags don't ask for them.
+fn keep_asked(flags: Flags, watchers: &mut Vec<Box<dyn Watcher>>)
+    ensures { watchers.new.items ≡ if_watched flags watchers.old.items }
+{
+    if !flags.watch {
+        watchers.clear();
     }
 }
 

@@ -4,15 +4,17 @@ use std::process::Abort;
 use std::test::Fail;
 use tg_base::{ListSource, MapShelf, RoomSink, Source};
 use tg_driver::{Tools, tiger};
-use tg_rounds::{LeastUse, SpillPolicy};
+use tg_rounds::LeastUse;
+use tg_watch::{Coverage, Profile, Trace, Watcher};
 
-/// What a call is made on: the text of the one file FILE, the input, the room of the output, and
-/// the calls that fail.
+/// What a call is made on: the text of the one file FILE, the input, the room of the output and of
+/// the error sink, and the calls that fail.
 #[derive(Clone, Copy)]
 pub(crate) struct Outside<'a> {
     pub(crate) text: &'a [u8],
     pub(crate) input: &'a [u8],
     pub(crate) room: usize,
+    pub(crate) err_room: usize,
     pub(crate) shelf_fails: &'a [u64],
     pub(crate) read_fails: &'a [u64],
     pub(crate) write_fails: &'a [u64],
@@ -20,12 +22,14 @@ pub(crate) struct Outside<'a> {
 }
 
 impl<'a> Outside<'a> {
-    /// Nothing fails, the input is `xyz`, and the output has a room of 64 bytes.
+    /// Nothing fails, the input is `xyz`, the output has a room of 64 bytes, and the error sink one of
+    /// 2,048.
     pub(crate) fn of(text: &'a [u8]) -> Outside<'a> {
         Outside {
             text,
             input: b"xyz",
             room: 64,
+            err_room: 2048,
             shelf_fails: &[],
             read_fails: &[],
             write_fails: &[],
@@ -68,17 +72,28 @@ fn sink(alloc: Global, room: usize, fails: &[u64]) -> Result<RoomSink, Fail> {
     }
 }
 
-/// The program on the words of a line, with the policy `LeastUse`.
-pub(crate) fn call(alloc: Global, line: &str, outside: Outside) -> Result<Seen, Fail> {
-    call_with(alloc, line, outside, Box::new(alloc, LeastUse)?)
+/// The watchers that the program hands in, in its order.
+pub(crate) fn watchers(alloc: Global) -> Result<Vec<Box<dyn Watcher>>, AllocError> {
+    let mut watchers: Vec<Box<dyn Watcher>> = Vec::new(alloc);
+    watchers.push(Box::new(alloc, Profile::new(alloc))?)?;
+    watchers.push(Box::new(alloc, Coverage::new(alloc))?)?;
+    watchers.push(Box::new(alloc, Trace::new(alloc))?)?;
+    Ok(watchers)
 }
 
-/// The program on the words of a line, with a policy.
+/// The program on the words of a line, with the policy `LeastUse` and these watchers.
+pub(crate) fn call(alloc: Global, line: &str, outside: Outside) -> Result<Seen, Fail> {
+    let policy = Box::new(alloc, LeastUse)?;
+    let watchers = watchers(alloc)?;
+    call_with(alloc, line, outside, Tools { policy, watchers })
+}
+
+/// The program on the words of a line, with tools.
 pub(crate) fn call_with(
     alloc: Global,
     line: &str,
     outside: Outside,
-    policy: Box<dyn SpillPolicy>,
+    tools: Tools,
 ) -> Result<Seen, Fail> {
     let mut files = BTreeMap::new(alloc);
     files.insert(
@@ -91,16 +106,10 @@ pub(crate) fn call_with(
         outside.read_fails.to_vec(alloc)?,
     );
     let mut out = sink(alloc, outside.room, outside.write_fails)?;
-    let mut err = sink(alloc, 128, outside.err_fails)?;
+    let mut err = sink(alloc, outside.err_room, outside.err_fails)?;
     let words = words_of(alloc, line)?;
     let status = tiger(
-        alloc,
-        &words,
-        &mut shelf,
-        &mut input,
-        &mut out,
-        &mut err,
-        Tools { policy },
+        alloc, &words, &mut shelf, &mut input, &mut out, &mut err, tools,
     );
     Ok(Seen {
         status,

@@ -24,4 +24,6 @@ mod runs;
 #[cfg(test)]
 mod texts;
 #[cfg(test)]
+mod watching;
+#[cfg(test)]
 mod words;

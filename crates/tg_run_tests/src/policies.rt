@@ -6,6 +6,7 @@ use std::cell::RefCell;
 use std::rc::Rc;
 use std::str;
 use std::test::Fail;
+use tg_driver::Tools;
 use tg_rounds::{Candidate, SpillPolicy};
 
 /// Which candidate a policy chooses.
@@ -90,7 +91,11 @@ fn call_telling(
         calls: 0,
         chosen: chosen.clone()?,
     };
-    call_with(alloc, line, outside(&text), Box::new(alloc, policy)?)
+    let tools = Tools {
+        policy: Box::new(alloc, policy)?,
+        watchers: Vec::new(alloc),
+    };
+    call_with(alloc, line, outside(&text), tools)
 }
 
 /// The temporaries of the lines of a listing that spill, in their order.

@@ -15,17 +15,18 @@ returns-clause-app c =
     ap app_of_fields c.disable_version_flag.ensures
     ∙ (ap (λ (f : Command-F Command). app_of_fields (record f { disable_version_flag = true })) c.disable_help_flag.ensures
     ∙ ap without_flags c.new.ensures.app) in
-    let one = c.in_ok-arg.ensures.shape c.positional.ensures.local ∙ ap₂ with_rule bare c.positional.ensures.rule_is in
-    let two = c.in_ok-arg-2.ensures.shape c.positional-2.ensures.local ∙ ap₂ with_rule one c.positional-2.ensures.rule_is in
+    let one = c.in_ok-arg.ensures.shape c.positional.ensures.argument.local ∙ ap₂ with_rule bare c.positional.ensures.argument.rule_is in
+    let two = c.in_ok-arg-2.ensures.shape c.positional-2.ensures.argument.local ∙ ap₂ with_rule one c.positional-2.ensures.argument.rule_is in
     let three = c.in_ok-arg-3.ensures.shape c.option.ensures.local ∙ ap₂ with_rule two c.option.ensures.rule_is in
     let four = c.in_ok-arg-4.ensures.shape c.option-2.ensures.local ∙ ap₂ with_rule three c.option-2.ensures.rule_is in
-    IfOk-weaker c.arg-5.result _ _ (λ r h. h.shape c.option-3.ensures.local ∙ ap₂ with_rule four c.option-3.ensures.rule_is) c.arg-5.ensures
+    let five = c.in_ok-arg-5.ensures.shape c.option-3.ensures.local ∙ ap₂ with_rule four c.option-3.ensures.rule_is in
+    IfOk-weaker c.arg-6.result _ _ (λ r h. h.shape c.flag.ensures.local ∙ ap₂ with_rule five c.flag.ensures.rule_is) c.arg-6.ensures
 
 pub returns-clause-required : goal.returns-clause-required
 returns-clause-required c =
     let fields : fields_of c.disable_version_flag.result ≡ record (record (fields_of c.new.result) { disable_help_flag = true }) { disable_version_flag = true } = c.disable_version_flag.ensures ∙ ap (λ (f : Command-F Command). record f { disable_version_flag = true }) c.disable_help_flag.ensures in
-    IfOk-weaker c.arg-5.result _ _ (λ r h m parsed. required_given _ _ _ _ _ c.positional.ensures c.positional-2.ensures
-    c.option.ensures c.option-2.ensures c.option-3.ensures
+    IfOk-weaker c.arg-6.result _ _ (λ r h m parsed. required_given _ _ _ _ _ _ c.positional.ensures.argument c.positional-2.ensures.argument
+    c.option.ensures c.option-2.ensures c.option-3.ensures c.flag.ensures
     c.disable_version_flag.result r m (
       c.in_ok-arg.field-0,
       c.in_ok-arg.ensures,
@@ -35,11 +36,16 @@ returns-clause-required c =
         (
           c.in_ok-arg-3.field-0,
           c.in_ok-arg-3.ensures,
-          (c.in_ok-arg-4.field-0, c.in_ok-arg-4.ensures, (r, h, refl)),
+          (
+            c.in_ok-arg-4.field-0,
+            c.in_ok-arg-4.ensures,
+            (c.in_ok-arg-5.field-0, c.in_ok-arg-5.ensures, (r, h, refl)),
+          ),
         ),
       ),
     )
     (ap (λ (f : Command-F Command). f.args.items) fields ∙ c.new.ensures.empty.0) (ap (λ (f : Command-F Command). f.groups.items) fields
     ∙ c.new.ensures.empty.1)
     (ap (λ (f : Command-F Command). f.has_globals) fields ∙ c.new.ensures.local)
-    (ap (λ (f : Command-F Command). f.subcommand_negates_reqs) fields ∙ c.new.ensures.negates) parsed) c.arg-5.ensures
+    (ap (λ (f : Command-F Command). f.subcommand_negates_reqs) fields ∙ c.new.ensures.negates) parsed
+    c.positional.ensures.values c.positional-2.ensures.values) c.arg-6.ensures

@@ -1,4 +1,6 @@
-use Rattle.std.proofs.Common.{◌≡◌, ◌∙◌, List, sym, ap, codes, map, option_map, string_bytes, Option}
+use Rattle.std.proofs.Common.{◌≡◌, ◌∙◌, List, Bool, false, sym, ap, codes, map, option_map, string_bytes, Option}
+use Rattle.std.specs.Option.{option_map_or}
+use Rattle.std.specs.Str.{bytes_eq}
 use Rattle.std.specs.Borrow.{Bor}
 use Rattle.clap.specs.Words.{Text, first_of, first_value, found_of, is_simple, is_simple_and_free, fault_of, matches_of, rows_of}
 use Rattle.clap.proofs.WalkLemmas.{first_value-rows}
@@ -13,6 +15,7 @@ returns-clause-ok c =
     let taken : IsTaken words = sym (ap (λ a. fault_of a words) app) ∙ c.in-Ok.ensures.kinds (ap is_simple_and_free app) in
     let rows : rows_of (found_of matches) ≡ matches_of simple_command words = (c.in-Ok.ensures.matches (ap is_simple app)).0 ∙ ap (λ a. matches_of a words) app in
     let given : (name : Text) → first_value (found_of matches) name ≡ value_of name words = λ name. first_value-rows (found_of matches) name ∙ ap (first_of name) rows in
+    let set : Option Text → Bool = λ value. option_map_or (λ t. bytes_eq t (codes "true")) value false in
     let texts : Option (Bor Text) → Option Text = option_map (λ t. t.now) in
     record {
       taken = taken;
@@ -21,4 +24,5 @@ returns-clause-ok c =
       heap = sym (given (codes "heap")) ∙ sym c.get_str-3.ensures;
       stack = sym (given (codes "stack")) ∙ sym c.get_str-4.ensures;
       steps = sym (given (codes "steps")) ∙ sym c.get_str-5.ensures;
+      flags = ap (λ (b : Bool). record { watch = b }) (c.has_flag.ensures ∙ ap set (given (codes "watch")));
     }

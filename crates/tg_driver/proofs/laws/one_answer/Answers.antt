@@ -1,6 +1,6 @@
-use Rattle.tg_driver.specs.Runs.{HasRun}
+use Rattle.tg_driver.specs.Watching.{HasToldRun}
 use Rattle.tg_driver.proofs.ModesOnce.{due_alike}
 use Rattle.tg_driver.proofs.laws.one_answer.Goals as goal
 
 pub returns : goal.returns
-returns g c = λ s asked. due_alike (HasRun s) asked.mode asked
+returns g c = λ s reporters others reports told asked. due_alike (HasToldRun s reporters reports) (HasToldRun s others told) asked.mode asked

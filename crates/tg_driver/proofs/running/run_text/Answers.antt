@@ -1,7 +1,7 @@
 use Rattle.std.proofs.Common.{refl}
 use Rattle.tg_command.specs.Commands.{asked_of}
 use Rattle.tg_driver.specs.Calls.{stream_of, streams_of}
-use Rattle.tg_driver.specs.Runs.{HasRun}
+use Rattle.tg_driver.specs.Watching.{HasWatchedRun}
 use Rattle.tg_driver.proofs.AnswerLemmas.{run_of_refused, refused_untouched, ends_as_meant}
 use Rattle.tg_driver.proofs.Typings.{as_meant, has_image}
 use Rattle.tg_driver.proofs.running.run_text.Goals as goal
@@ -14,7 +14,9 @@ returns-in-Ok-clause-due g c =
     let streams = streams_of
     (stream_of g.I.Source.left g.I.Source.faults c.args.streams.input.now c.run_assembly.new.streams.0)
     (stream_of g.O.Sink.taken g.O.Sink.faults c.args.streams.out.now c.run_assembly.new.streams.1.0) in
-    ends_as_meant (HasRun streams) (asked_of c.args.command.now) _ _ c.run_assembly.result (as_meant c.built_is_as_meant.ensures _ _ _ _ c.in-Ok.ensures.compiled)
+    let runs = HasWatchedRun (λ b. (goal.Watcher-dyn g (b.vtable, b.value)).stands b.value) (λ b. (goal.Watcher-dyn g (b.vtable, b.value)).report b.value)
+    c.args.watchers.now.items c.run_assembly.new.watchers.items streams in
+    ends_as_meant runs (asked_of c.args.command.now) _ _ c.run_assembly.result (as_meant c.built_is_as_meant.ensures _ _ _ _ c.in-Ok.ensures.compiled)
     (rw c.deref.ensures.value at c.run_assembly.ensures.runs)
 
 pub returns-in-Err-clause-due : goal.returns-in-Err-clause-due
@@ -22,7 +24,9 @@ returns-in-Err-clause-due g c =
     let streams = streams_of
     (stream_of g.I.Source.left g.I.Source.faults c.args.streams.input.now c.args.streams.input.now)
     (stream_of g.O.Sink.taken g.O.Sink.faults c.args.streams.out.now c.args.streams.out.now) in
-    run_of_refused (HasRun streams) (asked_of c.args.command.now) _ c.refused.result c.refused.ensures
+    let runs = HasWatchedRun (λ b. (goal.Watcher-dyn g (b.vtable, b.value)).stands b.value) (λ b. (goal.Watcher-dyn g (b.vtable, b.value)).report b.value)
+    c.args.watchers.now.items c.args.watchers.now.items streams in
+    run_of_refused runs (asked_of c.args.command.now) _ c.refused.result c.refused.ensures
 
 pub returns-in-Err-clause-before_start : goal.returns-in-Err-clause-before_start
 returns-in-Err-clause-before_start g c =

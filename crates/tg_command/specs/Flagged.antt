@@ -1,0 +1,27 @@
+-- The flags on a command line, and the modes that take them.
+use Rattle.std.specs.Prelude.{◌≡◌, List, Bool, true, false, not, codes}
+use Rattle.std.specs.Option.{option_map_or}
+use Rattle.std.specs.Str.{bytes_eq}
+use Rattle.clap.specs.Words.{Text}
+use Rattle.tg_command.specs.Simple.{value_of}
+use Rattle.tg_command.specs.declared.flags.Flags.{Flags}
+use Rattle.tg_command.specs.declared.modes.Mode.{Mode}
+use Rattle.tg_command.specs.declared.modes.Mode.TheVariants.{Run, Exec}
+
+-- the words give the flag: the parser's value of one that stands there is the word `true`
+abbrev pub has_flag : Text → List Text → Bool
+has_flag name words = option_map_or (λ t. bytes_eq t (codes "true")) (value_of name words) false
+
+abbrev pub flags_of : List Text → Flags
+flags_of words = record { watch = has_flag (codes "watch") words }
+
+-- a mode takes the flags: `--watch` is for those that run an image on the streams
+abbrev pub flags_fit : Mode → Flags → Bool
+flags_fit Run flags = true
+flags_fit Exec flags = true
+flags_fit mode flags = not flags.watch
+
+-- the words give these flags, and the mode takes them
+pub record GivesFlags (words : List Text) (mode : Mode) (flags : Flags) : Type 0 where
+  pub given : flags ≡ flags_of words
+  pub fit : flags_fit mode flags ≡ true

@@ -1,0 +1,287 @@
+-- What is said of runs, more weakly; and from runs that watchers saw to what they tell.
+use Rattle.std.specs.Prelude.{All, Ok, Err, if◌then◌else◌}
+use Rattle.std.proofs.Common.{ℕ, ◌≡◌, Option, None, List, [], Bool, true, false, map, refl, sym, ap, subst, ◌∙◌, length, arith}
+use Rattle.tg_base.specs.declared.ends.RunEnd.{RunEnd}
+use Rattle.tg_isa.specs.declared.images.Image.{Image}
+use Rattle.tg_machine.specs.declared.fetches.Seen.{Seen}
+use Rattle.tg_machine.specs.Fetches.{IsWatched, fetches_until}
+use Rattle.tg_machine.specs.Machines.{Simulated, loaded}
+use Rattle.tg_machine.specs.Ran.{IsSimulation}
+use Rattle.tg_rounds.specs.Policies.{Rule as SpillRule}
+use Rattle.tg_watch.specs.Told.{HasTold, reports_text}
+use Rattle.tg_watch.specs.Watching.{HaveSeen, Report}
+use Rattle.tg_command.specs.declared.flags.Flags.{Flags}
+use Rattle.tg_command.specs.declared.modes.Mode.{Mode}
+use Rattle.tg_command.specs.declared.modes.Mode.TheVariants.{Check, Build, Run, Exec, Alloc, Gen, Format}
+use Rattle.tg_command.specs.Commands.{Asked, Ask}
+use Rattle.tg_command.proofs.CommandLemmas.{asked_once}
+use Rattle.tg_driver.specs.declared.answers.Answer.{Answer}
+use Rattle.tg_driver.specs.declared.answers.Answer.TheVariants.{Usage, Faulty, BadLine, TooLong, OutOfMemory, Finished}
+use Rattle.tg_driver.specs.Calls.{stream_of, Streams, streams_of, Shelved, Call, Takes, part}
+use Rattle.tg_driver.specs.OfFiles.{OfFile, unreadable, read, HasStarted}
+use Rattle.tg_driver.specs.Runs.{RunRelation}
+use Rattle.tg_driver.specs.RunMode.{IsRun}
+use Rattle.tg_driver.specs.ExecMode.{IsExecuted}
+use Rattle.tg_driver.specs.Modes.{InMode, ReadsNoInput}
+use Rattle.tg_driver.specs.Answered.{IsDue, NoneUnasked, told_runs, usage, no_memory, asked, Answers}
+use Rattle.tg_driver.specs.Telling.{IsReported}
+use Rattle.tg_driver.specs.Watching.{HasToldRun, HasWatchedRun, NoneBeforeEnd, Tell, TellAfter, if_watched}
+use Rattle.tg_driver.proofs.AnswerLemmas.{answers_of, took_all}
+
+-- what is said of the run of an answer
+abbrev pub SaidMore : (runs others : RunRelation) → Asked → Answer → Type 0
+SaidMore runs others a answer = (image : Image) (end : RunEnd) → answer ≡ Finished end →
+    runs image a.heap a.stack a.steps end → others image a.heap a.stack a.steps end
+
+pub run_more : (runs others : RunRelation) (a : Asked) (text : List ℕ) (answer : Answer) → SaidMore runs others a answer →
+    IsRun runs a text answer → IsRun others a text answer
+run_more runs others a text (Faulty f) more h = h
+run_more runs others a text (Finished end) more h = record {
+  assembly = h.assembly;
+  meant = h.meant;
+  ran = record { image = h.ran.image; assembles = h.ran.assembles; run = more h.ran.image end refl h.ran.run };
+}
+run_more runs others a text _ more h = absurd h
+
+pub exec_more : (runs others : RunRelation) (a : Asked) (text : List ℕ) (answer : Answer) → SaidMore runs others a answer →
+    IsExecuted runs a text answer → IsExecuted others a text answer
+exec_more runs others a text TooLong more h = h
+exec_more runs others a text (BadLine rule line) more h = h
+exec_more runs others a text (Finished end) more h =
+    record { short = h.short; image = h.image; assembles = h.assembles; run = more h.image end refl h.run }
+exec_more runs others a text _ more h = absurd h
+
+file_more : {H : Type 0} (shelf : Shelved H) (name : List ℕ) (most : ℕ) (due others : List ℕ → Answer → Type 0) (answer : Answer) →
+    ((text : List ℕ) → due text answer → others text answer) → OfFile shelf name most due answer → OfFile shelf name most others answer
+file_more shelf name most due others answer more (unreadable is u) = unreadable is u
+file_more shelf name most due others answer more (read text front h) = read text front (more text h)
+
+pub in_mode_more : {H I O : Type 0} (rule : SpillRule) (runs others : RunRelation) (mode : Mode) (shelf : Shelved H) (s : Streams I O) (a : Asked)
+    (answer : Answer) → SaidMore runs others a answer → InMode rule runs mode shelf s a answer → InMode rule others mode shelf s a answer
+in_mode_more rule runs others Check shelf s a answer more h = h
+in_mode_more rule runs others Build shelf s a answer more h = h
+in_mode_more rule runs others Run shelf s a answer more h =
+    (h.0, file_more shelf a.file 262145 _ _ answer (λ text. run_more runs others a text answer more) h.1)
+in_mode_more rule runs others Exec shelf s a answer more h =
+    (h.0, file_more shelf a.file 67108865 _ _ answer (λ text. exec_more runs others a text answer more) h.1)
+in_mode_more rule runs others Alloc shelf s a answer more h = h
+in_mode_more rule runs others Gen shelf s a answer more h = h
+in_mode_more rule runs others Format shelf s a answer more h = h
+
+pub due_more : {H I O : Type 0} (rule : SpillRule) (runs others : Asked → RunRelation) (words : List (List ℕ)) (shelf : Shelved H) (s : Streams I O)
+    (answer : Answer) → ((a : Asked) → SaidMore (runs a) (others a) a answer) → IsDue rule runs words shelf s answer →
+    IsDue rule others words shelf s answer
+due_more rule runs others words shelf s answer more (usage is fault same u) = usage is fault same u
+due_more rule runs others words shelf s answer more (no_memory is kept u) = no_memory is kept u
+due_more rule runs others words shelf s answer more (asked a ask h) =
+    asked a ask (in_mode_more rule (runs a) (others a) a.mode shelf s a answer (more a) h)
+
+-- no reports are told where no run has ended
+none_before : (answer : Answer) → NoneBeforeEnd [] answer
+none_before (Finished end) = tt
+none_before _ = refl
+
+-- what was handed in, by the flags
+map_watched : {A B : Type 0} (f : A → B) (flags : Flags) (all : List A) → map f (if_watched flags all) ≡ if_watched flags (map f all)
+map_watched {A} {B} f flags all = by flags.watch
+  where
+    by : (b : Bool) → map f (if b then all else []) ≡ (if b then map f all else [])
+    by true = refl
+    by false = refl
+
+none_watched : {A : Type 0} (flags : Flags) (all : List A) → flags.watch ≡ false → if_watched flags all ≡ []
+none_watched flags all off = ap (λ (b : Bool). if b then all else []) off
+
+module _ {W I O : Type 0} (stands : W → List Seen → ℕ → Type 0) (report : W → Report) (new : List W) (s : Streams I O) where
+  -- of a run in a mode: the reports, and who tells them
+  record Told {H : Type 0} (rule : SpillRule) (mode : Mode) (shelf : Shelved H) (a : Asked) (end : RunEnd) (old : List W) : Type 0 where
+    reports : List ℕ
+    in_mode : InMode rule (HasToldRun s (map report old) reports) mode shelf s a (Finished end)
+    tell : Tell stands report new reports
+    none : old ≡ [] → reports ≡ []
+
+  -- watchers that are none tell nothing
+  tell_none : new ≡ [] → Tell stands report new []
+  tell_none is = record {
+    seen = [];
+    code = 0;
+    stand = λ k d lt.
+        let none : length new ≡ 0 = ap length is in
+        absurd (omega (arith, none, lt));
+    reports_are = sym (ap (λ l. reports_text (map report l) [] 0) is);
+  }
+
+  told_run : {H : Type 0} (rule : SpillRule) (shelf : Shelved H) (a : Asked) (end : RunEnd) (old : List W) →
+      OfFile shelf a.file 262145 (IsRun (HasWatchedRun stands report old new s) a) (Finished end) → Told rule Run shelf a end old
+  told_run rule shelf a end old (unreadable is u) = absurd (cc)
+  told_run rule shelf a end old (read text front h) =
+      let r = h.ran.run in
+      let n = length h.ran.image.code in
+      record {
+        reports = reports_text (map report old) r.seen n;
+        in_mode = (
+          tt,
+          read text front (record {
+            assembly = h.assembly;
+            meant = h.meant;
+            ran = record {
+              image = h.ran.image;
+              assembles = h.ran.assembles;
+              run = record { after = r.after; seen = r.seen; watched = r.watched; reports_are = refl };
+            };
+          }),
+        );
+        tell = record {
+          seen = r.seen;
+          code = n;
+          stand = r.have_seen.stand;
+          reports_are = ap (λ l. reports_text l r.seen n) (sym r.have_seen.same);
+        };
+        none = λ is. ap (λ l. reports_text (map report l) r.seen n) is;
+      }
+
+  told_exec : {H : Type 0} (rule : SpillRule) (shelf : Shelved H) (a : Asked) (end : RunEnd) (old : List W) →
+      OfFile shelf a.file 67108865 (IsExecuted (HasWatchedRun stands report old new s) a) (Finished end) → Told rule Exec shelf a end old
+  told_exec rule shelf a end old (unreadable is u) = absurd (cc)
+  told_exec rule shelf a end old (read text front h) =
+      let r = h.run in
+      let n = length h.image.code in
+      record {
+        reports = reports_text (map report old) r.seen n;
+        in_mode = (
+          tt,
+          read text front (record {
+            short = h.short;
+            image = h.image;
+            assembles = h.assembles;
+            run = record { after = r.after; seen = r.seen; watched = r.watched; reports_are = refl };
+          }),
+        );
+        tell = record {
+          seen = r.seen;
+          code = n;
+          stand = r.have_seen.stand;
+          reports_are = ap (λ l. reports_text l r.seen n) (sym r.have_seen.same);
+        };
+        none = λ is. ap (λ l. reports_text (map report l) r.seen n) is;
+      }
+
+  told_in : {H : Type 0} (rule : SpillRule) (mode : Mode) (shelf : Shelved H) (a : Asked) (end : RunEnd) (old : List W) →
+      (ReadsNoInput mode → new ≡ []) → InMode rule (HasWatchedRun stands report old new s) mode shelf s a (Finished end) →
+      Told rule mode shelf a end old
+  told_in rule Check shelf a end old others h = record { reports = []; in_mode = h; tell = tell_none (others tt); none = λ _. refl }
+  told_in rule Build shelf a end old others h = record { reports = []; in_mode = h; tell = tell_none (others tt); none = λ _. refl }
+  told_in rule Run shelf a end old others h = told_run rule shelf a end old h.1
+  told_in rule Exec shelf a end old others h = told_exec rule shelf a end old h.1
+  told_in rule Alloc shelf a end old others h = record { reports = []; in_mode = h; tell = tell_none (others tt); none = λ _. refl }
+  told_in rule Gen shelf a end old others h = record { reports = []; in_mode = h; tell = tell_none (others tt); none = λ _. refl }
+  told_in rule Format shelf a end old others h = record { reports = []; in_mode = h; tell = tell_none (others tt); none = λ _. refl }
+
+  -- of an answer: the reports, and who tells them
+  pub record ToldDue {H : Type 0} (rule : SpillRule) (reporters : List Report) (words : List (List ℕ)) (shelf : Shelved H)
+      (answer : Answer) : Type 0 where
+    pub reports : List ℕ
+    pub due : IsDue rule (λ a. HasToldRun s (if_watched a.flags reporters) reports) words shelf s answer
+    pub before_end : NoneBeforeEnd reports answer
+    pub unasked : NoneUnasked words reports
+    pub tell : TellAfter stands report new answer reports
+
+  module _ {H : Type 0} (rule : SpillRule) (old : List W) (words : List (List ℕ)) (shelf : Shelved H) where
+    -- nothing is told of an answer that is no end of a run
+    quiet : (answer : Answer) → TellAfter stands report new answer [] →
+        IsDue rule (λ a. HasToldRun s (if_watched a.flags (map report old)) []) words shelf s answer →
+        ToldDue rule (map report old) words shelf answer
+    quiet answer tell due = record { reports = []; due = due; before_end = none_before answer; unasked = λ a ask off. refl; tell = tell }
+
+    ended : (end : RunEnd) (a : Asked) → Ask words a → (ReadsNoInput a.mode → new ≡ []) →
+        InMode rule (HasWatchedRun stands report (if_watched a.flags old) new s) a.mode shelf s a (Finished end) →
+        ToldDue rule (map report old) words shelf (Finished end)
+    ended end a ask others h =
+        let t = told_in rule a.mode shelf a end (if_watched a.flags old) others h in
+        let P : List Report → Type 0 = λ l. InMode rule (HasToldRun s l t.reports) a.mode shelf s a (Finished end) in
+        record {
+          reports = t.reports;
+          due = asked a ask (subst P (map_watched report a.flags old) t.in_mode);
+          before_end = tt;
+          unasked = λ b other off.
+              let off_here = ap (λ (x : Asked). x.flags.watch) (asked_once words a b ask other) ∙ off in
+              t.none (none_watched a.flags old off_here);
+          tell = t.tell;
+        }
+
+    by_answer : (answer : Answer) (a : Asked) → Ask words a → (HasStarted answer → ReadsNoInput a.mode → new ≡ []) →
+        InMode rule (HasWatchedRun stands report (if_watched a.flags old) new s) a.mode shelf s a answer →
+        ToldDue rule (map report old) words shelf answer
+    by_answer (Finished end) a ask others h = ended end a ask (others tt) h
+    by_answer answer a ask others h =
+        quiet answer refl (asked a ask (in_mode_more rule _ _ a.mode shelf s a answer (λ image end is. absurd (cc)) h))
+
+    pub told_due : (answer : Answer) → (HasStarted answer → (a : Asked) → Ask words a → ReadsNoInput a.mode → new ≡ []) →
+        IsDue rule (λ a. HasWatchedRun stands report (if_watched a.flags old) new s) words shelf s answer →
+        ToldDue rule (map report old) words shelf answer
+    told_due answer others (usage is fault same u) =
+        let P : Answer → Type 0 = λ x. ToldDue rule (map report old) words shelf x in
+        subst P (sym is) (quiet Usage refl (usage refl fault same u))
+    told_due answer others (no_memory is kept u) =
+        let P : Answer → Type 0 = λ x. ToldDue rule (map report old) words shelf x in
+        subst P (sym is) (quiet OutOfMemory refl (no_memory refl kept u))
+    told_due answer others (asked a ask h) = by_answer answer a ask (λ started. others started a ask) h
+
+-- and so by the rule of the policy in the box
+pub answers_by : {H I O E : Type 0} (rule : SpillRule) (c : Call H I O E) (status : ℕ) (reports : List ℕ) (answer : Answer) → rule ≡ c.rule →
+    IsDue rule (told_runs c reports) c.words c.shelf c.streams answer → NoneBeforeEnd reports answer → NoneUnasked c.words reports →
+    IsReported c.err reports answer status → Answers c status
+answers_by rule c status reports answer is due before_end unasked told =
+    let P : SpillRule → Type 0 = λ r. IsDue r (told_runs c reports) c.words c.shelf c.streams answer in
+    answers_of c status reports answer (subst P is due) before_end unasked told
+
+-- a machine that ran with nobody watching
+pub saw_nothing : {W I O : Type 0} (stands : W → List Seen → ℕ → Type 0) (report : W → Report) (watchers : List W)
+    (left : I → Option (List ℕ)) (reads : I → ℕ) (taken : O → Option (List ℕ)) (writes : O → ℕ) (input input' : I) (out out' : O)
+    (machine new : Simulated) (image : Image) (heap stack steps : ℕ) (end : RunEnd) → length watchers ≡ 0 → machine ≡ loaded image heap stack →
+    (machine.end ≡ None → IsSimulation left reads taken writes steps machine new input input' out out' end) →
+    HasWatchedRun stands report watchers watchers (streams_of (stream_of left reads input input') (stream_of taken writes out out'))
+    image heap stack steps end
+saw_nothing stands report watchers left reads taken writes input input' out out' machine new image heap stack steps end none is ran =
+    let P : Simulated → Type 0 = λ m. IsSimulation left reads taken writes steps m new input input' out out' end in
+    let r = subst P is (ran (ap (λ (m : Simulated). m.end) is)) in
+    record {
+      after = new;
+      seen = fetches_until r.stops;
+      watched = record { simulation = r; seen_is = refl };
+      have_seen = record { same = refl; stand = λ k d lt. absurd (omega (arith, none, lt)) };
+    }
+
+-- and one that ran before watchers
+pub saw_all : {W I O : Type 0} (stands : W → List Seen → ℕ → Type 0) (report : W → Report) (old now : List W)
+    (left : I → Option (List ℕ)) (reads : I → ℕ) (taken : O → Option (List ℕ)) (writes : O → ℕ) (input input' : I) (out out' : O)
+    (machine new : Simulated) (image : Image) (heap stack steps : ℕ) (end : RunEnd) → machine ≡ loaded image heap stack →
+    (machine.end ≡ None → (seen : List Seen) × IsWatched left reads taken writes steps machine new input input' out out' end seen
+    × HaveSeen stands report old now seen (length machine.state.code)) →
+    HasWatchedRun stands report old now (streams_of (stream_of left reads input input') (stream_of taken writes out out'))
+    image heap stack steps end
+saw_all stands report old now left reads taken writes input input' out out' machine new image heap stack steps end is ran =
+    let P : Simulated → Type 0 = λ m. (seen : List Seen) × IsWatched left reads taken writes steps m new input input' out out' end seen
+    × HaveSeen stands report old now seen (length m.state.code) in
+    let r = subst P is (ran (ap (λ (m : Simulated). m.end) is)) in
+    record { after = new; seen = r.0; watched = r.1; have_seen = r.2 }
+
+-- watchers that were begun have the reports that they had
+pub begun_before : {W I O : Type 0} (stands : W → List Seen → ℕ → Type 0) (report : W → Report) (old begun now : List W) (s : Streams I O)
+    (image : Image) (heap stack steps : ℕ) (end : RunEnd) → map report begun ≡ map report old →
+    HasWatchedRun stands report begun now s image heap stack steps end → HasWatchedRun stands report old now s image heap stack steps end
+begun_before stands report old begun now s image heap stack steps end same h = record {
+  after = h.after;
+  seen = h.seen;
+  watched = h.watched;
+  have_seen = record { same = h.have_seen.same ∙ same; stand = h.have_seen.stand };
+}
+
+-- a text that was told, as what a sink took
+pub took_told : {T E A : Type 0} {F : Type 0} (taken : T → Option (List ℕ)) (faults : T → ℕ) (old new : T) (u : E) (due : List ℕ) (whole failed : A) →
+    HasTold {T = E} {E = F} taken faults old new (Ok u) due → Takes (stream_of taken faults old new) due whole failed whole
+took_told taken faults old new u due whole failed h = took_all (stream_of taken faults old new) due whole failed h.empty h.bytes
+
+pub took_part : {T E A : Type 0} {F : Type 0} (taken : T → Option (List ℕ)) (faults : T → ℕ) (old new : T) (f : F) (due : List ℕ) (whole failed : A) →
+    HasTold {T = E} {E = F} taken faults old new (Err f) due → Takes (stream_of taken faults old new) due whole failed failed
+took_part taken faults old new f due whole failed h = part refl h.some h.cause.failed h.bytes
