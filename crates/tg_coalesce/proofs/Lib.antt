@@ -13,6 +13,7 @@ pub mod Counters
 pub mod Candidates
 pub mod Listing
 pub mod Tabling
+pub mod Waiting
 pub mod FirstDegrees
 pub mod Classing
 pub mod Selecting

@@ -6,7 +6,7 @@ use Rattle.tg_coalesce.specs.Tables.{Table}
 abbrev pub table_of : Inside → Table
 table_of t = record {
   moves = t.moves.items;
-  states = t.states.items;
+  states = t.states;
   ready = t.ready.items;
   touching = lists_of t.touching.items;
   unsettled = t.unsettled.items;

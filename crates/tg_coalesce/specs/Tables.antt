@@ -1,6 +1,7 @@
 -- The moves of a round, what has become of each, and which are to be tried.
 use Rattle.std.specs.Prelude.{◌≡◌, ℕ, ◌<◌, ◌≤◌, ◌*◌, ◌^◌, Bool, true, false, if◌then◌else◌}
 use Rattle.std.specs.Prelude.{List, [], ◌∷◌, ◌++◌, length, drop, fold, replicate, sum, All}
+use Rattle.std.specs.Prelude.{count_by}
 use Rattle.std.specs.Prelude.{slice_index, slice_index_or, slice_set, nat_lt}
 use Rattle.std.specs.List.{range_with_len}
 use Rattle.tg_rounds.specs.declared.moves.Move.{Move}
@@ -28,6 +29,10 @@ state_at t i = slice_index_or t.states i Ready
 abbrev pub is_waiting : MoveState → Bool
 is_waiting Waiting = true
 is_waiting _ = false
+
+-- whether any move waits
+abbrev pub some_waits : Table → Bool
+some_waits t = nat_lt 0 (count_by is_waiting t.states)
 
 -- the first so many moves listed by their ends
 abbrev pub ends_listed : List Move → (nodes count : ℕ) → List (List ℕ)

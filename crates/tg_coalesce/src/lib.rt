@@ -7,6 +7,7 @@ mod coloring;
 mod freezing;
 mod lists;
 mod merging;
+mod move_states;
 mod removing;
 mod safety;
 mod selection;

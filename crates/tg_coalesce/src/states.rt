@@ -192,6 +192,9 @@ impl Coalescer {
         requires temporary { colours ≤ node }
         ensures { OnOk result (self.new ≡ awake_around node self.old) }
     {
+        if !self.moves.some_waits() {
+            return Ok(());
+        }
         for place in 0..self.graph.degree(node) {
             let other = self.graph.neighbours(node)[place as usize];
             self.moves.wake(other)?;

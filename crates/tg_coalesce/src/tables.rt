@@ -27,12 +27,14 @@ ghost use Rattle.tg_coalesce.specs.Tables.{
   joined,
   parked,
   settled,
+  some_waits,
   started,
   tried_again,
   woken,
 };
 
 use crate::lists::{pour, push_to};
+use crate::move_states::{MoveStates, is_waiting};
 use std::alloc::Global;
 use std::collections::VecDeque;
 use std::marker::Model;
@@ -45,7 +47,7 @@ use tg_rounds::{Move, MoveState};
 #[derive(Drop)]
 pub(crate) struct MoveTable {
     moves: Vec<Move>,
-    states: Vec<MoveState>,
+    states: MoveStates,
     ready: VecDeque<u32>,
     touching: Vec<Vec<u32>>,
     unsettled: Vec<usize>,
@@ -72,7 +74,7 @@ impl MoveTable {
     {
         Ok(MoveTable {
             moves: Vec::from_slice(alloc, moves)?,
-            states: vec![in alloc; MoveState::Ready; moves.len()]?,
+            states: MoveStates::new(alloc, moves.len())?,
             ready: VecDeque::from(numbers(alloc, moves.len() as u32)?),
             touching: list_ends(alloc, moves, nodes)?,
             unsettled: count_ends(alloc, moves, nodes)?,
@@ -93,7 +95,7 @@ impl MoveTable {
         requires { index < length self.now.moves }
         ensures { result ≡ tables.is_unsettled self.now index }
     {
-        is_ready_or_waiting(self.states[index as usize])
+        is_ready_or_waiting(self.states.at(index))
     }
 
     /// Whether an unsettled move ends in a class.
@@ -133,7 +135,7 @@ impl MoveTable {
         requires { index < length self.old.moves }
         ensures { self.new ≡ parked index self.old }
     {
-        self.states[index as usize] = MoveState::Waiting;
+        self.states.set(index, MoveState::Waiting);
     }
 
     /// Gives an unsettled move between two classes its last state.
@@ -145,13 +147,33 @@ impl MoveTable {
         requires from_counted { 0 < slice_index (lowered to self.old.unsettled) from }
         ensures { self.new ≡ settled index state to from self.old }
     {
-        self.states[index as usize] = state;
+        self.states.set(index, state);
         self.unsettled[to as usize] -= 1;
         self.unsettled[from as usize] -= 1;
     }
 
+    /// Whether any move waits.
+    pub(crate) fn some_waits(&self) -> bool
+        ensures { result ≡ some_waits self.now }
+    {
+        self.states.some_waits()
+    }
+
     /// Makes the waiting moves of a class ready.
+    #[inline(always)]
     pub(crate) fn wake(&mut self, class: u32) -> Result<(), Memory>
+        requires { class < length self.old.touching }
+        ensures ok { OnOk result (self.new ≡ woken class self.old) }
+        ensures sized { length self.new.touching ≡ length self.old.touching }
+    {
+        if self.some_waits() {
+            self.wake_touching(class)?;
+        }
+        Ok(())
+    }
+
+    /// The same, where some move waits.
+    fn wake_touching(&mut self, class: u32) -> Result<(), Memory>
         requires { class < length self.old.touching }
         ensures ok { OnOk result (self.new ≡ woken class self.old) }
         ensures sized { length self.new.touching ≡ length self.old.touching }
@@ -169,9 +191,9 @@ impl MoveTable {
         ensures ok { OnOk result (self.new ≡ tried_again self.old index) }
         ensures err { OnErr result (self.new ≡ self.old) }
     {
-        if is_waiting(self.states[index as usize]) {
+        if is_waiting(self.states.at(index)) {
             self.ready.push_back(index)?;
-            self.states[index as usize] = MoveState::Ready;
+            self.states.set(index, MoveState::Ready);
         }
         Ok(())
     }
@@ -193,7 +215,7 @@ impl MoveTable {
         ensures moves { result.0.items ≡ self.moves }
         ensures states { result.1.items ≡ self.states }
     {
-        (self.moves, self.states)
+        (self.moves, self.states.into_vec())
     }
 }
 
@@ -202,18 +224,6 @@ fn is_ready_or_waiting(state: MoveState) -> bool
 {
     match state {
         MoveState::Ready => true,
-        MoveState::Waiting => true,
-        MoveState::Coalesced => false,
-        MoveState::Constrained => false,
-        MoveState::Frozen => false,
-    }
-}
-
-fn is_waiting(state: MoveState) -> bool
-    ensures { result ≡ tables.is_waiting state }
-{
-    match state {
-        MoveState::Ready => false,
         MoveState::Waiting => true,
         MoveState::Coalesced => false,
         MoveState::Constrained => false,

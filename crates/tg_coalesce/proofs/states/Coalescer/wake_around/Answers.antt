@@ -1,11 +1,13 @@
-use Rattle.std.proofs.Common.{◌≡◌, ℕ, List, length, take, sym, ap, subst, ◌∙◌, arith}
+use Rattle.std.proofs.Common.{◌≡◌, ℕ, false, List, length, take, sym, ap, subst, ◌∙◌, arith}
 use Rattle.std.specs.Prelude.{fold}
 use Rattle.tg_graph.specs.Interference.{Interference, neighbours}
 use Rattle.tg_coalesce.specs.declared.states.Coalescer.TheInside.{Inside}
 use Rattle.tg_coalesce.specs.Standing.{IsSized}
-use Rattle.tg_coalesce.specs.Tables.{Table, woken}
+use Rattle.tg_coalesce.specs.Tables.{Table, some_waits, woken}
 use Rattle.tg_coalesce.specs.ShownWork.{work_of}
+use Rattle.tg_coalesce.specs.Works.{awake_around}
 use Rattle.tg_coalesce.proofs.Tabling.{all_woken_touching}
+use Rattle.tg_coalesce.proofs.Waiting.{none_woken}
 use Rattle.tg_coalesce.proofs.states.Coalescer.wake_around.Goals as goal
 
 -- what woken moves leave as it was
@@ -50,3 +52,12 @@ invariant_of-self-in_err-wake c =
     let e = c.loop-place.invariant in
     let same = woken_from i c.loop-place.self-inside c.loop-place.place (neighbours i.graph c.args.node) e in
     sized_at i c.loop-place.self-inside c.wake.new.self _ e c.self.invariant (c.in_err-wake.ensures.sized ∙ ap length same)
+
+pub returns-then-not-some_waits : goal.returns-then-not-some_waits
+returns-then-not-some_waits c =
+    let i = c.self.inside in
+    let none : some_waits i.moves ≡ false = sym c.some_waits.ensures ∙ c.if-not-some_waits.true in
+    let woken_none = none_woken (neighbours i.graph c.args.node) i.moves none in
+    let same : work_of i ≡ awake_around c.args.node (work_of i) =
+    ap (λ (t : Table). record (work_of i) { moves = t }) (sym woken_none) in
+    sym c.self.view_is ∙ (same ∙ ap (awake_around c.args.node) c.self.view_is)

@@ -1,5 +1,4 @@
-use Rattle.std.proofs.Common.{◌≡◌, ◌∙◌, length, replicate, rules}
-use Rattle.tg_rounds.specs.declared.moves.MoveState.TheVariants.{Ready}
+use Rattle.std.proofs.Common.{◌∙◌}
 use Rattle.tg_coalesce.specs.Tables.{started}
 use Rattle.tg_coalesce.proofs.Tabling.{started_table, same_table}
 use Rattle.tg_coalesce.proofs.tables.MoveTable.new.Goals as goal
@@ -7,6 +6,5 @@ use Rattle.tg_coalesce.proofs.tables.MoveTable.new.Goals as goal
 pub invariant_of-result : goal.invariant_of-result
 invariant_of-result c =
     let s = started c.args.moves.now c.args.nodes in
-    let states : c.in_ok-vec.field-0.items ≡ replicate (length c.args.moves.now) Ready = search rules in
     same_table s (started_table c.args.moves.now c.args.nodes c.requires.few c.requires.ends)
-    _ _ _ _ _ c.in_ok-from_slice.ensures.items states (c.from.ensures.0 ∙ c.in_ok-numbers.ensures) c.in_ok-list_ends.ensures c.in_ok-count_ends.ensures
+    _ _ _ _ _ c.in_ok-from_slice.ensures.items c.in_ok-new.ensures (c.from.ensures.0 ∙ c.in_ok-numbers.ensures) c.in_ok-list_ends.ensures c.in_ok-count_ends.ensures

@@ -2,7 +2,7 @@ use Rattle.std.proofs.Common.{◌≡◌, take}
 use Rattle.std.specs.Prelude.{fold}
 use Rattle.tg_coalesce.specs.Lists.{list_at}
 use Rattle.tg_coalesce.specs.Tables.{tried_again}
-use Rattle.tg_coalesce.proofs.tables.MoveTable.wake.Given as goal
+use Rattle.tg_coalesce.proofs.tables.MoveTable.wake_touching.Given as goal
 
 abbrev pub invariant-loop-place : goal.invariant-loop-place
 invariant-loop-place l =
