@@ -13,6 +13,7 @@ use crate::faults::{Fault, Rule};
 use crate::reading::{LONGEST, NamedProgram, ill_typed, parse_source};
 use crate::refusals::Refusal;
 use std::alloc::Global;
+use std::mem::forget;
 use tg_base::{Shelf, place};
 use tg_command::Command;
 use tg_types::check;
@@ -29,12 +30,17 @@ pub(crate) fn answer_check<H: Shelf>(alloc: Global, command: &Command, shelf: &m
     }
 }
 
-/// The answer of a source that is to be checked.
+/// The answer of a source that is to be checked. Its tree isn't freed: nothing but the line and the
+/// status comes behind it, and freeing node by node takes a quarter of the time.
 fn check_text(alloc: Global, text: &[u8]) -> Answer
     ensures { OrMemory ⊤ (IsChecked text.now) result }
 {
     match parse_source(alloc, text) {
-        Ok(source) => check_program(alloc, text, &source),
+        Ok(source) => {
+            let answer = check_program(alloc, text, &source);
+            forget(source);
+            answer
+        }
         Err(refusal) => refused(text, refusal),
     }
 }
