@@ -51,9 +51,11 @@ pub fn interference(alloc: Global, code: &Code, live: &LiveSets) -> Result<Graph
     let mut graph = Graph::new(alloc, nodes)?;
     let mut marks = vec![in alloc; false; nodes as usize]?;
     let crossed = marks.as_mut_slice();
+    let mut behind = Vec::new(alloc);
     for at in 0..list.len() {
-        let behind = live.live_out(at as u32);
-        join_behind(alloc, &list[at], behind, crossed, &mut graph)?;
+        live.advance(at as u32, &mut behind)?;
+        let lives = behind.as_slice();
+        join_behind(alloc, &list[at], lives, crossed, &mut graph)?;
     }
     Ok(graph)
 }

@@ -8,7 +8,7 @@ use Rattle.tg_instr.specs.Operands.{is_same}
 use Rattle.tg_instr.proofs.Same.{same_itself, same_is}
 use Rattle.tg_live.specs.Live.{Sets, set_at, is_among, is_rising, number_of, operand_of, IsLiveOut, AreLiveSets}
 use Rattle.tg_live.specs.Tables.{Table, AreSites}
-use Rattle.tg_live.specs.Search.{ends_in, AreSearched}
+use Rattle.tg_live.specs.LiveChanges.{ends_in, AreSearched}
 use Rattle.tg_live.proofs.Reach.{used_along}
 use Rattle.tg_live.proofs.Turned.{row_none}
 use Rattle.tg_live.proofs.Numbers.{number_operand, ends_among, among_push_left, among_push_itself, among_push, rising_push}
@@ -21,15 +21,13 @@ pub record AreGathered (all : List Instr) (n : ℕ) (sets : Sets) : Type 0 where
       (number_of y < n) × (operand_of (number_of y) ≡ y)
   pub rising : (q : ℕ) → is_rising (set_at sets q) ≡ true
 
-none_at : (n q : ℕ) → set_at (replicate n (let e : List Opnd = [] in e)) q ≡ []
-none_at n q = row_none n q
-
-pub gathered_none : (all : List Instr) (n : ℕ) → n ≡ length all → AreGathered all 0 (replicate n [])
-gathered_none all n e = record {
-  size = length-replicate n [] ∙ e;
+pub gathered_none : (all : List Instr) (sets : Sets) → length sets ≡ length all →
+    ((q : ℕ) → set_at sets q ≡ []) → AreGathered all 0 sets
+gathered_none all sets e none = record {
+  size = e;
   live = λ i l. absurd (omega arith);
-  below = λ q y a. absurd (false≢true (sym (ap (is_among y) (none_at n q)) ∙ a));
-  rising = λ q. ap is_rising (none_at n q);
+  below = λ q y a. absurd (false≢true (sym (ap (is_among y) (none q)) ∙ a));
+  rising = λ q. ap is_rising (none q);
 }
 
 -- no set has the next operand yet

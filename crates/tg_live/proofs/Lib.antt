@@ -6,5 +6,8 @@ mod Turned
 mod Places
 mod Marked
 mod Searched
+mod Changing
+mod Noted
 mod Gathered
+mod Collected
 mod Closed

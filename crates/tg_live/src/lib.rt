@@ -3,6 +3,7 @@
 //! `specs/Flow.antt` and `specs/Live.antt`.
 #![tactic(auto)]
 
+mod changes;
 mod definitions;
 mod edges;
 mod flows;
@@ -10,6 +11,7 @@ mod laws;
 mod liveness;
 mod marks;
 mod operands;
+mod rising;
 mod searches;
 mod sets;
 mod sites;

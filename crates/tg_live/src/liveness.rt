@@ -2,6 +2,7 @@ ghost use Rattle.std.specs.Prelude.{◌≡◌, IfOk};
 ghost use Rattle.tg_live.specs.Flow.{flow_of};
 ghost use Rattle.tg_live.specs.Live.{AreLiveSets};
 
+use crate::changes::LiveChanges;
 use crate::definitions::definitions;
 use crate::flows::Flow;
 use crate::operands::operand_of;
@@ -13,9 +14,9 @@ use tg_base::Memory;
 use tg_instr::Code;
 
 /// What is live out of each instruction of a code whose flow this is: for each operand in turn,
-/// backwards along the flow from its uses to its definitions (Appel, chapter 10). Time and memory
-/// are in the size of the code and of the answer, since each pair of a place and an operand that is
-/// live out of it is visited once.
+/// backwards along the flow from its uses to its definitions (Appel, chapter 10). Each pair of
+/// a place and an operand that is live out of it is visited once; memory is in the size of the code
+/// and the changes of what is live.
 pub fn live(alloc: Global, code: &Code, flow: &Flow) -> Result<LiveSets, Memory>
     requires { flow.now ≡ flow_of code.now.list }
     ensures { IfOk result (λ sets. AreLiveSets code.now.list sets) }
@@ -27,9 +28,12 @@ pub fn live(alloc: Global, code: &Code, flow: &Flow) -> Result<LiveSets, Memory>
     let sites = use_sites(alloc, code)?;
     let defs = definitions(alloc, list)?;
     let mut search = Search::new(alloc, list.len())?;
+    let mut changes = LiveChanges::new(alloc, list.len())?;
     for number in 0..sites.len() {
         let one = operand_of(number);
-        search.run(list, &defs, flow.before(), &one, sites.row(number))?;
+        let stamp = number + 1;
+        search.run(list, &defs, flow.before(), &one, stamp, sites.row(number))?;
+        changes.add(&one, &search, stamp)?;
     }
-    Ok(LiveSets::new(search.into_sets()))
+    Ok(LiveSets::new(changes))
 }

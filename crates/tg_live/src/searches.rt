@@ -16,12 +16,20 @@ ghost use Rattle.std.specs.Prelude.{
 };
 ghost use Rattle.std.specs.List.{list_any, list_all};
 ghost use Rattle.tg_instr.specs.Uses.{defs_of};
-ghost use Rattle.tg_live.specs.Live.{set_at, is_used};
+ghost use Rattle.tg_live.specs.Live.{is_used};
 ghost use Rattle.tg_live.specs.Tables.{row, have_rows_below, IsBefore};
-ghost use Rattle.tg_live.specs.Search.{ends_in, enter, enter_all, enter_before, visit, AreSearched};
+ghost use Rattle.tg_live.specs.Search.{
+  has_stamp,
+  has_stamp_before,
+  enter,
+  enter_all,
+  enter_before,
+  visit,
+  IsSearched,
+};
 ghost use Rattle.tg_live.specs.Search as search;
 
-use crate::operands::{ends_in, is_among};
+use crate::operands::is_among;
 use crate::tables::Table;
 use std::alloc::Global;
 use std::marker::Model;
@@ -29,12 +37,11 @@ use tg_base::Memory;
 use tg_instr::{Instr, Opnd};
 
 /// The search for the places that an operand is live out of, backwards along the flow from its
-/// uses: the sets, and the places at which the operand was entered. Operands are searched for in
-/// rising order, so that a set ends in the operand where it has it, and stays in order. The places
-/// that were entered are also the list of those still to be visited.
+/// uses: a stamp for each place, that of the last operand which was entered there, and the places
+/// at which this one was entered, which are also the list of those still to be visited.
 #[derive(Drop)]
 pub(crate) struct Search {
-    sets: Table<Opnd>,
+    marks: Vec<usize>,
     places: Vec<u32>,
 }
 
@@ -43,23 +50,18 @@ impl Model for Search {
 
     ghost Value = { search.Found };
 
-    ghost view = { λ s. search.found s.sets s.places.items };
+    ghost view = { λ s. search.found s.marks.items s.places.items };
 }
 
 impl Search {
+    /// A search with stamps of 0, which no operand has.
     pub(crate) fn new(alloc: Global, count: usize) -> Result<Search, Memory>
-        ensures { IfOk result (λ s. s.sets ≡ replicate count []) }
+        ensures { IfOk result (λ s. s.marks ≡ replicate count 0) }
     {
         Ok(Search {
-            sets: Table::with_rows(alloc, count)?,
+            marks: vec![in alloc; 0usize; count]?,
             places: Vec::new(alloc),
         })
-    }
-
-    pub(crate) fn into_sets(self) -> Table<Opnd>
-        ensures { result ≡ self.sets }
-    {
-        self.sets
     }
 
     /// Enters an operand at each place that it is live out of, given the places that use it.
@@ -69,43 +71,62 @@ impl Search {
         defs: &Table<Opnd>,
         before: &Table<u32>,
         one: &Opnd,
+        stamp: usize,
         sites: &[u32],
     ) -> Result<(), Memory>
         requires defs { defs.now ≡ map defs_of list.now }
         requires before { IsBefore list.now before.now }
-        requires size { length self.old.sets ≡ length list.now }
-        requires fresh { (at : ℕ) → ends_in one.now (set_at self.old.sets at) ≡ false }
+        requires size { length self.old.marks ≡ length list.now }
+        requires fresh { (at : ℕ) → has_stamp stamp self.old.marks at ≡ false }
         requires sites { (at : ℕ) → list_any (nat_eq at) sites.now ≡ is_used list.now one.now at }
-        ensures { OnOk result (AreSearched list.now one.now self.old.sets self.new.sets) }
+        ensures { OnOk result (IsSearched list.now one.now stamp self.old.marks self.new) }
     {
         self.restart();
-        self.enter_before(before, one, sites)?;
+        self.enter_before(before, stamp, sites)?;
         let mut done = 0;
         while done < self.count() {
             let place = self.place(done);
-            self.visit(list, defs, before, one, place)?;
+            self.visit(list, defs, before, one, stamp, place)?;
             done += 1;
         }
         Ok(())
     }
 
     fn restart(&mut self)
-        ensures { self.new ≡ search.found self.old.sets [] }
+        ensures { self.new ≡ search.found self.old.marks [] }
     {
         self.places.clear();
     }
 
-    fn count(&self) -> usize
+    /// How many places were found.
+    pub(crate) fn count(&self) -> usize
         ensures { result ≡ length self.now.places }
     {
         self.places.len()
     }
 
-    fn place(&self, index: usize) -> u32
+    /// The place that was found so many places behind the first.
+    pub(crate) fn place(&self, index: usize) -> u32
         requires { index < length self.now.places }
         ensures { result ≡ slice_index self.now.places index }
     {
         self.places[index]
+    }
+
+    /// Whether the operand with a stamp was the last to be entered at a place.
+    pub(crate) fn has_stamp(&self, stamp: usize, at: usize) -> bool
+        requires { at < length self.now.marks }
+        ensures { result ≡ has_stamp stamp self.now.marks at }
+    {
+        self.marks[at] == stamp
+    }
+
+    /// The same of the place before one, where one stands before it.
+    pub(crate) fn has_stamp_before(&self, stamp: usize, at: usize) -> bool
+        requires { at < length self.now.marks }
+        ensures { result ≡ has_stamp_before stamp self.now.marks at }
+    {
+        at > 0 && self.has_stamp(stamp, at - 1)
     }
 
     /// Goes on from a place at which the operand was entered, unless it is defined there.
@@ -115,54 +136,55 @@ impl Search {
         defs: &Table<Opnd>,
         before: &Table<u32>,
         one: &Opnd,
+        stamp: usize,
         place: u32,
     ) -> Result<(), Memory>
         requires defs { defs.now ≡ map defs_of list.now }
         requires place { place < length list.now }
-        requires within { IsTrue (have_rows_below (length self.old.sets) before.now) }
-        ensures { OnOk result (self.new ≡ visit list.now one.now before.now place self.old) }
+        requires within { IsTrue (have_rows_below (length self.old.marks) before.now) }
+        ensures { OnOk result (self.new ≡ visit list.now one.now stamp before.now place self.old) }
     {
         if is_among(one, defs.row(place as usize)) {
             return Ok(());
         }
-        self.enter_all(one, before.row(place as usize))
+        self.enter_all(stamp, before.row(place as usize))
     }
 
     /// Enters the operand at all places before these.
     fn enter_before(
         &mut self,
         before: &Table<u32>,
-        one: &Opnd,
+        stamp: usize,
         places: &[u32],
     ) -> Result<(), Memory>
-        requires { IsTrue (have_rows_below (length self.old.sets) before.now) }
-        ensures { OnOk result (self.new ≡ enter_before one.now before.now places.now self.old) }
+        requires { IsTrue (have_rows_below (length self.old.marks) before.now) }
+        ensures { OnOk result (self.new ≡ enter_before stamp before.now places.now self.old) }
     {
         for place in places {
-            self.enter_all(one, before.row(*place as usize))?;
+            self.enter_all(stamp, before.row(*place as usize))?;
         }
         Ok(())
     }
 
-    fn enter_all(&mut self, one: &Opnd, places: &[u32]) -> Result<(), Memory>
-        requires { IsTrue (list_all (λ k. nat_lt k (length self.old.sets)) places.now) }
-        ensures { OnOk result (self.new ≡ enter_all one.now places.now self.old) }
+    fn enter_all(&mut self, stamp: usize, places: &[u32]) -> Result<(), Memory>
+        requires { IsTrue (list_all (λ k. nat_lt k (length self.old.marks)) places.now) }
+        ensures { OnOk result (self.new ≡ enter_all stamp places.now self.old) }
     {
         for place in places {
-            self.enter(one, *place)?;
+            self.enter(stamp, *place)?;
         }
         Ok(())
     }
 
     /// Enters the operand at a place, unless it was entered there.
-    fn enter(&mut self, one: &Opnd, at: u32) -> Result<(), Memory>
-        requires { at < length self.old.sets }
-        ensures { OnOk result (self.new ≡ enter one.now at self.old) }
+    fn enter(&mut self, stamp: usize, at: u32) -> Result<(), Memory>
+        requires { at < length self.old.marks }
+        ensures { OnOk result (self.new ≡ enter stamp at self.old) }
     {
-        if ends_in(one, self.sets.row(at as usize)) {
+        if self.has_stamp(stamp, at as usize) {
             return Ok(());
         }
-        self.sets.push(at as usize, *one)?;
+        self.marks[at as usize] = stamp;
         self.places.push(at)?;
         Ok(())
     }

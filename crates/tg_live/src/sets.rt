@@ -1,49 +1,67 @@
-ghost use Rattle.std.specs.Prelude.{◌≡◌, ◌<◌, length};
-ghost use Rattle.tg_live.specs.Live.{is_among, set_at};
+ghost use Rattle.std.specs.Prelude.{◌≡◌, ◌<◌, length, OnOk};
+ghost use Rattle.tg_live.specs.Live.{set_at};
+ghost use Rattle.tg_live.specs.LiveChanges.{set_without_all, all_put_in_order, set_before, sets_of};
 
-use crate::operands::is_among;
-use crate::tables::Table;
+use crate::changes::LiveChanges;
+use crate::rising::{leave_out, put_in_order};
 use std::marker::Model;
+use tg_base::Memory;
 use tg_instr::Opnd;
 
 /// What is live out of each instruction of a code, in rising order at each place: registers by
-/// their numbers, and then temporaries. Each place has a list and no row of bits, since a code may
-/// have as many temporaries as instructions, of which few are live at a time.
+/// their numbers, and then temporaries. It keeps what comes and what goes at each place: most
+/// temporaries live over long ranges where many do, so that sets of their own would take memory
+/// for each pair of a place and an operand.
 #[derive(Drop)]
 pub struct LiveSets {
-    sets: Table<Opnd>,
+    changes: LiveChanges,
 }
 
 impl Model for LiveSets {
     ghost use Rattle.std.specs.Prelude.{List};
     ghost use Rattle.tg_instr.specs.declared.operands.Opnd.{Opnd};
+    ghost use Rattle.tg_live.specs.LiveChanges.{sets_of};
 
     ghost Value = { List (List Opnd) };
 
-    ghost view = { λ s. s.sets };
+    ghost view = { λ s. sets_of s.changes.comes s.changes.goes };
 }
 
 impl LiveSets {
-    pub(crate) fn new(sets: Table<Opnd>) -> LiveSets
-        ensures { result ≡ sets }
+    pub(crate) fn new(changes: LiveChanges) -> LiveSets
+        ensures { result ≡ sets_of changes.comes changes.goes }
     {
-        LiveSets { sets }
+        LiveSets { changes }
     }
 
-    /// Whether the operand is live out of the instruction at a place, in the time of its set's
-    /// size.
-    pub fn out(&self, at: u32, one: Opnd) -> bool
-        requires { at < length self.now }
-        ensures { result ≡ is_among one (set_at self.now at) }
+    /// Makes of what is live out of the instruction before a place what is live out of the one at
+    /// it; before the first nothing is. Takes time for each change and the length of the set.
+    pub fn advance(&self, at: u32, set: &mut Vec<Opnd>) -> Result<(), Memory>
+        requires at { at < length self.now }
+        requires before { set.old.items ≡ set_before self.now at }
+        ensures { OnOk result (set.new.items ≡ set_at self.now at) }
     {
-        is_among(&one, self.live_out(at))
+        set_without_all(self.changes.goes(at as usize), set);
+        all_put_in_order(self.changes.comes(at as usize), set)?;
+        Ok(())
     }
+}
 
-    /// What is live out of the instruction at a place.
-    pub fn live_out(&self, at: u32) -> &[Opnd]
-        requires { at < length self.now }
-        ensures { result.now ≡ set_at self.now at }
-    {
-        self.sets.row(at as usize)
+// Takes what goes out of a set.
+fn set_without_all(goes: &[Opnd], set: &mut Vec<Opnd>)
+    ensures { set.new.items ≡ set_without_all goes.now set.old.items }
+{
+    for one in goes {
+        leave_out(one, set);
     }
+}
+
+// Puts what comes into a set.
+fn all_put_in_order(comes: &[Opnd], set: &mut Vec<Opnd>) -> Result<(), Memory>
+    ensures { OnOk result (set.new.items ≡ all_put_in_order comes.now set.old.items) }
+{
+    for one in comes {
+        put_in_order(one, set)?;
+    }
+    Ok(())
 }

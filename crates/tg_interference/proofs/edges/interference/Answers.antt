@@ -1,4 +1,4 @@
-use Rattle.std.proofs.Common.{rules, ◌≡◌, ◌-◌, ◌+◌, ◌||◌, Bool, false, replicate, List, length, sym, ap, ◌∙◌, subst, arith}
+use Rattle.std.proofs.Common.{rules, ◌≡◌, suc, ◌-◌, ◌+◌, ◌||◌, Bool, false, replicate, List, length, sym, ap, ◌∙◌, subst, arith}
 use Rattle.std.specs.List.{list_all}
 use Rattle.std.proofs.lemmas.List.{length-replicate}
 use Rattle.tg_instr.specs.declared.instr.Instr.{Instr}
@@ -6,11 +6,21 @@ use Rattle.tg_instr.specs.Codes.{has_temps_below, is_below}
 use Rattle.tg_interference.proofs.Operands.{all_read}
 use Rattle.tg_interference.proofs.Alive.{live_below}
 use Rattle.tg_interference.proofs.Joining.{joined_more}
+use Rattle.tg_live.specs.LiveChanges.{set_before}
 use Rattle.tg_interference.specs.Crossing.{HaveCrossed}
 use Rattle.tg_interference.proofs.Marking.{none_crossed}
 use Rattle.tg_graph.specs.Interference.{Interference, interferes}
 use Rattle.tg_interference.proofs.Interfering.{are_registers, joined_below, joined_step, interference_of}
 use Rattle.tg_interference.proofs.edges.interference.Goals as goal
+
+pub advance-requires-clause-at : goal.advance-requires-clause-at
+advance-requires-clause-at c =
+    let size : length c.args.live.now ≡ length c.as_slice-list.result.now =
+    c.requires.live.size ∙ ap (λ (l : List Instr). length l) (sym c.as_slice-list.ensures) in
+    omega (arith, size, c.loop-at-test.true)
+
+pub advance-requires-clause-before : goal.advance-requires-clause-before
+advance-requires-clause-before c = c.loop-at.invariant.behind
 
 pub join_behind-requires-clause-temps : goal.join_behind-requires-clause-temps
 join_behind-requires-clause-temps c =
@@ -25,8 +35,8 @@ pub join_behind-requires-clause-live : goal.join_behind-requires-clause-live
 join_behind-requires-clause-live c =
     let code = c.args.code.now in
     let temps : c.loop-at.graph.nodes - 25 ≡ code.temps = omega (arith, c.loop-at.invariant.nodes) in
-    ap (λ n. list_all (is_below n) c.live_out-behind.result.now) temps
-    ∙ (ap (list_all (is_below code.temps)) c.live_out-behind.ensures
+    ap (λ n. list_all (is_below n) c.as_slice-lives.result.now) temps
+    ∙ (ap (list_all (is_below code.temps)) (c.as_slice-lives.ensures.value ∙ c.in_ok-advance.ensures)
     ∙ live_below code.temps code.list c.args.live.now c.requires.live code.temps_below c.loop-at.at)
 
 pub loop-at-init : goal.loop-at-init
@@ -39,6 +49,7 @@ loop-at-init c =
       nodes = ap (λ (g : Interference). g.nodes) c.in_ok-graph.ensures;
       pairs = λ x y. ap (λ (g : Interference). interferes g x y) c.in_ok-graph.ensures
           ∙ c.registers_interfere.ensures n x y;
+      behind = c.new-behind.ensures.items;
       sized = ap (λ (marks : List Bool). length marks) all ∙ length-replicate n false;
       crossed = subst (λ (marks : List Bool). HaveCrossed marks c.in_ok-graph.graph) (sym all)
           (none_crossed n c.in_ok-graph.graph);
@@ -49,9 +60,11 @@ loop-at-preserved c = record {
   nodes = c.in_ok-join_behind.ensures.nodes ∙ c.loop-at.invariant.nodes;
   pairs = λ x y. joined_more _ _ _ _ _ _ (c.in_ok-join_behind.ensures.pairs x y) (c.loop-at.invariant.pairs x y)
       (joined_step c.as_slice-list.result.now c.args.live.now c.loop-at.at c.index-list-at.result
-      c.live_out-behind.result.now x y c.loop-at-test.true c.index-list-at.is c.live_out-behind.ensures);
+      c.as_slice-lives.result.now x y c.loop-at-test.true c.index-list-at.is (c.as_slice-lives.ensures.value ∙ c.in_ok-advance.ensures));
   sized = c.join_behind.ensures.sized ∙ c.loop-at.invariant.sized;
   crossed = c.in_ok-join_behind.ensures.crossed;
+  behind = let next : c.loop-at.at + 1 ≡ suc c.loop-at.at = omega arith in
+      c.in_ok-advance.ensures ∙ sym (ap (set_before c.args.live.now) next);
 }
 
 pub returns : goal.returns

@@ -1,5 +1,6 @@
 use Rattle.std.proofs.Common.{◌≡◌, ◌+◌, ◌||◌, ℕ, length}
 use Rattle.tg_graph.specs.Interference.{interferes}
+use Rattle.tg_live.specs.LiveChanges.{set_before}
 use Rattle.tg_interference.specs.Crossing.{HaveCrossed}
 use Rattle.tg_interference.proofs.Interfering.{joined_below, are_registers}
 use Rattle.tg_interference.proofs.edges.interference.Given as goal
@@ -10,4 +11,5 @@ invariant-loop-at l = record {
   pairs : (x y : ℕ) → interferes l.graph x y ≡ (joined_below l.list l.live l.at x y || are_registers x y);
   sized : length l.crossed ≡ 25 + l.code.temps;
   crossed : HaveCrossed l.crossed l.graph;
+  behind : l.behind.items ≡ set_before l.live l.at;
 }

@@ -1,11 +1,16 @@
-use Rattle.std.proofs.Common.{◌≡◌, List, length, sym, ap, ◌∙◌, subst, arith}
+use Rattle.std.proofs.Common.{◌≡◌, ◌<◌, ◌+◌, ℕ, suc, not, nat_eq, ◌&&◌, List, length, sym, ap, ◌∙◌, subst, arith}
 use Rattle.tg_instr.specs.declared.instr.Instr.{Instr}
 use Rattle.tg_instr.specs.declared.operands.Opnd.{Opnd}
 use Rattle.tg_live.specs.Flow.{flow_of}
-use Rattle.tg_live.specs.Live.{Sets, set_at, AreLiveSets}
-use Rattle.tg_live.specs.Search.{ends_in, AreSearched}
+use Rattle.tg_live.specs.Live.{Sets, AreLiveSets}
+use Rattle.tg_live.specs.Tables.{row}
+use Rattle.std.specs.List.{list_any}
+use Rattle.tg_live.specs.Search.{has_stamp, has_stamp_before, IsSearched}
+use Rattle.tg_live.specs.LiveChanges.{ends_in, sets_of}
+use Rattle.tg_live.proofs.Noted.{grown}
 use Rattle.tg_live.proofs.Turned.{table_of_flow}
-use Rattle.tg_live.proofs.Gathered.{AreGathered, gathered_fresh, gathered_more, gathered_all}
+use Rattle.tg_live.proofs.Gathered.{AreGathered, gathered_all}
+use Rattle.tg_live.proofs.Collected.{collected_from, collected_more, found_within, row_fresh, stamp_fresh}
 use Rattle.tg_live.proofs.liveness.live.Goals as goal
 
 pub operand_of-one-requires : goal.operand_of-one-requires
@@ -17,31 +22,69 @@ run-requires-clause-before c =
     (sym c.before-in-loop-number.ensures
     ∙ (c.requires ∙ ap (λ (l : List Instr). flow_of l) (sym c.as_slice-list.ensures)))
 
+pub run-requires-clause-size : goal.run-requires-clause-size
+run-requires-clause-size c = c.loop-number.invariant.sized
+
 pub run-requires-clause-fresh : goal.run-requires-clause-fresh
-run-requires-clause-fresh c = λ at.
-    ap (λ (x : Opnd). ends_in x (set_at c.loop-number.search.sets at)) c.operand_of-one.ensures
-    ∙ gathered_fresh c.as_slice-list.result.now c.loop-number.number c.loop-number.search.sets
-    c.loop-number.invariant at
+run-requires-clause-fresh c =
+    stamp_fresh c.loop-number.number c.loop-number.search.marks c.loop-number.invariant.stamps
+
+pub add-requires-clause-within : goal.add-requires-clause-within
+add-requires-clause-within c =
+    found_within c.as_slice-list.result.now c.operand_of-one.result (c.loop-number.number + 1)
+    c.loop-number.search.marks c.run.new.self c.in_ok-run.ensures c.loop-number.invariant.sized
+
+pub add-requires-clause-sized_comes : goal.add-requires-clause-sized_comes
+add-requires-clause-sized_comes c =
+    c.loop-number.invariant.sized_comes ∙ sym (c.in_ok-run.ensures.size ∙ c.loop-number.invariant.sized)
+
+pub add-requires-clause-sized_goes : goal.add-requires-clause-sized_goes
+add-requires-clause-sized_goes c =
+    c.loop-number.invariant.sized_goes ∙ sym (c.in_ok-run.ensures.size ∙ c.loop-number.invariant.sized)
+
+pub add-requires-clause-fresh_comes : goal.add-requires-clause-fresh_comes
+add-requires-clause-fresh_comes c = λ q.
+    ap (λ (x : Opnd). ends_in x (row c.loop-number.changes.comes q)) c.operand_of-one.ensures
+    ∙ row_fresh c.loop-number.number c.loop-number.changes.comes c.loop-number.invariant.lower_comes q
+
+pub add-requires-clause-fresh_goes : goal.add-requires-clause-fresh_goes
+add-requires-clause-fresh_goes c = λ q.
+    ap (λ (x : Opnd). ends_in x (row c.loop-number.changes.goes q)) c.operand_of-one.ensures
+    ∙ row_fresh c.loop-number.number c.loop-number.changes.goes c.loop-number.invariant.lower_goes q
+
+pub loop-number-init : goal.loop-number-init
+loop-number-init c =
+    collected_from c.as_slice-list.result.now _ _ _ c.in_ok-search.ensures c.in_ok-changes.ensures.comes
+    c.in_ok-changes.ensures.goes
 
 pub loop-number-preserved : goal.loop-number-preserved
 loop-number-preserved c =
     let list = c.as_slice-list.result.now in
-    let old = c.loop-number.search.sets in
-    let new = c.run.new.self.sets in
-    let P : Opnd → Type 0 = λ x. AreSearched list x old new in
-    gathered_more list c.loop-number.number old new c.loop-number.invariant (subst P c.operand_of-one.ensures
-    c.in_ok-run.ensures)
+    let n = c.loop-number.number in
+    let marks = c.loop-number.search.marks in
+    let f = c.run.new.self in
+    let old = c.loop-number.changes in
+    let new = c.add.new.self in
+    let Searched : Opnd → Type 0 = λ x. IsSearched list x (n + 1) marks f in
+    let Come : Opnd → Type 0 = λ x. (q : ℕ) → row new.comes q
+    ≡ grown (list_any (nat_eq q) f.places && not (has_stamp_before (n + 1) f.marks q)) x (row old.comes q) in
+    let Go : Opnd → Type 0 = λ x. (q : ℕ) → q < length old.goes → row new.goes q
+    ≡ grown (list_any (λ p. nat_eq q (suc p)) f.places && not (has_stamp (n + 1) f.marks q)) x (row old.goes q) in
+    let e = c.operand_of-one.ensures in
+    collected_more list n marks old.comes old.goes new.comes new.goes f c.loop-number.invariant
+    (subst Searched e c.in_ok-run.ensures) c.in_ok-add.ensures.sized_comes c.in_ok-add.ensures.sized_goes
+    (subst Come e c.in_ok-add.ensures.comes) (subst Go e c.in_ok-add.ensures.goes)
 
 pub returns : goal.returns
 returns c =
     let code = c.args.code.now in
     let n = c.loop-number.number in
-    let sets = c.loop-number.search.sets in
+    let sets = sets_of c.loop-number.changes.comes c.loop-number.changes.goes in
     let sites = c.in_ok-sites.sites in
     let P : List Instr → Type 0 = λ all. AreGathered all n sets in
     let Q : Sets → Type 0 = λ s. AreLiveSets code.list s in
     let e : n ≡ length sites =
     omega (arith, c.loop-number-test.false, c.loop-number.auto.number-end, c.len-number-end.ensures) in
-    subst Q (sym (c.new-2.ensures ∙ c.into_sets.ensures))
-    (gathered_all code.list n sets sites (subst P c.as_slice-list.ensures c.loop-number.invariant)
+    subst Q (sym c.new-3.ensures)
+    (gathered_all code.list n sets sites (subst P c.as_slice-list.ensures c.loop-number.invariant.gathered)
     c.in_ok-sites.ensures.sites e)

@@ -4,6 +4,6 @@ use Rattle.tg_live.proofs.searches.Search.enter_all.Given as goal
 
 abbrev pub invariant-loop-place : goal.invariant-loop-place
 invariant-loop-place l = record {
-  entered : enter_all l.one (drop l.place-index l.places) l.self ≡ enter_all l.one l.places l.fn.self;
-  size : length l.self.sets ≡ length l.fn.self.sets;
+  entered : enter_all l.stamp (drop l.place-index l.places) l.self ≡ enter_all l.stamp l.places l.fn.self;
+  size : length l.self.marks ≡ length l.fn.self.marks;
 }

@@ -8,63 +8,63 @@ use Rattle.tg_live.proofs.searches.Search.run.Goals as goal
 
 pub enter_before-requires : goal.enter_before-requires
 enter_before-requires c =
-    let e = ap (λ (f : Found). length f.sets) c.restart.ensures ∙ c.requires.size in
-    let P : ℕ → Type 0 = λ n. have_rows_below n c.args.before.now ≡ true in
+    let e = ap (λ (f : Found). length f.marks) c.restart.ensures ∙ c.requires.size in
+    let P : ℕ → Type 0 = λ k. have_rows_below k c.args.before.now ≡ true in
     subst P (sym e) (before_below c.args.list.now c.args.before.now c.requires.before)
 
 pub loop-done-init : goal.loop-done-init
 loop-done-init c =
-    let old = c.args.self.now.sets in
+    let old = c.args.self.now.marks in
     let e = c.in_ok-enter_before.ensures
-    ∙ ap (enter_before c.args.one.now c.args.before.now c.args.sites.now) c.restart.ensures in
-    let P : Found → Type 0 = λ f. IsSearching c.args.list.now c.args.one.now old f 0 in
+    ∙ ap (enter_before c.args.stamp c.args.before.now c.args.sites.now) c.restart.ensures in
+    let P : Found → Type 0 = λ f. IsSearching c.args.list.now c.args.one.now c.args.stamp old f 0 in
     subst P (sym e)
-    (begins c.args.list.now c.args.one.now c.args.before.now c.requires.before old c.requires.size c.args.sites.now
+    (begins c.args.list.now c.args.one.now c.args.stamp c.args.before.now c.requires.before old c.requires.size c.args.sites.now
     c.requires.fresh c.requires.sites)
 
 pub visit-requires-clause-place : goal.visit-requires-clause-place
 visit-requires-clause-place c =
     let l : c.loop-done.done < length c.loop-done.self.places = omega (arith, c.loop-done-test.true, c.count.ensures) in
-    let w = place_within c.args.list.now c.args.one.now c.args.self.now.sets c.loop-done.self c.loop-done.done
+    let w = place_within c.args.list.now c.args.one.now c.args.stamp c.args.self.now.marks c.loop-done.self c.loop-done.done
     c.loop-done.invariant l in
     omega (arith, w, c.place-place.ensures)
 
 pub visit-requires-clause-within : goal.visit-requires-clause-within
 visit-requires-clause-within c =
     let e = c.loop-done.invariant.is_found.size ∙ c.requires.size in
-    let P : ℕ → Type 0 = λ n. have_rows_below n c.args.before.now ≡ true in
+    let P : ℕ → Type 0 = λ k. have_rows_below k c.args.before.now ≡ true in
     subst P (sym e) (before_below c.args.list.now c.args.before.now c.requires.before)
 
 pub loop-done-smaller : goal.loop-done-smaller
 loop-done-smaller c =
-    let x = c.args.one.now in
+    let n = c.args.stamp in
     let f = c.loop-done.self in
     let l : c.loop-done.done < length f.places = omega (arith, c.loop-done-test.true, c.count.ensures) in
     let s = c.loop-done.invariant.is_found.size ∙ c.requires.size in
-    let P : ℕ → Type 0 = λ n. have_rows_below n c.args.before.now ≡ true in
+    let P : ℕ → Type 0 = λ k. have_rows_below k c.args.before.now ≡ true in
     let w = subst P (sym s) (before_below c.args.list.now c.args.before.now c.requires.before) in
-    let v = room_visit c.args.list.now x c.args.before.now c.place-place.result f (row_below (length f.sets)
+    let v = room_visit c.args.list.now c.args.one.now n c.args.before.now c.place-place.result f (row_below (length f.marks)
     c.args.before.now c.place-place.result w) in
-    let e = ap (room x) c.in_ok-visit.ensures ∙ v in
-    let smaller : room x c.visit.new.self - (c.loop-done.done + 1) < room x f - c.loop-done.done =
+    let e = ap (room n) c.in_ok-visit.ensures ∙ v in
+    let smaller : room n c.visit.new.self - (c.loop-done.done + 1) < room n f - c.loop-done.done =
     omega (arith, e, l) in
     smaller
 
 pub loop-done-preserved : goal.loop-done-preserved
 loop-done-preserved c =
-    let old = c.args.self.now.sets in
+    let old = c.args.self.now.marks in
     let f = c.loop-done.self in
     let l : c.loop-done.done < length f.places = omega (arith, c.loop-done-test.true, c.count.ensures) in
     let e = c.in_ok-visit.ensures
-    ∙ ap (λ k. visit c.args.list.now c.args.one.now c.args.before.now k f) c.place-place.ensures in
-    let P : Found → Type 0 = λ g. IsSearching c.args.list.now c.args.one.now old g (c.loop-done.done + 1) in
+    ∙ ap (λ k. visit c.args.list.now c.args.one.now c.args.stamp c.args.before.now k f) c.place-place.ensures in
+    let P : Found → Type 0 = λ g. IsSearching c.args.list.now c.args.one.now c.args.stamp old g (c.loop-done.done + 1) in
     subst P (sym e)
-    (goes_further c.args.list.now c.args.one.now c.args.before.now c.requires.before old c.requires.size f
+    (goes_further c.args.list.now c.args.one.now c.args.stamp c.args.before.now c.requires.before old c.requires.size f
     c.loop-done.done c.loop-done.invariant l)
 
 pub returns : goal.returns
 returns c =
     let l : length c.loop-done.self.places ≤ c.loop-done.done =
     omega (arith, c.loop-done-test.false, c.count.ensures) in
-    ends c.args.list.now c.args.one.now c.args.before.now c.requires.before c.args.self.now.sets c.requires.size
+    ends c.args.list.now c.args.one.now c.args.stamp c.args.before.now c.requires.before c.args.self.now.marks c.requires.size
     c.loop-done.self c.loop-done.done c.loop-done.invariant l
