@@ -83,18 +83,22 @@ def labels(size):
     return b"".join(b"l%07x:\n" % n for n in range(size // 10))
 
 
-def short_labels(size):
-    """The same, of the shortest labels: as many as there are of four bytes, in their order."""
+def short_labels(behind):
+    """Texts of so many bytes at most, of labels of four bytes in their order, each with the same behind it."""
     others = sorted(b"ABCDEFGHIJKLMNOPQRSTUVWXYZ_abcdefghijklmnopqrstuvwxyz0123456789.")
     firsts = [byte for byte in others if bytes([byte]).isalpha() or byte == ord("_")]
-    names = itertools.product(firsts, others, others, others)
-    return b":\n".join(map(bytes, itertools.islice(names, (size - 2) // 6))) + b":\n"
+
+    def text(size):
+        names = itertools.product(firsts, others, others, others)
+        return b"".join(bytes(name) + behind for name in itertools.islice(names, size // (4 + len(behind))))
+    return text
 
 
 TEXTS = {
     "no-ops": repeated(b"nop\n", b"main:\n"),
     "labels": labels,
-    "short labels": short_labels,
+    "short labels": short_labels(b":\n"),
+    "one line of short labels": short_labels(b":"),
     "commas": repeated(b",", b"main: add "),
     "one string": repeated(b"a", b".data\ns: .ascii \"", b"\"\n.text\nmain: jr $ra\n"),
     "one line of blanks": repeated(b" ", b"main: jr $ra"),
