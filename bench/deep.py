@@ -78,9 +78,17 @@ def repeated(piece, first=b"", last=b""):
     return lambda size: first + piece * max(0, (size - len(first) - len(last)) // len(piece)) + last
 
 
+def gathered(pieces):
+    """Pieces one behind another. No list of them is made: a call seems to take what Python had when it began it."""
+    text = bytearray()
+    for piece in pieces:
+        text += piece
+    return bytes(text)
+
+
 def labels(size):
     """A text of so many bytes at most, all labels."""
-    return b"".join(b"l%07x:\n" % n for n in range(size // 10))
+    return gathered(b"l%07x:\n" % n for n in range(size // 10))
 
 
 def short_labels(behind):
@@ -90,7 +98,7 @@ def short_labels(behind):
 
     def text(size):
         names = itertools.product(firsts, others, others, others)
-        return b"".join(bytes(name) + behind for name in itertools.islice(names, size // (4 + len(behind))))
+        return gathered(bytes(name) + behind for name in itertools.islice(names, size // (4 + len(behind))))
     return text
 
 
