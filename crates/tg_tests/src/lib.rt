@@ -7,6 +7,8 @@ mod counting;
 #[cfg(test)]
 mod escaping;
 #[cfg(test)]
+mod folding;
+#[cfg(test)]
 mod framing;
 #[cfg(test)]
 mod lexing;
