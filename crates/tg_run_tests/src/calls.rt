@@ -7,18 +7,24 @@ use tg_driver::{Tools, tiger};
 use tg_rounds::LeastUse;
 use tg_watch::{Coverage, Profile, Trace, Watcher};
 
+/// What the program makes calls on.
+#[derive(Clone, Copy, PartialEq, Eq)]
+pub(crate) enum Object {
+    Shelf,
+    Input,
+    Out,
+    Err,
+}
+
 /// What a call is made on: the text of the one file FILE, the input, the room of the output and of
-/// the error sink, and the calls that fail.
+/// the error sink, and the object and the number, from 1, of the call that fails, if one does.
 #[derive(Clone, Copy)]
 pub(crate) struct Outside<'a> {
     pub(crate) text: &'a [u8],
     pub(crate) input: &'a [u8],
     pub(crate) room: usize,
     pub(crate) err_room: usize,
-    pub(crate) shelf_fails: &'a [u64],
-    pub(crate) read_fails: &'a [u64],
-    pub(crate) write_fails: &'a [u64],
-    pub(crate) err_fails: &'a [u64],
+    pub(crate) failing: Option<(Object, u64)>,
 }
 
 impl<'a> Outside<'a> {
@@ -30,10 +36,23 @@ impl<'a> Outside<'a> {
             input: b"xyz",
             room: 64,
             err_room: 2048,
-            shelf_fails: &[],
-            read_fails: &[],
-            write_fails: &[],
-            err_fails: &[],
+            failing: None,
+        }
+    }
+
+    /// The same, but that the output has room for all.
+    pub(crate) fn in_ample_room(text: &'a [u8]) -> Outside<'a> {
+        Outside {
+            room: 65536,
+            ..Outside::of(text)
+        }
+    }
+
+    /// The numbers of the calls on an object that fail.
+    fn fails(&self, alloc: Global, object: Object) -> Result<Vec<u64>, AllocError> {
+        match self.failing {
+            Some((failing, at)) if failing == object => [at].as_slice().to_vec(alloc),
+            _ => Ok(Vec::new(alloc)),
         }
     }
 }
@@ -56,6 +75,23 @@ pub(crate) struct Seen {
     pub(crate) lines_failed: u64,
 }
 
+impl Seen {
+    /// The numbers of calls on the shelf, the input, the output and the error sink.
+    pub(crate) fn calls(&self) -> (u64, u64, u64, u64) {
+        (self.files_asked, self.reads, self.writes, self.lines)
+    }
+
+    /// The counts of faults of the shelf, the input, the output and the error sink.
+    pub(crate) fn faults(&self) -> (u64, u64, u64, u64) {
+        (
+            self.files_failed,
+            self.reads_failed,
+            self.writes_failed,
+            self.lines_failed,
+        )
+    }
+}
+
 /// The words of a line, with a `|` between them.
 pub(crate) fn words_of(alloc: Global, line: &str) -> Result<Vec<String>, AllocError> {
     let mut words = Vec::new(alloc);
@@ -65,8 +101,8 @@ pub(crate) fn words_of(alloc: Global, line: &str) -> Result<Vec<String>, AllocEr
     Ok(words)
 }
 
-fn sink(alloc: Global, room: usize, fails: &[u64]) -> Result<RoomSink, Fail> {
-    match RoomSink::new(alloc, room, fails.to_vec(alloc)?) {
+fn sink(alloc: Global, room: usize, fails: Vec<u64>) -> Result<RoomSink, Fail> {
+    match RoomSink::new(alloc, room, fails) {
         Ok(sink) => Ok(sink),
         Err(_) => Err(Fail::from("no memory")),
     }
@@ -100,13 +136,13 @@ pub(crate) fn call_with(
         String::from_str(alloc, "FILE")?,
         outside.text.to_vec(alloc)?,
     )?;
-    let mut shelf = MapShelf::new(files, outside.shelf_fails.to_vec(alloc)?);
+    let mut shelf = MapShelf::new(files, outside.fails(alloc, Object::Shelf)?);
     let mut input = ListSource::new(
         outside.input.to_vec(alloc)?,
-        outside.read_fails.to_vec(alloc)?,
+        outside.fails(alloc, Object::Input)?,
     );
-    let mut out = sink(alloc, outside.room, outside.write_fails)?;
-    let mut err = sink(alloc, outside.err_room, outside.err_fails)?;
+    let mut out = sink(alloc, outside.room, outside.fails(alloc, Object::Out)?)?;
+    let mut err = sink(alloc, outside.err_room, outside.fails(alloc, Object::Err)?)?;
     let words = words_of(alloc, line)?;
     let status = tiger(
         alloc, &words, &mut shelf, &mut input, &mut out, &mut err, tools,

@@ -31,15 +31,7 @@ fn canonical_texts(rt: HostRuntime) -> Result<(), Fail> {
 
 // `format` of a text, with room for what it writes.
 fn formatted(alloc: Global, text: &[u8]) -> Result<Seen, Fail> {
-    let outside = Outside::of(text);
-    call(
-        alloc,
-        FORMAT,
-        Outside {
-            room: 4096,
-            ..outside
-        },
-    )
+    call(alloc, FORMAT, Outside::in_ample_room(text))
 }
 
 // Each row behind its first `|` is a source that `format` writes, and its own output unchanged.

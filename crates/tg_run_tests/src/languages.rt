@@ -1,4 +1,4 @@
-use crate::calls::{Outside, Seen, are_answered, call, is_answered};
+use crate::calls::{Object, Outside, Seen, are_answered, call, is_answered};
 use std::alloc::Global;
 use std::process::Abort;
 use std::test::Fail;
@@ -86,7 +86,7 @@ fn outputs_that_fail(rt: HostRuntime) -> Result<(), Fail> {
     let alloc = rt.alloc();
     let failed = "read or write failed";
     let hello = Outside {
-        write_fails: &[1],
+        failing: Some((Object::Out, 1)),
         ..Outside::of(b"print(\"hello\\n\")")
     };
     for line in ["tiger|run|FILE", "tiger|build|FILE"] {
@@ -97,7 +97,7 @@ fn outputs_that_fail(rt: HostRuntime) -> Result<(), Fail> {
     let short = built(alloc, b"print(\"hello\\n\")", 100)?;
     assert_eq!(rt; (short.status, short.out.len()), (74, 100));
     let unread = Outside {
-        read_fails: &[2],
+        failing: Some((Object::Input, 2)),
         ..Outside::of(b"(print(getchar()); print(getchar()))")
     };
     let seen = call(alloc, "tiger|run|FILE", unread)?;

@@ -6,6 +6,8 @@
 #[cfg(test)]
 mod calls;
 #[cfg(test)]
+mod cut;
+#[cfg(test)]
 mod failures;
 #[cfg(test)]
 mod faults;

@@ -1,4 +1,4 @@
-use crate::calls::{Outside, answers, call, parts_of, refused, repeated, status_of};
+use crate::calls::{Object, Outside, answers, call, parts_of, refused, repeated, status_of};
 use std::test::Fail;
 
 // The status of a run, a blank, its line but for `tiger: ` and the newline, a `|`, and the source.
@@ -82,7 +82,7 @@ fn as_long_as_may_be(rt: HostRuntime) -> Result<(), Fail> {
 fn files_and_lines_that_fail(rt: HostRuntime) -> Result<(), Fail> {
     let alloc = rt.alloc();
     let unread = Outside {
-        shelf_fails: &[1],
+        failing: Some((Object::Shelf, 1)),
         ..Outside::of(b"exit(0)")
     };
     for line in [
@@ -100,7 +100,7 @@ fn files_and_lines_that_fail(rt: HostRuntime) -> Result<(), Fail> {
         assert_eq!(rt; (seen.files_asked, seen.files_failed), (1, 1));
     }
     let untold = Outside {
-        err_fails: &[1],
+        failing: Some((Object::Err, 1)),
         ..Outside::of(b"exit(1/2")
     };
     for line in [
@@ -116,7 +116,7 @@ fn files_and_lines_that_fail(rt: HostRuntime) -> Result<(), Fail> {
     }
     // after an exit, and for an accepted source, nothing is due there
     let untold = Outside {
-        err_fails: &[1],
+        failing: Some((Object::Err, 1)),
         ..Outside::of(b"exit(7)")
     };
     for (line, status) in [("tiger|run|FILE", 7), ("tiger|check|FILE", 0)] {

@@ -1,4 +1,4 @@
-use crate::calls::{Outside, are_answered, call, is_answered};
+use crate::calls::{Object, Outside, are_answered, call, is_answered};
 use std::test::Fail;
 
 // A status, a blank, the line on the error sink but for `tiger: ` and the newline, a `|`, the
@@ -81,7 +81,7 @@ fn streams_of_texts(rt: HostRuntime) -> Result<(), Fail> {
         alloc,
         EXEC,
         Outside {
-            read_fails: &[1],
+            failing: Some((Object::Input, 1)),
             ..echo
         },
     )?;

@@ -1,6 +1,6 @@
 ghost use Rattle.std.specs.Prelude.{◌≡◌, ◌≤◌, ⊤, [], ◌∷◌, codes, length, take};
 
-use crate::calls::{Outside, Seen, call, call_with, watchers};
+use crate::calls::{Object, Outside, Seen, call, call_with, watchers};
 use std::alloc::Global;
 use std::cell::RefCell;
 use std::process::Abort;
@@ -271,9 +271,8 @@ fn is_cut_off(
     whole: &Seen,
     at: u64,
 ) -> Result<(), Fail> {
-    let fails = [at];
     let outside = Outside {
-        err_fails: &fails,
+        failing: Some((Object::Err, at)),
         ..Outside::of(b"main: break 3")
     };
     let seen = call(alloc, line, outside)?;
@@ -300,9 +299,8 @@ fn a_failed_write_of_a_report(rt: HostRuntime) -> Result<(), Fail> {
 fn a_failed_read_is_the_last_of_the_trace(rt: HostRuntime) -> Result<(), Fail> {
     let alloc = rt.alloc();
     let text = b"main: li $v0, 12\nsyscall\nj main";
-    let fails = [3];
     let outside = Outside {
-        read_fails: &fails,
+        failing: Some((Object::Input, 3)),
         ..Outside::of(text)
     };
     let seen = call(alloc, "tiger|exec|FILE|--watch", outside)?;
@@ -322,7 +320,7 @@ fn a_failed_read_is_the_last_of_the_trace(rt: HostRuntime) -> Result<(), Fail> {
 #[test]
 fn a_source_is_watched(rt: HostRuntime) -> Result<(), Fail> {
     let alloc = rt.alloc();
-    let text = b"print(getchar()); print(getchar())";
+    let text = b"(print(getchar()); print(getchar()))";
     let seen = call(alloc, "tiger|run|--watch|FILE", Outside::of(text))?;
     let unseen = call(alloc, "tiger|run|FILE", Outside::of(text))?;
     assert_eq!(rt; (seen.status, seen.read), (unseen.status, unseen.read));
