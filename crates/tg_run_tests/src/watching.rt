@@ -180,13 +180,13 @@ fn a_watcher_of_ones_own_is_told_in_its_place(rt: HostRuntime) -> Result<(), Fai
     let own = Placing {
         places: places.clone()?,
     };
-    all.insert(1, Box::new(alloc, own)?)?;
+    all.push(Box::new(alloc, own)?)?;
     let seen = call_watched(alloc, "tiger|exec|FILE|--watch", HI, all)?;
     assert_eq!(rt; seen.status, 0);
     assert_eq!(rt;
         seen.error.as_slice(),
-        b"steps 2\nsyscall 1\naddiu 1\none\ntwo\ncovered 2 of 2\n\
-          0x00400000 0x2402000a\n0x00400004 0x0000000c\n"
+        b"steps 2\nsyscall 1\naddiu 1\ncovered 2 of 2\n\
+          0x00400000 0x2402000a\n0x00400004 0x0000000c\none\ntwo\n"
             .as_slice()
     );
     assert_eq!(rt; Rc::strong_count(&places), 1);
