@@ -14,8 +14,8 @@ EndsWith status before now result = (result ≡ status) ⊎ ((result ≡ 74) × 
 abbrev pub untold : (before after : ℕ) → Stream ℕ
 untold before after = stream_of (λ s. None) (λ s. s) before after
 
--- the status is that of the top call on some words, by the rule of `LeastUse` and with watchers that
--- report so, for counts of faults of the shelf, the input, the output and the error sink
+-- the status is that of the top call on some words, by the rule of `LeastUse` and with watchers
+-- that report so, for counts of faults of the shelf, the input, the output and the error sink
 abbrev pub AnswersWords :
     (reporters : List Report) (words : List (List ℕ)) (files reads writes errors : ℕ)
     (files' reads' writes' errors' : ℕ) (status : ℕ) → Type 0

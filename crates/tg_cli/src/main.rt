@@ -46,8 +46,8 @@ fn status(rt: &HostRuntime) -> u8
     status
 }
 
-/// Hands the words with the real outside, the policy `LeastUse` and a watcher of each kind to the top
-/// call.
+/// Hands the words with the real outside, the policy `LeastUse` and a watcher of each kind to the
+/// top call.
 fn ask<W: Write>(
     rt: &HostRuntime,
     alloc: Global,
@@ -66,9 +66,7 @@ fn ask<W: Write>(
     let mut shelf = Counted::new(rt);
     let mut input = Counted::new(rt.stdin());
     let mut out = Counted::new(rt.stdout());
-    Ok(tiger(
-        alloc, words, &mut shelf, &mut input, &mut out, err, tools,
-    ))
+    Ok(tiger(alloc, words, &mut shelf, &mut input, &mut out, err, tools))
 }
 
 const OUT_OF_MEMORY: &str = "tiger: out of memory\n";

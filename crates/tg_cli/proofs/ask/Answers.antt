@@ -16,7 +16,11 @@ called reporters words files reads writes errors files' reads' writes' errors' s
     let from_files = subst (λ a. P a reads writes) f h in
     let from_reads = subst (λ a. P 0 a writes) r from_files in
     record {
-      reporters = reporters; words = words; files = files'; reads = reads'; writes = writes';
+      reporters = reporters;
+      words = words;
+      files = files';
+      reads = reads';
+      writes = writes';
       answers = subst (λ a. P 0 0 a) w from_reads;
     }
 
