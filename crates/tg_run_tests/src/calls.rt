@@ -28,8 +28,8 @@ pub(crate) struct Outside<'a> {
 }
 
 impl<'a> Outside<'a> {
-    /// Nothing fails, the input is `xyz`, the output has a room of 64 bytes, and the error sink one of
-    /// 2,048.
+    /// Nothing fails, the input is `xyz`, the output has a room of 64 bytes, and the error sink one
+    /// of 2,048.
     pub(crate) fn of(text: &'a [u8]) -> Outside<'a> {
         Outside {
             text,

@@ -22,6 +22,8 @@ mod policies;
 #[cfg(test)]
 mod programs;
 #[cfg(test)]
+mod rooms;
+#[cfg(test)]
 mod runs;
 #[cfg(test)]
 mod texts;

@@ -17,8 +17,8 @@ const HI: &str = "main: addiu $v0, $zero, 10\nsyscall";
 const LOOP: &str =
     "main: li $t0, 20\nl: addiu $t0, $t0, -1\nbne $t0, $zero, l\nli $v0, 10\nsyscall";
 
-// The words behind `tiger|exec|--watch|FILE`, the status, the lines on the error sink with `;` between
-// them, and the text.
+// The words behind `tiger|exec|--watch|FILE`, the status, the lines on the error sink with `;`
+// between them, and the text.
 static REPORTS: [(&str, u8, &str, &str); 6] = [
     (
         "",
