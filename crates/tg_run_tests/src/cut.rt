@@ -1,7 +1,13 @@
 use crate::calls::{Outside, call};
+use crate::languages::built;
+use crate::programs::queens;
 use std::alloc::Global;
 use std::process::Abort;
+use std::str;
 use std::test::Fail;
+use tg_base::place;
+
+static HELLO: &[u8] = b"print(\"hello\\n\")";
 
 /// `exec` finds a fault in a text, or runs it to its end.
 fn is_refused_or_runs(rt: &impl Abort, alloc: Global, text: &[u8]) -> Result<(), Fail> {
@@ -14,13 +20,9 @@ fn is_refused_or_runs(rt: &impl Abort, alloc: Global, text: &[u8]) -> Result<(),
 #[test]
 fn assembly_that_is_cut_off(rt: HostRuntime) -> Result<(), Fail> {
     let alloc = rt.alloc();
-    let built = call(
-        alloc,
-        "tiger|build|FILE",
-        Outside::in_ample_room(b"print(\"hello\\n\")"),
-    )?;
-    for length in 0..built.out.len() {
-        is_refused_or_runs(&rt, alloc, &built.out[..length])?;
+    let hello = built(alloc, HELLO, 1_000_000)?;
+    for length in 0..hello.out.len() {
+        is_refused_or_runs(&rt, alloc, &hello.out[..length])?;
     }
     Ok(())
 }
@@ -38,13 +40,44 @@ fn spoiled_by(rt: &impl Abort, alloc: Global, text: &[u8], byte: u8) -> Result<(
 #[test]
 fn assembly_that_is_spoiled(rt: HostRuntime) -> Result<(), Fail> {
     let alloc = rt.alloc();
-    let built = call(
-        alloc,
-        "tiger|build|FILE",
-        Outside::in_ample_room(b"print(\"hello\\n\")"),
-    )?;
+    let hello = built(alloc, HELLO, 1_000_000)?;
     for byte in *b"\0\xff\n\"" {
-        spoiled_by(&rt, alloc, &built.out, byte)?;
+        spoiled_by(&rt, alloc, &hello.out, byte)?;
+    }
+    Ok(())
+}
+
+/// The line and the column that the error sink tells.
+fn place_told(error: &[u8]) -> Result<(u32, u32), Fail> {
+    let told = str::from_utf8(error)?;
+    let fault = told.strip_prefix("tiger: ").ok_or("no fault")?;
+    let (line, rest) = fault.split_once(':').ok_or("no line")?;
+    let (column, _) = rest.split_once(':').ok_or("no column")?;
+    Ok((
+        line.parse::<u32>().ok().ok_or("no number")?,
+        column.parse::<u32>().ok().ok_or("no number")?,
+    ))
+}
+
+/// `check` finds a fault in a source, whose place is at most one byte behind the source's last.
+fn is_refused_by_its_end(rt: &impl Abort, alloc: Global, text: &[u8]) -> Result<(), Fail> {
+    assert!(rt; text.len() <= 1000);
+    let seen = call(alloc, "tiger|check|FILE", Outside::of(text))?;
+    assert_eq!(rt; (seen.status, seen.faults()), (65, (0, 0, 0, 0)));
+    let (line, column) = place_told(&seen.error)?;
+    let end = place(text, text.len() as u32);
+    assert!(rt; line < end.line || line == end.line && column <= end.column);
+    Ok(())
+}
+
+// The file of the queens is a program before its last newline, too.
+#[test]
+fn sources_that_are_cut_off(rt: HostRuntime) -> Result<(), Fail> {
+    let alloc = rt.alloc();
+    let mut text = queens(alloc)?;
+    text.pop();
+    for length in 0..text.len() {
+        is_refused_by_its_end(&rt, alloc, &text[..length])?;
     }
     Ok(())
 }

@@ -298,7 +298,8 @@ fn faults_of_sources(rt: HostRuntime) -> Result<(), Fail> {
 }
 
 // A text, another so many times behind it, and a last one, with the line that refuses them.
-static LONG_FAULTS: [(&[u8], &[u8], usize, &[u8], &str); 10] = [
+static LONG_FAULTS: [(&[u8], &[u8], usize, &[u8], &str); 11] = [
+    (b"", b" ", 262145, b"", "1:1: L7 source too long"),
     (b"exit(1)", b" ", 262138, b"", "1:1: L7 source too long"),
     (b"", b"\n?", 200000, b"", "1:1: L7 source too long"),
     (b"", b"(", 257, b"", "1:257: S2 nesting too deep"),

@@ -56,7 +56,7 @@ fn programs_run_as_they_mean(rt: HostRuntime) -> Result<(), Fail> {
 }
 
 /// The assembly text of a source, by `build` into a sink of so many bytes.
-fn built(alloc: Global, text: &[u8], room: usize) -> Result<Seen, Fail> {
+pub(crate) fn built(alloc: Global, text: &[u8], room: usize) -> Result<Seen, Fail> {
     let outside = Outside {
         room,
         ..Outside::of(text)

@@ -60,6 +60,12 @@ fn texts_end_as_they_must(rt: HostRuntime) -> Result<(), Fail> {
 }
 
 #[test]
+fn a_jump_to_itself_takes_all_steps(rt: HostRuntime) -> Result<(), Fail> {
+    let row = "109 step limit||main: j main";
+    are_answered(&rt, rt.alloc(), "tiger|exec|FILE|--steps|10", &[row])
+}
+
+#[test]
 fn longest_text(rt: HostRuntime) -> Result<(), Fail> {
     let alloc = rt.alloc();
     let text = vec![in alloc; b'\n'; 67_108_865]?;
