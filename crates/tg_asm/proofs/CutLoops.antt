@@ -2,14 +2,13 @@
 use Rattle.std.proofs.Common.{◌≡◌, ◌<◌, ◌≤◌, ◌+◌, ℕ, zero, suc, Bool, true, false, not, cond, List, [], ◌∷◌, ◌++◌, length, take, drop, map, Option}
 use Rattle.std.proofs.Common.{Some, None, refl, sym, ap, ◌∙◌, arith, append-nil, append_assoc, drop-cons, add-one}
 use Rattle.std.specs.Prelude.{slice_index, ◌==◌, ◌&&◌}
-use Rattle.std.specs.Borrow.{Bor}
 use Rattle.std.proofs.Math.Seq.{take-suc}
 use Rattle.std.proofs.lemmas.List.{drop_all, map-append}
 use Rattle.std.proofs.lemmas.Bool.{ne_eqb}
 use Rattle.tg_isa.specs.Lines as lines
 use Rattle.tg_isa.specs.Lines.{front, back, quoted, before_quoted, Labelled, before_labelled, unlabelled, labelled, label_at, before_colon, skip}
 use Rattle.tg_isa.specs.Lines.{Over, Next, Misshapen, first_gap, gap, before_operands, begins_label, is_past_label, is_end, is_solid}
-use Rattle.tg_asm.specs.Cuts.{texts, operand_of}
+use Rattle.tg_asm.specs.Cuts.{operand_of}
 use Rattle.tg_asm.specs.declared.cuts.Operand.{Operand}
 
 -- a split takes nothing more than the text
@@ -69,20 +68,13 @@ pub quotes_end : (text : List ℕ) (escaped : Bool) (at : ℕ) → InQuotes text
 quotes_end text escaped at i h = i.same ∙ ap (λ l. all_before_quoted (take at text) (quoted escaped l)) (drop_all at text h)
 
 -- labels
-abbrev pub all_labelled : List (List ℕ) → Labelled → Labelled
-all_labelled names l = record { labels = names ++ l.labels; rest = l.rest }
-
-pub record InLabels (line : List ℕ) (names : List (List ℕ)) (rest : List ℕ) : Type 0 where
+pub record PastLabels (line rest : List ℕ) : Type 0 where
   pub fuel : ℕ
   pub enough : length rest ≤ fuel
-  pub same : labelled (length line) (skip line) ≡ all_labelled names (labelled fuel rest)
+  pub same : (labelled (length line) (skip line)).rest ≡ (labelled fuel rest).rest
 
-pub labels_begin : (line rest : List ℕ) (names : List (List ℕ)) → names ≡ [] → rest ≡ skip line → InLabels line names rest
-labels_begin line rest names n r = record {
-  fuel = length line;
-  enough = rw r (length-back is_solid line);
-  same = rw (n, r) refl;
-}
+pub labels_begin : (line rest : List ℕ) → rest ≡ skip line → PastLabels line rest
+labels_begin line rest r = record { fuel = length line; enough = rw r (length-back is_solid line); same = rw r refl }
 
 abbrev behind : Option (List ℕ × List ℕ) → List ℕ
 behind (Some p) = p.1
@@ -110,12 +102,9 @@ labelled_more : (fuel : ℕ) (text name rest : List ℕ) → label_at text ≡ S
     before_labelled name (labelled fuel (skip rest))
 labelled_more fuel text name rest e = rw (e, labelled) refl
 
-labelled_none : (fuel : ℕ) (text : List ℕ) → label_at text ≡ None → labelled fuel text ≡ unlabelled text
+pub labelled_none : (fuel : ℕ) (text : List ℕ) → label_at text ≡ None → labelled fuel text ≡ unlabelled text
 labelled_none zero text e = refl
 labelled_none (suc fuel) text e = rw (e, labelled) refl
-
-all_labelled_more : (names : List (List ℕ)) (name : List ℕ) (l : Labelled) → all_labelled names (before_labelled name l) ≡ all_labelled (names ++ name ∷ []) l
-all_labelled_more names name l = rw append_assoc refl
 
 pub labels_shorter : (text name rest after : List ℕ) → label_at text ≡ Some (name, rest) → after ≡ skip rest → length after < length text
 labels_shorter text name rest after e a =
@@ -123,32 +112,26 @@ labels_shorter text name rest after e a =
     let s = length-back is_solid rest in
     rw a (omega (arith, h, s))
 
-labels_more : (line : List ℕ) (names : List (List ℕ)) (text name rest : List ℕ) → InLabels line names text →
-    label_at text ≡ Some (name, rest) → InLabels line (names ++ name ∷ []) (skip rest)
-labels_more line names text name rest i e = by i.fuel refl
-  where
-    by : (n : ℕ) → i.fuel ≡ n → InLabels line (names ++ name ∷ []) (skip rest)
-    by zero k = let h = label_shorter text name rest e in let z : length text ≤ 0 = rw k at i.enough in absurd (let f : ⊥ = omega (arith, h, z) in f)
-    by (suc n) k =
-        let h = label_shorter text name rest e in
-        let s = length-back is_solid rest in
-        let z : length text ≤ suc n = rw k at i.enough in
-        record {
-          fuel = n;
-          enough = omega (arith, h, s, z);
-          same = (rw k at i.same) ∙ ap (all_labelled names) (labelled_more n text name rest e) ∙ all_labelled_more names name _;
-        }
+-- a label in front of a text is the first of its labels
+pub record OneLess (fuel : ℕ) (text name rest : List ℕ) : Type 0 where
+  pub left : ℕ
+  pub enough : length (skip rest) ≤ left
+  pub same : labelled fuel text ≡ before_labelled name (labelled left (skip rest))
 
-pub labels_pushed : (line : List ℕ) (names names' : List (List ℕ)) (text name rest after : List ℕ) → InLabels line names text →
-    label_at text ≡ Some (name, rest) → names' ≡ names ++ name ∷ [] → after ≡ skip rest → InLabels line names' after
-labels_pushed line names names' text name rest after i e n a = rw (n, a) (labels_more line names text name rest i e)
+pub label_taken : (fuel : ℕ) (text name rest : List ℕ) → length text ≤ fuel → label_at text ≡ Some (name, rest) → OneLess fuel text name rest
+label_taken zero text name rest z e = let h = label_shorter text name rest e in absurd (let f : ⊥ = omega (arith, h, z) in f)
+label_taken (suc fuel) text name rest z e =
+    let h = label_shorter text name rest e in
+    let s = length-back is_solid rest in
+    record { left = fuel; enough = omega (arith, h, s, z); same = labelled_more fuel text name rest e }
 
-pub texts_pushed : (ts ts' : List (Bor (List ℕ))) (t : Bor (List ℕ)) → ts' ≡ ts ++ t ∷ [] → texts ts' ≡ texts ts ++ t.now ∷ []
-texts_pushed ts ts' t e = ap texts e ∙ map-append _ ts (t ∷ [])
+pub labels_more : (line text name rest after : List ℕ) → PastLabels line text → label_at text ≡ Some (name, rest) → after ≡ skip rest → PastLabels line after
+labels_more line text name rest after i e a =
+    let t = label_taken i.fuel text name rest i.enough e in
+    rw a (record { fuel = t.left; enough = t.enough; same = i.same ∙ ap (λ l. l.rest) t.same })
 
-pub labels_end : (line : List ℕ) (names : List (List ℕ)) (text : List ℕ) → InLabels line names text → label_at text ≡ None →
-    labelled (length line) (skip line) ≡ record { labels = names; rest = text }
-labels_end line names text i e = i.same ∙ ap (all_labelled names) (labelled_none i.fuel text e) ∙ rw append-nil refl
+pub labels_end : (line text : List ℕ) → PastLabels line text → label_at text ≡ None → text ≡ (labelled (length line) (skip line)).rest
+labels_end line text i e = sym (i.same ∙ ap (λ l. l.rest) (labelled_none i.fuel text e))
 
 -- operands
 abbrev pub room : lines.Gap → ℕ

@@ -1,15 +1,18 @@
 -- Items and labels are laid out one by one.
 use Rattle.std.proofs.Common.{◌≡◌, ◌<◌, ◌≤◌, ◌+◌, ℕ, suc, min, List, [], ◌∷◌, length, map, drop, get_or, Option, Some, None, Result, Ok, Err, refl}
 use Rattle.std.proofs.Common.{sym, ap, subst, ◌∙◌, arith, drop-cons, add-one}
-use Rattle.std.specs.Borrow.{Bor}
 use Rattle.std.proofs.lemmas.List.{drop_all}
 use Rattle.tg_isa.specs.declared.keywords.AsmRule.{AsmRule}
 use Rattle.tg_isa.specs.Items as items
 use Rattle.tg_isa.specs.Assembly.{Layout, LabelTarget, spot_of, add_label, add_new, add_one, add_labels}
 use Rattle.tg_asm.specs.Layouts.{IsSmall}
 use Rattle.tg_isa.specs.declared.keywords.Keyword.{Keyword}
-use Rattle.tg_asm.specs.Cuts.{operand_of, texts}
-use Rattle.tg_asm.specs.Means.{datum_stored}
+use Rattle.tg_isa.specs.Lines.{labelled, label_at, skip, is_solid}
+use Rattle.tg_asm.specs.Cuts.{labels_of, operand_of}
+use Rattle.tg_asm.proofs.CutLoops.{OneLess, label_taken, labelled_none, length-back}
+use Rattle.tg_asm.specs.Means.{Leaves, datum_stored}
+use Rattle.tg_asm.specs.declared.faults.Refused.{Refused}
+use Rattle.tg_asm.specs.declared.faults.Refused.TheVariants as refused
 use Rattle.tg_asm.specs.declared.cuts.Operand.{Operand}
 
 -- widths
@@ -35,24 +38,37 @@ summed_end k os total at s h =
     sym (s.same ∙ rw none (omega (arith, b)))
 
 -- labels
-pub record Labelling (first : Layout) (names : List (Bor (List ℕ))) (l : Layout) (at : ℕ) : Type 0 where
-  pub same : add_labels first (texts names) ≡ add_labels l (texts (drop at names))
+pub record Labelling (first : Layout) (line : List ℕ) (l : Layout) (rest : List ℕ) : Type 0 where
+  pub fuel : ℕ
+  pub enough : length rest ≤ fuel
+  pub same : add_labels first (labels_of line) ≡ add_labels l (labelled fuel rest).labels
 
-next_label : (first : Layout) (names : List (Bor (List ℕ))) (l : Layout) (at : ℕ) (z : Bor (List ℕ)) → Labelling first names l at →
-    at < length names → add_labels first (texts names) ≡ add_labels l ((get_or names at z).now ∷ texts (drop (suc at) names))
-next_label first names l at z s h = s.same ∙ ap (λ o. add_labels l (texts o)) (drop-cons names at z h)
+pub labelling_begin : (first : Layout) (line rest : List ℕ) → rest ≡ skip line → Labelling first line first rest
+labelling_begin first line rest r = record { fuel = length line; enough = rw r (length-back is_solid line); same = rw r refl }
 
-pub labelling_more : (first : Layout) (names : List (Bor (List ℕ))) (l m : Layout) (at : ℕ) (z : Bor (List ℕ)) →
-    Labelling first names l at → at < length names → add_one l (get_or names at z).now ≡ Ok m → Labelling first names m (at + 1)
-labelling_more first names l m at z s h e = record { same = rw add-one (next_label first names l at z s h ∙ rw (e, add_labels) refl) }
+next_label : (first : Layout) (line : List ℕ) (l : Layout) (text name rest : List ℕ) (i : Labelling first line l text) (t : OneLess i.fuel text name rest) →
+    add_labels first (labels_of line) ≡ add_labels l (name ∷ (labelled t.left (skip rest)).labels)
+next_label first line l text name rest i t = i.same ∙ ap (λ k. add_labels l k.labels) t.same
 
-pub labelling_bad : (first : Layout) (names : List (Bor (List ℕ))) (l : Layout) (at : ℕ) (z : Bor (List ℕ)) (r : AsmRule) →
-    Labelling first names l at → at < length names → add_one l (get_or names at z).now ≡ Err r → add_labels first (texts names) ≡ Err r
-labelling_bad first names l at z r s h e = next_label first names l at z s h ∙ rw (e, add_labels) refl
+pub labelling_more : (first : Layout) (line : List ℕ) (l m : Layout) (text name rest after : List ℕ) → Labelling first line l text →
+    label_at text ≡ Some (name, rest) → after ≡ skip rest → add_one l name ≡ Ok m → Labelling first line m after
+labelling_more first line l m text name rest after i s a e =
+    let t = label_taken i.fuel text name rest i.enough s in
+    rw a (record { fuel = t.left; enough = t.enough; same = next_label first line l text name rest i t ∙ rw (e, add_labels) refl })
 
-pub labelling_end : (first : Layout) (names : List (Bor (List ℕ))) (l : Layout) (at : ℕ) → Labelling first names l at →
-    length names ≤ at → add_labels first (texts names) ≡ Ok l
-labelling_end first names l at s h = s.same ∙ ap (λ o. add_labels l (texts o)) (drop_all at names h)
+labelling_bad : (first : Layout) (line : List ℕ) (l : Layout) (text name rest : List ℕ) (r : AsmRule) → Labelling first line l text →
+    label_at text ≡ Some (name, rest) → add_one l name ≡ Err r → add_labels first (labels_of line) ≡ Err r
+labelling_bad first line l text name rest r i s e =
+    next_label first line l text name rest i (label_taken i.fuel text name rest i.enough s) ∙ rw (e, add_labels) refl
+
+pub label_bad : (S : Type 0) (first : Layout) (line : List ℕ) (l m : Layout) (text name rest : List ℕ) (e : Refused) → Labelling first line l text →
+    label_at text ≡ Some (name, rest) → Leaves {S = S} (add_one l name) (Err e) m → Leaves {S = S} (add_labels first (labels_of line)) (Err e) m
+label_bad S first line l m text name rest (refused.Rule r) i s e = labelling_bad first line l text name rest r i s e
+label_bad S first line l m text name rest refused.Memory i s e = tt
+
+pub labelling_end : (first : Layout) (line : List ℕ) (l : Layout) (text : List ℕ) → Labelling first line l text → label_at text ≡ None →
+    add_labels first (labels_of line) ≡ Ok l
+labelling_end first line l text i e = i.same ∙ ap (λ k. add_labels l k.labels) (labelled_none i.fuel text e)
 
 abbrev layout_in : Layout → Result Layout AsmRule → Layout
 layout_in d (Ok l) = l

@@ -1,6 +1,6 @@
 -- A table of labels keeps them by their names, and has the list of them by their numbers.
-use Rattle.std.proofs.Common.{◌≡◌, ◌<◌, ℕ, suc, Bool, true, false, cond, List, [], ◌∷◌, ◌++◌, length, map, Option, Some, None, refl, sym, ap, ◌∙◌, arith}
-use Rattle.std.specs.Prelude.{nat_lt}
+use Rattle.std.proofs.Common.{◌≡◌, ◌<◌, ℕ, suc, Bool, true, false, not, cond, List, [], ◌∷◌, ◌++◌, ◌+◌, map, Option, Some, None, refl, sym, ap, ◌∙◌, arith, add-one}
+use Rattle.std.specs.Prelude.{nat_lt, is_some}
 use Rattle.std.specs.Borrow.{Bor}
 use Rattle.std.specs.Str.{bytes_eq}
 use Rattle.std.specs.Map.{keys_of, lookup}
@@ -69,16 +69,9 @@ looked_up (e ∷ es) name s =
     by true h ih = rw (is_eq-slice_cmp, h) refl
     by false h ih = rw (is_eq-slice_cmp, h) ih
 
-pub found_there : (es : List Entry) (name : List ℕ) (r : Option LabelTarget) → AreNumbered es → r ≡ target_of (sought name es) →
+pub found_there : (next : ℕ) (es : List Entry) (name : List ℕ) (r : Option LabelTarget) → AreNumbered next es → r ≡ target_of (sought name es) →
     found_spot r ≡ spot_among (entries_of es) name
-found_there es name r n e = ap found_spot e ∙ looked_up es name n.0
-
-no_spot : (o : Option NumberedSpot) → found_spot (target_of o) ≡ None → o ≡ None
-no_spot None e = refl
-no_spot (Some n) e = cc
-
-pub not_there : (es : List Entry) (name : List ℕ) → AreNumbered es → spot_among (entries_of es) name ≡ None → sought name es ≡ None
-not_there es name n e = no_spot (sought name es) (looked_up es name n.0 ∙ e)
+found_there next es name r n e = ap found_spot e ∙ looked_up es name n.0
 
 -- what has the greatest number goes last
 put_last : (e : Entry) (fs : List Entry) → AreBelow e.1.number fs → put_entry e fs ≡ fs ++ e ∷ []
@@ -121,13 +114,28 @@ new_last (e ∷ es) k v n b = by (by_names k e.0) refl (new_last es k v)
     by Equal h ih = let s = rw h at n in cc
     by Greater h ih = rw h (ap (put_entry e) (ih (rw h at n) b.1) ∙ put_before e (k, v) (by_number es) b.0)
 
-pub added_last : (es es' : List Entry) (k : Bor (List ℕ)) (v : NumberedSpot) → sought k.now es ≡ None → AreNumbered es →
-    v.number ≡ length es → es' ≡ insert_entry by_names es k v → entries_of es' ≡ entries_of es ++ (k.now, spot_of v.spot) ∷ []
-added_last es es' k v n a l e =
-    let b : AreBelow v.number es = rw l a.1 in
-    ap entries_of e ∙ ap (map entry_of) (new_last es k v n b) ∙ map-append entry_of (by_number es) ((k, v) ∷ [])
+pub added_last : (next : ℕ) (es es' : List Entry) (k : Bor (List ℕ)) (v : NumberedSpot) → AreNumbered next es → v.number ≡ next → sought k.now es ≡ None →
+    es' ≡ insert_entry by_names es k v → (spot_among (entries_of es) k.now ≡ None) × (entries_of es' ≡ entries_of es ++ (k.now, spot_of v.spot) ∷ [])
+added_last next es es' k v a l n e =
+    let b : AreBelow v.number es = rw l a.1 in (
+      sym (looked_up es k.now a.0) ∙ ap (λ o. found_spot (target_of o)) n,
+      ap entries_of e ∙ ap (map entry_of) (new_last es k v n b) ∙ map-append entry_of (by_number es) ((k, v) ∷ []),
+    )
 
--- the numbers are again below their count
+found_alike : (o : Option NumberedSpot) → is_some (found_spot (target_of o)) ≡ is_some o
+found_alike None = refl
+found_alike (Some n) = refl
+
+pub known_there : (next : ℕ) (es : List Entry) (name : List ℕ) (o : Option NumberedSpot) (new : Bool) → AreNumbered next es → o ≡ sought name es →
+    is_some o ≡ not new → new ≡ false → is_some (spot_among (entries_of es) name) ≡ true
+known_there next es name o new a e h f =
+    sym (ap is_some (looked_up es name a.0)) ∙ found_alike (sought name es) ∙ sym (ap is_some e) ∙ h ∙ ap not f
+
+pub none_there : (o : Option NumberedSpot) (new : Bool) → is_some o ≡ not new → new ≡ true → o ≡ None
+none_there None new h t = refl
+none_there (Some n) new h t = let f : true ≡ false = h ∙ ap not t in cc
+
+-- the numbers are below the next one again
 below_more : (n : ℕ) (es : List Entry) → AreBelow n es → AreBelow (suc n) es
 below_more n [] b = tt
 below_more n (e ∷ es) b = let l = b.0 in (omega (arith, l), below_more n es b.1)
@@ -141,19 +149,8 @@ below_inserted n (e ∷ es) k v b l = by (by_names k e.0) refl (below_inserted n
     by Equal h ih = rw h (l, b.1)
     by Greater h ih = rw h (b.0, ih)
 
-one_longer : (es : List Entry) (k : Bor (List ℕ)) (v : NumberedSpot) → sought k.now es ≡ None → length (insert_entry by_names es k v) ≡ suc (length es)
-one_longer [] k v n = refl
-one_longer (e ∷ es) k v n = by (by_names k e.0) refl (one_longer es k v)
-  where
-    by : (o : Ordering) → by_names k e.0 ≡ o → (sought k.now es ≡ None → length (insert_entry by_names es k v) ≡ suc (length es)) →
-        length (insert_entry by_names (e ∷ es) k v) ≡ suc (suc (length es))
-    by Less h ih = rw h refl
-    by Equal h ih = let s = rw h at n in cc
-    by Greater h ih = rw h (ap suc (ih (rw h at n)))
-
-pub numbered : (es es' : List Entry) (k : Bor (List ℕ)) (v : NumberedSpot) → sought k.now es ≡ None → AreNumbered es →
-    v.number ≡ length es → es' ≡ insert_entry by_names es k v → IsStrictlySortedBy by_names (keys_of es') → AreNumbered es'
-numbered es es' k v n a l e s =
-    let below : AreBelow (suc (length es)) (insert_entry by_names es k v) =
-    below_inserted (suc (length es)) es k v (below_more (length es) es a.1) (rw l (omega arith)) in
-    (s, rw (e, one_longer es k v n) below)
+pub numbered : (next next' : ℕ) (es es' : List Entry) (k : Bor (List ℕ)) (v : NumberedSpot) → AreNumbered next es → v.number ≡ next → next' ≡ next + 1 →
+    es' ≡ insert_entry by_names es k v → IsStrictlySortedBy by_names (keys_of es') → AreNumbered next' es'
+numbered next next' es es' k v a l m e s =
+    let below : AreBelow (suc next) (insert_entry by_names es k v) = below_inserted (suc next) es k v (below_more next es a.1) (rw l (omega arith)) in
+    (s, rw (m, e, add-one) below)

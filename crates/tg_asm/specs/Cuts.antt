@@ -1,5 +1,5 @@
 -- What the code cuts from a line, as the definition has it.
-use Rattle.std.specs.Prelude.{ℕ, List, map, Option, Some, None}
+use Rattle.std.specs.Prelude.{ℕ, List, length, map, Option, Some, None}
 use Rattle.std.specs.Borrow.{Bor}
 use Rattle.tg_isa.specs.Lines as lines
 use Rattle.tg_asm.specs.declared.cuts.Operand.{Operand}
@@ -8,8 +8,9 @@ use Rattle.tg_asm.specs.declared.cuts.Gap.{Gap}
 use Rattle.tg_asm.specs.declared.cuts.Gap.TheVariants.{Over, Next, Misshapen}
 use Rattle.tg_asm.specs.declared.cuts.Cut.{Cut}
 
-abbrev pub texts : List (Bor (List ℕ)) → List (List ℕ)
-texts ts = map (λ t. t.now) ts
+-- the labels in front of a line
+abbrev pub labels_of : List ℕ → List (List ℕ)
+labels_of line = (lines.labelled (length line) (lines.skip line)).labels
 
 abbrev pub pair_of : Option (Bor (List ℕ) × Bor (List ℕ)) → Option (List ℕ × List ℕ)
 pair_of (Some p) = Some (p.0.now, p.1.now)
@@ -31,7 +32,7 @@ gap_of Misshapen = lines.Misshapen
 abbrev pub cut_of : Cut → lines.Cut
 cut_of c =
     record {
-      labels = texts c.labels.items;
+      labels = labels_of c.line.now;
       word = c.word.now;
       operands = map operand_of c.operands.items;
     }

@@ -1,5 +1,5 @@
 -- The entries of a table of labels, as the definition has them.
-use Rattle.std.specs.Prelude.{ℕ, ◌<◌, ⊤, List, [], ◌∷◌, length, map, nat_lt, if◌then◌else◌}
+use Rattle.std.specs.Prelude.{ℕ, ◌<◌, ⊤, List, [], ◌∷◌, map, nat_lt, if◌then◌else◌}
 use Rattle.std.specs.Borrow.{Bor}
 use Rattle.std.specs.Cmp.Lexicographic.{slice_cmp}
 use Rattle.std.specs.List.Sorted.{IsStrictlySortedBy}
@@ -31,7 +31,7 @@ abbrev pub AreBelow : ℕ → List (Bor (List ℕ) × NumberedSpot) → Type 0
 AreBelow n [] = ⊤
 AreBelow n (e ∷ es) = (e.1.number < n) × AreBelow n es
 
--- names are in order, each once, and as many entries as there are have numbers
-abbrev pub AreNumbered : List (Bor (List ℕ) × NumberedSpot) → Type 0
-AreNumbered es =
-    IsStrictlySortedBy (λ x y. slice_cmp nat_cmp x.now y.now) (keys_of es) × AreBelow (length es) es
+-- names are in order, each once, and their numbers are below the next one
+abbrev pub AreNumbered : ℕ → List (Bor (List ℕ) × NumberedSpot) → Type 0
+AreNumbered next es =
+    IsStrictlySortedBy (λ x y. slice_cmp nat_cmp x.now y.now) (keys_of es) × AreBelow next es

@@ -1,6 +1,6 @@
 ghost use Rattle.std.specs.Prelude.{◌≡◌, false, map, MatchOption, Some, None, IfOk, length};
 ghost use Rattle.tg_isa.specs.Lines as lines;
-ghost use Rattle.tg_asm.specs.Cuts.{found_cut, found_operand, gap_of, operand_of, pair_of, texts};
+ghost use Rattle.tg_asm.specs.Cuts.{found_cut, found_operand, gap_of, operand_of, pair_of};
 
 use crate::bytes::{Class, begins_label, is_blank, skip, split};
 use std::alloc::Global;
@@ -24,16 +24,17 @@ enum Gap<'a> {
     Misshapen,
 }
 
-/// A line as its labels, its item's word, which is empty where it has no item, and the operands.
+/// A line, which begins with its labels, its item's word, which is empty where it has no item, and
+/// the operands. Labels aren't listed, since a line may have millions.
 #[derive(Drop)]
 pub(crate) struct Cut<'a> {
-    pub(crate) labels: Vec<&'a [u8]>,
+    pub(crate) line: &'a [u8],
     pub(crate) word: &'a [u8],
     pub(crate) operands: Vec<Operand<'a>>,
 }
 
 /// The label in front of a text, and what follows its colon.
-fn label_at(text: &[u8]) -> Option<(&[u8], &[u8])>
+pub(crate) fn label_at(text: &[u8]) -> Option<(&[u8], &[u8])>
     ensures { pair_of result ≡ lines.label_at text.now }
 {
     let first = text.first()?;
@@ -135,28 +136,25 @@ fn operands<'a>(alloc: Global, text: &'a [u8]) -> Result<Option<Vec<Operand<'a>>
     }
 }
 
-/// The labels in front of a line, and what follows them.
-fn labels<'a>(alloc: Global, line: &'a [u8]) -> Result<(Vec<&'a [u8]>, &'a [u8]), Memory>
-    ensures { IfOk result (λ found. lines.labelled (length line.now) (lines.skip line.now)
-        ≡ record { labels = texts found.0.items; rest = found.1.now }) }
+/// What follows the labels in front of a line.
+fn past_labels(line: &[u8]) -> &[u8]
+    ensures { result.now ≡ (lines.labelled (length line.now) (lines.skip line.now)).rest }
 {
-    let mut list = Vec::new(alloc);
     let mut rest = skip(line);
-    while let Some((name, more)) = label_at(rest) {
-        list.push(name)?;
+    while let Some((_, more)) = label_at(rest) {
         rest = skip(more);
     }
-    Ok((list, rest))
+    rest
 }
 
 /// A line as its parts, or none where it has no such shape.
 pub(crate) fn cut_line<'a>(alloc: Global, line: &'a [u8]) -> Result<Option<Cut<'a>>, Memory>
     ensures { IfOk result (λ found. found_cut found ≡ lines.cut line.now) }
 {
-    let (labels, rest) = labels(alloc, line)?;
+    let rest = past_labels(line);
     if rest.is_empty() || rest[0] == b'#' {
         return Ok(Some(Cut {
-            labels,
+            line,
             word: &[],
             operands: Vec::new(alloc),
         }));
@@ -167,7 +165,7 @@ pub(crate) fn cut_line<'a>(alloc: Global, line: &'a [u8]) -> Result<Option<Cut<'
     }
     match operands(alloc, more)? {
         Some(operands) => Ok(Some(Cut {
-            labels,
+            line,
             word,
             operands,
         })),

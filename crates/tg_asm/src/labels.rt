@@ -1,4 +1,4 @@
-ghost use Rattle.std.specs.Prelude.{◌≡◌, ◌++◌, ◌∷◌, [], None, OnOk};
+ghost use Rattle.std.specs.Prelude.{◌≡◌, ◌++◌, ◌∷◌, [], true, false, Ok, None, IsSome};
 ghost use Rattle.tg_isa.specs.Assembly.{spot_among};
 ghost use Rattle.tg_asm.specs.Spots.{found_spot, spot_of};
 
@@ -14,6 +14,8 @@ use tg_base::Memory;
 #[derive(Drop)]
 pub(crate) struct Labels<'a> {
     spots: BTreeMap<&'a [u8], NumberedSpot>,
+    /// The number of the next label.
+    next: u32,
 }
 
 impl<'a> Model for Labels<'a> {
@@ -25,7 +27,7 @@ impl<'a> Model for Labels<'a> {
 
     ghost view = { λ l. entries_of l.spots.entries };
 
-    ghost invariant = { λ l. AreNumbered l.spots.entries };
+    ghost invariant = { λ l. AreNumbered l.next l.spots.entries };
 }
 
 impl<'a> Labels<'a> {
@@ -35,6 +37,7 @@ impl<'a> Labels<'a> {
     {
         Labels {
             spots: BTreeMap::new(alloc),
+            next: 0,
         }
     }
 
@@ -48,13 +51,19 @@ impl<'a> Labels<'a> {
         }
     }
 
-    /// Adds a label that isn't there yet.
-    pub(crate) fn add(&mut self, name: &'a [u8], spot: LabelTarget) -> Result<(), Memory>
-        requires { spot_among self.old name.now ≡ None }
-        ensures { OnOk result (self.new ≡ self.old ++ (name.now, spot_of spot) ∷ []) }
+    /// Adds a label, and answers whether it is a new one. Where it isn't, nothing is said of what
+    /// the labels are then.
+    pub(crate) fn add(&mut self, name: &'a [u8], spot: LabelTarget) -> Result<bool, Memory>
+        ensures new { result ≡ Ok true → (spot_among self.old name.now ≡ None)
+            × (self.new ≡ self.old ++ (name.now, spot_of spot) ∷ []) }
+        ensures known { result ≡ Ok false → IsSome (spot_among self.old name.now) }
     {
-        let number = u32::try_from(self.spots.len()).map_err(|_| Memory)?;
-        self.spots.insert(name, NumberedSpot { number, spot })?;
-        Ok(())
+        let number = self.next;
+        let Some(next) = number.checked_add(1) else {
+            return Err(Memory);
+        };
+        let before = self.spots.insert(name, NumberedSpot { number, spot })?;
+        self.next = next;
+        Ok(before.is_none())
     }
 }

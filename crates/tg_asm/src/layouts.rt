@@ -2,7 +2,7 @@ ghost use Rattle.std.specs.Prelude.{◌≡◌, ◌≤◌, map, min, length, OnOk
 ghost use Rattle.tg_base.specs.State.{most_bytes};
 ghost use Rattle.tg_isa.specs.Assembly as assembly;
 ghost use Rattle.tg_isa.specs.Items as items;
-ghost use Rattle.tg_asm.specs.Cuts.{operand_of, texts};
+ghost use Rattle.tg_asm.specs.Cuts.{labels_of, operand_of};
 ghost use Rattle.tg_asm.specs.Layouts.{GivesLayout, IsSmall, layout_of};
 ghost use Rattle.tg_asm.specs.Readings.{reading_of};
 ghost use Rattle.tg_isa.specs.Lines.{lines};
@@ -17,8 +17,8 @@ ghost use Rattle.tg_asm.specs.Means.{
 };
 ghost use Rattle.tg_asm.specs.Spots.{spot_of};
 
-use crate::bytes::split_line;
-use crate::cuts::Operand;
+use crate::bytes::{skip, split_line};
+use crate::cuts::{Operand, label_at};
 use crate::faults::{AsmFault, Refused};
 use crate::items::{Align, Contents, Datum, Item, Words, stored_datum};
 use crate::labels::Labels;
@@ -121,21 +121,23 @@ impl<'a> Layout<'a> {
         ensures { Leaves (assembly.add_one (layout_of self.old) name.now) result
             (layout_of self.new) }
     {
-        if self.labels.find(name).is_some() {
-            return Err(Refused::Rule(AsmRule::A4));
-        }
         let spot = self.next_spot()?;
-        self.labels.add(name, spot)?;
-        Ok(())
+        if self.labels.add(name, spot)? {
+            Ok(())
+        } else {
+            Err(Refused::Rule(AsmRule::A4))
+        }
     }
 
-    /// Adds labels in order.
-    fn add_labels(&mut self, names: &[&'a [u8]]) -> Result<(), Refused>
-        ensures { Leaves (assembly.add_labels (layout_of self.old) (texts names.now)) result
+    /// Adds the labels in front of a line, in order.
+    fn add_labels(&mut self, line: &'a [u8]) -> Result<(), Refused>
+        ensures { Leaves (assembly.add_labels (layout_of self.old) (labels_of line.now)) result
             (layout_of self.new) }
     {
-        for name in names {
-            self.add_label(*name)?;
+        let mut rest = skip(line);
+        while let Some((name, more)) = label_at(rest) {
+            self.add_label(name)?;
+            rest = skip(more);
         }
         Ok(())
     }
@@ -203,7 +205,7 @@ impl<'a> Layout<'a> {
             (Ok (reading_of reading.now))) result (layout_of self.new) }
         ensures small { OnOk result (IsSmall (layout_of self.new)) }
     {
-        self.add_labels(&reading.labels)?;
+        self.add_labels(reading.line)?;
         self.add_item(&reading.item)
     }
 

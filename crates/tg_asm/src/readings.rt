@@ -11,10 +11,10 @@ use crate::words::{keyword, stands_in};
 use std::alloc::Global;
 use tg_isa::{AsmRule, Segment};
 
-/// A line's labels and its item.
+/// A line, which begins with its labels, and its item.
 #[derive(Drop)]
 pub(crate) struct Reading<'a> {
-    pub(crate) labels: Vec<&'a [u8]>,
+    pub(crate) line: &'a [u8],
     pub(crate) item: Item<'a>,
 }
 
@@ -23,13 +23,13 @@ fn read_cut<'a>(alloc: Global, segment: Segment, cut: Cut<'a>) -> Result<Reading
     ensures { GivesMeant reading_of (assembly.read_cut segment (Some (cut_of cut.entry))) result }
 {
     let Cut {
-        labels,
+        line,
         word,
         operands,
     } = cut;
     if word.is_empty() {
         return Ok(Reading {
-            labels,
+            line,
             item: Item::Nothing,
         });
     }
@@ -39,7 +39,7 @@ fn read_cut<'a>(alloc: Global, segment: Segment, cut: Cut<'a>) -> Result<Reading
                 return Err(Refused::Rule(AsmRule::A1));
             }
             let item = read_item(alloc, keyword, operands)?;
-            Ok(Reading { labels, item })
+            Ok(Reading { line, item })
         }
         None => Err(Refused::Rule(AsmRule::A2)),
     }

@@ -4,9 +4,9 @@ use Rattle.tg_asm.proofs.Tables.{found_there, target_of}
 use Rattle.tg_asm.proofs.labels.Labels.find.Goals as goal
 
 pub returns-in-Some : goal.returns-in-Some
-returns-in-Some c = found_there c.self.inside.spots.entries c.args.name.now _ c.self.invariant (ap target_of c.in-Some.ensures.value)
+returns-in-Some c = found_there _ c.self.inside.spots.entries c.args.name.now _ c.self.invariant (ap target_of c.in-Some.ensures.value)
     ∙ ap (λ v. spot_among v c.args.name.now) c.self.view_is
 
 pub returns-in-None : goal.returns-in-None
-returns-in-None c = found_there c.self.inside.spots.entries c.args.name.now _ c.self.invariant (ap target_of c.in-None.ensures.value)
+returns-in-None c = found_there _ c.self.inside.spots.entries c.args.name.now _ c.self.invariant (ap target_of c.in-None.ensures.value)
     ∙ ap (λ v. spot_among v c.args.name.now) c.self.view_is
