@@ -205,20 +205,29 @@ given_memory c status reports answer is g =
     let m = subst P is g in
     subst Q m.before_end m
 
-pub complete : {H I O E : Type 0} (c : Call H I O E) (status : ℕ) (a : Asked) (file : List ℕ) → Answers c status →
-    IsGood c a file → IsSettled c status a (take (most_of a.mode) file) ⊎ Gives c status [] OutOfMemory
-complete c status a file h good = by h.due
+-- what a good call answers is due in its mode, or memory was wanting
+pub in_its_mode : {H I O E : Type 0} (c : Call H I O E) (status : ℕ) (a : Asked) (file : List ℕ) (h : Answers c status) → IsGood c a file →
+    InMode c.rule (told_runs c h.reports a) a.mode c.shelf c.streams a h.answer ⊎ Gives c status [] OutOfMemory
+in_its_mode c status a file h good = by h.due
   where
     by : IsDue c.rule (told_runs c h.reports) c.words c.shelf c.streams h.answer →
-        IsSettled c status a (take (most_of a.mode) file) ⊎ Gives c status [] OutOfMemory
+        InMode c.rule (told_runs c h.reports a) a.mode c.shelf c.streams a h.answer ⊎ Gives c status [] OutOfMemory
     by (usage is fault same u) = absurd (asked_no_fault c.words a good.ask fault)
     by (no_memory is kept u) = inr (given_memory c status h.reports h.answer is (given c status a file h good))
     by (asked b ask in_its) =
         let P : Asked → Type 0 = λ x. InMode c.rule (told_runs c h.reports x) x.mode c.shelf c.streams x h.answer in
-        let in_mode = subst P (asked_once c.words b a ask good.ask) in_its in
-        inl (record {
-          answer = h.answer;
-          reports = h.reports;
-          settled = settled c a file a.mode h.reports h.answer good (λ r. r) in_mode;
-          gives = given c status a file h good;
-        })
+        inl (subst P (asked_once c.words b a ask good.ask) in_its)
+
+pub complete : {H I O E : Type 0} (c : Call H I O E) (status : ℕ) (a : Asked) (file : List ℕ) → Answers c status →
+    IsGood c a file → IsSettled c status a (take (most_of a.mode) file) ⊎ Gives c status [] OutOfMemory
+complete c status a file h good = by (in_its_mode c status a file h good)
+  where
+    by : InMode c.rule (told_runs c h.reports a) a.mode c.shelf c.streams a h.answer ⊎ Gives c status [] OutOfMemory →
+        IsSettled c status a (take (most_of a.mode) file) ⊎ Gives c status [] OutOfMemory
+    by (inr wanting) = inr wanting
+    by (inl in_mode) = inl (record {
+      answer = h.answer;
+      reports = h.reports;
+      settled = settled c a file a.mode h.reports h.answer good (λ r. r) in_mode;
+      gives = given c status a file h good;
+    })

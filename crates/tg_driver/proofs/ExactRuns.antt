@@ -88,9 +88,9 @@ pub exact_reports : {I O : Type 0} (s : Streams I O) (reporters : List Report) (
     (bytes : List ℕ) → (end ≡ ReadFault → ⊥) → (end ≡ WriteFault → ⊥) → HasToldRun s reporters reports image heap stack steps end →
     s.input.told s.input.before ≡ Some bytes → reports ≡ reports_on reporters image heap stack steps bytes
 exact_reports s reporters reports image heap stack steps end bytes read written h tells =
-    let r = h.watched.simulation in
+    let r = h.fetched.watched.simulation in
     let T : Option (List ℕ) → Type 0 = λ o. Tells o r.input_before in
     let same : r.input_before ≡ answers bytes = subst T tells r.told in
     let first = start image.code image.statics image.entry heap stack in
-    let seen = h.watched.seen_is ∙ fetched steps _ end r.last r.front r.stops read written ∙ ap (λ i. fetches steps (begun first i)) same in
+    let seen = h.fetched.watched.seen_is ∙ fetched steps _ end r.last r.front r.stops read written ∙ ap (λ i. fetches steps (begun first i)) same in
     h.reports_are ∙ ap (λ l. reports_text reporters l (length image.code)) seen

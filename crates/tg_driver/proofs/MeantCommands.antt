@@ -6,7 +6,6 @@ use Rattle.tg_command.specs.declared.modes.Mode.{Mode}
 use Rattle.tg_command.specs.declared.modes.Mode.TheVariants.{Check, Build, Run, Exec, Alloc, Gen, Format}
 use Rattle.tg_command.specs.Counts.{IsWithin, GivesCount, heap_limits, stack_limits}
 use Rattle.tg_command.specs.Commands.{Asked, Ask}
-use Rattle.tg_command.proofs.CommandLemmas.{asked_once, asked_no_fault}
 use Rattle.tg_agreement.specs.Meant.{AreSizes}
 use Rattle.tg_meant.specs.Meant.{IsAsMeant}
 use Rattle.tg_meant.specs.Laws.{EndedIsMeant, RunningIsMeant}
@@ -19,10 +18,10 @@ use Rattle.tg_driver.specs.Writing.{IsWritten}
 use Rattle.tg_driver.specs.RunMode.{IsRun}
 use Rattle.tg_driver.specs.GenMode.{IsGenerated}
 use Rattle.tg_driver.specs.Modes.{InMode, most_of}
-use Rattle.tg_driver.specs.Answered.{IsDue, told_runs, usage, no_memory, asked, Answers}
+use Rattle.tg_driver.specs.Answered.{told_runs, Answers}
 use Rattle.tg_driver.specs.Laws.{ReadsFile, IsGood, Gives}
 use Rattle.tg_driver.specs.MeantCommands.{BuildsByMeaning, RunsByMeaning, GeneratesByMeaning, ByMeaning, DoesAsMeant}
-use Rattle.tg_driver.proofs.Complete.{to_text, given, given_memory, none_taken, passed, rose_later, write_failed}
+use Rattle.tg_driver.proofs.Complete.{to_text, given, in_its_mode, none_taken, passed, rose_later, write_failed}
 use Rattle.tg_driver.proofs.Watched.{in_mode_more}
 use Rattle.tg_driver.proofs.MeantEnds.{runs_are_meant, generated_are_meant}
 
@@ -110,15 +109,12 @@ module _ (ends : EndedIsMeant) (goes_on : RunningIsMeant) where
 
   pub does_as_meant : {H I O E : Type 0} (c : Call H I O E) (status : ℕ) (a : Asked) (file : List ℕ) → Answers c status →
       IsGood c a file → DoesAsMeant c status a (take (most_of a.mode) file) ⊎ Gives c status [] OutOfMemory
-  does_as_meant c status a file h good = by h.due
+  does_as_meant c status a file h good = by (in_its_mode c status a file h good)
     where
-      by : IsDue c.rule (told_runs c h.reports) c.words c.shelf c.streams h.answer →
+      by : InMode c.rule (told_runs c h.reports a) a.mode c.shelf c.streams a h.answer ⊎ Gives c status [] OutOfMemory →
           DoesAsMeant c status a (take (most_of a.mode) file) ⊎ Gives c status [] OutOfMemory
-      by (usage is fault same u) = absurd (asked_no_fault c.words a good.ask fault)
-      by (no_memory is kept u) = inr (given_memory c status h.reports h.answer is (given c status a file h good))
-      by (asked b ask in_its) =
-          let P : Asked → Type 0 = λ x. InMode c.rule (told_runs c h.reports x) x.mode c.shelf c.streams x h.answer in
-          let told = subst P (asked_once c.words b a ask good.ask) in_its in
+      by (inr wanting) = inr wanting
+      by (inl told) =
           let in_mode = in_mode_more c.rule (told_runs c h.reports a) (HasRun c.streams) a.mode c.shelf c.streams a h.answer
           (λ image end is. run_in c.streams (if_watched a.flags c.reporters) h.reports image a.heap a.stack a.steps end) told in
           inl (record {

@@ -111,59 +111,50 @@ module _ {W I O : Type 0} (stands : W → List Seen → ℕ → Type 0) (report 
     reports_are = sym (ap (λ l. reports_text (map report l) [] 0) is);
   }
 
+  -- the reports of what a watched run fetched, and who tells them
+  told_of : (old : List W) (image : Image) (heap stack steps : ℕ) (end : RunEnd) (h : HasWatchedRun stands report old new s image heap stack steps end) →
+      HasToldRun s (map report old) (reports_text (map report old) h.seen (length image.code)) image heap stack steps end
+  told_of old image heap stack steps end h = record { seen = h.seen; fetched = h.fetched; reports_are = refl }
+
+  tell_of : (old : List W) (image : Image) (heap stack steps : ℕ) (end : RunEnd) (h : HasWatchedRun stands report old new s image heap stack steps end) →
+      Tell stands report new (reports_text (map report old) h.seen (length image.code))
+  tell_of old image heap stack steps end h = record {
+    seen = h.seen;
+    code = length image.code;
+    stand = h.have_seen.stand;
+    reports_are = ap (λ l. reports_text l h.seen (length image.code)) (sym h.have_seen.same);
+  }
+
   told_run : {H : Type 0} (rule : SpillRule) (shelf : Shelved H) (a : Asked) (end : RunEnd) (old : List W) →
       OfFile shelf a.file 262145 (IsRun (HasWatchedRun stands report old new s) a) (Finished end) → Told rule Run shelf a end old
   told_run rule shelf a end old (unreadable is u) = absurd (cc)
   told_run rule shelf a end old (read text front h) =
+      let image = h.ran.image in
       let r = h.ran.run in
-      let n = length h.ran.image.code in
       record {
-        reports = reports_text (map report old) r.seen n;
+        reports = reports_text (map report old) r.seen (length image.code);
         in_mode = (
           tt,
           read text front (record {
             assembly = h.assembly;
             meant = h.meant;
-            ran = record {
-              image = h.ran.image;
-              assembles = h.ran.assembles;
-              run = record { after = r.after; seen = r.seen; watched = r.watched; reports_are = refl };
-            };
+            ran = record { image = image; assembles = h.ran.assembles; run = told_of old image a.heap a.stack a.steps end r };
           }),
         );
-        tell = record {
-          seen = r.seen;
-          code = n;
-          stand = r.have_seen.stand;
-          reports_are = ap (λ l. reports_text l r.seen n) (sym r.have_seen.same);
-        };
-        none = λ is. ap (λ l. reports_text (map report l) r.seen n) is;
+        tell = tell_of old image a.heap a.stack a.steps end r;
+        none = λ is. ap (λ l. reports_text (map report l) r.seen (length image.code)) is;
       }
 
   told_exec : {H : Type 0} (rule : SpillRule) (shelf : Shelved H) (a : Asked) (end : RunEnd) (old : List W) →
       OfFile shelf a.file 67108865 (IsExecuted (HasWatchedRun stands report old new s) a) (Finished end) → Told rule Exec shelf a end old
   told_exec rule shelf a end old (unreadable is u) = absurd (cc)
   told_exec rule shelf a end old (read text front h) =
-      let r = h.run in
-      let n = length h.image.code in
+      let run = told_of old h.image a.heap a.stack a.steps end h.run in
       record {
-        reports = reports_text (map report old) r.seen n;
-        in_mode = (
-          tt,
-          read text front (record {
-            short = h.short;
-            image = h.image;
-            assembles = h.assembles;
-            run = record { after = r.after; seen = r.seen; watched = r.watched; reports_are = refl };
-          }),
-        );
-        tell = record {
-          seen = r.seen;
-          code = n;
-          stand = r.have_seen.stand;
-          reports_are = ap (λ l. reports_text l r.seen n) (sym r.have_seen.same);
-        };
-        none = λ is. ap (λ l. reports_text (map report l) r.seen n) is;
+        reports = reports_text (map report old) h.run.seen (length h.image.code);
+        in_mode = (tt, read text front (record { short = h.short; image = h.image; assembles = h.assembles; run = run }));
+        tell = tell_of old h.image a.heap a.stack a.steps end h.run;
+        none = λ is. ap (λ l. reports_text (map report l) h.run.seen (length h.image.code)) is;
       }
 
   told_in : {H : Type 0} (rule : SpillRule) (mode : Mode) (shelf : Shelved H) (a : Asked) (end : RunEnd) (old : List W) →
@@ -246,9 +237,8 @@ saw_nothing stands report watchers left reads taken writes input input' out out'
     let P : Simulated → Type 0 = λ m. IsSimulation left reads taken writes steps m new input input' out out' end in
     let r = subst P is (ran (ap (λ (m : Simulated). m.end) is)) in
     record {
-      after = new;
       seen = fetches_until r.stops;
-      watched = record { simulation = r; seen_is = refl };
+      fetched = record { after = new; watched = record { simulation = r; seen_is = refl } };
       have_seen = record { same = refl; stand = λ k d lt. absurd (omega (arith, none, lt)) };
     }
 
@@ -264,16 +254,15 @@ saw_all stands report old now left reads taken writes input input' out out' mach
     let P : Simulated → Type 0 = λ m. (seen : List Seen) × IsWatched left reads taken writes steps m new input input' out out' end seen
     × HaveSeen stands report old now seen (length m.state.code) in
     let r = subst P is (ran (ap (λ (m : Simulated). m.end) is)) in
-    record { after = new; seen = r.0; watched = r.1; have_seen = r.2 }
+    record { seen = r.0; fetched = record { after = new; watched = r.1 }; have_seen = r.2 }
 
 -- watchers that were begun have the reports that they had
 pub begun_before : {W I O : Type 0} (stands : W → List Seen → ℕ → Type 0) (report : W → Report) (old begun now : List W) (s : Streams I O)
     (image : Image) (heap stack steps : ℕ) (end : RunEnd) → map report begun ≡ map report old →
     HasWatchedRun stands report begun now s image heap stack steps end → HasWatchedRun stands report old now s image heap stack steps end
 begun_before stands report old begun now s image heap stack steps end same h = record {
-  after = h.after;
   seen = h.seen;
-  watched = h.watched;
+  fetched = h.fetched;
   have_seen = record { same = h.have_seen.same ∙ same; stand = h.have_seen.stand };
 }
 

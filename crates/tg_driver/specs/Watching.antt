@@ -19,16 +19,20 @@ use Rattle.tg_driver.specs.Runs.{HasRun}
 abbrev pub if_watched : {A : Type 0} → Flags → List A → List A
 if_watched flags all = if flags.watch then all else []
 
--- the machine ran the image on the streams so, and this is the text of the reports of the fetches of
--- that very run
-pub record HasToldRun {I O : Type 0} (s : Streams I O) (reporters : List Report)
-    (reports : List ℕ) (image : Image) (heap stack steps : ℕ) (end : RunEnd) : Type 0 where
+-- the machine ran the image on the streams so, and its steps fetched this
+pub record HasFetched {I O : Type 0} (s : Streams I O) (image : Image) (heap stack steps : ℕ)
+    (end : RunEnd) (seen : List Seen) : Type 0 where
   pub after : Simulated
-  pub seen : List Seen
   pub watched :
       IsWatched s.input.told s.input.faults s.out.told s.out.faults steps
       (loaded image heap stack) after
       s.input.before s.input.after s.out.before s.out.after end seen
+
+-- the machine ran so, and this is the text of the reports of the fetches of that very run
+pub record HasToldRun {I O : Type 0} (s : Streams I O) (reporters : List Report)
+    (reports : List ℕ) (image : Image) (heap stack steps : ℕ) (end : RunEnd) : Type 0 where
+  pub seen : List Seen
+  pub fetched : HasFetched s image heap stack steps end seen
   pub reports_are : reports ≡ reports_text reporters seen (length image.code)
 
 -- such a run is a run
@@ -37,7 +41,7 @@ abbrev pub run_in :
     (image : Image) (heap stack steps : ℕ) (end : RunEnd) →
     HasToldRun s reporters reports image heap stack steps end → HasRun s image heap stack steps end
 run_in s reporters reports image heap stack steps end h =
-    record { after = h.after; ran = h.watched.simulation }
+    record { after = h.fetched.after; ran = h.fetched.watched.simulation }
 
 -- the reports of what the run of an image with these sizes and steps fetches on an input of these
 -- bytes
@@ -51,12 +55,8 @@ reports_on reporters image heap stack steps bytes =
 pub record HasWatchedRun {W I O : Type 0} (stands : W → List Seen → ℕ → Type 0)
     (report : W → Report) (old new : List W) (s : Streams I O)
     (image : Image) (heap stack steps : ℕ) (end : RunEnd) : Type 0 where
-  pub after : Simulated
   pub seen : List Seen
-  pub watched :
-      IsWatched s.input.told s.input.faults s.out.told s.out.faults steps
-      (loaded image heap stack) after
-      s.input.before s.input.after s.out.before s.out.after end seen
+  pub fetched : HasFetched s image heap stack steps end seen
   pub have_seen : HaveSeen stands report old new seen (length image.code)
 
 -- nothing is told of a run where none has ended
